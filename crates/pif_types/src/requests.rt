@@ -1,0 +1,19 @@
+use crate::MutexId;
+
+/// The type of a mutex, as pthread_mutexattr_settype has it. PTHREAD_MUTEX_DEFAULT is `Normal`.
+#[derive(Clone, Copy, Debug, PartialEq, Eq, Hash)]
+pub enum Kind {
+    /// PTHREAD_MUTEX_NORMAL: a thread that locks a mutex that it owns waits for good.
+    Normal,
+    /// PTHREAD_MUTEX_ERRORCHECK: a thread that locks a mutex that it owns is answered EDEADLK.
+    ErrorCheck,
+}
+
+/// A pthread call that a thread may begin.
+#[derive(Clone, Copy, Debug, PartialEq, Eq, Hash)]
+pub enum Request {
+    /// pthread_mutex_lock
+    Lock(MutexId),
+    /// pthread_mutex_unlock
+    Unlock(MutexId),
+}
