@@ -1,0 +1,125 @@
+-- Worked examples, computed on the definitions themselves.
+use Rattle.std.proofs.Common.{◌≡◌, ℕ, Bool, true, false, List, [], ◌∷◌, ◌++◌, refl}
+use Rattle.pif_types.specs.Bounds.{Bounds}
+use Rattle.pif_types.specs.declared.requests.Kind.TheVariants.{Normal, ErrorCheck}
+use Rattle.pif_types.specs.declared.requests.Request.TheVariants.{Lock, Unlock}
+use Rattle.pif_types.specs.declared.errors.Refusal.TheVariants.{Busy, Idle, NoSuch}
+use Rattle.pif_model.specs.declared.events.Event.{Event}
+use Rattle.pif_model.specs.declared.events.Event.TheVariants.{Begin, Go}
+use Rattle.pif_model.specs.declared.events.Seen.{Seen}
+use Rattle.pif_model.specs.declared.events.Seen.TheVariants.{Begun, Went, Waits, Answered, Refused}
+use Rattle.pif_model.specs.Graph.{reaches_within, greatest_where, effective_among, first_greatest, waited_by, next_waiter}
+use Rattle.pif_model.specs.Word.{bits_of, word_of}
+use Rattle.pif_model.specs.Table.{Table, new_table, thread_added, mutex_added, releveled, cell_at, kernel_effective, kernel_pick}
+use Rattle.pif_model.specs.Kernel.{queued_on_mutex, lock_pi_answer, lock_pi_after, handed_to, unlock_pi_answer, unlock_pi_after, stopped}
+use Rattle.pif_model.specs.Lines.{lock_load, lock_exchange, lock_by, lock_kernel, lock_queued, lock_stop, unlock_load, unlock_exchange, unlock_by, unlock_kernel, line_of, gone, accepted, stepped}
+
+-- opens every definition of the table machine
+machine : ℕ
+unfolding reaches_within greatest_where effective_among first_greatest waited_by next_waiter bits_of word_of releveled queued_on_mutex lock_pi_answer lock_pi_after handed_to unlock_pi_answer unlock_pi_after stopped lock_load lock_exchange lock_by lock_kernel lock_queued lock_stop unlock_load unlock_exchange unlock_by unlock_kernel line_of gone accepted stepped
+machine = 0
+
+-- a core for examples
+small : Table
+unfolding machine
+small = new_table (record { threads = 9; mutexes = 9; conds = 0; signals = 1 })
+
+-- the table after some events
+after : List Event → Table → Table
+after [] s = s
+after (e ∷ es) s = after es (stepped e s).after
+
+-- what some events are answered
+seen : List Event → Table → List Seen
+seen [] s = []
+seen (e ∷ es) s = (stepped e s).seen ∷ seen es (stepped e s).after
+
+-- t locks m and is answered at once
+locks : ℕ → ℕ → List Event
+locks t m = Begin t (Lock m) ∷ Go t ∷ Go t ∷ []
+
+-- threads of priority 10 and 50, one mutex
+two : Table
+unfolding machine small
+two = mutex_added Normal false (thread_added 50 (thread_added 10 small))
+
+-- t1 holds the mutex and t2 waits for it
+contended : List Event
+contended = locks 1 1 ++ Begin 2 (Lock 1) ∷ Go 2 ∷ Go 2 ∷ Go 2 ∷ []
+
+-- the holder is boosted until it unlocks
+boosted_seen : seen contended two ≡ Begun ∷ Went ∷ Answered 0 ∷ Begun ∷ Went ∷ Went ∷ Waits ∷ []
+unfolding machine small two contended locks seen after
+boosted_seen = refl
+
+boosted_word : bits_of (cell_at (after contended two) 1).word ≡ 0x80000001
+unfolding machine small two contended locks seen after
+boosted_word = refl
+
+boosted_priority : kernel_effective (after contended two) 1 ≡ 50
+unfolding machine small two contended locks seen after
+boosted_priority = refl
+
+-- t1 unlocks through the kernel, t2 notices, and unlocks by the kernel again since WAITERS is stale
+released : List Event
+released = Begin 1 (Unlock 1) ∷ Go 1 ∷ Go 1 ∷ Go 1 ∷ []
+
+released_seen : seen (released ++ Go 2 ∷ Begin 2 (Unlock 1) ∷ Go 2 ∷ Go 2 ∷ Go 2 ∷ []) (after contended two)
+    ≡ Begun ∷ Went ∷ Went ∷ Answered 0 ∷ Answered 0 ∷ Begun ∷ Went ∷ Went ∷ Answered 0 ∷ []
+unfolding machine small two contended locks released seen after
+released_seen = refl
+
+released_word : bits_of (cell_at (after (contended ++ released) two) 1).word ≡ 0x80000002
+unfolding machine small two contended locks released seen after
+released_word = refl
+
+released_priority : kernel_effective (after (contended ++ released) two) 1 ≡ 10
+unfolding machine small two contended locks released seen after
+released_priority = refl
+
+-- priorities 1, 2 and 99, two mutexes: t1 holds m1, t2 holds m2 and waits for m1, t3 waits for m2
+three : Table
+unfolding machine small
+three = mutex_added Normal false (mutex_added Normal false (thread_added 99 (thread_added 2 (thread_added 1 small))))
+
+chain : List Event
+chain = locks 1 1 ++ locks 2 2 ++ Begin 2 (Lock 1) ∷ Go 2 ∷ Go 2 ∷ Go 2 ∷ Begin 3 (Lock 2) ∷ Go 3 ∷ Go 3 ∷ Go 3 ∷ []
+
+-- the boost reaches through the chain
+chain_priority : kernel_effective (after chain three) 1 ≡ 99
+unfolding machine small three chain locks seen after
+chain_priority = refl
+
+chain_pick : kernel_pick (after chain three) ≡ 1
+unfolding machine small three chain locks seen after
+chain_pick = refl
+
+-- closing a cycle is refused
+cycle_seen : seen (Begin 1 (Lock 2) ∷ Go 1 ∷ Go 1 ∷ Go 1 ∷ []) (after chain three) ≡ Begun ∷ Went ∷ Went ∷ Answered 35 ∷ []
+unfolding machine small three chain locks seen after
+cycle_seen = refl
+
+-- equals are served in order of arrival: priorities 10, 20, 20
+equals : Table
+unfolding machine small
+equals = mutex_added Normal false (thread_added 20 (thread_added 20 (thread_added 10 small)))
+
+equals_word : bits_of (cell_at (after (locks 1 1 ++ Begin 2 (Lock 1) ∷ Go 2 ∷ Go 2 ∷ Go 2 ∷ Begin 3 (Lock 1) ∷ Go 3 ∷ Go 3 ∷ Go 3 ∷ released) equals) 1).word ≡ 0x80000002
+unfolding machine small equals locks released seen after
+equals_word = refl
+
+-- kinds answer their owner: normal waits for good, errorcheck answers EDEADLK; who isn't the owner is answered EPERM
+kinds : Table
+unfolding machine small
+kinds = mutex_added ErrorCheck false (mutex_added Normal false (thread_added 10 (thread_added 10 small)))
+
+kinds_seen : seen (locks 1 1 ++ locks 1 2 ++ Begin 1 (Lock 2) ∷ Go 1 ∷ Begin 2 (Unlock 1) ∷ Go 2 ∷ Begin 1 (Lock 1) ∷ Go 1 ∷ Go 1 ∷ Go 1 ∷ []) kinds
+    ≡ Begun ∷ Went ∷ Answered 0 ∷ Begun ∷ Went ∷ Answered 0 ∷ Begun ∷ Answered 35 ∷ Begun ∷ Answered 1 ∷ Begun ∷ Went ∷ Waits ∷ Waits ∷ []
+unfolding machine small kinds locks seen after
+kinds_seen = refl
+
+-- refusals: idle, a mutex that doesn't exist, a thread that was never added, busy
+refused_seen : seen (Go 1 ∷ Begin 1 (Lock 9) ∷ Go 7 ∷ Begin 1 (Lock 1) ∷ Begin 1 (Lock 9) ∷ []) two
+    ≡ Refused Idle ∷ Refused NoSuch ∷ Refused NoSuch ∷ Begun ∷ Refused Busy ∷ []
+unfolding machine small two seen after
+refused_seen = refl

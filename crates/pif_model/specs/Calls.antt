@@ -1,0 +1,44 @@
+-- What the public calls of a core answer, and the table that they leave, by the table before.
+use Rattle.std.specs.Prelude.{ℕ, ◌≡◌, ◌-◌, Bool, true, false, ◌==◌, nat_lt, List, [], ◌∷◌, length, Option, Some, None, Result, Ok, Err, if◌then◌else◌}
+use Rattle.pif_types.specs.declared.errors.AddFault.{AddFault}
+use Rattle.pif_types.specs.declared.errors.AddFault.TheVariants.{TooMany, BadPrio}
+use Rattle.pif_types.specs.declared.requests.Kind.{Kind}
+use Rattle.pif_model.specs.Word.{bits_of}
+use Rattle.pif_model.specs.Table.{Table, Row, Cell, cell_at, has_thread, has_mutex, has_thread_room, has_mutex_room, thread_added, mutex_added, kernel_effective, kernel_pick}
+
+-- whether p is a priority: 1 to 99
+abbrev pub is_priority : ℕ → Bool
+is_priority p = if p == 0 then false else nat_lt p 100
+
+-- adding a thread of priority p: BadPrio, then TooMany, else its number
+abbrev pub add_thread_answer : ℕ → Table → Result ℕ AddFault
+add_thread_answer p s =
+    if is_priority p then (if has_thread_room s then Ok (length s.rows) else Err TooMany) else Err BadPrio
+
+abbrev pub add_thread_after : ℕ → Result ℕ AddFault → Table → Table
+add_thread_after p (Ok t) s = thread_added p s
+add_thread_after p (Err e) s = s
+
+-- adding a mutex: TooMany, else its number
+abbrev pub add_mutex_answer : Table → Result ℕ AddFault
+add_mutex_answer s = if has_mutex_room s then Ok (length s.cells) else Err TooMany
+
+abbrev pub add_mutex_after : Kind → Bool → Result ℕ AddFault → Table → Table
+add_mutex_after k r (Ok m) s = mutex_added k r s
+add_mutex_after k r (Err e) s = s
+
+-- the effective priority of a thread that was added
+abbrev pub effective_answer : ℕ → Table → Option ℕ
+effective_answer t s = if has_thread s t then Some (kernel_effective s t) else None
+
+-- the 32 bits of the word of a mutex that was added
+abbrev pub word_answer : ℕ → Table → Option ℕ
+word_answer m s = if has_mutex s m then Some (bits_of (cell_at s m).word) else None
+
+-- the thread that runs next, if one is ready
+abbrev pub pick_answer : Table → Option ℕ
+pick_answer s = if kernel_pick s == 0 then None else Some (kernel_pick s)
+
+-- how many threads were ever added
+abbrev pub threads_answer : Table → ℕ
+threads_answer s = length s.rows - 1

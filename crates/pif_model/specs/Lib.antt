@@ -1,0 +1,10 @@
+pub mod Graph
+pub mod Refusals
+pub mod Word
+pub mod Posix
+pub mod History
+pub mod Table
+pub mod Kernel
+pub mod Lines
+pub mod Calls
+pub mod Standing

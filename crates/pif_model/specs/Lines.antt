@@ -1,0 +1,141 @@
+-- The calls of the library, one step per Go, and the events of the table machine.
+use Rattle.std.specs.Prelude.{ℕ, ◌≡◌, Bool, true, false, ◌==◌, List, [], ◌∷◌, Result, Ok, Err, Option, Some, None, is_some, if◌then◌else◌}
+use Rattle.pif_types.specs.Numbers.{number_of}
+use Rattle.pif_types.specs.declared.errors.Errno.{Errno}
+use Rattle.pif_types.specs.declared.errors.Errno.TheVariants.{NotPermitted, NoSuchThread, Again, Fault, Busy, Invalid, Deadlock, Overflow, TimedOut, OwnerDead, NotRecoverable}
+use Rattle.pif_types.specs.declared.errors.Refusal.{Refusal}
+use Rattle.pif_types.specs.declared.requests.Kind.{Kind}
+use Rattle.pif_types.specs.declared.requests.Kind.TheVariants.{Normal, ErrorCheck}
+use Rattle.pif_types.specs.declared.requests.Request.{Request}
+use Rattle.pif_types.specs.declared.requests.Request.TheVariants.{Lock, Unlock}
+use Rattle.pif_model.specs.declared.events.Event.{Event}
+use Rattle.pif_model.specs.declared.events.Event.TheVariants.{Begin, Go}
+use Rattle.pif_model.specs.declared.events.Seen.{Seen}
+use Rattle.pif_model.specs.declared.events.Seen.TheVariants.{Begun, Went, Waits, Answered, Refused}
+use Rattle.pif_model.specs.declared.lines.Line.{Line}
+use Rattle.pif_model.specs.declared.lines.Line.TheVariants.{Idle, At}
+use Rattle.pif_model.specs.declared.lines.Place.{Place}
+use Rattle.pif_model.specs.declared.lines.Place.TheVariants.{LockLoad, LockExchange, LockKernel, LockQueued, LockStop, LockStopped, UnlockLoad, UnlockExchange, UnlockKernel}
+use Rattle.pif_model.specs.declared.lines.Status.{Status}
+use Rattle.pif_model.specs.declared.lines.Took.{Took}
+use Rattle.pif_model.specs.declared.lines.Took.TheVariants.{Owns as TookOwns, Queued as TookQueued}
+use Rattle.pif_model.specs.Posix.{named_by}
+use Rattle.pif_model.specs.Refusals.{begin_refused, go_refused}
+use Rattle.pif_model.specs.Word.{Word, is_bare, held_by, free_word}
+use Rattle.pif_model.specs.Table.{Table, Row, Cell, row_at, cell_at, has_thread, has_mutex, with_line, with_word, is_ready}
+use Rattle.pif_model.specs.Kernel.{lock_pi_answer, lock_pi_after, unlock_pi_answer, unlock_pi_after, stopped}
+
+-- what a step is answered, and the state after it
+pub record Outcome : Type 0 where
+  pub seen : Seen
+  pub after : Table
+
+-- the call goes on at this place
+abbrev pub goes_to : ℕ → Request → Place → Table → Outcome
+goes_to t q p s = record { seen = Went; after = with_line t (At q p) s }
+
+-- the thread waits at this place
+abbrev pub waits_at : ℕ → Request → Place → Table → Outcome
+waits_at t q p s = record { seen = Waits; after = with_line t (At q p) s }
+
+-- the call is closed with this answer
+abbrev pub answers : ℕ → ℕ → Table → Outcome
+answers t a s = record { seen = Answered a; after = with_line t Idle s }
+
+-- lock: load the word. The owner of a NORMAL mutex goes on to stop, that of an ERRORCHECK mutex is answered EDEADLK
+unfoldable pub lock_load : ℕ → ℕ → Table → Outcome
+lock_load t m s =
+    if (cell_at s m).word.number == t
+    then elim (cell_at s m).kind [ Normal ↦ goes_to t (Lock m) LockStop s | ErrorCheck ↦ answers t 35 s ]
+    else goes_to t (Lock m) LockExchange s
+
+-- lock: compare-exchange from 0 to t
+unfoldable pub lock_exchange : ℕ → ℕ → Table → Outcome
+lock_exchange t m s =
+    if is_bare (cell_at s m).word 0 then answers t 0 (with_word m (held_by t) s) else goes_to t (Lock m) LockKernel s
+
+-- lock: by what the kernel call answered. ESRCH: the owner has ended, and the thread goes on to stop
+unfoldable pub lock_by : Result Took Errno → ℕ → ℕ → Table → Outcome
+lock_by (Ok TookOwns) t m s = answers t 0 s
+lock_by (Ok TookQueued) t m s = waits_at t (Lock m) LockQueued s
+lock_by (Err NoSuchThread) t m s = goes_to t (Lock m) LockStop s
+lock_by (Err e) t m s = answers t (number_of e) s
+
+-- lock: the kernel call lock_pi
+unfoldable pub lock_kernel : ℕ → ℕ → Table → Outcome
+lock_kernel t m s = lock_by (lock_pi_answer t m s) t m (lock_pi_after t m (lock_pi_answer t m s) s)
+
+-- lock: queued, or made the owner, which is answered with no access
+unfoldable pub lock_queued : ℕ → ℕ → Table → Outcome
+lock_queued t m s =
+    if is_ready (row_at s t).status then answers t 0 s else record { seen = Waits; after = s }
+
+-- lock: stop for good
+unfoldable pub lock_stop : ℕ → ℕ → Table → Outcome
+lock_stop t m s = waits_at t (Lock m) LockStopped (stopped t s)
+
+-- unlock: load the word. Who isn't the owner is answered EPERM
+unfoldable pub unlock_load : ℕ → ℕ → Table → Outcome
+unlock_load t m s =
+    if (cell_at s m).word.number == t then goes_to t (Unlock m) UnlockExchange s else answers t 1 s
+
+-- unlock: compare-exchange from t to 0
+unfoldable pub unlock_exchange : ℕ → ℕ → Table → Outcome
+unlock_exchange t m s =
+    if is_bare (cell_at s m).word t then answers t 0 (with_word m free_word s) else goes_to t (Unlock m) UnlockKernel s
+
+-- unlock: by what the kernel call answered
+unfoldable pub unlock_by : Result (record {}) Errno → ℕ → Table → Outcome
+unlock_by (Ok x) t s = answers t 0 s
+unlock_by (Err e) t s = answers t (number_of e) s
+
+-- unlock: the kernel call unlock_pi
+unfoldable pub unlock_kernel : ℕ → ℕ → Table → Outcome
+unlock_kernel t m s = unlock_by (unlock_pi_answer t m s) t (unlock_pi_after t m (unlock_pi_answer t m s) s)
+
+-- one step of a lock or an unlock at a place of its own; at a place of the other, which never comes, EINVAL
+unfoldable pub line_of : Request → Place → ℕ → Table → Outcome
+line_of (Lock m) LockLoad t s = lock_load t m s
+line_of (Lock m) LockExchange t s = lock_exchange t m s
+line_of (Lock m) LockKernel t s = lock_kernel t m s
+line_of (Lock m) LockQueued t s = lock_queued t m s
+line_of (Lock m) LockStop t s = lock_stop t m s
+line_of (Lock m) LockStopped t s = record { seen = Waits; after = s }
+line_of (Unlock m) UnlockLoad t s = unlock_load t m s
+line_of (Unlock m) UnlockExchange t s = unlock_exchange t m s
+line_of (Unlock m) UnlockKernel t s = unlock_kernel t m s
+line_of _ _ t s = answers t 22 s
+
+-- one step of the open call
+unfoldable pub gone : Line → ℕ → Table → Outcome
+gone Idle t s = record { seen = Waits; after = s }
+gone (At q p) t s = line_of q p t s
+
+-- where a call begins
+abbrev pub first_place : Request → Place
+first_place (Lock m) = LockLoad
+first_place (Unlock m) = UnlockLoad
+
+-- whether a call is open
+abbrev pub is_open : Line → Bool
+is_open Idle = false
+is_open (At q p) = true
+
+-- why an event is refused, if it is
+abbrev pub table_refusal : Table → Event → Option Refusal
+table_refusal s (Begin t q) = begin_refused (has_thread s t) (is_open (row_at s t).line) (has_mutex s (named_by q))
+table_refusal s (Go t) = go_refused (has_thread s t) (is_open (row_at s t).line)
+
+-- an event that is not refused
+unfoldable pub accepted : Event → Table → Outcome
+accepted (Begin t q) s = record { seen = Begun; after = with_line t (At q (first_place q)) s }
+accepted (Go t) s = gone (row_at s t).line t s
+
+-- an event by its refusal, if there is one
+abbrev pub by_refusal : Option Refusal → Event → Table → Outcome
+by_refusal (Some r) e s = record { seen = Refused r; after = s }
+by_refusal None e s = accepted e s
+
+-- one event: what it is answered, and the state after it
+unfoldable pub stepped : Event → Table → Outcome
+stepped e s = by_refusal (table_refusal s e) e s

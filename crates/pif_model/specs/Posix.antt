@@ -1,0 +1,254 @@
+-- The POSIX machine of mutexes: what pthread_mutex_lock and pthread_mutex_unlock do, by POSIX.1-2017 (the pages
+-- pthread_mutex_lock, pthread_mutexattr_settype, pthread_mutexattr_setprotocol and pthread_mutexattr_setrobust).
+-- It knows no words, no kernel and no chain walks. A call has effects, each of which happens at one moment between
+-- its beginning and its answer. Threads and mutexes are numbered from 1; place 0 of each list stands for nobody.
+use Rattle.std.specs.Prelude.{ℕ, ◌≡◌, ◌≢◌, ◌≤◌, ◌+◌, Bool, true, false, ◌==◌, nat_lt, nat_le, min, List, [], ◌∷◌, ◌++◌, length, get_or, set, Option, Some, None, is_some, if◌then◌else◌}
+use Rattle.std.specs.List.{list_any}
+use Rattle.pif_types.specs.Bounds.{Bounds}
+use Rattle.pif_types.specs.declared.errors.Refusal.{Refusal}
+use Rattle.pif_types.specs.declared.requests.Kind.{Kind}
+use Rattle.pif_types.specs.declared.requests.Kind.TheVariants.{Normal, ErrorCheck}
+use Rattle.pif_types.specs.declared.requests.Request.{Request}
+use Rattle.pif_types.specs.declared.requests.Request.TheVariants.{Lock, Unlock}
+use Rattle.pif_model.specs.declared.events.Event.{Event}
+use Rattle.pif_model.specs.declared.events.Event.TheVariants.{Begin, Go}
+use Rattle.pif_model.specs.declared.events.Seen.{Seen}
+use Rattle.pif_model.specs.declared.events.Seen.TheVariants.{Begun, Went, Waits, Answered, Refused}
+use Rattle.pif_model.specs.declared.events.Entry.{Entry}
+use Rattle.pif_model.specs.declared.events.Entry.TheVariants.{Thread as AddThread, Mutex as AddMutex, Step as Happened}
+use Rattle.pif_model.specs.Graph.{effective_among, next_waiter, reaches_within, waited_by, without}
+use Rattle.pif_model.specs.Refusals.{begin_refused, go_refused}
+
+-- what a robust mutex protects is in order, may be in disorder since an owner ended, or was given up for good
+pub data Health : Type 0 where
+  Fine Inconsistent Unusable : Health
+
+-- how far an open call has come
+pub data Progress : Type 0 where
+  -- it has had no effect yet
+  Fresh : Progress
+  -- its thread is among the waiters of a mutex
+  Waiting : Progress
+  -- its thread waits for good
+  Stuck : Progress
+  -- it owns an Unusable mutex and has to give it up
+  Leaving : Progress
+  -- it has this result
+  Has : ℕ → Progress
+
+-- an open call
+pub record Call : Type 0 where
+  pub request : Request
+  pub progress : Progress
+
+-- a thread
+pub record Thread : Type 0 where
+  -- its base priority
+  pub base : ℕ
+  -- it has not ended
+  pub living : Bool
+  pub call : Option Call
+
+-- a mutex
+pub record Mutex : Type 0 where
+  pub kind : Kind
+  pub robust : Bool
+  -- the owner's number, also of an owner that ended; 0 where there is none
+  pub owner : ℕ
+  -- how often the owner holds it
+  pub count : ℕ
+  pub health : Health
+
+-- the state of the POSIX machine
+pub record World : Type 0 where
+  pub threads : List Thread
+  pub mutexes : List Mutex
+  -- pairs of a waiting thread and the mutex for which it waits, in order of arrival
+  pub waiters : List (ℕ × ℕ)
+
+-- what stands at place 0 of the threads
+abbrev pub nobody : Thread
+nobody = record { base = 0; living = false; call = None }
+
+-- what stands at place 0 of the mutexes
+abbrev pub no_mutex : Mutex
+no_mutex = record { kind = Normal; robust = false; owner = 0; count = 1; health = Fine }
+
+-- the state in which nothing was added yet
+abbrev pub empty_world : World
+empty_world = record { threads = nobody ∷ []; mutexes = no_mutex ∷ []; waiters = [] }
+
+abbrev pub thread_at : World → ℕ → Thread
+thread_at w t = get_or w.threads t nobody
+
+abbrev pub mutex_at : World → ℕ → Mutex
+mutex_at w m = get_or w.mutexes m no_mutex
+
+-- whether t was added
+abbrev pub is_thread : World → ℕ → Bool
+is_thread w t = if t == 0 then false else nat_lt t (length w.threads)
+
+-- whether m was added
+abbrev pub is_mutex : World → ℕ → Bool
+is_mutex w m = if m == 0 then false else nat_lt m (length w.mutexes)
+
+-- t as x
+abbrev pub with_thread : ℕ → Thread → World → World
+with_thread t x w = record w { threads = set w.threads t x }
+
+-- m as x
+abbrev pub with_mutex : ℕ → Mutex → World → World
+with_mutex m x w = record w { mutexes = set w.mutexes m x }
+
+-- an open call that has come this far
+abbrev pub progressed : Progress → Option Call → Option Call
+progressed p None = None
+progressed p (Some c) = Some (record c { progress = p })
+
+-- t's call has come this far
+abbrev pub with_progress : ℕ → Progress → World → World
+with_progress t p w = with_thread t (record (thread_at w t) { call = progressed p (thread_at w t).call }) w
+
+-- WAITING AND PRIORITY
+
+-- u waits for t: u is among the waiters of a mutex that t owns
+pub record WaitsFor (w : World) (u t : ℕ) : Type 0 where
+  pub mutex : ℕ
+  pub among : list_any (λ p. if p.0 == u then p.1 == mutex else false) w.waiters ≡ true
+  pub owned : (mutex_at w mutex).owner ≡ t
+  pub somebody : t ≢ 0
+
+-- the thread for which u waits; 0 where u waits for nobody
+abbrev pub waits_for : World → ℕ → ℕ
+waits_for w u = (mutex_at w (waited_by w.waiters u)).owner
+
+-- the effective priority of t: the greatest base priority of t and of all that wait for it through any chain
+-- (POSIX, PTHREAD_PRIO_INHERIT; RT-mutex design)
+abbrev pub effective_of : World → ℕ → ℕ
+effective_of w t = effective_among (length w.threads) (waits_for w) (λ u. (thread_at w u).base) t
+
+-- the waiter that gets m next: the first in arrival among those of greatest effective priority; 0 where none waits
+abbrev pub next_of : World → ℕ → ℕ
+next_of w m = next_waiter (effective_of w) w.waiters m
+
+-- whether a chain of waiting leads from u to t
+abbrev pub leads_to : World → ℕ → ℕ → Bool
+leads_to w u t = reaches_within (length w.threads) (waits_for w) u t
+
+-- whether m is lost: stalled, and its owner has ended
+abbrev pub is_lost : World → ℕ → Bool
+is_lost w m =
+    if (mutex_at w m).robust then false
+    else (if (mutex_at w m).owner == 0 then false
+    else (if (thread_at w (mutex_at w m).owner).living then false else true))
+
+-- whether t's call waits for good
+abbrev pub is_stuck : Option Call → Bool
+is_stuck None = false
+is_stuck (Some c) = elim c.progress [ Fresh ↦ false | Waiting ↦ false | Stuck ↦ true | Leaving ↦ false | Has a ↦ false ]
+
+-- whether t rests: it is among the waiters of a mutex, or it is stuck
+abbrev pub rests : World → ℕ → Bool
+rests w t = if is_stuck (thread_at w t).call then true else list_any (λ p. p.0 == t) w.waiters
+
+-- EFFECTS
+
+-- what taking a mutex leads to, by its health: 0, EOWNERDEAD, or leaving
+abbrev pub on_taking : Health → Progress
+on_taking Fine = Has 0
+on_taking Inconsistent = Has 130
+on_taking Unusable = Leaving
+
+-- t takes m: it owns m with count 1
+abbrev pub taken : ℕ → ℕ → World → World
+taken t m w =
+    with_progress t (on_taking (mutex_at w m).health) (with_mutex m (record (mutex_at w m) { owner = t; count = 1 }) w)
+
+-- pthread_mutex_lock by t on m, where no effect has happened yet
+pub data Locks (t m : ℕ) (w v : World) : Type 0 where
+  -- the owner locks a NORMAL mutex again: it waits for good
+  own_normal : (mutex_at w m).owner ≡ t → (mutex_at w m).kind ≡ Normal → v ≡ with_progress t Stuck w → Locks t m w v
+  -- the owner locks an ERRORCHECK mutex again: EDEADLK
+  own_errorcheck : (mutex_at w m).owner ≡ t → (mutex_at w m).kind ≡ ErrorCheck → v ≡ with_progress t (Has 35) w → Locks t m w v
+  -- nobody owns it: t takes it
+  free : (mutex_at w m).owner ≢ t → (mutex_at w m).owner ≡ 0 → v ≡ taken t m w → Locks t m w v
+  -- it is lost: t waits for good
+  lost : (mutex_at w m).owner ≢ t → (mutex_at w m).owner ≢ 0 → is_lost w m ≡ true → v ≡ with_progress t Stuck w → Locks t m w v
+  -- its owner waits for t through some chain: EDEADLK
+  cycle : (mutex_at w m).owner ≢ t → (mutex_at w m).owner ≢ 0 → is_lost w m ≡ false
+      → leads_to w (mutex_at w m).owner t ≡ true → v ≡ with_progress t (Has 35) w → Locks t m w v
+  -- else t joins the end of its waiters
+  joins : (mutex_at w m).owner ≢ t → (mutex_at w m).owner ≢ 0 → is_lost w m ≡ false
+      → leads_to w (mutex_at w m).owner t ≡ false
+      → v ≡ record (with_progress t Waiting w) { waiters = w.waiters ++ (t, m) ∷ [] } → Locks t m w v
+
+-- m passes on: to nobody, or to its next waiter, which takes it
+pub data Passes (m : ℕ) (w v : World) : Type 0 where
+  to_nobody : next_of w m ≡ 0 → v ≡ with_mutex m (record (mutex_at w m) { owner = 0 }) w → Passes m w v
+  to_next : (u : ℕ) → next_of w m ≡ u → u ≢ 0 → v ≡ taken u m (record w { waiters = without w.waiters u }) → Passes m w v
+
+-- pthread_mutex_unlock by t on m, where no effect has happened yet
+pub data Unlocks (t m : ℕ) (w v : World) : Type 0 where
+  -- t isn't the owner: EPERM
+  not_owner : (mutex_at w m).owner ≢ t → v ≡ with_progress t (Has 1) w → Unlocks t m w v
+  -- the owner gives it up: it passes on, and the result is 0
+  released : (mutex_at w m).owner ≡ t → (mutex_at w m).health ≢ Inconsistent → Passes m (with_progress t (Has 0) w) v → Unlocks t m w v
+
+-- one effect of t's open call
+pub data Effect (t : ℕ) (w v : World) : Type 0 where
+  lock : (m : ℕ) → (thread_at w t).call ≡ Some (record { request = Lock m; progress = Fresh }) → Locks t m w v → Effect t w v
+  unlock : (m : ℕ) → (thread_at w t).call ≡ Some (record { request = Unlock m; progress = Fresh }) → Unlocks t m w v → Effect t w v
+
+-- some effects of t's open call in order, or none
+pub data Effects (t : ℕ) : World → World → Type 0 where
+  none : {w v : World} → v ≡ w → Effects t w v
+  then : {w u v : World} → Effect t w u → Effects t u v → Effects t w v
+
+-- ONE ENTRY OF A HISTORY
+
+-- the mutex that a request names
+abbrev pub named_by : Request → ℕ
+named_by (Lock m) = m
+named_by (Unlock m) = m
+
+-- why an event is refused, if it is
+abbrev pub refusal_of : World → Event → Option Refusal
+refusal_of w (Begin t q) = begin_refused (is_thread w t) (is_some (thread_at w t).call) (is_mutex w (named_by q))
+refusal_of w (Go t) = go_refused (is_thread w t) (is_some (thread_at w t).call)
+
+-- how many mutexes may be added: one at most until the kernel serves chains
+abbrev pub mutex_room : Bounds → ℕ
+mutex_room l = min 1 l.mutexes
+
+-- one entry of a history, from w to v, under the limits l
+pub data Step (l : Bounds) (w : World) (e : Entry) (v : World) : Type 0 where
+  -- the next number, within the limit, and a priority within 1 to 99
+  thread_added : (t p : ℕ) → e ≡ AddThread t p → t ≡ length w.threads → t ≤ l.threads → 1 ≤ p → p ≤ 99
+      → v ≡ record w { threads = w.threads ++ record { base = p; living = true; call = None } ∷ [] } → Step l w e v
+  -- the next number, within the limit
+  mutex_added : (m : ℕ) (k : Kind) (r : Bool) → e ≡ AddMutex m k r → m ≡ length w.mutexes → m ≤ mutex_room l
+      → v ≡ record w { mutexes = w.mutexes ++ record { kind = k; robust = r; owner = 0; count = 1; health = Fine } ∷ [] } → Step l w e v
+  -- a refused event changes nothing
+  refused : (x : Event) (r : Refusal) → e ≡ Happened x (Refused r) → refusal_of w x ≡ Some r → v ≡ w → Step l w e v
+  -- the call is open
+  begun : (t : ℕ) (q : Request) → e ≡ Happened (Begin t q) Begun → refusal_of w (Begin t q) ≡ None
+      → v ≡ with_thread t (record (thread_at w t) { call = Some (record { request = q; progress = Fresh }) }) w → Step l w e v
+  -- the call goes on, and its thread doesn't rest
+  went : (t : ℕ) → e ≡ Happened (Go t) Went → refusal_of w (Go t) ≡ None → Effects t w v → rests v t ≡ false → Step l w e v
+  -- its thread rests
+  waits : (t : ℕ) → e ≡ Happened (Go t) Waits → refusal_of w (Go t) ≡ None → Effects t w v → rests v t ≡ true → Step l w e v
+  -- the call has this result and closes, and its thread doesn't rest
+  answered : (t a : ℕ) (q : Request) (u : World) → e ≡ Happened (Go t) (Answered a) → refusal_of w (Go t) ≡ None → Effects t w u
+      → (thread_at u t).call ≡ Some (record { request = q; progress = Has a })
+      → v ≡ with_thread t (record (thread_at u t) { call = None }) u → rests v t ≡ false → Step l w e v
+
+-- A run: the entries of a history, newest first, the states before each of them, newest first, and the last state.
+pub data IsRun (l : Bounds) : List Entry → List World → World → Type 0 where
+  start : {w : World} → w ≡ empty_world → IsRun l [] [] w
+  next : {h : List Entry} {r : List World} {e : Entry} {w v : World} → IsRun l h r w → Step l w e v → IsRun l (e ∷ h) (w ∷ r) v
+
+-- a history, newest entry first, is legal: some run from the empty state gives it, entry by entry
+pub record IsLegal (l : Bounds) (h : List Entry) : Type 0 where
+  pub states : List World
+  pub last : World
+  pub run : IsRun l h states last

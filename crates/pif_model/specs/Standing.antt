@@ -1,0 +1,165 @@
+-- What it means that a core stands after a history.
+use Rattle.std.specs.Prelude.{ℕ, ◌≡◌, ◌≢◌, ◌≤◌, ◌+◌, ◌⊎◌, ⊤, Bool, true, false, ◌==◌, nat_lt, min, List, [], ◌∷◌, ◌++◌, length, get_or, map, Option, Some, None, if◌then◌else◌, eqb}
+use Rattle.std.specs.List.{list_any, IsDistinct}
+use Rattle.pif_types.specs.Bounds.{Bounds}
+use Rattle.pif_types.specs.declared.requests.Kind.TheVariants.{Normal, ErrorCheck}
+use Rattle.pif_types.specs.declared.requests.Request.{Request}
+use Rattle.pif_types.specs.declared.requests.Request.TheVariants.{Lock, Unlock}
+use Rattle.pif_model.specs.declared.events.Entry.{Entry}
+use Rattle.pif_model.specs.declared.lines.Line.{Line}
+use Rattle.pif_model.specs.declared.lines.Line.TheVariants.{Idle, At}
+use Rattle.pif_model.specs.declared.lines.Place.{Place}
+use Rattle.pif_model.specs.declared.lines.Place.TheVariants.{LockLoad, LockExchange, LockKernel, LockQueued, LockStop, LockStopped, UnlockLoad, UnlockExchange, UnlockKernel}
+use Rattle.pif_model.specs.declared.lines.Status.{Status}
+use Rattle.pif_model.specs.declared.lines.Status.TheVariants.{Ready, Queued, Stopped}
+use Rattle.pif_model.specs.declared.lines.Woken.TheVariants.{Fresh as WokenFresh, Owns as WokenOwns}
+use Rattle.pif_model.specs.Graph.{waited_by, has_waiter, IsEffective}
+use Rattle.pif_model.specs.Word.{Word, free_word}
+use Rattle.pif_model.specs.Posix.{Health, Progress, Call, Thread, Mutex, World, WaitsFor, IsRun, mutex_room, thread_at, mutex_at, is_thread, rests, effective_of}
+use Rattle.pif_model.specs.Posix.Health.{Fine, Inconsistent, Unusable}
+use Rattle.pif_model.specs.Posix.Progress.{Fresh, Waiting, Stuck, Leaving, Has}
+use Rattle.pif_model.specs.Table.{Table, Row, Cell, no_row, no_cell, row_at, cell_at, has_thread, has_mutex, is_ready, queued_on, kernel_effective}
+use Rattle.pif_model.specs.Lines.{is_open}
+
+-- THE PROJECTION: the state of the POSIX machine that a table shows
+
+-- how far a call at this place has come, by its thread's status
+abbrev pub progress_at : Place → Status → Progress
+progress_at LockQueued (Queued m) = Waiting
+progress_at LockQueued (Ready w) = Has 0
+progress_at LockQueued Stopped = Stuck
+progress_at LockStopped x = Stuck
+progress_at _ x = Fresh
+
+-- the open call at a line
+abbrev pub call_at : Line → Status → Option Call
+call_at Idle x = None
+call_at (At q p) x = Some (record { request = q; progress = progress_at p x })
+
+-- the thread of a row
+abbrev pub thread_of : Row → Thread
+thread_of r = record { base = r.base; living = r.living; call = call_at r.line r.status }
+
+-- the health that health word and OWNER_DIED show
+abbrev pub health_of : Health → Bool → Health
+health_of Fine died = if died then Inconsistent else Fine
+health_of Inconsistent died = Inconsistent
+health_of Unusable died = Unusable
+
+-- the mutex of a cell
+abbrev pub mutex_of : Cell → Mutex
+mutex_of c = record { kind = c.kind; robust = c.robust; owner = c.word.number; count = c.count; health = health_of c.health c.word.died }
+
+-- the state of the POSIX machine that a table shows
+abbrev pub world_of : Table → World
+world_of s = record { threads = map thread_of s.rows; mutexes = map mutex_of s.cells; waiters = s.waiters }
+
+-- THE INVARIANT
+
+-- what a lock at this place knows of its thread's status and its mutex
+abbrev pub LockIsSound : ℕ → Status → Cell → Place → Type 0
+LockIsSound t x c LockLoad = is_ready x ≡ true
+LockIsSound t x c LockExchange = (is_ready x ≡ true) × (c.word.number ≢ t)
+LockIsSound t x c LockKernel = (is_ready x ≡ true) × (c.word.number ≢ t)
+LockIsSound t (Ready w) c LockQueued = c.word.number ≡ t
+LockIsSound t (Queued n) c LockQueued = ⊤
+LockIsSound t Stopped c LockQueued = ⊥
+LockIsSound t x c LockStop = (is_ready x ≡ true) × (c.word.number ≡ t) × (c.kind ≡ Normal)
+LockIsSound t x c LockStopped = x ≡ Stopped
+LockIsSound t x c UnlockLoad = ⊥
+LockIsSound t x c UnlockExchange = ⊥
+LockIsSound t x c UnlockKernel = ⊥
+
+-- what an unlock at this place knows
+abbrev pub UnlockIsSound : ℕ → Status → Cell → Place → Type 0
+UnlockIsSound t x c UnlockLoad = is_ready x ≡ true
+UnlockIsSound t x c UnlockExchange = (is_ready x ≡ true) × (c.word.number ≡ t)
+UnlockIsSound t x c UnlockKernel = (is_ready x ≡ true) × (c.word.number ≡ t)
+UnlockIsSound t x c LockLoad = ⊥
+UnlockIsSound t x c LockExchange = ⊥
+UnlockIsSound t x c LockKernel = ⊥
+UnlockIsSound t x c LockQueued = ⊥
+UnlockIsSound t x c LockStop = ⊥
+UnlockIsSound t x c LockStopped = ⊥
+
+-- what a thread at this line knows: with no call open it is ready; the mutex of an open call exists
+abbrev pub LineIsSound : Table → ℕ → Status → Line → Type 0
+LineIsSound s t x Idle = is_ready x ≡ true
+LineIsSound s t x (At (Lock m) p) = (has_mutex s m ≡ true) × LockIsSound t x (cell_at s m) p
+LineIsSound s t x (At (Unlock m) p) = (has_mutex s m ≡ true) × UnlockIsSound t x (cell_at s m) p
+
+-- a queued thread is at the place of its lock where it is queued
+abbrev pub QueueIsSound : Status → Line → Type 0
+QueueIsSound (Ready w) l = ⊤
+QueueIsSound Stopped l = ⊤
+QueueIsSound (Queued m) l = l ≡ At (Lock m) LockQueued
+
+-- a thread
+pub record RowIsSound (s : Table) (t : ℕ) (r : Row) : Type 0 where
+  pub living : r.living ≡ true
+  pub line : LineIsSound s t r.status r.line
+  pub queue : QueueIsSound r.status r.line
+
+-- a mutex
+pub record CellIsSound (s : Table) (m : ℕ) (c : Cell) : Type 0 where
+  -- only stalled mutexes are there, and nothing of a dead owner
+  pub stalled : c.robust ≡ false
+  pub fine : c.health ≡ Fine
+  pub no_death : c.word.died ≡ false
+  -- the owner holds it once
+  pub single : c.count ≡ 1
+  -- who owns it was added
+  pub owner : c.word.number ≢ 0 → has_thread s c.word.number ≡ true
+  -- a free word has no flag
+  pub free : c.word.number ≡ 0 → c.word.waiters ≡ false
+  -- there is an owner state exactly while threads are queued, and it names the word's owner; WAITERS is set then
+  pub state : c.state ≡ (if has_waiter s.waiters m then c.word.number else 0)
+  pub contended : has_waiter s.waiters m ≡ true → c.word.waiters ≡ true
+
+-- the invariant of the table
+pub record IsSound (s : Table) : Type 0 where
+  pub nobody : row_at s 0 ≡ no_row
+  pub no_mutex : cell_at s 0 ≡ no_cell
+  pub some_row : 1 ≤ length s.rows
+  pub some_cell : 1 ≤ length s.cells
+  pub few_rows : length s.rows ≤ s.limits.threads + 1
+  pub few_cells : length s.cells ≤ mutex_room s.limits + 1
+  pub rows : (t : ℕ) → has_thread s t ≡ true → RowIsSound s t (row_at s t)
+  pub cells : (m : ℕ) → has_mutex s m ≡ true → CellIsSound s m (cell_at s m)
+  -- a thread is queued where its status says, once
+  pub queue : (u : ℕ) → waited_by s.waiters u ≡ queued_on (row_at s u).status
+  -- and on a mutex
+  pub somewhere : has_waiter s.waiters 0 ≡ false
+  pub once : IsDistinct eqb (map (λ (w : ℕ × ℕ). w.0) s.waiters)
+  -- the run queue has each ready thread once, at the level of its effective priority
+  pub ready : (t : ℕ) → list_any (λ (r : ℕ × ℕ). r.0 == t) s.ready ≡ (if has_thread s t then is_ready (row_at s t).status else false)
+  pub ready_once : IsDistinct eqb (map (λ (r : ℕ × ℕ). r.0) s.ready)
+  pub level : (t : ℕ) → list_any (λ (r : ℕ × ℕ). if r.0 == t then (if r.1 == kernel_effective s t then false else true) else false) s.ready ≡ false
+
+-- A core with this table stands after the history h (newest entry first) by a run through the states r (newest
+-- first): the run gives h entry by entry, its last state is what the table shows, and the table is sound.
+pub record Stands (s : Table) (h : List Entry) (r : List World) : Type 0 where
+  pub run : IsRun s.limits h r (world_of s)
+  pub sound : IsSound s
+
+-- WHAT STANDING TELLS A CALLER
+
+-- x may be m's word in this state: its number is the owner's, WAITERS is set where m has waiters, OWNER_DIED only
+-- where m is robust and not Fine; with no owner a Fine mutex has the word 0 and an Inconsistent one OWNER_DIED
+-- (futex(2), robust futexes)
+pub record IsPossible (w : World) (m : ℕ) (x : Word) : Type 0 where
+  pub number : x.number ≡ (mutex_at w m).owner
+  pub waiters : has_waiter w.waiters m ≡ true → x.waiters ≡ true
+  pub died : x.died ≡ true → ((mutex_at w m).robust ≡ true) × ((mutex_at w m).health ≢ Fine)
+  pub free : (mutex_at w m).owner ≡ 0 → (mutex_at w m).health ≡ Fine → x ≡ free_word
+  pub inconsistent : (mutex_at w m).owner ≡ 0 → (mutex_at w m).health ≡ Inconsistent → x.died ≡ true
+
+-- p is the effective priority of t: the greatest of its own base priority and of all that wait for it through any chain
+abbrev pub HasEffective : World → ℕ → ℕ → Type 0
+HasEffective w t p = IsEffective (λ u. is_thread w u ≡ true) (WaitsFor w) (λ u. (thread_at w u).base) t p
+
+-- p runs next: a thread that doesn't rest, and no thread that doesn't rest has a greater effective priority; 0 only
+-- where every thread rests
+pub record IsPick (w : World) (p : ℕ) : Type 0 where
+  pub runs : p ≢ 0 → (is_thread w p ≡ true) × (rests w p ≡ false)
+  pub greatest : (t : ℕ) → is_thread w t ≡ true → rests w t ≡ false → (p ≢ 0) × (effective_of w t ≤ effective_of w p)

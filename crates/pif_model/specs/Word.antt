@@ -1,0 +1,37 @@
+-- A mutex word as futex(2) has it: 32 bits, FUTEX_WAITERS 0x80000000, FUTEX_OWNER_DIED 0x40000000, and a thread's
+-- number in FUTEX_TID_MASK 0x3fffffff.
+use Rattle.std.specs.Prelude.{ℕ, ◌+◌, ◌*◌, ◌/◌, ◌%◌, ◌<◌, ◌==◌, Bool, true, false, if◌then◌else◌}
+
+-- a word, taken apart
+pub record Word : Type 0 where
+  -- the owner's number, 0 where there is no owner
+  pub number : ℕ
+  -- FUTEX_WAITERS: threads contend, or did
+  pub waiters : Bool
+  -- FUTEX_OWNER_DIED: the last owner ended
+  pub died : Bool
+
+-- the free word, 0
+abbrev pub free_word : Word
+free_word = record { number = 0; waiters = false; died = false }
+
+-- the word of an owner for which nobody contends: its number alone
+abbrev pub held_by : ℕ → Word
+held_by t = record { number = t; waiters = false; died = false }
+
+-- whether a word has no flag set and this number: what a compare-exchange from the bare number tests
+abbrev pub is_bare : Word → ℕ → Bool
+is_bare w t = if w.waiters then false else (if w.died then false else w.number == t)
+
+-- the bit at place 31 or 30 as a number
+abbrev pub flag : Bool → ℕ → ℕ
+flag b n = if b then n else 0
+
+-- the 32 bits of a word
+unfoldable pub bits_of : Word → ℕ
+bits_of w = w.number + flag w.died 1073741824 + flag w.waiters 2147483648
+
+-- the word of 32 bits
+unfoldable pub word_of : ℕ → Word
+word_of bits =
+    record { number = bits % 1073741824; waiters = (bits / 2147483648) % 2 == 1; died = (bits / 1073741824) % 2 == 1 }

@@ -1,0 +1,36 @@
+use pif_types::{Answer, Kind, MutexId, Prio, Refusal, Request, Tid};
+
+/// What a caller hands to a core: a thread begins a call, or goes on by one step of its open call.
+#[derive(Clone, Copy, Debug, PartialEq, Eq, Hash)]
+pub enum Event {
+    /// The thread begins this call. No word is touched.
+    Begin(Tid, Request),
+    /// The thread takes one step of its open call: one access of one word, one kernel call, or an answer.
+    Go(Tid),
+}
+
+/// What a core answers to an event.
+#[derive(Clone, Copy, Debug, PartialEq, Eq, Hash)]
+pub enum Seen {
+    /// The call is open.
+    Begun,
+    /// The step was taken; the call stays open and goes on.
+    Went,
+    /// The thread waits: it is queued on a mutex, or it is stopped for good.
+    Waits,
+    /// The call is closed with this answer: 0, or the number of an error.
+    Answered(Answer),
+    /// The event was refused, and nothing has changed.
+    Refused(Refusal),
+}
+
+/// One entry of a core's history: an addition that was made, or an event with what it was answered.
+#[derive(Clone, Copy, Debug, PartialEq, Eq, Hash)]
+pub enum Entry {
+    /// This thread was added, with this base priority.
+    Thread(Tid, Prio),
+    /// This mutex was added, of this kind; true where it is robust.
+    Mutex(MutexId, Kind, bool),
+    /// This event was answered so.
+    Step(Event, Seen),
+}
