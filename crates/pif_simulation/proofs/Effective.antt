@@ -1,0 +1,95 @@
+-- The kernel's waiting and effective priorities are those of the POSIX machine, and what leaves both as they are.
+use Rattle.std.proofs.Common.{◌≡◌, ◌≢◌, ℕ, zero, suc, false, nat_lt, List, [], ◌∷◌, length, get_or, set, Option, refl, sym, ap, ◌∙◌, if◌then◌else◌, ne_eqb, ⊎_elim, length-set, ltb-false}
+use Rattle.std.proofs.Math.Path.{fun_ext}
+use Rattle.std.proofs.lemmas.Bool.{cases_eq}
+use Rattle.std.proofs.lemmas.List.{length-map, get_or_past}
+use Rattle.pif_model.specs.Graph.{waited_by, effective_among, next_waiter, reaches_within}
+use Rattle.pif_model.specs.Posix.{Progress, Call, Thread, Mutex, World, nobody, thread_at, with_thread, with_progress, progressed, waits_for, effective_of, next_of, leads_to}
+use Rattle.pif_model.specs.Table.{Table, Cell, no_row, no_cell, row_at, cell_at, with_line, queued_on, kernel_waits_for, kernel_effective}
+use Rattle.pif_model.specs.Kernel.{kernel_next}
+use Rattle.pif_model.specs.declared.lines.Line.{Line}
+use Rattle.pif_model.specs.Standing.{thread_of, mutex_of, world_of, IsSound}
+use Rattle.pif_simulation.proofs.Places.{mapped_at}
+use Rattle.pif_simulation.proofs.Waiting.{by_test, paired-from_waited, has_waiter-from_pair}
+
+-- what a change of one place keeps of that place, it keeps of every place
+pub kept_at : {A X : Type 0} (f : A → X) (l : List A) (t : ℕ) (y d : A) → f y ≡ f (get_or l t d) → (u : ℕ) → f (get_or (set l t y) u d) ≡ f (get_or l u d)
+kept_at f [] t y d h u = refl
+kept_at f (x ∷ xs) zero y d h zero = h
+kept_at f (x ∷ xs) zero y d h (suc u) = refl
+kept_at f (x ∷ xs) (suc t) y d h zero = refl
+kept_at f (x ∷ xs) (suc t) y d h (suc u) = kept_at f xs t y d h u
+
+-- effective priorities over the same threads, the same waiting and the same base priorities
+same_effective : {n n' : ℕ} {w w' b b' : ℕ → ℕ} → n ≡ n' → w ≡ w' → b ≡ b' → effective_among n w b ≡ effective_among n' w' b'
+same_effective p q r = λ i. effective_among (p i) (q i) (r i)
+
+-- THE TWO MACHINES
+
+-- where a thread waits, the kernel's owner state names the owner in the word
+pub state_is_number : (s : Table) → IsSound s → (u : ℕ) → (cell_at s (waited_by s.waiters u)).state ≡ (cell_at s (waited_by s.waiters u)).word.number
+state_is_number s h u = ⊎_elim at_none somewhere (cases_eq (waited_by s.waiters u) 0)
+  where
+    at_none : waited_by s.waiters u ≡ 0 → (cell_at s (waited_by s.waiters u)).state ≡ (cell_at s (waited_by s.waiters u)).word.number
+    at_none e = rw (e, h.no_mutex) refl
+
+    somewhere : waited_by s.waiters u ≢ 0 → (cell_at s (waited_by s.waiters u)).state ≡ (cell_at s (waited_by s.waiters u)).word.number
+    somewhere n =
+        by_test (λ b. nat_lt (waited_by s.waiters u) (length s.cells) ≡ b → (cell_at s (waited_by s.waiters u)).state ≡ (cell_at s (waited_by s.waiters u)).word.number)
+        (nat_lt (waited_by s.waiters u) (length s.cells))
+        (λ e x. (h.cells (waited_by s.waiters u) (rw (ne_eqb (waited_by s.waiters u) 0 n) e)).state
+        ∙ ap (λ b. if b then (cell_at s (waited_by s.waiters u)).word.number else 0) (has_waiter-from_pair s.waiters u (waited_by s.waiters u) (paired-from_waited s.waiters u (waited_by s.waiters u) n refl)))
+        (λ e x. ap (λ (c : Cell). c.state) (past e) ∙ sym (ap (λ (c : Cell). c.word.number) (past e)))
+        refl
+      where
+        past : nat_lt (waited_by s.waiters u) (length s.cells) ≡ false → cell_at s (waited_by s.waiters u) ≡ no_cell
+        past e = get_or_past s.cells (waited_by s.waiters u) no_cell (ltb-false (waited_by s.waiters u) (length s.cells) e)
+
+-- a thread waits in the kernel for whom it waits in the POSIX machine
+pub waits_seen : (s : Table) → IsSound s → kernel_waits_for s ≡ waits_for (world_of s)
+waits_seen s h = fun_ext (λ u.
+    ap (λ m. (cell_at s m).state) (sym (h.queue u)) ∙ state_is_number s h u
+    ∙ sym (ap (λ (m : Mutex). m.owner) (mapped_at mutex_of s.cells (waited_by s.waiters u) no_cell)))
+
+-- both machines have the same base priorities
+bases_seen : (s : Table) → ◌≡◌ {A = ℕ → ℕ} (λ u. (row_at s u).base) (λ u. (thread_at (world_of s) u).base)
+bases_seen s = fun_ext (λ u. sym (ap (λ (x : Thread). x.base) (mapped_at thread_of s.rows u no_row)))
+
+-- both machines have the same effective priorities
+pub effective_seen : (s : Table) → IsSound s → kernel_effective s ≡ effective_of (world_of s)
+effective_seen s h = same_effective (sym (length-map s.rows thread_of)) (waits_seen s h) (bases_seen s)
+
+-- both machines have the same next waiter
+pub next_seen : (s : Table) → IsSound s → (m : ℕ) → next_of (world_of s) m ≡ kernel_next s m
+next_seen s h m = ap (λ f. next_waiter f s.waiters m) (sym (effective_seen s h))
+
+-- both machines have the same chains
+pub leads_seen : (s : Table) → IsSound s → (u t : ℕ) → leads_to (world_of s) u t ≡ reaches_within (length s.rows) (kernel_waits_for s) u t
+leads_seen s h u t = λ i. reaches_within (length-map s.rows thread_of i) (sym (waits_seen s h) i) u t
+
+-- WHAT CHANGES NOTHING
+
+-- another call of a thread changes nobody's effective priority
+pub effective-with_call : (w : World) (t : ℕ) (c : Option Call) → effective_of (with_thread t (record (thread_at w t) { call = c }) w) ≡ effective_of w
+effective-with_call w t c =
+    same_effective (length-set w.threads t (record (thread_at w t) { call = c })) refl
+    (fun_ext (λ u. kept_at (λ x. x.base) w.threads t (record (thread_at w t) { call = c }) nobody refl u))
+
+-- how far a call has come changes for whom nobody waits
+pub waits_for-with_progress : (w : World) (t : ℕ) (p : Progress) → waits_for (with_progress t p w) ≡ waits_for w
+waits_for-with_progress w t p = refl
+
+-- nor anybody's effective priority
+pub effective-with_progress : (w : World) (t : ℕ) (p : Progress) → effective_of (with_progress t p w) ≡ effective_of w
+effective-with_progress w t p = effective-with_call w t (progressed p (thread_at w t).call)
+
+-- nor the next waiter of a mutex
+pub next-with_progress : (w : World) (t : ℕ) (p : Progress) (m : ℕ) → next_of (with_progress t p w) m ≡ next_of w m
+next-with_progress w t p m = ap (λ f. next_waiter f w.waiters m) (effective-with_progress w t p)
+
+-- another line of a thread changes nobody's effective priority in the kernel
+pub effective-with_line : (t : ℕ) (l : Line) (s : Table) → kernel_effective (with_line t l s) ≡ kernel_effective s
+effective-with_line t l s =
+    same_effective (length-set s.rows t (record (row_at s t) { line = l }))
+    (fun_ext (λ u. ap (λ x. (cell_at s (queued_on x)).state) (kept_at (λ r. r.status) s.rows t (record (row_at s t) { line = l }) no_row refl u)))
+    (fun_ext (λ u. kept_at (λ r. r.base) s.rows t (record (row_at s t) { line = l }) no_row refl u))

@@ -1,0 +1,227 @@
+-- The laws that the kernel's pick runs next, and that a mutex's word is one of those that its state allows.
+use Rattle.std.proofs.Common.{◌≡◌, ◌≢◌, ◌⊎◌, ◌<◌, ◌≤◌, ℕ, Bool, true, false, ◌==◌, nat_lt, List, [], ◌∷◌, length, refl, sym, ap, ◌∙◌, subst, inl, inr, arith, if◌then◌else◌}
+use Rattle.std.specs.Bool.{⊤}
+use Rattle.std.specs.List.{list_any}
+use Rattle.std.proofs.lemmas.Bool.{true≢false, cases_lt}
+use Rattle.std.proofs.lemmas.Bool.Decides.{nat_tests}
+use Rattle.std.proofs.lemmas.List.{length-map}
+use Rattle.pif_types.specs.declared.requests.Request.TheVariants.{Lock, Unlock}
+use Rattle.pif_model.specs.declared.lines.Line.{Line}
+use Rattle.pif_model.specs.declared.lines.Line.TheVariants.{Idle, At}
+use Rattle.pif_model.specs.declared.lines.Place.TheVariants.{LockLoad, LockExchange, LockKernel, LockQueued, LockStop, LockStopped, UnlockLoad, UnlockExchange, UnlockKernel}
+use Rattle.pif_model.specs.declared.lines.Status.{Status}
+use Rattle.pif_model.specs.declared.lines.Status.TheVariants.{Ready, Queued, Stopped}
+use Rattle.pif_model.specs.declared.lines.Woken.{Woken}
+use Rattle.pif_model.specs.Graph.{waited_by, has_waiter, first_greatest}
+use Rattle.pif_simulation.proofs.Effective.{effective_seen}
+use Rattle.pif_model.specs.Word.{free_word}
+use Rattle.pif_model.specs.Posix.{Health, Thread, Mutex, mutex_at, is_thread, is_stuck, rests, effective_of}
+use Rattle.pif_model.specs.Posix.Health.{Fine, Inconsistent}
+use Rattle.pif_model.specs.Table.{Table, no_row, no_cell, row_at, cell_at, has_thread, has_mutex, is_ready, queued_on, kernel_effective, kernel_pick}
+use Rattle.pif_model.specs.Standing.{IsSound, CellIsSound, LineIsSound, QueueIsSound, IsPick, IsPossible, call_at, world_of, thread_of, mutex_of, health_of}
+use Rattle.pif_simulation.proofs.Places.{mapped_at}
+
+-- whether t stands in a list of pairs
+abbrev stands_in : ℕ → List (ℕ × ℕ) → Bool
+stands_in t l = list_any (λ (r : ℕ × ℕ). r.0 == t) l
+
+-- each pair of a list has the value of its number
+abbrev IsLeveled : (ℕ → ℕ) → List (ℕ × ℕ) → Type 0
+IsLeveled value [] = ⊤
+IsLeveled value (r ∷ rs) = (r.1 ≡ value r.0) × IsLeveled value rs
+
+-- by the test that no pair has another value
+leveled : (value : ℕ → ℕ) (l : List (ℕ × ℕ))
+    → ((t : ℕ) → list_any (λ (r : ℕ × ℕ). if r.0 == t then (if r.1 == value t then false else true) else false) l ≡ false) → IsLeveled value l
+leveled value [] h = tt
+leveled value (r ∷ rs) h = (grind (arith, nat_tests, h r.0), leveled value rs (λ t. grind (arith, nat_tests, h t)))
+
+-- the first of greatest value is not below any
+first_above : (value : ℕ → ℕ) (l : List (ℕ × ℕ)) → IsLeveled value l → (t : ℕ) → stands_in t l ≡ true → value t ≤ (first_greatest l).1
+unfolding first_greatest
+first_above value [] h t e = grind arith
+first_above value (r ∷ rs) h t e = grind (arith, nat_tests, h.0, first_above value rs h.1 t)
+
+-- the first of greatest value stands in the list with its value, where there is anything
+first_stands : (value : ℕ → ℕ) (l : List (ℕ × ℕ)) → IsLeveled value l
+    → (l ≡ []) ⊎ ((stands_in (first_greatest l).0 l ≡ true) × ((first_greatest l).1 ≡ value (first_greatest l).0))
+unfolding first_greatest
+first_stands value [] h = inl refl
+first_stands value (r ∷ rs) h = inr (by_rest (first_stands value rs h.1) (cases_lt r.1 (first_greatest rs).1))
+  where
+    by_rest : (rs ≡ []) ⊎ ((stands_in (first_greatest rs).0 rs ≡ true) × ((first_greatest rs).1 ≡ value (first_greatest rs).0))
+        → ((r.1 < (first_greatest rs).1) ⊎ ((first_greatest rs).1 ≤ r.1))
+        → (stands_in (first_greatest (r ∷ rs)).0 (r ∷ rs) ≡ true) × ((first_greatest (r ∷ rs)).1 ≡ value (first_greatest (r ∷ rs)).0)
+    by_rest (inl e) (inl l) = absurd (omega (arith, ap (λ (x : List (ℕ × ℕ)). (first_greatest x).1) e))
+    by_rest (inr p) (inl l) = grind (arith, nat_tests, p.0, p.1)
+    by_rest _ (inr l) = grind (arith, nat_tests, h.0)
+
+-- who waits for no mutex stands nowhere, where nobody waits for the number 0
+not_waiting : (ws : List (ℕ × ℕ)) (t : ℕ) → has_waiter ws 0 ≡ false → waited_by ws t ≡ 0 → stands_in t ws ≡ false
+unfolding waited_by
+not_waiting [] t h e = refl
+not_waiting (w ∷ ws) t h e = grind (arith, nat_tests, h, e, not_waiting ws t)
+
+-- who waits for a mutex stands among the waiters
+is_waiting : (ws : List (ℕ × ℕ)) (t : ℕ) → waited_by ws t ≢ 0 → stands_in t ws ≡ true
+unfolding waited_by
+is_waiting [] t n = absurd (n refl)
+is_waiting (w ∷ ws) t n = grind (arith, nat_tests, n, is_waiting ws t)
+
+-- a ready thread's call is not stuck
+ready_not_stuck : (s : Table) (t : ℕ) (w : Woken) (l : Line) → LineIsSound s t (Ready w) l → is_stuck (call_at l (Ready w)) ≡ false
+ready_not_stuck s t w Idle h = refl
+ready_not_stuck s t w (At (Lock m) LockLoad) h = refl
+ready_not_stuck s t w (At (Lock m) LockExchange) h = refl
+ready_not_stuck s t w (At (Lock m) LockKernel) h = refl
+ready_not_stuck s t w (At (Lock m) LockQueued) h = refl
+ready_not_stuck s t w (At (Lock m) LockStop) h = refl
+ready_not_stuck s t w (At (Lock m) LockStopped) h = absurd (grind (arith, h.1))
+ready_not_stuck s t w (At (Lock m) UnlockLoad) h = refl
+ready_not_stuck s t w (At (Lock m) UnlockExchange) h = refl
+ready_not_stuck s t w (At (Lock m) UnlockKernel) h = refl
+ready_not_stuck s t w (At (Unlock m) UnlockLoad) h = refl
+ready_not_stuck s t w (At (Unlock m) UnlockExchange) h = refl
+ready_not_stuck s t w (At (Unlock m) UnlockKernel) h = refl
+ready_not_stuck s t w (At (Unlock m) LockStopped) h = absurd h.1
+ready_not_stuck s t w (At (Unlock m) LockLoad) h = refl
+ready_not_stuck s t w (At (Unlock m) LockExchange) h = refl
+ready_not_stuck s t w (At (Unlock m) LockKernel) h = refl
+ready_not_stuck s t w (At (Unlock m) LockQueued) h = refl
+ready_not_stuck s t w (At (Unlock m) LockStop) h = refl
+
+-- a stopped thread's call is stuck
+stopped_stuck : (s : Table) (t : ℕ) (l : Line) → LineIsSound s t Stopped l → is_stuck (call_at l Stopped) ≡ true
+stopped_stuck s t Idle h = absurd (true≢false (sym h))
+stopped_stuck s t (At (Lock m) LockLoad) h = absurd (true≢false (sym h.1))
+stopped_stuck s t (At (Lock m) LockExchange) h = absurd (true≢false (sym h.1.0))
+stopped_stuck s t (At (Lock m) LockKernel) h = absurd (true≢false (sym h.1.0))
+stopped_stuck s t (At (Lock m) LockQueued) h = absurd h.1
+stopped_stuck s t (At (Lock m) LockStop) h = absurd (true≢false (sym h.1.0))
+stopped_stuck s t (At (Lock m) LockStopped) h = refl
+stopped_stuck s t (At (Lock m) UnlockLoad) h = absurd h.1
+stopped_stuck s t (At (Lock m) UnlockExchange) h = absurd h.1
+stopped_stuck s t (At (Lock m) UnlockKernel) h = absurd h.1
+stopped_stuck s t (At (Unlock m) UnlockLoad) h = absurd (true≢false (sym h.1))
+stopped_stuck s t (At (Unlock m) UnlockExchange) h = absurd (true≢false (sym h.1.0))
+stopped_stuck s t (At (Unlock m) UnlockKernel) h = absurd (true≢false (sym h.1.0))
+stopped_stuck s t (At (Unlock m) LockLoad) h = absurd h.1
+stopped_stuck s t (At (Unlock m) LockExchange) h = absurd h.1
+stopped_stuck s t (At (Unlock m) LockKernel) h = absurd h.1
+stopped_stuck s t (At (Unlock m) LockQueued) h = absurd h.1
+stopped_stuck s t (At (Unlock m) LockStop) h = absurd h.1
+stopped_stuck s t (At (Unlock m) LockStopped) h = absurd h.1
+
+-- who was added is somebody
+somebody : (t n : ℕ) → (if t == 0 then false else nat_lt t n) ≡ true → t ≢ 0
+somebody t n h = grind (arith, nat_tests)
+
+-- a queued thread is queued on a mutex that was added
+queued_somewhere : (s : Table) (t m : ℕ) (l : Line) → LineIsSound s t (Queued m) l → QueueIsSound (Queued m) l → m ≢ 0
+queued_somewhere s t m l h q = somebody m (length s.cells) (subst (λ (x : Line). LineIsSound s t (Queued m) x) q h).0
+
+-- whether a thread of this line and status rests, by where it waits
+rests_by_status : (s : Table) (t : ℕ) (x : Status) (l : Line) → LineIsSound s t x l → QueueIsSound x l → has_waiter s.waiters 0 ≡ false → waited_by s.waiters t ≡ queued_on x
+    → (if is_stuck (call_at l x) then true else stands_in t s.waiters) ≡ (if is_ready x then false else true)
+rests_by_status s t (Ready w) l h q none e = rw (ready_not_stuck s t w l h, not_waiting s.waiters t none e) refl
+rests_by_status s t (Queued m) l h q none e = either (is_stuck (call_at l (Queued m))) (is_waiting s.waiters t (λ z. queued_somewhere s t m l h q (sym e ∙ z)))
+  where
+    either : (b : Bool) → stands_in t s.waiters ≡ true → (if b then true else stands_in t s.waiters) ≡ true
+    either true y = refl
+    either false y = y
+rests_by_status s t Stopped l h q none e = rw (stopped_stuck s t l h) refl
+
+-- a thread rests in the machine's state exactly where it is not ready
+pub rests_seen : (s : Table) → IsSound s → (t : ℕ) → has_thread s t ≡ true → rests (world_of s) t ≡ (if is_ready (row_at s t).status then false else true)
+rests_seen s h t k =
+    ap (λ (x : Thread). if is_stuck x.call then true else stands_in t s.waiters) (mapped_at thread_of s.rows t no_row)
+    ∙ rests_by_status s t (row_at s t).status (row_at s t).line (h.rows t k).line (h.rows t k).queue h.somewhere (h.queue t)
+
+-- a thread was added to both machines
+known_seen : (s : Table) (t : ℕ) → is_thread (world_of s) t ≡ has_thread s t
+known_seen s t = ap (λ (n : ℕ). if t == 0 then false else nat_lt t n) (length-map s.rows thread_of)
+
+-- of no pairs the first is the pair of zeros
+first_of_none : (first_greatest []).0 ≡ 0
+unfolding first_greatest
+first_of_none = refl
+
+-- a status that doesn't rest is ready
+not_resting : (b : Bool) → (if b then false else true) ≡ false → b ≡ true
+not_resting b h = grind arith
+
+-- a list in which a thread stands is not empty
+stands_somewhere : {P : Type 0} (t : ℕ) (l : List (ℕ × ℕ)) → (l ≡ []) ⊎ P → stands_in t l ≡ true → P
+stands_somewhere t l (inl e) h = absurd (true≢false (sym h ∙ ap (λ (x : List (ℕ × ℕ)). stands_in t x) e))
+stands_somewhere t l (inr p) h = p
+
+-- the kernel's pick runs next
+pub pick_is : (s : Table) → IsSound s → IsPick (world_of s) (kernel_pick s)
+pick_is s h =
+    record {
+      runs = λ n. runs (picked n);
+      greatest = λ t k awake. greatest t (sym (known_seen s t) ∙ k) awake;
+    }
+  where
+    same : (t : ℕ) → kernel_effective s t ≡ effective_of (world_of s) t
+    same t = ap (λ (f : ℕ → ℕ). f t) (effective_seen s h)
+
+    levels : IsLeveled (kernel_effective s) s.ready
+    levels = leveled (kernel_effective s) s.ready h.level
+
+    both : (a b : Bool) → (if a then b else false) ≡ true → (a ≡ true) × (b ≡ true)
+    both a b e = grind arith
+
+    runs : stands_in (kernel_pick s) s.ready ≡ true → (is_thread (world_of s) (kernel_pick s) ≡ true) × (rests (world_of s) (kernel_pick s) ≡ false)
+    runs e =
+        let p = both (has_thread s (kernel_pick s)) (is_ready (row_at s (kernel_pick s)).status) (sym (h.ready (kernel_pick s)) ∙ e) in
+        (known_seen s (kernel_pick s) ∙ p.0, rests_seen s h (kernel_pick s) p.0 ∙ ap (λ (b : Bool). if b then false else true) p.1)
+
+    first : (s.ready ≡ []) ⊎ ((stands_in (kernel_pick s) s.ready ≡ true) × ((first_greatest s.ready).1 ≡ kernel_effective s (kernel_pick s)))
+    first = first_stands (kernel_effective s) s.ready levels
+
+    nothing : s.ready ≡ [] → kernel_pick s ≡ 0
+    nothing e = ap (λ (l : List (ℕ × ℕ)). (first_greatest l).0) e ∙ first_of_none
+
+    picked : kernel_pick s ≢ 0 → stands_in (kernel_pick s) s.ready ≡ true
+    picked n = grind (arith, first, nothing, n)
+
+    awake_stands : (t : ℕ) → has_thread s t ≡ true → rests (world_of s) t ≡ false → stands_in t s.ready ≡ true
+    awake_stands t k awake = h.ready t ∙ (ap (λ (b : Bool). if b then is_ready (row_at s t).status else false) k
+        ∙ not_resting (is_ready (row_at s t).status) (sym (rests_seen s h t k) ∙ awake))
+
+    found : (t : ℕ) → stands_in t s.ready ≡ true → (stands_in (kernel_pick s) s.ready ≡ true) × ((first_greatest s.ready).1 ≡ kernel_effective s (kernel_pick s))
+    found t e = stands_somewhere t s.ready first e
+
+    greatest : (t : ℕ) → has_thread s t ≡ true → rests (world_of s) t ≡ false → (kernel_pick s ≢ 0) × (effective_of (world_of s) t ≤ effective_of (world_of s) (kernel_pick s))
+    greatest t k awake =
+        let e = awake_stands t k awake in
+        let f = found t e in
+        let p = both (has_thread s (kernel_pick s)) (is_ready (row_at s (kernel_pick s)).status) (sym (h.ready (kernel_pick s)) ∙ f.0) in (
+          somebody (kernel_pick s) (length s.rows) p.0,
+          subst (λ (n : ℕ). n ≤ effective_of (world_of s) (kernel_pick s)) (same t)
+              (subst (λ (n : ℕ). kernel_effective s t ≤ n) (f.1 ∙ same (kernel_pick s)) (first_above (kernel_effective s) s.ready levels t e)),
+        )
+
+-- a mutex was added to a table whose word is one of those that the machine's state allows
+pub word_is_possible : (s : Table) → IsSound s → (m : ℕ) → has_mutex s m ≡ true → IsPossible (world_of s) m (cell_at s m).word
+word_is_possible s h m k =
+    record {
+      number = sym (ap (λ (x : Mutex). x.owner) seen);
+      waiters = cell.contended;
+      died = λ e. absurd (true≢false (sym e ∙ cell.no_death));
+      free = λ e _. free_seen (sym (ap (λ (x : Mutex). x.owner) seen) ∙ e);
+      inconsistent = λ _ e. absurd (grind (arith, fine_seen, e));
+    }
+  where
+    seen : mutex_at (world_of s) m ≡ mutex_of (cell_at s m)
+    seen = mapped_at mutex_of s.cells m no_cell
+
+    cell : CellIsSound s m (cell_at s m)
+    cell = h.cells m k
+
+    free_seen : (cell_at s m).word.number ≡ 0 → (cell_at s m).word ≡ free_word
+    free_seen e = λ i. record { number = e i; waiters = cell.free e i; died = cell.no_death i }
+
+    fine_seen : (mutex_at (world_of s) m).health ≡ Fine
+    fine_seen = ap (λ (x : Mutex). x.health) seen ∙ (ap (λ (a : Health). health_of a (cell_at s m).word.died) cell.fine ∙ ap (λ (b : Bool). if b then Inconsistent else Fine) cell.no_death)

@@ -1,0 +1,147 @@
+-- The law that a thread's effective priority is the greatest base priority of it and of all that wait for it through
+-- any chain.
+use Rattle.std.proofs.Common.{◌≡◌, ◌≢◌, ◌⊎◌, ◌<◌, ◌≤◌, ℕ, true, false, ◌==◌, eqb, nat_lt, List, [], ◌∷◌, length, map, refl, sym, ap, ◌∙◌, subst, inl, inr, arith, if◌then◌else◌}
+use Rattle.std.specs.List.{IsDistinct, AllByRecursion}
+use Rattle.std.proofs.lemmas.Bool.{cases_eq, cases_lt}
+use Rattle.std.proofs.lemmas.Bool.Decides.{nat_tests}
+use Rattle.std.proofs.lemmas.List.{length-map, get_or_past}
+use Rattle.std.proofs.lemmas.Map.Keys.{IsDistinct-head, IsDistinct-tail}
+use Rattle.pif_model.specs.Graph.{waited_by, reaches_within, effective_among, Reaches}
+use Rattle.pif_model.specs.Graph.Reaches.{here, hop}
+use Rattle.pif_model.specs.Posix.{World, Mutex, WaitsFor, waits_for, thread_at, mutex_at, is_thread, effective_of, leads_to}
+use Rattle.pif_model.specs.Table.{Table, Row, Cell, no_cell, cell_at, has_thread, has_mutex, queued_on}
+use Rattle.pif_model.specs.Standing.{IsSound, HasEffective, world_of, thread_of, mutex_of}
+use Rattle.pif_simulation.proofs.Places.{mapped_at}
+use Rattle.pif_simulation.proofs.Among.{is_among}
+use Rattle.pif_simulation.proofs.Following.{Follows, reaches-from_within, within-from_reaches, within_here, within_alone, greatest_where_above, greatest_where_at, IsGreatestAt}
+
+-- what a state has to keep for its chains of waiting to be those of a function: a thread waits once, nobody waits for
+-- nothing, and owners were added
+pub record IsOrderly (w : World) : Type 0 where
+  pub once : IsDistinct eqb (map (λ (p : ℕ × ℕ). p.0) w.waiters)
+  pub nobody_waits : waited_by w.waiters 0 ≡ 0
+  pub no_owner : (mutex_at w 0).owner ≡ 0
+  pub owners : (m : ℕ) → (mutex_at w m).owner ≢ 0 → is_thread w (mutex_at w m).owner ≡ true
+
+-- who is not among the first parts is among no waiters
+apart_among : (ws : List (ℕ × ℕ)) (u m : ℕ) → AllByRecursion (λ y. eqb u y ≡ false) (map (λ (p : ℕ × ℕ). p.0) ws) → is_among ws u m ≡ false
+apart_among [] u m h = refl
+apart_among (p ∷ ws) u m h = grind (arith, nat_tests, h.0, apart_among ws u m h.1)
+
+-- who is among the waiters of m, and waits once, waits for m
+waited_by-among : (ws : List (ℕ × ℕ)) (u m : ℕ) → IsDistinct eqb (map (λ (p : ℕ × ℕ). p.0) ws) → is_among ws u m ≡ true → waited_by ws u ≡ m
+unfolding waited_by
+waited_by-among [] u m d h = grind arith
+waited_by-among (p ∷ ws) u m d h =
+    grind (
+      arith,
+      nat_tests,
+      h,
+      waited_by-among ws u m (IsDistinct-tail eqb p.0 (map (λ (p : ℕ × ℕ). p.0) ws) d),
+      apart_among ws p.0 m (IsDistinct-head eqb p.0 (map (λ (p : ℕ × ℕ). p.0) ws) d),
+    )
+
+-- who waits for a mutex is among its waiters
+among-waited_by : (ws : List (ℕ × ℕ)) (u : ℕ) → waited_by ws u ≢ 0 → is_among ws u (waited_by ws u) ≡ true
+unfolding waited_by
+among-waited_by [] u n = absurd (n refl)
+among-waited_by (p ∷ ws) u n = grind (arith, nat_tests, n, among-waited_by ws u)
+
+-- who waits for t waits for t by the function
+pub follows-from_WaitsFor : (w : World) → IsOrderly w → (u t : ℕ) → WaitsFor w u t → Follows (waits_for w) u t
+follows-from_WaitsFor w h u t f = (ap (λ (m : ℕ). (mutex_at w m).owner) (waited_by-among w.waiters u f.mutex h.once f.among) ∙ f.owned, f.somebody)
+
+-- and back
+pub WaitsFor-from_follows : (w : World) → IsOrderly w → (u t : ℕ) → Follows (waits_for w) u t → WaitsFor w u t
+WaitsFor-from_follows w h u t f =
+    record {
+      mutex = waited_by w.waiters u;
+      among = among-waited_by w.waiters u (λ e. f.1 (sym f.0 ∙ (ap (λ (m : ℕ). (mutex_at w m).owner) e ∙ h.no_owner)));
+      owned = f.0;
+      somebody = f.1;
+    }
+
+-- a chain is carried along from one relation to another
+pub Reaches-map : {A B : ℕ → ℕ → Type 0} → ((u t : ℕ) → A u t → B u t) → {u t : ℕ} → Reaches A u t → Reaches B u t
+Reaches-map f (here e) = here e
+Reaches-map f (hop {u = u} {v = v} a r) = hop (f u v a) (Reaches-map f r)
+
+-- whoever was added is below the threads' number
+below_threads : (t n : ℕ) → (if t == 0 then false else nat_lt t n) ≡ true → (t ≢ 0) × (t < n)
+below_threads t n h = grind (arith, nat_tests)
+
+-- and back
+was_added : (t n : ℕ) → t ≢ 0 → t < n → (if t == 0 then false else nat_lt t n) ≡ true
+was_added t n s l = grind (arith, nat_tests)
+
+-- the effective priority in the subject's words
+pub effective_is_greatest_of : (w : World) → IsOrderly w → (t : ℕ) → is_thread w t ≡ true → HasEffective w t (effective_of w t)
+unfolding effective_among
+effective_is_greatest_of w h t known =
+    record {
+      attained = (
+        best.0,
+        was_added best.0 (length w.threads) (λ e. real.0 (within_here_zero e)) best.1,
+        Reaches-map (WaitsFor-from_follows w h) (reaches-from_within (length w.threads) (waits_for w) best.0 t best.2),
+        best.3,
+      );
+      greatest = λ u k r.
+          greatest_where_above (λ x. reaches_within (length w.threads) (waits_for w) x t) (λ x. (thread_at w x).base) (length w.threads) u (below_threads u (length w.threads) k).1
+          (within-from_reaches (length w.threads) (waits_for w) u t (below_threads u (length w.threads) k).1 below (Reaches-map (follows-from_WaitsFor w h) r));
+    }
+  where
+    real : (t ≢ 0) × (t < length w.threads)
+    real = below_threads t (length w.threads) known
+
+    below : (x : ℕ) → waits_for w x ≢ 0 → waits_for w x < length w.threads
+    below x n = (below_threads (waits_for w x) (length w.threads) (h.owners (waited_by w.waiters x) n)).1
+
+    best : IsGreatestAt (λ x. reaches_within (length w.threads) (waits_for w) x t) (λ x. (thread_at w x).base) (length w.threads)
+    best = greatest_where_at (λ x. reaches_within (length w.threads) (waits_for w) x t) (λ x. (thread_at w x).base) (length w.threads) t real.1 (within_here (length w.threads) (waits_for w) t)
+
+    zero_waits : waits_for w 0 ≡ 0
+    zero_waits = ap (λ (m : ℕ). (mutex_at w m).owner) h.nobody_waits ∙ h.no_owner
+
+    within_here_zero : best.0 ≡ 0 → t ≡ 0
+    within_here_zero e = sym (within_alone (length w.threads) (waits_for w) 0 t zero_waits (subst (λ (x : ℕ). reaches_within (length w.threads) (waits_for w) x t ≡ true) e best.2))
+
+-- a chain of waiting leads from u to t exactly where one is found within as many hops as there are threads
+pub reaches-from_leads_to : (w : World) → IsOrderly w → (u t : ℕ) → leads_to w u t ≡ true → Reaches (WaitsFor w) u t
+reaches-from_leads_to w h u t e = Reaches-map (WaitsFor-from_follows w h) (reaches-from_within (length w.threads) (waits_for w) u t e)
+
+-- and back
+pub leads_to-from_reaches : (w : World) → IsOrderly w → (u t : ℕ) → is_thread w u ≡ true → Reaches (WaitsFor w) u t → leads_to w u t ≡ true
+leads_to-from_reaches w h u t k r =
+    within-from_reaches (length w.threads) (waits_for w) u t (below_threads u (length w.threads) k).1
+    (λ x n. (below_threads (waits_for w x) (length w.threads) (h.owners (waited_by w.waiters x) n)).1) (Reaches-map (follows-from_WaitsFor w h) r)
+
+-- the owner in the machine's state is the number in the word
+owner_seen : (s : Table) (m : ℕ) → (mutex_at (world_of s) m).owner ≡ (cell_at s m).word.number
+owner_seen s m = ap (λ (x : Mutex). x.owner) (mapped_at mutex_of s.cells m no_cell)
+
+-- a thread was added to both machines
+thread_seen : (s : Table) (t : ℕ) → is_thread (world_of s) t ≡ has_thread s t
+thread_seen s t = ap (λ (n : ℕ). if t == 0 then false else nat_lt t n) (length-map s.rows thread_of)
+
+-- a sound table shows an orderly state
+pub IsOrderly-world_of : (s : Table) → IsSound s → IsOrderly (world_of s)
+IsOrderly-world_of s h =
+    record {
+      once = h.once;
+      nobody_waits = h.queue 0 ∙ ap (λ (r : Row). queued_on r.status) h.nobody;
+      no_owner = owner_seen s 0 ∙ ap (λ (c : Cell). c.word.number) h.no_mutex;
+      owners = λ m n. thread_seen s (mutex_at (world_of s) m).owner
+          ∙ subst (λ (o : ℕ). has_thread s o ≡ true) (sym (owner_seen s m)) (word_owner m (λ e. n (owner_seen s m ∙ e)));
+    }
+  where
+    by_place : (m : ℕ) → (cell_at s m).word.number ≢ 0 → ((m ≡ 0) ⊎ (m ≡ 0 → ⊥)) → ((m < length s.cells) ⊎ (length s.cells ≤ m)) → has_mutex s m ≡ true
+    by_place m n (inl e) _ = absurd (n (ap (λ (k : ℕ). (cell_at s k).word.number) e ∙ ap (λ (c : Cell). c.word.number) h.no_mutex))
+    by_place m n (inr d) (inl l) = was_added m (length s.cells) d l
+    by_place m n (inr d) (inr l) = absurd (n (ap (λ (c : Cell). c.word.number) (get_or_past s.cells m no_cell l)))
+
+    word_owner : (m : ℕ) → (cell_at s m).word.number ≢ 0 → has_thread s (cell_at s m).word.number ≡ true
+    word_owner m n = (h.cells m (by_place m n (cases_eq m 0) (cases_lt m (length s.cells)))).owner n
+
+-- the effective priority of each thread of a sound table, in the subject's words
+pub effective_is_greatest : (s : Table) → IsSound s → (t : ℕ) → has_thread s t ≡ true → HasEffective (world_of s) t (effective_of (world_of s) t)
+effective_is_greatest s h t k = effective_is_greatest_of (world_of s) (IsOrderly-world_of s h) t (thread_seen s t ∙ k)

@@ -1,0 +1,136 @@
+-- What the POSIX machine sees of a table: its threads and mutexes, a change of one of them, and its refusals.
+use Rattle.std.proofs.Common.{◌≡◌, ◌≢◌, ℕ, ◌<◌, true, false, ◌==◌, nat_lt, length, set, map, Some, None, is_some, refl, sym, ap, ◌∙◌, if◌then◌else◌}
+use Rattle.std.proofs.lemmas.Bool.{lt-ltb, ne_eqb}
+use Rattle.std.proofs.lemmas.List.{length-map, map-set, set-set, get_or-set_same, get_or-set_other}
+use Rattle.pif_types.specs.declared.requests.Request.{Request}
+use Rattle.pif_model.specs.declared.events.Event.{Event}
+use Rattle.pif_model.specs.declared.events.Event.TheVariants.{Begin, Go}
+use Rattle.pif_model.specs.declared.lines.Line.{Line}
+use Rattle.pif_model.specs.declared.lines.Line.TheVariants.{Idle, At}
+use Rattle.pif_model.specs.declared.lines.Place.{Place}
+use Rattle.pif_model.specs.declared.lines.Status.{Status}
+use Rattle.pif_model.specs.Refusals.{begin_refused, go_refused}
+use Rattle.pif_model.specs.Word.{Word}
+use Rattle.pif_model.specs.Posix.{Progress, Call, Thread, World, nobody, thread_at, mutex_at, is_thread, is_mutex, with_thread, with_mutex, with_progress, progressed, refusal_of, named_by}
+use Rattle.pif_model.specs.Table.{Table, Row, no_row, no_cell, row_at, cell_at, has_thread, has_mutex, with_row, with_line, with_word}
+use Rattle.pif_model.specs.Lines.{is_open, table_refusal}
+use Rattle.pif_model.specs.Standing.{call_at, thread_of, mutex_of, world_of}
+use Rattle.pif_simulation.proofs.Places.{mapped_at}
+use Rattle.pif_simulation.proofs.Kept.{above_0, below}
+
+-- PLACES
+
+-- the thread that the POSIX machine sees is the row's
+pub thread_seen : (s : Table) (t : ℕ) → thread_at (world_of s) t ≡ thread_of (row_at s t)
+thread_seen s t = mapped_at thread_of s.rows t no_row
+
+-- the mutex that the POSIX machine sees is the cell's
+pub mutex_seen : (s : Table) (m : ℕ) → mutex_at (world_of s) m ≡ mutex_of (cell_at s m)
+mutex_seen s m = mapped_at mutex_of s.cells m no_cell
+
+-- both machines have the same threads
+pub is_thread_seen : (s : Table) (t : ℕ) → is_thread (world_of s) t ≡ has_thread s t
+is_thread_seen s t = ap (λ n. if t == 0 then false else nat_lt t n) (length-map s.rows thread_of)
+
+-- both machines have the same mutexes
+pub is_mutex_seen : (s : Table) (m : ℕ) → is_mutex (world_of s) m ≡ has_mutex s m
+is_mutex_seen s m = ap (λ n. if m == 0 then false else nat_lt m n) (length-map s.cells mutex_of)
+
+-- a number that passes the test is not 0, and below
+pub within : (t n : ℕ) → (if t == 0 then false else nat_lt t n) ≡ true → (t ≢ 0) × (t < n)
+within t n h = (above_0 t n h, below t n h)
+
+-- a number that is not 0 and below passes the test
+pub from_within : (t n : ℕ) → t ≢ 0 → t < n → (if t == 0 then false else nat_lt t n) ≡ true
+from_within t n z h = rw (ne_eqb t 0 z) (lt-ltb t n h)
+
+-- who was added is not 0
+pub has_thread_above_0 : (s : Table) (t : ℕ) → has_thread s t ≡ true → t ≢ 0
+has_thread_above_0 s t h = (within t (length s.rows) h).0
+
+-- who was added has a row
+pub has_thread_below : (s : Table) (t : ℕ) → has_thread s t ≡ true → t < length s.rows
+has_thread_below s t h = (within t (length s.rows) h).1
+
+-- a mutex that was added is not 0
+pub has_mutex_above_0 : (s : Table) (m : ℕ) → has_mutex s m ≡ true → m ≢ 0
+has_mutex_above_0 s m h = (within m (length s.cells) h).0
+
+-- a mutex that was added has a cell
+pub has_mutex_below : (s : Table) (m : ℕ) → has_mutex s m ≡ true → m < length s.cells
+has_mutex_below s m h = (within m (length s.cells) h).1
+
+-- OPEN CALLS
+
+-- both machines have the same calls open
+pub is_open_seen : (l : Line) (x : Status) → is_some (call_at l x) ≡ is_open l
+is_open_seen Idle x = refl
+is_open_seen (At q p) x = refl
+
+-- both machines have t's call open, or neither
+pub busy_seen : (s : Table) (t : ℕ) → is_some (thread_at (world_of s) t).call ≡ is_open (row_at s t).line
+busy_seen s t = ap (λ (x : Thread). is_some x.call) (thread_seen s t) ∙ is_open_seen (row_at s t).line (row_at s t).status
+
+-- both machines refuse the same events
+pub refusal_seen : (s : Table) (e : Event) → refusal_of (world_of s) e ≡ table_refusal s e
+refusal_seen s (Begin t q) = λ i. begin_refused (is_thread_seen s t i) (busy_seen s t i) (is_mutex_seen s (named_by q) i)
+refusal_seen s (Go t) = λ i. go_refused (is_thread_seen s t i) (busy_seen s t i)
+
+-- CHANGES
+
+-- a table with t at another line shows the world with t's call there
+pub line_seen : (s : Table) (t : ℕ) (l : Line) → world_of (with_line t l s) ≡ with_thread t (record (thread_at (world_of s) t) { call = call_at l (row_at s t).status }) (world_of s)
+line_seen s t l = λ i. record (world_of s) {
+  threads = (map-set thread_of s.rows t (record (row_at s t) { line = l })
+      ∙ ap (λ (x : Thread). set (map thread_of s.rows) t (record x { call = call_at l (row_at s t).status })) (sym (thread_seen s t))) i;
+}
+
+-- a table with another word of m shows the world with m as that shows it
+pub word_seen : (s : Table) (m : ℕ) (x : Word) → world_of (with_word m x s) ≡ with_mutex m (mutex_of (record (cell_at s m) { word = x })) (world_of s)
+word_seen s m x = λ i. record (world_of s) { mutexes = map-set mutex_of s.cells m (record (cell_at s m) { word = x }) i }
+
+-- a table with another row of t shows the world with t as that shows it
+pub row_seen : (s : Table) (t : ℕ) (r : Row) → world_of (with_row t r s) ≡ with_thread t (thread_of r) (world_of s)
+row_seen s t r = λ i. record (world_of s) { threads = map-set thread_of s.rows t r i }
+
+-- the call that the POSIX machine sees is the line's
+pub call_seen : (s : Table) (t : ℕ) (l : Line) → (row_at s t).line ≡ l → (thread_at (world_of s) t).call ≡ call_at l (row_at s t).status
+call_seen s t l e = ap (λ (x : Thread). x.call) (thread_seen s t) ∙ ap (λ k. call_at k (row_at s t).status) e
+
+-- the world in which t's call has come this far
+pub progress_seen : (s : Table) (t : ℕ) (q : Request) (a : Place) (p : Progress) → (row_at s t).line ≡ At q a
+    → with_progress t p (world_of s) ≡ with_thread t (record { base = (row_at s t).base; living = (row_at s t).living; call = Some (record { request = q; progress = p }) }) (world_of s)
+progress_seen s t q a p e =
+    ap (λ (x : Thread). with_thread t (record x { call = progressed p x.call }) (world_of s)) (thread_seen s t)
+    ∙ ap (λ l. with_thread t (record { base = (row_at s t).base; living = (row_at s t).living; call = progressed p (call_at l (row_at s t).status) }) (world_of s)) e
+
+-- WORLDS
+
+-- a thread that was changed
+pub thread_changed : (w : World) (t : ℕ) (x : Thread) → t < length w.threads → thread_at (with_thread t x w) t ≡ x
+thread_changed w t x h = get_or-set_same w.threads t x nobody h
+
+-- the other threads stay
+pub thread_unchanged : (w : World) (t u : ℕ) (x : Thread) → u ≢ t → thread_at (with_thread t x w) u ≡ thread_at w u
+thread_unchanged w t u x n = get_or-set_other w.threads t u x nobody n
+
+-- a thread that was changed twice
+pub thread_changed_twice : (w : World) (t : ℕ) (x y : Thread) → with_thread t y (with_thread t x w) ≡ with_thread t y w
+thread_changed_twice w t x y = λ i. record w { threads = set-set w.threads t x y i }
+
+-- the state once t's call is closed
+abbrev pub closed : ℕ → World → World
+closed t u = with_thread t (record (thread_at u t) { call = None }) u
+
+-- a call that has come far is closed like any other
+pub closed_progressed : (w : World) (t : ℕ) (p : Progress) → t < length w.threads → closed t (with_progress t p w) ≡ closed t w
+closed_progressed w t p h =
+    let x : Thread = record (thread_at w t) { call = progressed p (thread_at w t).call } in
+    ap (λ (y : Thread). with_thread t (record y { call = None }) (with_thread t x w)) (thread_changed w t x h)
+    ∙ thread_changed_twice w t x (record (thread_at w t) { call = None })
+
+-- the call of a thread that has come far
+pub call_progressed : (w : World) (t : ℕ) (p : Progress) (c : Call) → t < length w.threads → (thread_at w t).call ≡ Some c → (thread_at (with_progress t p w) t).call ≡ Some (record c { progress = p })
+call_progressed w t p c h e =
+    ap (λ (y : Thread). y.call) (thread_changed w t (record (thread_at w t) { call = progressed p (thread_at w t).call }) h)
+    ∙ ap (progressed p) e

@@ -1,0 +1,211 @@
+-- One step of the table machine as one entry of the POSIX machine: what every line has to show.
+use Rattle.std.proofs.Common.{◌≡◌, ℕ, ◌<◌, Bool, true, false, length, Some, None, refl, sym, ap, ap₂, ◌∙◌, subst, if◌then◌else◌}
+use Rattle.std.proofs.lemmas.Bool.{true≢false}
+use Rattle.std.proofs.lemmas.List.{length-map, set-get_or}
+use Rattle.pif_types.specs.declared.requests.Request.{Request}
+use Rattle.pif_types.specs.declared.requests.Request.TheVariants.{Lock, Unlock}
+use Rattle.pif_model.specs.declared.events.Event.TheVariants.{Go}
+use Rattle.pif_model.specs.declared.events.Seen.TheVariants.{Went, Waits, Answered}
+use Rattle.pif_model.specs.declared.events.Entry.{Entry}
+use Rattle.pif_model.specs.declared.events.Entry.TheVariants.{Step as Happened}
+use Rattle.pif_model.specs.declared.lines.Line.{Line}
+use Rattle.pif_model.specs.declared.lines.Line.TheVariants.{Idle, At}
+use Rattle.pif_model.specs.declared.lines.Place.{Place}
+use Rattle.pif_model.specs.declared.lines.Place.TheVariants.{LockLoad, LockExchange, LockKernel, LockQueued, LockStop, LockStopped, UnlockLoad, UnlockExchange, UnlockKernel}
+use Rattle.pif_model.specs.declared.lines.Status.{Status}
+use Rattle.pif_model.specs.declared.lines.Status.TheVariants.{Ready, Queued, Stopped}
+use Rattle.pif_model.specs.Graph.{waited_by}
+use Rattle.pif_model.specs.Word.{Word}
+use Rattle.pif_model.specs.Refusals.{go_refused}
+use Rattle.pif_model.specs.Posix.{Thread, World, Step, Effect, Effects, thread_at, with_thread, with_mutex, with_progress, refusal_of, rests, is_stuck}
+use Rattle.pif_model.specs.Posix.Progress.{Has}
+use Rattle.pif_model.specs.Posix.Step.{went, waits, answered}
+use Rattle.pif_model.specs.Posix.Effects.{none, then as first}
+use Rattle.pif_model.specs.Table.{Table, Cell, row_at, cell_at, has_thread, has_mutex, with_line, with_word, is_ready, queued_on}
+use Rattle.pif_model.specs.Lines.{Outcome, is_open}
+use Rattle.pif_model.specs.Standing.{call_at, progress_at, thread_of, mutex_of, world_of, LockIsSound, UnlockIsSound, LineIsSound, QueueIsSound, IsSound}
+use Rattle.pif_simulation.proofs.Waiting.{names, paired-from_waited, named-from_pair}
+use Rattle.pif_simulation.proofs.Queue.{ready-unnamed}
+use Rattle.pif_simulation.proofs.Projection.{thread_seen, call_seen, line_seen, word_seen, refusal_seen, has_thread_below, has_mutex_above_0, closed, closed_progressed, call_progressed}
+use Rattle.pif_simulation.proofs.Changes.{has_thread_lined, ready_lined, line_kept}
+
+-- v follows s by this entry: it is sound, both have the same limits, and what they show is a step of the POSIX machine
+pub record Keeps (s : Table) (e : Entry) (v : Table) : Type 0 where
+  pub sound : IsSound v
+  pub step : Step s.limits (world_of s) e (world_of v)
+  pub limits : v.limits ≡ s.limits
+
+-- what a step of t answers and leaves follows s
+abbrev pub GoKeeps : Table → ℕ → Outcome → Type 0
+GoKeeps s t o = Keeps s (Happened (Go t) o.seen) o.after
+
+-- WHO RESTS
+
+-- a lock of a thread that may run is not stuck
+lock_moves : (t m : ℕ) (x : Status) (c : Cell) (p : Place) → LockIsSound t x c p → is_ready x ≡ true → is_stuck (call_at (At (Lock m) p) x) ≡ false
+lock_moves t m x c LockLoad h e = refl
+lock_moves t m x c LockExchange h e = refl
+lock_moves t m x c LockKernel h e = refl
+lock_moves t m (Ready w) c LockQueued h e = refl
+lock_moves t m (Queued n) c LockQueued h e = refl
+lock_moves t m Stopped c LockQueued h e = absurd h
+lock_moves t m x c LockStop h e = refl
+lock_moves t m x c LockStopped h e = absurd (true≢false (sym e ∙ ap is_ready h))
+lock_moves t m x c UnlockLoad h e = refl
+lock_moves t m x c UnlockExchange h e = refl
+lock_moves t m x c UnlockKernel h e = refl
+
+-- an unlock is never stuck
+unlock_moves : (t m : ℕ) (x : Status) (c : Cell) (p : Place) → UnlockIsSound t x c p → is_stuck (call_at (At (Unlock m) p) x) ≡ false
+unlock_moves t m x c UnlockLoad h = refl
+unlock_moves t m x c UnlockExchange h = refl
+unlock_moves t m x c UnlockKernel h = refl
+unlock_moves t m x c LockLoad h = absurd h
+unlock_moves t m x c LockExchange h = absurd h
+unlock_moves t m x c LockKernel h = absurd h
+unlock_moves t m x c LockQueued h = absurd h
+unlock_moves t m x c LockStop h = absurd h
+unlock_moves t m x c LockStopped h = absurd h
+
+-- the call of a thread that may run is not stuck
+line_moves : (s : Table) (t : ℕ) (x : Status) (l : Line) → LineIsSound s t x l → is_ready x ≡ true → is_stuck (call_at l x) ≡ false
+line_moves s t x Idle h e = refl
+line_moves s t x (At (Lock m) p) h e = lock_moves t m x (cell_at s m) p h.1 e
+line_moves s t x (At (Unlock m) p) h e = unlock_moves t m x (cell_at s m) p h.1
+
+-- a lock whose thread is stopped is stuck
+lock_stuck : (t m : ℕ) (c : Cell) (p : Place) → LockIsSound t Stopped c p → is_stuck (call_at (At (Lock m) p) Stopped) ≡ true
+lock_stuck t m c LockLoad h = absurd (true≢false (sym h))
+lock_stuck t m c LockExchange h = absurd (true≢false (sym h.0))
+lock_stuck t m c LockKernel h = absurd (true≢false (sym h.0))
+lock_stuck t m c LockQueued h = absurd h
+lock_stuck t m c LockStop h = absurd (true≢false (sym h.0))
+lock_stuck t m c LockStopped h = refl
+lock_stuck t m c UnlockLoad h = absurd h
+lock_stuck t m c UnlockExchange h = absurd h
+lock_stuck t m c UnlockKernel h = absurd h
+
+-- no unlock has a stopped thread
+unlock_runs : (t : ℕ) (c : Cell) (p : Place) → UnlockIsSound t Stopped c p → ⊥
+unlock_runs t c UnlockLoad h = true≢false (sym h)
+unlock_runs t c UnlockExchange h = true≢false (sym h.0)
+unlock_runs t c UnlockKernel h = true≢false (sym h.0)
+unlock_runs t c LockLoad h = h
+unlock_runs t c LockExchange h = h
+unlock_runs t c LockKernel h = h
+unlock_runs t c LockQueued h = h
+unlock_runs t c LockStop h = h
+unlock_runs t c LockStopped h = h
+
+-- the call of a stopped thread is stuck
+line_stuck : (s : Table) (t : ℕ) (l : Line) → LineIsSound s t Stopped l → is_stuck (call_at l Stopped) ≡ true
+line_stuck s t Idle h = absurd (true≢false (sym h))
+line_stuck s t (At (Lock m) p) h = lock_stuck t m (cell_at s m) p h.1
+line_stuck s t (At (Unlock m) p) h = absurd (unlock_runs t (cell_at s m) p h.1)
+
+-- whether t rests, by its row
+rests_seen : (s : Table) (t : ℕ) → rests (world_of s) t ≡ (if is_stuck (call_at (row_at s t).line (row_at s t).status) then true else names t s.waiters)
+rests_seen s t = ap (λ (x : Thread). if is_stuck x.call then true else names t s.waiters) (thread_seen s t)
+
+-- a thread that may run doesn't rest
+pub rests_ready : (s : Table) (t : ℕ) → IsSound s → has_thread s t ≡ true → is_ready (row_at s t).status ≡ true → rests (world_of s) t ≡ false
+rests_ready s t h k e = rests_seen s t ∙ ap₂ (λ a b. if a then true else b)
+    (line_moves s t (row_at s t).status (row_at s t).line (h.rows t k).line e)
+    (ready-unnamed s t h e)
+
+-- a thread that may not run rests
+pub rests_not_ready : (s : Table) (t : ℕ) → IsSound s → has_thread s t ≡ true → is_ready (row_at s t).status ≡ false → rests (world_of s) t ≡ true
+rests_not_ready s t h k e = rests_seen s t ∙ go (row_at s t).status (row_at s t).line e (h.rows t k).line (h.rows t k).queue (h.queue t)
+  where
+    either : (b : Bool) → (if b then true else true) ≡ true
+    either true = refl
+    either false = refl
+
+    go : (x : Status) (l : Line) → is_ready x ≡ false → LineIsSound s t x l → QueueIsSound x l → waited_by s.waiters t ≡ queued_on x → (if is_stuck (call_at l x) then true else names t s.waiters) ≡ true
+    go (Ready w) l e a b c = absurd (true≢false e)
+    go Stopped l e a b c = ap (λ x. if x then true else names t s.waiters) (line_stuck s t l a)
+    go (Queued m) l e a b c =
+        let named : has_mutex s m ≡ true = (subst (LineIsSound s t (Queued m)) b a).0 in
+        ap (λ x. if is_stuck (call_at l (Queued m)) then true else x) (named-from_pair s.waiters t m (paired-from_waited s.waiters t m (has_mutex_above_0 s m named) c))
+        ∙ either (is_stuck (call_at l (Queued m)))
+
+-- A STEP OF AN OPEN CALL
+
+-- t's call is open at this place
+pub record Going (s : Table) (t : ℕ) (q : Request) (p : Place) : Type 0 where
+  pub sound : IsSound s
+  pub known : has_thread s t ≡ true
+  pub line : (row_at s t).line ≡ At q p
+
+module _ {s : Table} {t : ℕ} {q : Request} {p : Place} (g : Going s t q p) where
+  -- the step is not refused
+  pub going_allowed : refusal_of (world_of s) (Go t) ≡ None
+  going_allowed = refusal_seen s (Go t) ∙ ap₂ go_refused g.known (ap is_open g.line)
+
+  -- what t knows at this place
+  pub going_knows : LineIsSound s t (row_at s t).status (At q p)
+  going_knows = subst (LineIsSound s t (row_at s t).status) g.line (g.sound.rows t g.known).line
+
+  -- the world has t's call open
+  pub going_called : (thread_at (world_of s) t).call ≡ Some (record { request = q; progress = progress_at p (row_at s t).status })
+  going_called = call_seen s t (At q p) g.line
+
+  -- the world has a thread t
+  pub going_below : t < length (world_of s).threads
+  going_below = subst (λ n. t < n) (sym (length-map s.rows thread_of)) (has_thread_below s t g.known)
+
+  -- the step follows with no effect, and the call goes on at a place where it has come as far
+  pub goes_on : (a : Place) → is_ready (row_at s t).status ≡ true → LineIsSound s t (row_at s t).status (At q a) → progress_at a (row_at s t).status ≡ progress_at p (row_at s t).status
+      → Keeps s (Happened (Go t) Went) (with_line t (At q a) s)
+  goes_on a ready knows same =
+      let v : Table = with_line t (At q a) s in
+      let sound : IsSound v = line_kept s t (At q a) g.sound g.known ready knows in
+      let shown : world_of v ≡ world_of s = line_seen s t (At q a) ∙ ap (λ c. with_thread t (record (thread_at (world_of s) t) { call = c }) (world_of s)) (ap (λ x. Some (record { request = q; progress = x })) same ∙ sym going_called) ∙ (λ i. record (world_of s) { threads = set-get_or (world_of s).threads t (record { base = 0; living = false; call = None }) i }) in
+      record {
+        sound = sound;
+        step = went t refl going_allowed (none shown) (rests_ready v t sound (has_thread_lined s t (At q a) t ∙ g.known) (ready_lined s t (At q a) g.known ∙ ready));
+        limits = refl;
+      }
+
+  -- the step follows with these effects, after which t may run
+  pub goes_with : (v : Table) → IsSound v → has_thread v t ≡ true → is_ready (row_at v t).status ≡ true → v.limits ≡ s.limits → Effects t (world_of s) (world_of v) → Keeps s (Happened (Go t) Went) v
+  goes_with v sound known ready limits effects = record {
+    sound = sound;
+    step = went t refl going_allowed effects (rests_ready v t sound known ready);
+    limits = limits;
+  }
+
+  -- the step follows with these effects, after which t rests
+  pub waits_with : (v : Table) → IsSound v → has_thread v t ≡ true → is_ready (row_at v t).status ≡ false → v.limits ≡ s.limits → Effects t (world_of s) (world_of v) → Keeps s (Happened (Go t) Waits) v
+  waits_with v sound known ready limits effects = record {
+    sound = sound;
+    step = waits t refl going_allowed effects (rests_not_ready v t sound known ready);
+    limits = limits;
+  }
+
+  -- the step follows with these effects, after which the call has this result and closes
+  pub answers_with : (v : Table) (a : ℕ) (u : World) → IsSound v → has_thread v t ≡ true → is_ready (row_at v t).status ≡ true → v.limits ≡ s.limits → Effects t (world_of s) u
+      → (thread_at u t).call ≡ Some (record { request = q; progress = Has a }) → world_of v ≡ closed t u → Keeps s (Happened (Go t) (Answered a)) v
+  answers_with v a u sound known ready limits effects call shown = record {
+    sound = sound;
+    step = answered t a q u refl going_allowed effects call shown (rests_ready v t sound known ready);
+    limits = limits;
+  }
+
+  -- the step follows with one effect, by which the call has this result, and which changes nothing else
+  pub answers_alone : (a : ℕ) → is_ready (row_at s t).status ≡ true → Effect t (world_of s) (with_progress t (Has a) (world_of s)) → Keeps s (Happened (Go t) (Answered a)) (with_line t Idle s)
+  answers_alone a ready effect =
+      answers_with (with_line t Idle s) a (with_progress t (Has a) (world_of s)) (line_kept s t Idle g.sound g.known ready ready)
+      (has_thread_lined s t Idle t ∙ g.known) (ready_lined s t Idle g.known ∙ ready) refl (first effect (none refl))
+      (call_progressed (world_of s) t (Has a) _ going_below going_called)
+      (line_seen s t Idle ∙ sym (closed_progressed (world_of s) t (Has a) going_below))
+
+  -- the step follows with one effect, by which the call has the result 0 and m another word
+  pub answers_word : (m : ℕ) (x : Word) → is_ready (row_at s t).status ≡ true → IsSound (with_word m x (with_line t Idle s))
+      → Effect t (world_of s) (with_progress t (Has 0) (with_mutex m (mutex_of (record (cell_at s m) { word = x })) (world_of s))) → Keeps s (Happened (Go t) (Answered 0)) (with_line t Idle (with_word m x s))
+  answers_word m x ready sound effect =
+      let w : World = with_mutex m (mutex_of (record (cell_at s m) { word = x })) (world_of s) in
+      answers_with (with_line t Idle (with_word m x s)) 0 (with_progress t (Has 0) w) sound
+      (has_thread_lined s t Idle t ∙ g.known) (ready_lined s t Idle g.known ∙ ready) refl (first effect (none refl))
+      (call_progressed w t (Has 0) _ going_below going_called)
+      (line_seen (with_word m x s) t Idle ∙ ap (closed t) (word_seen s m x) ∙ sym (closed_progressed w t (Has 0) going_below))

@@ -1,0 +1,89 @@
+-- The lines of pthread_mutex_unlock: each step is an entry of the POSIX machine and keeps the invariant.
+use Rattle.std.proofs.Common.{◌≡◌, ◌≢◌, ℕ, true, ◌==◌, Some, Ok, refl, sym, ap, ◌∙◌, subst, if◌then◌else◌, eq-eqb, eqb-true}
+use Rattle.std.proofs.lemmas.Bool.{eqb-false}
+use Rattle.pif_types.specs.declared.requests.Request.TheVariants.{Unlock}
+use Rattle.pif_model.specs.declared.events.Event.TheVariants.{Go}
+use Rattle.pif_model.specs.declared.events.Seen.TheVariants.{Went, Answered}
+use Rattle.pif_model.specs.declared.events.Entry.TheVariants.{Step as Happened}
+use Rattle.pif_model.specs.declared.lines.Line.TheVariants.{Idle, At}
+use Rattle.pif_model.specs.declared.lines.Place.{Place}
+use Rattle.pif_model.specs.declared.lines.Place.TheVariants.{UnlockLoad, UnlockExchange, UnlockKernel}
+use Rattle.pif_model.specs.Word.{is_bare, free_word}
+use Rattle.pif_model.specs.Posix.{World, Effect, Unlocks}
+use Rattle.pif_model.specs.Posix.Progress.{Fresh}
+use Rattle.pif_model.specs.Posix.Effect.{unlock}
+use Rattle.pif_model.specs.Posix.Unlocks.{not_owner}
+use Rattle.pif_model.specs.Posix.Step.{answered}
+use Rattle.pif_model.specs.Posix.Effects.{none, then as first}
+use Rattle.pif_model.specs.Table.{Table, row_at, cell_at, has_mutex, with_line, with_word}
+use Rattle.pif_model.specs.Kernel.{unlock_pi_answer, unlock_pi_after, handed_to, kernel_next}
+use Rattle.pif_model.specs.Lines.{unlock_load, unlock_exchange, unlock_by, unlock_kernel}
+use Rattle.pif_model.specs.Standing.{CellIsSound, progress_at, world_of}
+use Rattle.pif_simulation.proofs.Waiting.{by_test}
+use Rattle.pif_simulation.proofs.Queue.{owner_seen}
+use Rattle.pif_simulation.proofs.HandOver.{AtHandOver, handed_over, hand_sound, hand_unlocks, hand_call, hand_world, hand_rests}
+use Rattle.pif_simulation.proofs.Projection.{has_thread_above_0}
+use Rattle.pif_simulation.proofs.Steps.{Keeps, GoKeeps, Going, going_allowed, going_knows, going_called, goes_on, answers_alone}
+use Rattle.pif_simulation.proofs.Owning.{bare, gives_up, none_from_flag, none_from_state, state_agrees}
+
+module _ (s : Table) (t m : ℕ) where
+  -- an unlock that has had no effect yet is unlocking by this rule
+  unlocks : {p : Place} (g : Going s t (Unlock m) p) → progress_at p (row_at s t).status ≡ Fresh → (v : World) → Unlocks t m (world_of s) v → Effect t (world_of s) v
+  unlocks g fresh v rule = unlock m (going_called g ∙ ap (λ x. Some (record { request = Unlock m; progress = x })) fresh) rule
+
+  -- unlock: load the word
+  pub unlock_load_kept : Going s t (Unlock m) UnlockLoad → GoKeeps s t (unlock_load t m s)
+  unfolding unlock_load
+  unlock_load_kept g = by_test (λ b. GoKeeps s t (if b then record { seen = Went; after = with_line t (At (Unlock m) UnlockExchange) s } else record { seen = Answered 1; after = with_line t Idle s }))
+      ((cell_at s m).word.number == t)
+      (λ e. goes_on g UnlockExchange (going_knows g).1 ((going_knows g).0, ((going_knows g).1, eqb-true (cell_at s m).word.number t e)) refl)
+      (λ e. answers_alone g 1 (going_knows g).1 (unlocks g refl _ (not_owner (λ x. eqb-false (cell_at s m).word.number t e (sym (owner_seen s m) ∙ x)) refl)))
+
+  -- unlock: compare-exchange from t to 0
+  pub unlock_exchange_kept : Going s t (Unlock m) UnlockExchange → GoKeeps s t (unlock_exchange t m s)
+  unfolding unlock_exchange
+  unlock_exchange_kept g = by_test (λ b. GoKeeps s t (if b then record { seen = Answered 0; after = with_line t Idle (with_word m free_word s) } else record { seen = Went; after = with_line t (At (Unlock m) UnlockKernel) s }))
+      (is_bare (cell_at s m).word t)
+      (λ e. gives_up g (going_knows g).1.0 (going_knows g).0 refl (going_knows g).1.1 (none_from_flag (g.sound.cells m (going_knows g).0) (bare (cell_at s m).word t e).0))
+      (λ e. goes_on g UnlockKernel (going_knows g).1.0 (going_knows g) refl)
+
+  -- what unlock_pi answers to the owner
+  answer_owner : has_mutex s m ≡ true → (cell_at s m).word.number ≡ t → (if (cell_at s m).state == 0 then true else (cell_at s m).state == t) ≡ true → unlock_pi_answer t m s ≡ Ok (record {})
+  unfolding unlock_pi_answer
+  answer_owner named own agrees = rw (named, eq-eqb (cell_at s m).word.number t own, agrees) refl
+
+  -- the hand-over changes no limit
+  hand_limits : (u : ℕ) → (with_line t Idle (handed_to u m s)).limits ≡ s.limits
+  unfolding handed_to
+  hand_limits u = refl
+
+  -- the kernel hands m to its next waiter
+  kernel_hands : (g : Going s t (Unlock m) UnlockKernel) → (cell_at s m).state ≢ 0 → Keeps s (Happened (Go t) (Answered 0)) (with_line t Idle (handed_to (kernel_next s m) m s))
+  kernel_hands g state =
+      let a : AtHandOver s t m = record { sound = g.sound; known = g.known; line = g.line; state = state } in
+      record {
+        sound = hand_sound s t m a;
+        step = answered t 0 (Unlock m) (handed_over s t (kernel_next s m) m) refl (going_allowed g) (first (unlocks g refl _ (hand_unlocks s t m a)) (none refl))
+            (hand_call s t m a) (hand_world s t m a) (hand_rests s t m a);
+        limits = hand_limits (kernel_next s m);
+      }
+
+  -- unlock: the kernel call unlock_pi
+  pub unlock_kernel_kept : Going s t (Unlock m) UnlockKernel → GoKeeps s t (unlock_kernel t m s)
+  unfolding unlock_kernel unlock_by unlock_pi_after
+  unlock_kernel_kept g = subst (λ a. GoKeeps s t (unlock_by a t (unlock_pi_after t m a s))) (sym answer)
+      (by_test (λ b. Keeps s (Happened (Go t) (Answered 0)) (with_line t Idle (if b then with_word m free_word s else handed_to (kernel_next s m) m s))) ((cell_at s m).state == 0)
+      (λ e. gives_up g (going_knows g).1.0 named refl own (none_from_state c (λ z. has_thread_above_0 s t g.known (sym own ∙ z)) (eqb-true (cell_at s m).state 0 e)))
+      (λ e. kernel_hands g (eqb-false (cell_at s m).state 0 e)))
+    where
+      named : has_mutex s m ≡ true
+      named = (going_knows g).0
+
+      own : (cell_at s m).word.number ≡ t
+      own = (going_knows g).1.1
+
+      c : CellIsSound s m (cell_at s m)
+      c = g.sound.cells m (going_knows g).0
+
+      answer : unlock_pi_answer t m s ≡ Ok (record {})
+      answer = answer_owner named own (subst (λ n. (if (cell_at s m).state == 0 then true else (cell_at s m).state == n) ≡ true) own (state_agrees c))

@@ -1,0 +1,8 @@
+//! The proof that each step of the table machine is an entry of the POSIX machine and keeps the invariant, and the
+//! laws over whole histories. The proof is in `proofs/`, and `pif_core` cites it; the functions here do nothing, and
+//! state laws in their contracts.
+#![tactic(auto)]
+
+mod laws;
+
+pub use laws::{next_waiter_is_first_of_greatest, no_mutex_has_two_holders};
