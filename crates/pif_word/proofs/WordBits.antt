@@ -1,0 +1,154 @@
+-- What the bits of a word say: bits and words are each other's, and what `|` and `&` of the flags make of a word.
+use Rattle.std.proofs.Common.{◌≡◌, ℕ, zero, suc, ◌+◌, ◌*◌, ◌/◌, ◌%◌, ◌<◌, Bool, true, false, not, ◌==◌, refl, sym, ap, ◌∙◌, arith, bit_and, bit_or, zero-mul, one-mul}
+use Rattle.std.proofs.lemmas.Nat.{and_mask, and_comm, and-not, or_block, or_shifted}
+use Rattle.std.proofs.lemmas.Nat.Bits.{and_pow}
+use Rattle.std.proofs.lemmas.Bool.Decides.{nat_tests}
+use Rattle.std.specs.Int.Bits.{or_zero_r}
+use Rattle.pif_model.specs.Word.{Word, word_of, bits_of, flag, held_by, is_bare}
+
+-- a word of its three parts
+abbrev pub word : ℕ → Bool → Bool → Word
+word n a d = record { number = n; waiters = a; died = d }
+
+-- the word of bits whose three parts are known
+word_from : (b n x y : ℕ) → b % 1073741824 ≡ n → (b / 2147483648) % 2 ≡ x → (b / 1073741824) % 2 ≡ y → word_of b ≡ word n (x == 1) (y == 1)
+unfolding word_of
+word_from b n x y p q r = rw (p, q, r) refl
+
+-- the parts of the word of 32 bits
+pub word_of-is : (b : ℕ) → word_of b ≡ word (b % 1073741824) ((b / 2147483648) % 2 == 1) ((b / 1073741824) % 2 == 1)
+unfolding word_of
+word_of-is b = refl
+
+-- the word of a number below 2^30 with the two flags, each 0 or 1
+pub word_of-parts : (n x y : ℕ) → n < 1073741824 → x < 2 → y < 2 → word_of (n + y * 1073741824 + x * 2147483648) ≡ word n (x == 1) (y == 1)
+word_of-parts n x y p q r = word_from (n + y * 1073741824 + x * 2147483648) n x y (omega arith) (omega arith) (omega arith)
+
+-- 32 bits are a number below 2^30 and two flags
+pub parts : (b : ℕ) → b < 4294967296 → b % 1073741824 + ((b / 1073741824) % 2) * 1073741824 + ((b / 2147483648) % 2) * 2147483648 ≡ b
+parts b h = omega arith
+
+-- a flag that is 0 or 1, as a number and as a test
+flag-bit : (x n : ℕ) → x < 2 → flag (x == 1) n ≡ x * n
+flag-bit zero n h = sym (zero-mul n)
+flag-bit (suc zero) n h = sym (one-mul n)
+flag-bit (suc (suc x)) n h = absurd (omega arith)
+
+-- the word of the bits of a word with these parts
+word_of-bits_of-word : (n : ℕ) (a d : Bool) → n < 1073741824 → word_of (bits_of (word n a d)) ≡ word n a d
+unfolding bits_of
+word_of-bits_of-word n true true h = word_from (n + 1073741824 + 2147483648) n 1 1 (omega arith) (omega arith) (omega arith)
+word_of-bits_of-word n true false h = word_from (n + 0 + 2147483648) n 1 0 (omega arith) (omega arith) (omega arith)
+word_of-bits_of-word n false true h = word_from (n + 1073741824 + 0) n 0 1 (omega arith) (omega arith) (omega arith)
+word_of-bits_of-word n false false h = word_from (n + 0 + 0) n 0 0 (omega arith) (omega arith) (omega arith)
+
+-- the word of the bits of a word is that word
+pub word_of-bits_of : (w : Word) → w.number < 1073741824 → word_of (bits_of w) ≡ w
+word_of-bits_of w h = word_of-bits_of-word w.number w.waiters w.died h
+
+-- the bits of a word with these parts are 32
+bits_of-word-lt : (n : ℕ) (a d : Bool) → n < 1073741824 → bits_of (word n a d) < 4294967296
+unfolding bits_of
+bits_of-word-lt n true true h = omega arith
+bits_of-word-lt n true false h = omega arith
+bits_of-word-lt n false true h = omega arith
+bits_of-word-lt n false false h = omega arith
+
+-- the bits of a word are 32
+pub bits_of-lt : (w : Word) → w.number < 1073741824 → bits_of w < 4294967296
+bits_of-lt w h = bits_of-word-lt w.number w.waiters w.died h
+
+-- the bits of the word of 32 bits are those bits
+pub bits_of-word_of : (b : ℕ) → b < 4294967296 → bits_of (word_of b) ≡ b
+unfolding bits_of word_of
+bits_of-word_of b h =
+    rw (flag-bit ((b / 1073741824) % 2) 1073741824 (omega arith), flag-bit ((b / 2147483648) % 2) 2147483648 (omega arith))
+    (parts b h)
+
+-- the number in a word is below 2^30
+pub number-lt : (b : ℕ) → (word_of b).number < 1073741824
+unfolding word_of
+number-lt b = omega arith
+
+-- a number below 2^30 is the word of its owner, with no flag
+pub word_of-number : (t : ℕ) → t < 1073741824 → word_of t ≡ held_by t
+word_of-number t h = word_from t t 0 0 (omega arith) (omega arith) (omega arith)
+
+-- whether bits with these parts are a bare number
+is_bare-parts : (b n x y t : ℕ) → n < 1073741824 → x < 2 → y < 2 → t < 1073741824 → b ≡ n + y * 1073741824 + x * 2147483648 → is_bare (word n (x == 1) (y == 1)) t ≡ (b == t)
+is_bare-parts b n zero zero t p q r s e = ap (λ k. k == t) (omega arith)
+is_bare-parts b n zero (suc zero) t p q r s e = grind (arith, nat_tests)
+is_bare-parts b n zero (suc (suc y)) t p q r s e = absurd (omega arith)
+is_bare-parts b n (suc zero) y t p q r s e = grind (arith, nat_tests)
+is_bare-parts b n (suc (suc x)) y t p q r s e = absurd (omega arith)
+
+-- whether 32 bits are a bare number is whether they equal it
+pub is_bare-word_of : (b t : ℕ) → b < 4294967296 → t < 1073741824 → is_bare (word_of b) t ≡ (b == t)
+is_bare-word_of b t h k =
+    rw word_of-is
+    (is_bare-parts b (b % 1073741824) ((b / 2147483648) % 2) ((b / 1073741824) % 2) t (omega arith) (omega arith) (omega arith) k (sym (parts b h)))
+
+-- `& TID_MASK` is the number
+pub number-is : (b : ℕ) → bit_and b 1073741823 ≡ (word_of b).number
+unfolding word_of
+number-is b = and_mask b 30
+
+-- a flag is set where `&` with it is not 0
+flag-test : (x n : ℕ) → 0 < n → x < 2 → not (x * n == 0) ≡ (x == 1)
+flag-test zero n p h = rw (zero-mul n) refl
+flag-test (suc zero) n p h = rw (one-mul n) (grind (arith, nat_tests))
+flag-test (suc (suc x)) n p h = absurd (omega arith)
+
+-- `& WAITERS` is not 0 where WAITERS is set
+pub waiters-is : (b : ℕ) → not (bit_and b 2147483648 == 0) ≡ (word_of b).waiters
+unfolding word_of
+waiters-is b =
+    ap (λ k. not (k == 0)) (and_pow b 31) ∙ flag-test ((b / 2147483648) % 2) 2147483648 (omega arith) (omega arith)
+
+-- `& OWNER_DIED` is not 0 where OWNER_DIED is set
+pub died-is : (b : ℕ) → not (bit_and b 1073741824 == 0) ≡ (word_of b).died
+unfolding word_of
+died-is b =
+    ap (λ k. not (k == 0)) (and_pow b 30) ∙ flag-test ((b / 1073741824) % 2) 1073741824 (omega arith) (omega arith)
+
+-- `| WAITERS` of bits of which the highest is x
+or_waiters-bit : (x r : ℕ) → x < 2 → r < 2147483648 → bit_or (x * 2147483648 + r) 2147483648 ≡ 2147483648 + r
+or_waiters-bit zero r p q = or_block 31 0 1 r 0 q (omega arith) ∙ ap (λ k. 2147483648 + k) (or_zero_r r)
+or_waiters-bit (suc zero) r p q = or_block 31 1 1 r 0 q (omega arith) ∙ ap (λ k. 2147483648 + k) (or_zero_r r)
+or_waiters-bit (suc (suc x)) r p q = absurd (omega arith)
+
+-- `| WAITERS` sets the highest bit
+pub or_waiters : (b : ℕ) → b < 4294967296 → bit_or b 2147483648 ≡ 2147483648 + b % 2147483648
+or_waiters b h =
+    let e : b ≡ (b / 2147483648) * 2147483648 + b % 2147483648 = omega arith in
+    ap (λ k. bit_or k 2147483648) e ∙ or_waiters-bit (b / 2147483648) (b % 2147483648) (omega arith) (omega arith)
+
+-- `| WAITERS` sets WAITERS in the word
+pub word_of-or_waiters : (b : ℕ) → b < 4294967296 → word_of (bit_or b 2147483648) ≡ record (word_of b) { waiters = true }
+unfolding word_of
+word_of-or_waiters b h =
+    ap word_of (or_waiters b h)
+    ∙ word_from (2147483648 + b % 2147483648) (b % 1073741824) 1 ((b / 1073741824) % 2) (omega arith) (omega arith) (omega arith)
+
+-- `| WAITERS` of a number below 2^30
+pub word_of-hand : (u : ℕ) → u < 1073741824 → word_of (bit_or u 2147483648) ≡ word u true false
+word_of-hand u h =
+    ap word_of (or_waiters u (omega arith))
+    ∙ word_from (2147483648 + u % 2147483648) u 1 0 (omega arith) (omega arith) (omega arith)
+
+-- `& OWNER_DIED | t` is the word of t with what there was of OWNER_DIED
+pub word_of-taken : (b t : ℕ) → t < 1073741824 → word_of (bit_or (bit_and b 1073741824) t) ≡ word t false (word_of b).died
+unfolding word_of
+word_of-taken b t h =
+    ap (λ k. word_of (bit_or k t)) (and_pow b 30) ∙ ap word_of (or_shifted ((b / 1073741824) % 2) 30 t h)
+    ∙ word_from ((b / 1073741824) % 2 * 1073741824 + t) t 0 ((b / 1073741824) % 2) (omega arith) (omega arith) (omega arith)
+
+-- `& !OWNER_DIED` clears OWNER_DIED in the word
+pub word_of-without_died : (b : ℕ) → b < 4294967296 → word_of (bit_and b 3221225471) ≡ record (word_of b) { died = false }
+unfolding word_of
+word_of-without_died b h =
+    let n : bit_and b 3221225471 + bit_and b 1073741824 ≡ b =
+    ap (λ k. k + bit_and b 1073741824) (and_comm b 3221225471) ∙ ap (λ k. bit_and 3221225471 b + k) (and_comm b 1073741824)
+    ∙ and-not 32 1073741824 b (omega arith) h in
+    let p : bit_and b 1073741824 ≡ (b / 1073741824) % 2 * 1073741824 = and_pow b 30 in
+    word_from (bit_and b 3221225471) (b % 1073741824) ((b / 2147483648) % 2) 0 (omega arith) (omega arith) (omega arith)

@@ -1,0 +1,5 @@
+use Rattle.pif_word.proofs.WordBits.{word_of-hand}
+use Rattle.pif_word.proofs.bits.hand_word.Goals as goal
+
+pub returns : goal.returns
+returns c = word_of-hand c.args.u c.requires

@@ -1,0 +1,5 @@
+use Rattle.pif_word.proofs.WordBits.{died-is}
+use Rattle.pif_word.proofs.bits.owner_died.Goals as goal
+
+pub returns : goal.returns
+returns c = died-is c.args.w

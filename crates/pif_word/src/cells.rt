@@ -1,0 +1,8 @@
+use pif_types::MutexId;
+
+/// The name of a word that threads share.
+#[derive(Clone, Copy, Debug, PartialEq, Eq, Hash)]
+pub enum Cell {
+    /// The word of this mutex: its owner's number and the flags.
+    Mutex(MutexId),
+}

@@ -1,0 +1,168 @@
+ghost use Rattle.std.specs.Prelude.{◌≡◌, ◌↔◌, ◌<◌, ◌^◌, ◌==◌, Ok, Err, IsTrue, IfOk, OnOk, is_ok, bit_and, if◌then◌else◌};
+ghost use Rattle.pif_model.specs.Word.{word_of, is_bare, held_by};
+ghost use Rattle.pif_word.specs.WordMap.{HasCell, IsWordMap, bits_at, with_bits, free_words};
+
+use crate::cells::Cell;
+use pif_types::{Limits, NoMemory};
+use std::alloc::Global;
+use std::marker::Model;
+
+/// The words that threads share, one for each mutex that the limits allow. Each access is one step: it touches one word
+/// once.
+#[derive(Drop)]
+pub struct Words {
+    mutexes: Vec<u32>,
+}
+
+impl Model for Words {
+    ghost use Rattle.pif_word.specs.WordMap.{WordMap, IsWordMap};
+
+    ghost Value = { WordMap };
+
+    ghost view = { λ w. record { mutexes = w.mutexes.items } };
+
+    ghost invariant = { λ w. IsWordMap (record { mutexes = w.mutexes.items }) };
+}
+
+impl Words {
+    /// A word for each mutex that `limits` allow, each 0. Takes one piece of memory, and answers `NoMemory` where that is
+    /// refused.
+    pub fn new(alloc: Global, limits: Limits) -> Result<Words, NoMemory>
+        ensures made { IfOk result (λ w. w ≡ free_words limits) }
+        ensures words { IfOk result IsWordMap }
+    {
+        let count = limits.mutexes() as usize + 1;
+        let mutexes = vec![in alloc; 0; count].map_err(|_| NoMemory)?;
+        Ok(Words { mutexes })
+    }
+
+    /// Whether there is such a cell: mutex m has a word where m is at most the mutexes that the limits allow.
+    pub fn has(&self, cell: Cell) -> bool
+        ensures { IsTrue result ↔ HasCell self.now cell }
+    {
+        match cell {
+            Cell::Mutex(mutex) => (mutex.get() as usize) < self.mutexes.len(),
+        }
+    }
+
+    /// The bits of `cell`.
+    pub fn load(&self, cell: Cell) -> u32
+        requires { HasCell self.now cell }
+        ensures value { result ≡ bits_at self.now cell }
+        ensures words { IsWordMap self.now }
+    {
+        match cell {
+            Cell::Mutex(mutex) => self.mutexes[mutex.get() as usize],
+        }
+    }
+
+    /// Makes `bits` the bits of `cell`. All other words stay.
+    pub fn store(&mut self, cell: Cell, bits: u32)
+        requires { HasCell self.old cell }
+        ensures stored { self.new ≡ with_bits cell bits self.old }
+        ensures words { IsWordMap self.new }
+    {
+        match cell {
+            Cell::Mutex(mutex) => self.mutexes[mutex.get() as usize] = bits,
+        }
+    }
+
+    /// Makes `new` the bits of `cell` if they were `expected`, and answers `Ok` with what they were. Otherwise answers
+    /// `Err` with what they are, and changes nothing. All other words stay.
+    pub fn compare_exchange(&mut self, cell: Cell, expected: u32, new: u32) -> Result<u32, u32>
+        requires { HasCell self.old cell }
+        ensures value { result ≡ (if bits_at self.old cell == expected then Ok (bits_at self.old cell) else Err (bits_at self.old cell)) }
+        ensures stored { self.new ≡ (if bits_at self.old cell == expected then with_bits cell new self.old else self.old) }
+        ensures bare { expected < 2 ^ 30 → is_ok result ≡ is_bare (word_of (bits_at self.old cell)) expected }
+        ensures held { new < 2 ^ 30 → OnOk result (word_of (bits_at self.new cell) ≡ held_by new) }
+        ensures words { IsWordMap self.new }
+    {
+        match cell {
+            Cell::Mutex(mutex) => exchange(&mut self.mutexes[mutex.get() as usize], expected, new),
+        }
+    }
+
+    /// Keeps of the bits of `cell` those that `mask` has too, and answers what they were. All other words stay.
+    pub fn fetch_and(&mut self, cell: Cell, mask: u32) -> u32
+        requires { HasCell self.old cell }
+        ensures value { result ≡ bits_at self.old cell }
+        ensures stored { self.new ≡ with_bits cell (bit_and (bits_at self.old cell) mask) self.old }
+        ensures words { IsWordMap self.new }
+    {
+        match cell {
+            Cell::Mutex(mutex) => keep(&mut self.mutexes[mutex.get() as usize], mask),
+        }
+    }
+}
+
+/// Makes `new` of the word if it is `expected`, and answers `Ok` with what it was. Otherwise answers `Err` with what it
+/// is, and changes nothing.
+fn exchange(word: &mut u32, expected: u32, new: u32) -> Result<u32, u32>
+    ensures value { result ≡ (if word.old == expected then Ok word.old else Err word.old) }
+    ensures stored { word.new ≡ (if word.old == expected then new else word.old) }
+    ensures bare { expected < 2 ^ 30 → is_ok result ≡ is_bare (word_of word.old) expected }
+    ensures held { new < 2 ^ 30 → OnOk result (word_of word.new ≡ held_by new) }
+{
+    let actual = *word;
+    if actual == expected {
+        *word = new;
+        Ok(actual)
+    } else {
+        Err(actual)
+    }
+}
+
+/// Keeps of the word the bits that `mask` has too, and answers what it was.
+fn keep(word: &mut u32, mask: u32) -> u32
+    ensures value { result ≡ word.old }
+    ensures kept { word.new ≡ bit_and word.old mask }
+{
+    let previous = *word;
+    *word = previous & mask;
+    previous
+}
+
+#[cfg(test)]
+mod tests {
+    use super::*;
+    use crate::bits::{
+        OWNER_DIED, hand_word, has_waiters, mark_word, number, owner_died, taken_word,
+    };
+    use pif_types::MutexId;
+    use std::test::Fail;
+
+    #[test]
+    fn words_say_number_and_flags(rt: HostRuntime) {
+        for (word, owner, waiters, died) in [
+            (0x8000_0001, 1, true, false),
+            (0x4000_0000, 0, false, true),
+            (0xc000_0002, 2, true, true),
+        ] {
+            assert_eq!(rt; number(word), owner, "at {word:x}");
+            assert_eq!(rt; has_waiters(word), waiters, "at {word:x}");
+            assert_eq!(rt; owner_died(word), died, "at {word:x}");
+        }
+        assert_eq!(rt; mark_word(0x4000_0001), 0xc000_0001);
+        assert_eq!(rt; hand_word(2), 0x8000_0002);
+        assert_eq!(rt; taken_word(0x4000_0000, 3), 0x4000_0003);
+    }
+
+    #[test]
+    fn each_access_touches_one_word(rt: HostRuntime) -> Result<(), Fail> {
+        let limits = Limits::new(1, 2, 0, 1).ok_or("limits")?;
+        let one = Cell::Mutex(MutexId::new(1).ok_or("one")?);
+        let two = Cell::Mutex(MutexId::new(2).ok_or("two")?);
+        let three = Cell::Mutex(MutexId::new(3).ok_or("three")?);
+        let mut words = Words::new(rt.alloc(), limits)?;
+        assert!(rt; words.has(one));
+        assert!(rt; words.has(two));
+        assert!(rt; !words.has(three));
+        assert_eq!(rt; words.compare_exchange(one, 0, 1), Ok(0));
+        assert_eq!(rt; words.compare_exchange(one, 0, 2), Err(1));
+        words.store(two, 0xc000_0002);
+        assert_eq!(rt; words.fetch_and(two, !OWNER_DIED), 0xc000_0002);
+        assert_eq!(rt; words.load(one), 1);
+        assert_eq!(rt; words.load(two), 0x8000_0002);
+        Ok(())
+    }
+}
