@@ -1,0 +1,18 @@
+-- The cell at a place has the owner state of the mutex there.
+use Rattle.std.proofs.Common.{◌<◌, ◌≤◌, length, sym, ap, arith}
+use Rattle.pif_model.specs.Table.{Cell}
+use Rattle.pif_core.proofs.Cells.{state_at, cells_of-past}
+use Rattle.pif_core.proofs.state.State.owner_state.Goals as goal
+
+pub returns-then-place-len : goal.returns-then-place-len
+returns-then-place-len c =
+    let s = c.self.inside in
+    let lt : c.args.mutex < length s.mutexes.items = omega arith in
+    let le : length s.mutexes.items ≤ length s.words.mutexes = omega arith in
+    rw (← c.self.view_is) (state_at s.mutexes.items s.words.mutexes c.args.mutex c.index.result.now lt le c.index.ensures)
+
+pub returns-else-place-len : goal.returns-else-place-len
+returns-else-place-len c =
+    let s = c.self.inside in
+    let past : length s.mutexes.items ≤ c.args.mutex = omega arith in
+    rw (← c.self.view_is) (sym (ap (λ (x : Cell). x.state) (cells_of-past s.mutexes.items s.words.mutexes c.args.mutex past)))
