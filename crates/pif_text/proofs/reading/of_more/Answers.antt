@@ -1,0 +1,15 @@
+use Rattle.std.proofs.Common.{refl}
+use Rattle.pif_text.specs.Commands.{command_of_words}
+use Rattle.pif_text.proofs.Splits.{too_many}
+use Rattle.pif_text.proofs.reading.of_more.Goals as goal
+
+pub returns-in_default : goal.returns-in_default
+unfolding command_of_words
+returns-in_default c = rw (c.split_first.ensures, c.in_default.is) c.of_four.ensures
+
+pub returns-in-None : goal.returns-in-None
+unfolding command_of_words
+returns-in-None c = rw (c.split_first.ensures, c.in-Some.is, c.split_first-2.ensures, c.in-None.is) c.of_five.ensures
+
+pub returns-in-Some-rest : goal.returns-in-Some-rest
+returns-in-Some-rest c = rw (c.split_first.ensures, c.in-Some.is, c.split_first-2.ensures, c.in-Some-rest.is, too_many) refl

@@ -1,0 +1,85 @@
+-- The command of a line.
+use Rattle.std.specs.Prelude.{ℕ, List, [], ◌∷◌, Option, Some, None, option_map, option_and_then, if◌then◌else◌, bytes_eq, codes}
+use Rattle.pif_types.specs.declared.requests.Kind.{Kind}
+use Rattle.pif_types.specs.declared.requests.Kind.TheVariants.{Normal, ErrorCheck}
+use Rattle.pif_types.specs.declared.requests.Request.{Request}
+use Rattle.pif_types.specs.declared.requests.Request.TheVariants.{Lock, Unlock}
+use Rattle.pif_text.specs.declared.commands.Command.{Command}
+use Rattle.pif_text.specs.declared.commands.Command.TheVariants.{Limits, Thread, Mutex, Begin, Go, Call, Finish, Word, Prio, Pick}
+use Rattle.pif_text.specs.Numbers.{number_in, thread_in, mutex_in}
+use Rattle.pif_text.specs.Words.{words}
+
+infixl 10 ◌>>=◌
+-- Goes on with a value, if there is one.
+abbrev pub ◌>>=◌ : {A B : Type 0} → Option A → (A → Option B) → Option B
+o >>= f = option_and_then f o
+
+-- The type of a mutex: `normal`, `default`, which is the same, or `errorcheck`.
+unfoldable pub kind_in : List ℕ → Option Kind
+kind_in word =
+    if bytes_eq word (codes "normal") then Some Normal
+    else if bytes_eq word (codes "default") then Some Normal
+    else if bytes_eq word (codes "errorcheck") then Some ErrorCheck
+    else None
+
+-- A request: `lock mN` or `unlock mN`.
+unfoldable pub request_in : List ℕ → List ℕ → Option Request
+request_in call mutex =
+    if bytes_eq call (codes "lock") then option_map Lock (mutex_in mutex)
+    else if bytes_eq call (codes "unlock") then option_map Unlock (mutex_in mutex)
+    else None
+
+-- A command of one word: `pick`.
+unfoldable pub command_of_one : List ℕ → Option Command
+command_of_one name =
+    if bytes_eq name (codes "pick") then Some Pick
+    else None
+
+-- A command of two words: `thread P`, `mutex K`, `go tN`, `finish tN`, `word mN` or `prio tN`.
+unfoldable pub command_of_two : List ℕ → List ℕ → Option Command
+command_of_two name word =
+    if bytes_eq name (codes "go") then option_map Go (thread_in word)
+    else if bytes_eq name (codes "word") then option_map Word (mutex_in word)
+    else if bytes_eq name (codes "prio") then option_map Prio (thread_in word)
+    else if bytes_eq name (codes "finish") then option_map Finish (thread_in word)
+    else if bytes_eq name (codes "thread") then option_map Thread (number_in word)
+    else if bytes_eq name (codes "mutex") then option_map Mutex (kind_in word)
+    else None
+
+-- A command of four words: `call tN Q` or `begin tN Q`, for a request Q.
+unfoldable pub command_of_four : List ℕ → List ℕ → List ℕ → List ℕ → Option Command
+command_of_four name thread call mutex =
+    if bytes_eq name (codes "call") then (do
+      t ← thread_in thread
+      q ← request_in call mutex
+      Some (Call t q))
+    else if bytes_eq name (codes "begin") then (do
+      t ← thread_in thread
+      q ← request_in call mutex
+      Some (Begin t q))
+    else None
+
+-- A command of five words: `limits T M C S`, for four numbers.
+unfoldable pub command_of_five : List ℕ → List ℕ → List ℕ → List ℕ → List ℕ → Option Command
+command_of_five name threads mutexes conds signals =
+    if bytes_eq name (codes "limits") then (do
+      t ← number_in threads
+      m ← number_in mutexes
+      c ← number_in conds
+      s ← number_in signals
+      Some (Limits t m c s))
+    else None
+
+-- The command that words make, if they make one: by how many they are.
+unfoldable pub command_of_words : List (List ℕ) → Option Command
+command_of_words [] = None
+command_of_words (a ∷ []) = command_of_one a
+command_of_words (a ∷ b ∷ []) = command_of_two a b
+command_of_words (a ∷ b ∷ c ∷ []) = None
+command_of_words (a ∷ b ∷ c ∷ d ∷ []) = command_of_four a b c d
+command_of_words (a ∷ b ∷ c ∷ d ∷ e ∷ []) = command_of_five a b c d e
+command_of_words (a ∷ b ∷ c ∷ d ∷ e ∷ f ∷ more) = None
+
+-- The command of a line, given as its bytes without the line feed.
+unfoldable pub command_in : List ℕ → Option Command
+command_in line = command_of_words (words line)

@@ -1,0 +1,62 @@
+-- The texts of replies and faults.
+use Rattle.std.specs.Prelude.{ℕ, List, ◌++◌, Option, Some, None, codes, decimal}
+use Rattle.pif_types.specs.declared.errors.AddFault.{AddFault}
+use Rattle.pif_types.specs.declared.errors.AddFault.TheVariants.{TooMany, BadPrio}
+use Rattle.pif_types.specs.declared.errors.Refusal.{Refusal}
+use Rattle.pif_types.specs.declared.errors.Refusal.TheVariants.{Busy, Idle, NoSuch}
+use Rattle.pif_text.specs.declared.replies.Reply.{Reply}
+use Rattle.pif_text.specs.declared.replies.Reply.TheVariants.{Done, Thread, Mutex, NotAdded, Begun, Went, Waits, Answer, Refused, Word, Priority, Picked}
+use Rattle.pif_text.specs.declared.replies.Cause.{Cause}
+use Rattle.pif_text.specs.declared.replies.Cause.TheVariants as cause
+use Rattle.pif_text.specs.Numbers.{hex_digits}
+
+-- Why a thread or a mutex was not added, in one word.
+abbrev pub add_fault_word : AddFault → List ℕ
+add_fault_word TooMany = codes "toomany"
+add_fault_word BadPrio = codes "badprio"
+
+-- Why an event was refused, in one word.
+abbrev pub refusal_word : Refusal → List ℕ
+refusal_word Busy = codes "busy"
+refusal_word Idle = codes "idle"
+refusal_word NoSuch = codes "nosuch"
+
+-- The name of a thread.
+abbrev pub thread_name : ℕ → List ℕ
+thread_name thread = codes "t" ++ decimal thread
+
+-- The name of a mutex.
+abbrev pub mutex_name : ℕ → List ℕ
+mutex_name mutex = codes "m" ++ decimal mutex
+
+-- The thread that runs next, or `none`.
+abbrev pub picked_text : Option ℕ → List ℕ
+picked_text (Some thread) = thread_name thread
+picked_text None = codes "none"
+
+-- The text of a reply, without a line feed. A word is written in eight hexadecimal digits.
+unfoldable pub text_of : Reply → List ℕ
+text_of Done = codes "ok"
+text_of (Thread thread) = thread_name thread
+text_of (Mutex mutex) = mutex_name mutex
+text_of (NotAdded fault) = codes "refused " ++ add_fault_word fault
+text_of Begun = codes "begun"
+text_of Went = codes "went"
+text_of Waits = codes "waits"
+text_of (Answer number) = codes "answer " ++ decimal number
+text_of (Refused refusal) = codes "refused " ++ refusal_word refusal
+text_of (Word value) = codes "0x" ++ hex_digits 8 value
+text_of (Priority priority) = decimal priority
+text_of (Picked thread) = picked_text thread
+
+-- The cause of a fault, in one word.
+abbrev pub cause_word : Cause → List ℕ
+cause_word cause.Size = codes "size"
+cause_word cause.Long = codes "long"
+cause_word cause.Cut = codes "cut"
+cause_word cause.Command = codes "command"
+cause_word cause.Limits = codes "limits"
+
+-- The text of a fault at a line, without a line feed: the line's number, from 1, and the cause.
+unfoldable pub fault_of : ℕ → Cause → List ℕ
+fault_of line_number why = codes "fault " ++ decimal line_number ++ codes " " ++ cause_word why

@@ -1,0 +1,150 @@
+ghost use Rattle.std.specs.Prelude.{◌≡◌, ◌∷◌, []};
+ghost use Rattle.pif_text.specs.Words.{words};
+ghost use Rattle.pif_text.specs.Commands.{kind_in, request_in, command_of_one, command_of_two, command_of_four, command_of_five, command_of_words, command_in};
+
+use crate::Command;
+use crate::numbers::{mutex_of, number_of, thread_of};
+use crate::words::split_first;
+use pif_types::{Kind, Request};
+
+/// The type of a mutex that a word names.
+#[tactic(auto, unfolding(crate::specs::Commands::kind_in))]
+fn kind_of(word: &[u8]) -> Option<Kind>
+    ensures { result ≡ kind_in word.now }
+{
+    if word == b"normal".as_slice() || word == b"default".as_slice() {
+        Some(Kind::Normal)
+    } else if word == b"errorcheck".as_slice() {
+        Some(Kind::ErrorCheck)
+    } else {
+        None
+    }
+}
+
+/// The request that two words write.
+#[tactic(auto, unfolding(crate::specs::Commands::request_in))]
+fn request_of(call: &[u8], mutex: &[u8]) -> Option<Request>
+    ensures { result ≡ request_in call.now mutex.now }
+{
+    if call == b"lock".as_slice() {
+        Some(Request::Lock(mutex_of(mutex)?))
+    } else if call == b"unlock".as_slice() {
+        Some(Request::Unlock(mutex_of(mutex)?))
+    } else {
+        None
+    }
+}
+
+/// The command of one word.
+#[tactic(auto, unfolding(crate::specs::Commands::command_of_one))]
+fn of_one(name: &[u8]) -> Option<Command>
+    ensures { result ≡ command_of_one name.now }
+{
+    if name == b"pick".as_slice() {
+        Some(Command::Pick)
+    } else {
+        None
+    }
+}
+
+/// The command of two words.
+#[tactic(auto, unfolding(crate::specs::Commands::command_of_two))]
+fn of_two(name: &[u8], word: &[u8]) -> Option<Command>
+    ensures { result ≡ command_of_two name.now word.now }
+{
+    if name == b"go".as_slice() {
+        Some(Command::Go(thread_of(word)?))
+    } else if name == b"word".as_slice() {
+        Some(Command::Word(mutex_of(word)?))
+    } else if name == b"prio".as_slice() {
+        Some(Command::Prio(thread_of(word)?))
+    } else if name == b"finish".as_slice() {
+        Some(Command::Finish(thread_of(word)?))
+    } else if name == b"thread".as_slice() {
+        Some(Command::Thread(number_of(word)?))
+    } else if name == b"mutex".as_slice() {
+        Some(Command::Mutex(kind_of(word)?))
+    } else {
+        None
+    }
+}
+
+/// The command of four words.
+#[tactic(auto, unfolding(crate::specs::Commands::command_of_four))]
+fn of_four(name: &[u8], thread: &[u8], call: &[u8], mutex: &[u8]) -> Option<Command>
+    ensures { result ≡ command_of_four name.now thread.now call.now mutex.now }
+{
+    if name == b"call".as_slice() {
+        Some(Command::Call(thread_of(thread)?, request_of(call, mutex)?))
+    } else if name == b"begin".as_slice() {
+        Some(Command::Begin(thread_of(thread)?, request_of(call, mutex)?))
+    } else {
+        None
+    }
+}
+
+/// The command of five words.
+#[tactic(auto, unfolding(crate::specs::Commands::command_of_five))]
+fn of_five(
+    name: &[u8],
+    threads: &[u8],
+    mutexes: &[u8],
+    conds: &[u8],
+    signals: &[u8],
+) -> Option<Command>
+    ensures { result ≡ command_of_five name.now threads.now mutexes.now conds.now signals.now }
+{
+    if name == b"limits".as_slice() {
+        Some(Command::Limits(
+            number_of(threads)?,
+            number_of(mutexes)?,
+            number_of(conds)?,
+            number_of(signals)?,
+        ))
+    } else {
+        None
+    }
+}
+
+/// The command that begins with these three words, before `rest`.
+fn of_more(name: &[u8], first: &[u8], second: &[u8], rest: &[u8]) -> Option<Command>
+    ensures { result ≡ command_of_words (name.now ∷ first.now ∷ second.now ∷ words rest.now) }
+{
+    let (third, rest) = split_first(rest);
+    let Some(rest) = rest else {
+        return of_four(name, first, second, third);
+    };
+    let (fourth, rest) = split_first(rest);
+    match rest {
+        None => of_five(name, first, second, third, fourth),
+        Some(_) => None,
+    }
+}
+
+/// The command that begins with a name, before `rest`.
+fn of_named(name: &[u8], rest: &[u8]) -> Option<Command>
+    ensures { result ≡ command_of_words (name.now ∷ words rest.now) }
+{
+    let (first, rest) = split_first(rest);
+    let Some(rest) = rest else {
+        return of_two(name, first);
+    };
+    let (second, rest) = split_first(rest);
+    match rest {
+        None => None,
+        Some(rest) => of_more(name, first, second, rest),
+    }
+}
+
+/// The command of a line, given as its bytes without the line feed, or `None` where the line is no command. Any bytes
+/// and any length may be given.
+#[tactic(auto, unfolding(crate::specs::Commands::command_in))]
+pub fn command_of(line: &[u8]) -> Option<Command>
+    ensures { result ≡ command_in line.now }
+{
+    let (name, rest) = split_first(line);
+    match rest {
+        None => of_one(name),
+        Some(rest) => of_named(name, rest),
+    }
+}

@@ -1,0 +1,45 @@
+use pif_types::{AddFault, Answer, MutexId, Prio, Refusal, Tid};
+
+/// What a command is answered.
+#[derive(Clone, Copy, Debug, PartialEq, Eq)]
+pub enum Reply {
+    /// `ok`: the limits are taken.
+    Done,
+    /// `tN`: the number of the thread that was added.
+    Thread(Tid),
+    /// `mN`: the number of the mutex that was added.
+    Mutex(MutexId),
+    /// `refused toomany` or `refused badprio`: nothing was added.
+    NotAdded(AddFault),
+    /// `begun`: the call has begun.
+    Begun,
+    /// `went`: the thread took a step, and its call goes on.
+    Went,
+    /// `waits`: the thread waits in the kernel.
+    Waits,
+    /// `answer N`: the call is answered 0 or the number of an error.
+    Answer(Answer),
+    /// `refused busy`, `refused idle` or `refused nosuch`: nothing has changed.
+    Refused(Refusal),
+    /// `0x` and eight hexadecimal digits in lower case: the value of a mutex's word.
+    Word(u32),
+    /// The number alone: the priority that a thread runs at.
+    Priority(Prio),
+    /// `tN` or `none`: the thread that runs next.
+    Picked(Option<Tid>),
+}
+
+/// Why a line ends a script.
+#[derive(Clone, Copy, Debug, PartialEq, Eq)]
+pub enum Cause {
+    /// `size`: the script is too large.
+    Size,
+    /// `long`: the line is too long.
+    Long,
+    /// `cut`: the last line has no line feed.
+    Cut,
+    /// `command`: the line is no command.
+    Command,
+    /// `limits`: the limits are out of range, or not in their place.
+    Limits,
+}

@@ -1,0 +1,124 @@
+use crate::{Cause, Command, Reply, command_of, fault_text, number_reads_back, reply_text};
+use arrayvec::ArrayVec;
+use pif_types::{AddFault, Kind, MutexId, Prio, Refusal, Request, Tid};
+use std::test::Fail;
+
+#[test]
+fn lines_of_each_command_are_read(rt: HostRuntime) -> Result<(), Fail> {
+    let thread = Tid::new(3).ok_or("thread")?;
+    let mutex = MutexId::new(10).ok_or("mutex")?;
+    let lines = [
+        (
+            b"limits 4 2 0 4294967295".as_slice(),
+            Command::Limits(4, 2, 0, u32::MAX),
+        ),
+        (b"thread 0", Command::Thread(0)),
+        (b"mutex normal", Command::Mutex(Kind::Normal)),
+        (b"mutex default", Command::Mutex(Kind::Normal)),
+        (b"mutex errorcheck", Command::Mutex(Kind::ErrorCheck)),
+        (
+            b"begin t3 lock m10",
+            Command::Begin(thread, Request::Lock(mutex)),
+        ),
+        (
+            b"call t3 unlock m10",
+            Command::Call(thread, Request::Unlock(mutex)),
+        ),
+        (b"go t3", Command::Go(thread)),
+        (b"finish t3", Command::Finish(thread)),
+        (b"word m10", Command::Word(mutex)),
+        (b"prio t3", Command::Prio(thread)),
+        (b"pick", Command::Pick),
+    ];
+    for (line, command) in lines {
+        assert_eq!(rt; command_of(line), Some(command));
+    }
+    number_reads_back();
+    Ok(())
+}
+
+#[test]
+fn other_lines_are_no_command(rt: HostRuntime) -> Result<(), Fail> {
+    let lines = [
+        b"".as_slice(),
+        b" pick",
+        b"pick ",
+        b"pick\r",
+        b"Pick",
+        b"pick t1",
+        b"go",
+        b"go  t1",
+        b"go t0",
+        b"go t01",
+        b"go t4294967296",
+        b"go m1",
+        b"go 1",
+        b"go t",
+        b"thread",
+        b"thread +5",
+        b"thread 007",
+        b"thread 4294967296",
+        b"thread 18446744073709551617",
+        b"thread 5\0",
+        b"thread \xb5",
+        b"mutex recursive",
+        b"mutex normal robust",
+        b"call t1 lock",
+        b"call t1 lock m1 m2",
+        b"begin t1 trylock m1",
+        b"limits 4 2 0",
+        b"limits 4 2 0 1 1",
+        b"unlock m1",
+    ];
+    for line in lines {
+        assert_eq!(rt; command_of(line), None);
+    }
+    Ok(())
+}
+
+#[test]
+fn replies_are_written(rt: HostRuntime) -> Result<(), Fail> {
+    let thread = Tid::new(3).ok_or("thread")?;
+    let replies = [
+        (Reply::Done, b"ok".as_slice()),
+        (Reply::Thread(thread), b"t3"),
+        (Reply::Mutex(MutexId::new(1).ok_or("mutex")?), b"m1"),
+        (Reply::NotAdded(AddFault::BadPrio), b"refused badprio"),
+        (Reply::NotAdded(AddFault::TooMany), b"refused toomany"),
+        (Reply::Begun, b"begun"),
+        (Reply::Went, b"went"),
+        (Reply::Waits, b"waits"),
+        (Reply::Answer(35), b"answer 35"),
+        (Reply::Refused(Refusal::Busy), b"refused busy"),
+        (Reply::Refused(Refusal::Idle), b"refused idle"),
+        (Reply::Refused(Refusal::NoSuch), b"refused nosuch"),
+        (Reply::Word(0x8000_0001), b"0x80000001"),
+        (Reply::Word(0x0012_abef), b"0x0012abef"),
+        (Reply::Priority(Prio::new(99).ok_or("priority")?), b"99"),
+        (Reply::Picked(Some(thread)), b"t3"),
+        (Reply::Picked(None), b"none"),
+    ];
+    for (reply, text) in replies {
+        let mut out = ArrayVec::<u8, 40>::new();
+        reply_text(reply, &mut out);
+        assert_eq!(rt; out.as_slice(), text);
+    }
+    Ok(())
+}
+
+#[test]
+fn faults_are_written(rt: HostRuntime) -> Result<(), Fail> {
+    let faults = [
+        (1, Cause::Size, b"fault 1 size".as_slice()),
+        (16_777_217, Cause::Long, b"fault 16777217 long"),
+        (2, Cause::Cut, b"fault 2 cut"),
+        (3, Cause::Command, b"fault 3 command"),
+        (1, Cause::Limits, b"fault 1 limits"),
+    ];
+    for (line_number, cause, text) in faults {
+        let mut out = ArrayVec::<u8, 40>::new();
+        fault_text(line_number, cause, &mut out);
+        assert_eq!(rt; out.as_slice(), text);
+    }
+    Ok(())
+}

@@ -1,0 +1,203 @@
+ghost use Rattle.std.specs.Prelude.{◌≡◌, ◌+◌, ◌≤◌, ◌<◌, ◌++◌, false, length, decimal, codes};
+ghost use Rattle.arrayvec.specs.ArrayVec.{array_vec_len};
+ghost use Rattle.std.specs.Fmt.{digit_glyph};
+ghost use Rattle.pif_text.specs.Numbers.{hex_digits};
+ghost use Rattle.pif_text.specs.Replies.{text_of, fault_of, add_fault_word, refusal_word, thread_name, mutex_name, picked_text, cause_word};
+
+use crate::{Cause, Reply};
+use arrayvec::ArrayVec;
+use itoa::Buffer;
+use pif_types::{AddFault, Answer, MutexId, Refusal, Tid};
+
+/// How many bytes of room `reply_text` and `fault_text` ask for: no text is longer.
+pub const TEXT_ROOM: usize = 40;
+
+/// Appends bytes.
+fn append<const N: usize>(out: &mut ArrayVec<u8, N>, text: &[u8])
+    requires { array_vec_len out.old + length text.now ≤ N }
+    ensures { out.new.items ≡ out.old.items ++ text.now }
+{
+    let _ = out.try_extend_from_slice(text);
+}
+
+/// Appends a number in decimal digits.
+fn append_decimal<const N: usize>(out: &mut ArrayVec<u8, N>, number: u64)
+    requires { array_vec_len out.old + 20 ≤ N }
+    ensures items { out.new.items ≡ out.old.items ++ decimal number }
+    ensures len { length (decimal number) ≤ 20 }
+{
+    let mut buffer = Buffer::new();
+    append(out, buffer.format(number).as_bytes());
+}
+
+/// Appends the name of a thread.
+fn append_thread<const N: usize>(out: &mut ArrayVec<u8, N>, thread: Tid)
+    requires { array_vec_len out.old + 21 ≤ N }
+    ensures items { out.new.items ≡ out.old.items ++ thread_name thread }
+    ensures len { length (thread_name thread) ≤ 21 }
+{
+    append(out, b"t");
+    append_decimal(out, u64::from(thread.get()));
+}
+
+/// Appends the name of a mutex.
+fn append_mutex<const N: usize>(out: &mut ArrayVec<u8, N>, mutex: MutexId)
+    requires { array_vec_len out.old + 21 ≤ N }
+    ensures items { out.new.items ≡ out.old.items ++ mutex_name mutex }
+    ensures len { length (mutex_name mutex) ≤ 21 }
+{
+    append(out, b"m");
+    append_decimal(out, u64::from(mutex.get()));
+}
+
+/// Appends what a call is answered.
+fn append_answer<const N: usize>(out: &mut ArrayVec<u8, N>, number: Answer)
+    requires { array_vec_len out.old + 27 ≤ N }
+    ensures items { out.new.items ≡ out.old.items ++ (codes "answer " ++ decimal number) }
+    ensures len { array_vec_len out.new ≤ array_vec_len out.old + 27 }
+{
+    append(out, b"answer ");
+    append_decimal(out, u64::from(number));
+}
+
+/// The hexadecimal digit of a value below 16, in lower case.
+fn hex_digit(value: u32) -> u8
+    requires { value < 16 }
+    ensures { result ≡ digit_glyph false value }
+{
+    if value < 10 {
+        b'0' + value as u8
+    } else {
+        b'a' + (value - 10) as u8
+    }
+}
+
+/// The eight hexadecimal digits of a word.
+#[tactic(auto, unfolding(crate::specs::Numbers::hex_digits))]
+fn hex_text(value: u32) -> [u8; 8]
+    ensures { result ≡ hex_digits 8 value }
+{
+    let second = value / 16;
+    let third = second / 16;
+    let fourth = third / 16;
+    let fifth = fourth / 16;
+    let sixth = fifth / 16;
+    let seventh = sixth / 16;
+    let eighth = seventh / 16;
+    [
+        hex_digit(eighth % 16),
+        hex_digit(seventh % 16),
+        hex_digit(sixth % 16),
+        hex_digit(fifth % 16),
+        hex_digit(fourth % 16),
+        hex_digit(third % 16),
+        hex_digit(second % 16),
+        hex_digit(value % 16),
+    ]
+}
+
+/// Appends the value of a word.
+fn append_hex<const N: usize>(out: &mut ArrayVec<u8, N>, value: u32)
+    requires { array_vec_len out.old + 10 ≤ N }
+    ensures items { out.new.items ≡ out.old.items ++ (codes "0x" ++ hex_digits 8 value) }
+    ensures len { array_vec_len out.new ≡ array_vec_len out.old + 10 }
+{
+    append(out, b"0x");
+    append(out, hex_text(value).as_slice());
+}
+
+/// Why nothing was added, in one word.
+fn add_fault_of(fault: AddFault) -> &'static [u8]
+    ensures items { result.now ≡ add_fault_word fault }
+    ensures len { length result.now ≤ 10 }
+{
+    match fault {
+        AddFault::TooMany => b"toomany",
+        AddFault::BadPrio => b"badprio",
+    }
+}
+
+/// Why an event was refused, in one word.
+fn refusal_of(refusal: Refusal) -> &'static [u8]
+    ensures items { result.now ≡ refusal_word refusal }
+    ensures len { length result.now ≤ 10 }
+{
+    match refusal {
+        Refusal::Busy => b"busy",
+        Refusal::Idle => b"idle",
+        Refusal::NoSuch => b"nosuch",
+    }
+}
+
+/// The cause of a fault, in one word.
+fn cause_of(cause: Cause) -> &'static [u8]
+    ensures items { result.now ≡ cause_word cause }
+    ensures len { length result.now ≤ 10 }
+{
+    match cause {
+        Cause::Size => b"size",
+        Cause::Long => b"long",
+        Cause::Cut => b"cut",
+        Cause::Command => b"command",
+        Cause::Limits => b"limits",
+    }
+}
+
+/// Appends a refusal and its one word.
+fn append_refused<const N: usize>(out: &mut ArrayVec<u8, N>, why: &[u8])
+    requires room { array_vec_len out.old + 20 ≤ N }
+    requires short { length why.now ≤ 10 }
+    ensures items { out.new.items ≡ out.old.items ++ (codes "refused " ++ why.now) }
+{
+    append(out, b"refused ");
+    append(out, why);
+}
+
+/// Appends the thread that runs next, or that there is none.
+fn append_picked<const N: usize>(out: &mut ArrayVec<u8, N>, thread: Option<Tid>)
+    requires { array_vec_len out.old + 21 ≤ N }
+    ensures items { out.new.items ≡ out.old.items ++ picked_text thread }
+    ensures len { array_vec_len out.new ≤ array_vec_len out.old + 21 }
+{
+    match thread {
+        Some(thread) => append_thread(out, thread),
+        None => append(out, b"none"),
+    }
+}
+
+/// Appends the text of a reply, with no line feed, at most `TEXT_ROOM` bytes. What stands in `out` stays.
+#[tactic(auto, unfolding(crate::specs::Replies::text_of))]
+pub fn reply_text<const N: usize>(reply: Reply, out: &mut ArrayVec<u8, N>)
+    requires { array_vec_len out.old + TEXT_ROOM ≤ N }
+    ensures written { out.new.items ≡ out.old.items ++ text_of reply }
+    ensures within { array_vec_len out.new ≤ array_vec_len out.old + TEXT_ROOM }
+{
+    match reply {
+        Reply::Done => append(out, b"ok"),
+        Reply::Thread(thread) => append_thread(out, thread),
+        Reply::Mutex(mutex) => append_mutex(out, mutex),
+        Reply::NotAdded(fault) => append_refused(out, add_fault_of(fault)),
+        Reply::Begun => append(out, b"begun"),
+        Reply::Went => append(out, b"went"),
+        Reply::Waits => append(out, b"waits"),
+        Reply::Answer(number) => append_answer(out, number),
+        Reply::Refused(refusal) => append_refused(out, refusal_of(refusal)),
+        Reply::Word(value) => append_hex(out, value),
+        Reply::Priority(priority) => append_decimal(out, u64::from(priority.get())),
+        Reply::Picked(thread) => append_picked(out, thread),
+    }
+}
+
+/// Appends the text of a fault at a line, counted from 1, with no line feed, at most `TEXT_ROOM` bytes. What stands in
+/// `out` stays.
+#[tactic(auto, unfolding(crate::specs::Replies::fault_of))]
+pub fn fault_text<const N: usize>(line_number: u64, cause: Cause, out: &mut ArrayVec<u8, N>)
+    requires { array_vec_len out.old + TEXT_ROOM ≤ N }
+    ensures written { out.new.items ≡ out.old.items ++ fault_of line_number cause }
+    ensures within { array_vec_len out.new ≤ array_vec_len out.old + TEXT_ROOM }
+{
+    append(out, b"fault ");
+    append_decimal(out, line_number);
+    append(out, b" ");
+    append(out, cause_of(cause));
+}
