@@ -1,0 +1,4 @@
+pub mod RunningLemmas
+pub mod RunLemmas
+pub mod ScriptLemmas
+pub mod WordsLemmas
