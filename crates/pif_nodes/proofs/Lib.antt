@@ -1,0 +1,6 @@
+pub mod HolderLemmas
+pub mod ListLemmas
+pub mod MoveLemmas
+pub mod SeenLemmas
+pub mod TiesLemmas
+pub mod ViewLemmas
