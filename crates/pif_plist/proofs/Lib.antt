@@ -1,0 +1,3 @@
+pub mod InsertLemmas
+pub mod OrderLemmas
+pub mod WalkLemmas

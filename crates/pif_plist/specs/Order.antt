@@ -1,0 +1,57 @@
+-- Lists of nodes in the order of their keys: the higher priority first, and of equal priorities the lower ticket.
+use Rattle.std.specs.Prelude.{◌≡◌, ℕ, Bool, true, false, ◌&&◌, ◌||◌, ◌==◌, nat_lt, if◌then◌else◌, List, [], ◌∷◌, ◌++◌, Option, Some, slice_index_or, ⊤}
+use Rattle.pif_nodes.specs.declared.keys.Key.{Key}
+use Rattle.pif_nodes.specs.Lists.{has, first_of, last_of, without}
+use Rattle.pif_nodes.specs.Table.{Table, no_key, list_at, key_at, with_list, with_key}
+
+-- whether a key comes before another: its priority is higher, or equal and its ticket lower
+abbrev pub comes_before : Key → Key → Bool
+comes_before a b = nat_lt b.prio a.prio || (a.prio == b.prio && nat_lt a.ticket b.ticket)
+
+-- the key of a node among these; `no_key` where there is no such node
+abbrev pub key_in : List Key → ℕ → Key
+key_in keys n = slice_index_or keys n no_key
+
+-- no node of a list comes before one that stands earlier
+abbrev pub IsInOrder : List Key → List ℕ → Type 0
+IsInOrder keys [] = ⊤
+IsInOrder keys (x ∷ xs) = ((y : ℕ) → has y xs ≡ true → comes_before (key_in keys y) (key_in keys x) ≡ false) × IsInOrder keys xs
+
+-- a list of a table is in the order of its nodes' keys
+abbrev pub IsSorted : Table → ℕ → Type 0
+IsSorted t l = IsInOrder t.keys (list_at t l)
+
+-- a list with a node put before the first one that comes later, or at the end where none does
+abbrev pub placed : List Key → ℕ → List ℕ → List ℕ
+placed keys n [] = n ∷ []
+placed keys n (x ∷ xs) = if comes_before (key_in keys n) (key_in keys x) then n ∷ x ∷ xs else x ∷ placed keys n xs
+
+-- a table in which a node has got a key and been put into a list by it
+abbrev pub inserted : Table → ℕ → ℕ → Key → Table
+inserted t l n k = with_list (with_key t n k) l (placed (with_key t n k).keys n (list_at t l))
+
+-- a table in which a node has been taken out of a list
+abbrev pub removed : Table → ℕ → ℕ → Table
+removed t l n = with_list t l (without n (list_at t l))
+
+-- the key of a node with another priority
+abbrev pub with_prio : Table → ℕ → ℕ → Key
+with_prio t n prio = record { prio = prio; ticket = (key_at t n).ticket }
+
+-- the key of a node with another ticket
+abbrev pub with_ticket : Table → ℕ → ℕ → Key
+with_ticket t n ticket = record { prio = (key_at t n).prio; ticket = ticket }
+
+-- every other list that was sorted still is
+abbrev pub OthersStaySorted : Table → Table → ℕ → Type 0
+OthersStaySorted old new l = (k : ℕ) → (k ≡ l → ⊥) → IsSorted old k → IsSorted new k
+
+-- the nodes up to a place come no later than a key, and those behind it come later
+pub record IsPlace (keys : List Key) (k : Key) (xs : List ℕ) (place : Option ℕ) : Type 0 where
+  -- the nodes up to the place, and those behind it
+  pub front : List ℕ
+  pub back : List ℕ
+  pub parts : xs ≡ front ++ back
+  pub at : place ≡ last_of front
+  pub before : (m : ℕ) → has m front ≡ true → comes_before k (key_in keys m) ≡ false
+  pub behind : (m : ℕ) → first_of back ≡ Some m → comes_before k (key_in keys m) ≡ true
