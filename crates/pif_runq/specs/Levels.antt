@@ -1,0 +1,102 @@
+-- A run queue: the threads that are ready, by level, as sched(7) has them for SCHED_FIFO. Each level is a list of a
+-- node table, in which each thread has a node.
+use Rattle.std.specs.Prelude.{◌≡◌, ℕ, ◌+◌, ◌-◌, ◌<◌, ◌≤◌, ◌↔◌, true, nat_eq, if◌then◌else◌, List, [], ◌∷◌, ◌++◌, length, map, Some}
+use Rattle.std.specs.Int.{bit_at}
+use Rattle.pif_nodes.specs.Lists.{has, first_of, without}
+use Rattle.pif_nodes.specs.Table.{Table, list_at, holder, IsApart}
+
+-- where the levels and the threads of a queue stand in its table, and which levels have a thread
+pub record Queue : Type 0 where
+  -- the list of level 1; those of the other levels follow it
+  pub first_list : ℕ
+  -- the node of thread 1; those of the other threads follow it
+  pub first_node : ℕ
+  -- how many threads have a node
+  pub threads : ℕ
+  -- the levels that have a thread: bit p is that of level p
+  pub mask : ℕ
+
+-- a level is a priority of SCHED_FIFO, 1 to 99 (sched(7))
+abbrev pub IsLevel : ℕ → Type 0
+IsLevel p = (1 ≤ p) × (p ≤ 99)
+
+-- the list of a level
+abbrev pub list_for : Queue → ℕ → ℕ
+list_for q p = q.first_list + (p - 1)
+
+-- the node of a thread
+abbrev pub node_for : Queue → ℕ → ℕ
+node_for q t = q.first_node + (t - 1)
+
+-- the thread of a node
+abbrev pub thread_for : Queue → ℕ → ℕ
+thread_for q n = n - q.first_node + 1
+
+-- n is the node of a thread
+abbrev pub IsThreadNode : Queue → ℕ → Type 0
+IsThreadNode q n = (q.first_node ≤ n) × (n < q.first_node + q.threads)
+
+-- the threads of a level, in the order in which they joined it
+abbrev pub level_of : Queue → Table → ℕ → List ℕ
+level_of q t p = map (thread_for q) (list_at t (list_for q p))
+
+-- a queue stands in a table, and its mask says which of its levels have a thread
+pub record Holds (q : Queue) (t : Table) : Type 0 where
+  -- each node of the table is in at most one list, and once
+  pub apart : IsApart t
+  -- the lists of the levels are lists of the table
+  pub lists : q.first_list + 99 ≤ length t.lists
+  -- the nodes of the threads are nodes of the table
+  pub nodes : q.first_node + q.threads ≤ length t.keys
+  -- a node on a level is that of a thread
+  pub threads : (p n : ℕ) → IsLevel p → has n (list_at t (list_for q p)) ≡ true → IsThreadNode q n
+  -- the bit of a level is 0 exactly where no thread is on it
+  pub bits : (p : ℕ) → IsLevel p → (bit_at q.mask p ≡ 0) ↔ (list_at t (list_for q p) ≡ [])
+  -- no other bit is set
+  pub no_more : (p : ℕ) → bit_at q.mask p ≡ 1 → IsLevel p
+
+-- a queue with no thread may stand in a table that has the lists of its levels, all empty, and the nodes of its threads
+pub record HasRoom (q : Queue) (t : Table) : Type 0 where
+  pub apart : IsApart t
+  pub lists : q.first_list + 99 ≤ length t.lists
+  pub nodes : q.first_node + q.threads ≤ length t.keys
+  pub empty : (p : ℕ) → IsLevel p → list_at t (list_for q p) ≡ []
+
+-- u is on some level
+abbrev pub IsQueued : Queue → Table → ℕ → Type 0
+IsQueued q t u = (p : ℕ) × IsLevel p × (has u (level_of q t p) ≡ true)
+
+-- u is on level p: its node is in the list of that level
+pub record StandsOn (q : Queue) (t : Table) (u p : ℕ) : Type 0 where
+  pub is_level : IsLevel p
+  pub some : 1 ≤ u
+  pub within : u ≤ q.threads
+  pub listed : has (node_for q u) (list_at t (list_for q p)) ≡ true
+  pub held : holder t (node_for q u) ≡ Some (list_for q p)
+
+-- u is the first of the greatest level that has a thread: the one that SCHED_FIFO runs (sched(7))
+pub record IsFirstOfGreatest (q : Queue) (t : Table) (u : ℕ) : Type 0 where
+  pub level : ℕ
+  pub is_level : IsLevel level
+  pub first : first_of (level_of q t level) ≡ Some u
+  pub greatest : (p : ℕ) → IsLevel p → level < p → level_of q t p ≡ []
+
+-- no level has a thread
+abbrev pub IsEmpty : Queue → Table → Type 0
+IsEmpty q t = (p : ℕ) → IsLevel p → level_of q t p ≡ []
+
+-- the threads of level p once u joined the end of level `to`
+abbrev pub joined : ℕ → ℕ → ℕ → List ℕ → List ℕ
+joined u to p ts = if nat_eq p to then ts ++ u ∷ [] else ts
+
+-- the threads of level p once u, which was on some level, is at level `to`: where that is its level it keeps its
+-- place, and else it joins the end (sched(7))
+abbrev pub moved : ℕ → ℕ → ℕ → List ℕ → List ℕ
+moved u to p ts = if nat_eq p to then (if has u ts then ts else ts ++ u ∷ []) else without u ts
+
+-- all that is no level of the queue is as it was: the other lists, and all keys
+pub record SameOutside (q : Queue) (was now : Table) : Type 0 where
+  pub before : (l : ℕ) → l < q.first_list → list_at now l ≡ list_at was l
+  pub behind : (l : ℕ) → q.first_list + 99 ≤ l → list_at now l ≡ list_at was l
+  pub count : length now.lists ≡ length was.lists
+  pub keys : now.keys ≡ was.keys

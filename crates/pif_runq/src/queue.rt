@@ -1,0 +1,181 @@
+ghost use Rattle.std.specs.Prelude.{◌≡◌, ℕ, ◌+◌, ◌-◌, ◌<◌, ◌≤◌, ◌^◌, true, [], ◌∷◌, ◌++◌, length, nat_eq, if◌then◌else◌, IfNone, IfSome, IfOk, Some, None};
+ghost use Rattle.std.specs.Int.{bit_at};
+ghost use Rattle.pif_nodes.specs.Lists.{without};
+ghost use Rattle.pif_nodes.specs.Table.{Table, holder};
+ghost use Rattle.pif_runq.specs.Levels.{IsLevel, list_for, node_for, thread_for, IsThreadNode, level_of, HasRoom, Holds, IsQueued, StandsOn, IsFirstOfGreatest, IsEmpty, joined, moved, SameOutside};
+ghost use Rattle.pif_runq.specs.Masks.{ChangesBit, IsGreatestBit};
+
+use crate::masks::{greatest_bit, with_bit, without_bit};
+use pif_nodes::{List, Node, NodeTable};
+use pif_types::{Prio, Tid};
+use std::marker::Model;
+
+/// A run queue in a table of nodes: each level is a list of the table, and each thread that is ready is a node of the
+/// list of its level. A level is a priority, 1 to 99.
+#[derive(Drop)]
+pub struct RunQueue {
+    first_list: u32,
+    first_node: u32,
+    threads: u32,
+    mask: u128,
+}
+
+impl Model for RunQueue {
+    ghost use Rattle.std.specs.Prelude.{◌+◌, ◌<◌, ◌^◌};
+    ghost use Rattle.pif_runq.specs.Levels.{Queue};
+
+    ghost Value = { Queue };
+
+    ghost view = { λ q. record { first_list = q.first_list; first_node = q.first_node; threads = q.threads; mask = q.mask } };
+
+    ghost invariant = { λ q. (q.first_list + 99 < 2 ^ 32) × (q.first_node + q.threads < 2 ^ 32) };
+}
+
+impl RunQueue {
+    /// A queue with no thread, for a table in which level p is the list `first_list` + p - 1 and thread t, 1 to
+    /// `threads`, is the node `first_node` + t - 1. It stands in each table that has these lists, empty, and nodes.
+    pub fn new(first_list: u32, first_node: u32, threads: u32) -> Self
+        requires lists { first_list + 99 < 2 ^ 32 }
+        requires nodes { first_node + threads < 2 ^ 32 }
+        ensures made { result ≡ record { first_list = first_list; first_node = first_node; threads = threads; mask = 0 } }
+        ensures holds { (t : Table) → HasRoom result t → Holds result t }
+    {
+        RunQueue {
+            first_list,
+            first_node,
+            threads,
+            mask: 0,
+        }
+    }
+
+    /// Puts the thread `t`, which is in no list, at the end of the level `prio`. All other lists of the table and all
+    /// keys stay as they were.
+    pub fn add(&mut self, table: &mut NodeTable, t: Tid, prio: Prio)
+        requires holds { Holds self.old table.old }
+        requires thread { t ≤ self.old.threads }
+        requires free { holder table.old (node_for self.old t) ≡ None }
+        ensures levels { (p : ℕ) → IsLevel p → level_of self.new table.new p ≡ joined t prio p (level_of self.old table.old p) }
+        ensures outside { SameOutside self.old table.old table.new }
+        ensures holders { (n : ℕ) → holder table.new n ≡ (if nat_eq n (node_for self.old t) then Some (list_for self.old prio) else holder table.old n) }
+        ensures place { self.new ≡ record self.old { mask = self.new.mask } }
+        ensures holds { Holds self.new table.new }
+    {
+        let level = prio.get();
+        let list = self.list_for(level);
+        let last = table.last(list);
+        let node = self.node_for(t);
+        table.attach_after(list, last, node);
+        self.fill(level);
+    }
+
+    /// Takes the thread `t` out of the level on which it is. All other lists of the table and all keys stay as they
+    /// were.
+    pub fn take_out(&mut self, table: &mut NodeTable, t: Tid)
+        requires holds { Holds self.old table.old }
+        requires queued { IsQueued self.old table.old t }
+        ensures levels { (p : ℕ) → IsLevel p → level_of self.new table.new p ≡ without t (level_of self.old table.old p) }
+        ensures outside { SameOutside self.old table.old table.new }
+        ensures holders { (n : ℕ) → holder table.new n ≡ (if nat_eq n (node_for self.old t) then None else holder table.old n) }
+        ensures place { self.new ≡ record self.old { mask = self.new.mask } }
+        ensures holds { Holds self.new table.new }
+    {
+        let level = self.level_on(table, t);
+        let node = self.node_for(t);
+        table.detach(node);
+        let list = self.list_for(level);
+        if table.first(list).is_none() {
+            self.clear(level);
+        }
+    }
+
+    /// Puts the thread `t` of a level at the end of the level `prio`, or leaves it where it is if that is its level.
+    /// All other lists of the table and all keys stay as they were.
+    pub fn move_to(&mut self, table: &mut NodeTable, t: Tid, prio: Prio)
+        requires holds { Holds self.old table.old }
+        requires queued { IsQueued self.old table.old t }
+        ensures levels { (p : ℕ) → IsLevel p → level_of self.new table.new p ≡ moved t prio p (level_of self.old table.old p) }
+        ensures outside { SameOutside self.old table.old table.new }
+        ensures holders { (n : ℕ) → holder table.new n ≡ (if nat_eq n (node_for self.old t) then Some (list_for self.old prio) else holder table.old n) }
+        ensures place { self.new ≡ record self.old { mask = self.new.mask } }
+        ensures holds { Holds self.new table.new }
+    {
+        if self.level_on(table, t) != prio.get() {
+            self.take_out(table, t);
+            self.add(table, t, prio);
+        }
+    }
+
+    /// The first thread of the greatest level that has one. `None` where no level has a thread.
+    pub fn pick(&self, table: &NodeTable) -> Option<Tid>
+        requires holds { Holds self.now table.now }
+        ensures none { IfNone result (IsEmpty self.now table.now) }
+        ensures first { IfSome result (λ t. IsFirstOfGreatest self.now table.now t) }
+    {
+        let level = self.greatest()?;
+        let list = self.list_for(level);
+        let node = table.first(list)?;
+        self.thread_for(node)
+    }
+
+    /// The list of a level.
+    fn list_for(&self, level: u32) -> List
+        requires { IsLevel level }
+        ensures { result ≡ list_for self.now level }
+    {
+        List::new(self.first_list + (level - 1))
+    }
+
+    /// The level on which the thread `t` is.
+    fn level_on(&self, table: &NodeTable, t: Tid) -> u32
+        requires holds { Holds self.now table.now }
+        requires queued { IsQueued self.now table.now t }
+        ensures { StandsOn self.now table.now t result }
+    {
+        let node = self.node_for(t);
+        let list = table.list_of(node).unwrap();
+        list.get() - self.first_list + 1
+    }
+
+    /// The node of a thread.
+    fn node_for(&self, t: Tid) -> Node
+        requires { t ≤ self.now.threads }
+        ensures node { result ≡ node_for self.now t }
+        ensures thread { 1 ≤ t }
+    {
+        Node::new(self.first_node + (t.get() - 1))
+    }
+
+    /// The thread of a node. Each node of a thread has one.
+    fn thread_for(&self, node: Node) -> Option<Tid>
+        requires { IsThreadNode self.now node }
+        ensures { result ≡ Some (thread_for self.now node) }
+    {
+        Tid::new(node.get() - self.first_node + 1)
+    }
+
+    /// The greatest level of the mask. `None` where it has none.
+    fn greatest(&self) -> Option<u32>
+        ensures none { IfNone result ((p : ℕ) → bit_at self.now.mask p ≡ 0) }
+        ensures greatest { IfSome result (λ p. IsGreatestBit self.now.mask p) }
+    {
+        greatest_bit(self.mask)
+    }
+
+    /// Notes that a level has a thread.
+    fn fill(&mut self, level: u32)
+        requires { IsLevel level }
+        ensures bit { ChangesBit self.old.mask self.new.mask level 1 }
+        ensures place { self.new ≡ record self.old { mask = self.new.mask } }
+    {
+        self.mask = with_bit(self.mask, level);
+    }
+
+    /// Notes that a level has no thread.
+    fn clear(&mut self, level: u32)
+        requires { IsLevel level }
+        ensures bit { ChangesBit self.old.mask self.new.mask level 0 }
+        ensures place { self.new ≡ record self.old { mask = self.new.mask } }
+    {
+        self.mask = without_bit(self.mask, level);
+    }
+}
