@@ -1,0 +1,66 @@
+#!/usr/bin/env bash
+# Prints, for a script of 16 MB of `pick` lines and one of uncontended `call` lines: lines a second, nanoseconds a
+# line and peak memory, through a pipe. It is a benchmark, never a test: nothing here passes or fails.
+set -euo pipefail
+here="$(cd "$(dirname "$0")/.." && pwd)"
+program="$here/crates/pif/out/pif"
+[ -x "$program" ] || "$here/pif" --help > /dev/null
+python3 - "$program" <<'PYTHON'
+import subprocess, sys, tempfile, time
+
+program = sys.argv[1]
+LIMIT = 16_777_216
+
+
+def picks():
+    return b"pick\n" * (LIMIT // 5)
+
+
+def calls():
+    head = b"thread 10\nmutex normal\n"
+    pair = b"call t1 lock m1\ncall t1 unlock m1\n"
+    return head + pair * ((LIMIT - len(head)) // len(pair))
+
+
+def peak_of(pid, peak):
+    """The greatest resident size of a process so far, in kB, or what was known before where it has ended."""
+    try:
+        with open(f"/proc/{pid}/status") as status:
+            for line in status:
+                if line.startswith("VmHWM:"):
+                    return max(peak, int(line.split()[1]))
+    except OSError:
+        pass
+    return peak
+
+
+def measure(name, script):
+    lines = script.count(b"\n")
+    with tempfile.NamedTemporaryFile() as file:
+        file.write(script)
+        file.flush()
+        start = time.monotonic()
+        feed = subprocess.Popen(["cat", file.name], stdout=subprocess.PIPE)
+        run = subprocess.Popen([program, "run"], stdin=feed.stdout, stdout=subprocess.DEVNULL)
+        feed.stdout.close()
+        peak = 0
+        while run.poll() is None:
+            peak = peak_of(run.pid, peak)
+            time.sleep(0.005)
+        seconds = time.monotonic() - start
+        feed.wait()
+    print(
+        f"{name}: {lines} lines, {lines / seconds / 1e6:.2f} million lines a second, "
+        f"{seconds * 1e9 / lines:.0f} ns a line, peak memory {peak / 1024:.1f} MB, exit status {run.returncode}"
+    )
+
+
+measure("pick", picks())
+measure("call", calls())
+PYTHON
+
+bench="$here/crates/pif_bench/out/pif_bench"
+[ -x "$bench" ] || (cd "$here/crates/pif_bench" && rt run > /dev/null)
+for name in $("$bench"); do
+  "$bench" "$name"
+done

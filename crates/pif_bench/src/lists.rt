@@ -1,0 +1,105 @@
+ghost use Rattle.std.specs.Prelude.{◌≡◌, ◌≤◌, ◌<◌, IfOk};
+ghost use Rattle.pif_bench.specs.Filling.{IsReady};
+
+use pif_nodes::{List, Node, NodeTable};
+use pif_plist::PList;
+use pif_types::NoMemory;
+use std::alloc::Global;
+use std::io;
+use std::rt::Clock;
+use std::time::Instant;
+
+/// How many nodes a round inserts and removes.
+const NODES: u32 = 1000;
+
+/// How many rounds are measured.
+const ROUNDS: u32 = 100;
+
+/// Which priorities the nodes have.
+#[derive(Clone, Copy)]
+pub enum Priorities {
+    /// All the same: each node joins the end.
+    Equal,
+    /// Each node has one of its own, and the later ones are higher.
+    Distinct,
+}
+
+/// The priority of a node.
+fn priority_of(priorities: Priorities, node: u32) -> u32 {
+    match priorities {
+        Priorities::Equal => 1,
+        Priorities::Distinct => node,
+    }
+}
+
+/// Inserts and removes the nodes in one sorted list, again and again. Answers how many nanoseconds each took.
+pub fn nanoseconds_each(
+    rt: &(impl Clock + AllocGlobal),
+    priorities: Priorities,
+) -> io::Result<u64> {
+    let mut table = new_table(rt.alloc()).map_err(|_| io::Error::from(io::ErrorKind::OutOfMemory))?;
+    let start = Instant::now(rt)?;
+    for _round in 0..ROUNDS {
+        insert_all(&mut table, priorities);
+        remove_all(&mut table);
+    }
+    let nanoseconds = start.elapsed(rt)?.as_nanos() / u128::from(2 * ROUNDS * NODES);
+    Ok(u64::try_from(nanoseconds).unwrap_or(u64::MAX))
+}
+
+/// A table of one list, which is empty.
+fn new_table(alloc: Global) -> Result<NodeTable, NoMemory>
+    ensures { IfOk result IsReady }
+{
+    NodeTable::new(alloc, NODES, 1)
+}
+
+/// Inserts each node that is in no list.
+fn insert_all(table: &mut NodeTable, priorities: Priorities)
+    requires { IsReady table.old }
+    ensures { IsReady table.new }
+{
+    for number in 0..NODES {
+        insert_one(table, number, priority_of(priorities, number));
+    }
+}
+
+/// Inserts a node, if it is in no list.
+fn insert_one(table: &mut NodeTable, number: u32, prio: u32)
+    requires ready { IsReady table.old }
+    requires node { number < 1000 }
+    ensures { IsReady table.new }
+{
+    let node = Node::new(number);
+    match table.list_of(node) {
+        None => PList::new(List::new(0)).insert(table, node, prio, u64::from(number)),
+        Some(_) => {}
+    }
+}
+
+/// Removes each node that is in the list.
+fn remove_all(table: &mut NodeTable)
+    requires { IsReady table.old }
+    ensures { IsReady table.new }
+{
+    for number in 0..NODES {
+        remove_one(table, number);
+    }
+}
+
+/// Removes a node, if it is in the list.
+fn remove_one(table: &mut NodeTable, number: u32)
+    requires ready { IsReady table.old }
+    requires node { number < 1000 }
+    ensures { IsReady table.new }
+{
+    let node = Node::new(number);
+    match table.list_of(node) {
+        Some(list) => {
+            if list.get() == 0 {
+                PList::new(List::new(0)).remove(table, node);
+            }
+        }
+        None => {}
+    }
+}
