@@ -19,7 +19,7 @@ fn queued_on(status: Status) -> u32
 
 impl State {
     /// The thread for which a thread waits: whom the owner state of the mutex names on which it is queued, 0 for none.
-    pub fn waits_for(&self, thread: u32) -> u32
+    pub(crate) fn waits_for(&self, thread: u32) -> u32
         ensures { result ≡ kernel_waits_for self.now thread }
     {
         let row = self.row(thread);
@@ -27,7 +27,7 @@ impl State {
     }
 
     /// Whether `to` is `from`, or is reached from it by following for whom each thread waits.
-    pub fn reaches(&self, from: u32, to: u32) -> bool
+    pub(crate) fn reaches(&self, from: u32, to: u32) -> bool
         ensures { result ≡ reaches_within (length self.now.rows) (kernel_waits_for self.now) from to }
     {
         let mut at = from;
@@ -45,7 +45,7 @@ impl State {
     }
 
     /// The effective priority of a thread: the greatest base priority of it and of all that reach it by waiting.
-    pub fn effective(&self, thread: u32) -> u32
+    pub(crate) fn effective(&self, thread: u32) -> u32
         ensures value { result ≡ kernel_effective self.now thread }
         ensures most { result ≤ 99 }
         ensures least { thread < length self.now.rows → (row_at self.now thread).living ≡ true → 1 ≤ result }
@@ -61,14 +61,14 @@ impl State {
     }
 
     /// Whether a thread is queued on this mutex.
-    pub fn has_waiter(&self, mutex: MutexId) -> bool
+    pub(crate) fn has_waiter(&self, mutex: MutexId) -> bool
         ensures { result ≡ has_waiter self.now.waiters mutex }
     {
         self.waiters().iter().any(|waiter| waiter.1 == mutex.get())
     }
 
     /// The next waiter of a mutex: of those of greatest effective priority the first in arrival, 0 where none waits.
-    pub fn next_waiter(&self, mutex: MutexId) -> u32
+    pub(crate) fn next_waiter(&self, mutex: MutexId) -> u32
         ensures { result ≡ kernel_next self.now mutex }
     {
         let waiters = self.waiters();

@@ -12,7 +12,7 @@ impl State {
     /// The kernel call lock_pi, FUTEX_LOCK_PI of futex(2): the thread takes a mutex that has no owner, or is queued on
     /// it, and then its owner and all for whom that one waits are boosted. A refused call changes nothing.
     #[tactic(auto, unfolding(pif_model::specs::Kernel::lock_pi_after))]
-    pub fn lock_pi(&mut self, thread: Tid, mutex: MutexId) -> Result<Took, Errno>
+    pub(crate) fn lock_pi(&mut self, thread: Tid, mutex: MutexId) -> Result<Took, Errno>
         requires known { has_thread self.old thread ≡ true }
         requires room { HasRoom self.old }
         requires rows { length self.old.rows ≤ 1025 }
@@ -31,7 +31,7 @@ impl State {
     /// The kernel call unlock_pi, FUTEX_UNLOCK_PI of futex(2): the owner frees a mutex, or hands it to the next waiter.
     /// A refused call changes nothing.
     #[tactic(auto, unfolding(pif_model::specs::Kernel::unlock_pi_after, pif_model::specs::Word::word_of))]
-    pub fn unlock_pi(&mut self, thread: Tid, mutex: MutexId) -> Result<(), Errno>
+    pub(crate) fn unlock_pi(&mut self, thread: Tid, mutex: MutexId) -> Result<(), Errno>
         requires room { HasRoom self.old }
         requires rows { length self.old.rows ≤ 1025 }
         ensures answer { closed result ≡ unlock_pi_answer thread mutex self.old }
@@ -49,7 +49,7 @@ impl State {
 
     /// Stops a thread for good.
     #[tactic(auto, unfolding(pif_model::specs::Kernel::stopped))]
-    pub fn stop(&mut self, thread: Tid)
+    pub(crate) fn stop(&mut self, thread: Tid)
         ensures { self.new ≡ stopped thread self.old }
     {
         self.set_status(thread.get(), Status::Stopped);

@@ -10,7 +10,7 @@ use pif_word::number;
 
 impl State {
     /// One step of an open call of `thread` at this place, which is one of the request's own.
-    pub fn line(&mut self, thread: Tid, request: Request, place: Place) -> Seen
+    pub(crate) fn line(&mut self, thread: Tid, request: Request, place: Place) -> Seen
         requires known { has_thread self.old thread ≡ true }
         requires room { HasRoom self.old }
         requires rows { length self.old.rows ≤ 1025 }
@@ -61,7 +61,7 @@ impl State {
     }
 
     /// Puts the open call of a thread at this line.
-    pub fn set_line(&mut self, thread: Tid, line: Line)
+    pub(crate) fn set_line(&mut self, thread: Tid, line: Line)
         ensures { self.new ≡ with_line thread line self.old }
     {
         let row = self.row(thread.get());

@@ -6,7 +6,7 @@ use crate::state::State;
 impl State {
     /// Puts each ready thread at the level of its effective priority. Who keeps its level keeps its place, and who
     /// changes it joins the end of its new level.
-    pub fn settle(&mut self)
+    pub(crate) fn settle(&mut self)
         ensures { self.new ≡ settled self.old }
     {
         let mut place = 0;
@@ -22,7 +22,7 @@ impl State {
     }
 
     /// The thread that runs next: the first that joined the greatest level, 0 where none is ready.
-    pub fn pick(&self) -> u32
+    pub(crate) fn pick(&self) -> u32
         ensures { result ≡ kernel_pick self.now }
     {
         let ready = self.ready();

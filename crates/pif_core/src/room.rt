@@ -5,7 +5,7 @@ use pif_types::NoMemory;
 use std::alloc::Global;
 
 /// An empty list with room for `count` items. Takes one piece of memory.
-pub fn with_room<T: Drop>(alloc: Global, count: usize) -> Result<Vec<T>, NoMemory>
+pub(crate) fn with_room<T: Drop>(alloc: Global, count: usize) -> Result<Vec<T>, NoMemory>
     ensures items { IfOk result (λ v. v.items ≡ []) }
     ensures len { IfOk result (λ v. vec_len v ≡ 0) }
     ensures room { IfOk result (λ v. count ≤ vec_capacity v) }
@@ -17,7 +17,7 @@ pub fn with_room<T: Drop>(alloc: Global, count: usize) -> Result<Vec<T>, NoMemor
 }
 
 /// Puts `item` at the end of `items`, which has room for it.
-pub fn push_within<T: Drop>(items: &mut Vec<T>, item: T)
+pub(crate) fn push_within<T: Drop>(items: &mut Vec<T>, item: T)
     requires { vec_len items.old < vec_capacity items.old }
     ensures items { items.new.items ≡ items.old.items ++ item ∷ [] }
     ensures len { vec_len items.new ≡ vec_len items.old + 1 }
@@ -27,7 +27,7 @@ pub fn push_within<T: Drop>(items: &mut Vec<T>, item: T)
 }
 
 /// Takes the pairs of this thread out of `pairs`. The others keep their order.
-pub fn remove_thread(pairs: &mut Vec<(u32, u32)>, thread: u32)
+pub(crate) fn remove_thread(pairs: &mut Vec<(u32, u32)>, thread: u32)
     ensures items { pairs.new.items ≡ without pairs.old.items thread }
     ensures room { vec_capacity pairs.new ≡ vec_capacity pairs.old }
 {

@@ -83,7 +83,7 @@ impl Model for State {
 
 impl State {
     /// The state in which nothing was added. It takes room for all that the limits allow.
-    pub fn new(alloc: Global, limits: Limits) -> Result<State, NoMemory>
+    pub(crate) fn new(alloc: Global, limits: Limits) -> Result<State, NoMemory>
         ensures { IfOk result (λ s. s ≡ new_table limits) }
     {
         let threads = limits.threads() as usize + 1;
@@ -105,7 +105,7 @@ impl State {
     }
 
     /// The limits.
-    pub fn limits(&self) -> Limits
+    pub(crate) fn limits(&self) -> Limits
         ensures value { result ≡ self.now.limits }
         ensures range { IsWithin self.now.limits }
     {
@@ -113,7 +113,7 @@ impl State {
     }
 
     /// One more than the threads that were added: 1 to 1,025.
-    pub fn row_count(&self) -> u32
+    pub(crate) fn row_count(&self) -> u32
         ensures value { result ≡ length self.now.rows }
         ensures least { 1 ≤ result }
         ensures most { result ≤ 1025 }
@@ -122,7 +122,7 @@ impl State {
     }
 
     /// One more than the mutexes that were added: 1 to 1,025.
-    pub fn mutex_count(&self) -> u32
+    pub(crate) fn mutex_count(&self) -> u32
         ensures value { result ≡ length self.now.cells }
         ensures least { 1 ≤ result }
         ensures most { result ≤ 1025 }
@@ -131,7 +131,7 @@ impl State {
     }
 
     /// The row of a thread.
-    pub fn row(&self, thread: u32) -> Row
+    pub(crate) fn row(&self, thread: u32) -> Row
         ensures { result ≡ row_at self.now thread }
     {
         if (thread as usize) < self.rows.len() {
@@ -142,7 +142,7 @@ impl State {
     }
 
     /// Makes `row` the row of a thread.
-    pub fn set_row(&mut self, thread: u32, row: Row)
+    pub(crate) fn set_row(&mut self, thread: u32, row: Row)
         ensures { self.new ≡ with_row thread row self.old }
     {
         if (thread as usize) < self.rows.len() {
@@ -151,7 +151,7 @@ impl State {
     }
 
     /// Gives the next thread this row.
-    pub fn push_row(&mut self, row: Row)
+    pub(crate) fn push_row(&mut self, row: Row)
         requires { has_thread_room self.old ≡ true }
         ensures { self.new ≡ record self.old { rows = self.old.rows ++ row ∷ [] } }
     {
@@ -159,7 +159,7 @@ impl State {
     }
 
     /// The kind of a mutex.
-    pub fn kind(&self, mutex: MutexId) -> Kind
+    pub(crate) fn kind(&self, mutex: MutexId) -> Kind
         ensures { result ≡ (cell_at self.now mutex).kind }
     {
         let place = mutex.get() as usize;
@@ -171,7 +171,7 @@ impl State {
     }
 
     /// The thread that the owner state of a mutex names, 0 where there is no owner state.
-    pub fn owner_state(&self, mutex: u32) -> u32
+    pub(crate) fn owner_state(&self, mutex: u32) -> u32
         ensures { result ≡ (cell_at self.now mutex).state }
     {
         let place = mutex as usize;
@@ -183,7 +183,7 @@ impl State {
     }
 
     /// The word of a mutex.
-    pub fn word(&self, mutex: MutexId) -> u32
+    pub(crate) fn word(&self, mutex: MutexId) -> u32
         ensures value { word_of result ≡ (cell_at self.now mutex).word }
     {
         if (mutex.get() as usize) < self.mutexes.len() {
@@ -194,7 +194,7 @@ impl State {
     }
 
     /// Makes `bits` the word of a mutex.
-    pub fn set_word(&mut self, mutex: MutexId, bits: u32)
+    pub(crate) fn set_word(&mut self, mutex: MutexId, bits: u32)
         ensures { self.new ≡ with_word mutex (word_of bits) self.old }
     {
         if (mutex.get() as usize) < self.mutexes.len() {
@@ -203,7 +203,7 @@ impl State {
     }
 
     /// Makes `bits` the word of a mutex and `owner` the thread that its owner state names, 0 for no owner state.
-    pub fn set_owner_state(&mut self, mutex: MutexId, bits: u32, owner: u32)
+    pub(crate) fn set_owner_state(&mut self, mutex: MutexId, bits: u32, owner: u32)
         ensures { self.new ≡ with_cell mutex (record (cell_at self.old mutex) { word = word_of bits; state = owner }) self.old }
     {
         let place = mutex.get() as usize;
@@ -214,7 +214,7 @@ impl State {
     }
 
     /// Makes `new` the word of a mutex if it was `expected`, a bare number below 2^30, and answers whether it was.
-    pub fn exchange(&mut self, mutex: MutexId, expected: u32, new: u32) -> bool
+    pub(crate) fn exchange(&mut self, mutex: MutexId, expected: u32, new: u32) -> bool
         requires { expected < 2 ^ 30 }
         ensures value { result ≡ is_bare (cell_at self.old mutex).word expected }
         ensures after { self.new ≡ (if result then with_word mutex (word_of new) self.old else self.old) }
@@ -229,7 +229,7 @@ impl State {
     }
 
     /// Adds a mutex with the next number, and makes its word 0.
-    pub fn push_mutex(&mut self, kind: Kind, mutex: MutexId)
+    pub(crate) fn push_mutex(&mut self, kind: Kind, mutex: MutexId)
         requires next { mutex ≡ length self.old.cells }
         requires room { has_mutex_room self.old ≡ true }
         ensures { self.new ≡ mutex_added kind false self.old }
@@ -239,14 +239,14 @@ impl State {
     }
 
     /// The kernel's queue: each waiter and the mutex on which it is queued, in order of arrival.
-    pub fn waiters(&self) -> &[(u32, u32)]
+    pub(crate) fn waiters(&self) -> &[(u32, u32)]
         ensures { result.now ≡ self.now.waiters }
     {
         self.waiters.as_slice()
     }
 
     /// Puts a thread at the end of the kernel's queue.
-    pub fn push_waiter(&mut self, thread: Tid, mutex: MutexId)
+    pub(crate) fn push_waiter(&mut self, thread: Tid, mutex: MutexId)
         requires { length self.old.waiters ≤ self.old.limits.threads }
         ensures { self.new ≡ record self.old { waiters = self.old.waiters ++ (thread, mutex) ∷ [] } }
     {
@@ -254,21 +254,21 @@ impl State {
     }
 
     /// Takes a thread out of the kernel's queue.
-    pub fn remove_waiter(&mut self, thread: u32)
+    pub(crate) fn remove_waiter(&mut self, thread: u32)
         ensures { self.new ≡ record self.old { waiters = without self.old.waiters thread } }
     {
         remove_thread(&mut self.waiters, thread);
     }
 
     /// The run queue: each ready thread and its level, in order of joining.
-    pub fn ready(&self) -> &[(u32, u32)]
+    pub(crate) fn ready(&self) -> &[(u32, u32)]
         ensures { result.now ≡ self.now.ready }
     {
         self.ready.as_slice()
     }
 
     /// Puts a thread at the end of the run queue.
-    pub fn push_ready(&mut self, thread: u32, level: u32)
+    pub(crate) fn push_ready(&mut self, thread: u32, level: u32)
         requires { length self.old.ready ≤ self.old.limits.threads }
         ensures { self.new ≡ record self.old { ready = self.old.ready ++ (thread, level) ∷ [] } }
     {
@@ -276,14 +276,14 @@ impl State {
     }
 
     /// Takes a thread out of the run queue.
-    pub fn remove_ready(&mut self, thread: u32)
+    pub(crate) fn remove_ready(&mut self, thread: u32)
         ensures { self.new ≡ record self.old { ready = without self.old.ready thread } }
     {
         remove_thread(&mut self.ready, thread);
     }
 
     /// Moves the thread at this place of the run queue to the end, at a new level.
-    pub fn requeue_ready(&mut self, place: usize, level: u32)
+    pub(crate) fn requeue_ready(&mut self, place: usize, level: u32)
         requires { place < length self.old.ready }
         ensures { self.new ≡ record self.old { ready = remove self.old.ready place ++ ((slice_index_or self.old.ready place (0, 0)).0, level) ∷ [] } }
     {

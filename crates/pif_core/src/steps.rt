@@ -10,7 +10,7 @@ use pif_types::{MutexId, Refusal, Request, Tid};
 
 impl State {
     /// Whether this thread was added.
-    pub fn has_thread(&self, thread: Tid) -> bool
+    pub(crate) fn has_thread(&self, thread: Tid) -> bool
         ensures value { result ≡ has_thread self.now thread }
         ensures rows { length self.now.rows ≤ 1025 }
     {
@@ -18,14 +18,14 @@ impl State {
     }
 
     /// Whether this mutex was added.
-    pub fn has_mutex(&self, mutex: MutexId) -> bool
+    pub(crate) fn has_mutex(&self, mutex: MutexId) -> bool
         ensures { result ≡ has_mutex self.now mutex }
     {
         mutex.get() < self.mutex_count()
     }
 
     /// One event: what it is answered, and the state after it.
-    pub fn step(&mut self, event: Event) -> Seen
+    pub(crate) fn step(&mut self, event: Event) -> Seen
         requires { HasRoom self.old }
         ensures { outcome result self.new ≡ stepped event self.old }
     {
