@@ -1,10 +1,10 @@
 -- Lemmas on the bits of a mask.
-use Rattle.std.proofs.Common.{◌≡◌, ◌≢◌, ℕ, suc, Option, Some, None, IfSome, ◌+◌, ◌-◌, ◌*◌, ◌/◌, ◌%◌, ◌^◌, ◌<◌, ◌≤◌, refl, sym, ◌∙◌, ap, bit_and, ⊎_elim, arith}
+use Rattle.std.proofs.Common.{◌≡◌, ℕ, suc, Option, Some, None, IfSome, ◌*◌, ◌/◌, ◌%◌, ◌^◌, ◌<◌, ◌≤◌, sym, ◌∙◌, ap, bit_and, ⊎_elim, arith}
 use Rattle.std.proofs.lemmas.Nat.{and_le_l, pow_pos}
-use Rattle.std.proofs.lemmas.Nat.Bits.{bit_at_clear_same, bit_at_clear_other, bit_at_above, bit_at-zero}
+use Rattle.std.proofs.lemmas.Nat.Bits.{bit_at_clear_same, bit_at_clear_other, bit_at_above}
 use Rattle.std.proofs.lemmas.Bool.{cases_lt}
 use Rattle.std.proofs.Math.Nat.{pow-suc, div-eq_of_lt-le}
-use Rattle.std.specs.Int.{bit_at, bit_not, w128}
+use Rattle.std.specs.Int.{bit_not, w128}
 use Rattle.pif_runq.specs.Masks.{ChangesBit, IsGreatestBit}
 
 -- `& !(1 << i)` of 128 bits clears bit i and no other

@@ -1,5 +1,5 @@
 -- Lemmas on the levels of a queue: threads and their nodes, and what a change of one level's list makes of the others.
-use Rattle.std.proofs.Common.{◌≡◌, ◌≢◌, ℕ, ◌+◌, ◌-◌, ◌<◌, ◌≤◌, ◌↔◌, Bool, true, false, cond, eqb, ◌||◌, List, [], ◌∷◌, ◌++◌, Option, Some, None, length, map, refl, sym, ◌∙◌, ap, subst, ⊎_elim, arith, append_assoc, length-set, get_or-set_other}
+use Rattle.std.proofs.Common.{◌≡◌, ℕ, ◌+◌, ◌-◌, ◌≤◌, ◌↔◌, true, false, eqb, ◌||◌, List, [], ◌∷◌, ◌++◌, Option, Some, None, length, map, refl, sym, ◌∙◌, ap, subst, ⊎_elim, arith, append_assoc, length-set, get_or-set_other}
 use Rattle.std.proofs.lemmas.List.{get_or-set_same, map-append}
 use Rattle.std.proofs.lemmas.Bool.{or_left, or_right, or_cases, eq-eqb, ne_eqb, eqb-true, cases_Bool, cases_eq, false_from_ne_true}
 use Rattle.std.proofs.lemmas.Nat.Bits.{bit_at-lt}
@@ -7,7 +7,7 @@ use Rattle.std.specs.Int.{bit_at}
 use Rattle.std.specs.Option.{is_some}
 use Rattle.pif_nodes.specs.Lists.{has, first_of, last_or, last_of, put_after, insert_after, without, HasNoRepeats}
 use Rattle.pif_nodes.specs.Table.{Table, list_at, holder, with_list, IsApart}
-use Rattle.pif_nodes.proofs.ListLemmas.{has-head, has-append, last_split, last_of-has, first_of-has, put_after-split, HasNoRepeats-taken, without_absent}
+use Rattle.pif_nodes.proofs.ListLemmas.{has-head, has-append, last_split, first_of-has, put_after-split, HasNoRepeats-taken, without_absent}
 use Rattle.pif_runq.specs.Levels.{Queue, IsLevel, list_for, node_for, thread_for, IsThreadNode, level_of, Holds, IsQueued, StandsOn, IsFirstOfGreatest, joined, moved, SameOutside}
 use Rattle.pif_runq.specs.Masks.{ChangesBit, IsGreatestBit}
 

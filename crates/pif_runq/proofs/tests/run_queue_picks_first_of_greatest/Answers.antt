@@ -1,8 +1,8 @@
-use Rattle.std.proofs.Common.{◌≡◌, ◌∙◌, ℕ, ◌<◌, ◌≤◌, ◌+◌, List, [], ◌∷◌, length, replicate, map, Option, Some, IfSome, true, ap, refl, sym, arith}
+use Rattle.std.proofs.Common.{◌≡◌, ℕ, List, [], ◌∷◌, length, replicate, map, Option, Some, IfSome, ap, refl, arith}
 use Rattle.std.proofs.lemmas.List.{get_or-replicate, length-replicate}
-use Rattle.pif_nodes.specs.Lists.{has, without}
+use Rattle.pif_nodes.specs.Lists.{without}
 use Rattle.pif_nodes.specs.Table.{Table, IsApart, list_at}
-use Rattle.pif_runq.specs.Levels.{Queue, IsLevel, level_of, list_for, thread_for, HasRoom, Holds, IsQueued, joined, moved}
+use Rattle.pif_runq.specs.Levels.{Queue, IsLevel, level_of, list_for, thread_for, HasRoom, joined, moved}
 use Rattle.pif_runq.proofs.tests.run_queue_picks_first_of_greatest.Goals as goal
 
 -- each list of a new table is empty

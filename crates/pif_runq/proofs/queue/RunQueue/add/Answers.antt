@@ -1,8 +1,8 @@
-use Rattle.std.proofs.Common.{◌≡◌, ◌∙◌, ℕ, ap, sym, subst, arith}
-use Rattle.pif_nodes.specs.Lists.{has}
-use Rattle.pif_nodes.specs.Table.{Table, list_at, with_list}
+use Rattle.std.proofs.Common.{◌≡◌, ◌∙◌, ℕ, ap, subst, arith}
+use Rattle.std.proofs.lemmas.Grind.{common_steps}
+use Rattle.pif_nodes.specs.Table.{list_at}
 use Rattle.pif_nodes.proofs.ListLemmas.{last_of-has}
-use Rattle.pif_runq.specs.Levels.{IsLevel, list_for, node_for}
+use Rattle.pif_runq.specs.Levels.{IsLevel, list_for}
 use Rattle.pif_runq.specs.Masks.{ChangesBit}
 use Rattle.pif_runq.proofs.LevelLemmas.{appended, levels-joined, Holds-joined}
 use Rattle.pif_runq.proofs.queue.RunQueue.add.Goals as goal
@@ -10,7 +10,7 @@ use Rattle.pif_runq.proofs.queue.RunQueue.add.Goals as goal
 pub attach_after-requires-clause-place : goal.attach_after-requires-clause-place
 attach_after-requires-clause-place c = λ m h.
     c.requires.holds.apart.alone c.list_for-list.result m
-    (last_of-has (list_at c.args.table.now c.list_for-list.result) m (sym c.last-last.ensures.end ∙ h))
+    (last_of-has (list_at c.args.table.now c.list_for-list.result) m (grind (arith, common_steps)))
 
 pub returns-clause-levels : goal.returns-clause-levels
 returns-clause-levels c =

@@ -1,4 +1,4 @@
-use Rattle.std.proofs.Common.{◌≡◌, ◌∙◌, ◌≤◌, ◌+◌, ◌-◌, ap, subst, sym, arith}
+use Rattle.std.proofs.Common.{◌≡◌, ◌+◌, ◌-◌, ap, subst, arith}
 use Rattle.pif_runq.specs.Levels.{Queue, StandsOn}
 use Rattle.pif_runq.proofs.LevelLemmas.{queued_on, level_found, holder_some}
 use Rattle.pif_runq.proofs.queue.RunQueue.level_on.Goals as goal

@@ -1,4 +1,4 @@
-use Rattle.std.proofs.Common.{◌≡◌, ◌∙◌, ap, sym, arith}
+use Rattle.std.proofs.Common.{◌≢◌, ◌∙◌, ap, arith}
 use Rattle.pif_runq.specs.Levels.{IsLevel, joined}
 use Rattle.pif_runq.proofs.LevelLemmas.{moved-away, moved-nowhere}
 use Rattle.pif_runq.proofs.queue.RunQueue.move_to.Goals as goal
@@ -6,11 +6,12 @@ use Rattle.pif_runq.proofs.queue.RunQueue.move_to.Goals as goal
 pub returns-then-level_on-get-clause-levels : goal.returns-then-level_on-get-clause-levels
 returns-then-level_on-get-clause-levels c = λ p lp.
     let to : IsLevel c.args.prio = (omega arith, omega arith) in
+    let left : c.level_on.result ≢ c.args.prio = λ e. omega (arith, e) in
     c.add.ensures.levels p lp ∙ ap (joined c.args.t c.args.prio p) (c.take_out.ensures.levels p lp)
     ∙ moved-away c.args.self.now c.args.table.now c.args.t c.level_on.result c.args.prio p
-    c.requires.holds c.level_on.ensures (λ e. c.if-level_on-get.true (e ∙ sym c.get.ensures.value)) to
+    c.requires.holds c.level_on.ensures left to
 
 pub returns-else-level_on-get-clause-levels : goal.returns-else-level_on-get-clause-levels
 returns-else-level_on-get-clause-levels c = λ p lp.
     moved-nowhere c.args.self.now c.args.table.now c.args.t c.level_on.result c.args.prio p
-    c.requires.holds c.level_on.ensures (c.if-level_on-get.false ∙ c.get.ensures.value) lp
+    c.requires.holds c.level_on.ensures (omega arith) lp

@@ -1,7 +1,6 @@
-use Rattle.std.proofs.Common.{◌≡◌, ◌∙◌, ap, refl, sym, arith}
-use Rattle.pif_nodes.specs.Table.{list_at, holder, with_list}
-use Rattle.pif_nodes.specs.Lists.{without}
-use Rattle.pif_runq.specs.Levels.{list_for, node_for}
+use Rattle.std.proofs.Common.{◌∙◌, ap, refl, arith}
+use Rattle.pif_nodes.specs.Table.{list_at, holder}
+use Rattle.pif_runq.specs.Levels.{list_for}
 use Rattle.pif_runq.proofs.LevelLemmas.{taken, levels-taken, Holds-taken, bit_stands, some_by_first}
 use Rattle.pif_runq.proofs.queue.RunQueue.take_out.Goals as goal
 
