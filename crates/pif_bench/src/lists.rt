@@ -1,5 +1,6 @@
-ghost use Rattle.std.specs.Prelude.{◌≡◌, ◌≤◌, ◌<◌, IfOk};
-ghost use Rattle.pif_bench.specs.Filling.{IsReady};
+ghost use Rattle.std.specs.Prelude.{◌≡◌, ◌<◌, IfOk, Some, None, slice_set};
+ghost use Rattle.pif_nodes.specs.Table.{holder};
+ghost use Rattle.pif_bench.specs.Filling.{IsReady, IsFilled, IsEmptied, ChangesHolder, priority_of};
 
 use pif_nodes::{List, Node, NodeTable};
 use pif_plist::PList;
@@ -25,7 +26,9 @@ pub enum Priorities {
 }
 
 /// The priority of a node.
-fn priority_of(priorities: Priorities, node: u32) -> u32 {
+fn priority_of(priorities: Priorities, node: u32) -> u32
+    ensures { result ≡ priority_of priorities node }
+{
     match priorities {
         Priorities::Equal => 1,
         Priorities::Distinct => node,
@@ -49,15 +52,18 @@ pub fn nanoseconds_each(
 
 /// A table of one list, which is empty.
 fn new_table(alloc: Global) -> Result<NodeTable, NoMemory>
-    ensures { IfOk result IsReady }
+    ensures ready { IfOk result IsReady }
+    ensures empty { IfOk result (IsEmptied 1000) }
 {
     NodeTable::new(alloc, NODES, 1)
 }
 
-/// Inserts each node that is in no list.
+/// Inserts each node, none of which is in the list, with its priority.
 fn insert_all(table: &mut NodeTable, priorities: Priorities)
-    requires { IsReady table.old }
-    ensures { IsReady table.new }
+    requires ready { IsReady table.old }
+    requires empty { IsEmptied 1000 table.old }
+    ensures ready { IsReady table.new }
+    ensures filled { IsFilled priorities 1000 table.new }
 {
     for number in 0..NODES {
         insert_one(table, number, priority_of(priorities, number));
@@ -68,7 +74,10 @@ fn insert_all(table: &mut NodeTable, priorities: Priorities)
 fn insert_one(table: &mut NodeTable, number: u32, prio: u32)
     requires ready { IsReady table.old }
     requires node { number < 1000 }
-    ensures { IsReady table.new }
+    ensures ready { IsReady table.new }
+    ensures holders { ChangesHolder table.old table.new number (Some 0) }
+    ensures key { holder table.old number ≡ None
+        → table.new.keys ≡ slice_set table.old.keys number (record { prio = prio; ticket = number }) }
 {
     let node = Node::new(number);
     match table.list_of(node) {
@@ -80,7 +89,8 @@ fn insert_one(table: &mut NodeTable, number: u32, prio: u32)
 /// Removes each node that is in the list.
 fn remove_all(table: &mut NodeTable)
     requires { IsReady table.old }
-    ensures { IsReady table.new }
+    ensures ready { IsReady table.new }
+    ensures emptied { IsEmptied 1000 table.new }
 {
     for number in 0..NODES {
         remove_one(table, number);
@@ -91,7 +101,8 @@ fn remove_all(table: &mut NodeTable)
 fn remove_one(table: &mut NodeTable, number: u32)
     requires ready { IsReady table.old }
     requires node { number < 1000 }
-    ensures { IsReady table.new }
+    ensures ready { IsReady table.new }
+    ensures holders { ChangesHolder table.old table.new number None }
 {
     let node = Node::new(number);
     match table.list_of(node) {
