@@ -1,6 +1,8 @@
 pub mod HolderLemmas
 pub mod ListLemmas
 pub mod MoveLemmas
+pub mod ReadLemmas
 pub mod SeenLemmas
 pub mod TiesLemmas
 pub mod ViewLemmas
+pub mod WriteLemmas

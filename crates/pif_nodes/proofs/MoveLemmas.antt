@@ -1,6 +1,7 @@
 -- Lemmas on links that hold some lists, where a node is put into a list or taken out of one.
 use Rattle.std.proofs.Common.{◌≡◌, ℕ, ◌<◌, true, false, cond, eqb, List, [], ◌∷◌, ◌++◌, Option, Some, None, option_and_then, refl, sym, ◌∙◌, ap, subst, ⊎_elim, length, get_or, set}
 use Rattle.std.proofs.lemmas.Bool.{cases_eq, eq-eqb, ne_eqb, both_ways, false_from_ne_true}
+use Rattle.std.proofs.lemmas.Option.{same_Some}
 use Rattle.std.proofs.lemmas.List.{append_assoc, get_or-set_same, get_or-set_other}
 use Rattle.pif_nodes.specs.declared.links.Slot.{Slot}
 use Rattle.pif_nodes.specs.declared.links.Ends.{Ends}
@@ -9,7 +10,7 @@ use Rattle.pif_nodes.specs.Table.{list_with}
 use Rattle.pif_nodes.specs.Links.{slot_at, follower_of, linked, ends_linked, unlinked, ends_unlinked, Ties}
 use Rattle.pif_nodes.proofs.ListLemmas.{put_move, take_move, has_split, has-right, has-head, HasNoRepeats-put, HasNoRepeats-taken, has-neither, next_in-split, prev_from-split, put_after-split, without-split, last_or-append, has-put}
 use Rattle.pif_nodes.proofs.HolderLemmas.{list_with-put, list_with-none, list_with-has, list_with-absent, list_with-within, list_with-same}
-use Rattle.pif_nodes.proofs.TiesLemmas.{Ties-moved, some_same}
+use Rattle.pif_nodes.proofs.TiesLemmas.{Ties-moved}
 
 -- links hold the new lists, and each other node is in the list in which it was
 pub record Holds (ns : List Slot) (es : List Ends) (was now : List (List ℕ)) (n : ℕ) (list : Option ℕ) : Type 0 where
@@ -86,7 +87,7 @@ take_between ns es ls l n front back t n_in held at =
     let absent : has n (front ++ back) ≡ false = has-neither n front back parts.1 parts.2 in
     let nowhere : (k : ℕ) → has n (get_or (set ls l (front ++ back)) k []) ≡ false = λ k. false_from_ne_true (has n (get_or (set ls l (front ++ back)) k [])) (λ h.
     let wrong : None ≡ Some k = only_here ls l n k (front ++ back) None l_in
-    (λ j ne g. absurd (ne (some_same j l (sym (t.alone j n g) ∙ held)))) (λ g. absurd (both_ways (has n (front ++ back)) absent g)) h in cc) in
+    (λ j ne g. absurd (ne (same_Some j l (sym (t.alone j n g) ∙ held)))) (λ g. absurd (both_ways (has n (front ++ back)) absent g)) h in cc) in
     let mine : list_with (set ls l (front ++ back)) n ≡ None = list_with-absent (set ls l (front ++ back)) n nowhere in
     record {
       ties = Ties-moved ns es ls l n (front ++ n ∷ back) (front ++ back) (last_of front) (first_of back) (first_of back) (last_of front) None None None

@@ -2,6 +2,7 @@
 use Rattle.std.proofs.Common.{◌≡◌, ℕ, ◌<◌, true, List, [], Option, Some, None, option_and_then, refl, sym, ◌∙◌, ap, subst, ⊎_elim, arith, length, get_or, set, IsSome}
 use Rattle.std.proofs.Math.Seq.{set_out}
 use Rattle.std.proofs.lemmas.Bool.{cases_eq, cases_lt}
+use Rattle.std.proofs.lemmas.Option.{same_Some}
 use Rattle.std.proofs.lemmas.List.{get_or-set_same, get_or-set_other, get_or_past, length-set}
 use Rattle.pif_nodes.specs.declared.links.Slot.{Slot}
 use Rattle.pif_nodes.specs.declared.links.Ends.{Ends}
@@ -21,14 +22,6 @@ kept f xs i y d m same = ⊎_elim
     (λ ne. ap f (get_or-set_other xs i m y d ne))
     (cases_eq m i)
 
--- the value of an option, if there is one
-pub option_cases : {X : Type 0} (P : Type 0) (o : Option X) → (o ≡ None → P) → ((x : X) → o ≡ Some x → P) → P
-option_cases P None if_none if_some = if_none refl
-option_cases P (Some x) if_none if_some = if_some x refl
-
-pub some_same : (a b : ℕ) → Some a ≡ Some b → a ≡ b
-some_same a b h = cc
-
 -- what an option that is some has
 pub some_of : (o : Option ℕ) → IsSome o → (m : ℕ) × (o ≡ Some m)
 some_of None h = absurd cc
@@ -37,7 +30,7 @@ some_of (Some m) h = (m, refl)
 -- what is `Some m` or is not
 pub some_cases : (o : Option ℕ) (m : ℕ) (P : Type 0) → (o ≡ Some m → P) → ((o ≡ Some m → ⊥) → P) → P
 some_cases None m P same other = other (λ h. cc)
-some_cases (Some k) m P same other = ⊎_elim (λ e. same (ap Some e)) (λ ne. other (λ h. ne (some_same k m h))) (cases_eq k m)
+some_cases (Some k) m P same other = ⊎_elim (λ e. same (ap Some e)) (λ ne. other (λ h. ne (same_Some k m h))) (cases_eq k m)
 
 -- a new `next` leaves the other fields
 pub with_next_list : (ns : List Slot) (p to : Option ℕ) (m : ℕ) → (slot_at (with_next ns p to) m).list ≡ (slot_at ns m).list
@@ -52,7 +45,7 @@ with_next_prev ns (Some p) to m = kept (λ s. s.prev) ns p (record (slot_at ns p
 pub with_next_at : (ns : List Slot) (p to : Option ℕ) (m : ℕ) → p ≡ Some m → m < length ns → (slot_at (with_next ns p to) m).next ≡ to
 with_next_at ns None to m e l = absurd cc
 with_next_at ns (Some p) to m e l =
-    let at : p ≡ m = some_same p m e in
+    let at : p ≡ m = same_Some p m e in
     subst (λ (k : ℕ). (slot_at (with_next ns (Some k) to) m).next ≡ to) (sym at)
     (ap (λ (s : Slot). s.next) (get_or-set_same ns m (record (slot_at ns m) { next = to }) free_slot l))
 
@@ -77,17 +70,13 @@ with_prev_next ns (Some p) to m = kept (λ s. s.next) ns p (record (slot_at ns p
 pub with_prev_at : (ns : List Slot) (p to : Option ℕ) (m : ℕ) → p ≡ Some m → m < length ns → (slot_at (with_prev ns p to) m).prev ≡ to
 with_prev_at ns None to m e l = absurd cc
 with_prev_at ns (Some p) to m e l =
-    let at : p ≡ m = some_same p m e in
+    let at : p ≡ m = same_Some p m e in
     subst (λ (k : ℕ). (slot_at (with_prev ns (Some k) to) m).prev ≡ to) (sym at)
     (ap (λ (s : Slot). s.prev) (get_or-set_same ns m (record (slot_at ns m) { prev = to }) free_slot l))
 
 pub with_prev_other : (ns : List Slot) (p to : Option ℕ) (m : ℕ) → (p ≡ Some m → ⊥) → (slot_at (with_prev ns p to) m).prev ≡ (slot_at ns m).prev
 with_prev_other ns None to m other = refl
 with_prev_other ns (Some p) to m other = ap (λ (s : Slot). s.prev) (get_or-set_other ns p m (record (slot_at ns p) { prev = to }) free_slot (λ e. other (ap Some (sym e))))
-
-pub length-with_prev : (ns : List Slot) (p to : Option ℕ) → length (with_prev ns p to) ≡ length ns
-length-with_prev ns None to = refl
-length-with_prev ns (Some p) to = length-set ns p (record (slot_at ns p) { prev = to })
 
 -- new ends: the other end stays, and so do the ends of other lists
 pub with_first_last : (es : List Ends) (l : ℕ) (p to : Option ℕ) (k : ℕ) → (ends_at (with_first es l p to) k).last ≡ (ends_at es k).last
@@ -147,7 +136,7 @@ at_here : (f : List ℕ → ℕ → Option ℕ) (ls : List (List ℕ)) (l : ℕ)
     option_and_then (λ k. f (get_or (set ls l now) k []) m) o ≡ f now m
 at_here f ls l now m None l_in e = absurd cc
 at_here f ls l now m (Some k) l_in e =
-    let at : k ≡ l = some_same k l e in
+    let at : k ≡ l = same_Some k l e in
     ap (λ j. f (get_or (set ls l now) j []) m) at ∙ ap (λ zs. f zs m) (get_or-set_same ls l now [] l_in)
 
 -- a list of the table changes from `was` to `now`, and one node, n, gets another place: the links hold the new lists

@@ -98,6 +98,7 @@ impl NodeTable {
     }
 
     /// The node after `node` in its list. `None` where it is the last, or in no list.
+    #[tactic(auto, using(crate::proofs::ReadLemmas::reads))]
     pub fn next(&self, node: Node) -> Option<Node>
         requires { node < length self.now.keys }
         ensures neighbour { result ≡ next_of self.now node }
@@ -108,6 +109,7 @@ impl NodeTable {
     }
 
     /// The node before `node` in its list. `None` where it is the first, or in no list.
+    #[tactic(auto, using(crate::proofs::ReadLemmas::reads))]
     pub fn prev(&self, node: Node) -> Option<Node>
         requires { node < length self.now.keys }
         ensures neighbour { result ≡ prev_of self.now node }
@@ -118,6 +120,7 @@ impl NodeTable {
     }
 
     /// The first node of `list`. `None` where it is empty.
+    #[tactic(auto, using(crate::proofs::ReadLemmas::reads))]
     pub fn first(&self, list: List) -> Option<Node>
         requires { list < length self.now.lists }
         ensures end { result ≡ first_of (list_at self.now list) }
@@ -128,6 +131,7 @@ impl NodeTable {
     }
 
     /// The last node of `list`. `None` where it is empty.
+    #[tactic(auto, using(crate::proofs::ReadLemmas::reads))]
     pub fn last(&self, list: List) -> Option<Node>
         requires { list < length self.now.lists }
         ensures end { result ≡ last_of (list_at self.now list) }
@@ -138,6 +142,7 @@ impl NodeTable {
     }
 
     /// The list in which `node` is. `None` where it is in no list.
+    #[tactic(auto, using(crate::proofs::ReadLemmas::reads))]
     pub fn list_of(&self, node: Node) -> Option<List>
         requires { node < length self.now.keys }
         ensures holder { result ≡ holder self.now node }
@@ -148,6 +153,7 @@ impl NodeTable {
     }
 
     /// The key of `node`.
+    #[tactic(auto, using(crate::proofs::ReadLemmas::reads))]
     pub fn key(&self, node: Node) -> Key
         requires { node < length self.now.keys }
         ensures { result ≡ key_at self.now node }
