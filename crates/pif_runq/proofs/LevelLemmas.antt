@@ -3,11 +3,12 @@ use Rattle.std.proofs.Common.{◌≡◌, ℕ, ◌+◌, ◌-◌, ◌≤◌, ◌�
 use Rattle.std.proofs.lemmas.List.{get_or-set_same, map-append}
 use Rattle.std.proofs.lemmas.Bool.{or_left, or_right, or_cases, eq-eqb, ne_eqb, eqb-true, cases_Bool, cases_eq, false_from_ne_true}
 use Rattle.std.proofs.lemmas.Nat.Bits.{bit_at-lt}
+use Rattle.std.proofs.lemmas.Option.{same_Some}
 use Rattle.std.specs.Int.{bit_at}
 use Rattle.std.specs.Option.{is_some}
 use Rattle.pif_nodes.specs.Lists.{has, first_of, last_or, last_of, put_after, insert_after, without, HasNoRepeats}
 use Rattle.pif_nodes.specs.Table.{Table, list_at, holder, with_list, IsApart}
-use Rattle.pif_nodes.proofs.ListLemmas.{has-head, has-append, last_split, first_of-has, put_after-split, HasNoRepeats-taken, without_absent}
+use Rattle.pif_nodes.proofs.ListLemmas.{has-head, has-append, last_some, last_split, first_of-has, put_after-split, HasNoRepeats-taken, without_absent}
 use Rattle.pif_runq.specs.Levels.{Queue, IsLevel, list_for, node_for, thread_for, IsThreadNode, level_of, Holds, IsQueued, StandsOn, IsFirstOfGreatest, joined, moved, SameOutside}
 use Rattle.pif_runq.specs.Masks.{ChangesBit, IsGreatestBit}
 
@@ -49,11 +50,6 @@ threads-some q u (x ∷ xs) h = ⊎_elim
     (λ e. omega (arith, eqb-true u (thread_for q x) e))
     (λ e. threads-some q u xs e)
     (or_cases (eqb u (thread_for q x)) (has u (map (thread_for q) xs)) h)
-
--- a list that is not empty has a last number
-last_some : (before : Option ℕ) (x : ℕ) (xs : List ℕ) → last_or before (x ∷ xs) ≡ None → ⊥
-last_some before x [] h = cc
-last_some before x (y ∷ ys) h = last_some (Some x) y ys h
 
 -- what is put in after the last stands at the end
 insert_after-found : (x : ℕ) (xs : List ℕ) (n : ℕ) (last : Option ℕ) → HasNoRepeats (x ∷ xs) → last_or None (x ∷ xs) ≡ last → insert_after last n (x ∷ xs) ≡ (x ∷ xs) ++ n ∷ []
@@ -180,15 +176,12 @@ queued_on q t u holds queued =
       held = holds.apart.alone (list_for q p) (node_for q u) listed;
     }
 
-some_same : (a b : ℕ) → Some a ≡ Some b → a ≡ b
-some_same a b e = cc
-
 -- the level that the list of the node of u names
 pub level_found : (q : Queue) (t : Table) (u list node : ℕ) (found : Option ℕ) → Holds q t → IsQueued q t u → node ≡ node_for q u → found ≡ holder t node → found ≡ Some list →
     (q.first_list ≤ list) × StandsOn q t u (list - q.first_list + 1)
 level_found q t u list node found holds queued at_node held e =
     let stands = queued_on q t u holds queued in
-    let at : list ≡ list_for q queued.0 = some_same list (list_for q queued.0) (sym e ∙ held ∙ ap (holder t) at_node ∙ stands.held) in
+    let at : list ≡ list_for q queued.0 = same_Some list (list_for q queued.0) (sym e ∙ held ∙ ap (holder t) at_node ∙ stands.held) in
     let level : queued.0 ≡ list - q.first_list + 1 = omega (arith, stands.is_level.0) in
     (omega arith, subst (StandsOn q t u) level stands)
 
@@ -204,7 +197,7 @@ absent_elsewhere q t u p r holds stands lr ne =
     has-threads q u xs stands.some (λ n h. (holds.threads r n lr h).0)
     ∙ false_from_ne_true (has (node_for q u) xs) (λ h.
     let two = sym (holds.apart.alone (list_for q r) (node_for q u) h) ∙ stands.held in
-    ne (same_level q r p lr stands.is_level (some_same (list_for q r) (list_for q p) two)))
+    ne (same_level q r p lr stands.is_level (same_Some (list_for q r) (list_for q p) two)))
 
 -- the table once the node of u was taken out
 pub taken : (q : Queue) (t now : Table) (u p list node : ℕ) → list ≡ list_for q p → node ≡ node_for q u →
@@ -271,7 +264,7 @@ some_by_first (x ∷ xs) first e some none = cc
 -- the thread of the first of some nodes is the first of their threads
 first_of-threads : (q : Queue) (xs : List ℕ) (n : ℕ) → first_of xs ≡ Some n → first_of (map (thread_for q) xs) ≡ Some (thread_for q n)
 first_of-threads q [] n e = absurd cc
-first_of-threads q (x ∷ xs) n e = ap (λ (k : ℕ). Some (thread_for q k)) (some_same x n e)
+first_of-threads q (x ∷ xs) n e = ap (λ (k : ℕ). Some (thread_for q k)) (same_Some x n e)
 
 -- the first node of the greatest level is that of a thread
 pub first_node-thread : (q : Queue) (t : Table) (level n : ℕ) → Holds q t → IsGreatestBit q.mask level → first_of (list_at t (list_for q level)) ≡ Some n → IsThreadNode q n
