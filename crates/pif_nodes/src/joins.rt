@@ -46,7 +46,7 @@ fn set_place(nodes: &mut [Slot], node: u32, list: Option<u32>, prev: Option<u32>
 }
 
 /// The node after `place`, or the first of the list where no place is given.
-pub fn follower(nodes: &[Slot], ends: &[Ends], list: u32, place: Option<u32>) -> Option<u32>
+pub(crate) fn follower(nodes: &[Slot], ends: &[Ends], list: u32, place: Option<u32>) -> Option<u32>
     requires list_in { list < length ends.now }
     requires place_in { ForSome place (λ p. p < length nodes.now) }
     ensures { result ≡ follower_of nodes.now ends.now list place }
@@ -58,7 +58,7 @@ pub fn follower(nodes: &[Slot], ends: &[Ends], list: u32, place: Option<u32>) ->
 }
 
 /// Puts a node into a list, between two neighbours.
-pub fn link(
+pub(crate) fn link(
     nodes: &mut [Slot],
     ends: &mut [Ends],
     list: u32,
@@ -79,7 +79,7 @@ pub fn link(
 }
 
 /// Takes a node out of a list, from between its two neighbours.
-pub fn unlink(
+pub(crate) fn unlink(
     nodes: &mut [Slot],
     ends: &mut [Ends],
     list: u32,
@@ -100,7 +100,7 @@ pub fn unlink(
 }
 
 /// Gives a node another key. Its list and its neighbours stay.
-pub fn rename(nodes: &mut [Slot], node: u32, prio: u32, ticket: u64)
+pub(crate) fn rename(nodes: &mut [Slot], node: u32, prio: u32, ticket: u64)
     requires { node < length nodes.old }
     ensures { nodes.new ≡ with_slot_key nodes.old node prio ticket }
 {
