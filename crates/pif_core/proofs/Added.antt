@@ -5,7 +5,6 @@ use Rattle.pif_model.specs.declared.lines.Line.TheVariants.{Idle}
 use Rattle.pif_model.specs.declared.lines.Status.TheVariants.{Ready}
 use Rattle.pif_model.specs.declared.lines.Woken.TheVariants.{Fresh}
 use Rattle.pif_model.specs.Table.{Table, has_thread_room, has_mutex_room, thread_added, mutex_added}
-use Rattle.pif_model.specs.Posix.{mutex_room}
 use Rattle.pif_model.specs.Standing.{IsSound}
 use Rattle.pif_simulation.proofs.Additions.{thread_added_simulated, mutex_added_simulated}
 use Rattle.pif_core.proofs.Greatest.{not_lt}
@@ -15,8 +14,8 @@ pub thread_room : (s : Table) → length s.rows ≤ s.limits.threads → has_thr
 thread_room s le = ap (λ (b : Bool). if b then false else true) (not_lt s.limits.threads (length s.rows) le)
 
 -- room for one more mutex
-pub mutex_room_left : (s : Table) → length s.cells ≤ mutex_room s.limits → has_mutex_room s ≡ true
-mutex_room_left s le = ap (λ (b : Bool). if b then false else true) (not_lt (mutex_room s.limits) (length s.cells) le)
+pub mutex_room_left : (s : Table) → length s.cells ≤ s.limits.mutexes → has_mutex_room s ≡ true
+mutex_room_left s le = ap (λ (b : Bool). if b then false else true) (not_lt s.limits.mutexes (length s.cells) le)
 
 -- a row, and then an entry of the run queue, make a new thread
 pub thread_from_writes : (s a b : Table) (t p : ℕ)
@@ -32,5 +31,5 @@ thread_from_writes s a b t p first second is =
 pub thread_sound : (s b : Table) (p : ℕ) → IsSound s → length s.rows ≤ s.limits.threads → 1 ≤ p → p ≤ 99 → b ≡ thread_added p s → IsSound b
 thread_sound s b p h le low high e = subst IsSound (sym e) (thread_added_simulated s p h (thread_room s le) low high).0
 
-pub mutex_sound : (s b : Table) (k : Kind) → IsSound s → length s.cells ≤ mutex_room s.limits → b ≡ mutex_added k false s → IsSound b
+pub mutex_sound : (s b : Table) (k : Kind) → IsSound s → length s.cells ≤ s.limits.mutexes → b ≡ mutex_added k false s → IsSound b
 mutex_sound s b k h le e = subst IsSound (sym e) (mutex_added_simulated s k h (mutex_room_left s le)).0

@@ -1,5 +1,5 @@
 -- The table's cells, by the rows of the mutexes and their words.
-use Rattle.std.proofs.Common.{◌≡◌, ℕ, zero, suc, ◌+◌, ◌<◌, ◌≤◌, List, [], ◌∷◌, ◌++◌, length, get_or, set, refl, sym, ap, subst, ◌∙◌, Bool, true, false, ◌==◌, if◌then◌else◌, replicate, min, nat_lt, add-one, Result, Ok, Err, is_ok, arith}
+use Rattle.std.proofs.Common.{◌≡◌, ℕ, zero, suc, ◌+◌, ◌<◌, ◌≤◌, List, [], ◌∷◌, ◌++◌, length, get_or, set, refl, sym, ap, subst, ◌∙◌, Bool, true, false, ◌==◌, if◌then◌else◌, replicate, nat_lt, add-one, Result, Ok, Err, is_ok, arith}
 use Rattle.std.proofs.lemmas.List.{set_past}
 use Rattle.std.proofs.lemmas.Bool.Decides.{nat_tests}
 use Rattle.pif_model.specs.Word.{word_of, free_word}
@@ -125,8 +125,8 @@ pub cells_of-push_free : (ms : List Mutex) (ws : List ℕ) (m : Mutex) (k : ℕ)
 unfolding word_of
 cells_of-push_free ms ws m k e lt = cells_of-push ms ws m k 0 e lt
 
-few_below : (m l n : ℕ) → m ≤ l → (if nat_lt m n then false else true) ≡ true → n ≤ l
-few_below m l n le = λ e. grind (arith, nat_tests)
+few_below : (l n : ℕ) → (if nat_lt l n then false else true) ≡ true → n ≤ l
+few_below l n e = grind (arith, nat_tests)
 
 -- room for one more mutex
 pub few_cells : (a : Inside) (s : Table) → IsRoomy a → table_of a ≡ s → has_mutex_room s ≡ true → length a.mutexes.items ≤ a.limits.mutexes
@@ -134,7 +134,7 @@ few_cells a s roomy is room =
     let le : length a.mutexes.items ≤ length a.words.mutexes = omega (arith, roomy.words, roomy.few_mutexes) in
     let same : length (cells_of a.mutexes.items a.words.mutexes) ≡ length a.mutexes.items = length-cells_of a.mutexes.items a.words.mutexes le in
     let P : Table → Type 0 = λ t. has_mutex_room t ≡ true in
-    few_below (min 1 a.limits.mutexes) a.limits.mutexes _ (omega arith) (rw same at (subst P (sym is) room))
+    few_below a.limits.mutexes _ (rw same at (subst P (sym is) room))
 
 -- the next number, by the rows
 pub next_cell : (a : Inside) (s : Table) (k : ℕ) → IsRoomy a → table_of a ≡ s → k ≡ length s.cells → k ≡ length a.mutexes.items

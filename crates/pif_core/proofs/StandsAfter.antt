@@ -6,7 +6,7 @@ use Rattle.pif_model.specs.declared.events.Event.{Event}
 use Rattle.pif_model.specs.declared.events.Seen.{Seen}
 use Rattle.pif_model.specs.declared.events.Entry.{Entry}
 use Rattle.pif_model.specs.declared.events.Entry.TheVariants.{Thread as AddThread, Mutex as AddMutex, Step as Happened}
-use Rattle.pif_model.specs.Posix.{World, IsLegal, mutex_room}
+use Rattle.pif_model.specs.Posix.{World, IsLegal}
 use Rattle.pif_model.specs.History.{AlwaysOneHolder}
 use Rattle.pif_model.specs.Table.{Table, has_thread, thread_added, mutex_added, kernel_effective}
 use Rattle.pif_model.specs.Lines.{Outcome, stepped}
@@ -40,7 +40,7 @@ thread_stands s v t p base after is same le low high h r st =
     rw (after, is, ← same) (thread_added_stands s base h r st (thread_room s le) low high)
 
 -- after an addition of a mutex
-pub mutex_stands : (s v : Table) (m : ℕ) (k : Kind) (robust : Bool) → v ≡ mutex_added k false s → m ≡ length s.cells → robust ≡ false → length s.cells ≤ mutex_room s.limits
+pub mutex_stands : (s v : Table) (m : ℕ) (k : Kind) (robust : Bool) → v ≡ mutex_added k false s → m ≡ length s.cells → robust ≡ false → length s.cells ≤ s.limits.mutexes
     → (h : List Entry) (r : List World) → Stands s h r → Stands v (AddMutex m k robust ∷ h) (world_of s ∷ r)
 mutex_stands s v m k robust after is stalled le h r st =
     rw (after, is, stalled) (mutex_added_stands s k h r st (mutex_room_left s le))

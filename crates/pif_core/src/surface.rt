@@ -77,7 +77,7 @@ impl Core {
     {
         let _stalled = robust;
         let count = self.state.mutex_count();
-        if count > self.state.limits().mutexes().min(1) {
+        if count > self.state.limits().mutexes() {
             return Err(AddFault::TooMany);
         }
         let mutex = MutexId::new(count).ok_or(AddFault::TooMany)?;

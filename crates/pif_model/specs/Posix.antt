@@ -2,7 +2,7 @@
 -- pthread_mutex_lock, pthread_mutexattr_settype, pthread_mutexattr_setprotocol and pthread_mutexattr_setrobust).
 -- It knows no words, no kernel and no chain walks. A call has effects, each of which happens at one moment between
 -- its beginning and its answer. Threads and mutexes are numbered from 1; place 0 of each list stands for nobody.
-use Rattle.std.specs.Prelude.{ℕ, ◌≡◌, ◌≢◌, ◌≤◌, ◌+◌, Bool, true, false, ◌==◌, nat_lt, nat_le, min, List, [], ◌∷◌, ◌++◌, length, get_or, set, Option, Some, None, is_some, if◌then◌else◌}
+use Rattle.std.specs.Prelude.{ℕ, ◌≡◌, ◌≢◌, ◌≤◌, ◌+◌, Bool, true, false, ◌==◌, nat_lt, nat_le, List, [], ◌∷◌, ◌++◌, length, get_or, set, Option, Some, None, is_some, if◌then◌else◌}
 use Rattle.std.specs.List.{list_any}
 use Rattle.pif_types.specs.Bounds.{Bounds}
 use Rattle.pif_types.specs.declared.errors.Refusal.{Refusal}
@@ -216,17 +216,13 @@ abbrev pub refusal_of : World → Event → Option Refusal
 refusal_of w (Begin t q) = begin_refused (is_thread w t) (is_some (thread_at w t).call) (is_mutex w (named_by q))
 refusal_of w (Go t) = go_refused (is_thread w t) (is_some (thread_at w t).call)
 
--- how many mutexes may be added: one at most until the kernel serves chains
-abbrev pub mutex_room : Bounds → ℕ
-mutex_room l = min 1 l.mutexes
-
 -- one entry of a history, from w to v, under the limits l
 pub data Step (l : Bounds) (w : World) (e : Entry) (v : World) : Type 0 where
   -- the next number, within the limit, and a priority within 1 to 99
   thread_added : (t p : ℕ) → e ≡ AddThread t p → t ≡ length w.threads → t ≤ l.threads → 1 ≤ p → p ≤ 99
       → v ≡ record w { threads = w.threads ++ record { base = p; living = true; call = None } ∷ [] } → Step l w e v
   -- the next number, within the limit
-  mutex_added : (m : ℕ) (k : Kind) (r : Bool) → e ≡ AddMutex m k r → m ≡ length w.mutexes → m ≤ mutex_room l
+  mutex_added : (m : ℕ) (k : Kind) (r : Bool) → e ≡ AddMutex m k r → m ≡ length w.mutexes → m ≤ l.mutexes
       → v ≡ record w { mutexes = w.mutexes ++ record { kind = k; robust = r; owner = 0; count = 1; health = Fine } ∷ [] } → Step l w e v
   -- a refused event changes nothing
   refused : (x : Event) (r : Refusal) → e ≡ Happened x (Refused r) → refusal_of w x ≡ Some r → v ≡ w → Step l w e v

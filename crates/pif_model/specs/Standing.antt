@@ -1,5 +1,5 @@
 -- What it means that a core stands after a history.
-use Rattle.std.specs.Prelude.{ℕ, ◌≡◌, ◌≢◌, ◌≤◌, ◌+◌, ◌⊎◌, ⊤, Bool, true, false, ◌==◌, nat_lt, min, List, [], ◌∷◌, ◌++◌, length, get_or, map, Option, Some, None, if◌then◌else◌, eqb}
+use Rattle.std.specs.Prelude.{ℕ, ◌≡◌, ◌≢◌, ◌≤◌, ◌+◌, ◌⊎◌, ⊤, Bool, true, false, ◌==◌, nat_lt, List, [], ◌∷◌, ◌++◌, length, get_or, map, Option, Some, None, if◌then◌else◌, eqb}
 use Rattle.std.specs.List.{list_any, IsDistinct}
 use Rattle.pif_types.specs.Bounds.{Bounds}
 use Rattle.pif_types.specs.declared.requests.Kind.TheVariants.{Normal, ErrorCheck}
@@ -15,7 +15,7 @@ use Rattle.pif_model.specs.declared.lines.Status.TheVariants.{Ready, Queued, Sto
 use Rattle.pif_model.specs.declared.lines.Woken.TheVariants.{Fresh as WokenFresh, Owns as WokenOwns}
 use Rattle.pif_model.specs.Graph.{waited_by, has_waiter, IsEffective}
 use Rattle.pif_model.specs.Word.{Word, free_word}
-use Rattle.pif_model.specs.Posix.{Health, Progress, Call, Thread, Mutex, World, WaitsFor, IsRun, mutex_room, thread_at, mutex_at, is_thread, rests, effective_of}
+use Rattle.pif_model.specs.Posix.{Health, Progress, Call, Thread, Mutex, World, WaitsFor, IsRun, thread_at, mutex_at, is_thread, rests, effective_of}
 use Rattle.pif_model.specs.Posix.Health.{Fine, Inconsistent, Unusable}
 use Rattle.pif_model.specs.Posix.Progress.{Fresh, Waiting, Stuck, Leaving, Has}
 use Rattle.pif_model.specs.Table.{Table, Row, Cell, no_row, no_cell, row_at, cell_at, has_thread, has_mutex, is_ready, queued_on, kernel_effective}
@@ -123,7 +123,7 @@ pub record IsSound (s : Table) : Type 0 where
   pub some_row : 1 ≤ length s.rows
   pub some_cell : 1 ≤ length s.cells
   pub few_rows : length s.rows ≤ s.limits.threads + 1
-  pub few_cells : length s.cells ≤ mutex_room s.limits + 1
+  pub few_cells : length s.cells ≤ s.limits.mutexes + 1
   pub rows : (t : ℕ) → has_thread s t ≡ true → RowIsSound s t (row_at s t)
   pub cells : (m : ℕ) → has_mutex s m ≡ true → CellIsSound s m (cell_at s m)
   -- a thread is queued where its status says, once

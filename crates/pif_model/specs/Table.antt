@@ -1,6 +1,6 @@
 -- The state of the table machine: words, the library's private rows, and the kernel.
 -- Threads and mutexes are numbered from 1; place 0 of each list stands for nobody.
-use Rattle.std.specs.Prelude.{ℕ, ◌≡◌, ◌≤◌, ◌+◌, Bool, true, false, ◌==◌, nat_lt, min, List, [], ◌∷◌, ◌++◌, length, get_or, set, map, Option, Some, None, if◌then◌else◌}
+use Rattle.std.specs.Prelude.{ℕ, ◌≡◌, ◌≤◌, ◌+◌, Bool, true, false, ◌==◌, nat_lt, List, [], ◌∷◌, ◌++◌, length, get_or, set, map, Option, Some, None, if◌then◌else◌}
 use Rattle.std.specs.List.{filter}
 use Rattle.pif_types.specs.Bounds.{Bounds}
 use Rattle.pif_types.specs.declared.requests.Kind.{Kind}
@@ -14,7 +14,7 @@ use Rattle.pif_model.specs.declared.lines.Status.TheVariants.{Ready, Queued, Sto
 use Rattle.pif_model.specs.declared.lines.Woken.TheVariants.{Fresh as WokenFresh, Owns as WokenOwns}
 use Rattle.pif_model.specs.Graph.{effective_among, first_greatest, without}
 use Rattle.pif_model.specs.Word.{Word, free_word}
-use Rattle.pif_model.specs.Posix.{Health, mutex_room}
+use Rattle.pif_model.specs.Posix.{Health}
 use Rattle.pif_model.specs.Posix.Health.{Fine, Inconsistent, Unusable}
 
 -- a thread: what library and kernel know of it
@@ -156,4 +156,4 @@ has_thread_room s = if nat_lt s.limits.threads (length s.rows) then false else t
 
 -- whether one more mutex may be added
 abbrev pub has_mutex_room : Table → Bool
-has_mutex_room s = if nat_lt (mutex_room s.limits) (length s.cells) then false else true
+has_mutex_room s = if nat_lt s.limits.mutexes (length s.cells) then false else true

@@ -14,7 +14,7 @@ use Rattle.pif_model.specs.declared.lines.Status.TheVariants.{Ready, Queued, Sto
 use Rattle.pif_model.specs.declared.lines.Woken.TheVariants.{Fresh as WokenFresh}
 use Rattle.pif_model.specs.Graph.{has_waiter, waited_by, effective_among}
 use Rattle.pif_model.specs.Word.{free_word}
-use Rattle.pif_model.specs.Posix.{Step, empty_world, mutex_room}
+use Rattle.pif_model.specs.Posix.{Step, empty_world}
 use Rattle.pif_model.specs.Posix.Step.{thread_added as thread_was_added, mutex_added as mutex_was_added}
 use Rattle.pif_model.specs.Posix.Health.{Fine}
 use Rattle.pif_model.specs.Table.{Table, Row, Cell, no_row, no_cell, new_table, row_at, cell_at, has_thread, has_mutex, is_ready, queued_on, kernel_waits_for, kernel_effective, thread_added, mutex_added, has_thread_room, has_mutex_room}
@@ -353,7 +353,7 @@ module _ (s : Table) (k : Kind) (h : IsSound s) where
     some_row = h.some_row;
     some_cell = omega (arith, h.some_cell, length_push s.cells new_cell);
     few_rows = h.few_rows;
-    few_cells = omega (arith, has_room (mutex_room s.limits) (length s.cells) room, length_push s.cells new_cell);
+    few_cells = omega (arith, has_room s.limits.mutexes (length s.cells) room, length_push s.cells new_cell);
     rows = λ u e. old u (h.rows u e);
     cells = λ m e. each_new_cell (λ m c. CellIsSound (mutex_added k false s) m c) new_cell_sound m (λ d. cell_outlives s (mutex_added k false s) m (cell_at s m) refl refl (h.cells m (mutex_was_there m d e)));
     queue = h.queue;
@@ -388,6 +388,6 @@ pub mutex_added_simulated : (s : Table) (k : Kind) → IsSound s → has_mutex_r
     → IsSound (mutex_added k false s) × Step s.limits (world_of s) (AddMutex (length s.cells) k false) (world_of (mutex_added k false s))
 mutex_added_simulated s k h room = (
   mutex_added_sound s k h room,
-  mutex_was_added (length s.cells) k false refl (sym (length-map s.cells mutex_of)) (has_room (mutex_room s.limits) (length s.cells) room)
+  mutex_was_added (length s.cells) k false refl (sym (length-map s.cells mutex_of)) (has_room s.limits.mutexes (length s.cells) room)
       (λ i. record (world_of s) { mutexes = map-append mutex_of s.cells (record { kind = k; robust = false; word = free_word; health = Fine; count = 1; state = 0 } ∷ []) i }),
 )
