@@ -6,7 +6,7 @@ use Rattle.pif_model.specs.declared.lines.Status.TheVariants.{Ready}
 use Rattle.pif_model.specs.declared.lines.Woken.TheVariants.{Fresh}
 use Rattle.pif_model.specs.Table.{Table, has_thread_room, has_mutex_room, thread_added, mutex_added}
 use Rattle.pif_model.specs.Standing.{IsSound}
-use Rattle.pif_simulation.proofs.Additions.{thread_added_simulated, mutex_added_simulated}
+use Rattle.pif_simulation.proofs.Additions.{thread_added_sound, mutex_added_sound}
 use Rattle.pif_core.proofs.Greatest.{not_lt}
 
 -- room for one more thread
@@ -28,8 +28,8 @@ thread_from_writes s a b t p first second is =
       ready = s.ready ++ (k, p) ∷ [];
     }) is
 
-pub thread_sound : (s b : Table) (p : ℕ) → IsSound s → length s.rows ≤ s.limits.threads → 1 ≤ p → p ≤ 99 → b ≡ thread_added p s → IsSound b
-thread_sound s b p h le low high e = subst IsSound (sym e) (thread_added_simulated s p h (thread_room s le) low high).0
+pub thread_sound : (s b : Table) (p : ℕ) → IsSound s → length s.rows ≤ s.limits.threads → b ≡ thread_added p s → IsSound b
+thread_sound s b p h le e = subst IsSound (sym e) (thread_added_sound s p h (thread_room s le))
 
 pub mutex_sound : (s b : Table) (k : Kind) → IsSound s → length s.cells ≤ s.limits.mutexes → b ≡ mutex_added k false s → IsSound b
-mutex_sound s b k h le e = subst IsSound (sym e) (mutex_added_simulated s k h (mutex_room_left s le)).0
+mutex_sound s b k h le e = subst IsSound (sym e) (mutex_added_sound s k h (mutex_room_left s le))

@@ -8,49 +8,59 @@ use Rattle.pif_model.specs.declared.events.Entry.{Entry}
 use Rattle.pif_model.specs.declared.events.Entry.TheVariants.{Thread as AddThread, Mutex as AddMutex, Step as Happened}
 use Rattle.pif_model.specs.Posix.{World, IsLegal}
 use Rattle.pif_model.specs.History.{AlwaysOneHolder}
-use Rattle.pif_model.specs.Table.{Table, has_thread, thread_added, mutex_added, kernel_effective}
+use Rattle.pif_model.specs.Table.{Table, cell_at, has_thread, has_mutex, thread_added, mutex_added, kernel_effective, kernel_pick}
 use Rattle.pif_model.specs.Lines.{Outcome, stepped}
-use Rattle.pif_model.specs.Standing.{Stands, world_of, HasEffective}
+use Rattle.pif_model.specs.Standing.{Stands, world_of, HasEffective, IsPick, IsPossible}
 use Rattle.pif_simulation.proofs.StandingLaws.{stepped_stands, thread_added_stands, mutex_added_stands}
 use Rattle.pif_simulation.proofs.Holders.{one_holder}
 use Rattle.pif_simulation.proofs.Effective.{effective_seen}
+use Rattle.pif_simulation.proofs.Picks.{pick_is, word_is_possible}
 use Rattle.pif_simulation.proofs.Priority.{effective_is_greatest}
 use Rattle.pif_core.specs.Room.{outcome}
 use Rattle.pif_core.proofs.Added.{thread_room, mutex_room_left}
 
 -- after an event
-pub step_stands : (s v : Table) (e : Event) (seen : Seen) → outcome seen v ≡ stepped e s → (h : List Entry) (r : List World)
-    → Stands s h r → Stands v (Happened e seen ∷ h) (world_of s ∷ r)
-step_stands s v e seen o h r st =
-    let P : Outcome → Type 0 = λ x. Stands x.after (Happened e x.seen ∷ h) (world_of s ∷ r) in
-    subst P (sym o) (stepped_stands s e h r st)
+pub step_stands : (s v : Table) (e : Event) (seen : Seen) → outcome seen v ≡ stepped e s → (h : List Entry) (r : List World) (w : World)
+    → Stands s h r w → (u : World) × Stands v (Happened e seen ∷ h) (w ∷ r) u
+step_stands s v e seen o h r w st =
+    let P : Outcome → Type 0 = λ x. (u : World) × Stands x.after (Happened e x.seen ∷ h) (w ∷ r) u in
+    subst P (sym o) (stepped_stands s e h r w st)
 
 -- the history is legal
-pub stands_legal : (s : Table) (h : List Entry) (r : List World) → Stands s h r → IsLegal s.limits h
-stands_legal s h r st = record { states = r; last = world_of s; run = st.run }
+pub stands_legal : (s : Table) (h : List Entry) (r : List World) (w : World) → Stands s h r w → IsLegal s.limits h
+stands_legal s h r w st = record { states = r; last = w; run = st.run }
 
 -- no mutex has ever two holders
-pub stands_one_holder : (s : Table) (h : List Entry) (r : List World) → Stands s h r → AlwaysOneHolder h
-stands_one_holder s h r st = one_holder s.limits h r (world_of s) st.run
+pub stands_one_holder : (s : Table) (h : List Entry) (r : List World) (w : World) → Stands s h r w → AlwaysOneHolder h
+stands_one_holder s h r w st = one_holder s.limits h r w st.run
 
 -- after an addition of a thread
 pub thread_stands : (s v : Table) (t p base : ℕ) → v ≡ thread_added base s → t ≡ length s.rows → base ≡ p → length s.rows ≤ s.limits.threads → 1 ≤ base → base ≤ 99
-    → (h : List Entry) (r : List World) → Stands s h r → Stands v (AddThread t p ∷ h) (world_of s ∷ r)
-thread_stands s v t p base after is same le low high h r st =
-    rw (after, is, ← same) (thread_added_stands s base h r st (thread_room s le) low high)
+    → (h : List Entry) (r : List World) (w : World) → Stands s h r w → (u : World) × Stands v (AddThread t p ∷ h) (w ∷ r) u
+thread_stands s v t p base after is same le low high h r w st =
+    rw (after, is, ← same) (thread_added_stands s base h r w st (thread_room s le) low high)
 
 -- after an addition of a mutex
 pub mutex_stands : (s v : Table) (m : ℕ) (k : Kind) (robust : Bool) → v ≡ mutex_added k false s → m ≡ length s.cells → robust ≡ false → length s.cells ≤ s.limits.mutexes
-    → (h : List Entry) (r : List World) → Stands s h r → Stands v (AddMutex m k robust ∷ h) (world_of s ∷ r)
-mutex_stands s v m k robust after is stalled le h r st =
-    rw (after, is, stalled) (mutex_added_stands s k h r st (mutex_room_left s le))
+    → (h : List Entry) (r : List World) (w : World) → Stands s h r w → (u : World) × Stands v (AddMutex m k robust ∷ h) (w ∷ r) u
+mutex_stands s v m k robust after is stalled le h r w st =
+    rw (after, is, stalled) (mutex_added_stands s k h r w st (mutex_room_left s le))
 
 -- the effective priority in the kernel is that of the subject
-pub effective_stands : (s : Table) (t p : ℕ) (h : List Entry) (r : List World) → Stands s h r → has_thread s t ≡ true → p ≡ kernel_effective s t
-    → HasEffective (world_of s) t p
-effective_stands s t p h r st known is =
-    let P : ℕ → Type 0 = λ x. HasEffective (world_of s) t x in
-    subst P (sym (is ∙ ap (λ (f : ℕ → ℕ). f t) (effective_seen s st.sound))) (effective_is_greatest s st.sound t known)
+pub effective_stands : (s : Table) (t p : ℕ) (h : List Entry) (r : List World) (w : World) → Stands s h r w → has_thread s t ≡ true → p ≡ kernel_effective s t
+    → HasEffective w t p
+effective_stands s t p h r w st known is =
+    let P : ℕ → Type 0 = λ x. HasEffective (world_of s st.shadow) t x in
+    subst (λ u. HasEffective u t p) (sym st.shows)
+    (subst P (sym (is ∙ ap (λ (f : ℕ → ℕ). f t) (effective_seen s st.shadow st.sound))) (effective_is_greatest s st.shadow st.sound t known))
+
+-- the kernel's pick is that of the subject
+pub pick_stands : (s : Table) (h : List Entry) (r : List World) (w : World) → Stands s h r w → IsPick w (kernel_pick s)
+pick_stands s h r w st = subst (λ u. IsPick u (kernel_pick s)) (sym st.shows) (pick_is s st.shadow st.sound)
+
+-- a mutex's word is possible
+pub word_stands : (s : Table) (m : ℕ) (h : List Entry) (r : List World) (w : World) → Stands s h r w → has_mutex s m ≡ true → IsPossible w m (cell_at s m).word
+word_stands s m h r w st known = subst (λ u. IsPossible u m (cell_at s m).word) (sym st.shows) (word_is_possible s st.shadow st.sound m known)
 
 -- WHAT AN OPTION HOLDS
 

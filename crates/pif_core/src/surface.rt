@@ -3,7 +3,7 @@ ghost use Rattle.pif_model.specs.declared.events.Entry.{Entry};
 ghost use Rattle.pif_model.specs.Word.{word_of};
 ghost use Rattle.pif_model.specs.Posix.{World, IsLegal};
 ghost use Rattle.pif_model.specs.History.{AlwaysOneHolder};
-ghost use Rattle.pif_model.specs.Standing.{Stands, world_of, HasEffective, IsPick, IsPossible};
+ghost use Rattle.pif_model.specs.Standing.{Stands, HasEffective, IsPick, IsPossible};
 ghost use Rattle.pif_model.specs.Table.{new_table};
 ghost use Rattle.pif_model.specs.Lines.{stepped};
 ghost use Rattle.pif_model.specs.Calls.{add_thread_answer, add_thread_after, add_mutex_answer, add_mutex_after, effective_answer, word_answer, pick_answer, threads_answer};
@@ -36,7 +36,7 @@ impl Core {
     /// pieces, and fails where one of them is refused.
     pub fn new(alloc: Global, limits: Limits) -> Result<Core, NoMemory>
         ensures made { IfOk result (λ c. c ≡ new_table limits) }
-        ensures stands { IfOk result (λ c. Stands c [] []) }
+        ensures stands { IfOk result (λ c. (w : World) × Stands c [] [] w) }
     {
         let state = State::new(alloc, limits)?;
         Ok(Core { state })
@@ -47,8 +47,8 @@ impl Core {
     pub fn add_thread(&mut self, prio: u32) -> Result<Tid, AddFault>
         ensures answer { result ≡ add_thread_answer prio self.old }
         ensures after { self.new ≡ add_thread_after prio result self.old }
-        ensures stands { IfOk result (λ t. (h : List Entry) (r : List World) → Stands self.old h r
-            → Stands self.new (Entry.Thread t prio ∷ h) (world_of self.old ∷ r)) }
+        ensures stands { IfOk result (λ t. (h : List Entry) (r : List World) (w : World) → Stands self.old h r w
+            → (v : World) × Stands self.new (Entry.Thread t prio ∷ h) (w ∷ r) v) }
     {
         let base = Prio::new(prio).ok_or(AddFault::BadPrio)?.get();
         let count = self.state.row_count();
@@ -72,8 +72,8 @@ impl Core {
         requires { robust ≡ false }
         ensures answer { result ≡ add_mutex_answer self.old }
         ensures after { self.new ≡ add_mutex_after kind robust result self.old }
-        ensures stands { IfOk result (λ m. (h : List Entry) (r : List World) → Stands self.old h r
-            → Stands self.new (Entry.Mutex m kind robust ∷ h) (world_of self.old ∷ r)) }
+        ensures stands { IfOk result (λ m. (h : List Entry) (r : List World) (w : World) → Stands self.old h r w
+            → (v : World) × Stands self.new (Entry.Mutex m kind robust ∷ h) (w ∷ r) v) }
     {
         let _stalled = robust;
         let count = self.state.mutex_count();
@@ -91,10 +91,12 @@ impl Core {
     pub fn step(&mut self, event: Event) -> Seen
         ensures seen { result ≡ (stepped event self.old).seen }
         ensures after { self.new ≡ (stepped event self.old).after }
-        ensures stands { (h : List Entry) (r : List World) → Stands self.old h r
-            → Stands self.new (Entry.Step event result ∷ h) (world_of self.old ∷ r) }
-        ensures legal { (h : List Entry) (r : List World) → Stands self.old h r → IsLegal self.new.limits (Entry.Step event result ∷ h) }
-        ensures holders { (h : List Entry) (r : List World) → Stands self.old h r → AlwaysOneHolder (Entry.Step event result ∷ h) }
+        ensures stands { (h : List Entry) (r : List World) (w : World) → Stands self.old h r w
+            → (v : World) × Stands self.new (Entry.Step event result ∷ h) (w ∷ r) v }
+        ensures legal { (h : List Entry) (r : List World) (w : World) → Stands self.old h r w
+            → IsLegal self.new.limits (Entry.Step event result ∷ h) }
+        ensures holders { (h : List Entry) (r : List World) (w : World) → Stands self.old h r w
+            → AlwaysOneHolder (Entry.Step event result ∷ h) }
     {
         self.state.step(event)
     }
@@ -103,8 +105,8 @@ impl Core {
     /// chain. `None` where it was never added.
     pub fn effective(&self, thread: Tid) -> Option<Prio>
         ensures value { result ≡ effective_answer thread self.now }
-        ensures priority { (h : List Entry) (r : List World) → Stands self.now h r
-            → IfSome result (λ p. HasEffective (world_of self.now) thread p) }
+        ensures priority { (h : List Entry) (r : List World) (w : World) → Stands self.now h r w
+            → IfSome result (λ p. HasEffective w thread p) }
     {
         if self.state.has_thread(thread) {
             Prio::new(self.state.effective(thread.get()))
@@ -116,8 +118,8 @@ impl Core {
     /// The 32 bits of the word of a mutex. `None` where it was never added.
     pub fn word(&self, mutex: MutexId) -> Option<u32>
         ensures value { result ≡ word_answer mutex self.now }
-        ensures possible { (h : List Entry) (r : List World) → Stands self.now h r
-            → IfSome result (λ bits. IsPossible (world_of self.now) mutex (word_of bits)) }
+        ensures possible { (h : List Entry) (r : List World) (w : World) → Stands self.now h r w
+            → IfSome result (λ bits. IsPossible w mutex (word_of bits)) }
     {
         if self.state.has_mutex(mutex) {
             Some(self.state.word(mutex))
@@ -130,7 +132,7 @@ impl Core {
     /// `None` where no thread is ready.
     pub fn pick(&self) -> Option<Tid>
         ensures value { result ≡ pick_answer self.now }
-        ensures next { (h : List Entry) (r : List World) → Stands self.now h r → IsPick (world_of self.now) (unwrap_or result 0) }
+        ensures next { (h : List Entry) (r : List World) (w : World) → Stands self.now h r w → IsPick w (unwrap_or result 0) }
     {
         Tid::new(self.state.pick())
     }
@@ -138,7 +140,7 @@ impl Core {
     /// How many threads were ever added.
     pub fn threads(&self) -> u32
         ensures value { result ≡ threads_answer self.now }
-        ensures added { result + 1 ≡ length (world_of self.now).threads }
+        ensures added { (h : List Entry) (r : List World) (w : World) → Stands self.now h r w → result + 1 ≡ length w.threads }
     {
         self.state.row_count() - 1
     }

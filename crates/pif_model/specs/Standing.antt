@@ -1,9 +1,7 @@
 -- What it means that a core stands after a history.
-use Rattle.std.specs.Prelude.{ℕ, ◌≡◌, ◌≢◌, ◌≤◌, ◌+◌, ◌⊎◌, ⊤, Bool, true, false, ◌==◌, nat_lt, List, [], ◌∷◌, ◌++◌, length, get_or, map, Option, Some, None, if◌then◌else◌, eqb}
+use Rattle.std.specs.Prelude.{ℕ, ◌≡◌, ◌≢◌, ◌≤◌, ◌+◌, ⊤, Bool, true, false, ◌==◌, List, length, map, Option, Some, None, if◌then◌else◌, eqb}
 use Rattle.std.specs.List.{list_any, IsDistinct}
-use Rattle.pif_types.specs.Bounds.{Bounds}
-use Rattle.pif_types.specs.declared.requests.Kind.TheVariants.{Normal, ErrorCheck}
-use Rattle.pif_types.specs.declared.requests.Request.{Request}
+use Rattle.pif_types.specs.declared.requests.Kind.TheVariants.{Normal}
 use Rattle.pif_types.specs.declared.requests.Request.TheVariants.{Lock, Unlock}
 use Rattle.pif_model.specs.declared.events.Entry.{Entry}
 use Rattle.pif_model.specs.declared.lines.Line.{Line}
@@ -12,16 +10,21 @@ use Rattle.pif_model.specs.declared.lines.Place.{Place}
 use Rattle.pif_model.specs.declared.lines.Place.TheVariants.{LockLoad, LockExchange, LockKernel, LockQueued, LockStop, LockStopped, UnlockLoad, UnlockExchange, UnlockKernel}
 use Rattle.pif_model.specs.declared.lines.Status.{Status}
 use Rattle.pif_model.specs.declared.lines.Status.TheVariants.{Ready, Queued, Stopped}
-use Rattle.pif_model.specs.declared.lines.Woken.TheVariants.{Fresh as WokenFresh, Owns as WokenOwns}
 use Rattle.pif_model.specs.Graph.{waited_by, has_waiter, IsEffective}
 use Rattle.pif_model.specs.Word.{Word, free_word}
 use Rattle.pif_model.specs.Posix.{Health, Progress, Call, Thread, Mutex, World, WaitsFor, IsRun, thread_at, mutex_at, is_thread, rests, effective_of}
 use Rattle.pif_model.specs.Posix.Health.{Fine, Inconsistent, Unusable}
-use Rattle.pif_model.specs.Posix.Progress.{Fresh, Waiting, Stuck, Leaving, Has}
+use Rattle.pif_model.specs.Posix.Progress.{Fresh, Waiting, Stuck, Has}
 use Rattle.pif_model.specs.Table.{Table, Row, Cell, no_row, no_cell, row_at, cell_at, has_thread, has_mutex, is_ready, queued_on, kernel_effective}
-use Rattle.pif_model.specs.Lines.{is_open}
 
 -- THE PROJECTION: the state of the POSIX machine that a table shows
+
+-- what the POSIX machine knows and the table doesn't: nothing yet
+pub record Shadow : Type 0 where
+
+-- the shadow of a table to which nothing was added
+abbrev pub no_shadow : Shadow
+no_shadow = record {}
 
 -- how far a call at this place has come, by its thread's status
 abbrev pub progress_at : Place → Status → Progress
@@ -50,9 +53,9 @@ health_of Unusable died = Unusable
 abbrev pub mutex_of : Cell → Mutex
 mutex_of c = record { kind = c.kind; robust = c.robust; owner = c.word.number; count = c.count; health = health_of c.health c.word.died }
 
--- the state of the POSIX machine that a table shows
-abbrev pub world_of : Table → World
-world_of s = record { threads = map thread_of s.rows; mutexes = map mutex_of s.cells; waiters = s.waiters }
+-- the state of the POSIX machine that a table shows with its shadow
+abbrev pub world_of : Table → Shadow → World
+world_of s x = record { threads = map thread_of s.rows; mutexes = map mutex_of s.cells; waiters = s.waiters }
 
 -- THE INVARIANT
 
@@ -136,10 +139,13 @@ pub record IsSound (s : Table) : Type 0 where
   pub ready_once : IsDistinct eqb (map (λ (r : ℕ × ℕ). r.0) s.ready)
   pub level : (t : ℕ) → list_any (λ (r : ℕ × ℕ). if r.0 == t then (if r.1 == kernel_effective s t then false else true) else false) s.ready ≡ false
 
--- A core with this table stands after the history h (newest entry first) by a run through the states r (newest
--- first): the run gives h entry by entry, its last state is what the table shows, and the table is sound.
-pub record Stands (s : Table) (h : List Entry) (r : List World) : Type 0 where
-  pub run : IsRun s.limits h r (world_of s)
+-- A core with this table stands after the history h (newest entry first) in the state w by a run through the states r
+-- (newest first): the run gives h entry by entry and ends in w, w is what the table shows with some shadow, and the
+-- table is sound.
+pub record Stands (s : Table) (h : List Entry) (r : List World) (w : World) : Type 0 where
+  pub shadow : Shadow
+  pub shows : w ≡ world_of s shadow
+  pub run : IsRun s.limits h r w
   pub sound : IsSound s
 
 -- WHAT STANDING TELLS A CALLER

@@ -14,14 +14,15 @@ use Rattle.pif_model.specs.declared.lines.Status.TheVariants.{Ready, Queued, Sto
 use Rattle.pif_model.specs.declared.lines.Woken.TheVariants.{Fresh as WokenFresh}
 use Rattle.pif_model.specs.Graph.{has_waiter, waited_by, effective_among}
 use Rattle.pif_model.specs.Word.{free_word}
-use Rattle.pif_model.specs.Posix.{Step, empty_world}
+use Rattle.pif_model.specs.Posix.{empty_world}
 use Rattle.pif_model.specs.Posix.Step.{thread_added as thread_was_added, mutex_added as mutex_was_added}
 use Rattle.pif_model.specs.Posix.Health.{Fine}
 use Rattle.pif_model.specs.Table.{Table, Row, Cell, no_row, no_cell, new_table, row_at, cell_at, has_thread, has_mutex, is_ready, queued_on, kernel_waits_for, kernel_effective, thread_added, mutex_added, has_thread_room, has_mutex_room}
-use Rattle.pif_model.specs.Standing.{LineIsSound, QueueIsSound, RowIsSound, CellIsSound, IsSound, thread_of, mutex_of, world_of}
+use Rattle.pif_model.specs.Standing.{Shadow, no_shadow, LineIsSound, QueueIsSound, RowIsSound, CellIsSound, IsSound, thread_of, mutex_of, world_of}
 use Rattle.pif_simulation.proofs.Waiting.{by_test, names, pairs, once_push, named-push, waited-from_pair, or_false}
 use Rattle.pif_simulation.proofs.Projection.{within, from_within, has_thread_below}
 use Rattle.pif_simulation.proofs.Changes.{SameOwning, line_outlives, cell_outlives, effective_same}
+use Rattle.pif_simulation.proofs.Steps.{Keeps}
 use Rattle.pif_simulation.proofs.Chains.{effective_with_more, effective_of_more}
 
 -- THE EMPTY TABLE
@@ -55,7 +56,7 @@ new_sound l = record {
     queues (suc u) = refl
 
 -- it shows the state in which nothing was added
-pub new_seen : (l : Bounds) → world_of (new_table l) ≡ empty_world
+pub new_seen : (l : Bounds) → world_of (new_table l) no_shadow ≡ empty_world
 new_seen l = refl
 
 -- ONE THREAD MORE
@@ -375,19 +376,23 @@ module _ (s : Table) (k : Kind) (h : IsSound s) where
 -- THE STEPS
 
 -- to add a thread is an entry of the POSIX machine, and keeps the invariant
-pub thread_added_simulated : (s : Table) (p : ℕ) → IsSound s → has_thread_room s ≡ true → 1 ≤ p → p ≤ 99
-    → IsSound (thread_added p s) × Step s.limits (world_of s) (AddThread (length s.rows) p) (world_of (thread_added p s))
-thread_added_simulated s p h room low high = (
-  thread_added_sound s p h room,
-  thread_was_added (length s.rows) p refl (sym (length-map s.rows thread_of)) (has_room s.limits.threads (length s.rows) room) low high
-      (λ i. record (world_of s) { threads = map-append thread_of s.rows (record { base = p; living = true; line = Idle; status = Ready WokenFresh; listed = []; half_linked = 0; pending = 0 } ∷ []) i }),
-)
+pub thread_added_simulated : (s : Table) (shadow : Shadow) (p : ℕ) → IsSound s → has_thread_room s ≡ true → 1 ≤ p → p ≤ 99
+    → Keeps s shadow (AddThread (length s.rows) p) (thread_added p s)
+thread_added_simulated s shadow p h room low high = record {
+  sound = thread_added_sound s p h room;
+  next = shadow;
+  step = thread_was_added (length s.rows) p refl (sym (length-map s.rows thread_of)) (has_room s.limits.threads (length s.rows) room) low high
+      (λ i. record (world_of s shadow) { threads = map-append thread_of s.rows (record { base = p; living = true; line = Idle; status = Ready WokenFresh; listed = []; half_linked = 0; pending = 0 } ∷ []) i });
+  limits = refl;
+}
 
 -- to add a mutex is an entry of the POSIX machine, and keeps the invariant
-pub mutex_added_simulated : (s : Table) (k : Kind) → IsSound s → has_mutex_room s ≡ true
-    → IsSound (mutex_added k false s) × Step s.limits (world_of s) (AddMutex (length s.cells) k false) (world_of (mutex_added k false s))
-mutex_added_simulated s k h room = (
-  mutex_added_sound s k h room,
-  mutex_was_added (length s.cells) k false refl (sym (length-map s.cells mutex_of)) (has_room s.limits.mutexes (length s.cells) room)
-      (λ i. record (world_of s) { mutexes = map-append mutex_of s.cells (record { kind = k; robust = false; word = free_word; health = Fine; count = 1; state = 0 } ∷ []) i }),
-)
+pub mutex_added_simulated : (s : Table) (shadow : Shadow) (k : Kind) → IsSound s → has_mutex_room s ≡ true
+    → Keeps s shadow (AddMutex (length s.cells) k false) (mutex_added k false s)
+mutex_added_simulated s shadow k h room = record {
+  sound = mutex_added_sound s k h room;
+  next = shadow;
+  step = mutex_was_added (length s.cells) k false refl (sym (length-map s.cells mutex_of)) (has_room s.limits.mutexes (length s.cells) room)
+      (λ i. record (world_of s shadow) { mutexes = map-append mutex_of s.cells (record { kind = k; robust = false; word = free_word; health = Fine; count = 1; state = 0 } ∷ []) i });
+  limits = refl;
+}

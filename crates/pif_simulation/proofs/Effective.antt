@@ -8,7 +8,7 @@ use Rattle.pif_model.specs.Posix.{Progress, Call, Thread, Mutex, World, nobody, 
 use Rattle.pif_model.specs.Table.{Table, Cell, no_row, no_cell, row_at, cell_at, with_line, queued_on, kernel_waits_for, kernel_effective}
 use Rattle.pif_model.specs.Kernel.{kernel_next}
 use Rattle.pif_model.specs.declared.lines.Line.{Line}
-use Rattle.pif_model.specs.Standing.{thread_of, mutex_of, world_of, IsSound}
+use Rattle.pif_model.specs.Standing.{Shadow, thread_of, mutex_of, world_of, IsSound}
 use Rattle.pif_simulation.proofs.Places.{mapped_at}
 use Rattle.pif_simulation.proofs.Waiting.{by_test, paired-from_waited, has_waiter-from_pair}
 
@@ -46,26 +46,26 @@ state_is_number s h u = ⊎_elim at_none somewhere (cases_eq (waited_by s.waiter
         past e = get_or_past s.cells (waited_by s.waiters u) no_cell (ltb-false (waited_by s.waiters u) (length s.cells) e)
 
 -- a thread waits in the kernel for whom it waits in the POSIX machine
-pub waits_seen : (s : Table) → IsSound s → kernel_waits_for s ≡ waits_for (world_of s)
-waits_seen s h = fun_ext (λ u.
+pub waits_seen : (s : Table) (shadow : Shadow) → IsSound s → kernel_waits_for s ≡ waits_for (world_of s shadow)
+waits_seen s shadow h = fun_ext (λ u.
     ap (λ m. (cell_at s m).state) (sym (h.queue u)) ∙ state_is_number s h u
     ∙ sym (ap (λ (m : Mutex). m.owner) (mapped_at mutex_of s.cells (waited_by s.waiters u) no_cell)))
 
 -- both machines have the same base priorities
-bases_seen : (s : Table) → ◌≡◌ {A = ℕ → ℕ} (λ u. (row_at s u).base) (λ u. (thread_at (world_of s) u).base)
-bases_seen s = fun_ext (λ u. sym (ap (λ (x : Thread). x.base) (mapped_at thread_of s.rows u no_row)))
+bases_seen : (s : Table) (shadow : Shadow) → ◌≡◌ {A = ℕ → ℕ} (λ u. (row_at s u).base) (λ u. (thread_at (world_of s shadow) u).base)
+bases_seen s shadow = fun_ext (λ u. sym (ap (λ (x : Thread). x.base) (mapped_at thread_of s.rows u no_row)))
 
 -- both machines have the same effective priorities
-pub effective_seen : (s : Table) → IsSound s → kernel_effective s ≡ effective_of (world_of s)
-effective_seen s h = same_effective (sym (length-map s.rows thread_of)) (waits_seen s h) (bases_seen s)
+pub effective_seen : (s : Table) (shadow : Shadow) → IsSound s → kernel_effective s ≡ effective_of (world_of s shadow)
+effective_seen s shadow h = same_effective (sym (length-map s.rows thread_of)) (waits_seen s shadow h) (bases_seen s shadow)
 
 -- both machines have the same next waiter
-pub next_seen : (s : Table) → IsSound s → (m : ℕ) → next_of (world_of s) m ≡ kernel_next s m
-next_seen s h m = ap (λ f. next_waiter f s.waiters m) (sym (effective_seen s h))
+pub next_seen : (s : Table) (shadow : Shadow) → IsSound s → (m : ℕ) → next_of (world_of s shadow) m ≡ kernel_next s m
+next_seen s shadow h m = ap (λ f. next_waiter f s.waiters m) (sym (effective_seen s shadow h))
 
 -- both machines have the same chains
-pub leads_seen : (s : Table) → IsSound s → (u t : ℕ) → leads_to (world_of s) u t ≡ reaches_within (length s.rows) (kernel_waits_for s) u t
-leads_seen s h u t = λ i. reaches_within (length-map s.rows thread_of i) (sym (waits_seen s h) i) u t
+pub leads_seen : (s : Table) (shadow : Shadow) → IsSound s → (u t : ℕ) → leads_to (world_of s shadow) u t ≡ reaches_within (length s.rows) (kernel_waits_for s) u t
+leads_seen s shadow h u t = λ i. reaches_within (length-map s.rows thread_of i) (sym (waits_seen s shadow h) i) u t
 
 -- WHAT CHANGES NOTHING
 

@@ -18,7 +18,7 @@ use Rattle.pif_model.specs.Posix.Unlocks.{released}
 use Rattle.pif_model.specs.Posix.Passes.{to_next}
 use Rattle.pif_model.specs.Table.{Table, Row, Cell, no_row, no_cell, row_at, cell_at, has_thread, has_mutex, is_ready, queued_on, with_line, kernel_effective, releveled}
 use Rattle.pif_model.specs.Kernel.{handed_to, kernel_next}
-use Rattle.pif_model.specs.Standing.{LockIsSound, UnlockIsSound, LineIsSound, QueueIsSound, RowIsSound, CellIsSound, IsSound, call_at, thread_of, mutex_of, world_of}
+use Rattle.pif_model.specs.Standing.{Shadow, LockIsSound, UnlockIsSound, LineIsSound, QueueIsSound, RowIsSound, CellIsSound, IsSound, call_at, thread_of, mutex_of, world_of}
 use Rattle.pif_simulation.proofs.Places.{mapped_at}
 use Rattle.pif_simulation.proofs.Waiting.{by_test, names, Once, or_true, or_false, waited-from_pair, waited_by-without_same, waited_by-without_other, has_waiter-without_none, has_waiter-without_other, named-without_other, once_push, once_without, named-push, named-releveled, once_releveled, level_releveled, next-is_waiter}
 use Rattle.pif_simulation.proofs.Effective.{next_seen, next-with_progress, effective-with_line}
@@ -279,72 +279,72 @@ module _ (s v : Table) (t u m : ℕ) (q : IsHanded s v t u m) (w : IsWaiter s t 
 -- IN THE POSIX MACHINE
 
 -- the world after t gave m up and u took it
-abbrev pub handed_over : Table → ℕ → ℕ → ℕ → World
-handed_over s t u m = taken u m (record (with_progress t (Has 0) (world_of s)) { waiters = without s.waiters u })
+abbrev pub handed_over : Table → Shadow → ℕ → ℕ → ℕ → World
+handed_over s shadow t u m = taken u m (record (with_progress t (Has 0) (world_of s shadow)) { waiters = without s.waiters u })
 
 -- a fine mutex without a dead owner is seen so
-pub fine_seen : (s : Table) (m : ℕ) → CellIsSound s m (cell_at s m) → (mutex_at (world_of s) m).health ≡ Fine
-fine_seen s m c = ap (λ (x : Mutex). x.health) (mapped_at mutex_of s.cells m no_cell) ∙ rw (c.fine, c.no_death) refl
+pub fine_seen : (s : Table) (shadow : Shadow) (m : ℕ) → CellIsSound s m (cell_at s m) → (mutex_at (world_of s shadow) m).health ≡ Fine
+fine_seen s shadow m c = ap (λ (x : Mutex). x.health) (mapped_at mutex_of s.cells m no_cell) ∙ rw (c.fine, c.no_death) refl
 
 -- t as the world sees it when its unlock has its result
-abbrev given_up : Table → ℕ → Thread
-given_up s t = record (thread_at (world_of s) t) { call = progressed (Has 0) (thread_at (world_of s) t).call }
+abbrev given_up : Table → Shadow → ℕ → Thread
+given_up s shadow t = record (thread_at (world_of s shadow) t) { call = progressed (Has 0) (thread_at (world_of s shadow) t).call }
 
 -- t, after u took m
-pub giver_seen : (s : Table) (t u m : ℕ) → t ≢ u → t < length s.rows → thread_at (handed_over s t u m) t ≡ given_up s t
-giver_seen s t u m n h =
-    get_or-set_other (with_progress t (Has 0) (world_of s)).threads u t (record (get_or (set (map thread_of s.rows) t (given_up s t)) u nobody) { call = progressed (on_taking (mutex_at (world_of s) m).health) (get_or (set (map thread_of s.rows) t (given_up s t)) u nobody).call }) nobody n
-    ∙ get_or-set_same (map thread_of s.rows) t (given_up s t) nobody (subst (λ n. t < n) (sym (length-map s.rows thread_of)) h)
+pub giver_seen : (s : Table) (shadow : Shadow) (t u m : ℕ) → t ≢ u → t < length s.rows → thread_at (handed_over s shadow t u m) t ≡ given_up s shadow t
+giver_seen s shadow t u m n h =
+    get_or-set_other (with_progress t (Has 0) (world_of s shadow)).threads u t (record (get_or (set (map thread_of s.rows) t (given_up s shadow t)) u nobody) { call = progressed (on_taking (mutex_at (world_of s shadow) m).health) (get_or (set (map thread_of s.rows) t (given_up s shadow t)) u nobody).call }) nobody n
+    ∙ get_or-set_same (map thread_of s.rows) t (given_up s shadow t) nobody (subst (λ n. t < n) (sym (length-map s.rows thread_of)) h)
 
 -- the call of t, after u took m
-pub giver_call : (s : Table) (t u m : ℕ) → t ≢ u → t < length s.rows → (row_at s t).line ≡ At (Unlock m) UnlockKernel
-    → (thread_at (handed_over s t u m) t).call ≡ Some (record { request = Unlock m; progress = Has 0 })
-giver_call s t u m n h e =
-    ap (λ (x : Thread). x.call) (giver_seen s t u m n h)
+pub giver_call : (s : Table) (shadow : Shadow) (t u m : ℕ) → t ≢ u → t < length s.rows → (row_at s t).line ≡ At (Unlock m) UnlockKernel
+    → (thread_at (handed_over s shadow t u m) t).call ≡ Some (record { request = Unlock m; progress = Has 0 })
+giver_call s shadow t u m n h e =
+    ap (λ (x : Thread). x.call) (giver_seen s shadow t u m n h)
     ∙ ap (λ (x : Thread). progressed (Has 0) x.call) (mapped_at thread_of s.rows t no_row)
     ∙ ap (λ l. progressed (Has 0) (call_at l (row_at s t).status)) e
 
 -- t, when its call is closed
-closed_seen : (s : Table) (t u m : ℕ) → t ≢ u → t < length s.rows → thread_of (closed_row s t u) ≡ record (thread_at (handed_over s t u m) t) { call = None }
-closed_seen s t u m n h =
+closed_seen : (s : Table) (shadow : Shadow) (t u m : ℕ) → t ≢ u → t < length s.rows → thread_of (closed_row s t u) ≡ record (thread_at (handed_over s shadow t u m) t) { call = None }
+closed_seen s shadow t u m n h =
     ap (λ (r : Row). thread_of (record r { line = Idle })) (get_or-set_other s.rows u t (woken_row s u) no_row n)
-    ∙ sym (ap (λ (x : Thread). record x { call = None }) (giver_seen s t u m n h ∙ ap (λ (x : Thread). record x { call = progressed (Has 0) x.call }) (mapped_at thread_of s.rows t no_row)))
+    ∙ sym (ap (λ (x : Thread). record x { call = None }) (giver_seen s shadow t u m n h ∙ ap (λ (x : Thread). record x { call = progressed (Has 0) x.call }) (mapped_at thread_of s.rows t no_row)))
 
 -- u, when it owns m
-woken_seen : (s : Table) (t u m : ℕ) → IsWaiter s t u m → CellIsSound s m (cell_at s m)
-    → thread_of (woken_row s u) ≡ record (get_or (set (map thread_of s.rows) t (given_up s t)) u nobody) { call = progressed (on_taking (mutex_at (world_of s) m).health) (get_or (set (map thread_of s.rows) t (given_up s t)) u nobody).call }
-woken_seen s t u m w c =
-    rw (get_or-set_other (map thread_of s.rows) t u (given_up s t) nobody w.other, mapped_at thread_of s.rows u no_row, fine_seen s m c, w.line) refl
+woken_seen : (s : Table) (shadow : Shadow) (t u m : ℕ) → IsWaiter s t u m → CellIsSound s m (cell_at s m)
+    → thread_of (woken_row s u) ≡ record (get_or (set (map thread_of s.rows) t (given_up s shadow t)) u nobody) { call = progressed (on_taking (mutex_at (world_of s shadow) m).health) (get_or (set (map thread_of s.rows) t (given_up s shadow t)) u nobody).call }
+woken_seen s shadow t u m w c =
+    rw (get_or-set_other (map thread_of s.rows) t u (given_up s shadow t) nobody w.other, mapped_at thread_of s.rows u no_row, fine_seen s shadow m c, w.line) refl
 
 -- the mutex, when u owns it
-handed_seen : (s : Table) (u m : ℕ) → CellIsSound s m (cell_at s m) → mutex_of (handed_cell s u m) ≡ record (mutex_at (world_of s) m) { owner = u; count = 1 }
-handed_seen s u m c = rw (mapped_at mutex_of s.cells m no_cell, c.single, c.no_death) refl
+handed_seen : (s : Table) (shadow : Shadow) (u m : ℕ) → CellIsSound s m (cell_at s m) → mutex_of (handed_cell s u m) ≡ record (mutex_at (world_of s shadow) m) { owner = u; count = 1 }
+handed_seen s shadow u m c = rw (mapped_at mutex_of s.cells m no_cell, c.single, c.no_death) refl
 
 -- t's place is written before u's and again after it
 rewritten : {A : Type 0} (l : List A) (t u : ℕ) (x y z : A) → t ≢ u → set (set (set l t x) u y) t z ≡ set (set l u y) t z
 rewritten l t u x y z n = ap (λ k. set k t z) (set_comm l t u x y n) ∙ set-set (set l u y) t x z
 
 -- the threads that the table shows
-handed_threads : (s : Table) (t u m : ℕ) → IsWaiter s t u m → CellIsSound s m (cell_at s m) → t < length s.rows
-    → map thread_of (set (set s.rows u (woken_row s u)) t (closed_row s t u)) ≡ (with_thread t (record (thread_at (handed_over s t u m) t) { call = None }) (handed_over s t u m)).threads
-handed_threads s t u m w c h =
+handed_threads : (s : Table) (shadow : Shadow) (t u m : ℕ) → IsWaiter s t u m → CellIsSound s m (cell_at s m) → t < length s.rows
+    → map thread_of (set (set s.rows u (woken_row s u)) t (closed_row s t u)) ≡ (with_thread t (record (thread_at (handed_over s shadow t u m) t) { call = None }) (handed_over s shadow t u m)).threads
+handed_threads s shadow t u m w c h =
     map-set thread_of (set s.rows u (woken_row s u)) t (closed_row s t u)
     ∙ ap (λ l. set l t (thread_of (closed_row s t u))) (map-set thread_of s.rows u (woken_row s u))
-    ∙ ap₂ (λ x y. set (set (map thread_of s.rows) u x) t y) (woken_seen s t u m w c) (closed_seen s t u m (λ x. w.other (sym x)) h)
-    ∙ sym (rewritten (map thread_of s.rows) t u (given_up s t)
-    (record (get_or (set (map thread_of s.rows) t (given_up s t)) u nobody) { call = progressed (on_taking (mutex_at (world_of s) m).health) (get_or (set (map thread_of s.rows) t (given_up s t)) u nobody).call })
-    (record (thread_at (handed_over s t u m) t) { call = None }) (λ x. w.other (sym x)))
+    ∙ ap₂ (λ x y. set (set (map thread_of s.rows) u x) t y) (woken_seen s shadow t u m w c) (closed_seen s shadow t u m (λ x. w.other (sym x)) h)
+    ∙ sym (rewritten (map thread_of s.rows) t u (given_up s shadow t)
+    (record (get_or (set (map thread_of s.rows) t (given_up s shadow t)) u nobody) { call = progressed (on_taking (mutex_at (world_of s shadow) m).health) (get_or (set (map thread_of s.rows) t (given_up s shadow t)) u nobody).call })
+    (record (thread_at (handed_over s shadow t u m) t) { call = None }) (λ x. w.other (sym x)))
 
 -- the mutexes that the table shows
-handed_mutexes : (s : Table) (u m : ℕ) → CellIsSound s m (cell_at s m)
-    → map mutex_of (set s.cells m (handed_cell s u m)) ≡ set (map mutex_of s.cells) m (record (mutex_at (world_of s) m) { owner = u; count = 1 })
-handed_mutexes s u m c = map-set mutex_of s.cells m (handed_cell s u m) ∙ ap (set (map mutex_of s.cells) m) (handed_seen s u m c)
+handed_mutexes : (s : Table) (shadow : Shadow) (u m : ℕ) → CellIsSound s m (cell_at s m)
+    → map mutex_of (set s.cells m (handed_cell s u m)) ≡ set (map mutex_of s.cells) m (record (mutex_at (world_of s shadow) m) { owner = u; count = 1 })
+handed_mutexes s shadow u m c = map-set mutex_of s.cells m (handed_cell s u m) ∙ ap (set (map mutex_of s.cells) m) (handed_seen s shadow u m c)
 
 -- the world that the table shows
-pub handed_world : (s : Table) (t u m : ℕ) → IsWaiter s t u m → CellIsSound s m (cell_at s m) → t < length s.rows
-    → world_of (with_line t Idle (handed_to u m s)) ≡ with_thread t (record (thread_at (handed_over s t u m) t) { call = None }) (handed_over s t u m)
+pub handed_world : (s : Table) (shadow : Shadow) (t u m : ℕ) → IsWaiter s t u m → CellIsSound s m (cell_at s m) → t < length s.rows
+    → world_of (with_line t Idle (handed_to u m s)) shadow ≡ with_thread t (record (thread_at (handed_over s shadow t u m) t) { call = None }) (handed_over s shadow t u m)
 unfolding handed_to
-handed_world s t u m w c h = λ i. record { threads = handed_threads s t u m w c h i; mutexes = handed_mutexes s u m c i; waiters = without s.waiters u }
+handed_world s shadow t u m w c h = λ i. record { threads = handed_threads s shadow t u m w c h i; mutexes = handed_mutexes s shadow u m c i; waiters = without s.waiters u }
 
 -- a thread that is neither stuck nor among the waiters doesn't rest
 pub rests-neither : (w : World) (t : ℕ) → is_stuck (thread_at w t).call ≡ false → names t w.waiters ≡ false → rests w t ≡ false
@@ -359,7 +359,7 @@ pub record AtHandOver (s : Table) (t m : ℕ) : Type 0 where
   pub line : (row_at s t).line ≡ At (Unlock m) UnlockKernel
   pub state : (cell_at s m).state ≢ 0
 
-module _ (s : Table) (t m : ℕ) (h : AtHandOver s t m) where
+module _ (s : Table) (shadow : Shadow) (t m : ℕ) (h : AtHandOver s t m) where
   -- who gets m
   next_known : IsWaiter s t (kernel_next s m) m
   next_known = next_waits s t m h.sound h.known h.line h.state
@@ -383,27 +383,27 @@ module _ (s : Table) (t m : ℕ) (h : AtHandOver s t m) where
   hand_sound = sound_when_handed s (with_line t Idle (handed_to (kernel_next s m) m s)) t (kernel_next s m) m left_behind next_known h.sound h.known h.line
 
   -- the mutex passes on to the next waiter
-  pub hand_unlocks : Unlocks t m (world_of s) (handed_over s t (kernel_next s m) m)
+  pub hand_unlocks : Unlocks t m (world_of s shadow) (handed_over s shadow t (kernel_next s m) m)
   hand_unlocks =
-      released (owner_seen s m ∙ (knows_at_unlock s t m h.sound h.known h.line).2)
-      (λ x. fine_not_inconsistent (sym (fine_seen s m cell_known) ∙ x))
-      (to_next (kernel_next s m) (next-with_progress (world_of s) t (Has 0) m ∙ next_seen s h.sound m) hand_next_above_0 refl)
+      released (owner_seen s shadow m ∙ (knows_at_unlock s t m h.sound h.known h.line).2)
+      (λ x. fine_not_inconsistent (sym (fine_seen s shadow m cell_known) ∙ x))
+      (to_next (kernel_next s m) (next-with_progress (world_of s shadow) t (Has 0) m ∙ next_seen s shadow h.sound m) hand_next_above_0 refl)
     where
       fine_not_inconsistent : Fine ≢ Inconsistent
       fine_not_inconsistent x = absurd (cc)
 
   -- the unlock has the result 0
-  pub hand_call : (thread_at (handed_over s t (kernel_next s m) m) t).call ≡ Some (record { request = Unlock m; progress = Has 0 })
-  hand_call = giver_call s t (kernel_next s m) m (λ x. next_known.other (sym x)) (below t (length s.rows) h.known) h.line
+  pub hand_call : (thread_at (handed_over s shadow t (kernel_next s m) m) t).call ≡ Some (record { request = Unlock m; progress = Has 0 })
+  hand_call = giver_call s shadow t (kernel_next s m) m (λ x. next_known.other (sym x)) (below t (length s.rows) h.known) h.line
 
   -- it is closed then
-  pub hand_world : world_of (with_line t Idle (handed_to (kernel_next s m) m s)) ≡ with_thread t (record (thread_at (handed_over s t (kernel_next s m) m) t) { call = None }) (handed_over s t (kernel_next s m) m)
-  hand_world = handed_world s t (kernel_next s m) m next_known cell_known (below t (length s.rows) h.known)
+  pub hand_world : world_of (with_line t Idle (handed_to (kernel_next s m) m s)) shadow ≡ with_thread t (record (thread_at (handed_over s shadow t (kernel_next s m) m) t) { call = None }) (handed_over s shadow t (kernel_next s m) m)
+  hand_world = handed_world s shadow t (kernel_next s m) m next_known cell_known (below t (length s.rows) h.known)
 
   -- its thread doesn't rest
-  pub hand_rests : rests (world_of (with_line t Idle (handed_to (kernel_next s m) m s))) t ≡ false
+  pub hand_rests : rests (world_of (with_line t Idle (handed_to (kernel_next s m) m s)) shadow) t ≡ false
   hand_rests =
-      rests-neither (world_of (with_line t Idle (handed_to (kernel_next s m) m s))) t
+      rests-neither (world_of (with_line t Idle (handed_to (kernel_next s m) m s)) shadow) t
       (ap (λ (x : Thread). is_stuck x.call) (mapped_at thread_of (with_line t Idle (handed_to (kernel_next s m) m s)).rows t no_row) ∙ ap (λ (r : Row). is_stuck (thread_of r).call) left_behind.row_here)
       (ap (names t) left_behind.waiters ∙ named-without_other s.waiters (kernel_next s m) t (λ x. next_known.other (sym x))
       ∙ ready-unnamed s t h.sound (knows_at_unlock s t m h.sound h.known h.line).1)

@@ -25,7 +25,7 @@ use Rattle.pif_model.specs.Posix.Locks.{own_normal, own_errorcheck}
 use Rattle.pif_model.specs.Table.{Table, row_at, cell_at, has_mutex, with_line, with_word, is_ready, kernel_waits_for}
 use Rattle.pif_model.specs.Kernel.{lock_pi_answer, lock_pi_after}
 use Rattle.pif_model.specs.Lines.{lock_load, lock_exchange, lock_by, lock_kernel, lock_queued, lock_stop}
-use Rattle.pif_model.specs.Standing.{LockIsSound, CellIsSound, progress_at, world_of}
+use Rattle.pif_model.specs.Standing.{Shadow, LockIsSound, CellIsSound, progress_at, world_of}
 use Rattle.pif_simulation.proofs.Waiting.{by_test}
 use Rattle.pif_simulation.proofs.Projection.{mutex_seen, line_seen, has_thread_below, has_mutex_below}
 use Rattle.pif_simulation.proofs.Changes.{line_kept, has_thread_lined, ready_lined}
@@ -34,59 +34,59 @@ use Rattle.pif_simulation.proofs.Steps.{Keeps, GoKeeps, Going, going_allowed, go
 use Rattle.pif_simulation.proofs.Owning.{bare, takes, none_from_free, state_from_none, state_agrees}
 use Rattle.pif_simulation.proofs.Queue.{owner_seen, is_queued, queue_sound, queue_locks, queue_rests, deadlock_locks}
 
-module _ (s : Table) (t m : ℕ) where
+module _ (s : Table) (shadow : Shadow) (t m : ℕ) where
   -- the kind that the world sees
-  kind_seen : (mutex_at (world_of s) m).kind ≡ (cell_at s m).kind
-  kind_seen = ap (λ (x : Mutex). x.kind) (mutex_seen s m)
+  kind_seen : (mutex_at (world_of s shadow) m).kind ≡ (cell_at s m).kind
+  kind_seen = ap (λ (x : Mutex). x.kind) (mutex_seen s shadow m)
 
   -- a lock that has had no effect yet is locking by this rule
-  locks : {p : Place} (g : Going s t (Lock m) p) → progress_at p (row_at s t).status ≡ Fresh → (v : World) → Locks t m (world_of s) v → Effect t (world_of s) v
+  locks : {p : Place} (g : Going s shadow t (Lock m) p) → progress_at p (row_at s t).status ≡ Fresh → (v : World) → Locks t m (world_of s shadow) v → Effect t (world_of s shadow) v
   locks g fresh v rule = lock m (going_called g ∙ ap (λ x. Some (record { request = Lock m; progress = x })) fresh) rule
 
   -- the load of the owner, by the kind
-  load_own : (g : Going s t (Lock m) LockLoad) → (cell_at s m).word.number ≡ t → (k : Kind) → (cell_at s m).kind ≡ k
-      → GoKeeps s t (elim k [ Normal ↦ record { seen = Went; after = with_line t (At (Lock m) LockStop) s } | ErrorCheck ↦ record { seen = Answered 35; after = with_line t Idle s } ])
+  load_own : (g : Going s shadow t (Lock m) LockLoad) → (cell_at s m).word.number ≡ t → (k : Kind) → (cell_at s m).kind ≡ k
+      → GoKeeps s shadow t (elim k [ Normal ↦ record { seen = Went; after = with_line t (At (Lock m) LockStop) s } | ErrorCheck ↦ record { seen = Answered 35; after = with_line t Idle s } ])
   load_own g own Normal k = goes_on g LockStop (going_knows g).1 ((going_knows g).0, ((going_knows g).1, own, k)) refl
-  load_own g own ErrorCheck k = answers_alone g 35 (going_knows g).1 (locks g refl _ (own_errorcheck (owner_seen s m ∙ own) (kind_seen ∙ k) refl))
+  load_own g own ErrorCheck k = answers_alone g 35 (going_knows g).1 (locks g refl _ (own_errorcheck (owner_seen s shadow m ∙ own) (kind_seen ∙ k) refl))
 
   -- lock: load the word
-  pub lock_load_kept : Going s t (Lock m) LockLoad → GoKeeps s t (lock_load t m s)
+  pub lock_load_kept : Going s shadow t (Lock m) LockLoad → GoKeeps s shadow t (lock_load t m s)
   unfolding lock_load
-  lock_load_kept g = by_test (λ b. GoKeeps s t (if b then elim (cell_at s m).kind [ Normal ↦ record { seen = Went; after = with_line t (At (Lock m) LockStop) s } | ErrorCheck ↦ record { seen = Answered 35; after = with_line t Idle s } ] else record { seen = Went; after = with_line t (At (Lock m) LockExchange) s }))
+  lock_load_kept g = by_test (λ b. GoKeeps s shadow t (if b then elim (cell_at s m).kind [ Normal ↦ record { seen = Went; after = with_line t (At (Lock m) LockStop) s } | ErrorCheck ↦ record { seen = Answered 35; after = with_line t Idle s } ] else record { seen = Went; after = with_line t (At (Lock m) LockExchange) s }))
       ((cell_at s m).word.number == t)
       (λ e. load_own g (eqb-true (cell_at s m).word.number t e) (cell_at s m).kind refl)
       (λ e. goes_on g LockExchange (going_knows g).1 ((going_knows g).0, ((going_knows g).1, eqb-false (cell_at s m).word.number t e)) refl)
 
   -- lock: compare-exchange from 0 to t
-  pub lock_exchange_kept : Going s t (Lock m) LockExchange → GoKeeps s t (lock_exchange t m s)
+  pub lock_exchange_kept : Going s shadow t (Lock m) LockExchange → GoKeeps s shadow t (lock_exchange t m s)
   unfolding lock_exchange
-  lock_exchange_kept g = by_test (λ b. GoKeeps s t (if b then record { seen = Answered 0; after = with_line t Idle (with_word m (held_by t) s) } else record { seen = Went; after = with_line t (At (Lock m) LockKernel) s }))
+  lock_exchange_kept g = by_test (λ b. GoKeeps s shadow t (if b then record { seen = Answered 0; after = with_line t Idle (with_word m (held_by t) s) } else record { seen = Went; after = with_line t (At (Lock m) LockKernel) s }))
       (is_bare (cell_at s m).word 0)
       (λ e. takes g (going_knows g).1.0 (going_knows g).0 refl (bare (cell_at s m).word 0 e).1)
       (λ e. goes_on g LockKernel (going_knows g).1.0 (going_knows g) refl)
 
   -- lock: stop for good
-  pub lock_stop_kept : Going s t (Lock m) LockStop → GoKeeps s t (lock_stop t m s)
+  pub lock_stop_kept : Going s shadow t (Lock m) LockStop → GoKeeps s shadow t (lock_stop t m s)
   unfolding lock_stop
-  lock_stop_kept g = subst (λ v. Keeps s (Happened (Go t) Waits) v) (sym (stopped_is s t (At (Lock m) LockStopped) g.known))
+  lock_stop_kept g = subst (λ v. Keeps s shadow (Happened (Go t) Waits) v) (sym (stopped_is s t (At (Lock m) LockStopped) g.known))
       (waits_with g (stopped_at t (At (Lock m) LockStopped) s) (stop_kept s t m g.sound g.known (going_knows g).1.0 (going_knows g).0) (has_thread_stopped s t (At (Lock m) LockStopped) t ∙ g.known) (stopped_not_ready s t (At (Lock m) LockStopped) g.known) refl
-      (first (locks g refl _ (own_normal (owner_seen s m ∙ (going_knows g).1.1) (kind_seen ∙ (going_knows g).1.2) refl)) (none (stop_seen s t m LockStop g.line))))
+      (first (locks g refl _ (own_normal (owner_seen s shadow m ∙ (going_knows g).1.1) (kind_seen ∙ (going_knows g).1.2) refl)) (none (stop_seen s shadow t m LockStop g.line))))
 
   -- lock: stopped for good
-  pub lock_stopped_kept : Going s t (Lock m) LockStopped → Keeps s (Happened (Go t) Waits) s
+  pub lock_stopped_kept : Going s shadow t (Lock m) LockStopped → Keeps s shadow (Happened (Go t) Waits) s
   lock_stopped_kept g = waits_with g s g.sound g.known (ap is_ready (going_knows g).1) refl (none refl)
 
   -- lock: queued, or made the owner, by the status
-  queued_by : (g : Going s t (Lock m) LockQueued) (x : Status) → (row_at s t).status ≡ x → LockIsSound t x (cell_at s m) LockQueued → GoKeeps s t (if is_ready x then record { seen = Answered 0; after = with_line t Idle s } else record { seen = Waits; after = s })
+  queued_by : (g : Going s shadow t (Lock m) LockQueued) (x : Status) → (row_at s t).status ≡ x → LockIsSound t x (cell_at s m) LockQueued → GoKeeps s shadow t (if is_ready x then record { seen = Answered 0; after = with_line t Idle s } else record { seen = Waits; after = s })
   queued_by g (Ready w) e knows =
       let ready : is_ready (row_at s t).status ≡ true = ap is_ready e in
-      answers_with g (with_line t Idle s) 0 (world_of s) (line_kept s t Idle g.sound g.known ready ready) (has_thread_lined s t Idle t ∙ g.known) (ready_lined s t Idle g.known ∙ ready) refl (none refl)
-      (going_called g ∙ ap (λ x. Some (record { request = Lock m; progress = progress_at LockQueued x })) e) (line_seen s t Idle)
+      answers_with g (with_line t Idle s) 0 (world_of s shadow) (line_kept s t Idle g.sound g.known ready ready) (has_thread_lined s t Idle t ∙ g.known) (ready_lined s t Idle g.known ∙ ready) refl (none refl)
+      (going_called g ∙ ap (λ x. Some (record { request = Lock m; progress = progress_at LockQueued x })) e) (line_seen s shadow t Idle)
   queued_by g (Queued n) e knows = waits_with g s g.sound g.known (ap is_ready e) refl (none refl)
   queued_by g Stopped e knows = absurd knows
 
   -- lock: queued, or made the owner
-  pub lock_queued_kept : Going s t (Lock m) LockQueued → GoKeeps s t (lock_queued t m s)
+  pub lock_queued_kept : Going s shadow t (Lock m) LockQueued → GoKeeps s shadow t (lock_queued t m s)
   unfolding lock_queued
   lock_queued_kept g = queued_by g (row_at s t).status refl (going_knows g).1
 
@@ -103,29 +103,30 @@ module _ (s : Table) (t m : ℕ) where
   answer_owned named other owned living agrees = rw (named, ne_eqb (cell_at s m).word.number t other, ne_eqb (cell_at s m).word.number 0 owned, living, agrees) refl
 
   -- the kernel makes t the owner
-  kernel_takes : (g : Going s t (Lock m) LockKernel) → (cell_at s m).word.number ≡ 0 → lock_pi_answer t m s ≡ Ok TookOwns → GoKeeps s t (lock_kernel t m s)
+  kernel_takes : (g : Going s shadow t (Lock m) LockKernel) → (cell_at s m).word.number ≡ 0 → lock_pi_answer t m s ≡ Ok TookOwns → GoKeeps s shadow t (lock_kernel t m s)
   unfolding lock_kernel lock_by lock_pi_after
-  kernel_takes g zero e = subst (λ a. GoKeeps s t (lock_by a t m (lock_pi_after t m a s))) (sym e)
-      (subst (λ w. Keeps s (Happened (Go t) (Answered 0)) (with_line t Idle (with_word m w s))) (λ i. record { number = t; waiters = false; died = sym (g.sound.cells m (going_knows g).0).no_death i })
+  kernel_takes g zero e = subst (λ a. GoKeeps s shadow t (lock_by a t m (lock_pi_after t m a s))) (sym e)
+      (subst (λ w. Keeps s shadow (Happened (Go t) (Answered 0)) (with_line t Idle (with_word m w s))) (λ i. record { number = t; waiters = false; died = sym (g.sound.cells m (going_knows g).0).no_death i })
       (takes g (going_knows g).1.0 (going_knows g).0 refl zero))
 
   -- the kernel queues t
-  kernel_queues : (g : Going s t (Lock m) LockKernel) → lock_pi_answer t m s ≡ Ok TookQueued → GoKeeps s t (lock_kernel t m s)
+  kernel_queues : (g : Going s shadow t (Lock m) LockKernel) → lock_pi_answer t m s ≡ Ok TookQueued → GoKeeps s shadow t (lock_kernel t m s)
   unfolding lock_kernel lock_by lock_pi_after
-  kernel_queues g e = subst (λ a. GoKeeps s t (lock_by a t m (lock_pi_after t m a s))) (sym e) (record {
+  kernel_queues g e = subst (λ a. GoKeeps s shadow t (lock_by a t m (lock_pi_after t m a s))) (sym e) (record {
     sound = queue_sound s t m g.sound g.known g.line e;
-    step = waits t refl (going_allowed g) (first (locks g refl _ (queue_locks s t m g.sound g.known g.line e)) (none refl)) (queue_rests s t m);
+    next = shadow;
+    step = waits t refl (going_allowed g) (first (locks g refl _ (queue_locks s shadow t m g.sound g.known g.line e)) (none refl)) (queue_rests s shadow t m);
     limits = (is_queued s t m (has_thread_below s t g.known) (has_mutex_below s m (going_knows g).0)).limits;
   })
 
   -- the kernel refuses a lock that would close a cycle
-  kernel_refuses : (g : Going s t (Lock m) LockKernel) → lock_pi_answer t m s ≡ Err Deadlock → GoKeeps s t (lock_kernel t m s)
+  kernel_refuses : (g : Going s shadow t (Lock m) LockKernel) → lock_pi_answer t m s ≡ Err Deadlock → GoKeeps s shadow t (lock_kernel t m s)
   unfolding lock_kernel lock_by lock_pi_after
-  kernel_refuses g e = subst (λ a. GoKeeps s t (lock_by a t m (lock_pi_after t m a s))) (sym e)
-      (answers_alone g 35 (going_knows g).1.0 (locks g refl _ (deadlock_locks s t m g.sound g.known g.line e)))
+  kernel_refuses g e = subst (λ a. GoKeeps s shadow t (lock_by a t m (lock_pi_after t m a s))) (sym e)
+      (answers_alone g 35 (going_knows g).1.0 (locks g refl _ (deadlock_locks s shadow t m g.sound g.known g.line e)))
 
   -- lock: the kernel call lock_pi
-  pub lock_kernel_kept : Going s t (Lock m) LockKernel → GoKeeps s t (lock_kernel t m s)
+  pub lock_kernel_kept : Going s shadow t (Lock m) LockKernel → GoKeeps s shadow t (lock_kernel t m s)
   lock_kernel_kept g = go (cases_eq (cell_at s m).word.number 0)
     where
       c : CellIsSound s m (cell_at s m)
@@ -137,9 +138,9 @@ module _ (s : Table) (t m : ℕ) where
       other : (cell_at s m).word.number ≢ t
       other = (going_knows g).1.1
 
-      go : ((cell_at s m).word.number ≡ 0) ⊎ ((cell_at s m).word.number ≢ 0) → GoKeeps s t (lock_kernel t m s)
+      go : ((cell_at s m).word.number ≡ 0) ⊎ ((cell_at s m).word.number ≢ 0) → GoKeeps s shadow t (lock_kernel t m s)
       go (inl zero) = kernel_takes g zero (answer_free named other zero (state_from_none c (none_from_free c zero)))
-      go (inr owned) = by_test (λ b. lock_pi_answer t m s ≡ (if b then Err Deadlock else Ok TookQueued) → GoKeeps s t (lock_kernel t m s))
+      go (inr owned) = by_test (λ b. lock_pi_answer t m s ≡ (if b then Err Deadlock else Ok TookQueued) → GoKeeps s shadow t (lock_kernel t m s))
           (reaches_within (length s.rows) (kernel_waits_for s) (cell_at s m).word.number t)
           (λ r e. kernel_refuses g e) (λ r e. kernel_queues g e)
           (answer_owned named other owned (g.sound.rows (cell_at s m).word.number (c.owner owned)).living (state_agrees c))

@@ -17,7 +17,7 @@ use Rattle.pif_model.specs.Posix.Locks.{free}
 use Rattle.pif_model.specs.Posix.Unlocks.{released}
 use Rattle.pif_model.specs.Posix.Passes.{to_nobody}
 use Rattle.pif_model.specs.Table.{Table, Row, Cell, row_at, cell_at, has_thread, has_mutex, with_line, with_word, is_ready}
-use Rattle.pif_model.specs.Standing.{health_of, progress_at, mutex_of, world_of, CellIsSound, IsSound}
+use Rattle.pif_model.specs.Standing.{Shadow, health_of, progress_at, mutex_of, world_of, CellIsSound, IsSound}
 use Rattle.pif_simulation.proofs.Waiting.{by_test}
 use Rattle.pif_simulation.proofs.Projection.{mutex_seen, has_thread_above_0}
 use Rattle.pif_simulation.proofs.Changes.{row_lined, rows_lined, ready_lined, has_thread_lined, cell_outlives, line_kept, word_kept}
@@ -97,10 +97,10 @@ pub next_none : (f : ℕ → ℕ) (ws : List (ℕ × ℕ)) (m : ℕ) → has_wai
 unfolding next_waiter first_greatest
 next_none f ws m h = ap (λ (l : List (ℕ × ℕ)). (first_greatest (map (λ (w : ℕ × ℕ). (w.0, f w.0)) l)).0) (waiters_none ws m h)
 
-module _ {s : Table} {t m : ℕ} {p : Place} where
+module _ {s : Table} {shadow : Shadow} {t m : ℕ} {p : Place} where
   -- t takes a free mutex by its word
-  pub takes : (g : Going s t (Lock m) p) → is_ready (row_at s t).status ≡ true → has_mutex s m ≡ true → progress_at p (row_at s t).status ≡ Fresh → (cell_at s m).word.number ≡ 0
-      → Keeps s (Happened (Go t) (Answered 0)) (with_line t Idle (with_word m (held_by t) s))
+  pub takes : (g : Going s shadow t (Lock m) p) → is_ready (row_at s t).status ≡ true → has_mutex s m ≡ true → progress_at p (row_at s t).status ≡ Fresh → (cell_at s m).word.number ≡ 0
+      → Keeps s shadow (Happened (Go t) (Answered 0)) (with_line t Idle (with_word m (held_by t) s))
   takes g ready named fresh zero =
       let c : Cell = cell_at s m in
       let h : CellIsSound s m c = g.sound.cells m named in
@@ -112,14 +112,14 @@ module _ {s : Table} {t m : ℕ} {p : Place} where
       (λ u d z. ((λ e. absurd (z (sym e ∙ zero))), (λ e q. d (sym q)))) in
       answers_word g m (held_by t) ready sound
       (lock m (going_called g ∙ ap (λ x. Some (record { request = Lock m; progress = x })) fresh)
-      (free (λ e. away (sym e ∙ ap (λ (x : Mutex). x.owner) (mutex_seen s m) ∙ zero)) (ap (λ (x : Mutex). x.owner) (mutex_seen s m) ∙ zero)
-      (ap₂ (λ (x : Progress) (y : Mutex). with_progress t x (with_mutex m y (world_of s)))
-      (sym (ap on_taking (ap (λ (x : Mutex). x.health) (mutex_seen s m) ∙ in_order h)))
-      (taken_seen h t ∙ ap (λ (y : Mutex). record y { owner = t; count = 1 }) (sym (mutex_seen s m))))))
+      (free (λ e. away (sym e ∙ ap (λ (x : Mutex). x.owner) (mutex_seen s shadow m) ∙ zero)) (ap (λ (x : Mutex). x.owner) (mutex_seen s shadow m) ∙ zero)
+      (ap₂ (λ (x : Progress) (y : Mutex). with_progress t x (with_mutex m y (world_of s shadow)))
+      (sym (ap on_taking (ap (λ (x : Mutex). x.health) (mutex_seen s shadow m) ∙ in_order h)))
+      (taken_seen h t ∙ ap (λ (y : Mutex). record y { owner = t; count = 1 }) (sym (mutex_seen s shadow m))))))
 
   -- t gives up a mutex for which nobody waits by its word
-  pub gives_up : (g : Going s t (Unlock m) p) → is_ready (row_at s t).status ≡ true → has_mutex s m ≡ true → progress_at p (row_at s t).status ≡ Fresh → (cell_at s m).word.number ≡ t → has_waiter s.waiters m ≡ false
-      → Keeps s (Happened (Go t) (Answered 0)) (with_line t Idle (with_word m free_word s))
+  pub gives_up : (g : Going s shadow t (Unlock m) p) → is_ready (row_at s t).status ≡ true → has_mutex s m ≡ true → progress_at p (row_at s t).status ≡ Fresh → (cell_at s m).word.number ≡ t → has_waiter s.waiters m ≡ false
+      → Keeps s shadow (Happened (Go t) (Answered 0)) (with_line t Idle (with_word m free_word s))
   gives_up g ready named fresh own none =
       let c : Cell = cell_at s m in
       let h : CellIsSound s m c = g.sound.cells m named in
@@ -129,11 +129,11 @@ module _ {s : Table} {t m : ℕ} {p : Place} where
       (λ u d z. ((λ e. absurd (d (sym e ∙ own))), (λ e q. z (sym q)))) in
       answers_word g m free_word ready sound
       (unlock m (going_called g ∙ ap (λ x. Some (record { request = Unlock m; progress = x })) fresh)
-      (released (ap (λ (x : Mutex). x.owner) (mutex_seen s m) ∙ own)
-      (λ e. fine_is_in_order (sym (in_order h) ∙ sym (ap (λ (x : Mutex). x.health) (mutex_seen s m)) ∙ e))
-      (to_nobody (next_none (effective_of (with_progress t (Has 0) (world_of s))) s.waiters m none)
-      (ap (λ (y : Mutex). with_progress t (Has 0) (with_mutex m y (world_of s)))
-      (freed_seen h ∙ ap (λ (y : Mutex). record y { owner = 0 }) (sym (mutex_seen s m)))))))
+      (released (ap (λ (x : Mutex). x.owner) (mutex_seen s shadow m) ∙ own)
+      (λ e. fine_is_in_order (sym (in_order h) ∙ sym (ap (λ (x : Mutex). x.health) (mutex_seen s shadow m)) ∙ e))
+      (to_nobody (next_none (effective_of (with_progress t (Has 0) (world_of s shadow))) s.waiters m none)
+      (ap (λ (y : Mutex). with_progress t (Has 0) (with_mutex m y (world_of s shadow)))
+      (freed_seen h ∙ ap (λ (y : Mutex). record y { owner = 0 }) (sym (mutex_seen s shadow m)))))))
     where
       fine_is_in_order : Fine ≡ Inconsistent → ⊥
       fine_is_in_order e = cc

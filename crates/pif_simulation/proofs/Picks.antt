@@ -18,7 +18,7 @@ use Rattle.pif_model.specs.Word.{free_word}
 use Rattle.pif_model.specs.Posix.{Health, Thread, Mutex, mutex_at, is_thread, is_stuck, rests, effective_of}
 use Rattle.pif_model.specs.Posix.Health.{Fine, Inconsistent}
 use Rattle.pif_model.specs.Table.{Table, no_row, no_cell, row_at, cell_at, has_thread, has_mutex, is_ready, queued_on, kernel_effective, kernel_pick}
-use Rattle.pif_model.specs.Standing.{IsSound, CellIsSound, LineIsSound, QueueIsSound, IsPick, IsPossible, call_at, world_of, thread_of, mutex_of, health_of}
+use Rattle.pif_model.specs.Standing.{Shadow, IsSound, CellIsSound, LineIsSound, QueueIsSound, IsPick, IsPossible, call_at, world_of, thread_of, mutex_of, health_of}
 use Rattle.pif_simulation.proofs.Places.{mapped_at}
 
 -- whether t stands in a list of pairs
@@ -132,14 +132,14 @@ rests_by_status s t (Queued m) l h q none e = either (is_stuck (call_at l (Queue
 rests_by_status s t Stopped l h q none e = rw (stopped_stuck s t l h) refl
 
 -- a thread rests in the machine's state exactly where it is not ready
-pub rests_seen : (s : Table) → IsSound s → (t : ℕ) → has_thread s t ≡ true → rests (world_of s) t ≡ (if is_ready (row_at s t).status then false else true)
-rests_seen s h t k =
+pub rests_seen : (s : Table) (shadow : Shadow) → IsSound s → (t : ℕ) → has_thread s t ≡ true → rests (world_of s shadow) t ≡ (if is_ready (row_at s t).status then false else true)
+rests_seen s shadow h t k =
     ap (λ (x : Thread). if is_stuck x.call then true else stands_in t s.waiters) (mapped_at thread_of s.rows t no_row)
     ∙ rests_by_status s t (row_at s t).status (row_at s t).line (h.rows t k).line (h.rows t k).queue h.somewhere (h.queue t)
 
 -- a thread was added to both machines
-known_seen : (s : Table) (t : ℕ) → is_thread (world_of s) t ≡ has_thread s t
-known_seen s t = ap (λ (n : ℕ). if t == 0 then false else nat_lt t n) (length-map s.rows thread_of)
+known_seen : (s : Table) (shadow : Shadow) (t : ℕ) → is_thread (world_of s shadow) t ≡ has_thread s t
+known_seen s shadow t = ap (λ (n : ℕ). if t == 0 then false else nat_lt t n) (length-map s.rows thread_of)
 
 -- of no pairs the first is the pair of zeros
 first_of_none : (first_greatest []).0 ≡ 0
@@ -156,15 +156,15 @@ stands_somewhere t l (inl e) h = absurd (true≢false (sym h ∙ ap (λ (x : Lis
 stands_somewhere t l (inr p) h = p
 
 -- the kernel's pick runs next
-pub pick_is : (s : Table) → IsSound s → IsPick (world_of s) (kernel_pick s)
-pick_is s h =
+pub pick_is : (s : Table) (shadow : Shadow) → IsSound s → IsPick (world_of s shadow) (kernel_pick s)
+pick_is s shadow h =
     record {
       runs = λ n. runs (picked n);
-      greatest = λ t k awake. greatest t (sym (known_seen s t) ∙ k) awake;
+      greatest = λ t k awake. greatest t (sym (known_seen s shadow t) ∙ k) awake;
     }
   where
-    same : (t : ℕ) → kernel_effective s t ≡ effective_of (world_of s) t
-    same t = ap (λ (f : ℕ → ℕ). f t) (effective_seen s h)
+    same : (t : ℕ) → kernel_effective s t ≡ effective_of (world_of s shadow) t
+    same t = ap (λ (f : ℕ → ℕ). f t) (effective_seen s shadow h)
 
     levels : IsLeveled (kernel_effective s) s.ready
     levels = leveled (kernel_effective s) s.ready h.level
@@ -172,10 +172,10 @@ pick_is s h =
     both : (a b : Bool) → (if a then b else false) ≡ true → (a ≡ true) × (b ≡ true)
     both a b e = grind arith
 
-    runs : stands_in (kernel_pick s) s.ready ≡ true → (is_thread (world_of s) (kernel_pick s) ≡ true) × (rests (world_of s) (kernel_pick s) ≡ false)
+    runs : stands_in (kernel_pick s) s.ready ≡ true → (is_thread (world_of s shadow) (kernel_pick s) ≡ true) × (rests (world_of s shadow) (kernel_pick s) ≡ false)
     runs e =
         let p = both (has_thread s (kernel_pick s)) (is_ready (row_at s (kernel_pick s)).status) (sym (h.ready (kernel_pick s)) ∙ e) in
-        (known_seen s (kernel_pick s) ∙ p.0, rests_seen s h (kernel_pick s) p.0 ∙ ap (λ (b : Bool). if b then false else true) p.1)
+        (known_seen s shadow (kernel_pick s) ∙ p.0, rests_seen s shadow h (kernel_pick s) p.0 ∙ ap (λ (b : Bool). if b then false else true) p.1)
 
     first : (s.ready ≡ []) ⊎ ((stands_in (kernel_pick s) s.ready ≡ true) × ((first_greatest s.ready).1 ≡ kernel_effective s (kernel_pick s)))
     first = first_stands (kernel_effective s) s.ready levels
@@ -186,26 +186,26 @@ pick_is s h =
     picked : kernel_pick s ≢ 0 → stands_in (kernel_pick s) s.ready ≡ true
     picked n = grind (arith, first, nothing, n)
 
-    awake_stands : (t : ℕ) → has_thread s t ≡ true → rests (world_of s) t ≡ false → stands_in t s.ready ≡ true
+    awake_stands : (t : ℕ) → has_thread s t ≡ true → rests (world_of s shadow) t ≡ false → stands_in t s.ready ≡ true
     awake_stands t k awake = h.ready t ∙ (ap (λ (b : Bool). if b then is_ready (row_at s t).status else false) k
-        ∙ not_resting (is_ready (row_at s t).status) (sym (rests_seen s h t k) ∙ awake))
+        ∙ not_resting (is_ready (row_at s t).status) (sym (rests_seen s shadow h t k) ∙ awake))
 
     found : (t : ℕ) → stands_in t s.ready ≡ true → (stands_in (kernel_pick s) s.ready ≡ true) × ((first_greatest s.ready).1 ≡ kernel_effective s (kernel_pick s))
     found t e = stands_somewhere t s.ready first e
 
-    greatest : (t : ℕ) → has_thread s t ≡ true → rests (world_of s) t ≡ false → (kernel_pick s ≢ 0) × (effective_of (world_of s) t ≤ effective_of (world_of s) (kernel_pick s))
+    greatest : (t : ℕ) → has_thread s t ≡ true → rests (world_of s shadow) t ≡ false → (kernel_pick s ≢ 0) × (effective_of (world_of s shadow) t ≤ effective_of (world_of s shadow) (kernel_pick s))
     greatest t k awake =
         let e = awake_stands t k awake in
         let f = found t e in
         let p = both (has_thread s (kernel_pick s)) (is_ready (row_at s (kernel_pick s)).status) (sym (h.ready (kernel_pick s)) ∙ f.0) in (
           somebody (kernel_pick s) (length s.rows) p.0,
-          subst (λ (n : ℕ). n ≤ effective_of (world_of s) (kernel_pick s)) (same t)
+          subst (λ (n : ℕ). n ≤ effective_of (world_of s shadow) (kernel_pick s)) (same t)
               (subst (λ (n : ℕ). kernel_effective s t ≤ n) (f.1 ∙ same (kernel_pick s)) (first_above (kernel_effective s) s.ready levels t e)),
         )
 
 -- a mutex was added to a table whose word is one of those that the machine's state allows
-pub word_is_possible : (s : Table) → IsSound s → (m : ℕ) → has_mutex s m ≡ true → IsPossible (world_of s) m (cell_at s m).word
-word_is_possible s h m k =
+pub word_is_possible : (s : Table) (shadow : Shadow) → IsSound s → (m : ℕ) → has_mutex s m ≡ true → IsPossible (world_of s shadow) m (cell_at s m).word
+word_is_possible s shadow h m k =
     record {
       number = sym (ap (λ (x : Mutex). x.owner) seen);
       waiters = cell.contended;
@@ -214,7 +214,7 @@ word_is_possible s h m k =
       inconsistent = λ _ e. absurd (grind (arith, fine_seen, e));
     }
   where
-    seen : mutex_at (world_of s) m ≡ mutex_of (cell_at s m)
+    seen : mutex_at (world_of s shadow) m ≡ mutex_of (cell_at s m)
     seen = mapped_at mutex_of s.cells m no_cell
 
     cell : CellIsSound s m (cell_at s m)
@@ -223,5 +223,5 @@ word_is_possible s h m k =
     free_seen : (cell_at s m).word.number ≡ 0 → (cell_at s m).word ≡ free_word
     free_seen e = λ i. record { number = e i; waiters = cell.free e i; died = cell.no_death i }
 
-    fine_seen : (mutex_at (world_of s) m).health ≡ Fine
+    fine_seen : (mutex_at (world_of s shadow) m).health ≡ Fine
     fine_seen = ap (λ (x : Mutex). x.health) seen ∙ (ap (λ (a : Health). health_of a (cell_at s m).word.died) cell.fine ∙ ap (λ (b : Bool). if b then Inconsistent else Fine) cell.no_death)

@@ -10,7 +10,7 @@ use Rattle.pif_model.specs.Graph.{waited_by, reaches_within, effective_among, Re
 use Rattle.pif_model.specs.Graph.Reaches.{here, hop}
 use Rattle.pif_model.specs.Posix.{World, Mutex, WaitsFor, waits_for, thread_at, mutex_at, is_thread, effective_of, leads_to}
 use Rattle.pif_model.specs.Table.{Table, Row, Cell, no_cell, cell_at, has_thread, has_mutex, queued_on}
-use Rattle.pif_model.specs.Standing.{IsSound, HasEffective, world_of, thread_of, mutex_of}
+use Rattle.pif_model.specs.Standing.{Shadow, IsSound, HasEffective, world_of, thread_of, mutex_of}
 use Rattle.pif_simulation.proofs.Places.{mapped_at}
 use Rattle.pif_simulation.proofs.Among.{is_among}
 use Rattle.pif_simulation.proofs.Following.{Follows, reaches-from_within, within-from_reaches, within_here, within_alone, greatest_where_above, greatest_where_at, IsGreatestAt}
@@ -116,22 +116,22 @@ leads_to-from_reaches w h u t k r =
     (λ x n. (below_threads (waits_for w x) (length w.threads) (h.owners (waited_by w.waiters x) n)).1) (Reaches-map (follows-from_WaitsFor w h) r)
 
 -- the owner in the machine's state is the number in the word
-owner_seen : (s : Table) (m : ℕ) → (mutex_at (world_of s) m).owner ≡ (cell_at s m).word.number
-owner_seen s m = ap (λ (x : Mutex). x.owner) (mapped_at mutex_of s.cells m no_cell)
+owner_seen : (s : Table) (shadow : Shadow) (m : ℕ) → (mutex_at (world_of s shadow) m).owner ≡ (cell_at s m).word.number
+owner_seen s shadow m = ap (λ (x : Mutex). x.owner) (mapped_at mutex_of s.cells m no_cell)
 
 -- a thread was added to both machines
-thread_seen : (s : Table) (t : ℕ) → is_thread (world_of s) t ≡ has_thread s t
-thread_seen s t = ap (λ (n : ℕ). if t == 0 then false else nat_lt t n) (length-map s.rows thread_of)
+thread_seen : (s : Table) (shadow : Shadow) (t : ℕ) → is_thread (world_of s shadow) t ≡ has_thread s t
+thread_seen s shadow t = ap (λ (n : ℕ). if t == 0 then false else nat_lt t n) (length-map s.rows thread_of)
 
 -- a sound table shows an orderly state
-pub IsOrderly-world_of : (s : Table) → IsSound s → IsOrderly (world_of s)
-IsOrderly-world_of s h =
+pub IsOrderly-world_of : (s : Table) (shadow : Shadow) → IsSound s → IsOrderly (world_of s shadow)
+IsOrderly-world_of s shadow h =
     record {
       once = h.once;
       nobody_waits = h.queue 0 ∙ ap (λ (r : Row). queued_on r.status) h.nobody;
-      no_owner = owner_seen s 0 ∙ ap (λ (c : Cell). c.word.number) h.no_mutex;
-      owners = λ m n. thread_seen s (mutex_at (world_of s) m).owner
-          ∙ subst (λ (o : ℕ). has_thread s o ≡ true) (sym (owner_seen s m)) (word_owner m (λ e. n (owner_seen s m ∙ e)));
+      no_owner = owner_seen s shadow 0 ∙ ap (λ (c : Cell). c.word.number) h.no_mutex;
+      owners = λ m n. thread_seen s shadow (mutex_at (world_of s shadow) m).owner
+          ∙ subst (λ (o : ℕ). has_thread s o ≡ true) (sym (owner_seen s shadow m)) (word_owner m (λ e. n (owner_seen s shadow m ∙ e)));
     }
   where
     by_place : (m : ℕ) → (cell_at s m).word.number ≢ 0 → ((m ≡ 0) ⊎ (m ≡ 0 → ⊥)) → ((m < length s.cells) ⊎ (length s.cells ≤ m)) → has_mutex s m ≡ true
@@ -143,5 +143,5 @@ IsOrderly-world_of s h =
     word_owner m n = (h.cells m (by_place m n (cases_eq m 0) (cases_lt m (length s.cells)))).owner n
 
 -- the effective priority of each thread of a sound table, in the subject's words
-pub effective_is_greatest : (s : Table) → IsSound s → (t : ℕ) → has_thread s t ≡ true → HasEffective (world_of s) t (effective_of (world_of s) t)
-effective_is_greatest s h t k = effective_is_greatest_of (world_of s) (IsOrderly-world_of s h) t (thread_seen s t ∙ k)
+pub effective_is_greatest : (s : Table) (shadow : Shadow) → IsSound s → (t : ℕ) → has_thread s t ≡ true → HasEffective (world_of s shadow) t (effective_of (world_of s shadow) t)
+effective_is_greatest s shadow h t k = effective_is_greatest_of (world_of s shadow) (IsOrderly-world_of s shadow h) t (thread_seen s shadow t ∙ k)

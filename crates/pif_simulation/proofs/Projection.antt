@@ -14,27 +14,27 @@ use Rattle.pif_model.specs.Word.{Word}
 use Rattle.pif_model.specs.Posix.{Progress, Call, Thread, World, nobody, thread_at, mutex_at, is_thread, is_mutex, with_thread, with_mutex, with_progress, progressed, refusal_of, named_by}
 use Rattle.pif_model.specs.Table.{Table, Row, no_row, no_cell, row_at, cell_at, has_thread, has_mutex, with_row, with_line, with_word}
 use Rattle.pif_model.specs.Lines.{is_open, table_refusal}
-use Rattle.pif_model.specs.Standing.{call_at, thread_of, mutex_of, world_of}
+use Rattle.pif_model.specs.Standing.{Shadow, call_at, thread_of, mutex_of, world_of}
 use Rattle.pif_simulation.proofs.Places.{mapped_at}
 use Rattle.pif_simulation.proofs.Kept.{above_0, below}
 
 -- PLACES
 
 -- the thread that the POSIX machine sees is the row's
-pub thread_seen : (s : Table) (t : ℕ) → thread_at (world_of s) t ≡ thread_of (row_at s t)
-thread_seen s t = mapped_at thread_of s.rows t no_row
+pub thread_seen : (s : Table) (shadow : Shadow) (t : ℕ) → thread_at (world_of s shadow) t ≡ thread_of (row_at s t)
+thread_seen s shadow t = mapped_at thread_of s.rows t no_row
 
 -- the mutex that the POSIX machine sees is the cell's
-pub mutex_seen : (s : Table) (m : ℕ) → mutex_at (world_of s) m ≡ mutex_of (cell_at s m)
-mutex_seen s m = mapped_at mutex_of s.cells m no_cell
+pub mutex_seen : (s : Table) (shadow : Shadow) (m : ℕ) → mutex_at (world_of s shadow) m ≡ mutex_of (cell_at s m)
+mutex_seen s shadow m = mapped_at mutex_of s.cells m no_cell
 
 -- both machines have the same threads
-pub is_thread_seen : (s : Table) (t : ℕ) → is_thread (world_of s) t ≡ has_thread s t
-is_thread_seen s t = ap (λ n. if t == 0 then false else nat_lt t n) (length-map s.rows thread_of)
+pub is_thread_seen : (s : Table) (shadow : Shadow) (t : ℕ) → is_thread (world_of s shadow) t ≡ has_thread s t
+is_thread_seen s shadow t = ap (λ n. if t == 0 then false else nat_lt t n) (length-map s.rows thread_of)
 
 -- both machines have the same mutexes
-pub is_mutex_seen : (s : Table) (m : ℕ) → is_mutex (world_of s) m ≡ has_mutex s m
-is_mutex_seen s m = ap (λ n. if m == 0 then false else nat_lt m n) (length-map s.cells mutex_of)
+pub is_mutex_seen : (s : Table) (shadow : Shadow) (m : ℕ) → is_mutex (world_of s shadow) m ≡ has_mutex s m
+is_mutex_seen s shadow m = ap (λ n. if m == 0 then false else nat_lt m n) (length-map s.cells mutex_of)
 
 -- a number that passes the test is not 0, and below
 pub within : (t n : ℕ) → (if t == 0 then false else nat_lt t n) ≡ true → (t ≢ 0) × (t < n)
@@ -68,41 +68,41 @@ is_open_seen Idle x = refl
 is_open_seen (At q p) x = refl
 
 -- both machines have t's call open, or neither
-pub busy_seen : (s : Table) (t : ℕ) → is_some (thread_at (world_of s) t).call ≡ is_open (row_at s t).line
-busy_seen s t = ap (λ (x : Thread). is_some x.call) (thread_seen s t) ∙ is_open_seen (row_at s t).line (row_at s t).status
+pub busy_seen : (s : Table) (shadow : Shadow) (t : ℕ) → is_some (thread_at (world_of s shadow) t).call ≡ is_open (row_at s t).line
+busy_seen s shadow t = ap (λ (x : Thread). is_some x.call) (thread_seen s shadow t) ∙ is_open_seen (row_at s t).line (row_at s t).status
 
 -- both machines refuse the same events
-pub refusal_seen : (s : Table) (e : Event) → refusal_of (world_of s) e ≡ table_refusal s e
-refusal_seen s (Begin t q) = λ i. begin_refused (is_thread_seen s t i) (busy_seen s t i) (is_mutex_seen s (named_by q) i)
-refusal_seen s (Go t) = λ i. go_refused (is_thread_seen s t i) (busy_seen s t i)
+pub refusal_seen : (s : Table) (shadow : Shadow) (e : Event) → refusal_of (world_of s shadow) e ≡ table_refusal s e
+refusal_seen s shadow (Begin t q) = λ i. begin_refused (is_thread_seen s shadow t i) (busy_seen s shadow t i) (is_mutex_seen s shadow (named_by q) i)
+refusal_seen s shadow (Go t) = λ i. go_refused (is_thread_seen s shadow t i) (busy_seen s shadow t i)
 
 -- CHANGES
 
 -- a table with t at another line shows the world with t's call there
-pub line_seen : (s : Table) (t : ℕ) (l : Line) → world_of (with_line t l s) ≡ with_thread t (record (thread_at (world_of s) t) { call = call_at l (row_at s t).status }) (world_of s)
-line_seen s t l = λ i. record (world_of s) {
+pub line_seen : (s : Table) (shadow : Shadow) (t : ℕ) (l : Line) → world_of (with_line t l s) shadow ≡ with_thread t (record (thread_at (world_of s shadow) t) { call = call_at l (row_at s t).status }) (world_of s shadow)
+line_seen s shadow t l = λ i. record (world_of s shadow) {
   threads = (map-set thread_of s.rows t (record (row_at s t) { line = l })
-      ∙ ap (λ (x : Thread). set (map thread_of s.rows) t (record x { call = call_at l (row_at s t).status })) (sym (thread_seen s t))) i;
+      ∙ ap (λ (x : Thread). set (map thread_of s.rows) t (record x { call = call_at l (row_at s t).status })) (sym (thread_seen s shadow t))) i;
 }
 
 -- a table with another word of m shows the world with m as that shows it
-pub word_seen : (s : Table) (m : ℕ) (x : Word) → world_of (with_word m x s) ≡ with_mutex m (mutex_of (record (cell_at s m) { word = x })) (world_of s)
-word_seen s m x = λ i. record (world_of s) { mutexes = map-set mutex_of s.cells m (record (cell_at s m) { word = x }) i }
+pub word_seen : (s : Table) (shadow : Shadow) (m : ℕ) (x : Word) → world_of (with_word m x s) shadow ≡ with_mutex m (mutex_of (record (cell_at s m) { word = x })) (world_of s shadow)
+word_seen s shadow m x = λ i. record (world_of s shadow) { mutexes = map-set mutex_of s.cells m (record (cell_at s m) { word = x }) i }
 
 -- a table with another row of t shows the world with t as that shows it
-pub row_seen : (s : Table) (t : ℕ) (r : Row) → world_of (with_row t r s) ≡ with_thread t (thread_of r) (world_of s)
-row_seen s t r = λ i. record (world_of s) { threads = map-set thread_of s.rows t r i }
+pub row_seen : (s : Table) (shadow : Shadow) (t : ℕ) (r : Row) → world_of (with_row t r s) shadow ≡ with_thread t (thread_of r) (world_of s shadow)
+row_seen s shadow t r = λ i. record (world_of s shadow) { threads = map-set thread_of s.rows t r i }
 
 -- the call that the POSIX machine sees is the line's
-pub call_seen : (s : Table) (t : ℕ) (l : Line) → (row_at s t).line ≡ l → (thread_at (world_of s) t).call ≡ call_at l (row_at s t).status
-call_seen s t l e = ap (λ (x : Thread). x.call) (thread_seen s t) ∙ ap (λ k. call_at k (row_at s t).status) e
+pub call_seen : (s : Table) (shadow : Shadow) (t : ℕ) (l : Line) → (row_at s t).line ≡ l → (thread_at (world_of s shadow) t).call ≡ call_at l (row_at s t).status
+call_seen s shadow t l e = ap (λ (x : Thread). x.call) (thread_seen s shadow t) ∙ ap (λ k. call_at k (row_at s t).status) e
 
 -- the world in which t's call has come this far
-pub progress_seen : (s : Table) (t : ℕ) (q : Request) (a : Place) (p : Progress) → (row_at s t).line ≡ At q a
-    → with_progress t p (world_of s) ≡ with_thread t (record { base = (row_at s t).base; living = (row_at s t).living; call = Some (record { request = q; progress = p }) }) (world_of s)
-progress_seen s t q a p e =
-    ap (λ (x : Thread). with_thread t (record x { call = progressed p x.call }) (world_of s)) (thread_seen s t)
-    ∙ ap (λ l. with_thread t (record { base = (row_at s t).base; living = (row_at s t).living; call = progressed p (call_at l (row_at s t).status) }) (world_of s)) e
+pub progress_seen : (s : Table) (shadow : Shadow) (t : ℕ) (q : Request) (a : Place) (p : Progress) → (row_at s t).line ≡ At q a
+    → with_progress t p (world_of s shadow) ≡ with_thread t (record { base = (row_at s t).base; living = (row_at s t).living; call = Some (record { request = q; progress = p }) }) (world_of s shadow)
+progress_seen s shadow t q a p e =
+    ap (λ (x : Thread). with_thread t (record x { call = progressed p x.call }) (world_of s shadow)) (thread_seen s shadow t)
+    ∙ ap (λ l. with_thread t (record { base = (row_at s t).base; living = (row_at s t).living; call = progressed p (call_at l (row_at s t).status) }) (world_of s shadow)) e
 
 -- WORLDS
 

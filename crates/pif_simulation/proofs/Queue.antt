@@ -18,7 +18,7 @@ use Rattle.pif_model.specs.Posix.Progress.{Waiting, Has}
 use Rattle.pif_model.specs.Posix.Locks.{cycle, joins}
 use Rattle.pif_model.specs.Table.{Table, Row, Cell, no_row, no_cell, row_at, cell_at, has_thread, has_mutex, is_ready, queued_on, with_line, kernel_waits_for, kernel_effective, releveled}
 use Rattle.pif_model.specs.Kernel.{queued_on_mutex, lock_pi_answer}
-use Rattle.pif_model.specs.Standing.{LineIsSound, RowIsSound, CellIsSound, IsSound, call_at, thread_of, mutex_of, world_of}
+use Rattle.pif_model.specs.Standing.{Shadow, LineIsSound, RowIsSound, CellIsSound, IsSound, call_at, thread_of, mutex_of, world_of}
 use Rattle.pif_simulation.proofs.Places.{mapped_at}
 use Rattle.pif_simulation.proofs.Waiting.{by_test, names, Once, or_true, or_false, waited_by-append_other, waited_by-append_same, unnamed-from_0, once_push, once_without, named-without_same, named-without_other, has_waiter-push, named-push, named-releveled, once_releveled, level_releveled}
 use Rattle.pif_simulation.proofs.Effective.{leads_seen, effective-with_line}
@@ -235,23 +235,23 @@ deadlock_says s t m o h =
 -- IN THE POSIX MACHINE
 
 -- the owner that the POSIX machine sees is the number in the word
-pub owner_seen : (s : Table) (m : ℕ) → (mutex_at (world_of s) m).owner ≡ (cell_at s m).word.number
-owner_seen s m = ap (λ (x : Mutex). x.owner) (mapped_at mutex_of s.cells m no_cell)
+pub owner_seen : (s : Table) (shadow : Shadow) (m : ℕ) → (mutex_at (world_of s shadow) m).owner ≡ (cell_at s m).word.number
+owner_seen s shadow m = ap (λ (x : Mutex). x.owner) (mapped_at mutex_of s.cells m no_cell)
 
 -- a stalled mutex whose owner lives is not lost
-pub living-not_lost : (s : Table) (m : ℕ) → (cell_at s m).word.number ≢ 0 → (row_at s (cell_at s m).word.number).living ≡ true → is_lost (world_of s) m ≡ false
-living-not_lost s m n l =
+pub living-not_lost : (s : Table) (shadow : Shadow) (m : ℕ) → (cell_at s m).word.number ≢ 0 → (row_at s (cell_at s m).word.number).living ≡ true → is_lost (world_of s shadow) m ≡ false
+living-not_lost s shadow m n l =
     by_test (λ b. (if b then false else
-    (if (mutex_at (world_of s) m).owner == 0 then false else
-    (if (thread_at (world_of s) (mutex_at (world_of s) m).owner).living then false else true))) ≡ false)
-    (mutex_at (world_of s) m).robust (λ _. refl)
-    (λ _. rw (owner_seen s m, ne_eqb (cell_at s m).word.number 0 n, mapped_at thread_of s.rows (cell_at s m).word.number no_row, l) refl)
+    (if (mutex_at (world_of s shadow) m).owner == 0 then false else
+    (if (thread_at (world_of s shadow) (mutex_at (world_of s shadow) m).owner).living then false else true))) ≡ false)
+    (mutex_at (world_of s shadow) m).robust (λ _. refl)
+    (λ _. rw (owner_seen s shadow m, ne_eqb (cell_at s m).word.number 0 n, mapped_at thread_of s.rows (cell_at s m).word.number no_row, l) refl)
 
 -- a thread whose status was changed and then its line, as the POSIX machine sees it: its call has come this far
-pub two_steps_seen : (s : Table) (t : ℕ) (x : Status) (l : Line) (p : Progress) → t < length s.rows → call_at l x ≡ progressed p (call_at (row_at s t).line (row_at s t).status)
+pub two_steps_seen : (s : Table) (shadow : Shadow) (t : ℕ) (x : Status) (l : Line) (p : Progress) → t < length s.rows → call_at l x ≡ progressed p (call_at (row_at s t).line (row_at s t).status)
     → map thread_of (set (set s.rows t (record (row_at s t) { status = x })) t (record (get_or (set s.rows t (record (row_at s t) { status = x })) t no_row) { line = l }))
-    ≡ (with_progress t p (world_of s)).threads
-two_steps_seen s t x l p h e =
+    ≡ (with_progress t p (world_of s shadow)).threads
+two_steps_seen s shadow t x l p h e =
     ap (map thread_of) (set-set s.rows t (record (row_at s t) { status = x }) (record (get_or (set s.rows t (record (row_at s t) { status = x })) t no_row) { line = l }))
     ∙ map-set thread_of s.rows t (record (get_or (set s.rows t (record (row_at s t) { status = x })) t no_row) { line = l })
     ∙ ap (set (map thread_of s.rows) t)
@@ -266,11 +266,11 @@ cell_unseen s m c e =
     ∙ set-get_or (map mutex_of s.cells) m (mutex_of no_cell)
 
 -- the world that shows a thread queued
-pub queued_world : (s : Table) (t m : ℕ) → t < length s.rows → (row_at s t).line ≡ At (Lock m) LockKernel
-    → world_of (with_line t (At (Lock m) LockQueued) (queued_on_mutex t m (cell_at s m).word.number s)) ≡ record (with_progress t Waiting (world_of s)) { waiters = s.waiters ++ (t, m) ∷ [] }
+pub queued_world : (s : Table) (shadow : Shadow) (t m : ℕ) → t < length s.rows → (row_at s t).line ≡ At (Lock m) LockKernel
+    → world_of (with_line t (At (Lock m) LockQueued) (queued_on_mutex t m (cell_at s m).word.number s)) shadow ≡ record (with_progress t Waiting (world_of s shadow)) { waiters = s.waiters ++ (t, m) ∷ [] }
 unfolding queued_on_mutex
-queued_world s t m h e = λ i. record {
-  threads = two_steps_seen s t (Queued m) (At (Lock m) LockQueued) Waiting h (sym (ap (λ l. progressed Waiting (call_at l (row_at s t).status)) e)) i;
+queued_world s shadow t m h e = λ i. record {
+  threads = two_steps_seen s shadow t (Queued m) (At (Lock m) LockQueued) Waiting h (sym (ap (λ l. progressed Waiting (call_at l (row_at s t).status)) e)) i;
   mutexes = cell_unseen s m (record (cell_at s m) { word = record (cell_at s m).word { waiters = true }; state = (cell_at s m).word.number }) refl i;
   waiters = s.waiters ++ (t, m) ∷ [];
 }
@@ -285,31 +285,31 @@ queue_sound s t m h a e k =
     (is_queued s t m (below t (length s.rows) a) (below m (length s.cells) (knows_at_kernel s t m h a e).0)) h a e (queued_says s t m k).1
 
 -- the thread joins the waiters
-pub queue_locks : (s : Table) (t m : ℕ) → IsSound s → has_thread s t ≡ true → (row_at s t).line ≡ At (Lock m) LockKernel → lock_pi_answer t m s ≡ Ok TookQueued
-    → Locks t m (world_of s) (world_of (with_line t (At (Lock m) LockQueued) (queued_on_mutex t m (cell_at s m).word.number s)))
-queue_locks s t m h a e k =
+pub queue_locks : (s : Table) (shadow : Shadow) (t m : ℕ) → IsSound s → has_thread s t ≡ true → (row_at s t).line ≡ At (Lock m) LockKernel → lock_pi_answer t m s ≡ Ok TookQueued
+    → Locks t m (world_of s shadow) (world_of (with_line t (At (Lock m) LockQueued) (queued_on_mutex t m (cell_at s m).word.number s)) shadow)
+queue_locks s shadow t m h a e k =
     let says = queued_says s t m k in
-    joins (λ x. says.0 (sym (owner_seen s m) ∙ x)) (λ x. says.1 (sym (owner_seen s m) ∙ x)) (living-not_lost s m says.1 says.2)
-    (ap (λ n. leads_to (world_of s) n t) (owner_seen s m) ∙ leads_seen s h (cell_at s m).word.number t ∙ says.3)
-    (queued_world s t m (below t (length s.rows) a) e)
+    joins (λ x. says.0 (sym (owner_seen s shadow m) ∙ x)) (λ x. says.1 (sym (owner_seen s shadow m) ∙ x)) (living-not_lost s shadow m says.1 says.2)
+    (ap (λ n. leads_to (world_of s shadow) n t) (owner_seen s shadow m) ∙ leads_seen s shadow h (cell_at s m).word.number t ∙ says.3)
+    (queued_world s shadow t m (below t (length s.rows) a) e)
 
 -- a thread among the waiters rests
 pub rests-waiter : (w : World) (t : ℕ) → names t w.waiters ≡ true → rests w t ≡ true
 rests-waiter w t h = by_test (λ b. (if b then true else names t w.waiters) ≡ true) (is_stuck (thread_at w t).call) (λ _. refl) (λ _. h)
 
 -- it rests then
-pub queue_rests : (s : Table) (t m : ℕ) → rests (world_of (with_line t (At (Lock m) LockQueued) (queued_on_mutex t m (cell_at s m).word.number s))) t ≡ true
+pub queue_rests : (s : Table) (shadow : Shadow) (t m : ℕ) → rests (world_of (with_line t (At (Lock m) LockQueued) (queued_on_mutex t m (cell_at s m).word.number s)) shadow) t ≡ true
 unfolding queued_on_mutex
-queue_rests s t m =
-    rests-waiter (world_of (with_line t (At (Lock m) LockQueued) (queued_on_mutex t m (cell_at s m).word.number s))) t
+queue_rests s shadow t m =
+    rests-waiter (world_of (with_line t (At (Lock m) LockQueued) (queued_on_mutex t m (cell_at s m).word.number s)) shadow) t
     (named-push s.waiters t m t ∙ rw (eq-eqb t t refl) (or_true (names t s.waiters)))
 
 -- a lock that would close a cycle is refused
-pub deadlock_locks : (s : Table) (t m : ℕ) → IsSound s → has_thread s t ≡ true → (row_at s t).line ≡ At (Lock m) LockKernel → lock_pi_answer t m s ≡ Err Deadlock
-    → Locks t m (world_of s) (with_progress t (Has 35) (world_of s))
-deadlock_locks s t m h a e k =
+pub deadlock_locks : (s : Table) (shadow : Shadow) (t m : ℕ) → IsSound s → has_thread s t ≡ true → (row_at s t).line ≡ At (Lock m) LockKernel → lock_pi_answer t m s ≡ Err Deadlock
+    → Locks t m (world_of s shadow) (with_progress t (Has 35) (world_of s shadow))
+deadlock_locks s shadow t m h a e k =
     let other = (knows_at_kernel s t m h a e).2 in
     let says = deadlock_says s t m other k in
-    cycle (λ x. other (sym (owner_seen s m) ∙ x)) (λ x. says.0 (sym (owner_seen s m) ∙ x)) (living-not_lost s m says.0 says.1)
-    (ap (λ n. leads_to (world_of s) n t) (owner_seen s m) ∙ leads_seen s h (cell_at s m).word.number t ∙ says.2)
+    cycle (λ x. other (sym (owner_seen s shadow m) ∙ x)) (λ x. says.0 (sym (owner_seen s shadow m) ∙ x)) (living-not_lost s shadow m says.0 says.1)
+    (ap (λ n. leads_to (world_of s shadow) n t) (owner_seen s shadow m) ∙ leads_seen s shadow h (cell_at s m).word.number t ∙ says.2)
     refl

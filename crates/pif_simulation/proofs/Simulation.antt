@@ -19,7 +19,7 @@ use Rattle.pif_model.specs.Posix.Progress.{Fresh}
 use Rattle.pif_model.specs.Posix.Step.{refused, begun}
 use Rattle.pif_model.specs.Table.{Table, row_at, cell_at, has_thread, has_mutex, with_line, is_ready}
 use Rattle.pif_model.specs.Lines.{is_open, first_place, table_refusal, line_of, gone, accepted, by_refusal, stepped}
-use Rattle.pif_model.specs.Standing.{LockIsSound, UnlockIsSound, LineIsSound, IsSound, call_at, world_of}
+use Rattle.pif_model.specs.Standing.{Shadow, no_shadow, LockIsSound, UnlockIsSound, LineIsSound, IsSound, call_at, world_of}
 use Rattle.pif_simulation.proofs.Projection.{refusal_seen, line_seen}
 use Rattle.pif_simulation.proofs.Changes.{line_kept}
 use Rattle.pif_simulation.proofs.Steps.{Keeps, GoKeeps, Going, going_knows}
@@ -57,80 +57,82 @@ begins_fresh (Lock m) x = refl
 begins_fresh (Unlock m) x = refl
 
 -- to begin a call is an entry of the POSIX machine, and keeps the invariant
-begin_kept : (s : Table) (t : ℕ) (q : Request) → IsSound s → table_refusal s (Begin t q) ≡ None → Keeps s (Happened (Begin t q) Begun) (with_line t (At q (first_place q)) s)
-begin_kept s t q h e =
+begin_kept : (s : Table) (shadow : Shadow) (t : ℕ) (q : Request) → IsSound s → table_refusal s (Begin t q) ≡ None → Keeps s shadow (Happened (Begin t q) Begun) (with_line t (At q (first_place q)) s)
+begin_kept s shadow t q h e =
     let a = begin_allowed (has_thread s t) (is_open (row_at s t).line) (has_mutex s (named_by q)) e in
     let ready : is_ready (row_at s t).status ≡ true = subst (LineIsSound s t (row_at s t).status) (idle_line (row_at s t).line a.1) (h.rows t a.0).line in
     record {
       sound = line_kept s t (At q (first_place q)) h a.0 ready (begins_sound s t (row_at s t).status q a.2 ready);
-      step = begun t q refl (refusal_seen s (Begin t q) ∙ e)
-          (line_seen s t (At q (first_place q)) ∙ ap (λ c. with_thread t (record (thread_at (world_of s) t) { call = c }) (world_of s)) (begins_fresh q (row_at s t).status));
+      next = shadow;
+      step = begun t q refl (refusal_seen s shadow (Begin t q) ∙ e)
+          (line_seen s shadow t (At q (first_place q)) ∙ ap (λ c. with_thread t (record (thread_at (world_of s shadow) t) { call = c }) (world_of s shadow)) (begins_fresh q (row_at s t).status));
       limits = refl;
     }
 
 -- A CALL GOES ON
 
 -- a step of a lock
-lock_kept : (s : Table) (t m : ℕ) (p : Place) → Going s t (Lock m) p → LockIsSound t (row_at s t).status (cell_at s m) p → GoKeeps s t (line_of (Lock m) p t s)
+lock_kept : (s : Table) (shadow : Shadow) (t m : ℕ) (p : Place) → Going s shadow t (Lock m) p → LockIsSound t (row_at s t).status (cell_at s m) p → GoKeeps s shadow t (line_of (Lock m) p t s)
 unfolding line_of
-lock_kept s t m LockLoad g h = lock_load_kept s t m g
-lock_kept s t m LockExchange g h = lock_exchange_kept s t m g
-lock_kept s t m LockKernel g h = lock_kernel_kept s t m g
-lock_kept s t m LockQueued g h = lock_queued_kept s t m g
-lock_kept s t m LockStop g h = lock_stop_kept s t m g
-lock_kept s t m LockStopped g h = lock_stopped_kept s t m g
-lock_kept s t m UnlockLoad g h = absurd h
-lock_kept s t m UnlockExchange g h = absurd h
-lock_kept s t m UnlockKernel g h = absurd h
+lock_kept s shadow t m LockLoad g h = lock_load_kept s shadow t m g
+lock_kept s shadow t m LockExchange g h = lock_exchange_kept s shadow t m g
+lock_kept s shadow t m LockKernel g h = lock_kernel_kept s shadow t m g
+lock_kept s shadow t m LockQueued g h = lock_queued_kept s shadow t m g
+lock_kept s shadow t m LockStop g h = lock_stop_kept s shadow t m g
+lock_kept s shadow t m LockStopped g h = lock_stopped_kept s shadow t m g
+lock_kept s shadow t m UnlockLoad g h = absurd h
+lock_kept s shadow t m UnlockExchange g h = absurd h
+lock_kept s shadow t m UnlockKernel g h = absurd h
 
 -- a step of an unlock
-unlock_kept : (s : Table) (t m : ℕ) (p : Place) → Going s t (Unlock m) p → UnlockIsSound t (row_at s t).status (cell_at s m) p → GoKeeps s t (line_of (Unlock m) p t s)
+unlock_kept : (s : Table) (shadow : Shadow) (t m : ℕ) (p : Place) → Going s shadow t (Unlock m) p → UnlockIsSound t (row_at s t).status (cell_at s m) p → GoKeeps s shadow t (line_of (Unlock m) p t s)
 unfolding line_of
-unlock_kept s t m UnlockLoad g h = unlock_load_kept s t m g
-unlock_kept s t m UnlockExchange g h = unlock_exchange_kept s t m g
-unlock_kept s t m UnlockKernel g h = unlock_kernel_kept s t m g
-unlock_kept s t m LockLoad g h = absurd h
-unlock_kept s t m LockExchange g h = absurd h
-unlock_kept s t m LockKernel g h = absurd h
-unlock_kept s t m LockQueued g h = absurd h
-unlock_kept s t m LockStop g h = absurd h
-unlock_kept s t m LockStopped g h = absurd h
+unlock_kept s shadow t m UnlockLoad g h = unlock_load_kept s shadow t m g
+unlock_kept s shadow t m UnlockExchange g h = unlock_exchange_kept s shadow t m g
+unlock_kept s shadow t m UnlockKernel g h = unlock_kernel_kept s shadow t m g
+unlock_kept s shadow t m LockLoad g h = absurd h
+unlock_kept s shadow t m LockExchange g h = absurd h
+unlock_kept s shadow t m LockKernel g h = absurd h
+unlock_kept s shadow t m LockQueued g h = absurd h
+unlock_kept s shadow t m LockStop g h = absurd h
+unlock_kept s shadow t m LockStopped g h = absurd h
 
 -- a step of a call
-call_kept : (s : Table) (t : ℕ) (q : Request) (p : Place) → Going s t q p → GoKeeps s t (line_of q p t s)
-call_kept s t (Lock m) p g = lock_kept s t m p g (going_knows g).1
-call_kept s t (Unlock m) p g = unlock_kept s t m p g (going_knows g).1
+call_kept : (s : Table) (shadow : Shadow) (t : ℕ) (q : Request) (p : Place) → Going s shadow t q p → GoKeeps s shadow t (line_of q p t s)
+call_kept s shadow t (Lock m) p g = lock_kept s shadow t m p g (going_knows g).1
+call_kept s shadow t (Unlock m) p g = unlock_kept s shadow t m p g (going_knows g).1
 
 -- a step of what is open at a line
-gone_kept : (s : Table) (t : ℕ) (l : Line) → IsSound s → has_thread s t ≡ true → (row_at s t).line ≡ l → is_open l ≡ true → GoKeeps s t (gone l t s)
+gone_kept : (s : Table) (shadow : Shadow) (t : ℕ) (l : Line) → IsSound s → has_thread s t ≡ true → (row_at s t).line ≡ l → is_open l ≡ true → GoKeeps s shadow t (gone l t s)
 unfolding gone
-gone_kept s t Idle h k e o = absurd (true≢false (sym o))
-gone_kept s t (At q p) h k e o = call_kept s t q p (record { sound = h; known = k; line = e })
+gone_kept s shadow t Idle h k e o = absurd (true≢false (sym o))
+gone_kept s shadow t (At q p) h k e o = call_kept s shadow t q p (record { sound = h; known = k; line = e })
 
 -- ANY EVENT
 
 -- an event that is not refused
-accepted_kept : (s : Table) (e : Event) → IsSound s → table_refusal s e ≡ None → Keeps s (Happened e (accepted e s).seen) (accepted e s).after
+accepted_kept : (s : Table) (shadow : Shadow) (e : Event) → IsSound s → table_refusal s e ≡ None → Keeps s shadow (Happened e (accepted e s).seen) (accepted e s).after
 unfolding accepted
-accepted_kept s (Begin t q) h r = begin_kept s t q h r
-accepted_kept s (Go t) h r =
+accepted_kept s shadow (Begin t q) h r = begin_kept s shadow t q h r
+accepted_kept s shadow (Go t) h r =
     let a = go_allowed (has_thread s t) (is_open (row_at s t).line) r in
-    gone_kept s t (row_at s t).line h a.0 refl a.1
+    gone_kept s shadow t (row_at s t).line h a.0 refl a.1
 
 -- an event by its refusal
-refusal_kept : (s : Table) (e : Event) (r : Option Refusal) → IsSound s → table_refusal s e ≡ r → Keeps s (Happened e (by_refusal r e s).seen) (by_refusal r e s).after
-refusal_kept s e None h k = accepted_kept s e h k
-refusal_kept s e (Some r) h k = record { sound = h; step = refused e r refl (refusal_seen s e ∙ k) refl; limits = refl }
+refusal_kept : (s : Table) (shadow : Shadow) (e : Event) (r : Option Refusal) → IsSound s → table_refusal s e ≡ r → Keeps s shadow (Happened e (by_refusal r e s).seen) (by_refusal r e s).after
+refusal_kept s shadow e None h k = accepted_kept s shadow e h k
+refusal_kept s shadow e (Some r) h k = record { sound = h; next = shadow; step = refused e r refl (refusal_seen s shadow e ∙ k) refl; limits = refl }
 
 -- every event follows the state before it
-pub stepped_kept : (s : Table) (e : Event) → IsSound s → Keeps s (Happened e (stepped e s).seen) (stepped e s).after
+pub stepped_kept : (s : Table) (shadow : Shadow) (e : Event) → IsSound s → Keeps s shadow (Happened e (stepped e s).seen) (stepped e s).after
 unfolding stepped
-stepped_kept s e h = refusal_kept s e (table_refusal s e) h refl
+stepped_kept s shadow e h = refusal_kept s shadow e (table_refusal s e) h refl
 
 -- each step of the table machine is an entry of the POSIX machine, and keeps the invariant
-pub simulation : (s : Table) (e : Event) → IsSound s → IsSound (stepped e s).after × Step s.limits (world_of s) (Happened e (stepped e s).seen) (world_of (stepped e s).after)
-simulation s e h = let k = stepped_kept s e h in (k.sound, k.step)
+pub simulation : (s : Table) (e : Event) → IsSound s → IsSound (stepped e s).after
+    × ((x : Shadow) → (y : Shadow) × Step s.limits (world_of s x) (Happened e (stepped e s).seen) (world_of (stepped e s).after y))
+simulation s e h = ((stepped_kept s no_shadow e h).sound, λ x. let k = stepped_kept s x e h in (k.next, k.step))
 
 -- a step changes no limit
 pub stepped_limits : (s : Table) (e : Event) → IsSound s → (stepped e s).after.limits ≡ s.limits
-stepped_limits s e h = (stepped_kept s e h).limits
+stepped_limits s e h = (stepped_kept s no_shadow e h).limits

@@ -23,21 +23,23 @@ use Rattle.pif_model.specs.Posix.Step.{went, waits, answered}
 use Rattle.pif_model.specs.Posix.Effects.{none, then as first}
 use Rattle.pif_model.specs.Table.{Table, Cell, row_at, cell_at, has_thread, has_mutex, with_line, with_word, is_ready, queued_on}
 use Rattle.pif_model.specs.Lines.{Outcome, is_open}
-use Rattle.pif_model.specs.Standing.{call_at, progress_at, thread_of, mutex_of, world_of, LockIsSound, UnlockIsSound, LineIsSound, QueueIsSound, IsSound}
+use Rattle.pif_model.specs.Standing.{Shadow, call_at, progress_at, thread_of, mutex_of, world_of, LockIsSound, UnlockIsSound, LineIsSound, QueueIsSound, IsSound}
 use Rattle.pif_simulation.proofs.Waiting.{names, paired-from_waited, named-from_pair}
 use Rattle.pif_simulation.proofs.Queue.{ready-unnamed}
 use Rattle.pif_simulation.proofs.Projection.{thread_seen, call_seen, line_seen, word_seen, refusal_seen, has_thread_below, has_mutex_above_0, closed, closed_progressed, call_progressed}
 use Rattle.pif_simulation.proofs.Changes.{has_thread_lined, ready_lined, line_kept}
 
--- v follows s by this entry: it is sound, both have the same limits, and what they show is a step of the POSIX machine
-pub record Keeps (s : Table) (e : Entry) (v : Table) : Type 0 where
+-- v follows s with this shadow by this entry: it is sound, both have the same limits, and what they show, v with the
+-- next shadow, is a step of the POSIX machine
+pub record Keeps (s : Table) (shadow : Shadow) (e : Entry) (v : Table) : Type 0 where
   pub sound : IsSound v
-  pub step : Step s.limits (world_of s) e (world_of v)
+  pub next : Shadow
+  pub step : Step s.limits (world_of s shadow) e (world_of v next)
   pub limits : v.limits ≡ s.limits
 
 -- what a step of t answers and leaves follows s
-abbrev pub GoKeeps : Table → ℕ → Outcome → Type 0
-GoKeeps s t o = Keeps s (Happened (Go t) o.seen) o.after
+abbrev pub GoKeeps : Table → Shadow → ℕ → Outcome → Type 0
+GoKeeps s shadow t o = Keeps s shadow (Happened (Go t) o.seen) o.after
 
 -- WHO RESTS
 
@@ -104,18 +106,18 @@ line_stuck s t (At (Lock m) p) h = lock_stuck t m (cell_at s m) p h.1
 line_stuck s t (At (Unlock m) p) h = absurd (unlock_runs t (cell_at s m) p h.1)
 
 -- whether t rests, by its row
-rests_seen : (s : Table) (t : ℕ) → rests (world_of s) t ≡ (if is_stuck (call_at (row_at s t).line (row_at s t).status) then true else names t s.waiters)
-rests_seen s t = ap (λ (x : Thread). if is_stuck x.call then true else names t s.waiters) (thread_seen s t)
+rests_seen : (s : Table) (shadow : Shadow) (t : ℕ) → rests (world_of s shadow) t ≡ (if is_stuck (call_at (row_at s t).line (row_at s t).status) then true else names t s.waiters)
+rests_seen s shadow t = ap (λ (x : Thread). if is_stuck x.call then true else names t s.waiters) (thread_seen s shadow t)
 
 -- a thread that may run doesn't rest
-pub rests_ready : (s : Table) (t : ℕ) → IsSound s → has_thread s t ≡ true → is_ready (row_at s t).status ≡ true → rests (world_of s) t ≡ false
-rests_ready s t h k e = rests_seen s t ∙ ap₂ (λ a b. if a then true else b)
+pub rests_ready : (s : Table) (shadow : Shadow) (t : ℕ) → IsSound s → has_thread s t ≡ true → is_ready (row_at s t).status ≡ true → rests (world_of s shadow) t ≡ false
+rests_ready s shadow t h k e = rests_seen s shadow t ∙ ap₂ (λ a b. if a then true else b)
     (line_moves s t (row_at s t).status (row_at s t).line (h.rows t k).line e)
     (ready-unnamed s t h e)
 
 -- a thread that may not run rests
-pub rests_not_ready : (s : Table) (t : ℕ) → IsSound s → has_thread s t ≡ true → is_ready (row_at s t).status ≡ false → rests (world_of s) t ≡ true
-rests_not_ready s t h k e = rests_seen s t ∙ go (row_at s t).status (row_at s t).line e (h.rows t k).line (h.rows t k).queue (h.queue t)
+pub rests_not_ready : (s : Table) (shadow : Shadow) (t : ℕ) → IsSound s → has_thread s t ≡ true → is_ready (row_at s t).status ≡ false → rests (world_of s shadow) t ≡ true
+rests_not_ready s shadow t h k e = rests_seen s shadow t ∙ go (row_at s t).status (row_at s t).line e (h.rows t k).line (h.rows t k).queue (h.queue t)
   where
     either : (b : Bool) → (if b then true else true) ≡ true
     either true = refl
@@ -132,80 +134,84 @@ rests_not_ready s t h k e = rests_seen s t ∙ go (row_at s t).status (row_at s 
 -- A STEP OF AN OPEN CALL
 
 -- t's call is open at this place
-pub record Going (s : Table) (t : ℕ) (q : Request) (p : Place) : Type 0 where
+pub record Going (s : Table) (shadow : Shadow) (t : ℕ) (q : Request) (p : Place) : Type 0 where
   pub sound : IsSound s
   pub known : has_thread s t ≡ true
   pub line : (row_at s t).line ≡ At q p
 
-module _ {s : Table} {t : ℕ} {q : Request} {p : Place} (g : Going s t q p) where
+module _ {s : Table} {shadow : Shadow} {t : ℕ} {q : Request} {p : Place} (g : Going s shadow t q p) where
   -- the step is not refused
-  pub going_allowed : refusal_of (world_of s) (Go t) ≡ None
-  going_allowed = refusal_seen s (Go t) ∙ ap₂ go_refused g.known (ap is_open g.line)
+  pub going_allowed : refusal_of (world_of s shadow) (Go t) ≡ None
+  going_allowed = refusal_seen s shadow (Go t) ∙ ap₂ go_refused g.known (ap is_open g.line)
 
   -- what t knows at this place
   pub going_knows : LineIsSound s t (row_at s t).status (At q p)
   going_knows = subst (LineIsSound s t (row_at s t).status) g.line (g.sound.rows t g.known).line
 
   -- the world has t's call open
-  pub going_called : (thread_at (world_of s) t).call ≡ Some (record { request = q; progress = progress_at p (row_at s t).status })
-  going_called = call_seen s t (At q p) g.line
+  pub going_called : (thread_at (world_of s shadow) t).call ≡ Some (record { request = q; progress = progress_at p (row_at s t).status })
+  going_called = call_seen s shadow t (At q p) g.line
 
   -- the world has a thread t
-  pub going_below : t < length (world_of s).threads
+  pub going_below : t < length (world_of s shadow).threads
   going_below = subst (λ n. t < n) (sym (length-map s.rows thread_of)) (has_thread_below s t g.known)
 
   -- the step follows with no effect, and the call goes on at a place where it has come as far
   pub goes_on : (a : Place) → is_ready (row_at s t).status ≡ true → LineIsSound s t (row_at s t).status (At q a) → progress_at a (row_at s t).status ≡ progress_at p (row_at s t).status
-      → Keeps s (Happened (Go t) Went) (with_line t (At q a) s)
+      → Keeps s shadow (Happened (Go t) Went) (with_line t (At q a) s)
   goes_on a ready knows same =
       let v : Table = with_line t (At q a) s in
       let sound : IsSound v = line_kept s t (At q a) g.sound g.known ready knows in
-      let shown : world_of v ≡ world_of s = line_seen s t (At q a) ∙ ap (λ c. with_thread t (record (thread_at (world_of s) t) { call = c }) (world_of s)) (ap (λ x. Some (record { request = q; progress = x })) same ∙ sym going_called) ∙ (λ i. record (world_of s) { threads = set-get_or (world_of s).threads t (record { base = 0; living = false; call = None }) i }) in
+      let shown : world_of v shadow ≡ world_of s shadow = line_seen s shadow t (At q a) ∙ ap (λ c. with_thread t (record (thread_at (world_of s shadow) t) { call = c }) (world_of s shadow)) (ap (λ x. Some (record { request = q; progress = x })) same ∙ sym going_called) ∙ (λ i. record (world_of s shadow) { threads = set-get_or (world_of s shadow).threads t (record { base = 0; living = false; call = None }) i }) in
       record {
         sound = sound;
-        step = went t refl going_allowed (none shown) (rests_ready v t sound (has_thread_lined s t (At q a) t ∙ g.known) (ready_lined s t (At q a) g.known ∙ ready));
+        next = shadow;
+        step = went t refl going_allowed (none shown) (rests_ready v shadow t sound (has_thread_lined s t (At q a) t ∙ g.known) (ready_lined s t (At q a) g.known ∙ ready));
         limits = refl;
       }
 
   -- the step follows with these effects, after which t may run
-  pub goes_with : (v : Table) → IsSound v → has_thread v t ≡ true → is_ready (row_at v t).status ≡ true → v.limits ≡ s.limits → Effects t (world_of s) (world_of v) → Keeps s (Happened (Go t) Went) v
+  pub goes_with : (v : Table) → IsSound v → has_thread v t ≡ true → is_ready (row_at v t).status ≡ true → v.limits ≡ s.limits → Effects t (world_of s shadow) (world_of v shadow) → Keeps s shadow (Happened (Go t) Went) v
   goes_with v sound known ready limits effects = record {
     sound = sound;
-    step = went t refl going_allowed effects (rests_ready v t sound known ready);
+    next = shadow;
+    step = went t refl going_allowed effects (rests_ready v shadow t sound known ready);
     limits = limits;
   }
 
   -- the step follows with these effects, after which t rests
-  pub waits_with : (v : Table) → IsSound v → has_thread v t ≡ true → is_ready (row_at v t).status ≡ false → v.limits ≡ s.limits → Effects t (world_of s) (world_of v) → Keeps s (Happened (Go t) Waits) v
+  pub waits_with : (v : Table) → IsSound v → has_thread v t ≡ true → is_ready (row_at v t).status ≡ false → v.limits ≡ s.limits → Effects t (world_of s shadow) (world_of v shadow) → Keeps s shadow (Happened (Go t) Waits) v
   waits_with v sound known ready limits effects = record {
     sound = sound;
-    step = waits t refl going_allowed effects (rests_not_ready v t sound known ready);
+    next = shadow;
+    step = waits t refl going_allowed effects (rests_not_ready v shadow t sound known ready);
     limits = limits;
   }
 
   -- the step follows with these effects, after which the call has this result and closes
-  pub answers_with : (v : Table) (a : ℕ) (u : World) → IsSound v → has_thread v t ≡ true → is_ready (row_at v t).status ≡ true → v.limits ≡ s.limits → Effects t (world_of s) u
-      → (thread_at u t).call ≡ Some (record { request = q; progress = Has a }) → world_of v ≡ closed t u → Keeps s (Happened (Go t) (Answered a)) v
+  pub answers_with : (v : Table) (a : ℕ) (u : World) → IsSound v → has_thread v t ≡ true → is_ready (row_at v t).status ≡ true → v.limits ≡ s.limits → Effects t (world_of s shadow) u
+      → (thread_at u t).call ≡ Some (record { request = q; progress = Has a }) → world_of v shadow ≡ closed t u → Keeps s shadow (Happened (Go t) (Answered a)) v
   answers_with v a u sound known ready limits effects call shown = record {
     sound = sound;
-    step = answered t a q u refl going_allowed effects call shown (rests_ready v t sound known ready);
+    next = shadow;
+    step = answered t a q u refl going_allowed effects call shown (rests_ready v shadow t sound known ready);
     limits = limits;
   }
 
   -- the step follows with one effect, by which the call has this result, and which changes nothing else
-  pub answers_alone : (a : ℕ) → is_ready (row_at s t).status ≡ true → Effect t (world_of s) (with_progress t (Has a) (world_of s)) → Keeps s (Happened (Go t) (Answered a)) (with_line t Idle s)
+  pub answers_alone : (a : ℕ) → is_ready (row_at s t).status ≡ true → Effect t (world_of s shadow) (with_progress t (Has a) (world_of s shadow)) → Keeps s shadow (Happened (Go t) (Answered a)) (with_line t Idle s)
   answers_alone a ready effect =
-      answers_with (with_line t Idle s) a (with_progress t (Has a) (world_of s)) (line_kept s t Idle g.sound g.known ready ready)
+      answers_with (with_line t Idle s) a (with_progress t (Has a) (world_of s shadow)) (line_kept s t Idle g.sound g.known ready ready)
       (has_thread_lined s t Idle t ∙ g.known) (ready_lined s t Idle g.known ∙ ready) refl (first effect (none refl))
-      (call_progressed (world_of s) t (Has a) _ going_below going_called)
-      (line_seen s t Idle ∙ sym (closed_progressed (world_of s) t (Has a) going_below))
+      (call_progressed (world_of s shadow) t (Has a) _ going_below going_called)
+      (line_seen s shadow t Idle ∙ sym (closed_progressed (world_of s shadow) t (Has a) going_below))
 
   -- the step follows with one effect, by which the call has the result 0 and m another word
   pub answers_word : (m : ℕ) (x : Word) → is_ready (row_at s t).status ≡ true → IsSound (with_word m x (with_line t Idle s))
-      → Effect t (world_of s) (with_progress t (Has 0) (with_mutex m (mutex_of (record (cell_at s m) { word = x })) (world_of s))) → Keeps s (Happened (Go t) (Answered 0)) (with_line t Idle (with_word m x s))
+      → Effect t (world_of s shadow) (with_progress t (Has 0) (with_mutex m (mutex_of (record (cell_at s m) { word = x })) (world_of s shadow))) → Keeps s shadow (Happened (Go t) (Answered 0)) (with_line t Idle (with_word m x s))
   answers_word m x ready sound effect =
-      let w : World = with_mutex m (mutex_of (record (cell_at s m) { word = x })) (world_of s) in
+      let w : World = with_mutex m (mutex_of (record (cell_at s m) { word = x })) (world_of s shadow) in
       answers_with (with_line t Idle (with_word m x s)) 0 (with_progress t (Has 0) w) sound
       (has_thread_lined s t Idle t ∙ g.known) (ready_lined s t Idle g.known ∙ ready) refl (first effect (none refl))
       (call_progressed w t (Has 0) _ going_below going_called)
-      (line_seen (with_word m x s) t Idle ∙ ap (closed t) (word_seen s m x) ∙ sym (closed_progressed w t (Has 0) going_below))
+      (line_seen (with_word m x s) shadow t Idle ∙ ap (closed t) (word_seen s shadow m x) ∙ sym (closed_progressed w t (Has 0) going_below))

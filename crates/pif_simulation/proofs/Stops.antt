@@ -14,7 +14,7 @@ use Rattle.pif_model.specs.Posix.{with_progress}
 use Rattle.pif_model.specs.Posix.Progress.{Stuck}
 use Rattle.pif_model.specs.Table.{Table, Row, no_row, row_at, cell_at, has_thread, has_mutex, with_line, is_ready, queued_on, kernel_waits_for, kernel_effective}
 use Rattle.pif_model.specs.Kernel.{stopped}
-use Rattle.pif_model.specs.Standing.{RowIsSound, IsSound, world_of}
+use Rattle.pif_model.specs.Standing.{Shadow, RowIsSound, IsSound, world_of}
 use Rattle.pif_simulation.proofs.Waiting.{by_test, named-without_same, named-without_other, once_without}
 use Rattle.pif_simulation.proofs.Queue.{ready-queued_on_nothing}
 use Rattle.pif_simulation.proofs.Projection.{has_thread_above_0, has_thread_below, row_seen, progress_seen}
@@ -125,5 +125,5 @@ stop_kept s t m h k ready named = record {
         (named-without_same s.ready t ∙ rw k) u (λ n. named-without_other s.ready t u n ∙ h.ready u)
 
 -- the world shows that t's call waits for good
-pub stop_seen : (s : Table) (t m : ℕ) (a : Place) → (row_at s t).line ≡ At (Lock m) a → world_of (stopped_at t (At (Lock m) LockStopped) s) ≡ with_progress t Stuck (world_of s)
-stop_seen s t m a e = row_seen s t (stopped_row (At (Lock m) LockStopped) (row_at s t)) ∙ sym (progress_seen s t (Lock m) a Stuck e)
+pub stop_seen : (s : Table) (shadow : Shadow) (t m : ℕ) (a : Place) → (row_at s t).line ≡ At (Lock m) a → world_of (stopped_at t (At (Lock m) LockStopped) s) shadow ≡ with_progress t Stuck (world_of s shadow)
+stop_seen s shadow t m a e = row_seen s shadow t (stopped_row (At (Lock m) LockStopped) (row_at s t)) ∙ sym (progress_seen s shadow t (Lock m) a Stuck e)

@@ -18,7 +18,7 @@ use Rattle.pif_model.specs.Posix.Effects.{none, then as first}
 use Rattle.pif_model.specs.Table.{Table, row_at, cell_at, has_mutex, with_line, with_word}
 use Rattle.pif_model.specs.Kernel.{unlock_pi_answer, unlock_pi_after, handed_to, kernel_next}
 use Rattle.pif_model.specs.Lines.{unlock_load, unlock_exchange, unlock_by, unlock_kernel}
-use Rattle.pif_model.specs.Standing.{CellIsSound, progress_at, world_of}
+use Rattle.pif_model.specs.Standing.{Shadow, CellIsSound, progress_at, world_of}
 use Rattle.pif_simulation.proofs.Waiting.{by_test}
 use Rattle.pif_simulation.proofs.Queue.{owner_seen}
 use Rattle.pif_simulation.proofs.HandOver.{AtHandOver, handed_over, hand_sound, hand_unlocks, hand_call, hand_world, hand_rests}
@@ -26,23 +26,23 @@ use Rattle.pif_simulation.proofs.Projection.{has_thread_above_0}
 use Rattle.pif_simulation.proofs.Steps.{Keeps, GoKeeps, Going, going_allowed, going_knows, going_called, goes_on, answers_alone}
 use Rattle.pif_simulation.proofs.Owning.{bare, gives_up, none_from_flag, none_from_state, state_agrees}
 
-module _ (s : Table) (t m : ℕ) where
+module _ (s : Table) (shadow : Shadow) (t m : ℕ) where
   -- an unlock that has had no effect yet is unlocking by this rule
-  unlocks : {p : Place} (g : Going s t (Unlock m) p) → progress_at p (row_at s t).status ≡ Fresh → (v : World) → Unlocks t m (world_of s) v → Effect t (world_of s) v
+  unlocks : {p : Place} (g : Going s shadow t (Unlock m) p) → progress_at p (row_at s t).status ≡ Fresh → (v : World) → Unlocks t m (world_of s shadow) v → Effect t (world_of s shadow) v
   unlocks g fresh v rule = unlock m (going_called g ∙ ap (λ x. Some (record { request = Unlock m; progress = x })) fresh) rule
 
   -- unlock: load the word
-  pub unlock_load_kept : Going s t (Unlock m) UnlockLoad → GoKeeps s t (unlock_load t m s)
+  pub unlock_load_kept : Going s shadow t (Unlock m) UnlockLoad → GoKeeps s shadow t (unlock_load t m s)
   unfolding unlock_load
-  unlock_load_kept g = by_test (λ b. GoKeeps s t (if b then record { seen = Went; after = with_line t (At (Unlock m) UnlockExchange) s } else record { seen = Answered 1; after = with_line t Idle s }))
+  unlock_load_kept g = by_test (λ b. GoKeeps s shadow t (if b then record { seen = Went; after = with_line t (At (Unlock m) UnlockExchange) s } else record { seen = Answered 1; after = with_line t Idle s }))
       ((cell_at s m).word.number == t)
       (λ e. goes_on g UnlockExchange (going_knows g).1 ((going_knows g).0, ((going_knows g).1, eqb-true (cell_at s m).word.number t e)) refl)
-      (λ e. answers_alone g 1 (going_knows g).1 (unlocks g refl _ (not_owner (λ x. eqb-false (cell_at s m).word.number t e (sym (owner_seen s m) ∙ x)) refl)))
+      (λ e. answers_alone g 1 (going_knows g).1 (unlocks g refl _ (not_owner (λ x. eqb-false (cell_at s m).word.number t e (sym (owner_seen s shadow m) ∙ x)) refl)))
 
   -- unlock: compare-exchange from t to 0
-  pub unlock_exchange_kept : Going s t (Unlock m) UnlockExchange → GoKeeps s t (unlock_exchange t m s)
+  pub unlock_exchange_kept : Going s shadow t (Unlock m) UnlockExchange → GoKeeps s shadow t (unlock_exchange t m s)
   unfolding unlock_exchange
-  unlock_exchange_kept g = by_test (λ b. GoKeeps s t (if b then record { seen = Answered 0; after = with_line t Idle (with_word m free_word s) } else record { seen = Went; after = with_line t (At (Unlock m) UnlockKernel) s }))
+  unlock_exchange_kept g = by_test (λ b. GoKeeps s shadow t (if b then record { seen = Answered 0; after = with_line t Idle (with_word m free_word s) } else record { seen = Went; after = with_line t (At (Unlock m) UnlockKernel) s }))
       (is_bare (cell_at s m).word t)
       (λ e. gives_up g (going_knows g).1.0 (going_knows g).0 refl (going_knows g).1.1 (none_from_flag (g.sound.cells m (going_knows g).0) (bare (cell_at s m).word t e).0))
       (λ e. goes_on g UnlockKernel (going_knows g).1.0 (going_knows g) refl)
@@ -58,21 +58,22 @@ module _ (s : Table) (t m : ℕ) where
   hand_limits u = refl
 
   -- the kernel hands m to its next waiter
-  kernel_hands : (g : Going s t (Unlock m) UnlockKernel) → (cell_at s m).state ≢ 0 → Keeps s (Happened (Go t) (Answered 0)) (with_line t Idle (handed_to (kernel_next s m) m s))
+  kernel_hands : (g : Going s shadow t (Unlock m) UnlockKernel) → (cell_at s m).state ≢ 0 → Keeps s shadow (Happened (Go t) (Answered 0)) (with_line t Idle (handed_to (kernel_next s m) m s))
   kernel_hands g state =
       let a : AtHandOver s t m = record { sound = g.sound; known = g.known; line = g.line; state = state } in
       record {
-        sound = hand_sound s t m a;
-        step = answered t 0 (Unlock m) (handed_over s t (kernel_next s m) m) refl (going_allowed g) (first (unlocks g refl _ (hand_unlocks s t m a)) (none refl))
-            (hand_call s t m a) (hand_world s t m a) (hand_rests s t m a);
+        sound = hand_sound s shadow t m a;
+        next = shadow;
+        step = answered t 0 (Unlock m) (handed_over s shadow t (kernel_next s m) m) refl (going_allowed g) (first (unlocks g refl _ (hand_unlocks s shadow t m a)) (none refl))
+            (hand_call s shadow t m a) (hand_world s shadow t m a) (hand_rests s shadow t m a);
         limits = hand_limits (kernel_next s m);
       }
 
   -- unlock: the kernel call unlock_pi
-  pub unlock_kernel_kept : Going s t (Unlock m) UnlockKernel → GoKeeps s t (unlock_kernel t m s)
+  pub unlock_kernel_kept : Going s shadow t (Unlock m) UnlockKernel → GoKeeps s shadow t (unlock_kernel t m s)
   unfolding unlock_kernel unlock_by unlock_pi_after
-  unlock_kernel_kept g = subst (λ a. GoKeeps s t (unlock_by a t (unlock_pi_after t m a s))) (sym answer)
-      (by_test (λ b. Keeps s (Happened (Go t) (Answered 0)) (with_line t Idle (if b then with_word m free_word s else handed_to (kernel_next s m) m s))) ((cell_at s m).state == 0)
+  unlock_kernel_kept g = subst (λ a. GoKeeps s shadow t (unlock_by a t (unlock_pi_after t m a s))) (sym answer)
+      (by_test (λ b. Keeps s shadow (Happened (Go t) (Answered 0)) (with_line t Idle (if b then with_word m free_word s else handed_to (kernel_next s m) m s))) ((cell_at s m).state == 0)
       (λ e. gives_up g (going_knows g).1.0 named refl own (none_from_state c (λ z. has_thread_above_0 s t g.known (sym own ∙ z)) (eqb-true (cell_at s m).state 0 e)))
       (λ e. kernel_hands g (eqb-false (cell_at s m).state 0 e)))
     where

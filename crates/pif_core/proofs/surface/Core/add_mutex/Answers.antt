@@ -12,10 +12,9 @@ invariant_of-self c =
     mutex_sound s _ c.args.kind c.self.invariant few c.push_mutex.ensures
 
 pub returns-clause-stands : goal.returns-clause-stands
-returns-clause-stands c = λ h r st.
+returns-clause-stands c = λ h r w st.
     let s = c.self.inside.state in
     let few : length s.cells ≤ s.limits.mutexes = omega (arith, c.mutex_count-count.ensures.value, c.mutexes.ensures.value, ap (λ (l : Bounds). l.mutexes) c.limits.ensures.value) in
     let number = from_some c.new.result c.in_ok-mutex.mutex c.mutex_count-count.result c.new.ensures.value c.in_ok-mutex.ensures.ok_part in
-    rw (← c.self.view_is)
-    (mutex_stands s c.push_mutex.new.self c.in_ok-mutex.mutex c.args.kind c.args.robust c.push_mutex.ensures
-    (number ∙ c.mutex_count-count.ensures.value) c.requires few h r (rw c.self.view_is st))
+    mutex_stands s c.push_mutex.new.self c.in_ok-mutex.mutex c.args.kind c.args.robust c.push_mutex.ensures
+    (number ∙ c.mutex_count-count.ensures.value) c.requires few h r w (rw c.self.view_is st)

@@ -15,13 +15,15 @@ invariant_of-self c =
     subst IsSound (sym (ap (λ (o : Outcome). o.after) c.step.ensures)) (simulation c.self.inside.state c.args.event c.self.invariant).0
 
 pub returns-clause-stands : goal.returns-clause-stands
-returns-clause-stands c = λ h r st.
-    step_stands c.args.self.now c.step.new.self c.args.event c.step.result (c.step.ensures ∙ ap (stepped c.args.event) c.self.view_is) h r st
+returns-clause-stands c = λ h r w st.
+    step_stands c.args.self.now c.step.new.self c.args.event c.step.result (c.step.ensures ∙ ap (stepped c.args.event) c.self.view_is) h r w st
 
 pub returns-clause-holders : goal.returns-clause-holders
-returns-clause-holders c = λ h r st.
-    stands_one_holder _ _ _ (step_stands c.args.self.now c.step.new.self c.args.event c.step.result (c.step.ensures ∙ ap (stepped c.args.event) c.self.view_is) h r st)
+returns-clause-holders c = λ h r w st.
+    let next = step_stands c.args.self.now c.step.new.self c.args.event c.step.result (c.step.ensures ∙ ap (stepped c.args.event) c.self.view_is) h r w st in
+    stands_one_holder _ _ _ next.0 next.1
 
 pub returns-clause-legal : goal.returns-clause-legal
-returns-clause-legal c = λ h r st.
-    stands_legal _ _ _ (step_stands c.args.self.now c.step.new.self c.args.event c.step.result (c.step.ensures ∙ ap (stepped c.args.event) c.self.view_is) h r st)
+returns-clause-legal c = λ h r w st.
+    let next = step_stands c.args.self.now c.step.new.self c.args.event c.step.result (c.step.ensures ∙ ap (stepped c.args.event) c.self.view_is) h r w st in
+    stands_legal _ _ _ next.0 next.1

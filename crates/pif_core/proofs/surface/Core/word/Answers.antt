@@ -2,9 +2,9 @@
 use Rattle.std.proofs.Common.{◌≡◌, true, ap, sym, refl, ◌∙◌, subst}
 use Rattle.pif_model.specs.Word.{bits_of}
 use Rattle.pif_model.specs.Table.{Table, has_mutex, cell_at}
-use Rattle.pif_model.specs.Standing.{world_of, IsPossible}
-use Rattle.pif_simulation.proofs.Picks.{word_is_possible}
+use Rattle.pif_model.specs.Standing.{IsPossible}
 use Rattle.pif_word.proofs.WordBits.{bits_of-word_of}
+use Rattle.pif_core.proofs.StandsAfter.{word_stands}
 use Rattle.pif_core.proofs.surface.Core.word.Goals as goal
 
 pub returns-then-has_mutex-clause-value : goal.returns-then-has_mutex-clause-value
@@ -15,9 +15,9 @@ returns-then-has_mutex-clause-value c =
     rw (← c.self.view_is, known, bits) refl
 
 pub returns-then-has_mutex-clause-possible : goal.returns-then-has_mutex-clause-possible
-returns-then-has_mutex-clause-possible c = λ h r st.
+returns-then-has_mutex-clause-possible c = λ h r w st.
     let s = c.args.self.now in
     let known : has_mutex s c.args.mutex ≡ true = ap (λ (x : Table). has_mutex x c.args.mutex) (sym c.self.view_is) ∙ sym c.has_mutex.ensures ∙ c.if-has_mutex.true in
-    subst (IsPossible (world_of s) c.args.mutex)
+    subst (IsPossible w c.args.mutex)
     (ap (λ (x : Table). (cell_at x c.args.mutex).word) (sym c.self.view_is) ∙ sym c.word.ensures.value)
-    (word_is_possible s st.sound c.args.mutex known)
+    (word_stands s c.args.mutex h r w st known)
