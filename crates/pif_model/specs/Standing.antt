@@ -1,7 +1,8 @@
 -- What it means that a core stands after a history.
-use Rattle.std.specs.Prelude.{ℕ, ◌≡◌, ◌≢◌, ◌≤◌, ◌+◌, ⊤, Bool, true, false, ◌==◌, List, length, map, Option, Some, None, if◌then◌else◌, eqb}
+use Rattle.std.specs.Prelude.{ℕ, ◌≡◌, ◌≢◌, ◌≤◌, ◌+◌, ⊤, Bool, true, false, ◌==◌, List, [], ◌∷◌, length, map, Option, Some, None, if◌then◌else◌, eqb}
 use Rattle.std.specs.List.{list_any, IsDistinct}
 use Rattle.pif_types.specs.declared.requests.Kind.TheVariants.{Normal}
+use Rattle.pif_types.specs.declared.requests.Request.{Request}
 use Rattle.pif_types.specs.declared.requests.Request.TheVariants.{Lock, Unlock}
 use Rattle.pif_model.specs.declared.events.Entry.{Entry}
 use Rattle.pif_model.specs.declared.lines.Line.{Line}
@@ -12,7 +13,7 @@ use Rattle.pif_model.specs.declared.lines.Status.{Status}
 use Rattle.pif_model.specs.declared.lines.Status.TheVariants.{Ready, Queued, Stopped}
 use Rattle.pif_model.specs.Graph.{waited_by, has_waiter, IsEffective}
 use Rattle.pif_model.specs.Word.{Word, free_word}
-use Rattle.pif_model.specs.Posix.{Health, Progress, Call, Thread, Mutex, World, WaitsFor, IsRun, thread_at, mutex_at, is_thread, rests, effective_of}
+use Rattle.pif_model.specs.Posix.{Health, Progress, Call, Thread, Mutex, World, WaitsFor, IsRun, thread_at, mutex_at, is_thread, named_by, rests, effective_of}
 use Rattle.pif_model.specs.Posix.Health.{Fine, Inconsistent, Unusable}
 use Rattle.pif_model.specs.Posix.Progress.{Fresh, Waiting, Stuck, Has}
 use Rattle.pif_model.specs.Table.{Table, Row, Cell, no_row, no_cell, row_at, cell_at, has_thread, has_mutex, is_ready, queued_on, kernel_effective}
@@ -59,37 +60,69 @@ world_of s x = record { threads = map thread_of s.rows; mutexes = map mutex_of s
 
 -- THE INVARIANT
 
--- what a lock at this place knows of its thread's status and its mutex
-abbrev pub LockIsSound : ℕ → Status → Cell → Place → Type 0
-LockIsSound t x c LockLoad = is_ready x ≡ true
-LockIsSound t x c LockExchange = (is_ready x ≡ true) × (c.word.number ≢ t)
-LockIsSound t x c LockKernel = (is_ready x ≡ true) × (c.word.number ≢ t)
-LockIsSound t (Ready w) c LockQueued = c.word.number ≡ t
-LockIsSound t (Queued n) c LockQueued = ⊤
-LockIsSound t Stopped c LockQueued = ⊥
-LockIsSound t x c LockStop = (is_ready x ≡ true) × (c.word.number ≡ t) × (c.kind ≡ Normal)
-LockIsSound t x c LockStopped = x ≡ Stopped
-LockIsSound t x c UnlockLoad = ⊥
-LockIsSound t x c UnlockExchange = ⊥
-LockIsSound t x c UnlockKernel = ⊥
+-- a fact on which a call rests at a place: of its thread's status and of its mutex. None is such that a step of another
+-- thread could end it
+pub data Need : Type 0 where
+  -- the thread may run
+  MayRun : Need
+  -- the thread is stopped for good
+  HasStopped : Need
+  -- the thread is not stopped
+  NotStopped : Need
+  -- the thread owns the mutex
+  Owns : Need
+  -- the thread doesn't own the mutex
+  OwnsNot : Need
+  -- the thread owns the mutex as soon as it may run: it was handed over
+  OwnsOnceReady : Need
+  -- the mutex is NORMAL
+  NormalKind : Need
 
--- what an unlock at this place knows
-abbrev pub UnlockIsSound : ℕ → Status → Cell → Place → Type 0
-UnlockIsSound t x c UnlockLoad = is_ready x ≡ true
-UnlockIsSound t x c UnlockExchange = (is_ready x ≡ true) × (c.word.number ≡ t)
-UnlockIsSound t x c UnlockKernel = (is_ready x ≡ true) × (c.word.number ≡ t)
-UnlockIsSound t x c LockLoad = ⊥
-UnlockIsSound t x c LockExchange = ⊥
-UnlockIsSound t x c LockKernel = ⊥
-UnlockIsSound t x c LockQueued = ⊥
-UnlockIsSound t x c LockStop = ⊥
-UnlockIsSound t x c LockStopped = ⊥
+-- whether a thread of this status and its call's mutex meet a need
+abbrev pub Meets : ℕ → Status → Cell → Need → Type 0
+Meets t x c MayRun = is_ready x ≡ true
+Meets t x c HasStopped = x ≡ Stopped
+Meets t x c NotStopped = x ≢ Stopped
+Meets t x c Owns = c.word.number ≡ t
+Meets t x c OwnsNot = c.word.number ≢ t
+Meets t x c OwnsOnceReady = is_ready x ≡ true → c.word.number ≡ t
+Meets t x c NormalKind = c.kind ≡ Normal
 
--- what a thread at this line knows: with no call open it is ready; the mutex of an open call exists
+-- they meet all of some needs
+abbrev pub MeetsAll : ℕ → Status → Cell → List Need → Type 0
+MeetsAll t x c [] = ⊤
+MeetsAll t x c (n ∷ ns) = Meets t x c n × MeetsAll t x c ns
+
+-- what a call rests on at each place
+abbrev pub needs : Place → List Need
+needs LockLoad = MayRun ∷ []
+needs LockExchange = MayRun ∷ OwnsNot ∷ []
+needs LockKernel = MayRun ∷ OwnsNot ∷ []
+needs LockQueued = NotStopped ∷ OwnsOnceReady ∷ []
+needs LockStop = MayRun ∷ Owns ∷ NormalKind ∷ []
+needs LockStopped = HasStopped ∷ []
+needs UnlockLoad = MayRun ∷ []
+needs UnlockExchange = MayRun ∷ Owns ∷ []
+needs UnlockKernel = MayRun ∷ Owns ∷ []
+
+-- whether a call of this request comes to this place
+abbrev pub belongs : Request → Place → Bool
+belongs (Lock m) LockLoad = true
+belongs (Lock m) LockExchange = true
+belongs (Lock m) LockKernel = true
+belongs (Lock m) LockQueued = true
+belongs (Lock m) LockStop = true
+belongs (Lock m) LockStopped = true
+belongs (Unlock m) UnlockLoad = true
+belongs (Unlock m) UnlockExchange = true
+belongs (Unlock m) UnlockKernel = true
+belongs _ _ = false
+
+-- what a thread at this line knows: with no call open it may run; the mutex of an open call exists, the place is one of
+-- the request's, and what the call rests on there holds
 abbrev pub LineIsSound : Table → ℕ → Status → Line → Type 0
 LineIsSound s t x Idle = is_ready x ≡ true
-LineIsSound s t x (At (Lock m) p) = (has_mutex s m ≡ true) × LockIsSound t x (cell_at s m) p
-LineIsSound s t x (At (Unlock m) p) = (has_mutex s m ≡ true) × UnlockIsSound t x (cell_at s m) p
+LineIsSound s t x (At q p) = (has_mutex s (named_by q) ≡ true) × (belongs q p ≡ true) × MeetsAll t x (cell_at s (named_by q)) (needs p)
 
 -- a queued thread is at the place of its lock where it is queued
 abbrev pub QueueIsSound : Status → Line → Type 0

@@ -3,16 +3,15 @@ use Rattle.std.proofs.Common.{◌≡◌, ◌≢◌, ℕ, true, false, ◌==◌, 
 use Rattle.std.specs.List.{list_any}
 use Rattle.std.proofs.lemmas.Bool.{cases_eq, true≢false}
 use Rattle.std.proofs.lemmas.List.{length-set, get_or-set_same, get_or-set_other}
-use Rattle.pif_types.specs.declared.requests.Request.TheVariants.{Lock, Unlock}
 use Rattle.pif_model.specs.declared.lines.Line.{Line}
-use Rattle.pif_model.specs.declared.lines.Line.TheVariants.{Idle, At}
+use Rattle.pif_model.specs.declared.lines.Line.TheVariants.{Idle}
 use Rattle.pif_model.specs.declared.lines.Status.{Status}
 use Rattle.pif_model.specs.declared.lines.Status.TheVariants.{Ready, Queued, Stopped}
 use Rattle.pif_model.specs.Graph.{effective_among, has_waiter, waited_by}
 use Rattle.pif_model.specs.Word.{Word}
 use Rattle.pif_model.specs.Table.{Table, Row, Cell, no_row, no_cell, row_at, cell_at, has_thread, has_mutex, with_line, with_word, is_ready, queued_on, kernel_waits_for, kernel_effective}
 use Rattle.pif_model.specs.Standing.{LineIsSound, QueueIsSound, RowIsSound, CellIsSound, IsSound}
-use Rattle.pif_simulation.proofs.Kept.{lock_outlives, unlock_outlives}
+use Rattle.pif_simulation.proofs.Kept.{line_spared}
 use Rattle.pif_simulation.proofs.Projection.{has_thread_above_0, has_thread_below, has_mutex_above_0, has_mutex_below}
 
 -- SMALLER PARTS
@@ -26,9 +25,8 @@ pub record SameOwning (a b : Table) (u : ℕ) : Type 0 where
 
 -- what a thread at a line knows outlives a change that answers it the same
 pub line_outlives : (a b : Table) (u : ℕ) (x : Status) (l : Line) → SameOwning a b u → LineIsSound a u x l → LineIsSound b u x l
-line_outlives a b u x Idle same h = h
-line_outlives a b u x (At (Lock m) p) same h = (same.mutexes m h.0, lock_outlives u x (cell_at a m) (cell_at b m) p (same.kinds m h.0) (same.owns m h.0) (same.owns_not m h.0) h.1)
-line_outlives a b u x (At (Unlock m) p) same h = (same.mutexes m h.0, unlock_outlives u x (cell_at a m) (cell_at b m) p (same.owns m h.0) h.1)
+line_outlives a b u x l same h =
+    line_spared a b u x l (λ m e. (same.mutexes m e, record { kind = same.kinds m e; owner = same.owns m e; other = same.owns_not m e })) h
 
 -- a thread that may run is not queued
 pub ready_not_queued : (x : Status) (l : Line) → is_ready x ≡ true → QueueIsSound x l

@@ -5,7 +5,6 @@ use Rattle.std.proofs.lemmas.List.{length-map, map-set, set_comm, get_or_past}
 use Rattle.pif_types.specs.declared.requests.Request.TheVariants.{Lock, Unlock}
 use Rattle.pif_model.specs.declared.lines.Line.{Line}
 use Rattle.pif_model.specs.declared.lines.Line.TheVariants.{Idle, At}
-use Rattle.pif_model.specs.declared.lines.Place.{Place}
 use Rattle.pif_model.specs.declared.lines.Place.TheVariants.{LockQueued, UnlockKernel}
 use Rattle.pif_model.specs.declared.lines.Status.{Status}
 use Rattle.pif_model.specs.declared.lines.Status.TheVariants.{Ready, Queued, Stopped}
@@ -18,11 +17,11 @@ use Rattle.pif_model.specs.Posix.Unlocks.{released}
 use Rattle.pif_model.specs.Posix.Passes.{to_next}
 use Rattle.pif_model.specs.Table.{Table, Row, Cell, no_row, no_cell, row_at, cell_at, has_thread, has_mutex, is_ready, queued_on, with_line, kernel_effective, releveled}
 use Rattle.pif_model.specs.Kernel.{handed_to, kernel_next}
-use Rattle.pif_model.specs.Standing.{Shadow, LockIsSound, UnlockIsSound, LineIsSound, QueueIsSound, RowIsSound, CellIsSound, IsSound, call_at, thread_of, mutex_of, world_of}
+use Rattle.pif_model.specs.Standing.{Shadow, LineIsSound, QueueIsSound, RowIsSound, CellIsSound, IsSound, call_at, thread_of, mutex_of, world_of}
 use Rattle.pif_simulation.proofs.Places.{mapped_at}
 use Rattle.pif_simulation.proofs.Waiting.{by_test, names, Once, or_true, or_false, waited-from_pair, waited_by-without_same, waited_by-without_other, has_waiter-without_none, has_waiter-without_other, named-without_other, once_push, once_without, named-push, named-releveled, once_releveled, level_releveled, next-is_waiter}
 use Rattle.pif_simulation.proofs.Effective.{next_seen, next-with_progress, effective-with_line}
-use Rattle.pif_simulation.proofs.Kept.{above_0, below, lock_handed, unlock_handed, line_kept}
+use Rattle.pif_simulation.proofs.Kept.{above_0, below, Spares, line_spared}
 use Rattle.pif_simulation.proofs.Queue.{ready-queued_on_nothing, ready-unnamed, owner_seen}
 
 -- THE NEXT WAITER
@@ -40,7 +39,7 @@ pub knows_at_unlock : (s : Table) (t m : ℕ) → IsSound s → has_thread s t �
     → (has_mutex s m ≡ true) × (is_ready (row_at s t).status ≡ true) × ((cell_at s m).word.number ≡ t)
 knows_at_unlock s t m h a e =
     let k = subst (λ l. LineIsSound s t (row_at s t).status l) e (h.rows t a).line in
-    (k.0, k.1.0, k.1.1)
+    (k.0, k.2.0, k.2.1.0)
 
 -- where there is an owner state, there is a waiter
 pub waiter-from_state : (s : Table) (m : ℕ) → IsSound s → has_mutex s m ≡ true → (cell_at s m).state ≢ 0 → has_waiter s.waiters m ≡ true
@@ -154,20 +153,12 @@ module _ (s v : Table) (t u m : ℕ) (q : IsHanded s v t u m) (w : IsWaiter s t 
       (λ (x : k ≡ t). subst (λ k. (row_at v k).status ≡ (row_at s k).status) (sym x) (ap (λ (r : Row). r.status) q.row_here))
       (λ x. ap (λ (r : Row). r.status) (q.row_other k x n)) (cases_eq k t)
 
-  -- a lock of another thread knows what it knew
-  lock_as_before : (k : ℕ) (x : Status) → k ≢ t → k ≢ u → (j : ℕ) (p : Place) → LockIsSound k x (cell_at s j) p → LockIsSound k x (cell_at v j) p
-  lock_as_before k x n o j p b = ⊎_elim
-      (λ (y : j ≡ m). lock_handed k x (cell_at s j) (cell_at v j) p
-      (λ z. n (sym z ∙ ap (λ j. (cell_at s j).word.number) y ∙ known.2))
-      (λ z. o (sym z ∙ ap (λ j. (cell_at v j).word.number) y ∙ ap (λ (c : Cell). c.word.number) q.cell_here))
-      (ap (λ j. (cell_at v j).kind) y ∙ ap (λ (c : Cell). c.kind) q.cell_here ∙ sym (ap (λ j. (cell_at s j).kind) y)) b)
-      (λ y. subst (λ c. LockIsSound k x c p) (sym (q.cell_other j y)) b) (cases_eq j m)
-
-  -- and an unlock
-  unlock_as_before : (k : ℕ) (x : Status) → k ≢ t → (j : ℕ) (p : Place) → UnlockIsSound k x (cell_at s j) p → UnlockIsSound k x (cell_at v j) p
-  unlock_as_before k x n j p b = ⊎_elim
-      (λ (y : j ≡ m). unlock_handed k x (cell_at s j) (cell_at v j) p (λ z. n (sym z ∙ ap (λ j. (cell_at s j).word.number) y ∙ known.2)) b)
-      (λ y. subst (λ c. UnlockIsSound k x c p) (sym (q.cell_other j y)) b) (cases_eq j m)
+  -- what another thread sees of a mutex
+  spared : (k : ℕ) → k ≢ t → k ≢ u → (j : ℕ) → Spares k (cell_at s j) (cell_at v j)
+  spared k n o j = ⊎_elim
+      (λ (y : j ≡ m). subst (λ j. Spares k (cell_at s j) (cell_at v j)) (sym y) (subst (Spares k (cell_at s m)) (sym q.cell_here)
+      (record { kind = refl; owner = λ z. absurd (n (sym z ∙ known.2)); other = λ z e. o (sym e) })))
+      (λ y. subst (Spares k (cell_at s j)) (sym (q.cell_other j y)) (record { kind = refl; owner = λ z. z; other = λ z. z })) (cases_eq j m)
 
   -- the row of t is sound
   row_sound_here : RowIsSound v t (row_at v t)
@@ -179,7 +170,7 @@ module _ (s v : Table) (t u m : ℕ) (q : IsHanded s v t u m) (w : IsWaiter s t 
   row_sound_next = subst (λ r. RowIsSound v u r) (sym q.row_next)
       (record {
         living = (h.rows u w.known).living;
-        line = subst (λ l. LineIsSound v u (Ready WokenOwns) l) (sym w.line) (same_mutexes m ∙ known.0, ap (λ (c : Cell). c.word.number) q.cell_here);
+        line = subst (λ l. LineIsSound v u (Ready WokenOwns) l) (sym w.line) (same_mutexes m ∙ known.0, refl, ((λ e. absurd cc), ((λ e. ap (λ (c : Cell). c.word.number) q.cell_here), tt)));
         queue = tt;
       })
 
@@ -189,7 +180,7 @@ module _ (s v : Table) (t u m : ℕ) (q : IsHanded s v t u m) (w : IsWaiter s t 
       (let r = h.rows k (sym (same_threads k) ∙ b) in
       record {
         living = r.living;
-        line = line_kept s v k (row_at s k).status (row_at s k).line same_mutexes (lock_as_before k (row_at s k).status n o) (unlock_as_before k (row_at s k).status n) r.line;
+        line = line_spared s v k (row_at s k).status (row_at s k).line (λ j e. (same_mutexes j ∙ e, spared k n o j)) r.line;
         queue = r.queue;
       })
 

@@ -1,14 +1,12 @@
 -- What a change of a cell keeps of what the lines of the threads know.
-use Rattle.std.proofs.Common.{◌≡◌, ◌≢◌, ℕ, ◌<◌, Bool, true, false, ◌==◌, nat_lt, refl, sym, ◌∙◌, if◌then◌else◌, eq-eqb, true≢false, ltb-true}
-use Rattle.pif_types.specs.declared.requests.Request.TheVariants.{Lock, Unlock}
+use Rattle.std.proofs.Common.{◌≡◌, ◌≢◌, ℕ, ◌<◌, Bool, true, false, ◌==◌, nat_lt, List, [], ◌∷◌, refl, sym, ◌∙◌, if◌then◌else◌, eq-eqb, true≢false, ltb-true}
 use Rattle.pif_model.specs.declared.lines.Line.{Line}
 use Rattle.pif_model.specs.declared.lines.Line.TheVariants.{Idle, At}
-use Rattle.pif_model.specs.declared.lines.Place.{Place}
-use Rattle.pif_model.specs.declared.lines.Place.TheVariants.{LockLoad, LockExchange, LockKernel, LockQueued, LockStop, LockStopped, UnlockLoad, UnlockExchange, UnlockKernel}
 use Rattle.pif_model.specs.declared.lines.Status.{Status}
-use Rattle.pif_model.specs.declared.lines.Status.TheVariants.{Ready, Queued, Stopped}
 use Rattle.pif_model.specs.Table.{Table, Cell, cell_at, has_mutex}
-use Rattle.pif_model.specs.Standing.{LockIsSound, UnlockIsSound, LineIsSound}
+use Rattle.pif_model.specs.Standing.{Need, Meets, MeetsAll, needs, LineIsSound}
+use Rattle.pif_model.specs.Standing.Need.{MayRun, HasStopped, NotStopped, Owns, OwnsNot, OwnsOnceReady, NormalKind}
+use Rattle.pif_model.specs.Posix.{named_by}
 
 -- a number within a list and not 0 is not 0
 pub above_0 : (t n : ℕ) → (if t == 0 then false else nat_lt t n) ≡ true → t ≢ 0
@@ -22,53 +20,31 @@ below t n h = ltb-true t n (go (t == 0) h)
     go true h = absurd (true≢false (sym h))
     go false h = h
 
--- what a lock at a place knows outlives a change of a cell that keeps the kind and who owns it, as far as t asks
-pub lock_outlives : (t : ℕ) (x : Status) (c d : Cell) (p : Place) → d.kind ≡ c.kind → (c.word.number ≡ t → d.word.number ≡ t) → (c.word.number ≢ t → d.word.number ≢ t) → LockIsSound t x c p → LockIsSound t x d p
-lock_outlives t x c d LockLoad k f g h = h
-lock_outlives t x c d LockExchange k f g h = (h.0, g h.1)
-lock_outlives t x c d LockKernel k f g h = (h.0, g h.1)
-lock_outlives t (Ready w) c d LockQueued k f g h = f h
-lock_outlives t (Queued n) c d LockQueued k f g h = h
-lock_outlives t Stopped c d LockQueued k f g h = h
-lock_outlives t x c d LockStop k f g h = (h.0, f h.1, k ∙ h.2)
-lock_outlives t x c d LockStopped k f g h = h
-lock_outlives t x c d UnlockLoad k f g h = h
-lock_outlives t x c d UnlockExchange k f g h = h
-lock_outlives t x c d UnlockKernel k f g h = h
+-- what a change of a mutex from c to d leaves to u, who doesn't make it
+pub record Spares (u : ℕ) (c d : Cell) : Type 0 where
+  pub kind : d.kind ≡ c.kind
+  pub owner : c.word.number ≡ u → d.word.number ≡ u
+  pub other : c.word.number ≢ u → d.word.number ≢ u
 
--- what an unlock at a place knows outlives such a change
-pub unlock_outlives : (t : ℕ) (x : Status) (c d : Cell) (p : Place) → (c.word.number ≡ t → d.word.number ≡ t) → UnlockIsSound t x c p → UnlockIsSound t x d p
-unlock_outlives t x c d UnlockLoad f h = h
-unlock_outlives t x c d UnlockExchange f h = (h.0, f h.1)
-unlock_outlives t x c d UnlockKernel f h = (h.0, f h.1)
-unlock_outlives t x c d LockLoad f h = h
-unlock_outlives t x c d LockExchange f h = h
-unlock_outlives t x c d LockKernel f h = h
-unlock_outlives t x c d LockQueued f h = h
-unlock_outlives t x c d LockStop f h = h
-unlock_outlives t x c d LockStopped f h = h
+-- a need outlives what others change
+pub meets_outlives : (u : ℕ) (x : Status) (c d : Cell) (n : Need) → Spares u c d → Meets u x c n → Meets u x d n
+meets_outlives u x c d MayRun k h = h
+meets_outlives u x c d HasStopped k h = h
+meets_outlives u x c d NotStopped k h = h
+meets_outlives u x c d Owns k h = k.owner h
+meets_outlives u x c d OwnsNot k h = k.other h
+meets_outlives u x c d OwnsOnceReady k h = λ e. k.owner (h e)
+meets_outlives u x c d NormalKind k h = k.kind ∙ h
 
--- what a lock knows is of its mutex's owner and kind alone
-pub lock_kept : (t : ℕ) (x : Status) (c d : Cell) (p : Place) → d.word.number ≡ c.word.number → d.kind ≡ c.kind → LockIsSound t x c p → LockIsSound t x d p
-lock_kept t x c d p n k = lock_outlives t x c d p k (λ e. n ∙ e) (λ z e. z (sym n ∙ e))
+-- and so do all needs of a place
+pub all_outlive : (u : ℕ) (x : Status) (c d : Cell) (ns : List Need) → Spares u c d → MeetsAll u x c ns → MeetsAll u x d ns
+all_outlive u x c d [] k h = h
+all_outlive u x c d (n ∷ ns) k h = (meets_outlives u x c d n k h.0, all_outlive u x c d ns k h.1)
 
--- what an unlock knows is of its mutex's owner alone
-pub unlock_kept : (t : ℕ) (x : Status) (c d : Cell) (p : Place) → d.word.number ≡ c.word.number → UnlockIsSound t x c p → UnlockIsSound t x d p
-unlock_kept t x c d p n = unlock_outlives t x c d p (λ e. n ∙ e)
-
--- where the owner changes, a lock of a thread that is neither of the two and no lock handed over knows what it knew
-pub lock_handed : (t : ℕ) (x : Status) (c d : Cell) (p : Place) → c.word.number ≢ t → d.word.number ≢ t → d.kind ≡ c.kind → LockIsSound t x c p → LockIsSound t x d p
-lock_handed t x c d p n n' k = lock_outlives t x c d p k (λ e. absurd (n e)) (λ z. n')
-
--- and an unlock
-pub unlock_handed : (t : ℕ) (x : Status) (c d : Cell) (p : Place) → c.word.number ≢ t → UnlockIsSound t x c p → UnlockIsSound t x d p
-unlock_handed t x c d p n = unlock_outlives t x c d p (λ e. absurd (n e))
-
--- a line is sound in another table that has the same mutexes, where its lock or unlock knows what it knew
-pub line_kept : (s v : Table) (t : ℕ) (x : Status) (l : Line) → ((m : ℕ) → has_mutex v m ≡ has_mutex s m)
-    → ((m : ℕ) (p : Place) → LockIsSound t x (cell_at s m) p → LockIsSound t x (cell_at v m) p)
-    → ((m : ℕ) (p : Place) → UnlockIsSound t x (cell_at s m) p → UnlockIsSound t x (cell_at v m) p)
-    → LineIsSound s t x l → LineIsSound v t x l
-line_kept s v t x Idle a b c h = h
-line_kept s v t x (At (Lock m) p) a b c h = (a m ∙ h.0, b m p h.1)
-line_kept s v t x (At (Unlock m) p) a b c h = (a m ∙ h.0, c m p h.1)
+-- what a line knows outlives what others change
+pub line_spared : (a b : Table) (u : ℕ) (x : Status) (l : Line) → ((m : ℕ) → has_mutex a m ≡ true → (has_mutex b m ≡ true) × Spares u (cell_at a m) (cell_at b m))
+    → LineIsSound a u x l → LineIsSound b u x l
+line_spared a b u x Idle k h = h
+line_spared a b u x (At q p) k h =
+    let e = k (named_by q) h.0 in
+    (e.0, h.1, all_outlive u x (cell_at a (named_by q)) (cell_at b (named_by q)) (needs p) e.1 h.2)

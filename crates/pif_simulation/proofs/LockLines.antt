@@ -25,7 +25,7 @@ use Rattle.pif_model.specs.Posix.Locks.{own_normal, own_errorcheck}
 use Rattle.pif_model.specs.Table.{Table, row_at, cell_at, has_mutex, with_line, with_word, is_ready, kernel_waits_for}
 use Rattle.pif_model.specs.Kernel.{lock_pi_answer, lock_pi_after}
 use Rattle.pif_model.specs.Lines.{lock_load, lock_exchange, lock_by, lock_kernel, lock_queued, lock_stop}
-use Rattle.pif_model.specs.Standing.{Shadow, LockIsSound, CellIsSound, progress_at, world_of}
+use Rattle.pif_model.specs.Standing.{Shadow, CellIsSound, progress_at, world_of}
 use Rattle.pif_simulation.proofs.Waiting.{by_test}
 use Rattle.pif_simulation.proofs.Projection.{mutex_seen, line_seen, has_thread_below, has_mutex_below}
 use Rattle.pif_simulation.proofs.Changes.{line_kept, has_thread_lined, ready_lined}
@@ -46,8 +46,8 @@ module _ (s : Table) (shadow : Shadow) (t m : ℕ) where
   -- the load of the owner, by the kind
   load_own : (g : Going s shadow t (Lock m) LockLoad) → (cell_at s m).word.number ≡ t → (k : Kind) → (cell_at s m).kind ≡ k
       → GoKeeps s shadow t (elim k [ Normal ↦ record { seen = Went; after = with_line t (At (Lock m) LockStop) s } | ErrorCheck ↦ record { seen = Answered 35; after = with_line t Idle s } ])
-  load_own g own Normal k = goes_on g LockStop (going_knows g).1 ((going_knows g).0, ((going_knows g).1, own, k)) refl
-  load_own g own ErrorCheck k = answers_alone g 35 (going_knows g).1 (locks g refl _ (own_errorcheck (owner_seen s shadow m ∙ own) (kind_seen ∙ k) refl))
+  load_own g own Normal k = goes_on g LockStop (going_knows g).2.0 ((going_knows g).0, refl, ((going_knows g).2.0, (own, (k, tt)))) refl
+  load_own g own ErrorCheck k = answers_alone g 35 (going_knows g).2.0 (locks g refl _ (own_errorcheck (owner_seen s shadow m ∙ own) (kind_seen ∙ k) refl))
 
   -- lock: load the word
   pub lock_load_kept : Going s shadow t (Lock m) LockLoad → GoKeeps s shadow t (lock_load t m s)
@@ -55,40 +55,40 @@ module _ (s : Table) (shadow : Shadow) (t m : ℕ) where
   lock_load_kept g = by_test (λ b. GoKeeps s shadow t (if b then elim (cell_at s m).kind [ Normal ↦ record { seen = Went; after = with_line t (At (Lock m) LockStop) s } | ErrorCheck ↦ record { seen = Answered 35; after = with_line t Idle s } ] else record { seen = Went; after = with_line t (At (Lock m) LockExchange) s }))
       ((cell_at s m).word.number == t)
       (λ e. load_own g (eqb-true (cell_at s m).word.number t e) (cell_at s m).kind refl)
-      (λ e. goes_on g LockExchange (going_knows g).1 ((going_knows g).0, ((going_knows g).1, eqb-false (cell_at s m).word.number t e)) refl)
+      (λ e. goes_on g LockExchange (going_knows g).2.0 ((going_knows g).0, refl, ((going_knows g).2.0, (eqb-false (cell_at s m).word.number t e, tt))) refl)
 
   -- lock: compare-exchange from 0 to t
   pub lock_exchange_kept : Going s shadow t (Lock m) LockExchange → GoKeeps s shadow t (lock_exchange t m s)
   unfolding lock_exchange
   lock_exchange_kept g = by_test (λ b. GoKeeps s shadow t (if b then record { seen = Answered 0; after = with_line t Idle (with_word m (held_by t) s) } else record { seen = Went; after = with_line t (At (Lock m) LockKernel) s }))
       (is_bare (cell_at s m).word 0)
-      (λ e. takes g (going_knows g).1.0 (going_knows g).0 refl (bare (cell_at s m).word 0 e).1)
-      (λ e. goes_on g LockKernel (going_knows g).1.0 (going_knows g) refl)
+      (λ e. takes g (going_knows g).2.0 (going_knows g).0 refl (bare (cell_at s m).word 0 e).1)
+      (λ e. goes_on g LockKernel (going_knows g).2.0 (going_knows g) refl)
 
   -- lock: stop for good
   pub lock_stop_kept : Going s shadow t (Lock m) LockStop → GoKeeps s shadow t (lock_stop t m s)
   unfolding lock_stop
   lock_stop_kept g = subst (λ v. Keeps s shadow (Happened (Go t) Waits) v) (sym (stopped_is s t (At (Lock m) LockStopped) g.known))
-      (waits_with g (stopped_at t (At (Lock m) LockStopped) s) (stop_kept s t m g.sound g.known (going_knows g).1.0 (going_knows g).0) (has_thread_stopped s t (At (Lock m) LockStopped) t ∙ g.known) (stopped_not_ready s t (At (Lock m) LockStopped) g.known) refl
-      (first (locks g refl _ (own_normal (owner_seen s shadow m ∙ (going_knows g).1.1) (kind_seen ∙ (going_knows g).1.2) refl)) (none (stop_seen s shadow t m LockStop g.line))))
+      (waits_with g (stopped_at t (At (Lock m) LockStopped) s) (stop_kept s t m g.sound g.known (going_knows g).2.0 (going_knows g).0) (has_thread_stopped s t (At (Lock m) LockStopped) t ∙ g.known) (stopped_not_ready s t (At (Lock m) LockStopped) g.known) refl
+      (first (locks g refl _ (own_normal (owner_seen s shadow m ∙ (going_knows g).2.1.0) (kind_seen ∙ (going_knows g).2.1.1.0) refl)) (none (stop_seen s shadow t m LockStop g.line))))
 
   -- lock: stopped for good
   pub lock_stopped_kept : Going s shadow t (Lock m) LockStopped → Keeps s shadow (Happened (Go t) Waits) s
-  lock_stopped_kept g = waits_with g s g.sound g.known (ap is_ready (going_knows g).1) refl (none refl)
+  lock_stopped_kept g = waits_with g s g.sound g.known (ap is_ready (going_knows g).2.0) refl (none refl)
 
   -- lock: queued, or made the owner, by the status
-  queued_by : (g : Going s shadow t (Lock m) LockQueued) (x : Status) → (row_at s t).status ≡ x → LockIsSound t x (cell_at s m) LockQueued → GoKeeps s shadow t (if is_ready x then record { seen = Answered 0; after = with_line t Idle s } else record { seen = Waits; after = s })
-  queued_by g (Ready w) e knows =
+  queued_by : (g : Going s shadow t (Lock m) LockQueued) (x : Status) → (row_at s t).status ≡ x → GoKeeps s shadow t (if is_ready x then record { seen = Answered 0; after = with_line t Idle s } else record { seen = Waits; after = s })
+  queued_by g (Ready w) e =
       let ready : is_ready (row_at s t).status ≡ true = ap is_ready e in
       answers_with g (with_line t Idle s) 0 (world_of s shadow) (line_kept s t Idle g.sound g.known ready ready) (has_thread_lined s t Idle t ∙ g.known) (ready_lined s t Idle g.known ∙ ready) refl (none refl)
       (going_called g ∙ ap (λ x. Some (record { request = Lock m; progress = progress_at LockQueued x })) e) (line_seen s shadow t Idle)
-  queued_by g (Queued n) e knows = waits_with g s g.sound g.known (ap is_ready e) refl (none refl)
-  queued_by g Stopped e knows = absurd knows
+  queued_by g (Queued n) e = waits_with g s g.sound g.known (ap is_ready e) refl (none refl)
+  queued_by g Stopped e = waits_with g s g.sound g.known (ap is_ready e) refl (none refl)
 
   -- lock: queued, or made the owner
   pub lock_queued_kept : Going s shadow t (Lock m) LockQueued → GoKeeps s shadow t (lock_queued t m s)
   unfolding lock_queued
-  lock_queued_kept g = queued_by g (row_at s t).status refl (going_knows g).1
+  lock_queued_kept g = queued_by g (row_at s t).status refl
 
   -- what lock_pi answers where nobody owns m
   answer_free : has_mutex s m ≡ true → (cell_at s m).word.number ≢ t → (cell_at s m).word.number ≡ 0 → (cell_at s m).state ≡ 0 → lock_pi_answer t m s ≡ Ok TookOwns
@@ -107,7 +107,7 @@ module _ (s : Table) (shadow : Shadow) (t m : ℕ) where
   unfolding lock_kernel lock_by lock_pi_after
   kernel_takes g zero e = subst (λ a. GoKeeps s shadow t (lock_by a t m (lock_pi_after t m a s))) (sym e)
       (subst (λ w. Keeps s shadow (Happened (Go t) (Answered 0)) (with_line t Idle (with_word m w s))) (λ i. record { number = t; waiters = false; died = sym (g.sound.cells m (going_knows g).0).no_death i })
-      (takes g (going_knows g).1.0 (going_knows g).0 refl zero))
+      (takes g (going_knows g).2.0 (going_knows g).0 refl zero))
 
   -- the kernel queues t
   kernel_queues : (g : Going s shadow t (Lock m) LockKernel) → lock_pi_answer t m s ≡ Ok TookQueued → GoKeeps s shadow t (lock_kernel t m s)
@@ -123,7 +123,7 @@ module _ (s : Table) (shadow : Shadow) (t m : ℕ) where
   kernel_refuses : (g : Going s shadow t (Lock m) LockKernel) → lock_pi_answer t m s ≡ Err Deadlock → GoKeeps s shadow t (lock_kernel t m s)
   unfolding lock_kernel lock_by lock_pi_after
   kernel_refuses g e = subst (λ a. GoKeeps s shadow t (lock_by a t m (lock_pi_after t m a s))) (sym e)
-      (answers_alone g 35 (going_knows g).1.0 (locks g refl _ (deadlock_locks s shadow t m g.sound g.known g.line e)))
+      (answers_alone g 35 (going_knows g).2.0 (locks g refl _ (deadlock_locks s shadow t m g.sound g.known g.line e)))
 
   -- lock: the kernel call lock_pi
   pub lock_kernel_kept : Going s shadow t (Lock m) LockKernel → GoKeeps s shadow t (lock_kernel t m s)
@@ -136,7 +136,7 @@ module _ (s : Table) (shadow : Shadow) (t m : ℕ) where
       named = (going_knows g).0
 
       other : (cell_at s m).word.number ≢ t
-      other = (going_knows g).1.1
+      other = (going_knows g).2.1.0
 
       go : ((cell_at s m).word.number ≡ 0) ⊎ ((cell_at s m).word.number ≢ 0) → GoKeeps s shadow t (lock_kernel t m s)
       go (inl zero) = kernel_takes g zero (answer_free named other zero (state_from_none c (none_from_free c zero)))

@@ -5,20 +5,15 @@ use Rattle.std.specs.List.{list_any}
 use Rattle.std.proofs.lemmas.Bool.{true≢false, cases_lt}
 use Rattle.std.proofs.lemmas.Bool.Decides.{nat_tests}
 use Rattle.std.proofs.lemmas.List.{length-map}
-use Rattle.pif_types.specs.declared.requests.Request.TheVariants.{Lock, Unlock}
-use Rattle.pif_model.specs.declared.lines.Line.{Line}
-use Rattle.pif_model.specs.declared.lines.Line.TheVariants.{Idle, At}
-use Rattle.pif_model.specs.declared.lines.Place.TheVariants.{LockLoad, LockExchange, LockKernel, LockQueued, LockStop, LockStopped, UnlockLoad, UnlockExchange, UnlockKernel}
-use Rattle.pif_model.specs.declared.lines.Status.{Status}
-use Rattle.pif_model.specs.declared.lines.Status.TheVariants.{Ready, Queued, Stopped}
-use Rattle.pif_model.specs.declared.lines.Woken.{Woken}
-use Rattle.pif_model.specs.Graph.{waited_by, has_waiter, first_greatest}
+use Rattle.pif_model.specs.Graph.{first_greatest}
 use Rattle.pif_simulation.proofs.Effective.{effective_seen}
+use Rattle.pif_simulation.proofs.Waiting.{by_test}
+use Rattle.pif_simulation.proofs.Steps.{rests_ready, rests_not_ready}
 use Rattle.pif_model.specs.Word.{free_word}
-use Rattle.pif_model.specs.Posix.{Health, Thread, Mutex, mutex_at, is_thread, is_stuck, rests, effective_of}
+use Rattle.pif_model.specs.Posix.{Health, Mutex, mutex_at, is_thread, rests, effective_of}
 use Rattle.pif_model.specs.Posix.Health.{Fine, Inconsistent}
-use Rattle.pif_model.specs.Table.{Table, no_row, no_cell, row_at, cell_at, has_thread, has_mutex, is_ready, queued_on, kernel_effective, kernel_pick}
-use Rattle.pif_model.specs.Standing.{Shadow, IsSound, CellIsSound, LineIsSound, QueueIsSound, IsPick, IsPossible, call_at, world_of, thread_of, mutex_of, health_of}
+use Rattle.pif_model.specs.Table.{Table, no_cell, row_at, cell_at, has_thread, has_mutex, is_ready, kernel_effective, kernel_pick}
+use Rattle.pif_model.specs.Standing.{Shadow, IsSound, CellIsSound, IsPick, IsPossible, world_of, thread_of, mutex_of, health_of}
 use Rattle.pif_simulation.proofs.Places.{mapped_at}
 
 -- whether t stands in a list of pairs
@@ -56,86 +51,14 @@ first_stands value (r ∷ rs) h = inr (by_rest (first_stands value rs h.1) (case
     by_rest (inr p) (inl l) = grind (arith, nat_tests, p.0, p.1)
     by_rest _ (inr l) = grind (arith, nat_tests, h.0)
 
--- who waits for no mutex stands nowhere, where nobody waits for the number 0
-not_waiting : (ws : List (ℕ × ℕ)) (t : ℕ) → has_waiter ws 0 ≡ false → waited_by ws t ≡ 0 → stands_in t ws ≡ false
-unfolding waited_by
-not_waiting [] t h e = refl
-not_waiting (w ∷ ws) t h e = grind (arith, nat_tests, h, e, not_waiting ws t)
-
--- who waits for a mutex stands among the waiters
-is_waiting : (ws : List (ℕ × ℕ)) (t : ℕ) → waited_by ws t ≢ 0 → stands_in t ws ≡ true
-unfolding waited_by
-is_waiting [] t n = absurd (n refl)
-is_waiting (w ∷ ws) t n = grind (arith, nat_tests, n, is_waiting ws t)
-
--- a ready thread's call is not stuck
-ready_not_stuck : (s : Table) (t : ℕ) (w : Woken) (l : Line) → LineIsSound s t (Ready w) l → is_stuck (call_at l (Ready w)) ≡ false
-ready_not_stuck s t w Idle h = refl
-ready_not_stuck s t w (At (Lock m) LockLoad) h = refl
-ready_not_stuck s t w (At (Lock m) LockExchange) h = refl
-ready_not_stuck s t w (At (Lock m) LockKernel) h = refl
-ready_not_stuck s t w (At (Lock m) LockQueued) h = refl
-ready_not_stuck s t w (At (Lock m) LockStop) h = refl
-ready_not_stuck s t w (At (Lock m) LockStopped) h = absurd (grind (arith, h.1))
-ready_not_stuck s t w (At (Lock m) UnlockLoad) h = refl
-ready_not_stuck s t w (At (Lock m) UnlockExchange) h = refl
-ready_not_stuck s t w (At (Lock m) UnlockKernel) h = refl
-ready_not_stuck s t w (At (Unlock m) UnlockLoad) h = refl
-ready_not_stuck s t w (At (Unlock m) UnlockExchange) h = refl
-ready_not_stuck s t w (At (Unlock m) UnlockKernel) h = refl
-ready_not_stuck s t w (At (Unlock m) LockStopped) h = absurd h.1
-ready_not_stuck s t w (At (Unlock m) LockLoad) h = refl
-ready_not_stuck s t w (At (Unlock m) LockExchange) h = refl
-ready_not_stuck s t w (At (Unlock m) LockKernel) h = refl
-ready_not_stuck s t w (At (Unlock m) LockQueued) h = refl
-ready_not_stuck s t w (At (Unlock m) LockStop) h = refl
-
--- a stopped thread's call is stuck
-stopped_stuck : (s : Table) (t : ℕ) (l : Line) → LineIsSound s t Stopped l → is_stuck (call_at l Stopped) ≡ true
-stopped_stuck s t Idle h = absurd (true≢false (sym h))
-stopped_stuck s t (At (Lock m) LockLoad) h = absurd (true≢false (sym h.1))
-stopped_stuck s t (At (Lock m) LockExchange) h = absurd (true≢false (sym h.1.0))
-stopped_stuck s t (At (Lock m) LockKernel) h = absurd (true≢false (sym h.1.0))
-stopped_stuck s t (At (Lock m) LockQueued) h = absurd h.1
-stopped_stuck s t (At (Lock m) LockStop) h = absurd (true≢false (sym h.1.0))
-stopped_stuck s t (At (Lock m) LockStopped) h = refl
-stopped_stuck s t (At (Lock m) UnlockLoad) h = absurd h.1
-stopped_stuck s t (At (Lock m) UnlockExchange) h = absurd h.1
-stopped_stuck s t (At (Lock m) UnlockKernel) h = absurd h.1
-stopped_stuck s t (At (Unlock m) UnlockLoad) h = absurd (true≢false (sym h.1))
-stopped_stuck s t (At (Unlock m) UnlockExchange) h = absurd (true≢false (sym h.1.0))
-stopped_stuck s t (At (Unlock m) UnlockKernel) h = absurd (true≢false (sym h.1.0))
-stopped_stuck s t (At (Unlock m) LockLoad) h = absurd h.1
-stopped_stuck s t (At (Unlock m) LockExchange) h = absurd h.1
-stopped_stuck s t (At (Unlock m) LockKernel) h = absurd h.1
-stopped_stuck s t (At (Unlock m) LockQueued) h = absurd h.1
-stopped_stuck s t (At (Unlock m) LockStop) h = absurd h.1
-stopped_stuck s t (At (Unlock m) LockStopped) h = absurd h.1
-
 -- who was added is somebody
 somebody : (t n : ℕ) → (if t == 0 then false else nat_lt t n) ≡ true → t ≢ 0
 somebody t n h = grind (arith, nat_tests)
 
--- a queued thread is queued on a mutex that was added
-queued_somewhere : (s : Table) (t m : ℕ) (l : Line) → LineIsSound s t (Queued m) l → QueueIsSound (Queued m) l → m ≢ 0
-queued_somewhere s t m l h q = somebody m (length s.cells) (subst (λ (x : Line). LineIsSound s t (Queued m) x) q h).0
-
--- whether a thread of this line and status rests, by where it waits
-rests_by_status : (s : Table) (t : ℕ) (x : Status) (l : Line) → LineIsSound s t x l → QueueIsSound x l → has_waiter s.waiters 0 ≡ false → waited_by s.waiters t ≡ queued_on x
-    → (if is_stuck (call_at l x) then true else stands_in t s.waiters) ≡ (if is_ready x then false else true)
-rests_by_status s t (Ready w) l h q none e = rw (ready_not_stuck s t w l h, not_waiting s.waiters t none e) refl
-rests_by_status s t (Queued m) l h q none e = either (is_stuck (call_at l (Queued m))) (is_waiting s.waiters t (λ z. queued_somewhere s t m l h q (sym e ∙ z)))
-  where
-    either : (b : Bool) → stands_in t s.waiters ≡ true → (if b then true else stands_in t s.waiters) ≡ true
-    either true y = refl
-    either false y = y
-rests_by_status s t Stopped l h q none e = rw (stopped_stuck s t l h) refl
-
 -- a thread rests in the machine's state exactly where it is not ready
 pub rests_seen : (s : Table) (shadow : Shadow) → IsSound s → (t : ℕ) → has_thread s t ≡ true → rests (world_of s shadow) t ≡ (if is_ready (row_at s t).status then false else true)
-rests_seen s shadow h t k =
-    ap (λ (x : Thread). if is_stuck x.call then true else stands_in t s.waiters) (mapped_at thread_of s.rows t no_row)
-    ∙ rests_by_status s t (row_at s t).status (row_at s t).line (h.rows t k).line (h.rows t k).queue h.somewhere (h.queue t)
+rests_seen s shadow h t k = by_test (λ b. is_ready (row_at s t).status ≡ b → rests (world_of s shadow) t ≡ (if b then false else true)) (is_ready (row_at s t).status)
+    (λ e x. rests_ready s shadow t h k e) (λ e x. rests_not_ready s shadow t h k e) refl
 
 -- a thread was added to both machines
 known_seen : (s : Table) (shadow : Shadow) (t : ℕ) → is_thread (world_of s shadow) t ≡ has_thread s t

@@ -22,7 +22,7 @@ use Rattle.pif_model.specs.Standing.{Shadow, LineIsSound, RowIsSound, CellIsSoun
 use Rattle.pif_simulation.proofs.Places.{mapped_at}
 use Rattle.pif_simulation.proofs.Waiting.{by_test, names, Once, or_true, or_false, waited_by-append_other, waited_by-append_same, unnamed-from_0, once_push, once_without, named-without_same, named-without_other, has_waiter-push, named-push, named-releveled, once_releveled, level_releveled}
 use Rattle.pif_simulation.proofs.Effective.{leads_seen, effective-with_line}
-use Rattle.pif_simulation.proofs.Kept.{above_0, below, lock_kept, unlock_kept, line_kept}
+use Rattle.pif_simulation.proofs.Kept.{above_0, below, line_spared}
 
 -- v is s with t queued on m, whose owner is in the word
 pub record IsQueued (s v : Table) (t m : ℕ) : Type 0 where
@@ -66,7 +66,7 @@ pub knows_at_kernel : (s : Table) (t m : ℕ) → IsSound s → has_thread s t �
     → (has_mutex s m ≡ true) × (is_ready (row_at s t).status ≡ true) × ((cell_at s m).word.number ≢ t)
 knows_at_kernel s t m h a e =
     let k = subst (λ l. LineIsSound s t (row_at s t).status l) e (h.rows t a).line in
-    (k.0, k.1.0, k.1.1)
+    (k.0, k.2.0, k.2.1.0)
 
 -- a ready thread waits for nothing
 pub ready-unnamed : (s : Table) (t : ℕ) → IsSound s → is_ready (row_at s t).status ≡ true → names t s.waiters ≡ false
@@ -101,14 +101,13 @@ module _ (s v : Table) (t m : ℕ) (q : IsQueued s v t m) (h : IsSound s) (a : h
   rows_sound : (u : ℕ) → has_thread v u ≡ true → RowIsSound v u (row_at v u)
   rows_sound u b = ⊎_elim
       (λ (x : u ≡ t). subst (λ u. RowIsSound v u (row_at v u)) (sym x) (subst (λ r. RowIsSound v t r) (sym q.row_here)
-      (record { living = (h.rows t a).living; line = (same_mutexes m ∙ (knows_at_kernel s t m h a e).0, tt); queue = refl })))
+      (record { living = (h.rows t a).living; line = (same_mutexes m ∙ (knows_at_kernel s t m h a e).0, refl, ((λ e. absurd cc), ((λ e. absurd (true≢false (sym e))), tt))); queue = refl })))
       (λ x. subst (λ r. RowIsSound v u r) (sym (q.row_other u x))
       (let r = h.rows u (sym (same_threads u) ∙ b) in
       record {
         living = r.living;
-        line = line_kept s v u (row_at s u).status (row_at s u).line same_mutexes
-            (λ k p. lock_kept u (row_at s u).status (cell_at s k) (cell_at v k) p (same_number k) (same_kind k))
-            (λ k p. unlock_kept u (row_at s u).status (cell_at s k) (cell_at v k) p (same_number k))
+        line = line_spared s v u (row_at s u).status (row_at s u).line
+            (λ k e. (same_mutexes k ∙ e, record { kind = same_kind k; owner = λ e. same_number k ∙ e; other = λ z e. z (sym (same_number k) ∙ e) }))
             r.line;
         queue = r.queue;
       }))

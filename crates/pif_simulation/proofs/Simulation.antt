@@ -17,9 +17,9 @@ use Rattle.pif_model.specs.Refusals.{begin_refused, go_refused}
 use Rattle.pif_model.specs.Posix.{Step, thread_at, with_thread, named_by}
 use Rattle.pif_model.specs.Posix.Progress.{Fresh}
 use Rattle.pif_model.specs.Posix.Step.{refused, begun}
-use Rattle.pif_model.specs.Table.{Table, row_at, cell_at, has_thread, has_mutex, with_line, is_ready}
+use Rattle.pif_model.specs.Table.{Table, row_at, has_thread, has_mutex, with_line, is_ready}
 use Rattle.pif_model.specs.Lines.{is_open, first_place, table_refusal, line_of, gone, accepted, by_refusal, stepped}
-use Rattle.pif_model.specs.Standing.{Shadow, no_shadow, LockIsSound, UnlockIsSound, LineIsSound, IsSound, call_at, world_of}
+use Rattle.pif_model.specs.Standing.{Shadow, no_shadow, belongs, LineIsSound, IsSound, call_at, world_of}
 use Rattle.pif_simulation.proofs.Projection.{refusal_seen, line_seen}
 use Rattle.pif_simulation.proofs.Changes.{line_kept}
 use Rattle.pif_simulation.proofs.Steps.{Keeps, GoKeeps, Going, going_knows}
@@ -48,8 +48,8 @@ idle_line (At q p) e = absurd (true≢false e)
 
 -- what a call knows where it begins
 begins_sound : (s : Table) (t : ℕ) (x : Status) (q : Request) → has_mutex s (named_by q) ≡ true → is_ready x ≡ true → LineIsSound s t x (At q (first_place q))
-begins_sound s t x (Lock m) named ready = (named, ready)
-begins_sound s t x (Unlock m) named ready = (named, ready)
+begins_sound s t x (Lock m) named ready = (named, refl, (ready, tt))
+begins_sound s t x (Unlock m) named ready = (named, refl, (ready, tt))
 
 -- a call that begins has had no effect
 begins_fresh : (q : Request) (x : Status) → call_at (At q (first_place q)) x ≡ Some (record { request = q; progress = Fresh })
@@ -71,42 +71,25 @@ begin_kept s shadow t q h e =
 
 -- A CALL GOES ON
 
--- a step of a lock
-lock_kept : (s : Table) (shadow : Shadow) (t m : ℕ) (p : Place) → Going s shadow t (Lock m) p → LockIsSound t (row_at s t).status (cell_at s m) p → GoKeeps s shadow t (line_of (Lock m) p t s)
+-- a step of a call; a place of another request never comes
+call_kept : (s : Table) (shadow : Shadow) (t : ℕ) (q : Request) (p : Place) → Going s shadow t q p → belongs q p ≡ true → GoKeeps s shadow t (line_of q p t s)
 unfolding line_of
-lock_kept s shadow t m LockLoad g h = lock_load_kept s shadow t m g
-lock_kept s shadow t m LockExchange g h = lock_exchange_kept s shadow t m g
-lock_kept s shadow t m LockKernel g h = lock_kernel_kept s shadow t m g
-lock_kept s shadow t m LockQueued g h = lock_queued_kept s shadow t m g
-lock_kept s shadow t m LockStop g h = lock_stop_kept s shadow t m g
-lock_kept s shadow t m LockStopped g h = lock_stopped_kept s shadow t m g
-lock_kept s shadow t m UnlockLoad g h = absurd h
-lock_kept s shadow t m UnlockExchange g h = absurd h
-lock_kept s shadow t m UnlockKernel g h = absurd h
-
--- a step of an unlock
-unlock_kept : (s : Table) (shadow : Shadow) (t m : ℕ) (p : Place) → Going s shadow t (Unlock m) p → UnlockIsSound t (row_at s t).status (cell_at s m) p → GoKeeps s shadow t (line_of (Unlock m) p t s)
-unfolding line_of
-unlock_kept s shadow t m UnlockLoad g h = unlock_load_kept s shadow t m g
-unlock_kept s shadow t m UnlockExchange g h = unlock_exchange_kept s shadow t m g
-unlock_kept s shadow t m UnlockKernel g h = unlock_kernel_kept s shadow t m g
-unlock_kept s shadow t m LockLoad g h = absurd h
-unlock_kept s shadow t m LockExchange g h = absurd h
-unlock_kept s shadow t m LockKernel g h = absurd h
-unlock_kept s shadow t m LockQueued g h = absurd h
-unlock_kept s shadow t m LockStop g h = absurd h
-unlock_kept s shadow t m LockStopped g h = absurd h
-
--- a step of a call
-call_kept : (s : Table) (shadow : Shadow) (t : ℕ) (q : Request) (p : Place) → Going s shadow t q p → GoKeeps s shadow t (line_of q p t s)
-call_kept s shadow t (Lock m) p g = lock_kept s shadow t m p g (going_knows g).1
-call_kept s shadow t (Unlock m) p g = unlock_kept s shadow t m p g (going_knows g).1
+call_kept s shadow t (Lock m) LockLoad g b = lock_load_kept s shadow t m g
+call_kept s shadow t (Lock m) LockExchange g b = lock_exchange_kept s shadow t m g
+call_kept s shadow t (Lock m) LockKernel g b = lock_kernel_kept s shadow t m g
+call_kept s shadow t (Lock m) LockQueued g b = lock_queued_kept s shadow t m g
+call_kept s shadow t (Lock m) LockStop g b = lock_stop_kept s shadow t m g
+call_kept s shadow t (Lock m) LockStopped g b = lock_stopped_kept s shadow t m g
+call_kept s shadow t (Unlock m) UnlockLoad g b = unlock_load_kept s shadow t m g
+call_kept s shadow t (Unlock m) UnlockExchange g b = unlock_exchange_kept s shadow t m g
+call_kept s shadow t (Unlock m) UnlockKernel g b = unlock_kernel_kept s shadow t m g
+call_kept s shadow t _ _ g b = absurd (true≢false (sym b))
 
 -- a step of what is open at a line
 gone_kept : (s : Table) (shadow : Shadow) (t : ℕ) (l : Line) → IsSound s → has_thread s t ≡ true → (row_at s t).line ≡ l → is_open l ≡ true → GoKeeps s shadow t (gone l t s)
 unfolding gone
 gone_kept s shadow t Idle h k e o = absurd (true≢false (sym o))
-gone_kept s shadow t (At q p) h k e o = call_kept s shadow t q p (record { sound = h; known = k; line = e })
+gone_kept s shadow t (At q p) h k e o = (let g : Going s shadow t q p = record { sound = h; known = k; line = e } in call_kept s shadow t q p g (going_knows g).1)
 
 -- ANY EVENT
 

@@ -3,7 +3,6 @@ use Rattle.std.proofs.Common.{◌≡◌, ℕ, ◌<◌, Bool, true, false, length
 use Rattle.std.proofs.lemmas.Bool.{true≢false}
 use Rattle.std.proofs.lemmas.List.{length-map, set-get_or}
 use Rattle.pif_types.specs.declared.requests.Request.{Request}
-use Rattle.pif_types.specs.declared.requests.Request.TheVariants.{Lock, Unlock}
 use Rattle.pif_model.specs.declared.events.Event.TheVariants.{Go}
 use Rattle.pif_model.specs.declared.events.Seen.TheVariants.{Went, Waits, Answered}
 use Rattle.pif_model.specs.declared.events.Entry.{Entry}
@@ -11,19 +10,19 @@ use Rattle.pif_model.specs.declared.events.Entry.TheVariants.{Step as Happened}
 use Rattle.pif_model.specs.declared.lines.Line.{Line}
 use Rattle.pif_model.specs.declared.lines.Line.TheVariants.{Idle, At}
 use Rattle.pif_model.specs.declared.lines.Place.{Place}
-use Rattle.pif_model.specs.declared.lines.Place.TheVariants.{LockLoad, LockExchange, LockKernel, LockQueued, LockStop, LockStopped, UnlockLoad, UnlockExchange, UnlockKernel}
+use Rattle.pif_model.specs.declared.lines.Place.TheVariants.{LockQueued, LockStopped}
 use Rattle.pif_model.specs.declared.lines.Status.{Status}
 use Rattle.pif_model.specs.declared.lines.Status.TheVariants.{Ready, Queued, Stopped}
 use Rattle.pif_model.specs.Graph.{waited_by}
 use Rattle.pif_model.specs.Word.{Word}
 use Rattle.pif_model.specs.Refusals.{go_refused}
-use Rattle.pif_model.specs.Posix.{Thread, World, Step, Effect, Effects, thread_at, with_thread, with_mutex, with_progress, refusal_of, rests, is_stuck}
+use Rattle.pif_model.specs.Posix.{Thread, World, Step, Effect, Effects, thread_at, with_thread, with_mutex, with_progress, refusal_of, named_by, rests, is_stuck}
 use Rattle.pif_model.specs.Posix.Progress.{Has}
 use Rattle.pif_model.specs.Posix.Step.{went, waits, answered}
 use Rattle.pif_model.specs.Posix.Effects.{none, then as first}
 use Rattle.pif_model.specs.Table.{Table, Cell, row_at, cell_at, has_thread, has_mutex, with_line, with_word, is_ready, queued_on}
 use Rattle.pif_model.specs.Lines.{Outcome, is_open}
-use Rattle.pif_model.specs.Standing.{Shadow, call_at, progress_at, thread_of, mutex_of, world_of, LockIsSound, UnlockIsSound, LineIsSound, QueueIsSound, IsSound}
+use Rattle.pif_model.specs.Standing.{Shadow, call_at, progress_at, thread_of, mutex_of, world_of, MeetsAll, needs, LineIsSound, QueueIsSound, IsSound}
 use Rattle.pif_simulation.proofs.Waiting.{names, paired-from_waited, named-from_pair}
 use Rattle.pif_simulation.proofs.Queue.{ready-unnamed}
 use Rattle.pif_simulation.proofs.Projection.{thread_seen, call_seen, line_seen, word_seen, refusal_seen, has_thread_below, has_mutex_above_0, closed, closed_progressed, call_progressed}
@@ -43,67 +42,30 @@ GoKeeps s shadow t o = Keeps s shadow (Happened (Go t) o.seen) o.after
 
 -- WHO RESTS
 
--- a lock of a thread that may run is not stuck
-lock_moves : (t m : ℕ) (x : Status) (c : Cell) (p : Place) → LockIsSound t x c p → is_ready x ≡ true → is_stuck (call_at (At (Lock m) p) x) ≡ false
-lock_moves t m x c LockLoad h e = refl
-lock_moves t m x c LockExchange h e = refl
-lock_moves t m x c LockKernel h e = refl
-lock_moves t m (Ready w) c LockQueued h e = refl
-lock_moves t m (Queued n) c LockQueued h e = refl
-lock_moves t m Stopped c LockQueued h e = absurd h
-lock_moves t m x c LockStop h e = refl
-lock_moves t m x c LockStopped h e = absurd (true≢false (sym e ∙ ap is_ready h))
-lock_moves t m x c UnlockLoad h e = refl
-lock_moves t m x c UnlockExchange h e = refl
-lock_moves t m x c UnlockKernel h e = refl
+-- whether a thread of this status is stopped
+abbrev pub is_stopped : Status → Bool
+is_stopped (Ready w) = false
+is_stopped (Queued m) = false
+is_stopped Stopped = true
 
--- an unlock is never stuck
-unlock_moves : (t m : ℕ) (x : Status) (c : Cell) (p : Place) → UnlockIsSound t x c p → is_stuck (call_at (At (Unlock m) p) x) ≡ false
-unlock_moves t m x c UnlockLoad h = refl
-unlock_moves t m x c UnlockExchange h = refl
-unlock_moves t m x c UnlockKernel h = refl
-unlock_moves t m x c LockLoad h = absurd h
-unlock_moves t m x c LockExchange h = absurd h
-unlock_moves t m x c LockKernel h = absurd h
-unlock_moves t m x c LockQueued h = absurd h
-unlock_moves t m x c LockStop h = absurd h
-unlock_moves t m x c LockStopped h = absurd h
+-- who may run is not stopped
+ready_not_stopped : (x : Status) → is_ready x ≡ true → is_stopped x ≡ false
+ready_not_stopped (Ready w) e = refl
+ready_not_stopped (Queued m) e = refl
+ready_not_stopped Stopped e = absurd (true≢false (sym e))
 
--- the call of a thread that may run is not stuck
-line_moves : (s : Table) (t : ℕ) (x : Status) (l : Line) → LineIsSound s t x l → is_ready x ≡ true → is_stuck (call_at l x) ≡ false
-line_moves s t x Idle h e = refl
-line_moves s t x (At (Lock m) p) h e = lock_moves t m x (cell_at s m) p h.1 e
-line_moves s t x (At (Unlock m) p) h e = unlock_moves t m x (cell_at s m) p h.1
+-- an open call is stuck where its thread is stopped
+place_stuck : (t : ℕ) (q : Request) (x : Status) (c : Cell) (p : Place) → MeetsAll t x c (needs p) → is_stuck (call_at (At q p) x) ≡ is_stopped x
+place_stuck t q (Ready w) c LockQueued h = refl
+place_stuck t q (Queued n) c LockQueued h = refl
+place_stuck t q Stopped c LockQueued h = refl
+place_stuck t q x c LockStopped h = ap is_stopped (sym h.0)
+place_stuck t q x c _ h = sym (ready_not_stopped x h.0)
 
--- a lock whose thread is stopped is stuck
-lock_stuck : (t m : ℕ) (c : Cell) (p : Place) → LockIsSound t Stopped c p → is_stuck (call_at (At (Lock m) p) Stopped) ≡ true
-lock_stuck t m c LockLoad h = absurd (true≢false (sym h))
-lock_stuck t m c LockExchange h = absurd (true≢false (sym h.0))
-lock_stuck t m c LockKernel h = absurd (true≢false (sym h.0))
-lock_stuck t m c LockQueued h = absurd h
-lock_stuck t m c LockStop h = absurd (true≢false (sym h.0))
-lock_stuck t m c LockStopped h = refl
-lock_stuck t m c UnlockLoad h = absurd h
-lock_stuck t m c UnlockExchange h = absurd h
-lock_stuck t m c UnlockKernel h = absurd h
-
--- no unlock has a stopped thread
-unlock_runs : (t : ℕ) (c : Cell) (p : Place) → UnlockIsSound t Stopped c p → ⊥
-unlock_runs t c UnlockLoad h = true≢false (sym h)
-unlock_runs t c UnlockExchange h = true≢false (sym h.0)
-unlock_runs t c UnlockKernel h = true≢false (sym h.0)
-unlock_runs t c LockLoad h = h
-unlock_runs t c LockExchange h = h
-unlock_runs t c LockKernel h = h
-unlock_runs t c LockQueued h = h
-unlock_runs t c LockStop h = h
-unlock_runs t c LockStopped h = h
-
--- the call of a stopped thread is stuck
-line_stuck : (s : Table) (t : ℕ) (l : Line) → LineIsSound s t Stopped l → is_stuck (call_at l Stopped) ≡ true
-line_stuck s t Idle h = absurd (true≢false (sym h))
-line_stuck s t (At (Lock m) p) h = lock_stuck t m (cell_at s m) p h.1
-line_stuck s t (At (Unlock m) p) h = absurd (unlock_runs t (cell_at s m) p h.1)
+-- a call is stuck where its thread is stopped
+pub line_stuck : (s : Table) (t : ℕ) (x : Status) (l : Line) → LineIsSound s t x l → is_stuck (call_at l x) ≡ is_stopped x
+line_stuck s t x Idle h = sym (ready_not_stopped x h)
+line_stuck s t x (At q p) h = place_stuck t q x (cell_at s (named_by q)) p h.2
 
 -- whether t rests, by its row
 rests_seen : (s : Table) (shadow : Shadow) (t : ℕ) → rests (world_of s shadow) t ≡ (if is_stuck (call_at (row_at s t).line (row_at s t).status) then true else names t s.waiters)
@@ -112,7 +74,7 @@ rests_seen s shadow t = ap (λ (x : Thread). if is_stuck x.call then true else n
 -- a thread that may run doesn't rest
 pub rests_ready : (s : Table) (shadow : Shadow) (t : ℕ) → IsSound s → has_thread s t ≡ true → is_ready (row_at s t).status ≡ true → rests (world_of s shadow) t ≡ false
 rests_ready s shadow t h k e = rests_seen s shadow t ∙ ap₂ (λ a b. if a then true else b)
-    (line_moves s t (row_at s t).status (row_at s t).line (h.rows t k).line e)
+    (line_stuck s t (row_at s t).status (row_at s t).line (h.rows t k).line ∙ ready_not_stopped (row_at s t).status e)
     (ready-unnamed s t h e)
 
 -- a thread that may not run rests
@@ -125,7 +87,7 @@ rests_not_ready s shadow t h k e = rests_seen s shadow t ∙ go (row_at s t).sta
 
     go : (x : Status) (l : Line) → is_ready x ≡ false → LineIsSound s t x l → QueueIsSound x l → waited_by s.waiters t ≡ queued_on x → (if is_stuck (call_at l x) then true else names t s.waiters) ≡ true
     go (Ready w) l e a b c = absurd (true≢false e)
-    go Stopped l e a b c = ap (λ x. if x then true else names t s.waiters) (line_stuck s t l a)
+    go Stopped l e a b c = ap (λ x. if x then true else names t s.waiters) (line_stuck s t Stopped l a)
     go (Queued m) l e a b c =
         let named : has_mutex s m ≡ true = (subst (LineIsSound s t (Queued m)) b a).0 in
         ap (λ x. if is_stuck (call_at l (Queued m)) then true else x) (named-from_pair s.waiters t m (paired-from_waited s.waiters t m (has_mutex_above_0 s m named) c))

@@ -115,7 +115,7 @@ stop_kept s t m h k ready named = record {
     owning u = record { mutexes = λ n k. k; kinds = λ n k. refl; owns = λ n k e. e; owns_not = λ n k e. e }
 
     there : RowIsSound v t (stopped_row l (row_at s t))
-    there = record { living = (h.rows t k).living; line = (named, refl); queue = tt }
+    there = record { living = (h.rows t k).living; line = (named, refl, (refl, tt)); queue = tt }
 
     other : (u : ℕ) → RowIsSound s u (row_at s u) → RowIsSound v u (row_at s u)
     other u r = record { living = r.living; line = line_outlives s v u (row_at s u).status (row_at s u).line (owning u) r.line; queue = r.queue }

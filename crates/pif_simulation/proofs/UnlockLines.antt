@@ -36,16 +36,16 @@ module _ (s : Table) (shadow : Shadow) (t m : ℕ) where
   unfolding unlock_load
   unlock_load_kept g = by_test (λ b. GoKeeps s shadow t (if b then record { seen = Went; after = with_line t (At (Unlock m) UnlockExchange) s } else record { seen = Answered 1; after = with_line t Idle s }))
       ((cell_at s m).word.number == t)
-      (λ e. goes_on g UnlockExchange (going_knows g).1 ((going_knows g).0, ((going_knows g).1, eqb-true (cell_at s m).word.number t e)) refl)
-      (λ e. answers_alone g 1 (going_knows g).1 (unlocks g refl _ (not_owner (λ x. eqb-false (cell_at s m).word.number t e (sym (owner_seen s shadow m) ∙ x)) refl)))
+      (λ e. goes_on g UnlockExchange (going_knows g).2.0 ((going_knows g).0, refl, ((going_knows g).2.0, (eqb-true (cell_at s m).word.number t e, tt))) refl)
+      (λ e. answers_alone g 1 (going_knows g).2.0 (unlocks g refl _ (not_owner (λ x. eqb-false (cell_at s m).word.number t e (sym (owner_seen s shadow m) ∙ x)) refl)))
 
   -- unlock: compare-exchange from t to 0
   pub unlock_exchange_kept : Going s shadow t (Unlock m) UnlockExchange → GoKeeps s shadow t (unlock_exchange t m s)
   unfolding unlock_exchange
   unlock_exchange_kept g = by_test (λ b. GoKeeps s shadow t (if b then record { seen = Answered 0; after = with_line t Idle (with_word m free_word s) } else record { seen = Went; after = with_line t (At (Unlock m) UnlockKernel) s }))
       (is_bare (cell_at s m).word t)
-      (λ e. gives_up g (going_knows g).1.0 (going_knows g).0 refl (going_knows g).1.1 (none_from_flag (g.sound.cells m (going_knows g).0) (bare (cell_at s m).word t e).0))
-      (λ e. goes_on g UnlockKernel (going_knows g).1.0 (going_knows g) refl)
+      (λ e. gives_up g (going_knows g).2.0 (going_knows g).0 refl (going_knows g).2.1.0 (none_from_flag (g.sound.cells m (going_knows g).0) (bare (cell_at s m).word t e).0))
+      (λ e. goes_on g UnlockKernel (going_knows g).2.0 (going_knows g) refl)
 
   -- what unlock_pi answers to the owner
   answer_owner : has_mutex s m ≡ true → (cell_at s m).word.number ≡ t → (if (cell_at s m).state == 0 then true else (cell_at s m).state == t) ≡ true → unlock_pi_answer t m s ≡ Ok (record {})
@@ -74,14 +74,14 @@ module _ (s : Table) (shadow : Shadow) (t m : ℕ) where
   unfolding unlock_kernel unlock_by unlock_pi_after
   unlock_kernel_kept g = subst (λ a. GoKeeps s shadow t (unlock_by a t (unlock_pi_after t m a s))) (sym answer)
       (by_test (λ b. Keeps s shadow (Happened (Go t) (Answered 0)) (with_line t Idle (if b then with_word m free_word s else handed_to (kernel_next s m) m s))) ((cell_at s m).state == 0)
-      (λ e. gives_up g (going_knows g).1.0 named refl own (none_from_state c (λ z. has_thread_above_0 s t g.known (sym own ∙ z)) (eqb-true (cell_at s m).state 0 e)))
+      (λ e. gives_up g (going_knows g).2.0 named refl own (none_from_state c (λ z. has_thread_above_0 s t g.known (sym own ∙ z)) (eqb-true (cell_at s m).state 0 e)))
       (λ e. kernel_hands g (eqb-false (cell_at s m).state 0 e)))
     where
       named : has_mutex s m ≡ true
       named = (going_knows g).0
 
       own : (cell_at s m).word.number ≡ t
-      own = (going_knows g).1.1
+      own = (going_knows g).2.1.0
 
       c : CellIsSound s m (cell_at s m)
       c = g.sound.cells m (going_knows g).0
