@@ -51,10 +51,10 @@ waiter_known s u h named = (λ z. nobody z, by_place (cases_lt u (length s.rows)
   where
     unqueued : row_at s u ≡ no_row → ⊥
     unqueued e =
-        false≢true (sym (unnamed-from_0 s.waiters u h.somewhere (h.queue u ∙ ap (λ (r : Row). queued_on r.status) e)) ∙ named)
+        false≢true (sym (unnamed-from_0 s.waiters u h.all.somewhere ((h.all.threads u (λ e. e)).queue ∙ ap (λ (r : Row). queued_on r.status) e)) ∙ named)
 
     nobody : u ≡ 0 → ⊥
-    nobody z = unqueued (ap (row_at s) z ∙ h.nobody)
+    nobody z = unqueued (ap (row_at s) z ∙ h.all.shape.nobody)
 
     by_place : ((u < length s.rows) ⊎ (length s.rows ≤ u)) → u < length s.rows
     by_place (inl lt) = lt
@@ -63,7 +63,7 @@ waiter_known s u h named = (λ z. nobody z, by_place (cases_lt u (length s.rows)
 -- who is in the run queue was added
 ready_known : (s : Table) (t : ℕ) → IsSound s → names t s.ready ≡ true → (t ≢ 0) × (t < length s.rows)
 ready_known s t h named =
-    let known : has_thread s t ≡ true = by_test (has_thread s t) refl (sym (h.ready t) ∙ named) in
+    let known : has_thread s t ≡ true = by_test (has_thread s t) refl (sym (h.all.threads t (λ e. e)).ready ∙ named) in
     (has_thread_above_0 s t known, has_thread_below s t known)
   where
     by_test : (b : Bool) → has_thread s t ≡ b → (if b then is_ready (row_at s t).status else false) ≡ true → has_thread s t ≡ true
@@ -78,12 +78,12 @@ next_known s m h = by_test (has_waiter s.waiters m) refl
     by_test true e = (waiter_known s (kernel_next s m) h (named-from_pair s.waiters (kernel_next s m) m (next-is_waiter (kernel_effective s) s.waiters m e))).1
     by_test false e =
         let none : kernel_next s m ≡ 0 = next_none (kernel_effective s) s.waiters m e in
-        let some : 1 ≤ length s.rows = h.some_row in
+        let some : 1 ≤ length s.rows = h.all.shape.some_row in
         omega arith
 
 pub room_from_sound : (s : Table) → IsSound s → HasRoom s
 room_from_sound s h = record {
-  waiters = omega (arith, h.few_rows, few_named s.waiters (length s.rows) h.some_row h.once (λ q e. waiter_known s q h e));
-  ready = omega (arith, h.few_rows, few_named s.ready (length s.rows) h.some_row h.ready_once (λ q e. ready_known s q h e));
+  waiters = omega (arith, h.all.shape.few_rows, few_named s.waiters (length s.rows) h.all.shape.some_row h.all.once (λ q e. waiter_known s q h e));
+  ready = omega (arith, h.all.shape.few_rows, few_named s.ready (length s.rows) h.all.shape.some_row h.all.ready_once (λ q e. ready_known s q h e));
   next = λ m. next_known s m h;
 }

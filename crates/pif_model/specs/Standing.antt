@@ -118,11 +118,11 @@ belongs (Unlock m) UnlockExchange = true
 belongs (Unlock m) UnlockKernel = true
 belongs _ _ = false
 
--- what a thread at this line knows: with no call open it may run; the mutex of an open call exists, the place is one of
--- the request's, and what the call rests on there holds
-abbrev pub LineIsSound : Table → ℕ → Status → Line → Type 0
-LineIsSound s t x Idle = is_ready x ≡ true
-LineIsSound s t x (At q p) = (has_mutex s (named_by q) ≡ true) × (belongs q p ≡ true) × MeetsAll t x (cell_at s (named_by q)) (needs p)
+-- what a thread at this line knows, by which mutexes exist and what each is: with no call open it may run; the mutex of
+-- an open call exists, the place is one of the request's, and what the call rests on there holds
+abbrev pub LineIsSound : (ℕ → Bool) → (ℕ → Cell) → ℕ → Status → Line → Type 0
+LineIsSound exists cell t x Idle = is_ready x ≡ true
+LineIsSound exists cell t x (At q p) = (exists (named_by q) ≡ true) × (belongs q p ≡ true) × MeetsAll t x (cell (named_by q)) (needs p)
 
 -- a queued thread is at the place of its lock where it is queued
 abbrev pub QueueIsSound : Status → Line → Type 0
@@ -130,14 +130,14 @@ QueueIsSound (Ready w) l = ⊤
 QueueIsSound Stopped l = ⊤
 QueueIsSound (Queued m) l = l ≡ At (Lock m) LockQueued
 
--- a thread
-pub record RowIsSound (s : Table) (t : ℕ) (r : Row) : Type 0 where
+-- a row, by which mutexes exist and what each is
+pub record RowIsSound (exists : ℕ → Bool) (cell : ℕ → Cell) (t : ℕ) (r : Row) : Type 0 where
   pub living : r.living ≡ true
-  pub line : LineIsSound s t r.status r.line
+  pub line : LineIsSound exists cell t r.status r.line
   pub queue : QueueIsSound r.status r.line
 
--- a mutex
-pub record CellIsSound (s : Table) (m : ℕ) (c : Cell) : Type 0 where
+-- a mutex, by which threads were added and whether one waits for it
+pub record CellIsSound (added : ℕ → Bool) (waited : Bool) (c : Cell) : Type 0 where
   -- only stalled mutexes are there, and nothing of a dead owner
   pub stalled : c.robust ≡ false
   pub fine : c.health ≡ Fine
@@ -145,32 +145,50 @@ pub record CellIsSound (s : Table) (m : ℕ) (c : Cell) : Type 0 where
   -- the owner holds it once
   pub single : c.count ≡ 1
   -- who owns it was added
-  pub owner : c.word.number ≢ 0 → has_thread s c.word.number ≡ true
+  pub owner : c.word.number ≢ 0 → added c.word.number ≡ true
   -- a free word has no flag
   pub free : c.word.number ≡ 0 → c.word.waiters ≡ false
   -- there is an owner state exactly while threads are queued, and it names the word's owner; WAITERS is set then
-  pub state : c.state ≡ (if has_waiter s.waiters m then c.word.number else 0)
-  pub contended : has_waiter s.waiters m ≡ true → c.word.waiters ≡ true
+  pub state : c.state ≡ (if waited then c.word.number else 0)
+  pub contended : waited ≡ true → c.word.waiters ≡ true
 
--- the invariant of the table
-pub record IsSound (s : Table) : Type 0 where
+-- what holds of a thread
+pub record ThreadIsSound (s : Table) (t : ℕ) : Type 0 where
+  -- its row is sound, where it was added
+  pub row : has_thread s t ≡ true → RowIsSound (has_mutex s) (cell_at s) t (row_at s t)
+  -- it is queued where its status says
+  pub queue : waited_by s.waiters t ≡ queued_on (row_at s t).status
+  -- it is in the run queue exactly where it may run
+  pub ready : list_any (λ (r : ℕ × ℕ). r.0 == t) s.ready ≡ (if has_thread s t then is_ready (row_at s t).status else false)
+
+-- nobody stands at place 0, and all are within the limits
+pub record IsShaped (s : Table) : Type 0 where
   pub nobody : row_at s 0 ≡ no_row
   pub no_mutex : cell_at s 0 ≡ no_cell
   pub some_row : 1 ≤ length s.rows
   pub some_cell : 1 ≤ length s.cells
   pub few_rows : length s.rows ≤ s.limits.threads + 1
   pub few_cells : length s.cells ≤ s.limits.mutexes + 1
-  pub rows : (t : ℕ) → has_thread s t ≡ true → RowIsSound s t (row_at s t)
-  pub cells : (m : ℕ) → has_mutex s m ≡ true → CellIsSound s m (cell_at s m)
-  -- a thread is queued where its status says, once
-  pub queue : (u : ℕ) → waited_by s.waiters u ≡ queued_on (row_at s u).status
-  -- and on a mutex
+
+-- the invariant of the table, save for what holds of excused threads and for the levels of the run queue
+pub record SoundBut (Excused : ℕ → Type 0) (s : Table) : Type 0 where
+  pub shape : IsShaped s
+  pub cells : (m : ℕ) → has_mutex s m ≡ true → CellIsSound (has_thread s) (has_waiter s.waiters m) (cell_at s m)
+  pub threads : (t : ℕ) → (Excused t → ⊥) → ThreadIsSound s t
+  -- who is queued is queued on a mutex, and once
   pub somewhere : has_waiter s.waiters 0 ≡ false
   pub once : IsDistinct eqb (map (λ (w : ℕ × ℕ). w.0) s.waiters)
-  -- the run queue has each ready thread once, at the level of its effective priority
-  pub ready : (t : ℕ) → list_any (λ (r : ℕ × ℕ). r.0 == t) s.ready ≡ (if has_thread s t then is_ready (row_at s t).status else false)
+  -- each thread stands in the run queue once
   pub ready_once : IsDistinct eqb (map (λ (r : ℕ × ℕ). r.0) s.ready)
-  pub level : (t : ℕ) → list_any (λ (r : ℕ × ℕ). if r.0 == t then (if r.1 == kernel_effective s t then false else true) else false) s.ready ≡ false
+
+-- each thread in the run queue is at the level of its effective priority
+abbrev pub IsLeveled : Table → Type 0
+IsLeveled s = (t : ℕ) → list_any (λ (r : ℕ × ℕ). if r.0 == t then (if r.1 == kernel_effective s t then false else true) else false) s.ready ≡ false
+
+-- the invariant of the table: nobody is excused
+pub record IsSound (s : Table) : Type 0 where
+  pub all : SoundBut (λ t. ⊥) s
+  pub level : IsLeveled s
 
 -- A core with this table stands after the history h (newest entry first) in the state w by a run through the states r
 -- (newest first): the run gives h entry by entry and ends in w, w is what the table shows with some shadow, and the

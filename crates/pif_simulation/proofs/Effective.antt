@@ -5,7 +5,7 @@ use Rattle.std.proofs.lemmas.Bool.{cases_eq}
 use Rattle.std.proofs.lemmas.List.{length-map, get_or_past}
 use Rattle.pif_model.specs.Graph.{waited_by, effective_among, next_waiter, reaches_within}
 use Rattle.pif_model.specs.Posix.{Progress, Call, Thread, Mutex, World, nobody, thread_at, with_thread, with_progress, progressed, waits_for, effective_of, next_of, leads_to}
-use Rattle.pif_model.specs.Table.{Table, Cell, no_row, no_cell, row_at, cell_at, with_line, queued_on, kernel_waits_for, kernel_effective}
+use Rattle.pif_model.specs.Table.{Table, Cell, no_row, no_cell, row_at, cell_at, with_line, queued_on, kernel_waits_for, kernel_effective, releveled, settled}
 use Rattle.pif_model.specs.Kernel.{kernel_next}
 use Rattle.pif_model.specs.declared.lines.Line.{Line}
 use Rattle.pif_model.specs.Standing.{Shadow, thread_of, mutex_of, world_of, IsSound}
@@ -31,13 +31,13 @@ pub state_is_number : (s : Table) → IsSound s → (u : ℕ) → (cell_at s (wa
 state_is_number s h u = ⊎_elim at_none somewhere (cases_eq (waited_by s.waiters u) 0)
   where
     at_none : waited_by s.waiters u ≡ 0 → (cell_at s (waited_by s.waiters u)).state ≡ (cell_at s (waited_by s.waiters u)).word.number
-    at_none e = rw (e, h.no_mutex) refl
+    at_none e = rw (e, h.all.shape.no_mutex) refl
 
     somewhere : waited_by s.waiters u ≢ 0 → (cell_at s (waited_by s.waiters u)).state ≡ (cell_at s (waited_by s.waiters u)).word.number
     somewhere n =
         by_test (λ b. nat_lt (waited_by s.waiters u) (length s.cells) ≡ b → (cell_at s (waited_by s.waiters u)).state ≡ (cell_at s (waited_by s.waiters u)).word.number)
         (nat_lt (waited_by s.waiters u) (length s.cells))
-        (λ e x. (h.cells (waited_by s.waiters u) (rw (ne_eqb (waited_by s.waiters u) 0 n) e)).state
+        (λ e x. (h.all.cells (waited_by s.waiters u) (rw (ne_eqb (waited_by s.waiters u) 0 n) e)).state
         ∙ ap (λ b. if b then (cell_at s (waited_by s.waiters u)).word.number else 0) (has_waiter-from_pair s.waiters u (waited_by s.waiters u) (paired-from_waited s.waiters u (waited_by s.waiters u) n refl)))
         (λ e x. ap (λ (c : Cell). c.state) (past e) ∙ sym (ap (λ (c : Cell). c.word.number) (past e)))
         refl
@@ -48,7 +48,7 @@ state_is_number s h u = ⊎_elim at_none somewhere (cases_eq (waited_by s.waiter
 -- a thread waits in the kernel for whom it waits in the POSIX machine
 pub waits_seen : (s : Table) (shadow : Shadow) → IsSound s → kernel_waits_for s ≡ waits_for (world_of s shadow)
 waits_seen s shadow h = fun_ext (λ u.
-    ap (λ m. (cell_at s m).state) (sym (h.queue u)) ∙ state_is_number s h u
+    ap (λ m. (cell_at s m).state) (sym (h.all.threads u (λ e. e)).queue) ∙ state_is_number s h u
     ∙ sym (ap (λ (m : Mutex). m.owner) (mapped_at mutex_of s.cells (waited_by s.waiters u) no_cell)))
 
 -- both machines have the same base priorities
@@ -93,3 +93,7 @@ effective-with_line t l s =
     same_effective (length-set s.rows t (record (row_at s t) { line = l }))
     (fun_ext (λ u. ap (λ x. (cell_at s (queued_on x)).state) (kept_at (λ r. r.status) s.rows t (record (row_at s t) { line = l }) no_row refl u)))
     (fun_ext (λ u. kept_at (λ r. r.base) s.rows t (record (row_at s t) { line = l }) no_row refl u))
+
+-- to settle and to go to another line change places
+pub settled_line : (t : ℕ) (l : Line) (s : Table) → with_line t l (settled s) ≡ settled (with_line t l s)
+settled_line t l s = λ i. record (with_line t l s) { ready = releveled (sym (effective-with_line t l s) i) s.ready }

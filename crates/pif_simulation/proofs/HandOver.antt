@@ -1,28 +1,28 @@
 -- The kernel hands a mutex to its next waiter: the table stays sound, and the POSIX machine's mutex passes on.
-use Rattle.std.proofs.Common.{◌≡◌, ◌≢◌, ℕ, ◌<◌, true, false, ◌||◌, ◌==◌, nat_lt, List, [], ◌∷◌, ◌++◌, length, get_or, set, map, Some, None, refl, sym, ap, ap₂, ◌∙◌, subst, if◌then◌else◌, eq-eqb, ne_eqb, ⊎_elim, length-set, get_or-set_same, get_or-set_other, set-set, true≢false, ltb-false}
-use Rattle.std.proofs.lemmas.Bool.{cases_eq}
+use Rattle.std.proofs.Common.{◌≡◌, ◌≢◌, ℕ, ◌<◌, true, false, ◌==◌, nat_lt, ◌⊎◌, inl, inr, List, [], ◌∷◌, ◌++◌, length, get_or, set, map, Some, None, refl, sym, ap, ap₂, ◌∙◌, subst, if◌then◌else◌, eq-eqb, ne_eqb, length-set, get_or-set_same, get_or-set_other, set-set, ltb-false}
 use Rattle.std.proofs.lemmas.List.{length-map, map-set, set_comm, get_or_past}
 use Rattle.pif_types.specs.declared.requests.Request.TheVariants.{Lock, Unlock}
-use Rattle.pif_model.specs.declared.lines.Line.{Line}
 use Rattle.pif_model.specs.declared.lines.Line.TheVariants.{Idle, At}
 use Rattle.pif_model.specs.declared.lines.Place.TheVariants.{LockQueued, UnlockKernel}
 use Rattle.pif_model.specs.declared.lines.Status.{Status}
 use Rattle.pif_model.specs.declared.lines.Status.TheVariants.{Ready, Queued, Stopped}
 use Rattle.pif_model.specs.declared.lines.Woken.TheVariants.{Owns as WokenOwns}
 use Rattle.pif_model.specs.Graph.{waited_by, has_waiter, without}
-use Rattle.pif_model.specs.Posix.{Thread, Mutex, World, Unlocks, nobody, thread_at, mutex_at, with_thread, with_progress, progressed, taken, on_taking, rests, is_stuck}
+use Rattle.pif_model.specs.Posix.{Thread, Mutex, World, Unlocks, nobody, thread_at, mutex_at, with_thread, with_progress, progressed, taken, on_taking, rests}
 use Rattle.pif_model.specs.Posix.Health.{Fine, Inconsistent}
 use Rattle.pif_model.specs.Posix.Progress.{Has}
 use Rattle.pif_model.specs.Posix.Unlocks.{released}
 use Rattle.pif_model.specs.Posix.Passes.{to_next}
-use Rattle.pif_model.specs.Table.{Table, Row, Cell, no_row, no_cell, row_at, cell_at, has_thread, has_mutex, is_ready, queued_on, with_line, kernel_effective, releveled}
+use Rattle.pif_model.specs.Table.{Table, Row, Cell, no_row, no_cell, row_at, cell_at, has_thread, has_mutex, is_ready, queued_on, with_row, with_cell, with_line, kernel_effective, settled}
 use Rattle.pif_model.specs.Kernel.{handed_to, kernel_next}
-use Rattle.pif_model.specs.Standing.{Shadow, LineIsSound, QueueIsSound, RowIsSound, CellIsSound, IsSound, call_at, thread_of, mutex_of, world_of}
+use Rattle.pif_model.specs.Standing.{Shadow, LineIsSound, QueueIsSound, RowIsSound, CellIsSound, ThreadIsSound, SoundBut, IsSound, call_at, thread_of, mutex_of, world_of}
 use Rattle.pif_simulation.proofs.Places.{mapped_at}
-use Rattle.pif_simulation.proofs.Waiting.{by_test, names, Once, or_true, or_false, waited-from_pair, waited_by-without_same, waited_by-without_other, has_waiter-without_none, has_waiter-without_other, named-without_other, once_push, once_without, named-push, named-releveled, once_releveled, level_releveled, next-is_waiter}
-use Rattle.pif_simulation.proofs.Effective.{next_seen, next-with_progress, effective-with_line}
-use Rattle.pif_simulation.proofs.Kept.{above_0, below, Spares, line_spared}
-use Rattle.pif_simulation.proofs.Queue.{ready-queued_on_nothing, ready-unnamed, owner_seen}
+use Rattle.pif_simulation.proofs.Waiting.{by_test, names, or_true, or_false, waited-from_pair, waited_by-without_same, waited_by-without_other, once_push, named-push, next-is_waiter}
+use Rattle.pif_simulation.proofs.Effective.{next_seen, next-with_progress, settled_line}
+use Rattle.pif_simulation.proofs.Kept.{above_0, below}
+use Rattle.pif_simulation.proofs.Hole.{put_row, put_cell, put_ready, excuse, admit, left_waiters, settle, ready-queued_on_nothing, ready-at_any_line}
+use Rattle.pif_simulation.proofs.Steps.{knows, rests_ready}
+use Rattle.pif_simulation.proofs.Queue.{owner_seen}
 
 -- THE NEXT WAITER
 
@@ -38,14 +38,14 @@ pub record IsWaiter (s : Table) (t u m : ℕ) : Type 0 where
 pub knows_at_unlock : (s : Table) (t m : ℕ) → IsSound s → has_thread s t ≡ true → (row_at s t).line ≡ At (Unlock m) UnlockKernel
     → (has_mutex s m ≡ true) × (is_ready (row_at s t).status ≡ true) × ((cell_at s m).word.number ≡ t)
 knows_at_unlock s t m h a e =
-    let k = subst (λ l. LineIsSound s t (row_at s t).status l) e (h.rows t a).line in
+    let k = subst (λ l. LineIsSound (has_mutex s) (cell_at s) t (row_at s t).status l) e (knows s t h a).line in
     (k.0, k.2.0, k.2.1.0)
 
 -- where there is an owner state, there is a waiter
 pub waiter-from_state : (s : Table) (m : ℕ) → IsSound s → has_mutex s m ≡ true → (cell_at s m).state ≢ 0 → has_waiter s.waiters m ≡ true
 waiter-from_state s m h a n =
     by_test (λ b. has_waiter s.waiters m ≡ b → b ≡ true) (has_waiter s.waiters m) (λ _ _. refl)
-    (λ e _. absurd (n ((h.cells m a).state ∙ rw e refl))) refl
+    (λ e _. absurd (n ((h.all.cells m a).state ∙ rw e refl))) refl
 
 -- who is queued on something is queued on that
 queued-from_number : (x : Status) (m : ℕ) → m ≢ 0 → queued_on x ≡ m → x ≡ Queued m
@@ -56,7 +56,7 @@ queued-from_number Stopped m n e = absurd (n (sym e))
 -- who waits for a mutex was added
 waiter-known : (s : Table) (u m : ℕ) → IsSound s → m ≢ 0 → queued_on (row_at s u).status ≡ m → has_thread s u ≡ true
 waiter-known s u m h n e =
-    rw (ne_eqb u 0 (λ x. n (sym e ∙ ap (λ u. queued_on (row_at s u).status) x ∙ ap (λ (r : Row). queued_on r.status) h.nobody)))
+    rw (ne_eqb u 0 (λ x. n (sym e ∙ ap (λ u. queued_on (row_at s u).status) x ∙ ap (λ (r : Row). queued_on r.status) h.all.shape.nobody)))
     (by_test (λ b. nat_lt u (length s.rows) ≡ b → b ≡ true) (nat_lt u (length s.rows)) (λ _ _. refl)
     (λ x _. absurd (n (sym e ∙ ap (λ (r : Row). queued_on r.status) (get_or_past s.rows u no_row (ltb-false u (length s.rows) x))))) refl)
 
@@ -66,15 +66,15 @@ next_waits s t m h a e n =
     let k = knows_at_unlock s t m h a e in
     let u = kernel_next s m in
     let m0 = above_0 m (length s.cells) k.0 in
-    let w = waited-from_pair s.waiters u m h.once (next-is_waiter (kernel_effective s) s.waiters m (waiter-from_state s m h k.0 n)) in
-    let q : queued_on (row_at s u).status ≡ m = sym (h.queue u) ∙ w in
+    let w = waited-from_pair s.waiters u m h.all.once (next-is_waiter (kernel_effective s) s.waiters m (waiter-from_state s m h k.0 n)) in
+    let q : queued_on (row_at s u).status ≡ m = sym (h.all.threads u (λ e. e)).queue ∙ w in
     let x = queued-from_number (row_at s u).status m m0 q in
     let known = waiter-known s u m h m0 q in
     record {
       known = known;
       waits = w;
       status = x;
-      line = subst (λ y. QueueIsSound y (row_at s u).line) x (h.rows u known).queue;
+      line = subst (λ y. QueueIsSound y (row_at s u).line) x (knows s u h known).queue;
       other = λ y. m0 (sym q ∙ ap (λ u. queued_on (row_at s u).status) y ∙ ready-queued_on_nothing (row_at s t).status k.1);
     }
 
@@ -96,176 +96,115 @@ closed_row s t u = record (get_or (set s.rows u (woken_row s u)) t no_row) { lin
 abbrev woken_level : Table → ℕ → ℕ → ℕ
 woken_level s u m = kernel_effective (record s { rows = set s.rows u (woken_row s u); cells = set s.cells m (handed_cell s u m); waiters = without s.waiters u }) u
 
--- v is s with m handed from t to u, and t's call closed
-pub record IsHanded (s v : Table) (t u m : ℕ) : Type 0 where
-  pub limits : v.limits ≡ s.limits
-  pub many_rows : length v.rows ≡ length s.rows
-  pub many_cells : length v.cells ≡ length s.cells
-  pub row_here : row_at v t ≡ record (row_at s t) { line = Idle }
-  pub row_next : row_at v u ≡ record (row_at s u) { status = Ready WokenOwns }
-  pub row_other : (k : ℕ) → k ≢ t → k ≢ u → row_at v k ≡ row_at s k
-  pub cell_here : cell_at v m ≡ record (cell_at s m) { word = record { number = u; waiters = true; died = false }; state = if has_waiter (without s.waiters u) m then u else 0 }
-  pub cell_other : (k : ℕ) → k ≢ m → cell_at v k ≡ cell_at s k
-  pub waiters : v.waiters ≡ without s.waiters u
-  pub level : ℕ
-  pub ready : v.ready ≡ releveled (kernel_effective v) (s.ready ++ (u, level) ∷ [])
+-- the table before t's call is closed and all is settled
+abbrev woken_at : Table → ℕ → ℕ → Table
+woken_at s u m = record (with_row u (woken_row s u) (with_cell m (handed_cell s u m) s)) { waiters = without s.waiters u; ready = s.ready ++ (u, woken_level s u m) ∷ [] }
 
 -- the table that the kernel and the line leave
-pub is_handed : (s : Table) (t u m : ℕ) → u ≢ t → t < length s.rows → u < length s.rows → m < length s.cells → IsHanded s (with_line t Idle (handed_to u m s)) t u m
+handed_is : (s : Table) (t u m : ℕ) → with_line t Idle (handed_to u m s) ≡ settled (with_row t (closed_row s t u) (woken_at s u m))
 unfolding handed_to
-is_handed s t u m n h j k = record {
-  limits = refl;
-  many_rows = length-set (set s.rows u (woken_row s u)) t (closed_row s t u) ∙ length-set s.rows u (woken_row s u);
-  many_cells = length-set s.cells m (handed_cell s u m);
-  row_here = get_or-set_same (set s.rows u (woken_row s u)) t (closed_row s t u) no_row (subst (λ n. t < n) (sym (length-set s.rows u (woken_row s u))) h)
-      ∙ ap (λ (r : Row). record r { line = Idle }) (get_or-set_other s.rows u t (woken_row s u) no_row (λ x. n (sym x)));
-  row_next = get_or-set_other (set s.rows u (woken_row s u)) t u (closed_row s t u) no_row n ∙ get_or-set_same s.rows u (woken_row s u) no_row j;
-  row_other = λ i x y. get_or-set_other (set s.rows u (woken_row s u)) t i (closed_row s t u) no_row x ∙ get_or-set_other s.rows u i (woken_row s u) no_row y;
-  cell_here = get_or-set_same s.cells m (handed_cell s u m) no_cell k;
-  cell_other = λ i x. get_or-set_other s.cells m i (handed_cell s u m) no_cell x;
-  waiters = refl;
-  level = woken_level s u m;
-  ready = ap (λ f. releveled f (s.ready ++ (u, woken_level s u m) ∷ [])) (sym (effective-with_line t Idle (handed_to u m s)));
-}
+handed_is s t u m = settled_line t Idle (woken_at s u m)
 
--- who is ready may be at any line
-ready-queue : (x : Status) (l : Line) → is_ready x ≡ true → QueueIsSound x l
-ready-queue (Ready w) l h = tt
-ready-queue (Queued m) l h = absurd (true≢false (sym h))
-ready-queue Stopped l h = tt
-
-module _ (s v : Table) (t u m : ℕ) (q : IsHanded s v t u m) (w : IsWaiter s t u m) (h : IsSound s) (a : has_thread s t ≡ true) (e : (row_at s t).line ≡ At (Unlock m) UnlockKernel) where
-  -- both have the same threads
-  same_threads : (k : ℕ) → has_thread v k ≡ has_thread s k
-  same_threads k = ap (λ n. if k == 0 then false else nat_lt k n) q.many_rows
-
-  -- both have the same mutexes
-  same_mutexes : (k : ℕ) → has_mutex v k ≡ has_mutex s k
-  same_mutexes k = ap (λ n. if k == 0 then false else nat_lt k n) q.many_cells
-
+module _ (s : Table) (t u m : ℕ) (w : IsWaiter s t u m) (h : IsSound s) (a : has_thread s t ≡ true) (e : (row_at s t).line ≡ At (Unlock m) UnlockKernel) where
   -- what t knows of m
   known : (has_mutex s m ≡ true) × (is_ready (row_at s t).status ≡ true) × ((cell_at s m).word.number ≡ t)
   known = knows_at_unlock s t m h a e
 
-  -- the others keep their status
-  same_status : (k : ℕ) → k ≢ u → (row_at v k).status ≡ (row_at s k).status
-  same_status k n = ⊎_elim
-      (λ (x : k ≡ t). subst (λ k. (row_at v k).status ≡ (row_at s k).status) (sym x) (ap (λ (r : Row). r.status) q.row_here))
-      (λ x. ap (λ (r : Row). r.status) (q.row_other k x n)) (cases_eq k t)
+  -- the table before all is settled
+  abbrev after : Table
+  after = with_row t (closed_row s t u) (woken_at s u m)
 
-  -- what another thread sees of a mutex
-  spared : (k : ℕ) → k ≢ t → k ≢ u → (j : ℕ) → Spares k (cell_at s j) (cell_at v j)
-  spared k n o j = ⊎_elim
-      (λ (y : j ≡ m). subst (λ j. Spares k (cell_at s j) (cell_at v j)) (sym y) (subst (Spares k (cell_at s m)) (sym q.cell_here)
-      (record { kind = refl; owner = λ z. absurd (n (sym z ∙ known.2)); other = λ z e. o (sym e) })))
-      (λ y. subst (Spares k (cell_at s j)) (sym (q.cell_other j y)) (record { kind = refl; owner = λ z. z; other = λ z. z })) (cases_eq j m)
+  -- both have the same threads
+  same_threads : (k : ℕ) → has_thread after k ≡ has_thread s k
+  same_threads k = ap (λ n. if k == 0 then false else nat_lt k n) (length-set (set s.rows u (woken_row s u)) t (closed_row s t u) ∙ length-set s.rows u (woken_row s u))
 
-  -- the row of t is sound
-  row_sound_here : RowIsSound v t (row_at v t)
-  row_sound_here = subst (λ r. RowIsSound v t r) (sym q.row_here)
-      (record { living = (h.rows t a).living; line = known.1; queue = ready-queue (row_at s t).status Idle known.1 })
+  -- t's row then
+  row_here : row_at after t ≡ record (row_at s t) { line = Idle }
+  row_here =
+      get_or-set_same (set s.rows u (woken_row s u)) t (closed_row s t u) no_row (subst (λ n. t < n) (sym (length-set s.rows u (woken_row s u))) (below t (length s.rows) a))
+      ∙ ap (λ (r : Row). record r { line = Idle }) (get_or-set_other s.rows u t (woken_row s u) no_row (λ x. w.other (sym x)))
 
-  -- the row of u is sound
-  row_sound_next : RowIsSound v u (row_at v u)
-  row_sound_next = subst (λ r. RowIsSound v u r) (sym q.row_next)
-      (record {
-        living = (h.rows u w.known).living;
-        line = subst (λ l. LineIsSound v u (Ready WokenOwns) l) (sym w.line) (same_mutexes m ∙ known.0, refl, ((λ e. absurd cc), ((λ e. ap (λ (c : Cell). c.word.number) q.cell_here), tt)));
-        queue = tt;
-      })
+  -- u's row then
+  row_next : row_at after u ≡ woken_row s u
+  row_next =
+      get_or-set_other (set s.rows u (woken_row s u)) t u (closed_row s t u) no_row w.other
+      ∙ get_or-set_same s.rows u (woken_row s u) no_row (below u (length s.rows) w.known)
 
-  -- the other rows are sound
-  row_sound_other : (k : ℕ) → k ≢ t → k ≢ u → has_thread v k ≡ true → RowIsSound v k (row_at v k)
-  row_sound_other k n o b = subst (λ r. RowIsSound v k r) (sym (q.row_other k n o))
-      (let r = h.rows k (sym (same_threads k) ∙ b) in
+  -- t is sound then
+  giver_sound : ThreadIsSound after t
+  giver_sound =
+      let b = h.all.threads t (λ x. x) in
       record {
-        living = r.living;
-        line = line_spared s v k (row_at s k).status (row_at s k).line (λ j e. (same_mutexes j ∙ e, spared k n o j)) r.line;
-        queue = r.queue;
-      })
+        row = λ y. subst (RowIsSound (has_mutex after) (cell_at after) t) (sym row_here)
+            (record { living = (b.row a).living; line = known.1; queue = ready-at_any_line (row_at s t).status Idle known.1 });
+        queue = waited_by-without_other s.waiters u t (λ x. w.other (sym x)) ∙ b.queue ∙ sym (ap (λ (r : Row). queued_on r.status) row_here);
+        ready = named-push s.ready u (woken_level s u m) t ∙ rw (ne_eqb u t w.other) (or_false (names t s.ready)) ∙ b.ready
+            ∙ sym (ap₂ (λ c (r : Row). if c then is_ready r.status else false) (same_threads t) row_here);
+      }
 
-  -- the rows are sound
-  rows_sound : (k : ℕ) → has_thread v k ≡ true → RowIsSound v k (row_at v k)
-  rows_sound k b = ⊎_elim
-      (λ (x : k ≡ t). subst (λ k. RowIsSound v k (row_at v k)) (sym x) row_sound_here)
-      (λ n. ⊎_elim (λ (x : k ≡ u). subst (λ k. RowIsSound v k (row_at v k)) (sym x) row_sound_next) (λ o. row_sound_other k n o b) (cases_eq k u))
-      (cases_eq k t)
+  -- u is sound then
+  taker_sound : ThreadIsSound after u
+  taker_sound = record {
+    row = λ y. subst (RowIsSound (has_mutex after) (cell_at after) u) (sym row_next)
+        (record {
+          living = (knows s u h w.known).living;
+          line = subst (LineIsSound (has_mutex after) (cell_at after) u (Ready WokenOwns)) (sym w.line) (
+            ap (λ n. if m == 0 then false else nat_lt m n) (length-set s.cells m (handed_cell s u m)) ∙ known.0,
+            refl,
+            ((λ y. absurd cc), ((λ y. ap (λ (c : Cell). c.word.number) (get_or-set_same s.cells m (handed_cell s u m) no_cell (below m (length s.cells) known.0))), tt)),
+          );
+          queue = tt;
+        });
+    queue = waited_by-without_same s.waiters u ∙ sym (ap (λ (r : Row). queued_on r.status) row_next);
+    ready = named-push s.ready u (woken_level s u m) u ∙ rw (eq-eqb u u refl) (or_true (names u s.ready))
+        ∙ sym (ap₂ (λ c (r : Row). if c then is_ready r.status else false) (same_threads u ∙ w.known) row_next);
+  }
 
-  -- who was handed a mutex is not 0
-  next_above_0 : u ≢ 0
-  next_above_0 = above_0 u (length s.rows) w.known
-
-  -- the others have waiters where they had
-  waited_other : (k : ℕ) → k ≢ m → has_waiter v.waiters k ≡ has_waiter s.waiters k
-  waited_other k x = ap (λ ws. has_waiter ws k) q.waiters ∙ has_waiter-without_other s.waiters u m k h.once w.waits x
-
-  -- the cells are sound
-  cells_sound : (k : ℕ) → has_mutex v k ≡ true → CellIsSound v k (cell_at v k)
-  cells_sound k b = ⊎_elim
-      (λ (x : k ≡ m). subst (λ k. CellIsSound v k (cell_at v k)) (sym x) (subst (λ c. CellIsSound v m c) (sym q.cell_here)
-      (let c = h.cells m known.0 in
+  -- the mutex is sound then
+  handed_cell_sound : CellIsSound (has_thread s) (has_waiter (without s.waiters u) m) (handed_cell s u m)
+  handed_cell_sound =
+      let c = h.all.cells m known.0 in
       record {
         stalled = c.stalled;
         fine = c.fine;
         no_death = refl;
         single = c.single;
-        owner = λ y. same_threads u ∙ w.known;
-        free = λ y. absurd (next_above_0 y);
-        state = rw q.waiters refl;
+        owner = λ y. w.known;
+        free = λ y. absurd (above_0 u (length s.rows) w.known y);
+        state = refl;
         contended = λ y. refl;
-      })))
-      (λ x. subst (λ c. CellIsSound v k c) (sym (q.cell_other k x))
-      (let c = h.cells k (sym (same_mutexes k) ∙ b) in
-      record {
-        stalled = c.stalled;
-        fine = c.fine;
-        no_death = c.no_death;
-        single = c.single;
-        owner = λ y. same_threads (cell_at s k).word.number ∙ c.owner y;
-        free = c.free;
-        state = rw (waited_other k x) c.state;
-        contended = λ y. c.contended (sym (waited_other k x) ∙ y);
-      }))
-      (cases_eq k m)
+      }
 
-  -- each thread is queued where its status says
-  queue_sound_at : (k : ℕ) → waited_by v.waiters k ≡ queued_on (row_at v k).status
-  queue_sound_at k = ap (λ ws. waited_by ws k) q.waiters ∙ ⊎_elim
-      (λ (x : k ≡ u). subst (λ k. waited_by (without s.waiters u) k ≡ queued_on (row_at v k).status) (sym x)
-      (waited_by-without_same s.waiters u ∙ sym (ap (λ (r : Row). queued_on r.status) q.row_next)))
-      (λ x. waited_by-without_other s.waiters u k x ∙ h.queue k ∙ sym (ap queued_on (same_status k x)))
-      (cases_eq k u)
+  -- who is neither of the two
+  abbrev Two : ℕ → Type 0
+  Two k = (k ≡ t) ⊎ (k ≡ u)
 
-  -- the run queue has each ready thread
-  ready_sound_at : (k : ℕ) → names k v.ready ≡ (if has_thread v k then is_ready (row_at v k).status else false)
-  ready_sound_at k = ap (names k) q.ready ∙ named-releveled (kernel_effective v) (s.ready ++ (u, q.level) ∷ []) k ∙ named-push s.ready u q.level k ∙ ⊎_elim
-      (λ (x : k ≡ u). subst (λ k. (names k s.ready || (u == k)) ≡ (if has_thread v k then is_ready (row_at v k).status else false)) (sym x)
-      (rw (eq-eqb u u refl, or_true (names u s.ready), same_threads u, w.known, q.row_next) refl))
-      (λ x. rw (ne_eqb u k (λ y. x (sym y)), or_false (names k s.ready)) (h.ready k ∙ rw (same_threads k, same_status k x) refl))
-      (cases_eq k u)
+  -- the invariant without the two
+  without_two : SoundBut Two s
+  without_two = excuse h.all Two (λ k x. absurd x)
 
   -- u was not in the run queue
   unready : names u s.ready ≡ false
-  unready = h.ready u ∙ rw (w.known, w.status) refl
+  unready = (h.all.threads u (λ x. x)).ready ∙ rw (w.known, w.status) refl
+
+  -- the run queue without the two
+  pushed : (k : ℕ) → (Two k → ⊥) → names k (s.ready ++ (u, woken_level s u m) ∷ []) ≡ names k s.ready
+  pushed k n = named-push s.ready u (woken_level s u m) k ∙ rw (ne_eqb u k (λ x. n (inr (sym x)))) (or_false (names k s.ready))
 
   -- the table is sound
-  pub sound_when_handed : IsSound v
-  sound_when_handed = record {
-    nobody = q.row_other 0 (λ x. above_0 t (length s.rows) a (sym x)) (λ x. next_above_0 (sym x)) ∙ h.nobody;
-    no_mutex = q.cell_other 0 (λ x. above_0 m (length s.cells) known.0 (sym x)) ∙ h.no_mutex;
-    some_row = rw q.many_rows h.some_row;
-    some_cell = rw q.many_cells h.some_cell;
-    few_rows = rw (q.many_rows, q.limits) h.few_rows;
-    few_cells = rw (q.many_cells, q.limits) h.few_cells;
-    rows = rows_sound;
-    cells = cells_sound;
-    queue = queue_sound_at;
-    somewhere = rw q.waiters (has_waiter-without_none s.waiters u 0 h.somewhere);
-    once = subst Once (sym q.waiters) (once_without s.waiters u h.once);
-    ready = ready_sound_at;
-    ready_once = subst Once (sym q.ready) (once_releveled (kernel_effective v) (s.ready ++ (u, q.level) ∷ []) (once_push s.ready (u, q.level) unready h.ready_once));
-    level = λ k. rw q.ready (level_releveled (kernel_effective v) (s.ready ++ (u, q.level) ∷ []) k);
-  }
+  pub sound_when_handed : IsSound (settled after)
+  sound_when_handed = settle (admit (admit
+      (put_row (put_ready (put_row (put_cell without_two m (handed_cell s u m) (without s.waiters u) known.0
+      (left_waiters without_two u m (inr refl) w.waits) handed_cell_sound
+      (λ k n z. record { kind = refl; owner = λ o. absurd (n (inl (sym o ∙ known.2))); other = λ o x. n (inr (sym x)) }))
+      u (woken_row s u) w.known (inr refl))
+      (s.ready ++ (u, woken_level s u m) ∷ []) pushed (once_push s.ready (u, woken_level s u m) unready h.all.ready_once))
+      t (closed_row s t u) still_there (inl refl))
+      (λ k. k ≡ u) t (λ k x. x) giver_sound)
+      (λ k. ⊥) u (λ k x. inl x) taker_sound)
+    where
+      still_there : has_thread (woken_at s u m) t ≡ true
+      still_there = ap (λ n. if t == 0 then false else nat_lt t n) (length-set s.rows u (woken_row s u)) ∙ a
 
 -- IN THE POSIX MACHINE
 
@@ -274,7 +213,7 @@ abbrev pub handed_over : Table → Shadow → ℕ → ℕ → ℕ → World
 handed_over s shadow t u m = taken u m (record (with_progress t (Has 0) (world_of s shadow)) { waiters = without s.waiters u })
 
 -- a fine mutex without a dead owner is seen so
-pub fine_seen : (s : Table) (shadow : Shadow) (m : ℕ) → CellIsSound s m (cell_at s m) → (mutex_at (world_of s shadow) m).health ≡ Fine
+pub fine_seen : (s : Table) (shadow : Shadow) (m : ℕ) → CellIsSound (has_thread s) (has_waiter s.waiters m) (cell_at s m) → (mutex_at (world_of s shadow) m).health ≡ Fine
 fine_seen s shadow m c = ap (λ (x : Mutex). x.health) (mapped_at mutex_of s.cells m no_cell) ∙ rw (c.fine, c.no_death) refl
 
 -- t as the world sees it when its unlock has its result
@@ -302,13 +241,13 @@ closed_seen s shadow t u m n h =
     ∙ sym (ap (λ (x : Thread). record x { call = None }) (giver_seen s shadow t u m n h ∙ ap (λ (x : Thread). record x { call = progressed (Has 0) x.call }) (mapped_at thread_of s.rows t no_row)))
 
 -- u, when it owns m
-woken_seen : (s : Table) (shadow : Shadow) (t u m : ℕ) → IsWaiter s t u m → CellIsSound s m (cell_at s m)
+woken_seen : (s : Table) (shadow : Shadow) (t u m : ℕ) → IsWaiter s t u m → CellIsSound (has_thread s) (has_waiter s.waiters m) (cell_at s m)
     → thread_of (woken_row s u) ≡ record (get_or (set (map thread_of s.rows) t (given_up s shadow t)) u nobody) { call = progressed (on_taking (mutex_at (world_of s shadow) m).health) (get_or (set (map thread_of s.rows) t (given_up s shadow t)) u nobody).call }
 woken_seen s shadow t u m w c =
     rw (get_or-set_other (map thread_of s.rows) t u (given_up s shadow t) nobody w.other, mapped_at thread_of s.rows u no_row, fine_seen s shadow m c, w.line) refl
 
 -- the mutex, when u owns it
-handed_seen : (s : Table) (shadow : Shadow) (u m : ℕ) → CellIsSound s m (cell_at s m) → mutex_of (handed_cell s u m) ≡ record (mutex_at (world_of s shadow) m) { owner = u; count = 1 }
+handed_seen : (s : Table) (shadow : Shadow) (u m : ℕ) → CellIsSound (has_thread s) (has_waiter s.waiters m) (cell_at s m) → mutex_of (handed_cell s u m) ≡ record (mutex_at (world_of s shadow) m) { owner = u; count = 1 }
 handed_seen s shadow u m c = rw (mapped_at mutex_of s.cells m no_cell, c.single, c.no_death) refl
 
 -- t's place is written before u's and again after it
@@ -316,7 +255,7 @@ rewritten : {A : Type 0} (l : List A) (t u : ℕ) (x y z : A) → t ≢ u → se
 rewritten l t u x y z n = ap (λ k. set k t z) (set_comm l t u x y n) ∙ set-set (set l u y) t x z
 
 -- the threads that the table shows
-handed_threads : (s : Table) (shadow : Shadow) (t u m : ℕ) → IsWaiter s t u m → CellIsSound s m (cell_at s m) → t < length s.rows
+handed_threads : (s : Table) (shadow : Shadow) (t u m : ℕ) → IsWaiter s t u m → CellIsSound (has_thread s) (has_waiter s.waiters m) (cell_at s m) → t < length s.rows
     → map thread_of (set (set s.rows u (woken_row s u)) t (closed_row s t u)) ≡ (with_thread t (record (thread_at (handed_over s shadow t u m) t) { call = None }) (handed_over s shadow t u m)).threads
 handed_threads s shadow t u m w c h =
     map-set thread_of (set s.rows u (woken_row s u)) t (closed_row s t u)
@@ -327,19 +266,15 @@ handed_threads s shadow t u m w c h =
     (record (thread_at (handed_over s shadow t u m) t) { call = None }) (λ x. w.other (sym x)))
 
 -- the mutexes that the table shows
-handed_mutexes : (s : Table) (shadow : Shadow) (u m : ℕ) → CellIsSound s m (cell_at s m)
+handed_mutexes : (s : Table) (shadow : Shadow) (u m : ℕ) → CellIsSound (has_thread s) (has_waiter s.waiters m) (cell_at s m)
     → map mutex_of (set s.cells m (handed_cell s u m)) ≡ set (map mutex_of s.cells) m (record (mutex_at (world_of s shadow) m) { owner = u; count = 1 })
 handed_mutexes s shadow u m c = map-set mutex_of s.cells m (handed_cell s u m) ∙ ap (set (map mutex_of s.cells) m) (handed_seen s shadow u m c)
 
 -- the world that the table shows
-pub handed_world : (s : Table) (shadow : Shadow) (t u m : ℕ) → IsWaiter s t u m → CellIsSound s m (cell_at s m) → t < length s.rows
+pub handed_world : (s : Table) (shadow : Shadow) (t u m : ℕ) → IsWaiter s t u m → CellIsSound (has_thread s) (has_waiter s.waiters m) (cell_at s m) → t < length s.rows
     → world_of (with_line t Idle (handed_to u m s)) shadow ≡ with_thread t (record (thread_at (handed_over s shadow t u m) t) { call = None }) (handed_over s shadow t u m)
 unfolding handed_to
 handed_world s shadow t u m w c h = λ i. record { threads = handed_threads s shadow t u m w c h i; mutexes = handed_mutexes s shadow u m c i; waiters = without s.waiters u }
-
--- a thread that is neither stuck nor among the waiters doesn't rest
-pub rests-neither : (w : World) (t : ℕ) → is_stuck (thread_at w t).call ≡ false → names t w.waiters ≡ false → rests w t ≡ false
-rests-neither w t h k = rw (h, k) refl
 
 -- WHAT THE STEP NEEDS
 
@@ -360,18 +295,12 @@ module _ (s : Table) (shadow : Shadow) (t m : ℕ) (h : AtHandOver s t m) where
   hand_next_above_0 = above_0 (kernel_next s m) (length s.rows) next_known.known
 
   -- the mutex is sound
-  cell_known : CellIsSound s m (cell_at s m)
-  cell_known = h.sound.cells m (knows_at_unlock s t m h.sound h.known h.line).0
-
-  -- the table that is left
-  left_behind : IsHanded s (with_line t Idle (handed_to (kernel_next s m) m s)) t (kernel_next s m) m
-  left_behind =
-      is_handed s t (kernel_next s m) m next_known.other (below t (length s.rows) h.known) (below (kernel_next s m) (length s.rows) next_known.known)
-      (below m (length s.cells) (knows_at_unlock s t m h.sound h.known h.line).0)
+  cell_known : CellIsSound (has_thread s) (has_waiter s.waiters m) (cell_at s m)
+  cell_known = h.sound.all.cells m (knows_at_unlock s t m h.sound h.known h.line).0
 
   -- the table stays sound
   pub hand_sound : IsSound (with_line t Idle (handed_to (kernel_next s m) m s))
-  hand_sound = sound_when_handed s (with_line t Idle (handed_to (kernel_next s m) m s)) t (kernel_next s m) m left_behind next_known h.sound h.known h.line
+  hand_sound = subst IsSound (sym (handed_is s t (kernel_next s m) m)) (sound_when_handed s t (kernel_next s m) m next_known h.sound h.known h.line)
 
   -- the mutex passes on to the next waiter
   pub hand_unlocks : Unlocks t m (world_of s shadow) (handed_over s shadow t (kernel_next s m) m)
@@ -393,8 +322,8 @@ module _ (s : Table) (shadow : Shadow) (t m : ℕ) (h : AtHandOver s t m) where
 
   -- its thread doesn't rest
   pub hand_rests : rests (world_of (with_line t Idle (handed_to (kernel_next s m) m s)) shadow) t ≡ false
-  hand_rests =
-      rests-neither (world_of (with_line t Idle (handed_to (kernel_next s m) m s)) shadow) t
-      (ap (λ (x : Thread). is_stuck x.call) (mapped_at thread_of (with_line t Idle (handed_to (kernel_next s m) m s)).rows t no_row) ∙ ap (λ (r : Row). is_stuck (thread_of r).call) left_behind.row_here)
-      (ap (names t) left_behind.waiters ∙ named-without_other s.waiters (kernel_next s m) t (λ x. next_known.other (sym x))
-      ∙ ready-unnamed s t h.sound (knows_at_unlock s t m h.sound h.known h.line).1)
+  hand_rests = subst (λ v. IsSound v → rests (world_of v shadow) t ≡ false) (sym (handed_is s t (kernel_next s m) m))
+      (λ sound. rests_ready (settled (with_row t (closed_row s t (kernel_next s m)) (woken_at s (kernel_next s m) m))) shadow t sound
+      (same_threads s t (kernel_next s m) m next_known h.sound h.known h.line t ∙ h.known)
+      (ap (λ (r : Row). is_ready r.status) (row_here s t (kernel_next s m) m next_known h.sound h.known h.line) ∙ (knows_at_unlock s t m h.sound h.known h.line).1))
+      hand_sound

@@ -1,9 +1,9 @@
 -- What a change of a cell keeps of what the lines of the threads know.
-use Rattle.std.proofs.Common.{◌≡◌, ◌≢◌, ℕ, ◌<◌, Bool, true, false, ◌==◌, nat_lt, List, [], ◌∷◌, refl, sym, ◌∙◌, if◌then◌else◌, eq-eqb, true≢false, ltb-true}
+use Rattle.std.proofs.Common.{◌≡◌, ◌≢◌, ℕ, ◌<◌, Bool, true, false, ◌==◌, nat_lt, List, [], ◌∷◌, refl, sym, ◌∙◌, if◌then◌else◌, eq-eqb, true≢false, ltb-true, lt-ltb, ne_eqb}
 use Rattle.pif_model.specs.declared.lines.Line.{Line}
 use Rattle.pif_model.specs.declared.lines.Line.TheVariants.{Idle, At}
 use Rattle.pif_model.specs.declared.lines.Status.{Status}
-use Rattle.pif_model.specs.Table.{Table, Cell, cell_at, has_mutex}
+use Rattle.pif_model.specs.Table.{Cell}
 use Rattle.pif_model.specs.Standing.{Need, Meets, MeetsAll, needs, LineIsSound}
 use Rattle.pif_model.specs.Standing.Need.{MayRun, HasStopped, NotStopped, Owns, OwnsNot, OwnsOnceReady, NormalKind}
 use Rattle.pif_model.specs.Posix.{named_by}
@@ -19,6 +19,10 @@ below t n h = ltb-true t n (go (t == 0) h)
     go : (b : Bool) → (if b then false else nat_lt t n) ≡ true → nat_lt t n ≡ true
     go true h = absurd (true≢false (sym h))
     go false h = h
+
+-- a number that is not 0 and below passes the test
+pub from_within : (t n : ℕ) → t ≢ 0 → t < n → (if t == 0 then false else nat_lt t n) ≡ true
+from_within t n z h = rw (ne_eqb t 0 z) (lt-ltb t n h)
 
 -- what a change of a mutex from c to d leaves to u, who doesn't make it
 pub record Spares (u : ℕ) (c d : Cell) : Type 0 where
@@ -42,9 +46,10 @@ all_outlive u x c d [] k h = h
 all_outlive u x c d (n ∷ ns) k h = (meets_outlives u x c d n k h.0, all_outlive u x c d ns k h.1)
 
 -- what a line knows outlives what others change
-pub line_spared : (a b : Table) (u : ℕ) (x : Status) (l : Line) → ((m : ℕ) → has_mutex a m ≡ true → (has_mutex b m ≡ true) × Spares u (cell_at a m) (cell_at b m))
-    → LineIsSound a u x l → LineIsSound b u x l
-line_spared a b u x Idle k h = h
-line_spared a b u x (At q p) k h =
+pub line_spared : (exists exists' : ℕ → Bool) (cell cell' : ℕ → Cell) (u : ℕ) (x : Status) (l : Line)
+    → ((m : ℕ) → exists m ≡ true → (exists' m ≡ true) × Spares u (cell m) (cell' m))
+    → LineIsSound exists cell u x l → LineIsSound exists' cell' u x l
+line_spared exists exists' cell cell' u x Idle k h = h
+line_spared exists exists' cell cell' u x (At q p) k h =
     let e = k (named_by q) h.0 in
-    (e.0, h.1, all_outlive u x (cell_at a (named_by q)) (cell_at b (named_by q)) (needs p) e.1 h.2)
+    (e.0, h.1, all_outlive u x (cell (named_by q)) (cell' (named_by q)) (needs p) e.1 h.2)

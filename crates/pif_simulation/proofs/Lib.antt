@@ -5,6 +5,7 @@ pub mod HandOver
 pub mod Holders
 pub mod Holding
 pub mod Kept
+pub mod Hole
 pub mod Next
 pub mod Passing
 pub mod Picks
@@ -13,9 +14,9 @@ pub mod Priority
 pub mod Queue
 pub mod Waiting
 pub mod Projection
-pub mod Changes
 pub mod Stops
 pub mod Steps
+pub mod Local
 pub mod Owning
 pub mod LockLines
 pub mod UnlockLines

@@ -14,30 +14,39 @@ use Rattle.pif_model.specs.declared.lines.Place.TheVariants.{LockLoad, LockExcha
 use Rattle.pif_model.specs.declared.lines.Status.{Status}
 use Rattle.pif_model.specs.declared.lines.Status.TheVariants.{Ready, Queued, Stopped}
 use Rattle.pif_model.specs.declared.lines.Took.TheVariants.{Owns as TookOwns, Queued as TookQueued}
-use Rattle.pif_model.specs.Graph.{reaches_within}
+use Rattle.pif_model.specs.Graph.{has_waiter, reaches_within}
 use Rattle.pif_model.specs.Word.{is_bare, held_by}
-use Rattle.pif_model.specs.Posix.{Mutex, World, Effect, Locks, mutex_at}
-use Rattle.pif_model.specs.Posix.Progress.{Fresh}
+use Rattle.pif_model.specs.Posix.{Mutex, World, Effect, Locks, mutex_at, on_taking}
+use Rattle.pif_model.specs.Posix.Progress.{Fresh, Has}
 use Rattle.pif_model.specs.Posix.Effect.{lock}
 use Rattle.pif_model.specs.Posix.Step.{waits}
 use Rattle.pif_model.specs.Posix.Effects.{none, then as first}
-use Rattle.pif_model.specs.Posix.Locks.{own_normal, own_errorcheck}
-use Rattle.pif_model.specs.Table.{Table, row_at, cell_at, has_mutex, with_line, with_word, is_ready, kernel_waits_for}
+use Rattle.pif_model.specs.Posix.Locks.{own_normal}
+use Rattle.pif_model.specs.Table.{Table, row_at, cell_at, has_thread, has_mutex, with_line, with_word, is_ready, kernel_waits_for}
 use Rattle.pif_model.specs.Kernel.{lock_pi_answer, lock_pi_after}
-use Rattle.pif_model.specs.Lines.{lock_load, lock_exchange, lock_by, lock_kernel, lock_queued, lock_stop}
+use Rattle.pif_model.specs.Lines.{answers, lock_load, lock_exchange, lock_by, lock_kernel, lock_queued, lock_stop}
 use Rattle.pif_model.specs.Standing.{Shadow, CellIsSound, progress_at, world_of}
 use Rattle.pif_simulation.proofs.Waiting.{by_test}
-use Rattle.pif_simulation.proofs.Projection.{mutex_seen, line_seen, has_thread_below, has_mutex_below}
-use Rattle.pif_simulation.proofs.Changes.{line_kept, has_thread_lined, ready_lined}
+use Rattle.pif_simulation.proofs.Projection.{mutex_seen, has_thread_above_0}
 use Rattle.pif_simulation.proofs.Stops.{has_thread_stopped, stopped_not_ready, stopped_at, stopped_is, stop_kept, stop_seen}
-use Rattle.pif_simulation.proofs.Steps.{Keeps, GoKeeps, Going, going_allowed, going_knows, going_called, goes_on, waits_with, answers_with, answers_alone}
-use Rattle.pif_simulation.proofs.Owning.{bare, takes, none_from_free, state_from_none, state_agrees}
-use Rattle.pif_simulation.proofs.Queue.{owner_seen, is_queued, queue_sound, queue_locks, queue_rests, deadlock_locks}
+use Rattle.pif_simulation.proofs.Steps.{Keeps, GoKeeps, Going, knows, going_allowed, going_named, going_met, going_called, waits_with}
+use Rattle.pif_simulation.proofs.Local.{sight, answering, answering_is_local, local_kept, going_cell, goes, answers_local, answers_alone}
+use Rattle.pif_simulation.proofs.Local.Does.{nothing, locks_own_errorcheck, locks_free}
+use Rattle.pif_simulation.proofs.Owning.{bare, none_from_free, state_from_none, state_agrees, in_order, reworded, taken_seen}
+use Rattle.pif_simulation.proofs.Queue.{owner_seen, queue_limits, queue_sound, queue_locks, queue_rests, deadlock_locks}
 
 module _ (s : Table) (shadow : Shadow) (t m : ℕ) where
   -- the kind that the world sees
   kind_seen : (mutex_at (world_of s shadow) m).kind ≡ (cell_at s m).kind
   kind_seen = ap (λ (x : Mutex). x.kind) (mutex_seen s shadow m)
+
+  -- t takes a free mutex by its word
+  takes : {p : Place} (g : Going s shadow t (Lock m) p) → is_ready (row_at s t).status ≡ true → progress_at p (row_at s t).status ≡ Fresh → (cell_at s m).word.number ≡ 0 → GoKeeps s shadow t (answers t 0 (with_word m (held_by t) s))
+  takes g ready fresh zero = local_kept g (Has 0) (answering 0 (record (cell_at s m) { word = held_by t }) (sight s t m))
+      (answering_is_local ready refl 0 (record (cell_at s m) { word = held_by t })
+      (reworded (going_cell g) (held_by t) (none_from_free (going_cell g) zero) refl (λ n. g.known) (λ e. absurd (has_thread_above_0 s t g.known e)))
+      refl (λ u d z. record { kind = refl; owner = λ e. absurd (z (sym e ∙ zero)); other = λ e q. d (sym q) }))
+      (locks_free refl fresh (λ e. has_thread_above_0 s t g.known (sym e ∙ zero)) zero (sym (ap on_taking (in_order (going_cell g)))) (taken_seen (going_cell g) t))
 
   -- a lock that has had no effect yet is locking by this rule
   locks : {p : Place} (g : Going s shadow t (Lock m) p) → progress_at p (row_at s t).status ≡ Fresh → (v : World) → Locks t m (world_of s shadow) v → Effect t (world_of s shadow) v
@@ -46,8 +55,8 @@ module _ (s : Table) (shadow : Shadow) (t m : ℕ) where
   -- the load of the owner, by the kind
   load_own : (g : Going s shadow t (Lock m) LockLoad) → (cell_at s m).word.number ≡ t → (k : Kind) → (cell_at s m).kind ≡ k
       → GoKeeps s shadow t (elim k [ Normal ↦ record { seen = Went; after = with_line t (At (Lock m) LockStop) s } | ErrorCheck ↦ record { seen = Answered 35; after = with_line t Idle s } ])
-  load_own g own Normal k = goes_on g LockStop (going_knows g).2.0 ((going_knows g).0, refl, ((going_knows g).2.0, (own, (k, tt)))) refl
-  load_own g own ErrorCheck k = answers_alone g 35 (going_knows g).2.0 (locks g refl _ (own_errorcheck (owner_seen s shadow m ∙ own) (kind_seen ∙ k) refl))
+  load_own g own Normal k = goes g LockStop (going_met g).0 refl refl ((going_met g).0, (own, (k, tt)))
+  load_own g own ErrorCheck k = answers_local g 35 (going_met g).0 (locks_own_errorcheck refl refl own k refl refl)
 
   -- lock: load the word
   pub lock_load_kept : Going s shadow t (Lock m) LockLoad → GoKeeps s shadow t (lock_load t m s)
@@ -55,33 +64,30 @@ module _ (s : Table) (shadow : Shadow) (t m : ℕ) where
   lock_load_kept g = by_test (λ b. GoKeeps s shadow t (if b then elim (cell_at s m).kind [ Normal ↦ record { seen = Went; after = with_line t (At (Lock m) LockStop) s } | ErrorCheck ↦ record { seen = Answered 35; after = with_line t Idle s } ] else record { seen = Went; after = with_line t (At (Lock m) LockExchange) s }))
       ((cell_at s m).word.number == t)
       (λ e. load_own g (eqb-true (cell_at s m).word.number t e) (cell_at s m).kind refl)
-      (λ e. goes_on g LockExchange (going_knows g).2.0 ((going_knows g).0, refl, ((going_knows g).2.0, (eqb-false (cell_at s m).word.number t e, tt))) refl)
+      (λ e. goes g LockExchange (going_met g).0 refl refl ((going_met g).0, (eqb-false (cell_at s m).word.number t e, tt)))
 
   -- lock: compare-exchange from 0 to t
   pub lock_exchange_kept : Going s shadow t (Lock m) LockExchange → GoKeeps s shadow t (lock_exchange t m s)
   unfolding lock_exchange
   lock_exchange_kept g = by_test (λ b. GoKeeps s shadow t (if b then record { seen = Answered 0; after = with_line t Idle (with_word m (held_by t) s) } else record { seen = Went; after = with_line t (At (Lock m) LockKernel) s }))
       (is_bare (cell_at s m).word 0)
-      (λ e. takes g (going_knows g).2.0 (going_knows g).0 refl (bare (cell_at s m).word 0 e).1)
-      (λ e. goes_on g LockKernel (going_knows g).2.0 (going_knows g) refl)
+      (λ e. takes g (going_met g).0 refl (bare (cell_at s m).word 0 e).1)
+      (λ e. goes g LockKernel (going_met g).0 refl refl (going_met g))
 
   -- lock: stop for good
   pub lock_stop_kept : Going s shadow t (Lock m) LockStop → GoKeeps s shadow t (lock_stop t m s)
   unfolding lock_stop
   lock_stop_kept g = subst (λ v. Keeps s shadow (Happened (Go t) Waits) v) (sym (stopped_is s t (At (Lock m) LockStopped) g.known))
-      (waits_with g (stopped_at t (At (Lock m) LockStopped) s) (stop_kept s t m g.sound g.known (going_knows g).2.0 (going_knows g).0) (has_thread_stopped s t (At (Lock m) LockStopped) t ∙ g.known) (stopped_not_ready s t (At (Lock m) LockStopped) g.known) refl
-      (first (locks g refl _ (own_normal (owner_seen s shadow m ∙ (going_knows g).2.1.0) (kind_seen ∙ (going_knows g).2.1.1.0) refl)) (none (stop_seen s shadow t m LockStop g.line))))
+      (waits_with g (stopped_at t (At (Lock m) LockStopped) s) (stop_kept s t m g.sound g.known (going_met g).0 (going_named g)) (has_thread_stopped s t (At (Lock m) LockStopped) t ∙ g.known) (stopped_not_ready s t (At (Lock m) LockStopped) g.known) refl
+      (first (locks g refl _ (own_normal (owner_seen s shadow m ∙ (going_met g).1.0) (kind_seen ∙ (going_met g).1.1.0) refl)) (none (stop_seen s shadow t m LockStop g.line))))
 
   -- lock: stopped for good
   pub lock_stopped_kept : Going s shadow t (Lock m) LockStopped → Keeps s shadow (Happened (Go t) Waits) s
-  lock_stopped_kept g = waits_with g s g.sound g.known (ap is_ready (going_knows g).2.0) refl (none refl)
+  lock_stopped_kept g = waits_with g s g.sound g.known (ap is_ready (going_met g).0) refl (none refl)
 
   -- lock: queued, or made the owner, by the status
   queued_by : (g : Going s shadow t (Lock m) LockQueued) (x : Status) → (row_at s t).status ≡ x → GoKeeps s shadow t (if is_ready x then record { seen = Answered 0; after = with_line t Idle s } else record { seen = Waits; after = s })
-  queued_by g (Ready w) e =
-      let ready : is_ready (row_at s t).status ≡ true = ap is_ready e in
-      answers_with g (with_line t Idle s) 0 (world_of s shadow) (line_kept s t Idle g.sound g.known ready ready) (has_thread_lined s t Idle t ∙ g.known) (ready_lined s t Idle g.known ∙ ready) refl (none refl)
-      (going_called g ∙ ap (λ x. Some (record { request = Lock m; progress = progress_at LockQueued x })) e) (line_seen s shadow t Idle)
+  queued_by g (Ready w) e = answers_local g 0 (ap is_ready e) (nothing (sym (ap (progress_at LockQueued) e)) refl)
   queued_by g (Queued n) e = waits_with g s g.sound g.known (ap is_ready e) refl (none refl)
   queued_by g Stopped e = waits_with g s g.sound g.known (ap is_ready e) refl (none refl)
 
@@ -106,8 +112,8 @@ module _ (s : Table) (shadow : Shadow) (t m : ℕ) where
   kernel_takes : (g : Going s shadow t (Lock m) LockKernel) → (cell_at s m).word.number ≡ 0 → lock_pi_answer t m s ≡ Ok TookOwns → GoKeeps s shadow t (lock_kernel t m s)
   unfolding lock_kernel lock_by lock_pi_after
   kernel_takes g zero e = subst (λ a. GoKeeps s shadow t (lock_by a t m (lock_pi_after t m a s))) (sym e)
-      (subst (λ w. Keeps s shadow (Happened (Go t) (Answered 0)) (with_line t Idle (with_word m w s))) (λ i. record { number = t; waiters = false; died = sym (g.sound.cells m (going_knows g).0).no_death i })
-      (takes g (going_knows g).2.0 (going_knows g).0 refl zero))
+      (subst (λ w. Keeps s shadow (Happened (Go t) (Answered 0)) (with_line t Idle (with_word m w s))) (λ i. record { number = t; waiters = false; died = sym (going_cell g).no_death i })
+      (takes g (going_met g).0 refl zero))
 
   -- the kernel queues t
   kernel_queues : (g : Going s shadow t (Lock m) LockKernel) → lock_pi_answer t m s ≡ Ok TookQueued → GoKeeps s shadow t (lock_kernel t m s)
@@ -116,31 +122,31 @@ module _ (s : Table) (shadow : Shadow) (t m : ℕ) where
     sound = queue_sound s t m g.sound g.known g.line e;
     next = shadow;
     step = waits t refl (going_allowed g) (first (locks g refl _ (queue_locks s shadow t m g.sound g.known g.line e)) (none refl)) (queue_rests s shadow t m);
-    limits = (is_queued s t m (has_thread_below s t g.known) (has_mutex_below s m (going_knows g).0)).limits;
+    limits = queue_limits s t m;
   })
 
   -- the kernel refuses a lock that would close a cycle
   kernel_refuses : (g : Going s shadow t (Lock m) LockKernel) → lock_pi_answer t m s ≡ Err Deadlock → GoKeeps s shadow t (lock_kernel t m s)
   unfolding lock_kernel lock_by lock_pi_after
   kernel_refuses g e = subst (λ a. GoKeeps s shadow t (lock_by a t m (lock_pi_after t m a s))) (sym e)
-      (answers_alone g 35 (going_knows g).2.0 (locks g refl _ (deadlock_locks s shadow t m g.sound g.known g.line e)))
+      (answers_alone g 35 (going_met g).0 (locks g refl _ (deadlock_locks s shadow t m g.sound g.known g.line e)))
 
   -- lock: the kernel call lock_pi
   pub lock_kernel_kept : Going s shadow t (Lock m) LockKernel → GoKeeps s shadow t (lock_kernel t m s)
   lock_kernel_kept g = go (cases_eq (cell_at s m).word.number 0)
     where
-      c : CellIsSound s m (cell_at s m)
-      c = g.sound.cells m (going_knows g).0
+      c : CellIsSound (has_thread s) (has_waiter s.waiters m) (cell_at s m)
+      c = going_cell g
 
       named : has_mutex s m ≡ true
-      named = (going_knows g).0
+      named = going_named g
 
       other : (cell_at s m).word.number ≢ t
-      other = (going_knows g).2.1.0
+      other = (going_met g).1.0
 
       go : ((cell_at s m).word.number ≡ 0) ⊎ ((cell_at s m).word.number ≢ 0) → GoKeeps s shadow t (lock_kernel t m s)
       go (inl zero) = kernel_takes g zero (answer_free named other zero (state_from_none c (none_from_free c zero)))
       go (inr owned) = by_test (λ b. lock_pi_answer t m s ≡ (if b then Err Deadlock else Ok TookQueued) → GoKeeps s shadow t (lock_kernel t m s))
           (reaches_within (length s.rows) (kernel_waits_for s) (cell_at s m).word.number t)
           (λ r e. kernel_refuses g e) (λ r e. kernel_queues g e)
-          (answer_owned named other owned (g.sound.rows (cell_at s m).word.number (c.owner owned)).living (state_agrees c))
+          (answer_owned named other owned (knows s (cell_at s m).word.number g.sound (c.owner owned)).living (state_agrees c))

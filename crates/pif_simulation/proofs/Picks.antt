@@ -5,7 +5,7 @@ use Rattle.std.specs.List.{list_any}
 use Rattle.std.proofs.lemmas.Bool.{true≢false, cases_lt}
 use Rattle.std.proofs.lemmas.Bool.Decides.{nat_tests}
 use Rattle.std.proofs.lemmas.List.{length-map}
-use Rattle.pif_model.specs.Graph.{first_greatest}
+use Rattle.pif_model.specs.Graph.{has_waiter, first_greatest}
 use Rattle.pif_simulation.proofs.Effective.{effective_seen}
 use Rattle.pif_simulation.proofs.Waiting.{by_test}
 use Rattle.pif_simulation.proofs.Steps.{rests_ready, rests_not_ready}
@@ -97,7 +97,7 @@ pick_is s shadow h =
 
     runs : stands_in (kernel_pick s) s.ready ≡ true → (is_thread (world_of s shadow) (kernel_pick s) ≡ true) × (rests (world_of s shadow) (kernel_pick s) ≡ false)
     runs e =
-        let p = both (has_thread s (kernel_pick s)) (is_ready (row_at s (kernel_pick s)).status) (sym (h.ready (kernel_pick s)) ∙ e) in
+        let p = both (has_thread s (kernel_pick s)) (is_ready (row_at s (kernel_pick s)).status) (sym (h.all.threads (kernel_pick s) (λ e. e)).ready ∙ e) in
         (known_seen s shadow (kernel_pick s) ∙ p.0, rests_seen s shadow h (kernel_pick s) p.0 ∙ ap (λ (b : Bool). if b then false else true) p.1)
 
     first : (s.ready ≡ []) ⊎ ((stands_in (kernel_pick s) s.ready ≡ true) × ((first_greatest s.ready).1 ≡ kernel_effective s (kernel_pick s)))
@@ -110,7 +110,7 @@ pick_is s shadow h =
     picked n = grind (arith, first, nothing, n)
 
     awake_stands : (t : ℕ) → has_thread s t ≡ true → rests (world_of s shadow) t ≡ false → stands_in t s.ready ≡ true
-    awake_stands t k awake = h.ready t ∙ (ap (λ (b : Bool). if b then is_ready (row_at s t).status else false) k
+    awake_stands t k awake = (h.all.threads t (λ e. e)).ready ∙ (ap (λ (b : Bool). if b then is_ready (row_at s t).status else false) k
         ∙ not_resting (is_ready (row_at s t).status) (sym (rests_seen s shadow h t k) ∙ awake))
 
     found : (t : ℕ) → stands_in t s.ready ≡ true → (stands_in (kernel_pick s) s.ready ≡ true) × ((first_greatest s.ready).1 ≡ kernel_effective s (kernel_pick s))
@@ -120,7 +120,7 @@ pick_is s shadow h =
     greatest t k awake =
         let e = awake_stands t k awake in
         let f = found t e in
-        let p = both (has_thread s (kernel_pick s)) (is_ready (row_at s (kernel_pick s)).status) (sym (h.ready (kernel_pick s)) ∙ f.0) in (
+        let p = both (has_thread s (kernel_pick s)) (is_ready (row_at s (kernel_pick s)).status) (sym (h.all.threads (kernel_pick s) (λ e. e)).ready ∙ f.0) in (
           somebody (kernel_pick s) (length s.rows) p.0,
           subst (λ (n : ℕ). n ≤ effective_of (world_of s shadow) (kernel_pick s)) (same t)
               (subst (λ (n : ℕ). kernel_effective s t ≤ n) (f.1 ∙ same (kernel_pick s)) (first_above (kernel_effective s) s.ready levels t e)),
@@ -140,8 +140,8 @@ word_is_possible s shadow h m k =
     seen : mutex_at (world_of s shadow) m ≡ mutex_of (cell_at s m)
     seen = mapped_at mutex_of s.cells m no_cell
 
-    cell : CellIsSound s m (cell_at s m)
-    cell = h.cells m k
+    cell : CellIsSound (has_thread s) (has_waiter s.waiters m) (cell_at s m)
+    cell = h.all.cells m k
 
     free_seen : (cell_at s m).word.number ≡ 0 → (cell_at s m).word ≡ free_word
     free_seen e = λ i. record { number = e i; waiters = cell.free e i; died = cell.no_death i }

@@ -127,20 +127,20 @@ thread_seen s shadow t = ap (λ (n : ℕ). if t == 0 then false else nat_lt t n)
 pub IsOrderly-world_of : (s : Table) (shadow : Shadow) → IsSound s → IsOrderly (world_of s shadow)
 IsOrderly-world_of s shadow h =
     record {
-      once = h.once;
-      nobody_waits = h.queue 0 ∙ ap (λ (r : Row). queued_on r.status) h.nobody;
-      no_owner = owner_seen s shadow 0 ∙ ap (λ (c : Cell). c.word.number) h.no_mutex;
+      once = h.all.once;
+      nobody_waits = (h.all.threads 0 (λ e. e)).queue ∙ ap (λ (r : Row). queued_on r.status) h.all.shape.nobody;
+      no_owner = owner_seen s shadow 0 ∙ ap (λ (c : Cell). c.word.number) h.all.shape.no_mutex;
       owners = λ m n. thread_seen s shadow (mutex_at (world_of s shadow) m).owner
           ∙ subst (λ (o : ℕ). has_thread s o ≡ true) (sym (owner_seen s shadow m)) (word_owner m (λ e. n (owner_seen s shadow m ∙ e)));
     }
   where
     by_place : (m : ℕ) → (cell_at s m).word.number ≢ 0 → ((m ≡ 0) ⊎ (m ≡ 0 → ⊥)) → ((m < length s.cells) ⊎ (length s.cells ≤ m)) → has_mutex s m ≡ true
-    by_place m n (inl e) _ = absurd (n (ap (λ (k : ℕ). (cell_at s k).word.number) e ∙ ap (λ (c : Cell). c.word.number) h.no_mutex))
+    by_place m n (inl e) _ = absurd (n (ap (λ (k : ℕ). (cell_at s k).word.number) e ∙ ap (λ (c : Cell). c.word.number) h.all.shape.no_mutex))
     by_place m n (inr d) (inl l) = was_added m (length s.cells) d l
     by_place m n (inr d) (inr l) = absurd (n (ap (λ (c : Cell). c.word.number) (get_or_past s.cells m no_cell l)))
 
     word_owner : (m : ℕ) → (cell_at s m).word.number ≢ 0 → has_thread s (cell_at s m).word.number ≡ true
-    word_owner m n = (h.cells m (by_place m n (cases_eq m 0) (cases_lt m (length s.cells)))).owner n
+    word_owner m n = (h.all.cells m (by_place m n (cases_eq m 0) (cases_lt m (length s.cells)))).owner n
 
 -- the effective priority of each thread of a sound table, in the subject's words
 pub effective_is_greatest : (s : Table) (shadow : Shadow) → IsSound s → (t : ℕ) → has_thread s t ≡ true → HasEffective (world_of s shadow) t (effective_of (world_of s shadow) t)

@@ -1,6 +1,5 @@
 -- What the POSIX machine sees of a table: its threads and mutexes, a change of one of them, and its refusals.
 use Rattle.std.proofs.Common.{◌≡◌, ◌≢◌, ℕ, ◌<◌, true, false, ◌==◌, nat_lt, length, set, map, Some, None, is_some, refl, sym, ap, ◌∙◌, if◌then◌else◌}
-use Rattle.std.proofs.lemmas.Bool.{lt-ltb, ne_eqb}
 use Rattle.std.proofs.lemmas.List.{length-map, map-set, set-set, get_or-set_same, get_or-set_other}
 use Rattle.pif_types.specs.declared.requests.Request.{Request}
 use Rattle.pif_model.specs.declared.events.Event.{Event}
@@ -10,9 +9,8 @@ use Rattle.pif_model.specs.declared.lines.Line.TheVariants.{Idle, At}
 use Rattle.pif_model.specs.declared.lines.Place.{Place}
 use Rattle.pif_model.specs.declared.lines.Status.{Status}
 use Rattle.pif_model.specs.Refusals.{begin_refused, go_refused}
-use Rattle.pif_model.specs.Word.{Word}
 use Rattle.pif_model.specs.Posix.{Progress, Call, Thread, World, nobody, thread_at, mutex_at, is_thread, is_mutex, with_thread, with_mutex, with_progress, progressed, refusal_of, named_by}
-use Rattle.pif_model.specs.Table.{Table, Row, no_row, no_cell, row_at, cell_at, has_thread, has_mutex, with_row, with_line, with_word}
+use Rattle.pif_model.specs.Table.{Table, Row, Cell, no_row, no_cell, row_at, cell_at, has_thread, has_mutex, with_row, with_cell, with_line}
 use Rattle.pif_model.specs.Lines.{is_open, table_refusal}
 use Rattle.pif_model.specs.Standing.{Shadow, call_at, thread_of, mutex_of, world_of}
 use Rattle.pif_simulation.proofs.Places.{mapped_at}
@@ -39,10 +37,6 @@ is_mutex_seen s shadow m = ap (λ n. if m == 0 then false else nat_lt m n) (leng
 -- a number that passes the test is not 0, and below
 pub within : (t n : ℕ) → (if t == 0 then false else nat_lt t n) ≡ true → (t ≢ 0) × (t < n)
 within t n h = (above_0 t n h, below t n h)
-
--- a number that is not 0 and below passes the test
-pub from_within : (t n : ℕ) → t ≢ 0 → t < n → (if t == 0 then false else nat_lt t n) ≡ true
-from_within t n z h = rw (ne_eqb t 0 z) (lt-ltb t n h)
 
 -- who was added is not 0
 pub has_thread_above_0 : (s : Table) (t : ℕ) → has_thread s t ≡ true → t ≢ 0
@@ -85,9 +79,9 @@ line_seen s shadow t l = λ i. record (world_of s shadow) {
       ∙ ap (λ (x : Thread). set (map thread_of s.rows) t (record x { call = call_at l (row_at s t).status })) (sym (thread_seen s shadow t))) i;
 }
 
--- a table with another word of m shows the world with m as that shows it
-pub word_seen : (s : Table) (shadow : Shadow) (m : ℕ) (x : Word) → world_of (with_word m x s) shadow ≡ with_mutex m (mutex_of (record (cell_at s m) { word = x })) (world_of s shadow)
-word_seen s shadow m x = λ i. record (world_of s shadow) { mutexes = map-set mutex_of s.cells m (record (cell_at s m) { word = x }) i }
+-- a table with another cell of m shows the world with m as that shows it
+pub cell_seen : (s : Table) (shadow : Shadow) (m : ℕ) (c : Cell) → world_of (with_cell m c s) shadow ≡ with_mutex m (mutex_of c) (world_of s shadow)
+cell_seen s shadow m c = λ i. record (world_of s shadow) { mutexes = map-set mutex_of s.cells m c i }
 
 -- a table with another row of t shows the world with t as that shows it
 pub row_seen : (s : Table) (shadow : Shadow) (t : ℕ) (r : Row) → world_of (with_row t r s) shadow ≡ with_thread t (thread_of r) (world_of s shadow)

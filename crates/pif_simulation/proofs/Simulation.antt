@@ -1,6 +1,7 @@
 -- Each step of the table machine is one entry of the POSIX machine, and keeps the invariant.
 use Rattle.std.proofs.Common.{◌≡◌, ℕ, Bool, true, false, Option, Some, None, refl, sym, ap, ◌∙◌, subst}
 use Rattle.std.proofs.lemmas.Bool.{true≢false}
+use Rattle.std.proofs.lemmas.List.{set-get_or}
 use Rattle.pif_types.specs.declared.errors.Refusal.{Refusal}
 use Rattle.pif_types.specs.declared.requests.Request.{Request}
 use Rattle.pif_types.specs.declared.requests.Request.TheVariants.{Lock, Unlock}
@@ -17,12 +18,13 @@ use Rattle.pif_model.specs.Refusals.{begin_refused, go_refused}
 use Rattle.pif_model.specs.Posix.{Step, thread_at, with_thread, named_by}
 use Rattle.pif_model.specs.Posix.Progress.{Fresh}
 use Rattle.pif_model.specs.Posix.Step.{refused, begun}
-use Rattle.pif_model.specs.Table.{Table, row_at, has_thread, has_mutex, with_line, is_ready}
+use Rattle.pif_model.specs.Table.{Table, no_cell, row_at, cell_at, has_thread, has_mutex, with_row, with_line, is_ready}
 use Rattle.pif_model.specs.Lines.{is_open, first_place, table_refusal, line_of, gone, accepted, by_refusal, stepped}
 use Rattle.pif_model.specs.Standing.{Shadow, no_shadow, belongs, LineIsSound, IsSound, call_at, world_of}
 use Rattle.pif_simulation.proofs.Projection.{refusal_seen, line_seen}
-use Rattle.pif_simulation.proofs.Changes.{line_kept}
-use Rattle.pif_simulation.proofs.Steps.{Keeps, GoKeeps, Going, going_knows}
+use Rattle.pif_simulation.proofs.Steps.{Keeps, GoKeeps, Going, knows, going_belongs}
+use Rattle.pif_simulation.proofs.Hole.{unwritten}
+use Rattle.pif_simulation.proofs.Local.{Move, KnowsAfter, sight, going_to, move_sound}
 use Rattle.pif_simulation.proofs.LockLines.{lock_load_kept, lock_exchange_kept, lock_kernel_kept, lock_queued_kept, lock_stop_kept, lock_stopped_kept}
 use Rattle.pif_simulation.proofs.UnlockLines.{unlock_load_kept, unlock_exchange_kept, unlock_kernel_kept}
 
@@ -46,10 +48,10 @@ idle_line (At q p) e = absurd (true≢false e)
 
 -- A CALL BEGINS
 
--- what a call knows where it begins
-begins_sound : (s : Table) (t : ℕ) (x : Status) (q : Request) → has_mutex s (named_by q) ≡ true → is_ready x ≡ true → LineIsSound s t x (At q (first_place q))
-begins_sound s t x (Lock m) named ready = (named, refl, (ready, tt))
-begins_sound s t x (Unlock m) named ready = (named, refl, (ready, tt))
+-- where a call begins it rests on its thread alone
+begins_sound : (s : Table) (t : ℕ) (x : Status) (q : Request) → has_mutex s (named_by q) ≡ true → is_ready x ≡ true → KnowsAfter t (named_by q) x (cell_at s (named_by q)) (At q (first_place q))
+begins_sound s t x (Lock m) named ready = (refl, refl, (ready, tt))
+begins_sound s t x (Unlock m) named ready = (refl, refl, (ready, tt))
 
 -- a call that begins has had no effect
 begins_fresh : (q : Request) (x : Status) → call_at (At q (first_place q)) x ≡ Some (record { request = q; progress = Fresh })
@@ -60,9 +62,23 @@ begins_fresh (Unlock m) x = refl
 begin_kept : (s : Table) (shadow : Shadow) (t : ℕ) (q : Request) → IsSound s → table_refusal s (Begin t q) ≡ None → Keeps s shadow (Happened (Begin t q) Begun) (with_line t (At q (first_place q)) s)
 begin_kept s shadow t q h e =
     let a = begin_allowed (has_thread s t) (is_open (row_at s t).line) (has_mutex s (named_by q)) e in
-    let ready : is_ready (row_at s t).status ≡ true = subst (LineIsSound s t (row_at s t).status) (idle_line (row_at s t).line a.1) (h.rows t a.0).line in
+    let ready : is_ready (row_at s t).status ≡ true = subst (LineIsSound (has_mutex s) (cell_at s) t (row_at s t).status) (idle_line (row_at s t).line a.1) (knows s t h a.0).line in
+    let m : ℕ = named_by q in
+    let o : Move = going_to q (first_place q) (sight s t m) in
+    let c = h.all.cells m a.2 in
     record {
-      sound = line_kept s t (At q (first_place q)) h a.0 ready (begins_sound s t (row_at s t).status q a.2 ready);
+      sound = subst IsSound (λ i. with_row t o.row (record s { cells = set-get_or s.cells m no_cell i }))
+          (move_sound s t m q Fresh o h a.0 a.2 (record {
+            ready = ready;
+            base = refl;
+            living = refl;
+            status = refl;
+            knows = begins_sound s t (row_at s t).status q a.2 ready;
+            cell = c;
+            state = refl;
+            spares = λ u d z. unwritten u (cell_at s m) (cell_at s m) refl;
+            shows = begins_fresh q (row_at s t).status;
+          }));
       next = shadow;
       step = begun t q refl (refusal_seen s shadow (Begin t q) ∙ e)
           (line_seen s shadow t (At q (first_place q)) ∙ ap (λ c. with_thread t (record (thread_at (world_of s shadow) t) { call = c }) (world_of s shadow)) (begins_fresh q (row_at s t).status));
@@ -89,7 +105,7 @@ call_kept s shadow t _ _ g b = absurd (true≢false (sym b))
 gone_kept : (s : Table) (shadow : Shadow) (t : ℕ) (l : Line) → IsSound s → has_thread s t ≡ true → (row_at s t).line ≡ l → is_open l ≡ true → GoKeeps s shadow t (gone l t s)
 unfolding gone
 gone_kept s shadow t Idle h k e o = absurd (true≢false (sym o))
-gone_kept s shadow t (At q p) h k e o = (let g : Going s shadow t q p = record { sound = h; known = k; line = e } in call_kept s shadow t q p g (going_knows g).1)
+gone_kept s shadow t (At q p) h k e o = (let g : Going s shadow t q p = record { sound = h; known = k; line = e } in call_kept s shadow t q p g (going_belongs g))
 
 -- ANY EVENT
 

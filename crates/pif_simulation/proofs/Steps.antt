@@ -1,7 +1,7 @@
 -- One step of the table machine as one entry of the POSIX machine: what every line has to show.
 use Rattle.std.proofs.Common.{◌≡◌, ℕ, ◌<◌, Bool, true, false, length, Some, None, refl, sym, ap, ap₂, ◌∙◌, subst, if◌then◌else◌}
 use Rattle.std.proofs.lemmas.Bool.{true≢false}
-use Rattle.std.proofs.lemmas.List.{length-map, set-get_or}
+use Rattle.std.proofs.lemmas.List.{length-map}
 use Rattle.pif_types.specs.declared.requests.Request.{Request}
 use Rattle.pif_model.specs.declared.events.Event.TheVariants.{Go}
 use Rattle.pif_model.specs.declared.events.Seen.TheVariants.{Went, Waits, Answered}
@@ -14,19 +14,16 @@ use Rattle.pif_model.specs.declared.lines.Place.TheVariants.{LockQueued, LockSto
 use Rattle.pif_model.specs.declared.lines.Status.{Status}
 use Rattle.pif_model.specs.declared.lines.Status.TheVariants.{Ready, Queued, Stopped}
 use Rattle.pif_model.specs.Graph.{waited_by}
-use Rattle.pif_model.specs.Word.{Word}
 use Rattle.pif_model.specs.Refusals.{go_refused}
-use Rattle.pif_model.specs.Posix.{Thread, World, Step, Effect, Effects, thread_at, with_thread, with_mutex, with_progress, refusal_of, named_by, rests, is_stuck}
+use Rattle.pif_model.specs.Posix.{Thread, World, Step, Effects, thread_at, refusal_of, named_by, rests, is_stuck}
 use Rattle.pif_model.specs.Posix.Progress.{Has}
 use Rattle.pif_model.specs.Posix.Step.{went, waits, answered}
-use Rattle.pif_model.specs.Posix.Effects.{none, then as first}
-use Rattle.pif_model.specs.Table.{Table, Cell, row_at, cell_at, has_thread, has_mutex, with_line, with_word, is_ready, queued_on}
+use Rattle.pif_model.specs.Table.{Table, Cell, row_at, cell_at, has_thread, has_mutex, is_ready, queued_on}
 use Rattle.pif_model.specs.Lines.{Outcome, is_open}
-use Rattle.pif_model.specs.Standing.{Shadow, call_at, progress_at, thread_of, mutex_of, world_of, MeetsAll, needs, LineIsSound, QueueIsSound, IsSound}
-use Rattle.pif_simulation.proofs.Waiting.{names, paired-from_waited, named-from_pair}
-use Rattle.pif_simulation.proofs.Queue.{ready-unnamed}
-use Rattle.pif_simulation.proofs.Projection.{thread_seen, call_seen, line_seen, word_seen, refusal_seen, has_thread_below, has_mutex_above_0, closed, closed_progressed, call_progressed}
-use Rattle.pif_simulation.proofs.Changes.{has_thread_lined, ready_lined, line_kept}
+use Rattle.pif_model.specs.Standing.{Shadow, call_at, progress_at, thread_of, world_of, belongs, MeetsAll, needs, LineIsSound, QueueIsSound, RowIsSound, IsSound}
+use Rattle.pif_simulation.proofs.Waiting.{names, unnamed-from_0, paired-from_waited, named-from_pair}
+use Rattle.pif_simulation.proofs.Hole.{ready-queued_on_nothing}
+use Rattle.pif_simulation.proofs.Projection.{thread_seen, call_seen, refusal_seen, has_thread_below, has_mutex_above_0, closed}
 
 -- v follows s with this shadow by this entry: it is sound, both have the same limits, and what they show, v with the
 -- next shadow, is a step of the POSIX machine
@@ -63,33 +60,41 @@ place_stuck t q x c LockStopped h = ap is_stopped (sym h.0)
 place_stuck t q x c _ h = sym (ready_not_stopped x h.0)
 
 -- a call is stuck where its thread is stopped
-pub line_stuck : (s : Table) (t : ℕ) (x : Status) (l : Line) → LineIsSound s t x l → is_stuck (call_at l x) ≡ is_stopped x
-line_stuck s t x Idle h = sym (ready_not_stopped x h)
-line_stuck s t x (At q p) h = place_stuck t q x (cell_at s (named_by q)) p h.2
+pub line_stuck : (exists : ℕ → Bool) (cell : ℕ → Cell) (t : ℕ) (x : Status) (l : Line) → LineIsSound exists cell t x l → is_stuck (call_at l x) ≡ is_stopped x
+line_stuck exists cell t x Idle h = sym (ready_not_stopped x h)
+line_stuck exists cell t x (At q p) h = place_stuck t q x (cell (named_by q)) p h.2
 
 -- whether t rests, by its row
 rests_seen : (s : Table) (shadow : Shadow) (t : ℕ) → rests (world_of s shadow) t ≡ (if is_stuck (call_at (row_at s t).line (row_at s t).status) then true else names t s.waiters)
 rests_seen s shadow t = ap (λ (x : Thread). if is_stuck x.call then true else names t s.waiters) (thread_seen s shadow t)
 
+-- who may run is not among the waiters
+pub ready-unnamed : (s : Table) (t : ℕ) → IsSound s → is_ready (row_at s t).status ≡ true → names t s.waiters ≡ false
+ready-unnamed s t h r = unnamed-from_0 s.waiters t h.all.somewhere ((h.all.threads t (λ e. e)).queue ∙ ready-queued_on_nothing (row_at s t).status r)
+
+-- what a thread that was added knows
+pub knows : (s : Table) (t : ℕ) → IsSound s → has_thread s t ≡ true → RowIsSound (has_mutex s) (cell_at s) t (row_at s t)
+knows s t h k = (h.all.threads t (λ e. e)).row k
+
 -- a thread that may run doesn't rest
 pub rests_ready : (s : Table) (shadow : Shadow) (t : ℕ) → IsSound s → has_thread s t ≡ true → is_ready (row_at s t).status ≡ true → rests (world_of s shadow) t ≡ false
 rests_ready s shadow t h k e = rests_seen s shadow t ∙ ap₂ (λ a b. if a then true else b)
-    (line_stuck s t (row_at s t).status (row_at s t).line (h.rows t k).line ∙ ready_not_stopped (row_at s t).status e)
+    (line_stuck (has_mutex s) (cell_at s) t (row_at s t).status (row_at s t).line (knows s t h k).line ∙ ready_not_stopped (row_at s t).status e)
     (ready-unnamed s t h e)
 
 -- a thread that may not run rests
 pub rests_not_ready : (s : Table) (shadow : Shadow) (t : ℕ) → IsSound s → has_thread s t ≡ true → is_ready (row_at s t).status ≡ false → rests (world_of s shadow) t ≡ true
-rests_not_ready s shadow t h k e = rests_seen s shadow t ∙ go (row_at s t).status (row_at s t).line e (h.rows t k).line (h.rows t k).queue (h.queue t)
+rests_not_ready s shadow t h k e = rests_seen s shadow t ∙ go (row_at s t).status (row_at s t).line e (knows s t h k).line (knows s t h k).queue (h.all.threads t (λ e. e)).queue
   where
     either : (b : Bool) → (if b then true else true) ≡ true
     either true = refl
     either false = refl
 
-    go : (x : Status) (l : Line) → is_ready x ≡ false → LineIsSound s t x l → QueueIsSound x l → waited_by s.waiters t ≡ queued_on x → (if is_stuck (call_at l x) then true else names t s.waiters) ≡ true
+    go : (x : Status) (l : Line) → is_ready x ≡ false → LineIsSound (has_mutex s) (cell_at s) t x l → QueueIsSound x l → waited_by s.waiters t ≡ queued_on x → (if is_stuck (call_at l x) then true else names t s.waiters) ≡ true
     go (Ready w) l e a b c = absurd (true≢false e)
-    go Stopped l e a b c = ap (λ x. if x then true else names t s.waiters) (line_stuck s t Stopped l a)
+    go Stopped l e a b c = ap (λ x. if x then true else names t s.waiters) (line_stuck (has_mutex s) (cell_at s) t Stopped l a)
     go (Queued m) l e a b c =
-        let named : has_mutex s m ≡ true = (subst (LineIsSound s t (Queued m)) b a).0 in
+        let named : has_mutex s m ≡ true = (subst (LineIsSound (has_mutex s) (cell_at s) t (Queued m)) b a).0 in
         ap (λ x. if is_stuck (call_at l (Queued m)) then true else x) (named-from_pair s.waiters t m (paired-from_waited s.waiters t m (has_mutex_above_0 s m named) c))
         ∙ either (is_stuck (call_at l (Queued m)))
 
@@ -107,8 +112,20 @@ module _ {s : Table} {shadow : Shadow} {t : ℕ} {q : Request} {p : Place} (g : 
   going_allowed = refusal_seen s shadow (Go t) ∙ ap₂ go_refused g.known (ap is_open g.line)
 
   -- what t knows at this place
-  pub going_knows : LineIsSound s t (row_at s t).status (At q p)
-  going_knows = subst (LineIsSound s t (row_at s t).status) g.line (g.sound.rows t g.known).line
+  going_knows : LineIsSound (has_mutex s) (cell_at s) t (row_at s t).status (At q p)
+  going_knows = subst (LineIsSound (has_mutex s) (cell_at s) t (row_at s t).status) g.line (knows s t g.sound g.known).line
+
+  -- the mutex of the call exists
+  pub going_named : has_mutex s (named_by q) ≡ true
+  going_named = going_knows.0
+
+  -- the place is one of the call's
+  pub going_belongs : belongs q p ≡ true
+  going_belongs = going_knows.1
+
+  -- what the call rests on is met
+  pub going_met : MeetsAll t (row_at s t).status (cell_at s (named_by q)) (needs p)
+  going_met = going_knows.2
 
   -- the world has t's call open
   pub going_called : (thread_at (world_of s shadow) t).call ≡ Some (record { request = q; progress = progress_at p (row_at s t).status })
@@ -117,20 +134,6 @@ module _ {s : Table} {shadow : Shadow} {t : ℕ} {q : Request} {p : Place} (g : 
   -- the world has a thread t
   pub going_below : t < length (world_of s shadow).threads
   going_below = subst (λ n. t < n) (sym (length-map s.rows thread_of)) (has_thread_below s t g.known)
-
-  -- the step follows with no effect, and the call goes on at a place where it has come as far
-  pub goes_on : (a : Place) → is_ready (row_at s t).status ≡ true → LineIsSound s t (row_at s t).status (At q a) → progress_at a (row_at s t).status ≡ progress_at p (row_at s t).status
-      → Keeps s shadow (Happened (Go t) Went) (with_line t (At q a) s)
-  goes_on a ready knows same =
-      let v : Table = with_line t (At q a) s in
-      let sound : IsSound v = line_kept s t (At q a) g.sound g.known ready knows in
-      let shown : world_of v shadow ≡ world_of s shadow = line_seen s shadow t (At q a) ∙ ap (λ c. with_thread t (record (thread_at (world_of s shadow) t) { call = c }) (world_of s shadow)) (ap (λ x. Some (record { request = q; progress = x })) same ∙ sym going_called) ∙ (λ i. record (world_of s shadow) { threads = set-get_or (world_of s shadow).threads t (record { base = 0; living = false; call = None }) i }) in
-      record {
-        sound = sound;
-        next = shadow;
-        step = went t refl going_allowed (none shown) (rests_ready v shadow t sound (has_thread_lined s t (At q a) t ∙ g.known) (ready_lined s t (At q a) g.known ∙ ready));
-        limits = refl;
-      }
 
   -- the step follows with these effects, after which t may run
   pub goes_with : (v : Table) → IsSound v → has_thread v t ≡ true → is_ready (row_at v t).status ≡ true → v.limits ≡ s.limits → Effects t (world_of s shadow) (world_of v shadow) → Keeps s shadow (Happened (Go t) Went) v
@@ -159,21 +162,3 @@ module _ {s : Table} {shadow : Shadow} {t : ℕ} {q : Request} {p : Place} (g : 
     step = answered t a q u refl going_allowed effects call shown (rests_ready v shadow t sound known ready);
     limits = limits;
   }
-
-  -- the step follows with one effect, by which the call has this result, and which changes nothing else
-  pub answers_alone : (a : ℕ) → is_ready (row_at s t).status ≡ true → Effect t (world_of s shadow) (with_progress t (Has a) (world_of s shadow)) → Keeps s shadow (Happened (Go t) (Answered a)) (with_line t Idle s)
-  answers_alone a ready effect =
-      answers_with (with_line t Idle s) a (with_progress t (Has a) (world_of s shadow)) (line_kept s t Idle g.sound g.known ready ready)
-      (has_thread_lined s t Idle t ∙ g.known) (ready_lined s t Idle g.known ∙ ready) refl (first effect (none refl))
-      (call_progressed (world_of s shadow) t (Has a) _ going_below going_called)
-      (line_seen s shadow t Idle ∙ sym (closed_progressed (world_of s shadow) t (Has a) going_below))
-
-  -- the step follows with one effect, by which the call has the result 0 and m another word
-  pub answers_word : (m : ℕ) (x : Word) → is_ready (row_at s t).status ≡ true → IsSound (with_word m x (with_line t Idle s))
-      → Effect t (world_of s shadow) (with_progress t (Has 0) (with_mutex m (mutex_of (record (cell_at s m) { word = x })) (world_of s shadow))) → Keeps s shadow (Happened (Go t) (Answered 0)) (with_line t Idle (with_word m x s))
-  answers_word m x ready sound effect =
-      let w : World = with_mutex m (mutex_of (record (cell_at s m) { word = x })) (world_of s shadow) in
-      answers_with (with_line t Idle (with_word m x s)) 0 (with_progress t (Has 0) w) sound
-      (has_thread_lined s t Idle t ∙ g.known) (ready_lined s t Idle g.known ∙ ready) refl (first effect (none refl))
-      (call_progressed w t (Has 0) _ going_below going_called)
-      (line_seen (with_word m x s) shadow t Idle ∙ ap (closed t) (word_seen s shadow m x) ∙ sym (closed_progressed w t (Has 0) going_below))

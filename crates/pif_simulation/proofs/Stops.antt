@@ -1,7 +1,7 @@
 -- A thread that stops for good: the table stays sound, and the world shows a call that waits for good.
-use Rattle.std.proofs.Common.{◌≡◌, ◌≢◌, ℕ, Bool, true, false, cond, ◌==◌, nat_lt, List, [], ◌∷◌, length, set, refl, sym, ap, ◌∙◌, subst, if◌then◌else◌, ◌⊎◌, inl, inr}
+use Rattle.std.proofs.Common.{◌≡◌, ◌≢◌, ℕ, Bool, true, false, cond, ◌==◌, nat_lt, List, [], ◌∷◌, set, refl, sym, ap, ap₂, ◌∙◌, subst, if◌then◌else◌, inl}
 use Rattle.std.specs.List.{list_any}
-use Rattle.std.proofs.lemmas.Bool.{cases_eq, or_parts, or_from}
+use Rattle.std.proofs.lemmas.Bool.{or_parts, or_from}
 use Rattle.std.proofs.lemmas.List.{length-set, get_or-set_same, get_or-set_other, set-set}
 use Rattle.pif_types.specs.declared.requests.Request.TheVariants.{Lock}
 use Rattle.pif_model.specs.declared.lines.Line.{Line}
@@ -12,13 +12,14 @@ use Rattle.pif_model.specs.declared.lines.Status.TheVariants.{Stopped}
 use Rattle.pif_model.specs.Graph.{without}
 use Rattle.pif_model.specs.Posix.{with_progress}
 use Rattle.pif_model.specs.Posix.Progress.{Stuck}
-use Rattle.pif_model.specs.Table.{Table, Row, no_row, row_at, cell_at, has_thread, has_mutex, with_line, is_ready, queued_on, kernel_waits_for, kernel_effective}
+use Rattle.pif_model.specs.Table.{Table, Row, no_row, row_at, cell_at, has_thread, has_mutex, with_line, is_ready, queued_on, kernel_effective}
 use Rattle.pif_model.specs.Kernel.{stopped}
-use Rattle.pif_model.specs.Standing.{Shadow, RowIsSound, IsSound, world_of}
+use Rattle.pif_model.specs.Standing.{Shadow, RowIsSound, ThreadIsSound, IsSound, world_of}
 use Rattle.pif_simulation.proofs.Waiting.{by_test, named-without_same, named-without_other, once_without}
-use Rattle.pif_simulation.proofs.Queue.{ready-queued_on_nothing}
-use Rattle.pif_simulation.proofs.Projection.{has_thread_above_0, has_thread_below, row_seen, progress_seen}
-use Rattle.pif_simulation.proofs.Changes.{SameOwning, line_outlives, cell_outlives, effective_same}
+use Rattle.pif_simulation.proofs.Hole.{put_row, put_ready, excuse, admit, ready-queued_on_nothing, effective_same, waits_same}
+use Rattle.pif_simulation.proofs.Effective.{kept_at}
+use Rattle.pif_simulation.proofs.Steps.{knows}
+use Rattle.pif_simulation.proofs.Projection.{has_thread_below, row_seen, progress_seen}
 
 -- what no pair of a list passes, none of the list without u does
 pub none_without : (f : ℕ × ℕ → Bool) (ws : List (ℕ × ℕ)) (u : ℕ) → list_any f ws ≡ false → list_any f (without ws u) ≡ false
@@ -54,14 +55,6 @@ stopped_here s t l k = get_or-set_same s.rows t (stopped_row l (row_at s t)) no_
 stopped_else : (s : Table) (t : ℕ) (l : Line) (u : ℕ) → u ≢ t → row_at (stopped_at t l s) u ≡ row_at s u
 stopped_else s t l u n = get_or-set_other s.rows t u (stopped_row l (row_at s t)) no_row n
 
--- a fact on each row after t has stopped, from the two cases
-each_row : (P : ℕ → Row → Type 0) (s : Table) (t : ℕ) (l : Line) → has_thread s t ≡ true → P t (stopped_row l (row_at s t)) → (u : ℕ) → (u ≢ t → P u (row_at s u)) → P u (row_at (stopped_at t l s) u)
-each_row P s t l k here u there = go (cases_eq u t)
-  where
-    go : (u ≡ t) ⊎ (u ≢ t) → P u (row_at (stopped_at t l s) u)
-    go (inl q) = subst (λ v. P v (row_at (stopped_at t l s) v)) (sym q) (subst (P t) (sym (stopped_here s t l k)) here)
-    go (inr n) = subst (P u) (sym (stopped_else s t l u n)) (there n)
-
 -- the same threads are there after t has stopped
 pub has_thread_stopped : (s : Table) (t : ℕ) (l : Line) (u : ℕ) → has_thread (stopped_at t l s) u ≡ has_thread s u
 has_thread_stopped s t l u = ap (λ n. if u == 0 then false else nat_lt u n) (length-set s.rows t (stopped_row l (row_at s t)))
@@ -73,56 +66,34 @@ stopped_not_ready s t l k = ap (λ (r : Row). is_ready r.status) (stopped_here s
 -- a table is sound after a thread that might run has stopped
 pub stop_kept : (s : Table) (t m : ℕ) → IsSound s → has_thread s t ≡ true → is_ready (row_at s t).status ≡ true → has_mutex s m ≡ true → IsSound (stopped_at t (At (Lock m) LockStopped) s)
 stop_kept s t m h k ready named = record {
-  nobody = stopped_else s t l 0 (λ e. has_thread_above_0 s t k (sym e)) ∙ h.nobody;
-  no_mutex = h.no_mutex;
-  some_row = rw long h.some_row;
-  some_cell = h.some_cell;
-  few_rows = rw long h.few_rows;
-  few_cells = h.few_cells;
-  rows = λ u e. each_row (RowIsSound v) s t l k there u (λ n. other u (h.rows u (sym (known u) ∙ e)));
-  cells = λ n e. cell_outlives s v n (cell_at s n) long refl (h.cells n e);
-  queue = λ u. h.queue u ∙ sym (queues u);
-  somewhere = h.somewhere;
-  once = h.once;
-  ready = λ u. runs u ∙ ap (λ b. if b then is_ready (row_at v u).status else false) (sym (known u));
-  ready_once = once_without s.ready t h.ready_once;
-  level = λ u. ap (λ n. list_any (λ (r : ℕ × ℕ). if r.0 == u then (if r.1 == n then false else true) else false) (without s.ready t)) (effective_same s v long bases waits u)
+  all = admit
+      (put_ready (put_row (excuse h.all (λ u. u ≡ t) (λ u x. absurd x)) t r k refl)
+      (without s.ready t) (λ u n. named-without_other s.ready t u n) (once_without s.ready t h.all.ready_once))
+      (λ u. ⊥) t (λ u x. inl x) there;
+  level = λ u. ap (λ n. list_any (λ (r : ℕ × ℕ). if r.0 == u then (if r.1 == n then false else true) else false) (without s.ready t))
+      (effective_same s v (length-set s.rows t r) (kept_at (λ (r : Row). r.base) s.rows t r no_row refl)
+      (waits_same s v (kept_at (λ (r : Row). queued_on r.status) s.rows t r no_row (sym unqueued)) (λ n. refl)) u)
       ∙ none_without (λ (r : ℕ × ℕ). if r.0 == u then (if r.1 == kernel_effective s u then false else true) else false) s.ready t (h.level u);
 }
   where
-    l : Line
-    l = At (Lock m) LockStopped
+    r : Row
+    r = stopped_row (At (Lock m) LockStopped) (row_at s t)
 
     v : Table
     v = stopped_at t (At (Lock m) LockStopped) s
 
-    long : length (set s.rows t (stopped_row (At (Lock m) LockStopped) (row_at s t))) ≡ length s.rows
-    long = length-set s.rows t (stopped_row (At (Lock m) LockStopped) (row_at s t))
+    unqueued : queued_on (row_at s t).status ≡ 0
+    unqueued = ready-queued_on_nothing (row_at s t).status ready
 
-    known : (u : ℕ) → has_thread v u ≡ has_thread s u
-    known u = ap (λ n. if u == 0 then false else nat_lt u n) long
+    here : row_at v t ≡ r
+    here = stopped_here s t (At (Lock m) LockStopped) k
 
-    bases : (u : ℕ) → (row_at v u).base ≡ (row_at s u).base
-    bases u = each_row (λ u r. r.base ≡ (row_at s u).base) s t l k refl u (λ n. refl)
-
-    queues : (u : ℕ) → queued_on (row_at v u).status ≡ queued_on (row_at s u).status
-    queues u = each_row (λ u r. queued_on r.status ≡ queued_on (row_at s u).status) s t l k (sym (ready-queued_on_nothing (row_at s t).status ready)) u (λ n. refl)
-
-    waits : (u : ℕ) → kernel_waits_for v u ≡ kernel_waits_for s u
-    waits u = ap (λ n. (cell_at s n).state) (queues u)
-
-    owning : (u : ℕ) → SameOwning s v u
-    owning u = record { mutexes = λ n k. k; kinds = λ n k. refl; owns = λ n k e. e; owns_not = λ n k e. e }
-
-    there : RowIsSound v t (stopped_row l (row_at s t))
-    there = record { living = (h.rows t k).living; line = (named, refl, (refl, tt)); queue = tt }
-
-    other : (u : ℕ) → RowIsSound s u (row_at s u) → RowIsSound v u (row_at s u)
-    other u r = record { living = r.living; line = line_outlives s v u (row_at s u).status (row_at s u).line (owning u) r.line; queue = r.queue }
-
-    runs : (u : ℕ) → list_any (λ (r : ℕ × ℕ). r.0 == u) (without s.ready t) ≡ (if has_thread s u then is_ready (row_at v u).status else false)
-    runs u = each_row (λ u r. list_any (λ (r : ℕ × ℕ). r.0 == u) (without s.ready t) ≡ (if has_thread s u then is_ready r.status else false)) s t l k
-        (named-without_same s.ready t ∙ rw k) u (λ n. named-without_other s.ready t u n ∙ h.ready u)
+    there : ThreadIsSound v t
+    there = record {
+      row = λ e. subst (RowIsSound (has_mutex v) (cell_at v) t) (sym here) (record { living = (knows s t h k).living; line = (named, refl, (refl, tt)); queue = tt });
+      queue = (h.all.threads t (λ e. e)).queue ∙ unqueued ∙ sym (ap (λ (r : Row). queued_on r.status) here);
+      ready = named-without_same s.ready t ∙ sym (ap₂ (λ b (r : Row). if b then is_ready r.status else false) (has_thread_stopped s t (At (Lock m) LockStopped) t ∙ k) here);
+    }
 
 -- the world shows that t's call waits for good
 pub stop_seen : (s : Table) (shadow : Shadow) (t m : ℕ) (a : Place) → (row_at s t).line ≡ At (Lock m) a → world_of (stopped_at t (At (Lock m) LockStopped) s) shadow ≡ with_progress t Stuck (world_of s shadow)

@@ -1,5 +1,5 @@
 -- The lines of pthread_mutex_unlock: each step is an entry of the POSIX machine and keeps the invariant.
-use Rattle.std.proofs.Common.{◌≡◌, ◌≢◌, ℕ, true, ◌==◌, Some, Ok, refl, sym, ap, ◌∙◌, subst, if◌then◌else◌, eq-eqb, eqb-true}
+use Rattle.std.proofs.Common.{◌≡◌, ◌≢◌, ℕ, true, false, ◌==◌, Some, Ok, refl, sym, ap, ◌∙◌, subst, if◌then◌else◌, eq-eqb, eqb-true}
 use Rattle.std.proofs.lemmas.Bool.{eqb-false}
 use Rattle.pif_types.specs.declared.requests.Request.TheVariants.{Unlock}
 use Rattle.pif_model.specs.declared.events.Event.TheVariants.{Go}
@@ -9,43 +9,57 @@ use Rattle.pif_model.specs.declared.lines.Line.TheVariants.{Idle, At}
 use Rattle.pif_model.specs.declared.lines.Place.{Place}
 use Rattle.pif_model.specs.declared.lines.Place.TheVariants.{UnlockLoad, UnlockExchange, UnlockKernel}
 use Rattle.pif_model.specs.Word.{is_bare, free_word}
+use Rattle.pif_model.specs.Graph.{has_waiter}
 use Rattle.pif_model.specs.Posix.{World, Effect, Unlocks}
-use Rattle.pif_model.specs.Posix.Progress.{Fresh}
+use Rattle.pif_model.specs.Posix.Progress.{Fresh, Has}
+use Rattle.pif_model.specs.Posix.Health.{Fine, Inconsistent}
 use Rattle.pif_model.specs.Posix.Effect.{unlock}
-use Rattle.pif_model.specs.Posix.Unlocks.{not_owner}
 use Rattle.pif_model.specs.Posix.Step.{answered}
 use Rattle.pif_model.specs.Posix.Effects.{none, then as first}
-use Rattle.pif_model.specs.Table.{Table, row_at, cell_at, has_mutex, with_line, with_word}
+use Rattle.pif_model.specs.Table.{Table, row_at, cell_at, has_thread, has_mutex, with_line, with_word, is_ready}
 use Rattle.pif_model.specs.Kernel.{unlock_pi_answer, unlock_pi_after, handed_to, kernel_next}
-use Rattle.pif_model.specs.Lines.{unlock_load, unlock_exchange, unlock_by, unlock_kernel}
+use Rattle.pif_model.specs.Lines.{answers, unlock_load, unlock_exchange, unlock_by, unlock_kernel}
 use Rattle.pif_model.specs.Standing.{Shadow, CellIsSound, progress_at, world_of}
 use Rattle.pif_simulation.proofs.Waiting.{by_test}
-use Rattle.pif_simulation.proofs.Queue.{owner_seen}
 use Rattle.pif_simulation.proofs.HandOver.{AtHandOver, handed_over, hand_sound, hand_unlocks, hand_call, hand_world, hand_rests}
 use Rattle.pif_simulation.proofs.Projection.{has_thread_above_0}
-use Rattle.pif_simulation.proofs.Steps.{Keeps, GoKeeps, Going, going_allowed, going_knows, going_called, goes_on, answers_alone}
-use Rattle.pif_simulation.proofs.Owning.{bare, gives_up, none_from_flag, none_from_state, state_agrees}
+use Rattle.pif_simulation.proofs.Steps.{Keeps, GoKeeps, Going, going_allowed, going_named, going_met, going_called}
+use Rattle.pif_simulation.proofs.Local.{sight, answering, answering_is_local, local_kept, going_cell, goes, answers_local}
+use Rattle.pif_simulation.proofs.Local.Does.{unlocks_not_own, unlocks_own}
+use Rattle.pif_simulation.proofs.Owning.{bare, none_from_flag, none_from_state, state_agrees, in_order, reworded, freed_seen}
 
 module _ (s : Table) (shadow : Shadow) (t m : ℕ) where
   -- an unlock that has had no effect yet is unlocking by this rule
   unlocks : {p : Place} (g : Going s shadow t (Unlock m) p) → progress_at p (row_at s t).status ≡ Fresh → (v : World) → Unlocks t m (world_of s shadow) v → Effect t (world_of s shadow) v
   unlocks g fresh v rule = unlock m (going_called g ∙ ap (λ x. Some (record { request = Unlock m; progress = x })) fresh) rule
 
+  -- t gives up a mutex for which nobody waits by its word
+  gives_up : {p : Place} (g : Going s shadow t (Unlock m) p) → is_ready (row_at s t).status ≡ true → progress_at p (row_at s t).status ≡ Fresh → (cell_at s m).word.number ≡ t → has_waiter s.waiters m ≡ false
+      → GoKeeps s shadow t (answers t 0 (with_word m free_word s))
+  gives_up g ready fresh own alone = local_kept g (Has 0) (answering 0 (record (cell_at s m) { word = free_word }) (sight s t m))
+      (answering_is_local ready refl 0 (record (cell_at s m) { word = free_word })
+      (reworded (going_cell g) free_word alone refl (λ n. absurd (n refl)) (λ e. refl))
+      refl (λ u d z. record { kind = refl; owner = λ e. absurd (d (sym e ∙ own)); other = λ e q. z (sym q) }))
+      (unlocks_own refl fresh own (λ e. fine_not_inconsistent (sym (in_order (going_cell g)) ∙ e)) alone refl (freed_seen (going_cell g)))
+    where
+      fine_not_inconsistent : Fine ≡ Inconsistent → ⊥
+      fine_not_inconsistent e = cc
+
   -- unlock: load the word
   pub unlock_load_kept : Going s shadow t (Unlock m) UnlockLoad → GoKeeps s shadow t (unlock_load t m s)
   unfolding unlock_load
   unlock_load_kept g = by_test (λ b. GoKeeps s shadow t (if b then record { seen = Went; after = with_line t (At (Unlock m) UnlockExchange) s } else record { seen = Answered 1; after = with_line t Idle s }))
       ((cell_at s m).word.number == t)
-      (λ e. goes_on g UnlockExchange (going_knows g).2.0 ((going_knows g).0, refl, ((going_knows g).2.0, (eqb-true (cell_at s m).word.number t e, tt))) refl)
-      (λ e. answers_alone g 1 (going_knows g).2.0 (unlocks g refl _ (not_owner (λ x. eqb-false (cell_at s m).word.number t e (sym (owner_seen s shadow m) ∙ x)) refl)))
+      (λ e. goes g UnlockExchange (going_met g).0 refl refl ((going_met g).0, (eqb-true (cell_at s m).word.number t e, tt)))
+      (λ e. answers_local g 1 (going_met g).0 (unlocks_not_own refl refl (eqb-false (cell_at s m).word.number t e) refl refl))
 
   -- unlock: compare-exchange from t to 0
   pub unlock_exchange_kept : Going s shadow t (Unlock m) UnlockExchange → GoKeeps s shadow t (unlock_exchange t m s)
   unfolding unlock_exchange
   unlock_exchange_kept g = by_test (λ b. GoKeeps s shadow t (if b then record { seen = Answered 0; after = with_line t Idle (with_word m free_word s) } else record { seen = Went; after = with_line t (At (Unlock m) UnlockKernel) s }))
       (is_bare (cell_at s m).word t)
-      (λ e. gives_up g (going_knows g).2.0 (going_knows g).0 refl (going_knows g).2.1.0 (none_from_flag (g.sound.cells m (going_knows g).0) (bare (cell_at s m).word t e).0))
-      (λ e. goes_on g UnlockKernel (going_knows g).2.0 (going_knows g) refl)
+      (λ e. gives_up g (going_met g).0 refl (going_met g).1.0 (none_from_flag (going_cell g) (bare (cell_at s m).word t e).0))
+      (λ e. goes g UnlockKernel (going_met g).0 refl refl (going_met g))
 
   -- what unlock_pi answers to the owner
   answer_owner : has_mutex s m ≡ true → (cell_at s m).word.number ≡ t → (if (cell_at s m).state == 0 then true else (cell_at s m).state == t) ≡ true → unlock_pi_answer t m s ≡ Ok (record {})
@@ -74,17 +88,14 @@ module _ (s : Table) (shadow : Shadow) (t m : ℕ) where
   unfolding unlock_kernel unlock_by unlock_pi_after
   unlock_kernel_kept g = subst (λ a. GoKeeps s shadow t (unlock_by a t (unlock_pi_after t m a s))) (sym answer)
       (by_test (λ b. Keeps s shadow (Happened (Go t) (Answered 0)) (with_line t Idle (if b then with_word m free_word s else handed_to (kernel_next s m) m s))) ((cell_at s m).state == 0)
-      (λ e. gives_up g (going_knows g).2.0 named refl own (none_from_state c (λ z. has_thread_above_0 s t g.known (sym own ∙ z)) (eqb-true (cell_at s m).state 0 e)))
+      (λ e. gives_up g (going_met g).0 refl own (none_from_state c (λ z. has_thread_above_0 s t g.known (sym own ∙ z)) (eqb-true (cell_at s m).state 0 e)))
       (λ e. kernel_hands g (eqb-false (cell_at s m).state 0 e)))
     where
-      named : has_mutex s m ≡ true
-      named = (going_knows g).0
-
       own : (cell_at s m).word.number ≡ t
-      own = (going_knows g).2.1.0
+      own = (going_met g).1.0
 
-      c : CellIsSound s m (cell_at s m)
-      c = g.sound.cells m (going_knows g).0
+      c : CellIsSound (has_thread s) (has_waiter s.waiters m) (cell_at s m)
+      c = going_cell g
 
       answer : unlock_pi_answer t m s ≡ Ok (record {})
-      answer = answer_owner named own (subst (λ n. (if (cell_at s m).state == 0 then true else (cell_at s m).state == n) ≡ true) own (state_agrees c))
+      answer = answer_owner (going_named g) own (subst (λ n. (if (cell_at s m).state == 0 then true else (cell_at s m).state == n) ≡ true) own (state_agrees c))
