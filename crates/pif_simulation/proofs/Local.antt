@@ -3,7 +3,7 @@
 -- machine that keeps the invariant.
 use Rattle.std.proofs.Common.{◌≡◌, ◌≢◌, ℕ, ◌<◌, Bool, true, false, ◌==◌, nat_lt, length, Option, Some, None, refl, sym, ap, ap₂, ◌∙◌, subst, if◌then◌else◌, inl}
 use Rattle.std.proofs.lemmas.List.{length-set, get_or-set_same, set-get_or}
-use Rattle.pif_types.specs.declared.requests.Kind.TheVariants.{Normal, ErrorCheck}
+use Rattle.pif_types.specs.declared.requests.Kind.TheVariants.{ErrorCheck}
 use Rattle.pif_types.specs.declared.requests.Request.{Request}
 use Rattle.pif_types.specs.declared.requests.Request.TheVariants.{Lock, Unlock}
 use Rattle.pif_model.specs.declared.events.Event.TheVariants.{Go}
@@ -17,9 +17,9 @@ use Rattle.pif_model.specs.declared.lines.Status.{Status}
 use Rattle.pif_model.specs.Graph.{has_waiter}
 use Rattle.pif_model.specs.Posix.{Progress, Call, Thread, Mutex, World, Effect, Effects, no_mutex, nobody, named_by, thread_at, mutex_at, with_thread, with_mutex, with_progress, progressed, on_taking, effective_of}
 use Rattle.pif_model.specs.Posix.Health.{Inconsistent}
-use Rattle.pif_model.specs.Posix.Progress.{Fresh, Stuck, Has}
+use Rattle.pif_model.specs.Posix.Progress.{Fresh, Has}
 use Rattle.pif_model.specs.Posix.Effect.{lock, unlock}
-use Rattle.pif_model.specs.Posix.Locks.{own_normal, own_errorcheck, free}
+use Rattle.pif_model.specs.Posix.Locks.{own_errorcheck, free}
 use Rattle.pif_model.specs.Posix.Unlocks.{not_owner, released}
 use Rattle.pif_model.specs.Posix.Passes.{to_nobody}
 use Rattle.pif_model.specs.Posix.Effects.{none, then as first}
@@ -67,7 +67,6 @@ answering a c v = record { seen = Answered a; row = record v.row { line = Idle }
 -- mutex is z. Waited: whether a thread waits for m
 pub data Does (t m : ℕ) (waited : Bool) (q : Request) (a : Progress) (y : Mutex) (b : Progress) (z : Mutex) : Type 0 where
   nothing : b ≡ a → z ≡ y → Does t m waited q a y b z
-  locks_own_normal : q ≡ Lock m → a ≡ Fresh → y.owner ≡ t → y.kind ≡ Normal → b ≡ Stuck → z ≡ y → Does t m waited q a y b z
   locks_own_errorcheck : q ≡ Lock m → a ≡ Fresh → y.owner ≡ t → y.kind ≡ ErrorCheck → b ≡ Has 35 → z ≡ y → Does t m waited q a y b z
   locks_free : q ≡ Lock m → a ≡ Fresh → y.owner ≢ t → y.owner ≡ 0 → b ≡ on_taking y.health → z ≡ record y { owner = t; count = 1 } → Does t m waited q a y b z
   unlocks_not_own : q ≡ Unlock m → a ≡ Fresh → y.owner ≢ t → b ≡ Has 1 → z ≡ y → Does t m waited q a y b z
@@ -94,7 +93,6 @@ module _ (w : World) (t m : ℕ) {q : Request} {a b : Progress} {y z : Mutex} (h
   -- effects on one call and its mutex are effects of the POSIX machine
   pub does_seen : Does t m (has_waiter w.waiters m) q a y b z → Effects t w (with_progress t b (with_mutex m z w))
   does_seen (nothing e f) = none (alone a e f ∙ unmoved w t call)
-  does_seen (locks_own_normal r n o k e f) = first (lock m (called w t call (Lock m) r n) (own_normal (ap (λ (x : Mutex). x.owner) here ∙ o) (ap (λ (x : Mutex). x.kind) here ∙ k) (alone Stuck e f))) (none refl)
   does_seen (locks_own_errorcheck r n o k e f) = first (lock m (called w t call (Lock m) r n) (own_errorcheck (ap (λ (x : Mutex). x.owner) here ∙ o) (ap (λ (x : Mutex). x.kind) here ∙ k) (alone (Has 35) e f))) (none refl)
   does_seen (locks_free r n o k e f) = first (lock m (called w t call (Lock m) r n) (free (λ d. o (sym (ap (λ (x : Mutex). x.owner) here) ∙ d)) (ap (λ (x : Mutex). x.owner) here ∙ k)
       (ap₂ (λ c (x : Mutex). with_progress t c (with_mutex m x w)) (e ∙ ap (λ (x : Mutex). on_taking x.health) (sym here)) (f ∙ ap (λ (x : Mutex). record x { owner = t; count = 1 }) (sym here))))) (none refl)
@@ -120,7 +118,7 @@ Shows q a (Refused r) c = ⊥
 
 -- a move of t in its call q on m, by which the call has come as far as a: it changes what t alone may change
 pub record IsLocal (added : ℕ → Bool) (waited : Bool) (t m : ℕ) (q : Request) (a : Progress) (v : Sight) (o : Move) : Type 0 where
-  -- t may run, and only its line is another
+  -- t may run, and its base priority, its life and its status stay
   pub ready : is_ready v.row.status ≡ true
   pub base : o.row.base ≡ v.row.base
   pub living : o.row.living ≡ v.row.living

@@ -1,6 +1,6 @@
 -- What the POSIX machine sees of a table: its threads and mutexes, a change of one of them, and its refusals.
 use Rattle.std.proofs.Common.{◌≡◌, ◌≢◌, ℕ, ◌<◌, true, false, ◌==◌, nat_lt, length, set, map, Some, None, is_some, refl, sym, ap, ◌∙◌, if◌then◌else◌}
-use Rattle.std.proofs.lemmas.List.{length-map, map-set, set-set, get_or-set_same, get_or-set_other}
+use Rattle.std.proofs.lemmas.List.{length-map, map-set, set-set, get_or-set_same}
 use Rattle.pif_types.specs.declared.requests.Request.{Request}
 use Rattle.pif_model.specs.declared.events.Event.{Event}
 use Rattle.pif_model.specs.declared.events.Event.TheVariants.{Begin, Go}
@@ -49,10 +49,6 @@ has_thread_below s t h = (within t (length s.rows) h).1
 -- a mutex that was added is not 0
 pub has_mutex_above_0 : (s : Table) (m : ℕ) → has_mutex s m ≡ true → m ≢ 0
 has_mutex_above_0 s m h = (within m (length s.cells) h).0
-
--- a mutex that was added has a cell
-pub has_mutex_below : (s : Table) (m : ℕ) → has_mutex s m ≡ true → m < length s.cells
-has_mutex_below s m h = (within m (length s.cells) h).1
 
 -- OPEN CALLS
 
@@ -103,10 +99,6 @@ progress_seen s shadow t q a p e =
 -- a thread that was changed
 pub thread_changed : (w : World) (t : ℕ) (x : Thread) → t < length w.threads → thread_at (with_thread t x w) t ≡ x
 thread_changed w t x h = get_or-set_same w.threads t x nobody h
-
--- the other threads stay
-pub thread_unchanged : (w : World) (t u : ℕ) (x : Thread) → u ≢ t → thread_at (with_thread t x w) u ≡ thread_at w u
-thread_unchanged w t u x n = get_or-set_other w.threads t u x nobody n
 
 -- a thread that was changed twice
 pub thread_changed_twice : (w : World) (t : ℕ) (x y : Thread) → with_thread t y (with_thread t x w) ≡ with_thread t y w

@@ -51,10 +51,6 @@ stopped_is s t l k =
 stopped_here : (s : Table) (t : ℕ) (l : Line) → has_thread s t ≡ true → row_at (stopped_at t l s) t ≡ stopped_row l (row_at s t)
 stopped_here s t l k = get_or-set_same s.rows t (stopped_row l (row_at s t)) no_row (has_thread_below s t k)
 
--- the rows of the others
-stopped_else : (s : Table) (t : ℕ) (l : Line) (u : ℕ) → u ≢ t → row_at (stopped_at t l s) u ≡ row_at s u
-stopped_else s t l u n = get_or-set_other s.rows t u (stopped_row l (row_at s t)) no_row n
-
 -- the same threads are there after t has stopped
 pub has_thread_stopped : (s : Table) (t : ℕ) (l : Line) (u : ℕ) → has_thread (stopped_at t l s) u ≡ has_thread s u
 has_thread_stopped s t l u = ap (λ n. if u == 0 then false else nat_lt u n) (length-set s.rows t (stopped_row l (row_at s t)))
