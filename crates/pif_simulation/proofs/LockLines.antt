@@ -55,7 +55,7 @@ module _ (s : Table) (shadow : Shadow) (t m : ℕ) where
   -- the load of the owner, by the kind
   load_own : (g : Going s shadow t (Lock m) LockLoad) → (cell_at s m).word.number ≡ t → (k : Kind) → (cell_at s m).kind ≡ k
       → GoKeeps s shadow t (elim k [ Normal ↦ record { seen = Went; after = with_line t (At (Lock m) LockStop) s } | ErrorCheck ↦ record { seen = Answered 35; after = with_line t Idle s } ])
-  load_own g own Normal k = goes g LockStop (going_met g).0 refl refl ((going_met g).0, (own, (k, tt)))
+  load_own g own Normal k = goes g LockStop (going_met g).0 refl refl (assumption (going_met g, own, k))
   load_own g own ErrorCheck k = answers_local g 35 (going_met g).0 (locks_own_errorcheck refl refl own k refl refl)
 
   -- lock: load the word
@@ -64,7 +64,7 @@ module _ (s : Table) (shadow : Shadow) (t m : ℕ) where
   lock_load_kept g = by_test (λ b. GoKeeps s shadow t (if b then elim (cell_at s m).kind [ Normal ↦ record { seen = Went; after = with_line t (At (Lock m) LockStop) s } | ErrorCheck ↦ record { seen = Answered 35; after = with_line t Idle s } ] else record { seen = Went; after = with_line t (At (Lock m) LockExchange) s }))
       ((cell_at s m).word.number == t)
       (λ e. load_own g (eqb-true (cell_at s m).word.number t e) (cell_at s m).kind refl)
-      (λ e. goes g LockExchange (going_met g).0 refl refl ((going_met g).0, (eqb-false (cell_at s m).word.number t e, tt)))
+      (λ e. goes g LockExchange (going_met g).0 refl refl (assumption (going_met g, eqb-false (cell_at s m).word.number t e)))
 
   -- lock: compare-exchange from 0 to t
   pub lock_exchange_kept : Going s shadow t (Lock m) LockExchange → GoKeeps s shadow t (lock_exchange t m s)
@@ -72,7 +72,7 @@ module _ (s : Table) (shadow : Shadow) (t m : ℕ) where
   lock_exchange_kept g = by_test (λ b. GoKeeps s shadow t (if b then record { seen = Answered 0; after = with_line t Idle (with_word m (held_by t) s) } else record { seen = Went; after = with_line t (At (Lock m) LockKernel) s }))
       (is_bare (cell_at s m).word 0)
       (λ e. takes g (going_met g).0 refl (bare (cell_at s m).word 0 e).1)
-      (λ e. goes g LockKernel (going_met g).0 refl refl (going_met g))
+      (λ e. goes g LockKernel (going_met g).0 refl refl (assumption (going_met g)))
 
   -- lock: stop for good
   pub lock_stop_kept : Going s shadow t (Lock m) LockStop → GoKeeps s shadow t (lock_stop t m s)

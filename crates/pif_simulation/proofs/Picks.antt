@@ -21,24 +21,24 @@ abbrev stands_in : ℕ → List (ℕ × ℕ) → Bool
 stands_in t l = list_any (λ (r : ℕ × ℕ). r.0 == t) l
 
 -- each pair of a list has the value of its number
-abbrev IsLeveled : (ℕ → ℕ) → List (ℕ × ℕ) → Type 0
-IsLeveled value [] = ⊤
-IsLeveled value (r ∷ rs) = (r.1 ≡ value r.0) × IsLeveled value rs
+abbrev HasValues : (ℕ → ℕ) → List (ℕ × ℕ) → Type 0
+HasValues value [] = ⊤
+HasValues value (r ∷ rs) = (r.1 ≡ value r.0) × HasValues value rs
 
 -- by the test that no pair has another value
 leveled : (value : ℕ → ℕ) (l : List (ℕ × ℕ))
-    → ((t : ℕ) → list_any (λ (r : ℕ × ℕ). if r.0 == t then (if r.1 == value t then false else true) else false) l ≡ false) → IsLeveled value l
+    → ((t : ℕ) → list_any (λ (r : ℕ × ℕ). if r.0 == t then (if r.1 == value t then false else true) else false) l ≡ false) → HasValues value l
 leveled value [] h = tt
 leveled value (r ∷ rs) h = (grind (arith, nat_tests, h r.0), leveled value rs (λ t. grind (arith, nat_tests, h t)))
 
 -- the first of greatest value is not below any
-first_above : (value : ℕ → ℕ) (l : List (ℕ × ℕ)) → IsLeveled value l → (t : ℕ) → stands_in t l ≡ true → value t ≤ (first_greatest l).1
+first_above : (value : ℕ → ℕ) (l : List (ℕ × ℕ)) → HasValues value l → (t : ℕ) → stands_in t l ≡ true → value t ≤ (first_greatest l).1
 unfolding first_greatest
 first_above value [] h t e = grind arith
 first_above value (r ∷ rs) h t e = grind (arith, nat_tests, h.0, first_above value rs h.1 t)
 
 -- the first of greatest value stands in the list with its value, where there is anything
-first_stands : (value : ℕ → ℕ) (l : List (ℕ × ℕ)) → IsLeveled value l
+first_stands : (value : ℕ → ℕ) (l : List (ℕ × ℕ)) → HasValues value l
     → (l ≡ []) ⊎ ((stands_in (first_greatest l).0 l ≡ true) × ((first_greatest l).1 ≡ value (first_greatest l).0))
 unfolding first_greatest
 first_stands value [] h = inl refl
@@ -89,7 +89,7 @@ pick_is s shadow h =
     same : (t : ℕ) → kernel_effective s t ≡ effective_of (world_of s shadow) t
     same t = ap (λ (f : ℕ → ℕ). f t) (effective_seen s shadow h)
 
-    levels : IsLeveled (kernel_effective s) s.ready
+    levels : HasValues (kernel_effective s) s.ready
     levels = leveled (kernel_effective s) s.ready h.level
 
     both : (a b : Bool) → (if a then b else false) ≡ true → (a ≡ true) × (b ≡ true)

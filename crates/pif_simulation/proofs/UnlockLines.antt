@@ -50,7 +50,7 @@ module _ (s : Table) (shadow : Shadow) (t m : ℕ) where
   unfolding unlock_load
   unlock_load_kept g = by_test (λ b. GoKeeps s shadow t (if b then record { seen = Went; after = with_line t (At (Unlock m) UnlockExchange) s } else record { seen = Answered 1; after = with_line t Idle s }))
       ((cell_at s m).word.number == t)
-      (λ e. goes g UnlockExchange (going_met g).0 refl refl ((going_met g).0, (eqb-true (cell_at s m).word.number t e, tt)))
+      (λ e. goes g UnlockExchange (going_met g).0 refl refl (assumption (going_met g, eqb-true (cell_at s m).word.number t e)))
       (λ e. answers_local g 1 (going_met g).0 (unlocks_not_own refl refl (eqb-false (cell_at s m).word.number t e) refl refl))
 
   -- unlock: compare-exchange from t to 0
@@ -59,7 +59,7 @@ module _ (s : Table) (shadow : Shadow) (t m : ℕ) where
   unlock_exchange_kept g = by_test (λ b. GoKeeps s shadow t (if b then record { seen = Answered 0; after = with_line t Idle (with_word m free_word s) } else record { seen = Went; after = with_line t (At (Unlock m) UnlockKernel) s }))
       (is_bare (cell_at s m).word t)
       (λ e. gives_up g (going_met g).0 refl (going_met g).1.0 (none_from_flag (going_cell g) (bare (cell_at s m).word t e).0))
-      (λ e. goes g UnlockKernel (going_met g).0 refl refl (going_met g))
+      (λ e. goes g UnlockKernel (going_met g).0 refl refl (assumption (going_met g)))
 
   -- what unlock_pi answers to the owner
   answer_owner : has_mutex s m ≡ true → (cell_at s m).word.number ≡ t → (if (cell_at s m).state == 0 then true else (cell_at s m).state == t) ≡ true → unlock_pi_answer t m s ≡ Ok (record {})
