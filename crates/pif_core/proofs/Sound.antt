@@ -13,6 +13,7 @@ use Rattle.pif_simulation.proofs.Waiting.{names, Once, once_cons, unnamed-from_0
 use Rattle.pif_simulation.proofs.Owning.{next_none}
 use Rattle.pif_simulation.proofs.Projection.{has_thread_above_0, has_thread_below}
 use Rattle.pif_core.specs.Room.{HasRoom}
+use Rattle.pif_simulation.proofs.Hole.{each_thread}
 
 flipped : (q x : ℕ) → eqb q x ≡ (x == q)
 flipped q x = grind (arith, nat_tests)
@@ -51,7 +52,7 @@ waiter_known s u h named = (λ z. nobody z, by_place (cases_lt u (length s.rows)
   where
     unqueued : row_at s u ≡ no_row → ⊥
     unqueued e =
-        false≢true (sym (unnamed-from_0 s.waiters u h.all.somewhere ((h.all.threads u (λ e. e)).queue ∙ ap (λ (r : Row). queued_on r.status) e)) ∙ named)
+        false≢true (sym (unnamed-from_0 s.waiters u h.all.somewhere ((each_thread h u).queue ∙ ap (λ (r : Row). queued_on r.status) e)) ∙ named)
 
     nobody : u ≡ 0 → ⊥
     nobody z = unqueued (ap (row_at s) z ∙ h.all.shape.nobody)
@@ -63,7 +64,7 @@ waiter_known s u h named = (λ z. nobody z, by_place (cases_lt u (length s.rows)
 -- who is in the run queue was added
 ready_known : (s : Table) (t : ℕ) → IsSound s → names t s.ready ≡ true → (t ≢ 0) × (t < length s.rows)
 ready_known s t h named =
-    let known : has_thread s t ≡ true = by_test (has_thread s t) refl (sym (h.all.threads t (λ e. e)).ready ∙ named) in
+    let known : has_thread s t ≡ true = by_test (has_thread s t) refl (sym (each_thread h t).ready ∙ named) in
     (has_thread_above_0 s t known, has_thread_below s t known)
   where
     by_test : (b : Bool) → has_thread s t ≡ b → (if b then is_ready (row_at s t).status else false) ≡ true → has_thread s t ≡ true

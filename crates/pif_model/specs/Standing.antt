@@ -60,8 +60,8 @@ world_of s x = record { threads = map thread_of s.rows; mutexes = map mutex_of s
 
 -- THE INVARIANT
 
--- a fact on which a call rests at a place: of its thread's status and of its mutex. None is such that a step of another
--- thread could end it
+-- a fact on which a call rests at a place: of its thread's status and of its mutex. No step of another thread ends it,
+-- but for one that hands the mutex to this thread
 pub data Need : Type 0 where
   -- the thread may run
   MayRun : Need

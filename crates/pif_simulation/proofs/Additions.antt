@@ -22,7 +22,7 @@ use Rattle.pif_model.specs.Standing.{Shadow, no_shadow, LineIsSound, QueueIsSoun
 use Rattle.pif_simulation.proofs.Waiting.{by_test, names, pairs, once_push, named-push, waited-from_pair, or_false}
 use Rattle.pif_simulation.proofs.Kept.{from_within}
 use Rattle.pif_simulation.proofs.Projection.{within, has_thread_below}
-use Rattle.pif_simulation.proofs.Hole.{put_ready, push_row, push_cell, excuse, admit, row_pushed_else, cell_pushed_else, effective_same, leveled_same}
+use Rattle.pif_simulation.proofs.Hole.{put_ready, push_row, push_cell, row_pushed_else, cell_pushed_else, effective_same, leveled_same, each_thread, excuse_one, admit_last}
 use Rattle.pif_simulation.proofs.Steps.{Keeps, knows}
 use Rattle.pif_simulation.proofs.Chains.{effective_with_more, effective_of_more}
 
@@ -146,7 +146,7 @@ module _ (s : Table) (p : ℕ) (h : IsSound s) where
 
   -- the new thread was not in the run queue
   new_not_ready : names (length s.rows) s.ready ≡ false
-  new_not_ready = (h.all.threads (length s.rows) (λ e. e)).ready ∙ ap (λ b. if b then is_ready (row_at s (length s.rows)).status else false) new_not_there
+  new_not_ready = (each_thread h (length s.rows)).ready ∙ ap (λ b. if b then is_ready (row_at s (length s.rows)).status else false) new_not_there
 
   -- what is at a wrong level in the run queue
   abbrev misplaced : Table → ℕ → ℕ × ℕ → Bool
@@ -168,7 +168,7 @@ module _ (s : Table) (p : ℕ) (h : IsSound s) where
   new_thread_sound : ThreadIsSound (thread_added p s) (length s.rows)
   new_thread_sound = record {
     row = λ e. subst (RowIsSound (has_mutex s) (cell_at s) (length s.rows)) (sym row_new) (record { living = refl; line = refl; queue = tt });
-    queue = (h.all.threads (length s.rows) (λ e. e)).queue ∙ sym (queues_same (length s.rows));
+    queue = (each_thread h (length s.rows)).queue ∙ sym (queues_same (length s.rows));
     ready = named-push s.ready (length s.rows) p (length s.rows) ∙ ap₂ (λ a b. a || b) new_not_ready (eq-eqb (length s.rows) (length s.rows) refl)
         ∙ sym (ap₂ (λ b (r : Row). if b then is_ready r.status else false) new_there row_new);
   }
@@ -180,9 +180,9 @@ module _ (s : Table) (p : ℕ) (h : IsSound s) where
   -- a table with a thread more is sound
   pub thread_added_sound : has_thread_room s ≡ true → IsSound (thread_added p s)
   thread_added_sound room = record {
-    all = admit (put_ready (push_row (excuse h.all (λ u. u ≡ length s.rows) (λ u x. absurd x)) new_row refl (has_room s.limits.threads (length s.rows) room))
+    all = admit_last (put_ready (push_row (excuse_one h (length s.rows)) new_row refl (has_room s.limits.threads (length s.rows) room))
         (s.ready ++ (length s.rows, p) ∷ []) others_ready (once_push s.ready (length s.rows, p) new_not_ready h.all.ready_once))
-        (λ u. ⊥) (length s.rows) (λ u x. inl x) new_thread_sound;
+        new_thread_sound;
     level = levels;
   }
 
@@ -211,7 +211,7 @@ queued_on_known s u m Stopped l q k e z = absurd (z (sym e))
 waiter_known : (s : Table) → IsSound s → (m : ℕ) → m ≢ 0 → has_waiter s.waiters m ≡ true → has_mutex s m ≡ true
 waiter_known s h m z k =
     let r = some_waiter s.waiters m k in
-    let e : queued_on (row_at s r.0).status ≡ m = sym (h.all.threads r.0 (λ e. e)).queue ∙ waited-from_pair s.waiters r.0 m h.all.once r.1 in
+    let e : queued_on (row_at s r.0).status ≡ m = sym (each_thread h r.0).queue ∙ waited-from_pair s.waiters r.0 m h.all.once r.1 in
     by_test (λ b. has_thread s r.0 ≡ b → has_mutex s m ≡ true) (has_thread s r.0)
     (λ x y. queued_on_known s r.0 m (row_at s r.0).status (row_at s r.0).line (knows s r.0 h y).queue (knows s r.0 h y).line e z)
     (λ x y. absurd (z (sym e ∙ nowhere r.0 y))) refl

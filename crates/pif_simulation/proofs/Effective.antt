@@ -11,6 +11,7 @@ use Rattle.pif_model.specs.declared.lines.Line.{Line}
 use Rattle.pif_model.specs.Standing.{Shadow, thread_of, mutex_of, world_of, IsSound}
 use Rattle.pif_simulation.proofs.Places.{mapped_at}
 use Rattle.pif_simulation.proofs.Waiting.{by_test, paired-from_waited, has_waiter-from_pair}
+use Rattle.pif_simulation.proofs.Hole.{each_thread}
 
 -- what a change of one place keeps of that place, it keeps of every place
 pub kept_at : {A X : Type 0} (f : A → X) (l : List A) (t : ℕ) (y d : A) → f y ≡ f (get_or l t d) → (u : ℕ) → f (get_or (set l t y) u d) ≡ f (get_or l u d)
@@ -48,7 +49,7 @@ state_is_number s h u = ⊎_elim at_none somewhere (cases_eq (waited_by s.waiter
 -- a thread waits in the kernel for whom it waits in the POSIX machine
 pub waits_seen : (s : Table) (shadow : Shadow) → IsSound s → kernel_waits_for s ≡ waits_for (world_of s shadow)
 waits_seen s shadow h = fun_ext (λ u.
-    ap (λ m. (cell_at s m).state) (sym (h.all.threads u (λ e. e)).queue) ∙ state_is_number s h u
+    ap (λ m. (cell_at s m).state) (sym (each_thread h u).queue) ∙ state_is_number s h u
     ∙ sym (ap (λ (m : Mutex). m.owner) (mapped_at mutex_of s.cells (waited_by s.waiters u) no_cell)))
 
 -- both machines have the same base priorities

@@ -20,7 +20,7 @@ use Rattle.pif_simulation.proofs.Places.{mapped_at}
 use Rattle.pif_simulation.proofs.Waiting.{by_test, names, or_true, or_false, waited-from_pair, waited_by-without_same, waited_by-without_other, once_push, named-push, next-is_waiter}
 use Rattle.pif_simulation.proofs.Effective.{next_seen, next-with_progress, settled_line}
 use Rattle.pif_simulation.proofs.Kept.{above_0, below}
-use Rattle.pif_simulation.proofs.Hole.{put_row, put_cell, put_ready, excuse, admit, left_waiters, settle, ready-queued_on_nothing, ready-at_any_line}
+use Rattle.pif_simulation.proofs.Hole.{put_row, put_cell, put_ready, excuse, admit, left_waiters, settle, ready-queued_on_nothing, ready-at_any_line, each_thread, admit_last}
 use Rattle.pif_simulation.proofs.Steps.{knows, rests_ready}
 use Rattle.pif_simulation.proofs.Queue.{owner_seen}
 
@@ -67,7 +67,7 @@ next_waits s t m h a e n =
     let u = kernel_next s m in
     let m0 = above_0 m (length s.cells) k.0 in
     let w = waited-from_pair s.waiters u m h.all.once (next-is_waiter (kernel_effective s) s.waiters m (waiter-from_state s m h k.0 n)) in
-    let q : queued_on (row_at s u).status ≡ m = sym (h.all.threads u (λ e. e)).queue ∙ w in
+    let q : queued_on (row_at s u).status ≡ m = sym (each_thread h u).queue ∙ w in
     let x = queued-from_number (row_at s u).status m m0 q in
     let known = waiter-known s u m h m0 q in
     record {
@@ -133,7 +133,7 @@ module _ (s : Table) (t u m : ℕ) (w : IsWaiter s t u m) (h : IsSound s) (a : h
   -- t is sound then
   giver_sound : ThreadIsSound after t
   giver_sound =
-      let b = h.all.threads t (λ x. x) in
+      let b = each_thread h t in
       record {
         row = λ y. subst (RowIsSound (has_mutex after) (cell_at after) t) (sym row_here)
             (record { living = (b.row a).living; line = known.1; queue = ready-at_any_line (row_at s t).status Idle known.1 });
@@ -175,7 +175,7 @@ module _ (s : Table) (t u m : ℕ) (w : IsWaiter s t u m) (h : IsSound s) (a : h
         contended = λ y. refl;
       }
 
-  -- who is neither of the two
+  -- the two threads that the step moves
   abbrev Two : ℕ → Type 0
   Two k = (k ≡ t) ⊎ (k ≡ u)
 
@@ -185,7 +185,7 @@ module _ (s : Table) (t u m : ℕ) (w : IsWaiter s t u m) (h : IsSound s) (a : h
 
   -- u was not in the run queue
   unready : names u s.ready ≡ false
-  unready = (h.all.threads u (λ x. x)).ready ∙ rw (w.known, w.status) refl
+  unready = (each_thread h u).ready ∙ rw (w.known, w.status) refl
 
   -- the run queue without the two
   pushed : (k : ℕ) → (Two k → ⊥) → names k (s.ready ++ (u, woken_level s u m) ∷ []) ≡ names k s.ready
@@ -193,7 +193,7 @@ module _ (s : Table) (t u m : ℕ) (w : IsWaiter s t u m) (h : IsSound s) (a : h
 
   -- the table is sound
   pub sound_when_handed : IsSound (settled after)
-  sound_when_handed = settle (admit (admit
+  sound_when_handed = settle (admit_last (admit
       (put_row (put_ready (put_row (put_cell without_two m (handed_cell s u m) (without s.waiters u) known.0
       (left_waiters without_two u m (inr refl) w.waits) handed_cell_sound
       (λ k n z. record { kind = refl; owner = λ o. absurd (n (inl (sym o ∙ known.2))); other = λ o x. n (inr (sym x)) }))
@@ -201,7 +201,7 @@ module _ (s : Table) (t u m : ℕ) (w : IsWaiter s t u m) (h : IsSound s) (a : h
       (s.ready ++ (u, woken_level s u m) ∷ []) pushed (once_push s.ready (u, woken_level s u m) unready h.all.ready_once))
       t (closed_row s t u) still_there (inl refl))
       (λ k. k ≡ u) t (λ k x. x) giver_sound)
-      (λ k. ⊥) u (λ k x. inl x) taker_sound)
+      taker_sound)
     where
       still_there : has_thread (woken_at s u m) t ≡ true
       still_there = ap (λ n. if t == 0 then false else nat_lt t n) (length-set s.rows u (woken_row s u)) ∙ a

@@ -255,6 +255,18 @@ module _ {Excused : ℕ → Type 0} {s : Table} (h : SoundBut Excused s) where
     once = once_without s.waiters t h.once;
   }
 
+-- what holds of each thread of a sound table
+pub each_thread : {s : Table} → IsSound s → (t : ℕ) → ThreadIsSound s t
+each_thread h t = h.all.threads t (λ e. e)
+
+-- in a sound table one thread may be excused
+pub excuse_one : {s : Table} → IsSound s → (t : ℕ) → SoundBut (λ u. u ≡ t) s
+excuse_one h t = excuse h.all (λ u. u ≡ t) (λ u e. absurd e)
+
+-- the last excused thread that is sound is excused no more
+pub admit_last : {s : Table} {t : ℕ} → SoundBut (λ u. u ≡ t) s → ThreadIsSound s t → SoundBut (λ u. ⊥) s
+admit_last {s} {t} h sound = admit h (λ u. ⊥) t (λ u e. inl e) sound
+
 -- who may run is queued on nothing
 pub ready-queued_on_nothing : (x : Status) → is_ready x ≡ true → queued_on x ≡ 0
 ready-queued_on_nothing (Ready w) h = refl

@@ -27,7 +27,7 @@ use Rattle.pif_model.specs.Table.{Table, Row, Cell, no_row, no_cell, row_at, cel
 use Rattle.pif_model.specs.Lines.{Outcome, goes_to, answers}
 use Rattle.pif_model.specs.Standing.{Shadow, MeetsAll, needs, belongs, call_at, progress_at, mutex_of, world_of, LineIsSound, RowIsSound, CellIsSound, ThreadIsSound, IsSound}
 use Rattle.pif_simulation.proofs.Kept.{Spares, below}
-use Rattle.pif_simulation.proofs.Hole.{unwritten, put_row, put_cell, excuse, admit, same_waiters, ready-at_any_line, effective_same, waits_same, leveled_same}
+use Rattle.pif_simulation.proofs.Hole.{unwritten, put_row, put_cell, same_waiters, ready-at_any_line, effective_same, waits_same, leveled_same, each_thread, excuse_one, admit_last}
 use Rattle.pif_simulation.proofs.Effective.{kept_at}
 use Rattle.pif_simulation.proofs.Owning.{next_none}
 use Rattle.pif_simulation.proofs.Projection.{thread_seen, mutex_seen, row_seen, cell_seen, progress_seen, closed_progressed, call_progressed}
@@ -203,10 +203,10 @@ module _ (s : Table) (t m : ℕ) (q : Request) (a : Progress) (o : Move) (h : Is
   -- the table is sound after the move
   pub move_sound : IsSound after
   move_sound = record {
-    all = admit
-        (put_row (put_cell (excuse h.all (λ u. u ≡ t) (λ u x. absurd x)) m o.cell s.waiters e
-        (same_waiters (excuse h.all (λ u. u ≡ t) (λ u x. absurd x)) m) l.cell l.spares) t o.row k refl)
-        (λ u. ⊥) t (λ u x. inl x) (mover_sound (h.all.threads t (λ x. x)));
+    all = admit_last
+        (put_row (put_cell (excuse_one h t) m o.cell s.waiters e
+        (same_waiters (excuse_one h t) m) l.cell l.spares) t o.row k refl)
+        (mover_sound (each_thread h t));
     level = leveled_same s after refl
         (effective_same s after (length-set s.rows t o.row) (kept_at (λ (r : Row). r.base) s.rows t o.row no_row l.base)
         (waits_same s after (kept_at (λ (r : Row). queued_on r.status) s.rows t o.row no_row (ap queued_on l.status)) (kept_at (λ (c : Cell). c.state) s.cells m o.cell no_cell l.state)))

@@ -15,6 +15,7 @@ use Rattle.pif_model.specs.Posix.Health.{Fine, Inconsistent}
 use Rattle.pif_model.specs.Table.{Table, no_cell, row_at, cell_at, has_thread, has_mutex, is_ready, kernel_effective, kernel_pick}
 use Rattle.pif_model.specs.Standing.{Shadow, IsSound, CellIsSound, IsPick, IsPossible, world_of, thread_of, mutex_of, health_of}
 use Rattle.pif_simulation.proofs.Places.{mapped_at}
+use Rattle.pif_simulation.proofs.Hole.{each_thread}
 
 -- whether t stands in a list of pairs
 abbrev stands_in : ℕ → List (ℕ × ℕ) → Bool
@@ -97,7 +98,7 @@ pick_is s shadow h =
 
     runs : stands_in (kernel_pick s) s.ready ≡ true → (is_thread (world_of s shadow) (kernel_pick s) ≡ true) × (rests (world_of s shadow) (kernel_pick s) ≡ false)
     runs e =
-        let p = both (has_thread s (kernel_pick s)) (is_ready (row_at s (kernel_pick s)).status) (sym (h.all.threads (kernel_pick s) (λ e. e)).ready ∙ e) in
+        let p = both (has_thread s (kernel_pick s)) (is_ready (row_at s (kernel_pick s)).status) (sym (each_thread h (kernel_pick s)).ready ∙ e) in
         (known_seen s shadow (kernel_pick s) ∙ p.0, rests_seen s shadow h (kernel_pick s) p.0 ∙ ap (λ (b : Bool). if b then false else true) p.1)
 
     first : (s.ready ≡ []) ⊎ ((stands_in (kernel_pick s) s.ready ≡ true) × ((first_greatest s.ready).1 ≡ kernel_effective s (kernel_pick s)))
@@ -110,7 +111,7 @@ pick_is s shadow h =
     picked n = grind (arith, first, nothing, n)
 
     awake_stands : (t : ℕ) → has_thread s t ≡ true → rests (world_of s shadow) t ≡ false → stands_in t s.ready ≡ true
-    awake_stands t k awake = (h.all.threads t (λ e. e)).ready ∙ (ap (λ (b : Bool). if b then is_ready (row_at s t).status else false) k
+    awake_stands t k awake = (each_thread h t).ready ∙ (ap (λ (b : Bool). if b then is_ready (row_at s t).status else false) k
         ∙ not_resting (is_ready (row_at s t).status) (sym (rests_seen s shadow h t k) ∙ awake))
 
     found : (t : ℕ) → stands_in t s.ready ≡ true → (stands_in (kernel_pick s) s.ready ≡ true) × ((first_greatest s.ready).1 ≡ kernel_effective s (kernel_pick s))
@@ -120,7 +121,7 @@ pick_is s shadow h =
     greatest t k awake =
         let e = awake_stands t k awake in
         let f = found t e in
-        let p = both (has_thread s (kernel_pick s)) (is_ready (row_at s (kernel_pick s)).status) (sym (h.all.threads (kernel_pick s) (λ e. e)).ready ∙ f.0) in (
+        let p = both (has_thread s (kernel_pick s)) (is_ready (row_at s (kernel_pick s)).status) (sym (each_thread h (kernel_pick s)).ready ∙ f.0) in (
           somebody (kernel_pick s) (length s.rows) p.0,
           subst (λ (n : ℕ). n ≤ effective_of (world_of s shadow) (kernel_pick s)) (same t)
               (subst (λ (n : ℕ). kernel_effective s t ≤ n) (f.1 ∙ same (kernel_pick s)) (first_above (kernel_effective s) s.ready levels t e)),

@@ -14,6 +14,7 @@ use Rattle.pif_model.specs.Standing.{Shadow, IsSound, HasEffective, world_of, th
 use Rattle.pif_simulation.proofs.Places.{mapped_at}
 use Rattle.pif_simulation.proofs.Among.{is_among}
 use Rattle.pif_simulation.proofs.Following.{Follows, reaches-from_within, within-from_reaches, within_here, within_alone, greatest_where_above, greatest_where_at, IsGreatestAt}
+use Rattle.pif_simulation.proofs.Hole.{each_thread}
 
 -- what a state has to keep for its chains of waiting to be those of a function: a thread waits once, nobody waits for
 -- nothing, and owners were added
@@ -128,7 +129,7 @@ pub IsOrderly-world_of : (s : Table) (shadow : Shadow) → IsSound s → IsOrder
 IsOrderly-world_of s shadow h =
     record {
       once = h.all.once;
-      nobody_waits = (h.all.threads 0 (λ e. e)).queue ∙ ap (λ (r : Row). queued_on r.status) h.all.shape.nobody;
+      nobody_waits = (each_thread h 0).queue ∙ ap (λ (r : Row). queued_on r.status) h.all.shape.nobody;
       no_owner = owner_seen s shadow 0 ∙ ap (λ (c : Cell). c.word.number) h.all.shape.no_mutex;
       owners = λ m n. thread_seen s shadow (mutex_at (world_of s shadow) m).owner
           ∙ subst (λ (o : ℕ). has_thread s o ≡ true) (sym (owner_seen s shadow m)) (word_owner m (λ e. n (owner_seen s shadow m ∙ e)));

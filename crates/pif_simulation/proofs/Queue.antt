@@ -23,7 +23,7 @@ use Rattle.pif_simulation.proofs.Places.{mapped_at}
 use Rattle.pif_simulation.proofs.Waiting.{by_test, names, or_true, waited_by-append_same, once_without, named-without_same, named-without_other, has_waiter-push, named-push}
 use Rattle.pif_simulation.proofs.Effective.{leads_seen, settled_line}
 use Rattle.pif_simulation.proofs.Kept.{below}
-use Rattle.pif_simulation.proofs.Hole.{put_row, put_cell, put_ready, excuse, admit, joined_waiters, settle}
+use Rattle.pif_simulation.proofs.Hole.{put_row, put_cell, put_ready, joined_waiters, settle, excuse_one, admit_last}
 use Rattle.pif_simulation.proofs.Steps.{knows, ready-unnamed}
 
 -- THE TABLE
@@ -109,16 +109,16 @@ module _ (s : Table) (t m : ℕ) (h : IsSound s) (a : has_thread s t ≡ true) (
 
   -- the invariant without t
   without_t : SoundBut (λ u. u ≡ t) s
-  without_t = excuse h.all (λ u. u ≡ t) (λ u x. absurd x)
+  without_t = excuse_one h t
 
   -- the table is sound
   pub sound_when_queued : IsSound (settled (queued_at t m s))
-  sound_when_queued = settle (admit
+  sound_when_queued = settle (admit_last
       (put_ready (put_row (put_cell without_t m (queued_cell s m) (s.waiters ++ (t, m) ∷ []) (knows_at_kernel s t m h a e).0
       (joined_waiters without_t t m refl unnamed) queued_cell_sound (λ u d z. record { kind = refl; owner = λ o. o; other = λ o. o }))
       t (queued_row s t m) a refl)
       (without s.ready t) (λ u d. named-without_other s.ready t u d) (once_without s.ready t h.all.ready_once))
-      (λ u. ⊥) t (λ u x. inl x) queued_sound)
+      queued_sound)
 
 -- WHAT THE KERNEL'S ANSWER SAYS
 

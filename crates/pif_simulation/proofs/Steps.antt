@@ -22,7 +22,7 @@ use Rattle.pif_model.specs.Table.{Table, Cell, row_at, cell_at, has_thread, has_
 use Rattle.pif_model.specs.Lines.{Outcome, is_open}
 use Rattle.pif_model.specs.Standing.{Shadow, call_at, progress_at, thread_of, world_of, belongs, MeetsAll, needs, LineIsSound, QueueIsSound, RowIsSound, IsSound}
 use Rattle.pif_simulation.proofs.Waiting.{names, unnamed-from_0, paired-from_waited, named-from_pair}
-use Rattle.pif_simulation.proofs.Hole.{ready-queued_on_nothing}
+use Rattle.pif_simulation.proofs.Hole.{ready-queued_on_nothing, each_thread}
 use Rattle.pif_simulation.proofs.Projection.{thread_seen, call_seen, refusal_seen, has_thread_below, has_mutex_above_0, closed}
 
 -- v follows s with this shadow by this entry: it is sound, both have the same limits, and what they show, v with the
@@ -70,11 +70,11 @@ rests_seen s shadow t = ap (λ (x : Thread). if is_stuck x.call then true else n
 
 -- who may run is not among the waiters
 pub ready-unnamed : (s : Table) (t : ℕ) → IsSound s → is_ready (row_at s t).status ≡ true → names t s.waiters ≡ false
-ready-unnamed s t h r = unnamed-from_0 s.waiters t h.all.somewhere ((h.all.threads t (λ e. e)).queue ∙ ready-queued_on_nothing (row_at s t).status r)
+ready-unnamed s t h r = unnamed-from_0 s.waiters t h.all.somewhere ((each_thread h t).queue ∙ ready-queued_on_nothing (row_at s t).status r)
 
 -- what a thread that was added knows
 pub knows : (s : Table) (t : ℕ) → IsSound s → has_thread s t ≡ true → RowIsSound (has_mutex s) (cell_at s) t (row_at s t)
-knows s t h k = (h.all.threads t (λ e. e)).row k
+knows s t h k = (each_thread h t).row k
 
 -- a thread that may run doesn't rest
 pub rests_ready : (s : Table) (shadow : Shadow) (t : ℕ) → IsSound s → has_thread s t ≡ true → is_ready (row_at s t).status ≡ true → rests (world_of s shadow) t ≡ false
@@ -84,7 +84,7 @@ rests_ready s shadow t h k e = rests_seen s shadow t ∙ ap₂ (λ a b. if a the
 
 -- a thread that may not run rests
 pub rests_not_ready : (s : Table) (shadow : Shadow) (t : ℕ) → IsSound s → has_thread s t ≡ true → is_ready (row_at s t).status ≡ false → rests (world_of s shadow) t ≡ true
-rests_not_ready s shadow t h k e = rests_seen s shadow t ∙ go (row_at s t).status (row_at s t).line e (knows s t h k).line (knows s t h k).queue (h.all.threads t (λ e. e)).queue
+rests_not_ready s shadow t h k e = rests_seen s shadow t ∙ go (row_at s t).status (row_at s t).line e (knows s t h k).line (knows s t h k).queue (each_thread h t).queue
   where
     either : (b : Bool) → (if b then true else true) ≡ true
     either true = refl

@@ -16,7 +16,7 @@ use Rattle.pif_model.specs.Table.{Table, Row, no_row, row_at, cell_at, has_threa
 use Rattle.pif_model.specs.Kernel.{stopped}
 use Rattle.pif_model.specs.Standing.{Shadow, RowIsSound, ThreadIsSound, IsSound, world_of}
 use Rattle.pif_simulation.proofs.Waiting.{by_test, named-without_same, named-without_other, once_without}
-use Rattle.pif_simulation.proofs.Hole.{put_row, put_ready, excuse, admit, ready-queued_on_nothing, effective_same, waits_same}
+use Rattle.pif_simulation.proofs.Hole.{put_row, put_ready, ready-queued_on_nothing, effective_same, waits_same, each_thread, excuse_one, admit_last}
 use Rattle.pif_simulation.proofs.Effective.{kept_at}
 use Rattle.pif_simulation.proofs.Steps.{knows}
 use Rattle.pif_simulation.proofs.Projection.{has_thread_below, row_seen, progress_seen}
@@ -62,10 +62,10 @@ stopped_not_ready s t l k = ap (λ (r : Row). is_ready r.status) (stopped_here s
 -- a table is sound after a thread that might run has stopped
 pub stop_kept : (s : Table) (t m : ℕ) → IsSound s → has_thread s t ≡ true → is_ready (row_at s t).status ≡ true → has_mutex s m ≡ true → IsSound (stopped_at t (At (Lock m) LockStopped) s)
 stop_kept s t m h k ready named = record {
-  all = admit
-      (put_ready (put_row (excuse h.all (λ u. u ≡ t) (λ u x. absurd x)) t r k refl)
+  all = admit_last
+      (put_ready (put_row (excuse_one h t) t r k refl)
       (without s.ready t) (λ u n. named-without_other s.ready t u n) (once_without s.ready t h.all.ready_once))
-      (λ u. ⊥) t (λ u x. inl x) there;
+      there;
   level = λ u. ap (λ n. list_any (λ (r : ℕ × ℕ). if r.0 == u then (if r.1 == n then false else true) else false) (without s.ready t))
       (effective_same s v (length-set s.rows t r) (kept_at (λ (r : Row). r.base) s.rows t r no_row refl)
       (waits_same s v (kept_at (λ (r : Row). queued_on r.status) s.rows t r no_row (sym unqueued)) (λ n. refl)) u)
@@ -87,7 +87,7 @@ stop_kept s t m h k ready named = record {
     there : ThreadIsSound v t
     there = record {
       row = λ e. subst (RowIsSound (has_mutex v) (cell_at v) t) (sym here) (record { living = (knows s t h k).living; line = (named, refl, (refl, tt)); queue = tt });
-      queue = (h.all.threads t (λ e. e)).queue ∙ unqueued ∙ sym (ap (λ (r : Row). queued_on r.status) here);
+      queue = (each_thread h t).queue ∙ unqueued ∙ sym (ap (λ (r : Row). queued_on r.status) here);
       ready = named-without_same s.ready t ∙ sym (ap₂ (λ b (r : Row). if b then is_ready r.status else false) (has_thread_stopped s t (At (Lock m) LockStopped) t ∙ k) here);
     }
 
