@@ -53,9 +53,9 @@ pub record Move : Type 0 where
 abbrev pub moved : ℕ → ℕ → Move → Table → Outcome
 moved t m o s = record { seen = o.seen; after = with_row t o.row (with_cell m o.cell s) }
 
--- the move to another place of the call
-abbrev pub going_to : Request → Place → Sight → Move
-going_to q p v = record { seen = Went; row = record v.row { line = At q p }; cell = v.cell }
+-- the move to another place of the call that leaves this mutex
+abbrev pub going_to : Request → Place → Cell → Sight → Move
+going_to q p c v = record { seen = Went; row = record v.row { line = At q p }; cell = c }
 
 -- the move that closes the call with this answer and leaves this mutex
 abbrev pub answering : ℕ → Cell → Sight → Move
@@ -132,18 +132,18 @@ pub record IsLocal (added : ℕ → Bool) (waited : Bool) (t m : ℕ) (q : Reque
   pub shows : Shows q a o.seen (call_at o.row.line o.row.status)
 
 module _ {added : ℕ → Bool} {waited : Bool} {t m : ℕ} {q : Request} {v : Sight} (ready : is_ready v.row.status ≡ true) (named : named_by q ≡ m) where
-  -- to go to a place where all that the call rests on is met
-  pub going_is_local : (p : Place) (a : Progress) → CellIsSound added waited v.cell → belongs q p ≡ true → progress_at p v.row.status ≡ a → MeetsAll t v.row.status v.cell (needs p)
-      → IsLocal added waited t m q a v (going_to q p v)
-  going_is_local p a sound ours same met = record {
+  -- to go to a place where all that the call rests on is met, and leave a mutex that spares the others
+  pub going_is_local : (p : Place) (a : Progress) (c : Cell) → CellIsSound added waited c → c.state ≡ v.cell.state → ((u : ℕ) → u ≢ t → u ≢ 0 → Spares u v.cell c)
+      → belongs q p ≡ true → progress_at p v.row.status ≡ a → MeetsAll t v.row.status c (needs p) → IsLocal added waited t m q a v (going_to q p c v)
+  going_is_local p a c sound state spares ours same met = record {
     ready = ready;
     base = refl;
     living = refl;
     status = refl;
     knows = (named, ours, met);
     cell = sound;
-    state = refl;
-    spares = λ u d z. unwritten u v.cell v.cell refl;
+    state = state;
+    spares = spares;
     shows = ap (λ b. Some (record { request = q; progress = b })) same;
   }
 
@@ -279,7 +279,8 @@ module _ {s : Table} {shadow : Shadow} {t : ℕ} {q : Request} {p : Place} (g : 
   pub goes : (a : Place) → is_ready (row_at s t).status ≡ true → belongs q a ≡ true → progress_at a (row_at s t).status ≡ progress_at p (row_at s t).status
       → MeetsAll t (row_at s t).status (cell_at s (named_by q)) (needs a) → GoKeeps s shadow t (goes_to t q a s)
   goes a ready ours same met = subst (Keeps s shadow (Happened (Go t) Went)) (cell_stays (record (row_at s t) { line = At q a }))
-      (local_kept (progress_at p (row_at s t).status) (going_to q a (sight s t (named_by q))) (going_is_local ready refl a _ going_cell ours same met) (nothing refl refl))
+      (local_kept (progress_at p (row_at s t).status) (going_to q a (cell_at s (named_by q)) (sight s t (named_by q)))
+      (going_is_local ready refl a _ (cell_at s (named_by q)) going_cell refl (λ u d z. unwritten u (cell_at s (named_by q)) (cell_at s (named_by q)) refl) ours same met) (nothing refl refl))
 
   -- to answer with an effect on the call alone
   pub answers_same : (n : ℕ) → is_ready (row_at s t).status ≡ true

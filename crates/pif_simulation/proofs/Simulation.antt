@@ -64,7 +64,7 @@ begin_kept s shadow t q h e =
     let a = begin_allowed (has_thread s t) (is_open (row_at s t).line) (has_mutex s (named_by q)) e in
     let ready : is_ready (row_at s t).status ≡ true = subst (LineIsSound (has_mutex s) (cell_at s) t (row_at s t).status) (idle_line (row_at s t).line a.1) (knows s t h a.0).line in
     let m : ℕ = named_by q in
-    let o : Move = going_to q (first_place q) (sight s t m) in
+    let o : Move = going_to q (first_place q) (cell_at s m) (sight s t m) in
     let c = h.all.cells m a.2 in
     record {
       sound = subst IsSound (λ i. with_row t o.row (record s { cells = set-get_or s.cells m no_cell i }))
