@@ -1,8 +1,8 @@
 -- A thread that stops for good: the table stays sound, and the world shows a call that waits for good.
-use Rattle.std.proofs.Common.{◌≡◌, ◌≢◌, ℕ, Bool, true, false, cond, ◌==◌, nat_lt, List, [], ◌∷◌, set, refl, sym, ap, ap₂, ◌∙◌, subst, if◌then◌else◌, inl}
+use Rattle.std.proofs.Common.{◌≡◌, ℕ, Bool, true, false, cond, ◌==◌, nat_lt, List, [], ◌∷◌, set, refl, sym, ap, ap₂, ◌∙◌, subst, if◌then◌else◌}
 use Rattle.std.specs.List.{list_any}
 use Rattle.std.proofs.lemmas.Bool.{or_parts, or_from}
-use Rattle.std.proofs.lemmas.List.{length-set, get_or-set_same, get_or-set_other, set-set}
+use Rattle.std.proofs.lemmas.List.{length-set, get_or-set_same, set-set}
 use Rattle.pif_types.specs.declared.requests.Request.TheVariants.{Lock}
 use Rattle.pif_model.specs.declared.lines.Line.{Line}
 use Rattle.pif_model.specs.declared.lines.Line.TheVariants.{At}
