@@ -7,6 +7,7 @@ use Rattle.clap.specs.declared.error.kind.ErrorKind.TheVariants.{DisplayHelp}
 use Rattle.pif_cli.specs.declared.faults.CliFault.{CliFault}
 use Rattle.pif_cli.specs.declared.faults.CliFault.TheVariants.{Read, Write, NoMemory, Script}
 use Rattle.pif_cli.specs.Running.{RunsTo}
+use Rattle.pif_cli.specs.Runs.{WritesPart}
 
 -- the program's commands, as clap has them: `run` alone, which must be given
 abbrev pub program : App
@@ -30,9 +31,9 @@ abbrev pub run_status : Result (Unit {0}) CliFault → ℕ
 run_status (Ok x) = 0
 run_status (Err e) = fault_status e
 
--- something was written
-abbrev pub Grows : (held holds : Option (List ℕ)) → Type 0
-Grows held holds = (text : List ℕ) × Appends held holds text
+-- a text was shown, which has this status where all of it was written, or else a write failed after a proper part of it
+abbrev pub Shows : (held holds : Option (List ℕ)) → (text : List ℕ) → (shown status : ℕ) → Type 0
+Shows held holds text shown status = ((status ≡ shown) × Appends held holds text) ⊎ ((status ≡ 3) × WritesPart held holds text)
 
 -- a run took place, and nothing was written to the errors
 abbrev pub Ran : (before after held holds errors_held errors_hold : Option (List ℕ)) → ℕ → Type 0
@@ -45,11 +46,11 @@ HadNoMemory held holds errors_held errors_hold status = (status ≡ 4) × Keeps 
 
 -- help was shown, or a write failed in it
 abbrev pub ShowedHelp : (held holds errors_held errors_hold : Option (List ℕ)) → ℕ → Type 0
-ShowedHelp held holds errors_held errors_hold status = ((status ≡ 0) ⊎ (status ≡ 3)) × Grows held holds × Keeps errors_held errors_hold
+ShowedHelp held holds errors_held errors_hold status = ((text : List ℕ) × Shows held holds text 0 status) × Keeps errors_held errors_hold
 
 -- the words were refused, or a write failed in it
 abbrev pub Refused : (held holds errors_held errors_hold : Option (List ℕ)) → ℕ → Type 0
-Refused held holds errors_held errors_hold status = ((status ≡ 1) ⊎ (status ≡ 3)) × Keeps held holds × Grows errors_held errors_hold
+Refused held holds errors_held errors_hold status = Keeps held holds × ((text : List ℕ) × Shows errors_held errors_hold text 1 status)
 
 -- words that are refused for this reason end the program so
 abbrev pub RefusedFor : ErrorKind → (held holds errors_held errors_hold : Option (List ℕ)) → ℕ → Type 0

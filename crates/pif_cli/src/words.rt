@@ -3,7 +3,7 @@ ghost use Rattle.std.specs.Io.KnownBytes.{Keeps};
 ghost use Rattle.clap.specs.Words.{app_of, FailsBy, kind_of};
 ghost use Rattle.clap.specs.declared.error.kind.ErrorKind.TheVariants.{DisplayHelp, MissingSubcommand};
 ghost use Rattle.pif_cli.specs.Running.{RunsTo};
-ghost use Rattle.pif_cli.specs.Words.{program, refusals_of, EndsBy, Grows, HadNoMemory, RefusedFor, fault_status};
+ghost use Rattle.pif_cli.specs.Words.{program, refusals_of, EndsBy, HadNoMemory, RefusedFor, Shows, fault_status};
 
 use crate::CliFault;
 use crate::reading::read_script;
@@ -73,8 +73,7 @@ fn read_words<S: AsStr>(alloc: Global, words: &[S]) -> Result<(), clap::Error>
 
 /// Shows a text. Answers `shown`, or 3 where the writer fails.
 fn show<W: Write>(text: &str, shown: u8, writer: &mut W) -> u8
-    ensures status { (result ≡ shown) ⊎ (result ≡ 3) }
-    ensures grows { Grows (W.contents writer.old) (W.contents writer.new) }
+    ensures { Shows (W.contents writer.old) (W.contents writer.new) text.now shown result }
 {
     match write_whole(writer, text.as_bytes()) {
         Ok(()) => shown,
