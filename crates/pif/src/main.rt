@@ -1,7 +1,10 @@
 //! The program `pif`: `pif_cli`'s `command` over the process's words, its standard streams and its exit status.
 #![tactic(auto)]
 
+ghost use Rattle.std.specs.Prelude.{◌≡◌, ◌≢◌, ◌⊎◌};
+
 use pif_cli::command;
+use std::io::ErrorKind;
 use std::process::ExitCode;
 use std::rt::Env;
 use std::{env, io};
@@ -33,10 +36,14 @@ fn words_of<R: Env + AllocGlobal>(rt: &R) -> io::Result<Vec<String>> {
 }
 
 /// The status where the words cannot be had. Says so on the standard error where one of them is no text.
-fn refuse(rt: &impl Eprint, kind: io::ErrorKind) -> u8 {
+fn refuse(rt: &impl Eprint, kind: ErrorKind) -> u8
+    ensures memory { kind ≡ ErrorKind.OutOfMemory → result ≡ NO_MEMORY }
+    ensures no_text { kind ≡ ErrorKind.InvalidData → (result ≡ REFUSED) ⊎ (result ≡ FAILED) }
+    ensures other { kind ≢ ErrorKind.OutOfMemory → kind ≢ ErrorKind.InvalidData → result ≡ FAILED }
+{
     match kind {
-        io::ErrorKind::OutOfMemory => NO_MEMORY,
-        io::ErrorKind::InvalidData => match eprintln!(rt; "error: a word is not UTF-8") {
+        ErrorKind::OutOfMemory => NO_MEMORY,
+        ErrorKind::InvalidData => match eprintln!(rt; "error: a word is not UTF-8") {
             Ok(()) => REFUSED,
             Err(_) => FAILED,
         },
