@@ -1,0 +1,72 @@
+#!/usr/bin/env bash
+# Refuses each allocation of the program in turn (`rt try --fail-alloc N`, which proves nothing), for a run, for help and
+# for a wrong word. Each time the status must be 4 with nothing written, or all must be as with no refusal: where room
+# for several things is refused, the standard library asks again for one. It fails at anything else, and is no part of
+# the gate. The program is built anew for each of the more than a hundred allocations, which takes a while.
+set -euo pipefail
+here="$(cd "$(dirname "$0")/.." && pwd)"
+script="$here/examples/holder_is_boosted_until_it_unlocks.pif"
+room="$(mktemp -d)"
+trap 'rm -rf "$room"' EXIT
+cd "$here/crates/pif"
+
+# So many refusals in a row that change nothing show that the program makes no more allocations.
+enough=4
+
+# Runs the program with allocation $2 refused, 0 for none, and the words behind it. What it wrote and its status stand in
+# the folder $1 then.
+try() {
+  local to="$1" number="$2"
+  shift 2
+  mkdir -p "$to"
+  rt try --fail-alloc "$number" -- "$@" < "$script" > "$to/output" 2> "$to/said" || true
+  sed -n 's/^run=ended status=\([0-9]*\) .*/\1/p' "$to/said" > "$to/status"
+  grep -v -E '^(allocations|checked|interpreter|rt): |^run=' "$to/said" > "$to/errors" || true
+}
+
+# Whether the runs of these two folders wrote the same and ended with the same status.
+are_same() {
+  cmp -s "$1/status" "$2/status" && cmp -s "$1/output" "$2/output" && cmp -s "$1/errors" "$2/errors"
+}
+
+# Refuses each allocation of the program in turn, with the words behind $2. $1 is its status with no refusal, and $2 a
+# folder.
+sweep() {
+  local status="$1" whole="$2/whole" refused="$2/refused" number=0 last=0 spared=() unchanged=()
+  shift 2
+  try "$whole" 0 "$@"
+  if [ "$(cat "$whole/status")" != "$status" ]; then
+    echo "pif $*: with no refusal the status is not $status" >&2
+    return 1
+  fi
+  while [ "${#unchanged[@]}" -lt "$enough" ]; do
+    number=$((number + 1))
+    try "$refused" "$number" "$@"
+    if are_same "$whole" "$refused"; then
+      unchanged+=("$number")
+    elif [ "$(cat "$refused/status")" = 4 ] && ! [ -s "$refused/output" ] && ! [ -s "$refused/errors" ]; then
+      spared+=("${unchanged[@]}")
+      unchanged=()
+      last="$number"
+    else
+      echo "pif $*: with allocation $number refused, status $(cat "$refused/status"), and it wrote:" >&2
+      cat "$refused/output" "$refused/said" >&2
+      return 1
+    fi
+  done
+  if [ "$last" = 0 ]; then
+    echo "pif $*: no refusal was seen" >&2
+    return 1
+  fi
+  echo "pif $*: $last allocations, each refused alone: status 4 and nothing written; as with no refusal: ${spared[*]:-none}"
+}
+
+sweeps=()
+sweep 0 "$room/run" run & sweeps+=("$!")
+sweep 0 "$room/help" --help & sweeps+=("$!")
+sweep 1 "$room/walk" walk & sweeps+=("$!")
+failed=0
+for it in "${sweeps[@]}"; do
+  wait "$it" || failed=1
+done
+exit "$failed"
