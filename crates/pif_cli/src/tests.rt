@@ -1,3 +1,4 @@
+mod chains;
 mod streams;
 
 use crate::command;

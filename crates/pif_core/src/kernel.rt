@@ -1,11 +1,11 @@
 ghost use Rattle.std.specs.Prelude.{◌≡◌, ◌<◌, ◌≤◌, ◌^◌, true, length};
-ghost use Rattle.pif_model.specs.Table.{has_thread, with_status};
-ghost use Rattle.pif_model.specs.Kernel.{lock_pi_answer, lock_pi_after, unlock_pi_answer, unlock_pi_after, queued_on_mutex, handed_to, stopped};
+ghost use Rattle.pif_model.specs.Table.{has_thread, with_status, with_base};
+ghost use Rattle.pif_model.specs.Kernel.{lock_pi_answer, lock_pi_after, unlock_pi_answer, unlock_pi_after, queued_on_mutex, handed_to, set_prio_answer, set_prio_after, stopped};
 ghost use Rattle.pif_core.specs.Room.{HasRoom, closed};
 
 use crate::state::{Row, State};
 use pif_model::{Status, Took, Woken};
-use pif_types::{Errno, MutexId, Tid};
+use pif_types::{Errno, MutexId, Prio, Tid};
 use pif_word::{hand_word, mark_word, number, taken_word};
 
 impl State {
@@ -44,6 +44,30 @@ impl State {
             let next = self.next_waiter(mutex);
             self.hand_to(next, mutex);
         }
+        Ok(())
+    }
+
+    /// The kernel call set_prio, sched_setparam(2) for one thread: this thread's base priority is `prio` from now on, and
+    /// it and all for whom it waits get their effective priorities. EINVAL for a priority outside 1 to 99, ESRCH for a
+    /// thread that is not living; a refused call changes nothing.
+    #[tactic(auto, unfolding(pif_model::specs::Kernel::set_prio_answer, pif_model::specs::Kernel::set_prio_after))]
+    pub(crate) fn set_prio(&mut self, thread: Tid, prio: u32) -> Result<(), Errno>
+        ensures answer { closed result ≡ set_prio_answer thread prio self.old }
+        ensures after { self.new ≡ set_prio_after thread prio (closed result) self.old }
+    {
+        let base = Prio::new(prio).ok_or(Errno::Invalid)?;
+        let row = self.row(thread.get());
+        if !row.living {
+            return Err(Errno::NoSuchThread);
+        }
+        self.set_row(
+            thread.get(),
+            Row {
+                base: base.get(),
+                ..row
+            },
+        );
+        self.settle();
         Ok(())
     }
 

@@ -1,7 +1,7 @@
 ghost use Rattle.std.specs.Prelude.{ℕ, ◌≡◌, ◌≤◌, true, length};
 ghost use Rattle.pif_model.specs.Table.{has_thread, with_line};
-ghost use Rattle.pif_model.specs.Lines.{goes_to, waits_at, answers, lock_load, lock_exchange, lock_by, lock_kernel, lock_queued, lock_stop, unlock_load, unlock_exchange, unlock_kernel, line_of};
-ghost use Rattle.pif_core.specs.Room.{HasRoom, outcome};
+ghost use Rattle.pif_model.specs.Lines.{goes_to, waits_at, answers, answered_by, lock_load, lock_exchange, lock_by, lock_kernel, lock_queued, lock_stop, unlock_load, unlock_exchange, unlock_kernel, set_priority, line_of};
+ghost use Rattle.pif_core.specs.Room.{HasRoom, closed, outcome};
 
 use crate::state::{Row, State};
 use pif_model::{Line, Place, Seen, Status, Took};
@@ -19,6 +19,7 @@ impl State {
         match request {
             Request::Lock(mutex) => self.lock_line(thread, mutex, place),
             Request::Unlock(mutex) => self.unlock_line(thread, mutex, place),
+            Request::SetPrio(other, prio) => self.set_prio_line(thread, other, prio, place),
         }
     }
 
@@ -37,10 +38,7 @@ impl State {
             Place::LockQueued => self.lock_queued(thread),
             Place::LockStop => self.lock_stop(thread, mutex),
             Place::LockStopped => Seen::Waits,
-            Place::UnlockLoad | Place::UnlockExchange | Place::UnlockKernel => self.answer(
-                thread,
-                Errno::Invalid.number(),
-            ),
+            _ => self.answer(thread, Errno::Invalid.number()),
         }
     }
 
@@ -56,6 +54,17 @@ impl State {
             Place::UnlockLoad => self.unlock_load(thread, mutex),
             Place::UnlockExchange => self.unlock_exchange(thread, mutex),
             Place::UnlockKernel => self.unlock_kernel(thread, mutex),
+            _ => self.answer(thread, Errno::Invalid.number()),
+        }
+    }
+
+    /// One step of a change of priority.
+    #[tactic(auto, unfolding(pif_model::specs::Lines::line_of))]
+    fn set_prio_line(&mut self, thread: Tid, other: Tid, prio: u32, place: Place) -> Seen
+        ensures { outcome result self.new ≡ line_of (Request.SetPrio other prio) place thread self.old }
+    {
+        match place {
+            Place::SetPriority => self.set_priority(thread, other, prio),
             _ => self.answer(thread, Errno::Invalid.number()),
         }
     }
@@ -184,13 +193,31 @@ impl State {
     }
 
     /// The kernel call unlock_pi.
-    #[tactic(auto, unfolding(pif_model::specs::Lines::unlock_kernel, pif_model::specs::Lines::unlock_by))]
+    #[tactic(auto, unfolding(pif_model::specs::Lines::unlock_kernel))]
     fn unlock_kernel(&mut self, thread: Tid, mutex: MutexId) -> Seen
         requires room { HasRoom self.old }
         requires rows { length self.old.rows ≤ 1025 }
         ensures { outcome result self.new ≡ unlock_kernel thread mutex self.old }
     {
-        match self.unlock_pi(thread, mutex) {
+        let done = self.unlock_pi(thread, mutex);
+        self.close(thread, done)
+    }
+
+    /// The kernel call set_prio.
+    #[tactic(auto, unfolding(pif_model::specs::Lines::set_priority))]
+    fn set_priority(&mut self, thread: Tid, other: Tid, prio: u32) -> Seen
+        ensures { outcome result self.new ≡ set_priority thread other prio self.old }
+    {
+        let done = self.set_prio(other, prio);
+        self.close(thread, done)
+    }
+
+    /// The call is closed by what its kernel call answered: 0, or the number of the error.
+    #[tactic(auto, unfolding(pif_model::specs::Lines::answered_by))]
+    fn close(&mut self, thread: Tid, done: Result<(), Errno>) -> Seen
+        ensures { outcome result self.new ≡ answered_by (closed done) thread self.old }
+    {
+        match done {
             Ok(()) => self.answer(thread, 0),
             Err(error) => self.answer(thread, error.number()),
         }

@@ -43,14 +43,15 @@ impl State {
         if !self.has_thread(thread) {
             return Seen::Refused(Refusal::NoSuch);
         }
-        let (mutex, place) = match request {
-            Request::Lock(mutex) => (mutex, Place::LockLoad),
-            Request::Unlock(mutex) => (mutex, Place::UnlockLoad),
+        let (known, place) = match request {
+            Request::Lock(mutex) => (self.has_mutex(mutex), Place::LockLoad),
+            Request::Unlock(mutex) => (self.has_mutex(mutex), Place::UnlockLoad),
+            Request::SetPrio(_, _) => (true, Place::SetPriority),
         };
         let row = self.row(thread.get());
         match row.line {
             Line::At(_, _) => Seen::Refused(Refusal::Busy),
-            Line::Idle if self.has_mutex(mutex) => {
+            Line::Idle if known => {
                 self.set_line(thread, Line::At(request, place));
                 Seen::Begun
             },

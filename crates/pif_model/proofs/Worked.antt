@@ -1,8 +1,7 @@
 -- Worked examples, computed on the definitions themselves.
-use Rattle.std.proofs.Common.{◌≡◌, ℕ, Bool, true, false, List, [], ◌∷◌, ◌++◌, refl}
-use Rattle.pif_types.specs.Bounds.{Bounds}
+use Rattle.std.proofs.Common.{◌≡◌, ℕ, false, List, [], ◌∷◌, ◌++◌, refl}
 use Rattle.pif_types.specs.declared.requests.Kind.TheVariants.{Normal, ErrorCheck}
-use Rattle.pif_types.specs.declared.requests.Request.TheVariants.{Lock, Unlock}
+use Rattle.pif_types.specs.declared.requests.Request.TheVariants.{Lock, Unlock, SetPrio}
 use Rattle.pif_types.specs.declared.errors.Refusal.TheVariants.{Busy, Idle, NoSuch}
 use Rattle.pif_model.specs.declared.events.Event.{Event}
 use Rattle.pif_model.specs.declared.events.Event.TheVariants.{Begin, Go}
@@ -11,12 +10,12 @@ use Rattle.pif_model.specs.declared.events.Seen.TheVariants.{Begun, Went, Waits,
 use Rattle.pif_model.specs.Graph.{reaches_within, greatest_where, effective_among, first_greatest, waited_by, next_waiter}
 use Rattle.pif_model.specs.Word.{bits_of, word_of}
 use Rattle.pif_model.specs.Table.{Table, new_table, thread_added, mutex_added, releveled, cell_at, kernel_effective, kernel_pick}
-use Rattle.pif_model.specs.Kernel.{queued_on_mutex, lock_pi_answer, lock_pi_after, handed_to, unlock_pi_answer, unlock_pi_after, stopped}
-use Rattle.pif_model.specs.Lines.{lock_load, lock_exchange, lock_by, lock_kernel, lock_queued, lock_stop, unlock_load, unlock_exchange, unlock_by, unlock_kernel, line_of, gone, accepted, stepped}
+use Rattle.pif_model.specs.Kernel.{queued_on_mutex, lock_pi_answer, lock_pi_after, handed_to, unlock_pi_answer, unlock_pi_after, set_prio_answer, set_prio_after, stopped}
+use Rattle.pif_model.specs.Lines.{lock_load, lock_exchange, lock_by, lock_kernel, lock_queued, lock_stop, unlock_load, unlock_exchange, answered_by, unlock_kernel, set_priority, line_of, gone, accepted, stepped}
 
 -- opens every definition of the table machine
 machine : ℕ
-unfolding reaches_within greatest_where effective_among first_greatest waited_by next_waiter bits_of word_of releveled queued_on_mutex lock_pi_answer lock_pi_after handed_to unlock_pi_answer unlock_pi_after stopped lock_load lock_exchange lock_by lock_kernel lock_queued lock_stop unlock_load unlock_exchange unlock_by unlock_kernel line_of gone accepted stepped
+unfolding reaches_within greatest_where effective_among first_greatest waited_by next_waiter bits_of word_of releveled queued_on_mutex lock_pi_answer lock_pi_after handed_to unlock_pi_answer unlock_pi_after set_prio_answer set_prio_after stopped lock_load lock_exchange lock_by lock_kernel lock_queued lock_stop unlock_load unlock_exchange answered_by unlock_kernel set_priority line_of gone accepted stepped
 machine = 0
 
 -- a core for examples
@@ -107,6 +106,31 @@ equals = mutex_added Normal false (thread_added 20 (thread_added 20 (thread_adde
 equals_word : bits_of (cell_at (after (locks 1 1 ++ Begin 2 (Lock 1) ∷ Go 2 ∷ Go 2 ∷ Go 2 ∷ Begin 3 (Lock 1) ∷ Go 3 ∷ Go 3 ∷ Go 3 ∷ released) equals) 1).word ≡ 0x80000002
 unfolding machine small equals locks released seen after
 equals_word = refl
+
+-- the owner follows a change of a waiter's priority, and equals keep their order after it: t2 goes to 30 and back to 20
+wait_both : List Event
+wait_both = locks 1 1 ++ Begin 2 (Lock 1) ∷ Go 2 ∷ Go 2 ∷ Go 2 ∷ Begin 3 (Lock 1) ∷ Go 3 ∷ Go 3 ∷ Go 3 ∷ []
+
+changes : ℕ → List Event
+changes p = Begin 1 (SetPrio 2 p) ∷ Go 1 ∷ []
+
+changed_priority : kernel_effective (after (wait_both ++ changes 30) equals) 1 ≡ 30
+unfolding machine small equals locks wait_both changes after
+changed_priority = refl
+
+changed_back_priority : kernel_effective (after (wait_both ++ changes 30 ++ changes 20) equals) 1 ≡ 20
+unfolding machine small equals locks wait_both changes after
+changed_back_priority = refl
+
+changed_back_word : bits_of (cell_at (after (wait_both ++ changes 30 ++ changes 20 ++ released) equals) 1).word ≡ 0x80000002
+unfolding machine small equals locks wait_both changes released after
+changed_back_word = refl
+
+-- no priority: EINVAL, also for a thread that was never added; such a thread: ESRCH
+unchanged_seen : seen (Begin 1 (SetPrio 3 100) ∷ Go 1 ∷ Begin 1 (SetPrio 9 0) ∷ Go 1 ∷ Begin 1 (SetPrio 9 5) ∷ Go 1 ∷ []) equals
+    ≡ Begun ∷ Answered 22 ∷ Begun ∷ Answered 22 ∷ Begun ∷ Answered 3 ∷ []
+unfolding machine small equals seen after
+unchanged_seen = refl
 
 -- kinds answer their owner: normal waits for good, errorcheck answers EDEADLK; who isn't the owner is answered EPERM
 kinds : Table

@@ -1,14 +1,11 @@
 -- What the public calls of a core answer, and the table that they leave, by the table before.
-use Rattle.std.specs.Prelude.{ℕ, ◌≡◌, ◌-◌, Bool, true, false, ◌==◌, nat_lt, List, [], ◌∷◌, length, Option, Some, None, Result, Ok, Err, if◌then◌else◌}
+use Rattle.std.specs.Prelude.{ℕ, ◌-◌, Bool, ◌==◌, length, Option, Some, None, Result, Ok, Err, if◌then◌else◌}
 use Rattle.pif_types.specs.declared.errors.AddFault.{AddFault}
 use Rattle.pif_types.specs.declared.errors.AddFault.TheVariants.{TooMany, BadPrio}
 use Rattle.pif_types.specs.declared.requests.Kind.{Kind}
 use Rattle.pif_model.specs.Word.{bits_of}
-use Rattle.pif_model.specs.Table.{Table, Row, Cell, cell_at, has_thread, has_mutex, has_thread_room, has_mutex_room, thread_added, mutex_added, kernel_effective, kernel_pick}
-
--- whether p is a priority: 1 to 99
-abbrev pub is_priority : ℕ → Bool
-is_priority p = if p == 0 then false else nat_lt p 100
+use Rattle.pif_model.specs.Posix.{is_priority}
+use Rattle.pif_model.specs.Table.{Table, cell_at, has_thread, has_mutex, has_thread_room, has_mutex_room, thread_added, mutex_added, kernel_effective, kernel_pick}
 
 -- adding a thread of priority p: BadPrio, then TooMany, else its number
 abbrev pub add_thread_answer : ℕ → Table → Result ℕ AddFault

@@ -1,13 +1,11 @@
 -- Who holds a mutex by the answers alone. It reads a history, newest entry first, and no machine.
-use Rattle.std.specs.Prelude.{ℕ, ◌≡◌, ◌+◌, ◌-◌, Bool, true, false, ◌==◌, nat_lt, List, [], ◌∷◌, Option, Some, None, if◌then◌else◌}
+use Rattle.std.specs.Prelude.{ℕ, ◌≡◌, ◌+◌, ◌-◌, Bool, true, ◌==◌, nat_lt, List, [], ◌∷◌, Option, Some, None, if◌then◌else◌}
 use Rattle.pif_types.specs.declared.requests.Request.{Request}
-use Rattle.pif_types.specs.declared.requests.Request.TheVariants.{Lock, Unlock}
-use Rattle.pif_model.specs.declared.events.Event.{Event}
+use Rattle.pif_types.specs.declared.requests.Request.TheVariants.{Lock, Unlock, SetPrio}
 use Rattle.pif_model.specs.declared.events.Event.TheVariants.{Begin, Go}
-use Rattle.pif_model.specs.declared.events.Seen.{Seen}
-use Rattle.pif_model.specs.declared.events.Seen.TheVariants.{Begun, Went, Waits, Answered, Refused}
+use Rattle.pif_model.specs.declared.events.Seen.TheVariants.{Begun, Answered}
 use Rattle.pif_model.specs.declared.events.Entry.{Entry}
-use Rattle.pif_model.specs.declared.events.Entry.TheVariants.{Thread as AddThread, Mutex as AddMutex, Step as Happened}
+use Rattle.pif_model.specs.declared.events.Entry.TheVariants.{Step as Happened}
 
 -- t's open call after one more entry
 abbrev pub open_after : ℕ → Entry → Option Request → Option Request
@@ -27,6 +25,7 @@ level_after_answer m None a level = level
 level_after_answer m (Some (Lock n)) a level =
     if n == m then (if a == 0 then level + 1 else (if a == 130 then level + 1 else level)) else level
 level_after_answer m (Some (Unlock n)) a level = if n == m then (if a == 0 then level - 1 else level) else level
+level_after_answer m (Some (SetPrio u p)) a level = level
 
 -- the level of t on m after one more entry
 abbrev pub level_after : ℕ → ℕ → Option Request → Entry → ℕ → ℕ
@@ -43,6 +42,7 @@ abbrev pub unlocking : ℕ → Option Request → ℕ
 unlocking m None = 0
 unlocking m (Some (Lock n)) = 0
 unlocking m (Some (Unlock n)) = if n == m then 1 else 0
+unlocking m (Some (SetPrio u p)) = 0
 
 -- whether t holds m by the answers: its level, less 1 while an unlock of m by t is open, is above 0
 abbrev pub holds : ℕ → ℕ → List Entry → Bool

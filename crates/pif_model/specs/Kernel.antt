@@ -1,16 +1,16 @@
 -- The kernel calls, total on any words. A refused call changes nothing; refusals are tested in the order in which
 -- they stand. (futex(2), FUTEX_LOCK_PI and FUTEX_UNLOCK_PI; PI-futex and RT-mutex design.)
-use Rattle.std.specs.Prelude.{ℕ, ◌≡◌, Bool, true, false, ◌==◌, List, [], ◌∷◌, ◌++◌, length, Result, Ok, Err, if◌then◌else◌}
+use Rattle.std.specs.Prelude.{ℕ, true, false, ◌==◌, [], ◌∷◌, ◌++◌, length, Result, Ok, Err, if◌then◌else◌}
 use Rattle.pif_types.specs.declared.errors.Errno.{Errno}
 use Rattle.pif_types.specs.declared.errors.Errno.TheVariants.{NotPermitted, NoSuchThread, Fault, Invalid, Deadlock}
-use Rattle.pif_model.specs.declared.lines.Status.{Status}
 use Rattle.pif_model.specs.declared.lines.Status.TheVariants.{Ready, Queued, Stopped}
-use Rattle.pif_model.specs.declared.lines.Woken.TheVariants.{Fresh as WokenFresh, Owns as WokenOwns}
+use Rattle.pif_model.specs.declared.lines.Woken.TheVariants.{Owns as WokenOwns}
 use Rattle.pif_model.specs.declared.lines.Took.{Took}
 use Rattle.pif_model.specs.declared.lines.Took.TheVariants.{Owns as TookOwns, Queued as TookQueued}
 use Rattle.pif_model.specs.Graph.{reaches_within, next_waiter, has_waiter, without}
 use Rattle.pif_model.specs.Word.{Word, free_word}
-use Rattle.pif_model.specs.Table.{Table, Row, Cell, row_at, cell_at, has_mutex, with_cell, with_word, with_status, kernel_waits_for, kernel_effective, settled}
+use Rattle.pif_model.specs.Posix.{is_priority}
+use Rattle.pif_model.specs.Table.{Table, row_at, cell_at, has_mutex, with_cell, with_word, with_status, with_base, kernel_waits_for, kernel_effective, settled}
 
 -- the word of a mutex that t takes in the kernel: its number and what there was of OWNER_DIED
 abbrev pub taken_word : ℕ → Word → Word
@@ -75,6 +75,17 @@ unfoldable pub unlock_pi_after : ℕ → ℕ → Result (record {}) Errno → Ta
 unlock_pi_after t m (Ok x) s =
     if (cell_at s m).state == 0 then with_word m free_word s else handed_to (kernel_next s m) m s
 unlock_pi_after t m (Err e) s = s
+
+-- what set_prio answers for u and p
+unfoldable pub set_prio_answer : ℕ → ℕ → Table → Result (record {}) Errno
+set_prio_answer u p s =
+    if is_priority p then (if (row_at s u).living then Ok (record {}) else Err NoSuchThread) else Err Invalid
+
+-- the state after set_prio, by its answer: u has this base priority, and u and its chain get their effective
+-- priorities; the queue, and so the order among equals, stays
+unfoldable pub set_prio_after : ℕ → ℕ → Result (record {}) Errno → Table → Table
+set_prio_after u p (Ok x) s = settled (with_base u p s)
+set_prio_after u p (Err e) s = s
 
 -- t is stopped for good
 unfoldable pub stopped : ℕ → Table → Table

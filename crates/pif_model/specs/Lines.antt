@@ -1,13 +1,12 @@
 -- The calls of the library, one step per Go, and the events of the table machine.
-use Rattle.std.specs.Prelude.{ℕ, ◌≡◌, Bool, true, false, ◌==◌, List, [], ◌∷◌, Result, Ok, Err, Option, Some, None, is_some, if◌then◌else◌}
+use Rattle.std.specs.Prelude.{ℕ, Bool, true, false, ◌==◌, Result, Ok, Err, Option, Some, None, if◌then◌else◌}
 use Rattle.pif_types.specs.Numbers.{number_of}
 use Rattle.pif_types.specs.declared.errors.Errno.{Errno}
-use Rattle.pif_types.specs.declared.errors.Errno.TheVariants.{NotPermitted, NoSuchThread, Again, Fault, Busy, Invalid, Deadlock, Overflow, TimedOut, OwnerDead, NotRecoverable}
+use Rattle.pif_types.specs.declared.errors.Errno.TheVariants.{NoSuchThread}
 use Rattle.pif_types.specs.declared.errors.Refusal.{Refusal}
-use Rattle.pif_types.specs.declared.requests.Kind.{Kind}
 use Rattle.pif_types.specs.declared.requests.Kind.TheVariants.{Normal, ErrorCheck}
 use Rattle.pif_types.specs.declared.requests.Request.{Request}
-use Rattle.pif_types.specs.declared.requests.Request.TheVariants.{Lock, Unlock}
+use Rattle.pif_types.specs.declared.requests.Request.TheVariants.{Lock, Unlock, SetPrio}
 use Rattle.pif_model.specs.declared.events.Event.{Event}
 use Rattle.pif_model.specs.declared.events.Event.TheVariants.{Begin, Go}
 use Rattle.pif_model.specs.declared.events.Seen.{Seen}
@@ -15,15 +14,14 @@ use Rattle.pif_model.specs.declared.events.Seen.TheVariants.{Begun, Went, Waits,
 use Rattle.pif_model.specs.declared.lines.Line.{Line}
 use Rattle.pif_model.specs.declared.lines.Line.TheVariants.{Idle, At}
 use Rattle.pif_model.specs.declared.lines.Place.{Place}
-use Rattle.pif_model.specs.declared.lines.Place.TheVariants.{LockLoad, LockExchange, LockKernel, LockQueued, LockStop, LockStopped, UnlockLoad, UnlockExchange, UnlockKernel}
-use Rattle.pif_model.specs.declared.lines.Status.{Status}
+use Rattle.pif_model.specs.declared.lines.Place.TheVariants.{LockLoad, LockExchange, LockKernel, LockQueued, LockStop, LockStopped, UnlockLoad, UnlockExchange, UnlockKernel, SetPriority}
 use Rattle.pif_model.specs.declared.lines.Took.{Took}
 use Rattle.pif_model.specs.declared.lines.Took.TheVariants.{Owns as TookOwns, Queued as TookQueued}
-use Rattle.pif_model.specs.Posix.{named_by}
+use Rattle.pif_model.specs.Posix.{names_known}
 use Rattle.pif_model.specs.Refusals.{begin_refused, go_refused}
-use Rattle.pif_model.specs.Word.{Word, is_bare, held_by, free_word}
-use Rattle.pif_model.specs.Table.{Table, Row, Cell, row_at, cell_at, has_thread, has_mutex, with_line, with_word, is_ready}
-use Rattle.pif_model.specs.Kernel.{lock_pi_answer, lock_pi_after, unlock_pi_answer, unlock_pi_after, stopped}
+use Rattle.pif_model.specs.Word.{is_bare, held_by, free_word}
+use Rattle.pif_model.specs.Table.{Table, row_at, cell_at, has_thread, has_mutex, with_line, with_word, is_ready}
+use Rattle.pif_model.specs.Kernel.{lock_pi_answer, lock_pi_after, unlock_pi_answer, unlock_pi_after, set_prio_answer, set_prio_after, stopped}
 
 -- what a step is answered, and the state after it
 pub record Outcome : Type 0 where
@@ -84,16 +82,20 @@ unfoldable pub unlock_exchange : ℕ → ℕ → Table → Outcome
 unlock_exchange t m s =
     if is_bare (cell_at s m).word t then answers t 0 (with_word m free_word s) else goes_to t (Unlock m) UnlockKernel s
 
--- unlock: by what the kernel call answered
-unfoldable pub unlock_by : Result (record {}) Errno → ℕ → Table → Outcome
-unlock_by (Ok x) t s = answers t 0 s
-unlock_by (Err e) t s = answers t (number_of e) s
+-- the call is closed by what its kernel call answered: 0, or the number of the error
+unfoldable pub answered_by : Result (record {}) Errno → ℕ → Table → Outcome
+answered_by (Ok x) t s = answers t 0 s
+answered_by (Err e) t s = answers t (number_of e) s
 
 -- unlock: the kernel call unlock_pi
 unfoldable pub unlock_kernel : ℕ → ℕ → Table → Outcome
-unlock_kernel t m s = unlock_by (unlock_pi_answer t m s) t (unlock_pi_after t m (unlock_pi_answer t m s) s)
+unlock_kernel t m s = answered_by (unlock_pi_answer t m s) t (unlock_pi_after t m (unlock_pi_answer t m s) s)
 
--- one step of a lock or an unlock at a place of its own; at a place of the other, which never comes, EINVAL
+-- setprio: the kernel call set_prio
+unfoldable pub set_priority : ℕ → ℕ → ℕ → Table → Outcome
+set_priority t u p s = answered_by (set_prio_answer u p s) t (set_prio_after u p (set_prio_answer u p s) s)
+
+-- one step of a call at a place of its own; at a place of another, which never comes, EINVAL
 unfoldable pub line_of : Request → Place → ℕ → Table → Outcome
 line_of (Lock m) LockLoad t s = lock_load t m s
 line_of (Lock m) LockExchange t s = lock_exchange t m s
@@ -104,6 +106,7 @@ line_of (Lock m) LockStopped t s = record { seen = Waits; after = s }
 line_of (Unlock m) UnlockLoad t s = unlock_load t m s
 line_of (Unlock m) UnlockExchange t s = unlock_exchange t m s
 line_of (Unlock m) UnlockKernel t s = unlock_kernel t m s
+line_of (SetPrio u p) SetPriority t s = set_priority t u p s
 line_of _ _ t s = answers t 22 s
 
 -- one step of the open call
@@ -115,6 +118,7 @@ gone (At q p) t s = line_of q p t s
 abbrev pub first_place : Request → Place
 first_place (Lock m) = LockLoad
 first_place (Unlock m) = UnlockLoad
+first_place (SetPrio u p) = SetPriority
 
 -- whether a call is open
 abbrev pub is_open : Line → Bool
@@ -123,7 +127,7 @@ is_open (At q p) = true
 
 -- why an event is refused, if it is
 abbrev pub table_refusal : Table → Event → Option Refusal
-table_refusal s (Begin t q) = begin_refused (has_thread s t) (is_open (row_at s t).line) (has_mutex s (named_by q))
+table_refusal s (Begin t q) = begin_refused (has_thread s t) (is_open (row_at s t).line) (names_known (has_mutex s) q)
 table_refusal s (Go t) = go_refused (has_thread s t) (is_open (row_at s t).line)
 
 -- an event that is not refused

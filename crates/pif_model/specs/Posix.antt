@@ -1,18 +1,18 @@
--- The POSIX machine of mutexes: what pthread_mutex_lock and pthread_mutex_unlock do, by POSIX.1-2017 (the pages
--- pthread_mutex_lock, pthread_mutexattr_settype, pthread_mutexattr_setprotocol and pthread_mutexattr_setrobust).
+-- The POSIX machine of mutexes: what pthread_mutex_lock, pthread_mutex_unlock and pthread_setschedprio do, by
+-- POSIX.1-2017 (the pages pthread_mutex_lock, pthread_mutexattr_settype, pthread_mutexattr_setprotocol,
+-- pthread_mutexattr_setrobust and pthread_setschedprio).
 -- It knows no words, no kernel and no chain walks. A call has effects, each of which happens at one moment between
 -- its beginning and its answer. Threads and mutexes are numbered from 1; place 0 of each list stands for nobody.
-use Rattle.std.specs.Prelude.{ℕ, ◌≡◌, ◌≢◌, ◌≤◌, ◌+◌, Bool, true, false, ◌==◌, nat_lt, nat_le, List, [], ◌∷◌, ◌++◌, length, get_or, set, Option, Some, None, is_some, if◌then◌else◌}
+use Rattle.std.specs.Prelude.{ℕ, ◌≡◌, ◌≢◌, ◌≤◌, Bool, true, false, ◌==◌, nat_lt, List, [], ◌∷◌, ◌++◌, length, get_or, set, Option, Some, None, is_some, if◌then◌else◌}
 use Rattle.std.specs.List.{list_any}
 use Rattle.pif_types.specs.Bounds.{Bounds}
 use Rattle.pif_types.specs.declared.errors.Refusal.{Refusal}
 use Rattle.pif_types.specs.declared.requests.Kind.{Kind}
 use Rattle.pif_types.specs.declared.requests.Kind.TheVariants.{Normal, ErrorCheck}
 use Rattle.pif_types.specs.declared.requests.Request.{Request}
-use Rattle.pif_types.specs.declared.requests.Request.TheVariants.{Lock, Unlock}
+use Rattle.pif_types.specs.declared.requests.Request.TheVariants.{Lock, Unlock, SetPrio}
 use Rattle.pif_model.specs.declared.events.Event.{Event}
 use Rattle.pif_model.specs.declared.events.Event.TheVariants.{Begin, Go}
-use Rattle.pif_model.specs.declared.events.Seen.{Seen}
 use Rattle.pif_model.specs.declared.events.Seen.TheVariants.{Begun, Went, Waits, Answered, Refused}
 use Rattle.pif_model.specs.declared.events.Entry.{Entry}
 use Rattle.pif_model.specs.declared.events.Entry.TheVariants.{Thread as AddThread, Mutex as AddMutex, Step as Happened}
@@ -194,10 +194,28 @@ pub data Unlocks (t m : ℕ) (w v : World) : Type 0 where
   -- the owner gives it up: it passes on, and the result is 0
   released : (mutex_at w m).owner ≡ t → (mutex_at w m).health ≢ Inconsistent → Passes m (with_progress t (Has 0) w) v → Unlocks t m w v
 
+-- whether p is a priority: 1 to 99
+abbrev pub is_priority : ℕ → Bool
+is_priority p = if p == 0 then false else nat_lt p 100
+
+-- t with this base priority
+abbrev pub with_base : ℕ → ℕ → World → World
+with_base t p w = with_thread t (record (thread_at w t) { base = p }) w
+
+-- pthread_setschedprio by t, of the priority p for u, where no effect has happened yet
+pub data SetsPriority (t u p : ℕ) (w v : World) : Type 0 where
+  -- p is no priority: EINVAL
+  no_priority : is_priority p ≡ false → v ≡ with_progress t (Has 22) w → SetsPriority t u p w v
+  -- u is not living: ESRCH
+  not_living : is_priority p ≡ true → (thread_at w u).living ≡ false → v ≡ with_progress t (Has 3) w → SetsPriority t u p w v
+  -- u's base priority is p; who waits for what, and since when, stays
+  changed : is_priority p ≡ true → (thread_at w u).living ≡ true → v ≡ with_progress t (Has 0) (with_base u p w) → SetsPriority t u p w v
+
 -- one effect of t's open call
 pub data Effect (t : ℕ) (w v : World) : Type 0 where
   lock : (m : ℕ) → (thread_at w t).call ≡ Some (record { request = Lock m; progress = Fresh }) → Locks t m w v → Effect t w v
   unlock : (m : ℕ) → (thread_at w t).call ≡ Some (record { request = Unlock m; progress = Fresh }) → Unlocks t m w v → Effect t w v
+  set_prio : (u p : ℕ) → (thread_at w t).call ≡ Some (record { request = SetPrio u p; progress = Fresh }) → SetsPriority t u p w v → Effect t w v
 
 -- some effects of t's open call in order, or none
 pub data Effects (t : ℕ) : World → World → Type 0 where
@@ -206,14 +224,21 @@ pub data Effects (t : ℕ) : World → World → Type 0 where
 
 -- ONE ENTRY OF A HISTORY
 
--- the mutex that a request names
+-- the mutex that a request names; 0 where it names none
 abbrev pub named_by : Request → ℕ
 named_by (Lock m) = m
 named_by (Unlock m) = m
+named_by (SetPrio u p) = 0
+
+-- whether the mutex that a request names is one that is known, if it names one
+abbrev pub names_known : (ℕ → Bool) → Request → Bool
+names_known known (Lock m) = known m
+names_known known (Unlock m) = known m
+names_known known (SetPrio u p) = true
 
 -- why an event is refused, if it is
 abbrev pub refusal_of : World → Event → Option Refusal
-refusal_of w (Begin t q) = begin_refused (is_thread w t) (is_some (thread_at w t).call) (is_mutex w (named_by q))
+refusal_of w (Begin t q) = begin_refused (is_thread w t) (is_some (thread_at w t).call) (names_known (is_mutex w) q)
 refusal_of w (Go t) = go_refused (is_thread w t) (is_some (thread_at w t).call)
 
 -- one entry of a history, from w to v, under the limits l

@@ -3,17 +3,17 @@ use Rattle.std.specs.Prelude.{ℕ, ◌≡◌, ◌≢◌, ◌≤◌, ◌+◌, ⊤
 use Rattle.std.specs.List.{list_any, IsDistinct}
 use Rattle.pif_types.specs.declared.requests.Kind.TheVariants.{Normal}
 use Rattle.pif_types.specs.declared.requests.Request.{Request}
-use Rattle.pif_types.specs.declared.requests.Request.TheVariants.{Lock, Unlock}
+use Rattle.pif_types.specs.declared.requests.Request.TheVariants.{Lock, Unlock, SetPrio}
 use Rattle.pif_model.specs.declared.events.Entry.{Entry}
 use Rattle.pif_model.specs.declared.lines.Line.{Line}
 use Rattle.pif_model.specs.declared.lines.Line.TheVariants.{Idle, At}
 use Rattle.pif_model.specs.declared.lines.Place.{Place}
-use Rattle.pif_model.specs.declared.lines.Place.TheVariants.{LockLoad, LockExchange, LockKernel, LockQueued, LockStop, LockStopped, UnlockLoad, UnlockExchange, UnlockKernel}
+use Rattle.pif_model.specs.declared.lines.Place.TheVariants.{LockLoad, LockExchange, LockKernel, LockQueued, LockStop, LockStopped, UnlockLoad, UnlockExchange, UnlockKernel, SetPriority}
 use Rattle.pif_model.specs.declared.lines.Status.{Status}
 use Rattle.pif_model.specs.declared.lines.Status.TheVariants.{Ready, Queued, Stopped}
 use Rattle.pif_model.specs.Graph.{waited_by, has_waiter, IsEffective}
 use Rattle.pif_model.specs.Word.{Word, free_word}
-use Rattle.pif_model.specs.Posix.{Health, Progress, Call, Thread, Mutex, World, WaitsFor, IsRun, thread_at, mutex_at, is_thread, named_by, rests, effective_of}
+use Rattle.pif_model.specs.Posix.{Health, Progress, Call, Thread, Mutex, World, WaitsFor, IsRun, thread_at, mutex_at, is_thread, named_by, names_known, rests, effective_of}
 use Rattle.pif_model.specs.Posix.Health.{Fine, Inconsistent, Unusable}
 use Rattle.pif_model.specs.Posix.Progress.{Fresh, Waiting, Stuck, Has}
 use Rattle.pif_model.specs.Table.{Table, Row, Cell, no_row, no_cell, row_at, cell_at, has_thread, has_mutex, is_ready, queued_on, kernel_effective}
@@ -104,6 +104,7 @@ needs LockStopped = HasStopped ∷ []
 needs UnlockLoad = MayRun ∷ []
 needs UnlockExchange = MayRun ∷ Owns ∷ []
 needs UnlockKernel = MayRun ∷ Owns ∷ []
+needs SetPriority = MayRun ∷ []
 
 -- whether a call of this request comes to this place
 abbrev pub belongs : Request → Place → Bool
@@ -116,13 +117,14 @@ belongs (Lock m) LockStopped = true
 belongs (Unlock m) UnlockLoad = true
 belongs (Unlock m) UnlockExchange = true
 belongs (Unlock m) UnlockKernel = true
+belongs (SetPrio u p) SetPriority = true
 belongs _ _ = false
 
--- what a thread at this line knows, by which mutexes exist and what each is: with no call open it may run; the mutex of
--- an open call exists, the place is one of the request's, and what the call rests on there holds
+-- what a thread at this line knows, by which mutexes exist and what each is: with no call open it may run; the mutex
+-- that an open call names exists, the place is one of the request's, and what the call rests on there holds
 abbrev pub LineIsSound : (ℕ → Bool) → (ℕ → Cell) → ℕ → Status → Line → Type 0
 LineIsSound exists cell t x Idle = is_ready x ≡ true
-LineIsSound exists cell t x (At q p) = (exists (named_by q) ≡ true) × (belongs q p ≡ true) × MeetsAll t x (cell (named_by q)) (needs p)
+LineIsSound exists cell t x (At q p) = (names_known exists q ≡ true) × (belongs q p ≡ true) × MeetsAll t x (cell (named_by q)) (needs p)
 
 -- a queued thread is at the place of its lock where it is queued
 abbrev pub QueueIsSound : Status → Line → Type 0

@@ -1,21 +1,19 @@
 -- The state of the table machine: words, the library's private rows, and the kernel.
 -- Threads and mutexes are numbered from 1; place 0 of each list stands for nobody.
-use Rattle.std.specs.Prelude.{ℕ, ◌≡◌, ◌≤◌, ◌+◌, Bool, true, false, ◌==◌, nat_lt, List, [], ◌∷◌, ◌++◌, length, get_or, set, map, Option, Some, None, if◌then◌else◌}
+use Rattle.std.specs.Prelude.{ℕ, Bool, true, false, ◌==◌, nat_lt, List, [], ◌∷◌, ◌++◌, length, get_or, set, map, if◌then◌else◌}
 use Rattle.std.specs.List.{filter}
 use Rattle.pif_types.specs.Bounds.{Bounds}
 use Rattle.pif_types.specs.declared.requests.Kind.{Kind}
-use Rattle.pif_types.specs.declared.requests.Kind.TheVariants.{Normal, ErrorCheck}
-use Rattle.pif_types.specs.declared.requests.Request.{Request}
+use Rattle.pif_types.specs.declared.requests.Kind.TheVariants.{Normal}
 use Rattle.pif_model.specs.declared.lines.Line.{Line}
-use Rattle.pif_model.specs.declared.lines.Line.TheVariants.{Idle, At}
-use Rattle.pif_model.specs.declared.lines.Place.{Place}
+use Rattle.pif_model.specs.declared.lines.Line.TheVariants.{Idle}
 use Rattle.pif_model.specs.declared.lines.Status.{Status}
 use Rattle.pif_model.specs.declared.lines.Status.TheVariants.{Ready, Queued, Stopped}
-use Rattle.pif_model.specs.declared.lines.Woken.TheVariants.{Fresh as WokenFresh, Owns as WokenOwns}
-use Rattle.pif_model.specs.Graph.{effective_among, first_greatest, without}
+use Rattle.pif_model.specs.declared.lines.Woken.TheVariants.{Fresh as WokenFresh}
+use Rattle.pif_model.specs.Graph.{effective_among, first_greatest}
 use Rattle.pif_model.specs.Word.{Word, free_word}
 use Rattle.pif_model.specs.Posix.{Health}
-use Rattle.pif_model.specs.Posix.Health.{Fine, Inconsistent, Unusable}
+use Rattle.pif_model.specs.Posix.Health.{Fine}
 
 -- a thread: what library and kernel know of it
 pub record Row : Type 0 where
@@ -96,6 +94,10 @@ with_line t l s = with_row t (record (row_at s t) { line = l }) s
 -- t with this status
 abbrev pub with_status : ℕ → Status → Table → Table
 with_status t x s = with_row t (record (row_at s t) { status = x }) s
+
+-- t with this base priority
+abbrev pub with_base : ℕ → ℕ → Table → Table
+with_base t p s = with_row t (record (row_at s t) { base = p }) s
 
 -- m with this word
 abbrev pub with_word : ℕ → Word → Table → Table

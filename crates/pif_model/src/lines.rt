@@ -21,6 +21,8 @@ pub enum Place {
     UnlockExchange,
     /// unlock: the kernel call unlock_pi.
     UnlockKernel,
+    /// setprio: the kernel call set_prio.
+    SetPriority,
 }
 
 /// A thread's line: no call is open, or the open call's request and the place in it.

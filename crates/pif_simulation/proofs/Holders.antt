@@ -6,7 +6,7 @@ use Rattle.std.proofs.lemmas.List.{get_or-set_same, get_or-set_other, length-set
 use Rattle.pif_types.specs.Bounds.{Bounds}
 use Rattle.pif_types.specs.declared.errors.Refusal.{Refusal}
 use Rattle.pif_types.specs.declared.requests.Request.{Request}
-use Rattle.pif_types.specs.declared.requests.Request.TheVariants.{Lock, Unlock}
+use Rattle.pif_types.specs.declared.requests.Request.TheVariants.{Lock, Unlock, SetPrio}
 use Rattle.pif_model.specs.declared.events.Event.{Event}
 use Rattle.pif_model.specs.declared.events.Event.TheVariants.{Begin, Go}
 use Rattle.pif_model.specs.declared.events.Seen.TheVariants.{Begun, Went, Waits, Answered, Refused}
@@ -15,18 +15,20 @@ use Rattle.pif_model.specs.declared.events.Entry.TheVariants.{Thread as AddThrea
 use Rattle.pif_model.specs.Graph.{without}
 use Rattle.pif_model.specs.Refusals.{begin_refused, go_refused}
 use Rattle.pif_model.specs.History.{open_call, level, holds, unlocking, HasOneHolder, AlwaysOneHolder, level_after_answer}
-use Rattle.pif_model.specs.Posix.{Health, Progress, Call, Thread, Mutex, World, empty_world, nobody, no_mutex, thread_at, mutex_at, is_thread, is_mutex, with_thread, with_mutex, with_progress, progressed, on_taking, taken, named_by, Locks, Unlocks, Effect, Effects, refusal_of, Step, IsRun}
+use Rattle.pif_model.specs.Posix.{Health, Progress, Call, Thread, Mutex, World, empty_world, nobody, no_mutex, thread_at, mutex_at, is_thread, is_mutex, with_thread, with_mutex, with_progress, progressed, on_taking, taken, with_base, named_by, names_known, Locks, Unlocks, SetsPriority, Effect, Effects, refusal_of, Step, IsRun}
 use Rattle.pif_model.specs.Posix.Health.{Fine}
 use Rattle.pif_model.specs.Posix.Progress.{Fresh, Waiting, Stuck, Has}
 use Rattle.pif_model.specs.Posix.Locks.{own_normal, own_errorcheck, free, lost as lock_lost, cycle, joins}
 use Rattle.pif_model.specs.Posix.Passes.{to_nobody, to_next}
 use Rattle.pif_model.specs.Posix.Unlocks.{not_owner, released}
-use Rattle.pif_model.specs.Posix.Effect.{lock, unlock}
+use Rattle.pif_model.specs.Posix.Effect.{lock, unlock, set_prio}
+use Rattle.pif_model.specs.Posix.SetsPriority.{no_priority, not_living, changed}
 use Rattle.pif_model.specs.Posix.Effects.{none as no_effect, then as effect_then}
 use Rattle.pif_model.specs.Posix.Step.{thread_added, mutex_added, refused, begun, went, waits, answered}
 use Rattle.pif_model.specs.Posix.IsRun.{start, next}
 use Rattle.pif_simulation.proofs.Among.{is_among, is_among-without, is_among_push, next_is_among}
 use Rattle.pif_simulation.proofs.Holding.{request_of, gained, lost, gained_by, lost_by, owns, Holding-stays}
+use Rattle.pif_simulation.proofs.Projection.{call_rebased}
 use Rattle.pif_simulation.proofs.Passing.{AllHolding, AllHolding-quiet, AllHolding-takes, AllHolding-passes, AllHolding-begins, AllHolding-answers}
 
 -- the open call of t
@@ -78,6 +80,7 @@ fine-with_mutex w m x h fine n = by_place (cases_eq n m) (cases_lt m (length w.m
 -- the invariant over a history's open calls and levels and a state
 pub record IsHeld (f : ℕ → Option Request) (levels : ℕ → ℕ → ℕ) (w : World) : Type 0 where
   pub fine : (m : ℕ) → (mutex_at w m).health ≡ Fine
+  pub some : 0 < length w.mutexes
   pub each : AllHolding f levels (call_of w) (owner_of w) (is_among w.waiters) (length w.mutexes)
 
 module _ (f : ℕ → Option Request) (levels : ℕ → ℕ → ℕ) (t : ℕ) (w : World) where
@@ -88,6 +91,7 @@ module _ (f : ℕ → Option Request) (levels : ℕ → ℕ → ℕ) (t : ℕ) (
   IsHeld-quiet q p h open_ quiet =
       record {
         fine = h.fine;
+        some = h.some;
         each =
             AllHolding-quiet f levels (call_of w) (call_of (with_progress t p w)) (owner_of w) (owner_of w) (is_among w.waiters) (is_among w.waiters) (length w.mutexes) (length w.mutexes)
             t q p h.each open_ (call-with_progress w t p ∙ ap (progressed p) open_)
@@ -101,6 +105,7 @@ module _ (f : ℕ → Option Request) (levels : ℕ → ℕ → ℕ) (t : ℕ) (
   IsHeld-joins m h open_ other =
       record {
         fine = h.fine;
+        some = h.some;
         each =
             AllHolding-quiet f levels (call_of w) (call_of (with_progress t Waiting w)) (owner_of w) (owner_of w) (is_among w.waiters) (is_among (w.waiters ++ (t, m) ∷ [])) (length w.mutexes) (length w.mutexes)
             t (Lock m) Waiting h.each open_ (call-with_progress w t Waiting ∙ ap (progressed Waiting) open_)
@@ -142,6 +147,7 @@ module _ (f : ℕ → Option Request) (levels : ℕ → ℕ → ℕ) (t : ℕ) (
   IsHeld-takes m h before some no_owner =
       record {
         fine = fine-with_mutex w m (record (mutex_at w m) { owner = t; count = 1 }) (h.fine m) h.fine;
+        some = omega (arith, h.some, length-set w.mutexes m (record (mutex_at w m) { owner = t; count = 1 }));
         each =
             AllHolding-takes f levels (call_of w) (call_of (taken t m w)) (owner_of w) (owner_of (taken t m w)) (is_among w.waiters) (is_among w.waiters) (length w.mutexes) (length (taken t m w).mutexes)
             t m h.each before (call-taken w t m Fresh (h.fine m) before) (λ x d. call-taken_other w t m x d)
@@ -157,6 +163,7 @@ module _ (f : ℕ → Option Request) (levels : ℕ → ℕ → ℕ) (t : ℕ) (
   IsHeld-frees m h before some mine =
       record {
         fine = fine-with_mutex w m (record (mutex_at w m) { owner = 0 }) (h.fine m) h.fine;
+        some = omega (arith, h.some, length-set w.mutexes m (record (mutex_at w m) { owner = 0 }));
         each =
             AllHolding-passes f levels (call_of w) (call_of (with_progress t (Has 0) w)) (owner_of w)
             (owner_of (with_mutex m (record (mutex_at w m) { owner = 0 }) w)) (is_among w.waiters) (is_among w.waiters) (length w.mutexes)
@@ -176,6 +183,7 @@ module _ (f : ℕ → Option Request) (levels : ℕ → ℕ → ℕ) (t : ℕ) (
   IsHeld-passes m u h before some mine other among =
       record {
         fine = fine-with_mutex w m (record (mutex_at w m) { owner = u; count = 1 }) (h.fine m) h.fine;
+        some = omega (arith, h.some, length-set w.mutexes m (record (mutex_at w m) { owner = u; count = 1 }));
         each =
             AllHolding-passes f levels (call_of w) (call_of (taken u m given)) (owner_of w)
             (owner_of (taken u m given)) (is_among w.waiters) (is_among (without w.waiters u)) (length w.mutexes)
@@ -225,16 +233,6 @@ module _ (f : ℕ → Option Request) (levels : ℕ → ℕ → ℕ) (t : ℕ) (
   IsHeld-Unlocks m v h some before (released mine health (to_nobody no_waiter e)) = rw e (IsHeld-frees m h before some mine)
   IsHeld-Unlocks m v h some before (released mine health (to_next u is_next other e)) = rw e (IsHeld-passes m u h before some mine other (next_is_among _ w.waiters m u is_next other))
 
-  -- an effect keeps the invariant
-  IsHeld-Effect : (v : World) → IsHeld f levels w → t ≢ 0 → Effect t w v → IsHeld f levels v
-  IsHeld-Effect v h some (lock m before e) = IsHeld-Locks m v h some before e
-  IsHeld-Effect v h some (unlock m before e) = IsHeld-Unlocks m v h some before e
-
--- effects keep the invariant
-IsHeld-Effects : (f : ℕ → Option Request) (levels : ℕ → ℕ → ℕ) (t : ℕ) {w v : World} → Effects t w v → t ≢ 0 → IsHeld f levels w → IsHeld f levels v
-IsHeld-Effects f levels t (no_effect e) some h = rw e h
-IsHeld-Effects f levels t (effect_then {w = w} {u = u} e more) some h = IsHeld-Effects f levels t more some (IsHeld-Effect f levels t w u h some e)
-
 -- every thread's call and every mutex's owner stay
 IsHeld-same : (f : ℕ → Option Request) (levels : ℕ → ℕ → ℕ) (w v : World) → IsHeld f levels w
     → ((t : ℕ) → call_of v t ≡ call_of w t) → ((m : ℕ) → owner_of v m ≡ owner_of w m) → ((m : ℕ) → (mutex_at v m).health ≡ Fine)
@@ -242,9 +240,32 @@ IsHeld-same : (f : ℕ → Option Request) (levels : ℕ → ℕ → ℕ) (w v :
 IsHeld-same f levels w v h calls owners fine same more =
     record {
       fine = fine;
+      some = omega (arith, h.some, more);
       each = λ t. Holding-stays t (f t) (levels t) (call_of w t) (call_of v t) (owner_of w) (owner_of v) (is_among w.waiters t) (is_among v.waiters t)
           (length w.mutexes) (length v.mutexes) (h.each t) (calls t) more (λ m y. ap (λ (ws : List (ℕ × ℕ)). is_among ws t m) (sym same) ∙ y) (λ m. inl (owners m));
     }
+
+module _ (f : ℕ → Option Request) (levels : ℕ → ℕ → ℕ) (t : ℕ) (w : World) where
+  -- a change of a priority keeps the invariant
+  IsHeld-SetsPriority : (u p : ℕ) (v : World) → IsHeld f levels w → call_of w t ≡ Some (record { request = SetPrio u p; progress = Fresh })
+      → SetsPriority t u p w v → IsHeld f levels v
+  IsHeld-SetsPriority u p v h before (no_priority bad e) = rw e (IsHeld-quiet f levels t w (SetPrio u p) (Has 22) h before (λ n. (refl, refl)))
+  IsHeld-SetsPriority u p v h before (not_living good gone e) = rw e (IsHeld-quiet f levels t w (SetPrio u p) (Has 3) h before (λ n. (refl, refl)))
+  IsHeld-SetsPriority u p v h before (changed good lives e) =
+      rw e (IsHeld-quiet f levels t (with_base u p w) (SetPrio u p) (Has 0)
+      (IsHeld-same f levels w (with_base u p w) h (call_rebased w u p) (λ m. refl) h.fine refl (omega arith))
+      (call_rebased w u p t ∙ before) (λ n. (refl, refl)))
+
+  -- an effect keeps the invariant
+  IsHeld-Effect : (v : World) → IsHeld f levels w → t ≢ 0 → Effect t w v → IsHeld f levels v
+  IsHeld-Effect v h some (lock m before e) = IsHeld-Locks f levels t w m v h some before e
+  IsHeld-Effect v h some (unlock m before e) = IsHeld-Unlocks f levels t w m v h some before e
+  IsHeld-Effect v h some (set_prio u p before e) = IsHeld-SetsPriority u p v h before e
+
+-- effects keep the invariant
+IsHeld-Effects : (f : ℕ → Option Request) (levels : ℕ → ℕ → ℕ) (t : ℕ) {w v : World} → Effects t w v → t ≢ 0 → IsHeld f levels w → IsHeld f levels v
+IsHeld-Effects f levels t (no_effect e) some h = rw e h
+IsHeld-Effects f levels t (effect_then {w = w} {u = u} e more) some h = IsHeld-Effects f levels t more some (IsHeld-Effect f levels t w u h some e)
 
 -- one more element is the default in the part that matters, and so every place stays
 push_same : {A B : Type 0} (part : A → B) (l : List A) (x d : A) (n : ℕ) → part x ≡ part d → part (get_or (l ++ x ∷ []) n d) ≡ part (get_or l n d)
@@ -300,19 +321,25 @@ IsHeld-begins : (h : List Entry) (w : World) (t : ℕ) (q : Request) → IsHeldB
 IsHeld-begins h w t q held allowed =
     record {
       fine = held.fine;
+      some = held.some;
       each =
           AllHolding-begins (λ x. open_call x h) (λ x m. level x m h) (call_of w) (call_of v) (owner_of w) (owner_of w) (is_among w.waiters) (is_among w.waiters) (length w.mutexes) (length w.mutexes)
           (λ x. open_call x (Happened (Begin t q) Begun ∷ h)) t q held.each (no_call (call_of w t) let_in.1)
           (ap (λ (y : Thread). y.call) (thread-with_thread w t (record (thread_at w t) { call = Some (record { request = q; progress = Fresh }) }) (added t (length w.threads) let_in.0).1))
           (λ x d. (call-with_thread_other w t (record (thread_at w t) { call = Some (record { request = q; progress = Fresh }) }) x d, other x d))
-          same (added t (length w.threads) let_in.0).0 (added (named_by q) (length w.mutexes) let_in.2).1 refl (λ m. refl) (λ x m. refl);
+          same (added t (length w.threads) let_in.0).0 (within q let_in.2) refl (λ m. refl) (λ x m. refl);
     }
   where
     v : World
     v = with_thread t (record (thread_at w t) { call = Some (record { request = q; progress = Fresh }) }) w
 
-    let_in : (is_thread w t ≡ true) × (is_some (call_of w t) ≡ false) × (is_mutex w (named_by q) ≡ true)
-    let_in = begin_let (is_thread w t) (is_some (call_of w t)) (is_mutex w (named_by q)) allowed
+    let_in : (is_thread w t ≡ true) × (is_some (call_of w t) ≡ false) × (names_known (is_mutex w) q ≡ true)
+    let_in = begin_let (is_thread w t) (is_some (call_of w t)) (names_known (is_mutex w) q) allowed
+
+    within : (q : Request) → names_known (is_mutex w) q ≡ true → named_by q < length w.mutexes
+    within (Lock m) e = (added m (length w.mutexes) e).1
+    within (Unlock m) e = (added m (length w.mutexes) e).1
+    within (SetPrio u p) e = held.some
 
     same : open_call t (Happened (Begin t q) Begun ∷ h) ≡ Some q
     same = grind (arith, nat_tests)
@@ -326,6 +353,7 @@ IsHeld-answers : (h : List Entry) (w : World) (t a : ℕ) (q : Request) → IsHe
 IsHeld-answers h w t a q held before =
     record {
       fine = held.fine;
+      some = held.some;
       each =
           AllHolding-answers (λ x. open_call x h) (λ x m. level x m h) (call_of w) (call_of (with_thread t (record (thread_at w t) { call = None }) w)) (owner_of w) (owner_of w) (is_among w.waiters) (is_among w.waiters) (length w.mutexes) (length w.mutexes)
           (λ x. open_call x (Happened (Go t) (Answered a) ∷ h)) (λ x m. level x m (Happened (Go t) (Answered a) ∷ h)) t q a held.each before
@@ -388,6 +416,7 @@ IsHeld-empty : IsHeldBy [] empty_world
 IsHeld-empty =
     record {
       fine = λ m. ap (λ (x : Mutex). x.health) (lone no_mutex m);
+      some = omega arith;
       each = λ t. record {
         nobody = λ e. no_call_yet t;
         request = ap request_of (sym (no_call_yet t));

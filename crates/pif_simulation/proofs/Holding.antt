@@ -3,7 +3,7 @@
 use Rattle.std.proofs.Common.{◌≡◌, ◌≢◌, ◌⊎◌, ◌<◌, ◌≤◌, ℕ, ◌+◌, Bool, true, false, ◌==◌, Option, Some, None, sym, ap, ◌∙◌, arith, if◌then◌else◌}
 use Rattle.std.proofs.lemmas.Bool.Decides.{nat_tests}
 use Rattle.pif_types.specs.declared.requests.Request.{Request}
-use Rattle.pif_types.specs.declared.requests.Request.TheVariants.{Lock, Unlock}
+use Rattle.pif_types.specs.declared.requests.Request.TheVariants.{Lock, Unlock, SetPrio}
 use Rattle.pif_model.specs.History.{level_after_answer}
 use Rattle.pif_model.specs.Posix.{Progress, Call, named_by}
 use Rattle.pif_model.specs.Posix.Progress.{Fresh, Waiting, Has}
@@ -58,6 +58,7 @@ answered m q a f level o e b h = rw e (by_request q h)
     by_request : (q : Request) → level + gained m q (Has a) ≡ o + lost m q (Has a) → level_after_answer m (Some q) a level ≡ o
     by_request (Lock n) h = grind (arith, nat_tests)
     by_request (Unlock n) h = grind (arith, nat_tests)
+    by_request (SetPrio u p) h = grind (arith, nat_tests)
 
 -- one thread before and after an effect
 module _ (t : ℕ) (f : Option Request) (levels : ℕ → ℕ) (call later_call : Option Call) (owner later_owner : ℕ → ℕ)

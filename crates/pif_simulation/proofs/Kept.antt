@@ -1,12 +1,13 @@
 -- What a change of a cell keeps of what the lines of the threads know.
 use Rattle.std.proofs.Common.{◌≡◌, ◌≢◌, ℕ, ◌<◌, Bool, true, false, ◌==◌, nat_lt, List, [], ◌∷◌, refl, sym, ◌∙◌, if◌then◌else◌, eq-eqb, true≢false, ltb-true, lt-ltb, ne_eqb}
+use Rattle.pif_types.specs.declared.requests.Request.TheVariants.{Lock, Unlock, SetPrio}
 use Rattle.pif_model.specs.declared.lines.Line.{Line}
 use Rattle.pif_model.specs.declared.lines.Line.TheVariants.{Idle, At}
+use Rattle.pif_model.specs.declared.lines.Place.TheVariants.{SetPriority}
 use Rattle.pif_model.specs.declared.lines.Status.{Status}
 use Rattle.pif_model.specs.Table.{Cell}
 use Rattle.pif_model.specs.Standing.{Need, Meets, MeetsAll, needs, LineIsSound}
 use Rattle.pif_model.specs.Standing.Need.{MayRun, HasStopped, NotStopped, Owns, OwnsNot, OwnsOnceReady, NormalKind}
-use Rattle.pif_model.specs.Posix.{named_by}
 
 -- a number within a list and not 0 is not 0
 pub above_0 : (t n : ℕ) → (if t == 0 then false else nat_lt t n) ≡ true → t ≢ 0
@@ -50,6 +51,11 @@ pub line_spared : (exists exists' : ℕ → Bool) (cell cell' : ℕ → Cell) (u
     → ((m : ℕ) → exists m ≡ true → (exists' m ≡ true) × Spares u (cell m) (cell' m))
     → LineIsSound exists cell u x l → LineIsSound exists' cell' u x l
 line_spared exists exists' cell cell' u x Idle k h = h
-line_spared exists exists' cell cell' u x (At q p) k h =
-    let e = k (named_by q) h.0 in
-    (e.0, h.1, all_outlive u x (cell (named_by q)) (cell' (named_by q)) (needs p) e.1 h.2)
+line_spared exists exists' cell cell' u x (At (Lock m) p) k h =
+    let e = k m h.0 in
+    (e.0, h.1, all_outlive u x (cell m) (cell' m) (needs p) e.1 h.2)
+line_spared exists exists' cell cell' u x (At (Unlock m) p) k h =
+    let e = k m h.0 in
+    (e.0, h.1, all_outlive u x (cell m) (cell' m) (needs p) e.1 h.2)
+line_spared exists exists' cell cell' u x (At (SetPrio v n) SetPriority) k h = h
+line_spared exists exists' cell cell' u x (At (SetPrio v n) _) k h = absurd (true≢false (sym h.1))

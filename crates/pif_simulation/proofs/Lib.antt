@@ -18,6 +18,8 @@ pub mod Stops
 pub mod Steps
 pub mod Local
 pub mod Owning
+pub mod Rows
+pub mod SetPriorityLine
 pub mod LockLines
 pub mod UnlockLines
 pub mod Chains

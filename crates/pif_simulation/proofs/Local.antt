@@ -5,7 +5,7 @@ use Rattle.std.proofs.Common.{◌≡◌, ◌≢◌, ℕ, ◌<◌, Bool, true, fa
 use Rattle.std.proofs.lemmas.List.{length-set, get_or-set_same, set-get_or}
 use Rattle.pif_types.specs.declared.requests.Kind.TheVariants.{ErrorCheck}
 use Rattle.pif_types.specs.declared.requests.Request.{Request}
-use Rattle.pif_types.specs.declared.requests.Request.TheVariants.{Lock, Unlock}
+use Rattle.pif_types.specs.declared.requests.Request.TheVariants.{Lock, Unlock, SetPrio}
 use Rattle.pif_model.specs.declared.events.Event.TheVariants.{Go}
 use Rattle.pif_model.specs.declared.events.Seen.{Seen}
 use Rattle.pif_model.specs.declared.events.Seen.TheVariants.{Begun, Went, Waits, Answered, Refused}
@@ -15,7 +15,7 @@ use Rattle.pif_model.specs.declared.lines.Line.TheVariants.{Idle, At}
 use Rattle.pif_model.specs.declared.lines.Place.{Place}
 use Rattle.pif_model.specs.declared.lines.Status.{Status}
 use Rattle.pif_model.specs.Graph.{has_waiter}
-use Rattle.pif_model.specs.Posix.{Progress, Call, Thread, Mutex, World, Effect, Effects, no_mutex, nobody, named_by, thread_at, mutex_at, with_thread, with_mutex, with_progress, progressed, on_taking, effective_of}
+use Rattle.pif_model.specs.Posix.{Progress, Call, Thread, Mutex, World, Effect, Effects, no_mutex, nobody, named_by, names_known, thread_at, mutex_at, with_thread, with_mutex, with_progress, progressed, on_taking, effective_of}
 use Rattle.pif_model.specs.Posix.Health.{Inconsistent}
 use Rattle.pif_model.specs.Posix.Progress.{Fresh, Has}
 use Rattle.pif_model.specs.Posix.Effect.{lock, unlock}
@@ -31,7 +31,7 @@ use Rattle.pif_simulation.proofs.Hole.{unwritten, put_row, put_cell, same_waiter
 use Rattle.pif_simulation.proofs.Effective.{kept_at}
 use Rattle.pif_simulation.proofs.Owning.{next_none}
 use Rattle.pif_simulation.proofs.Projection.{thread_seen, mutex_seen, row_seen, cell_seen, progress_seen, closed_progressed, call_progressed}
-use Rattle.pif_simulation.proofs.Steps.{Keeps, GoKeeps, Going, going_named, going_called, going_below, goes_with, answers_with}
+use Rattle.pif_simulation.proofs.Steps.{Keeps, GoKeeps, Going, going_called, going_below, goes_with, answers_with}
 
 -- WHAT A LINE SEES AND DOES
 
@@ -164,11 +164,17 @@ module _ {added : ℕ → Bool} {waited : Bool} {t m : ℕ} {q : Request} {v : S
 
 -- A LOCAL LINE KEEPS THE INVARIANT
 
+-- a request whose mutex exists names one that does
+known_named : (exists : ℕ → Bool) (q : Request) → exists (named_by q) ≡ true → names_known exists q ≡ true
+known_named exists (Lock m) e = e
+known_named exists (Unlock m) e = e
+known_named exists (SetPrio u p) e = refl
+
 -- what a thread knows of one mutex is what it knows in a table that has that mutex
 line_after : (exists : ℕ → Bool) (cell : ℕ → Cell) (t m : ℕ) (x : Status) (c : Cell) (l : Line) → exists m ≡ true → cell m ≡ c → KnowsAfter t m x c l → LineIsSound exists cell t x l
 line_after exists cell t m x c Idle e f k = k
 line_after exists cell t m x c (At q p) e f k = (
-  ap exists k.0 ∙ e,
+  known_named exists q (ap exists k.0 ∙ e),
   k.1,
   subst (λ d. MeetsAll t x d (needs p)) (sym (ap cell k.0 ∙ f)) k.2,
 )
@@ -221,7 +227,7 @@ module _ (s : Table) (t m : ℕ) (q : Request) (a : Progress) (o : Move) (h : Is
   moved_there : has_thread after t ≡ true
   moved_there = ap (λ n. if t == 0 then false else nat_lt t n) (length-set s.rows t o.row) ∙ k
 
-module _ {s : Table} {shadow : Shadow} {t : ℕ} {q : Request} {p : Place} (g : Going s shadow t q p) where
+module _ {s : Table} {shadow : Shadow} {t : ℕ} {q : Request} {p : Place} (g : Going s shadow t q p) (named : has_mutex s (named_by q) ≡ true) where
   -- the table with the mutex that a move leaves
   abbrev written : Move → Table
   written o = with_cell (named_by q) o.cell s
@@ -257,8 +263,8 @@ module _ {s : Table} {shadow : Shadow} {t : ℕ} {q : Request} {p : Place} (g : 
   pub local_by : (a : Progress) (o : Move) → IsLocal (has_thread s) (has_waiter s.waiters (named_by q)) t (named_by q) q a (sight s t (named_by q)) o
       → Effects t (world_of s shadow) (with_progress t a (with_mutex (named_by q) (mutex_of o.cell) (world_of s shadow))) → GoKeeps s shadow t (moved t (named_by q) o s)
   local_by a o l effects = shown a o o.seen
-      (move_sound s t (named_by q) q a o g.sound g.known (going_named g) l) l.base l.living
-      (moved_there s t (named_by q) q a o g.sound g.known (going_named g) l) (moved_ready s t (named_by q) q a o g.sound g.known (going_named g) l)
+      (move_sound s t (named_by q) q a o g.sound g.known named l) l.base l.living
+      (moved_there s t (named_by q) q a o g.sound g.known named l) (moved_ready s t (named_by q) q a o g.sound g.known named l)
       (subst (λ (x : World). Effects t (world_of s shadow) (with_progress t a x)) (sym (cell_seen s shadow (named_by q) o.cell)) effects) l.shows
 
   -- a local move is an entry of the POSIX machine, and keeps the invariant
@@ -269,7 +275,7 @@ module _ {s : Table} {shadow : Shadow} {t : ℕ} {q : Request} {p : Place} (g : 
 
   -- the mutex of t's call is sound
   pub going_cell : CellIsSound (has_thread s) (has_waiter s.waiters (named_by q)) (cell_at s (named_by q))
-  going_cell = g.sound.all.cells (named_by q) (going_named g)
+  going_cell = g.sound.all.cells (named_by q) named
 
   -- a row alone is put where its mutex stays
   cell_stays : (r : Row) → with_row t r (with_cell (named_by q) (cell_at s (named_by q)) s) ≡ with_row t r s

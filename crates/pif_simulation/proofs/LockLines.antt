@@ -42,11 +42,11 @@ module _ (s : Table) (shadow : Shadow) (t m : ℕ) where
 
   -- t takes a free mutex by its word
   takes : {p : Place} (g : Going s shadow t (Lock m) p) → is_ready (row_at s t).status ≡ true → progress_at p (row_at s t).status ≡ Fresh → (cell_at s m).word.number ≡ 0 → GoKeeps s shadow t (answers t 0 (with_word m (held_by t) s))
-  takes g ready fresh zero = local_kept g (Has 0) (answering 0 (record (cell_at s m) { word = held_by t }) (sight s t m))
+  takes g ready fresh zero = local_kept g (going_named g) (Has 0) (answering 0 (record (cell_at s m) { word = held_by t }) (sight s t m))
       (answering_is_local ready refl 0 (record (cell_at s m) { word = held_by t })
-      (reworded (going_cell g) (held_by t) (none_from_free (going_cell g) zero) refl (λ n. g.known) (λ e. absurd (has_thread_above_0 s t g.known e)))
+      (reworded (going_cell g (going_named g)) (held_by t) (none_from_free (going_cell g (going_named g)) zero) refl (λ n. g.known) (λ e. absurd (has_thread_above_0 s t g.known e)))
       refl (λ u d z. record { kind = refl; owner = λ e. absurd (z (sym e ∙ zero)); other = λ e q. d (sym q) }))
-      (locks_free refl fresh (λ e. has_thread_above_0 s t g.known (sym e ∙ zero)) zero (sym (ap on_taking (in_order (going_cell g)))) (taken_seen (going_cell g) t))
+      (locks_free refl fresh (λ e. has_thread_above_0 s t g.known (sym e ∙ zero)) zero (sym (ap on_taking (in_order (going_cell g (going_named g))))) (taken_seen (going_cell g (going_named g)) t))
 
   -- a lock that has had no effect yet is locking by this rule
   locks : {p : Place} (g : Going s shadow t (Lock m) p) → progress_at p (row_at s t).status ≡ Fresh → (v : World) → Locks t m (world_of s shadow) v → Effect t (world_of s shadow) v
@@ -55,8 +55,8 @@ module _ (s : Table) (shadow : Shadow) (t m : ℕ) where
   -- the load of the owner, by the kind
   load_own : (g : Going s shadow t (Lock m) LockLoad) → (cell_at s m).word.number ≡ t → (k : Kind) → (cell_at s m).kind ≡ k
       → GoKeeps s shadow t (elim k [ Normal ↦ record { seen = Went; after = with_line t (At (Lock m) LockStop) s } | ErrorCheck ↦ record { seen = Answered 35; after = with_line t Idle s } ])
-  load_own g own Normal k = goes g LockStop (going_met g).0 refl refl (assumption (going_met g, own, k))
-  load_own g own ErrorCheck k = answers_local g 35 (going_met g).0 (locks_own_errorcheck refl refl own k refl refl)
+  load_own g own Normal k = goes g (going_named g) LockStop (going_met g).0 refl refl (assumption (going_met g, own, k))
+  load_own g own ErrorCheck k = answers_local g (going_named g) 35 (going_met g).0 (locks_own_errorcheck refl refl own k refl refl)
 
   -- lock: load the word
   pub lock_load_kept : Going s shadow t (Lock m) LockLoad → GoKeeps s shadow t (lock_load t m s)
@@ -64,7 +64,7 @@ module _ (s : Table) (shadow : Shadow) (t m : ℕ) where
   lock_load_kept g = by_test (λ b. GoKeeps s shadow t (if b then elim (cell_at s m).kind [ Normal ↦ record { seen = Went; after = with_line t (At (Lock m) LockStop) s } | ErrorCheck ↦ record { seen = Answered 35; after = with_line t Idle s } ] else record { seen = Went; after = with_line t (At (Lock m) LockExchange) s }))
       ((cell_at s m).word.number == t)
       (λ e. load_own g (eqb-true (cell_at s m).word.number t e) (cell_at s m).kind refl)
-      (λ e. goes g LockExchange (going_met g).0 refl refl (assumption (going_met g, eqb-false (cell_at s m).word.number t e)))
+      (λ e. goes g (going_named g) LockExchange (going_met g).0 refl refl (assumption (going_met g, eqb-false (cell_at s m).word.number t e)))
 
   -- lock: compare-exchange from 0 to t
   pub lock_exchange_kept : Going s shadow t (Lock m) LockExchange → GoKeeps s shadow t (lock_exchange t m s)
@@ -72,7 +72,7 @@ module _ (s : Table) (shadow : Shadow) (t m : ℕ) where
   lock_exchange_kept g = by_test (λ b. GoKeeps s shadow t (if b then record { seen = Answered 0; after = with_line t Idle (with_word m (held_by t) s) } else record { seen = Went; after = with_line t (At (Lock m) LockKernel) s }))
       (is_bare (cell_at s m).word 0)
       (λ e. takes g (going_met g).0 refl (bare (cell_at s m).word 0 e).1)
-      (λ e. goes g LockKernel (going_met g).0 refl refl (assumption (going_met g)))
+      (λ e. goes g (going_named g) LockKernel (going_met g).0 refl refl (assumption (going_met g)))
 
   -- lock: stop for good
   pub lock_stop_kept : Going s shadow t (Lock m) LockStop → GoKeeps s shadow t (lock_stop t m s)
@@ -87,7 +87,7 @@ module _ (s : Table) (shadow : Shadow) (t m : ℕ) where
 
   -- lock: queued, or made the owner, by the status
   queued_by : (g : Going s shadow t (Lock m) LockQueued) (x : Status) → (row_at s t).status ≡ x → GoKeeps s shadow t (if is_ready x then record { seen = Answered 0; after = with_line t Idle s } else record { seen = Waits; after = s })
-  queued_by g (Ready w) e = answers_local g 0 (ap is_ready e) (nothing (sym (ap (progress_at LockQueued) e)) refl)
+  queued_by g (Ready w) e = answers_local g (going_named g) 0 (ap is_ready e) (nothing (sym (ap (progress_at LockQueued) e)) refl)
   queued_by g (Queued n) e = waits_with g s g.sound g.known (ap is_ready e) refl (none refl)
   queued_by g Stopped e = waits_with g s g.sound g.known (ap is_ready e) refl (none refl)
 
@@ -112,7 +112,7 @@ module _ (s : Table) (shadow : Shadow) (t m : ℕ) where
   kernel_takes : (g : Going s shadow t (Lock m) LockKernel) → (cell_at s m).word.number ≡ 0 → lock_pi_answer t m s ≡ Ok TookOwns → GoKeeps s shadow t (lock_kernel t m s)
   unfolding lock_kernel lock_by lock_pi_after
   kernel_takes g zero e = subst (λ a. GoKeeps s shadow t (lock_by a t m (lock_pi_after t m a s))) (sym e)
-      (subst (λ w. Keeps s shadow (Happened (Go t) (Answered 0)) (with_line t Idle (with_word m w s))) (λ i. record { number = t; waiters = false; died = sym (going_cell g).no_death i })
+      (subst (λ w. Keeps s shadow (Happened (Go t) (Answered 0)) (with_line t Idle (with_word m w s))) (λ i. record { number = t; waiters = false; died = sym (going_cell g (going_named g)).no_death i })
       (takes g (going_met g).0 refl zero))
 
   -- the kernel queues t
@@ -129,14 +129,14 @@ module _ (s : Table) (shadow : Shadow) (t m : ℕ) where
   kernel_refuses : (g : Going s shadow t (Lock m) LockKernel) → lock_pi_answer t m s ≡ Err Deadlock → GoKeeps s shadow t (lock_kernel t m s)
   unfolding lock_kernel lock_by lock_pi_after
   kernel_refuses g e = subst (λ a. GoKeeps s shadow t (lock_by a t m (lock_pi_after t m a s))) (sym e)
-      (answers_alone g 35 (going_met g).0 (locks g refl _ (deadlock_locks s shadow t m g.sound g.known g.line e)))
+      (answers_alone g (going_named g) 35 (going_met g).0 (locks g refl _ (deadlock_locks s shadow t m g.sound g.known g.line e)))
 
   -- lock: the kernel call lock_pi
   pub lock_kernel_kept : Going s shadow t (Lock m) LockKernel → GoKeeps s shadow t (lock_kernel t m s)
   lock_kernel_kept g = go (cases_eq (cell_at s m).word.number 0)
     where
       c : CellIsSound (has_thread s) (has_waiter s.waiters m) (cell_at s m)
-      c = going_cell g
+      c = going_cell g (going_named g)
 
       named : has_mutex s m ≡ true
       named = going_named g

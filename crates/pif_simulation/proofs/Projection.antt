@@ -2,6 +2,7 @@
 use Rattle.std.proofs.Common.{◌≡◌, ◌≢◌, ℕ, ◌<◌, true, false, ◌==◌, nat_lt, length, set, map, Some, None, is_some, refl, sym, ap, ◌∙◌, if◌then◌else◌}
 use Rattle.std.proofs.lemmas.List.{length-map, map-set, set-set, get_or-set_same}
 use Rattle.pif_types.specs.declared.requests.Request.{Request}
+use Rattle.pif_types.specs.declared.requests.Request.TheVariants.{Lock, Unlock, SetPrio}
 use Rattle.pif_model.specs.declared.events.Event.{Event}
 use Rattle.pif_model.specs.declared.events.Event.TheVariants.{Begin, Go}
 use Rattle.pif_model.specs.declared.lines.Line.{Line}
@@ -9,11 +10,12 @@ use Rattle.pif_model.specs.declared.lines.Line.TheVariants.{Idle, At}
 use Rattle.pif_model.specs.declared.lines.Place.{Place}
 use Rattle.pif_model.specs.declared.lines.Status.{Status}
 use Rattle.pif_model.specs.Refusals.{begin_refused, go_refused}
-use Rattle.pif_model.specs.Posix.{Progress, Call, Thread, World, nobody, thread_at, mutex_at, is_thread, is_mutex, with_thread, with_mutex, with_progress, progressed, refusal_of, named_by}
+use Rattle.pif_model.specs.Posix.{Progress, Call, Thread, World, nobody, thread_at, mutex_at, is_thread, is_mutex, with_thread, with_mutex, with_base, with_progress, progressed, refusal_of, names_known}
 use Rattle.pif_model.specs.Table.{Table, Row, Cell, no_row, no_cell, row_at, cell_at, has_thread, has_mutex, with_row, with_cell, with_line}
 use Rattle.pif_model.specs.Lines.{is_open, table_refusal}
 use Rattle.pif_model.specs.Standing.{Shadow, call_at, thread_of, mutex_of, world_of}
 use Rattle.pif_simulation.proofs.Places.{mapped_at}
+use Rattle.pif_simulation.proofs.Effective.{kept_at}
 use Rattle.pif_simulation.proofs.Kept.{above_0, below}
 
 -- PLACES
@@ -61,9 +63,15 @@ is_open_seen (At q p) x = refl
 pub busy_seen : (s : Table) (shadow : Shadow) (t : ℕ) → is_some (thread_at (world_of s shadow) t).call ≡ is_open (row_at s t).line
 busy_seen s shadow t = ap (λ (x : Thread). is_some x.call) (thread_seen s shadow t) ∙ is_open_seen (row_at s t).line (row_at s t).status
 
+-- both machines know the mutex that a request names, or neither
+named_seen : (s : Table) (shadow : Shadow) (q : Request) → names_known (is_mutex (world_of s shadow)) q ≡ names_known (has_mutex s) q
+named_seen s shadow (Lock m) = is_mutex_seen s shadow m
+named_seen s shadow (Unlock m) = is_mutex_seen s shadow m
+named_seen s shadow (SetPrio u p) = refl
+
 -- both machines refuse the same events
 pub refusal_seen : (s : Table) (shadow : Shadow) (e : Event) → refusal_of (world_of s shadow) e ≡ table_refusal s e
-refusal_seen s shadow (Begin t q) = λ i. begin_refused (is_thread_seen s shadow t i) (busy_seen s shadow t i) (is_mutex_seen s shadow (named_by q) i)
+refusal_seen s shadow (Begin t q) = λ i. begin_refused (is_thread_seen s shadow t i) (busy_seen s shadow t i) (named_seen s shadow q i)
 refusal_seen s shadow (Go t) = λ i. go_refused (is_thread_seen s shadow t i) (busy_seen s shadow t i)
 
 -- CHANGES
@@ -103,6 +111,10 @@ thread_changed w t x h = get_or-set_same w.threads t x nobody h
 -- a thread that was changed twice
 pub thread_changed_twice : (w : World) (t : ℕ) (x y : Thread) → with_thread t y (with_thread t x w) ≡ with_thread t y w
 thread_changed_twice w t x y = λ i. record w { threads = set-set w.threads t x y i }
+
+-- a change of a base priority leaves every call
+pub call_rebased : (w : World) (u p t : ℕ) → (thread_at (with_base u p w) t).call ≡ (thread_at w t).call
+call_rebased w u p t = kept_at (λ (x : Thread). x.call) w.threads u (record (thread_at w u) { base = p }) nobody refl t
 
 -- the state once t's call is closed
 abbrev pub closed : ℕ → World → World

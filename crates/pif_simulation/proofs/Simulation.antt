@@ -4,7 +4,7 @@ use Rattle.std.proofs.lemmas.Bool.{true≢false}
 use Rattle.std.proofs.lemmas.List.{set-get_or}
 use Rattle.pif_types.specs.declared.errors.Refusal.{Refusal}
 use Rattle.pif_types.specs.declared.requests.Request.{Request}
-use Rattle.pif_types.specs.declared.requests.Request.TheVariants.{Lock, Unlock}
+use Rattle.pif_types.specs.declared.requests.Request.TheVariants.{Lock, Unlock, SetPrio}
 use Rattle.pif_model.specs.declared.events.Event.{Event}
 use Rattle.pif_model.specs.declared.events.Event.TheVariants.{Begin, Go}
 use Rattle.pif_model.specs.declared.events.Seen.TheVariants.{Begun}
@@ -12,10 +12,10 @@ use Rattle.pif_model.specs.declared.events.Entry.TheVariants.{Step as Happened}
 use Rattle.pif_model.specs.declared.lines.Line.{Line}
 use Rattle.pif_model.specs.declared.lines.Line.TheVariants.{Idle, At}
 use Rattle.pif_model.specs.declared.lines.Place.{Place}
-use Rattle.pif_model.specs.declared.lines.Place.TheVariants.{LockLoad, LockExchange, LockKernel, LockQueued, LockStop, LockStopped, UnlockLoad, UnlockExchange, UnlockKernel}
+use Rattle.pif_model.specs.declared.lines.Place.TheVariants.{LockLoad, LockExchange, LockKernel, LockQueued, LockStop, LockStopped, UnlockLoad, UnlockExchange, UnlockKernel, SetPriority}
 use Rattle.pif_model.specs.declared.lines.Status.{Status}
 use Rattle.pif_model.specs.Refusals.{begin_refused, go_refused}
-use Rattle.pif_model.specs.Posix.{Step, thread_at, with_thread, named_by}
+use Rattle.pif_model.specs.Posix.{Step, thread_at, with_thread, names_known}
 use Rattle.pif_model.specs.Posix.Progress.{Fresh}
 use Rattle.pif_model.specs.Posix.Step.{refused, begun}
 use Rattle.pif_model.specs.Table.{Table, no_cell, row_at, cell_at, has_thread, has_mutex, with_row, with_line, is_ready}
@@ -26,6 +26,8 @@ use Rattle.pif_simulation.proofs.Steps.{Keeps, GoKeeps, Going, knows, going_belo
 use Rattle.pif_simulation.proofs.Hole.{unwritten}
 use Rattle.pif_simulation.proofs.Local.{Move, KnowsAfter, sight, going_to, move_sound}
 use Rattle.pif_simulation.proofs.LockLines.{lock_load_kept, lock_exchange_kept, lock_kernel_kept, lock_queued_kept, lock_stop_kept, lock_stopped_kept}
+use Rattle.pif_simulation.proofs.Rows.{lined_sound}
+use Rattle.pif_simulation.proofs.SetPriorityLine.{set_priority_kept}
 use Rattle.pif_simulation.proofs.UnlockLines.{unlock_load_kept, unlock_exchange_kept, unlock_kernel_kept}
 
 -- a Go that is not refused: the thread is there, with a call open
@@ -49,36 +51,24 @@ idle_line (At q p) e = absurd (true≢false e)
 -- A CALL BEGINS
 
 -- where a call begins it rests on its thread alone
-begins_sound : (s : Table) (t : ℕ) (x : Status) (q : Request) → has_mutex s (named_by q) ≡ true → is_ready x ≡ true → KnowsAfter t (named_by q) x (cell_at s (named_by q)) (At q (first_place q))
-begins_sound s t x (Lock m) named ready = (refl, refl, (ready, tt))
-begins_sound s t x (Unlock m) named ready = (refl, refl, (ready, tt))
+begins_sound : (s : Table) (t : ℕ) (x : Status) (q : Request) → names_known (has_mutex s) q ≡ true → is_ready x ≡ true → LineIsSound (has_mutex s) (cell_at s) t x (At q (first_place q))
+begins_sound s t x (Lock m) named ready = (named, refl, (ready, tt))
+begins_sound s t x (Unlock m) named ready = (named, refl, (ready, tt))
+begins_sound s t x (SetPrio u p) named ready = (refl, refl, (ready, tt))
 
 -- a call that begins has had no effect
 begins_fresh : (q : Request) (x : Status) → call_at (At q (first_place q)) x ≡ Some (record { request = q; progress = Fresh })
 begins_fresh (Lock m) x = refl
 begins_fresh (Unlock m) x = refl
+begins_fresh (SetPrio u p) x = refl
 
 -- to begin a call is an entry of the POSIX machine, and keeps the invariant
 begin_kept : (s : Table) (shadow : Shadow) (t : ℕ) (q : Request) → IsSound s → table_refusal s (Begin t q) ≡ None → Keeps s shadow (Happened (Begin t q) Begun) (with_line t (At q (first_place q)) s)
 begin_kept s shadow t q h e =
-    let a = begin_allowed (has_thread s t) (is_open (row_at s t).line) (has_mutex s (named_by q)) e in
+    let a = begin_allowed (has_thread s t) (is_open (row_at s t).line) (names_known (has_mutex s) q) e in
     let ready : is_ready (row_at s t).status ≡ true = subst (LineIsSound (has_mutex s) (cell_at s) t (row_at s t).status) (idle_line (row_at s t).line a.1) (knows s t h a.0).line in
-    let m : ℕ = named_by q in
-    let o : Move = going_to q (first_place q) (cell_at s m) (sight s t m) in
-    let c = h.all.cells m a.2 in
     record {
-      sound = subst IsSound (λ i. with_row t o.row (record s { cells = set-get_or s.cells m no_cell i }))
-          (move_sound s t m q Fresh o h a.0 a.2 (record {
-            ready = ready;
-            base = refl;
-            living = refl;
-            status = refl;
-            knows = begins_sound s t (row_at s t).status q a.2 ready;
-            cell = c;
-            state = refl;
-            spares = λ u d z. unwritten u (cell_at s m) (cell_at s m) refl;
-            shows = begins_fresh q (row_at s t).status;
-          }));
+      sound = lined_sound s t (At q (first_place q)) h a.0 ready (begins_sound s t (row_at s t).status q a.2 ready);
       next = shadow;
       step = begun t q refl (refusal_seen s shadow (Begin t q) ∙ e)
           (line_seen s shadow t (At q (first_place q)) ∙ ap (λ c. with_thread t (record (thread_at (world_of s shadow) t) { call = c }) (world_of s shadow)) (begins_fresh q (row_at s t).status));
@@ -99,6 +89,7 @@ call_kept s shadow t (Lock m) LockStopped g b = lock_stopped_kept s shadow t m g
 call_kept s shadow t (Unlock m) UnlockLoad g b = unlock_load_kept s shadow t m g
 call_kept s shadow t (Unlock m) UnlockExchange g b = unlock_exchange_kept s shadow t m g
 call_kept s shadow t (Unlock m) UnlockKernel g b = unlock_kernel_kept s shadow t m g
+call_kept s shadow t (SetPrio u p) SetPriority g b = set_priority_kept s shadow t u p g
 call_kept s shadow t _ _ g b = absurd (true≢false (sym b))
 
 -- a step of what is open at a line

@@ -15,7 +15,7 @@ use Rattle.pif_model.specs.declared.lines.Status.{Status}
 use Rattle.pif_model.specs.declared.lines.Status.TheVariants.{Ready, Queued, Stopped}
 use Rattle.pif_model.specs.Graph.{waited_by}
 use Rattle.pif_model.specs.Refusals.{go_refused}
-use Rattle.pif_model.specs.Posix.{Thread, World, Step, Effects, thread_at, refusal_of, named_by, rests, is_stuck}
+use Rattle.pif_model.specs.Posix.{Thread, World, Step, Effects, thread_at, refusal_of, named_by, names_known, rests, is_stuck}
 use Rattle.pif_model.specs.Posix.Progress.{Has}
 use Rattle.pif_model.specs.Posix.Step.{went, waits, answered}
 use Rattle.pif_model.specs.Table.{Table, Cell, row_at, cell_at, has_thread, has_mutex, is_ready, queued_on}
@@ -115,8 +115,8 @@ module _ {s : Table} {shadow : Shadow} {t : ℕ} {q : Request} {p : Place} (g : 
   going_knows : LineIsSound (has_mutex s) (cell_at s) t (row_at s t).status (At q p)
   going_knows = subst (LineIsSound (has_mutex s) (cell_at s) t (row_at s t).status) g.line (knows s t g.sound g.known).line
 
-  -- the mutex of the call exists
-  pub going_named : has_mutex s (named_by q) ≡ true
+  -- the mutex that the call names exists
+  pub going_named : names_known (has_mutex s) q ≡ true
   going_named = going_knows.0
 
   -- the place is one of the call's

@@ -18,7 +18,7 @@ use Rattle.pif_model.specs.Posix.Step.{answered}
 use Rattle.pif_model.specs.Posix.Effects.{none, then as first}
 use Rattle.pif_model.specs.Table.{Table, row_at, cell_at, has_thread, has_mutex, with_line, with_word, is_ready}
 use Rattle.pif_model.specs.Kernel.{unlock_pi_answer, unlock_pi_after, handed_to, kernel_next}
-use Rattle.pif_model.specs.Lines.{answers, unlock_load, unlock_exchange, unlock_by, unlock_kernel}
+use Rattle.pif_model.specs.Lines.{answers, unlock_load, unlock_exchange, answered_by, unlock_kernel}
 use Rattle.pif_model.specs.Standing.{Shadow, CellIsSound, progress_at, world_of}
 use Rattle.pif_simulation.proofs.Waiting.{by_test}
 use Rattle.pif_simulation.proofs.HandOver.{AtHandOver, handed_over, hand_sound, hand_unlocks, hand_call, hand_world, hand_rests}
@@ -36,11 +36,11 @@ module _ (s : Table) (shadow : Shadow) (t m : ℕ) where
   -- t gives up a mutex for which nobody waits by its word
   gives_up : {p : Place} (g : Going s shadow t (Unlock m) p) → is_ready (row_at s t).status ≡ true → progress_at p (row_at s t).status ≡ Fresh → (cell_at s m).word.number ≡ t → has_waiter s.waiters m ≡ false
       → GoKeeps s shadow t (answers t 0 (with_word m free_word s))
-  gives_up g ready fresh own alone = local_kept g (Has 0) (answering 0 (record (cell_at s m) { word = free_word }) (sight s t m))
+  gives_up g ready fresh own alone = local_kept g (going_named g) (Has 0) (answering 0 (record (cell_at s m) { word = free_word }) (sight s t m))
       (answering_is_local ready refl 0 (record (cell_at s m) { word = free_word })
-      (reworded (going_cell g) free_word alone refl (λ n. absurd (n refl)) (λ e. refl))
+      (reworded (going_cell g (going_named g)) free_word alone refl (λ n. absurd (n refl)) (λ e. refl))
       refl (λ u d z. record { kind = refl; owner = λ e. absurd (d (sym e ∙ own)); other = λ e q. z (sym q) }))
-      (unlocks_own refl fresh own (λ e. fine_not_inconsistent (sym (in_order (going_cell g)) ∙ e)) alone refl (freed_seen (going_cell g)))
+      (unlocks_own refl fresh own (λ e. fine_not_inconsistent (sym (in_order (going_cell g (going_named g))) ∙ e)) alone refl (freed_seen (going_cell g (going_named g))))
     where
       fine_not_inconsistent : Fine ≡ Inconsistent → ⊥
       fine_not_inconsistent e = cc
@@ -50,16 +50,16 @@ module _ (s : Table) (shadow : Shadow) (t m : ℕ) where
   unfolding unlock_load
   unlock_load_kept g = by_test (λ b. GoKeeps s shadow t (if b then record { seen = Went; after = with_line t (At (Unlock m) UnlockExchange) s } else record { seen = Answered 1; after = with_line t Idle s }))
       ((cell_at s m).word.number == t)
-      (λ e. goes g UnlockExchange (going_met g).0 refl refl (assumption (going_met g, eqb-true (cell_at s m).word.number t e)))
-      (λ e. answers_local g 1 (going_met g).0 (unlocks_not_own refl refl (eqb-false (cell_at s m).word.number t e) refl refl))
+      (λ e. goes g (going_named g) UnlockExchange (going_met g).0 refl refl (assumption (going_met g, eqb-true (cell_at s m).word.number t e)))
+      (λ e. answers_local g (going_named g) 1 (going_met g).0 (unlocks_not_own refl refl (eqb-false (cell_at s m).word.number t e) refl refl))
 
   -- unlock: compare-exchange from t to 0
   pub unlock_exchange_kept : Going s shadow t (Unlock m) UnlockExchange → GoKeeps s shadow t (unlock_exchange t m s)
   unfolding unlock_exchange
   unlock_exchange_kept g = by_test (λ b. GoKeeps s shadow t (if b then record { seen = Answered 0; after = with_line t Idle (with_word m free_word s) } else record { seen = Went; after = with_line t (At (Unlock m) UnlockKernel) s }))
       (is_bare (cell_at s m).word t)
-      (λ e. gives_up g (going_met g).0 refl (going_met g).1.0 (none_from_flag (going_cell g) (bare (cell_at s m).word t e).0))
-      (λ e. goes g UnlockKernel (going_met g).0 refl refl (assumption (going_met g)))
+      (λ e. gives_up g (going_met g).0 refl (going_met g).1.0 (none_from_flag (going_cell g (going_named g)) (bare (cell_at s m).word t e).0))
+      (λ e. goes g (going_named g) UnlockKernel (going_met g).0 refl refl (assumption (going_met g)))
 
   -- what unlock_pi answers to the owner
   answer_owner : has_mutex s m ≡ true → (cell_at s m).word.number ≡ t → (if (cell_at s m).state == 0 then true else (cell_at s m).state == t) ≡ true → unlock_pi_answer t m s ≡ Ok (record {})
@@ -85,8 +85,8 @@ module _ (s : Table) (shadow : Shadow) (t m : ℕ) where
 
   -- unlock: the kernel call unlock_pi
   pub unlock_kernel_kept : Going s shadow t (Unlock m) UnlockKernel → GoKeeps s shadow t (unlock_kernel t m s)
-  unfolding unlock_kernel unlock_by unlock_pi_after
-  unlock_kernel_kept g = subst (λ a. GoKeeps s shadow t (unlock_by a t (unlock_pi_after t m a s))) (sym answer)
+  unfolding unlock_kernel answered_by unlock_pi_after
+  unlock_kernel_kept g = subst (λ a. GoKeeps s shadow t (answered_by a t (unlock_pi_after t m a s))) (sym answer)
       (by_test (λ b. Keeps s shadow (Happened (Go t) (Answered 0)) (with_line t Idle (if b then with_word m free_word s else handed_to (kernel_next s m) m s))) ((cell_at s m).state == 0)
       (λ e. gives_up g (going_met g).0 refl own (none_from_state c (λ z. has_thread_above_0 s t g.known (sym own ∙ z)) (eqb-true (cell_at s m).state 0 e)))
       (λ e. kernel_hands g (eqb-false (cell_at s m).state 0 e)))
@@ -95,7 +95,7 @@ module _ (s : Table) (shadow : Shadow) (t m : ℕ) where
       own = (going_met g).1.0
 
       c : CellIsSound (has_thread s) (has_waiter s.waiters m) (cell_at s m)
-      c = going_cell g
+      c = going_cell g (going_named g)
 
       answer : unlock_pi_answer t m s ≡ Ok (record {})
       answer = answer_owner (going_named g) own (subst (λ n. (if (cell_at s m).state == 0 then true else (cell_at s m).state == n) ≡ true) own (state_agrees c))

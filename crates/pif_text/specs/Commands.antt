@@ -3,7 +3,7 @@ use Rattle.std.specs.Prelude.{ℕ, List, [], ◌∷◌, Option, Some, None, opti
 use Rattle.pif_types.specs.declared.requests.Kind.{Kind}
 use Rattle.pif_types.specs.declared.requests.Kind.TheVariants.{Normal, ErrorCheck}
 use Rattle.pif_types.specs.declared.requests.Request.{Request}
-use Rattle.pif_types.specs.declared.requests.Request.TheVariants.{Lock, Unlock}
+use Rattle.pif_types.specs.declared.requests.Request.TheVariants.{Lock, Unlock, SetPrio}
 use Rattle.pif_text.specs.declared.commands.Command.{Command}
 use Rattle.pif_text.specs.declared.commands.Command.TheVariants.{Limits, Thread, Mutex, Begin, Go, Call, Finish, Word, Prio, Pick}
 use Rattle.pif_text.specs.Numbers.{number_in, thread_in, mutex_in}
@@ -22,11 +22,20 @@ kind_in word =
     else if bytes_eq word (codes "errorcheck") then Some ErrorCheck
     else None
 
--- A request: `lock mN` or `unlock mN`.
+-- A request of two words: `lock mN` or `unlock mN`.
 unfoldable pub request_in : List ℕ → List ℕ → Option Request
 request_in call mutex =
     if bytes_eq call (codes "lock") then option_map Lock (mutex_in mutex)
     else if bytes_eq call (codes "unlock") then option_map Unlock (mutex_in mutex)
+    else None
+
+-- A request of three words: `setprio tN P`.
+unfoldable pub request_in_three : List ℕ → List ℕ → List ℕ → Option Request
+request_in_three call thread priority =
+    if bytes_eq call (codes "setprio") then (do
+      t ← thread_in thread
+      p ← number_in priority
+      Some (SetPrio t p))
     else None
 
 -- A command of one word: `pick`.
@@ -46,7 +55,7 @@ command_of_two name word =
     else if bytes_eq name (codes "mutex") then option_map Mutex (kind_in word)
     else None
 
--- A command of four words: `call tN Q` or `begin tN Q`, for a request Q.
+-- A command of four words: `call tN Q` or `begin tN Q`, for a request Q of two words.
 unfoldable pub command_of_four : List ℕ → List ℕ → List ℕ → List ℕ → Option Command
 command_of_four name thread call mutex =
     if bytes_eq name (codes "call") then (do
@@ -59,14 +68,23 @@ command_of_four name thread call mutex =
       Some (Begin t q))
     else None
 
--- A command of five words: `limits T M C S`, for four numbers.
+-- A command of five words: `call tN Q` or `begin tN Q`, for a request Q of three words, or `limits T M C S`, for four
+-- numbers.
 unfoldable pub command_of_five : List ℕ → List ℕ → List ℕ → List ℕ → List ℕ → Option Command
-command_of_five name threads mutexes conds signals =
-    if bytes_eq name (codes "limits") then (do
-      t ← number_in threads
-      m ← number_in mutexes
-      c ← number_in conds
-      s ← number_in signals
+command_of_five name first second third fourth =
+    if bytes_eq name (codes "call") then (do
+      t ← thread_in first
+      q ← request_in_three second third fourth
+      Some (Call t q))
+    else if bytes_eq name (codes "begin") then (do
+      t ← thread_in first
+      q ← request_in_three second third fourth
+      Some (Begin t q))
+    else if bytes_eq name (codes "limits") then (do
+      t ← number_in first
+      m ← number_in second
+      c ← number_in third
+      s ← number_in fourth
       Some (Limits t m c s))
     else None
 

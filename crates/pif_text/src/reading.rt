@@ -1,6 +1,6 @@
 ghost use Rattle.std.specs.Prelude.{◌≡◌, ◌∷◌, []};
 ghost use Rattle.pif_text.specs.Words.{words};
-ghost use Rattle.pif_text.specs.Commands.{kind_in, request_in, command_of_one, command_of_two, command_of_four, command_of_five, command_of_words, command_in};
+ghost use Rattle.pif_text.specs.Commands.{kind_in, request_in, request_in_three, command_of_one, command_of_two, command_of_four, command_of_five, command_of_words, command_in};
 
 use crate::Command;
 use crate::numbers::{mutex_of, number_of, thread_of};
@@ -30,6 +30,18 @@ fn request_of(call: &[u8], mutex: &[u8]) -> Option<Request>
         Some(Request::Lock(mutex_of(mutex)?))
     } else if call == b"unlock".as_slice() {
         Some(Request::Unlock(mutex_of(mutex)?))
+    } else {
+        None
+    }
+}
+
+/// The request that three words write.
+#[tactic(auto, unfolding(crate::specs::Commands::request_in_three))]
+fn request_of_three(call: &[u8], thread: &[u8], priority: &[u8]) -> Option<Request>
+    ensures { result ≡ request_in_three call.now thread.now priority.now }
+{
+    if call == b"setprio".as_slice() {
+        Some(Request::SetPrio(thread_of(thread)?, number_of(priority)?))
     } else {
         None
     }
@@ -85,21 +97,19 @@ fn of_four(name: &[u8], thread: &[u8], call: &[u8], mutex: &[u8]) -> Option<Comm
 
 /// The command of five words.
 #[tactic(auto, unfolding(crate::specs::Commands::command_of_five))]
-fn of_five(
-    name: &[u8],
-    threads: &[u8],
-    mutexes: &[u8],
-    conds: &[u8],
-    signals: &[u8],
-) -> Option<Command>
-    ensures { result ≡ command_of_five name.now threads.now mutexes.now conds.now signals.now }
+fn of_five(name: &[u8], first: &[u8], second: &[u8], third: &[u8], fourth: &[u8]) -> Option<Command>
+    ensures { result ≡ command_of_five name.now first.now second.now third.now fourth.now }
 {
-    if name == b"limits".as_slice() {
+    if name == b"call".as_slice() {
+        Some(Command::Call(thread_of(first)?, request_of_three(second, third, fourth)?))
+    } else if name == b"begin".as_slice() {
+        Some(Command::Begin(thread_of(first)?, request_of_three(second, third, fourth)?))
+    } else if name == b"limits".as_slice() {
         Some(Command::Limits(
-            number_of(threads)?,
-            number_of(mutexes)?,
-            number_of(conds)?,
-            number_of(signals)?,
+            number_of(first)?,
+            number_of(second)?,
+            number_of(third)?,
+            number_of(fourth)?,
         ))
     } else {
         None

@@ -1,4 +1,4 @@
-use crate::MutexId;
+use crate::{MutexId, Tid};
 
 /// The type of a mutex, as pthread_mutexattr_settype has it. PTHREAD_MUTEX_DEFAULT is `Normal`.
 #[derive(Clone, Copy, Debug, PartialEq, Eq, Hash)]
@@ -16,4 +16,6 @@ pub enum Request {
     Lock(MutexId),
     /// pthread_mutex_unlock
     Unlock(MutexId),
+    /// pthread_setschedprio: gives this thread this base priority, which may be out of range.
+    SetPrio(Tid, u32),
 }
