@@ -1,6 +1,6 @@
--- Local lines: a step that sees one thread's row and one mutex and writes only these. What such a line has to show
--- speaks of no other thread and no other mutex, and of no list and no world; one lemma makes it an entry of the POSIX
--- machine that keeps the invariant.
+-- Local lines: a step that sees one thread's row and one mutex and writes only these. What such a line has to show is
+-- of these two alone, with no list and no world in it; one lemma makes it an entry of the POSIX machine that keeps the
+-- invariant.
 use Rattle.std.proofs.Common.{◌≡◌, ◌≢◌, ℕ, ◌<◌, Bool, true, false, ◌==◌, nat_lt, length, Option, Some, None, refl, sym, ap, ap₂, ◌∙◌, subst, if◌then◌else◌}
 use Rattle.std.proofs.lemmas.List.{length-set, get_or-set_same, set-get_or}
 use Rattle.pif_types.specs.declared.requests.Kind.TheVariants.{ErrorCheck}
