@@ -1,0 +1,6 @@
+pub mod ChainLemmas
+pub mod MapLemmas
+pub mod OwnersLemmas
+pub mod FieldsLemmas
+pub mod TopLemmas
+pub mod TestLemmas

@@ -1,0 +1,3 @@
+pub mod Owners
+pub mod Standing
+pub mod Fields
