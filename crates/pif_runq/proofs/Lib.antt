@@ -1,3 +1,4 @@
 pub mod Bits
 pub mod KeptLemmas
 pub mod LevelLemmas
+pub mod LevelWithLemmas

@@ -1,6 +1,6 @@
 -- A run queue: the threads that are ready, by level, as sched(7) has them for SCHED_FIFO. Each level is a list of a
 -- node table, in which each thread has a node.
-use Rattle.std.specs.Prelude.{◌≡◌, ℕ, ◌+◌, ◌-◌, ◌<◌, ◌≤◌, ◌↔◌, true, nat_eq, if◌then◌else◌, List, [], ◌∷◌, ◌++◌, length, map, Some}
+use Rattle.std.specs.Prelude.{◌≡◌, ℕ, ◌+◌, ◌-◌, ◌<◌, ◌≤◌, ◌↔◌, ◌&&◌, true, nat_eq, nat_lt, nat_le, if◌then◌else◌, List, [], ◌∷◌, ◌++◌, length, map, Option, Some, None, option_and_then}
 use Rattle.std.specs.Int.{bit_at}
 use Rattle.pif_nodes.specs.Lists.{has, first_of, without}
 use Rattle.pif_nodes.specs.Table.{Table, list_at, holder, IsApart}
@@ -65,6 +65,14 @@ pub record HasRoom (q : Queue) (t : Table) : Type 0 where
 -- u is on some level
 abbrev pub IsQueued : Queue → Table → ℕ → Type 0
 IsQueued q t u = (p : ℕ) × IsLevel p × (has u (level_of q t p) ≡ true)
+
+-- the level of a list; None where it is the list of no level
+abbrev pub level_for : Queue → ℕ → Option ℕ
+level_for q l = if nat_le q.first_list l && nat_lt l (q.first_list + 99) then Some (l - q.first_list + 1) else None
+
+-- the level on which a thread is: that of the list in which its node is; None where it has no node, or is on no level
+abbrev pub level_with : Queue → Table → ℕ → Option ℕ
+level_with q t u = if nat_le 1 u && nat_le u q.threads then option_and_then (level_for q) (holder t (node_for q u)) else None
 
 -- u is on level p: its node is in the list of that level
 pub record StandsOn (q : Queue) (t : Table) (u p : ℕ) : Type 0 where

@@ -1,8 +1,8 @@
-ghost use Rattle.std.specs.Prelude.{◌≡◌, ℕ, ◌+◌, ◌-◌, ◌<◌, ◌≤◌, ◌^◌, true, [], ◌∷◌, ◌++◌, length, nat_eq, if◌then◌else◌, IfNone, IfSome, IfOk, Some, None};
+ghost use Rattle.std.specs.Prelude.{◌≡◌, ℕ, ◌+◌, ◌-◌, ◌<◌, ◌≤◌, ◌^◌, ◌↔◌, true, [], ◌∷◌, ◌++◌, length, nat_eq, if◌then◌else◌, IfNone, IfSome, IfOk, Some, None};
 ghost use Rattle.std.specs.Int.{bit_at};
-ghost use Rattle.pif_nodes.specs.Lists.{without};
+ghost use Rattle.pif_nodes.specs.Lists.{has, without};
 ghost use Rattle.pif_nodes.specs.Table.{Table, holder};
-ghost use Rattle.pif_runq.specs.Levels.{IsLevel, list_for, node_for, thread_for, IsThreadNode, level_of, HasRoom, Holds, IsQueued, StandsOn, IsFirstOfGreatest, IsEmpty, joined, moved, SameOutside};
+ghost use Rattle.pif_runq.specs.Levels.{IsLevel, list_for, node_for, thread_for, IsThreadNode, level_of, level_with, HasRoom, Holds, IsQueued, StandsOn, IsFirstOfGreatest, IsEmpty, joined, moved, SameOutside};
 ghost use Rattle.pif_runq.specs.Masks.{ChangesBit, IsGreatestBit};
 
 use crate::masks::{greatest_bit, with_bit, without_bit};
@@ -177,5 +177,23 @@ impl RunQueue {
         ensures place { self.new ≡ record self.old { mask = self.new.mask } }
     {
         self.mask = without_bit(self.mask, level);
+    }
+
+    /// The level on which the thread `t` is. `None` where it is on none.
+    pub fn level(&self, table: &NodeTable, t: Tid) -> Option<Prio>
+        requires holds { Holds self.now table.now }
+        ensures level { result ≡ level_with self.now table.now t }
+        ensures queued { (p : ℕ) → IsLevel p
+            → (result ≡ Some p) ↔ (has t (level_of self.now table.now p) ≡ true) }
+    {
+        if t.get() > self.threads {
+            return None;
+        }
+        let list = table.list_of(self.node_for(t))?;
+        let number = list.get();
+        if number < self.first_list || number - self.first_list >= 99 {
+            return None;
+        }
+        Prio::new(number - self.first_list + 1)
     }
 }

@@ -15,7 +15,9 @@ fn run_queue_picks_first_of_greatest(rt: HostRuntime) -> Result<(), Fail> {
     queue.add(&mut table, t2, ten);
     queue.add(&mut table, t3, Prio::new(99).ok_or("level 99")?);
     assert_eq!(rt; queue.pick(&table), Some(t3));
+    assert_eq!(rt; queue.level(&table, t2), Some(ten));
     queue.take_out(&mut table, t3);
+    assert_eq!(rt; queue.level(&table, t3), None);
     assert_eq!(rt; queue.pick(&table), Some(t1));
     queue.move_to(&mut table, t1, Prio::new(20).ok_or("level 20")?);
     assert_eq!(rt; queue.pick(&table), Some(t1));

@@ -1,6 +1,8 @@
-use Rattle.std.proofs.Common.{◌≡◌, ℕ, List, [], ◌∷◌, length, replicate, map, Option, Some, IfSome, ap, refl, arith}
+use Rattle.std.proofs.Common.{◌≡◌, ◌⊎◌, ℕ, List, [], ◌∷◌, ◌++◌, false, inl, inr, if◌then◌else◌, length, replicate, map, Option, Some, IfSome, true, ap, refl, arith}
 use Rattle.std.proofs.lemmas.List.{get_or-replicate, length-replicate}
-use Rattle.pif_nodes.specs.Lists.{without}
+use Rattle.std.proofs.lemmas.Bool.{eq-eqb, cases_Bool}
+use Rattle.pif_nodes.proofs.ListLemmas.{has-head, has-right}
+use Rattle.pif_nodes.specs.Lists.{has, without}
 use Rattle.pif_nodes.specs.Table.{Table, IsApart, list_at}
 use Rattle.pif_runq.specs.Levels.{Queue, IsLevel, level_of, list_for, thread_for, HasRoom, joined, moved}
 use Rattle.pif_runq.proofs.tests.run_queue_picks_first_of_greatest.Goals as goal
@@ -31,12 +33,34 @@ two_joined t1 t2 t3 ten top l0 l1 l2 l3 l4 e1 e2 e3 e10 e99 k0 k1 k2 k3 k4 = rw 
 one_moved : (t1 twenty ten : ℕ) (l4 l5 l6 : List ℕ) → t1 ≡ 1 → twenty ≡ 20 → ten ≡ 10 → l4 ≡ 1 ∷ 2 ∷ [] → l5 ≡ moved t1 twenty 10 l4 → l6 ≡ moved t1 ten 10 l5 → l6 ≡ 2 ∷ 1 ∷ []
 one_moved t1 twenty ten l4 l5 l6 e1 e20 e10 k4 k5 k6 = rw (k6, k5, k4, e1, e20, e10) refl
 
+-- a thread is on the level that it joined
+added : (u p : ℕ) (ts : List ℕ) → has u (joined u p p ts) ≡ true
+added u p ts = rw (eq-eqb p p refl) (has-right u ts (u ∷ []) (has-head u []))
+
+-- and on the one to which it was moved
+moved_there : (u p : ℕ) (ts : List ℕ) → has u (moved u p p ts) ≡ true
+moved_there u p ts = rw (eq-eqb p p refl) (by_place (cases_Bool (has u ts)))
+  where
+    by_place : ((has u ts ≡ true) ⊎ (has u ts ≡ false)) → has u (if has u ts then ts else ts ++ u ∷ []) ≡ true
+    by_place (inl h) = rw h h
+    by_place (inr h) = rw h (has-right u ts (u ∷ []) (has-head u []))
+
 pub add-requires-clause-holds : goal.add-requires-clause-holds
 add-requires-clause-holds g c =
     let made = c.new-queue.ensures.made in
     c.new-queue.ensures.holds c.in_ok-table.table
     (fresh c.new-queue.result c.in_ok-table.table (ap (λ (q : Queue). q.first_list) made) (ap (λ (q : Queue). q.first_node) made) (ap (λ (q : Queue). q.threads) made)
     (ap (λ (t : Table). t.lists) c.in_ok-table.ensures.made) (ap (λ (t : Table). length t.keys) c.in_ok-table.ensures.made) c.in_ok-table.ensures.apart)
+
+pub take_out-requires-clause-queued : goal.take_out-requires-clause-queued
+take_out-requires-clause-queued g c =
+    let level : IsLevel c.in_ok-ok_or.field-0 = (omega arith, omega arith) in
+    (c.in_ok-ok_or.field-0, level, rw (c.add-3.ensures.levels c.in_ok-ok_or.field-0 level) (added c.in_ok-t3.t3 c.in_ok-ok_or.field-0 _))
+
+pub move_to-requires-2-clause-queued : goal.move_to-requires-2-clause-queued
+move_to-requires-2-clause-queued g c =
+    let level : IsLevel c.in_ok-ok_or-2.field-0 = (omega arith, omega arith) in
+    (c.in_ok-ok_or-2.field-0, level, rw (c.move_to.ensures.levels c.in_ok-ok_or-2.field-0 level) (moved_there c.in_ok-t1.t1 c.in_ok-ok_or-2.field-0 _))
 
 pub move_to-requires-clause-queued : goal.move_to-requires-clause-queued
 move_to-requires-clause-queued g c =

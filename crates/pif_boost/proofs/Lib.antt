@@ -1,0 +1,7 @@
+pub mod Greatest
+pub mod Hops
+pub mod Levels
+pub mod Repairs
+pub mod Settled
+pub mod TestLemmas
+pub mod Walks

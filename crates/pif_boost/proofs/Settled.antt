@@ -1,0 +1,173 @@
+-- After a walk nothing is left to repair, and a wait that comes or goes leaves that to one thread.
+use Rattle.std.proofs.Common.{◌≡◌, ◌≢◌, ◌⊎◌, ℕ, ◌<◌, ◌≤◌, ◌+◌, max, Bool, true, ◌==◌, List, length, Option, Some, None, refl, sym, ap, ◌∙◌, subst, inl, inr, arith, length-set}
+use Rattle.std.specs.Prelude.{option_map, option_and_then, unwrap_or}
+use Rattle.std.specs.List.{filter}
+use Rattle.std.specs.Option.{is_some}
+use Rattle.std.proofs.Math.Path.{fun_ext}
+use Rattle.std.proofs.lemmas.Bool.{cases_eq, cases_lt, eq-eqb, ne_eqb, eqb-true, or_cases, and_parts}
+use Rattle.std.proofs.lemmas.List.{get_or_past}
+use Rattle.pif_nodes.specs.declared.keys.Key.{Key}
+use Rattle.pif_nodes.specs.Lists.{has}
+use Rattle.pif_nodes.specs.Table.{Table}
+use Rattle.pif_nodes.proofs.ListLemmas.{has-append}
+use Rattle.pif_model.specs.Graph.{greatest_where, Reaches}
+use Rattle.pif_model.specs.Graph.Reaches.{here, hop}
+use Rattle.pif_simulation.proofs.Following.{greatest_where_above}
+use Rattle.pif_simulation.proofs.Effective.{kept_at}
+use Rattle.pif_runq.specs.Levels.{Queue, IsLevel, level_of, level_with, Holds, IsQueued}
+use Rattle.pif_rtmutex.specs.Owners.{Owners, Seat, Wait, no_seat, seat_at, owner_at, waits_for, rank_of, WaitsFor, with_wait}
+use Rattle.pif_rtmutex.proofs.OwnersLemmas.{seat_at-with_seat, seat_at-with_seat_other}
+use Rattle.pif_boost.specs.Boosts.{IsThread, base_of, local_of, greatest_base, greatest_waiting, ranked, boosted, is_other, joins, releveled, threads_of, IsRepairedBut}
+use Rattle.pif_boost.proofs.Hops.{Reaches-then}
+use Rattle.pif_boost.proofs.Greatest.{out_waits, greatest_base-above, greatest_base-attained, greatest_base-least, greatest_where_some}
+use Rattle.pif_boost.proofs.Levels.{has-filter}
+use Rattle.pif_boost.proofs.Repairs.{IsRepairedTo, greatest-kept}
+use Rattle.pif_boost.proofs.Walks.{queued_found}
+
+-- the last hop of a chain
+last_hop : {W : ℕ → ℕ → Type 0} {u t : ℕ} → Reaches W u t → (u ≡ t) ⊎ ((x : ℕ) × Reaches W u x × W x t)
+last_hop (here e) = inl e
+last_hop {W} {t = t} (hop {u = u} {v = v} a r) = by_rest (last_hop r)
+  where
+    by_rest : (v ≡ t) ⊎ ((x : ℕ) × Reaches W v x × W x t) → (u ≡ t) ⊎ ((x : ℕ) × Reaches W u x × W x t)
+    by_rest (inl e) = inr (u, here refl, subst (λ (y : ℕ). W u y) e a)
+    by_rest (inr s) = inr (s.0, hop a s.1, s.2)
+
+module _ (v : Owners) (all : (x : ℕ) → x < length v.seats → local_of v x ≡ greatest_base v x) (t : ℕ) (th : IsThread v t) where
+  -- t is somebody
+  somebody : t ≢ 0
+  somebody e = let one : 1 ≤ t = th.0 in absurd (omega arith)
+
+  -- who waits for t is to have no more than t
+  waiting-above : greatest_waiting v t ≤ greatest_base v t
+  waiting-above = by_most (cases_lt 0 (greatest_waiting v t))
+    where
+      by_most : ((0 < greatest_waiting v t) ⊎ (greatest_waiting v t ≤ 0)) → greatest_waiting v t ≤ greatest_base v t
+      by_most (inr l) = omega arith
+      by_most (inl l) =
+          let w : (u : ℕ) × (u < length v.seats) × ((waits_for v u == t) ≡ true) × (greatest_waiting v t ≤ local_of v u) =
+          greatest_where_some (λ u. waits_for v u == t) (local_of v) (length v.seats) (omega arith) in
+          let a : WaitsFor v w.0 t = (eqb-true (waits_for v w.0) t w.2, somebody) in
+          let b : (x : ℕ) × (x < length v.seats) × Reaches (WaitsFor v) x w.0 × (base_of v x ≡ greatest_base v w.0) = greatest_base-attained v w.0 w.1 in
+          let c : base_of v b.0 ≤ greatest_base v t = greatest_base-above v b.0 t b.1 th.1 (Reaches-then b.2 a) in
+          omega (arith, w.3, all w.0 w.1, b.3, c)
+
+  -- and t no more than its base priority or one who waits for it
+  waiting-below : greatest_base v t ≤ max (base_of v t) (greatest_waiting v t)
+  waiting-below = by_end (last_hop best.2)
+    where
+      best : (u : ℕ) × (u < length v.seats) × Reaches (WaitsFor v) u t × (base_of v u ≡ greatest_base v t)
+      best = greatest_base-attained v t th.1
+
+      within : (x : ℕ) → WaitsFor v x t → ((x < length v.seats) ⊎ (length v.seats ≤ x)) → x < length v.seats
+      within x a (inl l) = l
+      within x a (inr l) = absurd (somebody (sym a.0 ∙ out_waits v x l))
+
+      by_end : (best.0 ≡ t) ⊎ ((x : ℕ) × Reaches (WaitsFor v) best.0 x × WaitsFor v x t) → greatest_base v t ≤ max (base_of v t) (greatest_waiting v t)
+      by_end (inl e) = omega (arith, best.3, ap (base_of v) e)
+      by_end (inr s) =
+          let l : s.0 < length v.seats = within s.0 s.2 (cases_lt s.0 (length v.seats)) in
+          let a : base_of v best.0 ≤ greatest_base v s.0 = greatest_base-above v best.0 s.0 best.1 l s.1 in
+          let b : local_of v s.0 ≤ greatest_waiting v t = greatest_where_above (λ u. waits_for v u == t) (local_of v) (length v.seats) s.0 l (eq-eqb (waits_for v s.0) t s.2.0) in
+          omega (arith, best.3, a, b, all s.0 l)
+
+  settled_local : local_of v t ≡ max (base_of v t) (greatest_waiting v t)
+  settled_local = omega (arith, all t th.1, waiting-above, waiting-below, greatest_base-least v t th.1)
+
+-- who stands boosted stands with that priority
+ranked-prio : (p : ℕ) (o : Option Wait) (rank : Key) → option_map (λ (w : Wait). w.rank) (option_map (ranked p) o) ≡ Some rank → rank.prio ≡ p
+ranked-prio p None rank e = absurd cc
+ranked-prio p (Some w) rank e = sym (ap (λ (o : Option Key). unwrap_or (option_map (λ (k : Key). k.prio) o) 0) e)
+
+-- after a walk nothing is left to repair
+pub settled : (k : ℕ) (old new : Owners) → k + 1 ≡ length old.seats → IsRepairedTo k old new → (start : ℕ) → IsRepairedBut start new
+settled k old new last r start =
+    record {
+      locals = λ t th ne. settled_local new all t th;
+      ranks = λ t rank ne e. by_row t rank e (cases_lt t (length old.seats));
+    }
+  where
+    all : (x : ℕ) → x < length new.seats → local_of new x ≡ greatest_base new x
+    all x l = ap (λ (s : Seat). s.local) (r.done x (omega (arith, r.threads)) (omega (arith, r.threads))) ∙ sym (greatest-kept k old new r x)
+
+    by_row : (t : ℕ) (rank : Key) → rank_of new t ≡ Some rank → ((t < length old.seats) ⊎ (length old.seats ≤ t)) → rank.prio ≡ local_of new t
+    by_row t rank e (inl l) =
+        let is : seat_at new t ≡ boosted (greatest_base old t) (seat_at old t) = r.done t l (omega arith) in
+        ranked-prio (greatest_base old t) (seat_at old t).wait rank (ap (λ (s : Seat). option_map (λ (w : Wait). w.rank) s.wait) (sym is) ∙ e) ∙ ap (λ (s : Seat). s.local) (sym is)
+    by_row t rank e (inr l) =
+        let out : seat_at new t ≡ no_seat = get_or_past new.seats t no_seat (omega (arith, r.threads)) in
+        let none : None ≡ Some rank = ap (λ (s : Seat). option_map (λ (w : Wait). w.rank) s.wait) (sym out) ∙ e in absurd cc
+
+-- A WAIT THAT COMES OR GOES
+
+-- what is 0 or this thread is no other one
+off : (a start u : ℕ) → (a ≡ 0) ⊎ (a ≡ start) → 1 ≤ u → u ≢ start → a ≢ u
+off a start u (inl z) one ne e = absurd (omega arith)
+off a start u (inr s) one ne e = ne (sym e ∙ s)
+
+-- where a thread waits otherwise than before, and waited and waits for nobody or for `start`, that one alone is left
+pub rewaited : (v : Owners) (t start : ℕ) (w : Option Wait) → ((s : ℕ) → IsRepairedBut s v)
+    → (waits_for v t ≡ 0) ⊎ (waits_for v t ≡ start) → (waits_for (with_wait t w v) t ≡ 0) ⊎ (waits_for (with_wait t w v) t ≡ start)
+    → ((rank : Key) → option_map (λ (x : Wait). x.rank) w ≡ Some rank → rank.prio ≡ local_of v t) → IsRepairedBut start (with_wait t w v)
+rewaited v t start w repaired was now rank =
+    record {
+      locals = λ u th ne. local u ∙ (repaired start).locals u (th.0, omega (arith, th.1, long)) ne ∙ sym (λ i. max (base u i) (waiting u th.0 ne i));
+      ranks = λ u k ne e. by_seat u k ne e (seat_at-with_seat t x v u);
+    }
+  where
+    x : Seat
+    x = record (seat_at v t) { wait = w }
+
+    long : length (with_wait t w v).seats ≡ length v.seats
+    long = length-set v.seats t x
+
+    local : (u : ℕ) → local_of (with_wait t w v) u ≡ local_of v u
+    local u = kept_at (λ (s : Seat). s.local) v.seats t x no_seat refl u
+
+    base : (u : ℕ) → base_of (with_wait t w v) u ≡ base_of v u
+    base u = kept_at (λ (s : Seat). s.base) v.seats t x no_seat refl u
+
+    test : (u : ℕ) → 1 ≤ u → u ≢ start → (y : ℕ) → ((y ≡ t) ⊎ (y ≡ t → ⊥)) → (waits_for (with_wait t w v) y == u) ≡ (waits_for v y == u)
+    test u one ne y (inl e) =
+        ap (λ (z : ℕ). waits_for (with_wait t w v) z == u) e ∙ ne_eqb (waits_for (with_wait t w v) t) u (off (waits_for (with_wait t w v) t) start u now one ne)
+        ∙ sym (ap (λ (z : ℕ). waits_for v z == u) e ∙ ne_eqb (waits_for v t) u (off (waits_for v t) start u was one ne))
+    test u one ne y (inr d) =
+        ap (λ (s : Seat). unwrap_or (option_and_then (owner_at v) (option_map (λ (k : Wait). k.state) s.wait)) 0 == u) (seat_at-with_seat_other t x v y d)
+
+    waiting : (u : ℕ) → 1 ≤ u → u ≢ start → greatest_waiting (with_wait t w v) u ≡ greatest_waiting v u
+    waiting u one ne =
+        let tests : ◌≡◌ {A = ℕ → Bool} (λ y. waits_for (with_wait t w v) y == u) (λ y. waits_for v y == u) = fun_ext (λ y. test u one ne y (cases_eq y t)) in
+        let locals : ◌≡◌ {A = ℕ → ℕ} (local_of (with_wait t w v)) (local_of v) = fun_ext local in
+        λ i. greatest_where (tests i) (locals i) (long i)
+
+    by_seat : (u : ℕ) (k : Key) → u ≢ start → rank_of (with_wait t w v) u ≡ Some k
+        → ((u ≡ t) × (seat_at (with_wait t w v) u ≡ x)) ⊎ (seat_at (with_wait t w v) u ≡ seat_at v u) → k.prio ≡ local_of (with_wait t w v) u
+    by_seat u k ne e (inl s) =
+        rank k (ap (λ (y : Seat). option_map (λ (z : Wait). z.rank) y.wait) (sym s.1) ∙ e) ∙ ap (local_of v) (sym s.0) ∙ sym (local u)
+    by_seat u k ne e (inr s) =
+        (repaired start).ranks u k ne (ap (λ (y : Seat). option_map (λ (z : Wait). z.rank) y.wait) (sym s) ∙ e) ∙ sym (local u)
+
+-- THE RUN QUEUE
+
+-- who is on the run queue after a walk was on it
+pub was_ready : (v : Owners) (q now : Queue) (t table : Table) → Holds q t → ((p : ℕ) → IsLevel p → level_of now table p ≡ releveled v q t p)
+    → (u : ℕ) → IsQueued now table u → IsQueued q t u
+was_ready v q now t table holds levels u queued =
+    by_part (or_cases (has u kept) (has u new) (sym (has-append u kept new) ∙ ap (has u) (sym (levels queued.0 queued.1)) ∙ queued.2))
+  where
+    kept : List ℕ
+    kept = filter (λ x. greatest_base v x == queued.0) (level_of q t queued.0)
+
+    new : List ℕ
+    new = filter (joins v q t queued.0) (threads_of v)
+
+    by_part : ((has u kept ≡ true) ⊎ (has u new ≡ true)) → IsQueued q t u
+    by_part (inl h) = (queued.0, queued.1, (has-filter (λ x. greatest_base v x == queued.0) u (level_of q t queued.0) h).0)
+    by_part (inr h) =
+        let other : is_other queued.0 (level_with q t u) ≡ true =
+        (and_parts (greatest_base v u == queued.0) (is_other queued.0 (level_with q t u)) (has-filter (joins v q t queued.0) u (threads_of v) h).1).1 in
+        queued_found q t u holds (some queued.0 (level_with q t u) other)
+      where
+        some : (p : ℕ) (o : Option ℕ) → is_other p o ≡ true → is_some o ≡ true
+        some p None e = e
+        some p (Some l) e = refl

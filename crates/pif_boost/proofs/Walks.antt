@@ -1,0 +1,172 @@
+-- A walk after the threads up to k: the owner states, the run queue and the table.
+use Rattle.std.proofs.Common.{◌≡◌, ◌⊎◌, ℕ, ◌<◌, ◌≤◌, ◌+◌, ◌-◌, Bool, true, false, ◌==◌, not, cond, length, Option, Some, None, IfSome, refl, sym, ap, ◌∙◌, subst, inl, inr, if◌then◌else◌, arith}
+use Rattle.std.specs.List.{count_by, range_with_len}
+use Rattle.std.specs.Option.{is_some}
+use Rattle.std.proofs.lemmas.Bool.{cases_lt, false_from_ne_true}
+use Rattle.std.proofs.lemmas.List.{get_or_past}
+use Rattle.pif_nodes.specs.Lists.{has}
+use Rattle.pif_nodes.specs.Table.{Table}
+use Rattle.pif_model.specs.Graph.{IsEffective}
+use Rattle.pif_runq.specs.Levels.{Queue, IsLevel, level_of, level_with, Holds, IsQueued, moved, SameOutside}
+use Rattle.pif_runq.proofs.LevelLemmas.{queued_on}
+use Rattle.pif_runq.proofs.LevelWithLemmas.{listed-from_level_with}
+use Rattle.pif_rtmutex.specs.Owners.{Owners, Seat, no_seat, seat_at, WaitsFor, with_seat, IsSound}
+use Rattle.pif_boost.specs.Boosts.{IsThread, base_of, local_of, greatest_base, boosted, IsRepaired, IsRepairedBut, releveled, threads_of, changed_count}
+use Rattle.pif_boost.proofs.Greatest.{greatest_base-least, greatest_base-IsEffective, idle}
+use Rattle.pif_boost.proofs.Levels.{leveled_to, leveled-start, leveled-more, leveled-all, next_level, stage-has, count_on, count_more, count_most, has-range}
+use Rattle.pif_boost.proofs.Repairs.{IsRepairedTo, repaired-start, repaired-more, repaired-all, greatest-kept}
+
+-- the number of what was made of one
+pub numbered : (made : Option ℕ) (x n : ℕ) → made ≡ Some x → IfSome made (λ y. y ≡ n) → x ≡ n
+numbered made x n e value = rw e at value
+
+-- who was admitted has a seat
+pub admitted_row : (v : Owners) (u : ℕ) → 1 ≤ base_of v u → u < length v.seats
+admitted_row v u one = by_place (cases_lt u (length v.seats))
+  where
+    by_place : ((u < length v.seats) ⊎ (length v.seats ≤ u)) → u < length v.seats
+    by_place (inl l) = l
+    by_place (inr l) = let none : base_of v u ≡ 0 = ap (λ (x : Seat). x.base) (get_or_past v.seats u no_seat l) in absurd (omega arith)
+
+-- a thread whose level is found is queued
+pub queued_found : (q : Queue) (t : Table) (u : ℕ) → Holds q t → is_some (level_with q t u) ≡ true → IsQueued q t u
+queued_found q t u holds some = by_level (level_with q t u) refl some
+  where
+    by_level : (o : Option ℕ) → level_with q t u ≡ o → is_some o ≡ true → IsQueued q t u
+    by_level None is e = absurd cc
+    by_level (Some p) is e = let r = listed-from_level_with q t u p holds is in (p, r.0, r.1)
+
+-- a thread that is given no priority is on no level
+pub not_queued : (q : Queue) (t : Table) (u priority : ℕ) → Holds q t → (IsQueued q t u → 1 ≤ priority) → priority ≡ 0 → is_some (level_with q t u) ≡ false
+not_queued q t u priority holds ready none =
+    false_from_ne_true (is_some (level_with q t u)) (λ e. let l : 1 ≤ priority = ready (queued_found q t u holds e) in absurd (omega arith))
+
+-- what stays outside of a queue over two changes
+outside-both : (q now : Queue) (was table after : Table) → now ≡ record q { mask = now.mask } → SameOutside q was table → SameOutside now table after → SameOutside q was after
+outside-both q now was table after place first second =
+    let at : now.first_list ≡ q.first_list = ap (λ (x : Queue). x.first_list) place in
+    record {
+      before = λ l b. second.before l (omega arith) ∙ first.before l b;
+      behind = λ l b. second.behind l (omega arith) ∙ first.behind l b;
+      count = second.count ∙ first.count;
+      keys = second.keys ∙ first.keys;
+    }
+
+-- the threads up to k are repaired, and where they should be in the run queue
+pub record IsWalkedTo (k : ℕ) (v : Owners) (q : Queue) (t : Table) (new : Owners) (now : Queue) (table : Table) : Type 0 where
+  pub repaired : IsRepairedTo k v new
+  pub levels : (p : ℕ) → IsLevel p → level_of now table p ≡ leveled_to k v q t p
+  pub outside : SameOutside q t table
+  pub place : now ≡ record q { mask = now.mask }
+  pub holds : Holds now table
+
+-- whether a thread is to have another effective priority than it has
+abbrev pub differs : Owners → ℕ → Bool
+differs v t = not (greatest_base v t == local_of v t)
+
+-- how many of the threads up to k are
+abbrev pub changed_to : ℕ → Owners → ℕ
+changed_to k v = count_by (differs v) (range_with_len 1 k)
+
+-- before the first thread
+pub walked-start : (v : Owners) (q : Queue) (t : Table) → IsSound v → Holds q t → IsWalkedTo 0 v q t v q t
+walked-start v q t sound holds =
+    record {
+      repaired = repaired-start v sound;
+      levels = λ p lp. leveled-start v q t p (λ u h. (queued_on q t u holds (p, lp, h)).some);
+      outside = record { before = λ l b. refl; behind = λ l b. refl; count = refl; keys = refl };
+      place = refl;
+      holds = holds;
+    }
+
+-- the next thread was queued if it is
+was_queued : (k u : ℕ) (v new : Owners) (q now : Queue) (t table : Table) → u ≡ k + 1 → IsWalkedTo k v q t new now table → IsQueued now table u → IsQueued q t u
+was_queued k u v new q now t table e w queued = (
+  queued.0,
+  queued.1,
+  sym (ap (has u) (w.levels queued.0 queued.1) ∙ stage-has k u (greatest_base v) queued.0 _ (level_of q t queued.0) e) ∙ queued.2,
+)
+
+-- so it is to have a priority
+pub next_ready : (k u : ℕ) (v new : Owners) (q now : Queue) (t table : Table) → u ≡ k + 1 → u < length v.seats → IsWalkedTo k v q t new now table
+    → ((x : ℕ) → IsQueued q t x → 1 ≤ base_of v x) → IsQueued now table u → 1 ≤ greatest_base new u
+next_ready k u v new q now t table e row w ready queued =
+    let one : 1 ≤ base_of v u = ready u (was_queued k u v new q now t table e w queued) in
+    omega (arith, greatest_base-least v u row, greatest-kept k v new w.repaired u)
+
+-- and where it is to have none, it stays as it is
+pub next_idle : (k u start : ℕ) (v new : Owners) (q now : Queue) (t table : Table) → u ≡ k + 1 → u < length v.seats → IsWalkedTo k v q t new now table
+    → IsSound v → IsRepairedBut start v → 1 ≤ base_of v start → greatest_base new u ≡ 0 → seat_at new u ≡ boosted 0 (seat_at new u)
+next_idle k u start v new q now t table e row w sound but admitted none =
+    let left : seat_at new u ≡ seat_at v u = w.repaired.left u (omega arith) in
+    let th : IsThread v u = (omega arith, row) in
+    left ∙ idle v start sound but (admitted_row v start admitted) admitted u th (sym (greatest-kept k v new w.repaired u) ∙ none) ∙ sym (ap (boosted 0) left)
+
+-- one thread more
+pub walked-more : (k u : ℕ) (v new after : Owners) (q now then_queue : Queue) (t table then_table : Table) → u ≡ k + 1 → u < length v.seats → Holds q t
+    → IsWalkedTo k v q t new now table
+    → after ≡ with_seat u (boosted (greatest_base new u) (seat_at new u)) new
+    → ((p : ℕ) → IsLevel p → level_of then_queue then_table p ≡ (if is_some (level_with now table u) then moved u (greatest_base new u) p (level_of now table p) else level_of now table p))
+    → SameOutside now table then_table → then_queue ≡ record now { mask = then_queue.mask } → Holds then_queue then_table
+    → IsWalkedTo (k + 1) v q t after then_queue then_table
+walked-more k u v new after q now then_queue t table then_table e row old w owners levels outside place holds =
+    record {
+      repaired = repaired-more k u v new after e row w.repaired owners;
+      levels = λ p lp. levels p lp ∙ moved_from p lp ∙ leveled-more k u v q t p e old lp;
+      outside = outside-both q now t table then_table w.place w.outside outside;
+      place = place ∙ ap (λ (x : Queue). record x { mask = then_queue.mask }) w.place;
+      holds = holds;
+    }
+  where
+    moved_from : (p : ℕ) → IsLevel p → (if is_some (level_with now table u) then moved u (greatest_base new u) p (level_of now table p) else level_of now table p)
+        ≡ (if is_some (level_with q t u) then moved u (greatest_base v u) p (leveled_to k v q t p) else leveled_to k v q t p)
+    moved_from p lp =
+        let level : level_with now table u ≡ level_with q t u = next_level k u v q now t table e old w.holds w.levels in
+        let priority : greatest_base new u ≡ greatest_base v u = greatest-kept k v new w.repaired u in
+        let at : level_of now table p ≡ leveled_to k v q t p = w.levels p lp in
+        λ i. if is_some (level i) then moved u (priority i) p (at i) else at i
+
+-- whether the next thread is to have another priority was not changed by the walk so far
+pub next_differs : (k u : ℕ) (v new : Owners) → u ≡ k + 1 → IsRepairedTo k v new → differs new u ≡ differs v u
+next_differs k u v new e r =
+    let left : seat_at new u ≡ seat_at v u = r.left u (omega arith) in
+    let priority : greatest_base new u ≡ greatest_base v u = greatest-kept k v new r u in
+    λ i. not (priority i == (left i).local)
+
+-- one thread more, that had another priority
+pub changed-more : (k u : ℕ) (v new : Owners) (changed : ℕ) (b : Bool) → u ≡ k + 1 → IsRepairedTo k v new → changed ≡ changed_to k v → b ≡ differs new u
+    → changed + cond b 1 0 ≡ changed_to (k + 1) v
+changed-more k u v new changed b e r is differ =
+    let same : b ≡ differs v u = differ ∙ next_differs k u v new e r in
+    (λ i. is i + cond (same i) 1 0) ∙ sym (count_more (differs v) k u e)
+
+-- AT THE END
+
+pub walked-repaired : (k : ℕ) (v new : Owners) (q now : Queue) (t table : Table) → k + 1 ≡ length v.seats → IsWalkedTo k v q t new now table → IsRepaired v new
+walked-repaired k v new q now t table e w = repaired-all k v new e w.repaired
+
+pub walked-levels : (k : ℕ) (v new : Owners) (q now : Queue) (t table : Table) → k + 1 ≡ length v.seats → IsWalkedTo k v q t new now table
+    → ((x : ℕ) → IsQueued q t x → 1 ≤ base_of v x) → (p : ℕ) → IsLevel p → level_of now table p ≡ releveled v q t p
+walked-levels k v new q now t table e w ready p lp =
+    w.levels p lp ∙ leveled-all k v q t p e (λ u h. admitted_row v u (ready u (p, lp, h)))
+
+-- each thread that is repaired has the effective priority that it is to have
+pub repaired-local : (v new : Owners) → IsRepaired v new → (t : ℕ) → t < length v.seats → local_of new t ≡ greatest_base v t
+repaired-local v new r t l = ap (λ (x : Seat). x.local) (r.seats t l)
+
+-- which is the greatest over any chain
+pub repaired-greatest : (v new : Owners) → IsSound v → IsRepaired v new → (t : ℕ) → IsThread v t → IsEffective (IsThread v) (WaitsFor v) (base_of v) t (local_of new t)
+repaired-greatest v new s r t th =
+    subst (λ (p : ℕ). IsEffective (IsThread v) (WaitsFor v) (base_of v) t p) (sym (repaired-local v new r t th.1)) (greatest_base-IsEffective v s t th)
+
+pub changed-all : (k : ℕ) (v new : Owners) (changed : ℕ) → k + 1 ≡ length v.seats → IsRepaired v new → changed ≡ changed_to k v
+    → (changed ≡ changed_count v new) × (changed < length v.seats)
+changed-all k v new changed e r is =
+    let all : k ≡ length v.seats - 1 = omega arith in
+    let same : changed_to k v ≡ changed_count v new =
+    ap (λ (n : ℕ). count_by (differs v) (range_with_len 1 n)) all
+    ∙ count_on (differs v) (λ t. not (local_of new t == local_of v t)) (threads_of v)
+    (λ x h. let b = has-range 1 (length v.seats - 1) x h in
+    let l : x < length v.seats = omega (arith, b.1) in
+    ap (λ (p : ℕ). not (p == local_of v x)) (sym (repaired-local v new r x l))) in
+    (is ∙ same, omega (arith, count_most (differs v) k))

@@ -1,0 +1,2 @@
+pub mod Boosts
+pub mod Settled

@@ -1,0 +1,12 @@
+//! Priority inheritance over chains of owner states: whether a wait would close a cycle, and the walk that gives each
+//! thread the greatest priority of it and of all that wait for it. No call takes memory.
+#![tactic(auto)]
+
+mod boosts;
+mod chains;
+
+pub use boosts::walk;
+pub use chains::would_close;
+
+#[cfg(test)]
+mod tests;
