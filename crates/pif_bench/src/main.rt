@@ -1,14 +1,32 @@
 //! Benchmarks of single layers: `pif_bench NAME` runs one and prints its figure, `pif_bench` prints the names.
 #![tactic(auto)]
 
+mod chains;
 mod lists;
 
+use chains::{hand_over, last_lock, set_prio};
 use lists::{Priorities, nanoseconds_each};
 use std::process::ExitCode;
+use std::rt::Clock;
 use std::{env, io};
 
 /// The names of the benchmarks, one a line.
-const NAMES: &str = "plist_equal\nplist_distinct\n";
+const NAMES: &str =
+    "plist_equal\nplist_distinct\nhand_over\nlast_lock_10\nlast_lock_100\nlast_lock_1000\n\
+    setprio_10\nsetprio_100\nsetprio_1000\n";
+
+/// A benchmark.
+#[derive(Clone, Copy)]
+enum Benchmark {
+    /// A node is inserted into a sorted list, or removed.
+    Lists(Priorities),
+    /// A mutex is handed over.
+    HandOver,
+    /// The last thread joins a chain of so many.
+    LastLock(u32),
+    /// The priority of the last thread of a chain of so many changes.
+    SetPrio(u32),
+}
 
 /// The status where the words name no benchmark.
 const REFUSED: u8 = 1;
@@ -19,20 +37,37 @@ fn main(rt: HostRuntime) -> io::Result<ExitCode> {
         print!(rt; "{NAMES}")?;
         return Ok(ExitCode::SUCCESS);
     };
-    let Some(priorities) = priorities_of(name.as_str()) else {
+    let Some(benchmark) = benchmark_of(name.as_str()) else {
         eprint!(rt; "no benchmark {name}; there are:\n{NAMES}")?;
         return Ok(ExitCode::from(REFUSED));
     };
-    let nanoseconds = nanoseconds_each(&rt, priorities)?;
-    println!(rt; "{name}: {nanoseconds} ns for each node inserted or removed")?;
+    let nanoseconds = nanoseconds_of(&rt, benchmark)?;
+    println!(rt; "{name}: {nanoseconds} ns")?;
     Ok(ExitCode::SUCCESS)
 }
 
-/// The priorities of the nodes in the benchmark of this name.
-fn priorities_of(name: &str) -> Option<Priorities> {
+/// The benchmark of this name.
+fn benchmark_of(name: &str) -> Option<Benchmark> {
     match name {
-        "plist_equal" => Some(Priorities::Equal),
-        "plist_distinct" => Some(Priorities::Distinct),
+        "plist_equal" => Some(Benchmark::Lists(Priorities::Equal)),
+        "plist_distinct" => Some(Benchmark::Lists(Priorities::Distinct)),
+        "hand_over" => Some(Benchmark::HandOver),
+        "last_lock_10" => Some(Benchmark::LastLock(10)),
+        "last_lock_100" => Some(Benchmark::LastLock(100)),
+        "last_lock_1000" => Some(Benchmark::LastLock(1000)),
+        "setprio_10" => Some(Benchmark::SetPrio(10)),
+        "setprio_100" => Some(Benchmark::SetPrio(100)),
+        "setprio_1000" => Some(Benchmark::SetPrio(1000)),
         _ => None,
+    }
+}
+
+/// Runs a benchmark. Answers how many nanoseconds what it measures took.
+fn nanoseconds_of(rt: &(impl Clock + AllocGlobal), benchmark: Benchmark) -> io::Result<u64> {
+    match benchmark {
+        Benchmark::Lists(priorities) => nanoseconds_each(rt, priorities),
+        Benchmark::HandOver => hand_over(rt),
+        Benchmark::LastLock(depth) => last_lock(rt, depth),
+        Benchmark::SetPrio(depth) => set_prio(rt, depth),
     }
 }
