@@ -1,6 +1,7 @@
 pub mod Graph
 pub mod Refusals
 pub mod Word
+pub mod PiKernel
 pub mod Posix
 pub mod History
 pub mod Table
