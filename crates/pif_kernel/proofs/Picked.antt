@@ -1,0 +1,115 @@
+-- The levels of the kernel by itself, by those of the run queue, and who is picked.
+use Rattle.std.proofs.Common.{◌≡◌, ◌≢◌, ◌⊎◌, ℕ, zero, suc, ◌+◌, ◌-◌, ◌<◌, ◌≤◌, ◌==◌, eqb, Bool, true, false, not, nat_eq, nat_lt, if◌then◌else◌, List, [], ◌∷◌, ◌++◌, map, Option, Some, None, IfSome, IfNone, refl, sym, ap, ◌∙◌, inl, inr, arith}
+use Rattle.std.specs.List.{filter, list_any}
+use Rattle.std.proofs.lemmas.Bool.{cases_eq, false≢true}
+use Rattle.std.proofs.lemmas.Bool.Decides.{nat_tests}
+use Rattle.pif_nodes.specs.Lists.{has, first_of, without}
+use Rattle.pif_nodes.specs.Table.{Table, list_at}
+use Rattle.pif_runq.specs.Levels.{Queue, IsLevel, level_of, thread_for, list_for, IsFirstOfGreatest, IsEmpty}
+use Rattle.pif_runq.specs.Levels.{joined as queue_joined}
+use Rattle.pif_runq.proofs.LevelLemmas.{threads-some}
+use Rattle.pif_model.specs.PiKernel.{Kernel, is_among, first_from, pick_in, left, joined}
+use Rattle.pif_kernel.specs.Plain.{Plain, kernel_of, is_level, levels_of}
+
+pub levels_seen : (p : Plain) → (kernel_of p).levels ≡ levels_of p.queue p.table
+unfolding kernel_of
+levels_seen p = refl
+
+pub level_is : (p : ℕ) → IsLevel p → is_level p ≡ true
+level_is p l = grind (arith, nat_tests, l.0, l.1)
+
+pub is_level-range : (p : ℕ) → is_level p ≡ true → IsLevel p
+is_level-range p e = (grind (arith, nat_tests), grind (arith, nat_tests))
+
+-- a level that there is
+pub level_seen : (q : Queue) (t : Table) (p : ℕ) → IsLevel p → levels_of q t p ≡ level_of q t p
+level_seen q t p l = rw (level_is p l) refl
+
+from_head : (xs : List ℕ) (d u : ℕ) → first_of xs ≡ Some u → elim xs [ [] ↦ d | (t ∷ ts) ↦ t ] ≡ u
+from_head [] d u e = cc
+from_head (x ∷ xs) d u e = cc
+
+from_nil : (xs : List ℕ) (d : ℕ) → xs ≡ [] → elim xs [ [] ↦ d | (t ∷ ts) ↦ t ] ≡ d
+from_nil [] d e = refl
+from_nil (x ∷ xs) d e = cc
+
+from_first : (levels : ℕ → List ℕ) (n u : ℕ) → first_of (levels (suc n)) ≡ Some u → first_from levels (suc n) ≡ u
+unfolding first_from
+from_first levels n u e = from_head (levels (suc n)) (first_from levels n) u e
+
+from_empty : (levels : ℕ → List ℕ) (n : ℕ) → levels (suc n) ≡ [] → first_from levels (suc n) ≡ first_from levels n
+unfolding first_from
+from_empty levels n e = from_nil (levels (suc n)) (first_from levels n) e
+
+from_none : (levels : ℕ → List ℕ) → first_from levels zero ≡ 0
+unfolding first_from
+from_none levels = refl
+
+-- the first of the greatest of some levels that has one
+pub first_from-greatest : (levels : ℕ → List ℕ) (n level u : ℕ) → 1 ≤ level → level ≤ n → first_of (levels level) ≡ Some u
+    → ((p : ℕ) → level < p → p ≤ n → levels p ≡ []) → first_from levels n ≡ u
+first_from-greatest levels zero level u some le first empty = absurd (omega arith)
+first_from-greatest levels (suc n) level u some le first empty = by_place (cases_eq level (suc n))
+    (λ less. first_from-greatest levels n level u some less first (λ p l g. empty p l (omega arith)))
+  where
+    by_place : ((level ≡ suc n) ⊎ (level ≡ suc n → ⊥)) → (level ≤ n → first_from levels n ≡ u) → first_from levels (suc n) ≡ u
+    by_place (inl e) ih = from_first levels n u (ap (λ (x : ℕ). first_of (levels x)) (sym e) ∙ first)
+    by_place (inr ne) ih = from_empty levels n (empty (suc n) (omega arith) (omega arith)) ∙ ih (omega arith)
+
+-- no level has one
+pub first_from-none : (levels : ℕ → List ℕ) (n : ℕ) → ((p : ℕ) → 1 ≤ p → p ≤ n → levels p ≡ []) → first_from levels n ≡ 0
+first_from-none levels zero empty = from_none levels
+first_from-none levels (suc n) empty = from_empty levels n (empty (suc n) (omega arith) (omega arith)) ∙ first_from-none levels n (λ p l g. empty p l (omega arith))
+
+first_has : (xs : List ℕ) (u : ℕ) → first_of xs ≡ Some u → has u xs ≡ true
+first_has [] u e = cc
+first_has (x ∷ xs) u e = let same : x ≡ u = grind arith in grind (arith, nat_tests)
+
+-- who is picked, by the run queue
+pub pick_seen : (p : Plain) (r : Option ℕ) → IfNone r (IsEmpty p.queue p.table) → IfSome r (λ t. IsFirstOfGreatest p.queue p.table t)
+    → r ≡ (if pick_in (kernel_of p) == 0 then None else Some (pick_in (kernel_of p)))
+pick_seen p None none some =
+    let e : pick_in (kernel_of p) ≡ 0
+    = rw (levels_seen p) (first_from-none (levels_of p.queue p.table) 99 (λ q l g. level_seen p.queue p.table q (l, g) ∙ none q (l, g))) in
+    rw e refl
+pick_seen p (Some u) none some =
+    let e : pick_in (kernel_of p) ≡ u
+    = rw (levels_seen p) (first_from-greatest (levels_of p.queue p.table) 99 some.level u some.is_level.0 some.is_level.1
+    (ap first_of (level_seen p.queue p.table some.level some.is_level) ∙ some.first)
+    (λ q l g. let r : IsLevel q = (omega (arith, some.is_level), g) in level_seen p.queue p.table q r ∙ some.greatest q r l)) in
+    let above : 1 ≤ u = threads-some p.queue u (list_at p.table (list_for p.queue some.level)) (first_has _ u some.first) in
+    let nonzero : (u == 0) ≡ false = grind (arith, nat_tests) in
+    rw (e, nonzero) refl
+
+-- THE TWO SPELLINGS OF LISTS
+
+pub among_has : (xs : List ℕ) (t : ℕ) → is_among xs t ≡ has t xs
+among_has [] t = refl
+among_has (x ∷ xs) t = let ih : is_among xs t ≡ has t xs = among_has xs t in let same : (x == t) ≡ nat_eq t x = grind (arith, nat_tests) in rw (same, ih) refl
+
+pub without_left : (xs : List ℕ) (t : ℕ) → without t xs ≡ filter (λ u. if u == t then false else true) xs
+without_left [] t = refl
+without_left (x ∷ xs) t =
+    let same : not (nat_eq t x) ≡ (if x == t then false else true) = grind (arith, nat_tests) in
+    let ih : without t xs ≡ filter (λ (u : ℕ). if u == t then false else true) xs = without_left xs t in
+    rw (same, ih) refl
+
+-- who is taken out of its level has left it
+pub levels_left : (q q' : Queue) (tb tb' : Table) (t : ℕ) → ((r : ℕ) → IsLevel r → level_of q' tb' r ≡ without t (level_of q tb r))
+    → (r : ℕ) → levels_of q' tb' r ≡ left t (levels_of q tb) r
+levels_left q q' tb tb' t h r = by_test (is_level r) refl
+  where
+    by_test : (b : Bool) → is_level r ≡ b → levels_of q' tb' r ≡ left t (levels_of q tb) r
+    by_test true e = rw e (h r (is_level-range r e) ∙ without_left (level_of q tb r) t)
+    by_test false e = rw e refl
+
+-- who is added to a level has joined it
+pub levels_joined : (q q' : Queue) (tb tb' : Table) (t p : ℕ) → IsLevel p → ((r : ℕ) → IsLevel r → level_of q' tb' r ≡ queue_joined t p r (level_of q tb r))
+    → (r : ℕ) → levels_of q' tb' r ≡ joined t p (levels_of q tb) r
+levels_joined q q' tb tb' t p l h r = by_test (is_level r) refl (cases_eq r p)
+  where
+    by_test : (b : Bool) → is_level r ≡ b → ((r ≡ p) ⊎ (r ≡ p → ⊥)) → levels_of q' tb' r ≡ joined t p (levels_of q tb) r
+    by_test true e (inl same) = let here : (r == p) ≡ true = grind (arith, nat_tests) in rw (e, here) (h r (is_level-range r e) ∙ rw here refl)
+    by_test true e (inr n) = let there : (r == p) ≡ false = grind (arith, nat_tests) in rw (e, there) (h r (is_level-range r e) ∙ rw there refl)
+    by_test false e (inl same) = absurd (false≢true (sym e ∙ ap is_level same ∙ level_is p l))
+    by_test false e (inr n) = let there : (r == p) ≡ false = grind (arith, nat_tests) in rw (e, there) refl

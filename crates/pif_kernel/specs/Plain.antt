@@ -1,0 +1,137 @@
+-- What the kernel of this crate keeps, and the kernel by itself that it stands for.
+use Rattle.std.specs.Prelude.{◌≡◌, ◌≢◌, ℕ, ◌+◌, ◌<◌, ◌≤◌, Bool, true, false, ◌==◌, nat_lt, if◌then◌else◌, List, [], ◌∷◌, length, replicate, get_or, set, Option, Some, None, IsSome, option_map, option_and_then, unwrap_or}
+use Rattle.pif_types.specs.Bounds.{Bounds, IsWithin}
+use Rattle.pif_model.specs.declared.lines.Status.{Status}
+use Rattle.pif_model.specs.declared.lines.Status.TheVariants.{Ready}
+use Rattle.pif_model.specs.declared.lines.Woken.TheVariants.{Fresh}
+use Rattle.pif_model.specs.Graph.{has_waiter}
+use Rattle.pif_model.specs.Table.{queued_on}
+use Rattle.pif_model.specs.PiKernel.{Kernel, IsKernel, effective_in}
+use Rattle.pif_model.specs.PiKernel.{Seat as KernelSeat}
+use Rattle.pif_nodes.specs.declared.keys.Key.{Key}
+use Rattle.pif_nodes.specs.Table.{Table, no_key}
+use Rattle.pif_runq.specs.Levels.{Queue, Holds, level_of}
+use Rattle.pif_rtmutex.specs.Owners.{Owners, Seat, seat_at, owner_at, count, waits_on, rank_of, no_seat, no_owners, with_owner}
+
+-- what the kernel of this crate keeps
+pub record Plain : Type 0 where
+  pub limits : Bounds
+  -- the status of each thread, by number; place 0 stands for nobody
+  pub statuses : List Status
+  -- the key of the owner state of each mutex, by number; None where there is no owner state
+  pub keys : List (Option ℕ)
+  pub owners : Owners
+  -- the run queue, in its table
+  pub queue : Queue
+  pub table : Table
+  -- pairs of a thread and the mutex on which it is queued, in order of their tickets
+  pub arrivals : List (ℕ × ℕ)
+  -- the next ticket
+  pub next : ℕ
+
+-- the status of a thread
+abbrev pub status_at : Plain → ℕ → Status
+status_at p t = get_or p.statuses t (Ready Fresh)
+
+-- the key of the owner state of a mutex
+abbrev pub key_at : Plain → ℕ → Option ℕ
+key_at p m = get_or p.keys m None
+
+-- the owner in the owner state of a mutex; 0 where it has none
+abbrev pub state_at : Plain → ℕ → ℕ
+state_at p m = unwrap_or (option_and_then (owner_at p.owners) (key_at p m)) 0
+
+-- a thread, by its status and its row: it lives if it was admitted
+abbrev pub seat_of : Status → Seat → KernelSeat
+seat_of x r = record { base = r.base; living = if r.base == 0 then false else true; status = x }
+
+-- the threads, by their statuses and rows
+abbrev pub seats_of : List Status → List Seat → List KernelSeat
+seats_of [] rows = []
+seats_of (x ∷ xs) [] = []
+seats_of (x ∷ xs) (r ∷ rows) = seat_of x r ∷ seats_of xs rows
+
+-- whether a number is that of a level
+abbrev pub is_level : ℕ → Bool
+is_level p = if p == 0 then false else nat_lt p 100
+
+-- the levels of a run queue
+abbrev pub levels_of : Queue → Table → ℕ → List ℕ
+levels_of q t = λ p. if is_level p then level_of q t p else []
+
+-- the kernel by itself
+unfoldable pub kernel_of : Plain → Kernel
+kernel_of p = record {
+  limits = p.limits;
+  seats = seats_of p.statuses p.owners.seats;
+  states = λ m. state_at p m;
+  waiters = p.arrivals;
+  levels = levels_of p.queue p.table;
+}
+
+-- the ticket with which a thread waits; 0 where it waits for nothing
+abbrev pub ticket_of : Owners → ℕ → ℕ
+ticket_of v t = unwrap_or (option_map (λ (r : Key). r.ticket) (rank_of v t)) 0
+
+-- the tickets of these threads rise, from `least` on, and are below `next`
+abbrev pub Rise : (ℕ → ℕ) → ℕ → List (ℕ × ℕ) → ℕ → Type 0
+Rise ticket least [] next = least ≤ next
+Rise ticket least (w ∷ ws) next = (least ≤ ticket w.0) × Rise ticket (ticket w.0 + 1) ws next
+
+-- how many mutexes have a waiter
+abbrev pub mutexes_of : List (ℕ × ℕ) → ℕ
+mutexes_of [] = 0
+mutexes_of (w ∷ ws) = if has_waiter ws w.1 then mutexes_of ws else mutexes_of ws + 1
+
+-- what is kept at first
+abbrev pub new_plain : Bounds → ℕ → Plain
+new_plain l first_ticket = record {
+  limits = l;
+  statuses = Ready Fresh ∷ [];
+  keys = replicate (l.mutexes + 1) None;
+  owners = no_owners l.threads;
+  queue = record { first_list = 0; first_node = 0; threads = l.threads; mask = 0 };
+  table = record { lists = replicate 99 []; keys = replicate l.threads no_key };
+  arrivals = [];
+  next = first_ticket;
+}
+
+-- what holds of what is kept at any time
+pub record IsSound (p : Plain) : Type 0 where
+  pub within : IsWithin p.limits
+  -- a row for each thread that the limits allow, and a place for the key of each mutex
+  pub rows : length p.owners.seats ≡ p.limits.threads + 1
+  pub keys : length p.keys ≡ p.limits.mutexes + 1
+  -- threads and rows: who was added was admitted, and nobody else
+  pub some : 1 ≤ length p.statuses
+  pub few : length p.statuses ≤ p.limits.threads + 1
+  pub nobody : seat_at p.owners 0 ≡ no_seat
+  pub admitted : (t : ℕ) → t ≢ 0 → t < length p.statuses → 1 ≤ (seat_at p.owners t).base
+  pub free : (t : ℕ) → length p.statuses ≤ t → seat_at p.owners t ≡ no_seat
+  pub most : (t : ℕ) → (seat_at p.owners t).base ≤ 99
+  -- the run queue stands in its table, level 1 and thread 1 first, and the table has no other lists
+  pub lists : length p.table.lists ≡ 99
+  pub queue : p.queue ≡ record { first_list = 0; first_node = 0; threads = p.limits.threads; mask = p.queue.mask }
+  pub holds : Holds p.queue p.table
+  -- a thread waits on the owner state of the mutex on which it is queued
+  pub waits : (t : ℕ) → waits_on p.owners t ≡ key_at p (queued_on (status_at p t))
+  -- each key is that of one mutex, and names an owner state; there are no others
+  pub no_mutex : key_at p 0 ≡ None
+  pub apart : (m n k : ℕ) → key_at p m ≡ Some k → key_at p n ≡ Some k → m ≡ n
+  pub made : (m k : ℕ) → key_at p m ≡ Some k → IsSome (owner_at p.owners k)
+  pub owned : (m k : ℕ) → key_at p m ≡ Some k → state_at p m ≢ 0
+  pub count : count p.owners ≡ mutexes_of p.arrivals
+  -- the owner in an owner state was added
+  pub owners : (m : ℕ) → state_at p m < length p.statuses
+  -- tickets rise along the arrivals, and lie below the next
+  pub tickets : Rise (ticket_of p.owners) 1 p.arrivals p.next
+  -- threads stand with their effective priorities
+  pub local : (t : ℕ) → (seat_at p.owners t).local ≡ effective_in (kernel_of p) t
+  pub rank : (t : ℕ) (r : Key) → rank_of p.owners t ≡ Some r → r.prio ≡ effective_in (kernel_of p) t
+  pub kernel : IsKernel (kernel_of p)
+
+-- what is kept once there is an owner state of m, under this key: the one that there was, or a new one of this owner
+pub data IsOpened (old now : Plain) (m owner key : ℕ) : Type 0 where
+  found : key_at old m ≡ Some key → now ≡ old → IsOpened old now m owner key
+  made : key_at old m ≡ None → owner_at old.owners key ≡ None → now ≡ record old { keys = set old.keys m (Some key); owners = with_owner key owner old.owners }
+      → count now.owners ≡ count old.owners + 1 → IsOpened old now m owner key
