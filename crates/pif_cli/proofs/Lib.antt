@@ -1,4 +1,8 @@
 pub mod RunningLemmas
+pub mod SameAgainLemmas
+pub mod DifferenceLemmas
 pub mod RunLemmas
 pub mod ScriptLemmas
+pub mod SilenceLemmas
+pub mod TracingLemmas
 pub mod WordsLemmas

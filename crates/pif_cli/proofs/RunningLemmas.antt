@@ -4,23 +4,23 @@ use Rattle.pif_model.specs.declared.events.Event.TheVariants.{Go}
 use Rattle.pif_model.specs.declared.events.Seen.{Seen}
 use Rattle.pif_model.specs.declared.events.Seen.TheVariants.{Begun, Went, Waits, Answered, Refused}
 use Rattle.pif_model.specs.Table.{Table}
-use Rattle.pif_model.specs.Lines.{Outcome, stepped}
-use Rattle.pif_cli.specs.Running.{gone_on, finished}
+use Rattle.pif_model.specs.Lines.{Outcome, stepped, goes_on}
+use Rattle.pif_cli.specs.Running.{finished}
 
 -- it went, and goes on
-pub gone_on-went : (more t : ℕ) (s : Table) → (stepped (Go t) s).seen ≡ Went → gone_on (suc more) t s ≡ gone_on more t (stepped (Go t) s).after
-unfolding gone_on
-gone_on-went more t s e = rw (gone_on, e) refl
+pub goes_on-went : (more t : ℕ) (s : Table) → (stepped (Go t) s).seen ≡ Went → goes_on (suc more) t s ≡ goes_on more t (stepped (Go t) s).after
+unfolding goes_on
+goes_on-went more t s e = rw (goes_on, e) refl
 
 -- it did not
-pub gone_on-other : (more t : ℕ) (s : Table) → ((stepped (Go t) s).seen ≡ Went → ⊥) → gone_on more t s ≡ stepped (Go t) s
-unfolding gone_on
-gone_on-other zero t s e = refl
-gone_on-other (suc more) t s e = by-seen (stepped (Go t) s).seen refl
+pub goes_on-other : (more t : ℕ) (s : Table) → ((stepped (Go t) s).seen ≡ Went → ⊥) → goes_on more t s ≡ stepped (Go t) s
+unfolding goes_on
+goes_on-other zero t s e = refl
+goes_on-other (suc more) t s e = by-seen (stepped (Go t) s).seen refl
   where
-    by-seen : (x : Seen) → (stepped (Go t) s).seen ≡ x → gone_on (suc more) t s ≡ stepped (Go t) s
+    by-seen : (x : Seen) → (stepped (Go t) s).seen ≡ x → goes_on (suc more) t s ≡ stepped (Go t) s
     by-seen x p =
-        let P : Seen → Type 0 = λ y. ◌≡◌ {A = Outcome} (elim y [ Went ↦ gone_on more t (stepped (Go t) s).after | _ ↦ stepped (Go t) s ]) (stepped (Go t) s) in
+        let P : Seen → Type 0 = λ y. ◌≡◌ {A = Outcome} (elim y [ Went ↦ goes_on more t (stepped (Go t) s).after | _ ↦ stepped (Go t) s ]) (stepped (Go t) s) in
         subst P (sym p) (elim x as (λ y. (y ≡ Went → ⊥) → P y) [
           | Went ↦ λ n. absurd (n refl)
           | Begun ↦ λ n. refl
@@ -29,17 +29,17 @@ gone_on-other (suc more) t s e = by-seen (stepped (Go t) s).seen refl
           | Refused r ↦ λ n. refl
         ] (λ q. e (p ∙ q)))
 
-pub finished-is : (t : ℕ) (s : Table) → finished t s ≡ gone_on 23 t s
+pub finished-is : (t : ℕ) (s : Table) → finished t s ≡ goes_on 23 t s
 unfolding finished
 finished-is t s = refl
 
 -- one step further in a loop that counts to 23
-pub gone_on-turn : (i t : ℕ) (s u : Table) → i < 23 → (stepped (Go t) s).seen ≡ Went → u ≡ (stepped (Go t) s).after
-    → gone_on (23 - (i + 1)) t u ≡ gone_on (23 - i) t s
-gone_on-turn i t s u h e f =
+pub goes_on-turn : (i t : ℕ) (s u : Table) → i < 23 → (stepped (Go t) s).seen ≡ Went → u ≡ (stepped (Go t) s).after
+    → goes_on (23 - (i + 1)) t u ≡ goes_on (23 - i) t s
+goes_on-turn i t s u h e f =
     let n : 23 - i ≡ suc (23 - (i + 1)) = omega arith in
-    rw f (sym (ap (λ k. gone_on k t s) n ∙ gone_on-went (23 - (i + 1)) t s e))
+    rw f (sym (ap (λ k. goes_on k t s) n ∙ goes_on-went (23 - (i + 1)) t s e))
 
-pub gone_on-last : (i t : ℕ) (s : Table) → 23 ≤ i → gone_on (23 - i) t s ≡ stepped (Go t) s
-unfolding gone_on
-gone_on-last i t s h = let n : 23 - i ≡ 0 = omega arith in ap (λ k. gone_on k t s) n
+pub goes_on-last : (i t : ℕ) (s : Table) → 23 ≤ i → goes_on (23 - i) t s ≡ stepped (Go t) s
+unfolding goes_on
+goes_on-last i t s h = let n : 23 - i ≡ 0 = omega arith in ap (λ k. goes_on k t s) n

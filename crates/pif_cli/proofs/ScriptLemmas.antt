@@ -1,82 +1,128 @@
 -- What one byte does, and bytes one after the other.
-use Rattle.std.proofs.Common.{◌≡◌, ℕ, ◌+◌, ◌<◌, ◌≤◌, Bool, true, false, cond, List, [], ◌∷◌, ◌++◌, length, Option, Some, None, Ok, Err, refl, sym, ap, ◌∙◌, append_assoc, append-nil, arith}
+use Rattle.std.proofs.Common.{◌≡◌, ℕ, ◌+◌, ◌<◌, ◌≤◌, Bool, true, false, cond, List, [], ◌∷◌, ◌++◌, length, Option, Some, None, Ok, Err, refl, sym, ap, ◌∙◌, subst, append_assoc, append-nil, arith}
 use Rattle.std.proofs.lemmas.Bool.Decides.{nat_tests}
 use Rattle.pif_text.specs.declared.replies.Cause.TheVariants.{Size, Long}
-use Rattle.pif_cli.specs.declared.reading.stop.Stop.{Stop}
-use Rattle.pif_cli.specs.declared.reading.stop.Stop.TheVariants.{Script, NoMemory}
-use Rattle.pif_cli.specs.Scripts.{Meaning, Scan, Fault, byte_taken, fed, after_line, fault_at, with_byte, Takes, Answers, Feeds}
+use Rattle.pif_cli.specs.declared.reading.ending.Ending.TheVariants.{Fault}
+use Rattle.pif_cli.specs.declared.reading.ending.End.{End}
+use Rattle.pif_cli.specs.declared.reading.ending.Stop.{Stop}
+use Rattle.pif_cli.specs.declared.reading.ending.Stop.TheVariants.{Ended, NoMemory}
+use Rattle.pif_cli.specs.Scripts.{Hearing, FirstMeaning, Meaning, Answered, Scan, byte_taken, fed, answered, answered_by, answered_first, answered_later, after_line, end_at, with_byte, Opens, Hears, Takes, Answers, Feeds}
 
-module _ {S : Type 0} (heard : Option S → List ℕ → Meaning S) where
-  pub byte_taken-size : (s : Scan S) (b : ℕ) → 16777216 ≤ s.taken → byte_taken heard s b ≡ Err (fault_at s Size)
+module _ {S : Type 0} (hearing : Hearing S) where
+  pub byte_taken-size : (s : Scan S) (b : ℕ) → 16777216 ≤ s.taken → byte_taken hearing s b ≡ Err (end_at s (Fault Size))
   unfolding byte_taken
   byte_taken-size s b h = grind (arith, nat_tests)
 
-  pub byte_taken-end : (s : Scan S) (b : ℕ) → s.taken < 16777216 → b ≡ 10 → byte_taken heard s b ≡ after_line s (heard s.listener s.line)
+  pub byte_taken-end : (s : Scan S) (b : ℕ) → s.taken < 16777216 → b ≡ 10 → byte_taken hearing s b ≡ after_line s (answered hearing s)
   unfolding byte_taken
   byte_taken-end s b h e = grind (arith, nat_tests)
 
-  pub byte_taken-long : (s : Scan S) (b : ℕ) → s.taken < 16777216 → (b ≡ 10 → ⊥) → 120 ≤ length s.line → byte_taken heard s b ≡ Err (fault_at s Long)
+  pub byte_taken-long : (s : Scan S) (b : ℕ) → s.taken < 16777216 → (b ≡ 10 → ⊥) → 120 ≤ length s.line → byte_taken hearing s b ≡ Err (end_at s (Fault Long))
   unfolding byte_taken
   byte_taken-long s b h e f = grind (arith, nat_tests)
 
-  pub byte_taken-byte : (s : Scan S) (b : ℕ) → s.taken < 16777216 → (b ≡ 10 → ⊥) → length s.line < 120 → byte_taken heard s b ≡ Ok ([], with_byte s b)
+  pub byte_taken-byte : (s : Scan S) (b : ℕ) → s.taken < 16777216 → (b ≡ 10 → ⊥) → length s.line < 120 → byte_taken hearing s b ≡ Ok ([], with_byte s b)
   unfolding byte_taken
   byte_taken-byte s b h e f = grind (arith, nat_tests)
 
-  -- a line that was answered made a listener
-  after_line-unheard : (s : Scan S) (m : Meaning S) (r : List ℕ × Scan S) → after_line s m ≡ Ok r → r.1.listener ≡ None → (s.listener ≡ None) × (r.0 ≡ [])
-  after_line-unheard s (Ok m) r e n =
-      let p : (m.0, record { listener = Some m.1; line = []; number = s.number + 1; taken = s.taken + 1 }) ≡ r = cc in
-      let q : Some m.1 ≡ None = ap (λ (x : List ℕ × Scan S). x.1.listener) p ∙ n in
-      (cc, cc)
-  after_line-unheard s (Err c) r e n = (cc, cc)
+  -- while a line leaves nobody to answer, it had nobody, and was told nothing
+  first-unheard : (m : FirstMeaning S) (r : List ℕ × Option S) → answered_first m ≡ Ok r → r.1 ≡ None → r.0 ≡ []
+  first-unheard (Ok (Some m)) r e n =
+      let p : (m.0, Some m.1) ≡ r = cc in
+      let q : Some m.1 ≡ None = ap (λ (x : List ℕ × Option S). x.1) p ∙ n in
+      cc
+  first-unheard (Ok None) r e n = let p : ([], None) ≡ r = cc in sym (ap (λ (x : List ℕ × Option S). x.0) p)
+  first-unheard (Err c) r e n = cc
 
-  unheard-by : (x y z : Bool) (s : Scan S) (b : ℕ) (m : Meaning S) (f g : Fault) (r : List ℕ × Scan S)
+  later-heard : (m : Meaning S) (r : List ℕ × Option S) → answered_later m ≡ Ok r → r.1 ≡ None → ⊥
+  later-heard (Ok m) r e n =
+      let p : (m.0, Some m.1) ≡ r = cc in
+      let q : Some m.1 ≡ None = ap (λ (x : List ℕ × Option S). x.1) p ∙ n in
+      cc
+  later-heard (Err c) r e n = cc
+
+  answered-unheard : (l : Option S) (number : ℕ) (line : List ℕ) (r : List ℕ × Option S) → answered_by hearing l number line ≡ Ok r → r.1 ≡ None
+      → (l ≡ None) × (r.0 ≡ [])
+  answered-unheard None number line r e n = (refl, first-unheard (hearing.opened number line) r e n)
+  answered-unheard (Some l) number line r e n = absurd (later-heard (hearing.heard l line) r e n)
+
+  after_line-unheard : (s : Scan S) (m : Answered S) (r : List ℕ × Scan S) → ((x : List ℕ × Option S) → m ≡ Ok x → x.1 ≡ None → (s.listener ≡ None) × (x.0 ≡ []))
+      → after_line s m ≡ Ok r → r.1.listener ≡ None → (s.listener ≡ None) × (r.0 ≡ [])
+  after_line-unheard s (Ok m) r u e n =
+      let p : (m.0, record { listener = m.1; line = []; number = s.number + 1; taken = s.taken + 1 }) ≡ r = cc in
+      let q = u m refl (ap (λ (x : List ℕ × Scan S). x.1.listener) p ∙ n) in
+      (q.0, sym (ap (λ (x : List ℕ × Scan S). x.0) p) ∙ q.1)
+  after_line-unheard s (Err c) r u e n = (cc, cc)
+
+  unheard-by : (x y z : Bool) (s : Scan S) (b : ℕ) (m : Answered S) (f g : End) (r : List ℕ × Scan S)
+      → ((x : List ℕ × Option S) → m ≡ Ok x → x.1 ≡ None → (s.listener ≡ None) × (x.0 ≡ []))
       → cond x (cond y (after_line s m) (cond z (Ok ([], with_byte s b)) (Err f))) (Err g) ≡ Ok r → r.1.listener ≡ None → (s.listener ≡ None) × (r.0 ≡ [])
-  unheard-by true true z s b m f g r e n = after_line-unheard s m r e n
-  unheard-by true false true s b m f g r e n =
+  unheard-by true true z s b m f g r u e n = after_line-unheard s m r u e n
+  unheard-by true false true s b m f g r u e n =
       let p : ([], with_byte s b) ≡ r = cc in
       (ap (λ (x : List ℕ × Scan S). x.1.listener) p ∙ n, sym (ap (λ (x : List ℕ × Scan S). x.0) p))
-  unheard-by true false false s b m f g r e n = (cc, cc)
-  unheard-by false y z s b m f g r e n = (cc, cc)
+  unheard-by true false false s b m f g r u e n = (cc, cc)
+  unheard-by false y z s b m f g r u e n = (cc, cc)
 
   -- while nobody answers, nothing was told
-  pub byte_taken-unheard : (s : Scan S) (b : ℕ) (r : List ℕ × Scan S) → byte_taken heard s b ≡ Ok r → r.1.listener ≡ None → (s.listener ≡ None) × (r.0 ≡ [])
+  pub byte_taken-unheard : (s : Scan S) (b : ℕ) (r : List ℕ × Scan S) → byte_taken hearing s b ≡ Ok r → r.1.listener ≡ None → (s.listener ≡ None) × (r.0 ≡ [])
   unfolding byte_taken
-  byte_taken-unheard s b r e n = unheard-by _ _ _ s b (heard s.listener s.line) _ _ r e n
+  byte_taken-unheard s b r e n = unheard-by _ _ _ s b (answered hearing s) _ _ r (answered-unheard s.listener s.number s.line) e n
+
+  -- a line was passed over, or made a listener
+  opened-answers : (number : ℕ) (line old new : List ℕ) (o : Option S) → Opens (hearing.opened number line) old new (Ok o)
+      → (m : List ℕ × Option S) × (answered_by hearing None number line ≡ Ok m) × (new ≡ old ++ m.0) × (o ≡ m.1)
+  opened-answers number line old new (Some l) p = ((p.0, Some l), ap answered_first p.1, p.2, refl)
+  opened-answers number line old new None p = (([], None), ap answered_first p.0, p.1 ∙ sym (append-nil old), refl)
+
+  pub Answers-opened : (s : Scan S) (shown old new : List ℕ) (o : Option S) → s.listener ≡ None → shown ≡ s.line
+      → Opens (hearing.opened s.number shown) old new (Ok o)
+      → Answers hearing s old new (record { listener = o; line = s.line; number = s.number; taken = s.taken }) (Ok tt)
+  Answers-opened s shown old new o e f p =
+      let a = opened-answers s.number s.line old new o (subst (λ l. Opens (hearing.opened s.number l) old new (Ok o)) f p) in
+      (a.0, rw e a.1, a.2, λ i. record { listener = a.3 i; line = s.line; number = s.number; taken = s.taken })
+
+  -- a listener heard a line
+  pub Answers-heard : (s : Scan S) (shown old new : List ℕ) (l m : S) → s.listener ≡ Some l → shown ≡ s.line
+      → Hears (hearing.heard l shown) old new m (Ok tt)
+      → Answers hearing s old new (record { listener = Some m; line = s.line; number = s.number; taken = s.taken }) (Ok tt)
+  Answers-heard s shown old new l m e f p = ((p.0, Some m), rw (e, ← f) (ap answered_later p.1), p.2, refl)
 
   -- an LF whose line was answered
-  pub byte_taken-answered : (s : Scan S) (b : ℕ) (m : List ℕ × S) (t : Scan S) (l : List ℕ) → s.taken < 16777216 → b ≡ 10 → heard s.listener s.line ≡ Ok m
-      → t ≡ record { listener = Some m.1; line = s.line; number = s.number; taken = s.taken } → l ≡ []
-      → byte_taken heard s b ≡ Ok (m.0, record { listener = t.listener; line = l; number = t.number + 1; taken = t.taken + 1 })
+  pub byte_taken-answered : (s : Scan S) (b : ℕ) (m : List ℕ × Option S) (t : Scan S) (l : List ℕ) → s.taken < 16777216 → b ≡ 10 → answered hearing s ≡ Ok m
+      → t ≡ record { listener = m.1; line = s.line; number = s.number; taken = s.taken } → l ≡ []
+      → byte_taken hearing s b ≡ Ok (m.0, record { listener = t.listener; line = l; number = t.number + 1; taken = t.taken + 1 })
   byte_taken-answered s b m t l h e a u v = rw (u, v) (byte_taken-end s b h e ∙ ap (after_line s) a)
+
+  same-end : (f : End) (s : Scan S) → f.line ≡ s.number → ◌≡◌ {A = End} (end_at s f.ending) f
+  same-end f s e = λ i. record { line = (sym e) i; ending = f.ending }
 
   -- an LF whose line was not
   pub Takes-from_answer : (s : Scan S) (b : ℕ) (old new : List ℕ) (t : Scan S) (y : Stop) → s.taken < 16777216 → b ≡ 10
-      → Answers heard s old new t (Err y) → Takes heard s b old new t (Err y)
-  Takes-from_answer s b old new t (Script line cause) h e a =
-      (rw a.1 (byte_taken-end s b h e ∙ ap (after_line s) a.0), a.2)
+      → Answers hearing s old new t (Err y) → Takes hearing s b old new t (Err y)
+  Takes-from_answer s b old new t (Ended f) h e a =
+      (byte_taken-end s b h e ∙ ap (after_line s) a.0 ∙ ap Err (same-end f s a.1), a.2)
   Takes-from_answer s b old new t NoMemory h e a = a
 
-  pub fed-ok : (s : Scan S) (b : ℕ) (bs : List ℕ) (r : List ℕ × Scan S) → byte_taken heard s b ≡ Ok r
-      → ((fed heard s (b ∷ bs)).text ≡ r.0 ++ (fed heard r.1 bs).text) × ((fed heard s (b ∷ bs)).stands ≡ (fed heard r.1 bs).stands)
+  pub fed-ok : (s : Scan S) (b : ℕ) (bs : List ℕ) (r : List ℕ × Scan S) → byte_taken hearing s b ≡ Ok r
+      → ((fed hearing s (b ∷ bs)).text ≡ r.0 ++ (fed hearing r.1 bs).text) × ((fed hearing s (b ∷ bs)).stands ≡ (fed hearing r.1 bs).stands)
   unfolding fed
   fed-ok s b bs r e = rw (fed, e) (refl, refl)
 
-  pub fed-err : (s : Scan S) (b : ℕ) (bs : List ℕ) (f : Fault) → byte_taken heard s b ≡ Err f
-      → ((fed heard s (b ∷ bs)).text ≡ []) × ((fed heard s (b ∷ bs)).stands ≡ Err f)
+  pub fed-err : (s : Scan S) (b : ℕ) (bs : List ℕ) (f : End) → byte_taken hearing s b ≡ Err f
+      → ((fed hearing s (b ∷ bs)).text ≡ []) × ((fed hearing s (b ∷ bs)).stands ≡ Err f)
   unfolding fed
   fed-err s b bs f e = rw (fed, e) (refl, refl)
 
-  pub fed-nil : (s : Scan S) → ((fed heard s []).text ≡ []) × ((fed heard s []).stands ≡ Ok s)
+  pub fed-nil : (s : Scan S) → ((fed hearing s []).text ≡ []) × ((fed hearing s []).stands ≡ Ok s)
   unfolding fed
   fed-nil s = (refl, refl)
 
   -- of the bytes bs, that were read from s on, all but the rest were read, and the script stands at t
   pub record Feeding (s : Scan S) (bs old : List ℕ) (t : Scan S) (rest out : List ℕ) : Type 0 where
     pub told : List ℕ
-    pub text : (fed heard s bs).text ≡ told ++ (fed heard t rest).text
-    pub stands : (fed heard s bs).stands ≡ (fed heard t rest).stands
+    pub text : (fed hearing s bs).text ≡ told ++ (fed hearing t rest).text
+    pub stands : (fed hearing s bs).stands ≡ (fed hearing t rest).stands
     pub written : out ≡ old ++ told
     pub unheard : t.listener ≡ None → (s.listener ≡ None) × (told ≡ [])
 
@@ -84,27 +130,27 @@ module _ {S : Type 0} (heard : Option S → List ℕ → Meaning S) where
   Feeding-start s bs old = record { told = []; text = refl; stands = refl; written = sym (append-nil old); unheard = λ n. (n, refl) }
 
   pub Feeding-more : (s : Scan S) (bs old : List ℕ) (t : Scan S) (b : ℕ) (rest out new : List ℕ) (u : Scan S) (x : Unit {0})
-      → Feeding s bs old t (b ∷ rest) out → Takes heard t b out new u (Ok x) → Feeding s bs old u rest new
+      → Feeding s bs old t (b ∷ rest) out → Takes hearing t b out new u (Ok x) → Feeding s bs old u rest new
   Feeding-more s bs old t b rest out new u x f k =
       let step = fed-ok t b rest (k.0, u) k.1 in
       record {
         told = f.told ++ k.0;
-        text = f.text ∙ ap (λ l. f.told ++ l) step.0 ∙ sym (append_assoc f.told k.0 (fed heard u rest).text);
+        text = f.text ∙ ap (λ l. f.told ++ l) step.0 ∙ sym (append_assoc f.told k.0 (fed hearing u rest).text);
         stands = f.stands ∙ step.1;
         written = k.2 ∙ ap (λ l. l ++ k.0) f.written ∙ append_assoc old f.told k.0;
         unheard = λ n. let p = byte_taken-unheard t b (k.0, u) k.1 n in let q = f.unheard p.0 in (q.0, rw (q.1, p.1) refl);
       }
 
-  pub Feeds-end : (s : Scan S) (bs old : List ℕ) (t : Scan S) (rest out : List ℕ) (x : Unit {0}) → Feeding s bs old t rest out → rest ≡ [] → Feeds heard s bs old out t (Ok x)
+  pub Feeds-end : (s : Scan S) (bs old : List ℕ) (t : Scan S) (rest out : List ℕ) (x : Unit {0}) → Feeding s bs old t rest out → rest ≡ [] → Feeds hearing s bs old out t (Ok x)
   Feeds-end s bs old t rest out x f e =
       let done = fed-nil t in
-      let text = f.text ∙ ap (λ l. f.told ++ (fed heard t l).text) e ∙ ap (λ l. f.told ++ l) done.0 ∙ append-nil f.told in
-      (f.stands ∙ ap (λ l. (fed heard t l).stands) e ∙ done.1, f.written ∙ ap (λ l. old ++ l) (sym text))
+      let text = f.text ∙ ap (λ l. f.told ++ (fed hearing t l).text) e ∙ ap (λ l. f.told ++ l) done.0 ∙ append-nil f.told in
+      (f.stands ∙ ap (λ l. (fed hearing t l).stands) e ∙ done.1, f.written ∙ ap (λ l. old ++ l) (sym text))
 
   pub Feeds-stop : (s : Scan S) (bs old : List ℕ) (t : Scan S) (b : ℕ) (rest out new : List ℕ) (u : Scan S) (y : Stop)
-      → Feeding s bs old t (b ∷ rest) out → Takes heard t b out new u (Err y) → Feeds heard s bs old new u (Err y)
-  Feeds-stop s bs old t b rest out new u (Script line cause) f k =
-      let step = fed-err t b rest (record { line = line; cause = cause }) k.0 in
+      → Feeding s bs old t (b ∷ rest) out → Takes hearing t b out new u (Err y) → Feeds hearing s bs old new u (Err y)
+  Feeds-stop s bs old t b rest out new u (Ended x) f k =
+      let step = fed-err t b rest x k.0 in
       let text = f.text ∙ ap (λ l. f.told ++ l) step.0 ∙ append-nil f.told in
       (f.stands ∙ step.1, k.1 ∙ f.written ∙ ap (λ l. old ++ l) (sym text))
   Feeds-stop s bs old t b rest out new u NoMemory f k =

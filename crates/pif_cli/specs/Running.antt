@@ -1,5 +1,5 @@
 -- The commands of a script on a core, and what its lines mean.
-use Rattle.std.specs.Prelude.{ℕ, ◌&&◌, nat_le, Bool, false, List, [], ◌∷◌, ◌++◌, Option, Some, None, Result, Ok, Err, zero, suc, if◌then◌else◌}
+use Rattle.std.specs.Prelude.{ℕ, ◌≡◌, ◌&&◌, nat_le, Bool, false, List, [], ◌∷◌, ◌++◌, Option, Some, None, Result, Ok, Err, zero, suc, if◌then◌else◌}
 use Rattle.pif_types.specs.Bounds.{Bounds}
 use Rattle.pif_types.specs.declared.errors.AddFault.{AddFault}
 use Rattle.pif_types.specs.declared.errors.Refusal.TheVariants.{NoSuch}
@@ -8,18 +8,23 @@ use Rattle.pif_model.specs.declared.events.Event.TheVariants.{Begin as BeginEven
 use Rattle.pif_model.specs.declared.events.Seen.{Seen}
 use Rattle.pif_model.specs.declared.events.Seen.TheVariants.{Begun as SeenBegun, Went as SeenWent, Waits as SeenWaits, Answered as SeenAnswered, Refused as SeenRefused}
 use Rattle.pif_model.specs.Table.{Table, new_table}
-use Rattle.pif_model.specs.Lines.{Outcome, stepped}
+use Rattle.pif_model.specs.Lines.{Outcome, stepped, goes_on}
 use Rattle.pif_model.specs.Calls.{add_thread_answer, add_thread_after, add_mutex_answer, add_mutex_after, effective_answer, word_answer, pick_answer}
 use Rattle.pif_text.specs.declared.commands.Command.{Command}
 use Rattle.pif_text.specs.declared.commands.Command.TheVariants.{Limits, Thread, Mutex, Begin, Go, Call, Finish, Word, Prio, Pick}
+use Rattle.pif_text.specs.declared.replies.Cause.{Cause}
 use Rattle.pif_text.specs.declared.replies.Cause.TheVariants as cause
 use Rattle.pif_text.specs.declared.replies.Reply.{Reply}
 use Rattle.pif_text.specs.declared.replies.Reply.TheVariants as reply
 use Rattle.pif_text.specs.Commands.{command_in}
 use Rattle.pif_text.specs.Replies.{text_of}
 use Rattle.pif_cli.specs.declared.faults.CliFault.{CliFault}
+use Rattle.pif_cli.specs.declared.faults.CliFault.TheVariants as fault
 use Rattle.pif_cli.specs.Runs.{RunsFrom}
-use Rattle.pif_cli.specs.Scripts.{Meaning, start}
+use Rattle.pif_cli.specs.declared.reading.ending.Ending.TheVariants.{Fault, Differs}
+use Rattle.pif_cli.specs.declared.reading.ending.OpenFault.{OpenFault}
+use Rattle.pif_cli.specs.declared.reading.ending.OpenFault.TheVariants.{Ended, NoMemory}
+use Rattle.pif_cli.specs.Scripts.{Meaning, FirstMeaning, Hearing, start}
 
 -- the reply that says what an event was answered
 abbrev pub reply_of_seen : Seen → Reply
@@ -29,18 +34,9 @@ reply_of_seen SeenWaits = reply.Waits
 reply_of_seen (SeenAnswered a) = reply.Answer a
 reply_of_seen (SeenRefused r) = reply.Refused r
 
--- a thread goes on, this often at most after a first time, up to the first answer that isn't Went
-unfoldable pub gone_on : ℕ → ℕ → Table → Outcome
-gone_on zero t s = stepped (GoEvent t) s
-gone_on (suc more) t s =
-    elim (stepped (GoEvent t) s).seen [
-      | SeenWent ↦ gone_on more t (stepped (GoEvent t) s).after
-      | _ ↦ stepped (GoEvent t) s
-    ]
-
 -- finish: a thread goes on, at most 24 times
 unfoldable pub finished : ℕ → Table → Outcome
-finished t s = gone_on 23 t s
+finished t s = goes_on 23 t s
 
 -- call: the thread begins the call, and if that is not refused it goes on as in finish
 unfoldable pub called : ℕ → Request → Table → Outcome
@@ -86,10 +82,10 @@ obeyed (Word m) s = Some (reply_of_word (word_answer m s), s)
 obeyed (Prio t) s = Some (reply_of_priority (effective_answer t s), s)
 obeyed Pick s = Some (reply.Picked (pick_answer s), s)
 
--- an answer as a line, or the fault `command`
-abbrev pub meaning_of : Option Answer → Meaning Table
-meaning_of (Some a) = Ok (text_of a.0 ++ 10 ∷ [], a.1)
-meaning_of None = Err cause.Command
+-- an answer, or the fault `command`
+abbrev pub answer_or_fault : Option Answer → Result Answer Cause
+answer_or_fault (Some a) = Ok a
+answer_or_fault None = Err cause.Command
 
 -- whether limits are in their ranges
 abbrev pub are_limits : Bounds → Bool
@@ -100,28 +96,59 @@ are_limits b =
 abbrev pub default_limits : Bounds
 default_limits = record { threads = 1024; mutexes = 1024; conds = 256; signals = 4294967295 }
 
--- what `limits` means in the first line: these limits, or the fault `limits` where a number is outside its range
-abbrev pub limited_meaning : Option Bounds → Meaning Table
-limited_meaning (Some b) = Ok (text_of reply.Done ++ 10 ∷ [], new_table b)
-limited_meaning None = Err cause.Limits
+-- what `limits` is answered as the first command: these limits, or the fault `limits` where a number is outside its range
+abbrev pub limited_answer : Option Bounds → Result Answer Cause
+limited_answer (Some b) = Ok (reply.Done, new_table b)
+limited_answer None = Err cause.Limits
 
 -- these limits, if each is in its range
 unfoldable pub limits_in : Bounds → Option Bounds
 limits_in b = if are_limits b then Some b else None
 
 -- the first command makes the core: under the limits that it names, or else under the default limits
-unfoldable pub first_meaning : Command → Meaning Table
-first_meaning (Limits t m c n) = limited_meaning (limits_in (record { threads = t; mutexes = m; conds = c; signals = n }))
-first_meaning c = meaning_of (obeyed c (new_table default_limits))
+unfoldable pub first_answer : Command → Result Answer Cause
+first_answer (Limits t m c n) = limited_answer (limits_in (record { threads = t; mutexes = m; conds = c; signals = n }))
+first_answer c = answer_or_fault (obeyed c (new_table default_limits))
 
--- what a line means to a core, or to nobody where it is the first line
-unfoldable pub line_meaning : Option Table → List ℕ → Meaning Table
-line_meaning o line =
+-- a core was made by the first command, and answered it so
+abbrev pub Makes : Result Answer Cause → Result (Table × Reply) OpenFault → Type 0
+Makes meant (Ok made) = meant ≡ Ok (made.1, made.0)
+Makes meant (Err (Ended (Fault c))) = meant ≡ Err c
+Makes meant (Err (Ended (Differs r))) = ⊥
+Makes meant (Err NoMemory) = Unit {0}
+
+-- an answer as a line
+abbrev pub told : Result Answer Cause → Meaning Table
+told (Ok a) = Ok (text_of a.0 ++ 10 ∷ [], a.1)
+told (Err c) = Err (Fault c)
+
+-- a line that makes a core makes a listener
+abbrev pub made_by : Meaning Table → FirstMeaning Table
+made_by (Ok m) = Ok (Some m)
+made_by (Err e) = Err e
+
+-- what the first line of a script means
+unfoldable pub first_line_meaning : List ℕ → FirstMeaning Table
+first_line_meaning line =
     elim (command_in line) [
-      | None ↦ Err cause.Command
-      | Some c ↦ elim o [ None ↦ first_meaning c | Some s ↦ meaning_of (obeyed c s) ]
+      | None ↦ Err (Fault cause.Command)
+      | Some c ↦ made_by (told (first_answer c))
     ]
 
--- a run of a script, by what the reader had and has left, and what the writer held and holds
+-- what a later line of a script means to a core
+unfoldable pub line_meaning : Table → List ℕ → Meaning Table
+line_meaning s line =
+    elim (command_in line) [
+      | None ↦ Err (Fault cause.Command)
+      | Some c ↦ told (answer_or_fault (obeyed c s))
+    ]
+
+-- how a script is heard: its first line makes the core, and at its end nothing is said
+abbrev pub script : Hearing Table
+script = record { opened = λ number line. first_line_meaning line; heard = line_meaning; closed = λ number. Ok [] }
+
+-- a run of a script, by what the reader had and has left, and what the writer held and holds; it has no differences
 abbrev pub RunsTo : (before after held holds : Option (List ℕ)) → Result (Unit {0}) CliFault → Type 0
-RunsTo before after held holds result = RunsFrom line_meaning start before after held holds result
+RunsTo before after held holds (Ok x) = RunsFrom script start before after held holds (Ok x)
+RunsTo before after held holds (Err (fault.Differs line)) = ⊥
+RunsTo before after held holds (Err e) = RunsFrom script start before after held holds (Err e)

@@ -1,36 +1,52 @@
--- Scripts as bytes: their lines, the answers to them, and the first fault.
+-- Scripts and traces as bytes: their lines, the answers to them, and how they end.
 use Rattle.std.specs.Prelude.{ℕ, ◌≡◌, ◌+◌, ◌==◌, nat_lt, List, [], ◌∷◌, ◌++◌, length, Option, Some, None, Result, Ok, Err, if◌then◌else◌}
 use Rattle.pif_text.specs.declared.replies.Cause.{Cause}
 use Rattle.pif_text.specs.declared.replies.Cause.TheVariants.{Size, Long, Cut}
-use Rattle.pif_cli.specs.declared.reading.listener.OpenFault.{OpenFault}
-use Rattle.pif_cli.specs.declared.reading.listener.OpenFault.TheVariants.{Script as OpenScript, NoMemory as OpenNoMemory}
-use Rattle.pif_cli.specs.declared.reading.stop.Stop.{Stop}
-use Rattle.pif_cli.specs.declared.reading.stop.Stop.TheVariants.{Script as StopScript, NoMemory as StopNoMemory}
+use Rattle.pif_cli.specs.declared.reading.ending.Ending.{Ending}
+use Rattle.pif_cli.specs.declared.reading.ending.Ending.TheVariants.{Fault}
+use Rattle.pif_cli.specs.declared.reading.ending.End.{End}
+use Rattle.pif_cli.specs.declared.reading.ending.OpenFault.{OpenFault}
+use Rattle.pif_cli.specs.declared.reading.ending.OpenFault.TheVariants.{Ended as OpenEnded, NoMemory as OpenNoMemory}
+use Rattle.pif_cli.specs.declared.reading.ending.Stop.{Stop}
+use Rattle.pif_cli.specs.declared.reading.ending.Stop.TheVariants.{Ended as StopEnded, NoMemory as StopNoMemory}
 
--- what a line means: its answer and the listener afterwards, or the cause of a fault
+-- what a line means to a listener: what it is answered and the listener afterwards, or how it ends the script
 abbrev pub Meaning : Type 0 → Type 0
-Meaning S = Result (List ℕ × S) Cause
+Meaning S = Result (List ℕ × S) Ending
 
--- the first line was answered so: it made the listener, or none
-abbrev pub Opens : {S : Type 0} → Meaning S → (old new : List ℕ) → Result S OpenFault → Type 0
-Opens meant old new (Ok s) = (text : List ℕ) × (meant ≡ Ok (text, s)) × (new ≡ old ++ text)
-Opens meant old new (Err (OpenScript c)) = (meant ≡ Err c) × (new ≡ old)
+-- what a line means while there is no listener: it makes one, or it is passed over, or it ends the script
+abbrev pub FirstMeaning : Type 0 → Type 0
+FirstMeaning S = Result (Option (List ℕ × S)) Ending
+
+-- how a script is heard
+pub record Hearing (S : Type 0) : Type 0 where
+  -- what the line of this number, from 1, means while there is no listener
+  pub opened : ℕ → List ℕ → FirstMeaning S
+  -- what a line means to a listener
+  pub heard : S → List ℕ → Meaning S
+  -- what is said at the end, where the next line would have this number, or why the end is a fault
+  pub closed : ℕ → Result (List ℕ) Cause
+
+-- a line was answered so while there was no listener: it made one, or was passed over
+abbrev pub Opens : {S : Type 0} → FirstMeaning S → (old new : List ℕ) → Result (Option S) OpenFault → Type 0
+Opens meant old new (Ok (Some s)) = (text : List ℕ) × (meant ≡ Ok (Some (text, s))) × (new ≡ old ++ text)
+Opens meant old new (Ok None) = (meant ≡ Ok None) × (new ≡ old)
+Opens meant old new (Err (OpenEnded e)) = (meant ≡ Err e) × (new ≡ old)
 Opens meant old new (Err OpenNoMemory) = new ≡ old
 
--- a later line was answered so, and left the listener s
-abbrev pub Hears : {S : Type 0} → Meaning S → (old new : List ℕ) → S → Result (Unit {0}) Cause → Type 0
+-- a line was answered so by a listener, and left it as s
+abbrev pub Hears : {S : Type 0} → Meaning S → (old new : List ℕ) → S → Result (Unit {0}) Ending → Type 0
 Hears meant old new s (Ok x) = (text : List ℕ) × (meant ≡ Ok (text, s)) × (new ≡ old ++ text)
-Hears meant old new s (Err c) = (meant ≡ Err c) × (new ≡ old)
+Hears meant old new s (Err e) = (meant ≡ Err e) × (new ≡ old)
 
--- the first fault of a script
-pub record Fault : Type 0 where
-  -- its line, from 1
-  pub line : ℕ
-  pub cause : Cause
+-- a text was appended, or nothing where there is none to tell
+abbrev pub Tells : {E : Type 0} → Result (List ℕ) E → (old new : List ℕ) → Result (Unit {0}) E → Type 0
+Tells told old new (Ok x) = (text : List ℕ) × (told ≡ Ok text) × (new ≡ old ++ text)
+Tells told old new (Err e) = (told ≡ Err e) × (new ≡ old)
 
 -- where a script stands between two of its bytes
 pub record Scan (S : Type 0) : Type 0 where
-  -- who answers its lines; nobody before the first line
+  -- who answers its lines; nobody before a line makes one
   pub listener : Option S
   -- the bytes of the line so far
   pub line : List ℕ
@@ -39,66 +55,96 @@ pub record Scan (S : Type 0) : Type 0 where
   -- how many bytes came before
   pub taken : ℕ
 
--- what bytes are answered: the text, and where the script stands after them, or its fault
+-- what bytes are answered: the text, and where the script stands after them, or the line that ends it
 pub record Fed (S : Type 0) : Type 0 where
   pub text : List ℕ
-  pub stands : Result (Scan S) Fault
+  pub stands : Result (Scan S) End
 
 -- where a script stands before its first byte
 abbrev pub start : {S : Type 0} → Scan S
 start = record { listener = None; line = []; number = 1; taken = 0 }
 
--- the fault of this cause in the line at which the script stands
-abbrev pub fault_at : {S : Type 0} → Scan S → Cause → Fault
-fault_at s c = record { line = s.number; cause = c }
+-- the line at which the script stands ends it so
+abbrev pub end_at : {S : Type 0} → Scan S → Ending → End
+end_at s e = record { line = s.number; ending = e }
 
--- the byte LF ends the line, which means this
-abbrev pub after_line : {S : Type 0} → Scan S → Meaning S → Result (List ℕ × Scan S) Fault
-after_line s (Ok m) = Ok (m.0, record { listener = Some m.1; line = []; number = s.number + 1; taken = s.taken + 1 })
-after_line s (Err c) = Err (fault_at s c)
+-- the answer to a line, and the listener afterwards
+abbrev pub Answered : Type 0 → Type 0
+Answered S = Result (List ℕ × Option S) Ending
+
+abbrev pub answered_first : {S : Type 0} → FirstMeaning S → Answered S
+answered_first (Ok (Some m)) = Ok (m.0, Some m.1)
+answered_first (Ok None) = Ok ([], None)
+answered_first (Err e) = Err e
+
+abbrev pub answered_later : {S : Type 0} → Meaning S → Answered S
+answered_later (Ok m) = Ok (m.0, Some m.1)
+answered_later (Err e) = Err e
+
+-- what the line so far is answered by this listener, or by nobody
+abbrev pub answered_by : {S : Type 0} → Hearing S → Option S → (number : ℕ) → (line : List ℕ) → Answered S
+answered_by h None number line = answered_first (h.opened number line)
+answered_by h (Some l) number line = answered_later (h.heard l line)
+
+-- what the line is answered at which the script stands
+abbrev pub answered : {S : Type 0} → Hearing S → Scan S → Answered S
+answered h s = answered_by h s.listener s.number s.line
+
+-- the byte LF ends the line, which is answered so
+abbrev pub after_line : {S : Type 0} → Scan S → Answered S → Result (List ℕ × Scan S) End
+after_line s (Ok m) = Ok (m.0, record { listener = m.1; line = []; number = s.number + 1; taken = s.taken + 1 })
+after_line s (Err e) = Err (end_at s e)
 
 -- one more byte of the line
 abbrev pub with_byte : {S : Type 0} → Scan S → ℕ → Scan S
 with_byte s b = record { listener = s.listener; line = s.line ++ b ∷ []; number = s.number; taken = s.taken + 1 }
 
 -- one byte: past 16,777,216 bytes it is `size`, else LF ends the line, else past 120 bytes of a line it is `long`
-unfoldable pub byte_taken : {S : Type 0} → (Option S → List ℕ → Meaning S) → Scan S → ℕ → Result (List ℕ × Scan S) Fault
-byte_taken heard s b =
+unfoldable pub byte_taken : {S : Type 0} → Hearing S → Scan S → ℕ → Result (List ℕ × Scan S) End
+byte_taken h s b =
     if nat_lt s.taken 16777216 then
-    (if b == 10 then after_line s (heard s.listener s.line) else
-    (if nat_lt (length s.line) 120 then Ok ([], with_byte s b) else Err (fault_at s Long)))
-    else Err (fault_at s Size)
+    (if b == 10 then after_line s (answered h s) else
+    (if nat_lt (length s.line) 120 then Ok ([], with_byte s b) else Err (end_at s (Fault Long))))
+    else Err (end_at s (Fault Size))
 
--- bytes one after the other, up to the first fault
-unfoldable pub fed : {S : Type 0} → (Option S → List ℕ → Meaning S) → Scan S → List ℕ → Fed S
-fed heard s [] = record { text = []; stands = Ok s }
-fed heard s (b ∷ bs) =
-    elim (byte_taken heard s b) [
-      | Ok m ↦ record { text = m.0 ++ (fed heard m.1 bs).text; stands = (fed heard m.1 bs).stands }
+-- bytes one after the other, up to the first line that ends the script
+unfoldable pub fed : {S : Type 0} → Hearing S → Scan S → List ℕ → Fed S
+fed h s [] = record { text = []; stands = Ok s }
+fed h s (b ∷ bs) =
+    elim (byte_taken h s b) [
+      | Ok m ↦ record { text = m.0 ++ (fed h m.1 bs).text; stands = (fed h m.1 bs).stands }
       | Err f ↦ record { text = []; stands = Err f }
     ]
 
--- the fault of a script that ends there: what was found, or else an end inside a line
-abbrev pub fault_by : {S : Type 0} → Result (Scan S) Fault → Option Fault
-fault_by (Err f) = Some f
-fault_by (Ok s) = if length s.line == 0 then None else Some (fault_at s Cut)
+-- what is said at the end of a script that ends there, or why the end is a fault
+abbrev pub at_end : {S : Type 0} → Scan S → Result (List ℕ) Cause → Result (List ℕ) End
+at_end s (Ok text) = Ok text
+at_end s (Err c) = Err (end_at s (Fault c))
+
+-- a script that stands there at its end: an end inside a line is `cut`
+abbrev pub closed_at : {S : Type 0} → Hearing S → Scan S → Result (List ℕ) End
+closed_at h s = if length s.line == 0 then at_end s (h.closed s.number) else Err (end_at s (Fault Cut))
+
+-- how a script ends that ends there: what is said at its end, or which line ended it, and how
+abbrev pub ended_by : {S : Type 0} → Hearing S → Result (Scan S) End → Result (List ℕ) End
+ended_by h (Err e) = Err e
+ended_by h (Ok s) = closed_at h s
 
 -- the line was answered so, and the script stands at t, with the line's bytes still there
-abbrev pub Answers : {S : Type 0} → (Option S → List ℕ → Meaning S) → Scan S → (old new : List ℕ) → Scan S → Result (Unit {0}) Stop → Type 0
-Answers {S = S} heard s old new t (Ok x) =
-    (m : List ℕ × S) × (heard s.listener s.line ≡ Ok m) × (new ≡ old ++ m.0) × (t ≡ record { listener = Some m.1; line = s.line; number = s.number; taken = s.taken })
-Answers heard s old new t (Err (StopScript line cause)) = (heard s.listener s.line ≡ Err cause) × (line ≡ s.number) × (new ≡ old)
-Answers heard s old new t (Err StopNoMemory) = (s.listener ≡ None) × (new ≡ old)
+abbrev pub Answers : {S : Type 0} → Hearing S → Scan S → (old new : List ℕ) → Scan S → Result (Unit {0}) Stop → Type 0
+Answers {S = S} h s old new t (Ok x) =
+    (m : List ℕ × Option S) × (answered h s ≡ Ok m) × (new ≡ old ++ m.0) × (t ≡ record { listener = m.1; line = s.line; number = s.number; taken = s.taken })
+Answers h s old new t (Err (StopEnded e)) = (answered h s ≡ Err e.ending) × (e.line ≡ s.number) × (new ≡ old)
+Answers h s old new t (Err StopNoMemory) = (s.listener ≡ None) × (new ≡ old)
 
 -- a byte was answered so, and left the script at t
-abbrev pub Takes : {S : Type 0} → (Option S → List ℕ → Meaning S) → Scan S → ℕ → (old new : List ℕ) → Scan S → Result (Unit {0}) Stop → Type 0
-Takes heard s b old new t (Ok x) = (text : List ℕ) × (byte_taken heard s b ≡ Ok (text, t)) × (new ≡ old ++ text)
-Takes heard s b old new t (Err (StopScript line cause)) = (byte_taken heard s b ≡ Err (record { line = line; cause = cause })) × (new ≡ old)
-Takes heard s b old new t (Err StopNoMemory) = (s.listener ≡ None) × (new ≡ old)
+abbrev pub Takes : {S : Type 0} → Hearing S → Scan S → ℕ → (old new : List ℕ) → Scan S → Result (Unit {0}) Stop → Type 0
+Takes h s b old new t (Ok x) = (text : List ℕ) × (byte_taken h s b ≡ Ok (text, t)) × (new ≡ old ++ text)
+Takes h s b old new t (Err (StopEnded e)) = (byte_taken h s b ≡ Err e) × (new ≡ old)
+Takes h s b old new t (Err StopNoMemory) = (s.listener ≡ None) × (new ≡ old)
 
 -- bytes were answered so, and left the script at t
-abbrev pub Feeds : {S : Type 0} → (Option S → List ℕ → Meaning S) → Scan S → List ℕ → (old new : List ℕ) → Scan S → Result (Unit {0}) Stop → Type 0
-Feeds heard s bs old new t (Ok x) = ((fed heard s bs).stands ≡ Ok t) × (new ≡ old ++ (fed heard s bs).text)
-Feeds heard s bs old new t (Err (StopScript line cause)) =
-    ((fed heard s bs).stands ≡ Err (record { line = line; cause = cause })) × (new ≡ old ++ (fed heard s bs).text)
-Feeds heard s bs old new t (Err StopNoMemory) = (s.listener ≡ None) × (new ≡ old)
+abbrev pub Feeds : {S : Type 0} → Hearing S → Scan S → List ℕ → (old new : List ℕ) → Scan S → Result (Unit {0}) Stop → Type 0
+Feeds h s bs old new t (Ok x) = ((fed h s bs).stands ≡ Ok t) × (new ≡ old ++ (fed h s bs).text)
+Feeds h s bs old new t (Err (StopEnded e)) = ((fed h s bs).stands ≡ Err e) × (new ≡ old ++ (fed h s bs).text)
+Feeds h s bs old new t (Err StopNoMemory) = (s.listener ≡ None) × (new ≡ old)

@@ -1,23 +1,39 @@
 -- The words of the program, and its status.
-use Rattle.std.specs.Prelude.{ℕ, ◌≡◌, ◌⊎◌, true, List, [], ◌∷◌, Option, Result, Ok, Err, codes}
+use Rattle.std.specs.Prelude.{ℕ, ◌≡◌, ◌⊎◌, true, List, [], ◌∷◌, Option, Some, None, Result, Ok, Err, codes, bytes_eq, option_map, if◌then◌else◌}
 use Rattle.std.specs.Io.KnownBytes.{Appends, Keeps}
-use Rattle.clap.specs.Words.{App, IsAmong, Kinds, fault_of, new_app, with_subcommand}
+use Rattle.clap.specs.Words.{App, IsAmong, Kinds, fault_of, new_app, subcommand_of, with_subcommand}
 use Rattle.clap.specs.declared.error.kind.ErrorKind.{ErrorKind}
 use Rattle.clap.specs.declared.error.kind.ErrorKind.TheVariants.{DisplayHelp}
 use Rattle.pif_cli.specs.declared.faults.CliFault.{CliFault}
-use Rattle.pif_cli.specs.declared.faults.CliFault.TheVariants.{Read, Write, NoMemory, Script}
+use Rattle.pif_cli.specs.declared.faults.CliFault.TheVariants.{Read, Write, NoMemory, Script, Differs}
+use Rattle.pif_cli.specs.declared.words.Job.{Job}
+use Rattle.pif_cli.specs.declared.words.Job.TheVariants.{Run, Replay}
 use Rattle.pif_cli.specs.Running.{RunsTo}
+use Rattle.pif_cli.specs.Traces.{ReplaysTo}
 use Rattle.pif_cli.specs.Runs.{WritesPart}
 
--- the program's commands, as clap has them: `run` alone, which must be given
+-- a command of the program, as clap has it
+abbrev pub with_job : App → List ℕ → App
+with_job pif name = with_subcommand pif (new_app name).top
+
+-- the program's commands, as clap has them: `run` and `replay`, of which one must be given
 abbrev pub program : App
 program =
     let pif : App = new_app (codes "pif") in
-    with_subcommand (record pif { top = record pif.top { disable_help_subcommand = true; subcommand_required = true } }) (new_app (codes "run")).top
+    with_job (with_job (record pif { top = record pif.top { disable_help_subcommand = true; subcommand_required = true } }) (codes "run")) (codes "replay")
 
--- why the words are refused, the program's name first; none where they ask for a run
+-- why the words are refused, the program's name first; none where they ask for a job
 abbrev pub refusals_of : List (List ℕ) → Kinds
 refusals_of words = fault_of program words
+
+-- the job of this name
+abbrev pub job_named : Option (List ℕ) → Job
+job_named (Some name) = if bytes_eq name (codes "replay") then Replay else Run
+job_named None = Run
+
+-- the job that the words ask for
+abbrev pub job_of : List (List ℕ) → Job
+job_of words = job_named (option_map (λ command. command.0) (subcommand_of program words))
 
 -- the status of a fault
 abbrev pub fault_status : CliFault → ℕ
@@ -25,20 +41,26 @@ fault_status (Script line cause) = 2
 fault_status Read = 3
 fault_status Write = 3
 fault_status NoMemory = 4
+fault_status (Differs line) = 5
 
--- the status of a run
-abbrev pub run_status : Result (Unit {0}) CliFault → ℕ
-run_status (Ok x) = 0
-run_status (Err e) = fault_status e
+-- the status of a job
+abbrev pub job_status : Result (Unit {0}) CliFault → ℕ
+job_status (Ok x) = 0
+job_status (Err e) = fault_status e
 
 -- a text was shown, which has this status where all of it was written, or else a write failed after a proper part of it
 abbrev pub Shows : (held holds : Option (List ℕ)) → (text : List ℕ) → (shown status : ℕ) → Type 0
 Shows held holds text shown status = ((status ≡ shown) × Appends held holds text) ⊎ ((status ≡ 3) × WritesPart held holds text)
 
--- a run took place, and nothing was written to the errors
-abbrev pub Ran : (before after held holds errors_held errors_hold : Option (List ℕ)) → ℕ → Type 0
-Ran before after held holds errors_held errors_hold status =
-    (result : Result (Unit {0}) CliFault) × RunsTo before after held holds result × (status ≡ run_status result) × Keeps errors_held errors_hold
+-- a job over the bytes that were read and written
+abbrev pub Does : Job → (before after held holds : Option (List ℕ)) → Result (Unit {0}) CliFault → Type 0
+Does Run before after held holds result = RunsTo before after held holds result
+Does Replay before after held holds result = ReplaysTo before after held holds result
+
+-- the job was done, and nothing was written to the errors
+abbrev pub Did : Job → (before after held holds errors_held errors_hold : Option (List ℕ)) → ℕ → Type 0
+Did job before after held holds errors_held errors_hold status =
+    (result : Result (Unit {0}) CliFault) × Does job before after held holds result × (status ≡ job_status result) × Keeps errors_held errors_hold
 
 -- want of memory: nothing was written
 abbrev pub HadNoMemory : (held holds errors_held errors_hold : Option (List ℕ)) → ℕ → Type 0
@@ -57,11 +79,11 @@ abbrev pub RefusedFor : ErrorKind → (held holds errors_held errors_hold : Opti
 RefusedFor DisplayHelp held holds errors_held errors_hold status = ShowedHelp held holds errors_held errors_hold status
 RefusedFor k held holds errors_held errors_hold status = Refused held holds errors_held errors_hold status
 
--- words of these refusals end the program so: where there is none it is a run, else nothing is read and they are
--- refused for one of them; and memory may be wanting
-abbrev pub EndsBy : Kinds → (before after held holds errors_held errors_hold : Option (List ℕ)) → ℕ → Type 0
-EndsBy [] before after held holds errors_held errors_hold status =
-    Ran before after held holds errors_held errors_hold status ⊎ (Keeps before after × HadNoMemory held holds errors_held errors_hold status)
-EndsBy (k ∷ more) before after held holds errors_held errors_hold status =
+-- words of these refusals that ask for this job end the program so: where there is no refusal the job is done, else
+-- nothing is read and they are refused for one of them; and memory may be wanting
+abbrev pub EndsBy : Kinds → Job → (before after held holds errors_held errors_hold : Option (List ℕ)) → ℕ → Type 0
+EndsBy [] job before after held holds errors_held errors_hold status =
+    Did job before after held holds errors_held errors_hold status ⊎ (Keeps before after × HadNoMemory held holds errors_held errors_hold status)
+EndsBy (k ∷ more) job before after held holds errors_held errors_hold status =
     Keeps before after
     × (((why : ErrorKind) × IsAmong why (k ∷ more) × RefusedFor why held holds errors_held errors_hold status) ⊎ HadNoMemory held holds errors_held errors_hold status)

@@ -1,7 +1,8 @@
+mod ending;
 mod listener;
 mod scanner;
 mod script;
-mod stop;
 
-pub use listener::{ANSWER_ROOM, Listener, OUTPUT_ROOM, OpenFault, Output};
+pub use ending::{Ending, OpenFault};
+pub use listener::{ANSWER_ROOM, END_ROOM, Listener, OUTPUT_ROOM, Output};
 pub use script::read_script;

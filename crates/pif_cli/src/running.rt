@@ -3,17 +3,16 @@ ghost use Rattle.arrayvec.specs.ArrayVec.{array_vec_len};
 ghost use Rattle.pif_types.specs.Bounds.{Bounds};
 ghost use Rattle.pif_model.specs.Table.{new_table};
 ghost use Rattle.pif_text.specs.Replies.{text_of};
-ghost use Rattle.pif_cli.specs.Scripts.{Opens, Hears};
-ghost use Rattle.pif_cli.specs.Running.{reply_of_seen, finished, called, answer_of_outcome, reply_of_thread, reply_of_mutex, reply_of_word, reply_of_priority, obeyed, default_limits, line_meaning, first_meaning, limited_meaning, meaning_of};
+ghost use Rattle.pif_cli.specs.Running.{reply_of_seen, finished, called, reply_of_thread, reply_of_mutex, reply_of_word, reply_of_priority, obeyed, default_limits, script, first_answer, limited_answer, answer_or_fault, Makes};
 
-use crate::reading::{ANSWER_ROOM, Listener, OUTPUT_ROOM, OpenFault, Output};
+use crate::reading::{ANSWER_ROOM, Ending, Listener, OUTPUT_ROOM, OpenFault, Output};
 use pif_core::{Core, Event, Seen};
 use pif_text::{Cause, Command, Reply, command_of, reply_text};
 use pif_types::{AddFault, Limits, MutexId, Prio, Refusal, Request, Tid};
 use std::alloc::Global;
 
 /// The reply that says what an event was answered.
-fn reply_of_seen(seen: Seen) -> Reply
+pub fn reply_of_seen(seen: Seen) -> Reply
     ensures { result ≡ reply_of_seen seen }
 {
     match seen {
@@ -90,9 +89,9 @@ fn call(core: &mut Core, thread: Tid, request: Request) -> Seen
     }
 }
 
-/// What a command is answered. `None` for `limits`, which changes nothing here.
+/// What a command is answered. `None` for `limits`, which is a first command alone; the core is then unchanged.
 #[tactic(auto, unfolding(crate::specs::Running::obeyed))]
-fn obey(core: &mut Core, command: Command) -> Option<Reply>
+pub fn obey(core: &mut Core, command: Command) -> Option<Reply>
     ensures { MatchOption result ((obeyed command core.old ≡ None) × (core.new ≡ core.old))
         (λ reply. obeyed command core.old ≡ Some (reply, core.new)) }
 {
@@ -129,89 +128,84 @@ fn default_limits() -> Limits
     Limits::new(1024, 1024, 256, 4_294_967_295).unwrap()
 }
 
-/// Has a command answered, as a line of `output`.
-fn answer(core: &mut Core, command: Command, output: &mut Output) -> Result<(), Cause>
-    requires { array_vec_len output.old + ANSWER_ROOM ≤ OUTPUT_ROOM }
-    ensures answer { Hears (meaning_of (obeyed command core.old)) output.old.items output.new.items core.new result }
-    ensures room { array_vec_len output.new ≤ array_vec_len output.old + ANSWER_ROOM }
-{
-    match obey(core, command) {
-        Some(reply) => {
-            tell(reply, output);
-            Ok(())
-        }
-        None => Err(Cause::Command),
-    }
-}
-
-/// The core that a first line `limits` makes.
-fn open_limited(
-    alloc: Global,
-    limits: Option<Limits>,
-    output: &mut Output,
-) -> Result<Core, OpenFault>
-    requires { array_vec_len output.old + ANSWER_ROOM ≤ OUTPUT_ROOM }
-    ensures answer { Opens (limited_meaning limits) output.old.items output.new.items result }
-    ensures room { array_vec_len output.new ≤ array_vec_len output.old + ANSWER_ROOM }
+/// The core under these limits, and the answer to the command `limits` that names them.
+fn open_limited(alloc: Global, limits: Option<Limits>) -> Result<(Core, Reply), OpenFault>
+    ensures { Makes (limited_answer limits) result }
 {
     match limits {
         Some(limits) => match Core::new(alloc, limits) {
-            Ok(core) => {
-                tell(Reply::Done, output);
-                Ok(core)
-            }
+            Ok(core) => Ok((core, Reply::Done)),
             Err(_) => Err(OpenFault::NoMemory),
         },
-        None => Err(OpenFault::Script(Cause::Limits)),
+        None => Err(OpenFault::Ended(Ending::Fault(Cause::Limits))),
     }
 }
 
-/// The core that any other first line makes.
-fn open_default(alloc: Global, command: Command, output: &mut Output) -> Result<Core, OpenFault>
-    requires { array_vec_len output.old + ANSWER_ROOM ≤ OUTPUT_ROOM }
-    ensures answer { Opens (meaning_of (obeyed command (new_table default_limits))) output.old.items output.new.items result }
-    ensures room { array_vec_len output.new ≤ array_vec_len output.old + ANSWER_ROOM }
+/// The core under the default limits, and the answer of it to the first command.
+fn open_default(alloc: Global, command: Command) -> Result<(Core, Reply), OpenFault>
+    ensures { Makes (answer_or_fault (obeyed command (new_table default_limits))) result }
 {
     match Core::new(alloc, default_limits()) {
-        Ok(mut core) => match answer(&mut core, command, output) {
-            Ok(()) => Ok(core),
-            Err(cause) => Err(OpenFault::Script(cause)),
+        Ok(mut core) => match obey(&mut core, command) {
+            Some(reply) => Ok((core, reply)),
+            None => Err(OpenFault::Ended(Ending::Fault(Cause::Command))),
         },
         Err(_) => Err(OpenFault::NoMemory),
     }
 }
 
-/// The core that the first command makes.
-#[tactic(auto, unfolding(crate::specs::Running::first_meaning, crate::specs::Running::limits_in))]
-fn open_core(alloc: Global, command: Command, output: &mut Output) -> Result<Core, OpenFault>
-    requires { array_vec_len output.old + ANSWER_ROOM ≤ OUTPUT_ROOM }
-    ensures answer { Opens (first_meaning command) output.old.items output.new.items result }
-    ensures room { array_vec_len output.new ≤ array_vec_len output.old + ANSWER_ROOM }
+/// The core that the first command makes, and the answer to that command.
+///
+/// # Errors
+///
+/// The cause, where the command is a fault as the first one, and `NoMemory`.
+#[tactic(auto, unfolding(crate::specs::Running::first_answer, crate::specs::Running::limits_in))]
+pub fn open_core(alloc: Global, command: Command) -> Result<(Core, Reply), OpenFault>
+    ensures { Makes (first_answer command) result }
 {
     match command {
         Command::Limits(threads, mutexes, conds, signals) => {
-            open_limited(alloc, Limits::new(threads, mutexes, conds, signals), output)
+            open_limited(alloc, Limits::new(threads, mutexes, conds, signals))
         }
-        other => open_default(alloc, other, output),
+        other => open_default(alloc, other),
     }
 }
 
 impl Listener for Core {
-    ghost heard = { line_meaning };
+    ghost hearing = { script };
 
-    #[tactic(auto, unfolding(crate::specs::Running::line_meaning))]
-    fn open(alloc: Global, line: &[u8], output: &mut Output) -> Result<Core, OpenFault> {
+    #[tactic(auto, unfolding(crate::specs::Running::first_line_meaning))]
+    fn open(
+        alloc: Global,
+        _number: u64,
+        line: &[u8],
+        output: &mut Output,
+    ) -> Result<Option<Core>, OpenFault> {
         match command_of(line) {
-            Some(command) => open_core(alloc, command, output),
-            None => Err(OpenFault::Script(Cause::Command)),
+            Some(command) => {
+                let (core, reply) = open_core(alloc, command)?;
+                tell(reply, output);
+                Ok(Some(core))
+            }
+            None => Err(OpenFault::Ended(Ending::Fault(Cause::Command))),
         }
     }
 
     #[tactic(auto, unfolding(crate::specs::Running::line_meaning))]
-    fn hear(&mut self, line: &[u8], output: &mut Output) -> Result<(), Cause> {
-        match command_of(line) {
-            Some(command) => answer(self, command, output),
-            None => Err(Cause::Command),
+    fn hear(&mut self, line: &[u8], output: &mut Output) -> Result<(), Ending> {
+        let Some(command) = command_of(line) else {
+            return Err(Ending::Fault(Cause::Command));
+        };
+        match obey(self, command) {
+            Some(reply) => {
+                tell(reply, output);
+                Ok(())
+            }
+            None => Err(Ending::Fault(Cause::Command)),
         }
+    }
+
+    fn close(_number: u64, _output: &mut Output) -> Result<(), Cause> {
+        Ok(())
     }
 }

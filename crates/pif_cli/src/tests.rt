@@ -1,5 +1,7 @@
 mod chains;
+mod kinds;
 mod streams;
+mod traces;
 
 use crate::command;
 use std::alloc::Global;
@@ -21,19 +23,25 @@ const BOOSTED_ANSWERS: &str =
 
 /// Runs `script`, and checks the status and what is written.
 fn check(rt: &impl Abort, alloc: Global, script: &str, status: u8, answers: &str) {
-    let mut input = script.as_bytes();
+    check_words(rt, alloc, WORDS.as_slice(), script, status, answers);
+}
+
+/// Does what `words` ask for over the input `text`, and checks the status and what is written.
+fn check_words(
+    rt: &impl Abort,
+    alloc: Global,
+    words: &[&str],
+    text: &str,
+    status: u8,
+    answers: &str,
+) {
+    let mut input = text.as_bytes();
     let mut output = Kept::new();
     let mut errors = Kept::new();
-    let ended = command(
-        alloc,
-        WORDS.as_slice(),
-        &mut input,
-        &mut output,
-        &mut errors,
-    );
-    assert!(rt; output.text() == answers.as_bytes(), "{script:?}");
-    assert_eq!(rt; ended, status, "{script:?}");
-    assert!(rt; errors.text().is_empty(), "{script:?}");
+    let ended = command(alloc, words, &mut input, &mut output, &mut errors);
+    assert!(rt; output.text() == answers.as_bytes(), "{text:?}");
+    assert_eq!(rt; ended, status, "{text:?}");
+    assert!(rt; errors.text().is_empty(), "{text:?}");
 }
 
 #[test]
@@ -71,7 +79,7 @@ fn refusals_in_order(rt: HostRuntime) {
 }
 
 #[test]
-fn kinds_answer_their_owner(rt: HostRuntime) {
+fn own_lock_waits_or_is_refused(rt: HostRuntime) {
     let script =
         "thread 10\nthread 10\nmutex errorcheck\ncall t1 lock m1\ncall t1 lock m1\ncall t2 unlock m1\n";
     check(
@@ -187,9 +195,10 @@ fn reply_comes_before_more_input(rt: HostRuntime) {
 
 #[test]
 fn wrong_words_are_refused(rt: HostRuntime) -> Result<(), Fail> {
-    let refused: [&[&str]; 4] = [
+    let refused: [&[&str]; 5] = [
         ["pif"].as_slice(),
         ["pif", "walk"].as_slice(),
+        ["pif", "replay", "run"].as_slice(),
         ["pif", "run", "fast"].as_slice(),
         ["pif", "--fast", "run"].as_slice(),
     ];
@@ -222,6 +231,7 @@ fn help_is_shown(rt: HostRuntime) -> Result<(), Fail> {
         );
         assert_eq!(rt; status, 0);
         assert!(rt; from_utf8(output.text())?.contains("run"));
+        assert!(rt; from_utf8(output.text())?.contains("replay"));
         assert!(rt; errors.text().is_empty());
         assert!(rt; input.len() == BOOSTED.len());
     }

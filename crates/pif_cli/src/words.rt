@@ -1,12 +1,14 @@
-ghost use Rattle.std.specs.Prelude.{◌≡◌, ◌⊎◌, ℕ, List, [], ◌∷◌, IfOk, codes, map};
+ghost use Rattle.std.specs.Prelude.{◌≡◌, ◌⊎◌, ℕ, List, [], ◌∷◌, Some, IfOk, codes, map};
 ghost use Rattle.std.specs.Io.KnownBytes.{Keeps};
 ghost use Rattle.clap.specs.Words.{app_of, FailsBy, kind_of};
 ghost use Rattle.clap.specs.declared.error.kind.ErrorKind.TheVariants.{DisplayHelp, MissingSubcommand};
 ghost use Rattle.pif_cli.specs.Running.{RunsTo};
-ghost use Rattle.pif_cli.specs.Words.{program, refusals_of, EndsBy, HadNoMemory, RefusedFor, Shows, fault_status};
+ghost use Rattle.pif_cli.specs.Traces.{ReplaysTo};
+ghost use Rattle.pif_cli.specs.Words.{program, refusals_of, job_of, job_named, Does, EndsBy, HadNoMemory, RefusedFor, Shows, fault_status};
 
 use crate::CliFault;
 use crate::reading::read_script;
+use crate::replaying::Replayed;
 use crate::writing::write_whole;
 use clap::error::ErrorKind;
 use pif_core::Core;
@@ -14,10 +16,14 @@ use std::alloc::{AllocError, Global};
 use std::convert::AsStr;
 use std::io::{Read, Write};
 
-const ABOUT: &str = "Runs scripts on a model of pthread mutexes with priority inheritance";
+const ABOUT: &str =
+    "Runs scripts and replays traces on a model of pthread mutexes with priority inheritance";
 
 const ABOUT_RUN: &str =
     "Reads a script from the standard input, and writes an answer for each of its lines";
+
+const ABOUT_REPLAY: &str =
+    "Reads a trace from the standard input, and says whether each of its answers is given again";
 
 const EXAMPLE: &str =
     "Example:\n  printf 'thread 10\\nmutex normal\\ncall t1 lock m1\\nword m1\\n' | pif run";
@@ -36,9 +42,29 @@ pub fn run<R: Read, W: Write>(alloc: Global, reader: &mut R, writer: &mut W) -> 
     read_script::<Core, R, W>(alloc, reader, writer)
 }
 
+/// Replays a trace of version 1: gives its commands to a fresh core, and compares each answer with the recorded one. At
+/// its end `same N` is written, with the number of lines after the first; at the first difference `differs L X`, with
+/// the number of the line and what the core gives there, and at the first fault the line of the fault. Nothing is read
+/// behind the chunk in which that is found.
+///
+/// # Errors
+///
+/// `Script` with the first fault of the trace, and `Differs` with the line of the first difference, which were written
+/// then; `Read`, where the reader fails, and nothing was written; `Write`, where the writer fails or takes no byte; and
+/// `NoMemory`, where the core cannot be made, and nothing was written.
+pub fn replay<R: Read, W: Write>(
+    alloc: Global,
+    reader: &mut R,
+    writer: &mut W,
+) -> Result<(), CliFault>
+    ensures { ReplaysTo (R.remaining reader.old) (R.remaining reader.new) (W.contents writer.old) (W.contents writer.new) result }
+{
+    read_script::<Replayed, R, W>(alloc, reader, writer)
+}
+
 impl CliFault {
-    /// The status of the program after this fault: 2 for a fault of the script, 3 for a read or a write that failed,
-    /// and 4 for want of memory.
+    /// The status of the program after this fault: 2 for a fault of the script or trace, 3 for a read or a write that
+    /// failed, 4 for want of memory, and 5 for a difference.
     pub fn status(self) -> u8
         ensures { result ≡ fault_status self }
     {
@@ -46,8 +72,18 @@ impl CliFault {
             CliFault::Script(..) => 2,
             CliFault::Read | CliFault::Write => 3,
             CliFault::NoMemory => 4,
+            CliFault::Differs(_) => 5,
         }
     }
+}
+
+/// What the words ask the program to do.
+#[derive(Clone, Copy, Debug, PartialEq, Eq)]
+pub enum Job {
+    /// `run`: run a script.
+    Run,
+    /// `replay`: replay a trace.
+    Replay,
 }
 
 /// The program's commands.
@@ -55,20 +91,52 @@ fn program<'a>(alloc: Global) -> Result<clap::Command<'a>, AllocError>
     ensures { IfOk result (λ c. app_of c ≡ program) }
 {
     let run = clap::Command::new(alloc, "run").about(ABOUT_RUN);
+    let replay = clap::Command::new(alloc, "replay").about(ABOUT_REPLAY);
     clap::Command::new(alloc, "pif")
         .about(ABOUT)
         .after_help(EXAMPLE)
         .disable_help_subcommand(true)
         .subcommand_required(true)
-        .subcommand(run)
+        .subcommand(run)?
+        .subcommand(replay)
 }
 
-/// Whether the words ask for a run, the program's name first.
-fn read_words<S: AsStr>(alloc: Global, words: &[S]) -> Result<(), clap::Error>
-    ensures { FailsBy (refusals_of (map S.text words.now)) result }
+/// The job that the words ask for, the program's name first.
+fn read_words<S: AsStr>(alloc: Global, words: &[S]) -> Result<Job, clap::Error>
+    ensures refusals { FailsBy (refusals_of (map S.text words.now)) result }
+    ensures job { IfOk result (λ job. job ≡ job_of (map S.text words.now)) }
 {
-    program(alloc)?.try_get_matches_from(words)?;
-    Ok(())
+    let matches = program(alloc)?.try_get_matches_from(words)?;
+    match matches.subcommand_name() {
+        Some(name) => Ok(job_named(name)),
+        None => Ok(Job::Run),
+    }
+}
+
+/// The job of a command's name.
+fn job_named(name: &str) -> Job
+    ensures { result ≡ job_named (Some name.now) }
+{
+    if name == "replay" {
+        Job::Replay
+    } else {
+        Job::Run
+    }
+}
+
+/// Does a job over these streams.
+fn do_job<R: Read, W: Write>(
+    job: Job,
+    alloc: Global,
+    input: &mut R,
+    output: &mut W,
+) -> Result<(), CliFault>
+    ensures { Does job (R.remaining input.old) (R.remaining input.new) (W.contents output.old) (W.contents output.new) result }
+{
+    match job {
+        Job::Run => run(alloc, input, output),
+        Job::Replay => replay(alloc, input, output),
+    }
 }
 
 /// Shows a text. Answers `shown`, or 3 where the writer fails.
@@ -81,7 +149,7 @@ fn show<W: Write>(text: &str, shown: u8, writer: &mut W) -> u8
     }
 }
 
-/// Shows why the words ask for no run.
+/// Shows why the words ask for no job.
 fn refuse<W: Write, E: Write>(
     alloc: Global,
     error: clap::Error,
@@ -106,11 +174,12 @@ fn refuse<W: Write, E: Write>(
 }
 
 /// The program over its words, the program's name first. `pif run` reads a script from `input`, and writes what its
-/// lines are answered, and the line of a fault, to `output`.
+/// lines are answered, and the line of a fault, to `output`. `pif replay` reads a trace from `input`, and writes to
+/// `output` what it comes to, as `replay` does.
 ///
-/// The status is 0 where the script was done, or help was asked for, whose text goes to `output`; 1 where the words are
-/// refused, and the reason goes to `errors`; 2 for a fault of the script; 3 where a read or a write fails; and 4 for
-/// want of memory. Nothing is read where no run is asked for.
+/// The status is 0 where the script or trace was done, or help was asked for, whose text goes to `output`; 1 where the
+/// words are refused, and the reason goes to `errors`; 2 for a fault of the script or trace; 3 where a read or a write
+/// fails; 4 for want of memory; and 5 where a trace differs. Nothing is read where no job is asked for.
 pub fn command<S: AsStr, R: Read, W: Write, E: Write>(
     alloc: Global,
     words: &[S],
@@ -118,11 +187,11 @@ pub fn command<S: AsStr, R: Read, W: Write, E: Write>(
     output: &mut W,
     errors: &mut E,
 ) -> u8
-    ensures { EndsBy (refusals_of (map S.text words.now)) (R.remaining input.old) (R.remaining input.new)
+    ensures { EndsBy (refusals_of (map S.text words.now)) (job_of (map S.text words.now)) (R.remaining input.old) (R.remaining input.new)
         (W.contents output.old) (W.contents output.new) (E.contents errors.old) (E.contents errors.new) result }
 {
     match read_words(alloc, words) {
-        Ok(()) => match run(alloc, input, output) {
+        Ok(job) => match do_job(job, alloc, input, output) {
             Ok(()) => 0,
             Err(fault) => fault.status(),
         },
@@ -130,10 +199,11 @@ pub fn command<S: AsStr, R: Read, W: Write, E: Write>(
     }
 }
 
-/// Which words ask for a run: `run` alone does, and no word and `--help` don't.
+/// Which words ask for which job: `run` alone and `replay` alone do, and no word and `--help` don't.
 #[tactic(auto, unfolding(clap::proofs::OnLiterals::clap_on_literals))]
 pub fn words_of_the_program()
-    ensures run { (name : List ℕ) → refusals_of (name ∷ codes "run" ∷ []) ≡ [] }
+    ensures run { (name : List ℕ) → (refusals_of (name ∷ codes "run" ∷ []) ≡ []) × (job_of (name ∷ codes "run" ∷ []) ≡ Job.Run) }
+    ensures replay { (name : List ℕ) → (refusals_of (name ∷ codes "replay" ∷ []) ≡ []) × (job_of (name ∷ codes "replay" ∷ []) ≡ Job.Replay) }
     ensures help { (name : List ℕ) → refusals_of (name ∷ codes "--help" ∷ []) ≡ DisplayHelp ∷ [] }
     ensures none { (name : List ℕ) → refusals_of (name ∷ []) ≡ MissingSubcommand ∷ [] }
 {}

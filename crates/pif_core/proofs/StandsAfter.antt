@@ -1,6 +1,5 @@
 -- What a core that stands shows, and that it stands after each call.
-use Rattle.std.proofs.Common.{◌≡◌, ℕ, ◌<◌, ◌≤◌, ◌↔◌, ◌⊎◌, inl, inr, Bool, true, false, List, ◌∷◌, length, Option, Some, None, IfSome, IsSome, unwrap_or, sym, ap, ◌∙◌, subst, arith}
-use Rattle.std.proofs.lemmas.Bool.{false≢true, cases_lt}
+use Rattle.std.proofs.Common.{◌≡◌, ℕ, ◌≤◌, ◌==◌, Bool, true, false, List, ◌∷◌, length, Option, Some, None, IfSome, unwrap_or, refl, sym, ap, ◌∙◌, subst, eqb-true, if◌then◌else◌}
 use Rattle.pif_types.specs.declared.requests.Kind.{Kind}
 use Rattle.pif_model.specs.declared.events.Event.{Event}
 use Rattle.pif_model.specs.declared.events.Seen.{Seen}
@@ -8,23 +7,23 @@ use Rattle.pif_model.specs.declared.events.Entry.{Entry}
 use Rattle.pif_model.specs.declared.events.Entry.TheVariants.{Thread as AddThread, Mutex as AddMutex, Step as Happened}
 use Rattle.pif_model.specs.Posix.{World, IsLegal}
 use Rattle.pif_model.specs.History.{AlwaysOneHolder}
-use Rattle.pif_model.specs.Table.{Table, cell_at, has_thread, has_mutex, thread_added, mutex_added, kernel_effective, kernel_pick}
-use Rattle.pif_model.specs.Lines.{Outcome, stepped}
+use Rattle.pif_model.specs.Table.{Table, cell_at, has_thread, has_mutex, mutex_added, kernel_effective}
+use Rattle.pif_model.specs.Kernel.{thread_added, kernel_pick}
+use Rattle.pif_model.specs.Calls.{effective_answer, word_answer, pick_answer}
+use Rattle.pif_model.specs.Word.{word_of, bits_of}
+use Rattle.pif_model.specs.Lines.{stepped}
 use Rattle.pif_model.specs.Standing.{Stands, world_of, HasEffective, IsPick, IsPossible}
 use Rattle.pif_simulation.proofs.StandingLaws.{stepped_stands, thread_added_stands, mutex_added_stands}
 use Rattle.pif_simulation.proofs.Holders.{one_holder}
 use Rattle.pif_simulation.proofs.Effective.{effective_seen}
 use Rattle.pif_simulation.proofs.Picks.{pick_is, word_is_possible}
 use Rattle.pif_simulation.proofs.Priority.{effective_is_greatest}
-use Rattle.pif_core.specs.Room.{outcome}
 use Rattle.pif_core.proofs.Added.{thread_room, mutex_room_left}
 
 -- after an event
-pub step_stands : (s v : Table) (e : Event) (seen : Seen) → outcome seen v ≡ stepped e s → (h : List Entry) (r : List World) (w : World)
+pub step_stands : (s v : Table) (e : Event) (seen : Seen) → seen ≡ (stepped e s).seen → v ≡ (stepped e s).after → (h : List Entry) (r : List World) (w : World)
     → Stands s h r w → (u : World) × Stands v (Happened e seen ∷ h) (w ∷ r) u
-step_stands s v e seen o h r w st =
-    let P : Outcome → Type 0 = λ x. (u : World) × Stands x.after (Happened e x.seen ∷ h) (w ∷ r) u in
-    subst P (sym o) (stepped_stands s e h r w st)
+step_stands s v e seen a b h r w st = rw (a, b) (stepped_stands s e h r w st)
 
 -- the history is legal
 pub stands_legal : (s : Table) (h : List Entry) (r : List World) (w : World) → Stands s h r w → IsLegal s.limits h
@@ -69,14 +68,29 @@ from_some o x y h e =
     let P : Option ℕ → Type 0 = λ p. IfSome p (λ (z : ℕ). z ≡ y) in
     subst P e h
 
-pub some_is : (P : ℕ → Type 0) (o : Option ℕ) (y : ℕ) → IfSome o (λ (z : ℕ). z ≡ y) → P y → IfSome o P
-some_is P (Some x) y e h = subst P (sym e) h
-some_is P None y e h = tt
-
-pub or_zero : (o : Option ℕ) (y : ℕ) → (IsSome o ↔ (1 ≤ y)) → IfSome o (λ (z : ℕ). z ≡ y) → unwrap_or o 0 ≡ y
-or_zero (Some x) y valid e = e
-or_zero None y valid e = by_place (cases_lt 0 y)
+-- the answer of the reader of effective priorities
+pub effective_answered : (s : Table) (t : ℕ) (o : Option ℕ) (h : List Entry) (r : List World) (w : World) → Stands s h r w → o ≡ effective_answer t s
+    → IfSome o (λ p. HasEffective w t p)
+effective_answered s t o h r w st e = subst (λ (x : Option ℕ). IfSome x (λ p. HasEffective w t p)) (sym e) (by_test (has_thread s t) refl)
   where
-    by_place : ((0 < y) ⊎ (y ≤ 0)) → 0 ≡ y
-    by_place (inl some) = absurd (false≢true (valid.1 some))
-    by_place (inr none) = omega arith
+    by_test : (b : Bool) → has_thread s t ≡ b → IfSome (if b then Some (kernel_effective s t) else None) (λ p. HasEffective w t p)
+    by_test true known = effective_stands s t (kernel_effective s t) h r w st known refl
+    by_test false known = tt
+
+-- the answer of the reader of the pick
+pub pick_answered : (s : Table) (o : Option ℕ) (h : List Entry) (r : List World) (w : World) → Stands s h r w → o ≡ pick_answer s → IsPick w (unwrap_or o 0)
+pick_answered s o h r w st e = subst (λ (x : Option ℕ). IsPick w (unwrap_or x 0)) (sym e) (by_test (kernel_pick s == 0) refl)
+  where
+    by_test : (b : Bool) → (kernel_pick s == 0) ≡ b → IsPick w (unwrap_or (if b then None else Some (kernel_pick s)) 0)
+    by_test true none = subst (IsPick w) (eqb-true (kernel_pick s) 0 none) (pick_stands s h r w st)
+    by_test false some = pick_stands s h r w st
+
+-- the answer of the reader of words
+pub word_answered : (s : Table) (m : ℕ) (o : Option ℕ) (h : List Entry) (r : List World) (w : World) → Stands s h r w → o ≡ word_answer m s
+    → IfSome o (λ bits. word_of bits ≡ (cell_at s m).word) → IfSome o (λ bits. IsPossible w m (word_of bits))
+word_answered s m o h r w st e = subst (λ (x : Option ℕ). IfSome x (λ bits. word_of bits ≡ (cell_at s m).word) → IfSome x (λ bits. IsPossible w m (word_of bits))) (sym e) (by_test (has_mutex s m) refl)
+  where
+    by_test : (b : Bool) → has_mutex s m ≡ b → IfSome (if b then Some (bits_of (cell_at s m).word) else None) (λ bits. word_of bits ≡ (cell_at s m).word)
+        → IfSome (if b then Some (bits_of (cell_at s m).word) else None) (λ bits. IsPossible w m (word_of bits))
+    by_test true known same = subst (IsPossible w m) (sym same) (word_stands s m h r w st known)
+    by_test false known same = tt

@@ -1,14 +1,6 @@
-//! A core: threads and mutexes under limits, the library's part of lock and unlock on the words, and the kernel that
-//! queues, boosts and hands over. One event is one step.
+//! A core: threads and mutexes under limits, the calls on them, and the kernel below. One event is one step.
 #![tactic(auto)]
 
-mod graph;
-mod kernel;
-mod lines;
-mod queues;
-mod room;
-mod state;
-mod steps;
 mod surface;
 #[cfg(test)]
 mod tests;

@@ -1,45 +1,47 @@
-ghost use Rattle.std.specs.Prelude.{◌≡◌, ◌+◌, length, false, List, [], ◌∷◌, IfOk, IfSome, unwrap_or};
+ghost use Rattle.std.specs.Prelude.{ℕ, ◌≡◌, ◌+◌, length, true, false, List, [], ◌∷◌, IfOk, IfSome, unwrap_or};
 ghost use Rattle.pif_model.specs.declared.events.Entry.{Entry};
 ghost use Rattle.pif_model.specs.Word.{word_of};
 ghost use Rattle.pif_model.specs.Posix.{World, IsLegal};
 ghost use Rattle.pif_model.specs.History.{AlwaysOneHolder};
 ghost use Rattle.pif_model.specs.Standing.{Stands, HasEffective, IsPick, IsPossible};
-ghost use Rattle.pif_model.specs.Table.{new_table};
-ghost use Rattle.pif_model.specs.Lines.{stepped};
+ghost use Rattle.pif_model.specs.Table.{new_table, row_at, has_thread, has_mutex};
+ghost use Rattle.pif_model.specs.Lines.{stepped, is_open, goes_on, ClosesOrWaits};
 ghost use Rattle.pif_model.specs.Calls.{add_thread_answer, add_thread_after, add_mutex_answer, add_mutex_after, effective_answer, word_answer, pick_answer, threads_answer};
 
-use crate::state::{Row, State};
-use pif_model::{Entry, Event, Line, Seen, Status, Woken};
-use pif_types::{AddFault, Kind, Limits, MutexId, NoMemory, Prio, Tid};
+use pif_kernel::PlainKernel;
+use pif_model::{Entry, Event, Seen};
+use pif_mutex::{Parts, Progress, advance};
+use pif_types::{AddFault, Kind, Limits, MutexId, NoMemory, Prio, Refusal, Request, Tid};
 use std::alloc::Global;
 use std::marker::Model;
+
+/// The first ticket of a core's kernel.
+const FIRST_TICKET: u64 = 1;
 
 /// A core under limits: threads, mutexes, and what library and kernel know of them. Only `new` takes memory.
 #[derive(Drop)]
 pub struct Core {
-    state: State,
+    parts: Parts<PlainKernel>,
 }
 
 impl Model for Core {
     ghost use Rattle.pif_model.specs.Table.{Table};
-    ghost use Rattle.pif_model.specs.Standing.{IsSound};
 
     ghost Value = { Table };
 
-    ghost view = { λ c. c.state };
-
-    ghost invariant = { λ c. IsSound c.state };
+    ghost view = { λ c. c.parts };
 }
 
 impl Core {
-    /// A core under these limits to which nothing was added. It takes all the memory that it will ever need, in five
-    /// pieces, and fails where one of them is refused.
+    /// A core under these limits to which nothing was added. It takes all the memory that it will ever need, piece by
+    /// piece, and fails where one of them is refused.
     pub fn new(alloc: Global, limits: Limits) -> Result<Core, NoMemory>
         ensures made { IfOk result (λ c. c ≡ new_table limits) }
         ensures stands { IfOk result (λ c. (w : World) × Stands c [] [] w) }
     {
-        let state = State::new(alloc, limits)?;
-        Ok(Core { state })
+        let kernel = PlainKernel::new(alloc, limits, FIRST_TICKET)?;
+        let parts = Parts::new(alloc, limits, kernel)?;
+        Ok(Core { parts })
     }
 
     /// Adds a thread of base priority `prio`, 1 to 99, with no call open: the next number from 1. `BadPrio` where the
@@ -50,20 +52,13 @@ impl Core {
         ensures stands { IfOk result (λ t. (h : List Entry) (r : List World) (w : World) → Stands self.old h r w
             → (v : World) × Stands self.new (Entry.Thread t prio ∷ h) (w ∷ r) v) }
     {
-        let base = Prio::new(prio).ok_or(AddFault::BadPrio)?.get();
-        let count = self.state.row_count();
-        if count > self.state.limits().threads() {
-            return Err(AddFault::TooMany);
+        let prio = Prio::new(prio).ok_or(AddFault::BadPrio)?;
+        let _level = prio.get();
+        if self.parts.threads() < self.parts.limits().threads() {
+            Ok(self.parts.add_thread(prio))
+        } else {
+            Err(AddFault::TooMany)
         }
-        let thread = Tid::new(count).ok_or(AddFault::TooMany)?;
-        self.state.push_row(Row {
-            base,
-            living: true,
-            line: Line::Idle,
-            status: Status::Ready(Woken::Fresh),
-        });
-        self.state.push_ready(count, base);
-        Ok(thread)
     }
 
     /// Adds a mutex of this kind, free: the next number from 1. `TooMany` where the limit is reached; nothing has
@@ -76,18 +71,17 @@ impl Core {
             → (v : World) × Stands self.new (Entry.Mutex m kind robust ∷ h) (w ∷ r) v) }
     {
         let _stalled = robust;
-        let count = self.state.mutex_count();
-        if count > self.state.limits().mutexes() {
-            return Err(AddFault::TooMany);
+        if self.parts.mutexes() < self.parts.limits().mutexes() {
+            Ok(self.parts.add_mutex(kind))
+        } else {
+            Err(AddFault::TooMany)
         }
-        let mutex = MutexId::new(count).ok_or(AddFault::TooMany)?;
-        self.state.push_mutex(kind, mutex);
-        Ok(mutex)
     }
 
     /// One event: what it is answered. It is refused, and nothing changes, with `NoSuch` where the thread or the mutex of
     /// a call was never added, with `Busy` where a thread with a call open begins one, and with `Idle` where a thread
-    /// goes on that has none.
+    /// goes on that has none. A call that is open closes or waits within 24 steps of its thread, where no other event comes
+    /// between.
     pub fn step(&mut self, event: Event) -> Seen
         ensures seen { result ≡ (stepped event self.old).seen }
         ensures after { self.new ≡ (stepped event self.old).after }
@@ -97,8 +91,9 @@ impl Core {
             → IsLegal self.new.limits (Entry.Step event result ∷ h) }
         ensures holders { (h : List Entry) (r : List World) (w : World) → Stands self.old h r w
             → AlwaysOneHolder (Entry.Step event result ∷ h) }
+        ensures ends { (t : ℕ) → has_thread self.new t ≡ true → is_open (row_at self.new t).line ≡ true → ClosesOrWaits (goes_on 23 t self.new).seen }
     {
-        self.state.step(event)
+        self.turn(event)
     }
 
     /// The effective priority of a thread: the greatest base priority of it and of all that wait for it through any
@@ -108,11 +103,7 @@ impl Core {
         ensures priority { (h : List Entry) (r : List World) (w : World) → Stands self.now h r w
             → IfSome result (λ p. HasEffective w thread p) }
     {
-        if self.state.has_thread(thread) {
-            Prio::new(self.state.effective(thread.get()))
-        } else {
-            None
-        }
+        self.parts.effective(thread)
     }
 
     /// The 32 bits of the word of a mutex. `None` where it was never added.
@@ -121,11 +112,7 @@ impl Core {
         ensures possible { (h : List Entry) (r : List World) (w : World) → Stands self.now h r w
             → IfSome result (λ bits. IsPossible w mutex (word_of bits)) }
     {
-        if self.state.has_mutex(mutex) {
-            Some(self.state.word(mutex))
-        } else {
-            None
-        }
+        self.parts.word(mutex)
     }
 
     /// The thread that runs next: of the ready threads of greatest effective priority the first that joined them.
@@ -134,7 +121,7 @@ impl Core {
         ensures value { result ≡ pick_answer self.now }
         ensures next { (h : List Entry) (r : List World) (w : World) → Stands self.now h r w → IsPick w (unwrap_or result 0) }
     {
-        Tid::new(self.state.pick())
+        self.parts.pick()
     }
 
     /// How many threads were ever added.
@@ -142,6 +129,74 @@ impl Core {
         ensures value { result ≡ threads_answer self.now }
         ensures added { (h : List Entry) (r : List World) (w : World) → Stands self.now h r w → result + 1 ≡ length w.threads }
     {
-        self.state.row_count() - 1
+        self.parts.threads()
+    }
+
+    /// Whether this thread was added.
+    fn has_thread(&self, thread: Tid) -> bool
+        ensures { result ≡ has_thread self.now thread }
+    {
+        thread.get() <= self.parts.threads()
+    }
+
+    /// Whether this mutex was added.
+    fn has_mutex(&self, mutex: MutexId) -> bool
+        ensures { result ≡ has_mutex self.now mutex }
+    {
+        mutex.get() <= self.parts.mutexes()
+    }
+
+    /// One event, by what it is.
+    fn turn(&mut self, event: Event) -> Seen
+        ensures seen { result ≡ (stepped event self.old).seen }
+        ensures after { self.new ≡ (stepped event self.old).after }
+    {
+        match event {
+            Event::Begin(thread, request) => self.begin(thread, request),
+            Event::Go(thread) => self.go(thread),
+        }
+    }
+
+    /// A thread begins a call, unless it is unknown, has a call open, or names a mutex that does not exist.
+    #[tactic(auto, unfolding(pif_model::specs::Lines::stepped, pif_model::specs::Lines::accepted))]
+    fn begin(&mut self, thread: Tid, request: Request) -> Seen
+        ensures seen { result ≡ (stepped (Event.Begin thread request) self.old).seen }
+        ensures after { self.new ≡ (stepped (Event.Begin thread request) self.old).after }
+    {
+        if !self.has_thread(thread) {
+            return Seen::Refused(Refusal::NoSuch);
+        }
+        if self.parts.is_open(thread) {
+            return Seen::Refused(Refusal::Busy);
+        }
+        let known = match request {
+            Request::Lock(mutex) | Request::TryLock(mutex) | Request::Unlock(mutex) =>
+                self.has_mutex(mutex),
+            Request::SetPrio(_, _) => true,
+        };
+        if !known {
+            return Seen::Refused(Refusal::NoSuch);
+        }
+        self.parts.begin(thread, request);
+        Seen::Begun
+    }
+
+    /// A thread takes one step of its open call, unless it is unknown or has none.
+    #[tactic(auto, unfolding(pif_model::specs::Lines::stepped, pif_model::specs::Lines::accepted))]
+    fn go(&mut self, thread: Tid) -> Seen
+        ensures seen { result ≡ (stepped (Event.Go thread) self.old).seen }
+        ensures after { self.new ≡ (stepped (Event.Go thread) self.old).after }
+    {
+        if !self.has_thread(thread) {
+            return Seen::Refused(Refusal::NoSuch);
+        }
+        if !self.parts.is_open(thread) {
+            return Seen::Refused(Refusal::Idle);
+        }
+        match advance(&mut self.parts, thread) {
+            Progress::Went => Seen::Went,
+            Progress::Waits => Seen::Waits,
+            Progress::Done(answer) => Seen::Answered(answer),
+        }
     }
 }

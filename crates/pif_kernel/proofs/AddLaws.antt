@@ -1,12 +1,12 @@
 -- What holds of a kernel after a thread was added.
-use Rattle.std.proofs.Common.{◌≡◌, ◌≢◌, ◌⊎◌, ◌↔◌, ℕ, zero, suc, ◌+◌, ◌<◌, ◌≤◌, ◌==◌, ◌||◌, Bool, true, false, nat_lt, if◌then◌else◌, List, [], ◌∷◌, ◌++◌, length, get_or, refl, sym, ap, ◌∙◌, inl, inr, arith, add-one}
+use Rattle.std.proofs.Common.{◌≡◌, ◌≢◌, ◌⊎◌, ℕ, zero, suc, ◌<◌, ◌≤◌, ◌==◌, ◌||◌, Bool, true, false, nat_lt, if◌then◌else◌, List, [], ◌∷◌, ◌++◌, length, get_or, refl, sym, ap, ◌∙◌, inl, inr, arith}
 use Rattle.std.proofs.lemmas.List.{length_push}
-use Rattle.std.proofs.lemmas.Bool.{cases_eq, cases_lt, true≢false, false≢true}
+use Rattle.std.proofs.lemmas.Bool.{cases_eq, cases_lt, true≢false}
 use Rattle.std.proofs.lemmas.Bool.Decides.{nat_tests}
 use Rattle.pif_model.specs.declared.lines.Status.{Status}
-use Rattle.pif_model.specs.declared.lines.Status.TheVariants.{Ready, Queued}
+use Rattle.pif_model.specs.declared.lines.Status.TheVariants.{Ready}
 use Rattle.pif_model.specs.declared.lines.Woken.TheVariants.{Fresh as WokenFresh}
-use Rattle.pif_model.specs.Graph.{reaches_within, effective_among, Reaches}
+use Rattle.pif_model.specs.Graph.{reaches_within, Reaches}
 use Rattle.pif_model.specs.Graph.Reaches.{here, hop}
 use Rattle.pif_model.specs.Table.{queued_on, is_ready}
 use Rattle.pif_model.specs.PiKernel.{Kernel, Seat, IsKernel, seat_at, no_seat, has_seat, waits_for, effective_in, is_among, joined, seated}

@@ -1,5 +1,5 @@
 -- What is kept stays sound where a thread is added.
-use Rattle.std.proofs.Common.{◌≡◌, ◌≢◌, ◌⊎◌, ℕ, zero, suc, ◌+◌, ◌<◌, ◌≤◌, ◌==◌, false, true, if◌then◌else◌, List, [], ◌∷◌, ◌++◌, length, get_or, set, Option, Some, None, option_map, refl, sym, ap, subst, ◌∙◌, inl, inr, unwrap_or, arith, length-set}
+use Rattle.std.proofs.Common.{◌≡◌, ◌≢◌, ◌⊎◌, ℕ, zero, suc, ◌+◌, ◌<◌, ◌≤◌, ◌==◌, false, true, List, [], ◌∷◌, ◌++◌, length, get_or, Option, Some, None, option_map, refl, sym, ap, subst, ◌∙◌, inl, inr, unwrap_or, arith, length-set}
 use Rattle.std.proofs.Math.Path.{fun_ext}
 use Rattle.std.proofs.lemmas.Bool.{cases_eq}
 use Rattle.std.proofs.lemmas.Bool.Decides.{nat_tests}
@@ -14,11 +14,11 @@ use Rattle.pif_model.specs.declared.lines.Woken.TheVariants.{Fresh}
 use Rattle.pif_model.specs.Table.{queued_on}
 use Rattle.pif_model.specs.PiKernel.{Kernel, effective_in, joined, seated}
 use Rattle.pif_model.specs.PiKernel.{Seat as KernelSeat}
-use Rattle.pif_rtmutex.specs.Owners.{Owners, Seat, Wait, seat_at, waits_on, rank_of, no_seat, with_seat}
+use Rattle.pif_rtmutex.specs.Owners.{Seat, Wait, seat_at, rank_of, no_seat, with_seat}
 use Rattle.pif_simulation.proofs.Effective.{kept_at}
 use Rattle.pif_kernel.specs.Plain.{Plain, IsSound, Rise, kernel_of, status_at, key_at, ticket_of, seat_of}
 use Rattle.pif_kernel.proofs.Seats.{fitted, seats_length, kernel_by_parts, seats_of-push}
-use Rattle.pif_kernel.proofs.Picked.{levels_joined, levels_seen}
+use Rattle.pif_kernel.proofs.Picked.{levels_joined}
 use Rattle.pif_kernel.proofs.Standing.{states_none, states_below}
 use Rattle.pif_kernel.proofs.AddLaws.{effective_other, effective_new, kernel_seated}
 

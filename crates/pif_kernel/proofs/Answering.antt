@@ -1,16 +1,15 @@
 -- What the calls answer, case by case.
-use Rattle.std.proofs.Common.{◌≡◌, ◌≢◌, ◌⊎◌, ◌↔◌, ℕ, zero, suc, ◌<◌, ◌≤◌, ◌==◌, Bool, true, false, IsTrue, nat_lt, if◌then◌else◌, List, [], ◌∷◌, length, map, get_or, set, Result, Ok, Err, Option, Some, None, IsSome, IfSome, refl, sym, ap, subst, ◌∙◌, arith}
+use Rattle.std.proofs.Common.{◌≡◌, ◌≢◌, ◌⊎◌, ◌↔◌, ℕ, zero, suc, ◌<◌, ◌≤◌, ◌==◌, Bool, true, false, IsTrue, nat_lt, if◌then◌else◌, List, [], ◌∷◌, length, map, set, Result, Ok, Err, Option, Some, None, IsSome, IfSome, refl, sym, ap, subst, ◌∙◌, arith}
 use Rattle.std.proofs.Math.Path.{fun_ext}
 use Rattle.std.proofs.lemmas.Bool.{true≢false, false≢true}
 use Rattle.std.proofs.lemmas.Bool.Decides.{nat_tests}
 use Rattle.std.proofs.lemmas.List.{length-map}
 use Rattle.pif_types.specs.declared.errors.Errno.{Errno}
-use Rattle.pif_types.specs.declared.errors.Errno.TheVariants.{NotPermitted, NoSuchThread, Fault, Invalid, Deadlock}
-use Rattle.pif_model.specs.declared.lines.Took.{Took}
+use Rattle.pif_types.specs.declared.errors.Errno.TheVariants.{NotPermitted, NoSuchThread, Again, Fault, Invalid, Deadlock}
 use Rattle.pif_model.specs.declared.lines.Took.TheVariants.{Owns as TookOwns, Queued as TookQueued}
 use Rattle.pif_model.specs.Graph.{reaches_within, Reaches}
-use Rattle.pif_model.specs.Word.{Word, word_of, free_word}
-use Rattle.pif_model.specs.PiKernel.{Kernel, seat_at, waits_for, word_at, has_word, lock_answer, unlock_answer, set_prio_answer}
+use Rattle.pif_model.specs.Word.{Word, word_of}
+use Rattle.pif_model.specs.PiKernel.{Kernel, seat_at, waits_for, word_at, has_word, lock_answer, try_lock_answer, unlock_answer, set_prio_answer}
 use Rattle.pif_word.specs.declared.cells.Cell.TheVariants.{Mutex}
 use Rattle.pif_word.specs.WordMap.{WordMap, HasCell, bits_at, with_bits}
 use Rattle.pif_rtmutex.specs.Owners.{WaitsFor}
@@ -92,7 +91,7 @@ closes_seen p h t owner r l closes = by_test r (reaches_within (length (kernel_o
     by_test false true e c =
         absurd (false≢true (c.1 (subst (λ (w : ℕ → ℕ). Reaches (Follows w) owner t) (sym same) (reaches-from_within (length (kernel_of p).seats) (waits_for (kernel_of p)) owner t e))))
 
--- LOCK_PI
+-- LOCK_PI, TRYLOCK_PI AND UNLOCK_PI
 
 module _ (t m : ℕ) (ws : List Word) (k : Kernel) where
   pub lock_fault : has_word ws m ≡ false → Err Fault ≡ lock_answer t m ws k
@@ -122,6 +121,34 @@ module _ (t m : ℕ) (ws : List Word) (k : Kernel) where
   lock_waits e other some =
       let a : ((word_at ws m).number == t) ≡ false = grind (arith, nat_tests) in
       let b : ((word_at ws m).number == 0) ≡ false = grind (arith, nat_tests) in rw (e, a, b) refl
+
+  pub try_fault : has_word ws m ≡ false → Err Fault ≡ try_lock_answer t m ws k
+  unfolding try_lock_answer
+  try_fault e = rw e refl
+
+  pub try_own : has_word ws m ≡ true → (word_at ws m).number ≡ t → Err Deadlock ≡ try_lock_answer t m ws k
+  unfolding try_lock_answer
+  try_own e own = let a : ((word_at ws m).number == t) ≡ true = grind (arith, nat_tests) in rw (e, a) refl
+
+  pub try_held : has_word ws m ≡ true → (word_at ws m).number ≢ t → (word_at ws m).number ≢ 0 → Err Again ≡ try_lock_answer t m ws k
+  unfolding try_lock_answer
+  try_held e other some =
+      let a : ((word_at ws m).number == t) ≡ false = grind (arith, nat_tests) in
+      let b : ((word_at ws m).number == 0) ≡ false = grind (arith, nat_tests) in rw (e, a, b) refl
+
+  pub try_free : has_word ws m ≡ true → (word_at ws m).number ≢ t → (word_at ws m).number ≡ 0 → k.states m ≡ 0 → Ok (record {}) ≡ try_lock_answer t m ws k
+  unfolding try_lock_answer
+  try_free e other free none =
+      let a : ((word_at ws m).number == t) ≡ false = grind (arith, nat_tests) in
+      let b : ((word_at ws m).number == 0) ≡ true = grind (arith, nat_tests) in
+      let d : (k.states m == 0) ≡ true = grind (arith, nat_tests) in rw (e, a, b, d) refl
+
+  pub try_disagrees : has_word ws m ≡ true → (word_at ws m).number ≢ t → (word_at ws m).number ≡ 0 → k.states m ≢ 0 → Err Invalid ≡ try_lock_answer t m ws k
+  unfolding try_lock_answer
+  try_disagrees e other free some =
+      let a : ((word_at ws m).number == t) ≡ false = grind (arith, nat_tests) in
+      let b : ((word_at ws m).number == 0) ≡ true = grind (arith, nat_tests) in
+      let d : (k.states m == 0) ≡ false = grind (arith, nat_tests) in rw (e, a, b, d) refl
 
   pub unlock_fault : has_word ws m ≡ false → Err Fault ≡ unlock_answer t m ws k
   unfolding unlock_answer

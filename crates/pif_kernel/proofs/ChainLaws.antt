@@ -1,14 +1,14 @@
 -- An effective priority is the greatest of the base priority and of the effective priorities of those that wait for the
 -- thread. So a walk that starts where that fails has nothing else to repair.
-use Rattle.std.proofs.Common.{◌≡◌, ◌≢◌, ◌⊎◌, ℕ, ◌<◌, ◌≤◌, ◌==◌, max, Bool, true, length, Option, Some, refl, sym, ap, ap₂, subst, ◌∙◌, inl, inr, arith}
+use Rattle.std.proofs.Common.{◌≡◌, ◌≢◌, ◌⊎◌, ℕ, ◌<◌, ◌≤◌, ◌==◌, max, true, length, Some, refl, sym, ap, ap₂, ◌∙◌, inl, inr, arith}
 use Rattle.std.proofs.Math.Path.{fun_ext}
 use Rattle.std.proofs.lemmas.Bool.Decides.{nat_tests}
 use Rattle.pif_nodes.specs.declared.keys.Key.{Key}
-use Rattle.pif_model.specs.Graph.{reaches_within, greatest_where, effective_among, Reaches}
+use Rattle.pif_model.specs.Graph.{greatest_where, effective_among, Reaches}
 use Rattle.pif_model.specs.Graph.Reaches.{here, hop}
 use Rattle.pif_simulation.proofs.Following.{Follows, reaches-from_within, within-from_reaches, greatest_where_above}
 use Rattle.pif_rtmutex.specs.Owners.{Owners, rank_of, waits_for}
-use Rattle.pif_boost.specs.Boosts.{IsRepairedBut, IsThread, base_of, local_of, greatest_base}
+use Rattle.pif_boost.specs.Boosts.{IsRepairedBut, base_of, local_of, greatest_base}
 use Rattle.pif_kernel.proofs.Greatest.{greatest_where_most, effective_most, effective_above, effective_own, effective_under}
 use Rattle.pif_kernel.proofs.AddLaws.{reach_below}
 

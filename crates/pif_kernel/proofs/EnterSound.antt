@@ -1,45 +1,39 @@
 -- What is kept stays sound where a thread is queued on a mutex.
-use Rattle.std.proofs.Common.{◌≡◌, ◌≢◌, ◌⊎◌, ℕ, ◌+◌, ◌<◌, ◌≤◌, ◌==◌, ◌||◌, Bool, true, false, nat_lt, if◌then◌else◌, List, [], ◌∷◌, ◌++◌, length, get_or, set, Option, Some, None, IsSome, is_some, option_map, option_and_then, unwrap_or, refl, sym, ap, subst, ◌∙◌, inl, inr, arith, length-set}
-use Rattle.std.proofs.Math.Path.{fun_ext}
-use Rattle.std.specs.List.{list_any, filter}
+use Rattle.std.proofs.Common.{◌≡◌, ◌≢◌, ◌⊎◌, ℕ, ◌+◌, ◌<◌, ◌==◌, Bool, true, false, nat_lt, if◌then◌else◌, List, [], ◌∷◌, ◌++◌, length, get_or, set, Option, Some, None, IsSome, is_some, option_map, option_and_then, unwrap_or, refl, sym, ap, subst, ◌∙◌, inl, inr, arith, length-set}
 use Rattle.std.proofs.lemmas.Bool.{cases_eq, true≢false, false≢true}
 use Rattle.std.proofs.lemmas.Bool.Decides.{nat_tests}
-use Rattle.std.proofs.lemmas.List.{get_or-set_same, get_or-set_other, set-get_or}
+use Rattle.std.proofs.lemmas.List.{get_or-set_same, get_or-set_other}
 use Rattle.pif_nodes.specs.declared.keys.Key.{Key}
-use Rattle.pif_nodes.specs.Lists.{has, without}
+use Rattle.pif_nodes.specs.Lists.{without}
 use Rattle.pif_nodes.specs.Table.{Table}
-use Rattle.pif_runq.specs.Levels.{Queue, Holds, IsLevel, IsQueued, level_of}
+use Rattle.pif_runq.specs.Levels.{Queue, Holds, IsLevel, level_of}
 use Rattle.pif_model.specs.declared.lines.Status.{Status}
 use Rattle.pif_model.specs.declared.lines.Status.TheVariants.{Ready, Queued, Stopped}
 use Rattle.pif_model.specs.declared.lines.Woken.TheVariants.{Fresh}
 use Rattle.pif_model.specs.Graph.{reaches_within, has_waiter}
 use Rattle.pif_model.specs.Table.{queued_on, is_ready}
-use Rattle.pif_model.specs.PiKernel.{Kernel, effective_in, has_seat, is_among, settled, waits_for, left, queued_in}
-use Rattle.pif_model.specs.PiKernel.{Seat as KernelSeat, seat_at as kernel_seat_at, with_status, with_state}
+use Rattle.pif_model.specs.PiKernel.{effective_in, has_seat, is_among, settled, waits_for, left, queued_in}
+use Rattle.pif_model.specs.PiKernel.{seat_at as kernel_seat_at, with_status, with_state}
 use Rattle.pif_rtmutex.specs.Owners.{Owners, Seat, Wait, seat_at, owner_at, count, waits_on, rank_of, no_seat, with_wait, with_owner}
 use Rattle.pif_rtmutex.specs.Owners.{waits_for as owners_wait_for}
 use Rattle.pif_rtmutex.proofs.MapLemmas.{get-insert_same, get-insert_other}
-use Rattle.pif_boost.specs.Boosts.{IsRepaired, IsRepairedBut, base_of}
-use Rattle.pif_boost.specs.Boosts.{releveled as walked}
+use Rattle.pif_boost.specs.Boosts.{IsRepairedBut}
 use Rattle.pif_simulation.proofs.Hole.{ready-queued_on_nothing}
 use Rattle.pif_simulation.proofs.Waiting.{names, or_true, or_false, has_waiter-push, has_waiter-from_pair}
 use Rattle.pif_simulation.proofs.Effective.{kept_at}
 use Rattle.pif_simulation.proofs.Among.{is_among_push, is_among_here, is_among_there, is_among_cons}
 use Rattle.pif_simulation.proofs.Among.{is_among as is_waiter}
-use Rattle.pif_kernel.specs.Plain.{Plain, IsSound, Rise, IsOpened, kernel_of, seats_of, status_at, key_at, state_at, ticket_of, levels_of}
+use Rattle.pif_kernel.specs.Plain.{Plain, IsSound, Rise, IsOpened, kernel_of, status_at, key_at, state_at, ticket_of, levels_of}
 use Rattle.pif_kernel.specs.Plain.IsOpened.{found, made}
 use Rattle.pif_kernel.proofs.Greatest.{reaches_same}
-use Rattle.pif_kernel.proofs.Seats.{IsFitted, fitted, seats_length, status_seen, waits_seen, waits_below, owners_waits, added_seen, added_back, waiters_seen, states_seen, kernel_by_parts, seats_of-set_status}
-use Rattle.pif_kernel.proofs.Picked.{levels_seen, level_seen, among_has, levels_left}
+use Rattle.pif_kernel.proofs.Seats.{IsFitted, fitted, seats_length, status_seen, waits_seen, waits_below, owners_waits, added_seen, waiters_seen, states_seen, kernel_by_parts, seats_of-set_status}
+use Rattle.pif_kernel.proofs.Picked.{levels_seen, levels_left}
 use Rattle.pif_kernel.proofs.Standing.{effective_some, effective_few}
 use Rattle.pif_kernel.proofs.StopLaws.{left_same, left_other}
-use Rattle.pif_kernel.proofs.SettleLaws.{IsListed}
 use Rattle.pif_kernel.proofs.ChainLaws.{repaired_but}
 use Rattle.pif_kernel.proofs.QueueLaws.{rise_push, mutexes_push}
 use Rattle.pif_kernel.proofs.OpenLaws.{still_acyclic}
-use Rattle.pif_kernel.proofs.RebaseSound.{queued_added}
-use Rattle.pif_kernel.proofs.WalkSound.{IsPlaced, owners_effective, seats_of-same_base}
-use Rattle.pif_kernel.proofs.WalkSound as walk
+use Rattle.pif_kernel.proofs.WalkSound.{IsPlaced, IsWalkable, owners_effective, seats_of-same_base}
 
 -- the keys and owner states in which m has an owner state of this owner under this key, and all others are as before
 pub record IsOpen (p : Plain) (keys : List (Option ℕ)) (owners : Owners) (m owner key : ℕ) : Type 0 where
@@ -420,39 +414,27 @@ module _ (p : Plain) (keys : List (Option ℕ)) (owners : Owners) (t m owner key
       sym (ap (λ (k : Key). k.prio) at) ∙ rank_is ∙ ap (effective_in (kernel_of p)) (sym e)
   ranks u r (inr n) x = h.rank u r (sym (ap (λ (s : Seat). option_map (λ (w : Wait). w.rank) s.wait) (other u n)) ∙ x)
 
-  -- what the walk requires
-  pub repairs : IsRepairedBut owner mid.owners
+  repairs : IsRepairedBut owner mid.owners
   repairs =
       repaired_but p.owners mid.owners owner long below (λ x u ne nz. waiting x u ne nz (cases_eq x t)) (λ u ne. sym (base_same u))
       (λ u. owners_effective p fit u ∙ sym (h.local u) ∙ sym (local_same u))
       (λ u r ne e. ranks u r (cases_eq u t) e ∙ sym (h.local u) ∙ sym (local_same u))
 
-  -- who is on a level was added
-  pub on_levels : (u : ℕ) → IsQueued q tb u → 1 ≤ base_of mid.owners u
-  on_levels u on = let a = added_seen mid fit_mid u (by_seat (has_seat (kernel_of mid) u) refl (sym (placed.listed.on u on.0) ∙ listed)) in placed.admitted u a.0 a.1
-    where
-      listed : is_among ((kernel_of mid).levels on.0) u ≡ true
-      listed = among_has ((kernel_of mid).levels on.0) u ∙ ap (λ (f : ℕ → List ℕ). has u (f on.0)) (levels_seen mid) ∙ ap (has u) (level_seen q tb on.0 on.1) ∙ on.2
+  kernel_mid : kernel_of mid ≡ record (with_status t (Queued m) (with_state m owner (kernel_of p))) { waiters = (kernel_of p).waiters ++ (t, m) ∷ []; levels = left t (kernel_of p).levels }
+  unfolding kernel_of
+  kernel_mid =
+      kernel_by_parts _ _ refl (seats_of-same_base mid.statuses p.owners.seats mid.owners.seats long base_same ∙ seats_of-set_status p.statuses p.owners.seats t (Queued m) fit.few)
+      state_mid refl (levels_left p.queue q p.table tb t levels)
 
-      by_seat : (b : Bool) → has_seat (kernel_of mid) u ≡ b
-          → (if has_seat (kernel_of mid) u then (if is_ready (kernel_seat_at (kernel_of mid) u).status then effective_in (kernel_of p) u == on.0 else false) else false) ≡ true → has_seat (kernel_of mid) u ≡ true
-      by_seat true e x = e
-      by_seat false e x = absurd (true≢false (sym x ∙ rw e refl))
+  settled_mid : settled (kernel_of mid) ≡ queued_in t m owner (kernel_of p)
+  unfolding queued_in
+  settled_mid = ap settled kernel_mid
 
-  pub base_mid : 1 ≤ base_of mid.owners owner
-  base_mid = omega (arith, base_same owner, h.admitted owner owner_some owner_added)
-
-  module _ (now : Owners) (q' : Queue) (tb' : Table) (repaired : IsRepaired mid.owners now) (walks : (r : ℕ) → IsLevel r → level_of q' tb' r ≡ walked mid.owners q tb r)
-      (place' : q' ≡ record q { mask = q'.mask }) (holds' : Holds q' tb') (lists' : length tb'.lists ≡ length tb.lists) where
-    kernel_mid : kernel_of mid ≡ record (with_status t (Queued m) (with_state m owner (kernel_of p))) { waiters = (kernel_of p).waiters ++ (t, m) ∷ []; levels = left t (kernel_of p).levels }
-    unfolding kernel_of
-    kernel_mid =
-        kernel_by_parts _ _ refl (seats_of-same_base mid.statuses p.owners.seats mid.owners.seats long base_same ∙ seats_of-set_status p.statuses p.owners.seats t (Queued m) fit.few)
-        state_mid refl (levels_left p.queue q p.table tb t levels)
-
-    pub kernel_after : kernel_of (record mid { owners = now; queue = q'; table = tb' }) ≡ queued_in t m owner (kernel_of p)
-    unfolding queued_in
-    kernel_after = walk.kernel_after mid (effective_in (kernel_of p)) placed now q' tb' repaired walks place' holds' lists' ∙ ap settled kernel_mid
-
-    pub sound_after : IsSound (record mid { owners = now; queue = q'; table = tb' })
-    sound_after = walk.sound_after mid (effective_in (kernel_of p)) placed now q' tb' repaired walks place' holds' lists'
+  pub walkable : IsWalkable mid owner (queued_in t m owner (kernel_of p))
+  walkable = record {
+    at = effective_in (kernel_of p);
+    placed = placed;
+    admitted = omega (arith, base_same owner, h.admitted owner owner_some owner_added);
+    repaired = repairs;
+    after = settled_mid;
+  }

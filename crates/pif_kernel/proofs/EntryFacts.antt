@@ -1,12 +1,16 @@
 -- What is known where a thread is queued on a mutex: a ticket was taken, and there is an owner state.
-use Rattle.std.proofs.Common.{◌≡◌, ◌≢◌, ◌⊎◌, ℕ, ◌+◌, ◌<◌, ◌≤◌, Bool, true, false, List, length, Option, Some, None, is_some, get_or, option_map, option_and_then, unwrap_or, refl, sym, ap, subst, ◌∙◌, inl, inr, arith}
+use Rattle.std.proofs.Common.{◌≡◌, ◌≢◌, ◌⊎◌, ℕ, ◌+◌, ◌<◌, ◌≤◌, Bool, true, false, List, [], ◌∷◌, ◌++◌, length, set, Option, Some, None, is_some, get_or, option_map, option_and_then, unwrap_or, refl, sym, ap, subst, ◌∙◌, inl, inr, arith}
 use Rattle.std.proofs.Math.Path.{fun_ext}
 use Rattle.std.proofs.lemmas.Bool.{cases_eq, true≢false, false≢true}
+use Rattle.pif_nodes.specs.Lists.{without}
+use Rattle.pif_nodes.specs.Table.{Table}
+use Rattle.pif_runq.specs.Levels.{Queue, Holds, IsLevel, IsQueued, level_of}
+use Rattle.pif_model.specs.declared.lines.Status.TheVariants.{Queued}
 use Rattle.pif_model.specs.Graph.{reaches_within, Reaches}
 use Rattle.pif_model.specs.Table.{is_ready, queued_on}
-use Rattle.pif_model.specs.PiKernel.{Kernel, waits_for}
+use Rattle.pif_model.specs.PiKernel.{Kernel, effective_in, waits_for, queued_in}
 use Rattle.pif_model.specs.PiKernel.{seat_at as kernel_seat_at}
-use Rattle.pif_rtmutex.specs.Owners.{Owners, Seat, Wait, no_seat, owner_at, count, waits_on, WaitsFor}
+use Rattle.pif_rtmutex.specs.Owners.{Owners, Seat, Wait, no_seat, seat_at, owner_at, count, waits_on, with_wait, WaitsFor}
 use Rattle.pif_rtmutex.specs.Owners.{waits_for as owners_wait_for}
 use Rattle.pif_simulation.proofs.Following.{Follows, within-from_reaches}
 use Rattle.pif_simulation.proofs.Hole.{ready-queued_on_nothing}
@@ -14,7 +18,9 @@ use Rattle.pif_simulation.proofs.Waiting.{names}
 use Rattle.pif_kernel.specs.Plain.{Plain, IsSound, IsOpened, Rise, kernel_of, status_at, key_at, state_at, ticket_of}
 use Rattle.pif_kernel.proofs.Seats.{fitted, seats_length, waits_below, owners_waits, states_seen, living_somebody}
 use Rattle.pif_kernel.proofs.QueueLaws.{rise_once, few_waiters, mutexes_few}
-use Rattle.pif_kernel.proofs.EnterSound.{IsOpen, opened}
+use Rattle.pif_kernel.proofs.Standing.{effective_some, effective_few, ready_queued}
+use Rattle.pif_kernel.proofs.WalkSound.{IsWalkable}
+use Rattle.pif_kernel.proofs.EnterSound.{IsOpen, opened, walkable}
 use Rattle.pif_kernel.proofs.RetagSound.{waits_some, named_known}
 
 -- a ready thread waits for nothing
@@ -83,7 +89,10 @@ entry now p x t m owner key ticket t_some m_some added ready mutex living state 
     }
 
 -- the same, where what is kept is written by the one with the owner state
-pub folded : (now p x : Plain) (t m owner key ticket : ℕ) → IsEntry now p x t m owner key ticket → IsEntry now (record x { keys = p.keys; owners = p.owners }) x t m owner key ticket
+abbrev pub IsEntered : (now p x : Plain) (t m owner key ticket : ℕ) → Type 0
+IsEntered now p x t m owner key ticket = IsEntry now (record x { keys = p.keys; owners = p.owners }) x t m owner key ticket
+
+pub folded : (now p x : Plain) (t m owner key ticket : ℕ) → IsEntry now p x t m owner key ticket → IsEntered now p x t m owner key ticket
 folded now p x t m owner key ticket i =
     subst (λ (y : Plain). IsEntry now y x t m owner key ticket) (sym (ap (λ (z : Plain). record z { keys = p.keys; owners = p.owners }) i.shape)) i
 
@@ -116,3 +125,30 @@ no_cycle now p x t m owner key ticket i n e r =
     (sym (within-from_reaches (length (kernel_of p).seats) (waits_for (kernel_of p)) owner t (omega (arith, i.owner_added, seats_length p (fitted p i.sound))) (λ y some. waits_below p (fitted p i.sound) y)
     (subst (λ (w : ℕ → ℕ). Reaches (Follows w) owner t) (fun_ext (waits_open now p x t m owner key ticket i)) (subst (λ (y : ℕ). Reaches (WaitsFor x.owners) y t) at r)))
     ∙ i.unreached)
+
+module _ (now p x : Plain) (t m owner key ticket : ℕ) (i : IsEntry now p x t m owner key ticket) where
+  -- the thread has its effective priority
+  pub local_is : (seat_at x.owners t).local ≡ effective_in (kernel_of p) t
+  local_is = ap (λ (l : List Seat). (get_or l t no_seat).local) i.opens.seats ∙ i.sound.local t
+
+  -- that is a level
+  pub local_low : 1 ≤ (seat_at x.owners t).local
+  local_low = omega (arith, local_is, effective_some p i.sound t i.some i.added)
+
+  pub local_high : (seat_at x.owners t).local ≤ 99
+  local_high = omega (arith, local_is, effective_few p i.sound t)
+
+  pub room : length p.arrivals < p.limits.threads
+  room = (room_for p i.sound t i.some i.added i.ready).1
+
+  pub on_level : IsQueued p.queue p.table t
+  on_level = ready_queued p i.sound t i.some i.added i.ready
+
+  -- what is kept before the walk
+  pub before_walk : (level : ℕ) (v : Owners) (q : Queue) (tb : Table) → level ≡ (seat_at x.owners t).local
+      → v ≡ with_wait t (Some (record { state = key; rank = record { prio = level; ticket = ticket } })) x.owners → q ≡ record p.queue { mask = q.mask }
+      → ((r : ℕ) → IsLevel r → level_of q tb r ≡ without t (level_of p.queue p.table r)) → Holds q tb → length tb.lists ≡ length p.table.lists
+      → IsWalkable (record p { statuses = set p.statuses t (Queued m); keys = x.keys; owners = v; queue = q; table = tb; arrivals = p.arrivals ++ (t, m) ∷ [] }) owner (queued_in t m owner (kernel_of now))
+  before_walk level v q tb value queued place levels holds lists =
+      rw (queued, ← i.same)
+      (walkable p x.keys x.owners t m owner key level ticket p.next i.sound i.opens i.some i.added i.ready i.named i.mutex i.owner_some i.owner_added i.state i.unreached (value ∙ local_is) i.rises i.later q tb place levels holds lists)

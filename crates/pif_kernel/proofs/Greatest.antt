@@ -1,10 +1,9 @@
 -- Effective priorities over two functions that say for whom each thread waits.
-use Rattle.std.proofs.Common.{◌≡◌, ◌≢◌, ◌⊎◌, ◌<◌, ◌≤◌, ℕ, zero, suc, Bool, true, false, max, refl, sym, ap, ◌∙◌, inl, inr, arith}
+use Rattle.std.proofs.Common.{◌≡◌, ◌≢◌, ◌⊎◌, ◌<◌, ◌≤◌, ℕ, zero, suc, Bool, true, false, refl, inl, inr, arith}
 use Rattle.std.proofs.Math.Path.{fun_ext}
 use Rattle.std.proofs.lemmas.Bool.{cases_lt}
-use Rattle.pif_model.specs.Graph.{reaches_within, greatest_where, effective_among, Reaches}
-use Rattle.pif_model.specs.Graph.Reaches.{here, hop}
-use Rattle.pif_simulation.proofs.Following.{Follows, reaches_over_more, reaches-from_within, within-from_reaches, within_here, greatest_where_above}
+use Rattle.pif_model.specs.Graph.{reaches_within, greatest_where, effective_among}
+use Rattle.pif_simulation.proofs.Following.{reaches_over_more, reaches-from_within, within-from_reaches, within_here, greatest_where_above}
 
 more_most : (test : ℕ → Bool) (f : ℕ → ℕ) (n m : ℕ) (b : Bool) → test n ≡ b → greatest_where test f n ≤ m → (b ≡ true → f n ≤ m) → greatest_where test f (suc n) ≤ m
 unfolding greatest_where

@@ -7,9 +7,8 @@ use Rattle.std.proofs.lemmas.Bool.Decides.{nat_tests}
 use Rattle.std.proofs.lemmas.List.{get_or-set_same, get_or-set_other, get_or_past}
 use Rattle.std.proofs.lemmas.List.Folds.{list_any-append}
 use Rattle.pif_nodes.specs.declared.keys.Key.{Key}
-use Rattle.pif_nodes.specs.Lists.{has}
 use Rattle.pif_nodes.specs.Table.{Table, holder}
-use Rattle.pif_runq.specs.Levels.{Queue, Holds, IsLevel, IsQueued, level_of, node_for}
+use Rattle.pif_runq.specs.Levels.{Queue, Holds, IsLevel, level_of, node_for}
 use Rattle.pif_runq.specs.Levels.{joined as queue_joined}
 use Rattle.pif_model.specs.declared.lines.Status.{Status}
 use Rattle.pif_model.specs.declared.lines.Status.TheVariants.{Ready, Queued, Stopped}
@@ -21,8 +20,7 @@ use Rattle.pif_model.specs.PiKernel.{seat_at as kernel_seat_at, with_status, wit
 use Rattle.pif_rtmutex.specs.Owners.{Owners, Seat, Wait, seat_at, owner_at, count, waits_on, rank_of, no_seat, with_base, with_wait, with_owner, without_state, IsTop, HasNoWaiter}
 use Rattle.pif_rtmutex.specs.Owners.{waits_for as owners_wait_for}
 use Rattle.pif_rtmutex.proofs.MapLemmas.{get-insert_same, get-insert_other, get-remove_other}
-use Rattle.pif_boost.specs.Boosts.{IsRepaired, IsRepairedBut, base_of, local_of, greatest_base}
-use Rattle.pif_boost.specs.Boosts.{releveled as walked}
+use Rattle.pif_boost.specs.Boosts.{IsRepairedBut, base_of, local_of, greatest_base}
 use Rattle.pif_simulation.proofs.Effective.{kept_at}
 use Rattle.pif_simulation.proofs.Hole.{ready-queued_on_nothing}
 use Rattle.pif_simulation.proofs.Among.{is_among_here, is_among_there, is_among_cons, is_among-without}
@@ -31,14 +29,13 @@ use Rattle.pif_simulation.proofs.Waiting.{names, or_false, Once, once_head, once
 use Rattle.pif_kernel.specs.Plain.{Plain, IsSound, Rise, kernel_of, status_at, key_at, state_at, ticket_of, mutexes_of, levels_of}
 use Rattle.pif_kernel.proofs.Greatest.{effective_same, reaches_same}
 use Rattle.pif_kernel.proofs.Seats.{IsFitted, fitted, seats_length, status_seen, waits_seen, waits_below, owners_waits, added_seen, added_back, waiters_seen, states_seen, kernel_by_parts, seats_of-set_status}
-use Rattle.pif_kernel.proofs.Picked.{levels_seen, level_seen, among_has, levels_joined}
+use Rattle.pif_kernel.proofs.Picked.{levels_seen, levels_joined}
 use Rattle.pif_kernel.proofs.Standing.{effective_some, effective_few, unqueued_free}
 use Rattle.pif_kernel.proofs.ChainLaws.{repaired_but}
 use Rattle.pif_kernel.proofs.QueueLaws.{rise_once}
 use Rattle.pif_kernel.proofs.HandLaws.{effective_handed, effective_lifted, acyclic_handed}
 use Rattle.pif_kernel.proofs.TopLaws.{waits_under, some_rank, priority_below}
-use Rattle.pif_kernel.proofs.WalkSound.{IsPlaced, owners_effective, seats_of-same_base}
-use Rattle.pif_kernel.proofs.WalkSound as walk
+use Rattle.pif_kernel.proofs.WalkSound.{IsPlaced, IsWalkable, owners_effective, seats_of-same_base}
 
 -- THE WAITERS WITHOUT ONE OF THEM
 
@@ -131,16 +128,24 @@ pub record IsGiven (p x : Plain) (u m key : ℕ) : Type 0 where
   pub frame : x ≡ record p { keys = x.keys; owners = x.owners; arrivals = without p.arrivals u }
   pub handed : IsHanded p x.keys x.owners u m key
 
--- what is known where t hands m to u: of what was kept before, over the other parts of what is kept now
-pub record IsHanding (old p x : Plain) (t m key u : ℕ) : Type 0 where
+-- what is known before t hands m, which has this key, to its next waiter
+pub record IsHandable (p : Plain) (t m key : ℕ) : Type 0 where
   pub sound : IsSound p
   pub at : key_at p m ≡ Some key
   pub owner : state_at p m ≡ t
   pub ready : is_ready (status_at p t) ≡ true
+
+-- what is known once t handed m to u
+pub record IsHanding (old p x : Plain) (t m key u : ℕ) : Type 0 where
+  pub hands : IsHandable p t m key
   pub top : IsTop p.owners key u
   pub handed : IsHanded p x.keys x.owners u m key
   pub rest : x.arrivals ≡ without p.arrivals u
   pub same : kernel_of p ≡ kernel_of old
+
+-- the same, where what was kept is written by what is kept now
+abbrev pub IsHandedOn : (old p x : Plain) (t m key u : ℕ) → Type 0
+IsHandedOn old p x t m key u = IsHanding old (record x { keys = p.keys; owners = p.owners; arrivals = p.arrivals }) x t m key u
 
 -- who is queued on a mutex has that status
 queued_on_some : (x : Status) (n : ℕ) → queued_on x ≡ n → n ≢ 0 → x ≡ Queued n
@@ -148,7 +153,13 @@ queued_on_some (Ready w) n e z = absurd (z (sym e))
 queued_on_some (Queued j) n e z = ap Queued e
 queued_on_some Stopped n e z = absurd (z (sym e))
 
-module _ (p : Plain) (t m key u : ℕ) (h : IsSound p) (at : key_at p m ≡ Some key) (is_owner : state_at p m ≡ t) (ready : is_ready (status_at p t) ≡ true) (top : IsTop p.owners key u) where
+module _ (p : Plain) (t m key u : ℕ) (d : IsHandable p t m key) (top : IsTop p.owners key u) where
+  h : IsSound p
+  h = d.sound
+
+  at : key_at p m ≡ Some key
+  at = d.at
+
   abbrev rest : List (ℕ × ℕ)
   rest = without p.arrivals u
 
@@ -185,13 +196,13 @@ module _ (p : Plain) (t m key u : ℕ) (h : IsSound p) (at : key_at p m ≡ Some
       by_place (inr g) = let none : None ≡ Some key = sym (get_or_past p.keys m None g) ∙ at in cc
 
   pub owner_some : t ≢ 0
-  owner_some z = h.owned m key at (is_owner ∙ z)
+  owner_some z = h.owned m key at (d.owner ∙ z)
 
   pub owner_added : t < length p.statuses
-  owner_added = omega (arith, is_owner, h.owners m)
+  owner_added = omega (arith, d.owner, h.owners m)
 
   owner_other : t ≢ u
-  owner_other e = true≢false (sym ready ∙ ap (λ (x : ℕ). is_ready (status_at p x)) e ∙ ap is_ready status_next)
+  owner_other e = true≢false (sym d.ready ∙ ap (λ (x : ℕ). is_ready (status_at p x)) e ∙ ap is_ready status_next)
 
   pub level_some : 1 ≤ effective_in (kernel_of p) u
   level_some = effective_some p h u next_some next_added
@@ -275,16 +286,11 @@ module _ (p : Plain) (t m key u : ℕ) (h : IsSound p) (at : key_at p m ≡ Some
       subst (λ (y : Plain). IsGiven p y u m key) (sym (is ∙ ap (λ (l : List (ℕ × ℕ)). record p { owners = handed; arrivals = l }) same ∙ ap (λ (o : Owners). record p { owners = o; arrivals = rest }) e))
       (record { frame = refl; handed = still (sym (ap (λ (l : List (ℕ × ℕ)). has_waiter l m) same) ∙ sym test ∙ some) })
 
-  pub handing : (old x : Plain) → p ≡ old → IsGiven p x u m key → IsHanding old (record x { keys = p.keys; owners = p.owners; arrivals = p.arrivals }) x t m key u
+  pub handing : (old x : Plain) → p ≡ old → IsGiven p x u m key → IsHandedOn old p x t m key u
   handing old x before g =
       let back : record x { keys = p.keys; owners = p.owners; arrivals = p.arrivals } ≡ p = ap (λ (y : Plain). record y { keys = p.keys; owners = p.owners; arrivals = p.arrivals }) g.frame in
       subst (λ (y : Plain). IsHanding old y x t m key u) (sym back)
-      (record { sound = h; at = at; owner = is_owner; ready = ready; top = top; handed = g.handed; rest = ap (λ (y : Plain). y.arrivals) g.frame; same = ap kernel_of before })
-
-  -- the next waiter has the effective priority that it had
-  pub local_handed : (keys : List (Option ℕ)) (owners : Owners) → IsHanded p keys owners u m key → (seat_at owners u).local ≡ effective_in (kernel_of p) u
-  local_handed keys owners o =
-      ap (λ (l : List Seat). (get_or l u no_seat).local) o.seats ∙ kept_at (λ (s : Seat). s.local) p.owners.seats u (record (seat_at p.owners u) { wait = None }) no_seat refl u ∙ h.local u
+      (record { hands = d; top = top; handed = g.handed; rest = ap (λ (y : Plain). y.arrivals) g.frame; same = ap kernel_of before })
 
   module _ (keys : List (Option ℕ)) (owners : Owners) (prio : ℕ) (o : IsHanded p keys owners u m key) (rank_is : prio ≡ effective_in (kernel_of p) u)
       (q : Queue) (tb : Table) (place : q ≡ record p.queue { mask = q.mask }) (levels : (r : ℕ) → IsLevel r → level_of q tb r ≡ queue_joined u prio r (level_of p.queue p.table r)) (holds : Holds q tb) (lists : length tb.lists ≡ length p.table.lists) where
@@ -417,7 +423,7 @@ module _ (p : Plain) (t m key u : ℕ) (h : IsSound p) (at : key_at p m ≡ Some
     off_next x e z = off_is x e (ap (λ (v : ℕ). queued_on (status_at p v)) z ∙ ap queued_on status_next)
 
     waited : (x : ℕ) → on x ≡ true → waits_for (kernel_of p) x ≡ t
-    waited x e = waits_seen p fit x ∙ ap (state_at p) (on_is x e) ∙ is_owner
+    waited x e = waits_seen p fit x ∙ ap (state_at p) (on_is x e) ∙ d.owner
 
     others : (x : ℕ) → on x ≡ false → waits_for (kernel_of mid) x ≡ waits_for (kernel_of p) x
     others x e = waits_seen mid fit_mid x ∙ ap (λ (y : Status). state_at mid (queued_on y)) (status_other x (off_next x e)) ∙ state_other (queued_on (status_at p x)) (off_is x e) ∙ sym (waits_seen p fit x)
@@ -431,7 +437,7 @@ module _ (p : Plain) (t m key u : ℕ) (h : IsSound p) (at : key_at p m ≡ Some
         ∙ ap (λ (k : Option ℕ). unwrap_or (option_and_then (owner_at owners) k) 0) no_mutex_mid
 
     idle : waits_for (kernel_of p) t ≡ 0
-    idle = waits_seen p fit t ∙ ap (state_at p) (ready-queued_on_nothing (status_at p t) ready) ∙ ap (λ (k : Option ℕ). unwrap_or (option_and_then (owner_at p.owners) k) 0) h.no_mutex
+    idle = waits_seen p fit t ∙ ap (state_at p) (ready-queued_on_nothing (status_at p t) d.ready) ∙ ap (λ (k : Option ℕ). unwrap_or (option_and_then (owner_at p.owners) k) 0) h.no_mutex
 
     below : (x : ℕ) → owners_wait_for p.owners x < length p.owners.seats
     below x = omega (arith, owners_waits p fit x, waits_below p fit x, seats_length p fit, fit.few)
@@ -491,14 +497,10 @@ module _ (p : Plain) (t m key u : ℕ) (h : IsSound p) (at : key_at p m ≡ Some
     ranks x r (inl e) y = let none : None ≡ Some r = sym (ap (λ (s : Seat). option_map (λ (w : Wait). w.rank) s.wait) (same x e)) ∙ y in cc
     ranks x r (inr n) y = h.rank x r (sym (ap (λ (s : Seat). option_map (λ (w : Wait). w.rank) s.wait) (other x n)) ∙ y)
 
-    -- what the walk requires
-    pub repairs : IsRepairedBut t mid.owners
+    repairs : IsRepairedBut t mid.owners
     repairs =
         repaired_but high mid.owners t (sym high_long) (λ x. omega (arith, high_waits x, below_mid x, high_long, long)) (λ x y ne nz. ap (λ (n : ℕ). n == y) (high_waits x)) high_base high_local
         (λ x r ne e. ranks x r (cases_eq x u) e ∙ sym (h.local x) ∙ sym (local_same x))
-
-    pub base_mid : 1 ≤ base_of mid.owners t
-    base_mid = omega (arith, base_same t, h.admitted t owner_some owner_added)
 
     joins_level : (r : ℕ) → levels_of q tb r ≡ joined u prio (levels_of p.queue p.table) r
     joins_level r = levels_joined p.queue q p.table tb u prio (omega (arith, rank_is, level_some), omega (arith, rank_is, level_few)) levels r
@@ -635,18 +637,6 @@ module _ (p : Plain) (t m key u : ℕ) (h : IsSound p) (at : key_at p m ≡ Some
           ∙ acyclic_handed (waits_for (kernel_of p)) (waits_for (kernel_of mid)) u on others moved freed (length (kernel_of p).seats) (waits_below p fit) h.kernel.acyclic y some;
     }
 
-    -- who is on a level was added
-    pub on_levels : (x : ℕ) → IsQueued q tb x → 1 ≤ base_of mid.owners x
-    on_levels x on = let a = added_seen mid fit_mid x (by_seat (has_seat (kernel_of mid) x) refl (sym (placed.listed.on x on.0) ∙ listed)) in placed.admitted x a.0 a.1
-      where
-        listed : is_among ((kernel_of mid).levels on.0) x ≡ true
-        listed = among_has ((kernel_of mid).levels on.0) x ∙ ap (λ (f : ℕ → List ℕ). has x (f on.0)) (levels_seen mid) ∙ ap (has x) (level_seen q tb on.0 on.1) ∙ on.2
-
-        by_seat : (b : Bool) → has_seat (kernel_of mid) x ≡ b
-            → (if has_seat (kernel_of mid) x then (if is_ready (kernel_seat_at (kernel_of mid) x).status then effective_in (kernel_of p) x == on.0 else false) else false) ≡ true → has_seat (kernel_of mid) x ≡ true
-        by_seat true e y = e
-        by_seat false e y = absurd (true≢false (sym y ∙ rw e refl))
-
     -- the kernel by itself before the walk
     abbrev over : Kernel
     over = record (with_status u (Ready Owns) (with_state m (if has_waiter rest m then u else 0) (kernel_of p))) { waiters = without (kernel_of p).waiters u }
@@ -660,16 +650,38 @@ module _ (p : Plain) (t m key u : ℕ) (h : IsSound p) (at : key_at p m ≡ Some
     level_same : effective_in over u ≡ effective_in (kernel_of p) u
     level_same = sym (ap (λ (k : Kernel). effective_in k u) kernel_mid) ∙ effective_kept u (λ e. owner_other (sym e))
 
-    module _ (now : Owners) (q' : Queue) (tb' : Table) (repaired : IsRepaired mid.owners now) (walks : (r : ℕ) → IsLevel r → level_of q' tb' r ≡ walked mid.owners q tb r)
-        (place' : q' ≡ record q { mask = q'.mask }) (holds' : Holds q' tb') (lists' : length tb'.lists ≡ length tb.lists) where
-      handed_mid : settled (record over { levels = joined u (effective_in over u) (kernel_of p).levels }) ≡ handed_in u m (kernel_of p)
-      unfolding handed_in kernel_of
-      handed_mid = refl
+    handed_mid : settled (record over { levels = joined u (effective_in over u) (kernel_of p).levels }) ≡ handed_in u m (kernel_of p)
+    unfolding handed_in kernel_of
+    handed_mid = refl
 
-      pub kernel_after : kernel_of (record mid { owners = now; queue = q'; table = tb' }) ≡ handed_in u m (kernel_of p)
-      kernel_after =
-          walk.kernel_after mid (effective_in (kernel_of p)) placed now q' tb' repaired walks place' holds' lists'
-          ∙ ap settled (kernel_mid ∙ ap (λ (n : ℕ). record over { levels = joined u n (kernel_of p).levels }) (sym level_same)) ∙ handed_mid
+    pub walkable : IsWalkable mid t (handed_in u m (kernel_of p))
+    walkable = record {
+      at = effective_in (kernel_of p);
+      placed = placed;
+      admitted = omega (arith, base_same t, h.admitted t owner_some owner_added);
+      repaired = repairs;
+      after = ap settled (kernel_mid ∙ ap (λ (n : ℕ). record over { levels = joined u n (kernel_of p).levels }) (sym level_same)) ∙ handed_mid;
+    }
 
-      pub sound_after : IsSound (record mid { owners = now; queue = q'; table = tb' })
-      sound_after = walk.sound_after mid (effective_in (kernel_of p)) placed now q' tb' repaired walks place' holds' lists'
+module _ (old p x : Plain) (t m key u : ℕ) (i : IsHanding old p x t m key u) where
+  -- the next waiter has the effective priority that it had
+  pub local_is : (seat_at x.owners u).local ≡ effective_in (kernel_of p) u
+  local_is =
+      ap (λ (l : List Seat). (get_or l u no_seat).local) i.handed.seats ∙ kept_at (λ (s : Seat). s.local) p.owners.seats u (record (seat_at p.owners u) { wait = None }) no_seat refl u ∙ i.hands.sound.local u
+
+  -- that is a level
+  pub local_low : 1 ≤ (seat_at x.owners u).local
+  local_low = omega (arith, local_is, level_some p t m key u i.hands i.top)
+
+  pub local_high : (seat_at x.owners u).local ≤ 99
+  local_high = omega (arith, local_is, level_few p t m key u i.hands i.top)
+
+  pub free : holder p.table (node_for p.queue u) ≡ None
+  free = node_free p t m key u i.hands i.top
+
+  -- what is kept before the walk
+  pub before_walk : (level : ℕ) (q : Queue) (tb : Table) → level ≡ (seat_at x.owners u).local → q ≡ record p.queue { mask = q.mask }
+      → ((r : ℕ) → IsLevel r → level_of q tb r ≡ queue_joined u level r (level_of p.queue p.table r)) → Holds q tb → length tb.lists ≡ length p.table.lists
+      → IsWalkable (record p { statuses = set p.statuses u (Ready Owns); keys = x.keys; owners = x.owners; queue = q; table = tb; arrivals = x.arrivals }) t (handed_in u m (kernel_of old))
+  before_walk level q tb value place levels holds lists =
+      rw (i.rest, ← i.same) (walkable p t m key u i.hands i.top x.keys x.owners level i.handed (value ∙ local_is) q tb place levels holds lists)

@@ -1,8 +1,8 @@
 -- The levels after a walk are those of the kernel by itself once it is settled.
-use Rattle.std.proofs.Common.{◌≡◌, ◌≢◌, ◌⊎◌, ℕ, zero, suc, ◌+◌, ◌-◌, ◌<◌, ◌≤◌, ◌==◌, ◌&&◌, Bool, true, false, not, if◌then◌else◌, List, [], ◌∷◌, ◌++◌, length, Option, Some, None, refl, sym, ap, ap₂, ◌∙◌, inl, inr, arith, append-nil}
+use Rattle.std.proofs.Common.{◌≡◌, ◌⊎◌, ℕ, zero, suc, ◌+◌, ◌-◌, ◌<◌, ◌≤◌, ◌==◌, ◌&&◌, Bool, true, false, not, if◌then◌else◌, List, [], ◌∷◌, ◌++◌, length, Option, Some, None, refl, sym, ap, ap₂, ◌∙◌, inl, inr, arith, append-nil}
 use Rattle.std.proofs.Math.Path.{fun_ext}
 use Rattle.std.specs.List.{filter, list_any, range_with_len}
-use Rattle.std.proofs.lemmas.Bool.{cases_eq, true≢false, false≢true}
+use Rattle.std.proofs.lemmas.Bool.{cases_eq, true≢false}
 use Rattle.std.proofs.lemmas.Bool.Decides.{nat_tests}
 use Rattle.std.proofs.lemmas.List.Elements.{filter-append}
 use Rattle.pif_nodes.specs.Lists.{has}
@@ -10,7 +10,7 @@ use Rattle.pif_nodes.specs.Table.{Table}
 use Rattle.pif_runq.specs.Levels.{Queue, Holds, IsLevel, level_of, level_with}
 use Rattle.pif_runq.proofs.LevelWithLemmas.{level_with-from_listed, listed-from_level_with}
 use Rattle.pif_rtmutex.specs.Owners.{Owners}
-use Rattle.pif_boost.specs.Boosts.{greatest_base, is_other, joins, threads_of}
+use Rattle.pif_boost.specs.Boosts.{greatest_base, is_other, joins}
 use Rattle.pif_boost.specs.Boosts.{releveled as walked}
 use Rattle.pif_model.specs.PiKernel.{is_among, numbers, moves_to, releveled}
 use Rattle.pif_kernel.specs.Plain.{is_level, levels_of}

@@ -24,3 +24,4 @@ pub mod UnlockFacts
 pub mod HandLaws
 pub mod TopLaws
 pub mod HandSound
+pub mod TestLemmas

@@ -1,16 +1,16 @@
--- What lock_pi's answer says, and that words and owner states still agree after it.
-use Rattle.std.proofs.Common.{◌≡◌, ◌≢◌, ◌⊎◌, ℕ, ◌<◌, ◌≤◌, ◌==◌, Bool, true, false, if◌then◌else◌, List, length, get_or, set, Result, Ok, Err, refl, sym, ap, subst, ◌∙◌, inl, inr, arith}
+-- What the answers of lock_pi and trylock_pi say, and that words and owner states still agree after them.
+use Rattle.std.proofs.Common.{◌≡◌, ◌≢◌, ◌⊎◌, ℕ, ◌<◌, ◌==◌, Bool, true, false, if◌then◌else◌, List, length, set, Result, Ok, Err, refl, sym, ap, ◌∙◌, inl, inr, arith}
 use Rattle.std.proofs.lemmas.Bool.{cases_eq}
 use Rattle.std.proofs.lemmas.Bool.Decides.{nat_tests}
 use Rattle.std.proofs.lemmas.List.{get_or-set_same, get_or-set_other}
 use Rattle.pif_types.specs.declared.errors.Errno.{Errno}
-use Rattle.pif_types.specs.declared.errors.Errno.TheVariants.{NoSuchThread, Fault, Invalid, Deadlock}
+use Rattle.pif_types.specs.declared.errors.Errno.TheVariants.{NoSuchThread, Again, Fault, Invalid, Deadlock}
 use Rattle.pif_model.specs.declared.lines.Took.{Took}
 use Rattle.pif_model.specs.declared.lines.Took.TheVariants.{Owns as TookOwns, Queued as TookQueued}
 use Rattle.pif_model.specs.Graph.{reaches_within}
 use Rattle.pif_model.specs.Word.{Word, free_word}
-use Rattle.pif_model.specs.PiKernel.{Kernel, IsOwned, seat_at, waits_for, word_at, has_word, lock_answer, lock_words, lock_kernel, settled, queued_in}
-use Rattle.pif_model.specs.Kernel.{taken_word}
+use Rattle.pif_model.specs.PiKernel.{Kernel, IsOwned, seat_at, waits_for, word_at, has_word, lock_answer, lock_words, lock_kernel, try_lock_answer, try_lock_words, queued_in}
+use Rattle.pif_model.specs.Word.{taken_word}
 use Rattle.pif_simulation.proofs.Projection.{within}
 
 -- what holds where t is to be queued
@@ -118,3 +118,31 @@ words_queued t m ws = refl
 pub kernel_queued : (t m : ℕ) (ws : List Word) (k : Kernel) → lock_kernel t m (Ok TookQueued) ws k ≡ queued_in t m (word_at ws m).number k
 unfolding lock_kernel
 kernel_queued t m ws k = refl
+
+abbrev Done : Result (record {}) Errno
+Done = Ok (record {})
+
+abbrev tries : Bool → Bool → Bool → Bool → Result (record {}) Errno
+tries has own free none =
+    if has then
+    (if own then Err Deadlock else
+    (if free then (if none then Done else Err Invalid) else Err Again))
+    else Err Fault
+
+trying : (has own free none : Bool) → Done ≡ tries has own free none → (has ≡ true) × (none ≡ true)
+trying true false true true e = (refl, refl)
+trying true false true false e = cc
+trying true false false n e = cc
+trying true true f n e = cc
+trying false o f n e = cc
+
+-- where trylock_pi is not refused, the mutex has a word and no owner state
+pub try_says : (t m : ℕ) (ws : List Word) (k : Kernel) → Done ≡ try_lock_answer t m ws k → (has_word ws m ≡ true) × (k.states m ≡ 0)
+unfolding try_lock_answer
+try_says t m ws k e =
+    let q = trying (has_word ws m) ((word_at ws m).number == t) ((word_at ws m).number == 0) (k.states m == 0) e in
+    (q.0, grind (arith, nat_tests, q.1))
+
+pub words_tried : (t m : ℕ) (ws : List Word) → try_lock_words t m Done ws ≡ set ws m (taken_word t (word_at ws m))
+unfolding try_lock_words
+words_tried t m ws = refl

@@ -1,22 +1,19 @@
 -- What is kept at first is sound.
-use Rattle.std.proofs.Common.{◌≡◌, ◌≢◌, ℕ, zero, suc, ◌+◌, ◌<◌, ◌≤◌, ◌==◌, Bool, true, false, nat_lt, if◌then◌else◌, List, [], ◌∷◌, length, replicate, get_or, map, Option, Some, None, option_map, option_and_then, unwrap_or, refl, sym, ap, ◌∙◌, arith, add-one}
+use Rattle.std.proofs.Common.{◌≡◌, ℕ, zero, suc, ◌+◌, ◌≤◌, ◌==◌, Bool, true, false, nat_lt, if◌then◌else◌, List, [], ◌∷◌, replicate, get_or, map, Option, Some, None, option_map, option_and_then, unwrap_or, refl, sym, ap, ◌∙◌, arith, add-one}
 use Rattle.std.proofs.lemmas.List.{length-replicate}
 use Rattle.std.proofs.lemmas.Bool.Decides.{nat_tests}
 use Rattle.std.specs.Ordering.{nat_cmp}
 use Rattle.std.specs.FinMap.{len-empty}
 use Rattle.pif_types.specs.Bounds.{Bounds, IsWithin}
-use Rattle.pif_nodes.specs.declared.keys.Key.{Key}
-use Rattle.pif_nodes.specs.Table.{Table, IsApart, list_at, no_key}
-use Rattle.pif_runq.specs.Levels.{Queue, Holds, HasRoom, IsLevel, list_for, level_of, thread_for}
-use Rattle.pif_model.specs.declared.lines.Status.{Status}
+use Rattle.pif_nodes.specs.Table.{Table, IsApart, no_key}
+use Rattle.pif_runq.specs.Levels.{Queue, Holds, HasRoom, list_for, level_of, thread_for}
 use Rattle.pif_model.specs.declared.lines.Status.TheVariants.{Ready, Queued}
 use Rattle.pif_model.specs.declared.lines.Woken.TheVariants.{Fresh}
-use Rattle.pif_model.specs.Table.{queued_on, is_ready}
-use Rattle.pif_model.specs.PiKernel.{Kernel, IsKernel, new_kernel, effective_in, has_seat, seat_at}
+use Rattle.pif_model.specs.Table.{queued_on}
+use Rattle.pif_model.specs.PiKernel.{IsKernel, new_kernel, effective_in, has_seat}
 use Rattle.pif_model.specs.PiKernel.{Seat as KernelSeat, no_seat as no_kernel_seat}
-use Rattle.pif_rtmutex.specs.Owners.{Seat, Wait, no_seat, owner_at, rank_of, waits_on}
-use Rattle.pif_rtmutex.specs.Owners.{seat_at as row_at}
-use Rattle.pif_kernel.specs.Plain.{Plain, IsSound, kernel_of, new_plain, key_at, state_at, is_level, levels_of, seats_of}
+use Rattle.pif_rtmutex.specs.Owners.{Seat, Wait, no_seat, owner_at}
+use Rattle.pif_kernel.specs.Plain.{IsSound, kernel_of, new_plain, state_at, is_level, levels_of, seats_of}
 use Rattle.pif_kernel.proofs.Seats.{kernel_by_parts}
 use Rattle.pif_kernel.proofs.Greatest.{effective_most}
 

@@ -1,14 +1,14 @@
 -- The levels of the kernel by itself, by those of the run queue, and who is picked.
-use Rattle.std.proofs.Common.{◌≡◌, ◌≢◌, ◌⊎◌, ℕ, zero, suc, ◌+◌, ◌-◌, ◌<◌, ◌≤◌, ◌==◌, eqb, Bool, true, false, not, nat_eq, nat_lt, if◌then◌else◌, List, [], ◌∷◌, ◌++◌, map, Option, Some, None, IfSome, IfNone, refl, sym, ap, ◌∙◌, inl, inr, arith}
-use Rattle.std.specs.List.{filter, list_any}
+use Rattle.std.proofs.Common.{◌≡◌, ◌⊎◌, ℕ, zero, suc, ◌<◌, ◌≤◌, ◌==◌, Bool, true, false, not, nat_eq, if◌then◌else◌, List, [], ◌∷◌, Option, Some, None, IfSome, IfNone, refl, sym, ap, ◌∙◌, inl, inr, arith}
+use Rattle.std.specs.List.{filter}
 use Rattle.std.proofs.lemmas.Bool.{cases_eq, false≢true}
 use Rattle.std.proofs.lemmas.Bool.Decides.{nat_tests}
 use Rattle.pif_nodes.specs.Lists.{has, first_of, without}
 use Rattle.pif_nodes.specs.Table.{Table, list_at}
-use Rattle.pif_runq.specs.Levels.{Queue, IsLevel, level_of, thread_for, list_for, IsFirstOfGreatest, IsEmpty}
+use Rattle.pif_runq.specs.Levels.{Queue, IsLevel, level_of, list_for, IsFirstOfGreatest, IsEmpty}
 use Rattle.pif_runq.specs.Levels.{joined as queue_joined}
 use Rattle.pif_runq.proofs.LevelLemmas.{threads-some}
-use Rattle.pif_model.specs.PiKernel.{Kernel, is_among, first_from, pick_in, left, joined}
+use Rattle.pif_model.specs.PiKernel.{is_among, first_from, pick_in, left, joined}
 use Rattle.pif_kernel.specs.Plain.{Plain, kernel_of, is_level, levels_of}
 
 pub levels_seen : (p : Plain) → (kernel_of p).levels ≡ levels_of p.queue p.table

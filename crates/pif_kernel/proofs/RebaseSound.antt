@@ -1,43 +1,24 @@
 -- What is kept stays sound where a thread gets another base priority.
-use Rattle.std.proofs.Common.{◌≡◌, ◌≢◌, ◌⊎◌, ℕ, ◌+◌, ◌<◌, ◌≤◌, ◌==◌, Bool, true, false, nat_lt, if◌then◌else◌, List, length, get_or, set, Option, Some, option_map, option_and_then, unwrap_or, Ok, refl, sym, ap, subst, ◌∙◌, inl, inr, arith, length-set}
+use Rattle.std.proofs.Common.{◌≡◌, ◌≢◌, ◌⊎◌, ℕ, ◌<◌, ◌≤◌, ◌==◌, true, false, nat_lt, if◌then◌else◌, List, length, Option, option_map, option_and_then, unwrap_or, Ok, refl, sym, ap, subst, ◌∙◌, inl, inr, arith, length-set}
 use Rattle.std.proofs.Math.Path.{fun_ext}
-use Rattle.std.proofs.lemmas.Bool.{cases_eq, true≢false}
+use Rattle.std.proofs.lemmas.Bool.{cases_eq}
 use Rattle.std.proofs.lemmas.List.{get_or-set_same, get_or-set_other}
 use Rattle.pif_nodes.specs.declared.keys.Key.{Key}
-use Rattle.pif_nodes.specs.Lists.{has}
-use Rattle.pif_nodes.specs.Table.{Table}
-use Rattle.pif_runq.specs.Levels.{Queue, Holds, IsLevel, IsQueued, level_of}
-use Rattle.pif_model.specs.declared.lines.Status.{Status}
 use Rattle.pif_model.specs.Graph.{has_waiter}
-use Rattle.pif_model.specs.Table.{is_ready}
-use Rattle.pif_model.specs.PiKernel.{Kernel, effective_in, has_seat, is_among, settled, waits_for, set_prio_kernel}
-use Rattle.pif_model.specs.PiKernel.{Seat as KernelSeat, seat_at as kernel_seat_at, with_seat as kernel_with_seat}
-use Rattle.pif_rtmutex.specs.Owners.{Owners, Seat, Wait, seat_at, owner_at, waits_on, rank_of, no_seat, with_base}
+use Rattle.pif_model.specs.PiKernel.{effective_in, has_seat, is_among, settled, waits_for, set_prio_kernel}
+use Rattle.pif_model.specs.PiKernel.{seat_at as kernel_seat_at, with_seat as kernel_with_seat}
+use Rattle.pif_rtmutex.specs.Owners.{Seat, Wait, seat_at, owner_at, waits_on, rank_of, no_seat, with_base}
 use Rattle.pif_rtmutex.specs.Owners.{waits_for as owners_wait_for}
-use Rattle.pif_boost.specs.Boosts.{IsRepaired, IsRepairedBut, base_of, local_of}
-use Rattle.pif_boost.specs.Boosts.{releveled as walked}
+use Rattle.pif_boost.specs.Boosts.{IsRepairedBut}
 use Rattle.pif_simulation.proofs.Effective.{kept_at}
 use Rattle.pif_kernel.specs.Plain.{Plain, IsSound, Rise, kernel_of, ticket_of}
 use Rattle.pif_kernel.proofs.Greatest.{reaches_same}
 use Rattle.pif_kernel.proofs.Seats.{IsFitted, fitted, seats_length, status_seen, waits_seen, waits_below, owners_waits, added_seen, waiters_seen, states_seen, kernel_by_parts, seats_of-set_base}
-use Rattle.pif_kernel.proofs.Picked.{levels_seen, level_seen, among_has}
+use Rattle.pif_kernel.proofs.Picked.{levels_seen}
 use Rattle.pif_kernel.proofs.Standing.{effective_some, effective_few}
 use Rattle.pif_kernel.proofs.ChainLaws.{repaired_but}
 use Rattle.pif_kernel.proofs.SettleLaws.{IsListed}
-use Rattle.pif_kernel.proofs.WalkSound.{IsPlaced, owners_effective}
-use Rattle.pif_kernel.proofs.WalkSound as walk
-
--- who is on a level was added
-pub queued_added : (p : Plain) → IsSound p → (u : ℕ) → IsQueued p.queue p.table u → (u ≢ 0) × (u < length p.statuses)
-queued_added p h u on = by_seat (has_seat (kernel_of p) u) refl (sym (h.kernel.level u on.0) ∙ listed)
-  where
-    listed : is_among ((kernel_of p).levels on.0) u ≡ true
-    listed = among_has ((kernel_of p).levels on.0) u ∙ ap (λ (f : ℕ → List ℕ). has u (f on.0)) (levels_seen p) ∙ ap (has u) (level_seen p.queue p.table on.0 on.1) ∙ on.2
-
-    by_seat : (b : Bool) → has_seat (kernel_of p) u ≡ b
-        → (if has_seat (kernel_of p) u then (if is_ready (kernel_seat_at (kernel_of p) u).status then effective_in (kernel_of p) u == on.0 else false) else false) ≡ true → (u ≢ 0) × (u < length p.statuses)
-    by_seat true e x = added_seen p (fitted p h) u e
-    by_seat false e x = absurd (true≢false (sym x ∙ rw e refl))
+use Rattle.pif_kernel.proofs.WalkSound.{IsPlaced, IsWalkable, owners_effective}
 
 module _ (p : Plain) (t prio : ℕ) (h : IsSound p) (nonzero : t ≢ 0) (added : t < length p.statuses) (some : 1 ≤ prio) (few : prio ≤ 99) where
   abbrev row : Seat
@@ -154,24 +135,15 @@ module _ (p : Plain) (t prio : ℕ) (h : IsSound p) (nonzero : t ≢ 0) (added :
   below : (x : ℕ) → owners_wait_for p.owners x < length p.owners.seats
   below x = omega (arith, owners_waits p fit x, waits_below p fit x, seats_length p fit, fit.few)
 
-  -- what the walk requires
-  pub repairs : IsRepairedBut t mid.owners
+  repairs : IsRepairedBut t mid.owners
   repairs =
       repaired_but p.owners mid.owners t long below (λ x u ne nz. ap (λ (n : ℕ). n == u) (waiting_same x)) (λ u ne. sym (ap (λ (s : Seat). s.base) (other u ne)))
       (λ u. owners_effective p fit u ∙ sym (h.local u) ∙ sym (local_same u))
       (λ u r ne e. h.rank u r (sym (rank_same u) ∙ e) ∙ sym (h.local u) ∙ sym (local_same u))
 
-  pub on_levels : (u : ℕ) → IsQueued p.queue p.table u → 1 ≤ base_of mid.owners u
-  on_levels u on = let a = queued_added p h u on in admitted_mid u (cases_eq u t) a.0 a.1
+  settled_mid : settled (kernel_of mid) ≡ set_prio_kernel t prio (Ok (record {})) (kernel_of p)
+  unfolding set_prio_kernel
+  settled_mid = ap settled kernel_mid
 
-  pub base_mid : 1 ≤ base_of mid.owners t
-  base_mid = omega (arith, same t refl, some)
-
-  module _ (now : Owners) (q : Queue) (tb : Table) (repaired : IsRepaired mid.owners now) (walks : (r : ℕ) → IsLevel r → level_of q tb r ≡ walked mid.owners p.queue p.table r)
-      (place : q ≡ record p.queue { mask = q.mask }) (holds : Holds q tb) (lists : length tb.lists ≡ length p.table.lists) where
-    pub kernel_after : kernel_of (record p { owners = now; queue = q; table = tb }) ≡ set_prio_kernel t prio (Ok (record {})) (kernel_of p)
-    unfolding set_prio_kernel
-    kernel_after = walk.kernel_after mid (effective_in (kernel_of p)) placed now q tb repaired walks place holds lists ∙ ap settled kernel_mid
-
-    pub sound_after : IsSound (record p { owners = now; queue = q; table = tb })
-    sound_after = walk.sound_after mid (effective_in (kernel_of p)) placed now q tb repaired walks place holds lists
+  pub walkable : IsWalkable mid t (set_prio_kernel t prio (Ok (record {})) (kernel_of p))
+  walkable = record { at = effective_in (kernel_of p); placed = placed; admitted = omega (arith, same t refl, some); repaired = repairs; after = settled_mid }

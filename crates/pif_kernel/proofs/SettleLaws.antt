@@ -1,14 +1,12 @@
 -- What holds of a kernel once each ready thread stands at the level of its effective priority.
-use Rattle.std.proofs.Common.{◌≡◌, ◌≢◌, ◌⊎◌, ℕ, zero, suc, ◌+◌, ◌-◌, ◌<◌, ◌≤◌, ◌==◌, ◌||◌, Bool, true, false, nat_lt, if◌then◌else◌, List, [], ◌∷◌, ◌++◌, length, refl, sym, ap, ◌∙◌, inl, inr, arith}
+use Rattle.std.proofs.Common.{◌≡◌, ◌≢◌, ◌⊎◌, ℕ, zero, suc, ◌-◌, ◌≤◌, ◌==◌, ◌||◌, Bool, true, false, nat_lt, if◌then◌else◌, List, [], ◌∷◌, ◌++◌, length, refl, sym, ap, ◌∙◌, inl, inr, arith}
 use Rattle.std.specs.List.{filter, list_any}
-use Rattle.std.proofs.lemmas.Bool.{cases_eq, true≢false, false≢true}
+use Rattle.std.proofs.lemmas.Bool.{cases_eq}
 use Rattle.std.proofs.lemmas.Bool.Decides.{nat_tests}
-use Rattle.pif_simulation.proofs.Kept.{from_within}
-use Rattle.pif_simulation.proofs.Projection.{within}
 use Rattle.pif_model.specs.declared.lines.Status.TheVariants.{Queued}
 use Rattle.pif_model.specs.Graph.{has_waiter, reaches_within}
 use Rattle.pif_model.specs.Table.{is_ready}
-use Rattle.pif_model.specs.PiKernel.{Kernel, IsKernel, seat_at, has_seat, waits_for, effective_in, is_among, numbers, moves_to, releveled, settled}
+use Rattle.pif_model.specs.PiKernel.{Kernel, IsKernel, seat_at, has_seat, waits_for, effective_in, is_among, numbers, moves_to, settled}
 
 any_append : {A : Type 0} (f : A → Bool) (xs ys : List A) → list_any f (xs ++ ys) ≡ (list_any f xs || list_any f ys)
 any_append f [] ys = refl

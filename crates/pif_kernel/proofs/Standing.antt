@@ -1,16 +1,16 @@
 -- What follows from the soundness of what is kept: bounds of effective priorities, and who is on which level.
-use Rattle.std.proofs.Common.{◌≡◌, ◌≢◌, ◌⊎◌, ◌↔◌, ℕ, ◌+◌, ◌-◌, ◌<◌, ◌≤◌, ◌==◌, Bool, true, false, if◌then◌else◌, nat_lt, List, length, Option, Some, None, IsSome, IfSome, option_and_then, unwrap_or, refl, sym, ap, ◌∙◌, inl, inr, arith}
+use Rattle.std.proofs.Common.{◌≡◌, ◌≢◌, ◌⊎◌, ◌↔◌, ℕ, ◌+◌, ◌<◌, ◌≤◌, ◌==◌, Bool, true, false, if◌then◌else◌, nat_lt, List, length, Option, Some, None, IsSome, IfSome, option_and_then, unwrap_or, refl, sym, ap, ◌∙◌, inl, inr, arith}
 use Rattle.std.proofs.lemmas.Bool.{cases_eq, cases_lt, true≢false}
 use Rattle.std.proofs.lemmas.Bool.Decides.{nat_tests}
 use Rattle.pif_nodes.specs.Lists.{has}
-use Rattle.pif_nodes.specs.Table.{Table, holder, list_at}
+use Rattle.pif_nodes.specs.Table.{holder, list_at}
 use Rattle.pif_runq.specs.Levels.{Queue, IsQueued, IsLevel, level_of, list_for, node_for}
 use Rattle.pif_runq.proofs.LevelLemmas.{has-threads}
 use Rattle.pif_model.specs.Table.{is_ready}
-use Rattle.pif_model.specs.PiKernel.{Kernel, effective_in, waits_for, is_among, has_seat}
+use Rattle.pif_model.specs.PiKernel.{effective_in, is_among, has_seat}
 use Rattle.pif_model.specs.PiKernel.{seat_at as kernel_seat_at}
 use Rattle.pif_rtmutex.specs.Owners.{Seat, seat_at, owner_at}
-use Rattle.pif_kernel.specs.Plain.{Plain, IsSound, kernel_of, status_at, levels_of}
+use Rattle.pif_kernel.specs.Plain.{Plain, IsSound, kernel_of, status_at}
 use Rattle.pif_kernel.proofs.Greatest.{effective_most, effective_own}
 use Rattle.pif_kernel.proofs.Seats.{fitted, seats_length, status_seen, base_seen, living_seen, added_back, states_seen}
 use Rattle.pif_kernel.proofs.Picked.{levels_seen, level_seen, among_has}

@@ -1,11 +1,11 @@
 -- What holds of a kernel after a thread was stopped.
-use Rattle.std.proofs.Common.{◌≡◌, ◌≢◌, ◌⊎◌, ℕ, ◌<◌, ◌==◌, ◌||◌, Bool, true, false, nat_lt, if◌then◌else◌, List, [], ◌∷◌, length, get_or, set, refl, sym, ap, ◌∙◌, inl, inr, arith, length-set}
-use Rattle.std.specs.List.{filter, list_any}
+use Rattle.std.proofs.Common.{◌≡◌, ◌≢◌, ◌⊎◌, ℕ, ◌<◌, ◌==◌, ◌||◌, Bool, true, false, nat_lt, if◌then◌else◌, List, [], ◌∷◌, length, refl, sym, ap, ◌∙◌, inl, inr, arith, length-set}
+use Rattle.std.specs.List.{filter}
 use Rattle.std.proofs.lemmas.Bool.{cases_eq, true≢false}
 use Rattle.std.proofs.lemmas.List.{get_or-set_same, get_or-set_other}
 use Rattle.std.proofs.lemmas.Bool.Decides.{nat_tests}
 use Rattle.pif_model.specs.declared.lines.Status.{Status}
-use Rattle.pif_model.specs.declared.lines.Status.TheVariants.{Ready, Queued, Stopped}
+use Rattle.pif_model.specs.declared.lines.Status.TheVariants.{Queued, Stopped}
 use Rattle.pif_model.specs.Graph.{reaches_within}
 use Rattle.pif_model.specs.Table.{queued_on, is_ready}
 use Rattle.pif_model.specs.PiKernel.{Kernel, Seat, IsKernel, seat_at, no_seat, has_seat, waits_for, effective_in, is_among, left, stopped_in}

@@ -1,20 +1,17 @@
 -- What is kept stays sound where a thread is stopped.
-use Rattle.std.proofs.Common.{◌≡◌, ◌≢◌, ℕ, ◌+◌, ◌<◌, ◌≤◌, true, List, length, get_or, set, Option, refl, sym, ap, ◌∙◌, arith, length-set}
-use Rattle.pif_nodes.specs.declared.keys.Key.{Key}
+use Rattle.std.proofs.Common.{◌≡◌, ℕ, ◌<◌, true, length, set, refl, sym, ap, ◌∙◌, arith, length-set}
 use Rattle.pif_nodes.specs.Lists.{without}
 use Rattle.pif_nodes.specs.Table.{Table}
 use Rattle.pif_runq.specs.Levels.{Queue, Holds, IsLevel, level_of}
-use Rattle.pif_model.specs.declared.lines.Status.{Status}
 use Rattle.pif_model.specs.declared.lines.Status.TheVariants.{Ready, Stopped}
 use Rattle.pif_model.specs.declared.lines.Woken.TheVariants.{Fresh}
 use Rattle.pif_model.specs.Table.{queued_on, is_ready}
-use Rattle.pif_model.specs.PiKernel.{Kernel, IsKernel, effective_in, stopped_in}
+use Rattle.pif_model.specs.PiKernel.{Kernel, effective_in, stopped_in}
 use Rattle.pif_model.specs.PiKernel.{seat_at as kernel_seat_at}
-use Rattle.pif_rtmutex.specs.Owners.{seat_at, rank_of}
 use Rattle.pif_simulation.proofs.Effective.{kept_at}
 use Rattle.pif_simulation.proofs.Hole.{ready-queued_on_nothing}
 use Rattle.pif_kernel.specs.Plain.{Plain, IsSound, kernel_of, status_at, key_at}
-use Rattle.pif_kernel.proofs.Seats.{IsFitted, fitted, seats_length, status_seen, kernel_by_parts, seats_of-set_status}
+use Rattle.pif_kernel.proofs.Seats.{fitted, seats_length, status_seen, kernel_by_parts, seats_of-set_status}
 use Rattle.pif_kernel.proofs.Picked.{levels_left}
 use Rattle.pif_kernel.proofs.StopLaws.{effective_stopped, kernel_stopped}
 

@@ -1,13 +1,10 @@
 -- Numbering tickets anew keeps the order of the waiters.
-use Rattle.std.proofs.Common.{◌≡◌, ◌≢◌, ◌⊎◌, ℕ, zero, suc, ◌+◌, ◌<◌, ◌≤◌, ◌==◌, ◌&&◌, ◌||◌, Bool, true, false, nat_lt, if◌then◌else◌, List, [], ◌∷◌, length, get_or, set, Option, Some, None, IsSome, option_map, option_and_then, unwrap_or, refl, sym, ap, subst, ◌∙◌, inl, inr, arith, add-one, length-set}
-use Rattle.std.proofs.Math.Path.{fun_ext}
-use Rattle.std.specs.List.{IsDistinct}
-use Rattle.std.proofs.lemmas.Bool.{cases_eq, false≢true, true≢false}
+use Rattle.std.proofs.Common.{◌≡◌, ◌≢◌, ◌⊎◌, ℕ, zero, suc, ◌+◌, ◌<◌, ◌≤◌, ◌==◌, ◌||◌, Bool, true, false, if◌then◌else◌, List, [], ◌∷◌, length, get_or, Option, Some, None, option_map, unwrap_or, refl, sym, ap, subst, ◌∙◌, inl, inr, arith, add-one, length-set}
+use Rattle.std.proofs.lemmas.Bool.{cases_eq, true≢false}
 use Rattle.std.proofs.lemmas.Bool.Decides.{nat_tests}
 use Rattle.std.proofs.lemmas.List.{get_or-set_same, get_or-set_other}
 use Rattle.pif_nodes.specs.declared.keys.Key.{Key}
-use Rattle.pif_plist.specs.Order.{comes_before}
-use Rattle.pif_rtmutex.specs.Owners.{Owners, Seat, Wait, seat_at, owner_at, count, waits_on, rank_of, no_seat, with_ticket, KeepsOrder}
+use Rattle.pif_rtmutex.specs.Owners.{Owners, Seat, Wait, seat_at, no_seat, with_ticket}
 use Rattle.pif_simulation.proofs.Waiting.{names, Once, once_head, once_tail}
 use Rattle.pif_kernel.specs.Plain.{Rise, ticket_of}
 use Rattle.pif_kernel.specs.Tickets.{retagged, retag, IsRetagged}

@@ -1,5 +1,5 @@
 -- What unlock_pi's answer says, and that words and owner states still agree after it.
-use Rattle.std.proofs.Common.{◌≡◌, ◌≢◌, ◌⊎◌, ℕ, ◌+◌, ◌<◌, ◌≤◌, ◌==◌, ◌||◌, Bool, true, false, if◌then◌else◌, List, [], ◌∷◌, ◌++◌, length, get_or, set, Result, Ok, Err, Option, Some, None, option_and_then, unwrap_or, refl, sym, ap, subst, ◌∙◌, inl, inr, arith}
+use Rattle.std.proofs.Common.{◌≡◌, ◌≢◌, ◌⊎◌, ℕ, ◌<◌, ◌==◌, Bool, true, false, if◌then◌else◌, List, length, set, Result, Ok, Err, Option, Some, None, option_and_then, unwrap_or, refl, sym, ap, ◌∙◌, inl, inr, arith}
 use Rattle.std.proofs.lemmas.Bool.{cases_eq}
 use Rattle.std.proofs.lemmas.Bool.Decides.{nat_tests}
 use Rattle.std.proofs.lemmas.List.{get_or-set_same, get_or-set_other}
@@ -11,7 +11,7 @@ use Rattle.pif_model.specs.PiKernel.{Kernel, IsOwned, word_at, has_word, effecti
 use Rattle.pif_rtmutex.specs.Owners.{owner_at}
 use Rattle.pif_simulation.proofs.Projection.{within}
 use Rattle.pif_simulation.proofs.Waiting.{names, named-from_pair, next-is_waiter}
-use Rattle.pif_kernel.specs.Plain.{Plain, IsSound, kernel_of, key_at, state_at}
+use Rattle.pif_kernel.specs.Plain.{Plain, IsSound, kernel_of, key_at}
 use Rattle.pif_kernel.proofs.Seats.{states_seen, waiters_seen}
 use Rattle.pif_kernel.proofs.EnterSound.{has_waiter-key}
 use Rattle.pif_kernel.proofs.RetagSound.{named_known}

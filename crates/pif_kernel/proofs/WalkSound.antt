@@ -1,29 +1,30 @@
 -- What is kept is sound once a walk has repaired it, and stands for the settled kernel.
-use Rattle.std.proofs.Common.{◌≡◌, ◌≢◌, ◌⊎◌, ℕ, zero, suc, ◌+◌, ◌-◌, ◌<◌, ◌≤◌, ◌==◌, Bool, true, false, if◌then◌else◌, List, [], ◌∷◌, length, get_or, Option, Some, None, IsSome, option_map, option_and_then, unwrap_or, refl, sym, ap, subst, ◌∙◌, inl, inr, arith}
+use Rattle.std.proofs.Common.{◌≡◌, ◌≢◌, ◌⊎◌, ℕ, suc, ◌+◌, ◌-◌, ◌<◌, ◌≤◌, ◌==◌, Bool, true, false, if◌then◌else◌, List, [], ◌∷◌, length, get_or, Option, Some, None, IsSome, option_map, option_and_then, unwrap_or, refl, sym, ap, subst, ◌∙◌, inl, inr, arith}
 use Rattle.std.specs.List.{list_any}
 use Rattle.std.proofs.Math.Path.{fun_ext}
 use Rattle.std.proofs.lemmas.Bool.{cases_lt, true≢false}
-use Rattle.std.proofs.lemmas.Bool.Decides.{nat_tests}
 use Rattle.std.proofs.lemmas.List.{get_or_past}
 use Rattle.pif_types.specs.Bounds.{IsWithin}
 use Rattle.pif_nodes.specs.declared.keys.Key.{Key}
+use Rattle.pif_nodes.specs.Lists.{has}
 use Rattle.pif_nodes.specs.Table.{Table}
-use Rattle.pif_runq.specs.Levels.{Queue, Holds, IsLevel, level_of}
+use Rattle.pif_runq.specs.Levels.{Queue, Holds, IsLevel, IsQueued, level_of}
 use Rattle.pif_model.specs.declared.lines.Status.{Status}
 use Rattle.pif_model.specs.declared.lines.Status.TheVariants.{Queued}
 use Rattle.pif_model.specs.Graph.{reaches_within, has_waiter, Reaches}
 use Rattle.pif_model.specs.Graph.Reaches.{here, hop}
 use Rattle.pif_model.specs.Table.{queued_on, is_ready}
-use Rattle.pif_model.specs.PiKernel.{Kernel, IsKernel, effective_in, has_seat, is_among, settled, waits_for}
-use Rattle.pif_model.specs.PiKernel.{Seat as KernelSeat, seat_at as kernel_seat_at}
+use Rattle.pif_model.specs.PiKernel.{Kernel, effective_in, has_seat, is_among, settled, waits_for}
+use Rattle.pif_model.specs.PiKernel.{seat_at as kernel_seat_at}
 use Rattle.pif_rtmutex.specs.Owners.{Owners, Seat, Wait, seat_at, owner_at, count, waits_on, rank_of, no_seat}
-use Rattle.pif_boost.specs.Boosts.{IsRepaired, greatest_base, boosted, ranked, base_of}
+use Rattle.pif_boost.specs.Boosts.{IsRepaired, IsRepairedBut, base_of, greatest_base, boosted, ranked}
 use Rattle.pif_boost.specs.Boosts.{releveled as walked}
 use Rattle.pif_simulation.proofs.Following.{Follows, reaches-from_within}
 use Rattle.pif_simulation.proofs.Projection.{within}
-use Rattle.pif_kernel.specs.Plain.{Plain, IsSound, Rise, kernel_of, seat_of, seats_of, status_at, key_at, state_at, ticket_of, mutexes_of, levels_of}
+use Rattle.pif_kernel.specs.Plain.{Plain, IsSound, Rise, kernel_of, seats_of, status_at, key_at, state_at, ticket_of, mutexes_of, levels_of}
 use Rattle.pif_kernel.proofs.Greatest.{effective_most, effective_own, effective_wider, effective_same}
 use Rattle.pif_kernel.proofs.Seats.{IsFitted, seats_length, base_seen, owners_waits, waits_below, kernel_by_parts, added_seen}
+use Rattle.pif_kernel.proofs.Picked.{levels_seen, level_seen, among_has}
 use Rattle.pif_kernel.proofs.AddLaws.{reach_below}
 use Rattle.pif_kernel.proofs.SettleLaws.{IsListed, settled_kernel}
 use Rattle.pif_kernel.proofs.LevelLaws.{levels_settled}
@@ -214,3 +215,31 @@ module _ (p : Plain) (at : ℕ → ℕ) (h : IsPlaced p at) (now : Owners) (q : 
     rank = λ t r e. rank_now t r e ∙ sym (ap (λ (k : Kernel). effective_in k t) kernel_after);
     kernel = rw kernel_after (settled_kernel (kernel_of p) at h.listed (omega (arith, h.some, seats_length p fit)) h.arrived h.queued h.states h.acyclic);
   }
+
+-- what is kept before a walk from this thread, where the kernel by itself settles to this one
+pub record IsWalkable (p : Plain) (start : ℕ) (k : Kernel) : Type 0 where
+  pub at : ℕ → ℕ
+  pub placed : IsPlaced p at
+  pub admitted : 1 ≤ base_of p.owners start
+  pub repaired : IsRepairedBut start p.owners
+  pub after : settled (kernel_of p) ≡ k
+
+module _ (p : Plain) (start : ℕ) (k : Kernel) (w : IsWalkable p start k) where
+  -- who is on a level was added
+  pub on_levels : (u : ℕ) → IsQueued p.queue p.table u → 1 ≤ base_of p.owners u
+  on_levels u on = let a = added_seen p (placed_fits p w.at w.placed) u (by_seat (has_seat (kernel_of p) u) refl (sym (w.placed.listed.on u on.0) ∙ listed)) in w.placed.admitted u a.0 a.1
+    where
+      listed : is_among ((kernel_of p).levels on.0) u ≡ true
+      listed = among_has ((kernel_of p).levels on.0) u ∙ ap (λ (f : ℕ → List ℕ). has u (f on.0)) (levels_seen p) ∙ ap (has u) (level_seen p.queue p.table on.0 on.1) ∙ on.2
+
+      by_seat : (b : Bool) → has_seat (kernel_of p) u ≡ b
+          → (if has_seat (kernel_of p) u then (if is_ready (kernel_seat_at (kernel_of p) u).status then w.at u == on.0 else false) else false) ≡ true → has_seat (kernel_of p) u ≡ true
+      by_seat true e x = e
+      by_seat false e x = absurd (true≢false (sym x ∙ rw e refl))
+
+  -- what is kept after the walk
+  pub ended : (now : Owners) (q : Queue) (tb : Table) → IsRepaired p.owners now → ((r : ℕ) → IsLevel r → level_of q tb r ≡ walked p.owners p.queue p.table r)
+      → q ≡ record p.queue { mask = q.mask } → Holds q tb → length tb.lists ≡ length p.table.lists
+      → (kernel_of (record p { owners = now; queue = q; table = tb }) ≡ k) × IsSound (record p { owners = now; queue = q; table = tb })
+  ended now q tb repaired walks place holds lists =
+      (kernel_after p w.at w.placed now q tb repaired walks place holds lists ∙ w.after, sound_after p w.at w.placed now q tb repaired walks place holds lists)

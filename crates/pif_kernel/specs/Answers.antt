@@ -1,5 +1,5 @@
 -- How answers and words of the code read as those of the kernel by itself.
-use Rattle.std.specs.Prelude.{ℕ, ◌==◌, Bool, true, false, if◌then◌else◌, List, length, map, Result, Ok, Err}
+use Rattle.std.specs.Prelude.{ℕ, ◌==◌, true, if◌then◌else◌, List, length, map, Result, Ok, Err}
 use Rattle.pif_types.specs.declared.errors.Errno.{Errno}
 use Rattle.pif_types.specs.declared.errors.Errno.TheVariants.{NoSuchThread, Invalid, Deadlock}
 use Rattle.pif_model.specs.declared.lines.Took.{Took}

@@ -4,3 +4,4 @@ pub mod Plain
 pub mod Codes
 pub mod Fields
 pub mod Tickets
+pub mod Agreement

@@ -1,6 +1,6 @@
 ghost use Rattle.std.specs.Prelude.{◌≡◌, ◌≤◌, ◌+◌, ◌==◌, true, length, if◌then◌else◌, Some, None};
 ghost use Rattle.pif_model.specs.Table.{is_ready};
-ghost use Rattle.pif_model.specs.PiKernel.{Kernel, IsKernel, IsOwned, seat_at, has_seat, seated, effective_in, pick_in, lock_answer, lock_words, lock_kernel, unlock_answer, unlock_words, unlock_kernel, set_prio_answer, set_prio_kernel, stopped_in};
+ghost use Rattle.pif_model.specs.PiKernel.{Kernel, IsKernel, IsOwned, seat_at, has_seat, seated, effective_in, pick_in, lock_answer, lock_words, lock_kernel, try_lock_answer, try_lock_words, unlock_answer, unlock_words, unlock_kernel, set_prio_answer, set_prio_kernel, stopped_in};
 ghost use Rattle.pif_kernel.specs.Answers.{closed, words_of};
 
 use pif_model::{Status, Took};
@@ -48,6 +48,18 @@ pub trait PiKernel {
         ensures after { meaning self.new ≡ lock_kernel t m result (words_of words.old) (meaning self.old) }
         ensures owned { IsOwned (words_of words.new) (meaning self.new) }
         ensures kept { IsKernel (meaning self.new) };
+
+    /// The kernel call trylock_pi, FUTEX_TRYLOCK_PI of futex(2), by the ready thread `t`. It takes a mutex that has no
+    /// owner, and never waits for one. EFAULT where the mutex has no word, EDEADLK where `t` owns it, EAGAIN where the
+    /// word has another number, and EINVAL where word and owner state disagree. A refused call changes nothing.
+    fn trylock_pi(&self, words: &mut Words, t: Tid, m: MutexId) -> Result<(), Errno>
+        requires added { has_seat (meaning self.now) t ≡ true }
+        requires ready { is_ready (seat_at (meaning self.now) t).status ≡ true }
+        requires words { length words.old.mutexes ≤ (meaning self.now).limits.mutexes + 1 }
+        requires owned { IsOwned (words_of words.old) (meaning self.now) }
+        ensures answer { closed result ≡ try_lock_answer t m (words_of words.old) (meaning self.now) }
+        ensures words { words_of words.new ≡ try_lock_words t m (closed result) (words_of words.old) }
+        ensures owned { IsOwned (words_of words.new) (meaning self.now) };
 
     /// The kernel call unlock_pi, FUTEX_UNLOCK_PI of futex(2), by the ready thread `t`. It frees a mutex on which nobody is
     /// queued, or hands it to the next waiter: of those of greatest effective priority the first in arrival. EFAULT where

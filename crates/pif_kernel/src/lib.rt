@@ -5,7 +5,6 @@
 mod kernel;
 mod parts;
 mod plain;
-mod room;
 
 pub use kernel::PiKernel;
 pub use plain::PlainKernel;

@@ -4,19 +4,18 @@ ghost use Rattle.pif_runq.specs.Levels.{Holds};
 ghost use Rattle.pif_rtmutex.specs.Owners.{count};
 ghost use Rattle.pif_model.specs.Graph.{reaches_within};
 ghost use Rattle.pif_model.specs.Table.{is_ready};
-ghost use Rattle.pif_model.specs.PiKernel.{seated, effective_in, pick_in, lock_answer, queued_in, unlock_answer, set_prio_answer, set_prio_kernel, stopped_in, handed_in, next_in, waits_for};
+ghost use Rattle.pif_model.specs.PiKernel.{seated, effective_in, pick_in, lock_answer, queued_in, try_lock_answer, unlock_answer, set_prio_answer, set_prio_kernel, stopped_in, handed_in, next_in, waits_for};
 ghost use Rattle.pif_model.specs.PiKernel.{seat_at as kernel_seat_at};
 ghost use Rattle.pif_kernel.specs.Tickets.{IsRetagged, IsRetaggable};
 ghost use Rattle.pif_kernel.specs.Answers.{closed, words_of, answered, wait_answer};
 ghost use Rattle.pif_kernel.specs.Plain.{IsSound, kernel_of, new_plain, status_at, key_at, state_at, Rise, ticket_of, IsOpened};
 
-use crate::room::{push_within, with_room};
 use pif_boost::{walk, would_close};
 use pif_model::{Status, Took, Woken};
 use pif_nodes::NodeTable;
 use pif_rtmutex::{Key, RtMutexes};
 use pif_runq::RunQueue;
-use pif_types::{Errno, Limits, MutexId, NoMemory, Prio, Tid};
+use pif_types::{Errno, Limits, MutexId, NoMemory, Prio, Tid, push_within, with_room};
 use pif_word::{Cell, Words, hand_word, mark_word, number, taken_word};
 use std::alloc::Global;
 use std::marker::Model;
@@ -172,6 +171,29 @@ impl Parts {
         }
     }
 
+    /// What trylock_pi answers: EFAULT, EDEADLK, EAGAIN or EINVAL, or 0.
+    pub(crate) fn try_lock_answer(&self, words: &Words, t: Tid, m: MutexId) -> Result<(), Errno>
+        requires sound { IsSound self.now }
+        requires words { length words.now.mutexes ≤ length self.now.keys }
+        ensures { closed result ≡ try_lock_answer t m (words_of words.now) (kernel_of self.now) }
+    {
+        if !words.has(Cell::Mutex(m)) {
+            return Err(Errno::Fault);
+        }
+        let word = number(words.load(Cell::Mutex(m)));
+        if word == t.get() {
+            return Err(Errno::Deadlock);
+        }
+        if word != 0 {
+            return Err(Errno::Again);
+        }
+        if self.state(m) == 0 {
+            Ok(())
+        } else {
+            Err(Errno::Invalid)
+        }
+    }
+
     /// What unlock_pi answers: EFAULT, EPERM or EINVAL, or 0.
     pub(crate) fn unlock_answer(&self, words: &Words, t: Tid, m: MutexId) -> Result<(), Errno>
         requires sound { IsSound self.now }
@@ -270,6 +292,7 @@ impl Parts {
     fn take_ticket(&mut self) -> u64
         requires sound { IsSound self.old }
         ensures frame { self.new ≡ record self.old { owners = self.new.owners; next = self.new.next } }
+        ensures taken { self.old.next < 18446744073709551615 → result ≡ self.old.next }
         ensures next { self.new.next ≡ result + 1 }
         ensures rises { Rise (ticket_of self.new.owners) 1 self.new.arrivals result }
         ensures same { kernel_of self.new ≡ kernel_of self.old }
@@ -295,13 +318,13 @@ impl Parts {
         self.next = ticket;
     }
 
-    /// Hands the mutex, which has the owner state `key`, from `t` to its next waiter. That one is ready and joins its
-    /// level, what the other waiters boost is that one, and then `t` loses their boost. Answers who is next.
-    pub(crate) fn hand(&mut self, t: Tid, m: MutexId, key: Key) -> Tid
+    /// Hands the mutex, which has the owner state `key`, from `holder` to its next waiter. That one is ready and joins its
+    /// level, what the other waiters boost is that one, and then `holder` loses their boost. Answers who is next.
+    pub(crate) fn hand(&mut self, holder: Tid, m: MutexId, key: Key) -> Tid
         requires sound { IsSound self.old }
         requires key { key_at self.old m ≡ Some key }
-        requires owner { state_at self.old m ≡ t }
-        requires ready { is_ready (status_at self.old t) ≡ true }
+        requires owner { state_at self.old m ≡ holder }
+        requires ready { is_ready (status_at self.old holder) ≡ true }
         ensures next { result ≡ next_in (kernel_of self.old) m }
         ensures after { kernel_of self.new ≡ handed_in result m (kernel_of self.old) }
         ensures sound { IsSound self.new }
@@ -315,7 +338,7 @@ impl Parts {
         self.statuses[next.get() as usize] = Status::Ready(Woken::Owns);
         let level = Prio::new(self.owners.local(next)).unwrap();
         self.queue.add(&mut self.table, next, level);
-        walk(&mut self.owners, &mut self.queue, &mut self.table, t);
+        walk(&mut self.owners, &mut self.queue, &mut self.table, holder);
         next
     }
 

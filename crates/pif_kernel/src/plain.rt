@@ -79,6 +79,14 @@ impl PiKernel for PlainKernel {
         Ok(took)
     }
 
+    #[tactic(auto, unfolding(pif_model::specs::PiKernel::try_lock_words))]
+    fn trylock_pi(&self, words: &mut Words, t: Tid, m: MutexId) -> Result<(), Errno> {
+        self.parts.try_lock_answer(words, t, m)?;
+        let word = words.load(Cell::Mutex(m));
+        words.store(Cell::Mutex(m), taken_word(word, t.get()));
+        Ok(())
+    }
+
     #[tactic(auto, unfolding(pif_model::specs::PiKernel::unlock_kernel, pif_model::specs::PiKernel::unlock_words))]
     fn unlock_pi(&mut self, words: &mut Words, t: Tid, m: MutexId) -> Result<(), Errno> {
         self.parts.unlock_answer(words, t, m)?;

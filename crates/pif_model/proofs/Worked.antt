@@ -1,7 +1,7 @@
 -- Worked examples, computed on the definitions themselves.
-use Rattle.std.proofs.Common.{◌≡◌, ℕ, false, List, [], ◌∷◌, ◌++◌, refl}
-use Rattle.pif_types.specs.declared.requests.Kind.TheVariants.{Normal, ErrorCheck}
-use Rattle.pif_types.specs.declared.requests.Request.TheVariants.{Lock, Unlock, SetPrio}
+use Rattle.std.proofs.Common.{◌≡◌, ℕ, zero, suc, false, List, [], ◌∷◌, ◌++◌, refl}
+use Rattle.pif_types.specs.declared.requests.Kind.TheVariants.{Normal, ErrorCheck, Recursive}
+use Rattle.pif_types.specs.declared.requests.Request.TheVariants.{Lock, TryLock, Unlock, SetPrio}
 use Rattle.pif_types.specs.declared.errors.Refusal.TheVariants.{Busy, Idle, NoSuch}
 use Rattle.pif_model.specs.declared.events.Event.{Event}
 use Rattle.pif_model.specs.declared.events.Event.TheVariants.{Begin, Go}
@@ -9,13 +9,15 @@ use Rattle.pif_model.specs.declared.events.Seen.{Seen}
 use Rattle.pif_model.specs.declared.events.Seen.TheVariants.{Begun, Went, Waits, Answered, Refused}
 use Rattle.pif_model.specs.Graph.{reaches_within, greatest_where, effective_among, first_greatest, waited_by, next_waiter}
 use Rattle.pif_model.specs.Word.{bits_of, word_of}
-use Rattle.pif_model.specs.Table.{Table, new_table, thread_added, mutex_added, releveled, cell_at, kernel_effective, kernel_pick}
-use Rattle.pif_model.specs.Kernel.{queued_on_mutex, lock_pi_answer, lock_pi_after, handed_to, unlock_pi_answer, unlock_pi_after, set_prio_answer, set_prio_after, stopped}
-use Rattle.pif_model.specs.Lines.{lock_load, lock_exchange, lock_by, lock_kernel, lock_queued, lock_stop, unlock_load, unlock_exchange, answered_by, unlock_kernel, set_priority, line_of, gone, accepted, stepped}
+use Rattle.pif_model.specs.Table.{Table, new_table, mutex_added, cell_at, kernel_effective}
+use Rattle.pif_model.specs.PiKernel.{numbers, first_from, lock_answer, lock_words, try_lock_answer, try_lock_words, queued_in, unlock_answer, unlock_words, handed_in, set_prio_kernel, stopped_in}
+use Rattle.pif_model.specs.PiKernel.{lock_kernel as kernel_locked, unlock_kernel as kernel_unlocked, set_prio_answer as kernel_set_prio_answer}
+use Rattle.pif_model.specs.Kernel.{at_level, in_levels, rows_by, cells_by, kernel_pick, thread_added, lock_pi_answer, lock_pi_after, try_lock_pi_answer, try_lock_pi_after, unlock_pi_answer, unlock_pi_after, set_prio_answer, set_prio_after, stopped}
+use Rattle.pif_model.specs.Lines.{locked_again, own_exchange, lock_load, lock_by, lock_kernel, lock_queued, lock_stop, try_load, unlock_load, unlock_exchange, answered_by, try_kernel, unlock_kernel, set_priority, line_of, gone, accepted, stepped}
 
 -- opens every definition of the table machine
 machine : ℕ
-unfolding reaches_within greatest_where effective_among first_greatest waited_by next_waiter bits_of word_of releveled queued_on_mutex lock_pi_answer lock_pi_after handed_to unlock_pi_answer unlock_pi_after set_prio_answer set_prio_after stopped lock_load lock_exchange lock_by lock_kernel lock_queued lock_stop unlock_load unlock_exchange answered_by unlock_kernel set_priority line_of gone accepted stepped
+unfolding reaches_within greatest_where effective_among first_greatest waited_by next_waiter bits_of word_of numbers first_from lock_answer lock_words try_lock_answer try_lock_words queued_in kernel_locked unlock_answer unlock_words handed_in kernel_unlocked kernel_set_prio_answer set_prio_kernel stopped_in at_level in_levels rows_by cells_by thread_added lock_pi_answer lock_pi_after try_lock_pi_answer try_lock_pi_after unlock_pi_answer unlock_pi_after set_prio_answer set_prio_after stopped locked_again own_exchange lock_load lock_by lock_kernel lock_queued lock_stop try_load unlock_load unlock_exchange answered_by try_kernel unlock_kernel set_priority line_of gone accepted stepped
 machine = 0
 
 -- a core for examples
@@ -141,6 +143,53 @@ kinds_seen : seen (locks 1 1 ++ locks 1 2 ++ Begin 1 (Lock 2) ∷ Go 1 ∷ Begin
     ≡ Begun ∷ Went ∷ Answered 0 ∷ Begun ∷ Went ∷ Answered 0 ∷ Begun ∷ Answered 35 ∷ Begun ∷ Answered 1 ∷ Begun ∷ Went ∷ Waits ∷ Waits ∷ []
 unfolding machine small kinds locks seen after
 kinds_seen = refl
+
+-- a RECURSIVE mutex: its owner locks it 255 times and then is answered EAGAIN, by lock and by trylock. The 255th
+-- unlock gives it up
+recursive : Table
+unfolding machine small
+recursive = mutex_added Recursive false (thread_added 10 small)
+
+-- some events, this often
+times : ℕ → List Event → List Event
+times zero es = []
+times (suc n) es = es ++ times n es
+
+-- the owner of m1 locks it again, tries to, and unlocks it while it holds it more than once
+lock_again : List Event
+lock_again = Begin 1 (Lock 1) ∷ Go 1 ∷ []
+
+try_again : List Event
+try_again = Begin 1 (TryLock 1) ∷ Go 1 ∷ []
+
+unlock_one : List Event
+unlock_one = Begin 1 (Unlock 1) ∷ Go 1 ∷ []
+
+held_255_times : Table
+unfolding machine small recursive locks times lock_again try_again after
+held_255_times = after (locks 1 1 ++ times 100 lock_again ++ times 154 try_again) recursive
+
+limit_seen : seen (lock_again ++ try_again ++ unlock_one ++ try_again ++ lock_again) held_255_times
+    ≡ Begun ∷ Answered 11 ∷ Begun ∷ Answered 11 ∷ Begun ∷ Answered 0 ∷ Begun ∷ Answered 0 ∷ Begun ∷ Answered 11 ∷ []
+unfolding machine held_255_times lock_again try_again unlock_one seen
+limit_seen = refl
+
+unlocked_254_times : bits_of (cell_at (after (times 254 unlock_one) held_255_times) 1).word ≡ 0x00000001
+unfolding machine held_255_times times unlock_one after
+unlocked_254_times = refl
+
+unlocked_255_times : bits_of (cell_at (after (times 254 unlock_one ++ unlock_one ++ Go 1 ∷ []) held_255_times) 1).word ≡ 0x00000000
+unfolding machine held_255_times times unlock_one after
+unlocked_255_times = refl
+
+-- trylock: the owner of another kind is answered EBUSY, and so is another thread, after two steps that fail
+tries : ℕ → ℕ → List Event
+tries t m = Begin t (TryLock m) ∷ Go t ∷ Go t ∷ []
+
+tried_seen : seen (tries 1 1 ++ Begin 1 (TryLock 1) ∷ Go 1 ∷ tries 2 1 ++ Go 2 ∷ tries 2 2) kinds
+    ≡ Begun ∷ Went ∷ Answered 0 ∷ Begun ∷ Answered 16 ∷ Begun ∷ Went ∷ Went ∷ Answered 16 ∷ Begun ∷ Went ∷ Answered 0 ∷ []
+unfolding machine small kinds tries seen after
+tried_seen = refl
 
 -- refusals: idle, a mutex that doesn't exist, a thread that was never added, busy
 refused_seen : seen (Go 1 ∷ Begin 1 (Lock 9) ∷ Go 7 ∷ Begin 1 (Lock 1) ∷ Begin 1 (Lock 9) ∷ []) two

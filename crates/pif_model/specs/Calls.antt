@@ -5,7 +5,8 @@ use Rattle.pif_types.specs.declared.errors.AddFault.TheVariants.{TooMany, BadPri
 use Rattle.pif_types.specs.declared.requests.Kind.{Kind}
 use Rattle.pif_model.specs.Word.{bits_of}
 use Rattle.pif_model.specs.Posix.{is_priority}
-use Rattle.pif_model.specs.Table.{Table, cell_at, has_thread, has_mutex, has_thread_room, has_mutex_room, thread_added, mutex_added, kernel_effective, kernel_pick}
+use Rattle.pif_model.specs.Table.{Table, cell_at, has_thread, has_mutex, has_thread_room, has_mutex_room, mutex_added, kernel_effective}
+use Rattle.pif_model.specs.Kernel.{thread_added, kernel_pick}
 
 -- adding a thread of priority p: BadPrio, then TooMany, else its number
 abbrev pub add_thread_answer : ℕ → Table → Result ℕ AddFault

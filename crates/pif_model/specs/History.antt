@@ -1,7 +1,7 @@
 -- Who holds a mutex by the answers alone. It reads a history, newest entry first, and no machine.
 use Rattle.std.specs.Prelude.{ℕ, ◌≡◌, ◌+◌, ◌-◌, Bool, true, ◌==◌, nat_lt, List, [], ◌∷◌, Option, Some, None, if◌then◌else◌}
 use Rattle.pif_types.specs.declared.requests.Request.{Request}
-use Rattle.pif_types.specs.declared.requests.Request.TheVariants.{Lock, Unlock, SetPrio}
+use Rattle.pif_types.specs.declared.requests.Request.TheVariants.{Lock, TryLock, Unlock, SetPrio}
 use Rattle.pif_model.specs.declared.events.Event.TheVariants.{Begin, Go}
 use Rattle.pif_model.specs.declared.events.Seen.TheVariants.{Begun, Answered}
 use Rattle.pif_model.specs.declared.events.Entry.{Entry}
@@ -18,12 +18,15 @@ abbrev pub open_call : ℕ → List Entry → Option Request
 open_call t [] = None
 open_call t (e ∷ h) = open_after t e (open_call t h)
 
--- the level after an answer to this request: lock adds 1 where it is answered 0 or EOWNERDEAD, unlock takes 1 away
--- where it is answered 0
+-- the level after an answer to a lock or a trylock: 0 and EOWNERDEAD add 1
+abbrev pub level_locked : ℕ → ℕ → ℕ
+level_locked a level = if a == 0 then level + 1 else (if a == 130 then level + 1 else level)
+
+-- the level after an answer to this request: lock and trylock may add 1, unlock takes 1 away where it is answered 0
 abbrev pub level_after_answer : ℕ → Option Request → ℕ → ℕ → ℕ
 level_after_answer m None a level = level
-level_after_answer m (Some (Lock n)) a level =
-    if n == m then (if a == 0 then level + 1 else (if a == 130 then level + 1 else level)) else level
+level_after_answer m (Some (Lock n)) a level = if n == m then level_locked a level else level
+level_after_answer m (Some (TryLock n)) a level = if n == m then level_locked a level else level
 level_after_answer m (Some (Unlock n)) a level = if n == m then (if a == 0 then level - 1 else level) else level
 level_after_answer m (Some (SetPrio u p)) a level = level
 
@@ -41,6 +44,7 @@ level t m (e ∷ h) = level_after t m (open_call t h) e (level t m h)
 abbrev pub unlocking : ℕ → Option Request → ℕ
 unlocking m None = 0
 unlocking m (Some (Lock n)) = 0
+unlocking m (Some (TryLock n)) = 0
 unlocking m (Some (Unlock n)) = if n == m then 1 else 0
 unlocking m (Some (SetPrio u p)) = 0
 

@@ -1,21 +1,20 @@
 -- The kernel by itself: what it knows of threads and owner states, its queue and its run queue, and its calls, total on
 -- any words. A refused call changes nothing; refusals are tested in the order in which they stand. (futex(2),
--- FUTEX_LOCK_PI and FUTEX_UNLOCK_PI; PI-futex and RT-mutex design; sched(7) for the run queue.)
+-- FUTEX_LOCK_PI, FUTEX_TRYLOCK_PI and FUTEX_UNLOCK_PI; PI-futex and RT-mutex design; sched(7) for the run queue.)
 -- Threads and mutexes are numbered from 1; place 0 of each list stands for nobody.
 use Rattle.std.specs.Prelude.{ℕ, zero, suc, ◌≡◌, ◌≢◌, ◌+◌, ◌-◌, Bool, true, false, ◌==◌, nat_lt, List, [], ◌∷◌, ◌++◌, length, get_or, set, Option, Some, None, Result, Ok, Err, if◌then◌else◌}
 use Rattle.std.specs.List.{filter, list_any}
 use Rattle.pif_types.specs.Bounds.{Bounds}
 use Rattle.pif_types.specs.declared.errors.Errno.{Errno}
-use Rattle.pif_types.specs.declared.errors.Errno.TheVariants.{NotPermitted, NoSuchThread, Fault, Invalid, Deadlock}
+use Rattle.pif_types.specs.declared.errors.Errno.TheVariants.{NotPermitted, NoSuchThread, Again, Fault, Invalid, Deadlock}
 use Rattle.pif_model.specs.declared.lines.Status.{Status}
 use Rattle.pif_model.specs.declared.lines.Status.TheVariants.{Ready, Queued, Stopped}
 use Rattle.pif_model.specs.declared.lines.Woken.TheVariants.{Fresh as WokenFresh, Owns as WokenOwns}
 use Rattle.pif_model.specs.declared.lines.Took.{Took}
 use Rattle.pif_model.specs.declared.lines.Took.TheVariants.{Owns as TookOwns, Queued as TookQueued}
 use Rattle.pif_model.specs.Graph.{reaches_within, effective_among, next_waiter, has_waiter, without}
-use Rattle.pif_model.specs.Word.{Word, free_word}
+use Rattle.pif_model.specs.Word.{Word, free_word, taken_word}
 use Rattle.pif_model.specs.Table.{queued_on, is_ready}
-use Rattle.pif_model.specs.Kernel.{taken_word}
 
 -- a thread, as the kernel knows it
 pub record Seat : Type 0 where
@@ -172,6 +171,20 @@ unfoldable pub lock_kernel : ℕ → ℕ → Result Took Errno → List Word →
 lock_kernel t m (Ok TookOwns) ws k = k
 lock_kernel t m (Ok TookQueued) ws k = queued_in t m (word_at ws m).number k
 lock_kernel t m (Err e) ws k = k
+
+-- what trylock_pi answers to t on m
+unfoldable pub try_lock_answer : ℕ → ℕ → List Word → Kernel → Result (record {}) Errno
+try_lock_answer t m ws k =
+    let n = (word_at ws m).number in
+    if has_word ws m then
+    (if n == t then Err Deadlock else
+    (if n == 0 then (if k.states m == 0 then Ok (record {}) else Err Invalid) else Err Again))
+    else Err Fault
+
+-- the words after trylock_pi, by its answer: the number, and what there was of OWNER_DIED
+unfoldable pub try_lock_words : ℕ → ℕ → Result (record {}) Errno → List Word → List Word
+try_lock_words t m (Ok x) ws = set ws m (taken_word t (word_at ws m))
+try_lock_words t m (Err e) ws = ws
 
 -- what unlock_pi answers to t on m
 unfoldable pub unlock_answer : ℕ → ℕ → List Word → Kernel → Result (record {}) Errno

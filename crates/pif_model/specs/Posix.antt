@@ -1,16 +1,16 @@
--- The POSIX machine of mutexes: what pthread_mutex_lock, pthread_mutex_unlock and pthread_setschedprio do, by
--- POSIX.1-2017 (the pages pthread_mutex_lock, pthread_mutexattr_settype, pthread_mutexattr_setprotocol,
--- pthread_mutexattr_setrobust and pthread_setschedprio).
+-- The POSIX machine of mutexes: what pthread_mutex_lock, pthread_mutex_trylock, pthread_mutex_unlock and
+-- pthread_setschedprio do, by POSIX.1-2017 (the pages pthread_mutex_lock, pthread_mutex_trylock,
+-- pthread_mutexattr_settype, pthread_mutexattr_setprotocol, pthread_mutexattr_setrobust and pthread_setschedprio).
 -- It knows no words, no kernel and no chain walks. A call has effects, each of which happens at one moment between
 -- its beginning and its answer. Threads and mutexes are numbered from 1; place 0 of each list stands for nobody.
-use Rattle.std.specs.Prelude.{ℕ, ◌≡◌, ◌≢◌, ◌≤◌, Bool, true, false, ◌==◌, nat_lt, List, [], ◌∷◌, ◌++◌, length, get_or, set, Option, Some, None, is_some, if◌then◌else◌}
+use Rattle.std.specs.Prelude.{ℕ, ◌≡◌, ◌≢◌, ◌≤◌, ◌<◌, ◌+◌, ◌-◌, Bool, true, false, ◌==◌, nat_lt, List, [], ◌∷◌, ◌++◌, length, get_or, set, Option, Some, None, is_some, if◌then◌else◌}
 use Rattle.std.specs.List.{list_any}
 use Rattle.pif_types.specs.Bounds.{Bounds}
 use Rattle.pif_types.specs.declared.errors.Refusal.{Refusal}
 use Rattle.pif_types.specs.declared.requests.Kind.{Kind}
-use Rattle.pif_types.specs.declared.requests.Kind.TheVariants.{Normal, ErrorCheck}
+use Rattle.pif_types.specs.declared.requests.Kind.TheVariants.{Normal, ErrorCheck, Recursive}
 use Rattle.pif_types.specs.declared.requests.Request.{Request}
-use Rattle.pif_types.specs.declared.requests.Request.TheVariants.{Lock, Unlock, SetPrio}
+use Rattle.pif_types.specs.declared.requests.Request.TheVariants.{Lock, TryLock, Unlock, SetPrio}
 use Rattle.pif_model.specs.declared.events.Event.{Event}
 use Rattle.pif_model.specs.declared.events.Event.TheVariants.{Begin, Go}
 use Rattle.pif_model.specs.declared.events.Seen.TheVariants.{Begun, Went, Waits, Answered, Refused}
@@ -164,12 +164,25 @@ abbrev pub taken : ℕ → ℕ → World → World
 taken t m w =
     with_progress t (on_taking (mutex_at w m).health) (with_mutex m (record (mutex_at w m) { owner = t; count = 1 }) w)
 
+-- m is held this often by its owner
+abbrev pub counted : ℕ → ℕ → World → World
+counted m n w = with_mutex m (record (mutex_at w m) { count = n }) w
+
+-- the owner t of a RECURSIVE mutex m locks it again, by lock or trylock
+pub data LocksAgain (t m : ℕ) (w v : World) : Type 0 where
+  -- it holds m once more
+  rises : (mutex_at w m).count < 255 → v ≡ with_progress t (Has 0) (counted m ((mutex_at w m).count + 1) w) → LocksAgain t m w v
+  -- it holds m as often as it may: EAGAIN
+  at_limit : (mutex_at w m).count ≡ 255 → v ≡ with_progress t (Has 11) w → LocksAgain t m w v
+
 -- pthread_mutex_lock by t on m, where no effect has happened yet
 pub data Locks (t m : ℕ) (w v : World) : Type 0 where
   -- the owner locks a NORMAL mutex again: it waits for good
   own_normal : (mutex_at w m).owner ≡ t → (mutex_at w m).kind ≡ Normal → v ≡ with_progress t Stuck w → Locks t m w v
   -- the owner locks an ERRORCHECK mutex again: EDEADLK
   own_errorcheck : (mutex_at w m).owner ≡ t → (mutex_at w m).kind ≡ ErrorCheck → v ≡ with_progress t (Has 35) w → Locks t m w v
+  -- the owner locks a RECURSIVE mutex again
+  own_recursive : (mutex_at w m).owner ≡ t → (mutex_at w m).kind ≡ Recursive → LocksAgain t m w v → Locks t m w v
   -- nobody owns it: t takes it
   free : (mutex_at w m).owner ≢ t → (mutex_at w m).owner ≡ 0 → v ≡ taken t m w → Locks t m w v
   -- it is lost: t waits for good
@@ -182,6 +195,15 @@ pub data Locks (t m : ℕ) (w v : World) : Type 0 where
       → leads_to w (mutex_at w m).owner t ≡ false
       → v ≡ record (with_progress t Waiting w) { waiters = w.waiters ++ (t, m) ∷ [] } → Locks t m w v
 
+-- pthread_mutex_trylock by t on m, where no effect has happened yet
+pub data TriesToLock (t m : ℕ) (w v : World) : Type 0 where
+  -- the owner locks a RECURSIVE mutex again
+  own_recursive : (mutex_at w m).owner ≡ t → (mutex_at w m).kind ≡ Recursive → LocksAgain t m w v → TriesToLock t m w v
+  -- it is owned otherwise, or lost: EBUSY
+  busy : (mutex_at w m).owner ≢ 0 → ((mutex_at w m).owner ≡ t → (mutex_at w m).kind ≢ Recursive) → v ≡ with_progress t (Has 16) w → TriesToLock t m w v
+  -- nobody owns it: t takes it
+  free : (mutex_at w m).owner ≡ 0 → v ≡ taken t m w → TriesToLock t m w v
+
 -- m passes on: to nobody, or to its next waiter, which takes it
 pub data Passes (m : ℕ) (w v : World) : Type 0 where
   to_nobody : next_of w m ≡ 0 → v ≡ with_mutex m (record (mutex_at w m) { owner = 0 }) w → Passes m w v
@@ -191,8 +213,10 @@ pub data Passes (m : ℕ) (w v : World) : Type 0 where
 pub data Unlocks (t m : ℕ) (w v : World) : Type 0 where
   -- t isn't the owner: EPERM
   not_owner : (mutex_at w m).owner ≢ t → v ≡ with_progress t (Has 1) w → Unlocks t m w v
-  -- the owner gives it up: it passes on, and the result is 0
-  released : (mutex_at w m).owner ≡ t → (mutex_at w m).health ≢ Inconsistent → Passes m (with_progress t (Has 0) w) v → Unlocks t m w v
+  -- the owner holds it more than once: it holds it once less, and the result is 0
+  falls : (mutex_at w m).owner ≡ t → 1 < (mutex_at w m).count → v ≡ with_progress t (Has 0) (counted m ((mutex_at w m).count - 1) w) → Unlocks t m w v
+  -- the owner, who holds it once, gives it up: it passes on, and the result is 0
+  released : (mutex_at w m).owner ≡ t → (mutex_at w m).count ≡ 1 → (mutex_at w m).health ≢ Inconsistent → Passes m (with_progress t (Has 0) w) v → Unlocks t m w v
 
 -- whether p is a priority: 1 to 99
 abbrev pub is_priority : ℕ → Bool
@@ -214,6 +238,7 @@ pub data SetsPriority (t u p : ℕ) (w v : World) : Type 0 where
 -- one effect of t's open call
 pub data Effect (t : ℕ) (w v : World) : Type 0 where
   lock : (m : ℕ) → (thread_at w t).call ≡ Some (record { request = Lock m; progress = Fresh }) → Locks t m w v → Effect t w v
+  try_lock : (m : ℕ) → (thread_at w t).call ≡ Some (record { request = TryLock m; progress = Fresh }) → TriesToLock t m w v → Effect t w v
   unlock : (m : ℕ) → (thread_at w t).call ≡ Some (record { request = Unlock m; progress = Fresh }) → Unlocks t m w v → Effect t w v
   set_prio : (u p : ℕ) → (thread_at w t).call ≡ Some (record { request = SetPrio u p; progress = Fresh }) → SetsPriority t u p w v → Effect t w v
 
@@ -227,12 +252,14 @@ pub data Effects (t : ℕ) : World → World → Type 0 where
 -- the mutex that a request names; 0 where it names none
 abbrev pub named_by : Request → ℕ
 named_by (Lock m) = m
+named_by (TryLock m) = m
 named_by (Unlock m) = m
 named_by (SetPrio u p) = 0
 
 -- whether the mutex that a request names is one that is known, if it names one
 abbrev pub names_known : (ℕ → Bool) → Request → Bool
 names_known known (Lock m) = known m
+names_known known (TryLock m) = known m
 names_known known (Unlock m) = known m
 names_known known (SetPrio u p) = true
 

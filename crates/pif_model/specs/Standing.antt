@@ -1,14 +1,15 @@
 -- What it means that a core stands after a history.
 use Rattle.std.specs.Prelude.{ℕ, ◌≡◌, ◌≢◌, ◌≤◌, ◌+◌, ⊤, Bool, true, false, ◌==◌, List, [], ◌∷◌, length, map, Option, Some, None, if◌then◌else◌, eqb}
 use Rattle.std.specs.List.{list_any, IsDistinct}
-use Rattle.pif_types.specs.declared.requests.Kind.TheVariants.{Normal}
+use Rattle.pif_types.specs.declared.requests.Kind.{Kind}
+use Rattle.pif_types.specs.declared.requests.Kind.TheVariants.{Normal, Recursive}
 use Rattle.pif_types.specs.declared.requests.Request.{Request}
-use Rattle.pif_types.specs.declared.requests.Request.TheVariants.{Lock, Unlock, SetPrio}
+use Rattle.pif_types.specs.declared.requests.Request.TheVariants.{Lock, TryLock, Unlock, SetPrio}
 use Rattle.pif_model.specs.declared.events.Entry.{Entry}
 use Rattle.pif_model.specs.declared.lines.Line.{Line}
 use Rattle.pif_model.specs.declared.lines.Line.TheVariants.{Idle, At}
 use Rattle.pif_model.specs.declared.lines.Place.{Place}
-use Rattle.pif_model.specs.declared.lines.Place.TheVariants.{LockLoad, LockExchange, LockKernel, LockQueued, LockStop, LockStopped, UnlockLoad, UnlockExchange, UnlockKernel, SetPriority}
+use Rattle.pif_model.specs.declared.lines.Place.TheVariants.{LockLoad, LockExchange, LockKernel, LockQueued, LockStop, LockStopped, TryLoad, TryExchange, TryKernel, UnlockLoad, UnlockExchange, UnlockKernel, SetPriority}
 use Rattle.pif_model.specs.declared.lines.Status.{Status}
 use Rattle.pif_model.specs.declared.lines.Status.TheVariants.{Ready, Queued, Stopped}
 use Rattle.pif_model.specs.Graph.{waited_by, has_waiter, IsEffective}
@@ -17,6 +18,7 @@ use Rattle.pif_model.specs.Posix.{Health, Progress, Call, Thread, Mutex, World, 
 use Rattle.pif_model.specs.Posix.Health.{Fine, Inconsistent, Unusable}
 use Rattle.pif_model.specs.Posix.Progress.{Fresh, Waiting, Stuck, Has}
 use Rattle.pif_model.specs.Table.{Table, Row, Cell, no_row, no_cell, row_at, cell_at, has_thread, has_mutex, is_ready, queued_on, kernel_effective}
+use Rattle.pif_model.specs.Kernel.{at_level, in_levels}
 
 -- THE PROJECTION: the state of the POSIX machine that a table shows
 
@@ -75,6 +77,8 @@ pub data Need : Type 0 where
   OwnsNot : Need
   -- the thread owns the mutex as soon as it may run: it was handed over
   OwnsOnceReady : Need
+  -- the thread holds the mutex once, where it owns it
+  HoldsOnce : Need
   -- the mutex is NORMAL
   NormalKind : Need
 
@@ -86,6 +90,7 @@ Meets t x c NotStopped = x ≢ Stopped
 Meets t x c Owns = c.word.number ≡ t
 Meets t x c OwnsNot = c.word.number ≢ t
 Meets t x c OwnsOnceReady = is_ready x ≡ true → c.word.number ≡ t
+Meets t x c HoldsOnce = c.word.number ≡ t → c.count ≡ 1
 Meets t x c NormalKind = c.kind ≡ Normal
 
 -- they meet all of some needs
@@ -101,9 +106,12 @@ needs LockKernel = MayRun ∷ OwnsNot ∷ []
 needs LockQueued = NotStopped ∷ OwnsOnceReady ∷ []
 needs LockStop = MayRun ∷ Owns ∷ NormalKind ∷ []
 needs LockStopped = HasStopped ∷ []
+needs TryLoad = MayRun ∷ []
+needs TryExchange = MayRun ∷ OwnsNot ∷ []
+needs TryKernel = MayRun ∷ OwnsNot ∷ []
 needs UnlockLoad = MayRun ∷ []
-needs UnlockExchange = MayRun ∷ Owns ∷ []
-needs UnlockKernel = MayRun ∷ Owns ∷ []
+needs UnlockExchange = MayRun ∷ Owns ∷ HoldsOnce ∷ []
+needs UnlockKernel = MayRun ∷ Owns ∷ HoldsOnce ∷ []
 needs SetPriority = MayRun ∷ []
 
 -- whether a call of this request comes to this place
@@ -114,6 +122,9 @@ belongs (Lock m) LockKernel = true
 belongs (Lock m) LockQueued = true
 belongs (Lock m) LockStop = true
 belongs (Lock m) LockStopped = true
+belongs (TryLock m) TryLoad = true
+belongs (TryLock m) TryExchange = true
+belongs (TryLock m) TryKernel = true
 belongs (Unlock m) UnlockLoad = true
 belongs (Unlock m) UnlockExchange = true
 belongs (Unlock m) UnlockKernel = true
@@ -138,14 +149,21 @@ pub record RowIsSound (exists : ℕ → Bool) (cell : ℕ → Cell) (t : ℕ) (r
   pub line : LineIsSound exists cell t r.status r.line
   pub queue : QueueIsSound r.status r.line
 
+-- how often its owner, 0 for none, holds a mutex of this kind: once to 255 times, and once where it has no owner or is
+-- not RECURSIVE
+pub record CountIsSound (kind : Kind) (owner count : ℕ) : Type 0 where
+  pub some : 1 ≤ count
+  pub few : count ≤ 255
+  pub unowned : owner ≡ 0 → count ≡ 1
+  pub single : kind ≢ Recursive → count ≡ 1
+
 -- a mutex, by which threads were added and whether one waits for it
 pub record CellIsSound (added : ℕ → Bool) (waited : Bool) (c : Cell) : Type 0 where
   -- only stalled mutexes are there, and nothing of a dead owner
   pub stalled : c.robust ≡ false
   pub fine : c.health ≡ Fine
   pub no_death : c.word.died ≡ false
-  -- the owner holds it once
-  pub single : c.count ≡ 1
+  pub count : CountIsSound c.kind c.word.number c.count
   -- who owns it was added
   pub owner : c.word.number ≢ 0 → added c.word.number ≡ true
   -- a free word has no flag
@@ -163,7 +181,7 @@ pub record ThreadIsSound (s : Table) (t : ℕ) : Type 0 where
   -- it is in the run queue exactly where it may run
   pub ready : list_any (λ (r : ℕ × ℕ). r.0 == t) s.ready ≡ (if has_thread s t then is_ready (row_at s t).status else false)
 
--- nobody stands at place 0, and all are within the limits
+-- nobody stands at place 0, all are within the limits, and who was added has a priority
 pub record IsShaped (s : Table) : Type 0 where
   pub nobody : row_at s 0 ≡ no_row
   pub no_mutex : cell_at s 0 ≡ no_cell
@@ -171,6 +189,7 @@ pub record IsShaped (s : Table) : Type 0 where
   pub some_cell : 1 ≤ length s.cells
   pub few_rows : length s.rows ≤ s.limits.threads + 1
   pub few_cells : length s.cells ≤ s.limits.mutexes + 1
+  pub priorities : (t : ℕ) → has_thread s t ≡ true → (1 ≤ (row_at s t).base) × ((row_at s t).base ≤ 99)
 
 -- the invariant of the table, save for what holds of excused threads and for the levels of the run queue
 pub record SoundBut (Excused : ℕ → Type 0) (s : Table) : Type 0 where
@@ -187,10 +206,15 @@ pub record SoundBut (Excused : ℕ → Type 0) (s : Table) : Type 0 where
 abbrev pub IsLeveled : Table → Type 0
 IsLeveled s = (t : ℕ) → list_any (λ (r : ℕ × ℕ). if r.0 == t then (if r.1 == kernel_effective s t then false else true) else false) s.ready ≡ false
 
+-- the run queue stands in order of its levels
+abbrev pub IsOrdered : List (ℕ × ℕ) → Type 0
+IsOrdered ready = in_levels (at_level ready) 99 ≡ ready
+
 -- the invariant of the table: nobody is excused
 pub record IsSound (s : Table) : Type 0 where
   pub all : SoundBut (λ t. ⊥) s
   pub level : IsLeveled s
+  pub order : IsOrdered s.ready
 
 -- A core with this table stands after the history h (newest entry first) in the state w by a run through the states r
 -- (newest first): the run gives h entry by entry and ends in w, w is what the table shows with some shadow, and the

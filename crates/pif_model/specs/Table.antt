@@ -1,7 +1,6 @@
 -- The state of the table machine: words, the library's private rows, and the kernel.
 -- Threads and mutexes are numbered from 1; place 0 of each list stands for nobody.
-use Rattle.std.specs.Prelude.{ℕ, Bool, true, false, ◌==◌, nat_lt, List, [], ◌∷◌, ◌++◌, length, get_or, set, map, if◌then◌else◌}
-use Rattle.std.specs.List.{filter}
+use Rattle.std.specs.Prelude.{ℕ, Bool, true, false, ◌==◌, nat_lt, List, [], ◌∷◌, ◌++◌, length, get_or, set, if◌then◌else◌}
 use Rattle.pif_types.specs.Bounds.{Bounds}
 use Rattle.pif_types.specs.declared.requests.Kind.{Kind}
 use Rattle.pif_types.specs.declared.requests.Kind.TheVariants.{Normal}
@@ -10,7 +9,7 @@ use Rattle.pif_model.specs.declared.lines.Line.TheVariants.{Idle}
 use Rattle.pif_model.specs.declared.lines.Status.{Status}
 use Rattle.pif_model.specs.declared.lines.Status.TheVariants.{Ready, Queued, Stopped}
 use Rattle.pif_model.specs.declared.lines.Woken.TheVariants.{Fresh as WokenFresh}
-use Rattle.pif_model.specs.Graph.{effective_among, first_greatest}
+use Rattle.pif_model.specs.Graph.{effective_among}
 use Rattle.pif_model.specs.Word.{Word, free_word}
 use Rattle.pif_model.specs.Posix.{Health}
 use Rattle.pif_model.specs.Posix.Health.{Fine}
@@ -50,7 +49,7 @@ pub record Table : Type 0 where
   pub cells : List Cell
   -- the kernel's queue: pairs of a thread and the mutex on which it is queued, in order of their tickets
   pub waiters : List (ℕ × ℕ)
-  -- the run queue: pairs of a ready thread and its level, in order of joining
+  -- the run queue: pairs of a ready thread and its level, from the lowest level up, each level in order of joining
   pub ready : List (ℕ × ℕ)
 
 -- what stands at place 0 of the rows
@@ -123,29 +122,7 @@ kernel_waits_for s u = (cell_at s (queued_on (row_at s u).status)).state
 abbrev pub kernel_effective : Table → ℕ → ℕ
 kernel_effective s t = effective_among (length s.rows) (kernel_waits_for s) (λ u. (row_at s u).base) t
 
--- the run queue at new levels: who keeps its level keeps its place, who changes it joins the end
-unfoldable pub releveled : (ℕ → ℕ) → List (ℕ × ℕ) → List (ℕ × ℕ)
-releveled effective ready =
-    filter (λ r. effective r.0 == r.1) ready
-    ++ map (λ r. (r.0, effective r.0)) (filter (λ r. if effective r.0 == r.1 then false else true) ready)
-
--- each ready thread at the level of its effective priority now
-abbrev pub settled : Table → Table
-settled s = record s { ready = releveled (kernel_effective s) s.ready }
-
--- the thread that runs next: the first that joined the greatest level; 0 where none is ready
-abbrev pub kernel_pick : Table → ℕ
-kernel_pick s = (first_greatest s.ready).0
-
 -- ADDITIONS
-
--- a new thread: ready, at the end of its level
-abbrev pub thread_added : ℕ → Table → Table
-thread_added p s =
-    record s {
-      rows = s.rows ++ record { base = p; living = true; line = Idle; status = Ready WokenFresh; listed = []; half_linked = 0; pending = 0 } ∷ [];
-      ready = s.ready ++ (length s.rows, p) ∷ [];
-    }
 
 -- a new mutex, free
 abbrev pub mutex_added : Kind → Bool → Table → Table

@@ -19,6 +19,10 @@ free_word = record { number = 0; waiters = false; died = false }
 abbrev pub held_by : ℕ → Word
 held_by t = record { number = t; waiters = false; died = false }
 
+-- the word of a mutex that t takes in the kernel: its number and what there was of OWNER_DIED
+abbrev pub taken_word : ℕ → Word → Word
+taken_word t w = record { number = t; waiters = false; died = w.died }
+
 -- whether a word has no flag set and this number: what a compare-exchange from the bare number tests
 abbrev pub is_bare : Word → ℕ → Bool
 is_bare w t = if w.waiters then false else (if w.died then false else w.number == t)

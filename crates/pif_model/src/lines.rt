@@ -15,6 +15,12 @@ pub enum Place {
     LockStop,
     /// lock: stopped for good.
     LockStopped,
+    /// trylock: load the word, and see whether the caller owns the mutex.
+    TryLoad,
+    /// trylock: compare-exchange the word from 0 to the caller's number.
+    TryExchange,
+    /// trylock: the kernel call trylock_pi.
+    TryKernel,
     /// unlock: load the word, and see whether the caller owns the mutex.
     UnlockLoad,
     /// unlock: compare-exchange the word from the caller's number to 0.

@@ -17,10 +17,15 @@ use Rattle.pif_model.specs.Word.{free_word}
 use Rattle.pif_model.specs.Posix.{empty_world}
 use Rattle.pif_model.specs.Posix.Step.{thread_added as thread_was_added, mutex_added as mutex_was_added}
 use Rattle.pif_model.specs.Posix.Health.{Fine}
-use Rattle.pif_model.specs.Table.{Table, Row, Cell, no_row, no_cell, new_table, row_at, cell_at, has_thread, has_mutex, is_ready, queued_on, kernel_waits_for, kernel_effective, thread_added, mutex_added, has_thread_room, has_mutex_room}
-use Rattle.pif_model.specs.Standing.{Shadow, no_shadow, LineIsSound, QueueIsSound, RowIsSound, CellIsSound, ThreadIsSound, IsSound, thread_of, mutex_of, world_of}
+use Rattle.pif_model.specs.Table.{Table, Row, Cell, no_row, no_cell, new_table, row_at, cell_at, has_thread, has_mutex, is_ready, queued_on, kernel_waits_for, kernel_effective, mutex_added, has_thread_room, has_mutex_room}
+use Rattle.pif_model.specs.Kernel.{at_level, in_levels, thread_added}
+use Rattle.pif_model.specs.Standing.{Shadow, no_shadow, LineIsSound, QueueIsSound, RowIsSound, CellIsSound, ThreadIsSound, IsSound, IsOrdered, thread_of, mutex_of, world_of}
+use Rattle.pif_simulation.proofs.Forms.{sorted, thread_form}
+use Rattle.pif_simulation.proofs.FormLaws.{thread_added_form}
+use Rattle.pif_simulation.proofs.LevelLists.{in_levels-ordered}
+use Rattle.pif_simulation.proofs.Leveled.{HasLevels, levels-push, within-from_ordered, once_sorted, level_sorted, named_sorted}
 use Rattle.pif_simulation.proofs.Waiting.{by_test, names, pairs, once_push, named-push, waited-from_pair, or_false}
-use Rattle.pif_simulation.proofs.Kept.{from_within}
+use Rattle.pif_simulation.proofs.Kept.{from_within, held_once}
 use Rattle.pif_simulation.proofs.Projection.{within, has_thread_below}
 use Rattle.pif_simulation.proofs.Hole.{put_ready, push_row, push_cell, row_pushed_else, cell_pushed_else, effective_same, leveled_same, each_thread, excuse_one, admit_last}
 use Rattle.pif_simulation.proofs.Steps.{Keeps, knows}
@@ -32,12 +37,17 @@ use Rattle.pif_simulation.proofs.Chains.{effective_with_more, effective_of_more}
 none_below_1 : (t : ℕ) → (if t == 0 then false else nat_lt t 1) ≡ false
 none_below_1 t = by_test (λ b. (if t == 0 then false else nat_lt t 1) ≡ b → b ≡ false) (if t == 0 then false else nat_lt t 1) (λ e x. absurd (omega (arith, within t 1 e))) (λ e x. refl) refl
 
+-- a run queue in which nobody stands is in order
+nobody_ordered : IsOrdered []
+unfolding at_level in_levels
+nobody_ordered = refl
+
 -- a core to which nothing was added is sound
 pub new_sound : (l : Bounds) → IsSound (new_table l)
 unfolding IsDistinct waited_by
 new_sound l = record {
   all = record {
-    shape = record { nobody = refl; no_mutex = refl; some_row = omega arith; some_cell = omega arith; few_rows = omega arith; few_cells = omega arith };
+    shape = record { nobody = refl; no_mutex = refl; some_row = omega arith; some_cell = omega arith; few_rows = omega arith; few_cells = omega arith; priorities = λ t e. absurd (true≢false (sym e ∙ none_below_1 t)) };
     cells = λ m e. absurd (true≢false (sym e ∙ none_below_1 m));
     threads = λ t n. record {
       row = λ e. absurd (true≢false (sym e ∙ none_below_1 t));
@@ -49,6 +59,7 @@ new_sound l = record {
     ready_once = tt;
   };
   level = λ t. refl;
+  order = nobody_ordered;
 }
   where
     queues : (u : ℕ) → waited_by [] u ≡ queued_on (row_at (new_table l) u).status
@@ -98,11 +109,11 @@ module _ (s : Table) (p : ℕ) (h : IsSound s) where
   new_row = record { base = p; living = true; line = Idle; status = Ready WokenFresh; listed = []; half_linked = 0; pending = 0 }
 
   -- the row of the new thread
-  row_new : row_at (thread_added p s) (length s.rows) ≡ new_row
+  row_new : row_at (thread_form p s) (length s.rows) ≡ new_row
   row_new = get_or_push s.rows new_row no_row (length s.rows) refl
 
   -- the rows of the others
-  row_old : (u : ℕ) → u ≢ length s.rows → row_at (thread_added p s) u ≡ row_at s u
+  row_old : (u : ℕ) → u ≢ length s.rows → row_at (thread_form p s) u ≡ row_at s u
   row_old u d = row_pushed_else s new_row u d
 
   -- the new thread had no row
@@ -110,7 +121,7 @@ module _ (s : Table) (p : ℕ) (h : IsSound s) where
   row_before = get_or_past s.rows (length s.rows) no_row (omega arith)
 
   -- the new thread is there
-  new_there : has_thread (thread_added p s) (length s.rows) ≡ true
+  new_there : has_thread (thread_form p s) (length s.rows) ≡ true
   new_there = from_within (length s.rows) (length (s.rows ++ new_row ∷ [])) (omega (arith, h.all.shape.some_row)) (omega (arith, length_push s.rows new_row))
 
   -- the new thread was not there
@@ -118,11 +129,11 @@ module _ (s : Table) (p : ℕ) (h : IsSound s) where
   new_not_there = by_test (λ b. has_thread s (length s.rows) ≡ b → b ≡ false) (has_thread s (length s.rows)) (λ e x. absurd (omega (arith, within (length s.rows) (length s.rows) e))) (λ e x. refl) refl
 
   -- every thread is queued where it was
-  queues_same : (u : ℕ) → queued_on (row_at (thread_added p s) u).status ≡ queued_on (row_at s u).status
+  queues_same : (u : ℕ) → queued_on (row_at (thread_form p s) u).status ≡ queued_on (row_at s u).status
   queues_same u = go (cases_eq u (length s.rows))
     where
-      go : (u ≡ length s.rows) ⊎ (u ≢ length s.rows) → queued_on (row_at (thread_added p s) u).status ≡ queued_on (row_at s u).status
-      go (inl q) = subst (λ v. queued_on (row_at (thread_added p s) v).status ≡ queued_on (row_at s v).status) (sym q) (ap (λ (r : Row). queued_on r.status) (row_new) ∙ sym (ap (λ (r : Row). queued_on r.status) row_before))
+      go : (u ≡ length s.rows) ⊎ (u ≢ length s.rows) → queued_on (row_at (thread_form p s) u).status ≡ queued_on (row_at s u).status
+      go (inl q) = subst (λ v. queued_on (row_at (thread_form p s) v).status ≡ queued_on (row_at s v).status) (sym q) (ap (λ (r : Row). queued_on r.status) (row_new) ∙ sym (ap (λ (r : Row). queued_on r.status) row_before))
       go (inr d) = ap (λ (r : Row). queued_on r.status) (row_old u d)
 
   -- the new thread waits for nobody
@@ -130,17 +141,17 @@ module _ (s : Table) (p : ℕ) (h : IsSound s) where
   new_waits_for_nobody = ap (λ (r : Row). (cell_at s (queued_on r.status)).state) row_before ∙ ap (λ (c : Cell). c.state) h.all.shape.no_mutex
 
   -- effective priorities in the new table, by those among one thread more
-  effective_new : (t : ℕ) → kernel_effective (thread_added p s) t ≡ effective_among (suc (length s.rows)) (kernel_waits_for s) (λ u. (row_at (thread_added p s) u).base) t
-  effective_new t = λ i. effective_among ((length_push s.rows new_row ∙ add-one (length s.rows)) i) (λ u. ap (λ k. (cell_at s k).state) (queues_same u) i) (λ u. (row_at (thread_added p s) u).base) t
+  effective_new : (t : ℕ) → kernel_effective (thread_form p s) t ≡ effective_among (suc (length s.rows)) (kernel_waits_for s) (λ u. (row_at (thread_form p s) u).base) t
+  effective_new t = λ i. effective_among ((length_push s.rows new_row ∙ add-one (length s.rows)) i) (λ u. ap (λ k. (cell_at s k).state) (queues_same u) i) (λ u. (row_at (thread_form p s) u).base) t
 
   -- those of the others are what they were
-  effective_old : (t : ℕ) → t ≢ length s.rows → kernel_effective (thread_added p s) t ≡ kernel_effective s t
-  effective_old t d = effective_new t ∙ effective_with_more (length s.rows) (kernel_waits_for s) (λ u. (row_at s u).base) (λ u. (row_at (thread_added p s) u).base)
+  effective_old : (t : ℕ) → t ≢ length s.rows → kernel_effective (thread_form p s) t ≡ kernel_effective s t
+  effective_old t d = effective_new t ∙ effective_with_more (length s.rows) (kernel_waits_for s) (λ u. (row_at s u).base) (λ u. (row_at (thread_form p s) u).base)
       (λ v. state_below s h (queued_on (row_at s v).status)) (λ u l. ap (λ (r : Row). r.base) (row_old u (omega arith))) new_waits_for_nobody t d
 
   -- that of the new thread is its base priority
-  effective_here : kernel_effective (thread_added p s) (length s.rows) ≡ p
-  effective_here = effective_new (length s.rows) ∙ effective_of_more (length s.rows) (kernel_waits_for s) (λ u. (row_at s u).base) (λ u. (row_at (thread_added p s) u).base)
+  effective_here : kernel_effective (thread_form p s) (length s.rows) ≡ p
+  effective_here = effective_new (length s.rows) ∙ effective_of_more (length s.rows) (kernel_waits_for s) (λ u. (row_at s u).base) (λ u. (row_at (thread_form p s) u).base)
       (λ v. state_below s h (queued_on (row_at s v).status)) (λ u l. ap (λ (r : Row). r.base) (row_old u (omega arith))) new_waits_for_nobody
       ∙ ap (λ (r : Row). r.base) row_new
 
@@ -152,39 +163,52 @@ module _ (s : Table) (p : ℕ) (h : IsSound s) where
   abbrev misplaced : Table → ℕ → ℕ × ℕ → Bool
   misplaced v t r = if r.0 == t then (if r.1 == kernel_effective v t then false else true) else false
 
-  -- all in the run queue are at their levels
-  levels : (t : ℕ) → list_any (λ (r : ℕ × ℕ). misplaced (thread_added p s) t r) (s.ready ++ (length s.rows, p) ∷ []) ≡ false
-  levels t = list_any-append (λ (r : ℕ × ℕ). misplaced (thread_added p s) t r) s.ready ((length s.rows, p) ∷ []) ∙ go (cases_eq t (length s.rows))
+  -- all are at their levels in the run queue with the new thread
+  levels : (t : ℕ) → list_any (λ (r : ℕ × ℕ). misplaced (thread_form p s) t r) (s.ready ++ (length s.rows, p) ∷ []) ≡ false
+  levels t = list_any-append (λ (r : ℕ × ℕ). misplaced (thread_form p s) t r) s.ready ((length s.rows, p) ∷ []) ∙ go (cases_eq t (length s.rows))
     where
-      go : (t ≡ length s.rows) ⊎ (t ≢ length s.rows) → (list_any (λ (r : ℕ × ℕ). misplaced (thread_added p s) t r) s.ready || (misplaced (thread_added p s) t (length s.rows, p) || false)) ≡ false
+      go : (t ≡ length s.rows) ⊎ (t ≢ length s.rows) → (list_any (λ (r : ℕ × ℕ). misplaced (thread_form p s) t r) s.ready || (misplaced (thread_form p s) t (length s.rows, p) || false)) ≡ false
       go (inl q) = or_from _ _
-          (unnamed_passes_none (λ r. if r.1 == kernel_effective (thread_added p s) t then false else true) s.ready t (subst (λ u. names u s.ready ≡ false) (sym q) new_not_ready))
-          (or_from _ false (ap₂ (λ b c. if b then (if c then false else true) else false) (eq-eqb (length s.rows) t (sym q)) (eq-eqb p (kernel_effective (thread_added p s) t) (sym (ap (kernel_effective (thread_added p s)) q ∙ effective_here)))) refl)
+          (unnamed_passes_none (λ r. if r.1 == kernel_effective (thread_form p s) t then false else true) s.ready t (subst (λ u. names u s.ready ≡ false) (sym q) new_not_ready))
+          (or_from _ false (ap₂ (λ b c. if b then (if c then false else true) else false) (eq-eqb (length s.rows) t (sym q)) (eq-eqb p (kernel_effective (thread_form p s) t) (sym (ap (kernel_effective (thread_form p s)) q ∙ effective_here)))) refl)
       go (inr d) = or_from _ _
           (ap (λ n. list_any (λ (r : ℕ × ℕ). if r.0 == t then (if r.1 == n then false else true) else false) s.ready) (effective_old t d) ∙ h.level t)
-          (or_from _ false (ap (λ b. if b then (if p == kernel_effective (thread_added p s) t then false else true) else false) (ne_eqb (length s.rows) t (λ e. d (sym e)))) refl)
+          (or_from _ false (ap (λ b. if b then (if p == kernel_effective (thread_form p s) t then false else true) else false) (ne_eqb (length s.rows) t (λ e. d (sym e)))) refl)
 
-  -- the new thread is sound
-  new_thread_sound : ThreadIsSound (thread_added p s) (length s.rows)
-  new_thread_sound = record {
-    row = λ e. subst (RowIsSound (has_mutex s) (cell_at s) (length s.rows)) (sym row_new) (record { living = refl; line = refl; queue = tt });
-    queue = (each_thread h (length s.rows)).queue ∙ sym (queues_same (length s.rows));
-    ready = named-push s.ready (length s.rows) p (length s.rows) ∙ ap₂ (λ a b. a || b) new_not_ready (eq-eqb (length s.rows) (length s.rows) refl)
-        ∙ sym (ap₂ (λ b (r : Row). if b then is_ready r.status else false) new_there row_new);
-  }
+  -- a priority is a level
+  module _ (low : 1 ≤ p) (high : p ≤ 99) where
+    -- the levels of the run queue with the new thread
+    pushed_levels : HasLevels (s.ready ++ (length s.rows, p) ∷ [])
+    pushed_levels = levels-push s.ready (length s.rows) p (within-from_ordered s.ready h.order) low high
 
-  -- the run queue without the new thread
-  others_ready : (u : ℕ) → (u ≡ length s.rows → ⊥) → names u (s.ready ++ (length s.rows, p) ∷ []) ≡ names u s.ready
-  others_ready u d = named-push s.ready (length s.rows) p u ∙ ap (λ b. names u s.ready || b) (ne_eqb (length s.rows) u (λ e. d (sym e))) ∙ or_false (names u s.ready)
+    -- the new thread is sound
+    new_thread_sound : ThreadIsSound (thread_form p s) (length s.rows)
+    new_thread_sound = record {
+      row = λ e. subst (RowIsSound (has_mutex s) (cell_at s) (length s.rows)) (sym row_new) (record { living = refl; line = refl; queue = tt });
+      queue = (each_thread h (length s.rows)).queue ∙ sym (queues_same (length s.rows));
+      ready = named_sorted (s.ready ++ (length s.rows, p) ∷ []) (length s.rows) pushed_levels ∙ named-push s.ready (length s.rows) p (length s.rows) ∙ ap₂ (λ a b. a || b) new_not_ready (eq-eqb (length s.rows) (length s.rows) refl)
+          ∙ sym (ap₂ (λ b (r : Row). if b then is_ready r.status else false) new_there row_new);
+    }
 
-  -- a table with a thread more is sound
-  pub thread_added_sound : has_thread_room s ≡ true → IsSound (thread_added p s)
-  thread_added_sound room = record {
-    all = admit_last (put_ready (push_row (excuse_one h (length s.rows)) new_row refl (has_room s.limits.threads (length s.rows) room))
-        (s.ready ++ (length s.rows, p) ∷ []) others_ready (once_push s.ready (length s.rows, p) new_not_ready h.all.ready_once))
-        new_thread_sound;
-    level = levels;
-  }
+    -- the run queue without the new thread
+    others_ready : (u : ℕ) → (u ≡ length s.rows → ⊥) → names u (s.ready ++ (length s.rows, p) ∷ []) ≡ names u s.ready
+    others_ready u d = named-push s.ready (length s.rows) p u ∙ ap (λ b. names u s.ready || b) (ne_eqb (length s.rows) u (λ e. d (sym e))) ∙ or_false (names u s.ready)
+
+    -- a table with a thread more is sound
+    thread_form_sound : has_thread_room s ≡ true → IsSound (thread_form p s)
+    thread_form_sound room = record {
+      all = admit_last (put_ready (push_row (excuse_one h (length s.rows)) new_row refl (has_room s.limits.threads (length s.rows) room) (low, high))
+          (sorted (s.ready ++ (length s.rows, p) ∷ []))
+          (λ u d. named_sorted (s.ready ++ (length s.rows, p) ∷ []) u pushed_levels ∙ others_ready u d)
+          (once_sorted (s.ready ++ (length s.rows, p) ∷ []) (once_push s.ready (length s.rows, p) new_not_ready h.all.ready_once)))
+          new_thread_sound;
+      level = λ t. level_sorted (s.ready ++ (length s.rows, p) ∷ []) t (kernel_effective (thread_form p s) t) (levels t);
+      order = in_levels-ordered (at_level (s.ready ++ (length s.rows, p) ∷ [])) 99;
+    }
+
+-- a table with a thread more, whose priority is 1 to 99, is sound
+pub thread_added_sound : (s : Table) (p : ℕ) → IsSound s → has_thread_room s ≡ true → 1 ≤ p → p ≤ 99 → IsSound (thread_added p s)
+thread_added_sound s p h room low high = subst IsSound (sym (thread_added_form p s)) (thread_form_sound s p h low high room)
 
 -- ONE MUTEX MORE
 
@@ -208,7 +232,7 @@ queued_on_known s u m (Queued n) l q k e z = subst (λ i. has_mutex s i ≡ true
 queued_on_known s u m Stopped l q k e z = absurd (z (sym e))
 
 -- a mutex with a waiter was added
-waiter_known : (s : Table) → IsSound s → (m : ℕ) → m ≢ 0 → has_waiter s.waiters m ≡ true → has_mutex s m ≡ true
+pub waiter_known : (s : Table) → IsSound s → (m : ℕ) → m ≢ 0 → has_waiter s.waiters m ≡ true → has_mutex s m ≡ true
 waiter_known s h m z k =
     let r = some_waiter s.waiters m k in
     let e : queued_on (row_at s r.0).status ≡ m = sym (each_thread h r.0).queue ∙ waited-from_pair s.waiters r.0 m h.all.once r.1 in
@@ -248,7 +272,7 @@ module _ (s : Table) (k : Kind) (h : IsSound s) where
     stalled = refl;
     fine = refl;
     no_death = refl;
-    single = refl;
+    count = held_once k 0 1 refl;
     owner = λ z. absurd (z refl);
     free = λ e. refl;
     state = both (has_waiter s.waiters (length s.cells));
@@ -264,6 +288,7 @@ module _ (s : Table) (k : Kind) (h : IsSound s) where
   mutex_added_sound room = record {
     all = push_cell h.all new_cell new_cell_sound (has_room s.limits.mutexes (length s.cells) room);
     level = leveled_same s (mutex_added k false s) refl (effective_same s (mutex_added k false s) refl (λ u. refl) (λ u. states_same (queued_on (row_at s u).status))) h.level;
+    order = h.order;
   }
 
 -- THE STEPS
@@ -271,13 +296,13 @@ module _ (s : Table) (k : Kind) (h : IsSound s) where
 -- to add a thread is an entry of the POSIX machine, and keeps the invariant
 pub thread_added_simulated : (s : Table) (shadow : Shadow) (p : ℕ) → IsSound s → has_thread_room s ≡ true → 1 ≤ p → p ≤ 99
     → Keeps s shadow (AddThread (length s.rows) p) (thread_added p s)
-thread_added_simulated s shadow p h room low high = record {
-  sound = thread_added_sound s p h room;
+thread_added_simulated s shadow p h room low high = subst (λ v. Keeps s shadow (AddThread (length s.rows) p) v) (sym (thread_added_form p s)) (record {
+  sound = thread_form_sound s p h low high room;
   next = shadow;
   step = thread_was_added (length s.rows) p refl (sym (length-map s.rows thread_of)) (has_room s.limits.threads (length s.rows) room) low high
       (λ i. record (world_of s shadow) { threads = map-append thread_of s.rows (record { base = p; living = true; line = Idle; status = Ready WokenFresh; listed = []; half_linked = 0; pending = 0 } ∷ []) i });
   limits = refl;
-}
+})
 
 -- to add a mutex is an entry of the POSIX machine, and keeps the invariant
 pub mutex_added_simulated : (s : Table) (shadow : Shadow) (k : Kind) → IsSound s → has_mutex_room s ≡ true

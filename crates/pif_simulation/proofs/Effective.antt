@@ -1,15 +1,17 @@
 -- The kernel's waiting and effective priorities are those of the POSIX machine, and what leaves both as they are.
-use Rattle.std.proofs.Common.{◌≡◌, ◌≢◌, ℕ, zero, suc, false, nat_lt, List, [], ◌∷◌, length, get_or, set, Option, refl, sym, ap, ◌∙◌, if◌then◌else◌, ne_eqb, ⊎_elim, length-set, ltb-false}
+use Rattle.std.proofs.Common.{◌≡◌, ◌≢◌, ℕ, zero, suc, ◌-◌, false, nat_lt, List, [], ◌∷◌, length, get_or, set, Option, refl, sym, ap, ◌∙◌, if◌then◌else◌, ne_eqb, ⊎_elim, length-set, ltb-false}
 use Rattle.std.proofs.Math.Path.{fun_ext}
 use Rattle.std.proofs.lemmas.Bool.{cases_eq}
 use Rattle.std.proofs.lemmas.List.{length-map, get_or_past}
 use Rattle.pif_model.specs.Graph.{waited_by, effective_among, next_waiter, reaches_within}
 use Rattle.pif_model.specs.Posix.{Progress, Call, Thread, Mutex, World, nobody, thread_at, with_thread, with_progress, progressed, waits_for, effective_of, next_of, leads_to}
-use Rattle.pif_model.specs.Table.{Table, Cell, no_row, no_cell, row_at, cell_at, with_line, queued_on, kernel_waits_for, kernel_effective, releveled, settled}
-use Rattle.pif_model.specs.Kernel.{kernel_next}
+use Rattle.pif_model.specs.Table.{Table, Cell, no_row, no_cell, row_at, cell_at, with_line, queued_on, kernel_waits_for, kernel_effective}
+use Rattle.pif_model.specs.PiKernel.{releveled}
+use Rattle.pif_model.specs.Kernel.{at_level, in_levels, kernel_next}
 use Rattle.pif_model.specs.declared.lines.Line.{Line}
 use Rattle.pif_model.specs.Standing.{Shadow, thread_of, mutex_of, world_of, IsSound}
 use Rattle.pif_simulation.proofs.Places.{mapped_at}
+use Rattle.pif_simulation.proofs.Forms.{settled}
 use Rattle.pif_simulation.proofs.Waiting.{by_test, paired-from_waited, has_waiter-from_pair}
 use Rattle.pif_simulation.proofs.Hole.{each_thread}
 
@@ -97,4 +99,6 @@ effective-with_line t l s =
 
 -- to settle and to go to another line change places
 pub settled_line : (t : ℕ) (l : Line) (s : Table) → with_line t l (settled s) ≡ settled (with_line t l s)
-settled_line t l s = λ i. record (with_line t l s) { ready = releveled (sym (effective-with_line t l s) i) s.ready }
+settled_line t l s = λ i. record (with_line t l s) {
+  ready = in_levels (releveled (sym (length-set s.rows t (record (row_at s t) { line = l })) i - 1) (sym (effective-with_line t l s) i) (at_level s.ready)) 99;
+}

@@ -13,13 +13,16 @@ use Rattle.pif_model.specs.Posix.Health.{Fine, Inconsistent}
 use Rattle.pif_model.specs.Posix.Progress.{Has}
 use Rattle.pif_model.specs.Posix.Unlocks.{released}
 use Rattle.pif_model.specs.Posix.Passes.{to_next}
-use Rattle.pif_model.specs.Table.{Table, Row, Cell, no_row, no_cell, row_at, cell_at, has_thread, has_mutex, is_ready, queued_on, with_row, with_cell, with_line, kernel_effective, settled}
-use Rattle.pif_model.specs.Kernel.{handed_to, kernel_next}
+use Rattle.pif_model.specs.Table.{Table, Row, Cell, no_row, no_cell, row_at, cell_at, has_thread, has_mutex, is_ready, queued_on, with_row, with_cell, with_line, kernel_effective}
+use Rattle.pif_model.specs.Kernel.{kernel_next}
 use Rattle.pif_model.specs.Standing.{Shadow, LineIsSound, QueueIsSound, RowIsSound, CellIsSound, ThreadIsSound, SoundBut, IsSound, call_at, thread_of, mutex_of, world_of}
+use Rattle.pif_simulation.proofs.Forms.{settled, handed_form}
+use Rattle.pif_simulation.proofs.Leveled.{HasLevels, levels-push, within-from_ordered}
+use Rattle.pif_simulation.proofs.Priorities.{effective_within}
 use Rattle.pif_simulation.proofs.Places.{mapped_at}
 use Rattle.pif_simulation.proofs.Waiting.{by_test, names, or_true, or_false, waited-from_pair, waited_by-without_same, waited_by-without_other, once_push, named-push, next-is_waiter}
 use Rattle.pif_simulation.proofs.Effective.{next_seen, next-with_progress, settled_line}
-use Rattle.pif_simulation.proofs.Kept.{above_0, below}
+use Rattle.pif_simulation.proofs.Kept.{above_0, below, held_once}
 use Rattle.pif_simulation.proofs.Hole.{put_row, put_cell, put_ready, excuse, admit, left_waiters, settle, ready-queued_on_nothing, ready-at_any_line, each_thread, admit_last}
 use Rattle.pif_simulation.proofs.Steps.{knows, rests_ready}
 use Rattle.pif_simulation.proofs.Queue.{owner_seen}
@@ -36,10 +39,10 @@ pub record IsWaiter (s : Table) (t u m : ℕ) : Type 0 where
 
 -- what a thread at the kernel call of an unlock knows
 pub knows_at_unlock : (s : Table) (t m : ℕ) → IsSound s → has_thread s t ≡ true → (row_at s t).line ≡ At (Unlock m) UnlockKernel
-    → (has_mutex s m ≡ true) × (is_ready (row_at s t).status ≡ true) × ((cell_at s m).word.number ≡ t)
+    → (has_mutex s m ≡ true) × (is_ready (row_at s t).status ≡ true) × ((cell_at s m).word.number ≡ t) × ((cell_at s m).count ≡ 1)
 knows_at_unlock s t m h a e =
     let k = subst (λ l. LineIsSound (has_mutex s) (cell_at s) t (row_at s t).status l) e (knows s t h a).line in
-    (k.0, k.2.0, k.2.1.0)
+    (k.0, k.2.0, k.2.1.0, k.2.1.1.0 k.2.1.0)
 
 -- where there is an owner state, there is a waiter
 pub waiter-from_state : (s : Table) (m : ℕ) → IsSound s → has_mutex s m ≡ true → (cell_at s m).state ≢ 0 → has_waiter s.waiters m ≡ true
@@ -101,13 +104,12 @@ abbrev woken_at : Table → ℕ → ℕ → Table
 woken_at s u m = record (with_row u (woken_row s u) (with_cell m (handed_cell s u m) s)) { waiters = without s.waiters u; ready = s.ready ++ (u, woken_level s u m) ∷ [] }
 
 -- the table that the kernel and the line leave
-handed_is : (s : Table) (t u m : ℕ) → with_line t Idle (handed_to u m s) ≡ settled (with_row t (closed_row s t u) (woken_at s u m))
-unfolding handed_to
+handed_is : (s : Table) (t u m : ℕ) → with_line t Idle (handed_form u m s) ≡ settled (with_row t (closed_row s t u) (woken_at s u m))
 handed_is s t u m = settled_line t Idle (woken_at s u m)
 
 module _ (s : Table) (t u m : ℕ) (w : IsWaiter s t u m) (h : IsSound s) (a : has_thread s t ≡ true) (e : (row_at s t).line ≡ At (Unlock m) UnlockKernel) where
   -- what t knows of m
-  known : (has_mutex s m ≡ true) × (is_ready (row_at s t).status ≡ true) × ((cell_at s m).word.number ≡ t)
+  known : (has_mutex s m ≡ true) × (is_ready (row_at s t).status ≡ true) × ((cell_at s m).word.number ≡ t) × ((cell_at s m).count ≡ 1)
   known = knows_at_unlock s t m h a e
 
   -- the table before all is settled
@@ -168,7 +170,7 @@ module _ (s : Table) (t u m : ℕ) (w : IsWaiter s t u m) (h : IsSound s) (a : h
         stalled = c.stalled;
         fine = c.fine;
         no_death = refl;
-        single = c.single;
+        count = held_once (cell_at s m).kind u (cell_at s m).count known.3;
         owner = λ y. w.known;
         free = λ y. absurd (above_0 u (length s.rows) w.known y);
         state = refl;
@@ -191,20 +193,32 @@ module _ (s : Table) (t u m : ℕ) (w : IsWaiter s t u m) (h : IsSound s) (a : h
   pushed : (k : ℕ) → (Two k → ⊥) → names k (s.ready ++ (u, woken_level s u m) ∷ []) ≡ names k s.ready
   pushed k n = named-push s.ready u (woken_level s u m) k ∙ rw (ne_eqb u k (λ x. n (inr (sym x)))) (or_false (names k s.ready))
 
+  -- the invariant without the two, once m was handed over
+  handed_without_two : SoundBut Two (record (with_row u (woken_row s u) (with_cell m (handed_cell s u m) s)) { waiters = without s.waiters u })
+  handed_without_two = put_row (put_cell without_two m (handed_cell s u m) (without s.waiters u) known.0
+      (left_waiters without_two u m (inr refl) w.waits) handed_cell_sound
+      (λ k n z. record { kind = refl; owner = λ o. absurd (n (inl (sym o ∙ known.2))); other = λ o x. n (inr (sym x)); count = λ o. refl }))
+      u (woken_row s u) w.known (inr refl) (h.all.shape.priorities u w.known)
+
+  -- the same threads are there then
+  still_there : (k : ℕ) → has_thread s k ≡ true → has_thread (woken_at s u m) k ≡ true
+  still_there k e = ap (λ n. if k == 0 then false else nat_lt k n) (length-set s.rows u (woken_row s u)) ∙ e
+
+  -- the levels of the run queue with u
+  pushed_levels : HasLevels (s.ready ++ (u, woken_level s u m) ∷ [])
+  pushed_levels =
+      let r = effective_within (record (with_row u (woken_row s u) (with_cell m (handed_cell s u m) s)) { waiters = without s.waiters u }) handed_without_two.shape u (still_there u w.known) in
+      levels-push s.ready u (woken_level s u m) (within-from_ordered s.ready h.order) r.0 r.1
+
   -- the table is sound
   pub sound_when_handed : IsSound (settled after)
   sound_when_handed = settle (admit_last (admit
-      (put_row (put_ready (put_row (put_cell without_two m (handed_cell s u m) (without s.waiters u) known.0
-      (left_waiters without_two u m (inr refl) w.waits) handed_cell_sound
-      (λ k n z. record { kind = refl; owner = λ o. absurd (n (inl (sym o ∙ known.2))); other = λ o x. n (inr (sym x)) }))
-      u (woken_row s u) w.known (inr refl))
+      (put_row (put_ready handed_without_two
       (s.ready ++ (u, woken_level s u m) ∷ []) pushed (once_push s.ready (u, woken_level s u m) unready h.all.ready_once))
-      t (closed_row s t u) still_there (inl refl))
+      t (closed_row s t u) (still_there t a) (inl refl) (handed_without_two.shape.priorities t (still_there t a)))
       (λ k. k ≡ u) t (λ k x. x) giver_sound)
       taker_sound)
-    where
-      still_there : has_thread (woken_at s u m) t ≡ true
-      still_there = ap (λ n. if t == 0 then false else nat_lt t n) (length-set s.rows u (woken_row s u)) ∙ a
+      pushed_levels
 
 -- IN THE POSIX MACHINE
 
@@ -247,8 +261,8 @@ woken_seen s shadow t u m w c =
     rw (get_or-set_other (map thread_of s.rows) t u (given_up s shadow t) nobody w.other, mapped_at thread_of s.rows u no_row, fine_seen s shadow m c, w.line) refl
 
 -- the mutex, when u owns it
-handed_seen : (s : Table) (shadow : Shadow) (u m : ℕ) → CellIsSound (has_thread s) (has_waiter s.waiters m) (cell_at s m) → mutex_of (handed_cell s u m) ≡ record (mutex_at (world_of s shadow) m) { owner = u; count = 1 }
-handed_seen s shadow u m c = rw (mapped_at mutex_of s.cells m no_cell, c.single, c.no_death) refl
+handed_seen : (s : Table) (shadow : Shadow) (u m : ℕ) → CellIsSound (has_thread s) (has_waiter s.waiters m) (cell_at s m) → (cell_at s m).count ≡ 1 → mutex_of (handed_cell s u m) ≡ record (mutex_at (world_of s shadow) m) { owner = u; count = 1 }
+handed_seen s shadow u m c once = rw (mapped_at mutex_of s.cells m no_cell, once, c.no_death) refl
 
 -- t's place is written before u's and again after it
 rewritten : {A : Type 0} (l : List A) (t u : ℕ) (x y z : A) → t ≢ u → set (set (set l t x) u y) t z ≡ set (set l u y) t z
@@ -266,15 +280,14 @@ handed_threads s shadow t u m w c h =
     (record (thread_at (handed_over s shadow t u m) t) { call = None }) (λ x. w.other (sym x)))
 
 -- the mutexes that the table shows
-handed_mutexes : (s : Table) (shadow : Shadow) (u m : ℕ) → CellIsSound (has_thread s) (has_waiter s.waiters m) (cell_at s m)
+handed_mutexes : (s : Table) (shadow : Shadow) (u m : ℕ) → CellIsSound (has_thread s) (has_waiter s.waiters m) (cell_at s m) → (cell_at s m).count ≡ 1
     → map mutex_of (set s.cells m (handed_cell s u m)) ≡ set (map mutex_of s.cells) m (record (mutex_at (world_of s shadow) m) { owner = u; count = 1 })
-handed_mutexes s shadow u m c = map-set mutex_of s.cells m (handed_cell s u m) ∙ ap (set (map mutex_of s.cells) m) (handed_seen s shadow u m c)
+handed_mutexes s shadow u m c once = map-set mutex_of s.cells m (handed_cell s u m) ∙ ap (set (map mutex_of s.cells) m) (handed_seen s shadow u m c once)
 
 -- the world that the table shows
-pub handed_world : (s : Table) (shadow : Shadow) (t u m : ℕ) → IsWaiter s t u m → CellIsSound (has_thread s) (has_waiter s.waiters m) (cell_at s m) → t < length s.rows
-    → world_of (with_line t Idle (handed_to u m s)) shadow ≡ with_thread t (record (thread_at (handed_over s shadow t u m) t) { call = None }) (handed_over s shadow t u m)
-unfolding handed_to
-handed_world s shadow t u m w c h = λ i. record { threads = handed_threads s shadow t u m w c h i; mutexes = handed_mutexes s shadow u m c i; waiters = without s.waiters u }
+pub handed_world : (s : Table) (shadow : Shadow) (t u m : ℕ) → IsWaiter s t u m → CellIsSound (has_thread s) (has_waiter s.waiters m) (cell_at s m) → (cell_at s m).count ≡ 1 → t < length s.rows
+    → world_of (with_line t Idle (handed_form u m s)) shadow ≡ with_thread t (record (thread_at (handed_over s shadow t u m) t) { call = None }) (handed_over s shadow t u m)
+handed_world s shadow t u m w c once h = λ i. record { threads = handed_threads s shadow t u m w c h i; mutexes = handed_mutexes s shadow u m c once i; waiters = without s.waiters u }
 
 -- WHAT THE STEP NEEDS
 
@@ -298,14 +311,19 @@ module _ (s : Table) (shadow : Shadow) (t m : ℕ) (h : AtHandOver s t m) where
   cell_known : CellIsSound (has_thread s) (has_waiter s.waiters m) (cell_at s m)
   cell_known = h.sound.all.cells m (knows_at_unlock s t m h.sound h.known h.line).0
 
+  -- it is held once
+  once : (cell_at s m).count ≡ 1
+  once = (knows_at_unlock s t m h.sound h.known h.line).3
+
   -- the table stays sound
-  pub hand_sound : IsSound (with_line t Idle (handed_to (kernel_next s m) m s))
+  pub hand_sound : IsSound (with_line t Idle (handed_form (kernel_next s m) m s))
   hand_sound = subst IsSound (sym (handed_is s t (kernel_next s m) m)) (sound_when_handed s t (kernel_next s m) m next_known h.sound h.known h.line)
 
   -- the mutex passes on to the next waiter
   pub hand_unlocks : Unlocks t m (world_of s shadow) (handed_over s shadow t (kernel_next s m) m)
   hand_unlocks =
       released (owner_seen s shadow m ∙ (knows_at_unlock s t m h.sound h.known h.line).2)
+      (ap (λ (x : Mutex). x.count) (mapped_at mutex_of s.cells m no_cell) ∙ once)
       (λ x. fine_not_inconsistent (sym (fine_seen s shadow m cell_known) ∙ x))
       (to_next (kernel_next s m) (next-with_progress (world_of s shadow) t (Has 0) m ∙ next_seen s shadow h.sound m) hand_next_above_0 refl)
     where
@@ -317,11 +335,11 @@ module _ (s : Table) (shadow : Shadow) (t m : ℕ) (h : AtHandOver s t m) where
   hand_call = giver_call s shadow t (kernel_next s m) m (λ x. next_known.other (sym x)) (below t (length s.rows) h.known) h.line
 
   -- it is closed then
-  pub hand_world : world_of (with_line t Idle (handed_to (kernel_next s m) m s)) shadow ≡ with_thread t (record (thread_at (handed_over s shadow t (kernel_next s m) m) t) { call = None }) (handed_over s shadow t (kernel_next s m) m)
-  hand_world = handed_world s shadow t (kernel_next s m) m next_known cell_known (below t (length s.rows) h.known)
+  pub hand_world : world_of (with_line t Idle (handed_form (kernel_next s m) m s)) shadow ≡ with_thread t (record (thread_at (handed_over s shadow t (kernel_next s m) m) t) { call = None }) (handed_over s shadow t (kernel_next s m) m)
+  hand_world = handed_world s shadow t (kernel_next s m) m next_known cell_known once (below t (length s.rows) h.known)
 
   -- its thread doesn't rest
-  pub hand_rests : rests (world_of (with_line t Idle (handed_to (kernel_next s m) m s)) shadow) t ≡ false
+  pub hand_rests : rests (world_of (with_line t Idle (handed_form (kernel_next s m) m s)) shadow) t ≡ false
   hand_rests = subst (λ v. IsSound v → rests (world_of v shadow) t ≡ false) (sym (handed_is s t (kernel_next s m) m))
       (λ sound. rests_ready (settled (with_row t (closed_row s t (kernel_next s m)) (woken_at s (kernel_next s m) m))) shadow t sound
       (same_threads s t (kernel_next s m) m next_known h.sound h.known h.line t ∙ h.known)

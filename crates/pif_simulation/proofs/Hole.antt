@@ -1,6 +1,6 @@
 -- The invariant with a hole: the few steps that keep it save for excused threads. Every step of the table is built of
 -- them: excuse a thread, put its row, put a cell with its waiters, put the run queue, admit the thread again, and settle.
-use Rattle.std.proofs.Common.{◌≡◌, ◌≢◌, ℕ, ◌<◌, ◌≤◌, ◌+◌, Bool, true, false, ◌==◌, nat_lt, List, [], ◌∷◌, ◌++◌, length, get_or, refl, sym, ap, ap₂, ◌∙◌, subst, arith, if◌then◌else◌, ne_eqb, ◌⊎◌, inl, inr}
+use Rattle.std.proofs.Common.{◌≡◌, ◌≢◌, ℕ, ◌<◌, ◌≤◌, ◌+◌, ◌-◌, Bool, true, false, ◌==◌, nat_lt, List, [], ◌∷◌, ◌++◌, length, get_or, refl, sym, ap, ap₂, ◌∙◌, subst, arith, if◌then◌else◌, ne_eqb, ◌⊎◌, inl, inr}
 use Rattle.std.specs.List.{list_any}
 use Rattle.std.proofs.lemmas.Bool.{cases_eq, cases_lt}
 use Rattle.std.proofs.lemmas.Bool.Decides.{nat_tests}
@@ -9,10 +9,13 @@ use Rattle.pif_model.specs.declared.lines.Line.{Line}
 use Rattle.pif_model.specs.declared.lines.Status.{Status}
 use Rattle.pif_model.specs.declared.lines.Status.TheVariants.{Ready, Queued, Stopped}
 use Rattle.pif_model.specs.Graph.{effective_among, has_waiter, waited_by, without}
-use Rattle.pif_model.specs.Table.{Table, Row, Cell, no_row, no_cell, row_at, cell_at, has_thread, has_mutex, with_row, with_cell, is_ready, queued_on, kernel_waits_for, kernel_effective, releveled, settled}
+use Rattle.pif_model.specs.Table.{Table, Row, Cell, no_row, no_cell, row_at, cell_at, has_thread, has_mutex, with_row, with_cell, is_ready, queued_on, kernel_waits_for, kernel_effective}
 use Rattle.pif_model.specs.Standing.{QueueIsSound, RowIsSound, CellIsSound, ThreadIsSound, IsShaped, SoundBut, IsLeveled, IsSound}
 use Rattle.pif_simulation.proofs.Kept.{Spares, line_spared, above_0, below, from_within}
-use Rattle.pif_simulation.proofs.Waiting.{names, Once, or_false, waited_by-append_other, waited_by-without_other, has_waiter-push, has_waiter-without_other, once_push, once_without, named-releveled, once_releveled, level_releveled}
+use Rattle.pif_simulation.proofs.Waiting.{names, Once, or_false, waited_by-append_other, waited_by-without_other, has_waiter-push, has_waiter-without_other, once_push, once_without}
+use Rattle.pif_simulation.proofs.Forms.{settled}
+use Rattle.pif_simulation.proofs.Leveled.{HasLevels, named_releveled, once_releveled, level_releveled, releveled_ordered}
+use Rattle.pif_simulation.proofs.Priorities.{effective_within}
 
 -- WHAT IS READ OF A PART
 
@@ -22,6 +25,7 @@ unwritten u c d e = record {
   kind = ap (λ (x : Cell). x.kind) e;
   owner = λ o. ap (λ (x : Cell). x.word.number) e ∙ o;
   other = λ o p. o (sym (ap (λ (x : Cell). x.word.number) e) ∙ p);
+  count = λ o. ap (λ (x : Cell). x.count) e;
 }
 
 -- a sound row stays so where others spare it
@@ -49,22 +53,28 @@ cell_spared added added' waited c more h = record {
   stalled = h.stalled;
   fine = h.fine;
   no_death = h.no_death;
-  single = h.single;
+  count = h.count;
   owner = λ z. more c.word.number (h.owner z);
   free = h.free;
   state = h.state;
   contended = h.contended;
 }
 
--- the shape stays where there are as many rows and cells under the same limits, and place 0 stays
-shape_spared : (s v : Table) → v.limits ≡ s.limits → length v.rows ≡ length s.rows → length v.cells ≡ length s.cells → row_at v 0 ≡ row_at s 0 → cell_at v 0 ≡ cell_at s 0 → IsShaped s → IsShaped v
-shape_spared s v l n k r c h = record {
+-- a base priority is one
+abbrev pub IsPriority : ℕ → Type 0
+IsPriority p = (1 ≤ p) × (p ≤ 99)
+
+-- the shape stays where there are as many rows and cells under the same limits, and place 0 and all priorities stay
+shape_spared : (s v : Table) → v.limits ≡ s.limits → length v.rows ≡ length s.rows → length v.cells ≡ length s.cells → row_at v 0 ≡ row_at s 0 → cell_at v 0 ≡ cell_at s 0
+    → ((t : ℕ) → has_thread s t ≡ true → IsPriority (row_at v t).base) → IsShaped s → IsShaped v
+shape_spared s v l n k r c p h = record {
   nobody = r ∙ h.nobody;
   no_mutex = c ∙ h.no_mutex;
   some_row = rw n h.some_row;
   some_cell = rw k h.some_cell;
   few_rows = rw (n, l) h.few_rows;
   few_cells = rw (k, l) h.few_cells;
+  priorities = λ t e. p t (ap (λ i. if t == 0 then false else nat_lt t i) (sym n) ∙ e);
 }
 
 -- a number that is above 0 and below is so below a greater bound
@@ -100,10 +110,10 @@ pub record Requeues (Excused : ℕ → Type 0) (s : Table) (m : ℕ) (ws : List 
 -- THE STEPS
 
 module _ {Excused : ℕ → Type 0} {s : Table} (h : SoundBut Excused s) where
-  -- an excused thread may get any row
-  pub put_row : (t : ℕ) (r : Row) → has_thread s t ≡ true → Excused t → SoundBut Excused (with_row t r s)
-  put_row t r k out = record {
-    shape = shape_spared s (with_row t r s) refl (length-set s.rows t r) refl (elsewhere 0 (λ e. above_0 t (length s.rows) k (sym e))) refl h.shape;
+  -- an excused thread may get any row with a priority
+  pub put_row : (t : ℕ) (r : Row) → has_thread s t ≡ true → Excused t → IsPriority r.base → SoundBut Excused (with_row t r s)
+  put_row t r k out prio = record {
+    shape = shape_spared s (with_row t r s) refl (length-set s.rows t r) refl (elsewhere 0 (λ e. above_0 t (length s.rows) k (sym e))) refl (λ u e. priority u e (cases_eq u t)) h.shape;
     cells = λ m e. cell_spared (has_thread s) (has_thread (with_row t r s)) (has_waiter s.waiters m) (cell_at s m) (λ u i. known u ∙ i) (h.cells m e);
     threads = λ u n. thread_spared s (with_row t r s) u (known u) (elsewhere u (λ e. n (subst Excused (sym e) out))) (λ a m i. (i, unwritten u (cell_at s m) (cell_at s m) refl)) refl refl (h.threads u n);
     somewhere = h.somewhere;
@@ -117,11 +127,16 @@ module _ {Excused : ℕ → Type 0} {s : Table} (h : SoundBut Excused s) where
       known : (u : ℕ) → has_thread (with_row t r s) u ≡ has_thread s u
       known u = ap (λ n. if u == 0 then false else nat_lt u n) (length-set s.rows t r)
 
+      priority : (u : ℕ) → has_thread s u ≡ true → (u ≡ t) ⊎ (u ≢ t) → IsPriority (row_at (with_row t r s) u).base
+      priority u e (inl q) = subst (λ v. IsPriority (row_at (with_row t r s) v).base) (sym q)
+          (subst (λ (x : Row). IsPriority x.base) (sym (get_or-set_same s.rows t r no_row (below t (length s.rows) k))) prio)
+      priority u e (inr d) = subst (λ (x : Row). IsPriority x.base) (sym (elsewhere u d)) (h.shape.priorities u e)
+
   -- a mutex may get a cell that is sound with its waiters, where every thread that is not excused is spared
   pub put_cell : (m : ℕ) (c : Cell) (ws : List (ℕ × ℕ)) → has_mutex s m ≡ true → Requeues Excused s m ws → CellIsSound (has_thread s) (has_waiter ws m) c
       → ((u : ℕ) → (Excused u → ⊥) → u ≢ 0 → Spares u (cell_at s m) c) → SoundBut Excused (record (with_cell m c s) { waiters = ws })
   put_cell m c ws k re sound spares = record {
-    shape = shape_spared s (record (with_cell m c s) { waiters = ws }) refl refl (length-set s.cells m c) refl (elsewhere 0 (λ e. above_0 m (length s.cells) k (sym e))) h.shape;
+    shape = shape_spared s (record (with_cell m c s) { waiters = ws }) refl refl (length-set s.cells m c) refl (elsewhere 0 (λ e. above_0 m (length s.cells) k (sym e))) h.shape.priorities h.shape;
     cells = λ n e. each n (λ n c. CellIsSound (has_thread s) (has_waiter ws n) c) sound
         (λ d. subst (λ b. CellIsSound (has_thread s) b (cell_at s n)) (sym (re.others n d)) (h.cells n (sym (known n) ∙ e)));
     threads = λ u n. thread_spared s (record (with_cell m c s) { waiters = ws }) u refl refl
@@ -148,7 +163,7 @@ module _ {Excused : ℕ → Type 0} {s : Table} (h : SoundBut Excused s) where
   -- the run queue may change for excused threads
   pub put_ready : (rs : List (ℕ × ℕ)) → ((u : ℕ) → (Excused u → ⊥) → names u rs ≡ names u s.ready) → Once rs → SoundBut Excused (record s { ready = rs })
   put_ready rs same once = record {
-    shape = shape_spared s (record s { ready = rs }) refl refl refl refl refl h.shape;
+    shape = shape_spared s (record s { ready = rs }) refl refl refl refl refl h.shape.priorities h.shape;
     cells = h.cells;
     threads = λ u n. thread_spared s (record s { ready = rs }) u refl refl (λ a m i. (i, unwritten u (cell_at s m) (cell_at s m) refl)) refl (same u n) (h.threads u n);
     somewhere = h.somewhere;
@@ -157,8 +172,8 @@ module _ {Excused : ℕ → Type 0} {s : Table} (h : SoundBut Excused s) where
   }
 
   -- a row more, of an excused thread
-  pub push_row : (r : Row) → Excused (length s.rows) → length s.rows ≤ s.limits.threads → SoundBut Excused (record s { rows = s.rows ++ r ∷ [] })
-  push_row r out few = record {
+  pub push_row : (r : Row) → Excused (length s.rows) → length s.rows ≤ s.limits.threads → IsPriority r.base → SoundBut Excused (record s { rows = s.rows ++ r ∷ [] })
+  push_row r out few prio = record {
     shape = record {
       nobody = row_pushed_else s r 0 (omega (arith, h.shape.some_row)) ∙ h.shape.nobody;
       no_mutex = h.shape.no_mutex;
@@ -166,6 +181,7 @@ module _ {Excused : ℕ → Type 0} {s : Table} (h : SoundBut Excused s) where
       some_cell = h.shape.some_cell;
       few_rows = omega (arith, few, length_push s.rows r);
       few_cells = h.shape.few_cells;
+      priorities = λ u e. priority u e (cases_eq u (length s.rows));
     };
     cells = λ m e. cell_spared (has_thread s) (has_thread (record s { rows = s.rows ++ r ∷ [] })) (has_waiter s.waiters m) (cell_at s m) (λ u i. more_within u (length s.rows) (length (s.rows ++ r ∷ [])) (omega (arith, length_push s.rows r)) i) (h.cells m e);
     threads = λ u n. thread_spared s (record s { rows = s.rows ++ r ∷ [] }) u (ap (λ l. if u == 0 then false else nat_lt u l) (length_push s.rows r) ∙ within_more u (length s.rows) (λ e. n (subst Excused (sym e) out)))
@@ -174,6 +190,12 @@ module _ {Excused : ℕ → Type 0} {s : Table} (h : SoundBut Excused s) where
     once = h.once;
     ready_once = h.ready_once;
   }
+    where
+      priority : (u : ℕ) → has_thread (record s { rows = s.rows ++ r ∷ [] }) u ≡ true → (u ≡ length s.rows) ⊎ (u ≢ length s.rows) → IsPriority (row_at (record s { rows = s.rows ++ r ∷ [] }) u).base
+      priority u e (inl q) = subst (λ v. IsPriority (row_at (record s { rows = s.rows ++ r ∷ [] }) v).base) (sym q)
+          (subst (λ (x : Row). IsPriority x.base) (sym (get_or_push s.rows r no_row (length s.rows) refl)) prio)
+      priority u e (inr d) = subst (λ (x : Row). IsPriority x.base) (sym (row_pushed_else s r u d))
+          (h.shape.priorities u (sym (within_more u (length s.rows) d) ∙ ap (λ n. if u == 0 then false else nat_lt u n) (sym (length_push s.rows r)) ∙ e))
 
   -- a mutex more, for which nobody waits
   pub push_cell : (c : Cell) → CellIsSound (has_thread s) (has_waiter s.waiters (length s.cells)) c → length s.cells ≤ s.limits.mutexes → SoundBut Excused (record s { cells = s.cells ++ c ∷ [] })
@@ -185,6 +207,7 @@ module _ {Excused : ℕ → Type 0} {s : Table} (h : SoundBut Excused s) where
       some_cell = omega (arith, h.shape.some_cell, length_push s.cells c);
       few_rows = h.shape.few_rows;
       few_cells = omega (arith, few, length_push s.cells c);
+      priorities = h.shape.priorities;
     };
     cells = λ m e. go m e (cases_eq m (length s.cells));
     threads = λ u n. thread_spared s (record s { cells = s.cells ++ c ∷ [] }) u refl refl
@@ -295,9 +318,26 @@ waits_same a b queued state u = ap (λ m. (cell_at b m).state) (queued u) ∙ st
 pub leveled_same : (a b : Table) → b.ready ≡ a.ready → ((t : ℕ) → kernel_effective b t ≡ kernel_effective a t) → IsLeveled a → IsLeveled b
 leveled_same a b r e h t = ap₂ (λ (rs : List (ℕ × ℕ)) n. list_any (λ (r : ℕ × ℕ). if r.0 == t then (if r.1 == n then false else true) else false) rs) r (e t) ∙ h t
 
+-- who stands in the run queue was added
+ready_known : {s : Table} → SoundBut (λ t. ⊥) s → (t : ℕ) → names t s.ready ≡ true → has_thread s t ≡ true
+ready_known {s} h t e = go (has_thread s t) (is_ready (row_at s t).status) (sym (h.threads t (λ x. x)).ready ∙ e)
+  where
+    go : (a b : Bool) → (if a then b else false) ≡ true → a ≡ true
+    go true b k = refl
+    go false b k = k
+
 -- a table that is sound but for its levels is sound once it is settled
-pub settle : {s : Table} → SoundBut (λ t. ⊥) s → IsSound (settled s)
-settle {s} h = record {
-  all = put_ready h (releveled (kernel_effective s) s.ready) (λ u n. named-releveled (kernel_effective s) s.ready u) (once_releveled (kernel_effective s) s.ready h.ready_once);
-  level = λ t. level_releveled (kernel_effective s) s.ready t;
+pub settle : {s : Table} → SoundBut (λ t. ⊥) s → HasLevels s.ready → IsSound (settled s)
+settle {s} h levels = record {
+  all = put_ready h (settled s).ready (λ u n. named_releveled (length s.rows - 1) (kernel_effective s) s.ready u levels (λ e. new u (ready_known h u e)))
+      (once_releveled (length s.rows - 1) (kernel_effective s) s.ready h.ready_once);
+  level = level_releveled (length s.rows - 1) (kernel_effective s) s.ready;
+  order = releveled_ordered (length s.rows - 1) (kernel_effective s) s.ready;
 }
+  where
+    new : (u : ℕ) → has_thread s u ≡ true → (1 ≤ u) × (u ≤ length s.rows - 1) × (1 ≤ kernel_effective s u) × (kernel_effective s u ≤ 99)
+    new u k =
+        let some : u ≢ 0 = above_0 u (length s.rows) k in
+        let low : u < length s.rows = below u (length s.rows) k in
+        let r = effective_within s h.shape u k in
+        (omega arith, omega arith, r.0, r.1)

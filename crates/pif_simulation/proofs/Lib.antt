@@ -1,4 +1,6 @@
+pub mod AllHolding
 pub mod Among
+pub mod Bound
 pub mod Following
 pub mod Effective
 pub mod HandOver
@@ -7,9 +9,13 @@ pub mod Holding
 pub mod Kept
 pub mod Hole
 pub mod Next
-pub mod Passing
 pub mod Picks
 pub mod Places
+pub mod Forms
+pub mod Leveled
+pub mod Priorities
+pub mod LevelLists
+pub mod FormLaws
 pub mod Priority
 pub mod Queue
 pub mod Waiting
@@ -20,9 +26,14 @@ pub mod Local
 pub mod Owning
 pub mod Rows
 pub mod SetPriorityLine
+pub mod TakingLines
+pub mod RecursiveLines
 pub mod LockLines
+pub mod TryLines
 pub mod UnlockLines
 pub mod Chains
 pub mod Additions
+pub mod KernelFacts
 pub mod Simulation
 pub mod StandingLaws
+pub mod Counts

@@ -1,11 +1,11 @@
 -- Local lines: a step that sees one thread's row and one mutex and writes only these. What such a line has to show is
 -- of these two alone, with no list and no world in it; one lemma makes it an entry of the POSIX machine that keeps the
 -- invariant.
-use Rattle.std.proofs.Common.{◌≡◌, ◌≢◌, ℕ, ◌<◌, Bool, true, false, ◌==◌, nat_lt, length, Option, Some, None, refl, sym, ap, ap₂, ◌∙◌, subst, if◌then◌else◌}
+use Rattle.std.proofs.Common.{◌≡◌, ◌≢◌, ℕ, ◌<◌, ◌+◌, ◌-◌, Bool, true, false, ◌==◌, nat_lt, length, Option, Some, None, refl, sym, ap, ap₂, ◌∙◌, subst, if◌then◌else◌}
 use Rattle.std.proofs.lemmas.List.{length-set, get_or-set_same, set-get_or}
-use Rattle.pif_types.specs.declared.requests.Kind.TheVariants.{ErrorCheck}
+use Rattle.pif_types.specs.declared.requests.Kind.TheVariants.{ErrorCheck, Recursive}
 use Rattle.pif_types.specs.declared.requests.Request.{Request}
-use Rattle.pif_types.specs.declared.requests.Request.TheVariants.{Lock, Unlock, SetPrio}
+use Rattle.pif_types.specs.declared.requests.Request.TheVariants.{Lock, TryLock, Unlock, SetPrio}
 use Rattle.pif_model.specs.declared.events.Event.TheVariants.{Go}
 use Rattle.pif_model.specs.declared.events.Seen.{Seen}
 use Rattle.pif_model.specs.declared.events.Seen.TheVariants.{Begun, Went, Waits, Answered, Refused}
@@ -15,19 +15,21 @@ use Rattle.pif_model.specs.declared.lines.Line.TheVariants.{Idle, At}
 use Rattle.pif_model.specs.declared.lines.Place.{Place}
 use Rattle.pif_model.specs.declared.lines.Status.{Status}
 use Rattle.pif_model.specs.Graph.{has_waiter}
-use Rattle.pif_model.specs.Posix.{Progress, Call, Thread, Mutex, World, Effect, Effects, no_mutex, nobody, named_by, names_known, thread_at, mutex_at, with_thread, with_mutex, with_progress, progressed, on_taking, effective_of}
+use Rattle.pif_model.specs.Posix.{Progress, Call, Thread, Mutex, World, Effect, Effects, LocksAgain, no_mutex, nobody, named_by, names_known, thread_at, mutex_at, with_thread, with_mutex, with_progress, progressed, on_taking, taken, effective_of}
 use Rattle.pif_model.specs.Posix.Health.{Inconsistent}
 use Rattle.pif_model.specs.Posix.Progress.{Fresh, Has}
-use Rattle.pif_model.specs.Posix.Effect.{lock, unlock}
-use Rattle.pif_model.specs.Posix.Locks.{own_errorcheck, free}
-use Rattle.pif_model.specs.Posix.Unlocks.{not_owner, released}
+use Rattle.pif_model.specs.Posix.Effect.{lock, try_lock, unlock}
+use Rattle.pif_model.specs.Posix.Locks.{own_errorcheck, own_recursive as lock_own_recursive, free as lock_free}
+use Rattle.pif_model.specs.Posix.LocksAgain.{rises, at_limit}
+use Rattle.pif_model.specs.Posix.TriesToLock.{own_recursive as try_own_recursive, busy, free as try_free}
+use Rattle.pif_model.specs.Posix.Unlocks.{not_owner, falls, released}
 use Rattle.pif_model.specs.Posix.Passes.{to_nobody}
 use Rattle.pif_model.specs.Posix.Effects.{none, then as first}
 use Rattle.pif_model.specs.Table.{Table, Row, Cell, no_row, no_cell, row_at, cell_at, has_thread, has_mutex, with_row, with_cell, is_ready, queued_on}
 use Rattle.pif_model.specs.Lines.{Outcome, goes_to, answers}
 use Rattle.pif_model.specs.Standing.{Shadow, MeetsAll, needs, belongs, call_at, progress_at, mutex_of, world_of, LineIsSound, RowIsSound, CellIsSound, ThreadIsSound, IsSound}
 use Rattle.pif_simulation.proofs.Kept.{Spares, below}
-use Rattle.pif_simulation.proofs.Hole.{unwritten, put_row, put_cell, same_waiters, ready-at_any_line, effective_same, waits_same, leveled_same, each_thread, excuse_one, admit_last}
+use Rattle.pif_simulation.proofs.Hole.{IsPriority, unwritten, put_row, put_cell, same_waiters, ready-at_any_line, effective_same, waits_same, leveled_same, each_thread, excuse_one, admit_last}
 use Rattle.pif_simulation.proofs.Effective.{kept_at}
 use Rattle.pif_simulation.proofs.Owning.{next_none}
 use Rattle.pif_simulation.proofs.Projection.{thread_seen, mutex_seen, row_seen, cell_seen, progress_seen, closed_progressed, call_progressed}
@@ -63,14 +65,23 @@ answering a c v = record { seen = Answered a; row = record v.row { line = Idle }
 
 -- EFFECTS ON ONE CALL AND ITS MUTEX
 
+-- q locks m where nobody owns it, and again where its thread does and the kind is RECURSIVE
+pub data IsLocking (m : ℕ) (q : Request) : Type 0 where
+  by_lock : q ≡ Lock m → IsLocking m q
+  by_try_lock : q ≡ TryLock m → IsLocking m q
+
 -- what t's call q on m, which has come as far as a, does to itself and to its mutex y: it has come as far as b, and the
 -- mutex is z. Waited: whether a thread waits for m
 pub data Does (t m : ℕ) (waited : Bool) (q : Request) (a : Progress) (y : Mutex) (b : Progress) (z : Mutex) : Type 0 where
   nothing : b ≡ a → z ≡ y → Does t m waited q a y b z
   locks_own_errorcheck : q ≡ Lock m → a ≡ Fresh → y.owner ≡ t → y.kind ≡ ErrorCheck → b ≡ Has 35 → z ≡ y → Does t m waited q a y b z
-  locks_free : q ≡ Lock m → a ≡ Fresh → y.owner ≢ t → y.owner ≡ 0 → b ≡ on_taking y.health → z ≡ record y { owner = t; count = 1 } → Does t m waited q a y b z
+  locks_again : IsLocking m q → a ≡ Fresh → y.owner ≡ t → y.kind ≡ Recursive → y.count < 255 → b ≡ Has 0 → z ≡ record y { count = y.count + 1 } → Does t m waited q a y b z
+  locks_at_limit : IsLocking m q → a ≡ Fresh → y.owner ≡ t → y.kind ≡ Recursive → y.count ≡ 255 → b ≡ Has 11 → z ≡ y → Does t m waited q a y b z
+  locks_free : IsLocking m q → a ≡ Fresh → y.owner ≢ t → y.owner ≡ 0 → b ≡ on_taking y.health → z ≡ record y { owner = t; count = 1 } → Does t m waited q a y b z
+  tries_owned : q ≡ TryLock m → a ≡ Fresh → y.owner ≢ 0 → (y.owner ≡ t → y.kind ≢ Recursive) → b ≡ Has 16 → z ≡ y → Does t m waited q a y b z
   unlocks_not_own : q ≡ Unlock m → a ≡ Fresh → y.owner ≢ t → b ≡ Has 1 → z ≡ y → Does t m waited q a y b z
-  unlocks_own : q ≡ Unlock m → a ≡ Fresh → y.owner ≡ t → y.health ≢ Inconsistent → waited ≡ false → b ≡ Has 0 → z ≡ record y { owner = 0 } → Does t m waited q a y b z
+  unlocks_one : q ≡ Unlock m → a ≡ Fresh → y.owner ≡ t → 1 < y.count → b ≡ Has 0 → z ≡ record y { count = y.count - 1 } → Does t m waited q a y b z
+  unlocks_own : q ≡ Unlock m → a ≡ Fresh → y.owner ≡ t → y.count ≡ 1 → y.health ≢ Inconsistent → waited ≡ false → b ≡ Has 0 → z ≡ record y { owner = 0 } → Does t m waited q a y b z
 
 module _ (w : World) (t : ℕ) {q : Request} {a : Progress} (call : (thread_at w t).call ≡ Some (record { request = q; progress = a })) where
   -- the call, as a rule of the POSIX machine wants it
@@ -83,23 +94,41 @@ module _ (w : World) (t : ℕ) {q : Request} {a : Progress} (call : (thread_at w
       ap (λ c. with_thread t (record (thread_at w t) { call = c }) w) (ap (progressed a) call ∙ sym call)
       ∙ (λ i. record w { threads = set-get_or w.threads t nobody i })
 
-module _ (w : World) (t m : ℕ) {q : Request} {a b : Progress} {y z : Mutex} (here : mutex_at w m ≡ y) (call : (thread_at w t).call ≡ Some (record { request = q; progress = a })) where
-  -- the mutex is what it was
-  alone : (c : Progress) → b ≡ c → z ≡ y → with_progress t b (with_mutex m z w) ≡ with_progress t c w
-  alone c e f =
-      (λ i. with_progress t (e i) (with_mutex m ((f ∙ sym here) i) w))
-      ∙ (λ i. with_progress t c (record w { mutexes = set-get_or w.mutexes m no_mutex i }))
+  -- a lock or a trylock by the owner of a RECURSIVE mutex
+  again : (m : ℕ) {v : World} → IsLocking m q → a ≡ Fresh → (mutex_at w m).owner ≡ t → (mutex_at w m).kind ≡ Recursive → LocksAgain t m w v → Effect t w v
+  again m (by_lock r) n o k e = lock m (called (Lock m) r n) (lock_own_recursive o k e)
+  again m (by_try_lock r) n o k e = try_lock m (called (TryLock m) r n) (try_own_recursive o k e)
+
+  -- a lock or a trylock of a free mutex
+  takes_free : (m : ℕ) {v : World} → IsLocking m q → a ≡ Fresh → (mutex_at w m).owner ≢ t → (mutex_at w m).owner ≡ 0 → v ≡ taken t m w → Effect t w v
+  takes_free m (by_lock r) n o k e = lock m (called (Lock m) r n) (lock_free o k e)
+  takes_free m (by_try_lock r) n o k e = try_lock m (called (TryLock m) r n) (try_free k e)
+
+module _ (w : World) (t m : ℕ) {q : Request} {a b : Progress} {z : Mutex} (call : (thread_at w t).call ≡ Some (record { request = q; progress = a })) where
+  -- the call has come as far as c, and the mutex is x
+  both : (c : Progress) (x : Mutex) → b ≡ c → z ≡ x → with_progress t b (with_mutex m z w) ≡ with_progress t c (with_mutex m x w)
+  both c x e f = ap₂ (λ d (y : Mutex). with_progress t d (with_mutex m y w)) e f
+
+  -- the call has come as far as c, and the mutex is what it was
+  alone : (c : Progress) → b ≡ c → z ≡ mutex_at w m → with_progress t b (with_mutex m z w) ≡ with_progress t c w
+  alone c e f = both c (mutex_at w m) e f ∙ (λ i. with_progress t c (record w { mutexes = set-get_or w.mutexes m no_mutex i }))
 
   -- effects on one call and its mutex are effects of the POSIX machine
-  pub does_seen : Does t m (has_waiter w.waiters m) q a y b z → Effects t w (with_progress t b (with_mutex m z w))
-  does_seen (nothing e f) = none (alone a e f ∙ unmoved w t call)
-  does_seen (locks_own_errorcheck r n o k e f) = first (lock m (called w t call (Lock m) r n) (own_errorcheck (ap (λ (x : Mutex). x.owner) here ∙ o) (ap (λ (x : Mutex). x.kind) here ∙ k) (alone (Has 35) e f))) (none refl)
-  does_seen (locks_free r n o k e f) = first (lock m (called w t call (Lock m) r n) (free (λ d. o (sym (ap (λ (x : Mutex). x.owner) here) ∙ d)) (ap (λ (x : Mutex). x.owner) here ∙ k)
-      (ap₂ (λ c (x : Mutex). with_progress t c (with_mutex m x w)) (e ∙ ap (λ (x : Mutex). on_taking x.health) (sym here)) (f ∙ ap (λ (x : Mutex). record x { owner = t; count = 1 }) (sym here))))) (none refl)
-  does_seen (unlocks_not_own r n o e f) = first (unlock m (called w t call (Unlock m) r n) (not_owner (λ d. o (sym (ap (λ (x : Mutex). x.owner) here) ∙ d)) (alone (Has 1) e f))) (none refl)
-  does_seen (unlocks_own r n o k u e f) = first (unlock m (called w t call (Unlock m) r n) (released (ap (λ (x : Mutex). x.owner) here ∙ o) (λ d. k (sym (ap (λ (x : Mutex). x.health) here) ∙ d))
-      (to_nobody (next_none (effective_of (with_progress t (Has 0) w)) w.waiters m u)
-      (ap₂ (λ c (x : Mutex). with_progress t c (with_mutex m x w)) e (f ∙ ap (λ (x : Mutex). record x { owner = 0 }) (sym here)))))) (none refl)
+  does_here : Does t m (has_waiter w.waiters m) q a (mutex_at w m) b z → Effects t w (with_progress t b (with_mutex m z w))
+  does_here (nothing e f) = none (alone a e f ∙ unmoved w t call)
+  does_here (locks_own_errorcheck r n o k e f) = first (lock m (called w t call (Lock m) r n) (own_errorcheck o k (alone (Has 35) e f))) (none refl)
+  does_here (locks_again r n o k l e f) = first (again w t call m r n o k (rises l (both (Has 0) (record (mutex_at w m) { count = (mutex_at w m).count + 1 }) e f))) (none refl)
+  does_here (locks_at_limit r n o k l e f) = first (again w t call m r n o k (at_limit l (alone (Has 11) e f))) (none refl)
+  does_here (locks_free r n o k e f) = first (takes_free w t call m r n o k (both (on_taking (mutex_at w m).health) (record (mutex_at w m) { owner = t; count = 1 }) e f)) (none refl)
+  does_here (tries_owned r n o k e f) = first (try_lock m (called w t call (TryLock m) r n) (busy o k (alone (Has 16) e f))) (none refl)
+  does_here (unlocks_not_own r n o e f) = first (unlock m (called w t call (Unlock m) r n) (not_owner o (alone (Has 1) e f))) (none refl)
+  does_here (unlocks_one r n o l e f) = first (unlock m (called w t call (Unlock m) r n) (falls o l (both (Has 0) (record (mutex_at w m) { count = (mutex_at w m).count - 1 }) e f))) (none refl)
+  does_here (unlocks_own r n o c k u e f) = first (unlock m (called w t call (Unlock m) r n) (released o c k
+      (to_nobody (next_none (effective_of (with_progress t (Has 0) w)) w.waiters m u) (both (Has 0) (record (mutex_at w m) { owner = 0 }) e f)))) (none refl)
+
+  -- and so they are, seen of the mutex that stands there
+  pub does_seen : {y : Mutex} → mutex_at w m ≡ y → Does t m (has_waiter w.waiters m) q a y b z → Effects t w (with_progress t b (with_mutex m z w))
+  does_seen here d = does_here (subst (λ x. Does t m (has_waiter w.waiters m) q a x b z) (sym here) d)
 
 -- WHAT A LOCAL LINE HAS TO SHOW
 
@@ -167,6 +196,7 @@ module _ {added : ℕ → Bool} {waited : Bool} {t m : ℕ} {q : Request} {v : S
 -- a request whose mutex exists names one that does
 known_named : (exists : ℕ → Bool) (q : Request) → exists (named_by q) ≡ true → names_known exists q ≡ true
 known_named exists (Lock m) e = e
+known_named exists (TryLock m) e = e
 known_named exists (Unlock m) e = e
 known_named exists (SetPrio u p) e = refl
 
@@ -211,12 +241,13 @@ module _ (s : Table) (t m : ℕ) (q : Request) (a : Progress) (o : Move) (h : Is
   move_sound = record {
     all = admit_last
         (put_row (put_cell (excuse_one h t) m o.cell s.waiters e
-        (same_waiters (excuse_one h t) m) l.cell l.spares) t o.row k refl)
+        (same_waiters (excuse_one h t) m) l.cell l.spares) t o.row k refl (subst IsPriority (sym l.base) (h.all.shape.priorities t k)))
         (mover_sound (each_thread h t));
     level = leveled_same s after refl
         (effective_same s after (length-set s.rows t o.row) (kept_at (λ (r : Row). r.base) s.rows t o.row no_row l.base)
         (waits_same s after (kept_at (λ (r : Row). queued_on r.status) s.rows t o.row no_row (ap queued_on l.status)) (kept_at (λ (c : Cell). c.state) s.cells m o.cell no_cell l.state)))
         h.level;
+    order = h.order;
   }
 
   -- t may run then
@@ -271,7 +302,7 @@ module _ {s : Table} {shadow : Shadow} {t : ℕ} {q : Request} {p : Place} (g : 
   pub local_kept : (a : Progress) (o : Move) → IsLocal (has_thread s) (has_waiter s.waiters (named_by q)) t (named_by q) q a (sight s t (named_by q)) o
       → Does t (named_by q) (has_waiter s.waiters (named_by q)) q (progress_at p (row_at s t).status) (mutex_of (cell_at s (named_by q))) a (mutex_of o.cell)
       → GoKeeps s shadow t (moved t (named_by q) o s)
-  local_kept a o l does = local_by a o l (does_seen (world_of s shadow) t (named_by q) (mutex_seen s shadow (named_by q)) (going_called g) does)
+  local_kept a o l does = local_by a o l (does_seen (world_of s shadow) t (named_by q) (going_called g) (mutex_seen s shadow (named_by q)) does)
 
   -- the mutex of t's call is sound
   pub going_cell : CellIsSound (has_thread s) (has_waiter s.waiters (named_by q)) (cell_at s (named_by q))
@@ -299,7 +330,7 @@ module _ {s : Table} {shadow : Shadow} {t : ℕ} {q : Request} {p : Place} (g : 
   pub answers_local : (n : ℕ) → is_ready (row_at s t).status ≡ true
       → Does t (named_by q) (has_waiter s.waiters (named_by q)) q (progress_at p (row_at s t).status) (mutex_of (cell_at s (named_by q))) (Has n) (mutex_of (cell_at s (named_by q)))
       → GoKeeps s shadow t (answers t n s)
-  answers_local n ready does = answers_same n ready (does_seen (world_of s shadow) t (named_by q) (mutex_seen s shadow (named_by q)) (going_called g) does)
+  answers_local n ready does = answers_same n ready (does_seen (world_of s shadow) t (named_by q) (going_called g) (mutex_seen s shadow (named_by q)) does)
 
   -- a mutex is put where it stays
   mutex_stays : with_mutex (named_by q) (mutex_of (cell_at s (named_by q))) (world_of s shadow) ≡ world_of s shadow

@@ -5,8 +5,9 @@ use Rattle.pif_model.specs.Graph.{has_waiter, first_greatest, next_waiter}
 use Rattle.pif_model.specs.Word.{Word, is_bare, held_by, free_word}
 use Rattle.pif_model.specs.Posix.Health.{Fine}
 use Rattle.pif_model.specs.Table.{Cell}
-use Rattle.pif_model.specs.Standing.{health_of, mutex_of, CellIsSound}
+use Rattle.pif_model.specs.Standing.{health_of, mutex_of, CountIsSound, CellIsSound}
 use Rattle.pif_simulation.proofs.Waiting.{by_test}
+use Rattle.pif_simulation.proofs.Kept.{held_once}
 
 -- a word that passes the test of a compare-exchange
 pub bare : (w : Word) (t : ℕ) → is_bare w t ≡ true → (w.waiters ≡ false) × (w.number ≡ t)
@@ -49,22 +50,35 @@ module _ {added : ℕ → Bool} {waited : Bool} {c : Cell} (h : CellIsSound adde
   pub in_order : health_of c.health c.word.died ≡ Fine
   in_order = ap₂ health_of h.fine h.no_death
 
-  -- with another word, of which OWNER_DIED is not set, a mutex for which nobody waits is sound
-  pub reworded : (x : Word) → waited ≡ false → x.died ≡ false → (x.number ≢ 0 → added x.number ≡ true) → (x.number ≡ 0 → x.waiters ≡ false) → CellIsSound added waited (record c { word = x })
-  reworded x e died owner unflagged = record {
+  -- with another word, of which OWNER_DIED is not set, a mutex that is held once and for which nobody waits is sound
+  pub reworded : (x : Word) → c.count ≡ 1 → waited ≡ false → x.died ≡ false → (x.number ≢ 0 → added x.number ≡ true) → (x.number ≡ 0 → x.waiters ≡ false) → CellIsSound added waited (record c { word = x })
+  reworded x once e died owner unflagged = record {
     stalled = h.stalled;
     fine = h.fine;
     no_death = died;
-    single = h.single;
+    count = held_once c.kind x.number c.count once;
     owner = owner;
     free = unflagged;
     state = state_from_none e ∙ ap (λ b. if b then x.number else 0) (sym e);
     contended = λ k. absurd (true≢false (sym k ∙ e));
   }
 
+  -- held this often, a mutex is sound
+  pub recounted : (n : ℕ) → CountIsSound c.kind c.word.number n → CellIsSound added waited (record c { count = n })
+  recounted n e = record {
+    stalled = h.stalled;
+    fine = h.fine;
+    no_death = h.no_death;
+    count = e;
+    owner = h.owner;
+    free = h.free;
+    state = h.state;
+    contended = h.contended;
+  }
+
   -- the mutex that t takes
-  pub taken_seen : (t : ℕ) → mutex_of (record c { word = held_by t }) ≡ record (mutex_of c) { owner = t; count = 1 }
-  taken_seen t = λ i. record { kind = c.kind; robust = c.robust; owner = t; count = h.single i; health = (ap (λ x. health_of x false) h.fine ∙ sym in_order) i }
+  pub taken_seen : (t : ℕ) → c.count ≡ 1 → mutex_of (record c { word = held_by t }) ≡ record (mutex_of c) { owner = t; count = 1 }
+  taken_seen t once = λ i. record { kind = c.kind; robust = c.robust; owner = t; count = once i; health = (ap (λ x. health_of x false) h.fine ∙ sym in_order) i }
 
   -- the mutex that is given up
   pub freed_seen : mutex_of (record c { word = free_word }) ≡ record (mutex_of c) { owner = 0 }

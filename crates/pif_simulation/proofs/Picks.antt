@@ -1,56 +1,52 @@
 -- The laws that the kernel's pick runs next, and that a mutex's word is one of those that its state allows.
-use Rattle.std.proofs.Common.{◌≡◌, ◌≢◌, ◌⊎◌, ◌<◌, ◌≤◌, ℕ, Bool, true, false, ◌==◌, nat_lt, List, [], ◌∷◌, length, refl, sym, ap, ◌∙◌, subst, inl, inr, arith, if◌then◌else◌}
-use Rattle.std.specs.Bool.{⊤}
-use Rattle.std.specs.List.{list_any}
-use Rattle.std.proofs.lemmas.Bool.{true≢false, cases_lt}
+use Rattle.std.proofs.Common.{◌≡◌, ◌≢◌, ◌⊎◌, ◌≤◌, ℕ, zero, suc, Bool, true, false, ◌||◌, ◌==◌, nat_lt, List, [], ◌∷◌, length, refl, sym, ap, ◌∙◌, subst, inl, inr, arith, if◌then◌else◌, eq-eqb}
+use Rattle.std.proofs.lemmas.Bool.{true≢false, cases_eq}
 use Rattle.std.proofs.lemmas.Bool.Decides.{nat_tests}
 use Rattle.std.proofs.lemmas.List.{length-map}
-use Rattle.pif_model.specs.Graph.{has_waiter, first_greatest}
+use Rattle.pif_model.specs.Graph.{has_waiter}
 use Rattle.pif_simulation.proofs.Effective.{effective_seen}
-use Rattle.pif_simulation.proofs.Waiting.{by_test}
+use Rattle.pif_simulation.proofs.Waiting.{by_test, names, pairs, named-from_pair}
+use Rattle.pif_simulation.proofs.Leveled.{pair-from_named, level-from_pair, among_at_level, within-from_ordered}
 use Rattle.pif_simulation.proofs.Steps.{rests_ready, rests_not_ready}
 use Rattle.pif_model.specs.Word.{free_word}
 use Rattle.pif_model.specs.Posix.{Health, Mutex, mutex_at, is_thread, rests, effective_of}
 use Rattle.pif_model.specs.Posix.Health.{Fine, Inconsistent}
-use Rattle.pif_model.specs.Table.{Table, no_cell, row_at, cell_at, has_thread, has_mutex, is_ready, kernel_effective, kernel_pick}
+use Rattle.pif_model.specs.Table.{Table, no_cell, row_at, cell_at, has_thread, has_mutex, is_ready, kernel_effective}
+use Rattle.pif_model.specs.PiKernel.{is_among, first_from}
+use Rattle.pif_model.specs.Kernel.{at_level, kernel_pick}
 use Rattle.pif_model.specs.Standing.{Shadow, IsSound, CellIsSound, IsPick, IsPossible, world_of, thread_of, mutex_of, health_of}
 use Rattle.pif_simulation.proofs.Places.{mapped_at}
 use Rattle.pif_simulation.proofs.Hole.{each_thread}
 
--- whether t stands in a list of pairs
-abbrev stands_in : ℕ → List (ℕ × ℕ) → Bool
-stands_in t l = list_any (λ (r : ℕ × ℕ). r.0 == t) l
+-- THE FIRST OF THE GREATEST LEVEL
 
--- each pair of a list has the value of its number
-abbrev HasValues : (ℕ → ℕ) → List (ℕ × ℕ) → Type 0
-HasValues value [] = ⊤
-HasValues value (r ∷ rs) = (r.1 ≡ value r.0) × HasValues value rs
+-- u is the first from level n down: it is on a level above which none has a thread, or it is 0 and none has
+abbrev IsFirst : (ℕ → List ℕ) → ℕ → ℕ → Type 0
+IsFirst levels n u =
+    (((q t : ℕ) → 1 ≤ q → q ≤ n → is_among (levels q) t ≡ true → ⊥) × (u ≡ 0))
+    ⊎ ((p : ℕ) × (is_among (levels p) u ≡ true) × (1 ≤ p) × (p ≤ n) × ((q t : ℕ) → q ≤ n → is_among (levels q) t ≡ true → q ≤ p))
 
--- by the test that no pair has another value
-leveled : (value : ℕ → ℕ) (l : List (ℕ × ℕ))
-    → ((t : ℕ) → list_any (λ (r : ℕ × ℕ). if r.0 == t then (if r.1 == value t then false else true) else false) l ≡ false) → HasValues value l
-leveled value [] h = tt
-leveled value (r ∷ rs) h = (grind (arith, nat_tests, h r.0), leveled value rs (λ t. grind (arith, nat_tests, h t)))
-
--- the first of greatest value is not below any
-first_above : (value : ℕ → ℕ) (l : List (ℕ × ℕ)) → HasValues value l → (t : ℕ) → stands_in t l ≡ true → value t ≤ (first_greatest l).1
-unfolding first_greatest
-first_above value [] h t e = grind arith
-first_above value (r ∷ rs) h t e = grind (arith, nat_tests, h.0, first_above value rs h.1 t)
-
--- the first of greatest value stands in the list with its value, where there is anything
-first_stands : (value : ℕ → ℕ) (l : List (ℕ × ℕ)) → HasValues value l
-    → (l ≡ []) ⊎ ((stands_in (first_greatest l).0 l ≡ true) × ((first_greatest l).1 ≡ value (first_greatest l).0))
-unfolding first_greatest
-first_stands value [] h = inl refl
-first_stands value (r ∷ rs) h = inr (by_rest (first_stands value rs h.1) (cases_lt r.1 (first_greatest rs).1))
+-- the first from level n down is
+first_is : (levels : ℕ → List ℕ) (n : ℕ) → IsFirst levels n (first_from levels n)
+unfolding first_from
+first_is levels zero = inl ((λ q t l k e. omega arith), refl)
+first_is levels (suc n) = go (levels (suc n)) refl (first_is levels n)
   where
-    by_rest : (rs ≡ []) ⊎ ((stands_in (first_greatest rs).0 rs ≡ true) × ((first_greatest rs).1 ≡ value (first_greatest rs).0))
-        → ((r.1 < (first_greatest rs).1) ⊎ ((first_greatest rs).1 ≤ r.1))
-        → (stands_in (first_greatest (r ∷ rs)).0 (r ∷ rs) ≡ true) × ((first_greatest (r ∷ rs)).1 ≡ value (first_greatest (r ∷ rs)).0)
-    by_rest (inl e) (inl l) = absurd (omega (arith, ap (λ (x : List (ℕ × ℕ)). (first_greatest x).1) e))
-    by_rest (inr p) (inl l) = grind (arith, nat_tests, p.0, p.1)
-    by_rest _ (inr l) = grind (arith, nat_tests, h.0)
+    empty : levels (suc n) ≡ [] → (q t : ℕ) → q ≡ suc n → is_among (levels q) t ≡ true → ⊥
+    empty e q t d x = true≢false (sym x ∙ ap (λ i. is_among (levels i) t) d ∙ ap (λ us. is_among us t) e)
+
+    go : (ts : List ℕ) → levels (suc n) ≡ ts → IsFirst levels n (first_from levels n) → IsFirst levels (suc n) (elim ts [ [] ↦ first_from levels n | (t ∷ us) ↦ t ])
+    go [] e (inl r) = inl ((λ q t l k x. below (empty e) q t l k x (cases_eq q (suc n))), r.1)
+      where
+        below : ((q t : ℕ) → q ≡ suc n → is_among (levels q) t ≡ true → ⊥) → (q t : ℕ) → 1 ≤ q → q ≤ suc n → is_among (levels q) t ≡ true → (q ≡ suc n) ⊎ (q ≡ suc n → ⊥) → ⊥
+        below none q t l k x (inl d) = none q t d x
+        below none q t l k x (inr d) = r.0 q t l (omega arith) x
+    go [] e (inr r) = inr (r.0, r.1, r.2, omega (arith, r.3), λ q t k x. below (empty e) q t k x (cases_eq q (suc n)))
+      where
+        below : ((q t : ℕ) → q ≡ suc n → is_among (levels q) t ≡ true → ⊥) → (q t : ℕ) → q ≤ suc n → is_among (levels q) t ≡ true → (q ≡ suc n) ⊎ (q ≡ suc n → ⊥) → q ≤ r.0
+        below none q t k x (inl d) = absurd (none q t d x)
+        below none q t k x (inr d) = r.4 q t (omega arith) x
+    go (t ∷ us) e r = inr (suc n, ap (λ us. is_among us t) e ∙ ap (λ b. b || is_among us t) (eq-eqb t t refl), omega arith, omega arith, λ q v k x. k)
 
 -- who was added is somebody
 somebody : (t n : ℕ) → (if t == 0 then false else nat_lt t n) ≡ true → t ≢ 0
@@ -65,19 +61,9 @@ rests_seen s shadow h t k = by_test (λ b. is_ready (row_at s t).status ≡ b �
 known_seen : (s : Table) (shadow : Shadow) (t : ℕ) → is_thread (world_of s shadow) t ≡ has_thread s t
 known_seen s shadow t = ap (λ (n : ℕ). if t == 0 then false else nat_lt t n) (length-map s.rows thread_of)
 
--- of no pairs the first is the pair of zeros
-first_of_none : (first_greatest []).0 ≡ 0
-unfolding first_greatest
-first_of_none = refl
-
 -- a status that doesn't rest is ready
 not_resting : (b : Bool) → (if b then false else true) ≡ false → b ≡ true
 not_resting b h = grind arith
-
--- a list in which a thread stands is not empty
-stands_somewhere : {P : Type 0} (t : ℕ) (l : List (ℕ × ℕ)) → (l ≡ []) ⊎ P → stands_in t l ≡ true → P
-stands_somewhere t l (inl e) h = absurd (true≢false (sym h ∙ ap (λ (x : List (ℕ × ℕ)). stands_in t x) e))
-stands_somewhere t l (inr p) h = p
 
 -- the kernel's pick runs next
 pub pick_is : (s : Table) (shadow : Shadow) → IsSound s → IsPick (world_of s shadow) (kernel_pick s)
@@ -90,41 +76,53 @@ pick_is s shadow h =
     same : (t : ℕ) → kernel_effective s t ≡ effective_of (world_of s shadow) t
     same t = ap (λ (f : ℕ → ℕ). f t) (effective_seen s shadow h)
 
-    levels : HasValues (kernel_effective s) s.ready
-    levels = leveled (kernel_effective s) s.ready h.level
-
     both : (a b : Bool) → (if a then b else false) ≡ true → (a ≡ true) × (b ≡ true)
     both a b e = grind arith
 
-    runs : stands_in (kernel_pick s) s.ready ≡ true → (is_thread (world_of s shadow) (kernel_pick s) ≡ true) × (rests (world_of s shadow) (kernel_pick s) ≡ false)
+    runs : names (kernel_pick s) s.ready ≡ true → (is_thread (world_of s shadow) (kernel_pick s) ≡ true) × (rests (world_of s shadow) (kernel_pick s) ≡ false)
     runs e =
         let p = both (has_thread s (kernel_pick s)) (is_ready (row_at s (kernel_pick s)).status) (sym (each_thread h (kernel_pick s)).ready ∙ e) in
         (known_seen s shadow (kernel_pick s) ∙ p.0, rests_seen s shadow h (kernel_pick s) p.0 ∙ ap (λ (b : Bool). if b then false else true) p.1)
 
-    first : (s.ready ≡ []) ⊎ ((stands_in (kernel_pick s) s.ready ≡ true) × ((first_greatest s.ready).1 ≡ kernel_effective s (kernel_pick s)))
-    first = first_stands (kernel_effective s) s.ready levels
+    first : IsFirst (at_level s.ready) 99 (kernel_pick s)
+    first = first_is (at_level s.ready) 99
 
-    nothing : s.ready ≡ [] → kernel_pick s ≡ 0
-    nothing e = ap (λ (l : List (ℕ × ℕ)). (first_greatest l).0) e ∙ first_of_none
+    -- who stands on a level of the run queue is at its effective priority
+    leveled : (t p : ℕ) → is_among (at_level s.ready p) t ≡ true → p ≡ kernel_effective s t
+    leveled t p e = level-from_pair s.ready t (kernel_effective s t) p (h.level t) (sym (among_at_level s.ready t p) ∙ e)
 
-    picked : kernel_pick s ≢ 0 → stands_in (kernel_pick s) s.ready ≡ true
-    picked n = grind (arith, first, nothing, n)
+    picked : kernel_pick s ≢ 0 → names (kernel_pick s) s.ready ≡ true
+    picked n = go first
+      where
+        go : IsFirst (at_level s.ready) 99 (kernel_pick s) → names (kernel_pick s) s.ready ≡ true
+        go (inl r) = absurd (n r.1)
+        go (inr r) = named-from_pair s.ready (kernel_pick s) r.0 (sym (among_at_level s.ready (kernel_pick s) r.0) ∙ r.1)
 
-    awake_stands : (t : ℕ) → has_thread s t ≡ true → rests (world_of s shadow) t ≡ false → stands_in t s.ready ≡ true
+    awake_stands : (t : ℕ) → has_thread s t ≡ true → rests (world_of s shadow) t ≡ false → names t s.ready ≡ true
     awake_stands t k awake = (each_thread h t).ready ∙ (ap (λ (b : Bool). if b then is_ready (row_at s t).status else false) k
         ∙ not_resting (is_ready (row_at s t).status) (sym (rests_seen s shadow h t k) ∙ awake))
 
-    found : (t : ℕ) → stands_in t s.ready ≡ true → (stands_in (kernel_pick s) s.ready ≡ true) × ((first_greatest s.ready).1 ≡ kernel_effective s (kernel_pick s))
-    found t e = stands_somewhere t s.ready first e
+    -- whom the pick is not below
+    found : (t : ℕ) → names t s.ready ≡ true → (names (kernel_pick s) s.ready ≡ true) × (kernel_effective s t ≤ kernel_effective s (kernel_pick s))
+    found t e = go (pair-from_named s.ready t e) first
+      where
+        go : (q : ℕ) × (pairs t q s.ready ≡ true) → IsFirst (at_level s.ready) 99 (kernel_pick s)
+            → (names (kernel_pick s) s.ready ≡ true) × (kernel_effective s t ≤ kernel_effective s (kernel_pick s))
+        go q (inl r) = let a = within-from_ordered s.ready h.order t q.0 q.1 in absurd (r.0 q.0 t a.0 a.1 (among_at_level s.ready t q.0 ∙ q.1))
+        go q (inr r) =
+            let a = among_at_level s.ready t q.0 ∙ q.1 in (
+              named-from_pair s.ready (kernel_pick s) r.0 (sym (among_at_level s.ready (kernel_pick s) r.0) ∙ r.1),
+              subst (λ (n : ℕ). n ≤ kernel_effective s (kernel_pick s)) (leveled t q.0 a)
+                  (subst (λ (n : ℕ). q.0 ≤ n) (leveled (kernel_pick s) r.0 r.1) (r.4 q.0 t (within-from_ordered s.ready h.order t q.0 q.1).1 a)),
+            )
 
     greatest : (t : ℕ) → has_thread s t ≡ true → rests (world_of s shadow) t ≡ false → (kernel_pick s ≢ 0) × (effective_of (world_of s shadow) t ≤ effective_of (world_of s shadow) (kernel_pick s))
     greatest t k awake =
-        let e = awake_stands t k awake in
-        let f = found t e in
+        let f = found t (awake_stands t k awake) in
         let p = both (has_thread s (kernel_pick s)) (is_ready (row_at s (kernel_pick s)).status) (sym (each_thread h (kernel_pick s)).ready ∙ f.0) in (
           somebody (kernel_pick s) (length s.rows) p.0,
           subst (λ (n : ℕ). n ≤ effective_of (world_of s shadow) (kernel_pick s)) (same t)
-              (subst (λ (n : ℕ). kernel_effective s t ≤ n) (f.1 ∙ same (kernel_pick s)) (first_above (kernel_effective s) s.ready levels t e)),
+              (subst (λ (n : ℕ). kernel_effective s t ≤ n) (same (kernel_pick s)) f.1),
         )
 
 -- a mutex was added to a table whose word is one of those that the machine's state allows

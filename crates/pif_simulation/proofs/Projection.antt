@@ -1,8 +1,8 @@
 -- What the POSIX machine sees of a table: its threads and mutexes, a change of one of them, and its refusals.
-use Rattle.std.proofs.Common.{◌≡◌, ◌≢◌, ℕ, ◌<◌, true, false, ◌==◌, nat_lt, length, set, map, Some, None, is_some, refl, sym, ap, ◌∙◌, if◌then◌else◌}
+use Rattle.std.proofs.Common.{◌≡◌, ◌≢◌, ℕ, ◌<◌, Bool, true, false, ◌==◌, nat_lt, length, set, map, Some, None, is_some, refl, sym, ap, ◌∙◌, if◌then◌else◌}
 use Rattle.std.proofs.lemmas.List.{length-map, map-set, set-set, get_or-set_same}
 use Rattle.pif_types.specs.declared.requests.Request.{Request}
-use Rattle.pif_types.specs.declared.requests.Request.TheVariants.{Lock, Unlock, SetPrio}
+use Rattle.pif_types.specs.declared.requests.Request.TheVariants.{Lock, TryLock, Unlock, SetPrio}
 use Rattle.pif_model.specs.declared.events.Event.{Event}
 use Rattle.pif_model.specs.declared.events.Event.TheVariants.{Begin, Go}
 use Rattle.pif_model.specs.declared.lines.Line.{Line}
@@ -66,6 +66,7 @@ busy_seen s shadow t = ap (λ (x : Thread). is_some x.call) (thread_seen s shado
 -- both machines know the mutex that a request names, or neither
 named_seen : (s : Table) (shadow : Shadow) (q : Request) → names_known (is_mutex (world_of s shadow)) q ≡ names_known (has_mutex s) q
 named_seen s shadow (Lock m) = is_mutex_seen s shadow m
+named_seen s shadow (TryLock m) = is_mutex_seen s shadow m
 named_seen s shadow (Unlock m) = is_mutex_seen s shadow m
 named_seen s shadow (SetPrio u p) = refl
 
@@ -73,6 +74,19 @@ named_seen s shadow (SetPrio u p) = refl
 pub refusal_seen : (s : Table) (shadow : Shadow) (e : Event) → refusal_of (world_of s shadow) e ≡ table_refusal s e
 refusal_seen s shadow (Begin t q) = λ i. begin_refused (is_thread_seen s shadow t i) (busy_seen s shadow t i) (named_seen s shadow q i)
 refusal_seen s shadow (Go t) = λ i. go_refused (is_thread_seen s shadow t i) (busy_seen s shadow t i)
+
+-- a Go that is not refused: the thread is there, with a call open
+pub go_allowed : (known busy : Bool) → go_refused known busy ≡ None → (known ≡ true) × (busy ≡ true)
+go_allowed true true e = (refl, refl)
+go_allowed true false e = absurd (cc)
+go_allowed false busy e = absurd (cc)
+
+-- a Begin that is not refused: the thread is there, with no call open, and the mutex is there
+pub begin_allowed : (known busy named : Bool) → begin_refused known busy named ≡ None → (known ≡ true) × (busy ≡ false) × (named ≡ true)
+begin_allowed true false true e = (refl, refl, refl)
+begin_allowed true false false e = absurd (cc)
+begin_allowed true true named e = absurd (cc)
+begin_allowed false busy named e = absurd (cc)
 
 -- CHANGES
 

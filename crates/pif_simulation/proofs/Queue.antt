@@ -16,9 +16,11 @@ use Rattle.pif_model.specs.Graph.{has_waiter, without, reaches_within}
 use Rattle.pif_model.specs.Posix.{Progress, Call, Thread, Mutex, World, Locks, thread_at, mutex_at, with_progress, progressed, is_lost, leads_to, is_stuck, rests}
 use Rattle.pif_model.specs.Posix.Progress.{Waiting, Has}
 use Rattle.pif_model.specs.Posix.Locks.{cycle, joins}
-use Rattle.pif_model.specs.Table.{Table, Row, Cell, no_row, no_cell, row_at, cell_at, has_thread, has_mutex, is_ready, queued_on, with_row, with_cell, with_line, kernel_waits_for, settled}
-use Rattle.pif_model.specs.Kernel.{queued_on_mutex, lock_pi_answer}
+use Rattle.pif_model.specs.Table.{Table, Row, Cell, no_row, no_cell, row_at, cell_at, has_thread, has_mutex, is_ready, queued_on, with_row, with_cell, with_line, kernel_waits_for}
 use Rattle.pif_model.specs.Standing.{Shadow, LineIsSound, RowIsSound, CellIsSound, ThreadIsSound, SoundBut, IsSound, call_at, thread_of, mutex_of, world_of}
+use Rattle.pif_simulation.proofs.Forms.{settled, queued_form, lock_form}
+use Rattle.pif_simulation.proofs.FormLaws.{sorted_without}
+use Rattle.pif_simulation.proofs.Leveled.{within-from_ordered}
 use Rattle.pif_simulation.proofs.Places.{mapped_at}
 use Rattle.pif_simulation.proofs.Waiting.{by_test, names, or_true, waited_by-append_same, once_without, named-without_same, named-without_other, has_waiter-push, named-push}
 use Rattle.pif_simulation.proofs.Effective.{leads_seen, settled_line}
@@ -41,8 +43,7 @@ abbrev queued_at : ℕ → ℕ → Table → Table
 queued_at t m s = record (with_row t (queued_row s t m) (with_cell m (queued_cell s m) s)) { waiters = s.waiters ++ (t, m) ∷ []; ready = without s.ready t }
 
 -- the table that the kernel and the line leave
-queued_is : (s : Table) (t m : ℕ) → t < length s.rows → with_line t (At (Lock m) LockQueued) (queued_on_mutex t m (cell_at s m).word.number s) ≡ settled (queued_at t m s)
-unfolding queued_on_mutex
+queued_is : (s : Table) (t m : ℕ) → t < length s.rows → with_line t (At (Lock m) LockQueued) (queued_form t m (cell_at s m).word.number s) ≡ settled (queued_at t m s)
 queued_is s t m h =
     let r : Row = record (row_at s t) { status = Queued m } in
     let a : Table = record (with_row t r (with_cell m (queued_cell s m) s)) { waiters = s.waiters ++ (t, m) ∷ []; ready = without s.ready t } in
@@ -52,8 +53,7 @@ queued_is s t m h =
     ∙ set-set s.rows t r (queued_row s t m))
 
 -- it has the limits that it had
-pub queue_limits : (s : Table) (t m : ℕ) → (with_line t (At (Lock m) LockQueued) (queued_on_mutex t m (cell_at s m).word.number s)).limits ≡ s.limits
-unfolding queued_on_mutex
+pub queue_limits : (s : Table) (t m : ℕ) → (with_line t (At (Lock m) LockQueued) (queued_form t m (cell_at s m).word.number s)).limits ≡ s.limits
 queue_limits s t m = refl
 
 -- what a thread at the kernel call of a lock knows
@@ -80,7 +80,7 @@ module _ (s : Table) (t m : ℕ) (h : IsSound s) (a : has_thread s t ≡ true) (
         stalled = c.stalled;
         fine = c.fine;
         no_death = c.no_death;
-        single = c.single;
+        count = c.count;
         owner = c.owner;
         free = λ y. absurd (n y);
         state = rw waited_here refl;
@@ -115,10 +115,11 @@ module _ (s : Table) (t m : ℕ) (h : IsSound s) (a : has_thread s t ≡ true) (
   pub sound_when_queued : IsSound (settled (queued_at t m s))
   sound_when_queued = settle (admit_last
       (put_ready (put_row (put_cell without_t m (queued_cell s m) (s.waiters ++ (t, m) ∷ []) (knows_at_kernel s t m h a e).0
-      (joined_waiters without_t t m refl unnamed) queued_cell_sound (λ u d z. record { kind = refl; owner = λ o. o; other = λ o. o }))
-      t (queued_row s t m) a refl)
+      (joined_waiters without_t t m refl unnamed) queued_cell_sound (λ u d z. record { kind = refl; owner = λ o. o; other = λ o. o; count = λ o. refl }))
+      t (queued_row s t m) a refl (h.all.shape.priorities t a))
       (without s.ready t) (λ u d. named-without_other s.ready t u d) (once_without s.ready t h.all.ready_once))
       queued_sound)
+      (within-from_ordered (without s.ready t) (sorted_without s.ready t h.order))
 
 -- WHAT THE KERNEL'S ANSWER SAYS
 
@@ -153,10 +154,9 @@ lock_answer-deadlock true false true false living agrees chain h = absurd (cc)
 lock_answer-deadlock _ _ _ _ _ _ _ h = absurd (cc)
 
 -- who is queued: the owner is another, and living, and no chain leads from it back
-pub queued_says : (s : Table) (t m : ℕ) → lock_pi_answer t m s ≡ Ok TookQueued
+pub queued_says : (s : Table) (t m : ℕ) → lock_form t m s ≡ Ok TookQueued
     → ((cell_at s m).word.number ≢ t) × ((cell_at s m).word.number ≢ 0) × ((row_at s (cell_at s m).word.number).living ≡ true)
     × (reaches_within (length s.rows) (kernel_waits_for s) (cell_at s m).word.number t ≡ false)
-unfolding lock_pi_answer
 queued_says s t m h =
     let n = (cell_at s m).word.number in
     let k = lock_answer-queued (has_mutex s m) (n == t) (n == 0) ((cell_at s m).state == 0) (row_at s n).living
@@ -164,10 +164,9 @@ queued_says s t m h =
     (eqb-false n t k.0, eqb-false n 0 k.1, k.2, k.3)
 
 -- who is refused and isn't the owner: the owner is another, and living, and a chain leads from it back
-pub deadlock_says : (s : Table) (t m : ℕ) → (cell_at s m).word.number ≢ t → lock_pi_answer t m s ≡ Err Deadlock
+pub deadlock_says : (s : Table) (t m : ℕ) → (cell_at s m).word.number ≢ t → lock_form t m s ≡ Err Deadlock
     → ((cell_at s m).word.number ≢ 0) × ((row_at s (cell_at s m).word.number).living ≡ true)
     × (reaches_within (length s.rows) (kernel_waits_for s) (cell_at s m).word.number t ≡ true)
-unfolding lock_pi_answer
 deadlock_says s t m o h =
     let n = (cell_at s m).word.number in
     ⊎_elim (λ (x : (n == t) ≡ true). absurd (o (eqb-true n t x))) (λ k. (eqb-false n 0 k.0, k.1, k.2))
@@ -209,8 +208,7 @@ cell_unseen s m c e =
 
 -- the world that shows a thread queued
 pub queued_world : (s : Table) (shadow : Shadow) (t m : ℕ) → t < length s.rows → (row_at s t).line ≡ At (Lock m) LockKernel
-    → world_of (with_line t (At (Lock m) LockQueued) (queued_on_mutex t m (cell_at s m).word.number s)) shadow ≡ record (with_progress t Waiting (world_of s shadow)) { waiters = s.waiters ++ (t, m) ∷ [] }
-unfolding queued_on_mutex
+    → world_of (with_line t (At (Lock m) LockQueued) (queued_form t m (cell_at s m).word.number s)) shadow ≡ record (with_progress t Waiting (world_of s shadow)) { waiters = s.waiters ++ (t, m) ∷ [] }
 queued_world s shadow t m h e = λ i. record {
   threads = two_steps_seen s shadow t (Queued m) (At (Lock m) LockQueued) Waiting h (sym (ap (λ l. progressed Waiting (call_at l (row_at s t).status)) e)) i;
   mutexes = cell_unseen s m (record (cell_at s m) { word = record (cell_at s m).word { waiters = true }; state = (cell_at s m).word.number }) refl i;
@@ -220,13 +218,13 @@ queued_world s shadow t m h e = λ i. record {
 -- WHAT THE STEP NEEDS
 
 -- the table stays sound
-pub queue_sound : (s : Table) (t m : ℕ) → IsSound s → has_thread s t ≡ true → (row_at s t).line ≡ At (Lock m) LockKernel → lock_pi_answer t m s ≡ Ok TookQueued
-    → IsSound (with_line t (At (Lock m) LockQueued) (queued_on_mutex t m (cell_at s m).word.number s))
+pub queue_sound : (s : Table) (t m : ℕ) → IsSound s → has_thread s t ≡ true → (row_at s t).line ≡ At (Lock m) LockKernel → lock_form t m s ≡ Ok TookQueued
+    → IsSound (with_line t (At (Lock m) LockQueued) (queued_form t m (cell_at s m).word.number s))
 queue_sound s t m h a e k = subst IsSound (sym (queued_is s t m (below t (length s.rows) a))) (sound_when_queued s t m h a e (queued_says s t m k).1)
 
 -- the thread joins the waiters
-pub queue_locks : (s : Table) (shadow : Shadow) (t m : ℕ) → IsSound s → has_thread s t ≡ true → (row_at s t).line ≡ At (Lock m) LockKernel → lock_pi_answer t m s ≡ Ok TookQueued
-    → Locks t m (world_of s shadow) (world_of (with_line t (At (Lock m) LockQueued) (queued_on_mutex t m (cell_at s m).word.number s)) shadow)
+pub queue_locks : (s : Table) (shadow : Shadow) (t m : ℕ) → IsSound s → has_thread s t ≡ true → (row_at s t).line ≡ At (Lock m) LockKernel → lock_form t m s ≡ Ok TookQueued
+    → Locks t m (world_of s shadow) (world_of (with_line t (At (Lock m) LockQueued) (queued_form t m (cell_at s m).word.number s)) shadow)
 queue_locks s shadow t m h a e k =
     let says = queued_says s t m k in
     joins (λ x. says.0 (sym (owner_seen s shadow m) ∙ x)) (λ x. says.1 (sym (owner_seen s shadow m) ∙ x)) (living-not_lost s shadow m says.1 says.2)
@@ -238,14 +236,13 @@ pub rests-waiter : (w : World) (t : ℕ) → names t w.waiters ≡ true → rest
 rests-waiter w t h = by_test (λ b. (if b then true else names t w.waiters) ≡ true) (is_stuck (thread_at w t).call) (λ _. refl) (λ _. h)
 
 -- it rests then
-pub queue_rests : (s : Table) (shadow : Shadow) (t m : ℕ) → rests (world_of (with_line t (At (Lock m) LockQueued) (queued_on_mutex t m (cell_at s m).word.number s)) shadow) t ≡ true
-unfolding queued_on_mutex
+pub queue_rests : (s : Table) (shadow : Shadow) (t m : ℕ) → rests (world_of (with_line t (At (Lock m) LockQueued) (queued_form t m (cell_at s m).word.number s)) shadow) t ≡ true
 queue_rests s shadow t m =
-    rests-waiter (world_of (with_line t (At (Lock m) LockQueued) (queued_on_mutex t m (cell_at s m).word.number s)) shadow) t
+    rests-waiter (world_of (with_line t (At (Lock m) LockQueued) (queued_form t m (cell_at s m).word.number s)) shadow) t
     (named-push s.waiters t m t ∙ rw (eq-eqb t t refl) (or_true (names t s.waiters)))
 
 -- a lock that would close a cycle is refused
-pub deadlock_locks : (s : Table) (shadow : Shadow) (t m : ℕ) → IsSound s → has_thread s t ≡ true → (row_at s t).line ≡ At (Lock m) LockKernel → lock_pi_answer t m s ≡ Err Deadlock
+pub deadlock_locks : (s : Table) (shadow : Shadow) (t m : ℕ) → IsSound s → has_thread s t ≡ true → (row_at s t).line ≡ At (Lock m) LockKernel → lock_form t m s ≡ Err Deadlock
     → Locks t m (world_of s shadow) (with_progress t (Has 35) (world_of s shadow))
 deadlock_locks s shadow t m h a e k =
     let other = (knows_at_kernel s t m h a e).2 in

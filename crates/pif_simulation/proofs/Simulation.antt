@@ -1,10 +1,9 @@
 -- Each step of the table machine is one entry of the POSIX machine, and keeps the invariant.
-use Rattle.std.proofs.Common.{◌≡◌, ℕ, Bool, true, false, Option, Some, None, refl, sym, ap, ◌∙◌, subst}
+use Rattle.std.proofs.Common.{◌≡◌, ℕ, true, false, Option, Some, None, refl, sym, ap, ◌∙◌, subst}
 use Rattle.std.proofs.lemmas.Bool.{true≢false}
-use Rattle.std.proofs.lemmas.List.{set-get_or}
 use Rattle.pif_types.specs.declared.errors.Refusal.{Refusal}
 use Rattle.pif_types.specs.declared.requests.Request.{Request}
-use Rattle.pif_types.specs.declared.requests.Request.TheVariants.{Lock, Unlock, SetPrio}
+use Rattle.pif_types.specs.declared.requests.Request.TheVariants.{Lock, TryLock, Unlock, SetPrio}
 use Rattle.pif_model.specs.declared.events.Event.{Event}
 use Rattle.pif_model.specs.declared.events.Event.TheVariants.{Begin, Go}
 use Rattle.pif_model.specs.declared.events.Seen.TheVariants.{Begun}
@@ -12,36 +11,21 @@ use Rattle.pif_model.specs.declared.events.Entry.TheVariants.{Step as Happened}
 use Rattle.pif_model.specs.declared.lines.Line.{Line}
 use Rattle.pif_model.specs.declared.lines.Line.TheVariants.{Idle, At}
 use Rattle.pif_model.specs.declared.lines.Place.{Place}
-use Rattle.pif_model.specs.declared.lines.Place.TheVariants.{LockLoad, LockExchange, LockKernel, LockQueued, LockStop, LockStopped, UnlockLoad, UnlockExchange, UnlockKernel, SetPriority}
+use Rattle.pif_model.specs.declared.lines.Place.TheVariants.{LockLoad, LockExchange, LockKernel, LockQueued, LockStop, LockStopped, TryLoad, TryExchange, TryKernel, UnlockLoad, UnlockExchange, UnlockKernel, SetPriority}
 use Rattle.pif_model.specs.declared.lines.Status.{Status}
-use Rattle.pif_model.specs.Refusals.{begin_refused, go_refused}
 use Rattle.pif_model.specs.Posix.{Step, thread_at, with_thread, names_known}
 use Rattle.pif_model.specs.Posix.Progress.{Fresh}
 use Rattle.pif_model.specs.Posix.Step.{refused, begun}
-use Rattle.pif_model.specs.Table.{Table, no_cell, row_at, cell_at, has_thread, has_mutex, with_row, with_line, is_ready}
+use Rattle.pif_model.specs.Table.{Table, row_at, cell_at, has_thread, has_mutex, with_line, is_ready}
 use Rattle.pif_model.specs.Lines.{is_open, first_place, table_refusal, line_of, gone, accepted, by_refusal, stepped}
 use Rattle.pif_model.specs.Standing.{Shadow, no_shadow, belongs, LineIsSound, IsSound, call_at, world_of}
-use Rattle.pif_simulation.proofs.Projection.{refusal_seen, line_seen}
+use Rattle.pif_simulation.proofs.Projection.{go_allowed, begin_allowed, refusal_seen, line_seen}
 use Rattle.pif_simulation.proofs.Steps.{Keeps, GoKeeps, Going, knows, going_belongs}
-use Rattle.pif_simulation.proofs.Hole.{unwritten}
-use Rattle.pif_simulation.proofs.Local.{Move, KnowsAfter, sight, going_to, move_sound}
 use Rattle.pif_simulation.proofs.LockLines.{lock_load_kept, lock_exchange_kept, lock_kernel_kept, lock_queued_kept, lock_stop_kept, lock_stopped_kept}
 use Rattle.pif_simulation.proofs.Rows.{lined_sound}
 use Rattle.pif_simulation.proofs.SetPriorityLine.{set_priority_kept}
+use Rattle.pif_simulation.proofs.TryLines.{try_load_kept, try_exchange_kept, try_kernel_kept}
 use Rattle.pif_simulation.proofs.UnlockLines.{unlock_load_kept, unlock_exchange_kept, unlock_kernel_kept}
-
--- a Go that is not refused: the thread is there, with a call open
-go_allowed : (known busy : Bool) → go_refused known busy ≡ None → (known ≡ true) × (busy ≡ true)
-go_allowed true true e = (refl, refl)
-go_allowed true false e = absurd (cc)
-go_allowed false busy e = absurd (cc)
-
--- a Begin that is not refused: the thread is there, with no call open, and the mutex is there
-begin_allowed : (known busy named : Bool) → begin_refused known busy named ≡ None → (known ≡ true) × (busy ≡ false) × (named ≡ true)
-begin_allowed true false true e = (refl, refl, refl)
-begin_allowed true false false e = absurd (cc)
-begin_allowed true true named e = absurd (cc)
-begin_allowed false busy named e = absurd (cc)
 
 -- a line with no call open
 idle_line : (l : Line) → is_open l ≡ false → l ≡ Idle
@@ -53,12 +37,14 @@ idle_line (At q p) e = absurd (true≢false e)
 -- where a call begins it rests on its thread alone
 begins_sound : (s : Table) (t : ℕ) (x : Status) (q : Request) → names_known (has_mutex s) q ≡ true → is_ready x ≡ true → LineIsSound (has_mutex s) (cell_at s) t x (At q (first_place q))
 begins_sound s t x (Lock m) named ready = (named, refl, (ready, tt))
+begins_sound s t x (TryLock m) named ready = (named, refl, (ready, tt))
 begins_sound s t x (Unlock m) named ready = (named, refl, (ready, tt))
 begins_sound s t x (SetPrio u p) named ready = (refl, refl, (ready, tt))
 
 -- a call that begins has had no effect
 begins_fresh : (q : Request) (x : Status) → call_at (At q (first_place q)) x ≡ Some (record { request = q; progress = Fresh })
 begins_fresh (Lock m) x = refl
+begins_fresh (TryLock m) x = refl
 begins_fresh (Unlock m) x = refl
 begins_fresh (SetPrio u p) x = refl
 
@@ -86,6 +72,9 @@ call_kept s shadow t (Lock m) LockKernel g b = lock_kernel_kept s shadow t m g
 call_kept s shadow t (Lock m) LockQueued g b = lock_queued_kept s shadow t m g
 call_kept s shadow t (Lock m) LockStop g b = lock_stop_kept s shadow t m g
 call_kept s shadow t (Lock m) LockStopped g b = lock_stopped_kept s shadow t m g
+call_kept s shadow t (TryLock m) TryLoad g b = try_load_kept s shadow t m g
+call_kept s shadow t (TryLock m) TryExchange g b = try_exchange_kept s shadow t m g
+call_kept s shadow t (TryLock m) TryKernel g b = try_kernel_kept s shadow t m g
 call_kept s shadow t (Unlock m) UnlockLoad g b = unlock_load_kept s shadow t m g
 call_kept s shadow t (Unlock m) UnlockExchange g b = unlock_exchange_kept s shadow t m g
 call_kept s shadow t (Unlock m) UnlockKernel g b = unlock_kernel_kept s shadow t m g

@@ -7,7 +7,8 @@ use Rattle.pif_model.specs.declared.events.Entry.{Entry}
 use Rattle.pif_model.specs.declared.events.Entry.TheVariants.{Thread as AddThread, Mutex as AddMutex, Step as Happened}
 use Rattle.pif_model.specs.Posix.{World, Step, IsRun, empty_world}
 use Rattle.pif_model.specs.Posix.IsRun.{start, next}
-use Rattle.pif_model.specs.Table.{Table, new_table, thread_added, mutex_added, has_thread_room, has_mutex_room}
+use Rattle.pif_model.specs.Table.{Table, new_table, mutex_added, has_thread_room, has_mutex_room}
+use Rattle.pif_model.specs.Kernel.{thread_added}
 use Rattle.pif_model.specs.Lines.{stepped}
 use Rattle.pif_model.specs.Standing.{Stands, no_shadow, world_of}
 use Rattle.pif_simulation.proofs.Additions.{new_sound, new_seen, thread_added_simulated, mutex_added_simulated}

@@ -14,7 +14,8 @@ use Rattle.pif_model.specs.Posix.{with_progress}
 use Rattle.pif_model.specs.Posix.Progress.{Stuck}
 use Rattle.pif_model.specs.Table.{Table, Row, no_row, row_at, cell_at, has_thread, has_mutex, with_line, is_ready, queued_on, kernel_effective}
 use Rattle.pif_model.specs.Kernel.{stopped}
-use Rattle.pif_model.specs.Standing.{Shadow, RowIsSound, ThreadIsSound, IsSound, world_of}
+use Rattle.pif_model.specs.Standing.{Shadow, RowIsSound, ThreadIsSound, IsSound, IsOrdered, world_of}
+use Rattle.pif_simulation.proofs.FormLaws.{sorted_without, stopped_form_is}
 use Rattle.pif_simulation.proofs.Waiting.{by_test, named-without_same, named-without_other, once_without}
 use Rattle.pif_simulation.proofs.Hole.{put_row, put_ready, ready-queued_on_nothing, effective_same, waits_same, each_thread, excuse_one, admit_last}
 use Rattle.pif_simulation.proofs.Effective.{kept_at}
@@ -39,11 +40,11 @@ abbrev pub stopped_at : ℕ → Line → Table → Table
 stopped_at t l s = record s { rows = set s.rows t (stopped_row l (row_at s t)); ready = without s.ready t }
 
 -- to stop and to go to a line are one change of one row
-pub stopped_is : (s : Table) (t : ℕ) (l : Line) → has_thread s t ≡ true → with_line t l (stopped t s) ≡ stopped_at t l s
-unfolding stopped
-stopped_is s t l k =
+pub stopped_is : (s : Table) (t : ℕ) (l : Line) → IsOrdered s.ready → has_thread s t ≡ true → with_line t l (stopped t s) ≡ stopped_at t l s
+stopped_is s t l o k =
     let r : Row = record (row_at s t) { status = Stopped } in
-    ap (λ rows. record s { rows = rows; ready = without s.ready t })
+    ap (with_line t l) (stopped_form_is t s o)
+    ∙ ap (λ rows. record s { rows = rows; ready = without s.ready t })
     (ap (λ (x : Row). set (set s.rows t r) t (record x { line = l })) (get_or-set_same s.rows t r no_row (has_thread_below s t k))
     ∙ set-set s.rows t r (stopped_row l (row_at s t)))
 
@@ -63,13 +64,14 @@ stopped_not_ready s t l k = ap (λ (r : Row). is_ready r.status) (stopped_here s
 pub stop_kept : (s : Table) (t m : ℕ) → IsSound s → has_thread s t ≡ true → is_ready (row_at s t).status ≡ true → has_mutex s m ≡ true → IsSound (stopped_at t (At (Lock m) LockStopped) s)
 stop_kept s t m h k ready named = record {
   all = admit_last
-      (put_ready (put_row (excuse_one h t) t r k refl)
+      (put_ready (put_row (excuse_one h t) t r k refl (h.all.shape.priorities t k))
       (without s.ready t) (λ u n. named-without_other s.ready t u n) (once_without s.ready t h.all.ready_once))
       there;
   level = λ u. ap (λ n. list_any (λ (r : ℕ × ℕ). if r.0 == u then (if r.1 == n then false else true) else false) (without s.ready t))
       (effective_same s v (length-set s.rows t r) (kept_at (λ (r : Row). r.base) s.rows t r no_row refl)
       (waits_same s v (kept_at (λ (r : Row). queued_on r.status) s.rows t r no_row (sym unqueued)) (λ n. refl)) u)
       ∙ none_without (λ (r : ℕ × ℕ). if r.0 == u then (if r.1 == kernel_effective s u then false else true) else false) s.ready t (h.level u);
+  order = sorted_without s.ready t h.order;
 }
   where
     r : Row

@@ -6,7 +6,6 @@ use Rattle.std.proofs.lemmas.Bool.{eqb-false, or_parts, or_from}
 use Rattle.std.proofs.lemmas.List.Folds.{list_any-append}
 use Rattle.std.proofs.lemmas.Map.Made.{IsDistinct-keys_filter}
 use Rattle.pif_model.specs.Graph.{waited_by, has_waiter, without, first_greatest, next_waiter, waiters_with}
-use Rattle.pif_model.specs.Table.{releveled}
 
 -- a property of a test's value from its two cases, each with its equation
 pub by_test : (P : Bool → Type 0) (b : Bool) → (b ≡ true → P true) → (b ≡ false → P false) → P b
@@ -82,13 +81,6 @@ pub or_false : (a : Bool) → (a || false) ≡ a
 or_false true = refl
 or_false false = refl
 
--- the first two parts of an `or` change places
-or_swap : (a b c : Bool) → (a || (b || c)) ≡ (b || (a || c))
-or_swap true true c = refl
-or_swap true false c = refl
-or_swap false true c = refl
-or_swap false false c = refl
-
 -- two tests of equality in either order
 eqb_flip : (a b : ℕ) → (a == b) ≡ (b == a)
 eqb_flip a b = by_test (λ x. x ≡ (b == a)) (a == b) (λ e. sym (eq-eqb b a (sym (eqb-true a b e)))) (λ e. sym (ne_eqb b a (λ h. eqb-false a b e (sym h))))
@@ -136,16 +128,6 @@ apart u (x ∷ xs) h =
 pub once_cons : (w : ℕ × ℕ) (ws : List (ℕ × ℕ)) → names w.0 ws ≡ false → Once ws → Once (w ∷ ws)
 unfolding IsDistinct
 once_cons w ws h o = (apart w.0 ws h, o)
-
--- one that stands nowhere in two lists may stand between them
-pub once_between : (xs ys : List (ℕ × ℕ)) (w : ℕ × ℕ) → names w.0 (xs ++ ys) ≡ false → Once (xs ++ ys) → Once (xs ++ w ∷ ys)
-once_between [] ys w h o = once_cons w ys h o
-once_between (x ∷ xs) ys w h o =
-    let p = or_parts (x.0 == w.0) (names w.0 (xs ++ ys)) h in
-    let q = or_parts (names x.0 xs) (names x.0 ys) (sym (list_any-append (λ (v : ℕ × ℕ). v.0 == x.0) xs ys) ∙ once_head x (xs ++ ys) o) in
-    once_cons x (xs ++ w ∷ ys)
-    (list_any-append (λ (v : ℕ × ℕ). v.0 == x.0) xs (w ∷ ys) ∙ or_from (names x.0 xs) (names x.0 (w ∷ ys)) q.0 (or_from (w.0 == x.0) (names x.0 ys) (eqb_flip w.0 x.0 ∙ p.0) q.1))
-    (once_between xs ys w p.1 (once_tail x (xs ++ ys) o))
 
 -- who joins a list in which it doesn't stand stands in it once
 pub once_push : (ws : List (ℕ × ℕ)) (w : ℕ × ℕ) → names w.0 ws ≡ false → Once ws → Once (ws ++ w ∷ [])
@@ -246,69 +228,6 @@ has_waiter-push ws t m k = list_any-append (λ (w : ℕ × ℕ). w.1 == k) ws ((
 -- who joins stands in the list, and the others as before
 pub named-push : (ws : List (ℕ × ℕ)) (t m u : ℕ) → names u (ws ++ (t, m) ∷ []) ≡ (names u ws || (t == u))
 named-push ws t m u = list_any-append (λ (w : ℕ × ℕ). w.0 == u) ws ((t, m) ∷ []) ∙ ap (λ x. names u ws || x) (or_false (t == u))
-
--- THE RUN QUEUE AT NEW LEVELS
-
--- whether t stands in the run queue at another level than l
-abbrev pub off : ℕ → ℕ → List (ℕ × ℕ) → Bool
-off t l ready = list_any (λ (r : ℕ × ℕ). if r.0 == t then (if r.1 == l then false else true) else false) ready
-
--- those that keep their level
-abbrev kept : (ℕ → ℕ) → List (ℕ × ℕ) → List (ℕ × ℕ)
-kept f xs = filter (λ r. f r.0 == r.1) xs
-
--- those that change it, at their new level
-abbrev moved : (ℕ → ℕ) → List (ℕ × ℕ) → List (ℕ × ℕ)
-moved f xs = map (λ r. (r.0, f r.0)) (filter (λ r. if f r.0 == r.1 then false else true) xs)
-
--- a list's first keeps its level or moves
-split-first : (f : ℕ → ℕ) (P : List (ℕ × ℕ) → List (ℕ × ℕ) → Type 0) (r : ℕ × ℕ) (rs : List (ℕ × ℕ))
-    → (f r.0 ≡ r.1 → P (r ∷ kept f rs) (moved f rs)) → P (kept f rs) ((r.0, f r.0) ∷ moved f rs) → P (kept f (r ∷ rs)) (moved f (r ∷ rs))
-split-first f P r rs h k =
-    by_test (λ b. P (cond b (r ∷ kept f rs) (kept f rs)) (map (λ (r : ℕ × ℕ). (r.0, f r.0)) (cond (cond b false true) (r ∷ filter (λ r. if f r.0 == r.1 then false else true) rs) (filter (λ r. if f r.0 == r.1 then false else true) rs))))
-    (f r.0 == r.1) (λ e. h (eqb-true (f r.0) r.1 e)) (λ e. k)
-
--- one more between two lists
-names-between : (t : ℕ) (xs ys : List (ℕ × ℕ)) (w : ℕ × ℕ) → names t (xs ++ w ∷ ys) ≡ ((w.0 == t) || names t (xs ++ ys))
-names-between t xs ys w =
-    list_any-append (λ (v : ℕ × ℕ). v.0 == t) xs (w ∷ ys) ∙ or_swap (names t xs) (w.0 == t) (names t ys)
-    ∙ ap (λ x. (w.0 == t) || x) (sym (list_any-append (λ (v : ℕ × ℕ). v.0 == t) xs ys))
-
--- the run queue keeps its threads
-pub named-releveled : (f : ℕ → ℕ) (ready : List (ℕ × ℕ)) (t : ℕ) → names t (releveled f ready) ≡ names t ready
-unfolding releveled
-named-releveled f [] t = refl
-named-releveled f (r ∷ rs) t =
-    split-first f (λ x y. names t (x ++ y) ≡ ((r.0 == t) || names t rs)) r rs
-    (λ e. ap (λ x. (r.0 == t) || x) (named-releveled f rs t))
-    (names-between t (kept f rs) (moved f rs) (r.0, f r.0) ∙ ap (λ x. (r.0 == t) || x) (named-releveled f rs t))
-
--- each once
-pub once_releveled : (f : ℕ → ℕ) (ready : List (ℕ × ℕ)) → Once ready → Once (releveled f ready)
-unfolding releveled
-once_releveled f [] o = o
-once_releveled f (r ∷ rs) o =
-    let ih = once_releveled f rs (once_tail r rs o) in
-    let n : names r.0 (kept f rs ++ moved f rs) ≡ false = named-releveled f rs r.0 ∙ once_head r rs o in
-    split-first f (λ x y. Once (x ++ y)) r rs
-    (λ e. once_cons r (kept f rs ++ moved f rs) n ih)
-    (once_between (kept f rs) (moved f rs) (r.0, f r.0) n ih)
-
--- each at its level
-pub level_releveled : (f : ℕ → ℕ) (ready : List (ℕ × ℕ)) (t : ℕ) → off t (f t) (releveled f ready) ≡ false
-unfolding releveled
-level_releveled f [] t = refl
-level_releveled f (r ∷ rs) t =
-    let ih = level_releveled f rs t in
-    let test = λ (r : ℕ × ℕ). if r.0 == t then (if r.1 == f t then false else true) else false in
-    split-first f (λ x y. off t (f t) (x ++ y) ≡ false) r rs
-    (λ e. or_from (test r) (off t (f t) (kept f rs ++ moved f rs)) (at_level r e) ih)
-    (list_any-append test (kept f rs) ((r.0, f r.0) ∷ moved f rs)
-    ∙ (let p = or_parts (off t (f t) (kept f rs)) (off t (f t) (moved f rs)) (sym (list_any-append test (kept f rs) (moved f rs)) ∙ ih) in
-    or_from (off t (f t) (kept f rs)) (off t (f t) ((r.0, f r.0) ∷ moved f rs)) p.0 (or_from (test (r.0, f r.0)) (off t (f t) (moved f rs)) (at_level (r.0, f r.0) refl) p.1)))
-  where
-    at_level : (r : ℕ × ℕ) → f r.0 ≡ r.1 → (if r.0 == t then (if r.1 == f t then false else true) else false) ≡ false
-    at_level r e = by_test (λ b. (if b then (if r.1 == f t then false else true) else false) ≡ false) (r.0 == t) (λ k. rw (eq-eqb r.1 (f t) (sym e ∙ ap f (eqb-true r.0 t k))) refl) (λ k. refl)
 
 -- THE NEXT WAITER
 

@@ -5,4 +5,7 @@
 
 mod laws;
 
-pub use laws::{next_waiter_is_first_of_greatest, no_mutex_has_two_holders};
+pub use laws::{
+    call_closes_or_waits_within_24_steps, next_waiter_is_first_of_greatest,
+    no_mutex_has_two_holders,
+};

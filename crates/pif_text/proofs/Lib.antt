@@ -1,2 +1,5 @@
 pub mod Splits
 pub mod Numerals
+pub mod Marks
+pub mod ReadBack
+pub mod Plain

@@ -49,7 +49,7 @@ numeral_is (d ∷ e ∷ ds) each some first =
     let unequal : (d == 48) ≡ false = grind (arith, nat_tests) in
     rw (unequal, each) refl
 
-own : IsNumeralModel (λ ds. all_ascii_digits ds ≡ true) (digits_value 10)
+pub own : IsNumeralModel (λ ds. all_ascii_digits ds ≡ true) (digits_value 10)
 own = numerals_by_value _ tells_all_ascii_digits
 
 lone_zero : (n : ℕ) → n < 4294967296 → get_or (decimal n) 0 0 ≡ 48 → length (decimal n) ≡ 1

@@ -1,9 +1,9 @@
 -- The command of a line.
 use Rattle.std.specs.Prelude.{ℕ, List, [], ◌∷◌, Option, Some, None, option_map, option_and_then, if◌then◌else◌, bytes_eq, codes}
 use Rattle.pif_types.specs.declared.requests.Kind.{Kind}
-use Rattle.pif_types.specs.declared.requests.Kind.TheVariants.{Normal, ErrorCheck}
+use Rattle.pif_types.specs.declared.requests.Kind.TheVariants.{Normal, ErrorCheck, Recursive}
 use Rattle.pif_types.specs.declared.requests.Request.{Request}
-use Rattle.pif_types.specs.declared.requests.Request.TheVariants.{Lock, Unlock, SetPrio}
+use Rattle.pif_types.specs.declared.requests.Request.TheVariants.{Lock, TryLock, Unlock, SetPrio}
 use Rattle.pif_text.specs.declared.commands.Command.{Command}
 use Rattle.pif_text.specs.declared.commands.Command.TheVariants.{Limits, Thread, Mutex, Begin, Go, Call, Finish, Word, Prio, Pick}
 use Rattle.pif_text.specs.Numbers.{number_in, thread_in, mutex_in}
@@ -14,18 +14,20 @@ infixl 10 ◌>>=◌
 abbrev pub ◌>>=◌ : {A B : Type 0} → Option A → (A → Option B) → Option B
 o >>= f = option_and_then f o
 
--- The type of a mutex: `normal`, `default`, which is the same, or `errorcheck`.
+-- The type of a mutex: `normal`, `default`, which is the same, `errorcheck` or `recursive`.
 unfoldable pub kind_in : List ℕ → Option Kind
 kind_in word =
     if bytes_eq word (codes "normal") then Some Normal
     else if bytes_eq word (codes "default") then Some Normal
     else if bytes_eq word (codes "errorcheck") then Some ErrorCheck
+    else if bytes_eq word (codes "recursive") then Some Recursive
     else None
 
--- A request of two words: `lock mN` or `unlock mN`.
+-- A request of two words: `lock mN`, `trylock mN` or `unlock mN`.
 unfoldable pub request_in : List ℕ → List ℕ → Option Request
 request_in call mutex =
     if bytes_eq call (codes "lock") then option_map Lock (mutex_in mutex)
+    else if bytes_eq call (codes "trylock") then option_map TryLock (mutex_in mutex)
     else if bytes_eq call (codes "unlock") then option_map Unlock (mutex_in mutex)
     else None
 

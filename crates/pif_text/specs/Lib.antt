@@ -1,4 +1,6 @@
+pub mod CommandTexts
 pub mod Commands
 pub mod Numbers
 pub mod Replies
+pub mod Traces
 pub mod Words

@@ -1,17 +1,24 @@
 //! The grammar that scripts and traces share: the command of a line, and the texts of replies and faults.
 #![tactic(auto)]
 
+mod command_texts;
 mod commands;
 mod numbers;
 mod reading;
 mod replies;
 #[cfg(test)]
 mod tests;
+mod traces;
 mod words;
 mod writing;
 
+pub use command_texts::{COMMAND_ROOM, command_reads_back, command_text, mutex_text};
 pub use commands::Command;
 pub use numbers::number_reads_back;
 pub use reading::command_of;
 pub use replies::{Cause, Reply};
+pub use traces::{
+    HEADER, RECORDED_ROOM, VERDICT_ROOM, differs_text, header_text, recorded_text, same_text,
+    split_answer,
+};
 pub use writing::{TEXT_ROOM, fault_text, reply_text};

@@ -16,6 +16,8 @@ fn kind_of(word: &[u8]) -> Option<Kind>
         Some(Kind::Normal)
     } else if word == b"errorcheck".as_slice() {
         Some(Kind::ErrorCheck)
+    } else if word == b"recursive".as_slice() {
+        Some(Kind::Recursive)
     } else {
         None
     }
@@ -28,6 +30,8 @@ fn request_of(call: &[u8], mutex: &[u8]) -> Option<Request>
 {
     if call == b"lock".as_slice() {
         Some(Request::Lock(mutex_of(mutex)?))
+    } else if call == b"trylock".as_slice() {
+        Some(Request::TryLock(mutex_of(mutex)?))
     } else if call == b"unlock".as_slice() {
         Some(Request::Unlock(mutex_of(mutex)?))
     } else {

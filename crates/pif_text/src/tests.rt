@@ -1,4 +1,7 @@
-use crate::{Cause, Command, Reply, command_of, fault_text, number_reads_back, reply_text};
+use crate::{
+    Cause, Command, Reply, command_of, command_reads_back, command_text, differs_text, fault_text,
+    header_text, mutex_text, number_reads_back, recorded_text, reply_text, same_text, split_answer,
+};
 use arrayvec::ArrayVec;
 use pif_types::{AddFault, Kind, MutexId, Prio, Refusal, Request, Tid};
 use std::test::Fail;
@@ -34,6 +37,11 @@ fn lines_of_each_command_are_read(rt: HostRuntime) -> Result<(), Fail> {
         ),
         (b"go t3", Command::Go(thread)),
         (b"finish t3", Command::Finish(thread)),
+        (b"mutex recursive", Command::Mutex(Kind::Recursive)),
+        (
+            b"call t3 trylock m10",
+            Command::Call(thread, Request::TryLock(mutex)),
+        ),
         (b"word m10", Command::Word(mutex)),
         (b"prio t3", Command::Prio(thread)),
         (b"pick", Command::Pick),
@@ -69,11 +77,11 @@ fn other_lines_are_no_command(rt: HostRuntime) -> Result<(), Fail> {
         b"thread 18446744073709551617",
         b"thread 5\0",
         b"thread \xb5",
-        b"mutex recursive",
+        b"mutex adaptive",
         b"mutex normal robust",
         b"call t1 lock",
         b"call t1 lock m1 m2",
-        b"begin t1 trylock m1",
+        b"begin t1 trylock t1",
         b"begin t1 setprio t2",
         b"call t1 setprio m2 30",
         b"call t1 setprio t2 030",
@@ -134,4 +142,73 @@ fn faults_are_written(rt: HostRuntime) -> Result<(), Fail> {
         assert_eq!(rt; out.as_slice(), text);
     }
     Ok(())
+}
+
+#[test]
+fn commands_are_written_as_they_are_read(rt: HostRuntime) -> Result<(), Fail> {
+    let lines = [
+        b"limits 4 2 0 4294967295".as_slice(),
+        b"thread 0",
+        b"mutex normal",
+        b"mutex errorcheck",
+        b"begin t3 lock m10",
+        b"begin t3 unlock m10",
+        b"begin t3 setprio t4294967295 0",
+        b"go t3",
+        b"call t3 lock m10",
+        b"finish t3",
+        b"word m10",
+        b"prio t3",
+        b"pick",
+    ];
+    for line in lines {
+        let command = command_of(line).ok_or("command")?;
+        let mut out = ArrayVec::<u8, 90>::new();
+        command_text(command, &mut out);
+        assert_eq!(rt; out.as_slice(), line);
+    }
+    command_reads_back();
+    let mut out = ArrayVec::<u8, 90>::new();
+    mutex_text(Kind::ErrorCheck, true, &mut out);
+    assert_eq!(rt; out.as_slice(), b"mutex errorcheck robust".as_slice());
+    Ok(())
+}
+
+#[test]
+fn lines_of_traces_are_cut_at_the_first_mark(rt: HostRuntime) {
+    let lines = [
+        (
+            b"go t1 = went".as_slice(),
+            Some((b"go t1".as_slice(), b"went".as_slice())),
+        ),
+        (
+            b"go t1 = = = ",
+            Some((b"go t1".as_slice(), b"= = ".as_slice())),
+        ),
+        (b"go  = ", Some((b"go ".as_slice(), b"".as_slice()))),
+        (b" = \xb5", Some((b"".as_slice(), b"\xb5".as_slice()))),
+        (b"go t1 =went", None),
+        (b"go t1= went", None),
+        (b"go t1 =", None),
+        (b"", None),
+    ];
+    for (line, parts) in lines {
+        assert_eq!(rt; split_answer(line), parts);
+    }
+}
+
+#[test]
+fn verdicts_are_written(rt: HostRuntime) {
+    let mut out = ArrayVec::<u8, 70>::new();
+    same_text(5, &mut out);
+    assert_eq!(rt; out.as_slice(), b"same 5".as_slice());
+    out.clear();
+    header_text(&mut out);
+    assert_eq!(rt; out.as_slice(), b"pif-trace 1".as_slice());
+    out.clear();
+    recorded_text(Reply::Went, &mut out);
+    assert_eq!(rt; out.as_slice(), b" = went".as_slice());
+    out.clear();
+    differs_text(6, Reply::Answer(0), &mut out);
+    assert_eq!(rt; out.as_slice(), b"differs 6 answer 0".as_slice());
 }

@@ -13,7 +13,7 @@ use pif_types::{AddFault, Answer, MutexId, Refusal, Tid};
 pub const TEXT_ROOM: usize = 40;
 
 /// Appends bytes.
-fn append<const N: usize>(out: &mut ArrayVec<u8, N>, text: &[u8])
+pub fn append<const N: usize>(out: &mut ArrayVec<u8, N>, text: &[u8])
     requires { array_vec_len out.old + length text.now ≤ N }
     ensures { out.new.items ≡ out.old.items ++ text.now }
 {
@@ -21,7 +21,7 @@ fn append<const N: usize>(out: &mut ArrayVec<u8, N>, text: &[u8])
 }
 
 /// Appends a number in decimal digits.
-fn append_decimal<const N: usize>(out: &mut ArrayVec<u8, N>, number: u64)
+pub fn append_decimal<const N: usize>(out: &mut ArrayVec<u8, N>, number: u64)
     requires { array_vec_len out.old + 20 ≤ N }
     ensures items { out.new.items ≡ out.old.items ++ decimal number }
     ensures len { length (decimal number) ≤ 20 }
@@ -31,7 +31,7 @@ fn append_decimal<const N: usize>(out: &mut ArrayVec<u8, N>, number: u64)
 }
 
 /// Appends the name of a thread.
-fn append_thread<const N: usize>(out: &mut ArrayVec<u8, N>, thread: Tid)
+pub fn append_thread<const N: usize>(out: &mut ArrayVec<u8, N>, thread: Tid)
     requires { array_vec_len out.old + 21 ≤ N }
     ensures items { out.new.items ≡ out.old.items ++ thread_name thread }
     ensures len { length (thread_name thread) ≤ 21 }
@@ -41,7 +41,7 @@ fn append_thread<const N: usize>(out: &mut ArrayVec<u8, N>, thread: Tid)
 }
 
 /// Appends the name of a mutex.
-fn append_mutex<const N: usize>(out: &mut ArrayVec<u8, N>, mutex: MutexId)
+pub fn append_mutex<const N: usize>(out: &mut ArrayVec<u8, N>, mutex: MutexId)
     requires { array_vec_len out.old + 21 ≤ N }
     ensures items { out.new.items ≡ out.old.items ++ mutex_name mutex }
     ensures len { length (mutex_name mutex) ≤ 21 }

@@ -15,7 +15,7 @@ pub enum Errno {
     /// ESRCH: no living thread has that number.
     #[error("ESRCH")]
     NoSuchThread,
-    /// EAGAIN: the word changed, or the recursion count is at its limit.
+    /// EAGAIN: the word changed, another thread owns the mutex, or the recursion count is at its limit.
     #[error("EAGAIN")]
     Again,
     /// EFAULT: there is no such word.

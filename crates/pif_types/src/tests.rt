@@ -1,4 +1,4 @@
-use crate::{CondId, Errno, Limits, MutexId, Prio, Tid};
+use crate::{CondId, Errno, Limits, MutexId, Prio, Tid, push_within, with_room};
 use std::test::Fail;
 
 #[test]
@@ -35,4 +35,13 @@ fn errors_have_the_numbers_of_errno_h(rt: HostRuntime) {
     assert_eq!(rt; Errno::NotPermitted.number(), 1);
     assert_eq!(rt; Errno::Deadlock.number(), 35);
     assert_eq!(rt; Errno::NotRecoverable.number(), 131);
+}
+
+#[test]
+fn lists_have_the_room_that_was_asked_for(rt: HostRuntime) -> Result<(), Fail> {
+    let mut items: Vec<u32> = with_room(rt.alloc(), 2)?;
+    push_within(&mut items, 7);
+    push_within(&mut items, 9);
+    assert_eq!(rt; items.as_slice(), [7, 9].as_slice());
+    Ok(())
 }

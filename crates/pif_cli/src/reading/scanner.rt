@@ -1,19 +1,19 @@
-ghost use Rattle.std.specs.Prelude.{◌≡◌, ◌+◌, ◌*◌, ◌≤◌, ◌<◌, ◌==◌, length, OnOk, None, Some, if◌then◌else◌};
+ghost use Rattle.std.specs.Prelude.{◌≡◌, ◌+◌, ◌*◌, ◌≤◌, ◌<◌, ◌==◌, length, OnOk, None, Some};
 ghost use Rattle.arrayvec.specs.ArrayVec.{array_vec_len};
 
-use super::listener::{ANSWER_ROOM, Listener, OUTPUT_ROOM, OpenFault, Output};
-use super::stop::Stop;
+use super::ending::{End, Ending, OpenFault, Stop};
+use super::listener::{ANSWER_ROOM, END_ROOM, Listener, OUTPUT_ROOM, Output};
 use arrayvec::ArrayVec;
 use pif_text::Cause;
 use std::alloc::Global;
 
-/// The most bytes of a script.
+/// The most bytes of a script or a trace.
 const MOST_BYTES: u32 = 16_777_216;
 
 /// The most bytes of a line before its LF.
 const MOST_LINE: usize = 120;
 
-/// Reads a script byte by byte, and has its lines answered by an `L`, which the first line makes.
+/// Reads a script byte by byte, and has its lines answered by an `L`, which one of the first lines makes.
 #[derive(Drop)]
 pub struct Scanner<L> {
     listener: Option<L>,
@@ -25,7 +25,7 @@ pub struct Scanner<L> {
 }
 
 impl<L: Listener + Drop> Scanner<L> {
-    ghost use Rattle.pif_cli.specs.Scripts.{start, Takes, Feeds, Answers};
+    ghost use Rattle.pif_cli.specs.Scripts.{start, Takes, Feeds, Answers, Tells, closed_at, end_at};
     ghost use Rattle.pif_cli.specs.Scanners.{scan_of};
 
     /// A scanner before the first byte.
@@ -40,14 +40,14 @@ impl<L: Listener + Drop> Scanner<L> {
         }
     }
 
-    /// Reads these bytes, up to the first fault. What their lines are answered is appended to `output`.
+    /// Reads these bytes, up to the first line that ends the script. What their lines are answered is appended to `output`.
     ///
     /// # Errors
     ///
-    /// `Script` with the first fault, and `NoMemory`, where no line was answered yet.
+    /// `Ended` with that line, and `NoMemory`, where no line was answered yet.
     pub fn feed(&mut self, alloc: Global, bytes: &[u8], output: &mut Output) -> Result<(), Stop>
         requires { array_vec_len output.old + ANSWER_ROOM * length bytes.now ≤ OUTPUT_ROOM }
-        ensures answer { Feeds L.heard (scan_of self.old) bytes.now output.old.items output.new.items (scan_of self.new) result }
+        ensures answer { Feeds L.hearing (scan_of self.old) bytes.now output.old.items output.new.items (scan_of self.new) result }
         ensures room { array_vec_len output.new ≤ array_vec_len output.old + ANSWER_ROOM * length bytes.now }
         ensures taken { OnOk result (self.new.taken ≡ self.old.taken + length bytes.now) }
     {
@@ -57,26 +57,43 @@ impl<L: Listener + Drop> Scanner<L> {
         Ok(())
     }
 
-    /// The number of the line in which the script stands, where bytes of it were read.
-    pub fn open_line(&self) -> Option<u64>
-        ensures { result ≡ (if length self.now.line.items == 0 then None else Some self.now.number) }
+    /// Appends to `output` what is said where the script ends here.
+    ///
+    /// # Errors
+    ///
+    /// The line that is a fault because the script ends here; `output` is then unchanged.
+    pub fn close(&self, output: &mut Output) -> Result<(), End>
+        requires { array_vec_len output.old + END_ROOM ≤ OUTPUT_ROOM }
+        ensures { Tells (closed_at L.hearing (scan_of self.now)) output.old.items output.new.items result }
     {
-        if self.line.is_empty() {
-            None
-        } else {
-            Some(self.number)
+        if !self.line.is_empty() {
+            return Err(self.fault(Cause::Cut));
+        }
+        match L::close(self.number, output) {
+            Ok(()) => Ok(()),
+            Err(cause) => Err(self.fault(cause)),
+        }
+    }
+
+    /// The line in which the script stands, as a fault.
+    fn fault(&self, cause: Cause) -> End
+        ensures { result ≡ end_at (scan_of self.now) (Ending.Fault cause) }
+    {
+        End {
+            line: self.number,
+            ending: Ending::Fault(cause),
         }
     }
 
     /// Reads one byte.
     fn take(&mut self, alloc: Global, byte: u8, output: &mut Output) -> Result<(), Stop>
         requires { array_vec_len output.old + ANSWER_ROOM ≤ OUTPUT_ROOM }
-        ensures answer { Takes L.heard (scan_of self.old) byte output.old.items output.new.items (scan_of self.new) result }
+        ensures answer { Takes L.hearing (scan_of self.old) byte output.old.items output.new.items (scan_of self.new) result }
         ensures room { array_vec_len output.new ≤ array_vec_len output.old + ANSWER_ROOM }
         ensures taken { OnOk result (self.new.taken ≡ self.old.taken + 1) }
     {
         if self.taken >= MOST_BYTES {
-            return Err(Stop::Script(self.number, Cause::Size));
+            return Err(Stop::Ended(self.fault(Cause::Size)));
         }
         if byte == b'\n' {
             self.answer(alloc, output)?;
@@ -86,7 +103,7 @@ impl<L: Listener + Drop> Scanner<L> {
             return Ok(());
         }
         if self.line.len() >= MOST_LINE {
-            return Err(Stop::Script(self.number, Cause::Long));
+            return Err(Stop::Ended(self.fault(Cause::Long)));
         }
         self.line.push(byte);
         self.taken += 1;
@@ -96,22 +113,28 @@ impl<L: Listener + Drop> Scanner<L> {
     /// Has the line answered.
     fn answer(&mut self, alloc: Global, output: &mut Output) -> Result<(), Stop>
         requires { array_vec_len output.old + ANSWER_ROOM ≤ OUTPUT_ROOM }
-        ensures answer { Answers L.heard (scan_of self.old) output.old.items output.new.items (scan_of self.new) result }
+        ensures answer { Answers L.hearing (scan_of self.old) output.old.items output.new.items (scan_of self.new) result }
         ensures room { array_vec_len output.new ≤ array_vec_len output.old + ANSWER_ROOM }
         ensures counts { (self.new.number ≡ self.old.number) × (self.new.taken ≡ self.old.taken) }
     {
         match &mut self.listener {
-            None => match L::open(alloc, self.line.as_slice(), output) {
+            None => match L::open(alloc, self.number, self.line.as_slice(), output) {
                 Ok(listener) => {
-                    self.listener = Some(listener);
+                    self.listener = listener;
                     Ok(())
                 }
-                Err(OpenFault::Script(cause)) => Err(Stop::Script(self.number, cause)),
+                Err(OpenFault::Ended(ending)) => Err(Stop::Ended(End {
+                    line: self.number,
+                    ending,
+                })),
                 Err(OpenFault::NoMemory) => Err(Stop::NoMemory),
             },
             Some(listener) => match listener.hear(self.line.as_slice(), output) {
                 Ok(()) => Ok(()),
-                Err(cause) => Err(Stop::Script(self.number, cause)),
+                Err(ending) => Err(Stop::Ended(End {
+                    line: self.number,
+                    ending,
+                })),
             },
         }
     }

@@ -5,10 +5,10 @@ use std::cell::Cell;
 use std::io;
 use std::io::{Read, Write};
 
-/// Keeps what is written, up to 2,048 bytes, and allocates nothing.
+/// Keeps what is written, up to 16,384 bytes, and allocates nothing.
 #[derive(Drop)]
 pub struct Kept {
-    bytes: ArrayVec<u8, 2048>,
+    bytes: ArrayVec<u8, 16384>,
 }
 
 impl Kept {
@@ -20,6 +20,11 @@ impl Kept {
 
     pub fn text(&self) -> &[u8] {
         self.bytes.as_slice()
+    }
+
+    /// Keeps these bytes too, if there is room for them.
+    pub fn append(&mut self, bytes: &[u8]) {
+        let _ = self.bytes.try_extend_from_slice(bytes);
     }
 }
 

@@ -3,4 +3,4 @@ use Rattle.pif_cli.proofs.WordsLemmas.{EndsBy-refused}
 use Rattle.pif_cli.proofs.words.command.Goals as goal
 
 pub returns-in-Err : goal.returns-in-Err
-returns-in-Err g c = EndsBy-refused _ (kind_of c.in-Err.error) _ _ _ _ _ _ c.in-Err.ensures c.refuse.ensures
+returns-in-Err g c = EndsBy-refused _ _ (kind_of c.in-Err.error) _ _ _ _ _ _ c.in-Err.ensures.refusals c.refuse.ensures

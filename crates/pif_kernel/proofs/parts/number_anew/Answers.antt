@@ -1,4 +1,4 @@
-use Rattle.std.proofs.Common.{◌≡◌, ℕ, ◌+◌, ◌<◌, length, get_or, IsSome, is_some, subst, sym, ap, ◌∙◌, arith}
+use Rattle.std.proofs.Common.{◌≡◌, ℕ, ◌+◌, get_or, is_some, subst, sym, ap, ◌∙◌, arith}
 use Rattle.pif_rtmutex.specs.Owners.{Owners, KeepsOrder, with_ticket}
 use Rattle.pif_kernel.specs.Tickets.{IsRetagged}
 use Rattle.pif_kernel.proofs.TicketLaws.{retagged_none, retagged_more, named_at}

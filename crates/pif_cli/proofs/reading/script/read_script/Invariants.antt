@@ -7,8 +7,8 @@ use Rattle.pif_cli.proofs.reading.script.read_script.Given as goal
 abbrev pub invariant-loop-scanner : goal.invariant-loop-scanner
 invariant-loop-scanner g l =
     (read : List ℕ) × Consumes (g.R.Read.remaining l.initial.reader) (g.R.Read.remaining l.reader) read
-    × ((fed g.L.Listener.heard start read).stands ≡ Ok (scan_of l.scanner))
-    × Appends (g.W.Write.contents l.initial.writer) (g.W.Write.contents l.writer) (fed g.L.Listener.heard start read).text
+    × ((fed g.L.Listener.hearing start read).stands ≡ Ok (scan_of l.scanner))
+    × Appends (g.W.Write.contents l.initial.writer) (g.W.Write.contents l.writer) (fed g.L.Listener.hearing start read).text
 
 abbrev pub decreases-loop-scanner : goal.decreases-loop-scanner
 decreases-loop-scanner g l = 16777216 - l.scanner.taken

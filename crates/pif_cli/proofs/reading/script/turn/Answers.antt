@@ -1,39 +1,33 @@
-use Rattle.std.proofs.Common.{take, sym, ◌∙◌, arith}
+use Rattle.std.proofs.Common.{take, arith}
 use Rattle.pif_cli.specs.Scripts.{fed}
 use Rattle.std.proofs.lemmas.Result.{err_from_is_err_and}
 use Rattle.pif_cli.specs.Scanners.{scan_of}
-use Rattle.pif_cli.proofs.RunLemmas.{RunsFrom-read_failed, RunsFrom-done, RunsFrom-cut, RunsFrom-fault, RunsFrom-unwritten, Writes-text}
+use Rattle.pif_cli.proofs.RunLemmas.{RunsFrom-read_failed, Turns-closed, RunsFrom-stopped, RunsFrom-unwritten, Writes-text}
 use Rattle.pif_cli.proofs.reading.script.turn.Goals as goal
 
 pub returns-in-Err-clause-answer : goal.returns-in-Err-clause-answer
 returns-in-Err-clause-answer g c =
-    RunsFrom-read_failed g.L.Listener.heard (scan_of c.args.scanner.now) _ _ _ c.in-Err.ensures.bytes
-
-pub returns-in-None-clause-answer : goal.returns-in-None-clause-answer
-returns-in-None-clause-answer g c =
-    let read = rw c.if-count-eq0.true at c.in-Ok.ensures.bytes in
-    RunsFrom-done g.L.Listener.heard (scan_of c.args.scanner.now) _ _ _ read.0 (c.in-Ok.ensures.bytes.1 c.if-count-eq0.true (omega arith)) (sym c.open_line.ensures ∙ c.in-None.is)
-
-pub returns-in-Some-clause-answer : goal.returns-in-Some-clause-answer
-returns-in-Some-clause-answer g c =
-    let read = rw c.if-count-eq0.true at c.in-Ok.ensures.bytes in
-    let stopped = rw c.clear.ensures at c.stop.ensures in
-    RunsFrom-cut g.L.Listener.heard (scan_of c.args.scanner.now) _ _ _ _ c.in-Some.number c.stop.result read.0
-    (c.in-Ok.ensures.bytes.1 c.if-count-eq0.true (omega arith)) (sym c.open_line.ensures ∙ c.in-Some.is) stopped
-
-pub returns-in-Err-Script-clause-answer : goal.returns-in-Err-Script-clause-answer
-returns-in-Err-Script-clause-answer g c =
-    let answer = rw (c.in-Err-Script.field-0-is, c.clear.ensures) at c.in-Err-Script.ensures.answer in
-    let stopped = rw answer.1 at c.stop-in-Err-Script.ensures in
-    RunsFrom-fault g.L.Listener.heard (scan_of c.args.scanner.now) (take c.in-Ok.count c.read.new.buf) _ _ _ _ c.in-Err-Script.number c.in-Err-Script.cause
-    c.stop-in-Err-Script.result c.in-Ok.ensures.bytes.0 answer.0 stopped
+    RunsFrom-read_failed g.L.Listener.hearing (scan_of c.args.scanner.now) _ _ _ c.in-Err.ensures.bytes
 
 pub returns-in_err-write_whole-in-Ok-feed-clause-answer : goal.returns-in_err-write_whole-in-Ok-feed-clause-answer
 returns-in_err-write_whole-in-Ok-feed-clause-answer g c =
     let p = err_from_is_err_and c.from_residual.result c.from_residual.ensures.1 in
-    let text = (fed g.L.Listener.heard (scan_of c.args.scanner.now) (take c.in-Ok.count c.read.new.buf)).text in
+    let text = (fed g.L.Listener.hearing (scan_of c.args.scanner.now) (take c.in-Ok.count c.read.new.buf)).text in
     let unwritten = Writes-text (g.W.Write.contents c.args.writer.now) (g.W.Write.contents c.write_whole.new.writer) c.as_slice.result.now c.feed.new.output.items
     c.clear.new.self.items text c.in_err-write_whole-in-Ok-feed.field-0.0 c.as_slice.ensures.value c.in-Ok-feed.ensures.answer.1 c.clear.ensures
     c.in_err-write_whole-in-Ok-feed.ensures in
-    rw (p.1, p.2) (RunsFrom-unwritten g.L.Listener.heard (scan_of c.args.scanner.now) (take c.in-Ok.count c.read.new.buf) _ _ _ _
+    rw (p.1, p.2) (RunsFrom-unwritten g.L.Listener.hearing (scan_of c.args.scanner.now) (take c.in-Ok.count c.read.new.buf) _ _ _ _
     c.in_err-write_whole-in-Ok-feed.field-0.0 c.in-Ok.ensures.bytes.0 unwritten)
+
+pub returns-then-count-eq0-clause-answer : goal.returns-then-count-eq0-clause-answer
+returns-then-count-eq0-clause-answer g c =
+    let read = rw c.if-count-eq0.true at c.in-Ok.ensures.bytes in
+    Turns-closed g.L.Listener.hearing (scan_of c.args.scanner.now) _ _ _ _ c.close.result read.0 (c.in-Ok.ensures.bytes.1 c.if-count-eq0.true (omega arith))
+    c.close.ensures
+
+pub returns-in-Err-Ended-clause-answer : goal.returns-in-Err-Ended-clause-answer
+returns-in-Err-Ended-clause-answer g c =
+    let answer = rw (c.in-Err-Ended.field-0-is, c.clear.ensures) at c.in-Err-Ended.ensures.answer in
+    let stopped = rw answer.1 at c.stop.ensures in
+    RunsFrom-stopped g.L.Listener.hearing (scan_of c.args.scanner.now) (take c.in-Ok.count c.read.new.buf) _ _ _ _ c.in-Err-Ended.end c.stop.result
+    c.in-Ok.ensures.bytes.0 answer.0 stopped

@@ -1,4 +1,4 @@
-use Rattle.std.proofs.Common.{◌≡◌, ◌≢◌, ℕ, ◌<◌, ◌≤◌, length, subst, sym, ◌∙◌, ap, arith, true}
+use Rattle.std.proofs.Common.{◌≡◌, ◌≤◌, length, subst, sym, ◌∙◌, ap, arith}
 use Rattle.pif_model.specs.PiKernel.{seated}
 use Rattle.pif_kernel.specs.Plain.{Plain, IsSound, kernel_of}
 use Rattle.pif_kernel.specs.Fields.{plain_of}

@@ -1,4 +1,4 @@
-use Rattle.std.proofs.Common.{◌≡◌, subst, sym, ◌∙◌, ap, Some, None, if◌then◌else◌}
+use Rattle.std.proofs.Common.{◌≡◌, subst, sym, Some, None, if◌then◌else◌}
 use Rattle.pif_model.specs.PiKernel.{effective_in, seat_at}
 use Rattle.pif_kernel.specs.Plain.{Plain, IsSound, kernel_of}
 use Rattle.pif_kernel.specs.Fields.{plain_of}

@@ -1,5 +1,5 @@
 use Rattle.std.proofs.Common.{◌≡◌, ◌+◌, ◌<◌, length, None, refl, subst, sym, ◌∙◌}
-use Rattle.pif_rtmutex.specs.Owners.{owner_at, count}
+use Rattle.pif_rtmutex.specs.Owners.{count}
 use Rattle.pif_kernel.specs.Plain.{Plain, key_at}
 use Rattle.pif_kernel.specs.Plain.IsOpened.{found}
 use Rattle.pif_kernel.specs.Fields.{plain_of}

@@ -1,4 +1,4 @@
-use Rattle.std.proofs.Common.{◌≡◌, ℕ, ◌≤◌, ◌==◌, true, false, if◌then◌else◌, Ok, Err, refl, subst, sym, ◌∙◌, arith}
+use Rattle.std.proofs.Common.{◌≡◌, ◌≤◌, ◌==◌, true, false, Ok, Err, refl, subst, sym, ◌∙◌, arith}
 use Rattle.std.proofs.lemmas.Bool.Decides.{nat_tests}
 use Rattle.pif_types.specs.declared.errors.Errno.TheVariants.{NoSuchThread}
 use Rattle.pif_model.specs.PiKernel.{seat_at, set_prio_answer}

@@ -1,4 +1,4 @@
-use Rattle.std.proofs.Common.{◌≡◌, ◌≢◌, ℕ, ◌<◌, ◌≤◌, true, length, subst, sym, ◌∙◌, ap, arith}
+use Rattle.std.proofs.Common.{◌≡◌, ◌<◌, ◌≤◌, true, length, subst, sym, ◌∙◌, ap, arith}
 use Rattle.pif_model.specs.Table.{is_ready}
 use Rattle.pif_model.specs.PiKernel.{stopped_in}
 use Rattle.pif_kernel.specs.Plain.{Plain, IsSound, kernel_of, status_at}

@@ -1,17 +1,10 @@
-use Rattle.std.proofs.Common.{◌≡◌, ◌≢◌, ◌⊎◌, inl, inr, ℕ, ◌<◌, ◌≤◌, true, false, IsTrue, length, Ok, Err, refl, subst, sym, ap, ◌∙◌, arith}
+use Rattle.std.proofs.Common.{◌≡◌, ◌≢◌, ◌⊎◌, inl, inr, true, false, sym, ◌∙◌, arith}
 use Rattle.std.proofs.lemmas.Bool.Decides.{nat_tests}
-use Rattle.pif_types.specs.declared.errors.Errno.TheVariants.{NotPermitted, NoSuchThread, Fault, Invalid, Deadlock}
-use Rattle.pif_model.specs.declared.lines.Took.TheVariants.{Owns as TookOwns, Queued as TookQueued}
-use Rattle.pif_model.specs.Word.{Word}
-use Rattle.pif_model.specs.PiKernel.{seat_at, word_at, has_word, lock_answer, unlock_answer, set_prio_answer, waits_for}
-use Rattle.pif_model.specs.Graph.{reaches_within}
-use Rattle.pif_rtmutex.specs.Owners.{Seat}
-use Rattle.pif_rtmutex.specs.Owners.{seat_at as row_at}
-use Rattle.pif_kernel.specs.Answers.{words_of, wait_answer}
-use Rattle.pif_kernel.specs.Plain.{Plain, IsSound, kernel_of}
-use Rattle.pif_kernel.specs.Fields.{plain_of}
-use Rattle.pif_kernel.proofs.Seats.{fitted, living_seen, living_added, states_seen}
-use Rattle.pif_kernel.proofs.Answering.{number_seen, some_word, no_word, none_zero, some_value, closes_seen, unlock_fault, unlock_other, unlock_done, unlock_disagrees}
+use Rattle.pif_model.specs.PiKernel.{word_at}
+use Rattle.pif_kernel.specs.Answers.{words_of}
+use Rattle.pif_kernel.specs.Plain.{kernel_of}
+use Rattle.pif_kernel.proofs.Seats.{states_seen}
+use Rattle.pif_kernel.proofs.Answering.{number_seen, some_word, no_word, unlock_fault, unlock_other, unlock_done, unlock_disagrees}
 use Rattle.pif_kernel.proofs.parts.Parts.unlock_answer.Goals as goal
 use Rattle.pif_kernel.proofs.parts.Parts.unlock_answer.Goals.{then-state-eq0, else-state-eq0}
 

@@ -1,17 +1,15 @@
-use Rattle.std.proofs.Common.{◌≡◌, ◌≢◌, ◌⊎◌, inl, inr, ℕ, ◌<◌, ◌≤◌, true, false, IsTrue, length, Ok, Err, refl, subst, sym, ap, ◌∙◌, arith}
+use Rattle.std.proofs.Common.{◌≡◌, ◌⊎◌, inl, inr, true, false, length, Ok, Err, refl, subst, sym, ◌∙◌, arith}
 use Rattle.std.proofs.lemmas.Bool.Decides.{nat_tests}
-use Rattle.pif_types.specs.declared.errors.Errno.TheVariants.{NotPermitted, NoSuchThread, Fault, Invalid, Deadlock}
-use Rattle.pif_model.specs.declared.lines.Took.TheVariants.{Owns as TookOwns, Queued as TookQueued}
-use Rattle.pif_model.specs.Word.{Word}
-use Rattle.pif_model.specs.PiKernel.{seat_at, word_at, has_word, lock_answer, unlock_answer, set_prio_answer, waits_for}
+use Rattle.pif_types.specs.declared.errors.Errno.TheVariants.{NoSuchThread, Invalid, Deadlock}
+use Rattle.pif_model.specs.declared.lines.Took.TheVariants.{Queued as TookQueued}
+use Rattle.pif_model.specs.PiKernel.{seat_at, waits_for}
 use Rattle.pif_model.specs.Graph.{reaches_within}
-use Rattle.pif_rtmutex.specs.Owners.{Seat}
 use Rattle.pif_rtmutex.specs.Owners.{seat_at as row_at}
-use Rattle.pif_kernel.specs.Answers.{words_of, wait_answer}
+use Rattle.pif_kernel.specs.Answers.{wait_answer}
 use Rattle.pif_kernel.specs.Plain.{Plain, IsSound, kernel_of}
 use Rattle.pif_kernel.specs.Fields.{plain_of}
-use Rattle.pif_kernel.proofs.Seats.{fitted, living_seen, living_added, states_seen}
-use Rattle.pif_kernel.proofs.Answering.{number_seen, some_word, no_word, none_zero, some_value, closes_seen, wait_dead, wait_disagrees, wait_closes, wait_queues}
+use Rattle.pif_kernel.proofs.Seats.{fitted, living_seen, living_added}
+use Rattle.pif_kernel.proofs.Answering.{closes_seen, wait_dead, wait_disagrees, wait_closes, wait_queues}
 use Rattle.pif_kernel.proofs.parts.Parts.wait_answer.Goals as goal
 use Rattle.std.proofs.Common.{◌==◌, if◌then◌else◌}
 use Rattle.pif_kernel.proofs.parts.Parts.wait_answer.Goals.{else-state-ne0-via-then-state-ne0+else-state-get, else-state-ne0-via-else-state-ne0}

@@ -1,4 +1,4 @@
-use Rattle.std.proofs.Common.{◌≡◌, ℕ, subst, sym, ap, ◌∙◌}
+use Rattle.std.proofs.Common.{subst, sym, ap, ◌∙◌}
 use Rattle.pif_types.specs.Bounds.{IsWithin}
 use Rattle.pif_runq.specs.Levels.{Holds}
 use Rattle.pif_model.specs.PiKernel.{IsKernel}

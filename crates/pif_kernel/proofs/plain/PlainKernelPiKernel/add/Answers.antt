@@ -1,4 +1,4 @@
-use Rattle.std.proofs.Common.{◌≡◌, ◌≤◌, length, subst, sym, ap, ◌∙◌, arith}
+use Rattle.std.proofs.Common.{◌≤◌, length, subst, sym, ap, ◌∙◌, arith}
 use Rattle.pif_kernel.specs.Plain.{Plain, kernel_of}
 use Rattle.pif_kernel.proofs.Seats.{fitted, seats_length, limits_seen}
 use Rattle.pif_types.specs.Bounds.{Bounds}

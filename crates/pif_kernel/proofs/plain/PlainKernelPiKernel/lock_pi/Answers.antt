@@ -1,11 +1,10 @@
-use Rattle.std.proofs.Common.{◌≡◌, ◌≢◌, ℕ, ◌+◌, ◌<◌, ◌≤◌, true, false, List, length, set, Ok, Err, refl, subst, sym, ap, ◌∙◌, arith}
+use Rattle.std.proofs.Common.{◌≡◌, ℕ, ◌+◌, ◌≤◌, true, false, List, length, set, Ok, subst, sym, ap, ◌∙◌, arith}
 use Rattle.pif_model.specs.declared.lines.Took.{Took}
-use Rattle.pif_model.specs.declared.lines.Took.TheVariants.{Owns as TookOwns, Queued as TookQueued}
 use Rattle.pif_model.specs.Graph.{reaches_within}
-use Rattle.pif_model.specs.Kernel.{taken_word}
+use Rattle.pif_model.specs.Word.{taken_word}
 use Rattle.pif_model.specs.Table.{is_ready}
 use Rattle.pif_model.specs.Word.{Word, word_of}
-use Rattle.pif_model.specs.PiKernel.{Kernel, IsOwned, seat_at, has_seat, waits_for, word_at, has_word, lock_answer, lock_words, lock_kernel, queued_in}
+use Rattle.pif_model.specs.PiKernel.{Kernel, IsOwned, seat_at, has_seat, waits_for, word_at, lock_words, lock_kernel, queued_in}
 use Rattle.pif_types.specs.Bounds.{Bounds}
 use Rattle.pif_kernel.specs.Answers.{words_of}
 use Rattle.pif_kernel.specs.Plain.{Plain, IsSound, kernel_of}

@@ -1,10 +1,10 @@
-use Rattle.std.proofs.Common.{◌≡◌, ◌≢◌, ℕ, ◌+◌, ◌<◌, ◌≤◌, true, false, List, length, set, Ok, Some, None, Option, refl, subst, sym, ap, ◌∙◌, arith}
+use Rattle.std.proofs.Common.{◌≡◌, ℕ, ◌+◌, ◌≤◌, true, false, List, length, set, Ok, Some, subst, sym, ap, ◌∙◌, arith}
 use Rattle.pif_model.specs.Table.{is_ready}
-use Rattle.pif_model.specs.Word.{Word, word_of, free_word}
+use Rattle.pif_model.specs.Word.{Word, word_of}
 use Rattle.pif_model.specs.PiKernel.{Kernel, IsOwned, seat_at, unlock_words, unlock_kernel, handed_in}
 use Rattle.pif_types.specs.Bounds.{Bounds}
 use Rattle.pif_kernel.specs.Answers.{words_of}
-use Rattle.pif_kernel.specs.Plain.{Plain, IsSound, kernel_of, key_at}
+use Rattle.pif_kernel.specs.Plain.{Plain, kernel_of, key_at}
 use Rattle.pif_kernel.proofs.Seats.{fitted, status_seen, states_seen, limits_seen}
 use Rattle.pif_kernel.proofs.Answering.{cell_of_word, words_stored}
 use Rattle.pif_kernel.proofs.LockFacts.{owned_free}

@@ -1,12 +1,12 @@
-use Rattle.std.proofs.Common.{refl}
+use Rattle.pif_cli.specs.Scanners.{scan_of}
+use Rattle.pif_cli.proofs.ScriptLemmas.{Answers-opened, Answers-heard}
 use Rattle.pif_cli.proofs.reading.scanner.Scanner.answer.Goals as goal
 
 pub returns-in-Ok-clause-answer : goal.returns-in-Ok-clause-answer
 returns-in-Ok-clause-answer g c =
-    let e = rw c.as_slice.ensures.value at c.in-Ok.ensures.answer in
-    rw c.in-None.is ((e.0, c.in-Ok.listener), e.1, e.2, refl)
+    Answers-opened g.L.Listener.hearing (scan_of c.args.self.now) _ _ _ c.in-Ok.listener c.in-None.is c.as_slice.ensures.value c.in-Ok.ensures.answer
 
 pub returns-in-Ok-hear-clause-answer : goal.returns-in-Ok-hear-clause-answer
 returns-in-Ok-hear-clause-answer g c =
-    let e = rw c.as_slice-in-Some.ensures.value at c.in-Ok-hear.ensures.answer in
-    rw c.in-Some.is ((e.0, c.hear.new.self), e.1, e.2, refl)
+    Answers-heard g.L.Listener.hearing (scan_of c.args.self.now) _ _ _ c.in-Some.listener c.hear.new.self c.in-Some.is c.as_slice-in-Some.ensures.value
+    c.in-Ok-hear.ensures.answer

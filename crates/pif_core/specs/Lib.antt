@@ -1,3 +1,0 @@
-pub mod Places
-pub mod Room
-pub mod State

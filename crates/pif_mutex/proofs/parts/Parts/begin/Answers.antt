@@ -1,0 +1,21 @@
+-- A call that begins leaves the parts sound.
+use Rattle.std.proofs.Common.{◌≡◌, sym, ap, ◌∙◌, None}
+use Rattle.pif_model.specs.declared.events.Event.TheVariants.{Begin}
+use Rattle.pif_model.specs.Table.{Table}
+use Rattle.pif_model.specs.Lines.{first_place, table_refusal}
+use Rattle.pif_mutex.proofs.Events.{begun_sound}
+use Rattle.pif_mutex.proofs.parts.Parts.begin.Goals as goal
+use Rattle.pif_mutex.proofs.parts.Parts.begin.Goals.{in-Lock, in-TryLock, in-Unlock, in-SetPrio}
+
+pub invariant_of-self : goal.invariant_of-self
+invariant_of-self g c =
+    let s = c.self.inside.state in
+    let q = c.args.request in
+    let place : c.match-request.place ≡ first_place q = elim c.match-request.branch [
+      | in-Lock w ↦ w.place-is ∙ ap first_place (sym w.in-Lock.is)
+      | in-TryLock w ↦ w.place-is ∙ ap first_place (sym w.in-TryLock.is)
+      | in-Unlock w ↦ w.place-is ∙ ap first_place (sym w.in-Unlock.is)
+      | in-SetPrio w ↦ w.place-is ∙ ap first_place (sym w.in-SetPrio.is)
+    ] in
+    let allowed : table_refusal s (Begin c.args.t q) ≡ None = ap (λ (x : Table). table_refusal x (Begin c.args.t q)) c.self.view_is ∙ c.requires in
+    rw (c.set_line.ensures, place) (begun_sound s c.args.t q c.self.invariant allowed)

@@ -1,0 +1,12 @@
+use pif_types::Answer;
+
+/// What a step of an open call came to.
+#[derive(Clone, Copy, Debug, PartialEq, Eq, Hash)]
+pub enum Progress {
+    /// The call goes on.
+    Went,
+    /// The thread waits: it is queued on a mutex, or it is stopped for good.
+    Waits,
+    /// The call is closed with this answer: 0, or the number of an error.
+    Done(Answer),
+}

@@ -1,0 +1,206 @@
+ghost use Rattle.std.specs.Prelude.{◌≡◌, ◌<◌, ◌≤◌, ◌+◌, ◌^◌, ◌==◌, true, false, IfOk, [], ◌∷◌, ◌++◌, length, if◌then◌else◌, Some, None};
+ghost use Rattle.pif_types.specs.Bounds.{IsWithin};
+ghost use Rattle.pif_model.specs.Word.{word_of, is_bare};
+ghost use Rattle.pif_model.specs.Table.{row_at, cell_at, new_table, with_line, with_word, has_thread, has_mutex, has_thread_room, has_mutex_room, mutex_added, kernel_effective};
+ghost use Rattle.pif_model.specs.PiKernel.{IsKernel, new_kernel};
+ghost use Rattle.pif_model.specs.Kernel.{kernel_pick, thread_added};
+ghost use Rattle.pif_model.specs.Lines.{with_count};
+
+use pif_kernel::PiKernel;
+use pif_model::{Line, Status};
+use pif_types::{Kind, Limits, MutexId, NoMemory, Prio, Tid, push_within, with_room};
+use pif_word::{Cell, Words};
+use std::alloc::Global;
+use std::marker::Model;
+
+/// What the library knows of a mutex beside its word: its kind, and how often its owner holds it.
+#[derive(Clone, Copy)]
+pub struct Mutex {
+    pub kind: Kind,
+    pub count: u32,
+}
+
+/// What stands at place 0, which is no mutex.
+pub const NO_MUTEX: Mutex = Mutex {
+    kind: Kind::Normal,
+    count: 1,
+};
+
+/// The library's own rows, the words and the kernel, between two accesses of an event.
+#[derive(Drop)]
+pub struct State<K: PiKernel + Drop> {
+    limits: Limits,
+    calls: Vec<Line>,
+    mutexes: Vec<Mutex>,
+    pub(crate) words: Words,
+    pub(crate) kernel: K,
+}
+
+impl<K: PiKernel + Drop> Model for State<K> {
+    ghost use Rattle.std.specs.Prelude.{◌≤◌, ◌+◌, vec_capacity};
+    ghost use Rattle.pif_model.specs.Table.{Table};
+    ghost use Rattle.pif_mutex.specs.Shown.{shown, IsStored};
+
+    ghost Value = { Table };
+
+    ghost view = { λ s. shown s.limits s.calls.items s.mutexes.items s.words.mutexes (K.meaning s.kernel) };
+
+    ghost invariant = { λ s. record {
+      stored : IsStored s.limits s.calls.items s.mutexes.items s.words.mutexes (K.meaning s.kernel);
+      calls : s.limits.threads + 1 ≤ vec_capacity s.calls;
+      mutexes : s.limits.mutexes + 1 ≤ vec_capacity s.mutexes;
+    } };
+}
+
+impl<K: PiKernel + Drop> State<K> {
+    /// The state in which nothing was added, over a kernel to which nothing was added. It takes room for all that the
+    /// limits allow.
+    pub(crate) fn new(alloc: Global, limits: Limits, kernel: K) -> Result<State<K>, NoMemory>
+        requires new { K.meaning kernel ≡ new_kernel limits }
+        requires kept { IsKernel (K.meaning kernel) }
+        ensures { IfOk result (λ s. s ≡ new_table limits) }
+    {
+        let mut calls = with_room(alloc, limits.threads() as usize + 1)?;
+        push_within(&mut calls, Line::Idle);
+        let mut mutexes = with_room(alloc, limits.mutexes() as usize + 1)?;
+        push_within(&mut mutexes, NO_MUTEX);
+        let words = Words::new(alloc, limits)?;
+        Ok(State {
+            limits,
+            calls,
+            mutexes,
+            words,
+            kernel,
+        })
+    }
+
+    /// The limits.
+    pub(crate) fn limits(&self) -> Limits
+        ensures value { result ≡ self.now.limits }
+        ensures range { IsWithin self.now.limits }
+    {
+        self.limits
+    }
+
+    /// One more than the threads that were added: 1 to 1,025.
+    pub(crate) fn row_count(&self) -> u32
+        ensures value { result ≡ length self.now.rows }
+        ensures least { 1 ≤ result }
+        ensures most { result ≤ 1025 }
+    {
+        self.calls.len() as u32
+    }
+
+    /// One more than the mutexes that were added: 1 to 1,025.
+    pub(crate) fn mutex_count(&self) -> u32
+        ensures value { result ≡ length self.now.cells }
+        ensures least { 1 ≤ result }
+        ensures most { result ≤ 1025 }
+    {
+        self.mutexes.len() as u32
+    }
+
+    /// The line of a thread that was added.
+    pub(crate) fn line(&self, t: Tid) -> Line
+        requires { has_thread self.now t ≡ true }
+        ensures { result ≡ (row_at self.now t).line }
+    {
+        self.calls[t.get() as usize]
+    }
+
+    /// Puts the open call of a thread that was added at this line.
+    pub(crate) fn set_line(&mut self, t: Tid, line: Line)
+        requires { has_thread self.old t ≡ true }
+        ensures { self.new ≡ with_line t line self.old }
+    {
+        self.calls[t.get() as usize] = line;
+    }
+
+    /// What the kernel knows of a thread that was added.
+    pub(crate) fn status(&self, t: Tid) -> Status
+        requires { has_thread self.now t ≡ true }
+        ensures { result ≡ (row_at self.now t).status }
+    {
+        self.kernel.status(t)
+    }
+
+    /// The effective priority of a thread. `None` where no living thread has that number.
+    pub(crate) fn effective(&self, t: Tid) -> Option<Prio>
+        ensures { result ≡ (if (row_at self.now t).living then Some (kernel_effective self.now t) else None) }
+    {
+        self.kernel.effective(t)
+    }
+
+    /// The thread that runs next. `None` where none is ready.
+    pub(crate) fn pick(&self) -> Option<Tid>
+        ensures { result ≡ (if kernel_pick self.now == 0 then None else Some (kernel_pick self.now)) }
+    {
+        self.kernel.pick()
+    }
+
+    /// The kind of a mutex that was added.
+    pub(crate) fn kind(&self, m: MutexId) -> Kind
+        requires { has_mutex self.now m ≡ true }
+        ensures { result ≡ (cell_at self.now m).kind }
+    {
+        self.mutexes[m.get() as usize].kind
+    }
+
+    /// How often its owner holds a mutex that was added.
+    pub(crate) fn count(&self, m: MutexId) -> u32
+        requires { has_mutex self.now m ≡ true }
+        ensures { result ≡ (cell_at self.now m).count }
+    {
+        self.mutexes[m.get() as usize].count
+    }
+
+    /// A mutex that was added is held this often.
+    pub(crate) fn set_count(&mut self, m: MutexId, count: u32)
+        requires { has_mutex self.old m ≡ true }
+        ensures { self.new ≡ with_count m count self.old }
+    {
+        self.mutexes[m.get() as usize].count = count;
+    }
+
+    /// The bits of the word of a mutex that was added.
+    pub(crate) fn word(&self, m: MutexId) -> u32
+        requires { has_mutex self.now m ≡ true }
+        ensures { word_of result ≡ (cell_at self.now m).word }
+    {
+        self.words.load(Cell::Mutex(m))
+    }
+
+    /// Makes `new` the word of a mutex that was added if it was `expected`, a bare number below 2^30, and answers whether
+    /// it was.
+    pub(crate) fn exchange(&mut self, m: MutexId, expected: u32, new: u32) -> bool
+        requires mutex { has_mutex self.old m ≡ true }
+        requires bare { expected < 2 ^ 30 }
+        ensures value { result ≡ is_bare (cell_at self.old m).word expected }
+        ensures after { self.new ≡ (if result then with_word m (word_of new) self.old else self.old) }
+    {
+        self.words
+            .compare_exchange(Cell::Mutex(m), expected, new)
+            .is_ok()
+    }
+
+    /// Adds a thread of this base priority, with no call open.
+    pub(crate) fn add_thread(&mut self, prio: Prio) -> Tid
+        requires { has_thread_room self.old ≡ true }
+        ensures number { result ≡ length self.old.rows }
+        ensures after { self.new ≡ thread_added prio self.old }
+    {
+        let _level = prio.get();
+        push_within(&mut self.calls, Line::Idle);
+        self.kernel.add(prio)
+    }
+
+    /// Adds the mutex with the next number, and makes its word 0.
+    pub(crate) fn add_mutex(&mut self, kind: Kind, m: MutexId)
+        requires next { m ≡ length self.old.cells }
+        requires room { has_mutex_room self.old ≡ true }
+        ensures { self.new ≡ mutex_added kind false self.old }
+    {
+        self.words.store(Cell::Mutex(m), 0);
+        push_within(&mut self.mutexes, Mutex { kind, count: 1 });
+    }
+}

@@ -1,0 +1,152 @@
+ghost use Rattle.std.specs.Prelude.{◌≡◌, Some, ◌+◌, ◌≤◌, ◌++◌, codes, decimal, length};
+ghost use Rattle.arrayvec.specs.ArrayVec.{array_vec_len};
+ghost use Rattle.pif_text.specs.Commands.{command_in};
+ghost use Rattle.pif_text.specs.CommandTexts.{IsWritten, command_text, kind_word, mutex_text, request_text};
+ghost use Rattle.pif_text.specs.Replies.{thread_name, mutex_name};
+
+use crate::Command;
+use crate::writing::{append, append_decimal, append_mutex, append_thread};
+use arrayvec::ArrayVec;
+use pif_types::{Kind, Request, Tid};
+
+/// How many bytes of room `command_text` asks for: no command is longer.
+pub const COMMAND_ROOM: usize = 90;
+
+/// The type of a mutex, in one word.
+fn kind_word(kind: Kind) -> &'static [u8]
+    ensures items { result.now ≡ kind_word kind }
+    ensures len { length result.now ≤ 10 }
+{
+    match kind {
+        Kind::Normal => b"normal",
+        Kind::ErrorCheck => b"errorcheck",
+        Kind::Recursive => b"recursive",
+    }
+}
+
+/// Appends the command that adds a mutex of this type, robust or not, with no line feed, at most `COMMAND_ROOM` bytes.
+/// What stands in `out` stays.
+pub fn mutex_text<const N: usize>(kind: Kind, robust: bool, out: &mut ArrayVec<u8, N>)
+    requires { array_vec_len out.old + COMMAND_ROOM ≤ N }
+    ensures written { out.new.items ≡ out.old.items ++ mutex_text kind robust }
+    ensures within { array_vec_len out.new ≤ array_vec_len out.old + COMMAND_ROOM }
+{
+    append(out, b"mutex ");
+    append(out, kind_word(kind));
+    if robust {
+        append(out, b" robust");
+    }
+}
+
+/// Appends a request.
+#[tactic(auto, unfolding(crate::specs::CommandTexts::request_text))]
+fn append_request<const N: usize>(out: &mut ArrayVec<u8, N>, request: Request)
+    requires { array_vec_len out.old + 50 ≤ N }
+    ensures items { out.new.items ≡ out.old.items ++ request_text request }
+    ensures len { array_vec_len out.new ≤ array_vec_len out.old + 50 }
+{
+    match request {
+        Request::Lock(mutex) => {
+            append(out, b"lock ");
+            append_mutex(out, mutex);
+        }
+        Request::TryLock(mutex) => {
+            append(out, b"trylock ");
+            append_mutex(out, mutex);
+        }
+        Request::Unlock(mutex) => {
+            append(out, b"unlock ");
+            append_mutex(out, mutex);
+        }
+        Request::SetPrio(thread, priority) => {
+            append(out, b"setprio ");
+            append_thread(out, thread);
+            append(out, b" ");
+            append_decimal(out, u64::from(priority));
+        }
+    }
+}
+
+/// Appends a thread and its request.
+fn append_call<const N: usize>(out: &mut ArrayVec<u8, N>, thread: Tid, request: Request)
+    requires { array_vec_len out.old + 72 ≤ N }
+    ensures items { out.new.items ≡ out.old.items ++ (thread_name thread ++ codes " " ++ request_text request) }
+    ensures len { array_vec_len out.new ≤ array_vec_len out.old + 72 }
+{
+    append_thread(out, thread);
+    append(out, b" ");
+    append_request(out, request);
+}
+
+/// Appends four numbers.
+fn append_numbers<const N: usize>(
+    out: &mut ArrayVec<u8, N>,
+    first: u32,
+    second: u32,
+    third: u32,
+    fourth: u32,
+)
+    requires { array_vec_len out.old + 83 ≤ N }
+    ensures items { out.new.items ≡ out.old.items
+        ++ (decimal first ++ codes " " ++ decimal second ++ codes " " ++ decimal third ++ codes " " ++ decimal fourth) }
+    ensures len { array_vec_len out.new ≤ array_vec_len out.old + 83 }
+{
+    append_decimal(out, u64::from(first));
+    append(out, b" ");
+    append_decimal(out, u64::from(second));
+    append(out, b" ");
+    append_decimal(out, u64::from(third));
+    append(out, b" ");
+    append_decimal(out, u64::from(fourth));
+}
+
+/// Appends the line that asks for a command, with no line feed, at most `COMMAND_ROOM` bytes. What stands in `out`
+/// stays.
+#[tactic(auto, unfolding(crate::specs::CommandTexts::command_text))]
+pub fn command_text<const N: usize>(command: Command, out: &mut ArrayVec<u8, N>)
+    requires { array_vec_len out.old + COMMAND_ROOM ≤ N }
+    ensures written { out.new.items ≡ out.old.items ++ command_text command }
+    ensures within { array_vec_len out.new ≤ array_vec_len out.old + COMMAND_ROOM }
+{
+    match command {
+        Command::Limits(threads, mutexes, conds, signals) => {
+            append(out, b"limits ");
+            append_numbers(out, threads, mutexes, conds, signals);
+        }
+        Command::Thread(priority) => {
+            append(out, b"thread ");
+            append_decimal(out, u64::from(priority));
+        }
+        Command::Mutex(kind) => mutex_text(kind, false, out),
+        Command::Begin(thread, request) => {
+            append(out, b"begin ");
+            append_call(out, thread, request);
+        }
+        Command::Go(thread) => {
+            append(out, b"go ");
+            append_thread(out, thread);
+        }
+        Command::Call(thread, request) => {
+            append(out, b"call ");
+            append_call(out, thread, request);
+        }
+        Command::Finish(thread) => {
+            append(out, b"finish ");
+            append_thread(out, thread);
+        }
+        Command::Word(mutex) => {
+            append(out, b"word ");
+            append_mutex(out, mutex);
+        }
+        Command::Prio(thread) => {
+            append(out, b"prio ");
+            append_thread(out, thread);
+        }
+        Command::Pick => append(out, b"pick"),
+    }
+}
+
+/// Each command is read from the line that `command_text` writes for it, as that very command.
+pub fn command_reads_back()
+    ensures { (command : Command) → IsWritten command → command_in (command_text command) ≡ Some command }
+{}

@@ -1,0 +1,75 @@
+ghost use Rattle.std.specs.Prelude.{◌≡◌, ℕ, ◌+◌, ◌≤◌, ◌<◌, ◌++◌, drop, get_or, length, option_map, None, Some, true, false};
+ghost use Rattle.arrayvec.specs.ArrayVec.{array_vec_len};
+ghost use Rattle.pif_text.specs.Traces.{parts_of, is_marked, header_text, recorded, same_of, differs_of};
+
+use crate::Reply;
+use crate::writing::{append, append_decimal, reply_text};
+use arrayvec::ArrayVec;
+
+/// The first line of a trace.
+pub const HEADER: &[u8] = b"pif-trace 1";
+
+/// How many bytes of room `recorded_text` asks for: no answer is longer.
+pub const RECORDED_ROOM: usize = 43;
+
+/// How many bytes of room `same_text` and `differs_text` ask for: neither is longer.
+pub const VERDICT_ROOM: usize = 70;
+
+/// Cuts a line of a trace, given as its bytes without the line feed, at its first ` = `: what stands before it, the
+/// command, and what stands behind it, the answer. `None` where it has no ` = `. Any bytes and any length may be given.
+pub fn split_answer(line: &[u8]) -> Option<(&[u8], &[u8])>
+    ensures { option_map (λ parts. (parts.0.now, parts.1.now)) result ≡ parts_of line.now }
+{
+    for (place, byte) in line.iter().enumerate() {
+        if *byte == b' ' && line[place + 1..].starts_with(b"= ") {
+            return Some((&line[..place], &line[place + 3..]));
+        }
+    }
+    None
+}
+
+/// Appends the first line of a trace, with no line feed. What stands in `out` stays.
+pub fn header_text<const N: usize>(out: &mut ArrayVec<u8, N>)
+    requires { array_vec_len out.old + 11 ≤ N }
+    ensures written { out.new.items ≡ out.old.items ++ header_text }
+    ensures within { array_vec_len out.new ≤ array_vec_len out.old + 11 }
+{
+    append(out, HEADER);
+}
+
+/// Appends ` = ` and an answer, as they stand behind the command in a line of a trace, with no line feed, at most
+/// `RECORDED_ROOM` bytes. What stands in `out` stays.
+pub fn recorded_text<const N: usize>(reply: Reply, out: &mut ArrayVec<u8, N>)
+    requires { array_vec_len out.old + RECORDED_ROOM ≤ N }
+    ensures written { out.new.items ≡ out.old.items ++ recorded reply }
+    ensures within { array_vec_len out.new ≤ array_vec_len out.old + RECORDED_ROOM }
+{
+    append(out, b" = ");
+    reply_text(reply, out);
+}
+
+/// Appends `same N`, what a trace of so many lines behind the first comes to where each answer is the recorded one,
+/// with no line feed, at most `VERDICT_ROOM` bytes. What stands in `out` stays.
+#[tactic(auto, unfolding(crate::specs::Traces::same_of))]
+pub fn same_text<const N: usize>(lines: u64, out: &mut ArrayVec<u8, N>)
+    requires { array_vec_len out.old + VERDICT_ROOM ≤ N }
+    ensures written { out.new.items ≡ out.old.items ++ same_of lines }
+    ensures within { array_vec_len out.new ≤ array_vec_len out.old + VERDICT_ROOM }
+{
+    append(out, b"same ");
+    append_decimal(out, lines);
+}
+
+/// Appends `differs N X`, the first difference of a trace: at this line, counted from 1, the answer is `reply`. There is
+/// no line feed, and it is at most `VERDICT_ROOM` bytes. What stands in `out` stays.
+#[tactic(auto, unfolding(crate::specs::Traces::differs_of))]
+pub fn differs_text<const N: usize>(line_number: u64, reply: Reply, out: &mut ArrayVec<u8, N>)
+    requires { array_vec_len out.old + VERDICT_ROOM ≤ N }
+    ensures written { out.new.items ≡ out.old.items ++ differs_of line_number reply }
+    ensures within { array_vec_len out.new ≤ array_vec_len out.old + VERDICT_ROOM }
+{
+    append(out, b"differs ");
+    append_decimal(out, line_number);
+    append(out, b" ");
+    reply_text(reply, out);
+}
