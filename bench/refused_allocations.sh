@@ -1,11 +1,11 @@
 #!/usr/bin/env bash
-# Refuses each allocation of the program in turn (`rt try --fail-alloc N`, which proves nothing), for a run, for help and
-# for a wrong word. Each time the status must be 4 with nothing written, or all must be as with no refusal: where room
+# Refuses each allocation of the program in turn (`rt try --fail-alloc N`, which proves nothing), for a run, for a replay,
+# for help and for a wrong word. Each time the status must be 4 with nothing written, or all must be as with no refusal: where room
 # for several things is refused, the standard library asks again for one. It fails at anything else, and is no part of
 # the gate. The program is built anew for each of the more than a hundred allocations, which takes a while.
 set -euo pipefail
 here="$(cd "$(dirname "$0")/.." && pwd)"
-script="$here/examples/holder_is_boosted_until_it_unlocks.pif"
+example="$here/examples/holder_is_boosted_until_it_unlocks"
 room="$(mktemp -d)"
 trap 'rm -rf "$room"' EXIT
 cd "$here/crates/pif"
@@ -16,10 +16,11 @@ enough=4
 # Runs the program with allocation $2 refused, 0 for none, and the words behind it. What it wrote and its status stand in
 # the folder $1 then.
 try() {
-  local to="$1" number="$2"
+  local to="$1" number="$2" input="$example.pif"
   shift 2
+  [ "$1" != replay ] || input="$example.trace"
   mkdir -p "$to"
-  rt try --fail-alloc "$number" -- "$@" < "$script" > "$to/output" 2> "$to/said" || true
+  rt try --fail-alloc "$number" -- "$@" < "$input" > "$to/output" 2> "$to/said" || true
   sed -n 's/^run=ended status=\([0-9]*\) .*/\1/p' "$to/said" > "$to/status"
   grep -v -E '^(allocations|checked|interpreter|rt): |^run=' "$to/said" > "$to/errors" || true
 }
@@ -63,6 +64,7 @@ sweep() {
 
 sweeps=()
 sweep 0 "$room/run" run & sweeps+=("$!")
+sweep 0 "$room/replay" replay & sweeps+=("$!")
 sweep 0 "$room/help" --help & sweeps+=("$!")
 sweep 1 "$room/walk" walk & sweeps+=("$!")
 failed=0

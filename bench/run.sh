@@ -1,6 +1,7 @@
 #!/usr/bin/env bash
-# Prints, for a script of 16 MB of `pick` lines and one of uncontended `call` lines: lines a second, nanoseconds a
-# line and peak memory, through a pipe. It is a benchmark, never a test: nothing here passes or fails.
+# Prints, for a script of 16 MB of `pick` lines, one of uncontended `call` lines and a trace of 16 MB of uncontended
+# calls: lines a second, nanoseconds a line and peak memory, through a pipe. It is a benchmark, never a test: nothing
+# here passes or fails.
 set -euo pipefail
 here="$(cd "$(dirname "$0")/.." && pwd)"
 program="$here/crates/pif/out/pif"
@@ -22,6 +23,13 @@ def calls():
     return head + pair * ((LIMIT - len(head)) // len(pair))
 
 
+def trace():
+    head = b"pif-trace 1\nthread 10 = t1\nmutex normal = m1\n"
+    steps = b"go t1 = went\ngo t1 = answer 0\n"
+    pair = b"begin t1 lock m1 = begun\n" + steps + b"begin t1 unlock m1 = begun\n" + steps
+    return head + pair * ((LIMIT - len(head)) // len(pair))
+
+
 def peak_of(pid, peak):
     """The greatest resident size of a process so far, in kB, or what was known before where it has ended."""
     try:
@@ -34,14 +42,14 @@ def peak_of(pid, peak):
     return peak
 
 
-def measure(name, script):
+def measure(name, job, script):
     lines = script.count(b"\n")
     with tempfile.NamedTemporaryFile() as file:
         file.write(script)
         file.flush()
         start = time.monotonic()
         feed = subprocess.Popen(["cat", file.name], stdout=subprocess.PIPE)
-        run = subprocess.Popen([program, "run"], stdin=feed.stdout, stdout=subprocess.DEVNULL)
+        run = subprocess.Popen([program, job], stdin=feed.stdout, stdout=subprocess.DEVNULL)
         feed.stdout.close()
         peak = 0
         while run.poll() is None:
@@ -55,8 +63,9 @@ def measure(name, script):
     )
 
 
-measure("pick", picks())
-measure("call", calls())
+measure("pick", "run", picks())
+measure("call", "run", calls())
+measure("replay", "replay", trace())
 PYTHON
 
 bench="$here/crates/pif_bench/out/pif_bench"
