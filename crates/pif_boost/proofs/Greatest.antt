@@ -1,19 +1,20 @@
 -- The greatest base priority of a thread and of all that wait for it, over the owner states.
-use Rattle.std.proofs.Common.{◌≡◌, ◌≢◌, ◌⊎◌, ◌↔◌, ℕ, zero, suc, ◌<◌, ◌≤◌, ◌+◌, max, Bool, true, false, ◌==◌, eqb, List, [], ◌∷◌, length, Option, Some, None, refl, sym, ap, ◌∙◌, subst, inl, inr, add-one, if◌then◌else◌, arith}
+use Rattle.std.proofs.Common.{◌≡◌, ◌≢◌, ◌⊎◌, ◌↔◌, ℕ, zero, suc, ◌<◌, ◌≤◌, ◌+◌, max, Bool, true, false, ◌==◌, eqb, List, [], ◌∷◌, length, Option, Some, None, refl, sym, ap, ◌∙◌, subst, inl, inr, if◌then◌else◌, arith}
 use Rattle.std.specs.Prelude.{option_map, option_and_then, unwrap_or}
-use Rattle.std.specs.List.{list_any, IsDistinct, AllByRecursion}
-use Rattle.std.proofs.Math.Path.{fun_ext}
-use Rattle.std.proofs.lemmas.Bool.{cases_eq, cases_lt, cases_Bool, eqb-true, or_cases, or_parts, false_from_ne_true}
+use Rattle.std.specs.List.{list_any, IsDistinct}
+use Rattle.std.proofs.lemmas.Bool.{cases_eq, cases_lt, eqb-true, or_cases, false_from_ne_true}
 use Rattle.std.proofs.lemmas.Bool.Decides.{same_from_decides}
 use Rattle.std.proofs.lemmas.List.{get_or_past}
 use Rattle.std.proofs.lemmas.Map.Keys.{IsDistinct-cons}
 use Rattle.std.proofs.lemmas.Map.Steps.{length-le_from_distinct_below}
 use Rattle.pif_model.specs.Graph.{reaches_within, greatest_where, effective_among, Reaches, IsEffective}
 use Rattle.pif_model.specs.Graph.Reaches.{here, hop}
-use Rattle.pif_simulation.proofs.Following.{reaches-from_within, within_here, greatest_where_above, greatest_where_at, IsGreatestAt}
+use Rattle.pif_simulation.proofs.Following.{IsGreatestAt, reaches-from_within, all_apart, no_repeats, greatest_where_some}
+pub use Rattle.pif_simulation.proofs.Following.{greatest_more, greatest_same}
+use Rattle.pif_simulation.proofs.Greatest.{effective_above, effective_attained, effective_own, effective_same}
+use Rattle.pif_simulation.proofs.Hops.{Reaches-then, alone, nobody, found, found_below}
 use Rattle.pif_rtmutex.specs.Owners.{Owners, Seat, Wait, no_seat, seat_at, owner_at, waits_on, waits_for, WaitsFor, IsSound}
 use Rattle.pif_boost.specs.Boosts.{IsThread, base_of, local_of, greatest_base, greatest_waiting, ranked, boosted, IsRepairedBut}
-use Rattle.pif_boost.proofs.Hops.{Reaches-then, nobody, found, found_below}
 
 -- for whom a thread with this wait waits
 abbrev waits_by : Owners → Option Wait → ℕ
@@ -52,17 +53,15 @@ within-closes v u t b lu lt h =
 
 -- who reaches t by waiting has no greater base priority than t is to have
 pub greatest_base-above : (v : Owners) (u t : ℕ) → u < length v.seats → t < length v.seats → Reaches (WaitsFor v) u t → base_of v u ≤ greatest_base v t
-unfolding effective_among
 greatest_base-above v u t lu lt r =
-    greatest_where_above (λ x. reaches_within (length v.seats) (waits_for v) x t) (base_of v) (length v.seats) u lu
+    effective_above (length v.seats) (waits_for v) (base_of v) t u lu
     (found_below (length v.seats) (waits_for v) (out_waits v) u t lu lt r)
 
 -- somebody who reaches t by waiting has that base priority
 pub greatest_base-attained : (v : Owners) (t : ℕ) → t < length v.seats → (u : ℕ) × (u < length v.seats) × Reaches (WaitsFor v) u t × (base_of v u ≡ greatest_base v t)
-unfolding effective_among
 greatest_base-attained v t lt =
-    let best : IsGreatestAt (λ x. reaches_within (length v.seats) (waits_for v) x t) (base_of v) (length v.seats) =
-    greatest_where_at (λ x. reaches_within (length v.seats) (waits_for v) x t) (base_of v) (length v.seats) t lt (within_here (length v.seats) (waits_for v) t) in
+    let best : (u : ℕ) × (u < length v.seats) × (reaches_within (length v.seats) (waits_for v) u t ≡ true) × (base_of v u ≡ greatest_base v t) =
+    effective_attained (length v.seats) (waits_for v) (base_of v) t lt in
     (best.0, best.1, reaches-from_within (length v.seats) (waits_for v) best.0 t best.2, best.3)
 
 -- the same in the subject's words
@@ -77,11 +76,7 @@ greatest_base-IsEffective v s t th =
     best = greatest_base-attained v t th.1
 
     zero_alone : best.0 ≡ 0 → 0 ≡ t
-    zero_alone e = by_chain (subst (λ (x : ℕ). Reaches (WaitsFor v) x t) e best.2)
-      where
-        by_chain : Reaches (WaitsFor v) 0 t → 0 ≡ t
-        by_chain (here k) = k
-        by_chain (hop a r) = absurd (a.1 (sym a.0 ∙ nobody_waits v s))
+    zero_alone e = alone (waits_for v) (nobody_waits v s) (subst (λ (x : ℕ). Reaches (WaitsFor v) x t) e best.2)
 
     some : ((best.0 ≡ 0) ⊎ (best.0 ≡ 0 → ⊥)) → 1 ≤ best.0
     some (inl e) = let z : 0 ≡ t = zero_alone e in let k : 1 ≤ t = th.0 in absurd (omega arith)
@@ -95,15 +90,13 @@ greatest_base-nobody v s =
 
 -- no thread is to have less than its base priority
 pub greatest_base-least : (v : Owners) (t : ℕ) → t < length v.seats → base_of v t ≤ greatest_base v t
-greatest_base-least v t lt = greatest_base-above v t t lt lt (here refl)
+greatest_base-least v t lt = effective_own (length v.seats) (waits_for v) (base_of v) t lt
 
 -- what a thread is to have depends on base priorities and waits alone
 pub greatest_base-same : (old new : Owners) → length new.seats ≡ length old.seats → ((x : ℕ) → waits_for new x ≡ waits_for old x) → ((x : ℕ) → base_of new x ≡ base_of old x)
     → (t : ℕ) → greatest_base new t ≡ greatest_base old t
 greatest_base-same old new threads waits bases t =
-    let w : ◌≡◌ {A = ℕ → ℕ} (waits_for new) (waits_for old) = fun_ext waits in
-    let b : ◌≡◌ {A = ℕ → ℕ} (base_of new) (base_of old) = fun_ext bases in
-    λ i. effective_among (threads i) (w i) (b i) t
+    effective_same (length new.seats) (length old.seats) (waits_for new) (waits_for old) (base_of new) (base_of old) t threads waits bases
 
 -- ONE THREAD MORE
 
@@ -116,18 +109,6 @@ greatest_start v t s = by_test (reaches_within (length v.seats) (waits_for v) 0 
     by_test true = rw (nobody_base v s) refl
     by_test false = refl
 
--- one thread more, that passes
-pub greatest_more : (test : ℕ → Bool) (f : ℕ → ℕ) (n best : ℕ) → best ≡ greatest_where test f n → test n ≡ true
-    → max (f n) best ≡ greatest_where test f (n + 1)
-unfolding greatest_where
-greatest_more test f n best e t = rw (add-one, t, e) refl
-
--- one thread more, that doesn't
-pub greatest_same : (test : ℕ → Bool) (f : ℕ → ℕ) (n best : ℕ) → best ≡ greatest_where test f n → test n ≡ false
-    → best ≡ greatest_where test f (n + 1)
-unfolding greatest_where
-greatest_same test f n best e t = rw (add-one, t) e
-
 -- all threads were looked at
 pub greatest_all : (v : Owners) (t n best : ℕ) → n ≡ length v.seats
     → best ≡ greatest_where (λ u. reaches_within (length v.seats) (waits_for v) u t) (base_of v) n → best ≡ greatest_base v t
@@ -135,35 +116,6 @@ unfolding effective_among
 greatest_all v t n best e is = is ∙ ap (λ (j : ℕ). greatest_where (λ u. reaches_within (length v.seats) (waits_for v) u t) (base_of v) j) e
 
 -- WHERE NOTHING IS LEFT TO REPAIR
-
--- a greatest value above 0 is that of a number that passes
-pub greatest_where_some : (test : ℕ → Bool) (f : ℕ → ℕ) (n : ℕ) → 1 ≤ greatest_where test f n → (u : ℕ) × (u < n) × (test u ≡ true) × (greatest_where test f n ≤ f u)
-unfolding greatest_where
-greatest_where_some test f zero h = absurd (omega arith)
-greatest_where_some test f (suc n) h = by_test (greatest_where_some test f n) (cases_Bool (test n))
-  where
-    Found : Type 0
-    Found = (u : ℕ) × (u < suc n) × (test u ≡ true) × (greatest_where test f (suc n) ≤ f u)
-
-    by_order : (1 ≤ greatest_where test f n → (u : ℕ) × (u < n) × (test u ≡ true) × (greatest_where test f n ≤ f u)) → test n ≡ true
-        → greatest_where test f (suc n) ≡ max (f n) (greatest_where test f n) → ((f n < greatest_where test f n) ⊎ (greatest_where test f n ≤ f n)) → Found
-    by_order ih y e (inl l) = let r = ih (omega arith) in (r.0, omega (arith, r.1), r.2, omega (arith, r.3))
-    by_order ih y e (inr l) = (n, omega arith, y, omega arith)
-
-    by_test : (1 ≤ greatest_where test f n → (u : ℕ) × (u < n) × (test u ≡ true) × (greatest_where test f n ≤ f u)) → ((test n ≡ true) ⊎ (test n ≡ false)) → Found
-    by_test ih (inl y) = by_order ih y (rw y refl) (cases_lt (f n) (greatest_where test f n))
-    by_test ih (inr out) =
-        let e : greatest_where test f (suc n) ≡ greatest_where test f n = rw out refl in
-        let r = ih (omega arith) in (r.0, omega (arith, r.1), r.2, omega (arith, r.3))
-
--- a number that a list doesn't have is apart from each of it
-all_apart : (u : ℕ) (xs : List ℕ) → list_any (eqb u) xs ≡ false → AllByRecursion (λ y. eqb u y ≡ false) xs
-all_apart u [] h = tt
-all_apart u (x ∷ xs) h = let p = or_parts (eqb u x) (list_any (eqb u) xs) h in (p.0, all_apart u xs p.1)
-
-no_repeats : IsDistinct eqb []
-unfolding IsDistinct
-no_repeats = tt
 
 -- a wait of no priority stands with none
 unranked_wait : (o : Option Wait) → ((w : Wait) → o ≡ Some w → w.rank.prio ≡ 0) → o ≡ option_map (ranked 0) o
@@ -253,7 +205,7 @@ module _ (v : Owners) (start : ℕ) (sound : IsSound v) (repaired : IsRepairedBu
       by_most : ((u : ℕ) → IsBack v start k (t ∷ xs) u → IsBacked v u) → ((base_of v t < greatest_waiting v t) ⊎ (greatest_waiting v t ≤ base_of v t)) → IsBacked v t
       by_most ih (inr l) = (t, b.thread, here refl, omega (arith, local))
       by_most ih (inl l) =
-          let found : (u : ℕ) × (u < length v.seats) × ((waits_for v u == t) ≡ true) × (greatest_waiting v t ≤ local_of v u) =
+          let found : IsGreatestAt (λ u. waits_for v u == t) (local_of v) (length v.seats) =
           greatest_where_some (λ u. waits_for v u == t) (local_of v) (length v.seats) (omega arith) in
           let a : WaitsFor v found.0 t = (eqb-true (waits_for v found.0) t found.2, λ e. (let one : 1 ≤ t = b.thread.0 in absurd (omega arith))) in
           let r : IsBacked v found.0 = ih found.0 (back k xs t found.0 b a) in

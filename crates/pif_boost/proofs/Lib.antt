@@ -1,5 +1,4 @@
 pub mod Greatest
-pub mod Hops
 pub mod Levels
 pub mod Repairs
 pub mod Settled

@@ -1,78 +1,35 @@
 -- After a walk nothing is left to repair, and a wait that comes or goes leaves that to one thread.
-use Rattle.std.proofs.Common.{◌≡◌, ◌≢◌, ◌⊎◌, ℕ, ◌<◌, ◌≤◌, ◌+◌, max, Bool, true, ◌==◌, List, length, Option, Some, None, refl, sym, ap, ◌∙◌, subst, inl, inr, arith, length-set}
+use Rattle.std.proofs.Common.{◌≡◌, ◌≢◌, ◌⊎◌, ℕ, ◌<◌, ◌≤◌, ◌+◌, max, Bool, true, ◌==◌, List, length, Option, Some, None, refl, sym, ap, ◌∙◌, inl, inr, arith, length-set}
 use Rattle.std.specs.Prelude.{option_map, option_and_then, unwrap_or}
 use Rattle.std.specs.List.{filter}
 use Rattle.std.specs.Option.{is_some}
 use Rattle.std.proofs.Math.Path.{fun_ext}
-use Rattle.std.proofs.lemmas.Bool.{cases_eq, cases_lt, eq-eqb, ne_eqb, eqb-true, or_cases, and_parts}
+use Rattle.std.proofs.lemmas.Bool.{cases_eq, cases_lt, ne_eqb, or_cases, and_parts}
 use Rattle.std.proofs.lemmas.List.{get_or_past}
 use Rattle.pif_nodes.specs.declared.keys.Key.{Key}
 use Rattle.pif_nodes.specs.Lists.{has}
 use Rattle.pif_nodes.specs.Table.{Table}
 use Rattle.pif_nodes.proofs.ListLemmas.{has-append}
-use Rattle.pif_model.specs.Graph.{greatest_where, Reaches}
-use Rattle.pif_model.specs.Graph.Reaches.{here, hop}
-use Rattle.pif_simulation.proofs.Following.{greatest_where_above}
+use Rattle.pif_model.specs.Graph.{greatest_where}
+use Rattle.pif_simulation.proofs.Greatest.{effective_step, greatest_where_same}
 use Rattle.pif_simulation.proofs.Effective.{kept_at}
 use Rattle.pif_runq.specs.Levels.{Queue, IsLevel, level_of, level_with, Holds, IsQueued}
-use Rattle.pif_rtmutex.specs.Owners.{Owners, Seat, Wait, no_seat, seat_at, owner_at, waits_for, rank_of, WaitsFor, with_wait}
+use Rattle.pif_rtmutex.specs.Owners.{Owners, Seat, Wait, no_seat, seat_at, owner_at, waits_for, rank_of, with_wait}
 use Rattle.pif_rtmutex.proofs.OwnersLemmas.{seat_at-with_seat, seat_at-with_seat_other}
 use Rattle.pif_boost.specs.Boosts.{IsThread, base_of, local_of, greatest_base, greatest_waiting, ranked, boosted, is_other, joins, releveled, threads_of, IsRepairedBut}
-use Rattle.pif_boost.proofs.Hops.{Reaches-then}
-use Rattle.pif_boost.proofs.Greatest.{out_waits, greatest_base-above, greatest_base-attained, greatest_base-least, greatest_where_some}
+use Rattle.pif_boost.proofs.Greatest.{out_waits}
 use Rattle.pif_boost.proofs.Levels.{has-filter}
 use Rattle.pif_boost.proofs.Repairs.{IsRepairedTo, greatest-kept}
 use Rattle.pif_boost.proofs.Walks.{queued_found}
 
--- the last hop of a chain
-last_hop : {W : ℕ → ℕ → Type 0} {u t : ℕ} → Reaches W u t → (u ≡ t) ⊎ ((x : ℕ) × Reaches W u x × W x t)
-last_hop (here e) = inl e
-last_hop {W} {t = t} (hop {u = u} {v = v} a r) = by_rest (last_hop r)
-  where
-    by_rest : (v ≡ t) ⊎ ((x : ℕ) × Reaches W v x × W x t) → (u ≡ t) ⊎ ((x : ℕ) × Reaches W u x × W x t)
-    by_rest (inl e) = inr (u, here refl, subst (λ (y : ℕ). W u y) e a)
-    by_rest (inr s) = inr (s.0, hop a s.1, s.2)
-
-module _ (v : Owners) (all : (x : ℕ) → x < length v.seats → local_of v x ≡ greatest_base v x) (t : ℕ) (th : IsThread v t) where
-  -- t is somebody
-  somebody : t ≢ 0
-  somebody e = let one : 1 ≤ t = th.0 in absurd (omega arith)
-
-  -- who waits for t is to have no more than t
-  waiting-above : greatest_waiting v t ≤ greatest_base v t
-  waiting-above = by_most (cases_lt 0 (greatest_waiting v t))
-    where
-      by_most : ((0 < greatest_waiting v t) ⊎ (greatest_waiting v t ≤ 0)) → greatest_waiting v t ≤ greatest_base v t
-      by_most (inr l) = omega arith
-      by_most (inl l) =
-          let w : (u : ℕ) × (u < length v.seats) × ((waits_for v u == t) ≡ true) × (greatest_waiting v t ≤ local_of v u) =
-          greatest_where_some (λ u. waits_for v u == t) (local_of v) (length v.seats) (omega arith) in
-          let a : WaitsFor v w.0 t = (eqb-true (waits_for v w.0) t w.2, somebody) in
-          let b : (x : ℕ) × (x < length v.seats) × Reaches (WaitsFor v) x w.0 × (base_of v x ≡ greatest_base v w.0) = greatest_base-attained v w.0 w.1 in
-          let c : base_of v b.0 ≤ greatest_base v t = greatest_base-above v b.0 t b.1 th.1 (Reaches-then b.2 a) in
-          omega (arith, w.3, all w.0 w.1, b.3, c)
-
-  -- and t no more than its base priority or one who waits for it
-  waiting-below : greatest_base v t ≤ max (base_of v t) (greatest_waiting v t)
-  waiting-below = by_end (last_hop best.2)
-    where
-      best : (u : ℕ) × (u < length v.seats) × Reaches (WaitsFor v) u t × (base_of v u ≡ greatest_base v t)
-      best = greatest_base-attained v t th.1
-
-      within : (x : ℕ) → WaitsFor v x t → ((x < length v.seats) ⊎ (length v.seats ≤ x)) → x < length v.seats
-      within x a (inl l) = l
-      within x a (inr l) = absurd (somebody (sym a.0 ∙ out_waits v x l))
-
-      by_end : (best.0 ≡ t) ⊎ ((x : ℕ) × Reaches (WaitsFor v) best.0 x × WaitsFor v x t) → greatest_base v t ≤ max (base_of v t) (greatest_waiting v t)
-      by_end (inl e) = omega (arith, best.3, ap (base_of v) e)
-      by_end (inr s) =
-          let l : s.0 < length v.seats = within s.0 s.2 (cases_lt s.0 (length v.seats)) in
-          let a : base_of v best.0 ≤ greatest_base v s.0 = greatest_base-above v best.0 s.0 best.1 l s.1 in
-          let b : local_of v s.0 ≤ greatest_waiting v t = greatest_where_above (λ u. waits_for v u == t) (local_of v) (length v.seats) s.0 l (eq-eqb (waits_for v s.0) t s.2.0) in
-          omega (arith, best.3, a, b, all s.0 l)
-
-  settled_local : local_of v t ≡ max (base_of v t) (greatest_waiting v t)
-  settled_local = omega (arith, all t th.1, waiting-above, waiting-below, greatest_base-least v t th.1)
+-- where each thread has the effective priority that it is to have, that is the greatest of its base priority and of those
+-- of the threads that wait for it
+settled_local : (v : Owners) → ((x : ℕ) → x < length v.seats → local_of v x ≡ greatest_base v x) → (t : ℕ) → IsThread v t
+    → local_of v t ≡ max (base_of v t) (greatest_waiting v t)
+settled_local v all t th =
+    all t th.1 ∙ effective_step (length v.seats) (waits_for v) (base_of v) (out_waits v) t th.1 (λ e. absurd (omega (arith, th.0)))
+    ∙ ap (max (base_of v t))
+    (greatest_where_same (λ u. waits_for v u == t) (λ u. waits_for v u == t) (greatest_base v) (local_of v) (length v.seats) (λ u l. refl) (λ u l. sym (all u l)))
 
 -- who stands boosted stands with that priority
 ranked-prio : (p : ℕ) (o : Option Wait) (rank : Key) → option_map (λ (w : Wait). w.rank) (option_map (ranked p) o) ≡ Some rank → rank.prio ≡ p

@@ -8,12 +8,13 @@ use Rattle.pif_nodes.specs.declared.keys.Key.{Key}
 use Rattle.pif_nodes.specs.Lists.{has}
 use Rattle.pif_nodes.specs.Table.{Table, IsApart, list_at, no_key}
 use Rattle.pif_simulation.proofs.Effective.{kept_at}
+use Rattle.pif_simulation.proofs.Following.{IsGreatestAt, greatest_where_some}
 use Rattle.pif_runq.specs.Levels.{Queue, IsLevel, level_of, list_for, thread_for, HasRoom, Holds, IsQueued, joined}
 use Rattle.pif_rtmutex.specs.Owners.{Owners, Seat, Wait, no_seat, no_owners, seat_at, owner_at, count, waits_on, waits_for, with_seat, with_wait, with_owner}
 use Rattle.pif_rtmutex.proofs.OwnersLemmas.{seat_at-with_seat, seat_at-with_seat_same, seat_at-with_seat_other, seat_at-no_owners, count-no_owners, owner_at-with_owner_same, owner_at-with_owner_other}
 use Rattle.pif_boost.specs.Boosts.{IsThread, base_of, local_of, greatest_waiting, releveled, IsRepaired, IsRepairedBut}
 use Rattle.pif_boost.specs.Settled.{IsSettled}
-use Rattle.pif_boost.proofs.Greatest.{waits_for-none, waits_for-owner, greatest_where_some}
+use Rattle.pif_boost.proofs.Greatest.{waits_for-none, waits_for-owner}
 use Rattle.pif_boost.proofs.Settled.{rewaited, was_ready}
 use Rattle.pif_boost.proofs.Walks.{admitted_row}
 
@@ -172,7 +173,7 @@ idle-repaired n v h start =
     nobody : (t : ℕ) → IsThread v t → ((0 < greatest_waiting v t) ⊎ (greatest_waiting v t ≤ 0)) → greatest_waiting v t ≡ 0
     nobody t th (inr l) = omega arith
     nobody t th (inl l) =
-        let w : (u : ℕ) × (u < length v.seats) × ((waits_for v u == t) ≡ true) × (greatest_waiting v t ≤ local_of v u) =
+        let w : IsGreatestAt (λ u. waits_for v u == t) (local_of v) (length v.seats) =
         greatest_where_some (λ u. waits_for v u == t) (local_of v) (length v.seats) (omega arith) in
         let zero : waits_for v w.0 ≡ 0 = waits_for-none v w.0 (ap (option_map (λ (x : Wait). x.state)) (h.free w.0)) in
         let same : waits_for v w.0 ≡ t = eqb-true (waits_for v w.0) t w.2 in

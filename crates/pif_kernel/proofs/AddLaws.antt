@@ -1,18 +1,17 @@
 -- What holds of a kernel after a thread was added.
-use Rattle.std.proofs.Common.{◌≡◌, ◌≢◌, ◌⊎◌, ℕ, zero, suc, ◌<◌, ◌≤◌, ◌==◌, ◌||◌, Bool, true, false, nat_lt, if◌then◌else◌, List, [], ◌∷◌, ◌++◌, length, get_or, refl, sym, ap, ◌∙◌, inl, inr, arith}
+use Rattle.std.proofs.Common.{◌≡◌, ◌≢◌, ◌⊎◌, ℕ, zero, suc, ◌<◌, ◌==◌, ◌||◌, Bool, true, false, nat_lt, if◌then◌else◌, List, [], ◌∷◌, ◌++◌, length, get_or, refl, sym, ap, ◌∙◌, inl, inr, arith}
 use Rattle.std.proofs.lemmas.List.{length_push}
-use Rattle.std.proofs.lemmas.Bool.{cases_eq, cases_lt, true≢false}
+use Rattle.std.proofs.lemmas.Bool.{cases_eq}
 use Rattle.std.proofs.lemmas.Bool.Decides.{nat_tests}
 use Rattle.pif_model.specs.declared.lines.Status.{Status}
 use Rattle.pif_model.specs.declared.lines.Status.TheVariants.{Ready}
 use Rattle.pif_model.specs.declared.lines.Woken.TheVariants.{Fresh as WokenFresh}
-use Rattle.pif_model.specs.Graph.{reaches_within, Reaches}
-use Rattle.pif_model.specs.Graph.Reaches.{here, hop}
+use Rattle.pif_model.specs.Graph.{effective_among}
 use Rattle.pif_model.specs.Table.{queued_on, is_ready}
 use Rattle.pif_model.specs.PiKernel.{Kernel, Seat, IsKernel, seat_at, no_seat, has_seat, waits_for, effective_in, is_among, joined, seated}
-use Rattle.pif_simulation.proofs.Following.{Follows, reaches_over_more, reaches-from_within, within-from_reaches, within_alone, within_here}
+use Rattle.pif_simulation.proofs.Chains.{reaches_with_more, effective_with_more, effective_of_more}
+use Rattle.pif_simulation.proofs.Greatest.{effective_same, reaches_same}
 use Rattle.pif_simulation.proofs.Waiting.{or_false}
-use Rattle.pif_kernel.proofs.Greatest.{effective_most, effective_own, effective_under, reaches_same}
 
 -- what a further seat has in common with the seat of nobody, each place has as before
 pushed_same : {A : Type 0} (f : Seat → A) (xs : List Seat) (x : Seat) (u : ℕ) → f x ≡ f no_seat → f (get_or (xs ++ x ∷ []) u no_seat) ≡ f (get_or xs u no_seat)
@@ -45,19 +44,6 @@ among_push (x ∷ xs) n t = by_head (x == t) (among_push xs n t)
     by_head true ih = refl
     by_head false ih = ih
 
--- who is reached by a number below n is below n, where each waits for one below n
-pub reach_below : (w : ℕ → ℕ) (n : ℕ) → ((x : ℕ) → w x < n) → {u t : ℕ} → Reaches (Follows w) u t → u < n → t < n
-reach_below w n below (here e) l = omega arith
-reach_below w n below (hop {u = u} {v = v} e r) l = reach_below w n below r (omega (arith, e.0, below u))
-
--- one more hop closes no chain
-pub still_open : (n : ℕ) (w : ℕ → ℕ) (v t : ℕ) → v < n → ((x : ℕ) → w x < n) → reaches_within n w v t ≡ false → reaches_within (suc n) w v t ≡ false
-still_open n w v t l below before = by_test (reaches_within (suc n) w v t) refl
-  where
-    by_test : (b : Bool) → reaches_within (suc n) w v t ≡ b → reaches_within (suc n) w v t ≡ false
-    by_test false e = e
-    by_test true e = absurd (true≢false (sym (within-from_reaches n w v t l (λ x some. below x) (reaches-from_within (suc n) w v t e)) ∙ before))
-
 module _ (k : Kernel) (p : ℕ) (none : k.states 0 ≡ 0) (below : (m : ℕ) → k.states m < length k.seats) where
   abbrev new_seat : Seat
   new_seat = record { base = p; living = true; status = Ready WokenFresh }
@@ -84,50 +70,24 @@ module _ (k : Kernel) (p : ℕ) (none : k.states 0 ≡ 0) (below : (m : ℕ) →
   waits_new : waits_for k (length k.seats) ≡ 0
   waits_new = sym (waits_seated (length k.seats)) ∙ ap (λ (x : Seat). k.states (queued_on x.status)) (pushed_new k.seats new_seat (length k.seats) refl) ∙ none
 
-  reach_back : (v u : ℕ) → v < length (seated p k).seats → reaches_within (length (seated p k).seats) (waits_for (seated p k)) v u ≡ true
-      → (v ≡ u) ⊎ ((v < length k.seats) × (reaches_within (length k.seats) (waits_for k) v u ≡ true))
-  reach_back v u l e = by_place (cases_lt v (length k.seats)) (sym (reaches_same _ _ _ _ v v u count_seated waits_seated refl) ∙ e)
-    where
-      by_place : ((v < length k.seats) ⊎ (length k.seats ≤ v)) → reaches_within (suc (length k.seats)) (waits_for k) v u ≡ true
-          → (v ≡ u) ⊎ ((v < length k.seats) × (reaches_within (length k.seats) (waits_for k) v u ≡ true))
-      by_place (inl less) r = inr (less, within-from_reaches (length k.seats) (waits_for k) v u less (λ x some. waits_below x) (reaches-from_within (suc (length k.seats)) (waits_for k) v u r))
-      by_place (inr more) r =
-          let last : v ≡ length k.seats = omega (arith, count_seated) in
-          inl (within_alone (suc (length k.seats)) (waits_for k) v u (ap (waits_for k) last ∙ waits_new) r)
+  -- the effective priorities, by those among one thread more
+  effective_seated : (u : ℕ)
+      → effective_in (seated p k) u ≡ effective_among (suc (length k.seats)) (waits_for k) (λ (x : ℕ). (seat_at (seated p k) x).base) u
+  effective_seated u = effective_same _ _ _ _ _ _ u count_seated waits_seated (λ x. refl)
+
+  base_below : (u : ℕ) → u < length k.seats → (seat_at (seated p k) u).base ≡ (seat_at k u).base
+  base_below u l = base_other u (λ e. absurd (omega arith))
 
   pub effective_other : (u : ℕ) → u ≢ length k.seats → effective_in (seated p k) u ≡ effective_in k u
-  effective_other u n = omega (arith, less, greater)
-    where
-      near : (v : ℕ) → (v ≡ u) ⊎ ((v < length k.seats) × (reaches_within (length k.seats) (waits_for k) v u ≡ true))
-          → ((u < length k.seats) ⊎ (length k.seats ≤ u)) → v < length (seated p k).seats
-          → ((seat_at (seated p k) v).base ≡ 0) ⊎ ((x : ℕ) × (x < length k.seats) × (reaches_within (length k.seats) (waits_for k) x u ≡ true) × ((seat_at (seated p k) v).base ≤ (seat_at k x).base))
-      near v (inl e) (inl l) m = inr (u, l, within_here (length k.seats) (waits_for k) u, omega (arith, ap (λ (x : ℕ). (seat_at (seated p k) x).base) e, base_other u n))
-      near v (inl e) (inr g) m = absurd (n (omega (arith, count_seated)))
-      near v (inr r) c m = inr (v, r.0, r.1, omega (arith, base_other v (λ z. absurd (omega (arith, r.0)))))
-
-      less : effective_in (seated p k) u ≤ effective_in k u
-      less = effective_under _ _ _ _ _ _ u u (λ v l e. near v (reach_back v u l e) (cases_lt u (length k.seats)) l)
-
-      greater : effective_in k u ≤ effective_in (seated p k) u
-      greater = effective_under _ _ _ _ _ _ u u (λ v l e. inr (
-        v,
-        omega (arith, count_seated),
-        reaches_same _ _ _ _ v v u count_seated waits_seated refl ∙ reaches_over_more (length k.seats) (suc (length k.seats)) (waits_for k) v u (omega arith) e,
-        omega (arith, base_other v (λ z. absurd (omega arith))),
-      ))
+  effective_other u n =
+      effective_seated u
+      ∙ effective_with_more (length k.seats) (waits_for k) waits_below (λ (x : ℕ). (seat_at k x).base) (λ (x : ℕ). (seat_at (seated p k) x).base) base_below waits_new u n
 
   pub effective_new : (u : ℕ) → u ≡ length k.seats → effective_in (seated p k) u ≡ p
-  effective_new u e = omega (arith, less, greater)
-    where
-      only : (v : ℕ) → (v ≡ u) ⊎ ((v < length k.seats) × (reaches_within (length k.seats) (waits_for k) v u ≡ true)) → (seat_at (seated p k) v).base ≤ p
-      only v (inl same) = omega (arith, base_new v (same ∙ e))
-      only v (inr r) = let under : u < length k.seats = reach_below (waits_for k) (length k.seats) waits_below (reaches-from_within (length k.seats) (waits_for k) v u r.1) r.0 in absurd (omega arith)
-
-      less : effective_in (seated p k) u ≤ p
-      less = effective_most _ _ _ u p (λ v l r. only v (reach_back v u l r))
-
-      greater : p ≤ effective_in (seated p k) u
-      greater = omega (arith, base_new u e, effective_own (length (seated p k).seats) (waits_for (seated p k)) (λ (x : ℕ). (seat_at (seated p k) x).base) u (omega (arith, count_seated)))
+  effective_new u e =
+      ap (effective_in (seated p k)) e ∙ effective_seated (length k.seats)
+      ∙ effective_of_more (length k.seats) (waits_for k) waits_below (λ (x : ℕ). (seat_at k x).base) (λ (x : ℕ). (seat_at (seated p k) x).base) base_below waits_new
+      ∙ base_new (length k.seats) refl
 
   has_other : (u : ℕ) → u ≢ length k.seats → has_seat (seated p k) u ≡ has_seat k u
   has_other u n = let same : nat_lt u (length (seated p k).seats) ≡ nat_lt u (length k.seats) = grind (arith, nat_tests, count_seated) in ap (λ (b : Bool). if u == 0 then false else b) same
@@ -169,6 +129,6 @@ module _ (k : Kernel) (p : ℕ) (none : k.states 0 ≡ 0) (below : (m : ℕ) →
     states = h.states;
     acyclic = λ u n.
         reaches_same _ _ _ _ _ _ u count_seated waits_seated (waits_seated u)
-        ∙ still_open (length k.seats) (waits_for k) (waits_for k u) u (waits_below u) waits_below (h.acyclic u (λ z. n (waits_seated u ∙ z)));
+        ∙ reaches_with_more (length k.seats) (waits_for k) waits_below (waits_for k u) u (waits_below u) ∙ h.acyclic u (λ z. n (waits_seated u ∙ z));
     level = λ u q. level_seated h u q (cases_eq u (length k.seats)) (cases_eq q p);
   }

@@ -2,7 +2,7 @@
 use Rattle.std.proofs.Common.{◌≡◌, ◌≢◌, ◌⊎◌, ◌↔◌, ℕ, zero, suc, ◌<◌, ◌≤◌, ◌==◌, Bool, true, false, IsTrue, nat_lt, if◌then◌else◌, List, [], ◌∷◌, length, map, set, Result, Ok, Err, Option, Some, None, IsSome, IfSome, refl, sym, ap, subst, ◌∙◌, arith}
 use Rattle.std.proofs.Math.Path.{fun_ext}
 use Rattle.std.proofs.lemmas.Bool.{true≢false, false≢true}
-use Rattle.std.proofs.lemmas.Bool.Decides.{nat_tests}
+use Rattle.std.proofs.lemmas.Bool.Decides.{nat_tests, same_from_decides}
 use Rattle.std.proofs.lemmas.List.{length-map}
 use Rattle.pif_types.specs.declared.errors.Errno.{Errno}
 use Rattle.pif_types.specs.declared.errors.Errno.TheVariants.{NotPermitted, NoSuchThread, Again, Fault, Invalid, Deadlock}
@@ -13,7 +13,6 @@ use Rattle.pif_model.specs.PiKernel.{Kernel, seat_at, waits_for, word_at, has_wo
 use Rattle.pif_word.specs.declared.cells.Cell.TheVariants.{Mutex}
 use Rattle.pif_word.specs.WordMap.{WordMap, HasCell, bits_at, with_bits}
 use Rattle.pif_rtmutex.specs.Owners.{WaitsFor}
-use Rattle.pif_rtmutex.specs.Owners.{waits_for as owners_wait_for}
 use Rattle.pif_simulation.proofs.Places.{mapped_at}
 use Rattle.pif_simulation.proofs.Kept.{from_within}
 use Rattle.pif_simulation.proofs.Projection.{within}
@@ -76,20 +75,12 @@ words_stored s s' m bits e = ap words_of e ∙ map_set s.mutexes m bits
 -- whether a wait would close a cycle, by the owner states
 pub closes_seen : (p : Plain) → IsSound p → (t owner : ℕ) (r : Bool) → owner < length p.statuses → (IsTrue r ↔ Reaches (WaitsFor p.owners) owner t)
     → reaches_within (length (kernel_of p).seats) (waits_for (kernel_of p)) owner t ≡ r
-closes_seen p h t owner r l closes = by_test r (reaches_within (length (kernel_of p).seats) (waits_for (kernel_of p)) owner t) refl closes
-  where
-    same : owners_wait_for p.owners ≡ waits_for (kernel_of p)
-    same = fun_ext (owners_waits p (fitted p h))
-
-    by_test : (r b : Bool) → reaches_within (length (kernel_of p).seats) (waits_for (kernel_of p)) owner t ≡ b → (IsTrue r ↔ Reaches (WaitsFor p.owners) owner t)
-        → reaches_within (length (kernel_of p).seats) (waits_for (kernel_of p)) owner t ≡ r
-    by_test true true e c = e
-    by_test false false e c = e
-    by_test true false e c =
-        within-from_reaches (length (kernel_of p).seats) (waits_for (kernel_of p)) owner t (omega (arith, l, seats_length p (fitted p h))) (λ x some. waits_below p (fitted p h) x)
-        (subst (λ (w : ℕ → ℕ). Reaches (Follows w) owner t) same (c.0 refl))
-    by_test false true e c =
-        absurd (false≢true (c.1 (subst (λ (w : ℕ → ℕ). Reaches (Follows w) owner t) (sym same) (reaches-from_within (length (kernel_of p).seats) (waits_for (kernel_of p)) owner t e))))
+closes_seen p h t owner r l closes =
+    same_from_decides {P = Reaches (Follows (waits_for (kernel_of p))) owner t} (reaches_within (length (kernel_of p).seats) (waits_for (kernel_of p)) owner t) r (
+      (λ e. reaches-from_within (length (kernel_of p).seats) (waits_for (kernel_of p)) owner t e),
+      (λ c. within-from_reaches (length (kernel_of p).seats) (waits_for (kernel_of p)) owner t (omega (arith, l, seats_length p (fitted p h))) (λ x some. waits_below p (fitted p h) x) c),
+    )
+    (subst (λ (w : ℕ → ℕ). IsTrue r ↔ Reaches (Follows w) owner t) (fun_ext (owners_waits p (fitted p h))) closes)
 
 -- LOCK_PI, TRYLOCK_PI AND UNLOCK_PI
 

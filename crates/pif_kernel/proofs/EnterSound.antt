@@ -23,16 +23,16 @@ use Rattle.pif_simulation.proofs.Waiting.{names, or_true, or_false, has_waiter-p
 use Rattle.pif_simulation.proofs.Effective.{kept_at}
 use Rattle.pif_simulation.proofs.Among.{is_among_push, is_among_here, is_among_there, is_among_cons}
 use Rattle.pif_simulation.proofs.Among.{is_among as is_waiter}
+use Rattle.pif_simulation.proofs.Greatest.{reaches_same}
+use Rattle.pif_simulation.proofs.Cycles.{still_acyclic}
 use Rattle.pif_kernel.specs.Plain.{Plain, IsSound, Rise, IsOpened, kernel_of, status_at, key_at, state_at, ticket_of, levels_of}
 use Rattle.pif_kernel.specs.Plain.IsOpened.{found, made}
-use Rattle.pif_kernel.proofs.Greatest.{reaches_same}
 use Rattle.pif_kernel.proofs.Seats.{IsFitted, fitted, seats_length, status_seen, waits_seen, waits_below, owners_waits, added_seen, waiters_seen, states_seen, kernel_by_parts, seats_of-set_status}
 use Rattle.pif_kernel.proofs.Picked.{levels_seen, levels_left}
 use Rattle.pif_kernel.proofs.Standing.{effective_some, effective_few}
 use Rattle.pif_kernel.proofs.StopLaws.{left_same, left_other}
 use Rattle.pif_kernel.proofs.ChainLaws.{repaired_but}
 use Rattle.pif_kernel.proofs.QueueLaws.{rise_push, mutexes_push}
-use Rattle.pif_kernel.proofs.OpenLaws.{still_acyclic}
 use Rattle.pif_kernel.proofs.WalkSound.{IsPlaced, IsWalkable, owners_effective, seats_of-same_base}
 
 -- the keys and owner states in which m has an owner state of this owner under this key, and all others are as before
@@ -395,9 +395,6 @@ module _ (p : Plain) (keys : List (Option ℕ)) (owners : Owners) (t m owner key
         (omega (arith, owner_added, seats_length p fit)) unreached h.kernel.acyclic y some;
   }
 
-  below : (x : ℕ) → owners_wait_for p.owners x < length p.owners.seats
-  below x = omega (arith, owners_waits p fit x, waits_below p fit x, seats_length p fit, fit.few)
-
   waiting : (x u : ℕ) → u ≢ owner → u ≢ 0 → ((x ≡ t) ⊎ (x ≡ t → ⊥)) → (owners_wait_for p.owners x == u) ≡ (owners_wait_for mid.owners x == u)
   waiting x u ne nz (inl e) =
       let before : owners_wait_for p.owners x ≡ 0 = owners_waits p fit x ∙ ap (waits_for (kernel_of p)) e ∙ waits_none in
@@ -416,7 +413,7 @@ module _ (p : Plain) (keys : List (Option ℕ)) (owners : Owners) (t m owner key
 
   repairs : IsRepairedBut owner mid.owners
   repairs =
-      repaired_but p.owners mid.owners owner long below (λ x u ne nz. waiting x u ne nz (cases_eq x t)) (λ u ne. sym (base_same u))
+      repaired_but p.owners mid.owners owner long (λ x u ne nz. waiting x u ne nz (cases_eq x t)) (λ u ne. sym (base_same u))
       (λ u. owners_effective p fit u ∙ sym (h.local u) ∙ sym (local_same u))
       (λ u r ne e. ranks u r (cases_eq u t) e ∙ sym (h.local u) ∙ sym (local_same u))
 

@@ -26,14 +26,15 @@ use Rattle.pif_simulation.proofs.Hole.{ready-queued_on_nothing}
 use Rattle.pif_simulation.proofs.Among.{is_among_here, is_among_there, is_among_cons, is_among-without}
 use Rattle.pif_simulation.proofs.Among.{is_among as is_waiter}
 use Rattle.pif_simulation.proofs.Waiting.{names, or_false, Once, once_head, once_tail, without-unnamed, named-from_pair, has_waiter-from_pair, has_waiter-without_other, waited-from_pair}
+use Rattle.pif_simulation.proofs.Greatest.{effective_same, reaches_same}
+use Rattle.pif_simulation.proofs.Handed.{effective_handed, effective_lifted}
+use Rattle.pif_simulation.proofs.Cycles.{acyclic_handed}
 use Rattle.pif_kernel.specs.Plain.{Plain, IsSound, Rise, kernel_of, status_at, key_at, state_at, ticket_of, mutexes_of, levels_of}
-use Rattle.pif_kernel.proofs.Greatest.{effective_same, reaches_same}
 use Rattle.pif_kernel.proofs.Seats.{IsFitted, fitted, seats_length, status_seen, waits_seen, waits_below, owners_waits, added_seen, added_back, waiters_seen, states_seen, kernel_by_parts, seats_of-set_status}
 use Rattle.pif_kernel.proofs.Picked.{levels_seen, levels_joined}
 use Rattle.pif_kernel.proofs.Standing.{effective_some, effective_few, unqueued_free}
 use Rattle.pif_kernel.proofs.ChainLaws.{repaired_but}
 use Rattle.pif_kernel.proofs.QueueLaws.{rise_once}
-use Rattle.pif_kernel.proofs.HandLaws.{effective_handed, effective_lifted, acyclic_handed}
 use Rattle.pif_kernel.proofs.TopLaws.{waits_under, some_rank, priority_below}
 use Rattle.pif_kernel.proofs.WalkSound.{IsPlaced, IsWalkable, owners_effective, seats_of-same_base}
 
@@ -499,7 +500,7 @@ module _ (p : Plain) (t m key u : ℕ) (d : IsHandable p t m key) (top : IsTop p
 
     repairs : IsRepairedBut t mid.owners
     repairs =
-        repaired_but high mid.owners t (sym high_long) (λ x. omega (arith, high_waits x, below_mid x, high_long, long)) (λ x y ne nz. ap (λ (n : ℕ). n == y) (high_waits x)) high_base high_local
+        repaired_but high mid.owners t (sym high_long) (λ x y ne nz. ap (λ (n : ℕ). n == y) (high_waits x)) high_base high_local
         (λ x r ne e. ranks x r (cases_eq x u) e ∙ sym (h.local x) ∙ sym (local_same x))
 
     joins_level : (r : ℕ) → levels_of q tb r ≡ joined u prio (levels_of p.queue p.table) r

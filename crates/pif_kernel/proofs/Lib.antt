@@ -1,5 +1,4 @@
 pub mod Seats
-pub mod Greatest
 pub mod Picked
 pub mod Standing
 pub mod StopLaws
@@ -14,14 +13,12 @@ pub mod LevelLaws
 pub mod WalkSound
 pub mod RebaseSound
 pub mod QueueLaws
-pub mod OpenLaws
 pub mod EnterSound
 pub mod TicketLaws
 pub mod RetagSound
 pub mod EntryFacts
 pub mod LockFacts
 pub mod UnlockFacts
-pub mod HandLaws
 pub mod TopLaws
 pub mod HandSound
 pub mod TestLemmas

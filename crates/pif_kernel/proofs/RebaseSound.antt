@@ -11,9 +11,9 @@ use Rattle.pif_rtmutex.specs.Owners.{Seat, Wait, seat_at, owner_at, waits_on, ra
 use Rattle.pif_rtmutex.specs.Owners.{waits_for as owners_wait_for}
 use Rattle.pif_boost.specs.Boosts.{IsRepairedBut}
 use Rattle.pif_simulation.proofs.Effective.{kept_at}
+use Rattle.pif_simulation.proofs.Greatest.{reaches_same}
 use Rattle.pif_kernel.specs.Plain.{Plain, IsSound, Rise, kernel_of, ticket_of}
-use Rattle.pif_kernel.proofs.Greatest.{reaches_same}
-use Rattle.pif_kernel.proofs.Seats.{IsFitted, fitted, seats_length, status_seen, waits_seen, waits_below, owners_waits, added_seen, waiters_seen, states_seen, kernel_by_parts, seats_of-set_base}
+use Rattle.pif_kernel.proofs.Seats.{IsFitted, fitted, seats_length, status_seen, waits_seen, added_seen, waiters_seen, states_seen, kernel_by_parts, seats_of-set_base}
 use Rattle.pif_kernel.proofs.Picked.{levels_seen}
 use Rattle.pif_kernel.proofs.Standing.{effective_some, effective_few}
 use Rattle.pif_kernel.proofs.ChainLaws.{repaired_but}
@@ -132,12 +132,9 @@ module _ (p : Plain) (t prio : ℕ) (h : IsSound p) (nonzero : t ≢ 0) (added :
     acyclic = λ u n. reaches_same _ _ _ _ _ _ u seats_mid waits_mid (waits_mid u) ∙ h.kernel.acyclic u (λ z. n (waits_mid u ∙ z));
   }
 
-  below : (x : ℕ) → owners_wait_for p.owners x < length p.owners.seats
-  below x = omega (arith, owners_waits p fit x, waits_below p fit x, seats_length p fit, fit.few)
-
   repairs : IsRepairedBut t mid.owners
   repairs =
-      repaired_but p.owners mid.owners t long below (λ x u ne nz. ap (λ (n : ℕ). n == u) (waiting_same x)) (λ u ne. sym (ap (λ (s : Seat). s.base) (other u ne)))
+      repaired_but p.owners mid.owners t long (λ x u ne nz. ap (λ (n : ℕ). n == u) (waiting_same x)) (λ u ne. sym (ap (λ (s : Seat). s.base) (other u ne)))
       (λ u. owners_effective p fit u ∙ sym (h.local u) ∙ sym (local_same u))
       (λ u r ne e. h.rank u r (sym (rank_same u) ∙ e) ∙ sym (h.local u) ∙ sym (local_same u))
 

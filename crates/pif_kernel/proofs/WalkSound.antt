@@ -11,21 +11,20 @@ use Rattle.pif_nodes.specs.Table.{Table}
 use Rattle.pif_runq.specs.Levels.{Queue, Holds, IsLevel, IsQueued, level_of}
 use Rattle.pif_model.specs.declared.lines.Status.{Status}
 use Rattle.pif_model.specs.declared.lines.Status.TheVariants.{Queued}
-use Rattle.pif_model.specs.Graph.{reaches_within, has_waiter, Reaches}
-use Rattle.pif_model.specs.Graph.Reaches.{here, hop}
+use Rattle.pif_model.specs.Graph.{reaches_within, has_waiter}
 use Rattle.pif_model.specs.Table.{queued_on, is_ready}
 use Rattle.pif_model.specs.PiKernel.{Kernel, effective_in, has_seat, is_among, settled, waits_for}
 use Rattle.pif_model.specs.PiKernel.{seat_at as kernel_seat_at}
 use Rattle.pif_rtmutex.specs.Owners.{Owners, Seat, Wait, seat_at, owner_at, count, waits_on, rank_of, no_seat}
 use Rattle.pif_boost.specs.Boosts.{IsRepaired, IsRepairedBut, base_of, greatest_base, boosted, ranked}
 use Rattle.pif_boost.specs.Boosts.{releveled as walked}
-use Rattle.pif_simulation.proofs.Following.{Follows, reaches-from_within}
+use Rattle.pif_simulation.proofs.Following.{reaches-from_within}
+use Rattle.pif_simulation.proofs.Hops.{nobody, reach_below}
 use Rattle.pif_simulation.proofs.Projection.{within}
+use Rattle.pif_simulation.proofs.Greatest.{effective_most, effective_own, effective_wider, effective_same}
 use Rattle.pif_kernel.specs.Plain.{Plain, IsSound, Rise, kernel_of, seats_of, status_at, key_at, state_at, ticket_of, mutexes_of, levels_of}
-use Rattle.pif_kernel.proofs.Greatest.{effective_most, effective_own, effective_wider, effective_same}
 use Rattle.pif_kernel.proofs.Seats.{IsFitted, seats_length, base_seen, owners_waits, waits_below, kernel_by_parts, added_seen}
 use Rattle.pif_kernel.proofs.Picked.{levels_seen, level_seen, among_has}
-use Rattle.pif_kernel.proofs.AddLaws.{reach_below}
 use Rattle.pif_kernel.proofs.SettleLaws.{IsListed, settled_kernel}
 use Rattle.pif_kernel.proofs.LevelLaws.{levels_settled}
 
@@ -70,11 +69,6 @@ seats_of-same_base (x ∷ xs) (r ∷ rows) [] l h = absurd (omega arith)
 seats_of-same_base (x ∷ xs) (r ∷ rows) (s ∷ rows') l h =
     λ i. record { base = h 0 i; living = if h 0 i == 0 then false else true; status = x } ∷ seats_of-same_base xs rows rows' (omega arith) (λ u. h (suc u)) i
 
--- nobody but 0 reaches 0
-reach_zero : {w : ℕ → ℕ} {u t : ℕ} → Reaches (Follows w) u t → t ≡ 0 → u ≡ 0
-reach_zero (here e) z = e ∙ z
-reach_zero (hop step r) z = absurd (step.1 (reach_zero r z))
-
 wait_state : (n : ℕ) (o : Option Wait) → option_map (λ (w : Wait). w.state) (option_map (ranked n) o) ≡ option_map (λ (w : Wait). w.state) o
 wait_state n None = refl
 wait_state n (Some w) = refl
@@ -118,7 +112,7 @@ module _ (p : Plain) (at : ℕ → ℕ) (h : IsPlaced p at) (now : Owners) (q : 
 
   effective_zero : effective_in (kernel_of p) 0 ≡ 0
   effective_zero =
-      let none : effective_in (kernel_of p) 0 ≤ 0 = effective_most _ _ _ 0 0 (λ x l e. only x (reach_zero (reaches-from_within _ _ x 0 e) refl)) in
+      let none : effective_in (kernel_of p) 0 ≤ 0 = effective_most _ _ _ 0 0 (λ x l e. only x (nobody (waits_for (kernel_of p)) refl (reaches-from_within _ _ x 0 e))) in
       omega (arith, none)
     where
       only : (x : ℕ) → x ≡ 0 → (kernel_seat_at (kernel_of p) x).base ≤ 0

@@ -14,7 +14,7 @@ use Rattle.pif_simulation.proofs.Kept.{below, from_within}
 use Rattle.pif_simulation.proofs.Projection.{within}
 use Rattle.pif_simulation.proofs.FormLaws.{shown_kernel, shown_words, seat_seen, effective_seen_in}
 use Rattle.pif_simulation.proofs.FormLaws.{word_seen as word_seen_in}
-use Rattle.pif_kernel.proofs.Greatest.{effective_most, effective_own}
+use Rattle.pif_simulation.proofs.Greatest.{effective_most, effective_own}
 use Rattle.pif_mutex.specs.declared.state.Mutex.{Mutex}
 use Rattle.pif_mutex.specs.Shown.{row_at_line, cell_of_mutex, library, shown, IsStored}
 use Rattle.pif_mutex.proofs.ShownRows.{length-rows_by, line_shown}

@@ -1,4 +1,3 @@
-pub mod ChainLemmas
 pub mod MapLemmas
 pub mod OwnersLemmas
 pub mod FieldsLemmas

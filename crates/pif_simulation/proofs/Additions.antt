@@ -146,13 +146,13 @@ module _ (s : Table) (p : ℕ) (h : IsSound s) where
 
   -- those of the others are what they were
   effective_old : (t : ℕ) → t ≢ length s.rows → kernel_effective (thread_form p s) t ≡ kernel_effective s t
-  effective_old t d = effective_new t ∙ effective_with_more (length s.rows) (kernel_waits_for s) (λ u. (row_at s u).base) (λ u. (row_at (thread_form p s) u).base)
-      (λ v. state_below s h (queued_on (row_at s v).status)) (λ u l. ap (λ (r : Row). r.base) (row_old u (omega arith))) new_waits_for_nobody t d
+  effective_old t d = effective_new t ∙ effective_with_more (length s.rows) (kernel_waits_for s) (λ v. state_below s h (queued_on (row_at s v).status))
+      (λ u. (row_at s u).base) (λ u. (row_at (thread_form p s) u).base) (λ u l. ap (λ (r : Row). r.base) (row_old u (omega arith))) new_waits_for_nobody t d
 
   -- that of the new thread is its base priority
   effective_here : kernel_effective (thread_form p s) (length s.rows) ≡ p
-  effective_here = effective_new (length s.rows) ∙ effective_of_more (length s.rows) (kernel_waits_for s) (λ u. (row_at s u).base) (λ u. (row_at (thread_form p s) u).base)
-      (λ v. state_below s h (queued_on (row_at s v).status)) (λ u l. ap (λ (r : Row). r.base) (row_old u (omega arith))) new_waits_for_nobody
+  effective_here = effective_new (length s.rows) ∙ effective_of_more (length s.rows) (kernel_waits_for s) (λ v. state_below s h (queued_on (row_at s v).status))
+      (λ u. (row_at s u).base) (λ u. (row_at (thread_form p s) u).base) (λ u l. ap (λ (r : Row). r.base) (row_old u (omega arith))) new_waits_for_nobody
       ∙ ap (λ (r : Row). r.base) row_new
 
   -- the new thread was not in the run queue

@@ -3,7 +3,7 @@ use Rattle.std.proofs.Common.{◌≡◌, ◌≢◌, ℕ, zero, suc, ◌-◌, fal
 use Rattle.std.proofs.Math.Path.{fun_ext}
 use Rattle.std.proofs.lemmas.Bool.{cases_eq}
 use Rattle.std.proofs.lemmas.List.{length-map, get_or_past}
-use Rattle.pif_model.specs.Graph.{waited_by, effective_among, next_waiter, reaches_within}
+use Rattle.pif_model.specs.Graph.{waited_by, next_waiter, reaches_within}
 use Rattle.pif_model.specs.Posix.{Progress, Call, Thread, Mutex, World, nobody, thread_at, with_thread, with_progress, progressed, waits_for, effective_of, next_of, leads_to}
 use Rattle.pif_model.specs.Table.{Table, Cell, no_row, no_cell, row_at, cell_at, with_line, queued_on, kernel_waits_for, kernel_effective}
 use Rattle.pif_model.specs.PiKernel.{releveled}
@@ -14,6 +14,7 @@ use Rattle.pif_simulation.proofs.Places.{mapped_at}
 use Rattle.pif_simulation.proofs.Forms.{settled}
 use Rattle.pif_simulation.proofs.Waiting.{by_test, paired-from_waited, has_waiter-from_pair}
 use Rattle.pif_simulation.proofs.Hole.{each_thread}
+use Rattle.pif_simulation.proofs.Greatest.{effective_same}
 
 -- what a change of one place keeps of that place, it keeps of every place
 pub kept_at : {A X : Type 0} (f : A → X) (l : List A) (t : ℕ) (y d : A) → f y ≡ f (get_or l t d) → (u : ℕ) → f (get_or (set l t y) u d) ≡ f (get_or l u d)
@@ -22,10 +23,6 @@ kept_at f (x ∷ xs) zero y d h zero = h
 kept_at f (x ∷ xs) zero y d h (suc u) = refl
 kept_at f (x ∷ xs) (suc t) y d h zero = refl
 kept_at f (x ∷ xs) (suc t) y d h (suc u) = kept_at f xs t y d h u
-
--- effective priorities over the same threads, the same waiting and the same base priorities
-same_effective : {n n' : ℕ} {w w' b b' : ℕ → ℕ} → n ≡ n' → w ≡ w' → b ≡ b' → effective_among n w b ≡ effective_among n' w' b'
-same_effective p q r = λ i. effective_among (p i) (q i) (r i)
 
 -- THE TWO MACHINES
 
@@ -55,12 +52,13 @@ waits_seen s shadow h = fun_ext (λ u.
     ∙ sym (ap (λ (m : Mutex). m.owner) (mapped_at mutex_of s.cells (waited_by s.waiters u) no_cell)))
 
 -- both machines have the same base priorities
-bases_seen : (s : Table) (shadow : Shadow) → ◌≡◌ {A = ℕ → ℕ} (λ u. (row_at s u).base) (λ u. (thread_at (world_of s shadow) u).base)
-bases_seen s shadow = fun_ext (λ u. sym (ap (λ (x : Thread). x.base) (mapped_at thread_of s.rows u no_row)))
+bases_seen : (s : Table) (shadow : Shadow) (u : ℕ) → (row_at s u).base ≡ (thread_at (world_of s shadow) u).base
+bases_seen s shadow u = sym (ap (λ (x : Thread). x.base) (mapped_at thread_of s.rows u no_row))
 
 -- both machines have the same effective priorities
 pub effective_seen : (s : Table) (shadow : Shadow) → IsSound s → kernel_effective s ≡ effective_of (world_of s shadow)
-effective_seen s shadow h = same_effective (sym (length-map s.rows thread_of)) (waits_seen s shadow h) (bases_seen s shadow)
+effective_seen s shadow h =
+    fun_ext (λ t. effective_same _ _ _ _ _ _ t (sym (length-map s.rows thread_of)) (λ u. ap (λ f. f u) (waits_seen s shadow h)) (bases_seen s shadow))
 
 -- both machines have the same next waiter
 pub next_seen : (s : Table) (shadow : Shadow) → IsSound s → (m : ℕ) → next_of (world_of s shadow) m ≡ kernel_next s m
@@ -75,8 +73,8 @@ leads_seen s shadow h u t = λ i. reaches_within (length-map s.rows thread_of i)
 -- another call of a thread changes nobody's effective priority
 pub effective-with_call : (w : World) (t : ℕ) (c : Option Call) → effective_of (with_thread t (record (thread_at w t) { call = c }) w) ≡ effective_of w
 effective-with_call w t c =
-    same_effective (length-set w.threads t (record (thread_at w t) { call = c })) refl
-    (fun_ext (λ u. kept_at (λ x. x.base) w.threads t (record (thread_at w t) { call = c }) nobody refl u))
+    fun_ext (λ u. effective_same _ _ _ _ _ _ u (length-set w.threads t (record (thread_at w t) { call = c })) (λ x. refl)
+    (kept_at (λ x. x.base) w.threads t (record (thread_at w t) { call = c }) nobody refl))
 
 -- how far a call has come changes for whom nobody waits
 pub waits_for-with_progress : (w : World) (t : ℕ) (p : Progress) → waits_for (with_progress t p w) ≡ waits_for w
@@ -93,9 +91,9 @@ next-with_progress w t p m = ap (λ f. next_waiter f w.waiters m) (effective-wit
 -- another line of a thread changes nobody's effective priority in the kernel
 pub effective-with_line : (t : ℕ) (l : Line) (s : Table) → kernel_effective (with_line t l s) ≡ kernel_effective s
 effective-with_line t l s =
-    same_effective (length-set s.rows t (record (row_at s t) { line = l }))
-    (fun_ext (λ u. ap (λ x. (cell_at s (queued_on x)).state) (kept_at (λ r. r.status) s.rows t (record (row_at s t) { line = l }) no_row refl u)))
-    (fun_ext (λ u. kept_at (λ r. r.base) s.rows t (record (row_at s t) { line = l }) no_row refl u))
+    fun_ext (λ u. effective_same _ _ _ _ _ _ u (length-set s.rows t (record (row_at s t) { line = l }))
+    (λ v. ap (λ x. (cell_at s (queued_on x)).state) (kept_at (λ r. r.status) s.rows t (record (row_at s t) { line = l }) no_row refl v))
+    (kept_at (λ r. r.base) s.rows t (record (row_at s t) { line = l }) no_row refl))
 
 -- to settle and to go to another line change places
 pub settled_line : (t : ℕ) (l : Line) (s : Table) → with_line t l (settled s) ≡ settled (with_line t l s)

@@ -1,6 +1,6 @@
 -- Chains of waiting over a function that says for whom each thread waits: whom one reaches at all, one reaches over
 -- few hops. And the greatest value among the numbers that pass a test.
-use Rattle.std.proofs.Common.{◌≡◌, ◌≢◌, ◌⊎◌, ◌<◌, ◌≤◌, ℕ, zero, suc, Bool, true, false, eqb, max, List, [], ◌∷◌, length, refl, sym, ◌∙◌, subst, inl, inr, arith}
+use Rattle.std.proofs.Common.{◌≡◌, ◌≢◌, ◌⊎◌, ◌<◌, ◌≤◌, ◌+◌, ℕ, zero, suc, Bool, true, false, eqb, max, List, [], ◌∷◌, length, refl, sym, ap, ◌∙◌, subst, inl, inr, add-one, arith}
 use Rattle.std.specs.List.{list_any, IsDistinct, AllByRecursion}
 use Rattle.std.proofs.lemmas.Bool.{true≢false, cases_Bool, cases_eq, cases_lt, eqb-true, eq-eqb, or_parts}
 use Rattle.std.proofs.lemmas.Bool.Decides.{nat_tests}
@@ -19,7 +19,7 @@ data Trail (waits_for : ℕ → ℕ) (t : ℕ) : List ℕ → ℕ → Type 0 whe
   more : {u v : ℕ} {xs : List ℕ} → waits_for u ≡ v → v ≢ 0 → Trail waits_for t xs v → Trail waits_for t (u ∷ xs) u
 
 -- over no hop or more, who is t reaches t
-reaches_here : (hops : ℕ) (waits_for : ℕ → ℕ) (u t : ℕ) → u ≡ t → reaches_within hops waits_for u t ≡ true
+pub reaches_here : (hops : ℕ) (waits_for : ℕ → ℕ) (u t : ℕ) → u ≡ t → reaches_within hops waits_for u t ≡ true
 unfolding reaches_within
 reaches_here zero waits_for u t e = eq-eqb u t e
 reaches_here (suc hops) waits_for u t e = rw (eq-eqb u t e) refl
@@ -83,9 +83,14 @@ trail_from {waits_for} {t} (more {u = v} {v = w} {xs = xs} e n trail) u h = by_h
         (r.0, r.1, λ d. r.2 (IsDistinct-tail eqb v xs d))
 
 -- a number that a list doesn't have is apart from each of it
-all_apart : (u : ℕ) (xs : List ℕ) → list_any (eqb u) xs ≡ false → AllByRecursion (λ y. eqb u y ≡ false) xs
+pub all_apart : (u : ℕ) (xs : List ℕ) → list_any (eqb u) xs ≡ false → AllByRecursion (λ y. eqb u y ≡ false) xs
 all_apart u [] h = tt
 all_apart u (x ∷ xs) h = let p = or_parts (eqb u x) (list_any (eqb u) xs) h in (p.0, all_apart u xs p.1)
+
+-- no number stands twice in a list of none
+pub no_repeats : IsDistinct eqb []
+unfolding IsDistinct
+no_repeats = tt
 
 -- the numbers of a trail are below n, where its first is, and for whoever one waits
 trail_below : {waits_for : ℕ → ℕ} {t : ℕ} {xs : List ℕ} {u : ℕ} → Trail waits_for t xs u → (n : ℕ) → u < n → ((x : ℕ) → waits_for x ≢ 0 → waits_for x < n)
@@ -152,7 +157,7 @@ unfolding greatest_where
 greatest_where_none test f = refl
 
 -- the greatest value is that of a number that passes, or it is 0 and none passes
-greatest_where_cases : (test : ℕ → Bool) (f : ℕ → ℕ) (n : ℕ) → IsGreatestAt test f n ⊎ (((u : ℕ) → u < n → test u ≡ false) × (greatest_where test f n ≡ 0))
+pub greatest_where_cases : (test : ℕ → Bool) (f : ℕ → ℕ) (n : ℕ) → IsGreatestAt test f n ⊎ (((u : ℕ) → u < n → test u ≡ false) × (greatest_where test f n ≡ 0))
 greatest_where_cases test f zero = inr ((λ u l. absurd (omega arith)), greatest_where_none test f)
 greatest_where_cases test f (suc n) = further (greatest_where_cases test f n) (cases_Bool (test n))
   where
@@ -172,6 +177,24 @@ greatest_where_cases test f (suc n) = further (greatest_where_cases test f n) (c
     further (inl p) (inr e) = inl (kept p (greatest_where_no test f n e))
     further (inr p) (inl y) = inl (n, omega arith, y, omega (arith, greatest_where_yes test f n y, p.1))
     further (inr p) (inr e) = inr (fails p.0 e, greatest_where_no test f n e ∙ p.1)
+
+-- one number more, that passes
+pub greatest_more : (test : ℕ → Bool) (f : ℕ → ℕ) (n best : ℕ) → best ≡ greatest_where test f n → test n ≡ true
+    → max (f n) best ≡ greatest_where test f (n + 1)
+greatest_more test f n best e y = ap (max (f n)) e ∙ sym (greatest_where_yes test f n y) ∙ ap (greatest_where test f) (sym (add-one n))
+
+-- one number more, that doesn't
+pub greatest_same : (test : ℕ → Bool) (f : ℕ → ℕ) (n best : ℕ) → best ≡ greatest_where test f n → test n ≡ false
+    → best ≡ greatest_where test f (n + 1)
+greatest_same test f n best e y = e ∙ sym (greatest_where_no test f n y) ∙ ap (greatest_where test f) (sym (add-one n))
+
+-- a greatest value above 0 is that of a number that passes
+pub greatest_where_some : (test : ℕ → Bool) (f : ℕ → ℕ) (n : ℕ) → 1 ≤ greatest_where test f n → IsGreatestAt test f n
+greatest_where_some test f n h = by_case (greatest_where_cases test f n)
+  where
+    by_case : IsGreatestAt test f n ⊎ (((u : ℕ) → u < n → test u ≡ false) × (greatest_where test f n ≡ 0)) → IsGreatestAt test f n
+    by_case (inl p) = p
+    by_case (inr p) = absurd (omega (arith, p.1))
 
 -- where a number below n passes, the greatest value is that of one that does
 pub greatest_where_at : (test : ℕ → Bool) (f : ℕ → ℕ) (n t : ℕ) → t < n → test t ≡ true → IsGreatestAt test f n

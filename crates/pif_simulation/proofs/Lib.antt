@@ -32,6 +32,10 @@ pub mod LockLines
 pub mod TryLines
 pub mod UnlockLines
 pub mod Chains
+pub mod Cycles
+pub mod Hops
+pub mod Greatest
+pub mod Handed
 pub mod Additions
 pub mod KernelFacts
 pub mod Simulation

@@ -1,20 +1,21 @@
 -- The law that a thread's effective priority is the greatest base priority of it and of all that wait for it through
 -- any chain.
-use Rattle.std.proofs.Common.{◌≡◌, ◌≢◌, ◌⊎◌, ◌<◌, ◌≤◌, ℕ, true, false, ◌==◌, eqb, nat_lt, List, [], ◌∷◌, length, map, refl, sym, ap, ◌∙◌, subst, inl, inr, arith, if◌then◌else◌}
-use Rattle.std.specs.List.{IsDistinct, AllByRecursion}
+use Rattle.std.proofs.Common.{◌≡◌, ◌≢◌, ◌⊎◌, ◌<◌, ◌≤◌, ℕ, true, eqb, length, map, refl, sym, ap, ◌∙◌, subst, inl, inr}
+use Rattle.std.specs.List.{IsDistinct}
 use Rattle.std.proofs.lemmas.Bool.{cases_eq, cases_lt}
-use Rattle.std.proofs.lemmas.Bool.Decides.{nat_tests}
-use Rattle.std.proofs.lemmas.List.{length-map, get_or_past}
-use Rattle.std.proofs.lemmas.Map.Keys.{IsDistinct-head, IsDistinct-tail}
-use Rattle.pif_model.specs.Graph.{waited_by, reaches_within, effective_among, Reaches}
-use Rattle.pif_model.specs.Graph.Reaches.{here, hop}
-use Rattle.pif_model.specs.Posix.{World, Mutex, WaitsFor, waits_for, thread_at, mutex_at, is_thread, effective_of, leads_to}
+use Rattle.std.proofs.lemmas.List.{get_or_past}
+use Rattle.pif_model.specs.Graph.{waited_by, reaches_within, Reaches}
+use Rattle.pif_model.specs.Posix.{World, WaitsFor, waits_for, thread_at, mutex_at, is_thread, effective_of, leads_to}
 use Rattle.pif_model.specs.Table.{Table, Row, Cell, no_cell, cell_at, has_thread, has_mutex, queued_on}
-use Rattle.pif_model.specs.Standing.{Shadow, IsSound, HasEffective, world_of, thread_of, mutex_of}
-use Rattle.pif_simulation.proofs.Places.{mapped_at}
-use Rattle.pif_simulation.proofs.Among.{is_among}
-use Rattle.pif_simulation.proofs.Following.{Follows, reaches-from_within, within-from_reaches, within_here, within_alone, greatest_where_above, greatest_where_at, IsGreatestAt}
+use Rattle.pif_model.specs.Standing.{Shadow, IsSound, HasEffective, world_of}
+use Rattle.pif_simulation.proofs.Following.{Follows, reaches-from_within, within-from_reaches, within_alone}
+use Rattle.pif_simulation.proofs.Cycles.{Reaches-map}
+use Rattle.pif_simulation.proofs.Greatest.{effective_above, effective_attained}
 use Rattle.pif_simulation.proofs.Hole.{each_thread}
+use Rattle.pif_simulation.proofs.Kept.{from_within}
+use Rattle.pif_simulation.proofs.Projection.{within, is_thread_seen}
+use Rattle.pif_simulation.proofs.Queue.{owner_seen}
+use Rattle.pif_simulation.proofs.Waiting.{paired-from_waited, waited-from_pair}
 
 -- what a state has to keep for its chains of waiting to be those of a function: a thread waits once, nobody waits for
 -- nothing, and owners were added
@@ -24,81 +25,43 @@ pub record IsOrderly (w : World) : Type 0 where
   pub no_owner : (mutex_at w 0).owner ≡ 0
   pub owners : (m : ℕ) → (mutex_at w m).owner ≢ 0 → is_thread w (mutex_at w m).owner ≡ true
 
--- who is not among the first parts is among no waiters
-apart_among : (ws : List (ℕ × ℕ)) (u m : ℕ) → AllByRecursion (λ y. eqb u y ≡ false) (map (λ (p : ℕ × ℕ). p.0) ws) → is_among ws u m ≡ false
-apart_among [] u m h = refl
-apart_among (p ∷ ws) u m h = grind (arith, nat_tests, h.0, apart_among ws u m h.1)
-
--- who is among the waiters of m, and waits once, waits for m
-waited_by-among : (ws : List (ℕ × ℕ)) (u m : ℕ) → IsDistinct eqb (map (λ (p : ℕ × ℕ). p.0) ws) → is_among ws u m ≡ true → waited_by ws u ≡ m
-unfolding waited_by
-waited_by-among [] u m d h = grind arith
-waited_by-among (p ∷ ws) u m d h =
-    grind (
-      arith,
-      nat_tests,
-      h,
-      waited_by-among ws u m (IsDistinct-tail eqb p.0 (map (λ (p : ℕ × ℕ). p.0) ws) d),
-      apart_among ws p.0 m (IsDistinct-head eqb p.0 (map (λ (p : ℕ × ℕ). p.0) ws) d),
-    )
-
--- who waits for a mutex is among its waiters
-among-waited_by : (ws : List (ℕ × ℕ)) (u : ℕ) → waited_by ws u ≢ 0 → is_among ws u (waited_by ws u) ≡ true
-unfolding waited_by
-among-waited_by [] u n = absurd (n refl)
-among-waited_by (p ∷ ws) u n = grind (arith, nat_tests, n, among-waited_by ws u)
-
 -- who waits for t waits for t by the function
 pub follows-from_WaitsFor : (w : World) → IsOrderly w → (u t : ℕ) → WaitsFor w u t → Follows (waits_for w) u t
-follows-from_WaitsFor w h u t f = (ap (λ (m : ℕ). (mutex_at w m).owner) (waited_by-among w.waiters u f.mutex h.once f.among) ∙ f.owned, f.somebody)
+follows-from_WaitsFor w h u t f = (ap (λ (m : ℕ). (mutex_at w m).owner) (waited-from_pair w.waiters u f.mutex h.once f.among) ∙ f.owned, f.somebody)
 
 -- and back
 pub WaitsFor-from_follows : (w : World) → IsOrderly w → (u t : ℕ) → Follows (waits_for w) u t → WaitsFor w u t
 WaitsFor-from_follows w h u t f =
     record {
       mutex = waited_by w.waiters u;
-      among = among-waited_by w.waiters u (λ e. f.1 (sym f.0 ∙ (ap (λ (m : ℕ). (mutex_at w m).owner) e ∙ h.no_owner)));
+      among = paired-from_waited w.waiters u (waited_by w.waiters u) (λ e. f.1 (sym f.0 ∙ (ap (λ (m : ℕ). (mutex_at w m).owner) e ∙ h.no_owner))) refl;
       owned = f.0;
       somebody = f.1;
     }
 
--- a chain is carried along from one relation to another
-pub Reaches-map : {A B : ℕ → ℕ → Type 0} → ((u t : ℕ) → A u t → B u t) → {u t : ℕ} → Reaches A u t → Reaches B u t
-Reaches-map f (here e) = here e
-Reaches-map f (hop {u = u} {v = v} a r) = hop (f u v a) (Reaches-map f r)
-
--- whoever was added is below the threads' number
-below_threads : (t n : ℕ) → (if t == 0 then false else nat_lt t n) ≡ true → (t ≢ 0) × (t < n)
-below_threads t n h = grind (arith, nat_tests)
-
--- and back
-was_added : (t n : ℕ) → t ≢ 0 → t < n → (if t == 0 then false else nat_lt t n) ≡ true
-was_added t n s l = grind (arith, nat_tests)
-
 -- the effective priority in the subject's words
 pub effective_is_greatest_of : (w : World) → IsOrderly w → (t : ℕ) → is_thread w t ≡ true → HasEffective w t (effective_of w t)
-unfolding effective_among
 effective_is_greatest_of w h t known =
     record {
       attained = (
         best.0,
-        was_added best.0 (length w.threads) (λ e. real.0 (within_here_zero e)) best.1,
+        from_within best.0 (length w.threads) (λ e. real.0 (within_here_zero e)) best.1,
         Reaches-map (WaitsFor-from_follows w h) (reaches-from_within (length w.threads) (waits_for w) best.0 t best.2),
         best.3,
       );
       greatest = λ u k r.
-          greatest_where_above (λ x. reaches_within (length w.threads) (waits_for w) x t) (λ x. (thread_at w x).base) (length w.threads) u (below_threads u (length w.threads) k).1
-          (within-from_reaches (length w.threads) (waits_for w) u t (below_threads u (length w.threads) k).1 below (Reaches-map (follows-from_WaitsFor w h) r));
+          effective_above (length w.threads) (waits_for w) (λ x. (thread_at w x).base) t u (within u (length w.threads) k).1
+          (within-from_reaches (length w.threads) (waits_for w) u t (within u (length w.threads) k).1 below (Reaches-map (follows-from_WaitsFor w h) r));
     }
   where
     real : (t ≢ 0) × (t < length w.threads)
-    real = below_threads t (length w.threads) known
+    real = within t (length w.threads) known
 
     below : (x : ℕ) → waits_for w x ≢ 0 → waits_for w x < length w.threads
-    below x n = (below_threads (waits_for w x) (length w.threads) (h.owners (waited_by w.waiters x) n)).1
+    below x n = (within (waits_for w x) (length w.threads) (h.owners (waited_by w.waiters x) n)).1
 
-    best : IsGreatestAt (λ x. reaches_within (length w.threads) (waits_for w) x t) (λ x. (thread_at w x).base) (length w.threads)
-    best = greatest_where_at (λ x. reaches_within (length w.threads) (waits_for w) x t) (λ x. (thread_at w x).base) (length w.threads) t real.1 (within_here (length w.threads) (waits_for w) t)
+    best : (u : ℕ) × (u < length w.threads) × (reaches_within (length w.threads) (waits_for w) u t ≡ true) × ((thread_at w u).base ≡ effective_of w t)
+    best = effective_attained (length w.threads) (waits_for w) (λ x. (thread_at w x).base) t real.1
 
     zero_waits : waits_for w 0 ≡ 0
     zero_waits = ap (λ (m : ℕ). (mutex_at w m).owner) h.nobody_waits ∙ h.no_owner
@@ -113,16 +76,8 @@ reaches-from_leads_to w h u t e = Reaches-map (WaitsFor-from_follows w h) (reach
 -- and back
 pub leads_to-from_reaches : (w : World) → IsOrderly w → (u t : ℕ) → is_thread w u ≡ true → Reaches (WaitsFor w) u t → leads_to w u t ≡ true
 leads_to-from_reaches w h u t k r =
-    within-from_reaches (length w.threads) (waits_for w) u t (below_threads u (length w.threads) k).1
-    (λ x n. (below_threads (waits_for w x) (length w.threads) (h.owners (waited_by w.waiters x) n)).1) (Reaches-map (follows-from_WaitsFor w h) r)
-
--- the owner in the machine's state is the number in the word
-owner_seen : (s : Table) (shadow : Shadow) (m : ℕ) → (mutex_at (world_of s shadow) m).owner ≡ (cell_at s m).word.number
-owner_seen s shadow m = ap (λ (x : Mutex). x.owner) (mapped_at mutex_of s.cells m no_cell)
-
--- a thread was added to both machines
-thread_seen : (s : Table) (shadow : Shadow) (t : ℕ) → is_thread (world_of s shadow) t ≡ has_thread s t
-thread_seen s shadow t = ap (λ (n : ℕ). if t == 0 then false else nat_lt t n) (length-map s.rows thread_of)
+    within-from_reaches (length w.threads) (waits_for w) u t (within u (length w.threads) k).1
+    (λ x n. (within (waits_for w x) (length w.threads) (h.owners (waited_by w.waiters x) n)).1) (Reaches-map (follows-from_WaitsFor w h) r)
 
 -- a sound table shows an orderly state
 pub IsOrderly-world_of : (s : Table) (shadow : Shadow) → IsSound s → IsOrderly (world_of s shadow)
@@ -131,13 +86,13 @@ IsOrderly-world_of s shadow h =
       once = h.all.once;
       nobody_waits = (each_thread h 0).queue ∙ ap (λ (r : Row). queued_on r.status) h.all.shape.nobody;
       no_owner = owner_seen s shadow 0 ∙ ap (λ (c : Cell). c.word.number) h.all.shape.no_mutex;
-      owners = λ m n. thread_seen s shadow (mutex_at (world_of s shadow) m).owner
+      owners = λ m n. is_thread_seen s shadow (mutex_at (world_of s shadow) m).owner
           ∙ subst (λ (o : ℕ). has_thread s o ≡ true) (sym (owner_seen s shadow m)) (word_owner m (λ e. n (owner_seen s shadow m ∙ e)));
     }
   where
     by_place : (m : ℕ) → (cell_at s m).word.number ≢ 0 → ((m ≡ 0) ⊎ (m ≡ 0 → ⊥)) → ((m < length s.cells) ⊎ (length s.cells ≤ m)) → has_mutex s m ≡ true
     by_place m n (inl e) _ = absurd (n (ap (λ (k : ℕ). (cell_at s k).word.number) e ∙ ap (λ (c : Cell). c.word.number) h.all.shape.no_mutex))
-    by_place m n (inr d) (inl l) = was_added m (length s.cells) d l
+    by_place m n (inr d) (inl l) = from_within m (length s.cells) d l
     by_place m n (inr d) (inr l) = absurd (n (ap (λ (c : Cell). c.word.number) (get_or_past s.cells m no_cell l)))
 
     word_owner : (m : ℕ) → (cell_at s m).word.number ≢ 0 → has_thread s (cell_at s m).word.number ≡ true
@@ -145,4 +100,4 @@ IsOrderly-world_of s shadow h =
 
 -- the effective priority of each thread of a sound table, in the subject's words
 pub effective_is_greatest : (s : Table) (shadow : Shadow) → IsSound s → (t : ℕ) → has_thread s t ≡ true → HasEffective (world_of s shadow) t (effective_of (world_of s shadow) t)
-effective_is_greatest s shadow h t k = effective_is_greatest_of (world_of s shadow) (IsOrderly-world_of s shadow h) t (thread_seen s shadow t ∙ k)
+effective_is_greatest s shadow h t k = effective_is_greatest_of (world_of s shadow) (IsOrderly-world_of s shadow h) t (is_thread_seen s shadow t ∙ k)

@@ -4,13 +4,14 @@ use Rattle.std.proofs.lemmas.Bool.{eqb-true, eqb-false}
 use Rattle.pif_model.specs.Graph.{reaches_within}
 use Rattle.pif_rtmutex.specs.Owners.{waits_for}
 use Rattle.pif_boost.proofs.Greatest.{closes, waits_for-none, waits_for-owner}
-use Rattle.pif_boost.proofs.Hops.{reached_here, reached_never, reached_hop, reached_last}
+use Rattle.pif_simulation.proofs.Following.{reaches_here}
+use Rattle.pif_simulation.proofs.Hops.{reached_never, reached_hop, reached_last}
 use Rattle.pif_boost.proofs.chains.would_close.Goals as goal
 
 pub returns-then-eq : goal.returns-then-eq
 returns-then-eq c =
     closes c.args.owners.now c.args.owner c.args.t _
-    (sym (reached_here _ _ c.loop-hop.at c.args.t (eqb-true c.loop-hop.at c.args.t (sym c.eq.ensures ∙ c.if-eq.true))) ∙ c.loop-hop.invariant)
+    (sym (reaches_here _ _ c.loop-hop.at c.args.t (eqb-true c.loop-hop.at c.args.t (sym c.eq.ensures ∙ c.if-eq.true))) ∙ c.loop-hop.invariant)
 
 pub returns-in-None : goal.returns-in-None
 returns-in-None c =

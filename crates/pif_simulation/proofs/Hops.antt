@@ -1,26 +1,39 @@
--- Chains of waiting of threads below n, which alone wait: also those that end at a number from n on are found over few
--- hops.
+-- Chains of waiting, hop by hop: one hop more, the last hop, and whom one reaches. Where threads below n alone wait, also
+-- chains that end at a number from n on are found over few hops.
 use Rattle.std.proofs.Common.{◌≡◌, ◌≢◌, ◌⊎◌, ℕ, zero, suc, ◌<◌, ◌≤◌, ◌+◌, ◌-◌, true, false, ◌==◌, nat_lt, refl, sym, ◌∙◌, subst, inl, inr, if◌then◌else◌, arith}
 use Rattle.std.proofs.lemmas.Bool.{cases_lt, ne_eqb, false_from_ne_true}
 use Rattle.std.proofs.lemmas.Bool.Decides.{nat_tests}
 use Rattle.pif_model.specs.Graph.{reaches_within, Reaches}
 use Rattle.pif_model.specs.Graph.Reaches.{here, hop}
-use Rattle.pif_rtmutex.proofs.ChainLemmas.{reaches-alone}
 use Rattle.pif_simulation.proofs.Following.{Follows, reaches_over_more, within-from_reaches, within_here, within_alone}
+use Rattle.pif_simulation.proofs.Cycles.{Reaches-trans, reaches-alone}
 
 -- one hop more at the end
 pub Reaches-then : {Waits : ℕ → ℕ → Type 0} {u v t : ℕ} → Reaches Waits u v → Waits v t → Reaches Waits u t
-Reaches-then {Waits} {t = t} (here {u = u} e) a = hop (subst (λ (x : ℕ). Waits x t) (sym e) a) (here refl)
-Reaches-then (hop b r) a = hop b (Reaches-then r a)
+Reaches-then r a = Reaches-trans r (hop a (here refl))
+
+-- the last hop of a chain
+pub last_hop : {W : ℕ → ℕ → Type 0} {u t : ℕ} → Reaches W u t → (u ≡ t) ⊎ ((x : ℕ) × Reaches W u x × W x t)
+last_hop (here e) = inl e
+last_hop {W} {t = t} (hop {u = u} {v = v} a r) = by_rest (last_hop r)
+  where
+    by_rest : (v ≡ t) ⊎ ((x : ℕ) × Reaches W v x × W x t) → (u ≡ t) ⊎ ((x : ℕ) × Reaches W u x × W x t)
+    by_rest (inl e) = inr (u, here refl, subst (λ (y : ℕ). W u y) e a)
+    by_rest (inr s) = inr (s.0, hop a s.1, s.2)
 
 -- who waits for nobody reaches itself alone
-alone : (w : ℕ → ℕ) {u t : ℕ} → w u ≡ 0 → Reaches (Follows w) u t → u ≡ t
+pub alone : (w : ℕ → ℕ) {u t : ℕ} → w u ≡ 0 → Reaches (Follows w) u t → u ≡ t
 alone w {u = u} e r = sym (reaches-alone u (λ z a. a.1 (sym a.0 ∙ e)) refl r)
 
 -- nobody is reached by nobody else
 pub nobody : (w : ℕ → ℕ) {u t : ℕ} → t ≡ 0 → Reaches (Follows w) u t → u ≡ 0
 nobody w e (here s) = s ∙ e
 nobody w e (hop {v = v} a r) = absurd (a.1 (nobody w e r))
+
+-- who is reached by a number below n is below n, where each waits for one below n
+pub reach_below : (w : ℕ → ℕ) (n : ℕ) → ((x : ℕ) → w x < n) → {u t : ℕ} → Reaches (Follows w) u t → u < n → t < n
+reach_below w n below (here e) l = omega arith
+reach_below w n below (hop {u = u} {v = v} e r) l = reach_below w n below r (omega (arith, e.0, below u))
 
 -- over the hops of another function, where that one waits for the same or for nobody
 within_wider : (f w : ℕ → ℕ) → ((x : ℕ) → f x ≢ 0 → f x ≡ w x) → (k u t : ℕ) → reaches_within k f u t ≡ true → reaches_within k w u t ≡ true
@@ -85,10 +98,6 @@ module _ (n : ℕ) (w : ℕ → ℕ) (out : (x : ℕ) → n ≤ x → w x ≡ 0)
       by_start (inr l) = subst (λ (x : ℕ). reaches_within (suc n) w u x ≡ true) (alone w (out u l) r) (within_here (suc n) w u)
 
 -- HOP BY HOP
-
--- who is there is reached
-pub reached_here : (hops : ℕ) (w : ℕ → ℕ) (u t : ℕ) → u ≡ t → reaches_within hops w u t ≡ true
-reached_here hops w u t e = subst (λ (x : ℕ). reaches_within hops w u x ≡ true) e (within_here hops w u)
 
 -- who waits for nobody reaches no other
 pub reached_never : (hops : ℕ) (w : ℕ → ℕ) (u t : ℕ) → (u ≡ t → ⊥) → w u ≡ 0 → reaches_within hops w u t ≡ false

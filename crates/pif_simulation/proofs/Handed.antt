@@ -1,10 +1,12 @@
--- Handing a mutex from t to its top waiter u changes no effective priority but that of t.
-use Rattle.std.proofs.Common.{◌≡◌, ◌≢◌, ◌⊎◌, ℕ, ◌<◌, ◌≤◌, Bool, true, false, refl, sym, ap, subst, ◌∙◌, inl, inr, arith}
-use Rattle.std.proofs.lemmas.Bool.{cases_eq, cases_Bool, true≢false}
-use Rattle.pif_model.specs.Graph.{reaches_within, effective_among, Reaches}
+-- Handing a mutex from t to its top waiter u changes no effective priority but that of t: over the functions that say
+-- for whom each thread waits before and after.
+use Rattle.std.proofs.Common.{◌≡◌, ◌≢◌, ◌⊎◌, ℕ, ◌<◌, ◌≤◌, Bool, true, false, sym, ap, subst, ◌∙◌, inl, inr, arith}
+use Rattle.std.proofs.lemmas.Bool.{cases_eq, cases_Bool}
+use Rattle.pif_model.specs.Graph.{effective_among, Reaches}
 use Rattle.pif_model.specs.Graph.Reaches.{here, hop}
 use Rattle.pif_simulation.proofs.Following.{Follows, reaches-from_within, within-from_reaches}
-use Rattle.pif_kernel.proofs.Greatest.{effective_most, effective_above, effective_own, effective_under}
+use Rattle.pif_simulation.proofs.Hops.{Reaches-then, alone}
+use Rattle.pif_simulation.proofs.Greatest.{effective_most, effective_above, effective_own, effective_under}
 
 -- `on` says who is queued on the mutex: they waited for t, and now all but u wait for u
 module _ (n : ℕ) (w now b : ℕ → ℕ) (t u : ℕ) (on : ℕ → Bool) (below : (x : ℕ) → w x < n) (below_now : (x : ℕ) → now x < n)
@@ -15,11 +17,7 @@ module _ (n : ℕ) (w now b : ℕ → ℕ) (t u : ℕ) (on : ℕ → Bool) (belo
 
   -- a waiter is at most as high as for whom it waits
   along : (x v : ℕ) → Follows w x v → effective x ≤ effective v
-  along x v step = effective_under n n w w b b x v (λ y l r. inr (y, l, within-from_reaches n w y v l (λ z some. below z) (then (reaches-from_within n w y x r)), omega arith))
-    where
-      then : {y : ℕ} → Reaches (Follows w) y x → Reaches (Follows w) y v
-      then (here e) = hop (ap w e ∙ step.0, step.1) (here refl)
-      then (hop s r) = hop s (then r)
+  along x v step = effective_under n n w w b b x v (λ y l r. inr (y, l, within-from_reaches n w y v l (λ z some. below z) (Reaches-then (reaches-from_within n w y x r) step), omega arith))
 
   up : {x y : ℕ} → Reaches (Follows now) x y → effective x ≤ effective y
   up (here e) = let same = ap effective e in omega (arith, same)
@@ -30,16 +28,12 @@ module _ (n : ℕ) (w now b : ℕ → ℕ) (t u : ℕ) (on : ℕ → Bool) (belo
       by_on (inl e) (inr ne) ih = let at = ap effective (sym (moved x e ne) ∙ step.0) in omega (arith, top x e, at)
       by_on (inr e) c ih = omega (arith, along x v (sym (others x e) ∙ step.0, step.1))
 
-  stuck : {y : ℕ} → Reaches (Follows w) t y → t ≡ y
-  stuck (here e) = e
-  stuck (hop step r) = absurd (step.1 (sym step.0 ∙ idle))
-
   down : {x y : ℕ} → y ≢ t → Reaches (Follows w) x y → Reaches (Follows now) x y
   down ne (here e) = here e
   down {y = y} ne (hop {u = x} {v = v} step r) = by_on (cases_Bool (on x)) (down ne r)
     where
       by_on : ((on x ≡ true) ⊎ (on x ≡ false)) → Reaches (Follows now) v y → Reaches (Follows now) x y
-      by_on (inl e) ih = absurd (ne (sym (stuck (subst (λ (z : ℕ). Reaches (Follows w) z y) (sym step.0 ∙ waited x e) r))))
+      by_on (inl e) ih = absurd (ne (sym (alone w idle (subst (λ (z : ℕ). Reaches (Follows w) z y) (sym step.0 ∙ waited x e) r))))
       by_on (inr e) ih = hop (others x e ∙ step.0, step.1) ih
 
   pub effective_handed : (y : ℕ) → y ≢ t → effective_among n now b y ≡ effective_among n w b y
@@ -63,7 +57,7 @@ module _ (n : ℕ) (w now b : ℕ → ℕ) (t u : ℕ) (on : ℕ → Bool) (belo
       less = effective_most n now c y _ (λ x xl e. bound x xl (reaches-from_within n now x y e) (cases_eq x t))
 
       reached : (x : ℕ) → x < n → y ≢ t → Reaches (Follows w) x y → ((x ≡ t) ⊎ (x ≡ t → ⊥)) → b x ≤ effective_among n now c y
-      reached x xl ne r (inl e) = absurd (ne (sym (stuck (subst (λ (z : ℕ). Reaches (Follows w) z y) e r))))
+      reached x xl ne r (inl e) = absurd (ne (sym (alone w idle (subst (λ (z : ℕ). Reaches (Follows w) z y) e r))))
       reached x xl ne r (inr other) =
           let above : c x ≤ effective_among n now c y = effective_above n now c y x xl (within-from_reaches n now x y xl (λ z some. below_now z) (down ne r)) in
           omega (arith, same x other, above)
@@ -74,34 +68,3 @@ module _ (n : ℕ) (w now b : ℕ → ℕ) (t u : ℕ) (on : ℕ → Bool) (belo
           let is : c y ≡ effective_among n w b y = ap c e ∙ high ∙ ap effective (sym e) in
           omega (arith, own, is)
       greater (inr ne) = effective_most n w b y _ (λ x xl e. reached x xl ne (reaches-from_within n w x y e) (cases_eq x t))
-
--- and no chain closes
-module _ (w now : ℕ → ℕ) (u : ℕ) (on : ℕ → Bool) (others : (x : ℕ) → on x ≡ false → now x ≡ w x) (moved : (x : ℕ) → on x ≡ true → x ≢ u → now x ≡ u) (freed : now u ≡ 0) where
-  ends : {y : ℕ} → Reaches (Follows now) u y → u ≡ y
-  ends (here e) = e
-  ends (hop step r) = absurd (step.1 (sym step.0 ∙ freed))
-
-  back : {x y : ℕ} → y ≢ u → Reaches (Follows now) x y → Reaches (Follows w) x y
-  back ne (here e) = here e
-  back {y = y} ne (hop {u = x} {v = v} step r) = by_on (cases_Bool (on x)) (cases_eq x u) (back ne r)
-    where
-      by_on : ((on x ≡ true) ⊎ (on x ≡ false)) → ((x ≡ u) ⊎ (x ≡ u → ⊥)) → Reaches (Follows w) v y → Reaches (Follows w) x y
-      by_on (inl e) (inl same) ih = absurd (step.1 (sym step.0 ∙ ap now same ∙ freed))
-      by_on (inl e) (inr other) ih = absurd (ne (sym (ends (subst (λ (z : ℕ). Reaches (Follows now) z y) (sym step.0 ∙ moved x e other) r))))
-      by_on (inr e) c ih = hop (sym (others x e) ∙ step.0, step.1) ih
-
-  pub acyclic_handed : (n : ℕ) → ((x : ℕ) → w x < n) → ((y : ℕ) → w y ≢ 0 → reaches_within n w (w y) y ≡ false) → (y : ℕ) → now y ≢ 0 → reaches_within n now (now y) y ≡ false
-  acyclic_handed n below acyclic y some = by_test (reaches_within n now (now y) y) refl
-    where
-      apart : y ≢ u
-      apart e = some (ap now e ∙ freed)
-
-      closed : ((on y ≡ true) ⊎ (on y ≡ false)) → Reaches (Follows now) (now y) y → ⊥
-      closed (inl e) r = apart (sym (ends (subst (λ (z : ℕ). Reaches (Follows now) z y) (moved y e apart) r)))
-      closed (inr e) r =
-          let was : w y ≢ 0 = λ z. some (others y e ∙ z) in
-          true≢false (sym (within-from_reaches n w (w y) y (below y) (λ x z. below x) (subst (λ (z : ℕ). Reaches (Follows w) z y) (others y e) (back apart r))) ∙ acyclic y was)
-
-      by_test : (b : Bool) → reaches_within n now (now y) y ≡ b → reaches_within n now (now y) y ≡ false
-      by_test false e = e
-      by_test true e = absurd (closed (cases_Bool (on y)) (reaches-from_within n now (now y) y e))
