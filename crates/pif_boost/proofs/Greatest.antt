@@ -3,14 +3,12 @@ use Rattle.std.proofs.Common.{◌≡◌, ◌≢◌, ◌⊎◌, ◌↔◌, ℕ, z
 use Rattle.std.specs.Prelude.{option_map, option_and_then, unwrap_or}
 use Rattle.std.specs.List.{list_any, IsDistinct}
 use Rattle.std.proofs.lemmas.Bool.{cases_eq, cases_lt, eqb-true, or_cases, false_from_ne_true}
-use Rattle.std.proofs.lemmas.Bool.Decides.{same_from_decides}
 use Rattle.std.proofs.lemmas.List.{get_or_past}
 use Rattle.std.proofs.lemmas.Map.Keys.{IsDistinct-cons}
 use Rattle.std.proofs.lemmas.Map.Steps.{length-le_from_distinct_below}
 use Rattle.pif_model.specs.Graph.{reaches_within, greatest_where, effective_among, Reaches, IsEffective}
 use Rattle.pif_model.specs.Graph.Reaches.{here, hop}
 use Rattle.pif_simulation.proofs.Following.{IsGreatestAt, reaches-from_within, all_apart, no_repeats, greatest_where_some}
-pub use Rattle.pif_simulation.proofs.Following.{greatest_more, greatest_same}
 use Rattle.pif_simulation.proofs.Greatest.{effective_above, effective_attained, effective_own, effective_same}
 use Rattle.pif_simulation.proofs.Hops.{Reaches-then, alone, nobody, found, found_below}
 use Rattle.pif_rtmutex.specs.Owners.{Owners, Seat, Wait, no_seat, seat_at, owner_at, waits_on, waits_for, WaitsFor, IsSound}
@@ -43,13 +41,6 @@ waits_for-owner v u state owner e o = ap (λ (s : Option ℕ). unwrap_or (option
 pub closes : (v : Owners) (u t : ℕ) (b : Bool) → b ≡ reaches_within (suc (length v.seats)) (waits_for v) u t → (b ≡ true) ↔ Reaches (WaitsFor v) u t
 closes v u t b e =
     (λ h. reaches-from_within (suc (length v.seats)) (waits_for v) u t (sym e ∙ h), λ r. e ∙ found (length v.seats) (waits_for v) (out_waits v) u t r)
-
--- between threads with a seat a search over as many hops as there are seats does
-pub within-closes : (v : Owners) (u t : ℕ) (b : Bool) → u < length v.seats → t < length v.seats → ((b ≡ true) ↔ Reaches (WaitsFor v) u t)
-    → reaches_within (length v.seats) (waits_for v) u t ≡ b
-within-closes v u t b lu lt h =
-    same_from_decides {P = Reaches (WaitsFor v) u t} (reaches_within (length v.seats) (waits_for v) u t) b
-    (λ e. reaches-from_within (length v.seats) (waits_for v) u t e, λ r. found_below (length v.seats) (waits_for v) (out_waits v) u t lu lt r) h
 
 -- who reaches t by waiting has no greater base priority than t is to have
 pub greatest_base-above : (v : Owners) (u t : ℕ) → u < length v.seats → t < length v.seats → Reaches (WaitsFor v) u t → base_of v u ≤ greatest_base v t
@@ -91,6 +82,10 @@ greatest_base-nobody v s =
 -- no thread is to have less than its base priority
 pub greatest_base-least : (v : Owners) (t : ℕ) → t < length v.seats → base_of v t ≤ greatest_base v t
 greatest_base-least v t lt = effective_own (length v.seats) (waits_for v) (base_of v) t lt
+
+-- nor more than 99
+pub greatest_base-most : (v : Owners) (t : ℕ) → IsSound v → t < length v.seats → greatest_base v t ≤ 99
+greatest_base-most v t s lt = let best = greatest_base-attained v t lt in omega (arith, best.3, (s.seats best.0).base)
 
 -- what a thread is to have depends on base priorities and waits alone
 pub greatest_base-same : (old new : Owners) → length new.seats ≡ length old.seats → ((x : ℕ) → waits_for new x ≡ waits_for old x) → ((x : ℕ) → base_of new x ≡ base_of old x)

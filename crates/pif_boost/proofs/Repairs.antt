@@ -62,15 +62,15 @@ repaired-start v s =
     nobody_done = s.nobody ∙ sym ((λ i. boosted (greatest_base-nobody v s i) (s.nobody i)))
 
 -- one thread more
-pub repaired-more : (k t : ℕ) (old new now : Owners) → t ≡ k + 1 → t < length old.seats → IsRepairedTo k old new
-    → now ≡ with_seat t (boosted (greatest_base new t) (seat_at new t)) new → IsRepairedTo (k + 1) old now
-repaired-more k t old new now at row r e = subst (IsRepairedTo (k + 1) old) (sym e) made
+pub repaired-more : (k t p : ℕ) (old new now : Owners) → t ≡ k + 1 → t < length old.seats → p ≡ greatest_base old t → IsRepairedTo k old new
+    → now ≡ with_seat t (boosted p (seat_at new t)) new → IsRepairedTo (k + 1) old now
+repaired-more k t p old new now at row priority r e = subst (IsRepairedTo (k + 1) old) (sym e) made
   where
     x : Seat
-    x = boosted (greatest_base new t) (seat_at new t)
+    x = boosted p (seat_at new t)
 
     is : x ≡ boosted (greatest_base old t) (seat_at old t)
-    is = λ i. boosted (greatest-kept k old new r t i) (r.left t (omega arith) i)
+    is = λ i. boosted (priority i) (r.left t (omega arith) i)
 
     there : t < length new.seats
     there = omega (arith, r.threads)

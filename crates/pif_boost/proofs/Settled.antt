@@ -1,22 +1,24 @@
 -- After a walk nothing is left to repair, and a wait that comes or goes leaves that to one thread.
-use Rattle.std.proofs.Common.{◌≡◌, ◌≢◌, ◌⊎◌, ℕ, ◌<◌, ◌≤◌, ◌+◌, max, Bool, true, ◌==◌, List, length, Option, Some, None, refl, sym, ap, ◌∙◌, inl, inr, arith, length-set}
+use Rattle.std.proofs.Common.{◌≡◌, ◌≢◌, ◌⊎◌, ℕ, ◌<◌, ◌≤◌, ◌+◌, max, suc, Bool, true, false, ◌==◌, List, length, Option, Some, None, refl, sym, ap, ◌∙◌, inl, inr, arith, length-set}
 use Rattle.std.specs.Prelude.{option_map, option_and_then, unwrap_or}
 use Rattle.std.specs.List.{filter}
 use Rattle.std.specs.Option.{is_some}
 use Rattle.std.proofs.Math.Path.{fun_ext}
 use Rattle.std.proofs.lemmas.Bool.{cases_eq, cases_lt, ne_eqb, or_cases, and_parts}
+use Rattle.std.proofs.lemmas.Bool.Decides.{nat_tests}
 use Rattle.std.proofs.lemmas.List.{get_or_past}
 use Rattle.pif_nodes.specs.declared.keys.Key.{Key}
 use Rattle.pif_nodes.specs.Lists.{has}
 use Rattle.pif_nodes.specs.Table.{Table}
 use Rattle.pif_nodes.proofs.ListLemmas.{has-append}
+use Rattle.pif_plist.specs.Order.{comes_before}
 use Rattle.pif_model.specs.Graph.{greatest_where}
 use Rattle.pif_simulation.proofs.Greatest.{effective_step, greatest_where_same}
 use Rattle.pif_simulation.proofs.Effective.{kept_at}
 use Rattle.pif_runq.specs.Levels.{Queue, IsLevel, level_of, level_with, Holds, IsQueued}
-use Rattle.pif_rtmutex.specs.Owners.{Owners, Seat, Wait, no_seat, seat_at, owner_at, waits_for, rank_of, with_wait}
-use Rattle.pif_rtmutex.proofs.OwnersLemmas.{seat_at-with_seat, seat_at-with_seat_other}
-use Rattle.pif_boost.specs.Boosts.{IsThread, base_of, local_of, greatest_base, greatest_waiting, ranked, boosted, is_other, joins, releveled, threads_of, IsRepairedBut}
+use Rattle.pif_rtmutex.specs.Owners.{Owners, Seat, Wait, no_seat, seat_at, owner_at, waits_for, rank_of, with_wait, IsTop}
+use Rattle.pif_rtmutex.proofs.OwnersLemmas.{seat_at-with_seat, seat_at-with_seat_other, some_rank}
+use Rattle.pif_boost.specs.Boosts.{IsThread, base_of, local_of, greatest_base, greatest_waiting, ranked, boosted, is_other, joins, releveled, threads_of, IsRepairedBut, IsNext}
 use Rattle.pif_boost.proofs.Greatest.{out_waits}
 use Rattle.pif_boost.proofs.Levels.{has-filter}
 use Rattle.pif_boost.proofs.Repairs.{IsRepairedTo, greatest-kept}
@@ -54,6 +56,25 @@ settled k old new last r start =
     by_row t rank e (inr l) =
         let out : seat_at new t ≡ no_seat = get_or_past new.seats t no_seat (omega (arith, r.threads)) in
         let none : None ≡ Some rank = ap (λ (s : Seat). option_map (λ (w : Wait). w.rank) s.wait) (sym out) ∙ e in absurd cc
+
+-- so who stands first on a state is its next waiter
+pub top_is_next : (v : Owners) (k t : ℕ) → ((start : ℕ) → IsRepairedBut start v) → IsTop v k t → IsNext v k t
+top_is_next v k t repaired top =
+    record {
+      waits = top.waits;
+      greatest = λ u on. let r = some_rank (seat_at v u).wait k on in
+          let behind : comes_before r.0 top.rank ≡ false = top.first u r.0 on r.1 in
+          let mine : top.rank.prio ≡ local_of v t = local t top.rank top.ranked in
+          let other : r.0.prio ≡ local_of v u = local u r.0 r.1 in
+          grind (arith, nat_tests, behind, mine, other);
+      first = λ u mine other on same is was.
+          let rank : top.rank ≡ mine = ap (λ (o : Option Key). unwrap_or o top.rank) (sym top.ranked ∙ is) in
+          let behind : comes_before other mine ≡ false = ap (comes_before other) (sym rank) ∙ top.first u other on was in
+          grind (arith, nat_tests, behind, local t mine is, local u other was, same);
+    }
+  where
+    local : (u : ℕ) (rank : Key) → rank_of v u ≡ Some rank → rank.prio ≡ local_of v u
+    local u rank e = (repaired (suc u)).ranks u rank (λ same. absurd (omega arith)) e
 
 -- A WAIT THAT COMES OR GOES
 

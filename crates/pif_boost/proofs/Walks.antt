@@ -11,10 +11,10 @@ use Rattle.pif_runq.specs.Levels.{Queue, IsLevel, level_of, level_with, Holds, I
 use Rattle.pif_runq.proofs.LevelLemmas.{queued_on}
 use Rattle.pif_runq.proofs.LevelWithLemmas.{listed-from_level_with}
 use Rattle.pif_rtmutex.specs.Owners.{Owners, Seat, no_seat, seat_at, WaitsFor, with_seat, IsSound}
-use Rattle.pif_boost.specs.Boosts.{IsThread, base_of, local_of, greatest_base, boosted, IsRepaired, IsRepairedBut, releveled, threads_of, changed_count}
+use Rattle.pif_boost.specs.Boosts.{IsThread, base_of, local_of, greatest_base, boosted, IsRepaired, IsRepairedBut, moved_if_queued, releveled, threads_of, changed_count}
 use Rattle.pif_boost.proofs.Greatest.{greatest_base-least, greatest_base-IsEffective, idle}
 use Rattle.pif_boost.proofs.Levels.{leveled_to, leveled-start, leveled-more, leveled-all, next_level, stage-has, count_on, count_more, count_most, has-range}
-use Rattle.pif_boost.proofs.Repairs.{IsRepairedTo, repaired-start, repaired-more, repaired-all, greatest-kept}
+use Rattle.pif_boost.proofs.Repairs.{IsRepairedTo, repaired-start, repaired-more, repaired-all}
 
 -- the number of what was made of one
 pub numbered : (made : Option ℕ) (x n : ℕ) → made ≡ Some x → IfSome made (λ y. y ≡ n) → x ≡ n
@@ -88,56 +88,49 @@ was_queued k u v new q now t table e w queued = (
 )
 
 -- so it is to have a priority
-pub next_ready : (k u : ℕ) (v new : Owners) (q now : Queue) (t table : Table) → u ≡ k + 1 → u < length v.seats → IsWalkedTo k v q t new now table
-    → ((x : ℕ) → IsQueued q t x → 1 ≤ base_of v x) → IsQueued now table u → 1 ≤ greatest_base new u
-next_ready k u v new q now t table e row w ready queued =
+pub next_ready : (k u p : ℕ) (v new : Owners) (q now : Queue) (t table : Table) → u ≡ k + 1 → u < length v.seats → p ≡ greatest_base v u
+    → IsWalkedTo k v q t new now table → ((x : ℕ) → IsQueued q t x → 1 ≤ base_of v x) → IsQueued now table u → 1 ≤ p
+next_ready k u p v new q now t table e row priority w ready queued =
     let one : 1 ≤ base_of v u = ready u (was_queued k u v new q now t table e w queued) in
-    omega (arith, greatest_base-least v u row, greatest-kept k v new w.repaired u)
+    omega (arith, greatest_base-least v u row, priority)
 
 -- and where it is to have none, it stays as it is
-pub next_idle : (k u start : ℕ) (v new : Owners) (q now : Queue) (t table : Table) → u ≡ k + 1 → u < length v.seats → IsWalkedTo k v q t new now table
-    → IsSound v → IsRepairedBut start v → 1 ≤ base_of v start → greatest_base new u ≡ 0 → seat_at new u ≡ boosted 0 (seat_at new u)
-next_idle k u start v new q now t table e row w sound but admitted none =
+pub next_idle : (k u p start : ℕ) (v new : Owners) (q now : Queue) (t table : Table) → u ≡ k + 1 → u < length v.seats → p ≡ greatest_base v u
+    → IsWalkedTo k v q t new now table → IsSound v → IsRepairedBut start v → 1 ≤ base_of v start → p ≡ 0 → seat_at new u ≡ boosted 0 (seat_at new u)
+next_idle k u p start v new q now t table e row priority w sound but admitted none =
     let left : seat_at new u ≡ seat_at v u = w.repaired.left u (omega arith) in
     let th : IsThread v u = (omega arith, row) in
-    left ∙ idle v start sound but (admitted_row v start admitted) admitted u th (sym (greatest-kept k v new w.repaired u) ∙ none) ∙ sym (ap (boosted 0) left)
+    left ∙ idle v start sound but (admitted_row v start admitted) admitted u th (sym priority ∙ none) ∙ sym (ap (boosted 0) left)
 
 -- one thread more
-pub walked-more : (k u : ℕ) (v new after : Owners) (q now then_queue : Queue) (t table then_table : Table) → u ≡ k + 1 → u < length v.seats → Holds q t
-    → IsWalkedTo k v q t new now table
-    → after ≡ with_seat u (boosted (greatest_base new u) (seat_at new u)) new
-    → ((p : ℕ) → IsLevel p → level_of then_queue then_table p ≡ (if is_some (level_with now table u) then moved u (greatest_base new u) p (level_of now table p) else level_of now table p))
+pub walked-more : (k u p : ℕ) (v new after : Owners) (q now then_queue : Queue) (t table then_table : Table) → u ≡ k + 1 → u < length v.seats → p ≡ greatest_base v u
+    → Holds q t → IsWalkedTo k v q t new now table
+    → after ≡ with_seat u (boosted p (seat_at new u)) new
+    → ((x : ℕ) → IsLevel x → level_of then_queue then_table x ≡ moved_if_queued now table u p x)
     → SameOutside now table then_table → then_queue ≡ record now { mask = then_queue.mask } → Holds then_queue then_table
     → IsWalkedTo (k + 1) v q t after then_queue then_table
-walked-more k u v new after q now then_queue t table then_table e row old w owners levels outside place holds =
+walked-more k u p v new after q now then_queue t table then_table e row priority old w owners levels outside place holds =
     record {
-      repaired = repaired-more k u v new after e row w.repaired owners;
-      levels = λ p lp. levels p lp ∙ moved_from p lp ∙ leveled-more k u v q t p e old lp;
+      repaired = repaired-more k u p v new after e row priority w.repaired owners;
+      levels = λ x lx. levels x lx ∙ moved_from x lx ∙ leveled-more k u v q t x e old lx;
       outside = outside-both q now t table then_table w.place w.outside outside;
       place = place ∙ ap (λ (x : Queue). record x { mask = then_queue.mask }) w.place;
       holds = holds;
     }
   where
-    moved_from : (p : ℕ) → IsLevel p → (if is_some (level_with now table u) then moved u (greatest_base new u) p (level_of now table p) else level_of now table p)
-        ≡ (if is_some (level_with q t u) then moved u (greatest_base v u) p (leveled_to k v q t p) else leveled_to k v q t p)
-    moved_from p lp =
+    moved_from : (x : ℕ) → IsLevel x → moved_if_queued now table u p x
+        ≡ (if is_some (level_with q t u) then moved u (greatest_base v u) x (leveled_to k v q t x) else leveled_to k v q t x)
+    moved_from x lx =
         let level : level_with now table u ≡ level_with q t u = next_level k u v q now t table e old w.holds w.levels in
-        let priority : greatest_base new u ≡ greatest_base v u = greatest-kept k v new w.repaired u in
-        let at : level_of now table p ≡ leveled_to k v q t p = w.levels p lp in
-        λ i. if is_some (level i) then moved u (priority i) p (at i) else at i
-
--- whether the next thread is to have another priority was not changed by the walk so far
-pub next_differs : (k u : ℕ) (v new : Owners) → u ≡ k + 1 → IsRepairedTo k v new → differs new u ≡ differs v u
-next_differs k u v new e r =
-    let left : seat_at new u ≡ seat_at v u = r.left u (omega arith) in
-    let priority : greatest_base new u ≡ greatest_base v u = greatest-kept k v new r u in
-    λ i. not (priority i == (left i).local)
+        let at : level_of now table x ≡ leveled_to k v q t x = w.levels x lx in
+        λ i. if is_some (level i) then moved u (priority i) x (at i) else at i
 
 -- one thread more, that had another priority
-pub changed-more : (k u : ℕ) (v new : Owners) (changed : ℕ) (b : Bool) → u ≡ k + 1 → IsRepairedTo k v new → changed ≡ changed_to k v → b ≡ differs new u
-    → changed + cond b 1 0 ≡ changed_to (k + 1) v
-changed-more k u v new changed b e r is differ =
-    let same : b ≡ differs v u = differ ∙ next_differs k u v new e r in
+pub changed-more : (k u p : ℕ) (v new : Owners) (changed : ℕ) (b : Bool) → u ≡ k + 1 → p ≡ greatest_base v u → IsRepairedTo k v new → changed ≡ changed_to k v
+    → b ≡ not (p == local_of new u) → changed + cond b 1 0 ≡ changed_to (k + 1) v
+changed-more k u p v new changed b e priority r is differ =
+    let left : seat_at new u ≡ seat_at v u = r.left u (omega arith) in
+    let same : b ≡ differs v u = differ ∙ (λ i. not (priority i == (left i).local)) in
     (λ i. is i + cond (same i) 1 0) ∙ sym (count_more (differs v) k u e)
 
 -- AT THE END

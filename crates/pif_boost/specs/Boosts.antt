@@ -5,8 +5,8 @@ use Rattle.std.specs.List.{filter, count_by, range_with_len}
 use Rattle.pif_nodes.specs.declared.keys.Key.{Key}
 use Rattle.pif_nodes.specs.Table.{Table}
 use Rattle.pif_runq.specs.Levels.{Queue, level_of, level_with, moved}
-use Rattle.pif_model.specs.Graph.{effective_among, greatest_where}
-use Rattle.pif_rtmutex.specs.Owners.{Owners, Seat, Wait, seat_at, rank_of, waits_for}
+use Rattle.pif_model.specs.Graph.{reaches_within, effective_among, greatest_where}
+use Rattle.pif_rtmutex.specs.Owners.{Owners, Seat, Wait, seat_at, waits_on, rank_of, waits_for}
 
 -- t is a thread that has a seat
 abbrev pub IsThread : Owners → ℕ → Type 0
@@ -28,6 +28,12 @@ local_of v t = (seat_at v t).local
 -- any chain
 abbrev pub greatest_base : Owners → ℕ → ℕ
 greatest_base v t = effective_among (length v.seats) (waits_for v) (base_of v) t
+
+-- what stands by thread u once a priority was handed to `t` and to each that is reached from it over so many hops, where
+-- this stood by each thread before
+abbrev pub handed : ℕ → (ℕ → ℕ) → ℕ → ℕ → (ℕ → ℕ) → ℕ → ℕ
+handed hops waits_for priority t before u =
+    if reaches_within hops waits_for t u then max priority (before u) else before u
 
 -- what a thread waits for, where it stands with this priority and the ticket that it has
 abbrev pub ranked : ℕ → Wait → Wait
@@ -72,6 +78,14 @@ joins v q t p u = (greatest_base v u == p) && is_other p (level_with q t u)
 -- priority changes joins the end of its new level.)
 abbrev pub releveled : Owners → Queue → Table → ℕ → List ℕ
 releveled v q t p = filter (λ u. greatest_base v u == p) (level_of q t p) ++ filter (joins v q t p) (threads_of v)
+
+-- t is the next waiter of a state: it waits there, none that waits there has a greater effective priority, and none of
+-- the same has a lower ticket
+pub record IsNext (v : Owners) (k t : ℕ) : Type 0 where
+  pub waits : waits_on v t ≡ Some k
+  pub greatest : (u : ℕ) → waits_on v u ≡ Some k → local_of v u ≤ local_of v t
+  pub first : (u : ℕ) (mine other : Key) → waits_on v u ≡ Some k → local_of v u ≡ local_of v t
+      → rank_of v t ≡ Some mine → rank_of v u ≡ Some other → mine.ticket ≤ other.ticket
 
 -- for how many threads of `old` the effective priority is another one in `new`
 abbrev pub changed_count : Owners → Owners → ℕ

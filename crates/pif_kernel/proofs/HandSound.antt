@@ -35,7 +35,8 @@ use Rattle.pif_kernel.proofs.Picked.{levels_seen, levels_joined}
 use Rattle.pif_kernel.proofs.Standing.{effective_some, effective_few, unqueued_free}
 use Rattle.pif_kernel.proofs.ChainLaws.{repaired_but}
 use Rattle.pif_kernel.proofs.QueueLaws.{rise_once}
-use Rattle.pif_kernel.proofs.TopLaws.{waits_under, some_rank, priority_below}
+use Rattle.pif_kernel.proofs.TopLaws.{waits_under, priority_below}
+use Rattle.pif_rtmutex.proofs.OwnersLemmas.{some_rank}
 use Rattle.pif_kernel.proofs.WalkSound.{IsPlaced, IsWalkable, owners_effective, seats_of-same_base}
 
 -- THE WAITERS WITHOUT ONE OF THEM

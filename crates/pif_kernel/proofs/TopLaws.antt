@@ -8,7 +8,8 @@ use Rattle.pif_model.specs.declared.lines.Status.TheVariants.{Ready, Queued, Sto
 use Rattle.pif_model.specs.Graph.{next_waiter, IsNextWaiter}
 use Rattle.pif_model.specs.Table.{queued_on}
 use Rattle.pif_model.specs.PiKernel.{effective_in, next_in}
-use Rattle.pif_rtmutex.specs.Owners.{Wait, seat_at, waits_on, rank_of, IsTop}
+use Rattle.pif_rtmutex.specs.Owners.{seat_at, waits_on, rank_of, IsTop}
+use Rattle.pif_rtmutex.proofs.OwnersLemmas.{some_rank}
 use Rattle.pif_simulation.proofs.Among.{is_among_cons, is_among_here, is_among_there}
 use Rattle.pif_simulation.proofs.Among.{is_among as is_waiter}
 use Rattle.pif_simulation.proofs.Next.{next_is_next}
@@ -38,11 +39,6 @@ waiter_split (w ∷ xs) ys u m e = by_place (is_among_cons w (xs ++ ys) u m e) (
 waiter_middle : (xs ys : List (ℕ × ℕ)) (x m : ℕ) → is_waiter (xs ++ (x, m) ∷ ys) x m ≡ true
 waiter_middle [] ys x m = is_among_here (x, m) ys x m refl refl
 waiter_middle (w ∷ xs) ys x m = is_among_there w (xs ++ (x, m) ∷ ys) x m (waiter_middle xs ys x m)
-
--- who waits has a priority and a ticket
-pub some_rank : (o : Option Wait) (k : ℕ) → option_map (λ (w : Wait). w.state) o ≡ Some k → (r : Key) × (option_map (λ (w : Wait). w.rank) o ≡ Some r)
-some_rank None k e = cc
-some_rank (Some w) k e = (w.rank, refl)
 
 -- who waits under the key of m is queued on m
 pub waits_under : (p : Plain) → IsSound p → (u m key : ℕ) → key_at p m ≡ Some key → waits_on p.owners u ≡ Some key → is_waiter p.arrivals u m ≡ true

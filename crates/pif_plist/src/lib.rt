@@ -5,6 +5,7 @@
 mod order;
 mod plist;
 
+pub use order::precedes;
 pub use plist::PList;
 
 #[cfg(test)]

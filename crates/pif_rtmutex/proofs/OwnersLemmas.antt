@@ -4,6 +4,7 @@ use Rattle.std.proofs.lemmas.Bool.{false≢true, cases_eq, cases_lt}
 use Rattle.std.proofs.lemmas.List.{get_or-set_same, get_or-set_other, get_or-replicate, get_or_past, set_past, length-set, length-replicate}
 use Rattle.std.specs.Ordering.{nat_cmp}
 use Rattle.std.specs.FinMap.{FinMap, empty, get, insert, remove, len-empty}
+use Rattle.pif_nodes.specs.declared.keys.Key.{Key}
 use Rattle.pif_model.specs.Graph.{Reaches}
 use Rattle.pif_rtmutex.specs.Owners.{Wait, Seat, Owners, no_seat, no_owners, seat_at, owner_at, count, state_of, waits_on, waits_for, WaitsFor, IsAcyclic, HasNoWaiter, with_seat, with_wait, with_owner, without_state, IsSeat, IsSound}
 use Rattle.pif_simulation.proofs.Cycles.{NoCycle-fewer, NoCycle-hop, NoCycle-still, reaches-alone}
@@ -295,3 +296,8 @@ sound-no_owners threads l =
           (record { base = omega arith; local = omega arith; least = λ w h. no_wait w h; most = λ w h. no_wait w h; state = λ w h. no_wait w h });
       acyclic = λ t u h r. h.1 (sym h.0 ∙ ap (λ (x : Seat). waits_by empty x.wait) (seat_at-no_owners threads t));
     }
+
+-- who waits has a priority and a ticket
+pub some_rank : (o : Option Wait) (k : ℕ) → option_map (λ (w : Wait). w.state) o ≡ Some k → (r : Key) × (option_map (λ (w : Wait). w.rank) o ≡ Some r)
+some_rank None k e = cc
+some_rank (Some w) k e = (w.rank, refl)

@@ -1,15 +1,8 @@
 ghost use Rattle.std.specs.Prelude.{◌≡◌};
-ghost use Rattle.pif_plist.specs.Order.{comes_before};
 ghost use Rattle.pif_rtmutex.specs.Standing.{leads};
 
 use pif_nodes::Key as Rank;
-
-/// Whether a rank comes before another: its priority is higher, or equal and its ticket lower.
-fn precedes(one: Rank, other: Rank) -> bool
-    ensures { result ≡ comes_before one other }
-{
-    one.prio > other.prio || one.prio == other.prio && one.ticket < other.ticket
-}
+use pif_plist::precedes;
 
 /// Whether `one` stands before `other` among the waiters of a state. Who doesn't stand there is `None`, and leads nobody.
 pub fn leads(one: Option<Rank>, other: Option<Rank>) -> bool

@@ -118,7 +118,7 @@ impl RtMutexes {
         Key::new(self.owners.insert_reserved(owner))
     }
 
-    /// The owner of a state.
+    /// The owner of a state, which has to be there.
     pub fn owner(&self, key: Key) -> Tid
         requires { IsSome (owner_at self.now key) }
         ensures value { owner_at self.now key ≡ Some result }
@@ -218,8 +218,8 @@ impl RtMutexes {
         }
     }
 
-    /// Hands a state to its top waiter, which waits no longer; the others wait for it now. Answers who that is. All other
-    /// threads and states stay as they were.
+    /// Hands a state on which somebody is queued to its top waiter, which waits no longer; the others wait for it now.
+    /// Answers who that is. All other threads and states stay as they were.
     pub fn hand_over(&mut self, key: Key) -> Tid
         requires waiter { (t : ℕ) × (waits_on self.old t ≡ Some key) }
         ensures top { IsTop self.old key result }

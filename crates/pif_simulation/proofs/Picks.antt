@@ -2,7 +2,6 @@
 use Rattle.std.proofs.Common.{◌≡◌, ◌≢◌, ◌⊎◌, ◌≤◌, ℕ, zero, suc, Bool, true, false, ◌||◌, ◌==◌, nat_lt, List, [], ◌∷◌, length, refl, sym, ap, ◌∙◌, subst, inl, inr, arith, if◌then◌else◌, eq-eqb}
 use Rattle.std.proofs.lemmas.Bool.{true≢false, cases_eq}
 use Rattle.std.proofs.lemmas.Bool.Decides.{nat_tests}
-use Rattle.std.proofs.lemmas.List.{length-map}
 use Rattle.pif_model.specs.Graph.{has_waiter}
 use Rattle.pif_simulation.proofs.Effective.{effective_seen}
 use Rattle.pif_simulation.proofs.Waiting.{by_test, names, pairs, named-from_pair}
@@ -14,8 +13,9 @@ use Rattle.pif_model.specs.Posix.Health.{Fine, Inconsistent}
 use Rattle.pif_model.specs.Table.{Table, no_cell, row_at, cell_at, has_thread, has_mutex, is_ready, kernel_effective}
 use Rattle.pif_model.specs.PiKernel.{is_among, first_from}
 use Rattle.pif_model.specs.Kernel.{at_level, kernel_pick}
-use Rattle.pif_model.specs.Standing.{Shadow, IsSound, CellIsSound, IsPick, IsPossible, world_of, thread_of, mutex_of, health_of}
+use Rattle.pif_model.specs.Standing.{Shadow, IsSound, CellIsSound, IsPick, IsPossible, world_of, mutex_of, health_of}
 use Rattle.pif_simulation.proofs.Places.{mapped_at}
+use Rattle.pif_simulation.proofs.Projection.{is_thread_seen}
 use Rattle.pif_simulation.proofs.Hole.{each_thread}
 
 -- THE FIRST OF THE GREATEST LEVEL
@@ -57,10 +57,6 @@ pub rests_seen : (s : Table) (shadow : Shadow) → IsSound s → (t : ℕ) → h
 rests_seen s shadow h t k = by_test (λ b. is_ready (row_at s t).status ≡ b → rests (world_of s shadow) t ≡ (if b then false else true)) (is_ready (row_at s t).status)
     (λ e x. rests_ready s shadow t h k e) (λ e x. rests_not_ready s shadow t h k e) refl
 
--- a thread was added to both machines
-known_seen : (s : Table) (shadow : Shadow) (t : ℕ) → is_thread (world_of s shadow) t ≡ has_thread s t
-known_seen s shadow t = ap (λ (n : ℕ). if t == 0 then false else nat_lt t n) (length-map s.rows thread_of)
-
 -- a status that doesn't rest is ready
 not_resting : (b : Bool) → (if b then false else true) ≡ false → b ≡ true
 not_resting b h = grind arith
@@ -70,7 +66,7 @@ pub pick_is : (s : Table) (shadow : Shadow) → IsSound s → IsPick (world_of s
 pick_is s shadow h =
     record {
       runs = λ n. runs (picked n);
-      greatest = λ t k awake. greatest t (sym (known_seen s shadow t) ∙ k) awake;
+      greatest = λ t k awake. greatest t (sym (is_thread_seen s shadow t) ∙ k) awake;
     }
   where
     same : (t : ℕ) → kernel_effective s t ≡ effective_of (world_of s shadow) t
@@ -82,7 +78,7 @@ pick_is s shadow h =
     runs : names (kernel_pick s) s.ready ≡ true → (is_thread (world_of s shadow) (kernel_pick s) ≡ true) × (rests (world_of s shadow) (kernel_pick s) ≡ false)
     runs e =
         let p = both (has_thread s (kernel_pick s)) (is_ready (row_at s (kernel_pick s)).status) (sym (each_thread h (kernel_pick s)).ready ∙ e) in
-        (known_seen s shadow (kernel_pick s) ∙ p.0, rests_seen s shadow h (kernel_pick s) p.0 ∙ ap (λ (b : Bool). if b then false else true) p.1)
+        (is_thread_seen s shadow (kernel_pick s) ∙ p.0, rests_seen s shadow h (kernel_pick s) p.0 ∙ ap (λ (b : Bool). if b then false else true) p.1)
 
     first : IsFirst (at_level s.ready) 99 (kernel_pick s)
     first = first_is (at_level s.ready) 99

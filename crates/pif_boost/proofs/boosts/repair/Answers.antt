@@ -1,7 +1,6 @@
 use Rattle.std.proofs.Common.{◌≡◌, ◌⊎◌, ℕ, inl, inr, ◌<◌, ◌≤◌, sym, ap, if◌then◌else◌, arith}
 use Rattle.std.proofs.lemmas.Bool.{false≢true, cases_lt}
 use Rattle.pif_runq.specs.Levels.{level_of, moved}
-use Rattle.pif_boost.specs.Boosts.{greatest_base}
 use Rattle.pif_boost.proofs.Walks.{not_queued}
 use Rattle.pif_boost.proofs.boosts.repair.Goals as goal
 
@@ -15,6 +14,6 @@ below_one x n e h = let l : x < 1 = by_place (cases_lt x 1) in omega arith
 
 pub returns-in-None-clause-levels : goal.returns-in-None-clause-levels
 returns-in-None-clause-levels c = λ p lp.
-    let none : greatest_base c.args.owners.now c.args.t ≡ 0 = below_one c.greatest.result (greatest_base c.args.owners.now c.args.t) c.greatest.ensures.value (λ l. false≢true (c.in-None.ensures.valid.1 (l, c.greatest.ensures.most))) in
-    sym (ap (λ b. if b then moved c.args.t (greatest_base c.args.owners.now c.args.t) p (level_of c.args.queue.now c.args.table.now p) else level_of c.args.queue.now c.args.table.now p)
-    (not_queued c.args.queue.now c.args.table.now c.args.t (greatest_base c.args.owners.now c.args.t) c.requires.holds c.requires.ready none))
+    let none : c.args.priority ≡ 0 = below_one c.from.result c.args.priority c.from.ensures (λ l. false≢true (c.in-None.ensures.valid.1 (l, omega (arith, c.from.ensures, c.requires.most)))) in
+    sym (ap (λ b. if b then moved c.args.t c.args.priority p (level_of c.args.queue.now c.args.table.now p) else level_of c.args.queue.now c.args.table.now p)
+    (not_queued c.args.queue.now c.args.table.now c.args.t c.args.priority c.requires.holds c.requires.ready none))
