@@ -1,11 +1,12 @@
 -- What a core that stands shows, and that it stands after each call.
 use Rattle.std.proofs.Common.{◌≡◌, ℕ, ◌≤◌, ◌==◌, Bool, true, false, List, ◌∷◌, length, Option, Some, None, IfSome, unwrap_or, refl, sym, ap, ◌∙◌, subst, eqb-true, if◌then◌else◌}
+use Rattle.std.specs.Option.{is_some}
 use Rattle.pif_types.specs.declared.requests.Kind.{Kind}
 use Rattle.pif_model.specs.declared.events.Event.{Event}
 use Rattle.pif_model.specs.declared.events.Seen.{Seen}
 use Rattle.pif_model.specs.declared.events.Entry.{Entry}
 use Rattle.pif_model.specs.declared.events.Entry.TheVariants.{Thread as AddThread, Mutex as AddMutex, Step as Happened}
-use Rattle.pif_model.specs.Posix.{World, IsLegal}
+use Rattle.pif_model.specs.Posix.{World, IsLegal, is_thread, is_mutex}
 use Rattle.pif_model.specs.History.{AlwaysOneHolder}
 use Rattle.pif_model.specs.Table.{Table, cell_at, has_thread, has_mutex, mutex_added, kernel_effective}
 use Rattle.pif_model.specs.Kernel.{thread_added, kernel_pick}
@@ -15,6 +16,7 @@ use Rattle.pif_model.specs.Lines.{stepped}
 use Rattle.pif_model.specs.Standing.{Stands, world_of, HasEffective, IsPick, IsPossible}
 use Rattle.pif_simulation.proofs.StandingLaws.{stepped_stands, thread_added_stands, mutex_added_stands}
 use Rattle.pif_simulation.proofs.Holders.{one_holder}
+use Rattle.pif_simulation.proofs.Projection.{is_thread_seen, is_mutex_seen}
 use Rattle.pif_simulation.proofs.Effective.{effective_seen}
 use Rattle.pif_simulation.proofs.Picks.{pick_is, word_is_possible}
 use Rattle.pif_simulation.proofs.Priority.{effective_is_greatest}
@@ -76,6 +78,21 @@ effective_answered s t o h r w st e = subst (λ (x : Option ℕ). IfSome x (λ p
     by_test : (b : Bool) → has_thread s t ≡ b → IfSome (if b then Some (kernel_effective s t) else None) (λ p. HasEffective w t p)
     by_test true known = effective_stands s t (kernel_effective s t) h r w st known refl
     by_test false known = tt
+
+-- an answer that is there by a test
+there_by : (b : Bool) (x : ℕ) → is_some (if b then Some x else None) ≡ b
+there_by true x = refl
+there_by false x = refl
+
+-- the reader of effective priorities answers for the threads that were added
+pub effective_is_some : (s : Table) (t : ℕ) (o : Option ℕ) (h : List Entry) (r : List World) (w : World) → Stands s h r w → o ≡ effective_answer t s → is_some o ≡ is_thread w t
+effective_is_some s t o h r w st e =
+    ap is_some e ∙ there_by (has_thread s t) (kernel_effective s t) ∙ sym (ap (λ (u : World). is_thread u t) st.shows ∙ is_thread_seen s st.shadow t)
+
+-- the reader of words answers for the mutexes that were added
+pub word_is_some : (s : Table) (m : ℕ) (o : Option ℕ) (h : List Entry) (r : List World) (w : World) → Stands s h r w → o ≡ word_answer m s → is_some o ≡ is_mutex w m
+word_is_some s m o h r w st e =
+    ap is_some e ∙ there_by (has_mutex s m) (bits_of (cell_at s m).word) ∙ sym (ap (λ (u : World). is_mutex u m) st.shows ∙ is_mutex_seen s st.shadow m)
 
 -- the answer of the reader of the pick
 pub pick_answered : (s : Table) (o : Option ℕ) (h : List Entry) (r : List World) (w : World) → Stands s h r w → o ≡ pick_answer s → IsPick w (unwrap_or o 0)

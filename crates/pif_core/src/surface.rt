@@ -1,7 +1,7 @@
-ghost use Rattle.std.specs.Prelude.{ℕ, ◌≡◌, ◌+◌, length, true, false, List, [], ◌∷◌, IfOk, IfSome, unwrap_or};
+ghost use Rattle.std.specs.Prelude.{ℕ, ◌≡◌, ◌+◌, length, true, false, List, [], ◌∷◌, IfOk, IfSome, is_some, unwrap_or};
 ghost use Rattle.pif_model.specs.declared.events.Entry.{Entry};
 ghost use Rattle.pif_model.specs.Word.{word_of};
-ghost use Rattle.pif_model.specs.Posix.{World, IsLegal};
+ghost use Rattle.pif_model.specs.Posix.{World, IsLegal, is_thread, is_mutex};
 ghost use Rattle.pif_model.specs.History.{AlwaysOneHolder};
 ghost use Rattle.pif_model.specs.Standing.{Stands, HasEffective, IsPick, IsPossible};
 ghost use Rattle.pif_model.specs.Table.{new_table, row_at, has_thread, has_mutex};
@@ -78,10 +78,10 @@ impl Core {
         }
     }
 
-    /// One event: what it is answered. It is refused, and nothing changes, with `NoSuch` where the thread or the mutex of
-    /// a call was never added, with `Busy` where a thread with a call open begins one, and with `Idle` where a thread
-    /// goes on that has none. A call that is open closes or waits within 24 steps of its thread, where no other event comes
-    /// between.
+    /// One event: what it is answered. It is refused, and nothing changes, by the first of these that holds: `NoSuch` where
+    /// the thread was never added, `Busy` where a thread with a call open begins one, `Idle` where a thread goes on that has
+    /// none, and `NoSuch` where the mutex of a call was never added. A call that is open closes or waits within 24 steps of
+    /// its thread, where no other event comes between.
     pub fn step(&mut self, event: Event) -> Seen
         ensures seen { result ≡ (stepped event self.old).seen }
         ensures after { self.new ≡ (stepped event self.old).after }
@@ -100,6 +100,7 @@ impl Core {
     /// chain. `None` where it was never added.
     pub fn effective(&self, thread: Tid) -> Option<Prio>
         ensures value { result ≡ effective_answer thread self.now }
+        ensures added { (h : List Entry) (r : List World) (w : World) → Stands self.now h r w → is_some result ≡ is_thread w thread }
         ensures priority { (h : List Entry) (r : List World) (w : World) → Stands self.now h r w
             → IfSome result (λ p. HasEffective w thread p) }
     {
@@ -109,6 +110,7 @@ impl Core {
     /// The 32 bits of the word of a mutex. `None` where it was never added.
     pub fn word(&self, mutex: MutexId) -> Option<u32>
         ensures value { result ≡ word_answer mutex self.now }
+        ensures added { (h : List Entry) (r : List World) (w : World) → Stands self.now h r w → is_some result ≡ is_mutex w mutex }
         ensures possible { (h : List Entry) (r : List World) (w : World) → Stands self.now h r w
             → IfSome result (λ bits. IsPossible w mutex (word_of bits)) }
     {

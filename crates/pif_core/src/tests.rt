@@ -17,7 +17,7 @@ fn run(core: &mut Core, thread: Tid, request: Request, steps: u32) -> Seen {
 }
 
 #[test]
-fn uncontended_lock_makes_no_kernel_call(rt: HostRuntime) -> Result<(), Fail> {
+fn holder_is_boosted_until_it_unlocks(rt: HostRuntime) -> Result<(), Fail> {
     let mut core = Core::new(rt.alloc(), limits()?)?;
     let low = core.add_thread(10)?;
     let high = core.add_thread(50)?;

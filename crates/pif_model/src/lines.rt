@@ -43,9 +43,9 @@ pub enum Line {
 /// Why a thread is ready to run.
 #[derive(Clone, Copy, Debug, PartialEq, Eq, Hash)]
 pub enum Woken {
-    /// It has not waited since its last kernel call.
+    /// It has never been queued.
     Fresh,
-    /// It was handed the mutex for which it waited.
+    /// It was queued, and was handed the mutex for which it waited.
     Owns,
 }
 

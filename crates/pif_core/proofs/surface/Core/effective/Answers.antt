@@ -1,8 +1,12 @@
--- The effective priority is that of the subject.
+-- Threads that were added have an effective priority, that of the subject.
 use Rattle.std.proofs.Common.{◌∙◌, ap}
 use Rattle.pif_model.specs.Calls.{effective_answer}
-use Rattle.pif_core.proofs.StandsAfter.{effective_answered}
+use Rattle.pif_core.proofs.StandsAfter.{effective_answered, effective_is_some}
 use Rattle.pif_core.proofs.surface.Core.effective.Goals as goal
+
+pub returns-clause-added : goal.returns-clause-added
+returns-clause-added c = λ h r w st.
+    effective_is_some c.args.self.now c.args.thread c.effective.result h r w st (c.effective.ensures ∙ ap (effective_answer c.args.thread) c.self.view_is)
 
 pub returns-clause-priority : goal.returns-clause-priority
 returns-clause-priority c = λ h r w st.
