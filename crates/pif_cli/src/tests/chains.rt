@@ -42,8 +42,8 @@ fn setprio_is_refused_in_order(rt: HostRuntime) {
 #[test]
 fn low_is_picked_while_high_waits(rt: HostRuntime) {
     let script =
-        "thread 10\nthread 20\nthread 30\nmutex normal\ncall t1 lock m1\npick\ncall t3 lock m1\nprio t1\npick\n\
+        "thread 10\nmutex normal\ncall t1 lock m1\nthread 20\npick\nthread 30\ncall t3 lock m1\nprio t1\npick\n\
         call t1 unlock m1\nprio t1\npick\nfinish t3\n";
-    let answers = "t1\nt2\nt3\nm1\nanswer 0\nt3\nwaits\n30\nt1\nanswer 0\n10\nt3\nanswer 0\n";
+    let answers = "t1\nm1\nanswer 0\nt2\nt2\nt3\nwaits\n30\nt1\nanswer 0\n10\nt3\nanswer 0\n";
     check(&rt, rt.alloc(), script, 0, answers);
 }
