@@ -10,7 +10,7 @@ use pif_types::Tid;
 pub const SEATS: usize = 1025;
 
 /// Whether a wait of the thread `t` for the thread `owner` would close a cycle: whether `owner` is `t`, or waits for it
-/// through any chain. An owner without a row waits for nobody.
+/// through any chain (futex(2), EDEADLK). An owner without a row waits for nobody.
 pub fn would_close(owners: &RtMutexes, t: Tid, owner: Tid) -> bool
     ensures { IsTrue result ↔ Reaches (WaitsFor owners.now) owner t }
 {

@@ -13,8 +13,8 @@ use slab::Slab;
 use std::alloc::Global;
 use std::marker::Model;
 
-/// Owner states with their waiters, and a row for each thread. A thread without a row reads as one that was not
-/// admitted: its priorities are 0, and it waits for nothing.
+/// Owner states with their waiters, and a row for each thread (the RT-mutex design of Linux). A thread without a row reads
+/// as one that was not admitted: its priorities are 0, and it waits for nothing.
 #[derive(Drop)]
 pub struct RtMutexes {
     rows: Vec<Row>,

@@ -11,7 +11,7 @@ use pif_types::{Prio, Tid};
 use std::marker::Model;
 
 /// A run queue in a table of nodes: each level is a list of the table, and each thread that is ready is a node of the
-/// list of its level. A level is a priority, 1 to 99.
+/// list of its level (sched(7), SCHED_FIFO). A level is a priority, 1 to 99.
 #[derive(Drop)]
 pub struct RunQueue {
     first_list: u32,
