@@ -1,15 +1,15 @@
-ghost use Rattle.std.specs.Prelude.{◌≡◌, ◌≤◌, ◌+◌, ◌==◌, true, length, if◌then◌else◌, Some, None};
-ghost use Rattle.pif_model.specs.Table.{is_ready};
-ghost use Rattle.pif_model.specs.PiKernel.{Kernel, IsKernel, IsOwned, seat_at, has_seat, seated, effective_in, pick_in, lock_answer, lock_words, lock_kernel, try_lock_answer, try_lock_words, unlock_answer, unlock_words, unlock_kernel, set_prio_answer, set_prio_kernel, stopped_in};
-ghost use Rattle.pif_kernel.specs.Answers.{closed, words_of};
+ghost use Rattle.std.specs.Prelude.{◌≡◌, ◌≤◌, ◌==◌, true, length, if◌then◌else◌, Some, None};
+ghost use Rattle.pif_model.specs.PiKernel.{Kernel, IsKernel, seat_at, has_seat, is_living, is_ready, effective_in, pick_in, kernel_after_add, lock_answer, words_after_lock, kernel_after_lock, try_lock_answer, words_after_try_lock, unlock_answer, words_after_unlock, kernel_after_unlock, set_prio_answer, kernel_after_set_prio, kernel_after_stop};
+ghost use Rattle.pif_word.specs.WordMap.{words_of};
+ghost use Rattle.pif_kernel.specs.Answers.{unit_answer};
 
 use pif_model::{Status, Took};
 use pif_types::{Errno, MutexId, Prio, Tid};
 use pif_word::Words;
 
 /// A kernel: threads with priorities, the owner states of mutexes with their waiters, and the run queue of sched(7),
-/// SCHED_FIFO. A call on words asks that each word with an owner state has that owner's number, and that the words are
-/// those of no more mutexes than the kernel's limits allow; it leaves both so. A refused call changes nothing.
+/// SCHED_FIFO. A call on words takes any words whatever, and leaves all but the one that it names as they were. A refused
+/// call changes nothing.
 pub trait PiKernel {
     /// The state that a kernel stands for.
     ghost meaning: { Self → Kernel };
@@ -19,7 +19,7 @@ pub trait PiKernel {
     fn add(&mut self, prio: Prio) -> Tid
         requires room { length (meaning self.old).seats ≤ (meaning self.old).limits.threads }
         ensures number { result ≡ length (meaning self.old).seats }
-        ensures after { meaning self.new ≡ seated prio (meaning self.old) }
+        ensures after { meaning self.new ≡ kernel_after_add prio (meaning self.old) }
         ensures kept { IsKernel (meaning self.new) };
 
     /// What the kernel knows of the thread `t`, which was added: ready, queued on a mutex, or stopped for good.
@@ -30,7 +30,7 @@ pub trait PiKernel {
     /// The effective priority of the thread `t`: the greatest base priority of it and of all that wait for it through any
     /// chain. `None` where no living thread has that number.
     fn effective(&self, t: Tid) -> Option<Prio>
-        ensures value { result ≡ (if (seat_at (meaning self.now) t).living then Some (effective_in (meaning self.now) t) else None) };
+        ensures value { result ≡ (if is_living (meaning self.now) t then Some (effective_in (meaning self.now) t) else None) };
 
     /// The thread that runs next: the first that joined the greatest level (sched(7), SCHED_FIFO). `None` where none is
     /// ready.
@@ -47,12 +47,9 @@ pub trait PiKernel {
     fn lock_pi(&mut self, words: &mut Words, t: Tid, m: MutexId) -> Result<Took, Errno>
         requires added { has_seat (meaning self.old) t ≡ true }
         requires ready { is_ready (seat_at (meaning self.old) t).status ≡ true }
-        requires words { length words.old.mutexes ≤ (meaning self.old).limits.mutexes + 1 }
-        requires owned { IsOwned (words_of words.old) (meaning self.old) }
         ensures answer { result ≡ lock_answer t m (words_of words.old) (meaning self.old) }
-        ensures words { words_of words.new ≡ lock_words t m result (words_of words.old) }
-        ensures after { meaning self.new ≡ lock_kernel t m result (words_of words.old) (meaning self.old) }
-        ensures owned { IsOwned (words_of words.new) (meaning self.new) }
+        ensures words { words_of words.new ≡ words_after_lock t m result (words_of words.old) }
+        ensures after { meaning self.new ≡ kernel_after_lock t m result (words_of words.old) (meaning self.old) }
         ensures kept { IsKernel (meaning self.new) };
 
     /// The kernel call trylock_pi, FUTEX_TRYLOCK_PI of futex(2), by the ready thread `t`. It takes a mutex that has no
@@ -63,11 +60,8 @@ pub trait PiKernel {
     fn trylock_pi(&self, words: &mut Words, t: Tid, m: MutexId) -> Result<(), Errno>
         requires added { has_seat (meaning self.now) t ≡ true }
         requires ready { is_ready (seat_at (meaning self.now) t).status ≡ true }
-        requires words { length words.old.mutexes ≤ (meaning self.now).limits.mutexes + 1 }
-        requires owned { IsOwned (words_of words.old) (meaning self.now) }
-        ensures answer { closed result ≡ try_lock_answer t m (words_of words.old) (meaning self.now) }
-        ensures words { words_of words.new ≡ try_lock_words t m (closed result) (words_of words.old) }
-        ensures owned { IsOwned (words_of words.new) (meaning self.now) };
+        ensures answer { unit_answer result ≡ try_lock_answer t m (words_of words.old) (meaning self.now) }
+        ensures words { words_of words.new ≡ words_after_try_lock t m (unit_answer result) (words_of words.old) }
 
     /// The kernel call unlock_pi, FUTEX_UNLOCK_PI of futex(2), by the ready thread `t`. It frees a mutex on which nobody is
     /// queued: the word is 0. Else it hands the mutex to the next waiter, of those of greatest effective priority the first
@@ -79,12 +73,9 @@ pub trait PiKernel {
     fn unlock_pi(&mut self, words: &mut Words, t: Tid, m: MutexId) -> Result<(), Errno>
         requires added { has_seat (meaning self.old) t ≡ true }
         requires ready { is_ready (seat_at (meaning self.old) t).status ≡ true }
-        requires words { length words.old.mutexes ≤ (meaning self.old).limits.mutexes + 1 }
-        requires owned { IsOwned (words_of words.old) (meaning self.old) }
-        ensures answer { closed result ≡ unlock_answer t m (words_of words.old) (meaning self.old) }
-        ensures words { words_of words.new ≡ unlock_words m (closed result) (meaning self.old) (words_of words.old) }
-        ensures after { meaning self.new ≡ unlock_kernel m (closed result) (meaning self.old) }
-        ensures owned { IsOwned (words_of words.new) (meaning self.new) }
+        ensures answer { unit_answer result ≡ unlock_answer t m (words_of words.old) (meaning self.old) }
+        ensures words { words_of words.new ≡ words_after_unlock m (unit_answer result) (meaning self.old) (words_of words.old) }
+        ensures after { meaning self.new ≡ kernel_after_unlock m (unit_answer result) (meaning self.old) }
         ensures kept { IsKernel (meaning self.new) };
 
     /// Gives the thread `t` another base priority, 1 to 99 (pthread_setschedprio of POSIX). Its effective priority and
@@ -92,14 +83,14 @@ pub trait PiKernel {
     /// the end of the new one. EINVAL where the priority is outside its range, else ESRCH where no living thread has that
     /// number; nothing has changed then.
     fn set_prio(&mut self, t: Tid, p: u32) -> Result<(), Errno>
-        ensures answer { closed result ≡ set_prio_answer t p (meaning self.old) }
-        ensures after { meaning self.new ≡ set_prio_kernel t p (closed result) (meaning self.old) }
+        ensures answer { unit_answer result ≡ set_prio_answer t p (meaning self.old) }
+        ensures after { meaning self.new ≡ kernel_after_set_prio t p (unit_answer result) (meaning self.old) }
         ensures kept { IsKernel (meaning self.new) };
 
     /// Stops the ready thread `t` for good: it leaves the run queue. All else stays as it was.
     fn stop(&mut self, t: Tid)
         requires added { has_seat (meaning self.old) t ≡ true }
         requires ready { is_ready (seat_at (meaning self.old) t).status ≡ true }
-        ensures after { meaning self.new ≡ stopped_in t (meaning self.old) }
+        ensures after { meaning self.new ≡ kernel_after_stop t (meaning self.old) }
         ensures kept { IsKernel (meaning self.new) };
 }

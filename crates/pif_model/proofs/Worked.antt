@@ -9,15 +9,13 @@ use Rattle.pif_model.specs.declared.events.Seen.{Seen}
 use Rattle.pif_model.specs.declared.events.Seen.TheVariants.{Begun, Went, Waits, Answered, Refused}
 use Rattle.pif_model.specs.Graph.{reaches_within, greatest_where, effective_among, first_greatest, waited_by, next_waiter}
 use Rattle.pif_model.specs.Word.{bits_of, word_of}
-use Rattle.pif_model.specs.Table.{Table, new_table, mutex_added, cell_at, kernel_effective}
-use Rattle.pif_model.specs.PiKernel.{numbers, first_from, lock_answer, lock_words, try_lock_answer, try_lock_words, queued_in, unlock_answer, unlock_words, handed_in, set_prio_kernel, stopped_in}
-use Rattle.pif_model.specs.PiKernel.{lock_kernel as kernel_locked, unlock_kernel as kernel_unlocked, set_prio_answer as kernel_set_prio_answer}
-use Rattle.pif_model.specs.Kernel.{at_level, in_levels, rows_by, cells_by, kernel_pick, thread_added, lock_pi_answer, lock_pi_after, try_lock_pi_answer, try_lock_pi_after, unlock_pi_answer, unlock_pi_after, set_prio_answer, set_prio_after, stopped}
-use Rattle.pif_model.specs.Lines.{locked_again, own_exchange, lock_load, lock_by, lock_kernel, lock_queued, lock_stop, try_load, unlock_load, unlock_exchange, answered_by, try_kernel, unlock_kernel, set_priority, line_of, gone, accepted, stepped}
+use Rattle.pif_model.specs.Table.{Table, new_table, thread_added, mutex_added, cell_at}
+use Rattle.pif_model.specs.PiKernel.{effective_in, pick_in, numbers, levels_by, no_states, first_from, lock_answer, words_after_lock, kernel_after_lock, try_lock_answer, words_after_try_lock, kernel_after_queueing, unlock_answer, words_after_unlock, kernel_after_unlock, kernel_after_hand_over, set_prio_answer, kernel_after_set_prio, kernel_after_stop}
+use Rattle.pif_model.specs.Lines.{locked_again, exchanged, own_exchange, lock_load, lock_by, lock_kernel, lock_queued, lock_stop, try_load, unlock_load, unlock_exchange, answered_by, try_kernel, unlock_kernel, set_priority, line_of, go_outcome, accepted_outcome, event_outcome}
 
 -- opens every definition of the table machine
 machine : ℕ
-unfolding reaches_within greatest_where effective_among first_greatest waited_by next_waiter bits_of word_of numbers first_from lock_answer lock_words try_lock_answer try_lock_words queued_in kernel_locked unlock_answer unlock_words handed_in kernel_unlocked kernel_set_prio_answer set_prio_kernel stopped_in at_level in_levels rows_by cells_by thread_added lock_pi_answer lock_pi_after try_lock_pi_answer try_lock_pi_after unlock_pi_answer unlock_pi_after set_prio_answer set_prio_after stopped locked_again own_exchange lock_load lock_by lock_kernel lock_queued lock_stop try_load unlock_load unlock_exchange answered_by try_kernel unlock_kernel set_priority line_of gone accepted stepped
+unfolding reaches_within greatest_where effective_among first_greatest waited_by next_waiter bits_of word_of numbers levels_by no_states first_from lock_answer words_after_lock kernel_after_lock try_lock_answer words_after_try_lock kernel_after_queueing unlock_answer words_after_unlock kernel_after_unlock kernel_after_hand_over set_prio_answer kernel_after_set_prio kernel_after_stop locked_again exchanged own_exchange lock_load lock_by lock_kernel lock_queued lock_stop try_load unlock_load unlock_exchange answered_by try_kernel unlock_kernel set_priority line_of go_outcome accepted_outcome event_outcome
 machine = 0
 
 -- a core for examples
@@ -28,12 +26,12 @@ small = new_table (record { threads = 9; mutexes = 9; conds = 0; signals = 1 })
 -- the table after some events
 after : List Event → Table → Table
 after [] s = s
-after (e ∷ es) s = after es (stepped e s).after
+after (e ∷ es) s = after es (event_outcome e s).after
 
 -- what some events are answered
 seen : List Event → Table → List Seen
 seen [] s = []
-seen (e ∷ es) s = (stepped e s).seen ∷ seen es (stepped e s).after
+seen (e ∷ es) s = (event_outcome e s).seen ∷ seen es (event_outcome e s).after
 
 -- t locks m and is answered at once
 locks : ℕ → ℕ → List Event
@@ -57,7 +55,7 @@ boosted_word : bits_of (cell_at (after contended two) 1).word ≡ 0x80000001
 unfolding machine small two contended locks seen after
 boosted_word = refl
 
-boosted_priority : kernel_effective (after contended two) 1 ≡ 50
+boosted_priority : effective_in (after contended two).kernel 1 ≡ 50
 unfolding machine small two contended locks seen after
 boosted_priority = refl
 
@@ -74,7 +72,7 @@ released_word : bits_of (cell_at (after (contended ++ released) two) 1).word ≡
 unfolding machine small two contended locks released seen after
 released_word = refl
 
-released_priority : kernel_effective (after (contended ++ released) two) 1 ≡ 10
+released_priority : effective_in (after (contended ++ released) two).kernel 1 ≡ 10
 unfolding machine small two contended locks released seen after
 released_priority = refl
 
@@ -87,11 +85,11 @@ chain : List Event
 chain = locks 1 1 ++ locks 2 2 ++ Begin 2 (Lock 1) ∷ Go 2 ∷ Go 2 ∷ Go 2 ∷ Begin 3 (Lock 2) ∷ Go 3 ∷ Go 3 ∷ Go 3 ∷ []
 
 -- the boost reaches through the chain
-chain_priority : kernel_effective (after chain three) 1 ≡ 99
+chain_priority : effective_in (after chain three).kernel 1 ≡ 99
 unfolding machine small three chain locks seen after
 chain_priority = refl
 
-chain_pick : kernel_pick (after chain three) ≡ 1
+chain_pick : pick_in (after chain three).kernel ≡ 1
 unfolding machine small three chain locks seen after
 chain_pick = refl
 
@@ -116,11 +114,11 @@ wait_both = locks 1 1 ++ Begin 2 (Lock 1) ∷ Go 2 ∷ Go 2 ∷ Go 2 ∷ Begin 3
 changes : ℕ → List Event
 changes p = Begin 1 (SetPrio 2 p) ∷ Go 1 ∷ []
 
-changed_priority : kernel_effective (after (wait_both ++ changes 30) equals) 1 ≡ 30
+changed_priority : effective_in (after (wait_both ++ changes 30) equals).kernel 1 ≡ 30
 unfolding machine small equals locks wait_both changes after
 changed_priority = refl
 
-changed_back_priority : kernel_effective (after (wait_both ++ changes 30 ++ changes 20) equals) 1 ≡ 20
+changed_back_priority : effective_in (after (wait_both ++ changes 30 ++ changes 20) equals).kernel 1 ≡ 20
 unfolding machine small equals locks wait_both changes after
 changed_back_priority = refl
 

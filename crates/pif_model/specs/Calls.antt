@@ -3,15 +3,15 @@ use Rattle.std.specs.Prelude.{ℕ, ◌-◌, Bool, ◌==◌, length, Option, Some
 use Rattle.pif_types.specs.declared.errors.AddFault.{AddFault}
 use Rattle.pif_types.specs.declared.errors.AddFault.TheVariants.{TooMany, BadPrio}
 use Rattle.pif_types.specs.declared.requests.Kind.{Kind}
+use Rattle.pif_model.specs.Graph.{is_priority}
 use Rattle.pif_model.specs.Word.{bits_of}
-use Rattle.pif_model.specs.Posix.{is_priority}
-use Rattle.pif_model.specs.Table.{Table, cell_at, has_thread, has_mutex, has_thread_room, has_mutex_room, mutex_added, kernel_effective}
-use Rattle.pif_model.specs.Kernel.{thread_added, kernel_pick}
+use Rattle.pif_model.specs.PiKernel.{is_living, effective_in, pick_in}
+use Rattle.pif_model.specs.Table.{Table, cell_at, has_mutex, has_thread_room, has_mutex_room, thread_added, mutex_added}
 
 -- adding a thread of priority p: BadPrio, then TooMany, else its number
 abbrev pub add_thread_answer : ℕ → Table → Result ℕ AddFault
 add_thread_answer p s =
-    if is_priority p then (if has_thread_room s then Ok (length s.rows) else Err TooMany) else Err BadPrio
+    if is_priority p then (if has_thread_room s then Ok (length s.lines) else Err TooMany) else Err BadPrio
 
 abbrev pub add_thread_after : ℕ → Result ℕ AddFault → Table → Table
 add_thread_after p (Ok t) s = thread_added p s
@@ -19,15 +19,15 @@ add_thread_after p (Err e) s = s
 
 -- adding a mutex: TooMany, else its number
 abbrev pub add_mutex_answer : Table → Result ℕ AddFault
-add_mutex_answer s = if has_mutex_room s then Ok (length s.cells) else Err TooMany
+add_mutex_answer s = if has_mutex_room s then Ok (length s.mutexes) else Err TooMany
 
 abbrev pub add_mutex_after : Kind → Bool → Result ℕ AddFault → Table → Table
 add_mutex_after k r (Ok m) s = mutex_added k r s
 add_mutex_after k r (Err e) s = s
 
--- the effective priority of a thread that was added
+-- the effective priority of a living thread
 abbrev pub effective_answer : ℕ → Table → Option ℕ
-effective_answer t s = if has_thread s t then Some (kernel_effective s t) else None
+effective_answer t s = if is_living s.kernel t then Some (effective_in s.kernel t) else None
 
 -- the 32 bits of the word of a mutex that was added
 abbrev pub word_answer : ℕ → Table → Option ℕ
@@ -35,8 +35,8 @@ word_answer m s = if has_mutex s m then Some (bits_of (cell_at s m).word) else N
 
 -- the thread that runs next, if one is ready
 abbrev pub pick_answer : Table → Option ℕ
-pick_answer s = if kernel_pick s == 0 then None else Some (kernel_pick s)
+pick_answer s = if pick_in s.kernel == 0 then None else Some (pick_in s.kernel)
 
 -- how many threads were ever added
 abbrev pub threads_answer : Table → ℕ
-threads_answer s = length s.rows - 1
+threads_answer s = length s.lines - 1

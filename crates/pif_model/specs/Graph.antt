@@ -5,6 +5,10 @@ use Rattle.std.specs.Prelude.{ℕ, zero, suc, ◌≡◌, ◌≢◌, ◌<◌, ◌
 use Rattle.std.specs.List.{filter, list_any}
 use Rattle.std.specs.Prelude.{◌++◌}
 
+-- whether p is a priority: 1 to 99 (sched(7), SCHED_FIFO)
+abbrev pub is_priority : ℕ → Bool
+is_priority p = if p == 0 then false else nat_lt p 100
+
 -- whether t is u, or is reached from u by following whom each thread waits for, over at most `hops` hops
 unfoldable pub reaches_within : ℕ → (ℕ → ℕ) → ℕ → ℕ → Bool
 reaches_within zero waits_for u t = u == t

@@ -5,7 +5,6 @@ pub mod PiKernel
 pub mod Posix
 pub mod History
 pub mod Table
-pub mod Kernel
 pub mod Lines
 pub mod Calls
 pub mod Standing

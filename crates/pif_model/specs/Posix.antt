@@ -16,7 +16,7 @@ use Rattle.pif_model.specs.declared.events.Event.TheVariants.{Begin, Go}
 use Rattle.pif_model.specs.declared.events.Seen.TheVariants.{Begun, Went, Waits, Answered, Refused}
 use Rattle.pif_model.specs.declared.events.Entry.{Entry}
 use Rattle.pif_model.specs.declared.events.Entry.TheVariants.{Thread as AddThread, Mutex as AddMutex, Step as Happened}
-use Rattle.pif_model.specs.Graph.{effective_among, next_waiter, reaches_within, waited_by, without}
+use Rattle.pif_model.specs.Graph.{is_priority, effective_among, next_waiter, reaches_within, waited_by, without}
 use Rattle.pif_model.specs.Refusals.{begin_refused, go_refused}
 
 -- what a robust mutex protects is in order, may be in disorder since an owner ended, or was given up for good
@@ -88,6 +88,10 @@ mutex_at w m = get_or w.mutexes m no_mutex
 abbrev pub is_thread : World → ℕ → Bool
 is_thread w t = if t == 0 then false else nat_lt t (length w.threads)
 
+-- whether t lives: it was added and has not ended
+abbrev pub is_living : World → ℕ → Bool
+is_living w t = (thread_at w t).living
+
 -- whether m was added
 abbrev pub is_mutex : World → ℕ → Bool
 is_mutex w m = if m == 0 then false else nat_lt m (length w.mutexes)
@@ -140,7 +144,7 @@ abbrev pub is_lost : World → ℕ → Bool
 is_lost w m =
     if (mutex_at w m).robust then false
     else (if (mutex_at w m).owner == 0 then false
-    else (if (thread_at w (mutex_at w m).owner).living then false else true))
+    else (if is_living w (mutex_at w m).owner then false else true))
 
 -- whether t's call waits for good
 abbrev pub is_stuck : Option Call → Bool
@@ -204,9 +208,9 @@ pub data TriesToLock (t m : ℕ) (w v : World) : Type 0 where
   -- nobody owns it: t takes it
   free : (mutex_at w m).owner ≡ 0 → v ≡ taken t m w → TriesToLock t m w v
 
--- m passes on: to nobody, or to its next waiter, which takes it
+-- m passes on: to nobody, which holds it once, or to its next waiter, which takes it
 pub data Passes (m : ℕ) (w v : World) : Type 0 where
-  to_nobody : next_of w m ≡ 0 → v ≡ with_mutex m (record (mutex_at w m) { owner = 0 }) w → Passes m w v
+  to_nobody : next_of w m ≡ 0 → v ≡ with_mutex m (record (mutex_at w m) { owner = 0; count = 1 }) w → Passes m w v
   to_next : (u : ℕ) → next_of w m ≡ u → u ≢ 0 → v ≡ taken u m (record w { waiters = without w.waiters u }) → Passes m w v
 
 -- pthread_mutex_unlock by t on m, where no effect has happened yet
@@ -218,10 +222,6 @@ pub data Unlocks (t m : ℕ) (w v : World) : Type 0 where
   -- the owner, who holds it once, gives it up: it passes on, and the result is 0
   released : (mutex_at w m).owner ≡ t → (mutex_at w m).count ≡ 1 → (mutex_at w m).health ≢ Inconsistent → Passes m (with_progress t (Has 0) w) v → Unlocks t m w v
 
--- whether p is a priority: 1 to 99
-abbrev pub is_priority : ℕ → Bool
-is_priority p = if p == 0 then false else nat_lt p 100
-
 -- t with this base priority
 abbrev pub with_base : ℕ → ℕ → World → World
 with_base t p w = with_thread t (record (thread_at w t) { base = p }) w
@@ -231,9 +231,9 @@ pub data SetsPriority (t u p : ℕ) (w v : World) : Type 0 where
   -- p is no priority: EINVAL
   no_priority : is_priority p ≡ false → v ≡ with_progress t (Has 22) w → SetsPriority t u p w v
   -- u is not living: ESRCH
-  not_living : is_priority p ≡ true → (thread_at w u).living ≡ false → v ≡ with_progress t (Has 3) w → SetsPriority t u p w v
+  not_living : is_priority p ≡ true → is_living w u ≡ false → v ≡ with_progress t (Has 3) w → SetsPriority t u p w v
   -- u's base priority is p; who waits for what, and since when, stays
-  changed : is_priority p ≡ true → (thread_at w u).living ≡ true → v ≡ with_progress t (Has 0) (with_base u p w) → SetsPriority t u p w v
+  changed : is_priority p ≡ true → is_living w u ≡ true → v ≡ with_progress t (Has 0) (with_base u p w) → SetsPriority t u p w v
 
 -- one effect of t's open call
 pub data Effect (t : ℕ) (w v : World) : Type 0 where
@@ -246,6 +246,10 @@ pub data Effect (t : ℕ) (w v : World) : Type 0 where
 pub data Effects (t : ℕ) : World → World → Type 0 where
   none : {w v : World} → v ≡ w → Effects t w v
   then : {w u v : World} → Effect t w u → Effects t u v → Effects t w v
+
+-- how far a call of this request has come when it begins
+abbrev pub begun_progress : World → Request → Progress
+begun_progress w q = Fresh
 
 -- ONE ENTRY OF A HISTORY
 
@@ -268,6 +272,11 @@ abbrev pub refusal_of : World → Event → Option Refusal
 refusal_of w (Begin t q) = begin_refused (is_thread w t) (is_some (thread_at w t).call) (names_known (is_mutex w) q)
 refusal_of w (Go t) = go_refused (is_thread w t) (is_some (thread_at w t).call)
 
+-- a Go of t from w to u: it is not refused, and t's open call has some effects
+pub record Goes (t : ℕ) (w u : World) : Type 0 where
+  pub allowed : refusal_of w (Go t) ≡ None
+  pub effects : Effects t w u
+
 -- one entry of a history, from w to v, under the limits l
 pub data Step (l : Bounds) (w : World) (e : Entry) (v : World) : Type 0 where
   -- the next number, within the limit, and a priority within 1 to 99
@@ -280,13 +289,13 @@ pub data Step (l : Bounds) (w : World) (e : Entry) (v : World) : Type 0 where
   refused : (x : Event) (r : Refusal) → e ≡ Happened x (Refused r) → refusal_of w x ≡ Some r → v ≡ w → Step l w e v
   -- the call is open
   begun : (t : ℕ) (q : Request) → e ≡ Happened (Begin t q) Begun → refusal_of w (Begin t q) ≡ None
-      → v ≡ with_thread t (record (thread_at w t) { call = Some (record { request = q; progress = Fresh }) }) w → Step l w e v
+      → v ≡ with_thread t (record (thread_at w t) { call = Some (record { request = q; progress = begun_progress w q }) }) w → Step l w e v
   -- the call goes on, and its thread doesn't rest
-  went : (t : ℕ) → e ≡ Happened (Go t) Went → refusal_of w (Go t) ≡ None → Effects t w v → rests v t ≡ false → Step l w e v
+  went : (t : ℕ) → e ≡ Happened (Go t) Went → Goes t w v → rests v t ≡ false → Step l w e v
   -- its thread rests
-  waits : (t : ℕ) → e ≡ Happened (Go t) Waits → refusal_of w (Go t) ≡ None → Effects t w v → rests v t ≡ true → Step l w e v
+  waits : (t : ℕ) → e ≡ Happened (Go t) Waits → Goes t w v → rests v t ≡ true → Step l w e v
   -- the call has this result and closes, and its thread doesn't rest
-  answered : (t a : ℕ) (q : Request) (u : World) → e ≡ Happened (Go t) (Answered a) → refusal_of w (Go t) ≡ None → Effects t w u
+  answered : (t a : ℕ) (q : Request) (u : World) → e ≡ Happened (Go t) (Answered a) → Goes t w u
       → (thread_at u t).call ≡ Some (record { request = q; progress = Has a })
       → v ≡ with_thread t (record (thread_at u t) { call = None }) u → rests v t ≡ false → Step l w e v
 

@@ -1,6 +1,7 @@
 -- A mutex word as futex(2) has it: 32 bits, FUTEX_WAITERS 0x80000000, FUTEX_OWNER_DIED 0x40000000, and a thread's
--- number in FUTEX_TID_MASK 0x3fffffff.
-use Rattle.std.specs.Prelude.{ℕ, ◌+◌, ◌*◌, ◌/◌, ◌%◌, ◌<◌, ◌==◌, Bool, true, false, if◌then◌else◌}
+-- number in FUTEX_TID_MASK 0x3fffffff; and the words in user memory.
+use Rattle.std.specs.Prelude.{ℕ, ◌+◌, ◌*◌, ◌/◌, ◌%◌, ◌<◌, ◌==◌, nat_lt, Bool, true, false, if◌then◌else◌, Option, Some, None, List, length, get_or, set, replicate}
+use Rattle.pif_types.specs.Bounds.{Bounds}
 
 -- a word, taken apart
 pub record Word : Type 0 where
@@ -27,6 +28,22 @@ taken_word t w = record { number = t; waiters = false; died = w.died }
 abbrev pub is_bare : Word → ℕ → Bool
 is_bare w t = if w.waiters then false else (if w.died then false else w.number == t)
 
+-- the word after a compare-exchange from 0 to the bare number t; None where it fails
+abbrev pub take_word : Word → ℕ → Option Word
+take_word w t = if is_bare w 0 then Some (held_by t) else None
+
+-- the word after a compare-exchange from the bare number t to 0; None where it fails
+abbrev pub release_word : Word → ℕ → Option Word
+release_word w t = if is_bare w t then Some free_word else None
+
+-- the word of a mutex on which a thread queues: what it was, with WAITERS
+abbrev pub mark_word : Word → Word
+mark_word w = record w { waiters = true }
+
+-- the word of a mutex that is handed to u: its number with WAITERS
+abbrev pub hand_word : ℕ → Word
+hand_word u = record { number = u; waiters = true; died = false }
+
 -- the bit at place 31 or 30 as a number
 abbrev pub flag : Bool → ℕ → ℕ
 flag b n = if b then n else 0
@@ -39,3 +56,25 @@ bits_of w = w.number + flag w.died 1073741824 + flag w.waiters 2147483648
 unfoldable pub word_of : ℕ → Word
 word_of bits =
     record { number = bits % 1073741824; waiters = (bits / 2147483648) % 2 == 1; died = (bits / 1073741824) % 2 == 1 }
+
+-- THE WORDS IN USER MEMORY
+
+-- the words, by the number of their mutex; place 0 stands for no mutex
+pub record Words : Type 0 where
+  pub mutexes : List Word
+
+-- the word of m; the free word where there is none
+abbrev pub word_at : Words → ℕ → Word
+word_at ws m = get_or ws.mutexes m free_word
+
+-- whether m has a word
+abbrev pub has_word : Words → ℕ → Bool
+has_word ws m = if m == 0 then false else nat_lt m (length ws.mutexes)
+
+-- the words with another word of m; all others are as they were
+abbrev pub set_word : Words → ℕ → Word → Words
+set_word ws m x = record ws { mutexes = set ws.mutexes m x }
+
+-- a word for each mutex that the limits allow, each free
+abbrev pub free_words : Bounds → Words
+free_words l = record { mutexes = replicate (l.mutexes + 1) free_word }

@@ -1,6 +1,7 @@
 -- The words that threads share: a map from cells to 32 bits, and no more.
-use Rattle.std.specs.Prelude.{ℕ, ◌≡◌, ◌+◌, ◌^◌, ◌≤◌, ◌<◌, List, length, replicate, slice_index, slice_set}
+use Rattle.std.specs.Prelude.{ℕ, ◌≡◌, ◌+◌, ◌^◌, ◌≤◌, ◌<◌, List, length, map, replicate, slice_index, slice_set}
 use Rattle.pif_types.specs.Bounds.{Bounds}
+use Rattle.pif_model.specs.Word.{Words, word_of}
 use Rattle.pif_word.specs.declared.cells.Cell.{Cell}
 use Rattle.pif_word.specs.declared.cells.Cell.TheVariants.{Mutex}
 
@@ -8,6 +9,10 @@ use Rattle.pif_word.specs.declared.cells.Cell.TheVariants.{Mutex}
 pub record WordMap : Type 0 where
   -- the 32 bits of mutex m at place m; place 0 stands for no mutex
   pub mutexes : List ℕ
+
+-- the words, each taken apart
+abbrev pub words_of : WordMap → Words
+words_of s = record { mutexes = map word_of s.mutexes }
 
 -- there is such a cell
 abbrev pub HasCell : WordMap → Cell → Type 0
