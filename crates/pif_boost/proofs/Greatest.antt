@@ -8,9 +8,9 @@ use Rattle.std.proofs.lemmas.Map.Keys.{IsDistinct-cons}
 use Rattle.std.proofs.lemmas.Map.Steps.{length-le_from_distinct_below}
 use Rattle.pif_model.specs.Graph.{reaches_within, greatest_where, effective_among, Reaches, IsEffective}
 use Rattle.pif_model.specs.Graph.Reaches.{here, hop}
-use Rattle.pif_simulation.proofs.Following.{IsGreatestAt, reaches-from_within, all_apart, no_repeats, greatest_where_some}
-use Rattle.pif_simulation.proofs.Greatest.{effective_above, effective_attained, effective_own, effective_same}
-use Rattle.pif_simulation.proofs.Hops.{Reaches-then, alone, nobody, found, found_below}
+use Rattle.pif_chains.proofs.Following.{IsGreatestAt, reaches-from_within, all_apart, no_repeats, greatest_where_some}
+use Rattle.pif_chains.proofs.Greatest.{effective_above, effective_attained, effective_own, effective_same}
+use Rattle.pif_chains.proofs.Hops.{Reaches-then, alone, nobody, found, found_below}
 use Rattle.pif_rtmutex.specs.Owners.{Owners, Seat, Wait, no_seat, seat_at, owner_at, waits_on, waits_for, WaitsFor, IsSound}
 use Rattle.pif_boost.specs.Boosts.{IsThread, base_of, local_of, greatest_base, greatest_waiting, ranked, boosted, IsRepairedBut}
 

@@ -13,8 +13,8 @@ use Rattle.pif_nodes.specs.Table.{Table}
 use Rattle.pif_nodes.proofs.ListLemmas.{has-append}
 use Rattle.pif_plist.specs.Order.{comes_before}
 use Rattle.pif_model.specs.Graph.{greatest_where}
-use Rattle.pif_simulation.proofs.Greatest.{effective_step, greatest_where_same}
-use Rattle.pif_simulation.proofs.Effective.{kept_at}
+use Rattle.pif_chains.proofs.Greatest.{effective_step, greatest_where_same}
+use Rattle.pif_chains.proofs.Places.{kept_at}
 use Rattle.pif_runq.specs.Levels.{Queue, IsLevel, level_of, level_with, Holds, IsQueued}
 use Rattle.pif_rtmutex.specs.Owners.{Owners, Seat, Wait, no_seat, seat_at, owner_at, waits_for, rank_of, with_wait, IsTop}
 use Rattle.pif_rtmutex.proofs.OwnersLemmas.{seat_at-with_seat, seat_at-with_seat_other, some_rank}

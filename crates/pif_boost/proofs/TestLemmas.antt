@@ -7,8 +7,8 @@ use Rattle.std.proofs.lemmas.List.{get_or-replicate, length-replicate}
 use Rattle.pif_nodes.specs.declared.keys.Key.{Key}
 use Rattle.pif_nodes.specs.Lists.{has}
 use Rattle.pif_nodes.specs.Table.{Table, IsApart, list_at, no_key}
-use Rattle.pif_simulation.proofs.Effective.{kept_at}
-use Rattle.pif_simulation.proofs.Following.{IsGreatestAt, greatest_where_some}
+use Rattle.pif_chains.proofs.Places.{kept_at}
+use Rattle.pif_chains.proofs.Following.{IsGreatestAt, greatest_where_some}
 use Rattle.pif_runq.specs.Levels.{Queue, IsLevel, level_of, list_for, thread_for, HasRoom, Holds, IsQueued, joined}
 use Rattle.pif_rtmutex.specs.Owners.{Owners, Seat, Wait, no_seat, no_owners, seat_at, owner_at, count, waits_on, waits_for, with_seat, with_wait, with_owner}
 use Rattle.pif_rtmutex.proofs.OwnersLemmas.{seat_at-with_seat, seat_at-with_seat_same, seat_at-with_seat_other, seat_at-no_owners, count-no_owners, owner_at-with_owner_same, owner_at-with_owner_other}

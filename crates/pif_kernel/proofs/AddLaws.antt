@@ -9,9 +9,9 @@ use Rattle.pif_model.specs.declared.lines.Woken.TheVariants.{Fresh as WokenFresh
 use Rattle.pif_model.specs.Graph.{effective_among}
 use Rattle.pif_model.specs.Table.{queued_on, is_ready}
 use Rattle.pif_model.specs.PiKernel.{Kernel, Seat, IsKernel, seat_at, no_seat, has_seat, waits_for, effective_in, is_among, joined, seated}
-use Rattle.pif_simulation.proofs.Chains.{reaches_with_more, effective_with_more, effective_of_more}
-use Rattle.pif_simulation.proofs.Greatest.{effective_same, reaches_same}
-use Rattle.pif_simulation.proofs.Waiting.{or_false}
+use Rattle.pif_chains.proofs.Chains.{reaches_with_more, effective_with_more, effective_of_more}
+use Rattle.pif_chains.proofs.Greatest.{effective_same, reaches_same}
+use Rattle.pif_chains.proofs.Waiting.{or_false}
 
 -- what a further seat has in common with the seat of nobody, each place has as before
 pushed_same : {A : Type 0} (f : Seat → A) (xs : List Seat) (x : Seat) (u : ℕ) → f x ≡ f no_seat → f (get_or (xs ++ x ∷ []) u no_seat) ≡ f (get_or xs u no_seat)

@@ -15,7 +15,7 @@ use Rattle.pif_model.specs.Table.{queued_on}
 use Rattle.pif_model.specs.PiKernel.{Kernel, effective_in, joined, seated}
 use Rattle.pif_model.specs.PiKernel.{Seat as KernelSeat}
 use Rattle.pif_rtmutex.specs.Owners.{Seat, Wait, seat_at, rank_of, no_seat, with_seat}
-use Rattle.pif_simulation.proofs.Effective.{kept_at}
+use Rattle.pif_chains.proofs.Places.{kept_at}
 use Rattle.pif_kernel.specs.Plain.{Plain, IsSound, Rise, kernel_of, status_at, key_at, ticket_of, seat_of}
 use Rattle.pif_kernel.proofs.Seats.{fitted, seats_length, kernel_by_parts, seats_of-push}
 use Rattle.pif_kernel.proofs.Picked.{levels_joined}

@@ -13,10 +13,9 @@ use Rattle.pif_model.specs.PiKernel.{Kernel, seat_at, waits_for, word_at, has_wo
 use Rattle.pif_word.specs.declared.cells.Cell.TheVariants.{Mutex}
 use Rattle.pif_word.specs.WordMap.{WordMap, HasCell, bits_at, with_bits}
 use Rattle.pif_rtmutex.specs.Owners.{WaitsFor}
-use Rattle.pif_simulation.proofs.Places.{mapped_at}
-use Rattle.pif_simulation.proofs.Kept.{from_within}
-use Rattle.pif_simulation.proofs.Projection.{within}
-use Rattle.pif_simulation.proofs.Following.{Follows, reaches-from_within, within-from_reaches}
+use Rattle.pif_chains.proofs.Places.{mapped_at}
+use Rattle.pif_chains.proofs.Numbers.{from_within, within}
+use Rattle.pif_chains.proofs.Following.{Follows, reaches-from_within, within-from_reaches}
 use Rattle.pif_kernel.specs.Answers.{words_of, wait_answer}
 use Rattle.pif_kernel.specs.Plain.{Plain, IsSound, kernel_of}
 use Rattle.pif_kernel.proofs.Seats.{fitted, seats_length, owners_waits, waits_below}

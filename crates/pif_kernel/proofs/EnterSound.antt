@@ -18,13 +18,13 @@ use Rattle.pif_rtmutex.specs.Owners.{Owners, Seat, Wait, seat_at, owner_at, coun
 use Rattle.pif_rtmutex.specs.Owners.{waits_for as owners_wait_for}
 use Rattle.pif_rtmutex.proofs.MapLemmas.{get-insert_same, get-insert_other}
 use Rattle.pif_boost.specs.Boosts.{IsRepairedBut}
-use Rattle.pif_simulation.proofs.Hole.{ready-queued_on_nothing}
-use Rattle.pif_simulation.proofs.Waiting.{names, or_true, or_false, has_waiter-push, has_waiter-from_pair}
-use Rattle.pif_simulation.proofs.Effective.{kept_at}
-use Rattle.pif_simulation.proofs.Among.{is_among_push, is_among_here, is_among_there, is_among_cons}
-use Rattle.pif_simulation.proofs.Among.{is_among as is_waiter}
-use Rattle.pif_simulation.proofs.Greatest.{reaches_same}
-use Rattle.pif_simulation.proofs.Cycles.{still_acyclic}
+use Rattle.pif_chains.proofs.Statuses.{ready-queued_on_nothing}
+use Rattle.pif_chains.proofs.Waiting.{names, or_true, or_false, has_waiter-push, has_waiter-from_pair}
+use Rattle.pif_chains.proofs.Places.{kept_at}
+use Rattle.pif_chains.proofs.Among.{is_among_push, is_among_here, is_among_there, is_among_cons}
+use Rattle.pif_chains.proofs.Among.{is_among as is_waiter}
+use Rattle.pif_chains.proofs.Greatest.{reaches_same}
+use Rattle.pif_chains.proofs.Cycles.{still_acyclic}
 use Rattle.pif_kernel.specs.Plain.{Plain, IsSound, Rise, IsOpened, kernel_of, status_at, key_at, state_at, ticket_of, levels_of}
 use Rattle.pif_kernel.specs.Plain.IsOpened.{found, made}
 use Rattle.pif_kernel.proofs.Seats.{IsFitted, fitted, seats_length, status_seen, waits_seen, waits_below, owners_waits, added_seen, waiters_seen, states_seen, kernel_by_parts, seats_of-set_status}

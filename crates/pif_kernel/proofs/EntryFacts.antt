@@ -12,9 +12,9 @@ use Rattle.pif_model.specs.PiKernel.{Kernel, effective_in, waits_for, queued_in}
 use Rattle.pif_model.specs.PiKernel.{seat_at as kernel_seat_at}
 use Rattle.pif_rtmutex.specs.Owners.{Owners, Seat, Wait, no_seat, seat_at, owner_at, count, waits_on, with_wait, WaitsFor}
 use Rattle.pif_rtmutex.specs.Owners.{waits_for as owners_wait_for}
-use Rattle.pif_simulation.proofs.Following.{Follows, within-from_reaches}
-use Rattle.pif_simulation.proofs.Hole.{ready-queued_on_nothing}
-use Rattle.pif_simulation.proofs.Waiting.{names}
+use Rattle.pif_chains.proofs.Following.{Follows, within-from_reaches}
+use Rattle.pif_chains.proofs.Statuses.{ready-queued_on_nothing}
+use Rattle.pif_chains.proofs.Waiting.{names}
 use Rattle.pif_kernel.specs.Plain.{Plain, IsSound, IsOpened, Rise, kernel_of, status_at, key_at, state_at, ticket_of}
 use Rattle.pif_kernel.proofs.Seats.{fitted, seats_length, waits_below, owners_waits, states_seen, living_somebody}
 use Rattle.pif_kernel.proofs.QueueLaws.{rise_once, few_waiters, mutexes_few}

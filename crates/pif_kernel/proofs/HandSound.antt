@@ -21,14 +21,14 @@ use Rattle.pif_rtmutex.specs.Owners.{Owners, Seat, Wait, seat_at, owner_at, coun
 use Rattle.pif_rtmutex.specs.Owners.{waits_for as owners_wait_for}
 use Rattle.pif_rtmutex.proofs.MapLemmas.{get-insert_same, get-insert_other, get-remove_other}
 use Rattle.pif_boost.specs.Boosts.{IsRepairedBut, base_of, local_of, greatest_base}
-use Rattle.pif_simulation.proofs.Effective.{kept_at}
-use Rattle.pif_simulation.proofs.Hole.{ready-queued_on_nothing}
-use Rattle.pif_simulation.proofs.Among.{is_among_here, is_among_there, is_among_cons, is_among-without}
-use Rattle.pif_simulation.proofs.Among.{is_among as is_waiter}
-use Rattle.pif_simulation.proofs.Waiting.{names, or_false, Once, once_head, once_tail, without-unnamed, named-from_pair, has_waiter-from_pair, has_waiter-without_other, waited-from_pair}
-use Rattle.pif_simulation.proofs.Greatest.{effective_same, reaches_same}
-use Rattle.pif_simulation.proofs.Handed.{effective_handed, effective_lifted}
-use Rattle.pif_simulation.proofs.Cycles.{acyclic_handed}
+use Rattle.pif_chains.proofs.Places.{kept_at}
+use Rattle.pif_chains.proofs.Statuses.{ready-queued_on_nothing}
+use Rattle.pif_chains.proofs.Among.{is_among_here, is_among_there, is_among_cons, is_among-without}
+use Rattle.pif_chains.proofs.Among.{is_among as is_waiter}
+use Rattle.pif_chains.proofs.Waiting.{names, or_false, Once, once_head, once_tail, without-unnamed, named-from_pair, has_waiter-from_pair, has_waiter-without_other, waited-from_pair}
+use Rattle.pif_chains.proofs.Greatest.{effective_same, reaches_same}
+use Rattle.pif_chains.proofs.Handed.{effective_handed, effective_lifted}
+use Rattle.pif_chains.proofs.Cycles.{acyclic_handed}
 use Rattle.pif_kernel.specs.Plain.{Plain, IsSound, Rise, kernel_of, status_at, key_at, state_at, ticket_of, mutexes_of, levels_of}
 use Rattle.pif_kernel.proofs.Seats.{IsFitted, fitted, seats_length, status_seen, waits_seen, waits_below, owners_waits, added_seen, added_back, waiters_seen, states_seen, kernel_by_parts, seats_of-set_status}
 use Rattle.pif_kernel.proofs.Picked.{levels_seen, levels_joined}

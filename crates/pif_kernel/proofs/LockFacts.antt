@@ -11,7 +11,7 @@ use Rattle.pif_model.specs.Graph.{reaches_within}
 use Rattle.pif_model.specs.Word.{Word, free_word}
 use Rattle.pif_model.specs.PiKernel.{Kernel, IsOwned, seat_at, waits_for, word_at, has_word, lock_answer, lock_words, lock_kernel, try_lock_answer, try_lock_words, queued_in}
 use Rattle.pif_model.specs.Word.{taken_word}
-use Rattle.pif_simulation.proofs.Projection.{within}
+use Rattle.pif_chains.proofs.Numbers.{within}
 
 -- what holds where t is to be queued
 pub record IsQueuing (t m : ℕ) (ws : List Word) (k : Kernel) : Type 0 where

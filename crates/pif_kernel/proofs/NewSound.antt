@@ -13,7 +13,7 @@ use Rattle.pif_model.specs.Table.{queued_on}
 use Rattle.pif_model.specs.PiKernel.{IsKernel, new_kernel, effective_in, has_seat}
 use Rattle.pif_model.specs.PiKernel.{Seat as KernelSeat, no_seat as no_kernel_seat}
 use Rattle.pif_rtmutex.specs.Owners.{Seat, Wait, no_seat, owner_at}
-use Rattle.pif_simulation.proofs.Greatest.{effective_most}
+use Rattle.pif_chains.proofs.Greatest.{effective_most}
 use Rattle.pif_kernel.specs.Plain.{IsSound, kernel_of, new_plain, state_at, is_level, levels_of, seats_of}
 use Rattle.pif_kernel.proofs.Seats.{kernel_by_parts}
 

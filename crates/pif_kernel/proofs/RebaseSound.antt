@@ -10,8 +10,8 @@ use Rattle.pif_model.specs.PiKernel.{seat_at as kernel_seat_at, with_seat as ker
 use Rattle.pif_rtmutex.specs.Owners.{Seat, Wait, seat_at, owner_at, waits_on, rank_of, no_seat, with_base}
 use Rattle.pif_rtmutex.specs.Owners.{waits_for as owners_wait_for}
 use Rattle.pif_boost.specs.Boosts.{IsRepairedBut}
-use Rattle.pif_simulation.proofs.Effective.{kept_at}
-use Rattle.pif_simulation.proofs.Greatest.{reaches_same}
+use Rattle.pif_chains.proofs.Places.{kept_at}
+use Rattle.pif_chains.proofs.Greatest.{reaches_same}
 use Rattle.pif_kernel.specs.Plain.{Plain, IsSound, Rise, kernel_of, ticket_of}
 use Rattle.pif_kernel.proofs.Seats.{IsFitted, fitted, seats_length, status_seen, waits_seen, added_seen, waiters_seen, states_seen, kernel_by_parts, seats_of-set_base}
 use Rattle.pif_kernel.proofs.Picked.{levels_seen}

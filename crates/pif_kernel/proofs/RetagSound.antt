@@ -10,8 +10,8 @@ use Rattle.pif_model.specs.declared.lines.Status.TheVariants.{Ready, Queued, Sto
 use Rattle.pif_model.specs.Table.{queued_on}
 use Rattle.pif_model.specs.PiKernel.{Kernel, effective_in}
 use Rattle.pif_rtmutex.specs.Owners.{Owners, Seat, Wait, seat_at, owner_at, count, waits_on, rank_of, no_seat, KeepsOrder}
-use Rattle.pif_simulation.proofs.Waiting.{names, named-from_pair, has_waiter-from_pair}
-use Rattle.pif_simulation.proofs.Among.{is_among as is_waiter}
+use Rattle.pif_chains.proofs.Waiting.{names, named-from_pair, has_waiter-from_pair}
+use Rattle.pif_chains.proofs.Among.{is_among as is_waiter}
 use Rattle.pif_kernel.specs.Plain.{Plain, IsSound, Rise, kernel_of, status_at, key_at, state_at, ticket_of}
 use Rattle.pif_kernel.specs.Tickets.{retagged, retag, IsRetagged, IsRetaggable}
 use Rattle.pif_kernel.proofs.Seats.{fitted, status_seen, waiters_seen, kernel_by_parts}

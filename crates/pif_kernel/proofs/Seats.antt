@@ -9,8 +9,7 @@ use Rattle.pif_model.specs.declared.lines.Woken.TheVariants.{Fresh}
 use Rattle.pif_model.specs.Table.{queued_on}
 use Rattle.pif_model.specs.PiKernel.{Kernel, has_seat, waits_for}
 use Rattle.pif_model.specs.PiKernel.{Seat as KernelSeat, seat_at as kernel_seat_at, no_seat as no_kernel_seat}
-use Rattle.pif_simulation.proofs.Kept.{from_within}
-use Rattle.pif_simulation.proofs.Projection.{within}
+use Rattle.pif_chains.proofs.Numbers.{from_within, within}
 use Rattle.pif_rtmutex.specs.Owners.{Seat, seat_at, owner_at, no_seat, waits_on}
 use Rattle.pif_rtmutex.specs.Owners.{waits_for as owners_wait_for}
 use Rattle.pif_kernel.specs.Plain.{Plain, IsSound, kernel_of, seat_of, seats_of, status_at, key_at, state_at}

@@ -10,7 +10,7 @@ use Rattle.pif_model.specs.Table.{is_ready}
 use Rattle.pif_model.specs.PiKernel.{effective_in, is_among, has_seat}
 use Rattle.pif_model.specs.PiKernel.{seat_at as kernel_seat_at}
 use Rattle.pif_rtmutex.specs.Owners.{Seat, seat_at, owner_at}
-use Rattle.pif_simulation.proofs.Greatest.{effective_most, effective_own}
+use Rattle.pif_chains.proofs.Greatest.{effective_most, effective_own}
 use Rattle.pif_kernel.specs.Plain.{Plain, IsSound, kernel_of, status_at}
 use Rattle.pif_kernel.proofs.Seats.{fitted, seats_length, status_seen, base_seen, living_seen, added_back, states_seen}
 use Rattle.pif_kernel.proofs.Picked.{levels_seen, level_seen, among_has}

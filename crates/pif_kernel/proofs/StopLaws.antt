@@ -9,9 +9,9 @@ use Rattle.pif_model.specs.declared.lines.Status.TheVariants.{Queued, Stopped}
 use Rattle.pif_model.specs.Graph.{reaches_within}
 use Rattle.pif_model.specs.Table.{queued_on, is_ready}
 use Rattle.pif_model.specs.PiKernel.{Kernel, Seat, IsKernel, seat_at, no_seat, has_seat, waits_for, effective_in, is_among, left, stopped_in}
-use Rattle.pif_simulation.proofs.Effective.{kept_at}
-use Rattle.pif_simulation.proofs.Hole.{ready-queued_on_nothing}
-use Rattle.pif_simulation.proofs.Greatest.{effective_same, reaches_same}
+use Rattle.pif_chains.proofs.Places.{kept_at}
+use Rattle.pif_chains.proofs.Statuses.{ready-queued_on_nothing}
+use Rattle.pif_chains.proofs.Greatest.{effective_same, reaches_same}
 
 -- who left is on no level, and the others stay
 pub left_same : (xs : List ℕ) (t : ℕ) → is_among (filter (λ u. if u == t then false else true) xs) t ≡ false

@@ -10,10 +10,10 @@ use Rattle.pif_model.specs.Table.{queued_on}
 use Rattle.pif_model.specs.PiKernel.{effective_in, next_in}
 use Rattle.pif_rtmutex.specs.Owners.{seat_at, waits_on, rank_of, IsTop}
 use Rattle.pif_rtmutex.proofs.OwnersLemmas.{some_rank}
-use Rattle.pif_simulation.proofs.Among.{is_among_cons, is_among_here, is_among_there}
-use Rattle.pif_simulation.proofs.Among.{is_among as is_waiter}
-use Rattle.pif_simulation.proofs.Next.{next_is_next}
-use Rattle.pif_simulation.proofs.Waiting.{names, named-from_pair}
+use Rattle.pif_chains.proofs.Among.{is_among_cons, is_among_here, is_among_there}
+use Rattle.pif_chains.proofs.Among.{is_among as is_waiter}
+use Rattle.pif_chains.proofs.Next.{next_is_next}
+use Rattle.pif_chains.proofs.Waiting.{names, named-from_pair}
 use Rattle.pif_kernel.specs.Plain.{Plain, IsSound, Rise, kernel_of, status_at, key_at, ticket_of}
 use Rattle.pif_kernel.proofs.Seats.{fitted, status_seen, waiters_seen}
 use Rattle.pif_kernel.proofs.QueueLaws.{rise_above}

@@ -9,8 +9,8 @@ use Rattle.pif_model.specs.Graph.{has_waiter, without, next_waiter}
 use Rattle.pif_model.specs.Word.{Word, word_of, free_word}
 use Rattle.pif_model.specs.PiKernel.{Kernel, IsOwned, word_at, has_word, effective_in, next_in, unlock_answer, unlock_words, unlock_kernel, handed_in}
 use Rattle.pif_rtmutex.specs.Owners.{owner_at}
-use Rattle.pif_simulation.proofs.Projection.{within}
-use Rattle.pif_simulation.proofs.Waiting.{names, named-from_pair, next-is_waiter}
+use Rattle.pif_chains.proofs.Numbers.{within}
+use Rattle.pif_chains.proofs.Waiting.{names, named-from_pair, next-is_waiter}
 use Rattle.pif_kernel.specs.Plain.{Plain, IsSound, kernel_of, key_at}
 use Rattle.pif_kernel.proofs.Seats.{states_seen, waiters_seen}
 use Rattle.pif_kernel.proofs.EnterSound.{has_waiter-key}

@@ -18,10 +18,10 @@ use Rattle.pif_model.specs.PiKernel.{seat_at as kernel_seat_at}
 use Rattle.pif_rtmutex.specs.Owners.{Owners, Seat, Wait, seat_at, owner_at, count, waits_on, rank_of, no_seat}
 use Rattle.pif_boost.specs.Boosts.{IsRepaired, IsRepairedBut, base_of, greatest_base, boosted, ranked}
 use Rattle.pif_boost.specs.Boosts.{releveled as walked}
-use Rattle.pif_simulation.proofs.Following.{reaches-from_within}
-use Rattle.pif_simulation.proofs.Hops.{nobody, reach_below}
-use Rattle.pif_simulation.proofs.Projection.{within}
-use Rattle.pif_simulation.proofs.Greatest.{effective_most, effective_own, effective_wider, effective_same}
+use Rattle.pif_chains.proofs.Following.{reaches-from_within}
+use Rattle.pif_chains.proofs.Hops.{nobody, reach_below}
+use Rattle.pif_chains.proofs.Numbers.{within}
+use Rattle.pif_chains.proofs.Greatest.{effective_most, effective_own, effective_wider, effective_same}
 use Rattle.pif_kernel.specs.Plain.{Plain, IsSound, Rise, kernel_of, seats_of, status_at, key_at, state_at, ticket_of, mutexes_of, levels_of}
 use Rattle.pif_kernel.proofs.Seats.{IsFitted, seats_length, base_seen, owners_waits, waits_below, kernel_by_parts, added_seen}
 use Rattle.pif_kernel.proofs.Picked.{levels_seen, level_seen, among_has}

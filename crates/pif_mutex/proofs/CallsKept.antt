@@ -13,9 +13,8 @@ use Rattle.pif_model.specs.declared.lines.Took.{Took}
 use Rattle.pif_model.specs.declared.lines.Took.TheVariants.{Owns as TookOwns, Queued as TookQueued}
 use Rattle.pif_model.specs.Word.{Word, word_of}
 use Rattle.pif_model.specs.PiKernel.{Kernel, Seat, IsKernel, no_seat, seat_at, has_seat, next_in, lock_words, lock_kernel, queued_in, try_lock_words, unlock_words, unlock_kernel, handed_in, set_prio_answer, set_prio_kernel, stopped_in}
-use Rattle.pif_simulation.proofs.Kept.{below}
-use Rattle.pif_simulation.proofs.Projection.{within}
-use Rattle.pif_simulation.proofs.Effective.{kept_at}
+use Rattle.pif_chains.proofs.Numbers.{below, within}
+use Rattle.pif_chains.proofs.Places.{kept_at}
 use Rattle.pif_kernel.proofs.Answering.{set_prio_lives}
 use Rattle.pif_mutex.specs.declared.state.Mutex.{Mutex}
 use Rattle.pif_mutex.specs.Shown.{IsStored}

@@ -14,7 +14,7 @@ use Rattle.pif_model.specs.PiKernel.{Kernel, Seat, IsKernel, no_seat, seat_at, h
 use Rattle.pif_model.specs.Kernel.{with_kernel, rows_by, cells_by, in_levels, thread_added}
 use Rattle.pif_model.specs.Lines.{with_count}
 use Rattle.pif_word.specs.WordMap.{WordMap}
-use Rattle.pif_simulation.proofs.Kept.{above_0, below, from_within}
+use Rattle.pif_chains.proofs.Numbers.{above_0, below, from_within}
 use Rattle.pif_simulation.proofs.FormLaws.{shown_again, cells_by_front}
 use Rattle.pif_mutex.specs.declared.state.Mutex.{Mutex}
 use Rattle.pif_mutex.specs.declared.state.TheConstants.{NO_MUTEX}

@@ -10,11 +10,10 @@ use Rattle.pif_model.specs.Posix.{is_priority}
 use Rattle.pif_model.specs.Table.{Table, Cell, row_at, cell_at, has_thread, has_mutex, is_ready, has_thread_room, has_mutex_room, kernel_effective}
 use Rattle.pif_model.specs.PiKernel.{Kernel, Seat, no_seat, IsOwned, seat_at, has_seat, effective_in, pick_in, is_among, word_at}
 use Rattle.pif_model.specs.Kernel.{kernel_in, words_in, kernel_pick}
-use Rattle.pif_simulation.proofs.Kept.{below, from_within}
-use Rattle.pif_simulation.proofs.Projection.{within}
+use Rattle.pif_chains.proofs.Numbers.{below, from_within, within}
 use Rattle.pif_simulation.proofs.FormLaws.{shown_kernel, shown_words, seat_seen, effective_seen_in}
 use Rattle.pif_simulation.proofs.FormLaws.{word_seen as word_seen_in}
-use Rattle.pif_simulation.proofs.Greatest.{effective_most, effective_own}
+use Rattle.pif_chains.proofs.Greatest.{effective_most, effective_own}
 use Rattle.pif_mutex.specs.declared.state.Mutex.{Mutex}
 use Rattle.pif_mutex.specs.Shown.{row_at_line, cell_of_mutex, library, shown, IsStored}
 use Rattle.pif_mutex.proofs.ShownRows.{length-rows_by, line_shown}

@@ -7,7 +7,7 @@ use Rattle.std.specs.FinMap.{FinMap, empty, get, insert, remove, len-empty}
 use Rattle.pif_nodes.specs.declared.keys.Key.{Key}
 use Rattle.pif_model.specs.Graph.{Reaches}
 use Rattle.pif_rtmutex.specs.Owners.{Wait, Seat, Owners, no_seat, no_owners, seat_at, owner_at, count, state_of, waits_on, waits_for, WaitsFor, IsAcyclic, HasNoWaiter, with_seat, with_wait, with_owner, without_state, IsSeat, IsSound}
-use Rattle.pif_simulation.proofs.Cycles.{NoCycle-fewer, NoCycle-hop, NoCycle-still, reaches-alone}
+use Rattle.pif_chains.proofs.Cycles.{NoCycle-fewer, NoCycle-hop, NoCycle-still, reaches-alone}
 use Rattle.pif_rtmutex.proofs.MapLemmas.{get-insert_same, get-insert_other, get-remove_same, get-remove_other}
 
 -- after a write of a seat, a thread has that one, or the seat that it had

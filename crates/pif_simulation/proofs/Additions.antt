@@ -24,12 +24,13 @@ use Rattle.pif_simulation.proofs.Forms.{sorted, thread_form}
 use Rattle.pif_simulation.proofs.FormLaws.{thread_added_form}
 use Rattle.pif_simulation.proofs.LevelLists.{in_levels-ordered}
 use Rattle.pif_simulation.proofs.Leveled.{HasLevels, levels-push, within-from_ordered, once_sorted, level_sorted, named_sorted}
-use Rattle.pif_simulation.proofs.Waiting.{by_test, names, pairs, once_push, named-push, waited-from_pair, or_false}
-use Rattle.pif_simulation.proofs.Kept.{from_within, held_once}
-use Rattle.pif_simulation.proofs.Projection.{within, has_thread_below}
+use Rattle.pif_chains.proofs.Waiting.{by_test, names, pairs, once_push, named-push, waited-from_pair, or_false}
+use Rattle.pif_chains.proofs.Numbers.{from_within, within}
+use Rattle.pif_simulation.proofs.Kept.{held_once}
+use Rattle.pif_simulation.proofs.Projection.{has_thread_below}
 use Rattle.pif_simulation.proofs.Hole.{put_ready, push_row, push_cell, row_pushed_else, cell_pushed_else, effective_same, leveled_same, each_thread, excuse_one, admit_last}
 use Rattle.pif_simulation.proofs.Steps.{Keeps, knows}
-use Rattle.pif_simulation.proofs.Chains.{effective_with_more, effective_of_more}
+use Rattle.pif_chains.proofs.Chains.{effective_with_more, effective_of_more}
 
 -- THE EMPTY TABLE
 

@@ -23,7 +23,7 @@ use Rattle.pif_model.specs.Table.{Table, Row, no_row, row_at, cell_at, has_threa
 use Rattle.pif_model.specs.Kernel.{lock_pi_answer, lock_pi_after, try_lock_pi_answer, try_lock_pi_after, unlock_pi_answer, unlock_pi_after, set_prio_answer, set_prio_after}
 use Rattle.pif_model.specs.Lines.{Outcome, goes_to, answers, with_count, locked_again, own_exchange, lock_load, lock_by, lock_kernel, lock_queued, lock_stop, try_load, unlock_load, unlock_exchange, answered_by, busy_for_again, try_kernel, unlock_kernel, set_priority, line_of, gone, is_open, table_refusal, accepted, by_refusal, stepped, goes_on, ClosesOrWaits}
 use Rattle.pif_model.specs.PiKernel.{lock_kernel as lock_in_kernel}
-use Rattle.pif_simulation.proofs.Waiting.{by_test}
+use Rattle.pif_chains.proofs.Waiting.{by_test}
 use Rattle.pif_simulation.proofs.FormLaws.{rows_by-same}
 use Rattle.pif_simulation.proofs.Projection.{has_thread_below, go_allowed}
 

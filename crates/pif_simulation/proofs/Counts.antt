@@ -23,7 +23,7 @@ use Rattle.pif_model.specs.Lines.{Outcome, goes_to, answers, with_count, locked_
 use Rattle.pif_model.specs.Standing.{no_shadow, IsOrdered, IsSound}
 use Rattle.pif_simulation.proofs.Forms.{lock_form, lock_form_after, try_lock_form, try_lock_form_after, handed_form, unlock_form, unlock_form_after, set_prio_form_after}
 use Rattle.pif_simulation.proofs.FormLaws.{stopped_form_is, set_prio_after_form}
-use Rattle.pif_simulation.proofs.Waiting.{by_test}
+use Rattle.pif_chains.proofs.Waiting.{by_test}
 use Rattle.pif_simulation.proofs.Steps.{Going, going_named, going_met}
 use Rattle.pif_simulation.proofs.Local.{going_cell}
 use Rattle.pif_simulation.proofs.Owning.{bare}

@@ -1,5 +1,5 @@
 -- The kernel's waiting and effective priorities are those of the POSIX machine, and what leaves both as they are.
-use Rattle.std.proofs.Common.{◌≡◌, ◌≢◌, ℕ, zero, suc, ◌-◌, false, nat_lt, List, [], ◌∷◌, length, get_or, set, Option, refl, sym, ap, ◌∙◌, if◌then◌else◌, ne_eqb, ⊎_elim, length-set, ltb-false}
+use Rattle.std.proofs.Common.{◌≡◌, ◌≢◌, ℕ, ◌-◌, false, nat_lt, length, Option, refl, sym, ap, ◌∙◌, if◌then◌else◌, ne_eqb, ⊎_elim, length-set, ltb-false}
 use Rattle.std.proofs.Math.Path.{fun_ext}
 use Rattle.std.proofs.lemmas.Bool.{cases_eq}
 use Rattle.std.proofs.lemmas.List.{length-map, get_or_past}
@@ -10,19 +10,11 @@ use Rattle.pif_model.specs.PiKernel.{releveled}
 use Rattle.pif_model.specs.Kernel.{at_level, in_levels, kernel_next}
 use Rattle.pif_model.specs.declared.lines.Line.{Line}
 use Rattle.pif_model.specs.Standing.{Shadow, thread_of, mutex_of, world_of, IsSound}
-use Rattle.pif_simulation.proofs.Places.{mapped_at}
+use Rattle.pif_chains.proofs.Places.{mapped_at, kept_at}
 use Rattle.pif_simulation.proofs.Forms.{settled}
-use Rattle.pif_simulation.proofs.Waiting.{by_test, paired-from_waited, has_waiter-from_pair}
+use Rattle.pif_chains.proofs.Waiting.{by_test, paired-from_waited, has_waiter-from_pair}
 use Rattle.pif_simulation.proofs.Hole.{each_thread}
-use Rattle.pif_simulation.proofs.Greatest.{effective_same}
-
--- what a change of one place keeps of that place, it keeps of every place
-pub kept_at : {A X : Type 0} (f : A → X) (l : List A) (t : ℕ) (y d : A) → f y ≡ f (get_or l t d) → (u : ℕ) → f (get_or (set l t y) u d) ≡ f (get_or l u d)
-kept_at f [] t y d h u = refl
-kept_at f (x ∷ xs) zero y d h zero = h
-kept_at f (x ∷ xs) zero y d h (suc u) = refl
-kept_at f (x ∷ xs) (suc t) y d h zero = refl
-kept_at f (x ∷ xs) (suc t) y d h (suc u) = kept_at f xs t y d h u
+use Rattle.pif_chains.proofs.Greatest.{effective_same}
 
 -- THE TWO MACHINES
 

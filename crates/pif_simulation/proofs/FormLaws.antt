@@ -20,7 +20,7 @@ use Rattle.pif_model.specs.PiKernel.{Kernel, Seat, seat_at, with_seat, with_stat
 use Rattle.pif_model.specs.PiKernel.{lock_answer, lock_words, lock_kernel, queued_in, try_lock_answer, try_lock_words, unlock_answer, unlock_words, unlock_kernel, handed_in, set_prio_kernel, stopped_in}
 use Rattle.pif_model.specs.PiKernel.{with_status as kernel_with_status, settled as kernel_settled, set_prio_answer as kernel_set_prio_answer}
 use Rattle.pif_model.specs.Kernel.{seat_of, at_level, in_levels, kernel_in, words_in, rows_by, cells_by, with_kernel, kernel_next, thread_added, lock_pi_answer, lock_pi_after, try_lock_pi_answer, try_lock_pi_after, unlock_pi_answer, unlock_pi_after, set_prio_answer, set_prio_after, stopped}
-use Rattle.pif_simulation.proofs.Places.{mapped_at}
+use Rattle.pif_chains.proofs.Places.{mapped_at}
 use Rattle.pif_simulation.proofs.Forms.{sorted, settled, thread_form, queued_form, lock_form, lock_form_after, try_lock_form, try_lock_form_after, handed_form, unlock_form, unlock_form_after, set_prio_form, set_prio_form_after, stopped_form}
 use Rattle.pif_simulation.proofs.LevelLists.{at_level-push, at_level-without, at_level-in_levels_none, at_level-in_levels, without-in_levels}
 

@@ -19,11 +19,13 @@ use Rattle.pif_model.specs.Standing.{Shadow, LineIsSound, QueueIsSound, RowIsSou
 use Rattle.pif_simulation.proofs.Forms.{settled, handed_form}
 use Rattle.pif_simulation.proofs.Leveled.{HasLevels, levels-push, within-from_ordered}
 use Rattle.pif_simulation.proofs.Priorities.{effective_within}
-use Rattle.pif_simulation.proofs.Places.{mapped_at}
-use Rattle.pif_simulation.proofs.Waiting.{by_test, names, or_true, or_false, waited-from_pair, waited_by-without_same, waited_by-without_other, once_push, named-push, next-is_waiter}
+use Rattle.pif_chains.proofs.Places.{mapped_at}
+use Rattle.pif_chains.proofs.Waiting.{by_test, names, or_true, or_false, waited-from_pair, waited_by-without_same, waited_by-without_other, once_push, named-push, next-is_waiter}
 use Rattle.pif_simulation.proofs.Effective.{next_seen, next-with_progress, settled_line}
-use Rattle.pif_simulation.proofs.Kept.{above_0, below, held_once}
-use Rattle.pif_simulation.proofs.Hole.{put_row, put_cell, put_ready, excuse, admit, left_waiters, settle, ready-queued_on_nothing, ready-at_any_line, each_thread, admit_last}
+use Rattle.pif_chains.proofs.Numbers.{above_0, below}
+use Rattle.pif_simulation.proofs.Kept.{held_once}
+use Rattle.pif_chains.proofs.Statuses.{ready-queued_on_nothing}
+use Rattle.pif_simulation.proofs.Hole.{put_row, put_cell, put_ready, excuse, admit, left_waiters, settle, ready-at_any_line, each_thread, admit_last}
 use Rattle.pif_simulation.proofs.Steps.{knows, rests_ready}
 use Rattle.pif_simulation.proofs.Queue.{owner_seen}
 

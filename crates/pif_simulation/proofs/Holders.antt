@@ -27,7 +27,7 @@ use Rattle.pif_model.specs.Posix.SetsPriority.{no_priority, not_living, changed}
 use Rattle.pif_model.specs.Posix.Effects.{none as no_effect, then as effect_then}
 use Rattle.pif_model.specs.Posix.Step.{thread_added, mutex_added, refused, begun, went, waits, answered}
 use Rattle.pif_model.specs.Posix.IsRun.{start, next}
-use Rattle.pif_simulation.proofs.Among.{is_among, is_among-without, is_among_push, next_is_among}
+use Rattle.pif_chains.proofs.Among.{is_among, is_among-without, is_among_push, next_is_among}
 use Rattle.pif_simulation.proofs.Holding.{request_of, adds, gains, loses, gained, lost, gained_by, lost_by, elsewhere, Holding-stays}
 use Rattle.pif_simulation.proofs.Projection.{call_rebased, go_allowed, begin_allowed}
 use Rattle.pif_simulation.proofs.AllHolding.{AllHolding, AllHolding-moves, AllHolding-begins, AllHolding-answers}

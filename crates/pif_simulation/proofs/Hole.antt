@@ -11,8 +11,9 @@ use Rattle.pif_model.specs.declared.lines.Status.TheVariants.{Ready, Queued, Sto
 use Rattle.pif_model.specs.Graph.{effective_among, has_waiter, waited_by, without}
 use Rattle.pif_model.specs.Table.{Table, Row, Cell, no_row, no_cell, row_at, cell_at, has_thread, has_mutex, with_row, with_cell, is_ready, queued_on, kernel_waits_for, kernel_effective}
 use Rattle.pif_model.specs.Standing.{QueueIsSound, RowIsSound, CellIsSound, ThreadIsSound, IsShaped, SoundBut, IsLeveled, IsSound}
-use Rattle.pif_simulation.proofs.Kept.{Spares, line_spared, above_0, below, from_within}
-use Rattle.pif_simulation.proofs.Waiting.{names, Once, or_false, waited_by-append_other, waited_by-without_other, has_waiter-push, has_waiter-without_other, once_push, once_without}
+use Rattle.pif_chains.proofs.Numbers.{above_0, below, from_within}
+use Rattle.pif_simulation.proofs.Kept.{Spares, line_spared}
+use Rattle.pif_chains.proofs.Waiting.{names, Once, or_false, waited_by-append_other, waited_by-without_other, has_waiter-push, has_waiter-without_other, once_push, once_without}
 use Rattle.pif_simulation.proofs.Forms.{settled}
 use Rattle.pif_simulation.proofs.Leveled.{HasLevels, named_releveled, once_releveled, level_releveled, releveled_ordered}
 use Rattle.pif_simulation.proofs.Priorities.{effective_within}
@@ -289,12 +290,6 @@ excuse_one h t = excuse h.all (λ u. u ≡ t) (λ u e. absurd e)
 -- the last excused thread that is sound is excused no more
 pub admit_last : {s : Table} {t : ℕ} → SoundBut (λ u. u ≡ t) s → ThreadIsSound s t → SoundBut (λ u. ⊥) s
 admit_last {s} {t} h sound = admit h (λ u. ⊥) t (λ u e. inl e) sound
-
--- who may run is queued on nothing
-pub ready-queued_on_nothing : (x : Status) → is_ready x ≡ true → queued_on x ≡ 0
-ready-queued_on_nothing (Ready w) h = refl
-ready-queued_on_nothing (Queued m) h = cc
-ready-queued_on_nothing Stopped h = refl
 
 -- who may run may be at any line
 pub ready-at_any_line : (x : Status) (l : Line) → is_ready x ≡ true → QueueIsSound x l

@@ -1,5 +1,5 @@
 -- What a change of a cell keeps of what the lines of the threads know.
-use Rattle.std.proofs.Common.{◌≡◌, ◌≢◌, ◌⊎◌, inl, inr, ℕ, ◌<◌, Bool, true, false, ◌==◌, nat_lt, List, [], ◌∷◌, refl, sym, ◌∙◌, if◌then◌else◌, eq-eqb, true≢false, ltb-true, lt-ltb, ne_eqb, arith}
+use Rattle.std.proofs.Common.{◌≡◌, ◌≢◌, ◌⊎◌, inl, inr, ℕ, Bool, true, List, [], ◌∷◌, sym, ◌∙◌, true≢false, arith}
 use Rattle.std.proofs.lemmas.Bool.{cases_eq}
 use Rattle.pif_types.specs.declared.requests.Kind.{Kind}
 use Rattle.pif_types.specs.declared.requests.Request.TheVariants.{Lock, TryLock, Unlock, SetPrio}
@@ -10,22 +10,6 @@ use Rattle.pif_model.specs.declared.lines.Status.{Status}
 use Rattle.pif_model.specs.Table.{Cell}
 use Rattle.pif_model.specs.Standing.{Need, Meets, MeetsAll, needs, LineIsSound, CountIsSound}
 use Rattle.pif_model.specs.Standing.Need.{MayRun, HasStopped, NotStopped, Owns, OwnsNot, OwnsOnceReady, HoldsOnce, NormalKind}
-
--- a number within a list and not 0 is not 0
-pub above_0 : (t n : ℕ) → (if t == 0 then false else nat_lt t n) ≡ true → t ≢ 0
-above_0 t n h e = true≢false (sym h ∙ rw (eq-eqb t 0 e) refl)
-
--- and is within the list
-pub below : (t n : ℕ) → (if t == 0 then false else nat_lt t n) ≡ true → t < n
-below t n h = ltb-true t n (go (t == 0) h)
-  where
-    go : (b : Bool) → (if b then false else nat_lt t n) ≡ true → nat_lt t n ≡ true
-    go true h = absurd (true≢false (sym h))
-    go false h = h
-
--- a number that is not 0 and below passes the test
-pub from_within : (t n : ℕ) → t ≢ 0 → t < n → (if t == 0 then false else nat_lt t n) ≡ true
-from_within t n z h = rw (ne_eqb t 0 z) (lt-ltb t n h)
 
 -- what a change of a mutex from c to d leaves to u, who doesn't make it
 pub record Spares (u : ℕ) (c d : Cell) : Type 0 where

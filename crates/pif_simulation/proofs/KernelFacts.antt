@@ -4,8 +4,8 @@ use Rattle.std.proofs.Common.{◌≡◌, ℕ, ◌≤◌, true, false, length, re
 use Rattle.pif_model.specs.Graph.{has_waiter}
 use Rattle.pif_model.specs.Table.{Table, has_thread, kernel_effective}
 use Rattle.pif_model.specs.Standing.{IsSound}
-use Rattle.pif_simulation.proofs.Waiting.{by_test}
-use Rattle.pif_simulation.proofs.Kept.{below}
+use Rattle.pif_chains.proofs.Waiting.{by_test}
+use Rattle.pif_chains.proofs.Numbers.{below}
 use Rattle.pif_simulation.proofs.Priorities.{effective_within}
 use Rattle.pif_simulation.proofs.Additions.{waiter_known}
 

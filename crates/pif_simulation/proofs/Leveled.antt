@@ -10,9 +10,9 @@ use Rattle.std.proofs.lemmas.Map.Views.{any-filter_same}
 use Rattle.pif_model.specs.PiKernel.{is_among, numbers, moves_to, releveled}
 use Rattle.pif_model.specs.Kernel.{at_level, in_levels}
 use Rattle.pif_model.specs.Standing.{IsOrdered}
-use Rattle.pif_simulation.proofs.Among.{is_among_push}
+use Rattle.pif_chains.proofs.Among.{is_among_push}
 use Rattle.pif_simulation.proofs.LevelLists.{in_levels-ordered}
-use Rattle.pif_simulation.proofs.Waiting.{by_test, names, pairs, Once, or_true, named-from_pair, waited-from_pair}
+use Rattle.pif_chains.proofs.Waiting.{by_test, names, pairs, Once, or_true, named-from_pair, waited-from_pair}
 
 -- BY MEMBERS
 

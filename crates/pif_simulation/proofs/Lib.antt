@@ -1,16 +1,12 @@
 pub mod AllHolding
-pub mod Among
 pub mod Bound
-pub mod Following
 pub mod Effective
 pub mod HandOver
 pub mod Holders
 pub mod Holding
 pub mod Kept
 pub mod Hole
-pub mod Next
 pub mod Picks
-pub mod Places
 pub mod Forms
 pub mod Leveled
 pub mod Priorities
@@ -18,7 +14,6 @@ pub mod LevelLists
 pub mod FormLaws
 pub mod Priority
 pub mod Queue
-pub mod Waiting
 pub mod Projection
 pub mod Stops
 pub mod Steps
@@ -31,11 +26,6 @@ pub mod RecursiveLines
 pub mod LockLines
 pub mod TryLines
 pub mod UnlockLines
-pub mod Chains
-pub mod Cycles
-pub mod Hops
-pub mod Greatest
-pub mod Handed
 pub mod Additions
 pub mod KernelFacts
 pub mod Simulation

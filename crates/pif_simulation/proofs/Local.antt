@@ -28,9 +28,10 @@ use Rattle.pif_model.specs.Posix.Effects.{none, then as first}
 use Rattle.pif_model.specs.Table.{Table, Row, Cell, no_row, no_cell, row_at, cell_at, has_thread, has_mutex, with_row, with_cell, is_ready, queued_on}
 use Rattle.pif_model.specs.Lines.{Outcome, goes_to, answers}
 use Rattle.pif_model.specs.Standing.{Shadow, MeetsAll, needs, belongs, call_at, progress_at, mutex_of, world_of, LineIsSound, RowIsSound, CellIsSound, ThreadIsSound, IsSound}
-use Rattle.pif_simulation.proofs.Kept.{Spares, below}
+use Rattle.pif_chains.proofs.Numbers.{below}
+use Rattle.pif_simulation.proofs.Kept.{Spares}
 use Rattle.pif_simulation.proofs.Hole.{IsPriority, unwritten, put_row, put_cell, same_waiters, ready-at_any_line, effective_same, waits_same, leveled_same, each_thread, excuse_one, admit_last}
-use Rattle.pif_simulation.proofs.Effective.{kept_at}
+use Rattle.pif_chains.proofs.Places.{kept_at}
 use Rattle.pif_simulation.proofs.Owning.{next_none}
 use Rattle.pif_simulation.proofs.Projection.{thread_seen, mutex_seen, row_seen, cell_seen, progress_seen, closed_progressed, call_progressed}
 use Rattle.pif_simulation.proofs.Steps.{Keeps, GoKeeps, Going, going_called, going_below, goes_with, answers_with}

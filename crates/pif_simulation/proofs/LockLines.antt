@@ -26,7 +26,7 @@ use Rattle.pif_model.specs.Lines.{Outcome, locked_again, own_exchange, lock_load
 use Rattle.pif_model.specs.Standing.{Shadow, CellIsSound, IsOrdered, progress_at, world_of}
 use Rattle.pif_simulation.proofs.Forms.{lock_form, lock_form_after}
 use Rattle.pif_simulation.proofs.FormLaws.{lock_answer_form, lock_after_form}
-use Rattle.pif_simulation.proofs.Waiting.{by_test}
+use Rattle.pif_chains.proofs.Waiting.{by_test}
 use Rattle.pif_simulation.proofs.Projection.{mutex_seen}
 use Rattle.pif_simulation.proofs.Stops.{has_thread_stopped, stopped_not_ready, stopped_at, stopped_is, stop_kept, stop_seen}
 use Rattle.pif_simulation.proofs.Steps.{Keeps, GoKeeps, Going, knows, going_allowed, going_named, going_met, going_called, waits_with}

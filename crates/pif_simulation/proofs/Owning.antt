@@ -6,7 +6,7 @@ use Rattle.pif_model.specs.Word.{Word, is_bare, held_by, free_word}
 use Rattle.pif_model.specs.Posix.Health.{Fine}
 use Rattle.pif_model.specs.Table.{Cell}
 use Rattle.pif_model.specs.Standing.{health_of, mutex_of, CountIsSound, CellIsSound}
-use Rattle.pif_simulation.proofs.Waiting.{by_test}
+use Rattle.pif_chains.proofs.Waiting.{by_test}
 use Rattle.pif_simulation.proofs.Kept.{held_once}
 
 -- a word that passes the test of a compare-exchange

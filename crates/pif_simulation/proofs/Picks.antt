@@ -4,7 +4,7 @@ use Rattle.std.proofs.lemmas.Bool.{true≢false, cases_eq}
 use Rattle.std.proofs.lemmas.Bool.Decides.{nat_tests}
 use Rattle.pif_model.specs.Graph.{has_waiter}
 use Rattle.pif_simulation.proofs.Effective.{effective_seen}
-use Rattle.pif_simulation.proofs.Waiting.{by_test, names, pairs, named-from_pair}
+use Rattle.pif_chains.proofs.Waiting.{by_test, names, pairs, named-from_pair}
 use Rattle.pif_simulation.proofs.Leveled.{pair-from_named, level-from_pair, among_at_level, within-from_ordered}
 use Rattle.pif_simulation.proofs.Steps.{rests_ready, rests_not_ready}
 use Rattle.pif_model.specs.Word.{free_word}
@@ -14,7 +14,7 @@ use Rattle.pif_model.specs.Table.{Table, no_cell, row_at, cell_at, has_thread, h
 use Rattle.pif_model.specs.PiKernel.{is_among, first_from}
 use Rattle.pif_model.specs.Kernel.{at_level, kernel_pick}
 use Rattle.pif_model.specs.Standing.{Shadow, IsSound, CellIsSound, IsPick, IsPossible, world_of, mutex_of, health_of}
-use Rattle.pif_simulation.proofs.Places.{mapped_at}
+use Rattle.pif_chains.proofs.Places.{mapped_at}
 use Rattle.pif_simulation.proofs.Projection.{is_thread_seen}
 use Rattle.pif_simulation.proofs.Hole.{each_thread}
 

@@ -3,8 +3,8 @@ use Rattle.std.proofs.Common.{◌≡◌, ◌⊎◌, ℕ, ◌<◌, ◌≤◌, tru
 use Rattle.std.proofs.lemmas.Bool.{cases_eq}
 use Rattle.pif_model.specs.Table.{Table, Row, row_at, has_thread, kernel_waits_for, kernel_effective}
 use Rattle.pif_model.specs.Standing.{IsShaped}
-use Rattle.pif_simulation.proofs.Greatest.{effective_own, effective_most}
-use Rattle.pif_simulation.proofs.Kept.{below, from_within}
+use Rattle.pif_chains.proofs.Greatest.{effective_own, effective_most}
+use Rattle.pif_chains.proofs.Numbers.{below, from_within}
 
 -- the effective priority of a thread that was added is 1 to 99
 pub effective_within : (s : Table) → IsShaped s → (t : ℕ) → has_thread s t ≡ true → (1 ≤ kernel_effective s t) × (kernel_effective s t ≤ 99)

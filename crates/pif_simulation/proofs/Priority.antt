@@ -8,14 +8,14 @@ use Rattle.pif_model.specs.Graph.{waited_by, reaches_within, Reaches}
 use Rattle.pif_model.specs.Posix.{World, WaitsFor, waits_for, thread_at, mutex_at, is_thread, effective_of, leads_to}
 use Rattle.pif_model.specs.Table.{Table, Row, Cell, no_cell, cell_at, has_thread, has_mutex, queued_on}
 use Rattle.pif_model.specs.Standing.{Shadow, IsSound, HasEffective, world_of}
-use Rattle.pif_simulation.proofs.Following.{Follows, reaches-from_within, within-from_reaches, within_alone}
-use Rattle.pif_simulation.proofs.Cycles.{Reaches-map}
-use Rattle.pif_simulation.proofs.Greatest.{effective_above, effective_attained}
+use Rattle.pif_chains.proofs.Following.{Follows, reaches-from_within, within-from_reaches, within_alone}
+use Rattle.pif_chains.proofs.Cycles.{Reaches-map}
+use Rattle.pif_chains.proofs.Greatest.{effective_above, effective_attained}
 use Rattle.pif_simulation.proofs.Hole.{each_thread}
-use Rattle.pif_simulation.proofs.Kept.{from_within}
-use Rattle.pif_simulation.proofs.Projection.{within, is_thread_seen}
+use Rattle.pif_chains.proofs.Numbers.{from_within, within}
+use Rattle.pif_simulation.proofs.Projection.{is_thread_seen}
 use Rattle.pif_simulation.proofs.Queue.{owner_seen}
-use Rattle.pif_simulation.proofs.Waiting.{paired-from_waited, waited-from_pair}
+use Rattle.pif_chains.proofs.Waiting.{paired-from_waited, waited-from_pair}
 
 -- what a state has to keep for its chains of waiting to be those of a function: a thread waits once, nobody waits for
 -- nothing, and owners were added

@@ -14,9 +14,8 @@ use Rattle.pif_model.specs.Posix.{Progress, Call, Thread, World, nobody, thread_
 use Rattle.pif_model.specs.Table.{Table, Row, Cell, no_row, no_cell, row_at, cell_at, has_thread, has_mutex, with_row, with_cell, with_line}
 use Rattle.pif_model.specs.Lines.{is_open, table_refusal}
 use Rattle.pif_model.specs.Standing.{Shadow, call_at, thread_of, mutex_of, world_of}
-use Rattle.pif_simulation.proofs.Places.{mapped_at}
-use Rattle.pif_simulation.proofs.Effective.{kept_at}
-use Rattle.pif_simulation.proofs.Kept.{above_0, below}
+use Rattle.pif_chains.proofs.Places.{mapped_at, kept_at}
+use Rattle.pif_chains.proofs.Numbers.{within}
 
 -- PLACES
 
@@ -35,10 +34,6 @@ is_thread_seen s shadow t = ap (λ n. if t == 0 then false else nat_lt t n) (len
 -- both machines have the same mutexes
 pub is_mutex_seen : (s : Table) (shadow : Shadow) (m : ℕ) → is_mutex (world_of s shadow) m ≡ has_mutex s m
 is_mutex_seen s shadow m = ap (λ n. if m == 0 then false else nat_lt m n) (length-map s.cells mutex_of)
-
--- a number that passes the test is not 0, and below
-pub within : (t n : ℕ) → (if t == 0 then false else nat_lt t n) ≡ true → (t ≢ 0) × (t < n)
-within t n h = (above_0 t n h, below t n h)
 
 -- who was added is not 0
 pub has_thread_above_0 : (s : Table) (t : ℕ) → has_thread s t ≡ true → t ≢ 0

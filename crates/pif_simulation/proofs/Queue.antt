@@ -21,10 +21,10 @@ use Rattle.pif_model.specs.Standing.{Shadow, LineIsSound, RowIsSound, CellIsSoun
 use Rattle.pif_simulation.proofs.Forms.{settled, queued_form, lock_form}
 use Rattle.pif_simulation.proofs.FormLaws.{sorted_without}
 use Rattle.pif_simulation.proofs.Leveled.{within-from_ordered}
-use Rattle.pif_simulation.proofs.Places.{mapped_at}
-use Rattle.pif_simulation.proofs.Waiting.{by_test, names, or_true, waited_by-append_same, once_without, named-without_same, named-without_other, has_waiter-push, named-push}
+use Rattle.pif_chains.proofs.Places.{mapped_at}
+use Rattle.pif_chains.proofs.Waiting.{by_test, names, or_true, waited_by-append_same, once_without, named-without_same, named-without_other, has_waiter-push, named-push}
 use Rattle.pif_simulation.proofs.Effective.{leads_seen, settled_line}
-use Rattle.pif_simulation.proofs.Kept.{below}
+use Rattle.pif_chains.proofs.Numbers.{below}
 use Rattle.pif_simulation.proofs.Hole.{put_row, put_cell, put_ready, joined_waiters, settle, excuse_one, admit_last}
 use Rattle.pif_simulation.proofs.Steps.{knows, ready-unnamed}
 

@@ -10,7 +10,7 @@ use Rattle.pif_model.specs.Posix.Progress.{Fresh, Has}
 use Rattle.pif_model.specs.Table.{Table, row_at, cell_at, has_mutex, is_ready}
 use Rattle.pif_model.specs.Lines.{answers, with_count, locked_again}
 use Rattle.pif_model.specs.Standing.{Shadow, CountIsSound, progress_at, mutex_of}
-use Rattle.pif_simulation.proofs.Waiting.{by_test}
+use Rattle.pif_chains.proofs.Waiting.{by_test}
 use Rattle.pif_simulation.proofs.Projection.{has_thread_above_0}
 use Rattle.pif_simulation.proofs.Steps.{GoKeeps, Going}
 use Rattle.pif_simulation.proofs.Local.{IsLocking, Does, sight, answering, answering_is_local, local_kept, going_cell, answers_local}

@@ -4,11 +4,11 @@ use Rattle.std.proofs.lemmas.List.{length-set, get_or-set_same}
 use Rattle.pif_model.specs.declared.lines.Line.{Line}
 use Rattle.pif_model.specs.Table.{Table, Row, no_row, row_at, cell_at, has_thread, has_mutex, with_row, with_line, with_base, is_ready, queued_on}
 use Rattle.pif_model.specs.Standing.{LineIsSound, RowIsSound, ThreadIsSound, SoundBut, IsSound}
-use Rattle.pif_simulation.proofs.Kept.{below}
+use Rattle.pif_chains.proofs.Numbers.{below}
 use Rattle.pif_simulation.proofs.Forms.{settled}
 use Rattle.pif_simulation.proofs.Leveled.{within-from_ordered}
 use Rattle.pif_simulation.proofs.Hole.{IsPriority, put_row, excuse, admit, ready-at_any_line, effective_same, waits_same, leveled_same, settle}
-use Rattle.pif_simulation.proofs.Effective.{kept_at}
+use Rattle.pif_chains.proofs.Places.{kept_at}
 use Rattle.pif_simulation.proofs.Steps.{knows}
 
 -- a thread may get a sound row of the same status; the levels may be others then

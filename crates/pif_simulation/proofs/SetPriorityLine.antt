@@ -20,10 +20,10 @@ use Rattle.pif_model.specs.Lines.{Outcome, answered_by, set_priority}
 use Rattle.pif_model.specs.Standing.{Shadow, IsSound, world_of}
 use Rattle.pif_simulation.proofs.Forms.{settled, set_prio_form, set_prio_form_after}
 use Rattle.pif_simulation.proofs.FormLaws.{set_prio_answer_form, set_prio_after_form}
-use Rattle.pif_simulation.proofs.Kept.{above_0, below}
+use Rattle.pif_chains.proofs.Numbers.{above_0, below}
 use Rattle.pif_simulation.proofs.Hole.{IsPriority}
-use Rattle.pif_simulation.proofs.Waiting.{by_test}
-use Rattle.pif_simulation.proofs.Effective.{kept_at}
+use Rattle.pif_chains.proofs.Waiting.{by_test}
+use Rattle.pif_chains.proofs.Places.{kept_at}
 use Rattle.pif_simulation.proofs.Projection.{thread_seen, row_seen, line_seen, closed_progressed, call_progressed, call_rebased, closed}
 use Rattle.pif_simulation.proofs.Steps.{Keeps, GoKeeps, Going, going_met, going_called, going_below, answers_with}
 use Rattle.pif_simulation.proofs.Rows.{lined_sound, rebased_sound}

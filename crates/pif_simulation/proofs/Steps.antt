@@ -21,8 +21,9 @@ use Rattle.pif_model.specs.Posix.Step.{went, waits, answered}
 use Rattle.pif_model.specs.Table.{Table, Cell, row_at, cell_at, has_thread, has_mutex, is_ready, queued_on}
 use Rattle.pif_model.specs.Lines.{Outcome, is_open}
 use Rattle.pif_model.specs.Standing.{Shadow, call_at, progress_at, thread_of, world_of, belongs, MeetsAll, needs, LineIsSound, QueueIsSound, RowIsSound, IsSound}
-use Rattle.pif_simulation.proofs.Waiting.{names, unnamed-from_0, paired-from_waited, named-from_pair}
-use Rattle.pif_simulation.proofs.Hole.{ready-queued_on_nothing, each_thread}
+use Rattle.pif_chains.proofs.Waiting.{names, unnamed-from_0, paired-from_waited, named-from_pair}
+use Rattle.pif_chains.proofs.Statuses.{ready-queued_on_nothing}
+use Rattle.pif_simulation.proofs.Hole.{each_thread}
 use Rattle.pif_simulation.proofs.Projection.{thread_seen, call_seen, refusal_seen, has_thread_below, has_mutex_above_0, closed}
 
 -- v follows s with this shadow by this entry: it is sound, both have the same limits, and what they show, v with the

@@ -16,9 +16,10 @@ use Rattle.pif_model.specs.Table.{Table, Row, no_row, row_at, cell_at, has_threa
 use Rattle.pif_model.specs.Kernel.{stopped}
 use Rattle.pif_model.specs.Standing.{Shadow, RowIsSound, ThreadIsSound, IsSound, IsOrdered, world_of}
 use Rattle.pif_simulation.proofs.FormLaws.{sorted_without, stopped_form_is}
-use Rattle.pif_simulation.proofs.Waiting.{by_test, named-without_same, named-without_other, once_without}
-use Rattle.pif_simulation.proofs.Hole.{put_row, put_ready, ready-queued_on_nothing, effective_same, waits_same, each_thread, excuse_one, admit_last}
-use Rattle.pif_simulation.proofs.Effective.{kept_at}
+use Rattle.pif_chains.proofs.Waiting.{by_test, named-without_same, named-without_other, once_without}
+use Rattle.pif_chains.proofs.Statuses.{ready-queued_on_nothing}
+use Rattle.pif_simulation.proofs.Hole.{put_row, put_ready, effective_same, waits_same, each_thread, excuse_one, admit_last}
+use Rattle.pif_chains.proofs.Places.{kept_at}
 use Rattle.pif_simulation.proofs.Steps.{knows}
 use Rattle.pif_simulation.proofs.Projection.{has_thread_below, row_seen, progress_seen}
 

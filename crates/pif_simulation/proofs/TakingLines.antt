@@ -13,7 +13,7 @@ use Rattle.pif_model.specs.Posix.Progress.{Fresh, Has}
 use Rattle.pif_model.specs.Table.{Table, row_at, cell_at, has_thread, has_mutex, with_line, with_word, is_ready}
 use Rattle.pif_model.specs.Lines.{goes_to, answers, own_exchange}
 use Rattle.pif_model.specs.Standing.{Shadow, CellIsSound, MeetsAll, needs, belongs, progress_at}
-use Rattle.pif_simulation.proofs.Waiting.{by_test}
+use Rattle.pif_chains.proofs.Waiting.{by_test}
 use Rattle.pif_simulation.proofs.Projection.{has_thread_above_0}
 use Rattle.pif_simulation.proofs.Steps.{Keeps, GoKeeps, Going}
 use Rattle.pif_simulation.proofs.Local.{IsLocking, sight, answering, answering_is_local, local_kept, going_cell, goes}

@@ -12,7 +12,7 @@ use Rattle.pif_model.specs.Lines.{Outcome, goes_to, answers, own_exchange, locke
 use Rattle.pif_model.specs.Standing.{Shadow, CellIsSound, IsOrdered}
 use Rattle.pif_simulation.proofs.Forms.{try_lock_form, try_lock_form_after}
 use Rattle.pif_simulation.proofs.FormLaws.{try_lock_answer_form, try_lock_after_form}
-use Rattle.pif_simulation.proofs.Waiting.{by_test}
+use Rattle.pif_chains.proofs.Waiting.{by_test}
 use Rattle.pif_simulation.proofs.Projection.{has_thread_above_0}
 use Rattle.pif_simulation.proofs.Steps.{GoKeeps, Going, going_named, going_met}
 use Rattle.pif_simulation.proofs.Local.{going_cell, goes, answers_local}

@@ -22,7 +22,7 @@ use Rattle.pif_model.specs.Lines.{Outcome, goes_to, answers, with_count, unlock_
 use Rattle.pif_model.specs.Standing.{Shadow, CellIsSound, IsOrdered, progress_at, world_of}
 use Rattle.pif_simulation.proofs.Forms.{handed_form, unlock_form, unlock_form_after}
 use Rattle.pif_simulation.proofs.FormLaws.{unlock_answer_form, unlock_after_form}
-use Rattle.pif_simulation.proofs.Waiting.{by_test}
+use Rattle.pif_chains.proofs.Waiting.{by_test}
 use Rattle.pif_simulation.proofs.HandOver.{AtHandOver, handed_over, hand_sound, hand_unlocks, hand_call, hand_world, hand_rests}
 use Rattle.pif_simulation.proofs.Projection.{has_thread_above_0}
 use Rattle.pif_simulation.proofs.Steps.{Keeps, GoKeeps, Going, going_allowed, going_named, going_met, going_called}

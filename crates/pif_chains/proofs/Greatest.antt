@@ -4,8 +4,8 @@ use Rattle.std.proofs.Common.{◌≡◌, ◌≢◌, ◌⊎◌, ◌<◌, ◌≤�
 use Rattle.std.proofs.Math.Path.{fun_ext}
 use Rattle.std.proofs.lemmas.Bool.{cases_lt, eqb-true, eq-eqb}
 use Rattle.pif_model.specs.Graph.{reaches_within, greatest_where, effective_among, Reaches}
-use Rattle.pif_simulation.proofs.Following.{Follows, IsGreatestAt, reaches_over_more, reaches-from_within, within-from_reaches, within_here, greatest_where_above, greatest_where_cases, greatest_where_at}
-use Rattle.pif_simulation.proofs.Hops.{Reaches-then, last_hop, found_below}
+use Rattle.pif_chains.proofs.Following.{Follows, IsGreatestAt, reaches_over_more, reaches-from_within, within-from_reaches, within_here, greatest_where_above, greatest_where_cases, greatest_where_at}
+use Rattle.pif_chains.proofs.Hops.{Reaches-then, last_hop, found_below}
 
 -- the greatest value is at most what each that passes is at most
 pub greatest_where_most : (test : ℕ → Bool) (f : ℕ → ℕ) (n m : ℕ) → ((u : ℕ) → u < n → test u ≡ true → f u ≤ m) → greatest_where test f n ≤ m

@@ -5,8 +5,8 @@ use Rattle.std.proofs.lemmas.Bool.{cases_lt, ne_eqb, false_from_ne_true}
 use Rattle.std.proofs.lemmas.Bool.Decides.{nat_tests}
 use Rattle.pif_model.specs.Graph.{reaches_within, Reaches}
 use Rattle.pif_model.specs.Graph.Reaches.{here, hop}
-use Rattle.pif_simulation.proofs.Following.{Follows, reaches_over_more, within-from_reaches, within_here, within_alone}
-use Rattle.pif_simulation.proofs.Cycles.{Reaches-trans, reaches-alone}
+use Rattle.pif_chains.proofs.Following.{Follows, reaches_over_more, within-from_reaches, within_here, within_alone}
+use Rattle.pif_chains.proofs.Cycles.{Reaches-trans, reaches-alone}
 
 -- one hop more at the end
 pub Reaches-then : {Waits : ℕ → ℕ → Type 0} {u v t : ℕ} → Reaches Waits u v → Waits v t → Reaches Waits u t

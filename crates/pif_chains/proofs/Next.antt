@@ -3,7 +3,7 @@ use Rattle.std.proofs.Common.{◌≡◌, ◌≢◌, ◌⊎◌, ◌<◌, ◌≤�
 use Rattle.std.proofs.lemmas.Bool.{cases_Bool, cases_eq, cond_both, ltb-true, ltb-false}
 use Rattle.std.proofs.lemmas.Bool.Decides.{nat_tests}
 use Rattle.pif_model.specs.Graph.{has_waiter, first_greatest, waiters_with, next_waiter, IsNextWaiter}
-use Rattle.pif_simulation.proofs.Among.{is_among, is_among_cons}
+use Rattle.pif_chains.proofs.Among.{is_among, is_among_cons}
 
 module _ (effective : ℕ → ℕ) where
   -- what the head adds to the waiters of m, where it is one

@@ -4,9 +4,9 @@ use Rattle.std.proofs.Common.{◌≡◌, ◌≢◌, ◌⊎◌, ℕ, ◌<◌, ◌
 use Rattle.std.proofs.lemmas.Bool.{cases_eq, cases_Bool}
 use Rattle.pif_model.specs.Graph.{effective_among, Reaches}
 use Rattle.pif_model.specs.Graph.Reaches.{here, hop}
-use Rattle.pif_simulation.proofs.Following.{Follows, reaches-from_within, within-from_reaches}
-use Rattle.pif_simulation.proofs.Hops.{Reaches-then, alone}
-use Rattle.pif_simulation.proofs.Greatest.{effective_most, effective_above, effective_own, effective_under}
+use Rattle.pif_chains.proofs.Following.{Follows, reaches-from_within, within-from_reaches}
+use Rattle.pif_chains.proofs.Hops.{Reaches-then, alone}
+use Rattle.pif_chains.proofs.Greatest.{effective_most, effective_above, effective_own, effective_under}
 
 -- `on` says who is queued on the mutex: they waited for t, and now all but u wait for u
 module _ (n : ℕ) (w now b : ℕ → ℕ) (t u : ℕ) (on : ℕ → Bool) (below : (x : ℕ) → w x < n) (below_now : (x : ℕ) → now x < n)

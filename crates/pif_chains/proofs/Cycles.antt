@@ -4,7 +4,7 @@ use Rattle.std.proofs.Common.{◌≡◌, ◌≢◌, ◌⊎◌, ◌<◌, ℕ, Boo
 use Rattle.std.proofs.lemmas.Bool.{true≢false, cases_eq, cases_Bool, false_from_ne_true}
 use Rattle.pif_model.specs.Graph.{reaches_within, Reaches}
 use Rattle.pif_model.specs.Graph.Reaches.{here, hop}
-use Rattle.pif_simulation.proofs.Following.{Follows, reaches-from_within, within-from_reaches}
+use Rattle.pif_chains.proofs.Following.{Follows, reaches-from_within, within-from_reaches}
 
 -- a chain is carried along from one relation to another
 pub Reaches-map : {A B : ℕ → ℕ → Type 0} → ((u t : ℕ) → A u t → B u t) → {u t : ℕ} → Reaches A u t → Reaches B u t

@@ -3,10 +3,10 @@
 use Rattle.std.proofs.Common.{◌≡◌, ◌≢◌, ◌⊎◌, ℕ, suc, ◌<◌, ◌≤◌, true, refl, sym, ap, ◌∙◌, inl, inr, arith}
 use Rattle.std.proofs.lemmas.Bool.{true≢false, cases_lt, false_from_ne_true}
 use Rattle.pif_model.specs.Graph.{reaches_within, effective_among}
-use Rattle.pif_simulation.proofs.Following.{reaches-from_within, reaches_over_more, within-from_reaches, within_alone}
-use Rattle.pif_simulation.proofs.Hops.{reach_below}
-use Rattle.pif_simulation.proofs.Greatest.{effective_most, effective_own, effective_under}
-use Rattle.pif_simulation.proofs.Waiting.{by_test}
+use Rattle.pif_chains.proofs.Following.{reaches-from_within, reaches_over_more, within-from_reaches, within_alone}
+use Rattle.pif_chains.proofs.Hops.{reach_below}
+use Rattle.pif_chains.proofs.Greatest.{effective_most, effective_own, effective_under}
+use Rattle.pif_chains.proofs.Waiting.{by_test}
 
 module _ (n : ℕ) (f : ℕ → ℕ) (below : (v : ℕ) → f v < n) where
   -- over one hop more one reaches whom one reached

@@ -1,0 +1,13 @@
+pub mod Following
+pub mod Cycles
+pub mod Hops
+pub mod Greatest
+pub mod Handed
+pub mod Chains
+pub mod Waiting
+pub mod Among
+pub mod Next
+pub mod Places
+pub mod Bounded
+pub mod Numbers
+pub mod Statuses
