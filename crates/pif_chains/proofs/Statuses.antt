@@ -2,7 +2,7 @@
 use Rattle.std.proofs.Common.{◌≡◌, true, refl}
 use Rattle.pif_model.specs.declared.lines.Status.{Status}
 use Rattle.pif_model.specs.declared.lines.Status.TheVariants.{Ready, Queued, Stopped}
-use Rattle.pif_model.specs.Table.{is_ready, queued_on}
+use Rattle.pif_model.specs.PiKernel.{is_ready, queued_on}
 
 -- who may run is queued on nothing
 pub ready-queued_on_nothing : (x : Status) → is_ready x ≡ true → queued_on x ≡ 0
