@@ -11,3 +11,11 @@ pub mod Places
 pub mod Bounded
 pub mod Numbers
 pub mod Statuses
+pub mod KernelNumbers
+pub mod KernelLevels
+pub mod KernelSettled
+pub mod KernelListed
+pub mod KernelFacts
+pub mod KernelStopped
+pub mod KernelNew
+pub mod KernelKept
