@@ -1,7 +1,9 @@
 -- Each call of the kernel keeps what a kernel keeps.
-use Rattle.std.proofs.Common.{◌≡◌, ℕ, true}
+use Rattle.std.proofs.Common.{◌≡◌, ℕ, true, Ok}
 use Rattle.pif_types.specs.Bounds.{Bounds}
-use Rattle.pif_model.specs.PiKernel.{Kernel, IsKernel, seat_at, has_seat, is_ready, new_kernel, kernel_after_stop}
+use Rattle.pif_model.specs.PiKernel.{Kernel, IsKernel, seat_at, has_seat, is_ready, is_living, new_kernel, kernel_after_stop, kernel_after_set_prio}
+use Rattle.pif_model.specs.Graph.{is_priority}
+use Rattle.pif_chains.proofs.KernelRebased.{kernel-rebased}
 use Rattle.pif_chains.proofs.KernelNew.{kernel-new}
 use Rattle.pif_chains.proofs.KernelStopped.{kernel-stopped}
 
@@ -12,3 +14,7 @@ new_kernel_kept l = kernel-new l
 -- a thread that may run stops for good
 pub stop_kept : (t : ℕ) (k : Kernel) → IsKernel k → has_seat k t ≡ true → is_ready (seat_at k t).status ≡ true → IsKernel (kernel_after_stop t k)
 stop_kept t k h added ready = kernel-stopped t k h added ready
+
+-- a thread gets another base priority
+pub set_prio_kept : (t p : ℕ) (k : Kernel) → IsKernel k → is_priority p ≡ true → is_living k t ≡ true → IsKernel (kernel_after_set_prio t p (Ok (record {})) k)
+set_prio_kept t p k h ranged added = kernel-rebased t p k h ranged added

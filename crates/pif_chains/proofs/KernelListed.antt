@@ -91,3 +91,13 @@ listed-same k at at_now e h = record {
   range = λ t x. subst (λ n. (1 ≤ n) × (n ≤ 99)) (sym (e t)) (h.range t x);
   once = h.once;
 }
+
+-- the same where as many were added, with the statuses that they had
+pub listed-seats : (k now : Kernel) (at : ℕ → ℕ) → now.levels ≡ k.levels → ((u : ℕ) → has_seat now u ≡ has_seat k u)
+    → ((u : ℕ) → (seat_at now u).status ≡ (seat_at k u).status) → IsListed k at → IsListed now at
+listed-seats k now at e has same h = record {
+  on = λ t p. ap (λ levels. is_among (level_at levels p) t) e ∙ h.on t p
+      ∙ sym (λ i. if has t i then (if is_ready (same t i) then at t == p else false) else false);
+  range = λ t x. h.range t (sym (has t) ∙ x);
+  once = λ p. subst (λ levels. IsDistinct eqb (level_at levels p)) (sym e) (h.once p);
+}

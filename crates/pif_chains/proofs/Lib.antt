@@ -19,3 +19,4 @@ pub mod KernelFacts
 pub mod KernelStopped
 pub mod KernelNew
 pub mod KernelKept
+pub mod KernelRebased
