@@ -8,7 +8,7 @@ use Rattle.pif_model.specs.Graph.{waited_by, has_waiter, reaches_within}
 use Rattle.pif_model.specs.PiKernel.{Kernel, Seat, IsKernel, IsKernelShaped, no_seat, seat_at, has_seat, state_at, waits_for, effective_in, next_in, queued_on, is_ready}
 use Rattle.pif_chains.proofs.Numbers.{from_within, within}
 use Rattle.pif_chains.proofs.Following.{within_here}
-use Rattle.pif_chains.proofs.Waiting.{by_test, names, pairs, waited-from_pair, unnamed-from_0, paired-from_waited, next-is_waiter}
+use Rattle.pif_chains.proofs.Waiting.{by_test, names, pairs, waited-from_pair, unnamed-from_0, paired-from_waited, next-is_waiter, has_waiter-from_pair}
 
 -- STATUSES
 
@@ -106,6 +106,10 @@ module _ (k : Kernel) (h : IsKernel k) where
   -- whom one waits for is another
   pub waits_for-other : (u : ℕ) → waits_for k u ≢ 0 → waits_for k u ≢ u
   waits_for-other u n e = true≢false (sym (subst (λ v. reaches_within (length k.seats) (waits_for k) v u ≡ true) (sym e) (within_here (length k.seats) (waits_for k) u)) ∙ h.acyclic u n)
+
+  -- a mutex on which a thread is queued has an owner state
+  pub has_state-from_queued : (u m : ℕ) → m ≢ 0 → queued_on (seat_at k u).status ≡ m → state_at k m ≢ 0
+  has_state-from_queued u m n e = state-from_waiter m (has_waiter-from_pair k.waiters u m (h.queued u m (queued-from_number (seat_at k u).status m n e)))
 
   -- THE NEXT WAITER
 

@@ -1,8 +1,9 @@
 -- Each call of the kernel keeps what a kernel keeps.
-use Rattle.std.proofs.Common.{◌≡◌, ℕ, true, Ok}
+use Rattle.std.proofs.Common.{◌≡◌, ◌≢◌, ◌<◌, ℕ, true, false, length, Ok}
+use Rattle.pif_model.specs.Graph.{is_priority, reaches_within}
+use Rattle.pif_chains.proofs.KernelQueued.{kernel-queued}
 use Rattle.pif_types.specs.Bounds.{Bounds}
-use Rattle.pif_model.specs.PiKernel.{Kernel, IsKernel, seat_at, has_seat, is_ready, is_living, new_kernel, kernel_after_stop, kernel_after_set_prio}
-use Rattle.pif_model.specs.Graph.{is_priority}
+use Rattle.pif_model.specs.PiKernel.{Kernel, IsKernel, seat_at, has_seat, state_at, waits_for, is_ready, is_living, new_kernel, kernel_after_stop, kernel_after_set_prio, kernel_after_queueing}
 use Rattle.pif_chains.proofs.KernelRebased.{kernel-rebased}
 use Rattle.pif_chains.proofs.KernelNew.{kernel-new}
 use Rattle.pif_chains.proofs.KernelStopped.{kernel-stopped}
@@ -18,3 +19,9 @@ stop_kept t k h added ready = kernel-stopped t k h added ready
 -- a thread gets another base priority
 pub set_prio_kept : (t p : ℕ) (k : Kernel) → IsKernel k → is_priority p ≡ true → is_living k t ≡ true → IsKernel (kernel_after_set_prio t p (Ok (record {})) k)
 set_prio_kept t p k h ranged added = kernel-rebased t p k h ranged added
+
+-- a thread that may run is queued on a mutex whose owner does not wait for it
+pub queueing_kept : (t m n : ℕ) (k : Kernel) → IsKernel k → has_seat k t ≡ true → is_ready (seat_at k t).status ≡ true → m ≢ 0 → m < 1025
+    → is_living k n ≡ true → (state_at k m ≢ 0 → state_at k m ≡ n) → reaches_within (length k.seats) (waits_for k) n t ≡ false
+    → IsKernel (kernel_after_queueing t m n k)
+queueing_kept t m n k h added ready some few owner agrees free = kernel-queued t m n k h added ready some few owner agrees free

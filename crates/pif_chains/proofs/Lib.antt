@@ -20,3 +20,5 @@ pub mod KernelStopped
 pub mod KernelNew
 pub mod KernelKept
 pub mod KernelRebased
+pub mod KernelQueues
+pub mod KernelQueued
