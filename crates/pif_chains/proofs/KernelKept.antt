@@ -3,7 +3,9 @@ use Rattle.std.proofs.Common.{◌≡◌, ◌≢◌, ◌<◌, ℕ, true, false, l
 use Rattle.pif_model.specs.Graph.{is_priority, reaches_within}
 use Rattle.pif_chains.proofs.KernelQueued.{kernel-queued}
 use Rattle.pif_types.specs.Bounds.{Bounds}
-use Rattle.pif_model.specs.PiKernel.{Kernel, IsKernel, seat_at, has_seat, state_at, waits_for, is_ready, is_living, new_kernel, kernel_after_stop, kernel_after_set_prio, kernel_after_queueing}
+use Rattle.pif_model.specs.PiKernel.{Kernel, IsKernel, seat_at, has_seat, state_at, waits_for, is_ready, is_living, new_kernel, kernel_after_stop, kernel_after_set_prio, kernel_after_queueing, kernel_after_hand_over, next_in}
+use Rattle.pif_chains.proofs.KernelFacts.{next-queued}
+use Rattle.pif_chains.proofs.KernelHanded.{kernel-handed}
 use Rattle.pif_chains.proofs.KernelRebased.{kernel-rebased}
 use Rattle.pif_chains.proofs.KernelNew.{kernel-new}
 use Rattle.pif_chains.proofs.KernelStopped.{kernel-stopped}
@@ -25,3 +27,7 @@ pub queueing_kept : (t m n : ℕ) (k : Kernel) → IsKernel k → has_seat k t �
     → is_living k n ≡ true → (state_at k m ≢ 0 → state_at k m ≡ n) → reaches_within (length k.seats) (waits_for k) n t ≡ false
     → IsKernel (kernel_after_queueing t m n k)
 queueing_kept t m n k h added ready some few owner agrees free = kernel-queued t m n k h added ready some few owner agrees free
+
+-- a mutex that has an owner state is handed to its next waiter
+pub hand_over_kept : (m : ℕ) (k : Kernel) → IsKernel k → state_at k m ≢ 0 → IsKernel (kernel_after_hand_over (next_in k m) m k)
+hand_over_kept m k h some = kernel-handed (next_in k m) m k h some (next-queued k h m some)

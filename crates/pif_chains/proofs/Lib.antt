@@ -22,3 +22,4 @@ pub mod KernelKept
 pub mod KernelRebased
 pub mod KernelQueues
 pub mod KernelQueued
+pub mod KernelHanded
