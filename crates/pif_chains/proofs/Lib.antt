@@ -23,3 +23,4 @@ pub mod KernelRebased
 pub mod KernelQueues
 pub mod KernelQueued
 pub mod KernelHanded
+pub mod KernelAdded
