@@ -24,3 +24,4 @@ pub mod KernelQueues
 pub mod KernelQueued
 pub mod KernelHanded
 pub mod KernelAdded
+pub mod KernelCalls
