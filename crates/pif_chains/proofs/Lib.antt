@@ -25,3 +25,4 @@ pub mod KernelQueued
 pub mod KernelHanded
 pub mod KernelAdded
 pub mod KernelCalls
+pub mod KernelPicks
