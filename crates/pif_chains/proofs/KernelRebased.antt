@@ -15,41 +15,41 @@ module _ (t p : ℕ) (k : Kernel) where
   seat = record (seat_at k t) { base = p }
 
   -- the kernel before it is settled
-  abbrev pub rebased : Kernel
-  rebased = with_seat t seat k
+  abbrev pub kernel_with_base : Kernel
+  kernel_with_base = with_seat t seat k
 
   -- as many threads
-  pub length-rebased : length rebased.seats ≡ length k.seats
+  pub length-rebased : length kernel_with_base.seats ≡ length k.seats
   length-rebased = length-set k.seats t seat
 
   -- the same threads were added
-  pub has-rebased : (u : ℕ) → has_seat rebased u ≡ has_seat k u
+  pub has-rebased : (u : ℕ) → has_seat kernel_with_base u ≡ has_seat k u
   has-rebased u = ap (λ n. if u == 0 then false else nat_lt u n) length-rebased
 
   -- each has the status that it had
-  pub status-rebased : (u : ℕ) → (seat_at rebased u).status ≡ (seat_at k u).status
+  pub status-rebased : (u : ℕ) → (seat_at kernel_with_base u).status ≡ (seat_at k u).status
   status-rebased u = kept_at (λ (x : Seat). x.status) k.seats t seat no_seat refl u
 
   -- the others are as they were
-  pub seat-rebased_other : (u : ℕ) → u ≢ t → seat_at rebased u ≡ seat_at k u
+  pub seat-rebased_other : (u : ℕ) → u ≢ t → seat_at kernel_with_base u ≡ seat_at k u
   seat-rebased_other u n = get_or-set_other k.seats t u seat no_seat n
 
   -- t has another base priority
-  pub seat-rebased_same : has_seat k t ≡ true → seat_at rebased t ≡ record (seat_at k t) { base = p }
+  pub seat-rebased_same : has_seat k t ≡ true → seat_at kernel_with_base t ≡ record (seat_at k t) { base = p }
   seat-rebased_same added = get_or-set_same k.seats t seat no_seat (within t (length k.seats) added).1
 
   -- each waits for whom it waited
-  pub waits-rebased : (u : ℕ) → waits_for rebased u ≡ waits_for k u
+  pub waits-rebased : (u : ℕ) → waits_for kernel_with_base u ≡ waits_for k u
   waits-rebased u = ap (λ x. get_or k.states (queued_on x) 0) (status-rebased u)
 
   module _ (h : IsKernel k) (ranged : is_priority p ≡ true) (added : has_seat k t ≡ true) where
     -- each has a priority
-    priority : (u : ℕ) → (u ≡ t) ⊎ (u ≢ t) → has_seat k u ≡ true → is_priority (seat_at rebased u).base ≡ true
-    priority u (inl e) x = ap (λ v. is_priority (seat_at rebased v).base) e ∙ ap (λ (x : Seat). is_priority x.base) (seat-rebased_same added) ∙ ranged
+    priority : (u : ℕ) → (u ≡ t) ⊎ (u ≢ t) → has_seat k u ≡ true → is_priority (seat_at kernel_with_base u).base ≡ true
+    priority u (inl e) x = ap (λ v. is_priority (seat_at kernel_with_base v).base) e ∙ ap (λ (x : Seat). is_priority x.base) (seat-rebased_same added) ∙ ranged
     priority u (inr n) x = ap (λ (x : Seat). is_priority x.base) (seat-rebased_other u n) ∙ h.shape.priorities u x
 
     -- all but the levels is kept
-    waiting-rebased : IsWaiting rebased
+    waiting-rebased : IsWaiting kernel_with_base
     waiting-rebased = record {
       shape = record {
         some = subst (λ n. 1 ≤ n) (sym length-rebased) h.shape.some;
@@ -69,10 +69,10 @@ module _ (t p : ℕ) (k : Kernel) where
     }
 
     -- the ready threads stand where they stood
-    listed-rebased : IsListed rebased (effective_in k)
-    listed-rebased = listed-seats k rebased (effective_in k) refl has-rebased status-rebased (listed-from_kernel k h)
+    listed-rebased : IsListed kernel_with_base (effective_in k)
+    listed-rebased = listed-seats k kernel_with_base (effective_in k) refl has-rebased status-rebased (listed-from_kernel k h)
 
     -- the base priority is p, and all is settled
     pub kernel-rebased : IsKernel (kernel_after_set_prio t p (Ok (record {})) k)
     unfolding kernel_after_set_prio
-    kernel-rebased = settled_kept rebased (effective_in k) waiting-rebased listed-rebased
+    kernel-rebased = settled_kept kernel_with_base (effective_in k) waiting-rebased listed-rebased

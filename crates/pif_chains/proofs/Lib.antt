@@ -26,3 +26,4 @@ pub mod KernelHanded
 pub mod KernelAdded
 pub mod KernelCalls
 pub mod KernelPicks
+pub mod KernelPlaces
