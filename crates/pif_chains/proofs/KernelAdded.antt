@@ -39,7 +39,9 @@ module _ (p : ℕ) (k : Kernel) where
     where
       go : (u < last) ⊎ (last ≤ u) → seat_at now u ≡ seat_at k u
       go (inl l) = get_or-append k.seats (new_seat p ∷ []) no_seat u l
-      go (inr g) = get_or_past (k.seats ++ new_seat p ∷ []) u no_seat (omega (arith, length-added)) ∙ sym (get_or_past k.seats u no_seat g)
+      go (inr g) =
+          get_or_past (k.seats ++ new_seat p ∷ []) u no_seat (omega (arith, length-added))
+          ∙ sym (get_or_past k.seats u no_seat g)
 
   -- the new thread
   pub seat-added_same : seat_at now last ≡ record { base = p; status = Ready WokenFresh }
@@ -87,37 +89,47 @@ module _ (p : ℕ) (k : Kernel) where
     waits_new = ap (λ (x : Seat). state_at k (queued_on x.status)) seat_before ∙ h.shape.no_mutex
 
     -- effective priorities, by those among one thread more
-    effective_more : (u : ℕ) → effective_in now u ≡ effective_among (suc last) (waits_for k) (λ v. (seat_at now v).base) u
+    effective_more : (u : ℕ)
+        → effective_in now u ≡ effective_among (suc last) (waits_for k) (λ v. (seat_at now v).base) u
     effective_more u = effective_same _ _ _ _ _ _ u length-added waits-added (λ v. refl)
 
     -- the others have the effective priority that they had
     pub effective-added_other : (u : ℕ) → u ≢ last → effective_in now u ≡ effective_in k u
     effective-added_other u d =
         effective_more u
-        ∙ effective_with_more last (waits_for k) (waits_below k h) (λ v. (seat_at k v).base) (λ v. (seat_at now v).base) base_other waits_new u d
+        ∙ effective_with_more last (waits_for k) (waits_below k h) (λ v. (seat_at k v).base)
+        (λ v. (seat_at now v).base) base_other waits_new u d
 
     -- the new thread has its base priority
     pub effective-added_same : effective_in now last ≡ p
     effective-added_same =
         effective_more last
-        ∙ effective_of_more last (waits_for k) (waits_below k h) (λ v. (seat_at k v).base) (λ v. (seat_at now v).base) base_other waits_new
+        ∙ effective_of_more last (waits_for k) (waits_below k h) (λ v. (seat_at k v).base)
+        (λ v. (seat_at now v).base) base_other waits_new
         ∙ ap (λ (x : Seat). x.base) seat-added_same
 
     module _ (ranged : is_priority p ≡ true) (room : length k.seats ≤ k.limits.threads) where
       -- each has a priority
       priority : (u : ℕ) → (u ≡ last) ⊎ (u ≢ last) → has_seat now u ≡ true → is_priority (seat_at now u).base ≡ true
-      priority u (inl e) x = ap (λ v. is_priority (seat_at now v).base) e ∙ ap (λ (x : Seat). is_priority x.base) seat-added_same ∙ ranged
-      priority u (inr d) x = ap (λ (x : Seat). is_priority x.base) (seat-added_other u d) ∙ h.shape.priorities u (sym (has-added_other u d) ∙ x)
+      priority u (inl e) x =
+          ap (λ v. is_priority (seat_at now v).base) e ∙ ap (λ (x : Seat). is_priority x.base) seat-added_same ∙ ranged
+      priority u (inr d) x =
+          ap (λ (x : Seat). is_priority x.base) (seat-added_other u d)
+          ∙ h.shape.priorities u (sym (has-added_other u d) ∙ x)
 
       -- owners were added
       owner : (m : ℕ) → state_at k m ≢ 0 → has_seat now (state_at k m) ≡ true
-      owner m n = let r = within (state_at k m) last (h.owners m n) in from_within (state_at k m) (length now.seats) r.0 (omega (arith, length-added, r.1))
+      owner m n =
+          let r = within (state_at k m) last (h.owners m n) in
+          from_within (state_at k m) (length now.seats) r.0 (omega (arith, length-added, r.1))
 
       -- no chain closes
-      acyclic : (u : ℕ) → waits_for now u ≢ 0 → reaches_within (length now.seats) (waits_for now) (waits_for now u) u ≡ false
+      acyclic : (u : ℕ) → waits_for now u ≢ 0
+          → reaches_within (length now.seats) (waits_for now) (waits_for now u) u ≡ false
       acyclic u n =
           reaches_same _ _ _ _ _ _ u length-added waits-added (waits-added u)
-          ∙ reaches_with_more last (waits_for k) (waits_below k h) (waits_for k u) u (waits_below k h u) ∙ h.acyclic u (λ z. n (waits-added u ∙ z))
+          ∙ reaches_with_more last (waits_for k) (waits_below k h) (waits_for k u) u (waits_below k h u)
+          ∙ h.acyclic u (λ z. n (waits-added u ∙ z))
 
       -- all but the levels is kept
       waiting-added : IsWaiting now
@@ -141,9 +153,12 @@ module _ (p : ℕ) (k : Kernel) where
 
       -- each ready thread stands at its effective priority
       listed-added : IsListed now (effective_in now)
-      listed-added = listed-joined k now last (effective_in k) (effective_in now) has-added_other (λ u d. status-added u) effective-added_other
+      listed-added =
+          listed-joined k now last (effective_in k) (effective_in now) has-added_other
+          (λ u d. status-added u) effective-added_other
           (listed-from_kernel k h) p h.shape.levels refl (priority-range p ranged).0 (priority-range p ranged).1
-          (λ q. stands-unadded k (effective_in k) last q has-added_before) has-added_same (ap (λ (x : Seat). is_ready x.status) seat-added_same)
+          (λ q. stands-unadded k (effective_in k) last q has-added_before) has-added_same
+          (ap (λ (x : Seat). is_ready x.status) seat-added_same)
           effective-added_same
 
       -- the new thread is ready, at the end of its level

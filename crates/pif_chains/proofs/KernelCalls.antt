@@ -28,11 +28,14 @@ answer_by known own none empty living agrees chain =
     if known then
     (if own then Err Deadlock else
     (if none then (if empty then Ok TookOwns else Err Invalid) else
-    (if living then (if agrees then (if chain then Err Deadlock else Ok TookQueued) else Err Invalid) else Err NoSuchThread)))
+    (if living then
+    (if agrees then (if chain then Err Deadlock else Ok TookQueued) else Err Invalid)
+    else Err NoSuchThread)))
     else Err Fault
 
 -- where t is queued, the tests were these
-tests-queued : (known own none empty living agrees chain : Bool) → answer_by known own none empty living agrees chain ≡ Ok TookQueued
+tests-queued : (known own none empty living agrees chain : Bool)
+    → answer_by known own none empty living agrees chain ≡ Ok TookQueued
     → (known ≡ true) × (own ≡ false) × (none ≡ false) × (living ≡ true) × (agrees ≡ true) × (chain ≡ false)
 tests-queued true false false empty true true false h = (refl, refl, refl, refl, refl, refl)
 tests-queued true false true true living agrees chain h = absurd (cc)
@@ -48,11 +51,13 @@ agrees_with s n h d = eqb-true s n (go (s == 0) refl h)
     go false e x = x
 
 -- where lock_pi queues t, it found this out
-pub lock-queues : (t m : ℕ) (ws : Words) (k : Kernel) → lock_answer t m ws k ≡ Ok TookQueued → IsQueueing t m (word_at ws m).number ws k
+pub lock-queues : (t m : ℕ) (ws : Words) (k : Kernel) → lock_answer t m ws k ≡ Ok TookQueued
+    → IsQueueing t m (word_at ws m).number ws k
 unfolding lock_answer
 lock-queues t m ws k e =
     let n = (word_at ws m).number in
-    let r = tests-queued (has_word ws m) (n == t) (n == 0) (state_at k m == 0) (is_living k n) (if state_at k m == 0 then true else state_at k m == n)
+    let r = tests-queued (has_word ws m) (n == t) (n == 0) (state_at k m == 0) (is_living k n)
+    (if state_at k m == 0 then true else state_at k m == n)
     (reaches_within (length k.seats) (waits_for k) n t) e in
     record {
       word = r.0;
@@ -64,14 +69,16 @@ lock-queues t m ws k e =
     }
 
 -- the kernel after t is queued
-queueing : (t m : ℕ) (ws : Words) (k : Kernel) → IsKernel k → has_seat k t ≡ true → is_ready (seat_at k t).status ≡ true → length ws.mutexes ≤ 1025
+queueing : (t m : ℕ) (ws : Words) (k : Kernel) → IsKernel k → has_seat k t ≡ true
+    → is_ready (seat_at k t).status ≡ true → length ws.mutexes ≤ 1025
     → IsQueueing t m (word_at ws m).number ws k → IsKernel (kernel_after_queueing t m (word_at ws m).number k)
 queueing t m ws k h added ready few q =
     let r = within m (length ws.mutexes) q.word in
     queueing_kept t m (word_at ws m).number k h added ready r.0 (omega (arith, r.1)) q.living q.agrees q.free
 
 -- lock_pi keeps what a kernel keeps
-pub lock_kept : (t m : ℕ) (ws : Words) (k : Kernel) → IsKernel k → has_seat k t ≡ true → is_ready (seat_at k t).status ≡ true
+pub lock_kept : (t m : ℕ) (ws : Words) (k : Kernel) → IsKernel k → has_seat k t ≡ true
+    → is_ready (seat_at k t).status ≡ true
     → length ws.mutexes ≤ 1025 → IsKernel (kernel_after_lock t m (lock_answer t m ws k) ws k)
 unfolding kernel_after_lock
 lock_kept t m ws k h added ready few = by_answer (lock_answer t m ws k) refl
@@ -84,11 +91,13 @@ lock_kept t m ws k h added ready few = by_answer (lock_answer t m ws k) refl
 -- UNLOCK
 
 -- unlock_pi keeps what a kernel keeps
-pub unlock_kept : (t m : ℕ) (ws : Words) (k : Kernel) → IsKernel k → IsKernel (kernel_after_unlock m (unlock_answer t m ws k) k)
+pub unlock_kept : (t m : ℕ) (ws : Words) (k : Kernel) → IsKernel k
+    → IsKernel (kernel_after_unlock m (unlock_answer t m ws k) k)
 unfolding kernel_after_unlock
 unlock_kept t m ws k h = by_answer (unlock_answer t m ws k)
   where
-    by_state : (b : Bool) → (state_at k m == 0) ≡ b → IsKernel (if b then k else kernel_after_hand_over (next_in k m) m k)
+    by_state : (b : Bool) → (state_at k m == 0) ≡ b
+        → IsKernel (if b then k else kernel_after_hand_over (next_in k m) m k)
     by_state true e = h
     by_state false e = hand_over_kept m k h (eqb-false (state_at k m) 0 e)
 
@@ -99,17 +108,20 @@ unlock_kept t m ws k h = by_answer (unlock_answer t m ws k)
 -- SET_PRIO
 
 -- where set_prio goes through, p is a priority, and t is living
-pub set_prio-goes : (t p : ℕ) (k : Kernel) (x : record {}) → set_prio_answer t p k ≡ Ok x → (is_priority p ≡ true) × (is_living k t ≡ true)
+pub set_prio-goes : (t p : ℕ) (k : Kernel) (x : record {}) → set_prio_answer t p k ≡ Ok x
+    → (is_priority p ≡ true) × (is_living k t ≡ true)
 unfolding set_prio_answer
 set_prio-goes t p k x e = go (is_priority p) (is_living k t) e
   where
-    go : (a b : Bool) → (if a then (if b then Ok (record {}) else Err NoSuchThread) else Err Invalid) ≡ Ok x → (a ≡ true) × (b ≡ true)
+    go : (a b : Bool) → (if a then (if b then Ok (record {}) else Err NoSuchThread) else Err Invalid) ≡ Ok x
+        → (a ≡ true) × (b ≡ true)
     go true true e = (refl, refl)
     go true false e = absurd (cc)
     go false b e = absurd (cc)
 
 -- set_prio keeps what a kernel keeps
-pub set_prio_call_kept : (t p : ℕ) (k : Kernel) → IsKernel k → IsKernel (kernel_after_set_prio t p (set_prio_answer t p k) k)
+pub set_prio_call_kept : (t p : ℕ) (k : Kernel) → IsKernel k
+    → IsKernel (kernel_after_set_prio t p (set_prio_answer t p k) k)
 unfolding kernel_after_set_prio
 set_prio_call_kept t p k h = by_answer (set_prio_answer t p k) refl
   where

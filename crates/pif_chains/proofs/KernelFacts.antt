@@ -34,7 +34,8 @@ seat-unadded k h u e = go (cases_eq u 0) (cases_lt u (length k.seats))
     go (inr d) (inr g) = get_or_past k.seats u no_seat g
 
 -- who is queued on something was added
-pub added-from_queued : (k : Kernel) → IsKernelShaped k → (u m : ℕ) → m ≢ 0 → queued_on (seat_at k u).status ≡ m → has_seat k u ≡ true
+pub added-from_queued : (k : Kernel) → IsKernelShaped k → (u m : ℕ) → m ≢ 0 → queued_on (seat_at k u).status ≡ m
+    → has_seat k u ≡ true
 added-from_queued k h u m n e = by_test (λ b. has_seat k u ≡ b → b ≡ true) (has_seat k u) (λ _ _. refl)
     (λ x _. absurd (n (sym e ∙ ap (λ (x : Seat). queued_on x.status) (seat-unadded k h u x)))) refl
 
@@ -84,12 +85,16 @@ module _ (k : Kernel) (h : IsKernel k) where
   pub waited-status : (u : ℕ) → waited_by k.waiters u ≡ queued_on (seat_at k u).status
   waited-status u = go (cases_eq (waited_by k.waiters u) 0) (cases_eq (queued_on (seat_at k u).status) 0)
     where
-      go : (waited_by k.waiters u ≡ 0) ⊎ (waited_by k.waiters u ≢ 0) → (queued_on (seat_at k u).status ≡ 0) ⊎ (queued_on (seat_at k u).status ≢ 0)
+      go : (waited_by k.waiters u ≡ 0) ⊎ (waited_by k.waiters u ≢ 0)
+          → (queued_on (seat_at k u).status ≡ 0) ⊎ (queued_on (seat_at k u).status ≢ 0)
           → waited_by k.waiters u ≡ queued_on (seat_at k u).status
-      go (inr d) c = sym (ap queued_on (h.queue u (waited_by k.waiters u) (paired-from_waited k.waiters u (waited_by k.waiters u) d refl)))
+      go (inr d) c =
+          sym (ap queued_on (h.queue u (waited_by k.waiters u)
+          (paired-from_waited k.waiters u (waited_by k.waiters u) d refl)))
       go (inl z) (inl y) = z ∙ sym y
       go (inl z) (inr d) = waited-from_pair k.waiters u (queued_on (seat_at k u).status) h.once
-          (h.queued u (queued_on (seat_at k u).status) (queued-from_number (seat_at k u).status (queued_on (seat_at k u).status) d refl))
+          (h.queued u (queued_on (seat_at k u).status)
+          (queued-from_number (seat_at k u).status (queued_on (seat_at k u).status) d refl))
 
   -- who stands in the queue may not run
   pub unready-from_named : (u : ℕ) → names u k.waiters ≡ true → is_ready (seat_at k u).status ≡ false
@@ -97,7 +102,9 @@ module _ (k : Kernel) (h : IsKernel k) where
     where
       go : (waited_by k.waiters u ≡ 0) ⊎ (waited_by k.waiters u ≢ 0) → is_ready (seat_at k u).status ≡ false
       go (inl z) = absurd (true≢false (sym e ∙ unnamed-from_0 k.waiters u no_waiter-0 z))
-      go (inr d) = queued-unready (seat_at k u).status (waited_by k.waiters u) (h.queue u (waited_by k.waiters u) (paired-from_waited k.waiters u (waited_by k.waiters u) d refl))
+      go (inr d) =
+          queued-unready (seat_at k u).status (waited_by k.waiters u)
+          (h.queue u (waited_by k.waiters u) (paired-from_waited k.waiters u (waited_by k.waiters u) d refl))
 
   -- who may run stands nowhere in the queue
   pub unnamed-from_ready : (u : ℕ) → is_ready (seat_at k u).status ≡ true → names u k.waiters ≡ false
@@ -105,11 +112,15 @@ module _ (k : Kernel) (h : IsKernel k) where
 
   -- whom one waits for is another
   pub waits_for-other : (u : ℕ) → waits_for k u ≢ 0 → waits_for k u ≢ u
-  waits_for-other u n e = true≢false (sym (subst (λ v. reaches_within (length k.seats) (waits_for k) v u ≡ true) (sym e) (within_here (length k.seats) (waits_for k) u)) ∙ h.acyclic u n)
+  waits_for-other u n e =
+      true≢false (sym (subst (λ v. reaches_within (length k.seats) (waits_for k) v u ≡ true) (sym e)
+      (within_here (length k.seats) (waits_for k) u)) ∙ h.acyclic u n)
 
   -- a mutex on which a thread is queued has an owner state
   pub has_state-from_queued : (u m : ℕ) → m ≢ 0 → queued_on (seat_at k u).status ≡ m → state_at k m ≢ 0
-  has_state-from_queued u m n e = state-from_waiter m (has_waiter-from_pair k.waiters u m (h.queued u m (queued-from_number (seat_at k u).status m n e)))
+  has_state-from_queued u m n e =
+      state-from_waiter m (has_waiter-from_pair k.waiters u m
+      (h.queued u m (queued-from_number (seat_at k u).status m n e)))
 
   -- THE NEXT WAITER
 
@@ -134,5 +145,6 @@ module _ (k : Kernel) (h : IsKernel k) where
   next-some m n = (within (next_in k m) (length k.seats) (next-added m n)).0
 
   -- the next waiter of a mutex that has an owner state is a thread that was added, queued on it
-  pub next_in_waits : (m : ℕ) → state_at k m ≢ 0 → (has_seat k (next_in k m) ≡ true) × ((seat_at k (next_in k m)).status ≡ Queued m)
+  pub next_in_waits : (m : ℕ) → state_at k m ≢ 0
+      → (has_seat k (next_in k m) ≡ true) × ((seat_at k (next_in k m)).status ≡ Queued m)
   next_in_waits m n = (next-added m n, next-queued m n)

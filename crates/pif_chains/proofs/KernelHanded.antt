@@ -28,7 +28,8 @@ module _ (u m : ℕ) (k : Kernel) where
 
   -- the kernel before u has joined a level
   abbrev pub kernel_with_owner : Kernel
-  kernel_with_owner = record (with_status u (Ready WokenOwns) (with_state m state_handed k)) { waiters = without k.waiters u }
+  kernel_with_owner =
+      record (with_status u (Ready WokenOwns) (with_state m state_handed k)) { waiters = without k.waiters u }
 
   -- the kernel before it is settled
   abbrev pub kernel_with_hand_over : Kernel
@@ -47,7 +48,8 @@ module _ (u m : ℕ) (k : Kernel) where
   seat-handed_other v d = get_or-set_other k.seats u v seat no_seat d
 
   -- u is ready
-  pub seat-handed_same : has_seat k u ≡ true → seat_at kernel_with_hand_over u ≡ record (seat_at k u) { status = Ready WokenOwns }
+  pub seat-handed_same : has_seat k u ≡ true
+      → seat_at kernel_with_hand_over u ≡ record (seat_at k u) { status = Ready WokenOwns }
   seat-handed_same added = get_or-set_same k.seats u seat no_seat (within u (length k.seats) added).1
 
   -- each has the base priority that it had
@@ -65,7 +67,8 @@ module _ (u m : ℕ) (k : Kernel) where
 
     -- the owner state of m names u, where others are queued on it
     pub state-handed_same : state_at kernel_with_hand_over m ≡ (if has_waiter (without k.waiters u) m then u else 0)
-    state-handed_same = get_or-set_same k.states m state_handed 0 (omega (arith, h.shape.states, mutex_below k h m some))
+    state-handed_same =
+        get_or-set_same k.states m state_handed 0 (omega (arith, h.shape.states, mutex_below k h m some))
 
     -- the status of u
     status-same : (seat_at kernel_with_hand_over u).status ≡ Ready WokenOwns
@@ -76,14 +79,21 @@ module _ (u m : ℕ) (k : Kernel) where
     is_queued v i r = ap (λ (x : Seat). x.status) (seat-handed_other v r.1) ∙ h.queue v i r.0
 
     -- and back
-    in_queue : (v i : ℕ) → (v ≡ u) ⊎ (v ≢ u) → (seat_at kernel_with_hand_over v).status ≡ Queued i → pairs v i (without k.waiters u) ≡ true
+    in_queue : (v i : ℕ) → (v ≡ u) ⊎ (v ≢ u) → (seat_at kernel_with_hand_over v).status ≡ Queued i
+        → pairs v i (without k.waiters u) ≡ true
     in_queue v i (inl e) q =
-        let both : Ready WokenOwns ≡ Queued i = sym status-same ∙ ap (λ x. (seat_at kernel_with_hand_over x).status) (sym e) ∙ q in absurd (cc)
-    in_queue v i (inr d) q = pairs-without_other k.waiters u v i d ∙ h.queued v i (sym (ap (λ (x : Seat). x.status) (seat-handed_other v d)) ∙ q)
+        let both : Ready WokenOwns ≡ Queued i = sym status-same
+        ∙ ap (λ x. (seat_at kernel_with_hand_over x).status) (sym e) ∙ q in absurd (cc)
+    in_queue v i (inr d) q =
+        pairs-without_other k.waiters u v i d
+        ∙ h.queued v i (sym (ap (λ (x : Seat). x.status) (seat-handed_other v d)) ∙ q)
 
     -- there is an owner state exactly while threads are queued
-    states : (i : ℕ) → (i ≡ m) ⊎ (i ≢ m) → (state_at kernel_with_hand_over i == 0) ≡ (if has_waiter (without k.waiters u) i then false else true)
-    states i (inl e) = subst (λ j. (state_at kernel_with_hand_over j == 0) ≡ (if has_waiter (without k.waiters u) j then false else true)) (sym e)
+    states : (i : ℕ) → (i ≡ m) ⊎ (i ≢ m)
+        → (state_at kernel_with_hand_over i == 0) ≡ (if has_waiter (without k.waiters u) i then false else true)
+    states i (inl e) =
+        subst (λ j. (state_at kernel_with_hand_over j == 0)
+        ≡ (if has_waiter (without k.waiters u) j then false else true)) (sym e)
         (ap (λ x. x == 0) state-handed_same ∙ by_rest (has_waiter (without k.waiters u) m))
       where
         by_rest : (b : Bool) → ((if b then u else 0) == 0) ≡ (if b then false else true)
@@ -91,11 +101,15 @@ module _ (u m : ℕ) (k : Kernel) where
         by_rest false = refl
     states i (inr d) =
         ap (λ x. x == 0) (state-handed_other i d) ∙ h.states i
-        ∙ ap (λ b. if b then false else true) (sym (has_waiter-without_other k.waiters u m i h.once (waited-status k h u ∙ ap queued_on queued) d))
+        ∙ ap (λ b. if b then false else true)
+        (sym (has_waiter-without_other k.waiters u m i h.once (waited-status k h u ∙ ap queued_on queued) d))
 
     -- of a thread that was added
-    owners : (i : ℕ) → (i ≡ m) ⊎ (i ≢ m) → state_at kernel_with_hand_over i ≢ 0 → has_seat kernel_with_hand_over (state_at kernel_with_hand_over i) ≡ true
-    owners i (inl e) x = has-handed (state_at kernel_with_hand_over i) ∙ ap (has_seat k) is ∙ by_rest (has_waiter (without k.waiters u) m) (λ z. x (is ∙ z))
+    owners : (i : ℕ) → (i ≡ m) ⊎ (i ≢ m) → state_at kernel_with_hand_over i ≢ 0
+        → has_seat kernel_with_hand_over (state_at kernel_with_hand_over i) ≡ true
+    owners i (inl e) x =
+        has-handed (state_at kernel_with_hand_over i) ∙ ap (has_seat k) is
+        ∙ by_rest (has_waiter (without k.waiters u) m) (λ z. x (is ∙ z))
       where
         is : state_at kernel_with_hand_over i ≡ (if has_waiter (without k.waiters u) m then u else 0)
         is = ap (state_at kernel_with_hand_over) e ∙ state-handed_same
@@ -104,7 +118,8 @@ module _ (u m : ℕ) (k : Kernel) where
         by_rest true y = added
         by_rest false y = absurd (y refl)
     owners i (inr d) x =
-        has-handed (state_at kernel_with_hand_over i) ∙ ap (has_seat k) (state-handed_other i d) ∙ h.owners i (λ z. x (state-handed_other i d ∙ z))
+        has-handed (state_at kernel_with_hand_over i) ∙ ap (has_seat k) (state-handed_other i d)
+        ∙ h.owners i (λ z. x (state-handed_other i d ∙ z))
 
     -- whether a thread was queued on m
     abbrev on : ℕ → Bool
@@ -112,7 +127,9 @@ module _ (u m : ℕ) (k : Kernel) where
 
     -- who was not waits for whom it waited
     pub waits-handed_other : (v : ℕ) → on v ≡ false → waits_for kernel_with_hand_over v ≡ waits_for k v
-    waits-handed_other v e = ap (λ (x : Seat). state_at kernel_with_hand_over (queued_on x.status)) (seat-handed_other v other) ∙ state-handed_other (queued_on (seat_at k v).status) (eqb-false _ _ e)
+    waits-handed_other v e =
+        ap (λ (x : Seat). state_at kernel_with_hand_over (queued_on x.status)) (seat-handed_other v other)
+        ∙ state-handed_other (queued_on (seat_at k v).status) (eqb-false _ _ e)
       where
         other : v ≢ u
         other x = true≢false (sym (eq-eqb (queued_on (seat_at k u).status) m (ap queued_on queued)) ∙ ap on (sym x) ∙ e)
@@ -120,25 +137,32 @@ module _ (u m : ℕ) (k : Kernel) where
     -- who was waits for u
     pub waits-handed_moved : (v : ℕ) → on v ≡ true → v ≢ u → waits_for kernel_with_hand_over v ≡ u
     waits-handed_moved v e d =
-        ap (λ (x : Seat). state_at kernel_with_hand_over (queued_on x.status)) (seat-handed_other v d) ∙ ap (state_at kernel_with_hand_over) is ∙ state-handed_same ∙ rw there refl
+        ap (λ (x : Seat). state_at kernel_with_hand_over (queued_on x.status)) (seat-handed_other v d)
+        ∙ ap (state_at kernel_with_hand_over) is ∙ state-handed_same ∙ rw there refl
       where
         is : queued_on (seat_at k v).status ≡ m
         is = eqb-true (queued_on (seat_at k v).status) m e
 
         there : has_waiter (without k.waiters u) m ≡ true
         there = has_waiter-from_pair (without k.waiters u) v m
-            (pairs-without_other k.waiters u v m d ∙ h.queued v m (queued-from_number (seat_at k v).status m (some_mutex k h m some) is))
+            (pairs-without_other k.waiters u v m d
+            ∙ h.queued v m (queued-from_number (seat_at k v).status m (some_mutex k h m some) is))
 
     -- but for u, which waits for nobody
     pub waits-handed_same : waits_for kernel_with_hand_over u ≡ 0
     waits-handed_same =
-        ap (λ x. state_at kernel_with_hand_over (queued_on x)) status-same ∙ state-handed_other 0 (λ e. some_mutex k h m some (sym e)) ∙ h.shape.no_mutex
+        ap (λ x. state_at kernel_with_hand_over (queued_on x)) status-same
+        ∙ state-handed_other 0 (λ e. some_mutex k h m some (sym e)) ∙ h.shape.no_mutex
 
     -- no chain closes
-    acyclic : (v : ℕ) → waits_for kernel_with_hand_over v ≢ 0 → reaches_within (length kernel_with_hand_over.seats) (waits_for kernel_with_hand_over) (waits_for kernel_with_hand_over v) v ≡ false
+    acyclic : (v : ℕ) → waits_for kernel_with_hand_over v ≢ 0
+        → reaches_within (length kernel_with_hand_over.seats) (waits_for kernel_with_hand_over)
+        (waits_for kernel_with_hand_over v) v ≡ false
     acyclic v x =
         reaches_same _ _ _ _ _ _ v length-handed (λ y. refl) refl
-        ∙ acyclic_handed (waits_for k) (waits_for kernel_with_hand_over) u on waits-handed_other waits-handed_moved waits-handed_same (length k.seats) (waits_below k h) h.acyclic v x
+        ∙ acyclic_handed (waits_for k)
+        (waits_for kernel_with_hand_over) u on waits-handed_other waits-handed_moved waits-handed_same
+        (length k.seats) (waits_below k h) h.acyclic v x
 
     -- the lists of the kernel
     shape-handed : IsKernelShaped kernel_with_hand_over
@@ -170,9 +194,13 @@ module _ (u m : ℕ) (k : Kernel) where
 
     -- each ready thread stands on one level
     listed-handed : IsListed kernel_with_hand_over at
-    listed-handed = listed-joined k kernel_with_hand_over u (effective_in k) at (λ v d. has-handed v) (λ v d. ap (λ (x : Seat). x.status) (seat-handed_other v d))
-        (λ v d. rw (ne_eqb v u d) refl) (listed-from_kernel k h) (effective_in kernel_with_owner u) h.shape.levels refl range.0 range.1
-        (λ q. stands-unready k (effective_in k) u q (queued-unready (seat_at k u).status m queued)) (has-handed u ∙ added) (ap is_ready status-same)
+    listed-handed =
+        listed-joined k kernel_with_hand_over u (effective_in k) at (λ v d. has-handed v)
+        (λ v d. ap (λ (x : Seat). x.status) (seat-handed_other v d))
+        (λ v d. rw (ne_eqb v u d) refl) (listed-from_kernel k h)
+        (effective_in kernel_with_owner u) h.shape.levels refl range.0 range.1
+        (λ q. stands-unready k (effective_in k) u q (queued-unready (seat_at k u).status m queued)) (has-handed u
+        ∙ added) (ap is_ready status-same)
         (rw (eq-eqb u u refl) refl)
       where
         range : (1 ≤ effective_in kernel_with_owner u) × (effective_in kernel_with_owner u ≤ 99)

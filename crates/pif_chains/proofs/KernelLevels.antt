@@ -10,7 +10,8 @@ use Rattle.pif_chains.proofs.KernelNumbers.{others, numbers-more, numbers-none}
 -- WHO HAS LEFT AND JOINED
 
 -- the levels that one has left
-pub level-left : (t : ℕ) (levels : List (List ℕ)) (p : ℕ) → level_at (left t levels) p ≡ filter (others t) (level_at levels p)
+pub level-left : (t : ℕ) (levels : List (List ℕ)) (p : ℕ)
+    → level_at (left t levels) p ≡ filter (others t) (level_at levels p)
 level-left t levels p = mapped_at (filter (others t)) levels p []
 
 -- as many levels
@@ -18,11 +19,13 @@ pub length-left : (t : ℕ) (levels : List (List ℕ)) → length (left t levels
 length-left t levels = length-map levels (filter (others t))
 
 -- the level that one has joined
-pub level-joined_same : (t p : ℕ) (levels : List (List ℕ)) → p < length levels → level_at (joined t p levels) p ≡ level_at levels p ++ t ∷ []
+pub level-joined_same : (t p : ℕ) (levels : List (List ℕ)) → p < length levels
+    → level_at (joined t p levels) p ≡ level_at levels p ++ t ∷ []
 level-joined_same t p levels l = get_or-set_same levels p (level_at levels p ++ t ∷ []) [] l
 
 -- the others are as before
-pub level-joined_other : (t p : ℕ) (levels : List (List ℕ)) (q : ℕ) → q ≢ p → level_at (joined t p levels) q ≡ level_at levels q
+pub level-joined_other : (t p : ℕ) (levels : List (List ℕ)) (q : ℕ) → q ≢ p
+    → level_at (joined t p levels) q ≡ level_at levels q
 level-joined_other t p levels q n = get_or-set_other levels p q (level_at levels p ++ t ∷ []) [] n
 
 -- as many levels
@@ -40,15 +43,18 @@ length-numbers (suc n) = ap length (numbers-more n) ∙ length_push (numbers n) 
 told : (f : ℕ → List ℕ) (n i : ℕ) → i < n → get_or (map f (numbers n)) i [] ≡ f (suc i)
 told f zero i l = absurd (omega arith)
 told f (suc n) i l =
-    ap (λ xs. get_or (map f xs) i []) (numbers-more n) ∙ ap (λ xs. get_or xs i []) (map-append f (numbers n) (suc n ∷ []))
+    ap (λ xs. get_or (map f xs) i []) (numbers-more n)
+    ∙ ap (λ xs. get_or xs i []) (map-append f (numbers n) (suc n ∷ []))
     ∙ by_place (cases_eq i n) (λ less. told f n i less)
   where
     many : length (map f (numbers n)) ≡ n
     many = length-map (numbers n) f ∙ length-numbers n
 
-    by_place : (i ≡ n) ⊎ (i ≢ n) → (i < n → get_or (map f (numbers n)) i [] ≡ f (suc i)) → get_or (map f (numbers n) ++ f (suc n) ∷ []) i [] ≡ f (suc i)
+    by_place : (i ≡ n) ⊎ (i ≢ n) → (i < n → get_or (map f (numbers n)) i [] ≡ f (suc i))
+        → get_or (map f (numbers n) ++ f (suc n) ∷ []) i [] ≡ f (suc i)
     by_place (inl e) ih = get_or_push (map f (numbers n)) (f (suc n)) [] i (many ∙ sym e) ∙ ap (λ j. f (suc j)) (sym e)
-    by_place (inr d) ih = get_or-append (map f (numbers n)) (f (suc n) ∷ []) [] i (omega (arith, many)) ∙ ih (omega arith)
+    by_place (inr d) ih =
+        get_or-append (map f (numbers n)) (f (suc n) ∷ []) [] i (omega (arith, many)) ∙ ih (omega arith)
 
 -- the number of levels
 pub length-levels_by : (f : ℕ → List ℕ) → length (levels_by f) ≡ 100

@@ -76,7 +76,8 @@ waiting l = record {
 
 pub kernel-new : (l : Bounds) → IsKernel (new_kernel l)
 kernel-new l = kernel-from_listed (new_kernel l) (waiting l) (record {
-  on = λ t p. ap (λ xs. is_among xs t) (no_level p) ∙ sym (stands-unadded (new_kernel l) (effective_in (new_kernel l)) t p (none_added l t));
+  on = λ t p. ap (λ xs. is_among xs t) (no_level p)
+      ∙ sym (stands-unadded (new_kernel l) (effective_in (new_kernel l)) t p (none_added l t));
   range = λ t e. absurd (true≢false (sym e ∙ none_added l t));
   once = λ p. subst (IsDistinct eqb) (sym (no_level p)) distinct-none;
 })

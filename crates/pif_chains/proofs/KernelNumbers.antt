@@ -11,7 +11,8 @@ use Rattle.pif_chains.proofs.Waiting.{by_test, or_true, or_false}
 -- AMONG
 
 -- who is among those that pass a test is one of them, and passes
-pub among-filter : (f : ℕ → Bool) (xs : List ℕ) (t : ℕ) → is_among (filter f xs) t ≡ (if f t then is_among xs t else false)
+pub among-filter : (f : ℕ → Bool) (xs : List ℕ) (t : ℕ)
+    → is_among (filter f xs) t ≡ (if f t then is_among xs t else false)
 among-filter f xs t = by_test (λ b. f t ≡ b → is_among (filter f xs) t ≡ (if b then is_among xs t else false)) (f t)
     (λ e _. any-filter_same (λ u. u == t) f true (λ u k. ap f (eqb-true u t k) ∙ e) xs)
     (λ e _. any-filter_same (λ u. u == t) f false (λ u k. ap f (eqb-true u t k) ∙ e) xs)
@@ -112,34 +113,41 @@ any_number f zero q l k h = absurd (omega arith)
 any_number f (suc n) q l k h =
     list_any-append f (numbers n) (suc n ∷ []) ∙ go (λ b. any_number f n q l b h) (cases_eq (suc n) q)
   where
-    go : (q ≤ n → list_any f (numbers n) ≡ true) → (suc n ≡ q) ⊎ (suc n ≢ q) → (list_any f (numbers n) || (f (suc n) || false)) ≡ true
+    go : (q ≤ n → list_any f (numbers n) ≡ true) → (suc n ≡ q) ⊎ (suc n ≢ q)
+        → (list_any f (numbers n) || (f (suc n) || false)) ≡ true
     go ih (inl e) = ap (λ b. list_any f (numbers n) || (b || false)) (ap f e ∙ h) ∙ or_true (list_any f (numbers n))
     go ih (inr d) = ap (λ b. b || (f (suc n) || false)) (ih (omega arith))
 
 -- and back
-pub number-from_any : (f : ℕ → Bool) (n : ℕ) → list_any f (numbers n) ≡ true → (q : ℕ) × (1 ≤ q) × (q ≤ n) × (f q ≡ true)
+pub number-from_any : (f : ℕ → Bool) (n : ℕ) → list_any f (numbers n) ≡ true
+    → (q : ℕ) × (1 ≤ q) × (q ≤ n) × (f q ≡ true)
 unfolding numbers
 number-from_any f zero h = absurd (true≢false (sym h))
 number-from_any f (suc n) h =
-    go (number-from_any f n) (or_cases (list_any f (numbers n)) (f (suc n) || false) (sym (list_any-append f (numbers n) (suc n ∷ [])) ∙ h))
+    go (number-from_any f n)
+    (or_cases (list_any f (numbers n)) (f (suc n) || false) (sym (list_any-append f (numbers n) (suc n ∷ [])) ∙ h))
   where
     go : (list_any f (numbers n) ≡ true → (q : ℕ) × (1 ≤ q) × (q ≤ n) × (f q ≡ true))
-        → (list_any f (numbers n) ≡ true) ⊎ ((f (suc n) || false) ≡ true) → (q : ℕ) × (1 ≤ q) × (q ≤ suc n) × (f q ≡ true)
+        → (list_any f (numbers n) ≡ true) ⊎ ((f (suc n) || false) ≡ true)
+        → (q : ℕ) × (1 ≤ q) × (q ≤ suc n) × (f q ≡ true)
     go ih (inl e) = let r = ih e in (r.0, r.1, omega (arith, r.2), r.3)
     go ih (inr e) = (suc n, omega arith, omega arith, sym (or_false (f (suc n))) ∙ e)
 
 -- no number passes
 pub no_number : (f : ℕ → Bool) (n : ℕ) → ((q : ℕ) → f q ≡ false) → list_any f (numbers n) ≡ false
-no_number f n h = false_from_ne_true (list_any f (numbers n)) (λ e. let r = number-from_any f n e in true≢false (sym r.3 ∙ h r.0))
+no_number f n h =
+    false_from_ne_true (list_any f (numbers n)) (λ e. let r = number-from_any f n e in true≢false (sym r.3 ∙ h r.0))
 
 -- which they are
 pub among-numbers : (n t : ℕ) → is_among (numbers n) t ≡ (if t == 0 then false else nat_lt t (suc n))
 among-numbers zero t = ap (λ xs. is_among xs t) numbers-none ∙ grind (arith, nat_tests)
 among-numbers (suc n) t =
-    ap (λ xs. is_among xs t) (numbers-more n) ∙ among-push (numbers n) (suc n) t ∙ ap (λ b. b || (suc n == t)) (among-numbers n t) ∙ grind (arith, nat_tests)
+    ap (λ xs. is_among xs t) (numbers-more n) ∙ among-push (numbers n) (suc n) t
+    ∙ ap (λ b. b || (suc n == t)) (among-numbers n t) ∙ grind (arith, nat_tests)
 
 -- they are distinct
 pub distinct-numbers : (n : ℕ) → IsDistinct eqb (numbers n)
 unfolding numbers
 distinct-numbers zero = distinct-none
-distinct-numbers (suc n) = distinct-push (numbers n) (suc n) (distinct-numbers n) (among-numbers n (suc n) ∙ grind (arith, nat_tests))
+distinct-numbers (suc n) =
+    distinct-push (numbers n) (suc n) (distinct-numbers n) (among-numbers n (suc n) ∙ grind (arith, nat_tests))

@@ -25,35 +25,49 @@ unfolding first_from
 from_none levels = refl
 
 -- a level that has a thread
-from_first : (levels : List (List ℕ)) (n t : ℕ) (ts : List ℕ) → level_at levels (suc n) ≡ t ∷ ts → first_from levels (suc n) ≡ t
+from_first : (levels : List (List ℕ)) (n t : ℕ) (ts : List ℕ) → level_at levels (suc n) ≡ t ∷ ts
+    → first_from levels (suc n) ≡ t
 unfolding first_from
 from_first levels n t ts e = ap (λ (xs : List ℕ). elim xs [ [] ↦ first_from levels n | (u ∷ us) ↦ u ]) e
 
 -- a level that has none
-from_empty : (levels : List (List ℕ)) (n : ℕ) → level_at levels (suc n) ≡ [] → first_from levels (suc n) ≡ first_from levels n
+from_empty : (levels : List (List ℕ)) (n : ℕ) → level_at levels (suc n) ≡ []
+    → first_from levels (suc n) ≡ first_from levels n
 unfolding first_from
 from_empty levels n e = ap (λ (xs : List ℕ). elim xs [ [] ↦ first_from levels n | (u ∷ us) ↦ u ]) e
 
 -- where a level has a thread, it is the first of the greatest that has one
 pub first_from-greatest : (levels : List (List ℕ)) (n t : ℕ) → IsFirstIn levels n t → first_from levels n ≡ t
 first_from-greatest levels zero t h = absurd (omega (arith, h.least, h.most))
-first_from-greatest levels (suc n) t h = by_place (cases_eq h.level (suc n)) (λ less. first_from-greatest levels n t (below less))
+first_from-greatest levels (suc n) t h =
+    by_place (cases_eq h.level (suc n)) (λ less. first_from-greatest levels n t (below less))
   where
     below : h.level ≤ n → IsFirstIn levels n t
-    below less = record { level = h.level; least = h.least; most = less; later = h.later; first = h.first; above = λ p l m. h.above p l (omega arith) }
+    below less = record {
+      level = h.level;
+      least = h.least;
+      most = less;
+      later = h.later;
+      first = h.first;
+      above = λ p l m. h.above p l (omega arith);
+    }
 
-    by_place : (h.level ≡ suc n) ⊎ (h.level ≢ suc n) → (h.level ≤ n → first_from levels n ≡ t) → first_from levels (suc n) ≡ t
+    by_place : (h.level ≡ suc n) ⊎ (h.level ≢ suc n) → (h.level ≤ n → first_from levels n ≡ t)
+        → first_from levels (suc n) ≡ t
     by_place (inl e) ih = from_first levels n t h.later (ap (level_at levels) (sym e) ∙ h.first)
-    by_place (inr d) ih = from_empty levels n (h.above (suc n) (omega (arith, h.most)) (omega arith)) ∙ ih (omega (arith, h.most))
+    by_place (inr d) ih =
+        from_empty levels n (h.above (suc n) (omega (arith, h.most)) (omega arith)) ∙ ih (omega (arith, h.most))
 
 -- where none has, it is nobody
 pub first_from-none : (levels : List (List ℕ)) (n : ℕ) → NoneIn levels n → first_from levels n ≡ 0
 first_from-none levels zero empty = from_none levels
 first_from-none levels (suc n) empty =
-    from_empty levels n (empty (suc n) (omega arith) (omega arith)) ∙ first_from-none levels n (λ p l m. empty p l (omega arith))
+    from_empty levels n (empty (suc n) (omega arith) (omega arith))
+    ∙ first_from-none levels n (λ p l m. empty p l (omega arith))
 
 -- one of the two is so
-pub first_from-cases : (levels : List (List ℕ)) (n : ℕ) → IsFirstIn levels n (first_from levels n) ⊎ (NoneIn levels n × (first_from levels n ≡ 0))
+pub first_from-cases : (levels : List (List ℕ)) (n : ℕ)
+    → IsFirstIn levels n (first_from levels n) ⊎ (NoneIn levels n × (first_from levels n ≡ 0))
 first_from-cases levels zero = inr ((λ p l m. absurd (omega arith)), from_none levels)
 first_from-cases levels (suc n) = by_level (level_at levels (suc n)) refl (first_from-cases levels n)
   where
@@ -64,15 +78,18 @@ first_from-cases levels (suc n) = by_level (level_at levels (suc n)) refl (first
         go (inl x) = ap (level_at levels) x ∙ e
         go (inr d) = none p l (omega arith)
 
-    above : (h : IsFirstIn levels n (first_from levels n)) → level_at levels (suc n) ≡ [] → (p : ℕ) → h.level < p → p ≤ suc n → level_at levels p ≡ []
+    above : (h : IsFirstIn levels n (first_from levels n)) → level_at levels (suc n) ≡ [] → (p : ℕ) → h.level < p
+        → p ≤ suc n → level_at levels p ≡ []
     above h e p l m = go (cases_eq p (suc n))
       where
         go : (p ≡ suc n) ⊎ (p ≢ suc n) → level_at levels p ≡ []
         go (inl x) = ap (level_at levels) x ∙ e
         go (inr d) = h.above p l (omega arith)
 
-    by_level : (xs : List ℕ) → level_at levels (suc n) ≡ xs → IsFirstIn levels n (first_from levels n) ⊎ (NoneIn levels n × (first_from levels n ≡ 0))
-        → IsFirstIn levels (suc n) (first_from levels (suc n)) ⊎ (NoneIn levels (suc n) × (first_from levels (suc n) ≡ 0))
+    by_level : (xs : List ℕ) → level_at levels (suc n) ≡ xs
+        → IsFirstIn levels n (first_from levels n) ⊎ (NoneIn levels n × (first_from levels n ≡ 0))
+        → IsFirstIn levels (suc n) (first_from levels (suc n))
+        ⊎ (NoneIn levels (suc n) × (first_from levels (suc n) ≡ 0))
     by_level [] e (inl h) = inl (record {
       level = h.level;
       least = h.least;
@@ -97,17 +114,20 @@ first_from-cases levels (suc n) = by_level (level_at levels (suc n)) refl (first
 pub record IsPicked (k : Kernel) (t : ℕ) : Type 0 where
   pub added : has_seat k t ≡ true
   pub ready : is_ready (seat_at k t).status ≡ true
-  pub greatest : (u : ℕ) → has_seat k u ≡ true → is_ready (seat_at k u).status ≡ true → effective_in k u ≤ effective_in k t
+  pub greatest : (u : ℕ) → has_seat k u ≡ true → is_ready (seat_at k u).status ≡ true
+      → effective_in k u ≤ effective_in k t
   pub later : List ℕ
   pub first : level_at k.levels (effective_in k t) ≡ t ∷ later
   -- no greater level has a thread
   pub above : (p : ℕ) → effective_in k t < p → p ≤ 99 → level_at k.levels p ≡ []
 
 -- what stands on a level says
-stood : (k : Kernel) (at : ℕ → ℕ) (t p : ℕ) → stands k at t p ≡ true → (has_seat k t ≡ true) × (is_ready (seat_at k t).status ≡ true) × (at t ≡ p)
+stood : (k : Kernel) (at : ℕ → ℕ) (t p : ℕ) → stands k at t p ≡ true
+    → (has_seat k t ≡ true) × (is_ready (seat_at k t).status ≡ true) × (at t ≡ p)
 stood k at t p h = go (has_seat k t) (is_ready (seat_at k t).status) (at t == p) refl h
   where
-    go : (a b c : Bool) → (at t == p) ≡ c → (if a then (if b then c else false) else false) ≡ true → (a ≡ true) × (b ≡ true) × (at t ≡ p)
+    go : (a b c : Bool) → (at t == p) ≡ c → (if a then (if b then c else false) else false) ≡ true
+        → (a ≡ true) × (b ≡ true) × (at t ≡ p)
     go true true true e x = (refl, refl, eqb-true (at t) p e)
     go true true false e x = absurd (true≢false (sym x))
     go true false c e x = absurd (true≢false (sym x))
@@ -115,7 +135,8 @@ stood k at t p h = go (has_seat k t) (is_ready (seat_at k t).status) (at t == p)
 
 module _ (k : Kernel) (h : IsKernel k) where
   -- a ready thread stands at the level of its effective priority
-  pub on_level : (u : ℕ) → has_seat k u ≡ true → is_ready (seat_at k u).status ≡ true → is_among (level_at k.levels (effective_in k u)) u ≡ true
+  pub on_level : (u : ℕ) → has_seat k u ≡ true → is_ready (seat_at k u).status ≡ true
+      → is_among (level_at k.levels (effective_in k u)) u ≡ true
   on_level u a r = h.level u (effective_in k u) ∙ rw (a, r) (eq-eqb (effective_in k u) (effective_in k u) refl)
 
   -- no thread stands on a level that has none
@@ -135,18 +156,23 @@ module _ (k : Kernel) (h : IsKernel k) where
     where
       says : (has_seat k t ≡ true) × (is_ready (seat_at k t).status ≡ true) × (effective_in k t ≡ f.level)
       says = stood k (effective_in k) t f.level
-          (sym (h.level t f.level) ∙ ap (λ xs. is_among xs t) f.first ∙ ap (λ b. b || is_among f.later t) (eq-eqb t t refl))
+          (sym (h.level t f.level) ∙ ap (λ xs. is_among xs t) f.first
+          ∙ ap (λ b. b || is_among f.later t) (eq-eqb t t refl))
 
-      greatest : (u : ℕ) → has_seat k u ≡ true → is_ready (seat_at k u).status ≡ true → effective_in k u ≤ effective_in k t
+      greatest : (u : ℕ) → has_seat k u ≡ true → is_ready (seat_at k u).status ≡ true
+          → effective_in k u ≤ effective_in k t
       greatest u a r = go (cases_lt (effective_in k t) (effective_in k u))
         where
-          go : (effective_in k t < effective_in k u) ⊎ (effective_in k u ≤ effective_in k t) → effective_in k u ≤ effective_in k t
+          go : (effective_in k t < effective_in k u) ⊎ (effective_in k u ≤ effective_in k t)
+              → effective_in k u ≤ effective_in k t
           go (inr l) = l
           go (inl l) = absurd (true≢false (sym (on_level u a r)
-              ∙ off_level u (effective_in k u) (f.above (effective_in k u) (omega (arith, says.2)) (effective_range k h.shape u a).1)))
+              ∙ off_level u (effective_in k u)
+              (f.above (effective_in k u) (omega (arith, says.2)) (effective_range k h.shape u a).1)))
 
   -- who runs next is picked, or nobody is ready
-  pub pick_cases : IsPicked k (pick_in k) ⊎ (((u : ℕ) → has_seat k u ≡ true → is_ready (seat_at k u).status ≡ false) × (pick_in k ≡ 0))
+  pub pick_cases : IsPicked k (pick_in k)
+      ⊎ (((u : ℕ) → has_seat k u ≡ true → is_ready (seat_at k u).status ≡ false) × (pick_in k ≡ 0))
   pick_cases = go (first_from-cases k.levels 99)
     where
       unready : NoneIn k.levels 99 → (u : ℕ) → has_seat k u ≡ true → is_ready (seat_at k u).status ≡ false
@@ -155,7 +181,8 @@ module _ (k : Kernel) (h : IsKernel k) where
           true≢false (sym (on_level u a r) ∙ off_level u (effective_in k u) (none (effective_in k u) e.0 e.1)))
 
       go : IsFirstIn k.levels 99 (pick_in k) ⊎ (NoneIn k.levels 99 × (pick_in k ≡ 0))
-          → IsPicked k (pick_in k) ⊎ (((u : ℕ) → has_seat k u ≡ true → is_ready (seat_at k u).status ≡ false) × (pick_in k ≡ 0))
+          → IsPicked k (pick_in k)
+          ⊎ (((u : ℕ) → has_seat k u ≡ true → is_ready (seat_at k u).status ≡ false) × (pick_in k ≡ 0))
       go (inl f) = inl (picked-from_first (pick_in k) f)
       go (inr r) = inr (unready r.0, r.1)
 
@@ -163,7 +190,9 @@ module _ (k : Kernel) (h : IsKernel k) where
   pub pick_law : pick_in k ≢ 0 → IsPicked k (pick_in k)
   pick_law n = go pick_cases
     where
-      go : IsPicked k (pick_in k) ⊎ (((u : ℕ) → has_seat k u ≡ true → is_ready (seat_at k u).status ≡ false) × (pick_in k ≡ 0)) → IsPicked k (pick_in k)
+      go : IsPicked k (pick_in k)
+          ⊎ (((u : ℕ) → has_seat k u ≡ true → is_ready (seat_at k u).status ≡ false) × (pick_in k ≡ 0))
+          → IsPicked k (pick_in k)
       go (inl p) = p
       go (inr r) = absurd (n r.1)
 
@@ -171,7 +200,8 @@ module _ (k : Kernel) (h : IsKernel k) where
   pub pick_none : pick_in k ≡ 0 → (u : ℕ) → has_seat k u ≡ true → is_ready (seat_at k u).status ≡ false
   pick_none e = go pick_cases
     where
-      go : IsPicked k (pick_in k) ⊎ (((u : ℕ) → has_seat k u ≡ true → is_ready (seat_at k u).status ≡ false) × (pick_in k ≡ 0))
+      go : IsPicked k (pick_in k)
+          ⊎ (((u : ℕ) → has_seat k u ≡ true → is_ready (seat_at k u).status ≡ false) × (pick_in k ≡ 0))
           → (u : ℕ) → has_seat k u ≡ true → is_ready (seat_at k u).status ≡ false
       go (inl p) = absurd (true≢false (sym p.added ∙ ap (has_seat k) e))
       go (inr r) = r.0

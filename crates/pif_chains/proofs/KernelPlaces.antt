@@ -92,7 +92,8 @@ module _ (u m : ℕ) (k : Kernel) where
   unfolding kernel_after_hand_over
   handed_seat_other v d = seat-handed_other u m k v d
 
-  pub handed_seat_same : has_seat k u ≡ true → seat_at after_hand_over u ≡ record (seat_at k u) { status = Ready WokenOwns }
+  pub handed_seat_same : has_seat k u ≡ true
+      → seat_at after_hand_over u ≡ record (seat_at k u) { status = Ready WokenOwns }
   unfolding kernel_after_hand_over
   handed_seat_same added = seat-handed_same u m k added
 
@@ -104,7 +105,8 @@ module _ (u m : ℕ) (k : Kernel) where
   unfolding kernel_after_hand_over
   handed_state_other i d = state-handed_other u m k i d
 
-  pub handed_state_same : IsKernel k → m < 1025 → state_at after_hand_over m ≡ (if has_waiter (without k.waiters u) m then u else 0)
+  pub handed_state_same : IsKernel k → m < 1025
+      → state_at after_hand_over m ≡ (if has_waiter (without k.waiters u) m then u else 0)
   unfolding kernel_after_hand_over
   handed_state_same h few =
       get_or-set_same k.states m (if has_waiter (without k.waiters u) m then u else 0) 0 (omega (arith, h.shape.states))

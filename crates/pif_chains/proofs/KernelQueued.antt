@@ -23,7 +23,11 @@ module _ (t m n : ℕ) (k : Kernel) where
 
   -- the kernel before it is settled
   abbrev pub kernel_with_queueing : Kernel
-  kernel_with_queueing = record (with_status t (Queued m) (with_state m n k)) { waiters = k.waiters ++ (t, m) ∷ []; levels = left t k.levels }
+  kernel_with_queueing =
+      record (with_status t (Queued m) (with_state m n k)) {
+        waiters = k.waiters ++ (t, m) ∷ [];
+        levels = left t k.levels;
+      }
 
   -- as many threads
   pub length-queueing : length kernel_with_queueing.seats ≡ length k.seats
@@ -38,7 +42,8 @@ module _ (t m n : ℕ) (k : Kernel) where
   seat-queueing_other u d = get_or-set_other k.seats t u seat no_seat d
 
   -- t is queued
-  pub seat-queueing_same : has_seat k t ≡ true → seat_at kernel_with_queueing t ≡ record (seat_at k t) { status = Queued m }
+  pub seat-queueing_same : has_seat k t ≡ true
+      → seat_at kernel_with_queueing t ≡ record (seat_at k t) { status = Queued m }
   seat-queueing_same added = get_or-set_same k.seats t seat no_seat (within t (length k.seats) added).1
 
   -- each has the base priority that it had
@@ -49,8 +54,10 @@ module _ (t m n : ℕ) (k : Kernel) where
   pub state-queueing_other : (i : ℕ) → i ≢ m → state_at kernel_with_queueing i ≡ state_at k i
   state-queueing_other i d = get_or-set_other k.states m i n 0 d
 
-  module _ (h : IsKernel k) (added : has_seat k t ≡ true) (ready : is_ready (seat_at k t).status ≡ true) (some : m ≢ 0) (few : m < 1025)
-      (owner : has_seat k n ≡ true) (agrees : state_at k m ≢ 0 → state_at k m ≡ n) (free : reaches_within (length k.seats) (waits_for k) n t ≡ false) where
+  module _ (h : IsKernel k) (added : has_seat k t ≡ true) (ready : is_ready (seat_at k t).status ≡ true)
+      (some : m ≢ 0) (few : m < 1025)
+      (owner : has_seat k n ≡ true) (agrees : state_at k m ≢ 0 → state_at k m ≡ n)
+      (free : reaches_within (length k.seats) (waits_for k) n t ≡ false) where
     -- the owner state of m names n
     pub state-queueing_same : state_at kernel_with_queueing m ≡ n
     state-queueing_same = get_or-set_same k.states m n 0 (omega (arith, h.shape.states))
@@ -60,7 +67,8 @@ module _ (t m n : ℕ) (k : Kernel) where
     status-same = ap (λ (x : Seat). x.status) (seat-queueing_same added)
 
     -- who stands in the queue is queued
-    is_queued : (u i : ℕ) → (u ≡ t) ⊎ (u ≢ t) → (pairs u i k.waiters ≡ true) ⊎ ((t ≡ u) × (m ≡ i)) → (seat_at kernel_with_queueing u).status ≡ Queued i
+    is_queued : (u i : ℕ) → (u ≡ t) ⊎ (u ≢ t) → (pairs u i k.waiters ≡ true) ⊎ ((t ≡ u) × (m ≡ i))
+        → (seat_at kernel_with_queueing u).status ≡ Queued i
     is_queued u i c (inr e) = ap (λ v. (seat_at kernel_with_queueing v).status) (sym e.0) ∙ status-same ∙ ap Queued e.1
     is_queued u i (inl e) (inl q) =
         absurd (true≢false (sym ready ∙ ap (λ v. is_ready (seat_at k v).status) (sym e) ∙ ap is_ready (h.queue u i q)))
@@ -71,26 +79,39 @@ module _ (t m n : ℕ) (k : Kernel) where
     pairs-more u i e = pairs-push k.waiters t m u i ∙ ap (λ b. b || (if t == u then m == i else false)) e
 
     -- and back
-    in_queue : (u i : ℕ) → (u ≡ t) ⊎ (u ≢ t) → (seat_at kernel_with_queueing u).status ≡ Queued i → pairs u i (k.waiters ++ (t, m) ∷ []) ≡ true
+    in_queue : (u i : ℕ) → (u ≡ t) ⊎ (u ≢ t) → (seat_at kernel_with_queueing u).status ≡ Queued i
+        → pairs u i (k.waiters ++ (t, m) ∷ []) ≡ true
     in_queue u i (inl e) q =
-        let same : Queued m ≡ Queued i = sym status-same ∙ ap (λ v. (seat_at kernel_with_queueing v).status) (sym e) ∙ q in
-        pairs-push k.waiters t m u i ∙ ap (λ b. pairs u i k.waiters || b) (rw (eq-eqb t u (sym e)) (eq-eqb m i (ap queued_on same))) ∙ or_true (pairs u i k.waiters)
-    in_queue u i (inr d) q = pairs-more u i (h.queued u i (sym (ap (λ (x : Seat). x.status) (seat-queueing_other u d)) ∙ q))
+        let same : Queued m ≡ Queued i = sym status-same ∙ ap (λ v. (seat_at kernel_with_queueing v).status) (sym e)
+        ∙ q in
+        pairs-push k.waiters t m u i
+        ∙ ap (λ b. pairs u i k.waiters || b) (rw (eq-eqb t u (sym e)) (eq-eqb m i (ap queued_on same)))
+        ∙ or_true (pairs u i k.waiters)
+    in_queue u i (inr d) q =
+        pairs-more u i (h.queued u i (sym (ap (λ (x : Seat). x.status) (seat-queueing_other u d)) ∙ q))
 
     -- there is an owner state exactly while threads are queued
-    states : (i : ℕ) → (i ≡ m) ⊎ (i ≢ m) → (state_at kernel_with_queueing i == 0) ≡ (if has_waiter (k.waiters ++ (t, m) ∷ []) i then false else true)
+    states : (i : ℕ) → (i ≡ m) ⊎ (i ≢ m)
+        → (state_at kernel_with_queueing i == 0) ≡ (if has_waiter (k.waiters ++ (t, m) ∷ []) i then false else true)
     states i (inl e) =
-        ap (λ j. state_at kernel_with_queueing j == 0) e ∙ ap (λ x. x == 0) state-queueing_same ∙ ne_eqb n 0 (within n (length k.seats) owner).0
-        ∙ sym (ap (λ b. if b then false else true) (has_waiter-push k.waiters t m i ∙ ap (λ b. has_waiter k.waiters i || b) (eq-eqb m i (sym e)) ∙ or_true (has_waiter k.waiters i)))
+        ap (λ j. state_at kernel_with_queueing j == 0) e ∙ ap (λ x. x == 0) state-queueing_same
+        ∙ ne_eqb n 0 (within n (length k.seats) owner).0
+        ∙ sym (ap (λ b. if b then false else true) (has_waiter-push k.waiters t m i
+        ∙ ap (λ b. has_waiter k.waiters i || b) (eq-eqb m i (sym e)) ∙ or_true (has_waiter k.waiters i)))
     states i (inr d) =
         ap (λ x. x == 0) (state-queueing_other i d) ∙ h.states i
-        ∙ sym (ap (λ b. if b then false else true) (has_waiter-push k.waiters t m i ∙ ap (λ b. has_waiter k.waiters i || b) (ne_eqb m i (λ e. d (sym e))) ∙ or_false (has_waiter k.waiters i)))
+        ∙ sym (ap (λ b. if b then false else true) (has_waiter-push k.waiters t m i
+        ∙ ap (λ b. has_waiter k.waiters i || b) (ne_eqb m i (λ e. d (sym e))) ∙ or_false (has_waiter k.waiters i)))
 
     -- of a thread that was added
-    owners : (i : ℕ) → (i ≡ m) ⊎ (i ≢ m) → state_at kernel_with_queueing i ≢ 0 → has_seat kernel_with_queueing (state_at kernel_with_queueing i) ≡ true
-    owners i (inl e) x = has-queueing (state_at kernel_with_queueing i) ∙ ap (has_seat k) (ap (state_at kernel_with_queueing) e ∙ state-queueing_same) ∙ owner
+    owners : (i : ℕ) → (i ≡ m) ⊎ (i ≢ m) → state_at kernel_with_queueing i ≢ 0
+        → has_seat kernel_with_queueing (state_at kernel_with_queueing i) ≡ true
+    owners i (inl e) x =
+        has-queueing (state_at kernel_with_queueing i)
+        ∙ ap (has_seat k) (ap (state_at kernel_with_queueing) e ∙ state-queueing_same) ∙ owner
     owners i (inr d) x =
-        has-queueing (state_at kernel_with_queueing i) ∙ ap (has_seat k) (state-queueing_other i d) ∙ h.owners i (λ z. x (state-queueing_other i d ∙ z))
+        has-queueing (state_at kernel_with_queueing i) ∙ ap (has_seat k) (state-queueing_other i d)
+        ∙ h.owners i (λ z. x (state-queueing_other i d ∙ z))
 
     -- t waits for n
     pub waits-queueing_same : waits_for kernel_with_queueing t ≡ n
@@ -99,20 +120,25 @@ module _ (t m n : ℕ) (k : Kernel) where
     -- the others wait for whom they waited
     pub waits-queueing_other : (u : ℕ) → u ≢ t → waits_for kernel_with_queueing u ≡ waits_for k u
     waits-queueing_other u d =
-        ap (λ (x : Seat). state_at kernel_with_queueing (queued_on x.status)) (seat-queueing_other u d) ∙ by_mutex (cases_eq (queued_on (seat_at k u).status) m)
+        ap (λ (x : Seat). state_at kernel_with_queueing (queued_on x.status)) (seat-queueing_other u d)
+        ∙ by_mutex (cases_eq (queued_on (seat_at k u).status) m)
       where
         by_mutex : (queued_on (seat_at k u).status ≡ m) ⊎ (queued_on (seat_at k u).status ≢ m)
-            → state_at kernel_with_queueing (queued_on (seat_at k u).status) ≡ state_at k (queued_on (seat_at k u).status)
+            → state_at kernel_with_queueing (queued_on (seat_at k u).status)
+            ≡ state_at k (queued_on (seat_at k u).status)
         by_mutex (inl e) =
             ap (state_at kernel_with_queueing) e ∙ state-queueing_same
             ∙ sym (agrees (has_state-from_queued k h u m some e)) ∙ ap (state_at k) (sym e)
         by_mutex (inr e) = state-queueing_other (queued_on (seat_at k u).status) e
 
     -- no chain closes
-    acyclic : (u : ℕ) → waits_for kernel_with_queueing u ≢ 0 → reaches_within (length kernel_with_queueing.seats) (waits_for kernel_with_queueing) (waits_for kernel_with_queueing u) u ≡ false
+    acyclic : (u : ℕ) → waits_for kernel_with_queueing u ≢ 0
+        → reaches_within (length kernel_with_queueing.seats) (waits_for kernel_with_queueing)
+        (waits_for kernel_with_queueing u) u ≡ false
     acyclic u x =
         reaches_same _ _ _ _ _ _ u length-queueing (λ y. refl) refl
-        ∙ still_acyclic (waits_for k) (waits_for kernel_with_queueing) t n waits-queueing_other waits-queueing_same (length k.seats) (waits_below k h)
+        ∙ still_acyclic (waits_for k) (waits_for kernel_with_queueing) t n waits-queueing_other waits-queueing_same
+        (length k.seats) (waits_below k h)
         (within n (length k.seats) owner).1 free h.acyclic u x
 
     -- all but the levels is kept

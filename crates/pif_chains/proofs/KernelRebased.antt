@@ -45,7 +45,9 @@ module _ (t p : ℕ) (k : Kernel) where
   module _ (h : IsKernel k) (ranged : is_priority p ≡ true) (added : has_seat k t ≡ true) where
     -- each has a priority
     priority : (u : ℕ) → (u ≡ t) ⊎ (u ≢ t) → has_seat k u ≡ true → is_priority (seat_at kernel_with_base u).base ≡ true
-    priority u (inl e) x = ap (λ v. is_priority (seat_at kernel_with_base v).base) e ∙ ap (λ (x : Seat). is_priority x.base) (seat-rebased_same added) ∙ ranged
+    priority u (inl e) x =
+        ap (λ v. is_priority (seat_at kernel_with_base v).base) e
+        ∙ ap (λ (x : Seat). is_priority x.base) (seat-rebased_same added) ∙ ranged
     priority u (inr n) x = ap (λ (x : Seat). is_priority x.base) (seat-rebased_other u n) ∙ h.shape.priorities u x
 
     -- all but the levels is kept
@@ -65,12 +67,14 @@ module _ (t p : ℕ) (k : Kernel) where
       once = h.once;
       states = h.states;
       owners = λ m n. has-rebased (get_or k.states m 0) ∙ h.owners m n;
-      acyclic = λ u n. reaches_same _ _ _ _ _ _ u length-rebased waits-rebased (waits-rebased u) ∙ h.acyclic u (λ z. n (waits-rebased u ∙ z));
+      acyclic = λ u n. reaches_same _ _ _ _ _ _ u length-rebased waits-rebased (waits-rebased u)
+          ∙ h.acyclic u (λ z. n (waits-rebased u ∙ z));
     }
 
     -- the ready threads stand where they stood
     listed-rebased : IsListed kernel_with_base (effective_in k)
-    listed-rebased = listed-seats k kernel_with_base (effective_in k) refl has-rebased status-rebased (listed-from_kernel k h)
+    listed-rebased =
+        listed-seats k kernel_with_base (effective_in k) refl has-rebased status-rebased (listed-from_kernel k h)
 
     -- the base priority is p, and all is settled
     pub kernel-rebased : IsKernel (kernel_after_set_prio t p (Ok (record {})) k)

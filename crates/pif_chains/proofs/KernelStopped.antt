@@ -12,7 +12,8 @@ use Rattle.pif_chains.proofs.KernelSettled.{IsWaiting, effective_range, kernel-f
 use Rattle.pif_chains.proofs.KernelListed.{listed-left}
 use Rattle.pif_chains.proofs.KernelLevels.{length-left}
 
-module _ (t : ℕ) (k : Kernel) (h : IsKernel k) (added : has_seat k t ≡ true) (ready : is_ready (seat_at k t).status ≡ true) where
+module _ (t : ℕ) (k : Kernel) (h : IsKernel k) (added : has_seat k t ≡ true)
+    (ready : is_ready (seat_at k t).status ≡ true) where
   -- the kernel after
   abbrev now : Kernel
   now = kernel_after_stop t k
@@ -58,7 +59,9 @@ module _ (t : ℕ) (k : Kernel) (h : IsKernel k) (added : has_seat k t ≡ true)
   -- each waits for whom it waited
   pub waits-stopped : (u : ℕ) → waits_for now u ≡ waits_for k u
   unfolding kernel_after_stop
-  waits-stopped u = ap (state_at k) (kept_at (λ (x : Seat). queued_on x.status) k.seats t seat no_seat (sym (ready-queued_on_nothing (seat_at k t).status ready)) u)
+  waits-stopped u =
+      ap (state_at k) (kept_at (λ (x : Seat). queued_on x.status) k.seats t seat no_seat
+      (sym (ready-queued_on_nothing (seat_at k t).status ready)) u)
 
   -- each has its effective priority
   pub effective-stopped : (u : ℕ) → effective_in now u ≡ effective_in k u
@@ -72,7 +75,8 @@ module _ (t : ℕ) (k : Kernel) (h : IsKernel k) (added : has_seat k t ≡ true)
   -- and back
   was_queued : (u m : ℕ) → (u ≡ t) ⊎ (u ≢ t) → (seat_at now u).status ≡ Queued m → (seat_at k u).status ≡ Queued m
   was_queued u m (inl e) q =
-      let both : Stopped ≡ Queued m = sym (ap (λ (x : Seat). x.status) seat-stopped_same) ∙ sym (ap (λ v. (seat_at now v).status) e) ∙ q in cc
+      let both : Stopped ≡ Queued m = sym (ap (λ (x : Seat). x.status) seat-stopped_same)
+      ∙ sym (ap (λ v. (seat_at now v).status) e) ∙ q in cc
   was_queued u m (inr n) q = sym (ap (λ (x : Seat). x.status) (seat-stopped_other u n)) ∙ q
 
   -- all but the levels is kept
@@ -93,7 +97,8 @@ module _ (t : ℕ) (k : Kernel) (h : IsKernel k) (added : has_seat k t ≡ true)
     once = h.once;
     states = h.states;
     owners = λ m n. has-stopped (state_at k m) ∙ h.owners m n;
-    acyclic = λ u n. reaches_same _ _ _ _ _ _ u length-stopped waits-stopped (waits-stopped u) ∙ h.acyclic u (λ z. n (waits-stopped u ∙ z));
+    acyclic = λ u n. reaches_same _ _ _ _ _ _ u length-stopped waits-stopped (waits-stopped u)
+        ∙ h.acyclic u (λ z. n (waits-stopped u ∙ z));
   }
 
   -- t has left its level
@@ -104,6 +109,8 @@ module _ (t : ℕ) (k : Kernel) (h : IsKernel k) (added : has_seat k t ≡ true)
   -- t is stopped for good
   pub kernel-stopped : IsKernel now
   kernel-stopped = kernel-from_listed now waiting
-      (listed-left k now t (effective_in k) (effective_in now) (λ u n. has-stopped u) (λ u n. ap (λ (x : Seat). x.status) (seat-stopped_other u n))
-      (λ u n. effective-stopped u) (listed-from_kernel k h) levels-stopped (ap (λ (x : Seat). is_ready x.status) seat-stopped_same)
+      (listed-left k now t (effective_in k) (effective_in now) (λ u n. has-stopped u)
+      (λ u n. ap (λ (x : Seat). x.status) (seat-stopped_other u n))
+      (λ u n. effective-stopped u) (listed-from_kernel k h) levels-stopped
+      (ap (λ (x : Seat). is_ready x.status) seat-stopped_same)
       (effective_range now waiting.shape t (has-stopped t ∙ added)))
