@@ -11,7 +11,7 @@ use Rattle.pif_model.specs.PiKernel.{Kernel, Seat, IsKernel, no_seat, seat_at, h
 use Rattle.pif_chains.proofs.Numbers.{within, from_within}
 use Rattle.pif_chains.proofs.Greatest.{effective_same, reaches_same}
 use Rattle.pif_chains.proofs.Chains.{reaches_with_more, effective_with_more, effective_of_more}
-use Rattle.pif_chains.proofs.KernelSettled.{IsWaiting, IsListed, priority-range, listed-from_kernel, kernel-from_listed}
+use Rattle.pif_chains.proofs.KernelSettled.{IsUnsettled, IsListed, priority-range, listed-from_kernel, kernel-from_listed}
 use Rattle.pif_chains.proofs.KernelFacts.{waits_below}
 use Rattle.pif_chains.proofs.KernelLevels.{length-joined}
 use Rattle.pif_chains.proofs.KernelListed.{listed-joined, stands-unadded}
@@ -132,8 +132,8 @@ module _ (p : ℕ) (k : Kernel) where
           ∙ h.acyclic u (λ z. n (waits-added u ∙ z))
 
       -- all but the levels is kept
-      waiting-added : IsWaiting now
-      waiting-added = record {
+      unsettled-added : IsUnsettled now
+      unsettled-added = record {
         shape = record {
           some = omega (arith, length-added);
           few = omega (arith, length-added);
@@ -163,4 +163,4 @@ module _ (p : ℕ) (k : Kernel) where
 
       -- the new thread is ready, at the end of its level
       pub kernel-added : IsKernel now
-      kernel-added = kernel-from_listed now waiting-added listed-added
+      kernel-added = kernel-from_listed now unsettled-added listed-added

@@ -11,7 +11,7 @@ use Rattle.pif_chains.proofs.Among.{is_among-without}
 use Rattle.pif_chains.proofs.Waiting.{pairs, once_without, has_waiter-without_other, has_waiter-from_pair}
 use Rattle.pif_chains.proofs.Greatest.{reaches_same}
 use Rattle.pif_chains.proofs.Cycles.{acyclic_handed}
-use Rattle.pif_chains.proofs.KernelSettled.{IsWaiting, IsListed, effective_range, settled_kept, listed-from_kernel}
+use Rattle.pif_chains.proofs.KernelSettled.{IsUnsettled, IsListed, effective_range, settled_kept, listed-from_kernel}
 use Rattle.pif_chains.proofs.KernelFacts.{mutex_below, some_mutex, waits_below, waited-status, queued-from_number, queued-unready, added-from_queued}
 use Rattle.pif_chains.proofs.KernelLevels.{length-joined}
 use Rattle.pif_chains.proofs.KernelQueues.{pairs-without_other}
@@ -177,8 +177,8 @@ module _ (u m : ℕ) (k : Kernel) where
     }
 
     -- all but the levels is kept
-    waiting-handed : IsWaiting kernel_with_hand_over
-    waiting-handed = record {
+    unsettled-handed : IsUnsettled kernel_with_hand_over
+    unsettled-handed = record {
       shape = shape-handed;
       queue = λ v i e. is_queued v i (is_among-without k.waiters u v i e);
       queued = λ v i e. in_queue v i (cases_eq v u) e;
@@ -209,4 +209,4 @@ module _ (u m : ℕ) (k : Kernel) where
     -- u is ready, and all is settled
     pub kernel-handed : IsKernel (kernel_after_hand_over u m k)
     unfolding kernel_after_hand_over
-    kernel-handed = settled_kept kernel_with_hand_over at waiting-handed listed-handed
+    kernel-handed = settled_kept kernel_with_hand_over at unsettled-handed listed-handed

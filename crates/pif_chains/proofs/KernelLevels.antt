@@ -5,18 +5,18 @@ use Rattle.std.proofs.lemmas.Bool.{cases_eq}
 use Rattle.std.proofs.lemmas.List.{get_or_past, get_or_push, length_push, length-map, map-append}
 use Rattle.pif_model.specs.PiKernel.{numbers, levels_by, level_at, joined, left}
 use Rattle.pif_chains.proofs.Places.{mapped_at}
-use Rattle.pif_chains.proofs.KernelNumbers.{others, numbers-more, numbers-none}
+use Rattle.pif_chains.proofs.KernelNumbers.{is_other, numbers-more, numbers-none}
 
 -- WHO HAS LEFT AND JOINED
 
 -- the levels that one has left
 pub level-left : (t : ℕ) (levels : List (List ℕ)) (p : ℕ)
-    → level_at (left t levels) p ≡ filter (others t) (level_at levels p)
-level-left t levels p = mapped_at (filter (others t)) levels p []
+    → level_at (left t levels) p ≡ filter (is_other t) (level_at levels p)
+level-left t levels p = mapped_at (filter (is_other t)) levels p []
 
 -- as many levels
 pub length-left : (t : ℕ) (levels : List (List ℕ)) → length (left t levels) ≡ length levels
-length-left t levels = length-map levels (filter (others t))
+length-left t levels = length-map levels (filter (is_other t))
 
 -- the level that one has joined
 pub level-joined_same : (t p : ℕ) (levels : List (List ℕ)) → p < length levels

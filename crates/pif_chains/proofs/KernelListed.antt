@@ -3,7 +3,7 @@ use Rattle.std.proofs.Common.{◌≡◌, ◌≢◌, ◌⊎◌, ℕ, ◌≤◌, B
 use Rattle.std.specs.List.{IsDistinct}
 use Rattle.std.proofs.lemmas.Bool.{cases_eq}
 use Rattle.pif_model.specs.PiKernel.{Kernel, seat_at, has_seat, is_ready, is_among, level_at, joined, left}
-use Rattle.pif_chains.proofs.KernelNumbers.{others, among-push_other, among-push_same, among-left_same, among-left_other, distinct-push, distinct-filter}
+use Rattle.pif_chains.proofs.KernelNumbers.{is_other, among-push_other, among-push_same, among-left_same, among-left_other, distinct-push, distinct-filter}
 use Rattle.pif_chains.proofs.KernelLevels.{level-left, level-joined_same, level-joined_other}
 use Rattle.pif_chains.proofs.KernelSettled.{IsListed, stands}
 
@@ -41,7 +41,7 @@ module _ (k now : Kernel) (t : ℕ) (at at_now : ℕ → ℕ) (has : (u : ℕ) �
   listed-left e unready range =
       record { on = λ u p. on u p (cases_eq u t); range = λ u x. within u x (cases_eq u t); once = once }
     where
-      is : (p : ℕ) → level_at now.levels p ≡ filter (others t) (level_at k.levels p)
+      is : (p : ℕ) → level_at now.levels p ≡ filter (is_other t) (level_at k.levels p)
       is p = ap (λ levels. level_at levels p) e ∙ level-left t k.levels p
 
       on : (u p : ℕ) → (u ≡ t) ⊎ (u ≢ t) → is_among (level_at now.levels p) u ≡ stands now at_now u p
@@ -57,7 +57,7 @@ module _ (k now : Kernel) (t : ℕ) (at at_now : ℕ → ℕ) (has : (u : ℕ) �
       within u x (inr d) = range_other u d x
 
       once : (p : ℕ) → IsDistinct eqb (level_at now.levels p)
-      once p = subst (IsDistinct eqb) (sym (is p)) (distinct-filter (others t) (level_at k.levels p) (h.once p))
+      once p = subst (IsDistinct eqb) (sym (is p)) (distinct-filter (is_other t) (level_at k.levels p) (h.once p))
 
   -- t, which stood nowhere, has joined a level
   pub listed-joined : (p : ℕ) → length k.levels ≡ 100 → now.levels ≡ joined t p k.levels → 1 ≤ p → p ≤ 99
@@ -101,15 +101,6 @@ module _ (k now : Kernel) (t : ℕ) (at at_now : ℕ → ℕ) (has : (u : ℕ) �
           (subst (IsDistinct eqb) (sym is_same)
           (distinct-push (level_at k.levels p) t (h.once p) (h.on t p ∙ nowhere p)))
       once q (inr d) = subst (IsDistinct eqb) (sym (is_other q d)) (h.once q)
-
--- the same with a level for each that is the same
-pub listed-same : (k : Kernel) (at at_now : ℕ → ℕ) → ((u : ℕ) → at_now u ≡ at u) → IsListed k at → IsListed k at_now
-listed-same k at at_now e h = record {
-  on = λ t p. h.on t p
-      ∙ ap (λ n. if has_seat k t then (if is_ready (seat_at k t).status then n == p else false) else false) (sym (e t));
-  range = λ t x. subst (λ n. (1 ≤ n) × (n ≤ 99)) (sym (e t)) (h.range t x);
-  once = h.once;
-}
 
 -- the same where as many were added, with the statuses that they had
 pub listed-seats : (k now : Kernel) (at : ℕ → ℕ) → now.levels ≡ k.levels → ((u : ℕ) → has_seat now u ≡ has_seat k u)

@@ -10,7 +10,7 @@ use Rattle.pif_model.specs.PiKernel.{Seat, IsKernel, no_seat, no_states, seat_at
 use Rattle.pif_chains.proofs.Numbers.{within}
 use Rattle.pif_chains.proofs.KernelNumbers.{distinct-none}
 use Rattle.pif_chains.proofs.KernelLevels.{level-by, level-by_none, level-by_past, length-levels_by}
-use Rattle.pif_chains.proofs.KernelSettled.{IsWaiting, kernel-from_listed}
+use Rattle.pif_chains.proofs.KernelSettled.{IsUnsettled, kernel-from_listed}
 use Rattle.pif_chains.proofs.KernelListed.{stands-unadded}
 
 -- a list of the same number
@@ -54,9 +54,9 @@ none_queued : (l : Bounds) (u m : ℕ) → (seat_at (new_kernel l) u).status ≡
 none_queued l u m e = let both : Ready WokenFresh ≡ Queued m = sym (ap (λ (x : Seat). x.status) (nobody l u)) ∙ e in cc
 
 -- all but the levels
-waiting : (l : Bounds) → IsWaiting (new_kernel l)
+unsettled-new : (l : Bounds) → IsUnsettled (new_kernel l)
 unfolding IsDistinct
-waiting l = record {
+unsettled-new l = record {
   shape = record {
     some = omega arith;
     few = omega arith;
@@ -75,7 +75,7 @@ waiting l = record {
 }
 
 pub kernel-new : (l : Bounds) → IsKernel (new_kernel l)
-kernel-new l = kernel-from_listed (new_kernel l) (waiting l) (record {
+kernel-new l = kernel-from_listed (new_kernel l) (unsettled-new l) (record {
   on = λ t p. ap (λ xs. is_among xs t) (no_level p)
       ∙ sym (stands-unadded (new_kernel l) (effective_in (new_kernel l)) t p (none_added l t));
   range = λ t e. absurd (true≢false (sym e ∙ none_added l t));

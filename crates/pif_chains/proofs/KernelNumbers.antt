@@ -31,16 +31,16 @@ pub among-push_same : (xs : List ℕ) (n : ℕ) → is_among (xs ++ n ∷ []) n 
 among-push_same xs n = among-push xs n n ∙ rw (eq-eqb n n refl) (or_true (is_among xs n))
 
 -- the test of all but t
-abbrev pub others : ℕ → ℕ → Bool
-others t u = if u == t then false else true
+abbrev pub is_other : ℕ → ℕ → Bool
+is_other t u = if u == t then false else true
 
 -- who left is not among them
-pub among-left_same : (xs : List ℕ) (t : ℕ) → is_among (filter (others t) xs) t ≡ false
-among-left_same xs t = among-filter (others t) xs t ∙ rw (eq-eqb t t refl) refl
+pub among-left_same : (xs : List ℕ) (t : ℕ) → is_among (filter (is_other t) xs) t ≡ false
+among-left_same xs t = among-filter (is_other t) xs t ∙ rw (eq-eqb t t refl) refl
 
 -- and the others are as before
-pub among-left_other : (xs : List ℕ) (t u : ℕ) → u ≢ t → is_among (filter (others t) xs) u ≡ is_among xs u
-among-left_other xs t u n = among-filter (others t) xs u ∙ rw (ne_eqb u t n) refl
+pub among-left_other : (xs : List ℕ) (t u : ℕ) → u ≢ t → is_among (filter (is_other t) xs) u ≡ is_among xs u
+among-left_other xs t u n = among-filter (is_other t) xs u ∙ rw (ne_eqb u t n) refl
 
 -- ONCE
 

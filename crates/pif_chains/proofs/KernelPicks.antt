@@ -7,8 +7,8 @@ use Rattle.pif_chains.proofs.KernelSettled.{stands, effective_range}
 -- THE FIRST OF SOME LEVELS
 
 -- none of the levels 1 to n has a thread
-abbrev pub NoneIn : List (List ℕ) → ℕ → Type 0
-NoneIn levels n = (p : ℕ) → 1 ≤ p → p ≤ n → level_at levels p ≡ []
+abbrev pub IsEmptyUpTo : List (List ℕ) → ℕ → Type 0
+IsEmptyUpTo levels n = (p : ℕ) → 1 ≤ p → p ≤ n → level_at levels p ≡ []
 
 -- t is the first of the greatest of the levels 1 to n that has a thread
 pub record IsFirstIn (levels : List (List ℕ)) (n t : ℕ) : Type 0 where
@@ -59,7 +59,7 @@ first_from-greatest levels (suc n) t h =
         from_empty levels n (h.above (suc n) (omega (arith, h.most)) (omega arith)) ∙ ih (omega (arith, h.most))
 
 -- where none has, it is nobody
-pub first_from-none : (levels : List (List ℕ)) (n : ℕ) → NoneIn levels n → first_from levels n ≡ 0
+pub first_from-none : (levels : List (List ℕ)) (n : ℕ) → IsEmptyUpTo levels n → first_from levels n ≡ 0
 first_from-none levels zero empty = from_none levels
 first_from-none levels (suc n) empty =
     from_empty levels n (empty (suc n) (omega arith) (omega arith))
@@ -67,11 +67,11 @@ first_from-none levels (suc n) empty =
 
 -- one of the two is so
 pub first_from-cases : (levels : List (List ℕ)) (n : ℕ)
-    → IsFirstIn levels n (first_from levels n) ⊎ (NoneIn levels n × (first_from levels n ≡ 0))
+    → IsFirstIn levels n (first_from levels n) ⊎ (IsEmptyUpTo levels n × (first_from levels n ≡ 0))
 first_from-cases levels zero = inr ((λ p l m. absurd (omega arith)), from_none levels)
 first_from-cases levels (suc n) = by_level (level_at levels (suc n)) refl (first_from-cases levels n)
   where
-    empty : NoneIn levels n → level_at levels (suc n) ≡ [] → NoneIn levels (suc n)
+    empty : IsEmptyUpTo levels n → level_at levels (suc n) ≡ [] → IsEmptyUpTo levels (suc n)
     empty none e p l m = go (cases_eq p (suc n))
       where
         go : (p ≡ suc n) ⊎ (p ≢ suc n) → level_at levels p ≡ []
@@ -87,9 +87,9 @@ first_from-cases levels (suc n) = by_level (level_at levels (suc n)) refl (first
         go (inr d) = h.above p l (omega arith)
 
     by_level : (xs : List ℕ) → level_at levels (suc n) ≡ xs
-        → IsFirstIn levels n (first_from levels n) ⊎ (NoneIn levels n × (first_from levels n ≡ 0))
+        → IsFirstIn levels n (first_from levels n) ⊎ (IsEmptyUpTo levels n × (first_from levels n ≡ 0))
         → IsFirstIn levels (suc n) (first_from levels (suc n))
-        ⊎ (NoneIn levels (suc n) × (first_from levels (suc n) ≡ 0))
+        ⊎ (IsEmptyUpTo levels (suc n) × (first_from levels (suc n) ≡ 0))
     by_level [] e (inl h) = inl (record {
       level = h.level;
       least = h.least;
@@ -175,12 +175,12 @@ module _ (k : Kernel) (h : IsKernel k) where
       ⊎ (((u : ℕ) → has_seat k u ≡ true → is_ready (seat_at k u).status ≡ false) × (pick_in k ≡ 0))
   pick_cases = go (first_from-cases k.levels 99)
     where
-      unready : NoneIn k.levels 99 → (u : ℕ) → has_seat k u ≡ true → is_ready (seat_at k u).status ≡ false
+      unready : IsEmptyUpTo k.levels 99 → (u : ℕ) → has_seat k u ≡ true → is_ready (seat_at k u).status ≡ false
       unready none u a = false_from_ne_true (is_ready (seat_at k u).status) (λ r.
           let e = effective_range k h.shape u a in
           true≢false (sym (on_level u a r) ∙ off_level u (effective_in k u) (none (effective_in k u) e.0 e.1)))
 
-      go : IsFirstIn k.levels 99 (pick_in k) ⊎ (NoneIn k.levels 99 × (pick_in k ≡ 0))
+      go : IsFirstIn k.levels 99 (pick_in k) ⊎ (IsEmptyUpTo k.levels 99 × (pick_in k ≡ 0))
           → IsPicked k (pick_in k)
           ⊎ (((u : ℕ) → has_seat k u ≡ true → is_ready (seat_at k u).status ≡ false) × (pick_in k ≡ 0))
       go (inl f) = inl (picked-from_first (pick_in k) f)

@@ -23,38 +23,47 @@ module _ (t m n : ℕ) (k : Kernel) where
   unfolding kernel_after_queueing
   queued_is = refl
 
+  -- the limits are what they were
   pub queued_limits : after_queueing.limits ≡ k.limits
   unfolding kernel_after_queueing
   queued_limits = refl
 
+  -- as many threads
   pub queued_length : length after_queueing.seats ≡ length k.seats
   unfolding kernel_after_queueing
   queued_length = length-queueing t m n k
 
+  -- the same threads were added
   pub queued_has : (u : ℕ) → has_seat after_queueing u ≡ has_seat k u
   unfolding kernel_after_queueing
   queued_has u = has-queueing t m n k u
 
+  -- the other threads are as they were
   pub queued_seat_other : (u : ℕ) → u ≢ t → seat_at after_queueing u ≡ seat_at k u
   unfolding kernel_after_queueing
   queued_seat_other u d = seat-queueing_other t m n k u d
 
+  -- t is queued on m
   pub queued_seat_same : has_seat k t ≡ true → seat_at after_queueing t ≡ record (seat_at k t) { status = Queued m }
   unfolding kernel_after_queueing
   queued_seat_same added = seat-queueing_same t m n k added
 
+  -- each has the base priority that it had
   pub queued_base : (u : ℕ) → (seat_at after_queueing u).base ≡ (seat_at k u).base
   unfolding kernel_after_queueing
   queued_base u = base-queueing t m n k u
 
+  -- the other owner states are as they were
   pub queued_state_other : (i : ℕ) → i ≢ m → state_at after_queueing i ≡ state_at k i
   unfolding kernel_after_queueing
   queued_state_other i d = state-queueing_other t m n k i d
 
+  -- the owner state of m names n
   pub queued_state_same : IsKernel k → m < 1025 → state_at after_queueing m ≡ n
   unfolding kernel_after_queueing
   queued_state_same h few = get_or-set_same k.states m n 0 (omega (arith, h.shape.states))
 
+  -- t is the last in the queue
   pub queued_waiters : after_queueing.waiters ≡ k.waiters ++ (t, m) ∷ []
   unfolding kernel_after_queueing
   queued_waiters = refl
@@ -76,41 +85,50 @@ module _ (u m : ℕ) (k : Kernel) where
   unfolding kernel_after_hand_over
   handed_is = refl
 
+  -- the limits are what they were
   pub handed_limits : after_hand_over.limits ≡ k.limits
   unfolding kernel_after_hand_over
   handed_limits = refl
 
+  -- as many threads
   pub handed_length : length after_hand_over.seats ≡ length k.seats
   unfolding kernel_after_hand_over
   handed_length = length-handed u m k
 
+  -- the same threads were added
   pub handed_has : (v : ℕ) → has_seat after_hand_over v ≡ has_seat k v
   unfolding kernel_after_hand_over
   handed_has v = has-handed u m k v
 
+  -- the other threads are as they were
   pub handed_seat_other : (v : ℕ) → v ≢ u → seat_at after_hand_over v ≡ seat_at k v
   unfolding kernel_after_hand_over
   handed_seat_other v d = seat-handed_other u m k v d
 
+  -- u is ready
   pub handed_seat_same : has_seat k u ≡ true
       → seat_at after_hand_over u ≡ record (seat_at k u) { status = Ready WokenOwns }
   unfolding kernel_after_hand_over
   handed_seat_same added = seat-handed_same u m k added
 
+  -- each has the base priority that it had
   pub handed_base : (v : ℕ) → (seat_at after_hand_over v).base ≡ (seat_at k v).base
   unfolding kernel_after_hand_over
   handed_base v = base-handed u m k v
 
+  -- the other owner states are as they were
   pub handed_state_other : (i : ℕ) → i ≢ m → state_at after_hand_over i ≡ state_at k i
   unfolding kernel_after_hand_over
   handed_state_other i d = state-handed_other u m k i d
 
+  -- the owner state of m names u, where others are queued on it
   pub handed_state_same : IsKernel k → m < 1025
       → state_at after_hand_over m ≡ (if has_waiter (without k.waiters u) m then u else 0)
   unfolding kernel_after_hand_over
   handed_state_same h few =
       get_or-set_same k.states m (if has_waiter (without k.waiters u) m then u else 0) 0 (omega (arith, h.shape.states))
 
+  -- u is not in the queue
   pub handed_waiters : after_hand_over.waiters ≡ without k.waiters u
   unfolding kernel_after_hand_over
   handed_waiters = refl
@@ -128,51 +146,59 @@ module _ (t p : ℕ) (k : Kernel) where
   after_set_prio = kernel_after_set_prio t p (Ok (record {})) k
 
   -- it is this one, settled
-  pub ranked_is : kernel_after_set_prio t p (Ok (record {})) k ≡ settled (kernel_with_base t p k)
+  pub set_prio_is : kernel_after_set_prio t p (Ok (record {})) k ≡ settled (kernel_with_base t p k)
   unfolding kernel_after_set_prio
-  ranked_is = refl
+  set_prio_is = refl
 
-  pub ranked_limits : after_set_prio.limits ≡ k.limits
+  -- the limits are what they were
+  pub set_prio_limits : after_set_prio.limits ≡ k.limits
   unfolding kernel_after_set_prio
-  ranked_limits = refl
+  set_prio_limits = refl
 
-  pub ranked_length : length after_set_prio.seats ≡ length k.seats
+  -- as many threads
+  pub set_prio_length : length after_set_prio.seats ≡ length k.seats
   unfolding kernel_after_set_prio
-  ranked_length = length-rebased t p k
+  set_prio_length = length-rebased t p k
 
-  pub ranked_has : (u : ℕ) → has_seat after_set_prio u ≡ has_seat k u
+  -- the same threads were added
+  pub set_prio_has : (u : ℕ) → has_seat after_set_prio u ≡ has_seat k u
   unfolding kernel_after_set_prio
-  ranked_has u = has-rebased t p k u
+  set_prio_has u = has-rebased t p k u
 
-  pub ranked_seat_other : (u : ℕ) → u ≢ t → seat_at after_set_prio u ≡ seat_at k u
+  -- the other threads are as they were
+  pub set_prio_seat_other : (u : ℕ) → u ≢ t → seat_at after_set_prio u ≡ seat_at k u
   unfolding kernel_after_set_prio
-  ranked_seat_other u d = seat-rebased_other t p k u d
+  set_prio_seat_other u d = seat-rebased_other t p k u d
 
-  pub ranked_seat_same : has_seat k t ≡ true → seat_at after_set_prio t ≡ record (seat_at k t) { base = p }
+  -- t has another base priority
+  pub set_prio_seat_same : has_seat k t ≡ true → seat_at after_set_prio t ≡ record (seat_at k t) { base = p }
   unfolding kernel_after_set_prio
-  ranked_seat_same added = seat-rebased_same t p k added
+  set_prio_seat_same added = seat-rebased_same t p k added
 
-  pub ranked_status : (u : ℕ) → (seat_at after_set_prio u).status ≡ (seat_at k u).status
+  -- each has the status that it had
+  pub set_prio_status : (u : ℕ) → (seat_at after_set_prio u).status ≡ (seat_at k u).status
   unfolding kernel_after_set_prio
-  ranked_status u = status-rebased t p k u
+  set_prio_status u = status-rebased t p k u
 
-  pub ranked_state : (i : ℕ) → state_at after_set_prio i ≡ state_at k i
+  -- owner states are as they were
+  pub set_prio_state : (i : ℕ) → state_at after_set_prio i ≡ state_at k i
   unfolding kernel_after_set_prio
-  ranked_state i = refl
+  set_prio_state i = refl
 
-  pub ranked_waiters : after_set_prio.waiters ≡ k.waiters
+  -- the queue is as it was
+  pub set_prio_waiters : after_set_prio.waiters ≡ k.waiters
   unfolding kernel_after_set_prio
-  ranked_waiters = refl
+  set_prio_waiters = refl
 
   -- each waits for whom it waited
-  pub ranked_waits : (u : ℕ) → waits_for after_set_prio u ≡ waits_for k u
+  pub set_prio_waits : (u : ℕ) → waits_for after_set_prio u ≡ waits_for k u
   unfolding kernel_after_set_prio
-  ranked_waits u = waits-rebased t p k u
+  set_prio_waits u = waits-rebased t p k u
 
   -- effective priorities do not depend on the levels
-  pub ranked_effective : (u : ℕ) → effective_in after_set_prio u ≡ effective_in (kernel_with_base t p k) u
+  pub set_prio_effective : (u : ℕ) → effective_in after_set_prio u ≡ effective_in (kernel_with_base t p k) u
   unfolding kernel_after_set_prio
-  ranked_effective u = refl
+  set_prio_effective u = refl
 
   -- a refused call changes nothing
   pub set_prio_refused : (e : Errno) → kernel_after_set_prio t p (Err e) k ≡ k

@@ -10,7 +10,7 @@ use Rattle.pif_chains.proofs.Among.{is_among_push}
 use Rattle.pif_chains.proofs.Waiting.{pairs, once_push, has_waiter-push, or_true, or_false}
 use Rattle.pif_chains.proofs.Greatest.{reaches_same}
 use Rattle.pif_chains.proofs.Cycles.{still_acyclic}
-use Rattle.pif_chains.proofs.KernelSettled.{IsWaiting, IsListed, effective_range, settled_kept, listed-from_kernel}
+use Rattle.pif_chains.proofs.KernelSettled.{IsUnsettled, IsListed, effective_range, settled_kept, listed-from_kernel}
 use Rattle.pif_chains.proofs.KernelFacts.{waits_below, unnamed-from_ready, has_state-from_queued}
 use Rattle.pif_chains.proofs.KernelLevels.{length-left}
 use Rattle.pif_chains.proofs.KernelQueues.{pairs-push}
@@ -142,8 +142,8 @@ module _ (t m n : ℕ) (k : Kernel) where
         (within n (length k.seats) owner).1 free h.acyclic u x
 
     -- all but the levels is kept
-    waiting-queueing : IsWaiting kernel_with_queueing
-    waiting-queueing = record {
+    unsettled-queueing : IsUnsettled kernel_with_queueing
+    unsettled-queueing = record {
       shape = record {
         some = subst (λ n. 1 ≤ n) (sym length-queueing) h.shape.some;
         few = subst (λ n. n ≤ k.limits.threads + 1) (sym length-queueing) h.shape.few;
@@ -170,4 +170,4 @@ module _ (t m n : ℕ) (k : Kernel) where
     -- t is queued, and all is settled
     pub kernel-queued : IsKernel (kernel_after_queueing t m n k)
     unfolding kernel_after_queueing
-    kernel-queued = settled_kept kernel_with_queueing (effective_in k) waiting-queueing listed-queueing
+    kernel-queued = settled_kept kernel_with_queueing (effective_in k) unsettled-queueing listed-queueing

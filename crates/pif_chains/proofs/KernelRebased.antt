@@ -6,7 +6,7 @@ use Rattle.pif_model.specs.PiKernel.{Kernel, Seat, IsKernel, no_seat, seat_at, h
 use Rattle.pif_chains.proofs.Numbers.{within}
 use Rattle.pif_chains.proofs.Places.{kept_at}
 use Rattle.pif_chains.proofs.Greatest.{reaches_same}
-use Rattle.pif_chains.proofs.KernelSettled.{IsWaiting, IsListed, settled_kept, listed-from_kernel}
+use Rattle.pif_chains.proofs.KernelSettled.{IsUnsettled, IsListed, settled_kept, listed-from_kernel}
 use Rattle.pif_chains.proofs.KernelListed.{listed-seats}
 
 module _ (t p : ℕ) (k : Kernel) where
@@ -51,8 +51,8 @@ module _ (t p : ℕ) (k : Kernel) where
     priority u (inr n) x = ap (λ (x : Seat). is_priority x.base) (seat-rebased_other u n) ∙ h.shape.priorities u x
 
     -- all but the levels is kept
-    waiting-rebased : IsWaiting kernel_with_base
-    waiting-rebased = record {
+    unsettled-rebased : IsUnsettled kernel_with_base
+    unsettled-rebased = record {
       shape = record {
         some = subst (λ n. 1 ≤ n) (sym length-rebased) h.shape.some;
         few = subst (λ n. n ≤ k.limits.threads + 1) (sym length-rebased) h.shape.few;
@@ -79,4 +79,4 @@ module _ (t p : ℕ) (k : Kernel) where
     -- the base priority is p, and all is settled
     pub kernel-rebased : IsKernel (kernel_after_set_prio t p (Ok (record {})) k)
     unfolding kernel_after_set_prio
-    kernel-rebased = settled_kept kernel_with_base (effective_in k) waiting-rebased listed-rebased
+    kernel-rebased = settled_kept kernel_with_base (effective_in k) unsettled-rebased listed-rebased

@@ -212,7 +212,7 @@ module _ (k : Kernel) (at : ℕ → ℕ) (s : IsKernelShaped k) (h : IsListed k 
   }
 
 -- all that a kernel keeps but for its levels
-pub record IsWaiting (k : Kernel) : Type 0 where
+pub record IsUnsettled (k : Kernel) : Type 0 where
   pub shape : IsKernelShaped k
   pub queue : (u m : ℕ) → list_any (λ (w : ℕ × ℕ). if w.0 == u then w.1 == m else false) k.waiters ≡ true
       → (seat_at k u).status ≡ Queued m
@@ -224,7 +224,7 @@ pub record IsWaiting (k : Kernel) : Type 0 where
   pub acyclic : (u : ℕ) → waits_for k u ≢ 0 → reaches_within (length k.seats) (waits_for k) (waits_for k u) u ≡ false
 
 -- a kernel whose ready threads stand each on exactly one level is one that keeps all once it is settled
-pub settled_kept : (k : Kernel) (at : ℕ → ℕ) → IsWaiting k → IsListed k at → IsKernel (settled k)
+pub settled_kept : (k : Kernel) (at : ℕ → ℕ) → IsUnsettled k → IsListed k at → IsKernel (settled k)
 settled_kept k at w h = record {
   shape = settled_shape k at w.shape h;
   queue = w.queue;
@@ -237,24 +237,12 @@ settled_kept k at w h = record {
   level_once = settled_once k at w.shape h;
 }
 
--- a kernel keeps that
-pub waiting-from_kernel : (k : Kernel) → IsKernel k → IsWaiting k
-waiting-from_kernel k h = record {
-  shape = h.shape;
-  queue = h.queue;
-  queued = h.queued;
-  once = h.once;
-  states = h.states;
-  owners = h.owners;
-  acyclic = h.acyclic;
-}
-
--- and its ready threads stand at their effective priorities
+-- a kernel's ready threads stand at their effective priorities
 pub listed-from_kernel : (k : Kernel) → IsKernel k → IsListed k (effective_in k)
 listed-from_kernel k h = record { on = h.level; range = effective_range k h.shape; once = h.level_once }
 
 -- a kernel whose ready threads stand at their effective priorities keeps all
-pub kernel-from_listed : (k : Kernel) → IsWaiting k → IsListed k (effective_in k) → IsKernel k
+pub kernel-from_listed : (k : Kernel) → IsUnsettled k → IsListed k (effective_in k) → IsKernel k
 kernel-from_listed k w h = record {
   shape = w.shape;
   queue = w.queue;

@@ -8,7 +8,7 @@ use Rattle.pif_chains.proofs.Numbers.{within}
 use Rattle.pif_chains.proofs.Places.{kept_at}
 use Rattle.pif_chains.proofs.Statuses.{ready-queued_on_nothing}
 use Rattle.pif_chains.proofs.Greatest.{effective_same, reaches_same}
-use Rattle.pif_chains.proofs.KernelSettled.{IsWaiting, effective_range, kernel-from_listed, listed-from_kernel}
+use Rattle.pif_chains.proofs.KernelSettled.{IsUnsettled, effective_range, kernel-from_listed, listed-from_kernel}
 use Rattle.pif_chains.proofs.KernelListed.{listed-left}
 use Rattle.pif_chains.proofs.KernelLevels.{length-left}
 
@@ -80,9 +80,9 @@ module _ (t : ℕ) (k : Kernel) (h : IsKernel k) (added : has_seat k t ≡ true)
   was_queued u m (inr n) q = sym (ap (λ (x : Seat). x.status) (seat-stopped_other u n)) ∙ q
 
   -- all but the levels is kept
-  waiting : IsWaiting now
+  unsettled-stopped : IsUnsettled now
   unfolding kernel_after_stop
-  waiting = record {
+  unsettled-stopped = record {
     shape = record {
       some = subst (λ n. 1 ≤ n) (sym length-stopped) h.shape.some;
       few = subst (λ n. n ≤ k.limits.threads + 1) (sym length-stopped) h.shape.few;
@@ -108,9 +108,9 @@ module _ (t : ℕ) (k : Kernel) (h : IsKernel k) (added : has_seat k t ≡ true)
 
   -- t is stopped for good
   pub kernel-stopped : IsKernel now
-  kernel-stopped = kernel-from_listed now waiting
+  kernel-stopped = kernel-from_listed now unsettled-stopped
       (listed-left k now t (effective_in k) (effective_in now) (λ u n. has-stopped u)
       (λ u n. ap (λ (x : Seat). x.status) (seat-stopped_other u n))
       (λ u n. effective-stopped u) (listed-from_kernel k h) levels-stopped
       (ap (λ (x : Seat). is_ready x.status) seat-stopped_same)
-      (effective_range now waiting.shape t (has-stopped t ∙ added)))
+      (effective_range now unsettled-stopped.shape t (has-stopped t ∙ added)))
