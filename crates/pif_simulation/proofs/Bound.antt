@@ -1,7 +1,8 @@
 -- How long a call goes on: each step that is answered Went leaves it at a place of lower rank, so of any 24 steps of one
 -- thread with nothing between one ends the call or waits. It holds of any table, sound or not.
-use Rattle.std.proofs.Common.{◌≡◌, ◌≢◌, inl, inr, ◌<◌, ◌≤◌, ℕ, zero, suc, ◌+◌, ◌-◌, true, false, ◌==◌, nat_lt, List, length, Result, Ok, Err, Option, Some, None, refl, sym, ap, ◌∙◌, subst, if◌then◌else◌, arith}
-use Rattle.std.proofs.lemmas.List.{length-set, get_or-set_same}
+use Rattle.std.proofs.Common.{◌≡◌, ◌≢◌, ◌⊎◌, inl, inr, ◌<◌, ◌≤◌, ℕ, zero, suc, ◌+◌, ◌-◌, true, false, ◌==◌, nat_lt, List, length, Result, Ok, Err, Option, Some, None, refl, sym, ap, ◌∙◌, subst, if◌then◌else◌, arith}
+use Rattle.std.proofs.lemmas.Bool.{cases_lt, true≢false}
+use Rattle.std.proofs.lemmas.List.{get_or-set_same, get_or_past}
 use Rattle.pif_types.specs.declared.errors.Errno.{Errno}
 use Rattle.pif_types.specs.declared.errors.Errno.TheVariants.{NoSuchThread}
 use Rattle.pif_types.specs.declared.errors.Refusal.{Refusal}
@@ -18,14 +19,12 @@ use Rattle.pif_model.specs.declared.lines.Place.{Place}
 use Rattle.pif_model.specs.declared.lines.Place.TheVariants.{LockLoad, LockExchange, LockKernel, LockQueued, LockStop, LockStopped, TryLoad, TryExchange, TryKernel, UnlockLoad, UnlockExchange, UnlockKernel, SetPriority}
 use Rattle.pif_model.specs.declared.lines.Took.{Took}
 use Rattle.pif_model.specs.declared.lines.Took.TheVariants.{Owns as TookOwns, Queued as TookQueued}
-use Rattle.pif_model.specs.Word.{is_bare, held_by, free_word}
-use Rattle.pif_model.specs.Table.{Table, Row, no_row, row_at, cell_at, has_thread, with_line, with_word, is_ready}
-use Rattle.pif_model.specs.Kernel.{lock_pi_answer, lock_pi_after, try_lock_pi_answer, try_lock_pi_after, unlock_pi_answer, unlock_pi_after, set_prio_answer, set_prio_after}
-use Rattle.pif_model.specs.Lines.{Outcome, goes_to, answers, with_count, locked_again, own_exchange, lock_load, lock_by, lock_kernel, lock_queued, lock_stop, try_load, unlock_load, unlock_exchange, answered_by, busy_for_again, try_kernel, unlock_kernel, set_priority, line_of, gone, is_open, table_refusal, accepted, by_refusal, stepped, goes_on, ClosesOrWaits}
-use Rattle.pif_model.specs.PiKernel.{lock_kernel as lock_in_kernel}
+use Rattle.pif_model.specs.Word.{Word, take_word, release_word}
+use Rattle.pif_model.specs.PiKernel.{is_ready, lock_answer, words_after_lock, kernel_after_lock, try_lock_answer, words_after_try_lock, unlock_answer, words_after_unlock, kernel_after_unlock, set_prio_answer, kernel_after_set_prio}
+use Rattle.pif_model.specs.Table.{Table, cell_at, status_at, line_at, has_thread, with_line, with_word, with_count, with_kernel}
+use Rattle.pif_model.specs.Lines.{Outcome, goes_to, answers, locked_again, exchanged, own_exchange, lock_load, lock_by, lock_kernel, lock_queued, lock_stop, try_load, unlock_load, unlock_exchange, answered_by, busy_for_again, try_kernel, unlock_kernel, set_priority, line_of, go_outcome, is_open, table_refusal, accepted_outcome, by_refusal, event_outcome, goes_on, ClosesOrWaits}
 use Rattle.pif_chains.proofs.Waiting.{by_test}
-use Rattle.pif_simulation.proofs.FormLaws.{rows_by-same}
-use Rattle.pif_simulation.proofs.Projection.{has_thread_below, go_allowed}
+use Rattle.pif_simulation.proofs.Shown.{go_allowed}
 
 -- how many steps at most a call at this place may still go on
 abbrev rank : Place → ℕ
@@ -74,16 +73,22 @@ refused_not_went r h = absurd cc
 -- what a step of t leaves: it ends or waits, or its call is open at a line of lower rank
 data Turns (t n : ℕ) (o : Outcome) : Type 0 where
   ends : ClosesOrWaits o.seen → Turns t n o
-  goes : o.seen ≡ Went → has_thread o.after t ≡ true → is_open (row_at o.after t).line ≡ true → line_rank (row_at o.after t).line < n → Turns t n o
+  goes : o.seen ≡ Went → has_thread o.after t ≡ true → is_open (line_at o.after t) ≡ true → line_rank (line_at o.after t) < n → Turns t n o
 
-module _ (s : Table) (t : ℕ) (known : has_thread s t ≡ true) where
-  -- to go on at a place of lower rank
-  goes-turns : (n : ℕ) (q : Request) (p : Place) → rank p < n → Turns t n (goes_to t q p s)
-  goes-turns n q p less = goes refl (ap (λ k. if t == 0 then false else nat_lt t k) (length-set s.rows t (record (row_at s t) { line = At q p })) ∙ known)
-      (ap is_open here) (subst (λ l. line_rank l < n) (sym here) less)
-    where
-      here : (row_at (with_line t (At q p) s) t).line ≡ At q p
-      here = ap (λ (r : Row). r.line) (get_or-set_same s.rows t (record (row_at s t) { line = At q p }) no_row (has_thread_below s t known))
+-- a line that is open is one of those that there are
+lined : (s : Table) (t : ℕ) → is_open (line_at s t) ≡ true → t < length s.lines
+lined s t e = go (cases_lt t (length s.lines))
+  where
+    go : (t < length s.lines) ⊎ (length s.lines ≤ t) → t < length s.lines
+    go (inl l) = l
+    go (inr m) = absurd (true≢false (sym e ∙ ap is_open (get_or_past s.lines t Idle m)))
+
+-- to go on at a place of lower rank
+goes-turns : (s : Table) (t : ℕ) → has_thread s t ≡ true → t < length s.lines → (n : ℕ) (q : Request) (p : Place) → rank p < n → Turns t n (goes_to t q p s)
+goes-turns s t known l n q p less = goes refl known (ap is_open here) (subst (λ k. line_rank k < n) (sym here) less)
+  where
+    here : line_at (with_line t (At q p) s) t ≡ At q p
+    here = get_or-set_same s.lines t (At q p) Idle l
 
 -- to answer ends the call
 answers-turns : (n t a : ℕ) (s : Table) → Turns t n (answers t a s)
@@ -102,48 +107,43 @@ locked_again-turns n t m s = by_test (λ b. Turns t n (if b then answers t 0 (wi
     (nat_lt (cell_at s m).count 255)
     (λ e. answers-turns n t 0 (with_count m ((cell_at s m).count + 1) s)) (λ e. answers-turns n t 11 s)
 
--- all threads are there after a refused lock_pi
-refused_known : (t m : ℕ) (e : Errno) (s : Table) → has_thread (lock_pi_after t m (Err e) s) t ≡ has_thread s t
-unfolding lock_pi_after lock_in_kernel
-refused_known t m e s = ap (λ (rows : List Row). if t == 0 then false else nat_lt t (length rows)) (rows_by-same s.rows)
-
-module _ (s : Table) (t m : ℕ) (known : has_thread s t ≡ true) where
-  -- lock and trylock: compare-exchange from 0 to t
-  own_exchange-turns : (n : ℕ) (q : Request) (p : Place) → rank p < n → Turns t n (own_exchange q p t m s)
-  unfolding own_exchange
-  own_exchange-turns n q p less = by_test (λ b. Turns t n (if b then answers t 0 (with_word m (held_by t) s) else goes_to t q p s)) (is_bare (cell_at s m).word 0)
-      (λ e. answers-turns n t 0 (with_word m (held_by t) s)) (λ e. goes-turns s t known n q p less)
+module _ (s : Table) (t m : ℕ) (known : has_thread s t ≡ true) (l : t < length s.lines) where
+  -- lock and trylock: compare-exchange from 0 to t; unlock: from t to 0
+  exchanged-turns : (n : ℕ) (q : Request) (p : Place) (w : Option Word) → rank p < n → Turns t n (exchanged w q p t m s)
+  unfolding exchanged
+  exchanged-turns n q p (Some w) less = answers-turns n t 0 (with_word m w s)
+  exchanged-turns n q p None less = goes-turns s t known l n q p less
 
   -- lock: load the word
-  lock_load-turns : Turns t 3 (lock_load t m s)
+  lock_load-turns : Turns t 3 (lock_load (Lock m) t m s)
   unfolding lock_load
   lock_load-turns = by_test (λ b. Turns t 3 (if b then elim (cell_at s m).kind [ Normal ↦ goes_to t (Lock m) LockStop s | ErrorCheck ↦ answers t 35 s | Recursive ↦ locked_again t m s ] else goes_to t (Lock m) LockExchange s))
-      ((cell_at s m).word.number == t) (λ e. by_kind (cell_at s m).kind) (λ e. goes-turns s t known 3 (Lock m) LockExchange (omega arith))
+      ((cell_at s m).word.number == t) (λ e. by_kind (cell_at s m).kind) (λ e. goes-turns s t known l 3 (Lock m) LockExchange (omega arith))
     where
       by_kind : (k : Kind) → Turns t 3 (elim k [ Normal ↦ goes_to t (Lock m) LockStop s | ErrorCheck ↦ answers t 35 s | Recursive ↦ locked_again t m s ])
-      by_kind Normal = goes-turns s t known 3 (Lock m) LockStop (omega arith)
+      by_kind Normal = goes-turns s t known l 3 (Lock m) LockStop (omega arith)
       by_kind ErrorCheck = answers-turns 3 t 35 s
       by_kind Recursive = locked_again-turns 3 t m s
 
   -- lock: the kernel call lock_pi
-  lock_kernel-turns : Turns t 1 (lock_kernel t m s)
-  unfolding lock_kernel lock_by
-  lock_kernel-turns = by_answer (lock_pi_answer t m s)
+  lock_kernel-turns : Turns t 1 (lock_kernel (Lock m) t m s)
+  unfolding lock_kernel lock_by kernel_after_lock
+  lock_kernel-turns = by_answer (lock_answer t m s.words s.kernel)
     where
-      by_answer : (a : Result Took Errno) → Turns t 1 (lock_by a t m (lock_pi_after t m a s))
+      by_answer : (a : Result Took Errno) → Turns t 1 (lock_by a (Lock m) t (with_kernel (words_after_lock t m a s.words) (kernel_after_lock t m a s.words s.kernel) s))
       by_answer (Ok TookOwns) = ends (inr (0, refl))
       by_answer (Ok TookQueued) = ends (inl refl)
-      by_answer (Err NoSuchThread) = goes-turns (lock_pi_after t m (Err NoSuchThread) s) t (refused_known t m NoSuchThread s ∙ known) 1 (Lock m) LockStop (omega arith)
+      by_answer (Err NoSuchThread) = goes-turns (with_kernel (words_after_lock t m (Err NoSuchThread) s.words) s.kernel s) t known l 1 (Lock m) LockStop (omega arith)
       by_answer (Err _) = ends (inr (_, refl))
 
   -- lock: queued, or made the owner
-  lock_queued-turns : Turns t 0 (lock_queued t m s)
+  lock_queued-turns : Turns t 0 (lock_queued t s)
   unfolding lock_queued
-  lock_queued-turns = by_test (λ b. Turns t 0 (if b then answers t 0 s else record { seen = Waits; after = s })) (is_ready (row_at s t).status)
+  lock_queued-turns = by_test (λ b. Turns t 0 (if b then answers t 0 s else record { seen = Waits; after = s })) (is_ready (status_at s t))
       (λ e. answers-turns 0 t 0 s) (λ e. ends (inl refl))
 
   -- lock: stop for good
-  lock_stop-turns : Turns t 0 (lock_stop t m s)
+  lock_stop-turns : Turns t 0 (lock_stop (Lock m) t s)
   unfolding lock_stop
   lock_stop-turns = ends (inl refl)
 
@@ -151,7 +151,7 @@ module _ (s : Table) (t m : ℕ) (known : has_thread s t ≡ true) where
   try_load-turns : Turns t 2 (try_load t m s)
   unfolding try_load
   try_load-turns = by_test (λ b. Turns t 2 (if b then elim (cell_at s m).kind [ Recursive ↦ locked_again t m s | _ ↦ answers t 16 s ] else goes_to t (TryLock m) TryExchange s))
-      ((cell_at s m).word.number == t) (λ e. by_kind (cell_at s m).kind) (λ e. goes-turns s t known 2 (TryLock m) TryExchange (omega arith))
+      ((cell_at s m).word.number == t) (λ e. by_kind (cell_at s m).kind) (λ e. goes-turns s t known l 2 (TryLock m) TryExchange (omega arith))
     where
       by_kind : (k : Kind) → Turns t 2 (elim k [ Recursive ↦ locked_again t m s | _ ↦ answers t 16 s ])
       by_kind Recursive = locked_again-turns 2 t m s
@@ -163,47 +163,41 @@ module _ (s : Table) (t m : ℕ) (known : has_thread s t ≡ true) where
   unlock_load-turns = by_test (λ b. Turns t 2 (if b then (if nat_lt 1 (cell_at s m).count then answers t 0 (with_count m ((cell_at s m).count - 1) s) else goes_to t (Unlock m) UnlockExchange s) else answers t 1 s))
       ((cell_at s m).word.number == t)
       (λ e. by_test (λ b. Turns t 2 (if b then answers t 0 (with_count m ((cell_at s m).count - 1) s) else goes_to t (Unlock m) UnlockExchange s)) (nat_lt 1 (cell_at s m).count)
-      (λ f. answers-turns 2 t 0 (with_count m ((cell_at s m).count - 1) s)) (λ f. goes-turns s t known 2 (Unlock m) UnlockExchange (omega arith)))
+      (λ f. answers-turns 2 t 0 (with_count m ((cell_at s m).count - 1) s)) (λ f. goes-turns s t known l 2 (Unlock m) UnlockExchange (omega arith)))
       (λ e. answers-turns 2 t 1 s)
 
-  -- unlock: compare-exchange from t to 0
-  unlock_exchange-turns : Turns t 1 (unlock_exchange t m s)
-  unfolding unlock_exchange
-  unlock_exchange-turns = by_test (λ b. Turns t 1 (if b then answers t 0 (with_word m free_word s) else goes_to t (Unlock m) UnlockKernel s)) (is_bare (cell_at s m).word t)
-      (λ e. answers-turns 1 t 0 (with_word m free_word s)) (λ e. goes-turns s t known 1 (Unlock m) UnlockKernel (omega arith))
-
 -- each step of a call ends it, waits, or leaves it at a place of lower rank
-line-turns : (q : Request) (p : Place) (t : ℕ) (s : Table) → has_thread s t ≡ true → Turns t (rank p) (line_of q p t s)
-unfolding line_of try_kernel unlock_kernel set_priority
-line-turns (Lock m) LockLoad t s k = lock_load-turns s t m k
-line-turns (Lock m) LockExchange t s k = own_exchange-turns s t m k 2 (Lock m) LockKernel (omega arith)
-line-turns (Lock m) LockKernel t s k = lock_kernel-turns s t m k
-line-turns (Lock m) LockQueued t s k = lock_queued-turns s t m k
-line-turns (Lock m) LockStop t s k = lock_stop-turns s t m k
-line-turns (Lock m) LockStopped t s k = ends (inl refl)
-line-turns (TryLock m) TryLoad t s k = try_load-turns s t m k
-line-turns (TryLock m) TryExchange t s k = own_exchange-turns s t m k 1 (TryLock m) TryKernel (omega arith)
-line-turns (TryLock m) TryKernel t s k = answered_by-turns 0 t (busy_for_again (try_lock_pi_answer t m s)) (try_lock_pi_after t m (try_lock_pi_answer t m s) s)
-line-turns (Unlock m) UnlockLoad t s k = unlock_load-turns s t m k
-line-turns (Unlock m) UnlockExchange t s k = unlock_exchange-turns s t m k
-line-turns (Unlock m) UnlockKernel t s k = answered_by-turns 0 t (unlock_pi_answer t m s) (unlock_pi_after t m (unlock_pi_answer t m s) s)
-line-turns (SetPrio u n) SetPriority t s k = answered_by-turns 0 t (set_prio_answer u n s) (set_prio_after u n (set_prio_answer u n s) s)
-line-turns _ p t s k = answers-turns (rank p) t 22 s
+line-turns : (q : Request) (p : Place) (t : ℕ) (s : Table) → has_thread s t ≡ true → t < length s.lines → Turns t (rank p) (line_of q p t s)
+unfolding line_of own_exchange unlock_exchange try_kernel unlock_kernel set_priority
+line-turns (Lock m) LockLoad t s k l = lock_load-turns s t m k l
+line-turns (Lock m) LockExchange t s k l = exchanged-turns s t m k l 2 (Lock m) LockKernel (take_word (cell_at s m).word t) (omega arith)
+line-turns (Lock m) LockKernel t s k l = lock_kernel-turns s t m k l
+line-turns (Lock m) LockQueued t s k l = lock_queued-turns s t m k l
+line-turns (Lock m) LockStop t s k l = lock_stop-turns s t m k l
+line-turns (Lock m) LockStopped t s k l = ends (inl refl)
+line-turns (TryLock m) TryLoad t s k l = try_load-turns s t m k l
+line-turns (TryLock m) TryExchange t s k l = exchanged-turns s t m k l 1 (TryLock m) TryKernel (take_word (cell_at s m).word t) (omega arith)
+line-turns (TryLock m) TryKernel t s k l = answered_by-turns 0 t (busy_for_again (try_lock_answer t m s.words s.kernel)) _
+line-turns (Unlock m) UnlockLoad t s k l = unlock_load-turns s t m k l
+line-turns (Unlock m) UnlockExchange t s k l = exchanged-turns s t m k l 1 (Unlock m) UnlockKernel (release_word (cell_at s m).word t) (omega arith)
+line-turns (Unlock m) UnlockKernel t s k l = answered_by-turns 0 t (unlock_answer t m s.words s.kernel) _
+line-turns (SetPrio u n) SetPriority t s k l = answered_by-turns 0 t (set_prio_answer u n s.kernel) _
+line-turns _ p t s k l = answers-turns (rank p) t 22 s
 
 -- a step of t is not refused where its call is open
-open_step : (s : Table) (t : ℕ) → has_thread s t ≡ true → is_open (row_at s t).line ≡ true → stepped (Go t) s ≡ gone (row_at s t).line t s
-unfolding stepped accepted
+open_step : (s : Table) (t : ℕ) → has_thread s t ≡ true → is_open (line_at s t) ≡ true → event_outcome (Go t) s ≡ go_outcome (line_at s t) t s
+unfolding event_outcome accepted_outcome
 open_step s t known busy = rw (known, busy) refl
 
 -- a step of what is open at a line
-gone-turns : (s : Table) (t : ℕ) (l : Line) → has_thread s t ≡ true → is_open l ≡ true → Turns t (line_rank l) (gone l t s)
-unfolding gone
-gone-turns s t Idle known e = absurd cc
-gone-turns s t (At q p) known e = line-turns q p t s known
+go_outcome-turns : (s : Table) (t : ℕ) (l : Line) → has_thread s t ≡ true → t < length s.lines → is_open l ≡ true → Turns t (line_rank l) (go_outcome l t s)
+unfolding go_outcome
+go_outcome-turns s t Idle known b e = absurd cc
+go_outcome-turns s t (At q p) known b e = line-turns q p t s known b
 
 -- a step of an open call ends it, waits, or leaves it at a line of lower rank
-step-turns : (s : Table) (t : ℕ) → has_thread s t ≡ true → is_open (row_at s t).line ≡ true → Turns t (line_rank (row_at s t).line) (stepped (Go t) s)
-step-turns s t known busy = subst (Turns t (line_rank (row_at s t).line)) (sym (open_step s t known busy)) (gone-turns s t (row_at s t).line known busy)
+step-turns : (s : Table) (t : ℕ) → has_thread s t ≡ true → is_open (line_at s t) ≡ true → Turns t (line_rank (line_at s t)) (event_outcome (Go t) s)
+step-turns s t known busy = subst (Turns t (line_rank (line_at s t))) (sym (open_step s t known busy)) (go_outcome-turns s t (line_at s t) known (lined s t busy) busy)
 
 -- of a first step, which was answered x, and what follows it: the last one
 abbrev last : Outcome → Outcome → Seen → Outcome
@@ -216,7 +210,7 @@ last-ends first later x (inr e) = ap (last first later) e.1
 
 -- a step of t that turns, with what follows it, ends the call or waits, where what follows does
 turn-ends : (t n : ℕ) (first later : Outcome) → Turns t n first
-    → (has_thread first.after t ≡ true → is_open (row_at first.after t).line ≡ true → line_rank (row_at first.after t).line < n → ClosesOrWaits later.seen)
+    → (has_thread first.after t ≡ true → is_open (line_at first.after t) ≡ true → line_rank (line_at first.after t) < n → ClosesOrWaits later.seen)
     → ClosesOrWaits (last first later first.seen).seen
 turn-ends t n first later (ends e) h = subst (λ (o : Outcome). ClosesOrWaits o.seen) (sym (last-ends first later first.seen e)) e
 turn-ends t n first later (goes e known busy less) h = subst (λ (x : Seen). ClosesOrWaits (last first later x).seen) (sym e) (h known busy less)
@@ -227,26 +221,26 @@ last_turn-ends t n first (ends e) low = e
 last_turn-ends t n first (goes e known busy less) low = absurd (omega arith)
 
 -- going on as often as the rank says ends the call or waits
-ends_within : (n t : ℕ) (s : Table) → has_thread s t ≡ true → is_open (row_at s t).line ≡ true → line_rank (row_at s t).line ≤ n → ClosesOrWaits (goes_on n t s).seen
+ends_within : (n t : ℕ) (s : Table) → has_thread s t ≡ true → is_open (line_at s t) ≡ true → line_rank (line_at s t) ≤ n → ClosesOrWaits (goes_on n t s).seen
 unfolding goes_on
-ends_within zero t s known busy low = last_turn-ends t (line_rank (row_at s t).line) (stepped (Go t) s) (step-turns s t known busy) low
-ends_within (suc n) t s known busy low = turn-ends t (line_rank (row_at s t).line) (stepped (Go t) s) (goes_on n t (stepped (Go t) s).after) (step-turns s t known busy)
-    (λ k b less. ends_within n t (stepped (Go t) s).after k b (omega arith))
+ends_within zero t s known busy low = last_turn-ends t (line_rank (line_at s t)) (event_outcome (Go t) s) (step-turns s t known busy) low
+ends_within (suc n) t s known busy low = turn-ends t (line_rank (line_at s t)) (event_outcome (Go t) s) (goes_on n t (event_outcome (Go t) s).after) (step-turns s t known busy)
+    (λ k b less. ends_within n t (event_outcome (Go t) s).after k b (omega arith))
 
 -- a refused step is the last
 refused-last : (n t : ℕ) (s : Table) (r : Refusal) → table_refusal s (Go t) ≡ Some r → (goes_on (suc n) t s).seen ≡ Refused r
-unfolding goes_on stepped
+unfolding goes_on event_outcome
 refused-last n t s r e = ap (λ (o : Option Refusal). (last (by_refusal o (Go t) s) (goes_on n t (by_refusal o (Go t) s).after) (by_refusal o (Go t) s).seen).seen) e
 
 -- of 24 steps of a thread with a call open one closes it or waits
-pub open_ends_within_24 : (t : ℕ) (s : Table) → has_thread s t ≡ true → is_open (row_at s t).line ≡ true → ClosesOrWaits (goes_on 23 t s).seen
-open_ends_within_24 t s known busy = ends_within 23 t s known busy (low_line (row_at s t).line)
+pub open_ends_within_24 : (t : ℕ) (s : Table) → has_thread s t ≡ true → is_open (line_at s t) ≡ true → ClosesOrWaits (goes_on 23 t s).seen
+open_ends_within_24 t s known busy = ends_within 23 t s known busy (low_line (line_at s t))
 
 -- of 24 steps of a thread one is not answered Went
 pub ends_within_24 : (t : ℕ) (s : Table) → (goes_on 23 t s).seen ≢ Went
 ends_within_24 t s = by_first (table_refusal s (Go t)) refl
   where
     by_first : (r : Option Refusal) → table_refusal s (Go t) ≡ r → (goes_on 23 t s).seen ≢ Went
-    by_first None e = let a = go_allowed (has_thread s t) (is_open (row_at s t).line) e in
+    by_first None e = let a = go_allowed (has_thread s t) (is_open (line_at s t)) e in
         ends-not_went (goes_on 23 t s).seen (open_ends_within_24 t s a.0 a.1)
     by_first (Some r) e = λ h. absurd (refused_not_went r (sym (refused-last 22 t s r e) ∙ h))

@@ -1,349 +1,301 @@
--- The kernel hands a mutex to its next waiter: the table stays sound, and the POSIX machine's mutex passes on.
-use Rattle.std.proofs.Common.{◌≡◌, ◌≢◌, ℕ, ◌<◌, true, false, ◌==◌, nat_lt, ◌⊎◌, inl, inr, List, [], ◌∷◌, ◌++◌, length, get_or, set, map, Some, None, refl, sym, ap, ap₂, ◌∙◌, subst, if◌then◌else◌, eq-eqb, ne_eqb, length-set, get_or-set_same, get_or-set_other, set-set, ltb-false}
-use Rattle.std.proofs.lemmas.List.{length-map, map-set, set_comm, get_or_past}
-use Rattle.pif_types.specs.declared.requests.Request.TheVariants.{Lock, Unlock}
+-- The kernel hands a mutex on to its next waiter, while the thread that gave it up goes to another line: the table stays
+-- sound, and the POSIX machine's mutex passes on.
+use Rattle.std.proofs.Common.{◌≡◌, ◌≢◌, ℕ, ◌<◌, ◌≤◌, Bool, true, false, ◌==◌, nat_lt, ◌⊎◌, inl, inr, List, length, get_or, set, Option, Some, None, refl, sym, ap, ap₂, ◌∙◌, subst, arith, if◌then◌else◌}
+use Rattle.std.proofs.lemmas.Bool.{cases_eq, true≢false}
+use Rattle.std.proofs.lemmas.List.{length-set, get_or-set_same, get_or-set_other}
+use Rattle.pif_types.specs.declared.requests.Request.{Request}
+use Rattle.pif_types.specs.declared.requests.Request.TheVariants.{Lock, TryLock, Unlock, SetPrio}
+use Rattle.pif_model.specs.declared.lines.Line.{Line}
 use Rattle.pif_model.specs.declared.lines.Line.TheVariants.{Idle, At}
-use Rattle.pif_model.specs.declared.lines.Place.TheVariants.{LockQueued, UnlockKernel}
+use Rattle.pif_model.specs.declared.lines.Place.{Place}
+use Rattle.pif_model.specs.declared.lines.Place.TheVariants.{LockQueued}
 use Rattle.pif_model.specs.declared.lines.Status.{Status}
 use Rattle.pif_model.specs.declared.lines.Status.TheVariants.{Ready, Queued, Stopped}
 use Rattle.pif_model.specs.declared.lines.Woken.TheVariants.{Owns as WokenOwns}
-use Rattle.pif_model.specs.Graph.{waited_by, has_waiter, without}
-use Rattle.pif_model.specs.Posix.{Thread, Mutex, World, Unlocks, nobody, thread_at, mutex_at, with_thread, with_progress, progressed, taken, on_taking, rests}
-use Rattle.pif_model.specs.Posix.Health.{Fine, Inconsistent}
-use Rattle.pif_model.specs.Posix.Progress.{Has}
-use Rattle.pif_model.specs.Posix.Unlocks.{released}
-use Rattle.pif_model.specs.Posix.Passes.{to_next}
-use Rattle.pif_model.specs.Table.{Table, Row, Cell, no_row, no_cell, row_at, cell_at, has_thread, has_mutex, is_ready, queued_on, with_row, with_cell, with_line, kernel_effective}
-use Rattle.pif_model.specs.Kernel.{kernel_next}
-use Rattle.pif_model.specs.Standing.{Shadow, LineIsSound, QueueIsSound, RowIsSound, CellIsSound, ThreadIsSound, SoundBut, IsSound, call_at, thread_of, mutex_of, world_of}
-use Rattle.pif_simulation.proofs.Forms.{settled, handed_form}
-use Rattle.pif_simulation.proofs.Leveled.{HasLevels, levels-push, within-from_ordered}
-use Rattle.pif_simulation.proofs.Priorities.{effective_within}
-use Rattle.pif_chains.proofs.Places.{mapped_at}
-use Rattle.pif_chains.proofs.Waiting.{by_test, names, or_true, or_false, waited-from_pair, waited_by-without_same, waited_by-without_other, once_push, named-push, next-is_waiter}
-use Rattle.pif_simulation.proofs.Effective.{next_seen, next-with_progress, settled_line}
+use Rattle.pif_model.specs.Graph.{has_waiter, without}
+use Rattle.pif_model.specs.Word.{Word, hand_word, word_at}
+use Rattle.pif_model.specs.Posix.{Progress, Call, Thread, Mutex, World, nobody, no_mutex, named_by, thread_at, mutex_at, with_thread, with_mutex, with_progress, progressed, taken, on_taking}
+use Rattle.pif_model.specs.PiKernel.{Kernel, IsKernel, Seat, no_seat, seat_at, state_at, is_ready, is_living, next_in, kernel_after_hand_over}
+use Rattle.pif_model.specs.Table.{Table, Cell, has_thread, has_mutex, status_at, line_at, library_at, cell_at}
+use Rattle.pif_model.specs.Standing.{Shadow, call_at, health_of, health_at, thread_shown, mutex_shown, world_of, MeetsAll, needs, waited_in, CallIsSound, LineIsSound, IsQueuedLine, CellIsSound, ThreadIsSound, SoundBut, IsSound}
+use Rattle.pif_chains.proofs.Waiting.{by_test, has_waiter-without_other}
 use Rattle.pif_chains.proofs.Numbers.{above_0, below}
+use Rattle.pif_chains.proofs.KernelFacts.{next-queued, next-added, next-waited, next-some}
+use Rattle.pif_chains.proofs.KernelKept.{hand_over_kept}
 use Rattle.pif_simulation.proofs.Kept.{held_once}
-use Rattle.pif_chains.proofs.Statuses.{ready-queued_on_nothing}
-use Rattle.pif_simulation.proofs.Hole.{put_row, put_cell, put_ready, excuse, admit, left_waiters, settle, ready-at_any_line, each_thread, admit_last}
-use Rattle.pif_simulation.proofs.Steps.{knows, rests_ready}
-use Rattle.pif_simulation.proofs.Queue.{owner_seen}
+use Rattle.pif_simulation.proofs.Hole.{Changes, change_kept, excuse, admit, admit_last, each_thread}
+use Rattle.pif_simulation.proofs.Shown.{threads_shown, mutexes_shown, thread_seen, mutex_seen}
+use Rattle.pif_simulation.proofs.Written.{written, cell_written, mutex_of, IsCallOn, changes, cell_here, line_here, line_there, thread_here, thread_there, shows}
+use Rattle.pif_simulation.proofs.Steps.{Going, going_lined, going_called}
+use Rattle.pif_simulation.proofs.Local.{KnowsAfter, known_named, ready-not_queued, going_cell}
 
--- THE NEXT WAITER
+-- a call that waits for a mutex names it
+waits-named : (q : Request) (m : ℕ) → m ≢ 0 → waited_in q ≡ m → named_by q ≡ m
+waits-named (Lock j) m n e = e
+waits-named (TryLock j) m n e = absurd (n (sym e))
+waits-named (Unlock j) m n e = absurd (n (sym e))
+waits-named (SetPrio u p) m n e = absurd (n (sym e))
 
--- u waits for m, which another thread, t, owns
-pub record IsWaiter (s : Table) (t u m : ℕ) : Type 0 where
-  pub known : has_thread s u ≡ true
-  pub waits : waited_by s.waiters u ≡ m
-  pub status : (row_at s u).status ≡ Queued m
-  pub line : (row_at s u).line ≡ At (Lock m) LockQueued
+-- t, in its call q, gives up the mutex of that call, which it holds once and for which threads wait, and goes to the line l
+pub record GivesUp (s : Table) (t : ℕ) (q : Request) (p : Place) (l : Line) : Type 0 where
+  pub going : Going s t q p
+  pub named : has_mutex s (named_by q) ≡ true
+  pub ready : is_ready (status_at s t) ≡ true
+  pub own : (cell_at s (named_by q)).word.number ≡ t
+  pub once : (cell_at s (named_by q)).count ≡ 1
+  pub state : state_at s.kernel (named_by q) ≢ 0
+
+module _ {s : Table} {t : ℕ} {q : Request} {p : Place} {l : Line} (h : GivesUp s t q p l) where
+  abbrev m : ℕ
+  m = named_by q
+
+  -- who gets it
+  abbrev pub u : ℕ
+  u = next_in s.kernel m
+
+  -- the kernel that is left
+  abbrev pub k : Kernel
+  k = kernel_after_hand_over u m s.kernel
+
+  abbrev n : ℕ
+  n = (library_at s m).count
+
+  -- the table that is left
+  abbrev pub handed : Table
+  handed = written t m l (hand_word u) n k s
+
+  sound : IsSound s
+  sound = h.going.sound
+
+  c : CellIsSound (has_thread s) (has_waiter s.kernel.waiters m) (cell_at s m)
+  c = going_cell h.going h.named
+
+  t0 : t ≢ 0
+  t0 = above_0 t (length s.kernel.seats) h.going.known
+
+  m0 : m ≢ 0
+  m0 = above_0 m (length s.mutexes) h.named
+
+  ml : m < length s.mutexes
+  ml = below m (length s.mutexes) h.named
+
+  -- the next waiter is another thread, which was added
+  added : has_thread s u ≡ true
+  added = next-added s.kernel sound.kernel m h.state
+
+  was_queued : status_at s u ≡ Queued m
+  was_queued = next-queued s.kernel sound.kernel m h.state
+
   pub other : u ≢ t
+  other e = true≢false (sym h.ready ∙ ap (λ j. is_ready (status_at s j)) (sym e) ∙ ap is_ready was_queued)
 
--- what a thread at the kernel call of an unlock knows
-pub knows_at_unlock : (s : Table) (t m : ℕ) → IsSound s → has_thread s t ≡ true → (row_at s t).line ≡ At (Unlock m) UnlockKernel
-    → (has_mutex s m ≡ true) × (is_ready (row_at s t).status ≡ true) × ((cell_at s m).word.number ≡ t) × ((cell_at s m).count ≡ 1)
-knows_at_unlock s t m h a e =
-    let k = subst (λ l. LineIsSound (has_mutex s) (cell_at s) t (row_at s t).status l) e (knows s t h a).line in
-    (k.0, k.2.0, k.2.1.0, k.2.1.1.0 k.2.1.0)
+  -- it is at the place where it was queued
+  queued_line : IsQueuedLine m (line_at s u)
+  queued_line = (each_thread sound u added).queue m was_queued
 
--- where there is an owner state, there is a waiter
-pub waiter-from_state : (s : Table) (m : ℕ) → IsSound s → has_mutex s m ≡ true → (cell_at s m).state ≢ 0 → has_waiter s.waiters m ≡ true
-waiter-from_state s m h a n =
-    by_test (λ b. has_waiter s.waiters m ≡ b → b ≡ true) (has_waiter s.waiters m) (λ _ _. refl)
-    (λ e _. absurd (n ((h.all.cells m a).state ∙ rw e refl))) refl
+  -- the call in which it waits names the mutex
+  waiter_named : named_by queued_line.request ≡ m
+  waiter_named = waits-named queued_line.request m m0 queued_line.waits
 
--- who is queued on something is queued on that
-queued-from_number : (x : Status) (m : ℕ) → m ≢ 0 → queued_on x ≡ m → x ≡ Queued m
-queued-from_number (Ready w) m n e = absurd (n (sym e))
-queued-from_number (Queued k) m n e = ap Queued e
-queued-from_number Stopped m n e = absurd (n (sym e))
+  -- what the kernel knows of it then
+  seat_woken : seat_at k u ≡ record (seat_at s.kernel u) { status = Ready WokenOwns }
+  unfolding kernel_after_hand_over
+  seat_woken = get_or-set_same s.kernel.seats u (record (seat_at s.kernel u) { status = Ready WokenOwns }) no_seat (below u (length s.kernel.seats) added)
 
--- who waits for a mutex was added
-waiter-known : (s : Table) (u m : ℕ) → IsSound s → m ≢ 0 → queued_on (row_at s u).status ≡ m → has_thread s u ≡ true
-waiter-known s u m h n e =
-    rw (ne_eqb u 0 (λ x. n (sym e ∙ ap (λ u. queued_on (row_at s u).status) x ∙ ap (λ (r : Row). queued_on r.status) h.all.shape.nobody)))
-    (by_test (λ b. nat_lt u (length s.rows) ≡ b → b ≡ true) (nat_lt u (length s.rows)) (λ _ _. refl)
-    (λ x _. absurd (n (sym e ∙ ap (λ (r : Row). queued_on r.status) (get_or_past s.rows u no_row (ltb-false u (length s.rows) x))))) refl)
+  -- and of the others
+  seat_kept : (j : ℕ) → j ≢ u → seat_at k j ≡ seat_at s.kernel j
+  unfolding kernel_after_hand_over
+  seat_kept j d = get_or-set_other s.kernel.seats u j (record (seat_at s.kernel u) { status = Ready WokenOwns }) no_seat d
 
--- the kernel's next waiter is one
-pub next_waits : (s : Table) (t m : ℕ) → IsSound s → has_thread s t ≡ true → (row_at s t).line ≡ At (Unlock m) UnlockKernel → (cell_at s m).state ≢ 0 → IsWaiter s t (kernel_next s m) m
-next_waits s t m h a e n =
-    let k = knows_at_unlock s t m h a e in
-    let u = kernel_next s m in
-    let m0 = above_0 m (length s.cells) k.0 in
-    let w = waited-from_pair s.waiters u m h.all.once (next-is_waiter (kernel_effective s) s.waiters m (waiter-from_state s m h k.0 n)) in
-    let q : queued_on (row_at s u).status ≡ m = sym (each_thread h u).queue ∙ w in
-    let x = queued-from_number (row_at s u).status m m0 q in
-    let known = waiter-known s u m h m0 q in
-    record {
-      known = known;
-      waits = w;
-      status = x;
-      line = subst (λ y. QueueIsSound y (row_at s u).line) x (knows s u h known).queue;
-      other = λ y. m0 (sym q ∙ ap (λ u. queued_on (row_at s u).status) y ∙ ready-queued_on_nothing (row_at s t).status k.1);
-    }
+  -- the two threads that change
+  abbrev Two : ℕ → Type 0
+  Two j = (j ≡ t) ⊎ (j ≡ u)
 
--- THE TABLE
-
--- the cell of m when it was handed to u
-abbrev handed_cell : Table → ℕ → ℕ → Cell
-handed_cell s u m = record (cell_at s m) { word = record { number = u; waiters = true; died = false }; state = if has_waiter (without s.waiters u) m then u else 0 }
-
--- the row of u when it was woken
-abbrev woken_row : Table → ℕ → Row
-woken_row s u = record (row_at s u) { status = Ready WokenOwns }
-
--- the row of t when its call is closed
-abbrev closed_row : Table → ℕ → ℕ → Row
-closed_row s t u = record (get_or (set s.rows u (woken_row s u)) t no_row) { line = Idle }
-
--- the level at which u joins the run queue
-abbrev woken_level : Table → ℕ → ℕ → ℕ
-woken_level s u m = kernel_effective (record s { rows = set s.rows u (woken_row s u); cells = set s.cells m (handed_cell s u m); waiters = without s.waiters u }) u
-
--- the table before t's call is closed and all is settled
-abbrev woken_at : Table → ℕ → ℕ → Table
-woken_at s u m = record (with_row u (woken_row s u) (with_cell m (handed_cell s u m) s)) { waiters = without s.waiters u; ready = s.ready ++ (u, woken_level s u m) ∷ [] }
-
--- the table that the kernel and the line leave
-handed_is : (s : Table) (t u m : ℕ) → with_line t Idle (handed_form u m s) ≡ settled (with_row t (closed_row s t u) (woken_at s u m))
-handed_is s t u m = settled_line t Idle (woken_at s u m)
-
-module _ (s : Table) (t u m : ℕ) (w : IsWaiter s t u m) (h : IsSound s) (a : has_thread s t ≡ true) (e : (row_at s t).line ≡ At (Unlock m) UnlockKernel) where
-  -- what t knows of m
-  known : (has_mutex s m ≡ true) × (is_ready (row_at s t).status ≡ true) × ((cell_at s m).word.number ≡ t) × ((cell_at s m).count ≡ 1)
-  known = knows_at_unlock s t m h a e
-
-  -- the table before all is settled
-  abbrev after : Table
-  after = with_row t (closed_row s t u) (woken_at s u m)
-
-  -- both have the same threads
-  same_threads : (k : ℕ) → has_thread after k ≡ has_thread s k
-  same_threads k = ap (λ n. if k == 0 then false else nat_lt k n) (length-set (set s.rows u (woken_row s u)) t (closed_row s t u) ∙ length-set s.rows u (woken_row s u))
-
-  -- t's row then
-  row_here : row_at after t ≡ record (row_at s t) { line = Idle }
-  row_here =
-      get_or-set_same (set s.rows u (woken_row s u)) t (closed_row s t u) no_row (subst (λ n. t < n) (sym (length-set s.rows u (woken_row s u))) (below t (length s.rows) a))
-      ∙ ap (λ (r : Row). record r { line = Idle }) (get_or-set_other s.rows u t (woken_row s u) no_row (λ x. w.other (sym x)))
-
-  -- u's row then
-  row_next : row_at after u ≡ woken_row s u
-  row_next =
-      get_or-set_other (set s.rows u (woken_row s u)) t u (closed_row s t u) no_row w.other
-      ∙ get_or-set_same s.rows u (woken_row s u) no_row (below u (length s.rows) w.known)
-
-  -- t is sound then
-  giver_sound : ThreadIsSound after t
-  giver_sound =
-      let b = each_thread h t in
-      record {
-        row = λ y. subst (RowIsSound (has_mutex after) (cell_at after) t) (sym row_here)
-            (record { living = (b.row a).living; line = known.1; queue = ready-at_any_line (row_at s t).status Idle known.1 });
-        queue = waited_by-without_other s.waiters u t (λ x. w.other (sym x)) ∙ b.queue ∙ sym (ap (λ (r : Row). queued_on r.status) row_here);
-        ready = named-push s.ready u (woken_level s u m) t ∙ rw (ne_eqb u t w.other) (or_false (names t s.ready)) ∙ b.ready
-            ∙ sym (ap₂ (λ c (r : Row). if c then is_ready r.status else false) (same_threads t) row_here);
-      }
-
-  -- u is sound then
-  taker_sound : ThreadIsSound after u
-  taker_sound = record {
-    row = λ y. subst (RowIsSound (has_mutex after) (cell_at after) u) (sym row_next)
-        (record {
-          living = (knows s u h w.known).living;
-          line = subst (LineIsSound (has_mutex after) (cell_at after) u (Ready WokenOwns)) (sym w.line) (
-            ap (λ n. if m == 0 then false else nat_lt m n) (length-set s.cells m (handed_cell s u m)) ∙ known.0,
-            refl,
-            ((λ y. absurd cc), ((λ y. ap (λ (c : Cell). c.word.number) (get_or-set_same s.cells m (handed_cell s u m) no_cell (below m (length s.cells) known.0))), tt)),
-          );
-          queue = tt;
-        });
-    queue = waited_by-without_same s.waiters u ∙ sym (ap (λ (r : Row). queued_on r.status) row_next);
-    ready = named-push s.ready u (woken_level s u m) u ∙ rw (eq-eqb u u refl) (or_true (names u s.ready))
-        ∙ sym (ap₂ (λ c (r : Row). if c then is_ready r.status else false) (same_threads u ∙ w.known) row_next);
+  -- it is a call on m by which the two change
+  call : IsCallOn Two s.kernel k m
+  unfolding kernel_after_hand_over
+  call = record {
+    limits = refl;
+    seats = length-set s.kernel.seats u (record (seat_at s.kernel u) { status = Ready WokenOwns });
+    status = λ j d. ap (λ (x : Seat). x.status) (get_or-set_other s.kernel.seats u j (record (seat_at s.kernel u) { status = Ready WokenOwns }) no_seat (λ e. d (inr e)));
+    states = λ j d. get_or-set_other s.kernel.states m j (if has_waiter (without s.kernel.waiters u) m then u else 0) 0 d;
+    waited = λ j d. has_waiter-without_other s.kernel.waiters u m j sound.kernel.once (next-waited s.kernel sound.kernel m h.state) d;
   }
 
+  -- the owner state of m, and who waits
+  state_left : state_at k m ≡ (if has_waiter k.waiters m then u else 0)
+  unfolding kernel_after_hand_over
+  state_left = get_or-set_same s.kernel.states m (if has_waiter (without s.kernel.waiters u) m then u else 0) 0
+      (omega (arith, sound.kernel.shape.states, ml, sound.all.shape.few_mutexes, sound.all.shape.within.mutexes))
+
+  -- who waits then
+  waiters_left : k.waiters ≡ without s.kernel.waiters u
+  unfolding kernel_after_hand_over
+  waiters_left = refl
+
   -- the mutex is sound then
-  handed_cell_sound : CellIsSound (has_thread s) (has_waiter (without s.waiters u) m) (handed_cell s u m)
-  handed_cell_sound =
-      let c = h.all.cells m known.0 in
-      record {
-        stalled = c.stalled;
-        fine = c.fine;
-        no_death = refl;
-        count = held_once (cell_at s m).kind u (cell_at s m).count known.3;
-        owner = λ y. w.known;
-        free = λ y. absurd (above_0 u (length s.rows) w.known y);
-        state = refl;
-        contended = λ y. refl;
-      }
+  cell_handed : CellIsSound (has_thread s) (has_waiter k.waiters m) (cell_written m (hand_word u) n k s)
+  cell_handed = record {
+    stalled = c.stalled;
+    no_death = refl;
+    count = held_once (cell_at s m).kind u n h.once;
+    owner = λ z. added;
+    free = λ z. absurd (next-some s.kernel sound.kernel m h.state z);
+    state = state_left;
+    contended = λ z. refl;
+  }
 
-  -- the two threads that the step moves
-  abbrev Two : ℕ → Type 0
-  Two k = (k ≡ t) ⊎ (k ≡ u)
+  -- the change
+  change : Changes Two s handed m
+  change = changes s t m l (hand_word u) n k t0 (going_lined h.going) ml sound.all.shape (inl refl) call (λ e. absurd (m0 e)) (λ e. cell_handed)
+      (λ j a d. record {
+        kind = refl;
+        robust = refl;
+        owner = λ o. absurd (d (inl (sym o ∙ h.own)));
+        other = λ o z. d (inr (sym z));
+        count = λ o. refl;
+        ended = λ z e. absurd (true≢false (sym h.going.known ∙ ap (is_living s.kernel) (sym h.own) ∙ e));
+      })
 
-  -- the invariant without the two
-  without_two : SoundBut Two s
-  without_two = excuse h.all Two (λ k x. absurd x)
+  -- t's line, and u's
+  line_t : line_at handed t ≡ l
+  line_t = line_here s t m l (hand_word u) n k t0 (going_lined h.going) ml sound.all.shape
 
-  -- u was not in the run queue
-  unready : names u s.ready ≡ false
-  unready = (each_thread h u).ready ∙ rw (w.known, w.status) refl
+  line_u : line_at handed u ≡ At queued_line.request LockQueued
+  line_u = line_there s t m l (hand_word u) n k t0 (going_lined h.going) ml sound.all.shape u other ∙ queued_line.line
 
-  -- the run queue without the two
-  pushed : (k : ℕ) → (Two k → ⊥) → names k (s.ready ++ (u, woken_level s u m) ∷ []) ≡ names k s.ready
-  pushed k n = named-push s.ready u (woken_level s u m) k ∙ rw (ne_eqb u k (λ x. n (inr (sym x)))) (or_false (names k s.ready))
+  -- m then
+  cell_m : cell_at handed m ≡ cell_written m (hand_word u) n k s
+  cell_m = cell_here s t m l (hand_word u) n k t0 (going_lined h.going) ml sound.all.shape
 
-  -- the invariant without the two, once m was handed over
-  handed_without_two : SoundBut Two (record (with_row u (woken_row s u) (with_cell m (handed_cell s u m) s)) { waiters = without s.waiters u })
-  handed_without_two = put_row (put_cell without_two m (handed_cell s u m) (without s.waiters u) known.0
-      (left_waiters without_two u m (inr refl) w.waits) handed_cell_sound
-      (λ k n z. record { kind = refl; owner = λ o. absurd (n (inl (sym o ∙ known.2))); other = λ o x. n (inr (sym x)); count = λ o. refl }))
-      u (woken_row s u) w.known (inr refl) (h.all.shape.priorities u w.known)
+  -- the same threads live
+  living : is_living k ≡ is_living s.kernel
+  living = λ i j. if j == 0 then false else nat_lt j (call.seats i)
 
-  -- the same threads are there then
-  still_there : (k : ℕ) → has_thread s k ≡ true → has_thread (woken_at s u m) k ≡ true
-  still_there k e = ap (λ n. if k == 0 then false else nat_lt k n) (length-set s.rows u (woken_row s u)) ∙ e
+  -- what t knows then at its line
+  giver_knows : (b : Line) → KnowsAfter s t m (cell_written m (hand_word u) n k s) b → LineIsSound handed t b
+  giver_knows Idle e = ap (λ (x : Seat). is_ready x.status) (seat_kept t (λ z. other (sym z))) ∙ e
+  giver_knows (At r b) e = record {
+    named = known_named (has_mutex handed) r (ap (has_mutex handed) e.0 ∙ change.mutexes m ∙ h.named);
+    belongs = e.1;
+    needs = subst (λ d. MeetsAll (is_living k) t (seat_at k t).status d (needs b)) (sym (ap (cell_at handed) e.0 ∙ cell_m))
+        (subst (λ f. MeetsAll f t (seat_at k t).status (cell_written m (hand_word u) n k s) (needs b)) (sym living)
+        (subst (λ x. MeetsAll (is_living s.kernel) t x (cell_written m (hand_word u) n k s) (needs b)) (sym (ap (λ (x : Seat). x.status) (seat_kept t (λ z. other (sym z))))) e.2));
+  }
 
-  -- the levels of the run queue with u
-  pushed_levels : HasLevels (s.ready ++ (u, woken_level s u m) ∷ [])
-  pushed_levels =
-      let r = effective_within (record (with_row u (woken_row s u) (with_cell m (handed_cell s u m) s)) { waiters = without s.waiters u }) handed_without_two.shape u (still_there u w.known) in
-      levels-push s.ready u (woken_level s u m) (within-from_ordered s.ready h.order) r.0 r.1
+  -- t is sound then
+  giver_sound : KnowsAfter s t m (cell_written m (hand_word u) n k s) l → ThreadIsSound handed t
+  giver_sound e = record {
+    line = subst (LineIsSound handed t) (sym line_t) (giver_knows l e);
+    queue = λ j z. absurd (ready-not_queued (status_at s t) j h.ready (sym (ap (λ (x : Seat). x.status) (seat_kept t (λ y. other (sym y)))) ∙ z));
+  }
+
+  -- u is sound then
+  taker_sound : ThreadIsSound handed u
+  taker_sound = record {
+    line = subst (LineIsSound handed u) (sym line_u) (record {
+      named = known_named (has_mutex handed) queued_line.request (ap (has_mutex handed) waiter_named ∙ change.mutexes m ∙ h.named);
+      belongs = (subst (LineIsSound s u) queued_line.line (each_thread sound u added).line).belongs;
+      needs = (
+        (λ z. absurd (not_stopped (sym (ap (λ (x : Seat). x.status) seat_woken) ∙ z))),
+        ((λ r. ap (λ (d : Cell). d.word.number) (ap (cell_at handed) waiter_named ∙ cell_m)), tt),
+      );
+    });
+    queue = λ j z. absurd (not_queued j (sym (ap (λ (x : Seat). x.status) seat_woken) ∙ z));
+  }
+    where
+      not_stopped : Ready WokenOwns ≡ Stopped → ⊥
+      not_stopped z = cc
+
+      not_queued : (j : ℕ) → Ready WokenOwns ≡ Queued j → ⊥
+      not_queued j z = cc
 
   -- the table is sound
-  pub sound_when_handed : IsSound (settled after)
-  sound_when_handed = settle (admit_last (admit
-      (put_row (put_ready handed_without_two
-      (s.ready ++ (u, woken_level s u m) ∷ []) pushed (once_push s.ready (u, woken_level s u m) unready h.all.ready_once))
-      t (closed_row s t u) (still_there t a) (inl refl) (handed_without_two.shape.priorities t (still_there t a)))
-      (λ k. k ≡ u) t (λ k x. x) giver_sound)
-      taker_sound)
-      pushed_levels
+  pub handed_sound : KnowsAfter s t m (cell_written m (hand_word u) n k s) l → IsSound handed
+  handed_sound e = record {
+    all = admit_last (admit (λ j. j ≡ u) t (λ j x. x) (giver_sound e) (change_kept (excuse Two (λ j x. absurd x) sound.all) change)) taker_sound;
+    kernel = hand_over_kept m s.kernel sound.kernel h.state;
+  }
 
--- IN THE POSIX MACHINE
+  -- t was added, and may run
+  pub handed_known : has_thread handed t ≡ true
+  handed_known = change.threads t ∙ h.going.known
 
--- the world after t gave m up and u took it
-abbrev pub handed_over : Table → Shadow → ℕ → ℕ → ℕ → World
-handed_over s shadow t u m = taken u m (record (with_progress t (Has 0) (world_of s shadow)) { waiters = without s.waiters u })
+  pub handed_ready : is_ready (status_at handed t) ≡ true
+  handed_ready = ap (λ (x : Seat). is_ready x.status) (seat_kept t (λ z. other (sym z))) ∙ h.ready
 
--- a fine mutex without a dead owner is seen so
-pub fine_seen : (s : Table) (shadow : Shadow) (m : ℕ) → CellIsSound (has_thread s) (has_waiter s.waiters m) (cell_at s m) → (mutex_at (world_of s shadow) m).health ≡ Fine
-fine_seen s shadow m c = ap (λ (x : Mutex). x.health) (mapped_at mutex_of s.cells m no_cell) ∙ rw (c.fine, c.no_death) refl
+  -- IN THE POSIX MACHINE
 
--- t as the world sees it when its unlock has its result
-abbrev given_up : Table → Shadow → ℕ → Thread
-given_up s shadow t = record (thread_at (world_of s shadow) t) { call = progressed (Has 0) (thread_at (world_of s shadow) t).call }
+  -- the world after t's call came as far as a, and m passed on
+  abbrev pub passed : Shadow → Progress → World
+  passed y a = taken u m (record (with_progress t a (world_of s y)) { waiters = without s.kernel.waiters u })
 
--- t, after u took m
-pub giver_seen : (s : Table) (shadow : Shadow) (t u m : ℕ) → t ≢ u → t < length s.rows → thread_at (handed_over s shadow t u m) t ≡ given_up s shadow t
-giver_seen s shadow t u m n h =
-    get_or-set_other (with_progress t (Has 0) (world_of s shadow)).threads u t (record (get_or (set (map thread_of s.rows) t (given_up s shadow t)) u nobody) { call = progressed (on_taking (mutex_at (world_of s shadow) m).health) (get_or (set (map thread_of s.rows) t (given_up s shadow t)) u nobody).call }) nobody n
-    ∙ get_or-set_same (map thread_of s.rows) t (given_up s shadow t) nobody (subst (λ n. t < n) (sym (length-map s.rows thread_of)) h)
+  -- t as it stands there before u takes m, and u
+  abbrev pub given : (y : Shadow) (a : Progress) → Thread
+  given y a = record (thread_at (world_of s y) t) { call = progressed a (thread_at (world_of s y) t).call }
 
--- the call of t, after u took m
-pub giver_call : (s : Table) (shadow : Shadow) (t u m : ℕ) → t ≢ u → t < length s.rows → (row_at s t).line ≡ At (Unlock m) UnlockKernel
-    → (thread_at (handed_over s shadow t u m) t).call ≡ Some (record { request = Unlock m; progress = Has 0 })
-giver_call s shadow t u m n h e =
-    ap (λ (x : Thread). x.call) (giver_seen s shadow t u m n h)
-    ∙ ap (λ (x : Thread). progressed (Has 0) x.call) (mapped_at thread_of s.rows t no_row)
-    ∙ ap (λ l. progressed (Has 0) (call_at l (row_at s t).status)) e
+  module _ (y : Shadow) (a : Progress) where
+    abbrev w : World
+    w = world_of s y
 
--- t, when its call is closed
-closed_seen : (s : Table) (shadow : Shadow) (t u m : ℕ) → t ≢ u → t < length s.rows → thread_of (closed_row s t u) ≡ record (thread_at (handed_over s shadow t u m) t) { call = None }
-closed_seen s shadow t u m n h =
-    ap (λ (r : Row). thread_of (record r { line = Idle })) (get_or-set_other s.rows u t (woken_row s u) no_row n)
-    ∙ sym (ap (λ (x : Thread). record x { call = None }) (giver_seen s shadow t u m n h ∙ ap (λ (x : Thread). record x { call = progressed (Has 0) x.call }) (mapped_at thread_of s.rows t no_row)))
+    tw : t < length w.threads
+    tw = subst (λ j. t < j) (sym (threads_shown sound.all.shape y)) (going_lined h.going)
 
--- u, when it owns m
-woken_seen : (s : Table) (shadow : Shadow) (t u m : ℕ) → IsWaiter s t u m → CellIsSound (has_thread s) (has_waiter s.waiters m) (cell_at s m)
-    → thread_of (woken_row s u) ≡ record (get_or (set (map thread_of s.rows) t (given_up s shadow t)) u nobody) { call = progressed (on_taking (mutex_at (world_of s shadow) m).health) (get_or (set (map thread_of s.rows) t (given_up s shadow t)) u nobody).call }
-woken_seen s shadow t u m w c =
-    rw (get_or-set_other (map thread_of s.rows) t u (given_up s shadow t) nobody w.other, mapped_at thread_of s.rows u no_row, fine_seen s shadow m c, w.line) refl
+    uw : u < length (with_progress t a w).threads
+    uw = subst (λ j. u < j) (sym (length-set w.threads t (given y a) ∙ threads_shown sound.all.shape y ∙ sound.all.shape.lines)) (below u (length s.kernel.seats) added)
 
--- the mutex, when u owns it
-handed_seen : (s : Table) (shadow : Shadow) (u m : ℕ) → CellIsSound (has_thread s) (has_waiter s.waiters m) (cell_at s m) → (cell_at s m).count ≡ 1 → mutex_of (handed_cell s u m) ≡ record (mutex_at (world_of s shadow) m) { owner = u; count = 1 }
-handed_seen s shadow u m c once = rw (mapped_at mutex_of s.cells m no_cell, once, c.no_death) refl
+    -- u, when it owns m
+    abbrev taker : Thread
+    taker = record (thread_at (with_progress t a w) u) { call = progressed (on_taking (mutex_at w m).health) (thread_at (with_progress t a w) u).call }
 
--- t's place is written before u's and again after it
-rewritten : {A : Type 0} (l : List A) (t u : ℕ) (x y z : A) → t ≢ u → set (set (set l t x) u y) t z ≡ set (set l u y) t z
-rewritten l t u x y z n = ap (λ k. set k t z) (set_comm l t u x y n) ∙ set-set (set l u y) t x z
+    -- t in that world
+    pub giver_passed : thread_at (passed y a) t ≡ given y a
+    giver_passed = get_or-set_other (with_progress t a w).threads u t taker nobody (λ z. other (sym z)) ∙ get_or-set_same w.threads t (given y a) nobody tw
 
--- the threads that the table shows
-handed_threads : (s : Table) (shadow : Shadow) (t u m : ℕ) → IsWaiter s t u m → CellIsSound (has_thread s) (has_waiter s.waiters m) (cell_at s m) → t < length s.rows
-    → map thread_of (set (set s.rows u (woken_row s u)) t (closed_row s t u)) ≡ (with_thread t (record (thread_at (handed_over s shadow t u m) t) { call = None }) (handed_over s shadow t u m)).threads
-handed_threads s shadow t u m w c h =
-    map-set thread_of (set s.rows u (woken_row s u)) t (closed_row s t u)
-    ∙ ap (λ l. set l t (thread_of (closed_row s t u))) (map-set thread_of s.rows u (woken_row s u))
-    ∙ ap₂ (λ x y. set (set (map thread_of s.rows) u x) t y) (woken_seen s shadow t u m w c) (closed_seen s shadow t u m (λ x. w.other (sym x)) h)
-    ∙ sym (rewritten (map thread_of s.rows) t u (given_up s shadow t)
-    (record (get_or (set (map thread_of s.rows) t (given_up s shadow t)) u nobody) { call = progressed (on_taking (mutex_at (world_of s shadow) m).health) (get_or (set (map thread_of s.rows) t (given_up s shadow t)) u nobody).call })
-    (record (thread_at (handed_over s shadow t u m) t) { call = None }) (λ x. w.other (sym x)))
+    -- u before
+    taker_before : thread_at (with_progress t a w) u ≡ thread_shown s u
+    taker_before = get_or-set_other w.threads t u (given y a) nobody other ∙ thread_seen sound.all.shape y u
 
--- the mutexes that the table shows
-handed_mutexes : (s : Table) (shadow : Shadow) (u m : ℕ) → CellIsSound (has_thread s) (has_waiter s.waiters m) (cell_at s m) → (cell_at s m).count ≡ 1
-    → map mutex_of (set s.cells m (handed_cell s u m)) ≡ set (map mutex_of s.cells) m (record (mutex_at (world_of s shadow) m) { owner = u; count = 1 })
-handed_mutexes s shadow u m c once = map-set mutex_of s.cells m (handed_cell s u m) ∙ ap (set (map mutex_of s.cells) m) (handed_seen s shadow u m c once)
+    -- the world that the table shows, with t's call as its line has it
+    pub handed_shown : (b : Option Call) → IsSound handed → call_at (health_at s) l (status_at s t) ≡ b
+        → world_of handed y ≡ with_thread t (record (thread_at (passed y a) t) { call = b }) (passed y a)
+    handed_shown b fits e =
+        let died : (hand_word u).died ≡ (word_at s.words m).died = sym c.no_death in
+        let z : Mutex = record (mutex_at w m) { owner = u; count = 1 } in
+        let r : Thread = record (thread_at (passed y a) t) { call = b } in
+        let lw = length-set (with_progress t a w).threads u taker ∙ length-set w.threads t (given y a) in
+        shows s t m l (hand_word u) n k t0 (going_lined h.going) ml sound.all.shape y (with_thread t r (passed y a)) fits.all.shape
+        (length-set (passed y a).threads t r ∙ lw ∙ threads_shown sound.all.shape y)
+        (length-set w.mutexes m z ∙ mutexes_shown sound.all.shape y)
+        waiters_left
+        (thread_here s t m l (hand_word u) n k t0 (going_lined h.going) ml sound.all.shape died
+        ∙ (λ i. record { base = (seat_kept t (λ x. other (sym x)) i).base; living = living i t; call = (ap (λ (x : Seat). call_at (health_at s) l x.status) (seat_kept t (λ x. other (sym x))) ∙ e) i })
+        ∙ sym (get_or-set_same (passed y a).threads t r nobody (subst (λ j. t < j) (sym lw) tw) ∙ (λ i. record ((giver_passed ∙ ap (λ (x : Thread). record x { call = progressed a x.call }) (thread_seen sound.all.shape y t)) i) { call = b })))
+        (λ j d. thread_there s t m l (hand_word u) n k t0 (going_lined h.going) ml sound.all.shape died call.seats j d
+        ∙ another j d (cases_eq j u) ∙ sym (get_or-set_other (passed y a).threads t j r nobody d))
+        (mutex_taken ∙ sym (get_or-set_same w.mutexes m z no_mutex (subst (λ j. m < j) (sym (mutexes_shown sound.all.shape y)) ml)))
+        (λ j d. sym (get_or-set_other w.mutexes m j z no_mutex d ∙ mutex_seen sound.all.shape y j))
+      where
+        mutex_taken : mutex_of (cell_written m (hand_word u) n k s) ≡ record (mutex_at w m) { owner = u; count = 1 }
+        mutex_taken =
+            (λ i. record { kind = (library_at s m).kind; robust = (library_at s m).robust; owner = u; count = h.once i; health = health_of (sym c.no_death i) })
+            ∙ sym (ap (λ (x : Mutex). record x { owner = u; count = 1 }) (mutex_seen sound.all.shape y m))
 
--- the world that the table shows
-pub handed_world : (s : Table) (shadow : Shadow) (t u m : ℕ) → IsWaiter s t u m → CellIsSound (has_thread s) (has_waiter s.waiters m) (cell_at s m) → (cell_at s m).count ≡ 1 → t < length s.rows
-    → world_of (with_line t Idle (handed_form u m s)) shadow ≡ with_thread t (record (thread_at (handed_over s shadow t u m) t) { call = None }) (handed_over s shadow t u m)
-handed_world s shadow t u m w c once h = λ i. record { threads = handed_threads s shadow t u m w c h i; mutexes = handed_mutexes s shadow u m c once i; waiters = without s.waiters u }
+        taken_call : call_at (health_at s) (line_at s u) (seat_at k u).status ≡ progressed (on_taking (mutex_at w m).health) (call_at (health_at s) (line_at s u) (status_at s u))
+        taken_call =
+            ap₂ (λ (b : Line) (x : Seat). call_at (health_at s) b x.status) queued_line.line seat_woken
+            ∙ ap (λ j. Some (record { request = queued_line.request; progress = on_taking (health_at s j) })) waiter_named
+            ∙ ap (λ (x : Mutex). Some (record { request = queued_line.request; progress = on_taking x.health })) (sym (mutex_seen sound.all.shape y m))
+            ∙ ap₂ (λ (b : Line) (x : Status). progressed (on_taking (mutex_at w m).health) (call_at (health_at s) b x)) (sym queued_line.line) (sym was_queued)
 
--- WHAT THE STEP NEEDS
+        taker_shown : record { base = (seat_at k u).base; living = is_living s.kernel u; call = call_at (health_at s) (line_at s u) (seat_at k u).status } ≡ thread_at (passed y a) u
+        taker_shown =
+            (λ i. record { base = (seat_woken i).base; living = is_living s.kernel u; call = taken_call i })
+            ∙ sym (get_or-set_same (with_progress t a w).threads u taker nobody uw
+            ∙ ap (λ (x : Thread). record x { call = progressed (on_taking (mutex_at w m).health) x.call }) taker_before)
 
--- an unlock at its kernel call while its mutex has an owner state
-pub record AtHandOver (s : Table) (t m : ℕ) : Type 0 where
-  pub sound : IsSound s
-  pub known : has_thread s t ≡ true
-  pub line : (row_at s t).line ≡ At (Unlock m) UnlockKernel
-  pub state : (cell_at s m).state ≢ 0
-
-module _ (s : Table) (shadow : Shadow) (t m : ℕ) (h : AtHandOver s t m) where
-  -- who gets m
-  next_known : IsWaiter s t (kernel_next s m) m
-  next_known = next_waits s t m h.sound h.known h.line h.state
-
-  -- somebody gets it
-  pub hand_next_above_0 : kernel_next s m ≢ 0
-  hand_next_above_0 = above_0 (kernel_next s m) (length s.rows) next_known.known
-
-  -- the mutex is sound
-  cell_known : CellIsSound (has_thread s) (has_waiter s.waiters m) (cell_at s m)
-  cell_known = h.sound.all.cells m (knows_at_unlock s t m h.sound h.known h.line).0
-
-  -- it is held once
-  once : (cell_at s m).count ≡ 1
-  once = (knows_at_unlock s t m h.sound h.known h.line).3
-
-  -- the table stays sound
-  pub hand_sound : IsSound (with_line t Idle (handed_form (kernel_next s m) m s))
-  hand_sound = subst IsSound (sym (handed_is s t (kernel_next s m) m)) (sound_when_handed s t (kernel_next s m) m next_known h.sound h.known h.line)
-
-  -- the mutex passes on to the next waiter
-  pub hand_unlocks : Unlocks t m (world_of s shadow) (handed_over s shadow t (kernel_next s m) m)
-  hand_unlocks =
-      released (owner_seen s shadow m ∙ (knows_at_unlock s t m h.sound h.known h.line).2)
-      (ap (λ (x : Mutex). x.count) (mapped_at mutex_of s.cells m no_cell) ∙ once)
-      (λ x. fine_not_inconsistent (sym (fine_seen s shadow m cell_known) ∙ x))
-      (to_next (kernel_next s m) (next-with_progress (world_of s shadow) t (Has 0) m ∙ next_seen s shadow h.sound m) hand_next_above_0 refl)
-    where
-      fine_not_inconsistent : Fine ≢ Inconsistent
-      fine_not_inconsistent x = absurd (cc)
-
-  -- the unlock has the result 0
-  pub hand_call : (thread_at (handed_over s shadow t (kernel_next s m) m) t).call ≡ Some (record { request = Unlock m; progress = Has 0 })
-  hand_call = giver_call s shadow t (kernel_next s m) m (λ x. next_known.other (sym x)) (below t (length s.rows) h.known) h.line
-
-  -- it is closed then
-  pub hand_world : world_of (with_line t Idle (handed_form (kernel_next s m) m s)) shadow ≡ with_thread t (record (thread_at (handed_over s shadow t (kernel_next s m) m) t) { call = None }) (handed_over s shadow t (kernel_next s m) m)
-  hand_world = handed_world s shadow t (kernel_next s m) m next_known cell_known once (below t (length s.rows) h.known)
-
-  -- its thread doesn't rest
-  pub hand_rests : rests (world_of (with_line t Idle (handed_form (kernel_next s m) m s)) shadow) t ≡ false
-  hand_rests = subst (λ v. IsSound v → rests (world_of v shadow) t ≡ false) (sym (handed_is s t (kernel_next s m) m))
-      (λ sound. rests_ready (settled (with_row t (closed_row s t (kernel_next s m)) (woken_at s (kernel_next s m) m))) shadow t sound
-      (same_threads s t (kernel_next s m) m next_known h.sound h.known h.line t ∙ h.known)
-      (ap (λ (r : Row). is_ready r.status) (row_here s t (kernel_next s m) m next_known h.sound h.known h.line) ∙ (knows_at_unlock s t m h.sound h.known h.line).1))
-      hand_sound
+        another : (j : ℕ) → j ≢ t → (j ≡ u) ⊎ (j ≢ u) → record { base = (seat_at k j).base; living = is_living s.kernel j; call = call_at (health_at s) (line_at s j) (seat_at k j).status } ≡ thread_at (passed y a) j
+        another j d (inl e) = subst (λ i. record { base = (seat_at k i).base; living = is_living s.kernel i; call = call_at (health_at s) (line_at s i) (seat_at k i).status } ≡ thread_at (passed y a) i) (sym e) taker_shown
+        another j d (inr e) =
+            (λ i. record { base = (seat_kept j e i).base; living = is_living s.kernel j; call = call_at (health_at s) (line_at s j) (seat_kept j e i).status })
+            ∙ sym (get_or-set_other (with_progress t a w).threads u j taker nobody e ∙ get_or-set_other w.threads t j (given y a) nobody d ∙ thread_seen sound.all.shape y j)

@@ -1,53 +1,93 @@
--- What a change of a cell keeps of what the lines of the threads know.
-use Rattle.std.proofs.Common.{◌≡◌, ◌≢◌, ◌⊎◌, inl, inr, ℕ, Bool, true, List, [], ◌∷◌, sym, ◌∙◌, true≢false, arith}
+-- What a change of one mutex leaves to the threads that do not make it: what their lines know outlives it.
+use Rattle.std.proofs.Common.{◌≡◌, ◌≢◌, ◌⊎◌, inl, inr, ℕ, Bool, true, false, List, [], ◌∷◌, refl, sym, ◌∙◌, subst, ap, true≢false, arith}
 use Rattle.std.proofs.lemmas.Bool.{cases_eq}
 use Rattle.pif_types.specs.declared.requests.Kind.{Kind}
+use Rattle.pif_types.specs.declared.requests.Request.{Request}
 use Rattle.pif_types.specs.declared.requests.Request.TheVariants.{Lock, TryLock, Unlock, SetPrio}
 use Rattle.pif_model.specs.declared.lines.Line.{Line}
 use Rattle.pif_model.specs.declared.lines.Line.TheVariants.{Idle, At}
+use Rattle.pif_model.specs.declared.lines.Place.{Place}
 use Rattle.pif_model.specs.declared.lines.Place.TheVariants.{SetPriority}
 use Rattle.pif_model.specs.declared.lines.Status.{Status}
-use Rattle.pif_model.specs.Table.{Cell}
-use Rattle.pif_model.specs.Standing.{Need, Meets, MeetsAll, needs, LineIsSound, CountIsSound}
-use Rattle.pif_model.specs.Standing.Need.{MayRun, HasStopped, NotStopped, Owns, OwnsNot, OwnsOnceReady, HoldsOnce, NormalKind}
+use Rattle.pif_model.specs.Posix.{named_by, names_known}
+use Rattle.pif_model.specs.PiKernel.{is_ready, is_living}
+use Rattle.pif_model.specs.Table.{Table, Cell, has_mutex, status_at, cell_at}
+use Rattle.pif_model.specs.Standing.{Need, Meets, MeetsAll, MayStopFor, needs, belongs, CallIsSound, LineIsSound, CountIsSound}
+use Rattle.pif_model.specs.Standing.Need.{MayRun, HasStopped, NotStopped, Owns, OwnsNot, OwnsOnceReady, HoldsOnce, MayStop}
+use Rattle.pif_model.specs.Standing.MayStopFor.{own_normal, lost}
 
--- what a change of a mutex from c to d leaves to u, who doesn't make it
-pub record Spares (u : ℕ) (c d : Cell) : Type 0 where
+-- what a change of a mutex from c to d, and of who lives, leaves to u, who doesn't make it
+pub record Spares (living living' : ℕ → Bool) (u : ℕ) (c d : Cell) : Type 0 where
   pub kind : d.kind ≡ c.kind
+  pub robust : d.robust ≡ c.robust
   pub owner : c.word.number ≡ u → d.word.number ≡ u
   pub other : c.word.number ≢ u → d.word.number ≢ u
   pub count : c.word.number ≡ u → d.count ≡ c.count
+  -- a mutex stays that of an owner that has ended
+  pub ended : c.word.number ≢ 0 → living c.word.number ≡ false → (d.word.number ≡ c.word.number) × (living' c.word.number ≡ false)
+
+-- a mutex that nobody writes, while everybody lives who lived, spares everybody
+pub unwritten : (living : ℕ → Bool) (u : ℕ) (c d : Cell) → d ≡ c → Spares living living u c d
+unwritten living u c d e = record {
+  kind = ap (λ (x : Cell). x.kind) e;
+  robust = ap (λ (x : Cell). x.robust) e;
+  owner = λ o. ap (λ (x : Cell). x.word.number) e ∙ o;
+  other = λ o p. o (sym (ap (λ (x : Cell). x.word.number) e) ∙ p);
+  count = λ o. ap (λ (x : Cell). x.count) e;
+  ended = λ n l. (ap (λ (x : Cell). x.word.number) e, l);
+}
 
 -- a need outlives what others change
-pub meets_outlives : (u : ℕ) (x : Status) (c d : Cell) (n : Need) → Spares u c d → Meets u x c n → Meets u x d n
-meets_outlives u x c d MayRun k h = h
-meets_outlives u x c d HasStopped k h = h
-meets_outlives u x c d NotStopped k h = h
-meets_outlives u x c d Owns k h = k.owner h
-meets_outlives u x c d OwnsNot k h = k.other h
-meets_outlives u x c d OwnsOnceReady k h = λ e. k.owner (h e)
-meets_outlives u x c d HoldsOnce k h = λ e. held (cases_eq c.word.number u) e
+meets_outlives : (l l' : ℕ → Bool) (u : ℕ) (x : Status) (c d : Cell) (n : Need) → Spares l l' u c d → Meets l u x c n → Meets l' u x d n
+meets_outlives l l' u x c d MayRun k h = h
+meets_outlives l l' u x c d HasStopped k h = h
+meets_outlives l l' u x c d NotStopped k h = h
+meets_outlives l l' u x c d Owns k h = k.owner h
+meets_outlives l l' u x c d OwnsNot k h = k.other h
+meets_outlives l l' u x c d OwnsOnceReady k h = λ e. k.owner (h e)
+meets_outlives l l' u x c d HoldsOnce k h = λ e. held (cases_eq c.word.number u) e
   where
     held : (c.word.number ≡ u) ⊎ (c.word.number ≢ u) → d.word.number ≡ u → d.count ≡ 1
     held (inl own) e = k.count own ∙ h own
     held (inr not) e = absurd (k.other not e)
-meets_outlives u x c d NormalKind k h = k.kind ∙ h
+meets_outlives l l' u x c d MayStop k (own_normal o n) = own_normal (k.owner o) (k.kind ∙ n)
+meets_outlives l l' u x c d MayStop k (lost r n e) =
+    let s = k.ended n e in
+    lost (k.robust ∙ r) (λ z. n (sym s.0 ∙ z)) (ap l' s.0 ∙ s.1)
 
 -- and so do all needs of a place
-pub all_outlive : (u : ℕ) (x : Status) (c d : Cell) (ns : List Need) → Spares u c d → MeetsAll u x c ns → MeetsAll u x d ns
-all_outlive u x c d [] k h = h
-all_outlive u x c d (n ∷ ns) k h = (meets_outlives u x c d n k h.0, all_outlive u x c d ns k h.1)
+all_outlive : (l l' : ℕ → Bool) (u : ℕ) (x : Status) (c d : Cell) (ns : List Need) → Spares l l' u c d → MeetsAll l u x c ns → MeetsAll l' u x d ns
+all_outlive l l' u x c d [] k h = h
+all_outlive l l' u x c d (n ∷ ns) k h = (meets_outlives l l' u x c d n k h.0, all_outlive l l' u x c d ns k h.1)
 
--- what a line knows outlives what others change
-pub line_spared : (exists exists' : ℕ → Bool) (cell cell' : ℕ → Cell) (u : ℕ) (x : Status) (l : Line)
-    → ((m : ℕ) → exists m ≡ true → (exists' m ≡ true) × Spares u (cell m) (cell' m))
-    → LineIsSound exists cell u x l → LineIsSound exists' cell' u x l
-line_spared exists exists' cell cell' u x Idle k h = h
-line_spared exists exists' cell cell' u x (At (Lock m) p) k h = ((k m h.0).0, h.1, all_outlive u x (cell m) (cell' m) (needs p) (k m h.0).1 h.2)
-line_spared exists exists' cell cell' u x (At (TryLock m) p) k h = ((k m h.0).0, h.1, all_outlive u x (cell m) (cell' m) (needs p) (k m h.0).1 h.2)
-line_spared exists exists' cell cell' u x (At (Unlock m) p) k h = ((k m h.0).0, h.1, all_outlive u x (cell m) (cell' m) (needs p) (k m h.0).1 h.2)
-line_spared exists exists' cell cell' u x (At (SetPrio v n) SetPriority) k h = h
-line_spared exists exists' cell cell' u x (At (SetPrio v n) _) k h = absurd (true≢false (sym h.1))
+-- at the place of a call that names no mutex, a thread need only be ready
+unnamed_needs : (l l' : ℕ → Bool) (u v n : ℕ) (x : Status) (c d : Cell) (p : Place) → belongs (SetPrio v n) p ≡ true → MeetsAll l u x c (needs p) → MeetsAll l' u x d (needs p)
+unnamed_needs l l' u v n x c d SetPriority b h = h
+unnamed_needs l l' u v n x c d _ b h = absurd (true≢false (sym b))
+
+module _ (s v : Table) (u : ℕ) (status : status_at v u ≡ status_at s u)
+    (k : (m : ℕ) → has_mutex s m ≡ true → (has_mutex v m ≡ true) × Spares (is_living s.kernel) (is_living v.kernel) u (cell_at s m) (cell_at v m)) where
+  -- what a call on a mutex rests on
+  on_mutex : (m : ℕ) (p : Place) → has_mutex s m ≡ true → MeetsAll (is_living s.kernel) u (status_at s u) (cell_at s m) (needs p) → MeetsAll (is_living v.kernel) u (status_at v u) (cell_at v m) (needs p)
+  on_mutex m p e h = subst (λ x. MeetsAll (is_living v.kernel) u x (cell_at v m) (needs p)) (sym status)
+      (all_outlive (is_living s.kernel) (is_living v.kernel) u (status_at s u) (cell_at s m) (cell_at v m) (needs p) (k m e).1 h)
+
+  -- what a call knows outlives what others change
+  call_spared : (q : Request) (p : Place) → CallIsSound s u q p → CallIsSound v u q p
+  call_spared (Lock m) p h = record { named = (k m h.named).0; belongs = h.belongs; needs = on_mutex m p h.named h.needs }
+  call_spared (TryLock m) p h = record { named = (k m h.named).0; belongs = h.belongs; needs = on_mutex m p h.named h.needs }
+  call_spared (Unlock m) p h = record { named = (k m h.named).0; belongs = h.belongs; needs = on_mutex m p h.named h.needs }
+  call_spared (SetPrio t n) p h = record {
+    named = refl;
+    belongs = h.belongs;
+    needs = subst (λ x. MeetsAll (is_living v.kernel) u x (cell_at v 0) (needs p)) (sym status)
+        (unnamed_needs (is_living s.kernel) (is_living v.kernel) u t n (status_at s u) (cell_at s 0) (cell_at v 0) p h.belongs h.needs);
+  }
+
+  -- what a line knows outlives what others change
+  pub line_spared : (l : Line) → LineIsSound s u l → LineIsSound v u l
+  line_spared Idle h = ap is_ready status ∙ h
+  line_spared (At q p) h = call_spared q p h
 
 -- a mutex that is held once is held as often as it may be, by whoever owns it
 pub held_once : (kind : Kind) (owner count : ℕ) → count ≡ 1 → CountIsSound kind owner count

@@ -5,9 +5,10 @@ use Rattle.pif_model.specs.Graph.{has_waiter, first_greatest, next_waiter}
 use Rattle.pif_model.specs.Word.{Word, is_bare, held_by, free_word}
 use Rattle.pif_model.specs.Posix.Health.{Fine}
 use Rattle.pif_model.specs.Table.{Cell}
-use Rattle.pif_model.specs.Standing.{health_of, mutex_of, CountIsSound, CellIsSound}
+use Rattle.pif_model.specs.Standing.{health_of, CountIsSound, CellIsSound}
 use Rattle.pif_chains.proofs.Waiting.{by_test}
 use Rattle.pif_simulation.proofs.Kept.{held_once}
+use Rattle.pif_simulation.proofs.Written.{mutex_of}
 
 -- a word that passes the test of a compare-exchange
 pub bare : (w : Word) (t : ℕ) → is_bare w t ≡ true → (w.waiters ≡ false) × (w.number ≡ t)
@@ -28,18 +29,18 @@ module _ {added : ℕ → Bool} {waited : Bool} {c : Cell} (h : CellIsSound adde
   none_from_free e = none_from_flag (h.free e)
 
   -- nobody waits for an owned mutex of which the kernel has no owner state
-  pub none_from_state : c.word.number ≢ 0 → c.state ≡ 0 → waited ≡ false
-  none_from_state n e = by_test (λ b. c.state ≡ (if b then c.word.number else 0) → b ≡ false) waited (λ k x. absurd (n (sym x ∙ e))) (λ k x. refl) h.state
+  pub none_from_state : c.word.number ≢ 0 → c.state_owner ≡ 0 → waited ≡ false
+  none_from_state n e = by_test (λ b. c.state_owner ≡ (if b then c.word.number else 0) → b ≡ false) waited (λ k x. absurd (n (sym x ∙ e))) (λ k x. refl) h.state
 
   -- a mutex for which nobody waits has no owner state
-  pub state_from_none : waited ≡ false → c.state ≡ 0
+  pub state_from_none : waited ≡ false → c.state_owner ≡ 0
   state_from_none e = h.state ∙ ap (λ b. if b then c.word.number else 0) e
 
   -- the kernel's owner state is empty or names the owner
-  pub state_agrees : (if c.state == 0 then true else c.state == c.word.number) ≡ true
-  state_agrees = by_test (λ b. c.state ≡ (if b then c.word.number else 0) → (if c.state == 0 then true else c.state == c.word.number) ≡ true) waited
-      (λ k e. ap (λ b. if c.state == 0 then true else b) (eq-eqb c.state c.word.number e) ∙ either (c.state == 0))
-      (λ k e. ap (λ b. if b then true else c.state == c.word.number) (eq-eqb c.state 0 e))
+  pub state_agrees : (if c.state_owner == 0 then true else c.state_owner == c.word.number) ≡ true
+  state_agrees = by_test (λ b. c.state_owner ≡ (if b then c.word.number else 0) → (if c.state_owner == 0 then true else c.state_owner == c.word.number) ≡ true) waited
+      (λ k e. ap (λ b. if c.state_owner == 0 then true else b) (eq-eqb c.state_owner c.word.number e) ∙ either (c.state_owner == 0))
+      (λ k e. ap (λ b. if b then true else c.state_owner == c.word.number) (eq-eqb c.state_owner 0 e))
       h.state
     where
       either : (b : Bool) → (if b then true else true) ≡ true
@@ -47,14 +48,13 @@ module _ {added : ℕ → Bool} {waited : Bool} {c : Cell} (h : CellIsSound adde
       either false = refl
 
   -- the mutex is in order
-  pub in_order : health_of c.health c.word.died ≡ Fine
-  in_order = ap₂ health_of h.fine h.no_death
+  pub in_order : health_of c.word.died ≡ Fine
+  in_order = ap health_of h.no_death
 
   -- with another word, of which OWNER_DIED is not set, a mutex that is held once and for which nobody waits is sound
   pub reworded : (x : Word) → c.count ≡ 1 → waited ≡ false → x.died ≡ false → (x.number ≢ 0 → added x.number ≡ true) → (x.number ≡ 0 → x.waiters ≡ false) → CellIsSound added waited (record c { word = x })
   reworded x once e died owner unflagged = record {
     stalled = h.stalled;
-    fine = h.fine;
     no_death = died;
     count = held_once c.kind x.number c.count once;
     owner = owner;
@@ -67,7 +67,6 @@ module _ {added : ℕ → Bool} {waited : Bool} {c : Cell} (h : CellIsSound adde
   pub recounted : (n : ℕ) → CountIsSound c.kind c.word.number n → CellIsSound added waited (record c { count = n })
   recounted n e = record {
     stalled = h.stalled;
-    fine = h.fine;
     no_death = h.no_death;
     count = e;
     owner = h.owner;
@@ -78,11 +77,11 @@ module _ {added : ℕ → Bool} {waited : Bool} {c : Cell} (h : CellIsSound adde
 
   -- the mutex that t takes
   pub taken_seen : (t : ℕ) → c.count ≡ 1 → mutex_of (record c { word = held_by t }) ≡ record (mutex_of c) { owner = t; count = 1 }
-  taken_seen t once = λ i. record { kind = c.kind; robust = c.robust; owner = t; count = once i; health = (ap (λ x. health_of x false) h.fine ∙ sym in_order) i }
+  taken_seen t once = λ i. record { kind = c.kind; robust = c.robust; owner = t; count = once i; health = sym in_order i }
 
   -- the mutex that is given up
-  pub freed_seen : mutex_of (record c { word = free_word }) ≡ record (mutex_of c) { owner = 0 }
-  freed_seen = λ i. record { kind = c.kind; robust = c.robust; owner = 0; count = c.count; health = (ap (λ x. health_of x false) h.fine ∙ sym in_order) i }
+  pub freed_seen : c.count ≡ 1 → mutex_of (record c { word = free_word }) ≡ record (mutex_of c) { owner = 0; count = 1 }
+  freed_seen once = λ i. record { kind = c.kind; robust = c.robust; owner = 0; count = once i; health = sym in_order i }
 
 -- who waits for nobody's mutex
 pub waiters_none : (ws : List (ℕ × ℕ)) (m : ℕ) → has_waiter ws m ≡ false → filter (λ (w : ℕ × ℕ). w.1 == m) ws ≡ []

@@ -1,7 +1,7 @@
--- The line of a change of priority. It touches no mutex and nobody's place in a queue; the levels are settled after it.
-use Rattle.std.proofs.Common.{◌≡◌, ◌≢◌, ℕ, ◌<◌, Bool, true, false, ◌==◌, nat_lt, length, set, Some, Result, Ok, Err, refl, sym, ap, ◌∙◌, subst, arith, if◌then◌else◌, eqb-true, ltb-false}
-use Rattle.std.proofs.lemmas.Bool.{true≢false}
-use Rattle.std.proofs.lemmas.List.{length-set, get_or_past}
+-- The line of pthread_setschedprio: a thread's base priority changes, or the call is refused.
+use Rattle.std.proofs.Common.{◌≡◌, ◌≢◌, ◌⊎◌, inl, inr, ℕ, ◌<◌, Bool, true, false, ◌==◌, nat_lt, length, set, Option, Some, None, Result, Ok, Err, refl, sym, ap, ◌∙◌, subst, if◌then◌else◌}
+use Rattle.std.proofs.lemmas.Bool.{cases_eq, true≢false}
+use Rattle.std.proofs.lemmas.List.{length-set, get_or-set_same, get_or-set_other, set-get_or}
 use Rattle.pif_types.specs.declared.errors.Errno.{Errno}
 use Rattle.pif_types.specs.declared.errors.Errno.TheVariants.{NoSuchThread, Invalid}
 use Rattle.pif_types.specs.declared.requests.Request.TheVariants.{SetPrio}
@@ -10,92 +10,170 @@ use Rattle.pif_model.specs.declared.events.Seen.TheVariants.{Answered}
 use Rattle.pif_model.specs.declared.events.Entry.TheVariants.{Step as Happened}
 use Rattle.pif_model.specs.declared.lines.Line.TheVariants.{Idle}
 use Rattle.pif_model.specs.declared.lines.Place.TheVariants.{SetPriority}
-use Rattle.pif_model.specs.Posix.{Thread, World, SetsPriority, is_priority, thread_at, with_progress, with_base as world_based}
-use Rattle.pif_model.specs.Posix.Progress.{Fresh, Has}
+use Rattle.pif_model.specs.Graph.{is_priority}
+use Rattle.pif_model.specs.Word.{free_word, word_at}
+use Rattle.pif_model.specs.Posix.{Thread, World, SetsPriority, nobody, no_mutex, thread_at, with_thread, with_mutex, with_base, with_progress, progressed}
+use Rattle.pif_model.specs.Posix.{is_living as lives}
 use Rattle.pif_model.specs.Posix.Effect.{set_prio}
 use Rattle.pif_model.specs.Posix.Effects.{none, then as first}
+use Rattle.pif_model.specs.Posix.Progress.{Has}
 use Rattle.pif_model.specs.Posix.SetsPriority.{no_priority, not_living, changed}
-use Rattle.pif_model.specs.Table.{Table, Row, no_row, row_at, has_thread, with_line, with_base, is_ready}
-use Rattle.pif_model.specs.Lines.{Outcome, answered_by, set_priority}
-use Rattle.pif_model.specs.Standing.{Shadow, IsSound, world_of}
-use Rattle.pif_simulation.proofs.Forms.{settled, set_prio_form, set_prio_form_after}
-use Rattle.pif_simulation.proofs.FormLaws.{set_prio_answer_form, set_prio_after_form}
-use Rattle.pif_chains.proofs.Numbers.{above_0, below}
-use Rattle.pif_simulation.proofs.Hole.{IsPriority}
+use Rattle.pif_model.specs.PiKernel.{Kernel, IsKernel, Seat, no_seat, seat_at, is_ready, is_living, set_prio_answer, kernel_after_set_prio}
+use Rattle.pif_model.specs.Table.{Table, has_thread, has_mutex, status_at, line_at, library_at, cell_at, with_kernel, with_line}
+use Rattle.pif_model.specs.Lines.{Outcome, answers, answered_by, set_priority}
+use Rattle.pif_model.specs.Standing.{Shadow, call_at, health_at, thread_shown, world_of, LineIsSound, IsSound}
 use Rattle.pif_chains.proofs.Waiting.{by_test}
-use Rattle.pif_chains.proofs.Places.{kept_at}
-use Rattle.pif_simulation.proofs.Projection.{thread_seen, row_seen, line_seen, closed_progressed, call_progressed, call_rebased, closed}
-use Rattle.pif_simulation.proofs.Steps.{Keeps, GoKeeps, Going, going_met, going_called, going_below, answers_with}
-use Rattle.pif_simulation.proofs.Rows.{lined_sound, rebased_sound}
+use Rattle.pif_chains.proofs.Numbers.{above_0, below}
+use Rattle.pif_chains.proofs.KernelKept.{set_prio_kept}
+use Rattle.pif_simulation.proofs.Hole.{Changes, change_kept, excuse_one, admit_last}
+use Rattle.pif_simulation.proofs.Shown.{threads_shown, mutexes_shown, thread_seen, mutex_seen, living_seen, closed, closed_progressed, call_progressed}
+use Rattle.pif_simulation.proofs.Written.{written, written_line, mutex_of, IsCallOn, changes, no_call, line_here, call_shown, thread_here, thread_there, shows}
+use Rattle.pif_simulation.proofs.Steps.{Keeps, GoKeeps, Going, going_met, going_called, going_lined, going_below, answers_with}
+use Rattle.pif_simulation.proofs.Local.{ready-not_queued}
 
--- who lives was added
-living_known : (s : Table) (u : ℕ) → IsSound s → (row_at s u).living ≡ true → has_thread s u ≡ true
-living_known s u h lives = by_test (λ b. (if b then false else nat_lt u (length s.rows)) ≡ true) (u == 0)
-    (λ e. absurd (true≢false (sym lives ∙ (ap (λ n. (row_at s n).living) (eqb-true u 0 e) ∙ ap (λ (r : Row). r.living) h.all.shape.nobody))))
-    (λ e. by_test (λ b. b ≡ true) (nat_lt u (length s.rows)) (λ l. refl)
-    (λ l. absurd (true≢false (sym lives ∙ ap (λ (r : Row). r.living) (get_or_past s.rows u no_row (ltb-false u (length s.rows) l))))))
+module _ (s : Table) (t u p : ℕ) (g : Going s t (SetPrio u p) SetPriority) where
+  ready : is_ready (status_at s t) ≡ true
+  ready = (going_met g).0
 
--- what passes for a priority is 1 to 99
-priority_within : (p : ℕ) → is_priority p ≡ true → IsPriority p
-priority_within p e =
-    let some : p ≢ 0 = above_0 p 100 e in
-    let low : p < 100 = below p 100 e in
-    (omega arith, omega arith)
+  t0 : t ≢ 0
+  t0 = above_0 t (length s.kernel.seats) g.known
 
--- a table with another base priority shows the world with it
-rebased_seen : (s : Table) (shadow : Shadow) (u p : ℕ) → world_of (settled (with_base u p s)) shadow ≡ world_based u p (world_of s shadow)
-rebased_seen s shadow u p =
-    row_seen s shadow u (record (row_at s u) { base = p })
-    ∙ ap (λ (x : Thread). record (world_of s shadow) { threads = set (world_of s shadow).threads u (record x { base = p }) }) (sym (thread_seen s shadow u))
+  ml : 0 < length s.mutexes
+  ml = g.sound.all.shape.some_mutex
 
-module _ (s : Table) (shadow : Shadow) (t u p : ℕ) (g : Going s shadow t (SetPrio u p) SetPriority) where
-  -- the call has had no effect
-  fresh_call : (thread_at (world_of s shadow) t).call ≡ Some (record { request = SetPrio u p; progress = Fresh })
-  fresh_call = going_called g
+  -- the table in which t's call is closed over this kernel
+  abbrev v : Kernel → Table
+  v k = written t 0 Idle (word_at s.words 0) (library_at s 0).count k s
 
-  -- t answers in a table that shows this world, where the effect has made it so
-  answers_over : (s' : Table) (n : ℕ) (w : World) → IsSound s' → has_thread s' t ≡ true → is_ready (row_at s' t).status ≡ true → s'.limits ≡ s.limits
-      → world_of s' shadow ≡ w → t < length w.threads → (thread_at w t).call ≡ Some (record { request = SetPrio u p; progress = Fresh })
-      → SetsPriority t u p (world_of s shadow) (with_progress t (Has n) w)
-      → Keeps s shadow (Happened (Go t) (Answered n)) (with_line t Idle s')
-  answers_over s' n w sound known ready limits shows below call rule =
-      answers_with g (with_line t Idle s') n (with_progress t (Has n) w)
-      (lined_sound s' t Idle sound known ready ready)
-      (ap (λ k. if t == 0 then false else nat_lt t k) (length-set s'.rows t (record (row_at s' t) { line = Idle })) ∙ known)
-      (ap is_ready (kept_at (λ (x : Row). x.status) s'.rows t (record (row_at s' t) { line = Idle }) no_row refl t) ∙ ready)
-      limits (first (set_prio u p fresh_call rule) (none refl))
-      (call_progressed w t (Has n) (record { request = SetPrio u p; progress = Fresh }) below call)
-      (line_seen s' shadow t Idle ∙ ap (λ (x : World). closed t x) shows ∙ sym (closed_progressed w t (Has n) below))
+  -- whatever the kernel's base priorities are then, it is sound
+  closed_sound : (k : Kernel) → IsKernel k → IsCallOn (λ j. j ≡ t) s.kernel k 0 → status_at (v k) t ≡ status_at s t → IsSound (v k)
+  closed_sound k kernel call same = record {
+    all = admit_last (change_kept (excuse_one g.sound t)
+        (changes s t 0 Idle (word_at s.words 0) (library_at s 0).count k t0 (going_lined g) ml g.sound.all.shape refl call (λ e. (g.sound.all.shape.no_word, refl)) (λ e. absurd (true≢false (sym e)))
+        (λ j a d. record { kind = refl; robust = refl; owner = λ o. o; other = λ o. o; count = λ o. refl; ended = λ z l. (refl, l) })))
+        (record {
+          line = subst (LineIsSound (v k) t) (sym (line_here s t 0 Idle (word_at s.words 0) (library_at s 0).count k t0 (going_lined g) ml g.sound.all.shape)) (ap is_ready same ∙ ready);
+          queue = λ j e. absurd (ready-not_queued (status_at s t) j ready (sym same ∙ e));
+        });
+    kernel = kernel;
+  }
 
-  -- the answer by two tests
-  abbrev answer : Bool → Bool → Result (record {}) Errno
-  answer good lives = if good then (if lives then Ok (record {}) else Err NoSuchThread) else Err Invalid
+  -- the line, by its kernel call's answer
+  abbrev by_call : Result (record {}) Errno → Outcome
+  by_call r = answered_by r t (with_kernel s.words (kernel_after_set_prio u p r s.kernel) s)
 
-  -- the line, by the form of its kernel call
-  set_priority_is : set_priority t u p s ≡ answered_by (set_prio_form u p s) t (set_prio_form_after u p (set_prio_form u p s) s)
-  unfolding set_priority
-  set_priority_is = λ i. answered_by (set_prio_answer_form u p s i) t (set_prio_after_form u p (set_prio_answer_form u p s i) s g.sound.order i)
+  -- to answer n and leave the kernel, where that is an effect
+  refuses : (n : ℕ) → ((y : Shadow) → SetsPriority t u p (world_of s y) (with_progress t (Has n) (world_of s y))) → GoKeeps s t (answers t n s)
+  refuses n rule =
+      let sound = closed_sound s.kernel g.sound.kernel (no_call (λ j. j ≡ t) s.kernel 0) refl in
+      subst (Keeps s (Happened (Go t) (Answered n))) (written_line t 0 Idle s.kernel s)
+      (answers_with g (v s.kernel) n (λ y. with_progress t (Has n) (world_of s y)) sound refl g.known ready
+      (λ y. first (set_prio u p (going_called g y) (rule y)) (none refl))
+      (λ y. call_progressed (world_of s y) t (Has n) _ (going_below g y) (going_called g y))
+      (λ y. call_shown s t 0 Idle (word_at s.words 0) (library_at s 0).count s.kernel t0 (going_lined g) ml g.sound.all.shape y None sound.all.shape refl refl (λ j d. refl) refl refl
+      ∙ (λ i. with_thread t (record (thread_at (world_of s y) t) { call = None }) (stays y i))
+      ∙ sym (closed_progressed (world_of s y) t (Has n) (going_below g y))))
+    where
+      stays : (y : Shadow) → with_mutex 0 (mutex_of (cell_at s 0)) (world_of s y) ≡ world_of s y
+      stays y =
+          ap (λ z. with_mutex 0 z (world_of s y)) (sym (mutex_seen g.sound.all.shape y 0))
+          ∙ (λ i. record (world_of s y) { mutexes = set-get_or (world_of s y).mutexes 0 no_mutex i })
+
+  -- THE PRIORITY CHANGES
+
+  -- the kernel then
+  abbrev k : Kernel
+  k = kernel_after_set_prio u p (Ok (record {})) s.kernel
+
+  -- what it knows of the thread, and of the others
+  seat_u : is_living s.kernel u ≡ true → seat_at k u ≡ record (seat_at s.kernel u) { base = p }
+  unfolding kernel_after_set_prio
+  seat_u l = get_or-set_same s.kernel.seats u (record (seat_at s.kernel u) { base = p }) no_seat (below u (length s.kernel.seats) l)
+
+  seat_else : (j : ℕ) → j ≢ u → seat_at k j ≡ seat_at s.kernel j
+  unfolding kernel_after_set_prio
+  seat_else j d = get_or-set_other s.kernel.seats u j (record (seat_at s.kernel u) { base = p }) no_seat d
+
+  -- each has the status that it had
+  status_same : is_living s.kernel u ≡ true → (j : ℕ) → (seat_at k j).status ≡ (seat_at s.kernel j).status
+  status_same l j = go (cases_eq j u)
+    where
+      go : (j ≡ u) ⊎ (j ≢ u) → (seat_at k j).status ≡ (seat_at s.kernel j).status
+      go (inl e) = subst (λ i. (seat_at k i).status ≡ (seat_at s.kernel i).status) (sym e) (ap (λ (x : Seat). x.status) (seat_u l))
+      go (inr d) = ap (λ (x : Seat). x.status) (seat_else j d)
+
+  -- it is a call by which nobody's status changes
+  call : is_living s.kernel u ≡ true → IsCallOn (λ j. j ≡ t) s.kernel k 0
+  unfolding kernel_after_set_prio
+  call l = record {
+    limits = refl;
+    seats = length-set s.kernel.seats u (record (seat_at s.kernel u) { base = p });
+    status = λ j d. status_same l j;
+    states = λ j d. refl;
+    waited = λ j d. refl;
+  }
+
+  waiters_same : k.waiters ≡ s.kernel.waiters
+  unfolding kernel_after_set_prio
+  waiters_same = refl
+
+  module _ (l : is_living s.kernel u ≡ true) (y : Shadow) where
+    abbrev w : World
+    w = world_of s y
+
+    -- the threads of the world in which the priority has changed
+    rebased : (j : ℕ) → thread_at (with_base u p w) j ≡ record (thread_shown s j) { base = (seat_at k j).base }
+    rebased j = go (cases_eq j u)
+      where
+        uw : u < length w.threads
+        uw = subst (λ i. u < i) (sym (threads_shown g.sound.all.shape y ∙ g.sound.all.shape.lines)) (below u (length s.kernel.seats) l)
+
+        go : (j ≡ u) ⊎ (j ≢ u) → thread_at (with_base u p w) j ≡ record (thread_shown s j) { base = (seat_at k j).base }
+        go (inl e) = subst (λ i. thread_at (with_base u p w) i ≡ record (thread_shown s i) { base = (seat_at k i).base }) (sym e)
+            (get_or-set_same w.threads u (record (thread_at w u) { base = p }) nobody uw ∙ (λ i. record (thread_seen g.sound.all.shape y u i) { base = (sym (seat_u l) i).base }))
+        go (inr d) = get_or-set_other w.threads u j (record (thread_at w u) { base = p }) nobody d ∙ thread_seen g.sound.all.shape y j
+            ∙ (λ i. record (thread_shown s j) { base = (sym (seat_else j d) i).base })
+
+    -- the world that the table shows
+    rebased_shown : IsSound (v k) → world_of (v k) y ≡ closed t (with_base u p w)
+    rebased_shown sound =
+        let r : Thread = record (thread_at (with_base u p w) t) { call = None } in
+        let long = length-set w.threads u (record (thread_at w u) { base = p }) in
+        shows s t 0 Idle (word_at s.words 0) (library_at s 0).count k t0 (going_lined g) ml g.sound.all.shape y (closed t (with_base u p w)) sound.all.shape
+        (length-set (with_base u p w).threads t r ∙ long ∙ threads_shown g.sound.all.shape y) (mutexes_shown g.sound.all.shape y) waiters_same
+        (thread_here s t 0 Idle (word_at s.words 0) (library_at s 0).count k t0 (going_lined g) ml g.sound.all.shape refl
+        ∙ (λ i. record { base = (seat_at k t).base; living = if t == 0 then false else nat_lt t ((call l).seats i); call = None })
+        ∙ sym (get_or-set_same (with_base u p w).threads t r nobody (subst (λ j. t < j) (sym long) (going_below g y)) ∙ (λ i. record (rebased t i) { call = None })))
+        (λ j d. thread_there s t 0 Idle (word_at s.words 0) (library_at s 0).count k t0 (going_lined g) ml g.sound.all.shape refl (call l).seats j d
+        ∙ (λ i. record { base = (seat_at k j).base; living = is_living s.kernel j; call = call_at (health_at s) (line_at s j) (status_same l j i) })
+        ∙ sym (get_or-set_other (with_base u p w).threads t j r nobody d ∙ rebased j))
+        (sym (mutex_seen g.sound.all.shape y 0))
+        (λ j d. sym (mutex_seen g.sound.all.shape y j))
+
+  -- the priority changes
+  changes_it : is_priority p ≡ true → is_living s.kernel u ≡ true → GoKeeps s t (answers t 0 (with_kernel s.words k s))
+  changes_it prio l =
+      let sound = closed_sound k (set_prio_kept u p s.kernel g.sound.kernel prio l) (call l) (status_same l t) in
+      subst (Keeps s (Happened (Go t) (Answered 0))) (written_line t 0 Idle k s)
+      (answers_with g (v k) 0 (λ y. with_progress t (Has 0) (with_base u p (world_of s y))) sound limits known (ap is_ready (status_same l t) ∙ ready)
+      (λ y. first (set_prio u p (going_called g y) (changed prio (living_seen s y u g.sound.all.shape ∙ l) refl)) (none refl))
+      (λ y. call_progressed (with_base u p (world_of s y)) t (Has 0) _ (tw y) (ap (λ (x : Thread). x.call) (rebased l y t) ∙ sym (ap (λ (x : Thread). x.call) (thread_seen g.sound.all.shape y t)) ∙ going_called g y))
+      (λ y. rebased_shown l y sound ∙ sym (closed_progressed (with_base u p (world_of s y)) t (Has 0) (tw y))))
+    where
+      tw : (y : Shadow) → t < length (with_base u p (world_of s y)).threads
+      tw y = subst (λ j. t < j) (sym (length-set (world_of s y).threads u (record (thread_at (world_of s y) u) { base = p }))) (going_below g y)
+
+      limits : (v k).limits ≡ s.limits
+      limits = refl
+
+      known : has_thread (v k) t ≡ true
+      known = ap (λ n. if t == 0 then false else nat_lt t n) (call l).seats ∙ g.known
 
   -- setprio: the kernel call set_prio
-  pub set_priority_kept : GoKeeps s shadow t (set_priority t u p s)
-  unfolding answered_by
-  set_priority_kept = subst (λ (o : Outcome). GoKeeps s shadow t o) (sym set_priority_is)
-      (by_test (λ b. is_priority p ≡ b → GoKeeps s shadow t (answered_by (answer b (row_at s u).living) t (set_prio_form_after u p (answer b (row_at s u).living) s))) (is_priority p)
-      (λ e good. by_test (λ b. (row_at s u).living ≡ b → GoKeeps s shadow t (answered_by (answer true b) t (set_prio_form_after u p (answer true b) s))) (row_at s u).living
-      (λ e' lives. change good lives)
-      (λ e' gone. answers_over s 3 (world_of s shadow) g.sound g.known ready refl refl (going_below g) fresh_call
-      (not_living good (ap (λ (x : Thread). x.living) (thread_seen s shadow u) ∙ gone) refl)) refl)
-      (λ e bad. answers_over s 22 (world_of s shadow) g.sound g.known ready refl refl (going_below g) fresh_call (no_priority bad refl)) refl)
-    where
-      ready : is_ready (row_at s t).status ≡ true
-      ready = (going_met g).0
-
-      change : is_priority p ≡ true → (row_at s u).living ≡ true → GoKeeps s shadow t (answered_by (Ok (record {})) t (settled (with_base u p s)))
-      change good lives = answers_over (settled (with_base u p s)) 0 (world_based u p (world_of s shadow))
-          (rebased_sound s u p g.sound (living_known s u g.sound lives) (priority_within p good))
-          (ap (λ k. if t == 0 then false else nat_lt t k) (length-set s.rows u (record (row_at s u) { base = p })) ∙ g.known)
-          (ap is_ready (kept_at (λ (x : Row). x.status) s.rows u (record (row_at s u) { base = p }) no_row refl t) ∙ ready)
-          refl (rebased_seen s shadow u p)
-          (subst (λ k. t < k) (sym (length-set (world_of s shadow).threads u (record (thread_at (world_of s shadow) u) { base = p }))) (going_below g))
-          (call_rebased (world_of s shadow) u p t ∙ fresh_call)
-          (changed good (ap (λ (x : Thread). x.living) (thread_seen s shadow u) ∙ lives) refl)
+  pub set_priority_kept : GoKeeps s t (set_priority t u p s)
+  unfolding set_priority answered_by set_prio_answer kernel_after_set_prio
+  set_priority_kept = by_test (λ b. GoKeeps s t (by_call (if b then (if is_living s.kernel u then Ok (record {}) else Err NoSuchThread) else Err Invalid))) (is_priority p)
+      (λ e. by_test (λ b. GoKeeps s t (by_call (if b then Ok (record {}) else Err NoSuchThread))) (is_living s.kernel u)
+      (λ l. changes_it e l)
+      (λ l. refuses 3 (λ y. not_living e (living_seen s y u g.sound.all.shape ∙ l) refl)))
+      (λ e. refuses 22 (λ y. no_priority e refl))

@@ -4,7 +4,7 @@ ghost use Rattle.pif_model.specs.declared.events.Entry.{Entry};
 ghost use Rattle.pif_model.specs.Graph.{has_waiter, next_waiter, IsNextWaiter};
 ghost use Rattle.pif_model.specs.Posix.{World, IsRun};
 ghost use Rattle.pif_model.specs.History.{AlwaysOneHolder};
-ghost use Rattle.pif_model.specs.Table.{Table, row_at, has_thread};
+ghost use Rattle.pif_model.specs.Table.{Table, line_at, has_thread};
 ghost use Rattle.pif_model.specs.Lines.{is_open, goes_on, ClosesOrWaits};
 
 /// A law: the next waiter of a mutex for which threads wait is, among those of greatest effective priority, the first
@@ -20,5 +20,5 @@ pub fn no_mutex_has_two_holders()
 
 /// A law: of 24 steps of one thread with a call open, with nothing between them, one closes the call or waits.
 pub fn call_closes_or_waits_within_24_steps()
-    ensures { (thread : ℕ) (table : Table) → has_thread table thread ≡ true → is_open (row_at table thread).line ≡ true → ClosesOrWaits (goes_on 23 thread table).seen }
+    ensures { (thread : ℕ) (table : Table) → has_thread table thread ≡ true → is_open (line_at table thread) ≡ true → ClosesOrWaits (goes_on 23 thread table).seen }
 {}

@@ -1,0 +1,233 @@
+-- The lines of pthread_mutex_lock that make a kernel call: lock_pi, and stop.
+use Rattle.std.proofs.Common.{◌≡◌, ◌≢◌, ◌⊎◌, inl, inr, ℕ, ◌<◌, ◌≤◌, ◌+◌, Bool, true, false, ◌==◌, nat_lt, List, [], ◌∷◌, ◌++◌, length, Some, None, Result, Ok, Err, refl, sym, ap, ◌∙◌, subst, arith, if◌then◌else◌, eq-eqb, ne_eqb}
+use Rattle.std.proofs.lemmas.Bool.{cases_eq, true≢false}
+use Rattle.std.proofs.lemmas.List.{get_or-set_same, get_or-set_other}
+use Rattle.pif_types.specs.declared.errors.Errno.{Errno}
+use Rattle.pif_types.specs.declared.errors.Errno.TheVariants.{NoSuchThread, Deadlock}
+use Rattle.pif_types.specs.declared.requests.Request.TheVariants.{Lock}
+use Rattle.pif_model.specs.declared.events.Event.TheVariants.{Go}
+use Rattle.pif_model.specs.declared.events.Seen.TheVariants.{Went, Waits, Answered}
+use Rattle.pif_model.specs.declared.events.Entry.TheVariants.{Step as Happened}
+use Rattle.pif_model.specs.declared.lines.Line.TheVariants.{Idle, At}
+use Rattle.pif_model.specs.declared.lines.Place.TheVariants.{LockKernel, LockQueued, LockStop, LockStopped}
+use Rattle.pif_model.specs.declared.lines.Status.{Status}
+use Rattle.pif_model.specs.declared.lines.Status.TheVariants.{Ready, Queued, Stopped}
+use Rattle.pif_model.specs.declared.lines.Took.{Took}
+use Rattle.pif_model.specs.declared.lines.Took.TheVariants.{Owns as TookOwns, Queued as TookQueued}
+use Rattle.pif_model.specs.Graph.{has_waiter, reaches_within}
+use Rattle.pif_model.specs.Word.{mark_word, taken_word, word_at, has_word, set_word}
+use Rattle.pif_model.specs.Posix.{Mutex, Thread, World, Effects, Locks, thread_at, mutex_at, is_lost, leads_to, with_progress}
+use Rattle.pif_model.specs.Posix.Progress.{Fresh, Waiting, Stuck, Has}
+use Rattle.pif_model.specs.Posix.Effects.{none, then as first}
+use Rattle.pif_model.specs.Posix.Locks.{own_normal, lost, cycle, joins}
+use Rattle.pif_model.specs.PiKernel.{no_seat, seat_at, state_at, is_ready, is_living, waits_for, lock_answer, words_after_lock, kernel_after_lock, kernel_after_queueing, kernel_after_stop}
+use Rattle.pif_model.specs.Table.{Table, cell_at, has_thread, has_mutex, status_at, library_at, with_kernel, with_line}
+use Rattle.pif_model.specs.Lines.{Outcome, answers, lock_by, lock_kernel, lock_stop}
+use Rattle.pif_model.specs.Standing.{Shadow, CellIsSound, MayStopFor, progress_at, health_at, world_of}
+use Rattle.pif_model.specs.Standing.MayStopFor.{own_normal as stops_own, lost as stops_lost}
+use Rattle.pif_chains.proofs.Waiting.{by_test, has_waiter-push, or_true}
+use Rattle.pif_chains.proofs.Numbers.{above_0, below, from_within}
+use Rattle.pif_chains.proofs.KernelKept.{stop_kept}
+use Rattle.pif_chains.proofs.KernelKept.{queueing_kept}
+use Rattle.pif_simulation.proofs.Shown.{mutex_seen, living_seen}
+use Rattle.pif_simulation.proofs.Written.{written, written_line, written_word}
+use Rattle.pif_simulation.proofs.Steps.{Keeps, GoKeeps, Going, going_named, going_met, waits_with}
+use Rattle.pif_simulation.proofs.Does.IsLocking.{by_lock}
+use Rattle.pif_simulation.proofs.Local.{going_cell, goes, answers_alone}
+use Rattle.pif_simulation.proofs.Owning.{none_from_free, state_from_none, state_agrees}
+use Rattle.pif_simulation.proofs.TakingLines.{kernel_takes}
+use Rattle.pif_simulation.proofs.Effective.{leads_seen}
+use Rattle.pif_simulation.proofs.Called.{IsOneCall, queueing_on, stop_on, called_sound, called_known, called_shown}
+use Rattle.pif_simulation.proofs.LockLines.{locks, owner_seen}
+
+module _ (s : Table) (t m : ℕ) where
+  -- STOP
+
+  -- to stop is a call in which t goes to where it has stopped
+  stop_one : (g : Going s t (Lock m) LockStop) → IsOneCall s t (Lock m) LockStopped (word_at s.words m) (kernel_after_stop t s.kernel)
+  unfolding kernel_after_stop
+  stop_one g = record {
+    kernel = stop_kept t s.kernel g.sound.kernel g.known (going_met g).0;
+    call = stop_on t m s.kernel;
+    others = λ u d. get_or-set_other s.kernel.seats t u (record (seat_at s.kernel t) { status = Stopped }) no_seat d;
+    base = ap (λ x. x.base) here;
+    number = refl;
+    died = refl;
+    cell = going_cell g (going_named g);
+    belongs = refl;
+    needs = (ap (λ x. x.status) here, tt);
+    queue = λ j e. absurd (not_queued j (sym (ap (λ x. x.status) here) ∙ e));
+  }
+    where
+      here : seat_at (kernel_after_stop t s.kernel) t ≡ record (seat_at s.kernel t) { status = Stopped }
+      here = get_or-set_same s.kernel.seats t (record (seat_at s.kernel t) { status = Stopped }) no_seat (below t (length s.kernel.seats) g.known)
+
+      not_queued : (j : ℕ) → Stopped ≡ Queued j → ⊥
+      not_queued j e = cc
+
+  -- the owner, as the POSIX machine sees it, has ended
+  lost_seen : (g : Going s t (Lock m) LockStop) (y : Shadow) → (cell_at s m).robust ≡ false → (cell_at s m).word.number ≢ 0 → is_living s.kernel (cell_at s m).word.number ≡ false → is_lost (world_of s y) m ≡ true
+  lost_seen g y r n e = rw (mutex_seen g.sound.all.shape y m, r, ne_eqb (cell_at s m).word.number 0 n)
+      (ap (λ b. if b then false else true) (living_seen s y (cell_at s m).word.number g.sound.all.shape ∙ e))
+
+  -- why it may stop is a rule of locking
+  stops : (g : Going s t (Lock m) LockStop) (y : Shadow) → MayStopFor (is_living s.kernel) t (cell_at s m) → Locks t m (world_of s y) (with_progress t Stuck (world_of s y))
+  stops g y (stops_own own normal) = own_normal (owner_seen g y ∙ own) (ap (λ (x : Mutex). x.kind) (mutex_seen g.sound.all.shape y m) ∙ normal) refl
+  stops g y (stops_lost r n e) = lost (λ z. true≢false (sym g.known ∙ ap (is_living s.kernel) (sym (sym (owner_seen g y) ∙ z)) ∙ e)) (λ z. n (sym (owner_seen g y) ∙ z)) (lost_seen g y r n e) refl
+
+  -- lock: stop for good
+  pub lock_stop_kept : Going s t (Lock m) LockStop → GoKeeps s t (lock_stop (Lock m) t s)
+  unfolding lock_stop kernel_after_stop
+  lock_stop_kept g =
+      let c = stop_one g in
+      let k = kernel_after_stop t s.kernel in
+      subst (Keeps s (Happened (Go t) Waits)) (written_line t m (At (Lock m) LockStopped) k s)
+      (waits_with g (written t m (At (Lock m) LockStopped) (word_at s.words m) (library_at s m).count k s)
+      (called_sound g (going_named g) LockStopped (word_at s.words m) k c) refl (called_known g (going_named g) LockStopped (word_at s.words m) k c) (ap is_ready c.needs.0)
+      (λ y. first (locks g refl y (with_progress t Stuck (world_of s y)) (stops g y (going_met g).1.0)) (none (called_shown g (going_named g) LockStopped (word_at s.words m) k c y Stuck refl))))
+
+  -- LOCK_PI
+
+  -- m is there, and has a word
+  word_there : (g : Going s t (Lock m) LockKernel) → has_word s.words m ≡ true
+  word_there g = from_within m (length s.words.mutexes) (above_0 m (length s.mutexes) (going_named g))
+      (omega (arith, below m (length s.mutexes) (going_named g), g.sound.all.shape.words, g.sound.all.shape.few_mutexes))
+
+  -- what lock_pi answers where nobody owns m
+  answer_free : (g : Going s t (Lock m) LockKernel) → (cell_at s m).word.number ≡ 0 → lock_answer t m s.words s.kernel ≡ Ok TookOwns
+  unfolding lock_answer
+  answer_free g zero = rw (word_there g, ne_eqb (cell_at s m).word.number t (going_met g).1.0, eq-eqb (cell_at s m).word.number 0 zero,
+      eq-eqb (cell_at s m).state_owner 0 (state_from_none c (none_from_free c zero))) refl
+    where
+      c : CellIsSound (has_thread s) (has_waiter s.kernel.waiters m) (cell_at s m)
+      c = going_cell g (going_named g)
+
+  -- whether its owner lives, and whether a chain leads from the owner to t
+  abbrev lives_owner : Bool
+  lives_owner = is_living s.kernel (cell_at s m).word.number
+
+  abbrev closes : Bool
+  closes = reaches_within (length s.kernel.seats) (waits_for s.kernel) (cell_at s m).word.number t
+
+  -- what it answers where somebody owns m
+  answer_owned : (g : Going s t (Lock m) LockKernel) → (cell_at s m).word.number ≢ 0
+      → lock_answer t m s.words s.kernel ≡ (if lives_owner then (if closes then Err Deadlock else Ok TookQueued) else Err NoSuchThread)
+  unfolding lock_answer
+  answer_owned g owned = rw (word_there g, ne_eqb (cell_at s m).word.number t (going_met g).1.0, ne_eqb (cell_at s m).word.number 0 owned, state_agrees (going_cell g (going_named g))) refl
+
+  module _ (g : Going s t (Lock m) LockKernel) (owned : (cell_at s m).word.number ≢ 0) where
+    -- the owner is another, and there is one, as the POSIX machine sees it
+    other_seen : (y : Shadow) → (mutex_at (world_of s y) m).owner ≢ t
+    other_seen y z = (going_met g).1.0 (sym (owner_seen g y) ∙ z)
+
+    owned_seen : (y : Shadow) → (mutex_at (world_of s y) m).owner ≢ 0
+    owned_seen y z = owned (sym (owner_seen g y) ∙ z)
+
+    -- a mutex whose owner lives is not lost
+    not_lost : (y : Shadow) → lives_owner ≡ true → is_lost (world_of s y) m ≡ false
+    not_lost y l = rw (mutex_seen g.sound.all.shape y m, (going_cell g (going_named g)).stalled, ne_eqb (cell_at s m).word.number 0 owned)
+        (ap (λ b. if b then false else true) (living_seen s y (cell_at s m).word.number g.sound.all.shape ∙ l))
+
+    -- chains from the owner, as the POSIX machine sees them
+    chain_seen : (y : Shadow) → leads_to (world_of s y) (mutex_at (world_of s y) m).owner t ≡ closes
+    chain_seen y = ap (λ n. leads_to (world_of s y) n t) (owner_seen g y) ∙ leads_seen g.sound y (cell_at s m).word.number t
+
+    -- where a chain leads back, the lock is refused
+    refused : lives_owner ≡ true → closes ≡ true → GoKeeps s t (answers t 35 s)
+    refused l e = answers_alone g (going_named g) 35 (going_met g).0 (λ y. locks g refl y (with_progress t (Has 35) (world_of s y))
+        (cycle (other_seen y) (owned_seen y) (not_lost y l) (chain_seen y ∙ e) refl))
+
+    -- to queue t is a call in which t goes to where it is queued
+    queue_one : lives_owner ≡ true → closes ≡ false
+        → IsOneCall s t (Lock m) LockQueued (mark_word (word_at s.words m)) (kernel_after_queueing t m (word_at s.words m).number s.kernel)
+    unfolding kernel_after_queueing
+    queue_one l e = record {
+      kernel = queueing_kept t m (word_at s.words m).number s.kernel g.sound.kernel g.known (going_met g).0 m0 few l agrees e;
+      call = queueing_on t m (word_at s.words m).number s.kernel;
+      others = λ u d. get_or-set_other s.kernel.seats t u (record (seat_at s.kernel t) { status = Queued m }) no_seat d;
+      base = ap (λ x. x.base) here;
+      number = refl;
+      died = refl;
+      cell = record {
+        stalled = c.stalled;
+        no_death = c.no_death;
+        count = c.count;
+        owner = c.owner;
+        free = λ z. absurd (owned z);
+        state = owner_state ∙ ap (λ b. if b then (word_at s.words m).number else 0) (sym waited);
+        contended = λ z. refl;
+      };
+      belongs = refl;
+      needs = ((λ z. absurd (not_stopped (sym (ap (λ x. x.status) here) ∙ z))), ((λ r. absurd (true≢false (sym r ∙ ap (λ x. is_ready x.status) here))), tt));
+      queue = λ j z. record { request = Lock m; line = refl; waits = same j (sym (ap (λ x. x.status) here) ∙ z) };
+    }
+      where
+        c : CellIsSound (has_thread s) (has_waiter s.kernel.waiters m) (cell_at s m)
+        c = going_cell g (going_named g)
+
+        m0 : m ≢ 0
+        m0 = above_0 m (length s.mutexes) (going_named g)
+
+        few : m < 1025
+        few = omega (arith, below m (length s.mutexes) (going_named g), g.sound.all.shape.few_mutexes, g.sound.all.shape.within.mutexes)
+
+        agrees : state_at s.kernel m ≢ 0 → state_at s.kernel m ≡ (word_at s.words m).number
+        agrees n = by_test (λ b. state_at s.kernel m ≡ (if b then (word_at s.words m).number else 0) → state_at s.kernel m ≡ (word_at s.words m).number) (has_waiter s.kernel.waiters m)
+            (λ _ z. z) (λ _ z. absurd (n z)) c.state
+
+        here : seat_at (kernel_after_queueing t m (word_at s.words m).number s.kernel) t ≡ record (seat_at s.kernel t) { status = Queued m }
+        here = get_or-set_same s.kernel.seats t (record (seat_at s.kernel t) { status = Queued m }) no_seat (below t (length s.kernel.seats) g.known)
+
+        waited : has_waiter (s.kernel.waiters ++ (t, m) ∷ []) m ≡ true
+        waited = has_waiter-push s.kernel.waiters t m m ∙ rw (eq-eqb m m refl) (or_true (has_waiter s.kernel.waiters m))
+
+        owner_state : state_at (kernel_after_queueing t m (word_at s.words m).number s.kernel) m ≡ (word_at s.words m).number
+        owner_state = get_or-set_same s.kernel.states m (word_at s.words m).number 0 (subst (λ j. m < j) (sym g.sound.kernel.shape.states) few)
+
+        not_stopped : Queued m ≡ Stopped → ⊥
+        not_stopped z = cc
+
+        same : (j : ℕ) → Queued m ≡ Queued j → m ≡ j
+        same j z = cc
+
+    -- t is queued
+    queues : lives_owner ≡ true → closes ≡ false
+        → GoKeeps s t (record {
+          seen = Waits;
+          after = with_line t (At (Lock m) LockQueued) (with_kernel (set_word s.words m (mark_word (word_at s.words m))) (kernel_after_queueing t m (word_at s.words m).number s.kernel) s);
+        })
+    unfolding kernel_after_queueing
+    queues l e =
+        let c = queue_one l e in
+        let k = kernel_after_queueing t m (word_at s.words m).number s.kernel in
+        let x = mark_word (word_at s.words m) in
+        subst (Keeps s (Happened (Go t) Waits)) (written_word t m (At (Lock m) LockQueued) x k s)
+        (waits_with g (written t m (At (Lock m) LockQueued) x (library_at s m).count k s)
+        (called_sound g (going_named g) LockQueued x k c) refl (called_known g (going_named g) LockQueued x k c) (unready c)
+        (λ y. first (locks g refl y (record (with_progress t Waiting (world_of s y)) { waiters = s.kernel.waiters ++ (t, m) ∷ [] })
+        (joins (other_seen y) (owned_seen y) (not_lost y l) (chain_seen y ∙ e) refl))
+        (none (called_shown g (going_named g) LockQueued x k c y Waiting (ap (λ z. progress_at LockQueued z (health_at s m)) (status_here))))))
+      where
+        status_here : (seat_at (kernel_after_queueing t m (word_at s.words m).number s.kernel) t).status ≡ Queued m
+        status_here = ap (λ x. x.status) (get_or-set_same s.kernel.seats t (record (seat_at s.kernel t) { status = Queued m }) no_seat (below t (length s.kernel.seats) g.known))
+
+        unready : IsOneCall s t (Lock m) LockQueued (mark_word (word_at s.words m)) (kernel_after_queueing t m (word_at s.words m).number s.kernel) → is_ready (seat_at (kernel_after_queueing t m (word_at s.words m).number s.kernel) t).status ≡ false
+        unready c = ap is_ready status_here
+
+  -- the line, by its kernel call's answer
+  abbrev by_call : Result Took Errno → Outcome
+  by_call r = lock_by r (Lock m) t (with_kernel (words_after_lock t m r s.words) (kernel_after_lock t m r s.words s.kernel) s)
+
+  -- lock: the kernel call lock_pi
+  pub lock_kernel_kept : Going s t (Lock m) LockKernel → GoKeeps s t (lock_kernel (Lock m) t m s)
+  unfolding lock_kernel lock_by words_after_lock kernel_after_lock
+  lock_kernel_kept g = go (cases_eq (cell_at s m).word.number 0)
+    where
+      by_owner : (owned : (cell_at s m).word.number ≢ 0) → GoKeeps s t (by_call (if lives_owner then (if closes then Err Deadlock else Ok TookQueued) else Err NoSuchThread))
+      by_owner owned = by_test (λ b. GoKeeps s t (by_call (if b then (if closes then Err Deadlock else Ok TookQueued) else Err NoSuchThread))) lives_owner
+          (λ l. by_test (λ b. GoKeeps s t (by_call (if b then Err Deadlock else Ok TookQueued))) closes (λ e. refused g owned l e) (λ e. queues g owned l e))
+          (λ l. goes g (going_named g) LockStop (going_met g).0 refl refl ((going_met g).0, (stops_lost (going_cell g (going_named g)).stalled owned l, tt)))
+
+      go : ((cell_at s m).word.number ≡ 0) ⊎ ((cell_at s m).word.number ≢ 0) → GoKeeps s t (lock_kernel (Lock m) t m s)
+      go (inl zero) = subst (λ r. GoKeeps s t (by_call r)) (sym (answer_free g zero)) (kernel_takes g (going_named g) (going_met g).0 refl (by_lock refl) zero)
+      go (inr owned) = subst (λ r. GoKeeps s t (by_call r)) (sym (answer_owned g owned)) (by_owner owned)

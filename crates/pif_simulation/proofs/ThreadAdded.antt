@@ -1,0 +1,163 @@
+-- One thread more: the table stays sound, and the POSIX machine gets the same thread.
+use Rattle.std.proofs.Common.{◌≡◌, ◌≢◌, ◌⊎◌, inl, inr, eqb-true, ℕ, zero, suc, ◌<◌, ◌≤◌, ◌+◌, Bool, true, false, ◌==◌, nat_lt, List, [], ◌∷◌, ◌++◌, length, get_or, map, replicate, Option, Some, None, refl, sym, ap, ap₂, ◌∙◌, subst, arith, if◌then◌else◌, eq-eqb}
+use Rattle.std.proofs.lemmas.Bool.{cases_eq, cases_lt, true≢false}
+use Rattle.std.proofs.lemmas.Bool.Decides.{nat_tests}
+use Rattle.std.proofs.lemmas.List.{length_push, get_or_append_left, get_or_push, get_or_past, get_or-replicate, length-replicate}
+use Rattle.pif_types.specs.Bounds.{Bounds, IsWithin}
+use Rattle.pif_types.specs.declared.requests.Kind.{Kind}
+use Rattle.pif_types.specs.declared.requests.Kind.TheVariants.{Normal}
+use Rattle.pif_model.specs.declared.events.Entry.TheVariants.{Thread as AddThread, Mutex as AddMutex}
+use Rattle.pif_model.specs.declared.lines.Line.{Line}
+use Rattle.pif_model.specs.declared.lines.Line.TheVariants.{Idle}
+use Rattle.pif_model.specs.declared.lines.Status.{Status}
+use Rattle.pif_model.specs.declared.lines.Status.TheVariants.{Ready, Queued}
+use Rattle.pif_model.specs.declared.lines.Woken.TheVariants.{Fresh as WokenFresh}
+use Rattle.pif_model.specs.Graph.{is_priority, has_waiter}
+use Rattle.pif_model.specs.Word.{Word, free_word, word_at}
+use Rattle.pif_model.specs.Posix.{Thread, Mutex, World, Step, empty_world, nobody, no_mutex, thread_at, mutex_at}
+use Rattle.pif_model.specs.Posix.Health.{Fine}
+use Rattle.pif_model.specs.Posix.Step.{thread_added as thread_rule, mutex_added as mutex_rule}
+use Rattle.pif_model.specs.PiKernel.{Kernel, IsKernel, Seat, no_seat, seat_at, state_at, is_ready, is_living, kernel_after_add}
+use Rattle.pif_model.specs.Table.{Table, Cell, new_table, new_mutex, has_thread, has_mutex, status_at, line_at, library_at, cell_at, has_thread_room, has_mutex_room, thread_added, mutex_added}
+use Rattle.pif_model.specs.Standing.{Shadow, no_shadow, call_at, health_of, health_at, thread_shown, mutex_shown, world_of, LineIsSound, IsQueuedLine, CellIsSound, ThreadIsSound, IsShaped, SoundBut, IsSound}
+use Rattle.pif_chains.proofs.Waiting.{by_test}
+use Rattle.pif_chains.proofs.Numbers.{above_0, below, from_within}
+use Rattle.pif_chains.proofs.KernelFacts.{state-from_waiter}
+use Rattle.pif_chains.proofs.KernelSettled.{priority-range}
+use Rattle.pif_chains.proofs.KernelKept.{new_kernel_kept}
+use Rattle.pif_chains.proofs.KernelKept.{add_kept}
+use Rattle.pif_simulation.proofs.Kept.{Spares, unwritten, line_spared, held_once}
+use Rattle.pif_simulation.proofs.Hole.{cell_spared, each_thread}
+use Rattle.pif_simulation.proofs.Shown.{threads_shown, mutexes_shown, thread_seen, mutex_seen, same_world}
+use Rattle.pif_simulation.proofs.Written.{mutex_of}
+use Rattle.pif_simulation.proofs.Steps.{Keeps, agrees_on}
+use Rattle.pif_simulation.proofs.Additions.{pushed_else, more-else, room}
+
+module _ (s : Table) (p : ℕ) (h : IsSound s) (free : has_thread_room s ≡ true) (prio : is_priority p ≡ true) where
+  abbrev n : ℕ
+  n = length s.lines
+
+  abbrev v : Table
+  v = thread_added p s
+
+  -- the kernel has as many threads
+  seats : length s.kernel.seats ≡ n
+  seats = sym h.all.shape.lines
+
+  few : length s.kernel.seats ≤ s.kernel.limits.threads
+  few = let r = room n s.limits.threads free in omega (arith, r, seats, ap (λ (b : Bounds). b.threads) h.all.shape.limits)
+
+  some : 1 ≤ n
+  some = omega (arith, h.kernel.shape.some, seats)
+
+  -- the kernel then
+  kernel_more : IsKernel v.kernel
+  kernel_more = add_kept p s.kernel h.kernel prio few
+
+  -- who was added is still there
+  still : (u : ℕ) → u ≢ n → has_thread v u ≡ has_thread s u
+  still u d = ap (λ j. if u == 0 then false else nat_lt u j) (length_push s.kernel.seats (record { base = p; status = Ready WokenFresh })) ∙ more-else u (length s.kernel.seats) (λ e. d (e ∙ seats))
+
+  known_more : (u : ℕ) → has_thread s u ≡ true → has_thread v u ≡ true
+  known_more u k = still u (λ e. omega (arith, below u (length s.kernel.seats) k, e, seats)) ∙ k
+
+  -- the new one
+  new_known : has_thread v n ≡ true
+  new_known = from_within n (length v.kernel.seats) (λ z. omega (arith, some, z)) (omega (arith, seats, length_push s.kernel.seats (record { base = p; status = Ready WokenFresh })))
+
+  -- what the kernel knows of the others, and of the new one
+  seat_else : (u : ℕ) → u ≢ n → seat_at v.kernel u ≡ seat_at s.kernel u
+  seat_else u d = pushed_else s.kernel.seats (record { base = p; status = Ready WokenFresh }) no_seat u (λ e. d (e ∙ seats))
+
+  seat_new : seat_at v.kernel n ≡ record { base = p; status = Ready WokenFresh }
+  seat_new = get_or_push s.kernel.seats (record { base = p; status = Ready WokenFresh }) no_seat n seats
+
+  -- lines
+  line_else : (u : ℕ) → u ≢ n → line_at v u ≡ line_at s u
+  line_else u d = pushed_else s.lines Idle Idle u d
+
+  line_new : line_at v n ≡ Idle
+  line_new = get_or_push s.lines Idle Idle n refl
+
+  -- the parts fit together
+  shape_more : IsShaped v
+  shape_more =
+      let b = h.all.shape in
+      record {
+        limits = b.limits;
+        within = b.within;
+        lines = length_push s.lines Idle ∙ (let e = length_push s.kernel.seats (record { base = p; status = Ready WokenFresh }) in omega (arith, e, seats));
+        nobody = line_else 0 (λ e. omega (arith, some, e)) ∙ b.nobody;
+        some_mutex = b.some_mutex;
+        few_mutexes = b.few_mutexes;
+        no_mutex = b.no_mutex;
+        words = b.words;
+        no_word = b.no_word;
+        unmade = b.unmade;
+      }
+
+  -- no mutex is changed for a thread that was there
+  spares_more : (u j : ℕ) → has_mutex s j ≡ true → Spares (is_living s.kernel) (is_living v.kernel) u (cell_at s j) (cell_at v j)
+  spares_more u j e = record {
+    kind = refl;
+    robust = refl;
+    owner = λ o. o;
+    other = λ o. o;
+    count = λ o. refl;
+    ended = λ z l. absurd (true≢false (sym ((h.all.mutexes j e).owner z) ∙ l));
+  }
+
+  -- each thread is sound
+  thread_more : (u : ℕ) → has_thread v u ≡ true → (u ≡ n) ⊎ (u ≢ n) → ThreadIsSound v u
+  thread_more u k (inl e) = subst (ThreadIsSound v) (sym e) (record {
+    line = subst (LineIsSound v n) (sym line_new) (ap (λ (x : Seat). is_ready x.status) seat_new);
+    queue = λ j z. absurd (fresh j (sym (ap (λ (x : Seat). x.status) seat_new) ∙ z));
+  })
+    where
+      fresh : (j : ℕ) → Ready WokenFresh ≡ Queued j → ⊥
+      fresh j z = cc
+  thread_more u k (inr d) =
+      let b = each_thread h u (sym (still u d) ∙ k) in
+      record {
+        line = subst (LineIsSound v u) (sym (line_else u d)) (line_spared s v u (ap (λ (x : Seat). x.status) (seat_else u d)) (λ j e. (e, spares_more u j e)) (line_at s u) b.line);
+        queue = λ j z. subst (IsQueuedLine j) (sym (line_else u d)) (b.queue j (sym (ap (λ (x : Seat). x.status) (seat_else u d)) ∙ z));
+      }
+
+  -- the table is sound
+  pub thread_added_sound : IsSound v
+  thread_added_sound = record {
+    all = record {
+      shape = shape_more;
+      mutexes = λ j e. cell_spared (has_thread s) (has_thread v) (has_waiter s.kernel.waiters j) (has_waiter s.kernel.waiters j) (cell_at s j) (cell_at s j) known_more refl refl (h.all.mutexes j e);
+      threads = λ u k out. thread_more u k (cases_eq u n);
+    };
+    kernel = kernel_more;
+  }
+
+  -- the world with one thread more
+  abbrev new_thread : Thread
+  new_thread = record { base = p; living = true; call = None }
+
+  pub thread_added_seen : (y : Shadow) → world_of v y ≡ record (world_of s y) { threads = (world_of s y).threads ++ new_thread ∷ [] }
+  thread_added_seen y = same_world (world_of v y) (record (world_of s y) { threads = (world_of s y).threads ++ new_thread ∷ [] })
+      (threads_shown shape_more y ∙ length_push s.lines Idle ∙ sym (length_push (world_of s y).threads new_thread ∙ ap (λ j. j + 1) long))
+      (λ u. thread_seen shape_more y u ∙ each u (cases_eq u n)) refl (λ j. refl) refl
+    where
+      long : length (world_of s y).threads ≡ n
+      long = threads_shown h.all.shape y
+
+      each : (u : ℕ) → (u ≡ n) ⊎ (u ≢ n) → thread_shown v u ≡ get_or ((world_of s y).threads ++ new_thread ∷ []) u nobody
+      each u (inl e) = subst (λ j. thread_shown v j ≡ get_or ((world_of s y).threads ++ new_thread ∷ []) j nobody) (sym e)
+          ((λ i. record { base = (seat_new i).base; living = new_known i; call = call_at (health_at s) (line_new i) (seat_at v.kernel n).status })
+          ∙ sym (get_or_push (world_of s y).threads new_thread nobody n long))
+      each u (inr d) =
+          (λ i. record { base = (seat_else u d i).base; living = still u d i; call = call_at (health_at s) (line_else u d i) (seat_else u d i).status })
+          ∙ sym (pushed_else (world_of s y).threads new_thread nobody u (λ e. d (e ∙ long)) ∙ thread_seen h.all.shape y u)
+
+  -- to add a thread is an entry of the POSIX machine, and keeps the invariant
+  pub thread_added_kept : Keeps s (AddThread n p) v
+  thread_added_kept = record {
+    sound = thread_added_sound;
+    limits = refl;
+    shows = λ y a. (y, agrees_on s v y a, thread_rule n p refl (sym (threads_shown h.all.shape y)) (room n s.limits.threads free) (priority-range p prio).0 (priority-range p prio).1 (thread_added_seen y));
+  }
