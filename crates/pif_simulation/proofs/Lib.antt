@@ -1,4 +1,5 @@
 pub mod AllHolding
+pub mod Worlds
 pub mod Bound
 pub mod Effective
 pub mod HandOver
