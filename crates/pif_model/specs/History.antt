@@ -18,27 +18,29 @@ abbrev pub open_call : ℕ → List Entry → Option Request
 open_call t [] = None
 open_call t (e ∷ h) = open_after t e (open_call t h)
 
--- the level after an answer to a lock or a trylock: 0 and EOWNERDEAD add 1
-abbrev pub level_locked : ℕ → ℕ → ℕ
-level_locked a level = if a == 0 then level + 1 else (if a == 130 then level + 1 else level)
+-- the hold count after an answer to a lock or a trylock: 0 and EOWNERDEAD add 1
+abbrev pub hold_count_locked : ℕ → ℕ → ℕ
+hold_count_locked a count = if a == 0 then count + 1 else (if a == 130 then count + 1 else count)
 
--- the level after an answer to this request: lock and trylock may add 1, unlock takes 1 away where it is answered 0
-abbrev pub level_after_answer : ℕ → Option Request → ℕ → ℕ → ℕ
-level_after_answer m None a level = level
-level_after_answer m (Some (Lock n)) a level = if n == m then level_locked a level else level
-level_after_answer m (Some (TryLock n)) a level = if n == m then level_locked a level else level
-level_after_answer m (Some (Unlock n)) a level = if n == m then (if a == 0 then level - 1 else level) else level
-level_after_answer m (Some (SetPrio u p)) a level = level
+-- the hold count on m after an answer to this request: lock and trylock may add 1, unlock takes 1 away where it is
+-- answered 0
+abbrev pub hold_count_after_answer : ℕ → Option Request → ℕ → ℕ → ℕ
+hold_count_after_answer m None a count = count
+hold_count_after_answer m (Some (Lock n)) a count = if n == m then hold_count_locked a count else count
+hold_count_after_answer m (Some (TryLock n)) a count = if n == m then hold_count_locked a count else count
+hold_count_after_answer m (Some (Unlock n)) a count = if n == m then (if a == 0 then count - 1 else count) else count
+hold_count_after_answer m (Some (SetPrio u p)) a count = count
 
--- the level of t on m after one more entry
-abbrev pub level_after : ℕ → ℕ → Option Request → Entry → ℕ → ℕ
-level_after t m call (Happened (Go u) (Answered a)) level = if u == t then level_after_answer m call a level else level
-level_after t m call _ level = level
+-- the hold count of t on m after one more entry
+abbrev pub hold_count_after : ℕ → ℕ → Option Request → Entry → ℕ → ℕ
+hold_count_after t m call (Happened (Go u) (Answered a)) count =
+    if u == t then hold_count_after_answer m call a count else count
+hold_count_after t m call _ count = count
 
--- the level of t on m by a history: how often it holds m by the answers
-abbrev pub level : ℕ → ℕ → List Entry → ℕ
-level t m [] = 0
-level t m (e ∷ h) = level_after t m (open_call t h) e (level t m h)
+-- the hold count of t on m by a history: how often t holds m by the answers
+abbrev pub hold_count : ℕ → ℕ → List Entry → ℕ
+hold_count t m [] = 0
+hold_count t m (e ∷ h) = hold_count_after t m (open_call t h) e (hold_count t m h)
 
 -- 1 while an unlock of m is open
 abbrev pub unlocking : ℕ → Option Request → ℕ
@@ -48,9 +50,9 @@ unlocking m (Some (TryLock n)) = 0
 unlocking m (Some (Unlock n)) = if n == m then 1 else 0
 unlocking m (Some (SetPrio u p)) = 0
 
--- whether t holds m by the answers: its level, less 1 while an unlock of m by t is open, is above 0
+-- whether t holds m by the answers: its hold count, less 1 while an unlock of m by t is open, is above 0
 abbrev pub holds : ℕ → ℕ → List Entry → Bool
-holds t m h = nat_lt (unlocking m (open_call t h)) (level t m h)
+holds t m h = nat_lt (unlocking m (open_call t h)) (hold_count t m h)
 
 -- no mutex has two holders
 abbrev pub HasOneHolder : List Entry → Type 0

@@ -1,140 +1,257 @@
--- What the answers to one thread's calls say of what it holds: the invariant of one thread, and what each kind of
--- effect does to it. It speaks of one thread's open call, of how often it holds each mutex, and of waiters as a test.
-use Rattle.std.proofs.Common.{◌≡◌, ◌≢◌, ◌<◌, ◌≤◌, ℕ, ◌+◌, Bool, true, ◌==◌, Option, Some, None, refl, sym, ap, ◌∙◌, arith, if◌then◌else◌}
-use Rattle.std.proofs.lemmas.Bool.{ne_eqb}
+-- What the answers to one thread's calls say of what it holds: the invariant of one thread, and what each kind of entry
+-- does to it.
+--
+-- THE INVARIANT. A thread's hold count is how often it holds a mutex by the answers; the machine has an owner and a
+-- count. The two are the same at every mutex but that of the thread's open call (`elsewhere`). There `Counted` says, by
+-- how far the call has come, how they differ (`own`): not at all before its effects; and once it has a result, the
+-- machine has what the answer will make of the hold count. Besides, who doesn't live has no call and holds nothing; the
+-- history has the same call open, and its mutex was added; and who is among the waiters of a mutex is in a call that
+-- waits for it.
+--
+-- TO ADD.
+-- * A new request: in the definitions what an answer to it does (`hold_count_after_answer`), what it names, and for
+--   which mutex it waits; here its case in `names_kept`, `elsewhere_answered` and `unlocked_once`; in `AllHolding` its
+--   case in `waiting_takes`, and `may_take` where it may take a mutex; in `Holders` in `error_changes_nothing`.
+-- * A new progress: its line in `Counted`, for the requests that can come so far, and in `unlocked_once`.
+-- * A new effect: its line in `Holders`, by the lemma in `AllHolding` for what it does. All of those ask one thing of
+--   the hold count: how `Counted` at the call's progress before gives `Counted` after.
+-- * A new entry: its line in `IsHeld-Step`; one that closes calls or resets hold counts goes by `IsHeld-but`.
+use Rattle.std.proofs.Common.{◌≡◌, ◌≢◌, ◌⊎◌, ◌<◌, ℕ, Bool, true, false, nat_lt, Option, Some, None, refl, sym, ap, ◌∙◌, subst, subst₂, inl, inr, arith}
+use Rattle.std.proofs.lemmas.Bool.{ne_eqb, cases_eq}
 use Rattle.std.proofs.lemmas.Bool.Decides.{nat_tests}
 use Rattle.pif_types.specs.declared.requests.Request.{Request}
 use Rattle.pif_types.specs.declared.requests.Request.TheVariants.{Lock, TryLock, Unlock, SetPrio}
-use Rattle.pif_model.specs.History.{level_after_answer}
-use Rattle.pif_model.specs.Posix.{Progress, Call, named_by}
+use Rattle.pif_model.specs.History.{hold_count_after_answer, unlocking}
+use Rattle.pif_model.specs.Posix.{Progress, Call, named_by, names_known}
 use Rattle.pif_model.specs.Posix.Progress.{Fresh, Waiting, Stuck, Leaving, Has}
+use Rattle.pif_model.specs.Standing.{waited_in}
+
+-- what a state of the POSIX machine has of one thread
+pub record View : Type 0 where
+  pub call : Option Call
+  pub living : Bool
+  -- how often it holds each mutex, by the machine
+  pub held : ℕ → ℕ
+  -- whether it is among the waiters of each mutex
+  pub among : ℕ → Bool
 
 -- the request of an open call
 abbrev pub request_of : Option Call → Option Request
 request_of None = None
 request_of (Some c) = Some c.request
 
--- 1 where this result of a lock or a trylock adds a level
-abbrev pub adds : ℕ → ℕ
-adds a = if a == 0 then 1 else (if a == 130 then 1 else 0)
+-- a thread whose call of this request has come this far holds the call's mutex n times by the answers, k times by the
+-- machine
+abbrev pub Counted : Request → Progress → ℕ → ℕ → Type 0
+Counted q Fresh n k = n ≡ k
+Counted q Waiting n k = n ≡ k
+Counted q Stuck n k = n ≡ k
+Counted q Leaving n k = (n ≡ 0) × (k ≡ 1)
+Counted q (Has a) n k = hold_count_after_answer (named_by q) (Some q) a n ≡ k
 
--- how many levels more of its mutex this result of a call gives
-abbrev pub gains : Request → ℕ → ℕ
-gains (Lock n) a = adds a
-gains (TryLock n) a = adds a
-gains _ a = 0
+-- this call waits for m
+pub record IsWaiting (m : ℕ) (o : Option Call) : Type 0 where
+  pub request : Request
+  pub waits : waited_in request ≡ m
+  pub call : o ≡ Some (record { request = request; progress = Waiting })
 
--- how many levels less of its mutex this result of a call gives
-abbrev pub loses : Request → ℕ → ℕ
-loses (Unlock n) a = if a == 0 then 1 else 0
-loses _ a = 0
+-- The invariant of one thread, which the machine has as x: f is its open call and counts its hold counts, by the
+-- history, and known tells which mutexes were added.
+pub record Holding (f : Option Request) (counts : ℕ → ℕ) (known : ℕ → Bool) (x : View) : Type 0 where
+  pub idle : x.living ≡ false → x.call ≡ None
+  pub request : f ≡ request_of x.call
+  pub named : (c : Call) → x.call ≡ Some c → names_known known c.request ≡ true
+  pub waiting : (m : ℕ) → x.among m ≡ true → IsWaiting m x.call
+  pub own : (c : Call) → x.call ≡ Some c
+      → Counted c.request c.progress (counts (named_by c.request)) (x.held (named_by c.request))
+  pub elsewhere : (m : ℕ) → ((c : Call) → x.call ≡ Some c → named_by c.request ≢ m) → counts m ≡ x.held m
 
--- how many levels more of m an open call that has come this far will give
-abbrev pub gained : ℕ → Request → Progress → ℕ
-gained m q (Has a) = if named_by q == m then gains q a else 0
-gained m q _ = 0
+-- CALLS
 
--- how many levels less of m an open call that has come this far will give
-abbrev pub lost : ℕ → Request → Progress → ℕ
-lost m q (Has a) = if named_by q == m then loses q a else 0
-lost m q _ = 0
+-- one call is open at a time
+same_call : {o : Option Call} {c d : Call} → o ≡ Some c → o ≡ Some d → c ≡ d
+same_call e k = cc
 
--- how many levels more of m an open call will give
-abbrev pub gained_by : ℕ → Option Call → ℕ
-gained_by m None = 0
-gained_by m (Some c) = gained m c.request c.progress
+-- it is of this request
+pub same_request : {o : Option Call} {c d : Call} → o ≡ Some c → o ≡ Some d → c.request ≡ d.request
+same_request e k = ap (λ (c : Call). c.request) (same_call e k)
 
--- how many levels less of m an open call will give
-abbrev pub lost_by : ℕ → Option Call → ℕ
-lost_by m None = 0
-lost_by m (Some c) = lost m c.request c.progress
+-- and has come this far
+pub same_progress : {o : Option Call} {c d : Call} → o ≡ Some c → o ≡ Some d → c.progress ≡ d.progress
+same_progress e k = ap (λ (c : Call). c.progress) (same_call e k)
 
--- The invariant of one thread t, whose open call by the history is f and by the machine is call, whose levels by the
--- history are levels, and who holds the mutexes below room this often by the machine, with the test whether t waits for
--- a mutex.
-pub record Holding (t : ℕ) (f : Option Request) (levels : ℕ → ℕ) (call : Option Call) (held : ℕ → ℕ) (among : ℕ → Bool) (room : ℕ) : Type 0 where
-  pub nobody : t ≡ 0 → call ≡ None
-  pub request : f ≡ request_of call
-  pub named : (q : Request) (p : Progress) → call ≡ Some (record { request = q; progress = p }) → named_by q < room
-  pub waiting : (m : ℕ) → among m ≡ true → call ≡ Some (record { request = Lock m; progress = Waiting })
-  pub level : (m : ℕ) → levels m + gained_by m call ≡ held m + lost_by m call
+-- REQUESTS
 
--- a call changes the level of no other mutex
-pub elsewhere : (m : ℕ) (q : Request) (p : Progress) → named_by q ≢ m → (gained m q p ≡ 0) × (lost m q p ≡ 0)
-elsewhere m q (Has a) n = rw (ne_eqb (named_by q) m n) (refl, refl)
-elsewhere m q Fresh n = (refl, refl)
-elsewhere m q Waiting n = (refl, refl)
-elsewhere m q Stuck n = (refl, refl)
-elsewhere m q Leaving n = (refl, refl)
+-- a mutex that was added stays so
+names_kept : (known more : ℕ → Bool) → ((m : ℕ) → known m ≡ true → more m ≡ true) → (q : Request)
+    → names_known known q ≡ true → names_known more q ≡ true
+names_kept known more h (Lock m) e = h m e
+names_kept known more h (TryLock m) e = h m e
+names_kept known more h (Unlock m) e = h m e
+names_kept known more h (SetPrio u p) e = refl
 
--- what an answer makes of a level
-answered : (m : ℕ) (q : Request) (a : ℕ) (f : Option Request) (level held : ℕ) → f ≡ Some q
-    → level + gained m q (Has a) ≡ held + lost m q (Has a) → level_after_answer m f a level ≡ held
-answered m q a f level held e h = rw e (by_request q h)
+-- an answer changes the hold count of no other mutex
+elsewhere_answered : (m : ℕ) (q : Request) (a n : ℕ) → named_by q ≢ m → hold_count_after_answer m (Some q) a n ≡ n
+elsewhere_answered m (Lock k) a n d = rw (ne_eqb k m d) refl
+elsewhere_answered m (TryLock k) a n d = rw (ne_eqb k m d) refl
+elsewhere_answered m (Unlock k) a n d = rw (ne_eqb k m d) refl
+elsewhere_answered m (SetPrio u p) a n d = refl
+
+-- only an unlock takes a hold away: who holds a mutex by the answers, less 1 while its unlock is open, holds it by the
+-- machine
+unlocked_once : (q : Request) (p : Progress) (n k : ℕ) → Counted q p n k → unlocking (named_by q) (Some q) < n → k ≢ 0
+unlocked_once (Lock m) (Has a) n k h l = λ e. grind (arith, nat_tests)
+unlocked_once (TryLock m) (Has a) n k h l = λ e. grind (arith, nat_tests)
+unlocked_once (Unlock m) (Has a) n k h l = λ e. grind (arith, nat_tests)
+unlocked_once (SetPrio u p) (Has a) n k h l = λ e. grind (arith, nat_tests)
+unlocked_once q Leaving n k h l = λ e. omega arith
+unlocked_once q Fresh n k h l = λ e. omega arith
+unlocked_once q Waiting n k h l = λ e. omega arith
+unlocked_once q Stuck n k h l = λ e. omega arith
+
+-- who holds a mutex by the answers holds it by the machine
+pub held-from_holds : {f : Option Request} {counts : ℕ → ℕ} {known : ℕ → Bool} {x : View} → Holding f counts known x
+    → (m : ℕ) → nat_lt (unlocking m f) (counts m) ≡ true → x.held m ≢ 0
+held-from_holds {f} {counts} {known} {x} h m above = by_call x.call refl
   where
-    by_request : (q : Request) → level + gained m q (Has a) ≡ held + lost m q (Has a) → level_after_answer m (Some q) a level ≡ held
-    by_request (Lock n) h = grind (arith, nat_tests)
-    by_request (TryLock n) h = grind (arith, nat_tests)
-    by_request (Unlock n) h = grind (arith, nat_tests)
-    by_request (SetPrio u p) h = grind (arith, nat_tests)
+    some : counts m ≢ 0
+    some = λ e. grind (arith, nat_tests)
 
--- one thread before and after an effect
-module _ (t : ℕ) (f : Option Request) (levels : ℕ → ℕ) (call later_call : Option Call) (held later_held : ℕ → ℕ)
-    (among later_among : ℕ → Bool) (room later_room : ℕ) where
-  -- a thread whose call stays, and who holds what it held
-  pub Holding-stays : Holding t f levels call held among room → later_call ≡ call → room ≤ later_room
-      → ((m : ℕ) → later_among m ≡ true → among m ≡ true) → ((m : ℕ) → later_held m ≡ held m)
-      → Holding t f levels later_call later_held later_among later_room
-  Holding-stays h same more fewer owners =
-      record {
-        nobody = λ e. same ∙ h.nobody e;
-        request = h.request ∙ ap request_of (sym same);
-        named = λ q p e. omega (arith, h.named q p (sym same ∙ e));
-        waiting = λ m e. same ∙ h.waiting m (fewer m e);
-        level = λ m. grind (arith, h.level m, owners m, same);
-      }
+    by_mutex : (c : Call) → x.call ≡ Some c → (named_by c.request ≡ m) ⊎ (named_by c.request ≡ m → ⊥) → x.held m ≢ 0
+    by_mutex c e (inl same) =
+        subst (λ n. x.held n ≢ 0) same
+        (unlocked_once c.request c.progress (counts (named_by c.request)) (x.held (named_by c.request)) (h.own c e)
+        (grind (arith, nat_tests, h.request, ap request_of e, above, same)))
+    by_mutex c e (inr other) =
+        λ z. some (h.elsewhere m (λ d k g. other (ap named_by (same_request e k) ∙ g)) ∙ z)
 
-  -- the call of t, which had no result, comes further; by what it gains and loses t holds each mutex more or less often
-  pub Holding-moves : (q : Request) (a b : Progress) → Holding t f levels call held among room
-      → call ≡ Some (record { request = q; progress = a }) → later_call ≡ Some (record { request = q; progress = b }) → later_room ≡ room
-      → ((m : ℕ) → later_among m ≡ true → (q ≡ Lock m) × (b ≡ Waiting))
-      → ((m : ℕ) → (gained m q a ≡ 0) × (lost m q a ≡ 0)) → ((m : ℕ) → later_held m + lost m q b ≡ held m + gained m q b)
-      → Holding t f levels later_call later_held later_among later_room
-  Holding-moves q a b h before after same_room joined no_result balance =
-      record {
-        nobody = λ e. grind (arith, h.nobody e);
-        request = grind (arith, h.request);
-        named = λ r s e. grind (arith, h.named q a before);
-        waiting = λ m e. grind (arith, joined m e);
-        level = λ m. grind (arith, h.level m, balance m, no_result m);
-      }
+    by_call : (o : Option Call) → x.call ≡ o → x.held m ≢ 0
+    by_call None e = λ z. some (h.elsewhere m (λ d k. absurd (cc)) ∙ z)
+    by_call (Some c) e = by_mutex c e (cases_eq (named_by c.request) m)
 
-  -- a call begins
-  pub Holding-begins : (q : Request) → Holding t f levels call held among room → call ≡ None
-      → later_call ≡ Some (record { request = q; progress = Fresh }) → t ≢ 0 → named_by q < room → later_room ≡ room
-      → ((m : ℕ) → later_held m ≡ held m)
-      → ((m : ℕ) → later_among m ≡ true → among m ≡ true)
-      → Holding t (Some q) levels later_call later_held later_among later_room
-  Holding-begins q h before after some within same_room owners fewer =
-      record {
-        nobody = λ e. absurd (some e);
-        request = grind arith;
-        named = λ r s e. grind arith;
-        waiting = λ m e. grind (arith, h.waiting m (fewer m e));
-        level = λ m. grind (arith, h.level m, owners m);
-      }
+-- ONE THREAD BEFORE AND AFTER AN ENTRY
 
-  -- a call is answered
-  pub Holding-answers : (q : Request) (a : ℕ) → Holding t f levels call held among room
-      → call ≡ Some (record { request = q; progress = Has a }) → later_call ≡ None → later_room ≡ room
-      → ((m : ℕ) → later_held m ≡ held m)
-      → ((m : ℕ) → later_among m ≡ true → among m ≡ true)
-      → Holding t None (λ m. level_after_answer m f a (levels m)) later_call later_held later_among later_room
-  Holding-answers q a h before after same_room owners fewer =
-      record {
-        nobody = λ e. after;
-        request = grind arith;
-        named = λ r s e. grind arith;
-        waiting = λ m e. grind (arith, h.waiting m (fewer m e));
-        level = λ m. grind (arith, nat_tests, h.level m, owners m, h.request, answered m q a f (levels m) (held m));
-      }
+-- a thread's call stays, and what it holds; it is among no more waiters, and may have begun to live
+pub record Stays (x y : View) : Type 0 where
+  pub call : y.call ≡ x.call
+  pub living : y.living ≡ false → x.living ≡ false
+  pub held : (m : ℕ) → y.held m ≡ x.held m
+  pub fewer : (m : ℕ) → y.among m ≡ true → x.among m ≡ true
+
+-- a thread stays as it was
+pub Holding-stays : {f later_f : Option Request} {counts later_counts : ℕ → ℕ} {known more : ℕ → Bool} {x y : View}
+    → Holding f counts known x → ((m : ℕ) → known m ≡ true → more m ≡ true) → later_f ≡ f
+    → ((m : ℕ) → later_counts m ≡ counts m) → Stays x y → Holding later_f later_counts more y
+Holding-stays {counts = counts} {known = known} {more = more} {x = x} {y = y} h grows same_request same_counts s =
+    record {
+      idle = λ e. s.call ∙ h.idle (s.living e);
+      request = same_request ∙ h.request ∙ ap request_of (sym s.call);
+      named = λ c e. names_kept known more grows c.request (h.named c (sym s.call ∙ e));
+      waiting = λ m e. subst (IsWaiting m) (sym s.call) (h.waiting m (s.fewer m e));
+      own = λ c e.
+          subst₂ (λ (n k : ℕ). Counted c.request c.progress n k) (sym (same_counts (named_by c.request)))
+          (sym (s.held (named_by c.request))) (h.own c (sym s.call ∙ e));
+      elsewhere = λ m apart. same_counts m ∙ h.elsewhere m (λ c e. apart c (s.call ∙ e)) ∙ sym (s.held m);
+    }
+
+-- this thread's one open call is this one, in what the invariant says of open calls
+module _ (counts : ℕ → ℕ) (known : ℕ → Bool) (y : View) (q : Request) (p : Progress)
+    (only : y.call ≡ Some (record { request = q; progress = p })) where
+  named_at : names_known known q ≡ true → (c : Call) → y.call ≡ Some c → names_known known c.request ≡ true
+  named_at h c e = subst (λ (d : Call). names_known known d.request ≡ true) (same_call only e) h
+
+  own_at : Counted q p (counts (named_by q)) (y.held (named_by q)) → (c : Call) → y.call ≡ Some c
+      → Counted c.request c.progress (counts (named_by c.request)) (y.held (named_by c.request))
+  own_at h c e =
+      subst (λ (d : Call). Counted d.request d.progress (counts (named_by d.request)) (y.held (named_by d.request)))
+      (same_call only e) h
+
+-- a call comes further, from a to b; of other mutexes its thread holds what it held
+pub record Moves (q : Request) (a b : Progress) (x y : View) : Type 0 where
+  pub before : x.call ≡ Some (record { request = q; progress = a })
+  pub after : y.call ≡ Some (record { request = q; progress = b })
+  pub living : y.living ≡ x.living
+  pub waits : (m : ℕ) → y.among m ≡ true → (waited_in q ≡ m) × (b ≡ Waiting)
+  pub others : (m : ℕ) → named_by q ≢ m → y.held m ≡ x.held m
+  pub own : (n : ℕ) → Counted q a n (x.held (named_by q)) → Counted q b n (y.held (named_by q))
+
+-- a thread's call comes further
+pub Holding-moves : {f : Option Request} {counts : ℕ → ℕ} {known : ℕ → Bool} {x y : View} {q : Request} {a b : Progress}
+    → Holding f counts known x → Moves q a b x y → Holding f counts known y
+Holding-moves {counts = counts} {known = known} {x = x} {y = y} {q = q} {a = a} {b = b} h s =
+    record {
+      idle = λ e. let none : x.call ≡ None = h.idle (sym s.living ∙ e) in let some = s.before in absurd (cc);
+      request = h.request ∙ ap request_of s.before ∙ sym (ap request_of s.after);
+      named = named_at counts known y q b s.after (h.named (record { request = q; progress = a }) s.before);
+      waiting = λ m e. record {
+        request = q;
+        waits = (s.waits m e).0;
+        call = s.after ∙ ap (λ (p : Progress). Some (record { request = q; progress = p })) (s.waits m e).1;
+      };
+      own = own_at counts known y q b s.after
+          (s.own (counts (named_by q)) (h.own (record { request = q; progress = a }) s.before));
+      elsewhere = λ m apart.
+          let d : named_by q ≢ m = apart (record { request = q; progress = b }) s.after in
+          h.elsewhere m (λ c e g. d (ap named_by (same_request s.before e) ∙ g)) ∙ sym (s.others m d);
+    }
+
+-- a call begins: nothing has happened yet
+pub record Begins (q : Request) (p : Progress) (known : ℕ → Bool) (x y : View) : Type 0 where
+  pub before : x.call ≡ None
+  pub after : y.call ≡ Some (record { request = q; progress = p })
+  pub lives : y.living ≡ true
+  pub held : (m : ℕ) → y.held m ≡ x.held m
+  pub fewer : (m : ℕ) → y.among m ≡ true → x.among m ≡ true
+  pub named : names_known known q ≡ true
+  pub fresh : (n k : ℕ) → n ≡ k → Counted q p n k
+
+pub Holding-begins : {f later_f : Option Request} {counts : ℕ → ℕ} {known : ℕ → Bool} {x y : View} {q : Request}
+    {p : Progress} → Holding f counts known x → later_f ≡ Some q → Begins q p known x y → Holding later_f counts known y
+Holding-begins {counts = counts} {known = known} {x = x} {y = y} {q = q} {p = p} h opened s =
+    record {
+      idle = λ e. let lives = s.lives in absurd (cc);
+      request = opened ∙ sym (ap request_of s.after);
+      named = named_at counts known y q p s.after s.named;
+      waiting = λ m e. let some = (h.waiting m (s.fewer m e)).call in let none = s.before in absurd (cc);
+      own = own_at counts known y q p s.after
+          (s.fresh (counts (named_by q)) (y.held (named_by q)) (as_before (named_by q)));
+      elsewhere = λ m apart. as_before m;
+    }
+  where
+    as_before : (m : ℕ) → counts m ≡ y.held m
+    as_before m = h.elsewhere m (λ c e. let none = s.before in absurd (cc)) ∙ sym (s.held m)
+
+-- a call is answered
+pub record Answers (q : Request) (a : ℕ) (x y : View) : Type 0 where
+  pub before : x.call ≡ Some (record { request = q; progress = Has a })
+  pub after : y.call ≡ None
+  pub held : (m : ℕ) → y.held m ≡ x.held m
+  pub fewer : (m : ℕ) → y.among m ≡ true → x.among m ≡ true
+
+pub Holding-answers : {f later_f : Option Request} {counts later_counts : ℕ → ℕ} {known : ℕ → Bool} {x y : View}
+    {q : Request} {a : ℕ} → Holding f counts known x → later_f ≡ None
+    → ((m : ℕ) → later_counts m ≡ hold_count_after_answer m f a (counts m)) → Answers q a x y
+    → Holding later_f later_counts known y
+Holding-answers {counts = counts} {x = x} {y = y} {q = q} {a = a} h closed counted s =
+    record {
+      idle = λ e. s.after;
+      request = closed ∙ sym (ap request_of s.after);
+      named = λ c e. let none = s.after in absurd (cc);
+      waiting = λ m e.
+          let other : Has a ≡ Waiting = same_progress s.before (h.waiting m (s.fewer m e)).call in absurd (cc);
+      own = λ c e. let none = s.after in absurd (cc);
+      elsewhere = λ m apart.
+          counted m
+          ∙ ap (λ g. hold_count_after_answer m g a (counts m)) (h.request ∙ ap request_of s.before)
+          ∙ by_mutex m (cases_eq (named_by q) m);
+    }
+  where
+    by_mutex : (m : ℕ) → (named_by q ≡ m) ⊎ (named_by q ≡ m → ⊥)
+        → hold_count_after_answer m (Some q) a (counts m) ≡ y.held m
+    by_mutex m (inl e) =
+        subst (λ k. hold_count_after_answer k (Some q) a (counts k) ≡ y.held k) e
+        (h.own (record { request = q; progress = Has a }) s.before ∙ sym (s.held (named_by q)))
+    by_mutex m (inr d) =
+        elsewhere_answered m q a (counts m) d
+        ∙ h.elsewhere m (λ c e g. d (ap named_by (same_request s.before e) ∙ g))
+        ∙ sym (s.held m)

@@ -1,4 +1,11 @@
 pub mod Shown
+pub mod AllHolding
+pub mod Worlds
+pub mod Bound
+pub mod Effective
+pub mod HandOver
+pub mod Holders
+pub mod Holding
 pub mod Kept
 pub mod Hole
 pub mod Steps
@@ -8,14 +15,12 @@ pub mod Does
 pub mod Local
 pub mod Lined
 pub mod Called
-pub mod Effective
 pub mod Progressed
 pub mod TakingLines
 pub mod LockLines
 pub mod LockCalls
 pub mod TryLines
 pub mod UnlockLines
-pub mod HandOver
 pub mod SetPriorityLine
 pub mod Additions
 pub mod ThreadAdded
@@ -23,8 +28,4 @@ pub mod MutexAdded
 pub mod Simulation
 pub mod StandingLaws
 pub mod Picks
-pub mod Bound
-pub mod Holding
-pub mod AllHolding
-pub mod Holders
 pub mod Priority

@@ -1,103 +1,126 @@
--- The law that a thread's effective priority is the greatest base priority of it and of all that wait for it through
--- any chain.
-use Rattle.std.proofs.Common.{◌≡◌, ◌≢◌, ◌⊎◌, ◌<◌, ◌≤◌, ℕ, true, eqb, length, map, refl, sym, ap, ◌∙◌, subst, inl, inr}
-use Rattle.std.specs.List.{IsDistinct}
-use Rattle.std.proofs.lemmas.Bool.{cases_eq, cases_lt}
-use Rattle.std.proofs.lemmas.List.{get_or_past}
-use Rattle.pif_model.specs.Graph.{waited_by, reaches_within, Reaches}
-use Rattle.pif_model.specs.Posix.{World, WaitsFor, waits_for, thread_at, mutex_at, is_thread, effective_of, leads_to}
-use Rattle.pif_model.specs.Table.{Table, Row, Cell, no_cell, cell_at, has_thread, has_mutex, queued_on}
-use Rattle.pif_model.specs.Standing.{Shadow, IsSound, HasEffective, world_of}
-use Rattle.pif_chains.proofs.Following.{Follows, reaches-from_within, within-from_reaches, within_alone}
+-- The laws that in each state that a run of the POSIX machine reaches the bounded effective priority is the greatest
+-- base priority of a thread and of all that wait for it through any chain, and that the bounded test finds just the
+-- chains that there are.
+use Rattle.std.proofs.Common.{◌≡◌, ◌≢◌, ◌⊎◌, ◌<◌, ℕ, Bool, true, false, ◌==◌, ◌||◌, List, [], ◌∷◌, length, Option, refl, sym, ap, ◌∙◌, inl, inr, if◌then◌else◌}
+use Rattle.std.proofs.lemmas.Bool.{true≢false, cases_eq, eq-eqb}
+use Rattle.pif_types.specs.Bounds.{Bounds}
+use Rattle.pif_types.specs.declared.requests.Request.{Request}
+use Rattle.pif_model.specs.declared.events.Entry.{Entry}
+use Rattle.pif_model.specs.Graph.{waited_by, Reaches, IsEffective}
+use Rattle.pif_model.specs.Graph.Reaches.{here, hop}
+use Rattle.pif_model.specs.Posix.{World, WaitsFor, IsRun, waits_for, thread_at, is_thread, effective_of, leads_to}
+use Rattle.pif_model.specs.Standing.{HasEffective, waited_in}
+use Rattle.pif_chains.proofs.Among.{is_among}
+use Rattle.pif_chains.proofs.Bounded.{effective_over_any_chain}
 use Rattle.pif_chains.proofs.Cycles.{Reaches-map}
-use Rattle.pif_chains.proofs.Greatest.{effective_above, effective_attained}
-use Rattle.pif_simulation.proofs.Hole.{each_thread}
+use Rattle.pif_chains.proofs.Following.{Follows, reaches_here, reaches-from_within, within-from_reaches}
 use Rattle.pif_chains.proofs.Numbers.{from_within, within}
-use Rattle.pif_simulation.proofs.Projection.{is_thread_seen}
-use Rattle.pif_simulation.proofs.Queue.{owner_seen}
-use Rattle.pif_chains.proofs.Waiting.{paired-from_waited, waited-from_pair}
+use Rattle.pif_chains.proofs.Waiting.{paired-from_waited}
+use Rattle.pif_simulation.proofs.Worlds.{owner_of}
+use Rattle.pif_simulation.proofs.Holding.{same_request}
+use Rattle.pif_simulation.proofs.AllHolding.{IsHeld, caller_lives, caller_is_thread}
+use Rattle.pif_simulation.proofs.Holders.{IsHeld-IsRun}
 
--- what a state has to keep for its chains of waiting to be those of a function: a thread waits once, nobody waits for
--- nothing, and owners were added
-pub record IsOrderly (w : World) : Type 0 where
-  pub once : IsDistinct eqb (map (λ (p : ℕ × ℕ). p.0) w.waiters)
-  pub nobody_waits : waited_by w.waiters 0 ≡ 0
-  pub no_owner : (mutex_at w 0).owner ≡ 0
-  pub owners : (m : ℕ) → (mutex_at w m).owner ≢ 0 → is_thread w (mutex_at w m).owner ≡ true
-
--- who waits for t waits for t by the function
-pub follows-from_WaitsFor : (w : World) → IsOrderly w → (u t : ℕ) → WaitsFor w u t → Follows (waits_for w) u t
-follows-from_WaitsFor w h u t f = (ap (λ (m : ℕ). (mutex_at w m).owner) (waited-from_pair w.waiters u f.mutex h.once f.among) ∙ f.owned, f.somebody)
-
--- and back
-pub WaitsFor-from_follows : (w : World) → IsOrderly w → (u t : ℕ) → Follows (waits_for w) u t → WaitsFor w u t
-WaitsFor-from_follows w h u t f =
-    record {
-      mutex = waited_by w.waiters u;
-      among = paired-from_waited w.waiters u (waited_by w.waiters u) (λ e. f.1 (sym f.0 ∙ (ap (λ (m : ℕ). (mutex_at w m).owner) e ∙ h.no_owner))) refl;
-      owned = f.0;
-      somebody = f.1;
-    }
-
--- the effective priority in the subject's words
-pub effective_is_greatest_of : (w : World) → IsOrderly w → (t : ℕ) → is_thread w t ≡ true → HasEffective w t (effective_of w t)
-effective_is_greatest_of w h t known =
-    record {
-      attained = (
-        best.0,
-        from_within best.0 (length w.threads) (λ e. real.0 (within_here_zero e)) best.1,
-        Reaches-map (WaitsFor-from_follows w h) (reaches-from_within (length w.threads) (waits_for w) best.0 t best.2),
-        best.3,
-      );
-      greatest = λ u k r.
-          effective_above (length w.threads) (waits_for w) (λ x. (thread_at w x).base) t u (within u (length w.threads) k).1
-          (within-from_reaches (length w.threads) (waits_for w) u t (within u (length w.threads) k).1 below (Reaches-map (follows-from_WaitsFor w h) r));
-    }
+-- who is among the waiters of some mutex is among those of the mutex for which it waits
+among_waited : (ws : List (ℕ × ℕ)) (u m : ℕ) → is_among ws u m ≡ true → is_among ws u (waited_by ws u) ≡ true
+unfolding waited_by
+among_waited [] u m h = h
+among_waited (w ∷ ws) u m h = by_head (w.0 == u) h (among_waited ws u m)
   where
-    real : (t ≢ 0) × (t < length w.threads)
-    real = within t (length w.threads) known
+    by_head : (b : Bool) → ((if b then w.1 == m else false) || is_among ws u m) ≡ true
+        → (is_among ws u m ≡ true → is_among ws u (waited_by ws u) ≡ true)
+        → let m : ℕ = if b then w.1 else waited_by ws u in
+        ((if b then w.1 == m else false) || is_among ws u m) ≡ true
+    by_head true h ih = rw (eq-eqb w.1 w.1 refl) refl
+    by_head false h ih = ih h
 
-    below : (x : ℕ) → waits_for w x ≢ 0 → waits_for w x < length w.threads
-    below x n = (within (waits_for w x) (length w.threads) (h.owners (waited_by w.waiters x) n)).1
+module _ {f : ℕ → Option Request} {counts : ℕ → ℕ → ℕ} {w : World} (h : IsHeld f counts w) where
+  -- a thread waits for one mutex at a time
+  waits_once : (u m : ℕ) → is_among w.waiters u m ≡ true → waited_by w.waiters u ≡ m
+  waits_once u m y =
+      let k = (h.each u).waiting m y in
+      let j = (h.each u).waiting (waited_by w.waiters u) (among_waited w.waiters u m y) in
+      sym j.waits ∙ ap waited_in (same_request j.call k.call) ∙ k.waits
 
-    best : (u : ℕ) × (u < length w.threads) × (reaches_within (length w.threads) (waits_for w) u t ≡ true) × ((thread_at w u).base ≡ effective_of w t)
-    best = effective_attained (length w.threads) (waits_for w) (λ x. (thread_at w x).base) t real.1
+  -- who waits was added
+  waiter_is_thread : (u m : ℕ) → is_among w.waiters u m ≡ true → is_thread w u ≡ true
+  waiter_is_thread u m y = caller_is_thread h u _ ((h.each u).waiting m y).call
 
-    zero_waits : waits_for w 0 ≡ 0
-    zero_waits = ap (λ (m : ℕ). (mutex_at w m).owner) h.nobody_waits ∙ h.no_owner
+  -- who waits for t waits for t by the function
+  follows-from_WaitsFor : (u t : ℕ) → WaitsFor w u t → Follows (waits_for w) u t
+  follows-from_WaitsFor u t k = (ap (owner_of w) (waits_once u k.mutex k.among) ∙ k.owned, k.somebody)
 
-    within_here_zero : best.0 ≡ 0 → t ≡ 0
-    within_here_zero e = sym (within_alone (length w.threads) (waits_for w) 0 t zero_waits (subst (λ (x : ℕ). reaches_within (length w.threads) (waits_for w) x t ≡ true) e best.2))
+  -- who waits for somebody by the function is among the waiters of the mutex for which it waits
+  among-from_follows : (u : ℕ) → waits_for w u ≢ 0 → is_among w.waiters u (waited_by w.waiters u) ≡ true
+  among-from_follows u some =
+      paired-from_waited w.waiters u (waited_by w.waiters u) (λ e. some (ap (owner_of w) e ∙ h.orderly.no_mutex)) refl
 
--- a chain of waiting leads from u to t exactly where one is found within as many hops as there are threads
-pub reaches-from_leads_to : (w : World) → IsOrderly w → (u t : ℕ) → leads_to w u t ≡ true → Reaches (WaitsFor w) u t
-reaches-from_leads_to w h u t e = Reaches-map (WaitsFor-from_follows w h) (reaches-from_within (length w.threads) (waits_for w) u t e)
+  -- and back
+  WaitsFor-from_follows : (u t : ℕ) → Follows (waits_for w) u t → WaitsFor w u t
+  WaitsFor-from_follows u t k = record {
+    mutex = waited_by w.waiters u;
+    among = among-from_follows u (λ e. k.1 (sym k.0 ∙ e));
+    owned = k.0;
+    somebody = k.1;
+  }
 
--- and back
-pub leads_to-from_reaches : (w : World) → IsOrderly w → (u t : ℕ) → is_thread w u ≡ true → Reaches (WaitsFor w) u t → leads_to w u t ≡ true
-leads_to-from_reaches w h u t k r =
-    within-from_reaches (length w.threads) (waits_for w) u t (within u (length w.threads) k).1
-    (λ x n. (within (waits_for w x) (length w.threads) (h.owners (waited_by w.waiters x) n)).1) (Reaches-map (follows-from_WaitsFor w h) r)
+  -- for whom one waits was added
+  below : (x : ℕ) → waits_for w x ≢ 0 → waits_for w x < length w.threads
+  below x some = (within (waits_for w x) (length w.threads) (h.orderly.owners (waited_by w.waiters x) some)).1
 
--- a sound table shows an orderly state
-pub IsOrderly-world_of : (s : Table) (shadow : Shadow) → IsSound s → IsOrderly (world_of s shadow)
-IsOrderly-world_of s shadow h =
-    record {
-      once = h.all.once;
-      nobody_waits = (each_thread h 0).queue ∙ ap (λ (r : Row). queued_on r.status) h.all.shape.nobody;
-      no_owner = owner_seen s shadow 0 ∙ ap (λ (c : Cell). c.word.number) h.all.shape.no_mutex;
-      owners = λ m n. is_thread_seen s shadow (mutex_at (world_of s shadow) m).owner
-          ∙ subst (λ (o : ℕ). has_thread s o ≡ true) (sym (owner_seen s shadow m)) (word_owner m (λ e. n (owner_seen s shadow m ∙ e)));
-    }
-  where
-    by_place : (m : ℕ) → (cell_at s m).word.number ≢ 0 → ((m ≡ 0) ⊎ (m ≡ 0 → ⊥)) → ((m < length s.cells) ⊎ (length s.cells ≤ m)) → has_mutex s m ≡ true
-    by_place m n (inl e) _ = absurd (n (ap (λ (k : ℕ). (cell_at s k).word.number) e ∙ ap (λ (c : Cell). c.word.number) h.all.shape.no_mutex))
-    by_place m n (inr d) (inl l) = from_within m (length s.cells) d l
-    by_place m n (inr d) (inr l) = absurd (n (ap (λ (c : Cell). c.word.number) (get_or_past s.cells m no_cell l)))
+  -- nobody, at place 0, waits for nobody
+  nobody_waits : waits_for w 0 ≡ 0
+  nobody_waits = by_test (cases_eq (waits_for w 0) 0)
+    where
+      by_test : (waits_for w 0 ≡ 0) ⊎ (waits_for w 0 ≡ 0 → ⊥) → waits_for w 0 ≡ 0
+      by_test (inl e) = e
+      by_test (inr some) =
+          let k = (h.each 0).waiting (waited_by w.waiters 0) (among-from_follows 0 some) in
+          absurd (true≢false (sym (caller_lives h 0 _ k.call) ∙ h.orderly.nobody))
 
-    word_owner : (m : ℕ) → (cell_at s m).word.number ≢ 0 → has_thread s (cell_at s m).word.number ≡ true
-    word_owner m n = (h.all.cells m (by_place m n (cases_eq m 0) (cases_lt m (length s.cells)))).owner n
+  -- the bounded effective priority is the greatest over any chain
+  effective_is_greatest_of : (t : ℕ) → is_thread w t ≡ true → HasEffective w t (effective_of w t)
+  effective_is_greatest_of t known =
+      record {
+        attained = (
+          best.attained.0,
+          from_within best.attained.0 (length w.threads) best.attained.1.0 best.attained.1.1,
+          Reaches-map WaitsFor-from_follows best.attained.2,
+          best.attained.3,
+        );
+        greatest = λ u k r. best.greatest u (within u (length w.threads) k) (Reaches-map follows-from_WaitsFor r);
+      }
+    where
+      base : ℕ → ℕ
+      base u = (thread_at w u).base
 
--- the effective priority of each thread of a sound table, in the subject's words
-pub effective_is_greatest : (s : Table) (shadow : Shadow) → IsSound s → (t : ℕ) → has_thread s t ≡ true → HasEffective (world_of s shadow) t (effective_of (world_of s shadow) t)
-effective_is_greatest s shadow h t k = effective_is_greatest_of (world_of s shadow) (IsOrderly-world_of s shadow h) t (is_thread_seen s shadow t ∙ k)
+      best : IsEffective (λ u. (u ≢ 0) × (u < length w.threads)) (Follows (waits_for w)) base t (effective_of w t)
+      best =
+          let p = within t (length w.threads) known in
+          effective_over_any_chain (length w.threads) (waits_for w) base t nobody_waits below p.0 p.1
+
+  -- a chain that the bounded test finds is there
+  chain-from_leads_to_of : (u t : ℕ) → leads_to w u t ≡ true → Reaches (WaitsFor w) u t
+  chain-from_leads_to_of u t e =
+      Reaches-map WaitsFor-from_follows (reaches-from_within (length w.threads) (waits_for w) u t e)
+
+  -- and it finds each that is there
+  leads_to-from_chain_of : (u t : ℕ) → Reaches (WaitsFor w) u t → leads_to w u t ≡ true
+  leads_to-from_chain_of u t (here e) = reaches_here (length w.threads) (waits_for w) u t e
+  leads_to-from_chain_of u t (hop {v = v} a r) =
+      within-from_reaches (length w.threads) (waits_for w) u t
+      (within u (length w.threads) (waiter_is_thread u a.mutex a.among)).1 below
+      (Reaches-map follows-from_WaitsFor (hop a r))
+
+module _ (l : Bounds) (h : List Entry) (r : List World) (w : World) (run : IsRun l h r w) where
+  -- after a run the bounded effective priority of each thread is the greatest over any chain
+  pub effective_is_greatest : (t : ℕ) → is_thread w t ≡ true → HasEffective w t (effective_of w t)
+  effective_is_greatest = effective_is_greatest_of (IsHeld-IsRun l run)
+
+  -- a chain that the bounded test finds after a run is there
+  pub chain-from_leads_to : (u t : ℕ) → leads_to w u t ≡ true → Reaches (WaitsFor w) u t
+  chain-from_leads_to = chain-from_leads_to_of (IsHeld-IsRun l run)
+
+  -- and it finds each that is there
+  pub leads_to-from_chain : (u t : ℕ) → Reaches (WaitsFor w) u t → leads_to w u t ≡ true
+  leads_to-from_chain = leads_to-from_chain_of (IsHeld-IsRun l run)

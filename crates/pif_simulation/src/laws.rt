@@ -1,8 +1,9 @@
 ghost use Rattle.std.specs.Prelude.{◌≡◌, ℕ, List, true};
 ghost use Rattle.pif_types.specs.Bounds.{Bounds};
 ghost use Rattle.pif_model.specs.declared.events.Entry.{Entry};
-ghost use Rattle.pif_model.specs.Graph.{has_waiter, next_waiter, IsNextWaiter};
-ghost use Rattle.pif_model.specs.Posix.{World, IsRun};
+ghost use Rattle.pif_model.specs.Graph.{has_waiter, next_waiter, IsNextWaiter, Reaches};
+ghost use Rattle.pif_model.specs.Posix.{World, IsRun, WaitsFor, is_thread, effective_of, leads_to};
+ghost use Rattle.pif_model.specs.Standing.{HasEffective};
 ghost use Rattle.pif_model.specs.History.{AlwaysOneHolder};
 ghost use Rattle.pif_model.specs.Table.{Table, line_at, has_thread};
 ghost use Rattle.pif_model.specs.Lines.{is_open, goes_on, ClosesOrWaits};
@@ -16,6 +17,20 @@ pub fn next_waiter_is_first_of_greatest()
 /// A law: in a history that a run of the POSIX machine gives, no mutex has two holders by the answers at any point.
 pub fn no_mutex_has_two_holders()
     ensures { (limits : Bounds) (history : List Entry) (states : List World) (last : World) → IsRun limits history states last → AlwaysOneHolder history }
+{}
+
+/// A law: in each state that a run of the POSIX machine reaches, the effective priority of a thread, which looks over as
+/// many hops as there are threads, is the greatest base priority of it and of all that wait for it through a chain of
+/// any length.
+pub fn effective_priority_is_greatest_over_any_chain()
+    ensures { (limits : Bounds) (history : List Entry) (states : List World) (last : World) → IsRun limits history states last → (t : ℕ) → is_thread last t ≡ true → HasEffective last t (effective_of last t) }
+{}
+
+/// A law: in each state that a run of the POSIX machine reaches, the test for a chain of waiting, which looks over as many
+/// hops as there are threads, finds one from a thread to another exactly where there is one, of any length.
+pub fn chain_is_found_where_there_is_one()
+    ensures found { (limits : Bounds) (history : List Entry) (states : List World) (last : World) → IsRun limits history states last → (u t : ℕ) → leads_to last u t ≡ true → Reaches (WaitsFor last) u t }
+    ensures finds { (limits : Bounds) (history : List Entry) (states : List World) (last : World) → IsRun limits history states last → (u t : ℕ) → Reaches (WaitsFor last) u t → leads_to last u t ≡ true }
 {}
 
 /// A law: of 24 steps of one thread with a call open, with nothing between them, one closes the call or waits.
