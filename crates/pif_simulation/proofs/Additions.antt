@@ -1,36 +1,17 @@
 -- The empty table, which is sound and shows the empty world; and lists with one more.
-use Rattle.std.proofs.Common.{◌≡◌, ◌≢◌, ◌⊎◌, inl, inr, eqb-true, ℕ, zero, suc, ◌<◌, ◌≤◌, ◌+◌, Bool, true, false, ◌==◌, nat_lt, List, [], ◌∷◌, ◌++◌, length, get_or, map, replicate, Option, Some, None, refl, sym, ap, ap₂, ◌∙◌, subst, arith, if◌then◌else◌, eq-eqb}
-use Rattle.std.proofs.lemmas.Bool.{cases_eq, cases_lt, true≢false}
+use Rattle.std.proofs.Common.{◌≡◌, ◌≢◌, ◌⊎◌, inl, inr, ℕ, zero, suc, ◌<◌, ◌≤◌, ◌+◌, true, false, ◌==◌, nat_lt, List, [], ◌∷◌, ◌++◌, length, get_or, replicate, None, refl, sym, ap, ◌∙◌, arith, if◌then◌else◌}
+use Rattle.std.proofs.lemmas.Bool.{cases_lt}
 use Rattle.std.proofs.lemmas.Bool.Decides.{nat_tests}
-use Rattle.std.proofs.lemmas.List.{length_push, get_or_append_left, get_or_push, get_or_past, get_or-replicate, length-replicate}
+use Rattle.std.proofs.lemmas.List.{length_push, get_or_append_left, get_or_past, get_or-replicate, length-replicate}
 use Rattle.pif_types.specs.Bounds.{Bounds, IsWithin}
-use Rattle.pif_types.specs.declared.requests.Kind.{Kind}
 use Rattle.pif_types.specs.declared.requests.Kind.TheVariants.{Normal}
-use Rattle.pif_model.specs.declared.events.Entry.TheVariants.{Thread as AddThread, Mutex as AddMutex}
-use Rattle.pif_model.specs.declared.lines.Line.{Line}
-use Rattle.pif_model.specs.declared.lines.Line.TheVariants.{Idle}
-use Rattle.pif_model.specs.declared.lines.Status.{Status}
-use Rattle.pif_model.specs.declared.lines.Status.TheVariants.{Ready, Queued}
-use Rattle.pif_model.specs.declared.lines.Woken.TheVariants.{Fresh as WokenFresh}
-use Rattle.pif_model.specs.Graph.{is_priority, has_waiter}
-use Rattle.pif_model.specs.Word.{Word, free_word, word_at}
-use Rattle.pif_model.specs.Posix.{Thread, Mutex, World, Step, empty_world, nobody, no_mutex, thread_at, mutex_at}
-use Rattle.pif_model.specs.Posix.Health.{Fine}
-use Rattle.pif_model.specs.Posix.Step.{thread_added as thread_rule, mutex_added as mutex_rule}
-use Rattle.pif_model.specs.PiKernel.{Kernel, IsKernel, Seat, no_seat, seat_at, state_at, is_ready, is_living, kernel_after_add}
-use Rattle.pif_model.specs.Table.{Table, Cell, new_table, new_mutex, has_thread, has_mutex, status_at, line_at, library_at, cell_at, has_thread_room, has_mutex_room, thread_added, mutex_added}
-use Rattle.pif_model.specs.Standing.{Shadow, no_shadow, call_at, health_of, health_at, thread_shown, mutex_shown, world_of, LineIsSound, IsQueuedLine, CellIsSound, ThreadIsSound, IsShaped, SoundBut, IsSound}
-use Rattle.pif_chains.proofs.Waiting.{by_test}
-use Rattle.pif_chains.proofs.Numbers.{above_0, below, from_within}
-use Rattle.pif_chains.proofs.KernelFacts.{state-from_waiter}
-use Rattle.pif_chains.proofs.KernelSettled.{priority-range}
+use Rattle.pif_model.specs.Word.{Word, free_word}
+use Rattle.pif_model.specs.Posix.{empty_world, nobody, no_mutex}
+use Rattle.pif_model.specs.Table.{new_table}
+use Rattle.pif_model.specs.Standing.{no_shadow, health_of, thread_shown, mutex_shown, world_of, IsShaped, IsSound}
+use Rattle.pif_chains.proofs.Numbers.{above_0, below}
 use Rattle.pif_chains.proofs.KernelKept.{new_kernel_kept}
-use Rattle.pif_chains.proofs.KernelKept.{add_kept}
-use Rattle.pif_simulation.proofs.Kept.{Spares, unwritten, line_spared, held_once}
-use Rattle.pif_simulation.proofs.Hole.{cell_spared, each_thread}
 use Rattle.pif_simulation.proofs.Shown.{threads_shown, mutexes_shown, thread_seen, mutex_seen, same_world}
-use Rattle.pif_simulation.proofs.Written.{mutex_of}
-use Rattle.pif_simulation.proofs.Steps.{Keeps, agrees_on}
 
 -- THE EMPTY TABLE
 

@@ -1,6 +1,6 @@
 -- How long a call goes on: each step that is answered Went leaves it at a place of lower rank, so of any 24 steps of one
 -- thread with nothing between one ends the call or waits. It holds of any table, sound or not.
-use Rattle.std.proofs.Common.{◌≡◌, ◌≢◌, ◌⊎◌, inl, inr, ◌<◌, ◌≤◌, ℕ, zero, suc, ◌+◌, ◌-◌, true, false, ◌==◌, nat_lt, List, length, Result, Ok, Err, Option, Some, None, refl, sym, ap, ◌∙◌, subst, if◌then◌else◌, arith}
+use Rattle.std.proofs.Common.{◌≡◌, ◌≢◌, ◌⊎◌, inl, inr, ◌<◌, ◌≤◌, ℕ, zero, suc, ◌+◌, ◌-◌, true, ◌==◌, nat_lt, length, Result, Ok, Err, Option, Some, None, refl, sym, ap, ◌∙◌, subst, if◌then◌else◌, arith}
 use Rattle.std.proofs.lemmas.Bool.{cases_lt, true≢false}
 use Rattle.std.proofs.lemmas.List.{get_or-set_same, get_or_past}
 use Rattle.pif_types.specs.declared.errors.Errno.{Errno}
@@ -20,7 +20,7 @@ use Rattle.pif_model.specs.declared.lines.Place.TheVariants.{LockLoad, LockExcha
 use Rattle.pif_model.specs.declared.lines.Took.{Took}
 use Rattle.pif_model.specs.declared.lines.Took.TheVariants.{Owns as TookOwns, Queued as TookQueued}
 use Rattle.pif_model.specs.Word.{Word, take_word, release_word}
-use Rattle.pif_model.specs.PiKernel.{is_ready, lock_answer, words_after_lock, kernel_after_lock, try_lock_answer, words_after_try_lock, unlock_answer, words_after_unlock, kernel_after_unlock, set_prio_answer, kernel_after_set_prio}
+use Rattle.pif_model.specs.PiKernel.{is_ready, lock_answer, words_after_lock, kernel_after_lock, try_lock_answer, unlock_answer, set_prio_answer}
 use Rattle.pif_model.specs.Table.{Table, cell_at, status_at, line_at, has_thread, with_line, with_word, with_count, with_kernel}
 use Rattle.pif_model.specs.Lines.{Outcome, goes_to, answers, locked_again, exchanged, own_exchange, lock_load, lock_by, lock_kernel, lock_queued, lock_stop, try_load, unlock_load, unlock_exchange, answered_by, busy_for_again, try_kernel, unlock_kernel, set_priority, line_of, go_outcome, is_open, table_refusal, accepted_outcome, by_refusal, event_outcome, goes_on, ClosesOrWaits}
 use Rattle.pif_chains.proofs.Waiting.{by_test}

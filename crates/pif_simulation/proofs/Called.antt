@@ -1,24 +1,21 @@
 -- A line that makes a kernel call by which, of all threads, only its own changes: it is queued on its mutex, or stopped.
 -- The table stays sound, and the POSIX machine sees the call go on.
-use Rattle.std.proofs.Common.{◌≡◌, ◌≢◌, ℕ, ◌<◌, Bool, true, false, ◌==◌, nat_lt, List, length, set, Option, Some, None, refl, sym, ap, ◌∙◌, subst, arith, if◌then◌else◌, ne_eqb}
-use Rattle.std.proofs.lemmas.List.{length-set, get_or-set_same, get_or-set_other, set-get_or}
+use Rattle.std.proofs.Common.{◌≡◌, ◌≢◌, ℕ, ◌<◌, true, false, ◌==◌, nat_lt, length, set, Some, refl, sym, ap, ◌∙◌, subst, if◌then◌else◌, ne_eqb}
+use Rattle.std.proofs.lemmas.List.{length-set, get_or-set_other, set-get_or}
 use Rattle.pif_types.specs.declared.requests.Request.{Request}
-use Rattle.pif_model.specs.declared.lines.Line.{Line}
-use Rattle.pif_model.specs.declared.lines.Line.TheVariants.{Idle, At}
+use Rattle.pif_model.specs.declared.lines.Line.TheVariants.{At}
 use Rattle.pif_model.specs.declared.lines.Place.{Place}
-use Rattle.pif_model.specs.declared.lines.Status.{Status}
 use Rattle.pif_model.specs.declared.lines.Status.TheVariants.{Queued, Stopped}
 use Rattle.pif_model.specs.Graph.{has_waiter}
-use Rattle.pif_model.specs.Word.{Word, free_word, word_at}
-use Rattle.pif_model.specs.Posix.{Progress, Thread, Mutex, World, no_mutex, named_by, thread_at, mutex_at, with_thread, with_mutex, with_progress, progressed}
-use Rattle.pif_model.specs.PiKernel.{Kernel, IsKernel, no_seat, seat_at, state_at, is_ready, is_living, kernel_after_queueing, kernel_after_stop}
-use Rattle.pif_model.specs.Table.{Table, Cell, has_thread, has_mutex, status_at, library_at, line_at, cell_at}
-use Rattle.pif_model.specs.Standing.{Shadow, MeetsAll, needs, belongs, call_at, progress_at, health_of, health_at, world_of, IsQueuedLine, LineIsSound, CallIsSound, CellIsSound, IsSound}
+use Rattle.pif_model.specs.Word.{Word, word_at}
+use Rattle.pif_model.specs.Posix.{Progress, no_mutex, named_by, thread_at, mutex_at, with_progress, progressed}
+use Rattle.pif_model.specs.PiKernel.{Kernel, IsKernel, no_seat, seat_at, is_living, kernel_after_queueing, kernel_after_stop}
+use Rattle.pif_model.specs.Table.{Table, has_thread, has_mutex, library_at, line_at}
+use Rattle.pif_model.specs.Standing.{Shadow, MeetsAll, needs, belongs, progress_at, health_of, health_at, world_of, IsQueuedLine, LineIsSound, CellIsSound, IsSound}
 use Rattle.pif_chains.proofs.Numbers.{above_0, below}
 use Rattle.pif_chains.proofs.Waiting.{has_waiter-push, or_false}
-use Rattle.pif_simulation.proofs.Kept.{Spares}
 use Rattle.pif_simulation.proofs.Hole.{Changes, change_kept, excuse_one, admit_last}
-use Rattle.pif_simulation.proofs.Shown.{thread_seen, mutex_seen}
+use Rattle.pif_simulation.proofs.Shown.{mutex_seen}
 use Rattle.pif_simulation.proofs.Written.{written, cell_written, mutex_of, IsCallOn, changes, cell_here, line_here, call_shown}
 use Rattle.pif_simulation.proofs.Steps.{Going, going_lined, going_called}
 use Rattle.pif_simulation.proofs.Local.{known_named}

@@ -1,5 +1,5 @@
 -- Effects on one call and its mutex, with no list and no world in them; that they are effects of the POSIX machine.
-use Rattle.std.proofs.Common.{◌≡◌, ◌≢◌, ℕ, ◌<◌, ◌+◌, ◌-◌, Bool, true, false, Option, Some, None, refl, sym, ap, ap₂, ◌∙◌, subst}
+use Rattle.std.proofs.Common.{◌≡◌, ◌≢◌, ℕ, ◌<◌, ◌+◌, ◌-◌, Bool, false, Some, refl, sym, ap, ap₂, ◌∙◌, subst}
 use Rattle.std.proofs.lemmas.List.{set-get_or}
 use Rattle.pif_types.specs.declared.requests.Kind.TheVariants.{ErrorCheck, Recursive}
 use Rattle.pif_types.specs.declared.requests.Request.{Request}
@@ -81,4 +81,3 @@ module _ (w : World) (t m : ℕ) {q : Request} {a b : Progress} {z : Mutex} (cal
   -- and so they are, seen of the mutex that stands there
   pub does_seen : {y : Mutex} → mutex_at w m ≡ y → Does t m (has_waiter w.waiters m) q a y b z → Effects t w (with_progress t b (with_mutex m z w))
   does_seen here d = does_here (subst (λ x. Does t m (has_waiter w.waiters m) q a x b z) (sym here) d)
-

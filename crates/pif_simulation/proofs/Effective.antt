@@ -1,13 +1,13 @@
 -- The kernel's waiting, effective priorities and next waiters are those of the POSIX machine.
-use Rattle.std.proofs.Common.{◌≡◌, ◌≢◌, ℕ, ◌<◌, ◌≤◌, Bool, true, false, ◌==◌, nat_lt, List, length, refl, sym, ap, ap₂, ◌∙◌, subst, arith, if◌then◌else◌, ◌⊎◌, inl, inr}
+use Rattle.std.proofs.Common.{◌≡◌, ◌≢◌, ℕ, ◌<◌, ◌≤◌, true, length, refl, sym, ap, ◌∙◌, if◌then◌else◌, ◌⊎◌, inl, inr}
 use Rattle.std.proofs.Math.Path.{fun_ext}
 use Rattle.std.proofs.lemmas.Bool.{cases_eq, cases_lt, true≢false}
 use Rattle.pif_model.specs.Graph.{reaches_within, waited_by, has_waiter, next_waiter}
-use Rattle.pif_model.specs.Posix.{Thread, Mutex, World, thread_at, mutex_at, waits_for, effective_of, next_of, leads_to}
-use Rattle.pif_model.specs.PiKernel.{seat_at, state_at, effective_in, next_in}
+use Rattle.pif_model.specs.Posix.{Thread, Mutex, waits_for, effective_of, next_of, leads_to}
+use Rattle.pif_model.specs.PiKernel.{state_at, effective_in, next_in}
 use Rattle.pif_model.specs.PiKernel.{waits_for as kernel_waits_for}
 use Rattle.pif_model.specs.Word.{Word, word_at}
-use Rattle.pif_model.specs.Table.{Table, cell_at, has_mutex}
+use Rattle.pif_model.specs.Table.{Table}
 use Rattle.pif_model.specs.Standing.{Shadow, world_of, IsSound}
 use Rattle.pif_chains.proofs.Waiting.{paired-from_waited, has_waiter-from_pair}
 use Rattle.pif_chains.proofs.Numbers.{from_within}

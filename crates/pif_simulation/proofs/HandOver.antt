@@ -1,6 +1,6 @@
 -- The kernel hands a mutex on to its next waiter, while the thread that gave it up goes to another line: the table stays
 -- sound, and the POSIX machine's mutex passes on.
-use Rattle.std.proofs.Common.{◌≡◌, ◌≢◌, ℕ, ◌<◌, ◌≤◌, Bool, true, false, ◌==◌, nat_lt, ◌⊎◌, inl, inr, List, length, get_or, set, Option, Some, None, refl, sym, ap, ap₂, ◌∙◌, subst, arith, if◌then◌else◌}
+use Rattle.std.proofs.Common.{◌≡◌, ◌≢◌, ℕ, ◌<◌, true, false, ◌==◌, nat_lt, ◌⊎◌, inl, inr, length, Option, Some, refl, sym, ap, ap₂, ◌∙◌, subst, arith, if◌then◌else◌}
 use Rattle.std.proofs.lemmas.Bool.{cases_eq, true≢false}
 use Rattle.std.proofs.lemmas.List.{length-set, get_or-set_same, get_or-set_other}
 use Rattle.pif_types.specs.declared.requests.Request.{Request}
@@ -13,12 +13,12 @@ use Rattle.pif_model.specs.declared.lines.Status.{Status}
 use Rattle.pif_model.specs.declared.lines.Status.TheVariants.{Ready, Queued, Stopped}
 use Rattle.pif_model.specs.declared.lines.Woken.TheVariants.{Owns as WokenOwns}
 use Rattle.pif_model.specs.Graph.{has_waiter, without}
-use Rattle.pif_model.specs.Word.{Word, hand_word, word_at}
-use Rattle.pif_model.specs.Posix.{Progress, Call, Thread, Mutex, World, nobody, no_mutex, named_by, thread_at, mutex_at, with_thread, with_mutex, with_progress, progressed, taken, on_taking}
-use Rattle.pif_model.specs.PiKernel.{Kernel, IsKernel, Seat, no_seat, seat_at, state_at, is_ready, is_living, next_in, kernel_after_hand_over}
+use Rattle.pif_model.specs.Word.{hand_word, word_at}
+use Rattle.pif_model.specs.Posix.{Progress, Call, Thread, Mutex, World, nobody, no_mutex, named_by, thread_at, mutex_at, with_thread, with_progress, progressed, taken, on_taking}
+use Rattle.pif_model.specs.PiKernel.{Kernel, Seat, no_seat, seat_at, state_at, is_ready, is_living, next_in, kernel_after_hand_over}
 use Rattle.pif_model.specs.Table.{Table, Cell, has_thread, has_mutex, status_at, line_at, library_at, cell_at}
-use Rattle.pif_model.specs.Standing.{Shadow, call_at, health_of, health_at, thread_shown, mutex_shown, world_of, MeetsAll, needs, waited_in, CallIsSound, LineIsSound, IsQueuedLine, CellIsSound, ThreadIsSound, SoundBut, IsSound}
-use Rattle.pif_chains.proofs.Waiting.{by_test, has_waiter-without_other}
+use Rattle.pif_model.specs.Standing.{Shadow, call_at, health_of, health_at, thread_shown, world_of, MeetsAll, needs, waited_in, LineIsSound, IsQueuedLine, CellIsSound, ThreadIsSound, IsSound}
+use Rattle.pif_chains.proofs.Waiting.{has_waiter-without_other}
 use Rattle.pif_chains.proofs.Numbers.{above_0, below}
 use Rattle.pif_chains.proofs.KernelFacts.{next-queued, next-added, next-waited, next-some}
 use Rattle.pif_chains.proofs.KernelKept.{hand_over_kept}
@@ -26,7 +26,7 @@ use Rattle.pif_simulation.proofs.Kept.{held_once}
 use Rattle.pif_simulation.proofs.Hole.{Changes, change_kept, excuse, admit, admit_last, each_thread}
 use Rattle.pif_simulation.proofs.Shown.{threads_shown, mutexes_shown, thread_seen, mutex_seen}
 use Rattle.pif_simulation.proofs.Written.{written, cell_written, mutex_of, IsCallOn, changes, cell_here, line_here, line_there, thread_here, thread_there, shows}
-use Rattle.pif_simulation.proofs.Steps.{Going, going_lined, going_called}
+use Rattle.pif_simulation.proofs.Steps.{Going, going_lined}
 use Rattle.pif_simulation.proofs.Local.{KnowsAfter, known_named, ready-not_queued, going_cell}
 
 -- a call that waits for a mutex names it

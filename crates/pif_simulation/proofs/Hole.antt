@@ -1,10 +1,7 @@
 -- The invariant with a hole: one change of a table, of one mutex and of excused threads, keeps it save for these. Every
 -- step of the table is such a change, after which the excused threads are admitted again.
-use Rattle.std.proofs.Common.{◌≡◌, ◌≢◌, ℕ, ◌<◌, ◌≤◌, ◌+◌, Bool, true, false, ◌==◌, nat_lt, List, [], ◌∷◌, length, get_or, set, refl, sym, ap, ◌∙◌, subst, arith, if◌then◌else◌, ◌⊎◌, inl, inr}
+use Rattle.std.proofs.Common.{◌≡◌, ◌≢◌, ℕ, Bool, true, refl, sym, ap, ◌∙◌, subst, ◌⊎◌, inl, inr}
 use Rattle.std.proofs.lemmas.Bool.{cases_eq}
-use Rattle.pif_model.specs.declared.lines.Line.{Line}
-use Rattle.pif_model.specs.declared.lines.Status.{Status}
-use Rattle.pif_model.specs.declared.lines.Status.TheVariants.{Queued}
 use Rattle.pif_model.specs.Graph.{has_waiter}
 use Rattle.pif_model.specs.PiKernel.{is_living}
 use Rattle.pif_model.specs.Table.{Table, Cell, has_thread, has_mutex, status_at, line_at, cell_at}
@@ -61,14 +58,14 @@ module _ {Excused : ℕ → Type 0} {s v : Table} {m : ℕ} (h : SoundBut Excuse
     shape = c.shape;
     mutexes = λ n e. each_cell n e (cases_eq n m);
     threads = λ u e out. (
-      let k : has_thread s u ≡ true = sym (c.threads u) ∙ e in
-      let b = h.threads u k out in
-      record {
-        line = subst (LineIsSound v u) (sym (c.line u k out))
-            (line_spared s v u (c.status u k out) (λ n i. (c.mutexes n ∙ i, each_spares u k out n (cases_eq n m))) (line_at s u) b.line);
-        queue = λ n q. subst (IsQueuedLine n) (sym (c.line u k out)) (b.queue n (sym (c.status u k out) ∙ q));
-      }
-    );
+        let k : has_thread s u ≡ true = sym (c.threads u) ∙ e in
+        let b = h.threads u k out in
+        record {
+          line = subst (LineIsSound v u) (sym (c.line u k out))
+              (line_spared s v u (c.status u k out) (λ n i. (c.mutexes n ∙ i, each_spares u k out n (cases_eq n m))) (line_at s u) b.line);
+          queue = λ n q. subst (IsQueuedLine n) (sym (c.line u k out)) (b.queue n (sym (c.status u k out) ∙ q));
+        }
+        );
   }
 
 -- more threads may be excused

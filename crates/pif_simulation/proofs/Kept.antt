@@ -9,10 +9,9 @@ use Rattle.pif_model.specs.declared.lines.Line.TheVariants.{Idle, At}
 use Rattle.pif_model.specs.declared.lines.Place.{Place}
 use Rattle.pif_model.specs.declared.lines.Place.TheVariants.{SetPriority}
 use Rattle.pif_model.specs.declared.lines.Status.{Status}
-use Rattle.pif_model.specs.Posix.{named_by, names_known}
 use Rattle.pif_model.specs.PiKernel.{is_ready, is_living}
 use Rattle.pif_model.specs.Table.{Table, Cell, has_mutex, status_at, cell_at}
-use Rattle.pif_model.specs.Standing.{Need, Meets, MeetsAll, MayStopFor, needs, belongs, CallIsSound, LineIsSound, CountIsSound}
+use Rattle.pif_model.specs.Standing.{Need, Meets, MeetsAll, needs, belongs, CallIsSound, LineIsSound, CountIsSound}
 use Rattle.pif_model.specs.Standing.Need.{MayRun, HasStopped, NotStopped, Owns, OwnsNot, OwnsOnceReady, HoldsOnce, MayStop}
 use Rattle.pif_model.specs.Standing.MayStopFor.{own_normal, lost}
 

@@ -1,15 +1,13 @@
 -- A thread that may run goes to another line, and nothing else changes.
-use Rattle.std.proofs.Common.{◌≡◌, ◌≢◌, ℕ, ◌<◌, ◌⊎◌, inl, inr, true, false, length, set, Option, Some, None, refl, sym, ap, ◌∙◌, subst}
+use Rattle.std.proofs.Common.{◌≡◌, ◌≢◌, ℕ, ◌<◌, true, length, Option, refl, sym, ap, ◌∙◌, subst}
 use Rattle.std.proofs.lemmas.Bool.{true≢false}
 use Rattle.std.proofs.lemmas.List.{set-get_or}
-use Rattle.pif_types.specs.declared.requests.Request.{Request}
 use Rattle.pif_model.specs.declared.lines.Line.{Line}
-use Rattle.pif_model.specs.declared.lines.Line.TheVariants.{Idle, At}
 use Rattle.pif_model.specs.Word.{word_at}
-use Rattle.pif_model.specs.Posix.{Call, World, no_mutex, thread_at, with_thread, with_mutex}
+use Rattle.pif_model.specs.Posix.{Call, no_mutex, thread_at, with_thread, with_mutex}
 use Rattle.pif_model.specs.PiKernel.{is_ready, is_living}
-use Rattle.pif_model.specs.Table.{Table, has_thread, has_mutex, status_at, line_at, library_at, cell_at, with_line}
-use Rattle.pif_model.specs.Standing.{Shadow, call_at, health_at, world_of, CallIsSound, LineIsSound, IsShaped, IsSound}
+use Rattle.pif_model.specs.Table.{Table, has_thread, status_at, library_at, cell_at, with_line}
+use Rattle.pif_model.specs.Standing.{Shadow, call_at, health_at, world_of, LineIsSound, IsShaped, IsSound}
 use Rattle.pif_chains.proofs.Numbers.{above_0, below}
 use Rattle.pif_simulation.proofs.Kept.{unwritten, line_spared}
 use Rattle.pif_simulation.proofs.Hole.{Changes, change_kept, excuse_one, admit_last}

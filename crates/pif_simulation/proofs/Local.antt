@@ -1,7 +1,7 @@
 -- Local lines: a step that writes one thread's line and one mutex, and makes no kernel call. What such a line has to show
 -- is of these two alone; one lemma makes it an entry of the POSIX machine that keeps the invariant.
-use Rattle.std.proofs.Common.{◌≡◌, ◌≢◌, ℕ, ◌<◌, Bool, true, false, ◌==◌, nat_lt, length, Option, Some, None, refl, sym, ap, ap₂, ◌∙◌, subst, if◌then◌else◌, true≢false}
-use Rattle.std.proofs.lemmas.List.{length-set, set-get_or}
+use Rattle.std.proofs.Common.{◌≡◌, ◌≢◌, ℕ, ◌<◌, Bool, true, length, Option, Some, None, refl, sym, ap, ◌∙◌, subst, true≢false}
+use Rattle.std.proofs.lemmas.List.{set-get_or}
 use Rattle.pif_types.specs.declared.requests.Request.{Request}
 use Rattle.pif_types.specs.declared.requests.Request.TheVariants.{Lock, TryLock, Unlock, SetPrio}
 use Rattle.pif_model.specs.declared.events.Event.TheVariants.{Go}
@@ -12,21 +12,21 @@ use Rattle.pif_model.specs.declared.lines.Line.{Line}
 use Rattle.pif_model.specs.declared.lines.Line.TheVariants.{Idle, At}
 use Rattle.pif_model.specs.declared.lines.Place.{Place}
 use Rattle.pif_model.specs.declared.lines.Status.{Status}
-use Rattle.pif_model.specs.declared.lines.Status.TheVariants.{Ready, Queued, Stopped}
+use Rattle.pif_model.specs.declared.lines.Status.TheVariants.{Queued}
 use Rattle.pif_model.specs.Graph.{has_waiter}
 use Rattle.pif_model.specs.Word.{Word, word_at}
-use Rattle.pif_model.specs.Posix.{Progress, Call, Thread, Mutex, World, Effect, Effects, no_mutex, nobody, named_by, names_known, thread_at, mutex_at, with_thread, with_mutex, with_progress, progressed}
+use Rattle.pif_model.specs.Posix.{Progress, Call, World, Effect, Effects, no_mutex, named_by, names_known, thread_at, with_thread, with_mutex, with_progress, progressed}
 use Rattle.pif_model.specs.Posix.Progress.{Has}
 use Rattle.pif_model.specs.Posix.Effects.{none, then as first}
 use Rattle.pif_model.specs.PiKernel.{is_ready, is_living}
 use Rattle.pif_model.specs.Table.{Table, Cell, has_thread, has_mutex, status_at, line_at, library_at, cell_at, with_line}
-use Rattle.pif_model.specs.Lines.{Outcome, goes_to, answers}
-use Rattle.pif_model.specs.Standing.{Shadow, MeetsAll, needs, belongs, call_at, progress_at, health_at, world_of, CallIsSound, LineIsSound, CellIsSound, ThreadIsSound, IsSound}
+use Rattle.pif_model.specs.Lines.{goes_to, answers}
+use Rattle.pif_model.specs.Standing.{Shadow, MeetsAll, needs, belongs, call_at, progress_at, health_at, world_of, LineIsSound, CellIsSound, IsSound}
 use Rattle.pif_chains.proofs.Numbers.{above_0, below}
 use Rattle.pif_simulation.proofs.Kept.{Spares, unwritten}
-use Rattle.pif_simulation.proofs.Hole.{Changes, change_kept, excuse_one, admit_last, each_thread}
-use Rattle.pif_simulation.proofs.Shown.{thread_seen, mutex_seen, closed, closed_progressed, call_progressed}
-use Rattle.pif_simulation.proofs.Written.{written, cell_written, mutex_of, no_call, changes, cell_here, line_here, call_shown, rewritten, shape_written, written_line}
+use Rattle.pif_simulation.proofs.Hole.{Changes, change_kept, excuse_one, admit_last}
+use Rattle.pif_simulation.proofs.Shown.{mutex_seen, closed_progressed, call_progressed}
+use Rattle.pif_simulation.proofs.Written.{written, cell_written, mutex_of, no_call, changes, cell_here, line_here, call_shown, written_line}
 use Rattle.pif_simulation.proofs.Does.{Does, does_seen}
 use Rattle.pif_simulation.proofs.Does.Does.{nothing}
 use Rattle.pif_simulation.proofs.Steps.{Keeps, GoKeeps, Going, going_called, going_below, going_lined, goes_with, answers_with}

@@ -1,27 +1,26 @@
 -- The lines of pthread_mutex_lock that make a kernel call: lock_pi, and stop.
-use Rattle.std.proofs.Common.{◌≡◌, ◌≢◌, ◌⊎◌, inl, inr, ℕ, ◌<◌, ◌≤◌, ◌+◌, Bool, true, false, ◌==◌, nat_lt, List, [], ◌∷◌, ◌++◌, length, Some, None, Result, Ok, Err, refl, sym, ap, ◌∙◌, subst, arith, if◌then◌else◌, eq-eqb, ne_eqb}
+use Rattle.std.proofs.Common.{◌≡◌, ◌≢◌, ◌⊎◌, inl, inr, ℕ, ◌<◌, Bool, true, false, [], ◌∷◌, ◌++◌, length, Result, Ok, Err, refl, sym, ap, ◌∙◌, subst, arith, if◌then◌else◌, eq-eqb, ne_eqb}
 use Rattle.std.proofs.lemmas.Bool.{cases_eq, true≢false}
 use Rattle.std.proofs.lemmas.List.{get_or-set_same, get_or-set_other}
 use Rattle.pif_types.specs.declared.errors.Errno.{Errno}
 use Rattle.pif_types.specs.declared.errors.Errno.TheVariants.{NoSuchThread, Deadlock}
 use Rattle.pif_types.specs.declared.requests.Request.TheVariants.{Lock}
 use Rattle.pif_model.specs.declared.events.Event.TheVariants.{Go}
-use Rattle.pif_model.specs.declared.events.Seen.TheVariants.{Went, Waits, Answered}
+use Rattle.pif_model.specs.declared.events.Seen.TheVariants.{Waits}
 use Rattle.pif_model.specs.declared.events.Entry.TheVariants.{Step as Happened}
-use Rattle.pif_model.specs.declared.lines.Line.TheVariants.{Idle, At}
+use Rattle.pif_model.specs.declared.lines.Line.TheVariants.{At}
 use Rattle.pif_model.specs.declared.lines.Place.TheVariants.{LockKernel, LockQueued, LockStop, LockStopped}
-use Rattle.pif_model.specs.declared.lines.Status.{Status}
-use Rattle.pif_model.specs.declared.lines.Status.TheVariants.{Ready, Queued, Stopped}
+use Rattle.pif_model.specs.declared.lines.Status.TheVariants.{Queued, Stopped}
 use Rattle.pif_model.specs.declared.lines.Took.{Took}
 use Rattle.pif_model.specs.declared.lines.Took.TheVariants.{Owns as TookOwns, Queued as TookQueued}
 use Rattle.pif_model.specs.Graph.{has_waiter, reaches_within}
-use Rattle.pif_model.specs.Word.{mark_word, taken_word, word_at, has_word, set_word}
-use Rattle.pif_model.specs.Posix.{Mutex, Thread, World, Effects, Locks, thread_at, mutex_at, is_lost, leads_to, with_progress}
-use Rattle.pif_model.specs.Posix.Progress.{Fresh, Waiting, Stuck, Has}
+use Rattle.pif_model.specs.Word.{mark_word, word_at, has_word, set_word}
+use Rattle.pif_model.specs.Posix.{Mutex, Locks, mutex_at, is_lost, leads_to, with_progress}
+use Rattle.pif_model.specs.Posix.Progress.{Waiting, Stuck, Has}
 use Rattle.pif_model.specs.Posix.Effects.{none, then as first}
 use Rattle.pif_model.specs.Posix.Locks.{own_normal, lost, cycle, joins}
 use Rattle.pif_model.specs.PiKernel.{no_seat, seat_at, state_at, is_ready, is_living, waits_for, lock_answer, words_after_lock, kernel_after_lock, kernel_after_queueing, kernel_after_stop}
-use Rattle.pif_model.specs.Table.{Table, cell_at, has_thread, has_mutex, status_at, library_at, with_kernel, with_line}
+use Rattle.pif_model.specs.Table.{Table, cell_at, has_thread, library_at, with_kernel, with_line}
 use Rattle.pif_model.specs.Lines.{Outcome, answers, lock_by, lock_kernel, lock_stop}
 use Rattle.pif_model.specs.Standing.{Shadow, CellIsSound, MayStopFor, progress_at, health_at, world_of}
 use Rattle.pif_model.specs.Standing.MayStopFor.{own_normal as stops_own, lost as stops_lost}
@@ -96,8 +95,12 @@ module _ (s : Table) (t m : ℕ) where
   -- what lock_pi answers where nobody owns m
   answer_free : (g : Going s t (Lock m) LockKernel) → (cell_at s m).word.number ≡ 0 → lock_answer t m s.words s.kernel ≡ Ok TookOwns
   unfolding lock_answer
-  answer_free g zero = rw (word_there g, ne_eqb (cell_at s m).word.number t (going_met g).1.0, eq-eqb (cell_at s m).word.number 0 zero,
-      eq-eqb (cell_at s m).state_owner 0 (state_from_none c (none_from_free c zero))) refl
+  answer_free g zero = rw (
+    word_there g,
+    ne_eqb (cell_at s m).word.number t (going_met g).1.0,
+    eq-eqb (cell_at s m).word.number 0 zero,
+    eq-eqb (cell_at s m).state_owner 0 (state_from_none c (none_from_free c zero)),
+  ) refl
     where
       c : CellIsSound (has_thread s) (has_waiter s.kernel.waiters m) (cell_at s m)
       c = going_cell g (going_named g)

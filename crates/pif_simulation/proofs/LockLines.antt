@@ -1,44 +1,31 @@
 -- The lines of pthread_mutex_lock: each step is an entry of the POSIX machine and keeps the invariant.
-use Rattle.std.proofs.Common.{◌≡◌, ◌≢◌, ◌⊎◌, inl, inr, ℕ, ◌<◌, ◌≤◌, Bool, true, false, ◌==◌, nat_lt, List, [], ◌∷◌, ◌++◌, length, Some, None, Result, Ok, Err, refl, sym, ap, ◌∙◌, subst, arith, if◌then◌else◌, eq-eqb, ne_eqb, eqb-true}
-use Rattle.std.proofs.lemmas.Bool.{eqb-false, cases_eq, true≢false}
-use Rattle.pif_types.specs.declared.errors.Errno.{Errno}
-use Rattle.pif_types.specs.declared.errors.Errno.TheVariants.{NoSuchThread, Deadlock}
+use Rattle.std.proofs.Common.{◌≡◌, ℕ, ◌==◌, Some, refl, sym, ap, ◌∙◌, if◌then◌else◌, eqb-true}
+use Rattle.std.proofs.lemmas.Bool.{eqb-false}
 use Rattle.pif_types.specs.declared.requests.Kind.{Kind}
 use Rattle.pif_types.specs.declared.requests.Kind.TheVariants.{Normal, ErrorCheck, Recursive}
 use Rattle.pif_types.specs.declared.requests.Request.TheVariants.{Lock}
-use Rattle.pif_model.specs.declared.events.Event.TheVariants.{Go}
-use Rattle.pif_model.specs.declared.events.Seen.TheVariants.{Went, Waits, Answered}
-use Rattle.pif_model.specs.declared.events.Entry.TheVariants.{Step as Happened}
-use Rattle.pif_model.specs.declared.lines.Line.TheVariants.{Idle, At}
+use Rattle.pif_model.specs.declared.events.Seen.TheVariants.{Waits}
 use Rattle.pif_model.specs.declared.lines.Place.{Place}
 use Rattle.pif_model.specs.declared.lines.Place.TheVariants.{LockLoad, LockExchange, LockKernel, LockQueued, LockStop, LockStopped}
 use Rattle.pif_model.specs.declared.lines.Status.{Status}
 use Rattle.pif_model.specs.declared.lines.Status.TheVariants.{Ready, Queued, Stopped}
-use Rattle.pif_model.specs.declared.lines.Took.{Took}
-use Rattle.pif_model.specs.declared.lines.Took.TheVariants.{Owns as TookOwns, Queued as TookQueued}
-use Rattle.pif_model.specs.Graph.{has_waiter, reaches_within}
-use Rattle.pif_model.specs.Word.{mark_word, taken_word, word_at, has_word}
-use Rattle.pif_model.specs.Posix.{Mutex, Thread, World, Effect, Effects, Locks, thread_at, mutex_at, is_lost, with_progress, with_thread, progressed, on_taking, leads_to}
-use Rattle.pif_model.specs.Posix.Health.{Fine}
-use Rattle.pif_model.specs.Posix.Progress.{Fresh, Waiting, Stuck, Has}
+use Rattle.pif_model.specs.Posix.{Mutex, World, Effect, Locks, mutex_at, on_taking}
+use Rattle.pif_model.specs.Posix.Progress.{Fresh}
 use Rattle.pif_model.specs.Posix.Effect.{lock}
-use Rattle.pif_model.specs.Posix.Effects.{none, then as first}
-use Rattle.pif_model.specs.Posix.Locks.{own_normal, lost, cycle, joins}
-use Rattle.pif_model.specs.PiKernel.{seat_at, state_at, is_ready, is_living, waits_for, lock_answer, wait_answer, words_after_lock, kernel_after_lock, kernel_after_queueing, kernel_after_stop}
-use Rattle.pif_model.specs.Table.{Table, cell_at, has_thread, has_mutex, status_at, with_kernel, with_line}
-use Rattle.pif_model.specs.Lines.{Outcome, goes_to, answers, locked_again, own_exchange, lock_load, lock_by, lock_kernel, lock_queued, lock_stop}
-use Rattle.pif_model.specs.Standing.{Shadow, CellIsSound, MayStopFor, MeetsAll, needs, progress_at, health_at, world_of}
-use Rattle.pif_model.specs.Standing.MayStopFor.{own_normal as stops_own, lost as stops_lost}
+use Rattle.pif_model.specs.Posix.Effects.{none}
+use Rattle.pif_model.specs.PiKernel.{is_ready}
+use Rattle.pif_model.specs.Table.{Table, cell_at, status_at}
+use Rattle.pif_model.specs.Lines.{goes_to, answers, locked_again, own_exchange, lock_load, lock_queued}
+use Rattle.pif_model.specs.Standing.{Shadow, progress_at, health_at, world_of}
+use Rattle.pif_model.specs.Standing.MayStopFor.{own_normal as stops_own}
 use Rattle.pif_chains.proofs.Waiting.{by_test}
-use Rattle.pif_chains.proofs.Numbers.{above_0, below, from_within}
-use Rattle.pif_simulation.proofs.Shown.{thread_seen, mutex_seen}
-use Rattle.pif_simulation.proofs.Steps.{Keeps, GoKeeps, Going, going_named, going_met, going_called, waits_with}
+use Rattle.pif_simulation.proofs.Shown.{mutex_seen}
+use Rattle.pif_simulation.proofs.Steps.{GoKeeps, Going, going_named, going_met, going_called, waits_with}
 use Rattle.pif_simulation.proofs.Does.IsLocking.{by_lock}
 use Rattle.pif_simulation.proofs.Does.Does.{nothing, locks_own_errorcheck}
-use Rattle.pif_simulation.proofs.Local.{going_cell, goes, answers_local, answers_alone}
-use Rattle.pif_simulation.proofs.Owning.{none_from_free, state_from_none, state_agrees, in_order}
-use Rattle.pif_simulation.proofs.TakingLines.{kernel_takes, own_exchange_kept, locked_again_kept}
-use Rattle.pif_simulation.proofs.Effective.{leads_seen}
+use Rattle.pif_simulation.proofs.Local.{going_cell, goes, answers_local}
+use Rattle.pif_simulation.proofs.Owning.{in_order}
+use Rattle.pif_simulation.proofs.TakingLines.{own_exchange_kept, locked_again_kept}
 
 module _ {s : Table} {t m : ℕ} where
   -- a lock that has had no effect yet is locking by this rule

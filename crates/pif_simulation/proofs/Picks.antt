@@ -1,16 +1,16 @@
 -- What standing tells a caller: the kernel's pick runs next, an effective priority is the subject's, and a mutex's word is
 -- one of those that its state allows.
-use Rattle.std.proofs.Common.{◌≡◌, ◌≢◌, ◌⊎◌, inl, inr, ℕ, ◌≤◌, Bool, true, false, ◌==◌, nat_lt, refl, sym, ap, ◌∙◌, subst, if◌then◌else◌}
+use Rattle.std.proofs.Common.{◌≡◌, ◌≢◌, ℕ, ◌≤◌, true, false, refl, sym, ap, ◌∙◌, subst}
 use Rattle.std.proofs.lemmas.Bool.{true≢false}
-use Rattle.pif_model.specs.Word.{free_word, word_at}
+use Rattle.pif_model.specs.Word.{free_word}
 use Rattle.pif_model.specs.Graph.{has_waiter}
-use Rattle.pif_model.specs.Posix.{Mutex, World, mutex_at, is_living, rests, effective_of}
+use Rattle.pif_model.specs.Posix.{Mutex, mutex_at, rests, effective_of}
 use Rattle.pif_model.specs.Posix.Health.{Fine, Inconsistent}
-use Rattle.pif_model.specs.PiKernel.{is_ready, effective_in, pick_in}
+use Rattle.pif_model.specs.PiKernel.{is_ready, pick_in}
 use Rattle.pif_model.specs.Table.{Table, cell_at, has_thread, has_mutex, status_at}
 use Rattle.pif_model.specs.Standing.{Shadow, mutex_shown, world_of, health_of, CellIsSound, IsSound, IsPick, IsPossible}
 use Rattle.pif_chains.proofs.Waiting.{by_test}
-use Rattle.pif_chains.proofs.KernelPicks.{IsPicked, pick_law, pick_some}
+use Rattle.pif_chains.proofs.KernelPicks.{pick_law, pick_some}
 use Rattle.pif_simulation.proofs.Shown.{mutex_seen, living_seen}
 use Rattle.pif_simulation.proofs.Effective.{effective_seen}
 use Rattle.pif_simulation.proofs.Steps.{rests_ready, rests_not_ready}

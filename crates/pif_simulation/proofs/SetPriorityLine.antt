@@ -1,5 +1,5 @@
 -- The line of pthread_setschedprio: a thread's base priority changes, or the call is refused.
-use Rattle.std.proofs.Common.{◌≡◌, ◌≢◌, ◌⊎◌, inl, inr, ℕ, ◌<◌, Bool, true, false, ◌==◌, nat_lt, length, set, Option, Some, None, Result, Ok, Err, refl, sym, ap, ◌∙◌, subst, if◌then◌else◌}
+use Rattle.std.proofs.Common.{◌≡◌, ◌≢◌, ◌⊎◌, inl, inr, ℕ, ◌<◌, true, false, ◌==◌, nat_lt, length, None, Result, Ok, Err, refl, sym, ap, ◌∙◌, subst, if◌then◌else◌}
 use Rattle.std.proofs.lemmas.Bool.{cases_eq, true≢false}
 use Rattle.std.proofs.lemmas.List.{length-set, get_or-set_same, get_or-set_other, set-get_or}
 use Rattle.pif_types.specs.declared.errors.Errno.{Errno}
@@ -11,21 +11,20 @@ use Rattle.pif_model.specs.declared.events.Entry.TheVariants.{Step as Happened}
 use Rattle.pif_model.specs.declared.lines.Line.TheVariants.{Idle}
 use Rattle.pif_model.specs.declared.lines.Place.TheVariants.{SetPriority}
 use Rattle.pif_model.specs.Graph.{is_priority}
-use Rattle.pif_model.specs.Word.{free_word, word_at}
-use Rattle.pif_model.specs.Posix.{Thread, World, SetsPriority, nobody, no_mutex, thread_at, with_thread, with_mutex, with_base, with_progress, progressed}
-use Rattle.pif_model.specs.Posix.{is_living as lives}
+use Rattle.pif_model.specs.Word.{word_at}
+use Rattle.pif_model.specs.Posix.{Thread, World, SetsPriority, nobody, no_mutex, thread_at, with_thread, with_mutex, with_base, with_progress}
 use Rattle.pif_model.specs.Posix.Effect.{set_prio}
 use Rattle.pif_model.specs.Posix.Effects.{none, then as first}
 use Rattle.pif_model.specs.Posix.Progress.{Has}
 use Rattle.pif_model.specs.Posix.SetsPriority.{no_priority, not_living, changed}
 use Rattle.pif_model.specs.PiKernel.{Kernel, IsKernel, Seat, no_seat, seat_at, is_ready, is_living, set_prio_answer, kernel_after_set_prio}
-use Rattle.pif_model.specs.Table.{Table, has_thread, has_mutex, status_at, line_at, library_at, cell_at, with_kernel, with_line}
+use Rattle.pif_model.specs.Table.{Table, has_thread, status_at, line_at, library_at, cell_at, with_kernel}
 use Rattle.pif_model.specs.Lines.{Outcome, answers, answered_by, set_priority}
 use Rattle.pif_model.specs.Standing.{Shadow, call_at, health_at, thread_shown, world_of, LineIsSound, IsSound}
 use Rattle.pif_chains.proofs.Waiting.{by_test}
 use Rattle.pif_chains.proofs.Numbers.{above_0, below}
 use Rattle.pif_chains.proofs.KernelKept.{set_prio_kept}
-use Rattle.pif_simulation.proofs.Hole.{Changes, change_kept, excuse_one, admit_last}
+use Rattle.pif_simulation.proofs.Hole.{change_kept, excuse_one, admit_last}
 use Rattle.pif_simulation.proofs.Shown.{threads_shown, mutexes_shown, thread_seen, mutex_seen, living_seen, closed, closed_progressed, call_progressed}
 use Rattle.pif_simulation.proofs.Written.{written, written_line, mutex_of, IsCallOn, changes, no_call, line_here, call_shown, thread_here, thread_there, shows}
 use Rattle.pif_simulation.proofs.Steps.{Keeps, GoKeeps, Going, going_met, going_called, going_lined, going_below, answers_with}

@@ -1,5 +1,5 @@
 -- Each step of the table machine is one entry of the POSIX machine, and keeps the invariant.
-use Rattle.std.proofs.Common.{◌≡◌, ℕ, true, false, Option, Some, None, set, refl, sym, ap, ◌∙◌, subst}
+use Rattle.std.proofs.Common.{◌≡◌, ℕ, true, false, Option, Some, None, refl, sym, ◌∙◌, subst}
 use Rattle.std.proofs.lemmas.Bool.{true≢false}
 use Rattle.pif_types.specs.declared.errors.Refusal.{Refusal}
 use Rattle.pif_types.specs.declared.requests.Request.{Request}
@@ -13,19 +13,15 @@ use Rattle.pif_model.specs.declared.lines.Line.TheVariants.{Idle, At}
 use Rattle.pif_model.specs.declared.lines.Place.{Place}
 use Rattle.pif_model.specs.declared.lines.Place.TheVariants.{LockLoad, LockExchange, LockKernel, LockQueued, LockStop, LockStopped, TryLoad, TryExchange, TryKernel, UnlockLoad, UnlockExchange, UnlockKernel, SetPriority}
 use Rattle.pif_model.specs.declared.lines.Status.{Status}
-use Rattle.pif_model.specs.Word.{word_at}
-use Rattle.pif_model.specs.Posix.{Health, Thread, Step, World, begun_progress, mutex_at, thread_at, with_thread, names_known, named_by}
+use Rattle.pif_model.specs.Posix.{Health, World, begun_progress, names_known}
 use Rattle.pif_model.specs.Posix.Step.{refused, begun}
-use Rattle.pif_model.specs.PiKernel.{is_ready, is_living, seat_at}
-use Rattle.pif_model.specs.Table.{Table, has_thread, has_mutex, status_at, line_at, library_at, cell_at, with_line}
+use Rattle.pif_model.specs.PiKernel.{is_ready}
+use Rattle.pif_model.specs.Table.{Table, has_thread, has_mutex, status_at, line_at, with_line}
 use Rattle.pif_model.specs.Lines.{is_open, first_place, table_refusal, line_of, go_outcome, accepted_outcome, by_refusal, event_outcome}
-use Rattle.pif_model.specs.Standing.{Shadow, no_shadow, Agrees, belongs, call_at, health_at, world_of, LineIsSound, IsSound}
-use Rattle.pif_chains.proofs.Numbers.{above_0, below}
-use Rattle.pif_simulation.proofs.Kept.{unwritten}
-use Rattle.pif_simulation.proofs.Hole.{change_kept, excuse_one, admit_last, each_thread}
-use Rattle.pif_simulation.proofs.Shown.{thread_seen, go_allowed, begin_allowed, refusal_seen}
+use Rattle.pif_model.specs.Standing.{belongs, call_at, health_at, world_of, LineIsSound, IsSound}
+use Rattle.pif_simulation.proofs.Hole.{each_thread}
+use Rattle.pif_simulation.proofs.Shown.{go_allowed, begin_allowed, refusal_seen}
 use Rattle.pif_simulation.proofs.Steps.{Keeps, GoKeeps, Going, going_knows, agrees_on}
-use Rattle.pif_simulation.proofs.Local.{ready-not_queued}
 use Rattle.pif_simulation.proofs.Lined.{lined_sound, lined_shown}
 use Rattle.pif_simulation.proofs.LockLines.{lock_load_kept, lock_exchange_kept, lock_queued_kept, lock_stopped_kept}
 use Rattle.pif_simulation.proofs.LockCalls.{lock_kernel_kept, lock_stop_kept}
@@ -63,8 +59,12 @@ begin_kept s t q h e =
     record {
       sound = sound;
       limits = refl;
-      shows = λ x b. (x, agrees_on s (with_line t (At q (first_place q)) s) x b, begun t q refl (refusal_seen h.all.shape x (Begin t q) ∙ e)
-          (lined_shown s t (At q (first_place q)) h a.0 x sound (Some (record { request = q; progress = begun_progress (world_of s x) q })) (begins_fresh (health_at s) (world_of s x) q (status_at s t))));
+      shows = λ x b. (
+        x,
+        agrees_on s (with_line t (At q (first_place q)) s) x b,
+        begun t q refl (refusal_seen h.all.shape x (Begin t q) ∙ e)
+            (lined_shown s t (At q (first_place q)) h a.0 x sound (Some (record { request = q; progress = begun_progress (world_of s x) q })) (begins_fresh (health_at s) (world_of s x) q (status_at s t))),
+      );
     }
 
 -- A CALL GOES ON

@@ -25,8 +25,7 @@ new_stands l within = record { shadow = no_shadow; agrees = record {}; shows = s
 after_entry : {s v : Table} {e : Entry} {h : List Entry} {r : List World} {w : World} → Stands s h r w → Keeps s e v
     → (u : World) × Stands v (e ∷ h) (w ∷ r) u
 after_entry {s} {v} {e} {h} {r} {w} k p =
-    let y = p.shows k.shadow k.agrees in
-    (
+    let y = p.shows k.shadow k.agrees in (
       world_of v y.0,
       record {
         shadow = y.0;

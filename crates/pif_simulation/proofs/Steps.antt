@@ -1,6 +1,5 @@
 -- One step of the table machine as one entry of the POSIX machine: what every line has to show.
-use Rattle.std.proofs.Common.{◌≡◌, ◌≢◌, ℕ, ◌<◌, Bool, true, false, ◌==◌, List, [], ◌∷◌, length, Some, None, refl, sym, ap, ap₂, ◌∙◌, subst, if◌then◌else◌, true≢false}
-use Rattle.std.specs.List.{list_any}
+use Rattle.std.proofs.Common.{◌≡◌, ℕ, ◌<◌, Bool, true, false, length, Some, None, refl, sym, ap, ap₂, ◌∙◌, subst, if◌then◌else◌, true≢false}
 use Rattle.pif_types.specs.declared.requests.Request.{Request}
 use Rattle.pif_model.specs.declared.events.Event.TheVariants.{Go}
 use Rattle.pif_model.specs.declared.events.Seen.TheVariants.{Went, Waits, Answered}
@@ -13,18 +12,18 @@ use Rattle.pif_model.specs.declared.lines.Place.TheVariants.{LockQueued, LockSto
 use Rattle.pif_model.specs.declared.lines.Status.{Status}
 use Rattle.pif_model.specs.declared.lines.Status.TheVariants.{Ready, Queued, Stopped}
 use Rattle.pif_model.specs.Refusals.{go_refused}
-use Rattle.pif_model.specs.Posix.{Health, Thread, World, Step, Goes, Effects, thread_at, refusal_of, named_by, names_known, rests, is_stuck}
+use Rattle.pif_model.specs.Posix.{Health, World, Step, Effects, thread_at, refusal_of, named_by, names_known, rests, is_stuck}
 use Rattle.pif_model.specs.Posix.Progress.{Has}
 use Rattle.pif_model.specs.Posix.Step.{went, waits, answered}
-use Rattle.pif_model.specs.PiKernel.{IsKernel, seat_at, has_seat, is_ready, is_living}
+use Rattle.pif_model.specs.PiKernel.{is_ready, is_living}
 use Rattle.pif_model.specs.Table.{Table, Cell, cell_at, has_thread, has_mutex, status_at, line_at}
 use Rattle.pif_model.specs.Lines.{Outcome, is_open}
-use Rattle.pif_model.specs.Standing.{Shadow, Agrees, call_at, progress_at, health_at, world_of, belongs, MeetsAll, needs, CallIsSound, LineIsSound, ThreadIsSound, CellIsSound, IsSound}
+use Rattle.pif_model.specs.Standing.{Shadow, Agrees, call_at, progress_at, health_at, world_of, MeetsAll, needs, CallIsSound, LineIsSound, IsSound}
 use Rattle.pif_chains.proofs.Waiting.{by_test, names, named-from_pair}
 use Rattle.pif_chains.proofs.KernelFacts.{unnamed-from_ready}
 use Rattle.pif_chains.proofs.Numbers.{below}
 use Rattle.pif_simulation.proofs.Hole.{each_thread}
-use Rattle.pif_simulation.proofs.Shown.{threads_shown, thread_seen, call_seen, refusal_seen, closed}
+use Rattle.pif_simulation.proofs.Shown.{threads_shown, call_seen, refusal_seen, closed}
 
 -- v follows s by this entry: it is sound, both have the same limits, and what they show, with a shadow that agrees with
 -- s and a next one that agrees with v, is a step of the POSIX machine

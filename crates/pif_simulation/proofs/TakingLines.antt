@@ -1,6 +1,6 @@
 -- What lock, trylock and unlock have in common: a free mutex is taken by its word or in the kernel, a mutex for which
 -- nobody waits is given up, and the owner of a RECURSIVE mutex holds it more or less often.
-use Rattle.std.proofs.Common.{◌≡◌, ◌≢◌, ◌<◌, ◌≤◌, ℕ, ◌+◌, ◌-◌, true, false, nat_lt, length, Option, Some, None, refl, sym, ap, ◌∙◌, subst, if◌then◌else◌, arith, ltb-true, ltb-false}
+use Rattle.std.proofs.Common.{◌≡◌, ◌≢◌, ◌<◌, ◌≤◌, ℕ, ◌+◌, ◌-◌, true, false, nat_lt, length, Some, None, refl, sym, ap, ◌∙◌, subst, if◌then◌else◌, arith, ltb-true, ltb-false}
 use Rattle.std.proofs.lemmas.Bool.{true≢false}
 use Rattle.pif_types.specs.declared.requests.Kind.TheVariants.{Recursive}
 use Rattle.pif_types.specs.declared.requests.Request.{Request}
@@ -17,7 +17,7 @@ use Rattle.pif_model.specs.Posix.Health.{Fine, Inconsistent}
 use Rattle.pif_model.specs.Posix.Progress.{Fresh, Has}
 use Rattle.pif_model.specs.PiKernel.{is_ready, is_living}
 use Rattle.pif_model.specs.Table.{Table, cell_at, has_thread, has_mutex, status_at, with_word, with_count}
-use Rattle.pif_model.specs.Lines.{goes_to, answers, exchanged, own_exchange, locked_again}
+use Rattle.pif_model.specs.Lines.{answers, exchanged, own_exchange, locked_again}
 use Rattle.pif_model.specs.Standing.{CellIsSound, CountIsSound, MeetsAll, needs, belongs, progress_at, health_at}
 use Rattle.pif_chains.proofs.Waiting.{by_test}
 use Rattle.pif_chains.proofs.Numbers.{above_0}
@@ -26,7 +26,7 @@ use Rattle.pif_simulation.proofs.Written.{mutex_of, written_word, written_count}
 use Rattle.pif_simulation.proofs.Steps.{Keeps, GoKeeps, Going}
 use Rattle.pif_simulation.proofs.Does.{Does, IsLocking}
 use Rattle.pif_simulation.proofs.Does.Does.{locks_free, locks_again, locks_at_limit, unlocks_one, unlocks_own}
-use Rattle.pif_simulation.proofs.Local.{Move, moved, cell_left, local_kept, going_cell, goes, answers_local}
+use Rattle.pif_simulation.proofs.Local.{local_kept, going_cell, goes, answers_local}
 use Rattle.pif_simulation.proofs.Owning.{bare, none_from_free, in_order, reworded, recounted, taken_seen, freed_seen}
 
 module _ {s : Table} {t : ℕ} {q : Request} {p : Place} (g : Going s t q p) (named : has_mutex s (named_by q) ≡ true)

@@ -1,5 +1,5 @@
 -- The lines of pthread_mutex_trylock: each step is an entry of the POSIX machine and keeps the invariant.
-use Rattle.std.proofs.Common.{◌≡◌, ◌≢◌, ◌⊎◌, inl, inr, ℕ, ◌<◌, ◌≤◌, ◌+◌, Bool, true, false, ◌==◌, nat_lt, length, Result, Ok, Err, refl, sym, ◌∙◌, subst, arith, if◌then◌else◌, eq-eqb, ne_eqb, eqb-true}
+use Rattle.std.proofs.Common.{◌≡◌, ◌≢◌, ◌⊎◌, inl, inr, ℕ, true, ◌==◌, length, Result, Ok, Err, refl, sym, ◌∙◌, subst, arith, if◌then◌else◌, eq-eqb, ne_eqb, eqb-true}
 use Rattle.std.proofs.lemmas.Bool.{eqb-false, cases_eq}
 use Rattle.pif_types.specs.declared.errors.Errno.{Errno}
 use Rattle.pif_types.specs.declared.errors.Errno.TheVariants.{Again}
@@ -10,7 +10,7 @@ use Rattle.pif_model.specs.declared.lines.Place.TheVariants.{TryLoad, TryExchang
 use Rattle.pif_model.specs.Graph.{has_waiter}
 use Rattle.pif_model.specs.Word.{has_word}
 use Rattle.pif_model.specs.PiKernel.{try_lock_answer, words_after_try_lock}
-use Rattle.pif_model.specs.Table.{Table, cell_at, has_thread, has_mutex, with_kernel}
+use Rattle.pif_model.specs.Table.{Table, cell_at, has_thread, with_kernel}
 use Rattle.pif_model.specs.Lines.{Outcome, goes_to, answers, own_exchange, locked_again, try_load, answered_by, busy_for_again, try_kernel}
 use Rattle.pif_model.specs.Standing.{CellIsSound}
 use Rattle.pif_chains.proofs.Waiting.{by_test}
@@ -58,8 +58,12 @@ module _ (s : Table) (t m : ℕ) where
   -- what trylock_pi answers where nobody owns m
   answer_free : (g : Going s t (TryLock m) TryKernel) → (cell_at s m).word.number ≡ 0 → try_lock_answer t m s.words s.kernel ≡ Ok (record {})
   unfolding try_lock_answer
-  answer_free g zero = rw (word_there g, ne_eqb (cell_at s m).word.number t (going_met g).1.0, eq-eqb (cell_at s m).word.number 0 zero,
-      eq-eqb (cell_at s m).state_owner 0 (state_from_none c (none_from_free c zero))) refl
+  answer_free g zero = rw (
+    word_there g,
+    ne_eqb (cell_at s m).word.number t (going_met g).1.0,
+    eq-eqb (cell_at s m).word.number 0 zero,
+    eq-eqb (cell_at s m).state_owner 0 (state_from_none c (none_from_free c zero)),
+  ) refl
     where
       c : CellIsSound (has_thread s) (has_waiter s.kernel.waiters m) (cell_at s m)
       c = going_cell g (going_named g)

@@ -1,32 +1,29 @@
 -- The lines of pthread_mutex_unlock: each step is an entry of the POSIX machine and keeps the invariant.
-use Rattle.std.proofs.Common.{◌≡◌, ◌≢◌, ◌⊎◌, inl, inr, ℕ, ◌<◌, ◌≤◌, ◌+◌, ◌-◌, Bool, true, false, ◌==◌, nat_lt, length, set, Option, Some, None, Result, Ok, Err, refl, sym, ap, ◌∙◌, subst, arith, if◌then◌else◌, eq-eqb, ne_eqb, eqb-true, ltb-true, ltb-false}
-use Rattle.std.proofs.lemmas.Bool.{eqb-false, cases_eq}
-use Rattle.pif_types.specs.declared.errors.Errno.{Errno}
+use Rattle.std.proofs.Common.{◌≡◌, ◌≢◌, ℕ, ◌≤◌, ◌-◌, true, ◌==◌, nat_lt, length, Some, None, Ok, refl, sym, ap, ◌∙◌, subst, arith, if◌then◌else◌, eq-eqb, eqb-true, ltb-true, ltb-false}
+use Rattle.std.proofs.lemmas.Bool.{eqb-false}
 use Rattle.pif_types.specs.declared.requests.Request.TheVariants.{Unlock}
 use Rattle.pif_model.specs.declared.events.Event.TheVariants.{Go}
 use Rattle.pif_model.specs.declared.events.Seen.TheVariants.{Answered}
 use Rattle.pif_model.specs.declared.events.Entry.TheVariants.{Step as Happened}
 use Rattle.pif_model.specs.declared.lines.Line.TheVariants.{Idle}
-use Rattle.pif_model.specs.declared.lines.Place.{Place}
 use Rattle.pif_model.specs.declared.lines.Place.TheVariants.{UnlockLoad, UnlockExchange, UnlockKernel}
-use Rattle.pif_model.specs.Graph.{has_waiter, without}
-use Rattle.pif_model.specs.Word.{free_word, hand_word, is_bare, has_word, set_word, word_at}
-use Rattle.pif_model.specs.Posix.{Mutex, Thread, World, Unlocks, Passes, thread_at, mutex_at, next_of, with_progress, progressed}
+use Rattle.pif_model.specs.Word.{free_word, hand_word, is_bare, has_word, set_word}
+use Rattle.pif_model.specs.Posix.{Mutex, Thread, mutex_at, progressed}
 use Rattle.pif_model.specs.Posix.Health.{Fine, Inconsistent}
-use Rattle.pif_model.specs.Posix.Progress.{Fresh, Has}
+use Rattle.pif_model.specs.Posix.Progress.{Has}
 use Rattle.pif_model.specs.Posix.Effect.{unlock}
 use Rattle.pif_model.specs.Posix.Effects.{none, then as first}
 use Rattle.pif_model.specs.Posix.Unlocks.{released}
 use Rattle.pif_model.specs.Posix.Passes.{to_next}
 use Rattle.pif_model.specs.PiKernel.{state_at, next_in, unlock_answer, words_after_unlock, kernel_after_unlock, kernel_after_hand_over}
-use Rattle.pif_model.specs.Table.{Table, cell_at, library_at, has_thread, has_mutex, with_word, with_count, with_kernel, with_line}
-use Rattle.pif_model.specs.Lines.{Outcome, goes_to, answers, exchanged, unlock_load, unlock_exchange, answered_by, unlock_kernel}
-use Rattle.pif_model.specs.Standing.{Shadow, CellIsSound, health_of, world_of}
+use Rattle.pif_model.specs.Table.{Table, cell_at, with_count, with_kernel}
+use Rattle.pif_model.specs.Lines.{goes_to, answers, exchanged, unlock_load, unlock_exchange, answered_by, unlock_kernel}
+use Rattle.pif_model.specs.Standing.{Shadow, world_of}
 use Rattle.pif_chains.proofs.Waiting.{by_test}
 use Rattle.pif_chains.proofs.Numbers.{above_0, below, from_within}
 use Rattle.pif_chains.proofs.KernelFacts.{next-some}
-use Rattle.pif_simulation.proofs.Shown.{mutex_seen, thread_seen}
-use Rattle.pif_simulation.proofs.Written.{written, written_word}
+use Rattle.pif_simulation.proofs.Shown.{mutex_seen}
+use Rattle.pif_simulation.proofs.Written.{written_word}
 use Rattle.pif_simulation.proofs.Steps.{Keeps, GoKeeps, Going, going_named, going_met, going_called, answers_with}
 use Rattle.pif_simulation.proofs.Does.Does.{unlocks_not_own}
 use Rattle.pif_simulation.proofs.Local.{going_cell, goes, answers_local}
@@ -34,7 +31,7 @@ use Rattle.pif_simulation.proofs.Owning.{bare, none_from_flag, none_from_state, 
 use Rattle.pif_simulation.proofs.TakingLines.{gives_up, unlocks_one_kept}
 use Rattle.pif_simulation.proofs.Effective.{next_seen}
 use Rattle.pif_simulation.proofs.Progressed.{next-with_progress}
-use Rattle.pif_simulation.proofs.HandOver.{GivesUp, handed, passed, given, giver_passed, handed_sound, handed_known, handed_ready, handed_shown}
+use Rattle.pif_simulation.proofs.HandOver.{GivesUp, handed, passed, giver_passed, handed_sound, handed_known, handed_ready, handed_shown}
 
 -- a health is one
 fine : Fine ≡ Inconsistent → ⊥

@@ -1,18 +1,17 @@
 -- What a line writes: its thread's line, one mutex, and the kernel. What it has to show of them for the invariant, and
 -- what the POSIX machine sees of it.
-use Rattle.std.proofs.Common.{◌≡◌, ◌≢◌, ℕ, ◌<◌, ◌≤◌, ◌+◌, Bool, true, false, ◌==◌, nat_lt, List, length, get_or, set, Option, Some, None, refl, sym, ap, ap₂, ◌∙◌, subst, arith, if◌then◌else◌, ◌⊎◌, inl, inr}
+use Rattle.std.proofs.Common.{◌≡◌, ◌≢◌, ℕ, ◌<◌, ◌≤◌, ◌+◌, true, false, ◌==◌, nat_lt, length, set, Option, refl, sym, ap, ◌∙◌, subst, arith, if◌then◌else◌, ◌⊎◌, inl, inr}
 use Rattle.std.proofs.lemmas.Bool.{cases_eq}
 use Rattle.std.proofs.lemmas.List.{length-set, get_or-set_same, get_or-set_other, set-get_or}
 use Rattle.pif_types.specs.declared.requests.Kind.TheVariants.{Normal}
 use Rattle.pif_model.specs.declared.lines.Line.{Line}
 use Rattle.pif_model.specs.declared.lines.Line.TheVariants.{Idle}
-use Rattle.pif_model.specs.declared.lines.Status.{Status}
 use Rattle.pif_model.specs.Graph.{has_waiter}
 use Rattle.pif_model.specs.Word.{Word, free_word, word_at, set_word}
 use Rattle.pif_model.specs.Posix.{Thread, Mutex, World, Call, thread_at, mutex_at, with_thread, with_mutex, nobody, no_mutex}
-use Rattle.pif_model.specs.PiKernel.{Kernel, Seat, IsKernel, seat_at, state_at, is_living}
-use Rattle.pif_model.specs.Table.{Table, Cell, LibraryMutex, new_mutex, has_thread, has_mutex, status_at, line_at, library_at, cell_at, with_line}
-use Rattle.pif_model.specs.Standing.{Shadow, call_at, health_of, health_at, thread_shown, mutex_shown, world_of, CellIsSound, IsShaped, SoundBut, IsSound}
+use Rattle.pif_model.specs.PiKernel.{Kernel, seat_at, state_at, is_living}
+use Rattle.pif_model.specs.Table.{Table, Cell, new_mutex, has_thread, has_mutex, line_at, library_at, cell_at}
+use Rattle.pif_model.specs.Standing.{Shadow, call_at, health_of, health_at, thread_shown, mutex_shown, world_of, CellIsSound, IsShaped}
 use Rattle.pif_simulation.proofs.Kept.{Spares}
 use Rattle.pif_simulation.proofs.Hole.{Changes}
 use Rattle.pif_simulation.proofs.Shown.{threads_shown, mutexes_shown, thread_seen, mutex_seen, same_world}
@@ -122,10 +121,10 @@ module _ (s : Table) (t m : ℕ) (l : Line) (x : Word) (n : ℕ) (k : Kernel) (t
     words = length-set s.words.mutexes m x ∙ shape.words;
     no_word = first_word (cases_eq 0 m) ∙ shape.no_word;
     unmade = λ j e. (
-      let far : length s.mutexes ≤ j = subst (λ a. a ≤ j) (length-set s.mutexes m _) e in
-      let d : j ≢ m = (λ q. omega (arith, q, far, ml)) in
-      (get_or-set_other s.words.mutexes m j x free_word d ∙ (shape.unmade j far).0, c.waited j d ∙ (shape.unmade j far).1)
-    );
+        let far : length s.mutexes ≤ j = subst (λ a. a ≤ j) (length-set s.mutexes m _) e in
+        let d : j ≢ m = (λ q. omega (arith, q, far, ml)) in
+        (get_or-set_other s.words.mutexes m j x free_word d ∙ (shape.unmade j far).0, c.waited j d ∙ (shape.unmade j far).1)
+        );
   }
     where
       first_mutex : (0 ≡ m) ⊎ (0 ≢ m) → library_at v 0 ≡ library_at s 0
@@ -150,9 +149,9 @@ module _ (s : Table) (t m : ℕ) (l : Line) (x : Word) (n : ℕ) (k : Kernel) (t
     status = λ u a b. c.status u b;
     line = λ u a b. line_there u (λ e. b (subst Excused (sym e) out));
     spares = λ u a b. (
-      let living : is_living k ≡ is_living s.kernel = (λ i u. if u == 0 then false else nat_lt u (c.seats i)) in
-      subst (λ f. Spares (is_living s.kernel) f u (cell_at s m) (cell_at v m)) (sym living) (subst (Spares (is_living s.kernel) (is_living s.kernel) u (cell_at s m)) (sym cell_here) (spares u a b))
-    );
+        let living : is_living k ≡ is_living s.kernel = (λ i u. if u == 0 then false else nat_lt u (c.seats i)) in
+        subst (λ f. Spares (is_living s.kernel) f u (cell_at s m) (cell_at v m)) (sym living) (subst (Spares (is_living s.kernel) (is_living s.kernel) u (cell_at s m)) (sym cell_here) (spares u a b))
+        );
   }
 
   -- IN THE POSIX MACHINE
