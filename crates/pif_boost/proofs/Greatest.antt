@@ -226,4 +226,4 @@ module _ (v : Owners) (start : ℕ) (sound : IsSound v) (repaired : IsRepairedBu
       free r = let l : base_of v start ≤ greatest_base v t = greatest_base-above v start t row th.1 r in absurd (omega arith)
 
       rank : (w : Wait) → (seat_at v t).wait ≡ Some w → w.rank.prio ≡ local_of v t
-      rank w is = repaired.ranks t w.rank (λ k. free (here (sym k))) (ap (option_map (λ (x : Wait). x.rank)) is)
+      rank w is = repaired.ranks t w.rank (ap (option_map (λ (x : Wait). x.rank)) is)

@@ -26,10 +26,6 @@ filter_on f g (x ∷ xs) h =
     let rest : filter f xs ≡ filter g xs = filter_on f g xs (λ y m. h y (or_right (eqb y x) (has y xs) m)) in
     λ i. cond (head i) (x ∷ rest i) (rest i)
 
--- and count the same
-pub count_on : (f g : ℕ → Bool) (xs : List ℕ) → ((x : ℕ) → has x xs ≡ true → f x ≡ g x) → count_by f xs ≡ count_by g xs
-count_on f g xs h = sym (length-filter f xs) ∙ ap length (filter_on f g xs h) ∙ length-filter g xs
-
 -- what a filter keeps was there and passes
 pub has-filter : (f : ℕ → Bool) (u : ℕ) (xs : List ℕ) → has u (filter f xs) ≡ true → (has u xs ≡ true) × (f u ≡ true)
 has-filter f u [] h = absurd (true≢false (sym h))
@@ -95,18 +91,6 @@ filter_more : (f : ℕ → Bool) (k u : ℕ) → u ≡ k + 1 → filter f (range
 filter_more f k u e =
     let s : 1 + k ≡ u = omega arith in
     ap (filter f) (range_more 1 k ∙ ap (λ (x : ℕ). range_with_len 1 k ++ x ∷ []) s) ∙ filter-append f (range_with_len 1 k) (u ∷ [])
-
--- how many of the numbers up to k pass, and one more
-pub count_more : (f : ℕ → Bool) (k u : ℕ) → u ≡ k + 1 → count_by f (range_with_len 1 (k + 1)) ≡ count_by f (range_with_len 1 k) + cond (f u) 1 0
-count_more f k u e =
-    let s : 1 + k ≡ u = omega arith in
-    let one : count_by f (u ∷ []) ≡ cond (f u) 1 0 = omega arith in
-    ap (count_by f) (range_more 1 k ∙ ap (λ (x : ℕ). range_with_len 1 k ++ x ∷ []) s)
-    ∙ sum_by-append (λ x. cond (f x) 1 0) (range_with_len 1 k) (u ∷ []) ∙ ap (λ (n : ℕ). count_by f (range_with_len 1 k) + n) one
-
--- at most all
-pub count_most : (f : ℕ → Bool) (k : ℕ) → count_by f (range_with_len 1 k) ≤ k
-count_most f k = omega (arith, count_by-le-length f (range_with_len 1 k), length-range_with_len 1 k)
 
 -- ONE LEVEL
 

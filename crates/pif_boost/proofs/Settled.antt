@@ -43,7 +43,7 @@ pub settled : (k : ℕ) (old new : Owners) → k + 1 ≡ length old.seats → Is
 settled k old new last r start =
     record {
       locals = λ t th ne. settled_local new all t th;
-      ranks = λ t rank ne e. by_row t rank e (cases_lt t (length old.seats));
+      ranks = λ t rank e. by_row t rank e (cases_lt t (length old.seats));
     }
   where
     all : (x : ℕ) → x < length new.seats → local_of new x ≡ greatest_base new x
@@ -74,7 +74,7 @@ top_is_next v k t repaired top =
     }
   where
     local : (u : ℕ) (rank : Key) → rank_of v u ≡ Some rank → rank.prio ≡ local_of v u
-    local u rank e = (repaired (suc u)).ranks u rank (λ same. absurd (omega arith)) e
+    local u rank e = (repaired 0).ranks u rank e
 
 -- A WAIT THAT COMES OR GOES
 
@@ -90,7 +90,7 @@ pub rewaited : (v : Owners) (t start : ℕ) (w : Option Wait) → ((s : ℕ) →
 rewaited v t start w repaired was now rank =
     record {
       locals = λ u th ne. local u ∙ (repaired start).locals u (th.0, omega (arith, th.1, long)) ne ∙ sym (λ i. max (base u i) (waiting u th.0 ne i));
-      ranks = λ u k ne e. by_seat u k ne e (seat_at-with_seat t x v u);
+      ranks = λ u k e. by_seat u k e (seat_at-with_seat t x v u);
     }
   where
     x : Seat
@@ -118,12 +118,12 @@ rewaited v t start w repaired was now rank =
         let locals : ◌≡◌ {A = ℕ → ℕ} (local_of (with_wait t w v)) (local_of v) = fun_ext local in
         λ i. greatest_where (tests i) (locals i) (long i)
 
-    by_seat : (u : ℕ) (k : Key) → u ≢ start → rank_of (with_wait t w v) u ≡ Some k
+    by_seat : (u : ℕ) (k : Key) → rank_of (with_wait t w v) u ≡ Some k
         → ((u ≡ t) × (seat_at (with_wait t w v) u ≡ x)) ⊎ (seat_at (with_wait t w v) u ≡ seat_at v u) → k.prio ≡ local_of (with_wait t w v) u
-    by_seat u k ne e (inl s) =
+    by_seat u k e (inl s) =
         rank k (ap (λ (y : Seat). option_map (λ (z : Wait). z.rank) y.wait) (sym s.1) ∙ e) ∙ ap (local_of v) (sym s.0) ∙ sym (local u)
-    by_seat u k ne e (inr s) =
-        (repaired start).ranks u k ne (ap (λ (y : Seat). option_map (λ (z : Wait). z.rank) y.wait) (sym s) ∙ e) ∙ sym (local u)
+    by_seat u k e (inr s) =
+        (repaired start).ranks u k (ap (λ (y : Seat). option_map (λ (z : Wait). z.rank) y.wait) (sym s) ∙ e) ∙ sym (local u)
 
 -- THE RUN QUEUE
 

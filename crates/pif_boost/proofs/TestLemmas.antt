@@ -167,7 +167,7 @@ idle-repaired : (n : ℕ) (v : Owners) → IsIdle n v → (start : ℕ) → IsRe
 idle-repaired n v h start =
     record {
       locals = λ t th ne. h.same t ∙ omega (arith, nobody t th (cases_lt 0 (greatest_waiting v t)));
-      ranks = λ t rank ne e. let none : None ≡ Some rank = sym (ap (option_map (λ (w : Wait). w.rank)) (h.free t)) ∙ e in absurd cc;
+      ranks = λ t rank e. let none : None ≡ Some rank = sym (ap (option_map (λ (w : Wait). w.rank)) (h.free t)) ∙ e in absurd cc;
     }
   where
     nobody : (t : ℕ) → IsThread v t → ((0 < greatest_waiting v t) ⊎ (greatest_waiting v t ≤ 0)) → greatest_waiting v t ≡ 0

@@ -1,8 +1,8 @@
 -- A walk after the threads up to k: the owner states, the run queue and the table.
-use Rattle.std.proofs.Common.{◌≡◌, ◌⊎◌, ℕ, ◌<◌, ◌≤◌, ◌+◌, ◌-◌, Bool, true, false, ◌==◌, not, cond, length, Option, Some, None, IfSome, refl, sym, ap, ◌∙◌, subst, inl, inr, if◌then◌else◌, arith}
+use Rattle.std.proofs.Common.{◌≡◌, ◌⊎◌, ◌↔◌, ℕ, ◌<◌, ◌≤◌, ◌+◌, ◌-◌, Bool, true, false, ◌==◌, not, cond, length, Option, Some, None, IfSome, IsSome, refl, sym, ap, ◌∙◌, subst, inl, inr, if◌then◌else◌, arith}
 use Rattle.std.specs.List.{count_by, range_with_len}
 use Rattle.std.specs.Option.{is_some}
-use Rattle.std.proofs.lemmas.Bool.{cases_lt, false_from_ne_true}
+use Rattle.std.proofs.lemmas.Bool.{cases_lt, false_from_ne_true, true≢false}
 use Rattle.std.proofs.lemmas.List.{get_or_past}
 use Rattle.pif_nodes.specs.Lists.{has}
 use Rattle.pif_nodes.specs.Table.{Table}
@@ -11,14 +11,23 @@ use Rattle.pif_runq.specs.Levels.{Queue, IsLevel, level_of, level_with, Holds, I
 use Rattle.pif_runq.proofs.LevelLemmas.{queued_on}
 use Rattle.pif_runq.proofs.LevelWithLemmas.{listed-from_level_with}
 use Rattle.pif_rtmutex.specs.Owners.{Owners, Seat, no_seat, seat_at, WaitsFor, with_seat, IsSound}
-use Rattle.pif_boost.specs.Boosts.{IsThread, base_of, local_of, greatest_base, boosted, IsRepaired, IsRepairedBut, moved_if_queued, releveled, threads_of, changed_count}
+use Rattle.pif_boost.specs.Boosts.{IsThread, base_of, local_of, greatest_base, boosted, IsRepaired, IsRepairedBut, moved_if_queued, releveled}
 use Rattle.pif_boost.proofs.Greatest.{greatest_base-least, greatest_base-IsEffective, idle}
-use Rattle.pif_boost.proofs.Levels.{leveled_to, leveled-start, leveled-more, leveled-all, next_level, stage-has, count_on, count_more, count_most, has-range}
+use Rattle.pif_boost.proofs.Levels.{leveled_to, leveled-start, leveled-more, leveled-all, next_level, stage-has}
 use Rattle.pif_boost.proofs.Repairs.{IsRepairedTo, repaired-start, repaired-more, repaired-all}
 
 -- the number of what was made of one
 pub numbered : (made : Option ℕ) (x n : ℕ) → made ≡ Some x → IfSome made (λ y. y ≡ n) → x ≡ n
 numbered made x n e value = rw e at value
+
+-- what was given no priority has none
+pub not_given : (o : Option ℕ) (n : ℕ) → (IsSome o ↔ (1 ≤ n)) → ((x : ℕ) → o ≡ Some x → ⊥) → n ≡ 0
+not_given None n h none = by_place (cases_lt 0 n)
+  where
+    by_place : ((0 < n) ⊎ (n ≤ 0)) → n ≡ 0
+    by_place (inl l) = absurd (true≢false (sym (h.1 (omega arith))))
+    by_place (inr l) = omega arith
+not_given (Some x) n h none = absurd (none x refl)
 
 -- who was admitted has a seat
 pub admitted_row : (v : Owners) (u : ℕ) → 1 ≤ base_of v u → u < length v.seats
@@ -59,14 +68,6 @@ pub record IsWalkedTo (k : ℕ) (v : Owners) (q : Queue) (t : Table) (new : Owne
   pub outside : SameOutside q t table
   pub place : now ≡ record q { mask = now.mask }
   pub holds : Holds now table
-
--- whether a thread is to have another effective priority than it has
-abbrev pub differs : Owners → ℕ → Bool
-differs v t = not (greatest_base v t == local_of v t)
-
--- how many of the threads up to k are
-abbrev pub changed_to : ℕ → Owners → ℕ
-changed_to k v = count_by (differs v) (range_with_len 1 k)
 
 -- before the first thread
 pub walked-start : (v : Owners) (q : Queue) (t : Table) → IsSound v → Holds q t → IsWalkedTo 0 v q t v q t
@@ -125,14 +126,6 @@ walked-more k u p v new after q now then_queue t table then_table e row priority
         let at : level_of now table x ≡ leveled_to k v q t x = w.levels x lx in
         λ i. if is_some (level i) then moved u (priority i) x (at i) else at i
 
--- one thread more, that had another priority
-pub changed-more : (k u p : ℕ) (v new : Owners) (changed : ℕ) (b : Bool) → u ≡ k + 1 → p ≡ greatest_base v u → IsRepairedTo k v new → changed ≡ changed_to k v
-    → b ≡ not (p == local_of new u) → changed + cond b 1 0 ≡ changed_to (k + 1) v
-changed-more k u p v new changed b e priority r is differ =
-    let left : seat_at new u ≡ seat_at v u = r.left u (omega arith) in
-    let same : b ≡ differs v u = differ ∙ (λ i. not (priority i == (left i).local)) in
-    (λ i. is i + cond (same i) 1 0) ∙ sym (count_more (differs v) k u e)
-
 -- AT THE END
 
 pub walked-repaired : (k : ℕ) (v new : Owners) (q now : Queue) (t table : Table) → k + 1 ≡ length v.seats → IsWalkedTo k v q t new now table → IsRepaired v new
@@ -151,15 +144,3 @@ repaired-local v new r t l = ap (λ (x : Seat). x.local) (r.seats t l)
 pub repaired-greatest : (v new : Owners) → IsSound v → IsRepaired v new → (t : ℕ) → IsThread v t → IsEffective (IsThread v) (WaitsFor v) (base_of v) t (local_of new t)
 repaired-greatest v new s r t th =
     subst (λ (p : ℕ). IsEffective (IsThread v) (WaitsFor v) (base_of v) t p) (sym (repaired-local v new r t th.1)) (greatest_base-IsEffective v s t th)
-
-pub changed-all : (k : ℕ) (v new : Owners) (changed : ℕ) → k + 1 ≡ length v.seats → IsRepaired v new → changed ≡ changed_to k v
-    → (changed ≡ changed_count v new) × (changed < length v.seats)
-changed-all k v new changed e r is =
-    let all : k ≡ length v.seats - 1 = omega arith in
-    let same : changed_to k v ≡ changed_count v new =
-    ap (λ (n : ℕ). count_by (differs v) (range_with_len 1 n)) all
-    ∙ count_on (differs v) (λ t. not (local_of new t == local_of v t)) (threads_of v)
-    (λ x h. let b = has-range 1 (length v.seats - 1) x h in
-    let l : x < length v.seats = omega (arith, b.1) in
-    ap (λ (p : ℕ). not (p == local_of v x)) (sym (repaired-local v new r x l))) in
-    (is ∙ same, omega (arith, count_most (differs v) k))

@@ -1,7 +1,7 @@
 -- Priority inheritance over chains of owner states: what the effective priority of each thread is to be, and what a
 -- walk leaves of the owner states and of the run queue. (RT-mutex design, the priority chain walk.)
-use Rattle.std.specs.Prelude.{◌≡◌, ◌≢◌, ℕ, ◌-◌, ◌<◌, ◌≤◌, max, Bool, false, ◌==◌, not, ◌&&◌, List, ◌++◌, length, if◌then◌else◌, Option, Some, None, option_map, is_some}
-use Rattle.std.specs.List.{filter, count_by, range_with_len}
+use Rattle.std.specs.Prelude.{◌≡◌, ◌≢◌, ℕ, ◌-◌, ◌<◌, ◌≤◌, max, Bool, false, ◌==◌, not, ◌&&◌, List, ◌++◌, length, get_or, if◌then◌else◌, Option, Some, None, option_map, unwrap_or, is_some}
+use Rattle.std.specs.List.{filter, range_with_len}
 use Rattle.pif_nodes.specs.declared.keys.Key.{Key}
 use Rattle.pif_nodes.specs.Table.{Table}
 use Rattle.pif_runq.specs.Levels.{Queue, level_of, level_with, moved}
@@ -29,10 +29,14 @@ local_of v t = (seat_at v t).local
 abbrev pub greatest_base : Owners → ℕ → ℕ
 greatest_base v t = effective_among (length v.seats) (waits_for v) (base_of v) t
 
--- what stands by thread u once a priority was handed to `t` and to each that is reached from it over so many hops, where
--- this stood by each thread before
-abbrev pub handed : ℕ → (ℕ → ℕ) → ℕ → ℕ → (ℕ → ℕ) → ℕ → ℕ
-handed hops waits_for priority t before u =
+-- the priority at a place of a list; 0 for none
+abbrev pub priority_at : List (Option ℕ) → ℕ → ℕ
+priority_at xs t = unwrap_or (get_or xs t None) 0
+
+-- what stands by thread u after a priority went from `t` to each that is reached from it over so many hops, where this
+-- stood by each thread before
+abbrev pub after_propagation : ℕ → (ℕ → ℕ) → ℕ → ℕ → (ℕ → ℕ) → ℕ → ℕ
+after_propagation hops waits_for priority t before u =
     if reaches_within hops waits_for t u then max priority (before u) else before u
 
 -- what a thread waits for, where it stands with this priority and the ticket that it has
@@ -54,11 +58,12 @@ pub record IsRepaired (old new : Owners) : Type 0 where
 abbrev pub greatest_waiting : Owners → ℕ → ℕ
 greatest_waiting v t = greatest_where (λ u. waits_for v u == t) (local_of v) (length v.seats)
 
--- nothing is left to repair but at one thread: the effective priority of each other thread is the greatest of its base
--- priority and of the effective priorities of those that wait for it, and it stands with that priority where it waits
+-- nothing is left to repair but the effective priority of one thread: that of each other thread is the greatest of its
+-- base priority and of the effective priorities of those that wait for it, and every waiter stands with the effective
+-- priority that it has
 pub record IsRepairedBut (start : ℕ) (v : Owners) : Type 0 where
   pub locals : (t : ℕ) → IsThread v t → t ≢ start → local_of v t ≡ max (base_of v t) (greatest_waiting v t)
-  pub ranks : (t : ℕ) (rank : Key) → t ≢ start → rank_of v t ≡ Some rank → rank.prio ≡ local_of v t
+  pub ranks : (t : ℕ) (rank : Key) → rank_of v t ≡ Some rank → rank.prio ≡ local_of v t
 
 -- the threads of level p of a run queue once u, if it is on some level, was moved to level `to`
 abbrev pub moved_if_queued : Queue → Table → ℕ → ℕ → ℕ → List ℕ
@@ -86,7 +91,3 @@ pub record IsNext (v : Owners) (k t : ℕ) : Type 0 where
   pub greatest : (u : ℕ) → waits_on v u ≡ Some k → local_of v u ≤ local_of v t
   pub first : (u : ℕ) (mine other : Key) → waits_on v u ≡ Some k → local_of v u ≡ local_of v t
       → rank_of v t ≡ Some mine → rank_of v u ≡ Some other → mine.ticket ≤ other.ticket
-
--- for how many threads of `old` the effective priority is another one in `new`
-abbrev pub changed_count : Owners → Owners → ℕ
-changed_count old new = count_by (λ t. not (local_of new t == local_of old t)) (threads_of old)

@@ -2,11 +2,12 @@
 //! thread the greatest priority of it and of all that wait for it. No call takes memory.
 #![tactic(auto)]
 
-mod boosts;
-mod chains;
+mod chain_walk;
+mod cycles;
+mod propagate;
 
-pub use boosts::walk;
-pub use chains::would_close;
+pub use chain_walk::walk;
+pub use cycles::would_close;
 
 #[cfg(test)]
 mod tests;

@@ -1,11 +1,11 @@
 use Rattle.std.proofs.Common.{◌≡◌, None, sym, ap, ◌∙◌}
 use Rattle.pif_rtmutex.specs.Owners.{Owners, waits_on, with_prio, with_local}
 use Rattle.pif_boost.proofs.Repairs.{boosted-waiting, boosted-free}
-use Rattle.pif_boost.proofs.boosts.boost.Goals as goal
-use Rattle.pif_boost.proofs.boosts.boost.Goals.{in-Some, in_default}
+use Rattle.pif_boost.proofs.chain_walk.boost.Goals as goal
+use Rattle.pif_boost.proofs.chain_walk.boost.Goals.{in-Some, in_default}
 
-pub returns-clause-owners : goal.returns-clause-owners
-returns-clause-owners c =
+pub returns : goal.returns
+returns c =
     elim c.match-waits_on.branch [
       | in-Some w ↦
           w.owners-is ∙ w.rekey.ensures.changed ∙ ap (λ (v : Owners). with_prio c.args.t c.args.prio v) c.set_local.ensures.changed

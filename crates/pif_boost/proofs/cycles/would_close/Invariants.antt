@@ -2,7 +2,7 @@
 use Rattle.std.proofs.Common.{◌≡◌, ◌-◌, suc, length}
 use Rattle.pif_model.specs.Graph.{reaches_within}
 use Rattle.pif_rtmutex.specs.Owners.{waits_for}
-use Rattle.pif_boost.proofs.chains.would_close.Given as goal
+use Rattle.pif_boost.proofs.cycles.would_close.Given as goal
 
 abbrev pub invariant-loop-hop : goal.invariant-loop-hop
 invariant-loop-hop l =

@@ -6,7 +6,7 @@ use Rattle.pif_rtmutex.specs.Owners.{waits_for}
 use Rattle.pif_boost.proofs.Greatest.{closes, waits_for-none, waits_for-owner}
 use Rattle.pif_chains.proofs.Following.{reaches_here}
 use Rattle.pif_chains.proofs.Hops.{reached_never, reached_hop, reached_last}
-use Rattle.pif_boost.proofs.chains.would_close.Goals as goal
+use Rattle.pif_boost.proofs.cycles.would_close.Goals as goal
 
 pub returns-then-eq : goal.returns-then-eq
 returns-then-eq c =
