@@ -15,7 +15,7 @@ pub record IsRepairedTo (k : ℕ) (old new : Owners) : Type 0 where
   pub left : (t : ℕ) → k < t → seat_at new t ≡ seat_at old t
 
 -- the state on which a thread waits doesn't depend on its rank there
-ranked-state : (p : ℕ) (o : Option Wait) → option_map (λ (w : Wait). w.state) (option_map (ranked p) o) ≡ option_map (λ (w : Wait). w.state) o
+pub ranked-state : (p : ℕ) (o : Option Wait) → option_map (λ (w : Wait). w.state) (option_map (ranked p) o) ≡ option_map (λ (w : Wait). w.state) o
 ranked-state p None = refl
 ranked-state p (Some w) = refl
 

@@ -4,7 +4,7 @@ use Rattle.std.specs.Prelude.{option_map, option_and_then, unwrap_or}
 use Rattle.std.specs.List.{filter}
 use Rattle.std.specs.Option.{is_some}
 use Rattle.std.proofs.Math.Path.{fun_ext}
-use Rattle.std.proofs.lemmas.Bool.{cases_eq, cases_lt, ne_eqb, or_cases, and_parts}
+use Rattle.std.proofs.lemmas.Bool.{cases_eq, cases_lt, eqb-true, ne_eqb, or_cases, and_parts}
 use Rattle.std.proofs.lemmas.Bool.Decides.{nat_tests}
 use Rattle.std.proofs.lemmas.List.{get_or_past}
 use Rattle.pif_nodes.specs.declared.keys.Key.{Key}
@@ -127,25 +127,41 @@ rewaited v t start w repaired was now rank =
 
 -- THE RUN QUEUE
 
--- who is on the run queue after a walk was on it
-pub was_ready : (v : Owners) (q now : Queue) (t table : Table) → Holds q t → ((p : ℕ) → IsLevel p → level_of now table p ≡ releveled v q t p)
-    → (u : ℕ) → IsQueued now table u → IsQueued q t u
-was_ready v q now t table holds levels u queued =
-    by_part (or_cases (has u kept) (has u new) (sym (has-append u kept new) ∙ ap (has u) (sym (levels queued.0 queued.1)) ∙ queued.2))
-  where
-    kept : List ℕ
-    kept = filter (λ x. greatest_base v x == queued.0) (level_of q t queued.0)
+module _ (v : Owners) (q now : Queue) (t table : Table) (levels : (p : ℕ) → IsLevel p → level_of now table p ≡ releveled v q t p) where
+  -- the threads of a level that were on it, and those that joined it
+  kept : ℕ → List ℕ
+  kept p = filter (λ x. greatest_base v x == p) (level_of q t p)
 
-    new : List ℕ
-    new = filter (joins v q t queued.0) (threads_of v)
+  new : ℕ → List ℕ
+  new p = filter (joins v q t p) (threads_of v)
 
-    by_part : ((has u kept ≡ true) ⊎ (has u new ≡ true)) → IsQueued q t u
-    by_part (inl h) = (queued.0, queued.1, (has-filter (λ x. greatest_base v x == queued.0) u (level_of q t queued.0) h).0)
-    by_part (inr h) =
-        let other : is_other queued.0 (level_with q t u) ≡ true =
-        (and_parts (greatest_base v u == queued.0) (is_other queued.0 (level_with q t u)) (has-filter (joins v q t queued.0) u (threads_of v) h).1).1 in
-        queued_found q t u holds (some queued.0 (level_with q t u) other)
-      where
-        some : (p : ℕ) (o : Option ℕ) → is_other p o ≡ true → is_some o ≡ true
-        some p None e = e
-        some p (Some l) e = refl
+  on_level : (u p : ℕ) → IsLevel p → has u (level_of now table p) ≡ true → (has u (kept p) ≡ true) ⊎ (has u (new p) ≡ true)
+  unfolding kept new
+  on_level u p lp on = or_cases (has u (kept p)) (has u (new p)) (sym (has-append u (kept p) (new p)) ∙ ap (has u) (sym (levels p lp)) ∙ on)
+
+  -- who is on a level after a walk is to have that priority
+  pub level_is_greatest : (u p : ℕ) → IsLevel p → has u (level_of now table p) ≡ true → greatest_base v u ≡ p
+  unfolding kept new
+  level_is_greatest u p lp on = by_part (on_level u p lp on)
+    where
+      by_part : ((has u (kept p) ≡ true) ⊎ (has u (new p) ≡ true)) → greatest_base v u ≡ p
+      by_part (inl h) = eqb-true (greatest_base v u) p (has-filter (λ x. greatest_base v x == p) u (level_of q t p) h).1
+      by_part (inr h) =
+          eqb-true (greatest_base v u) p
+          (and_parts (greatest_base v u == p) (is_other p (level_with q t u)) (has-filter (joins v q t p) u (threads_of v) h).1).0
+
+  -- and was on the run queue before
+  pub was_ready : Holds q t → (u : ℕ) → IsQueued now table u → IsQueued q t u
+  unfolding kept new
+  was_ready holds u queued = by_part (on_level u queued.0 queued.1 queued.2)
+    where
+      some : (p : ℕ) (o : Option ℕ) → is_other p o ≡ true → is_some o ≡ true
+      some p None e = e
+      some p (Some l) e = refl
+
+      by_part : ((has u (kept queued.0) ≡ true) ⊎ (has u (new queued.0) ≡ true)) → IsQueued q t u
+      by_part (inl h) = (queued.0, queued.1, (has-filter (λ x. greatest_base v x == queued.0) u (level_of q t queued.0) h).0)
+      by_part (inr h) =
+          let other : is_other queued.0 (level_with q t u) ≡ true =
+          (and_parts (greatest_base v u == queued.0) (is_other queued.0 (level_with q t u)) (has-filter (joins v q t queued.0) u (threads_of v) h).1).1 in
+          queued_found q t u holds (some queued.0 (level_with q t u) other)

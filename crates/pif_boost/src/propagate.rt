@@ -28,7 +28,11 @@ pub fn priority_of(greatest: &[Option<Prio>; PLACES], t: Tid) -> Option<Prio>
     ensures { unwrap_or result 0 ≡ priority_at greatest.now t }
 {
     let place = t.get() as usize;
-    if place < PLACES { greatest[place] } else { None }
+    if place < PLACES {
+        greatest[place]
+    } else {
+        None
+    }
 }
 
 /// Propagates a priority from the thread `t` to each thread for which it waits through any chain; by each of them the
