@@ -18,11 +18,12 @@ use Rattle.pif_chains.proofs.Places.{kept_at}
 use Rattle.pif_runq.specs.Levels.{Queue, IsLevel, level_of, level_with, Holds, IsQueued}
 use Rattle.pif_rtmutex.specs.Owners.{Owners, Seat, Wait, no_seat, seat_at, owner_at, waits_for, rank_of, with_wait, IsTop}
 use Rattle.pif_rtmutex.proofs.OwnersLemmas.{seat_at-with_seat, seat_at-with_seat_other, some_rank}
-use Rattle.pif_boost.specs.Boosts.{IsThread, base_of, local_of, greatest_base, greatest_waiting, ranked, boosted, is_other, joins, releveled, threads_of, IsRepairedBut, IsNext}
+use Rattle.pif_boost.specs.Boosts.{IsThread, base_of, local_of, greatest_base, greatest_waiting, ranked, boosted, is_other, joins, releveled, threads_of, IsRepaired, IsRepairedBut, IsNext}
 use Rattle.pif_boost.proofs.Greatest.{out_waits}
 use Rattle.pif_boost.proofs.Levels.{has-filter}
+use Rattle.pif_boost.proofs.Walks.{admitted_row, repaired-local}
 use Rattle.pif_boost.proofs.Repairs.{IsRepairedTo, greatest-kept}
-use Rattle.pif_boost.proofs.Walks.{queued_found}
+use Rattle.pif_runq.proofs.LevelWithLemmas.{queued_found}
 
 -- where each thread has the effective priority that it is to have, that is the greatest of its base priority and of those
 -- of the threads that wait for it
@@ -165,3 +166,11 @@ module _ (v : Owners) (q now : Queue) (t table : Table) (levels : (p : ℕ) → 
           let other : is_other queued.0 (level_with q t u) ≡ true =
           (and_parts (greatest_base v u == queued.0) (is_other queued.0 (level_with q t u)) (has-filter (joins v q t queued.0) u (threads_of v) h).1).1 in
           queued_found q t u holds (some queued.0 (level_with q t u) other)
+
+-- so it is on the level of the effective priority that it has then
+pub walked-level : (v new : Owners) (q now : Queue) (t table : Table) → Holds q t → ((u : ℕ) → IsQueued q t u → 1 ≤ base_of v u) → IsRepaired v new
+    → ((p : ℕ) → IsLevel p → level_of now table p ≡ releveled v q t p)
+    → (u p : ℕ) → IsLevel p → has u (level_of now table p) ≡ true → p ≡ local_of new u
+walked-level v new q now t table holds ready repaired levels u p lp on =
+    let was : IsQueued q t u = was_ready v q now t table levels holds u (p, lp, on) in
+    sym (level_is_greatest v q now t table levels u p lp on) ∙ sym (repaired-local v new repaired u (admitted_row v u (ready u was)))

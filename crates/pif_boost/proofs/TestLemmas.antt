@@ -16,8 +16,8 @@ use Rattle.pif_rtmutex.proofs.OwnersLemmas.{seat_at-with_seat, seat_at-with_seat
 use Rattle.pif_boost.specs.Boosts.{IsThread, base_of, local_of, greatest_base, greatest_waiting, releveled, IsRepaired, IsRepairedBut}
 use Rattle.pif_boost.specs.Settled.{IsSettled}
 use Rattle.pif_boost.proofs.Greatest.{waits_for-none, waits_for-owner}
-use Rattle.pif_boost.proofs.Settled.{rewaited, level_is_greatest, was_ready}
-use Rattle.pif_boost.proofs.Walks.{admitted_row, repaired-local}
+use Rattle.pif_boost.proofs.Settled.{rewaited, was_ready}
+use Rattle.pif_boost.proofs.Walks.{admitted_row}
 use Rattle.pif_boost.proofs.Repairs.{ranked-state}
 use Rattle.pif_boost.specs.Examples.{admitted, three_admitted, three_threads, new_queue, new_table}
 
@@ -97,8 +97,8 @@ module _ (v waited : Owners) (q : Queue) (t : Table) (u : ℕ) (w : Option Wait)
   -- a walk after it leaves all settled
   pub walked : (new : Owners) (now : Queue) (table : Table) → (IsQueued q t u → w ≡ None)
       → IsRepaired waited new → ((s : ℕ) → IsRepairedBut s new) → ((p : ℕ) → IsLevel p → level_of now table p ≡ releveled waited q t p)
-      → Holds now table → IsSettled new now table
-  walked new now table free repaired left levels holds =
+      → ((x p : ℕ) → IsLevel p → has x (level_of now table p) ≡ true → p ≡ local_of new x) → Holds now table → IsSettled new now table
+  walked new now table free repaired left levels level holds =
       record {
         repaired = left;
         holds = holds;
@@ -107,8 +107,7 @@ module _ (v waited : Owners) (q : Queue) (t : Table) (u : ℕ) (w : Option Wait)
         running = λ x queued.
             ap (λ (s : Seat). option_map (λ (k : Wait). k.state) s.wait) (repaired.seats x (row x queued))
             ∙ ranked-state (greatest_base waited x) (seat_at waited x).wait ∙ still_running free x (was x queued);
-        level = λ x p lp on.
-            sym (level_is_greatest waited q now t table levels x p lp on) ∙ sym (repaired-local waited new repaired x (row x (p, lp, on)));
+        level = level;
       }
     where
       was : (x : ℕ) → IsQueued now table x → IsQueued q t x

@@ -9,7 +9,7 @@ use Rattle.pif_nodes.specs.Table.{Table}
 use Rattle.pif_model.specs.Graph.{IsEffective}
 use Rattle.pif_runq.specs.Levels.{Queue, IsLevel, level_of, level_with, Holds, IsQueued, moved, SameOutside}
 use Rattle.pif_runq.proofs.LevelLemmas.{queued_on}
-use Rattle.pif_runq.proofs.LevelWithLemmas.{listed-from_level_with}
+use Rattle.pif_runq.proofs.LevelWithLemmas.{queued_found}
 use Rattle.pif_rtmutex.specs.Owners.{Owners, Seat, no_seat, seat_at, WaitsFor, with_seat, IsSound}
 use Rattle.pif_boost.specs.Boosts.{IsThread, base_of, local_of, greatest_base, boosted, IsRepaired, IsRepairedBut, moved_if_queued, releveled}
 use Rattle.pif_boost.proofs.Greatest.{greatest_base-least, greatest_base-IsEffective, idle}
@@ -36,14 +36,6 @@ admitted_row v u one = by_place (cases_lt u (length v.seats))
     by_place : ((u < length v.seats) ⊎ (length v.seats ≤ u)) → u < length v.seats
     by_place (inl l) = l
     by_place (inr l) = let none : base_of v u ≡ 0 = ap (λ (x : Seat). x.base) (get_or_past v.seats u no_seat l) in absurd (omega arith)
-
--- a thread whose level is found is queued
-pub queued_found : (q : Queue) (t : Table) (u : ℕ) → Holds q t → is_some (level_with q t u) ≡ true → IsQueued q t u
-queued_found q t u holds some = by_level (level_with q t u) refl some
-  where
-    by_level : (o : Option ℕ) → level_with q t u ≡ o → is_some o ≡ true → IsQueued q t u
-    by_level None is e = absurd cc
-    by_level (Some p) is e = let r = listed-from_level_with q t u p holds is in (p, r.0, r.1)
 
 -- a thread that is given no priority is on no level
 pub not_queued : (q : Queue) (t : Table) (u priority : ℕ) → Holds q t → (IsQueued q t u → 1 ≤ priority) → priority ≡ 0 → is_some (level_with q t u) ≡ false

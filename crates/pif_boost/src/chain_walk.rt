@@ -22,7 +22,7 @@ use pif_types::{Prio, Tid};
 /// waiter, `start` too, stands with the effective priority that it has. The threads of the run queue were admitted, wait
 /// for nobody, and are on the levels of the effective priorities that they have. So only `start` and those for whom it
 /// waits can get another priority, and at most one thread, the last of them, joins another level.
-/// After the call nothing is left to repair.
+/// After the call nothing is left to repair, and each thread of the run queue is on the level of its priority.
 pub fn walk(owners: &mut RtMutexes, queue: &mut RunQueue, table: &mut NodeTable, start: Tid) -> u32
     requires admitted { 1 ≤ base_of owners.old start }
     requires repaired { IsRepairedBut start owners.old }
@@ -37,6 +37,7 @@ pub fn walk(owners: &mut RtMutexes, queue: &mut RunQueue, table: &mut NodeTable,
     ensures next { (k t : ℕ) → IsTop owners.new k t → IsNext owners.new k t }
     ensures levels { (p : ℕ) → IsLevel p
         → level_of queue.new table.new p ≡ releveled owners.old queue.old table.old p }
+    ensures level { (u p : ℕ) → IsLevel p → has u (level_of queue.new table.new p) ≡ true → p ≡ local_of owners.new u }
     ensures outside { SameOutside queue.old table.old table.new }
     ensures place { queue.new ≡ record queue.old { mask = queue.new.mask } }
     ensures holds { Holds queue.new table.new }

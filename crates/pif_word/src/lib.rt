@@ -12,3 +12,6 @@ pub use bits::{
 };
 pub use cells::Cell;
 pub use words::Words;
+
+#[cfg(test)]
+mod tests;

@@ -3,7 +3,7 @@ use Rattle.std.proofs.Common.{◌≡◌, ◌+◌, ◌∙◌, arith}
 use Rattle.std.specs.Prelude.{unwrap_or}
 use Rattle.pif_boost.specs.Boosts.{IsRepaired, greatest_base}
 use Rattle.pif_boost.proofs.Propagation.{nothing_at}
-use Rattle.pif_boost.proofs.Settled.{settled, top_is_next}
+use Rattle.pif_boost.proofs.Settled.{settled, top_is_next, walked-level}
 use Rattle.pif_boost.proofs.Walks.{numbered, walked-start, next_ready, next_idle, walked-more, walked-repaired, walked-levels, repaired-greatest}
 use Rattle.pif_boost.proofs.chain_walk.walk.Goals as goal
 use Rattle.pif_boost.proofs.chain_walk.walk.Goals.{then-repair, else-repair}
@@ -62,3 +62,10 @@ pub returns-clause-levels : goal.returns-clause-levels
 returns-clause-levels c =
     walked-levels c.loop-place.place c.args.owners.now c.loop-place.owners c.args.queue.now c.loop-place.queue c.args.table.now c.loop-place.table
     (omega arith) c.loop-place.invariant.walked c.requires.ready
+
+pub returns-clause-level : goal.returns-clause-level
+returns-clause-level c = λ u p lp on.
+    let all : IsRepaired c.args.owners.now c.loop-place.owners =
+    walked-repaired c.loop-place.place c.args.owners.now c.loop-place.owners c.args.queue.now c.loop-place.queue c.args.table.now c.loop-place.table (omega arith) c.loop-place.invariant.walked in
+    walked-level c.args.owners.now c.loop-place.owners c.args.queue.now c.loop-place.queue c.args.table.now c.loop-place.table c.requires.holds c.requires.ready all
+    (returns-clause-levels c) u p lp on

@@ -18,4 +18,4 @@ pub returns : goal.returns
 returns c =
     walked c.args.owners.now c.dequeue.new.self c.args.queue.now c.args.table.now c.args.t _ c.requires c.dequeue.ensures.free
     c.walk.new.owners c.walk.new.queue c.walk.new.table (λ on. refl)
-    c.walk.ensures.repaired c.walk.ensures.settled c.walk.ensures.levels c.walk.ensures.holds
+    c.walk.ensures.repaired c.walk.ensures.settled c.walk.ensures.levels c.walk.ensures.level c.walk.ensures.holds

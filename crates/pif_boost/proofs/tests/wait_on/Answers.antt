@@ -20,4 +20,4 @@ returns-clause-settled c =
     walked c.args.owners.now c.enqueue.new.self c.args.queue.now c.args.table.now c.args.t _ c.requires.settled c.enqueue.ensures.queued
     c.walk.new.owners c.walk.new.queue c.walk.new.table
     (λ on. absurd (off_by_test c.args.queue.now c.args.table.now c.args.t c.level.result c.is_some-else-is_some.result c.requires.settled.holds c.level.ensures.level c.is_some-else-is_some.ensures c.if-is_some-2.false on))
-    c.walk.ensures.repaired c.walk.ensures.settled c.walk.ensures.levels c.walk.ensures.holds
+    c.walk.ensures.repaired c.walk.ensures.settled c.walk.ensures.levels c.walk.ensures.level c.walk.ensures.holds
