@@ -10,11 +10,11 @@ use Rattle.std.proofs.lemmas.List.FromFn.{length-range_with_len}
 use Rattle.pif_nodes.specs.Lists.{has, without}
 use Rattle.pif_nodes.specs.Table.{Table}
 use Rattle.pif_nodes.proofs.ListLemmas.{has-head, has-append, without_absent}
-use Rattle.pif_runq.specs.Levels.{Queue, IsLevel, level_of, level_with, Holds, moved}
+use Rattle.pif_runq.specs.Levels.{Queue, IsLevel, level_of, level_with, Holds, level_after_move}
 use Rattle.std.proofs.lemmas.Option.{same_Some}
 use Rattle.pif_runq.proofs.LevelWithLemmas.{level_with-from_listed, listed-from_level_with}
 use Rattle.pif_rtmutex.specs.Owners.{Owners}
-use Rattle.pif_boost.specs.Boosts.{greatest_base, is_other, joins, releveled}
+use Rattle.pif_boost.specs.Boosts.{greatest_base, is_other, joins, level_after_walk}
 
 -- LISTS
 
@@ -227,11 +227,11 @@ next_level k u v q now t table e old new levels =
 
 -- one thread more, on some level or none
 pub leveled-more : (k u : ℕ) (v : Owners) (q : Queue) (t : Table) (p : ℕ) → u ≡ k + 1 → Holds q t → IsLevel p
-    → (if is_some (level_with q t u) then moved u (greatest_base v u) p (leveled_to k v q t p) else leveled_to k v q t p) ≡ leveled_to (k + 1) v q t p
+    → (if is_some (level_with q t u) then level_after_move u (greatest_base v u) p (leveled_to k v q t p) else leveled_to k v q t p) ≡ leveled_to (k + 1) v q t p
 leveled-more k u v q t p e holds lp = by_level (level_with q t u) refl
   where
     Goal : Option ℕ → Type 0
-    Goal o = (if is_some o then moved u (greatest_base v u) p (leveled_to k v q t p) else leveled_to k v q t p) ≡ leveled_to (k + 1) v q t p
+    Goal o = (if is_some o then level_after_move u (greatest_base v u) p (leveled_to k v q t p) else leveled_to k v q t p) ≡ leveled_to (k + 1) v q t p
 
     joining : Option ℕ → Bool
     joining o = (greatest_base v u == p) && is_other p o
@@ -293,7 +293,7 @@ leveled-start v q t p some =
 
 -- all were at the end
 pub leveled-all : (k : ℕ) (v : Owners) (q : Queue) (t : Table) (p : ℕ) → k + 1 ≡ length v.seats → ((u : ℕ) → has u (level_of q t p) ≡ true → u < length v.seats)
-    → leveled_to k v q t p ≡ releveled v q t p
+    → leveled_to k v q t p ≡ level_after_walk v q t p
 leveled-all k v q t p e row =
     let kept : filter (stays k (greatest_base v) p) (level_of q t p) ≡ filter (λ x. greatest_base v x == p) (level_of q t p) =
     filter_on (stays k (greatest_base v) p) (λ x. greatest_base v x == p) (level_of q t p)

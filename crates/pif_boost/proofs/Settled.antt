@@ -18,7 +18,7 @@ use Rattle.pif_chains.proofs.Places.{kept_at}
 use Rattle.pif_runq.specs.Levels.{Queue, IsLevel, level_of, level_with, Holds, IsQueued}
 use Rattle.pif_rtmutex.specs.Owners.{Owners, Seat, Wait, no_seat, seat_at, owner_at, waits_for, rank_of, with_wait, IsTop}
 use Rattle.pif_rtmutex.proofs.OwnersLemmas.{seat_at-with_seat, seat_at-with_seat_other, some_rank}
-use Rattle.pif_boost.specs.Boosts.{IsThread, base_of, local_of, greatest_base, greatest_waiting, ranked, boosted, is_other, joins, releveled, threads_of, IsRepaired, IsRepairedBut, IsNext}
+use Rattle.pif_boost.specs.Boosts.{IsThread, base_of, local_of, greatest_base, greatest_waiting, with_rank_priority, with_effective, is_other, joins, level_after_walk, threads_of, IsRepaired, IsRepairedBut, IsNext}
 use Rattle.pif_boost.proofs.Greatest.{out_waits}
 use Rattle.pif_boost.proofs.Levels.{has-filter}
 use Rattle.pif_boost.proofs.Walks.{admitted_row, repaired-local}
@@ -35,7 +35,7 @@ settled_local v all t th =
     (greatest_where_same (λ u. waits_for v u == t) (λ u. waits_for v u == t) (greatest_base v) (local_of v) (length v.seats) (λ u l. refl) (λ u l. sym (all u l)))
 
 -- who stands boosted stands with that priority
-ranked-prio : (p : ℕ) (o : Option Wait) (rank : Key) → option_map (λ (w : Wait). w.rank) (option_map (ranked p) o) ≡ Some rank → rank.prio ≡ p
+ranked-prio : (p : ℕ) (o : Option Wait) (rank : Key) → option_map (λ (w : Wait). w.rank) (option_map (with_rank_priority p) o) ≡ Some rank → rank.prio ≡ p
 ranked-prio p None rank e = absurd cc
 ranked-prio p (Some w) rank e = sym (ap (λ (o : Option Key). unwrap_or (option_map (λ (k : Key). k.prio) o) 0) e)
 
@@ -52,7 +52,7 @@ settled k old new last r start =
 
     by_row : (t : ℕ) (rank : Key) → rank_of new t ≡ Some rank → ((t < length old.seats) ⊎ (length old.seats ≤ t)) → rank.prio ≡ local_of new t
     by_row t rank e (inl l) =
-        let is : seat_at new t ≡ boosted (greatest_base old t) (seat_at old t) = r.done t l (omega arith) in
+        let is : seat_at new t ≡ with_effective (greatest_base old t) (seat_at old t) = r.done t l (omega arith) in
         ranked-prio (greatest_base old t) (seat_at old t).wait rank (ap (λ (s : Seat). option_map (λ (w : Wait). w.rank) s.wait) (sym is) ∙ e) ∙ ap (λ (s : Seat). s.local) (sym is)
     by_row t rank e (inr l) =
         let out : seat_at new t ≡ no_seat = get_or_past new.seats t no_seat (omega (arith, r.threads)) in
@@ -128,7 +128,7 @@ rewaited v t start w repaired was now rank =
 
 -- THE RUN QUEUE
 
-module _ (v : Owners) (q now : Queue) (t table : Table) (levels : (p : ℕ) → IsLevel p → level_of now table p ≡ releveled v q t p) where
+module _ (v : Owners) (q now : Queue) (t table : Table) (levels : (p : ℕ) → IsLevel p → level_of now table p ≡ level_after_walk v q t p) where
   -- the threads of a level that were on it, and those that joined it
   kept : ℕ → List ℕ
   kept p = filter (λ x. greatest_base v x == p) (level_of q t p)
@@ -169,7 +169,7 @@ module _ (v : Owners) (q now : Queue) (t table : Table) (levels : (p : ℕ) → 
 
 -- so it is on the level of the effective priority that it has then
 pub walked-level : (v new : Owners) (q now : Queue) (t table : Table) → Holds q t → ((u : ℕ) → IsQueued q t u → 1 ≤ base_of v u) → IsRepaired v new
-    → ((p : ℕ) → IsLevel p → level_of now table p ≡ releveled v q t p)
+    → ((p : ℕ) → IsLevel p → level_of now table p ≡ level_after_walk v q t p)
     → (u p : ℕ) → IsLevel p → has u (level_of now table p) ≡ true → p ≡ local_of new u
 walked-level v new q now t table holds ready repaired levels u p lp on =
     let was : IsQueued q t u = was_ready v q now t table levels holds u (p, lp, on) in

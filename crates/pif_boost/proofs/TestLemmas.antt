@@ -9,11 +9,11 @@ use Rattle.pif_nodes.specs.Lists.{has}
 use Rattle.pif_nodes.specs.Table.{Table, IsApart, list_at, no_key}
 use Rattle.pif_chains.proofs.Places.{kept_at}
 use Rattle.pif_chains.proofs.Following.{IsGreatestAt, greatest_where_some}
-use Rattle.pif_runq.specs.Levels.{Queue, IsLevel, level_of, level_with, list_for, thread_for, HasRoom, Holds, IsQueued, joined}
+use Rattle.pif_runq.specs.Levels.{Queue, IsLevel, level_of, level_with, list_for, thread_for, HasRoom, Holds, IsQueued, level_after_add}
 use Rattle.pif_runq.proofs.LevelWithLemmas.{level_with-from_listed}
 use Rattle.pif_rtmutex.specs.Owners.{Owners, Seat, Wait, no_seat, no_owners, seat_at, owner_at, count, waits_on, waits_for, with_seat, with_wait, with_owner}
 use Rattle.pif_rtmutex.proofs.OwnersLemmas.{seat_at-with_seat, seat_at-with_seat_same, seat_at-with_seat_other, seat_at-no_owners, count-no_owners, owner_at-with_owner_same, owner_at-with_owner_other}
-use Rattle.pif_boost.specs.Boosts.{IsThread, base_of, local_of, greatest_base, greatest_waiting, releveled, IsRepaired, IsRepairedBut}
+use Rattle.pif_boost.specs.Boosts.{IsThread, base_of, local_of, greatest_base, greatest_waiting, level_after_walk, IsRepaired, IsRepairedBut}
 use Rattle.pif_boost.specs.Settled.{IsSettled}
 use Rattle.pif_boost.proofs.Greatest.{waits_for-none, waits_for-owner}
 use Rattle.pif_boost.proofs.Settled.{rewaited, was_ready}
@@ -96,7 +96,7 @@ module _ (v waited : Owners) (q : Queue) (t : Table) (u : ℕ) (w : Option Wait)
 
   -- a walk after it leaves all settled
   pub walked : (new : Owners) (now : Queue) (table : Table) → (IsQueued q t u → w ≡ None)
-      → IsRepaired waited new → ((s : ℕ) → IsRepairedBut s new) → ((p : ℕ) → IsLevel p → level_of now table p ≡ releveled waited q t p)
+      → IsRepaired waited new → ((s : ℕ) → IsRepairedBut s new) → ((p : ℕ) → IsLevel p → level_of now table p ≡ level_after_walk waited q t p)
       → ((x p : ℕ) → IsLevel p → has x (level_of now table p) ≡ true → p ≡ local_of new x) → Holds now table → IsSettled new now table
   walked new now table free repaired left levels level holds =
       record {
@@ -223,7 +223,7 @@ has_room t new apart =
 
 -- thread 1 alone is on the queue
 pub settled-start : (k1 k2 : ℕ) (now : Queue) (t table : Table) → t ≡ new_table
-    → ((p : ℕ) → IsLevel p → level_of now table p ≡ joined 1 1 p (level_of new_queue t p)) → Holds now table → IsSettled (three_threads k1 k2) now table
+    → ((p : ℕ) → IsLevel p → level_of now table p ≡ level_after_add 1 1 p (level_of new_queue t p)) → Holds now table → IsSettled (three_threads k1 k2) now table
 settled-start k1 k2 now t table made levels holds =
     record {
       repaired = idle-repaired 3 (three_threads k1 k2) (idle-three k1 k2);
@@ -236,7 +236,7 @@ settled-start k1 k2 now t table made levels holds =
     none : (p : ℕ) → IsLevel p → level_of new_queue t p ≡ []
     none p lp = ap (map (thread_for new_queue)) (empty_list new_queue t p refl (ap (λ (x : Table). x.lists) made) lp)
 
-    alone : (x p : ℕ) → IsLevel p → has x (joined 1 1 p []) ≡ true → (x ≡ 1) × (p ≡ 1)
+    alone : (x p : ℕ) → IsLevel p → has x (level_after_add 1 1 p []) ≡ true → (x ≡ 1) × (p ≡ 1)
     alone x p lp m = by_level (cases_Bool (eqb p 1))
       where
         head : ((eqb x 1 ≡ true) ⊎ (false ≡ true)) → x ≡ 1
@@ -248,4 +248,4 @@ settled-start k1 k2 now t table made levels holds =
         by_level (inr k) = let no_one : false ≡ true = sym (ap (λ b. has x (if b then 1 ∷ [] else [])) k) ∙ m in absurd cc
 
     first : (x p : ℕ) → IsLevel p → has x (level_of now table p) ≡ true → (x ≡ 1) × (p ≡ 1)
-    first x p lp on = alone x p lp (sym (ap (has x) (levels p lp ∙ ap (joined 1 1 p) (none p lp))) ∙ on)
+    first x p lp on = alone x p lp (sym (ap (has x) (levels p lp ∙ ap (level_after_add 1 1 p) (none p lp))) ∙ on)

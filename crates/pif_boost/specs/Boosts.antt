@@ -4,7 +4,7 @@ use Rattle.std.specs.Prelude.{◌≡◌, ◌≢◌, ℕ, ◌-◌, ◌<◌, ◌�
 use Rattle.std.specs.List.{filter, range_with_len}
 use Rattle.pif_nodes.specs.declared.keys.Key.{Key}
 use Rattle.pif_nodes.specs.Table.{Table}
-use Rattle.pif_runq.specs.Levels.{Queue, level_of, level_with, moved}
+use Rattle.pif_runq.specs.Levels.{Queue, level_of, level_with, level_after_move}
 use Rattle.pif_model.specs.Graph.{reaches_within, effective_among, greatest_where}
 use Rattle.pif_rtmutex.specs.Owners.{Owners, Seat, Wait, seat_at, waits_on, rank_of, waits_for}
 
@@ -40,19 +40,19 @@ after_propagation hops waits_for priority t before u =
     if reaches_within hops waits_for t u then max priority (before u) else before u
 
 -- what a thread waits for, where it stands with this priority and the ticket that it has
-abbrev pub ranked : ℕ → Wait → Wait
-ranked p w = record { state = w.state; rank = record { prio = p; ticket = w.rank.ticket } }
+abbrev pub with_rank_priority : ℕ → Wait → Wait
+with_rank_priority p w = record { state = w.state; rank = record { prio = p; ticket = w.rank.ticket } }
 
 -- a seat with this effective priority, also where its thread waits
-abbrev pub boosted : ℕ → Seat → Seat
-boosted p x = record { base = x.base; local = p; wait = option_map (ranked p) x.wait }
+abbrev pub with_effective : ℕ → Seat → Seat
+with_effective p x = record { base = x.base; local = p; wait = option_map (with_rank_priority p) x.wait }
 
 -- each thread of `old` has in `new` the effective priority that it is to have, also where it waits, and all else is as it
 -- was: the states and their owners, the base priorities, and who waits on which state with which ticket
 pub record IsRepaired (old new : Owners) : Type 0 where
   pub threads : length new.seats ≡ length old.seats
   pub owners : new.owners ≡ old.owners
-  pub seats : (t : ℕ) → t < length old.seats → seat_at new t ≡ boosted (greatest_base old t) (seat_at old t)
+  pub seats : (t : ℕ) → t < length old.seats → seat_at new t ≡ with_effective (greatest_base old t) (seat_at old t)
 
 -- the greatest effective priority of the threads that wait for t; 0 where none does
 abbrev pub greatest_waiting : Owners → ℕ → ℕ
@@ -66,8 +66,8 @@ pub record IsRepairedBut (start : ℕ) (v : Owners) : Type 0 where
   pub ranks : (t : ℕ) (rank : Key) → rank_of v t ≡ Some rank → rank.prio ≡ local_of v t
 
 -- the threads of level p of a run queue once u, if it is on some level, was moved to level `to`
-abbrev pub moved_if_queued : Queue → Table → ℕ → ℕ → ℕ → List ℕ
-moved_if_queued q t u to p = if is_some (level_with q t u) then moved u to p (level_of q t p) else level_of q t p
+abbrev pub level_after_move_if_queued : Queue → Table → ℕ → ℕ → ℕ → List ℕ
+level_after_move_if_queued q t u to p = if is_some (level_with q t u) then level_after_move u to p (level_of q t p) else level_of q t p
 
 -- whether a level is there and is another one than p
 abbrev pub is_other : ℕ → Option ℕ → Bool
@@ -81,8 +81,8 @@ joins v q t p u = (greatest_base v u == p) && is_other p (level_with q t u)
 -- level p of a run queue once each of its threads is at the level of the effective priority that it is to have: those
 -- that keep their level in their order, then those that join it in order of their numbers. (sched(7): a thread whose
 -- priority changes joins the end of its new level.)
-abbrev pub releveled : Owners → Queue → Table → ℕ → List ℕ
-releveled v q t p = filter (λ u. greatest_base v u == p) (level_of q t p) ++ filter (joins v q t p) (threads_of v)
+abbrev pub level_after_walk : Owners → Queue → Table → ℕ → List ℕ
+level_after_walk v q t p = filter (λ u. greatest_base v u == p) (level_of q t p) ++ filter (joins v q t p) (threads_of v)
 
 -- t is the next waiter of a state: it waits there, none that waits there has a greater effective priority, and none of
 -- the same has a lower ticket

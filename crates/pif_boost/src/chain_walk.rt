@@ -3,7 +3,7 @@ ghost use Rattle.pif_nodes.specs.Lists.{has};
 ghost use Rattle.pif_runq.specs.Levels.{IsLevel, level_of, Holds, IsQueued, SameOutside};
 ghost use Rattle.pif_model.specs.Graph.{IsEffective};
 ghost use Rattle.pif_rtmutex.specs.Owners.{seat_at, waits_on, WaitsFor, with_seat, IsTop};
-ghost use Rattle.pif_boost.specs.Boosts.{IsThread, base_of, local_of, greatest_base, boosted, IsRepaired, IsRepairedBut, IsNext, moved_if_queued, releveled};
+ghost use Rattle.pif_boost.specs.Boosts.{IsThread, base_of, local_of, greatest_base, with_effective, IsRepaired, IsRepairedBut, IsNext, level_after_move_if_queued, level_after_walk};
 
 use crate::propagate::{PLACES, priority_of, propagate_all};
 use pif_nodes::NodeTable;
@@ -36,7 +36,7 @@ pub fn walk(owners: &mut RtMutexes, queue: &mut RunQueue, table: &mut NodeTable,
     ensures settled { (other : ℕ) → IsRepairedBut other owners.new }
     ensures next { (k t : ℕ) → IsTop owners.new k t → IsNext owners.new k t }
     ensures levels { (p : ℕ) → IsLevel p
-        → level_of queue.new table.new p ≡ releveled owners.old queue.old table.old p }
+        → level_of queue.new table.new p ≡ level_after_walk owners.old queue.old table.old p }
     ensures level { (u p : ℕ) → IsLevel p → has u (level_of queue.new table.new p) ≡ true → p ≡ local_of owners.new u }
     ensures outside { SameOutside queue.old table.old table.new }
     ensures place { queue.new ≡ record queue.old { mask = queue.new.mask } }
@@ -68,10 +68,10 @@ fn repair(
     requires row { t < length owners.old.seats }
     requires holds { Holds queue.old table.old }
     requires ready { IsQueued queue.old table.old t → 1 ≤ unwrap_or priority 0 }
-    requires idle { unwrap_or priority 0 ≡ 0 → seat_at owners.old t ≡ boosted 0 (seat_at owners.old t) }
-    ensures owners { owners.new ≡ with_seat t (boosted (unwrap_or priority 0) (seat_at owners.old t)) owners.old }
+    requires idle { unwrap_or priority 0 ≡ 0 → seat_at owners.old t ≡ with_effective 0 (seat_at owners.old t) }
+    ensures owners { owners.new ≡ with_seat t (with_effective (unwrap_or priority 0) (seat_at owners.old t)) owners.old }
     ensures levels { (p : ℕ) → IsLevel p → level_of queue.new table.new p
-        ≡ moved_if_queued queue.old table.old t (unwrap_or priority 0) p }
+        ≡ level_after_move_if_queued queue.old table.old t (unwrap_or priority 0) p }
     ensures outside { SameOutside queue.old table.old table.new }
     ensures place { queue.new ≡ record queue.old { mask = queue.new.mask } }
     ensures holds { Holds queue.new table.new }
@@ -88,7 +88,7 @@ fn repair(
 /// Gives the thread `t` this effective priority, also where it waits. Answers whether it had another one.
 fn boost(owners: &mut RtMutexes, t: Tid, prio: Prio) -> bool
     requires { t < length owners.old.seats }
-    ensures { owners.new ≡ with_seat t (boosted prio (seat_at owners.old t)) owners.old }
+    ensures { owners.new ≡ with_seat t (with_effective prio (seat_at owners.old t)) owners.old }
 {
     let before = owners.local(t);
     owners.set_local(t, prio);
@@ -102,7 +102,7 @@ fn boost(owners: &mut RtMutexes, t: Tid, prio: Prio) -> bool
 fn move_if_queued(queue: &mut RunQueue, table: &mut NodeTable, t: Tid, prio: Prio)
     requires { Holds queue.old table.old }
     ensures levels { (p : ℕ) → IsLevel p
-        → level_of queue.new table.new p ≡ moved_if_queued queue.old table.old t prio p }
+        → level_of queue.new table.new p ≡ level_after_move_if_queued queue.old table.old t prio p }
     ensures outside { SameOutside queue.old table.old table.new }
     ensures place { queue.new ≡ record queue.old { mask = queue.new.mask } }
     ensures holds { Holds queue.new table.new }

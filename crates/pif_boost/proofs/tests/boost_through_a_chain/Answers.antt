@@ -1,7 +1,7 @@
 use Rattle.std.proofs.Common.{◌≡◌, ◌∙◌, ℕ, IsSome, refl, sym, subst}
 use Rattle.std.specs.Ordering.{nat_cmp}
 use Rattle.std.specs.FinMap.{FinMap, get}
-use Rattle.pif_runq.specs.Levels.{Queue, HasRoom, level_of, joined}
+use Rattle.pif_runq.specs.Levels.{Queue, HasRoom, level_of, level_after_add}
 use Rattle.pif_rtmutex.specs.Owners.{Owners, owner_at}
 use Rattle.pif_boost.specs.Settled.{IsSettled}
 use Rattle.pif_boost.proofs.TestLemmas.{has_room, settled-start, first_there, second_there}
@@ -25,7 +25,7 @@ wait_on-requires-clause-settled g c =
     subst (λ (v : Owners). IsSettled v c.add.new.self c.add.new.table) (sym c.admit_three-s1.ensures)
     (settled-start first second c.add.new.self c.args.table.now c.add.new.table c.requires.table
     (λ p lp. c.add.ensures.levels p lp
-    ∙ (λ i. joined (c.thread-t1.ensures i) (c.priority.ensures i) p (level_of (c.new-queue.ensures.made i) c.args.table.now p))) c.add.ensures.holds)
+    ∙ (λ i. level_after_add (c.thread-t1.ensures i) (c.priority.ensures i) p (level_of (c.new-queue.ensures.made i) c.args.table.now p))) c.add.ensures.holds)
 
 pub wait_on-requires-2-clause-state : goal.wait_on-requires-2-clause-state
 wait_on-requires-2-clause-state g c =
