@@ -113,7 +113,8 @@ greatest_all v t n best e is = is ∙ ap (λ (j : ℕ). greatest_where (λ u. re
 -- WHERE NOTHING IS LEFT TO REPAIR
 
 -- a wait of no priority stands with none
-unranked_wait : (o : Option Wait) → ((w : Wait) → o ≡ Some w → w.rank.prio ≡ 0) → o ≡ option_map (with_rank_priority 0) o
+unranked_wait : (o : Option Wait) → ((w : Wait) → o ≡ Some w → w.rank.prio ≡ 0)
+    → o ≡ option_map (with_rank_priority 0) o
 unranked_wait None h = refl
 unranked_wait (Some w) h =
     let p : w.rank.prio ≡ 0 = h w refl in
@@ -121,7 +122,8 @@ unranked_wait (Some w) h =
 
 -- nor does a seat
 unranked : (x : Seat) → x.local ≡ 0 → ((w : Wait) → x.wait ≡ Some w → w.rank.prio ≡ 0) → x ≡ with_effective 0 x
-unranked x l h = let w : x.wait ≡ option_map (with_rank_priority 0) x.wait = unranked_wait x.wait h in λ i. record { base = x.base; local = l i; wait = w i }
+unranked x l h = let w : x.wait ≡ option_map (with_rank_priority 0) x.wait = unranked_wait x.wait h in
+    λ i. record { base = x.base; local = l i; wait = w i }
 
 -- x is reached from t over one hop or more
 abbrev IsBefore : Owners → ℕ → ℕ → Type 0
@@ -219,7 +221,8 @@ module _ (v : Owners) (start : ℕ) (sound : IsSound v) (repaired : IsRepairedBu
       no_member h = cc
 
   -- and it stays as it is where it is given none
-  pub idle : start < length v.seats → 1 ≤ base_of v start → (t : ℕ) → IsThread v t → greatest_base v t ≡ 0 → seat_at v t ≡ with_effective 0 (seat_at v t)
+  pub idle : start < length v.seats → 1 ≤ base_of v start → (t : ℕ) → IsThread v t → greatest_base v t ≡ 0
+      → seat_at v t ≡ with_effective 0 (seat_at v t)
   idle row admitted t th e = unranked (seat_at v t) (local_none t th free e) (λ w is. rank w is ∙ local_none t th free e)
     where
       free : Reaches (WaitsFor v) start t → ⊥

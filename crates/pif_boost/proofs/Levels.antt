@@ -227,11 +227,14 @@ next_level k u v q now t table e old new levels =
 
 -- one thread more, on some level or none
 pub leveled-more : (k u : ℕ) (v : Owners) (q : Queue) (t : Table) (p : ℕ) → u ≡ k + 1 → Holds q t → IsLevel p
-    → (if is_some (level_with q t u) then level_after_move u (greatest_base v u) p (leveled_to k v q t p) else leveled_to k v q t p) ≡ leveled_to (k + 1) v q t p
+    → (if is_some (level_with q t u) then level_after_move u (greatest_base v u) p (leveled_to k v q t p)
+    else leveled_to k v q t p) ≡ leveled_to (k + 1) v q t p
 leveled-more k u v q t p e holds lp = by_level (level_with q t u) refl
   where
     Goal : Option ℕ → Type 0
-    Goal o = (if is_some o then level_after_move u (greatest_base v u) p (leveled_to k v q t p) else leveled_to k v q t p) ≡ leveled_to (k + 1) v q t p
+    Goal o =
+        (if is_some o then level_after_move u (greatest_base v u) p (leveled_to k v q t p) else leveled_to k v q t p)
+        ≡ leveled_to (k + 1) v q t p
 
     joining : Option ℕ → Bool
     joining o = (greatest_base v u == p) && is_other p o

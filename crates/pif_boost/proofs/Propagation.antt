@@ -18,15 +18,18 @@ pub record IsHandedTo (n priority at : ℕ) (now after : ℕ → ℕ) : Type 0 w
   pub others : (u : ℕ) → u < n → u ≢ at → after u ≡ now u
 
 -- a place in a list is set to what it is handed
-pub handed-set : (n p at : ℕ) (xs ys : List (Option ℕ)) → n ≤ length ys → ys ≡ set xs at (Some (max p (priority_at xs at)))
+pub handed-set : (n p at : ℕ) (xs ys : List (Option ℕ)) → n ≤ length ys
+    → ys ≡ set xs at (Some (max p (priority_at xs at)))
     → IsHandedTo n p at (priority_at xs) (priority_at ys)
 handed-set n p at xs ys long is =
     record {
       here = λ u l same.
           ap (λ zs. priority_at zs u) is ∙ ap (priority_at (set xs at (Some most))) same
-          ∙ ap (λ (o : Option ℕ). unwrap_or o 0) (get_or-set_same xs at (Some most) None (omega (arith, same, ap length is, length-set xs at (Some most))))
+          ∙ ap (λ (o : Option ℕ). unwrap_or o 0)
+          (get_or-set_same xs at (Some most) None (omega (arith, same, ap length is, length-set xs at (Some most))))
           ∙ ap (λ x. max p (priority_at xs x)) (sym same);
-      others = λ u l ne. ap (λ zs. priority_at zs u) is ∙ ap (λ (o : Option ℕ). unwrap_or o 0) (get_or-set_other xs at u (Some most) None ne);
+      others = λ u l ne. ap (λ zs. priority_at zs u) is
+          ∙ ap (λ (o : Option ℕ). unwrap_or o 0) (get_or-set_other xs at u (Some most) None ne);
     }
   where
     most : ℕ
@@ -39,7 +42,8 @@ module _ (n : ℕ) (w : ℕ → ℕ) (p at : ℕ) (now after : ℕ → ℕ) (h :
   again false e = h.here u l e
 
   -- one hop more
-  handed-hop : (k : ℕ) → w at ≢ 0 → ((u ≡ at) ⊎ (u ≢ at)) → after_propagation k w p (w at) after u ≡ after_propagation (suc k) w p at now u
+  handed-hop : (k : ℕ) → w at ≢ 0 → ((u ≡ at) ⊎ (u ≢ at))
+      → after_propagation k w p (w at) after u ≡ after_propagation (suc k) w p at now u
   unfolding reaches_within
   handed-hop k some (inl e) = again (reaches_within k w (w at) u) e ∙ sym (rw (eq-eqb at u (sym e)) refl)
   handed-hop k some (inr ne) =
@@ -71,7 +75,8 @@ module _ (n : ℕ) (w : ℕ → ℕ) (p at : ℕ) (now after : ℕ → ℕ) (h :
   still_handed-end k none = handed-end k none (cases_eq u at)
 
 -- before the first hop
-pub still_handed-all : (n k : ℕ) (w : ℕ → ℕ) (p at : ℕ) (now : ℕ → ℕ) (u : ℕ) → k ≡ suc n → still_handed k w p at now u ≡ after_propagation n w p at now u
+pub still_handed-all : (n k : ℕ) (w : ℕ → ℕ) (p at : ℕ) (now : ℕ → ℕ) (u : ℕ) → k ≡ suc n
+    → still_handed k w p at now u ≡ after_propagation n w p at now u
 unfolding still_handed
 still_handed-all n k w p at now u e = ap (λ hops. still_handed hops w p at now u) e
 
@@ -87,7 +92,8 @@ handed_by k n waits_for base u = greatest_where (λ x. reaches_within n waits_fo
 -- one number more
 pub handed_by-more : (k t n : ℕ) (w b now : ℕ → ℕ) (u : ℕ) → t ≡ k → now u ≡ handed_by k n w b u
     → after_propagation n w (b t) t now u ≡ handed_by (k + 1) n w b u
-handed_by-more k t n w b now u e is = ap (λ x. after_propagation n w (b x) x now u) e ∙ by_test (reaches_within n w k u) refl
+handed_by-more k t n w b now u e is = ap (λ x. after_propagation n w (b x) x now u) e
+    ∙ by_test (reaches_within n w k u) refl
   where
     by_test : (x : Bool) → reaches_within n w k u ≡ x → after_propagation n w (b k) k now u ≡ handed_by (k + 1) n w b u
     by_test true reached = rw reached (greatest_more (λ x. reaches_within n w x u) b k (now u) is reached)

@@ -35,7 +35,8 @@ settled_local v all t th =
     (greatest_where_same (λ u. waits_for v u == t) (λ u. waits_for v u == t) (greatest_base v) (local_of v) (length v.seats) (λ u l. refl) (λ u l. sym (all u l)))
 
 -- who stands boosted stands with that priority
-ranked-prio : (p : ℕ) (o : Option Wait) (rank : Key) → option_map (λ (w : Wait). w.rank) (option_map (with_rank_priority p) o) ≡ Some rank → rank.prio ≡ p
+ranked-prio : (p : ℕ) (o : Option Wait) (rank : Key)
+    → option_map (λ (w : Wait). w.rank) (option_map (with_rank_priority p) o) ≡ Some rank → rank.prio ≡ p
 ranked-prio p None rank e = absurd cc
 ranked-prio p (Some w) rank e = sym (ap (λ (o : Option Key). unwrap_or (option_map (λ (k : Key). k.prio) o) 0) e)
 
@@ -124,11 +125,13 @@ rewaited v t start w repaired was now rank =
     by_seat u k e (inl s) =
         rank k (ap (λ (y : Seat). option_map (λ (z : Wait). z.rank) y.wait) (sym s.1) ∙ e) ∙ ap (local_of v) (sym s.0) ∙ sym (local u)
     by_seat u k e (inr s) =
-        (repaired start).ranks u k (ap (λ (y : Seat). option_map (λ (z : Wait). z.rank) y.wait) (sym s) ∙ e) ∙ sym (local u)
+        (repaired start).ranks u k (ap (λ (y : Seat). option_map (λ (z : Wait). z.rank) y.wait) (sym s) ∙ e)
+        ∙ sym (local u)
 
 -- THE RUN QUEUE
 
-module _ (v : Owners) (q now : Queue) (t table : Table) (levels : (p : ℕ) → IsLevel p → level_of now table p ≡ level_after_walk v q t p) where
+module _ (v : Owners) (q now : Queue) (t table : Table)
+    (levels : (p : ℕ) → IsLevel p → level_of now table p ≡ level_after_walk v q t p) where
   -- the threads of a level that were on it, and those that joined it
   kept : ℕ → List ℕ
   kept p = filter (λ x. greatest_base v x == p) (level_of q t p)
@@ -136,9 +139,11 @@ module _ (v : Owners) (q now : Queue) (t table : Table) (levels : (p : ℕ) → 
   new : ℕ → List ℕ
   new p = filter (joins v q t p) (threads_of v)
 
-  on_level : (u p : ℕ) → IsLevel p → has u (level_of now table p) ≡ true → (has u (kept p) ≡ true) ⊎ (has u (new p) ≡ true)
+  on_level : (u p : ℕ) → IsLevel p → has u (level_of now table p) ≡ true
+      → (has u (kept p) ≡ true) ⊎ (has u (new p) ≡ true)
   unfolding kept new
-  on_level u p lp on = or_cases (has u (kept p)) (has u (new p)) (sym (has-append u (kept p) (new p)) ∙ ap (has u) (sym (levels p lp)) ∙ on)
+  on_level u p lp on = or_cases (has u (kept p)) (has u (new p))
+      (sym (has-append u (kept p) (new p)) ∙ ap (has u) (sym (levels p lp)) ∙ on)
 
   -- who is on a level after a walk is to have that priority
   pub level_is_greatest : (u p : ℕ) → IsLevel p → has u (level_of now table p) ≡ true → greatest_base v u ≡ p
@@ -149,7 +154,8 @@ module _ (v : Owners) (q now : Queue) (t table : Table) (levels : (p : ℕ) → 
       by_part (inl h) = eqb-true (greatest_base v u) p (has-filter (λ x. greatest_base v x == p) u (level_of q t p) h).1
       by_part (inr h) =
           eqb-true (greatest_base v u) p
-          (and_parts (greatest_base v u == p) (is_other p (level_with q t u)) (has-filter (joins v q t p) u (threads_of v) h).1).0
+          (and_parts (greatest_base v u == p) (is_other p (level_with q t u))
+          (has-filter (joins v q t p) u (threads_of v) h).1).0
 
   -- and was on the run queue before
   pub was_ready : Holds q t → (u : ℕ) → IsQueued now table u → IsQueued q t u
@@ -161,16 +167,24 @@ module _ (v : Owners) (q now : Queue) (t table : Table) (levels : (p : ℕ) → 
       some p (Some l) e = refl
 
       by_part : ((has u (kept queued.0) ≡ true) ⊎ (has u (new queued.0) ≡ true)) → IsQueued q t u
-      by_part (inl h) = (queued.0, queued.1, (has-filter (λ x. greatest_base v x == queued.0) u (level_of q t queued.0) h).0)
+      by_part (inl h) = (
+        queued.0,
+        queued.1,
+        (has-filter (λ x. greatest_base v x == queued.0) u
+            (level_of q t queued.0) h).0,
+      )
       by_part (inr h) =
           let other : is_other queued.0 (level_with q t u) ≡ true =
-          (and_parts (greatest_base v u == queued.0) (is_other queued.0 (level_with q t u)) (has-filter (joins v q t queued.0) u (threads_of v) h).1).1 in
+          (and_parts (greatest_base v u == queued.0) (is_other queued.0 (level_with q t u))
+          (has-filter (joins v q t queued.0) u (threads_of v) h).1).1 in
           queued_found q t u holds (some queued.0 (level_with q t u) other)
 
 -- so it is on the level of the effective priority that it has then
-pub walked-level : (v new : Owners) (q now : Queue) (t table : Table) → Holds q t → ((u : ℕ) → IsQueued q t u → 1 ≤ base_of v u) → IsRepaired v new
+pub walked-level : (v new : Owners) (q now : Queue) (t table : Table) → Holds q t
+    → ((u : ℕ) → IsQueued q t u → 1 ≤ base_of v u) → IsRepaired v new
     → ((p : ℕ) → IsLevel p → level_of now table p ≡ level_after_walk v q t p)
     → (u p : ℕ) → IsLevel p → has u (level_of now table p) ≡ true → p ≡ local_of new u
 walked-level v new q now t table holds ready repaired levels u p lp on =
     let was : IsQueued q t u = was_ready v q now t table levels holds u (p, lp, on) in
-    sym (level_is_greatest v q now t table levels u p lp on) ∙ sym (repaired-local v new repaired u (admitted_row v u (ready u was)))
+    sym (level_is_greatest v q now t table levels u p lp on)
+    ∙ sym (repaired-local v new repaired u (admitted_row v u (ready u was)))

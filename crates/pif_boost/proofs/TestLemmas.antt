@@ -66,38 +66,48 @@ dequeued v now t state owner repaired e waits owned =
     by_seat (inr s) = inr (ap (λ (x : Seat). unwrap_or (option_and_then (owner_at v) (option_map (λ (k : Wait). k.state) x.wait)) 0) s ∙ before)
 
 -- who is on no level is not on the run queue
-pub off_by_test : (q : Queue) (t : Table) (u : ℕ) (found : Option ℕ) (b : Bool) → Holds q t → found ≡ level_with q t u → b ≡ is_some found → b ≡ false → IsQueued q t u → ⊥
+pub off_by_test : (q : Queue) (t : Table) (u : ℕ) (found : Option ℕ) (b : Bool) → Holds q t → found ≡ level_with q t u
+    → b ≡ is_some found → b ≡ false → IsQueued q t u → ⊥
 off_by_test q t u found b holds is tested none queued =
-    true≢false (ap is_some (sym (level_with-from_listed q t u queued.0 holds queued.1 queued.2)) ∙ ap is_some (sym is) ∙ sym tested ∙ none)
+    true≢false (ap is_some (sym (level_with-from_listed q t u queued.0 holds queued.1 queued.2)) ∙ ap is_some (sym is)
+    ∙ sym tested ∙ none)
 
 -- another wait of one thread
-module _ (v waited : Owners) (q : Queue) (t : Table) (u : ℕ) (w : Option Wait) (settled : IsSettled v q t) (e : waited ≡ with_wait u w v) where
+module _ (v waited : Owners) (q : Queue) (t : Table) (u : ℕ) (w : Option Wait) (settled : IsSettled v q t)
+    (e : waited ≡ with_wait u w v) where
   -- who is on the run queue was admitted
   pub still_ready : (x : ℕ) → IsQueued q t x → 1 ≤ base_of waited x
   still_ready x queued =
       let same : base_of waited x ≡ base_of v x =
-      ap (λ (y : Owners). base_of y x) e ∙ kept_at (λ (s : Seat). s.base) v.seats u (record (seat_at v u) { wait = w }) no_seat refl x in
+      ap (λ (y : Owners). base_of y x) e ∙ kept_at (λ (s : Seat). s.base) v.seats u
+      (record (seat_at v u) { wait = w }) no_seat refl x in
       omega (arith, same, settled.ready x queued)
 
   -- and is on the level of its effective priority
   pub still_level : (x p : ℕ) → IsLevel p → has x (level_of q t p) ≡ true → p ≡ local_of waited x
   still_level x p lp on =
-      settled.level x p lp on ∙ sym (ap (λ (y : Owners). local_of y x) e ∙ kept_at (λ (s : Seat). s.local) v.seats u (record (seat_at v u) { wait = w }) no_seat refl x)
+      settled.level x p lp on ∙ sym (ap (λ (y : Owners). local_of y x) e
+      ∙ kept_at (λ (s : Seat). s.local) v.seats u (record (seat_at v u) { wait = w }) no_seat refl x)
 
   -- and waits for nobody, where the thread that waits otherwise is not on it, or waits for nobody
   pub still_running : (IsQueued q t u → w ≡ None) → (x : ℕ) → IsQueued q t x → waits_on waited x ≡ None
-  still_running free x queued = ap (λ (y : Owners). waits_on y x) e ∙ by_seat (seat_at-with_seat u (record (seat_at v u) { wait = w }) v x)
+  still_running free x queued = ap (λ (y : Owners). waits_on y x) e
+      ∙ by_seat (seat_at-with_seat u (record (seat_at v u) { wait = w }) v x)
     where
-      by_seat : ((x ≡ u) × (seat_at (with_wait u w v) x ≡ record (seat_at v u) { wait = w })) ⊎ (seat_at (with_wait u w v) x ≡ seat_at v x)
+      by_seat : ((x ≡ u) × (seat_at (with_wait u w v) x ≡ record (seat_at v u) { wait = w }))
+          ⊎ (seat_at (with_wait u w v) x ≡ seat_at v x)
           → waits_on (with_wait u w v) x ≡ None
       by_seat (inl s) =
-          ap (λ (y : Seat). option_map (λ (k : Wait). k.state) y.wait) s.1 ∙ ap (option_map (λ (k : Wait). k.state)) (free (subst (IsQueued q t) s.0 queued))
+          ap (λ (y : Seat). option_map (λ (k : Wait). k.state) y.wait) s.1
+          ∙ ap (option_map (λ (k : Wait). k.state)) (free (subst (IsQueued q t) s.0 queued))
       by_seat (inr s) = ap (λ (y : Seat). option_map (λ (k : Wait). k.state) y.wait) s ∙ settled.running x queued
 
   -- a walk after it leaves all settled
   pub walked : (new : Owners) (now : Queue) (table : Table) → (IsQueued q t u → w ≡ None)
-      → IsRepaired waited new → ((s : ℕ) → IsRepairedBut s new) → ((p : ℕ) → IsLevel p → level_of now table p ≡ level_after_walk waited q t p)
-      → ((x p : ℕ) → IsLevel p → has x (level_of now table p) ≡ true → p ≡ local_of new x) → Holds now table → IsSettled new now table
+      → IsRepaired waited new → ((s : ℕ) → IsRepairedBut s new)
+      → ((p : ℕ) → IsLevel p → level_of now table p ≡ level_after_walk waited q t p)
+      → ((x p : ℕ) → IsLevel p → has x (level_of now table p) ≡ true → p ≡ local_of new x) → Holds now table
+      → IsSettled new now table
   walked new now table free repaired left levels level holds =
       record {
         repaired = left;
@@ -159,21 +169,24 @@ idle-made n k owner v now e h = subst (IsIdle n) (sym e) (record { long = h.long
 pub three : (v0 v1 v2 v3 : Owners) (t1 t2 t3 p1 p2 p3 : ℕ) → v0 ≡ no_owners 3 → v1 ≡ with_seat t1 (admitted p1) v0 → v2 ≡ with_seat t2 (admitted p2) v1
     → v3 ≡ with_seat t3 (admitted p3) v2 → (length v3.seats ≡ 4) × (count v3 ≡ 0)
 three v0 v1 v2 v3 t1 t2 t3 p1 p2 p3 e0 e1 e2 e3 = (
-  (idle-admitted 3 t3 p3 v2 v3 e3 (idle-admitted 3 t2 p2 v1 v2 e2 (idle-admitted 3 t1 p1 v0 v1 e1 (idle-new 3 v0 e0)))).long,
+  (idle-admitted 3 t3 p3 v2 v3 e3 (idle-admitted 3 t2 p2 v1 v2 e2
+      (idle-admitted 3 t1 p1 v0 v1 e1 (idle-new 3 v0 e0)))).long,
   ap count e3 ∙ ap count e2 ∙ ap count e1 ∙ ap count e0 ∙ count-no_owners 3,
 )
 
 -- three threads and two states
 idle-three : (k1 k2 : ℕ) → IsIdle 3 (three_threads k1 k2)
 idle-three k1 k2 = idle-made 3 k2 2 _ _ refl (idle-made 3 k1 1 _ _ refl
-    (idle-admitted 3 3 99 _ _ refl (idle-admitted 3 2 2 _ _ refl (idle-admitted 3 1 1 _ _ refl (idle-new 3 (no_owners 3) refl)))))
+    (idle-admitted 3 3 99 _ _ refl (idle-admitted 3 2 2 _ _ refl
+    (idle-admitted 3 1 1 _ _ refl (idle-new 3 (no_owners 3) refl)))))
 
 -- a state is there once it is made
 state_made : (v now : Owners) (k owner : ℕ) → now ≡ with_owner k owner v → IsSome (owner_at now k)
 state_made v now k owner e = ap is_some (ap (λ (x : Owners). owner_at x k) e ∙ owner_at-with_owner_same k owner v)
 
 -- and stays there when another one is made
-state_stays : (v now : Owners) (k owner j : ℕ) → now ≡ with_owner k owner v → IsSome (owner_at v j) → IsSome (owner_at now j)
+state_stays : (v now : Owners) (k owner j : ℕ) → now ≡ with_owner k owner v → IsSome (owner_at v j)
+    → IsSome (owner_at now j)
 state_stays v now k owner j e some = by_key (cases_eq j k)
   where
     by_key : ((j ≡ k) ⊎ (j ≡ k → ⊥)) → IsSome (owner_at now j)
@@ -183,7 +196,8 @@ state_stays v now k owner j e some = by_key (cases_eq j k)
 -- the two states
 pub first_there : (k1 k2 : ℕ) → IsSome (owner_at (three_threads k1 k2) k1)
 first_there k1 k2 =
-    state_stays (with_owner k1 1 three_admitted) (three_threads k1 k2) k2 2 k1 refl (state_made three_admitted (with_owner k1 1 three_admitted) k1 1 refl)
+    state_stays (with_owner k1 1 three_admitted) (three_threads k1 k2) k2 2 k1 refl
+    (state_made three_admitted (with_owner k1 1 three_admitted) k1 1 refl)
 
 pub second_there : (k1 k2 : ℕ) → IsSome (owner_at (three_threads k1 k2) k2)
 second_there k1 k2 = state_made (with_owner k1 1 three_admitted) (three_threads k1 k2) k2 2 refl
@@ -193,7 +207,8 @@ idle-repaired : (n : ℕ) (v : Owners) → IsIdle n v → (start : ℕ) → IsRe
 idle-repaired n v h start =
     record {
       locals = λ t th ne. h.same t ∙ omega (arith, nobody t th (cases_lt 0 (greatest_waiting v t)));
-      ranks = λ t rank e. let none : None ≡ Some rank = sym (ap (option_map (λ (w : Wait). w.rank)) (h.free t)) ∙ e in absurd cc;
+      ranks = λ t rank e. let none : None ≡ Some rank = sym (ap (option_map (λ (w : Wait). w.rank)) (h.free t))
+          ∙ e in absurd cc;
     }
   where
     nobody : (t : ℕ) → IsThread v t → ((0 < greatest_waiting v t) ⊎ (greatest_waiting v t ≤ 0)) → greatest_waiting v t ≡ 0
@@ -223,12 +238,14 @@ has_room t new apart =
 
 -- thread 1 alone is on the queue
 pub settled-start : (k1 k2 : ℕ) (now : Queue) (t table : Table) → t ≡ new_table
-    → ((p : ℕ) → IsLevel p → level_of now table p ≡ level_after_add 1 1 p (level_of new_queue t p)) → Holds now table → IsSettled (three_threads k1 k2) now table
+    → ((p : ℕ) → IsLevel p → level_of now table p ≡ level_after_add 1 1 p (level_of new_queue t p)) → Holds now table
+    → IsSettled (three_threads k1 k2) now table
 settled-start k1 k2 now t table made levels holds =
     record {
       repaired = idle-repaired 3 (three_threads k1 k2) (idle-three k1 k2);
       holds = holds;
-      ready = λ x queued. subst (λ y. 1 ≤ base_of (three_threads k1 k2) y) (sym (first x queued.0 queued.1 queued.2).0) (omega arith);
+      ready = λ x queued. subst (λ y. 1 ≤ base_of (three_threads k1 k2) y)
+          (sym (first x queued.0 queued.1 queued.2).0) (omega arith);
       running = λ x queued. ap (option_map (λ (w : Wait). w.state)) ((idle-three k1 k2).free x);
       level = λ x p lp on. let is = first x p lp on in is.1 ∙ sym (ap (local_of (three_threads k1 k2)) is.0);
     }
@@ -244,8 +261,12 @@ settled-start k1 k2 now t table made levels holds =
         head (inr k) = absurd cc
 
         by_level : ((eqb p 1 ≡ true) ⊎ (eqb p 1 ≡ false)) → (x ≡ 1) × (p ≡ 1)
-        by_level (inl k) = (head (or_cases (eqb x 1) false (sym (ap (λ b. has x (if b then 1 ∷ [] else [])) k) ∙ m)), eqb-true p 1 k)
-        by_level (inr k) = let no_one : false ≡ true = sym (ap (λ b. has x (if b then 1 ∷ [] else [])) k) ∙ m in absurd cc
+        by_level (inl k) = (
+          head (or_cases (eqb x 1) false (sym (ap (λ b. has x (if b then 1 ∷ [] else [])) k) ∙ m)),
+          eqb-true p 1 k,
+        )
+        by_level (inr k) = let no_one : false ≡ true = sym (ap (λ b. has x (if b then 1 ∷ [] else [])) k)
+            ∙ m in absurd cc
 
     first : (x p : ℕ) → IsLevel p → has x (level_of now table p) ≡ true → (x ≡ 1) × (p ≡ 1)
     first x p lp on = alone x p lp (sym (ap (has x) (levels p lp ∙ ap (level_after_add 1 1 p) (none p lp))) ∙ on)

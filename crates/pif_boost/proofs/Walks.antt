@@ -89,11 +89,13 @@ next_ready k u p v new q now t table e row priority w ready queued =
 
 -- and where it is to have none, it stays as it is
 pub next_idle : (k u p start : ℕ) (v new : Owners) (q now : Queue) (t table : Table) → u ≡ k + 1 → u < length v.seats → p ≡ greatest_base v u
-    → IsWalkedTo k v q t new now table → IsSound v → IsRepairedBut start v → 1 ≤ base_of v start → p ≡ 0 → seat_at new u ≡ with_effective 0 (seat_at new u)
+    → IsWalkedTo k v q t new now table → IsSound v → IsRepairedBut start v → 1 ≤ base_of v start → p ≡ 0
+    → seat_at new u ≡ with_effective 0 (seat_at new u)
 next_idle k u p start v new q now t table e row priority w sound but admitted none =
     let left : seat_at new u ≡ seat_at v u = w.repaired.left u (omega arith) in
     let th : IsThread v u = (omega arith, row) in
-    left ∙ idle v start sound but (admitted_row v start admitted) admitted u th (sym priority ∙ none) ∙ sym (ap (with_effective 0) left)
+    left ∙ idle v start sound but (admitted_row v start admitted) admitted u th (sym priority ∙ none)
+    ∙ sym (ap (with_effective 0) left)
 
 -- one thread more
 pub walked-more : (k u p : ℕ) (v new after : Owners) (q now then_queue : Queue) (t table then_table : Table) → u ≡ k + 1 → u < length v.seats → p ≡ greatest_base v u
@@ -112,7 +114,8 @@ walked-more k u p v new after q now then_queue t table then_table e row priority
     }
   where
     moved_from : (x : ℕ) → IsLevel x → level_after_move_if_queued now table u p x
-        ≡ (if is_some (level_with q t u) then level_after_move u (greatest_base v u) x (leveled_to k v q t x) else leveled_to k v q t x)
+        ≡ (if is_some (level_with q t u) then level_after_move u (greatest_base v u) x (leveled_to k v q t x) else
+        leveled_to k v q t x)
     moved_from x lx =
         let level : level_with now table u ≡ level_with q t u = next_level k u v q now t table e old w.holds w.levels in
         let at : level_of now table x ≡ leveled_to k v q t x = w.levels x lx in
@@ -124,7 +127,8 @@ pub walked-repaired : (k : ℕ) (v new : Owners) (q now : Queue) (t table : Tabl
 walked-repaired k v new q now t table e w = repaired-all k v new e w.repaired
 
 pub walked-levels : (k : ℕ) (v new : Owners) (q now : Queue) (t table : Table) → k + 1 ≡ length v.seats → IsWalkedTo k v q t new now table
-    → ((x : ℕ) → IsQueued q t x → 1 ≤ base_of v x) → (p : ℕ) → IsLevel p → level_of now table p ≡ level_after_walk v q t p
+    → ((x : ℕ) → IsQueued q t x → 1 ≤ base_of v x) → (p : ℕ) → IsLevel p
+    → level_of now table p ≡ level_after_walk v q t p
 walked-levels k v new q now t table e w ready p lp =
     w.levels p lp ∙ leveled-all k v q t p e (λ u h. admitted_row v u (ready u (p, lp, h)))
 

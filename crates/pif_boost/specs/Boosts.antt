@@ -67,7 +67,8 @@ pub record IsRepairedBut (start : ℕ) (v : Owners) : Type 0 where
 
 -- the threads of level p of a run queue once u, if it is on some level, was moved to level `to`
 abbrev pub level_after_move_if_queued : Queue → Table → ℕ → ℕ → ℕ → List ℕ
-level_after_move_if_queued q t u to p = if is_some (level_with q t u) then level_after_move u to p (level_of q t p) else level_of q t p
+level_after_move_if_queued q t u to p = if is_some (level_with q t u) then level_after_move u to p (level_of q t p)
+    else level_of q t p
 
 -- whether a level is there and is another one than p
 abbrev pub is_other : ℕ → Option ℕ → Bool
@@ -82,7 +83,8 @@ joins v q t p u = (greatest_base v u == p) && is_other p (level_with q t u)
 -- that keep their level in their order, then those that join it in order of their numbers. (sched(7): a thread whose
 -- priority changes joins the end of its new level.)
 abbrev pub level_after_walk : Owners → Queue → Table → ℕ → List ℕ
-level_after_walk v q t p = filter (λ u. greatest_base v u == p) (level_of q t p) ++ filter (joins v q t p) (threads_of v)
+level_after_walk v q t p = filter (λ u. greatest_base v u == p) (level_of q t p) ++ filter (joins v q t p)
+    (threads_of v)
 
 -- t is the next waiter of a state: it waits there, none that waits there has a greater effective priority, and none of
 -- the same has a lower ticket

@@ -6,8 +6,8 @@ use Rattle.pif_runq.specs.Levels.{Queue, IsLevel, level_of, Holds, IsQueued}
 use Rattle.pif_rtmutex.specs.Owners.{Owners, waits_on}
 use Rattle.pif_boost.specs.Boosts.{base_of, local_of, IsRepairedBut}
 
--- nothing is left to repair, the queue stands in its table, and who is on it was admitted, waits for nobody and is on the
--- level of its effective priority
+-- nothing is left to repair, the queue stands in its table, and who is on it was admitted, waits for nobody and is on
+-- the level of its effective priority
 pub record IsSettled (v : Owners) (q : Queue) (t : Table) : Type 0 where
   pub repaired : (start : ℕ) → IsRepairedBut start v
   pub holds : Holds q t

@@ -38,7 +38,8 @@ module _ {ns : List Slot} {es : List Ends} {t : Table} (view : seen ns es ≡ t)
   -- a node is put into a list
   pub Shows-attached : {copy now : List Slot} {ends_copy ends_now : List Ends} {l l2 n n2 size count : ℕ} {after prev next : Option ℕ} →
       n < length t.keys → l < length t.lists → holder t n ≡ None → ((p : ℕ) → after ≡ Some p → holder t p ≡ Some l) → next ≡ follower_of ns es l after →
-      copy ≡ ns → ends_copy ≡ es → l2 ≡ l → prev ≡ after → n2 ≡ n → now ≡ slots_after_link copy l2 prev next n2 → ends_now ≡ ends_after_link ends_copy l2 prev next n2 → length now ≡ size → length ends_now ≡ count →
+      copy ≡ ns → ends_copy ≡ es → l2 ≡ l → prev ≡ after → n2 ≡ n → now ≡ slots_after_link copy l2 prev next n2
+      → ends_now ≡ ends_after_link ends_copy l2 prev next n2 → length now ≡ size → length ends_now ≡ count →
       Shows (put_back ns now size) (put_back es ends_now count) (with_list t l (insert_after after n (list_at t l)))
   Shows-attached {copy} {now} {ends_copy} {ends_now} {l} {l2} {n} {n2} {size} {count} {after} {prev} {next} n_in l_in out place next_is same_nodes same_ends same_list same_place same written ends_written long ends_long =
       let then : Table = with_list t l (insert_after after n (list_at t l)) in
@@ -69,7 +70,8 @@ module _ {ns : List Slot} {es : List Ends} {t : Table} (view : seen ns es ≡ t)
     next_within x h = next_in_fields ns es t shows n x (sym (ap (λ (x : Slot). x.next) fields) ∙ h)
 
     pub Shows-detached : {copy now : List Slot} {ends_copy ends_now : List Ends} {n2 size count : ℕ} →
-        copy ≡ ns → ends_copy ≡ es → n2 ≡ n → now ≡ slots_after_unlink copy s.prev s.next n2 → ends_now ≡ ends_after_unlink ends_copy list s.prev s.next → length now ≡ size → length ends_now ≡ count →
+        copy ≡ ns → ends_copy ≡ es → n2 ≡ n → now ≡ slots_after_unlink copy s.prev s.next n2
+        → ends_now ≡ ends_after_unlink ends_copy list s.prev s.next → length now ≡ size → length ends_now ≡ count →
         Shows (put_back ns now size) (put_back es ends_now count) (with_list t list (without n (list_at t list)))
     Shows-detached {copy} {now} {ends_copy} {ends_now} {n2} {size} {count} same_nodes same_ends same written ends_written long ends_long =
         let then : Table = with_list t list (without n (list_at t list)) in

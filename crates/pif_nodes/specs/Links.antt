@@ -78,7 +78,8 @@ follower_of ns es l (Some p) = (slot_at ns p).next
 
 -- the nodes once n stands between `prev` and `next` in list l
 abbrev pub slots_after_link : List Slot → ℕ → Option ℕ → Option ℕ → ℕ → List Slot
-slots_after_link ns l prev next n = with_prev (with_next (with_place ns n (Some l) prev next) prev (Some n)) next (Some n)
+slots_after_link ns l prev next n = with_prev (with_next (with_place ns n (Some l) prev next) prev (Some n)) next
+    (Some n)
 
 -- the ends of the lists then
 abbrev pub ends_after_link : List Ends → ℕ → Option ℕ → Option ℕ → ℕ → List Ends

@@ -77,11 +77,13 @@ module _ (t : Table) (l n : ℕ) (k : Key) (place : Option ℕ) (apart : IsApart
   pub inserted_sorted : IsSorted (table_after_insert t l n k) l
   inserted_sorted =
       let put : IsInOrder keys (at.front ++ n ∷ at.back) = IsInOrder-put keys n at.front at.back order before (back_no_earlier keys (key_in keys n) at.front at.back order behind) in
-      subst (IsInOrder keys) (sym (list_at-same (with_key t n k) l (list_after_insert keys n (list_at t l)) l_in ∙ placed_is)) put
+      subst (IsInOrder keys) (sym (list_at-same (with_key t n k) l (list_after_insert keys n (list_at t l)) l_in
+      ∙ placed_is)) put
 
   pub inserted_others : OthersStaySorted t (table_after_insert t l n k) l
   inserted_others j ne h =
-      subst (IsInOrder keys) (sym (list_at-other (with_key t n k) l j (list_after_insert keys n (list_at t l)) ne)) (IsInOrder-elsewhere t.keys n k (list_at t j) (absent j) h)
+      subst (IsInOrder keys) (sym (list_at-other (with_key t n k) l j (list_after_insert keys n (list_at t l)) ne))
+      (IsInOrder-elsewhere t.keys n k (list_at t j) (absent j) h)
 
   -- the place is in the list
   pub place_held : (p : ℕ) → place ≡ Some p → holder t p ≡ Some l

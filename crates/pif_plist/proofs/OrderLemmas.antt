@@ -109,7 +109,8 @@ IsInOrder-put keys n (x ∷ xs) back h before behind = (
 
 -- a node is placed behind those that come no later
 pub placed-split : (keys : List Key) (n : ℕ) (front back : List ℕ) → ((m : ℕ) → has m front ≡ true → comes_before (key_in keys n) (key_in keys m) ≡ false) →
-    ((m : ℕ) → first_of back ≡ Some m → comes_before (key_in keys n) (key_in keys m) ≡ true) → list_after_insert keys n (front ++ back) ≡ front ++ n ∷ back
+    ((m : ℕ) → first_of back ≡ Some m → comes_before (key_in keys n) (key_in keys m) ≡ true)
+    → list_after_insert keys n (front ++ back) ≡ front ++ n ∷ back
 placed-split keys n [] [] before behind = refl
 placed-split keys n [] (y ∷ ys) before behind = let e : comes_before (key_in keys n) (key_in keys y) ≡ true = behind y refl in rw e refl
 placed-split keys n (x ∷ xs) back before behind =

@@ -24,7 +24,8 @@ IsSorted t l = IsInOrder t.keys (list_at t l)
 -- a list with a node put before the first one that comes later, or at the end where none does
 abbrev pub list_after_insert : List Key → ℕ → List ℕ → List ℕ
 list_after_insert keys n [] = n ∷ []
-list_after_insert keys n (x ∷ xs) = if comes_before (key_in keys n) (key_in keys x) then n ∷ x ∷ xs else x ∷ list_after_insert keys n xs
+list_after_insert keys n (x ∷ xs) = if comes_before (key_in keys n) (key_in keys x) then n ∷ x ∷ xs else x ∷
+    list_after_insert keys n xs
 
 -- a table in which a node has got a key and been put into a list by it
 abbrev pub table_after_insert : Table → ℕ → ℕ → Key → Table

@@ -6,4 +6,5 @@ use Rattle.pif_rtmutex.specs.Owners.{Owners, no_owners, with_wait, with_owner}
 abbrev pub queued_two : ℕ → Owners
 queued_two key =
     with_wait 3 (Some (record { state = key; rank = record { prio = 20; ticket = 2 } }))
-    (with_wait 2 (Some (record { state = key; rank = record { prio = 20; ticket = 1 } })) (with_owner key 1 (no_owners 3)))
+    (with_wait 2 (Some (record { state = key; rank = record { prio = 20; ticket = 1 } }))
+    (with_owner key 1 (no_owners 3)))

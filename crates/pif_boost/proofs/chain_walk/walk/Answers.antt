@@ -13,7 +13,11 @@ propagate_all-requires c = record { none = λ t. nothing_at 1025 t }
 
 pub loop-place-init : goal.loop-place-init
 loop-place-init c =
-    record { walked = walked-start c.args.owners.now c.args.queue.now c.args.table.now c.threads-place-end.ensures.sound c.requires.holds; counted = omega arith }
+    record {
+      walked = walked-start c.args.owners.now c.args.queue.now c.args.table.now
+          c.threads-place-end.ensures.sound c.requires.holds;
+      counted = omega arith;
+    }
 
 pub repair-requires-clause-ready : goal.repair-requires-clause-ready
 repair-requires-clause-ready c =
@@ -40,8 +44,16 @@ loop-place-preserved c =
     c.args.queue.now c.loop-place.queue c.repair.new.queue c.args.table.now c.loop-place.table c.repair.new.table
     at (omega arith) priority c.requires.holds c.loop-place.invariant.walked c.repair.ensures.owners c.repair.ensures.levels c.repair.ensures.outside c.repair.ensures.place c.repair.ensures.holds in
     elim c.if-repair.branch [
-      | then-repair w ↦ record { walked = walked; counted = omega (arith, w.changed-is, c.loop-place.invariant.counted) }
-      | else-repair w ↦ record { walked = walked; counted = omega (arith, w.changed-is, c.loop-place.invariant.counted) }
+      | then-repair w ↦ record {
+        walked = walked;
+        counted =
+            omega (arith, w.changed-is, c.loop-place.invariant.counted);
+      }
+      | else-repair w ↦ record {
+        walked = walked;
+        counted =
+            omega (arith, w.changed-is, c.loop-place.invariant.counted);
+      }
     ]
 
 pub returns-clause-greatest : goal.returns-clause-greatest
@@ -67,5 +79,6 @@ pub returns-clause-level : goal.returns-clause-level
 returns-clause-level c = λ u p lp on.
     let all : IsRepaired c.args.owners.now c.loop-place.owners =
     walked-repaired c.loop-place.place c.args.owners.now c.loop-place.owners c.args.queue.now c.loop-place.queue c.args.table.now c.loop-place.table (omega arith) c.loop-place.invariant.walked in
-    walked-level c.args.owners.now c.loop-place.owners c.args.queue.now c.loop-place.queue c.args.table.now c.loop-place.table c.requires.holds c.requires.ready all
+    walked-level c.args.owners.now c.loop-place.owners c.args.queue.now c.loop-place.queue c.args.table.now
+    c.loop-place.table c.requires.holds c.requires.ready all
     (returns-clause-levels c) u p lp on

@@ -13,24 +13,32 @@ loop-place-init c = λ u l. c.requires.none u ∙ greatest_start c.args.owners.n
 
 pub loop-place-preserved : goal.loop-place-preserved
 loop-place-preserved c = λ u l.
-    let at : c.unwrap-t.result ≡ c.loop-place.place + 1 = numbered c.new.result c.unwrap-t.result (c.loop-place.place + 1) c.unwrap-t.ensures c.new.ensures.value in
+    let at : c.unwrap-t.result ≡ c.loop-place.place + 1 =
+    numbered c.new.result c.unwrap-t.result (c.loop-place.place + 1) c.unwrap-t.ensures c.new.ensures.value in
     let was = c.loop-place.invariant u l in
-    let more = handed_by-more (c.loop-place.place + 1) c.unwrap-t.result (length c.args.owners.now.seats) (waits_for c.args.owners.now) (base_of c.args.owners.now)
+    let more = handed_by-more (c.loop-place.place + 1) c.unwrap-t.result (length c.args.owners.now.seats)
+    (waits_for c.args.owners.now) (base_of c.args.owners.now)
     (priority_at c.loop-place.greatest) u at was in
     elim c.match-base.branch [
       | in-Some w ↦
           ap (λ xs. priority_at xs u) w.greatest-is ∙ w.propagate.ensures.values u l
-          ∙ ap (λ p. after_propagation (length c.args.owners.now.seats) (waits_for c.args.owners.now) p c.unwrap-t.result (priority_at c.loop-place.greatest) u)
-          (numbered c.base.result w.in-Some.prio (base_of c.args.owners.now c.unwrap-t.result) w.in-Some.is c.base.ensures.value)
+          ∙ ap (λ p. after_propagation (length c.args.owners.now.seats) (waits_for c.args.owners.now) p
+          c.unwrap-t.result (priority_at c.loop-place.greatest) u)
+          (numbered c.base.result w.in-Some.prio (base_of c.args.owners.now c.unwrap-t.result) w.in-Some.is
+          c.base.ensures.value)
           ∙ more
       | in_default w ↦
-          ap (λ xs. priority_at xs u) w.greatest-is ∙ propagation-none (length c.args.owners.now.seats) (base_of c.args.owners.now c.unwrap-t.result) c.unwrap-t.result
-          (waits_for c.args.owners.now) (priority_at c.loop-place.greatest) u (not_given c.base.result _ c.base.ensures.given w.in_default.not-Some) ∙ more
+          ap (λ xs. priority_at xs u) w.greatest-is
+          ∙ propagation-none (length c.args.owners.now.seats) (base_of c.args.owners.now c.unwrap-t.result)
+          c.unwrap-t.result
+          (waits_for c.args.owners.now) (priority_at c.loop-place.greatest) u
+          (not_given c.base.result _ c.base.ensures.given w.in_default.not-Some) ∙ more
     ]
 
 pub returns : goal.returns
 returns c = record {
   values = λ t l.
       greatest_all c.args.owners.now t (c.loop-place.place + 1) (priority_at c.loop-place.greatest t)
-      (omega (arith, c.loop-place-test.false, c.loop-place.auto.place-end, c.threads-place-end.ensures.value)) (c.loop-place.invariant t l);
+      (omega (arith, c.loop-place-test.false, c.loop-place.auto.place-end, c.threads-place-end.ensures.value))
+      (c.loop-place.invariant t l);
 }

@@ -7,4 +7,5 @@ use Rattle.pif_boost.proofs.propagate.propagate_all.Given as goal
 
 abbrev pub invariant-loop-place : goal.invariant-loop-place
 invariant-loop-place l = (u : ℕ) → u < length l.owners.seats
-    → priority_at l.greatest u ≡ handed_by (l.place + 1) (length l.owners.seats) (waits_for l.owners) (base_of l.owners) u
+    → priority_at l.greatest u ≡ handed_by (l.place + 1) (length l.owners.seats) (waits_for l.owners)
+    (base_of l.owners) u

@@ -10,7 +10,8 @@ use Rattle.pif_boost.proofs.tests.boost_through_a_chain.Goals as goal
 pub add-requires-clause-holds : goal.add-requires-clause-holds
 add-requires-clause-holds g c =
     c.new-queue.ensures.holds c.args.table.now
-    (subst (λ (q : Queue). HasRoom q c.args.table.now) (sym c.new-queue.ensures.made) (has_room c.args.table.now c.requires.table c.requires.apart))
+    (subst (λ (q : Queue). HasRoom q c.args.table.now) (sym c.new-queue.ensures.made)
+    (has_room c.args.table.now c.requires.table c.requires.apart))
 
 pub wait_on-requires-clause-state : goal.wait_on-requires-clause-state
 wait_on-requires-clause-state g c =
@@ -25,7 +26,8 @@ wait_on-requires-clause-settled g c =
     subst (λ (v : Owners). IsSettled v c.add.new.self c.add.new.table) (sym c.admit_three-s1.ensures)
     (settled-start first second c.add.new.self c.args.table.now c.add.new.table c.requires.table
     (λ p lp. c.add.ensures.levels p lp
-    ∙ (λ i. level_after_add (c.thread-t1.ensures i) (c.priority.ensures i) p (level_of (c.new-queue.ensures.made i) c.args.table.now p))) c.add.ensures.holds)
+    ∙ (λ i. level_after_add (c.thread-t1.ensures i) (c.priority.ensures i) p
+    (level_of (c.new-queue.ensures.made i) c.args.table.now p))) c.add.ensures.holds)
 
 pub wait_on-requires-2-clause-state : goal.wait_on-requires-2-clause-state
 wait_on-requires-2-clause-state g c =

@@ -9,13 +9,16 @@ walk-requires-clause-repaired c =
 
 pub walk-requires-clause-running : goal.walk-requires-clause-running
 walk-requires-clause-running c =
-    still_running c.args.owners.now c.dequeue.new.self c.args.queue.now c.args.table.now c.args.t _ c.requires c.dequeue.ensures.free (λ on. refl)
+    still_running c.args.owners.now c.dequeue.new.self c.args.queue.now c.args.table.now c.args.t _ c.requires
+    c.dequeue.ensures.free (λ on. refl)
 
 pub walk-requires-clause-level : goal.walk-requires-clause-level
-walk-requires-clause-level c = still_level c.args.owners.now c.dequeue.new.self c.args.queue.now c.args.table.now c.args.t _ c.requires c.dequeue.ensures.free
+walk-requires-clause-level c = still_level c.args.owners.now c.dequeue.new.self c.args.queue.now c.args.table.now
+    c.args.t _ c.requires c.dequeue.ensures.free
 
 pub returns : goal.returns
 returns c =
-    walked c.args.owners.now c.dequeue.new.self c.args.queue.now c.args.table.now c.args.t _ c.requires c.dequeue.ensures.free
+    walked c.args.owners.now c.dequeue.new.self c.args.queue.now c.args.table.now c.args.t _ c.requires
+    c.dequeue.ensures.free
     c.walk.new.owners c.walk.new.queue c.walk.new.table (λ on. refl)
     c.walk.ensures.repaired c.walk.ensures.settled c.walk.ensures.levels c.walk.ensures.level c.walk.ensures.holds

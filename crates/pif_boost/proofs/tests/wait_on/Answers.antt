@@ -9,15 +9,20 @@ walk-requires-clause-repaired c =
 
 pub walk-requires-clause-running : goal.walk-requires-clause-running
 walk-requires-clause-running c =
-    still_running c.args.owners.now c.enqueue.new.self c.args.queue.now c.args.table.now c.args.t _ c.requires.settled c.enqueue.ensures.queued
-    (λ on. absurd (off_by_test c.args.queue.now c.args.table.now c.args.t c.level.result c.is_some-else-is_some.result c.requires.settled.holds c.level.ensures.level c.is_some-else-is_some.ensures c.if-is_some-2.false on))
+    still_running c.args.owners.now c.enqueue.new.self c.args.queue.now c.args.table.now c.args.t _ c.requires.settled
+    c.enqueue.ensures.queued
+    (λ on. absurd (off_by_test c.args.queue.now c.args.table.now c.args.t c.level.result c.is_some-else-is_some.result
+    c.requires.settled.holds c.level.ensures.level c.is_some-else-is_some.ensures c.if-is_some-2.false on))
 
 pub walk-requires-clause-level : goal.walk-requires-clause-level
-walk-requires-clause-level c = still_level c.args.owners.now c.enqueue.new.self c.args.queue.now c.args.table.now c.args.t _ c.requires.settled c.enqueue.ensures.queued
+walk-requires-clause-level c = still_level c.args.owners.now c.enqueue.new.self c.args.queue.now c.args.table.now
+    c.args.t _ c.requires.settled c.enqueue.ensures.queued
 
 pub returns-clause-settled : goal.returns-clause-settled
 returns-clause-settled c =
-    walked c.args.owners.now c.enqueue.new.self c.args.queue.now c.args.table.now c.args.t _ c.requires.settled c.enqueue.ensures.queued
+    walked c.args.owners.now c.enqueue.new.self c.args.queue.now c.args.table.now c.args.t _ c.requires.settled
+    c.enqueue.ensures.queued
     c.walk.new.owners c.walk.new.queue c.walk.new.table
-    (λ on. absurd (off_by_test c.args.queue.now c.args.table.now c.args.t c.level.result c.is_some-else-is_some.result c.requires.settled.holds c.level.ensures.level c.is_some-else-is_some.ensures c.if-is_some-2.false on))
+    (λ on. absurd (off_by_test c.args.queue.now c.args.table.now c.args.t c.level.result c.is_some-else-is_some.result
+    c.requires.settled.holds c.level.ensures.level c.is_some-else-is_some.ensures c.if-is_some-2.false on))
     c.walk.ensures.repaired c.walk.ensures.settled c.walk.ensures.levels c.walk.ensures.level c.walk.ensures.holds

@@ -10,11 +10,20 @@ as_many t now l xs e = ap (λ (x : Table). length x.lists) e ∙ length-set t.li
 
 pub attach_after-requires-clause-list_in : goal.attach_after-requires-clause-list_in
 attach_after-requires-clause-list_in c =
-    omega (arith, as_many c.args.table.now c.detach.new.self c.args.from _ (c.detach.ensures.taken c.args.from c.requires.held), c.requires.list_in)
+    omega (
+      arith,
+      as_many c.args.table.now c.detach.new.self c.args.from _
+          (c.detach.ensures.taken c.args.from c.requires.held),
+      c.requires.list_in,
+    )
 
 pub attach_after-requires-clause-node_in : goal.attach_after-requires-clause-node_in
 attach_after-requires-clause-node_in c =
-    omega (arith, ap (λ (x : Table). length x.keys) (c.detach.ensures.taken c.args.from c.requires.held), c.requires.node_in)
+    omega (
+      arith,
+      ap (λ (x : Table). length x.keys) (c.detach.ensures.taken c.args.from c.requires.held),
+      c.requires.node_in,
+    )
 
 pub returns-clause-lists : goal.returns-clause-lists
 returns-clause-lists c =
@@ -22,4 +31,5 @@ returns-clause-lists c =
     ∙ as_many c.args.table.now c.detach.new.self c.args.from _ (c.detach.ensures.taken c.args.from c.requires.held)
 
 pub returns-clause-keys : goal.returns-clause-keys
-returns-clause-keys c = ap (λ (x : Table). x.keys) c.attach_after.ensures.put ∙ ap (λ (x : Table). x.keys) (c.detach.ensures.taken c.args.from c.requires.held)
+returns-clause-keys c = ap (λ (x : Table). x.keys) c.attach_after.ensures.put
+    ∙ ap (λ (x : Table). x.keys) (c.detach.ensures.taken c.args.from c.requires.held)

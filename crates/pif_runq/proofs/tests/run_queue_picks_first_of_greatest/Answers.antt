@@ -8,7 +8,8 @@ use Rattle.pif_runq.proofs.tests.run_queue_picks_first_of_greatest.Goals as goal
 new_queue : Queue
 new_queue = record { first_list = 0; first_node = 0; threads = 3; mask = 0 }
 
-has_room : (t : Table) → t ≡ record { lists = replicate 99 []; keys = replicate 3 no_key } → IsApart t → HasRoom new_queue t
+has_room : (t : Table) → t ≡ record { lists = replicate 99 []; keys = replicate 3 no_key } → IsApart t
+    → HasRoom new_queue t
 unfolding new_queue
 has_room t made apart =
     let lists : t.lists ≡ replicate 99 [] = ap (λ (x : Table). x.lists) made in
@@ -23,4 +24,5 @@ pub add_three-requires-clause-holds : goal.add_three-requires-clause-holds
 unfolding new_queue
 add_three-requires-clause-holds g c =
     c.new-queue.ensures.holds c.in_ok-table.table
-    (subst (λ (q : Queue). HasRoom q c.in_ok-table.table) (sym c.new-queue.ensures.made) (has_room c.in_ok-table.table c.in_ok-table.ensures.made c.in_ok-table.ensures.apart))
+    (subst (λ (q : Queue). HasRoom q c.in_ok-table.table) (sym c.new-queue.ensures.made)
+    (has_room c.in_ok-table.table c.in_ok-table.ensures.made c.in_ok-table.ensures.apart))
