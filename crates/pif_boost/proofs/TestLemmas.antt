@@ -12,7 +12,7 @@ use Rattle.pif_chains.proofs.Following.{IsGreatestAt, greatest_where_some}
 use Rattle.pif_runq.specs.Levels.{Queue, IsLevel, level_of, level_with, list_for, thread_for, HasRoom, Holds, IsQueued, level_after_add}
 use Rattle.pif_runq.proofs.LevelWithLemmas.{level_with-from_listed}
 use Rattle.pif_rtmutex.specs.Owners.{Owners, Seat, Wait, no_seat, no_owners, seat_at, owner_at, count, waits_on, waits_for, with_seat, with_wait, with_owner}
-use Rattle.pif_rtmutex.proofs.OwnersLemmas.{seat_at-with_seat, seat_at-with_seat_same, seat_at-with_seat_other, seat_at-no_owners, count-no_owners, owner_at-with_owner_same, owner_at-with_owner_other}
+use Rattle.pif_rtmutex.proofs.OwnersLemmas.{seat_at-with_seat, seat_at-no_owners, count-no_owners, owner_at-with_owner_same, owner_at-with_owner_other}
 use Rattle.pif_boost.specs.Boosts.{IsThread, base_of, local_of, greatest_base, greatest_waiting, level_after_walk, IsRepaired, IsRepairedBut}
 use Rattle.pif_boost.specs.Settled.{IsSettled}
 use Rattle.pif_boost.proofs.Greatest.{waits_for-none, waits_for-owner}

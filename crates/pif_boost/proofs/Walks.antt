@@ -1,6 +1,5 @@
 -- A walk after the threads up to k: the owner states, the run queue and the table.
-use Rattle.std.proofs.Common.{◌≡◌, ◌⊎◌, ◌↔◌, ℕ, ◌<◌, ◌≤◌, ◌+◌, ◌-◌, Bool, true, false, ◌==◌, not, cond, length, Option, Some, None, IfSome, IsSome, refl, sym, ap, ◌∙◌, subst, inl, inr, if◌then◌else◌, arith}
-use Rattle.std.specs.List.{count_by, range_with_len}
+use Rattle.std.proofs.Common.{◌≡◌, ◌⊎◌, ◌↔◌, ℕ, ◌<◌, ◌≤◌, ◌+◌, false, length, Option, Some, None, IfSome, IsSome, refl, sym, ap, ◌∙◌, subst, inl, inr, if◌then◌else◌, arith}
 use Rattle.std.specs.Option.{is_some}
 use Rattle.std.proofs.lemmas.Bool.{cases_lt, false_from_ne_true, true≢false}
 use Rattle.std.proofs.lemmas.List.{get_or_past}

@@ -1,5 +1,5 @@
 -- What the tests begin from: three threads, an empty run queue and an empty table.
-use Rattle.std.specs.Prelude.{ℕ, List, [], replicate, None}
+use Rattle.std.specs.Prelude.{ℕ, [], replicate, None}
 use Rattle.pif_nodes.specs.Table.{Table, no_key}
 use Rattle.pif_runq.specs.Levels.{Queue}
 use Rattle.pif_rtmutex.specs.Owners.{Owners, Seat, no_owners, with_seat, with_owner}

@@ -1,5 +1,5 @@
 -- Each thread in turn propagates its base priority.
-use Rattle.std.proofs.Common.{◌≡◌, ◌+◌, ◌∙◌, ap, sym, length, arith}
+use Rattle.std.proofs.Common.{◌≡◌, ◌+◌, ◌∙◌, ap, length, arith}
 use Rattle.pif_rtmutex.specs.Owners.{waits_for}
 use Rattle.pif_boost.specs.Boosts.{base_of, priority_at, after_propagation}
 use Rattle.pif_boost.proofs.Greatest.{greatest_start, greatest_all}

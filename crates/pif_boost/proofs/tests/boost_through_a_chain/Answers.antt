@@ -1,4 +1,4 @@
-use Rattle.std.proofs.Common.{◌≡◌, ◌∙◌, ℕ, IsSome, refl, sym, subst}
+use Rattle.std.proofs.Common.{◌∙◌, ℕ, IsSome, sym, subst}
 use Rattle.std.specs.Ordering.{nat_cmp}
 use Rattle.std.specs.FinMap.{FinMap, get}
 use Rattle.pif_runq.specs.Levels.{Queue, HasRoom, level_of, level_after_add}

@@ -1,7 +1,6 @@
 -- What leaves a list leaves as many lists, and all keys.
 use Rattle.std.proofs.Common.{◌≡◌, List, ℕ, length, length-set, ap, ◌∙◌, arith}
-use Rattle.pif_nodes.specs.Lists.{without, insert_after}
-use Rattle.pif_nodes.specs.Table.{Table, list_at, with_list}
+use Rattle.pif_nodes.specs.Table.{Table, with_list}
 use Rattle.pif_nodes.proofs.tests.move_to_head.Goals as goal
 
 -- another list leaves as many
