@@ -1,7 +1,7 @@
 -- A walk after the threads up to k: the owner states, the run queue and the table.
-use Rattle.std.proofs.Common.{◌≡◌, ◌⊎◌, ◌↔◌, ℕ, ◌<◌, ◌≤◌, ◌+◌, false, length, Option, Some, None, IfSome, IsSome, refl, sym, ap, ◌∙◌, subst, inl, inr, if◌then◌else◌, arith}
+use Rattle.std.proofs.Common.{◌≡◌, ◌⊎◌, ℕ, ◌<◌, ◌≤◌, ◌+◌, false, length, Option, Some, IfSome, refl, sym, ap, ◌∙◌, subst, inl, inr, if◌then◌else◌, arith}
 use Rattle.std.specs.Option.{is_some}
-use Rattle.std.proofs.lemmas.Bool.{cases_lt, false_from_ne_true, true≢false}
+use Rattle.std.proofs.lemmas.Bool.{cases_lt, false_from_ne_true}
 use Rattle.std.proofs.lemmas.List.{get_or_past}
 use Rattle.pif_nodes.specs.Lists.{has}
 use Rattle.pif_nodes.specs.Table.{Table}
@@ -18,15 +18,6 @@ use Rattle.pif_boost.proofs.Repairs.{IsRepairedTo, repaired-start, repaired-more
 -- the number of what was made of one
 pub numbered : (made : Option ℕ) (x n : ℕ) → made ≡ Some x → IfSome made (λ y. y ≡ n) → x ≡ n
 numbered made x n e value = rw e at value
-
--- what was given no priority has none
-pub not_given : (o : Option ℕ) (n : ℕ) → (IsSome o ↔ (1 ≤ n)) → ((x : ℕ) → o ≡ Some x → ⊥) → n ≡ 0
-not_given None n h none = by_place (cases_lt 0 n)
-  where
-    by_place : ((0 < n) ⊎ (n ≤ 0)) → n ≡ 0
-    by_place (inl l) = absurd (true≢false (sym (h.1 (omega arith))))
-    by_place (inr l) = omega arith
-not_given (Some x) n h none = absurd (none x refl)
 
 -- who was admitted has a seat
 pub admitted_row : (v : Owners) (u : ℕ) → 1 ≤ base_of v u → u < length v.seats

@@ -4,7 +4,8 @@ use Rattle.pif_rtmutex.specs.Owners.{waits_for}
 use Rattle.pif_boost.specs.Boosts.{base_of, priority_at, after_propagation}
 use Rattle.pif_boost.proofs.Greatest.{greatest_start, greatest_all}
 use Rattle.pif_boost.proofs.Propagation.{handed_by-more, propagation-none}
-use Rattle.pif_boost.proofs.Walks.{numbered, not_given}
+use Rattle.pif_rtmutex.proofs.PrioLemmas.{none_given}
+use Rattle.pif_boost.proofs.Walks.{numbered}
 use Rattle.pif_boost.proofs.propagate.propagate_all.Goals as goal
 use Rattle.pif_boost.proofs.propagate.propagate_all.Goals.{in-Some, in_default}
 
@@ -32,7 +33,7 @@ loop-place-preserved c = λ u l.
           ∙ propagation-none (length c.args.owners.now.seats) (base_of c.args.owners.now c.unwrap-t.result)
           c.unwrap-t.result
           (waits_for c.args.owners.now) (priority_at c.loop-place.greatest) u
-          (not_given c.base.result _ c.base.ensures.given w.in_default.not-Some) ∙ more
+          (none_given c.base.result _ c.base.ensures.given w.in_default.is) ∙ more
     ]
 
 pub returns : goal.returns
