@@ -9,7 +9,7 @@ use Rattle.std.proofs.lemmas.List.Folds.{list_any-append}
 use Rattle.pif_nodes.specs.declared.keys.Key.{Key}
 use Rattle.pif_nodes.specs.Table.{Table, holder}
 use Rattle.pif_runq.specs.Levels.{Queue, Holds, IsLevel, level_of, node_for}
-use Rattle.pif_runq.specs.Levels.{joined as queue_joined}
+use Rattle.pif_runq.specs.Levels.{level_after_add as queue_joined}
 use Rattle.pif_model.specs.declared.lines.Status.{Status}
 use Rattle.pif_model.specs.declared.lines.Status.TheVariants.{Ready, Queued, Stopped}
 use Rattle.pif_model.specs.declared.lines.Woken.TheVariants.{Fresh, Owns}

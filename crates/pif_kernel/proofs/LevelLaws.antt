@@ -11,7 +11,7 @@ use Rattle.pif_runq.specs.Levels.{Queue, Holds, IsLevel, level_of, level_with}
 use Rattle.pif_runq.proofs.LevelWithLemmas.{level_with-from_listed, listed-from_level_with}
 use Rattle.pif_rtmutex.specs.Owners.{Owners}
 use Rattle.pif_boost.specs.Boosts.{greatest_base, is_other, joins}
-use Rattle.pif_boost.specs.Boosts.{releveled as walked}
+use Rattle.pif_boost.specs.Boosts.{level_after_walk as walked}
 use Rattle.pif_model.specs.PiKernel.{is_among, numbers, moves_to, releveled}
 use Rattle.pif_kernel.specs.Plain.{is_level, levels_of}
 use Rattle.pif_kernel.proofs.Picked.{among_has, level_seen, is_level-range, level_is}

@@ -6,7 +6,7 @@ use Rattle.std.proofs.lemmas.Bool.Decides.{nat_tests}
 use Rattle.pif_nodes.specs.Lists.{has, first_of, without}
 use Rattle.pif_nodes.specs.Table.{Table, list_at}
 use Rattle.pif_runq.specs.Levels.{Queue, IsLevel, level_of, list_for, IsFirstOfGreatest, IsEmpty}
-use Rattle.pif_runq.specs.Levels.{joined as queue_joined}
+use Rattle.pif_runq.specs.Levels.{level_after_add as queue_joined}
 use Rattle.pif_runq.proofs.LevelLemmas.{threads-some}
 use Rattle.pif_model.specs.PiKernel.{is_among, first_from, pick_in, left, joined}
 use Rattle.pif_kernel.specs.Plain.{Plain, kernel_of, is_level, levels_of}

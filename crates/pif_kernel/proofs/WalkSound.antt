@@ -16,8 +16,8 @@ use Rattle.pif_model.specs.Table.{queued_on, is_ready}
 use Rattle.pif_model.specs.PiKernel.{Kernel, effective_in, has_seat, is_among, settled, waits_for}
 use Rattle.pif_model.specs.PiKernel.{seat_at as kernel_seat_at}
 use Rattle.pif_rtmutex.specs.Owners.{Owners, Seat, Wait, seat_at, owner_at, count, waits_on, rank_of, no_seat}
-use Rattle.pif_boost.specs.Boosts.{IsRepaired, IsRepairedBut, base_of, greatest_base, boosted, ranked}
-use Rattle.pif_boost.specs.Boosts.{releveled as walked}
+use Rattle.pif_boost.specs.Boosts.{IsRepaired, IsRepairedBut, base_of, greatest_base, with_effective as boosted, with_rank_priority as ranked}
+use Rattle.pif_boost.specs.Boosts.{level_after_walk as walked}
 use Rattle.pif_chains.proofs.Following.{reaches-from_within}
 use Rattle.pif_chains.proofs.Hops.{nobody, reach_below}
 use Rattle.pif_chains.proofs.Numbers.{within}

@@ -77,20 +77,21 @@ follower_of ns es l None = (ends_at es l).first
 follower_of ns es l (Some p) = (slot_at ns p).next
 
 -- the nodes once n stands between `prev` and `next` in list l
-abbrev pub linked : List Slot → ℕ → Option ℕ → Option ℕ → ℕ → List Slot
-linked ns l prev next n = with_prev (with_next (with_place ns n (Some l) prev next) prev (Some n)) next (Some n)
+abbrev pub slots_after_link : List Slot → ℕ → Option ℕ → Option ℕ → ℕ → List Slot
+slots_after_link ns l prev next n = with_prev (with_next (with_place ns n (Some l) prev next) prev (Some n)) next
+    (Some n)
 
 -- the ends of the lists then
-abbrev pub ends_linked : List Ends → ℕ → Option ℕ → Option ℕ → ℕ → List Ends
-ends_linked es l prev next n = with_last (with_first es l prev (Some n)) l next (Some n)
+abbrev pub ends_after_link : List Ends → ℕ → Option ℕ → Option ℕ → ℕ → List Ends
+ends_after_link es l prev next n = with_last (with_first es l prev (Some n)) l next (Some n)
 
 -- the nodes once n, which stood between `prev` and `next`, is in no list
-abbrev pub unlinked : List Slot → Option ℕ → Option ℕ → ℕ → List Slot
-unlinked ns prev next n = with_prev (with_next (with_place ns n None None None) prev next) next prev
+abbrev pub slots_after_unlink : List Slot → Option ℕ → Option ℕ → ℕ → List Slot
+slots_after_unlink ns prev next n = with_prev (with_next (with_place ns n None None None) prev next) next prev
 
 -- the ends of the lists then
-abbrev pub ends_unlinked : List Ends → ℕ → Option ℕ → Option ℕ → List Ends
-ends_unlinked es l prev next = with_last (with_first es l prev next) l next prev
+abbrev pub ends_after_unlink : List Ends → ℕ → Option ℕ → Option ℕ → List Ends
+ends_after_unlink es l prev next = with_last (with_first es l prev next) l next prev
 
 -- the nodes with another key of one of them
 abbrev pub with_slot_key : List Slot → ℕ → ℕ → ℕ → List Slot

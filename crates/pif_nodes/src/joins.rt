@@ -1,6 +1,6 @@
 ghost use Rattle.std.specs.Prelude.{◌≡◌, ℕ, ◌<◌, length};
 ghost use Rattle.std.specs.Option.{ForSome};
-ghost use Rattle.pif_nodes.specs.Links.{with_next, with_prev, with_first, with_last, with_place, follower_of, linked, ends_linked, unlinked, ends_unlinked, with_slot_key};
+ghost use Rattle.pif_nodes.specs.Links.{with_next, with_prev, with_first, with_last, with_place, follower_of, slots_after_link, ends_after_link, slots_after_unlink, ends_after_unlink, with_slot_key};
 
 use crate::links::{Ends, Slot};
 
@@ -70,8 +70,8 @@ pub(crate) fn link(
     requires node_in { node < length nodes.old }
     requires prev_in { ForSome prev (λ p. p < length nodes.old) }
     requires next_in { ForSome next (λ p. p < length nodes.old) }
-    ensures nodes { nodes.new ≡ linked nodes.old list prev next node }
-    ensures ends { ends.new ≡ ends_linked ends.old list prev next node }
+    ensures nodes { nodes.new ≡ slots_after_link nodes.old list prev next node }
+    ensures ends { ends.new ≡ ends_after_link ends.old list prev next node }
 {
     set_place(nodes, node, Some(list), prev, next);
     set_next(nodes, ends, list, prev, Some(node));
@@ -91,8 +91,8 @@ pub(crate) fn unlink(
     requires node_in { node < length nodes.old }
     requires prev_in { ForSome prev (λ p. p < length nodes.old) }
     requires next_in { ForSome next (λ p. p < length nodes.old) }
-    ensures nodes { nodes.new ≡ unlinked nodes.old prev next node }
-    ensures ends { ends.new ≡ ends_unlinked ends.old list prev next }
+    ensures nodes { nodes.new ≡ slots_after_unlink nodes.old prev next node }
+    ensures ends { ends.new ≡ ends_after_unlink ends.old list prev next }
 {
     set_place(nodes, node, None, None, None);
     set_next(nodes, ends, list, prev, next);

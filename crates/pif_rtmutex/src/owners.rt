@@ -1,4 +1,4 @@
-ghost use Rattle.std.specs.Prelude.{◌≡◌, ◌≢◌, ℕ, ◌+◌, ◌<◌, ◌≤◌, length, IfOk, IfSome, IfNone, OnSome, IsSome, Some, None, option_map};
+ghost use Rattle.std.specs.Prelude.{◌≡◌, ◌≢◌, ℕ, ◌+◌, ◌<◌, ◌≤◌, ◌↔◌, length, IfOk, IfSome, IfNone, OnSome, IsSome, Some, None, option_map};
 ghost use Rattle.std.specs.Option.{ForSome};
 ghost use Rattle.pif_model.specs.Graph.{Reaches};
 ghost use Rattle.pif_nodes.specs.declared.keys.Key.{Key as RankSeen};
@@ -70,10 +70,11 @@ impl RtMutexes {
         self.put(t, NOBODY.with_base(prio).with_local(prio));
     }
 
-    /// The base priority of the thread `t`, 1 to 99. 0 where it was given none.
-    pub fn base(&self, t: Tid) -> u32
-        ensures value { result ≡ (seat_at self.now t).base }
-        ensures most { result ≤ 99 }
+    /// The base priority of the thread `t`. `None` where it was given none.
+    pub fn base(&self, t: Tid) -> Option<Prio>
+        ensures given { IsSome result ↔ (1 ≤ (seat_at self.now t).base) }
+        ensures value { IfSome result (λ p. p ≡ (seat_at self.now t).base) }
+        ensures most { (seat_at self.now t).base ≤ 99 }
     {
         self.row(t.get()).base
     }
@@ -87,10 +88,11 @@ impl RtMutexes {
         self.put(t, row.with_base(prio));
     }
 
-    /// The effective priority of the thread `t` as it was last set, 1 to 99. 0 where it was given none.
-    pub fn local(&self, t: Tid) -> u32
-        ensures value { result ≡ (seat_at self.now t).local }
-        ensures most { result ≤ 99 }
+    /// The effective priority of the thread `t` as it was last set. `None` where it was given none.
+    pub fn local(&self, t: Tid) -> Option<Prio>
+        ensures given { IsSome result ↔ (1 ≤ (seat_at self.now t).local) }
+        ensures value { IfSome result (λ p. p ≡ (seat_at self.now t).local) }
+        ensures most { (seat_at self.now t).local ≤ 99 }
     {
         self.row(t.get()).local
     }
