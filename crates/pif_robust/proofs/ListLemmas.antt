@@ -26,7 +26,7 @@ kept f xs i y d m same = ⊎_elim
     (cases_eq m i)
 
 -- what two lists have, joined
-has-append : (m : ℕ) (xs ys : List ℕ) → has_mutex (xs ++ ys) m ≡ (has_mutex xs m || has_mutex ys m)
+pub has-append : (m : ℕ) (xs ys : List ℕ) → has_mutex (xs ++ ys) m ≡ (has_mutex xs m || has_mutex ys m)
 has-append m xs ys = list_any-append (eqb m) xs ys
 
 pub has-left : (m : ℕ) (xs ys : List ℕ) → has_mutex xs m ≡ true → has_mutex (xs ++ ys) m ≡ true

@@ -1,13 +1,14 @@
 -- Lemmas on a walk along a list: what was found so far, and what is still ahead.
-use Rattle.std.proofs.Common.{◌≡◌, ℕ, zero, suc, ◌+◌, ◌≤◌, ◌<◌, true, cond, eqb, List, [], ◌∷◌, ◌++◌, Option, Some, None, refl, sym, ◌∙◌, ap, subst, ⊎_elim, arith, length, get_or, unwrap_or}
-use Rattle.std.proofs.lemmas.Bool.{cases_Bool, cases_eq, eq-eqb, ne_eqb, eqb-true}
+use Rattle.std.proofs.Common.{◌≡◌, ℕ, zero, suc, ◌+◌, ◌≤◌, ◌<◌, true, false, cond, eqb, List, [], ◌∷◌, ◌++◌, Option, Some, None, refl, sym, ◌∙◌, ap, subst, ⊎_elim, arith, length, get_or, unwrap_or}
+use Rattle.std.proofs.lemmas.Bool.{or_parts, or_from, eqb-false, cases_Bool, cases_eq, eq-eqb, ne_eqb, eqb-true}
+use Rattle.std.proofs.Math.Bool.{or-false}
 use Rattle.std.proofs.lemmas.List.{append_assoc, append-nil, length-append}
-use Rattle.pif_model.specs.RobustList.{Robust, RobustRow, robust_at, has_mutex, without_mutex, walk_of}
+use Rattle.pif_model.specs.RobustList.{Robust, RobustRow, robust_at, has_mutex, without_mutex, walk_of, HasNoRepeats, IsRobust}
 use Rattle.pif_robust.specs.declared.links.Link.{Link}
 use Rattle.pif_robust.specs.declared.links.Head.{Head}
 use Rattle.pif_robust.specs.Links.{link_at, path, robust_from, first_or, IsChain, Ties}
 use Rattle.pif_robust.specs.Robust.{mutex_of}
-use Rattle.pif_robust.proofs.ListLemmas.{length-mutexes, has-without_same, HasNoRepeats-without, has-with}
+use Rattle.pif_robust.proofs.ListLemmas.{has-append, length-mutexes, has-without_same, HasNoRepeats-without, has-with}
 use Rattle.pif_robust.proofs.ChainLemmas.{path-chain, held_within}
 use Rattle.pif_robust.proofs.TiesLemmas.{IsRobust-from_Ties, short, number_of-mutex, mutex_of-some}
 use Rattle.pif_robust.proofs.SeenLemmas.{link_read}
@@ -181,6 +182,49 @@ module _ (ns : List Link) (hs : List Head) (v : Robust) (ties : Ties ns hs v) (t
     pub walk-end_none : x.pending ≡ 0 → found ≡ walk_of x
     walk-end_none e = found_is ∙ sym (append-nil (without_mutex x.listed x.pending))
         ∙ ap (λ b. without_mutex x.listed x.pending ++ cond b [] (x.pending ∷ [])) (sym (eq-eqb x.pending 0 e))
+
+-- a list with one more mutex at its end, which it lacks
+HasNoRepeats-push : (xs : List ℕ) (m : ℕ) → HasNoRepeats xs → has_mutex xs m ≡ false → HasNoRepeats (xs ++ m ∷ [])
+HasNoRepeats-push [] m once lacks = (refl, record {})
+HasNoRepeats-push (k ∷ ks) m once lacks =
+    let parts = or_parts (eqb m k) (has_mutex ks m) lacks in
+    let ne : k ≡ m → ⊥ = λ e. eqb-false m k parts.0 (sym e) in (
+      has-append k ks (m ∷ [])
+          ∙ or_from (has_mutex ks k) (has_mutex (m ∷ []) k) once.0 (or_from (eqb k m) false (ne_eqb k m ne) refl),
+      HasNoRepeats-push ks m once.1 parts.1,
+    )
+
+-- a walk gives each mutex once, and mutexes that there may be
+module _ (v : Robust) (t : ℕ) (r : IsRobust v) where
+  abbrev row : RobustRow
+  row = robust_at v t
+
+  abbrev others : List ℕ
+  others = without_mutex row.listed row.pending
+
+  walk_is : (P : List ℕ → Type 0) → (row.pending ≡ 0 → P others) → (1 ≤ row.pending → P (others ++ row.pending ∷ [])) →
+      P (walk_of row)
+  walk_is P none some = ⊎_elim
+      (λ e. rw (eq-eqb row.pending 0 e) (subst P (sym (append-nil others)) (none e)))
+      (λ ne. rw (ne_eqb row.pending 0 ne) (some (omega arith)))
+      (cases_eq row.pending 0)
+
+  pub walk_of-once : HasNoRepeats (walk_of row)
+  walk_of-once = walk_is HasNoRepeats (λ e. HasNoRepeats-without row.pending row.listed (r.once t))
+      (λ some. HasNoRepeats-push others row.pending (HasNoRepeats-without row.pending row.listed (r.once t))
+      (has-without_same row.pending row.listed))
+
+  in_others : (m : ℕ) → has_mutex others m ≡ true → m ≤ v.mutexes
+  in_others m h = r.most_listed t m (has-with m row.pending row.listed h)
+
+  pub walk_of-within : (m : ℕ) → has_mutex (walk_of row) m ≡ true → m ≤ v.mutexes
+  walk_of-within m = walk_is (λ xs. has_mutex xs m ≡ true → m ≤ v.mutexes) (λ e. in_others m) (λ some h. ⊎_elim
+      (λ e. in_others m e)
+      (λ e. let both = sym (has-append m others (row.pending ∷ [])) ∙ h in
+      let last : has_mutex (row.pending ∷ []) m ≡ true = rw e at both in
+      let same : m ≡ row.pending = eqb-true m row.pending (sym (or-false (eqb m row.pending)) ∙ last) in
+      omega (arith, r.pending t))
+      (cases_Bool (has_mutex others m)))
 
 -- the same as the code has it: with options for mutexes
 module _ {ns : List Link} {hs : List Head} {v : Robust} (view : robust_from ns hs ≡ v)

@@ -1,5 +1,5 @@
 ghost use Rattle.std.specs.Prelude.{◌≡◌, ◌<◌, ◌≤◌, true, false, IfOk, IfSome, IfNone, ℕ, length};
-ghost use Rattle.pif_model.specs.RobustList.{no_robust, robust_at, walk_of, is_listed, with_pending, without_pending, with_half_linked, with_listed, without_listed, without_robust, IsUnlisted, IsHalfLinkedByNoOther, IsRobust};
+ghost use Rattle.pif_model.specs.RobustList.{no_robust, robust_at, walk_of, is_listed, with_pending, without_pending, with_half_linked, with_listed, without_listed, without_robust, IsUnlisted, IsHalfLinkedByNoOther, IsRobust, HasNoRepeats, has_mutex};
 ghost use Rattle.pif_robust.specs.Links.{first_or};
 ghost use Rattle.pif_robust.specs.Robust.{mutex_of};
 
@@ -110,10 +110,12 @@ impl RobustLists {
     }
 
     /// What the end of `t` goes through: the mutexes on its list from the head, that is, the last linked first, without
-    /// the one that its pending field names, and that one last, whether it was listed or not. Empty where `t` lies outside
-    /// the limits.
+    /// the one that its pending field names, and that one last, whether it was listed or not. Each comes once, so there
+    /// are at most 1,024. Empty where `t` lies outside the limits.
     pub fn walk(&self, t: Tid) -> ArrayVec<MutexId, 1024>
         ensures walk { result.items ≡ walk_of (robust_at self.now t) }
+        ensures once { HasNoRepeats result.items }
+        ensures within { (m : ℕ) → has_mutex result.items m ≡ true → m ≤ self.now.mutexes }
         ensures sound { IsRobust self.now }
     {
         let head = self.head(t);

@@ -1,7 +1,7 @@
 use Rattle.std.proofs.Common.{arith, ◌∙◌, sym, ap, subst, ℕ, List}
 use Rattle.std.proofs.lemmas.Bool.{both_ways}
-use Rattle.pif_model.specs.RobustList.{robust_at}
-use Rattle.pif_robust.proofs.WalkLemmas.{IsWalking, walking-begin, walking-smaller, walking-room, walking-push, walking-skip, walking-last_room, walking-end, walking-end_none}
+use Rattle.pif_model.specs.RobustList.{robust_at, has_mutex, HasNoRepeats}
+use Rattle.pif_robust.proofs.WalkLemmas.{IsWalking, walking-begin, walking-smaller, walking-room, walking-push, walking-skip, walking-last_room, walking-end, walking-end_none, walk_of-once, walk_of-within}
 use Rattle.pif_robust.proofs.lists.RobustLists.walk.Goals as goal
 use Rattle.pif_robust.proofs.lists.RobustLists.walk.Goals.{then-not-is_pending, else-not-is_pending}
 
@@ -43,13 +43,27 @@ push-requires-in-Some-pending c = (
       c.loop-next.invariant c.in_default.is c.head-head.ensures.pending c.in-Some-pending.is,
 )
 
-pub returns-in-Some-pending-clause-walk : goal.returns-in-Some-pending-clause-walk
-returns-in-Some-pending-clause-walk c =
-    c.push-in-Some-pending.ensures.items
+pub returns-in-Some-pending : goal.returns-in-Some-pending
+returns-in-Some-pending c =
+    let is = c.push-in-Some-pending.ensures.items
     ∙ walking-end c.self.view_is c.self.invariant c.args.t c.loop-next.invariant c.in_default.is
-    c.head-head.ensures.pending c.in-Some-pending.is
+    c.head-head.ensures.pending c.in-Some-pending.is in
+    record {
+      walk = is;
+      once = subst HasNoRepeats (sym is) (walk_of-once c.args.self.now c.args.t c.head-head.ensures.sound);
+      within = λ m h. walk_of-within c.args.self.now c.args.t c.head-head.ensures.sound m
+          (ap (λ xs. has_mutex xs m) (sym is) ∙ h);
+      sound = c.head-head.ensures.sound;
+    }
 
-pub returns-in_default-pending-clause-walk : goal.returns-in_default-pending-clause-walk
-returns-in_default-pending-clause-walk c =
-    walking-end_none c.self.view_is c.self.invariant c.args.t c.loop-next.invariant c.in_default.is
-    c.head-head.ensures.pending c.in_default-pending.is
+pub returns-in_default-pending : goal.returns-in_default-pending
+returns-in_default-pending c =
+    let is = walking-end_none c.self.view_is c.self.invariant c.args.t c.loop-next.invariant c.in_default.is
+    c.head-head.ensures.pending c.in_default-pending.is in
+    record {
+      walk = is;
+      once = subst HasNoRepeats (sym is) (walk_of-once c.args.self.now c.args.t c.head-head.ensures.sound);
+      within = λ m h. walk_of-within c.args.self.now c.args.t c.head-head.ensures.sound m
+          (ap (λ xs. has_mutex xs m) (sym is) ∙ h);
+      sound = c.head-head.ensures.sound;
+    }
