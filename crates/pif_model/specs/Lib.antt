@@ -8,3 +8,4 @@ pub mod Table
 pub mod Lines
 pub mod Calls
 pub mod Standing
+pub mod RobustList
