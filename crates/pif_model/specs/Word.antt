@@ -1,6 +1,6 @@
 -- A mutex word as futex(2) has it: 32 bits, FUTEX_WAITERS 0x80000000, FUTEX_OWNER_DIED 0x40000000, and a thread's
 -- number in FUTEX_TID_MASK 0x3fffffff.
-use Rattle.std.specs.Prelude.{ℕ, ◌+◌, ◌*◌, ◌/◌, ◌%◌, ◌<◌, ◌==◌, Bool, true, false, if◌then◌else◌}
+use Rattle.std.specs.Prelude.{ℕ, ◌+◌, ◌*◌, ◌/◌, ◌%◌, ◌<◌, ◌==◌, Bool, true, false, if◌then◌else◌, Option, Some, None}
 
 -- a word, taken apart
 pub record Word : Type 0 where
@@ -26,6 +26,22 @@ taken_word t w = record { number = t; waiters = false; died = w.died }
 -- whether a word has no flag set and this number: what a compare-exchange from the bare number tests
 abbrev pub is_bare : Word → ℕ → Bool
 is_bare w t = if w.waiters then false else (if w.died then false else w.number == t)
+
+-- the word after a compare-exchange from 0 to the bare number t; None where it fails
+abbrev pub take_word : Word → ℕ → Option Word
+take_word w t = if is_bare w 0 then Some (held_by t) else None
+
+-- the word after a compare-exchange from the bare number t to 0; None where it fails
+abbrev pub release_word : Word → ℕ → Option Word
+release_word w t = if is_bare w t then Some free_word else None
+
+-- the word of a mutex on which a thread queues: what it was, with WAITERS
+abbrev pub mark_word : Word → Word
+mark_word w = record w { waiters = true }
+
+-- the word of a mutex that is handed to u: its number with WAITERS
+abbrev pub hand_word : ℕ → Word
+hand_word u = record { number = u; waiters = true; died = false }
 
 -- the bit at place 31 or 30 as a number
 abbrev pub flag : Bool → ℕ → ℕ

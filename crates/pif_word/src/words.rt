@@ -126,7 +126,8 @@ fn keep(word: &mut u32, mask: u32) -> u32
 mod tests {
     use super::*;
     use crate::bits::{
-        OWNER_DIED, hand_word, has_waiters, mark_word, number, owner_died, taken_word,
+        OWNER_DIED, hand_word, has_waiters, mark_word, number, owner_died, release_word, take_word,
+        taken_word,
     };
     use pif_types::MutexId;
     use std::test::Fail;
@@ -145,6 +146,10 @@ mod tests {
         assert_eq!(rt; mark_word(0x4000_0001), 0xc000_0001);
         assert_eq!(rt; hand_word(2), 0x8000_0002);
         assert_eq!(rt; taken_word(0x4000_0000, 3), 0x4000_0003);
+        assert_eq!(rt; take_word(0, 3), Some(3));
+        assert_eq!(rt; take_word(0x4000_0000, 3), None);
+        assert_eq!(rt; release_word(3, 3), Some(0));
+        assert_eq!(rt; release_word(0x8000_0003, 3), None);
     }
 
     #[test]
