@@ -1,0 +1,5 @@
+//! A lock outside every lock.
+#![tactic(auto)]
+
+mod place;
+mod rule;
