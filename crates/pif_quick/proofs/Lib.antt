@@ -5,3 +5,5 @@ pub mod Turning
 pub mod Steps
 pub mod PlaceSteps
 pub mod Dealing
+pub mod PassSteps
+pub mod Opening

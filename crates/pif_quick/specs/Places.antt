@@ -4,8 +4,9 @@ use Rattle.atomic_table.specs.Seated.{TableId}
 use Rattle.atomic_table.specs.declared.shared.Seat.{Seat}
 use Rattle.pif_quick.specs.declared.rule.View.{View}
 use Rattle.pif_quick.specs.declared.rule.Record.{Record}
-use Rattle.pif_quick.specs.declared.rule.Role.TheVariants.{Seated}
-use Rattle.pif_quick.specs.Turns.{IsSound}
+use Rattle.pif_quick.specs.declared.rule.Role.TheVariants.{Dealer, Seated}
+use Rattle.pif_quick.specs.Turns.{IsSound, fresh}
+use Rattle.pif_quick.specs.Rule.{opening_at}
 
 module _ {T : Type 0} where
   -- what the pass knows of the word
@@ -36,3 +37,11 @@ module _ {T : Type 0} where
   -- the seat of its pass at this word
   abbrev pub IsPlace : TableId → ℕ → Seat (Option T) (View T) → Type 0
   IsPlace z word p = IsPlaceOf z word (pass_of p) p
+
+  -- the dealer of these opening values that is at this word and this pass
+  abbrev pub dealer_at : List (Option T) → ℕ → ℕ → View T
+  dealer_at starts word pass = record { role = Dealer; pass = pass; word = word; starts = starts; known = fresh None; beside = [] }
+
+  -- the seat of a pass at this word, before any turn
+  abbrev pub IsFreshPlace : List (Option T) → TableId → ℕ → ℕ → Seat (Option T) (View T) → Type 0
+  IsFreshPlace starts z word pass p = IsPlaceOf z word pass p × (record_of p ≡ fresh (opening_at starts word))
