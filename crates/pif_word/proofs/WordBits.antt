@@ -1,10 +1,10 @@
 -- What the bits of a word say: bits and words are each other's, and what `|` and `&` of the flags make of a word.
-use Rattle.std.proofs.Common.{◌≡◌, ℕ, zero, suc, ◌+◌, ◌*◌, ◌/◌, ◌%◌, ◌<◌, Bool, true, false, not, ◌==◌, refl, sym, ap, ◌∙◌, arith, bit_and, bit_or, zero-mul, one-mul}
+use Rattle.std.proofs.Common.{◌≡◌, ℕ, zero, suc, ◌+◌, ◌*◌, ◌/◌, ◌%◌, ◌<◌, Bool, true, false, not, ◌==◌, refl, sym, ap, ◌∙◌, arith, bit_and, bit_or, zero-mul, one-mul, eq-eqb, ne_eqb, ◌≢◌, Option, Some, None, if◌then◌else◌}
 use Rattle.std.proofs.lemmas.Nat.{and_mask, and_comm, and-not, or_block, or_shifted}
 use Rattle.std.proofs.lemmas.Nat.Bits.{and_pow}
 use Rattle.std.proofs.lemmas.Bool.Decides.{nat_tests}
 use Rattle.std.specs.Int.Bits.{or_zero_r}
-use Rattle.pif_model.specs.Word.{Word, word_of, bits_of, flag, held_by, is_bare}
+use Rattle.pif_model.specs.Word.{Word, word_of, bits_of, flag, free_word, held_by, is_bare, take_word, release_word}
 
 -- a word of its three parts
 abbrev pub word : ℕ → Bool → Bool → Word
@@ -87,6 +87,28 @@ pub is_bare-word_of : (b t : ℕ) → b < 4294967296 → t < 1073741824 → is_b
 is_bare-word_of b t h k =
     rw word_of-is
     (is_bare-parts b (b % 1073741824) ((b / 2147483648) % 2) ((b / 1073741824) % 2) t (omega arith) (omega arith) (omega arith) k (sym (parts b h)))
+
+-- a compare-exchange from 0 to t takes a word of 32 bits that is 0
+pub take_word-hit : (b t : ℕ) → t < 1073741824 → b ≡ 0 → take_word (word_of b) t ≡ Some (word_of t)
+take_word-hit b t k e =
+    ap (λ (c : Bool). if c then Some (held_by t) else None) (is_bare-word_of b 0 (omega arith) (omega arith) ∙ eq-eqb b 0 e)
+    ∙ ap Some (sym (word_of-number t k))
+
+-- and fails at any other
+pub take_word-miss : (b t : ℕ) → b < 4294967296 → b ≢ 0 → take_word (word_of b) t ≡ None
+take_word-miss b t h n =
+    ap (λ (c : Bool). if c then Some (held_by t) else None) (is_bare-word_of b 0 h (omega arith) ∙ ne_eqb b 0 n)
+
+-- a compare-exchange from t to 0 releases a word of 32 bits that is t
+pub release_word-hit : (b t : ℕ) → t < 1073741824 → b ≡ t → release_word (word_of b) t ≡ Some (word_of 0)
+release_word-hit b t k e =
+    ap (λ (c : Bool). if c then Some free_word else None) (is_bare-word_of b t (omega arith) k ∙ eq-eqb b t e)
+    ∙ ap Some (sym (word_of-number 0 (omega arith)))
+
+-- and fails at any other
+pub release_word-miss : (b t : ℕ) → b < 4294967296 → t < 1073741824 → b ≢ t → release_word (word_of b) t ≡ None
+release_word-miss b t h k n =
+    ap (λ (c : Bool). if c then Some free_word else None) (is_bare-word_of b t h k ∙ ne_eqb b t n)
 
 -- `& TID_MASK` is the number
 pub number-is : (b : ℕ) → bit_and b 1073741823 ≡ (word_of b).number

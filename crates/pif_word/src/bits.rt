@@ -1,4 +1,5 @@
-ghost use Rattle.std.specs.Prelude.{◌≡◌, ◌<◌, ◌^◌, true, false};
+ghost use Rattle.std.specs.Prelude.{◌≡◌, ◌<◌, ◌^◌, option_map};
+ghost use Rattle.pif_model.specs.Word as model;
 ghost use Rattle.pif_model.specs.Word.{word_of};
 
 /// FUTEX_WAITERS: threads contend for the mutex, or did.
@@ -32,9 +33,27 @@ pub fn owner_died(w: u32) -> bool
     w & OWNER_DIED != 0
 }
 
+/// The word after a compare-exchange of the word `w` from 0 to the number `t`, below 2^30: how user space takes a mutex.
+/// `Some(t)` where `w` is 0, and `None`, with nothing written, where it is not.
+pub fn take_word(w: u32, t: u32) -> Option<u32>
+    requires { t < 2 ^ 30 }
+    ensures { option_map word_of result ≡ model.take_word (word_of w) t }
+{
+    if w == 0 { Some(t) } else { None }
+}
+
+/// The word after a compare-exchange of the word `w` from the number `t`, below 2^30, to 0: how user space releases a
+/// mutex. `Some(0)` where `w` is `t` with no flag, and `None`, with nothing written, where it is not.
+pub fn release_word(w: u32, t: u32) -> Option<u32>
+    requires { t < 2 ^ 30 }
+    ensures { option_map word_of result ≡ model.release_word (word_of w) t }
+{
+    if w == t { Some(0) } else { None }
+}
+
 /// The word `w` with `WAITERS` set: what the kernel writes when a thread queues. The number and `OWNER_DIED` stay.
 pub fn mark_word(w: u32) -> u32
-    ensures { word_of result ≡ record (word_of w) { waiters = true } }
+    ensures { word_of result ≡ model.mark_word (word_of w) }
 {
     w | WAITERS
 }
@@ -42,7 +61,7 @@ pub fn mark_word(w: u32) -> u32
 /// The word that the kernel writes when it hands a mutex to the thread `u`, below 2^30: its number, and `WAITERS`.
 pub fn hand_word(u: u32) -> u32
     requires { u < 2 ^ 30 }
-    ensures { word_of result ≡ record { number = u; waiters = true; died = false } }
+    ensures { word_of result ≡ model.hand_word u }
 {
     u | WAITERS
 }
@@ -51,7 +70,7 @@ pub fn hand_word(u: u32) -> u32
 /// its number, and what `w` says of `OWNER_DIED`.
 pub fn taken_word(w: u32, t: u32) -> u32
     requires { t < 2 ^ 30 }
-    ensures { word_of result ≡ record { number = t; waiters = false; died = (word_of w).died } }
+    ensures { word_of result ≡ model.taken_word t (word_of w) }
 {
     (w & OWNER_DIED) | t
 }

@@ -23,7 +23,7 @@ mod words;
 
 pub use bits::{
     OWNER_DIED, TID_MASK, WAITERS, hand_word, has_waiters, mark_word, number, owner_died,
-    taken_word,
+    release_word, take_word, taken_word,
 };
 pub use cells::Cell;
 pub use words::Words;

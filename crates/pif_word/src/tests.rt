@@ -1,7 +1,8 @@
 ghost use Rattle.std.specs.Prelude.{◌≡◌, ◌≤◌, length};
 
 use crate::{
-    Cell, OWNER_DIED, Words, hand_word, has_waiters, mark_word, number, owner_died, taken_word,
+    Cell, OWNER_DIED, Words, hand_word, has_waiters, mark_word, number, owner_died, release_word,
+    take_word, taken_word,
 };
 use pif_types::{Limits, MutexId};
 use std::process::Abort;
@@ -21,6 +22,10 @@ fn words_say_number_and_flags(rt: HostRuntime) {
     assert_eq!(rt; mark_word(0x4000_0001), 0xc000_0001);
     assert_eq!(rt; hand_word(2), 0x8000_0002);
     assert_eq!(rt; taken_word(0x4000_0000, 3), 0x4000_0003);
+    assert_eq!(rt; take_word(0, 3), Some(3));
+    assert_eq!(rt; take_word(0x4000_0000, 3), None);
+    assert_eq!(rt; release_word(3, 3), Some(0));
+    assert_eq!(rt; release_word(0x8000_0003, 3), None);
 }
 
 #[test]

@@ -1,0 +1,6 @@
+use Rattle.std.proofs.Common.{inl, arith}
+use Rattle.pif_word.proofs.WordBits.{word_of-number}
+use Rattle.pif_quick.proofs.place.handed_word.Goals as goal
+
+pub returns-in-None : goal.returns-in-None
+returns-in-None c = inl (word_of-number 0 (omega arith))

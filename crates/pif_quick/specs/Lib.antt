@@ -1,0 +1,5 @@
+pub mod Turns
+pub mod Rule
+pub mod Places
+pub mod Quick
+pub mod Lent

@@ -1,0 +1,39 @@
+//! The words with their values, the passes, and what a pass holds.
+ghost use Rattle.std.specs.Prelude.{◌≡◌, ◌*◌, ◌<◌, ◌^◌};
+
+mod calls;
+mod open;
+mod value;
+
+use crate::parking::Order;
+use crate::rule::{Board, Place};
+use std::sync::{Condvar, Mutex};
+
+/// Words with a value each, of which a pass at a time has one.
+#[derive(Drop)]
+pub struct Quick<T: Drop> {
+    board: Board<T>,
+    order: Mutex<Order>,
+    handed: Condvar,
+    count: usize,
+    ghost sized: { (board.shared.table_id.words ≡ 8 * count) × (board.shared.table_id.slots ≡ 8 * count) × (8 * count < 2 ^ 64) },
+}
+
+/// The right of one thread to lock words, and what it knows of each. It goes with the words that it was made with.
+#[derive(Drop)]
+pub struct Pass<T> {
+    number: u8,
+    places: Vec<Place<T>>,
+}
+
+/// A value that a pass holds, with its word. A `Held` that is let go leaves its word locked for good: give it back by
+/// `unlock_quiet` or `unlock`.
+#[derive(Drop)]
+pub struct Held<T> {
+    value: T,
+    word: usize,
+    pass: u8,
+}
+
+/// How many places of the table lie between two words.
+const SPACING: usize = 8;
