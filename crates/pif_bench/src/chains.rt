@@ -17,15 +17,20 @@ const MOST_STEPS: u32 = 24;
 /// owner, through the kernel, and the step of the other thread that finds out.
 pub fn hand_over(rt: &(impl Clock + AllocGlobal)) -> io::Result<u64> {
     let mut core = core_of(rt, 2, 1)?;
-    let mutex = mutex(1)?;
-    let mut owner = thread(1)?;
-    let mut other = thread(2)?;
+    time_hand_overs(rt, &mut core)
+}
+
+/// Threads 1 and 2 of a core pass its mutex on.
+fn time_hand_overs(rt: &impl Clock, core: &mut Core) -> io::Result<u64> {
+    let mutex = MutexId::new(1).ok_or(io::ErrorKind::InvalidInput)?;
+    let mut owner = Tid::new(1).ok_or(io::ErrorKind::InvalidInput)?;
+    let mut other = Tid::new(2).ok_or(io::ErrorKind::InvalidInput)?;
     let mut spent = Duration::ZERO;
-    call(&mut core, owner, Request::Lock(mutex));
+    call(core, owner, Request::Lock(mutex));
     for _round in 0..HAND_OVERS {
-        call(&mut core, other, Request::Lock(mutex));
+        call(core, other, Request::Lock(mutex));
         let start = Instant::now(rt)?;
-        call(&mut core, owner, Request::Unlock(mutex));
+        call(core, owner, Request::Unlock(mutex));
         core.step(Event::Go(other));
         spent = spent.saturating_add(start.elapsed(rt)?);
         (owner, other) = (other, owner);
@@ -36,56 +41,80 @@ pub fn hand_over(rt: &(impl Clock + AllocGlobal)) -> io::Result<u64> {
 /// A chain of so many threads: each but the first holds a mutex and waits for that of the one before it. Answers how many
 /// nanoseconds the lock took by which the last thread, of the greatest priority, joined it.
 pub fn last_lock(rt: &(impl Clock + AllocGlobal), depth: u32) -> io::Result<u64> {
-    let mut core = chain_of(rt, depth)?;
+    let mut core = core_of(rt, depth, depth)?;
+    time_last_lock(rt, &mut core, depth)
+}
+
+/// The threads of a core make a chain, and the last one joins it.
+fn time_last_lock(rt: &impl Clock, core: &mut Core, depth: u32) -> io::Result<u64> {
+    make_chain(core, depth).ok_or(io::ErrorKind::InvalidInput)?;
+    let last = Tid::new(depth).ok_or(io::ErrorKind::InvalidInput)?;
+    let before = MutexId::new(depth.saturating_sub(1)).ok_or(io::ErrorKind::InvalidInput)?;
     let start = Instant::now(rt)?;
-    join(&mut core, depth)?;
+    call(core, last, Request::Lock(before));
     Ok(each(start.elapsed(rt)?, 1))
 }
 
 /// The same chain. Answers how many nanoseconds a change of the last thread's priority took, to 98 and to 99 in turn.
 pub fn set_prio(rt: &(impl Clock + AllocGlobal), depth: u32) -> io::Result<u64> {
-    let mut core = chain_of(rt, depth)?;
-    join(&mut core, depth)?;
-    let first = thread(1)?;
-    let last = thread(depth)?;
+    let mut core = core_of(rt, depth, depth)?;
+    time_set_prio(rt, &mut core, depth)
+}
+
+/// The threads of a core make a chain, and the priority of the last one changes.
+fn time_set_prio(rt: &impl Clock, core: &mut Core, depth: u32) -> io::Result<u64> {
+    make_chain(core, depth).ok_or(io::ErrorKind::InvalidInput)?;
+    join(core, depth).ok_or(io::ErrorKind::InvalidInput)?;
+    let first = Tid::new(1).ok_or(io::ErrorKind::InvalidInput)?;
+    let last = Tid::new(depth).ok_or(io::ErrorKind::InvalidInput)?;
     let start = Instant::now(rt)?;
     for round in 0..CHANGES {
-        call(&mut core, first, Request::SetPrio(last, 98 + round % 2));
+        call(core, first, Request::SetPrio(last, 98 + round % 2));
     }
     Ok(each(start.elapsed(rt)?, CHANGES))
 }
 
-/// A chain of so many threads, which the last one has not joined yet.
-fn chain_of(rt: &impl AllocGlobal, depth: u32) -> io::Result<Core> {
-    let mut core = core_of(rt, depth, depth)?;
+/// The threads of a core make a chain, which the last one has not joined yet. `None` where a number is 0.
+fn make_chain(core: &mut Core, depth: u32) -> Option<()> {
     for number in 1..=depth {
-        call(&mut core, thread(number)?, Request::Lock(mutex(number)?));
+        lock_own(core, number)?;
+        if number > 1 && number < depth {
+            join(core, number)?;
+        }
     }
-    for number in 2..depth {
-        join(&mut core, number)?;
-    }
-    Ok(core)
+    Some(())
+}
+
+/// The thread of this number locks the mutex of this number.
+fn lock_own(core: &mut Core, number: u32) -> Option<()> {
+    let own = MutexId::new(number)?;
+    call(core, Tid::new(number)?, Request::Lock(own));
+    Some(())
 }
 
 /// The thread of this number waits for the mutex of the one before it.
-fn join(core: &mut Core, number: u32) -> io::Result<()> {
-    let before = mutex(number.saturating_sub(1))?;
-    call(core, thread(number)?, Request::Lock(before));
-    Ok(())
+fn join(core: &mut Core, number: u32) -> Option<()> {
+    let before = MutexId::new(number.saturating_sub(1))?;
+    call(core, Tid::new(number)?, Request::Lock(before));
+    Some(())
 }
 
 /// A core with so many threads, of priority 1 but the last, which has 99, and so many normal mutexes.
 fn core_of(rt: &impl AllocGlobal, threads: u32, mutexes: u32) -> io::Result<Core> {
     let limits = Limits::new(threads, mutexes, 0, 1).ok_or(io::ErrorKind::InvalidInput)?;
-    let mut core = Core::new(rt.alloc(), limits).map_err(|_| io::ErrorKind::OutOfMemory)?;
+    let Ok(mut core) = Core::new(rt.alloc(), limits) else {
+        return Err(io::Error::from(io::ErrorKind::OutOfMemory));
+    };
     for number in 1..=threads {
         let prio = if number == threads { 99 } else { 1 };
-        core.add_thread(prio)
-            .map_err(|_| io::ErrorKind::InvalidInput)?;
+        if core.add_thread(prio).is_err() {
+            return Err(io::Error::from(io::ErrorKind::InvalidInput));
+        }
     }
     for _number in 0..mutexes {
-        core.add_mutex(Kind::Normal, false)
-            .map_err(|_| io::ErrorKind::InvalidInput)?;
+        if core.add_mutex(Kind::Normal, false).is_err() {
+            return Err(io::Error::from(io::ErrorKind::InvalidInput));
+        }
     }
     Ok(core)
 }
@@ -98,16 +127,6 @@ fn call(core: &mut Core, thread: Tid, request: Request) {
             break;
         }
     }
-}
-
-/// The thread of this number.
-fn thread(number: u32) -> io::Result<Tid> {
-    Ok(Tid::new(number).ok_or(io::ErrorKind::InvalidInput)?)
-}
-
-/// The mutex of this number.
-fn mutex(number: u32) -> io::Result<MutexId> {
-    Ok(MutexId::new(number).ok_or(io::ErrorKind::InvalidInput)?)
 }
 
 /// The nanoseconds of each of so many rounds.

@@ -1,6 +1,2 @@
-pub mod Running
-pub mod Runs
-pub mod Scanners
-pub mod Scripts
-pub mod Traces
+pub mod Statuses
 pub mod Words

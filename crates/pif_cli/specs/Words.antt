@@ -4,23 +4,29 @@ use Rattle.std.specs.Io.KnownBytes.{Appends, Keeps}
 use Rattle.clap.specs.Words.{App, IsAmong, Kinds, fault_of, new_app, subcommand_of, with_subcommand}
 use Rattle.clap.specs.declared.error.kind.ErrorKind.{ErrorKind}
 use Rattle.clap.specs.declared.error.kind.ErrorKind.TheVariants.{DisplayHelp}
-use Rattle.pif_cli.specs.declared.faults.CliFault.{CliFault}
-use Rattle.pif_cli.specs.declared.faults.CliFault.TheVariants.{Read, Write, NoMemory, Script, Differs}
+use Rattle.std.specs.declared.io.ErrorKind.{ErrorKind as IoErrorKind}
+use Rattle.std.specs.declared.io.ErrorKind.TheVariants.{OutOfMemory, InvalidData}
+use Rattle.pif_scripts.specs.declared.faults.CliFault.{CliFault}
 use Rattle.pif_cli.specs.declared.words.Job.{Job}
 use Rattle.pif_cli.specs.declared.words.Job.TheVariants.{Run, Replay}
-use Rattle.pif_cli.specs.Running.{RunsTo}
-use Rattle.pif_cli.specs.Traces.{ReplaysTo}
-use Rattle.pif_cli.specs.Runs.{WritesPart}
+use Rattle.pif_scripts.specs.Running.{RunsTo}
+use Rattle.pif_scripts.specs.Traces.{ReplaysTo}
+use Rattle.pif_scripts.specs.Runs.{WritesPart}
+use Rattle.pif_cli.specs.Statuses.{job_status}
 
 -- a command of the program, as clap has it
 abbrev pub with_job : App → List ℕ → App
 with_job pif name = with_subcommand pif (new_app name).top
 
--- the program's commands, as clap has them: `run` and `replay`, of which one must be given
-abbrev pub program : App
-program =
+-- the program without its commands, as clap has it: one of them must be given
+abbrev pub bare_program : App
+bare_program =
     let pif : App = new_app (codes "pif") in
-    with_job (with_job (record pif { top = record pif.top { disable_help_subcommand = true; subcommand_required = true } }) (codes "run")) (codes "replay")
+    record pif { top = record pif.top { disable_help_subcommand = true; subcommand_required = true } }
+
+-- the program's commands: `run` and `replay`
+abbrev pub program : App
+program = with_job (with_job bare_program (codes "run")) (codes "replay")
 
 -- why the words are refused, the program's name first; none where they ask for a job
 abbrev pub refusals_of : List (List ℕ) → Kinds
@@ -34,19 +40,6 @@ job_named None = Run
 -- the job that the words ask for
 abbrev pub job_of : List (List ℕ) → Job
 job_of words = job_named (option_map (λ command. command.0) (subcommand_of program words))
-
--- the status of a fault
-abbrev pub fault_status : CliFault → ℕ
-fault_status (Script line cause) = 2
-fault_status Read = 3
-fault_status Write = 3
-fault_status NoMemory = 4
-fault_status (Differs line) = 5
-
--- the status of a job
-abbrev pub job_status : Result (Unit {0}) CliFault → ℕ
-job_status (Ok x) = 0
-job_status (Err e) = fault_status e
 
 -- a text was shown, which has this status where all of it was written, or else a write failed after a proper part of it
 abbrev pub Shows : (held holds : Option (List ℕ)) → (text : List ℕ) → (shown status : ℕ) → Type 0
@@ -87,3 +80,19 @@ EndsBy [] job before after held holds errors_held errors_hold status =
 EndsBy (k ∷ more) job before after held holds errors_held errors_hold status =
     Keeps before after
     × (((why : ErrorKind) × IsAmong why (k ∷ more) × RefusedFor why held holds errors_held errors_hold status) ⊎ HadNoMemory held holds errors_held errors_hold status)
+
+-- the words of the program could not be had, for this reason: for want of memory, or as one of them is no text, which is
+-- said, or as they cannot be read
+abbrev pub HadNoWords : IoErrorKind → (errors_held errors_hold : Option (List ℕ)) → ℕ → Type 0
+HadNoWords kind errors_held errors_hold status =
+    ((kind ≡ OutOfMemory) × (status ≡ 4) × Keeps errors_held errors_hold)
+    ⊎ (((kind ≡ InvalidData) × Shows errors_held errors_hold (codes "error: a word is not UTF-8\n") 1 status)
+    ⊎ ((kind ≡ OutOfMemory → ⊥) × (kind ≡ InvalidData → ⊥) × (status ≡ 3) × Keeps errors_held errors_hold))
+
+-- a program of these words, or whose words could not be had, for a reason, ends so; without words nothing is read, and
+-- nothing is written to the output
+abbrev pub EndsOver : Result (List (List ℕ)) IoErrorKind → (before after held holds errors_held errors_hold : Option (List ℕ)) → ℕ → Type 0
+EndsOver (Ok words) before after held holds errors_held errors_hold status =
+    EndsBy (refusals_of words) (job_of words) before after held holds errors_held errors_hold status
+EndsOver (Err kind) before after held holds errors_held errors_hold status =
+    Keeps before after × Keeps held holds × HadNoWords kind errors_held errors_hold status

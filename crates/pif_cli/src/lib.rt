@@ -1,18 +1,15 @@
-//! Scripts and traces: reading their bytes, answering their lines and comparing answers, and the words and statuses of
-//! the program `pif`.
+//! The command line of the program `pif`: its words, the texts of help and refusals, and the status with which it ends.
+//! Scripts and traces themselves are `pif_scripts`', whose calls are handed on.
 #![tactic(auto)]
 
-mod faults;
-mod reading;
-mod replaying;
-mod running;
-mod tracing;
+mod process;
+mod statuses;
 mod words;
-mod writing;
 
-pub use faults::CliFault;
-pub use tracing::{write_trace, written_trace_is_the_same};
-pub use words::{command, replay, run, words_of_the_program};
+pub use pif_scripts::{Cause, CliFault, replay, run, write_trace, written_trace_is_the_same};
+pub use process::command_of_process;
+pub use statuses::Status;
+pub use words::{command, words_of_the_program};
 
 #[cfg(test)]
 mod tests;

@@ -2,16 +2,11 @@ ghost use Rattle.std.specs.Prelude.{◌≡◌, ◌⊎◌, ℕ, List, [], ◌∷�
 ghost use Rattle.std.specs.Io.KnownBytes.{Keeps};
 ghost use Rattle.clap.specs.Words.{app_of, FailsBy, kind_of};
 ghost use Rattle.clap.specs.declared.error.kind.ErrorKind.TheVariants.{DisplayHelp, MissingSubcommand};
-ghost use Rattle.pif_cli.specs.Running.{RunsTo};
-ghost use Rattle.pif_cli.specs.Traces.{ReplaysTo};
-ghost use Rattle.pif_cli.specs.Words.{program, refusals_of, job_of, job_named, Does, EndsBy, HadNoMemory, RefusedFor, Shows, fault_status};
+ghost use Rattle.pif_cli.specs.Words.{program, refusals_of, job_of, job_named, Does, EndsBy, HadNoMemory, RefusedFor, Shows, bare_program, with_job};
 
-use crate::CliFault;
-use crate::reading::read_script;
-use crate::replaying::Replayed;
-use crate::writing::write_whole;
+use crate::statuses::job_status;
 use clap::error::ErrorKind;
-use pif_core::Core;
+use pif_scripts::{CliFault, replay, run, write_whole};
 use std::alloc::{AllocError, Global};
 use std::convert::AsStr;
 use std::io::{Read, Write};
@@ -28,55 +23,6 @@ const ABOUT_REPLAY: &str =
 const EXAMPLE: &str =
     "Example:\n  printf 'thread 10\\nmutex normal\\ncall t1 lock m1\\nword m1\\n' | pif run";
 
-/// Runs a script: reads its bytes to its end or its first fault, and writes what its lines are answered, chunk by
-/// chunk, before more is read, and at last the line of the fault.
-///
-/// # Errors
-///
-/// `Script` with the first fault of the script, whose line was written then; `Read`, where the reader fails, and the
-/// whole lines read so far were answered; `Write`, where the writer fails or takes no byte; and `NoMemory`, where the
-/// core cannot be made, and nothing was written.
-pub fn run<R: Read, W: Write>(alloc: Global, reader: &mut R, writer: &mut W) -> Result<(), CliFault>
-    ensures { RunsTo (R.remaining reader.old) (R.remaining reader.new) (W.contents writer.old) (W.contents writer.new) result }
-{
-    read_script::<Core, R, W>(alloc, reader, writer)
-}
-
-/// Replays a trace of version 1: gives its commands to a fresh core, and compares each answer with the recorded one. At
-/// its end `same N` is written, with the number of lines after the first; at the first difference `differs L X`, with
-/// the number of the line and what the core gives there, and at the first fault the line of the fault. Nothing is read
-/// behind the chunk in which that is found.
-///
-/// # Errors
-///
-/// `Script` with the first fault of the trace, and `Differs` with the line of the first difference, which were written
-/// then; `Read`, where the reader fails, and nothing was written; `Write`, where the writer fails or takes no byte; and
-/// `NoMemory`, where the core cannot be made, and nothing was written.
-pub fn replay<R: Read, W: Write>(
-    alloc: Global,
-    reader: &mut R,
-    writer: &mut W,
-) -> Result<(), CliFault>
-    ensures { ReplaysTo (R.remaining reader.old) (R.remaining reader.new) (W.contents writer.old) (W.contents writer.new) result }
-{
-    read_script::<Replayed, R, W>(alloc, reader, writer)
-}
-
-impl CliFault {
-    /// The status of the program after this fault: 2 for a fault of the script or trace, 3 for a read or a write that
-    /// failed, 4 for want of memory, and 5 for a difference.
-    pub fn status(self) -> u8
-        ensures { result ≡ fault_status self }
-    {
-        match self {
-            CliFault::Script(..) => 2,
-            CliFault::Read | CliFault::Write => 3,
-            CliFault::NoMemory => 4,
-            CliFault::Differs(_) => 5,
-        }
-    }
-}
-
 /// What the words ask the program to do.
 #[derive(Clone, Copy, Debug, PartialEq, Eq)]
 pub enum Job {
@@ -86,19 +32,35 @@ pub enum Job {
     Replay,
 }
 
-/// The program's commands.
-fn program<'a>(alloc: Global) -> Result<clap::Command<'a>, AllocError>
-    ensures { IfOk result (λ c. app_of c ≡ program) }
+/// The program without its commands.
+fn bare_program<'a>(alloc: Global) -> clap::Command<'a>
+    ensures { app_of result ≡ bare_program }
 {
-    let run = clap::Command::new(alloc, "run").about(ABOUT_RUN);
-    let replay = clap::Command::new(alloc, "replay").about(ABOUT_REPLAY);
     clap::Command::new(alloc, "pif")
         .about(ABOUT)
         .after_help(EXAMPLE)
         .disable_help_subcommand(true)
         .subcommand_required(true)
-        .subcommand(run)?
-        .subcommand(replay)
+}
+
+/// The program with one more command, which has this name.
+fn with_job<'a>(
+    alloc: Global,
+    pif: clap::Command<'a>,
+    name: &'a str,
+    about: &'a str,
+) -> Result<clap::Command<'a>, AllocError>
+    ensures { IfOk result (λ c. app_of c ≡ with_job (app_of pif.entry) name.now) }
+{
+    pif.subcommand(clap::Command::new(alloc, name).about(about))
+}
+
+/// The program's commands.
+fn program<'a>(alloc: Global) -> Result<clap::Command<'a>, AllocError>
+    ensures { IfOk result (λ c. app_of c ≡ program) }
+{
+    let pif = with_job(alloc, bare_program(alloc), "run", ABOUT_RUN)?;
+    with_job(alloc, pif, "replay", ABOUT_REPLAY)
 }
 
 /// The job that the words ask for, the program's name first.
@@ -140,7 +102,7 @@ fn do_job<R: Read, W: Write>(
 }
 
 /// Shows a text. Answers `shown`, or 3 where the writer fails.
-fn show<W: Write>(text: &str, shown: u8, writer: &mut W) -> u8
+pub fn show<W: Write>(text: &str, shown: u8, writer: &mut W) -> u8
     ensures { Shows (W.contents writer.old) (W.contents writer.new) text.now shown result }
 {
     match write_whole(writer, text.as_bytes()) {
@@ -162,14 +124,14 @@ fn refuse<W: Write, E: Write>(
 {
     let kind = error.kind();
     if let ErrorKind::OutOfMemory = kind {
-        return CliFault::NoMemory.status();
+        return 4;
     }
     match error.to_string(alloc) {
         Ok(text) => match kind {
             ErrorKind::DisplayHelp => show(text.as_str(), 0, output),
             _ => show(text.as_str(), 1, errors),
         },
-        Err(_) => CliFault::NoMemory.status(),
+        Err(_) => 4,
     }
 }
 
@@ -191,10 +153,7 @@ pub fn command<S: AsStr, R: Read, W: Write, E: Write>(
         (W.contents output.old) (W.contents output.new) (E.contents errors.old) (E.contents errors.new) result }
 {
     match read_words(alloc, words) {
-        Ok(job) => match do_job(job, alloc, input, output) {
-            Ok(()) => 0,
-            Err(fault) => fault.status(),
-        },
+        Ok(job) => job_status(do_job(job, alloc, input, output)),
         Err(error) => refuse(alloc, error, output, errors),
     }
 }

@@ -1,0 +1,18 @@
+-- The statuses of the program.
+use Rattle.std.specs.Prelude.{ℕ, Result, Ok, Err}
+use Rattle.pif_scripts.specs.declared.faults.CliFault.{CliFault}
+use Rattle.pif_scripts.specs.declared.faults.CliFault.TheVariants.{Read, Write, NoMemory, Script, Differs}
+
+-- the status of a fault: 2 for one of the script or trace, 3 where a read or a write failed, 4 for want of memory, 5 for a
+-- difference
+abbrev pub fault_status : CliFault → ℕ
+fault_status (Script line cause) = 2
+fault_status Read = 3
+fault_status Write = 3
+fault_status NoMemory = 4
+fault_status (Differs line) = 5
+
+-- the status of a job: 0 where it was done
+abbrev pub job_status : Result (Unit {0}) CliFault → ℕ
+job_status (Ok x) = 0
+job_status (Err e) = fault_status e

@@ -1,0 +1,50 @@
+ghost use Rattle.std.specs.Prelude.{◌≡◌, ℕ, List, Result};
+ghost use Rattle.std.specs.declared.io.ErrorKind.{ErrorKind as IoErrorKind};
+ghost use Rattle.pif_cli.specs.Words.{EndsOver, HadNoWords};
+
+use crate::statuses::Status;
+use crate::words::{command, show};
+use std::io::{ErrorKind, Read, Write};
+use std::rt::Env;
+use std::{env, io};
+
+/// What is said where a word is no text.
+const NO_TEXT: &str = "error: a word is not UTF-8\n";
+
+/// The program over the words of a process, its name first, as `command` is over words at hand: `main` hands over the
+/// process and its streams, and ends with what it is answered.
+///
+/// Where the words cannot be had, nothing is read. The status is then 1 where one of them is not UTF-8, which `errors` is
+/// told; 4 for want of memory; and 3 where they cannot be read, or where `errors` cannot be written.
+pub fn command_of_process<P: Env + AllocGlobal, R: Read, W: Write, E: Write>(
+    process: &P,
+    input: &mut R,
+    output: &mut W,
+    errors: &mut E,
+) -> Status
+    ensures { (words : Result (List (List ℕ)) IoErrorKind) × EndsOver words (R.remaining input.old) (R.remaining input.new)
+        (W.contents output.old) (W.contents output.new) (E.contents errors.old) (E.contents errors.new) result }
+{
+    match words_of(process) {
+        Ok(words) => Status::new(command(process.alloc(), words.as_slice(), input, output, errors)),
+        Err(error) => Status::new(refuse(error.kind(), errors)),
+    }
+}
+
+/// The words of a process, its name first.
+fn words_of<P: Env + AllocGlobal>(process: &P) -> io::Result<Vec<String>> {
+    Ok(env::args(process)?.collect(process.alloc())?)
+}
+
+/// The status where the words cannot be had. Says so where one of them is no text.
+fn refuse<E: Write>(kind: ErrorKind, errors: &mut E) -> u8
+    ensures { HadNoWords kind (E.contents errors.old) (E.contents errors.new) result }
+{
+    if kind == ErrorKind::OutOfMemory {
+        4
+    } else if kind == ErrorKind::InvalidData {
+        show(NO_TEXT, 1, errors)
+    } else {
+        3
+    }
+}

@@ -1,0 +1,65 @@
+ghost use Rattle.std.specs.Prelude.{◌≡◌, ℕ};
+ghost use Rattle.std.specs.Process.{exit_status};
+ghost use Rattle.pif_cli.specs.Statuses.{fault_status, job_status};
+
+use pif_scripts::CliFault;
+use std::marker::Model;
+use std::process::{ExitCode, Termination};
+
+/// The status of the program after this fault: 2 for a fault of the script or trace, 3 for a read or a write that
+/// failed, 4 for want of memory, and 5 for a difference.
+fn fault_status(fault: CliFault) -> u8
+    ensures { result ≡ fault_status fault }
+{
+    match fault {
+        CliFault::Script(..) => 2,
+        CliFault::Read | CliFault::Write => 3,
+        CliFault::NoMemory => 4,
+        CliFault::Differs(_) => 5,
+    }
+}
+
+/// The status of the program after a job that ended so: 0 where it was done, or else that of its fault.
+pub fn job_status(ended: Result<(), CliFault>) -> u8
+    ensures { result ≡ job_status ended }
+{
+    match ended {
+        Ok(()) => 0,
+        Err(fault) => fault_status(fault),
+    }
+}
+
+/// The status with which the program ends, which `main` may return. There is no other way to it than
+/// `command_of_process`.
+#[derive(Drop)]
+pub struct Status {
+    number: u8,
+}
+
+impl Model for Status {
+    ghost Value = { ℕ };
+
+    ghost view = { λ s. s.number };
+}
+
+impl Status {
+    /// The status of this number.
+    pub(crate) fn new(number: u8) -> Status
+        ensures { result ≡ number }
+    {
+        Status { number }
+    }
+
+    /// The status as the process's exit status.
+    pub fn exit_code(self) -> ExitCode
+        ensures { exit_status result ≡ self }
+    {
+        ExitCode::from(self.number)
+    }
+}
+
+impl Termination for Status {
+    fn report<R: Eprint>(self, _rt: &R) -> ExitCode {
+        self.exit_code()
+    }
+}

@@ -1,0 +1,164 @@
+use super::{BOOSTED, Kept};
+use crate::command;
+use arrayvec::ArrayVec;
+use std::alloc::Global;
+use std::process::Abort;
+use std::str::from_utf8;
+use std::test::Fail;
+
+const USAGE: &str = "Usage: pif <COMMAND>";
+
+const MORE: &str = "For more information, try '--help'.";
+
+const RUN: &str =
+    "Reads a script from the standard input, and writes an answer for each of its lines";
+
+const REPLAY: &str =
+    "Reads a trace from the standard input, and says whether each of its answers is given again";
+
+/// What is shown for `words`, which ask for no job: the status, and what is written to the output and to the errors.
+fn show(alloc: Global, words: &[&str], output: &mut Kept, errors: &mut Kept) -> (u8, usize) {
+    let mut input = BOOSTED.as_bytes();
+    let status = command(alloc, words, &mut input, output, errors);
+    (status, input.len())
+}
+
+/// Checks that each of these texts stands in what was written.
+fn check_says(rt: &impl Abort, written: &Kept, texts: &[&str]) -> Result<(), Fail> {
+    let said = from_utf8(written.as_slice())?;
+    for text in texts {
+        assert!(rt; said.contains(*text), "{text:?} in {said:?}");
+    }
+    Ok(())
+}
+
+/// Checks that words are refused with status 1, that the errors say these texts, and that nothing was read.
+fn check_refused(
+    rt: &impl Abort,
+    alloc: Global,
+    words: &[&str],
+    texts: &[&str],
+) -> Result<(), Fail> {
+    let mut output = Kept::new();
+    let mut errors = Kept::new();
+    let shown = show(alloc, words, &mut output, &mut errors);
+    assert_eq!(rt; (shown, output.len()), ((1, BOOSTED.len()), 0), "{words:?}");
+    check_says(rt, &errors, texts)
+}
+
+/// Checks that help is shown with status 0, that the output says these texts, and that nothing was read.
+fn check_helped(
+    rt: &impl Abort,
+    alloc: Global,
+    words: &[&str],
+    texts: &[&str],
+) -> Result<(), Fail> {
+    let mut output = Kept::new();
+    let mut errors = Kept::new();
+    let shown = show(alloc, words, &mut output, &mut errors);
+    assert_eq!(rt; (shown, errors.len()), ((0, BOOSTED.len()), 0), "{words:?}");
+    check_says(rt, &output, texts)
+}
+
+#[test]
+fn wrong_words_are_refused(rt: HostRuntime) -> Result<(), Fail> {
+    let refused: [(&[&str], [&str; 4]); 6] = [
+        (
+            ["pif"].as_slice(),
+            ["requires a subcommand", "run, replay", USAGE, MORE],
+        ),
+        (
+            ["pif", "walk"].as_slice(),
+            ["error", "unrecognized subcommand 'walk'", USAGE, MORE],
+        ),
+        (
+            ["pif", "replay", "run"].as_slice(),
+            [
+                "error",
+                "unexpected argument 'run'",
+                "Usage: pif replay",
+                MORE,
+            ],
+        ),
+        (
+            ["pif", "run", "fast"].as_slice(),
+            [
+                "error",
+                "unexpected argument 'fast'",
+                "Usage: pif run",
+                MORE,
+            ],
+        ),
+        (
+            ["pif", "--fast", "run"].as_slice(),
+            ["error", "unexpected argument '--fast'", USAGE, MORE],
+        ),
+        (
+            ["pif", "help"].as_slice(),
+            ["error", "unrecognized subcommand 'help'", USAGE, MORE],
+        ),
+    ];
+    for (words, texts) in refused {
+        check_refused(&rt, rt.alloc(), words, texts.as_slice())?;
+    }
+    Ok(())
+}
+
+#[test]
+fn help_is_shown(rt: HostRuntime) -> Result<(), Fail> {
+    let whole = [
+        "Runs scripts and replays traces on a model of pthread mutexes with priority inheritance\n",
+        USAGE,
+        "  run ",
+        RUN,
+        "  replay ",
+        REPLAY,
+        "-h, --help",
+        "Example:\n  printf 'thread 10\\nmutex normal\\ncall t1 lock m1\\nword m1\\n' | pif run",
+    ];
+    for word in ["--help", "-h"] {
+        check_helped(&rt, rt.alloc(), ["pif", word].as_slice(), whole.as_slice())?;
+    }
+    let run = [RUN, "Usage: pif run", "-h, --help"];
+    check_helped(
+        &rt,
+        rt.alloc(),
+        ["pif", "run", "--help"].as_slice(),
+        run.as_slice(),
+    )
+}
+
+#[test]
+fn help_of_replay_is_shown(rt: HostRuntime) -> Result<(), Fail> {
+    let replay = [REPLAY, "Usage: pif replay", "-h, --help"];
+    check_helped(
+        &rt,
+        rt.alloc(),
+        ["pif", "replay", "-h"].as_slice(),
+        replay.as_slice(),
+    )
+}
+
+#[test]
+fn a_failed_write_of_help_or_of_the_refusal_is_told(rt: HostRuntime) {
+    let mut output = ArrayVec::<u8, 4>::new();
+    let mut errors = ArrayVec::<u8, 4>::new();
+    let help = ["pif", "--help"];
+    let status = command(
+        rt.alloc(),
+        help.as_slice(),
+        &mut BOOSTED.as_bytes(),
+        &mut output,
+        &mut errors,
+    );
+    assert_eq!(rt; (status, output.len(), errors.len()), (3, 4, 0));
+    let bare = ["pif"];
+    let status = command(
+        rt.alloc(),
+        bare.as_slice(),
+        &mut BOOSTED.as_bytes(),
+        &mut output,
+        &mut errors,
+    );
+    assert_eq!(rt; (status, output.len(), errors.len()), (3, 4, 4));
+}

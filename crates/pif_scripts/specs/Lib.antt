@@ -1,0 +1,5 @@
+pub mod Running
+pub mod Runs
+pub mod Scanners
+pub mod Scripts
+pub mod Traces

@@ -1,0 +1,159 @@
+-- The commands of a script on a core, and what its lines mean.
+use Rattle.std.specs.Prelude.{ℕ, ◌≡◌, ◌&&◌, nat_le, Bool, false, List, [], ◌∷◌, ◌++◌, Option, Some, None, Result, Ok, Err, zero, suc, if◌then◌else◌}
+use Rattle.pif_types.specs.Bounds.{Bounds}
+use Rattle.pif_types.specs.declared.errors.AddFault.{AddFault}
+use Rattle.pif_types.specs.declared.errors.Refusal.TheVariants.{NoSuch}
+use Rattle.pif_types.specs.declared.requests.Request.{Request}
+use Rattle.pif_model.specs.declared.events.Event.TheVariants.{Begin as BeginEvent, Go as GoEvent}
+use Rattle.pif_model.specs.declared.events.Seen.{Seen}
+use Rattle.pif_model.specs.declared.events.Seen.TheVariants.{Begun as SeenBegun, Went as SeenWent, Waits as SeenWaits, Answered as SeenAnswered, Refused as SeenRefused}
+use Rattle.pif_model.specs.Table.{Table, new_table}
+use Rattle.pif_model.specs.Lines.{Outcome, stepped, goes_on}
+use Rattle.pif_model.specs.Calls.{add_thread_answer, add_thread_after, add_mutex_answer, add_mutex_after, effective_answer, word_answer, pick_answer}
+use Rattle.pif_text.specs.declared.commands.Command.{Command}
+use Rattle.pif_text.specs.declared.commands.Command.TheVariants.{Limits, Thread, Mutex, Begin, Go, Call, Finish, Word, Prio, Pick}
+use Rattle.pif_text.specs.declared.replies.Cause.{Cause}
+use Rattle.pif_text.specs.declared.replies.Cause.TheVariants as cause
+use Rattle.pif_text.specs.declared.replies.Reply.{Reply}
+use Rattle.pif_text.specs.declared.replies.Reply.TheVariants as reply
+use Rattle.pif_text.specs.Commands.{command_in}
+use Rattle.pif_text.specs.Replies.{text_of}
+use Rattle.pif_scripts.specs.declared.faults.CliFault.{CliFault}
+use Rattle.pif_scripts.specs.declared.faults.CliFault.TheVariants as fault
+use Rattle.pif_scripts.specs.Runs.{RunsFrom}
+use Rattle.pif_scripts.specs.declared.reading.ending.Ending.TheVariants.{Fault, Differs}
+use Rattle.pif_scripts.specs.declared.reading.ending.OpenFault.{OpenFault}
+use Rattle.pif_scripts.specs.declared.reading.ending.OpenFault.TheVariants.{Ended, NoMemory}
+use Rattle.pif_scripts.specs.Scripts.{Meaning, FirstMeaning, Hearing, start}
+
+-- the reply that says what an event was answered
+abbrev pub reply_of_seen : Seen → Reply
+reply_of_seen SeenBegun = reply.Begun
+reply_of_seen SeenWent = reply.Went
+reply_of_seen SeenWaits = reply.Waits
+reply_of_seen (SeenAnswered a) = reply.Answer a
+reply_of_seen (SeenRefused r) = reply.Refused r
+
+-- finish: a thread goes on, at most 24 times
+unfoldable pub finished : ℕ → Table → Outcome
+finished t s = goes_on 23 t s
+
+-- call: the thread begins the call, and if that is not refused it goes on as in finish
+unfoldable pub called : ℕ → Request → Table → Outcome
+called t q s =
+    elim (stepped (BeginEvent t q) s).seen [
+      | SeenRefused r ↦ stepped (BeginEvent t q) s
+      | _ ↦ finished t (stepped (BeginEvent t q) s).after
+    ]
+
+-- a reply, and the table afterwards
+abbrev pub Answer : Type 0
+Answer = Reply × Table
+
+abbrev pub answer_of_outcome : Outcome → Answer
+answer_of_outcome o = (reply_of_seen o.seen, o.after)
+
+abbrev pub reply_of_thread : Result ℕ AddFault → Reply
+reply_of_thread (Ok t) = reply.Thread t
+reply_of_thread (Err e) = reply.NotAdded e
+
+abbrev pub reply_of_mutex : Result ℕ AddFault → Reply
+reply_of_mutex (Ok m) = reply.Mutex m
+reply_of_mutex (Err e) = reply.NotAdded e
+
+abbrev pub reply_of_word : Option ℕ → Reply
+reply_of_word (Some w) = reply.Word w
+reply_of_word None = reply.Refused NoSuch
+
+abbrev pub reply_of_priority : Option ℕ → Reply
+reply_of_priority (Some p) = reply.Priority p
+reply_of_priority None = reply.Refused NoSuch
+
+-- what a command does; `limits` is none behind the first line
+unfoldable pub obeyed : Command → Table → Option Answer
+obeyed (Limits t m c n) s = None
+obeyed (Thread p) s = Some (reply_of_thread (add_thread_answer p s), add_thread_after p (add_thread_answer p s) s)
+obeyed (Mutex k) s = Some (reply_of_mutex (add_mutex_answer s), add_mutex_after k false (add_mutex_answer s) s)
+obeyed (Begin t q) s = Some (answer_of_outcome (stepped (BeginEvent t q) s))
+obeyed (Go t) s = Some (answer_of_outcome (stepped (GoEvent t) s))
+obeyed (Call t q) s = Some (answer_of_outcome (called t q s))
+obeyed (Finish t) s = Some (answer_of_outcome (finished t s))
+obeyed (Word m) s = Some (reply_of_word (word_answer m s), s)
+obeyed (Prio t) s = Some (reply_of_priority (effective_answer t s), s)
+obeyed Pick s = Some (reply.Picked (pick_answer s), s)
+
+-- an answer, or the fault `command`
+abbrev pub answer_or_fault : Option Answer → Result Answer Cause
+answer_or_fault (Some a) = Ok a
+answer_or_fault None = Err cause.Command
+
+-- whether limits are in their ranges
+abbrev pub are_limits : Bounds → Bool
+are_limits b =
+    nat_le 1 b.threads && nat_le b.threads 1024 && nat_le b.mutexes 1024 && nat_le b.conds 256 && nat_le 1 b.signals && nat_le b.signals 4294967295
+
+-- the limits of a script that begins with no `limits`
+abbrev pub default_limits : Bounds
+default_limits = record { threads = 1024; mutexes = 1024; conds = 256; signals = 4294967295 }
+
+-- what `limits` is answered as the first command: these limits, or the fault `limits` where a number is outside its range
+abbrev pub limited_answer : Option Bounds → Result Answer Cause
+limited_answer (Some b) = Ok (reply.Done, new_table b)
+limited_answer None = Err cause.Limits
+
+-- these limits, if each is in its range
+unfoldable pub limits_in : Bounds → Option Bounds
+limits_in b = if are_limits b then Some b else None
+
+-- the first command makes the core: under the limits that it names, or else under the default limits
+unfoldable pub first_answer : Command → Result Answer Cause
+first_answer (Limits t m c n) = limited_answer (limits_in (record { threads = t; mutexes = m; conds = c; signals = n }))
+first_answer c = answer_or_fault (obeyed c (new_table default_limits))
+
+-- an answer, and no fault
+abbrev pub IsAnswer : Result Answer Cause → Type 0
+IsAnswer (Ok a) = Unit {0}
+IsAnswer (Err c) = ⊥
+
+-- a core was made by the first command, and answered it so; memory was wanting for a command that is answered
+abbrev pub Makes : Result Answer Cause → Result (Table × Reply) OpenFault → Type 0
+Makes meant (Ok made) = meant ≡ Ok (made.1, made.0)
+Makes meant (Err (Ended (Fault c))) = meant ≡ Err c
+Makes meant (Err (Ended (Differs r))) = ⊥
+Makes meant (Err NoMemory) = IsAnswer meant
+
+-- an answer as a line
+abbrev pub told : Result Answer Cause → Meaning Table
+told (Ok a) = Ok (text_of a.0 ++ 10 ∷ [], a.1)
+told (Err c) = Err (Fault c)
+
+-- a line that makes a core makes a listener
+abbrev pub made_by : Meaning Table → FirstMeaning Table
+made_by (Ok m) = Ok (Some m)
+made_by (Err e) = Err e
+
+-- what the first line of a script means
+unfoldable pub first_line_meaning : List ℕ → FirstMeaning Table
+first_line_meaning line =
+    elim (command_in line) [
+      | None ↦ Err (Fault cause.Command)
+      | Some c ↦ made_by (told (first_answer c))
+    ]
+
+-- what a later line of a script means to a core
+unfoldable pub line_meaning : Table → List ℕ → Meaning Table
+line_meaning s line =
+    elim (command_in line) [
+      | None ↦ Err (Fault cause.Command)
+      | Some c ↦ told (answer_or_fault (obeyed c s))
+    ]
+
+-- how a script is heard: its first line makes the core, and at its end nothing is said
+abbrev pub script : Hearing Table
+script = record { opened = λ number line. first_line_meaning line; heard = line_meaning; closed = λ number. Ok [] }
+
+-- a run of a script, by what the reader had and has left, and what the writer held and holds; it has no differences
+abbrev pub RunsTo : (before after held holds : Option (List ℕ)) → Result (Unit {0}) CliFault → Type 0
+RunsTo before after held holds (Ok x) = RunsFrom script start before after held holds (Ok x)
+RunsTo before after held holds (Err (fault.Differs line)) = ⊥
+RunsTo before after held holds (Err e) = RunsFrom script start before after held holds (Err e)

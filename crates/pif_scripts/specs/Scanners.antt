@@ -1,0 +1,7 @@
+-- Where a scanner stands.
+use Rattle.pif_scripts.specs.declared.reading.scanner.Scanner.{Scanner}
+use Rattle.pif_scripts.specs.Scripts.{Scan}
+
+-- where the script stands that a scanner reads
+abbrev pub scan_of : {S : Type 0} → Scanner S → Scan S
+scan_of s = record { listener = s.listener; line = s.line.items; number = s.number; taken = s.taken }

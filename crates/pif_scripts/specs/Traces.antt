@@ -1,0 +1,182 @@
+-- Traces: what a trace comes to, and the trace of a history.
+use Rattle.std.specs.Prelude.{ℕ, ◌≡◌, ◌-◌, ◌==◌, true, nat_lt, List, [], ◌∷◌, ◌++◌, Option, Some, None, Result, Ok, Err, is_ok, option_and_then, option_map, if◌then◌else◌, bytes_eq, flat_map, ◌+◌, ◌≤◌, All, false, length}
+use Rattle.std.specs.Io.KnownBytes.{Appends, Consumes, IsAtEnd, Keeps}
+use Rattle.pif_types.specs.Bounds.{Bounds, IsWithin}
+use Rattle.pif_model.specs.declared.events.Entry.{Entry}
+use Rattle.pif_model.specs.declared.events.Entry.TheVariants.{Thread as AddedThread, Mutex as AddedMutex, Step}
+use Rattle.pif_model.specs.declared.events.Event.{Event}
+use Rattle.pif_model.specs.declared.events.Event.TheVariants.{Begin as BeginEvent, Go as GoEvent}
+use Rattle.pif_model.specs.Calls.{add_thread_answer, add_thread_after, add_mutex_answer, add_mutex_after}
+use Rattle.pif_model.specs.Lines.{stepped}
+use Rattle.pif_model.specs.Table.{Table, new_table}
+use Rattle.pif_text.specs.declared.commands.Command.{Command}
+use Rattle.pif_text.specs.declared.commands.Command.TheVariants.{Limits, Thread, Mutex, Begin, Go, Call, Finish, Word, Prio, Pick}
+use Rattle.pif_text.specs.declared.replies.Cause.{Cause}
+use Rattle.pif_text.specs.declared.replies.Cause.TheVariants.{Command as NoCommand}
+use Rattle.pif_text.specs.declared.replies.Reply.{Reply}
+use Rattle.pif_text.specs.declared.replies.Reply.TheVariants as reply
+use Rattle.pif_text.specs.Commands.{command_in}
+use Rattle.pif_text.specs.CommandTexts.{IsWritten, command_text, mutex_text}
+use Rattle.pif_text.specs.Replies.{text_of}
+use Rattle.pif_text.specs.Traces.{IsTraced, header_text, parts_of, recorded, same_of}
+use Rattle.pif_scripts.specs.declared.faults.CliFault.{CliFault}
+use Rattle.pif_scripts.specs.declared.faults.CliFault.TheVariants as fault
+use Rattle.pif_scripts.specs.declared.reading.ending.Ending.TheVariants.{Fault, Differs}
+use Rattle.pif_scripts.specs.declared.reading.ending.End.{End}
+use Rattle.pif_scripts.specs.Scripts.{Meaning, FirstMeaning, Hearing, Fed, start, fed, ended_by, NeedsIn}
+use Rattle.pif_scripts.specs.Runs.{WritesPart, last_text}
+use Rattle.pif_scripts.specs.Running.{Answer, answer_or_fault, obeyed, first_answer, made_by, reply_of_seen}
+
+-- ---- reading
+
+-- a command, if it stands in traces
+abbrev pub if_traced : Command → Option Command
+if_traced (Limits t m c n) = Some (Limits t m c n)
+if_traced (Thread p) = Some (Thread p)
+if_traced (Mutex k) = Some (Mutex k)
+if_traced (Begin t q) = Some (Begin t q)
+if_traced (Go t) = Some (Go t)
+if_traced (Call t q) = None
+if_traced (Finish t) = None
+if_traced (Word m) = None
+if_traced (Prio t) = None
+if_traced Pick = None
+
+-- the command of a trace's line, and the answer that it records
+unfoldable pub traced_in : List ℕ → Option (Command × List ℕ)
+traced_in line =
+    option_and_then (λ parts. option_map (λ c. (c, parts.1)) (option_and_then if_traced (command_in parts.0))) (parts_of line)
+
+-- a recorded answer beside the answer that is given: nothing is told, and another answer is a difference
+abbrev pub compared : List ℕ → Result Answer Cause → Meaning Table
+compared recorded (Ok a) = if bytes_eq (text_of a.0) recorded then Ok ([], a.1) else Err (Differs a.0)
+compared recorded (Err c) = Err (Fault c)
+
+-- the first line of a trace is the header, which makes no core
+abbrev pub header_meaning : List ℕ → FirstMeaning Table
+header_meaning line = if bytes_eq line header_text then Ok None else Err (Fault NoCommand)
+
+-- what the second line of a trace means, whose command makes the core
+unfoldable pub second_line_meaning : List ℕ → FirstMeaning Table
+second_line_meaning line =
+    elim (traced_in line) [
+      | None ↦ Err (Fault NoCommand)
+      | Some p ↦ made_by (compared p.1 (first_answer p.0))
+    ]
+
+-- what a later line of a trace means to a core
+unfoldable pub traced_meaning : Table → List ℕ → Meaning Table
+traced_meaning s line =
+    elim (traced_in line) [
+      | None ↦ Err (Fault NoCommand)
+      | Some p ↦ compared p.1 (answer_or_fault (obeyed p.0 s))
+    ]
+
+-- what is said at the end of a trace, where the next line would have this number: how many lines stand behind the
+-- first; a trace without a line is no trace
+abbrev pub traced_end : ℕ → Result (List ℕ) Cause
+traced_end number = if nat_lt 1 number then Ok (same_of (number - 2) ++ 10 ∷ []) else Err NoCommand
+
+-- how a trace is heard
+abbrev pub trace_hearing : Hearing Table
+trace_hearing = record {
+  opened = λ number line. if number == 1 then header_meaning line else second_line_meaning line;
+  heard = traced_meaning;
+  closed = traced_end;
+}
+
+-- where a trace of these bytes stands behind them
+abbrev pub trace_fed : List ℕ → Fed Table
+trace_fed bytes = fed trace_hearing start bytes
+
+-- how a trace of these bytes ends: with what is said at its end, or with the line of its first fault or difference
+unfoldable pub trace_end : List ℕ → Result (List ℕ) End
+trace_end bytes = ended_by trace_hearing (trace_fed bytes).stands
+
+-- what a trace of these bytes comes to: `same`, `differs` or `fault`, with what belongs to it
+unfoldable pub verdict : List ℕ → List ℕ
+verdict bytes = last_text (trace_end bytes)
+
+-- replaying a trace of which these bytes were read:
+--   ended well: all was read, and each answer is the recorded one; the verdict was written
+--   a fault: it is the first of these bytes, or they end there and all was read; the verdict was written
+--   a difference: it is the first of these bytes, before any fault; the verdict was written
+--   a read failed: these bytes have no fault and no difference so far, and nothing was written
+--   a write failed: a proper part of the verdict was written, from its front
+--   want of memory: the header and the line after it are among these bytes and have no fault, and nothing was written
+abbrev pub Replays : List ℕ → (after held holds : Option (List ℕ)) → Result (Unit {0}) CliFault → Type 0
+Replays read after held holds (Ok x) = (is_ok (trace_end read) ≡ true) × IsAtEnd after × Appends held holds (verdict read)
+Replays read after held holds (Err (fault.Script line cause)) =
+    (trace_end read ≡ Err (record { line = line; ending = Fault cause })) × (is_ok (trace_fed read).stands ≡ true → IsAtEnd after)
+    × Appends held holds (verdict read)
+Replays read after held holds (Err (fault.Differs line)) =
+    ((given : Reply) × (trace_end read ≡ Err (record { line = line; ending = Differs given }))) × Appends held holds (verdict read)
+Replays read after held holds (Err fault.Read) = (is_ok (trace_fed read).stands ≡ true) × Keeps held holds
+Replays read after held holds (Err fault.Write) = WritesPart held holds (verdict read)
+Replays read after held holds (Err fault.NoMemory) = NeedsIn trace_hearing start read × Keeps held holds
+
+-- replaying a trace, by what the reader had and has left, and what the writer held and holds
+abbrev pub ReplaysTo : (before after held holds : Option (List ℕ)) → Result (Unit {0}) CliFault → Type 0
+ReplaysTo before after held holds result = (read : List ℕ) × Consumes before after read × Replays read after held holds result
+
+-- ---- writing
+
+-- an event as the command that asks for it
+abbrev pub event_command : Event → Command
+event_command (BeginEvent t q) = Begin t q
+event_command (GoEvent t) = Go t
+
+-- an entry of a history as a command and the answer to it
+unfoldable pub entry_text : Entry → List ℕ
+entry_text (AddedThread t p) = command_text (Thread p) ++ recorded (reply.Thread t)
+entry_text (AddedMutex m k robust) = mutex_text k robust ++ recorded (reply.Mutex m)
+entry_text (Step e seen) = command_text (event_command e) ++ recorded (reply_of_seen seen)
+
+-- limits as the command that names them, and the answer to it
+abbrev pub limits_text : Bounds → List ℕ
+limits_text b = command_text (Limits b.threads b.mutexes b.conds b.signals) ++ recorded reply.Done
+
+-- an entry of a history as a line of a trace
+abbrev pub entry_line : Entry → List ℕ
+entry_line e = entry_text e ++ 10 ∷ []
+
+-- the first two lines of the trace of a history: the header and the limits
+unfoldable pub front_lines : Bounds → List ℕ
+front_lines b = header_text ++ 10 ∷ limits_text b ++ 10 ∷ []
+
+-- the trace of a history under these limits, whose entries are given in order: the header, the limits, and each entry
+unfoldable pub trace : Bounds → List Entry → List ℕ
+trace b entries = front_lines b ++ flat_map entry_line entries
+
+-- ---- writing and reading again
+
+-- the command that an entry asks for
+abbrev pub entry_command : Entry → Command
+entry_command (AddedThread t p) = Thread p
+entry_command (AddedMutex m k robust) = Mutex k
+entry_command (Step e seen) = event_command e
+
+-- the answer that an entry records
+abbrev pub entry_reply : Entry → Reply
+entry_reply (AddedThread t p) = reply.Thread t
+entry_reply (AddedMutex m k robust) = reply.Mutex m
+entry_reply (Step e seen) = reply_of_seen seen
+
+-- an entry whose numbers a line can write, as those of each `Entry` are
+abbrev pub IsEntryWritten : Entry → Type 0
+IsEntryWritten e = IsWritten (entry_command e) × IsTraced (entry_reply e)
+
+-- what a core that stands at s did and was answered, entry by entry in order; no mutex is robust yet
+abbrev pub IsHistory : Table → List Entry → Type 0
+IsHistory s [] = Unit {0}
+IsHistory s (AddedThread t p ∷ entries) = (add_thread_answer p s ≡ Ok t) × IsHistory (add_thread_after p (Ok t) s) entries
+IsHistory s (AddedMutex m k robust ∷ entries) =
+    (robust ≡ false) × (add_mutex_answer s ≡ Ok m) × IsHistory (add_mutex_after k false (Ok m) s) entries
+IsHistory s (Step e seen ∷ entries) = ((stepped e s).seen ≡ seen) × IsHistory (stepped e s).after entries
+
+-- the trace of what a core under these limits did is the same when it is replayed, as long as it is no larger than a
+-- trace may be; the line of the limits is counted too
+abbrev pub SameAgain : Type 0
+SameAgain =
+    (limits : Bounds) (entries : List Entry) → IsWithin limits → All IsEntryWritten entries → IsHistory (new_table limits) entries
+    → length (trace limits entries) ≤ 16777216 → verdict (trace limits entries) ≡ same_of (1 + length entries) ++ 10 ∷ []

@@ -1,0 +1,120 @@
+ghost use Rattle.std.specs.Prelude.{◌≡◌, Option, Some, None, Ok, Err, option_map, bytes_eq, if◌then◌else◌};
+ghost use Rattle.pif_text.specs.Replies.{text_of};
+ghost use Rattle.pif_model.specs.Table.{Table};
+ghost use Rattle.pif_scripts.specs.Traces.{if_traced, traced_in, trace_hearing};
+
+use crate::reading::{Ending, Listener, OpenFault, Output};
+use crate::running::{obey, open_core};
+use arrayvec::ArrayVec;
+use pif_core::Core;
+use pif_text::{
+    Cause, Command, HEADER, Reply, TEXT_ROOM, command_of, reply_text, same_text, split_answer,
+};
+use std::alloc::Global;
+use std::marker::Model;
+
+/// A core that is given the commands of a trace, and whose answers are compared with the recorded ones.
+#[derive(Drop)]
+pub struct Replayed {
+    core: Core,
+}
+
+impl Model for Replayed {
+    ghost Value = { Table };
+
+    ghost view = { λ r. r.core };
+}
+
+/// A command, if it stands in traces.
+fn if_traced(command: Command) -> Option<Command>
+    ensures { result ≡ if_traced command }
+{
+    match command {
+        Command::Limits(..)
+        | Command::Thread(_)
+        | Command::Mutex(_)
+        | Command::Begin(..)
+        | Command::Go(_) => Some(command),
+        Command::Call(..)
+        | Command::Finish(_)
+        | Command::Word(_)
+        | Command::Prio(_)
+        | Command::Pick => None,
+    }
+}
+
+/// The command of a trace's line, and the answer that it records.
+#[tactic(auto, unfolding(crate::specs::Traces::traced_in))]
+fn traced_of(line: &[u8]) -> Option<(Command, &[u8])>
+    ensures { option_map (λ traced. (traced.0, traced.1.now)) result ≡ traced_in line.now }
+{
+    let (text, recorded) = split_answer(line)?;
+    let command = if_traced(command_of(text)?)?;
+    Some((command, recorded))
+}
+
+/// Compares the recorded answer with the one that is given.
+///
+/// # Errors
+///
+/// `Differs` where they are not the same.
+fn compare(reply: Reply, recorded: &[u8]) -> Result<(), Ending>
+    ensures { result ≡ (if bytes_eq (text_of reply) recorded.now then Ok tt else Err (Ending.Differs reply)) }
+{
+    let given = reply;
+    let mut text = ArrayVec::<u8, TEXT_ROOM>::new();
+    reply_text(reply, &mut text);
+    if text.as_slice() == recorded {
+        Ok(())
+    } else {
+        Err(Ending::Differs(given))
+    }
+}
+
+impl Listener for Replayed {
+    ghost hearing = { trace_hearing };
+
+    #[tactic(auto, unfolding(crate::specs::Traces::second_line_meaning))]
+    fn open(
+        alloc: Global,
+        number: u64,
+        line: &[u8],
+        _output: &mut Output,
+    ) -> Result<Option<Replayed>, OpenFault> {
+        if number == 1 {
+            return if line == HEADER {
+                Ok(None)
+            } else {
+                Err(OpenFault::Ended(Ending::Fault(Cause::Command)))
+            };
+        }
+        let Some((command, recorded)) = traced_of(line) else {
+            return Err(OpenFault::Ended(Ending::Fault(Cause::Command)));
+        };
+        let (core, reply) = open_core(alloc, command)?;
+        match compare(reply, recorded) {
+            Ok(()) => Ok(Some(Replayed { core })),
+            Err(ending) => Err(OpenFault::Ended(ending)),
+        }
+    }
+
+    #[tactic(auto, unfolding(crate::specs::Traces::traced_meaning))]
+    fn hear(&mut self, line: &[u8], _output: &mut Output) -> Result<(), Ending> {
+        let Some((command, recorded)) = traced_of(line) else {
+            return Err(Ending::Fault(Cause::Command));
+        };
+        let Some(reply) = obey(&mut self.core, command) else {
+            return Err(Ending::Fault(Cause::Command));
+        };
+        compare(reply, recorded)
+    }
+
+    fn close(number: u64, output: &mut Output) -> Result<(), Cause> {
+        if number < 2 {
+            return Err(Cause::Command);
+        }
+        same_text(number - 2, output);
+        output.push(b'\n');
+        Ok(())
+    }
+}

@@ -1,0 +1,124 @@
+ghost use Rattle.std.specs.Prelude.{◌≡◌, ◌+◌, ◌≤◌, ◌++◌};
+ghost use Rattle.pif_scripts.specs.Runs.{Writes};
+ghost use Rattle.pif_scripts.specs.Traces.{SameAgain, event_command, entry_text, entry_line, front_lines, limits_text, trace};
+ghost use Rattle.arrayvec.specs.ArrayVec.{array_vec_len};
+
+use crate::CliFault;
+use crate::running::reply_of_seen;
+use crate::writing::write_whole;
+use arrayvec::ArrayVec;
+use pif_core::{Entry, Event};
+use pif_text::{
+    COMMAND_ROOM, Command, RECORDED_ROOM, Reply, command_text, header_text, mutex_text,
+    recorded_text,
+};
+use pif_types::Limits;
+use std::io::Write;
+
+/// Room for a command and the answer to it.
+const ROW_ROOM: usize = COMMAND_ROOM + RECORDED_ROOM;
+
+/// Room for the first two lines of a trace.
+const LINES_ROOM: usize = 12 + ROW_ROOM + 1;
+
+/// Lines of a trace.
+type Lines = ArrayVec<u8, LINES_ROOM>;
+
+/// The command that asks for an event.
+fn event_command(event: Event) -> Command
+    ensures { result ≡ event_command event }
+{
+    match event {
+        Event::Begin(thread, request) => Command::Begin(thread, request),
+        Event::Go(thread) => Command::Go(thread),
+    }
+}
+
+/// Appends an entry as a command and the answer to it.
+#[tactic(auto, unfolding(crate::specs::Traces::entry_text))]
+fn append_entry(entry: Entry, lines: &mut Lines)
+    requires { array_vec_len lines.old + ROW_ROOM ≤ LINES_ROOM }
+    ensures written { lines.new.items ≡ lines.old.items ++ entry_text entry }
+    ensures within { array_vec_len lines.new ≤ array_vec_len lines.old + ROW_ROOM }
+{
+    match entry {
+        Entry::Thread(thread, priority) => {
+            command_text(Command::Thread(priority.get()), lines);
+            recorded_text(Reply::Thread(thread), lines);
+        }
+        Entry::Mutex(mutex, kind, robust) => {
+            mutex_text(kind, robust, lines);
+            recorded_text(Reply::Mutex(mutex), lines);
+        }
+        Entry::Step(event, seen) => {
+            command_text(event_command(event), lines);
+            recorded_text(reply_of_seen(seen), lines);
+        }
+    }
+}
+
+/// Appends limits as the command that names them, and the answer to it.
+fn append_limits(limits: Limits, lines: &mut Lines)
+    requires { array_vec_len lines.old + ROW_ROOM ≤ LINES_ROOM }
+    ensures written { lines.new.items ≡ lines.old.items ++ limits_text limits }
+    ensures within { array_vec_len lines.new ≤ array_vec_len lines.old + ROW_ROOM }
+{
+    let command = Command::Limits(
+        limits.threads(),
+        limits.mutexes(),
+        limits.conds(),
+        limits.signals(),
+    );
+    command_text(command, lines);
+    recorded_text(Reply::Done, lines);
+}
+
+/// The first two lines of a trace.
+#[tactic(auto, unfolding(crate::specs::Traces::front_lines))]
+fn front_lines(limits: Limits) -> Lines
+    ensures { result.items ≡ front_lines limits }
+{
+    let mut lines = Lines::new();
+    header_text(&mut lines);
+    lines.push(b'\n');
+    append_limits(limits, &mut lines);
+    lines.push(b'\n');
+    lines
+}
+
+/// An entry as a line of a trace.
+fn entry_line(entry: Entry) -> Lines
+    ensures { result.items ≡ entry_line entry }
+{
+    let mut lines = Lines::new();
+    append_entry(entry, &mut lines);
+    lines.push(b'\n');
+    lines
+}
+
+/// Writes the trace of a history, of version 1: the header, the line of the limits, and a line for each entry, in the
+/// order given, which is that of the history. No memory is taken. Of a core's own history it is what `replay` finds the
+/// same, up to the size that a trace may have: `written_trace_is_the_same`.
+///
+/// # Errors
+///
+/// `Write` alone, where the writer fails or takes no byte; a proper part of the trace is written then.
+pub fn write_trace<W: Write>(
+    limits: Limits,
+    entries: &[Entry],
+    writer: &mut W,
+) -> Result<(), CliFault>
+    ensures { Writes (W.contents writer.old) (W.contents writer.new) (trace limits entries.now) result }
+{
+    write_whole(writer, front_lines(limits).as_slice())?;
+    for entry in entries {
+        write_whole(writer, entry_line(*entry).as_slice())?;
+    }
+    Ok(())
+}
+
+/// The trace of what a core did prints `same` when it is replayed, with the number of its entries and one more, for the
+/// line of the limits.
+pub fn written_trace_is_the_same()
+    ensures { SameAgain }
+{}
