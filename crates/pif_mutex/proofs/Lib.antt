@@ -1,8 +1,8 @@
-pub mod ShownRows
-pub mod ShownCells
-pub mod Stored
-pub mod ShownChanges
-pub mod CallsKept
-pub mod CallsShown
-pub mod Threads
-pub mod Events
+pub mod KernelCalls
+pub mod Assembly
+pub mod Exchanges
+pub mod LineCases
+pub mod ListChanges
+pub mod Counts
+pub mod Steps
+pub mod RunnableTables

@@ -1,2 +1,3 @@
-pub mod Shown
-pub mod Steps
+pub mod Assembled
+pub mod Runnable
+pub mod Outcomes

@@ -1,12 +1,11 @@
-ghost use Rattle.std.specs.Prelude.{ℕ, ◌≡◌, ◌≢◌, ◌+◌, ◌==◌, true, false, length, IfOk, IfSome, Some, None, if◌then◌else◌};
+ghost use Rattle.std.specs.Prelude.{ℕ, ◌≡◌, ◌≢◌, ◌+◌, true, false, length, IfOk, IfSome, None};
 ghost use Rattle.pif_types.specs.Bounds.{IsWithin};
-ghost use Rattle.pif_model.specs.Word.{bits_of, word_of};
-ghost use Rattle.pif_model.specs.Table.{new_table, row_at, cell_at, with_line, has_thread, has_mutex, has_thread_room, has_mutex_room, mutex_added};
+ghost use Rattle.pif_model.specs.Word.{word_of};
 ghost use Rattle.pif_model.specs.PiKernel.{IsKernel, new_kernel};
-ghost use Rattle.pif_model.specs.Kernel.{thread_added};
-ghost use Rattle.pif_model.specs.Lines.{gone, is_open, first_place, table_refusal};
+ghost use Rattle.pif_model.specs.Table.{new_table, line_at, cell_at, with_line, has_thread, has_thread_room, has_mutex_room, thread_added, mutex_added};
+ghost use Rattle.pif_model.specs.Lines.{go_outcome, is_open, first_place, table_refusal};
 ghost use Rattle.pif_model.specs.Calls.{effective_answer, word_answer, pick_answer};
-ghost use Rattle.pif_mutex.specs.Steps.{came};
+ghost use Rattle.pif_mutex.specs.Outcomes.{outcome_of};
 
 use crate::progress::Progress;
 use crate::state::State;
@@ -25,19 +24,19 @@ pub struct Parts<K: PiKernel + Drop> {
 
 impl<K: PiKernel + Drop> Model for Parts<K> {
     ghost use Rattle.pif_model.specs.Table.{Table};
-    ghost use Rattle.pif_model.specs.Standing.{IsSound};
+    ghost use Rattle.pif_mutex.specs.Runnable.{IsRunnable};
 
     ghost Value = { Table };
 
     ghost view = { λ p. p.state };
 
-    ghost invariant = { λ p. IsSound p.state };
+    ghost invariant = { λ p. IsRunnable p.state };
 }
 
 impl<K: PiKernel + Drop> Parts<K> {
     /// Parts under these limits to which nothing was added, over a kernel under the same limits to which nothing was
-    /// added. It takes all the memory that it will ever need beside the kernel's, in three pieces, and fails where one of
-    /// them is refused.
+    /// added. It takes all the memory that it will ever need beside the kernel's, in three pieces, and fails where one
+    /// of them is refused.
     pub fn new(alloc: Global, limits: Limits, kernel: K) -> Result<Parts<K>, NoMemory>
         requires new { K.meaning kernel ≡ new_kernel limits }
         requires kept { IsKernel (K.meaning kernel) }
@@ -57,14 +56,14 @@ impl<K: PiKernel + Drop> Parts<K> {
 
     /// How many threads were added.
     pub fn threads(&self) -> u32
-        ensures { result + 1 ≡ length self.now.rows }
+        ensures { result + 1 ≡ length self.now.lines }
     {
-        self.state.row_count() - 1
+        self.state.line_count() - 1
     }
 
     /// How many mutexes were added.
     pub fn mutexes(&self) -> u32
-        ensures { result + 1 ≡ length self.now.cells }
+        ensures { result + 1 ≡ length self.now.mutexes }
     {
         self.state.mutex_count() - 1
     }
@@ -72,28 +71,27 @@ impl<K: PiKernel + Drop> Parts<K> {
     /// Adds a thread of this base priority, with no call open. There has to be room for it under the limits.
     pub fn add_thread(&mut self, prio: Prio) -> Tid
         requires { has_thread_room self.old ≡ true }
-        ensures number { result ≡ length self.old.rows }
+        ensures number { result ≡ length self.old.lines }
         ensures after { self.new ≡ thread_added prio self.old }
     {
-        let _level = prio.get();
         self.state.add_thread(prio)
     }
 
     /// Adds a mutex of this kind, free. There has to be room for it under the limits.
     pub fn add_mutex(&mut self, kind: Kind) -> MutexId
         requires { has_mutex_room self.old ≡ true }
-        ensures number { result ≡ length self.old.cells }
+        ensures number { result ≡ length self.old.mutexes }
         ensures after { self.new ≡ mutex_added kind false self.old }
     {
         let mutex = MutexId::new(self.state.mutex_count()).unwrap();
-        self.state.add_mutex(kind, mutex);
+        self.state.add_mutex(kind);
         mutex
     }
 
     /// Whether a thread, which was added, has a call open.
     pub fn is_open(&self, t: Tid) -> bool
         requires { has_thread self.now t ≡ true }
-        ensures { result ≡ is_open (row_at self.now t).line }
+        ensures { result ≡ is_open (line_at self.now t) }
     {
         match self.state.line(t) {
             Line::Idle => false,
@@ -116,7 +114,7 @@ impl<K: PiKernel + Drop> Parts<K> {
     }
 
     /// The effective priority of a thread: the greatest base priority of it and of all that wait for it through any
-    /// chain. `None` where it was never added.
+    /// chain. `None` where no living thread has that number.
     pub fn effective(&self, t: Tid) -> Option<Prio>
         ensures { result ≡ effective_answer t self.now }
     {
@@ -144,18 +142,18 @@ impl<K: PiKernel + Drop> Parts<K> {
     }
 }
 
-/// The thread, which has a call open, takes one step of it: one access of one word, one kernel call, or the answer after
-/// the mutex was handed to it; or it waits, and nothing changes. Whoever owns a mutex after the step and did not before,
-/// the thread or the next waiter, holds it once.
+/// The thread, which has a call open, takes one step of it: one access of one word, one kernel call, or the answer
+/// after the mutex was handed to it; or it waits, and nothing changes. Whoever owns a mutex after the step and did not
+/// before, the thread or the next waiter, holds it once.
 pub fn advance<K: PiKernel + Drop>(parts: &mut Parts<K>, t: Tid) -> Progress
     requires added { has_thread parts.old t ≡ true }
-    requires open { is_open (row_at parts.old t).line ≡ true }
-    ensures line { came result parts.new ≡ gone (row_at parts.old t).line t parts.old }
+    requires open { is_open (line_at parts.old t) ≡ true }
+    ensures line { outcome_of result parts.new ≡ go_outcome (line_at parts.old t) t parts.old }
     ensures once { (m : ℕ) → (cell_at parts.new m).word.number ≢ (cell_at parts.old m).word.number
         → (cell_at parts.new m).word.number ≢ 0 → (cell_at parts.new m).count ≡ 1 }
 {
     match parts.state.line(t) {
-        Line::At(request, place) => parts.state.step(t, request, place),
+        Line::At(request, place) => parts.state.step(request, place, t),
         Line::Idle => unreachable!(),
     }
 }

@@ -1,11 +1,11 @@
-ghost use Rattle.std.specs.Prelude.{◌≡◌, ◌<◌, ◌≤◌, ◌+◌, ◌^◌, ◌==◌, true, false, IfOk, [], ◌∷◌, ◌++◌, length, if◌then◌else◌, Some, None};
+ghost use Rattle.std.specs.Prelude.{◌≡◌, ◌<◌, ◌≤◌, ◌+◌, ◌^◌, ◌==◌, true, false, IfOk, length, if◌then◌else◌, Some, None};
 ghost use Rattle.pif_types.specs.Bounds.{IsWithin};
 ghost use Rattle.pif_model.specs.Word.{word_of, is_bare};
-ghost use Rattle.pif_model.specs.Table.{row_at, cell_at, new_table, with_line, with_word, has_thread, has_mutex, has_thread_room, has_mutex_room, mutex_added, kernel_effective};
-ghost use Rattle.pif_model.specs.PiKernel.{IsKernel, new_kernel};
-ghost use Rattle.pif_model.specs.Kernel.{kernel_pick, thread_added};
-ghost use Rattle.pif_model.specs.Lines.{with_count};
+ghost use Rattle.pif_model.specs.PiKernel.{IsKernel, new_kernel, is_living, effective_in, pick_in};
+ghost use Rattle.pif_model.specs.Table.{new_table, line_at, status_at, cell_at, with_line, with_count, with_word, has_thread, has_mutex, has_thread_room, has_mutex_room, thread_added, mutex_added};
+ghost use Rattle.pif_mutex.specs.Assembled.{IsAssembled};
 
+use crate::mutex::Mutex;
 use pif_kernel::PiKernel;
 use pif_model::{Line, Status};
 use pif_types::{Kind, Limits, MutexId, NoMemory, Prio, Tid, push_within, with_room};
@@ -13,41 +13,28 @@ use pif_word::{Cell, Words};
 use std::alloc::Global;
 use std::marker::Model;
 
-/// What the library knows of a mutex beside its word: its kind, and how often its owner holds it.
-#[derive(Clone, Copy)]
-pub struct Mutex {
-    pub kind: Kind,
-    pub count: u32,
-}
-
-/// What stands at place 0, which is no mutex.
-pub const NO_MUTEX: Mutex = Mutex {
-    kind: Kind::Normal,
-    count: 1,
-};
-
-/// The library's own rows, the words and the kernel, between two accesses of an event.
+/// The lines, what the library knows of mutexes, the words and the kernel, between two accesses of an event.
 #[derive(Drop)]
 pub struct State<K: PiKernel + Drop> {
     limits: Limits,
-    calls: Vec<Line>,
-    mutexes: Vec<Mutex>,
     pub(crate) words: Words,
     pub(crate) kernel: K,
+    lines: Vec<Line>,
+    mutexes: Vec<Mutex>,
 }
 
 impl<K: PiKernel + Drop> Model for State<K> {
     ghost use Rattle.std.specs.Prelude.{◌≤◌, ◌+◌, vec_capacity};
     ghost use Rattle.pif_model.specs.Table.{Table};
-    ghost use Rattle.pif_mutex.specs.Shown.{shown, IsStored};
+    ghost use Rattle.pif_mutex.specs.Assembled.{table_of, IsAssembled};
 
     ghost Value = { Table };
 
-    ghost view = { λ s. shown s.limits s.calls.items s.mutexes.items s.words.mutexes (K.meaning s.kernel) };
+    ghost view = { λ s. table_of s.limits s.words (K.meaning s.kernel) s.lines.items s.mutexes.items };
 
     ghost invariant = { λ s. record {
-      stored : IsStored s.limits s.calls.items s.mutexes.items s.words.mutexes (K.meaning s.kernel);
-      calls : s.limits.threads + 1 ≤ vec_capacity s.calls;
+      assembled : IsAssembled (table_of s.limits s.words (K.meaning s.kernel) s.lines.items s.mutexes.items);
+      lines : s.limits.threads + 1 ≤ vec_capacity s.lines;
       mutexes : s.limits.mutexes + 1 ≤ vec_capacity s.mutexes;
     } };
 }
@@ -60,17 +47,17 @@ impl<K: PiKernel + Drop> State<K> {
         requires kept { IsKernel (K.meaning kernel) }
         ensures { IfOk result (λ s. s ≡ new_table limits) }
     {
-        let mut calls = with_room(alloc, limits.threads() as usize + 1)?;
-        push_within(&mut calls, Line::Idle);
-        let mut mutexes = with_room(alloc, limits.mutexes() as usize + 1)?;
-        push_within(&mut mutexes, NO_MUTEX);
         let words = Words::new(alloc, limits)?;
+        let mut lines = with_room(alloc, limits.threads() as usize + 1)?;
+        push_within(&mut lines, Line::Idle);
+        let mut mutexes = with_room(alloc, limits.mutexes() as usize + 1)?;
+        push_within(&mut mutexes, Mutex::new(Kind::Normal, false));
         Ok(State {
             limits,
-            calls,
-            mutexes,
             words,
             kernel,
+            lines,
+            mutexes,
         })
     }
 
@@ -83,17 +70,17 @@ impl<K: PiKernel + Drop> State<K> {
     }
 
     /// One more than the threads that were added: 1 to 1,025.
-    pub(crate) fn row_count(&self) -> u32
-        ensures value { result ≡ length self.now.rows }
+    pub(crate) fn line_count(&self) -> u32
+        ensures value { result ≡ length self.now.lines }
         ensures least { 1 ≤ result }
         ensures most { result ≤ 1025 }
     {
-        self.calls.len() as u32
+        self.lines.len() as u32
     }
 
     /// One more than the mutexes that were added: 1 to 1,025.
     pub(crate) fn mutex_count(&self) -> u32
-        ensures value { result ≡ length self.now.cells }
+        ensures value { result ≡ length self.now.mutexes }
         ensures least { 1 ≤ result }
         ensures most { result ≤ 1025 }
     {
@@ -103,37 +90,39 @@ impl<K: PiKernel + Drop> State<K> {
     /// The line of a thread that was added.
     pub(crate) fn line(&self, t: Tid) -> Line
         requires { has_thread self.now t ≡ true }
-        ensures { result ≡ (row_at self.now t).line }
+        ensures value { result ≡ line_at self.now t }
+        ensures assembled { IsAssembled self.now }
     {
-        self.calls[t.get() as usize]
+        self.lines[t.get() as usize]
     }
 
     /// Puts the open call of a thread that was added at this line.
     pub(crate) fn set_line(&mut self, t: Tid, line: Line)
         requires { has_thread self.old t ≡ true }
-        ensures { self.new ≡ with_line t line self.old }
+        ensures after { self.new ≡ with_line t line self.old }
+        ensures assembled { IsAssembled self.old }
     {
-        self.calls[t.get() as usize] = line;
+        self.lines[t.get() as usize] = line;
     }
 
     /// What the kernel knows of a thread that was added.
     pub(crate) fn status(&self, t: Tid) -> Status
         requires { has_thread self.now t ≡ true }
-        ensures { result ≡ (row_at self.now t).status }
+        ensures { result ≡ status_at self.now t }
     {
         self.kernel.status(t)
     }
 
     /// The effective priority of a thread. `None` where no living thread has that number.
     pub(crate) fn effective(&self, t: Tid) -> Option<Prio>
-        ensures { result ≡ (if (row_at self.now t).living then Some (kernel_effective self.now t) else None) }
+        ensures { result ≡ (if is_living self.now.kernel t then Some (effective_in self.now.kernel t) else None) }
     {
         self.kernel.effective(t)
     }
 
     /// The thread that runs next. `None` where none is ready.
     pub(crate) fn pick(&self) -> Option<Tid>
-        ensures { result ≡ (if kernel_pick self.now == 0 then None else Some (kernel_pick self.now)) }
+        ensures { result ≡ (if pick_in self.now.kernel == 0 then None else Some (pick_in self.now.kernel)) }
     {
         self.kernel.pick()
     }
@@ -143,7 +132,7 @@ impl<K: PiKernel + Drop> State<K> {
         requires { has_mutex self.now m ≡ true }
         ensures { result ≡ (cell_at self.now m).kind }
     {
-        self.mutexes[m.get() as usize].kind
+        self.mutexes[m.get() as usize].kind()
     }
 
     /// How often its owner holds a mutex that was added.
@@ -151,7 +140,7 @@ impl<K: PiKernel + Drop> State<K> {
         requires { has_mutex self.now m ≡ true }
         ensures { result ≡ (cell_at self.now m).count }
     {
-        self.mutexes[m.get() as usize].count
+        self.mutexes[m.get() as usize].count()
     }
 
     /// A mutex that was added is held this often.
@@ -159,7 +148,8 @@ impl<K: PiKernel + Drop> State<K> {
         requires { has_mutex self.old m ≡ true }
         ensures { self.new ≡ with_count m count self.old }
     {
-        self.mutexes[m.get() as usize].count = count;
+        let place = m.get() as usize;
+        self.mutexes[place] = self.mutexes[place].with_count(count);
     }
 
     /// The bits of the word of a mutex that was added.
@@ -170,8 +160,8 @@ impl<K: PiKernel + Drop> State<K> {
         self.words.load(Cell::Mutex(m))
     }
 
-    /// Makes `new` the word of a mutex that was added if it was `expected`, a bare number below 2^30, and answers whether
-    /// it was.
+    /// Makes `new` the word of a mutex that was added if it was `expected`, a bare number below 2^30, and answers
+    /// whether it was.
     pub(crate) fn exchange(&mut self, m: MutexId, expected: u32, new: u32) -> bool
         requires mutex { has_mutex self.old m ≡ true }
         requires bare { expected < 2 ^ 30 }
@@ -183,24 +173,32 @@ impl<K: PiKernel + Drop> State<K> {
             .is_ok()
     }
 
+    /// The number of a thread that was added, which a word has room for: it is below 2^30.
+    pub(crate) fn number_of(&self, t: Tid) -> u32
+        requires { has_thread self.now t ≡ true }
+        ensures value { result ≡ t }
+        ensures bare { result < 2 ^ 30 }
+    {
+        // This looks at a part, so that the proof has what the parts keep: there are at most 1,024 threads.
+        let _limits = self.limits;
+        t.get()
+    }
+
     /// Adds a thread of this base priority, with no call open.
     pub(crate) fn add_thread(&mut self, prio: Prio) -> Tid
         requires { has_thread_room self.old ≡ true }
-        ensures number { result ≡ length self.old.rows }
+        ensures number { result ≡ length self.old.lines }
         ensures after { self.new ≡ thread_added prio self.old }
     {
-        let _level = prio.get();
-        push_within(&mut self.calls, Line::Idle);
+        push_within(&mut self.lines, Line::Idle);
         self.kernel.add(prio)
     }
 
-    /// Adds the mutex with the next number, and makes its word 0.
-    pub(crate) fn add_mutex(&mut self, kind: Kind, m: MutexId)
-        requires next { m ≡ length self.old.cells }
-        requires room { has_mutex_room self.old ≡ true }
+    /// Adds a stalled mutex of this kind, with the next number.
+    pub(crate) fn add_mutex(&mut self, kind: Kind)
+        requires { has_mutex_room self.old ≡ true }
         ensures { self.new ≡ mutex_added kind false self.old }
     {
-        self.words.store(Cell::Mutex(m), 0);
-        push_within(&mut self.mutexes, Mutex { kind, count: 1 });
+        push_within(&mut self.mutexes, Mutex::new(kind, false));
     }
 }

@@ -6,13 +6,40 @@ use crate::{Parts, Progress, advance};
 use pif_kernel::PlainKernel;
 use pif_types::{Kind, Limits, MutexId, Prio, Request, Tid};
 use std::alloc::Global;
+use std::process::Abort;
 use std::test::Fail;
 
-/// Parts for four threads and two mutexes.
-fn parts(alloc: Global) -> Result<Parts<PlainKernel>, Fail> {
+/// What a thread does: it begins a call and goes on up to the first step that isn't `Went`, or it takes one step.
+#[derive(Clone, Copy)]
+enum Turn {
+    Call(Request),
+    Go,
+}
+
+/// A thread's turn, the number of its last step and what that came to, and the word of mutex 1 after it.
+type Row = (u32, Turn, (u32, Progress), u32);
+
+/// Parts for four threads and two mutexes, to which nothing was added.
+fn new_parts(alloc: Global) -> Result<Parts<PlainKernel>, Fail> {
     let limits = Limits::new(4, 2, 0, 1).ok_or("limits")?;
     let kernel = PlainKernel::new(alloc, limits, 1)?;
     Ok(Parts::new(alloc, limits, kernel)?)
+}
+
+/// The same with mutex 1 of this kind, and threads of these priorities.
+fn scene(alloc: Global, kind: Kind, levels: &[u32]) -> Result<Parts<PlainKernel>, Fail> {
+    let mut parts = new_parts(alloc)?;
+    fill(&mut parts, kind, levels).ok_or("room")?;
+    Ok(parts)
+}
+
+/// Adds a mutex of this kind, and threads of these priorities.
+fn fill(parts: &mut Parts<PlainKernel>, kind: Kind, levels: &[u32]) -> Option<()> {
+    mutex(parts, kind)?;
+    for level in levels {
+        thread(parts, *level)?;
+    }
+    Some(())
 }
 
 /// Adds a thread where there is room for it.
@@ -77,149 +104,219 @@ fn call(parts: &mut Parts<PlainKernel>, t: Tid, request: Request) -> Option<(u32
     for step in 1..=4 {
         match go(parts, t)? {
             Progress::Went => (),
-            came => return Some((step, came)),
+            progress => return Some((step, progress)),
         }
     }
     None
 }
 
+/// A thread has its turn: the number of its last step, and what that came to.
+fn take(parts: &mut Parts<PlainKernel>, t: Tid, turn: Turn) -> Option<(u32, Progress)> {
+    match turn {
+        Turn::Call(request) => call(parts, t, request),
+        Turn::Go => Some((1, go(parts, t)?)),
+    }
+}
+
+/// Threads have their turns, one after the other.
+fn play(rt: &impl Abort, parts: &mut Parts<PlainKernel>, rows: &[Row]) -> Result<(), Fail> {
+    let mutex = MutexId::new(1).ok_or("a mutex")?;
+    for row in rows {
+        let (number, turn, progress, word) = *row;
+        let thread = Tid::new(number).ok_or("a thread")?;
+        assert_eq!(rt;
+            take(parts, thread, turn),
+            Some(progress),
+            "thread {number}, word {word}"
+        );
+        assert_eq!(rt; parts.word(mutex), Some(word), "thread {number}");
+    }
+    Ok(())
+}
+
 #[test]
 fn parts_say_what_was_added(rt: HostRuntime) -> Result<(), Fail> {
-    let mut parts = parts(rt.alloc())?;
+    let mut parts = new_parts(rt.alloc())?;
+    add_and_count(&rt, &mut parts)
+}
+
+fn add_and_count(rt: &impl Abort, parts: &mut Parts<PlainKernel>) -> Result<(), Fail> {
     assert_eq!(rt; parts.pick(), None);
-    let t1 = thread(&mut parts, 10).ok_or("room")?;
-    let t2 = thread(&mut parts, 50).ok_or("room")?;
-    let m1 = mutex(&mut parts, Kind::Normal).ok_or("room")?;
+    let t1 = thread(parts, 10).ok_or("room")?;
+    let t2 = thread(parts, 50).ok_or("room")?;
+    let m1 = mutex(parts, Kind::Normal).ok_or("room")?;
     assert_eq!(rt; (t1.get(), t2.get(), m1.get()), (1, 2, 1));
     assert_eq!(rt; (parts.threads(), parts.mutexes()), (2, 1));
     assert_eq!(rt; Some(parts.limits()), Limits::new(4, 2, 0, 1));
-    assert_eq!(rt; parts.pick(), Some(t2));
-    assert_eq!(rt; parts.effective(t1), Prio::new(10));
-    assert_eq!(rt; parts.word(m1), Some(0));
-    assert_eq!(rt; parts.word(MutexId::new(2).ok_or("a mutex")?), None);
+    assert_eq!(rt;
+        (parts.pick(), parts.effective(t1)),
+        (Some(t2), Prio::new(10))
+    );
+    see_words(rt, parts)
+}
+
+fn see_words(rt: &impl Abort, parts: &Parts<PlainKernel>) -> Result<(), Fail> {
+    for (number, word) in [(1, Some(0)), (2, None)] {
+        let mutex = MutexId::new(number).ok_or("a mutex")?;
+        assert_eq!(rt; parts.word(mutex), word);
+    }
     Ok(())
 }
 
 #[test]
 fn uncontended_calls_make_no_kernel_call(rt: HostRuntime) -> Result<(), Fail> {
-    let mut parts = parts(rt.alloc())?;
-    let t1 = thread(&mut parts, 10).ok_or("room")?;
-    let m1 = mutex(&mut parts, Kind::Normal).ok_or("room")?;
-    let locked = call(&mut parts, t1, Request::Lock(m1));
-    assert_eq!(rt; locked, Some((2, Progress::Done(0))));
-    assert_eq!(rt; parts.word(m1), Some(1));
-    let unlocked = call(&mut parts, t1, Request::Unlock(m1));
-    assert_eq!(rt; unlocked, Some((2, Progress::Done(0))));
-    assert_eq!(rt; parts.word(m1), Some(0));
-    let again = call(&mut parts, t1, Request::Unlock(m1));
-    assert_eq!(rt; again, Some((1, Progress::Done(1))));
-    assert_eq!(rt; go(&mut parts, t1), None);
+    let mut parts = scene(rt.alloc(), Kind::Normal, &[10])?;
+    uncontended(&rt, &mut parts)
+}
+
+fn uncontended(rt: &impl Abort, parts: &mut Parts<PlainKernel>) -> Result<(), Fail> {
+    let m1 = MutexId::new(1).ok_or("a mutex")?;
+    let t1 = Tid::new(1).ok_or("a thread")?;
+    let lock = Turn::Call(Request::Lock(m1));
+    let unlock = Turn::Call(Request::Unlock(m1));
+    let rows = [
+        (1, lock, (2, Progress::Done(0)), 1),
+        (1, unlock, (2, Progress::Done(0)), 0),
+        (1, unlock, (1, Progress::Done(1)), 0),
+    ];
+    play(rt, parts, &rows)?;
+    assert_eq!(rt; go(parts, t1), None);
     Ok(())
 }
 
 #[test]
 fn mutex_is_handed_to_who_waits(rt: HostRuntime) -> Result<(), Fail> {
-    let mut parts = parts(rt.alloc())?;
-    let low = thread(&mut parts, 10).ok_or("room")?;
-    let high = thread(&mut parts, 50).ok_or("room")?;
-    let m1 = mutex(&mut parts, Kind::Normal).ok_or("room")?;
-    let locked = call(&mut parts, low, Request::Lock(m1));
-    assert_eq!(rt; locked, Some((2, Progress::Done(0))));
-    let waits = call(&mut parts, high, Request::Lock(m1));
-    assert_eq!(rt; waits, Some((3, Progress::Waits)));
-    assert_eq!(rt; go(&mut parts, high), Some(Progress::Waits));
-    assert_eq!(rt; parts.word(m1), Some(0x8000_0001));
-    assert_eq!(rt; parts.effective(low), Prio::new(50));
-    assert_eq!(rt; parts.pick(), Some(low));
-    let unlocked = call(&mut parts, low, Request::Unlock(m1));
-    assert_eq!(rt; unlocked, Some((3, Progress::Done(0))));
-    assert_eq!(rt; parts.word(m1), Some(0x8000_0002));
+    let mut parts = scene(rt.alloc(), Kind::Normal, &[10, 50])?;
+    hand_over(&rt, &mut parts)
+}
+
+fn hand_over(rt: &impl Abort, parts: &mut Parts<PlainKernel>) -> Result<(), Fail> {
+    let m1 = MutexId::new(1).ok_or("a mutex")?;
+    let low = Tid::new(1).ok_or("a thread")?;
+    let lock = Turn::Call(Request::Lock(m1));
+    let unlock = Turn::Call(Request::Unlock(m1));
+    let rows = [
+        (1, lock, (2, Progress::Done(0)), 1),
+        (2, lock, (3, Progress::Waits), 0x8000_0001),
+        (2, Turn::Go, (1, Progress::Waits), 0x8000_0001),
+    ];
+    play(rt, parts, &rows)?;
+    assert_eq!(rt;
+        (parts.effective(low), parts.pick()),
+        (Prio::new(50), Some(low))
+    );
+    play(
+        rt,
+        parts,
+        &[(1, unlock, (3, Progress::Done(0)), 0x8000_0002)],
+    )?;
     assert_eq!(rt; parts.effective(low), Prio::new(10));
-    assert_eq!(rt; go(&mut parts, high), Some(Progress::Done(0)));
-    Ok(())
+    play(
+        rt,
+        parts,
+        &[(2, Turn::Go, (1, Progress::Done(0)), 0x8000_0002)],
+    )
 }
 
 #[test]
 fn recursive_mutex_is_unlocked_as_often_as_locked(rt: HostRuntime) -> Result<(), Fail> {
-    let mut parts = parts(rt.alloc())?;
-    let t1 = thread(&mut parts, 10).ok_or("room")?;
-    let m1 = mutex(&mut parts, Kind::Recursive).ok_or("room")?;
-    for (request, steps, word) in [
-        (Request::Lock(m1), 2, 1),
-        (Request::Lock(m1), 1, 1),
-        (Request::TryLock(m1), 1, 1),
-        (Request::Unlock(m1), 1, 1),
-        (Request::Unlock(m1), 1, 1),
-        (Request::Unlock(m1), 2, 0),
-    ] {
-        let came = call(&mut parts, t1, request);
-        assert_eq!(rt; came, Some((steps, Progress::Done(0))));
-        assert_eq!(rt; parts.word(m1), Some(word));
-    }
-    Ok(())
+    let mut parts = scene(rt.alloc(), Kind::Recursive, &[10])?;
+    lock_and_unlock_thrice(&rt, &mut parts)
+}
+
+fn lock_and_unlock_thrice(rt: &impl Abort, parts: &mut Parts<PlainKernel>) -> Result<(), Fail> {
+    let m1 = MutexId::new(1).ok_or("a mutex")?;
+    let lock = Turn::Call(Request::Lock(m1));
+    let try_lock = Turn::Call(Request::TryLock(m1));
+    let unlock = Turn::Call(Request::Unlock(m1));
+    let rows = [
+        (1, lock, (2, Progress::Done(0)), 1),
+        (1, lock, (1, Progress::Done(0)), 1),
+        (1, try_lock, (1, Progress::Done(0)), 1),
+        (1, unlock, (1, Progress::Done(0)), 1),
+        (1, unlock, (1, Progress::Done(0)), 1),
+        (1, unlock, (2, Progress::Done(0)), 0),
+    ];
+    play(rt, parts, &rows)
 }
 
 #[test]
 fn recursive_mutex_is_held_255_times(rt: HostRuntime) -> Result<(), Fail> {
-    let mut parts = parts(rt.alloc())?;
-    let t1 = thread(&mut parts, 10).ok_or("room")?;
-    let m1 = mutex(&mut parts, Kind::Recursive).ok_or("room")?;
-    let first = call(&mut parts, t1, Request::Lock(m1));
-    assert_eq!(rt; first, Some((2, Progress::Done(0))));
+    let mut parts = scene(rt.alloc(), Kind::Recursive, &[10])?;
+    lock_256_times(&rt, &mut parts)
+}
+
+fn lock_256_times(rt: &impl Abort, parts: &mut Parts<PlainKernel>) -> Result<(), Fail> {
+    let lock = Turn::Call(Request::Lock(MutexId::new(1).ok_or("a mutex")?));
+    play(rt, parts, &[(1, lock, (2, Progress::Done(0)), 1)])?;
     for _ in 0..254 {
-        let again = call(&mut parts, t1, Request::Lock(m1));
-        assert_eq!(rt; again, Some((1, Progress::Done(0))));
+        play(rt, parts, &[(1, lock, (1, Progress::Done(0)), 1)])?;
     }
-    let once_more = call(&mut parts, t1, Request::Lock(m1));
-    assert_eq!(rt; once_more, Some((1, Progress::Done(11))));
-    Ok(())
+    play(rt, parts, &[(1, lock, (1, Progress::Done(11)), 1)])
 }
 
 #[test]
 fn trylock_never_waits(rt: HostRuntime) -> Result<(), Fail> {
-    let mut parts = parts(rt.alloc())?;
-    let t1 = thread(&mut parts, 10).ok_or("room")?;
-    let t2 = thread(&mut parts, 20).ok_or("room")?;
-    let m1 = mutex(&mut parts, Kind::Normal).ok_or("room")?;
-    let free = call(&mut parts, t1, Request::TryLock(m1));
-    assert_eq!(rt; free, Some((2, Progress::Done(0))));
-    let owned = call(&mut parts, t1, Request::TryLock(m1));
-    assert_eq!(rt; owned, Some((1, Progress::Done(16))));
-    let held = call(&mut parts, t2, Request::TryLock(m1));
-    assert_eq!(rt; held, Some((3, Progress::Done(16))));
-    assert_eq!(rt; parts.word(m1), Some(1));
-    Ok(())
+    let mut parts = scene(rt.alloc(), Kind::Normal, &[10, 20])?;
+    try_to_lock(&rt, &mut parts)
+}
+
+fn try_to_lock(rt: &impl Abort, parts: &mut Parts<PlainKernel>) -> Result<(), Fail> {
+    let lock = Turn::Call(Request::TryLock(MutexId::new(1).ok_or("a mutex")?));
+    let rows = [
+        (1, lock, (2, Progress::Done(0)), 1),
+        (1, lock, (1, Progress::Done(16)), 1),
+        (2, lock, (3, Progress::Done(16)), 1),
+    ];
+    play(rt, parts, &rows)
 }
 
 #[test]
 fn lock_of_an_own_mutex_goes_by_its_kind(rt: HostRuntime) -> Result<(), Fail> {
-    for (kind, came, runs) in [
+    for (kind, end, runs) in [
         (Kind::Normal, (2, Progress::Waits), false),
         (Kind::ErrorCheck, (1, Progress::Done(35)), true),
     ] {
-        let mut parts = parts(rt.alloc())?;
-        let t1 = thread(&mut parts, 10).ok_or("room")?;
-        let m1 = mutex(&mut parts, kind).ok_or("room")?;
-        let locked = call(&mut parts, t1, Request::Lock(m1));
-        assert_eq!(rt; locked, Some((2, Progress::Done(0))));
-        assert_eq!(rt; call(&mut parts, t1, Request::Lock(m1)), Some(came));
-        assert_eq!(rt; parts.pick() == Some(t1), runs);
+        let mut parts = scene(rt.alloc(), kind, &[10])?;
+        lock_own(&rt, &mut parts, end, runs)?;
     }
+    Ok(())
+}
+
+/// A thread locks a mutex twice: what the second call came to, and whether the thread runs after it.
+fn lock_own(
+    rt: &impl Abort,
+    parts: &mut Parts<PlainKernel>,
+    end: (u32, Progress),
+    runs: bool,
+) -> Result<(), Fail> {
+    let lock = Turn::Call(Request::Lock(MutexId::new(1).ok_or("a mutex")?));
+    let rows = [(1, lock, (2, Progress::Done(0)), 1), (1, lock, end, 1)];
+    play(rt, parts, &rows)?;
+    assert_eq!(rt; parts.pick() == Tid::new(1), runs);
     Ok(())
 }
 
 #[test]
 fn priority_is_set_in_one_step(rt: HostRuntime) -> Result<(), Fail> {
-    let mut parts = parts(rt.alloc())?;
-    let t1 = thread(&mut parts, 10).ok_or("room")?;
-    let t2 = thread(&mut parts, 20).ok_or("room")?;
-    let set = call(&mut parts, t1, Request::SetPrio(t2, 30));
-    assert_eq!(rt; set, Some((1, Progress::Done(0))));
-    assert_eq!(rt; parts.effective(t2), Prio::new(30));
-    let out_of_range = call(&mut parts, t1, Request::SetPrio(t2, 100));
-    assert_eq!(rt; out_of_range, Some((1, Progress::Done(22))));
+    let mut parts = scene(rt.alloc(), Kind::Normal, &[10, 20])?;
+    set_priorities(&rt, &mut parts)
+}
+
+fn set_priorities(rt: &impl Abort, parts: &mut Parts<PlainKernel>) -> Result<(), Fail> {
+    let t2 = Tid::new(2).ok_or("a thread")?;
     let nobody = Tid::new(3).ok_or("a thread")?;
-    let unknown = call(&mut parts, t1, Request::SetPrio(nobody, 30));
-    assert_eq!(rt; unknown, Some((1, Progress::Done(3))));
+    for (request, answer, effective) in [
+        (Request::SetPrio(t2, 30), 0, 30),
+        (Request::SetPrio(t2, 100), 22, 30),
+        (Request::SetPrio(nobody, 30), 3, 30),
+    ] {
+        play(
+            rt,
+            parts,
+            &[(1, Turn::Call(request), (1, Progress::Done(answer)), 0)],
+        )?;
+        assert_eq!(rt; parts.effective(t2), Prio::new(effective));
+    }
     Ok(())
 }

@@ -1,9 +1,6 @@
--- A new mutex leaves the parts sound.
-use Rattle.std.proofs.Common.{ap, ◌∙◌}
-use Rattle.pif_model.specs.Table.{has_mutex_room}
-use Rattle.pif_simulation.proofs.Additions.{mutex_added_sound}
+-- A new mutex leaves the parts runnable.
+use Rattle.pif_mutex.proofs.RunnableTables.{mutex_added_runnable}
 use Rattle.pif_mutex.proofs.parts.Parts.add_mutex.Goals as goal
 
 pub invariant_of-self : goal.invariant_of-self
-invariant_of-self g c =
-    rw c.add_mutex.ensures (mutex_added_sound c.self.inside.state c.args.kind c.self.invariant (ap has_mutex_room c.self.view_is ∙ c.requires))
+invariant_of-self g c = rw c.add_mutex.ensures (mutex_added_runnable c.self.inside.state c.args.kind _ c.self.invariant)

@@ -1,20 +1,32 @@
--- A compare-exchange of the word is one of the cell.
-use Rattle.std.proofs.Common.{◌==◌, get_or, ap, ◌∙◌}
-use Rattle.pif_model.specs.Word.{Word, is_bare}
-use Rattle.pif_mutex.proofs.Stored.{mutex_below, mutex_word, word_seen}
-use Rattle.pif_mutex.proofs.ShownChanges.{exchanged, ok_by_test}
+-- The parts fit together after the exchange, which writes the word of one mutex, or none.
+use Rattle.std.specs.Prelude.{◌==◌}
+use Rattle.std.specs.Result.{is_ok}
+use Rattle.pif_model.specs.Word.{word_of}
+use Rattle.pif_word.specs.declared.cells.Cell.TheVariants.{Mutex}
+use Rattle.pif_word.specs.WordMap.{words_of, bits_at}
+use Rattle.pif_mutex.proofs.Exchanges.{exchanged_words, exchanged_table}
+use Rattle.pif_mutex.proofs.Assembly.{exchanged_assembled}
 use Rattle.pif_mutex.proofs.state.State.exchange.Goals as goal
 
-pub compare_exchange-requires : goal.compare_exchange-requires
-compare_exchange-requires g c = mutex_word c.self.invariant.stored c.self.view_is c.args.m c.requires.mutex
-
-pub returns-clause-value : goal.returns-clause-value
-returns-clause-value g c =
-    let p = mutex_below c.self.invariant.stored c.self.view_is c.args.m c.requires.mutex in
-    c.is_ok.ensures.value ∙ c.compare_exchange.ensures.bare c.requires.bare
-    ∙ ap (λ (w : Word). is_bare w c.args.expected) (word_seen c.self.invariant.stored c.self.view_is c.args.m p.1)
+pub invariant_of-self : goal.invariant_of-self
+invariant_of-self g c =
+    let bits = bits_at c.self.inside.words (Mutex c.args.m) in
+    let words = exchanged_words (bits == c.args.expected) bits c.compare_exchange.result c.self.inside.words
+    c.compare_exchange.new.self c.args.m c.args.new
+    c.compare_exchange.ensures.value c.compare_exchange.ensures.stored in
+    record {
+      assembled = exchanged_assembled c.self.invariant.assembled (is_ok c.compare_exchange.result) c.args.m
+          (word_of c.args.new) (words_of c.compare_exchange.new.self) words;
+      lines = c.self.invariant.lines;
+      mutexes = c.self.invariant.mutexes;
+    }
 
 pub returns-clause-after : goal.returns-clause-after
 returns-clause-after g c =
-    exchanged c.self.invariant.stored c.self.view_is c.args.m c.args.new c.compare_exchange.new.self c.is_ok.result (get_or c.self.inside.words.mutexes c.args.m 0 == c.args.expected)
-    (c.is_ok.ensures.value ∙ ok_by_test _ _ _ c.compare_exchange.ensures.value) c.compare_exchange.ensures.stored
+    let bits = bits_at c.self.inside.words (Mutex c.args.m) in
+    let words = exchanged_words (bits == c.args.expected) bits c.compare_exchange.result c.self.inside.words
+    c.compare_exchange.new.self c.args.m c.args.new
+    c.compare_exchange.ensures.value c.compare_exchange.ensures.stored in
+    rw (← c.self.view_is, c.is_ok.ensures.value)
+    (exchanged_table (is_ok c.compare_exchange.result) _ c.args.m (word_of c.args.new)
+    (words_of c.compare_exchange.new.self) words)

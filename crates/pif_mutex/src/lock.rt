@@ -1,0 +1,71 @@
+ghost use Rattle.std.specs.Prelude.{◌≡◌, true};
+ghost use Rattle.pif_model.specs.PiKernel.{is_ready};
+ghost use Rattle.pif_model.specs.Table.{has_thread, has_mutex, status_at};
+ghost use Rattle.pif_model.specs.Lines.{lock_load, lock_kernel, lock_queued, lock_stop};
+ghost use Rattle.pif_mutex.specs.Outcomes.{outcome_of};
+
+use crate::progress::Progress;
+use crate::state::State;
+use pif_kernel::PiKernel;
+use pif_model::{Place, Status, Took};
+use pif_types::{Errno, Kind, MutexId, Request, Tid};
+use pif_word::number;
+
+/// The lines of a request that locks a mutex, but for its exchange.
+impl<K: PiKernel + Drop> State<K> {
+    /// Loads the word. The owner of a NORMAL mutex goes on to stop, that of an ERRORCHECK mutex is answered EDEADLK,
+    /// and that of a RECURSIVE one holds it once more.
+    #[tactic(auto, unfolding(pif_model::specs::Lines::lock_load))]
+    pub(crate) fn lock_load(&mut self, request: Request, t: Tid, m: MutexId) -> Progress
+        requires known { has_thread self.old t ≡ true }
+        requires mutex { has_mutex self.old m ≡ true }
+        ensures { outcome_of result self.new ≡ lock_load request t m self.old }
+    {
+        if number(self.word(m)) != t.get() {
+            return self.go_on(request, Place::LockExchange, t);
+        }
+        match self.kind(m) {
+            Kind::Normal => self.go_on(request, Place::LockStop, t),
+            Kind::ErrorCheck => self.answer(t, Errno::Deadlock.number()),
+            Kind::Recursive => self.lock_again(t, m),
+        }
+    }
+
+    /// The kernel call lock_pi. Where the owner has ended, the thread goes on to stop.
+    #[tactic(auto, unfolding(pif_model::specs::Lines::lock_kernel, pif_model::specs::Lines::lock_by), using(crate::proofs::KernelCalls::lock_keeps_threads))]
+    pub(crate) fn lock_kernel(&mut self, request: Request, t: Tid, m: MutexId) -> Progress
+        requires known { has_thread self.old t ≡ true }
+        requires ready { is_ready (status_at self.old t) ≡ true }
+        ensures { outcome_of result self.new ≡ lock_kernel request t m self.old }
+    {
+        match self.lock_pi(t, m) {
+            Ok(Took::Owns) => self.answer(t, 0),
+            Ok(Took::Queued) => self.wait(request, Place::LockQueued, t),
+            Err(Errno::NoSuchThread) => self.go_on(request, Place::LockStop, t),
+            Err(error) => self.answer(t, error.number()),
+        }
+    }
+
+    /// Queued, or made the owner, which is answered with no access of the word.
+    #[tactic(auto, unfolding(pif_model::specs::Lines::lock_queued))]
+    pub(crate) fn lock_queued(&mut self, t: Tid) -> Progress
+        requires { has_thread self.old t ≡ true }
+        ensures { outcome_of result self.new ≡ lock_queued t self.old }
+    {
+        match self.status(t) {
+            Status::Ready(_) => self.answer(t, 0),
+            Status::Queued(_) | Status::Stopped => Progress::Waits,
+        }
+    }
+
+    /// Stops for good.
+    #[tactic(auto, unfolding(pif_model::specs::Lines::lock_stop), using(crate::proofs::KernelCalls::stop_keeps_threads))]
+    pub(crate) fn lock_stop(&mut self, request: Request, t: Tid) -> Progress
+        requires known { has_thread self.old t ≡ true }
+        requires ready { is_ready (status_at self.old t) ≡ true }
+        ensures { outcome_of result self.new ≡ lock_stop request t self.old }
+    {
+        self.stop(t);
+        self.wait(request, Place::LockStopped, t)
+    }
+}

@@ -1,0 +1,45 @@
+ghost use Rattle.std.specs.Prelude.{◌≡◌, true};
+ghost use Rattle.pif_model.specs.PiKernel.{is_ready};
+ghost use Rattle.pif_model.specs.Table.{has_thread, has_mutex, status_at};
+ghost use Rattle.pif_model.specs.Lines.{try_load, try_kernel};
+ghost use Rattle.pif_mutex.specs.Outcomes.{outcome_of};
+
+use crate::progress::Progress;
+use crate::state::State;
+use pif_kernel::PiKernel;
+use pif_model::Place;
+use pif_types::{Errno, Kind, MutexId, Request, Tid};
+use pif_word::number;
+
+/// The lines of a trylock, but for its exchange.
+impl<K: PiKernel + Drop> State<K> {
+    /// Loads the word. The owner of a RECURSIVE mutex holds it once more, that of another is answered EBUSY.
+    #[tactic(auto, unfolding(pif_model::specs::Lines::try_load))]
+    pub(crate) fn try_load(&mut self, t: Tid, m: MutexId) -> Progress
+        requires known { has_thread self.old t ≡ true }
+        requires mutex { has_mutex self.old m ≡ true }
+        ensures { outcome_of result self.new ≡ try_load t m self.old }
+    {
+        if number(self.word(m)) != t.get() {
+            return self.go_on(Request::TryLock(m), Place::TryExchange, t);
+        }
+        match self.kind(m) {
+            Kind::Recursive => self.lock_again(t, m),
+            Kind::Normal | Kind::ErrorCheck => self.answer(t, Errno::Busy.number()),
+        }
+    }
+
+    /// The kernel call trylock_pi. Its EAGAIN, that the mutex is held, is answered as EBUSY.
+    #[tactic(auto, unfolding(pif_model::specs::Lines::try_kernel))]
+    pub(crate) fn try_kernel(&mut self, t: Tid, m: MutexId) -> Progress
+        requires known { has_thread self.old t ≡ true }
+        requires ready { is_ready (status_at self.old t) ≡ true }
+        ensures { outcome_of result self.new ≡ try_kernel t m self.old }
+    {
+        let called = match self.trylock_pi(t, m) {
+            Err(Errno::Again) => Err(Errno::Busy),
+            other => other,
+        };
+        self.answer_by(t, called)
+    }
+}
