@@ -17,6 +17,7 @@ none_by_test None n b h is e = none_given None n h refl
 none_by_test (Some x) n b h is e = absurd (true≢false (is ∙ ap not e))
 
 -- and who was given one has another number
-pub some_by_test : (o : Option ℕ) (n : ℕ) (b : Bool) → (IsSome o ↔ (1 ≤ n)) → is_some o ≡ not b → b ≡ false → (n == 0) ≡ false
+pub some_by_test : (o : Option ℕ) (n : ℕ) (b : Bool) → (IsSome o ↔ (1 ≤ n)) → is_some o ≡ not b → b ≡ false
+    → (n == 0) ≡ false
 some_by_test None n b h is e = absurd (true≢false (sym (is ∙ ap not e)))
 some_by_test (Some x) n b h is e = let one : 1 ≤ n = h.0 refl in ne_eqb n 0 (λ z. absurd (omega arith))
