@@ -1,4 +1,4 @@
-ghost use Rattle.std.specs.Prelude.{◌≡◌, ℕ, ◌<◌, ◌≤◌, length, None, true, unwrap_or};
+ghost use Rattle.std.specs.Prelude.{◌≡◌, ℕ, ◌<◌, ◌≤◌, ◌==◌, not, length, None, true, unwrap_or};
 ghost use Rattle.pif_nodes.specs.Lists.{has};
 ghost use Rattle.pif_runq.specs.Levels.{IsLevel, level_of, Holds, IsQueued, SameOutside};
 ghost use Rattle.pif_model.specs.Graph.{IsEffective};
@@ -75,6 +75,7 @@ fn repair(
     ensures outside { SameOutside queue.old table.old table.new }
     ensures place { queue.new ≡ record queue.old { mask = queue.new.mask } }
     ensures holds { Holds queue.new table.new }
+    ensures changed { 1 ≤ unwrap_or priority 0 → result ≡ not (unwrap_or priority 0 == local_of owners.old t) }
 {
     match priority {
         Some(prio) => {
@@ -88,7 +89,8 @@ fn repair(
 /// Gives the thread `t` this effective priority, also where it waits. Answers whether it had another one.
 fn boost(owners: &mut RtMutexes, t: Tid, prio: Prio) -> bool
     requires { t < length owners.old.seats }
-    ensures { owners.new ≡ with_seat t (with_effective prio (seat_at owners.old t)) owners.old }
+    ensures owners { owners.new ≡ with_seat t (with_effective prio (seat_at owners.old t)) owners.old }
+    ensures changed { result ≡ not (prio == local_of owners.old t) }
 {
     let before = owners.local(t);
     owners.set_local(t, prio);

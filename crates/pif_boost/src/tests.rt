@@ -43,6 +43,7 @@ fn wait_on(
 {
     let owner = owners.owner(state);
     let prio = owners.local(t)?;
+    // Only the walk asks that the owner was admitted.
     let _admitted = owners.base(owner)?;
     if owners.waits_on(t).is_some()
         || queue.level(table, t).is_some()
@@ -61,6 +62,7 @@ fn leave(owners: &mut RtMutexes, queue: &mut RunQueue, table: &mut NodeTable, t:
 {
     let state = owners.waits_on(t)?;
     let owner = owners.owner(state);
+    // Only the walk asks that the owner was admitted.
     let _admitted = owners.base(owner)?;
     owners.dequeue(state, t);
     Some(walk(owners, queue, table, owner))

@@ -7,8 +7,8 @@ use Rattle.std.proofs.lemmas.List.{append_assoc, ext_get_or, get_or-map, length-
 use Rattle.std.proofs.lemmas.Map.Keys.{IsDistinct-cons}
 use Rattle.std.proofs.lemmas.Map.Steps.{length-le_from_distinct_below}
 use Rattle.pif_nodes.specs.declared.keys.Key.{Key}
-use Rattle.pif_nodes.specs.declared.links.Slot.{Slot}
-use Rattle.pif_nodes.specs.declared.links.Ends.{Ends}
+use Rattle.pif_nodes.specs.declared.slots.Slot.{Slot}
+use Rattle.pif_nodes.specs.declared.slots.Ends.{Ends}
 use Rattle.pif_nodes.specs.Lists.{has, first_of, last_of, next_in, prev_in, HasNoRepeats}
 use Rattle.pif_nodes.specs.Table.{list_with, IsApart}
 use Rattle.pif_nodes.specs.Links.{free_slot, empty_ends, slot_at, walk, lists_of, keys_of, with_next, with_prev, with_place, slots_after_link, slots_after_unlink, with_slot_key, Ties}

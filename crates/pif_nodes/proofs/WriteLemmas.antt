@@ -1,8 +1,8 @@
 -- What the fields of a value show once a call has written them: the code's own copies of the fields and numbers, each
 -- equal to that of the value, go into `linked`, `unlinked` or `with_slot_key`, and the result back into the vectors.
 use Rattle.std.proofs.Common.{◌≡◌, ℕ, ◌<◌, List, [], Option, Some, None, IsSome, sym, ◌∙◌, ap, arith, length, get_or, take, drop, ◌++◌, replicate}
-use Rattle.pif_nodes.specs.declared.links.Slot.{Slot}
-use Rattle.pif_nodes.specs.declared.links.Ends.{Ends}
+use Rattle.pif_nodes.specs.declared.slots.Slot.{Slot}
+use Rattle.pif_nodes.specs.declared.slots.Ends.{Ends}
 use Rattle.pif_nodes.specs.Lists.{insert_after, without}
 use Rattle.pif_nodes.specs.Table.{Table, no_key, list_at, holder, with_list, with_key}
 use Rattle.pif_nodes.specs.Links.{free_slot, empty_ends, slot_at, follower_of, lists_of, slots_after_link, ends_after_link, slots_after_unlink, ends_after_unlink, with_slot_key, Ties}

@@ -12,10 +12,10 @@
 //! Contracts see each list as the numbers of its nodes in order, and a key for each node, never a link.
 #![tactic(auto)]
 
-mod joins;
 mod keys;
-mod links;
+mod linking;
 mod numbers;
+mod slots;
 mod table;
 
 pub use keys::Key;

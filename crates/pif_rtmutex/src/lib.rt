@@ -21,11 +21,11 @@
 #![tactic(auto)]
 
 mod order;
-mod owners;
 mod rows;
+mod rt_mutexes;
 
-pub use owners::RtMutexes;
 pub use rows::Key;
+pub use rt_mutexes::RtMutexes;
 
 #[cfg(test)]
 mod tests;

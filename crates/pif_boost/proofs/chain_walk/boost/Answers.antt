@@ -4,8 +4,8 @@ use Rattle.pif_boost.proofs.Repairs.{boosted-waiting, boosted-free}
 use Rattle.pif_boost.proofs.chain_walk.boost.Goals as goal
 use Rattle.pif_boost.proofs.chain_walk.boost.Goals.{in-Some, in_default}
 
-pub returns : goal.returns
-returns c =
+pub returns-clause-owners : goal.returns-clause-owners
+returns-clause-owners c =
     elim c.match-waits_on.branch [
       | in-Some w ↦
           w.owners-is ∙ w.rekey.ensures.changed ∙ ap (λ (v : Owners). with_prio c.args.t c.args.prio v) c.set_local.ensures.changed
