@@ -3,3 +3,4 @@ pub mod Rule
 pub mod Places
 pub mod Quick
 pub mod Lent
+pub mod Waits

@@ -4,6 +4,7 @@ ghost use Rattle.std.specs.Prelude.{◌≡◌, ◌*◌, ◌<◌, ◌^◌};
 mod calls;
 mod open;
 mod value;
+mod waits;
 
 use crate::parking::Order;
 use crate::rule::{Board, Place};
