@@ -4,5 +4,5 @@ mod scanner;
 mod script;
 
 pub use ending::{Ending, OpenFault};
-pub use listener::{ANSWER_ROOM, END_ROOM, Listener, OUTPUT_ROOM, Output};
+pub use listener::{ANSWER_ROOM, END_ROOM, Listener, OUTPUT_ROOM, Output, append};
 pub use script::read_script;

@@ -3,12 +3,11 @@ ghost use Rattle.pif_text.specs.Replies.{text_of};
 ghost use Rattle.pif_model.specs.Table.{Table};
 ghost use Rattle.pif_scripts.specs.Traces.{if_traced, traced_in, trace_hearing};
 
-use crate::reading::{Ending, Listener, OpenFault, Output};
+use crate::reading::{Ending, Listener, OpenFault, Output, append};
 use crate::running::{obey, open_core};
-use arrayvec::ArrayVec;
 use pif_core::Core;
 use pif_text::{
-    Cause, Command, HEADER, Reply, TEXT_ROOM, command_of, reply_text, same_text, split_answer,
+    Cause, Command, HEADER, Reply, Text, command_of, reply_text, same_text, split_answer,
 };
 use std::alloc::Global;
 use std::marker::Model;
@@ -30,16 +29,12 @@ fn if_traced(command: Command) -> Option<Command>
     ensures { result ≡ if_traced command }
 {
     match command {
-        Command::Limits(..)
-        | Command::Thread(_)
-        | Command::Mutex(_)
-        | Command::Begin(..)
-        | Command::Go(_) => Some(command),
-        Command::Call(..)
-        | Command::Finish(_)
-        | Command::Word(_)
-        | Command::Prio(_)
-        | Command::Pick => None,
+        Command::Call(..) => None,
+        Command::Finish(_) => None,
+        Command::Word(_) => None,
+        Command::Prio(_) => None,
+        Command::Pick => None,
+        traced => Some(traced),
     }
 }
 
@@ -62,7 +57,7 @@ fn compare(reply: Reply, recorded: &[u8]) -> Result<(), Ending>
     ensures { result ≡ (if bytes_eq (text_of reply) recorded.now then Ok tt else Err (Ending.Differs reply)) }
 {
     let given = reply;
-    let mut text = ArrayVec::<u8, TEXT_ROOM>::new();
+    let mut text = Text::new();
     reply_text(reply, &mut text);
     if text.as_slice() == recorded {
         Ok(())
@@ -113,7 +108,9 @@ impl Listener for Replayed {
         if number < 2 {
             return Err(Cause::Command);
         }
-        same_text(number - 2, output);
+        let mut text = Text::new();
+        same_text(number - 2, &mut text);
+        append(output, text.as_slice());
         output.push(b'\n');
         Ok(())
     }

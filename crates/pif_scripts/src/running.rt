@@ -5,9 +5,9 @@ ghost use Rattle.pif_model.specs.Table.{new_table};
 ghost use Rattle.pif_text.specs.Replies.{text_of};
 ghost use Rattle.pif_scripts.specs.Running.{reply_of_seen, finished, called, reply_of_thread, reply_of_mutex, reply_of_word, reply_of_priority, obeyed, default_limits, script, first_answer, limited_answer, answer_or_fault, IsAnswer, Makes};
 
-use crate::reading::{ANSWER_ROOM, Ending, Listener, OUTPUT_ROOM, OpenFault, Output};
+use crate::reading::{ANSWER_ROOM, Ending, Listener, OUTPUT_ROOM, OpenFault, Output, append};
 use pif_core::{Core, Event, Seen};
-use pif_text::{Cause, Command, Reply, command_of, reply_text};
+use pif_text::{Cause, Command, Reply, Text, command_of, reply_text};
 use pif_types::{AddFault, Limits, MutexId, Prio, Refusal, Request, Tid};
 use std::alloc::Global;
 
@@ -117,7 +117,9 @@ fn tell(reply: Reply, output: &mut Output)
     ensures told { output.new.items ≡ output.old.items ++ (text_of reply ++ 10 ∷ []) }
     ensures room { array_vec_len output.new ≤ array_vec_len output.old + ANSWER_ROOM }
 {
-    reply_text(reply, output);
+    let mut text = Text::new();
+    reply_text(reply, &mut text);
+    append(output, text.as_slice());
     output.push(b'\n');
 }
 

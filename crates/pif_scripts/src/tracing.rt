@@ -6,23 +6,16 @@ ghost use Rattle.arrayvec.specs.ArrayVec.{array_vec_len};
 use crate::CliFault;
 use crate::running::reply_of_seen;
 use crate::writing::write_whole;
-use arrayvec::ArrayVec;
 use pif_core::{Entry, Event};
 use pif_text::{
-    COMMAND_ROOM, Command, RECORDED_ROOM, Reply, command_text, header_text, mutex_text,
-    recorded_text,
+    COMMAND_ROOM, Command, RECORDED_ROOM, Reply, TEXT_ROOM, Text, command_text, header_text,
+    mutex_text, recorded_text,
 };
 use pif_types::Limits;
 use std::io::Write;
 
 /// Room for a command and the answer to it.
 const ROW_ROOM: usize = COMMAND_ROOM + RECORDED_ROOM;
-
-/// Room for the first two lines of a trace.
-const LINES_ROOM: usize = 12 + ROW_ROOM + 1;
-
-/// Lines of a trace.
-type Lines = ArrayVec<u8, LINES_ROOM>;
 
 /// The command that asks for an event.
 fn event_command(event: Event) -> Command
@@ -36,32 +29,32 @@ fn event_command(event: Event) -> Command
 
 /// Appends an entry as a command and the answer to it.
 #[tactic(auto, unfolding(crate::specs::Traces::entry_text))]
-fn append_entry(entry: Entry, lines: &mut Lines)
-    requires { array_vec_len lines.old + ROW_ROOM ≤ LINES_ROOM }
-    ensures written { lines.new.items ≡ lines.old.items ++ entry_text entry }
-    ensures within { array_vec_len lines.new ≤ array_vec_len lines.old + ROW_ROOM }
+fn append_entry(entry: Entry, text: &mut Text)
+    requires { array_vec_len text.old + ROW_ROOM ≤ TEXT_ROOM }
+    ensures written { text.new.items ≡ text.old.items ++ entry_text entry }
+    ensures within { array_vec_len text.new ≤ array_vec_len text.old + ROW_ROOM }
 {
     match entry {
         Entry::Thread(thread, priority) => {
-            command_text(Command::Thread(priority.get()), lines);
-            recorded_text(Reply::Thread(thread), lines);
+            command_text(Command::Thread(priority.get()), text);
+            recorded_text(Reply::Thread(thread), text);
         }
         Entry::Mutex(mutex, kind, robust) => {
-            mutex_text(kind, robust, lines);
-            recorded_text(Reply::Mutex(mutex), lines);
+            mutex_text(kind, robust, text);
+            recorded_text(Reply::Mutex(mutex), text);
         }
         Entry::Step(event, seen) => {
-            command_text(event_command(event), lines);
-            recorded_text(reply_of_seen(seen), lines);
+            command_text(event_command(event), text);
+            recorded_text(reply_of_seen(seen), text);
         }
     }
 }
 
 /// Appends limits as the command that names them, and the answer to it.
-fn append_limits(limits: Limits, lines: &mut Lines)
-    requires { array_vec_len lines.old + ROW_ROOM ≤ LINES_ROOM }
-    ensures written { lines.new.items ≡ lines.old.items ++ limits_text limits }
-    ensures within { array_vec_len lines.new ≤ array_vec_len lines.old + ROW_ROOM }
+fn append_limits(limits: Limits, text: &mut Text)
+    requires { array_vec_len text.old + ROW_ROOM ≤ TEXT_ROOM }
+    ensures written { text.new.items ≡ text.old.items ++ limits_text limits }
+    ensures within { array_vec_len text.new ≤ array_vec_len text.old + ROW_ROOM }
 {
     let command = Command::Limits(
         limits.threads(),
@@ -69,31 +62,31 @@ fn append_limits(limits: Limits, lines: &mut Lines)
         limits.conds(),
         limits.signals(),
     );
-    command_text(command, lines);
-    recorded_text(Reply::Done, lines);
+    command_text(command, text);
+    recorded_text(Reply::Done, text);
 }
 
 /// The first two lines of a trace.
 #[tactic(auto, unfolding(crate::specs::Traces::front_lines))]
-fn front_lines(limits: Limits) -> Lines
+fn front_lines(limits: Limits) -> Text
     ensures { result.items ≡ front_lines limits }
 {
-    let mut lines = Lines::new();
-    header_text(&mut lines);
-    lines.push(b'\n');
-    append_limits(limits, &mut lines);
-    lines.push(b'\n');
-    lines
+    let mut text = Text::new();
+    header_text(&mut text);
+    text.push(b'\n');
+    append_limits(limits, &mut text);
+    text.push(b'\n');
+    text
 }
 
 /// An entry as a line of a trace.
-fn entry_line(entry: Entry) -> Lines
+fn entry_line(entry: Entry) -> Text
     ensures { result.items ≡ entry_line entry }
 {
-    let mut lines = Lines::new();
-    append_entry(entry, &mut lines);
-    lines.push(b'\n');
-    lines
+    let mut text = Text::new();
+    append_entry(entry, &mut text);
+    text.push(b'\n');
+    text
 }
 
 /// Writes the trace of a history, of version 1: the header, the line of the limits, and a line for each entry, in the

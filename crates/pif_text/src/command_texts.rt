@@ -4,9 +4,8 @@ ghost use Rattle.pif_text.specs.Commands.{command_in};
 ghost use Rattle.pif_text.specs.CommandTexts.{IsWritten, command_text, kind_word, mutex_text, request_text};
 ghost use Rattle.pif_text.specs.Replies.{thread_name, mutex_name};
 
-use crate::Command;
 use crate::writing::{append, append_decimal, append_mutex, append_thread};
-use arrayvec::ArrayVec;
+use crate::{Command, TEXT_ROOM, Text};
 use pif_types::{Kind, Request, Tid};
 
 /// How many bytes of room `command_text` asks for: no command is longer.
@@ -26,8 +25,8 @@ fn kind_word(kind: Kind) -> &'static [u8]
 
 /// Appends the command that adds a mutex of this type, robust or not, with no line feed, at most `COMMAND_ROOM` bytes.
 /// What stands in `out` stays.
-pub fn mutex_text<const N: usize>(kind: Kind, robust: bool, out: &mut ArrayVec<u8, N>)
-    requires { array_vec_len out.old + COMMAND_ROOM ≤ N }
+pub fn mutex_text(kind: Kind, robust: bool, out: &mut Text)
+    requires { array_vec_len out.old + COMMAND_ROOM ≤ TEXT_ROOM }
     ensures written { out.new.items ≡ out.old.items ++ mutex_text kind robust }
     ensures within { array_vec_len out.new ≤ array_vec_len out.old + COMMAND_ROOM }
 {
@@ -40,8 +39,8 @@ pub fn mutex_text<const N: usize>(kind: Kind, robust: bool, out: &mut ArrayVec<u
 
 /// Appends a request.
 #[tactic(auto, unfolding(crate::specs::CommandTexts::request_text))]
-fn append_request<const N: usize>(out: &mut ArrayVec<u8, N>, request: Request)
-    requires { array_vec_len out.old + 50 ≤ N }
+fn append_request(out: &mut Text, request: Request)
+    requires { array_vec_len out.old + 50 ≤ TEXT_ROOM }
     ensures items { out.new.items ≡ out.old.items ++ request_text request }
     ensures len { array_vec_len out.new ≤ array_vec_len out.old + 50 }
 {
@@ -68,8 +67,8 @@ fn append_request<const N: usize>(out: &mut ArrayVec<u8, N>, request: Request)
 }
 
 /// Appends a thread and its request.
-fn append_call<const N: usize>(out: &mut ArrayVec<u8, N>, thread: Tid, request: Request)
-    requires { array_vec_len out.old + 72 ≤ N }
+fn append_call(out: &mut Text, thread: Tid, request: Request)
+    requires { array_vec_len out.old + 72 ≤ TEXT_ROOM }
     ensures items { out.new.items ≡ out.old.items ++ (thread_name thread ++ codes " " ++ request_text request) }
     ensures len { array_vec_len out.new ≤ array_vec_len out.old + 72 }
 {
@@ -79,14 +78,8 @@ fn append_call<const N: usize>(out: &mut ArrayVec<u8, N>, thread: Tid, request: 
 }
 
 /// Appends four numbers.
-fn append_numbers<const N: usize>(
-    out: &mut ArrayVec<u8, N>,
-    first: u32,
-    second: u32,
-    third: u32,
-    fourth: u32,
-)
-    requires { array_vec_len out.old + 83 ≤ N }
+fn append_numbers(out: &mut Text, first: u32, second: u32, third: u32, fourth: u32)
+    requires { array_vec_len out.old + 83 ≤ TEXT_ROOM }
     ensures items { out.new.items ≡ out.old.items
         ++ (decimal first ++ codes " " ++ decimal second ++ codes " " ++ decimal third ++ codes " " ++ decimal fourth) }
     ensures len { array_vec_len out.new ≤ array_vec_len out.old + 83 }
@@ -103,8 +96,8 @@ fn append_numbers<const N: usize>(
 /// Appends the line that asks for a command, with no line feed, at most `COMMAND_ROOM` bytes. What stands in `out`
 /// stays.
 #[tactic(auto, unfolding(crate::specs::CommandTexts::command_text))]
-pub fn command_text<const N: usize>(command: Command, out: &mut ArrayVec<u8, N>)
-    requires { array_vec_len out.old + COMMAND_ROOM ≤ N }
+pub fn command_text(command: Command, out: &mut Text)
+    requires { array_vec_len out.old + COMMAND_ROOM ≤ TEXT_ROOM }
     ensures written { out.new.items ≡ out.old.items ++ command_text command }
     ensures within { array_vec_len out.new ≤ array_vec_len out.old + COMMAND_ROOM }
 {

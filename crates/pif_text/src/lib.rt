@@ -8,6 +8,7 @@ mod reading;
 mod replies;
 #[cfg(test)]
 mod tests;
+mod text;
 mod traces;
 mod words;
 mod writing;
@@ -17,8 +18,9 @@ pub use commands::Command;
 pub use numbers::number_reads_back;
 pub use reading::command_of;
 pub use replies::{Cause, Reply};
+pub use text::{TEXT_ROOM, Text};
 pub use traces::{
     HEADER, RECORDED_ROOM, VERDICT_ROOM, differs_text, header_text, recorded_text, same_text,
     split_answer,
 };
-pub use writing::{TEXT_ROOM, fault_text, reply_text};
+pub use writing::{REPLY_ROOM, fault_text, reply_text};

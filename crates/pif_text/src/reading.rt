@@ -28,12 +28,13 @@ fn kind_of(word: &[u8]) -> Option<Kind>
 fn request_of(call: &[u8], mutex: &[u8]) -> Option<Request>
     ensures { result ≡ request_in call.now mutex.now }
 {
+    let mutex = mutex_of(mutex)?;
     if call == b"lock".as_slice() {
-        Some(Request::Lock(mutex_of(mutex)?))
+        Some(Request::Lock(mutex))
     } else if call == b"trylock".as_slice() {
-        Some(Request::TryLock(mutex_of(mutex)?))
+        Some(Request::TryLock(mutex))
     } else if call == b"unlock".as_slice() {
-        Some(Request::Unlock(mutex_of(mutex)?))
+        Some(Request::Unlock(mutex))
     } else {
         None
     }

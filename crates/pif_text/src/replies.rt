@@ -40,6 +40,6 @@ pub enum Cause {
     Cut,
     /// `command`: the line is no command.
     Command,
-    /// `limits`: the limits are out of range, or not in their place.
+    /// `limits`: a number of the limits, which stand in their place, is out of its range.
     Limits,
 }

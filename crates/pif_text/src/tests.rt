@@ -1,9 +1,10 @@
 use crate::{
-    Cause, Command, Reply, command_of, command_reads_back, command_text, differs_text, fault_text,
-    header_text, mutex_text, number_reads_back, recorded_text, reply_text, same_text, split_answer,
+    Cause, Command, Reply, Text, command_of, command_reads_back, command_text, differs_text,
+    fault_text, header_text, mutex_text, number_reads_back, recorded_text, reply_text, same_text,
+    split_answer,
 };
-use arrayvec::ArrayVec;
 use pif_types::{AddFault, Kind, MutexId, Prio, Refusal, Request, Tid};
+use std::process::Abort;
 use std::test::Fail;
 
 #[test]
@@ -99,6 +100,10 @@ fn other_lines_are_no_command(rt: HostRuntime) -> Result<(), Fail> {
 
 #[test]
 fn replies_are_written(rt: HostRuntime) -> Result<(), Fail> {
+    check_replies(&rt, &mut Text::new())
+}
+
+fn check_replies(rt: &impl Abort, out: &mut Text) -> Result<(), Fail> {
     let thread = Tid::new(3).ok_or("thread")?;
     let replies = [
         (Reply::Done, b"ok".as_slice()),
@@ -120,15 +125,19 @@ fn replies_are_written(rt: HostRuntime) -> Result<(), Fail> {
         (Reply::Picked(None), b"none"),
     ];
     for (reply, text) in replies {
-        let mut out = ArrayVec::<u8, 40>::new();
-        reply_text(reply, &mut out);
+        out.clear();
+        reply_text(reply, out);
         assert_eq!(rt; out.as_slice(), text);
     }
     Ok(())
 }
 
 #[test]
-fn faults_are_written(rt: HostRuntime) -> Result<(), Fail> {
+fn faults_are_written(rt: HostRuntime) {
+    check_faults(&rt, &mut Text::new());
+}
+
+fn check_faults(rt: &impl Abort, out: &mut Text) {
     let faults = [
         (1, Cause::Size, b"fault 1 size".as_slice()),
         (16_777_217, Cause::Long, b"fault 16777217 long"),
@@ -137,15 +146,19 @@ fn faults_are_written(rt: HostRuntime) -> Result<(), Fail> {
         (1, Cause::Limits, b"fault 1 limits"),
     ];
     for (line_number, cause, text) in faults {
-        let mut out = ArrayVec::<u8, 40>::new();
-        fault_text(line_number, cause, &mut out);
+        out.clear();
+        fault_text(line_number, cause, out);
         assert_eq!(rt; out.as_slice(), text);
     }
-    Ok(())
 }
 
 #[test]
 fn commands_are_written_as_they_are_read(rt: HostRuntime) -> Result<(), Fail> {
+    command_reads_back();
+    check_commands(&rt, &mut Text::new())
+}
+
+fn check_commands(rt: &impl Abort, out: &mut Text) -> Result<(), Fail> {
     let lines = [
         b"limits 4 2 0 4294967295".as_slice(),
         b"thread 0",
@@ -163,13 +176,12 @@ fn commands_are_written_as_they_are_read(rt: HostRuntime) -> Result<(), Fail> {
     ];
     for line in lines {
         let command = command_of(line).ok_or("command")?;
-        let mut out = ArrayVec::<u8, 90>::new();
-        command_text(command, &mut out);
+        out.clear();
+        command_text(command, out);
         assert_eq!(rt; out.as_slice(), line);
     }
-    command_reads_back();
-    let mut out = ArrayVec::<u8, 90>::new();
-    mutex_text(Kind::ErrorCheck, true, &mut out);
+    out.clear();
+    mutex_text(Kind::ErrorCheck, true, out);
     assert_eq!(rt; out.as_slice(), b"mutex errorcheck robust".as_slice());
     Ok(())
 }
@@ -199,16 +211,20 @@ fn lines_of_traces_are_cut_at_the_first_mark(rt: HostRuntime) {
 
 #[test]
 fn verdicts_are_written(rt: HostRuntime) {
-    let mut out = ArrayVec::<u8, 70>::new();
-    same_text(5, &mut out);
+    check_verdicts(&rt, &mut Text::new());
+}
+
+fn check_verdicts(rt: &impl Abort, out: &mut Text) {
+    out.clear();
+    same_text(5, out);
     assert_eq!(rt; out.as_slice(), b"same 5".as_slice());
     out.clear();
-    header_text(&mut out);
+    header_text(out);
     assert_eq!(rt; out.as_slice(), b"pif-trace 1".as_slice());
     out.clear();
-    recorded_text(Reply::Went, &mut out);
+    recorded_text(Reply::Went, out);
     assert_eq!(rt; out.as_slice(), b" = went".as_slice());
     out.clear();
-    differs_text(6, Reply::Answer(0), &mut out);
+    differs_text(6, Reply::Answer(0), out);
     assert_eq!(rt; out.as_slice(), b"differs 6 answer 0".as_slice());
 }

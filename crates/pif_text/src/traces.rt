@@ -2,9 +2,8 @@ ghost use Rattle.std.specs.Prelude.{◌≡◌, ℕ, ◌+◌, ◌≤◌, ◌<◌,
 ghost use Rattle.arrayvec.specs.ArrayVec.{array_vec_len};
 ghost use Rattle.pif_text.specs.Traces.{parts_of, is_marked, header_text, recorded, same_of, differs_of};
 
-use crate::Reply;
 use crate::writing::{append, append_decimal, reply_text};
-use arrayvec::ArrayVec;
+use crate::{Reply, TEXT_ROOM, Text};
 
 /// The first line of a trace.
 pub const HEADER: &[u8] = b"pif-trace 1";
@@ -29,8 +28,8 @@ pub fn split_answer(line: &[u8]) -> Option<(&[u8], &[u8])>
 }
 
 /// Appends the first line of a trace, with no line feed. What stands in `out` stays.
-pub fn header_text<const N: usize>(out: &mut ArrayVec<u8, N>)
-    requires { array_vec_len out.old + 11 ≤ N }
+pub fn header_text(out: &mut Text)
+    requires { array_vec_len out.old + 11 ≤ TEXT_ROOM }
     ensures written { out.new.items ≡ out.old.items ++ header_text }
     ensures within { array_vec_len out.new ≤ array_vec_len out.old + 11 }
 {
@@ -39,8 +38,8 @@ pub fn header_text<const N: usize>(out: &mut ArrayVec<u8, N>)
 
 /// Appends ` = ` and an answer, as they stand behind the command in a line of a trace, with no line feed, at most
 /// `RECORDED_ROOM` bytes. What stands in `out` stays.
-pub fn recorded_text<const N: usize>(reply: Reply, out: &mut ArrayVec<u8, N>)
-    requires { array_vec_len out.old + RECORDED_ROOM ≤ N }
+pub fn recorded_text(reply: Reply, out: &mut Text)
+    requires { array_vec_len out.old + RECORDED_ROOM ≤ TEXT_ROOM }
     ensures written { out.new.items ≡ out.old.items ++ recorded reply }
     ensures within { array_vec_len out.new ≤ array_vec_len out.old + RECORDED_ROOM }
 {
@@ -51,8 +50,8 @@ pub fn recorded_text<const N: usize>(reply: Reply, out: &mut ArrayVec<u8, N>)
 /// Appends `same N`, what a trace of so many lines behind the first comes to where each answer is the recorded one,
 /// with no line feed, at most `VERDICT_ROOM` bytes. What stands in `out` stays.
 #[tactic(auto, unfolding(crate::specs::Traces::same_of))]
-pub fn same_text<const N: usize>(lines: u64, out: &mut ArrayVec<u8, N>)
-    requires { array_vec_len out.old + VERDICT_ROOM ≤ N }
+pub fn same_text(lines: u64, out: &mut Text)
+    requires { array_vec_len out.old + VERDICT_ROOM ≤ TEXT_ROOM }
     ensures written { out.new.items ≡ out.old.items ++ same_of lines }
     ensures within { array_vec_len out.new ≤ array_vec_len out.old + VERDICT_ROOM }
 {
@@ -63,8 +62,8 @@ pub fn same_text<const N: usize>(lines: u64, out: &mut ArrayVec<u8, N>)
 /// Appends `differs N X`, the first difference of a trace: at this line, counted from 1, the answer is `reply`. There is
 /// no line feed, and it is at most `VERDICT_ROOM` bytes. What stands in `out` stays.
 #[tactic(auto, unfolding(crate::specs::Traces::differs_of))]
-pub fn differs_text<const N: usize>(line_number: u64, reply: Reply, out: &mut ArrayVec<u8, N>)
-    requires { array_vec_len out.old + VERDICT_ROOM ≤ N }
+pub fn differs_text(line_number: u64, reply: Reply, out: &mut Text)
+    requires { array_vec_len out.old + VERDICT_ROOM ≤ TEXT_ROOM }
     ensures written { out.new.items ≡ out.old.items ++ differs_of line_number reply }
     ensures within { array_vec_len out.new ≤ array_vec_len out.old + VERDICT_ROOM }
 {

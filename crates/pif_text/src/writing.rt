@@ -4,25 +4,24 @@ ghost use Rattle.std.specs.Fmt.{digit_glyph};
 ghost use Rattle.pif_text.specs.Numbers.{hex_digits};
 ghost use Rattle.pif_text.specs.Replies.{text_of, fault_of, add_fault_word, refusal_word, thread_name, mutex_name, picked_text, cause_word};
 
-use crate::{Cause, Reply};
-use arrayvec::ArrayVec;
+use crate::{Cause, Reply, TEXT_ROOM, Text};
 use itoa::Buffer;
 use pif_types::{AddFault, Answer, MutexId, Refusal, Tid};
 
 /// How many bytes of room `reply_text` and `fault_text` ask for: no text is longer.
-pub const TEXT_ROOM: usize = 40;
+pub const REPLY_ROOM: usize = 40;
 
 /// Appends bytes.
-pub fn append<const N: usize>(out: &mut ArrayVec<u8, N>, text: &[u8])
-    requires { array_vec_len out.old + length text.now ≤ N }
+pub fn append(out: &mut Text, text: &[u8])
+    requires { array_vec_len out.old + length text.now ≤ TEXT_ROOM }
     ensures { out.new.items ≡ out.old.items ++ text.now }
 {
     let _ = out.try_extend_from_slice(text);
 }
 
 /// Appends a number in decimal digits.
-pub fn append_decimal<const N: usize>(out: &mut ArrayVec<u8, N>, number: u64)
-    requires { array_vec_len out.old + 20 ≤ N }
+pub fn append_decimal(out: &mut Text, number: u64)
+    requires { array_vec_len out.old + 20 ≤ TEXT_ROOM }
     ensures items { out.new.items ≡ out.old.items ++ decimal number }
     ensures len { length (decimal number) ≤ 20 }
 {
@@ -31,8 +30,8 @@ pub fn append_decimal<const N: usize>(out: &mut ArrayVec<u8, N>, number: u64)
 }
 
 /// Appends the name of a thread.
-pub fn append_thread<const N: usize>(out: &mut ArrayVec<u8, N>, thread: Tid)
-    requires { array_vec_len out.old + 21 ≤ N }
+pub fn append_thread(out: &mut Text, thread: Tid)
+    requires { array_vec_len out.old + 21 ≤ TEXT_ROOM }
     ensures items { out.new.items ≡ out.old.items ++ thread_name thread }
     ensures len { length (thread_name thread) ≤ 21 }
 {
@@ -41,8 +40,8 @@ pub fn append_thread<const N: usize>(out: &mut ArrayVec<u8, N>, thread: Tid)
 }
 
 /// Appends the name of a mutex.
-pub fn append_mutex<const N: usize>(out: &mut ArrayVec<u8, N>, mutex: MutexId)
-    requires { array_vec_len out.old + 21 ≤ N }
+pub fn append_mutex(out: &mut Text, mutex: MutexId)
+    requires { array_vec_len out.old + 21 ≤ TEXT_ROOM }
     ensures items { out.new.items ≡ out.old.items ++ mutex_name mutex }
     ensures len { length (mutex_name mutex) ≤ 21 }
 {
@@ -51,8 +50,8 @@ pub fn append_mutex<const N: usize>(out: &mut ArrayVec<u8, N>, mutex: MutexId)
 }
 
 /// Appends what a call is answered.
-fn append_answer<const N: usize>(out: &mut ArrayVec<u8, N>, number: Answer)
-    requires { array_vec_len out.old + 27 ≤ N }
+fn append_answer(out: &mut Text, number: Answer)
+    requires { array_vec_len out.old + 27 ≤ TEXT_ROOM }
     ensures items { out.new.items ≡ out.old.items ++ (codes "answer " ++ decimal number) }
     ensures len { array_vec_len out.new ≤ array_vec_len out.old + 27 }
 {
@@ -97,8 +96,8 @@ fn hex_text(value: u32) -> [u8; 8]
 }
 
 /// Appends the value of a word.
-fn append_hex<const N: usize>(out: &mut ArrayVec<u8, N>, value: u32)
-    requires { array_vec_len out.old + 10 ≤ N }
+fn append_hex(out: &mut Text, value: u32)
+    requires { array_vec_len out.old + 10 ≤ TEXT_ROOM }
     ensures items { out.new.items ≡ out.old.items ++ (codes "0x" ++ hex_digits 8 value) }
     ensures len { array_vec_len out.new ≡ array_vec_len out.old + 10 }
 {
@@ -144,8 +143,8 @@ fn cause_of(cause: Cause) -> &'static [u8]
 }
 
 /// Appends a refusal and its one word.
-fn append_refused<const N: usize>(out: &mut ArrayVec<u8, N>, why: &[u8])
-    requires room { array_vec_len out.old + 20 ≤ N }
+fn append_refused(out: &mut Text, why: &[u8])
+    requires room { array_vec_len out.old + 20 ≤ TEXT_ROOM }
     requires short { length why.now ≤ 10 }
     ensures items { out.new.items ≡ out.old.items ++ (codes "refused " ++ why.now) }
 {
@@ -154,8 +153,8 @@ fn append_refused<const N: usize>(out: &mut ArrayVec<u8, N>, why: &[u8])
 }
 
 /// Appends the thread that runs next, or that there is none.
-fn append_picked<const N: usize>(out: &mut ArrayVec<u8, N>, thread: Option<Tid>)
-    requires { array_vec_len out.old + 21 ≤ N }
+fn append_picked(out: &mut Text, thread: Option<Tid>)
+    requires { array_vec_len out.old + 21 ≤ TEXT_ROOM }
     ensures items { out.new.items ≡ out.old.items ++ picked_text thread }
     ensures len { array_vec_len out.new ≤ array_vec_len out.old + 21 }
 {
@@ -165,12 +164,12 @@ fn append_picked<const N: usize>(out: &mut ArrayVec<u8, N>, thread: Option<Tid>)
     }
 }
 
-/// Appends the text of a reply, with no line feed, at most `TEXT_ROOM` bytes. What stands in `out` stays.
+/// Appends the text of a reply, with no line feed, at most `REPLY_ROOM` bytes. What stands in `out` stays.
 #[tactic(auto, unfolding(crate::specs::Replies::text_of))]
-pub fn reply_text<const N: usize>(reply: Reply, out: &mut ArrayVec<u8, N>)
-    requires { array_vec_len out.old + TEXT_ROOM ≤ N }
+pub fn reply_text(reply: Reply, out: &mut Text)
+    requires { array_vec_len out.old + REPLY_ROOM ≤ TEXT_ROOM }
     ensures written { out.new.items ≡ out.old.items ++ text_of reply }
-    ensures within { array_vec_len out.new ≤ array_vec_len out.old + TEXT_ROOM }
+    ensures within { array_vec_len out.new ≤ array_vec_len out.old + REPLY_ROOM }
 {
     match reply {
         Reply::Done => append(out, b"ok"),
@@ -188,13 +187,13 @@ pub fn reply_text<const N: usize>(reply: Reply, out: &mut ArrayVec<u8, N>)
     }
 }
 
-/// Appends the text of a fault at a line, counted from 1, with no line feed, at most `TEXT_ROOM` bytes. What stands in
+/// Appends the text of a fault at a line, counted from 1, with no line feed, at most `REPLY_ROOM` bytes. What stands in
 /// `out` stays.
 #[tactic(auto, unfolding(crate::specs::Replies::fault_of))]
-pub fn fault_text<const N: usize>(line_number: u64, cause: Cause, out: &mut ArrayVec<u8, N>)
-    requires { array_vec_len out.old + TEXT_ROOM ≤ N }
+pub fn fault_text(line_number: u64, cause: Cause, out: &mut Text)
+    requires { array_vec_len out.old + REPLY_ROOM ≤ TEXT_ROOM }
     ensures written { out.new.items ≡ out.old.items ++ fault_of line_number cause }
-    ensures within { array_vec_len out.new ≤ array_vec_len out.old + TEXT_ROOM }
+    ensures within { array_vec_len out.new ≤ array_vec_len out.old + REPLY_ROOM }
 {
     append(out, b"fault ");
     append_decimal(out, line_number);

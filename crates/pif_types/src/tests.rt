@@ -1,4 +1,9 @@
-use crate::{CondId, Errno, Limits, MutexId, Prio, Tid, push_within, with_room};
+use crate::{
+    AddFault, CondId, Errno, Limits, MutexId, NoMemory, Prio, Refusal, Tid, push_within, with_room,
+};
+use std::alloc::Global;
+use std::fmt::Display;
+use std::process::Abort;
 use std::test::Fail;
 
 #[test]
@@ -30,11 +35,51 @@ fn limits_lie_in_their_ranges(rt: HostRuntime) -> Result<(), Fail> {
     Ok(())
 }
 
+/// Each error, with its number on Linux on x86-64 and the name that <errno.h> gives it.
+const ERRORS: [(Errno, u32, &str); 11] = [
+    (Errno::NotPermitted, 1, "EPERM"),
+    (Errno::NoSuchThread, 3, "ESRCH"),
+    (Errno::Again, 11, "EAGAIN"),
+    (Errno::Fault, 14, "EFAULT"),
+    (Errno::Busy, 16, "EBUSY"),
+    (Errno::Invalid, 22, "EINVAL"),
+    (Errno::Deadlock, 35, "EDEADLK"),
+    (Errno::Overflow, 75, "EOVERFLOW"),
+    (Errno::TimedOut, 110, "ETIMEDOUT"),
+    (Errno::OwnerDead, 130, "EOWNERDEAD"),
+    (Errno::NotRecoverable, 131, "ENOTRECOVERABLE"),
+];
+
+/// Checks how an error is printed.
+fn check_printed<D: Display>(
+    rt: &impl Abort,
+    alloc: Global,
+    error: &D,
+    text: &str,
+) -> Result<(), Fail> {
+    let printed = error.to_string(alloc)?;
+    assert!(rt; printed.as_str() == text, "{text:?}");
+    Ok(())
+}
+
 #[test]
-fn errors_have_the_numbers_of_errno_h(rt: HostRuntime) {
-    assert_eq!(rt; Errno::NotPermitted.number(), 1);
-    assert_eq!(rt; Errno::Deadlock.number(), 35);
-    assert_eq!(rt; Errno::NotRecoverable.number(), 131);
+fn errors_have_the_numbers_and_names_of_errno_h(rt: HostRuntime) -> Result<(), Fail> {
+    for (error, number, name) in ERRORS {
+        assert_eq!(rt; error.number(), number);
+        check_printed(&rt, rt.alloc(), &error, name)?;
+    }
+    Ok(())
+}
+
+#[test]
+fn other_errors_say_what_they_are(rt: HostRuntime) -> Result<(), Fail> {
+    let alloc = rt.alloc();
+    check_printed(&rt, alloc, &AddFault::TooMany, "too many")?;
+    check_printed(&rt, alloc, &AddFault::BadPrio, "bad priority")?;
+    check_printed(&rt, alloc, &Refusal::Busy, "busy")?;
+    check_printed(&rt, alloc, &Refusal::Idle, "idle")?;
+    check_printed(&rt, alloc, &Refusal::NoSuch, "no such thread or mutex")?;
+    check_printed(&rt, alloc, &NoMemory, "out of memory")
 }
 
 #[test]

@@ -1,7 +1,7 @@
 use pif_text::{Cause, Reply};
 
 /// How a line ends a script or a trace.
-#[derive(Clone, Copy, Debug, PartialEq, Eq)]
+#[derive(Clone, Copy)]
 pub enum Ending {
     /// The line is a fault.
     Fault(Cause),
@@ -10,7 +10,7 @@ pub enum Ending {
 }
 
 /// The first line that ends a script or a trace.
-#[derive(Clone, Copy, Debug, PartialEq, Eq)]
+#[derive(Clone, Copy)]
 pub struct End {
     /// The number of the line, from 1.
     pub line: u64,
@@ -19,7 +19,7 @@ pub struct End {
 }
 
 /// Why a line made no listener, though it isn't passed over.
-#[derive(Clone, Copy, Debug, PartialEq, Eq)]
+#[derive(Clone, Copy)]
 pub enum OpenFault {
     /// The line ends the script so.
     Ended(Ending),
@@ -28,7 +28,7 @@ pub enum OpenFault {
 }
 
 /// Why a script was not read further.
-#[derive(Clone, Copy, Debug, PartialEq, Eq)]
+#[derive(Clone, Copy)]
 pub enum Stop {
     /// This line ended it.
     Ended(End),

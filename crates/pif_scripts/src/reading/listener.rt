@@ -1,4 +1,4 @@
-ghost use Rattle.std.specs.Prelude.{ℕ, ◌+◌, ◌≤◌, List, Option, Some, None};
+ghost use Rattle.std.specs.Prelude.{ℕ, ◌≡◌, ◌+◌, ◌≤◌, ◌++◌, List, Option, Some, None, length};
 ghost use Rattle.arrayvec.specs.ArrayVec.{array_vec_len};
 ghost use Rattle.pif_scripts.specs.Scripts.{Hearing, Opens, Hears, Tells};
 
@@ -21,6 +21,14 @@ pub const OUTPUT_ROOM: usize = CHUNK * ANSWER_ROOM + END_ROOM;
 
 /// The answers to the lines of a chunk.
 pub type Output = ArrayVec<u8, OUTPUT_ROOM>;
+
+/// Appends bytes.
+pub fn append(output: &mut Output, text: &[u8])
+    requires { array_vec_len output.old + length text.now ≤ OUTPUT_ROOM }
+    ensures { output.new.items ≡ output.old.items ++ text.now }
+{
+    let _ = output.try_extend_from_slice(text);
+}
 
 /// Who answers the lines of a script or a trace.
 pub trait Listener: Sized {

@@ -5,11 +5,11 @@ ghost use Rattle.pif_scripts.specs.Runs.{RunsFrom, Turns, Closes, Stops};
 ghost use Rattle.pif_scripts.specs.Scanners.{scan_of};
 
 use super::ending::{End, Ending, Stop};
-use super::listener::{CHUNK, END_ROOM, Listener, OUTPUT_ROOM, Output};
+use super::listener::{CHUNK, END_ROOM, Listener, OUTPUT_ROOM, Output, append};
 use super::scanner::Scanner;
 use crate::CliFault;
 use crate::writing::write_whole;
-use pif_text::{differs_text, fault_text};
+use pif_text::{Text, differs_text, fault_text};
 use std::alloc::Global;
 use std::io::{Read, Write};
 
@@ -90,16 +90,18 @@ fn stop<W: Write>(end: End, output: &mut Output, writer: &mut W) -> CliFault
     ensures { Stops (W.contents writer.old) (W.contents writer.new) output.old.items end result }
 {
     let End { line, ending } = end;
+    let mut text = Text::new();
     let fault = match ending {
         Ending::Fault(cause) => {
-            fault_text(line, cause, output);
+            fault_text(line, cause, &mut text);
             CliFault::Script(line, cause)
         }
         Ending::Differs(reply) => {
-            differs_text(line, reply, output);
+            differs_text(line, reply, &mut text);
             CliFault::Differs(line)
         }
     };
+    append(output, text.as_slice());
     output.push(b'\n');
     match write_whole(writer, output.as_slice()) {
         Ok(()) => fault,
