@@ -79,6 +79,15 @@ impl MutexId {
     }
 }
 
+impl Default for MutexId {
+    ghost is_default = { λ m. m ≡ 1 };
+
+    /// The first mutex, number 1.
+    fn default() -> Self {
+        MutexId { mutex: 1 }
+    }
+}
+
 /// The number of a condition variable, from 1 in the order in which variables are added.
 #[derive(Clone, Copy, Debug, PartialEq, Eq, Hash, PartialOrd, Ord)]
 pub struct CondId {
