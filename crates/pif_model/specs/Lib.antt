@@ -9,3 +9,4 @@ pub mod Kernel
 pub mod Lines
 pub mod Calls
 pub mod Standing
+pub mod RobustList
