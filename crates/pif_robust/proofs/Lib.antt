@@ -1,0 +1,10 @@
+pub mod CallLemmas
+pub mod ChainLemmas
+pub mod CutLemmas
+pub mod ForgetLemmas
+pub mod JoinLemmas
+pub mod ListLemmas
+pub mod SeenLemmas
+pub mod TiesLemmas
+pub mod WalkLemmas
+pub mod WriteLemmas
