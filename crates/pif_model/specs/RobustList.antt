@@ -33,21 +33,21 @@ abbrev pub robust_at : Robust → ℕ → RobustRow
 robust_at v t = get_or v.threads t no_robust_row
 
 -- whether a list of mutexes has m
-abbrev pub has_mutex : List ℕ → ℕ → Bool
-has_mutex ms m = list_any (λ k. m == k) ms
+abbrev pub has_entry : List ℕ → ℕ → Bool
+has_entry ms m = list_any (λ k. m == k) ms
 
 -- a list of mutexes without m
-abbrev pub without_mutex : List ℕ → ℕ → List ℕ
-without_mutex ms m = filter (λ k. if m == k then false else true) ms
+abbrev pub without_entry : List ℕ → ℕ → List ℕ
+without_entry ms m = filter (λ k. if m == k then false else true) ms
 
 -- whether m is on the list of t
 abbrev pub is_listed : Robust → ℕ → ℕ → Bool
-is_listed v t m = has_mutex (robust_at v t).listed m
+is_listed v t m = has_entry (robust_at v t).listed m
 
 -- what the end of a thread goes through: the listed mutexes from the head, without the pending one, and then the
 -- pending one, if there is one
 abbrev pub walk_of : RobustRow → List ℕ
-walk_of x = without_mutex x.listed x.pending ++ (if x.pending == 0 then [] else x.pending ∷ [])
+walk_of x = without_entry x.listed x.pending ++ (if x.pending == 0 then [] else x.pending ∷ [])
 
 -- t as x
 abbrev pub with_robust : ℕ → RobustRow → Robust → Robust
@@ -73,7 +73,7 @@ with_listed t m v =
 -- m off the list of t, and nothing half-linked by t
 abbrev pub without_listed : ℕ → ℕ → Robust → Robust
 without_listed t m v =
-    with_robust t (record (robust_at v t) { listed = without_mutex (robust_at v t).listed m; half_linked = 0 }) v
+    with_robust t (record (robust_at v t) { listed = without_entry (robust_at v t).listed m; half_linked = 0 }) v
 
 -- nothing on the list of t, nothing half-linked by it, and no mutex in its pending field
 abbrev pub without_robust : ℕ → Robust → Robust
@@ -82,7 +82,7 @@ without_robust t v = with_robust t no_robust_row v
 -- no mutex stands in the list twice
 abbrev pub HasNoRepeats : List ℕ → Type 0
 HasNoRepeats [] = ⊤
-HasNoRepeats (m ∷ ms) = (has_mutex ms m ≡ false) × HasNoRepeats ms
+HasNoRepeats (m ∷ ms) = (has_entry ms m ≡ false) × HasNoRepeats ms
 
 -- m is on no list
 abbrev pub IsUnlisted : Robust → ℕ → Type 0

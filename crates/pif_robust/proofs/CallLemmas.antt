@@ -8,7 +8,7 @@ use Rattle.std.specs.Prelude.{IfNone}
 use Rattle.pif_robust.specs.declared.links.Link.{Link}
 use Rattle.pif_robust.specs.declared.links.Head.{Head}
 use Rattle.pif_robust.specs.Links.{unlinked, link_at, head_at, robust_from, Ties, links_joined, heads_joined, links_cut, heads_cut}
-use Rattle.pif_robust.specs.Robust.{mutex_of}
+use Rattle.pif_robust.specs.Robust.{named_mutex}
 use Rattle.pif_robust.proofs.TiesLemmas.{IsRobust-from_Ties}
 use Rattle.pif_robust.proofs.WriteLemmas.{Ties-pending, Ties-half_linked, with_robust-out}
 use Rattle.pif_robust.proofs.ChainLemmas.{chain-holder}
@@ -40,7 +40,7 @@ module _ {ns : List Link} {hs : List Head} {v : Robust} (view : robust_from ns h
 
   -- another pending field
   pub Shows-pending : {t i : ℕ} {o : Option ℕ} {h : Head} (m : ℕ) → 1 ≤ i → i ≡ t → i < length hs → h ≡ get_or hs i h →
-      o ≡ mutex_of m → m ≤ v.mutexes →
+      o ≡ named_mutex m → m ≤ v.mutexes →
       Shows ns (set hs i (record { first = h.first; half_linked = h.half_linked; pending = o })) (with_pending t m v)
   Shows-pending {t} {i} {o} {h} m some same i_in read is m_in =
       let e : h ≡ head_at hs t = head_read hs t i h same (omega arith) read in

@@ -3,7 +3,7 @@ use Rattle.std.proofs.Common.{◌≡◌, ℕ, zero, suc, ◌≤◌, ◌<◌, tru
 use Rattle.std.proofs.lemmas.Bool.{cases_Bool, cases_lt, eqb-true, both_ways}
 use Rattle.std.proofs.lemmas.Option.{same_Some}
 use Rattle.std.proofs.lemmas.List.{get_or-set_same, get_or-set_other, get_or_past, length-set}
-use Rattle.pif_model.specs.RobustList.{has_mutex, HasNoRepeats}
+use Rattle.pif_model.specs.RobustList.{has_entry, HasNoRepeats}
 use Rattle.pif_robust.specs.declared.links.Link.{Link}
 use Rattle.pif_robust.specs.declared.links.Head.{Head}
 use Rattle.pif_robust.specs.Links.{unlinked, empty_head, link_at, head_at, path, first_or, last_or, IsChain, with_next, with_first, with_previous}
@@ -11,16 +11,16 @@ use Rattle.pif_robust.proofs.ListLemmas.{kept, has-head, has-tail, apart, last-h
 
 -- who holds each mutex of a chain
 pub chain-holder : (ns : List Link) (t : ℕ) (before : Option ℕ) (xs : List ℕ) (after : Option ℕ) (m : ℕ) →
-    IsChain ns t before xs after → has_mutex xs m ≡ true → (link_at ns m).holder ≡ Some t
+    IsChain ns t before xs after → has_entry xs m ≡ true → (link_at ns m).holder ≡ Some t
 chain-holder ns t before [] after m c h = absurd cc
 chain-holder ns t before (x ∷ xs) after m c h = ⊎_elim
     (λ e. ap (λ k. (link_at ns k).holder) (eqb-true m x e) ∙ ap (λ (l : Link). l.holder) c.0)
-    (λ e. let rest : has_mutex xs m ≡ true = rw e at h in chain-holder ns t (Some x) xs after m c.1 rest)
+    (λ e. let rest : has_entry xs m ≡ true = rw e at h in chain-holder ns t (Some x) xs after m c.1 rest)
     (cases_Bool (eqb m x))
 
 -- entries that are as they were
 pub chain-same : (ns now : List Link) (t : ℕ) (before : Option ℕ) (xs : List ℕ) (after : Option ℕ) →
-    ((k : ℕ) → has_mutex xs k ≡ true → link_at now k ≡ link_at ns k) → IsChain ns t before xs after →
+    ((k : ℕ) → has_entry xs k ≡ true → link_at now k ≡ link_at ns k) → IsChain ns t before xs after →
     IsChain now t before xs after
 chain-same ns now t before [] after same c = record {}
 chain-same ns now t before (x ∷ xs) after same c =
@@ -29,9 +29,9 @@ chain-same ns now t before (x ∷ xs) after same c =
 -- a chain whose first entry gets another one before it
 pub chain-refirst : (ns now : List Link) (t : ℕ) (before to : Option ℕ) (xs : List ℕ) (after : Option ℕ) →
     HasNoRepeats xs →
-    ((k : ℕ) → first_or xs None ≡ Some k → has_mutex xs k ≡ true →
+    ((k : ℕ) → first_or xs None ≡ Some k → has_entry xs k ≡ true →
     link_at now k ≡ record (link_at ns k) { previous = to }) →
-    ((k : ℕ) → (first_or xs None ≡ Some k → ⊥) → has_mutex xs k ≡ true → link_at now k ≡ link_at ns k) →
+    ((k : ℕ) → (first_or xs None ≡ Some k → ⊥) → has_entry xs k ≡ true → link_at now k ≡ link_at ns k) →
     IsChain ns t before xs after → IsChain now t to xs after
 chain-refirst ns now t before to [] after once at other c = record {}
 chain-refirst ns now t before to (x ∷ xs) after once at other c = (
@@ -43,14 +43,14 @@ chain-refirst ns now t before to (x ∷ xs) after once at other c = (
 -- a chain whose last entry gets another one after it
 pub chain-relast : (ns now : List Link) (t : ℕ) (before : Option ℕ) (xs : List ℕ) (after to : Option ℕ) →
     HasNoRepeats xs →
-    ((k : ℕ) → last_or None xs ≡ Some k → has_mutex xs k ≡ true → link_at now k ≡ record (link_at ns k) { next = to }) →
-    ((k : ℕ) → (last_or None xs ≡ Some k → ⊥) → has_mutex xs k ≡ true → link_at now k ≡ link_at ns k) →
+    ((k : ℕ) → last_or None xs ≡ Some k → has_entry xs k ≡ true → link_at now k ≡ record (link_at ns k) { next = to }) →
+    ((k : ℕ) → (last_or None xs ≡ Some k → ⊥) → has_entry xs k ≡ true → link_at now k ≡ link_at ns k) →
     IsChain ns t before xs after → IsChain now t before xs to
 chain-relast ns now t before [] after to once at other c = record {}
 chain-relast ns now t before (x ∷ []) after to once at other c =
     (at x refl (has-head x []) ∙ ap (λ (l : Link). record l { next = to }) c.0, record {})
 chain-relast ns now t before (x ∷ (y ∷ ys)) after to once at other c =
-    let ne : last_or None (y ∷ ys) ≡ Some x → ⊥ = λ e. both_ways (has_mutex (y ∷ ys) x) once.0
+    let ne : last_or None (y ∷ ys) ≡ Some x → ⊥ = λ e. both_ways (has_entry (y ∷ ys) x) once.0
     (last-has None y ys x e) in (
       other x ne (has-head x (y ∷ ys)) ∙ c.0,
       chain-relast ns now t (Some x) (y ∷ ys) after to once.1 (λ k e h. at k e (has-tail k x (y ∷ ys) h))

@@ -3,7 +3,7 @@ use Rattle.std.proofs.Common.{◌≡◌, ℕ, ◌≤◌, ◌<◌, true, false, L
 use Rattle.std.proofs.lemmas.Bool.{cases_lt, cases_eq, both_ways}
 use Rattle.std.proofs.lemmas.Option.{same_Some}
 use Rattle.std.proofs.lemmas.List.{get_or-set_same, get_or-set_other, length-set, get_or_past}
-use Rattle.pif_model.specs.RobustList.{Robust, RobustRow, no_robust_row, robust_at, has_mutex, without_mutex, is_listed, without_listed, HasNoRepeats}
+use Rattle.pif_model.specs.RobustList.{Robust, RobustRow, no_robust_row, robust_at, has_entry, without_entry, is_listed, without_listed, HasNoRepeats}
 use Rattle.pif_robust.specs.declared.links.Link.{Link}
 use Rattle.pif_robust.specs.declared.links.Head.{Head}
 use Rattle.pif_robust.specs.Links.{unlinked, empty_head, link_at, head_at, first_or, last_or, IsChain, Ties, with_next, with_first, links_cut, heads_cut}
@@ -51,16 +51,16 @@ module _ (ns : List Link) (hs : List Head) (v : Robust) (ties : Ties ns hs v) (t
   holder_is : (link_at ns m).holder ≡ Some t
   holder_is = ap (λ (l : Link). l.holder) behind.0
 
-  in_front : (k : ℕ) → has_mutex front k ≡ true → is_listed v t k ≡ true
-  in_front k h = ap (λ zs. has_mutex zs k) split ∙ has-left k front (m ∷ back) h
+  in_front : (k : ℕ) → has_entry front k ≡ true → is_listed v t k ≡ true
+  in_front k h = ap (λ zs. has_entry zs k) split ∙ has-left k front (m ∷ back) h
 
-  in_back : (k : ℕ) → has_mutex back k ≡ true → is_listed v t k ≡ true
-  in_back k h = ap (λ zs. has_mutex zs k) split ∙ has-right k front (m ∷ back) (has-tail k m back h)
+  in_back : (k : ℕ) → has_entry back k ≡ true → is_listed v t k ≡ true
+  in_back k h = ap (λ zs. has_entry zs k) split ∙ has-right k front (m ∷ back) (has-tail k m back h)
 
-  previous_in : (k : ℕ) → p ≡ Some k → has_mutex front k ≡ true
+  previous_in : (k : ℕ) → p ≡ Some k → has_entry front k ≡ true
   previous_in k h = last_or-has front k (sym previous_is ∙ h)
 
-  next_in : (k : ℕ) → n ≡ Some k → has_mutex back k ≡ true
+  next_in : (k : ℕ) → n ≡ Some k → has_entry back k ≡ true
   next_in k h = first_or-has back k (sym next_is ∙ h)
 
   pub mutex_within : m < length ns
@@ -74,7 +74,7 @@ module _ (ns : List Link) (hs : List Head) (v : Robust) (ties : Ties ns hs v) (t
 
   -- a thread outside the limits, or nobody, has no list
   some_list : robust_at v t ≡ no_robust_row → ⊥
-  some_list e = let none : false ≡ true = sym (ap (λ (x : RobustRow). has_mutex x.listed m) e) ∙ listed in cc
+  some_list e = let none : false ≡ true = sym (ap (λ (x : RobustRow). has_entry x.listed m) e) ∙ listed in cc
 
   pub thread_within : t < length hs
   thread_within = ⊎_elim
@@ -98,30 +98,30 @@ module _ (ns : List Link) (hs : List Head) (v : Robust) (ties : Ties ns hs v) (t
   mid_else k ne = get_or-set_other ns m k unlinked unlinked ne
 
   now_here : link_at (links_cut ns m) m ≡ unlinked
-  now_here = with_previous-other mid_next n p m (λ e. both_ways (has_mutex back m) sep.back_lacks (next_in m e))
-      ∙ with_next-other mid p n m (λ e. both_ways (has_mutex front m) sep.front_lacks (previous_in m e))
+  now_here = with_previous-other mid_next n p m (λ e. both_ways (has_entry back m) sep.back_lacks (next_in m e))
+      ∙ with_next-other mid p n m (λ e. both_ways (has_entry front m) sep.front_lacks (previous_in m e))
       ∙ get_or-set_same ns m unlinked unlinked mutex_within
 
-  now_last : (k : ℕ) → last_or None front ≡ Some k → has_mutex front k ≡ true →
+  now_last : (k : ℕ) → last_or None front ≡ Some k → has_entry front k ≡ true →
       link_at (links_cut ns m) k ≡ record (link_at ns k) { next = first_or back None }
   now_last k e h =
       let ne : k ≡ m → ⊥ = apart k m front h sep.front_lacks in
-      with_previous-other mid_next n p k (λ g. both_ways (has_mutex back k) (sep.sides k h) (next_in k g))
+      with_previous-other mid_next n p k (λ g. both_ways (has_entry back k) (sep.sides k h) (next_in k g))
       ∙ with_next-at mid p n k (previous_is ∙ e)
       (omega (arith, length-set ns m unlinked, listed_in ns hs v ties t k (in_front k h)))
       ∙ ap (λ (l : Link). record l { next = n }) (mid_else k ne) ∙ ap (λ o. record (link_at ns k) { next = o }) next_is
 
-  now_front : (k : ℕ) → (last_or None front ≡ Some k → ⊥) → has_mutex front k ≡ true →
+  now_front : (k : ℕ) → (last_or None front ≡ Some k → ⊥) → has_entry front k ≡ true →
       link_at (links_cut ns m) k ≡ link_at ns k
   now_front k not h =
-      with_previous-other mid_next n p k (λ g. both_ways (has_mutex back k) (sep.sides k h) (next_in k g))
+      with_previous-other mid_next n p k (λ g. both_ways (has_entry back k) (sep.sides k h) (next_in k g))
       ∙ with_next-other mid p n k (λ g. not (sym previous_is ∙ g))
       ∙ mid_else k (apart k m front h sep.front_lacks)
 
-  not_front : (k : ℕ) → has_mutex back k ≡ true → p ≡ Some k → ⊥
-  not_front k h g = both_ways (has_mutex back k) (sep.sides k (previous_in k g)) h
+  not_front : (k : ℕ) → has_entry back k ≡ true → p ≡ Some k → ⊥
+  not_front k h g = both_ways (has_entry back k) (sep.sides k (previous_in k g)) h
 
-  now_first : (k : ℕ) → first_or back None ≡ Some k → has_mutex back k ≡ true →
+  now_first : (k : ℕ) → first_or back None ≡ Some k → has_entry back k ≡ true →
       link_at (links_cut ns m) k ≡ record (link_at ns k) { previous = last_or None front }
   now_first k e h =
       with_previous-at mid_next n p k (next_is ∙ e)
@@ -130,7 +130,7 @@ module _ (ns : List Link) (hs : List Head) (v : Robust) (ties : Ties ns hs v) (t
       (with_next-other mid p n k (not_front k h) ∙ mid_else k (apart k m back h sep.back_lacks))
       ∙ ap (λ o. record (link_at ns k) { previous = o }) previous_is
 
-  now_back : (k : ℕ) → (first_or back None ≡ Some k → ⊥) → has_mutex back k ≡ true →
+  now_back : (k : ℕ) → (first_or back None ≡ Some k → ⊥) → has_entry back k ≡ true →
       link_at (links_cut ns m) k ≡ link_at ns k
   now_back k not h =
       with_previous-other mid_next n p k (λ g. not (sym next_is ∙ g))
@@ -154,10 +154,10 @@ module _ (ns : List Link) (hs : List Head) (v : Robust) (ties : Ties ns hs v) (t
   m_some : 1 ≤ m
   m_some = (IsRobust-from_Ties ns hs v ties).some_listed t m listed
 
-  rest_is : without_mutex xs m ≡ front ++ back
-  rest_is = ap (λ zs. without_mutex zs m) split ∙ without-split front back m sep.front_lacks sep.back_lacks
+  rest_is : without_entry xs m ≡ front ++ back
+  rest_is = ap (λ zs. without_entry zs m) split ∙ without-split front back m sep.front_lacks sep.back_lacks
 
-  rest_chain : IsChain (links_cut ns m) t None (without_mutex xs m) None
+  rest_chain : IsChain (links_cut ns m) t None (without_entry xs m) None
   rest_chain = subst (λ (zs : List ℕ). IsChain (links_cut ns m) t None zs None) (sym rest_is)
       (chain-append (links_cut ns m) t None front back None
       (chain-relast ns (links_cut ns m) t None front (Some m) (first_or back None) sep.front_once now_last now_front
@@ -173,17 +173,17 @@ module _ (ns : List Link) (hs : List Head) (v : Robust) (ties : Ties ns hs v) (t
   cut_head = record (head_at mid_heads t) { half_linked = None }
 
   head_here : head_at (heads_cut ns hs t m) t ≡ record (head_at hs t)
-      { first = first_or (without_mutex xs m) None; half_linked = None }
+      { first = first_or (without_entry xs m) None; half_linked = None }
   head_here = get_or-set_same mid_heads t cut_head empty_head (omega (arith, length-with_first hs t p n, thread_within))
       ∙ ap (λ (h : Head). record h { half_linked = None })
-      (with_first-at hs t p n (first_or (without_mutex xs m) None) thread_within
+      (with_first-at hs t p n (first_or (without_entry xs m) None) thread_within
       (λ e. next_is ∙ sym (first_or-back front back (sym previous_is ∙ e)) ∙ ap (λ zs. first_or zs None) (sym rest_is))
       (λ k e. ties.first t ∙ ap (λ zs. first_or zs None) split
       ∙ first_or-front front (m ∷ back) back k (sym previous_is ∙ e) ∙ ap (λ zs. first_or zs None) (sym rest_is)))
 
   pub Ties-cut : Ties (links_cut ns m) (heads_cut ns hs t m) (without_listed t m v)
   Ties-cut = Ties-changed ns (links_cut ns m) hs (heads_cut ns hs t m) v t m
-      (record (robust_at v t) { listed = without_mutex xs m; half_linked = 0 }) ties (record {
+      (record (robust_at v t) { listed = without_entry xs m; half_linked = 0 }) ties (record {
         links = length-with_previous mid_next n p ∙ length-with_next mid p n ∙ length-set ns m unlinked;
         heads = length-set mid_heads t cut_head ∙ length-with_first hs t p n;
         thread = thread_some;

@@ -2,7 +2,7 @@
 use Rattle.std.proofs.Common.{◌≡◌, ℕ, zero, suc, ◌≤◌, ◌<◌, true, false, List, [], ◌∷◌, Some, None, refl, sym, ◌∙◌, ap, subst, ⊎_elim, arith, length, set}
 use Rattle.std.proofs.lemmas.Bool.{cases_lt, eq-eqb}
 use Rattle.std.proofs.lemmas.List.{get_or-set_same, get_or-set_other, get_or_past, length-set}
-use Rattle.pif_model.specs.RobustList.{Robust, RobustRow, no_robust_row, robust_at, has_mutex, without_mutex, is_listed, without_listed, without_robust}
+use Rattle.pif_model.specs.RobustList.{Robust, RobustRow, no_robust_row, robust_at, has_entry, without_entry, is_listed, without_listed, without_robust}
 use Rattle.pif_robust.specs.declared.links.Link.{Link}
 use Rattle.pif_robust.specs.declared.links.Head.{Head}
 use Rattle.pif_robust.specs.Links.{empty_head, head_at, robust_from, first_or, Ties}
@@ -21,7 +21,7 @@ set_twice (x ∷ xs) (suc i) a b = ap (λ zs. x ∷ zs) (set_twice xs i a b)
 
 -- the row of t without m on its list
 abbrev row_without : Robust → ℕ → ℕ → RobustRow
-row_without v t m = record (robust_at v t) { listed = without_mutex (robust_at v t).listed m; half_linked = 0 }
+row_without v t m = record (robust_at v t) { listed = without_entry (robust_at v t).listed m; half_linked = 0 }
 
 -- a mutex more or less on the list of t is forgotten with it
 pub without_robust-listed : (v : Robust) (t m : ℕ) → without_robust t (without_listed t m v) ≡ without_robust t v
@@ -32,11 +32,11 @@ without_robust-listed v t m = ap (λ xs. record v { threads = xs })
 pub first-listed : (v : Robust) (t m : ℕ) → first_or (robust_at v t).listed None ≡ Some m → is_listed v t m ≡ true
 first-listed v t m h = first_or-has (robust_at v t).listed m h
 
-shorter : (xs : List ℕ) (m : ℕ) → first_or xs None ≡ Some m → length (without_mutex xs m) < length xs
+shorter : (xs : List ℕ) (m : ℕ) → first_or xs None ≡ Some m → length (without_entry xs m) < length xs
 shorter [] m h = absurd cc
 shorter (x ∷ xs) m h =
     let e : x ≡ m = cc in
-    subst (λ (k : ℕ). length (without_mutex (x ∷ xs) k) < length (x ∷ xs)) e
+    subst (λ (k : ℕ). length (without_entry (x ∷ xs) k) < length (x ∷ xs)) e
     (rw (eq-eqb x x refl) (omega (arith, length-without xs x)))
 
 -- a list without its first mutex is shorter
@@ -88,5 +88,5 @@ module _ {ns : List Link} {hs : List Head} {v : Robust} (view : robust_from ns h
         other_heads = λ u ne. get_or-set_other hs t u empty_head empty_head ne;
         others = λ k ne not. refl;
         holders = λ k ne. refl;
-        keeps = λ k ne listed. let wrong : false ≡ true = sym (ap (λ xs. has_mutex xs k) none) ∙ listed in absurd cc;
+        keeps = λ k ne listed. let wrong : false ≡ true = sym (ap (λ xs. has_entry xs k) none) ∙ listed in absurd cc;
       })))

@@ -3,7 +3,7 @@ use Rattle.std.proofs.Common.{◌≡◌, ℕ, ◌≤◌, ◌<◌, true, false, L
 use Rattle.std.proofs.lemmas.Bool.{cases_lt, cases_eq}
 use Rattle.std.proofs.lemmas.Option.{same_Some}
 use Rattle.std.proofs.lemmas.List.{get_or-set_same, get_or-set_other, length-set, get_or_past}
-use Rattle.pif_model.specs.RobustList.{Robust, RobustRow, no_robust_row, robust_at, has_mutex, is_listed, with_listed}
+use Rattle.pif_model.specs.RobustList.{Robust, RobustRow, no_robust_row, robust_at, has_entry, is_listed, with_listed}
 use Rattle.pif_robust.specs.declared.links.Link.{Link}
 use Rattle.pif_robust.specs.declared.links.Head.{Head}
 use Rattle.pif_robust.specs.Links.{unlinked, empty_head, link_at, head_at, first_or, Ties, links_joined, heads_joined}
@@ -69,7 +69,7 @@ module _ (ns : List Link) (hs : List Head) (v : Robust) (ties : Ties ns hs v) (t
   now_here = with_previous-other mid (link_at ns m).next (Some m) m (λ e. next_apart m e refl)
       ∙ get_or-set_same ns m held_link unlinked m_in ∙ ap (λ (l : Link). record l { holder = Some t }) was_link
 
-  now_first : (k : ℕ) → first_or xs None ≡ Some k → has_mutex xs k ≡ true →
+  now_first : (k : ℕ) → first_or xs None ≡ Some k → has_entry xs k ≡ true →
       link_at (links_joined ns t m (link_at ns m).next) k ≡ record (link_at ns k) { previous = Some m }
   now_first k e h = with_previous-at mid (link_at ns m).next (Some m) k (next_is ∙ e)
       (omega (arith, length-set ns m held_link, listed_in ns hs v ties t k h))

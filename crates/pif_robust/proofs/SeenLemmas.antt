@@ -9,7 +9,7 @@ use Rattle.pif_model.specs.RobustList.{Robust, RobustRow, no_robust_row, no_robu
 use Rattle.pif_robust.specs.declared.links.Link.{Link}
 use Rattle.pif_robust.specs.declared.links.Head.{Head}
 use Rattle.pif_robust.specs.Links.{unlinked, empty_head, link_at, head_at, robust_from, first_or, IsChain, Ties}
-use Rattle.pif_robust.specs.Robust.{mutex_of}
+use Rattle.pif_robust.specs.Robust.{named_mutex}
 use Rattle.pif_robust.proofs.TiesLemmas.{robust_from_is, IsRobust-from_Ties}
 
 -- the fields hold these lists, and show them
@@ -78,8 +78,9 @@ Ties-new l most =
       nobody = row 0;
       first = λ t. ap (λ (h : Head). h.first) (head t) ∙ ap (λ (x : RobustRow). first_or x.listed None) (sym (row t));
       half_linked = λ t. ap (λ (h : Head). h.half_linked) (head t)
-          ∙ ap (λ (x : RobustRow). mutex_of x.half_linked) (sym (row t));
-      pending = λ t. ap (λ (h : Head). h.pending) (head t) ∙ ap (λ (x : RobustRow). mutex_of x.pending) (sym (row t));
+          ∙ ap (λ (x : RobustRow). named_mutex x.half_linked) (sym (row t));
+      pending = λ t. ap (λ (h : Head). h.pending) (head t)
+          ∙ ap (λ (x : RobustRow). named_mutex x.pending) (sym (row t));
       chain = λ t. subst (λ (x : RobustRow). IsChain (replicate (l.mutexes + 1) unlinked) t None x.listed None)
           (sym (row t)) (record {});
       once = λ t. subst (λ (x : RobustRow). HasNoRepeats x.listed) (sym (row t)) (record {});

@@ -3,22 +3,22 @@ use Rattle.std.proofs.Common.{◌≡◌, ℕ, zero, suc, ◌-◌, ◌≤◌, ◌
 use Rattle.std.proofs.lemmas.Bool.{cases_eq, false_from_ne_true}
 use Rattle.std.proofs.lemmas.Option.{same_Some}
 use Rattle.std.proofs.lemmas.List.{ext_get_or, get_or-map, length-map, get_or-set_same, get_or-set_other, length-set}
-use Rattle.pif_model.specs.RobustList.{Robust, RobustRow, no_robust_row, robust_at, has_mutex, is_listed, with_robust, HasNoRepeats, IsRobust}
+use Rattle.pif_model.specs.RobustList.{Robust, RobustRow, no_robust_row, robust_at, has_entry, is_listed, with_robust, HasNoRepeats, IsRobust}
 use Rattle.pif_robust.specs.declared.links.Link.{Link}
 use Rattle.pif_robust.specs.declared.links.Head.{Head}
 use Rattle.pif_robust.specs.Links.{unlinked, empty_head, link_at, head_at, path, row_from, robust_from, first_or, IsChain, Ties}
-use Rattle.pif_robust.specs.Robust.{mutex_of}
+use Rattle.pif_robust.specs.Robust.{named_mutex}
 use Rattle.pif_robust.proofs.ListLemmas.{length-mutexes}
 use Rattle.pif_robust.proofs.ChainLemmas.{chain-holder, chain-same, path-chain, held_within}
 
 -- the number of a mutex that has one
-pub number_of-mutex : (m : ℕ) → unwrap_or (mutex_of m) 0 ≡ m
-number_of-mutex zero = refl
-number_of-mutex (suc m) = refl
+pub unwrap_or-named_mutex : (m : ℕ) → unwrap_or (named_mutex m) 0 ≡ m
+unwrap_or-named_mutex zero = refl
+unwrap_or-named_mutex (suc m) = refl
 
-pub mutex_of-some : (m : ℕ) → 1 ≤ m → mutex_of m ≡ Some m
-mutex_of-some zero h = absurd (omega arith)
-mutex_of-some (suc m) h = refl
+pub named_mutex-some : (m : ℕ) → 1 ≤ m → named_mutex m ≡ Some m
+named_mutex-some zero h = absurd (omega arith)
+named_mutex-some (suc m) h = refl
 
 same_row : (xs ys : List ℕ) (h i p q : ℕ) → xs ≡ ys → h ≡ i → p ≡ q →
     ◌≡◌ {A = RobustRow} (record { listed = xs; half_linked = h; pending = p })
@@ -51,8 +51,8 @@ module _ (ns : List Link) (hs : List Head) (v : Robust) (t : Ties ns hs v) where
       (robust_at v u).pending
       (ap (path (length ns) ns) (t.first u) ∙ path-chain ns u None (robust_at v u).listed (length ns)
       (omega (arith, short u, t.mutexes)) (t.chain u))
-      (ap (λ o. unwrap_or o 0) (t.half_linked u) ∙ number_of-mutex (robust_at v u).half_linked)
-      (ap (λ o. unwrap_or o 0) (t.pending u) ∙ number_of-mutex (robust_at v u).pending)
+      (ap (λ o. unwrap_or o 0) (t.half_linked u) ∙ unwrap_or-named_mutex (robust_at v u).half_linked)
+      (ap (λ o. unwrap_or o 0) (t.pending u) ∙ unwrap_or-named_mutex (robust_at v u).pending)
 
   -- the fields show the lists that they hold
   pub robust_from_is : robust_from ns hs ≡ v
@@ -88,8 +88,8 @@ pub record Change (ns now : List Link) (hs then : List Head) (v : Robust) (t m :
   pub no_mutex : link_at now 0 ≡ unlinked
   -- the row
   pub first : (head_at then t).first ≡ first_or x.listed None
-  pub half_linked : (head_at then t).half_linked ≡ mutex_of x.half_linked
-  pub pending : (head_at then t).pending ≡ mutex_of x.pending
+  pub half_linked : (head_at then t).half_linked ≡ named_mutex x.half_linked
+  pub pending : (head_at then t).pending ≡ named_mutex x.pending
   pub chain : IsChain now t None x.listed None
   pub once : HasNoRepeats x.listed
   pub written : (k : ℕ) → 1 ≤ k → x.half_linked ≡ k →
@@ -100,13 +100,13 @@ pub record Change (ns now : List Link) (hs then : List Head) (v : Robust) (t m :
   -- the mutex
   pub was : (u : ℕ) → (u ≡ t → ⊥) → (link_at ns m).holder ≡ Some u → ⊥
   pub becomes : (u : ℕ) → (link_at now m).holder ≡ Some u → u ≡ t
-  pub mine : (link_at now m).holder ≡ Some t → has_mutex x.listed m ≡ true
+  pub mine : (link_at now m).holder ≡ Some t → has_entry x.listed m ≡ true
   pub half_else : (u : ℕ) → (u ≡ t → ⊥) → 1 ≤ m → (robust_at v u).half_linked ≡ m → ⊥
   -- all others
   pub other_heads : (u : ℕ) → (u ≡ t → ⊥) → head_at then u ≡ head_at hs u
   pub others : (k : ℕ) → (k ≡ m → ⊥) → ((link_at ns k).holder ≡ Some t → ⊥) → link_at now k ≡ link_at ns k
   pub holders : (k : ℕ) → (k ≡ m → ⊥) → (link_at now k).holder ≡ (link_at ns k).holder
-  pub keeps : (k : ℕ) → (k ≡ m → ⊥) → is_listed v t k ≡ true → has_mutex x.listed k ≡ true
+  pub keeps : (k : ℕ) → (k ≡ m → ⊥) → is_listed v t k ≡ true → has_entry x.listed k ≡ true
 
 -- the row of a thread that changes, and those of the others
 module _ (v : Robust) (t : ℕ) (x : RobustRow) (t_in : t < length v.threads) where
@@ -140,9 +140,9 @@ module _ (ns now : List Link) (hs then : List Head) (v : Robust) (t m : ℕ) (x 
       (λ g. ne (same_Some u t (sym by ∙ g))))
       (ties.chain u)
 
-  holder_here : (k : ℕ) → (link_at now k).holder ≡ Some t → has_mutex x.listed k ≡ true
+  holder_here : (k : ℕ) → (link_at now k).holder ≡ Some t → has_entry x.listed k ≡ true
   holder_here k h = ⊎_elim
-      (λ e. subst (λ (j : ℕ). has_mutex x.listed j ≡ true) (sym e)
+      (λ e. subst (λ (j : ℕ). has_entry x.listed j ≡ true) (sym e)
       (c.mine (ap (λ j. (link_at now j).holder) (sym e) ∙ h)))
       (λ ne. c.keeps k ne (ties.holder t k (sym (c.holders k ne) ∙ h)))
       (cases_eq k m)
@@ -185,13 +185,13 @@ module _ (ns now : List Link) (hs then : List Head) (v : Robust) (t m : ℕ) (x 
     nobody = robust_at-other v t x t_in 0 zero_apart ∙ ties.nobody;
     first = rows (λ u y. (head_at then u).first ≡ first_or y.listed None) c.first
         (λ u ne. ap (λ (h : Head). h.first) (c.other_heads u ne) ∙ ties.first u);
-    half_linked = rows (λ u y. (head_at then u).half_linked ≡ mutex_of y.half_linked) c.half_linked
+    half_linked = rows (λ u y. (head_at then u).half_linked ≡ named_mutex y.half_linked) c.half_linked
         (λ u ne. ap (λ (h : Head). h.half_linked) (c.other_heads u ne) ∙ ties.half_linked u);
-    pending = rows (λ u y. (head_at then u).pending ≡ mutex_of y.pending) c.pending
+    pending = rows (λ u y. (head_at then u).pending ≡ named_mutex y.pending) c.pending
         (λ u ne. ap (λ (h : Head). h.pending) (c.other_heads u ne) ∙ ties.pending u);
     chain = rows (λ u y. IsChain now u None y.listed None) c.chain other_chain;
     once = rows (λ u y. HasNoRepeats y.listed) c.once (λ u ne. ties.once u);
-    holder = rows (λ u y. (k : ℕ) → (link_at now k).holder ≡ Some u → has_mutex y.listed k ≡ true) holder_here
+    holder = rows (λ u y. (k : ℕ) → (link_at now k).holder ≡ Some u → has_entry y.listed k ≡ true) holder_here
         holder_else;
     written = rows (λ u y. (k : ℕ) → 1 ≤ k → y.half_linked ≡ k →
         link_at now k ≡ record { next = first_or y.listed None; previous = None; holder = None })

@@ -3,14 +3,14 @@ use Rattle.std.proofs.Common.{◌≡◌, ℕ, zero, suc, ◌+◌, ◌≤◌, ◌
 use Rattle.std.proofs.lemmas.Bool.{or_parts, or_from, eqb-false, cases_Bool, cases_eq, eq-eqb, ne_eqb, eqb-true}
 use Rattle.std.proofs.Math.Bool.{or-false}
 use Rattle.std.proofs.lemmas.List.{append_assoc, append-nil, length-append}
-use Rattle.pif_model.specs.RobustList.{Robust, RobustRow, robust_at, has_mutex, without_mutex, walk_of, HasNoRepeats, IsRobust}
+use Rattle.pif_model.specs.RobustList.{Robust, RobustRow, robust_at, has_entry, without_entry, walk_of, HasNoRepeats, IsRobust}
 use Rattle.pif_robust.specs.declared.links.Link.{Link}
 use Rattle.pif_robust.specs.declared.links.Head.{Head}
 use Rattle.pif_robust.specs.Links.{link_at, path, robust_from, first_or, IsChain, Ties}
-use Rattle.pif_robust.specs.Robust.{mutex_of}
+use Rattle.pif_robust.specs.Robust.{named_mutex}
 use Rattle.pif_robust.proofs.ListLemmas.{has-append, length-mutexes, has-without_same, HasNoRepeats-without, has-with}
 use Rattle.pif_robust.proofs.ChainLemmas.{path-chain, held_within}
-use Rattle.pif_robust.proofs.TiesLemmas.{IsRobust-from_Ties, short, number_of-mutex, mutex_of-some}
+use Rattle.pif_robust.proofs.TiesLemmas.{IsRobust-from_Ties, short, unwrap_or-named_mutex, named_mutex-some}
 use Rattle.pif_robust.proofs.SeenLemmas.{link_read}
 use Rattle.pif_robust.proofs.CallLemmas.{ties_seen}
 
@@ -20,11 +20,11 @@ pub record IsWalking (ns : List Link) (t : ℕ) (x : RobustRow) (found : List �
   pub rest : List ℕ
   pub chain : IsChain ns t before rest None
   pub next_is : next ≡ first_or rest None
-  pub so_far : found ++ without_mutex rest x.pending ≡ without_mutex x.listed x.pending
+  pub so_far : found ++ without_entry rest x.pending ≡ without_entry x.listed x.pending
   pub enough : length rest ≤ length ns
 
 -- a list without a mutex is no longer than with it
-pub length-without : (xs : List ℕ) (p : ℕ) → length (without_mutex xs p) ≤ length xs
+pub length-without : (xs : List ℕ) (p : ℕ) → length (without_entry xs p) ≤ length xs
 length-without [] p = omega arith
 length-without (x ∷ xs) p = ⊎_elim
     (λ e. rw e (omega (arith, length-without xs p)))
@@ -53,10 +53,10 @@ ahead ns t m before (k ∷ ks) c h =
       chain = c.1;
     })
 
-without-same : (m : ℕ) (ms : List ℕ) (p : ℕ) → m ≡ p → without_mutex (m ∷ ms) p ≡ without_mutex ms p
+without-same : (m : ℕ) (ms : List ℕ) (p : ℕ) → m ≡ p → without_entry (m ∷ ms) p ≡ without_entry ms p
 without-same m ms p e = rw (eq-eqb p m (sym e)) refl
 
-without-other : (m : ℕ) (ms : List ℕ) (p : ℕ) → (m ≡ p → ⊥) → without_mutex (m ∷ ms) p ≡ m ∷ without_mutex ms p
+without-other : (m : ℕ) (ms : List ℕ) (p : ℕ) → (m ≡ p → ⊥) → without_entry (m ∷ ms) p ≡ m ∷ without_entry ms p
 without-other m ms p ne = rw (ne_eqb p m (λ e. ne (sym e))) refl
 
 nothing_ahead : (xs : List ℕ) → None ≡ first_or xs None → xs ≡ []
@@ -101,15 +101,15 @@ module _ (ns : List Link) (hs : List Head) (v : Robust) (ties : Ties ns hs v) (t
       chain = a.chain;
       next_is = a.next_is;
       so_far = ap (λ zs. found ++ zs) (sym (without-same m a.behind x.pending e))
-          ∙ ap (λ zs. found ++ without_mutex zs x.pending) (sym a.rest_is) ∙ w.so_far;
+          ∙ ap (λ zs. found ++ without_entry zs x.pending) (sym a.rest_is) ∙ w.so_far;
       enough = omega (arith, shorter, w.enough);
     }
 
-    push_is : (m ≡ x.pending → ⊥) → (found ++ m ∷ []) ++ without_mutex a.behind x.pending ≡ without_mutex x.listed
+    push_is : (m ≡ x.pending → ⊥) → (found ++ m ∷ []) ++ without_entry a.behind x.pending ≡ without_entry x.listed
         x.pending
-    push_is ne = append_assoc found (m ∷ []) (without_mutex a.behind x.pending)
+    push_is ne = append_assoc found (m ∷ []) (without_entry a.behind x.pending)
         ∙ ap (λ zs. found ++ zs) (sym (without-other m a.behind x.pending ne))
-        ∙ ap (λ zs. found ++ without_mutex zs x.pending) (sym a.rest_is) ∙ w.so_far
+        ∙ ap (λ zs. found ++ without_entry zs x.pending) (sym a.rest_is) ∙ w.so_far
 
     pub walk-push : (m ≡ x.pending → ⊥) → IsWalking ns t x (found ++ m ∷ []) (link_at ns m).next
     walk-push ne = record {
@@ -123,9 +123,9 @@ module _ (ns : List Link) (hs : List Head) (v : Robust) (ties : Ties ns hs v) (t
 
     pub walk-room : (m ≡ x.pending → ⊥) → length found < 1024
     walk-room ne =
-        let e : length (found ++ m ∷ []) + length (without_mutex a.behind x.pending) ≡ length
-        (without_mutex x.listed x.pending) =
-        sym (length-append (found ++ m ∷ []) (without_mutex a.behind x.pending)) ∙ ap length (push_is ne) in
+        let e : length (found ++ m ∷ []) + length (without_entry a.behind x.pending) ≡ length
+        (without_entry x.listed x.pending) =
+        sym (length-append (found ++ m ∷ []) (without_entry a.behind x.pending)) ∙ ap length (push_is ne) in
         omega (
           arith,
           e,
@@ -145,23 +145,23 @@ module _ (ns : List Link) (hs : List Head) (v : Robust) (ties : Ties ns hs v) (t
         omega (arith, ap length here, ap length then, shorter)
 
   module _ (found : List ℕ) (w : IsWalking ns t x found None) where
-    found_is : found ≡ without_mutex x.listed x.pending
-    found_is = sym (append-nil found) ∙ ap (λ zs. found ++ without_mutex zs x.pending)
+    found_is : found ≡ without_entry x.listed x.pending
+    found_is = sym (append-nil found) ∙ ap (λ zs. found ++ without_entry zs x.pending)
         (sym (nothing_ahead w.rest w.next_is)) ∙ w.so_far
 
     pub walk-last_room : 1 ≤ x.pending → length found < 1024
     walk-last_room some =
         let r = IsRobust-from_Ties ns hs v ties in
         let p = x.pending in
-        let all : List ℕ = p ∷ without_mutex x.listed p in
-        let least : (m : ℕ) → has_mutex all m ≡ true → 1 ≤ m = λ m h. ⊎_elim
+        let all : List ℕ = p ∷ without_entry x.listed p in
+        let least : (m : ℕ) → has_entry all m ≡ true → 1 ≤ m = λ m h. ⊎_elim
         (λ e. let same : m ≡ p = eqb-true m p e in omega arith)
-        (λ e. let rest : has_mutex (without_mutex x.listed p) m ≡ true = rw e at h in
+        (λ e. let rest : has_entry (without_entry x.listed p) m ≡ true = rw e at h in
         r.some_listed t m (has-with m p x.listed rest))
         (cases_Bool (eqb m p)) in
-        let most : (m : ℕ) → has_mutex all m ≡ true → m ≤ v.mutexes = λ m h. ⊎_elim
+        let most : (m : ℕ) → has_entry all m ≡ true → m ≤ v.mutexes = λ m h. ⊎_elim
         (λ e. let same : m ≡ p = eqb-true m p e in omega (arith, ties.pending_in t))
-        (λ e. let rest : has_mutex (without_mutex x.listed p) m ≡ true = rw e at h in
+        (λ e. let rest : has_entry (without_entry x.listed p) m ≡ true = rw e at h in
         r.most_listed t m (has-with m p x.listed rest))
         (cases_Bool (eqb m p)) in
         omega (
@@ -174,23 +174,23 @@ module _ (ns : List Link) (hs : List Head) (v : Robust) (ties : Ties ns hs v) (t
 
     -- with a pending mutex
     pub walk-end : (m : ℕ) → 1 ≤ m → m ≡ x.pending → found ++ m ∷ [] ≡ walk_of x
-    walk-end m some e = ap (λ zs. zs ++ m ∷ []) found_is ∙ ap (λ k. without_mutex x.listed x.pending ++ k ∷ []) e
-        ∙ ap (λ b. without_mutex x.listed x.pending ++ cond b [] (x.pending ∷ []))
+    walk-end m some e = ap (λ zs. zs ++ m ∷ []) found_is ∙ ap (λ k. without_entry x.listed x.pending ++ k ∷ []) e
+        ∙ ap (λ b. without_entry x.listed x.pending ++ cond b [] (x.pending ∷ []))
         (sym (ne_eqb x.pending 0 (λ z. omega arith)))
 
     -- without one
     pub walk-end_none : x.pending ≡ 0 → found ≡ walk_of x
-    walk-end_none e = found_is ∙ sym (append-nil (without_mutex x.listed x.pending))
-        ∙ ap (λ b. without_mutex x.listed x.pending ++ cond b [] (x.pending ∷ [])) (sym (eq-eqb x.pending 0 e))
+    walk-end_none e = found_is ∙ sym (append-nil (without_entry x.listed x.pending))
+        ∙ ap (λ b. without_entry x.listed x.pending ++ cond b [] (x.pending ∷ [])) (sym (eq-eqb x.pending 0 e))
 
 -- a list with one more mutex at its end, which it lacks
-HasNoRepeats-push : (xs : List ℕ) (m : ℕ) → HasNoRepeats xs → has_mutex xs m ≡ false → HasNoRepeats (xs ++ m ∷ [])
+HasNoRepeats-push : (xs : List ℕ) (m : ℕ) → HasNoRepeats xs → has_entry xs m ≡ false → HasNoRepeats (xs ++ m ∷ [])
 HasNoRepeats-push [] m once lacks = (refl, record {})
 HasNoRepeats-push (k ∷ ks) m once lacks =
-    let parts = or_parts (eqb m k) (has_mutex ks m) lacks in
+    let parts = or_parts (eqb m k) (has_entry ks m) lacks in
     let ne : k ≡ m → ⊥ = λ e. eqb-false m k parts.0 (sym e) in (
       has-append k ks (m ∷ [])
-          ∙ or_from (has_mutex ks k) (has_mutex (m ∷ []) k) once.0 (or_from (eqb k m) false (ne_eqb k m ne) refl),
+          ∙ or_from (has_entry ks k) (has_entry (m ∷ []) k) once.0 (or_from (eqb k m) false (ne_eqb k m ne) refl),
       HasNoRepeats-push ks m once.1 parts.1,
     )
 
@@ -200,7 +200,7 @@ module _ (v : Robust) (t : ℕ) (r : IsRobust v) where
   row = robust_at v t
 
   abbrev others : List ℕ
-  others = without_mutex row.listed row.pending
+  others = without_entry row.listed row.pending
 
   walk_is : (P : List ℕ → Type 0) → (row.pending ≡ 0 → P others) → (1 ≤ row.pending → P (others ++ row.pending ∷ [])) →
       P (walk_of row)
@@ -214,17 +214,17 @@ module _ (v : Robust) (t : ℕ) (r : IsRobust v) where
       (λ some. HasNoRepeats-push others row.pending (HasNoRepeats-without row.pending row.listed (r.once t))
       (has-without_same row.pending row.listed))
 
-  in_others : (m : ℕ) → has_mutex others m ≡ true → m ≤ v.mutexes
+  in_others : (m : ℕ) → has_entry others m ≡ true → m ≤ v.mutexes
   in_others m h = r.most_listed t m (has-with m row.pending row.listed h)
 
-  pub walk_of-within : (m : ℕ) → has_mutex (walk_of row) m ≡ true → m ≤ v.mutexes
-  walk_of-within m = walk_is (λ xs. has_mutex xs m ≡ true → m ≤ v.mutexes) (λ e. in_others m) (λ some h. ⊎_elim
+  pub walk_of-within : (m : ℕ) → has_entry (walk_of row) m ≡ true → m ≤ v.mutexes
+  walk_of-within m = walk_is (λ xs. has_entry xs m ≡ true → m ≤ v.mutexes) (λ e. in_others m) (λ some h. ⊎_elim
       (λ e. in_others m e)
       (λ e. let both = sym (has-append m others (row.pending ∷ [])) ∙ h in
-      let last : has_mutex (row.pending ∷ []) m ≡ true = rw e at both in
+      let last : has_entry (row.pending ∷ []) m ≡ true = rw e at both in
       let same : m ≡ row.pending = eqb-true m row.pending (sym (or-false (eqb m row.pending)) ∙ last) in
       omega (arith, r.pending t))
-      (cases_Bool (has_mutex others m)))
+      (cases_Bool (has_entry others m)))
 
 -- the same as the code has it: with options for mutexes
 module _ {ns : List Link} {hs : List Head} {v : Robust} (view : robust_from ns hs ≡ v)
@@ -253,12 +253,12 @@ module _ {ns : List Link} {hs : List Head} {v : Robust} (view : robust_from ns h
         (subst (λ (k : Link). length (path (length ns) ns k.next) < length (path (length ns) ns (Some m))) (sym e)
         (walk-smaller ns hs v ties t found m here))
 
-    module _ {pending : Option ℕ} (named : pending ≡ mutex_of (robust_at v t).pending) where
+    module _ {pending : Option ℕ} (named : pending ≡ named_mutex (robust_at v t).pending) where
       apart_by : (pending ≡ Some m → ⊥) → m ≡ (robust_at v t).pending → ⊥
-      apart_by ne e = ne (named ∙ ap mutex_of (sym e) ∙ mutex_of-some m (walk-some ns hs v ties t found m here))
+      apart_by ne e = ne (named ∙ ap named_mutex (sym e) ∙ named_mutex-some m (walk-some ns hs v ties t found m here))
 
       same_by : pending ≡ Some m → m ≡ (robust_at v t).pending
-      same_by e = ap (λ o. unwrap_or o 0) (sym e ∙ named) ∙ number_of-mutex (robust_at v t).pending
+      same_by e = ap (λ o. unwrap_or o 0) (sym e ∙ named) ∙ unwrap_or-named_mutex (robust_at v t).pending
 
       pub walking-room : (pending ≡ Some m → ⊥) → length found < 1024
       walking-room ne = walk-room ns hs v ties t found m here (apart_by ne)
@@ -278,15 +278,15 @@ module _ {ns : List Link} {hs : List Head} {v : Robust} (view : robust_from ns h
           (walk-skip ns hs v ties t found m here (same_by e))
 
   module _ {found : List ℕ} {next : Option ℕ} {pending : Option ℕ} (w : IsWalking ns t (robust_at v t) found next)
-      (is : next ≡ None) (named : pending ≡ mutex_of (robust_at v t).pending) where
+      (is : next ≡ None) (named : pending ≡ named_mutex (robust_at v t).pending) where
     over : IsWalking ns t (robust_at v t) found None
     over = subst (λ (o : Option ℕ). IsWalking ns t (robust_at v t) found o) is w
 
-    named_some : (p m : ℕ) → mutex_of p ≡ Some m → (1 ≤ m) × (m ≡ p)
+    named_some : (p m : ℕ) → named_mutex p ≡ Some m → (1 ≤ m) × (m ≡ p)
     named_some zero m h = absurd cc
     named_some (suc p) m h = let e : suc p ≡ m = cc in (omega arith, sym e)
 
-    named_none : (p : ℕ) → mutex_of p ≡ None → p ≡ 0
+    named_none : (p : ℕ) → named_mutex p ≡ None → p ≡ 0
     named_none zero h = refl
     named_none (suc p) h = absurd cc
 

@@ -7,10 +7,10 @@ use Rattle.pif_model.specs.RobustList.{Robust, RobustRow, robust_at, is_listed, 
 use Rattle.pif_robust.specs.declared.links.Link.{Link}
 use Rattle.pif_robust.specs.declared.links.Head.{Head}
 use Rattle.pif_robust.specs.Links.{unlinked, empty_head, link_at, head_at, first_or, Ties}
-use Rattle.pif_robust.specs.Robust.{mutex_of}
+use Rattle.pif_robust.specs.Robust.{named_mutex}
 use Rattle.pif_robust.proofs.ListLemmas.{apart}
 use Rattle.pif_robust.proofs.ChainLemmas.{chain-same}
-use Rattle.pif_robust.proofs.TiesLemmas.{mutex_of-some, Ties-changed}
+use Rattle.pif_robust.proofs.TiesLemmas.{named_mutex-some, Ties-changed}
 
 -- a row that is outside the limits changes nothing
 pub with_robust-out : (v : Robust) (t : ℕ) (x : RobustRow) → length v.threads ≤ t → with_robust t x v ≡ v
@@ -22,7 +22,7 @@ module _ (ns : List Link) (hs : List Head) (v : Robust) (ties : Ties ns hs v) wh
   no_holder u h = let e : None ≡ Some u = sym (ap (λ (l : Link). l.holder) ties.no_mutex) ∙ h in cc
 
   -- another pending field
-  module _ (t m : ℕ) (o : Option ℕ) (t_some : 1 ≤ t) (t_in : t < length hs) (is : o ≡ mutex_of m)
+  module _ (t m : ℕ) (o : Option ℕ) (t_some : 1 ≤ t) (t_in : t < length hs) (is : o ≡ named_mutex m)
       (m_in : m ≤ v.mutexes) where
     pended : Head
     pended = record (head_at hs t) { pending = o }
@@ -87,7 +87,7 @@ module _ (ns : List Link) (hs : List Head) (v : Robust) (ties : Ties ns hs v) wh
           thread_in = t_in;
           no_mutex = else 0 (λ e. omega (arith, m_some)) ∙ ties.no_mutex;
           first = ap (λ (h : Head). h.first) head_here ∙ ties.first t;
-          half_linked = ap (λ (h : Head). h.half_linked) head_here ∙ sym (mutex_of-some m m_some);
+          half_linked = ap (λ (h : Head). h.half_linked) head_here ∙ sym (named_mutex-some m m_some);
           pending = ap (λ (h : Head). h.pending) head_here ∙ ties.pending t;
           chain = chain-same ns (set ns m new_link) t None (robust_at v t).listed None
               (λ k h. else k (apart k m (robust_at v t).listed h (free t))) (ties.chain t);

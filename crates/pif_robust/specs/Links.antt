@@ -3,8 +3,8 @@
 use Rattle.std.specs.Prelude.{◌≡◌, ℕ, suc, zero, ◌+◌, ◌-◌, ◌≤◌, true, List, [], ◌∷◌, length, map, Option, Some, None, slice_index_or, slice_set, unwrap_or, ⊤}
 use Rattle.pif_robust.specs.declared.links.Link.{Link}
 use Rattle.pif_robust.specs.declared.links.Head.{Head}
-use Rattle.pif_model.specs.RobustList.{Robust, RobustRow, no_robust_row, robust_at, has_mutex, HasNoRepeats}
-use Rattle.pif_robust.specs.Robust.{mutex_of}
+use Rattle.pif_model.specs.RobustList.{Robust, RobustRow, no_robust_row, robust_at, has_entry, HasNoRepeats}
+use Rattle.pif_robust.specs.Robust.{named_mutex}
 
 -- the entry of a mutex that is on no list
 abbrev pub unlinked : Link
@@ -66,12 +66,12 @@ pub record Ties (ns : List Link) (hs : List Head) (v : Robust) : Type 0 where
   pub nobody : robust_at v 0 ≡ no_robust_row
   -- the heads
   pub first : (t : ℕ) → (head_at hs t).first ≡ first_or (robust_at v t).listed None
-  pub half_linked : (t : ℕ) → (head_at hs t).half_linked ≡ mutex_of (robust_at v t).half_linked
-  pub pending : (t : ℕ) → (head_at hs t).pending ≡ mutex_of (robust_at v t).pending
+  pub half_linked : (t : ℕ) → (head_at hs t).half_linked ≡ named_mutex (robust_at v t).half_linked
+  pub pending : (t : ℕ) → (head_at hs t).pending ≡ named_mutex (robust_at v t).pending
   -- the entries of the mutexes on a list
   pub chain : (t : ℕ) → IsChain ns t None (robust_at v t).listed None
   pub once : (t : ℕ) → HasNoRepeats (robust_at v t).listed
-  pub holder : (t m : ℕ) → (link_at ns m).holder ≡ Some t → has_mutex (robust_at v t).listed m ≡ true
+  pub holder : (t m : ℕ) → (link_at ns m).holder ≡ Some t → has_entry (robust_at v t).listed m ≡ true
   -- the entry of a half-linked mutex leads to the first of the list
   pub written : (t m : ℕ) → 1 ≤ m → (robust_at v t).half_linked ≡ m →
       link_at ns m ≡ record { next = first_or (robust_at v t).listed None; previous = None; holder = None }

@@ -4,9 +4,9 @@ use Rattle.std.specs.Coded.{Coded, code_by, coded×, coded_ℕ, coded_list}
 use Rattle.pif_model.specs.RobustList.{Robust, RobustRow}
 
 -- the mutex of a number, where 0 is none
-abbrev pub mutex_of : ℕ → Option ℕ
-mutex_of zero = None
-mutex_of (suc m) = Some (suc m)
+abbrev pub named_mutex : ℕ → Option ℕ
+named_mutex zero = None
+named_mutex (suc m) = Some (suc m)
 
 abbrev pub robust_row_code : Coded RobustRow
 robust_row_code =

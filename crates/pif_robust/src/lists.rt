@@ -1,7 +1,7 @@
 ghost use Rattle.std.specs.Prelude.{◌≡◌, ◌<◌, ◌≤◌, true, false, IfOk, IfSome, IfNone, ℕ, length};
-ghost use Rattle.pif_model.specs.RobustList.{no_robust, robust_at, walk_of, is_listed, with_pending, without_pending, with_half_linked, with_listed, without_listed, without_robust, IsUnlisted, IsHalfLinkedByNoOther, IsRobust, HasNoRepeats, has_mutex};
+ghost use Rattle.pif_model.specs.RobustList.{no_robust, robust_at, walk_of, is_listed, with_pending, without_pending, with_half_linked, with_listed, without_listed, without_robust, IsUnlisted, IsHalfLinkedByNoOther, IsRobust, HasNoRepeats, has_entry};
 ghost use Rattle.pif_robust.specs.Links.{first_or};
-ghost use Rattle.pif_robust.specs.Robust.{mutex_of};
+ghost use Rattle.pif_robust.specs.Robust.{named_mutex};
 
 use crate::links::{EMPTY, Head, Link, UNLINKED, cut, join};
 use arrayvec::ArrayVec;
@@ -115,7 +115,7 @@ impl RobustLists {
     pub fn walk(&self, t: Tid) -> ArrayVec<MutexId, 1024>
         ensures walk { result.items ≡ walk_of (robust_at self.now t) }
         ensures once { HasNoRepeats result.items }
-        ensures within { (m : ℕ) → has_mutex result.items m ≡ true → m ≤ self.now.mutexes }
+        ensures within { (m : ℕ) → has_entry result.items m ≡ true → m ≤ self.now.mutexes }
         ensures sound { IsRobust self.now }
     {
         let head = self.head(t);
@@ -150,7 +150,7 @@ impl RobustLists {
 
     /// The mutex that the pending field of `t` names. `None` where it names none, and where `t` lies outside the limits.
     pub fn pending(&self, t: Tid) -> Option<MutexId>
-        ensures value { result ≡ mutex_of (robust_at self.now t).pending }
+        ensures value { result ≡ named_mutex (robust_at self.now t).pending }
         ensures sound { IsRobust self.now }
     {
         self.head(t).pending
@@ -158,7 +158,7 @@ impl RobustLists {
 
     /// The mutex that `t` has half-linked. `None` where there is none, and where `t` lies outside the limits.
     pub fn half_linked(&self, t: Tid) -> Option<MutexId>
-        ensures value { result ≡ mutex_of (robust_at self.now t).half_linked }
+        ensures value { result ≡ named_mutex (robust_at self.now t).half_linked }
         ensures sound { IsRobust self.now }
     {
         self.head(t).half_linked
@@ -181,8 +181,8 @@ impl RobustLists {
     /// The head of the list of a thread.
     fn head(&self, t: Tid) -> Head
         ensures first { result.first ≡ first_or (robust_at self.now t).listed None }
-        ensures half_linked { result.half_linked ≡ mutex_of (robust_at self.now t).half_linked }
-        ensures pending { result.pending ≡ mutex_of (robust_at self.now t).pending }
+        ensures half_linked { result.half_linked ≡ named_mutex (robust_at self.now t).half_linked }
+        ensures pending { result.pending ≡ named_mutex (robust_at self.now t).pending }
         ensures sound { IsRobust self.now }
     {
         let place = t.get() as usize;

@@ -1,6 +1,6 @@
 use Rattle.std.proofs.Common.{arith, ◌∙◌, sym, ap, subst, ℕ, List}
 use Rattle.std.proofs.lemmas.Bool.{both_ways}
-use Rattle.pif_model.specs.RobustList.{robust_at, has_mutex, HasNoRepeats}
+use Rattle.pif_model.specs.RobustList.{robust_at, has_entry, HasNoRepeats}
 use Rattle.pif_robust.proofs.WalkLemmas.{IsWalking, walking-begin, walking-smaller, walking-room, walking-push, walking-skip, walking-last_room, walking-end, walking-end_none, walk_of-once, walk_of-within}
 use Rattle.pif_robust.proofs.lists.RobustLists.walk.Goals as goal
 use Rattle.pif_robust.proofs.lists.RobustLists.walk.Goals.{then-not-is_pending, else-not-is_pending}
@@ -52,7 +52,7 @@ returns-in-Some-pending c =
       walk = is;
       once = subst HasNoRepeats (sym is) (walk_of-once c.args.self.now c.args.t c.head-head.ensures.sound);
       within = λ m h. walk_of-within c.args.self.now c.args.t c.head-head.ensures.sound m
-          (ap (λ xs. has_mutex xs m) (sym is) ∙ h);
+          (ap (λ xs. has_entry xs m) (sym is) ∙ h);
       sound = c.head-head.ensures.sound;
     }
 
@@ -64,6 +64,6 @@ returns-in_default-pending c =
       walk = is;
       once = subst HasNoRepeats (sym is) (walk_of-once c.args.self.now c.args.t c.head-head.ensures.sound);
       within = λ m h. walk_of-within c.args.self.now c.args.t c.head-head.ensures.sound m
-          (ap (λ xs. has_mutex xs m) (sym is) ∙ h);
+          (ap (λ xs. has_entry xs m) (sym is) ∙ h);
       sound = c.head-head.ensures.sound;
     }
