@@ -6,26 +6,30 @@ use Rattle.pif_model.specs.declared.events.Event.{Event}
 use Rattle.pif_model.specs.declared.events.Seen.{Seen}
 use Rattle.pif_model.specs.declared.events.Entry.{Entry}
 use Rattle.pif_model.specs.declared.events.Entry.TheVariants.{Thread as AddThread, Mutex as AddMutex, Step as Happened}
-use Rattle.pif_model.specs.Posix.{World, IsLegal, is_thread, is_mutex}
+use Rattle.pif_model.specs.Posix.{World, IsLegal, is_thread, is_mutex, effective_of}
+use Rattle.pif_model.specs.Posix.{is_living as lives}
 use Rattle.pif_model.specs.History.{AlwaysOneHolder}
-use Rattle.pif_model.specs.Table.{Table, cell_at, has_thread, has_mutex, mutex_added, kernel_effective}
-use Rattle.pif_model.specs.Kernel.{thread_added, kernel_pick}
+use Rattle.pif_model.specs.PiKernel.{is_living, effective_in, pick_in}
+use Rattle.pif_model.specs.Table.{Table, cell_at, has_thread, has_mutex, thread_added, mutex_added}
 use Rattle.pif_model.specs.Calls.{effective_answer, word_answer, pick_answer}
 use Rattle.pif_model.specs.Word.{word_of, bits_of}
-use Rattle.pif_model.specs.Lines.{stepped}
+use Rattle.pif_model.specs.Lines.{event_outcome}
 use Rattle.pif_model.specs.Standing.{Stands, world_of, HasEffective, IsPick, IsPossible}
-use Rattle.pif_simulation.proofs.StandingLaws.{stepped_stands, thread_added_stands, mutex_added_stands}
+use Rattle.pif_simulation.proofs.StandingLaws.{event_stands, thread_added_stands, mutex_added_stands}
 use Rattle.pif_simulation.proofs.Holders.{one_holder}
-use Rattle.pif_simulation.proofs.Projection.{is_thread_seen, is_mutex_seen}
+use Rattle.pif_simulation.proofs.Shown.{threads_shown, is_thread_seen, is_mutex_seen, living_seen}
 use Rattle.pif_simulation.proofs.Effective.{effective_seen}
-use Rattle.pif_simulation.proofs.Picks.{pick_is, word_is_possible}
+use Rattle.pif_simulation.proofs.Picks.{pick_runs, word_is_possible}
 use Rattle.pif_simulation.proofs.Priority.{effective_is_greatest}
-use Rattle.pif_core.proofs.Added.{thread_room, mutex_room_left}
+use Rattle.pif_core.proofs.SoundTables.{thread_room, mutex_room, priority}
+
+-- AFTER A CALL
 
 -- after an event
-pub step_stands : (s v : Table) (e : Event) (seen : Seen) → seen ≡ (stepped e s).seen → v ≡ (stepped e s).after → (h : List Entry) (r : List World) (w : World)
-    → Stands s h r w → (u : World) × Stands v (Happened e seen ∷ h) (w ∷ r) u
-step_stands s v e seen a b h r w st = rw (a, b) (stepped_stands s e h r w st)
+pub step_stands : (s v : Table) (e : Event) (seen : Seen) → seen ≡ (event_outcome e s).seen
+    → v ≡ (event_outcome e s).after → (h : List Entry) (r : List World) (w : World) → Stands s h r w
+    → (u : World) × Stands v (Happened e seen ∷ h) (w ∷ r) u
+step_stands s v e seen a b h r w st = rw (a, b) (event_stands s e h r w st)
 
 -- the history is legal
 pub stands_legal : (s : Table) (h : List Entry) (r : List World) (w : World) → Stands s h r w → IsLegal s.limits h
@@ -36,78 +40,104 @@ pub stands_one_holder : (s : Table) (h : List Entry) (r : List World) (w : World
 stands_one_holder s h r w st = one_holder s.limits h r w st.run
 
 -- after an addition of a thread
-pub thread_stands : (s v : Table) (t p base : ℕ) → v ≡ thread_added base s → t ≡ length s.rows → base ≡ p → length s.rows ≤ s.limits.threads → 1 ≤ base → base ≤ 99
-    → (h : List Entry) (r : List World) (w : World) → Stands s h r w → (u : World) × Stands v (AddThread t p ∷ h) (w ∷ r) u
+pub thread_stands : (s v : Table) (t p base : ℕ) → v ≡ thread_added base s → t ≡ length s.lines → base ≡ p
+    → length s.lines ≤ s.limits.threads → 1 ≤ base → base ≤ 99
+    → (h : List Entry) (r : List World) (w : World) → Stands s h r w
+    → (u : World) × Stands v (AddThread t p ∷ h) (w ∷ r) u
 thread_stands s v t p base after is same le low high h r w st =
-    rw (after, is, ← same) (thread_added_stands s base h r w st (thread_room s le) low high)
+    rw (after, is, ← same) (thread_added_stands s base h r w st (thread_room s le) (priority base low high))
 
 -- after an addition of a mutex
-pub mutex_stands : (s v : Table) (m : ℕ) (k : Kind) (robust : Bool) → v ≡ mutex_added k false s → m ≡ length s.cells → robust ≡ false → length s.cells ≤ s.limits.mutexes
-    → (h : List Entry) (r : List World) (w : World) → Stands s h r w → (u : World) × Stands v (AddMutex m k robust ∷ h) (w ∷ r) u
+pub mutex_stands : (s v : Table) (m : ℕ) (k : Kind) (robust : Bool) → v ≡ mutex_added k false s → m ≡ length s.mutexes
+    → robust ≡ false → length s.mutexes ≤ s.limits.mutexes → (h : List Entry) (r : List World) (w : World)
+    → Stands s h r w → (u : World) × Stands v (AddMutex m k robust ∷ h) (w ∷ r) u
 mutex_stands s v m k robust after is stalled le h r w st =
-    rw (after, is, stalled) (mutex_added_stands s k h r w st (mutex_room_left s le))
+    rw (after, is, stalled) (mutex_added_stands s k h r w st (mutex_room s le))
 
--- the effective priority in the kernel is that of the subject
-pub effective_stands : (s : Table) (t p : ℕ) (h : List Entry) (r : List World) (w : World) → Stands s h r w → has_thread s t ≡ true → p ≡ kernel_effective s t
-    → HasEffective w t p
-effective_stands s t p h r w st known is =
-    let P : ℕ → Type 0 = λ x. HasEffective (world_of s st.shadow) t x in
-    subst (λ u. HasEffective u t p) (sym st.shows)
-    (subst P (sym (is ∙ ap (λ (f : ℕ → ℕ). f t) (effective_seen s st.shadow st.sound))) (effective_is_greatest s st.shadow st.sound t known))
+module _ (s : Table) (h : List Entry) (r : List World) (w : World) (st : Stands s h r w) where
+  -- WHAT A READER SHOWS
 
--- the kernel's pick is that of the subject
-pub pick_stands : (s : Table) (h : List Entry) (r : List World) (w : World) → Stands s h r w → IsPick w (kernel_pick s)
-pick_stands s h r w st = subst (λ u. IsPick u (kernel_pick s)) (sym st.shows) (pick_is s st.shadow st.sound)
+  -- as many threads as lines
+  pub threads_are : length w.threads ≡ length s.lines
+  threads_are = ap (λ (u : World). length u.threads) st.shows ∙ threads_shown st.sound.all.shape st.shadow
 
--- a mutex's word is possible
-pub word_stands : (s : Table) (m : ℕ) (h : List Entry) (r : List World) (w : World) → Stands s h r w → has_mutex s m ≡ true → IsPossible w m (cell_at s m).word
-word_stands s m h r w st known = subst (λ u. IsPossible u m (cell_at s m).word) (sym st.shows) (word_is_possible s st.shadow st.sound m known)
+  -- the effective priority in the kernel is that of the subject
+  effective_stands : (t : ℕ) → is_living s.kernel t ≡ true → HasEffective w t (effective_in s.kernel t)
+  effective_stands t living =
+      let known = ap (λ (u : World). is_thread u t) st.shows ∙ is_thread_seen st.sound.all.shape st.shadow t ∙ living in
+      let same = ap (λ (f : ℕ → ℕ). f t) (effective_seen st.sound st.shadow)
+      ∙ ap (λ (u : World). effective_of u t) (sym st.shows) in
+      subst (λ (p : ℕ). HasEffective w t p) (sym same) (effective_is_greatest s.limits h r w st.run t known)
+
+  -- the kernel's pick is that of the subject
+  pick_stands : IsPick w (pick_in s.kernel)
+  pick_stands = subst (λ u. IsPick u (pick_in s.kernel)) (sym st.shows) (pick_runs st.sound st.shadow)
+
+  -- a mutex's word is possible
+  word_stands : (m : ℕ) → has_mutex s m ≡ true → IsPossible w m (cell_at s m).word
+  word_stands m known =
+      subst (λ u. IsPossible u m (cell_at s m).word) (sym st.shows) (word_is_possible st.sound st.shadow m known)
 
 -- WHAT AN OPTION HOLDS
 
+-- what a fact says of an option that holds something
 pub from_some : (o : Option ℕ) (x y : ℕ) → IfSome o (λ (z : ℕ). z ≡ y) → o ≡ Some x → x ≡ y
 from_some o x y h e =
     let P : Option ℕ → Type 0 = λ p. IfSome p (λ (z : ℕ). z ≡ y) in
     subst P e h
-
--- the answer of the reader of effective priorities
-pub effective_answered : (s : Table) (t : ℕ) (o : Option ℕ) (h : List Entry) (r : List World) (w : World) → Stands s h r w → o ≡ effective_answer t s
-    → IfSome o (λ p. HasEffective w t p)
-effective_answered s t o h r w st e = subst (λ (x : Option ℕ). IfSome x (λ p. HasEffective w t p)) (sym e) (by_test (has_thread s t) refl)
-  where
-    by_test : (b : Bool) → has_thread s t ≡ b → IfSome (if b then Some (kernel_effective s t) else None) (λ p. HasEffective w t p)
-    by_test true known = effective_stands s t (kernel_effective s t) h r w st known refl
-    by_test false known = tt
 
 -- an answer that is there by a test
 there_by : (b : Bool) (x : ℕ) → is_some (if b then Some x else None) ≡ b
 there_by true x = refl
 there_by false x = refl
 
--- the reader of effective priorities answers for the threads that were added
-pub effective_is_some : (s : Table) (t : ℕ) (o : Option ℕ) (h : List Entry) (r : List World) (w : World) → Stands s h r w → o ≡ effective_answer t s → is_some o ≡ is_thread w t
+-- the answer of the reader of effective priorities
+pub effective_answered : (s : Table) (t : ℕ) (o : Option ℕ) (h : List Entry) (r : List World) (w : World)
+    → Stands s h r w → o ≡ effective_answer t s → IfSome o (λ p. HasEffective w t p)
+effective_answered s t o h r w st e =
+    subst (λ (x : Option ℕ). IfSome x (λ p. HasEffective w t p)) (sym e) (by_test (is_living s.kernel t) refl)
+  where
+    by_test : (b : Bool) → is_living s.kernel t ≡ b
+        → IfSome (if b then Some (effective_in s.kernel t) else None) (λ p. HasEffective w t p)
+    by_test true living = effective_stands s h r w st t living
+    by_test false living = tt
+
+-- the reader of effective priorities answers for living threads
+pub effective_is_some : (s : Table) (t : ℕ) (o : Option ℕ) (h : List Entry) (r : List World) (w : World)
+    → Stands s h r w → o ≡ effective_answer t s → is_some o ≡ lives w t
 effective_is_some s t o h r w st e =
-    ap is_some e ∙ there_by (has_thread s t) (kernel_effective s t) ∙ sym (ap (λ (u : World). is_thread u t) st.shows ∙ is_thread_seen s st.shadow t)
+    ap is_some e ∙ there_by (is_living s.kernel t) (effective_in s.kernel t)
+    ∙ sym (ap (λ (u : World). lives u t) st.shows ∙ living_seen s st.shadow t st.sound.all.shape)
 
 -- the reader of words answers for the mutexes that were added
-pub word_is_some : (s : Table) (m : ℕ) (o : Option ℕ) (h : List Entry) (r : List World) (w : World) → Stands s h r w → o ≡ word_answer m s → is_some o ≡ is_mutex w m
+pub word_is_some : (s : Table) (m : ℕ) (o : Option ℕ) (h : List Entry) (r : List World) (w : World) → Stands s h r w
+    → o ≡ word_answer m s → is_some o ≡ is_mutex w m
 word_is_some s m o h r w st e =
-    ap is_some e ∙ there_by (has_mutex s m) (bits_of (cell_at s m).word) ∙ sym (ap (λ (u : World). is_mutex u m) st.shows ∙ is_mutex_seen s st.shadow m)
+    ap is_some e ∙ there_by (has_mutex s m) (bits_of (cell_at s m).word)
+    ∙ sym (ap (λ (u : World). is_mutex u m) st.shows ∙ is_mutex_seen st.sound.all.shape st.shadow m)
 
 -- the answer of the reader of the pick
-pub pick_answered : (s : Table) (o : Option ℕ) (h : List Entry) (r : List World) (w : World) → Stands s h r w → o ≡ pick_answer s → IsPick w (unwrap_or o 0)
-pick_answered s o h r w st e = subst (λ (x : Option ℕ). IsPick w (unwrap_or x 0)) (sym e) (by_test (kernel_pick s == 0) refl)
+pub pick_answered : (s : Table) (o : Option ℕ) (h : List Entry) (r : List World) (w : World) → Stands s h r w
+    → o ≡ pick_answer s → IsPick w (unwrap_or o 0)
+pick_answered s o h r w st e =
+    subst (λ (x : Option ℕ). IsPick w (unwrap_or x 0)) (sym e) (by_test (pick_in s.kernel == 0) refl)
   where
-    by_test : (b : Bool) → (kernel_pick s == 0) ≡ b → IsPick w (unwrap_or (if b then None else Some (kernel_pick s)) 0)
-    by_test true none = subst (IsPick w) (eqb-true (kernel_pick s) 0 none) (pick_stands s h r w st)
+    by_test : (b : Bool) → (pick_in s.kernel == 0) ≡ b
+        → IsPick w (unwrap_or (if b then None else Some (pick_in s.kernel)) 0)
+    by_test true none = subst (IsPick w) (eqb-true (pick_in s.kernel) 0 none) (pick_stands s h r w st)
     by_test false some = pick_stands s h r w st
 
 -- the answer of the reader of words
-pub word_answered : (s : Table) (m : ℕ) (o : Option ℕ) (h : List Entry) (r : List World) (w : World) → Stands s h r w → o ≡ word_answer m s
-    → IfSome o (λ bits. word_of bits ≡ (cell_at s m).word) → IfSome o (λ bits. IsPossible w m (word_of bits))
-word_answered s m o h r w st e = subst (λ (x : Option ℕ). IfSome x (λ bits. word_of bits ≡ (cell_at s m).word) → IfSome x (λ bits. IsPossible w m (word_of bits))) (sym e) (by_test (has_mutex s m) refl)
+pub word_answered : (s : Table) (m : ℕ) (o : Option ℕ) (h : List Entry) (r : List World) (w : World) → Stands s h r w
+    → o ≡ word_answer m s → IfSome o (λ bits. word_of bits ≡ (cell_at s m).word)
+    → IfSome o (λ bits. IsPossible w m (word_of bits))
+word_answered s m o h r w st e =
+    let P : Option ℕ → Type 0 = λ x. IfSome x (λ bits. word_of bits ≡ (cell_at s m).word)
+    → IfSome x (λ bits. IsPossible w m (word_of bits)) in
+    subst P (sym e) (by_test (has_mutex s m) refl)
   where
-    by_test : (b : Bool) → has_mutex s m ≡ b → IfSome (if b then Some (bits_of (cell_at s m).word) else None) (λ bits. word_of bits ≡ (cell_at s m).word)
+    by_test : (b : Bool) → has_mutex s m ≡ b
+        → IfSome (if b then Some (bits_of (cell_at s m).word) else None) (λ bits. word_of bits ≡ (cell_at s m).word)
         → IfSome (if b then Some (bits_of (cell_at s m).word) else None) (λ bits. IsPossible w m (word_of bits))
-    by_test true known same = subst (IsPossible w m) (sym same) (word_stands s m h r w st known)
+    by_test true known same = subst (IsPossible w m) (sym same) (word_stands s h r w st m known)
     by_test false known same = tt

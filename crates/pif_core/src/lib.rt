@@ -1,9 +1,25 @@
 //! A core: threads and mutexes under limits, the calls on them, and the kernel below. One event is one step.
+//!
+//! An event, and an addition, is refused by the first of these that holds, and nothing changes then:
+//!
+//! | What is asked | Refused by | Where |
+//! |---|---|---|
+//! | `Begin` | `NoSuch` | the thread was never added |
+//! | | `Busy` | the thread has a call open |
+//! | | `NoSuch` | the call names a mutex that was never added |
+//! | `Go` | `NoSuch` | the thread was never added |
+//! | | `Idle` | the thread has no call open |
+//! | `add_thread` | `BadPrio` | the priority is outside 1 to 99 |
+//! | | `TooMany` | as many threads were added as the limits allow |
+//! | `add_mutex` | `TooMany` | as many mutexes were added as the limits allow |
+//!
+//! What is not refused is an entry of the core's history. The contracts say what a core shows after a history: that the
+//! history is one that POSIX allows, and what each reader answers then.
 #![tactic(auto)]
 
-mod surface;
+mod cores;
 #[cfg(test)]
 mod tests;
 
+pub use cores::Core;
 pub use pif_model::{Entry, Event, Seen};
-pub use surface::Core;

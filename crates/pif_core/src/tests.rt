@@ -1,10 +1,29 @@
 use crate::Core;
 use pif_model::{Event, Seen};
-use pif_types::{Kind, Limits, Prio, Request, Tid};
+use pif_types::{AddFault, Kind, Limits, MutexId, Prio, Request, Tid};
+use std::alloc::Global;
+use std::process::Abort;
 use std::test::Fail;
 
-fn limits() -> Result<Limits, Fail> {
-    Ok(Limits::new(4, 2, 0, 1).ok_or("limits")?)
+/// A thread's call: its number, what it asks, in how many steps, what the last of them is answered, and the word of
+/// mutex 1 after it.
+type Row = (u32, Request, u32, Seen, u32);
+
+/// A core with mutex 1 of this kind, and threads of these priorities.
+fn scene(alloc: Global, kind: Kind, levels: &[u32]) -> Result<Core, Fail> {
+    let limits = Limits::new(4, 2, 0, 1).ok_or("limits")?;
+    let mut core = Core::new(alloc, limits)?;
+    fill(&mut core, kind, levels)?;
+    Ok(core)
+}
+
+/// Adds a mutex of this kind, and threads of these priorities.
+fn fill(core: &mut Core, kind: Kind, levels: &[u32]) -> Result<(), AddFault> {
+    let _mutex = core.add_mutex(kind, false)?;
+    for level in levels {
+        let _thread = core.add_thread(*level)?;
+    }
+    Ok(())
 }
 
 /// The thread begins this call and takes so many steps: what the last one was answered.
@@ -16,58 +35,60 @@ fn run(core: &mut Core, thread: Tid, request: Request, steps: u32) -> Seen {
     seen
 }
 
-#[test]
-fn holder_is_boosted_until_it_unlocks(rt: HostRuntime) -> Result<(), Fail> {
-    let mut core = Core::new(rt.alloc(), limits()?)?;
-    let low = core.add_thread(10)?;
-    let high = core.add_thread(50)?;
-    let mutex = core.add_mutex(Kind::Normal, false)?;
-    assert_eq!(rt; core.threads(), 2);
-    assert_eq!(rt; core.pick(), Some(high));
-    assert_eq!(rt;
-        run(&mut core, low, Request::Lock(mutex), 2),
-        Seen::Answered(0)
-    );
-    assert_eq!(rt; core.word(mutex), Some(1));
-    assert_eq!(rt; run(&mut core, high, Request::Lock(mutex), 3), Seen::Waits);
-    assert_eq!(rt; core.word(mutex), Some(0x8000_0001));
-    assert_eq!(rt; core.effective(low), Prio::new(50));
-    assert_eq!(rt; core.pick(), Some(low));
-    assert_eq!(rt;
-        run(&mut core, low, Request::Unlock(mutex), 3),
-        Seen::Answered(0)
-    );
-    assert_eq!(rt; core.word(mutex), Some(0x8000_0002));
-    assert_eq!(rt; core.effective(low), Prio::new(10));
-    assert_eq!(rt; core.step(Event::Go(high)), Seen::Answered(0));
-    assert_eq!(rt;
-        run(&mut core, high, Request::Unlock(mutex), 3),
-        Seen::Answered(0)
-    );
-    assert_eq!(rt; core.word(mutex), Some(0));
+/// Threads make their calls, one after the other.
+fn play(rt: &impl Abort, core: &mut Core, rows: &[Row]) -> Result<(), Fail> {
+    let mutex = MutexId::new(1).ok_or("a mutex")?;
+    for row in rows {
+        let (number, request, steps, answer, word) = *row;
+        let thread = Tid::new(number).ok_or("a thread")?;
+        let seen = run(core, thread, request, steps);
+        assert_eq!(rt; seen, answer, "thread {number}, word {word}");
+        assert_eq!(rt; core.word(mutex), Some(word), "thread {number}");
+    }
     Ok(())
 }
 
 #[test]
+fn holder_is_boosted_until_it_unlocks(rt: HostRuntime) -> Result<(), Fail> {
+    let mut core = scene(rt.alloc(), Kind::Normal, &[10, 50])?;
+    boost(&rt, &mut core)
+}
+
+fn boost(rt: &impl Abort, core: &mut Core) -> Result<(), Fail> {
+    let low = Tid::new(1).ok_or("a thread")?;
+    let high = Tid::new(2).ok_or("a thread")?;
+    let mutex = MutexId::new(1).ok_or("a mutex")?;
+    let waiting = [
+        (1, Request::Lock(mutex), 2, Seen::Answered(0), 1),
+        (2, Request::Lock(mutex), 3, Seen::Waits, 0x8000_0001),
+    ];
+    let handed = [(1, Request::Unlock(mutex), 3, Seen::Answered(0), 0x8000_0002)];
+    let freed = [(2, Request::Unlock(mutex), 3, Seen::Answered(0), 0)];
+    assert_eq!(rt; (core.threads(), core.pick()), (2, Some(high)));
+    play(rt, core, &waiting)?;
+    assert_eq!(rt;
+        (core.effective(low), core.pick()),
+        (Prio::new(50), Some(low))
+    );
+    play(rt, core, &handed)?;
+    assert_eq!(rt; core.effective(low), Prio::new(10));
+    assert_eq!(rt; core.step(Event::Go(high)), Seen::Answered(0));
+    play(rt, core, &freed)
+}
+
+#[test]
 fn equals_are_served_in_order_of_arrival(rt: HostRuntime) -> Result<(), Fail> {
-    let mut core = Core::new(rt.alloc(), limits()?)?;
-    let owner = core.add_thread(10)?;
-    let first = core.add_thread(20)?;
-    let second = core.add_thread(20)?;
-    let mutex = core.add_mutex(Kind::ErrorCheck, false)?;
-    assert_eq!(rt;
-        run(&mut core, owner, Request::Lock(mutex), 2),
-        Seen::Answered(0)
-    );
-    assert_eq!(rt; run(&mut core, first, Request::Lock(mutex), 3), Seen::Waits);
-    assert_eq!(rt;
-        run(&mut core, second, Request::Lock(mutex), 3),
-        Seen::Waits
-    );
-    assert_eq!(rt;
-        run(&mut core, owner, Request::Unlock(mutex), 3),
-        Seen::Answered(0)
-    );
-    assert_eq!(rt; core.word(mutex), Some(0x8000_0002));
-    Ok(())
+    let mut core = scene(rt.alloc(), Kind::ErrorCheck, &[10, 20, 20])?;
+    serve_equals(&rt, &mut core)
+}
+
+fn serve_equals(rt: &impl Abort, core: &mut Core) -> Result<(), Fail> {
+    let mutex = MutexId::new(1).ok_or("a mutex")?;
+    let rows = [
+        (1, Request::Lock(mutex), 2, Seen::Answered(0), 1),
+        (2, Request::Lock(mutex), 3, Seen::Waits, 0x8000_0001),
+        (3, Request::Lock(mutex), 3, Seen::Waits, 0x8000_0001),
+        (1, Request::Unlock(mutex), 3, Seen::Answered(0), 0x8000_0002),
+    ];
+    play(rt, core, &rows)
 }

@@ -11,7 +11,7 @@ use Rattle.pif_model.specs.Table.{Table, with_kernel}
 use Rattle.pif_word.specs.WordMap.{words_of, free_words}
 use Rattle.pif_word.proofs.WordBits.{word_of-number}
 use Rattle.pif_mutex.specs.Assembled.{IsAssembled}
-use Rattle.pif_mutex.proofs.KernelCalls.{IsAlike, alike, lock_alike, unlock_alike, set_prio_alike, stop_alike}
+use Rattle.pif_mutex.proofs.KernelLeaves.{IsAlike, alike, lock_alike, unlock_alike, set_prio_alike, stop_alike}
 
 -- THE WORDS
 

@@ -1,4 +1,4 @@
-pub mod KernelCalls
+pub mod KernelLeaves
 pub mod Assembly
 pub mod Exchanges
 pub mod LineCases

@@ -20,7 +20,7 @@ use Rattle.pif_model.specs.Table.{Table, LibraryMutex, new_mutex, has_mutex, sta
 use Rattle.pif_model.specs.Lines.{Outcome, answers, locked_again, own_exchange, lock_load, lock_by, lock_kernel, lock_queued, lock_stop, try_load, busy_for_again, try_kernel, unlock_load, unlock_exchange, unlock_kernel, set_priority, line_of}
 use Rattle.pif_types.specs.declared.requests.Kind.TheVariants.{Normal}
 use Rattle.pif_mutex.specs.Runnable.{may_run_at, gives_up_at, CallIsRunnable, LineIsRunnable, IsRunnable}
-use Rattle.pif_mutex.proofs.KernelCalls.{lock_ready, unlock_ready, set_prio_ready, stop_ready}
+use Rattle.pif_mutex.proofs.KernelLeaves.{lock_ready, unlock_ready, set_prio_ready, stop_ready}
 use Rattle.pif_mutex.proofs.ListChanges.{changed_at}
 use Rattle.pif_mutex.proofs.Counts.{CountGoes, CellGoes, WordGoes, words_stay, word_goes, lock_owns_free, try_takes_free, unlock_gives_own, lock_goes, try_goes, unlock_goes}
 use Rattle.pif_mutex.proofs.Counts.CountGoes.{stays, once, recounts}

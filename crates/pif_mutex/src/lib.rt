@@ -1,9 +1,9 @@
 //! The calls on mutexes, one step per access of a word or kernel call: pthread_mutex_lock, pthread_mutex_trylock and
 //! pthread_mutex_unlock over words and any kernel, and pthread_setschedprio.
 //!
-//! A thread with a call open stands at a place of that call. A step, `advance`, does what the line of the place says. The
-//! thread then goes on to another place, waits, or is answered; a number or the name of an error is an answer, and closes
-//! the call.
+//! A thread with a call open stands at a place of that call. A step, `advance`, does what the line of the place says.
+//! The thread then goes on to another place, waits, or is answered; a number or the name of an error is an answer, and
+//! closes the call.
 //!
 //! | Place | The step | Then |
 //! |---|---|---|
@@ -21,9 +21,9 @@
 //! | `UnlockKernel` | unlock_pi | 0, or its error |
 //! | `SetPriority` | set_prio | 0, or its error |
 //!
-//! `lock`, `try_lock`, `unlock` and `set_priority` have the lines of each call, `taking` what lock and trylock share, and
-//! `step` which line a step is. All are methods of `State`, which keeps only that the parts fit together; `Parts` keeps
-//! besides that each open call may take its next step.
+//! `lock`, `try_lock`, `unlock` and `set_priority` have the lines of each call, `taking` what lock and trylock share,
+//! and `step` which line a step is. All are methods of `State`, which keeps only that the parts fit together; `Parts`
+//! keeps besides that each open call may take its next step.
 #![tactic(auto)]
 
 mod kernel;

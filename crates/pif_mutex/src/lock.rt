@@ -32,7 +32,7 @@ impl<K: PiKernel + Drop> State<K> {
     }
 
     /// The kernel call lock_pi. Where the owner has ended, the thread goes on to stop.
-    #[tactic(auto, unfolding(pif_model::specs::Lines::lock_kernel, pif_model::specs::Lines::lock_by), using(crate::proofs::KernelCalls::lock_keeps_threads))]
+    #[tactic(auto, unfolding(pif_model::specs::Lines::lock_kernel, pif_model::specs::Lines::lock_by), using(crate::proofs::KernelLeaves::lock_keeps_threads))]
     pub(crate) fn lock_kernel(&mut self, request: Request, t: Tid, m: MutexId) -> Progress
         requires known { has_thread self.old t ≡ true }
         requires ready { is_ready (status_at self.old t) ≡ true }
@@ -59,7 +59,7 @@ impl<K: PiKernel + Drop> State<K> {
     }
 
     /// Stops for good.
-    #[tactic(auto, unfolding(pif_model::specs::Lines::lock_stop), using(crate::proofs::KernelCalls::stop_keeps_threads))]
+    #[tactic(auto, unfolding(pif_model::specs::Lines::lock_stop), using(crate::proofs::KernelLeaves::stop_keeps_threads))]
     pub(crate) fn lock_stop(&mut self, request: Request, t: Tid) -> Progress
         requires known { has_thread self.old t ≡ true }
         requires ready { is_ready (status_at self.old t) ≡ true }

@@ -56,7 +56,8 @@ impl<K: PiKernel + Drop> Parts<K> {
 
     /// How many threads were added.
     pub fn threads(&self) -> u32
-        ensures { result + 1 ≡ length self.now.lines }
+        ensures lines { result + 1 ≡ length self.now.lines }
+        ensures seats { result + 1 ≡ length self.now.kernel.seats }
     {
         self.state.line_count() - 1
     }

@@ -72,6 +72,7 @@ impl<K: PiKernel + Drop> State<K> {
     /// One more than the threads that were added: 1 to 1,025.
     pub(crate) fn line_count(&self) -> u32
         ensures value { result ≡ length self.now.lines }
+        ensures seats { result ≡ length self.now.kernel.seats }
         ensures least { 1 ≤ result }
         ensures most { result ≤ 1025 }
     {

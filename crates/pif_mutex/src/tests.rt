@@ -9,15 +9,9 @@ use std::alloc::Global;
 use std::process::Abort;
 use std::test::Fail;
 
-/// What a thread does: it begins a call and goes on up to the first step that isn't `Went`, or it takes one step.
-#[derive(Clone, Copy)]
-enum Turn {
-    Call(Request),
-    Go,
-}
-
-/// A thread's turn, the number of its last step and what that came to, and the word of mutex 1 after it.
-type Row = (u32, Turn, (u32, Progress), u32);
+/// A thread's call: its number, what it asks, the number of the last step and what that came to, and the word of
+/// mutex 1 after it.
+type Row = (u32, Request, u32, Progress, u32);
 
 /// Parts for four threads and two mutexes, to which nothing was added.
 fn new_parts(alloc: Global) -> Result<Parts<PlainKernel>, Fail> {
@@ -110,23 +104,16 @@ fn call(parts: &mut Parts<PlainKernel>, t: Tid, request: Request) -> Option<(u32
     None
 }
 
-/// A thread has its turn: the number of its last step, and what that came to.
-fn take(parts: &mut Parts<PlainKernel>, t: Tid, turn: Turn) -> Option<(u32, Progress)> {
-    match turn {
-        Turn::Call(request) => call(parts, t, request),
-        Turn::Go => Some((1, go(parts, t)?)),
-    }
-}
-
-/// Threads have their turns, one after the other.
+/// Threads make their calls, one after the other.
 fn play(rt: &impl Abort, parts: &mut Parts<PlainKernel>, rows: &[Row]) -> Result<(), Fail> {
     let mutex = MutexId::new(1).ok_or("a mutex")?;
     for row in rows {
-        let (number, turn, progress, word) = *row;
+        let (number, request, steps, progress, word) = *row;
         let thread = Tid::new(number).ok_or("a thread")?;
+        let end = call(parts, thread, request);
         assert_eq!(rt;
-            take(parts, thread, turn),
-            Some(progress),
+            end,
+            Some((steps, progress)),
             "thread {number}, word {word}"
         );
         assert_eq!(rt; parts.word(mutex), Some(word), "thread {number}");
@@ -172,12 +159,10 @@ fn uncontended_calls_make_no_kernel_call(rt: HostRuntime) -> Result<(), Fail> {
 fn uncontended(rt: &impl Abort, parts: &mut Parts<PlainKernel>) -> Result<(), Fail> {
     let m1 = MutexId::new(1).ok_or("a mutex")?;
     let t1 = Tid::new(1).ok_or("a thread")?;
-    let lock = Turn::Call(Request::Lock(m1));
-    let unlock = Turn::Call(Request::Unlock(m1));
     let rows = [
-        (1, lock, (2, Progress::Done(0)), 1),
-        (1, unlock, (2, Progress::Done(0)), 0),
-        (1, unlock, (1, Progress::Done(1)), 0),
+        (1, Request::Lock(m1), 2, Progress::Done(0), 1),
+        (1, Request::Unlock(m1), 2, Progress::Done(0), 0),
+        (1, Request::Unlock(m1), 1, Progress::Done(1), 0),
     ];
     play(rt, parts, &rows)?;
     assert_eq!(rt; go(parts, t1), None);
@@ -193,29 +178,20 @@ fn mutex_is_handed_to_who_waits(rt: HostRuntime) -> Result<(), Fail> {
 fn hand_over(rt: &impl Abort, parts: &mut Parts<PlainKernel>) -> Result<(), Fail> {
     let m1 = MutexId::new(1).ok_or("a mutex")?;
     let low = Tid::new(1).ok_or("a thread")?;
-    let lock = Turn::Call(Request::Lock(m1));
-    let unlock = Turn::Call(Request::Unlock(m1));
-    let rows = [
-        (1, lock, (2, Progress::Done(0)), 1),
-        (2, lock, (3, Progress::Waits), 0x8000_0001),
-        (2, Turn::Go, (1, Progress::Waits), 0x8000_0001),
+    let high = Tid::new(2).ok_or("a thread")?;
+    let waiting = [
+        (1, Request::Lock(m1), 2, Progress::Done(0), 1),
+        (2, Request::Lock(m1), 3, Progress::Waits, 0x8000_0001),
     ];
-    play(rt, parts, &rows)?;
-    assert_eq!(rt;
-        (parts.effective(low), parts.pick()),
-        (Prio::new(50), Some(low))
-    );
-    play(
-        rt,
-        parts,
-        &[(1, unlock, (3, Progress::Done(0)), 0x8000_0002)],
-    )?;
+    let handed = [(1, Request::Unlock(m1), 3, Progress::Done(0), 0x8000_0002)];
+    play(rt, parts, &waiting)?;
+    assert_eq!(rt; go(parts, high), Some(Progress::Waits));
+    let boosted = (parts.word(m1), parts.effective(low), parts.pick());
+    assert_eq!(rt; boosted, (Some(0x8000_0001), Prio::new(50), Some(low)));
+    play(rt, parts, &handed)?;
     assert_eq!(rt; parts.effective(low), Prio::new(10));
-    play(
-        rt,
-        parts,
-        &[(2, Turn::Go, (1, Progress::Done(0)), 0x8000_0002)],
-    )
+    assert_eq!(rt; go(parts, high), Some(Progress::Done(0)));
+    Ok(())
 }
 
 #[test]
@@ -226,16 +202,13 @@ fn recursive_mutex_is_unlocked_as_often_as_locked(rt: HostRuntime) -> Result<(),
 
 fn lock_and_unlock_thrice(rt: &impl Abort, parts: &mut Parts<PlainKernel>) -> Result<(), Fail> {
     let m1 = MutexId::new(1).ok_or("a mutex")?;
-    let lock = Turn::Call(Request::Lock(m1));
-    let try_lock = Turn::Call(Request::TryLock(m1));
-    let unlock = Turn::Call(Request::Unlock(m1));
     let rows = [
-        (1, lock, (2, Progress::Done(0)), 1),
-        (1, lock, (1, Progress::Done(0)), 1),
-        (1, try_lock, (1, Progress::Done(0)), 1),
-        (1, unlock, (1, Progress::Done(0)), 1),
-        (1, unlock, (1, Progress::Done(0)), 1),
-        (1, unlock, (2, Progress::Done(0)), 0),
+        (1, Request::Lock(m1), 2, Progress::Done(0), 1),
+        (1, Request::Lock(m1), 1, Progress::Done(0), 1),
+        (1, Request::TryLock(m1), 1, Progress::Done(0), 1),
+        (1, Request::Unlock(m1), 1, Progress::Done(0), 1),
+        (1, Request::Unlock(m1), 1, Progress::Done(0), 1),
+        (1, Request::Unlock(m1), 2, Progress::Done(0), 0),
     ];
     play(rt, parts, &rows)
 }
@@ -247,12 +220,12 @@ fn recursive_mutex_is_held_255_times(rt: HostRuntime) -> Result<(), Fail> {
 }
 
 fn lock_256_times(rt: &impl Abort, parts: &mut Parts<PlainKernel>) -> Result<(), Fail> {
-    let lock = Turn::Call(Request::Lock(MutexId::new(1).ok_or("a mutex")?));
-    play(rt, parts, &[(1, lock, (2, Progress::Done(0)), 1)])?;
+    let lock = Request::Lock(MutexId::new(1).ok_or("a mutex")?);
+    play(rt, parts, &[(1, lock, 2, Progress::Done(0), 1)])?;
     for _ in 0..254 {
-        play(rt, parts, &[(1, lock, (1, Progress::Done(0)), 1)])?;
+        play(rt, parts, &[(1, lock, 1, Progress::Done(0), 1)])?;
     }
-    play(rt, parts, &[(1, lock, (1, Progress::Done(11)), 1)])
+    play(rt, parts, &[(1, lock, 1, Progress::Done(11), 1)])
 }
 
 #[test]
@@ -262,39 +235,41 @@ fn trylock_never_waits(rt: HostRuntime) -> Result<(), Fail> {
 }
 
 fn try_to_lock(rt: &impl Abort, parts: &mut Parts<PlainKernel>) -> Result<(), Fail> {
-    let lock = Turn::Call(Request::TryLock(MutexId::new(1).ok_or("a mutex")?));
+    let m1 = MutexId::new(1).ok_or("a mutex")?;
     let rows = [
-        (1, lock, (2, Progress::Done(0)), 1),
-        (1, lock, (1, Progress::Done(16)), 1),
-        (2, lock, (3, Progress::Done(16)), 1),
+        (1, Request::TryLock(m1), 2, Progress::Done(0), 1),
+        (1, Request::TryLock(m1), 1, Progress::Done(16), 1),
+        (2, Request::TryLock(m1), 3, Progress::Done(16), 1),
     ];
     play(rt, parts, &rows)
 }
 
 #[test]
 fn lock_of_an_own_mutex_goes_by_its_kind(rt: HostRuntime) -> Result<(), Fail> {
-    for (kind, end, runs) in [
-        (Kind::Normal, (2, Progress::Waits), false),
-        (Kind::ErrorCheck, (1, Progress::Done(35)), true),
+    for (kind, steps, progress, runs) in [
+        (Kind::Normal, 2, Progress::Waits, false),
+        (Kind::ErrorCheck, 1, Progress::Done(35), true),
     ] {
         let mut parts = scene(rt.alloc(), kind, &[10])?;
-        lock_own(&rt, &mut parts, end, runs)?;
+        lock_twice(&rt, &mut parts, steps, progress)?;
+        assert_eq!(rt; parts.pick() == Tid::new(1), runs);
     }
     Ok(())
 }
 
-/// A thread locks a mutex twice: what the second call came to, and whether the thread runs after it.
-fn lock_own(
+/// A thread locks a mutex twice, the second time with this end.
+fn lock_twice(
     rt: &impl Abort,
     parts: &mut Parts<PlainKernel>,
-    end: (u32, Progress),
-    runs: bool,
+    steps: u32,
+    progress: Progress,
 ) -> Result<(), Fail> {
-    let lock = Turn::Call(Request::Lock(MutexId::new(1).ok_or("a mutex")?));
-    let rows = [(1, lock, (2, Progress::Done(0)), 1), (1, lock, end, 1)];
-    play(rt, parts, &rows)?;
-    assert_eq!(rt; parts.pick() == Tid::new(1), runs);
-    Ok(())
+    let m1 = MutexId::new(1).ok_or("a mutex")?;
+    let rows = [
+        (1, Request::Lock(m1), 2, Progress::Done(0), 1),
+        (1, Request::Lock(m1), steps, progress, 1),
+    ];
+    play(rt, parts, &rows)
 }
 
 #[test]
@@ -311,11 +286,7 @@ fn set_priorities(rt: &impl Abort, parts: &mut Parts<PlainKernel>) -> Result<(),
         (Request::SetPrio(t2, 100), 22, 30),
         (Request::SetPrio(nobody, 30), 3, 30),
     ] {
-        play(
-            rt,
-            parts,
-            &[(1, Turn::Call(request), (1, Progress::Done(answer)), 0)],
-        )?;
+        play(rt, parts, &[(1, request, 1, Progress::Done(answer), 0)])?;
         assert_eq!(rt; parts.effective(t2), Prio::new(effective));
     }
     Ok(())

@@ -48,7 +48,7 @@ impl<K: PiKernel + Drop> State<K> {
     }
 
     /// The kernel call unlock_pi.
-    #[tactic(auto, unfolding(pif_model::specs::Lines::unlock_kernel), using(crate::proofs::KernelCalls::unlock_keeps_threads))]
+    #[tactic(auto, unfolding(pif_model::specs::Lines::unlock_kernel), using(crate::proofs::KernelLeaves::unlock_keeps_threads))]
     pub(crate) fn unlock_kernel(&mut self, t: Tid, m: MutexId) -> Progress
         requires known { has_thread self.old t ≡ true }
         requires ready { is_ready (status_at self.old t) ≡ true }

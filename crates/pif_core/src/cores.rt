@@ -1,11 +1,11 @@
-ghost use Rattle.std.specs.Prelude.{ℕ, ◌≡◌, ◌+◌, length, true, false, List, [], ◌∷◌, IfOk, IfSome, is_some, unwrap_or};
+ghost use Rattle.std.specs.Prelude.{ℕ, ◌≡◌, ◌+◌, length, true, false, List, [], ◌∷◌, None, IfOk, IfSome, is_some, unwrap_or};
 ghost use Rattle.pif_model.specs.declared.events.Entry.{Entry};
 ghost use Rattle.pif_model.specs.Word.{word_of};
-ghost use Rattle.pif_model.specs.Posix.{World, IsLegal, is_thread, is_mutex};
+ghost use Rattle.pif_model.specs.Posix.{World, IsLegal, is_living, is_mutex};
 ghost use Rattle.pif_model.specs.History.{AlwaysOneHolder};
 ghost use Rattle.pif_model.specs.Standing.{Stands, HasEffective, IsPick, IsPossible};
-ghost use Rattle.pif_model.specs.Table.{new_table, row_at, has_thread, has_mutex};
-ghost use Rattle.pif_model.specs.Lines.{stepped, is_open, goes_on, ClosesOrWaits};
+ghost use Rattle.pif_model.specs.Table.{new_table, line_at, has_thread, has_mutex};
+ghost use Rattle.pif_model.specs.Lines.{table_refusal, accepted_outcome, event_outcome, is_open, goes_on, ClosesOrWaits};
 ghost use Rattle.pif_model.specs.Calls.{add_thread_answer, add_thread_after, add_mutex_answer, add_mutex_after, effective_answer, word_answer, pick_answer, threads_answer};
 
 use pif_kernel::PlainKernel;
@@ -26,10 +26,13 @@ pub struct Core {
 
 impl Model for Core {
     ghost use Rattle.pif_model.specs.Table.{Table};
+    ghost use Rattle.pif_model.specs.Standing.{IsSound};
 
     ghost Value = { Table };
 
     ghost view = { λ c. c.parts };
+
+    ghost invariant = { λ c. IsSound c.parts };
 }
 
 impl Core {
@@ -39,6 +42,8 @@ impl Core {
         ensures made { IfOk result (λ c. c ≡ new_table limits) }
         ensures stands { IfOk result (λ c. (w : World) × Stands c [] [] w) }
     {
+        // This reads a limit, so that the proof has the ranges of all.
+        let _threads = limits.threads();
         let kernel = PlainKernel::new(alloc, limits, FIRST_TICKET)?;
         let parts = Parts::new(alloc, limits, kernel)?;
         Ok(Core { parts })
@@ -53,6 +58,7 @@ impl Core {
             → (v : World) × Stands self.new (Entry.Thread t prio ∷ h) (w ∷ r) v) }
     {
         let prio = Prio::new(prio).ok_or(AddFault::BadPrio)?;
+        // This reads the priority, so that the proof has its range.
         let _level = prio.get();
         if self.parts.threads() < self.parts.limits().threads() {
             Ok(self.parts.add_thread(prio))
@@ -70,7 +76,6 @@ impl Core {
         ensures stands { IfOk result (λ m. (h : List Entry) (r : List World) (w : World) → Stands self.old h r w
             → (v : World) × Stands self.new (Entry.Mutex m kind robust ∷ h) (w ∷ r) v) }
     {
-        let _stalled = robust;
         if self.parts.mutexes() < self.parts.limits().mutexes() {
             Ok(self.parts.add_mutex(kind))
         } else {
@@ -78,29 +83,31 @@ impl Core {
         }
     }
 
-    /// One event: what it is answered. It is refused, and nothing changes, by the first of these that holds: `NoSuch` where
-    /// the thread was never added, `Busy` where a thread with a call open begins one, `Idle` where a thread goes on that has
-    /// none, and `NoSuch` where the mutex of a call was never added. A call that is open closes or waits within 24 steps of
-    /// its thread, where no other event comes between.
+    /// One event: what it is answered. It is refused, and nothing changes, by the first of these that holds: `NoSuch`
+    /// where the thread was never added, `Busy` where a thread with a call open begins one, `Idle` where a thread goes
+    /// on that has none, and `NoSuch` where the mutex of a call was never added. A call that is open closes or waits
+    /// within 24 steps of its thread, where no other event comes between.
     pub fn step(&mut self, event: Event) -> Seen
-        ensures seen { result ≡ (stepped event self.old).seen }
-        ensures after { self.new ≡ (stepped event self.old).after }
+        ensures seen { result ≡ (event_outcome event self.old).seen }
+        ensures after { self.new ≡ (event_outcome event self.old).after }
         ensures stands { (h : List Entry) (r : List World) (w : World) → Stands self.old h r w
             → (v : World) × Stands self.new (Entry.Step event result ∷ h) (w ∷ r) v }
         ensures legal { (h : List Entry) (r : List World) (w : World) → Stands self.old h r w
             → IsLegal self.new.limits (Entry.Step event result ∷ h) }
         ensures holders { (h : List Entry) (r : List World) (w : World) → Stands self.old h r w
             → AlwaysOneHolder (Entry.Step event result ∷ h) }
-        ensures ends { (t : ℕ) → has_thread self.new t ≡ true → is_open (row_at self.new t).line ≡ true → ClosesOrWaits (goes_on 23 t self.new).seen }
+        ensures ends { (t : ℕ) → has_thread self.new t ≡ true → is_open (line_at self.new t) ≡ true
+            → ClosesOrWaits (goes_on 23 t self.new).seen }
     {
         self.turn(event)
     }
 
     /// The effective priority of a thread: the greatest base priority of it and of all that wait for it through any
-    /// chain. `None` where it was never added.
+    /// chain. `None` where no living thread has that number.
     pub fn effective(&self, thread: Tid) -> Option<Prio>
         ensures value { result ≡ effective_answer thread self.now }
-        ensures added { (h : List Entry) (r : List World) (w : World) → Stands self.now h r w → is_some result ≡ is_thread w thread }
+        ensures added { (h : List Entry) (r : List World) (w : World) → Stands self.now h r w
+            → is_some result ≡ is_living w thread }
         ensures priority { (h : List Entry) (r : List World) (w : World) → Stands self.now h r w
             → IfSome result (λ p. HasEffective w thread p) }
     {
@@ -110,7 +117,8 @@ impl Core {
     /// The 32 bits of the word of a mutex. `None` where it was never added.
     pub fn word(&self, mutex: MutexId) -> Option<u32>
         ensures value { result ≡ word_answer mutex self.now }
-        ensures added { (h : List Entry) (r : List World) (w : World) → Stands self.now h r w → is_some result ≡ is_mutex w mutex }
+        ensures added { (h : List Entry) (r : List World) (w : World) → Stands self.now h r w
+            → is_some result ≡ is_mutex w mutex }
         ensures possible { (h : List Entry) (r : List World) (w : World) → Stands self.now h r w
             → IfSome result (λ bits. IsPossible w mutex (word_of bits)) }
     {
@@ -121,7 +129,8 @@ impl Core {
     /// `None` where no thread is ready.
     pub fn pick(&self) -> Option<Tid>
         ensures value { result ≡ pick_answer self.now }
-        ensures next { (h : List Entry) (r : List World) (w : World) → Stands self.now h r w → IsPick w (unwrap_or result 0) }
+        ensures next { (h : List Entry) (r : List World) (w : World) → Stands self.now h r w
+            → IsPick w (unwrap_or result 0) }
     {
         self.parts.pick()
     }
@@ -129,7 +138,8 @@ impl Core {
     /// How many threads were ever added.
     pub fn threads(&self) -> u32
         ensures value { result ≡ threads_answer self.now }
-        ensures added { (h : List Entry) (r : List World) (w : World) → Stands self.now h r w → result + 1 ≡ length w.threads }
+        ensures added { (h : List Entry) (r : List World) (w : World) → Stands self.now h r w
+            → result + 1 ≡ length w.threads }
     {
         self.parts.threads()
     }
@@ -148,10 +158,69 @@ impl Core {
         mutex.get() <= self.parts.mutexes()
     }
 
-    /// One event, by what it is.
+    /// Why a Begin is refused, if it is: the thread was never added, has a call open, or names a mutex that was never
+    /// added.
+    fn begin_refusal(&self, thread: Tid, request: Request) -> Option<Refusal>
+        ensures { result ≡ table_refusal self.now (Event.Begin thread request) }
+    {
+        if !self.has_thread(thread) {
+            return Some(Refusal::NoSuch);
+        }
+        if self.parts.is_open(thread) {
+            return Some(Refusal::Busy);
+        }
+        match request {
+            Request::Lock(mutex) | Request::TryLock(mutex) | Request::Unlock(mutex) =>
+                if self.has_mutex(mutex) {
+                    None
+                } else {
+                    Some(Refusal::NoSuch)
+                },
+            Request::SetPrio(_, _) => None,
+        }
+    }
+
+    /// Why a Go is refused, if it is: the thread was never added, or has no call open.
+    fn go_refusal(&self, thread: Tid) -> Option<Refusal>
+        ensures { result ≡ table_refusal self.now (Event.Go thread) }
+    {
+        if !self.has_thread(thread) {
+            return Some(Refusal::NoSuch);
+        }
+        if self.parts.is_open(thread) {
+            None
+        } else {
+            Some(Refusal::Idle)
+        }
+    }
+
+    /// Why an event is refused, if it is.
+    fn refusal(&self, event: &Event) -> Option<Refusal>
+        ensures { result ≡ table_refusal self.now event.now }
+    {
+        match *event {
+            Event::Begin(thread, request) => self.begin_refusal(thread, request),
+            Event::Go(thread) => self.go_refusal(thread),
+        }
+    }
+
+    /// One event.
+    #[tactic(auto, unfolding(pif_model::specs::Lines::event_outcome))]
     fn turn(&mut self, event: Event) -> Seen
-        ensures seen { result ≡ (stepped event self.old).seen }
-        ensures after { self.new ≡ (stepped event self.old).after }
+        ensures seen { result ≡ (event_outcome event self.old).seen }
+        ensures after { self.new ≡ (event_outcome event self.old).after }
+    {
+        match self.refusal(&event) {
+            Some(refusal) => Seen::Refused(refusal),
+            None => self.accept(event),
+        }
+    }
+
+    /// One event that is not refused.
+    fn accept(&mut self, event: Event) -> Seen
+        requires { table_refusal self.old event ≡ None }
+        ensures seen { result ≡ (accepted_outcome event self.old).seen }
+        ensures after { self.new ≡ (accepted_outcome event self.old).after }
     {
         match event {
             Event::Begin(thread, request) => self.begin(thread, request),
@@ -159,42 +228,24 @@ impl Core {
         }
     }
 
-    /// A thread begins a call, unless it is unknown, has a call open, or names a mutex that does not exist.
-    #[tactic(auto, unfolding(pif_model::specs::Lines::stepped, pif_model::specs::Lines::accepted))]
+    /// A thread begins a call, which is not refused.
+    #[tactic(auto, unfolding(pif_model::specs::Lines::accepted_outcome))]
     fn begin(&mut self, thread: Tid, request: Request) -> Seen
-        ensures seen { result ≡ (stepped (Event.Begin thread request) self.old).seen }
-        ensures after { self.new ≡ (stepped (Event.Begin thread request) self.old).after }
+        requires { table_refusal self.old (Event.Begin thread request) ≡ None }
+        ensures seen { result ≡ (accepted_outcome (Event.Begin thread request) self.old).seen }
+        ensures after { self.new ≡ (accepted_outcome (Event.Begin thread request) self.old).after }
     {
-        if !self.has_thread(thread) {
-            return Seen::Refused(Refusal::NoSuch);
-        }
-        if self.parts.is_open(thread) {
-            return Seen::Refused(Refusal::Busy);
-        }
-        let known = match request {
-            Request::Lock(mutex) | Request::TryLock(mutex) | Request::Unlock(mutex) =>
-                self.has_mutex(mutex),
-            Request::SetPrio(_, _) => true,
-        };
-        if !known {
-            return Seen::Refused(Refusal::NoSuch);
-        }
         self.parts.begin(thread, request);
         Seen::Begun
     }
 
-    /// A thread takes one step of its open call, unless it is unknown or has none.
-    #[tactic(auto, unfolding(pif_model::specs::Lines::stepped, pif_model::specs::Lines::accepted))]
+    /// A thread takes one step of its open call, which is not refused.
+    #[tactic(auto, unfolding(pif_model::specs::Lines::accepted_outcome))]
     fn go(&mut self, thread: Tid) -> Seen
-        ensures seen { result ≡ (stepped (Event.Go thread) self.old).seen }
-        ensures after { self.new ≡ (stepped (Event.Go thread) self.old).after }
+        requires { table_refusal self.old (Event.Go thread) ≡ None }
+        ensures seen { result ≡ (accepted_outcome (Event.Go thread) self.old).seen }
+        ensures after { self.new ≡ (accepted_outcome (Event.Go thread) self.old).after }
     {
-        if !self.has_thread(thread) {
-            return Seen::Refused(Refusal::NoSuch);
-        }
-        if !self.parts.is_open(thread) {
-            return Seen::Refused(Refusal::Idle);
-        }
         match advance(&mut self.parts, thread) {
             Progress::Went => Seen::Went,
             Progress::Waits => Seen::Waits,

@@ -1,11 +1,11 @@
 -- A core that stands stands after an event.
 use Rattle.pif_simulation.proofs.Bound.{open_ends_within_24}
 use Rattle.pif_core.proofs.StandsAfter.{step_stands, stands_legal, stands_one_holder}
-use Rattle.pif_core.proofs.surface.Core.step.Goals as goal
+use Rattle.pif_core.proofs.cores.Core.step.Goals as goal
 
 pub returns-clause-stands : goal.returns-clause-stands
-returns-clause-stands c = step_stands c.args.self.now c.turn.new.self c.args.event c.turn.result
-    c.turn.ensures.seen c.turn.ensures.after
+returns-clause-stands c =
+    step_stands c.args.self.now c.turn.new.self c.args.event c.turn.result c.turn.ensures.seen c.turn.ensures.after
 
 pub returns-clause-legal : goal.returns-clause-legal
 returns-clause-legal c = λ h r w st.

@@ -2,7 +2,7 @@
 use Rattle.std.proofs.Common.{◌∙◌, ap}
 use Rattle.pif_model.specs.Calls.{pick_answer}
 use Rattle.pif_core.proofs.StandsAfter.{pick_answered}
-use Rattle.pif_core.proofs.surface.Core.pick.Goals as goal
+use Rattle.pif_core.proofs.cores.Core.pick.Goals as goal
 
 pub returns-clause-next : goal.returns-clause-next
 returns-clause-next c = λ h r w st.

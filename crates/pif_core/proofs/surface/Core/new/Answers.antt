@@ -1,7 +1,0 @@
--- A core to which nothing was added stands after the empty history.
-use Rattle.pif_model.specs.Posix.{empty_world}
-use Rattle.pif_simulation.proofs.StandingLaws.{new_stands}
-use Rattle.pif_core.proofs.surface.Core.new.Goals as goal
-
-pub returns-clause-stands : goal.returns-clause-stands
-returns-clause-stands c = (empty_world, rw c.in_ok-parts.ensures (new_stands _))
