@@ -5,6 +5,7 @@ pub mod Greatest
 pub mod Handed
 pub mod Chains
 pub mod Waiting
+pub mod LineCases
 pub mod Among
 pub mod Next
 pub mod Places

@@ -1,7 +1,6 @@
 pub mod KernelLeaves
 pub mod Assembly
 pub mod Exchanges
-pub mod LineCases
 pub mod ListChanges
 pub mod Counts
 pub mod Steps

@@ -24,7 +24,7 @@ use Rattle.pif_mutex.proofs.KernelLeaves.{lock_ready, unlock_ready, set_prio_rea
 use Rattle.pif_mutex.proofs.ListChanges.{changed_at}
 use Rattle.pif_mutex.proofs.Counts.{CountGoes, CellGoes, WordGoes, words_stay, word_goes, lock_owns_free, try_takes_free, unlock_gives_own, lock_goes, try_goes, unlock_goes}
 use Rattle.pif_mutex.proofs.Counts.CountGoes.{stays, once, recounts}
-use Rattle.pif_mutex.proofs.LineCases.{locked_again_cases, own_exchange_cases, lock_load_cases, lock_queued_cases, try_load_cases, unlock_load_cases, unlock_exchange_cases, answered_by_cases}
+use Rattle.pif_chains.proofs.LineCases.{locked_again_cases, own_exchange_cases, lock_load_cases, lock_queued_cases, try_load_cases, unlock_load_cases, unlock_exchange_cases, answered_by_cases}
 
 -- what a step of t leaves to the other threads, and makes of the mutexes
 pub record Leaves (t : ℕ) (s v : Table) : Type 0 where
@@ -141,7 +141,7 @@ module _ {s : Table} {t : ℕ} (h : IsRunnable s) (lt : t < length s.lines) wher
       → is_ready (status_at s t) ≡ true → gives_up_at q p ≡ false
       → Keeps t s (own_exchange q p t m s).after
   own_exchange_keeps q p m named ready keeps = own_exchange_cases (λ o. Keeps t s o.after) q p t m s
-      (λ free. arrives Idle lt (leaves_word t m s (held_by t) (once ((h.mutexes m).unowned free))) ready)
+      (λ bare free. arrives Idle lt (leaves_word t m s (held_by t) (once ((h.mutexes m).unowned free))) ready)
       (arrives (At q p) lt (leaves_all t s) (goes_on p named ready keeps))
 
   -- LOCK
@@ -230,7 +230,7 @@ module _ {s : Table} {t : ℕ} (h : IsRunnable s) (lt : t < length s.lines) wher
   unlock_exchange_keeps : (m : ℕ) → CallIsRunnable s t (Unlock m) UnlockExchange
       → Keeps t s (unlock_exchange t m s).after
   unlock_exchange_keeps m call = unlock_exchange_cases (λ o. Keeps t s o.after) t m s
-      (λ mine. arrives Idle lt (leaves_word t m s free_word (once (call.once refl mine))) (call.ready refl))
+      (λ bare mine. arrives Idle lt (leaves_word t m s free_word (once (call.once refl mine))) (call.ready refl))
       (arrives (At (Unlock m) UnlockKernel) lt (leaves_all t s)
       (record { mutex = call.mutex; ready = λ e. call.ready refl; once = λ e. call.once refl }))
 

@@ -6,8 +6,6 @@ use Rattle.std.proofs.lemmas.List.{get_or-set_same, get_or_past}
 use Rattle.pif_types.specs.declared.errors.Errno.{Errno}
 use Rattle.pif_types.specs.declared.errors.Errno.TheVariants.{NoSuchThread}
 use Rattle.pif_types.specs.declared.errors.Refusal.{Refusal}
-use Rattle.pif_types.specs.declared.requests.Kind.{Kind}
-use Rattle.pif_types.specs.declared.requests.Kind.TheVariants.{Normal, ErrorCheck, Recursive}
 use Rattle.pif_types.specs.declared.requests.Request.{Request}
 use Rattle.pif_types.specs.declared.requests.Request.TheVariants.{Lock, TryLock, Unlock, SetPrio}
 use Rattle.pif_model.specs.declared.events.Event.TheVariants.{Go}
@@ -19,11 +17,11 @@ use Rattle.pif_model.specs.declared.lines.Place.{Place}
 use Rattle.pif_model.specs.declared.lines.Place.TheVariants.{LockLoad, LockExchange, LockKernel, LockQueued, LockStop, LockStopped, TryLoad, TryExchange, TryKernel, UnlockLoad, UnlockExchange, UnlockKernel, SetPriority}
 use Rattle.pif_model.specs.declared.lines.Took.{Took}
 use Rattle.pif_model.specs.declared.lines.Took.TheVariants.{Owns as TookOwns, Queued as TookQueued}
-use Rattle.pif_model.specs.Word.{Word, take_word, release_word}
+use Rattle.pif_model.specs.Word.{free_word, held_by}
 use Rattle.pif_model.specs.PiKernel.{is_ready, lock_answer, words_after_lock, kernel_after_lock, try_lock_answer, unlock_answer, set_prio_answer}
 use Rattle.pif_model.specs.Table.{Table, cell_at, status_at, line_at, has_thread, with_line, with_word, with_count, with_kernel}
-use Rattle.pif_model.specs.Lines.{Outcome, goes_to, answers, locked_again, exchanged, own_exchange, lock_load, lock_by, lock_kernel, lock_queued, lock_stop, try_load, unlock_load, unlock_exchange, answered_by, busy_for_again, try_kernel, unlock_kernel, set_priority, line_of, go_outcome, is_open, table_refusal, accepted_outcome, by_refusal, event_outcome, goes_on, ClosesOrWaits}
-use Rattle.pif_chains.proofs.Waiting.{by_test}
+use Rattle.pif_model.specs.Lines.{Outcome, goes_to, answers, locked_again, own_exchange, lock_load, lock_by, lock_kernel, lock_queued, lock_stop, try_load, unlock_load, unlock_exchange, answered_by, busy_for_again, try_kernel, unlock_kernel, set_priority, line_of, go_outcome, is_open, table_refusal, accepted_outcome, by_refusal, event_outcome, goes_on, ClosesOrWaits}
+use Rattle.pif_chains.proofs.LineCases.{locked_again_cases, own_exchange_cases, lock_load_cases, lock_queued_cases, try_load_cases, unlock_load_cases, unlock_exchange_cases, answered_by_cases}
 use Rattle.pif_simulation.proofs.Shown.{go_allowed}
 
 -- how many steps at most a call at this place may still go on
@@ -96,34 +94,22 @@ answers-turns n t a s = ends (inr (a, refl))
 
 -- and so does what a kernel call answers
 answered_by-turns : (n t : ℕ) (r : Result (record {}) Errno) (s : Table) → Turns t n (answered_by r t s)
-unfolding answered_by
-answered_by-turns n t (Ok x) s = answers-turns n t 0 s
-answered_by-turns n t (Err e) s = ends (inr (_, refl))
+answered_by-turns n t r s = answered_by_cases (Turns t n) r t s (λ a. answers-turns n t a s)
 
 -- a lock or a trylock by the owner of a RECURSIVE mutex ends
 locked_again-turns : (n t m : ℕ) (s : Table) → Turns t n (locked_again t m s)
-unfolding locked_again
-locked_again-turns n t m s = by_test (λ b. Turns t n (if b then answers t 0 (with_count m ((cell_at s m).count + 1) s) else answers t 11 s))
-    (nat_lt (cell_at s m).count 255)
-    (λ e. answers-turns n t 0 (with_count m ((cell_at s m).count + 1) s)) (λ e. answers-turns n t 11 s)
+locked_again-turns n t m s = locked_again_cases (Turns t n) t m s (λ e. answers-turns n t 0 (with_count m ((cell_at s m).count + 1) s)) (λ e. answers-turns n t 11 s)
 
 module _ (s : Table) (t m : ℕ) (known : has_thread s t ≡ true) (l : t < length s.lines) where
-  -- lock and trylock: compare-exchange from 0 to t; unlock: from t to 0
-  exchanged-turns : (n : ℕ) (q : Request) (p : Place) (w : Option Word) → rank p < n → Turns t n (exchanged w q p t m s)
-  unfolding exchanged
-  exchanged-turns n q p (Some w) less = answers-turns n t 0 (with_word m w s)
-  exchanged-turns n q p None less = goes-turns s t known l n q p less
+  -- lock and trylock: compare-exchange from 0 to t
+  own_exchange-turns : (n : ℕ) (q : Request) (p : Place) → rank p < n → Turns t n (own_exchange q p t m s)
+  own_exchange-turns n q p less = own_exchange_cases (Turns t n) q p t m s (λ bare free. answers-turns n t 0 (with_word m (held_by t) s)) (goes-turns s t known l n q p less)
 
   -- lock: load the word
   lock_load-turns : Turns t 3 (lock_load (Lock m) t m s)
-  unfolding lock_load
-  lock_load-turns = by_test (λ b. Turns t 3 (if b then elim (cell_at s m).kind [ Normal ↦ goes_to t (Lock m) LockStop s | ErrorCheck ↦ answers t 35 s | Recursive ↦ locked_again t m s ] else goes_to t (Lock m) LockExchange s))
-      ((cell_at s m).word.number == t) (λ e. by_kind (cell_at s m).kind) (λ e. goes-turns s t known l 3 (Lock m) LockExchange (omega arith))
-    where
-      by_kind : (k : Kind) → Turns t 3 (elim k [ Normal ↦ goes_to t (Lock m) LockStop s | ErrorCheck ↦ answers t 35 s | Recursive ↦ locked_again t m s ])
-      by_kind Normal = goes-turns s t known l 3 (Lock m) LockStop (omega arith)
-      by_kind ErrorCheck = answers-turns 3 t 35 s
-      by_kind Recursive = locked_again-turns 3 t m s
+  lock_load-turns = lock_load_cases (Turns t 3) (Lock m) t m s
+      (λ own kind. goes-turns s t known l 3 (Lock m) LockStop (omega arith)) (λ own kind. answers-turns 3 t 35 s) (λ own kind. locked_again-turns 3 t m s)
+      (λ other. goes-turns s t known l 3 (Lock m) LockExchange (omega arith))
 
   -- lock: the kernel call lock_pi
   lock_kernel-turns : Turns t 1 (lock_kernel (Lock m) t m s)
@@ -138,9 +124,7 @@ module _ (s : Table) (t m : ℕ) (known : has_thread s t ≡ true) (l : t < leng
 
   -- lock: queued, or made the owner
   lock_queued-turns : Turns t 0 (lock_queued t s)
-  unfolding lock_queued
-  lock_queued-turns = by_test (λ b. Turns t 0 (if b then answers t 0 s else record { seen = Waits; after = s })) (is_ready (status_at s t))
-      (λ e. answers-turns 0 t 0 s) (λ e. ends (inl refl))
+  lock_queued-turns = lock_queued_cases (Turns t 0) t s (λ e. answers-turns 0 t 0 s) (λ e. ends (inl refl))
 
   -- lock: stop for good
   lock_stop-turns : Turns t 0 (lock_stop (Lock m) t s)
@@ -149,37 +133,33 @@ module _ (s : Table) (t m : ℕ) (known : has_thread s t ≡ true) (l : t < leng
 
   -- trylock: load the word
   try_load-turns : Turns t 2 (try_load t m s)
-  unfolding try_load
-  try_load-turns = by_test (λ b. Turns t 2 (if b then elim (cell_at s m).kind [ Recursive ↦ locked_again t m s | _ ↦ answers t 16 s ] else goes_to t (TryLock m) TryExchange s))
-      ((cell_at s m).word.number == t) (λ e. by_kind (cell_at s m).kind) (λ e. goes-turns s t known l 2 (TryLock m) TryExchange (omega arith))
-    where
-      by_kind : (k : Kind) → Turns t 2 (elim k [ Recursive ↦ locked_again t m s | _ ↦ answers t 16 s ])
-      by_kind Recursive = locked_again-turns 2 t m s
-      by_kind _ = answers-turns 2 t 16 s
+  try_load-turns = try_load_cases (Turns t 2) t m s
+      (λ own kind. locked_again-turns 2 t m s) (λ own kind. answers-turns 2 t 16 s) (λ other. goes-turns s t known l 2 (TryLock m) TryExchange (omega arith))
 
   -- unlock: load the word
   unlock_load-turns : Turns t 2 (unlock_load t m s)
-  unfolding unlock_load
-  unlock_load-turns = by_test (λ b. Turns t 2 (if b then (if nat_lt 1 (cell_at s m).count then answers t 0 (with_count m ((cell_at s m).count - 1) s) else goes_to t (Unlock m) UnlockExchange s) else answers t 1 s))
-      ((cell_at s m).word.number == t)
-      (λ e. by_test (λ b. Turns t 2 (if b then answers t 0 (with_count m ((cell_at s m).count - 1) s) else goes_to t (Unlock m) UnlockExchange s)) (nat_lt 1 (cell_at s m).count)
-      (λ f. answers-turns 2 t 0 (with_count m ((cell_at s m).count - 1) s)) (λ f. goes-turns s t known l 2 (Unlock m) UnlockExchange (omega arith)))
-      (λ e. answers-turns 2 t 1 s)
+  unlock_load-turns = unlock_load_cases (Turns t 2) t m s
+      (λ own more. answers-turns 2 t 0 (with_count m ((cell_at s m).count - 1) s)) (λ own few. goes-turns s t known l 2 (Unlock m) UnlockExchange (omega arith))
+      (λ other. answers-turns 2 t 1 s)
+
+  -- unlock: compare-exchange from t to 0
+  unlock_exchange-turns : Turns t 1 (unlock_exchange t m s)
+  unlock_exchange-turns = unlock_exchange_cases (Turns t 1) t m s (λ bare own. answers-turns 1 t 0 (with_word m free_word s)) (goes-turns s t known l 1 (Unlock m) UnlockKernel (omega arith))
 
 -- each step of a call ends it, waits, or leaves it at a place of lower rank
 line-turns : (q : Request) (p : Place) (t : ℕ) (s : Table) → has_thread s t ≡ true → t < length s.lines → Turns t (rank p) (line_of q p t s)
-unfolding line_of own_exchange unlock_exchange try_kernel unlock_kernel set_priority
+unfolding line_of try_kernel unlock_kernel set_priority
 line-turns (Lock m) LockLoad t s k l = lock_load-turns s t m k l
-line-turns (Lock m) LockExchange t s k l = exchanged-turns s t m k l 2 (Lock m) LockKernel (take_word (cell_at s m).word t) (omega arith)
+line-turns (Lock m) LockExchange t s k l = own_exchange-turns s t m k l 2 (Lock m) LockKernel (omega arith)
 line-turns (Lock m) LockKernel t s k l = lock_kernel-turns s t m k l
 line-turns (Lock m) LockQueued t s k l = lock_queued-turns s t m k l
 line-turns (Lock m) LockStop t s k l = lock_stop-turns s t m k l
 line-turns (Lock m) LockStopped t s k l = ends (inl refl)
 line-turns (TryLock m) TryLoad t s k l = try_load-turns s t m k l
-line-turns (TryLock m) TryExchange t s k l = exchanged-turns s t m k l 1 (TryLock m) TryKernel (take_word (cell_at s m).word t) (omega arith)
+line-turns (TryLock m) TryExchange t s k l = own_exchange-turns s t m k l 1 (TryLock m) TryKernel (omega arith)
 line-turns (TryLock m) TryKernel t s k l = answered_by-turns 0 t (busy_for_again (try_lock_answer t m s.words s.kernel)) _
 line-turns (Unlock m) UnlockLoad t s k l = unlock_load-turns s t m k l
-line-turns (Unlock m) UnlockExchange t s k l = exchanged-turns s t m k l 1 (Unlock m) UnlockKernel (release_word (cell_at s m).word t) (omega arith)
+line-turns (Unlock m) UnlockExchange t s k l = unlock_exchange-turns s t m k l
 line-turns (Unlock m) UnlockKernel t s k l = answered_by-turns 0 t (unlock_answer t m s.words s.kernel) _
 line-turns (SetPrio u n) SetPriority t s k l = answered_by-turns 0 t (set_prio_answer u n s.kernel) _
 line-turns _ p t s k l = answers-turns (rank p) t 22 s

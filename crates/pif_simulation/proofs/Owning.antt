@@ -10,14 +10,6 @@ use Rattle.pif_chains.proofs.Waiting.{by_test}
 use Rattle.pif_simulation.proofs.Kept.{held_once}
 use Rattle.pif_simulation.proofs.Written.{mutex_of}
 
--- a word that passes the test of a compare-exchange
-pub bare : (w : Word) (t : ℕ) → is_bare w t ≡ true → (w.waiters ≡ false) × (w.number ≡ t)
-bare w t = by_test (λ a. (if a then false else (if w.died then false else w.number == t)) ≡ true → (w.waiters ≡ false) × (w.number ≡ t)) w.waiters
-    (λ e h. absurd (true≢false (sym h)))
-    (λ e. by_test (λ b. (if b then false else w.number == t) ≡ true → (w.waiters ≡ false) × (w.number ≡ t)) w.died
-    (λ d h. absurd (true≢false (sym h)))
-    (λ d h. (e, eqb-true w.number t h)))
-
 -- where the kernel has no owner state, or the word no flag, nobody waits
 module _ {added : ℕ → Bool} {waited : Bool} {c : Cell} (h : CellIsSound added waited c) where
   -- nobody waits for a mutex whose word has not the flag

@@ -19,7 +19,7 @@ use Rattle.pif_model.specs.PiKernel.{is_ready, is_living}
 use Rattle.pif_model.specs.Table.{Table, cell_at, has_thread, has_mutex, status_at, with_word, with_count}
 use Rattle.pif_model.specs.Lines.{answers, exchanged, own_exchange, locked_again}
 use Rattle.pif_model.specs.Standing.{CellIsSound, CountIsSound, MeetsAll, needs, belongs, progress_at, health_at}
-use Rattle.pif_chains.proofs.Waiting.{by_test}
+use Rattle.pif_chains.proofs.LineCases.{locked_again_cases, own_exchange_cases}
 use Rattle.pif_chains.proofs.Numbers.{above_0}
 use Rattle.pif_simulation.proofs.Kept.{Spares}
 use Rattle.pif_simulation.proofs.Written.{mutex_of, written_word, written_count}
@@ -27,7 +27,7 @@ use Rattle.pif_simulation.proofs.Steps.{Keeps, GoKeeps, Going}
 use Rattle.pif_simulation.proofs.Does.{Does, IsLocking}
 use Rattle.pif_simulation.proofs.Does.Does.{locks_free, locks_again, locks_at_limit, unlocks_one, unlocks_own}
 use Rattle.pif_simulation.proofs.Local.{local_kept, going_cell, goes, answers_local}
-use Rattle.pif_simulation.proofs.Owning.{bare, none_from_free, in_order, reworded, recounted, taken_seen, freed_seen}
+use Rattle.pif_simulation.proofs.Owning.{none_from_free, in_order, reworded, recounted, taken_seen, freed_seen}
 
 module _ {s : Table} {t : ℕ} {q : Request} {p : Place} (g : Going s t q p) (named : has_mutex s (named_by q) ≡ true)
     (ready : is_ready (status_at s t) ≡ true) (fresh : progress_at p (status_at s t) (health_at s (named_by q)) ≡ Fresh) where
@@ -72,10 +72,7 @@ module _ {s : Table} {t : ℕ} {q : Request} {p : Place} (g : Going s t q p) (na
   -- compare-exchange from 0 to t; where it fails the call goes on where all that it rests on is met
   pub own_exchange_kept : IsLocking m q → (b : Place) → belongs q b ≡ true → progress_at b (status_at s t) (health_at s m) ≡ Fresh
       → MeetsAll (is_living s.kernel) t (status_at s t) (cell_at s m) (needs b) → GoKeeps s t (own_exchange q b t m s)
-  unfolding own_exchange exchanged
-  own_exchange_kept l b ours same met = by_test (λ a. GoKeeps s t (exchanged (if a then Some (held_by t) else None) q b t m s)) (is_bare (cell_at s m).word 0)
-      (λ e. takes l (bare (cell_at s m).word 0 e).1)
-      (λ e. goes g named b ready ours (same ∙ sym fresh) met)
+  own_exchange_kept l b ours same met = own_exchange_cases (GoKeeps s t) q b t m s (λ bare. takes l) (goes g named b ready ours (same ∙ sym fresh) met)
 
   module _ (own : (cell_at s m).word.number ≡ t) where
     -- somebody owns it
@@ -129,12 +126,9 @@ module _ {s : Table} {t : ℕ} {q : Request} {p : Place} (g : Going s t q p) (na
 
     -- by a lock or a trylock the owner of a RECURSIVE mutex holds it once more, or the result is EAGAIN
     pub locked_again_kept : IsLocking m q → (cell_at s m).kind ≡ Recursive → GoKeeps s t (locked_again t m s)
-    unfolding locked_again
-    locked_again_kept l kind = by_test (λ b. GoKeeps s t (if b then answers t 0 (with_count m ((cell_at s m).count + 1) s) else answers t 11 s))
-        (nat_lt (cell_at s m).count 255)
-        (λ e. counts ((cell_at s m).count + 1) (more (ltb-true (cell_at s m).count 255 e))
-        (locks_again l refl own kind (ltb-true (cell_at s m).count 255 e) refl refl))
-        (λ e. answers_fresh 11 (locks_at_limit l refl own kind (limit (ltb-false (cell_at s m).count 255 e)) refl refl))
+    locked_again_kept l kind = locked_again_cases (GoKeeps s t) t m s
+        (λ e. counts ((cell_at s m).count + 1) (more e) (locks_again l refl own kind e refl refl))
+        (λ e. answers_fresh 11 (locks_at_limit l refl own kind (limit e) refl refl))
       where
         more : (cell_at s m).count < 255 → CountIsSound (cell_at s m).kind (cell_at s m).word.number ((cell_at s m).count + 1)
         more e = record { some = omega arith; few = omega arith; unowned = λ z. absurd (owned z); single = λ z. absurd (z kind) }

@@ -13,7 +13,7 @@ use Rattle.pif_model.specs.PiKernel.{try_lock_answer, words_after_try_lock}
 use Rattle.pif_model.specs.Table.{Table, cell_at, has_thread, with_kernel}
 use Rattle.pif_model.specs.Lines.{Outcome, goes_to, answers, own_exchange, locked_again, try_load, answered_by, busy_for_again, try_kernel}
 use Rattle.pif_model.specs.Standing.{CellIsSound}
-use Rattle.pif_chains.proofs.Waiting.{by_test}
+use Rattle.pif_chains.proofs.LineCases.{try_load_cases}
 use Rattle.pif_chains.proofs.Numbers.{above_0, below, from_within}
 use Rattle.pif_simulation.proofs.Steps.{GoKeeps, Going, going_named, going_met}
 use Rattle.pif_simulation.proofs.Local.{going_cell, goes, answers_local}
@@ -23,28 +23,13 @@ use Rattle.pif_simulation.proofs.Owning.{none_from_free, state_from_none}
 use Rattle.pif_simulation.proofs.TakingLines.{kernel_takes, own_exchange_kept, locked_again_kept}
 
 module _ (s : Table) (t m : ℕ) where
-  -- the load of the owner, by the kind
-  load_own : (g : Going s t (TryLock m) TryLoad) → (cell_at s m).word.number ≡ t → (k : Kind) → (cell_at s m).kind ≡ k
-      → GoKeeps s t (elim k [ Recursive ↦ locked_again t m s | _ ↦ answers t 16 s ])
-  load_own g own Recursive k = locked_again_kept g (going_named g) (going_met g).0 refl own (by_try_lock refl) k
-  load_own g own Normal k = answers_local g (going_named g) 16 (going_met g).0
-      (tries_owned refl refl (λ z. above_0 t (length s.kernel.seats) g.known (sym own ∙ z)) (λ e r. absurd (normal (sym k ∙ r))) refl refl)
-    where
-      normal : Normal ≡ Recursive → ⊥
-      normal e = cc
-  load_own g own ErrorCheck k = answers_local g (going_named g) 16 (going_met g).0
-      (tries_owned refl refl (λ z. above_0 t (length s.kernel.seats) g.known (sym own ∙ z)) (λ e r. absurd (errorcheck (sym k ∙ r))) refl refl)
-    where
-      errorcheck : ErrorCheck ≡ Recursive → ⊥
-      errorcheck e = cc
-
   -- trylock: load the word
   pub try_load_kept : Going s t (TryLock m) TryLoad → GoKeeps s t (try_load t m s)
-  unfolding try_load
-  try_load_kept g = by_test (λ b. GoKeeps s t (if b then elim (cell_at s m).kind [ Recursive ↦ locked_again t m s | _ ↦ answers t 16 s ] else goes_to t (TryLock m) TryExchange s))
-      ((cell_at s m).word.number == t)
-      (λ e. load_own g (eqb-true (cell_at s m).word.number t e) (cell_at s m).kind refl)
-      (λ e. goes g (going_named g) TryExchange (going_met g).0 refl refl ((going_met g).0, (eqb-false (cell_at s m).word.number t e, tt)))
+  try_load_kept g = try_load_cases (GoKeeps s t) t m s
+      (λ own kind. locked_again_kept g (going_named g) (going_met g).0 refl own (by_try_lock refl) kind)
+      (λ own kind. answers_local g (going_named g) 16 (going_met g).0
+      (tries_owned refl refl (λ z. above_0 t (length s.kernel.seats) g.known (sym own ∙ z)) (λ e. kind) refl refl))
+      (λ other. goes g (going_named g) TryExchange (going_met g).0 refl refl ((going_met g).0, (other, tt)))
 
   -- trylock: compare-exchange from 0 to t
   pub try_exchange_kept : Going s t (TryLock m) TryExchange → GoKeeps s t (own_exchange (TryLock m) TryKernel t m s)

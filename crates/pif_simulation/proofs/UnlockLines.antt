@@ -20,6 +20,7 @@ use Rattle.pif_model.specs.Table.{Table, cell_at, with_count, with_kernel}
 use Rattle.pif_model.specs.Lines.{goes_to, answers, exchanged, unlock_load, unlock_exchange, answered_by, unlock_kernel}
 use Rattle.pif_model.specs.Standing.{Shadow, world_of}
 use Rattle.pif_chains.proofs.Waiting.{by_test}
+use Rattle.pif_chains.proofs.LineCases.{unlock_load_cases, unlock_exchange_cases}
 use Rattle.pif_chains.proofs.Numbers.{above_0, below, from_within}
 use Rattle.pif_chains.proofs.KernelFacts.{next-some}
 use Rattle.pif_simulation.proofs.Shown.{mutex_seen}
@@ -27,7 +28,7 @@ use Rattle.pif_simulation.proofs.Written.{written_word}
 use Rattle.pif_simulation.proofs.Steps.{Keeps, GoKeeps, Going, going_named, going_met, going_called, answers_with}
 use Rattle.pif_simulation.proofs.Does.Does.{unlocks_not_own}
 use Rattle.pif_simulation.proofs.Local.{going_cell, goes, answers_local}
-use Rattle.pif_simulation.proofs.Owning.{bare, none_from_flag, none_from_state, state_agrees, in_order}
+use Rattle.pif_simulation.proofs.Owning.{none_from_flag, none_from_state, state_agrees, in_order}
 use Rattle.pif_simulation.proofs.TakingLines.{gives_up, unlocks_one_kept}
 use Rattle.pif_simulation.proofs.Effective.{next_seen}
 use Rattle.pif_simulation.proofs.Progressed.{next-with_progress}
@@ -38,32 +39,22 @@ fine : Fine ≡ Inconsistent → ⊥
 fine e = cc
 
 module _ (s : Table) (t m : ℕ) where
-  -- the load of the owner, by how often it holds m
-  load_own : (g : Going s t (Unlock m) UnlockLoad) → (cell_at s m).word.number ≡ t
-      → GoKeeps s t (if nat_lt 1 (cell_at s m).count then answers t 0 (with_count m ((cell_at s m).count - 1) s) else goes_to t (Unlock m) UnlockExchange s)
-  load_own g own = by_test (λ b. GoKeeps s t (if b then answers t 0 (with_count m ((cell_at s m).count - 1) s) else goes_to t (Unlock m) UnlockExchange s))
-      (nat_lt 1 (cell_at s m).count)
-      (λ e. unlocks_one_kept g (going_named g) (going_met g).0 refl own refl (ltb-true 1 (cell_at s m).count e))
-      (λ e. goes g (going_named g) UnlockExchange (going_met g).0 refl refl ((going_met g).0, (own, ((λ z. once (ltb-false 1 (cell_at s m).count e)), tt))))
+  -- unlock: load the word
+  pub unlock_load_kept : Going s t (Unlock m) UnlockLoad → GoKeeps s t (unlock_load t m s)
+  unlock_load_kept g = unlock_load_cases (GoKeeps s t) t m s
+      (λ own more. unlocks_one_kept g (going_named g) (going_met g).0 refl own refl more)
+      (λ own few. goes g (going_named g) UnlockExchange (going_met g).0 refl refl ((going_met g).0, (own, ((λ z. once few), tt))))
+      (λ other. answers_local g (going_named g) 1 (going_met g).0 (unlocks_not_own refl refl other refl refl))
     where
       once : (cell_at s m).count ≤ 1 → (cell_at s m).count ≡ 1
       once few = omega (arith, (going_cell g (going_named g)).count.some)
 
-  -- unlock: load the word
-  pub unlock_load_kept : Going s t (Unlock m) UnlockLoad → GoKeeps s t (unlock_load t m s)
-  unfolding unlock_load
-  unlock_load_kept g = by_test (λ b. GoKeeps s t (if b then (if nat_lt 1 (cell_at s m).count then answers t 0 (with_count m ((cell_at s m).count - 1) s) else goes_to t (Unlock m) UnlockExchange s) else answers t 1 s))
-      ((cell_at s m).word.number == t)
-      (λ e. load_own g (eqb-true (cell_at s m).word.number t e))
-      (λ e. answers_local g (going_named g) 1 (going_met g).0 (unlocks_not_own refl refl (eqb-false (cell_at s m).word.number t e) refl refl))
-
   -- unlock: compare-exchange from t to 0
   pub unlock_exchange_kept : Going s t (Unlock m) UnlockExchange → GoKeeps s t (unlock_exchange t m s)
-  unfolding unlock_exchange exchanged
-  unlock_exchange_kept g = by_test (λ b. GoKeeps s t (exchanged (if b then Some free_word else None) (Unlock m) UnlockKernel t m s)) (is_bare (cell_at s m).word t)
-      (λ e. gives_up g (going_named g) (going_met g).0 refl (going_met g).1.0 refl ((going_met g).1.1.0 (going_met g).1.0)
-      (none_from_flag (going_cell g (going_named g)) (bare (cell_at s m).word t e).0))
-      (λ e. goes g (going_named g) UnlockKernel (going_met g).0 refl refl (going_met g))
+  unlock_exchange_kept g = unlock_exchange_cases (GoKeeps s t) t m s
+      (λ unmarked own. gives_up g (going_named g) (going_met g).0 refl own refl ((going_met g).1.1.0 own)
+      (none_from_flag (going_cell g (going_named g)) unmarked))
+      (goes g (going_named g) UnlockKernel (going_met g).0 refl refl (going_met g))
 
   -- what unlock_pi answers to the owner
   answer_owner : (g : Going s t (Unlock m) UnlockKernel) → unlock_answer t m s.words s.kernel ≡ Ok (record {})

@@ -25,11 +25,11 @@ use Rattle.pif_chains.proofs.Waiting.{by_test}
 differs : (a b : ℕ) → (a == b) ≡ false → a ≢ b
 differs a b h e = absurd (grind (arith, nat_tests))
 
--- a bare word has the number from which it is exchanged
-bare_number : (a d : Bool) (n t : ℕ) → is_bare (record { number = n; waiters = a; died = d }) t ≡ true → n ≡ t
-bare_number true d n t h = absurd (true≢false (sym h))
-bare_number false true n t h = absurd (true≢false (sym h))
-bare_number false false n t h = eqb-true n t h
+-- a word that is exchanged has no flag WAITERS, and the number from which it is exchanged
+bare : (a d : Bool) (n t : ℕ) → is_bare (record { number = n; waiters = a; died = d }) t ≡ true → (a ≡ false) × (n ≡ t)
+bare true d n t h = absurd (true≢false (sym h))
+bare false true n t h = absurd (true≢false (sym h))
+bare false false n t h = (refl, eqb-true n t h)
 
 -- WHAT LOCK AND TRYLOCK HAVE IN COMMON
 
@@ -46,16 +46,17 @@ locked_again_cases P t m s rises full =
 
 -- an exchange of a word from a bare number n
 exchanged_cases : (P : Outcome → Type 0) (x w : Word) (n : ℕ) (q : Request) (p : Place) (t m : ℕ) (s : Table)
-    → (w.number ≡ n → P (answers t 0 (with_word m x s))) → P (goes_to t q p s)
+    → (w.waiters ≡ false → w.number ≡ n → P (answers t 0 (with_word m x s))) → P (goes_to t q p s)
     → P (exchanged (if is_bare w n then Some x else None) q p t m s)
 unfolding exchanged
 exchanged_cases P x w n q p t m s done fails =
     by_test (λ b. P (exchanged (if b then Some x else None) q p t m s)) (is_bare w n)
-    (λ e. done (bare_number w.waiters w.died w.number n e)) (λ e. fails)
+    (λ e. let b = bare w.waiters w.died w.number n e in done b.0 b.1) (λ e. fails)
 
 -- compare-exchange from 0 to t
 pub own_exchange_cases : (P : Outcome → Type 0) (q : Request) (p : Place) (t m : ℕ) (s : Table)
-    → ((cell_at s m).word.number ≡ 0 → P (answers t 0 (with_word m (held_by t) s))) → P (goes_to t q p s)
+    → ((cell_at s m).word.waiters ≡ false → (cell_at s m).word.number ≡ 0 → P (answers t 0 (with_word m (held_by t) s)))
+    → P (goes_to t q p s)
     → P (own_exchange q p t m s)
 unfolding own_exchange
 own_exchange_cases P q p t m s = exchanged_cases P (held_by t) (cell_at s m).word 0 q p t m s
@@ -141,7 +142,7 @@ unlock_load_cases P t m s falls once other =
 
 -- compare-exchange from t to 0
 pub unlock_exchange_cases : (P : Outcome → Type 0) (t m : ℕ) (s : Table)
-    → ((cell_at s m).word.number ≡ t → P (answers t 0 (with_word m free_word s)))
+    → ((cell_at s m).word.waiters ≡ false → (cell_at s m).word.number ≡ t → P (answers t 0 (with_word m free_word s)))
     → P (goes_to t (Unlock m) UnlockKernel s)
     → P (unlock_exchange t m s)
 unfolding unlock_exchange
