@@ -131,7 +131,7 @@ set_priority t u p s =
     let r = set_prio_answer u p s.kernel in
     answered_by r t (with_kernel s.words (kernel_after_set_prio u p r s.kernel) s)
 
--- one step of a call at a place of its own; at a place of another, which never comes, EINVAL
+-- one step of a call at a place of its own; at a place of another call, at which no call stands, EINVAL
 unfoldable pub line_of : Request → Place → ℕ → Table → Outcome
 line_of (Lock m) LockLoad t s = lock_load (Lock m) t m s
 line_of (Lock m) LockExchange t s = own_exchange (Lock m) LockKernel t m s

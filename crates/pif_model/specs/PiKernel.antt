@@ -178,7 +178,7 @@ lock_answer t m ws k =
     (if n == 0 then (if state_at k m == 0 then Ok TookOwns else Err Invalid) else wait_answer t n (state_at k m) k))
     else Err Fault
 
--- the words after lock_pi, by its answer: the number, and what there was of OWNER_DIED; or WAITERS besides
+-- the words after lock_pi, by its answer: the number, with OWNER_DIED as it was; or WAITERS besides
 unfoldable pub words_after_lock : ℕ → ℕ → Result Took Errno → Words → Words
 words_after_lock t m (Ok TookOwns) ws = set_word ws m (taken_word t (word_at ws m))
 words_after_lock t m (Ok TookQueued) ws = set_word ws m (mark_word (word_at ws m))
@@ -206,7 +206,7 @@ try_lock_answer t m ws k =
     (if n == 0 then (if state_at k m == 0 then Ok (record {}) else Err Invalid) else Err Again))
     else Err Fault
 
--- the words after trylock_pi, by its answer: the number, and what there was of OWNER_DIED
+-- the words after trylock_pi, by its answer: the number, with OWNER_DIED as it was
 unfoldable pub words_after_try_lock : ℕ → ℕ → Result (record {}) Errno → Words → Words
 words_after_try_lock t m (Ok x) ws = set_word ws m (taken_word t (word_at ws m))
 words_after_try_lock t m (Err e) ws = ws

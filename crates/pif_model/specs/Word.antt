@@ -20,7 +20,7 @@ free_word = record { number = 0; waiters = false; died = false }
 abbrev pub held_by : ℕ → Word
 held_by t = record { number = t; waiters = false; died = false }
 
--- the word of a mutex that t takes in the kernel: its number and what there was of OWNER_DIED
+-- the word of a mutex that t takes in the kernel: its number, with OWNER_DIED as it was
 abbrev pub taken_word : ℕ → Word → Word
 taken_word t w = record { number = t; waiters = false; died = w.died }
 

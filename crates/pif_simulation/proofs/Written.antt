@@ -16,7 +16,7 @@ use Rattle.pif_simulation.proofs.Kept.{Spares}
 use Rattle.pif_simulation.proofs.Hole.{Changes}
 use Rattle.pif_simulation.proofs.Shown.{threads_shown, mutexes_shown, thread_seen, mutex_seen, same_world}
 
--- t's line, m's word and count in place of what there was, and this kernel
+-- t's line, m's word and count, and this kernel, in place of those that were there
 abbrev pub written : ℕ → ℕ → Line → Word → ℕ → Kernel → Table → Table
 written t m l x n k s = record s {
   words = set_word s.words m x;
