@@ -1,43 +1,44 @@
 -- What is kept stays sound where a mutex is handed to its next waiter.
-use Rattle.std.proofs.Common.{◌≡◌, ◌≢◌, ◌⊎◌, ℕ, ◌+◌, ◌<◌, ◌≤◌, ◌==◌, ◌||◌, cond, Bool, true, false, nat_lt, if◌then◌else◌, List, [], ◌∷◌, length, get_or, set, Option, Some, None, IsSome, is_some, option_map, option_and_then, unwrap_or, refl, sym, ap, subst, ◌∙◌, inl, inr, arith, length-set}
+use Rattle.std.proofs.Common.{◌≡◌, ◌≢◌, ◌⊎◌, ℕ, ◌+◌, ◌<◌, ◌≤◌, ◌==◌, cond, Bool, true, false, if◌then◌else◌, List, [], ◌∷◌, length, get_or, set, Option, Some, None, IsSome, is_some, option_map, option_and_then, unwrap_or, refl, sym, ap, subst, ◌∙◌, inl, inr, arith, length-set}
 use Rattle.std.specs.Cmp.{nat_cmp_total}
 use Rattle.std.specs.FinMap.{len-insert}
 use Rattle.std.proofs.lemmas.Bool.{cases_eq, cases_lt, true≢false, false≢true}
 use Rattle.std.proofs.lemmas.Bool.Decides.{nat_tests}
 use Rattle.std.proofs.lemmas.List.{get_or-set_same, get_or-set_other, get_or_past}
-use Rattle.std.proofs.lemmas.List.Folds.{list_any-append}
 use Rattle.pif_nodes.specs.declared.keys.Key.{Key}
 use Rattle.pif_nodes.specs.Table.{Table, holder}
 use Rattle.pif_runq.specs.Levels.{Queue, Holds, IsLevel, level_of, node_for}
 use Rattle.pif_runq.specs.Levels.{joined as queue_joined}
 use Rattle.pif_model.specs.declared.lines.Status.{Status}
-use Rattle.pif_model.specs.declared.lines.Status.TheVariants.{Ready, Queued, Stopped}
+use Rattle.pif_model.specs.declared.lines.Status.TheVariants.{Ready, Queued}
 use Rattle.pif_model.specs.declared.lines.Woken.TheVariants.{Fresh, Owns}
 use Rattle.pif_model.specs.Graph.{has_waiter, without}
-use Rattle.pif_model.specs.Table.{queued_on, is_ready}
-use Rattle.pif_model.specs.PiKernel.{Kernel, effective_in, has_seat, is_among, settled, waits_for, joined, handed_in}
-use Rattle.pif_model.specs.PiKernel.{seat_at as kernel_seat_at, with_status, with_state}
+use Rattle.pif_model.specs.PiKernel.{Kernel, IsKernel, queued_on, is_ready, effective_in, has_seat, is_among, level_at, next_in, settled, waits_for, joined, kernel_after_hand_over}
+use Rattle.pif_model.specs.PiKernel.{seat_at as kernel_seat_at, state_at as kernel_state_at, with_status, with_state}
 use Rattle.pif_rtmutex.specs.Owners.{Owners, Seat, Wait, seat_at, owner_at, count, waits_on, rank_of, no_seat, with_base, with_wait, with_owner, without_state, IsTop, HasNoWaiter}
 use Rattle.pif_rtmutex.specs.Owners.{waits_for as owners_wait_for}
 use Rattle.pif_rtmutex.proofs.MapLemmas.{get-insert_same, get-insert_other, get-remove_other}
+use Rattle.pif_rtmutex.proofs.OwnersLemmas.{some_rank}
 use Rattle.pif_boost.specs.Boosts.{IsRepairedBut, base_of, local_of, greatest_base}
 use Rattle.pif_chains.proofs.Places.{kept_at}
-use Rattle.pif_chains.proofs.Statuses.{ready-queued_on_nothing}
-use Rattle.pif_chains.proofs.Among.{is_among_here, is_among_there, is_among_cons, is_among-without}
+use Rattle.pif_chains.proofs.Among.{is_among_here, is_among_there, is_among_cons}
 use Rattle.pif_chains.proofs.Among.{is_among as is_waiter}
-use Rattle.pif_chains.proofs.Waiting.{names, or_false, Once, once_head, once_tail, without-unnamed, named-from_pair, has_waiter-from_pair, has_waiter-without_other, waited-from_pair}
-use Rattle.pif_chains.proofs.Greatest.{effective_same, reaches_same}
+use Rattle.pif_chains.proofs.Waiting.{names, Once, once_head, once_tail, without-unnamed, named-from_pair, has_waiter-from_pair, has_waiter-without_other, waited-from_pair}
+use Rattle.pif_chains.proofs.Greatest.{effective_same}
 use Rattle.pif_chains.proofs.Handed.{effective_handed, effective_lifted}
-use Rattle.pif_chains.proofs.Cycles.{acyclic_handed}
-use Rattle.pif_kernel.specs.Plain.{Plain, IsSound, Rise, kernel_of, status_at, key_at, state_at, ticket_of, mutexes_of, levels_of}
-use Rattle.pif_kernel.proofs.Seats.{IsFitted, fitted, seats_length, status_seen, waits_seen, waits_below, owners_waits, added_seen, added_back, waiters_seen, states_seen, kernel_by_parts, seats_of-set_status}
-use Rattle.pif_kernel.proofs.Picked.{levels_seen, levels_joined}
-use Rattle.pif_kernel.proofs.Standing.{effective_some, effective_few, unqueued_free}
+use Rattle.pif_chains.proofs.KernelFacts.{queued-from_number}
+use Rattle.pif_chains.proofs.KernelKept.{hand_over_kept}
+use Rattle.pif_chains.proofs.KernelLevels.{level-joined_same, level-joined_other}
+use Rattle.pif_chains.proofs.KernelNumbers.{among-push_other}
+use Rattle.pif_kernel.specs.Plain.{Plain, IsPlaced, IsSound, Rise, kernel_of, status_at, key_at, state_at, ticket_of, mutexes_of}
+use Rattle.pif_kernel.proofs.Seats.{IsFitted, same_seats, seats_length, status_seen, waits_seen, waits_below, owners_waits, added_back, waiters_seen, states_seen, states_length, kernel_by_parts, seats_of-set_status, seats_of-same_base}
+use Rattle.pif_kernel.proofs.Picked.{levels_count, levels_joined, length-joined}
+use Rattle.pif_kernel.proofs.Standing.{fits, effective_some, effective_few, unqueued_free}
 use Rattle.pif_kernel.proofs.ChainLaws.{repaired_but}
 use Rattle.pif_kernel.proofs.QueueLaws.{rise_once}
-use Rattle.pif_kernel.proofs.TopLaws.{waits_under, priority_below}
-use Rattle.pif_rtmutex.proofs.OwnersLemmas.{some_rank}
-use Rattle.pif_kernel.proofs.WalkSound.{IsPlaced, IsWalkable, owners_effective, seats_of-same_base}
+use Rattle.pif_kernel.proofs.Waiters.{ready_idle}
+use Rattle.pif_kernel.proofs.TopLaws.{waits_under, priority_below, top_is_next}
+use Rattle.pif_kernel.proofs.WalkSound.{IsWalkable, owners_effective}
 
 -- THE WAITERS WITHOUT ONE OF THEM
 
@@ -135,7 +136,7 @@ pub record IsHandable (p : Plain) (t m key : ℕ) : Type 0 where
   pub sound : IsSound p
   pub at : key_at p m ≡ Some key
   pub owner : state_at p m ≡ t
-  pub ready : is_ready (status_at p t) ≡ true
+  pub ready : is_ready (kernel_seat_at (kernel_of p) t).status ≡ true
 
 -- what is known once t handed m to u
 pub record IsHanding (old p x : Plain) (t m key u : ℕ) : Type 0 where
@@ -149,12 +150,6 @@ pub record IsHanding (old p x : Plain) (t m key u : ℕ) : Type 0 where
 abbrev pub IsHandedOn : (old p x : Plain) (t m key u : ℕ) → Type 0
 IsHandedOn old p x t m key u = IsHanding old (record x { keys = p.keys; owners = p.owners; arrivals = p.arrivals }) x t m key u
 
--- who is queued on a mutex has that status
-queued_on_some : (x : Status) (n : ℕ) → queued_on x ≡ n → n ≢ 0 → x ≡ Queued n
-queued_on_some (Ready w) n e z = absurd (z (sym e))
-queued_on_some (Queued j) n e z = ap Queued e
-queued_on_some Stopped n e z = absurd (z (sym e))
-
 module _ (p : Plain) (t m key u : ℕ) (d : IsHandable p t m key) (top : IsTop p.owners key u) where
   h : IsSound p
   h = d.sound
@@ -166,7 +161,7 @@ module _ (p : Plain) (t m key u : ℕ) (d : IsHandable p t m key) (top : IsTop p
   rest = without p.arrivals u
 
   fit : IsFitted p
-  fit = fitted p h
+  fit = fits p h
 
   pub among : is_waiter p.arrivals u m ≡ true
   among = waits_under p h u m key at top.waits
@@ -178,17 +173,23 @@ module _ (p : Plain) (t m key u : ℕ) (d : IsHandable p t m key) (top : IsTop p
   status_next = queued_here u among
 
   pub next_some : u ≢ 0
-  next_some z = let none : None ≡ Some key = sym (ap (λ (x : Seat). option_map (λ (w : Wait). w.state) x.wait) (ap (seat_at p.owners) z ∙ h.nobody)) ∙ top.waits in cc
+  next_some z = let none : None ≡ Some key = sym (ap (λ (x : Seat). option_map (λ (w : Wait). w.state) x.wait) (ap (seat_at p.owners) z ∙ h.placed.nobody)) ∙ top.waits in cc
 
   pub next_added : u < length p.statuses
   next_added = by_place (cases_lt u (length p.statuses))
     where
       by_place : ((u < length p.statuses) ⊎ (length p.statuses ≤ u)) → u < length p.statuses
       by_place (inl l) = l
-      by_place (inr g) = let none : None ≡ Some key = sym (ap (λ (x : Seat). option_map (λ (w : Wait). w.state) x.wait) (h.free u g)) ∙ top.waits in cc
+      by_place (inr g) = let none : None ≡ Some key = sym (ap (λ (x : Seat). option_map (λ (w : Wait). w.state) x.wait) (h.placed.free u g)) ∙ top.waits in cc
+
+  pub next : u ≡ next_in (kernel_of p) m
+  next = top_is_next p h m key u at top
+
+  next_known : has_seat (kernel_of p) u ≡ true
+  next_known = added_back p fit u next_some next_added
 
   mutex_some : m ≢ 0
-  mutex_some z = let none : None ≡ Some key = sym h.no_mutex ∙ ap (key_at p) (sym z) ∙ at in cc
+  mutex_some z = let none : None ≡ Some key = sym h.placed.no_mutex ∙ ap (key_at p) (sym z) ∙ at in cc
 
   pub mutex_known : m < length p.keys
   mutex_known = by_place (cases_lt m (length p.keys))
@@ -198,22 +199,22 @@ module _ (p : Plain) (t m key u : ℕ) (d : IsHandable p t m key) (top : IsTop p
       by_place (inr g) = let none : None ≡ Some key = sym (get_or_past p.keys m None g) ∙ at in cc
 
   pub owner_some : t ≢ 0
-  owner_some z = h.owned m key at (d.owner ∙ z)
+  owner_some z = h.placed.owned m key at (d.owner ∙ z)
 
   pub owner_added : t < length p.statuses
-  owner_added = omega (arith, d.owner, h.owners m)
+  owner_added = omega (arith, d.owner, h.placed.owners m)
 
   owner_other : t ≢ u
-  owner_other e = true≢false (sym d.ready ∙ ap (λ (x : ℕ). is_ready (status_at p x)) e ∙ ap is_ready status_next)
+  owner_other e = true≢false (sym d.ready ∙ ap is_ready (status_seen p fit t) ∙ ap (λ (x : ℕ). is_ready (status_at p x)) e ∙ ap is_ready status_next)
 
   pub level_some : 1 ≤ effective_in (kernel_of p) u
-  level_some = effective_some p h u next_some next_added
+  level_some = effective_some p h u next_known
 
   pub level_few : effective_in (kernel_of p) u ≤ 99
   level_few = effective_few p h u
 
   -- the next waiter is on no level
-  next_off : (r : ℕ) → is_among ((kernel_of p).levels r) u ≡ false
+  next_off : (r : ℕ) → is_among (level_at (kernel_of p).levels r) u ≡ false
   next_off r = h.kernel.level u r ∙ rw (status_seen p fit u ∙ status_next) (both_false (has_seat (kernel_of p) u))
     where
       both_false : (b : Bool) → (if b then false else false) ≡ false
@@ -247,7 +248,7 @@ module _ (p : Plain) (t m key u : ℕ) (d : IsHandable p t m key) (top : IsTop p
           true≢false (sym (has_waiter-from_pair rest x m (waiter_kept p.arrivals u x m ne was)) ∙ none)
 
   given_count : count given ≡ count p.owners
-  given_count = len-insert nat_cmp_total p.owners.owners key u ∙ ap (λ (b : Bool). cond b (count p.owners) (count p.owners + 1)) (h.made m key at)
+  given_count = len-insert nat_cmp_total p.owners.owners key u ∙ ap (λ (b : Bool). cond b (count p.owners) (count p.owners + 1)) (h.placed.made m key at)
 
   pub still : has_waiter rest m ≡ true → IsHanded p p.keys given u m key
   still some = record {
@@ -341,7 +342,7 @@ module _ (p : Plain) (t m key u : ℕ) (d : IsHandable p t m key) (top : IsTop p
     here_none e = o.here ∙ rw e refl
 
     alone : (n : ℕ) → n ≢ m → key_at p n ≡ Some key → ⊥
-    alone n ne e = ne (h.apart n m key e at)
+    alone n ne e = ne (h.placed.apart n m key e at)
 
     state_some : has_waiter rest m ≡ true → state_at mid m ≡ u
     state_some e = ap (λ (k : Option ℕ). unwrap_or (option_and_then (owner_at owners) k) 0) (here_some e) ∙ ap (λ (x : Option ℕ). unwrap_or x 0) (o.owned e)
@@ -363,27 +364,20 @@ module _ (p : Plain) (t m key u : ℕ) (d : IsHandable p t m key) (top : IsTop p
         by_key None e = refl
         by_key (Some k) e = ap (λ (x : Option ℕ). unwrap_or x 0) (o.others k (λ z. alone n ne (e ∙ ap Some z)))
 
-    state_mid : (n : ℕ) → state_at mid n ≡ (if n == m then (if has_waiter rest m then u else 0) else state_at p n)
-    state_mid n = by_place (cases_eq n m)
-      where
-        by_place : ((n ≡ m) ⊎ (n ≡ m → ⊥)) → state_at mid n ≡ (if n == m then (if has_waiter rest m then u else 0) else state_at p n)
-        by_place (inl e) = let yes : (n == m) ≡ true = grind (arith, nat_tests) in rw yes (ap (state_at mid) e ∙ state_here)
-        by_place (inr ne) = let no : (n == m) ≡ false = grind (arith, nat_tests) in rw no (state_other n ne)
-
     -- the others that were queued on m still are
     waiter_was : (x n : ℕ) → status_at p x ≡ Queued n → is_waiter p.arrivals x n ≡ true
     waiter_was x n e = subst (λ (ws : List (ℕ × ℕ)). is_waiter ws x n ≡ true) (waiters_seen p) (h.kernel.queued x n (status_seen p fit x ∙ e))
 
     left_one : (x : ℕ) → x ≢ u → queued_on (status_at p x) ≡ m → has_waiter rest m ≡ true
-    left_one x ne e = has_waiter-from_pair rest x m (waiter_kept p.arrivals u x m ne (waiter_was x m (queued_on_some (status_at p x) m e mutex_some)))
+    left_one x ne e = has_waiter-from_pair rest x m (waiter_kept p.arrivals u x m ne (waiter_was x m (queued-from_number (status_at p x) m mutex_some e)))
 
     no_mutex_mid : key_at mid 0 ≡ None
-    no_mutex_mid = o.there 0 (λ e. mutex_some (sym e)) ∙ h.no_mutex
+    no_mutex_mid = o.there 0 (λ e. mutex_some (sym e)) ∙ h.placed.no_mutex
 
     waits_mid : (x : ℕ) → ((x ≡ u) ⊎ (x ≡ u → ⊥)) → waits_on mid.owners x ≡ key_at mid (queued_on (status_at mid x))
     waits_mid x (inl e) = ap (λ (s : Seat). option_map (λ (w : Wait). w.state) s.wait) (same x e) ∙ sym no_mutex_mid ∙ ap (λ (y : Status). key_at mid (queued_on y)) (sym (status_here x e))
     waits_mid x (inr n) =
-        ap (λ (s : Seat). option_map (λ (w : Wait). w.state) s.wait) (other x n) ∙ h.waits x ∙ sym (by_place (cases_eq (queued_on (status_at p x)) m)) ∙ ap (λ (y : Status). key_at mid (queued_on y)) (sym (status_other x n))
+        ap (λ (s : Seat). option_map (λ (w : Wait). w.state) s.wait) (other x n) ∙ h.placed.waits x ∙ sym (by_place (cases_eq (queued_on (status_at p x)) m)) ∙ ap (λ (y : Status). key_at mid (queued_on y)) (sym (status_other x n))
       where
         by_place : ((queued_on (status_at p x) ≡ m) ⊎ (queued_on (status_at p x) ≡ m → ⊥)) → key_at mid (queued_on (status_at p x)) ≡ key_at p (queued_on (status_at p x))
         by_place (inl e) = ap (key_at mid) e ∙ here_some (left_one x n e) ∙ sym at ∙ ap (key_at p) (sym e)
@@ -395,21 +389,18 @@ module _ (p : Plain) (t m key u : ℕ) (d : IsHandable p t m key) (top : IsTop p
         by_test : (b : Bool) → has_waiter rest m ≡ b → state_at mid n < length mid.statuses
         by_test true x = omega (arith, ap (state_at mid) e, state_some x, next_added, many)
         by_test false x = omega (arith, ap (state_at mid) e, state_none x, next_added, many)
-    owners_mid n (inr ne) = omega (arith, state_other n ne, h.owners n, many)
+    owners_mid n (inr ne) = omega (arith, state_other n ne, h.placed.owners n, many)
 
     fit_mid : IsFitted mid
     fit_mid = record {
       few = omega (arith, fit.few, long, many);
-      free = λ x l. other x (λ e. absurd (omega (arith, l, next_added, many))) ∙ h.free x (omega (arith, l, many));
+      free = λ x l. other x (λ e. absurd (omega (arith, l, next_added, many))) ∙ h.placed.free x (omega (arith, l, many));
       waits = λ x. waits_mid x (cases_eq x u);
       owners = λ n. owners_mid n (cases_eq n m);
     }
 
-    seats_mid : length (kernel_of mid).seats ≡ length (kernel_of p).seats
-    seats_mid = seats_length mid fit_mid ∙ many ∙ sym (seats_length p fit)
-
     has_mid : (x : ℕ) → has_seat (kernel_of mid) x ≡ has_seat (kernel_of p) x
-    has_mid x = ap (λ (n : ℕ). if x == 0 then false else nat_lt x n) seats_mid
+    has_mid x = same_seats p mid fit fit_mid many x
 
     -- for whom each waits
     abbrev on : ℕ → Bool
@@ -439,7 +430,7 @@ module _ (p : Plain) (t m key u : ℕ) (d : IsHandable p t m key) (top : IsTop p
         ∙ ap (λ (k : Option ℕ). unwrap_or (option_and_then (owner_at owners) k) 0) no_mutex_mid
 
     idle : waits_for (kernel_of p) t ≡ 0
-    idle = waits_seen p fit t ∙ ap (state_at p) (ready-queued_on_nothing (status_at p t) d.ready) ∙ ap (λ (k : Option ℕ). unwrap_or (option_and_then (owner_at p.owners) k) 0) h.no_mutex
+    idle = waits_seen p fit t ∙ ap (state_at p) (ready_idle p h t d.ready) ∙ ap (λ (k : Option ℕ). unwrap_or (option_and_then (owner_at p.owners) k) 0) h.placed.no_mutex
 
     below : (x : ℕ) → owners_wait_for p.owners x < length p.owners.seats
     below x = omega (arith, owners_waits p fit x, waits_below p fit x, seats_length p fit, fit.few)
@@ -452,7 +443,7 @@ module _ (p : Plain) (t m key u : ℕ) (d : IsHandable p t m key) (top : IsTop p
     highest x e = by_rank (some_rank (seat_at p.owners x).wait key waits)
       where
         waits : waits_on p.owners x ≡ Some key
-        waits = h.waits x ∙ ap (key_at p) (on_is x e) ∙ at
+        waits = h.placed.waits x ∙ ap (key_at p) (on_is x e) ∙ at
 
         by_rank : (r : Key) × (rank_of p.owners x ≡ Some r) → greatest_base p.owners x ≤ greatest_base p.owners u
         by_rank r =
@@ -504,43 +495,24 @@ module _ (p : Plain) (t m key u : ℕ) (d : IsHandable p t m key) (top : IsTop p
         repaired_but high mid.owners t (sym high_long) (λ x y ne nz. ap (λ (n : ℕ). n == y) (high_waits x)) high_base high_local
         (λ x r ne e. ranks x r (cases_eq x u) e ∙ sym (h.local x) ∙ sym (local_same x))
 
-    joins_level : (r : ℕ) → levels_of q tb r ≡ joined u prio (levels_of p.queue p.table) r
-    joins_level r = levels_joined p.queue q p.table tb u prio (omega (arith, rank_is, level_some), omega (arith, rank_is, level_few)) levels r
+    joins_level : (r : ℕ) → level_at (kernel_of mid).levels r ≡ level_at (joined u prio (kernel_of p).levels) r
+    joins_level r = levels_joined p mid u prio (omega (arith, rank_is, level_some), omega (arith, rank_is, level_few)) levels r
 
-    was_off : (x r : ℕ) → x ≡ u → is_among (levels_of p.queue p.table r) x ≡ false
-    was_off x r e = ap (is_among (levels_of p.queue p.table r)) e ∙ sym (ap (λ (f : ℕ → List ℕ). is_among (f r) u) (levels_seen p)) ∙ next_off r
+    -- who is on a level was added: u joins one, and the others stay
+    listed_mid : (x r : ℕ) → ((x ≡ u) ⊎ (x ≡ u → ⊥)) → is_among (level_at (kernel_of mid).levels r) x ≡ true → has_seat (kernel_of mid) x ≡ true
+    listed_mid x r (inl e) y = has_mid x ∙ ap (has_seat (kernel_of p)) e ∙ next_known
+    listed_mid x r (inr n) y = has_mid x ∙ h.placed.listed x r (by_level (cases_eq r prio))
+      where
+        on_new : is_among (level_at (joined u prio (kernel_of p).levels) r) x ≡ true
+        on_new = ap (λ (xs : List ℕ). is_among xs x) (sym (joins_level r)) ∙ y
 
-    among_joined : (x r : ℕ) → is_among (joined u prio (levels_of p.queue p.table) r) x ≡ (is_among (levels_of p.queue p.table r) x || (if r == prio then u == x else false))
-    among_joined x r = by_level (r == prio) refl
-      where
-        by_level : (b : Bool) → (r == prio) ≡ b → is_among (joined u prio (levels_of p.queue p.table) r) x ≡ (is_among (levels_of p.queue p.table r) x || (if r == prio then u == x else false))
-        by_level true e = rw e (list_any-append (λ (y : ℕ). y == x) (levels_of p.queue p.table r) (u ∷ []) ∙ ap (λ (b : Bool). is_among (levels_of p.queue p.table r) x || b) (or_false (u == x)))
-        by_level false e = rw e (sym (or_false (is_among (levels_of p.queue p.table r) x)))
-
-    listed_mid : (x r : ℕ) → ((x ≡ u) ⊎ (x ≡ u → ⊥)) → is_among ((kernel_of mid).levels r) x
-        ≡ (if has_seat (kernel_of mid) x then (if is_ready (kernel_seat_at (kernel_of mid) x).status then effective_in (kernel_of p) x == r else false) else false)
-    listed_mid x r (inl e) =
-        let known : has_seat (kernel_of mid) x ≡ true = has_mid x ∙ ap (has_seat (kernel_of p)) e ∙ added_back p fit u next_some next_added in
-        let here : (u == x) ≡ true = grind (arith, nat_tests) in
-        let value : effective_in (kernel_of p) x ≡ prio = ap (effective_in (kernel_of p)) e ∙ sym rank_is in
-        let flip : (if r == prio then true else false) ≡ (effective_in (kernel_of p) x == r) = ap_flip r (effective_in (kernel_of p) x) value in
-        ap (λ (f : ℕ → List ℕ). is_among (f r) x) (levels_seen mid) ∙ ap (λ (xs : List ℕ). is_among xs x) (joins_level r) ∙ among_joined x r
-        ∙ rw (was_off x r e, here, known, status_seen mid fit_mid x ∙ status_here x e) flip
-      where
-        ap_flip : (r n : ℕ) → n ≡ prio → (if r == prio then true else false) ≡ (n == r)
-        ap_flip r n e = grind (arith, nat_tests)
-    listed_mid x r (inr n) =
-        let there : (u == x) ≡ false = grind (arith, nat_tests) in
-        ap (λ (f : ℕ → List ℕ). is_among (f r) x) (levels_seen mid) ∙ ap (λ (xs : List ℕ). is_among xs x) (joins_level r) ∙ among_joined x r
-        ∙ ap (λ (b : Bool). is_among (levels_of p.queue p.table r) x || (if r == prio then b else false)) there ∙ none (is_among (levels_of p.queue p.table r) x) (r == prio)
-        ∙ sym (ap (λ (f : ℕ → List ℕ). is_among (f r) x) (levels_seen p)) ∙ h.kernel.level x r
-        ∙ sym (rw (has_mid x, status_seen mid fit_mid x ∙ status_other x n ∙ sym (status_seen p fit x)) refl)
-      where
-        none : (a b : Bool) → (a || (if b then false else false)) ≡ a
-        none true true = refl
-        none true false = refl
-        none false true = refl
-        none false false = refl
+        by_level : ((r ≡ prio) ⊎ (r ≡ prio → ⊥)) → is_among (level_at (kernel_of p).levels r) x ≡ true
+        by_level (inl e) =
+            let below : prio < length (kernel_of p).levels = omega (arith, rank_is, level_few, levels_count p) in
+            ap (λ (j : ℕ). is_among (level_at (kernel_of p).levels j) x) e ∙ sym (among-push_other (level_at (kernel_of p).levels prio) u x n)
+            ∙ sym (ap (λ (xs : List ℕ). is_among xs x) (level-joined_same u prio (kernel_of p).levels below))
+            ∙ ap (λ (j : ℕ). is_among (level_at (joined u prio (kernel_of p).levels) j) x) (sym e) ∙ on_new
+        by_level (inr ne) = sym (ap (λ (xs : List ℕ). is_among xs x) (level-joined_other u prio (kernel_of p).levels r ne)) ∙ on_new
 
     -- a key of m is the one that it had, and others wait for m
     kept_some : (a k : ℕ) → a ≡ m → key_at mid a ≡ Some k → has_waiter rest m ≡ true
@@ -557,67 +529,45 @@ module _ (p : Plain) (t m key u : ℕ) (d : IsHandable p t m key) (top : IsTop p
     apart_mid a b k (inl x) (inl y) e f = x ∙ sym y
     apart_mid a b k (inl x) (inr y) e f = absurd (alone b y (sym (o.there b y) ∙ f ∙ ap Some (held a k x e)))
     apart_mid a b k (inr x) (inl y) e f = absurd (alone a x (sym (o.there a x) ∙ e ∙ ap Some (held b k y f)))
-    apart_mid a b k (inr x) (inr y) e f = h.apart a b k (sym (o.there a x) ∙ e) (sym (o.there b y) ∙ f)
+    apart_mid a b k (inr x) (inr y) e f = h.placed.apart a b k (sym (o.there a x) ∙ e) (sym (o.there b y) ∙ f)
 
     made_mid : (a k : ℕ) → ((a ≡ m) ⊎ (a ≡ m → ⊥)) → key_at mid a ≡ Some k → IsSome (owner_at owners k)
     made_mid a k (inl x) e = ap (λ (n : ℕ). is_some (owner_at owners n)) (held a k x e) ∙ ap is_some (o.owned (kept_some a k x e))
     made_mid a k (inr x) e =
         let old : key_at p a ≡ Some k = sym (o.there a x) ∙ e in
-        ap is_some (o.others k (λ z. alone a x (old ∙ ap Some z))) ∙ h.made a k old
+        ap is_some (o.others k (λ z. alone a x (old ∙ ap Some z))) ∙ h.placed.made a k old
 
     owned_mid : (a k : ℕ) → ((a ≡ m) ⊎ (a ≡ m → ⊥)) → key_at mid a ≡ Some k → state_at mid a ≢ 0
     owned_mid a k (inl x) e z = next_some (sym (ap (state_at mid) x ∙ state_some (kept_some a k x e)) ∙ z)
-    owned_mid a k (inr x) e z = h.owned a k (sym (o.there a x) ∙ e) (sym (state_other a x) ∙ z)
+    owned_mid a k (inr x) e z = h.placed.owned a k (sym (o.there a x) ∙ e) (sym (state_other a x) ∙ z)
 
     ticket_other : (x : ℕ) → x ≢ u → ticket_of mid.owners x ≡ ticket_of p.owners x
     ticket_other x n = ap (λ (s : Seat). unwrap_or (option_map (λ (r : Key). r.ticket) (option_map (λ (w : Wait). w.rank) s.wait)) 0) (other x n)
 
     once : Once p.arrivals
-    once = rise_once (ticket_of p.owners) 1 p.arrivals p.next h.tickets
-
-    arrived_mid : (x n : ℕ) → (is_waiter p.arrivals x n ≡ true) × (x ≢ u) → status_at mid x ≡ Queued n
-    arrived_mid x n a = status_other x a.1 ∙ sym (status_seen p fit x) ∙ h.kernel.queue x n (subst (λ (ws : List (ℕ × ℕ)). is_waiter ws x n ≡ true) (sym (waiters_seen p)) a.0)
-
-    queued_mid : (x n : ℕ) → ((x ≡ u) ⊎ (x ≡ u → ⊥)) → status_at mid x ≡ Queued n → is_waiter rest x n ≡ true
-    queued_mid x n (inl e) y = let both : Ready Owns ≡ Queued n = sym (status_here x e) ∙ y in cc
-    queued_mid x n (inr ne) y = waiter_kept p.arrivals u x n ne (waiter_was x n (sym (status_other x ne) ∙ y))
-
-    states_mid : (n : ℕ) → ((n ≡ m) ⊎ (n ≡ m → ⊥)) → (state_at mid n == 0) ≡ (if has_waiter rest n then false else true)
-    states_mid n (inl e) = by_test (has_waiter rest m) refl
-      where
-        by_test : (b : Bool) → has_waiter rest m ≡ b → (state_at mid n == 0) ≡ (if has_waiter rest n then false else true)
-        by_test true x =
-            let value : state_at mid n ≡ u = ap (state_at mid) e ∙ state_some x in
-            let no : (state_at mid n == 0) ≡ false = grind (arith, nat_tests, next_some) in
-            no ∙ sym (rw (ap (has_waiter rest) e ∙ x) refl)
-        by_test false x =
-            let value : state_at mid n ≡ 0 = ap (state_at mid) e ∙ state_none x in
-            let yes : (state_at mid n == 0) ≡ true = grind (arith, nat_tests) in
-            yes ∙ sym (rw (ap (has_waiter rest) e ∙ x) refl)
-    states_mid n (inr ne) =
-        ap (λ (s : ℕ). s == 0) (state_other n ne ∙ sym (states_seen p n)) ∙ h.kernel.states n ∙ ap (λ (ws : List (ℕ × ℕ)). if has_waiter ws n then false else true) (waiters_seen p)
-        ∙ ap (λ (b : Bool). if b then false else true) (sym (has_waiter-without_other p.arrivals u m n once (waited-from_pair p.arrivals u m once among) ne))
+    once = rise_once (ticket_of p.owners) 1 p.arrivals p.next h.placed.tickets
 
     counted_mid : count owners ≡ mutexes_of rest
     counted_mid = by_sum (if has_waiter rest m then 0 else 1) o.counted (mutexes_without p.arrivals u m once among)
       where
         by_sum : (n : ℕ) → count owners + n ≡ count p.owners → mutexes_of rest + n ≡ mutexes_of p.arrivals → count owners ≡ mutexes_of rest
-        by_sum n a b = omega (arith, a, b, h.count)
+        by_sum n a b = omega (arith, a, b, h.placed.count)
 
-    pub placed : IsPlaced mid (effective_in (kernel_of p))
+    pub placed : IsPlaced mid
     placed = record {
-      within = h.within;
-      rows = long ∙ h.rows;
-      keys = o.long ∙ h.keys;
-      some = omega (arith, many, h.some);
-      few = omega (arith, many, h.few);
-      nobody = other 0 (λ e. next_some (sym e)) ∙ h.nobody;
-      admitted = λ x n l. omega (arith, base_same x, h.admitted x n (omega (arith, l, many)));
+      within = h.placed.within;
+      rows = long ∙ h.placed.rows;
+      keys = o.long ∙ h.placed.keys;
+      some = omega (arith, many, h.placed.some);
+      few = omega (arith, many, h.placed.few);
+      nobody = other 0 (λ e. next_some (sym e)) ∙ h.placed.nobody;
+      admitted = λ x n l. omega (arith, base_same x, h.placed.admitted x n (omega (arith, l, many)));
       free = fit_mid.free;
-      most = λ x. omega (arith, base_same x, h.most x);
-      lists = lists ∙ h.lists;
-      queue = place ∙ rw h.queue refl;
+      most = λ x. omega (arith, base_same x, h.placed.most x);
+      lists = lists ∙ h.placed.lists;
+      queue = place ∙ rw h.placed.queue refl;
       holds = holds;
+      listed = λ x r e. listed_mid x r (cases_eq x u) e;
       waits = fit_mid.waits;
       no_mutex = no_mutex_mid;
       apart = λ a b k e f. apart_mid a b k (cases_eq a m) (cases_eq b m) e f;
@@ -625,44 +575,42 @@ module _ (p : Plain) (t m key u : ℕ) (d : IsHandable p t m key) (top : IsTop p
       owned = λ a k e. owned_mid a k (cases_eq a m) e;
       count = counted_mid;
       owners = fit_mid.owners;
-      tickets = rise_without (ticket_of p.owners) (ticket_of mid.owners) 1 p.arrivals u p.next h.tickets ticket_other;
-      listed = record {
-        on = λ x r. listed_mid x r (cases_eq x u);
-        least = λ x e. let a = added_seen p fit x (sym (has_mid x) ∙ e) in effective_some p h x a.0 a.1;
-        most = λ x e. effective_few p h x;
-      };
-      arrived = λ x n e. status_seen mid fit_mid x ∙ arrived_mid x n (is_among-without p.arrivals u x n (subst (λ (ws : List (ℕ × ℕ)). is_waiter ws x n ≡ true) (waiters_seen mid) e));
-      queued = λ x n e. subst (λ (ws : List (ℕ × ℕ)). is_waiter ws x n ≡ true) (sym (waiters_seen mid)) (queued_mid x n (cases_eq x u) (sym (status_seen mid fit_mid x) ∙ e));
-      states = λ n. ap (λ (s : ℕ). s == 0) (states_seen mid n) ∙ states_mid n (cases_eq n m) ∙ ap (λ (ws : List (ℕ × ℕ)). if has_waiter ws n then false else true) (sym (waiters_seen mid));
-      acyclic = λ y some.
-          reaches_same _ _ _ _ _ _ y seats_mid (λ x. refl) refl
-          ∙ acyclic_handed (waits_for (kernel_of p)) (waits_for (kernel_of mid)) u on others moved freed (length (kernel_of p).seats) (waits_below p fit) h.kernel.acyclic y some;
+      tickets = rise_without (ticket_of p.owners) (ticket_of mid.owners) 1 p.arrivals u p.next h.placed.tickets ticket_other;
     }
 
     -- the kernel by itself before the walk
     abbrev over : Kernel
     over = record (with_status u (Ready Owns) (with_state m (if has_waiter rest m then u else 0) (kernel_of p))) { waiters = without (kernel_of p).waiters u }
 
+    -- the owner states before the walk, as the kernel by itself has them
+    state_placed : (n : ℕ) → ((n ≡ m) ⊎ (n ≡ m → ⊥)) → kernel_state_at (kernel_of mid) n ≡ get_or (set (kernel_of p).states m (if has_waiter rest m then u else 0)) n 0
+    state_placed n (inl e) =
+        states_seen mid n ∙ ap (state_at mid) e ∙ state_here ∙ sym (get_or-set_same (kernel_of p).states m (if has_waiter rest m then u else 0) 0 (omega (arith, mutex_known, states_length p)))
+        ∙ ap (λ (j : ℕ). get_or (set (kernel_of p).states m (if has_waiter rest m then u else 0)) j 0) (sym e)
+    state_placed n (inr ne) =
+        states_seen mid n ∙ state_other n ne ∙ sym (states_seen p n) ∙ sym (get_or-set_other (kernel_of p).states m n (if has_waiter rest m then u else 0) 0 ne)
+
     kernel_mid : kernel_of mid ≡ record over { levels = joined u (effective_in (kernel_of p) u) (kernel_of p).levels }
     unfolding kernel_of
     kernel_mid =
-        kernel_by_parts _ _ refl (seats_of-same_base mid.statuses p.owners.seats mid.owners.seats long base_same ∙ seats_of-set_status p.statuses p.owners.seats u (Ready Owns) fit.few)
-        state_mid refl (λ r. joins_level r ∙ ap (λ (n : ℕ). joined u n (levels_of p.queue p.table) r) rank_is)
+        kernel_by_parts (kernel_of mid) _ refl (seats_of-same_base mid.statuses p.owners.seats mid.owners.seats long base_same ∙ seats_of-set_status p.statuses p.owners.seats u (Ready Owns) fit.few)
+        (states_length mid ∙ o.long ∙ sym (states_length p) ∙ sym (length-set (kernel_of p).states m (if has_waiter rest m then u else 0))) (λ n. state_placed n (cases_eq n m)) refl
+        (length-joined p mid u (effective_in (kernel_of p) u)) (λ r. joins_level r ∙ ap (λ (n : ℕ). level_at (joined u n (kernel_of p).levels) r) rank_is)
 
     level_same : effective_in over u ≡ effective_in (kernel_of p) u
     level_same = sym (ap (λ (k : Kernel). effective_in k u) kernel_mid) ∙ effective_kept u (λ e. owner_other (sym e))
 
-    handed_mid : settled (record over { levels = joined u (effective_in over u) (kernel_of p).levels }) ≡ handed_in u m (kernel_of p)
-    unfolding handed_in kernel_of
+    handed_mid : settled (record over { levels = joined u (effective_in over u) (kernel_of p).levels }) ≡ kernel_after_hand_over u m (kernel_of p)
+    unfolding kernel_after_hand_over kernel_of
     handed_mid = refl
 
-    pub walkable : IsWalkable mid t (handed_in u m (kernel_of p))
+    pub walkable : IsWalkable mid t (kernel_after_hand_over u m (kernel_of p))
     walkable = record {
-      at = effective_in (kernel_of p);
       placed = placed;
-      admitted = omega (arith, base_same t, h.admitted t owner_some owner_added);
+      admitted = omega (arith, base_same t, h.placed.admitted t owner_some owner_added);
       repaired = repairs;
       after = ap settled (kernel_mid ∙ ap (λ (n : ℕ). record over { levels = joined u n (kernel_of p).levels }) (sym level_same)) ∙ handed_mid;
+      kept = subst (λ (n : ℕ). IsKernel (kernel_after_hand_over n m (kernel_of p))) (sym next) (hand_over_kept m (kernel_of p) h.kernel (λ z. h.placed.owned m key at (sym (states_seen p m) ∙ z)));
     }
 
 module _ (old p x : Plain) (t m key u : ℕ) (i : IsHanding old p x t m key u) where
@@ -684,6 +632,6 @@ module _ (old p x : Plain) (t m key u : ℕ) (i : IsHanding old p x t m key u) w
   -- what is kept before the walk
   pub before_walk : (level : ℕ) (q : Queue) (tb : Table) → level ≡ (seat_at x.owners u).local → q ≡ record p.queue { mask = q.mask }
       → ((r : ℕ) → IsLevel r → level_of q tb r ≡ queue_joined u level r (level_of p.queue p.table r)) → Holds q tb → length tb.lists ≡ length p.table.lists
-      → IsWalkable (record p { statuses = set p.statuses u (Ready Owns); keys = x.keys; owners = x.owners; queue = q; table = tb; arrivals = x.arrivals }) t (handed_in u m (kernel_of old))
+      → IsWalkable (record p { statuses = set p.statuses u (Ready Owns); keys = x.keys; owners = x.owners; queue = q; table = tb; arrivals = x.arrivals }) t (kernel_after_hand_over u m (kernel_of old))
   before_walk level q tb value place levels holds lists =
       rw (i.rest, ← i.same) (walkable p t m key u i.hands i.top x.keys x.owners level i.handed (value ∙ local_is) q tb place levels holds lists)

@@ -1,5 +1,5 @@
 -- What is kept stays sound where a thread is queued on a mutex.
-use Rattle.std.proofs.Common.{◌≡◌, ◌≢◌, ◌⊎◌, ℕ, ◌+◌, ◌<◌, ◌==◌, Bool, true, false, nat_lt, if◌then◌else◌, List, [], ◌∷◌, ◌++◌, length, get_or, set, Option, Some, None, IsSome, is_some, option_map, option_and_then, unwrap_or, refl, sym, ap, subst, ◌∙◌, inl, inr, arith, length-set}
+use Rattle.std.proofs.Common.{◌≡◌, ◌≢◌, ◌⊎◌, ℕ, ◌+◌, ◌<◌, ◌==◌, true, false, if◌then◌else◌, List, [], ◌∷◌, ◌++◌, length, get_or, set, Option, Some, None, IsSome, is_some, option_map, option_and_then, unwrap_or, refl, sym, ap, subst, ◌∙◌, inl, inr, arith, length-set}
 use Rattle.std.proofs.lemmas.Bool.{cases_eq, true≢false, false≢true}
 use Rattle.std.proofs.lemmas.Bool.Decides.{nat_tests}
 use Rattle.std.proofs.lemmas.List.{get_or-set_same, get_or-set_other}
@@ -8,32 +8,31 @@ use Rattle.pif_nodes.specs.Lists.{without}
 use Rattle.pif_nodes.specs.Table.{Table}
 use Rattle.pif_runq.specs.Levels.{Queue, Holds, IsLevel, level_of}
 use Rattle.pif_model.specs.declared.lines.Status.{Status}
-use Rattle.pif_model.specs.declared.lines.Status.TheVariants.{Ready, Queued, Stopped}
+use Rattle.pif_model.specs.declared.lines.Status.TheVariants.{Ready, Queued}
 use Rattle.pif_model.specs.declared.lines.Woken.TheVariants.{Fresh}
 use Rattle.pif_model.specs.Graph.{reaches_within, has_waiter}
-use Rattle.pif_model.specs.Table.{queued_on, is_ready}
-use Rattle.pif_model.specs.PiKernel.{effective_in, has_seat, is_among, settled, waits_for, left, queued_in}
-use Rattle.pif_model.specs.PiKernel.{seat_at as kernel_seat_at, with_status, with_state}
+use Rattle.pif_model.specs.PiKernel.{queued_on, is_ready, effective_in, has_seat, is_among, is_living, level_at, settled, waits_for, left, kernel_after_queueing}
+use Rattle.pif_model.specs.PiKernel.{seat_at as kernel_seat_at, state_at as kernel_state_at, with_status, with_state}
 use Rattle.pif_rtmutex.specs.Owners.{Owners, Seat, Wait, seat_at, owner_at, count, waits_on, rank_of, no_seat, with_wait, with_owner}
 use Rattle.pif_rtmutex.specs.Owners.{waits_for as owners_wait_for}
 use Rattle.pif_rtmutex.proofs.MapLemmas.{get-insert_same, get-insert_other}
 use Rattle.pif_boost.specs.Boosts.{IsRepairedBut}
-use Rattle.pif_chains.proofs.Statuses.{ready-queued_on_nothing}
-use Rattle.pif_chains.proofs.Waiting.{names, or_true, or_false, has_waiter-push, has_waiter-from_pair}
+use Rattle.pif_chains.proofs.KernelFacts.{queued-from_number}
+use Rattle.pif_chains.proofs.KernelKept.{queueing_kept}
+use Rattle.pif_chains.proofs.KernelLevels.{level-left}
+use Rattle.pif_chains.proofs.KernelNumbers.{among-left_other}
+use Rattle.pif_chains.proofs.Waiting.{has_waiter-from_pair}
 use Rattle.pif_chains.proofs.Places.{kept_at}
-use Rattle.pif_chains.proofs.Among.{is_among_push, is_among_here, is_among_there, is_among_cons}
 use Rattle.pif_chains.proofs.Among.{is_among as is_waiter}
-use Rattle.pif_chains.proofs.Greatest.{reaches_same}
-use Rattle.pif_chains.proofs.Cycles.{still_acyclic}
-use Rattle.pif_kernel.specs.Plain.{Plain, IsSound, Rise, IsOpened, kernel_of, status_at, key_at, state_at, ticket_of, levels_of}
+use Rattle.pif_kernel.specs.Plain.{Plain, IsPlaced, IsSound, Rise, IsOpened, kernel_of, status_at, key_at, state_at, ticket_of}
 use Rattle.pif_kernel.specs.Plain.IsOpened.{found, made}
-use Rattle.pif_kernel.proofs.Seats.{IsFitted, fitted, seats_length, status_seen, waits_seen, waits_below, owners_waits, added_seen, waiters_seen, states_seen, kernel_by_parts, seats_of-set_status}
-use Rattle.pif_kernel.proofs.Picked.{levels_seen, levels_left}
-use Rattle.pif_kernel.proofs.Standing.{effective_some, effective_few}
-use Rattle.pif_kernel.proofs.StopLaws.{left_same, left_other}
+use Rattle.pif_kernel.proofs.Seats.{IsFitted, same_seats, status_seen, waits_seen, owners_waits, added_seen, waiters_seen, states_seen, states_length, kernel_by_parts, seats_of-set_status, seats_of-same_base}
+use Rattle.pif_kernel.proofs.Picked.{levels_left, length-left}
+use Rattle.pif_kernel.proofs.Standing.{fits}
 use Rattle.pif_kernel.proofs.ChainLaws.{repaired_but}
 use Rattle.pif_kernel.proofs.QueueLaws.{rise_push, mutexes_push}
-use Rattle.pif_kernel.proofs.WalkSound.{IsPlaced, IsWalkable, owners_effective, seats_of-same_base}
+use Rattle.pif_kernel.proofs.Waiters.{has_waiter-key, no_key-no_waiter, ready_idle, ready_unnamed}
+use Rattle.pif_kernel.proofs.WalkSound.{IsWalkable, owners_effective}
 
 -- the keys and owner states in which m has an owner state of this owner under this key, and all others are as before
 pub record IsOpen (p : Plain) (keys : List (Option ℕ)) (owners : Owners) (m owner key : ℕ) : Type 0 where
@@ -47,28 +46,6 @@ pub record IsOpen (p : Plain) (keys : List (Option ℕ)) (owners : Owners) (m ow
   pub others : (k : ℕ) → k ≢ key → owner_at owners k ≡ owner_at p.owners k
   pub counted : count owners ≡ (if has_waiter p.arrivals m then count p.owners else count p.owners + 1)
 
--- a mutex has a key exactly where it has a waiter
-pub has_waiter-key : (p : Plain) → IsSound p → (m : ℕ) → state_at p m ≢ 0 → has_waiter p.arrivals m ≡ true
-has_waiter-key p h m some = by_test (has_waiter p.arrivals m) refl
-  where
-    by_test : (b : Bool) → has_waiter p.arrivals m ≡ b → has_waiter p.arrivals m ≡ true
-    by_test true e = e
-    by_test false e =
-        let none : ((kernel_of p).states m == 0) ≡ true = h.kernel.states m ∙ ap (λ (ws : List (ℕ × ℕ)). if has_waiter ws m then false else true) (waiters_seen p) ∙ rw e refl in
-        let zero : (kernel_of p).states m ≡ 0 = grind (arith, nat_tests) in
-        absurd (some (sym (states_seen p m) ∙ zero))
-
-pub no_key-no_waiter : (p : Plain) → IsSound p → (m : ℕ) → state_at p m ≡ 0 → has_waiter p.arrivals m ≡ false
-no_key-no_waiter p h m none = by_test (has_waiter p.arrivals m) refl
-  where
-    by_test : (b : Bool) → has_waiter p.arrivals m ≡ b → has_waiter p.arrivals m ≡ false
-    by_test false e = e
-    by_test true e =
-        let some : ((kernel_of p).states m == 0) ≡ false = h.kernel.states m ∙ ap (λ (ws : List (ℕ × ℕ)). if has_waiter ws m then false else true) (waiters_seen p) ∙ rw e refl in
-        let zero : (kernel_of p).states m ≡ 0 = states_seen p m ∙ none in
-        let yes : ((kernel_of p).states m == 0) ≡ true = grind (arith, nat_tests) in
-        absurd (true≢false (sym yes ∙ some))
-
 some_owner : (o : Option ℕ) (n : ℕ) → unwrap_or o 0 ≡ n → n ≢ 0 → o ≡ Some n
 some_owner None n e z = absurd (z (sym e))
 some_owner (Some x) n e z = ap Some e
@@ -76,7 +53,7 @@ some_owner (Some x) n e z = ap Some e
 pub opened : (p now : Plain) (m owner key : ℕ) → IsSound p → m < length p.keys → (state_at p m ≢ 0 → state_at p m ≡ owner) → IsOpened p now m owner key
     → (now ≡ record p { keys = now.keys; owners = now.owners }) × IsOpen p now.keys now.owners m owner key
 opened p now m owner key h l state (found e same) =
-    let some : state_at p m ≢ 0 = h.owned m key e in
+    let some : state_at p m ≢ 0 = h.placed.owned m key e in
     let is : unwrap_or (owner_at p.owners key) 0 ≡ owner = sym (ap (λ (o : Option ℕ). unwrap_or (option_and_then (owner_at p.owners) o) 0) e) ∙ state some in (
       same ∙ sym (ap (λ (x : Plain). record p { keys = x.keys; owners = x.owners }) same),
       subst (λ (x : Plain). IsOpen p x.keys x.owners m owner key) (sym same) (record {
@@ -84,7 +61,7 @@ opened p now m owner key h l state (found e same) =
         long = refl;
         here = e;
         there = λ n ne. refl;
-        alone = λ n x. h.apart n m key x e;
+        alone = λ n x. h.placed.apart n m key x e;
         kept = λ k x. let both : Some k ≡ Some key = sym x ∙ e in cc;
         owned = some_owner (owner_at p.owners key) owner is (λ z. some (state some ∙ z));
         others = λ k ne. refl;
@@ -99,7 +76,7 @@ opened p now m owner key h l state (made e fresh same more) =
         long = length-set p.keys m (Some key);
         here = get_or-set_same p.keys m (Some key) None l;
         there = λ n ne. get_or-set_other p.keys m n (Some key) None ne;
-        alone = λ n x. absurd (false≢true (sym (ap is_some fresh) ∙ h.made n key x));
+        alone = λ n x. absurd (false≢true (sym (ap is_some fresh) ∙ h.placed.made n key x));
         kept = λ k x. let both : Some k ≡ None = sym x ∙ e in cc;
         owned = get-insert_same p.owners.owners key owner key refl;
         others = λ k ne. get-insert_other p.owners.owners key owner k ne;
@@ -115,32 +92,9 @@ opened_made p₀ p v m owner key g e at none fresh is more =
     (subst (λ (n : ℕ). IsOpened p (record p { keys = set p.keys n (Some key); owners = v }) m owner key) (sym at)
     (made none fresh (ap (λ (o : Owners). record p { keys = set p.keys m (Some key); owners = o }) is) more))
 
--- who is named waits for some mutex
-pub names_pair : (ws : List (ℕ × ℕ)) (t : ℕ) → names t ws ≡ true → (n : ℕ) × (is_waiter ws t n ≡ true)
-names_pair [] t e = absurd (false≢true e)
-names_pair (w ∷ ws) t e = by_head (cases_eq w.0 t) e (names_pair ws t)
-  where
-    by_head : ((w.0 ≡ t) ⊎ (w.0 ≡ t → ⊥)) → names t (w ∷ ws) ≡ true → (names t ws ≡ true → (n : ℕ) × (is_waiter ws t n ≡ true)) → (n : ℕ) × (is_waiter (w ∷ ws) t n ≡ true)
-    by_head (inl same) e ih = (w.1, is_among_here w ws t w.1 same refl)
-    by_head (inr other) e ih =
-        let apart : (w.0 == t) ≡ false = grind (arith, nat_tests) in
-        let r = ih (rw apart at e) in (r.0, is_among_there w ws t r.0 r.1)
-
-waiter_last : (ws : List (ℕ × ℕ)) (t m : ℕ) → is_waiter (ws ++ (t, m) ∷ []) t m ≡ true
-waiter_last [] t m = is_among_here (t, m) [] t m refl refl
-waiter_last (w ∷ ws) t m = is_among_there w (ws ++ (t, m) ∷ []) t m (waiter_last ws t m)
-
-waiter_before : (ws xs : List (ℕ × ℕ)) (u n : ℕ) → is_waiter ws u n ≡ true → is_waiter (ws ++ xs) u n ≡ true
-waiter_before [] xs u n e = absurd (false≢true e)
-waiter_before (w ∷ ws) xs u n e = by_place (is_among_cons w ws u n e) (waiter_before ws xs u n)
-  where
-    by_place : ((w.0 ≡ u) × (w.1 ≡ n)) ⊎ (is_waiter ws u n ≡ true) → (is_waiter ws u n ≡ true → is_waiter (ws ++ xs) u n ≡ true) → is_waiter ((w ∷ ws) ++ xs) u n ≡ true
-    by_place (inl a) ih = is_among_here w (ws ++ xs) u n a.0 a.1
-    by_place (inr r) ih = is_among_there w (ws ++ xs) u n (ih r)
-
 module _ (p : Plain) (keys : List (Option ℕ)) (owners : Owners) (t m owner key prio ticket next : ℕ) (h : IsSound p) (o : IsOpen p keys owners m owner key)
-    (nonzero : t ≢ 0) (added : t < length p.statuses) (ready : is_ready (status_at p t) ≡ true) (some : m ≢ 0) (mutex : m < length p.keys)
-    (owner_some : owner ≢ 0) (owner_added : owner < length p.statuses) (state : state_at p m ≢ 0 → state_at p m ≡ owner)
+    (known : has_seat (kernel_of p) t ≡ true) (ready : is_ready (kernel_seat_at (kernel_of p) t).status ≡ true) (some : m ≢ 0) (mutex : m < 1025)
+    (living : is_living (kernel_of p) owner ≡ true) (state : state_at p m ≢ 0 → state_at p m ≡ owner)
     (unreached : reaches_within (length (kernel_of p).seats) (waits_for (kernel_of p)) owner t ≡ false)
     (rank_is : prio ≡ effective_in (kernel_of p) t) (rises : Rise (ticket_of p.owners) 1 p.arrivals ticket) (later : ticket < next)
     (q : Queue) (tb : Table) (place : q ≡ record p.queue { mask = q.mask }) (levels : (r : ℕ) → IsLevel r → level_of q tb r ≡ without t (level_of p.queue p.table r)) (holds : Holds q tb) (lists : length tb.lists ≡ length p.table.lists) where
@@ -152,7 +106,19 @@ module _ (p : Plain) (keys : List (Option ℕ)) (owners : Owners) (t m owner key
   mid = record p { statuses = set p.statuses t (Queued m); keys = keys; owners = with_wait t wait owners; queue = q; table = tb; arrivals = p.arrivals ++ (t, m) ∷ []; next = next }
 
   fit : IsFitted p
-  fit = fitted p h
+  fit = fits p h
+
+  nonzero : t ≢ 0
+  nonzero = (added_seen p fit t known).0
+
+  added : t < length p.statuses
+  added = (added_seen p fit t known).1
+
+  owner_some : owner ≢ 0
+  owner_some = (added_seen p fit owner living).0
+
+  owner_added : owner < length p.statuses
+  owner_added = (added_seen p fit owner living).1
 
   abbrev row : Seat
   row = record (seat_at owners t) { wait = wait }
@@ -187,19 +153,6 @@ module _ (p : Plain) (keys : List (Option ℕ)) (owners : Owners) (t m owner key
   status_here : (u : ℕ) → u ≡ t → status_at mid u ≡ Queued m
   status_here u e = ap (λ (v : ℕ). status_at mid v) e ∙ get_or-set_same p.statuses t (Queued m) (Ready Fresh) added
 
-  -- t waited for nothing, and no waiter is t
-  free : waits_on p.owners t ≡ None
-  free = h.waits t ∙ ap (key_at p) (ready-queued_on_nothing (status_at p t) ready) ∙ h.no_mutex
-
-  not_queued : (n : ℕ) → status_at p t ≡ Queued n → ⊥
-  not_queued n e = true≢false (sym ready ∙ ap is_ready e)
-
-  -- the status of a waiter
-  queued_on_some : (x : Status) (n : ℕ) → queued_on x ≡ n → n ≢ 0 → x ≡ Queued n
-  queued_on_some (Ready w) n e z = absurd (z (sym e))
-  queued_on_some (Queued j) n e z = ap Queued e
-  queued_on_some Stopped n e z = absurd (z (sym e))
-
   -- the owner in the owner state of a mutex
   state_mid : (n : ℕ) → state_at mid n ≡ (if n == m then owner else state_at p n)
   state_mid n = by_place (cases_eq n m)
@@ -222,10 +175,17 @@ module _ (p : Plain) (keys : List (Option ℕ)) (owners : Owners) (t m owner key
   state_other : (n : ℕ) → n ≢ m → state_at mid n ≡ state_at p n
   state_other n ne = let no : (n == m) ≡ false = grind (arith, nat_tests) in state_mid n ∙ rw no refl
 
+  -- the same as in the kernel by itself
+  state_placed : (n : ℕ) → ((n ≡ m) ⊎ (n ≡ m → ⊥)) → kernel_state_at (kernel_of mid) n ≡ get_or (set (kernel_of p).states m owner) n 0
+  state_placed n (inl e) =
+      states_seen mid n ∙ ap (state_at mid) e ∙ state_here ∙ sym (get_or-set_same (kernel_of p).states m owner 0 (omega (arith, mutex, states_length p, h.placed.keys)))
+      ∙ ap (λ (j : ℕ). get_or (set (kernel_of p).states m owner) j 0) (sym e)
+  state_placed n (inr ne) = states_seen mid n ∙ state_other n ne ∙ sym (states_seen p n) ∙ sym (get_or-set_other (kernel_of p).states m n owner 0 ne)
+
   -- where a thread is queued on m, there was an owner state
   waited : (u : ℕ) → queued_on (status_at p u) ≡ m → state_at p m ≢ 0
   waited u e z =
-      let status : (kernel_seat_at (kernel_of p) u).status ≡ Queued m = status_seen p fit u ∙ queued_on_some (status_at p u) m e some in
+      let status : (kernel_seat_at (kernel_of p) u).status ≡ Queued m = status_seen p fit u ∙ queued-from_number (status_at p u) m some e in
       let among : is_waiter p.arrivals u m ≡ true = subst (λ (ws : List (ℕ × ℕ)). is_waiter ws u m ≡ true) (waiters_seen p) (h.kernel.queued u m status) in
       true≢false (sym (has_waiter-from_pair p.arrivals u m among) ∙ no_key-no_waiter p h m z)
 
@@ -244,25 +204,22 @@ module _ (p : Plain) (keys : List (Option ℕ)) (owners : Owners) (t m owner key
   waits_mid u (inl e) =
       ap (λ (x : Seat). option_map (λ (w : Wait). w.state) x.wait) (same u e) ∙ sym o.here ∙ ap (λ (x : Status). key_at mid (queued_on x)) (sym (status_here u e))
   waits_mid u (inr n) =
-      ap (λ (x : Seat). option_map (λ (w : Wait). w.state) x.wait) (other u n) ∙ h.waits u ∙ sym (key_kept u) ∙ ap (λ (x : Status). key_at mid (queued_on x)) (sym (status_other u n))
+      ap (λ (x : Seat). option_map (λ (w : Wait). w.state) x.wait) (other u n) ∙ h.placed.waits u ∙ sym (key_kept u) ∙ ap (λ (x : Status). key_at mid (queued_on x)) (sym (status_other u n))
 
   owners_mid : (n : ℕ) → ((n ≡ m) ⊎ (n ≡ m → ⊥)) → state_at mid n < length mid.statuses
   owners_mid n (inl e) = omega (arith, ap (state_at mid) e, state_here, owner_added, many)
-  owners_mid n (inr ne) = omega (arith, state_other n ne, h.owners n, many)
+  owners_mid n (inr ne) = omega (arith, state_other n ne, h.placed.owners n, many)
 
   fit_mid : IsFitted mid
   fit_mid = record {
     few = omega (arith, fit.few, long, many);
-    free = λ u l. other u (λ e. absurd (omega (arith, l, added, many))) ∙ h.free u (omega (arith, l, many));
+    free = λ u l. other u (λ e. absurd (omega (arith, l, added, many))) ∙ h.placed.free u (omega (arith, l, many));
     waits = λ u. waits_mid u (cases_eq u t);
     owners = λ n. owners_mid n (cases_eq n m);
   }
 
-  seats_mid : length (kernel_of mid).seats ≡ length (kernel_of p).seats
-  seats_mid = seats_length mid fit_mid ∙ many ∙ sym (seats_length p fit)
-
   has_mid : (u : ℕ) → has_seat (kernel_of mid) u ≡ has_seat (kernel_of p) u
-  has_mid u = ap (λ (n : ℕ). if u == 0 then false else nat_lt u n) seats_mid
+  has_mid u = same_seats p mid fit fit_mid many u
 
   -- t waits for the owner now, and all others for whom they did
   waits_new : (u : ℕ) → u ≡ t → waits_for (kernel_of mid) u ≡ owner
@@ -276,69 +233,20 @@ module _ (p : Plain) (keys : List (Option ℕ)) (owners : Owners) (t m owner key
       by_place (inr ne) = state_other (queued_on (status_at p u)) ne
 
   waits_none : waits_for (kernel_of p) t ≡ 0
-  waits_none = waits_seen p fit t ∙ ap (state_at p) (ready-queued_on_nothing (status_at p t) ready) ∙ ap (λ (k : Option ℕ). unwrap_or (option_and_then (owner_at p.owners) k) 0) h.no_mutex
+  waits_none = waits_seen p fit t ∙ ap (state_at p) (ready_idle p h t ready) ∙ ap (λ (k : Option ℕ). unwrap_or (option_and_then (owner_at p.owners) k) 0) h.placed.no_mutex
 
-  waiters_mid : (kernel_of mid).waiters ≡ p.arrivals ++ (t, m) ∷ []
-  waiters_mid = waiters_seen mid
-
-  unnamed : names t p.arrivals ≡ false
-  unnamed = by_test (names t p.arrivals) refl
-    where
-      by_test : (b : Bool) → names t p.arrivals ≡ b → names t p.arrivals ≡ false
-      by_test false e = e
-      by_test true e =
-          let r = names_pair p.arrivals t e in
-          absurd (not_queued r.0 (sym (status_seen p fit t) ∙ h.kernel.queue t r.0 (subst (λ (ws : List (ℕ × ℕ)). is_waiter ws t r.0 ≡ true) (sym (waiters_seen p)) r.1)))
-
-  arrived_mid : (u n : ℕ) → (is_waiter p.arrivals u n ≡ true) ⊎ ((t ≡ u) × (m ≡ n)) → ((u ≡ t) ⊎ (u ≡ t → ⊥)) → status_at mid u ≡ Queued n
-  arrived_mid u n (inr a) c = status_here u (sym a.0) ∙ ap Queued a.1
-  arrived_mid u n (inl r) c = by_place c (sym (status_seen p fit u) ∙ h.kernel.queue u n (subst (λ (ws : List (ℕ × ℕ)). is_waiter ws u n ≡ true) (sym (waiters_seen p)) r))
-    where
-      by_place : ((u ≡ t) ⊎ (u ≡ t → ⊥)) → status_at p u ≡ Queued n → status_at mid u ≡ Queued n
-      by_place (inl e) x = absurd (not_queued n (ap (status_at p) (sym e) ∙ x))
-      by_place (inr ne) x = status_other u ne ∙ x
-
-  queued_mid : (u n : ℕ) → ((u ≡ t) ⊎ (u ≡ t → ⊥)) → status_at mid u ≡ Queued n → is_waiter (p.arrivals ++ (t, m) ∷ []) u n ≡ true
-  queued_mid u n (inl e) x =
-      let both : Queued m ≡ Queued n = sym (status_here u e) ∙ x in
-      let at : m ≡ n = cc in
-      subst (λ (j : ℕ). is_waiter (p.arrivals ++ (t, m) ∷ []) u j ≡ true) at (subst (λ (v : ℕ). is_waiter (p.arrivals ++ (t, m) ∷ []) v m ≡ true) (sym e) (waiter_last p.arrivals t m))
-  queued_mid u n (inr ne) x =
-      waiter_before p.arrivals ((t, m) ∷ []) u n
-      (subst (λ (ws : List (ℕ × ℕ)). is_waiter ws u n ≡ true) (waiters_seen p) (h.kernel.queued u n (status_seen p fit u ∙ sym (status_other u ne) ∙ x)))
-
-  states_mid : (n : ℕ) → ((n ≡ m) ⊎ (n ≡ m → ⊥)) → (state_at mid n == 0) ≡ (if has_waiter (p.arrivals ++ (t, m) ∷ []) n then false else true)
-  states_mid n (inl e) =
-      let value : state_at mid n ≡ owner = ap (state_at mid) e ∙ state_here in
-      let no : (state_at mid n == 0) ≡ false = grind (arith, nat_tests) in
-      let yes : (m == n) ≡ true = grind (arith, nat_tests) in
-      let has : has_waiter (p.arrivals ++ (t, m) ∷ []) n ≡ true = has_waiter-push p.arrivals t m n ∙ rw yes (or_true (has_waiter p.arrivals n)) in
-      no ∙ sym (rw has refl)
-  states_mid n (inr ne) =
-      let no : (m == n) ≡ false = grind (arith, nat_tests) in
-      ap (λ (s : ℕ). s == 0) (state_other n ne ∙ sym (states_seen p n)) ∙ h.kernel.states n ∙ ap (λ (ws : List (ℕ × ℕ)). if has_waiter ws n then false else true) (waiters_seen p)
-      ∙ ap (λ (b : Bool). if b then false else true) (sym (has_waiter-push p.arrivals t m n ∙ rw no (or_false (has_waiter p.arrivals n))))
-
-  listed_mid : (u r : ℕ) → ((u ≡ t) ⊎ (u ≡ t → ⊥)) → is_among ((kernel_of mid).levels r) u
-      ≡ (if has_seat (kernel_of mid) u then (if is_ready (kernel_seat_at (kernel_of mid) u).status then effective_in (kernel_of p) u == r else false) else false)
-  listed_mid u r (inl e) =
-      ap (λ (f : ℕ → List ℕ). is_among (f r) u) (levels_seen mid) ∙ ap (λ (xs : List ℕ). is_among xs u) (levels_left p.queue q p.table tb t levels r) ∙ ap (λ (v : ℕ). is_among (left v (levels_of p.queue p.table) r) u) (sym e)
-      ∙ left_same (levels_of p.queue p.table r) u
-      ∙ sym (ap (λ (x : Status). if has_seat (kernel_of mid) u then (if is_ready x then effective_in (kernel_of p) u == r else false) else false) (status_seen mid fit_mid u ∙ status_here u e) ∙ both_false (has_seat (kernel_of mid) u))
-    where
-      both_false : (b : Bool) → (if b then false else false) ≡ false
-      both_false true = refl
-      both_false false = refl
-  listed_mid u r (inr n) =
-      ap (λ (f : ℕ → List ℕ). is_among (f r) u) (levels_seen mid) ∙ ap (λ (xs : List ℕ). is_among xs u) (levels_left p.queue q p.table tb t levels r) ∙ left_other (levels_of p.queue p.table r) t u n
-      ∙ sym (ap (λ (f : ℕ → List ℕ). is_among (f r) u) (levels_seen p)) ∙ h.kernel.level u r
-      ∙ sym (rw (has_mid u, status_seen mid fit_mid u ∙ status_other u n ∙ sym (status_seen p fit u)) refl)
+  -- who is on a level was added: t left its own, and the others stay
+  listed_mid : (u r : ℕ) → ((u ≡ t) ⊎ (u ≡ t → ⊥)) → is_among (level_at (kernel_of mid).levels r) u ≡ true → has_seat (kernel_of mid) u ≡ true
+  listed_mid u r (inl e) x = has_mid u ∙ ap (has_seat (kernel_of p)) e ∙ known
+  listed_mid u r (inr n) x =
+      has_mid u ∙ h.placed.listed u r
+      (sym (ap (λ (xs : List ℕ). is_among xs u) (levels_left p mid t levels r ∙ level-left t (kernel_of p).levels r) ∙ among-left_other (level_at (kernel_of p).levels r) t u n) ∙ x)
 
   apart_mid : (a b k : ℕ) → ((a ≡ m) ⊎ (a ≡ m → ⊥)) → ((b ≡ m) ⊎ (b ≡ m → ⊥)) → key_at mid a ≡ Some k → key_at mid b ≡ Some k → a ≡ b
   apart_mid a b k (inl x) (inl y) e f = x ∙ sym y
   apart_mid a b k (inl x) (inr y) e f = absurd (y (o.alone b (sym (o.there b y) ∙ f ∙ sym e ∙ ap (λ (n : ℕ). get_or keys n None) x ∙ o.here)))
   apart_mid a b k (inr x) (inl y) e f = absurd (x (o.alone a (sym (o.there a x) ∙ e ∙ sym f ∙ ap (λ (n : ℕ). get_or keys n None) y ∙ o.here)))
-  apart_mid a b k (inr x) (inr y) e f = h.apart a b k (sym (o.there a x) ∙ e) (sym (o.there b y) ∙ f)
+  apart_mid a b k (inr x) (inr y) e f = h.placed.apart a b k (sym (o.there a x) ∙ e) (sym (o.there b y) ∙ f)
 
   made_mid : (a k : ℕ) → ((a ≡ m) ⊎ (a ≡ m → ⊥)) → key_at mid a ≡ Some k → IsSome (owner_at owners k)
   made_mid a k (inl x) e =
@@ -347,11 +255,11 @@ module _ (p : Plain) (keys : List (Option ℕ)) (owners : Owners) (t m owner key
       ap (λ (n : ℕ). is_some (owner_at owners n)) at ∙ ap is_some o.owned
   made_mid a k (inr x) e =
       let was : key_at p a ≡ Some k = sym (o.there a x) ∙ e in
-      ap is_some (o.others k (λ z. x (o.alone a (was ∙ ap Some z)))) ∙ h.made a k was
+      ap is_some (o.others k (λ z. x (o.alone a (was ∙ ap Some z)))) ∙ h.placed.made a k was
 
   owned_mid : (a k : ℕ) → ((a ≡ m) ⊎ (a ≡ m → ⊥)) → key_at mid a ≡ Some k → state_at mid a ≢ 0
   owned_mid a k (inl x) e z = owner_some (sym (ap (state_at mid) x ∙ state_here) ∙ z)
-  owned_mid a k (inr x) e z = h.owned a k (sym (o.there a x) ∙ e) (sym (state_other a x) ∙ z)
+  owned_mid a k (inr x) e z = h.placed.owned a k (sym (o.there a x) ∙ e) (sym (state_other a x) ∙ z)
 
   ticket_other : (u : ℕ) → u ≢ t → ticket_of mid.owners u ≡ ticket_of p.owners u
   ticket_other u n = ap (λ (x : Seat). unwrap_or (option_map (λ (r : Key). r.ticket) (option_map (λ (w : Wait). w.rank) x.wait)) 0) (other u n)
@@ -359,40 +267,29 @@ module _ (p : Plain) (keys : List (Option ℕ)) (owners : Owners) (t m owner key
   ticket_here : ticket_of mid.owners t ≡ ticket
   ticket_here = ap (λ (x : Seat). unwrap_or (option_map (λ (r : Key). r.ticket) (option_map (λ (w : Wait). w.rank) x.wait)) 0) (same t refl)
 
-  pub placed : IsPlaced mid (effective_in (kernel_of p))
+  pub placed : IsPlaced mid
   placed = record {
-    within = h.within;
-    rows = long ∙ h.rows;
-    keys = o.long ∙ h.keys;
-    some = omega (arith, many, h.some);
-    few = omega (arith, many, h.few);
-    nobody = other 0 (λ e. nonzero (sym e)) ∙ h.nobody;
-    admitted = λ u n l. omega (arith, base_same u, h.admitted u n (omega (arith, l, many)));
+    within = h.placed.within;
+    rows = long ∙ h.placed.rows;
+    keys = o.long ∙ h.placed.keys;
+    some = omega (arith, many, h.placed.some);
+    few = omega (arith, many, h.placed.few);
+    nobody = other 0 (λ e. nonzero (sym e)) ∙ h.placed.nobody;
+    admitted = λ u n l. omega (arith, base_same u, h.placed.admitted u n (omega (arith, l, many)));
     free = fit_mid.free;
-    most = λ u. omega (arith, base_same u, h.most u);
-    lists = lists ∙ h.lists;
-    queue = place ∙ rw h.queue refl;
+    most = λ u. omega (arith, base_same u, h.placed.most u);
+    lists = lists ∙ h.placed.lists;
+    queue = place ∙ rw h.placed.queue refl;
     holds = holds;
+    listed = λ u r e. listed_mid u r (cases_eq u t) e;
     waits = fit_mid.waits;
-    no_mutex = o.there 0 (λ e. some (sym e)) ∙ h.no_mutex;
+    no_mutex = o.there 0 (λ e. some (sym e)) ∙ h.placed.no_mutex;
     apart = λ a b k e f. apart_mid a b k (cases_eq a m) (cases_eq b m) e f;
     made = λ a k e. made_mid a k (cases_eq a m) e;
     owned = λ a k e. owned_mid a k (cases_eq a m) e;
-    count = o.counted ∙ ap (λ (n : ℕ). if has_waiter p.arrivals m then n else n + 1) h.count ∙ sym (mutexes_push p.arrivals t m);
+    count = o.counted ∙ ap (λ (n : ℕ). if has_waiter p.arrivals m then n else n + 1) h.placed.count ∙ sym (mutexes_push p.arrivals t m);
     owners = fit_mid.owners;
-    tickets = rise_push (ticket_of p.owners) (ticket_of mid.owners) 1 p.arrivals ticket t m next rises unnamed ticket_other ticket_here later;
-    listed = record {
-      on = λ u r. listed_mid u r (cases_eq u t);
-      least = λ u e. let a = added_seen p fit u (sym (has_mid u) ∙ e) in effective_some p h u a.0 a.1;
-      most = λ u e. effective_few p h u;
-    };
-    arrived = λ u n e. status_seen mid fit_mid u ∙ arrived_mid u n (is_among_push p.arrivals t m u n (subst (λ (ws : List (ℕ × ℕ)). is_waiter ws u n ≡ true) waiters_mid e)) (cases_eq u t);
-    queued = λ u n e. subst (λ (ws : List (ℕ × ℕ)). is_waiter ws u n ≡ true) (sym waiters_mid) (queued_mid u n (cases_eq u t) (sym (status_seen mid fit_mid u) ∙ e));
-    states = λ n. ap (λ (s : ℕ). s == 0) (states_seen mid n) ∙ states_mid n (cases_eq n m) ∙ ap (λ (ws : List (ℕ × ℕ)). if has_waiter ws n then false else true) (sym waiters_mid);
-    acyclic = λ y some.
-        reaches_same _ _ _ _ _ _ y seats_mid (λ x. refl) refl
-        ∙ still_acyclic (waits_for (kernel_of p)) (waits_for (kernel_of mid)) t owner waits_other (waits_new t refl) (length (kernel_of p).seats) (waits_below p fit)
-        (omega (arith, owner_added, seats_length p fit)) unreached h.kernel.acyclic y some;
+    tickets = rise_push (ticket_of p.owners) (ticket_of mid.owners) 1 p.arrivals ticket t m next rises (ready_unnamed p h t ready) ticket_other ticket_here later;
   }
 
   waiting : (x u : ℕ) → u ≢ owner → u ≢ 0 → ((x ≡ t) ⊎ (x ≡ t → ⊥)) → (owners_wait_for p.owners x == u) ≡ (owners_wait_for mid.owners x == u)
@@ -420,18 +317,22 @@ module _ (p : Plain) (keys : List (Option ℕ)) (owners : Owners) (t m owner key
   kernel_mid : kernel_of mid ≡ record (with_status t (Queued m) (with_state m owner (kernel_of p))) { waiters = (kernel_of p).waiters ++ (t, m) ∷ []; levels = left t (kernel_of p).levels }
   unfolding kernel_of
   kernel_mid =
-      kernel_by_parts _ _ refl (seats_of-same_base mid.statuses p.owners.seats mid.owners.seats long base_same ∙ seats_of-set_status p.statuses p.owners.seats t (Queued m) fit.few)
-      state_mid refl (levels_left p.queue q p.table tb t levels)
+      kernel_by_parts (kernel_of mid) _ refl (seats_of-same_base mid.statuses p.owners.seats mid.owners.seats long base_same ∙ seats_of-set_status p.statuses p.owners.seats t (Queued m) fit.few)
+      (states_length mid ∙ o.long ∙ sym (states_length p) ∙ sym (length-set (kernel_of p).states m owner)) (λ n. state_placed n (cases_eq n m)) refl
+      (length-left p mid t) (levels_left p mid t levels)
 
-  settled_mid : settled (kernel_of mid) ≡ queued_in t m owner (kernel_of p)
-  unfolding queued_in
+  settled_mid : settled (kernel_of mid) ≡ kernel_after_queueing t m owner (kernel_of p)
+  unfolding kernel_after_queueing
   settled_mid = ap settled kernel_mid
 
-  pub walkable : IsWalkable mid owner (queued_in t m owner (kernel_of p))
+  kernel_state : kernel_state_at (kernel_of p) m ≢ 0 → kernel_state_at (kernel_of p) m ≡ owner
+  kernel_state n = states_seen p m ∙ state (λ z. n (states_seen p m ∙ z))
+
+  pub walkable : IsWalkable mid owner (kernel_after_queueing t m owner (kernel_of p))
   walkable = record {
-    at = effective_in (kernel_of p);
     placed = placed;
-    admitted = omega (arith, base_same owner, h.admitted owner owner_some owner_added);
+    admitted = omega (arith, base_same owner, h.placed.admitted owner owner_some owner_added);
     repaired = repairs;
     after = settled_mid;
+    kept = queueing_kept t m owner (kernel_of p) h.kernel known ready some mutex living kernel_state unreached;
   }

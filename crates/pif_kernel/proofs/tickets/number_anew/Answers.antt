@@ -2,7 +2,7 @@ use Rattle.std.proofs.Common.{◌≡◌, ℕ, ◌+◌, get_or, is_some, subst, s
 use Rattle.pif_rtmutex.specs.Owners.{Owners, KeepsOrder, with_ticket}
 use Rattle.pif_kernel.specs.Tickets.{IsRetagged}
 use Rattle.pif_kernel.proofs.TicketLaws.{retagged_none, retagged_more, named_at}
-use Rattle.pif_kernel.proofs.parts.number_anew.Goals as goal
+use Rattle.pif_kernel.proofs.tickets.number_anew.Goals as goal
 
 pub loop-t-init : goal.loop-t-init
 loop-t-init c = record { ticket = omega arith; tags = retagged_none c.args.owners.now c.args.arrivals.now }

@@ -5,14 +5,14 @@ use Rattle.std.proofs.lemmas.Iterator.Search.{any_from_yields_List}
 use Rattle.pif_model.specs.declared.lines.Status.TheVariants.{Ready}
 use Rattle.pif_model.specs.declared.lines.Woken.TheVariants.{Owns}
 use Rattle.pif_model.specs.Graph.{has_waiter, without}
-use Rattle.pif_model.specs.PiKernel.{handed_in, next_in}
+use Rattle.pif_model.specs.PiKernel.{kernel_after_hand_over, next_in}
 use Rattle.pif_kernel.specs.Plain.{Plain, kernel_of}
 use Rattle.pif_kernel.specs.Fields.{plain_of}
 use Rattle.pif_kernel.proofs.TopLaws.{top_is_next, some_waiter}
 use Rattle.pif_kernel.proofs.WalkSound.{IsWalkable, on_levels, ended}
-use Rattle.pif_kernel.proofs.HandSound.{IsGiven, IsHandable, IsHandedOn, given_state, given_idle, ended_given, still_given, handing, local_low, local_high, free, before_walk}
-use Rattle.pif_kernel.proofs.parts.Parts.hand.Goals.{Start, After-any, Joined-not-any, After-add, then-not-any, else-not-any}
-use Rattle.pif_kernel.proofs.parts.Parts.hand.Goals as goal
+use Rattle.pif_kernel.proofs.HandOverSound.{IsGiven, IsHandable, IsHandedOn, given_state, given_idle, ended_given, still_given, handing, local_low, local_high, free, before_walk}
+use Rattle.pif_kernel.proofs.parts.Parts.hand_over.Goals.{Start, After-any, Joined-not-any, After-add, then-not-any, else-not-any}
+use Rattle.pif_kernel.proofs.parts.Parts.hand_over.Goals as goal
 
 -- what is known before the mutex is handed over
 hands : (c : Start) (p : Plain) → p ≡ c.args.self.now → IsHandable p c.args.holder c.args.m c.args.key
@@ -76,7 +76,7 @@ add-requires-clause-free c =
 -- what is kept before the walk
 added : (c : After-add) → IsHandedOn c.args.self.now (plain_of c.self.inside) (plain_of c.if-not-any.self-inside) c.args.holder c.args.m c.args.key c.hand_over-next.result
     → IsWalkable (record (plain_of c.if-not-any.self-inside) { statuses = set c.if-not-any.self-inside.statuses.items c.hand_over-next.result (Ready Owns); queue = c.add.new.self; table = c.add.new.table })
-    c.args.holder (handed_in c.hand_over-next.result c.args.m (kernel_of c.args.self.now))
+    c.args.holder (kernel_after_hand_over c.hand_over-next.result c.args.m (kernel_of c.args.self.now))
 added c i =
     let value : c.unwrap-level.result ≡ c.local.result = rw c.unwrap-level.ensures at c.new.ensures.value in
     before_walk _ _ _ _ _ _ _ i c.unwrap-level.result c.add.new.self c.add.new.table (value ∙ c.local.ensures.value) c.add.ensures.place c.add.ensures.levels c.add.ensures.holds c.add.ensures.outside.count

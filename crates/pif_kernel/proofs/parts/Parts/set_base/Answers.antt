@@ -1,23 +1,22 @@
 use Rattle.std.proofs.Common.{◌≡◌, ◌≤◌, true, Ok, subst, sym, arith}
-use Rattle.pif_model.specs.PiKernel.{seat_at, set_prio_kernel}
+use Rattle.pif_model.specs.PiKernel.{is_living, kernel_after_set_prio}
 use Rattle.pif_kernel.specs.Plain.{Plain, IsSound, kernel_of}
 use Rattle.pif_kernel.specs.Fields.{plain_of}
-use Rattle.pif_kernel.proofs.Seats.{living_somebody}
 use Rattle.pif_kernel.proofs.WalkSound.{IsWalkable, on_levels, ended}
-use Rattle.pif_kernel.proofs.RebaseSound.{walkable}
-use Rattle.pif_kernel.proofs.parts.Parts.rebase.Goals.{After-set_base}
-use Rattle.pif_kernel.proofs.parts.Parts.rebase.Goals as goal
+use Rattle.pif_kernel.proofs.BaseSound.{walkable}
+use Rattle.pif_kernel.proofs.parts.Parts.set_base.Goals.{After-set_base}
+use Rattle.pif_kernel.proofs.parts.Parts.set_base.Goals as goal
 
 -- what is kept before the walk
 before_walk : (c : After-set_base)
-    → IsWalkable (record (plain_of c.self.inside) { owners = c.set_base.new.self }) c.args.t (set_prio_kernel c.args.t c.args.prio (Ok (record {})) (kernel_of c.args.self.now))
+    → IsWalkable (record (plain_of c.self.inside) { owners = c.set_base.new.self }) c.args.t (kernel_after_set_prio c.args.t c.args.prio (Ok (record {})) (kernel_of c.args.self.now))
 before_walk c =
     let p : Plain = plain_of c.self.inside in
     let h : IsSound p = subst IsSound (sym c.self.view_is) c.requires.sound in
-    let who = living_somebody p h c.args.t (subst (λ (x : Plain). (seat_at (kernel_of x) c.args.t).living ≡ true) (sym c.self.view_is) c.requires.living) in
+    let lives : is_living (kernel_of p) c.args.t ≡ true = subst (λ (x : Plain). is_living (kernel_of x) c.args.t ≡ true) (sym c.self.view_is) c.requires.living in
     let some : 1 ≤ c.args.prio = omega (arith, c.get-level.ensures.value, c.get-level.ensures.low) in
     let few : c.args.prio ≤ 99 = omega (arith, c.get-level.ensures.value, c.get-level.ensures.high) in
-    rw (c.set_base.ensures.changed, ← c.self.view_is) (walkable p c.args.t c.args.prio h who.0 who.1 some few)
+    rw (c.set_base.ensures.changed, ← c.self.view_is) (walkable p c.args.t c.args.prio h lives some few)
 
 pub walk-requires : goal.walk-requires
 walk-requires c =

@@ -3,7 +3,8 @@ use Rattle.pif_types.specs.Bounds.{IsWithin}
 use Rattle.pif_runq.specs.Levels.{Holds}
 use Rattle.pif_model.specs.PiKernel.{IsKernel}
 use Rattle.pif_kernel.specs.Plain.{Plain, IsSound, kernel_of}
-use Rattle.pif_kernel.proofs.NewSound.{new_seen, new_sound, new_kernel_kept}
+use Rattle.pif_kernel.proofs.NewSound.{new_seen, new_sound}
+use Rattle.pif_chains.proofs.KernelKept.{new_kernel_kept}
 use Rattle.pif_kernel.proofs.plain.PlainKernel.new.Goals as goal
 
 pub invariant_of-result : goal.invariant_of-result
