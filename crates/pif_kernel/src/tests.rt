@@ -1,0 +1,417 @@
+ghost use Rattle.std.specs.Prelude.{◌≡◌, ◌≤◌, ◌+◌, true, length, OnOk};
+ghost use Rattle.pif_model.specs.PiKernel.{has_seat, is_ready, seat_at};
+ghost use Rattle.pif_kernel.specs.Plain.{kernel_of};
+
+use crate::{PiKernel, PlainKernel, Status, Took, Woken};
+use pif_types::{Errno, Limits, MutexId, Prio, Tid};
+use pif_word::{Cell, Words};
+use std::alloc::Global;
+use std::process::Abort;
+use std::test::Fail;
+
+// A kernel, and words beside it.
+#[derive(Drop)]
+struct Scene {
+    kernel: PlainKernel,
+    words: Words,
+}
+
+// What is asked of a scene: a call of the kernel, a read, or a write of a word. Threads and mutexes go by their numbers.
+#[derive(Clone, Copy, Debug)]
+enum Ask {
+    Lock(u32, u32),
+    TryLock(u32, u32),
+    Unlock(u32, u32),
+    SetPrio(u32, u32),
+    Stop(u32),
+    Status(u32),
+    Effective(u32),
+    Pick,
+    NextTicket,
+    Word(u32),
+    Store(u32, u32),
+}
+
+// What it answers.
+#[derive(Clone, Copy, Debug, PartialEq, Eq)]
+enum Reply {
+    Owns,
+    Queued,
+    Done,
+    Refused(Errno),
+    Is(Status),
+    Prio(u32),
+    Runs(u32),
+    Nobody,
+    Ticket(u64),
+    Bits(u32),
+}
+
+impl Scene {
+    // A thread of each of these priorities, this first ticket, and so many mutexes, whose words are 0.
+    fn new(alloc: Global, levels: &[u32], mutexes: u32, first_ticket: u64) -> Result<Scene, Fail>
+        requires threads { length levels.now ≤ 1024 }
+        requires ticket { 1 ≤ first_ticket }
+    {
+        let limits = Limits::new(levels.len() as u32, mutexes, 0, 1).ok_or("limits")?;
+        let words = Words::new(alloc, limits)?;
+        let mut kernel = PlainKernel::new(alloc, limits, first_ticket)?;
+        add_all(&mut kernel, levels)?;
+        Ok(Scene { kernel, words })
+    }
+
+    fn answer(&mut self, ask: Ask) -> Result<Reply, Fail> {
+        Ok(match ask {
+            Ask::Lock(t, m) => self.lock(thread(t)?, mutex(m)?)?,
+            Ask::TryLock(t, m) => self.trylock(thread(t)?, mutex(m)?)?,
+            Ask::Unlock(t, m) => self.unlock(thread(t)?, mutex(m)?)?,
+            Ask::SetPrio(t, p) => done(self.kernel.set_prio(thread(t)?, p)),
+            Ask::Stop(t) => self.stop(thread(t)?)?,
+            Ask::Word(m) => self.word(mutex(m)?)?,
+            Ask::Store(m, bits) => self.store(mutex(m)?, bits)?,
+            Ask::Status(t) => self.status(thread(t)?)?,
+            Ask::Effective(t) => self.effective(thread(t)?),
+            Ask::Pick => self.pick(),
+            Ask::NextTicket => Reply::Ticket(self.kernel.next_ticket()),
+        })
+    }
+
+    fn lock(&mut self, t: Tid, m: MutexId) -> Result<Reply, Fail> {
+        see_ready(&self.kernel, t)?;
+        Ok(match self.kernel.lock_pi(&mut self.words, t, m) {
+            Ok(Took::Owns) => Reply::Owns,
+            Ok(Took::Queued) => Reply::Queued,
+            Err(errno) => Reply::Refused(errno),
+        })
+    }
+
+    fn trylock(&mut self, t: Tid, m: MutexId) -> Result<Reply, Fail> {
+        see_ready(&self.kernel, t)?;
+        Ok(done(self.kernel.trylock_pi(&mut self.words, t, m)))
+    }
+
+    fn unlock(&mut self, t: Tid, m: MutexId) -> Result<Reply, Fail> {
+        see_ready(&self.kernel, t)?;
+        Ok(done(self.kernel.unlock_pi(&mut self.words, t, m)))
+    }
+
+    fn stop(&mut self, t: Tid) -> Result<Reply, Fail> {
+        see_ready(&self.kernel, t)?;
+        self.kernel.stop(t);
+        Ok(Reply::Done)
+    }
+
+    fn status(&self, t: Tid) -> Result<Reply, Fail> {
+        see_added(&self.kernel, t)?;
+        Ok(Reply::Is(self.kernel.status(t)))
+    }
+
+    fn effective(&self, t: Tid) -> Reply {
+        match self.kernel.effective(t) {
+            Some(prio) => Reply::Prio(prio.get()),
+            None => Reply::Nobody,
+        }
+    }
+
+    fn pick(&self) -> Reply {
+        match self.kernel.pick() {
+            Some(t) => Reply::Runs(t.get()),
+            None => Reply::Nobody,
+        }
+    }
+
+    fn word(&self, m: MutexId) -> Result<Reply, Fail> {
+        if !self.words.has(Cell::Mutex(m)) {
+            Err("a word")?
+        }
+        Ok(Reply::Bits(self.words.load(Cell::Mutex(m))))
+    }
+
+    fn store(&mut self, m: MutexId, bits: u32) -> Result<Reply, Fail> {
+        if !self.words.has(Cell::Mutex(m)) {
+            Err("a word")?
+        }
+        self.words.store(Cell::Mutex(m), bits);
+        Ok(Reply::Done)
+    }
+}
+
+fn thread(number: u32) -> Result<Tid, Fail> {
+    Ok(Tid::new(number).ok_or("a thread")?)
+}
+
+fn mutex(number: u32) -> Result<MutexId, Fail> {
+    Ok(MutexId::new(number).ok_or("a mutex")?)
+}
+
+fn done(answer: Result<(), Errno>) -> Reply {
+    match answer {
+        Ok(()) => Reply::Done,
+        Err(errno) => Reply::Refused(errno),
+    }
+}
+
+// Adds a thread of each of these priorities, for whom there is room.
+fn add_all(kernel: &mut PlainKernel, levels: &[u32]) -> Result<(), Fail>
+    requires { length (kernel_of kernel.old).seats + length levels.now ≤ (kernel_of kernel.old).limits.threads + 1 }
+{
+    for level in levels {
+        let prio = Prio::new(*level).ok_or("a priority")?;
+        kernel.add(prio);
+    }
+    Ok(())
+}
+
+// Fails where the thread wasn't added.
+fn see_added(kernel: &PlainKernel, t: Tid) -> Result<(), Fail>
+    ensures { OnOk result (has_seat (kernel_of kernel.now) t ≡ true) }
+{
+    let _prio = kernel.effective(t).ok_or("the thread wasn't added")?;
+    Ok(())
+}
+
+// Fails where the thread wasn't added or may not run.
+fn see_ready(kernel: &PlainKernel, t: Tid) -> Result<(), Fail>
+    ensures added { OnOk result (has_seat (kernel_of kernel.now) t ≡ true) }
+    ensures ready { OnOk result (is_ready (seat_at (kernel_of kernel.now) t).status ≡ true) }
+{
+    see_added(kernel, t)?;
+    match kernel.status(t) {
+        Status::Ready(_) => Ok(()),
+        Status::Queued(_) => Err("the thread is queued")?,
+        Status::Stopped => Err("the thread is stopped")?,
+    }
+}
+
+// Asks all this in turn, and sees that each answer is the one beside it.
+fn check(rt: &impl Abort, scene: &mut Scene, steps: &[(Ask, Reply)]) -> Result<(), Fail> {
+    for (ask, reply) in steps {
+        assert_eq!(rt; scene.answer(*ask)?, *reply, "at {ask:?}");
+    }
+    Ok(())
+}
+
+#[test]
+fn nobody_runs_in_a_new_kernel(rt: HostRuntime) -> Result<(), Fail> {
+    let limits = Limits::new(4, 1, 0, 1).ok_or("limits")?;
+    let kernel = PlainKernel::new(rt.alloc(), limits, 1)?;
+    assert_eq!(rt; kernel.pick(), None);
+    Ok(())
+}
+
+#[test]
+fn a_thread_takes_a_free_mutex(rt: HostRuntime) -> Result<(), Fail> {
+    let mut scene = Scene::new(rt.alloc(), &[10], 1, 1)?;
+    check(
+        &rt,
+        &mut scene,
+        &[
+            (Ask::Pick, Reply::Runs(1)),
+            (Ask::Effective(1), Reply::Prio(10)),
+            (Ask::Status(1), Reply::Is(Status::Ready(Woken::Fresh))),
+            (Ask::Lock(1, 1), Reply::Owns),
+            (Ask::Word(1), Reply::Bits(1)),
+        ],
+    )
+}
+
+#[test]
+fn a_thread_that_stops_is_not_picked(rt: HostRuntime) -> Result<(), Fail> {
+    let mut scene = Scene::new(rt.alloc(), &[10], 1, 1)?;
+    check(
+        &rt,
+        &mut scene,
+        &[
+            (Ask::Stop(1), Reply::Done),
+            (Ask::Pick, Reply::Nobody),
+            (Ask::Status(1), Reply::Is(Status::Stopped)),
+        ],
+    )
+}
+
+#[test]
+fn priorities_are_refused_in_order(rt: HostRuntime) -> Result<(), Fail> {
+    let mut scene = Scene::new(rt.alloc(), &[10], 1, 1)?;
+    check(
+        &rt,
+        &mut scene,
+        &[
+            (Ask::SetPrio(1, 30), Reply::Done),
+            (Ask::Effective(1), Reply::Prio(30)),
+            (Ask::SetPrio(4, 100), Reply::Refused(Errno::Invalid)),
+            (Ask::SetPrio(1, 0), Reply::Refused(Errno::Invalid)),
+            (Ask::SetPrio(4, 50), Reply::Refused(Errno::NoSuchThread)),
+            (Ask::Effective(4), Reply::Nobody),
+            (Ask::Effective(1), Reply::Prio(30)),
+        ],
+    )
+}
+
+// lock_pi by thread 1 of three, on words that no thread wrote.
+#[test]
+fn kernel_on_stored_words(rt: HostRuntime) -> Result<(), Fail> {
+    let mut scene = Scene::new(rt.alloc(), &[10, 10, 10], 1, 1)?;
+    check(
+        &rt,
+        &mut scene,
+        &[
+            (Ask::Lock(1, 2), Reply::Refused(Errno::Fault)),
+            (Ask::Store(1, 0x0000_0001), Reply::Done),
+            (Ask::Lock(1, 1), Reply::Refused(Errno::Deadlock)),
+            (Ask::Word(1), Reply::Bits(0x0000_0001)),
+            (Ask::Store(1, 0x0000_03ff), Reply::Done),
+            (Ask::Lock(1, 1), Reply::Refused(Errno::NoSuchThread)),
+            (Ask::Word(1), Reply::Bits(0x0000_03ff)),
+            (Ask::Store(1, 0x8000_0000), Reply::Done),
+            (Ask::Lock(1, 1), Reply::Owns),
+            (Ask::Word(1), Reply::Bits(0x0000_0001)),
+            // Thread 3 queues on it, so that there is an owner state of thread 2.
+            (Ask::Store(1, 0x0000_0002), Reply::Done),
+            (Ask::Lock(3, 1), Reply::Queued),
+            (Ask::Word(1), Reply::Bits(0x8000_0002)),
+            (Ask::Store(1, 0x0000_0003), Reply::Done),
+            (Ask::Lock(1, 1), Reply::Refused(Errno::Invalid)),
+            (Ask::Word(1), Reply::Bits(0x0000_0003)),
+            (Ask::Store(1, 0x0000_0000), Reply::Done),
+            (Ask::Lock(1, 1), Reply::Refused(Errno::Invalid)),
+            (Ask::Word(1), Reply::Bits(0x0000_0000)),
+        ],
+    )
+}
+
+// trylock_pi and unlock_pi by thread 1 of three, on words that no thread wrote.
+#[test]
+fn kernel_refusals_on_any_words(rt: HostRuntime) -> Result<(), Fail> {
+    let mut scene = Scene::new(rt.alloc(), &[10, 10, 10], 1, 1)?;
+    check(
+        &rt,
+        &mut scene,
+        &[
+            (Ask::TryLock(1, 2), Reply::Refused(Errno::Fault)),
+            (Ask::Store(1, 0x0000_0001), Reply::Done),
+            (Ask::TryLock(1, 1), Reply::Refused(Errno::Deadlock)),
+            (Ask::Word(1), Reply::Bits(0x0000_0001)),
+            (Ask::Store(1, 0x8000_0002), Reply::Done),
+            (Ask::TryLock(1, 1), Reply::Refused(Errno::Again)),
+            (Ask::Word(1), Reply::Bits(0x8000_0002)),
+            (Ask::Store(1, 0xc000_0000), Reply::Done),
+            (Ask::TryLock(1, 1), Reply::Done),
+            (Ask::Word(1), Reply::Bits(0x4000_0001)),
+            (Ask::Unlock(1, 2), Reply::Refused(Errno::Fault)),
+            (Ask::Store(1, 0x8000_0001), Reply::Done),
+            (Ask::Unlock(1, 1), Reply::Done),
+            (Ask::Word(1), Reply::Bits(0x0000_0000)),
+            (Ask::Store(1, 0x0000_0002), Reply::Done),
+            (Ask::Unlock(1, 1), Reply::Refused(Errno::NotPermitted)),
+            (Ask::Word(1), Reply::Bits(0x0000_0002)),
+            // Thread 3 queues on it, so that there is an owner state of thread 2.
+            (Ask::Lock(3, 1), Reply::Queued),
+            (Ask::Store(1, 0x0000_0000), Reply::Done),
+            (Ask::TryLock(1, 1), Reply::Refused(Errno::Invalid)),
+            (Ask::Store(1, 0x0000_0001), Reply::Done),
+            (Ask::Unlock(1, 1), Reply::Refused(Errno::Invalid)),
+            (Ask::Word(1), Reply::Bits(0x0000_0001)),
+            (Ask::Status(3), Reply::Is(Status::Queued(mutex(1)?))),
+        ],
+    )
+}
+
+// Thread 1 holds mutex 1, thread 2 holds mutex 2 and waits for mutex 1, and thread 3 waits for mutex 2.
+const CHAIN: [(Ask, Reply); 4] = [
+    (Ask::Lock(1, 1), Reply::Owns),
+    (Ask::Lock(2, 2), Reply::Owns),
+    (Ask::Lock(2, 1), Reply::Queued),
+    (Ask::Lock(3, 2), Reply::Queued),
+];
+
+#[test]
+fn boosts_go_through_a_chain(rt: HostRuntime) -> Result<(), Fail> {
+    let mut scene = Scene::new(rt.alloc(), &[1, 2, 99], 2, 1)?;
+    check(&rt, &mut scene, &CHAIN)?;
+    check(
+        &rt,
+        &mut scene,
+        &[
+            (Ask::Effective(1), Reply::Prio(99)),
+            (Ask::Effective(2), Reply::Prio(99)),
+            (Ask::Status(3), Reply::Is(Status::Queued(mutex(2)?))),
+            (Ask::Pick, Reply::Runs(1)),
+            (Ask::Lock(1, 2), Reply::Refused(Errno::Deadlock)),
+        ],
+    )
+}
+
+#[test]
+fn who_unlocks_loses_the_boost(rt: HostRuntime) -> Result<(), Fail> {
+    let mut scene = Scene::new(rt.alloc(), &[1, 2, 99], 2, 1)?;
+    check(&rt, &mut scene, &CHAIN)?;
+    check(
+        &rt,
+        &mut scene,
+        &[
+            (Ask::Unlock(1, 1), Reply::Done),
+            (Ask::Effective(1), Reply::Prio(1)),
+            (Ask::Status(2), Reply::Is(Status::Ready(Woken::Owns))),
+            (Ask::Pick, Reply::Runs(2)),
+        ],
+    )
+}
+
+#[test]
+fn priority_is_set_and_places_stay(rt: HostRuntime) -> Result<(), Fail> {
+    let mut scene = Scene::new(rt.alloc(), &[10, 20, 20], 1, 1)?;
+    check(
+        &rt,
+        &mut scene,
+        &[
+            (Ask::Lock(1, 1), Reply::Owns),
+            (Ask::Lock(2, 1), Reply::Queued),
+            (Ask::Lock(3, 1), Reply::Queued),
+            (Ask::SetPrio(2, 30), Reply::Done),
+            (Ask::Effective(1), Reply::Prio(30)),
+            (Ask::SetPrio(2, 20), Reply::Done),
+            (Ask::Effective(1), Reply::Prio(20)),
+            (Ask::Unlock(1, 1), Reply::Done),
+            (Ask::Word(1), Reply::Bits(0x8000_0002)),
+        ],
+    )
+}
+
+// Four threads of priority 10 lock mutex 1 in turn, and then unlock it in turn.
+const HAND_OVERS: [(Ask, Reply); 12] = [
+    (Ask::Lock(1, 1), Reply::Owns),
+    (Ask::Lock(2, 1), Reply::Queued),
+    (Ask::Lock(3, 1), Reply::Queued),
+    (Ask::Lock(4, 1), Reply::Queued),
+    (Ask::Unlock(1, 1), Reply::Done),
+    (Ask::Word(1), Reply::Bits(0x8000_0002)),
+    (Ask::Unlock(2, 1), Reply::Done),
+    (Ask::Word(1), Reply::Bits(0x8000_0003)),
+    (Ask::Unlock(3, 1), Reply::Done),
+    (Ask::Word(1), Reply::Bits(0x8000_0004)),
+    (Ask::Unlock(4, 1), Reply::Done),
+    (Ask::Word(1), Reply::Bits(0)),
+];
+
+// The same from this first ticket, and the next ticket in the end.
+fn hand_over_from(rt: &impl Abort, alloc: Global, first: u64, next: u64) -> Result<(), Fail>
+    requires { 1 ≤ first }
+{
+    let mut scene = Scene::new(alloc, &[10, 10, 10, 10], 1, first)?;
+    check(rt, &mut scene, &[(Ask::NextTicket, Reply::Ticket(first))])?;
+    check(rt, &mut scene, &HAND_OVERS)?;
+    check(rt, &mut scene, &[(Ask::NextTicket, Reply::Ticket(next))])
+}
+
+#[test]
+fn tickets_are_renumbered(rt: HostRuntime) -> Result<(), Fail> {
+    for (first, next) in [
+        (18446744073709551612, 18446744073709551615),
+        (18446744073709551613, 4),
+        (18446744073709551614, 4),
+        (18446744073709551615, 4),
+    ] {
+        hand_over_from(&rt, rt.alloc(), first, next)?;
+    }
+    Ok(())
+}
