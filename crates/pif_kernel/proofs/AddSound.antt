@@ -16,9 +16,9 @@ use Rattle.pif_rtmutex.specs.Owners.{Seat, Wait, seat_at, rank_of, no_seat, with
 use Rattle.pif_chains.proofs.Places.{kept_at}
 use Rattle.pif_kernel.specs.Plain.{Plain, IsPlaced, IsSound, Rise, kernel_of, status_at, key_at, ticket_of}
 use Rattle.pif_chains.proofs.KernelKept.{add_kept}
-use Rattle.pif_kernel.proofs.Seats.{seats_length, limits_seen, kernel_by_parts, seats_of-push}
+use Rattle.pif_kernel.proofs.Seats.{IsFitted, seats_length, limits_seen, kernel_by_parts, seats_of-push}
 use Rattle.pif_kernel.proofs.Picked.{levels_joined, length-joined, level_is}
-use Rattle.pif_kernel.proofs.Standing.{fits, listed_added, states_none, states_below}
+use Rattle.pif_kernel.proofs.Standing.{fits, listed_kept, states_none, states_below}
 use Rattle.pif_kernel.proofs.AddLaws.{effective_other, effective_new}
 
 pushed_status : (xs : List Status) (u : ℕ) → get_or (xs ++ Ready Fresh ∷ []) u (Ready Fresh) ≡ get_or xs u (Ready Fresh)
@@ -109,6 +109,14 @@ module _ (p : Plain) (q : Queue) (tb : Table) (t prio : ℕ) (h : IsSound p) (is
   ticket_same : (u : ℕ) → ticket_of p.owners u ≡ ticket_of after.owners u
   ticket_same u = ap (λ (o : Option Key). unwrap_or (option_map (λ (r : Key). r.ticket) o) 0) (sym (rank_same u))
 
+  fit_after : IsFitted after
+  fit_after = record {
+    few = omega (arith, h.placed.rows, room, long, length-set p.owners.seats t row);
+    free = λ u l. other u (λ e. absurd (omega (arith, is, long))) ∙ h.placed.free u (omega (arith, long));
+    waits = λ u. ap (option_map (λ (w : Wait). w.state)) (waits_same u) ∙ h.placed.waits u ∙ ap (λ (x : Status). key_at p (queued_on x)) (sym (status_same u));
+    owners = λ m. omega (arith, h.placed.owners m, long);
+  }
+
   placed_after : IsPlaced after
   placed_after = record {
     within = h.placed.within;
@@ -118,19 +126,19 @@ module _ (p : Plain) (q : Queue) (tb : Table) (t prio : ℕ) (h : IsSound p) (is
     few = omega (arith, room, long);
     nobody = other 0 (λ e. absurd (omega (arith, is, h.placed.some))) ∙ h.placed.nobody;
     admitted = λ u nz l. admitted_after u (cases_eq u t) nz l;
-    free = λ u l. other u (λ e. absurd (omega (arith, is, long))) ∙ h.placed.free u (omega (arith, long));
+    free = fit_after.free;
     most = λ u. most_after u (cases_eq u t);
     lists = count ∙ h.placed.lists;
     queue = place ∙ rw h.placed.queue refl;
     holds = holds;
-    listed = listed_added (kernel_of after) kept;
-    waits = λ u. ap (option_map (λ (w : Wait). w.state)) (waits_same u) ∙ h.placed.waits u ∙ ap (λ (x : Status). key_at p (queued_on x)) (sym (status_same u));
+    listed = listed_kept after fit_after kept (λ u. local_after u (cases_eq u t));
+    waits = fit_after.waits;
     no_mutex = h.placed.no_mutex;
     apart = h.placed.apart;
     made = h.placed.made;
     owned = h.placed.owned;
     count = h.placed.count;
-    owners = λ m. omega (arith, h.placed.owners m, long);
+    owners = fit_after.owners;
     tickets = subst (λ (f : ℕ → ℕ). Rise f 1 p.arrivals p.next) (fun_ext ticket_same) h.placed.tickets;
   }
 

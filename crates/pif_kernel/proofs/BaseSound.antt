@@ -11,7 +11,7 @@ use Rattle.pif_rtmutex.specs.Owners.{waits_for as owners_wait_for}
 use Rattle.pif_boost.specs.Boosts.{IsRepairedBut}
 use Rattle.pif_chains.proofs.KernelKept.{set_prio_kept}
 use Rattle.pif_chains.proofs.Places.{kept_at}
-use Rattle.pif_kernel.specs.Plain.{Plain, IsPlaced, IsSound, Rise, kernel_of, ticket_of}
+use Rattle.pif_kernel.specs.Plain.{Plain, IsListed, IsPlaced, IsSound, Rise, kernel_of, ticket_of}
 use Rattle.pif_kernel.proofs.Seats.{IsFitted, added_seen, kernel_by_parts, seats_of-set_base, same_seats}
 use Rattle.pif_kernel.proofs.Picked.{level_is, levels_seen}
 use Rattle.pif_kernel.proofs.Standing.{fits}
@@ -88,6 +88,9 @@ module _ (p : Plain) (t prio : ℕ) (h : IsSound p) (lives : is_living (kernel_o
   has_mid : (u : ℕ) → has_seat (kernel_of mid) u ≡ has_seat (kernel_of p) u
   has_mid u = same_seats p mid fit fit_mid refl u
 
+  listed_mid : (u r : ℕ) → IsListed p u r → IsListed mid u r
+  listed_mid u r l = record { added = has_mid u ∙ l.added; ready = l.ready; local = local_same u ∙ l.local }
+
   pub placed : IsPlaced mid
   placed = record {
     within = h.placed.within;
@@ -110,7 +113,7 @@ module _ (p : Plain) (t prio : ℕ) (h : IsSound p) (lives : is_living (kernel_o
     count = h.placed.count;
     owners = h.placed.owners;
     tickets = subst (λ (f : ℕ → ℕ). Rise f 1 p.arrivals p.next) (fun_ext ticket_same) h.placed.tickets;
-    listed = λ u r e. has_mid u ∙ h.placed.listed u r (ap (λ (xs : List ℕ). is_among xs u) (levels_seen p r ∙ sym (levels_seen mid r)) ∙ e);
+    listed = λ u r e. listed_mid u r (h.placed.listed u r (ap (λ (xs : List ℕ). is_among xs u) (levels_seen p r ∙ sym (levels_seen mid r)) ∙ e));
   }
 
   repairs : IsRepairedBut t mid.owners

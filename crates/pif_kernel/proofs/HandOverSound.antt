@@ -30,7 +30,7 @@ use Rattle.pif_chains.proofs.KernelFacts.{queued-from_number}
 use Rattle.pif_chains.proofs.KernelKept.{hand_over_kept}
 use Rattle.pif_chains.proofs.KernelLevels.{level-joined_same, level-joined_other}
 use Rattle.pif_chains.proofs.KernelNumbers.{among-push_other}
-use Rattle.pif_kernel.specs.Plain.{Plain, IsPlaced, IsSound, Rise, kernel_of, status_at, key_at, state_at, ticket_of, mutexes_of}
+use Rattle.pif_kernel.specs.Plain.{Plain, IsListed, IsPlaced, IsSound, Rise, kernel_of, status_at, key_at, state_at, ticket_of, mutexes_of}
 use Rattle.pif_kernel.proofs.Seats.{IsFitted, same_seats, seats_length, status_seen, waits_seen, waits_below, owners_waits, added_back, waiters_seen, states_seen, states_length, kernel_by_parts, seats_of-set_status, seats_of-same_base}
 use Rattle.pif_kernel.proofs.Picked.{levels_count, levels_joined, length-joined}
 use Rattle.pif_kernel.proofs.Standing.{fits, effective_some, effective_few, unqueued_free}
@@ -498,21 +498,38 @@ module _ (p : Plain) (t m key u : ℕ) (d : IsHandable p t m key) (top : IsTop p
     joins_level : (r : ℕ) → level_at (kernel_of mid).levels r ≡ level_at (joined u prio (kernel_of p).levels) r
     joins_level r = levels_joined p mid u prio (omega (arith, rank_is, level_some), omega (arith, rank_is, level_few)) levels r
 
-    -- who is on a level was added: u joins one, and the others stay
-    listed_mid : (x r : ℕ) → ((x ≡ u) ⊎ (x ≡ u → ⊥)) → is_among (level_at (kernel_of mid).levels r) x ≡ true → has_seat (kernel_of mid) x ≡ true
-    listed_mid x r (inl e) y = has_mid x ∙ ap (has_seat (kernel_of p)) e ∙ next_known
-    listed_mid x r (inr n) y = has_mid x ∙ h.placed.listed x r (by_level (cases_eq r prio))
+    -- u joins its level, and the others stay
+    listed_mid : (x r : ℕ) → ((x ≡ u) ⊎ (x ≡ u → ⊥)) → is_among (level_at (kernel_of mid).levels r) x ≡ true → IsListed mid x r
+    listed_mid x r c y = by_thread c (cases_eq r prio)
       where
         on_new : is_among (level_at (joined u prio (kernel_of p).levels) r) x ≡ true
         on_new = ap (λ (xs : List ℕ). is_among xs x) (sym (joins_level r)) ∙ y
 
-        by_level : ((r ≡ prio) ⊎ (r ≡ prio → ⊥)) → is_among (level_at (kernel_of p).levels r) x ≡ true
-        by_level (inl e) =
-            let below : prio < length (kernel_of p).levels = omega (arith, rank_is, level_few, levels_count p) in
-            ap (λ (j : ℕ). is_among (level_at (kernel_of p).levels j) x) e ∙ sym (among-push_other (level_at (kernel_of p).levels prio) u x n)
+        below : prio < length (kernel_of p).levels
+        below = omega (arith, rank_is, level_few, levels_count p)
+
+        -- another level has whom it had
+        on_old : r ≢ prio → is_among (level_at (kernel_of p).levels r) x ≡ true
+        on_old ne = sym (ap (λ (xs : List ℕ). is_among xs x) (level-joined_other u prio (kernel_of p).levels r ne)) ∙ on_new
+
+        kept : x ≢ u → is_among (level_at (kernel_of p).levels r) x ≡ true → IsListed mid x r
+        kept n e =
+            let l = h.placed.listed x r e in
+            record { added = has_mid x ∙ l.added; ready = ap is_ready (status_other x n) ∙ l.ready; local = local_same x ∙ l.local }
+
+        by_thread : ((x ≡ u) ⊎ (x ≡ u → ⊥)) → ((r ≡ prio) ⊎ (r ≡ prio → ⊥)) → IsListed mid x r
+        by_thread (inl e) (inl same) = record {
+          added = has_mid x ∙ ap (has_seat (kernel_of p)) e ∙ next_known;
+          ready = ap is_ready (status_here x e);
+          local = local_same x ∙ h.local x ∙ ap (effective_in (kernel_of p)) e ∙ sym rank_is ∙ sym same;
+        }
+        by_thread (inl e) (inr ne) = absurd (true≢false (sym (on_old ne) ∙ ap (is_among (level_at (kernel_of p).levels r)) e ∙ next_off r))
+        by_thread (inr n) (inr ne) = kept n (on_old ne)
+        by_thread (inr n) (inl same) =
+            kept n
+            (ap (λ (j : ℕ). is_among (level_at (kernel_of p).levels j) x) same ∙ sym (among-push_other (level_at (kernel_of p).levels prio) u x n)
             ∙ sym (ap (λ (xs : List ℕ). is_among xs x) (level-joined_same u prio (kernel_of p).levels below))
-            ∙ ap (λ (j : ℕ). is_among (level_at (joined u prio (kernel_of p).levels) j) x) (sym e) ∙ on_new
-        by_level (inr ne) = sym (ap (λ (xs : List ℕ). is_among xs x) (level-joined_other u prio (kernel_of p).levels r ne)) ∙ on_new
+            ∙ ap (λ (j : ℕ). is_among (level_at (joined u prio (kernel_of p).levels) j) x) (sym same) ∙ on_new)
 
     -- a key of m is the one that it had, and others wait for m
     kept_some : (a k : ℕ) → a ≡ m → key_at mid a ≡ Some k → has_waiter rest m ≡ true

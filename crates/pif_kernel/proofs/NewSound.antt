@@ -11,15 +11,15 @@ use Rattle.pif_model.specs.declared.lines.Woken.TheVariants.{Fresh}
 use Rattle.pif_model.specs.Graph.{is_priority}
 use Rattle.pif_model.specs.PiKernel.{IsKernel, queued_on, new_kernel, effective_in}
 use Rattle.pif_model.specs.PiKernel.{Seat as KernelSeat, no_seat as no_kernel_seat}
-use Rattle.pif_rtmutex.specs.Owners.{Seat, Wait, no_seat}
+use Rattle.pif_rtmutex.specs.Owners.{Seat, Wait, seat_at, no_seat}
 use Rattle.pif_chains.proofs.Greatest.{effective_most}
 use Rattle.pif_chains.proofs.KernelKept.{new_kernel_kept}
 use Rattle.pif_chains.proofs.KernelLevels.{length-levels_by}
 use Rattle.pif_chains.proofs.KernelNew.{no_state, length-no_states, no_level}
 use Rattle.pif_kernel.specs.Plain.{Plain, IsPlaced, IsSound, kernel_of, new_plain, no_keys, key_at, state_at, status_at, owner_under, seats_of}
-use Rattle.pif_kernel.proofs.Seats.{kernel_by_parts, states_seen, states_length}
+use Rattle.pif_kernel.proofs.Seats.{IsFitted, kernel_by_parts, states_seen, states_length}
 use Rattle.pif_kernel.proofs.Picked.{levels_of, levels_seen, levels_count}
-use Rattle.pif_kernel.proofs.Standing.{listed_added}
+use Rattle.pif_kernel.proofs.Standing.{listed_kept}
 
 -- a list of one value has it at each place
 alike : {A : Type 0} (n k : ℕ) (x : A) → get_or (replicate n x) k x ≡ x
@@ -97,6 +97,17 @@ module _ (l : Bounds) (first : ℕ) (within : IsWithin l) (some : 1 ≤ first) w
   new_effective : (u : ℕ) → effective_in (kernel_of new) u ≤ 0
   new_effective u = rw new_seen (effective_most _ _ _ u 0 (λ v less e. omega (arith, ap (λ (x : KernelSeat). x.base) (one_seat v))))
 
+  fit_new : IsFitted new
+  fit_new = record {
+    few = omega (arith, length-replicate (l.threads + 1) no_seat);
+    free = λ t le. seat_zero l.threads t;
+    waits = λ t. ap (λ (x : Seat). option_map (λ (w : Wait). w.state) x.wait) (seat_zero l.threads t) ∙ sym (no_key_at (queued_on (status_at new t)));
+    owners = λ m. omega (arith, none_at m);
+  }
+
+  local_new : (t : ℕ) → (seat_at new.owners t).local ≡ effective_in (kernel_of new) t
+  local_new t = omega (arith, ap (λ (x : Seat). x.local) (seat_zero l.threads t), new_effective t)
+
   new_placed : Holds (new_queue l.threads) (new_table l.threads) → IsPlaced new
   new_placed holds = record {
     within = within;
@@ -106,26 +117,26 @@ module _ (l : Bounds) (first : ℕ) (within : IsWithin l) (some : 1 ≤ first) w
     few = omega arith;
     nobody = seat_zero l.threads 0;
     admitted = λ t n less. absurd (omega arith);
-    free = λ t le. seat_zero l.threads t;
+    free = fit_new.free;
     most = λ t. omega (arith, ap (λ (x : Seat). x.base) (seat_zero l.threads t));
     lists = refl;
     queue = refl;
     holds = holds;
-    listed = listed_added (kernel_of new) kept;
-    waits = λ t. ap (λ (x : Seat). option_map (λ (w : Wait). w.state) x.wait) (seat_zero l.threads t) ∙ sym (no_key_at (queued_on (status_at new t)));
+    listed = listed_kept new fit_new kept local_new;
+    waits = fit_new.waits;
     no_mutex = no_key_at 0;
     apart = λ m n k e f. let both : None ≡ Some k = sym (no_key_at m) ∙ e in cc;
     made = λ m k e. let both : None ≡ Some k = sym (no_key_at m) ∙ e in cc;
     owned = λ m k e. let both : None ≡ Some k = sym (no_key_at m) ∙ e in cc;
     count = len-empty nat_cmp ℕ;
-    owners = λ m. omega (arith, none_at m);
+    owners = fit_new.owners;
     tickets = some;
   }
 
   pub new_sound : Holds (new_queue l.threads) (new_table l.threads) → IsSound new
   new_sound holds = record {
     placed = new_placed holds;
-    local = λ t. omega (arith, ap (λ (x : Seat). x.local) (seat_zero l.threads t), new_effective t);
+    local = local_new;
     rank = λ t r e. let both : None ≡ Some r = sym (ap (λ (x : Seat). option_map (λ (w : Wait). w.rank) x.wait) (seat_zero l.threads t)) ∙ e in cc;
     kernel = kept;
   }

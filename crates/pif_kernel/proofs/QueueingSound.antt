@@ -1,5 +1,6 @@
 -- What is kept stays sound where a thread is queued on a mutex.
 use Rattle.std.proofs.Common.{◌≡◌, ◌≢◌, ◌⊎◌, ℕ, ◌+◌, ◌<◌, ◌==◌, true, false, if◌then◌else◌, List, [], ◌∷◌, ◌++◌, length, get_or, set, Option, Some, None, IsSome, is_some, option_map, option_and_then, unwrap_or, refl, sym, ap, subst, ◌∙◌, inl, inr, arith, length-set}
+use Rattle.std.specs.List.{filter}
 use Rattle.std.proofs.lemmas.Bool.{cases_eq, true≢false, false≢true}
 use Rattle.std.proofs.lemmas.Bool.Decides.{nat_tests}
 use Rattle.std.proofs.lemmas.List.{get_or-set_same, get_or-set_other}
@@ -20,11 +21,11 @@ use Rattle.pif_boost.specs.Boosts.{IsRepairedBut}
 use Rattle.pif_chains.proofs.KernelFacts.{queued-from_number}
 use Rattle.pif_chains.proofs.KernelKept.{queueing_kept}
 use Rattle.pif_chains.proofs.KernelLevels.{level-left}
-use Rattle.pif_chains.proofs.KernelNumbers.{among-left_other}
+use Rattle.pif_chains.proofs.KernelNumbers.{others, among-left_same, among-left_other}
 use Rattle.pif_chains.proofs.Waiting.{has_waiter-from_pair}
 use Rattle.pif_chains.proofs.Places.{kept_at}
 use Rattle.pif_chains.proofs.Among.{is_among as is_waiter}
-use Rattle.pif_kernel.specs.Plain.{Plain, IsPlaced, IsSound, Rise, IsOpened, kernel_of, status_at, key_at, state_at, ticket_of}
+use Rattle.pif_kernel.specs.Plain.{Plain, IsListed, IsPlaced, IsSound, Rise, IsOpened, kernel_of, status_at, key_at, state_at, ticket_of}
 use Rattle.pif_kernel.specs.Plain.IsOpened.{found, made}
 use Rattle.pif_kernel.proofs.Seats.{IsFitted, same_seats, status_seen, waits_seen, owners_waits, added_seen, waiters_seen, states_seen, states_length, kernel_by_parts, seats_of-set_status, seats_of-same_base}
 use Rattle.pif_kernel.proofs.Picked.{levels_left, length-left}
@@ -235,12 +236,16 @@ module _ (p : Plain) (keys : List (Option ℕ)) (owners : Owners) (t m owner key
   waits_none : waits_for (kernel_of p) t ≡ 0
   waits_none = waits_seen p fit t ∙ ap (state_at p) (ready_idle p h t ready) ∙ ap (λ (k : Option ℕ). unwrap_or (option_and_then (owner_at p.owners) k) 0) h.placed.no_mutex
 
-  -- who is on a level was added: t left its own, and the others stay
-  listed_mid : (u r : ℕ) → ((u ≡ t) ⊎ (u ≡ t → ⊥)) → is_among (level_at (kernel_of mid).levels r) u ≡ true → has_seat (kernel_of mid) u ≡ true
-  listed_mid u r (inl e) x = has_mid u ∙ ap (has_seat (kernel_of p)) e ∙ known
-  listed_mid u r (inr n) x =
-      has_mid u ∙ h.placed.listed u r
-      (sym (ap (λ (xs : List ℕ). is_among xs u) (levels_left p mid t levels r ∙ level-left t (kernel_of p).levels r) ∙ among-left_other (level_at (kernel_of p).levels r) t u n) ∙ x)
+  -- t left its level, and the others stay
+  listed_mid : (u r : ℕ) → ((u ≡ t) ⊎ (u ≡ t → ⊥)) → is_among (level_at (kernel_of mid).levels r) u ≡ true → IsListed mid u r
+  listed_mid u r c x = by_place c (sym (ap (λ (xs : List ℕ). is_among xs u) (levels_left p mid t levels r ∙ level-left t (kernel_of p).levels r)) ∙ x)
+    where
+      by_place : ((u ≡ t) ⊎ (u ≡ t → ⊥)) → is_among (filter (others t) (level_at (kernel_of p).levels r)) u ≡ true → IsListed mid u r
+      by_place (inl e) y =
+          absurd (true≢false (sym y ∙ ap (is_among (filter (others t) (level_at (kernel_of p).levels r))) e ∙ among-left_same (level_at (kernel_of p).levels r) t))
+      by_place (inr n) y =
+          let l = h.placed.listed u r (sym (among-left_other (level_at (kernel_of p).levels r) t u n) ∙ y) in
+          record { added = has_mid u ∙ l.added; ready = ap is_ready (status_other u n) ∙ l.ready; local = local_same u ∙ l.local }
 
   apart_mid : (a b k : ℕ) → ((a ≡ m) ⊎ (a ≡ m → ⊥)) → ((b ≡ m) ⊎ (b ≡ m → ⊥)) → key_at mid a ≡ Some k → key_at mid b ≡ Some k → a ≡ b
   apart_mid a b k (inl x) (inl y) e f = x ∙ sym y

@@ -10,8 +10,8 @@ use Rattle.pif_rtmutex.specs.Owners.{Owners, Seat, Wait, seat_at, owner_at, coun
 use Rattle.pif_chains.proofs.Waiting.{names}
 use Rattle.pif_kernel.specs.Plain.{Plain, IsPlaced, IsSound, Rise, kernel_of, key_at, state_at, ticket_of}
 use Rattle.pif_kernel.specs.Tickets.{retagged, retag, IsRetagged, IsRetaggable}
-use Rattle.pif_kernel.proofs.Seats.{states_seen, states_length, kernel_by_parts, seats_of-same_base}
-use Rattle.pif_kernel.proofs.Standing.{listed_added}
+use Rattle.pif_kernel.proofs.Seats.{IsFitted, states_seen, states_length, kernel_by_parts, seats_of-same_base}
+use Rattle.pif_kernel.proofs.Standing.{listed_kept, fits}
 use Rattle.pif_kernel.proofs.QueueLaws.{rise_once}
 use Rattle.pif_kernel.proofs.TicketLaws.{order, retagged_before, rise_retagged, named_at}
 use Rattle.pif_kernel.proofs.Waiters.{waits_some, waits_named, named_known, arrivals_few}
@@ -108,6 +108,17 @@ module _ (p : Plain) (now : Owners) (i : ℕ) (h : IsSound p) (g : IsRetagged p.
     same : (u : ℕ) → effective_in (kernel_of p) u ≡ effective_in (kernel_of after) u
     same u = sym (ap (λ (k : Kernel). effective_in k u) kernel_after)
 
+    fit_after : IsFitted after
+    fit_after = record {
+      few = omega (arith, (fits p h).few, g.seats);
+      free = λ t l. nobody_now t (h.placed.free t l);
+      waits = λ t. waits_now t ∙ h.placed.waits t;
+      owners = λ m. omega (arith, state_now m, h.placed.owners m);
+    }
+
+    local_after : (t : ℕ) → (seat_at now t).local ≡ effective_in (kernel_of after) t
+    local_after t = ap (λ (x : Seat). x.local) (g.seat t) ∙ h.local t ∙ same t
+
     placed_after : IsPlaced after
     placed_after = record {
       within = h.placed.within;
@@ -117,26 +128,26 @@ module _ (p : Plain) (now : Owners) (i : ℕ) (h : IsSound p) (g : IsRetagged p.
       few = h.placed.few;
       nobody = nobody_now 0 h.placed.nobody;
       admitted = λ t n l. omega (arith, base_now t, h.placed.admitted t n l);
-      free = λ t l. nobody_now t (h.placed.free t l);
+      free = fit_after.free;
       most = λ t. omega (arith, base_now t, h.placed.most t);
       lists = h.placed.lists;
       queue = h.placed.queue;
       holds = h.placed.holds;
-      listed = listed_added (kernel_of after) kept;
-      waits = λ t. waits_now t ∙ h.placed.waits t;
+      listed = listed_kept after fit_after kept local_after;
+      waits = fit_after.waits;
       no_mutex = h.placed.no_mutex;
       apart = h.placed.apart;
       made = λ m k e. subst (λ (o : Option ℕ). IsSome o) (sym (owner_now k)) (h.placed.made m k e);
       owned = λ m k e z. h.placed.owned m k e (sym (state_now m) ∙ z);
       count = ap (λ o. count (record { seats = now.seats; owners = o })) g.owners ∙ h.placed.count;
-      owners = λ m. omega (arith, state_now m, h.placed.owners m);
+      owners = fit_after.owners;
       tickets = subst (λ (n : ℕ). Rise (ticket_of now) 1 p.arrivals n) (sym next_is) (rise_retagged (ticket_of p.owners) (ticket_of now) 1 p.arrivals (rise_once (ticket_of p.owners) 1 p.arrivals p.next h.placed.tickets) ticket_now);
     }
 
     pub sound_after : IsSound after
     sound_after = record {
       placed = placed_after;
-      local = λ t. ap (λ (x : Seat). x.local) (g.seat t) ∙ h.local t ∙ same t;
+      local = local_after;
       rank = λ t r e. let s = (rank_now t r e).1 in sym s.2 ∙ h.rank t s.0 s.1 ∙ same t;
       kernel = kept;
     }
@@ -181,7 +192,7 @@ placed_next p h = record {
   lists = h.lists;
   queue = h.queue;
   holds = h.holds;
-  listed = h.listed;
+  listed = λ t r e. let l = h.listed t r e in record { added = l.added; ready = l.ready; local = l.local };
   waits = h.waits;
   no_mutex = h.no_mutex;
   apart = h.apart;

@@ -1,5 +1,5 @@
 -- What follows from the soundness of what is kept: bounds of effective priorities, and who is on which level.
-use Rattle.std.proofs.Common.{◌≡◌, ◌↔◌, ℕ, ◌+◌, ◌<◌, ◌≤◌, ◌==◌, Bool, true, false, if◌then◌else◌, nat_lt, length, Option, Some, None, IsSome, IfSome, refl, sym, ap, ◌∙◌, arith}
+use Rattle.std.proofs.Common.{◌≡◌, ◌↔◌, ℕ, ◌+◌, ◌<◌, ◌≤◌, ◌==◌, Bool, true, false, if◌then◌else◌, nat_lt, length, Option, Some, None, IsSome, IfSome, refl, sym, ap, ◌∙◌, eqb-true, arith}
 use Rattle.std.proofs.lemmas.Bool.{true≢false}
 use Rattle.std.proofs.lemmas.Bool.Decides.{nat_tests}
 use Rattle.pif_nodes.specs.Lists.{has}
@@ -10,8 +10,8 @@ use Rattle.pif_model.specs.PiKernel.{Kernel, IsKernel, effective_in, is_among, i
 use Rattle.pif_model.specs.PiKernel.{seat_at as kernel_seat_at, state_at as kernel_state_at}
 use Rattle.pif_rtmutex.specs.Owners.{seat_at}
 use Rattle.pif_chains.proofs.Greatest.{effective_most, effective_own}
-use Rattle.pif_kernel.specs.Plain.{Plain, IsSound, kernel_of}
-use Rattle.pif_kernel.proofs.Seats.{IsFitted, fitted, seats_length, base_seen, added_seen, states_seen}
+use Rattle.pif_kernel.specs.Plain.{Plain, IsListed, IsSound, kernel_of}
+use Rattle.pif_kernel.proofs.Seats.{IsFitted, fitted, seats_length, base_seen, added_seen, states_seen, status_seen}
 use Rattle.pif_kernel.proofs.Picked.{levels_seen, level_seen, among_has}
 
 -- statuses, rows and keys of what is sound fit together
@@ -94,10 +94,15 @@ unadded_off p h t le r =
     by_zero true past = refl
     by_zero false past = rw past refl
 
--- who is on a level was added
-pub listed_added : (k : Kernel) → IsKernel k → (t r : ℕ) → is_among (level_at k.levels r) t ≡ true → has_seat k t ≡ true
-listed_added k h t r e = by_seat (has_seat k t) refl (sym (h.level t r) ∙ e)
+-- where threads stand with their effective priorities, who is on a level stands on its own
+pub listed_kept : (p : Plain) → IsFitted p → IsKernel (kernel_of p) → ((t : ℕ) → (seat_at p.owners t).local ≡ effective_in (kernel_of p) t)
+    → (t r : ℕ) → is_among (level_at (kernel_of p).levels r) t ≡ true → IsListed p t r
+listed_kept p fit k local t r e =
+    by_tests (has_seat (kernel_of p) t) refl (is_ready (kernel_seat_at (kernel_of p) t).status) refl (effective_in (kernel_of p) t == r) refl (sym (k.level t r) ∙ e)
   where
-    by_seat : (b : Bool) → has_seat k t ≡ b → (if has_seat k t then (if is_ready (kernel_seat_at k t).status then effective_in k t == r else false) else false) ≡ true → has_seat k t ≡ true
-    by_seat true x y = x
-    by_seat false x y = absurd (true≢false (sym y ∙ rw x refl))
+    by_tests : (a : Bool) → has_seat (kernel_of p) t ≡ a → (b : Bool) → is_ready (kernel_seat_at (kernel_of p) t).status ≡ b → (c : Bool) → (effective_in (kernel_of p) t == r) ≡ c
+        → (if has_seat (kernel_of p) t then (if is_ready (kernel_seat_at (kernel_of p) t).status then effective_in (kernel_of p) t == r else false) else false) ≡ true → IsListed p t r
+    by_tests true x true y true z on = record { added = x; ready = ap is_ready (sym (status_seen p fit t)) ∙ y; local = local t ∙ eqb-true (effective_in (kernel_of p) t) r z }
+    by_tests true x true y false z on = absurd (true≢false (sym on ∙ rw (x, y, z) refl))
+    by_tests true x false y c z on = absurd (true≢false (sym on ∙ rw (x, y) refl))
+    by_tests false x b y c z on = absurd (true≢false (sym on ∙ rw x refl))

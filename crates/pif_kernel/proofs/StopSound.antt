@@ -7,13 +7,14 @@ use Rattle.pif_model.specs.declared.lines.Status.TheVariants.{Ready, Stopped}
 use Rattle.pif_model.specs.declared.lines.Woken.TheVariants.{Fresh}
 use Rattle.pif_model.specs.PiKernel.{Kernel, IsKernel, queued_on, has_seat, is_ready, effective_in, kernel_after_stop}
 use Rattle.pif_model.specs.PiKernel.{seat_at as kernel_seat_at}
+use Rattle.pif_rtmutex.specs.Owners.{seat_at}
 use Rattle.pif_chains.proofs.KernelKept.{stop_kept}
 use Rattle.pif_chains.proofs.Places.{kept_at}
 use Rattle.pif_chains.proofs.Statuses.{ready-queued_on_nothing}
 use Rattle.pif_kernel.specs.Plain.{Plain, IsPlaced, IsSound, kernel_of, status_at, key_at}
-use Rattle.pif_kernel.proofs.Seats.{status_seen, kernel_by_parts, seats_of-set_status}
+use Rattle.pif_kernel.proofs.Seats.{IsFitted, status_seen, kernel_by_parts, seats_of-set_status}
 use Rattle.pif_kernel.proofs.Picked.{levels_left, length-left}
-use Rattle.pif_kernel.proofs.Standing.{fits, listed_added}
+use Rattle.pif_kernel.proofs.Standing.{fits, listed_kept}
 use Rattle.pif_kernel.proofs.StopLaws.{effective_stopped}
 
 module _ (p : Plain) (q : Queue) (tb : Table) (t : ℕ) (h : IsSound p) (added : has_seat (kernel_of p) t ≡ true) (ready : is_ready (kernel_seat_at (kernel_of p) t).status ≡ true)
@@ -43,6 +44,17 @@ module _ (p : Plain) (q : Queue) (tb : Table) (t : ℕ) (h : IsSound p) (added :
   effective_after : (u : ℕ) → effective_in (kernel_of p) u ≡ effective_in (kernel_of after) u
   effective_after u = sym (ap (λ (k : Kernel). effective_in k u) kernel_after ∙ effective_stopped (kernel_of p) t ready u)
 
+  fit_after : IsFitted after
+  fit_after = record {
+    few = omega (arith, (fits p h).few, long);
+    free = λ u l. h.placed.free u (omega (arith, l, long));
+    waits = λ u. h.placed.waits u ∙ ap (key_at p) (sym (queued_same u));
+    owners = λ m. omega (arith, h.placed.owners m, long);
+  }
+
+  local_after : (u : ℕ) → (seat_at after.owners u).local ≡ effective_in (kernel_of after) u
+  local_after u = h.local u ∙ effective_after u
+
   placed_after : IsPlaced after
   placed_after = record {
     within = h.placed.within;
@@ -52,26 +64,26 @@ module _ (p : Plain) (q : Queue) (tb : Table) (t : ℕ) (h : IsSound p) (added :
     few = omega (arith, h.placed.few, long);
     nobody = h.placed.nobody;
     admitted = λ u n l. h.placed.admitted u n (omega (arith, l, long));
-    free = λ u l. h.placed.free u (omega (arith, l, long));
+    free = fit_after.free;
     most = h.placed.most;
     lists = count ∙ h.placed.lists;
     queue = place ∙ rw h.placed.queue refl;
     holds = holds;
-    listed = listed_added (kernel_of after) kept;
-    waits = λ u. h.placed.waits u ∙ ap (key_at p) (sym (queued_same u));
+    listed = listed_kept after fit_after kept local_after;
+    waits = fit_after.waits;
     no_mutex = h.placed.no_mutex;
     apart = h.placed.apart;
     made = h.placed.made;
     owned = h.placed.owned;
     count = h.placed.count;
-    owners = λ m. omega (arith, h.placed.owners m, long);
+    owners = fit_after.owners;
     tickets = h.placed.tickets;
   }
 
   pub sound_after : IsSound after
   sound_after = record {
     placed = placed_after;
-    local = λ u. h.local u ∙ effective_after u;
+    local = local_after;
     rank = λ u r e. h.rank u r e ∙ effective_after u;
     kernel = kept;
   }

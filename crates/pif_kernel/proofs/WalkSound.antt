@@ -10,17 +10,18 @@ use Rattle.pif_runq.specs.Levels.{Queue, Holds, IsLevel, IsQueued, level_of}
 use Rattle.pif_model.specs.PiKernel.{Kernel, IsKernel, effective_in, is_among, level_at, settled, waits_for}
 use Rattle.pif_model.specs.PiKernel.{seat_at as kernel_seat_at}
 use Rattle.pif_rtmutex.specs.Owners.{Owners, Seat, Wait, seat_at, owner_at, count, waits_on, rank_of, no_seat}
-use Rattle.pif_boost.specs.Boosts.{IsRepaired, IsRepairedBut, base_of, greatest_base, boosted, ranked}
+use Rattle.pif_boost.specs.Boosts.{IsRepaired, IsRepairedBut, base_of, local_of, greatest_base, boosted, ranked}
 use Rattle.pif_boost.specs.Boosts.{releveled as walked}
 use Rattle.pif_chains.proofs.Following.{reaches-from_within}
 use Rattle.pif_chains.proofs.Hops.{nobody, reach_below}
 use Rattle.pif_chains.proofs.Numbers.{within}
+use Rattle.pif_chains.proofs.Statuses.{ready-queued_on_nothing}
 use Rattle.pif_chains.proofs.Greatest.{effective_most, effective_wider, effective_same}
 use Rattle.pif_chains.proofs.KernelLevels.{length-levels_by}
-use Rattle.pif_kernel.specs.Plain.{Plain, IsPlaced, IsSound, Rise, kernel_of, key_at, state_at, ticket_of}
+use Rattle.pif_kernel.specs.Plain.{Plain, IsPlaced, IsSound, Rise, kernel_of, key_at, state_at, ticket_of, IsListed, status_at}
 use Rattle.pif_kernel.proofs.Seats.{IsFitted, fitted, seats_length, base_seen, owners_waits, waits_below, kernel_by_parts, added_seen, states_seen, states_length, seats_of-same_base}
 use Rattle.pif_kernel.proofs.Picked.{levels_seen, levels_count, among_has}
-use Rattle.pif_kernel.proofs.Standing.{listed_added, level_same}
+use Rattle.pif_kernel.proofs.Standing.{listed_kept, level_same}
 use Rattle.pif_kernel.proofs.LevelLaws.{levels_settled}
 
 wait_state : (n : ℕ) (o : Option Wait) → option_map (λ (w : Wait). w.state) (option_map (ranked n) o) ≡ option_map (λ (w : Wait). w.state) o
@@ -112,7 +113,7 @@ module _ (p : Plain) (h : IsPlaced p) (now : Owners) (q : Queue) (tb : Table) (r
     where
       by_test : (b : Bool) → is_among (level_at (kernel_of p).levels r) u ≡ b → is_among (level_at (kernel_of p).levels r) u ≡ false
       by_test false e = e
-      by_test true e = let w = within u (length (kernel_of p).seats) (h.listed u r e) in absurd (omega (arith, l, w.1))
+      by_test true e = let w = within u (length (kernel_of p).seats) (h.listed u r e).added in absurd (omega (arith, l, w.1))
 
   pub kernel_after : kernel_of after ≡ settled (kernel_of p)
   unfolding kernel_of
@@ -123,6 +124,17 @@ module _ (p : Plain) (h : IsPlaced p) (now : Owners) (q : Queue) (tb : Table) (r
       (λ r. levels_seen after r
       ∙ levels_settled p.owners p.queue p.table (kernel_of p).levels (length (kernel_of p).seats - 1) (effective_in (kernel_of p)) h.holds (levels_seen p) effective_seen (omega (arith, fit.few, seats_length p fit)) off q tb walks r)
 
+  fit_after : IsFitted after
+  fit_after = record {
+    few = omega (arith, fit.few, repaired.threads);
+    free = λ t l. nobody_now t (effective_out t l) (h.free t l);
+    waits = λ t. waits_now t ∙ h.waits t;
+    owners = λ m. omega (arith, state_now m, h.owners m);
+  }
+
+  local_after : (t : ℕ) → (seat_at now t).local ≡ effective_in (kernel_of after) t
+  local_after t = ap (λ (s : Seat). s.local) (seat_now t) ∙ sym (ap (λ (k : Kernel). effective_in k t) kernel_after)
+
   placed_after : IsKernel (kernel_of after) → IsPlaced after
   placed_after kept = record {
     within = h.within;
@@ -132,26 +144,26 @@ module _ (p : Plain) (h : IsPlaced p) (now : Owners) (q : Queue) (tb : Table) (r
     few = h.few;
     nobody = nobody_now 0 effective_zero h.nobody;
     admitted = λ t n l. omega (arith, base_now t, h.admitted t n l);
-    free = λ t l. nobody_now t (effective_out t l) (h.free t l);
+    free = fit_after.free;
     most = λ t. omega (arith, base_now t, h.most t);
     lists = lists ∙ h.lists;
     queue = place ∙ rw h.queue refl;
     holds = holds;
-    listed = listed_added (kernel_of after) kept;
-    waits = λ t. waits_now t ∙ h.waits t;
+    listed = listed_kept after fit_after kept local_after;
+    waits = fit_after.waits;
     no_mutex = h.no_mutex;
     apart = h.apart;
     made = λ m k e. subst (λ (o : Option ℕ). IsSome o) (sym (owner_now k)) (h.made m k e);
     owned = λ m k e z. h.owned m k e (sym (state_now m) ∙ z);
     count = ap (λ o. count (record { seats = now.seats; owners = o })) repaired.owners ∙ h.count;
-    owners = λ m. omega (arith, state_now m, h.owners m);
+    owners = fit_after.owners;
     tickets = subst (λ (f : ℕ → ℕ). Rise f 1 p.arrivals p.next) (fun_ext ticket_now) h.tickets;
   }
 
   pub sound_after : IsKernel (settled (kernel_of p)) → IsSound after
   sound_after settles = record {
     placed = placed_after kept;
-    local = λ t. ap (λ (s : Seat). s.local) (seat_now t) ∙ sym (ap (λ (k : Kernel). effective_in k t) kernel_after);
+    local = local_after;
     rank = λ t r e. rank_now t r e ∙ sym (ap (λ (k : Kernel). effective_in k t) kernel_after);
     kernel = kept;
   }
@@ -168,12 +180,21 @@ pub record IsWalkable (p : Plain) (start : ℕ) (k : Kernel) : Type 0 where
   pub kept : IsKernel k
 
 module _ (p : Plain) (start : ℕ) (k : Kernel) (w : IsWalkable p start k) where
-  -- who is on a level was added
+  -- who is on a level stands on its own
+  listed : (u r : ℕ) → IsLevel r → has u (level_of p.queue p.table r) ≡ true → IsListed p u r
+  listed u r l on = w.placed.listed u r (among_has (level_at (kernel_of p).levels r) u ∙ ap (has u) (level_same p r l) ∙ on)
+
+  -- so it was admitted
   pub on_levels : (u : ℕ) → IsQueued p.queue p.table u → 1 ≤ base_of p.owners u
-  on_levels u on = let a = added_seen p (fitted p w.placed) u (w.placed.listed u on.0 listed) in w.placed.admitted u a.0 a.1
-    where
-      listed : is_among (level_at (kernel_of p).levels on.0) u ≡ true
-      listed = among_has (level_at (kernel_of p).levels on.0) u ∙ ap (has u) (level_same p on.0 on.1) ∙ on.2
+  on_levels u on = let a = added_seen p (fitted p w.placed) u (listed u on.0 on.1 on.2).added in w.placed.admitted u a.0 a.1
+
+  -- waits for nobody
+  pub on_running : (u : ℕ) → IsQueued p.queue p.table u → waits_on p.owners u ≡ None
+  on_running u on = w.placed.waits u ∙ ap (key_at p) (ready-queued_on_nothing (status_at p u) (listed u on.0 on.1 on.2).ready) ∙ w.placed.no_mutex
+
+  -- and is on the level of its effective priority
+  pub on_local : (u r : ℕ) → IsLevel r → has u (level_of p.queue p.table r) ≡ true → r ≡ local_of p.owners u
+  on_local u r l on = sym (listed u r l on).local
 
   -- what is kept after the walk
   pub ended : (now : Owners) (q : Queue) (tb : Table) → IsRepaired p.owners now → ((r : ℕ) → IsLevel r → level_of q tb r ≡ walked p.owners p.queue p.table r)

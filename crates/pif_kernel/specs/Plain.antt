@@ -5,7 +5,7 @@ use Rattle.pif_model.specs.declared.lines.Status.{Status}
 use Rattle.pif_model.specs.declared.lines.Status.TheVariants.{Ready}
 use Rattle.pif_model.specs.declared.lines.Woken.TheVariants.{Fresh}
 use Rattle.pif_model.specs.Graph.{has_waiter}
-use Rattle.pif_model.specs.PiKernel.{Kernel, IsKernel, queued_on, has_seat, is_among, level_at, levels_by, effective_in}
+use Rattle.pif_model.specs.PiKernel.{Kernel, IsKernel, queued_on, is_ready, has_seat, is_among, level_at, levels_by, effective_in}
 use Rattle.pif_model.specs.PiKernel.{Seat as KernelSeat}
 use Rattle.pif_nodes.specs.declared.keys.Key.{Key}
 use Rattle.pif_nodes.specs.Table.{Table, no_key}
@@ -99,6 +99,12 @@ new_plain l first_ticket = record {
   next = first_ticket;
 }
 
+-- a thread on a level of the run queue was added and may run, and the level is the effective priority that it has
+pub record IsListed (p : Plain) (t level : ℕ) : Type 0 where
+  pub added : has_seat (kernel_of p) t ≡ true
+  pub ready : is_ready (status_at p t) ≡ true
+  pub local : (seat_at p.owners t).local ≡ level
+
 -- what holds of the parts at any time, between the steps of a call too
 pub record IsPlaced (p : Plain) : Type 0 where
   pub within : IsWithin p.limits
@@ -112,12 +118,11 @@ pub record IsPlaced (p : Plain) : Type 0 where
   pub admitted : (t : ℕ) → t ≢ 0 → t < length p.statuses → 1 ≤ (seat_at p.owners t).base
   pub free : (t : ℕ) → length p.statuses ≤ t → seat_at p.owners t ≡ no_seat
   pub most : (t : ℕ) → (seat_at p.owners t).base ≤ 99
-  -- the run queue stands in its table, level 1 and thread 1 first, and the table has no other lists; who is on a level
-  -- was added
+  -- the run queue stands in its table, level 1 and thread 1 first, and the table has no other lists
   pub lists : length p.table.lists ≡ 99
   pub queue : p.queue ≡ record { first_list = 0; first_node = 0; threads = p.limits.threads; mask = p.queue.mask }
   pub holds : Holds p.queue p.table
-  pub listed : (t level : ℕ) → is_among (level_at (kernel_of p).levels level) t ≡ true → has_seat (kernel_of p) t ≡ true
+  pub listed : (t level : ℕ) → is_among (level_at (kernel_of p).levels level) t ≡ true → IsListed p t level
   -- a thread waits on the owner state of the mutex on which it is queued
   pub waits : (t : ℕ) → waits_on p.owners t ≡ key_at p (queued_on (status_at p t))
   -- each key is that of one mutex, and names an owner state; there are no others
