@@ -12,7 +12,7 @@ use Rattle.pif_chains.proofs.Following.{IsGreatestAt, reaches-from_within, all_a
 use Rattle.pif_chains.proofs.Greatest.{effective_above, effective_attained, effective_own, effective_same}
 use Rattle.pif_chains.proofs.Hops.{Reaches-then, alone, nobody, found, found_below}
 use Rattle.pif_rtmutex.specs.Owners.{Owners, Seat, Wait, no_seat, seat_at, owner_at, waits_on, waits_for, WaitsFor, IsSound}
-use Rattle.pif_boost.specs.Boosts.{IsThread, base_of, local_of, greatest_base, greatest_waiting, ranked, boosted, IsRepairedBut}
+use Rattle.pif_boost.specs.Boosts.{IsThread, base_of, local_of, greatest_base, greatest_waiting, with_rank_priority, with_effective, IsRepairedBut}
 
 -- for whom a thread with this wait waits
 abbrev waits_by : Owners → Option Wait → ℕ
@@ -113,15 +113,17 @@ greatest_all v t n best e is = is ∙ ap (λ (j : ℕ). greatest_where (λ u. re
 -- WHERE NOTHING IS LEFT TO REPAIR
 
 -- a wait of no priority stands with none
-unranked_wait : (o : Option Wait) → ((w : Wait) → o ≡ Some w → w.rank.prio ≡ 0) → o ≡ option_map (ranked 0) o
+unranked_wait : (o : Option Wait) → ((w : Wait) → o ≡ Some w → w.rank.prio ≡ 0)
+    → o ≡ option_map (with_rank_priority 0) o
 unranked_wait None h = refl
 unranked_wait (Some w) h =
     let p : w.rank.prio ≡ 0 = h w refl in
     λ i. Some (record { state = w.state; rank = record { prio = p i; ticket = w.rank.ticket } })
 
 -- nor does a seat
-unranked : (x : Seat) → x.local ≡ 0 → ((w : Wait) → x.wait ≡ Some w → w.rank.prio ≡ 0) → x ≡ boosted 0 x
-unranked x l h = let w : x.wait ≡ option_map (ranked 0) x.wait = unranked_wait x.wait h in λ i. record { base = x.base; local = l i; wait = w i }
+unranked : (x : Seat) → x.local ≡ 0 → ((w : Wait) → x.wait ≡ Some w → w.rank.prio ≡ 0) → x ≡ with_effective 0 x
+unranked x l h = let w : x.wait ≡ option_map (with_rank_priority 0) x.wait = unranked_wait x.wait h in
+    λ i. record { base = x.base; local = l i; wait = w i }
 
 -- x is reached from t over one hop or more
 abbrev IsBefore : Owners → ℕ → ℕ → Type 0
@@ -219,11 +221,12 @@ module _ (v : Owners) (start : ℕ) (sound : IsSound v) (repaired : IsRepairedBu
       no_member h = cc
 
   -- and it stays as it is where it is given none
-  pub idle : start < length v.seats → 1 ≤ base_of v start → (t : ℕ) → IsThread v t → greatest_base v t ≡ 0 → seat_at v t ≡ boosted 0 (seat_at v t)
+  pub idle : start < length v.seats → 1 ≤ base_of v start → (t : ℕ) → IsThread v t → greatest_base v t ≡ 0
+      → seat_at v t ≡ with_effective 0 (seat_at v t)
   idle row admitted t th e = unranked (seat_at v t) (local_none t th free e) (λ w is. rank w is ∙ local_none t th free e)
     where
       free : Reaches (WaitsFor v) start t → ⊥
       free r = let l : base_of v start ≤ greatest_base v t = greatest_base-above v start t row th.1 r in absurd (omega arith)
 
       rank : (w : Wait) → (seat_at v t).wait ≡ Some w → w.rank.prio ≡ local_of v t
-      rank w is = repaired.ranks t w.rank (λ k. free (here (sym k))) (ap (option_map (λ (x : Wait). x.rank)) is)
+      rank w is = repaired.ranks t w.rank (ap (option_map (λ (x : Wait). x.rank)) is)

@@ -1,20 +1,18 @@
 -- Lemmas on the levels of a run queue while a walk moves one thread after the other: so far the threads up to k.
 use Rattle.std.proofs.Common.{◌≡◌, ◌≢◌, ◌⊎◌, ℕ, zero, suc, ◌<◌, ◌≤◌, ◌+◌, ◌-◌, Bool, true, false, ◌==◌, eqb, nat_lt, nat_eq, not, ◌&&◌, ◌||◌, cond, List, [], ◌∷◌, ◌++◌, length, Option, Some, None, refl, sym, ap, ◌∙◌, subst, inl, inr, if◌then◌else◌, append_assoc, append-nil, arith}
-use Rattle.std.specs.List.{filter, count_by, range_with_len}
+use Rattle.std.specs.List.{filter, range_with_len}
 use Rattle.std.specs.Option.{is_some}
 use Rattle.std.proofs.lemmas.Bool.{cases_eq, cases_Bool, eq-eqb, ne_eqb, eqb-true, or_left, or_right, or_cases, and_left, and_right, false_from_ne_true, true≢false}
 use Rattle.std.proofs.lemmas.Bool.Decides.{nat_tests}
 use Rattle.std.proofs.lemmas.List.Elements.{filter-append}
-use Rattle.std.proofs.lemmas.List.Sums.{length-filter, count_by-le-length, sum_by-append}
-use Rattle.std.proofs.lemmas.List.FromFn.{length-range_with_len}
 use Rattle.pif_nodes.specs.Lists.{has, without}
 use Rattle.pif_nodes.specs.Table.{Table}
 use Rattle.pif_nodes.proofs.ListLemmas.{has-head, has-append, without_absent}
-use Rattle.pif_runq.specs.Levels.{Queue, IsLevel, level_of, level_with, Holds, moved}
+use Rattle.pif_runq.specs.Levels.{Queue, IsLevel, level_of, level_with, Holds, level_after_move}
 use Rattle.std.proofs.lemmas.Option.{same_Some}
 use Rattle.pif_runq.proofs.LevelWithLemmas.{level_with-from_listed, listed-from_level_with}
 use Rattle.pif_rtmutex.specs.Owners.{Owners}
-use Rattle.pif_boost.specs.Boosts.{greatest_base, is_other, joins, releveled}
+use Rattle.pif_boost.specs.Boosts.{greatest_base, is_other, joins, level_after_walk}
 
 -- LISTS
 
@@ -25,10 +23,6 @@ filter_on f g (x ∷ xs) h =
     let head : f x ≡ g x = h x (has-head x xs) in
     let rest : filter f xs ≡ filter g xs = filter_on f g xs (λ y m. h y (or_right (eqb y x) (has y xs) m)) in
     λ i. cond (head i) (x ∷ rest i) (rest i)
-
--- and count the same
-pub count_on : (f g : ℕ → Bool) (xs : List ℕ) → ((x : ℕ) → has x xs ≡ true → f x ≡ g x) → count_by f xs ≡ count_by g xs
-count_on f g xs h = sym (length-filter f xs) ∙ ap length (filter_on f g xs h) ∙ length-filter g xs
 
 -- what a filter keeps was there and passes
 pub has-filter : (f : ℕ → Bool) (u : ℕ) (xs : List ℕ) → has u (filter f xs) ≡ true → (has u xs ≡ true) × (f u ≡ true)
@@ -95,18 +89,6 @@ filter_more : (f : ℕ → Bool) (k u : ℕ) → u ≡ k + 1 → filter f (range
 filter_more f k u e =
     let s : 1 + k ≡ u = omega arith in
     ap (filter f) (range_more 1 k ∙ ap (λ (x : ℕ). range_with_len 1 k ++ x ∷ []) s) ∙ filter-append f (range_with_len 1 k) (u ∷ [])
-
--- how many of the numbers up to k pass, and one more
-pub count_more : (f : ℕ → Bool) (k u : ℕ) → u ≡ k + 1 → count_by f (range_with_len 1 (k + 1)) ≡ count_by f (range_with_len 1 k) + cond (f u) 1 0
-count_more f k u e =
-    let s : 1 + k ≡ u = omega arith in
-    let one : count_by f (u ∷ []) ≡ cond (f u) 1 0 = omega arith in
-    ap (count_by f) (range_more 1 k ∙ ap (λ (x : ℕ). range_with_len 1 k ++ x ∷ []) s)
-    ∙ sum_by-append (λ x. cond (f x) 1 0) (range_with_len 1 k) (u ∷ []) ∙ ap (λ (n : ℕ). count_by f (range_with_len 1 k) + n) one
-
--- at most all
-pub count_most : (f : ℕ → Bool) (k : ℕ) → count_by f (range_with_len 1 k) ≤ k
-count_most f k = omega (arith, count_by-le-length f (range_with_len 1 k), length-range_with_len 1 k)
 
 -- ONE LEVEL
 
@@ -243,11 +225,14 @@ next_level k u v q now t table e old new levels =
 
 -- one thread more, on some level or none
 pub leveled-more : (k u : ℕ) (v : Owners) (q : Queue) (t : Table) (p : ℕ) → u ≡ k + 1 → Holds q t → IsLevel p
-    → (if is_some (level_with q t u) then moved u (greatest_base v u) p (leveled_to k v q t p) else leveled_to k v q t p) ≡ leveled_to (k + 1) v q t p
+    → (if is_some (level_with q t u) then level_after_move u (greatest_base v u) p (leveled_to k v q t p)
+    else leveled_to k v q t p) ≡ leveled_to (k + 1) v q t p
 leveled-more k u v q t p e holds lp = by_level (level_with q t u) refl
   where
     Goal : Option ℕ → Type 0
-    Goal o = (if is_some o then moved u (greatest_base v u) p (leveled_to k v q t p) else leveled_to k v q t p) ≡ leveled_to (k + 1) v q t p
+    Goal o =
+        (if is_some o then level_after_move u (greatest_base v u) p (leveled_to k v q t p) else leveled_to k v q t p)
+        ≡ leveled_to (k + 1) v q t p
 
     joining : Option ℕ → Bool
     joining o = (greatest_base v u == p) && is_other p o
@@ -309,7 +294,7 @@ leveled-start v q t p some =
 
 -- all were at the end
 pub leveled-all : (k : ℕ) (v : Owners) (q : Queue) (t : Table) (p : ℕ) → k + 1 ≡ length v.seats → ((u : ℕ) → has u (level_of q t p) ≡ true → u < length v.seats)
-    → leveled_to k v q t p ≡ releveled v q t p
+    → leveled_to k v q t p ≡ level_after_walk v q t p
 leveled-all k v q t p e row =
     let kept : filter (stays k (greatest_base v) p) (level_of q t p) ≡ filter (λ x. greatest_base v x == p) (level_of q t p) =
     filter_on (stays k (greatest_base v) p) (λ x. greatest_base v x == p) (level_of q t p)

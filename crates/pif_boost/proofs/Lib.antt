@@ -1,5 +1,5 @@
 pub mod Greatest
-pub mod Handing
+pub mod Propagation
 pub mod Levels
 pub mod Repairs
 pub mod Settled

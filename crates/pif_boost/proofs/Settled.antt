@@ -1,10 +1,10 @@
 -- After a walk nothing is left to repair, and a wait that comes or goes leaves that to one thread.
-use Rattle.std.proofs.Common.{◌≡◌, ◌≢◌, ◌⊎◌, ℕ, ◌<◌, ◌≤◌, ◌+◌, max, suc, Bool, true, false, ◌==◌, List, length, Option, Some, None, refl, sym, ap, ◌∙◌, inl, inr, arith, length-set}
+use Rattle.std.proofs.Common.{◌≡◌, ◌≢◌, ◌⊎◌, ℕ, ◌<◌, ◌≤◌, ◌+◌, max, Bool, true, false, ◌==◌, List, length, Option, Some, None, refl, sym, ap, ◌∙◌, inl, inr, arith, length-set}
 use Rattle.std.specs.Prelude.{option_map, option_and_then, unwrap_or}
 use Rattle.std.specs.List.{filter}
 use Rattle.std.specs.Option.{is_some}
 use Rattle.std.proofs.Math.Path.{fun_ext}
-use Rattle.std.proofs.lemmas.Bool.{cases_eq, cases_lt, ne_eqb, or_cases, and_parts}
+use Rattle.std.proofs.lemmas.Bool.{cases_eq, cases_lt, eqb-true, ne_eqb, or_cases, and_parts}
 use Rattle.std.proofs.lemmas.Bool.Decides.{nat_tests}
 use Rattle.std.proofs.lemmas.List.{get_or_past}
 use Rattle.pif_nodes.specs.declared.keys.Key.{Key}
@@ -18,11 +18,12 @@ use Rattle.pif_chains.proofs.Places.{kept_at}
 use Rattle.pif_runq.specs.Levels.{Queue, IsLevel, level_of, level_with, Holds, IsQueued}
 use Rattle.pif_rtmutex.specs.Owners.{Owners, Seat, Wait, no_seat, seat_at, owner_at, waits_for, rank_of, with_wait, IsTop}
 use Rattle.pif_rtmutex.proofs.OwnersLemmas.{seat_at-with_seat, seat_at-with_seat_other, some_rank}
-use Rattle.pif_boost.specs.Boosts.{IsThread, base_of, local_of, greatest_base, greatest_waiting, ranked, boosted, is_other, joins, releveled, threads_of, IsRepairedBut, IsNext}
+use Rattle.pif_boost.specs.Boosts.{IsThread, base_of, local_of, greatest_base, greatest_waiting, with_rank_priority, with_effective, is_other, joins, level_after_walk, threads_of, IsRepaired, IsRepairedBut, IsNext}
 use Rattle.pif_boost.proofs.Greatest.{out_waits}
 use Rattle.pif_boost.proofs.Levels.{has-filter}
+use Rattle.pif_boost.proofs.Walks.{admitted_row, repaired-local}
 use Rattle.pif_boost.proofs.Repairs.{IsRepairedTo, greatest-kept}
-use Rattle.pif_boost.proofs.Walks.{queued_found}
+use Rattle.pif_runq.proofs.LevelWithLemmas.{queued_found}
 
 -- where each thread has the effective priority that it is to have, that is the greatest of its base priority and of those
 -- of the threads that wait for it
@@ -34,7 +35,8 @@ settled_local v all t th =
     (greatest_where_same (λ u. waits_for v u == t) (λ u. waits_for v u == t) (greatest_base v) (local_of v) (length v.seats) (λ u l. refl) (λ u l. sym (all u l)))
 
 -- who stands boosted stands with that priority
-ranked-prio : (p : ℕ) (o : Option Wait) (rank : Key) → option_map (λ (w : Wait). w.rank) (option_map (ranked p) o) ≡ Some rank → rank.prio ≡ p
+ranked-prio : (p : ℕ) (o : Option Wait) (rank : Key)
+    → option_map (λ (w : Wait). w.rank) (option_map (with_rank_priority p) o) ≡ Some rank → rank.prio ≡ p
 ranked-prio p None rank e = absurd cc
 ranked-prio p (Some w) rank e = sym (ap (λ (o : Option Key). unwrap_or (option_map (λ (k : Key). k.prio) o) 0) e)
 
@@ -43,7 +45,7 @@ pub settled : (k : ℕ) (old new : Owners) → k + 1 ≡ length old.seats → Is
 settled k old new last r start =
     record {
       locals = λ t th ne. settled_local new all t th;
-      ranks = λ t rank ne e. by_row t rank e (cases_lt t (length old.seats));
+      ranks = λ t rank e. by_row t rank e (cases_lt t (length old.seats));
     }
   where
     all : (x : ℕ) → x < length new.seats → local_of new x ≡ greatest_base new x
@@ -51,7 +53,7 @@ settled k old new last r start =
 
     by_row : (t : ℕ) (rank : Key) → rank_of new t ≡ Some rank → ((t < length old.seats) ⊎ (length old.seats ≤ t)) → rank.prio ≡ local_of new t
     by_row t rank e (inl l) =
-        let is : seat_at new t ≡ boosted (greatest_base old t) (seat_at old t) = r.done t l (omega arith) in
+        let is : seat_at new t ≡ with_effective (greatest_base old t) (seat_at old t) = r.done t l (omega arith) in
         ranked-prio (greatest_base old t) (seat_at old t).wait rank (ap (λ (s : Seat). option_map (λ (w : Wait). w.rank) s.wait) (sym is) ∙ e) ∙ ap (λ (s : Seat). s.local) (sym is)
     by_row t rank e (inr l) =
         let out : seat_at new t ≡ no_seat = get_or_past new.seats t no_seat (omega (arith, r.threads)) in
@@ -74,7 +76,7 @@ top_is_next v k t repaired top =
     }
   where
     local : (u : ℕ) (rank : Key) → rank_of v u ≡ Some rank → rank.prio ≡ local_of v u
-    local u rank e = (repaired (suc u)).ranks u rank (λ same. absurd (omega arith)) e
+    local u rank e = (repaired 0).ranks u rank e
 
 -- A WAIT THAT COMES OR GOES
 
@@ -90,7 +92,7 @@ pub rewaited : (v : Owners) (t start : ℕ) (w : Option Wait) → ((s : ℕ) →
 rewaited v t start w repaired was now rank =
     record {
       locals = λ u th ne. local u ∙ (repaired start).locals u (th.0, omega (arith, th.1, long)) ne ∙ sym (λ i. max (base u i) (waiting u th.0 ne i));
-      ranks = λ u k ne e. by_seat u k ne e (seat_at-with_seat t x v u);
+      ranks = λ u k e. by_seat u k e (seat_at-with_seat t x v u);
     }
   where
     x : Seat
@@ -118,34 +120,71 @@ rewaited v t start w repaired was now rank =
         let locals : ◌≡◌ {A = ℕ → ℕ} (local_of (with_wait t w v)) (local_of v) = fun_ext local in
         λ i. greatest_where (tests i) (locals i) (long i)
 
-    by_seat : (u : ℕ) (k : Key) → u ≢ start → rank_of (with_wait t w v) u ≡ Some k
+    by_seat : (u : ℕ) (k : Key) → rank_of (with_wait t w v) u ≡ Some k
         → ((u ≡ t) × (seat_at (with_wait t w v) u ≡ x)) ⊎ (seat_at (with_wait t w v) u ≡ seat_at v u) → k.prio ≡ local_of (with_wait t w v) u
-    by_seat u k ne e (inl s) =
+    by_seat u k e (inl s) =
         rank k (ap (λ (y : Seat). option_map (λ (z : Wait). z.rank) y.wait) (sym s.1) ∙ e) ∙ ap (local_of v) (sym s.0) ∙ sym (local u)
-    by_seat u k ne e (inr s) =
-        (repaired start).ranks u k ne (ap (λ (y : Seat). option_map (λ (z : Wait). z.rank) y.wait) (sym s) ∙ e) ∙ sym (local u)
+    by_seat u k e (inr s) =
+        (repaired start).ranks u k (ap (λ (y : Seat). option_map (λ (z : Wait). z.rank) y.wait) (sym s) ∙ e)
+        ∙ sym (local u)
 
 -- THE RUN QUEUE
 
--- who is on the run queue after a walk was on it
-pub was_ready : (v : Owners) (q now : Queue) (t table : Table) → Holds q t → ((p : ℕ) → IsLevel p → level_of now table p ≡ releveled v q t p)
-    → (u : ℕ) → IsQueued now table u → IsQueued q t u
-was_ready v q now t table holds levels u queued =
-    by_part (or_cases (has u kept) (has u new) (sym (has-append u kept new) ∙ ap (has u) (sym (levels queued.0 queued.1)) ∙ queued.2))
-  where
-    kept : List ℕ
-    kept = filter (λ x. greatest_base v x == queued.0) (level_of q t queued.0)
+module _ (v : Owners) (q now : Queue) (t table : Table)
+    (levels : (p : ℕ) → IsLevel p → level_of now table p ≡ level_after_walk v q t p) where
+  -- the threads of a level that were on it, and those that joined it
+  kept : ℕ → List ℕ
+  kept p = filter (λ x. greatest_base v x == p) (level_of q t p)
 
-    new : List ℕ
-    new = filter (joins v q t queued.0) (threads_of v)
+  new : ℕ → List ℕ
+  new p = filter (joins v q t p) (threads_of v)
 
-    by_part : ((has u kept ≡ true) ⊎ (has u new ≡ true)) → IsQueued q t u
-    by_part (inl h) = (queued.0, queued.1, (has-filter (λ x. greatest_base v x == queued.0) u (level_of q t queued.0) h).0)
-    by_part (inr h) =
-        let other : is_other queued.0 (level_with q t u) ≡ true =
-        (and_parts (greatest_base v u == queued.0) (is_other queued.0 (level_with q t u)) (has-filter (joins v q t queued.0) u (threads_of v) h).1).1 in
-        queued_found q t u holds (some queued.0 (level_with q t u) other)
-      where
-        some : (p : ℕ) (o : Option ℕ) → is_other p o ≡ true → is_some o ≡ true
-        some p None e = e
-        some p (Some l) e = refl
+  on_level : (u p : ℕ) → IsLevel p → has u (level_of now table p) ≡ true
+      → (has u (kept p) ≡ true) ⊎ (has u (new p) ≡ true)
+  unfolding kept new
+  on_level u p lp on = or_cases (has u (kept p)) (has u (new p))
+      (sym (has-append u (kept p) (new p)) ∙ ap (has u) (sym (levels p lp)) ∙ on)
+
+  -- who is on a level after a walk is to have that priority
+  pub level_is_greatest : (u p : ℕ) → IsLevel p → has u (level_of now table p) ≡ true → greatest_base v u ≡ p
+  unfolding kept new
+  level_is_greatest u p lp on = by_part (on_level u p lp on)
+    where
+      by_part : ((has u (kept p) ≡ true) ⊎ (has u (new p) ≡ true)) → greatest_base v u ≡ p
+      by_part (inl h) = eqb-true (greatest_base v u) p (has-filter (λ x. greatest_base v x == p) u (level_of q t p) h).1
+      by_part (inr h) =
+          eqb-true (greatest_base v u) p
+          (and_parts (greatest_base v u == p) (is_other p (level_with q t u))
+          (has-filter (joins v q t p) u (threads_of v) h).1).0
+
+  -- and was on the run queue before
+  pub was_ready : Holds q t → (u : ℕ) → IsQueued now table u → IsQueued q t u
+  unfolding kept new
+  was_ready holds u queued = by_part (on_level u queued.0 queued.1 queued.2)
+    where
+      some : (p : ℕ) (o : Option ℕ) → is_other p o ≡ true → is_some o ≡ true
+      some p None e = e
+      some p (Some l) e = refl
+
+      by_part : ((has u (kept queued.0) ≡ true) ⊎ (has u (new queued.0) ≡ true)) → IsQueued q t u
+      by_part (inl h) = (
+        queued.0,
+        queued.1,
+        (has-filter (λ x. greatest_base v x == queued.0) u
+            (level_of q t queued.0) h).0,
+      )
+      by_part (inr h) =
+          let other : is_other queued.0 (level_with q t u) ≡ true =
+          (and_parts (greatest_base v u == queued.0) (is_other queued.0 (level_with q t u))
+          (has-filter (joins v q t queued.0) u (threads_of v) h).1).1 in
+          queued_found q t u holds (some queued.0 (level_with q t u) other)
+
+-- so it is on the level of the effective priority that it has then
+pub walked-level : (v new : Owners) (q now : Queue) (t table : Table) → Holds q t
+    → ((u : ℕ) → IsQueued q t u → 1 ≤ base_of v u) → IsRepaired v new
+    → ((p : ℕ) → IsLevel p → level_of now table p ≡ level_after_walk v q t p)
+    → (u p : ℕ) → IsLevel p → has u (level_of now table p) ≡ true → p ≡ local_of new u
+walked-level v new q now t table holds ready repaired levels u p lp on =
+    let was : IsQueued q t u = was_ready v q now t table levels holds u (p, lp, on) in
+    sym (level_is_greatest v q now t table levels u p lp on)
+    ∙ sym (repaired-local v new repaired u (admitted_row v u (ready u was)))

@@ -2,21 +2,24 @@
 use Rattle.std.proofs.Common.{◌≡◌, ◌⊎◌, ℕ, ◌<◌, ◌≤◌, ◌+◌, Bool, true, false, ◌==◌, eqb, List, [], ◌∷◌, length, replicate, map, Option, Some, None, IsSome, refl, sym, ap, ◌∙◌, subst, inl, inr, if◌then◌else◌, arith, length-set}
 use Rattle.std.specs.Prelude.{option_map, option_and_then, unwrap_or}
 use Rattle.std.specs.Option.{is_some}
-use Rattle.std.proofs.lemmas.Bool.{cases_eq, cases_lt, cases_Bool, eqb-true, or_cases}
+use Rattle.std.proofs.lemmas.Bool.{cases_eq, cases_lt, cases_Bool, eqb-true, or_cases, true≢false}
 use Rattle.std.proofs.lemmas.List.{get_or-replicate, length-replicate}
 use Rattle.pif_nodes.specs.declared.keys.Key.{Key}
 use Rattle.pif_nodes.specs.Lists.{has}
 use Rattle.pif_nodes.specs.Table.{Table, IsApart, list_at, no_key}
 use Rattle.pif_chains.proofs.Places.{kept_at}
 use Rattle.pif_chains.proofs.Following.{IsGreatestAt, greatest_where_some}
-use Rattle.pif_runq.specs.Levels.{Queue, IsLevel, level_of, list_for, thread_for, HasRoom, Holds, IsQueued, joined}
+use Rattle.pif_runq.specs.Levels.{Queue, IsLevel, level_of, level_with, list_for, thread_for, HasRoom, Holds, IsQueued, level_after_add}
+use Rattle.pif_runq.proofs.LevelWithLemmas.{level_with-from_listed}
 use Rattle.pif_rtmutex.specs.Owners.{Owners, Seat, Wait, no_seat, no_owners, seat_at, owner_at, count, waits_on, waits_for, with_seat, with_wait, with_owner}
-use Rattle.pif_rtmutex.proofs.OwnersLemmas.{seat_at-with_seat, seat_at-with_seat_same, seat_at-with_seat_other, seat_at-no_owners, count-no_owners, owner_at-with_owner_same, owner_at-with_owner_other}
-use Rattle.pif_boost.specs.Boosts.{IsThread, base_of, local_of, greatest_waiting, releveled, IsRepaired, IsRepairedBut}
+use Rattle.pif_rtmutex.proofs.OwnersLemmas.{seat_at-with_seat, seat_at-no_owners, count-no_owners, owner_at-with_owner_same, owner_at-with_owner_other}
+use Rattle.pif_boost.specs.Boosts.{IsThread, base_of, local_of, greatest_base, greatest_waiting, level_after_walk, IsRepaired, IsRepairedBut}
 use Rattle.pif_boost.specs.Settled.{IsSettled}
 use Rattle.pif_boost.proofs.Greatest.{waits_for-none, waits_for-owner}
 use Rattle.pif_boost.proofs.Settled.{rewaited, was_ready}
 use Rattle.pif_boost.proofs.Walks.{admitted_row}
+use Rattle.pif_boost.proofs.Repairs.{ranked-state}
+use Rattle.pif_boost.specs.Examples.{admitted, three_admitted, three_threads, new_queue, new_table}
 
 -- WAITS
 
@@ -62,23 +65,66 @@ dequeued v now t state owner repaired e waits owned =
     by_seat (inl s) = inl (ap (λ (x : Seat). unwrap_or (option_and_then (owner_at v) (option_map (λ (k : Wait). k.state) x.wait)) 0) s.1)
     by_seat (inr s) = inr (ap (λ (x : Seat). unwrap_or (option_and_then (owner_at v) (option_map (λ (k : Wait). k.state) x.wait)) 0) s ∙ before)
 
--- a walk after another wait of one thread leaves all settled
-pub walked : (v waited new : Owners) (q now : Queue) (t table : Table) (u : ℕ) (w : Option Wait) → IsSettled v q t → waited ≡ with_wait u w v
-    → IsRepaired waited new → ((s : ℕ) → IsRepairedBut s new) → ((p : ℕ) → IsLevel p → level_of now table p ≡ releveled waited q t p)
-    → now ≡ record q { mask = now.mask } → Holds now table → IsSettled new now table
-walked v waited new q now t table u w settled e repaired left levels place holds =
-    record {
-      repaired = left;
-      holds = holds;
-      ready = λ x queued. let one : 1 ≤ base_of waited x = ready x (was_ready waited q now t table settled.holds levels x queued) in
-          omega (arith, one, ap (λ (s : Seat). s.base) (repaired.seats x (admitted_row waited x one)));
-    }
-  where
-    ready : (x : ℕ) → IsQueued q t x → 1 ≤ base_of waited x
-    ready x queued =
-        let same : base_of waited x ≡ base_of v x =
-        ap (λ (y : Owners). base_of y x) e ∙ kept_at (λ (s : Seat). s.base) v.seats u (record (seat_at v u) { wait = w }) no_seat refl x in
-        omega (arith, same, settled.ready x queued)
+-- who is on no level is not on the run queue
+pub off_by_test : (q : Queue) (t : Table) (u : ℕ) (found : Option ℕ) (b : Bool) → Holds q t → found ≡ level_with q t u
+    → b ≡ is_some found → b ≡ false → IsQueued q t u → ⊥
+off_by_test q t u found b holds is tested none queued =
+    true≢false (ap is_some (sym (level_with-from_listed q t u queued.0 holds queued.1 queued.2)) ∙ ap is_some (sym is)
+    ∙ sym tested ∙ none)
+
+-- another wait of one thread
+module _ (v waited : Owners) (q : Queue) (t : Table) (u : ℕ) (w : Option Wait) (settled : IsSettled v q t)
+    (e : waited ≡ with_wait u w v) where
+  -- who is on the run queue was admitted
+  pub still_ready : (x : ℕ) → IsQueued q t x → 1 ≤ base_of waited x
+  still_ready x queued =
+      let same : base_of waited x ≡ base_of v x =
+      ap (λ (y : Owners). base_of y x) e ∙ kept_at (λ (s : Seat). s.base) v.seats u
+      (record (seat_at v u) { wait = w }) no_seat refl x in
+      omega (arith, same, settled.ready x queued)
+
+  -- and is on the level of its effective priority
+  pub still_level : (x p : ℕ) → IsLevel p → has x (level_of q t p) ≡ true → p ≡ local_of waited x
+  still_level x p lp on =
+      settled.level x p lp on ∙ sym (ap (λ (y : Owners). local_of y x) e
+      ∙ kept_at (λ (s : Seat). s.local) v.seats u (record (seat_at v u) { wait = w }) no_seat refl x)
+
+  -- and waits for nobody, where the thread that waits otherwise is not on it, or waits for nobody
+  pub still_running : (IsQueued q t u → w ≡ None) → (x : ℕ) → IsQueued q t x → waits_on waited x ≡ None
+  still_running free x queued = ap (λ (y : Owners). waits_on y x) e
+      ∙ by_seat (seat_at-with_seat u (record (seat_at v u) { wait = w }) v x)
+    where
+      by_seat : ((x ≡ u) × (seat_at (with_wait u w v) x ≡ record (seat_at v u) { wait = w }))
+          ⊎ (seat_at (with_wait u w v) x ≡ seat_at v x)
+          → waits_on (with_wait u w v) x ≡ None
+      by_seat (inl s) =
+          ap (λ (y : Seat). option_map (λ (k : Wait). k.state) y.wait) s.1
+          ∙ ap (option_map (λ (k : Wait). k.state)) (free (subst (IsQueued q t) s.0 queued))
+      by_seat (inr s) = ap (λ (y : Seat). option_map (λ (k : Wait). k.state) y.wait) s ∙ settled.running x queued
+
+  -- a walk after it leaves all settled
+  pub walked : (new : Owners) (now : Queue) (table : Table) → (IsQueued q t u → w ≡ None)
+      → IsRepaired waited new → ((s : ℕ) → IsRepairedBut s new)
+      → ((p : ℕ) → IsLevel p → level_of now table p ≡ level_after_walk waited q t p)
+      → ((x p : ℕ) → IsLevel p → has x (level_of now table p) ≡ true → p ≡ local_of new x) → Holds now table
+      → IsSettled new now table
+  walked new now table free repaired left levels level holds =
+      record {
+        repaired = left;
+        holds = holds;
+        ready = λ x queued. let one : 1 ≤ base_of waited x = still_ready x (was x queued) in
+            omega (arith, one, ap (λ (s : Seat). s.base) (repaired.seats x (admitted_row waited x one)));
+        running = λ x queued.
+            ap (λ (s : Seat). option_map (λ (k : Wait). k.state) s.wait) (repaired.seats x (row x queued))
+            ∙ ranked-state (greatest_base waited x) (seat_at waited x).wait ∙ still_running free x (was x queued);
+        level = level;
+      }
+    where
+      was : (x : ℕ) → IsQueued now table x → IsQueued q t x
+      was x queued = was_ready waited q now t table levels settled.holds x queued
+
+      row : (x : ℕ) → IsQueued now table x → x < length waited.seats
+      row x queued = admitted_row waited x (still_ready x (was x queued))
 
 -- THE START
 
@@ -87,10 +133,6 @@ pub record IsIdle (n : ℕ) (v : Owners) : Type 0 where
   pub long : length v.seats ≡ n + 1
   pub free : (x : ℕ) → (seat_at v x).wait ≡ None
   pub same : (x : ℕ) → local_of v x ≡ base_of v x
-
--- a thread of this priority that waits for nothing
-abbrev admitted : ℕ → Seat
-admitted p = record { base = p; local = p; wait = None }
 
 idle-new : (n : ℕ) (v : Owners) → v ≡ no_owners n → IsIdle n v
 idle-new n v e =
@@ -125,49 +167,48 @@ idle-made n k owner v now e h = subst (IsIdle n) (sym e) (record { long = h.long
 
 -- three threads and no state
 pub three : (v0 v1 v2 v3 : Owners) (t1 t2 t3 p1 p2 p3 : ℕ) → v0 ≡ no_owners 3 → v1 ≡ with_seat t1 (admitted p1) v0 → v2 ≡ with_seat t2 (admitted p2) v1
-    → v3 ≡ with_seat t3 (admitted p3) v2 → IsIdle 3 v3 × (count v3 ≡ 0)
+    → v3 ≡ with_seat t3 (admitted p3) v2 → (length v3.seats ≡ 4) × (count v3 ≡ 0)
 three v0 v1 v2 v3 t1 t2 t3 p1 p2 p3 e0 e1 e2 e3 = (
-  idle-admitted 3 t3 p3 v2 v3 e3 (idle-admitted 3 t2 p2 v1 v2 e2 (idle-admitted 3 t1 p1 v0 v1 e1 (idle-new 3 v0 e0))),
+  (idle-admitted 3 t3 p3 v2 v3 e3 (idle-admitted 3 t2 p2 v1 v2 e2
+      (idle-admitted 3 t1 p1 v0 v1 e1 (idle-new 3 v0 e0)))).long,
   ap count e3 ∙ ap count e2 ∙ ap count e1 ∙ ap count e0 ∙ count-no_owners 3,
 )
 
--- and two states
-pub two_made : (v v1 v2 : Owners) (k1 k2 o1 o2 : ℕ) → v1 ≡ with_owner k1 o1 v → v2 ≡ with_owner k2 o2 v1 → IsIdle 3 v → IsIdle 3 v2
-two_made v v1 v2 k1 k2 o1 o2 e1 e2 h = idle-made 3 k2 o2 v1 v2 e2 (idle-made 3 k1 o1 v v1 e1 h)
-
--- the first of three threads keeps its priority
-pub base_first : (v0 v1 v2 v3 made1 made2 : Owners) (t1 t2 t3 p1 p2 p3 k1 k2 o1 o2 : ℕ) → v0 ≡ no_owners 3 → v1 ≡ with_seat t1 (admitted p1) v0 → v2 ≡ with_seat t2 (admitted p2) v1
-    → v3 ≡ with_seat t3 (admitted p3) v2 → made1 ≡ with_owner k1 o1 v3 → made2 ≡ with_owner k2 o2 made1 → t1 ≡ 1 → t2 ≡ 2 → t3 ≡ 3 → base_of made2 t1 ≡ p1
-base_first v0 v1 v2 v3 made1 made2 t1 t2 t3 p1 p2 p3 k1 k2 o1 o2 e0 e1 e2 e3 m1 m2 n1 n2 n3 =
-    ap base m2 ∙ ap base m1 ∙ ap base e3
-    ∙ ap (λ (x : Seat). x.base) (seat_at-with_seat_other t3 (admitted p3) v2 t1 (λ e. absurd (omega arith)))
-    ∙ ap base e2 ∙ ap (λ (x : Seat). x.base) (seat_at-with_seat_other t2 (admitted p2) v1 t1 (λ e. absurd (omega arith)))
-    ∙ ap base e1 ∙ ap (λ (x : Seat). x.base) (seat_at-with_seat_same t1 (admitted p1) v0 row)
-  where
-    base : Owners → ℕ
-    base v = base_of v t1
-
-    row : t1 < length v0.seats
-    row = omega (arith, ap (λ (x : Owners). length x.seats) e0, length-replicate 4 no_seat)
+-- three threads and two states
+idle-three : (k1 k2 : ℕ) → IsIdle 3 (three_threads k1 k2)
+idle-three k1 k2 = idle-made 3 k2 2 _ _ refl (idle-made 3 k1 1 _ _ refl
+    (idle-admitted 3 3 99 _ _ refl (idle-admitted 3 2 2 _ _ refl
+    (idle-admitted 3 1 1 _ _ refl (idle-new 3 (no_owners 3) refl)))))
 
 -- a state is there once it is made
-pub state_made : (v now : Owners) (k owner : ℕ) → now ≡ with_owner k owner v → IsSome (owner_at now k)
+state_made : (v now : Owners) (k owner : ℕ) → now ≡ with_owner k owner v → IsSome (owner_at now k)
 state_made v now k owner e = ap is_some (ap (λ (x : Owners). owner_at x k) e ∙ owner_at-with_owner_same k owner v)
 
 -- and stays there when another one is made
-pub state_stays : (v now : Owners) (k owner j : ℕ) → now ≡ with_owner k owner v → IsSome (owner_at v j) → IsSome (owner_at now j)
+state_stays : (v now : Owners) (k owner j : ℕ) → now ≡ with_owner k owner v → IsSome (owner_at v j)
+    → IsSome (owner_at now j)
 state_stays v now k owner j e some = by_key (cases_eq j k)
   where
     by_key : ((j ≡ k) ⊎ (j ≡ k → ⊥)) → IsSome (owner_at now j)
     by_key (inl s) = subst (λ (x : ℕ). IsSome (owner_at now x)) (sym s) (state_made v now k owner e)
     by_key (inr d) = ap is_some (ap (λ (x : Owners). owner_at x j) e ∙ owner_at-with_owner_other k owner v j d) ∙ some
 
+-- the two states
+pub first_there : (k1 k2 : ℕ) → IsSome (owner_at (three_threads k1 k2) k1)
+first_there k1 k2 =
+    state_stays (with_owner k1 1 three_admitted) (three_threads k1 k2) k2 2 k1 refl
+    (state_made three_admitted (with_owner k1 1 three_admitted) k1 1 refl)
+
+pub second_there : (k1 k2 : ℕ) → IsSome (owner_at (three_threads k1 k2) k2)
+second_there k1 k2 = state_made (with_owner k1 1 three_admitted) (three_threads k1 k2) k2 2 refl
+
 -- where nobody waits nothing is left to repair
 idle-repaired : (n : ℕ) (v : Owners) → IsIdle n v → (start : ℕ) → IsRepairedBut start v
 idle-repaired n v h start =
     record {
       locals = λ t th ne. h.same t ∙ omega (arith, nobody t th (cases_lt 0 (greatest_waiting v t)));
-      ranks = λ t rank ne e. let none : None ≡ Some rank = sym (ap (option_map (λ (w : Wait). w.rank)) (h.free t)) ∙ e in absurd cc;
+      ranks = λ t rank e. let none : None ≡ Some rank = sym (ap (option_map (λ (w : Wait). w.rank)) (h.free t))
+          ∙ e in absurd cc;
     }
   where
     nobody : (t : ℕ) → IsThread v t → ((0 < greatest_waiting v t) ⊎ (greatest_waiting v t ≤ 0)) → greatest_waiting v t ≡ 0
@@ -184,40 +225,48 @@ empty_list : (q : Queue) (t : Table) (p : ℕ) → q.first_list ≡ 0 → t.list
 empty_list q t p first lists lp = rw lists (get_or-replicate 99 (list_for q p) [] [] (omega arith))
 
 -- so a queue with no thread has room there
-pub has_room : (q : Queue) (t : Table) → q ≡ record { first_list = 0; first_node = 0; threads = 3; mask = 0 } → t ≡ record { lists = replicate 99 []; keys = replicate 3 no_key } → IsApart t → HasRoom q t
-has_room q t made new apart =
+pub has_room : (t : Table) → t ≡ new_table → IsApart t → HasRoom new_queue t
+has_room t new apart =
     let lists : t.lists ≡ replicate 99 [] = ap (λ (x : Table). x.lists) new in
     let keys : length t.keys ≡ 3 = ap (λ (x : Table). length x.keys) new ∙ length-replicate 3 no_key in
     record {
       apart = apart;
-      lists = omega (arith, ap (λ (x : Queue). x.first_list) made, ap length lists, length-replicate {A = List ℕ} 99 []);
-      nodes = omega (arith, ap (λ (x : Queue). x.first_node) made, ap (λ (x : Queue). x.threads) made);
-      empty = λ p lp. empty_list q t p (ap (λ (x : Queue). x.first_list) made) lists lp;
+      lists = omega (arith, ap length lists, length-replicate {A = List ℕ} 99 []);
+      nodes = omega (arith, keys);
+      empty = λ p lp. empty_list new_queue t p refl lists lp;
     }
 
--- a queue on which one thread that was admitted is
-pub settled-start : (v : Owners) (q now : Queue) (t table : Table) (u priority : ℕ) → IsIdle 3 v → q ≡ record { first_list = 0; first_node = 0; threads = 3; mask = 0 }
-    → t.lists ≡ replicate 99 [] → ((p : ℕ) → IsLevel p → level_of now table p ≡ joined u priority p (level_of q t p)) → now ≡ record q { mask = now.mask }
-    → Holds now table → base_of v u ≡ 1 → IsSettled v now table
-settled-start v q now t table u priority h made lists levels place holds one =
+-- thread 1 alone is on the queue
+pub settled-start : (k1 k2 : ℕ) (now : Queue) (t table : Table) → t ≡ new_table
+    → ((p : ℕ) → IsLevel p → level_of now table p ≡ level_after_add 1 1 p (level_of new_queue t p)) → Holds now table
+    → IsSettled (three_threads k1 k2) now table
+settled-start k1 k2 now t table made levels holds =
     record {
-      repaired = idle-repaired 3 v h;
+      repaired = idle-repaired 3 (three_threads k1 k2) (idle-three k1 k2);
       holds = holds;
-      ready = λ x queued.
-          let e : x ≡ u = alone x queued.0 queued.1 (sym (ap (has x) (levels queued.0 queued.1 ∙ ap (joined u priority queued.0) (none queued.0 queued.1))) ∙ queued.2) in
-          omega (arith, one, ap (base_of v) e);
+      ready = λ x queued. subst (λ y. 1 ≤ base_of (three_threads k1 k2) y)
+          (sym (first x queued.0 queued.1 queued.2).0) (omega arith);
+      running = λ x queued. ap (option_map (λ (w : Wait). w.state)) ((idle-three k1 k2).free x);
+      level = λ x p lp on. let is = first x p lp on in is.1 ∙ sym (ap (local_of (three_threads k1 k2)) is.0);
     }
   where
-    none : (p : ℕ) → IsLevel p → level_of q t p ≡ []
-    none p lp = ap (map (thread_for q)) (empty_list q t p (ap (λ (x : Queue). x.first_list) made) lists lp)
+    none : (p : ℕ) → IsLevel p → level_of new_queue t p ≡ []
+    none p lp = ap (map (thread_for new_queue)) (empty_list new_queue t p refl (ap (λ (x : Table). x.lists) made) lp)
 
-    alone : (x p : ℕ) → IsLevel p → has x (joined u priority p []) ≡ true → x ≡ u
-    alone x p lp m = by_level (cases_Bool (eqb p priority))
+    alone : (x p : ℕ) → IsLevel p → has x (level_after_add 1 1 p []) ≡ true → (x ≡ 1) × (p ≡ 1)
+    alone x p lp m = by_level (cases_Bool (eqb p 1))
       where
-        head : ((eqb x u ≡ true) ⊎ (false ≡ true)) → x ≡ u
-        head (inl k) = eqb-true x u k
+        head : ((eqb x 1 ≡ true) ⊎ (false ≡ true)) → x ≡ 1
+        head (inl k) = eqb-true x 1 k
         head (inr k) = absurd cc
 
-        by_level : ((eqb p priority ≡ true) ⊎ (eqb p priority ≡ false)) → x ≡ u
-        by_level (inl k) = head (or_cases (eqb x u) false (sym (ap (λ b. has x (if b then u ∷ [] else [])) k) ∙ m))
-        by_level (inr k) = let no_one : false ≡ true = sym (ap (λ b. has x (if b then u ∷ [] else [])) k) ∙ m in absurd cc
+        by_level : ((eqb p 1 ≡ true) ⊎ (eqb p 1 ≡ false)) → (x ≡ 1) × (p ≡ 1)
+        by_level (inl k) = (
+          head (or_cases (eqb x 1) false (sym (ap (λ b. has x (if b then 1 ∷ [] else [])) k) ∙ m)),
+          eqb-true p 1 k,
+        )
+        by_level (inr k) = let no_one : false ≡ true = sym (ap (λ b. has x (if b then 1 ∷ [] else [])) k)
+            ∙ m in absurd cc
+
+    first : (x p : ℕ) → IsLevel p → has x (level_of now table p) ≡ true → (x ≡ 1) × (p ≡ 1)
+    first x p lp on = alone x p lp (sym (ap (has x) (levels p lp ∙ ap (level_after_add 1 1 p) (none p lp))) ∙ on)

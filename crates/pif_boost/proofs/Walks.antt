@@ -1,19 +1,18 @@
 -- A walk after the threads up to k: the owner states, the run queue and the table.
-use Rattle.std.proofs.Common.{◌≡◌, ◌⊎◌, ℕ, ◌<◌, ◌≤◌, ◌+◌, ◌-◌, Bool, true, false, ◌==◌, not, cond, length, Option, Some, None, IfSome, refl, sym, ap, ◌∙◌, subst, inl, inr, if◌then◌else◌, arith}
-use Rattle.std.specs.List.{count_by, range_with_len}
+use Rattle.std.proofs.Common.{◌≡◌, ◌⊎◌, ℕ, ◌<◌, ◌≤◌, ◌+◌, false, length, Option, Some, IfSome, refl, sym, ap, ◌∙◌, subst, inl, inr, if◌then◌else◌, arith}
 use Rattle.std.specs.Option.{is_some}
 use Rattle.std.proofs.lemmas.Bool.{cases_lt, false_from_ne_true}
 use Rattle.std.proofs.lemmas.List.{get_or_past}
 use Rattle.pif_nodes.specs.Lists.{has}
 use Rattle.pif_nodes.specs.Table.{Table}
 use Rattle.pif_model.specs.Graph.{IsEffective}
-use Rattle.pif_runq.specs.Levels.{Queue, IsLevel, level_of, level_with, Holds, IsQueued, moved, SameOutside}
+use Rattle.pif_runq.specs.Levels.{Queue, IsLevel, level_of, level_with, Holds, IsQueued, level_after_move, SameOutside}
 use Rattle.pif_runq.proofs.LevelLemmas.{queued_on}
-use Rattle.pif_runq.proofs.LevelWithLemmas.{listed-from_level_with}
+use Rattle.pif_runq.proofs.LevelWithLemmas.{queued_found}
 use Rattle.pif_rtmutex.specs.Owners.{Owners, Seat, no_seat, seat_at, WaitsFor, with_seat, IsSound}
-use Rattle.pif_boost.specs.Boosts.{IsThread, base_of, local_of, greatest_base, boosted, IsRepaired, IsRepairedBut, moved_if_queued, releveled, threads_of, changed_count}
+use Rattle.pif_boost.specs.Boosts.{IsThread, base_of, local_of, greatest_base, with_effective, IsRepaired, IsRepairedBut, level_after_move_if_queued, level_after_walk}
 use Rattle.pif_boost.proofs.Greatest.{greatest_base-least, greatest_base-IsEffective, idle}
-use Rattle.pif_boost.proofs.Levels.{leveled_to, leveled-start, leveled-more, leveled-all, next_level, stage-has, count_on, count_more, count_most, has-range}
+use Rattle.pif_boost.proofs.Levels.{leveled_to, leveled-start, leveled-more, leveled-all, next_level, stage-has}
 use Rattle.pif_boost.proofs.Repairs.{IsRepairedTo, repaired-start, repaired-more, repaired-all}
 
 -- the number of what was made of one
@@ -27,14 +26,6 @@ admitted_row v u one = by_place (cases_lt u (length v.seats))
     by_place : ((u < length v.seats) ⊎ (length v.seats ≤ u)) → u < length v.seats
     by_place (inl l) = l
     by_place (inr l) = let none : base_of v u ≡ 0 = ap (λ (x : Seat). x.base) (get_or_past v.seats u no_seat l) in absurd (omega arith)
-
--- a thread whose level is found is queued
-pub queued_found : (q : Queue) (t : Table) (u : ℕ) → Holds q t → is_some (level_with q t u) ≡ true → IsQueued q t u
-queued_found q t u holds some = by_level (level_with q t u) refl some
-  where
-    by_level : (o : Option ℕ) → level_with q t u ≡ o → is_some o ≡ true → IsQueued q t u
-    by_level None is e = absurd cc
-    by_level (Some p) is e = let r = listed-from_level_with q t u p holds is in (p, r.0, r.1)
 
 -- a thread that is given no priority is on no level
 pub not_queued : (q : Queue) (t : Table) (u priority : ℕ) → Holds q t → (IsQueued q t u → 1 ≤ priority) → priority ≡ 0 → is_some (level_with q t u) ≡ false
@@ -59,14 +50,6 @@ pub record IsWalkedTo (k : ℕ) (v : Owners) (q : Queue) (t : Table) (new : Owne
   pub outside : SameOutside q t table
   pub place : now ≡ record q { mask = now.mask }
   pub holds : Holds now table
-
--- whether a thread is to have another effective priority than it has
-abbrev pub differs : Owners → ℕ → Bool
-differs v t = not (greatest_base v t == local_of v t)
-
--- how many of the threads up to k are
-abbrev pub changed_to : ℕ → Owners → ℕ
-changed_to k v = count_by (differs v) (range_with_len 1 k)
 
 -- before the first thread
 pub walked-start : (v : Owners) (q : Queue) (t : Table) → IsSound v → Holds q t → IsWalkedTo 0 v q t v q t
@@ -96,17 +79,19 @@ next_ready k u p v new q now t table e row priority w ready queued =
 
 -- and where it is to have none, it stays as it is
 pub next_idle : (k u p start : ℕ) (v new : Owners) (q now : Queue) (t table : Table) → u ≡ k + 1 → u < length v.seats → p ≡ greatest_base v u
-    → IsWalkedTo k v q t new now table → IsSound v → IsRepairedBut start v → 1 ≤ base_of v start → p ≡ 0 → seat_at new u ≡ boosted 0 (seat_at new u)
+    → IsWalkedTo k v q t new now table → IsSound v → IsRepairedBut start v → 1 ≤ base_of v start → p ≡ 0
+    → seat_at new u ≡ with_effective 0 (seat_at new u)
 next_idle k u p start v new q now t table e row priority w sound but admitted none =
     let left : seat_at new u ≡ seat_at v u = w.repaired.left u (omega arith) in
     let th : IsThread v u = (omega arith, row) in
-    left ∙ idle v start sound but (admitted_row v start admitted) admitted u th (sym priority ∙ none) ∙ sym (ap (boosted 0) left)
+    left ∙ idle v start sound but (admitted_row v start admitted) admitted u th (sym priority ∙ none)
+    ∙ sym (ap (with_effective 0) left)
 
 -- one thread more
 pub walked-more : (k u p : ℕ) (v new after : Owners) (q now then_queue : Queue) (t table then_table : Table) → u ≡ k + 1 → u < length v.seats → p ≡ greatest_base v u
     → Holds q t → IsWalkedTo k v q t new now table
-    → after ≡ with_seat u (boosted p (seat_at new u)) new
-    → ((x : ℕ) → IsLevel x → level_of then_queue then_table x ≡ moved_if_queued now table u p x)
+    → after ≡ with_seat u (with_effective p (seat_at new u)) new
+    → ((x : ℕ) → IsLevel x → level_of then_queue then_table x ≡ level_after_move_if_queued now table u p x)
     → SameOutside now table then_table → then_queue ≡ record now { mask = then_queue.mask } → Holds then_queue then_table
     → IsWalkedTo (k + 1) v q t after then_queue then_table
 walked-more k u p v new after q now then_queue t table then_table e row priority old w owners levels outside place holds =
@@ -118,20 +103,13 @@ walked-more k u p v new after q now then_queue t table then_table e row priority
       holds = holds;
     }
   where
-    moved_from : (x : ℕ) → IsLevel x → moved_if_queued now table u p x
-        ≡ (if is_some (level_with q t u) then moved u (greatest_base v u) x (leveled_to k v q t x) else leveled_to k v q t x)
+    moved_from : (x : ℕ) → IsLevel x → level_after_move_if_queued now table u p x
+        ≡ (if is_some (level_with q t u) then level_after_move u (greatest_base v u) x (leveled_to k v q t x) else
+        leveled_to k v q t x)
     moved_from x lx =
         let level : level_with now table u ≡ level_with q t u = next_level k u v q now t table e old w.holds w.levels in
         let at : level_of now table x ≡ leveled_to k v q t x = w.levels x lx in
-        λ i. if is_some (level i) then moved u (priority i) x (at i) else at i
-
--- one thread more, that had another priority
-pub changed-more : (k u p : ℕ) (v new : Owners) (changed : ℕ) (b : Bool) → u ≡ k + 1 → p ≡ greatest_base v u → IsRepairedTo k v new → changed ≡ changed_to k v
-    → b ≡ not (p == local_of new u) → changed + cond b 1 0 ≡ changed_to (k + 1) v
-changed-more k u p v new changed b e priority r is differ =
-    let left : seat_at new u ≡ seat_at v u = r.left u (omega arith) in
-    let same : b ≡ differs v u = differ ∙ (λ i. not (priority i == (left i).local)) in
-    (λ i. is i + cond (same i) 1 0) ∙ sym (count_more (differs v) k u e)
+        λ i. if is_some (level i) then level_after_move u (priority i) x (at i) else at i
 
 -- AT THE END
 
@@ -139,7 +117,8 @@ pub walked-repaired : (k : ℕ) (v new : Owners) (q now : Queue) (t table : Tabl
 walked-repaired k v new q now t table e w = repaired-all k v new e w.repaired
 
 pub walked-levels : (k : ℕ) (v new : Owners) (q now : Queue) (t table : Table) → k + 1 ≡ length v.seats → IsWalkedTo k v q t new now table
-    → ((x : ℕ) → IsQueued q t x → 1 ≤ base_of v x) → (p : ℕ) → IsLevel p → level_of now table p ≡ releveled v q t p
+    → ((x : ℕ) → IsQueued q t x → 1 ≤ base_of v x) → (p : ℕ) → IsLevel p
+    → level_of now table p ≡ level_after_walk v q t p
 walked-levels k v new q now t table e w ready p lp =
     w.levels p lp ∙ leveled-all k v q t p e (λ u h. admitted_row v u (ready u (p, lp, h)))
 
@@ -151,15 +130,3 @@ repaired-local v new r t l = ap (λ (x : Seat). x.local) (r.seats t l)
 pub repaired-greatest : (v new : Owners) → IsSound v → IsRepaired v new → (t : ℕ) → IsThread v t → IsEffective (IsThread v) (WaitsFor v) (base_of v) t (local_of new t)
 repaired-greatest v new s r t th =
     subst (λ (p : ℕ). IsEffective (IsThread v) (WaitsFor v) (base_of v) t p) (sym (repaired-local v new r t th.1)) (greatest_base-IsEffective v s t th)
-
-pub changed-all : (k : ℕ) (v new : Owners) (changed : ℕ) → k + 1 ≡ length v.seats → IsRepaired v new → changed ≡ changed_to k v
-    → (changed ≡ changed_count v new) × (changed < length v.seats)
-changed-all k v new changed e r is =
-    let all : k ≡ length v.seats - 1 = omega arith in
-    let same : changed_to k v ≡ changed_count v new =
-    ap (λ (n : ℕ). count_by (differs v) (range_with_len 1 n)) all
-    ∙ count_on (differs v) (λ t. not (local_of new t == local_of v t)) (threads_of v)
-    (λ x h. let b = has-range 1 (length v.seats - 1) x h in
-    let l : x < length v.seats = omega (arith, b.1) in
-    ap (λ (p : ℕ). not (p == local_of v x)) (sym (repaired-local v new r x l))) in
-    (is ∙ same, omega (arith, count_most (differs v) k))

@@ -1,10 +1,10 @@
 -- Priority inheritance over chains of owner states: what the effective priority of each thread is to be, and what a
 -- walk leaves of the owner states and of the run queue. (RT-mutex design, the priority chain walk.)
-use Rattle.std.specs.Prelude.{◌≡◌, ◌≢◌, ℕ, ◌-◌, ◌<◌, ◌≤◌, max, Bool, false, ◌==◌, not, ◌&&◌, List, ◌++◌, length, if◌then◌else◌, Option, Some, None, option_map, is_some}
-use Rattle.std.specs.List.{filter, count_by, range_with_len}
+use Rattle.std.specs.Prelude.{◌≡◌, ◌≢◌, ℕ, ◌-◌, ◌<◌, ◌≤◌, max, Bool, false, ◌==◌, not, ◌&&◌, List, ◌++◌, length, get_or, if◌then◌else◌, Option, Some, None, option_map, unwrap_or, is_some}
+use Rattle.std.specs.List.{filter, range_with_len}
 use Rattle.pif_nodes.specs.declared.keys.Key.{Key}
 use Rattle.pif_nodes.specs.Table.{Table}
-use Rattle.pif_runq.specs.Levels.{Queue, level_of, level_with, moved}
+use Rattle.pif_runq.specs.Levels.{Queue, level_of, level_with, level_after_move}
 use Rattle.pif_model.specs.Graph.{reaches_within, effective_among, greatest_where}
 use Rattle.pif_rtmutex.specs.Owners.{Owners, Seat, Wait, seat_at, waits_on, rank_of, waits_for}
 
@@ -29,40 +29,46 @@ local_of v t = (seat_at v t).local
 abbrev pub greatest_base : Owners → ℕ → ℕ
 greatest_base v t = effective_among (length v.seats) (waits_for v) (base_of v) t
 
--- what stands by thread u once a priority was handed to `t` and to each that is reached from it over so many hops, where
--- this stood by each thread before
-abbrev pub handed : ℕ → (ℕ → ℕ) → ℕ → ℕ → (ℕ → ℕ) → ℕ → ℕ
-handed hops waits_for priority t before u =
+-- the priority at a place of a list; 0 for none
+abbrev pub priority_at : List (Option ℕ) → ℕ → ℕ
+priority_at xs t = unwrap_or (get_or xs t None) 0
+
+-- what stands by thread u after a priority went from `t` to each that is reached from it over so many hops, where this
+-- stood by each thread before
+abbrev pub after_propagation : ℕ → (ℕ → ℕ) → ℕ → ℕ → (ℕ → ℕ) → ℕ → ℕ
+after_propagation hops waits_for priority t before u =
     if reaches_within hops waits_for t u then max priority (before u) else before u
 
 -- what a thread waits for, where it stands with this priority and the ticket that it has
-abbrev pub ranked : ℕ → Wait → Wait
-ranked p w = record { state = w.state; rank = record { prio = p; ticket = w.rank.ticket } }
+abbrev pub with_rank_priority : ℕ → Wait → Wait
+with_rank_priority p w = record { state = w.state; rank = record { prio = p; ticket = w.rank.ticket } }
 
 -- a seat with this effective priority, also where its thread waits
-abbrev pub boosted : ℕ → Seat → Seat
-boosted p x = record { base = x.base; local = p; wait = option_map (ranked p) x.wait }
+abbrev pub with_effective : ℕ → Seat → Seat
+with_effective p x = record { base = x.base; local = p; wait = option_map (with_rank_priority p) x.wait }
 
 -- each thread of `old` has in `new` the effective priority that it is to have, also where it waits, and all else is as it
 -- was: the states and their owners, the base priorities, and who waits on which state with which ticket
 pub record IsRepaired (old new : Owners) : Type 0 where
   pub threads : length new.seats ≡ length old.seats
   pub owners : new.owners ≡ old.owners
-  pub seats : (t : ℕ) → t < length old.seats → seat_at new t ≡ boosted (greatest_base old t) (seat_at old t)
+  pub seats : (t : ℕ) → t < length old.seats → seat_at new t ≡ with_effective (greatest_base old t) (seat_at old t)
 
 -- the greatest effective priority of the threads that wait for t; 0 where none does
 abbrev pub greatest_waiting : Owners → ℕ → ℕ
 greatest_waiting v t = greatest_where (λ u. waits_for v u == t) (local_of v) (length v.seats)
 
--- nothing is left to repair but at one thread: the effective priority of each other thread is the greatest of its base
--- priority and of the effective priorities of those that wait for it, and it stands with that priority where it waits
+-- nothing is left to repair but the effective priority of one thread: that of each other thread is the greatest of its
+-- base priority and of the effective priorities of those that wait for it, and every waiter stands with the effective
+-- priority that it has
 pub record IsRepairedBut (start : ℕ) (v : Owners) : Type 0 where
   pub locals : (t : ℕ) → IsThread v t → t ≢ start → local_of v t ≡ max (base_of v t) (greatest_waiting v t)
-  pub ranks : (t : ℕ) (rank : Key) → t ≢ start → rank_of v t ≡ Some rank → rank.prio ≡ local_of v t
+  pub ranks : (t : ℕ) (rank : Key) → rank_of v t ≡ Some rank → rank.prio ≡ local_of v t
 
 -- the threads of level p of a run queue once u, if it is on some level, was moved to level `to`
-abbrev pub moved_if_queued : Queue → Table → ℕ → ℕ → ℕ → List ℕ
-moved_if_queued q t u to p = if is_some (level_with q t u) then moved u to p (level_of q t p) else level_of q t p
+abbrev pub level_after_move_if_queued : Queue → Table → ℕ → ℕ → ℕ → List ℕ
+level_after_move_if_queued q t u to p = if is_some (level_with q t u) then level_after_move u to p (level_of q t p)
+    else level_of q t p
 
 -- whether a level is there and is another one than p
 abbrev pub is_other : ℕ → Option ℕ → Bool
@@ -76,8 +82,9 @@ joins v q t p u = (greatest_base v u == p) && is_other p (level_with q t u)
 -- level p of a run queue once each of its threads is at the level of the effective priority that it is to have: those
 -- that keep their level in their order, then those that join it in order of their numbers. (sched(7): a thread whose
 -- priority changes joins the end of its new level.)
-abbrev pub releveled : Owners → Queue → Table → ℕ → List ℕ
-releveled v q t p = filter (λ u. greatest_base v u == p) (level_of q t p) ++ filter (joins v q t p) (threads_of v)
+abbrev pub level_after_walk : Owners → Queue → Table → ℕ → List ℕ
+level_after_walk v q t p = filter (λ u. greatest_base v u == p) (level_of q t p) ++ filter (joins v q t p)
+    (threads_of v)
 
 -- t is the next waiter of a state: it waits there, none that waits there has a greater effective priority, and none of
 -- the same has a lower ticket
@@ -86,7 +93,3 @@ pub record IsNext (v : Owners) (k t : ℕ) : Type 0 where
   pub greatest : (u : ℕ) → waits_on v u ≡ Some k → local_of v u ≤ local_of v t
   pub first : (u : ℕ) (mine other : Key) → waits_on v u ≡ Some k → local_of v u ≡ local_of v t
       → rank_of v t ≡ Some mine → rank_of v u ≡ Some other → mine.ticket ≤ other.ticket
-
--- for how many threads of `old` the effective priority is another one in `new`
-abbrev pub changed_count : Owners → Owners → ℕ
-changed_count old new = count_by (λ t. not (local_of new t == local_of old t)) (threads_of old)

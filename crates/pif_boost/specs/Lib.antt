@@ -1,2 +1,3 @@
 pub mod Boosts
 pub mod Settled
+pub mod Examples

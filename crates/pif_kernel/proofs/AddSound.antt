@@ -7,7 +7,7 @@ use Rattle.pif_types.specs.Bounds.{Bounds}
 use Rattle.pif_nodes.specs.declared.keys.Key.{Key}
 use Rattle.pif_nodes.specs.Table.{Table}
 use Rattle.pif_runq.specs.Levels.{Queue, Holds, IsLevel, level_of}
-use Rattle.pif_runq.specs.Levels.{joined as queue_joined}
+use Rattle.pif_runq.specs.Levels.{level_after_add}
 use Rattle.pif_model.specs.declared.lines.Status.{Status}
 use Rattle.pif_model.specs.declared.lines.Status.TheVariants.{Ready}
 use Rattle.pif_model.specs.declared.lines.Woken.TheVariants.{Fresh}
@@ -28,7 +28,7 @@ pushed_status (x ∷ xs) zero = refl
 pushed_status (x ∷ xs) (suc u) = pushed_status xs u
 
 module _ (p : Plain) (q : Queue) (tb : Table) (t prio : ℕ) (h : IsSound p) (is : t ≡ length p.statuses) (room : length p.statuses ≤ p.limits.threads) (some : 1 ≤ prio) (few : prio ≤ 99)
-    (place : q ≡ record p.queue { mask = q.mask }) (levels : (r : ℕ) → IsLevel r → level_of q tb r ≡ queue_joined t prio r (level_of p.queue p.table r)) (holds : Holds q tb) (count : length tb.lists ≡ length p.table.lists) where
+    (place : q ≡ record p.queue { mask = q.mask }) (levels : (r : ℕ) → IsLevel r → level_of q tb r ≡ level_after_add t prio r (level_of p.queue p.table r)) (holds : Holds q tb) (count : length tb.lists ≡ length p.table.lists) where
   abbrev row : Seat
   row = record { base = prio; local = prio; wait = None }
 

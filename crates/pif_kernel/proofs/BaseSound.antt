@@ -120,7 +120,7 @@ module _ (p : Plain) (t prio : ℕ) (h : IsSound p) (lives : is_living (kernel_o
   repairs =
       repaired_but p.owners mid.owners t long (λ x u ne nz. ap (λ (n : ℕ). n == u) (waiting_same x)) (λ u ne. sym (ap (λ (s : Seat). s.base) (other u ne)))
       (λ u. owners_effective p fit u ∙ sym (h.local u) ∙ sym (local_same u))
-      (λ u r ne e. h.rank u r (sym (rank_same u) ∙ e) ∙ sym (h.local u) ∙ sym (local_same u))
+      (λ u r e. h.rank u r (sym (rank_same u) ∙ e) ∙ sym (h.local u) ∙ sym (local_same u))
 
   settled_mid : settled (kernel_of mid) ≡ kernel_after_set_prio t prio (Ok (record {})) (kernel_of p)
   unfolding kernel_after_set_prio

@@ -8,7 +8,7 @@ use Rattle.std.proofs.lemmas.List.{get_or-set_same, get_or-set_other, get_or_pas
 use Rattle.pif_nodes.specs.declared.keys.Key.{Key}
 use Rattle.pif_nodes.specs.Table.{Table, holder}
 use Rattle.pif_runq.specs.Levels.{Queue, Holds, IsLevel, level_of, node_for}
-use Rattle.pif_runq.specs.Levels.{joined as queue_joined}
+use Rattle.pif_runq.specs.Levels.{level_after_add}
 use Rattle.pif_model.specs.declared.lines.Status.{Status}
 use Rattle.pif_model.specs.declared.lines.Status.TheVariants.{Ready, Queued}
 use Rattle.pif_model.specs.declared.lines.Woken.TheVariants.{Fresh, Owns}
@@ -296,7 +296,7 @@ module _ (p : Plain) (t m key u : ℕ) (d : IsHandable p t m key) (top : IsTop p
       (record { hands = d; top = top; handed = g.handed; rest = ap (λ (y : Plain). y.arrivals) g.frame; same = ap kernel_of before })
 
   module _ (keys : List (Option ℕ)) (owners : Owners) (prio : ℕ) (o : IsHanded p keys owners u m key) (rank_is : prio ≡ effective_in (kernel_of p) u)
-      (q : Queue) (tb : Table) (place : q ≡ record p.queue { mask = q.mask }) (levels : (r : ℕ) → IsLevel r → level_of q tb r ≡ queue_joined u prio r (level_of p.queue p.table r)) (holds : Holds q tb) (lists : length tb.lists ≡ length p.table.lists) where
+      (q : Queue) (tb : Table) (place : q ≡ record p.queue { mask = q.mask }) (levels : (r : ℕ) → IsLevel r → level_of q tb r ≡ level_after_add u prio r (level_of p.queue p.table r)) (holds : Holds q tb) (lists : length tb.lists ≡ length p.table.lists) where
     -- what is kept before the walk
     abbrev pub mid : Plain
     mid = record p { statuses = set p.statuses u (Ready Owns); keys = keys; owners = owners; queue = q; table = tb; arrivals = rest }
@@ -493,7 +493,7 @@ module _ (p : Plain) (t m key u : ℕ) (d : IsHandable p t m key) (top : IsTop p
     repairs : IsRepairedBut t mid.owners
     repairs =
         repaired_but high mid.owners t (sym high_long) (λ x y ne nz. ap (λ (n : ℕ). n == y) (high_waits x)) high_base high_local
-        (λ x r ne e. ranks x r (cases_eq x u) e ∙ sym (h.local x) ∙ sym (local_same x))
+        (λ x r e. ranks x r (cases_eq x u) e ∙ sym (h.local x) ∙ sym (local_same x))
 
     joins_level : (r : ℕ) → level_at (kernel_of mid).levels r ≡ level_at (joined u prio (kernel_of p).levels) r
     joins_level r = levels_joined p mid u prio (omega (arith, rank_is, level_some), omega (arith, rank_is, level_few)) levels r
@@ -640,15 +640,12 @@ module _ (old p x : Plain) (t m key u : ℕ) (i : IsHanding old p x t m key u) w
   pub local_low : 1 ≤ (seat_at x.owners u).local
   local_low = omega (arith, local_is, level_some p t m key u i.hands i.top)
 
-  pub local_high : (seat_at x.owners u).local ≤ 99
-  local_high = omega (arith, local_is, level_few p t m key u i.hands i.top)
-
   pub free : holder p.table (node_for p.queue u) ≡ None
   free = node_free p t m key u i.hands i.top
 
   -- what is kept before the walk
   pub before_walk : (level : ℕ) (q : Queue) (tb : Table) → level ≡ (seat_at x.owners u).local → q ≡ record p.queue { mask = q.mask }
-      → ((r : ℕ) → IsLevel r → level_of q tb r ≡ queue_joined u level r (level_of p.queue p.table r)) → Holds q tb → length tb.lists ≡ length p.table.lists
+      → ((r : ℕ) → IsLevel r → level_of q tb r ≡ level_after_add u level r (level_of p.queue p.table r)) → Holds q tb → length tb.lists ≡ length p.table.lists
       → IsWalkable (record p { statuses = set p.statuses u (Ready Owns); keys = x.keys; owners = x.owners; queue = q; table = tb; arrivals = x.arrivals }) t (kernel_after_hand_over u m (kernel_of old))
   before_walk level q tb value place levels holds lists =
       rw (i.rest, ← i.same) (walkable p t m key u i.hands i.top x.keys x.owners level i.handed (value ∙ local_is) q tb place levels holds lists)

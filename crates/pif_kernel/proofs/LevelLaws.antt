@@ -11,7 +11,7 @@ use Rattle.pif_runq.specs.Levels.{Queue, Holds, IsLevel, level_of, level_with}
 use Rattle.pif_runq.proofs.LevelWithLemmas.{level_with-from_listed, listed-from_level_with}
 use Rattle.pif_rtmutex.specs.Owners.{Owners}
 use Rattle.pif_boost.specs.Boosts.{greatest_base, is_other, joins}
-use Rattle.pif_boost.specs.Boosts.{releveled as walked}
+use Rattle.pif_boost.specs.Boosts.{level_after_walk}
 use Rattle.pif_model.specs.Graph.{is_priority}
 use Rattle.pif_model.specs.PiKernel.{is_among, numbers, level_at, moves_to, releveled}
 use Rattle.pif_chains.proofs.KernelNumbers.{any_number, no_number, numbers-more}
@@ -94,18 +94,18 @@ module _ (v : Owners) (q : Queue) (tb : Table) (levels : List (List ℕ)) (n : �
       by_test true = refl
       by_test false = refl
 
-  walked_level : (p : ℕ) → IsLevel p → walked v q tb p ≡ filter (λ u. effective u == p) (level_at levels p) ++ filter (moves_to effective levels p) (numbers n)
-  walked_level p l =
+  level_walked : (p : ℕ) → IsLevel p → level_after_walk v q tb p ≡ filter (λ u. effective u == p) (level_at levels p) ++ filter (moves_to effective levels p) (numbers n)
+  level_walked p l =
       ap₂ (λ (a b : List ℕ). a ++ b)
       (ap₂ (λ (f : ℕ → Bool) (xs : List ℕ). filter f xs) (fun_ext (λ u. ap (λ (x : ℕ). x == p) (same u))) (sym (here p l)))
       (ap₂ (λ (f : ℕ → Bool) (xs : List ℕ). filter f xs) (fun_ext (joins_moves p)) (range_numbers (length v.seats - 1))
       ∙ filter_fewer (moves_to effective levels p) n (length v.seats - 1) few (λ u less. still p u (λ r. off u r less)))
 
-  pub levels_settled : (q' : Queue) (tb' : Table) → ((p : ℕ) → IsLevel p → level_of q' tb' p ≡ walked v q tb p) → (p : ℕ) → levels_of q' tb' p ≡ level_at (releveled n effective levels) p
+  pub levels_settled : (q' : Queue) (tb' : Table) → ((p : ℕ) → IsLevel p → level_of q' tb' p ≡ level_after_walk v q tb p) → (p : ℕ) → levels_of q' tb' p ≡ level_at (releveled n effective levels) p
   levels_settled q' tb' walks p = by_test (is_priority p) refl
       ∙ sym (level-levels_by (λ r. filter (λ u. effective u == r) (level_at levels r) ++ filter (moves_to effective levels r) (numbers n)) p)
     where
       by_test : (b : Bool) → is_priority p ≡ b → (if is_priority p then level_of q' tb' p else [])
           ≡ (if is_priority p then filter (λ u. effective u == p) (level_at levels p) ++ filter (moves_to effective levels p) (numbers n) else [])
       by_test false e = rw e refl
-      by_test true e = let l : IsLevel p = is_level-range p e in rw e (walks p l ∙ walked_level p l)
+      by_test true e = let l : IsLevel p = is_level-range p e in rw e (walks p l ∙ level_walked p l)

@@ -7,7 +7,7 @@ use Rattle.std.proofs.lemmas.Bool.Decides.{nat_tests}
 use Rattle.pif_nodes.specs.Lists.{has, first_of, without}
 use Rattle.pif_nodes.specs.Table.{Table, list_at}
 use Rattle.pif_runq.specs.Levels.{Queue, IsLevel, level_of, list_for, IsFirstOfGreatest, IsEmpty}
-use Rattle.pif_runq.specs.Levels.{joined as queue_joined}
+use Rattle.pif_runq.specs.Levels.{level_after_add}
 use Rattle.pif_runq.proofs.LevelLemmas.{threads-some}
 use Rattle.pif_model.specs.Graph.{is_priority}
 use Rattle.pif_model.specs.PiKernel.{is_among, level_at, first_from, pick_in, left, joined}
@@ -123,7 +123,7 @@ pub length-left : (p now : Plain) (t : ℕ) → length (kernel_of now).levels �
 length-left p now t = levels_count now ∙ sym (levels_count p) ∙ sym (length-map (kernel_of p).levels (filter (λ (u : ℕ). if u == t then false else true)))
 
 -- who is added to a level has joined it
-pub levels_joined : (p now : Plain) (t prio : ℕ) → IsLevel prio → ((r : ℕ) → IsLevel r → level_of now.queue now.table r ≡ queue_joined t prio r (level_of p.queue p.table r))
+pub levels_joined : (p now : Plain) (t prio : ℕ) → IsLevel prio → ((r : ℕ) → IsLevel r → level_of now.queue now.table r ≡ level_after_add t prio r (level_of p.queue p.table r))
     → (r : ℕ) → level_at (kernel_of now).levels r ≡ level_at (joined t prio (kernel_of p).levels) r
 levels_joined p now t prio l h r =
     levels_seen now r ∙ by_test (is_priority r) refl (cases_eq r prio)

@@ -317,7 +317,7 @@ module _ (p : Plain) (keys : List (Option ℕ)) (owners : Owners) (t m owner key
   repairs =
       repaired_but p.owners mid.owners owner long (λ x u ne nz. waiting x u ne nz (cases_eq x t)) (λ u ne. sym (base_same u))
       (λ u. owners_effective p fit u ∙ sym (h.local u) ∙ sym (local_same u))
-      (λ u r ne e. ranks u r (cases_eq u t) e ∙ sym (h.local u) ∙ sym (local_same u))
+      (λ u r e. ranks u r (cases_eq u t) e ∙ sym (h.local u) ∙ sym (local_same u))
 
   kernel_mid : kernel_of mid ≡ record (with_status t (Queued m) (with_state m owner (kernel_of p))) { waiters = (kernel_of p).waiters ++ (t, m) ∷ []; levels = left t (kernel_of p).levels }
   unfolding kernel_of

@@ -6,7 +6,7 @@ use Rattle.pif_nodes.specs.Lists.{has}
 use Rattle.pif_nodes.specs.Table.{holder, list_at}
 use Rattle.pif_runq.specs.Levels.{Queue, IsQueued, IsLevel, level_of, list_for, node_for}
 use Rattle.pif_runq.proofs.LevelLemmas.{has-threads}
-use Rattle.pif_model.specs.PiKernel.{Kernel, IsKernel, effective_in, is_among, is_living, is_ready, has_seat, level_at}
+use Rattle.pif_model.specs.PiKernel.{IsKernel, effective_in, is_among, is_living, is_ready, has_seat, level_at}
 use Rattle.pif_model.specs.PiKernel.{seat_at as kernel_seat_at, state_at as kernel_state_at}
 use Rattle.pif_rtmutex.specs.Owners.{seat_at}
 use Rattle.pif_chains.proofs.Greatest.{effective_most, effective_own}
@@ -67,13 +67,11 @@ unqueued_free p h t some none = by_holder (holder p.table (node_for p.queue t)) 
         absurd (true≢false (sym on ∙ ap (has t) (sym (level_same p (l + 1) level)) ∙ sym (among_has (level_at (kernel_of p).levels (l + 1)) t) ∙ none (l + 1)))
 
 -- what `effective` answers of a thread that lives, by its row
-pub effective_answer : (p : Plain) → IsSound p → (t n : ℕ) (r : Option ℕ) → is_living (kernel_of p) t ≡ true → n ≡ (seat_at p.owners t).local
-    → (IsSome r ↔ ((1 ≤ n) × (n ≤ 99))) → IfSome r (λ x. x ≡ n)
+pub effective_answer : (p : Plain) → IsSound p → (t : ℕ) (r : Option ℕ) → is_living (kernel_of p) t ≡ true
+    → (IsSome r ↔ (1 ≤ (seat_at p.owners t).local)) → IfSome r (λ x. x ≡ (seat_at p.owners t).local)
     → r ≡ (if is_living (kernel_of p) t then Some (effective_in (kernel_of p) t) else None)
-effective_answer p h t n None lives is valid value =
-    let range : (1 ≤ n) × (n ≤ 99) = (omega (arith, is, h.local t, effective_some p h t lives), omega (arith, is, h.local t, effective_few p h t)) in
-    absurd (true≢false (sym (valid.1 range)))
-effective_answer p h t n (Some x) lives is valid value = rw lives (ap Some (value ∙ is ∙ h.local t))
+effective_answer p h t None lives given value = absurd (true≢false (sym (given.1 (omega (arith, h.local t, effective_some p h t lives)))))
+effective_answer p h t (Some x) lives given value = rw lives (ap Some (value ∙ h.local t))
 
 -- no mutex has no owner state
 pub states_none : (p : Plain) → IsSound p → kernel_state_at (kernel_of p) 0 ≡ 0

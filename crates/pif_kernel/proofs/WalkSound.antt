@@ -10,8 +10,9 @@ use Rattle.pif_runq.specs.Levels.{Queue, Holds, IsLevel, IsQueued, level_of}
 use Rattle.pif_model.specs.PiKernel.{Kernel, IsKernel, effective_in, is_among, level_at, settled, waits_for}
 use Rattle.pif_model.specs.PiKernel.{seat_at as kernel_seat_at}
 use Rattle.pif_rtmutex.specs.Owners.{Owners, Seat, Wait, seat_at, owner_at, count, waits_on, rank_of, no_seat}
-use Rattle.pif_boost.specs.Boosts.{IsRepaired, IsRepairedBut, base_of, local_of, greatest_base, boosted, ranked}
-use Rattle.pif_boost.specs.Boosts.{releveled as walked}
+use Rattle.pif_boost.specs.Boosts.{IsRepaired, IsRepairedBut, base_of, local_of, greatest_base}
+use Rattle.pif_boost.specs.Boosts.{with_effective, with_rank_priority}
+use Rattle.pif_boost.specs.Boosts.{level_after_walk}
 use Rattle.pif_chains.proofs.Following.{reaches-from_within}
 use Rattle.pif_chains.proofs.Hops.{nobody, reach_below}
 use Rattle.pif_chains.proofs.Numbers.{within}
@@ -24,15 +25,15 @@ use Rattle.pif_kernel.proofs.Picked.{levels_seen, levels_count, among_has}
 use Rattle.pif_kernel.proofs.Standing.{listed_kept, level_same}
 use Rattle.pif_kernel.proofs.LevelLaws.{levels_settled}
 
-wait_state : (n : ℕ) (o : Option Wait) → option_map (λ (w : Wait). w.state) (option_map (ranked n) o) ≡ option_map (λ (w : Wait). w.state) o
+wait_state : (n : ℕ) (o : Option Wait) → option_map (λ (w : Wait). w.state) (option_map (with_rank_priority n) o) ≡ option_map (λ (w : Wait). w.state) o
 wait_state n None = refl
 wait_state n (Some w) = refl
 
-wait_ticket : (n : ℕ) (o : Option Wait) → option_map (λ (r : Key). r.ticket) (option_map (λ (w : Wait). w.rank) (option_map (ranked n) o)) ≡ option_map (λ (r : Key). r.ticket) (option_map (λ (w : Wait). w.rank) o)
+wait_ticket : (n : ℕ) (o : Option Wait) → option_map (λ (r : Key). r.ticket) (option_map (λ (w : Wait). w.rank) (option_map (with_rank_priority n) o)) ≡ option_map (λ (r : Key). r.ticket) (option_map (λ (w : Wait). w.rank) o)
 wait_ticket n None = refl
 wait_ticket n (Some w) = refl
 
-wait_prio : (n : ℕ) (o : Option Wait) (r : Key) → option_map (λ (w : Wait). w.rank) (option_map (ranked n) o) ≡ Some r → r.prio ≡ n
+wait_prio : (n : ℕ) (o : Option Wait) (r : Key) → option_map (λ (w : Wait). w.rank) (option_map (with_rank_priority n) o) ≡ Some r → r.prio ≡ n
 wait_prio n None r e = cc
 wait_prio n (Some w) r e = let same : record { prio = n; ticket = w.rank.ticket } ≡ r = cc in sym (ap (λ (k : Key). k.prio) same)
 
@@ -45,7 +46,7 @@ owners_effective p fit u =
     (λ x le. base_seen p fit x ∙ ap (λ (s : Seat). s.base) (fit.free x (omega (arith, le, seats_length p fit))))
 
 module _ (p : Plain) (h : IsPlaced p) (now : Owners) (q : Queue) (tb : Table) (repaired : IsRepaired p.owners now)
-    (walks : (r : ℕ) → IsLevel r → level_of q tb r ≡ walked p.owners p.queue p.table r) (place : q ≡ record p.queue { mask = q.mask }) (holds : Holds q tb)
+    (walks : (r : ℕ) → IsLevel r → level_of q tb r ≡ level_after_walk p.owners p.queue p.table r) (place : q ≡ record p.queue { mask = q.mask }) (holds : Holds q tb)
     (lists : length tb.lists ≡ length p.table.lists) where
   abbrev pub after : Plain
   after = record p { owners = now; queue = q; table = tb }
@@ -74,11 +75,11 @@ module _ (p : Plain) (h : IsPlaced p) (now : Owners) (q : Queue) (tb : Table) (r
       only x z = omega (arith, base_seen p fit x, ap (λ (y : ℕ). (seat_at p.owners y).base) z, ap (λ (s : Seat). s.base) h.nobody)
 
   -- each seat is the one that it was, boosted
-  seat_now : (u : ℕ) → seat_at now u ≡ boosted (effective_in (kernel_of p) u) (seat_at p.owners u)
+  seat_now : (u : ℕ) → seat_at now u ≡ with_effective (effective_in (kernel_of p) u) (seat_at p.owners u)
   seat_now u = by_place (cases_lt u (length p.owners.seats))
     where
-      by_place : ((u < length p.owners.seats) ⊎ (length p.owners.seats ≤ u)) → seat_at now u ≡ boosted (effective_in (kernel_of p) u) (seat_at p.owners u)
-      by_place (inl l) = repaired.seats u l ∙ ap (λ (n : ℕ). boosted n (seat_at p.owners u)) (effective_seen u)
+      by_place : ((u < length p.owners.seats) ⊎ (length p.owners.seats ≤ u)) → seat_at now u ≡ with_effective (effective_in (kernel_of p) u) (seat_at p.owners u)
+      by_place (inl l) = repaired.seats u l ∙ ap (λ (n : ℕ). with_effective n (seat_at p.owners u)) (effective_seen u)
       by_place (inr g) =
           let past : seat_at p.owners u ≡ no_seat = get_or_past p.owners.seats u no_seat g in
           let out : effective_in (kernel_of p) u ≡ 0 = effective_out u (omega (arith, fit.few, g)) in
@@ -197,7 +198,7 @@ module _ (p : Plain) (start : ℕ) (k : Kernel) (w : IsWalkable p start k) where
   on_local u r l on = sym (listed u r l on).local
 
   -- what is kept after the walk
-  pub ended : (now : Owners) (q : Queue) (tb : Table) → IsRepaired p.owners now → ((r : ℕ) → IsLevel r → level_of q tb r ≡ walked p.owners p.queue p.table r)
+  pub ended : (now : Owners) (q : Queue) (tb : Table) → IsRepaired p.owners now → ((r : ℕ) → IsLevel r → level_of q tb r ≡ level_after_walk p.owners p.queue p.table r)
       → q ≡ record p.queue { mask = q.mask } → Holds q tb → length tb.lists ≡ length p.table.lists
       → (kernel_of (record p { owners = now; queue = q; table = tb }) ≡ k) × IsSound (record p { owners = now; queue = q; table = tb })
   ended now q tb repaired walks place holds lists = (

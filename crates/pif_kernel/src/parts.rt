@@ -97,7 +97,7 @@ impl Parts {
         ensures { result ≡ (if is_living (kernel_of self.now) t then Some (effective_in (kernel_of self.now) t) else None) }
     {
         if self.lives(t) {
-            Prio::new(self.owners.local(t))
+            self.owners.local(t)
         } else {
             None
         }

@@ -8,7 +8,7 @@ use crate::parts::Parts;
 use pif_boost::walk;
 use pif_model::{Status, Woken};
 use pif_rtmutex::Key;
-use pif_types::{MutexId, Prio, Tid, push_within};
+use pif_types::{MutexId, Tid, push_within};
 
 impl Parts {
     /// Queues a ready thread on a mutex of this owner, whose owner state has this key, if there is one. Then there is an
@@ -28,7 +28,7 @@ impl Parts {
         let _mutex = m.get();
         let ticket = self.take_ticket();
         let key = self.state_of(m, owner, key);
-        let prio = Prio::new(self.owners.local(t)).unwrap();
+        let prio = self.owners.local(t).unwrap();
         self.owners.enqueue(key, t, prio, ticket);
         self.statuses[t.get() as usize] = Status::Queued(m);
         push_within(&mut self.arrivals, (t, m));
@@ -71,7 +71,7 @@ impl Parts {
             self.keys[m.get() as usize] = None;
         }
         self.statuses[next.get() as usize] = Status::Ready(Woken::Owns);
-        let level = Prio::new(self.owners.local(next)).unwrap();
+        let level = self.owners.local(next).unwrap();
         self.queue.add(&mut self.table, next, level);
         walk(&mut self.owners, &mut self.queue, &mut self.table, holder);
         next

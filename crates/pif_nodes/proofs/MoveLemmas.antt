@@ -3,11 +3,11 @@ use Rattle.std.proofs.Common.{◌≡◌, ℕ, ◌<◌, true, false, cond, eqb, L
 use Rattle.std.proofs.lemmas.Bool.{cases_eq, eq-eqb, ne_eqb, both_ways, false_from_ne_true}
 use Rattle.std.proofs.lemmas.Option.{same_Some}
 use Rattle.std.proofs.lemmas.List.{append_assoc, get_or-set_same, get_or-set_other}
-use Rattle.pif_nodes.specs.declared.links.Slot.{Slot}
-use Rattle.pif_nodes.specs.declared.links.Ends.{Ends}
+use Rattle.pif_nodes.specs.declared.slots.Slot.{Slot}
+use Rattle.pif_nodes.specs.declared.slots.Ends.{Ends}
 use Rattle.pif_nodes.specs.Lists.{has, first_of, last_of, next_in, prev_in, insert_after, without, HasNoRepeats}
 use Rattle.pif_nodes.specs.Table.{list_with}
-use Rattle.pif_nodes.specs.Links.{slot_at, follower_of, linked, ends_linked, unlinked, ends_unlinked, Ties}
+use Rattle.pif_nodes.specs.Links.{slot_at, follower_of, slots_after_link, ends_after_link, slots_after_unlink, ends_after_unlink, Ties}
 use Rattle.pif_nodes.proofs.ListLemmas.{put_move, take_move, has_split, has-right, has-head, HasNoRepeats-put, HasNoRepeats-taken, has-neither, next_in-split, prev_from-split, put_after-split, without-split, last_or-append, has-put}
 use Rattle.pif_nodes.proofs.HolderLemmas.{list_with-put, list_with-none, list_with-has, list_with-absent, list_with-within, list_with-same}
 use Rattle.pif_nodes.proofs.TiesLemmas.{Ties-moved}
@@ -35,7 +35,8 @@ only_here ls l n k xs want l_in others here h = ⊎_elim
 -- a node that is in no list is put between a front and a back
 put_between : (ns : List Slot) (es : List Ends) (ls : List (List ℕ)) (l n : ℕ) (front back : List ℕ) →
     Ties ns es ls → n < length ns → l < length ls → list_with ls n ≡ None → get_or ls l [] ≡ front ++ back →
-    Holds (linked ns l (last_of front) (first_of back) n) (ends_linked es l (last_of front) (first_of back) n) ls (set ls l (front ++ n ∷ back)) n (Some l)
+    Holds (slots_after_link ns l (last_of front) (first_of back) n)
+    (ends_after_link es l (last_of front) (first_of back) n) ls (set ls l (front ++ n ∷ back)) n (Some l)
 put_between ns es ls l n front back t n_in l_in out at =
     let once : HasNoRepeats (front ++ back) = subst HasNoRepeats at (t.once l) in
     let absent : has n (front ++ back) ≡ false = ap (has n) (sym at) ∙ list_with-none ls n l out in
@@ -55,11 +56,13 @@ put_between ns es ls l n front back t n_in l_in out at =
 -- a node is put into a list after a place, or at its head
 pub Holds-put : (ns : List Slot) (es : List Ends) (ls : List (List ℕ)) (l n : ℕ) (after next : Option ℕ) →
     Ties ns es ls → n < length ns → l < length ls → list_with ls n ≡ None → ((p : ℕ) → after ≡ Some p → list_with ls p ≡ Some l) → next ≡ follower_of ns es l after →
-    Holds (linked ns l after next n) (ends_linked es l after next n) ls (set ls l (insert_after after n (get_or ls l []))) n (Some l)
+    Holds (slots_after_link ns l after next n) (ends_after_link es l after next n) ls
+    (set ls l (insert_after after n (get_or ls l []))) n (Some l)
 Holds-put ns es ls l n None next t n_in l_in out place next_is =
     let r = put_between ns es ls l n [] (get_or ls l []) t n_in l_in out refl in
     let e : next ≡ first_of (get_or ls l []) = next_is ∙ t.first l in
-    subst (λ (o : Option ℕ). Holds (linked ns l None o n) (ends_linked es l None o n) ls (set ls l (n ∷ get_or ls l [])) n (Some l)) (sym e) r
+    subst (λ (o : Option ℕ). Holds (slots_after_link ns l None o n) (ends_after_link es l None o n) ls
+    (set ls l (n ∷ get_or ls l [])) n (Some l)) (sym e) r
 Holds-put ns es ls l n (Some p) next t n_in l_in out place next_is =
     let xs : List ℕ = get_or ls l [] in
     let mine = place p refl in
@@ -72,14 +75,18 @@ Holds-put ns es ls l n (Some p) next t n_in l_in out place next_is =
     let now : (front ++ p ∷ []) ++ n ∷ back ≡ insert_after (Some p) n xs =
     append_assoc front (p ∷ []) (n ∷ back) ∙ sym (put_after-split front back p n cut.3) ∙ ap (insert_after (Some p) n) (sym cut.2) in
     let r = put_between ns es ls l n (front ++ p ∷ []) back t n_in l_in out at in
-    let r2 = subst (λ (o : Option ℕ). Holds (linked ns l o (first_of back) n) (ends_linked es l o (first_of back) n) ls (set ls l ((front ++ p ∷ []) ++ n ∷ back)) n (Some l)) end r in
-    let r3 = subst (λ (o : Option ℕ). Holds (linked ns l (Some p) o n) (ends_linked es l (Some p) o n) ls (set ls l ((front ++ p ∷ []) ++ n ∷ back)) n (Some l)) (sym e) r2 in
-    subst (λ (zs : List ℕ). Holds (linked ns l (Some p) next n) (ends_linked es l (Some p) next n) ls (set ls l zs) n (Some l)) now r3
+    let r2 = subst (λ (o : Option ℕ). Holds (slots_after_link ns l o (first_of back) n)
+    (ends_after_link es l o (first_of back) n) ls (set ls l ((front ++ p ∷ []) ++ n ∷ back)) n (Some l)) end r in
+    let r3 = subst (λ (o : Option ℕ). Holds (slots_after_link ns l (Some p) o n) (ends_after_link es l (Some p) o n)
+    ls (set ls l ((front ++ p ∷ []) ++ n ∷ back)) n (Some l)) (sym e) r2 in
+    subst (λ (zs : List ℕ). Holds (slots_after_link ns l (Some p) next n) (ends_after_link es l (Some p) next n) ls
+    (set ls l zs) n (Some l)) now r3
 
 -- a node is taken out from between a front and a back
 take_between : (ns : List Slot) (es : List Ends) (ls : List (List ℕ)) (l n : ℕ) (front back : List ℕ) →
     Ties ns es ls → n < length ns → list_with ls n ≡ Some l → get_or ls l [] ≡ front ++ n ∷ back →
-    Holds (unlinked ns (last_of front) (first_of back) n) (ends_unlinked es l (last_of front) (first_of back)) ls (set ls l (front ++ back)) n None
+    Holds (slots_after_unlink ns (last_of front) (first_of back) n)
+    (ends_after_unlink es l (last_of front) (first_of back)) ls (set ls l (front ++ back)) n None
 take_between ns es ls l n front back t n_in held at =
     let l_in = list_with-within ls n l held in
     let once : HasNoRepeats (front ++ n ∷ back) = subst HasNoRepeats at (t.once l) in
@@ -100,7 +107,8 @@ take_between ns es ls l n front back t n_in held at =
 -- a node is taken out of its list
 pub Holds-taken : (ns : List Slot) (es : List Ends) (ls : List (List ℕ)) (l n : ℕ) (prev next : Option ℕ) →
     Ties ns es ls → n < length ns → list_with ls n ≡ Some l → prev ≡ (slot_at ns n).prev → next ≡ (slot_at ns n).next →
-    Holds (unlinked ns prev next n) (ends_unlinked es l prev next) ls (set ls l (without n (get_or ls l []))) n None
+    Holds (slots_after_unlink ns prev next n) (ends_after_unlink es l prev next) ls
+    (set ls l (without n (get_or ls l []))) n None
 Holds-taken ns es ls l n prev next t n_in held prev_is next_is =
     let xs : List ℕ = get_or ls l [] in
     let cut = has_split n xs (list_with-has ls n l held) in
@@ -111,6 +119,9 @@ Holds-taken ns es ls l n prev next t n_in held prev_is next_is =
     let after : next ≡ first_of back = next_is ∙ t.next n ∙ ap (λ o. option_and_then (λ k. next_in (get_or ls k []) n) o) held ∙ ap (λ zs. next_in zs n) cut.2 ∙ next_in-split front back n cut.3 in
     let now : front ++ back ≡ without n xs = sym (without-split front back n parts.1 parts.2) ∙ ap (without n) (sym cut.2) in
     let r = take_between ns es ls l n front back t n_in held cut.2 in
-    let r2 = subst (λ (o : Option ℕ). Holds (unlinked ns o (first_of back) n) (ends_unlinked es l o (first_of back)) ls (set ls l (front ++ back)) n None) (sym before) r in
-    let r3 = subst (λ (o : Option ℕ). Holds (unlinked ns prev o n) (ends_unlinked es l prev o) ls (set ls l (front ++ back)) n None) (sym after) r2 in
-    subst (λ (zs : List ℕ). Holds (unlinked ns prev next n) (ends_unlinked es l prev next) ls (set ls l zs) n None) now r3
+    let r2 = subst (λ (o : Option ℕ). Holds (slots_after_unlink ns o (first_of back) n)
+    (ends_after_unlink es l o (first_of back)) ls (set ls l (front ++ back)) n None) (sym before) r in
+    let r3 = subst (λ (o : Option ℕ). Holds (slots_after_unlink ns prev o n) (ends_after_unlink es l prev o) ls
+    (set ls l (front ++ back)) n None) (sym after) r2 in
+    subst (λ (zs : List ℕ). Holds (slots_after_unlink ns prev next n) (ends_after_unlink es l prev next) ls
+    (set ls l zs) n None) now r3

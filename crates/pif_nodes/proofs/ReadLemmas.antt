@@ -1,8 +1,8 @@
 -- What a value's fields, read in bounds, say of the table that they show.
 use Rattle.std.proofs.Common.{◌≡◌, ℕ, ◌<◌, List, ◌∙◌, ap, arith, length, get_or}
 use Rattle.pif_nodes.specs.declared.keys.Key.{Key}
-use Rattle.pif_nodes.specs.declared.links.Slot.{Slot}
-use Rattle.pif_nodes.specs.declared.links.Ends.{Ends}
+use Rattle.pif_nodes.specs.declared.slots.Slot.{Slot}
+use Rattle.pif_nodes.specs.declared.slots.Ends.{Ends}
 use Rattle.pif_nodes.specs.Lists.{first_of, last_of}
 use Rattle.pif_nodes.specs.Table.{Table, list_at, key_at, holder, next_of, prev_of, IsApart}
 use Rattle.pif_nodes.specs.Links.{slot_at, ends_at, lists_of, Ties}

@@ -1,14 +1,14 @@
 -- Lemmas on a table that its fields show.
 use Rattle.std.proofs.Common.{◌≡◌, ℕ, ◌<◌, cond, eqb, List, [], Option, Some, None, option_and_then, refl, sym, ◌∙◌, ap, subst, arith, length, get_or, set, true, take, drop, ◌++◌}
 use Rattle.pif_nodes.specs.declared.keys.Key.{Key}
-use Rattle.pif_nodes.specs.declared.links.Slot.{Slot}
-use Rattle.pif_nodes.specs.declared.links.Ends.{Ends}
+use Rattle.pif_nodes.specs.declared.slots.Slot.{Slot}
+use Rattle.pif_nodes.specs.declared.slots.Ends.{Ends}
 use Rattle.pif_nodes.specs.Lists.{has, next_in, prev_in, insert_after, without}
 use Rattle.std.proofs.Math.Seq.{take-append_seam}
 use Rattle.std.proofs.lemmas.List.{get_or_default}
 use Rattle.pif_nodes.proofs.ListLemmas.{first_of-has, next_in-has, prev_in-has}
 use Rattle.pif_nodes.specs.Table.{Table, list_at, key_at, list_with, holder, with_list, with_key, IsApart}
-use Rattle.pif_nodes.specs.Links.{free_slot, empty_ends, slot_at, ends_at, follower_of, lists_of, keys_of, linked, ends_linked, unlinked, ends_unlinked, with_slot_key, Ties}
+use Rattle.pif_nodes.specs.Links.{free_slot, empty_ends, slot_at, ends_at, follower_of, lists_of, keys_of, slots_after_link, ends_after_link, slots_after_unlink, ends_after_unlink, with_slot_key, Ties}
 use Rattle.pif_nodes.proofs.TiesLemmas.{within_from_Ties}
 use Rattle.pif_nodes.proofs.MoveLemmas.{Holds-put, Holds-taken}
 use Rattle.pif_nodes.proofs.ViewLemmas.{lists_of_is, length-keys_of, key_of_slot, keys_of-linked, keys_of-unlinked, keys_of-renamed, Ties-renamed, IsApart-from_Ties}
@@ -97,10 +97,13 @@ module _ (ns : List Slot) (es : List Ends) (t : Table) (shows : Shows ns es t) w
 
   -- a node is put into a list
   pub Shows-put : (l n : ℕ) (after next : Option ℕ) → n < length ns → l < length t.lists → holder t n ≡ None → ((p : ℕ) → after ≡ Some p → holder t p ≡ Some l) → next ≡ follower_of ns es l after →
-      Shows (linked ns l after next n) (ends_linked es l after next n) (with_list t l (insert_after after n (list_at t l)))
+      Shows (slots_after_link ns l after next n) (ends_after_link es l after next n)
+      (with_list t l (insert_after after n (list_at t l)))
   Shows-put l n after next n_in l_in out place next_is =
       let held = Holds-put ns es t.lists l n after next shows.ties n_in l_in out place next_is in
-      shows_lists (linked ns l after next n) (ends_linked es l after next n) (set t.lists l (insert_after after n (list_at t l))) t.keys held.ties (keys_of-linked ns l after next n ∙ keys_same)
+      shows_lists (slots_after_link ns l after next n) (ends_after_link es l after next n)
+      (set t.lists l (insert_after after n (list_at t l))) t.keys held.ties
+      (keys_of-linked ns l after next n ∙ keys_same)
 
   pub holders-put : (l n : ℕ) (after next : Option ℕ) → n < length ns → l < length t.lists → holder t n ≡ None → ((p : ℕ) → after ≡ Some p → holder t p ≡ Some l) → next ≡ follower_of ns es l after →
       (m : ℕ) → holder (with_list t l (insert_after after n (list_at t l))) m ≡ cond (eqb m n) (Some l) (holder t m)
@@ -108,10 +111,12 @@ module _ (ns : List Slot) (es : List Ends) (t : Table) (shows : Shows ns es t) w
 
   -- a node is taken out of its list
   pub Shows-taken : (l n : ℕ) (prev next : Option ℕ) → holder t n ≡ Some l → prev ≡ (slot_at ns n).prev → next ≡ (slot_at ns n).next →
-      Shows (unlinked ns prev next n) (ends_unlinked es l prev next) (with_list t l (without n (list_at t l)))
+      Shows (slots_after_unlink ns prev next n) (ends_after_unlink es l prev next)
+      (with_list t l (without n (list_at t l)))
   Shows-taken l n prev next h prev_is next_is =
       let held = Holds-taken ns es t.lists l n prev next shows.ties (held_in n l h) h prev_is next_is in
-      shows_lists (unlinked ns prev next n) (ends_unlinked es l prev next) (set t.lists l (without n (list_at t l))) t.keys held.ties (keys_of-unlinked ns prev next n ∙ keys_same)
+      shows_lists (slots_after_unlink ns prev next n) (ends_after_unlink es l prev next)
+      (set t.lists l (without n (list_at t l))) t.keys held.ties (keys_of-unlinked ns prev next n ∙ keys_same)
 
   pub holders-taken : (l n : ℕ) → holder t n ≡ Some l → (m : ℕ) → holder (with_list t l (without n (list_at t l))) m ≡ cond (eqb m n) None (holder t m)
   holders-taken l n h = (Holds-taken ns es t.lists l n (slot_at ns n).prev (slot_at ns n).next shows.ties (held_in n l h) h refl refl).holders

@@ -4,8 +4,8 @@ use Rattle.std.proofs.Math.Seq.{set_out}
 use Rattle.std.proofs.lemmas.Bool.{cases_eq, cases_lt}
 use Rattle.std.proofs.lemmas.Option.{same_Some}
 use Rattle.std.proofs.lemmas.List.{get_or-set_same, get_or-set_other, get_or_past, length-set}
-use Rattle.pif_nodes.specs.declared.links.Slot.{Slot}
-use Rattle.pif_nodes.specs.declared.links.Ends.{Ends}
+use Rattle.pif_nodes.specs.declared.slots.Slot.{Slot}
+use Rattle.pif_nodes.specs.declared.slots.Ends.{Ends}
 use Rattle.pif_nodes.specs.Lists.{has, first_of, last_of, next_in, prev_in, HasNoRepeats}
 use Rattle.pif_nodes.specs.Table.{list_with}
 use Rattle.pif_nodes.specs.Links.{free_slot, empty_ends, slot_at, ends_at, with_next, with_prev, with_first, with_last, with_place, Ties}

@@ -7,11 +7,11 @@ use Rattle.std.proofs.lemmas.List.{append_assoc, ext_get_or, get_or-map, length-
 use Rattle.std.proofs.lemmas.Map.Keys.{IsDistinct-cons}
 use Rattle.std.proofs.lemmas.Map.Steps.{length-le_from_distinct_below}
 use Rattle.pif_nodes.specs.declared.keys.Key.{Key}
-use Rattle.pif_nodes.specs.declared.links.Slot.{Slot}
-use Rattle.pif_nodes.specs.declared.links.Ends.{Ends}
+use Rattle.pif_nodes.specs.declared.slots.Slot.{Slot}
+use Rattle.pif_nodes.specs.declared.slots.Ends.{Ends}
 use Rattle.pif_nodes.specs.Lists.{has, first_of, last_of, next_in, prev_in, HasNoRepeats}
 use Rattle.pif_nodes.specs.Table.{list_with, IsApart}
-use Rattle.pif_nodes.specs.Links.{free_slot, empty_ends, slot_at, walk, lists_of, keys_of, with_next, with_prev, with_place, linked, unlinked, with_slot_key, Ties}
+use Rattle.pif_nodes.specs.Links.{free_slot, empty_ends, slot_at, walk, lists_of, keys_of, with_next, with_prev, with_place, slots_after_link, slots_after_unlink, with_slot_key, Ties}
 use Rattle.pif_nodes.proofs.ListLemmas.{next_in-split, HasNoRepeats-taken, has-right, has-head}
 use Rattle.pif_nodes.proofs.HolderLemmas.{list_with-has, list_with-within}
 use Rattle.pif_nodes.proofs.TiesLemmas.{within_from_Ties, kept}
@@ -81,11 +81,13 @@ keys_place : (ns : List Slot) (n : ℕ) (list prev next : Option ℕ) → keys_o
 unfolding keys_of
 keys_place ns n list prev next = map-set_same (λ s. record { prio = s.prio; ticket = s.ticket }) ns n (record (slot_at ns n) { prev = prev; next = next; list = list }) free_slot refl
 
-pub keys_of-linked : (ns : List Slot) (l : ℕ) (prev next : Option ℕ) (n : ℕ) → keys_of (linked ns l prev next n) ≡ keys_of ns
+pub keys_of-linked : (ns : List Slot) (l : ℕ) (prev next : Option ℕ) (n : ℕ)
+    → keys_of (slots_after_link ns l prev next n) ≡ keys_of ns
 keys_of-linked ns l prev next n =
     keys_prev (with_next (with_place ns n (Some l) prev next) prev (Some n)) next (Some n) ∙ keys_next (with_place ns n (Some l) prev next) prev (Some n) ∙ keys_place ns n (Some l) prev next
 
-pub keys_of-unlinked : (ns : List Slot) (prev next : Option ℕ) (n : ℕ) → keys_of (unlinked ns prev next n) ≡ keys_of ns
+pub keys_of-unlinked : (ns : List Slot) (prev next : Option ℕ) (n : ℕ)
+    → keys_of (slots_after_unlink ns prev next n) ≡ keys_of ns
 keys_of-unlinked ns prev next n =
     keys_prev (with_next (with_place ns n None None None) prev next) next prev ∙ keys_next (with_place ns n None None None) prev next ∙ keys_place ns n None None None
 

@@ -1,11 +1,11 @@
 -- What the fields of a value show once a call has written them: the code's own copies of the fields and numbers, each
 -- equal to that of the value, go into `linked`, `unlinked` or `with_slot_key`, and the result back into the vectors.
 use Rattle.std.proofs.Common.{◌≡◌, ℕ, ◌<◌, List, [], Option, Some, None, IsSome, sym, ◌∙◌, ap, arith, length, get_or, take, drop, ◌++◌, replicate}
-use Rattle.pif_nodes.specs.declared.links.Slot.{Slot}
-use Rattle.pif_nodes.specs.declared.links.Ends.{Ends}
+use Rattle.pif_nodes.specs.declared.slots.Slot.{Slot}
+use Rattle.pif_nodes.specs.declared.slots.Ends.{Ends}
 use Rattle.pif_nodes.specs.Lists.{insert_after, without}
 use Rattle.pif_nodes.specs.Table.{Table, no_key, list_at, holder, with_list, with_key}
-use Rattle.pif_nodes.specs.Links.{free_slot, empty_ends, slot_at, follower_of, lists_of, linked, ends_linked, unlinked, ends_unlinked, with_slot_key, Ties}
+use Rattle.pif_nodes.specs.Links.{free_slot, empty_ends, slot_at, follower_of, lists_of, slots_after_link, ends_after_link, slots_after_unlink, ends_after_unlink, with_slot_key, Ties}
 use Rattle.pif_nodes.proofs.TiesLemmas.{some_of}
 use Rattle.pif_nodes.proofs.SeenLemmas.{seen, Shows, Shows-from, shows_lists, Shows-put, Shows-taken, Shows-renamed, Shows-same, Shows-closed, Shows-closed-nodes, prev_in_fields, next_in_fields}
 use Rattle.pif_nodes.proofs.ViewLemmas.{Ties-new, keys_of-new}
@@ -38,14 +38,15 @@ module _ {ns : List Slot} {es : List Ends} {t : Table} (view : seen ns es ≡ t)
   -- a node is put into a list
   pub Shows-attached : {copy now : List Slot} {ends_copy ends_now : List Ends} {l l2 n n2 size count : ℕ} {after prev next : Option ℕ} →
       n < length t.keys → l < length t.lists → holder t n ≡ None → ((p : ℕ) → after ≡ Some p → holder t p ≡ Some l) → next ≡ follower_of ns es l after →
-      copy ≡ ns → ends_copy ≡ es → l2 ≡ l → prev ≡ after → n2 ≡ n → now ≡ linked copy l2 prev next n2 → ends_now ≡ ends_linked ends_copy l2 prev next n2 → length now ≡ size → length ends_now ≡ count →
+      copy ≡ ns → ends_copy ≡ es → l2 ≡ l → prev ≡ after → n2 ≡ n → now ≡ slots_after_link copy l2 prev next n2
+      → ends_now ≡ ends_after_link ends_copy l2 prev next n2 → length now ≡ size → length ends_now ≡ count →
       Shows (put_back ns now size) (put_back es ends_now count) (with_list t l (insert_after after n (list_at t l)))
   Shows-attached {copy} {now} {ends_copy} {ends_now} {l} {l2} {n} {n2} {size} {count} {after} {prev} {next} n_in l_in out place next_is same_nodes same_ends same_list same_place same written ends_written long ends_long =
       let then : Table = with_list t l (insert_after after n (list_at t l)) in
       Shows-closed size count ns es now ends_now then long ends_long
-      (Shows-same (linked ns l after next n) now (ends_linked es l after next n) ends_now then
-      (written ∙ (λ k. linked (same_nodes k) (same_list k) (same_place k) next (same k)))
-      (ends_written ∙ (λ k. ends_linked (same_ends k) (same_list k) (same_place k) next (same k)))
+      (Shows-same (slots_after_link ns l after next n) now (ends_after_link es l after next n) ends_now then
+      (written ∙ (λ k. slots_after_link (same_nodes k) (same_list k) (same_place k) next (same k)))
+      (ends_written ∙ (λ k. ends_after_link (same_ends k) (same_list k) (same_place k) next (same k)))
       (Shows-put ns es t shows l n after next (omega (arith, nodes_seen ns es t view ties)) l_in out place next_is))
 
   -- a node, whose fields were read, is taken out of its list
@@ -69,12 +70,13 @@ module _ {ns : List Slot} {es : List Ends} {t : Table} (view : seen ns es ≡ t)
     next_within x h = next_in_fields ns es t shows n x (sym (ap (λ (x : Slot). x.next) fields) ∙ h)
 
     pub Shows-detached : {copy now : List Slot} {ends_copy ends_now : List Ends} {n2 size count : ℕ} →
-        copy ≡ ns → ends_copy ≡ es → n2 ≡ n → now ≡ unlinked copy s.prev s.next n2 → ends_now ≡ ends_unlinked ends_copy list s.prev s.next → length now ≡ size → length ends_now ≡ count →
+        copy ≡ ns → ends_copy ≡ es → n2 ≡ n → now ≡ slots_after_unlink copy s.prev s.next n2
+        → ends_now ≡ ends_after_unlink ends_copy list s.prev s.next → length now ≡ size → length ends_now ≡ count →
         Shows (put_back ns now size) (put_back es ends_now count) (with_list t list (without n (list_at t list)))
     Shows-detached {copy} {now} {ends_copy} {ends_now} {n2} {size} {count} same_nodes same_ends same written ends_written long ends_long =
         let then : Table = with_list t list (without n (list_at t list)) in
         Shows-closed size count ns es now ends_now then long ends_long
-        (Shows-same (unlinked ns s.prev s.next n) now (ends_unlinked es list s.prev s.next) ends_now then
-        (written ∙ (λ k. unlinked (same_nodes k) s.prev s.next (same k)))
-        (ends_written ∙ (λ k. ends_unlinked (same_ends k) list s.prev s.next))
+        (Shows-same (slots_after_unlink ns s.prev s.next n) now (ends_after_unlink es list s.prev s.next) ends_now then
+        (written ∙ (λ k. slots_after_unlink (same_nodes k) s.prev s.next (same k)))
+        (ends_written ∙ (λ k. ends_after_unlink (same_ends k) list s.prev s.next))
         (Shows-taken ns es t shows list n s.prev s.next holder_is (ap (λ (x : Slot). x.prev) fields) (ap (λ (x : Slot). x.next) fields)))

@@ -1,8 +1,8 @@
 -- How the fields of a table hold its lists: each node has its neighbours and its list, each list its two ends.
 use Rattle.std.specs.Prelude.{◌≡◌, ℕ, suc, zero, true, List, [], ◌∷◌, length, map, Option, Some, None, slice_index_or, slice_set, option_and_then}
 use Rattle.pif_nodes.specs.declared.keys.Key.{Key}
-use Rattle.pif_nodes.specs.declared.links.Slot.{Slot}
-use Rattle.pif_nodes.specs.declared.links.Ends.{Ends}
+use Rattle.pif_nodes.specs.declared.slots.Slot.{Slot}
+use Rattle.pif_nodes.specs.declared.slots.Ends.{Ends}
 use Rattle.pif_nodes.specs.Lists.{first_of, last_of, next_in, prev_in, has, HasNoRepeats}
 use Rattle.pif_nodes.specs.Table.{list_with}
 
@@ -77,20 +77,21 @@ follower_of ns es l None = (ends_at es l).first
 follower_of ns es l (Some p) = (slot_at ns p).next
 
 -- the nodes once n stands between `prev` and `next` in list l
-abbrev pub linked : List Slot → ℕ → Option ℕ → Option ℕ → ℕ → List Slot
-linked ns l prev next n = with_prev (with_next (with_place ns n (Some l) prev next) prev (Some n)) next (Some n)
+abbrev pub slots_after_link : List Slot → ℕ → Option ℕ → Option ℕ → ℕ → List Slot
+slots_after_link ns l prev next n = with_prev (with_next (with_place ns n (Some l) prev next) prev (Some n)) next
+    (Some n)
 
 -- the ends of the lists then
-abbrev pub ends_linked : List Ends → ℕ → Option ℕ → Option ℕ → ℕ → List Ends
-ends_linked es l prev next n = with_last (with_first es l prev (Some n)) l next (Some n)
+abbrev pub ends_after_link : List Ends → ℕ → Option ℕ → Option ℕ → ℕ → List Ends
+ends_after_link es l prev next n = with_last (with_first es l prev (Some n)) l next (Some n)
 
 -- the nodes once n, which stood between `prev` and `next`, is in no list
-abbrev pub unlinked : List Slot → Option ℕ → Option ℕ → ℕ → List Slot
-unlinked ns prev next n = with_prev (with_next (with_place ns n None None None) prev next) next prev
+abbrev pub slots_after_unlink : List Slot → Option ℕ → Option ℕ → ℕ → List Slot
+slots_after_unlink ns prev next n = with_prev (with_next (with_place ns n None None None) prev next) next prev
 
 -- the ends of the lists then
-abbrev pub ends_unlinked : List Ends → ℕ → Option ℕ → Option ℕ → List Ends
-ends_unlinked es l prev next = with_last (with_first es l prev next) l next prev
+abbrev pub ends_after_unlink : List Ends → ℕ → Option ℕ → Option ℕ → List Ends
+ends_after_unlink es l prev next = with_last (with_first es l prev next) l next prev
 
 -- the nodes with another key of one of them
 abbrev pub with_slot_key : List Slot → ℕ → ℕ → ℕ → List Slot

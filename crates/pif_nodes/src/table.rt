@@ -3,10 +3,10 @@ ghost use Rattle.std.specs.Option.{ForSome};
 ghost use Rattle.pif_nodes.specs.Lists.{first_of, last_of, insert_after, without};
 ghost use Rattle.pif_nodes.specs.Table.{no_key, list_at, key_at, holder, next_of, prev_of, with_list, with_key, IsApart};
 
-use crate::joins::{follower, link, rename, unlink};
 use crate::keys::Key;
-use crate::links::{Ends, Slot};
+use crate::linking::{follower, link, unlink, write_key};
 use crate::numbers::{List, Node};
+use crate::slots::{Ends, Slot};
 use pif_types::NoMemory;
 use std::alloc::Global;
 use std::marker::Model;
@@ -171,6 +171,6 @@ impl NodeTable {
         ensures renamed { self.new ≡ with_key self.old node (record { prio = prio; ticket = ticket }) }
         ensures apart { IsApart self.new }
     {
-        rename(&mut self.nodes, node.get(), prio, ticket);
+        write_key(&mut self.nodes, node.get(), prio, ticket);
     }
 }

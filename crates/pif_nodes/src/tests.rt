@@ -1,48 +1,96 @@
+ghost use Rattle.std.specs.Prelude.{◌≡◌, ◌<◌, length, replicate, [], ◌∷◌, Some};
+ghost use Rattle.pif_nodes.specs.Table.{no_key, holder};
+
 use super::*;
+use std::process::Abort;
 use std::test::Fail;
 
 #[test]
 fn keeps_lists_and_keys(rt: HostRuntime) -> Result<(), Fail> {
-    let left = List::new(0);
-    let right = List::new(1);
-    let (a, b, c) = (Node::new(0), Node::new(1), Node::new(2));
     let mut table = NodeTable::new(rt.alloc(), 3, 2)?;
-    assert!(rt; table.list_of(a).is_none());
+    keep_lists(&rt, &mut table);
+    keep_keys(&rt, &mut table);
+    Ok(())
+}
+
+// Asserts in which list a node is, and between which nodes.
+fn expect_place(
+    rt: &impl Abort,
+    table: &NodeTable,
+    node: Node,
+    list: Option<List>,
+    prev: Option<Node>,
+    next: Option<Node>,
+)
+    requires { node < length table.now.keys }
+{
+    assert_eq!(rt; table.list_of(node), list);
+    assert_eq!(rt; table.prev(node), prev);
+    assert_eq!(rt; table.next(node), next);
+}
+
+// Asserts between which nodes a list stands.
+fn expect_ends(
+    rt: &impl Abort,
+    table: &NodeTable,
+    list: List,
+    first: Option<Node>,
+    last: Option<Node>,
+)
+    requires { list < length table.now.lists }
+{
+    assert_eq!(rt; table.first(list), first);
+    assert_eq!(rt; table.last(list), last);
+}
+
+fn keep_lists(rt: &impl Abort, table: &mut NodeTable)
+    requires { table.old ≡ record { lists = replicate 2 []; keys = replicate 3 no_key } }
+    ensures { table.new ≡ record { lists = (0 ∷ 1 ∷ 2 ∷ []) ∷ [] ∷ []; keys = replicate 3 no_key } }
+{
+    let left = List::new(0);
+    let (a, b, c) = (Node::new(0), Node::new(1), Node::new(2));
+    expect_place(rt, table, a, None, None, None);
     table.attach_after(left, None, b);
     table.attach_after(left, Some(b), c);
     table.attach_after(left, None, a);
-    table.set_key(b, 20, 5);
-    assert_eq!(rt; table.first(left), Some(a));
-    assert_eq!(rt; table.next(a), Some(b));
-    assert_eq!(rt; table.next(b), Some(c));
-    assert_eq!(rt; table.next(c), None);
-    assert_eq!(rt; table.last(left), Some(c));
-    assert_eq!(rt; table.prev(c), Some(b));
-    assert_eq!(rt; table.prev(b), Some(a));
-    assert_eq!(rt; table.prev(a), None);
+    expect_ends(rt, table, left, Some(a), Some(c));
+    expect_place(rt, table, a, Some(left), None, Some(b));
+    expect_place(rt, table, b, Some(left), Some(a), Some(c));
+    expect_place(rt, table, c, Some(left), Some(b), None);
+}
+
+// Moves a node from one list to the head of another.
+fn move_to_head(table: &mut NodeTable, from: List, to: List, node: Node)
+    requires held { holder table.old node ≡ Some from }
+    requires node_in { node < length table.old.keys }
+    requires list_in { to < length table.old.lists }
+    ensures lists { length table.new.lists ≡ length table.old.lists }
+    ensures keys { table.new.keys ≡ table.old.keys }
+{
+    table.detach(node);
+    table.attach_after(to, None, node);
+}
+
+fn keep_keys(rt: &impl Abort, table: &mut NodeTable)
+    requires { table.old ≡ record { lists = (0 ∷ 1 ∷ 2 ∷ []) ∷ [] ∷ []; keys = replicate 3 no_key } }
+{
+    let (left, right) = (List::new(0), List::new(1));
+    let (a, b, c) = (Node::new(0), Node::new(1), Node::new(2));
+    let key = Key {
+        prio: 20,
+        ticket: 5,
+    };
+    table.set_key(b, key.prio, key.ticket);
     assert_eq!(rt;
-        table.key(b),
-        Key {
-            prio: 20,
-            ticket: 5
-        }
+        (table.key(a), table.key(b)),
+        (Key { prio: 0, ticket: 0 }, key)
     );
-    assert_eq!(rt; table.key(a), Key { prio: 0, ticket: 0 });
-    table.detach(b);
-    table.attach_after(right, None, b);
-    assert_eq!(rt; table.next(a), Some(c));
-    assert_eq!(rt; table.prev(c), Some(a));
-    assert_eq!(rt; table.list_of(a), Some(left));
-    assert_eq!(rt; table.list_of(b), Some(right));
-    assert_eq!(rt; table.first(right), Some(b));
-    assert_eq!(rt; table.last(right), Some(b));
-    assert_eq!(rt;
-        table.key(b),
-        Key {
-            prio: 20,
-            ticket: 5
-        }
-    );
+    move_to_head(table, left, right, b);
+    expect_ends(rt, table, left, Some(a), Some(c));
+    expect_place(rt, table, a, Some(left), None, Some(c));
+    expect_place(rt, table, c, Some(left), Some(a), None);
+    expect_ends(rt, table, right, Some(b), Some(b));
+    expect_place(rt, table, b, Some(right), None, None);
+    assert_eq!(rt; table.key(b), key);
     assert_eq!(rt; (left.get(), right.get(), c.get()), (0, 1, 2));
-    Ok(())
 }

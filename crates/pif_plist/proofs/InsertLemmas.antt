@@ -6,7 +6,7 @@ use Rattle.pif_nodes.specs.declared.keys.Key.{Key}
 use Rattle.pif_nodes.specs.Lists.{has, first_of, last_of, insert_after, without, HasNoRepeats}
 use Rattle.pif_nodes.specs.Table.{Table, list_at, holder, with_list, with_key, IsApart}
 use Rattle.pif_nodes.proofs.ListLemmas.{has-left, has-right, last_of-has, first_of-has, last_split, last_some, apart_by_has, HasNoRepeats-taken, put_after-split}
-use Rattle.pif_plist.specs.Order.{comes_before, key_in, IsInOrder, IsSorted, placed, inserted, removed, OthersStaySorted, IsPlace}
+use Rattle.pif_plist.specs.Order.{comes_before, key_in, IsInOrder, IsSorted, list_after_insert, table_after_insert, table_after_remove, OthersStaySorted, IsPlace}
 use Rattle.pif_plist.proofs.OrderLemmas.{IsInOrder-same, IsInOrder-put, IsInOrder-without, placed-split, back_no_earlier}
 
 -- a number put after the last of a front stands between the front and the back
@@ -67,26 +67,28 @@ module _ (t : Table) (l n : ℕ) (k : Key) (place : Option ℕ) (apart : IsApart
   order : IsInOrder keys (at.front ++ at.back)
   order = subst (IsInOrder keys) at.parts (IsInOrder-elsewhere t.keys n k (list_at t l) (absent l) sorted)
 
-  placed_is : placed keys n (list_at t l) ≡ at.front ++ n ∷ at.back
-  placed_is = ap (placed keys n) at.parts ∙ placed-split keys n at.front at.back before behind
+  placed_is : list_after_insert keys n (list_at t l) ≡ at.front ++ n ∷ at.back
+  placed_is = ap (list_after_insert keys n) at.parts ∙ placed-split keys n at.front at.back before behind
 
   -- the place of a node in a sorted list is behind those that come no later
-  pub put_is : insert_after place n (list_at t l) ≡ placed keys n (list_at t l)
+  pub put_is : insert_after place n (list_at t l) ≡ list_after_insert keys n (list_at t l)
   put_is = ap (insert_after place n) at.parts ∙ insert_after-last at.front at.back n place at.at (subst HasNoRepeats at.parts (apart.once l)) ∙ sym placed_is
 
-  pub inserted_sorted : IsSorted (inserted t l n k) l
+  pub inserted_sorted : IsSorted (table_after_insert t l n k) l
   inserted_sorted =
       let put : IsInOrder keys (at.front ++ n ∷ at.back) = IsInOrder-put keys n at.front at.back order before (back_no_earlier keys (key_in keys n) at.front at.back order behind) in
-      subst (IsInOrder keys) (sym (list_at-same (with_key t n k) l (placed keys n (list_at t l)) l_in ∙ placed_is)) put
+      subst (IsInOrder keys) (sym (list_at-same (with_key t n k) l (list_after_insert keys n (list_at t l)) l_in
+      ∙ placed_is)) put
 
-  pub inserted_others : OthersStaySorted t (inserted t l n k) l
+  pub inserted_others : OthersStaySorted t (table_after_insert t l n k) l
   inserted_others j ne h =
-      subst (IsInOrder keys) (sym (list_at-other (with_key t n k) l j (placed keys n (list_at t l)) ne)) (IsInOrder-elsewhere t.keys n k (list_at t j) (absent j) h)
+      subst (IsInOrder keys) (sym (list_at-other (with_key t n k) l j (list_after_insert keys n (list_at t l)) ne))
+      (IsInOrder-elsewhere t.keys n k (list_at t j) (absent j) h)
 
   -- the place is in the list
   pub place_held : (p : ℕ) → place ≡ Some p → holder t p ≡ Some l
   place_held p e = apart.alone l p (in_list p (has-left p at.front at.back (last_of-has at.front p (sym at.at ∙ e))))
 
 -- a sorted list of a table without one of its nodes, and the others
-pub removed_sorted : (t : Table) (l n : ℕ) → l < length t.lists → IsSorted t l → IsSorted (removed t l n) l
+pub removed_sorted : (t : Table) (l n : ℕ) → l < length t.lists → IsSorted t l → IsSorted (table_after_remove t l n) l
 removed_sorted t l n l_in sorted = subst (IsInOrder t.keys) (sym (list_at-same t l (without n (list_at t l)) l_in)) (IsInOrder-without t.keys n (list_at t l) sorted)

@@ -4,7 +4,7 @@ use Rattle.std.proofs.lemmas.Bool.{cases_Bool, both_ways, or_cases, or_left, or_
 use Rattle.pif_nodes.specs.declared.keys.Key.{Key}
 use Rattle.pif_nodes.specs.Lists.{has, first_of, without}
 use Rattle.pif_nodes.proofs.ListLemmas.{has-right, has-head, has-put}
-use Rattle.pif_plist.specs.Order.{comes_before, key_in, IsInOrder, placed}
+use Rattle.pif_plist.specs.Order.{comes_before, key_in, IsInOrder, list_after_insert}
 
 -- a key that comes before another, as numbers
 pub comes_before-cases : (a b : Key) → comes_before a b ≡ true → (b.prio < a.prio) ⊎ ((a.prio ≡ b.prio) × (a.ticket < b.ticket))
@@ -109,7 +109,8 @@ IsInOrder-put keys n (x ∷ xs) back h before behind = (
 
 -- a node is placed behind those that come no later
 pub placed-split : (keys : List Key) (n : ℕ) (front back : List ℕ) → ((m : ℕ) → has m front ≡ true → comes_before (key_in keys n) (key_in keys m) ≡ false) →
-    ((m : ℕ) → first_of back ≡ Some m → comes_before (key_in keys n) (key_in keys m) ≡ true) → placed keys n (front ++ back) ≡ front ++ n ∷ back
+    ((m : ℕ) → first_of back ≡ Some m → comes_before (key_in keys n) (key_in keys m) ≡ true)
+    → list_after_insert keys n (front ++ back) ≡ front ++ n ∷ back
 placed-split keys n [] [] before behind = refl
 placed-split keys n [] (y ∷ ys) before behind = let e : comes_before (key_in keys n) (key_in keys y) ≡ true = behind y refl in rw e refl
 placed-split keys n (x ∷ xs) back before behind =

@@ -22,17 +22,18 @@ abbrev pub IsSorted : Table → ℕ → Type 0
 IsSorted t l = IsInOrder t.keys (list_at t l)
 
 -- a list with a node put before the first one that comes later, or at the end where none does
-abbrev pub placed : List Key → ℕ → List ℕ → List ℕ
-placed keys n [] = n ∷ []
-placed keys n (x ∷ xs) = if comes_before (key_in keys n) (key_in keys x) then n ∷ x ∷ xs else x ∷ placed keys n xs
+abbrev pub list_after_insert : List Key → ℕ → List ℕ → List ℕ
+list_after_insert keys n [] = n ∷ []
+list_after_insert keys n (x ∷ xs) = if comes_before (key_in keys n) (key_in keys x) then n ∷ x ∷ xs else x ∷
+    list_after_insert keys n xs
 
 -- a table in which a node has got a key and been put into a list by it
-abbrev pub inserted : Table → ℕ → ℕ → Key → Table
-inserted t l n k = with_list (with_key t n k) l (placed (with_key t n k).keys n (list_at t l))
+abbrev pub table_after_insert : Table → ℕ → ℕ → Key → Table
+table_after_insert t l n k = with_list (with_key t n k) l (list_after_insert (with_key t n k).keys n (list_at t l))
 
 -- a table in which a node has been taken out of a list
-abbrev pub removed : Table → ℕ → ℕ → Table
-removed t l n = with_list t l (without n (list_at t l))
+abbrev pub table_after_remove : Table → ℕ → ℕ → Table
+table_after_remove t l n = with_list t l (without n (list_at t l))
 
 -- the key of a node with another priority
 abbrev pub with_prio : Table → ℕ → ℕ → Key

@@ -1,7 +1,7 @@
 ghost use Rattle.std.specs.Prelude.{◌≡◌, ℕ, ◌<◌, true, false, length, Some, None, nat_eq, if◌then◌else◌};
 ghost use Rattle.pif_nodes.specs.Lists.{has, first_of};
 ghost use Rattle.pif_nodes.specs.Table.{list_at, key_at, holder, with_key, IsApart};
-ghost use Rattle.pif_plist.specs.Order.{comes_before, IsSorted, IsPlace, OthersStaySorted, inserted, removed, with_prio, with_ticket};
+ghost use Rattle.pif_plist.specs.Order.{comes_before, IsSorted, IsPlace, OthersStaySorted, table_after_insert, table_after_remove, with_prio, with_ticket};
 
 use crate::order::precedes;
 use pif_nodes::{Key, List, Node, NodeTable};
@@ -37,7 +37,7 @@ impl PList {
         requires node_in { node < length table.old.keys }
         requires free { holder table.old node ≡ None }
         requires sorted { IsSorted table.old self.now }
-        ensures put { table.new ≡ inserted table.old self.now node (record { prio = prio; ticket = ticket }) }
+        ensures put { table.new ≡ table_after_insert table.old self.now node (record { prio = prio; ticket = ticket }) }
         ensures holders { (n : ℕ) → holder table.new n ≡ (if nat_eq n node then Some self.now else holder table.old n) }
         ensures sorted { IsSorted table.new self.now }
         ensures others { OthersStaySorted table.old table.new self.now }
@@ -53,7 +53,7 @@ impl PList {
         requires held { holder table.old node ≡ Some self.now }
         requires sorted { IsSorted table.old self.now }
         ensures before { IsApart table.old }
-        ensures taken { table.new ≡ removed table.old self.now node }
+        ensures taken { table.new ≡ table_after_remove table.old self.now node }
         ensures holders { (n : ℕ) → holder table.new n ≡ (if nat_eq n node then None else holder table.old n) }
         ensures sorted { IsSorted table.new self.now }
         ensures others { OthersStaySorted table.old table.new self.now }
@@ -67,7 +67,7 @@ impl PList {
     pub fn rekey(&self, table: &mut NodeTable, node: Node, prio: u32)
         requires held { holder table.old node ≡ Some self.now }
         requires sorted { IsSorted table.old self.now }
-        ensures moved { table.new ≡ inserted (removed table.old self.now node) self.now node (with_prio table.old node prio) }
+        ensures moved { table.new ≡ table_after_insert (table_after_remove table.old self.now node) self.now node (with_prio table.old node prio) }
         ensures holders { (n : ℕ) → holder table.new n ≡ holder table.old n }
         ensures sorted { IsSorted table.new self.now }
         ensures others { OthersStaySorted table.old table.new self.now }

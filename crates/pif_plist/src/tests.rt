@@ -1,40 +1,60 @@
+ghost use Rattle.std.specs.Prelude.{◌≡◌, ◌<◌, length, replicate, []};
+ghost use Rattle.pif_nodes.specs.Table.{no_key};
+
 use crate::PList;
 use pif_nodes::{List, Node, NodeTable};
+use std::process::Abort;
 use std::test::Fail;
 
 #[test]
 fn rekey_keeps_place_among_equals(rt: HostRuntime) -> Result<(), Fail> {
-    let list = List::new(0);
-    let waiters = PList::new(list);
-    let (a, b, c) = (Node::new(0), Node::new(1), Node::new(2));
     let mut table = NodeTable::new(rt.alloc(), 3, 1)?;
-    waiters.insert(&mut table, a, 10, 1);
-    waiters.insert(&mut table, b, 20, 2);
-    waiters.insert(&mut table, c, 20, 3);
-    assert_eq!(rt;
-        (table.first(list), table.next(b), table.next(c)),
-        (Some(b), Some(c), Some(a))
-    );
-    waiters.rekey(&mut table, b, 30);
-    waiters.rekey(&mut table, b, 20);
-    assert_eq!(rt;
-        (table.first(list), table.next(b), table.next(c)),
-        (Some(b), Some(c), Some(a))
-    );
-    waiters.remove(&mut table, b);
-    assert_eq!(rt; waiters.top(&table), Some(c));
+    keep_place_among_equals(&rt, &mut table);
     Ok(())
+}
+
+fn keep_place_among_equals(rt: &impl Abort, table: &mut NodeTable)
+    requires { table.old ≡ record { lists = replicate 1 []; keys = replicate 3 no_key } }
+{
+    let waiters = PList::new(List::new(0));
+    let (a, b, c) = (Node::new(0), Node::new(1), Node::new(2));
+    waiters.insert(table, a, 10, 1);
+    waiters.insert(table, b, 20, 2);
+    waiters.insert(table, c, 20, 3);
+    expect_order(rt, table, b, c, a);
+    waiters.rekey(table, b, 30);
+    waiters.rekey(table, b, 20);
+    expect_order(rt, table, b, c, a);
+    waiters.remove(table, b);
+    assert_eq!(rt; waiters.top(table), Some(c));
+}
+
+// Asserts that list 0 has these three nodes first.
+fn expect_order(rt: &impl Abort, table: &NodeTable, first: Node, second: Node, third: Node)
+    requires list { 0 < length table.now.lists }
+    requires one { first < length table.now.keys }
+    requires two { second < length table.now.keys }
+{
+    assert_eq!(rt; table.first(List::new(0)), Some(first));
+    assert_eq!(rt; table.next(first), Some(second));
+    assert_eq!(rt; table.next(second), Some(third));
 }
 
 #[test]
 fn set_ticket_changes_the_ticket_alone(rt: HostRuntime) -> Result<(), Fail> {
+    let mut table = NodeTable::new(rt.alloc(), 1, 1)?;
+    change_the_ticket_alone(&rt, &mut table);
+    Ok(())
+}
+
+fn change_the_ticket_alone(rt: &impl Abort, table: &mut NodeTable)
+    requires { table.old ≡ record { lists = replicate 1 []; keys = replicate 1 no_key } }
+{
     let waiters = PList::new(List::new(0));
     let node = Node::new(0);
-    let mut table = NodeTable::new(rt.alloc(), 1, 1)?;
-    waiters.insert(&mut table, node, 10, 1);
-    waiters.set_ticket(&mut table, node, 7);
+    waiters.insert(table, node, 10, 1);
+    waiters.set_ticket(table, node, 7);
     let key = table.key(node);
     assert_eq!(rt; (key.prio, key.ticket), (10, 7));
-    assert_eq!(rt; waiters.top(&table), Some(node));
-    Ok(())
+    assert_eq!(rt; waiters.top(table), Some(node));
 }

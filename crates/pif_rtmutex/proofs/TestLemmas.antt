@@ -1,13 +1,9 @@
 -- Three threads of which the first owns a state, and the others are queued on it.
-use Rattle.std.proofs.Common.{◌≡◌, ◌≢◌, ℕ, ◌+◌, ◌<◌, length, Option, Some, None, IsSome, IfSome, refl, sym, ◌∙◌, ap, subst, arith}
+use Rattle.std.proofs.Common.{◌≡◌, ◌≢◌, ℕ, ◌+◌, ◌<◌, length, Option, Some, None, IsSome, refl, sym, ◌∙◌, ap, subst, arith}
 use Rattle.std.proofs.lemmas.List.{length-replicate}
 use Rattle.pif_model.specs.Graph.{Reaches}
 use Rattle.pif_rtmutex.specs.Owners.{Wait, Owners, no_seat, no_owners, seat_at, owner_at, count, state_of, waits_on, WaitsFor, with_wait, with_owner}
 use Rattle.pif_rtmutex.proofs.OwnersLemmas.{seat_at-with_seat_other, owner_at-with_owner_same, no_cycle-idle_owner, count-no_owners, seat_at-no_owners}
-
--- the number of what was made of one
-pub numbered : (made : Option ℕ) (x n : ℕ) → made ≡ Some x → IfSome made (λ y. y ≡ n) → x ≡ n
-numbered made x n e value = rw e at value
 
 -- there is room for a state
 pub room : (v : Owners) → v ≡ no_owners 3 → count v + 1 < length v.seats

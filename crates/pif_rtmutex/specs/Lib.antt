@@ -1,3 +1,4 @@
 pub mod Owners
 pub mod Standing
 pub mod Fields
+pub mod Examples

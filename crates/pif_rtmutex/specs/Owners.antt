@@ -1,6 +1,7 @@
 -- The kernel's owner states, each with its owner, and for each thread its priorities and what it waits for. (RT-mutex
 -- design: rt_mutex, its owner and its waiters.) Threads are numbered from 1; place 0 of the seats stands for nobody.
-use Rattle.std.specs.Prelude.{◌≡◌, ◌≢◌, ℕ, ◌+◌, ◌≤◌, false, List, length, replicate, get_or, set, Option, Some, None, IsSome, option_map, option_and_then, unwrap_or, refl}
+use Rattle.std.specs.Prelude.{◌≡◌, ◌≢◌, ℕ, zero, suc, ◌+◌, ◌≤◌, false, List, length, replicate, get_or, set, Option, Some, None, IsSome, option_map, option_and_then, unwrap_or, refl}
+use Rattle.std.proofs.Math.Nat.{not-suc-le-zero}
 use Rattle.std.specs.Ordering.{nat_cmp}
 use Rattle.std.specs.FinMap.{FinMap, empty, get, insert, remove, len}
 use Rattle.std.specs.FinMap as map
@@ -23,6 +24,22 @@ pub record Seat : Type 0 where
   -- its effective priority, as last handed in
   pub local : ℕ
   pub wait : Option Wait
+
+-- the priority of this number; None for 0
+abbrev pub prio_of : ℕ → Option ℕ
+prio_of zero = None
+prio_of (suc n) = Some (suc n)
+
+-- a priority, or none, has 1 to 99 for its number
+abbrev pub IsPrio : Option ℕ → Type 0
+IsPrio None = Unit {0}
+IsPrio (Some p) = (1 ≤ p) × (p ≤ 99)
+
+-- so its number gives it back
+pub prio_of-unwrap_or : (o : Option ℕ) → IsPrio o → prio_of (unwrap_or o 0) ≡ o
+prio_of-unwrap_or None h = refl
+prio_of-unwrap_or (Some zero) h = absurd (not-suc-le-zero h.0)
+prio_of-unwrap_or (Some (suc n)) h = refl
 
 -- the owner states
 pub record Owners : Type 0 where

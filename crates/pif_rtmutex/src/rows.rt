@@ -54,30 +54,36 @@ impl Model for Wait {
     ghost inverse = { λ w. record { state = w.state; rank = w.rank } };
 }
 
-/// What is known of a thread: its base and its effective priority, and what it waits for.
+/// What is known of a thread: its base and its effective priority, `None` where it was not admitted, and what it waits
+/// for.
 #[derive(Clone, Copy)]
 pub struct Row {
-    pub base: u32,
-    pub local: u32,
+    pub base: Option<Prio>,
+    pub local: Option<Prio>,
     pub wait: Option<Wait>,
 }
 
 impl Model for Row {
-    ghost use Rattle.pif_rtmutex.specs.Owners.{Seat, seat_code};
+    ghost use Rattle.std.specs.Prelude.{unwrap_or};
+    ghost use Rattle.pif_rtmutex.specs.Owners.{Seat, seat_code, prio_of, IsPrio, prio_of-unwrap_or};
 
     ghost Value = { Seat };
 
     ghost coded = { seat_code };
 
-    ghost view = { λ r. record { base = r.base; local = r.local; wait = r.wait } };
+    ghost view = { λ r. record { base = unwrap_or r.base 0; local = unwrap_or r.local 0; wait = r.wait } };
 
-    ghost inverse = { λ s. record { base = s.base; local = s.local; wait = s.wait } };
+    ghost invariant = { λ r. IsPrio r.base × IsPrio r.local };
+
+    ghost inverse = { λ s. record { base = prio_of s.base; local = prio_of s.local; wait = s.wait } };
+
+    ghost inverse_ok = { λ a h. λ i. record { base = prio_of-unwrap_or a.base h.0 i; local = prio_of-unwrap_or a.local h.1 i; wait = a.wait } };
 }
 
 /// What stands at place 0, which is nobody's, and of a thread that was not admitted.
 pub const NOBODY: Row = Row {
-    base: 0,
-    local: 0,
+    base: None,
+    local: None,
     wait: None,
 };
 
@@ -88,7 +94,7 @@ impl Row {
         ensures most { result.base ≤ 99 }
     {
         Row {
-            base: prio.get(),
+            base: Some(prio),
             local: self.local,
             wait: self.wait,
         }
@@ -101,7 +107,7 @@ impl Row {
     {
         Row {
             base: self.base,
-            local: prio.get(),
+            local: Some(prio),
             wait: self.wait,
         }
     }

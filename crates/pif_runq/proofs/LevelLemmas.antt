@@ -9,7 +9,7 @@ use Rattle.std.specs.Option.{is_some}
 use Rattle.pif_nodes.specs.Lists.{has, first_of, last_or, last_of, put_after, insert_after, without, HasNoRepeats}
 use Rattle.pif_nodes.specs.Table.{Table, list_at, holder, with_list, IsApart}
 use Rattle.pif_nodes.proofs.ListLemmas.{has-head, has-append, last_some, last_split, first_of-has, put_after-split, HasNoRepeats-taken, without_absent}
-use Rattle.pif_runq.specs.Levels.{Queue, IsLevel, list_for, node_for, thread_for, IsThreadNode, level_of, Holds, IsQueued, StandsOn, IsFirstOfGreatest, joined, moved, SameOutside}
+use Rattle.pif_runq.specs.Levels.{Queue, IsLevel, list_for, node_for, thread_for, IsThreadNode, level_of, Holds, IsQueued, StandsOn, IsFirstOfGreatest, level_after_add, level_after_move, SameOutside}
 use Rattle.pif_runq.specs.Masks.{ChangesBit, IsGreatestBit}
 
 -- whether a node is that of u is whether its thread is u
@@ -132,7 +132,8 @@ appended q t now u r list node last holds at_list at_last at_node e =
 
 -- the levels once u joined the end of level r
 pub levels-joined : (q changed : Queue) (t now : Table) (u r : ℕ) → Holds q t → IsLevel r → 1 ≤ u → changed ≡ record q { mask = changed.mask } →
-    now ≡ with_list t (list_for q r) (list_at t (list_for q r) ++ node_for q u ∷ []) → (p : ℕ) → IsLevel p → level_of changed now p ≡ joined u r p (level_of q t p)
+    now ≡ with_list t (list_for q r) (list_at t (list_for q r) ++ node_for q u ∷ []) → (p : ℕ) → IsLevel p
+    → level_of changed now p ≡ level_after_add u r p (level_of q t p)
 levels-joined q changed t now u r holds lr some place e p lp =
     let xs : List ℕ = list_at t (list_for q r) ++ node_for q u ∷ [] in
     (λ i. level_of (place i) (e i) p)
@@ -282,7 +283,8 @@ IsFirstOfGreatest-found q t level n holds greatest first =
     }
 
 -- what a thread that left its level leaves of each, once it joined another one
-pub moved-away : (q : Queue) (t : Table) (u p to r : ℕ) → Holds q t → StandsOn q t u p → (p ≡ to → ⊥) → IsLevel to → joined u to r (without u (level_of q t r)) ≡ moved u to r (level_of q t r)
+pub moved-away : (q : Queue) (t : Table) (u p to r : ℕ) → Holds q t → StandsOn q t u p → (p ≡ to → ⊥) → IsLevel to
+    → level_after_add u to r (without u (level_of q t r)) ≡ level_after_move u to r (level_of q t r)
 moved-away q t u p to r holds stands ne lt =
     ⊎_elim
     (λ at. let here : eqb r to ≡ true = eq-eqb r to at in
@@ -292,7 +294,8 @@ moved-away q t u p to r holds stands ne lt =
     (cases_eq r to)
 
 -- a thread that is where it should be leaves all levels as they are
-pub moved-nowhere : (q : Queue) (t : Table) (u p to r : ℕ) → Holds q t → StandsOn q t u p → p ≡ to → IsLevel r → level_of q t r ≡ moved u to r (level_of q t r)
+pub moved-nowhere : (q : Queue) (t : Table) (u p to r : ℕ) → Holds q t → StandsOn q t u p → p ≡ to → IsLevel r
+    → level_of q t r ≡ level_after_move u to r (level_of q t r)
 moved-nowhere q t u p to r holds stands same lr =
     ⊎_elim
     (λ at. let here : eqb r to ≡ true = eq-eqb r to at in

@@ -1,11 +1,12 @@
 -- The level on which a thread is, by the list of its node, is the one that has it.
 use Rattle.std.proofs.Common.{◌≡◌, ℕ, ◌+◌, ◌-◌, ◌<◌, ◌≤◌, ◌↔◌, Bool, true, false, nat_le, nat_lt, ◌&&◌, Option, Some, None, if◌then◌else◌, refl, sym, ◌∙◌, ap, subst, arith}
 use Rattle.std.specs.Prelude.{option_and_then}
+use Rattle.std.specs.Option.{is_some}
 use Rattle.std.proofs.lemmas.Bool.{and_parts}
 use Rattle.std.proofs.lemmas.Bool.Decides.{nat_tests}
 use Rattle.pif_nodes.specs.Lists.{has}
 use Rattle.pif_nodes.specs.Table.{Table, list_at, holder}
-use Rattle.pif_runq.specs.Levels.{Queue, IsLevel, list_for, node_for, level_of, level_for, level_with, Holds}
+use Rattle.pif_runq.specs.Levels.{Queue, IsLevel, list_for, node_for, level_of, level_for, level_with, Holds, IsQueued}
 use Rattle.std.proofs.lemmas.Option.{same_Some}
 use Rattle.pif_runq.proofs.LevelLemmas.{has-threads, queued_on}
 
@@ -61,3 +62,11 @@ pub queued-by_level : (q : Queue) (t : Table) (u : ℕ) (level : Option ℕ) →
     → (p : ℕ) → IsLevel p → (level ≡ Some p) ↔ (has u (level_of q t p) ≡ true)
 queued-by_level q t u level holds is p lp =
     (λ e. (listed-from_level_with q t u p holds (sym is ∙ e)).1, λ h. is ∙ level_with-from_listed q t u p holds lp h)
+
+-- a thread whose level is found is queued
+pub queued_found : (q : Queue) (t : Table) (u : ℕ) → Holds q t → is_some (level_with q t u) ≡ true → IsQueued q t u
+queued_found q t u holds some = by_level (level_with q t u) refl some
+  where
+    by_level : (o : Option ℕ) → level_with q t u ≡ o → is_some o ≡ true → IsQueued q t u
+    by_level None is e = absurd cc
+    by_level (Some p) is e = let r = listed-from_level_with q t u p holds is in (p, r.0, r.1)

@@ -94,13 +94,13 @@ abbrev pub IsEmpty : Queue → Table → Type 0
 IsEmpty q t = (p : ℕ) → IsLevel p → level_of q t p ≡ []
 
 -- the threads of level p once u joined the end of level `to`
-abbrev pub joined : ℕ → ℕ → ℕ → List ℕ → List ℕ
-joined u to p ts = if nat_eq p to then ts ++ u ∷ [] else ts
+abbrev pub level_after_add : ℕ → ℕ → ℕ → List ℕ → List ℕ
+level_after_add u to p ts = if nat_eq p to then ts ++ u ∷ [] else ts
 
 -- the threads of level p once u, which was on some level, is at level `to`: where that is its level it keeps its
 -- place, and else it joins the end (sched(7))
-abbrev pub moved : ℕ → ℕ → ℕ → List ℕ → List ℕ
-moved u to p ts = if nat_eq p to then (if has u ts then ts else ts ++ u ∷ []) else without u ts
+abbrev pub level_after_move : ℕ → ℕ → ℕ → List ℕ → List ℕ
+level_after_move u to p ts = if nat_eq p to then (if has u ts then ts else ts ++ u ∷ []) else without u ts
 
 -- all that is no level of the queue is as it was: the other lists, and all keys
 pub record SameOutside (q : Queue) (was now : Table) : Type 0 where

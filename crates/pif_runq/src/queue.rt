@@ -2,7 +2,7 @@ ghost use Rattle.std.specs.Prelude.{◌≡◌, ℕ, ◌+◌, ◌-◌, ◌<◌, �
 ghost use Rattle.std.specs.Int.{bit_at};
 ghost use Rattle.pif_nodes.specs.Lists.{has, without};
 ghost use Rattle.pif_nodes.specs.Table.{Table, holder};
-ghost use Rattle.pif_runq.specs.Levels.{IsLevel, list_for, node_for, thread_for, IsThreadNode, level_of, level_with, HasRoom, Holds, IsQueued, StandsOn, IsFirstOfGreatest, IsEmpty, joined, moved, SameOutside};
+ghost use Rattle.pif_runq.specs.Levels.{IsLevel, list_for, node_for, thread_for, IsThreadNode, level_of, level_with, HasRoom, Holds, IsQueued, StandsOn, IsFirstOfGreatest, IsEmpty, level_after_add, level_after_move, SameOutside};
 ghost use Rattle.pif_runq.specs.Masks.{ChangesBit, IsGreatestBit};
 
 use crate::masks::{greatest_bit, with_bit, without_bit};
@@ -54,7 +54,7 @@ impl RunQueue {
         requires holds { Holds self.old table.old }
         requires thread { t ≤ self.old.threads }
         requires free { holder table.old (node_for self.old t) ≡ None }
-        ensures levels { (p : ℕ) → IsLevel p → level_of self.new table.new p ≡ joined t prio p (level_of self.old table.old p) }
+        ensures levels { (p : ℕ) → IsLevel p → level_of self.new table.new p ≡ level_after_add t prio p (level_of self.old table.old p) }
         ensures outside { SameOutside self.old table.old table.new }
         ensures holders { (n : ℕ) → holder table.new n ≡ (if nat_eq n (node_for self.old t) then Some (list_for self.old prio) else holder table.old n) }
         ensures place { self.new ≡ record self.old { mask = self.new.mask } }
@@ -93,7 +93,7 @@ impl RunQueue {
     pub fn move_to(&mut self, table: &mut NodeTable, t: Tid, prio: Prio)
         requires holds { Holds self.old table.old }
         requires queued { IsQueued self.old table.old t }
-        ensures levels { (p : ℕ) → IsLevel p → level_of self.new table.new p ≡ moved t prio p (level_of self.old table.old p) }
+        ensures levels { (p : ℕ) → IsLevel p → level_of self.new table.new p ≡ level_after_move t prio p (level_of self.old table.old p) }
         ensures outside { SameOutside self.old table.old table.new }
         ensures holders { (n : ℕ) → holder table.new n ≡ (if nat_eq n (node_for self.old t) then Some (list_for self.old prio) else holder table.old n) }
         ensures place { self.new ≡ record self.old { mask = self.new.mask } }

@@ -1,30 +1,96 @@
+ghost use Rattle.std.specs.Prelude.{◌≡◌, ◌≤◌, ℕ, None};
+ghost use Rattle.pif_nodes.specs.Table.{holder};
+ghost use Rattle.pif_runq.specs.Levels.{Holds};
+
 use crate::RunQueue;
 use pif_nodes::NodeTable;
 use pif_types::{Prio, Tid};
+use std::process::Abort;
 use std::test::Fail;
+
+fn thread(number: u32) -> Tid
+    requires { 1 ≤ number }
+    ensures { result ≡ number }
+{
+    Tid::new(number).unwrap()
+}
+
+fn priority(level: u32) -> Prio
+    requires least { 1 ≤ level }
+    requires most { level ≤ 99 }
+    ensures { result ≡ level }
+{
+    Prio::new(level).unwrap()
+}
+
+// Puts threads 1 and 2 on level 10 and thread 3 on level 99.
+fn add_three(queue: &mut RunQueue, table: &mut NodeTable)
+    requires holds { Holds queue.old table.old }
+    requires place { queue.old ≡ record { first_list = 0; first_node = 0; threads = 3; mask = queue.old.mask } }
+    requires free { (n : ℕ) → holder table.old n ≡ None }
+    ensures { Holds queue.new table.new }
+{
+    queue.add(table, thread(1), priority(10));
+    queue.add(table, thread(2), priority(10));
+    queue.add(table, thread(3), priority(99));
+}
+
+// Takes a thread out of its level, if it is on one. Answers whether it was.
+fn take_out(queue: &mut RunQueue, table: &mut NodeTable, t: Tid) -> bool
+    requires { Holds queue.old table.old }
+    ensures { Holds queue.new table.new }
+{
+    let queued = queue.level(table, t).is_some();
+    if queued {
+        queue.take_out(table, t);
+    }
+    queued
+}
+
+// Moves a thread to a level, if it is on one. Answers whether it was.
+fn move_to(queue: &mut RunQueue, table: &mut NodeTable, t: Tid, level: u32) -> bool
+    requires holds { Holds queue.old table.old }
+    requires least { 1 ≤ level }
+    requires most { level ≤ 99 }
+    ensures { Holds queue.new table.new }
+{
+    let queued = queue.level(table, t).is_some();
+    if queued {
+        queue.move_to(table, t, priority(level));
+    }
+    queued
+}
 
 #[test]
 fn run_queue_picks_first_of_greatest(rt: HostRuntime) -> Result<(), Fail> {
     let mut table = NodeTable::new(rt.alloc(), 3, 99)?;
     let mut queue = RunQueue::new(0, 0, 3);
-    let t1 = Tid::new(1).ok_or("thread 1")?;
-    let t2 = Tid::new(2).ok_or("thread 2")?;
-    let t3 = Tid::new(3).ok_or("thread 3")?;
-    let ten = Prio::new(10).ok_or("level 10")?;
-    queue.add(&mut table, t1, ten);
-    queue.add(&mut table, t2, ten);
-    queue.add(&mut table, t3, Prio::new(99).ok_or("level 99")?);
-    assert_eq!(rt; queue.pick(&table), Some(t3));
-    assert_eq!(rt; queue.level(&table, t2), Some(ten));
-    queue.take_out(&mut table, t3);
-    assert_eq!(rt; queue.level(&table, t3), None);
-    assert_eq!(rt; queue.pick(&table), Some(t1));
-    queue.move_to(&mut table, t1, Prio::new(20).ok_or("level 20")?);
-    assert_eq!(rt; queue.pick(&table), Some(t1));
-    queue.move_to(&mut table, t1, ten);
-    assert_eq!(rt; queue.pick(&table), Some(t2));
-    queue.take_out(&mut table, t2);
-    queue.take_out(&mut table, t1);
-    assert_eq!(rt; queue.pick(&table), None);
+    add_three(&mut queue, &mut table);
+    pick_greatest(&rt, &mut queue, &mut table);
+    pick_first(&rt, &mut queue, &mut table);
     Ok(())
+}
+
+fn pick_greatest(rt: &impl Abort, queue: &mut RunQueue, table: &mut NodeTable)
+    requires { Holds queue.old table.old }
+    ensures { Holds queue.new table.new }
+{
+    let (t1, t2, t3) = (thread(1), thread(2), thread(3));
+    assert_eq!(rt; queue.pick(table), Some(t3));
+    assert_eq!(rt; queue.level(table, t2), Some(priority(10)));
+    assert!(rt; take_out(queue, table, t3));
+    assert_eq!(rt; queue.level(table, t3), None);
+    assert_eq!(rt; queue.pick(table), Some(t1));
+}
+
+fn pick_first(rt: &impl Abort, queue: &mut RunQueue, table: &mut NodeTable)
+    requires { Holds queue.old table.old }
+{
+    let (t1, t2) = (thread(1), thread(2));
+    for (level, picked) in [(10, t1), (20, t1), (10, t2)] {
+        assert!(rt; move_to(queue, table, t1, level), "to {level}");
+        assert_eq!(rt; queue.pick(table), Some(picked), "at {level}");
+    }
+    assert!(rt; take_out(queue, table, t2) && take_out(queue, table, t1));
+    assert_eq!(rt; queue.pick(table), None);
 }

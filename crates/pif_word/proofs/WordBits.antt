@@ -136,7 +136,7 @@ word_of-hand u h =
     ap word_of (or_waiters u (omega arith))
     ∙ word_from (2147483648 + u % 2147483648) u 1 0 (omega arith) (omega arith) (omega arith)
 
--- `& OWNER_DIED | t` is the word of t with what there was of OWNER_DIED
+-- `& OWNER_DIED | t` is the word of t, with OWNER_DIED where it was set
 pub word_of-taken : (b t : ℕ) → t < 1073741824 → word_of (bit_or (bit_and b 1073741824) t) ≡ word t false (word_of b).died
 unfolding word_of
 word_of-taken b t h =

@@ -1,5 +1,20 @@
 //! Words of 32 bits, as futex(2) has them: one for each mutex, what their bits say, and the accesses of one word at a
 //! time.
+//!
+//! ```text
+//!       31         30       29                              0
+//!  ┌─────────┬────────────┬─────────────────────────────────┐
+//!  │ WAITERS │ OWNER_DIED │ number of the owner, 0 for none │
+//!  └─────────┴────────────┴─────────────────────────────────┘
+//! ```
+//!
+//! | Word | Mutex |
+//! |---|---|
+//! | `0x00000000` | free |
+//! | `0x00000003` | held by thread 3, which may release it with no kernel call |
+//! | `0x80000003` | held by thread 3, and threads wait for it, or did when it was handed over |
+//! | `0x40000000` | free, and its last owner ended |
+//! | `0xc0000003` | held by thread 3 with both flags |
 #![tactic(auto)]
 
 mod bits;
@@ -12,3 +27,6 @@ pub use bits::{
 };
 pub use cells::Cell;
 pub use words::Words;
+
+#[cfg(test)]
+mod tests;

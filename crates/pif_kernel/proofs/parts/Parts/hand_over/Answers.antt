@@ -1,4 +1,4 @@
-use Rattle.std.proofs.Common.{◌≡◌, ℕ, ◌==◌, true, false, if◌then◌else◌, None, List, set, subst, sym, ap, ◌∙◌, arith, rules, tests}
+use Rattle.std.proofs.Common.{◌≡◌, ℕ, ◌==◌, true, false, if◌then◌else◌, None, List, set, subst, sym, ap, ◌∙◌, rules, tests}
 use Rattle.std.proofs.lemmas.Fn.{filter_same}
 use Rattle.std.proofs.lemmas.Iterator.{YieldsList-from_slice}
 use Rattle.std.proofs.lemmas.Iterator.Search.{any_from_yields_List}
@@ -9,8 +9,8 @@ use Rattle.pif_model.specs.PiKernel.{kernel_after_hand_over, next_in}
 use Rattle.pif_kernel.specs.Plain.{Plain, kernel_of}
 use Rattle.pif_kernel.specs.Fields.{plain_of}
 use Rattle.pif_kernel.proofs.TopLaws.{top_is_next, some_waiter}
-use Rattle.pif_kernel.proofs.WalkSound.{IsWalkable, on_levels, ended}
-use Rattle.pif_kernel.proofs.HandOverSound.{IsGiven, IsHandable, IsHandedOn, given_state, given_idle, ended_given, still_given, handing, local_low, local_high, free, before_walk}
+use Rattle.pif_kernel.proofs.WalkSound.{IsWalkable, on_levels, on_running, on_local, ended}
+use Rattle.pif_kernel.proofs.HandOverSound.{IsGiven, IsHandable, IsHandedOn, given_state, given_idle, ended_given, still_given, handing, local_low, free, before_walk}
 use Rattle.pif_kernel.proofs.parts.Parts.hand_over.Goals.{Start, After-any, Joined-not-any, After-add, then-not-any, else-not-any}
 use Rattle.pif_kernel.proofs.parts.Parts.hand_over.Goals as goal
 
@@ -66,7 +66,7 @@ pub unwrap-level-requires : goal.unwrap-level-requires
 unwrap-level-requires c =
     let a = goal.at.unwrap-level-requires c in
     let i = handed a.Joined-not-any (hands a.Start _ c.self.view_is) (others a.After-any) in
-    c.new.ensures.valid.1 (omega (arith, c.local.ensures.value, local_low _ _ _ _ _ _ _ i), omega (arith, c.local.ensures.value, local_high _ _ _ _ _ _ _ i))
+    c.local.ensures.given.1 (local_low _ _ _ _ _ _ _ i)
 
 pub add-requires-clause-free : goal.add-requires-clause-free
 add-requires-clause-free c =
@@ -78,14 +78,14 @@ added : (c : After-add) → IsHandedOn c.args.self.now (plain_of c.self.inside) 
     → IsWalkable (record (plain_of c.if-not-any.self-inside) { statuses = set c.if-not-any.self-inside.statuses.items c.hand_over-next.result (Ready Owns); queue = c.add.new.self; table = c.add.new.table })
     c.args.holder (kernel_after_hand_over c.hand_over-next.result c.args.m (kernel_of c.args.self.now))
 added c i =
-    let value : c.unwrap-level.result ≡ c.local.result = rw c.unwrap-level.ensures at c.new.ensures.value in
-    before_walk _ _ _ _ _ _ _ i c.unwrap-level.result c.add.new.self c.add.new.table (value ∙ c.local.ensures.value) c.add.ensures.place c.add.ensures.levels c.add.ensures.holds c.add.ensures.outside.count
+    let value = rw c.unwrap-level.ensures at c.local.ensures.value in
+    before_walk _ _ _ _ _ _ _ i c.unwrap-level.result c.add.new.self c.add.new.table value c.add.ensures.place c.add.ensures.levels c.add.ensures.holds c.add.ensures.outside.count
 
 pub walk-requires : goal.walk-requires
 walk-requires c =
     let a = goal.at.walk-requires c in
     let w = added a.After-add (handed a.Joined-not-any (hands a.Start _ c.self.view_is) (others a.After-any)) in
-    record { admitted = w.admitted; repaired = w.repaired; holds = w.placed.holds; ready = on_levels _ _ _ w }
+    record { admitted = w.admitted; repaired = w.repaired; holds = w.placed.holds; ready = on_levels _ _ _ w; running = on_running _ _ _ w; level = on_local _ _ _ w }
 
 pub returns : goal.returns
 returns c =

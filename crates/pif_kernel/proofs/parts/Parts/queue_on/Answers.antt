@@ -1,11 +1,11 @@
-use Rattle.std.proofs.Common.{◌≡◌, [], ◌∷◌, ◌++◌, set, is_some, subst, sym, ap, ◌∙◌, arith}
+use Rattle.std.proofs.Common.{[], ◌∷◌, ◌++◌, set, is_some, subst, sym, ap, ◌∙◌, arith}
 use Rattle.pif_model.specs.declared.lines.Status.TheVariants.{Queued}
 use Rattle.pif_model.specs.PiKernel.{Kernel, has_seat, is_ready, kernel_after_queueing}
 use Rattle.pif_model.specs.PiKernel.{seat_at as kernel_seat_at}
 use Rattle.pif_kernel.specs.Plain.{Plain, IsOpened, kernel_of, key_at}
 use Rattle.pif_kernel.specs.Fields.{plain_of}
-use Rattle.pif_kernel.proofs.WalkSound.{IsWalkable, on_levels, ended}
-use Rattle.pif_kernel.proofs.QueueingFacts.{IsEntered, entry, folded, no_cycle, local_low, local_high, place, free, room, on_level, before_walk}
+use Rattle.pif_kernel.proofs.WalkSound.{IsWalkable, on_levels, on_running, on_local, ended}
+use Rattle.pif_kernel.proofs.QueueingFacts.{IsEntered, entry, folded, no_cycle, local_low, place, free, room, on_level, before_walk}
 use Rattle.pif_kernel.proofs.Waiters.{room_for}
 use Rattle.pif_kernel.proofs.parts.Parts.queue_on.Goals.{After-local, After-take_out}
 use Rattle.pif_kernel.proofs.parts.Parts.queue_on.Goals as goal
@@ -34,7 +34,7 @@ entered c =
 pub unwrap-prio-requires : goal.unwrap-prio-requires
 unwrap-prio-requires c =
     let i = entered (goal.at.unwrap-prio-requires c).After-local in
-    c.new.ensures.valid.1 (omega (arith, c.local.ensures.value, local_low _ _ _ _ _ _ _ _ i), omega (arith, c.local.ensures.value, local_high _ _ _ _ _ _ _ _ i))
+    c.local.ensures.given.1 (local_low _ _ _ _ _ _ _ _ i)
 
 pub enqueue-requires-clause-state : goal.enqueue-requires-clause-state
 enqueue-requires-clause-state c = ap is_some (entered (goal.at.enqueue-requires-clause-state c).After-local).opens.owned
@@ -59,15 +59,15 @@ queued : (c : After-take_out) → IsEntered c.args.self.now c.take_ticket-ticket
     → IsWalkable (record (plain_of c.self.inside) { statuses = set c.self.inside.statuses.items c.args.t (Queued c.args.m); owners = c.enqueue.new.self; queue = c.take_out.new.self; table = c.take_out.new.table; arrivals = c.self.inside.arrivals.items ++ (c.args.t, c.args.m) ∷ [] })
     c.args.owner (kernel_after_queueing c.args.t c.args.m c.args.owner (kernel_of c.args.self.now))
 queued c i =
-    let value : c.unwrap-prio.result ≡ c.local.result = rw c.unwrap-prio.ensures at c.new.ensures.value in
-    before_walk _ _ _ _ _ _ _ _ i c.unwrap-prio.result c.enqueue.new.self c.take_out.new.self c.take_out.new.table (value ∙ c.local.ensures.value) c.enqueue.ensures.queued
+    let value = rw c.unwrap-prio.ensures at c.local.ensures.value in
+    before_walk _ _ _ _ _ _ _ _ i c.unwrap-prio.result c.enqueue.new.self c.take_out.new.self c.take_out.new.table value c.enqueue.ensures.queued
     c.take_out.ensures.place c.take_out.ensures.levels c.take_out.ensures.holds c.take_out.ensures.outside.count
 
 pub walk-requires : goal.walk-requires
 walk-requires c =
     let a = goal.at.walk-requires c in
     let w = queued a.After-take_out (entered a.After-local) in
-    record { admitted = w.admitted; repaired = w.repaired; holds = w.placed.holds; ready = on_levels _ _ _ w }
+    record { admitted = w.admitted; repaired = w.repaired; holds = w.placed.holds; ready = on_levels _ _ _ w; running = on_running _ _ _ w; level = on_local _ _ _ w }
 
 pub returns : goal.returns
 returns c =

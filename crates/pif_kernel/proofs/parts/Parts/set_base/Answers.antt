@@ -2,7 +2,7 @@ use Rattle.std.proofs.Common.{◌≡◌, ◌≤◌, true, Ok, subst, sym, arith}
 use Rattle.pif_model.specs.PiKernel.{is_living, kernel_after_set_prio}
 use Rattle.pif_kernel.specs.Plain.{Plain, IsSound, kernel_of}
 use Rattle.pif_kernel.specs.Fields.{plain_of}
-use Rattle.pif_kernel.proofs.WalkSound.{IsWalkable, on_levels, ended}
+use Rattle.pif_kernel.proofs.WalkSound.{IsWalkable, on_levels, on_running, on_local, ended}
 use Rattle.pif_kernel.proofs.BaseSound.{walkable}
 use Rattle.pif_kernel.proofs.parts.Parts.set_base.Goals.{After-set_base}
 use Rattle.pif_kernel.proofs.parts.Parts.set_base.Goals as goal
@@ -21,7 +21,7 @@ before_walk c =
 pub walk-requires : goal.walk-requires
 walk-requires c =
     let w = before_walk (goal.at.walk-requires c).After-set_base in
-    record { admitted = w.admitted; repaired = w.repaired; holds = w.placed.holds; ready = on_levels _ _ _ w }
+    record { admitted = w.admitted; repaired = w.repaired; holds = w.placed.holds; ready = on_levels _ _ _ w; running = on_running _ _ _ w; level = on_local _ _ _ w }
 
 pub returns : goal.returns
 returns c =

@@ -5,21 +5,33 @@ use Rattle.pif_nodes.proofs.ReadLemmas.{nodes_seen}
 use Rattle.pif_nodes.proofs.WriteLemmas.{Shows-rekeyed}
 use Rattle.pif_nodes.proofs.table.NodeTable.set_key.Goals as goal
 
-pub rename-requires : goal.rename-requires
-rename-requires c = omega (arith, nodes_seen _ _ _ c.self.view_is c.self.invariant, c.get.ensures, c.deref_mut.ensures.len, c.self.inside.nodes.ok.0)
+pub write_key-requires : goal.write_key-requires
+write_key-requires c = omega (
+  arith,
+  nodes_seen _ _ _ c.self.view_is c.self.invariant,
+  c.get.ensures,
+  c.deref_mut.ensures.len,
+  c.self.inside.nodes.ok.0,
+)
 
 pub invariant_of-self : goal.invariant_of-self
 invariant_of-self c =
-    let size : length c.rename.new.nodes ≡ c.self.inside.nodes.len = omega (arith, c.rename.auto.nodes, c.deref_mut.ensures.len) in
-    Ties-shown _ _ _ (Shows-rekeyed c.self.view_is c.self.invariant c.args.prio c.args.ticket c.deref_mut.ensures.value c.get.ensures c.rename.ensures size)
+    let size : length c.write_key.new.nodes ≡ c.self.inside.nodes.len =
+    omega (arith, c.write_key.auto.nodes, c.deref_mut.ensures.len) in
+    Ties-shown _ _ _ (Shows-rekeyed c.self.view_is c.self.invariant c.args.prio c.args.ticket
+    c.deref_mut.ensures.value c.get.ensures c.write_key.ensures size)
 
 pub returns-clause-renamed : goal.returns-clause-renamed
 returns-clause-renamed c =
-    let size : length c.rename.new.nodes ≡ c.self.inside.nodes.len = omega (arith, c.rename.auto.nodes, c.deref_mut.ensures.len) in
-    (Shows-rekeyed c.self.view_is c.self.invariant c.args.prio c.args.ticket c.deref_mut.ensures.value c.get.ensures c.rename.ensures size).view
+    let size : length c.write_key.new.nodes ≡ c.self.inside.nodes.len =
+    omega (arith, c.write_key.auto.nodes, c.deref_mut.ensures.len) in
+    (Shows-rekeyed c.self.view_is c.self.invariant c.args.prio c.args.ticket c.deref_mut.ensures.value c.get.ensures
+    c.write_key.ensures size).view
 
 pub returns-clause-apart : goal.returns-clause-apart
 returns-clause-apart c =
-    let size : length c.rename.new.nodes ≡ c.self.inside.nodes.len = omega (arith, c.rename.auto.nodes, c.deref_mut.ensures.len) in
-    let shows = Shows-rekeyed c.self.view_is c.self.invariant c.args.prio c.args.ticket c.deref_mut.ensures.value c.get.ensures c.rename.ensures size in
+    let size : length c.write_key.new.nodes ≡ c.self.inside.nodes.len =
+    omega (arith, c.write_key.auto.nodes, c.deref_mut.ensures.len) in
+    let shows = Shows-rekeyed c.self.view_is c.self.invariant c.args.prio c.args.ticket c.deref_mut.ensures.value
+    c.get.ensures c.write_key.ensures size in
     subst IsApart (sym shows.view) (apart_shown _ _ _ shows)

@@ -1,7 +1,7 @@
 use Rattle.std.proofs.Common.{◌≡◌, ◌∙◌, ap, sym, subst, Some}
 use Rattle.pif_nodes.specs.Lists.{insert_after}
 use Rattle.pif_nodes.specs.Table.{Table, list_at, holder, with_list, with_key}
-use Rattle.pif_plist.specs.Order.{IsSorted, inserted, OthersStaySorted}
+use Rattle.pif_plist.specs.Order.{IsSorted, table_after_insert, OthersStaySorted}
 use Rattle.pif_plist.proofs.InsertLemmas.{put_is, inserted_sorted, inserted_others, place_held}
 use Rattle.pif_plist.proofs.plist.PList.insert.Goals as goal
 
@@ -12,7 +12,8 @@ attach_after-requires-clause-place c = λ x h.
 pub returns-clause-put : goal.returns-clause-put
 returns-clause-put c =
     let named : c.set_key.new.self ≡ with_key c.args.table.now c.args.node (record { prio = c.args.prio; ticket = c.args.ticket }) = c.set_key.ensures.renamed in
-    let put : c.attach_after.new.self ≡ inserted c.args.table.now c.args.self.now c.args.node (record { prio = c.args.prio; ticket = c.args.ticket }) =
+    let put : c.attach_after.new.self ≡ table_after_insert c.args.table.now c.args.self.now c.args.node
+    (record { prio = c.args.prio; ticket = c.args.ticket }) =
     c.attach_after.ensures.put
     ∙ (λ i. with_list (named i) (c.self.view_is i) (insert_after c.place-place.result c.args.node (list_at (named i) (c.self.view_is i))))
     ∙ ap (λ xs. with_list (with_key c.args.table.now c.args.node (record { prio = c.args.prio; ticket = c.args.ticket })) c.args.self.now xs) (put_is c.args.table.now c.args.self.now c.args.node (record { prio = c.args.prio; ticket = c.args.ticket }) c.place-place.result c.place-place.ensures.apart c.requires.node_in c.requires.list_in c.requires.free c.requires.sorted c.place-place.ensures.place) in
@@ -21,7 +22,8 @@ returns-clause-put c =
 pub returns-clause-sorted : goal.returns-clause-sorted
 returns-clause-sorted c =
     let named : c.set_key.new.self ≡ with_key c.args.table.now c.args.node (record { prio = c.args.prio; ticket = c.args.ticket }) = c.set_key.ensures.renamed in
-    let put : c.attach_after.new.self ≡ inserted c.args.table.now c.args.self.now c.args.node (record { prio = c.args.prio; ticket = c.args.ticket }) =
+    let put : c.attach_after.new.self ≡ table_after_insert c.args.table.now c.args.self.now c.args.node
+    (record { prio = c.args.prio; ticket = c.args.ticket }) =
     c.attach_after.ensures.put
     ∙ (λ i. with_list (named i) (c.self.view_is i) (insert_after c.place-place.result c.args.node (list_at (named i) (c.self.view_is i))))
     ∙ ap (λ xs. with_list (with_key c.args.table.now c.args.node (record { prio = c.args.prio; ticket = c.args.ticket })) c.args.self.now xs) (put_is c.args.table.now c.args.self.now c.args.node (record { prio = c.args.prio; ticket = c.args.ticket }) c.place-place.result c.place-place.ensures.apart c.requires.node_in c.requires.list_in c.requires.free c.requires.sorted c.place-place.ensures.place) in
@@ -30,7 +32,8 @@ returns-clause-sorted c =
 pub returns-clause-others : goal.returns-clause-others
 returns-clause-others c =
     let named : c.set_key.new.self ≡ with_key c.args.table.now c.args.node (record { prio = c.args.prio; ticket = c.args.ticket }) = c.set_key.ensures.renamed in
-    let put : c.attach_after.new.self ≡ inserted c.args.table.now c.args.self.now c.args.node (record { prio = c.args.prio; ticket = c.args.ticket }) =
+    let put : c.attach_after.new.self ≡ table_after_insert c.args.table.now c.args.self.now c.args.node
+    (record { prio = c.args.prio; ticket = c.args.ticket }) =
     c.attach_after.ensures.put
     ∙ (λ i. with_list (named i) (c.self.view_is i) (insert_after c.place-place.result c.args.node (list_at (named i) (c.self.view_is i))))
     ∙ ap (λ xs. with_list (with_key c.args.table.now c.args.node (record { prio = c.args.prio; ticket = c.args.ticket })) c.args.self.now xs) (put_is c.args.table.now c.args.self.now c.args.node (record { prio = c.args.prio; ticket = c.args.ticket }) c.place-place.result c.place-place.ensures.apart c.requires.node_in c.requires.list_in c.requires.free c.requires.sorted c.place-place.ensures.place) in

@@ -1,5 +1,5 @@
 use Rattle.std.proofs.Common.{◌≢◌, ◌∙◌, ap, arith}
-use Rattle.pif_runq.specs.Levels.{IsLevel, joined}
+use Rattle.pif_runq.specs.Levels.{IsLevel, level_after_add}
 use Rattle.pif_runq.proofs.LevelLemmas.{moved-away, moved-nowhere}
 use Rattle.pif_runq.proofs.queue.RunQueue.move_to.Goals as goal
 
@@ -7,7 +7,7 @@ pub returns-then-level_on-get-clause-levels : goal.returns-then-level_on-get-cla
 returns-then-level_on-get-clause-levels c = λ p lp.
     let to : IsLevel c.args.prio = (omega arith, omega arith) in
     let left : c.level_on.result ≢ c.args.prio = λ e. omega (arith, e) in
-    c.add.ensures.levels p lp ∙ ap (joined c.args.t c.args.prio p) (c.take_out.ensures.levels p lp)
+    c.add.ensures.levels p lp ∙ ap (level_after_add c.args.t c.args.prio p) (c.take_out.ensures.levels p lp)
     ∙ moved-away c.args.self.now c.args.table.now c.args.t c.level_on.result c.args.prio p
     c.requires.holds c.level_on.ensures left to
 

@@ -1,0 +1,49 @@
+ghost use Rattle.std.specs.Prelude.{◌≡◌, ◌≤◌, length};
+
+use crate::{
+    Cell, OWNER_DIED, Words, hand_word, has_waiters, mark_word, number, owner_died, taken_word,
+};
+use pif_types::{Limits, MutexId};
+use std::process::Abort;
+use std::test::Fail;
+
+#[test]
+fn words_say_number_and_flags(rt: HostRuntime) {
+    for (word, owner, waiters, died) in [
+        (0x8000_0001, 1, true, false),
+        (0x4000_0000, 0, false, true),
+        (0xc000_0002, 2, true, true),
+    ] {
+        assert_eq!(rt; number(word), owner, "at {word:x}");
+        assert_eq!(rt; has_waiters(word), waiters, "at {word:x}");
+        assert_eq!(rt; owner_died(word), died, "at {word:x}");
+    }
+    assert_eq!(rt; mark_word(0x4000_0001), 0xc000_0001);
+    assert_eq!(rt; hand_word(2), 0x8000_0002);
+    assert_eq!(rt; taken_word(0x4000_0000, 3), 0x4000_0003);
+}
+
+#[test]
+fn each_access_touches_one_word(rt: HostRuntime) -> Result<(), Fail> {
+    let limits = Limits::new(1, 2, 0, 1).ok_or("limits")?;
+    let mut words = Words::new(rt.alloc(), limits)?;
+    touch_one_word_each(&rt, &mut words);
+    Ok(())
+}
+
+fn cell(mutex: u32) -> Cell
+    requires { 1 ≤ mutex }
+{
+    Cell::Mutex(MutexId::new(mutex).unwrap())
+}
+
+fn touch_one_word_each(rt: &impl Abort, words: &mut Words) {
+    let (one, two) = (cell(1), cell(2));
+    assert!(rt; words.has(one) && words.has(two) && !words.has(cell(3)));
+    assert_eq!(rt; words.compare_exchange(one, 0, 1), Ok(0));
+    assert_eq!(rt; words.compare_exchange(one, 0, 2), Err(1));
+    words.store(two, 0xc000_0002);
+    assert_eq!(rt; words.fetch_and(two, !OWNER_DIED), 0xc000_0002);
+    assert_eq!(rt; words.load(one), 1);
+    assert_eq!(rt; words.load(two), 0x8000_0002);
+}
