@@ -10,13 +10,15 @@ use Rattle.pif_chains.proofs.Chains.{effective_with_more, effective_of_more}
 use Rattle.pif_chains.proofs.Greatest.{effective_same}
 
 -- what a further seat has in common with the seat of nobody, each place has as before
-pushed_same : {A : Type 0} (f : Seat → A) (xs : List Seat) (x : Seat) (u : ℕ) → f x ≡ f no_seat → f (get_or (xs ++ x ∷ []) u no_seat) ≡ f (get_or xs u no_seat)
+pushed_same : {A : Type 0} (f : Seat → A) (xs : List Seat) (x : Seat) (u : ℕ) → f x ≡ f no_seat
+    → f (get_or (xs ++ x ∷ []) u no_seat) ≡ f (get_or xs u no_seat)
 pushed_same f [] x zero h = h
 pushed_same f [] x (suc u) h = refl
 pushed_same f (y ∷ xs) x zero h = refl
 pushed_same f (y ∷ xs) x (suc u) h = pushed_same f xs x u h
 
-pushed_other : (xs : List Seat) (x : Seat) (u : ℕ) → u ≢ length xs → get_or (xs ++ x ∷ []) u no_seat ≡ get_or xs u no_seat
+pushed_other : (xs : List Seat) (x : Seat) (u : ℕ) → u ≢ length xs
+    → get_or (xs ++ x ∷ []) u no_seat ≡ get_or xs u no_seat
 pushed_other [] x zero n = absurd (n refl)
 pushed_other [] x (suc u) n = refl
 pushed_other (y ∷ xs) x zero n = refl
@@ -52,11 +54,14 @@ module _ (k : Kernel) (p : ℕ) (none : state_at k 0 ≡ 0) (below : (m : ℕ) �
 
   -- the new thread waits for nobody
   waits_new : waits_for k (length k.seats) ≡ 0
-  waits_new = sym (waits_seated (length k.seats)) ∙ ap (λ (x : Seat). state_at k (queued_on x.status)) (pushed_new k.seats new_seat (length k.seats) refl) ∙ none
+  waits_new =
+      sym (waits_seated (length k.seats))
+      ∙ ap (λ (x : Seat). state_at k (queued_on x.status)) (pushed_new k.seats new_seat (length k.seats) refl) ∙ none
 
   -- the effective priorities, by those among one thread more
   effective_seated : (u : ℕ)
-      → effective_in (kernel_after_add p k) u ≡ effective_among (suc (length k.seats)) (waits_for k) (λ (x : ℕ). (seat_at (kernel_after_add p k) x).base) u
+      → effective_in (kernel_after_add p k) u ≡ effective_among (suc (length k.seats)) (waits_for k)
+      (λ (x : ℕ). (seat_at (kernel_after_add p k) x).base) u
   effective_seated u = effective_same _ _ _ _ _ _ u count_seated waits_seated (λ x. refl)
 
   base_below : (u : ℕ) → u < length k.seats → (seat_at (kernel_after_add p k) u).base ≡ (seat_at k u).base
@@ -65,10 +70,12 @@ module _ (k : Kernel) (p : ℕ) (none : state_at k 0 ≡ 0) (below : (m : ℕ) �
   pub effective_other : (u : ℕ) → u ≢ length k.seats → effective_in (kernel_after_add p k) u ≡ effective_in k u
   effective_other u n =
       effective_seated u
-      ∙ effective_with_more (length k.seats) (waits_for k) waits_below (λ (x : ℕ). (seat_at k x).base) (λ (x : ℕ). (seat_at (kernel_after_add p k) x).base) base_below waits_new u n
+      ∙ effective_with_more (length k.seats) (waits_for k) waits_below (λ (x : ℕ). (seat_at k x).base)
+      (λ (x : ℕ). (seat_at (kernel_after_add p k) x).base) base_below waits_new u n
 
   pub effective_new : (u : ℕ) → u ≡ length k.seats → effective_in (kernel_after_add p k) u ≡ p
   effective_new u e =
       ap (effective_in (kernel_after_add p k)) e ∙ effective_seated (length k.seats)
-      ∙ effective_of_more (length k.seats) (waits_for k) waits_below (λ (x : ℕ). (seat_at k x).base) (λ (x : ℕ). (seat_at (kernel_after_add p k) x).base) base_below waits_new
+      ∙ effective_of_more (length k.seats) (waits_for k) waits_below (λ (x : ℕ). (seat_at k x).base)
+      (λ (x : ℕ). (seat_at (kernel_after_add p k) x).base) base_below waits_new
       ∙ base_new (length k.seats) refl

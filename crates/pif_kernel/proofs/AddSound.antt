@@ -27,14 +27,18 @@ pushed_status [] (suc u) = refl
 pushed_status (x ∷ xs) zero = refl
 pushed_status (x ∷ xs) (suc u) = pushed_status xs u
 
-module _ (p : Plain) (q : Queue) (tb : Table) (t prio : ℕ) (h : IsSound p) (is : t ≡ length p.statuses) (room : length p.statuses ≤ p.limits.threads) (some : 1 ≤ prio) (few : prio ≤ 99)
-    (place : q ≡ record p.queue { mask = q.mask }) (levels : (r : ℕ) → IsLevel r → level_of q tb r ≡ level_after_add t prio r (level_of p.queue p.table r)) (holds : Holds q tb) (count : length tb.lists ≡ length p.table.lists) where
+module _ (p : Plain) (q : Queue) (tb : Table) (t prio : ℕ) (h : IsSound p) (is : t ≡ length p.statuses)
+    (room : length p.statuses ≤ p.limits.threads) (some : 1 ≤ prio) (few : prio ≤ 99)
+    (place : q ≡ record p.queue { mask = q.mask })
+    (levels : (r : ℕ) → IsLevel r → level_of q tb r ≡ level_after_add t prio r (level_of p.queue p.table r))
+    (holds : Holds q tb) (count : length tb.lists ≡ length p.table.lists) where
   abbrev row : Seat
   row = record { base = prio; local = prio; wait = None }
 
   -- what is kept then
   abbrev pub after : Plain
-  after = record p { statuses = p.statuses ++ Ready Fresh ∷ []; owners = with_seat t row p.owners; queue = q; table = tb }
+  after =
+      record p { statuses = p.statuses ++ Ready Fresh ∷ []; owners = with_seat t row p.owners; queue = q; table = tb }
 
   long : length after.statuses ≡ length p.statuses + 1
   long = length_push p.statuses (Ready Fresh)
@@ -71,32 +75,39 @@ module _ (p : Plain) (q : Queue) (tb : Table) (t prio : ℕ) (h : IsSound p) (is
       (seats_of-push p.statuses p.owners.seats (Ready Fresh) row t is (omega (arith, within, is)))
       refl (λ m. refl) refl
       (length-joined p after (length (kernel_of p).seats) prio)
-      (λ r. levels_joined p after t prio (some, few) levels r ∙ ap (λ (n : ℕ). level_at (joined n prio (kernel_of p).levels) r) (sym many))
+      (λ r. levels_joined p after t prio (some, few) levels r
+      ∙ ap (λ (n : ℕ). level_at (joined n prio (kernel_of p).levels) r) (sym many))
 
   kept : IsKernel (kernel_of after)
   kept =
       subst IsKernel (sym kernel_after)
-      (add_kept prio (kernel_of p) h.kernel (level_is prio (some, few)) (omega (arith, seats_length p (fits p h), room, ap (λ (l : Bounds). l.threads) (limits_seen p))))
+      (add_kept prio (kernel_of p) h.kernel (level_is prio (some, few))
+      (omega (arith, seats_length p (fits p h), room, ap (λ (l : Bounds). l.threads) (limits_seen p))))
 
   effective_same : (u : ℕ) → u ≢ t → effective_in (kernel_of after) u ≡ effective_in (kernel_of p) u
   effective_same u n =
-      ap (λ (k : Kernel). effective_in k u) kernel_after ∙ effective_other (kernel_of p) prio (states_none p h) (states_below p h) u (λ e. n (e ∙ many))
+      ap (λ (k : Kernel). effective_in k u) kernel_after
+      ∙ effective_other (kernel_of p) prio (states_none p h) (states_below p h) u (λ e. n (e ∙ many))
 
   effective_here : (u : ℕ) → u ≡ t → effective_in (kernel_of after) u ≡ prio
   effective_here u e =
-      ap (λ (k : Kernel). effective_in k u) kernel_after ∙ effective_new (kernel_of p) prio (states_none p h) (states_below p h) u (e ∙ sym many)
+      ap (λ (k : Kernel). effective_in k u) kernel_after
+      ∙ effective_new (kernel_of p) prio (states_none p h) (states_below p h) u (e ∙ sym many)
 
   local_after : (u : ℕ) → ((u ≡ t) ⊎ (u ≡ t → ⊥)) → (seat_at after.owners u).local ≡ effective_in (kernel_of after) u
   local_after u (inl e) = ap (λ (x : Seat). x.local) (same u e) ∙ sym (effective_here u e)
   local_after u (inr n) = ap (λ (x : Seat). x.local) (other u n) ∙ h.local u ∙ sym (effective_same u n)
 
-  rank_after : (u : ℕ) (r : Key) → ((u ≡ t) ⊎ (u ≡ t → ⊥)) → rank_of after.owners u ≡ Some r → r.prio ≡ effective_in (kernel_of after) u
+  rank_after : (u : ℕ) (r : Key) → ((u ≡ t) ⊎ (u ≡ t → ⊥)) → rank_of after.owners u ≡ Some r
+      → r.prio ≡ effective_in (kernel_of after) u
   rank_after u r (inl e) x =
-      let none : rank_of after.owners u ≡ None = ap (λ (s : Seat). option_map (λ (w : Wait). w.rank) s.wait) (same u e) in
+      let none : rank_of after.owners u ≡ None
+      = ap (λ (s : Seat). option_map (λ (w : Wait). w.rank) s.wait) (same u e) in
       let both : None ≡ Some r = sym none ∙ x in cc
   rank_after u r (inr n) x = h.rank u r (sym (rank_same u) ∙ x) ∙ sym (effective_same u n)
 
-  admitted_after : (u : ℕ) → ((u ≡ t) ⊎ (u ≡ t → ⊥)) → u ≢ 0 → u < length after.statuses → 1 ≤ (seat_at after.owners u).base
+  admitted_after : (u : ℕ) → ((u ≡ t) ⊎ (u ≡ t → ⊥)) → u ≢ 0 → u < length after.statuses
+      → 1 ≤ (seat_at after.owners u).base
   admitted_after u (inl e) nz l = omega (arith, ap (λ (x : Seat). x.base) (same u e), some)
   admitted_after u (inr n) nz l =
       let before : u < length p.statuses = omega (arith, long, is) in
@@ -113,7 +124,9 @@ module _ (p : Plain) (q : Queue) (tb : Table) (t prio : ℕ) (h : IsSound p) (is
   fit_after = record {
     few = omega (arith, h.placed.rows, room, long, length-set p.owners.seats t row);
     free = λ u l. other u (λ e. absurd (omega (arith, is, long))) ∙ h.placed.free u (omega (arith, long));
-    waits = λ u. ap (option_map (λ (w : Wait). w.state)) (waits_same u) ∙ h.placed.waits u ∙ ap (λ (x : Status). key_at p (queued_on x)) (sym (status_same u));
+    waits =
+        λ u. ap (option_map (λ (w : Wait). w.state)) (waits_same u) ∙ h.placed.waits u
+        ∙ ap (λ (x : Status). key_at p (queued_on x)) (sym (status_same u));
     owners = λ m. omega (arith, h.placed.owners m, long);
   }
 

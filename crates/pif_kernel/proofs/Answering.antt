@@ -28,19 +28,25 @@ unfolding word_of
 word_seen s m bits e = mapped_at word_of s.mutexes m 0 ∙ ap word_of (sym e)
 
 pub some_word : (s : WordMap) (m : ℕ) → HasCell s (Mutex m) → has_word (words_of s) m ≡ true
-some_word s m l = from_within m (length (words_of s).mutexes) (λ z. absurd (omega (arith, l.0))) (omega (arith, l.1, length-map s.mutexes word_of))
+some_word s m l =
+    from_within m (length (words_of s).mutexes) (λ z. absurd (omega (arith, l.0)))
+    (omega (arith, l.1, length-map s.mutexes word_of))
 
 pub cell_of_word : (s : WordMap) (m : ℕ) → has_word (words_of s) m ≡ true → HasCell s (Mutex m)
-cell_of_word s m e = let w = within m (length (words_of s).mutexes) e in (omega (arith, w.0), omega (arith, w.1, length-map s.mutexes word_of))
+cell_of_word s m e =
+    let w = within m (length (words_of s).mutexes) e in
+    (omega (arith, w.0), omega (arith, w.1, length-map s.mutexes word_of))
 
-pub no_word : (s : WordMap) (m : ℕ) (r : Bool) → (IsTrue r ↔ HasCell s (Mutex m)) → r ≡ false → has_word (words_of s) m ≡ false
+pub no_word : (s : WordMap) (m : ℕ) (r : Bool) → (IsTrue r ↔ HasCell s (Mutex m)) → r ≡ false
+    → has_word (words_of s) m ≡ false
 no_word s m r h e = by_test (has_word (words_of s) m) refl
   where
     by_test : (b : Bool) → has_word (words_of s) m ≡ b → has_word (words_of s) m ≡ false
     by_test false x = x
     by_test true x = absurd (true≢false (sym (h.1 (cell_of_word s m x)) ∙ e))
 
-pub number_seen : (s : WordMap) (m bits n : ℕ) → bits ≡ bits_at s (Mutex m) → n ≡ (word_of bits).number → (word_at (words_of s) m).number ≡ n
+pub number_seen : (s : WordMap) (m bits n : ℕ) → bits ≡ bits_at s (Mutex m) → n ≡ (word_of bits).number
+    → (word_at (words_of s) m).number ≡ n
 number_seen s m bits n e is = ap (λ (w : Word). w.number) (word_seen s m bits e) ∙ sym is
 
 -- what `new` of a number from 1 answers
@@ -49,7 +55,8 @@ none_zero None zero e valid = refl
 none_zero None (suc n) e valid = absurd (false≢true (valid.1 (omega arith)))
 none_zero (Some x) n e valid = cc
 
-pub some_value : (r : Option ℕ) (n x : ℕ) → r ≡ Some x → (IsSome r ↔ (1 ≤ n)) → IfSome r (λ t. t ≡ n) → (x ≡ n) × (1 ≤ n)
+pub some_value : (r : Option ℕ) (n x : ℕ) → r ≡ Some x → (IsSome r ↔ (1 ≤ n)) → IfSome r (λ t. t ≡ n)
+    → (x ≡ n) × (1 ≤ n)
 some_value None n x e valid value = cc
 some_value (Some y) n x e valid value = let same : y ≡ x = cc in (sym same ∙ value, valid.0 refl)
 
@@ -67,18 +74,23 @@ map_set (w ∷ ws) zero bits = refl
 map_set (w ∷ ws) (suc m) bits = ap (λ (l : List Word). word_of w ∷ l) (map_set ws m bits)
 
 -- another word
-pub words_stored : (s s' : WordMap) (m bits : ℕ) → s' ≡ with_bits (Mutex m) bits s → words_of s' ≡ set_word (words_of s) m (word_of bits)
+pub words_stored : (s s' : WordMap) (m bits : ℕ) → s' ≡ with_bits (Mutex m) bits s
+    → words_of s' ≡ set_word (words_of s) m (word_of bits)
 words_stored s s' m bits e = ap words_of e ∙ ap (λ (l : List Word). record { mutexes = l }) (map_set s.mutexes m bits)
 
 -- CYCLES
 
 -- whether a wait would close a cycle, by the owner states
-pub closes_seen : (p : Plain) → IsSound p → (t owner : ℕ) (r : Bool) → is_living (kernel_of p) owner ≡ true → (IsTrue r ↔ Reaches (WaitsFor p.owners) owner t)
+pub closes_seen : (p : Plain) → IsSound p → (t owner : ℕ) (r : Bool) → is_living (kernel_of p) owner ≡ true
+    → (IsTrue r ↔ Reaches (WaitsFor p.owners) owner t)
     → reaches_within (length (kernel_of p).seats) (waits_for (kernel_of p)) owner t ≡ r
 closes_seen p h t owner r l closes =
-    same_from_decides {P = Reaches (Follows (waits_for (kernel_of p))) owner t} (reaches_within (length (kernel_of p).seats) (waits_for (kernel_of p)) owner t) r (
+    same_from_decides {P = Reaches (Follows (waits_for (kernel_of p))) owner t}
+    (reaches_within (length (kernel_of p).seats) (waits_for (kernel_of p)) owner t) r (
       (λ e. reaches-from_within (length (kernel_of p).seats) (waits_for (kernel_of p)) owner t e),
-      (λ c. within-from_reaches (length (kernel_of p).seats) (waits_for (kernel_of p)) owner t (omega (arith, (added_seen p (fits p h) owner l).1, seats_length p (fits p h))) (λ x some. waits_below p (fits p h) x) c),
+      (λ c. within-from_reaches (length (kernel_of p).seats) (waits_for (kernel_of p)) owner t
+          (omega (arith, (added_seen p (fits p h) owner l).1, seats_length p (fits p h)))
+          (λ x some. waits_below p (fits p h) x) c),
     )
     (subst (λ (w : ℕ → ℕ). IsTrue r ↔ Reaches (Follows w) owner t) (fun_ext (owners_waits p (fits p h))) closes)
 
@@ -93,21 +105,24 @@ module _ (t m : ℕ) (ws : Words) (k : Kernel) where
   unfolding lock_answer
   lock_own e own = let same : ((word_at ws m).number == t) ≡ true = grind (arith, nat_tests) in rw (e, same) refl
 
-  pub lock_free : has_word ws m ≡ true → (word_at ws m).number ≢ t → (word_at ws m).number ≡ 0 → state_at k m ≡ 0 → Ok TookOwns ≡ lock_answer t m ws k
+  pub lock_free : has_word ws m ≡ true → (word_at ws m).number ≢ t → (word_at ws m).number ≡ 0 → state_at k m ≡ 0
+      → Ok TookOwns ≡ lock_answer t m ws k
   unfolding lock_answer
   lock_free e other free none =
       let a : ((word_at ws m).number == t) ≡ false = grind (arith, nat_tests) in
       let b : ((word_at ws m).number == 0) ≡ true = grind (arith, nat_tests) in
       let d : (state_at k m == 0) ≡ true = grind (arith, nat_tests) in rw (e, a, b, d) refl
 
-  pub lock_disagrees : has_word ws m ≡ true → (word_at ws m).number ≢ t → (word_at ws m).number ≡ 0 → state_at k m ≢ 0 → Err Invalid ≡ lock_answer t m ws k
+  pub lock_disagrees : has_word ws m ≡ true → (word_at ws m).number ≢ t → (word_at ws m).number ≡ 0 → state_at k m ≢ 0
+      → Err Invalid ≡ lock_answer t m ws k
   unfolding lock_answer
   lock_disagrees e other free some =
       let a : ((word_at ws m).number == t) ≡ false = grind (arith, nat_tests) in
       let b : ((word_at ws m).number == 0) ≡ true = grind (arith, nat_tests) in
       let d : (state_at k m == 0) ≡ false = grind (arith, nat_tests) in rw (e, a, b, d) refl
 
-  pub lock_waits : has_word ws m ≡ true → (word_at ws m).number ≢ t → (word_at ws m).number ≢ 0 → wait_answer t (word_at ws m).number (state_at k m) k ≡ lock_answer t m ws k
+  pub lock_waits : has_word ws m ≡ true → (word_at ws m).number ≢ t → (word_at ws m).number ≢ 0
+      → wait_answer t (word_at ws m).number (state_at k m) k ≡ lock_answer t m ws k
   unfolding lock_answer
   lock_waits e other some =
       let a : ((word_at ws m).number == t) ≡ false = grind (arith, nat_tests) in
@@ -121,20 +136,23 @@ module _ (t m : ℕ) (ws : Words) (k : Kernel) where
   unfolding try_lock_answer
   try_own e own = let a : ((word_at ws m).number == t) ≡ true = grind (arith, nat_tests) in rw (e, a) refl
 
-  pub try_held : has_word ws m ≡ true → (word_at ws m).number ≢ t → (word_at ws m).number ≢ 0 → Err Again ≡ try_lock_answer t m ws k
+  pub try_held : has_word ws m ≡ true → (word_at ws m).number ≢ t → (word_at ws m).number ≢ 0
+      → Err Again ≡ try_lock_answer t m ws k
   unfolding try_lock_answer
   try_held e other some =
       let a : ((word_at ws m).number == t) ≡ false = grind (arith, nat_tests) in
       let b : ((word_at ws m).number == 0) ≡ false = grind (arith, nat_tests) in rw (e, a, b) refl
 
-  pub try_free : has_word ws m ≡ true → (word_at ws m).number ≢ t → (word_at ws m).number ≡ 0 → state_at k m ≡ 0 → Ok (record {}) ≡ try_lock_answer t m ws k
+  pub try_free : has_word ws m ≡ true → (word_at ws m).number ≢ t → (word_at ws m).number ≡ 0 → state_at k m ≡ 0
+      → Ok (record {}) ≡ try_lock_answer t m ws k
   unfolding try_lock_answer
   try_free e other free none =
       let a : ((word_at ws m).number == t) ≡ false = grind (arith, nat_tests) in
       let b : ((word_at ws m).number == 0) ≡ true = grind (arith, nat_tests) in
       let d : (state_at k m == 0) ≡ true = grind (arith, nat_tests) in rw (e, a, b, d) refl
 
-  pub try_disagrees : has_word ws m ≡ true → (word_at ws m).number ≢ t → (word_at ws m).number ≡ 0 → state_at k m ≢ 0 → Err Invalid ≡ try_lock_answer t m ws k
+  pub try_disagrees : has_word ws m ≡ true → (word_at ws m).number ≢ t → (word_at ws m).number ≡ 0 → state_at k m ≢ 0
+      → Err Invalid ≡ try_lock_answer t m ws k
   unfolding try_lock_answer
   try_disagrees e other free some =
       let a : ((word_at ws m).number == t) ≡ false = grind (arith, nat_tests) in
@@ -149,25 +167,32 @@ module _ (t m : ℕ) (ws : Words) (k : Kernel) where
   unfolding unlock_answer
   unlock_other e other = let a : ((word_at ws m).number == t) ≡ false = grind (arith, nat_tests) in rw (e, a) refl
 
-  pub unlock_done : has_word ws m ≡ true → (word_at ws m).number ≡ t → (if state_at k m == 0 then true else state_at k m == t) ≡ true → Ok (record {}) ≡ unlock_answer t m ws k
+  pub unlock_done : has_word ws m ≡ true → (word_at ws m).number ≡ t
+      → (if state_at k m == 0 then true else state_at k m == t) ≡ true → Ok (record {}) ≡ unlock_answer t m ws k
   unfolding unlock_answer
-  unlock_done e own fits = let a : ((word_at ws m).number == t) ≡ true = grind (arith, nat_tests) in rw (e, a, fits) refl
+  unlock_done e own fits =
+      let a : ((word_at ws m).number == t) ≡ true = grind (arith, nat_tests) in rw (e, a, fits) refl
 
-  pub unlock_disagrees : has_word ws m ≡ true → (word_at ws m).number ≡ t → (if state_at k m == 0 then true else state_at k m == t) ≡ false → Err Invalid ≡ unlock_answer t m ws k
+  pub unlock_disagrees : has_word ws m ≡ true → (word_at ws m).number ≡ t
+      → (if state_at k m == 0 then true else state_at k m == t) ≡ false → Err Invalid ≡ unlock_answer t m ws k
   unfolding unlock_answer
-  unlock_disagrees e own fits = let a : ((word_at ws m).number == t) ≡ true = grind (arith, nat_tests) in rw (e, a, fits) refl
+  unlock_disagrees e own fits =
+      let a : ((word_at ws m).number == t) ≡ true = grind (arith, nat_tests) in rw (e, a, fits) refl
 
 module _ (t n s : ℕ) (k : Kernel) where
   pub wait_dead : is_living k n ≡ false → Err NoSuchThread ≡ wait_answer t n s k
   wait_dead e = rw e refl
 
-  pub wait_disagrees : is_living k n ≡ true → (if s == 0 then true else s == n) ≡ false → Err Invalid ≡ wait_answer t n s k
+  pub wait_disagrees : is_living k n ≡ true → (if s == 0 then true else s == n) ≡ false
+      → Err Invalid ≡ wait_answer t n s k
   wait_disagrees e fits = rw (e, fits) refl
 
-  pub wait_closes : is_living k n ≡ true → (if s == 0 then true else s == n) ≡ true → reaches_within (length k.seats) (waits_for k) n t ≡ true → Err Deadlock ≡ wait_answer t n s k
+  pub wait_closes : is_living k n ≡ true → (if s == 0 then true else s == n) ≡ true
+      → reaches_within (length k.seats) (waits_for k) n t ≡ true → Err Deadlock ≡ wait_answer t n s k
   wait_closes e fits r = rw (e, fits, r) refl
 
-  pub wait_queues : is_living k n ≡ true → (if s == 0 then true else s == n) ≡ true → reaches_within (length k.seats) (waits_for k) n t ≡ false → Ok TookQueued ≡ wait_answer t n s k
+  pub wait_queues : is_living k n ≡ true → (if s == 0 then true else s == n) ≡ true
+      → reaches_within (length k.seats) (waits_for k) n t ≡ false → Ok TookQueued ≡ wait_answer t n s k
   wait_queues e fits r = rw (e, fits, r) refl
 
 -- what holds where t may wait for n
@@ -177,7 +202,8 @@ pub record IsWaiting (t n s : ℕ) (k : Kernel) : Type 0 where
   pub unreached : reaches_within (length k.seats) (waits_for k) n t ≡ false
 
 waiting : (living fits reach : Bool)
-    → Ok TookQueued ≡ (if living then (if fits then (if reach then Err Deadlock else Ok TookQueued) else Err Invalid) else Err NoSuchThread)
+    → Ok TookQueued ≡ (if living then
+    (if fits then (if reach then Err Deadlock else Ok TookQueued) else Err Invalid) else Err NoSuchThread)
     → (living ≡ true) × (fits ≡ true) × (reach ≡ false)
 waiting true true false e = (refl, refl, refl)
 waiting true true true e = cc
@@ -186,7 +212,8 @@ waiting false f r e = cc
 
 pub waiting_says : (t n s : ℕ) (k : Kernel) → Ok TookQueued ≡ wait_answer t n s k → IsWaiting t n s k
 waiting_says t n s k e =
-    let q = waiting (is_living k n) (if s == 0 then true else s == n) (reaches_within (length k.seats) (waits_for k) n t) e in
+    let q
+    = waiting (is_living k n) (if s == 0 then true else s == n) (reaches_within (length k.seats) (waits_for k) n t) e in
     record { living = q.0; state = same q.1; unreached = q.2 }
   where
     same : (if s == 0 then true else s == n) ≡ true → s ≢ 0 → s ≡ n
@@ -202,7 +229,8 @@ module _ (t p : ℕ) (k : Kernel) where
   unfolding set_prio_answer
   set_prio_invalid out = by_test (is_priority p) refl
     where
-      by_test : (b : Bool) → is_priority p ≡ b → Err Invalid ≡ (if is_priority p then (if is_living k t then Done else Err NoSuchThread) else Err Invalid)
+      by_test : (b : Bool) → is_priority p ≡ b
+          → Err Invalid ≡ (if is_priority p then (if is_living k t then Done else Err NoSuchThread) else Err Invalid)
       by_test false e = rw e refl
       by_test true e = let w = within p 100 e in absurd (out (omega (arith, w.0), omega (arith, w.1)))
 

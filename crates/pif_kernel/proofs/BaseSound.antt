@@ -18,7 +18,8 @@ use Rattle.pif_kernel.proofs.Standing.{fits}
 use Rattle.pif_kernel.proofs.ChainLaws.{repaired_but}
 use Rattle.pif_kernel.proofs.WalkSound.{IsWalkable, owners_effective}
 
-module _ (p : Plain) (t prio : ℕ) (h : IsSound p) (lives : is_living (kernel_of p) t ≡ true) (some : 1 ≤ prio) (few : prio ≤ 99) where
+module _ (p : Plain) (t prio : ℕ) (h : IsSound p) (lives : is_living (kernel_of p) t ≡ true) (some : 1 ≤ prio)
+    (few : prio ≤ 99) where
   abbrev row : Seat
   row = record (seat_at p.owners t) { base = prio }
 
@@ -45,7 +46,9 @@ module _ (p : Plain) (t prio : ℕ) (h : IsSound p) (lives : is_living (kernel_o
   other u n = get_or-set_other p.owners.seats t u row no_seat n
 
   same : (u : ℕ) → u ≡ t → (seat_at mid.owners u).base ≡ prio
-  same u e = ap (λ (v : ℕ). (seat_at mid.owners v).base) e ∙ ap (λ (x : Seat). x.base) (get_or-set_same p.owners.seats t row no_seat inside)
+  same u e =
+      ap (λ (v : ℕ). (seat_at mid.owners v).base) e
+      ∙ ap (λ (x : Seat). x.base) (get_or-set_same p.owners.seats t row no_seat inside)
 
   wait_same : (u : ℕ) → (seat_at mid.owners u).wait ≡ (seat_at p.owners u).wait
   wait_same u = kept_at (λ (x : Seat). x.wait) p.owners.seats t row no_seat refl u
@@ -81,9 +84,12 @@ module _ (p : Plain) (t prio : ℕ) (h : IsSound p) (lives : is_living (kernel_o
     owners = h.placed.owners;
   }
 
-  kernel_mid : kernel_of mid ≡ kernel_with_seat t (record (kernel_seat_at (kernel_of p) t) { base = prio }) (kernel_of p)
+  kernel_mid : kernel_of mid
+      ≡ kernel_with_seat t (record (kernel_seat_at (kernel_of p) t) { base = prio }) (kernel_of p)
   unfolding kernel_of
-  kernel_mid = kernel_by_parts (kernel_of mid) _ refl (seats_of-set_base p.statuses p.owners.seats t prio fit.few) refl (λ m. refl) refl refl (λ r. refl)
+  kernel_mid =
+      kernel_by_parts (kernel_of mid) _ refl (seats_of-set_base p.statuses p.owners.seats t prio fit.few) refl
+      (λ m. refl) refl refl (λ r. refl)
 
   has_mid : (u : ℕ) → has_seat (kernel_of mid) u ≡ has_seat (kernel_of p) u
   has_mid u = same_seats p mid fit fit_mid refl u
@@ -113,12 +119,15 @@ module _ (p : Plain) (t prio : ℕ) (h : IsSound p) (lives : is_living (kernel_o
     count = h.placed.count;
     owners = h.placed.owners;
     tickets = subst (λ (f : ℕ → ℕ). Rise f 1 p.arrivals p.next) (fun_ext ticket_same) h.placed.tickets;
-    listed = λ u r e. listed_mid u r (h.placed.listed u r (ap (λ (xs : List ℕ). is_among xs u) (levels_seen p r ∙ sym (levels_seen mid r)) ∙ e));
+    listed =
+        λ u r e. listed_mid u r (h.placed.listed u r
+        (ap (λ (xs : List ℕ). is_among xs u) (levels_seen p r ∙ sym (levels_seen mid r)) ∙ e));
   }
 
   repairs : IsRepairedBut t mid.owners
   repairs =
-      repaired_but p.owners mid.owners t long (λ x u ne nz. ap (λ (n : ℕ). n == u) (waiting_same x)) (λ u ne. sym (ap (λ (s : Seat). s.base) (other u ne)))
+      repaired_but p.owners mid.owners t long (λ x u ne nz. ap (λ (n : ℕ). n == u) (waiting_same x))
+      (λ u ne. sym (ap (λ (s : Seat). s.base) (other u ne)))
       (λ u. owners_effective p fit u ∙ sym (h.local u) ∙ sym (local_same u))
       (λ u r e. h.rank u r (sym (rank_same u) ∙ e) ∙ sym (h.local u) ∙ sym (local_same u))
 

@@ -89,19 +89,23 @@ module _ (l : Bounds) (first : ℕ) (within : IsWithin l) (some : 1 ≤ first) w
   new_seen =
       kernel_by_parts (kernel_of new) (new_kernel l) refl (seats_first l.threads)
       (states_length new ∙ keys ∙ sym length-no_states) (λ m. states_seen new m ∙ none_at m ∙ sym (no_state m)) refl
-      (levels_count new ∙ sym (length-levels_by (λ p. []))) (λ r. levels_seen new r ∙ empty_level l.threads r ∙ sym (no_level r))
+      (levels_count new ∙ sym (length-levels_by (λ p. [])))
+      (λ r. levels_seen new r ∙ empty_level l.threads r ∙ sym (no_level r))
 
   kept : IsKernel (kernel_of new)
   kept = subst IsKernel (sym new_seen) (new_kernel_kept l)
 
   new_effective : (u : ℕ) → effective_in (kernel_of new) u ≤ 0
-  new_effective u = rw new_seen (effective_most _ _ _ u 0 (λ v less e. omega (arith, ap (λ (x : KernelSeat). x.base) (one_seat v))))
+  new_effective u =
+      rw new_seen (effective_most _ _ _ u 0 (λ v less e. omega (arith, ap (λ (x : KernelSeat). x.base) (one_seat v))))
 
   fit_new : IsFitted new
   fit_new = record {
     few = omega (arith, length-replicate (l.threads + 1) no_seat);
     free = λ t le. seat_zero l.threads t;
-    waits = λ t. ap (λ (x : Seat). option_map (λ (w : Wait). w.state) x.wait) (seat_zero l.threads t) ∙ sym (no_key_at (queued_on (status_at new t)));
+    waits =
+        λ t. ap (λ (x : Seat). option_map (λ (w : Wait). w.state) x.wait) (seat_zero l.threads t)
+        ∙ sym (no_key_at (queued_on (status_at new t)));
     owners = λ m. omega (arith, none_at m);
   }
 
@@ -137,6 +141,9 @@ module _ (l : Bounds) (first : ℕ) (within : IsWithin l) (some : 1 ≤ first) w
   new_sound holds = record {
     placed = new_placed holds;
     local = local_new;
-    rank = λ t r e. let both : None ≡ Some r = sym (ap (λ (x : Seat). option_map (λ (w : Wait). w.rank) x.wait) (seat_zero l.threads t)) ∙ e in cc;
+    rank =
+        λ t r e. let both : None ≡ Some r = sym
+        (ap (λ (x : Seat). option_map (λ (w : Wait). w.rank) x.wait) (seat_zero l.threads t)) ∙ e in
+        cc;
     kernel = kept;
   }

@@ -44,10 +44,12 @@ pub record IsQueueing (p : Plain) (t m owner : ℕ) : Type 0 where
   pub unreached : reaches_within (length (kernel_of p).seats) (waits_for (kernel_of p)) owner t ≡ false
 
 pub entry : (now p x : Plain) (t m owner key ticket : ℕ) → 1 ≤ m → IsQueueing now t m owner
-    → p ≡ record now { owners = p.owners; next = p.next } → p.next ≡ ticket + 1 → Rise (ticket_of p.owners) 1 p.arrivals ticket → kernel_of p ≡ kernel_of now → IsSound p
+    → p ≡ record now { owners = p.owners; next = p.next } → p.next ≡ ticket + 1
+    → Rise (ticket_of p.owners) 1 p.arrivals ticket → kernel_of p ≡ kernel_of now → IsSound p
     → IsOpened p x m owner key → IsEntry now p x t m owner key ticket
 entry now p x t m owner key ticket named w frame next rises same h o =
-    let is : state_at p m ≡ state_at now m = sym (states_seen p m) ∙ ap (λ (k : Kernel). kernel_state_at k m) same ∙ states_seen now m in
+    let is : state_at p m ≡ state_at now m
+    = sym (states_seen p m) ∙ ap (λ (k : Kernel). kernel_state_at k m) same ∙ states_seen now m in
     let within : m < length p.keys = omega (arith, w.mutex, h.placed.keys) in
     let state' : state_at p m ≢ 0 → state_at p m ≡ owner = λ n. is ∙ w.state (λ z. n (is ∙ z)) in
     let both = opened p x m owner key h within state' o in
@@ -69,40 +71,54 @@ entry now p x t m owner key ticket named w frame next rises same h o =
 
 -- the same, where what is kept is written by the one with the owner state
 abbrev pub IsEntered : (now p x : Plain) (t m owner key ticket : ℕ) → Type 0
-IsEntered now p x t m owner key ticket = IsEntry now (record x { keys = p.keys; owners = p.owners }) x t m owner key ticket
+IsEntered now p x t m owner key ticket =
+    IsEntry now (record x { keys = p.keys; owners = p.owners }) x t m owner key ticket
 
-pub folded : (now p x : Plain) (t m owner key ticket : ℕ) → IsEntry now p x t m owner key ticket → IsEntered now p x t m owner key ticket
+pub folded : (now p x : Plain) (t m owner key ticket : ℕ) → IsEntry now p x t m owner key ticket
+    → IsEntered now p x t m owner key ticket
 folded now p x t m owner key ticket i =
-    subst (λ (y : Plain). IsEntry now y x t m owner key ticket) (sym (ap (λ (z : Plain). record z { keys = p.keys; owners = p.owners }) i.shape)) i
+    subst (λ (y : Plain). IsEntry now y x t m owner key ticket)
+    (sym (ap (λ (z : Plain). record z { keys = p.keys; owners = p.owners }) i.shape)) i
 
 -- for whom a thread waits, where there is an owner state
-waits_open : (now p x : Plain) (t m owner key ticket : ℕ) → IsEntry now p x t m owner key ticket → (u : ℕ) → owners_wait_for x.owners u ≡ waits_for (kernel_of p) u
+waits_open : (now p x : Plain) (t m owner key ticket : ℕ) → IsEntry now p x t m owner key ticket → (u : ℕ)
+    → owners_wait_for x.owners u ≡ waits_for (kernel_of p) u
 waits_open now p x t m owner key ticket i u =
-    ap (λ (l : List Seat). unwrap_or (option_and_then (owner_at x.owners) (option_map (λ (w : Wait). w.state) (get_or l u no_seat).wait)) 0) i.opens.seats
+    ap (λ (l : List Seat). unwrap_or
+    (option_and_then (owner_at x.owners) (option_map (λ (w : Wait). w.state) (get_or l u no_seat).wait))
+    0) i.opens.seats
     ∙ by_key (waits_on p.owners u) refl ∙ owners_waits p (fits p i.sound) u
   where
-    by_place : (k : ℕ) → waits_on p.owners u ≡ Some k → ((k ≡ key) ⊎ (k ≡ key → ⊥)) → unwrap_or (owner_at x.owners k) 0 ≡ unwrap_or (owner_at p.owners k) 0
+    by_place : (k : ℕ) → waits_on p.owners u ≡ Some k → ((k ≡ key) ⊎ (k ≡ key → ⊥))
+        → unwrap_or (owner_at x.owners k) 0 ≡ unwrap_or (owner_at p.owners k) 0
     by_place k e (inr ne) = ap (λ (o : Option ℕ). unwrap_or o 0) (i.opens.others k ne)
     by_place k e (inl same) =
         let on : key_at p (queued_on (status_at p u)) ≡ Some key = sym (i.sound.placed.waits u) ∙ e ∙ ap Some same in
         let at : queued_on (status_at p u) ≡ m = i.opens.alone (queued_on (status_at p u)) on in
         let here : key_at p m ≡ Some key = ap (key_at p) (sym at) ∙ on in
-        let was : state_at p m ≡ unwrap_or (owner_at p.owners key) 0 = ap (λ (o : Option ℕ). unwrap_or (option_and_then (owner_at p.owners) o) 0) here in
+        let was : state_at p m ≡ unwrap_or (owner_at p.owners key) 0
+        = ap (λ (o : Option ℕ). unwrap_or (option_and_then (owner_at p.owners) o) 0) here in
         ap (λ (n : ℕ). unwrap_or (owner_at x.owners n) 0) same ∙ ap (λ (o : Option ℕ). unwrap_or o 0) i.opens.owned
-        ∙ sym (i.state (i.sound.placed.owned m key here)) ∙ was ∙ ap (λ (n : ℕ). unwrap_or (owner_at p.owners n) 0) (sym same)
+        ∙ sym (i.state (i.sound.placed.owned m key here)) ∙ was
+        ∙ ap (λ (n : ℕ). unwrap_or (owner_at p.owners n) 0) (sym same)
 
     by_key : (o : Option ℕ) → waits_on p.owners u ≡ o
-        → unwrap_or (option_and_then (owner_at x.owners) (waits_on p.owners u)) 0 ≡ unwrap_or (option_and_then (owner_at p.owners) (waits_on p.owners u)) 0
+        → unwrap_or (option_and_then (owner_at x.owners) (waits_on p.owners u)) 0
+        ≡ unwrap_or (option_and_then (owner_at p.owners) (waits_on p.owners u)) 0
     by_key None e = rw e refl
     by_key (Some k) e = rw e (by_place k e (cases_eq k key))
 
-pub no_cycle : (now p x : Plain) (t m owner key ticket : ℕ) → IsEntry now p x t m owner key ticket → (n : ℕ) → owner_at x.owners key ≡ Some n → Reaches (WaitsFor x.owners) n t → ⊥
+pub no_cycle : (now p x : Plain) (t m owner key ticket : ℕ) → IsEntry now p x t m owner key ticket → (n : ℕ)
+    → owner_at x.owners key ≡ Some n → Reaches (WaitsFor x.owners) n t → ⊥
 no_cycle now p x t m owner key ticket i n e r =
     let both : Some owner ≡ Some n = sym i.opens.owned ∙ e in
     let at : n ≡ owner = cc in
     true≢false
-    (sym (within-from_reaches (length (kernel_of p).seats) (waits_for (kernel_of p)) owner t (omega (arith, (added_seen p (fits p i.sound) owner i.living).1, seats_length p (fits p i.sound))) (λ y some. waits_below p (fits p i.sound) y)
-    (subst (λ (w : ℕ → ℕ). Reaches (Follows w) owner t) (fun_ext (waits_open now p x t m owner key ticket i)) (subst (λ (y : ℕ). Reaches (WaitsFor x.owners) y t) at r)))
+    (sym (within-from_reaches (length (kernel_of p).seats) (waits_for (kernel_of p)) owner t
+    (omega (arith, (added_seen p (fits p i.sound) owner i.living).1, seats_length p (fits p i.sound)))
+    (λ y some. waits_below p (fits p i.sound) y)
+    (subst (λ (w : ℕ → ℕ). Reaches (Follows w) owner t) (fun_ext (waits_open now p x t m owner key ticket i))
+    (subst (λ (y : ℕ). Reaches (WaitsFor x.owners) y t) at r)))
     ∙ i.unreached)
 
 module _ (now p x : Plain) (t m owner key ticket : ℕ) (i : IsEntry now p x t m owner key ticket) where
@@ -118,7 +134,9 @@ module _ (now p x : Plain) (t m owner key ticket : ℕ) (i : IsEntry now p x t m
   place = (added_seen p (fits p i.sound) t i.added).1
 
   pub free : waits_on x.owners t ≡ None
-  free = ap (λ (l : List Seat). option_map (λ (w : Wait). w.state) (get_or l t no_seat).wait) i.opens.seats ∙ ready_free p i.sound t i.ready
+  free =
+      ap (λ (l : List Seat). option_map (λ (w : Wait). w.state) (get_or l t no_seat).wait) i.opens.seats
+      ∙ ready_free p i.sound t i.ready
 
   pub room : length p.arrivals < p.limits.threads
   room = (room_for p i.sound t i.added i.ready).1
@@ -128,9 +146,21 @@ module _ (now p x : Plain) (t m owner key ticket : ℕ) (i : IsEntry now p x t m
 
   -- what is kept before the walk
   pub before_walk : (level : ℕ) (v : Owners) (q : Queue) (tb : Table) → level ≡ (seat_at x.owners t).local
-      → v ≡ with_wait t (Some (record { state = key; rank = record { prio = level; ticket = ticket } })) x.owners → q ≡ record p.queue { mask = q.mask }
-      → ((r : ℕ) → IsLevel r → level_of q tb r ≡ without t (level_of p.queue p.table r)) → Holds q tb → length tb.lists ≡ length p.table.lists
-      → IsWalkable (record p { statuses = set p.statuses t (Queued m); keys = x.keys; owners = v; queue = q; table = tb; arrivals = p.arrivals ++ (t, m) ∷ [] }) owner (kernel_after_queueing t m owner (kernel_of now))
+      → v ≡ with_wait t (Some (record { state = key; rank = record { prio = level; ticket = ticket } })) x.owners
+      → q ≡ record p.queue { mask = q.mask }
+      → ((r : ℕ) → IsLevel r → level_of q tb r ≡ without t (level_of p.queue p.table r)) → Holds q tb
+      → length tb.lists ≡ length p.table.lists
+      → IsWalkable (record p {
+        statuses = set p.statuses t
+            (Queued m);
+        keys = x.keys;
+        owners = v;
+        queue = q;
+        table = tb;
+        arrivals = p.arrivals ++
+            (t, m) ∷ [];
+      }) owner (kernel_after_queueing t m owner (kernel_of now))
   before_walk level v q tb value queued place levels holds lists =
       rw (queued, ← i.same)
-      (walkable p x.keys x.owners t m owner key level ticket p.next i.sound i.opens i.added i.ready i.named i.mutex i.living i.state i.unreached (value ∙ local_is) i.rises i.later q tb place levels holds lists)
+      (walkable p x.keys x.owners t m owner key level ticket p.next i.sound i.opens i.added i.ready i.named i.mutex
+      i.living i.state i.unreached (value ∙ local_is) i.rises i.later q tb place levels holds lists)

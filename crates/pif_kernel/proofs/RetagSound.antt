@@ -16,17 +16,26 @@ use Rattle.pif_kernel.proofs.QueueLaws.{rise_once}
 use Rattle.pif_kernel.proofs.TicketLaws.{order, retagged_before, rise_retagged, named_at}
 use Rattle.pif_kernel.proofs.Waiters.{waits_some, waits_named, named_known, arrivals_few}
 
-wait_state : (n : ℕ) (o : Option Wait) → option_map (λ (w : Wait). w.state) (option_map (λ (w : Wait). record { state = w.state; rank = record { prio = w.rank.prio; ticket = n } }) o) ≡ option_map (λ (w : Wait). w.state) o
+wait_state : (n : ℕ) (o : Option Wait)
+    → option_map (λ (w : Wait). w.state)
+    (option_map (λ (w : Wait). record { state = w.state; rank = record { prio = w.rank.prio; ticket = n } }) o)
+    ≡ option_map (λ (w : Wait). w.state) o
 wait_state n None = refl
 wait_state n (Some w) = refl
 
-wait_rank : (n : ℕ) (o : Option Wait) (r : Key) → option_map (λ (w : Wait). w.rank) (option_map (λ (w : Wait). record { state = w.state; rank = record { prio = w.rank.prio; ticket = n } }) o) ≡ Some r
+wait_rank : (n : ℕ) (o : Option Wait) (r : Key)
+    → option_map (λ (w : Wait). w.rank)
+    (option_map (λ (w : Wait). record { state = w.state; rank = record { prio = w.rank.prio; ticket = n } }) o) ≡ Some r
     → (r.ticket ≡ n) × ((s : Key) × (option_map (λ (w : Wait). w.rank) o ≡ Some s) × (s.prio ≡ r.prio))
 wait_rank n None r e = cc
-wait_rank n (Some w) r e = let same : record { prio = w.rank.prio; ticket = n } ≡ r = cc in (sym (ap (λ (k : Key). k.ticket) same), (w.rank, refl, ap (λ (k : Key). k.prio) same))
+wait_rank n (Some w) r e =
+    let same : record { prio = w.rank.prio; ticket = n } ≡ r = cc in
+    (sym (ap (λ (k : Key). k.ticket) same), (w.rank, refl, ap (λ (k : Key). k.prio) same))
 
 wait_ticket : (n : ℕ) (o : Option Wait) → is_some (option_map (λ (w : Wait). w.state) o) ≡ true
-    → unwrap_or (option_map (λ (r : Key). r.ticket) (option_map (λ (w : Wait). w.rank) (option_map (λ (w : Wait). record { state = w.state; rank = record { prio = w.rank.prio; ticket = n } }) o))) 0 ≡ n
+    → unwrap_or (option_map (λ (r : Key). r.ticket)
+    (option_map (λ (w : Wait). w.rank)
+    (option_map (λ (w : Wait). record { state = w.state; rank = record { prio = w.rank.prio; ticket = n } }) o))) 0 ≡ n
 wait_ticket n None e = absurd (false≢true e)
 wait_ticket n (Some w) e = refl
 
@@ -35,31 +44,44 @@ module _ (p : Plain) (now : Owners) (i : ℕ) (h : IsSound p) (g : IsRetagged p.
   tag u = retagged (ticket_of p.owners) 1 i p.arrivals u
 
   waits_now : (u : ℕ) → waits_on now u ≡ waits_on p.owners u
-  waits_now u = ap (λ (x : Seat). option_map (λ (w : Wait). w.state) x.wait) (g.seat u) ∙ wait_state (tag u) (seat_at p.owners u).wait
+  waits_now u =
+      ap (λ (x : Seat). option_map (λ (w : Wait). w.state) x.wait) (g.seat u)
+      ∙ wait_state (tag u) (seat_at p.owners u).wait
 
-  rank_now : (u : ℕ) (r : Key) → rank_of now u ≡ Some r → (r.ticket ≡ tag u) × ((s : Key) × (rank_of p.owners u ≡ Some s) × (s.prio ≡ r.prio))
-  rank_now u r e = wait_rank (tag u) (seat_at p.owners u).wait r (sym (ap (λ (x : Seat). option_map (λ (w : Wait). w.rank) x.wait) (g.seat u)) ∙ e)
+  rank_now : (u : ℕ) (r : Key) → rank_of now u ≡ Some r
+      → (r.ticket ≡ tag u) × ((s : Key) × (rank_of p.owners u ≡ Some s) × (s.prio ≡ r.prio))
+  rank_now u r e =
+      wait_rank (tag u) (seat_at p.owners u).wait r
+      (sym (ap (λ (x : Seat). option_map (λ (w : Wait). w.rank) x.wait) (g.seat u)) ∙ e)
 
   abbrev Side : ℕ → ℕ → Type 0
   Side t u = ((tag u < 1 + i) × (tag u < tag t)) ⊎ ((1 + i < tag u) × (tag t < tag u))
 
   -- with its new ticket a thread stands where it did
-  pub keeps : (t : ℕ) (d : ℕ × ℕ) → i < length p.arrivals → (get_or p.arrivals i d).0 ≡ t → (k : ℕ) → waits_on p.owners t ≡ Some k → KeepsOrder now t (i + 1)
+  pub keeps : (t : ℕ) (d : ℕ × ℕ) → i < length p.arrivals → (get_or p.arrivals i d).0 ≡ t → (k : ℕ)
+      → waits_on p.owners t ≡ Some k → KeepsOrder now t (i + 1)
   keeps t d l e k waits = record {
-    before = λ u mine other ne same a b. ahead mine other u (side u ne same) (rank_now t mine a).0 (rank_now u other b).0;
-    behind = λ u mine other ne same a b. back mine other u (side u ne same) (rank_now t mine a).0 (rank_now u other b).0;
+    before =
+        λ u mine other ne same a b. ahead mine other u (side u ne same) (rank_now t mine a).0 (rank_now u other b).0;
+    behind =
+        λ u mine other ne same a b. back mine other u (side u ne same) (rank_now t mine a).0 (rank_now u other b).0;
   }
     where
       old : tag t ≡ ticket_of p.owners t
-      old = retagged_before (ticket_of p.owners) 1 i p.arrivals t d (rise_once (ticket_of p.owners) 1 p.arrivals p.next h.placed.tickets) l e
+      old =
+          retagged_before (ticket_of p.owners) 1 i p.arrivals t d
+          (rise_once (ticket_of p.owners) 1 p.arrivals p.next h.placed.tickets) l e
 
       side : (u : ℕ) → u ≢ t → waits_on now u ≡ waits_on now t → Side t u
       side u ne same =
           let waited : waits_on p.owners u ≡ Some k = sym (waits_now u) ∙ same ∙ waits_now t ∙ waits in
-          let s = order (ticket_of p.owners) 1 i 1 p.arrivals p.next t u d (omega arith) h.placed.tickets l e ne (waits_named p h u k waited) in
+          let s
+          = order (ticket_of p.owners) 1 i 1 p.arrivals p.next t u d (omega arith) h.placed.tickets l e ne
+          (waits_named p h u k waited) in
           subst (λ (n : ℕ). ((tag u < 1 + i) × (tag u < n)) ⊎ ((1 + i < tag u) × (n < tag u))) (sym old) s.1
 
-      ahead : (mine other : Key) (u : ℕ) → Side t u → mine.ticket ≡ tag t → other.ticket ≡ tag u → comes_before (record mine { ticket = i + 1 }) other ≡ comes_before mine other
+      ahead : (mine other : Key) (u : ℕ) → Side t u → mine.ticket ≡ tag t → other.ticket ≡ tag u
+          → comes_before (record mine { ticket = i + 1 }) other ≡ comes_before mine other
       ahead mine other u (inl s) a b =
           let x : nat_lt (i + 1) other.ticket ≡ false = grind (arith, nat_tests, s.0) in
           let y : nat_lt mine.ticket other.ticket ≡ false = grind (arith, nat_tests, s.1) in rw (x, y) refl
@@ -67,7 +89,8 @@ module _ (p : Plain) (now : Owners) (i : ℕ) (h : IsSound p) (g : IsRetagged p.
           let x : nat_lt (i + 1) other.ticket ≡ true = grind (arith, nat_tests, s.0) in
           let y : nat_lt mine.ticket other.ticket ≡ true = grind (arith, nat_tests, s.1) in rw (x, y) refl
 
-      back : (mine other : Key) (u : ℕ) → Side t u → mine.ticket ≡ tag t → other.ticket ≡ tag u → comes_before other (record mine { ticket = i + 1 }) ≡ comes_before other mine
+      back : (mine other : Key) (u : ℕ) → Side t u → mine.ticket ≡ tag t → other.ticket ≡ tag u
+          → comes_before other (record mine { ticket = i + 1 }) ≡ comes_before other mine
       back mine other u (inl s) a b =
           let x : nat_lt other.ticket (i + 1) ≡ true = grind (arith, nat_tests, s.0) in
           let y : nat_lt other.ticket mine.ticket ≡ true = grind (arith, nat_tests, s.1) in rw (x, y) refl
@@ -91,16 +114,21 @@ module _ (p : Plain) (now : Owners) (i : ℕ) (h : IsSound p) (g : IsRetagged p.
     nobody_now : (u : ℕ) → seat_at p.owners u ≡ no_seat → seat_at now u ≡ no_seat
     nobody_now u e = g.seat u ∙ ap (retag (tag u)) e
 
-    ticket_now : (u : ℕ) → names u p.arrivals ≡ true → ticket_of now u ≡ retagged (ticket_of p.owners) 1 (length p.arrivals) p.arrivals u
+    ticket_now : (u : ℕ) → names u p.arrivals ≡ true
+        → ticket_of now u ≡ retagged (ticket_of p.owners) 1 (length p.arrivals) p.arrivals u
     ticket_now u e =
-        ap (λ (x : Seat). unwrap_or (option_map (λ (r : Key). r.ticket) (option_map (λ (w : Wait). w.rank) x.wait)) 0) (g.seat u)
-        ∙ wait_ticket (tag u) (seat_at p.owners u).wait (waits_some p h u e) ∙ ap (λ (n : ℕ). retagged (ticket_of p.owners) 1 n p.arrivals u) all
+        ap (λ (x : Seat). unwrap_or (option_map (λ (r : Key). r.ticket) (option_map (λ (w : Wait). w.rank) x.wait)) 0)
+        (g.seat u)
+        ∙ wait_ticket (tag u) (seat_at p.owners u).wait (waits_some p h u e)
+        ∙ ap (λ (n : ℕ). retagged (ticket_of p.owners) 1 n p.arrivals u) all
 
     pub kernel_after : kernel_of after ≡ kernel_of p
     unfolding kernel_of
     kernel_after =
-        kernel_by_parts (kernel_of after) (kernel_of p) refl (seats_of-same_base p.statuses p.owners.seats now.seats g.seats base_now)
-        (states_length after ∙ sym (states_length p)) (λ m. states_seen after m ∙ state_now m ∙ sym (states_seen p m)) refl refl (λ r. refl)
+        kernel_by_parts (kernel_of after) (kernel_of p) refl
+        (seats_of-same_base p.statuses p.owners.seats now.seats g.seats base_now)
+        (states_length after ∙ sym (states_length p))
+        (λ m. states_seen after m ∙ state_now m ∙ sym (states_seen p m)) refl refl (λ r. refl)
 
     kept : IsKernel (kernel_of after)
     kept = subst IsKernel (sym kernel_after) h.kernel
@@ -141,7 +169,10 @@ module _ (p : Plain) (now : Owners) (i : ℕ) (h : IsSound p) (g : IsRetagged p.
       owned = λ m k e z. h.placed.owned m k e (sym (state_now m) ∙ z);
       count = ap (λ o. count (record { seats = now.seats; owners = o })) g.owners ∙ h.placed.count;
       owners = fit_after.owners;
-      tickets = subst (λ (n : ℕ). Rise (ticket_of now) 1 p.arrivals n) (sym next_is) (rise_retagged (ticket_of p.owners) (ticket_of now) 1 p.arrivals (rise_once (ticket_of p.owners) 1 p.arrivals p.next h.placed.tickets) ticket_now);
+      tickets =
+          subst (λ (n : ℕ). Rise (ticket_of now) 1 p.arrivals n) (sym next_is)
+          (rise_retagged (ticket_of p.owners) (ticket_of now) 1 p.arrivals
+          (rise_once (ticket_of p.owners) 1 p.arrivals p.next h.placed.tickets) ticket_now);
     }
 
     pub sound_after : IsSound after
@@ -162,9 +193,11 @@ retaggable p h = record {
   stays = λ now i t g. waits_now p now i h g t;
 }
   where
-    by_wait : (now : Owners) (i t : ℕ) (d : ℕ × ℕ) → IsRetagged p.owners now p.arrivals i → i < length p.arrivals → (get_or p.arrivals i d).0 ≡ t
+    by_wait : (now : Owners) (i t : ℕ) (d : ℕ × ℕ) → IsRetagged p.owners now p.arrivals i → i < length p.arrivals
+        → (get_or p.arrivals i d).0 ≡ t
         → (o : Option ℕ) → waits_on p.owners t ≡ o → KeepsOrder now t (i + 1)
-    by_wait now i t d g l e None x = absurd (false≢true (sym (ap is_some x) ∙ waits_some p h t (named_at p.arrivals i t d l e)))
+    by_wait now i t d g l e None x =
+        absurd (false≢true (sym (ap is_some x) ∙ waits_some p h t (named_at p.arrivals i t d l e)))
     by_wait now i t d g l e (Some k) x = keeps p now i h g t d l e k x
 
 -- THE NEXT TICKET

@@ -13,18 +13,21 @@ use Rattle.pif_rtmutex.specs.Owners.{Seat, seat_at, owner_at, no_seat, waits_on}
 use Rattle.pif_rtmutex.specs.Owners.{waits_for as owners_wait_for}
 use Rattle.pif_kernel.specs.Plain.{Plain, IsPlaced, kernel_of, owner_under, seat_of, seats_of, status_at, key_at, state_at}
 
-pub length-seats_of : (xs : List Status) (rows : List Seat) → length xs ≤ length rows → length (seats_of xs rows) ≡ length xs
+pub length-seats_of : (xs : List Status) (rows : List Seat) → length xs ≤ length rows
+    → length (seats_of xs rows) ≡ length xs
 length-seats_of [] rows le = refl
 length-seats_of (x ∷ xs) [] le = absurd (omega arith)
 length-seats_of (x ∷ xs) (r ∷ rows) le = ap suc (length-seats_of xs rows (omega arith))
 
 -- the thread at a place
-pub seats_of-at : (xs : List Status) (rows : List Seat) (t : ℕ) → length xs ≤ length rows → ((u : ℕ) → length xs ≤ u → get_or rows u no_seat ≡ no_seat)
+pub seats_of-at : (xs : List Status) (rows : List Seat) (t : ℕ) → length xs ≤ length rows
+    → ((u : ℕ) → length xs ≤ u → get_or rows u no_seat ≡ no_seat)
     → get_or (seats_of xs rows) t no_kernel_seat ≡ seat_of (get_or xs t (Ready Fresh)) (get_or rows t no_seat)
 seats_of-at [] rows t le free = ap (seat_of (Ready Fresh)) (sym (free t (omega arith)))
 seats_of-at (x ∷ xs) [] t le free = absurd (omega arith)
 seats_of-at (x ∷ xs) (r ∷ rows) zero le free = refl
-seats_of-at (x ∷ xs) (r ∷ rows) (suc t) le free = seats_of-at xs rows t (omega arith) (λ u l. free (suc u) (omega arith))
+seats_of-at (x ∷ xs) (r ∷ rows) (suc t) le free =
+    seats_of-at xs rows t (omega arith) (λ u l. free (suc u) (omega arith))
 
 -- statuses, rows and keys fit together
 pub record IsFitted (p : Plain) : Type 0 where
@@ -40,7 +43,8 @@ pub seats_length : (p : Plain) → IsFitted p → length (kernel_of p).seats ≡
 unfolding kernel_of
 seats_length p h = length-seats_of p.statuses p.owners.seats h.few
 
-pub seat_seen : (p : Plain) → IsFitted p → (t : ℕ) → kernel_seat_at (kernel_of p) t ≡ seat_of (status_at p t) (seat_at p.owners t)
+pub seat_seen : (p : Plain) → IsFitted p → (t : ℕ)
+    → kernel_seat_at (kernel_of p) t ≡ seat_of (status_at p t) (seat_at p.owners t)
 unfolding kernel_of
 seat_seen p h t = seats_of-at p.statuses p.owners.seats t h.few h.free
 
@@ -50,7 +54,8 @@ status_seen p h t = ap (λ (x : KernelSeat). x.status) (seat_seen p h t)
 pub base_seen : (p : Plain) → IsFitted p → (t : ℕ) → (kernel_seat_at (kernel_of p) t).base ≡ (seat_at p.owners t).base
 base_seen p h t = ap (λ (x : KernelSeat). x.base) (seat_seen p h t)
 
-pub added_seen : (p : Plain) → IsFitted p → (t : ℕ) → has_seat (kernel_of p) t ≡ true → (t ≢ 0) × (t < length p.statuses)
+pub added_seen : (p : Plain) → IsFitted p → (t : ℕ) → has_seat (kernel_of p) t ≡ true
+    → (t ≢ 0) × (t < length p.statuses)
 added_seen p h t e = let w = within t (length (kernel_of p).seats) e in (w.0, omega (arith, w.1, seats_length p h))
 
 pub added_back : (p : Plain) → IsFitted p → (t : ℕ) → t ≢ 0 → t < length p.statuses → has_seat (kernel_of p) t ≡ true
@@ -65,11 +70,14 @@ unfolding kernel_of
 states_length p = length-map p.keys (owner_under p.owners)
 
 pub waits_seen : (p : Plain) → IsFitted p → (u : ℕ) → waits_for (kernel_of p) u ≡ state_at p (queued_on (status_at p u))
-waits_seen p h u = states_seen p (queued_on (kernel_seat_at (kernel_of p) u).status) ∙ ap (λ (x : Status). state_at p (queued_on x)) (status_seen p h u)
+waits_seen p h u =
+    states_seen p (queued_on (kernel_seat_at (kernel_of p) u).status)
+    ∙ ap (λ (x : Status). state_at p (queued_on x)) (status_seen p h u)
 
 -- a thread waits in the owner states for whom it waits in the kernel by itself
 pub owners_waits : (p : Plain) → IsFitted p → (u : ℕ) → owners_wait_for p.owners u ≡ waits_for (kernel_of p) u
-owners_waits p h u = ap (λ (k : Option ℕ). unwrap_or (option_and_then (owner_at p.owners) k) 0) (h.waits u) ∙ sym (waits_seen p h u)
+owners_waits p h u =
+    ap (λ (k : Option ℕ). unwrap_or (option_and_then (owner_at p.owners) k) 0) (h.waits u) ∙ sym (waits_seen p h u)
 
 -- for whom a thread waits was added
 pub waits_below : (p : Plain) → IsFitted p → (u : ℕ) → waits_for (kernel_of p) u < length (kernel_of p).seats
@@ -89,24 +97,29 @@ kernel_by_parts a b l s many states w count levels = λ i. record {
 
 -- another status of one thread
 pub seats_of-set_status : (xs : List Status) (rows : List Seat) (t : ℕ) (x : Status) → length xs ≤ length rows
-    → seats_of (set xs t x) rows ≡ set (seats_of xs rows) t (record (get_or (seats_of xs rows) t no_kernel_seat) { status = x })
+    → seats_of (set xs t x) rows ≡ set (seats_of xs rows) t
+    (record (get_or (seats_of xs rows) t no_kernel_seat) { status = x })
 seats_of-set_status [] rows t x le = refl
 seats_of-set_status (y ∷ xs) [] t x le = absurd (omega arith)
 seats_of-set_status (y ∷ xs) (r ∷ rows) zero x le = refl
-seats_of-set_status (y ∷ xs) (r ∷ rows) (suc t) x le = ap (λ (l : List KernelSeat). seat_of y r ∷ l) (seats_of-set_status xs rows t x (omega arith))
+seats_of-set_status (y ∷ xs) (r ∷ rows) (suc t) x le =
+    ap (λ (l : List KernelSeat). seat_of y r ∷ l) (seats_of-set_status xs rows t x (omega arith))
 
 -- one thread more
-pub seats_of-push : (xs : List Status) (rows : List Seat) (x : Status) (r : Seat) (t : ℕ) → t ≡ length xs → length xs < length rows
+pub seats_of-push : (xs : List Status) (rows : List Seat) (x : Status) (r : Seat) (t : ℕ) → t ≡ length xs
+    → length xs < length rows
     → seats_of (xs ++ x ∷ []) (set rows t r) ≡ seats_of xs rows ++ seat_of x r ∷ []
 seats_of-push [] [] x r t e lt = absurd (omega arith)
 seats_of-push [] (y ∷ rows) x r zero e lt = refl
 seats_of-push [] (y ∷ rows) x r (suc t) e lt = absurd (omega arith)
 seats_of-push (z ∷ xs) [] x r t e lt = absurd (omega arith)
 seats_of-push (z ∷ xs) (y ∷ rows) x r zero e lt = absurd (omega arith)
-seats_of-push (z ∷ xs) (y ∷ rows) x r (suc t) e lt = ap (λ (l : List KernelSeat). seat_of z y ∷ l) (seats_of-push xs rows x r t (omega arith) (omega arith))
+seats_of-push (z ∷ xs) (y ∷ rows) x r (suc t) e lt =
+    ap (λ (l : List KernelSeat). seat_of z y ∷ l) (seats_of-push xs rows x r t (omega arith) (omega arith))
 
 -- the same base priorities
-pub seats_of-same_base : (xs : List Status) (rows rows' : List Seat) → length rows' ≡ length rows → ((u : ℕ) → (get_or rows' u no_seat).base ≡ (get_or rows u no_seat).base)
+pub seats_of-same_base : (xs : List Status) (rows rows' : List Seat) → length rows' ≡ length rows
+    → ((u : ℕ) → (get_or rows' u no_seat).base ≡ (get_or rows u no_seat).base)
     → seats_of xs rows' ≡ seats_of xs rows
 seats_of-same_base [] rows rows' l h = refl
 seats_of-same_base (x ∷ xs) [] [] l h = refl
@@ -140,6 +153,7 @@ living_seen p h t some =
     sym (rw nonzero (ap (nat_lt t) (seats_length p h)))
 
 -- as many threads, and so the same
-pub same_seats : (p now : Plain) → IsFitted p → IsFitted now → length now.statuses ≡ length p.statuses → (t : ℕ) → has_seat (kernel_of now) t ≡ has_seat (kernel_of p) t
+pub same_seats : (p now : Plain) → IsFitted p → IsFitted now → length now.statuses ≡ length p.statuses → (t : ℕ)
+    → has_seat (kernel_of now) t ≡ has_seat (kernel_of p) t
 same_seats p now fit fit' many t =
     ap (λ (n : ℕ). if t == 0 then false else nat_lt t n) (seats_length now fit' ∙ many ∙ sym (seats_length p fit))

@@ -23,10 +23,12 @@ pub effective_few : (p : Plain) → IsSound p → (t : ℕ) → effective_in (ke
 effective_few p h t = effective_most _ _ _ t 99 (λ u l e. omega (arith, base_seen p (fits p h) u, h.placed.most u))
 
 -- and those of threads that were added are at least 1
-pub effective_some : (p : Plain) → IsSound p → (t : ℕ) → has_seat (kernel_of p) t ≡ true → 1 ≤ effective_in (kernel_of p) t
+pub effective_some : (p : Plain) → IsSound p → (t : ℕ) → has_seat (kernel_of p) t ≡ true
+    → 1 ≤ effective_in (kernel_of p) t
 effective_some p h t e =
     let a = added_seen p (fits p h) t e in
-    let own : (kernel_seat_at (kernel_of p) t).base ≤ effective_in (kernel_of p) t = effective_own _ _ _ t (omega (arith, a.1, seats_length p (fits p h))) in
+    let own : (kernel_seat_at (kernel_of p) t).base ≤ effective_in (kernel_of p) t
+    = effective_own _ _ _ t (omega (arith, a.1, seats_length p (fits p h))) in
     omega (arith, own, base_seen p (fits p h) t, h.placed.admitted t a.0 a.1)
 
 -- a level of the run queue, as the kernel by itself has it
@@ -34,21 +36,29 @@ pub level_same : (p : Plain) (r : ℕ) → IsLevel r → level_at (kernel_of p).
 level_same p r l = levels_seen p r ∙ level_seen p.queue p.table r l
 
 -- a ready thread is on the level of its effective priority
-ready_among : (p : Plain) → IsSound p → (t : ℕ) → has_seat (kernel_of p) t ≡ true → is_ready (kernel_seat_at (kernel_of p) t).status ≡ true
+ready_among : (p : Plain) → IsSound p → (t : ℕ) → has_seat (kernel_of p) t ≡ true
+    → is_ready (kernel_seat_at (kernel_of p) t).status ≡ true
     → is_among (level_at (kernel_of p).levels (effective_in (kernel_of p) t)) t ≡ true
 ready_among p h t known ready =
     let same : (effective_in (kernel_of p) t == effective_in (kernel_of p) t) ≡ true = grind (arith, nat_tests) in
     h.kernel.level t (effective_in (kernel_of p) t) ∙ rw (known, ready, same) refl
 
-pub ready_queued : (p : Plain) → IsSound p → (t : ℕ) → has_seat (kernel_of p) t ≡ true → is_ready (kernel_seat_at (kernel_of p) t).status ≡ true
+pub ready_queued : (p : Plain) → IsSound p → (t : ℕ) → has_seat (kernel_of p) t ≡ true
+    → is_ready (kernel_seat_at (kernel_of p) t).status ≡ true
     → IsQueued p.queue p.table t
 ready_queued p h t known ready =
     let level : IsLevel (effective_in (kernel_of p) t) = (effective_some p h t known, effective_few p h t) in
-    let e = level_same p (effective_in (kernel_of p) t) level in
-    (effective_in (kernel_of p) t, level, ap (has t) (sym e) ∙ sym (among_has (level_at (kernel_of p).levels (effective_in (kernel_of p) t)) t) ∙ ready_among p h t known ready)
+    let e = level_same p (effective_in (kernel_of p) t) level in (
+      effective_in (kernel_of p) t,
+      level,
+      ap (has t) (sym e)
+          ∙ sym (among_has (level_at (kernel_of p).levels (effective_in (kernel_of p) t)) t)
+          ∙ ready_among p h t known ready,
+    )
 
 -- a thread that is on no level has a node that is in no list
-pub unqueued_free : (p : Plain) → IsSound p → (t : ℕ) → 1 ≤ t → ((r : ℕ) → is_among (level_at (kernel_of p).levels r) t ≡ false)
+pub unqueued_free : (p : Plain) → IsSound p → (t : ℕ) → 1 ≤ t
+    → ((r : ℕ) → is_among (level_at (kernel_of p).levels r) t ≡ false)
     → holder p.table (node_for p.queue t) ≡ None
 unqueued_free p h t some none = by_holder (holder p.table (node_for p.queue t)) refl
   where
@@ -61,16 +71,20 @@ unqueued_free p h t some none = by_holder (holder p.table (node_for p.queue t)) 
         let level : IsLevel (l + 1) = (omega arith, omega (arith, h.placed.lists)) in
         let list : list_for p.queue (l + 1) ≡ l = omega (arith, first) in
         let listed : has (node_for p.queue t) (list_at p.table (list_for p.queue (l + 1))) ≡ true
-        = ap (λ (x : ℕ). has (node_for p.queue t) (list_at p.table x)) list ∙ h.placed.holds.apart.listed l (node_for p.queue t) e in
+        = ap (λ (x : ℕ). has (node_for p.queue t) (list_at p.table x)) list
+        ∙ h.placed.holds.apart.listed l (node_for p.queue t) e in
         let on : has t (level_of p.queue p.table (l + 1)) ≡ true
-        = has-threads p.queue t (list_at p.table (list_for p.queue (l + 1))) some (λ n x. omega (arith, start)) ∙ listed in
-        absurd (true≢false (sym on ∙ ap (has t) (sym (level_same p (l + 1) level)) ∙ sym (among_has (level_at (kernel_of p).levels (l + 1)) t) ∙ none (l + 1)))
+        = has-threads p.queue t (list_at p.table (list_for p.queue (l + 1))) some (λ n x. omega (arith, start))
+        ∙ listed in
+        absurd (true≢false (sym on ∙ ap (has t) (sym (level_same p (l + 1) level))
+        ∙ sym (among_has (level_at (kernel_of p).levels (l + 1)) t) ∙ none (l + 1)))
 
 -- what `effective` answers of a thread that lives, by its row
 pub effective_answer : (p : Plain) → IsSound p → (t : ℕ) (r : Option ℕ) → is_living (kernel_of p) t ≡ true
     → (IsSome r ↔ (1 ≤ (seat_at p.owners t).local)) → IfSome r (λ x. x ≡ (seat_at p.owners t).local)
     → r ≡ (if is_living (kernel_of p) t then Some (effective_in (kernel_of p) t) else None)
-effective_answer p h t None lives given value = absurd (true≢false (sym (given.1 (omega (arith, h.local t, effective_some p h t lives)))))
+effective_answer p h t None lives given value =
+    absurd (true≢false (sym (given.1 (omega (arith, h.local t, effective_some p h t lives)))))
 effective_answer p h t (Some x) lives given value = rw lives (ap Some (value ∙ h.local t))
 
 -- no mutex has no owner state
@@ -82,25 +96,39 @@ pub states_below : (p : Plain) → IsSound p → (m : ℕ) → kernel_state_at (
 states_below p h m = omega (arith, states_seen p m, seats_length p (fits p h), h.placed.owners m)
 
 -- who was never added is on no level
-pub unadded_off : (p : Plain) → IsSound p → (t : ℕ) → length p.statuses ≤ t → (r : ℕ) → is_among (level_at (kernel_of p).levels r) t ≡ false
+pub unadded_off : (p : Plain) → IsSound p → (t : ℕ) → length p.statuses ≤ t → (r : ℕ)
+    → is_among (level_at (kernel_of p).levels r) t ≡ false
 unadded_off p h t le r =
     let past : nat_lt t (length (kernel_of p).seats) ≡ false = grind (arith, nat_tests, seats_length p (fits p h)) in
     h.kernel.level t r ∙ by_zero (t == 0) past
   where
     by_zero : (b : Bool) → nat_lt t (length (kernel_of p).seats) ≡ false
-        → (if (if b then false else nat_lt t (length (kernel_of p).seats)) then (if is_ready (kernel_seat_at (kernel_of p) t).status then effective_in (kernel_of p) t == r else false) else false) ≡ false
+        → (if (if b then false else nat_lt t (length (kernel_of p).seats)) then
+        (if is_ready (kernel_seat_at (kernel_of p) t).status then effective_in (kernel_of p) t == r else false) else
+        false) ≡ false
     by_zero true past = refl
     by_zero false past = rw past refl
 
 -- where threads stand with their effective priorities, who is on a level stands on its own
-pub listed_kept : (p : Plain) → IsFitted p → IsKernel (kernel_of p) → ((t : ℕ) → (seat_at p.owners t).local ≡ effective_in (kernel_of p) t)
+pub listed_kept : (p : Plain) → IsFitted p → IsKernel (kernel_of p)
+    → ((t : ℕ) → (seat_at p.owners t).local ≡ effective_in (kernel_of p) t)
     → (t r : ℕ) → is_among (level_at (kernel_of p).levels r) t ≡ true → IsListed p t r
 listed_kept p fit k local t r e =
-    by_tests (has_seat (kernel_of p) t) refl (is_ready (kernel_seat_at (kernel_of p) t).status) refl (effective_in (kernel_of p) t == r) refl (sym (k.level t r) ∙ e)
+    by_tests (has_seat (kernel_of p) t) refl (is_ready (kernel_seat_at (kernel_of p) t).status) refl
+    (effective_in (kernel_of p) t == r) refl (sym (k.level t r) ∙ e)
   where
-    by_tests : (a : Bool) → has_seat (kernel_of p) t ≡ a → (b : Bool) → is_ready (kernel_seat_at (kernel_of p) t).status ≡ b → (c : Bool) → (effective_in (kernel_of p) t == r) ≡ c
-        → (if has_seat (kernel_of p) t then (if is_ready (kernel_seat_at (kernel_of p) t).status then effective_in (kernel_of p) t == r else false) else false) ≡ true → IsListed p t r
-    by_tests true x true y true z on = record { added = x; ready = ap is_ready (sym (status_seen p fit t)) ∙ y; local = local t ∙ eqb-true (effective_in (kernel_of p) t) r z }
+    by_tests : (a : Bool) → has_seat (kernel_of p) t ≡ a → (b : Bool)
+        → is_ready (kernel_seat_at (kernel_of p) t).status ≡ b → (c : Bool) → (effective_in (kernel_of p) t == r) ≡ c
+        → (if has_seat (kernel_of p) t then
+        (if is_ready (kernel_seat_at (kernel_of p) t).status then effective_in (kernel_of p) t == r else false) else
+        false) ≡ true → IsListed p t r
+    by_tests true x true y true z on =
+        record {
+          added = x;
+          ready = ap is_ready (sym (status_seen p fit t)) ∙ y;
+          local = local t
+              ∙ eqb-true (effective_in (kernel_of p) t) r z;
+        }
     by_tests true x true y false z on = absurd (true≢false (sym on ∙ rw (x, y, z) refl))
     by_tests true x false y c z on = absurd (true≢false (sym on ∙ rw (x, y) refl))
     by_tests false x b y c z on = absurd (true≢false (sym on ∙ rw x refl))

@@ -14,7 +14,8 @@ module _ (k : Kernel) (t : ℕ) (ready : is_ready (seat_at k t).status ≡ true)
   waits_stopped : (u : ℕ) → waits_for (kernel_after_stop t k) u ≡ waits_for k u
   unfolding kernel_after_stop
   waits_stopped u =
-      ap (state_at k) (kept_at (λ (x : Seat). queued_on x.status) k.seats t (record (seat_at k t) { status = Stopped }) no_seat (sym (ready-queued_on_nothing (seat_at k t).status ready)) u)
+      ap (state_at k) (kept_at (λ (x : Seat). queued_on x.status) k.seats t
+      (record (seat_at k t) { status = Stopped }) no_seat (sym (ready-queued_on_nothing (seat_at k t).status ready)) u)
 
   base_stopped : (u : ℕ) → (seat_at (kernel_after_stop t k) u).base ≡ (seat_at k u).base
   unfolding kernel_after_stop

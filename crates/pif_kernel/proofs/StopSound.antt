@@ -17,8 +17,11 @@ use Rattle.pif_kernel.proofs.Picked.{levels_left, length-left}
 use Rattle.pif_kernel.proofs.Standing.{fits, listed_kept}
 use Rattle.pif_kernel.proofs.StopLaws.{effective_stopped}
 
-module _ (p : Plain) (q : Queue) (tb : Table) (t : ℕ) (h : IsSound p) (added : has_seat (kernel_of p) t ≡ true) (ready : is_ready (kernel_seat_at (kernel_of p) t).status ≡ true)
-    (place : q ≡ record p.queue { mask = q.mask }) (levels : (r : ℕ) → IsLevel r → level_of q tb r ≡ without t (level_of p.queue p.table r)) (holds : Holds q tb) (count : length tb.lists ≡ length p.table.lists) where
+module _ (p : Plain) (q : Queue) (tb : Table) (t : ℕ) (h : IsSound p) (added : has_seat (kernel_of p) t ≡ true)
+    (ready : is_ready (kernel_seat_at (kernel_of p) t).status ≡ true)
+    (place : q ≡ record p.queue { mask = q.mask })
+    (levels : (r : ℕ) → IsLevel r → level_of q tb r ≡ without t (level_of p.queue p.table r)) (holds : Holds q tb)
+    (count : length tb.lists ≡ length p.table.lists) where
   -- what is kept then
   abbrev pub after : Plain
   after = record p { statuses = set p.statuses t Stopped; queue = q; table = tb }
@@ -32,7 +35,8 @@ module _ (p : Plain) (q : Queue) (tb : Table) (t : ℕ) (h : IsSound p) (added :
   pub kernel_after : kernel_of after ≡ kernel_after_stop t (kernel_of p)
   unfolding kernel_of kernel_after_stop
   kernel_after =
-      kernel_by_parts (kernel_of after) (kernel_after_stop t (kernel_of p)) refl (seats_of-set_status p.statuses p.owners.seats t Stopped (fits p h).few) refl (λ m. refl) refl
+      kernel_by_parts (kernel_of after) (kernel_after_stop t (kernel_of p)) refl
+      (seats_of-set_status p.statuses p.owners.seats t Stopped (fits p h).few) refl (λ m. refl) refl
       (length-left p after t) (levels_left p after t levels)
 
   kept : IsKernel (kernel_of after)
@@ -42,7 +46,8 @@ module _ (p : Plain) (q : Queue) (tb : Table) (t : ℕ) (h : IsSound p) (added :
   long = length-set p.statuses t Stopped
 
   effective_after : (u : ℕ) → effective_in (kernel_of p) u ≡ effective_in (kernel_of after) u
-  effective_after u = sym (ap (λ (k : Kernel). effective_in k u) kernel_after ∙ effective_stopped (kernel_of p) t ready u)
+  effective_after u =
+      sym (ap (λ (k : Kernel). effective_in k u) kernel_after ∙ effective_stopped (kernel_of p) t ready u)
 
   fit_after : IsFitted after
   fit_after = record {

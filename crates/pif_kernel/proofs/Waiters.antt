@@ -24,7 +24,9 @@ has_waiter-key p h m some = by_test (has_waiter p.arrivals m) refl
     by_test : (b : Bool) → has_waiter p.arrivals m ≡ b → has_waiter p.arrivals m ≡ true
     by_test true e = e
     by_test false e =
-        let none : (kernel_state_at (kernel_of p) m == 0) ≡ true = h.kernel.states m ∙ ap (λ (ws : List (ℕ × ℕ)). if has_waiter ws m then false else true) (waiters_seen p) ∙ rw e refl in
+        let none : (kernel_state_at (kernel_of p) m == 0) ≡ true
+        = h.kernel.states m ∙ ap (λ (ws : List (ℕ × ℕ)). if has_waiter ws m then false else true) (waiters_seen p)
+        ∙ rw e refl in
         let zero : kernel_state_at (kernel_of p) m ≡ 0 = grind (arith, nat_tests) in
         absurd (some (sym (states_seen p m) ∙ zero))
 
@@ -34,7 +36,9 @@ no_key-no_waiter p h m none = by_test (has_waiter p.arrivals m) refl
     by_test : (b : Bool) → has_waiter p.arrivals m ≡ b → has_waiter p.arrivals m ≡ false
     by_test false e = e
     by_test true e =
-        let some : (kernel_state_at (kernel_of p) m == 0) ≡ false = h.kernel.states m ∙ ap (λ (ws : List (ℕ × ℕ)). if has_waiter ws m then false else true) (waiters_seen p) ∙ rw e refl in
+        let some : (kernel_state_at (kernel_of p) m == 0) ≡ false
+        = h.kernel.states m ∙ ap (λ (ws : List (ℕ × ℕ)). if has_waiter ws m then false else true) (waiters_seen p)
+        ∙ rw e refl in
         let zero : kernel_state_at (kernel_of p) m ≡ 0 = states_seen p m ∙ none in
         let yes : (kernel_state_at (kernel_of p) m == 0) ≡ true = grind (arith, nat_tests) in
         absurd (true≢false (sym yes ∙ some))
@@ -44,7 +48,8 @@ pub names_pair : (ws : List (ℕ × ℕ)) (t : ℕ) → names t ws ≡ true → 
 names_pair [] t e = absurd (false≢true e)
 names_pair (w ∷ ws) t e = by_head (cases_eq w.0 t) e (names_pair ws t)
   where
-    by_head : ((w.0 ≡ t) ⊎ (w.0 ≡ t → ⊥)) → names t (w ∷ ws) ≡ true → (names t ws ≡ true → (n : ℕ) × (is_waiter ws t n ≡ true)) → (n : ℕ) × (is_waiter (w ∷ ws) t n ≡ true)
+    by_head : ((w.0 ≡ t) ⊎ (w.0 ≡ t → ⊥)) → names t (w ∷ ws) ≡ true
+        → (names t ws ≡ true → (n : ℕ) × (is_waiter ws t n ≡ true)) → (n : ℕ) × (is_waiter (w ∷ ws) t n ≡ true)
     by_head (inl same) e ih = (w.1, is_among_here w ws t w.1 same refl)
     by_head (inr other) e ih =
         let apart : (w.0 == t) ≡ false = grind (arith, nat_tests) in
@@ -61,8 +66,11 @@ key_some p n some = by_key (key_at p n) refl
 pub waits_some : (p : Plain) → IsSound p → (t : ℕ) → names t p.arrivals ≡ true → IsSome (waits_on p.owners t)
 waits_some p h t e =
     let r = names_pair p.arrivals t e in
-    let status : status_at p t ≡ Queued r.0 = sym (status_seen p (fits p h) t) ∙ h.kernel.queue t r.0 (subst (λ (ws : List (ℕ × ℕ)). is_waiter ws t r.0 ≡ true) (sym (waiters_seen p)) r.1) in
-    let some : state_at p r.0 ≢ 0 = λ z. true≢false (sym (has_waiter-from_pair p.arrivals t r.0 r.1) ∙ no_key-no_waiter p h r.0 z) in
+    let status : status_at p t ≡ Queued r.0
+    = sym (status_seen p (fits p h) t)
+    ∙ h.kernel.queue t r.0 (subst (λ (ws : List (ℕ × ℕ)). is_waiter ws t r.0 ≡ true) (sym (waiters_seen p)) r.1) in
+    let some : state_at p r.0 ≢ 0
+    = λ z. true≢false (sym (has_waiter-from_pair p.arrivals t r.0 r.1) ∙ no_key-no_waiter p h r.0 z) in
     ap is_some (h.placed.waits t ∙ ap (λ (x : Status). key_at p (queued_on x)) status) ∙ key_some p r.0 some
 
 -- and who waits is among them
@@ -72,36 +80,55 @@ waits_named p h u k e = by_status (status_at p u) refl (sym (h.placed.waits u) �
     none : (x : Status) → queued_on x ≡ 0 → key_at p (queued_on x) ≡ Some k → names u p.arrivals ≡ true
     none x z f = let both : None ≡ Some k = sym h.placed.no_mutex ∙ ap (key_at p) (sym z) ∙ f in cc
 
-    by_status : (x : Status) → status_at p u ≡ x → key_at p (queued_on (status_at p u)) ≡ Some k → names u p.arrivals ≡ true
+    by_status : (x : Status) → status_at p u ≡ x → key_at p (queued_on (status_at p u)) ≡ Some k
+        → names u p.arrivals ≡ true
     by_status (Ready w) s f = none (status_at p u) (ap queued_on s) f
     by_status Stopped s f = none (status_at p u) (ap queued_on s) f
     by_status (Queued n) s f =
-        named-from_pair p.arrivals u n (subst (λ (ws : List (ℕ × ℕ)). is_waiter ws u n ≡ true) (waiters_seen p) (h.kernel.queued u n (status_seen p (fits p h) u ∙ s)))
+        named-from_pair p.arrivals u n (subst (λ (ws : List (ℕ × ℕ)). is_waiter ws u n ≡ true) (waiters_seen p)
+        (h.kernel.queued u n (status_seen p (fits p h) u ∙ s)))
 
 -- who is among the arrivals was added
 pub named_known : (p : Plain) → IsSound p → (u : ℕ) → names u p.arrivals ≡ true → (u ≢ 0) × (u < length p.statuses)
-named_known p h u e = (λ z. nobody z (waits_some p h u e), by_place (cases_lt u (length p.statuses)) (waits_some p h u e))
+named_known p h u e =
+    (λ z. nobody z (waits_some p h u e), by_place (cases_lt u (length p.statuses)) (waits_some p h u e))
   where
     nobody : u ≡ 0 → IsSome (waits_on p.owners u) → ⊥
-    nobody z s = false≢true (sym (ap (λ (v : ℕ). is_some (waits_on p.owners v)) z ∙ ap (λ (x : Seat). is_some (option_map (λ (w : Wait). w.state) x.wait)) h.placed.nobody) ∙ s)
+    nobody z s =
+        false≢true (sym (ap (λ (v : ℕ). is_some (waits_on p.owners v)) z
+        ∙ ap (λ (x : Seat). is_some (option_map (λ (w : Wait). w.state) x.wait)) h.placed.nobody) ∙ s)
 
-    by_place : ((u < length p.statuses) ⊎ (length p.statuses ≤ u)) → IsSome (waits_on p.owners u) → u < length p.statuses
+    by_place : ((u < length p.statuses) ⊎ (length p.statuses ≤ u)) → IsSome (waits_on p.owners u)
+        → u < length p.statuses
     by_place (inl l) s = l
-    by_place (inr g) s = absurd (false≢true (sym (ap (λ (x : Seat). is_some (option_map (λ (w : Wait). w.state) x.wait)) (h.placed.free u g)) ∙ s))
+    by_place (inr g) s =
+        absurd (false≢true (sym (ap (λ (x : Seat). is_some (option_map (λ (w : Wait). w.state) x.wait))
+        (h.placed.free u g)) ∙ s))
 
 pub arrivals_few : (p : Plain) → IsSound p → length p.arrivals ≤ 1024
 arrivals_few p h =
-    omega (arith, few_named p.arrivals (length p.statuses) h.placed.some (rise_once (ticket_of p.owners) 1 p.arrivals p.next h.placed.tickets) (λ u e. named_known p h u e), h.placed.few, h.placed.within.threads)
+    omega (
+      arith,
+      few_named p.arrivals (length p.statuses) h.placed.some
+          (rise_once (ticket_of p.owners) 1 p.arrivals p.next h.placed.tickets)
+          (λ u e. named_known p h u e),
+      h.placed.few,
+      h.placed.within.threads,
+    )
 
 -- a ready thread is queued on nothing
-pub ready_idle : (p : Plain) → IsSound p → (t : ℕ) → is_ready (kernel_seat_at (kernel_of p) t).status ≡ true → queued_on (status_at p t) ≡ 0
-ready_idle p h t ready = ready-queued_on_nothing (status_at p t) (ap is_ready (sym (status_seen p (fits p h) t)) ∙ ready)
+pub ready_idle : (p : Plain) → IsSound p → (t : ℕ) → is_ready (kernel_seat_at (kernel_of p) t).status ≡ true
+    → queued_on (status_at p t) ≡ 0
+ready_idle p h t ready =
+    ready-queued_on_nothing (status_at p t) (ap is_ready (sym (status_seen p (fits p h) t)) ∙ ready)
 
 -- and so waits for nothing
-pub ready_free : (p : Plain) → IsSound p → (t : ℕ) → is_ready (kernel_seat_at (kernel_of p) t).status ≡ true → waits_on p.owners t ≡ None
+pub ready_free : (p : Plain) → IsSound p → (t : ℕ) → is_ready (kernel_seat_at (kernel_of p) t).status ≡ true
+    → waits_on p.owners t ≡ None
 ready_free p h t ready = h.placed.waits t ∙ ap (key_at p) (ready_idle p h t ready) ∙ h.placed.no_mutex
 
-pub ready_unnamed : (p : Plain) → IsSound p → (t : ℕ) → is_ready (kernel_seat_at (kernel_of p) t).status ≡ true → names t p.arrivals ≡ false
+pub ready_unnamed : (p : Plain) → IsSound p → (t : ℕ) → is_ready (kernel_seat_at (kernel_of p) t).status ≡ true
+    → names t p.arrivals ≡ false
 ready_unnamed p h t ready = by_test (names t p.arrivals) refl
   where
     by_test : (b : Bool) → names t p.arrivals ≡ b → names t p.arrivals ≡ false
@@ -109,10 +136,16 @@ ready_unnamed p h t ready = by_test (names t p.arrivals) refl
     by_test true e = absurd (false≢true (sym (ap is_some (ready_free p h t ready)) ∙ waits_some p h t e))
 
 -- while a thread is ready, there is room for one more owner state, and for one more waiter
-pub room_for : (p : Plain) → IsSound p → (t : ℕ) → has_seat (kernel_of p) t ≡ true → is_ready (kernel_seat_at (kernel_of p) t).status ≡ true
+pub room_for : (p : Plain) → IsSound p → (t : ℕ) → has_seat (kernel_of p) t ≡ true
+    → is_ready (kernel_seat_at (kernel_of p) t).status ≡ true
     → (count p.owners + 1 < length p.owners.seats) × (length p.arrivals < p.limits.threads)
 room_for p h t added ready =
     let a = added_seen p (fits p h) t added in
     let few : length p.arrivals + 2 ≤ length p.statuses
-    = few_waiters p.arrivals (length p.statuses) t h.placed.some a.0 a.1 (rise_once (ticket_of p.owners) 1 p.arrivals p.next h.placed.tickets) (ready_unnamed p h t ready) (λ q e. named_known p h q e) in
-    (omega (arith, few, h.placed.count, mutexes_few p.arrivals, h.placed.few, h.placed.rows), omega (arith, few, h.placed.few))
+    = few_waiters p.arrivals (length p.statuses) t h.placed.some a.0 a.1
+    (rise_once (ticket_of p.owners) 1 p.arrivals p.next h.placed.tickets) (ready_unnamed p h t ready)
+    (λ q e. named_known p h q e) in (
+      omega (arith, few, h.placed.count, mutexes_few p.arrivals, h.placed.few, h.placed.rows),
+      omega
+          (arith, few, h.placed.few),
+    )

@@ -25,28 +25,35 @@ use Rattle.pif_kernel.proofs.Picked.{levels_seen, levels_count, among_has}
 use Rattle.pif_kernel.proofs.Standing.{listed_kept, level_same}
 use Rattle.pif_kernel.proofs.LevelLaws.{levels_settled}
 
-wait_state : (n : ℕ) (o : Option Wait) → option_map (λ (w : Wait). w.state) (option_map (with_rank_priority n) o) ≡ option_map (λ (w : Wait). w.state) o
+wait_state : (n : ℕ) (o : Option Wait)
+    → option_map (λ (w : Wait). w.state) (option_map (with_rank_priority n) o) ≡ option_map (λ (w : Wait). w.state) o
 wait_state n None = refl
 wait_state n (Some w) = refl
 
-wait_ticket : (n : ℕ) (o : Option Wait) → option_map (λ (r : Key). r.ticket) (option_map (λ (w : Wait). w.rank) (option_map (with_rank_priority n) o)) ≡ option_map (λ (r : Key). r.ticket) (option_map (λ (w : Wait). w.rank) o)
+wait_ticket : (n : ℕ) (o : Option Wait)
+    → option_map (λ (r : Key). r.ticket) (option_map (λ (w : Wait). w.rank) (option_map (with_rank_priority n) o))
+    ≡ option_map (λ (r : Key). r.ticket) (option_map (λ (w : Wait). w.rank) o)
 wait_ticket n None = refl
 wait_ticket n (Some w) = refl
 
-wait_prio : (n : ℕ) (o : Option Wait) (r : Key) → option_map (λ (w : Wait). w.rank) (option_map (with_rank_priority n) o) ≡ Some r → r.prio ≡ n
+wait_prio : (n : ℕ) (o : Option Wait) (r : Key)
+    → option_map (λ (w : Wait). w.rank) (option_map (with_rank_priority n) o) ≡ Some r → r.prio ≡ n
 wait_prio n None r e = cc
-wait_prio n (Some w) r e = let same : record { prio = n; ticket = w.rank.ticket } ≡ r = cc in sym (ap (λ (k : Key). k.prio) same)
+wait_prio n (Some w) r e =
+    let same : record { prio = n; ticket = w.rank.ticket } ≡ r = cc in sym (ap (λ (k : Key). k.prio) same)
 
 -- the owner states and the kernel by itself have the same effective priorities
 pub owners_effective : (p : Plain) → IsFitted p → (u : ℕ) → greatest_base p.owners u ≡ effective_in (kernel_of p) u
 owners_effective p fit u =
     effective_same _ _ _ _ _ _ u refl (λ x. owners_waits p fit x) (λ x. sym (base_seen p fit x))
-    ∙ effective_wider (length (kernel_of p).seats) (length p.owners.seats) (waits_for (kernel_of p)) (λ x. (kernel_seat_at (kernel_of p) x).base) u
+    ∙ effective_wider (length (kernel_of p).seats) (length p.owners.seats) (waits_for (kernel_of p))
+    (λ x. (kernel_seat_at (kernel_of p) x).base) u
     (omega (arith, fit.few, seats_length p fit)) (λ x some. waits_below p fit x)
     (λ x le. base_seen p fit x ∙ ap (λ (s : Seat). s.base) (fit.free x (omega (arith, le, seats_length p fit))))
 
 module _ (p : Plain) (h : IsPlaced p) (now : Owners) (q : Queue) (tb : Table) (repaired : IsRepaired p.owners now)
-    (walks : (r : ℕ) → IsLevel r → level_of q tb r ≡ level_after_walk p.owners p.queue p.table r) (place : q ≡ record p.queue { mask = q.mask }) (holds : Holds q tb)
+    (walks : (r : ℕ) → IsLevel r → level_of q tb r ≡ level_after_walk p.owners p.queue p.table r)
+    (place : q ≡ record p.queue { mask = q.mask }) (holds : Holds q tb)
     (lists : length tb.lists ≡ length p.table.lists) where
   abbrev pub after : Plain
   after = record p { owners = now; queue = q; table = tb }
@@ -60,7 +67,10 @@ module _ (p : Plain) (h : IsPlaced p) (now : Owners) (q : Queue) (tb : Table) (r
   -- of who was never added
   effective_out : (u : ℕ) → length p.statuses ≤ u → effective_in (kernel_of p) u ≡ 0
   effective_out u le =
-      let none : effective_in (kernel_of p) u ≤ 0 = effective_most _ _ _ u 0 (λ x l e. absurd (past x l (reach_below (waits_for (kernel_of p)) (length (kernel_of p).seats) (waits_below p fit) (reaches-from_within _ _ x u e) l))) in
+      let none : effective_in (kernel_of p) u ≤ 0
+      = effective_most _ _ _ u 0 (λ x l e. absurd
+      (past x l (reach_below (waits_for (kernel_of p)) (length (kernel_of p).seats) (waits_below p fit)
+      (reaches-from_within _ _ x u e) l))) in
       omega (arith, none)
     where
       past : (x : ℕ) → x < length (kernel_of p).seats → u < length (kernel_of p).seats → ⊥
@@ -68,17 +78,27 @@ module _ (p : Plain) (h : IsPlaced p) (now : Owners) (q : Queue) (tb : Table) (r
 
   effective_zero : effective_in (kernel_of p) 0 ≡ 0
   effective_zero =
-      let none : effective_in (kernel_of p) 0 ≤ 0 = effective_most _ _ _ 0 0 (λ x l e. only x (nobody (waits_for (kernel_of p)) refl (reaches-from_within _ _ x 0 e))) in
+      let none : effective_in (kernel_of p) 0 ≤ 0
+      = effective_most _ _ _ 0 0 (λ x l e. only x
+      (nobody (waits_for (kernel_of p)) refl (reaches-from_within _ _ x 0 e))) in
       omega (arith, none)
     where
       only : (x : ℕ) → x ≡ 0 → (kernel_seat_at (kernel_of p) x).base ≤ 0
-      only x z = omega (arith, base_seen p fit x, ap (λ (y : ℕ). (seat_at p.owners y).base) z, ap (λ (s : Seat). s.base) h.nobody)
+      only x z =
+          omega (
+            arith,
+            base_seen p fit x,
+            ap (λ (y : ℕ). (seat_at p.owners y).base) z,
+            ap
+                (λ (s : Seat). s.base) h.nobody,
+          )
 
   -- each seat is the one that it was, boosted
   seat_now : (u : ℕ) → seat_at now u ≡ with_effective (effective_in (kernel_of p) u) (seat_at p.owners u)
   seat_now u = by_place (cases_lt u (length p.owners.seats))
     where
-      by_place : ((u < length p.owners.seats) ⊎ (length p.owners.seats ≤ u)) → seat_at now u ≡ with_effective (effective_in (kernel_of p) u) (seat_at p.owners u)
+      by_place : ((u < length p.owners.seats) ⊎ (length p.owners.seats ≤ u))
+          → seat_at now u ≡ with_effective (effective_in (kernel_of p) u) (seat_at p.owners u)
       by_place (inl l) = repaired.seats u l ∙ ap (λ (n : ℕ). with_effective n (seat_at p.owners u)) (effective_seen u)
       by_place (inr g) =
           let past : seat_at p.owners u ≡ no_seat = get_or_past p.owners.seats u no_seat g in
@@ -93,15 +113,19 @@ module _ (p : Plain) (h : IsPlaced p) (now : Owners) (q : Queue) (tb : Table) (r
   nobody_now u z e = seat_now u ∙ rw (z, e) refl
 
   waits_now : (u : ℕ) → waits_on now u ≡ waits_on p.owners u
-  waits_now u = ap (λ (s : Seat). option_map (λ (w : Wait). w.state) s.wait) (seat_now u) ∙ wait_state _ (seat_at p.owners u).wait
+  waits_now u =
+      ap (λ (s : Seat). option_map (λ (w : Wait). w.state) s.wait) (seat_now u) ∙ wait_state _ (seat_at p.owners u).wait
 
   ticket_now : (u : ℕ) → ticket_of p.owners u ≡ ticket_of now u
   ticket_now u =
       ap (λ (o : Option ℕ). unwrap_or o 0)
-      (sym (ap (λ (s : Seat). option_map (λ (r : Key). r.ticket) (option_map (λ (w : Wait). w.rank) s.wait)) (seat_now u) ∙ wait_ticket _ (seat_at p.owners u).wait))
+      (sym (ap (λ (s : Seat). option_map (λ (r : Key). r.ticket) (option_map (λ (w : Wait). w.rank) s.wait))
+      (seat_now u) ∙ wait_ticket _ (seat_at p.owners u).wait))
 
   rank_now : (u : ℕ) (r : Key) → rank_of now u ≡ Some r → r.prio ≡ effective_in (kernel_of p) u
-  rank_now u r e = wait_prio (effective_in (kernel_of p) u) (seat_at p.owners u).wait r (sym (ap (λ (s : Seat). option_map (λ (w : Wait). w.rank) s.wait) (seat_now u)) ∙ e)
+  rank_now u r e =
+      wait_prio (effective_in (kernel_of p) u) (seat_at p.owners u).wait r
+      (sym (ap (λ (s : Seat). option_map (λ (w : Wait). w.rank) s.wait) (seat_now u)) ∙ e)
 
   owner_now : (k : ℕ) → owner_at now k ≡ owner_at p.owners k
   owner_now k = ap (λ m. owner_at (record { seats = now.seats; owners = m }) k) repaired.owners
@@ -112,18 +136,24 @@ module _ (p : Plain) (h : IsPlaced p) (now : Owners) (q : Queue) (tb : Table) (r
   off : (u r : ℕ) → length (kernel_of p).seats - 1 < u → is_among (level_at (kernel_of p).levels r) u ≡ false
   off u r l = by_test (is_among (level_at (kernel_of p).levels r) u) refl
     where
-      by_test : (b : Bool) → is_among (level_at (kernel_of p).levels r) u ≡ b → is_among (level_at (kernel_of p).levels r) u ≡ false
+      by_test : (b : Bool) → is_among (level_at (kernel_of p).levels r) u ≡ b
+          → is_among (level_at (kernel_of p).levels r) u ≡ false
       by_test false e = e
-      by_test true e = let w = within u (length (kernel_of p).seats) (h.listed u r e).added in absurd (omega (arith, l, w.1))
+      by_test true e =
+          let w = within u (length (kernel_of p).seats) (h.listed u r e).added in absurd (omega (arith, l, w.1))
 
   pub kernel_after : kernel_of after ≡ settled (kernel_of p)
   unfolding kernel_of
   kernel_after =
-      kernel_by_parts (kernel_of after) (settled (kernel_of p)) refl (seats_of-same_base p.statuses p.owners.seats now.seats repaired.threads base_now)
-      (states_length after ∙ sym (states_length p)) (λ m. states_seen after m ∙ state_now m ∙ sym (states_seen p m)) refl
+      kernel_by_parts (kernel_of after) (settled (kernel_of p)) refl
+      (seats_of-same_base p.statuses p.owners.seats now.seats repaired.threads base_now)
+      (states_length after ∙ sym (states_length p))
+      (λ m. states_seen after m ∙ state_now m ∙ sym (states_seen p m)) refl
       (levels_count after ∙ sym (length-levels_by _))
       (λ r. levels_seen after r
-      ∙ levels_settled p.owners p.queue p.table (kernel_of p).levels (length (kernel_of p).seats - 1) (effective_in (kernel_of p)) h.holds (levels_seen p) effective_seen (omega (arith, fit.few, seats_length p fit)) off q tb walks r)
+      ∙ levels_settled p.owners p.queue p.table (kernel_of p).levels (length (kernel_of p).seats - 1)
+      (effective_in (kernel_of p)) h.holds (levels_seen p) effective_seen
+      (omega (arith, fit.few, seats_length p fit)) off q tb walks r)
 
   fit_after : IsFitted after
   fit_after = record {
@@ -183,24 +213,30 @@ pub record IsWalkable (p : Plain) (start : ℕ) (k : Kernel) : Type 0 where
 module _ (p : Plain) (start : ℕ) (k : Kernel) (w : IsWalkable p start k) where
   -- who is on a level stands on its own
   listed : (u r : ℕ) → IsLevel r → has u (level_of p.queue p.table r) ≡ true → IsListed p u r
-  listed u r l on = w.placed.listed u r (among_has (level_at (kernel_of p).levels r) u ∙ ap (has u) (level_same p r l) ∙ on)
+  listed u r l on =
+      w.placed.listed u r (among_has (level_at (kernel_of p).levels r) u ∙ ap (has u) (level_same p r l) ∙ on)
 
   -- so it was admitted
   pub on_levels : (u : ℕ) → IsQueued p.queue p.table u → 1 ≤ base_of p.owners u
-  on_levels u on = let a = added_seen p (fitted p w.placed) u (listed u on.0 on.1 on.2).added in w.placed.admitted u a.0 a.1
+  on_levels u on =
+      let a = added_seen p (fitted p w.placed) u (listed u on.0 on.1 on.2).added in w.placed.admitted u a.0 a.1
 
   -- waits for nobody
   pub on_running : (u : ℕ) → IsQueued p.queue p.table u → waits_on p.owners u ≡ None
-  on_running u on = w.placed.waits u ∙ ap (key_at p) (ready-queued_on_nothing (status_at p u) (listed u on.0 on.1 on.2).ready) ∙ w.placed.no_mutex
+  on_running u on =
+      w.placed.waits u ∙ ap (key_at p) (ready-queued_on_nothing (status_at p u) (listed u on.0 on.1 on.2).ready)
+      ∙ w.placed.no_mutex
 
   -- and is on the level of its effective priority
   pub on_local : (u r : ℕ) → IsLevel r → has u (level_of p.queue p.table r) ≡ true → r ≡ local_of p.owners u
   on_local u r l on = sym (listed u r l on).local
 
   -- what is kept after the walk
-  pub ended : (now : Owners) (q : Queue) (tb : Table) → IsRepaired p.owners now → ((r : ℕ) → IsLevel r → level_of q tb r ≡ level_after_walk p.owners p.queue p.table r)
+  pub ended : (now : Owners) (q : Queue) (tb : Table) → IsRepaired p.owners now
+      → ((r : ℕ) → IsLevel r → level_of q tb r ≡ level_after_walk p.owners p.queue p.table r)
       → q ≡ record p.queue { mask = q.mask } → Holds q tb → length tb.lists ≡ length p.table.lists
-      → (kernel_of (record p { owners = now; queue = q; table = tb }) ≡ k) × IsSound (record p { owners = now; queue = q; table = tb })
+      → (kernel_of (record p { owners = now; queue = q; table = tb }) ≡ k) × IsSound
+      (record p { owners = now; queue = q; table = tb })
   ended now q tb repaired walks place holds lists = (
     kernel_after p w.placed now q tb repaired walks place holds lists ∙ w.after,
     sound_after p w.placed now q tb repaired walks place holds lists (subst IsKernel (sym w.after) w.kept),

@@ -147,5 +147,6 @@ pub record IsSound (p : Plain) : Type 0 where
 -- what is kept once there is an owner state of m, under this key: the one that there was, or a new one of this owner
 pub data IsOpened (old now : Plain) (m owner key : ℕ) : Type 0 where
   found : key_at old m ≡ Some key → now ≡ old → IsOpened old now m owner key
-  made : key_at old m ≡ None → owner_at old.owners key ≡ None → now ≡ record old { keys = set old.keys m (Some key); owners = with_owner key owner old.owners }
+  made : key_at old m ≡ None → owner_at old.owners key ≡ None
+      → now ≡ record old { keys = set old.keys m (Some key); owners = with_owner key owner old.owners }
       → count now.owners ≡ count old.owners + 1 → IsOpened old now m owner key

@@ -17,19 +17,27 @@ use Rattle.pif_kernel.proofs.parts.Parts.hand_over.Goals as goal
 -- what is known before the mutex is handed over
 hands : (c : Start) (p : Plain) → p ≡ c.args.self.now → IsHandable p c.args.holder c.args.m c.args.key
 hands c p is =
-    subst (λ (x : Plain). IsHandable x c.args.holder c.args.m c.args.key) (sym is) (record { sound = c.requires.sound; at = c.requires.key; owner = c.requires.owner; ready = c.requires.ready })
+    subst (λ (x : Plain). IsHandable x c.args.holder c.args.m c.args.key) (sym is)
+    (record { sound = c.requires.sound; at = c.requires.key; owner = c.requires.owner; ready = c.requires.ready })
 
 -- the other waiters, and whether one of them waits for the mutex
-others : (c : After-any) → (c.deref.result.now ≡ without c.self.inside.arrivals.items c.hand_over-next.result) × (c.any.result ≡ has_waiter c.deref.result.now c.args.m)
+others : (c : After-any)
+    → (c.deref.result.now ≡ without c.self.inside.arrivals.items c.hand_over-next.result) ×
+    (c.any.result ≡ has_waiter c.deref.result.now c.args.m)
 others c = (
-  c.deref.ensures.value ∙ filter_same _ (λ (w : ℕ × ℕ). if w.0 == c.hand_over-next.result then false else true) _ (λ x b f' k. (search (rules, tests), search rules)) _ _ c.retain.ensures.filtered,
-  any_from_yields_List (λ (w : ℕ × ℕ). w.1 == c.args.m) _ _ _ c.any.ensures.ran (YieldsList-from_slice c.deref.result.now c.iter.ensures.rest) (λ x b q k. search (rules, tests)),
+  c.deref.ensures.value
+      ∙ filter_same _ (λ (w : ℕ × ℕ). if w.0 == c.hand_over-next.result then false else true) _
+      (λ x b f' k. (search (rules, tests), search rules)) _ _ c.retain.ensures.filtered,
+  any_from_yields_List (λ (w : ℕ × ℕ). w.1 == c.args.m) _ _ _ c.any.ensures.ran
+      (YieldsList-from_slice c.deref.result.now c.iter.ensures.rest) (λ x b q k. search (rules, tests)),
 )
 
 -- what is known once it is handed over
 handed : (c : Joined-not-any) → IsHandable (plain_of c.self.inside) c.args.holder c.args.m c.args.key
-    → (c.deref.result.now ≡ without c.self.inside.arrivals.items c.hand_over-next.result) × (c.any.result ≡ has_waiter c.deref.result.now c.args.m)
-    → IsHandedOn c.args.self.now (plain_of c.self.inside) (plain_of c.if-not-any.self-inside) c.args.holder c.args.m c.args.key c.hand_over-next.result
+    → (c.deref.result.now ≡ without c.self.inside.arrivals.items c.hand_over-next.result) ×
+    (c.any.result ≡ has_waiter c.deref.result.now c.args.m)
+    → IsHandedOn c.args.self.now (plain_of c.self.inside)
+    (plain_of c.if-not-any.self-inside) c.args.holder c.args.m c.args.key c.hand_over-next.result
 handed c d r =
     let p : Plain = plain_of c.self.inside in
     let x : Plain = plain_of c.if-not-any.self-inside in
@@ -37,12 +45,23 @@ handed c d r =
     let top = c.hand_over-next.ensures.top in
     let given : IsGiven p x u c.args.m c.args.key = elim c.if-not-any.branch [
       | then-not-any w ↦
-          ended_given p c.args.holder c.args.m c.args.key u d top x c.hand_over-next.new.self w.end.new.self w.get.result c.deref.result.now c.any.result
-          (ap plain_of w.self-inside-is ∙ ap (λ (l : List (ℕ × ℕ)). record p { keys = set p.keys w.get.result None; owners = w.end.new.self; arrivals = l }) (sym c.deref.ensures.value))
-          r.0 r.1 w.if-not-any.true w.get.ensures.value c.hand_over-next.ensures.handed w.end.ensures.ended w.end.ensures.count
+          ended_given p c.args.holder c.args.m c.args.key u d top x c.hand_over-next.new.self w.end.new.self
+          w.get.result c.deref.result.now c.any.result
+          (ap plain_of w.self-inside-is
+          ∙ ap (λ (l : List (ℕ × ℕ)). record p {
+            keys = set p.keys w.get.result None;
+            owners = w.end.new.self;
+            arrivals
+                = l;
+          }) (sym c.deref.ensures.value))
+          r.0 r.1 w.if-not-any.true w.get.ensures.value c.hand_over-next.ensures.handed w.end.ensures.ended
+          w.end.ensures.count
       | else-not-any w ↦
-          still_given p c.args.holder c.args.m c.args.key u d top x c.hand_over-next.new.self c.deref.result.now c.any.result
-          (ap plain_of w.self-inside-is ∙ ap (λ (l : List (ℕ × ℕ)). record p { owners = c.hand_over-next.new.self; arrivals = l }) (sym c.deref.ensures.value))
+          still_given p c.args.holder c.args.m c.args.key u d top x c.hand_over-next.new.self c.deref.result.now
+          c.any.result
+          (ap plain_of w.self-inside-is
+          ∙ ap (λ (l : List (ℕ × ℕ)). record p { owners = c.hand_over-next.new.self; arrivals = l })
+          (sym c.deref.ensures.value))
           r.0 r.1 w.if-not-any.false c.hand_over-next.ensures.handed
     ] in
     handing p c.args.holder c.args.m c.args.key u d top c.args.self.now x c.self.view_is given
@@ -58,8 +77,13 @@ end-requires c =
     let d = hands a.Start _ c.self.view_is in
     let r = others a.After-any in
     rw c.hand_over-next.ensures.handed (record {
-      state = given_state (plain_of c.self.inside) c.args.holder c.args.m c.args.key c.hand_over-next.result d c.hand_over-next.ensures.top;
-      free = given_idle (plain_of c.self.inside) c.args.holder c.args.m c.args.key c.hand_over-next.result d c.hand_over-next.ensures.top (sym (ap (λ (l : List (ℕ × ℕ)). has_waiter l c.args.m) r.0) ∙ sym r.1 ∙ c.if-not-any.true);
+      state =
+          given_state (plain_of c.self.inside) c.args.holder c.args.m c.args.key c.hand_over-next.result d
+          c.hand_over-next.ensures.top;
+      free =
+          given_idle (plain_of c.self.inside) c.args.holder c.args.m c.args.key c.hand_over-next.result d
+          c.hand_over-next.ensures.top (sym (ap (λ (l : List (ℕ × ℕ)). has_waiter l c.args.m) r.0) ∙ sym r.1
+          ∙ c.if-not-any.true);
     })
 
 pub unwrap-level-requires : goal.unwrap-level-requires
@@ -74,24 +98,50 @@ add-requires-clause-free c =
     free _ _ _ _ _ _ _ (handed a.Joined-not-any (hands a.Start _ c.self.view_is) (others a.After-any))
 
 -- what is kept before the walk
-added : (c : After-add) → IsHandedOn c.args.self.now (plain_of c.self.inside) (plain_of c.if-not-any.self-inside) c.args.holder c.args.m c.args.key c.hand_over-next.result
-    → IsWalkable (record (plain_of c.if-not-any.self-inside) { statuses = set c.if-not-any.self-inside.statuses.items c.hand_over-next.result (Ready Owns); queue = c.add.new.self; table = c.add.new.table })
+added : (c : After-add)
+    → IsHandedOn c.args.self.now (plain_of c.self.inside)
+    (plain_of c.if-not-any.self-inside) c.args.holder c.args.m c.args.key c.hand_over-next.result
+    → IsWalkable (record (plain_of c.if-not-any.self-inside) {
+      statuses = set c.if-not-any.self-inside.statuses.items
+          c.hand_over-next.result (Ready Owns);
+      queue = c.add.new.self;
+      table = c.add.new.table;
+    })
     c.args.holder (kernel_after_hand_over c.hand_over-next.result c.args.m (kernel_of c.args.self.now))
 added c i =
     let value = rw c.unwrap-level.ensures at c.local.ensures.value in
-    before_walk _ _ _ _ _ _ _ i c.unwrap-level.result c.add.new.self c.add.new.table value c.add.ensures.place c.add.ensures.levels c.add.ensures.holds c.add.ensures.outside.count
+    before_walk _ _ _ _ _ _ _ i c.unwrap-level.result c.add.new.self c.add.new.table value c.add.ensures.place
+    c.add.ensures.levels c.add.ensures.holds c.add.ensures.outside.count
 
 pub walk-requires : goal.walk-requires
 walk-requires c =
     let a = goal.at.walk-requires c in
     let w = added a.After-add (handed a.Joined-not-any (hands a.Start _ c.self.view_is) (others a.After-any)) in
-    record { admitted = w.admitted; repaired = w.repaired; holds = w.placed.holds; ready = on_levels _ _ _ w; running = on_running _ _ _ w; level = on_local _ _ _ w }
+    record {
+      admitted = w.admitted;
+      repaired = w.repaired;
+      holds = w.placed.holds;
+      ready = on_levels _ _ _ w;
+      running =
+          on_running _ _ _ w;
+      level = on_local _ _ _ w;
+    }
 
 pub returns : goal.returns
 returns c =
     let a = goal.at.returns c in
     let d = hands a.Start _ c.self.view_is in
     let w = added a.After-add (handed a.Joined-not-any d (others a.After-any)) in
-    let e = ended _ _ _ w c.walk.new.owners c.walk.new.queue c.walk.new.table c.walk.ensures.repaired c.walk.ensures.levels c.walk.ensures.place c.walk.ensures.holds c.walk.ensures.outside.count in
-    let next = top_is_next (plain_of c.self.inside) d.sound c.args.m c.args.key c.hand_over-next.result d.at c.hand_over-next.ensures.top in
-    record { next = next ∙ ap (λ (x : Plain). next_in (kernel_of x) c.args.m) c.self.view_is; after = rw c.get-2.ensures.value e.0; sound = rw c.get-2.ensures.value e.1 }
+    let e
+    = ended _ _ _ w c.walk.new.owners c.walk.new.queue c.walk.new.table c.walk.ensures.repaired c.walk.ensures.levels
+    c.walk.ensures.place c.walk.ensures.holds c.walk.ensures.outside.count in
+    let next
+    = top_is_next (plain_of c.self.inside) d.sound c.args.m c.args.key c.hand_over-next.result d.at
+    c.hand_over-next.ensures.top in
+    record {
+      next = next
+          ∙ ap (λ (x : Plain). next_in (kernel_of x) c.args.m) c.self.view_is;
+      after = rw c.get-2.ensures.value e.0;
+      sound =
+          rw c.get-2.ensures.value e.1;
+    }

@@ -11,26 +11,34 @@ pub index_mut-requires : goal.index_mut-requires
 index_mut-requires c =
     let p : Plain = plain_of c.self.inside in
     let h : IsSound p = subst IsSound (sym c.self.view_is) c.requires.sound in
-    let known : has_seat (kernel_of p) c.args.t ≡ true = subst (λ (x : Plain). has_seat (kernel_of x) c.args.t ≡ true) (sym c.self.view_is) c.requires.added in
+    let known : has_seat (kernel_of p) c.args.t ≡ true
+    = subst (λ (x : Plain). has_seat (kernel_of x) c.args.t ≡ true) (sym c.self.view_is) c.requires.added in
     omega (arith, (added_seen p (fits p h) c.args.t known).1, c.get.ensures.value)
 
 pub take_out-requires-clause-queued : goal.take_out-requires-clause-queued
 take_out-requires-clause-queued c =
     let p : Plain = plain_of c.self.inside in
     let h : IsSound p = subst IsSound (sym c.self.view_is) c.requires.sound in
-    ready_queued p h c.args.t (subst (λ (x : Plain). has_seat (kernel_of x) c.args.t ≡ true) (sym c.self.view_is) c.requires.added)
-    (subst (λ (x : Plain). is_ready (seat_at (kernel_of x) c.args.t).status ≡ true) (sym c.self.view_is) c.requires.ready)
+    ready_queued p h c.args.t (subst (λ (x : Plain). has_seat (kernel_of x) c.args.t ≡ true)
+    (sym c.self.view_is) c.requires.added)
+    (subst (λ (x : Plain). is_ready (seat_at (kernel_of x) c.args.t).status ≡ true)
+    (sym c.self.view_is) c.requires.ready)
 
 pub returns : goal.returns
 returns c =
     let p : Plain = plain_of c.self.inside in
     let h : IsSound p = subst IsSound (sym c.self.view_is) c.requires.sound in
-    let known : has_seat (kernel_of p) c.args.t ≡ true = subst (λ (x : Plain). has_seat (kernel_of x) c.args.t ≡ true) (sym c.self.view_is) c.requires.added in
-    let ready : is_ready (seat_at (kernel_of p) c.args.t).status ≡ true = subst (λ (x : Plain). is_ready (seat_at (kernel_of x) c.args.t).status ≡ true) (sym c.self.view_is) c.requires.ready in
+    let known : has_seat (kernel_of p) c.args.t ≡ true
+    = subst (λ (x : Plain). has_seat (kernel_of x) c.args.t ≡ true) (sym c.self.view_is) c.requires.added in
+    let ready : is_ready (seat_at (kernel_of p) c.args.t).status ≡ true
+    = subst (λ (x : Plain). is_ready (seat_at (kernel_of x) c.args.t).status ≡ true)
+    (sym c.self.view_is) c.requires.ready in
     record {
       after = rw c.get.ensures.value
-          (kernel_after p c.take_out.new.self c.take_out.new.table c.args.t h known ready c.take_out.ensures.place c.take_out.ensures.levels c.take_out.ensures.holds c.take_out.ensures.outside.count
+          (kernel_after p c.take_out.new.self c.take_out.new.table c.args.t h known ready c.take_out.ensures.place
+          c.take_out.ensures.levels c.take_out.ensures.holds c.take_out.ensures.outside.count
           ∙ ap (λ (x : Plain). kernel_after_stop c.args.t (kernel_of x)) c.self.view_is);
       sound = rw c.get.ensures.value
-          (sound_after p c.take_out.new.self c.take_out.new.table c.args.t h known ready c.take_out.ensures.place c.take_out.ensures.levels c.take_out.ensures.holds c.take_out.ensures.outside.count);
+          (sound_after p c.take_out.new.self c.take_out.new.table c.args.t h known ready c.take_out.ensures.place
+          c.take_out.ensures.levels c.take_out.ensures.holds c.take_out.ensures.outside.count);
     }

@@ -8,10 +8,12 @@ returns-in-None-clause-answer c = set_prio_invalid _ _ _ (none_out c.new.result 
 
 pub returns-in-Some-clause-answer : goal.returns-in-Some-clause-answer
 returns-in-Some-clause-answer c =
-    let range : (1 ≤ c.args.p) × (c.args.p ≤ 99) = some_in c.new.result c.in-Some.prio c.in-Some.is c.new.ensures.valid in
+    let range : (1 ≤ c.args.p) × (c.args.p ≤ 99)
+    = some_in c.new.result c.in-Some.prio c.in-Some.is c.new.ensures.valid in
     set_prio_done c.args.t c.args.p (kernel_of c.args.self.now) range.0 range.1 (sym c.lives.ensures ∙ c.if-lives.true)
 
 pub returns-in-Some-2-clause-answer : goal.returns-in-Some-2-clause-answer
 returns-in-Some-2-clause-answer c =
-    let range : (1 ≤ c.args.p) × (c.args.p ≤ 99) = some_in c.new.result c.in-Some-2.field-0 c.in-Some-2.is c.new.ensures.valid in
+    let range : (1 ≤ c.args.p) × (c.args.p ≤ 99)
+    = some_in c.new.result c.in-Some-2.field-0 c.in-Some-2.is c.new.ensures.valid in
     set_prio_dead c.args.t c.args.p (kernel_of c.args.self.now) range.0 range.1 (sym c.lives.ensures ∙ c.if-lives.false)

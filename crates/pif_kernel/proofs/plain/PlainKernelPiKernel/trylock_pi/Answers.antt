@@ -9,13 +9,16 @@ use Rattle.pif_kernel.proofs.plain.PlainKernelPiKernel.trylock_pi.Goals as goal
 
 pub taken_word-requires : goal.taken_word-requires
 taken_word-requires c =
-    let known : has_seat (kernel_of c.self.inside.parts) c.args.t ≡ true = subst (λ (x : Plain). has_seat (kernel_of x) c.args.t ≡ true) (sym c.self.view_is) c.requires.added in
+    let known : has_seat (kernel_of c.self.inside.parts) c.args.t ≡ true
+    = subst (λ (x : Plain). has_seat (kernel_of x) c.args.t ≡ true) (sym c.self.view_is) c.requires.added in
     omega (arith, c.get.ensures.value, number_below c.self.inside.parts c.self.invariant c.args.t known)
 
 pub returns-clause-words : goal.returns-clause-words
 returns-clause-words c =
     let ws : Words = words_of c.args.words.now in
-    let w : word_at ws c.args.m ≡ word_of c.in_ok-word.word = word_seen c.args.words.now c.args.m c.in_ok-word.word c.in_ok-word.ensures.word.bits in
+    let w : word_at ws c.args.m ≡ word_of c.in_ok-word.word
+    = word_seen c.args.words.now c.args.m c.in_ok-word.word c.in_ok-word.ensures.word.bits in
     words_stored c.args.words.now c.store.new.self c.args.m c.taken_word.result c.store.ensures.stored
-    ∙ ap (set_word ws c.args.m) (c.taken_word.ensures ∙ ap (λ (x : ℕ). taken_word x (word_of c.in_ok-word.word)) c.get.ensures.value ∙ ap (taken_word c.args.t) (sym w))
+    ∙ ap (set_word ws c.args.m) (c.taken_word.ensures
+    ∙ ap (λ (x : ℕ). taken_word x (word_of c.in_ok-word.word)) c.get.ensures.value ∙ ap (taken_word c.args.t) (sym w))
     ∙ sym (words_tried c.args.t c.args.m ws)

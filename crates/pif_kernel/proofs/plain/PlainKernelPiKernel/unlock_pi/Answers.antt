@@ -13,13 +13,20 @@ pub hand_over-requires-clause-owner : goal.hand_over-requires-clause-owner
 hand_over-requires-clause-owner c =
     let p : Plain = c.self.inside.parts in
     let at : key_at p c.args.m ≡ Some c.in-Some.key = sym c.in_ok-key.ensures.own.at ∙ c.in-Some.is in
-    c.in_ok-key.ensures.own.state (λ z. some_state p c.self.invariant c.args.m c.in-Some.key at (states_seen p c.args.m ∙ z))
+    c.in_ok-key.ensures.own.state (λ z. some_state p c.self.invariant c.args.m c.in-Some.key at
+    (states_seen p c.args.m ∙ z))
 
 pub hand_word-bits-requires : goal.hand_word-bits-requires
 hand_word-bits-requires c =
     let p : Plain = c.self.inside.parts in
     let at : key_at p c.args.m ≡ Some c.in-Some.key = sym c.in_ok-key.ensures.own.at ∙ c.in-Some.is in
-    omega (arith, c.get.ensures.value, c.hand_over.ensures.next, next_below p c.self.invariant c.args.m c.in-Some.key at)
+    omega (
+      arith,
+      c.get.ensures.value,
+      c.hand_over.ensures.next,
+      next_below p c.self.invariant c.args.m c.in-Some.key
+          at,
+    )
 
 pub returns-clause-words : goal.returns-clause-words
 returns-clause-words c =
@@ -31,11 +38,13 @@ returns-clause-words c =
       | in-Some w ↦
           let at : key_at p c.args.m ≡ Some w.in-Some.key = sym c.in_ok-key.ensures.own.at ∙ w.in-Some.is in
           ap (λ (b : ℕ). set_word ws c.args.m (word_of b)) w.bits-is
-          ∙ ap (set_word ws c.args.m) (w.hand_word-bits.ensures ∙ ap hand_word (w.get.ensures.value ∙ w.hand_over.ensures.next))
+          ∙ ap (set_word ws c.args.m) (w.hand_word-bits.ensures
+          ∙ ap hand_word (w.get.ensures.value ∙ w.hand_over.ensures.next))
           ∙ sym (words_handed c.args.m ws (kernel_of p) (some_state p c.self.invariant c.args.m w.in-Some.key at))
       | in-None w ↦
           ap (λ (b : ℕ). set_word ws c.args.m (word_of b)) w.bits-is ∙ ap (set_word ws c.args.m) zero_word
-          ∙ sym (words_freed c.args.m ws (kernel_of p) (no_state p c.args.m (sym c.in_ok-key.ensures.own.at ∙ w.in-None.is)))
+          ∙ sym (words_freed c.args.m ws (kernel_of p)
+          (no_state p c.args.m (sym c.in_ok-key.ensures.own.at ∙ w.in-None.is)))
     ]
     ∙ ap (λ (x : Plain). words_after_unlock c.args.m (Ok (record {})) (kernel_of x) ws) c.self.view_is
 
@@ -45,10 +54,12 @@ returns-clause-after c =
     elim c.match-branch-2.branch [
       | in-Some w ↦
           let at : key_at p c.args.m ≡ Some w.in-Some.key = sym c.in_ok-key.ensures.own.at ∙ w.in-Some.is in
-          ap kernel_of w.self-is ∙ w.hand_over.ensures.after ∙ ap (λ (u : ℕ). kernel_after_hand_over u c.args.m (kernel_of p)) w.hand_over.ensures.next
+          ap kernel_of w.self-is ∙ w.hand_over.ensures.after
+          ∙ ap (λ (u : ℕ). kernel_after_hand_over u c.args.m (kernel_of p)) w.hand_over.ensures.next
           ∙ sym (kernel_handed c.args.m (kernel_of p) (some_state p c.self.invariant c.args.m w.in-Some.key at))
       | in-None w ↦
           ap kernel_of (w.self-is ∙ sym c.self.view_is)
-          ∙ sym (kernel_freed c.args.m (kernel_of p) (no_state p c.args.m (sym c.in_ok-key.ensures.own.at ∙ w.in-None.is)))
+          ∙ sym (kernel_freed c.args.m (kernel_of p)
+          (no_state p c.args.m (sym c.in_ok-key.ensures.own.at ∙ w.in-None.is)))
     ]
     ∙ ap (λ (x : Plain). kernel_after_unlock c.args.m (Ok (record {})) (kernel_of x)) c.self.view_is
