@@ -1,21 +1,25 @@
 -- What is kept at first is sound.
-use Rattle.std.proofs.Common.{◌≡◌, ℕ, zero, suc, ◌+◌, ◌≤◌, ◌==◌, Bool, true, false, nat_lt, if◌then◌else◌, List, [], ◌∷◌, replicate, get_or, map, Option, Some, None, option_map, option_and_then, unwrap_or, refl, sym, ap, ◌∙◌, arith, add-one}
+use Rattle.std.proofs.Common.{◌≡◌, ℕ, zero, suc, ◌+◌, ◌≤◌, Bool, true, false, if◌then◌else◌, List, [], ◌∷◌, length, replicate, get_or, map, Option, Some, None, option_map, refl, sym, ap, subst, ◌∙◌, arith, add-one}
 use Rattle.std.proofs.lemmas.List.{length-replicate}
-use Rattle.std.proofs.lemmas.Bool.Decides.{nat_tests}
 use Rattle.std.specs.Ordering.{nat_cmp}
 use Rattle.std.specs.FinMap.{len-empty}
 use Rattle.pif_types.specs.Bounds.{Bounds, IsWithin}
 use Rattle.pif_nodes.specs.Table.{Table, IsApart, no_key}
 use Rattle.pif_runq.specs.Levels.{Queue, Holds, HasRoom, list_for, level_of, thread_for}
-use Rattle.pif_model.specs.declared.lines.Status.TheVariants.{Ready, Queued}
+use Rattle.pif_model.specs.declared.lines.Status.TheVariants.{Ready}
 use Rattle.pif_model.specs.declared.lines.Woken.TheVariants.{Fresh}
-use Rattle.pif_model.specs.Table.{queued_on}
-use Rattle.pif_model.specs.PiKernel.{IsKernel, new_kernel, effective_in, has_seat}
+use Rattle.pif_model.specs.Graph.{is_priority}
+use Rattle.pif_model.specs.PiKernel.{IsKernel, queued_on, new_kernel, effective_in}
 use Rattle.pif_model.specs.PiKernel.{Seat as KernelSeat, no_seat as no_kernel_seat}
-use Rattle.pif_rtmutex.specs.Owners.{Seat, Wait, no_seat, owner_at}
+use Rattle.pif_rtmutex.specs.Owners.{Seat, Wait, seat_at, no_seat}
 use Rattle.pif_chains.proofs.Greatest.{effective_most}
-use Rattle.pif_kernel.specs.Plain.{IsSound, kernel_of, new_plain, state_at, is_level, levels_of, seats_of}
-use Rattle.pif_kernel.proofs.Seats.{kernel_by_parts}
+use Rattle.pif_chains.proofs.KernelKept.{new_kernel_kept}
+use Rattle.pif_chains.proofs.KernelLevels.{length-levels_by}
+use Rattle.pif_chains.proofs.KernelNew.{no_state, length-no_states, no_level}
+use Rattle.pif_kernel.specs.Plain.{Plain, IsPlaced, IsSound, kernel_of, new_plain, no_keys, key_at, state_at, status_at, owner_under, seats_of}
+use Rattle.pif_kernel.proofs.Seats.{IsFitted, kernel_by_parts, states_seen, states_length}
+use Rattle.pif_kernel.proofs.Picked.{levels_of, levels_seen, levels_count}
+use Rattle.pif_kernel.proofs.Standing.{listed_kept}
 
 -- a list of one value has it at each place
 alike : {A : Type 0} (n k : ℕ) (x : A) → get_or (replicate n x) k x ≡ x
@@ -43,8 +47,8 @@ new_room threads apart = record {
   empty = λ p l. empty_list (list_for (new_queue threads) p);
 }
 
-no_level : (threads p : ℕ) → levels_of (new_queue threads) (new_table threads) p ≡ []
-no_level threads p = by_test (is_level p)
+empty_level : (threads p : ℕ) → levels_of (new_queue threads) (new_table threads) p ≡ []
+empty_level threads p = by_test (is_priority p)
   where
     by_test : (b : Bool) → (if b then level_of (new_queue threads) (new_table threads) p else []) ≡ []
     by_test true = ap (map (thread_for (new_queue threads))) (empty_list (list_for (new_queue threads) p))
@@ -60,53 +64,86 @@ one_seat : (u : ℕ) → get_or (no_kernel_seat ∷ []) u no_kernel_seat ≡ no_
 one_seat zero = refl
 one_seat (suc u) = refl
 
-nobody_known : (l : Bounds) (t : ℕ) → has_seat (new_kernel l) t ≡ false
-nobody_known l zero = refl
-nobody_known l (suc t) = let past : nat_lt (suc t) 1 ≡ false = grind (arith, nat_tests) in let some : (suc t == 0) ≡ false = grind (arith, nat_tests) in rw (some, past) refl
-
-pub new_kernel_kept : (l : Bounds) → IsKernel (new_kernel l)
-new_kernel_kept l = record {
-  queue = λ u m e. cc;
-  queued = λ u m e. let both : Ready Fresh ≡ Queued m = sym (ap (λ (x : KernelSeat). x.status) (one_seat u)) ∙ e in cc;
-  states = λ m. refl;
-  acyclic = λ u n. absurd (n refl);
-  level = λ t p. sym (rw (nobody_known l t) refl);
-}
+-- empty places for keys, as many as there are mutexes
+pub keys_made : (keys : List (Option ℕ)) → keys ≡ replicate 1025 None → keys ≡ no_keys
+unfolding no_keys
+keys_made keys e = e
 
 module _ (l : Bounds) (first : ℕ) (within : IsWithin l) (some : 1 ≤ first) where
-  no_state : (m : ℕ) → state_at (new_plain l first) m ≡ 0
-  no_state m = ap (λ (o : Option ℕ). unwrap_or (option_and_then (owner_at (new_plain l first).owners) o) 0) (alike (l.mutexes + 1) m None)
+  abbrev new : Plain
+  new = new_plain l first
 
-  pub new_seen : kernel_of (new_plain l first) ≡ new_kernel l
+  no_key_at : (m : ℕ) → key_at new m ≡ None
+  unfolding no_keys
+  no_key_at m = alike 1025 m None
+
+  none_at : (m : ℕ) → state_at new m ≡ 0
+  none_at m = ap (owner_under new.owners) (no_key_at m)
+
+  keys : length new.keys ≡ 1025
+  unfolding no_keys
+  keys = length-replicate {A = Option ℕ} 1025 None
+
+  pub new_seen : kernel_of new ≡ new_kernel l
   unfolding kernel_of
-  new_seen = kernel_by_parts _ _ refl (seats_first l.threads) no_state refl (no_level l.threads)
+  new_seen =
+      kernel_by_parts (kernel_of new) (new_kernel l) refl (seats_first l.threads)
+      (states_length new ∙ keys ∙ sym length-no_states) (λ m. states_seen new m ∙ none_at m ∙ sym (no_state m)) refl
+      (levels_count new ∙ sym (length-levels_by (λ p. [])))
+      (λ r. levels_seen new r ∙ empty_level l.threads r ∙ sym (no_level r))
 
-  new_effective : (u : ℕ) → effective_in (kernel_of (new_plain l first)) u ≤ 0
-  new_effective u = rw new_seen (effective_most _ _ _ u 0 (λ v less e. omega (arith, ap (λ (x : KernelSeat). x.base) (one_seat v))))
+  kept : IsKernel (kernel_of new)
+  kept = subst IsKernel (sym new_seen) (new_kernel_kept l)
 
-  pub new_sound : Holds (new_queue l.threads) (new_table l.threads) → IsSound (new_plain l first)
-  new_sound holds = record {
+  new_effective : (u : ℕ) → effective_in (kernel_of new) u ≤ 0
+  new_effective u =
+      rw new_seen (effective_most _ _ _ u 0 (λ v less e. omega (arith, ap (λ (x : KernelSeat). x.base) (one_seat v))))
+
+  fit_new : IsFitted new
+  fit_new = record {
+    few = omega (arith, length-replicate (l.threads + 1) no_seat);
+    free = λ t le. seat_zero l.threads t;
+    waits =
+        λ t. ap (λ (x : Seat). option_map (λ (w : Wait). w.state) x.wait) (seat_zero l.threads t)
+        ∙ sym (no_key_at (queued_on (status_at new t)));
+    owners = λ m. omega (arith, none_at m);
+  }
+
+  local_new : (t : ℕ) → (seat_at new.owners t).local ≡ effective_in (kernel_of new) t
+  local_new t = omega (arith, ap (λ (x : Seat). x.local) (seat_zero l.threads t), new_effective t)
+
+  new_placed : Holds (new_queue l.threads) (new_table l.threads) → IsPlaced new
+  new_placed holds = record {
     within = within;
     rows = length-replicate (l.threads + 1) no_seat;
-    keys = length-replicate (l.mutexes + 1) None;
+    keys = keys;
     some = omega arith;
     few = omega arith;
     nobody = seat_zero l.threads 0;
     admitted = λ t n less. absurd (omega arith);
-    free = λ t le. seat_zero l.threads t;
+    free = fit_new.free;
     most = λ t. omega (arith, ap (λ (x : Seat). x.base) (seat_zero l.threads t));
     lists = refl;
     queue = refl;
     holds = holds;
-    waits = λ t. ap (λ (x : Seat). option_map (λ (w : Wait). w.state) x.wait) (seat_zero l.threads t) ∙ sym (alike (l.mutexes + 1) (queued_on (get_or (Ready Fresh ∷ []) t (Ready Fresh))) None);
-    no_mutex = alike (l.mutexes + 1) 0 None;
-    apart = λ m n k e f. let both : None ≡ Some k = sym (alike (l.mutexes + 1) m None) ∙ e in cc;
-    made = λ m k e. let both : None ≡ Some k = sym (alike (l.mutexes + 1) m None) ∙ e in cc;
-    owned = λ m k e. let both : None ≡ Some k = sym (alike (l.mutexes + 1) m None) ∙ e in cc;
+    listed = listed_kept new fit_new kept local_new;
+    waits = fit_new.waits;
+    no_mutex = no_key_at 0;
+    apart = λ m n k e f. let both : None ≡ Some k = sym (no_key_at m) ∙ e in cc;
+    made = λ m k e. let both : None ≡ Some k = sym (no_key_at m) ∙ e in cc;
+    owned = λ m k e. let both : None ≡ Some k = sym (no_key_at m) ∙ e in cc;
     count = len-empty nat_cmp ℕ;
-    owners = λ m. omega (arith, no_state m);
+    owners = fit_new.owners;
     tickets = some;
-    local = λ t. omega (arith, ap (λ (x : Seat). x.local) (seat_zero l.threads t), new_effective t);
-    rank = λ t r e. let both : None ≡ Some r = sym (ap (λ (x : Seat). option_map (λ (w : Wait). w.rank) x.wait) (seat_zero l.threads t)) ∙ e in cc;
-    kernel = rw new_seen (new_kernel_kept l);
+  }
+
+  pub new_sound : Holds (new_queue l.threads) (new_table l.threads) → IsSound new
+  new_sound holds = record {
+    placed = new_placed holds;
+    local = local_new;
+    rank =
+        λ t r e. let both : None ≡ Some r = sym
+        (ap (λ (x : Seat). option_map (λ (w : Wait). w.rank) x.wait) (seat_zero l.threads t)) ∙ e in
+        cc;
+    kernel = kept;
   }

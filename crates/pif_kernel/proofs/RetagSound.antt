@@ -1,64 +1,41 @@
 -- What is kept stays sound where tickets are numbered anew.
-use Rattle.std.proofs.Common.{◌≡◌, ◌≢◌, ◌⊎◌, ℕ, ◌+◌, ◌<◌, ◌≤◌, true, false, nat_lt, List, [], ◌∷◌, length, get_or, Option, Some, None, IsSome, is_some, option_map, option_and_then, unwrap_or, refl, sym, ap, subst, ◌∙◌, inl, inr, arith}
+use Rattle.std.proofs.Common.{◌≡◌, ◌≢◌, ◌⊎◌, ℕ, ◌+◌, ◌<◌, true, false, nat_lt, List, [], ◌∷◌, length, get_or, Option, Some, None, IsSome, is_some, option_map, option_and_then, unwrap_or, refl, sym, ap, subst, ◌∙◌, inl, inr, arith}
 use Rattle.std.proofs.Math.Path.{fun_ext}
-use Rattle.std.proofs.lemmas.Bool.{cases_lt, false≢true, true≢false}
+use Rattle.std.proofs.lemmas.Bool.{false≢true}
 use Rattle.std.proofs.lemmas.Bool.Decides.{nat_tests}
 use Rattle.pif_nodes.specs.declared.keys.Key.{Key}
 use Rattle.pif_plist.specs.Order.{comes_before}
-use Rattle.pif_model.specs.declared.lines.Status.{Status}
-use Rattle.pif_model.specs.declared.lines.Status.TheVariants.{Ready, Queued, Stopped}
-use Rattle.pif_model.specs.Table.{queued_on}
-use Rattle.pif_model.specs.PiKernel.{Kernel, effective_in}
+use Rattle.pif_model.specs.PiKernel.{Kernel, IsKernel, effective_in}
 use Rattle.pif_rtmutex.specs.Owners.{Owners, Seat, Wait, seat_at, owner_at, count, waits_on, rank_of, no_seat, KeepsOrder}
-use Rattle.pif_chains.proofs.Waiting.{names, named-from_pair, has_waiter-from_pair}
-use Rattle.pif_chains.proofs.Among.{is_among as is_waiter}
-use Rattle.pif_kernel.specs.Plain.{Plain, IsSound, Rise, kernel_of, status_at, key_at, state_at, ticket_of}
+use Rattle.pif_chains.proofs.Waiting.{names}
+use Rattle.pif_kernel.specs.Plain.{Plain, IsPlaced, IsSound, Rise, kernel_of, key_at, state_at, ticket_of}
 use Rattle.pif_kernel.specs.Tickets.{retagged, retag, IsRetagged, IsRetaggable}
-use Rattle.pif_kernel.proofs.Seats.{fitted, status_seen, waiters_seen, kernel_by_parts}
-use Rattle.pif_kernel.proofs.QueueLaws.{rise_once, few_named}
+use Rattle.pif_kernel.proofs.Seats.{IsFitted, states_seen, states_length, kernel_by_parts, seats_of-same_base}
+use Rattle.pif_kernel.proofs.Standing.{listed_kept, fits}
+use Rattle.pif_kernel.proofs.QueueLaws.{rise_once}
 use Rattle.pif_kernel.proofs.TicketLaws.{order, retagged_before, rise_retagged, named_at}
-use Rattle.pif_kernel.proofs.WalkSound.{seats_of-same_base}
-use Rattle.pif_kernel.proofs.EnterSound.{names_pair, no_key-no_waiter}
+use Rattle.pif_kernel.proofs.Waiters.{waits_some, waits_named, named_known, arrivals_few}
 
-key_some : (p : Plain) (n : ℕ) → state_at p n ≢ 0 → IsSome (key_at p n)
-key_some p n some = by_key (key_at p n) refl
-  where
-    by_key : (k : Option ℕ) → key_at p n ≡ k → is_some (key_at p n) ≡ true
-    by_key None e = absurd (some (ap (λ (x : Option ℕ). unwrap_or (option_and_then (owner_at p.owners) x) 0) e))
-    by_key (Some k) e = ap is_some e
-
--- who is among the arrivals waits
-pub waits_some : (p : Plain) → IsSound p → (t : ℕ) → names t p.arrivals ≡ true → IsSome (waits_on p.owners t)
-waits_some p h t e =
-    let r = names_pair p.arrivals t e in
-    let status : status_at p t ≡ Queued r.0 = sym (status_seen p (fitted p h) t) ∙ h.kernel.queue t r.0 (subst (λ (ws : List (ℕ × ℕ)). is_waiter ws t r.0 ≡ true) (sym (waiters_seen p)) r.1) in
-    let some : state_at p r.0 ≢ 0 = λ z. true≢false (sym (has_waiter-from_pair p.arrivals t r.0 r.1) ∙ no_key-no_waiter p h r.0 z) in
-    ap is_some (h.waits t ∙ ap (λ (x : Status). key_at p (queued_on x)) status) ∙ key_some p r.0 some
-
--- and who waits is among them
-pub waits_named : (p : Plain) → IsSound p → (u k : ℕ) → waits_on p.owners u ≡ Some k → names u p.arrivals ≡ true
-waits_named p h u k e = by_status (status_at p u) refl (sym (h.waits u) ∙ e)
-  where
-    none : (x : Status) → queued_on x ≡ 0 → key_at p (queued_on x) ≡ Some k → names u p.arrivals ≡ true
-    none x z f = let both : None ≡ Some k = sym h.no_mutex ∙ ap (key_at p) (sym z) ∙ f in cc
-
-    by_status : (x : Status) → status_at p u ≡ x → key_at p (queued_on (status_at p u)) ≡ Some k → names u p.arrivals ≡ true
-    by_status (Ready w) s f = none (status_at p u) (ap queued_on s) f
-    by_status Stopped s f = none (status_at p u) (ap queued_on s) f
-    by_status (Queued n) s f =
-        named-from_pair p.arrivals u n (subst (λ (ws : List (ℕ × ℕ)). is_waiter ws u n ≡ true) (waiters_seen p) (h.kernel.queued u n (status_seen p (fitted p h) u ∙ s)))
-
-wait_state : (n : ℕ) (o : Option Wait) → option_map (λ (w : Wait). w.state) (option_map (λ (w : Wait). record { state = w.state; rank = record { prio = w.rank.prio; ticket = n } }) o) ≡ option_map (λ (w : Wait). w.state) o
+wait_state : (n : ℕ) (o : Option Wait)
+    → option_map (λ (w : Wait). w.state)
+    (option_map (λ (w : Wait). record { state = w.state; rank = record { prio = w.rank.prio; ticket = n } }) o)
+    ≡ option_map (λ (w : Wait). w.state) o
 wait_state n None = refl
 wait_state n (Some w) = refl
 
-wait_rank : (n : ℕ) (o : Option Wait) (r : Key) → option_map (λ (w : Wait). w.rank) (option_map (λ (w : Wait). record { state = w.state; rank = record { prio = w.rank.prio; ticket = n } }) o) ≡ Some r
+wait_rank : (n : ℕ) (o : Option Wait) (r : Key)
+    → option_map (λ (w : Wait). w.rank)
+    (option_map (λ (w : Wait). record { state = w.state; rank = record { prio = w.rank.prio; ticket = n } }) o) ≡ Some r
     → (r.ticket ≡ n) × ((s : Key) × (option_map (λ (w : Wait). w.rank) o ≡ Some s) × (s.prio ≡ r.prio))
 wait_rank n None r e = cc
-wait_rank n (Some w) r e = let same : record { prio = w.rank.prio; ticket = n } ≡ r = cc in (sym (ap (λ (k : Key). k.ticket) same), (w.rank, refl, ap (λ (k : Key). k.prio) same))
+wait_rank n (Some w) r e =
+    let same : record { prio = w.rank.prio; ticket = n } ≡ r = cc in
+    (sym (ap (λ (k : Key). k.ticket) same), (w.rank, refl, ap (λ (k : Key). k.prio) same))
 
 wait_ticket : (n : ℕ) (o : Option Wait) → is_some (option_map (λ (w : Wait). w.state) o) ≡ true
-    → unwrap_or (option_map (λ (r : Key). r.ticket) (option_map (λ (w : Wait). w.rank) (option_map (λ (w : Wait). record { state = w.state; rank = record { prio = w.rank.prio; ticket = n } }) o))) 0 ≡ n
+    → unwrap_or (option_map (λ (r : Key). r.ticket)
+    (option_map (λ (w : Wait). w.rank)
+    (option_map (λ (w : Wait). record { state = w.state; rank = record { prio = w.rank.prio; ticket = n } }) o))) 0 ≡ n
 wait_ticket n None e = absurd (false≢true e)
 wait_ticket n (Some w) e = refl
 
@@ -67,31 +44,44 @@ module _ (p : Plain) (now : Owners) (i : ℕ) (h : IsSound p) (g : IsRetagged p.
   tag u = retagged (ticket_of p.owners) 1 i p.arrivals u
 
   waits_now : (u : ℕ) → waits_on now u ≡ waits_on p.owners u
-  waits_now u = ap (λ (x : Seat). option_map (λ (w : Wait). w.state) x.wait) (g.seat u) ∙ wait_state (tag u) (seat_at p.owners u).wait
+  waits_now u =
+      ap (λ (x : Seat). option_map (λ (w : Wait). w.state) x.wait) (g.seat u)
+      ∙ wait_state (tag u) (seat_at p.owners u).wait
 
-  rank_now : (u : ℕ) (r : Key) → rank_of now u ≡ Some r → (r.ticket ≡ tag u) × ((s : Key) × (rank_of p.owners u ≡ Some s) × (s.prio ≡ r.prio))
-  rank_now u r e = wait_rank (tag u) (seat_at p.owners u).wait r (sym (ap (λ (x : Seat). option_map (λ (w : Wait). w.rank) x.wait) (g.seat u)) ∙ e)
+  rank_now : (u : ℕ) (r : Key) → rank_of now u ≡ Some r
+      → (r.ticket ≡ tag u) × ((s : Key) × (rank_of p.owners u ≡ Some s) × (s.prio ≡ r.prio))
+  rank_now u r e =
+      wait_rank (tag u) (seat_at p.owners u).wait r
+      (sym (ap (λ (x : Seat). option_map (λ (w : Wait). w.rank) x.wait) (g.seat u)) ∙ e)
 
   abbrev Side : ℕ → ℕ → Type 0
   Side t u = ((tag u < 1 + i) × (tag u < tag t)) ⊎ ((1 + i < tag u) × (tag t < tag u))
 
   -- with its new ticket a thread stands where it did
-  pub keeps : (t : ℕ) (d : ℕ × ℕ) → i < length p.arrivals → (get_or p.arrivals i d).0 ≡ t → (k : ℕ) → waits_on p.owners t ≡ Some k → KeepsOrder now t (i + 1)
+  pub keeps : (t : ℕ) (d : ℕ × ℕ) → i < length p.arrivals → (get_or p.arrivals i d).0 ≡ t → (k : ℕ)
+      → waits_on p.owners t ≡ Some k → KeepsOrder now t (i + 1)
   keeps t d l e k waits = record {
-    before = λ u mine other ne same a b. ahead mine other u (side u ne same) (rank_now t mine a).0 (rank_now u other b).0;
-    behind = λ u mine other ne same a b. back mine other u (side u ne same) (rank_now t mine a).0 (rank_now u other b).0;
+    before =
+        λ u mine other ne same a b. ahead mine other u (side u ne same) (rank_now t mine a).0 (rank_now u other b).0;
+    behind =
+        λ u mine other ne same a b. back mine other u (side u ne same) (rank_now t mine a).0 (rank_now u other b).0;
   }
     where
       old : tag t ≡ ticket_of p.owners t
-      old = retagged_before (ticket_of p.owners) 1 i p.arrivals t d (rise_once (ticket_of p.owners) 1 p.arrivals p.next h.tickets) l e
+      old =
+          retagged_before (ticket_of p.owners) 1 i p.arrivals t d
+          (rise_once (ticket_of p.owners) 1 p.arrivals p.next h.placed.tickets) l e
 
       side : (u : ℕ) → u ≢ t → waits_on now u ≡ waits_on now t → Side t u
       side u ne same =
           let waited : waits_on p.owners u ≡ Some k = sym (waits_now u) ∙ same ∙ waits_now t ∙ waits in
-          let s = order (ticket_of p.owners) 1 i 1 p.arrivals p.next t u d (omega arith) h.tickets l e ne (waits_named p h u k waited) in
+          let s
+          = order (ticket_of p.owners) 1 i 1 p.arrivals p.next t u d (omega arith) h.placed.tickets l e ne
+          (waits_named p h u k waited) in
           subst (λ (n : ℕ). ((tag u < 1 + i) × (tag u < n)) ⊎ ((1 + i < tag u) × (n < tag u))) (sym old) s.1
 
-      ahead : (mine other : Key) (u : ℕ) → Side t u → mine.ticket ≡ tag t → other.ticket ≡ tag u → comes_before (record mine { ticket = i + 1 }) other ≡ comes_before mine other
+      ahead : (mine other : Key) (u : ℕ) → Side t u → mine.ticket ≡ tag t → other.ticket ≡ tag u
+          → comes_before (record mine { ticket = i + 1 }) other ≡ comes_before mine other
       ahead mine other u (inl s) a b =
           let x : nat_lt (i + 1) other.ticket ≡ false = grind (arith, nat_tests, s.0) in
           let y : nat_lt mine.ticket other.ticket ≡ false = grind (arith, nat_tests, s.1) in rw (x, y) refl
@@ -99,7 +89,8 @@ module _ (p : Plain) (now : Owners) (i : ℕ) (h : IsSound p) (g : IsRetagged p.
           let x : nat_lt (i + 1) other.ticket ≡ true = grind (arith, nat_tests, s.0) in
           let y : nat_lt mine.ticket other.ticket ≡ true = grind (arith, nat_tests, s.1) in rw (x, y) refl
 
-      back : (mine other : Key) (u : ℕ) → Side t u → mine.ticket ≡ tag t → other.ticket ≡ tag u → comes_before other (record mine { ticket = i + 1 }) ≡ comes_before other mine
+      back : (mine other : Key) (u : ℕ) → Side t u → mine.ticket ≡ tag t → other.ticket ≡ tag u
+          → comes_before other (record mine { ticket = i + 1 }) ≡ comes_before other mine
       back mine other u (inl s) a b =
           let x : nat_lt other.ticket (i + 1) ≡ true = grind (arith, nat_tests, s.0) in
           let y : nat_lt other.ticket mine.ticket ≡ true = grind (arith, nat_tests, s.1) in rw (x, y) refl
@@ -123,73 +114,90 @@ module _ (p : Plain) (now : Owners) (i : ℕ) (h : IsSound p) (g : IsRetagged p.
     nobody_now : (u : ℕ) → seat_at p.owners u ≡ no_seat → seat_at now u ≡ no_seat
     nobody_now u e = g.seat u ∙ ap (retag (tag u)) e
 
-    ticket_now : (u : ℕ) → names u p.arrivals ≡ true → ticket_of now u ≡ retagged (ticket_of p.owners) 1 (length p.arrivals) p.arrivals u
+    ticket_now : (u : ℕ) → names u p.arrivals ≡ true
+        → ticket_of now u ≡ retagged (ticket_of p.owners) 1 (length p.arrivals) p.arrivals u
     ticket_now u e =
-        ap (λ (x : Seat). unwrap_or (option_map (λ (r : Key). r.ticket) (option_map (λ (w : Wait). w.rank) x.wait)) 0) (g.seat u)
-        ∙ wait_ticket (tag u) (seat_at p.owners u).wait (waits_some p h u e) ∙ ap (λ (n : ℕ). retagged (ticket_of p.owners) 1 n p.arrivals u) all
+        ap (λ (x : Seat). unwrap_or (option_map (λ (r : Key). r.ticket) (option_map (λ (w : Wait). w.rank) x.wait)) 0)
+        (g.seat u)
+        ∙ wait_ticket (tag u) (seat_at p.owners u).wait (waits_some p h u e)
+        ∙ ap (λ (n : ℕ). retagged (ticket_of p.owners) 1 n p.arrivals u) all
 
     pub kernel_after : kernel_of after ≡ kernel_of p
     unfolding kernel_of
-    kernel_after = kernel_by_parts _ _ refl (seats_of-same_base p.statuses p.owners.seats now.seats g.seats base_now) state_now refl (λ r. refl)
+    kernel_after =
+        kernel_by_parts (kernel_of after) (kernel_of p) refl
+        (seats_of-same_base p.statuses p.owners.seats now.seats g.seats base_now)
+        (states_length after ∙ sym (states_length p))
+        (λ m. states_seen after m ∙ state_now m ∙ sym (states_seen p m)) refl refl (λ r. refl)
+
+    kept : IsKernel (kernel_of after)
+    kept = subst IsKernel (sym kernel_after) h.kernel
 
     same : (u : ℕ) → effective_in (kernel_of p) u ≡ effective_in (kernel_of after) u
     same u = sym (ap (λ (k : Kernel). effective_in k u) kernel_after)
 
-    pub sound_after : IsSound after
-    sound_after = record {
-      within = h.within;
-      rows = g.seats ∙ h.rows;
-      keys = h.keys;
-      some = h.some;
-      few = h.few;
-      nobody = nobody_now 0 h.nobody;
-      admitted = λ t n l. omega (arith, base_now t, h.admitted t n l);
-      free = λ t l. nobody_now t (h.free t l);
-      most = λ t. omega (arith, base_now t, h.most t);
-      lists = h.lists;
-      queue = h.queue;
-      holds = h.holds;
-      waits = λ t. waits_now t ∙ h.waits t;
-      no_mutex = h.no_mutex;
-      apart = h.apart;
-      made = λ m k e. subst (λ (o : Option ℕ). IsSome o) (sym (owner_now k)) (h.made m k e);
-      owned = λ m k e z. h.owned m k e (sym (state_now m) ∙ z);
-      count = ap (λ o. count (record { seats = now.seats; owners = o })) g.owners ∙ h.count;
-      owners = λ m. omega (arith, state_now m, h.owners m);
-      tickets = subst (λ (n : ℕ). Rise (ticket_of now) 1 p.arrivals n) (sym next_is) (rise_retagged (ticket_of p.owners) (ticket_of now) 1 p.arrivals (rise_once (ticket_of p.owners) 1 p.arrivals p.next h.tickets) ticket_now);
-      local = λ t. ap (λ (x : Seat). x.local) (g.seat t) ∙ h.local t ∙ same t;
-      rank = λ t r e. let s = (rank_now t r e).1 in sym s.2 ∙ h.rank t s.0 s.1 ∙ same t;
-      kernel = rw kernel_after h.kernel;
+    fit_after : IsFitted after
+    fit_after = record {
+      few = omega (arith, (fits p h).few, g.seats);
+      free = λ t l. nobody_now t (h.placed.free t l);
+      waits = λ t. waits_now t ∙ h.placed.waits t;
+      owners = λ m. omega (arith, state_now m, h.placed.owners m);
     }
 
--- who is among the arrivals was added
-pub named_known : (p : Plain) → IsSound p → (u : ℕ) → names u p.arrivals ≡ true → (u ≢ 0) × (u < length p.statuses)
-named_known p h u e = (λ z. nobody z (waits_some p h u e), by_place (cases_lt u (length p.statuses)) (waits_some p h u e))
-  where
-    nobody : u ≡ 0 → IsSome (waits_on p.owners u) → ⊥
-    nobody z s = false≢true (sym (ap (λ (v : ℕ). is_some (waits_on p.owners v)) z ∙ ap (λ (x : Seat). is_some (option_map (λ (w : Wait). w.state) x.wait)) h.nobody) ∙ s)
+    local_after : (t : ℕ) → (seat_at now t).local ≡ effective_in (kernel_of after) t
+    local_after t = ap (λ (x : Seat). x.local) (g.seat t) ∙ h.local t ∙ same t
 
-    by_place : ((u < length p.statuses) ⊎ (length p.statuses ≤ u)) → IsSome (waits_on p.owners u) → u < length p.statuses
-    by_place (inl l) s = l
-    by_place (inr g) s = absurd (false≢true (sym (ap (λ (x : Seat). is_some (option_map (λ (w : Wait). w.state) x.wait)) (h.free u g)) ∙ s))
+    placed_after : IsPlaced after
+    placed_after = record {
+      within = h.placed.within;
+      rows = g.seats ∙ h.placed.rows;
+      keys = h.placed.keys;
+      some = h.placed.some;
+      few = h.placed.few;
+      nobody = nobody_now 0 h.placed.nobody;
+      admitted = λ t n l. omega (arith, base_now t, h.placed.admitted t n l);
+      free = fit_after.free;
+      most = λ t. omega (arith, base_now t, h.placed.most t);
+      lists = h.placed.lists;
+      queue = h.placed.queue;
+      holds = h.placed.holds;
+      listed = listed_kept after fit_after kept local_after;
+      waits = fit_after.waits;
+      no_mutex = h.placed.no_mutex;
+      apart = h.placed.apart;
+      made = λ m k e. subst (λ (o : Option ℕ). IsSome o) (sym (owner_now k)) (h.placed.made m k e);
+      owned = λ m k e z. h.placed.owned m k e (sym (state_now m) ∙ z);
+      count = ap (λ o. count (record { seats = now.seats; owners = o })) g.owners ∙ h.placed.count;
+      owners = fit_after.owners;
+      tickets =
+          subst (λ (n : ℕ). Rise (ticket_of now) 1 p.arrivals n) (sym next_is)
+          (rise_retagged (ticket_of p.owners) (ticket_of now) 1 p.arrivals
+          (rise_once (ticket_of p.owners) 1 p.arrivals p.next h.placed.tickets) ticket_now);
+    }
 
-pub arrivals_few : (p : Plain) → IsSound p → length p.arrivals ≤ 1024
-arrivals_few p h =
-    omega (arith, few_named p.arrivals (length p.statuses) h.some (rise_once (ticket_of p.owners) 1 p.arrivals p.next h.tickets) (λ u e. named_known p h u e), h.few, h.within.threads)
+    pub sound_after : IsSound after
+    sound_after = record {
+      placed = placed_after;
+      local = local_after;
+      rank = λ t r e. let s = (rank_now t r e).1 in sym s.2 ∙ h.rank t s.0 s.1 ∙ same t;
+      kernel = kept;
+    }
 
 pub retaggable : (p : Plain) → IsSound p → IsRetaggable p.owners p.arrivals
 retaggable p h = record {
   few = arrivals_few p h;
-  rows = λ t e. let k = named_known p h t e in omega (arith, k.1, h.few, h.rows);
+  rows = λ t e. let k = named_known p h t e in omega (arith, k.1, h.placed.few, h.placed.rows);
   waits = λ t e. waits_some p h t e;
-  once = rise_once (ticket_of p.owners) 1 p.arrivals p.next h.tickets;
+  once = rise_once (ticket_of p.owners) 1 p.arrivals p.next h.placed.tickets;
   keeps = λ now i t d g l e. by_wait now i t d g l e (waits_on p.owners t) refl;
   stays = λ now i t g. waits_now p now i h g t;
 }
   where
-    by_wait : (now : Owners) (i t : ℕ) (d : ℕ × ℕ) → IsRetagged p.owners now p.arrivals i → i < length p.arrivals → (get_or p.arrivals i d).0 ≡ t
+    by_wait : (now : Owners) (i t : ℕ) (d : ℕ × ℕ) → IsRetagged p.owners now p.arrivals i → i < length p.arrivals
+        → (get_or p.arrivals i d).0 ≡ t
         → (o : Option ℕ) → waits_on p.owners t ≡ o → KeepsOrder now t (i + 1)
-    by_wait now i t d g l e None x = absurd (false≢true (sym (ap is_some x) ∙ waits_some p h t (named_at p.arrivals i t d l e)))
+    by_wait now i t d g l e None x =
+        absurd (false≢true (sym (ap is_some x) ∙ waits_some p h t (named_at p.arrivals i t d l e)))
     by_wait now i t d g l e (Some k) x = keeps p now i h g t d l e k x
 
 -- THE NEXT TICKET
@@ -202,8 +210,9 @@ pub kernel_next : (p : Plain) (n : ℕ) → kernel_of (record p { next = n }) �
 unfolding kernel_of
 kernel_next p n = refl
 
-pub sound_next : (p : Plain) → IsSound p → IsSound (record p { next = p.next + 1 })
-sound_next p h = record {
+placed_next : (p : Plain) → IsPlaced p → IsPlaced (record p { next = p.next + 1 })
+unfolding kernel_of
+placed_next p h = record {
   within = h.within;
   rows = h.rows;
   keys = h.keys;
@@ -216,6 +225,7 @@ sound_next p h = record {
   lists = h.lists;
   queue = h.queue;
   holds = h.holds;
+  listed = λ t r e. let l = h.listed t r e in record { added = l.added; ready = l.ready; local = l.local };
   waits = h.waits;
   no_mutex = h.no_mutex;
   apart = h.apart;
@@ -224,7 +234,8 @@ sound_next p h = record {
   count = h.count;
   owners = h.owners;
   tickets = rise_more (ticket_of p.owners) 1 p.arrivals p.next h.tickets;
-  local = λ t. h.local t ∙ sym (ap (λ (k : Kernel). effective_in k t) (kernel_next p (p.next + 1)));
-  rank = λ t r e. h.rank t r e ∙ sym (ap (λ (k : Kernel). effective_in k t) (kernel_next p (p.next + 1)));
-  kernel = rw (kernel_next p (p.next + 1)) h.kernel;
 }
+
+pub sound_next : (p : Plain) → IsSound p → IsSound (record p { next = p.next + 1 })
+unfolding kernel_of
+sound_next p h = record { placed = placed_next p h.placed; local = h.local; rank = h.rank; kernel = h.kernel }

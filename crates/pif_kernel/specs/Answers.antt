@@ -1,33 +1,28 @@
--- How answers and words of the code read as those of the kernel by itself.
-use Rattle.std.specs.Prelude.{ℕ, ◌==◌, true, if◌then◌else◌, List, length, map, Result, Ok, Err}
+-- How the answers of the code read as those of the kernel by itself.
+use Rattle.std.specs.Prelude.{Result, Ok, Err}
 use Rattle.pif_types.specs.declared.errors.Errno.{Errno}
-use Rattle.pif_types.specs.declared.errors.Errno.TheVariants.{NoSuchThread, Invalid, Deadlock}
 use Rattle.pif_model.specs.declared.lines.Took.{Took}
-use Rattle.pif_model.specs.declared.lines.Took.TheVariants.{Queued}
-use Rattle.pif_model.specs.Graph.{reaches_within}
-use Rattle.pif_model.specs.PiKernel.{Kernel, seat_at, waits_for}
-use Rattle.pif_model.specs.Word.{Word, word_of}
-use Rattle.pif_word.specs.WordMap.{WordMap}
+use Rattle.pif_model.specs.declared.lines.Took.TheVariants.{Owns, Queued}
+use Rattle.pif_kernel.specs.declared.refusals.Found.{Found}
+use Rattle.pif_kernel.specs.declared.refusals.Found.TheVariants.{Free, Held}
 
 -- a call's answer, where success says no more
-abbrev pub closed : Result (Unit {0}) Errno → Result (record {}) Errno
-closed (Ok x) = Ok (record {})
-closed (Err e) = Err e
+abbrev pub unit_answer : Result (Unit {0}) Errno → Result (record {}) Errno
+unit_answer (Ok x) = Ok (record {})
+unit_answer (Err e) = Err e
 
--- the words, by the number of their mutex
-abbrev pub words_of : WordMap → List Word
-words_of s = map word_of s.mutexes
+-- the same, by a test that says on success what it found
+abbrev pub test_answer : {A : Type 0} → Result A Errno → Result (record {}) Errno
+test_answer (Ok x) = Ok (record {})
+test_answer (Err e) = Err e
 
--- the same where success says a number
-abbrev pub answered : Result ℕ Errno → Result (record {}) Errno
-answered (Ok x) = Ok (record {})
-answered (Err e) = Err e
+-- what lock_pi answers, by whether a thread may wait
+abbrev pub wait_test_answer : Result (Unit {0}) Errno → Result Took Errno
+wait_test_answer (Ok x) = Ok Queued
+wait_test_answer (Err e) = Err e
 
--- what lock_pi answers to t where the word has the number n of an owner, and the owner state the number s, 0 for none
-abbrev pub wait_answer : ℕ → ℕ → ℕ → Kernel → Result Took Errno
-wait_answer t n s k =
-    if (seat_at k n).living then
-    (if (if s == 0 then true else s == n) then
-    (if reaches_within (length k.seats) (waits_for k) n t then Err Deadlock else Ok Queued)
-    else Err Invalid)
-    else Err NoSuchThread
+-- what lock_pi answers, by what it found
+abbrev pub lock_test_answer : Result Found Errno → Result Took Errno
+lock_test_answer (Ok (Free word)) = Ok Owns
+lock_test_answer (Ok (Held word owner key)) = Ok Queued
+lock_test_answer (Err e) = Err e

@@ -14,7 +14,8 @@ use Rattle.pif_kernel.specs.Plain.{Plain}
 abbrev pub bounds_code : Coded Bounds
 bounds_code =
     code_by (ℕ × (ℕ × (ℕ × ℕ))) (coded× coded_ℕ (coded× coded_ℕ (coded× coded_ℕ coded_ℕ)))
-    (λ l. (l.threads, (l.mutexes, (l.conds, l.signals)))) (λ p. record { threads = p.0; mutexes = p.1.0; conds = p.1.1.0; signals = p.1.1.1 }) (λ _. refl)
+    (λ l. (l.threads, (l.mutexes, (l.conds, l.signals))))
+    (λ p. record { threads = p.0; mutexes = p.1.0; conds = p.1.1.0; signals = p.1.1.1 }) (λ _. refl)
 
 -- a status as two numbers: which it is, and the mutex
 abbrev numbers_of : Status → ℕ × ℕ
@@ -24,7 +25,8 @@ numbers_of (Queued m) = (2, m)
 numbers_of Stopped = (3, 0)
 
 abbrev status_of : ℕ × ℕ → Status
-status_of p = if p.0 == 0 then Ready Fresh else (if p.0 == 1 then Ready Owns else (if p.0 == 2 then Queued p.1 else Stopped))
+status_of p =
+    if p.0 == 0 then Ready Fresh else (if p.0 == 1 then Ready Owns else (if p.0 == 2 then Queued p.1 else Stopped))
 
 pub status_of-numbers : (x : Status) → status_of (numbers_of x) ≡ x
 status_of-numbers (Ready Fresh) = refl
@@ -38,7 +40,8 @@ status_code = code_by (ℕ × ℕ) (coded× coded_ℕ coded_ℕ) numbers_of stat
 abbrev pub queue_code : Coded Queue
 queue_code =
     code_by (ℕ × (ℕ × (ℕ × ℕ))) (coded× coded_ℕ (coded× coded_ℕ (coded× coded_ℕ coded_ℕ)))
-    (λ q. (q.first_list, (q.first_node, (q.threads, q.mask)))) (λ p. record { first_list = p.0; first_node = p.1.0; threads = p.1.1.0; mask = p.1.1.1 }) (λ _. refl)
+    (λ q. (q.first_list, (q.first_node, (q.threads, q.mask))))
+    (λ p. record { first_list = p.0; first_node = p.1.0; threads = p.1.1.0; mask = p.1.1.1 }) (λ _. refl)
 
 abbrev pub table_code : Coded Table
 table_code =
@@ -52,7 +55,9 @@ Sides = List Status × (List (Option ℕ) × List (ℕ × ℕ))
 abbrev pub plain_code : Coded Plain
 plain_code =
     code_by (Bounds × (Sides × (Owners × (Queue × (Table × ℕ)))))
-    (coded× bounds_code (coded× (coded× (coded_list status_code) (coded× (coded_list (coded_option coded_ℕ)) (coded_list (coded× coded_ℕ coded_ℕ)))) (coded× owners_code (coded× queue_code (coded× table_code coded_ℕ)))))
+    (coded× bounds_code (coded× (coded× (coded_list status_code)
+    (coded× (coded_list (coded_option coded_ℕ)) (coded_list (coded× coded_ℕ coded_ℕ)))) (coded× owners_code
+    (coded× queue_code (coded× table_code coded_ℕ)))))
     (λ p. (p.limits, ((p.statuses, (p.keys, p.arrivals)), (p.owners, (p.queue, (p.table, p.next))))))
     (λ p. record {
       limits = p.0;

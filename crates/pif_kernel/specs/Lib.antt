@@ -3,5 +3,5 @@ pub mod Answers
 pub mod Plain
 pub mod Codes
 pub mod Fields
+pub mod Found
 pub mod Tickets
-pub mod Agreement

@@ -1,12 +1,11 @@
 -- What the kernel of this crate keeps, and the kernel by itself that it stands for.
-use Rattle.std.specs.Prelude.{◌≡◌, ◌≢◌, ℕ, ◌+◌, ◌<◌, ◌≤◌, Bool, true, false, ◌==◌, nat_lt, if◌then◌else◌, List, [], ◌∷◌, length, replicate, get_or, set, Option, Some, None, IsSome, option_map, option_and_then, unwrap_or}
+use Rattle.std.specs.Prelude.{◌≡◌, ◌≢◌, ℕ, ◌+◌, ◌<◌, ◌≤◌, true, if◌then◌else◌, List, [], ◌∷◌, length, map, replicate, get_or, set, Option, Some, None, IsSome, option_map, option_and_then, unwrap_or}
 use Rattle.pif_types.specs.Bounds.{Bounds, IsWithin}
 use Rattle.pif_model.specs.declared.lines.Status.{Status}
 use Rattle.pif_model.specs.declared.lines.Status.TheVariants.{Ready}
 use Rattle.pif_model.specs.declared.lines.Woken.TheVariants.{Fresh}
 use Rattle.pif_model.specs.Graph.{has_waiter}
-use Rattle.pif_model.specs.Table.{queued_on}
-use Rattle.pif_model.specs.PiKernel.{Kernel, IsKernel, effective_in}
+use Rattle.pif_model.specs.PiKernel.{Kernel, IsKernel, queued_on, is_ready, has_seat, is_among, level_at, levels_by, effective_in}
 use Rattle.pif_model.specs.PiKernel.{Seat as KernelSeat}
 use Rattle.pif_nodes.specs.declared.keys.Key.{Key}
 use Rattle.pif_nodes.specs.Table.{Table, no_key}
@@ -37,13 +36,17 @@ status_at p t = get_or p.statuses t (Ready Fresh)
 abbrev pub key_at : Plain → ℕ → Option ℕ
 key_at p m = get_or p.keys m None
 
+-- the owner in the owner state under a key; 0 where there is no key
+abbrev pub owner_under : Owners → Option ℕ → ℕ
+owner_under v key = unwrap_or (option_and_then (owner_at v) key) 0
+
 -- the owner in the owner state of a mutex; 0 where it has none
 abbrev pub state_at : Plain → ℕ → ℕ
-state_at p m = unwrap_or (option_and_then (owner_at p.owners) (key_at p m)) 0
+state_at p m = owner_under p.owners (key_at p m)
 
--- a thread, by its status and its row: it lives if it was admitted
+-- a thread, by its status and its row
 abbrev pub seat_of : Status → Seat → KernelSeat
-seat_of x r = record { base = r.base; living = if r.base == 0 then false else true; status = x }
+seat_of x r = record { base = r.base; status = x }
 
 -- the threads, by their statuses and rows
 abbrev pub seats_of : List Status → List Seat → List KernelSeat
@@ -51,23 +54,19 @@ seats_of [] rows = []
 seats_of (x ∷ xs) [] = []
 seats_of (x ∷ xs) (r ∷ rows) = seat_of x r ∷ seats_of xs rows
 
--- whether a number is that of a level
-abbrev pub is_level : ℕ → Bool
-is_level p = if p == 0 then false else nat_lt p 100
-
--- the levels of a run queue
-abbrev pub levels_of : Queue → Table → ℕ → List ℕ
-levels_of q t = λ p. if is_level p then level_of q t p else []
-
 -- the kernel by itself
 unfoldable pub kernel_of : Plain → Kernel
 kernel_of p = record {
   limits = p.limits;
   seats = seats_of p.statuses p.owners.seats;
-  states = λ m. state_at p m;
+  states = map (owner_under p.owners) p.keys;
   waiters = p.arrivals;
-  levels = levels_of p.queue p.table;
+  levels = levels_by (level_of p.queue p.table);
 }
+
+-- the next ticket of a kernel
+abbrev pub next_ticket : Plain → ℕ
+next_ticket p = p.next
 
 -- the ticket with which a thread waits; 0 where it waits for nothing
 abbrev pub ticket_of : Owners → ℕ → ℕ
@@ -83,12 +82,16 @@ abbrev pub mutexes_of : List (ℕ × ℕ) → ℕ
 mutexes_of [] = 0
 mutexes_of (w ∷ ws) = if has_waiter ws w.1 then mutexes_of ws else mutexes_of ws + 1
 
+-- no key, for each of the 1,024 mutexes that can be
+unfoldable pub no_keys : List (Option ℕ)
+no_keys = replicate 1025 None
+
 -- what is kept at first
 abbrev pub new_plain : Bounds → ℕ → Plain
 new_plain l first_ticket = record {
   limits = l;
   statuses = Ready Fresh ∷ [];
-  keys = replicate (l.mutexes + 1) None;
+  keys = no_keys;
   owners = no_owners l.threads;
   queue = record { first_list = 0; first_node = 0; threads = l.threads; mask = 0 };
   table = record { lists = replicate 99 []; keys = replicate l.threads no_key };
@@ -96,12 +99,18 @@ new_plain l first_ticket = record {
   next = first_ticket;
 }
 
--- what holds of what is kept at any time
-pub record IsSound (p : Plain) : Type 0 where
+-- a thread on a level of the run queue was added and may run, and the level is the effective priority that it has
+pub record IsListed (p : Plain) (t level : ℕ) : Type 0 where
+  pub added : has_seat (kernel_of p) t ≡ true
+  pub ready : is_ready (status_at p t) ≡ true
+  pub local : (seat_at p.owners t).local ≡ level
+
+-- what holds of the parts at any time, between the steps of a call too
+pub record IsPlaced (p : Plain) : Type 0 where
   pub within : IsWithin p.limits
-  -- a row for each thread that the limits allow, and a place for the key of each mutex
+  -- a row for each thread that the limits allow, and a place for the key of each mutex that can be
   pub rows : length p.owners.seats ≡ p.limits.threads + 1
-  pub keys : length p.keys ≡ p.limits.mutexes + 1
+  pub keys : length p.keys ≡ 1025
   -- threads and rows: who was added was admitted, and nobody else
   pub some : 1 ≤ length p.statuses
   pub few : length p.statuses ≤ p.limits.threads + 1
@@ -113,6 +122,7 @@ pub record IsSound (p : Plain) : Type 0 where
   pub lists : length p.table.lists ≡ 99
   pub queue : p.queue ≡ record { first_list = 0; first_node = 0; threads = p.limits.threads; mask = p.queue.mask }
   pub holds : Holds p.queue p.table
+  pub listed : (t level : ℕ) → is_among (level_at (kernel_of p).levels level) t ≡ true → IsListed p t level
   -- a thread waits on the owner state of the mutex on which it is queued
   pub waits : (t : ℕ) → waits_on p.owners t ≡ key_at p (queued_on (status_at p t))
   -- each key is that of one mutex, and names an owner state; there are no others
@@ -125,6 +135,10 @@ pub record IsSound (p : Plain) : Type 0 where
   pub owners : (m : ℕ) → state_at p m < length p.statuses
   -- tickets rise along the arrivals, and lie below the next
   pub tickets : Rise (ticket_of p.owners) 1 p.arrivals p.next
+
+-- what holds of the parts between two calls
+pub record IsSound (p : Plain) : Type 0 where
+  pub placed : IsPlaced p
   -- threads stand with their effective priorities
   pub local : (t : ℕ) → (seat_at p.owners t).local ≡ effective_in (kernel_of p) t
   pub rank : (t : ℕ) (r : Key) → rank_of p.owners t ≡ Some r → r.prio ≡ effective_in (kernel_of p) t
@@ -133,5 +147,6 @@ pub record IsSound (p : Plain) : Type 0 where
 -- what is kept once there is an owner state of m, under this key: the one that there was, or a new one of this owner
 pub data IsOpened (old now : Plain) (m owner key : ℕ) : Type 0 where
   found : key_at old m ≡ Some key → now ≡ old → IsOpened old now m owner key
-  made : key_at old m ≡ None → owner_at old.owners key ≡ None → now ≡ record old { keys = set old.keys m (Some key); owners = with_owner key owner old.owners }
+  made : key_at old m ≡ None → owner_at old.owners key ≡ None
+      → now ≡ record old { keys = set old.keys m (Some key); owners = with_owner key owner old.owners }
       → count now.owners ≡ count old.owners + 1 → IsOpened old now m owner key

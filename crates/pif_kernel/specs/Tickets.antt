@@ -12,7 +12,11 @@ retagged ticket n (suc count) (w ∷ ws) u = if w.0 == u then n else retagged ti
 
 -- a seat with another ticket, where its thread waits
 abbrev pub retag : ℕ → Seat → Seat
-retag n x = record x { wait = option_map (λ (w : Wait). record { state = w.state; rank = record { prio = w.rank.prio; ticket = n } }) x.wait }
+retag n x =
+    record x {
+      wait = option_map (λ
+          (w : Wait). record { state = w.state; rank = record { prio = w.rank.prio; ticket = n } }) x.wait;
+    }
 
 -- the first `count` of these threads have the tickets from 1 on, and all else is as it was
 pub record IsRetagged (old now : Owners) (ws : List (ℕ × ℕ)) (count : ℕ) : Type 0 where
@@ -30,5 +34,6 @@ pub record IsRetaggable (v : Owners) (ws : List (ℕ × ℕ)) : Type 0 where
   pub rows : (t : ℕ) → is_named t ws ≡ true → t < length v.seats
   pub waits : (t : ℕ) → is_named t ws ≡ true → IsSome (waits_on v t)
   pub once : IsDistinct eqb (map (λ (w : ℕ × ℕ). w.0) ws)
-  pub keeps : (now : Owners) (i t : ℕ) (d : ℕ × ℕ) → IsRetagged v now ws i → i < length ws → (get_or ws i d).0 ≡ t → KeepsOrder now t (i + 1)
+  pub keeps : (now : Owners) (i t : ℕ) (d : ℕ × ℕ) → IsRetagged v now ws i → i < length ws → (get_or ws i d).0 ≡ t
+      → KeepsOrder now t (i + 1)
   pub stays : (now : Owners) (i t : ℕ) → IsRetagged v now ws i → waits_on now t ≡ waits_on v t

@@ -61,7 +61,7 @@ pub trait PiKernel {
         requires added { has_seat (meaning self.now) t ≡ true }
         requires ready { is_ready (seat_at (meaning self.now) t).status ≡ true }
         ensures answer { unit_answer result ≡ try_lock_answer t m (words_of words.old) (meaning self.now) }
-        ensures words { words_of words.new ≡ words_after_try_lock t m (unit_answer result) (words_of words.old) }
+        ensures words { words_of words.new ≡ words_after_try_lock t m (unit_answer result) (words_of words.old) };
 
     /// The kernel call unlock_pi, FUTEX_UNLOCK_PI of futex(2), by the ready thread `t`. It frees a mutex on which nobody is
     /// queued: the word is 0. Else it hands the mutex to the next waiter, of those of greatest effective priority the first

@@ -1,12 +1,47 @@
 //! The kernel by itself, over its own calls: threads with priorities, the owner states of mutexes with their waiters, and
 //! the run queue. It knows nothing of the library that makes the calls.
+//!
+//! A call refuses by the first of its tests that fails, from left to right, and has then changed nothing. `n` is the
+//! number in the mutex word, `s` the owner that the mutex's owner state names; there is an owner state exactly while
+//! threads are queued on the mutex.
+//!
+//! ```text
+//! call        EFAULT    EPERM     EDEADLK  EAGAIN    EINVAL             ESRCH         EINVAL     EDEADLK
+//! lock_pi     no word             n = t              n = 0, there is s  n lives not   s not n    n reaches t
+//! trylock_pi  no word             n = t    n not 0   n = 0, there is s
+//! unlock_pi   no word   n not t                                                       s not t
+//! set_prio                                           p not 1 to 99      t lives not
+//! ```
+//!
+//! Where nothing refuses, a call touches:
+//!
+//! ```text
+//! call                     the word          owner state      who is queued   statuses     run queue
+//! add                                                                         t is ready   t joins its level
+//! lock_pi, n = 0           t, OWNER_DIED
+//! lock_pi, else            and WAITERS       s is n           t, at the end   t is queued  t leaves; n and its chain
+//! trylock_pi               t, OWNER_DIED
+//! unlock_pi, no s          0
+//! unlock_pi, u is next     u and WAITERS     s is u, or none  all but u       u is ready   u joins; then t
+//! set_prio                                                                                 t and its chain
+//! stop                                                                        t is stopped t leaves
+//! ```
+//!
+//! The work stands in five files over the same parts: `refusals` has the tests of the calls, `threads` adds, stops and
+//! reprioritizes a thread, `queueing` queues a thread and hands a mutex over, `tickets` numbers the waiters in their
+//! order, and `parts` keeps what they touch.
 #![tactic(auto)]
 
 mod kernel;
 mod parts;
 mod plain;
+mod queueing;
+mod refusals;
+mod threads;
+mod tickets;
 
 pub use kernel::PiKernel;
+pub use pif_model::{Status, Took, Woken};
 pub use plain::PlainKernel;
 
 #[cfg(test)]

@@ -1,12 +1,13 @@
 ghost use Rattle.std.specs.Prelude.{◌≡◌, ◌≤◌, IfOk};
 ghost use Rattle.pif_model.specs.PiKernel.{new_kernel, IsKernel};
-ghost use Rattle.pif_kernel.specs.Plain.{kernel_of};
+ghost use Rattle.pif_kernel.specs.Plain.{kernel_of, next_ticket};
 
 use crate::kernel::PiKernel;
 use crate::parts::Parts;
+use crate::refusals::Found;
 use pif_model::{Status, Took};
 use pif_types::{Errno, Limits, MutexId, NoMemory, Prio, Tid};
-use pif_word::{Cell, Words, hand_word, mark_word, number, taken_word};
+use pif_word::{Cell, Words, hand_word, mark_word, taken_word};
 use std::alloc::Global;
 use std::marker::Model;
 
@@ -36,10 +37,19 @@ impl PlainKernel {
     pub fn new(alloc: Global, limits: Limits, first_ticket: u64) -> Result<PlainKernel, NoMemory>
         requires { 1 ≤ first_ticket }
         ensures made { IfOk result (λ k. kernel_of k ≡ new_kernel limits) }
+        ensures ticket { IfOk result (λ k. next_ticket k ≡ first_ticket) }
         ensures kept { IfOk result (λ k. IsKernel (kernel_of k)) }
     {
         let parts = Parts::new(alloc, limits, first_ticket)?;
         Ok(PlainKernel { parts })
+    }
+
+    /// The ticket that the next waiter gets, at most 2^64 - 2. At 2^64 - 1 the tickets that are held are numbered anew
+    /// from 1 first, in their order, and that waiter gets the one behind them.
+    pub fn next_ticket(&self) -> u64
+        ensures { result ≡ next_ticket self.now }
+    {
+        self.parts.next_ticket()
     }
 }
 
@@ -62,46 +72,42 @@ impl PiKernel for PlainKernel {
         self.parts.pick()
     }
 
-    #[tactic(auto, unfolding(pif_model::specs::PiKernel::lock_kernel, pif_model::specs::PiKernel::lock_words))]
+    #[tactic(auto, unfolding(pif_model::specs::PiKernel::kernel_after_lock, pif_model::specs::PiKernel::words_after_lock))]
     fn lock_pi(&mut self, words: &mut Words, t: Tid, m: MutexId) -> Result<Took, Errno> {
-        let took = self.parts.lock_answer(words, t, m)?;
-        let word = words.load(Cell::Mutex(m));
-        match took {
-            Took::Owns => words.store(Cell::Mutex(m), taken_word(word, t.get())),
-            Took::Queued => {
+        match self.parts.test_lock(words, t, m)? {
+            Found::Free(word) => {
+                words.store(Cell::Mutex(m), taken_word(word, t.get()));
+                Ok(Took::Owns)
+            }
+            Found::Held(word, owner, key) => {
                 words.store(Cell::Mutex(m), mark_word(word));
-                match Tid::new(number(word)) {
-                    Some(owner) => self.parts.enter(t, m, owner),
-                    None => unreachable!(),
-                }
+                self.parts.queue_on(t, m, owner, key);
+                Ok(Took::Queued)
             }
         }
-        Ok(took)
     }
 
-    #[tactic(auto, unfolding(pif_model::specs::PiKernel::try_lock_words))]
+    #[tactic(auto, unfolding(pif_model::specs::PiKernel::words_after_try_lock))]
     fn trylock_pi(&self, words: &mut Words, t: Tid, m: MutexId) -> Result<(), Errno> {
-        self.parts.try_lock_answer(words, t, m)?;
-        let word = words.load(Cell::Mutex(m));
+        let word = self.parts.test_try_lock(words, t, m)?;
         words.store(Cell::Mutex(m), taken_word(word, t.get()));
         Ok(())
     }
 
-    #[tactic(auto, unfolding(pif_model::specs::PiKernel::unlock_kernel, pif_model::specs::PiKernel::unlock_words))]
+    #[tactic(auto, unfolding(pif_model::specs::PiKernel::kernel_after_unlock, pif_model::specs::PiKernel::words_after_unlock))]
     fn unlock_pi(&mut self, words: &mut Words, t: Tid, m: MutexId) -> Result<(), Errno> {
-        self.parts.unlock_answer(words, t, m)?;
-        let bits = match self.parts.key(m) {
-            Some(key) => hand_word(self.parts.hand(t, m, key).get()),
+        let bits = match self.parts.test_unlock(words, t, m)? {
+            Some(key) => hand_word(self.parts.hand_over(t, m, key).get()),
             None => 0,
         };
         words.store(Cell::Mutex(m), bits);
         Ok(())
     }
 
-    #[tactic(auto, unfolding(pif_model::specs::PiKernel::set_prio_kernel))]
+    #[tactic(auto, unfolding(pif_model::specs::PiKernel::kernel_after_set_prio))]
     fn set_prio(&mut self, t: Tid, p: u32) -> Result<(), Errno> {
-        let prio = self.parts.set_prio_answer(t, p)?;
-        self.parts.rebase(t, prio);
+        let prio = self.parts.test_set_prio(t, p)?;
+        self.parts.set_base(t, prio);
         Ok(())
     }
 

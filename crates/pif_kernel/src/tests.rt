@@ -1,117 +1,171 @@
-ghost use Rattle.std.specs.Prelude.{◌≡◌, ◌≤◌, ℕ, true, OnOk};
-ghost use Rattle.pif_model.specs.Table.{is_ready};
-ghost use Rattle.pif_model.specs.PiKernel.{has_seat, seat_at};
-ghost use Rattle.pif_kernel.specs.Agreement.{IsAgreed};
+ghost use Rattle.std.specs.Prelude.{◌≡◌, ◌≤◌, ◌+◌, true, length, OnOk};
+ghost use Rattle.pif_model.specs.PiKernel.{has_seat, is_ready, seat_at};
 ghost use Rattle.pif_kernel.specs.Plain.{kernel_of};
 
-use crate::{PiKernel, PlainKernel};
-use pif_model::{Status, Took, Woken};
+use crate::{PiKernel, PlainKernel, Status, Took, Woken};
 use pif_types::{Errno, Limits, MutexId, Prio, Tid};
 use pif_word::{Cell, Words};
 use std::alloc::Global;
-use std::marker::Model;
+use std::process::Abort;
 use std::test::Fail;
 
-fn limits(threads: u32, mutexes: u32) -> Result<Limits, Fail> {
-    Ok(Limits::new(threads, mutexes, 0, 1).ok_or("limits")?)
+// A kernel, and words beside it.
+#[derive(Drop)]
+struct Scene {
+    kernel: PlainKernel,
+    words: Words,
 }
 
-fn prio(level: u32) -> Result<Prio, Fail> {
-    Ok(Prio::new(level).ok_or("a priority")?)
+// What is asked of a scene: a call of the kernel, a read, or a write of a word. Threads and mutexes go by their numbers.
+#[derive(Clone, Copy, Debug)]
+enum Ask {
+    Lock(u32, u32),
+    TryLock(u32, u32),
+    Unlock(u32, u32),
+    SetPrio(u32, u32),
+    Stop(u32),
+    Status(u32),
+    Effective(u32),
+    Pick,
+    NextTicket,
+    Word(u32),
+    Store(u32, u32),
+}
+
+// What it answers.
+#[derive(Clone, Copy, Debug, PartialEq, Eq)]
+enum Reply {
+    Owns,
+    Queued,
+    Done,
+    Refused(Errno),
+    Is(Status),
+    Prio(u32),
+    Runs(u32),
+    Nobody,
+    Ticket(u64),
+    Bits(u32),
+}
+
+impl Scene {
+    // A thread of each of these priorities, this first ticket, and so many mutexes, whose words are 0.
+    fn new(alloc: Global, levels: &[u32], mutexes: u32, first_ticket: u64) -> Result<Scene, Fail>
+        requires threads { length levels.now ≤ 1024 }
+        requires ticket { 1 ≤ first_ticket }
+    {
+        let limits = Limits::new(levels.len() as u32, mutexes, 0, 1).ok_or("limits")?;
+        let words = Words::new(alloc, limits)?;
+        let mut kernel = PlainKernel::new(alloc, limits, first_ticket)?;
+        add_all(&mut kernel, levels)?;
+        Ok(Scene { kernel, words })
+    }
+
+    fn answer(&mut self, ask: Ask) -> Result<Reply, Fail> {
+        Ok(match ask {
+            Ask::Lock(t, m) => self.lock(thread(t)?, mutex(m)?)?,
+            Ask::TryLock(t, m) => self.trylock(thread(t)?, mutex(m)?)?,
+            Ask::Unlock(t, m) => self.unlock(thread(t)?, mutex(m)?)?,
+            Ask::SetPrio(t, p) => done(self.kernel.set_prio(thread(t)?, p)),
+            Ask::Stop(t) => self.stop(thread(t)?)?,
+            Ask::Word(m) => self.word(mutex(m)?)?,
+            Ask::Store(m, bits) => self.store(mutex(m)?, bits)?,
+            Ask::Status(t) => self.status(thread(t)?)?,
+            Ask::Effective(t) => self.effective(thread(t)?),
+            Ask::Pick => self.pick(),
+            Ask::NextTicket => Reply::Ticket(self.kernel.next_ticket()),
+        })
+    }
+
+    fn lock(&mut self, t: Tid, m: MutexId) -> Result<Reply, Fail> {
+        see_ready(&self.kernel, t)?;
+        Ok(match self.kernel.lock_pi(&mut self.words, t, m) {
+            Ok(Took::Owns) => Reply::Owns,
+            Ok(Took::Queued) => Reply::Queued,
+            Err(errno) => Reply::Refused(errno),
+        })
+    }
+
+    fn trylock(&mut self, t: Tid, m: MutexId) -> Result<Reply, Fail> {
+        see_ready(&self.kernel, t)?;
+        Ok(done(self.kernel.trylock_pi(&mut self.words, t, m)))
+    }
+
+    fn unlock(&mut self, t: Tid, m: MutexId) -> Result<Reply, Fail> {
+        see_ready(&self.kernel, t)?;
+        Ok(done(self.kernel.unlock_pi(&mut self.words, t, m)))
+    }
+
+    fn stop(&mut self, t: Tid) -> Result<Reply, Fail> {
+        see_ready(&self.kernel, t)?;
+        self.kernel.stop(t);
+        Ok(Reply::Done)
+    }
+
+    fn status(&self, t: Tid) -> Result<Reply, Fail> {
+        see_added(&self.kernel, t)?;
+        Ok(Reply::Is(self.kernel.status(t)))
+    }
+
+    fn effective(&self, t: Tid) -> Reply {
+        match self.kernel.effective(t) {
+            Some(prio) => Reply::Prio(prio.get()),
+            None => Reply::Nobody,
+        }
+    }
+
+    fn pick(&self) -> Reply {
+        match self.kernel.pick() {
+            Some(t) => Reply::Runs(t.get()),
+            None => Reply::Nobody,
+        }
+    }
+
+    fn word(&self, m: MutexId) -> Result<Reply, Fail> {
+        if !self.words.has(Cell::Mutex(m)) {
+            Err("a word")?
+        }
+        Ok(Reply::Bits(self.words.load(Cell::Mutex(m))))
+    }
+
+    fn store(&mut self, m: MutexId, bits: u32) -> Result<Reply, Fail> {
+        if !self.words.has(Cell::Mutex(m)) {
+            Err("a word")?
+        }
+        self.words.store(Cell::Mutex(m), bits);
+        Ok(Reply::Done)
+    }
+}
+
+fn thread(number: u32) -> Result<Tid, Fail> {
+    Ok(Tid::new(number).ok_or("a thread")?)
 }
 
 fn mutex(number: u32) -> Result<MutexId, Fail> {
     Ok(MutexId::new(number).ok_or("a mutex")?)
 }
 
-// A kernel, words that agree with it, and how many more threads it has room for. It asks at run time what the kernel's
-// calls require.
-#[derive(Drop)]
-struct Scene {
-    kernel: PlainKernel,
-    words: Words,
-    room: u32,
+fn done(answer: Result<(), Errno>) -> Reply {
+    match answer {
+        Ok(()) => Reply::Done,
+        Err(errno) => Reply::Refused(errno),
+    }
 }
 
-impl Model for Scene {
-    ghost Value = { ℕ };
-
-    ghost view = { λ s. s.room };
-
-    ghost invariant = { λ s. IsAgreed s.room s.words (kernel_of s.kernel) };
-}
-
-impl Scene {
-    // No threads, this first ticket, and these bits in the word of mutex 1.
-    fn new(alloc: Global, limits: Limits, first_ticket: u64, bits: u32) -> Result<Scene, Fail>
-        requires { 1 ≤ first_ticket }
-    {
-        let kernel = PlainKernel::new(alloc, limits, first_ticket)?;
-        let mut words = Words::new(alloc, limits)?;
-        let first = Cell::Mutex(mutex(1)?);
-        if words.has(first) {
-            words.store(first, bits);
-        }
-        let room = limits.threads();
-        Ok(Scene {
-            kernel,
-            words,
-            room,
-        })
+// Adds a thread of each of these priorities, for whom there is room.
+fn add_all(kernel: &mut PlainKernel, levels: &[u32]) -> Result<(), Fail>
+    requires { length (kernel_of kernel.old).seats + length levels.now ≤ (kernel_of kernel.old).limits.threads + 1 }
+{
+    for level in levels {
+        let prio = Prio::new(*level).ok_or("a priority")?;
+        kernel.add(prio);
     }
-
-    fn add(&mut self, level: u32) -> Result<Tid, Fail> {
-        let prio = prio(level)?;
-        self.room = self.room.checked_sub(1).ok_or("room")?;
-        Ok(self.kernel.add(prio))
-    }
-
-    fn lock(&mut self, t: Tid, m: MutexId) -> Result<Result<Took, Errno>, Fail> {
-        see_ready(&self.kernel, t)?;
-        Ok(self.kernel.lock_pi(&mut self.words, t, m))
-    }
-
-    fn trylock(&mut self, t: Tid, m: MutexId) -> Result<Result<(), Errno>, Fail> {
-        see_ready(&self.kernel, t)?;
-        Ok(self.kernel.trylock_pi(&mut self.words, t, m))
-    }
-
-    fn unlock(&mut self, t: Tid, m: MutexId) -> Result<Result<(), Errno>, Fail> {
-        see_ready(&self.kernel, t)?;
-        Ok(self.kernel.unlock_pi(&mut self.words, t, m))
-    }
-
-    fn set_prio(&mut self, t: Tid, p: u32) -> Result<(), Errno> {
-        self.kernel.set_prio(t, p)
-    }
-
-    fn status(&self, t: Tid) -> Result<Status, Fail> {
-        see_added(&self.kernel, t)?;
-        Ok(self.kernel.status(t))
-    }
-
-    fn effective(&self, t: Tid) -> Option<Prio> {
-        self.kernel.effective(t)
-    }
-
-    fn pick(&self) -> Option<Tid> {
-        self.kernel.pick()
-    }
-
-    fn word(&self, m: MutexId) -> Result<u32, Fail> {
-        if self.words.has(Cell::Mutex(m)) {
-            Ok(self.words.load(Cell::Mutex(m)))
-        } else {
-            Err("a word")?
-        }
-    }
+    Ok(())
 }
 
 // Fails where the thread wasn't added.
 fn see_added(kernel: &PlainKernel, t: Tid) -> Result<(), Fail>
     ensures { OnOk result (has_seat (kernel_of kernel.now) t ≡ true) }
 {
-    let _number = t.get();
     let _prio = kernel.effective(t).ok_or("the thread wasn't added")?;
     Ok(())
 }
@@ -129,227 +183,235 @@ fn see_ready(kernel: &PlainKernel, t: Tid) -> Result<(), Fail>
     }
 }
 
+// Asks all this in turn, and sees that each answer is the one beside it.
+fn check(rt: &impl Abort, scene: &mut Scene, steps: &[(Ask, Reply)]) -> Result<(), Fail> {
+    for (ask, reply) in steps {
+        assert_eq!(rt; scene.answer(*ask)?, *reply, "at {ask:?}");
+    }
+    Ok(())
+}
+
+#[test]
+fn nobody_runs_in_a_new_kernel(rt: HostRuntime) -> Result<(), Fail> {
+    let limits = Limits::new(4, 1, 0, 1).ok_or("limits")?;
+    let kernel = PlainKernel::new(rt.alloc(), limits, 1)?;
+    assert_eq!(rt; kernel.pick(), None);
+    Ok(())
+}
+
 #[test]
 fn a_thread_takes_a_free_mutex(rt: HostRuntime) -> Result<(), Fail> {
-    let limits = Limits::new(4, 1, 0, 1).ok_or("limits")?;
-    let mut kernel = PlainKernel::new(rt.alloc(), limits, 1)?;
-    let mut words = Words::new(rt.alloc(), limits)?;
-    let m1 = MutexId::new(1).ok_or("a mutex")?;
-    assert_eq!(rt; kernel.pick(), None);
-    let t1 = kernel.add(Prio::new(10).ok_or("a priority")?);
-    assert_eq!(rt; kernel.pick(), Some(t1));
-    assert_eq!(rt; kernel.effective(t1), Prio::new(10));
-    assert_eq!(rt; kernel.status(t1), Status::Ready(Woken::Fresh));
-    assert_eq!(rt; kernel.lock_pi(&mut words, t1, m1), Ok(Took::Owns));
-    assert!(rt; words.has(Cell::Mutex(m1)));
-    assert_eq!(rt; words.load(Cell::Mutex(m1)), 1);
-    Ok(())
+    let mut scene = Scene::new(rt.alloc(), &[10], 1, 1)?;
+    check(
+        &rt,
+        &mut scene,
+        &[
+            (Ask::Pick, Reply::Runs(1)),
+            (Ask::Effective(1), Reply::Prio(10)),
+            (Ask::Status(1), Reply::Is(Status::Ready(Woken::Fresh))),
+            (Ask::Lock(1, 1), Reply::Owns),
+            (Ask::Word(1), Reply::Bits(1)),
+        ],
+    )
 }
 
 #[test]
 fn a_thread_that_stops_is_not_picked(rt: HostRuntime) -> Result<(), Fail> {
-    let limits = Limits::new(4, 1, 0, 1).ok_or("limits")?;
-    let mut kernel = PlainKernel::new(rt.alloc(), limits, 1)?;
-    let t1 = kernel.add(Prio::new(10).ok_or("a priority")?);
-    kernel.stop(t1);
-    assert_eq!(rt; kernel.pick(), None);
-    Ok(())
+    let mut scene = Scene::new(rt.alloc(), &[10], 1, 1)?;
+    check(
+        &rt,
+        &mut scene,
+        &[
+            (Ask::Stop(1), Reply::Done),
+            (Ask::Pick, Reply::Nobody),
+            (Ask::Status(1), Reply::Is(Status::Stopped)),
+        ],
+    )
 }
 
 #[test]
 fn priorities_are_refused_in_order(rt: HostRuntime) -> Result<(), Fail> {
-    let limits = Limits::new(4, 1, 0, 1).ok_or("limits")?;
-    let mut kernel = PlainKernel::new(rt.alloc(), limits, 1)?;
-    let t1 = kernel.add(Prio::new(10).ok_or("a priority")?);
-    let nobody = Tid::new(4).ok_or("a thread")?;
-    assert_eq!(rt; kernel.set_prio(t1, 30), Ok(()));
-    assert_eq!(rt; kernel.effective(t1), Prio::new(30));
-    assert_eq!(rt; kernel.set_prio(nobody, 100), Err(Errno::Invalid));
-    assert_eq!(rt; kernel.set_prio(nobody, 50), Err(Errno::NoSuchThread));
-    assert_eq!(rt; kernel.effective(nobody), None);
-    Ok(())
+    let mut scene = Scene::new(rt.alloc(), &[10], 1, 1)?;
+    check(
+        &rt,
+        &mut scene,
+        &[
+            (Ask::SetPrio(1, 30), Reply::Done),
+            (Ask::Effective(1), Reply::Prio(30)),
+            (Ask::SetPrio(4, 100), Reply::Refused(Errno::Invalid)),
+            (Ask::SetPrio(1, 0), Reply::Refused(Errno::Invalid)),
+            (Ask::SetPrio(4, 50), Reply::Refused(Errno::NoSuchThread)),
+            (Ask::Effective(4), Reply::Nobody),
+            (Ask::Effective(1), Reply::Prio(30)),
+        ],
+    )
 }
 
-// Three threads of priority 10, and these bits in the word of mutex 1. Answers the first thread too.
-fn stored(alloc: Global, bits: u32) -> Result<(Scene, Tid), Fail> {
-    let mut scene = Scene::new(alloc, limits(3, 1)?, 1, bits)?;
-    let first = scene.add(10)?;
-    scene.add(10)?;
-    scene.add(10)?;
-    Ok((scene, first))
-}
-
-// What lock_pi answers to thread 1 of three where the word of mutex 1 has these bits, and the bits that it leaves.
-fn locked(alloc: Global, bits: u32) -> Result<(Result<Took, Errno>, u32), Fail> {
-    let m1 = mutex(1)?;
-    let (mut scene, t1) = stored(alloc, bits)?;
-    Ok((scene.lock(t1, m1)?, scene.word(m1)?))
-}
-
-// The same of trylock_pi.
-fn tried(alloc: Global, bits: u32) -> Result<(Result<(), Errno>, u32), Fail> {
-    let m1 = mutex(1)?;
-    let (mut scene, t1) = stored(alloc, bits)?;
-    Ok((scene.trylock(t1, m1)?, scene.word(m1)?))
-}
-
-// The same of unlock_pi.
-fn unlocked(alloc: Global, bits: u32) -> Result<(Result<(), Errno>, u32), Fail> {
-    let m1 = mutex(1)?;
-    let (mut scene, t1) = stored(alloc, bits)?;
-    Ok((scene.unlock(t1, m1)?, scene.word(m1)?))
-}
-
+// lock_pi by thread 1 of three, on words that no thread wrote.
 #[test]
-fn lock_answers_by_the_stored_word(rt: HostRuntime) -> Result<(), Fail> {
-    for (bits, answer, left) in [
-        (0x0000_0001, Err(Errno::Deadlock), 0x0000_0001),
-        (0x0000_03ff, Err(Errno::NoSuchThread), 0x0000_03ff),
-        (0x8000_0000, Ok(Took::Owns), 0x0000_0001),
-    ] {
-        assert_eq!(rt; locked(rt.alloc(), bits)?, (answer, left));
-    }
-    Ok(())
+fn kernel_on_stored_words(rt: HostRuntime) -> Result<(), Fail> {
+    let mut scene = Scene::new(rt.alloc(), &[10, 10, 10], 1, 1)?;
+    check(
+        &rt,
+        &mut scene,
+        &[
+            (Ask::Lock(1, 2), Reply::Refused(Errno::Fault)),
+            (Ask::Store(1, 0x0000_0001), Reply::Done),
+            (Ask::Lock(1, 1), Reply::Refused(Errno::Deadlock)),
+            (Ask::Word(1), Reply::Bits(0x0000_0001)),
+            (Ask::Store(1, 0x0000_03ff), Reply::Done),
+            (Ask::Lock(1, 1), Reply::Refused(Errno::NoSuchThread)),
+            (Ask::Word(1), Reply::Bits(0x0000_03ff)),
+            (Ask::Store(1, 0x8000_0000), Reply::Done),
+            (Ask::Lock(1, 1), Reply::Owns),
+            (Ask::Word(1), Reply::Bits(0x0000_0001)),
+            // Thread 3 queues on it, so that there is an owner state of thread 2.
+            (Ask::Store(1, 0x0000_0002), Reply::Done),
+            (Ask::Lock(3, 1), Reply::Queued),
+            (Ask::Word(1), Reply::Bits(0x8000_0002)),
+            (Ask::Store(1, 0x0000_0003), Reply::Done),
+            (Ask::Lock(1, 1), Reply::Refused(Errno::Invalid)),
+            (Ask::Word(1), Reply::Bits(0x0000_0003)),
+            (Ask::Store(1, 0x0000_0000), Reply::Done),
+            (Ask::Lock(1, 1), Reply::Refused(Errno::Invalid)),
+            (Ask::Word(1), Reply::Bits(0x0000_0000)),
+        ],
+    )
 }
 
+// trylock_pi and unlock_pi by thread 1 of three, on words that no thread wrote.
 #[test]
-fn trylock_answers_by_the_stored_word(rt: HostRuntime) -> Result<(), Fail> {
-    for (bits, answer, left) in [
-        (0x0000_0001, Err(Errno::Deadlock), 0x0000_0001),
-        (0x8000_0002, Err(Errno::Again), 0x8000_0002),
-        (0xc000_0000, Ok(()), 0x4000_0001),
-    ] {
-        assert_eq!(rt; tried(rt.alloc(), bits)?, (answer, left));
-    }
-    Ok(())
+fn kernel_refusals_on_any_words(rt: HostRuntime) -> Result<(), Fail> {
+    let mut scene = Scene::new(rt.alloc(), &[10, 10, 10], 1, 1)?;
+    check(
+        &rt,
+        &mut scene,
+        &[
+            (Ask::TryLock(1, 2), Reply::Refused(Errno::Fault)),
+            (Ask::Store(1, 0x0000_0001), Reply::Done),
+            (Ask::TryLock(1, 1), Reply::Refused(Errno::Deadlock)),
+            (Ask::Word(1), Reply::Bits(0x0000_0001)),
+            (Ask::Store(1, 0x8000_0002), Reply::Done),
+            (Ask::TryLock(1, 1), Reply::Refused(Errno::Again)),
+            (Ask::Word(1), Reply::Bits(0x8000_0002)),
+            (Ask::Store(1, 0xc000_0000), Reply::Done),
+            (Ask::TryLock(1, 1), Reply::Done),
+            (Ask::Word(1), Reply::Bits(0x4000_0001)),
+            (Ask::Unlock(1, 2), Reply::Refused(Errno::Fault)),
+            (Ask::Store(1, 0x8000_0001), Reply::Done),
+            (Ask::Unlock(1, 1), Reply::Done),
+            (Ask::Word(1), Reply::Bits(0x0000_0000)),
+            (Ask::Store(1, 0x0000_0002), Reply::Done),
+            (Ask::Unlock(1, 1), Reply::Refused(Errno::NotPermitted)),
+            (Ask::Word(1), Reply::Bits(0x0000_0002)),
+            // Thread 3 queues on it, so that there is an owner state of thread 2.
+            (Ask::Lock(3, 1), Reply::Queued),
+            (Ask::Store(1, 0x0000_0000), Reply::Done),
+            (Ask::TryLock(1, 1), Reply::Refused(Errno::Invalid)),
+            (Ask::Store(1, 0x0000_0001), Reply::Done),
+            (Ask::Unlock(1, 1), Reply::Refused(Errno::Invalid)),
+            (Ask::Word(1), Reply::Bits(0x0000_0001)),
+            (Ask::Status(3), Reply::Is(Status::Queued(mutex(1)?))),
+        ],
+    )
 }
 
-#[test]
-fn unlock_answers_by_the_stored_word(rt: HostRuntime) -> Result<(), Fail> {
-    for (bits, answer, left) in [
-        (0x8000_0001, Ok(()), 0x0000_0000),
-        (0x0000_0002, Err(Errno::NotPermitted), 0x0000_0002),
-    ] {
-        assert_eq!(rt; unlocked(rt.alloc(), bits)?, (answer, left));
-    }
-    Ok(())
-}
-
-#[test]
-fn a_mutex_without_a_word_is_a_fault(rt: HostRuntime) -> Result<(), Fail> {
-    let m2 = mutex(2)?;
-    let (mut scene, t1) = stored(rt.alloc(), 0)?;
-    assert_eq!(rt; scene.lock(t1, m2)?, Err(Errno::Fault));
-    assert_eq!(rt; scene.trylock(t1, m2)?, Err(Errno::Fault));
-    assert_eq!(rt; scene.unlock(t1, m2)?, Err(Errno::Fault));
-    Ok(())
-}
-
-// Threads of priorities 1, 2 and 99: the first holds mutex 1, the second holds mutex 2 and waits for mutex 1, and the
-// third waits for mutex 2.
-fn chained(alloc: Global) -> Result<(Scene, [Tid; 3]), Fail> {
-    let (m1, m2) = (mutex(1)?, mutex(2)?);
-    let mut scene = Scene::new(alloc, limits(3, 2)?, 1, 0)?;
-    let threads = [scene.add(1)?, scene.add(2)?, scene.add(99)?];
-    let [low, middle, high] = threads;
-    let _owns = scene.lock(low, m1)??;
-    let _owns = scene.lock(middle, m2)??;
-    let _queued = scene.lock(middle, m1)??;
-    let _queued = scene.lock(high, m2)??;
-    Ok((scene, threads))
-}
+// Thread 1 holds mutex 1, thread 2 holds mutex 2 and waits for mutex 1, and thread 3 waits for mutex 2.
+const CHAIN: [(Ask, Reply); 4] = [
+    (Ask::Lock(1, 1), Reply::Owns),
+    (Ask::Lock(2, 2), Reply::Owns),
+    (Ask::Lock(2, 1), Reply::Queued),
+    (Ask::Lock(3, 2), Reply::Queued),
+];
 
 #[test]
 fn boosts_go_through_a_chain(rt: HostRuntime) -> Result<(), Fail> {
-    let (mut scene, [low, middle, high]) = chained(rt.alloc())?;
-    let m2 = mutex(2)?;
-    assert_eq!(rt; scene.effective(low), Prio::new(99));
-    assert_eq!(rt; scene.effective(middle), Prio::new(99));
-    assert_eq!(rt; scene.status(high)?, Status::Queued(m2));
-    assert_eq!(rt; scene.pick(), Some(low));
-    assert_eq!(rt; scene.lock(low, m2)?, Err(Errno::Deadlock));
-    Ok(())
+    let mut scene = Scene::new(rt.alloc(), &[1, 2, 99], 2, 1)?;
+    check(&rt, &mut scene, &CHAIN)?;
+    check(
+        &rt,
+        &mut scene,
+        &[
+            (Ask::Effective(1), Reply::Prio(99)),
+            (Ask::Effective(2), Reply::Prio(99)),
+            (Ask::Status(3), Reply::Is(Status::Queued(mutex(2)?))),
+            (Ask::Pick, Reply::Runs(1)),
+            (Ask::Lock(1, 2), Reply::Refused(Errno::Deadlock)),
+        ],
+    )
 }
 
 #[test]
 fn who_unlocks_loses_the_boost(rt: HostRuntime) -> Result<(), Fail> {
-    let (mut scene, [low, middle, _]) = chained(rt.alloc())?;
-    assert_eq!(rt; scene.unlock(low, mutex(1)?)?, Ok(()));
-    assert_eq!(rt; scene.effective(low), Prio::new(1));
-    assert_eq!(rt; scene.status(middle)?, Status::Ready(Woken::Owns));
-    assert_eq!(rt; scene.pick(), Some(middle));
-    Ok(())
+    let mut scene = Scene::new(rt.alloc(), &[1, 2, 99], 2, 1)?;
+    check(&rt, &mut scene, &CHAIN)?;
+    check(
+        &rt,
+        &mut scene,
+        &[
+            (Ask::Unlock(1, 1), Reply::Done),
+            (Ask::Effective(1), Reply::Prio(1)),
+            (Ask::Status(2), Reply::Is(Status::Ready(Woken::Owns))),
+            (Ask::Pick, Reply::Runs(2)),
+        ],
+    )
 }
 
 #[test]
 fn priority_is_set_and_places_stay(rt: HostRuntime) -> Result<(), Fail> {
-    let m1 = mutex(1)?;
-    let mut scene = Scene::new(rt.alloc(), limits(3, 1)?, 1, 0)?;
-    let (owner, first, second) = (scene.add(10)?, scene.add(20)?, scene.add(20)?);
-    assert_eq!(rt; scene.lock(owner, m1)?, Ok(Took::Owns));
-    assert_eq!(rt; scene.lock(first, m1)?, Ok(Took::Queued));
-    assert_eq!(rt; scene.lock(second, m1)?, Ok(Took::Queued));
-    assert_eq!(rt; scene.set_prio(first, 30), Ok(()));
-    assert_eq!(rt; scene.effective(owner), Prio::new(30));
-    assert_eq!(rt; scene.set_prio(first, 20), Ok(()));
-    assert_eq!(rt; scene.effective(owner), Prio::new(20));
-    assert_eq!(rt; scene.unlock(owner, m1)?, Ok(()));
-    assert_eq!(rt; scene.word(m1)?, 0x8000_0002);
-    Ok(())
+    let mut scene = Scene::new(rt.alloc(), &[10, 20, 20], 1, 1)?;
+    check(
+        &rt,
+        &mut scene,
+        &[
+            (Ask::Lock(1, 1), Reply::Owns),
+            (Ask::Lock(2, 1), Reply::Queued),
+            (Ask::Lock(3, 1), Reply::Queued),
+            (Ask::SetPrio(2, 30), Reply::Done),
+            (Ask::Effective(1), Reply::Prio(30)),
+            (Ask::SetPrio(2, 20), Reply::Done),
+            (Ask::Effective(1), Reply::Prio(20)),
+            (Ask::Unlock(1, 1), Reply::Done),
+            (Ask::Word(1), Reply::Bits(0x8000_0002)),
+        ],
+    )
 }
 
-// What lock_pi on mutex 1 answers to each of these threads in turn.
-fn lock_each(scene: &mut Scene, threads: [Tid; 4]) -> Result<[Took; 4], Fail> {
-    let m1 = mutex(1)?;
-    let mut took = [Took::Owns; 4];
-    for (slot, t) in took.iter_mut().zip(threads) {
-        *slot = scene.lock(t, m1)??;
-    }
-    Ok(took)
-}
+// Four threads of priority 10 lock mutex 1 in turn, and then unlock it in turn.
+const HAND_OVERS: [(Ask, Reply); 12] = [
+    (Ask::Lock(1, 1), Reply::Owns),
+    (Ask::Lock(2, 1), Reply::Queued),
+    (Ask::Lock(3, 1), Reply::Queued),
+    (Ask::Lock(4, 1), Reply::Queued),
+    (Ask::Unlock(1, 1), Reply::Done),
+    (Ask::Word(1), Reply::Bits(0x8000_0002)),
+    (Ask::Unlock(2, 1), Reply::Done),
+    (Ask::Word(1), Reply::Bits(0x8000_0003)),
+    (Ask::Unlock(3, 1), Reply::Done),
+    (Ask::Word(1), Reply::Bits(0x8000_0004)),
+    (Ask::Unlock(4, 1), Reply::Done),
+    (Ask::Word(1), Reply::Bits(0)),
+];
 
-// The word of mutex 1 after unlock_pi by each of these threads in turn.
-fn unlock_each(scene: &mut Scene, threads: [Tid; 4]) -> Result<[u32; 4], Fail> {
-    let m1 = mutex(1)?;
-    let mut left = [0; 4];
-    for (slot, t) in left.iter_mut().zip(threads) {
-        scene.unlock(t, m1)??;
-        *slot = scene.word(m1)?;
-    }
-    Ok(left)
-}
-
-// What four threads of priority 10 see that lock mutex 1 in turn and then unlock it in turn: what each lock_pi answers,
-// and the word after each unlock_pi.
-fn hand_overs(alloc: Global, first_ticket: u64) -> Result<([Took; 4], [u32; 4]), Fail>
-    requires { 1 ≤ first_ticket }
+// The same from this first ticket, and the next ticket in the end.
+fn hand_over_from(rt: &impl Abort, alloc: Global, first: u64, next: u64) -> Result<(), Fail>
+    requires { 1 ≤ first }
 {
-    let mut scene = Scene::new(alloc, limits(4, 1)?, first_ticket, 0)?;
-    let threads = [
-        scene.add(10)?,
-        scene.add(10)?,
-        scene.add(10)?,
-        scene.add(10)?,
-    ];
-    let took = lock_each(&mut scene, threads)?;
-    let left = unlock_each(&mut scene, threads)?;
-    Ok((took, left))
+    let mut scene = Scene::new(alloc, &[10, 10, 10, 10], 1, first)?;
+    check(rt, &mut scene, &[(Ask::NextTicket, Reply::Ticket(first))])?;
+    check(rt, &mut scene, &HAND_OVERS)?;
+    check(rt, &mut scene, &[(Ask::NextTicket, Reply::Ticket(next))])
 }
 
 #[test]
 fn tickets_are_renumbered(rt: HostRuntime) -> Result<(), Fail> {
-    for first_ticket in [
-        18446744073709551612,
-        18446744073709551613,
-        18446744073709551614,
-        18446744073709551615,
+    for (first, next) in [
+        (18446744073709551612, 18446744073709551615),
+        (18446744073709551613, 4),
+        (18446744073709551614, 4),
+        (18446744073709551615, 4),
     ] {
-        let (took, left) = hand_overs(rt.alloc(), first_ticket)?;
-        assert_eq!(rt;
-            took,
-            [Took::Owns, Took::Queued, Took::Queued, Took::Queued]
-        );
-        assert_eq!(rt; left, [0x8000_0002, 0x8000_0003, 0x8000_0004, 0]);
+        hand_over_from(&rt, rt.alloc(), first, next)?;
     }
     Ok(())
 }

@@ -26,6 +26,7 @@ bits_at-with_bits_other s (Mutex m) (Mutex k) b h =
 -- a write of 32 bits to a cell leaves words
 pub IsWordMap-with_bits : (s : WordMap) (c : Cell) (b : ℕ) → IsWordMap s → HasCell s c → b < 4294967296 → IsWordMap (with_bits c b s)
 IsWordMap-with_bits s (Mutex m) b w h k = record {
+  few = omega (arith, w.few, length-set s.mutexes m b);
   no_mutex = grind (arith, common_steps, w.no_mutex);
   fits = λ n. grind (arith, common_steps, w.fits n);
 }

@@ -32,6 +32,8 @@ free_words l = record { mutexes = replicate (l.mutexes + 1) 0 }
 
 -- what holds of the words at any time
 pub record IsWordMap (s : WordMap) : Type 0 where
+  -- there are words for at most 1,024 mutexes
+  pub few : length s.mutexes ≤ 1025
   -- no mutex has no bits
   pub no_mutex : slice_index s.mutexes 0 ≡ 0
   -- the bits of each mutex are 32

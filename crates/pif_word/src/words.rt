@@ -7,8 +7,8 @@ use pif_types::{Limits, NoMemory};
 use std::alloc::Global;
 use std::marker::Model;
 
-/// The words that threads share, one for each mutex that the limits allow. Each access is one step: it touches one word
-/// once.
+/// The words that threads share, one for each mutex that the limits allow, of which there are at most 1,024. Each access
+/// is one step: it touches one word once.
 #[derive(Drop)]
 pub struct Words {
     mutexes: Vec<u32>,

@@ -7,5 +7,6 @@ use Rattle.pif_kernel.proofs.parts.Parts.pick.Goals as goal
 
 pub returns : goal.returns
 returns c =
-    let P : Plain → Type 0 = λ p. c.pick.result ≡ (if pick_in (kernel_of p) == 0 then None else Some (pick_in (kernel_of p))) in
+    let P : Plain → Type 0
+    = λ p. c.pick.result ≡ (if pick_in (kernel_of p) == 0 then None else Some (pick_in (kernel_of p))) in
     subst P c.self.view_is (pick_seen (plain_of c.self.inside) c.pick.result c.pick.ensures.none c.pick.ensures.first)

@@ -15,15 +15,25 @@ returns-clause-same c =
     let p : Plain = plain_of c.self.inside in
     let h : IsSound p = subst IsSound (sym c.self.view_is) c.requires.sound in
     let tags : IsRetagged p.owners c.number_anew-ticket.new.owners p.arrivals (length p.arrivals)
-    = subst (λ (ws : List (ℕ × ℕ)). IsRetagged p.owners c.number_anew-ticket.new.owners ws (length ws)) c.deref.ensures.value c.number_anew-ticket.ensures.tags in
-    let next : c.number_anew-ticket.result ≡ 1 + length p.arrivals = omega (arith, c.number_anew-ticket.ensures.next, ap (λ (ws : List (ℕ × ℕ)). length ws) c.deref.ensures.value) in
-    kernel_after p c.number_anew-ticket.new.owners (length p.arrivals) h tags c.number_anew-ticket.result refl next ∙ ap kernel_of c.self.view_is
+    = subst (λ (ws : List (ℕ × ℕ)). IsRetagged p.owners c.number_anew-ticket.new.owners ws (length ws))
+    c.deref.ensures.value c.number_anew-ticket.ensures.tags in
+    let next : c.number_anew-ticket.result ≡ 1 + length p.arrivals
+    = omega (arith, c.number_anew-ticket.ensures.next, ap (λ (ws : List (ℕ × ℕ)). length ws) c.deref.ensures.value) in
+    kernel_after p c.number_anew-ticket.new.owners (length p.arrivals) h tags c.number_anew-ticket.result refl next
+    ∙ ap kernel_of c.self.view_is
 
 pub returns-clause-sound : goal.returns-clause-sound
 returns-clause-sound c =
     let p : Plain = plain_of c.self.inside in
     let h : IsSound p = subst IsSound (sym c.self.view_is) c.requires.sound in
     let tags : IsRetagged p.owners c.number_anew-ticket.new.owners p.arrivals (length p.arrivals)
-    = subst (λ (ws : List (ℕ × ℕ)). IsRetagged p.owners c.number_anew-ticket.new.owners ws (length ws)) c.deref.ensures.value c.number_anew-ticket.ensures.tags in
-    let next : c.number_anew-ticket.result ≡ 1 + length p.arrivals = omega (arith, c.number_anew-ticket.ensures.next, ap (λ (ws : List (ℕ × ℕ)). length ws) c.deref.ensures.value) in
+    = subst (λ (ws : List (ℕ × ℕ)). IsRetagged p.owners c.number_anew-ticket.new.owners ws (length ws))
+    c.deref.ensures.value c.number_anew-ticket.ensures.tags in
+    let next : c.number_anew-ticket.result ≡ 1 + length p.arrivals
+    = omega (arith, c.number_anew-ticket.ensures.next, ap (λ (ws : List (ℕ × ℕ)). length ws) c.deref.ensures.value) in
     sound_after p c.number_anew-ticket.new.owners (length p.arrivals) h tags c.number_anew-ticket.result refl next
+
+pub returns-clause-next : goal.returns-clause-next
+returns-clause-next c =
+    c.number_anew-ticket.ensures.next ∙ ap (λ (ws : List (ℕ × ℕ)). length ws + 1) c.deref.ensures.value
+    ∙ ap (λ (x : Plain). length x.arrivals + 1) c.self.view_is

@@ -8,11 +8,19 @@ use Rattle.pif_kernel.proofs.parts.Parts.take_ticket.Goals.{then-self, else-self
 pub returns-clause-same : goal.returns-clause-same
 returns-clause-same c =
     let same : kernel_of c.if-self.self ≡ kernel_of c.args.self.now =
-    elim c.if-self.branch [ then-self w ↦ ap kernel_of w.self-is ∙ w.renumber.ensures.same | else-self w ↦ (let e : c.if-self.self ≡ c.args.self.now = cc in ap kernel_of e) ] in
+    elim c.if-self.branch [
+      | then-self w ↦ ap kernel_of w.self-is
+          ∙ w.renumber.ensures.same
+      | else-self w ↦ (let e : c.if-self.self ≡ c.args.self.now = cc in ap kernel_of e)
+    ] in
     kernel_next (plain_of c.self-2.inside) _ ∙ ap kernel_of c.self-2.view_is ∙ same
 
 pub returns-clause-sound : goal.returns-clause-sound
 returns-clause-sound c =
     let sound : IsSound c.if-self.self =
-    elim c.if-self.branch [ then-self w ↦ subst IsSound (sym w.self-is) w.renumber.ensures.sound | else-self w ↦ (let e : c.if-self.self ≡ c.args.self.now = cc in subst IsSound (sym e) c.requires.sound) ] in
+    elim c.if-self.branch [
+      | then-self w ↦ subst IsSound (sym w.self-is) w.renumber.ensures.sound
+      | else-self w ↦
+          (let e : c.if-self.self ≡ c.args.self.now = cc in subst IsSound (sym e) c.requires.sound)
+    ] in
     sound_next (plain_of c.self-2.inside) (subst IsSound (sym c.self-2.view_is) sound)
