@@ -2,13 +2,13 @@
 use Rattle.std.proofs.Common.{◌≡◌, ◌≢◌, ◌⊎◌, ◌↔◌, ℕ, zero, suc, ◌<◌, ◌≤◌, ◌+◌, max, Bool, true, false, ◌==◌, eqb, List, [], ◌∷◌, length, Option, Some, None, refl, sym, ap, ◌∙◌, subst, inl, inr, if◌then◌else◌, arith}
 use Rattle.std.specs.Prelude.{option_map, option_and_then, unwrap_or}
 use Rattle.std.specs.List.{list_any, IsDistinct}
-use Rattle.std.proofs.lemmas.Bool.{cases_eq, cases_lt, eqb-true, or_cases, false_from_ne_true}
+use Rattle.std.proofs.lemmas.Bool.{cases_eq, cases_lt, eqb-true, eq-eqb, or_cases, false_from_ne_true}
 use Rattle.std.proofs.lemmas.List.{get_or_past}
 use Rattle.std.proofs.lemmas.Map.Keys.{IsDistinct-cons}
 use Rattle.std.proofs.lemmas.Map.Steps.{length-le_from_distinct_below}
 use Rattle.pif_model.specs.Graph.{reaches_within, greatest_where, effective_among, Reaches, IsEffective}
 use Rattle.pif_model.specs.Graph.Reaches.{here, hop}
-use Rattle.pif_chains.proofs.Following.{IsGreatestAt, reaches-from_within, all_apart, no_repeats, greatest_where_some}
+use Rattle.pif_chains.proofs.Following.{IsGreatestAt, reaches-from_within, all_apart, no_repeats, greatest_where_above, greatest_where_some}
 use Rattle.pif_chains.proofs.Greatest.{effective_above, effective_attained, effective_own, effective_same}
 use Rattle.pif_chains.proofs.Hops.{Reaches-then, alone, nobody, found, found_below}
 use Rattle.pif_rtmutex.specs.Owners.{Owners, Seat, Wait, no_seat, seat_at, owner_at, waits_on, waits_for, WaitsFor, IsSound}
@@ -208,17 +208,57 @@ module _ (v : Owners) (start : ℕ) (sound : IsSound v) (repaired : IsRepairedBu
           let r : IsBacked v found.0 = ih found.0 (back k xs t found.0 b a) in
           (r.0, r.1, Reaches-then r.2 a, omega (arith, local, r.3, found.3))
 
-  -- so a thread that nobody who was admitted reaches has no effective priority
-  local_none : (t : ℕ) → IsThread v t → (Reaches (WaitsFor v) start t → ⊥) → greatest_base v t ≡ 0 → local_of v t ≡ 0
-  local_none t th free e =
-      let b : IsBack v start (length v.seats) [] t =
-      record { long = omega arith; distinct = no_repeats; below = λ x h. absurd (no_member h); before = λ x h. absurd (no_member h); thread = th; free = free } in
-      let r : IsBacked v t = backed (length v.seats) [] t b in
-      let l : base_of v r.0 ≤ greatest_base v t = greatest_base-above v r.0 t r.1.1 th.1 r.2 in
-      omega (arith, l, r.3)
+  -- so somebody backs each thread for which `start` doesn't wait
+  all_backed : (t : ℕ) → IsThread v t → (Reaches (WaitsFor v) start t → ⊥) → IsBacked v t
+  all_backed t th free =
+      backed (length v.seats) [] t
+      (record {
+        long = omega arith;
+        distinct = no_repeats;
+        below = λ x h. absurd (no_member h);
+        before = λ x h. absurd (no_member h);
+        thread = th;
+        free = free;
+      })
     where
       no_member : false ≡ true → ⊥
       no_member h = cc
+
+  -- a thread that nobody who was admitted reaches has no effective priority
+  local_none : (t : ℕ) → IsThread v t → (Reaches (WaitsFor v) start t → ⊥) → greatest_base v t ≡ 0 → local_of v t ≡ 0
+  local_none t th free e =
+      let r : IsBacked v t = all_backed t th free in
+      let l : base_of v r.0 ≤ greatest_base v t = greatest_base-above v r.0 t r.1.1 th.1 r.2 in
+      omega (arith, l, r.3)
+
+  -- who reaches a thread is one
+  thread_along : {u t : ℕ} → Reaches (WaitsFor v) u t → IsThread v t → IsThread v u
+  thread_along (here e) th = subst (IsThread v) (sym e) th
+  thread_along (hop {u = u} {v = w} a r) th = waiter u w a
+
+  -- along a chain that doesn't come from `start` effective priorities don't fall
+  local_along : {u t : ℕ} → Reaches (WaitsFor v) u t → IsThread v t → (Reaches (WaitsFor v) start t → ⊥)
+      → local_of v u ≤ local_of v t
+  local_along (here e) th free = omega (arith, ap (local_of v) e)
+  local_along (hop {u = u} {v = w} {t = t} a r) th free =
+      let local : local_of v w ≡ max (base_of v w) (greatest_waiting v w) =
+      repaired.locals w (thread_along r th) (λ e. free (subst (λ (x : ℕ). Reaches (WaitsFor v) x t) e r)) in
+      let high : local_of v u ≤ greatest_waiting v w =
+      greatest_where_above (λ x. waits_for v x == w) (local_of v) (length v.seats) u (waiter u w a).1
+      (eq-eqb (waits_for v u) w a.0) in
+      omega (arith, local, high, local_along r th free)
+
+  -- so a thread for which `start` doesn't wait has the effective priority that it is to have
+  pub local_is_greatest : (t : ℕ) → IsThread v t → (Reaches (WaitsFor v) start t → ⊥) → local_of v t ≡ greatest_base v t
+  local_is_greatest t th free =
+      let r : IsBacked v t = all_backed t th free in
+      let most : base_of v r.0 ≤ greatest_base v t = greatest_base-above v r.0 t r.1.1 th.1 r.2 in
+      let best = greatest_base-attained v t th.1 in
+      let own : local_of v best.0 ≡ max (base_of v best.0) (greatest_waiting v best.0) =
+      repaired.locals best.0 (thread_along best.2 th)
+      (λ e. free (subst (λ (x : ℕ). Reaches (WaitsFor v) x t) e best.2)) in
+      let least : local_of v best.0 ≤ local_of v t = local_along best.2 th free in
+      omega (arith, r.3, most, own, least, best.3)
 
   -- and it stays as it is where it is given none
   pub idle : start < length v.seats → 1 ≤ base_of v start → (t : ℕ) → IsThread v t → greatest_base v t ≡ 0

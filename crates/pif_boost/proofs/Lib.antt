@@ -5,3 +5,4 @@ pub mod Repairs
 pub mod Settled
 pub mod TestLemmas
 pub mod Walks
+pub mod Joining

@@ -3,7 +3,7 @@ ghost use Rattle.pif_nodes.specs.Lists.{has};
 ghost use Rattle.pif_runq.specs.Levels.{IsLevel, level_of, Holds, IsQueued, SameOutside};
 ghost use Rattle.pif_model.specs.Graph.{IsEffective};
 ghost use Rattle.pif_rtmutex.specs.Owners.{seat_at, waits_on, WaitsFor, with_seat, IsTop};
-ghost use Rattle.pif_boost.specs.Boosts.{IsThread, base_of, local_of, greatest_base, with_effective, IsRepaired, IsRepairedBut, IsNext, level_after_move_if_queued, level_after_walk};
+ghost use Rattle.pif_boost.specs.Boosts.{IsThread, base_of, local_of, greatest_base, with_effective, IsRepaired, IsRepairedBut, IsNext, joins, level_after_move_if_queued, level_after_walk};
 
 use crate::propagate::{PLACES, priority_of, propagate_all};
 use pif_nodes::NodeTable;
@@ -21,7 +21,7 @@ use pif_types::{Prio, Tid};
 /// thread has the greatest of its base priority and of the effective priorities of those that wait for it, and every
 /// waiter, `start` too, stands with the effective priority that it has. The threads of the run queue were admitted, wait
 /// for nobody, and are on the levels of the effective priorities that they have. So only `start` and those for whom it
-/// waits can get another priority, and at most one thread, the last of them, joins another level.
+/// waits can get another priority, and at most one thread, the last of them, joins another level (`one`).
 /// After the call nothing is left to repair, and each thread of the run queue is on the level of its priority.
 pub fn walk(owners: &mut RtMutexes, queue: &mut RunQueue, table: &mut NodeTable, start: Tid) -> u32
     requires admitted { 1 ≤ base_of owners.old start }
@@ -38,6 +38,7 @@ pub fn walk(owners: &mut RtMutexes, queue: &mut RunQueue, table: &mut NodeTable,
     ensures levels { (p : ℕ) → IsLevel p
         → level_of queue.new table.new p ≡ level_after_walk owners.old queue.old table.old p }
     ensures level { (u p : ℕ) → IsLevel p → has u (level_of queue.new table.new p) ≡ true → p ≡ local_of owners.new u }
+    ensures one { (p r t u : ℕ) → joins owners.old queue.old table.old p t ≡ true → joins owners.old queue.old table.old r u ≡ true → t ≡ u }
     ensures outside { SameOutside queue.old table.old table.new }
     ensures place { queue.new ≡ record queue.old { mask = queue.new.mask } }
     ensures holds { Holds queue.new table.new }

@@ -2,6 +2,7 @@
 use Rattle.std.proofs.Common.{◌≡◌, ◌+◌, ◌∙◌, arith}
 use Rattle.std.specs.Prelude.{unwrap_or}
 use Rattle.pif_boost.specs.Boosts.{IsRepaired, greatest_base}
+use Rattle.pif_boost.proofs.Joining.{one_joins}
 use Rattle.pif_boost.proofs.Propagation.{nothing_at}
 use Rattle.pif_boost.proofs.Settled.{settled, top_is_next, walked-level}
 use Rattle.pif_boost.proofs.Walks.{numbered, walked-start, next_ready, next_idle, walked-more, walked-repaired, walked-levels, repaired-greatest}
@@ -82,3 +83,8 @@ returns-clause-level c = λ u p lp on.
     walked-level c.args.owners.now c.loop-place.owners c.args.queue.now c.loop-place.queue c.args.table.now
     c.loop-place.table c.requires.holds c.requires.ready all
     (returns-clause-levels c) u p lp on
+
+pub returns-clause-one : goal.returns-clause-one
+returns-clause-one c =
+    one_joins c.args.owners.now c.args.queue.now c.args.table.now c.args.start c.threads-place-end.ensures.sound
+    c.requires.repaired c.requires.holds c.requires.ready c.requires.running c.requires.level
