@@ -21,7 +21,7 @@ use Rattle.pif_boost.specs.Boosts.{IsRepairedBut}
 use Rattle.pif_chains.proofs.KernelFacts.{queued-from_number}
 use Rattle.pif_chains.proofs.KernelKept.{queueing_kept}
 use Rattle.pif_chains.proofs.KernelLevels.{level-left}
-use Rattle.pif_chains.proofs.KernelNumbers.{others, among-left_same, among-left_other}
+use Rattle.pif_chains.proofs.KernelNumbers.{is_other, among-left_same, among-left_other}
 use Rattle.pif_chains.proofs.Waiting.{has_waiter-from_pair}
 use Rattle.pif_chains.proofs.Places.{kept_at}
 use Rattle.pif_chains.proofs.Among.{is_among as is_waiter}
@@ -284,10 +284,10 @@ module _ (p : Plain) (keys : List (Option ℕ)) (owners : Owners) (t m owner key
       by_place c (sym (ap (λ (xs : List ℕ). is_among xs u)
       (levels_left p mid t levels r ∙ level-left t (kernel_of p).levels r)) ∙ x)
     where
-      by_place : ((u ≡ t) ⊎ (u ≡ t → ⊥)) → is_among (filter (others t) (level_at (kernel_of p).levels r)) u ≡ true
+      by_place : ((u ≡ t) ⊎ (u ≡ t → ⊥)) → is_among (filter (is_other t) (level_at (kernel_of p).levels r)) u ≡ true
           → IsListed mid u r
       by_place (inl e) y =
-          absurd (true≢false (sym y ∙ ap (is_among (filter (others t) (level_at (kernel_of p).levels r))) e
+          absurd (true≢false (sym y ∙ ap (is_among (filter (is_other t) (level_at (kernel_of p).levels r))) e
           ∙ among-left_same (level_at (kernel_of p).levels r) t))
       by_place (inr n) y =
           let l = h.placed.listed u r (sym (among-left_other (level_at (kernel_of p).levels r) t u n) ∙ y) in
