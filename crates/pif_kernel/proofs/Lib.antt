@@ -16,7 +16,7 @@ pub mod QueueLaws
 pub mod Waiters
 pub mod QueueingSound
 pub mod TicketLaws
-pub mod RetagSound
+pub mod RenumberSound
 pub mod QueueingFacts
 pub mod CallFacts
 pub mod TopLaws

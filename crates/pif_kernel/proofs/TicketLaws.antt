@@ -7,7 +7,7 @@ use Rattle.pif_nodes.specs.declared.keys.Key.{Key}
 use Rattle.pif_rtmutex.specs.Owners.{Owners, Seat, Wait, seat_at, no_seat, with_ticket}
 use Rattle.pif_chains.proofs.Waiting.{names, Once, once_head, once_tail}
 use Rattle.pif_kernel.specs.Plain.{Rise, ticket_of}
-use Rattle.pif_kernel.specs.Tickets.{retagged, retag, IsRetagged}
+use Rattle.pif_kernel.specs.Tickets.{renumbered_ticket, seat_with_ticket, IsRenumbered}
 use Rattle.pif_kernel.proofs.QueueLaws.{rise_above}
 
 pub named_at : (ws : List (ℕ × ℕ)) (i t : ℕ) (d : ℕ × ℕ) → i < length ws → (get_or ws i d).0 ≡ t → names t ws ≡ true
@@ -23,33 +23,33 @@ apart_named : (w : ℕ × ℕ) (ws : List (ℕ × ℕ)) (t : ℕ) → Once (w �
 apart_named w ws t once named e = true≢false (sym named ∙ ap (λ (x : ℕ). names x ws) (sym e) ∙ once_head w ws once)
 
 -- who is next has its old ticket, then the new one, and nobody else changes
-pub retagged_before : (f : ℕ → ℕ) (n i : ℕ) (ws : List (ℕ × ℕ)) (t : ℕ) (d : ℕ × ℕ) → Once ws → i < length ws
-    → (get_or ws i d).0 ≡ t → retagged f n i ws t ≡ f t
-retagged_before f n zero ws t d once l e = refl
-retagged_before f n (suc i) [] t d once l e = refl
-retagged_before f n (suc i) (w ∷ ws) t d once l e =
+pub ticket_before : (f : ℕ → ℕ) (n i : ℕ) (ws : List (ℕ × ℕ)) (t : ℕ) (d : ℕ × ℕ) → Once ws → i < length ws
+    → (get_or ws i d).0 ≡ t → renumbered_ticket f n i ws t ≡ f t
+ticket_before f n zero ws t d once l e = refl
+ticket_before f n (suc i) [] t d once l e = refl
+ticket_before f n (suc i) (w ∷ ws) t d once l e =
     let ne : w.0 ≢ t = apart_named w ws t once (named_at ws i t d (omega arith) e) in
     let no : (w.0 == t) ≡ false = grind (arith, nat_tests) in
-    rw no (retagged_before f (n + 1) i ws t d (once_tail w ws once) (omega arith) e)
+    rw no (ticket_before f (n + 1) i ws t d (once_tail w ws once) (omega arith) e)
 
-pub retagged_after : (f : ℕ → ℕ) (n i : ℕ) (ws : List (ℕ × ℕ)) (t : ℕ) (d : ℕ × ℕ) → Once ws → i < length ws
-    → (get_or ws i d).0 ≡ t → retagged f n (suc i) ws t ≡ n + i
-retagged_after f n i [] t d once l e = absurd (omega arith)
-retagged_after f n zero (w ∷ ws) t d once l e =
+pub ticket_after : (f : ℕ → ℕ) (n i : ℕ) (ws : List (ℕ × ℕ)) (t : ℕ) (d : ℕ × ℕ) → Once ws → i < length ws
+    → (get_or ws i d).0 ≡ t → renumbered_ticket f n (suc i) ws t ≡ n + i
+ticket_after f n i [] t d once l e = absurd (omega arith)
+ticket_after f n zero (w ∷ ws) t d once l e =
     let yes : (w.0 == t) ≡ true = grind (arith, nat_tests) in rw yes (omega arith)
-retagged_after f n (suc i) (w ∷ ws) t d once l e =
+ticket_after f n (suc i) (w ∷ ws) t d once l e =
     let ne : w.0 ≢ t = apart_named w ws t once (named_at ws i t d (omega arith) e) in
     let no : (w.0 == t) ≡ false = grind (arith, nat_tests) in
-    let ih : retagged f (n + 1) (suc i) ws t ≡ n + 1 + i
-    = retagged_after f (n + 1) i ws t d (once_tail w ws once) (omega arith) e in
+    let ih : renumbered_ticket f (n + 1) (suc i) ws t ≡ n + 1 + i
+    = ticket_after f (n + 1) i ws t d (once_tail w ws once) (omega arith) e in
     rw no (omega (arith, ih))
 
-pub retagged_other : (f : ℕ → ℕ) (n i : ℕ) (ws : List (ℕ × ℕ)) (t u : ℕ) (d : ℕ × ℕ) → i < length ws
-    → (get_or ws i d).0 ≡ t → u ≢ t → retagged f n (suc i) ws u ≡ retagged f n i ws u
-retagged_other f n i [] t u d l e ne = absurd (omega arith)
-retagged_other f n zero (w ∷ ws) t u d l e ne = let no : (w.0 == u) ≡ false = grind (arith, nat_tests) in rw no refl
-retagged_other f n (suc i) (w ∷ ws) t u d l e ne =
-    ap (λ (x : ℕ). if w.0 == u then n else x) (retagged_other f (n + 1) i ws t u d (omega arith) e ne)
+pub ticket_other_than : (f : ℕ → ℕ) (n i : ℕ) (ws : List (ℕ × ℕ)) (t u : ℕ) (d : ℕ × ℕ) → i < length ws
+    → (get_or ws i d).0 ≡ t → u ≢ t → renumbered_ticket f n (suc i) ws u ≡ renumbered_ticket f n i ws u
+ticket_other_than f n i [] t u d l e ne = absurd (omega arith)
+ticket_other_than f n zero (w ∷ ws) t u d l e ne = let no : (w.0 == u) ≡ false = grind (arith, nat_tests) in rw no refl
+ticket_other_than f n (suc i) (w ∷ ws) t u d l e ne =
+    ap (λ (x : ℕ). if w.0 == u then n else x) (ticket_other_than f (n + 1) i ws t u d (omega arith) e ne)
 
 -- the ticket at a place is at least so far above the first
 at_least : (f : ℕ → ℕ) (i least : ℕ) (ws : List (ℕ × ℕ)) (next t : ℕ) (d : ℕ × ℕ) → Rise f least ws next → i < length ws
@@ -62,8 +62,8 @@ at_least f (suc i) least (w ∷ ws) next t d r l e =
 -- where the next stands among the others: with its new ticket as with its old one
 pub order : (f : ℕ → ℕ) (n i least : ℕ) (ws : List (ℕ × ℕ)) (next t u : ℕ) (d : ℕ × ℕ) → n ≤ least
     → Rise f least ws next → i < length ws → (get_or ws i d).0 ≡ t → u ≢ t → names u ws ≡ true
-    → (n + i ≤ f t) × (((retagged f n i ws u < n + i) × (retagged f n i ws u < f t)) ⊎
-    ((n + i < retagged f n i ws u) × (f t < retagged f n i ws u)))
+    → (n + i ≤ f t) × (((renumbered_ticket f n i ws u < n + i) × (renumbered_ticket f n i ws u < f t)) ⊎
+    ((n + i < renumbered_ticket f n i ws u) × (f t < renumbered_ticket f n i ws u)))
 order f n i least [] next t u d le r l e ne named = absurd (omega arith)
 order f n zero least (w ∷ ws) next t u d le r l e ne named =
     let at : f w.0 ≡ f t = ap f e in
@@ -77,11 +77,11 @@ order f n (suc i) least (w ∷ ws) next t u d le r l e ne named =
   where
     by_head : ((w.0 ≡ u) ⊎ (w.0 ≡ u → ⊥)) → names u (w ∷ ws) ≡ true
         → (names u ws ≡ true
-        → ((n + 1) + i ≤ f t) × (((retagged f (n + 1) i ws u < (n + 1) + i) × (retagged f (n + 1) i ws u < f t)) ⊎
-        (((n + 1) + i < retagged f (n + 1) i ws u) × (f t < retagged f (n + 1) i ws u))))
+        → ((n + 1) + i ≤ f t) × (((renumbered_ticket f (n + 1) i ws u < (n + 1) + i) × (renumbered_ticket f (n + 1) i ws u < f t)) ⊎
+        (((n + 1) + i < renumbered_ticket f (n + 1) i ws u) × (f t < renumbered_ticket f (n + 1) i ws u))))
         → f w.0 + 1 ≤ f t
-        → (n + suc i ≤ f t) × (((retagged f n (suc i) (w ∷ ws) u < n + suc i) × (retagged f n (suc i) (w ∷ ws) u < f t))
-        ⊎ ((n + suc i < retagged f n (suc i) (w ∷ ws) u) × (f t < retagged f n (suc i) (w ∷ ws) u)))
+        → (n + suc i ≤ f t) × (((renumbered_ticket f n (suc i) (w ∷ ws) u < n + suc i) × (renumbered_ticket f n (suc i) (w ∷ ws) u < f t))
+        ⊎ ((n + suc i < renumbered_ticket f n (suc i) (w ∷ ws) u) × (f t < renumbered_ticket f n (suc i) (w ∷ ws) u)))
     by_head (inl same) named ih up =
         let yes : (w.0 == u) ≡ true = grind (arith, nat_tests) in
         let least_is : n + suc i ≤ f t = omega (arith, at_least f i (f w.0 + 1) ws next t d r.1 (omega arith) e, r.0) in
@@ -91,21 +91,21 @@ order f n (suc i) least (w ∷ ws) next t u d le r l e ne named =
         let p = ih (rw no at named) in
         (omega (arith, p.0), rw no (by_side p.1))
       where
-        by_side : ((retagged f (n + 1) i ws u < (n + 1) + i) × (retagged f (n + 1) i ws u < f t))
-            ⊎ (((n + 1) + i < retagged f (n + 1) i ws u) × (f t < retagged f (n + 1) i ws u))
-            → ((retagged f (n + 1) i ws u < n + suc i) × (retagged f (n + 1) i ws u < f t))
-            ⊎ ((n + suc i < retagged f (n + 1) i ws u) × (f t < retagged f (n + 1) i ws u))
+        by_side : ((renumbered_ticket f (n + 1) i ws u < (n + 1) + i) × (renumbered_ticket f (n + 1) i ws u < f t))
+            ⊎ (((n + 1) + i < renumbered_ticket f (n + 1) i ws u) × (f t < renumbered_ticket f (n + 1) i ws u))
+            → ((renumbered_ticket f (n + 1) i ws u < n + suc i) × (renumbered_ticket f (n + 1) i ws u < f t))
+            ⊎ ((n + suc i < renumbered_ticket f (n + 1) i ws u) × (f t < renumbered_ticket f (n + 1) i ws u))
         by_side (inl a) = inl (omega (arith, a.0), a.1)
         by_side (inr a) = inr (omega (arith, a.0), a.1)
 
 -- in the end the tickets rise from n on
-pub rise_retagged : (f g : ℕ → ℕ) (n : ℕ) (ws : List (ℕ × ℕ)) → Once ws
-    → ((u : ℕ) → names u ws ≡ true → g u ≡ retagged f n (length ws) ws u) → Rise g n ws (n + length ws)
-rise_retagged f g n [] once h = omega arith
-rise_retagged f g n (w ∷ ws) once h = (
+pub rise_renumbered : (f g : ℕ → ℕ) (n : ℕ) (ws : List (ℕ × ℕ)) → Once ws
+    → ((u : ℕ) → names u ws ≡ true → g u ≡ renumbered_ticket f n (length ws) ws u) → Rise g n ws (n + length ws)
+rise_renumbered f g n [] once h = omega arith
+rise_renumbered f g n (w ∷ ws) once h = (
   omega (arith, first),
   subst (λ (x : ℕ). Rise g (x + 1) ws (n + length (w ∷ ws))) (sym first)
-      (subst (λ (x : ℕ). Rise g (n + 1) ws x) (omega arith) (rise_retagged f g (n + 1) ws (once_tail w ws once) rest)),
+      (subst (λ (x : ℕ). Rise g (n + 1) ws x) (omega arith) (rise_renumbered f g (n + 1) ws (once_tail w ws once) rest)),
 )
   where
     self : (w.0 == w.0) ≡ true
@@ -114,7 +114,7 @@ rise_retagged f g n (w ∷ ws) once h = (
     first : g w.0 ≡ n
     first = h w.0 (rw self refl) ∙ rw self refl
 
-    rest : (u : ℕ) → names u ws ≡ true → g u ≡ retagged f (n + 1) (length ws) ws u
+    rest : (u : ℕ) → names u ws ≡ true → g u ≡ renumbered_ticket f (n + 1) (length ws) ws u
     rest u named =
         let ne : w.0 ≢ u = apart_named w ws u once named in
         let no : (w.0 == u) ≡ false = grind (arith, nat_tests) in
@@ -122,52 +122,52 @@ rise_retagged f g n (w ∷ ws) once h = (
 
 -- THE OWNER STATES
 
-retag_own : (v : Owners) (u : ℕ) → seat_at v u ≡ retag (ticket_of v u) (seat_at v u)
-retag_own v u = by_wait (seat_at v u)
+with_own_ticket : (v : Owners) (u : ℕ) → seat_at v u ≡ seat_with_ticket (ticket_of v u) (seat_at v u)
+with_own_ticket v u = by_wait (seat_at v u)
   where
     by_option : (base local : ℕ) (o : Option Wait)
         → record { base = base; local = local; wait = o }
-        ≡ retag (unwrap_or (option_map (λ (r : Key). r.ticket) (option_map (λ (w : Wait). w.rank) o)) 0)
+        ≡ seat_with_ticket (unwrap_or (option_map (λ (r : Key). r.ticket) (option_map (λ (w : Wait). w.rank) o)) 0)
         (record { base = base; local = local; wait = o })
     by_option base local None = refl
     by_option base local (Some w) = refl
 
     by_wait : (x : Seat)
-        → x ≡ retag (unwrap_or (option_map (λ (r : Key). r.ticket) (option_map (λ (w : Wait). w.rank) x.wait)) 0) x
+        → x ≡ seat_with_ticket (unwrap_or (option_map (λ (r : Key). r.ticket) (option_map (λ (w : Wait). w.rank) x.wait)) 0) x
     by_wait x = by_option x.base x.local x.wait
 
-pub retagged_none : (v : Owners) (ws : List (ℕ × ℕ)) → IsRetagged v v ws 0
-retagged_none v ws = record { seats = refl; owners = refl; seat = λ u. retag_own v u }
+pub renumbered_none : (v : Owners) (ws : List (ℕ × ℕ)) → IsRenumbered v v ws 0
+renumbered_none v ws = record { seats = refl; owners = refl; seat = λ u. with_own_ticket v u }
 
-retag_twice : (n k : ℕ) (base local : ℕ) (o : Option Wait)
-    → retag n (retag k (record { base = base; local = local; wait = o }))
-    ≡ retag n (record { base = base; local = local; wait = o })
-retag_twice n k base local None = refl
-retag_twice n k base local (Some w) = refl
+with_ticket_twice : (n k : ℕ) (base local : ℕ) (o : Option Wait)
+    → seat_with_ticket n (seat_with_ticket k (record { base = base; local = local; wait = o }))
+    ≡ seat_with_ticket n (record { base = base; local = local; wait = o })
+with_ticket_twice n k base local None = refl
+with_ticket_twice n k base local (Some w) = refl
 
 -- one more
-pub retagged_more : (v now : Owners) (ws : List (ℕ × ℕ)) (i t : ℕ) (d : ℕ × ℕ) → IsRetagged v now ws i → Once ws
+pub renumbered_more : (v now : Owners) (ws : List (ℕ × ℕ)) (i t : ℕ) (d : ℕ × ℕ) → IsRenumbered v now ws i → Once ws
     → i < length ws → (get_or ws i d).0 ≡ t → t < length v.seats
-    → IsRetagged v (with_ticket t (i + 1) now) ws (i + 1)
-retagged_more v now ws i t d h once l e inside =
+    → IsRenumbered v (with_ticket t (i + 1) now) ws (i + 1)
+renumbered_more v now ws i t d h once l e inside =
     record { seats = length-set now.seats t _ ∙ h.seats; owners = h.owners; seat = λ u. by_place u (cases_eq u t) }
   where
     by_place : (u : ℕ) → ((u ≡ t) ⊎ (u ≡ t → ⊥))
-        → seat_at (with_ticket t (i + 1) now) u ≡ retag (retagged (ticket_of v) 1 (i + 1) ws u) (seat_at v u)
+        → seat_at (with_ticket t (i + 1) now) u ≡ seat_with_ticket (renumbered_ticket (ticket_of v) 1 (i + 1) ws u) (seat_at v u)
     by_place u (inl same) =
         let one : i + 1 ≡ suc i = add-one i in
         let sum : 1 + i ≡ i + 1 = omega arith in
-        let tag : retagged (ticket_of v) 1 (i + 1) ws t ≡ i + 1
-        = ap (λ (k : ℕ). retagged (ticket_of v) 1 k ws t) one ∙ retagged_after (ticket_of v) 1 i ws t d once l e
+        let tag : renumbered_ticket (ticket_of v) 1 (i + 1) ws t ≡ i + 1
+        = ap (λ (k : ℕ). renumbered_ticket (ticket_of v) 1 k ws t) one ∙ ticket_after (ticket_of v) 1 i ws t d once l e
         ∙ sum in
         ap (λ (x : ℕ). seat_at (with_ticket t (i + 1) now) x) same
         ∙ get_or-set_same now.seats t _ no_seat (omega (arith, inside, h.seats))
-        ∙ ap (retag (i + 1)) (h.seat t)
-        ∙ retag_twice (i + 1) _ (seat_at v t).base (seat_at v t).local (seat_at v t).wait
-        ∙ ap (λ (k : ℕ). retag k (seat_at v t)) (sym tag)
-        ∙ ap (λ (x : ℕ). retag (retagged (ticket_of v) 1 (i + 1) ws x) (seat_at v x)) (sym same)
+        ∙ ap (seat_with_ticket (i + 1)) (h.seat t)
+        ∙ with_ticket_twice (i + 1) _ (seat_at v t).base (seat_at v t).local (seat_at v t).wait
+        ∙ ap (λ (k : ℕ). seat_with_ticket k (seat_at v t)) (sym tag)
+        ∙ ap (λ (x : ℕ). seat_with_ticket (renumbered_ticket (ticket_of v) 1 (i + 1) ws x) (seat_at v x)) (sym same)
     by_place u (inr ne) =
         let one : i + 1 ≡ suc i = add-one i in
         get_or-set_other now.seats t u _ no_seat ne ∙ h.seat u
-        ∙ ap (λ (k : ℕ). retag k (seat_at v u))
-        (sym (ap (λ (k : ℕ). retagged (ticket_of v) 1 k ws u) one ∙ retagged_other (ticket_of v) 1 i ws t u d l e ne))
+        ∙ ap (λ (k : ℕ). seat_with_ticket k (seat_at v u))
+        (sym (ap (λ (k : ℕ). renumbered_ticket (ticket_of v) 1 k ws u) one ∙ ticket_other_than (ticket_of v) 1 i ws t u d l e ne))

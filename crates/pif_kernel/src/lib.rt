@@ -27,9 +27,9 @@
 //! stop                                                                        t is stopped t leaves
 //! ```
 //!
-//! The work stands in five files over the same parts: `refusals` has the tests of the calls, `threads` adds, stops and
-//! reprioritizes a thread, `queueing` queues a thread and hands a mutex over, `tickets` numbers the waiters in their
-//! order, and `parts` keeps what they touch.
+//! `PlainKernel` makes a call of its steps, which stand in four files over the same parts: `refusals` has the tests of the
+//! calls, `threads` adds and stops a thread and gives it another priority, `queueing` queues a thread and hands a mutex
+//! over, and `tickets` numbers the waiters in their order. `parts` keeps what they touch.
 #![tactic(auto)]
 
 mod kernel;

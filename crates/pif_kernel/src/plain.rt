@@ -44,8 +44,8 @@ impl PlainKernel {
         Ok(PlainKernel { parts })
     }
 
-    /// The ticket that the next waiter gets, at most 2^64 - 2. At 2^64 - 1 the tickets that are held are numbered anew
-    /// from 1 first, in their order, and that waiter gets the one behind them.
+    /// The next ticket, from 1 on: a number that rises with each waiter. Where it is 2^64 - 1, the next waiter has the
+    /// tickets that are held numbered anew from 1 first, in their order, and gets the one behind them.
     pub fn next_ticket(&self) -> u64
         ensures { result ≡ next_ticket self.now }
     {

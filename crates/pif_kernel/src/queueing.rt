@@ -25,7 +25,8 @@ impl Parts {
         ensures after { kernel_of self.new ≡ kernel_after_queueing t m owner (kernel_of self.old) }
         ensures sound { IsSound self.new }
     {
-        let _mutex = m.get();
+        // For the prover: a mutex has a number from 1.
+        let _number = m.get();
         let ticket = self.take_ticket();
         let key = self.state_of(m, owner, key);
         let prio = self.owners.local(t).unwrap();

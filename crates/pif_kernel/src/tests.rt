@@ -40,6 +40,7 @@ enum Reply {
     Done,
     Refused(Errno),
     Is(Status),
+    QueuedOn(u32),
     Prio(u32),
     Runs(u32),
     Nobody,
@@ -103,7 +104,10 @@ impl Scene {
 
     fn status(&self, t: Tid) -> Result<Reply, Fail> {
         see_added(&self.kernel, t)?;
-        Ok(Reply::Is(self.kernel.status(t)))
+        Ok(match self.kernel.status(t) {
+            Status::Queued(m) => Reply::QueuedOn(m.get()),
+            other => Reply::Is(other),
+        })
     }
 
     fn effective(&self, t: Tid) -> Reply {
@@ -311,7 +315,7 @@ fn kernel_refusals_on_any_words(rt: HostRuntime) -> Result<(), Fail> {
             (Ask::Store(1, 0x0000_0001), Reply::Done),
             (Ask::Unlock(1, 1), Reply::Refused(Errno::Invalid)),
             (Ask::Word(1), Reply::Bits(0x0000_0001)),
-            (Ask::Status(3), Reply::Is(Status::Queued(mutex(1)?))),
+            (Ask::Status(3), Reply::QueuedOn(1)),
         ],
     )
 }
@@ -334,7 +338,7 @@ fn boosts_go_through_a_chain(rt: HostRuntime) -> Result<(), Fail> {
         &[
             (Ask::Effective(1), Reply::Prio(99)),
             (Ask::Effective(2), Reply::Prio(99)),
-            (Ask::Status(3), Reply::Is(Status::Queued(mutex(2)?))),
+            (Ask::Status(3), Reply::QueuedOn(2)),
             (Ask::Pick, Reply::Runs(1)),
             (Ask::Lock(1, 2), Reply::Refused(Errno::Deadlock)),
         ],
@@ -393,14 +397,18 @@ const HAND_OVERS: [(Ask, Reply); 12] = [
     (Ask::Word(1), Reply::Bits(0)),
 ];
 
-// The same from this first ticket, and the next ticket in the end.
+// The same, between these two next tickets.
+fn hand_over(rt: &impl Abort, scene: &mut Scene, first: u64, next: u64) -> Result<(), Fail> {
+    check(rt, scene, &[(Ask::NextTicket, Reply::Ticket(first))])?;
+    check(rt, scene, &HAND_OVERS)?;
+    check(rt, scene, &[(Ask::NextTicket, Reply::Ticket(next))])
+}
+
 fn hand_over_from(rt: &impl Abort, alloc: Global, first: u64, next: u64) -> Result<(), Fail>
     requires { 1 ≤ first }
 {
     let mut scene = Scene::new(alloc, &[10, 10, 10, 10], 1, first)?;
-    check(rt, &mut scene, &[(Ask::NextTicket, Reply::Ticket(first))])?;
-    check(rt, &mut scene, &HAND_OVERS)?;
-    check(rt, &mut scene, &[(Ask::NextTicket, Reply::Ticket(next))])
+    hand_over(rt, &mut scene, first, next)
 }
 
 #[test]

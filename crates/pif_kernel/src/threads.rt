@@ -16,6 +16,7 @@ impl Parts {
         ensures after { kernel_of self.new ≡ kernel_after_add prio (kernel_of self.old) }
         ensures sound { IsSound self.new }
     {
+        // For the prover: a priority is 1 to 99.
         let _level = prio.get();
         let t = Tid::new(self.statuses.len() as u32).unwrap();
         push_within(&mut self.statuses, Status::Ready(Woken::Fresh));
@@ -31,6 +32,7 @@ impl Parts {
         ensures after { kernel_of self.new ≡ kernel_after_set_prio t prio (Ok (record {})) (kernel_of self.old) }
         ensures sound { IsSound self.new }
     {
+        // For the prover: a priority is 1 to 99.
         let _level = prio.get();
         self.owners.set_base(t, prio);
         walk(&mut self.owners, &mut self.queue, &mut self.table, t);

@@ -1,5 +1,5 @@
 ghost use Rattle.std.specs.Prelude.{◌≡◌, ◌<◌, ◌+◌, length};
-ghost use Rattle.pif_kernel.specs.Tickets.{IsRetagged, IsRetaggable};
+ghost use Rattle.pif_kernel.specs.Tickets.{IsRenumbered, IsRenumberable};
 ghost use Rattle.pif_kernel.specs.Plain.{IsSound, kernel_of, Rise, ticket_of};
 
 use crate::parts::Parts;
@@ -40,9 +40,9 @@ impl Parts {
 
 /// Numbers the tickets of these waiters anew from 1, in their order. Answers the ticket after the last.
 fn number_anew(owners: &mut RtMutexes, arrivals: &[(Tid, MutexId)]) -> u64
-    requires { IsRetaggable owners.old arrivals.now }
+    requires { IsRenumberable owners.old arrivals.now }
     ensures next { result ≡ length arrivals.now + 1 }
-    ensures tags { IsRetagged owners.old owners.new arrivals.now (length arrivals.now) }
+    ensures tags { IsRenumbered owners.old owners.new arrivals.now (length arrivals.now) }
 {
     let mut ticket = 1;
     for (t, _) in arrivals {

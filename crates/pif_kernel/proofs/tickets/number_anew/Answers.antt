@@ -1,11 +1,11 @@
 use Rattle.std.proofs.Common.{◌≡◌, ℕ, ◌+◌, get_or, is_some, subst, sym, ap, ◌∙◌, arith}
 use Rattle.pif_rtmutex.specs.Owners.{Owners, KeepsOrder, with_ticket}
-use Rattle.pif_kernel.specs.Tickets.{IsRetagged}
-use Rattle.pif_kernel.proofs.TicketLaws.{retagged_none, retagged_more, named_at}
+use Rattle.pif_kernel.specs.Tickets.{IsRenumbered}
+use Rattle.pif_kernel.proofs.TicketLaws.{renumbered_none, renumbered_more, named_at}
 use Rattle.pif_kernel.proofs.tickets.number_anew.Goals as goal
 
 pub loop-t-init : goal.loop-t-init
-loop-t-init c = record { ticket = omega arith; tags = retagged_none c.args.owners.now c.args.arrivals.now }
+loop-t-init c = record { ticket = omega arith; tags = renumbered_none c.args.owners.now c.args.arrivals.now }
 
 pub set_ticket-requires-clause-queued : goal.set_ticket-requires-clause-queued
 set_ticket-requires-clause-queued c =
@@ -29,8 +29,8 @@ loop-t-preserved c =
     = c.set_ticket.ensures.changed ∙ ap (λ (n : ℕ). with_ticket w.0 n c.loop-t.owners) c.loop-t.invariant.ticket in
     record {
       ticket = omega (arith, c.loop-t.invariant.ticket);
-      tags = subst (λ (v : Owners). IsRetagged c.args.owners.now v c.args.arrivals.now (c.loop-t.t-index + 1)) (sym is)
-          (retagged_more c.args.owners.now c.loop-t.owners c.args.arrivals.now c.loop-t.t-index w.0 w
+      tags = subst (λ (v : Owners). IsRenumbered c.args.owners.now v c.args.arrivals.now (c.loop-t.t-index + 1)) (sym is)
+          (renumbered_more c.args.owners.now c.loop-t.owners c.args.arrivals.now c.loop-t.t-index w.0 w
           c.loop-t.invariant.tags c.requires.once c.loop-t-test.true (ap (λ (x : ℕ × ℕ). x.0) t)
           (c.requires.rows w.0 (named_at c.args.arrivals.now c.loop-t.t-index w.0 w c.loop-t-test.true
           (ap (λ (x : ℕ × ℕ). x.0) t))));

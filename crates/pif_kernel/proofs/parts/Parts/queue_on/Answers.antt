@@ -30,7 +30,7 @@ entered c =
     let p : Plain = c.take_ticket-ticket.new.self in
     folded c.args.self.now p x c.args.t c.args.m c.args.owner c.state_of-key.result c.take_ticket-ticket.result
     (entry c.args.self.now p x c.args.t c.args.m c.args.owner c.state_of-key.result c.take_ticket-ticket.result
-    (omega (arith, c.get-mutex.ensures.value, c.get-mutex.ensures.range))
+    (omega (arith, c.get-number.ensures.value, c.get-number.ensures.range))
     (record {
       added = c.requires.added;
       ready = c.requires.ready;

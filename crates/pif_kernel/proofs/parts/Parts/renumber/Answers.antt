@@ -1,21 +1,21 @@
 use Rattle.std.proofs.Common.{◌≡◌, ℕ, List, ◌+◌, length, refl, subst, sym, ap, ◌∙◌, arith}
 use Rattle.pif_kernel.specs.Plain.{Plain, IsSound, kernel_of}
-use Rattle.pif_kernel.specs.Tickets.{IsRetagged, IsRetaggable}
+use Rattle.pif_kernel.specs.Tickets.{IsRenumbered, IsRenumberable}
 use Rattle.pif_kernel.specs.Fields.{plain_of}
-use Rattle.pif_kernel.proofs.RetagSound.{retaggable, kernel_after, sound_after}
+use Rattle.pif_kernel.proofs.RenumberSound.{renumberable, kernel_after, sound_after}
 use Rattle.pif_kernel.proofs.parts.Parts.renumber.Goals as goal
 
 pub number_anew-ticket-requires : goal.number_anew-ticket-requires
 number_anew-ticket-requires c =
-    subst (λ (ws : List (ℕ × ℕ)). IsRetaggable c.self.inside.owners ws) (sym c.deref.ensures.value)
-    (retaggable (plain_of c.self.inside) (subst IsSound (sym c.self.view_is) c.requires.sound))
+    subst (λ (ws : List (ℕ × ℕ)). IsRenumberable c.self.inside.owners ws) (sym c.deref.ensures.value)
+    (renumberable (plain_of c.self.inside) (subst IsSound (sym c.self.view_is) c.requires.sound))
 
 pub returns-clause-same : goal.returns-clause-same
 returns-clause-same c =
     let p : Plain = plain_of c.self.inside in
     let h : IsSound p = subst IsSound (sym c.self.view_is) c.requires.sound in
-    let tags : IsRetagged p.owners c.number_anew-ticket.new.owners p.arrivals (length p.arrivals)
-    = subst (λ (ws : List (ℕ × ℕ)). IsRetagged p.owners c.number_anew-ticket.new.owners ws (length ws))
+    let tags : IsRenumbered p.owners c.number_anew-ticket.new.owners p.arrivals (length p.arrivals)
+    = subst (λ (ws : List (ℕ × ℕ)). IsRenumbered p.owners c.number_anew-ticket.new.owners ws (length ws))
     c.deref.ensures.value c.number_anew-ticket.ensures.tags in
     let next : c.number_anew-ticket.result ≡ 1 + length p.arrivals
     = omega (arith, c.number_anew-ticket.ensures.next, ap (λ (ws : List (ℕ × ℕ)). length ws) c.deref.ensures.value) in
@@ -26,8 +26,8 @@ pub returns-clause-sound : goal.returns-clause-sound
 returns-clause-sound c =
     let p : Plain = plain_of c.self.inside in
     let h : IsSound p = subst IsSound (sym c.self.view_is) c.requires.sound in
-    let tags : IsRetagged p.owners c.number_anew-ticket.new.owners p.arrivals (length p.arrivals)
-    = subst (λ (ws : List (ℕ × ℕ)). IsRetagged p.owners c.number_anew-ticket.new.owners ws (length ws))
+    let tags : IsRenumbered p.owners c.number_anew-ticket.new.owners p.arrivals (length p.arrivals)
+    = subst (λ (ws : List (ℕ × ℕ)). IsRenumbered p.owners c.number_anew-ticket.new.owners ws (length ws))
     c.deref.ensures.value c.number_anew-ticket.ensures.tags in
     let next : c.number_anew-ticket.result ≡ 1 + length p.arrivals
     = omega (arith, c.number_anew-ticket.ensures.next, ap (λ (ws : List (ℕ × ℕ)). length ws) c.deref.ensures.value) in

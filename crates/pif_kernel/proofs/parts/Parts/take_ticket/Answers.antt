@@ -1,7 +1,7 @@
 use Rattle.std.proofs.Common.{◌≡◌, subst, sym, ap, ◌∙◌}
 use Rattle.pif_kernel.specs.Plain.{IsSound, kernel_of}
 use Rattle.pif_kernel.specs.Fields.{plain_of}
-use Rattle.pif_kernel.proofs.RetagSound.{kernel_next, sound_next}
+use Rattle.pif_kernel.proofs.RenumberSound.{kernel_next, sound_next}
 use Rattle.pif_kernel.proofs.parts.Parts.take_ticket.Goals as goal
 use Rattle.pif_kernel.proofs.parts.Parts.take_ticket.Goals.{then-self, else-self}
 

@@ -9,11 +9,11 @@ use Rattle.pif_model.specs.PiKernel.{Kernel, IsKernel, effective_in}
 use Rattle.pif_rtmutex.specs.Owners.{Owners, Seat, Wait, seat_at, owner_at, count, waits_on, rank_of, no_seat, KeepsOrder}
 use Rattle.pif_chains.proofs.Waiting.{names}
 use Rattle.pif_kernel.specs.Plain.{Plain, IsPlaced, IsSound, Rise, kernel_of, key_at, state_at, ticket_of}
-use Rattle.pif_kernel.specs.Tickets.{retagged, retag, IsRetagged, IsRetaggable}
+use Rattle.pif_kernel.specs.Tickets.{renumbered_ticket, seat_with_ticket, IsRenumbered, IsRenumberable}
 use Rattle.pif_kernel.proofs.Seats.{IsFitted, states_seen, states_length, kernel_by_parts, seats_of-same_base}
 use Rattle.pif_kernel.proofs.Standing.{listed_kept, fits}
 use Rattle.pif_kernel.proofs.QueueLaws.{rise_once}
-use Rattle.pif_kernel.proofs.TicketLaws.{order, retagged_before, rise_retagged, named_at}
+use Rattle.pif_kernel.proofs.TicketLaws.{order, ticket_before, rise_renumbered, named_at}
 use Rattle.pif_kernel.proofs.Waiters.{waits_some, waits_named, named_known, arrivals_few}
 
 wait_state : (n : ℕ) (o : Option Wait)
@@ -39,9 +39,9 @@ wait_ticket : (n : ℕ) (o : Option Wait) → is_some (option_map (λ (w : Wait)
 wait_ticket n None e = absurd (false≢true e)
 wait_ticket n (Some w) e = refl
 
-module _ (p : Plain) (now : Owners) (i : ℕ) (h : IsSound p) (g : IsRetagged p.owners now p.arrivals i) where
+module _ (p : Plain) (now : Owners) (i : ℕ) (h : IsSound p) (g : IsRenumbered p.owners now p.arrivals i) where
   abbrev tag : ℕ → ℕ
-  tag u = retagged (ticket_of p.owners) 1 i p.arrivals u
+  tag u = renumbered_ticket (ticket_of p.owners) 1 i p.arrivals u
 
   waits_now : (u : ℕ) → waits_on now u ≡ waits_on p.owners u
   waits_now u =
@@ -69,7 +69,7 @@ module _ (p : Plain) (now : Owners) (i : ℕ) (h : IsSound p) (g : IsRetagged p.
     where
       old : tag t ≡ ticket_of p.owners t
       old =
-          retagged_before (ticket_of p.owners) 1 i p.arrivals t d
+          ticket_before (ticket_of p.owners) 1 i p.arrivals t d
           (rise_once (ticket_of p.owners) 1 p.arrivals p.next h.placed.tickets) l e
 
       side : (u : ℕ) → u ≢ t → waits_on now u ≡ waits_on now t → Side t u
@@ -112,15 +112,15 @@ module _ (p : Plain) (now : Owners) (i : ℕ) (h : IsSound p) (g : IsRetagged p.
     base_now u = ap (λ (x : Seat). x.base) (g.seat u)
 
     nobody_now : (u : ℕ) → seat_at p.owners u ≡ no_seat → seat_at now u ≡ no_seat
-    nobody_now u e = g.seat u ∙ ap (retag (tag u)) e
+    nobody_now u e = g.seat u ∙ ap (seat_with_ticket (tag u)) e
 
     ticket_now : (u : ℕ) → names u p.arrivals ≡ true
-        → ticket_of now u ≡ retagged (ticket_of p.owners) 1 (length p.arrivals) p.arrivals u
+        → ticket_of now u ≡ renumbered_ticket (ticket_of p.owners) 1 (length p.arrivals) p.arrivals u
     ticket_now u e =
         ap (λ (x : Seat). unwrap_or (option_map (λ (r : Key). r.ticket) (option_map (λ (w : Wait). w.rank) x.wait)) 0)
         (g.seat u)
         ∙ wait_ticket (tag u) (seat_at p.owners u).wait (waits_some p h u e)
-        ∙ ap (λ (n : ℕ). retagged (ticket_of p.owners) 1 n p.arrivals u) all
+        ∙ ap (λ (n : ℕ). renumbered_ticket (ticket_of p.owners) 1 n p.arrivals u) all
 
     pub kernel_after : kernel_of after ≡ kernel_of p
     unfolding kernel_of
@@ -171,7 +171,7 @@ module _ (p : Plain) (now : Owners) (i : ℕ) (h : IsSound p) (g : IsRetagged p.
       owners = fit_after.owners;
       tickets =
           subst (λ (n : ℕ). Rise (ticket_of now) 1 p.arrivals n) (sym next_is)
-          (rise_retagged (ticket_of p.owners) (ticket_of now) 1 p.arrivals
+          (rise_renumbered (ticket_of p.owners) (ticket_of now) 1 p.arrivals
           (rise_once (ticket_of p.owners) 1 p.arrivals p.next h.placed.tickets) ticket_now);
     }
 
@@ -183,8 +183,8 @@ module _ (p : Plain) (now : Owners) (i : ℕ) (h : IsSound p) (g : IsRetagged p.
       kernel = kept;
     }
 
-pub retaggable : (p : Plain) → IsSound p → IsRetaggable p.owners p.arrivals
-retaggable p h = record {
+pub renumberable : (p : Plain) → IsSound p → IsRenumberable p.owners p.arrivals
+renumberable p h = record {
   few = arrivals_few p h;
   rows = λ t e. let k = named_known p h t e in omega (arith, k.1, h.placed.few, h.placed.rows);
   waits = λ t e. waits_some p h t e;
@@ -193,7 +193,7 @@ retaggable p h = record {
   stays = λ now i t g. waits_now p now i h g t;
 }
   where
-    by_wait : (now : Owners) (i t : ℕ) (d : ℕ × ℕ) → IsRetagged p.owners now p.arrivals i → i < length p.arrivals
+    by_wait : (now : Owners) (i t : ℕ) (d : ℕ × ℕ) → IsRenumbered p.owners now p.arrivals i → i < length p.arrivals
         → (get_or p.arrivals i d).0 ≡ t
         → (o : Option ℕ) → waits_on p.owners t ≡ o → KeepsOrder now t (i + 1)
     by_wait now i t d g l e None x =
