@@ -1,7 +1,6 @@
 -- A table stays sound by each call of a core.
-use Rattle.std.proofs.Common.{◌≡◌, ◌≢◌, ℕ, ◌<◌, ◌≤◌, Bool, true, false, Option, None, length, ap, ap₂, ◌∙◌, subst, nat_lt, if◌then◌else◌, arith}
+use Rattle.std.proofs.Common.{◌≡◌, ℕ, ◌≤◌, Bool, true, false, Option, None, length, ap, subst, nat_lt, if◌then◌else◌, arith}
 use Rattle.std.proofs.lemmas.Bool.Decides.{nat_tests}
-use Rattle.pif_types.specs.Bounds.{Bounds, IsWithin}
 use Rattle.pif_types.specs.declared.errors.Refusal.{Refusal}
 use Rattle.pif_types.specs.declared.requests.Kind.{Kind}
 use Rattle.pif_types.specs.declared.requests.Request.{Request}
@@ -9,10 +8,8 @@ use Rattle.pif_model.specs.declared.events.Event.{Event}
 use Rattle.pif_model.specs.declared.events.Event.TheVariants.{Begin, Go}
 use Rattle.pif_model.specs.declared.lines.Line.TheVariants.{At}
 use Rattle.pif_model.specs.Graph.{is_priority}
-use Rattle.pif_model.specs.Refusals.{begin_refused, go_refused}
-use Rattle.pif_model.specs.Posix.{names_known}
-use Rattle.pif_model.specs.Table.{Table, line_at, has_thread, has_mutex, with_line, has_thread_room, has_mutex_room, thread_added, mutex_added}
-use Rattle.pif_model.specs.Lines.{is_open, first_place, table_refusal, go_outcome, accepted_outcome, by_refusal, event_outcome}
+use Rattle.pif_model.specs.Table.{Table, line_at, with_line, has_thread_room, has_mutex_room, thread_added, mutex_added}
+use Rattle.pif_model.specs.Lines.{first_place, table_refusal, go_outcome, accepted_outcome, by_refusal, event_outcome}
 use Rattle.pif_model.specs.Standing.{IsSound}
 use Rattle.pif_chains.proofs.Numbers.{from_within}
 use Rattle.pif_simulation.proofs.ThreadAdded.{thread_added_sound}
@@ -28,16 +25,16 @@ accepted_sound s e h allowed =
     subst (λ (o : Option Refusal). IsSound (by_refusal o e s).after) allowed (event_kept s e h).sound
 
 -- a call that begins
-pub begun_sound : (s : Table) (t : ℕ) (q : Request) → IsSound s → table_refusal s (Begin t q) ≡ None
+pub begin_sound : (s : Table) (t : ℕ) (q : Request) → IsSound s → table_refusal s (Begin t q) ≡ None
     → IsSound (with_line t (At q (first_place q)) s)
 unfolding accepted_outcome
-begun_sound s t q h allowed = accepted_sound s (Begin t q) h allowed
+begin_sound s t q h allowed = accepted_sound s (Begin t q) h allowed
 
 -- a step of an open call
-pub gone_sound : (s : Table) (t : ℕ) → IsSound s → table_refusal s (Go t) ≡ None
+pub go_sound : (s : Table) (t : ℕ) → IsSound s → table_refusal s (Go t) ≡ None
     → IsSound (go_outcome (line_at s t) t s).after
 unfolding accepted_outcome
-gone_sound s t h allowed = accepted_sound s (Go t) h allowed
+go_sound s t h allowed = accepted_sound s (Go t) h allowed
 
 -- ADDITIONS
 

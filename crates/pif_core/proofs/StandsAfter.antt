@@ -10,11 +10,11 @@ use Rattle.pif_model.specs.Posix.{World, IsLegal, is_thread, is_mutex, effective
 use Rattle.pif_model.specs.Posix.{is_living as lives}
 use Rattle.pif_model.specs.History.{AlwaysOneHolder}
 use Rattle.pif_model.specs.PiKernel.{is_living, effective_in, pick_in}
-use Rattle.pif_model.specs.Table.{Table, cell_at, has_thread, has_mutex, thread_added, mutex_added}
+use Rattle.pif_model.specs.Table.{Table, cell_at, has_mutex, thread_added, mutex_added}
 use Rattle.pif_model.specs.Calls.{effective_answer, word_answer, pick_answer}
 use Rattle.pif_model.specs.Word.{word_of, bits_of}
 use Rattle.pif_model.specs.Lines.{event_outcome}
-use Rattle.pif_model.specs.Standing.{Stands, world_of, HasEffective, IsPick, IsPossible}
+use Rattle.pif_model.specs.Standing.{Stands, HasEffective, IsPick, IsPossible}
 use Rattle.pif_simulation.proofs.StandingLaws.{event_stands, thread_added_stands, mutex_added_stands}
 use Rattle.pif_simulation.proofs.Holders.{one_holder}
 use Rattle.pif_simulation.proofs.Shown.{threads_shown, is_thread_seen, is_mutex_seen, living_seen}

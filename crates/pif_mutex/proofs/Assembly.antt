@@ -1,5 +1,5 @@
 -- Parts that fit together fit together after an exchange of a word and after each kernel call.
-use Rattle.std.proofs.Common.{◌≡◌, ℕ, zero, suc, ◌+◌, ◌∷◌, arith, Bool, true, false, Result, Ok, Err, Option, List, length, map, replicate, if◌then◌else◌, refl, sym, ap, ◌∙◌, subst, length-set}
+use Rattle.std.proofs.Common.{◌≡◌, ℕ, zero, suc, ◌+◌, ◌∷◌, arith, Bool, true, false, Result, Ok, Err, List, length, map, replicate, if◌then◌else◌, refl, sym, ap, ◌∙◌, subst, length-set}
 use Rattle.pif_types.specs.Bounds.{Bounds}
 use Rattle.pif_types.specs.declared.errors.Errno.{Errno}
 use Rattle.pif_model.specs.declared.lines.Took.{Took}
@@ -11,7 +11,7 @@ use Rattle.pif_model.specs.Table.{Table, with_kernel}
 use Rattle.pif_word.specs.WordMap.{words_of, free_words}
 use Rattle.pif_word.proofs.WordBits.{word_of-number}
 use Rattle.pif_mutex.specs.Assembled.{IsAssembled}
-use Rattle.pif_mutex.proofs.KernelLeaves.{IsAlike, alike, lock_alike, unlock_alike, set_prio_alike, stop_alike}
+use Rattle.pif_mutex.proofs.KernelLeaves.{IsAlike, lock_alike, unlock_alike, set_prio_alike, stop_alike}
 
 -- THE WORDS
 
@@ -49,8 +49,9 @@ words_free_at_first l = ap (λ (xs : List Word). record { mutexes = xs }) (each 
 
 module _ {s : Table} (h : IsAssembled s) where
   -- with other words, as many
-  reworded : (ws : Words) → length ws.mutexes ≡ length s.words.mutexes → IsAssembled (record s { words = ws })
-  reworded ws long = record {
+  with_words_assembled : (ws : Words) → length ws.mutexes ≡ length s.words.mutexes
+      → IsAssembled (record s { words = ws })
+  with_words_assembled ws long = record {
     within = h.within;
     limits = h.limits;
     kernel = h.kernel;
@@ -61,9 +62,9 @@ module _ {s : Table} (h : IsAssembled s) where
   }
 
   -- with other words, and another kernel, alike
-  refitted : (ws : Words) (k : Kernel) → length ws.mutexes ≡ length s.words.mutexes → IsAlike s.kernel k → IsKernel k
-      → IsAssembled (with_kernel ws k s)
-  refitted ws k long same kept = record {
+  with_kernel_assembled : (ws : Words) (k : Kernel) → length ws.mutexes ≡ length s.words.mutexes → IsAlike s.kernel k
+      → IsKernel k → IsAssembled (with_kernel ws k s)
+  with_kernel_assembled ws k long same kept = record {
     within = h.within;
     limits = same.limits ∙ h.limits;
     kernel = kept;
@@ -76,22 +77,22 @@ module _ {s : Table} (h : IsAssembled s) where
   -- after an exchange
   pub exchanged_assembled : (b : Bool) (m : ℕ) (x : Word) (ws : Words)
       → ws ≡ (if b then set_word s.words m x else s.words) → IsAssembled (record s { words = ws })
-  exchanged_assembled true m x ws e = reworded ws
+  exchanged_assembled true m x ws e = with_words_assembled ws
       (ap (λ (v : Words). length v.mutexes) e ∙ length-set s.words.mutexes m x)
-  exchanged_assembled false m x ws e = reworded ws (ap (λ (v : Words). length v.mutexes) e)
+  exchanged_assembled false m x ws e = with_words_assembled ws (ap (λ (v : Words). length v.mutexes) e)
 
   -- after lock_pi
   pub lock_assembled : (t m : ℕ) (r : Result Took Errno) (ws : Words) (k : Kernel) → ws ≡ words_after_lock t m r s.words
       → k ≡ kernel_after_lock t m r s.words s.kernel
       → IsKernel k → IsAssembled (with_kernel ws k s)
   lock_assembled t m r ws k words after =
-      refitted ws k (ap (λ (v : Words). length v.mutexes) words ∙ lock_length t m r s.words)
+      with_kernel_assembled ws k (ap (λ (v : Words). length v.mutexes) words ∙ lock_length t m r s.words)
       (subst (IsAlike s.kernel) (sym after) (lock_alike t m r s.words s.kernel))
 
   -- after trylock_pi
   pub try_lock_assembled : (t m : ℕ) (r : Result (record {}) Errno) (ws : Words)
       → ws ≡ words_after_try_lock t m r s.words → IsAssembled (record s { words = ws })
-  try_lock_assembled t m r ws words = reworded ws
+  try_lock_assembled t m r ws words = with_words_assembled ws
       (ap (λ (v : Words). length v.mutexes) words ∙ try_length t m r s.words)
 
   -- after unlock_pi
@@ -99,16 +100,17 @@ module _ {s : Table} (h : IsAssembled s) where
       → ws ≡ words_after_unlock m r s.kernel s.words → k ≡ kernel_after_unlock m r s.kernel
       → IsKernel k → IsAssembled (with_kernel ws k s)
   unlock_assembled m r ws k words after =
-      refitted ws k (ap (λ (v : Words). length v.mutexes) words ∙ unlock_length m r s.kernel s.words)
+      with_kernel_assembled ws k (ap (λ (v : Words). length v.mutexes) words ∙ unlock_length m r s.kernel s.words)
       (subst (IsAlike s.kernel) (sym after) (unlock_alike m r s.kernel))
 
   -- after set_prio
   pub set_prio_assembled : (t p : ℕ) (r : Result (record {}) Errno) (k : Kernel)
       → k ≡ kernel_after_set_prio t p r s.kernel → IsKernel k → IsAssembled (record s { kernel = k })
   set_prio_assembled t p r k after =
-      refitted s.words k refl (subst (IsAlike s.kernel) (sym after) (set_prio_alike t p r s.kernel))
+      with_kernel_assembled s.words k refl (subst (IsAlike s.kernel) (sym after) (set_prio_alike t p r s.kernel))
 
   -- and after stop
   pub stop_assembled : (t : ℕ) (k : Kernel) → k ≡ kernel_after_stop t s.kernel → IsKernel k
       → IsAssembled (record s { kernel = k })
-  stop_assembled t k after = refitted s.words k refl (subst (IsAlike s.kernel) (sym after) (stop_alike t s.kernel))
+  stop_assembled t k after =
+      with_kernel_assembled s.words k refl (subst (IsAlike s.kernel) (sym after) (stop_alike t s.kernel))

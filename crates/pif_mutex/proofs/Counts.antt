@@ -1,12 +1,12 @@
 -- How often an owner holds a mutex, from one table to the next.
-use Rattle.std.proofs.Common.{◌≡◌, ◌≢◌, ℕ, ◌≤◌, Bool, true, false, Result, Ok, Err, refl, sym, ap, ◌∙◌, subst, if◌then◌else◌, arith, eqb-true, ◌==◌}
+use Rattle.std.proofs.Common.{◌≡◌, ◌≢◌, ℕ, ◌≤◌, Bool, true, false, Result, Ok, Err, refl, sym, ◌∙◌, subst, if◌then◌else◌, arith, eqb-true, ◌==◌}
 use Rattle.pif_types.specs.declared.errors.Errno.{Errno}
 use Rattle.pif_types.specs.declared.errors.Errno.TheVariants.{NoSuchThread, Again, Fault, Invalid, Deadlock, NotPermitted}
 use Rattle.pif_model.specs.declared.lines.Took.{Took}
 use Rattle.pif_model.specs.declared.lines.Took.TheVariants.{Owns as TookOwns, Queued as TookQueued}
 use Rattle.pif_model.specs.Graph.{reaches_within}
-use Rattle.pif_model.specs.Word.{Word, Words, free_word, taken_word, mark_word, hand_word, word_at, has_word, set_word}
-use Rattle.pif_model.specs.PiKernel.{Kernel, is_living, state_at, waits_for, next_in, wait_answer, lock_answer, words_after_lock, try_lock_answer, words_after_try_lock, unlock_answer, words_after_unlock}
+use Rattle.pif_model.specs.Word.{Word, Words, free_word, word_at, has_word, set_word}
+use Rattle.pif_model.specs.PiKernel.{Kernel, is_living, state_at, waits_for, wait_answer, lock_answer, words_after_lock, try_lock_answer, words_after_try_lock, unlock_answer, words_after_unlock}
 use Rattle.pif_model.specs.Table.{Table, Cell, cell_at}
 use Rattle.pif_mutex.specs.Runnable.{IsCounted}
 use Rattle.pif_mutex.proofs.ListChanges.{changed_at}

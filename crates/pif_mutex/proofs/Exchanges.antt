@@ -1,5 +1,5 @@
 -- An exchange of bits is one of the word that they are, and the lines of the calls that make one.
-use Rattle.std.proofs.Common.{◌≡◌, ℕ, Bool, true, false, Option, Some, None, Result, Ok, Err, List, if◌then◌else◌, refl, sym, ap, ◌∙◌}
+use Rattle.std.proofs.Common.{◌≡◌, ℕ, Bool, true, false, Some, None, Result, Ok, Err, List, if◌then◌else◌, refl, sym, ap, ◌∙◌}
 use Rattle.std.specs.Result.{is_ok}
 use Rattle.std.proofs.lemmas.List.{map-set}
 use Rattle.pif_types.specs.declared.requests.Request.{Request}
@@ -12,16 +12,17 @@ use Rattle.pif_model.specs.Lines.{goes_to, answers, exchanged, own_exchange, unl
 use Rattle.pif_word.specs.declared.cells.Cell.TheVariants.{Mutex}
 use Rattle.pif_word.specs.WordMap.{WordMap, words_of, with_bits}
 
--- bits that are written are a word that is written
-written : (ws : WordMap) (m bits : ℕ) → words_of (with_bits (Mutex m) bits ws) ≡ set_word (words_of ws) m (word_of bits)
-written ws m bits = ap (λ (xs : List Word). record { mutexes = xs }) (map-set word_of ws.mutexes m bits)
+-- to write bits is to write the word that they are
+write_bits : (ws : WordMap) (m bits : ℕ)
+    → words_of (with_bits (Mutex m) bits ws) ≡ set_word (words_of ws) m (word_of bits)
+write_bits ws m bits = ap (λ (xs : List Word). record { mutexes = xs }) (map-set word_of ws.mutexes m bits)
 
 -- the words after an exchange by this answer
 pub exchanged_words : (b : Bool) (x : ℕ) (r : Result ℕ ℕ) (ws vs : WordMap) (m bits : ℕ)
     → r ≡ (if b then Ok x else Err x)
     → vs ≡ (if b then with_bits (Mutex m) bits ws else ws)
     → words_of vs ≡ (if is_ok r then set_word (words_of ws) m (word_of bits) else words_of ws)
-exchanged_words true x r ws vs m bits answer stored = rw (answer, stored) (written ws m bits)
+exchanged_words true x r ws vs m bits answer stored = rw (answer, stored) (write_bits ws m bits)
 exchanged_words false x r ws vs m bits answer stored = rw (answer, stored) refl
 
 -- the table after an exchange by this answer

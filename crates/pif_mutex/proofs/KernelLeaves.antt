@@ -2,11 +2,7 @@
 use Rattle.std.proofs.Common.{◌≡◌, ◌≢◌, ◌⊎◌, ℕ, ◌<◌, ◌≤◌, true, false, ◌==◌, nat_lt, Bool, Result, Ok, Err, List, length, get_or, set, if◌then◌else◌, refl, sym, ap, ◌∙◌, inl, inr, subst, length-set, get_or-set_same, get_or-set_other}
 use Rattle.std.proofs.lemmas.Bool.{cases_eq, cases_lt}
 use Rattle.std.proofs.lemmas.List.{get_or_past}
-use Rattle.pif_types.specs.Bounds.{Bounds}
 use Rattle.pif_types.specs.declared.errors.Errno.{Errno}
-use Rattle.pif_model.specs.declared.lines.Status.{Status}
-use Rattle.pif_model.specs.declared.lines.Status.TheVariants.{Ready, Queued, Stopped}
-use Rattle.pif_model.specs.declared.lines.Woken.TheVariants.{Owns as WokenOwns}
 use Rattle.pif_model.specs.declared.lines.Took.{Took}
 use Rattle.pif_model.specs.declared.lines.Took.TheVariants.{Owns as TookOwns, Queued as TookQueued}
 use Rattle.pif_model.specs.Word.{Words}
@@ -22,8 +18,8 @@ pub alike : (k : Kernel) → IsAlike k k
 alike k = record { limits = refl; seats = refl }
 
 -- a thread of a kernel is one of each kernel alike
-seated : (k j : Kernel) (u : ℕ) → IsAlike k j → has_seat k u ≡ true → has_seat j u ≡ true
-seated k j u h known = ap (λ (n : ℕ). if u == 0 then false else nat_lt u n) h.seats ∙ known
+alike_keeps_threads : (k j : Kernel) (u : ℕ) → IsAlike k j → has_seat k u ≡ true → has_seat j u ≡ true
+alike_keeps_threads k j u h known = ap (λ (n : ℕ). if u == 0 then false else nat_lt u n) h.seats ∙ known
 
 -- HOW MANY THREADS
 
@@ -65,21 +61,21 @@ stop_alike t k = record { limits = refl; seats = length-set k.seats t _ }
 -- after lock_pi
 pub lock_keeps_threads : (t m : ℕ) (r : Result Took Errno) (ws : Words) (k : Kernel) (u : ℕ) → has_seat k u ≡ true
     → has_seat (kernel_after_lock t m r ws k) u ≡ true
-lock_keeps_threads t m r ws k u = seated k (kernel_after_lock t m r ws k) u (lock_alike t m r ws k)
+lock_keeps_threads t m r ws k u = alike_keeps_threads k (kernel_after_lock t m r ws k) u (lock_alike t m r ws k)
 
 -- after unlock_pi
 pub unlock_keeps_threads : (m : ℕ) (r : Result (record {}) Errno) (k : Kernel) (u : ℕ) → has_seat k u ≡ true
     → has_seat (kernel_after_unlock m r k) u ≡ true
-unlock_keeps_threads m r k u = seated k (kernel_after_unlock m r k) u (unlock_alike m r k)
+unlock_keeps_threads m r k u = alike_keeps_threads k (kernel_after_unlock m r k) u (unlock_alike m r k)
 
 -- after set_prio
 pub set_prio_keeps_threads : (t p : ℕ) (r : Result (record {}) Errno) (k : Kernel) (u : ℕ) → has_seat k u ≡ true
     → has_seat (kernel_after_set_prio t p r k) u ≡ true
-set_prio_keeps_threads t p r k u = seated k (kernel_after_set_prio t p r k) u (set_prio_alike t p r k)
+set_prio_keeps_threads t p r k u = alike_keeps_threads k (kernel_after_set_prio t p r k) u (set_prio_alike t p r k)
 
 -- after stop
 pub stop_keeps_threads : (t : ℕ) (k : Kernel) (u : ℕ) → has_seat k u ≡ true → has_seat (kernel_after_stop t k) u ≡ true
-stop_keeps_threads t k u = seated k (kernel_after_stop t k) u (stop_alike t k)
+stop_keeps_threads t k u = alike_keeps_threads k (kernel_after_stop t k) u (stop_alike t k)
 
 -- WHO MAY RUN
 

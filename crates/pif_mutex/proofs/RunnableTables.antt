@@ -1,6 +1,6 @@
 -- Each open call of a table may take its next step: at first, after an addition, after a call that begins, and after a
 -- step.
-use Rattle.std.proofs.Common.{◌≡◌, ◌≢◌, ◌⊎◌, ℕ, zero, suc, ◌+◌, ◌<◌, ◌≤◌, ◌==◌, nat_lt, Bool, true, false, List, [], ◌∷◌, ◌++◌, length, get_or, Option, Some, None, refl, sym, ap, ◌∙◌, subst, inl, inr, if◌then◌else◌, arith}
+use Rattle.std.proofs.Common.{◌≡◌, ◌≢◌, ◌⊎◌, ℕ, zero, suc, ◌<◌, ◌≤◌, ◌==◌, nat_lt, Bool, true, false, length, None, refl, sym, ap, ◌∙◌, subst, inl, inr, if◌then◌else◌, arith}
 use Rattle.std.proofs.lemmas.Bool.{true≢false, cases_eq}
 use Rattle.std.proofs.lemmas.List.{length_push, get_or_past}
 use Rattle.pif_types.specs.Bounds.{Bounds}
@@ -13,7 +13,7 @@ use Rattle.pif_model.specs.declared.lines.Line.{Line}
 use Rattle.pif_model.specs.declared.lines.Line.TheVariants.{Idle, At}
 use Rattle.pif_model.specs.declared.lines.Place.{Place}
 use Rattle.pif_model.specs.Refusals.{begin_refused}
-use Rattle.pif_model.specs.PiKernel.{Seat, no_seat, seat_at, is_ready}
+use Rattle.pif_model.specs.PiKernel.{no_seat, is_ready}
 use Rattle.pif_model.specs.Posix.{named_by, names_known}
 use Rattle.pif_model.specs.Table.{Table, LibraryMutex, new_mutex, new_table, has_thread, has_mutex, status_at, line_at, library_at, cell_at, with_line, thread_added, mutex_added}
 use Rattle.pif_model.specs.Lines.{line_of, go_outcome, first_place, is_open, table_refusal}
@@ -86,12 +86,12 @@ line_outcome s t q p e = ap (λ (l : Line). go_outcome l t s) (sym e)
 -- A CALL THAT BEGINS
 
 -- one that is not refused is of a thread that was added and has no call open, and of a mutex that was added
-allowed : (known busy named : Bool) → begin_refused known busy named ≡ None
+begin_allowed : (known busy named : Bool) → begin_refused known busy named ≡ None
     → (known ≡ true) × (busy ≡ false) × (named ≡ true)
-allowed true false true e = (refl, refl, refl)
-allowed true false false e = cc
-allowed true true named e = cc
-allowed false busy named e = cc
+begin_allowed true false true e = (refl, refl, refl)
+begin_allowed true false false e = cc
+begin_allowed true true named e = cc
+begin_allowed false busy named e = cc
 
 -- no call begins by giving up its mutex
 begins_keeping : (q : Request) → gives_up_at q (first_place q) ≡ false
@@ -106,10 +106,10 @@ idle_ready s t Idle e h = h
 idle_ready s t (At q p) e h = cc
 
 -- after a call begins
-pub begun_runnable : (s : Table) (t : ℕ) (q : Request) → IsRunnable s → IsAssembled s
+pub begin_runnable : (s : Table) (t : ℕ) (q : Request) → IsRunnable s → IsAssembled s
     → table_refusal s (Begin t q) ≡ None → IsRunnable (with_line t (At q (first_place q)) s)
-begun_runnable s t q h parts e =
-    let free = allowed (has_thread s t) (is_open (line_at s t)) (names_known (has_mutex s) q) e in
+begin_runnable s t q h parts e =
+    let free = begin_allowed (has_thread s t) (is_open (line_at s t)) (names_known (has_mutex s) q) e in
     let ready = idle_ready s t (line_at s t) free.1 (h.threads t) in
     kept_runnable t s _ (above_0 t (length s.kernel.seats) free.0) h
     (arrives (At q (first_place q)) (has_line s t parts free.0) (leaves_all t s)

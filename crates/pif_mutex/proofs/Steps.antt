@@ -1,12 +1,11 @@
 -- A step of a thread, line by line: what it leaves to the other threads and makes of the mutexes, and that the thread
 -- may take its next step.
-use Rattle.std.proofs.Common.{◌≡◌, ◌≢◌, ℕ, ◌+◌, ◌-◌, ◌<◌, ◌≤◌, Bool, true, false, List, length, get_or, set, Result, Ok, Err, refl, sym, ap, ◌∙◌, subst, arith, length-set, get_or-set_same, get_or-set_other}
+use Rattle.std.proofs.Common.{◌≡◌, ◌≢◌, ℕ, ◌+◌, ◌-◌, ◌<◌, ◌≤◌, true, false, length, Result, Ok, Err, refl, sym, ◌∙◌, subst, arith, length-set, get_or-set_same, get_or-set_other}
 use Rattle.std.proofs.lemmas.Bool.{true≢false}
 use Rattle.pif_types.specs.declared.errors.Errno.{Errno}
 use Rattle.pif_types.specs.declared.errors.Errno.TheVariants.{NoSuchThread}
 use Rattle.pif_types.specs.declared.requests.Request.{Request}
 use Rattle.pif_types.specs.declared.requests.Request.TheVariants.{Lock, TryLock, Unlock, SetPrio}
-use Rattle.pif_model.specs.declared.events.Seen.{Seen}
 use Rattle.pif_model.specs.declared.lines.Line.{Line}
 use Rattle.pif_model.specs.declared.lines.Line.TheVariants.{Idle, At}
 use Rattle.pif_model.specs.declared.lines.Place.{Place}
@@ -15,9 +14,9 @@ use Rattle.pif_model.specs.declared.lines.Took.{Took}
 use Rattle.pif_model.specs.declared.lines.Took.TheVariants.{Owns as TookOwns, Queued as TookQueued}
 use Rattle.pif_model.specs.Word.{Word, Words, free_word, held_by, set_word}
 use Rattle.pif_model.specs.PiKernel.{Kernel, seat_at, is_ready, lock_answer, words_after_lock, kernel_after_lock, try_lock_answer, words_after_try_lock, unlock_answer, words_after_unlock, kernel_after_unlock, set_prio_answer, kernel_after_set_prio, kernel_after_stop}
-use Rattle.pif_model.specs.Posix.{named_by, names_known}
-use Rattle.pif_model.specs.Table.{Table, LibraryMutex, new_mutex, has_mutex, status_at, line_at, library_at, cell_at, with_line, with_count, with_word, with_kernel}
-use Rattle.pif_model.specs.Lines.{Outcome, answers, locked_again, own_exchange, lock_load, lock_by, lock_kernel, lock_queued, lock_stop, try_load, busy_for_again, try_kernel, unlock_load, unlock_exchange, unlock_kernel, set_priority, line_of}
+use Rattle.pif_model.specs.Posix.{names_known}
+use Rattle.pif_model.specs.Table.{Table, new_mutex, has_mutex, status_at, line_at, cell_at, with_line, with_count, with_word, with_kernel}
+use Rattle.pif_model.specs.Lines.{answers, locked_again, own_exchange, lock_load, lock_by, lock_kernel, lock_queued, lock_stop, try_load, busy_for_again, try_kernel, unlock_load, unlock_exchange, unlock_kernel, set_priority, line_of}
 use Rattle.pif_types.specs.declared.requests.Kind.TheVariants.{Normal}
 use Rattle.pif_mutex.specs.Runnable.{may_run_at, gives_up_at, CallIsRunnable, LineIsRunnable, IsRunnable}
 use Rattle.pif_mutex.proofs.KernelLeaves.{lock_ready, unlock_ready, set_prio_ready, stop_ready}

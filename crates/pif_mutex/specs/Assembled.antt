@@ -1,5 +1,5 @@
 -- The table that the parts of a machine are, and when the parts fit together.
-use Rattle.std.specs.Prelude.{ℕ, ◌≡◌, ◌≤◌, ◌+◌, List, length}
+use Rattle.std.specs.Prelude.{◌≡◌, ◌≤◌, ◌+◌, List, length}
 use Rattle.pif_types.specs.Bounds.{Bounds, IsWithin}
 use Rattle.pif_model.specs.declared.lines.Line.{Line}
 use Rattle.pif_model.specs.PiKernel.{Kernel, IsKernel}

@@ -1,6 +1,5 @@
 -- A step leaves the parts runnable, and is the step of the line that the thread has.
-use Rattle.std.proofs.Common.{◌≡◌, ◌≢◌, ◌<◌, length, sym, ap, ◌∙◌, subst}
-use Rattle.pif_model.specs.declared.lines.Line.TheVariants.{At}
+use Rattle.std.proofs.Common.{length, sym, ap, ◌∙◌, subst}
 use Rattle.pif_model.specs.Table.{Table, line_at, cell_at, has_thread}
 use Rattle.pif_model.specs.Lines.{Outcome, go_outcome}
 use Rattle.pif_chains.proofs.Numbers.{above_0}

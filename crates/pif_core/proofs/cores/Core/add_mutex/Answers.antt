@@ -1,5 +1,5 @@
 -- A mutex that is added leaves the table sound, and the core stands after it.
-use Rattle.std.proofs.Common.{◌≡◌, ◌≤◌, length, ap, arith}
+use Rattle.std.proofs.Common.{◌≤◌, length, ap, arith}
 use Rattle.pif_types.specs.Bounds.{Bounds}
 use Rattle.pif_core.proofs.SoundTables.{added_mutex_sound}
 use Rattle.pif_core.proofs.StandsAfter.{mutex_stands}

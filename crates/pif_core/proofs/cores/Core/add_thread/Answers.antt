@@ -1,5 +1,5 @@
 -- A thread that is added leaves the table sound, and the core stands after it.
-use Rattle.std.proofs.Common.{◌≡◌, ◌≤◌, length, ap, arith}
+use Rattle.std.proofs.Common.{◌≤◌, length, ap, arith}
 use Rattle.pif_types.specs.Bounds.{Bounds}
 use Rattle.pif_core.proofs.SoundTables.{added_thread_sound}
 use Rattle.pif_core.proofs.StandsAfter.{from_some, thread_stands}

@@ -1,5 +1,5 @@
 -- There are as many threads as lines.
-use Rattle.std.proofs.Common.{◌≡◌, length, sym, ap, ◌∙◌}
+use Rattle.std.proofs.Common.{length, sym, ap, ◌∙◌}
 use Rattle.pif_model.specs.Table.{Table}
 use Rattle.pif_core.proofs.StandsAfter.{threads_are}
 use Rattle.pif_core.proofs.cores.Core.threads.Goals as goal

@@ -1,9 +1,9 @@
 -- A call that begins leaves the parts runnable.
-use Rattle.std.proofs.Common.{◌≡◌, length, sym, ap, ◌∙◌, None, true}
+use Rattle.std.proofs.Common.{◌≡◌, sym, ap, ◌∙◌, None}
 use Rattle.pif_model.specs.declared.events.Event.TheVariants.{Begin}
-use Rattle.pif_model.specs.Table.{Table, has_thread}
+use Rattle.pif_model.specs.Table.{Table}
 use Rattle.pif_model.specs.Lines.{first_place, table_refusal}
-use Rattle.pif_mutex.proofs.RunnableTables.{begun_runnable}
+use Rattle.pif_mutex.proofs.RunnableTables.{begin_runnable}
 use Rattle.pif_mutex.proofs.parts.Parts.begin.Goals as goal
 use Rattle.pif_mutex.proofs.parts.Parts.begin.Goals.{in-Lock, in-TryLock, in-Unlock, in-SetPrio}
 
@@ -20,4 +20,4 @@ invariant_of-self g c =
     let allowed : table_refusal s (Begin c.args.t q) ≡ None = ap (λ (x : Table). table_refusal x (Begin c.args.t q))
     c.self.view_is ∙ c.requires in
     rw (c.set_line.ensures.after, place)
-    (begun_runnable s c.args.t q c.self.invariant c.set_line.ensures.assembled allowed)
+    (begin_runnable s c.args.t q c.self.invariant c.set_line.ensures.assembled allowed)

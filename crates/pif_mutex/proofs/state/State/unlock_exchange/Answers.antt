@@ -1,6 +1,6 @@
 -- The exchange writes the free word, or fails.
-use Rattle.std.proofs.Common.{◌≡◌, ap, ◌∙◌, arith}
-use Rattle.pif_model.specs.Word.{Word, word_of, is_bare}
+use Rattle.std.proofs.Common.{ap, ◌∙◌, arith}
+use Rattle.pif_model.specs.Word.{word_of, is_bare}
 use Rattle.pif_model.specs.Table.{cell_at}
 use Rattle.pif_word.proofs.WordBits.{word_of-number}
 use Rattle.pif_mutex.proofs.Exchanges.{unlock_exchange_done, unlock_exchange_failed}
