@@ -10,7 +10,7 @@ use Rattle.pif_model.specs.declared.events.Entry.TheVariants.{Thread as AddedThr
 use Rattle.pif_model.specs.declared.events.Event.TheVariants.{Begin as BeginEvent, Go as GoEvent}
 use Rattle.pif_model.specs.declared.events.Seen.{Seen}
 use Rattle.pif_model.specs.Calls.{add_thread_answer, add_thread_after, add_mutex_answer, add_mutex_after}
-use Rattle.pif_model.specs.Lines.{stepped}
+use Rattle.pif_model.specs.Lines.{event_outcome}
 use Rattle.pif_model.specs.Table.{Table, new_table}
 use Rattle.pif_text.specs.declared.commands.Command.{Command}
 use Rattle.pif_text.specs.declared.commands.Command.TheVariants.{Limits, Thread, Mutex, Begin, Go}
@@ -120,14 +120,14 @@ mutex_given : (m : ℕ) (k : Kind) (s : Table) → add_mutex_answer s ≡ Ok m �
 unfolding obeyed
 mutex_given m k s e = rw e refl
 
-begin_given : (t : ℕ) (q : Request) (seen : Seen) (s : Table) → (stepped (BeginEvent t q) s).seen ≡ seen
-    → obeyed (Begin t q) s ≡ Some (reply_of_seen seen, (stepped (BeginEvent t q) s).after)
+begin_given : (t : ℕ) (q : Request) (seen : Seen) (s : Table) → (event_outcome (BeginEvent t q) s).seen ≡ seen
+    → obeyed (Begin t q) s ≡ Some (reply_of_seen seen, (event_outcome (BeginEvent t q) s).after)
 unfolding obeyed
-begin_given t q seen s e = ap (λ x. Some (reply_of_seen x, (stepped (BeginEvent t q) s).after)) e
+begin_given t q seen s e = ap (λ x. Some (reply_of_seen x, (event_outcome (BeginEvent t q) s).after)) e
 
-go_given : (t : ℕ) (seen : Seen) (s : Table) → (stepped (GoEvent t) s).seen ≡ seen → obeyed (Go t) s ≡ Some (reply_of_seen seen, (stepped (GoEvent t) s).after)
+go_given : (t : ℕ) (seen : Seen) (s : Table) → (event_outcome (GoEvent t) s).seen ≡ seen → obeyed (Go t) s ≡ Some (reply_of_seen seen, (event_outcome (GoEvent t) s).after)
 unfolding obeyed
-go_given t seen s e = ap (λ x. Some (reply_of_seen x, (stepped (GoEvent t) s).after)) e
+go_given t seen s e = ap (λ x. Some (reply_of_seen x, (event_outcome (GoEvent t) s).after)) e
 
 entry_back : (e : Entry) (es : List Entry) (s : Table) → IsEntryWritten e → IsHistory s (e ∷ es) → Heard s (entry_text e) es
 unfolding entry_text
@@ -137,9 +137,9 @@ entry_back (AddedMutex m k robust) es s w h =
     subst (λ line. Heard s line es) (mutex_back m k robust h.0)
     (written_back (Mutex k) (reply.Mutex m) s (add_mutex_after k false (Ok m) s) es w.0 w.1 refl (mutex_given m k s h.1) h.2)
 entry_back (Step (BeginEvent t q) seen) es s w h =
-    written_back (Begin t q) (reply_of_seen seen) s (stepped (BeginEvent t q) s).after es w.0 w.1 refl (begin_given t q seen s h.0) h.1
+    written_back (Begin t q) (reply_of_seen seen) s (event_outcome (BeginEvent t q) s).after es w.0 w.1 refl (begin_given t q seen s h.0) h.1
 entry_back (Step (GoEvent t) seen) es s w h =
-    written_back (Go t) (reply_of_seen seen) s (stepped (GoEvent t) s).after es w.0 w.1 refl (go_given t seen s h.0) h.1
+    written_back (Go t) (reply_of_seen seen) s (event_outcome (GoEvent t) s).after es w.0 w.1 refl (go_given t seen s h.0) h.1
 
 -- a trace stands so between two lines
 abbrev at_line : Option Table → (number taken : ℕ) → Scan Table

@@ -8,7 +8,7 @@ use Rattle.pif_model.specs.declared.events.Event.TheVariants.{Begin as BeginEven
 use Rattle.pif_model.specs.declared.events.Seen.{Seen}
 use Rattle.pif_model.specs.declared.events.Seen.TheVariants.{Begun as SeenBegun, Went as SeenWent, Waits as SeenWaits, Answered as SeenAnswered, Refused as SeenRefused}
 use Rattle.pif_model.specs.Table.{Table, new_table}
-use Rattle.pif_model.specs.Lines.{Outcome, stepped, goes_on}
+use Rattle.pif_model.specs.Lines.{Outcome, event_outcome, goes_on}
 use Rattle.pif_model.specs.Calls.{add_thread_answer, add_thread_after, add_mutex_answer, add_mutex_after, effective_answer, word_answer, pick_answer}
 use Rattle.pif_text.specs.declared.commands.Command.{Command}
 use Rattle.pif_text.specs.declared.commands.Command.TheVariants.{Limits, Thread, Mutex, Begin, Go, Call, Finish, Word, Prio, Pick}
@@ -41,9 +41,9 @@ finished t s = goes_on 23 t s
 -- call: the thread begins the call, and if that is not refused it goes on as in finish
 unfoldable pub called : ℕ → Request → Table → Outcome
 called t q s =
-    elim (stepped (BeginEvent t q) s).seen [
-      | SeenRefused r ↦ stepped (BeginEvent t q) s
-      | _ ↦ finished t (stepped (BeginEvent t q) s).after
+    elim (event_outcome (BeginEvent t q) s).seen [
+      | SeenRefused r ↦ event_outcome (BeginEvent t q) s
+      | _ ↦ finished t (event_outcome (BeginEvent t q) s).after
     ]
 
 -- a reply, and the table afterwards
@@ -74,8 +74,8 @@ unfoldable pub obeyed : Command → Table → Option Answer
 obeyed (Limits t m c n) s = None
 obeyed (Thread p) s = Some (reply_of_thread (add_thread_answer p s), add_thread_after p (add_thread_answer p s) s)
 obeyed (Mutex k) s = Some (reply_of_mutex (add_mutex_answer s), add_mutex_after k false (add_mutex_answer s) s)
-obeyed (Begin t q) s = Some (answer_of_outcome (stepped (BeginEvent t q) s))
-obeyed (Go t) s = Some (answer_of_outcome (stepped (GoEvent t) s))
+obeyed (Begin t q) s = Some (answer_of_outcome (event_outcome (BeginEvent t q) s))
+obeyed (Go t) s = Some (answer_of_outcome (event_outcome (GoEvent t) s))
 obeyed (Call t q) s = Some (answer_of_outcome (called t q s))
 obeyed (Finish t) s = Some (answer_of_outcome (finished t s))
 obeyed (Word m) s = Some (reply_of_word (word_answer m s), s)

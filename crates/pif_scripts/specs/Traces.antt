@@ -7,7 +7,7 @@ use Rattle.pif_model.specs.declared.events.Entry.TheVariants.{Thread as AddedThr
 use Rattle.pif_model.specs.declared.events.Event.{Event}
 use Rattle.pif_model.specs.declared.events.Event.TheVariants.{Begin as BeginEvent, Go as GoEvent}
 use Rattle.pif_model.specs.Calls.{add_thread_answer, add_thread_after, add_mutex_answer, add_mutex_after}
-use Rattle.pif_model.specs.Lines.{stepped}
+use Rattle.pif_model.specs.Lines.{event_outcome}
 use Rattle.pif_model.specs.Table.{Table, new_table}
 use Rattle.pif_text.specs.declared.commands.Command.{Command}
 use Rattle.pif_text.specs.declared.commands.Command.TheVariants.{Limits, Thread, Mutex, Begin, Go, Call, Finish, Word, Prio, Pick}
@@ -172,7 +172,7 @@ IsHistory s [] = Unit {0}
 IsHistory s (AddedThread t p ∷ entries) = (add_thread_answer p s ≡ Ok t) × IsHistory (add_thread_after p (Ok t) s) entries
 IsHistory s (AddedMutex m k robust ∷ entries) =
     (robust ≡ false) × (add_mutex_answer s ≡ Ok m) × IsHistory (add_mutex_after k false (Ok m) s) entries
-IsHistory s (Step e seen ∷ entries) = ((stepped e s).seen ≡ seen) × IsHistory (stepped e s).after entries
+IsHistory s (Step e seen ∷ entries) = ((event_outcome e s).seen ≡ seen) × IsHistory (event_outcome e s).after entries
 
 -- the trace of what a core under these limits did is the same when it is replayed, as long as it is no larger than a
 -- trace may be; the line of the limits is counted too
