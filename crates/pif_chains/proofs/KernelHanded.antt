@@ -4,7 +4,7 @@ use Rattle.std.proofs.lemmas.Bool.{cases_eq, eqb-false}
 use Rattle.pif_model.specs.declared.lines.Status.TheVariants.{Ready, Queued}
 use Rattle.pif_model.specs.declared.lines.Woken.TheVariants.{Owns as WokenOwns}
 use Rattle.pif_model.specs.Graph.{is_priority, has_waiter, without, reaches_within}
-use Rattle.pif_model.specs.PiKernel.{Kernel, Seat, IsKernel, IsKernelShaped, no_seat, seat_at, has_seat, state_at, waits_for, effective_in, queued_on, is_ready, joined, with_status, with_state, kernel_after_hand_over}
+use Rattle.pif_model.specs.PiKernel.{Kernel, Seat, IsKernel, IsKernelShaped, no_seat, seat_at, has_seat, state_at, waits_for, effective_in, queued_on, is_ready, levels_with, with_status, with_state, kernel_after_hand_over}
 use Rattle.pif_chains.proofs.Numbers.{within}
 use Rattle.pif_chains.proofs.Places.{kept_at}
 use Rattle.pif_chains.proofs.Among.{is_among-without}
@@ -33,7 +33,7 @@ module _ (u m : ℕ) (k : Kernel) where
 
   -- the kernel before it is settled
   abbrev pub kernel_with_hand_over : Kernel
-  kernel_with_hand_over = record kernel_with_owner { levels = joined u (effective_in kernel_with_owner u) k.levels }
+  kernel_with_hand_over = record kernel_with_owner { levels = levels_with u (effective_in kernel_with_owner u) k.levels }
 
   -- as many threads
   pub length-handed : length kernel_with_hand_over.seats ≡ length k.seats

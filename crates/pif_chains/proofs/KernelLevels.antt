@@ -3,7 +3,7 @@ use Rattle.std.proofs.Common.{◌≡◌, ◌≢◌, ◌⊎◌, ℕ, zero, suc, �
 use Rattle.std.proofs.Math.ListN.{get_or-append}
 use Rattle.std.proofs.lemmas.Bool.{cases_eq}
 use Rattle.std.proofs.lemmas.List.{get_or_past, get_or_push, length_push, length-map, map-append}
-use Rattle.pif_model.specs.PiKernel.{numbers, levels_by, level_at, joined, left}
+use Rattle.pif_model.specs.PiKernel.{numbers, levels_by, level_at, levels_with, levels_without}
 use Rattle.pif_chains.proofs.Places.{mapped_at}
 use Rattle.pif_chains.proofs.KernelNumbers.{is_other, numbers-more, numbers-none}
 
@@ -11,25 +11,25 @@ use Rattle.pif_chains.proofs.KernelNumbers.{is_other, numbers-more, numbers-none
 
 -- the levels that one has left
 pub level-left : (t : ℕ) (levels : List (List ℕ)) (p : ℕ)
-    → level_at (left t levels) p ≡ filter (is_other t) (level_at levels p)
+    → level_at (levels_without t levels) p ≡ filter (is_other t) (level_at levels p)
 level-left t levels p = mapped_at (filter (is_other t)) levels p []
 
 -- as many levels
-pub length-left : (t : ℕ) (levels : List (List ℕ)) → length (left t levels) ≡ length levels
+pub length-left : (t : ℕ) (levels : List (List ℕ)) → length (levels_without t levels) ≡ length levels
 length-left t levels = length-map levels (filter (is_other t))
 
 -- the level that one has joined
 pub level-joined_same : (t p : ℕ) (levels : List (List ℕ)) → p < length levels
-    → level_at (joined t p levels) p ≡ level_at levels p ++ t ∷ []
+    → level_at (levels_with t p levels) p ≡ level_at levels p ++ t ∷ []
 level-joined_same t p levels l = get_or-set_same levels p (level_at levels p ++ t ∷ []) [] l
 
 -- the others are as before
 pub level-joined_other : (t p : ℕ) (levels : List (List ℕ)) (q : ℕ) → q ≢ p
-    → level_at (joined t p levels) q ≡ level_at levels q
+    → level_at (levels_with t p levels) q ≡ level_at levels q
 level-joined_other t p levels q n = get_or-set_other levels p q (level_at levels p ++ t ∷ []) [] n
 
 -- as many levels
-pub length-joined : (t p : ℕ) (levels : List (List ℕ)) → length (joined t p levels) ≡ length levels
+pub length-joined : (t p : ℕ) (levels : List (List ℕ)) → length (levels_with t p levels) ≡ length levels
 length-joined t p levels = length-set levels p (level_at levels p ++ t ∷ [])
 
 -- EACH AS TOLD

@@ -2,7 +2,7 @@
 use Rattle.std.proofs.Common.{◌≡◌, ◌≢◌, ◌⊎◌, ℕ, ◌≤◌, Bool, true, false, ◌==◌, eqb, [], ◌∷◌, ◌++◌, filter, length, refl, sym, ap, ◌∙◌, subst, arith, if◌then◌else◌, eq-eqb, ne_eqb, inl, inr}
 use Rattle.std.specs.List.{IsDistinct}
 use Rattle.std.proofs.lemmas.Bool.{cases_eq}
-use Rattle.pif_model.specs.PiKernel.{Kernel, seat_at, has_seat, is_ready, is_among, level_at, joined, left}
+use Rattle.pif_model.specs.PiKernel.{Kernel, seat_at, has_seat, is_ready, is_among, level_at, levels_with, levels_without}
 use Rattle.pif_chains.proofs.KernelNumbers.{is_other, among-push_other, among-push_same, among-left_same, among-left_other, distinct-push, distinct-filter}
 use Rattle.pif_chains.proofs.KernelLevels.{level-left, level-joined_same, level-joined_other}
 use Rattle.pif_chains.proofs.KernelSettled.{IsListed, stands}
@@ -36,7 +36,7 @@ module _ (k now : Kernel) (t : ℕ) (at at_now : ℕ → ℕ) (has : (u : ℕ) �
       (omega (arith, r.0, level u d), omega (arith, r.1, level u d))
 
   -- t has left its level, and may not run
-  pub listed-left : now.levels ≡ left t k.levels → is_ready (seat_at now t).status ≡ false
+  pub listed-left : now.levels ≡ levels_without t k.levels → is_ready (seat_at now t).status ≡ false
       → (1 ≤ at_now t) × (at_now t ≤ 99) → IsListed now at_now
   listed-left e unready range =
       record { on = λ u p. on u p (cases_eq u t); range = λ u x. within u x (cases_eq u t); once = once }
@@ -60,7 +60,7 @@ module _ (k now : Kernel) (t : ℕ) (at at_now : ℕ → ℕ) (has : (u : ℕ) �
       once p = subst (IsDistinct eqb) (sym (is p)) (distinct-filter (is_other t) (level_at k.levels p) (h.once p))
 
   -- t, which stood nowhere, has joined a level
-  pub listed-joined : (p : ℕ) → length k.levels ≡ 100 → now.levels ≡ joined t p k.levels → 1 ≤ p → p ≤ 99
+  pub listed-joined : (p : ℕ) → length k.levels ≡ 100 → now.levels ≡ levels_with t p k.levels → 1 ≤ p → p ≤ 99
       → ((q : ℕ) → stands k at t q ≡ false)
       → has_seat now t ≡ true → is_ready (seat_at now t).status ≡ true → at_now t ≡ p → IsListed now at_now
   listed-joined p many e low high nowhere known ready there =

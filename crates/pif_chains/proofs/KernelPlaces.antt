@@ -6,7 +6,7 @@ use Rattle.pif_model.specs.declared.lines.Woken.TheVariants.{Owns as WokenOwns}
 use Rattle.pif_model.specs.declared.lines.Took.TheVariants.{Owns as TookOwns, Queued as TookQueued}
 use Rattle.pif_model.specs.Graph.{has_waiter, without}
 use Rattle.pif_model.specs.Word.{Words, word_at}
-use Rattle.pif_model.specs.PiKernel.{Kernel, IsKernel, seat_at, has_seat, state_at, waits_for, effective_in, next_in, settled, kernel_after_lock, kernel_after_unlock, kernel_after_queueing, kernel_after_hand_over, kernel_after_set_prio}
+use Rattle.pif_model.specs.PiKernel.{Kernel, IsKernel, seat_at, has_seat, state_at, waits_for, effective_in, next_in, with_effective_levels, kernel_after_lock, kernel_after_unlock, kernel_after_queueing, kernel_after_hand_over, kernel_after_set_prio}
 use Rattle.pif_chains.proofs.KernelQueued.{kernel_with_queueing, length-queueing, has-queueing, seat-queueing_other, seat-queueing_same, base-queueing, state-queueing_other}
 use Rattle.pif_chains.proofs.KernelHanded.{kernel_with_hand_over, length-handed, has-handed, seat-handed_other, seat-handed_same, base-handed, state-handed_other}
 use Rattle.pif_chains.proofs.KernelRebased.{kernel_with_base, length-rebased, has-rebased, seat-rebased_other, seat-rebased_same, status-rebased, waits-rebased}
@@ -19,7 +19,7 @@ module _ (t m n : ℕ) (k : Kernel) where
   after_queueing = kernel_after_queueing t m n k
 
   -- it is this one, settled
-  pub queued_is : kernel_after_queueing t m n k ≡ settled (kernel_with_queueing t m n k)
+  pub queued_is : kernel_after_queueing t m n k ≡ with_effective_levels (kernel_with_queueing t m n k)
   unfolding kernel_after_queueing
   queued_is = refl
 
@@ -81,7 +81,7 @@ module _ (u m : ℕ) (k : Kernel) where
   after_hand_over = kernel_after_hand_over u m k
 
   -- it is this one, settled
-  pub handed_is : kernel_after_hand_over u m k ≡ settled (kernel_with_hand_over u m k)
+  pub handed_is : kernel_after_hand_over u m k ≡ with_effective_levels (kernel_with_hand_over u m k)
   unfolding kernel_after_hand_over
   handed_is = refl
 
@@ -146,7 +146,7 @@ module _ (t p : ℕ) (k : Kernel) where
   after_set_prio = kernel_after_set_prio t p (Ok (record {})) k
 
   -- it is this one, settled
-  pub set_prio_is : kernel_after_set_prio t p (Ok (record {})) k ≡ settled (kernel_with_base t p k)
+  pub set_prio_is : kernel_after_set_prio t p (Ok (record {})) k ≡ with_effective_levels (kernel_with_base t p k)
   unfolding kernel_after_set_prio
   set_prio_is = refl
 

@@ -3,7 +3,7 @@ use Rattle.std.proofs.Common.{◌≡◌, ◌≢◌, ◌⊎◌, ◌+◌, ◌<◌,
 use Rattle.std.proofs.lemmas.Bool.{cases_eq}
 use Rattle.pif_model.specs.declared.lines.Status.TheVariants.{Queued}
 use Rattle.pif_model.specs.Graph.{is_priority, has_waiter, reaches_within}
-use Rattle.pif_model.specs.PiKernel.{Kernel, Seat, IsKernel, no_seat, seat_at, has_seat, state_at, waits_for, effective_in, queued_on, is_ready, left, with_status, with_state, kernel_after_queueing}
+use Rattle.pif_model.specs.PiKernel.{Kernel, Seat, IsKernel, no_seat, seat_at, has_seat, state_at, waits_for, effective_in, queued_on, is_ready, levels_without, with_status, with_state, kernel_after_queueing}
 use Rattle.pif_chains.proofs.Numbers.{within}
 use Rattle.pif_chains.proofs.Places.{kept_at}
 use Rattle.pif_chains.proofs.Among.{is_among_push}
@@ -26,7 +26,7 @@ module _ (t m n : ℕ) (k : Kernel) where
   kernel_with_queueing =
       record (with_status t (Queued m) (with_state m n k)) {
         waiters = k.waiters ++ (t, m) ∷ [];
-        levels = left t k.levels;
+        levels = levels_without t k.levels;
       }
 
   -- as many threads

@@ -5,7 +5,7 @@ use Rattle.std.proofs.lemmas.Bool.{cases_eq, cases_lt, false_from_ne_true}
 use Rattle.std.proofs.lemmas.List.Folds.{list_any-append}
 use Rattle.pif_model.specs.declared.lines.Status.TheVariants.{Queued}
 use Rattle.pif_model.specs.Graph.{is_priority, has_waiter, reaches_within}
-use Rattle.pif_model.specs.PiKernel.{Kernel, Seat, IsKernel, IsKernelShaped, seat_at, has_seat, state_at, waits_for, effective_in, is_ready, is_among, numbers, level_at, moves_to, settled}
+use Rattle.pif_model.specs.PiKernel.{Kernel, Seat, IsKernel, IsKernelShaped, seat_at, has_seat, state_at, waits_for, effective_in, is_ready, is_among, numbers, level_at, moves_to, with_effective_levels}
 use Rattle.pif_chains.proofs.Numbers.{within, from_within}
 use Rattle.pif_chains.proofs.Greatest.{effective_most, effective_own}
 use Rattle.pif_chains.proofs.KernelNumbers.{among-filter, distinct-filter, distinct-append, distinct-none, distinct-numbers, any_number, no_number, among-numbers}
@@ -96,7 +96,7 @@ module _ (k : Kernel) (at : ℕ → ℕ) (s : IsKernelShaped k) (h : IsListed k 
   move p = filter (moves_to (effective_in k) k.levels p) (numbers (length k.seats - 1))
 
   -- a settled level of 1 to 99
-  pub level-settled : (p : ℕ) → 1 ≤ p → p ≤ 99 → level_at (settled k).levels p ≡ stay p ++ move p
+  pub level-settled : (p : ℕ) → 1 ≤ p → p ≤ 99 → level_at (with_effective_levels k).levels p ≡ stay p ++ move p
   level-settled p l m = level-by (λ q. stay q ++ move q) p l m
 
   -- who is among the numbers of all threads was added
@@ -160,12 +160,12 @@ module _ (k : Kernel) (at : ℕ → ℕ) (s : IsKernelShaped k) (h : IsListed k 
   -- by the number of the level
   by_level : (P : List ℕ → ℕ → Type 0) → ((p : ℕ) → 1 ≤ p → p ≤ 99 → P (stay p ++ move p) p)
       → ((p : ℕ) → (p ≡ 0) ⊎ (100 ≤ p) → P [] p)
-      → (p : ℕ) → P (level_at (settled k).levels p) p
+      → (p : ℕ) → P (level_at (with_effective_levels k).levels p) p
   by_level P inside outside p = go (cases_eq p 0) (cases_lt p 100)
     where
-      go : (p ≡ 0) ⊎ (p ≢ 0) → (p < 100) ⊎ (100 ≤ p) → P (level_at (settled k).levels p) p
+      go : (p ≡ 0) ⊎ (p ≢ 0) → (p < 100) ⊎ (100 ≤ p) → P (level_at (with_effective_levels k).levels p) p
       go (inl z) c =
-          subst (λ q. P (level_at (settled k).levels q) q) (sym z)
+          subst (λ q. P (level_at (with_effective_levels k).levels q) q) (sym z)
           (subst (λ xs. P xs 0) (sym (level-by_none (λ q. stay q ++ move q))) (outside 0 (inl refl)))
       go (inr d) (inl l) =
           subst (λ xs. P xs p) (sym (level-settled p (omega arith) (omega arith)))
@@ -173,13 +173,13 @@ module _ (k : Kernel) (at : ℕ → ℕ) (s : IsKernelShaped k) (h : IsListed k 
       go (inr d) (inr g) = subst (λ xs. P xs p) (sym (level-by_past (λ q. stay q ++ move q) p g)) (outside p (inr g))
 
   -- each stands at the level of its effective priority
-  pub settled_level : (t p : ℕ) → is_among (level_at (settled k).levels p) t ≡ stands k (effective_in k) t p
+  pub settled_level : (t p : ℕ) → is_among (level_at (with_effective_levels k).levels p) t ≡ stands k (effective_in k) t p
   settled_level t p =
       by_level (λ xs q. is_among xs t ≡ stands k (effective_in k) t q) (λ q l m. among-settled t q)
       (λ q out. sym (stands_nowhere t q out)) p
 
   -- and once
-  pub settled_once : (p : ℕ) → IsDistinct eqb (level_at (settled k).levels p)
+  pub settled_once : (p : ℕ) → IsDistinct eqb (level_at (with_effective_levels k).levels p)
   settled_once p = by_level (λ xs q. IsDistinct eqb xs) (λ q l m. once q) (λ q out. distinct-none) p
     where
       once : (q : ℕ) → IsDistinct eqb (stay q ++ move q)
@@ -200,7 +200,7 @@ module _ (k : Kernel) (at : ℕ → ℕ) (s : IsKernelShaped k) (h : IsListed k 
               go false x = absurd (true≢false (sym x))
 
   -- as many levels
-  pub settled_shape : IsKernelShaped (settled k)
+  pub settled_shape : IsKernelShaped (with_effective_levels k)
   settled_shape = record {
     some = s.some;
     few = s.few;
@@ -224,7 +224,7 @@ pub record IsUnsettled (k : Kernel) : Type 0 where
   pub acyclic : (u : ℕ) → waits_for k u ≢ 0 → reaches_within (length k.seats) (waits_for k) (waits_for k u) u ≡ false
 
 -- a kernel whose ready threads stand each on exactly one level is one that keeps all once it is settled
-pub settled_kept : (k : Kernel) (at : ℕ → ℕ) → IsUnsettled k → IsListed k at → IsKernel (settled k)
+pub settled_kept : (k : Kernel) (at : ℕ → ℕ) → IsUnsettled k → IsListed k at → IsKernel (with_effective_levels k)
 settled_kept k at w h = record {
   shape = settled_shape k at w.shape h;
   queue = w.queue;

@@ -2,7 +2,7 @@
 use Rattle.std.proofs.Common.{◌≡◌, ◌≢◌, ◌⊎◌, ℕ, ◌+◌, ◌≤◌, true, false, ◌==◌, nat_lt, length, refl, sym, ap, ◌∙◌, subst, if◌then◌else◌, true≢false, inl, inr, length-set, get_or-set_same, get_or-set_other}
 use Rattle.std.proofs.lemmas.Bool.{cases_eq}
 use Rattle.pif_model.specs.declared.lines.Status.TheVariants.{Queued, Stopped}
-use Rattle.pif_model.specs.PiKernel.{Kernel, Seat, IsKernel, no_seat, seat_at, has_seat, state_at, waits_for, effective_in, queued_on, is_ready, left, kernel_after_stop}
+use Rattle.pif_model.specs.PiKernel.{Kernel, Seat, IsKernel, no_seat, seat_at, has_seat, state_at, waits_for, effective_in, queued_on, is_ready, levels_without, kernel_after_stop}
 use Rattle.pif_model.specs.Graph.{is_priority}
 use Rattle.pif_chains.proofs.Numbers.{within}
 use Rattle.pif_chains.proofs.Places.{kept_at}
@@ -102,7 +102,7 @@ module _ (t : ℕ) (k : Kernel) (h : IsKernel k) (added : has_seat k t ≡ true)
   }
 
   -- t has left its level
-  pub levels-stopped : now.levels ≡ left t k.levels
+  pub levels-stopped : now.levels ≡ levels_without t k.levels
   unfolding kernel_after_stop
   levels-stopped = refl
 

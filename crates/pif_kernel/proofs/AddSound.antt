@@ -11,7 +11,7 @@ use Rattle.pif_runq.specs.Levels.{level_after_add}
 use Rattle.pif_model.specs.declared.lines.Status.{Status}
 use Rattle.pif_model.specs.declared.lines.Status.TheVariants.{Ready}
 use Rattle.pif_model.specs.declared.lines.Woken.TheVariants.{Fresh}
-use Rattle.pif_model.specs.PiKernel.{Kernel, IsKernel, queued_on, effective_in, level_at, joined, kernel_after_add}
+use Rattle.pif_model.specs.PiKernel.{Kernel, IsKernel, queued_on, effective_in, level_at, levels_with, kernel_after_add}
 use Rattle.pif_rtmutex.specs.Owners.{Seat, Wait, seat_at, rank_of, no_seat, with_seat}
 use Rattle.pif_chains.proofs.Places.{kept_at}
 use Rattle.pif_kernel.specs.Plain.{Plain, IsPlaced, IsSound, Rise, kernel_of, status_at, key_at, ticket_of}
@@ -76,7 +76,7 @@ module _ (p : Plain) (q : Queue) (tb : Table) (t prio : ℕ) (h : IsSound p) (is
       refl (λ m. refl) refl
       (length-joined p after (length (kernel_of p).seats) prio)
       (λ r. levels_joined p after t prio (some, few) levels r
-      ∙ ap (λ (n : ℕ). level_at (joined n prio (kernel_of p).levels) r) (sym many))
+      ∙ ap (λ (n : ℕ). level_at (levels_with n prio (kernel_of p).levels) r) (sym many))
 
   kept : IsKernel (kernel_of after)
   kept =

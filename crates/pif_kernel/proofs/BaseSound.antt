@@ -4,7 +4,7 @@ use Rattle.std.proofs.Math.Path.{fun_ext}
 use Rattle.std.proofs.lemmas.Bool.{cases_eq}
 use Rattle.std.proofs.lemmas.List.{get_or-set_same, get_or-set_other}
 use Rattle.pif_nodes.specs.declared.keys.Key.{Key}
-use Rattle.pif_model.specs.PiKernel.{is_among, is_living, has_seat, settled, kernel_after_set_prio}
+use Rattle.pif_model.specs.PiKernel.{is_among, is_living, has_seat, with_effective_levels, kernel_after_set_prio}
 use Rattle.pif_model.specs.PiKernel.{seat_at as kernel_seat_at, with_seat as kernel_with_seat}
 use Rattle.pif_rtmutex.specs.Owners.{Seat, Wait, seat_at, owner_at, waits_on, rank_of, no_seat, with_base}
 use Rattle.pif_rtmutex.specs.Owners.{waits_for as owners_wait_for}
@@ -131,9 +131,9 @@ module _ (p : Plain) (t prio : ℕ) (h : IsSound p) (lives : is_living (kernel_o
       (λ u. owners_effective p fit u ∙ sym (h.local u) ∙ sym (local_same u))
       (λ u r e. h.rank u r (sym (rank_same u) ∙ e) ∙ sym (h.local u) ∙ sym (local_same u))
 
-  settled_mid : settled (kernel_of mid) ≡ kernel_after_set_prio t prio (Ok (record {})) (kernel_of p)
+  settled_mid : with_effective_levels (kernel_of mid) ≡ kernel_after_set_prio t prio (Ok (record {})) (kernel_of p)
   unfolding kernel_after_set_prio
-  settled_mid = ap settled kernel_mid
+  settled_mid = ap with_effective_levels kernel_mid
 
   pub walkable : IsWalkable mid t (kernel_after_set_prio t prio (Ok (record {})) (kernel_of p))
   walkable = record {

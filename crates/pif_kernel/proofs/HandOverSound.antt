@@ -13,7 +13,7 @@ use Rattle.pif_model.specs.declared.lines.Status.{Status}
 use Rattle.pif_model.specs.declared.lines.Status.TheVariants.{Ready, Queued}
 use Rattle.pif_model.specs.declared.lines.Woken.TheVariants.{Fresh, Owns}
 use Rattle.pif_model.specs.Graph.{has_waiter, without}
-use Rattle.pif_model.specs.PiKernel.{Kernel, IsKernel, queued_on, is_ready, effective_in, has_seat, is_among, level_at, next_in, settled, waits_for, joined, kernel_after_hand_over}
+use Rattle.pif_model.specs.PiKernel.{Kernel, IsKernel, queued_on, is_ready, effective_in, has_seat, is_among, level_at, next_in, with_effective_levels, waits_for, levels_with, kernel_after_hand_over}
 use Rattle.pif_model.specs.PiKernel.{seat_at as kernel_seat_at, state_at as kernel_state_at, with_status, with_state}
 use Rattle.pif_rtmutex.specs.Owners.{Owners, Seat, Wait, seat_at, owner_at, count, waits_on, rank_of, no_seat, with_base, with_wait, with_owner, without_state, IsTop, HasNoWaiter}
 use Rattle.pif_rtmutex.specs.Owners.{waits_for as owners_wait_for}
@@ -633,7 +633,7 @@ module _ (p : Plain) (t m key u : ℕ) (d : IsHandable p t m key) (top : IsTop p
         (λ x y ne nz. ap (λ (n : ℕ). n == y) (high_waits x)) high_base high_local
         (λ x r e. ranks x r (cases_eq x u) e ∙ sym (h.local x) ∙ sym (local_same x))
 
-    joins_level : (r : ℕ) → level_at (kernel_of mid).levels r ≡ level_at (joined u prio (kernel_of p).levels) r
+    joins_level : (r : ℕ) → level_at (kernel_of mid).levels r ≡ level_at (levels_with u prio (kernel_of p).levels) r
     joins_level r =
         levels_joined p mid u prio (omega (arith, rank_is, level_some), omega (arith, rank_is, level_few)) levels r
 
@@ -642,7 +642,7 @@ module _ (p : Plain) (t m key u : ℕ) (d : IsHandable p t m key) (top : IsTop p
         → IsListed mid x r
     listed_mid x r c y = by_thread c (cases_eq r prio)
       where
-        on_new : is_among (level_at (joined u prio (kernel_of p).levels) r) x ≡ true
+        on_new : is_among (level_at (levels_with u prio (kernel_of p).levels) r) x ≡ true
         on_new = ap (λ (xs : List ℕ). is_among xs x) (sym (joins_level r)) ∙ y
 
         below : prio < length (kernel_of p).levels
@@ -677,7 +677,7 @@ module _ (p : Plain) (t m key u : ℕ) (d : IsHandable p t m key) (top : IsTop p
             (ap (λ (j : ℕ). is_among (level_at (kernel_of p).levels j) x) same
             ∙ sym (among-push_other (level_at (kernel_of p).levels prio) u x n)
             ∙ sym (ap (λ (xs : List ℕ). is_among xs x) (level-joined_same u prio (kernel_of p).levels below))
-            ∙ ap (λ (j : ℕ). is_among (level_at (joined u prio (kernel_of p).levels) j) x) (sym same) ∙ on_new)
+            ∙ ap (λ (j : ℕ). is_among (level_at (levels_with u prio (kernel_of p).levels) j) x) (sym same) ∙ on_new)
 
     -- a key of m is the one that it had, and others wait for m
     kept_some : (a k : ℕ) → a ≡ m → key_at mid a ≡ Some k → has_waiter rest m ≡ true
@@ -768,7 +768,7 @@ module _ (p : Plain) (t m key u : ℕ) (d : IsHandable p t m key) (top : IsTop p
         states_seen mid n ∙ state_other n ne ∙ sym (states_seen p n)
         ∙ sym (get_or-set_other (kernel_of p).states m n (if has_waiter rest m then u else 0) 0 ne)
 
-    kernel_mid : kernel_of mid ≡ record over { levels = joined u (effective_in (kernel_of p) u) (kernel_of p).levels }
+    kernel_mid : kernel_of mid ≡ record over { levels = levels_with u (effective_in (kernel_of p) u) (kernel_of p).levels }
     unfolding kernel_of
     kernel_mid =
         kernel_by_parts (kernel_of mid) _ refl
@@ -778,12 +778,12 @@ module _ (p : Plain) (t m key u : ℕ) (d : IsHandable p t m key) (top : IsTop p
         ∙ sym (length-set (kernel_of p).states m (if has_waiter rest m then u else 0))) (λ n. state_placed n
         (cases_eq n m)) refl
         (length-joined p mid u (effective_in (kernel_of p) u))
-        (λ r. joins_level r ∙ ap (λ (n : ℕ). level_at (joined u n (kernel_of p).levels) r) rank_is)
+        (λ r. joins_level r ∙ ap (λ (n : ℕ). level_at (levels_with u n (kernel_of p).levels) r) rank_is)
 
     level_same : effective_in over u ≡ effective_in (kernel_of p) u
     level_same = sym (ap (λ (k : Kernel). effective_in k u) kernel_mid) ∙ effective_kept u (λ e. owner_other (sym e))
 
-    handed_mid : settled (record over { levels = joined u (effective_in over u) (kernel_of p).levels })
+    handed_mid : with_effective_levels (record over { levels = levels_with u (effective_in over u) (kernel_of p).levels })
         ≡ kernel_after_hand_over u m (kernel_of p)
     unfolding kernel_after_hand_over kernel_of
     handed_mid = refl
@@ -794,8 +794,8 @@ module _ (p : Plain) (t m key u : ℕ) (d : IsHandable p t m key) (top : IsTop p
       admitted = omega (arith, base_same t, h.placed.admitted t owner_some owner_added);
       repaired = repairs;
       after =
-          ap settled (kernel_mid
-          ∙ ap (λ (n : ℕ). record over { levels = joined u n (kernel_of p).levels }) (sym level_same)) ∙ handed_mid;
+          ap with_effective_levels (kernel_mid
+          ∙ ap (λ (n : ℕ). record over { levels = levels_with u n (kernel_of p).levels }) (sym level_same)) ∙ handed_mid;
       kept =
           subst (λ (n : ℕ). IsKernel (kernel_after_hand_over n m (kernel_of p))) (sym next)
           (hand_over_kept m (kernel_of p) h.kernel (λ z. h.placed.owned m key at (sym (states_seen p m) ∙ z)));

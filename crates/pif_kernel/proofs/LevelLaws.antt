@@ -13,7 +13,7 @@ use Rattle.pif_rtmutex.specs.Owners.{Owners}
 use Rattle.pif_boost.specs.Boosts.{greatest_base, is_other, joins}
 use Rattle.pif_boost.specs.Boosts.{level_after_walk}
 use Rattle.pif_model.specs.Graph.{is_priority}
-use Rattle.pif_model.specs.PiKernel.{is_among, numbers, level_at, moves_to, releveled}
+use Rattle.pif_model.specs.PiKernel.{is_among, numbers, level_at, moves_to, effective_levels}
 use Rattle.pif_chains.proofs.KernelNumbers.{any_number, no_number, numbers-more}
 use Rattle.pif_kernel.proofs.Levels.{range_numbers, level-levels_by}
 use Rattle.pif_kernel.proofs.Picked.{levels_of, among_has, level_seen, is_level-range}
@@ -121,7 +121,7 @@ module _ (v : Owners) (q : Queue) (tb : Table) (levels : List (List ℕ)) (n : �
 
   pub levels_settled : (q' : Queue) (tb' : Table)
       → ((p : ℕ) → IsLevel p → level_of q' tb' p ≡ level_after_walk v q tb p) → (p : ℕ)
-      → levels_of q' tb' p ≡ level_at (releveled n effective levels) p
+      → levels_of q' tb' p ≡ level_at (effective_levels n effective levels) p
   levels_settled q' tb' walks p = by_test (is_priority p) refl
       ∙ sym (level-levels_by (λ r. filter (λ u. effective u == r) (level_at levels r) ++ filter
       (moves_to effective levels r) (numbers n)) p)

@@ -4,7 +4,7 @@ use Rattle.std.specs.List.{range_with_len}
 use Rattle.std.proofs.lemmas.Bool.{cases_eq, cases_lt}
 use Rattle.std.proofs.lemmas.Bool.Decides.{nat_tests}
 use Rattle.pif_model.specs.Graph.{is_priority}
-use Rattle.pif_model.specs.PiKernel.{numbers, levels_by, level_at, joined}
+use Rattle.pif_model.specs.PiKernel.{numbers, levels_by, level_at, levels_with}
 use Rattle.pif_chains.proofs.KernelNumbers.{numbers-none, numbers-more}
 use Rattle.pif_chains.proofs.KernelLevels.{level-by, level-by_none, level-by_past, level-joined_same, level-joined_other}
 
@@ -37,14 +37,14 @@ level-levels_by f (suc i) = by_place (cases_lt (suc i) 100)
 
 -- who joins a level stands at its end
 pub level-joined : (t p : ℕ) (levels : List (List ℕ)) (r : ℕ) → p < length levels
-    → level_at (joined t p levels) r ≡ (if r == p then level_at levels r ++ t ∷ [] else level_at levels r)
+    → level_at (levels_with t p levels) r ≡ (if r == p then level_at levels r ++ t ∷ [] else level_at levels r)
 level-joined t p levels r l = by_place (cases_eq r p)
   where
     by_place : ((r ≡ p) ⊎ (r ≡ p → ⊥))
-        → level_at (joined t p levels) r ≡ (if r == p then level_at levels r ++ t ∷ [] else level_at levels r)
+        → level_at (levels_with t p levels) r ≡ (if r == p then level_at levels r ++ t ∷ [] else level_at levels r)
     by_place (inl e) =
         let yes : (r == p) ≡ true = grind (arith, nat_tests) in
-        ap (level_at (joined t p levels)) e ∙ level-joined_same t p levels l
+        ap (level_at (levels_with t p levels)) e ∙ level-joined_same t p levels l
         ∙ ap (λ (x : ℕ). level_at levels x ++ t ∷ []) (sym e) ∙ sym (rw yes refl)
     by_place (inr ne) =
         let no : (r == p) ≡ false = grind (arith, nat_tests) in level-joined_other t p levels r ne ∙ sym (rw no refl)

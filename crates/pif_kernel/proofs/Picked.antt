@@ -10,7 +10,7 @@ use Rattle.pif_runq.specs.Levels.{Queue, IsLevel, level_of, list_for, IsFirstOfG
 use Rattle.pif_runq.specs.Levels.{level_after_add}
 use Rattle.pif_runq.proofs.LevelLemmas.{threads-some}
 use Rattle.pif_model.specs.Graph.{is_priority}
-use Rattle.pif_model.specs.PiKernel.{is_among, level_at, first_from, pick_in, left, joined}
+use Rattle.pif_model.specs.PiKernel.{is_among, level_at, first_from, pick_in, levels_without, levels_with}
 use Rattle.pif_kernel.specs.Plain.{Plain, kernel_of}
 use Rattle.pif_chains.proofs.KernelLevels.{length-levels_by, level-left}
 use Rattle.pif_kernel.proofs.Levels.{level-levels_by, level-joined}
@@ -124,7 +124,7 @@ without_left (x ∷ xs) t =
 -- who is taken out of its level has left it
 pub levels_left : (p now : Plain) (t : ℕ)
     → ((r : ℕ) → IsLevel r → level_of now.queue now.table r ≡ without t (level_of p.queue p.table r))
-    → (r : ℕ) → level_at (kernel_of now).levels r ≡ level_at (left t (kernel_of p).levels) r
+    → (r : ℕ) → level_at (kernel_of now).levels r ≡ level_at (levels_without t (kernel_of p).levels) r
 levels_left p now t h r =
     levels_seen now r ∙ by_test (is_priority r) refl
     ∙ ap (filter (λ (u : ℕ). if u == t then false else true)) (sym (levels_seen p r))
@@ -135,7 +135,7 @@ levels_left p now t h r =
     by_test true e = rw e (h r (is_level-range r e) ∙ without_left (level_of p.queue p.table r) t)
     by_test false e = rw e refl
 
-pub length-left : (p now : Plain) (t : ℕ) → length (kernel_of now).levels ≡ length (left t (kernel_of p).levels)
+pub length-left : (p now : Plain) (t : ℕ) → length (kernel_of now).levels ≡ length (levels_without t (kernel_of p).levels)
 length-left p now t =
     levels_count now ∙ sym (levels_count p)
     ∙ sym (length-map (kernel_of p).levels (filter (λ (u : ℕ). if u == t then false else true)))
@@ -143,7 +143,7 @@ length-left p now t =
 -- who is added to a level has joined it
 pub levels_joined : (p now : Plain) (t prio : ℕ) → IsLevel prio
     → ((r : ℕ) → IsLevel r → level_of now.queue now.table r ≡ level_after_add t prio r (level_of p.queue p.table r))
-    → (r : ℕ) → level_at (kernel_of now).levels r ≡ level_at (joined t prio (kernel_of p).levels) r
+    → (r : ℕ) → level_at (kernel_of now).levels r ≡ level_at (levels_with t prio (kernel_of p).levels) r
 levels_joined p now t prio l h r =
     levels_seen now r ∙ by_test (is_priority r) refl (cases_eq r prio)
     ∙ ap (λ (xs : List ℕ). if r == prio then xs ++ t ∷ [] else xs) (sym (levels_seen p r))
@@ -162,5 +162,5 @@ levels_joined p now t prio l h r =
     by_test false e (inr n) = let there : (r == prio) ≡ false = grind (arith, nat_tests) in rw (e, there) refl
 
 pub length-joined : (p now : Plain) (t prio : ℕ)
-    → length (kernel_of now).levels ≡ length (joined t prio (kernel_of p).levels)
+    → length (kernel_of now).levels ≡ length (levels_with t prio (kernel_of p).levels)
 length-joined p now t prio = levels_count now ∙ sym (levels_count p) ∙ sym (length-set (kernel_of p).levels prio _)

@@ -12,7 +12,7 @@ use Rattle.pif_model.specs.declared.lines.Status.{Status}
 use Rattle.pif_model.specs.declared.lines.Status.TheVariants.{Ready, Queued}
 use Rattle.pif_model.specs.declared.lines.Woken.TheVariants.{Fresh}
 use Rattle.pif_model.specs.Graph.{reaches_within, has_waiter}
-use Rattle.pif_model.specs.PiKernel.{queued_on, is_ready, effective_in, has_seat, is_among, is_living, level_at, settled, waits_for, left, kernel_after_queueing}
+use Rattle.pif_model.specs.PiKernel.{queued_on, is_ready, effective_in, has_seat, is_among, is_living, level_at, with_effective_levels, waits_for, levels_without, kernel_after_queueing}
 use Rattle.pif_model.specs.PiKernel.{seat_at as kernel_seat_at, state_at as kernel_state_at, with_status, with_state}
 use Rattle.pif_rtmutex.specs.Owners.{Owners, Seat, Wait, seat_at, owner_at, count, waits_on, rank_of, no_seat, with_wait, with_owner}
 use Rattle.pif_rtmutex.specs.Owners.{waits_for as owners_wait_for}
@@ -390,7 +390,7 @@ module _ (p : Plain) (keys : List (Option ℕ)) (owners : Owners) (t m owner key
   kernel_mid : kernel_of mid
       ≡ record (with_status t (Queued m) (with_state m owner (kernel_of p))) {
         waiters = (kernel_of p).waiters ++ (t, m) ∷ [];
-        levels = left t (kernel_of p).levels;
+        levels = levels_without t (kernel_of p).levels;
       }
   unfolding kernel_of
   kernel_mid =
@@ -401,9 +401,9 @@ module _ (p : Plain) (keys : List (Option ℕ)) (owners : Owners) (t m owner key
       (λ n. state_placed n (cases_eq n m)) refl
       (length-left p mid t) (levels_left p mid t levels)
 
-  settled_mid : settled (kernel_of mid) ≡ kernel_after_queueing t m owner (kernel_of p)
+  settled_mid : with_effective_levels (kernel_of mid) ≡ kernel_after_queueing t m owner (kernel_of p)
   unfolding kernel_after_queueing
-  settled_mid = ap settled kernel_mid
+  settled_mid = ap with_effective_levels kernel_mid
 
   kernel_state : kernel_state_at (kernel_of p) m ≢ 0 → kernel_state_at (kernel_of p) m ≡ owner
   kernel_state n = states_seen p m ∙ state (λ z. n (states_seen p m ∙ z))

@@ -7,7 +7,7 @@ use Rattle.pif_nodes.specs.declared.keys.Key.{Key}
 use Rattle.pif_nodes.specs.Lists.{has}
 use Rattle.pif_nodes.specs.Table.{Table}
 use Rattle.pif_runq.specs.Levels.{Queue, Holds, IsLevel, IsQueued, level_of}
-use Rattle.pif_model.specs.PiKernel.{Kernel, IsKernel, effective_in, is_among, level_at, settled, waits_for}
+use Rattle.pif_model.specs.PiKernel.{Kernel, IsKernel, effective_in, is_among, level_at, with_effective_levels, waits_for}
 use Rattle.pif_model.specs.PiKernel.{seat_at as kernel_seat_at}
 use Rattle.pif_rtmutex.specs.Owners.{Owners, Seat, Wait, seat_at, owner_at, count, waits_on, rank_of, no_seat}
 use Rattle.pif_boost.specs.Boosts.{IsRepaired, IsRepairedBut, base_of, local_of, greatest_base}
@@ -142,10 +142,10 @@ module _ (p : Plain) (h : IsPlaced p) (now : Owners) (q : Queue) (tb : Table) (r
       by_test true e =
           let w = within u (length (kernel_of p).seats) (h.listed u r e).added in absurd (omega (arith, l, w.1))
 
-  pub kernel_after : kernel_of after ≡ settled (kernel_of p)
+  pub kernel_after : kernel_of after ≡ with_effective_levels (kernel_of p)
   unfolding kernel_of
   kernel_after =
-      kernel_by_parts (kernel_of after) (settled (kernel_of p)) refl
+      kernel_by_parts (kernel_of after) (with_effective_levels (kernel_of p)) refl
       (seats_of-same_base p.statuses p.owners.seats now.seats repaired.threads base_now)
       (states_length after ∙ sym (states_length p))
       (λ m. states_seen after m ∙ state_now m ∙ sym (states_seen p m)) refl
@@ -191,7 +191,7 @@ module _ (p : Plain) (h : IsPlaced p) (now : Owners) (q : Queue) (tb : Table) (r
     tickets = subst (λ (f : ℕ → ℕ). Rise f 1 p.arrivals p.next) (fun_ext ticket_now) h.tickets;
   }
 
-  pub sound_after : IsKernel (settled (kernel_of p)) → IsSound after
+  pub sound_after : IsKernel (with_effective_levels (kernel_of p)) → IsSound after
   sound_after settles = record {
     placed = placed_after kept;
     local = local_after;
@@ -207,7 +207,7 @@ pub record IsWalkable (p : Plain) (start : ℕ) (k : Kernel) : Type 0 where
   pub placed : IsPlaced p
   pub admitted : 1 ≤ base_of p.owners start
   pub repaired : IsRepairedBut start p.owners
-  pub after : settled (kernel_of p) ≡ k
+  pub after : with_effective_levels (kernel_of p) ≡ k
   pub kept : IsKernel k
 
 module _ (p : Plain) (start : ℕ) (k : Kernel) (w : IsWalkable p start k) where

@@ -108,13 +108,13 @@ levels_by level = [] ∷ map level (numbers 99)
 abbrev pub level_at : List (List ℕ) → ℕ → List ℕ
 level_at levels p = get_or levels p []
 
--- t has joined the end of level p
-abbrev pub joined : ℕ → ℕ → List (List ℕ) → List (List ℕ)
-joined t p levels = set levels p (level_at levels p ++ t ∷ [])
+-- the levels with t at the end of level p
+abbrev pub levels_with : ℕ → ℕ → List (List ℕ) → List (List ℕ)
+levels_with t p levels = set levels p (level_at levels p ++ t ∷ [])
 
--- t has left its level
-abbrev pub left : ℕ → List (List ℕ) → List (List ℕ)
-left t levels = map (filter (λ u. if u == t then false else true)) levels
+-- the levels without t
+abbrev pub levels_without : ℕ → List (List ℕ) → List (List ℕ)
+levels_without t levels = map (filter (λ u. if u == t then false else true)) levels
 
 -- whether u moves to level p: it stands on another level, and p is its level now
 abbrev pub moves_to : (ℕ → ℕ) → List (List ℕ) → ℕ → ℕ → Bool
@@ -125,13 +125,13 @@ moves_to effective levels p u =
 
 -- the levels once each of n threads stands at the level of its effective priority: who keeps its level keeps its place,
 -- and who changes it joins the end of the new one; several that do so join in order of their numbers
-abbrev pub releveled : ℕ → (ℕ → ℕ) → List (List ℕ) → List (List ℕ)
-releveled n effective levels =
+abbrev pub effective_levels : ℕ → (ℕ → ℕ) → List (List ℕ) → List (List ℕ)
+effective_levels n effective levels =
     levels_by (λ p. filter (λ u. effective u == p) (level_at levels p) ++ filter (moves_to effective levels p) (numbers n))
 
--- each ready thread at the level of its effective priority now
-abbrev pub settled : Kernel → Kernel
-settled k = record k { levels = releveled (length k.seats - 1) (effective_in k) k.levels }
+-- k with each ready thread at the level of its effective priority now
+abbrev pub with_effective_levels : Kernel → Kernel
+with_effective_levels k = record k { levels = effective_levels (length k.seats - 1) (effective_in k) k.levels }
 
 -- the first of the greatest of the levels up to p that has a thread; 0 where none has
 unfoldable pub first_from : List (List ℕ) → ℕ → ℕ
@@ -157,7 +157,7 @@ new_kernel l =
 abbrev pub kernel_after_add : ℕ → Kernel → Kernel
 kernel_after_add p k = record k {
   seats = k.seats ++ record { base = p; status = Ready WokenFresh } ∷ [];
-  levels = joined (length k.seats) p k.levels;
+  levels = levels_with (length k.seats) p k.levels;
 }
 
 -- what lock_pi answers to t where the word has the number n of an owner, and the owner state that of s, 0 for none
@@ -186,9 +186,9 @@ words_after_lock t m (Err e) ws = ws
 
 -- t is queued on m, whose owner is n: there is an owner state of n, and n and its chain are boosted
 unfoldable pub kernel_after_queueing : ℕ → ℕ → ℕ → Kernel → Kernel
-kernel_after_queueing t m n k = settled (record (with_status t (Queued m) (with_state m n k)) {
+kernel_after_queueing t m n k = with_effective_levels (record (with_status t (Queued m) (with_state m n k)) {
   waiters = k.waiters ++ (t, m) ∷ [];
-  levels = left t k.levels;
+  levels = levels_without t k.levels;
 })
 
 -- the kernel after lock_pi, by its answer
@@ -231,7 +231,7 @@ unfoldable pub kernel_after_hand_over : ℕ → ℕ → Kernel → Kernel
 kernel_after_hand_over u m k =
     let rest = without k.waiters u in
     let after = record (with_status u (Ready WokenOwns) (with_state m (if has_waiter rest m then u else 0) k)) { waiters = rest } in
-    settled (record after { levels = joined u (effective_in after u) k.levels })
+    with_effective_levels (record after { levels = levels_with u (effective_in after u) k.levels })
 
 -- the kernel after unlock_pi, by its answer
 unfoldable pub kernel_after_unlock : ℕ → Result (record {}) Errno → Kernel → Kernel
@@ -246,12 +246,12 @@ set_prio_answer t p k =
 -- the kernel after set_prio, by its answer: the base priority is p, and t and its chain get their effective priorities;
 -- tickets, and so places among equals, stay
 unfoldable pub kernel_after_set_prio : ℕ → ℕ → Result (record {}) Errno → Kernel → Kernel
-kernel_after_set_prio t p (Ok x) k = settled (with_seat t (record (seat_at k t) { base = p }) k)
+kernel_after_set_prio t p (Ok x) k = with_effective_levels (with_seat t (record (seat_at k t) { base = p }) k)
 kernel_after_set_prio t p (Err e) k = k
 
 -- the kernel after stop: t is stopped for good
 unfoldable pub kernel_after_stop : ℕ → Kernel → Kernel
-kernel_after_stop t k = record (with_status t Stopped k) { levels = left t k.levels }
+kernel_after_stop t k = record (with_status t Stopped k) { levels = levels_without t k.levels }
 
 -- WHAT A KERNEL KEEPS
 
