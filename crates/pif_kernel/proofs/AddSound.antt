@@ -13,13 +13,14 @@ use Rattle.pif_model.specs.declared.lines.Status.TheVariants.{Ready}
 use Rattle.pif_model.specs.declared.lines.Woken.TheVariants.{Fresh}
 use Rattle.pif_model.specs.PiKernel.{Kernel, IsKernel, queued_on, effective_in, level_at, levels_with, kernel_after_add}
 use Rattle.pif_rtmutex.specs.Owners.{Seat, Wait, seat_at, rank_of, no_seat, with_seat}
+use Rattle.pif_chains.proofs.KernelSettled.{priority-from_range}
 use Rattle.pif_chains.proofs.Places.{kept_at}
 use Rattle.pif_kernel.specs.Plain.{Plain, IsPlaced, IsSound, Rise, kernel_of, status_at, key_at, ticket_of}
+use Rattle.pif_chains.proofs.KernelAdded.{effective-added_other, effective-added_same}
 use Rattle.pif_chains.proofs.KernelKept.{add_kept}
 use Rattle.pif_kernel.proofs.Seats.{IsFitted, seats_length, limits_seen, kernel_by_parts, seats_of-push}
-use Rattle.pif_kernel.proofs.Picked.{levels_joined, length-joined, level_is}
-use Rattle.pif_kernel.proofs.Standing.{fits, listed_kept, states_none, states_below}
-use Rattle.pif_kernel.proofs.AddLaws.{effective_other, effective_new}
+use Rattle.pif_kernel.proofs.Picked.{levels_joined, length-joined}
+use Rattle.pif_kernel.proofs.Standing.{fits, listed_kept}
 
 pushed_status : (xs : List Status) (u : ℕ) → get_or (xs ++ Ready Fresh ∷ []) u (Ready Fresh) ≡ get_or xs u (Ready Fresh)
 pushed_status [] zero = refl
@@ -81,18 +82,19 @@ module _ (p : Plain) (q : Queue) (tb : Table) (t prio : ℕ) (h : IsSound p) (is
   kept : IsKernel (kernel_of after)
   kept =
       subst IsKernel (sym kernel_after)
-      (add_kept prio (kernel_of p) h.kernel (level_is prio (some, few))
+      (add_kept prio (kernel_of p) h.kernel (priority-from_range prio some few)
       (omega (arith, seats_length p (fits p h), room, ap (λ (l : Bounds). l.threads) (limits_seen p))))
 
   effective_same : (u : ℕ) → u ≢ t → effective_in (kernel_of after) u ≡ effective_in (kernel_of p) u
   effective_same u n =
       ap (λ (k : Kernel). effective_in k u) kernel_after
-      ∙ effective_other (kernel_of p) prio (states_none p h) (states_below p h) u (λ e. n (e ∙ many))
+      ∙ effective-added_other prio (kernel_of p) h.kernel u (λ e. n (e ∙ many))
 
   effective_here : (u : ℕ) → u ≡ t → effective_in (kernel_of after) u ≡ prio
   effective_here u e =
       ap (λ (k : Kernel). effective_in k u) kernel_after
-      ∙ effective_new (kernel_of p) prio (states_none p h) (states_below p h) u (e ∙ sym many)
+      ∙ ap (effective_in (kernel_after_add prio (kernel_of p))) (e ∙ sym many)
+      ∙ effective-added_same prio (kernel_of p) h.kernel
 
   local_after : (u : ℕ) → ((u ≡ t) ⊎ (u ≡ t → ⊥)) → (seat_at after.owners u).local ≡ effective_in (kernel_of after) u
   local_after u (inl e) = ap (λ (x : Seat). x.local) (same u e) ∙ sym (effective_here u e)

@@ -13,12 +13,12 @@ use Rattle.pif_model.specs.PiKernel.{Kernel, state_at, is_living, waits_for, wai
 use Rattle.pif_word.specs.declared.cells.Cell.TheVariants.{Mutex}
 use Rattle.pif_word.specs.WordMap.{WordMap, HasCell, bits_at, with_bits, words_of}
 use Rattle.pif_rtmutex.specs.Owners.{WaitsFor}
+use Rattle.pif_chains.proofs.KernelSettled.{priority-from_range}
 use Rattle.pif_chains.proofs.Places.{mapped_at}
 use Rattle.pif_chains.proofs.Numbers.{from_within, within}
 use Rattle.pif_chains.proofs.Following.{Follows, reaches-from_within, within-from_reaches}
 use Rattle.pif_kernel.specs.Plain.{Plain, IsSound, kernel_of}
 use Rattle.pif_kernel.proofs.Seats.{added_seen, seats_length, owners_waits, waits_below}
-use Rattle.pif_kernel.proofs.Picked.{level_is}
 use Rattle.pif_kernel.proofs.Standing.{fits}
 
 -- WORDS
@@ -180,13 +180,6 @@ module _ (t m : ℕ) (ws : Words) (k : Kernel) where
       let a : ((word_at ws m).number == t) ≡ true = grind (arith, nat_tests) in rw (e, a, fits) refl
 
 module _ (t n s : ℕ) (k : Kernel) where
-  pub wait_dead : is_living k n ≡ false → Err NoSuchThread ≡ wait_answer t n s k
-  wait_dead e = rw e refl
-
-  pub wait_disagrees : is_living k n ≡ true → (if s == 0 then true else s == n) ≡ false
-      → Err Invalid ≡ wait_answer t n s k
-  wait_disagrees e fits = rw (e, fits) refl
-
   pub wait_closes : is_living k n ≡ true → (if s == 0 then true else s == n) ≡ true
       → reaches_within (length k.seats) (waits_for k) n t ≡ true → Err Deadlock ≡ wait_answer t n s k
   wait_closes e fits r = rw (e, fits, r) refl
@@ -194,30 +187,6 @@ module _ (t n s : ℕ) (k : Kernel) where
   pub wait_queues : is_living k n ≡ true → (if s == 0 then true else s == n) ≡ true
       → reaches_within (length k.seats) (waits_for k) n t ≡ false → Ok TookQueued ≡ wait_answer t n s k
   wait_queues e fits r = rw (e, fits, r) refl
-
--- what holds where t may wait for n
-pub record IsWaiting (t n s : ℕ) (k : Kernel) : Type 0 where
-  pub living : is_living k n ≡ true
-  pub state : s ≢ 0 → s ≡ n
-  pub unreached : reaches_within (length k.seats) (waits_for k) n t ≡ false
-
-waiting : (living fits reach : Bool)
-    → Ok TookQueued ≡ (if living then
-    (if fits then (if reach then Err Deadlock else Ok TookQueued) else Err Invalid) else Err NoSuchThread)
-    → (living ≡ true) × (fits ≡ true) × (reach ≡ false)
-waiting true true false e = (refl, refl, refl)
-waiting true true true e = cc
-waiting true false r e = cc
-waiting false f r e = cc
-
-pub waiting_says : (t n s : ℕ) (k : Kernel) → Ok TookQueued ≡ wait_answer t n s k → IsWaiting t n s k
-waiting_says t n s k e =
-    let q
-    = waiting (is_living k n) (if s == 0 then true else s == n) (reaches_within (length k.seats) (waits_for k) n t) e in
-    record { living = q.0; state = same q.1; unreached = q.2 }
-  where
-    same : (if s == 0 then true else s == n) ≡ true → s ≢ 0 → s ≡ n
-    same e z = grind (arith, nat_tests)
 
 -- SET_PRIO
 
@@ -236,11 +205,11 @@ module _ (t p : ℕ) (k : Kernel) where
 
   pub set_prio_dead : 1 ≤ p → p ≤ 99 → is_living k t ≡ false → Err NoSuchThread ≡ set_prio_answer t p k
   unfolding set_prio_answer
-  set_prio_dead some few e = rw (level_is p (some, few), e) refl
+  set_prio_dead some few e = rw (priority-from_range p some few, e) refl
 
   pub set_prio_done : 1 ≤ p → p ≤ 99 → is_living k t ≡ true → Ok (record {}) ≡ set_prio_answer t p k
   unfolding set_prio_answer
-  set_prio_done some few e = rw (level_is p (some, few), e) refl
+  set_prio_done some few e = rw (priority-from_range p some few, e) refl
 
   chosen : (a b : Bool) → Done ≡ (if a then (if b then Done else Err NoSuchThread) else Err Invalid) → b ≡ true
   chosen true true e = refl

@@ -9,11 +9,12 @@ use Rattle.pif_model.specs.PiKernel.{seat_at as kernel_seat_at, with_seat as ker
 use Rattle.pif_rtmutex.specs.Owners.{Seat, Wait, seat_at, owner_at, waits_on, rank_of, no_seat, with_base}
 use Rattle.pif_rtmutex.specs.Owners.{waits_for as owners_wait_for}
 use Rattle.pif_boost.specs.Boosts.{IsRepairedBut}
+use Rattle.pif_chains.proofs.KernelSettled.{priority-from_range}
 use Rattle.pif_chains.proofs.KernelKept.{set_prio_kept}
 use Rattle.pif_chains.proofs.Places.{kept_at}
 use Rattle.pif_kernel.specs.Plain.{Plain, IsListed, IsPlaced, IsSound, Rise, kernel_of, ticket_of}
 use Rattle.pif_kernel.proofs.Seats.{IsFitted, added_seen, kernel_by_parts, seats_of-set_base, same_seats}
-use Rattle.pif_kernel.proofs.Picked.{level_is, levels_seen}
+use Rattle.pif_kernel.proofs.Picked.{levels_seen}
 use Rattle.pif_kernel.proofs.Standing.{fits}
 use Rattle.pif_kernel.proofs.ChainLaws.{repaired_but}
 use Rattle.pif_kernel.proofs.WalkSound.{IsWalkable, owners_effective}
@@ -141,5 +142,5 @@ module _ (p : Plain) (t prio : ℕ) (h : IsSound p) (lives : is_living (kernel_o
     admitted = omega (arith, same t refl, some);
     repaired = repairs;
     after = settled_mid;
-    kept = set_prio_kept t prio (kernel_of p) h.kernel (level_is prio (some, few)) lives;
+    kept = set_prio_kept t prio (kernel_of p) h.kernel (priority-from_range prio some few) lives;
   }

@@ -29,10 +29,6 @@ pub words_queued : (t m : ℕ) (ws : Words)
 unfolding words_after_lock
 words_queued t m ws = refl
 
-pub kernel_owns : (t m : ℕ) (ws : Words) (k : Kernel) → kernel_after_lock t m (Ok TookOwns) ws k ≡ k
-unfolding kernel_after_lock
-kernel_owns t m ws k = refl
-
 pub kernel_queued : (t m : ℕ) (ws : Words) (k : Kernel)
     → kernel_after_lock t m (Ok TookQueued) ws k ≡ kernel_after_queueing t m (word_at ws m).number k
 unfolding kernel_after_lock

@@ -33,7 +33,7 @@ use Rattle.pif_chains.proofs.KernelNumbers.{among-push_other}
 use Rattle.pif_kernel.specs.Plain.{Plain, IsListed, IsPlaced, IsSound, Rise, kernel_of, status_at, key_at, state_at, ticket_of, mutexes_of}
 use Rattle.pif_kernel.proofs.Seats.{IsFitted, same_seats, seats_length, status_seen, waits_seen, waits_below, owners_waits, added_back, waiters_seen, states_seen, states_length, kernel_by_parts, seats_of-set_status, seats_of-same_base}
 use Rattle.pif_kernel.proofs.Picked.{levels_count, levels_joined, length-joined}
-use Rattle.pif_kernel.proofs.Standing.{fits, effective_some, effective_few, unqueued_free}
+use Rattle.pif_kernel.proofs.Standing.{fits, effective_level, unqueued_free}
 use Rattle.pif_kernel.proofs.ChainLaws.{repaired_but}
 use Rattle.pif_kernel.proofs.QueueLaws.{rise_once}
 use Rattle.pif_kernel.proofs.Waiters.{ready_idle}
@@ -246,10 +246,10 @@ module _ (p : Plain) (t m key u : ℕ) (d : IsHandable p t m key) (top : IsTop p
       ∙ ap is_ready status_next)
 
   pub level_some : 1 ≤ effective_in (kernel_of p) u
-  level_some = effective_some p h u next_known
+  level_some = (effective_level p h u next_known).0
 
   pub level_few : effective_in (kernel_of p) u ≤ 99
-  level_few = effective_few p h u
+  level_few = (effective_level p h u next_known).1
 
   -- the next waiter is on no level
   next_off : (r : ℕ) → is_among (level_at (kernel_of p).levels r) u ≡ false

@@ -14,9 +14,10 @@ use Rattle.pif_boost.specs.Boosts.{greatest_base, is_other, joins}
 use Rattle.pif_boost.specs.Boosts.{level_after_walk}
 use Rattle.pif_model.specs.Graph.{is_priority}
 use Rattle.pif_model.specs.PiKernel.{is_among, numbers, level_at, moves_to, effective_levels}
+use Rattle.pif_chains.proofs.KernelSettled.{priority-range}
 use Rattle.pif_chains.proofs.KernelNumbers.{any_number, no_number, numbers-more}
 use Rattle.pif_kernel.proofs.Levels.{range_numbers, level-levels_by}
-use Rattle.pif_kernel.proofs.Picked.{levels_of, among_has, level_seen, is_level-range}
+use Rattle.pif_kernel.proofs.Picked.{levels_of, among_has, level_seen}
 
 -- numbers of which none passes may be left out
 filter_fewer : (f : ℕ → Bool) (n more : ℕ) → n ≤ more → ((u : ℕ) → n < u → f u ≡ false)
@@ -48,7 +49,7 @@ module _ (v : Owners) (q : Queue) (tb : Table) (levels : List (List ℕ)) (n : �
     where
       by_test : (b : Bool) → is_priority r ≡ b → level_with q tb u ≡ Some r
       by_test true x =
-          let l : IsLevel r = is_level-range r x in
+          let l : IsLevel r = priority-range r x in
           level_with-from_listed q tb u r holds l
           (ap (has u) (sym (here r l)) ∙ sym (among_has (level_at levels r) u) ∙ e)
       by_test false x =
@@ -130,4 +131,4 @@ module _ (v : Owners) (q : Queue) (tb : Table) (levels : List (List ℕ)) (n : �
           ≡ (if is_priority p then filter (λ u. effective u == p) (level_at levels p) ++ filter
           (moves_to effective levels p) (numbers n) else [])
       by_test false e = rw e refl
-      by_test true e = let l : IsLevel p = is_level-range p e in rw e (walks p l ∙ level_walked p l)
+      by_test true e = let l : IsLevel p = priority-range p e in rw e (walks p l ∙ level_walked p l)

@@ -2,11 +2,9 @@ pub mod Seats
 pub mod Levels
 pub mod Picked
 pub mod Standing
-pub mod StopLaws
 pub mod StopSound
 pub mod Answering
 pub mod NewSound
-pub mod AddLaws
 pub mod AddSound
 pub mod ChainLaws
 pub mod LevelLaws

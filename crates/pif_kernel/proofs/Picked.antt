@@ -12,6 +12,7 @@ use Rattle.pif_runq.proofs.LevelLemmas.{threads-some}
 use Rattle.pif_model.specs.Graph.{is_priority}
 use Rattle.pif_model.specs.PiKernel.{is_among, level_at, first_from, pick_in, levels_without, levels_with}
 use Rattle.pif_kernel.specs.Plain.{Plain, kernel_of}
+use Rattle.pif_chains.proofs.KernelSettled.{priority-range, priority-from_range}
 use Rattle.pif_chains.proofs.KernelLevels.{length-levels_by, level-left}
 use Rattle.pif_kernel.proofs.Levels.{level-levels_by, level-joined}
 
@@ -28,15 +29,9 @@ pub levels_count : (p : Plain) → length (kernel_of p).levels ≡ 100
 unfolding kernel_of
 levels_count p = length-levels_by (level_of p.queue p.table)
 
-pub level_is : (p : ℕ) → IsLevel p → is_priority p ≡ true
-level_is p l = grind (arith, nat_tests, l.0, l.1)
-
-pub is_level-range : (p : ℕ) → is_priority p ≡ true → IsLevel p
-is_level-range p e = (grind (arith, nat_tests), grind (arith, nat_tests))
-
 -- a level that there is
 pub level_seen : (q : Queue) (t : Table) (p : ℕ) → IsLevel p → levels_of q t p ≡ level_of q t p
-level_seen q t p l = rw (level_is p l) refl
+level_seen q t p l = rw (priority-from_range p l.0 l.1) refl
 
 from_head : (xs : List ℕ) (d u : ℕ) → first_of xs ≡ Some u → elim xs [ [] ↦ d | (t ∷ ts) ↦ t ] ≡ u
 from_head [] d u e = cc
@@ -132,7 +127,7 @@ levels_left p now t h r =
   where
     by_test : (b : Bool) → is_priority r ≡ b
         → levels_of now.queue now.table r ≡ filter (λ u. if u == t then false else true) (levels_of p.queue p.table r)
-    by_test true e = rw e (h r (is_level-range r e) ∙ without_left (level_of p.queue p.table r) t)
+    by_test true e = rw e (h r (priority-range r e) ∙ without_left (level_of p.queue p.table r) t)
     by_test false e = rw e refl
 
 pub length-left : (p now : Plain) (t : ℕ) → length (kernel_of now).levels ≡ length (levels_without t (kernel_of p).levels)
@@ -154,11 +149,11 @@ levels_joined p now t prio l h r =
         (if r == prio then levels_of p.queue p.table r ++ t ∷ [] else levels_of p.queue p.table r)
     by_test true e (inl same) =
         let here : (r == prio) ≡ true = grind (arith, nat_tests) in
-        rw (e, here) (h r (is_level-range r e) ∙ rw here refl)
+        rw (e, here) (h r (priority-range r e) ∙ rw here refl)
     by_test true e (inr n) =
         let there : (r == prio) ≡ false = grind (arith, nat_tests) in
-        rw (e, there) (h r (is_level-range r e) ∙ rw there refl)
-    by_test false e (inl same) = absurd (false≢true (sym e ∙ ap is_priority same ∙ level_is prio l))
+        rw (e, there) (h r (priority-range r e) ∙ rw there refl)
+    by_test false e (inl same) = absurd (false≢true (sym e ∙ ap is_priority same ∙ priority-from_range prio l.0 l.1))
     by_test false e (inr n) = let there : (r == prio) ≡ false = grind (arith, nat_tests) in rw (e, there) refl
 
 pub length-joined : (p now : Plain) (t prio : ℕ)

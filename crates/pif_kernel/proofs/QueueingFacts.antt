@@ -14,7 +14,7 @@ use Rattle.pif_rtmutex.specs.Owners.{waits_for as owners_wait_for}
 use Rattle.pif_chains.proofs.Following.{Follows, within-from_reaches}
 use Rattle.pif_kernel.specs.Plain.{Plain, IsSound, IsOpened, Rise, kernel_of, status_at, key_at, state_at, ticket_of}
 use Rattle.pif_kernel.proofs.Seats.{seats_length, waits_below, owners_waits, added_seen, states_seen}
-use Rattle.pif_kernel.proofs.Standing.{fits, effective_some, ready_queued}
+use Rattle.pif_kernel.proofs.Standing.{fits, effective_level, ready_queued}
 use Rattle.pif_kernel.proofs.Waiters.{ready_free, room_for}
 use Rattle.pif_kernel.proofs.WalkSound.{IsWalkable}
 use Rattle.pif_kernel.proofs.QueueingSound.{IsOpen, opened, walkable}
@@ -128,7 +128,7 @@ module _ (now p x : Plain) (t m owner key ticket : ℕ) (i : IsEntry now p x t m
 
   -- that is a level
   pub local_low : 1 ≤ (seat_at x.owners t).local
-  local_low = omega (arith, local_is, effective_some p i.sound t i.added)
+  local_low = omega (arith, local_is, (effective_level p i.sound t i.added).0)
 
   pub place : t < length p.statuses
   place = (added_seen p (fits p i.sound) t i.added).1

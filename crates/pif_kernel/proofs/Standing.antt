@@ -7,29 +7,21 @@ use Rattle.pif_nodes.specs.Table.{holder, list_at}
 use Rattle.pif_runq.specs.Levels.{Queue, IsQueued, IsLevel, level_of, list_for, node_for}
 use Rattle.pif_runq.proofs.LevelLemmas.{has-threads}
 use Rattle.pif_model.specs.PiKernel.{IsKernel, effective_in, is_among, is_living, is_ready, has_seat, level_at}
-use Rattle.pif_model.specs.PiKernel.{seat_at as kernel_seat_at, state_at as kernel_state_at}
+use Rattle.pif_model.specs.PiKernel.{seat_at as kernel_seat_at}
 use Rattle.pif_rtmutex.specs.Owners.{seat_at}
-use Rattle.pif_chains.proofs.Greatest.{effective_most, effective_own}
+use Rattle.pif_chains.proofs.KernelSettled.{effective_range}
 use Rattle.pif_kernel.specs.Plain.{Plain, IsListed, IsSound, kernel_of}
-use Rattle.pif_kernel.proofs.Seats.{IsFitted, fitted, seats_length, base_seen, added_seen, states_seen, status_seen}
+use Rattle.pif_kernel.proofs.Seats.{IsFitted, fitted, seats_length, status_seen}
 use Rattle.pif_kernel.proofs.Picked.{levels_seen, level_seen, among_has}
 
 -- statuses, rows and keys of what is sound fit together
 pub fits : (p : Plain) → IsSound p → IsFitted p
 fits p h = fitted p h.placed
 
--- effective priorities are at most 99
-pub effective_few : (p : Plain) → IsSound p → (t : ℕ) → effective_in (kernel_of p) t ≤ 99
-effective_few p h t = effective_most _ _ _ t 99 (λ u l e. omega (arith, base_seen p (fits p h) u, h.placed.most u))
-
--- and those of threads that were added are at least 1
-pub effective_some : (p : Plain) → IsSound p → (t : ℕ) → has_seat (kernel_of p) t ≡ true
-    → 1 ≤ effective_in (kernel_of p) t
-effective_some p h t e =
-    let a = added_seen p (fits p h) t e in
-    let own : (kernel_seat_at (kernel_of p) t).base ≤ effective_in (kernel_of p) t
-    = effective_own _ _ _ t (omega (arith, a.1, seats_length p (fits p h))) in
-    omega (arith, own, base_seen p (fits p h) t, h.placed.admitted t a.0 a.1)
+-- the effective priority of a thread that was added is a level
+pub effective_level : (p : Plain) → IsSound p → (t : ℕ) → has_seat (kernel_of p) t ≡ true
+    → IsLevel (effective_in (kernel_of p) t)
+effective_level p h t known = effective_range (kernel_of p) h.kernel.shape t known
 
 -- a level of the run queue, as the kernel by itself has it
 pub level_same : (p : Plain) (r : ℕ) → IsLevel r → level_at (kernel_of p).levels r ≡ level_of p.queue p.table r
@@ -47,7 +39,7 @@ pub ready_queued : (p : Plain) → IsSound p → (t : ℕ) → has_seat (kernel_
     → is_ready (kernel_seat_at (kernel_of p) t).status ≡ true
     → IsQueued p.queue p.table t
 ready_queued p h t known ready =
-    let level : IsLevel (effective_in (kernel_of p) t) = (effective_some p h t known, effective_few p h t) in
+    let level : IsLevel (effective_in (kernel_of p) t) = effective_level p h t known in
     let e = level_same p (effective_in (kernel_of p) t) level in (
       effective_in (kernel_of p) t,
       level,
@@ -84,16 +76,8 @@ pub effective_answer : (p : Plain) → IsSound p → (t : ℕ) (r : Option ℕ) 
     → (IsSome r ↔ (1 ≤ (seat_at p.owners t).local)) → IfSome r (λ x. x ≡ (seat_at p.owners t).local)
     → r ≡ (if is_living (kernel_of p) t then Some (effective_in (kernel_of p) t) else None)
 effective_answer p h t None lives given value =
-    absurd (true≢false (sym (given.1 (omega (arith, h.local t, effective_some p h t lives)))))
+    absurd (true≢false (sym (given.1 (omega (arith, h.local t, (effective_level p h t lives).0)))))
 effective_answer p h t (Some x) lives given value = rw lives (ap Some (value ∙ h.local t))
-
--- no mutex has no owner state
-pub states_none : (p : Plain) → IsSound p → kernel_state_at (kernel_of p) 0 ≡ 0
-states_none p h = h.kernel.shape.no_mutex
-
--- the owner in an owner state was added
-pub states_below : (p : Plain) → IsSound p → (m : ℕ) → kernel_state_at (kernel_of p) m < length (kernel_of p).seats
-states_below p h m = omega (arith, states_seen p m, seats_length p (fits p h), h.placed.owners m)
 
 -- who was never added is on no level
 pub unadded_off : (p : Plain) → IsSound p → (t : ℕ) → length p.statuses ≤ t → (r : ℕ)

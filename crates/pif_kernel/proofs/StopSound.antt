@@ -9,13 +9,13 @@ use Rattle.pif_model.specs.PiKernel.{Kernel, IsKernel, queued_on, has_seat, is_r
 use Rattle.pif_model.specs.PiKernel.{seat_at as kernel_seat_at}
 use Rattle.pif_rtmutex.specs.Owners.{seat_at}
 use Rattle.pif_chains.proofs.KernelKept.{stop_kept}
+use Rattle.pif_chains.proofs.KernelStopped.{effective-stopped}
 use Rattle.pif_chains.proofs.Places.{kept_at}
 use Rattle.pif_chains.proofs.Statuses.{ready-queued_on_nothing}
 use Rattle.pif_kernel.specs.Plain.{Plain, IsPlaced, IsSound, kernel_of, status_at, key_at}
 use Rattle.pif_kernel.proofs.Seats.{IsFitted, status_seen, kernel_by_parts, seats_of-set_status}
 use Rattle.pif_kernel.proofs.Picked.{levels_left, length-left}
 use Rattle.pif_kernel.proofs.Standing.{fits, listed_kept}
-use Rattle.pif_kernel.proofs.StopLaws.{effective_stopped}
 
 module _ (p : Plain) (q : Queue) (tb : Table) (t : ℕ) (h : IsSound p) (added : has_seat (kernel_of p) t ≡ true)
     (ready : is_ready (kernel_seat_at (kernel_of p) t).status ≡ true)
@@ -47,7 +47,8 @@ module _ (p : Plain) (q : Queue) (tb : Table) (t : ℕ) (h : IsSound p) (added :
 
   effective_after : (u : ℕ) → effective_in (kernel_of p) u ≡ effective_in (kernel_of after) u
   effective_after u =
-      sym (ap (λ (k : Kernel). effective_in k u) kernel_after ∙ effective_stopped (kernel_of p) t ready u)
+      sym (ap (λ (k : Kernel). effective_in k u) kernel_after
+      ∙ effective-stopped t (kernel_of p) h.kernel added ready u)
 
   fit_after : IsFitted after
   fit_after = record {

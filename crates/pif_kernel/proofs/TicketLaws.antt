@@ -77,10 +77,12 @@ order f n (suc i) least (w ∷ ws) next t u d le r l e ne named =
   where
     by_head : ((w.0 ≡ u) ⊎ (w.0 ≡ u → ⊥)) → names u (w ∷ ws) ≡ true
         → (names u ws ≡ true
-        → ((n + 1) + i ≤ f t) × (((renumbered_ticket f (n + 1) i ws u < (n + 1) + i) × (renumbered_ticket f (n + 1) i ws u < f t)) ⊎
+        → ((n + 1) + i ≤ f t) × (((renumbered_ticket f (n + 1) i ws u < (n + 1) + i) ×
+        (renumbered_ticket f (n + 1) i ws u < f t)) ⊎
         (((n + 1) + i < renumbered_ticket f (n + 1) i ws u) × (f t < renumbered_ticket f (n + 1) i ws u))))
         → f w.0 + 1 ≤ f t
-        → (n + suc i ≤ f t) × (((renumbered_ticket f n (suc i) (w ∷ ws) u < n + suc i) × (renumbered_ticket f n (suc i) (w ∷ ws) u < f t))
+        → (n + suc i ≤ f t) × (((renumbered_ticket f n (suc i) (w ∷ ws) u < n + suc i) ×
+        (renumbered_ticket f n (suc i) (w ∷ ws) u < f t))
         ⊎ ((n + suc i < renumbered_ticket f n (suc i) (w ∷ ws) u) × (f t < renumbered_ticket f n (suc i) (w ∷ ws) u)))
     by_head (inl same) named ih up =
         let yes : (w.0 == u) ≡ true = grind (arith, nat_tests) in
@@ -105,7 +107,8 @@ rise_renumbered f g n [] once h = omega arith
 rise_renumbered f g n (w ∷ ws) once h = (
   omega (arith, first),
   subst (λ (x : ℕ). Rise g (x + 1) ws (n + length (w ∷ ws))) (sym first)
-      (subst (λ (x : ℕ). Rise g (n + 1) ws x) (omega arith) (rise_renumbered f g (n + 1) ws (once_tail w ws once) rest)),
+      (subst (λ (x : ℕ). Rise g (n + 1) ws x) (omega arith)
+      (rise_renumbered f g (n + 1) ws (once_tail w ws once) rest)),
 )
   where
     self : (w.0 == w.0) ≡ true
@@ -133,7 +136,8 @@ with_own_ticket v u = by_wait (seat_at v u)
     by_option base local (Some w) = refl
 
     by_wait : (x : Seat)
-        → x ≡ seat_with_ticket (unwrap_or (option_map (λ (r : Key). r.ticket) (option_map (λ (w : Wait). w.rank) x.wait)) 0) x
+        → x ≡ seat_with_ticket (unwrap_or
+        (option_map (λ (r : Key). r.ticket) (option_map (λ (w : Wait). w.rank) x.wait)) 0) x
     by_wait x = by_option x.base x.local x.wait
 
 pub renumbered_none : (v : Owners) (ws : List (ℕ × ℕ)) → IsRenumbered v v ws 0
@@ -153,7 +157,8 @@ renumbered_more v now ws i t d h once l e inside =
     record { seats = length-set now.seats t _ ∙ h.seats; owners = h.owners; seat = λ u. by_place u (cases_eq u t) }
   where
     by_place : (u : ℕ) → ((u ≡ t) ⊎ (u ≡ t → ⊥))
-        → seat_at (with_ticket t (i + 1) now) u ≡ seat_with_ticket (renumbered_ticket (ticket_of v) 1 (i + 1) ws u) (seat_at v u)
+        → seat_at (with_ticket t (i + 1) now) u ≡ seat_with_ticket (renumbered_ticket (ticket_of v) 1 (i + 1) ws u)
+        (seat_at v u)
     by_place u (inl same) =
         let one : i + 1 ≡ suc i = add-one i in
         let sum : 1 + i ≡ i + 1 = omega arith in
@@ -170,4 +175,5 @@ renumbered_more v now ws i t d h once l e inside =
         let one : i + 1 ≡ suc i = add-one i in
         get_or-set_other now.seats t u _ no_seat ne ∙ h.seat u
         ∙ ap (λ (k : ℕ). seat_with_ticket k (seat_at v u))
-        (sym (ap (λ (k : ℕ). renumbered_ticket (ticket_of v) 1 k ws u) one ∙ ticket_other_than (ticket_of v) 1 i ws t u d l e ne))
+        (sym (ap (λ (k : ℕ). renumbered_ticket (ticket_of v) 1 k ws u) one
+        ∙ ticket_other_than (ticket_of v) 1 i ws t u d l e ne))

@@ -29,7 +29,8 @@ loop-t-preserved c =
     = c.set_ticket.ensures.changed ∙ ap (λ (n : ℕ). with_ticket w.0 n c.loop-t.owners) c.loop-t.invariant.ticket in
     record {
       ticket = omega (arith, c.loop-t.invariant.ticket);
-      tags = subst (λ (v : Owners). IsRenumbered c.args.owners.now v c.args.arrivals.now (c.loop-t.t-index + 1)) (sym is)
+      tags =
+          subst (λ (v : Owners). IsRenumbered c.args.owners.now v c.args.arrivals.now (c.loop-t.t-index + 1)) (sym is)
           (renumbered_more c.args.owners.now c.loop-t.owners c.args.arrivals.now c.loop-t.t-index w.0 w
           c.loop-t.invariant.tags c.requires.once c.loop-t-test.true (ap (λ (x : ℕ × ℕ). x.0) t)
           (c.requires.rows w.0 (named_at c.args.arrivals.now c.loop-t.t-index w.0 w c.loop-t-test.true
