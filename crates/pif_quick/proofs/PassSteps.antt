@@ -84,8 +84,7 @@ module _ {T : Type 0} where
       -- the seat of a pass that had no open turn
       pub seat_idle : (p₀ : Pass T) → IsUnchanged p₀ p → IsIdle p₀ → (record_of s).found ≡ None
       seat_idle p₀ u idle =
-          let inside : m < length (records p₀) = omega (arith, items_count, length-map p.places.items record_of, ap (λ (l : List (Record T)). length l) u.1) in
-          ap (λ (r : Record T). r.found) (sym record_before ∙ same_records p₀ p m u.1) ∙ idle m inside
+          ap (λ (r : Record T). r.found) (sym record_before ∙ same_records p₀ p m u.1) ∙ idle m
 
       pub seat_open : IsOpen (record_at p m) → IsOpen (record_of s)
       seat_open o = (o.0, ap (λ (r : Record T). r.found) (sym record_before) ∙ o.1)

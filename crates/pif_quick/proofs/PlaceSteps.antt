@@ -38,7 +38,7 @@ module _ {T : Type 0} where
   pub same_value : (i j : ℕ) (x y : T) → ◌≡◌ {A = List (ℕ × Option T)} ((i, Some x) ∷ []) ((j, Some y) ∷ []) → x ≡ y
   same_value i j x y e = ap (first_or x) e
 
-  found_of-closed : (pass : ℕ) (x : T) (o : Option T) (r : Record T) → r.found ≡ o → (closed_from pass x o r).found ≡ None
+  pub found_of-closed : (pass : ℕ) (x : T) (o : Option T) (r : Record T) → r.found ≡ o → (closed_from pass x o r).found ≡ None
   found_of-closed pass x None r e = e
   found_of-closed pass x (Some f) r e = refl
 

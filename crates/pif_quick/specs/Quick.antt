@@ -54,7 +54,7 @@ module _ {T : Type 0} where
 
   -- the pass has no open turn
   abbrev pub IsIdle : Pass T → Type 0
-  IsIdle p = (m : ℕ) → m < length (records p) → (record_at p m).found ≡ None
+  IsIdle p = (m : ℕ) → (record_at p m).found ≡ None
 
   -- the pass's records are as they were
   abbrev pub IsUnchanged : Pass T → Pass T → Type 0

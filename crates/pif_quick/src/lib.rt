@@ -7,3 +7,6 @@ mod quick;
 mod rule;
 
 pub use quick::{Held, Pass, Quick};
+
+#[cfg(test)]
+mod tests;
