@@ -1,5 +1,5 @@
 -- What callers see of the quick path: for each pass its number and its records, one for each word.
-use Rattle.std.specs.Prelude.{◌≡◌, ◌⊎◌, ℕ, ◌+◌, ◌*◌, ◌<◌, List, [], ◌∷◌, ◌++◌, map, length, replicate, slice_get, slice_index_or, slice_set, vec_len, Option, Some, None}
+use Rattle.std.specs.Prelude.{◌≡◌, ◌≢◌, ◌⊎◌, ℕ, ◌+◌, ◌*◌, ◌<◌, List, [], ◌∷◌, ◌++◌, map, length, replicate, slice_get, slice_index_or, slice_set, vec_len, Option, Some, None}
 use Rattle.atomic_table.specs.Seated.{TableId}
 use Rattle.atomic_table.specs.declared.shared.Seat.{Seat}
 use Rattle.pif_quick.specs.declared.rule.View.{View}
@@ -55,6 +55,10 @@ module _ {T : Type 0} where
   -- the pass has no open turn
   abbrev pub IsIdle : Pass T → Type 0
   IsIdle p = (m : ℕ) → (record_at p m).found ≡ None
+
+  -- the pass has no open turn but of the word m
+  abbrev pub IsIdleBut : ℕ → Pass T → Type 0
+  IsIdleBut m p = (k : ℕ) → k ≢ m → (record_at p k).found ≡ None
 
   -- the pass's records are as they were
   abbrev pub IsUnchanged : Pass T → Pass T → Type 0
