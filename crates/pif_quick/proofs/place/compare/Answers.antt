@@ -12,7 +12,8 @@ join_seat-requires g c =
     let h = c.requires.place in
     let k = c.requires.other in
     let note = c.split_seat-note.ensures in
-    (h.table, note.3 ∙ k.table, ap (λ m. m.1) note.4, omega (arith, h.inside.0), show_allowed _ _ _ _ h c.args.other.now.me.0 c.split_seat-note.result k.word_is note.4 _)
+    (h.table, note.3 ∙ k.table, ap (λ m. m.1) note.4, omega (arith, h.inside.0),
+        show_allowed _ _ _ _ h c.args.other.now.me.0 c.split_seat-note.result k.word_is note.4 _)
 
 pub load-requires : goal.load-requires
 load-requires g c =

@@ -5,8 +5,10 @@ use Rattle.pif_quick.proofs.quick.open.push_spaced.Goals as goal
 
 pub loop-preserved : goal.loop-preserved
 loop-preserved g c =
-    c.in_ok-push-2.ensures ∙ (ap (λ (l : List (Option g.row.T.Denot)). l ++ None ∷ []) c.loop.invariant ∙ (append_assoc c.args.slots.now.items _ _
-    ∙ ap (λ (l : List (Option g.row.T.Denot)). c.args.slots.now.items ++ Some c.args.value ∷ l) (nones-end g.row.T.Denot c.loop.counter c.loop.auto.counter)))
+    c.in_ok-push-2.ensures ∙ (ap (λ (l : List (Option g.row.T.Denot)). l ++ None ∷ []) c.loop.invariant
+        ∙ (append_assoc c.args.slots.now.items _ _
+    ∙ ap (λ (l : List (Option g.row.T.Denot)). c.args.slots.now.items ++ Some c.args.value ∷ l)
+        (nones-end g.row.T.Denot c.loop.counter c.loop.auto.counter)))
 
 pub returns : goal.returns
 returns g c =
