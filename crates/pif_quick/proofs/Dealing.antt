@@ -1,22 +1,20 @@
 -- Views come and change while words and values stay: seats are dealt, and one is told of another's turns.
-use Rattle.std.proofs.Common.{◌≡◌, ◌≢◌, ◌⊎◌, ℕ, zero, suc, ◌+◌, ◌<◌, ◌≤◌, ◌^◌, List, [], ◌∷◌, ◌++◌, map, length, get_or, set, replicate, Option, Some, None, sym, refl, ap, ◌∙◌, subst, ⊎_elim, inl, inr, arith, append-nil}
+use Rattle.std.proofs.Common.{◌≡◌, ◌≢◌, ◌⊎◌, ℕ, zero, suc, ◌+◌, ◌<◌, ◌≤◌, ◌^◌, List, [], ◌∷◌, ◌++◌, map, length, get_or, set, Option, Some, None, sym, refl, ap, ◌∙◌, subst, ⊎_elim, inl, inr, arith, append-nil}
 use Rattle.std.proofs.lemmas.List.{set-get_or}
 use mathlib.Core.Option.{some, none, some-injective, some-ne-none}
 use mathlib.Core.Logic.{dite}
 use native.Mathlib.Decide.{ℕ_discrete}
 use lib.ListN.{get_elem?, length-map}
-use Rattle.atomic_table.specs.Table.{State, Me, step, keeps, Allows, Splits, Joins, opening}
+use Rattle.atomic_table.specs.Table.{Me, step, keeps, Allows, Splits, Joins, opening}
 use Rattle.atomic_table.proofs.Lists.{set_else, set_again, at_longer}
-use Rattle.pif_model.specs.Word.{word_of}
 use Rattle.pif_quick.specs.declared.rule.Turn.{Turn}
-use Rattle.pif_quick.specs.declared.rule.Record.{Record}
 use Rattle.pif_quick.specs.declared.rule.View.{View}
 use Rattle.pif_quick.specs.declared.rule.Role.{Role}
 use Rattle.pif_quick.specs.declared.rule.Role.TheVariants.{Dealer, Seated, Spent}
-use Rattle.pif_quick.specs.Turns.{left_by, turns_by, IsOlder, fresh}
+use Rattle.pif_quick.specs.Turns.{left_by, turns_by, IsOlder}
 use Rattle.pif_quick.specs.Rule.{opening_at, IsDealt, IsOut, IsSeat, IsSeating, HasOneHolder, spent_view, first_dealer, dealer_after, seat_from, note_of, Paged}
 use Rattle.pif_quick.proofs.Views.{spent_not_seated, spent_not_dealer, each_set, IsSameSeat, same_seat, seating_from, seating_stays}
-use Rattle.pif_quick.proofs.OneStep.{Homes, Board}
+use Rattle.pif_quick.proofs.OneStep.{Board}
 use Rattle.pif_quick.proofs.Turning.{set_there}
 
 dealer_not_seated : ◌≡◌ {A = Role} Dealer Seated → ⊥
@@ -37,7 +35,7 @@ module _ {A : Type 0} where
       → P j b
   each_end P l a last others j b e = ⊎_elim (λ (h : get_elem? l j ≡ some b). others j b h)
       (λ (t : (j ≡ length l) × (a ≡ b)). subst (λ (x : ℕ × A). P x.0 x.1) (λ k. (sym t.0 k, t.1 k)) last)
-          (at_end l a b j e)
+      (at_end l a b j e)
 
   at_first : (a b : A) (j : ℕ) → get_elem? (a ∷ []) j ≡ some b → (j ≡ 0) × (a ≡ b)
   at_first a b zero e = (refl, some-injective a b e)
@@ -77,8 +75,8 @@ module _ {T : Type 0} (starts : List (Option T)) where
         → IsOut s.views i → IsOut (set s.views id w) i
     out_with_other id v w at other i o =
         let apart : o.seat ≢ id =
-            λ e. other (ap (λ (u : View T). u.role) (some-injective v o.view (sym at
-            ∙ (ap (get_elem? s.views) (sym e) ∙ o.there))) ∙ o.seated) in record {
+        λ e. other (ap (λ (u : View T). u.role) (some-injective v o.view (sym at
+        ∙ (ap (get_elem? s.views) (sym e) ∙ o.there))) ∙ o.seated) in record {
           seat = o.seat;
           view = o.view;
           found = o.found;
@@ -91,11 +89,15 @@ module _ {T : Type 0} (starts : List (Option T)) where
     -- a seat is told of another's turns
     told : (id : ℕ) (v : View T) (b : List (Turn T)) → get_elem? s.views id ≡ some v → v.role ≡ Seated
         → IsOlder b (r.logs v.word)
-        → HasOneHolder starts record { words = s.words; homes = s.homes; views =
-            set s.views id (record v { beside = b }) }
+        → HasOneHolder starts record {
+          words = s.words;
+          homes = s.homes;
+          views =
+              set s.views id (record v { beside = b });
+        }
     told id v b at role older = swaps id (record v { beside = b })
         (seating_stays starts s.views id v (record v { beside = b }) at
-            (record { role = refl; pass = refl; word = refl; starts = refl }) r.seating)
+        (record { role = refl; pass = refl; word = refl; starts = refl }) r.seating)
         (λ _. let x = r.seats id v at role in record {
           numbered = x.numbered;
           opening = x.opening;
@@ -115,7 +117,7 @@ module _ {T : Type 0} (starts : List (Option T)) where
         out_still : (i : ℕ) → IsOut s.views i → IsOut (set s.views id (record v { beside = b })) i
         out_still i o = dite (ℕ_discrete o.seat id)
             (λ is. let same : o.view ≡ v = some-injective o.view v (sym o.there
-                ∙ (ap (get_elem? s.views) is ∙ at)) in record {
+            ∙ (ap (get_elem? s.views) is ∙ at)) in record {
               seat = id;
               view = record v { beside = b };
               found = o.found;
@@ -144,7 +146,7 @@ module _ {T : Type 0} (starts : List (Option T)) where
         seating : IsSeating starts (set s.views id spent_view)
         seating = seating_from starts s.views (set s.views id spent_view)
             (each_set (λ (j : ℕ) (b : View T). b.role ≢ Spent
-                → (a : View T) × (get_elem? s.views j ≡ some a) × IsSameSeat a b) s.views id spent_view
+            → (a : View T) × (get_elem? s.views j ≡ some a) × IsSameSeat a b) s.views id spent_view
             (λ ne. absurd (ne refl)) (λ j b _ e _. (b, e, same_seat b))) r.seating
 
     -- a seat stood there before the dealer went on
@@ -164,14 +166,14 @@ module _ {T : Type 0} (starts : List (Option T)) where
       dealt = λ j k b c eb rb ec rc. let x = seat_before id d' role' k c ec rc in
           each_set (λ (j : ℕ) (b : View T). b.role ≡ Dealer → IsDealt b c.pass c.word) s.views id d'
           (λ _. more c.pass c.word (r.seating.dealt id k d c at role x rc))
-              (λ j b _ e rb. r.seating.dealt j k b c e rb x rc) j b eb rb;
+          (λ j b _ e rb. r.seating.dealt j k b c e rb x rc) j b eb rb;
     }
 
     -- the dealer goes on
     abbrev deals_on : (id : ℕ) (d d' : View T) → get_elem? s.views id ≡ some d → d.role ≡ Dealer → d'.role ≡ Dealer
         → d'.starts ≡ d.starts → d'.beside ≡ []
         → ((p i : ℕ) → IsDealt d p i → IsDealt d' p i)
-            → HasOneHolder starts record { words = s.words; homes = s.homes; views = set s.views id d' }
+        → HasOneHolder starts record { words = s.words; homes = s.homes; views = set s.views id d' }
     deals_on id d d' at role role' starts' none_beside more =
         swaps id d' (seating_on id d d' at role role' starts' more) (λ e. absurd (dealer_not_seated (sym role' ∙ e)))
         (out_with_other id d d' at (λ e. dealer_not_seated (sym role ∙ e)))
@@ -182,9 +184,9 @@ module _ {T : Type 0} (starts : List (Option T)) where
     sits : (b : View T) → b.role ≢ Dealer → (b.role ≡ Seated → IsSeat starts s.words s.homes (r.logs b.word) b)
         → IsOlder b.beside (r.logs b.word)
         → ((j : ℕ) (v : View T) → get_elem? s.views j ≡ some v → v.role ≡ Seated → b.role ≡ Seated → v.pass ≡ b.pass
-            → v.word ≡ b.word → ⊥)
+        → v.word ≡ b.word → ⊥)
         → ((j : ℕ) (d : View T) → get_elem? s.views j ≡ some d → d.role ≡ Dealer → b.role ≡ Seated
-            → IsDealt d b.pass b.word)
+        → IsDealt d b.pass b.word)
         → HasOneHolder starts record { words = s.words; homes = s.homes; views = s.views ++ b ∷ [] }
     sits b no_dealer seat beside apart dealt = record {
       logs = r.logs;
@@ -196,12 +198,12 @@ module _ {T : Type 0} (starts : List (Option T)) where
             (λ (old_v : get_elem? s.views j ≡ some v). ⊎_elim
             (λ (old_w : get_elem? s.views k ≡ some w). r.seating.unique j k v w old_v old_w rv rw p q)
             (λ (new_w : (k ≡ length s.views) × (b ≡ w)). absurd
-                (apart j v old_v rv (ap (λ (x : View T). x.role) new_w.1 ∙ rw)
+            (apart j v old_v rv (ap (λ (x : View T). x.role) new_w.1 ∙ rw)
             (p ∙ ap (λ (x : View T). x.pass) (sym new_w.1)) (q ∙ ap (λ (x : View T). x.word) (sym new_w.1))))
             (at_end s.views b w k ew))
             (λ (new_v : (j ≡ length s.views) × (b ≡ v)). ⊎_elim
             (λ (old_w : get_elem? s.views k ≡ some w). absurd
-                (apart k w old_w rw (ap (λ (x : View T). x.role) new_v.1 ∙ rv)
+            (apart k w old_w rw (ap (λ (x : View T). x.role) new_v.1 ∙ rv)
             (sym p ∙ ap (λ (x : View T). x.pass) (sym new_v.1)) (sym q ∙ ap (λ (x : View T). x.word) (sym new_v.1))))
             (λ (new_w : (k ≡ length s.views) × (b ≡ w)). new_v.0 ∙ sym new_w.0)
             (at_end s.views b w k ew))
@@ -211,7 +213,7 @@ module _ {T : Type 0} (starts : List (Option T)) where
         dealt = λ j k d v ed rd ev rv. each_end (λ (j : ℕ) (d : View T). d.role ≡ Dealer
             → IsDealt d v.pass v.word) s.views b (λ e. absurd (no_dealer e))
             (λ j d e rd. each_end (λ (k : ℕ) (v : View T). v.role ≡ Seated → IsDealt d v.pass v.word) s.views b
-                (λ rb. dealt j d e rd rb)
+            (λ rb. dealt j d e rd rb)
             (λ k v f rv. r.seating.dealt j k d v e rd f rv) k v ev rv) j d ed rd;
       };
       seats = each_end (λ (j : ℕ) (u : View T). u.role ≡ Seated
@@ -236,10 +238,14 @@ module _ {T : Type 0} (starts : List (Option T)) where
   -- a seat's closed turns are noted
   pub noting : (id : ℕ) (v : View T) → v.role ≡ Seated → Splits (HasOneHolder starts) id v v (note_of v)
   noting id v role s r at =
-      subst (λ (l : List (View T)). HasOneHolder starts record { words = s.words; homes = s.homes; views =
-      l ++ note_of v ∷ [] }) (sym (set_again s.views id v at))
+      subst (λ (l : List (View T)). HasOneHolder starts record {
+        words = s.words;
+        homes = s.homes;
+        views =
+            l ++ note_of v ∷ [];
+      }) (sym (set_again s.views id v at))
       (let x = r.seats id v at role in sits s r (note_of v) (λ e. spent_not_dealer e)
-          (λ e. absurd (spent_not_seated e)) (x.newer, x.prefix)
+      (λ e. absurd (spent_not_seated e)) (x.newer, x.prefix)
       (λ j u _ _ e. absurd (spent_not_seated e)) (λ j d _ _ e. absurd (spent_not_seated e)))
 
   -- and shown to another seat of the word
@@ -247,11 +253,11 @@ module _ {T : Type 0} (starts : List (Option T)) where
       → Joins (HasOneHolder starts) id v other w (record v { beside = w.beside }) spent_view
   showing id other v w role spent same s r at apart there =
       let there' : get_elem? s.views other ≡ some w =
-          sym (set_else s.views id other (record v { beside = w.beside }) apart) ∙ there in
+      sym (set_else s.views id other (record v { beside = w.beside }) apart) ∙ there in
       let older : IsOlder w.beside (r.logs v.word) =
-          subst (λ (k : ℕ). IsOlder w.beside (r.logs k)) same (r.beside other w there') in
+      subst (λ (k : ℕ). IsOlder w.beside (r.logs k)) same (r.beside other w there') in
       gives_up record { words = s.words; homes = s.homes; views = set s.views id (record v { beside = w.beside }) }
-          (told s r id v w.beside at role older) other w there spent
+      (told s r id v w.beside at role older) other w there spent
 
   -- the dealer gives a seat
   pub dealing : (id : ℕ) (d : View T) → d.role ≡ Dealer → d.beside ≡ [] → (1 ≤ d.pass) × (d.pass < 2 ^ 30)
@@ -259,7 +265,7 @@ module _ {T : Type 0} (starts : List (Option T)) where
   dealing id d role none_beside numbered s r at =
       let mine = r.seating.dealer id d at role in
       sits record { words = s.words; homes = s.homes; views = set s.views id (dealer_after d) }
-          (deals_on s r id d (dealer_after d) at role role refl none_beside more)
+      (deals_on s r id d (dealer_after d) at role role refl none_beside more)
       (seat_from d) (λ e. dealer_not_seated (sym e))
       (λ _. record {
         numbered = numbered;
@@ -274,7 +280,7 @@ module _ {T : Type 0} (starts : List (Option T)) where
       (λ j v e rv _ p q. not_yet (subst (λ (z : ℕ × ℕ). IsDealt d z.0 z.1) (λ k. (p k, q k))
       (r.seating.dealt id j d v at role (seat_before s r id (dealer_after d) role j v e rv) rv)))
       (each_set (λ (j : ℕ) (e : View T). e.role ≡ Dealer → ◌≡◌ {A = Role} Seated Seated
-          → IsDealt e d.pass d.word) s.views id (dealer_after d)
+      → IsDealt e d.pass d.word) s.views id (dealer_after d)
       (λ _ _. inr (refl, omega arith))
       (λ j e other at_j role_j _. absurd (other ((r.seating.dealer j e at_j role_j).0 ∙ sym mine.0))))
     where

@@ -1,18 +1,17 @@
 -- What `open` makes: places for the values, and a seat for each pass and word.
-use Rattle.std.proofs.Common.{◌≡◌, ◌≢◌, ◌⊎◌, ℕ, zero, suc, ◌+◌, ◌*◌, ◌<◌, ◌≤◌, ◌^◌, ◌-◌, List, [], ◌∷◌, ◌++◌, map, length, get_or, replicate, Option, Some, None, sym, refl, ap, ◌∙◌, subst, ⊎_elim, inl, inr, arith, slice_get, length-append, append-nil}
+use Rattle.std.proofs.Common.{◌≡◌, ◌⊎◌, ℕ, zero, suc, ◌+◌, ◌*◌, ◌<◌, ◌≤◌, ◌^◌, ◌-◌, List, [], ◌∷◌, ◌++◌, length, get_or, replicate, Option, Some, None, sym, refl, ap, ◌∙◌, subst, ⊎_elim, inl, inr, arith, slice_get, append-nil}
 use Rattle.std.proofs.lemmas.List.{append_assoc, length-map}
 use Rattle.std.proofs.lemmas.Option.{slice_get_within}
 use mathlib.Core.Option.{none}
 use Rattle.atomic_table.specs.Seated.{TableId}
-use Rattle.atomic_table.specs.Table.{Me, step, Allows, Splits, opening}
+use Rattle.atomic_table.specs.Table.{step, Allows, Splits, opening}
 use Rattle.pif_quick.specs.declared.rule.Record.{Record}
-use Rattle.pif_quick.specs.declared.rule.View.{View}
 use Rattle.pif_quick.specs.Turns.{IsSound, fresh}
 use Rattle.pif_quick.specs.Rule.{HasOneHolder, opening_at, first_dealer, dealer_after, seat_from, Paged}
 use Rattle.pif_quick.specs.Places.{record_of, hand_if, IsPlaceOf, dealer_at, IsFreshPlace}
 use Rattle.pif_quick.specs.declared.quick.Quick.{Quick}
 use Rattle.pif_quick.specs.declared.quick.Pass.{Pass}
-use Rattle.pif_quick.specs.Quick.{records, record_at, spaced, spread, IsDealtPass, IsPassOf, AreSound, IsFresh}
+use Rattle.pif_quick.specs.Quick.{spaced, spread, IsDealtPass, IsPassOf, AreSound, IsFresh}
 use Rattle.pif_quick.proofs.Dealing.{dealing, paging, starting}
 use Rattle.pif_quick.proofs.Steps.{Known}
 use Rattle.pif_quick.proofs.PlaceSteps.{Place}
@@ -35,7 +34,7 @@ module _ {A : Type 0} where
       → P (length l) a → (j : ℕ) (b : A) → slice_get (l ++ a ∷ []) j ≡ Some b → P j b
   each_got P l a others last j b e = ⊎_elim (λ (h : slice_get l j ≡ Some b). others j b h)
       (λ (t : (j ≡ length l) × (a ≡ b)). subst (λ (x : ℕ × A). P x.0 x.1) (λ k. (sym t.0 k, t.1 k)) last)
-          (got_end l a b j e)
+      (got_end l a b j e)
 
 module _ {T : Type 0} where
   pub spread-end : (xs : List T) (x : T) → spread (xs ++ x ∷ []) ≡ spread xs ++ spaced x
@@ -65,7 +64,7 @@ module _ {T : Type 0} where
   pub fresh_place : (starts : List (Option T)) (z : TableId) (word pass : ℕ) (p : Place T) → p.table_id ≡ z
       → p.me ≡ (seat_from (dealer_at starts word pass), [])
       → (word < z.words) × (word < z.slots) → (1 ≤ pass) × (pass < 2 ^ 30)
-          → (x : T) × (opening_at starts word ≡ Some x) → IsFreshPlace starts z word pass p
+      → (x : T) × (opening_at starts word ≡ Some x) → IsFreshPlace starts z word pass p
   fresh_place starts z word pass p t is inside numbered opened =
       let known : record_of p ≡ fresh (opening_at starts word) = ap (λ (m : Known T). m.0.known) is in (
         record {
@@ -102,14 +101,17 @@ module _ {T : Type 0} where
       → ((i : ℕ) → get_or words i 0 ≡ 0) → HasOneHolder starts (opening words slots (first_dealer starts))
   starts_well starts slots words e same free =
       subst (λ (l : List (Option T)). HasOneHolder starts (opening words l (first_dealer starts))) e
-          (starting starts words (same ∙ ap (λ (l : List (Option T)). length l) (sym e)) free)
+      (starting starts words (same ∙ ap (λ (l : List (Option T)). length l) (sym e)) free)
 
   -- the values that the dealer has are those that were given
   pub opened_values : (starts : List (Option T)) (values : List T) (count : ℕ) → starts ≡ spread values
       → count ≡ length values → (m : ℕ) → m < count → (x : T) × (opening_at starts (8 * m) ≡ Some x)
   opened_values starts values count e c m lt =
-      let got = value_there values m (omega arith) in (got.0, ap (λ (l : List (Option T)). opening_at l (8 * m)) e
-          ∙ (opening_at-spread values m ∙ got.1))
+      let got = value_there values m (omega arith) in (
+        got.0,
+        ap (λ (l : List (Option T)). opening_at l (8 * m)) e
+            ∙ (opening_at-spread values m ∙ got.1),
+      )
     where
       value_there : (xs : List T) (i : ℕ) → i < length xs → (x : T) × (slice_get xs i ≡ Some x)
       value_there [] i h = absurd (omega arith)
@@ -138,7 +140,7 @@ module _ {T : Type 0} where
         let there = seat_there p.places.items m (let k = d.counted in let o = p.places.ok.0 in omega arith) in
         record_at-is p m there.0 there.1 ∙ ((d.place m there.0 there.1).1
         ∙ ap (λ (o : Option T). fresh o) (ap (λ (l : List (Option T)). opening_at l (8 * m)) e
-            ∙ (opening_at-spread values m ∙ at)))),
+        ∙ (opening_at-spread values m ∙ at)))),
   )
     where
       seat_there : (l : List (Place T)) (i : ℕ) → i < length l → (s : Place T) × (slice_get l i ≡ Some s)

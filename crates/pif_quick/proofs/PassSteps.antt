@@ -1,5 +1,5 @@
 -- A pass of which one seat has stepped.
-use Rattle.std.proofs.Common.{◌≡◌, ◌≢◌, ◌⊎◌, ℕ, zero, suc, ◌+◌, ◌*◌, ◌<◌, List, [], ◌∷◌, map, length, get_or, set, Option, Some, None, sym, refl, ap, ◌∙◌, subst, ⊎_elim, inl, inr, arith, slice_get, vec_len, length-set}
+use Rattle.std.proofs.Common.{◌≡◌, ◌⊎◌, ℕ, zero, suc, ◌+◌, ◌*◌, ◌<◌, List, [], ◌∷◌, length, get_or, set, Option, Some, None, sym, refl, ap, ◌∙◌, subst, ⊎_elim, inl, inr, arith, slice_get}
 use borrow.Author.Count.{below_more}
 use mathlib.Core.Logic.{dite}
 use native.Mathlib.Decide.{dec_le}
@@ -12,7 +12,7 @@ use Rattle.pif_quick.specs.declared.quick.Pass.{Pass}
 use Rattle.pif_quick.specs.declared.quick.Held.{Held}
 use Rattle.pif_quick.specs.Turns.{IsOpen, IsSound, Agree, Opens, fresh}
 use Rattle.pif_quick.specs.Places.{record_of, IsPlaceOf, IsPlace}
-use Rattle.pif_quick.specs.Quick.{records, record_at, number_of, IsPassOf, AreSound, IsIdle, IsUnchanged, ChangesAt, IsTurnOf, Locks}
+use Rattle.pif_quick.specs.Quick.{records, record_at, IsPassOf, AreSound, IsIdle, IsUnchanged, ChangesAt, IsTurnOf, Locks}
 use Rattle.pif_quick.proofs.Steps.{Known}
 use Rattle.pif_quick.proofs.PlaceSteps.{Place, same_place}
 
@@ -32,7 +32,7 @@ module _ {T : Type 0} where
       → record_at p m ≡ record_of s
   record_at-is p m s e =
       get_or-map record_of p.places.items m s (fresh None) (slice_get_within p.places.items m s e)
-          ∙ ap record_of (get_or_from_slice_get p.places.items m s s e)
+      ∙ ap record_of (get_or_from_slice_get p.places.items m s s e)
 
   some_there : (l : List (Place T)) (i : ℕ) → i < length l → (s : Place T) × (slice_get l i ≡ Some s)
   some_there [] i h = absurd (omega arith)
@@ -67,7 +67,7 @@ module _ {T : Type 0} where
     pub held_inside : (h : Held T) → IsTurnOf p h → h.word < q.count
     held_inside h t = dite (dec_le (length (records p)) h.word)
         (λ past. absurd (not_open t.1.0 (ap (λ (r : Record T). r.found)
-            (sym (get_or_past (records p) h.word (fresh None) past)) ∙ t.1.1)))
+        (sym (get_or_past (records p) h.word (fresh None) past)) ∙ t.1.1)))
         (λ inside. omega (arith, items_count, length-map p.places.items record_of))
       where
         not_open : (f : T) → ◌≡◌ {A = Option T} None (Some f) → ⊥
@@ -105,7 +105,7 @@ module _ {T : Type 0} where
         looked_place t e = same_place q.board.shared.table_id (8 * m) p.number s seat_of s' (t ∙ seat_of.table)
             (ap (λ (y : Known T). y.0.role) e)
             (ap (λ (y : Known T). y.0.pass) e) (ap (λ (y : Known T). y.0.word) e) (ap (λ (y : Known T). y.0.known) e)
-                (ap (λ (y : Known T). y.1) e ∙ seat_of.hand)
+            (ap (λ (y : Known T). y.1) e ∙ seat_of.hand)
 
         -- the seat that knows itself
         pub place_named : IsPlace q.board.shared.table_id (8 * m) s' → s'.me.0.pass ≡ s.me.0.pass
@@ -120,7 +120,7 @@ module _ {T : Type 0} where
           counted = own.counted;
           place = λ k x e. ⊎_elim
               (λ (t : (k ≡ m) × (s' ≡ x)). subst (λ (y : ℕ × Place T). IsPlaceOf q.board.shared.table_id
-                  (8 * y.0) p.number y.1) (λ i. (sym t.0 i, t.1 i)) h)
+              (8 * y.0) p.number y.1) (λ i. (sym t.0 i, t.1 i)) h)
               (λ (old : slice_get p.places.items k ≡ Some x). own.place k x old) (got_set p.places.items m k s' x e);
         }
 
@@ -130,7 +130,7 @@ module _ {T : Type 0} where
         pub record_after : record_at after m ≡ record_of s'
         record_after = ap (λ (l : List (Record T)). get_or l m (fresh None)) records_after
             ∙ get_or-set_same (records p) m (record_of s') (fresh None)
-                (omega (arith, items_count, length-map p.places.items record_of))
+            (omega (arith, items_count, length-map p.places.items record_of))
 
         pub changes : (Q : Record T → Record T → Type 0) → Q (record_of s) (record_of s') → ChangesAt m Q p after
         changes Q h = (
@@ -162,12 +162,12 @@ module _ {T : Type 0} where
   pub meets_on : (q : Quick T) (p r : Pass T) (own : IsPassOf q p) (own_r : IsPassOf q r) (m : ℕ) (lt : m < q.count)
       (s u : Place T) (is : s ≡ get_or p.places.items m s) (is_u : u ≡ get_or r.places.items m u)
       (s' u' : Place T) → record_of s' ≡ record_of s → record_of u' ≡ record_of u → Agree (record_of s) (record_of u)
-          → ((k : ℕ) → k < m → Agree (record_at p k) (record_at r k))
+      → ((k : ℕ) → k < m → Agree (record_at p k) (record_at r k))
       → (k : ℕ) → k < m + 1 → Agree (record_at (after q p own m lt s is s') k)
-          (record_at (after q r own_r m lt u is_u u') k)
+      (record_at (after q r own_r m lt u is_u u') k)
   meets_on q p r own own_r m lt s u is is_u s' u' e e_u now below k at =
       same_agree p (after q p own m lt s is s') r (after q r own_r m lt u is_u u') k
-          (unchanged q p own m lt s is s' e) (unchanged q r own_r m lt u is_u u' e_u)
+      (unchanged q p own m lt s is s' e) (unchanged q r own_r m lt u is_u u' e_u)
       (below_more (λ (j : ℕ). Agree (record_at p j) (record_at r j)) m below
       (agree_at p r m (record_of s) (record_of u) (record_before q p own m lt s is)
-          (record_before q r own_r m lt u is_u) now) k at)
+      (record_before q r own_r m lt u is_u) now) k at)

@@ -1,18 +1,17 @@
 -- The steps of a seat between two calls: what each asks of it, and what it is after each.
-use Rattle.std.proofs.Common.{◌≡◌, ◌≢◌, ◌⊎◌, ℕ, ◌+◌, ◌<◌, ◌≤◌, ◌^◌, eqb, List, [], ◌∷◌, ◌++◌, Option, Some, None, sym, refl, ap, ◌∙◌, subst, arith}
+use Rattle.std.proofs.Common.{◌≡◌, ◌⊎◌, ℕ, ◌<◌, ◌≤◌, ◌^◌, eqb, List, [], ◌∷◌, Option, Some, None, sym, refl, ap, ◌∙◌, subst, arith}
 use mathlib.Core.Option.{none}
 use prog.Atomic.{either}
 use Rattle.atomic_table.specs.Seated.{TableId}
-use Rattle.atomic_table.specs.Table.{Me, step, Allows, Splits, Joins}
+use Rattle.atomic_table.specs.Table.{step, Allows, Splits, Joins}
 use Rattle.atomic_table.specs.declared.shared.Seat.{Seat}
 use Rattle.pif_model.specs.Word.{Word, word_of, held_by, free_word, mark_word, hand_word}
 use Rattle.pif_word.proofs.WordBits.{word_of-number}
 use Rattle.pif_quick.specs.declared.rule.Turn.{Turn}
 use Rattle.pif_quick.specs.declared.rule.Record.{Record}
 use Rattle.pif_quick.specs.declared.rule.View.{View}
-use Rattle.pif_quick.specs.declared.rule.Role.TheVariants.{Dealer, Seated, Spent}
-use Rattle.pif_quick.specs.Turns.{turns_by, IsOlder, IsOpen, IsSound, with_open, Opens, closed, closed_from}
-use Rattle.pif_quick.specs.Rule.{HasOneHolder, spent_view, note_of, with_record, Opened, Closed, Took, Left, Released, Handed, Marked, Looked, Claimed, Compared}
+use Rattle.pif_quick.specs.Turns.{turns_by, IsOpen, IsSound, with_open, Opens, closed, closed_from}
+use Rattle.pif_quick.specs.Rule.{HasOneHolder, spent_view, note_of, Opened, Closed, Took, Released, Handed, Marked, Looked, Claimed, Compared}
 use Rattle.pif_quick.specs.Places.{record_of, hand_if, IsPlaceOf}
 use Rattle.pif_quick.proofs.Dealing.{noting, showing}
 use Rattle.pif_quick.proofs.Steps.{Known, taking, claiming, looking, marking, releasing, handing, comparing}
@@ -75,32 +74,32 @@ module _ {T : Type 0} where
 
     pub take_allowed : (t : ℕ) → t ≡ pass → (starts : List (Option T))
         → Allows (HasOneHolder starts) z.slots p.id p.me word (λ n. either (eqb n 0) t n)
-            (Took (step z.slots word 0 t none) p.me)
+        (Took (step z.slots word 0 t none) p.me)
     take_allowed t is starts =
         subst (λ (x : ℕ × ℕ). Allows (HasOneHolder starts) z.slots p.id p.me x.0 (λ n. either (eqb n 0) x.1 n)
-            (Took (step z.slots x.0 0 x.1 none) p.me))
+        (Took (step z.slots x.0 0 x.1 none) p.me))
         (λ k. (h.word_is k, (h.pass_is ∙ sym is) k))
-            (taking starts z.slots p.id v p.me.1 h.seated here h.opening.0 h.opening.1)
+        (taking starts z.slots p.id v p.me.1 h.seated here h.opening.0 h.opening.1)
 
     pub claim_allowed : v.known.found ≡ None → (starts : List (Option T))
         → Allows (HasOneHolder starts) z.slots p.id p.me word (λ n. n) (Claimed (step z.slots word 0 0 none) p.me)
     claim_allowed quiet starts =
         subst (λ (x : ℕ). Allows (HasOneHolder starts) z.slots p.id p.me x (λ n. n)
-            (Claimed (step z.slots x 0 0 none) p.me))
+        (Claimed (step z.slots x 0 0 none) p.me))
         h.word_is (claiming starts z.slots p.id v p.me.1 h.seated here h.opening.0 h.opening.1 quiet)
 
     pub look_allowed : (starts : List (Option T))
         → Allows (HasOneHolder starts) z.slots p.id p.me word (λ n. n) (Looked (step z.slots word 0 0 none) p.me)
     look_allowed starts =
         subst (λ (x : ℕ). Allows (HasOneHolder starts) z.slots p.id p.me x (λ n. n)
-            (Looked (step z.slots x 0 0 none) p.me))
+        (Looked (step z.slots x 0 0 none) p.me))
         h.word_is (looking starts z.slots p.id v p.me.1 h.seated here)
 
     pub compare_allowed : (starts : List (Option T))
         → Allows (HasOneHolder starts) z.slots p.id p.me word (λ n. n) (Compared (step z.slots word 0 0 none) p.me)
     compare_allowed starts =
         subst (λ (x : ℕ). Allows (HasOneHolder starts) z.slots p.id p.me x (λ n. n)
-            (Compared (step z.slots x 0 0 none) p.me))
+        (Compared (step z.slots x 0 0 none) p.me))
         h.word_is (comparing starts z.slots p.id v p.me.1 h.seated here)
 
     pub note_allowed : (starts : List (Option T)) → Splits (HasOneHolder starts) p.id v v (note_of v)
@@ -123,10 +122,10 @@ module _ {T : Type 0} where
 
     pub mark_allowed : (old new : ℕ) → new < 2 ^ 32 → word_of new ≡ mark_word (word_of old) → (starts : List (Option T))
         → Allows (HasOneHolder starts) z.slots p.id p.me word (λ n. either (eqb n old) new n)
-            (Marked (step z.slots word old new none) p.me)
+        (Marked (step z.slots word old new none) p.me)
     mark_allowed old new narrow marks starts =
         subst (λ (x : ℕ). Allows (HasOneHolder starts) z.slots p.id p.me x (λ n. either (eqb n old) new n)
-            (Marked (step z.slots x old new none) p.me))
+        (Marked (step z.slots x old new none) p.me))
         h.word_is (marking starts z.slots p.id v p.me.1 h.seated here old new narrow marks)
 
     -- the seat with its value in the slot
@@ -136,28 +135,28 @@ module _ {T : Type 0} where
 
       pub release_allowed : (t : ℕ) → t ≡ pass → (starts : List (Option T))
           → Allows (HasOneHolder starts) z.slots q.id q.me word (λ n. either (eqb n t) 0 n)
-              (Released (step z.slots word t 0 none) q.me)
+          (Released (step z.slots word t 0 none) q.me)
       release_allowed t is starts =
           subst (λ (m : Known T). Allows (HasOneHolder starts) z.slots q.id m word (λ n. either (eqb n t) 0 n)
-              (Released (step z.slots word t 0 none) m)) (sym same)
+          (Released (step z.slots word t 0 none) m)) (sym same)
           (subst (λ (y : ℕ × ℕ). Allows (HasOneHolder starts) z.slots q.id (v, (y.0, Some x) ∷ []) y.0
-              (λ n. either (eqb n y.1) 0 n) (Released (step z.slots y.0 y.1 0 none) (v, (y.0, Some x) ∷ [])))
+          (λ n. either (eqb n y.1) 0 n) (Released (step z.slots y.0 y.1 0 none) (v, (y.0, Some x) ∷ [])))
           (λ k. (h.word_is k, (h.pass_is ∙ sym is) k))
           (releasing starts z.slots q.id v open_turn.0 x h.seated here open_turn.1
-              (subst (λ (k : ℕ). k < 2 ^ 30) (sym h.pass_is) h.numbered.1)))
+          (subst (λ (k : ℕ). k < 2 ^ 30) (sym h.pass_is) h.numbered.1)))
 
       pub hand_allowed : (old new : ℕ) → word_of old ≡ mark_word (held_by pass) → new < 2 ^ 32
           → (word_of new ≡ free_word) ⊎ ((u : ℕ) × (word_of new ≡ hand_word u)) → (starts : List (Option T))
           → Allows (HasOneHolder starts) z.slots q.id q.me word (λ n. either (eqb n old) new n)
-              (Handed (step z.slots word old new none) q.me)
+          (Handed (step z.slots word old new none) q.me)
       hand_allowed old new marks narrow to starts =
           subst (λ (m : Known T). Allows (HasOneHolder starts) z.slots q.id m word (λ n. either (eqb n old) new n)
-              (Handed (step z.slots word old new none) m)) (sym same)
+          (Handed (step z.slots word old new none) m)) (sym same)
           (subst (λ (y : ℕ). Allows (HasOneHolder starts) z.slots q.id (v, (y, Some x) ∷ []) y
-              (λ n. either (eqb n old) new n) (Handed (step z.slots y old new none) (v, (y, Some x) ∷ [])))
+          (λ n. either (eqb n old) new n) (Handed (step z.slots y old new none) (v, (y, Some x) ∷ [])))
           h.word_is
           (handing starts z.slots q.id v open_turn.0 x h.seated here open_turn.1 old new (marks
-              ∙ ap (λ (k : ℕ). mark_word (held_by k)) (sym h.pass_is)) narrow to))
+          ∙ ap (λ (k : ℕ). mark_word (held_by k)) (sym h.pass_is)) narrow to))
 
       -- the value is home
       module _ (m' : Known T) (c : Closed q.me m' x) where
@@ -179,14 +178,19 @@ module _ {T : Type 0} where
           pass_is = ap (λ (m : Known T). m.0.pass) is ∙ (ap (λ (w : View T). w.pass) c.view
               ∙ (ap (λ (m : Known T). m.0.pass) same ∙ h.pass_is));
           numbered = h.numbered;
-          opening = (h.opening.0, ap (λ (r : Record T). r.opening) (closed_record e is)
-              ∙ (opening_of-closed pass x v.known.found v.known ∙ h.opening.1));
+          opening = (
+            h.opening.0,
+            ap (λ (r : Record T). r.opening) (closed_record e is)
+                ∙ (opening_of-closed pass x v.known.found v.known ∙ h.opening.1),
+          );
           hand = ap (λ (m : Known T). m.1) is ∙ (c.hand ∙ ap (λ (f : Option T). hand_if f word)
               (sym (ap (λ (r : Record T). r.found) (closed_record e is)
-                  ∙ found_of-closed pass x v.known.found v.known refl)));
+              ∙ found_of-closed pass x v.known.found v.known refl)));
           sound = subst (λ (y : ℕ × Record T). IsSound y.0 y.1)
-              (λ k. ((ap (λ (m : Known T). m.0.pass) same ∙ h.pass_is) k,
-                  ap (λ (m : Known T). m.0.known) (sym is) k)) c.sound;
+              (λ k. (
+                (ap (λ (m : Known T). m.0.pass) same ∙ h.pass_is) k,
+                ap (λ (m : Known T). m.0.known) (sym is) k,
+              )) c.sound;
         }
 
     -- the seat has taken the word's value
@@ -206,11 +210,14 @@ module _ {T : Type 0} where
         word_is = ap (λ (m : Known T). m.0.word) is ∙ (ap (λ (w : View T). w.word) o.view ∙ h.word_is);
         pass_is = ap (λ (m : Known T). m.0.pass) is ∙ (ap (λ (w : View T). w.pass) o.view ∙ h.pass_is);
         numbered = h.numbered;
-        opening = (h.opening.0, ap (λ (m : Known T). m.0.known.opening) is
-            ∙ (ap (λ (w : View T). w.known.opening) o.view ∙ h.opening.1));
+        opening = (
+          h.opening.0,
+          ap (λ (m : Known T). m.0.known.opening) is
+              ∙ (ap (λ (w : View T). w.known.opening) o.view ∙ h.opening.1),
+        );
         hand = ap (λ (m : Known T). m.1) is
             ∙ ap (λ (f : Option T). hand_if f word) (sym (ap (λ (m : Known T). m.0.known.found) is
-                ∙ ap (λ (w : View T). w.known.found) o.view));
+            ∙ ap (λ (w : View T). w.known.found) o.view));
         sound = subst (λ (y : ℕ × Record T). IsSound y.0 y.1)
             (λ k. (h.pass_is k, ap (λ (m : Known T). m.0.known) (sym is) k)) o.sound;
       }
@@ -229,6 +236,6 @@ module _ {T : Type 0} where
     pub free_quiet : (n : ℕ) → n ≡ 0 → (IsOpen v.known → (word_of n).number ≡ v.pass) → IsOpen v.known → ⊥
     free_quiet n e own o =
         let zero_is : pass ≡ 0 = sym h.pass_is ∙ (sym (own o)
-            ∙ (ap (λ (b : ℕ). (word_of b).number) e ∙ ap (λ (w : Word). w.number) (word_of-number 0 (omega arith)))) in
+        ∙ (ap (λ (b : ℕ). (word_of b).number) e ∙ ap (λ (w : Word). w.number) (word_of-number 0 (omega arith)))) in
         let one : 1 ≤ pass = h.numbered.0 in
         absurd (omega arith)

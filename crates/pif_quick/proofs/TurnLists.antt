@@ -1,15 +1,15 @@
 -- Lists of turns: what a longer one has of a pass, and what it left.
-use Rattle.std.proofs.Common.{◌≡◌, ◌≢◌, ◌⊎◌, ℕ, ◌==◌, Bool, true, false, List, [], ◌∷◌, ◌++◌, if◌then◌else◌, Option, Some, None, sym, refl, ap, ◌∙◌, subst, inl, inr, append-nil, ne_eqb, eq-eqb}
+use Rattle.std.proofs.Common.{◌≡◌, ◌≢◌, ◌⊎◌, ℕ, ◌==◌, Bool, true, false, List, [], ◌∷◌, ◌++◌, if◌then◌else◌, Option, Some, sym, refl, ap, ◌∙◌, subst, inl, inr, ne_eqb, eq-eqb}
 use Rattle.std.proofs.lemmas.List.{append_assoc}
 use Rattle.pif_quick.specs.declared.rule.Turn.{Turn}
 use Rattle.pif_quick.specs.declared.rule.Record.{Record}
-use Rattle.pif_quick.specs.Turns.{left_by, IsChain, turns_by, IsOlder, IsOpen, IsSound, Agree, fresh, with_open, closed, closed_from}
+use Rattle.pif_quick.specs.Turns.{left_by, IsChain, turns_by, IsOlder, IsSound, with_open, closed, closed_from}
 
 module _ {T : Type 0} where
   turns_by-cons : (p : ℕ) (c : Bool) (x : T × T) (ts us : List (Turn T))
       → turns_by p (ts ++ us) ≡ turns_by p ts ++ turns_by p us
       → (if c then x ∷ turns_by p (ts ++ us) else turns_by p (ts ++ us)) ≡
-          (if c then x ∷ turns_by p ts else turns_by p ts) ++ turns_by p us
+      (if c then x ∷ turns_by p ts else turns_by p ts) ++ turns_by p us
   turns_by-cons p true x ts us e = ap (λ (l : List (T × T)). x ∷ l) e
   turns_by-cons p false x ts us e = e
 

@@ -1,5 +1,5 @@
 -- What callers see of the quick path: for each pass its number and its records, one for each word.
-use Rattle.std.specs.Prelude.{◌≡◌, ◌≢◌, ◌⊎◌, ℕ, ◌+◌, ◌*◌, ◌<◌, List, [], ◌∷◌, ◌++◌, map, length, replicate, slice_get, slice_index_or, slice_set, vec_len, Option, Some, None}
+use Rattle.std.specs.Prelude.{◌≡◌, ◌≢◌, ℕ, ◌*◌, ◌<◌, List, [], ◌∷◌, ◌++◌, map, length, replicate, slice_get, slice_index_or, slice_set, vec_len, Option, Some, None}
 use Rattle.atomic_table.specs.Seated.{TableId}
 use Rattle.atomic_table.specs.declared.shared.Seat.{Seat}
 use Rattle.pif_quick.specs.declared.rule.View.{View}
@@ -7,7 +7,7 @@ use Rattle.pif_quick.specs.declared.rule.Record.{Record}
 use Rattle.pif_quick.specs.declared.quick.Quick.{Quick}
 use Rattle.pif_quick.specs.declared.quick.Pass.{Pass}
 use Rattle.pif_quick.specs.declared.quick.Held.{Held}
-use Rattle.pif_quick.specs.Turns.{IsOpen, IsSound, Agree, Opens, fresh, closed}
+use Rattle.pif_quick.specs.Turns.{IsOpen, IsSound, Opens, fresh, closed}
 use Rattle.pif_quick.specs.Places.{record_of, IsPlaceOf, IsFreshPlace}
 
 module _ {T : Type 0} where
@@ -70,7 +70,7 @@ module _ {T : Type 0} where
   abbrev pub ChangesAt : ℕ → (Record T → Record T → Type 0) → Pass T → Pass T → Type 0
   ChangesAt m change p p' =
       (number_of p' ≡ number_of p) × (records p' ≡ slice_set (records p) m (record_at p' m))
-          × change (record_at p m) (record_at p' m)
+      × change (record_at p m) (record_at p' m)
 
   -- what is held is the pass's open turn at its word
   abbrev pub IsTurnOf : Pass T → Held T → Type 0
@@ -89,7 +89,7 @@ module _ {T : Type 0} where
   abbrev pub IsFresh : List T → Pass T → Type 0
   IsFresh values p =
       (length (records p) ≡ length values) × ((m : ℕ) (x : T) → slice_get values m ≡ Some x
-          → record_at p m ≡ fresh (Some x))
+      → record_at p m ≡ fresh (Some x))
 
 -- the values, eight places apart, so that no two of them, nor their words, share a line of the cache
 abbrev pub spaced : {T : Type 0} → T → List (Option T)

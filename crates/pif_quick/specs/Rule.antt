@@ -9,9 +9,8 @@ use Rattle.pif_model.specs.Word.{Word, word_of, free_word, held_by, take_word, r
 use Rattle.pif_quick.specs.declared.rule.Turn.{Turn}
 use Rattle.pif_quick.specs.declared.rule.Record.{Record}
 use Rattle.pif_quick.specs.declared.rule.View.{View}
-use Rattle.pif_quick.specs.declared.rule.Role.{Role}
 use Rattle.pif_quick.specs.declared.rule.Role.TheVariants.{Dealer, Seated, Spent}
-use Rattle.pif_quick.specs.Turns.{left_by, IsChain, turns_by, IsOlder, IsOpen, IsSound, fresh, with_open, Opens, closed}
+use Rattle.pif_quick.specs.Turns.{left_by, IsChain, turns_by, IsOlder, IsOpen, IsSound, fresh, with_open, closed}
 
 -- the number in a word's bits
 abbrev pub number_at : List ℕ → ℕ → ℕ
@@ -100,8 +99,15 @@ module _ {T : Type 0} where
 
   -- the seat that the dealer gives
   abbrev pub seat_from : View T → View T
-  seat_from d = record { role = Seated; pass = d.pass; word = d.word; starts = []; known =
-      fresh (opening_at d.starts d.word); beside = [] }
+  seat_from d = record {
+    role = Seated;
+    pass = d.pass;
+    word = d.word;
+    starts = [];
+    known =
+        fresh (opening_at d.starts d.word);
+    beside = [];
+  }
 
   -- the closed turns of a seat, to be shown to another seat of its word
   abbrev pub note_of : View T → View T
@@ -163,8 +169,8 @@ module _ {T : Type 0} where
   abbrev pub Handed : At T → Known T → ℕ → Known T → Type 0
   Handed st m found m' =
       (found ≡ st.first → (word_of found ≡ mark_word (held_by m.0.pass))
-          × ((word_of (exchanged_word st found) ≡ free_word)
-          ⊎ ((u : ℕ) × (word_of (exchanged_word st found) ≡ hand_word u))))
+      × ((word_of (exchanged_word st found) ≡ free_word)
+      ⊎ ((u : ℕ) × (word_of (exchanged_word st found) ≡ hand_word u))))
       × (found ≢ st.first → exchanged_word st found ≡ found)
       × Left st m found m'
 

@@ -15,7 +15,7 @@ meet-requires-clause-one_open g c =
     ⊎_elim (λ h. inl (seat_idle _ _ c.loop-m.invariant.own c.loop-m.m
     (omega arith) _ c.index_mut-place.ensures.value c.args.one.now c.loop-m.invariant.kept h))
     (λ h. inr (seat_idle _ _ c.loop-m.invariant.other_own c.loop-m.m
-        (omega arith) _ c.index_mut.ensures.value c.args.other.now c.loop-m.invariant.other_kept h)) c.requires.idle
+    (omega arith) _ c.index_mut.ensures.value c.args.other.now c.loop-m.invariant.other_kept h)) c.requires.idle
 
 pub loop-m-preserved : goal.loop-m-preserved
 loop-m-preserved g c =

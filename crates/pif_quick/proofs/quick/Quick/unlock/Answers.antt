@@ -4,8 +4,11 @@ use Rattle.pif_quick.proofs.PassSteps.{held_inside, seat_of, seat_open, pass_aft
 use Rattle.pif_quick.proofs.quick.Quick.unlock.Goals as goal
 
 pub overflow_mul-word : goal.overflow_mul-word
-overflow_mul-word g c = omega (arith, c.args.self.now.sized.2,
-    held_inside _ _ c.requires.own c.args.held c.requires.turn)
+overflow_mul-word g c = omega (
+  arith,
+  c.args.self.now.sized.2,
+  held_inside _ _ c.requires.own c.args.held c.requires.turn,
+)
 
 pub give_back-requires-clause-place : goal.give_back-requires-clause-place
 give_back-requires-clause-place g c = seat_of _ _ c.requires.own _

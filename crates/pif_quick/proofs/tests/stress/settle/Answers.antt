@@ -9,10 +9,12 @@ loop-one-preserved g c = record {
       (Some c.in-Some.one) c.in-Some.ensures.items c.loop-one.invariant.done).0;
   met = All-same (λ p. IsPassOf c.args.quick.now p × IsIdle p) _ _ c.in_ok-push.ensures.items
       (All-push (λ p. IsPassOf c.args.quick.now p × IsIdle p) c.meet_all.new.others.items c.meet_all.new.one
-          c.meet_all.ensures.others c.meet_all.ensures.one);
+      c.meet_all.ensures.others c.meet_all.ensures.one);
 }
 
 pub check_values-requires : goal.check_values-requires
-check_values-requires g c =
-    ((All-pop (λ p. IsPassOf c.args.quick.now p × IsIdle p) c.loop-one.met.items c.pop-2.new.self.items
-        (Some c.in-Some-pop.pass) c.in-Some-pop.ensures.items c.loop-one.invariant.met).1.0, c.requires.1)
+check_values-requires g c = (
+  (All-pop (λ p. IsPassOf c.args.quick.now p × IsIdle p) c.loop-one.met.items c.pop-2.new.self.items
+      (Some c.in-Some-pop.pass) c.in-Some-pop.ensures.items c.loop-one.invariant.met).1.0,
+  c.requires.1,
+)

@@ -12,4 +12,4 @@ unlock-requires-clause-turn g c =
     same_turn c.wait_for_mark.new.pass c.unlock_quiet.new.pass c.args.held c.in-Err.held c.in-Err.ensures.told.0
     c.in-Err.ensures.told.1
     (same_turn c.args.pass.now c.wait_for_mark.new.pass c.args.held c.args.held refl c.wait_for_mark.ensures.kept
-        c.requires.turn)
+    c.requires.turn)
