@@ -73,3 +73,9 @@ bench="$here/crates/pif_bench/out/pif_bench"
 for name in $("$bench"); do
   "$bench" "$name"
 done
+
+quick="$here/crates/pif_quick_bench/out/pif_quick_bench"
+[ -x "$quick" ] || (cd "$here/crates/pif_quick_bench" && rt run > /dev/null)
+for name in $("$quick"); do
+  "$quick" "$name"
+done

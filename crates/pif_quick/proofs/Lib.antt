@@ -7,3 +7,4 @@ pub mod PlaceSteps
 pub mod Dealing
 pub mod PassSteps
 pub mod Opening
+pub mod Idle

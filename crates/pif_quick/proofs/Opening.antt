@@ -1,42 +1,46 @@
 -- What `open` makes: places for the values, and a seat for each pass and word.
-use Rattle.std.proofs.Common.{◌≡◌, ◌≢◌, ◌⊎◌, ℕ, zero, suc, ◌+◌, ◌*◌, ◌<◌, ◌≤◌, ◌^◌, ◌-◌, List, [], ◌∷◌, ◌++◌, map, length, get_or, replicate, Option, Some, None, sym, refl, ap, ◌∙◌, subst, ⊎_elim, inl, inr, arith, slice_get, length-append, append-nil}
+use Rattle.std.proofs.Common.{◌≡◌, ◌⊎◌, ℕ, zero, suc, ◌+◌, ◌*◌, ◌<◌, ◌≤◌, ◌^◌, ◌-◌, List, [], ◌∷◌, ◌++◌, length, get_or, replicate, Option, Some, None, sym, refl, ap, ◌∙◌, subst, ⊎_elim, inl, inr, arith, slice_get, append-nil}
 use Rattle.std.proofs.lemmas.List.{append_assoc, length-map}
 use Rattle.std.proofs.lemmas.Option.{slice_get_within}
 use mathlib.Core.Option.{none}
 use Rattle.atomic_table.specs.Seated.{TableId}
-use Rattle.atomic_table.specs.Table.{Me, step, Allows, Splits, opening}
+use Rattle.atomic_table.specs.Table.{step, Allows, Splits, opening}
 use Rattle.pif_quick.specs.declared.rule.Record.{Record}
-use Rattle.pif_quick.specs.declared.rule.View.{View}
 use Rattle.pif_quick.specs.Turns.{IsSound, fresh}
 use Rattle.pif_quick.specs.Rule.{HasOneHolder, opening_at, first_dealer, dealer_after, seat_from, Paged}
 use Rattle.pif_quick.specs.Places.{record_of, hand_if, IsPlaceOf, dealer_at, IsFreshPlace}
 use Rattle.pif_quick.specs.declared.quick.Quick.{Quick}
 use Rattle.pif_quick.specs.declared.quick.Pass.{Pass}
-use Rattle.pif_quick.specs.Quick.{records, record_at, spaced, spread, IsDealtPass, IsPassOf, AreSound, IsFresh}
+use Rattle.pif_quick.specs.Quick.{spaced, spread, IsDealtPass, IsPassOf, AreSound, IsFresh}
 use Rattle.pif_quick.proofs.Dealing.{dealing, paging, starting}
 use Rattle.pif_quick.proofs.Steps.{Known}
 use Rattle.pif_quick.proofs.PlaceSteps.{Place}
 use Rattle.pif_quick.proofs.PassSteps.{record_at-is, sound_from}
 
 module _ {A : Type 0} where
-  got_end : (l : List A) (a b : A) (j : ℕ) → slice_get (l ++ a ∷ []) j ≡ Some b → (slice_get l j ≡ Some b) ⊎ ((j ≡ length l) × (a ≡ b))
+  got_end : (l : List A) (a b : A) (j : ℕ) → slice_get (l ++ a ∷ []) j ≡ Some b
+      → (slice_get l j ≡ Some b) ⊎ ((j ≡ length l) × (a ≡ b))
   got_end [] a b zero e = inr (refl, cc)
   got_end [] a b (suc j) e = absurd (no_value e)
     where
       no_value : ◌≡◌ {A = Option A} None (Some b) → ⊥
       no_value q = cc
   got_end (x ∷ xs) a b zero e = inl e
-  got_end (x ∷ xs) a b (suc j) e = ⊎_elim (λ (h : slice_get xs j ≡ Some b). inl h) (λ (t : (j ≡ length xs) × (a ≡ b)). inr (omega arith, t.1)) (got_end xs a b j e)
+  got_end (x ∷ xs) a b (suc j) e = ⊎_elim (λ (h : slice_get xs j ≡ Some b). inl h)
+      (λ (t : (j ≡ length xs) × (a ≡ b)). inr (omega arith, t.1)) (got_end xs a b j e)
 
   -- what holds of each element, and of one more, holds of each of the longer list
-  pub each_got : (P : ℕ → A → Type 0) (l : List A) (a : A) → ((j : ℕ) (b : A) → slice_get l j ≡ Some b → P j b) → P (length l) a → (j : ℕ) (b : A) → slice_get (l ++ a ∷ []) j ≡ Some b → P j b
+  pub each_got : (P : ℕ → A → Type 0) (l : List A) (a : A) → ((j : ℕ) (b : A) → slice_get l j ≡ Some b → P j b)
+      → P (length l) a → (j : ℕ) (b : A) → slice_get (l ++ a ∷ []) j ≡ Some b → P j b
   each_got P l a others last j b e = ⊎_elim (λ (h : slice_get l j ≡ Some b). others j b h)
-      (λ (t : (j ≡ length l) × (a ≡ b)). subst (λ (x : ℕ × A). P x.0 x.1) (λ k. (sym t.0 k, t.1 k)) last) (got_end l a b j e)
+      (λ (t : (j ≡ length l) × (a ≡ b)). subst (λ (x : ℕ × A). P x.0 x.1) (λ k. (sym t.0 k, t.1 k)) last)
+      (got_end l a b j e)
 
 module _ {T : Type 0} where
   pub spread-end : (xs : List T) (x : T) → spread (xs ++ x ∷ []) ≡ spread xs ++ spaced x
   spread-end [] x = append-nil (spaced x)
-  spread-end (y ∷ ys) x = ap (λ (l : List (Option T)). spaced y ++ l) (spread-end ys x) ∙ sym (append_assoc (spaced y) (spread ys) (spaced x))
+  spread-end (y ∷ ys) x = ap (λ (l : List (Option T)). spaced y ++ l) (spread-end ys x)
+      ∙ sym (append_assoc (spaced y) (spread ys) (spaced x))
 
   pub length-spread : (xs : List T) → length (spread xs) ≡ 8 * length xs
   length-spread [] = refl
@@ -57,8 +61,10 @@ module _ {T : Type 0} where
       not_open f e = cc
 
   -- the seat that the dealer gave
-  pub fresh_place : (starts : List (Option T)) (z : TableId) (word pass : ℕ) (p : Place T) → p.table_id ≡ z → p.me ≡ (seat_from (dealer_at starts word pass), [])
-      → (word < z.words) × (word < z.slots) → (1 ≤ pass) × (pass < 2 ^ 30) → (x : T) × (opening_at starts word ≡ Some x) → IsFreshPlace starts z word pass p
+  pub fresh_place : (starts : List (Option T)) (z : TableId) (word pass : ℕ) (p : Place T) → p.table_id ≡ z
+      → p.me ≡ (seat_from (dealer_at starts word pass), [])
+      → (word < z.words) × (word < z.slots) → (1 ≤ pass) × (pass < 2 ^ 30)
+      → (x : T) × (opening_at starts word ≡ Some x) → IsFreshPlace starts z word pass p
   fresh_place starts z word pass p t is inside numbered opened =
       let known : record_of p ≡ fresh (opening_at starts word) = ap (λ (m : Known T). m.0.known) is in (
         record {
@@ -76,24 +82,36 @@ module _ {T : Type 0} where
       )
 
   -- the dealer may give a seat
-  pub deal_allowed : (starts held : List (Option T)) (word pass : ℕ) (p : Place T) → p.me ≡ (dealer_at held word pass, []) → (1 ≤ pass) × (pass < 2 ^ 30)
+  pub deal_allowed : (starts held : List (Option T)) (word pass : ℕ) (p : Place T)
+      → p.me ≡ (dealer_at held word pass, []) → (1 ≤ pass) × (pass < 2 ^ 30)
       → Splits (HasOneHolder starts) p.id p.me.0 (dealer_after p.me.0) (seat_from p.me.0)
-  deal_allowed starts held word pass p is numbered = dealing starts p.id p.me.0 (ap (λ (m : Known T). m.0.role) is) (ap (λ (m : Known T). m.0.beside) is)
+  deal_allowed starts held word pass p is numbered =
+      dealing starts p.id p.me.0 (ap (λ (m : Known T). m.0.role) is) (ap (λ (m : Known T). m.0.beside) is)
       (subst (λ (n : ℕ). (1 ≤ n) × (n < 2 ^ 30)) (sym (ap (λ (m : Known T). m.0.pass) is)) numbered)
 
   -- the dealer may go on
-  pub page_allowed : (starts held : List (Option T)) (slots word pass : ℕ) (p : Place T) → p.me ≡ (dealer_at held word pass, []) → Allows (HasOneHolder starts) slots p.id p.me 0 (λ n. n) (Paged (step slots 0 0 0 none) p.me)
-  page_allowed starts held slots word pass p is = paging starts slots p.id 0 p.me (ap (λ (m : Known T). m.0.role) is) (ap (λ (m : Known T). m.0.beside) is)
+  pub page_allowed : (starts held : List (Option T)) (slots word pass : ℕ) (p : Place T)
+      → p.me ≡ (dealer_at held word pass, []) → Allows (HasOneHolder starts) slots p.id p.me 0 (λ n. n)
+      (Paged (step slots 0 0 0 none) p.me)
+  page_allowed starts held slots word pass p is =
+      paging starts slots p.id 0 p.me (ap (λ (m : Known T). m.0.role) is) (ap (λ (m : Known T). m.0.beside) is)
 
   -- the words and values at the start
-  pub starts_well : (starts slots : List (Option T)) (words : List ℕ) → starts ≡ slots → length words ≡ length slots → ((i : ℕ) → get_or words i 0 ≡ 0) → HasOneHolder starts (opening words slots (first_dealer starts))
+  pub starts_well : (starts slots : List (Option T)) (words : List ℕ) → starts ≡ slots → length words ≡ length slots
+      → ((i : ℕ) → get_or words i 0 ≡ 0) → HasOneHolder starts (opening words slots (first_dealer starts))
   starts_well starts slots words e same free =
-      subst (λ (l : List (Option T)). HasOneHolder starts (opening words l (first_dealer starts))) e (starting starts words (same ∙ ap (λ (l : List (Option T)). length l) (sym e)) free)
+      subst (λ (l : List (Option T)). HasOneHolder starts (opening words l (first_dealer starts))) e
+      (starting starts words (same ∙ ap (λ (l : List (Option T)). length l) (sym e)) free)
 
   -- the values that the dealer has are those that were given
-  pub opened_values : (starts : List (Option T)) (values : List T) (count : ℕ) → starts ≡ spread values → count ≡ length values → (m : ℕ) → m < count → (x : T) × (opening_at starts (8 * m) ≡ Some x)
+  pub opened_values : (starts : List (Option T)) (values : List T) (count : ℕ) → starts ≡ spread values
+      → count ≡ length values → (m : ℕ) → m < count → (x : T) × (opening_at starts (8 * m) ≡ Some x)
   opened_values starts values count e c m lt =
-      let got = value_there values m (omega arith) in (got.0, ap (λ (l : List (Option T)). opening_at l (8 * m)) e ∙ (opening_at-spread values m ∙ got.1))
+      let got = value_there values m (omega arith) in (
+        got.0,
+        ap (λ (l : List (Option T)). opening_at l (8 * m)) e
+            ∙ (opening_at-spread values m ∙ got.1),
+      )
     where
       value_there : (xs : List T) (i : ℕ) → i < length xs → (x : T) × (slice_get xs i ≡ Some x)
       value_there [] i h = absurd (omega arith)
@@ -101,22 +119,28 @@ module _ {T : Type 0} where
       value_there (x ∷ xs) (suc i) h = value_there xs i (omega arith)
 
   -- a pass as it was dealt is the words' own, and fresh
-  pub dealt_own : (q : Quick T) (starts : List (Option T)) (number : ℕ) (p : Pass T) → IsDealtPass starts q.board.shared.table_id q.count number p → IsPassOf q p
+  pub dealt_own : (q : Quick T) (starts : List (Option T)) (number : ℕ) (p : Pass T)
+      → IsDealtPass starts q.board.shared.table_id q.count number p → IsPassOf q p
   dealt_own q starts number p d = record {
     counted = d.counted;
-    place = λ m s e. subst (λ (n : ℕ). IsPlaceOf q.board.shared.table_id (8 * m) n s) (sym d.number_is) (d.place m s e).0;
+    place = λ m s e. subst (λ (n : ℕ). IsPlaceOf q.board.shared.table_id (8 * m) n s) (sym d.number_is)
+        (d.place m s e).0;
   }
 
-  pub dealt_sound : (starts : List (Option T)) (z : TableId) (count number : ℕ) (p : Pass T) → IsDealtPass starts z count number p → AreSound p
-  dealt_sound starts z count number p d = sound_from p (λ m s e. subst (λ (n : ℕ). IsSound n (record_of s)) (sym d.number_is) (d.place m s e).0.sound)
+  pub dealt_sound : (starts : List (Option T)) (z : TableId) (count number : ℕ) (p : Pass T)
+      → IsDealtPass starts z count number p → AreSound p
+  dealt_sound starts z count number p d = sound_from p
+      (λ m s e. subst (λ (n : ℕ). IsSound n (record_of s)) (sym d.number_is) (d.place m s e).0.sound)
 
-  pub dealt_fresh : (starts : List (Option T)) (z : TableId) (count number : ℕ) (p : Pass T) (values : List T) → IsDealtPass starts z count number p → starts ≡ spread values → count ≡ length values → IsFresh values p
+  pub dealt_fresh : (starts : List (Option T)) (z : TableId) (count number : ℕ) (p : Pass T) (values : List T)
+      → IsDealtPass starts z count number p → starts ≡ spread values → count ≡ length values → IsFresh values p
   dealt_fresh starts z count number p values d e c = (
     length-map p.places.items record_of ∙ (sym p.places.ok.0 ∙ (d.counted ∙ c)),
     (λ m x at. let lt : m < length values = slice_get_within values m x at in
         let there = seat_there p.places.items m (let k = d.counted in let o = p.places.ok.0 in omega arith) in
         record_at-is p m there.0 there.1 ∙ ((d.place m there.0 there.1).1
-        ∙ ap (λ (o : Option T). fresh o) (ap (λ (l : List (Option T)). opening_at l (8 * m)) e ∙ (opening_at-spread values m ∙ at)))),
+        ∙ ap (λ (o : Option T). fresh o) (ap (λ (l : List (Option T)). opening_at l (8 * m)) e
+        ∙ (opening_at-spread values m ∙ at)))),
   )
     where
       seat_there : (l : List (Place T)) (i : ℕ) → i < length l → (s : Place T) × (slice_get l i ≡ Some s)

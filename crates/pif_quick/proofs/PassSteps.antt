@@ -1,5 +1,5 @@
 -- A pass of which one seat has stepped.
-use Rattle.std.proofs.Common.{◌≡◌, ◌≢◌, ◌⊎◌, ℕ, zero, suc, ◌+◌, ◌*◌, ◌<◌, List, [], ◌∷◌, map, length, get_or, set, Option, Some, None, sym, refl, ap, ◌∙◌, subst, ⊎_elim, inl, inr, arith, slice_get, vec_len, length-set}
+use Rattle.std.proofs.Common.{◌≡◌, ◌⊎◌, ℕ, zero, suc, ◌+◌, ◌*◌, ◌<◌, List, [], ◌∷◌, length, get_or, set, Option, Some, None, sym, refl, ap, ◌∙◌, subst, ⊎_elim, inl, inr, arith, slice_get}
 use borrow.Author.Count.{below_more}
 use mathlib.Core.Logic.{dite}
 use native.Mathlib.Decide.{dec_le}
@@ -12,23 +12,27 @@ use Rattle.pif_quick.specs.declared.quick.Pass.{Pass}
 use Rattle.pif_quick.specs.declared.quick.Held.{Held}
 use Rattle.pif_quick.specs.Turns.{IsOpen, IsSound, Agree, Opens, fresh}
 use Rattle.pif_quick.specs.Places.{record_of, IsPlaceOf, IsPlace}
-use Rattle.pif_quick.specs.Quick.{records, record_at, number_of, IsPassOf, AreSound, IsIdle, IsUnchanged, ChangesAt, IsTurnOf, Locks}
+use Rattle.pif_quick.specs.Quick.{records, record_at, IsPassOf, AreSound, IsIdle, IsUnchanged, ChangesAt, IsTurnOf, Locks}
 use Rattle.pif_quick.proofs.Steps.{Known}
 use Rattle.pif_quick.proofs.PlaceSteps.{Place, same_place}
 
 module _ {A : Type 0} where
-  got_set : (l : List A) (i j : ℕ) (a b : A) → slice_get (set l i a) j ≡ Some b → ((j ≡ i) × (a ≡ b)) ⊎ (slice_get l j ≡ Some b)
+  got_set : (l : List A) (i j : ℕ) (a b : A) → slice_get (set l i a) j ≡ Some b
+      → ((j ≡ i) × (a ≡ b)) ⊎ (slice_get l j ≡ Some b)
   got_set [] i j a b e = inr e
   got_set (x ∷ xs) zero zero a b e = inl (refl, cc)
   got_set (x ∷ xs) zero (suc j) a b e = inr e
   got_set (x ∷ xs) (suc i) zero a b e = inr e
-  got_set (x ∷ xs) (suc i) (suc j) a b e = ⊎_elim (λ (t : (j ≡ i) × (a ≡ b)). inl (ap suc t.0, t.1)) (λ (h : slice_get xs j ≡ Some b). inr h) (got_set xs i j a b e)
+  got_set (x ∷ xs) (suc i) (suc j) a b e = ⊎_elim (λ (t : (j ≡ i) × (a ≡ b)). inl (ap suc t.0, t.1))
+      (λ (h : slice_get xs j ≡ Some b). inr h) (got_set xs i j a b e)
 
 module _ {T : Type 0} where
   -- the record of a word is its seat's
-  pub record_at-is : (p : Pass T) (m : ℕ) (s : Place T) → slice_get p.places.items m ≡ Some s → record_at p m ≡ record_of s
+  pub record_at-is : (p : Pass T) (m : ℕ) (s : Place T) → slice_get p.places.items m ≡ Some s
+      → record_at p m ≡ record_of s
   record_at-is p m s e =
-      get_or-map record_of p.places.items m s (fresh None) (slice_get_within p.places.items m s e) ∙ ap record_of (get_or_from_slice_get p.places.items m s s e)
+      get_or-map record_of p.places.items m s (fresh None) (slice_get_within p.places.items m s e)
+      ∙ ap record_of (get_or_from_slice_get p.places.items m s s e)
 
   some_there : (l : List (Place T)) (i : ℕ) → i < length l → (s : Place T) × (slice_get l i ≡ Some s)
   some_there [] i h = absurd (omega arith)
@@ -36,7 +40,8 @@ module _ {T : Type 0} where
   some_there (x ∷ xs) (suc i) h = some_there xs i (omega arith)
 
   -- records are sound where the seats' are
-  pub sound_from : (p : Pass T) → ((m : ℕ) (s : Place T) → slice_get p.places.items m ≡ Some s → IsSound p.number (record_of s)) → AreSound p
+  pub sound_from : (p : Pass T) → ((m : ℕ) (s : Place T) → slice_get p.places.items m ≡ Some s
+      → IsSound p.number (record_of s)) → AreSound p
   sound_from p each m lt =
       let got = some_there p.places.items m (omega (arith, length-map p.places.items record_of)) in
       subst (IsSound p.number) (sym (record_at-is p m got.0 got.1)) (each m got.0 got.1)
@@ -45,10 +50,13 @@ module _ {T : Type 0} where
   same_records p p' m e = ap (λ (l : List (Record T)). get_or l m (fresh None)) e
 
   -- what holds of two records holds of them where they are unchanged
-  same_agree : (p p' r r' : Pass T) (m : ℕ) → IsUnchanged p p' → IsUnchanged r r' → Agree (record_at p m) (record_at r m) → Agree (record_at p' m) (record_at r' m)
-  same_agree p p' r r' m a b h = subst (λ (z : Record T × Record T). Agree z.0 z.1) (λ i. (sym (same_records p p' m a.1) i, sym (same_records r r' m b.1) i)) h
+  same_agree : (p p' r r' : Pass T) (m : ℕ) → IsUnchanged p p' → IsUnchanged r r'
+      → Agree (record_at p m) (record_at r m) → Agree (record_at p' m) (record_at r' m)
+  same_agree p p' r r' m a b h = subst (λ (z : Record T × Record T). Agree z.0 z.1)
+      (λ i. (sym (same_records p p' m a.1) i, sym (same_records r r' m b.1) i)) h
 
-  agree_at : (p r : Pass T) (m : ℕ) (a b : Record T) → record_at p m ≡ a → record_at r m ≡ b → Agree a b → Agree (record_at p m) (record_at r m)
+  agree_at : (p r : Pass T) (m : ℕ) (a b : Record T) → record_at p m ≡ a → record_at r m ≡ b → Agree a b
+      → Agree (record_at p m) (record_at r m)
   agree_at p r m a b e f h = subst (λ (z : Record T × Record T). Agree z.0 z.1) (λ i. (sym e i, sym f i)) h
 
   module _ (q : Quick T) (p : Pass T) (own : IsPassOf q p) where
@@ -58,7 +66,8 @@ module _ {T : Type 0} where
     -- what is held stands at one of the words
     pub held_inside : (h : Held T) → IsTurnOf p h → h.word < q.count
     held_inside h t = dite (dec_le (length (records p)) h.word)
-        (λ past. absurd (not_open t.1.0 (ap (λ (r : Record T). r.found) (sym (get_or_past (records p) h.word (fresh None) past)) ∙ t.1.1)))
+        (λ past. absurd (not_open t.1.0 (ap (λ (r : Record T). r.found)
+        (sym (get_or_past (records p) h.word (fresh None) past)) ∙ t.1.1)))
         (λ inside. omega (arith, items_count, length-map p.places.items record_of))
       where
         not_open : (f : T) → ◌≡◌ {A = Option T} None (Some f) → ⊥
@@ -84,20 +93,23 @@ module _ {T : Type 0} where
       -- the seat of a pass that had no open turn
       pub seat_idle : (p₀ : Pass T) → IsUnchanged p₀ p → IsIdle p₀ → (record_of s).found ≡ None
       seat_idle p₀ u idle =
-          let inside : m < length (records p₀) = omega (arith, items_count, length-map p.places.items record_of, ap (λ (l : List (Record T)). length l) u.1) in
-          ap (λ (r : Record T). r.found) (sym record_before ∙ same_records p₀ p m u.1) ∙ idle m inside
+          ap (λ (r : Record T). r.found) (sym record_before ∙ same_records p₀ p m u.1) ∙ idle m
 
       pub seat_open : IsOpen (record_at p m) → IsOpen (record_of s)
       seat_open o = (o.0, ap (λ (r : Record T). r.found) (sym record_before) ∙ o.1)
 
       module _ (s' : Place T) where
         -- the seat is as it was
-        pub looked_place : s'.table_id ≡ s.table_id → s'.me ≡ s.me → IsPlaceOf q.board.shared.table_id (8 * m) p.number s'
-        looked_place t e = same_place q.board.shared.table_id (8 * m) p.number s seat_of s' (t ∙ seat_of.table) (ap (λ (y : Known T). y.0.role) e)
-            (ap (λ (y : Known T). y.0.pass) e) (ap (λ (y : Known T). y.0.word) e) (ap (λ (y : Known T). y.0.known) e) (ap (λ (y : Known T). y.1) e ∙ seat_of.hand)
+        pub looked_place : s'.table_id ≡ s.table_id → s'.me ≡ s.me
+            → IsPlaceOf q.board.shared.table_id (8 * m) p.number s'
+        looked_place t e = same_place q.board.shared.table_id (8 * m) p.number s seat_of s' (t ∙ seat_of.table)
+            (ap (λ (y : Known T). y.0.role) e)
+            (ap (λ (y : Known T). y.0.pass) e) (ap (λ (y : Known T). y.0.word) e) (ap (λ (y : Known T). y.0.known) e)
+            (ap (λ (y : Known T). y.1) e ∙ seat_of.hand)
 
         -- the seat that knows itself
-        pub place_named : IsPlace q.board.shared.table_id (8 * m) s' → s'.me.0.pass ≡ s.me.0.pass → IsPlaceOf q.board.shared.table_id (8 * m) p.number s'
+        pub place_named : IsPlace q.board.shared.table_id (8 * m) s' → s'.me.0.pass ≡ s.me.0.pass
+            → IsPlaceOf q.board.shared.table_id (8 * m) p.number s'
         place_named h e = subst (λ (k : ℕ). IsPlaceOf q.board.shared.table_id (8 * m) k s') (e ∙ seat_of.pass_is) h
 
         abbrev after : Pass T
@@ -107,7 +119,8 @@ module _ {T : Type 0} where
         pass_after h = record {
           counted = own.counted;
           place = λ k x e. ⊎_elim
-              (λ (t : (k ≡ m) × (s' ≡ x)). subst (λ (y : ℕ × Place T). IsPlaceOf q.board.shared.table_id (8 * y.0) p.number y.1) (λ i. (sym t.0 i, t.1 i)) h)
+              (λ (t : (k ≡ m) × (s' ≡ x)). subst (λ (y : ℕ × Place T). IsPlaceOf q.board.shared.table_id
+              (8 * y.0) p.number y.1) (λ i. (sym t.0 i, t.1 i)) h)
               (λ (old : slice_get p.places.items k ≡ Some x). own.place k x old) (got_set p.places.items m k s' x e);
         }
 
@@ -116,7 +129,8 @@ module _ {T : Type 0} where
 
         pub record_after : record_at after m ≡ record_of s'
         record_after = ap (λ (l : List (Record T)). get_or l m (fresh None)) records_after
-            ∙ get_or-set_same (records p) m (record_of s') (fresh None) (omega (arith, items_count, length-map p.places.items record_of))
+            ∙ get_or-set_same (records p) m (record_of s') (fresh None)
+            (omega (arith, items_count, length-map p.places.items record_of))
 
         pub changes : (Q : Record T → Record T → Type 0) → Q (record_of s) (record_of s') → ChangesAt m Q p after
         changes Q h = (
@@ -128,14 +142,16 @@ module _ {T : Type 0} where
         pub unchanged : record_of s' ≡ record_of s → IsUnchanged p after
         unchanged e = (
           refl,
-          records_after ∙ (ap (λ (r : Record T). set (records p) m r) (e ∙ sym record_before) ∙ set-get_or (records p) m (fresh None)),
+          records_after ∙ (ap (λ (r : Record T). set (records p) m r) (e ∙ sym record_before)
+              ∙ set-get_or (records p) m (fresh None)),
         )
 
         pub unchanged_since : (p₀ : Pass T) → IsUnchanged p₀ p → record_of s' ≡ record_of s → IsUnchanged p₀ after
         unchanged_since p₀ u e = let v = unchanged e in (v.0 ∙ u.0, v.1 ∙ u.1)
 
         -- a turn was opened, and its value is held
-        pub locks : (x : T) → Opens p.number x (record_of s) (record_of s') → Locks m p after (record { value = x; word = m; pass = p.number })
+        pub locks : (x : T) → Opens p.number x (record_of s) (record_of s')
+            → Locks m p after (record { value = x; word = m; pass = p.number })
         locks x o = (
           refl,
           (refl, (x, ap (λ (r : Record T). r.found) record_after ∙ ap (λ (r : Record T). r.found) o.2)),
@@ -143,10 +159,15 @@ module _ {T : Type 0} where
         )
 
   -- two passes have met at the words below m, and now at m
-  pub meets_on : (q : Quick T) (p r : Pass T) (own : IsPassOf q p) (own_r : IsPassOf q r) (m : ℕ) (lt : m < q.count) (s u : Place T) (is : s ≡ get_or p.places.items m s) (is_u : u ≡ get_or r.places.items m u)
-      (s' u' : Place T) → record_of s' ≡ record_of s → record_of u' ≡ record_of u → Agree (record_of s) (record_of u) → ((k : ℕ) → k < m → Agree (record_at p k) (record_at r k))
-      → (k : ℕ) → k < m + 1 → Agree (record_at (after q p own m lt s is s') k) (record_at (after q r own_r m lt u is_u u') k)
+  pub meets_on : (q : Quick T) (p r : Pass T) (own : IsPassOf q p) (own_r : IsPassOf q r) (m : ℕ) (lt : m < q.count)
+      (s u : Place T) (is : s ≡ get_or p.places.items m s) (is_u : u ≡ get_or r.places.items m u)
+      (s' u' : Place T) → record_of s' ≡ record_of s → record_of u' ≡ record_of u → Agree (record_of s) (record_of u)
+      → ((k : ℕ) → k < m → Agree (record_at p k) (record_at r k))
+      → (k : ℕ) → k < m + 1 → Agree (record_at (after q p own m lt s is s') k)
+      (record_at (after q r own_r m lt u is_u u') k)
   meets_on q p r own own_r m lt s u is is_u s' u' e e_u now below k at =
-      same_agree p (after q p own m lt s is s') r (after q r own_r m lt u is_u u') k (unchanged q p own m lt s is s' e) (unchanged q r own_r m lt u is_u u' e_u)
+      same_agree p (after q p own m lt s is s') r (after q r own_r m lt u is_u u') k
+      (unchanged q p own m lt s is s' e) (unchanged q r own_r m lt u is_u u' e_u)
       (below_more (λ (j : ℕ). Agree (record_at p j) (record_at r j)) m below
-      (agree_at p r m (record_of s) (record_of u) (record_before q p own m lt s is) (record_before q r own_r m lt u is_u) now) k at)
+      (agree_at p r m (record_of s) (record_of u) (record_before q p own m lt s is)
+      (record_before q r own_r m lt u is_u) now) k at)

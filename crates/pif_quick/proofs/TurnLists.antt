@@ -1,13 +1,15 @@
 -- Lists of turns: what a longer one has of a pass, and what it left.
-use Rattle.std.proofs.Common.{◌≡◌, ◌≢◌, ◌⊎◌, ℕ, ◌==◌, Bool, true, false, List, [], ◌∷◌, ◌++◌, if◌then◌else◌, Option, Some, None, sym, refl, ap, ◌∙◌, subst, inl, inr, append-nil, ne_eqb, eq-eqb}
+use Rattle.std.proofs.Common.{◌≡◌, ◌≢◌, ◌⊎◌, ℕ, ◌==◌, Bool, true, false, List, [], ◌∷◌, ◌++◌, if◌then◌else◌, Option, Some, sym, refl, ap, ◌∙◌, subst, inl, inr, ne_eqb, eq-eqb}
 use Rattle.std.proofs.lemmas.List.{append_assoc}
 use Rattle.pif_quick.specs.declared.rule.Turn.{Turn}
 use Rattle.pif_quick.specs.declared.rule.Record.{Record}
-use Rattle.pif_quick.specs.Turns.{left_by, IsChain, turns_by, IsOlder, IsOpen, IsSound, Agree, fresh, with_open, closed, closed_from}
+use Rattle.pif_quick.specs.Turns.{left_by, IsChain, turns_by, IsOlder, IsSound, with_open, closed, closed_from}
 
 module _ {T : Type 0} where
-  turns_by-cons : (p : ℕ) (c : Bool) (x : T × T) (ts us : List (Turn T)) → turns_by p (ts ++ us) ≡ turns_by p ts ++ turns_by p us
-      → (if c then x ∷ turns_by p (ts ++ us) else turns_by p (ts ++ us)) ≡ (if c then x ∷ turns_by p ts else turns_by p ts) ++ turns_by p us
+  turns_by-cons : (p : ℕ) (c : Bool) (x : T × T) (ts us : List (Turn T))
+      → turns_by p (ts ++ us) ≡ turns_by p ts ++ turns_by p us
+      → (if c then x ∷ turns_by p (ts ++ us) else turns_by p (ts ++ us)) ≡
+      (if c then x ∷ turns_by p ts else turns_by p ts) ++ turns_by p us
   turns_by-cons p true x ts us e = ap (λ (l : List (T × T)). x ∷ l) e
   turns_by-cons p false x ts us e = e
 
@@ -16,14 +18,18 @@ module _ {T : Type 0} where
   turns_by-append p (t ∷ ts) us = turns_by-cons p (t.pass == p) (t.found, t.left) ts us (turns_by-append p ts us)
 
   -- newer turns of others add none of one's own
-  pub turns_by-others : (p : ℕ) (newer ts : List (Turn T)) → turns_by p newer ≡ [] → turns_by p (newer ++ ts) ≡ turns_by p ts
+  pub turns_by-others : (p : ℕ) (newer ts : List (Turn T)) → turns_by p newer ≡ []
+      → turns_by p (newer ++ ts) ≡ turns_by p ts
   turns_by-others p newer ts e = turns_by-append p newer ts ∙ ap (λ (l : List (T × T)). l ++ turns_by p ts) e
 
-  pub turns_by-one : (p : ℕ) (t : Turn T) (ts : List (Turn T)) → t.pass ≡ p → turns_by p (t ∷ ts) ≡ (t.found, t.left) ∷ turns_by p ts
-  turns_by-one p t ts e = ap (λ (c : Bool). if c then (t.found, t.left) ∷ turns_by p ts else turns_by p ts) (eq-eqb t.pass p e)
+  pub turns_by-one : (p : ℕ) (t : Turn T) (ts : List (Turn T)) → t.pass ≡ p
+      → turns_by p (t ∷ ts) ≡ (t.found, t.left) ∷ turns_by p ts
+  turns_by-one p t ts e = ap (λ (c : Bool). if c then (t.found, t.left) ∷ turns_by p ts else turns_by p ts)
+      (eq-eqb t.pass p e)
 
   pub turns_by-other : (p : ℕ) (t : Turn T) (ts : List (Turn T)) → t.pass ≢ p → turns_by p (t ∷ ts) ≡ turns_by p ts
-  turns_by-other p t ts n = ap (λ (c : Bool). if c then (t.found, t.left) ∷ turns_by p ts else turns_by p ts) (ne_eqb t.pass p n)
+  turns_by-other p t ts n = ap (λ (c : Bool). if c then (t.found, t.left) ∷ turns_by p ts else turns_by p ts)
+      (ne_eqb t.pass p n)
 
   -- an older part of a chain is one
   pub chain-older : (o : Option T) (newer ts : List (Turn T)) → IsChain o (newer ++ ts) → IsChain o ts
@@ -51,7 +57,8 @@ module _ {T : Type 0} where
   older-either (t ∷ a) (u ∷ b) xs ys e = older-either a b xs ys (ap (tail_or []) e)
 
   -- the record whose open turn found f is sound, where the turns and what they left are known
-  pub sound-opened : (p : ℕ) (f : T) (newer : List (Turn T)) (r : Record T) → IsChain r.opening (newer ++ r.turns) → left_by r.opening (newer ++ r.turns) ≡ Some f
+  pub sound-opened : (p : ℕ) (f : T) (newer : List (Turn T)) (r : Record T) → IsChain r.opening (newer ++ r.turns)
+      → left_by r.opening (newer ++ r.turns) ≡ Some f
       → turns_by p newer ≡ [] → turns_by p r.turns ≡ r.made → IsSound p (with_open f newer r)
   sound-opened p f newer r chain left others own = record {
     chain = chain;
@@ -68,5 +75,6 @@ module _ {T : Type 0} where
   sound-closed p v f r e s = subst (IsSound p) (sym (closed-is p v f r e)) record {
     chain = (s.open_turn f e, s.chain);
     open_turn = λ g h. cc;
-    own = turns_by-one p (record { pass = p; found = f; left = v }) r.turns refl ∙ ap (λ (l : List (T × T)). (f, v) ∷ l) s.own;
+    own = turns_by-one p (record { pass = p; found = f; left = v }) r.turns refl
+        ∙ ap (λ (l : List (T × T)). (f, v) ∷ l) s.own;
   }

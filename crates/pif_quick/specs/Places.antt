@@ -40,7 +40,15 @@ module _ {T : Type 0} where
 
   -- the dealer of these opening values that is at this word and this pass
   abbrev pub dealer_at : List (Option T) → ℕ → ℕ → View T
-  dealer_at starts word pass = record { role = Dealer; pass = pass; word = word; starts = starts; known = fresh None; beside = [] }
+  dealer_at starts word pass = record {
+    role = Dealer;
+    pass = pass;
+    word = word;
+    starts = starts;
+    known =
+        fresh None;
+    beside = [];
+  }
 
   -- the seat of a pass at this word, before any turn
   abbrev pub IsFreshPlace : List (Option T) → TableId → ℕ → ℕ → Seat (Option T) (View T) → Type 0

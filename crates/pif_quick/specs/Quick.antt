@@ -1,5 +1,5 @@
 -- What callers see of the quick path: for each pass its number and its records, one for each word.
-use Rattle.std.specs.Prelude.{◌≡◌, ◌⊎◌, ℕ, ◌+◌, ◌*◌, ◌<◌, List, [], ◌∷◌, ◌++◌, map, length, replicate, slice_get, slice_index_or, slice_set, vec_len, Option, Some, None}
+use Rattle.std.specs.Prelude.{◌≡◌, ◌≢◌, ℕ, ◌*◌, ◌<◌, List, [], ◌∷◌, ◌++◌, map, length, replicate, slice_get, slice_index_or, slice_set, vec_len, Option, Some, None}
 use Rattle.atomic_table.specs.Seated.{TableId}
 use Rattle.atomic_table.specs.declared.shared.Seat.{Seat}
 use Rattle.pif_quick.specs.declared.rule.View.{View}
@@ -7,7 +7,7 @@ use Rattle.pif_quick.specs.declared.rule.Record.{Record}
 use Rattle.pif_quick.specs.declared.quick.Quick.{Quick}
 use Rattle.pif_quick.specs.declared.quick.Pass.{Pass}
 use Rattle.pif_quick.specs.declared.quick.Held.{Held}
-use Rattle.pif_quick.specs.Turns.{IsOpen, IsSound, Agree, Opens, fresh, closed}
+use Rattle.pif_quick.specs.Turns.{IsOpen, IsSound, Opens, fresh, closed}
 use Rattle.pif_quick.specs.Places.{record_of, IsPlaceOf, IsFreshPlace}
 
 module _ {T : Type 0} where
@@ -40,13 +40,15 @@ module _ {T : Type 0} where
     -- it has a record for each word
     pub counted : vec_len p.places ≡ q.count
     -- its seats are the table's, one for each word
-    pub place : (m : ℕ) (s : Seat (Option T) (View T)) → slice_get p.places.items m ≡ Some s → IsPlaceOf q.board.shared.table_id (8 * m) p.number s
+    pub place : (m : ℕ) (s : Seat (Option T) (View T)) → slice_get p.places.items m ≡ Some s
+        → IsPlaceOf q.board.shared.table_id (8 * m) p.number s
 
   -- a pass as it is dealt, where these are the opening values, eight places apart
   pub record IsDealtPass (starts : List (Option T)) (z : TableId) (count number : ℕ) (p : Pass T) : Type 0 where
     pub number_is : p.number ≡ number
     pub counted : vec_len p.places ≡ count
-    pub place : (m : ℕ) (s : Seat (Option T) (View T)) → slice_get p.places.items m ≡ Some s → IsFreshPlace starts z (8 * m) number s
+    pub place : (m : ℕ) (s : Seat (Option T) (View T)) → slice_get p.places.items m ≡ Some s
+        → IsFreshPlace starts z (8 * m) number s
 
   -- each of a pass's records is sound
   abbrev pub AreSound : Pass T → Type 0
@@ -54,7 +56,11 @@ module _ {T : Type 0} where
 
   -- the pass has no open turn
   abbrev pub IsIdle : Pass T → Type 0
-  IsIdle p = (m : ℕ) → m < length (records p) → (record_at p m).found ≡ None
+  IsIdle p = (m : ℕ) → (record_at p m).found ≡ None
+
+  -- the pass has no open turn but of the word m
+  abbrev pub IsIdleBut : ℕ → Pass T → Type 0
+  IsIdleBut m p = (k : ℕ) → k ≢ m → (record_at p k).found ≡ None
 
   -- the pass's records are as they were
   abbrev pub IsUnchanged : Pass T → Pass T → Type 0
@@ -63,7 +69,8 @@ module _ {T : Type 0} where
   -- the pass's record of the word m changes in this way, and the others stay
   abbrev pub ChangesAt : ℕ → (Record T → Record T → Type 0) → Pass T → Pass T → Type 0
   ChangesAt m change p p' =
-      (number_of p' ≡ number_of p) × (records p' ≡ slice_set (records p) m (record_at p' m)) × change (record_at p m) (record_at p' m)
+      (number_of p' ≡ number_of p) × (records p' ≡ slice_set (records p) m (record_at p' m))
+      × change (record_at p m) (record_at p' m)
 
   -- what is held is the pass's open turn at its word
   abbrev pub IsTurnOf : Pass T → Held T → Type 0
@@ -81,7 +88,8 @@ module _ {T : Type 0} where
   -- a pass before any turn, where these are the opening values
   abbrev pub IsFresh : List T → Pass T → Type 0
   IsFresh values p =
-      (length (records p) ≡ length values) × ((m : ℕ) (x : T) → slice_get values m ≡ Some x → record_at p m ≡ fresh (Some x))
+      (length (records p) ≡ length values) × ((m : ℕ) (x : T) → slice_get values m ≡ Some x
+      → record_at p m ≡ fresh (Some x))
 
 -- the values, eight places apart, so that no two of them, nor their words, share a line of the cache
 abbrev pub spaced : {T : Type 0} → T → List (Option T)

@@ -9,9 +9,8 @@ use Rattle.pif_model.specs.Word.{Word, word_of, free_word, held_by, take_word, r
 use Rattle.pif_quick.specs.declared.rule.Turn.{Turn}
 use Rattle.pif_quick.specs.declared.rule.Record.{Record}
 use Rattle.pif_quick.specs.declared.rule.View.{View}
-use Rattle.pif_quick.specs.declared.rule.Role.{Role}
 use Rattle.pif_quick.specs.declared.rule.Role.TheVariants.{Dealer, Seated, Spent}
-use Rattle.pif_quick.specs.Turns.{left_by, IsChain, turns_by, IsOlder, IsOpen, IsSound, fresh, with_open, Opens, closed}
+use Rattle.pif_quick.specs.Turns.{left_by, IsChain, turns_by, IsOlder, IsOpen, IsSound, fresh, with_open, closed}
 
 -- the number in a word's bits
 abbrev pub number_at : List ℕ → ℕ → ℕ
@@ -37,14 +36,16 @@ module _ {T : Type 0} where
     pub found_is : view.known.found ≡ Some found
 
   -- What holds of a seat whose turn is open: it owns the word, has the value, and knows all turns
-  pub record Holds (words : List ℕ) (homes : List (maybe.Option (Option T))) (log : List (Turn T)) (v : View T) (f : T) : Type 0 where
+  pub record Holds (words : List ℕ) (homes : List (maybe.Option (Option T))) (log : List (Turn T)) (v : View T)
+      (f : T) : Type 0 where
     pub owns : number_at words v.word ≡ v.pass
     pub out : get_elem? homes v.word ≡ some none
     pub knows : v.known.turns ≡ log
     pub left : left_by v.known.opening log ≡ Some f
 
   -- What holds of a seat of a pass at a word, of which the log has all closed turns
-  pub record IsSeat (starts : List (Option T)) (words : List ℕ) (homes : List (maybe.Option (Option T))) (log : List (Turn T)) (v : View T) : Type 0 where
+  pub record IsSeat (starts : List (Option T)) (words : List ℕ) (homes : List (maybe.Option (Option T)))
+      (log : List (Turn T)) (v : View T) : Type 0 where
     -- passes have numbers that fit a word, from 1
     pub numbered : (1 ≤ v.pass) × (v.pass < 2 ^ 30)
     pub opening : v.known.opening ≡ opening_at starts v.word
@@ -73,9 +74,11 @@ module _ {T : Type 0} where
     -- words have 32 bits
     pub narrow : (i : ℕ) → slice_index s.words i < 2 ^ 32
     pub seating : IsSeating starts s.views
-    pub seats : (j : ℕ) (v : View T) → get_elem? s.views j ≡ some v → v.role ≡ Seated → IsSeat starts s.words s.homes (logs v.word) v
+    pub seats : (j : ℕ) (v : View T) → get_elem? s.views j ≡ some v → v.role ≡ Seated
+        → IsSeat starts s.words s.homes (logs v.word) v
     -- a value at home is what the last turn left, and each other one is out with a seat
-    pub homes : (i : ℕ) → i < length s.homes → (get_elem? s.homes i ≡ some (some (left_by (opening_at starts i) (logs i)))) ⊎ IsOut s.views i
+    pub homes : (i : ℕ) → i < length s.homes
+        → (get_elem? s.homes i ≡ some (some (left_by (opening_at starts i) (logs i)))) ⊎ IsOut s.views i
     -- what a view has learnt of another pass is a prefix too
     pub beside : (j : ℕ) (v : View T) → get_elem? s.views j ≡ some v → IsOlder v.beside (logs v.word)
     -- who has no seat yet has made no turn
@@ -96,7 +99,15 @@ module _ {T : Type 0} where
 
   -- the seat that the dealer gives
   abbrev pub seat_from : View T → View T
-  seat_from d = record { role = Seated; pass = d.pass; word = d.word; starts = []; known = fresh (opening_at d.starts d.word); beside = [] }
+  seat_from d = record {
+    role = Seated;
+    pass = d.pass;
+    word = d.word;
+    starts = [];
+    known =
+        fresh (opening_at d.starts d.word);
+    beside = [];
+  }
 
   -- the closed turns of a seat, to be shown to another seat of its word
   abbrev pub note_of : View T → View T
@@ -151,12 +162,15 @@ module _ {T : Type 0} where
 
   -- Release the word, by a compare-exchange from one's number to 0
   abbrev pub Released : At T → Known T → ℕ → Known T → Type 0
-  Released st m found m' = IsWordStep (λ w. release_word w m.0.pass) found (exchanged_word st found) × Left st m found m'
+  Released st m found m' = IsWordStep (λ w. release_word w m.0.pass) found (exchanged_word st found)
+      × Left st m found m'
 
   -- Hand the word, which is marked, to a pass that waits, or free it where none does
   abbrev pub Handed : At T → Known T → ℕ → Known T → Type 0
   Handed st m found m' =
-      (found ≡ st.first → (word_of found ≡ mark_word (held_by m.0.pass)) × ((word_of (exchanged_word st found) ≡ free_word) ⊎ ((u : ℕ) × (word_of (exchanged_word st found) ≡ hand_word u))))
+      (found ≡ st.first → (word_of found ≡ mark_word (held_by m.0.pass))
+      × ((word_of (exchanged_word st found) ≡ free_word)
+      ⊎ ((u : ℕ) × (word_of (exchanged_word st found) ≡ hand_word u))))
       × (found ≢ st.first → exchanged_word st found ≡ found)
       × Left st m found m'
 

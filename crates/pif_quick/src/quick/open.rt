@@ -1,9 +1,9 @@
 //! New words, and their passes.
-ghost use Rattle.std.specs.Prelude.{◌≡◌, ℕ, ◌+◌, ◌*◌, ◌<◌, ◌≤◌, ◌^◌, [], ◌∷◌, ◌++◌, replicate, slice_get, vec_len, IfOk, OnOk};
+ghost use Rattle.std.specs.Prelude.{◌≡◌, ℕ, ◌+◌, ◌*◌, ◌<◌, ◌≤◌, ◌^◌, [], ◌∷◌, ◌++◌, replicate, slice_get, slice_index_or, All, vec_len, IfOk, OnOk};
 ghost use Rattle.pif_quick.specs.declared.quick.Pass.{Pass};
 ghost use Rattle.pif_quick.specs.Rule.{opening_at};
 ghost use Rattle.pif_quick.specs.Places.{dealer_at};
-ghost use Rattle.pif_quick.specs.Quick.{word_count, number_of, spaced, spread, IsDealtPass, IsPassOf, AreSound, IsFresh};
+ghost use Rattle.pif_quick.specs.Quick.{word_count, number_of, spaced, spread, IsDealtPass, IsPassOf, AreSound, IsIdle, IsFresh};
 
 use super::{Pass, Quick, SPACING};
 use crate::parking::Order;
@@ -132,9 +132,11 @@ impl<T: Drop> Quick<T> {
         requires values { 1 ≤ vec_len values }
         ensures words { IfOk result (λ r. word_count r.0 ≡ vec_len values) }
         ensures passes { IfOk result (λ r. vec_len r.1 ≡ passes) }
-        ensures own { IfOk result (λ r. (k : ℕ) (p : Pass T) → slice_get r.1.items k ≡ Some p → IsPassOf r.0 p) }
-        ensures sound { IfOk result (λ r. (k : ℕ) (p : Pass T) → slice_get r.1.items k ≡ Some p → AreSound p) }
-        ensures fresh { IfOk result (λ r. (k : ℕ) (p : Pass T) → slice_get r.1.items k ≡ Some p → (number_of p ≡ k + 1) × IsFresh values.items p) }
+        ensures own { IfOk result (λ r. All (IsPassOf r.0) r.1.items) }
+        ensures sound { IfOk result (λ r. All AreSound r.1.items) }
+        ensures fresh { IfOk result (λ r. All (IsFresh values.items) r.1.items) }
+        ensures idle { IfOk result (λ r. All IsIdle r.1.items) }
+        ensures numbered { IfOk result (λ r. (k : ℕ) (d : Pass T) → k < passes → number_of (slice_index_or r.1.items k d) ≡ k + 1) }
     {
         let (board, mut dealer, count) = lay_out(alloc, values)?;
         let passes = deal_all(alloc, &board.shared, &mut dealer, passes, count)?;

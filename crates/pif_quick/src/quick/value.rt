@@ -1,10 +1,10 @@
 //! The value that a pass holds.
 ghost use Rattle.std.specs.Prelude.{◌≡◌};
 ghost use Rattle.std.specs.Borrow.{sem};
-ghost use Rattle.pif_quick.specs.Quick.{held_value};
+ghost use Rattle.pif_quick.specs.Quick.{number_of, held_value, held_word};
 ghost use Rattle.pif_quick.specs.Lent.{LendsValue};
 
-use super::Held;
+use super::{Held, Pass};
 
 impl<T> Held<T> {
     /// The value.
@@ -20,5 +20,21 @@ impl<T> Held<T> {
         ensures value { result.now ≡ held_value self.old }
     {
         &mut self.value
+    }
+
+    /// The number of its word.
+    pub fn word(&self) -> usize
+        ensures { result ≡ held_word self.now }
+    {
+        self.word
+    }
+}
+
+impl<T> Pass<T> {
+    /// The pass's number, 1 to 64.
+    pub fn number(&self) -> u8
+        ensures { result ≡ number_of self.now }
+    {
+        self.number
     }
 }

@@ -9,11 +9,19 @@ compare_exchange-requires g c =
     let h = c.requires.place in
     let own = ap word_of c.from.ensures ∙ word_of-number c.args.pass h.numbered.1 in
     let marks = ap word_of c.from-marked.ensures ∙ (c.mark_word.ensures ∙ ap mark_word own) in
-    let to = subst (λ (b : ℕ). (word_of b ≡ free_word) ⊎ ((u : ℕ) × (word_of b ≡ hand_word u))) (sym c.from-new.ensures) c.handed_word.ensures in
-    (c.put_down.ensures.0 ∙ h.table, h.inside.0, hand_allowed _ _ _ _ h c.put_down.new.place _ c.put_down.ensures.1 c.requires.open_turn _ _ marks (omega arith) to _)
+    let to = subst (λ (b : ℕ). (word_of b ≡ free_word) ⊎ ((u : ℕ) × (word_of b ≡ hand_word u)))
+    (sym c.from-new.ensures) c.handed_word.ensures in (
+      c.put_down.ensures.0
+          ∙ h.table,
+      h.inside.0,
+      hand_allowed _ _ _ _ h c.put_down.new.place _ c.put_down.ensures.1
+          c.requires.open_turn _ _ marks (omega arith) to _,
+    )
 
 pub returns-then-compare_exchange-marked-clause-place : goal.returns-then-compare_exchange-marked-clause-place
 returns-then-compare_exchange-marked-clause-place g c =
     let h = c.requires.place in
-    let done = c.compare_exchange.ensures.2.2.given c.if-compare_exchange-marked.true _ (ap (λ m. m.1) c.put_down.ensures.1) in
-    closed_place _ _ _ _ h c.put_down.new.place _ c.put_down.ensures.1 c.requires.open_turn _ done _ (c.compare_exchange.ensures.0 ∙ (c.put_down.ensures.0 ∙ h.table)) refl
+    let done = c.compare_exchange.ensures.2.2.given c.if-compare_exchange-marked.true _
+    (ap (λ m. m.1) c.put_down.ensures.1) in
+    closed_place _ _ _ _ h c.put_down.new.place _ c.put_down.ensures.1 c.requires.open_turn _ done _
+    (c.compare_exchange.ensures.0 ∙ (c.put_down.ensures.0 ∙ h.table)) refl

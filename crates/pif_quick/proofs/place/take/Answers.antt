@@ -1,6 +1,9 @@
-use Rattle.std.proofs.Common.{rules, ◌∙◌, ap}
-use Rattle.pif_quick.proofs.PlaceSteps.{take_allowed, opened_value, free_quiet}
+use Rattle.pif_quick.proofs.PlaceSteps.{take_allowed}
 use Rattle.pif_quick.proofs.place.take.Goals as goal
 
 pub compare_exchange-found-requires : goal.compare_exchange-found-requires
-compare_exchange-found-requires g c = (c.requires.table, c.requires.inside.0, take_allowed _ _ _ _ c.requires _ c.from.ensures _)
+compare_exchange-found-requires g c = (
+  c.requires.table,
+  c.requires.inside.0,
+  take_allowed _ _ _ _ c.requires _ c.from.ensures _,
+)

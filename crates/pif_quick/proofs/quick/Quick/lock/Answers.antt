@@ -9,10 +9,16 @@ pub wait_for-value-requires : goal.wait_for-value-requires
 wait_for-value-requires g c = seat_of _ _ c.requires.own _ c.requires.word _ c.index_mut-place.ensures.value
 
 pub returns-clause-own : goal.returns-clause-own
-returns-clause-own g c = pass_after _ _ c.requires.own _ c.requires.word _ c.index_mut-place.ensures.value c.wait_for-value.new.place c.wait_for-value.ensures.place
+returns-clause-own g c =
+    pass_after _ _ c.requires.own _ c.requires.word _ c.index_mut-place.ensures.value c.wait_for-value.new.place
+    c.wait_for-value.ensures.place
 
 pub returns-clause-sound : goal.returns-clause-sound
-returns-clause-sound g c = sound_of _ _ (pass_after _ _ c.requires.own _ c.requires.word _ c.index_mut-place.ensures.value c.wait_for-value.new.place c.wait_for-value.ensures.place)
+returns-clause-sound g c =
+    sound_of _ _ (pass_after _ _ c.requires.own _ c.requires.word _ c.index_mut-place.ensures.value
+    c.wait_for-value.new.place c.wait_for-value.ensures.place)
 
 pub returns-clause-locked : goal.returns-clause-locked
-returns-clause-locked g c = locks _ _ c.requires.own _ c.requires.word _ c.index_mut-place.ensures.value c.wait_for-value.new.place _ c.wait_for-value.ensures.taken
+returns-clause-locked g c =
+    locks _ _ c.requires.own _ c.requires.word _ c.index_mut-place.ensures.value c.wait_for-value.new.place _
+    c.wait_for-value.ensures.taken

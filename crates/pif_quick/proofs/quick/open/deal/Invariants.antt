@@ -10,5 +10,6 @@ invariant-loop g l = record {
   dealer : l.dealer.me ≡ (dealer_at l.shelf.key.value.items (8 * l.counter) l.number, []);
   counted : vec_len l.places ≡ l.counter;
   room : l.count ≤ vec_capacity l.places;
-  places : (m : ℕ) (s : Seat (Option g.row.T.Denot) (View g.row.T.Denot)) → slice_get l.places.items m ≡ Some s → IsFreshPlace l.shelf.key.value.items l.shelf.table_id (8 * m) l.number s;
+  places : (m : ℕ) (s : Seat (Option g.row.T.Denot) (View g.row.T.Denot)) → slice_get l.places.items m ≡ Some s
+      → IsFreshPlace l.shelf.key.value.items l.shelf.table_id (8 * m) l.number s;
 }

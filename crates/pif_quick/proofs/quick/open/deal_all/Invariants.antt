@@ -10,5 +10,6 @@ invariant-loop-index g l = record {
   dealer : l.dealer.me ≡ (dealer_at l.shelf.key.value.items 0 (l.index + 1), []);
   counted : vec_len l.dealt ≡ l.index;
   room : l.passes ≤ vec_capacity l.dealt;
-  dealt : (k : ℕ) (p : Pass g.row.T.Denot) → slice_get l.dealt.items k ≡ Some p → IsDealtPass l.shelf.key.value.items l.shelf.table_id l.count (k + 1) p;
+  dealt : (k : ℕ) (p : Pass g.row.T.Denot) → slice_get l.dealt.items k ≡ Some p
+      → IsDealtPass l.shelf.key.value.items l.shelf.table_id l.count (k + 1) p;
 }

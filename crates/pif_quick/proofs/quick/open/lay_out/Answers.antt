@@ -1,4 +1,4 @@
-use Rattle.std.proofs.Common.{◌≡◌, ℕ, ◌*◌, ◌/◌, List, length, get_or, vec_len, Option, arith, ap, ◌∙◌, sym}
+use Rattle.std.proofs.Common.{◌≡◌, ℕ, ◌*◌, List, length, get_or, Option, arith, ap, ◌∙◌}
 use Rattle.std.proofs.lemmas.List.{length-replicate}
 use Rattle.pif_quick.proofs.Opening.{length-spread, starts_well, zeros}
 use Rattle.pif_quick.proofs.quick.open.lay_out.Goals as goal
@@ -6,14 +6,17 @@ use Rattle.pif_quick.proofs.quick.open.lay_out.Goals as goal
 pub new-requires : goal.new-requires
 new-requires g c =
     let words = c.as_slice.ensures.value ∙ c.in_ok-words.ensures in
-    let long : length c.as_slice.result.now ≡ c.len.result = ap (λ (l : List ℕ). length l) words ∙ length-replicate c.len.result 0 in
+    let long : length c.as_slice.result.now ≡ c.len.result = ap (λ (l : List ℕ). length l) words
+    ∙ length-replicate c.len.result 0 in
     let o = c.in_ok-slots.slots.ok.0 in
-    starts_well c.of-key.result.value.items c.in_ok-slots.slots.items c.as_slice.result.now (ap (λ v. v.items) c.of-key.ensures)
+    starts_well c.of-key.result.value.items c.in_ok-slots.slots.items c.as_slice.result.now
+    (ap (λ v. v.items) c.of-key.ensures)
     (omega (arith, long, c.len.ensures, o)) (λ i. ap (λ (l : List ℕ). get_or l i 0) words ∙ zeros c.len.result i)
 
 pub returns-in-Ok-clause-count : goal.returns-in-Ok-clause-count
 returns-in-Ok-clause-count g c =
-    let total : length c.in_ok-slots.slots.items ≡ 8 * length c.args.values.items = ap (λ (l : List (Option g.row.T.Denot)). length l) c.in_ok-slots.ensures ∙ length-spread c.args.values.items in
+    let total : length c.in_ok-slots.slots.items ≡ 8 * length c.args.values.items =
+    ap (λ (l : List (Option g.row.T.Denot)). length l) c.in_ok-slots.ensures ∙ length-spread c.args.values.items in
     let o = c.in_ok-slots.slots.ok.0 in
     let v = c.args.values.ok.0 in
     let r = c.len-count.ensures in
@@ -22,9 +25,11 @@ returns-in-Ok-clause-count g c =
 
 pub returns-in-Ok-clause-sized : goal.returns-in-Ok-clause-sized
 returns-in-Ok-clause-sized g c =
-    let total : length c.in_ok-slots.slots.items ≡ 8 * length c.args.values.items = ap (λ (l : List (Option g.row.T.Denot)). length l) c.in_ok-slots.ensures ∙ length-spread c.args.values.items in
+    let total : length c.in_ok-slots.slots.items ≡ 8 * length c.args.values.items =
+    ap (λ (l : List (Option g.row.T.Denot)). length l) c.in_ok-slots.ensures ∙ length-spread c.args.values.items in
     let words = c.as_slice.ensures.value ∙ c.in_ok-words.ensures in
-    let long : length c.as_slice.result.now ≡ c.len.result = ap (λ (l : List ℕ). length l) words ∙ length-replicate c.len.result 0 in
+    let long : length c.as_slice.result.now ≡ c.len.result = ap (λ (l : List ℕ). length l) words
+    ∙ length-replicate c.len.result 0 in
     let o = c.in_ok-slots.slots.ok.0 in
     let r = c.len-count.ensures in
     let l = c.len.ensures in

@@ -1,4 +1,4 @@
-use Rattle.std.proofs.Common.{◌≡◌, ◌+◌, ◌-◌, ◌∷◌, ◌++◌, replicate, Some, None}
+use Rattle.std.proofs.Common.{◌≡◌, ◌-◌, ◌∷◌, ◌++◌, replicate, Some, None}
 use Rattle.pif_quick.proofs.quick.open.push_spaced.Given as goal
 
 abbrev pub invariant-loop : goal.invariant-loop
