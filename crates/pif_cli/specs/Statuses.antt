@@ -3,8 +3,8 @@ use Rattle.std.specs.Prelude.{ℕ, Result, Ok, Err}
 use Rattle.pif_scripts.specs.declared.faults.CliFault.{CliFault}
 use Rattle.pif_scripts.specs.declared.faults.CliFault.TheVariants.{Read, Write, NoMemory, Script, Differs}
 
--- the status of a fault: 2 for one of the script or trace, 3 where a read or a write failed, 4 for want of memory, 5 for a
--- difference
+-- the status of a fault: 2 for one of the script or trace, 3 where a read or a write failed, 4 for want of memory, 5
+-- for a difference
 abbrev pub fault_status : CliFault → ℕ
 fault_status (Script line cause) = 2
 fault_status Read = 3

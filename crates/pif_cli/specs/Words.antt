@@ -81,8 +81,8 @@ EndsBy (k ∷ more) job before after held holds errors_held errors_hold status =
     Keeps before after
     × (((why : ErrorKind) × IsAmong why (k ∷ more) × RefusedFor why held holds errors_held errors_hold status) ⊎ HadNoMemory held holds errors_held errors_hold status)
 
--- the words of the program could not be had, for this reason: for want of memory, or as one of them is no text, which is
--- said, or as they cannot be read
+-- the words of the program could not be had, for this reason: for want of memory, or as one of them is no text, which
+-- is said, or as they cannot be read
 abbrev pub HadNoWords : IoErrorKind → (errors_held errors_hold : Option (List ℕ)) → ℕ → Type 0
 HadNoWords kind errors_held errors_hold status =
     ((kind ≡ OutOfMemory) × (status ≡ 4) × Keeps errors_held errors_hold)
@@ -91,7 +91,8 @@ HadNoWords kind errors_held errors_hold status =
 
 -- a program of these words, or whose words could not be had, for a reason, ends so; without words nothing is read, and
 -- nothing is written to the output
-abbrev pub EndsOver : Result (List (List ℕ)) IoErrorKind → (before after held holds errors_held errors_hold : Option (List ℕ)) → ℕ → Type 0
+abbrev pub EndsOver : Result (List (List ℕ)) IoErrorKind
+    → (before after held holds errors_held errors_hold : Option (List ℕ)) → ℕ → Type 0
 EndsOver (Ok words) before after held holds errors_held errors_hold status =
     EndsBy (refusals_of words) (job_of words) before after held holds errors_held errors_hold status
 EndsOver (Err kind) before after held holds errors_held errors_hold status =

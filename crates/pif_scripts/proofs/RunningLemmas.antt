@@ -47,7 +47,8 @@ unfolding goes_on
 goes_on-last i t s h = let n : 23 - i ≡ 0 = omega arith in ap (λ k. goes_on k t s) n
 
 -- each command but `limits` is answered
-pub answered-later : (c : Command) (s : Table) → ((t m v n : ℕ) → c ≡ command.Limits t m v n → ⊥) → IsAnswer (answer_or_fault (obeyed c s))
+pub answered-later : (c : Command) (s : Table) → ((t m v n : ℕ) → c ≡ command.Limits t m v n → ⊥)
+    → IsAnswer (answer_or_fault (obeyed c s))
 unfolding obeyed
 answered-later (command.Limits t m v n) s other = absurd (other t m v n refl)
 answered-later (command.Thread p) s other = tt

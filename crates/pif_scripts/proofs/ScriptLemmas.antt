@@ -125,25 +125,30 @@ module _ {S : Type 0} (hearing : Hearing S) where
 
   -- bytes after bytes that had no fault
   pub fed-append : (xs ys : List ℕ) (s t : Scan S) → (fed hearing s xs).stands ≡ Ok t
-      → ((fed hearing s (xs ++ ys)).text ≡ (fed hearing s xs).text ++ (fed hearing t ys).text) × ((fed hearing s (xs ++ ys)).stands ≡ (fed hearing t ys).stands)
+      → ((fed hearing s (xs ++ ys)).text ≡ (fed hearing s xs).text ++ (fed hearing t ys).text)
+      × ((fed hearing s (xs ++ ys)).stands ≡ (fed hearing t ys).stands)
   fed-append [] ys s t e =
       let n = fed-nil s in
       let same : s ≡ t = cc in
-      (ap (λ u. (fed hearing u ys).text) same ∙ ap (λ l. l ++ (fed hearing t ys).text) (sym n.0), ap (λ u. (fed hearing u ys).stands) same)
+      let text = ap (λ u. (fed hearing u ys).text) same in
+      (text ∙ ap (λ l. l ++ (fed hearing t ys).text) (sym n.0), ap (λ u. (fed hearing u ys).stands) same)
   fed-append (x ∷ xs) ys s t e =
       elim (by_cases (byte_taken hearing s x)) [
         | inl r ↦
             let one = fed-ok s x xs r.0 r.1 in
             let all = fed-ok s x (xs ++ ys) r.0 r.1 in
             let rest = fed-append xs ys r.0.1 t (sym one.1 ∙ e) in (
-              all.0 ∙ ap (λ l. r.0.0 ++ l) rest.0 ∙ sym (append_assoc r.0.0 (fed hearing r.0.1 xs).text (fed hearing t ys).text) ∙ ap (λ l. l ++ (fed hearing t ys).text) (sym one.0),
+              all.0 ∙ ap (λ l. r.0.0 ++ l) rest.0
+                  ∙ sym (append_assoc r.0.0 (fed hearing r.0.1 xs).text (fed hearing t ys).text)
+                  ∙ ap (λ l. l ++ (fed hearing t ys).text) (sym one.0),
               all.1 ∙ rest.1,
             )
         | inr r ↦ let one = fed-err s x xs r.0 r.1 in let bad : Err r.0 ≡ Ok t = sym one.1 ∙ e in (cc, cc)
       ]
 
   -- while nobody answers, nothing was told
-  pub fed-unheard : (xs : List ℕ) (s t : Scan S) → (fed hearing s xs).stands ≡ Ok t → t.listener ≡ None → (s.listener ≡ None) × ((fed hearing s xs).text ≡ [])
+  pub fed-unheard : (xs : List ℕ) (s t : Scan S) → (fed hearing s xs).stands ≡ Ok t → t.listener ≡ None
+      → (s.listener ≡ None) × ((fed hearing s xs).text ≡ [])
   fed-unheard [] s t e n =
       let k = fed-nil s in
       let same : s ≡ t = cc in
@@ -189,7 +194,8 @@ module _ {S : Type 0} (hearing : Hearing S) where
   pub Feeds-end : (s : Scan S) (bs old : List ℕ) (t : Scan S) (rest out : List ℕ) (x : Unit {0}) → Feeding s bs old t rest out → rest ≡ [] → Feeds hearing s bs old out t (Ok x)
   Feeds-end s bs old t rest out x f e =
       let whole = f.split ∙ ap (λ l. f.front ++ l) e ∙ append-nil f.front in
-      (ap (λ l. (fed hearing s l).stands) whole ∙ f.stands, f.written ∙ ap (λ l. old ++ (fed hearing s l).text) (sym whole))
+      let text = ap (λ l. old ++ (fed hearing s l).text) (sym whole) in
+      (ap (λ l. (fed hearing s l).stands) whole ∙ f.stands, f.written ∙ text)
 
   pub Feeds-stop : (s : Scan S) (bs old : List ℕ) (t : Scan S) (b : ℕ) (rest out new : List ℕ) (u : Scan S) (y : Stop)
       → Feeding s bs old t (b ∷ rest) out → Takes hearing t b out new u (Err y) → Feeds hearing s bs old new u (Err y)

@@ -27,8 +27,8 @@ pub record Hearing (S : Type 0) : Type 0 where
   -- what is said at the end, where the next line would have this number, or why the end is a fault
   pub closed : ℕ → Result (List ℕ) Cause
 
--- a line makes a listener, for all that its own bytes say: it is no fault, and it is not passed over; whether it differs
--- is known once there is a listener
+-- a line makes a listener, for all that its own bytes say: it is no fault, and it is not passed over; whether it
+-- differs is known once there is a listener
 abbrev pub NeedsListener : {S : Type 0} → FirstMeaning S → Type 0
 NeedsListener (Ok (Some m)) = Unit {0}
 NeedsListener (Ok None) = ⊥
@@ -153,7 +153,8 @@ NeedsAt h s b = (s.listener ≡ None) × NeedsListener (h.opened s.number s.line
 -- one of these bytes does, and those before it have no fault
 abbrev pub NeedsIn : {S : Type 0} → Hearing S → Scan S → List ℕ → Type 0
 NeedsIn {S = S} h s bs =
-    (front : List ℕ) × (t : Scan S) × (b : ℕ) × (rest : List ℕ) × (bs ≡ front ++ b ∷ rest) × ((fed h s front).stands ≡ Ok t) × NeedsAt h t b
+    (front : List ℕ) × (t : Scan S) × (b : ℕ) × (rest : List ℕ) × (bs ≡ front ++ b ∷ rest)
+    × ((fed h s front).stands ≡ Ok t) × NeedsAt h t b
 
 -- a byte was answered so, and left the script at t
 abbrev pub Takes : {S : Type 0} → Hearing S → Scan S → ℕ → (old new : List ℕ) → Scan S → Result (Unit {0}) Stop → Type 0

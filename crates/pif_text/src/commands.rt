@@ -1,7 +1,7 @@
 use pif_types::{Kind, MutexId, Request, Tid};
 
 /// What a line of a script asks for. Threads and mutexes are numbered from 1.
-#[derive(Clone, Copy, Debug, PartialEq, Eq)]
+#[derive(Clone, Copy, PartialEq, Eq)]
 pub enum Command {
     /// `limits T M C S`: the most threads, mutexes, condition variables, and signals and broadcasts on one variable,
     /// of which any may be out of range.

@@ -1,7 +1,7 @@
 use pif_types::{AddFault, Answer, MutexId, Prio, Refusal, Tid};
 
 /// What a command is answered.
-#[derive(Clone, Copy, Debug, PartialEq, Eq)]
+#[derive(Clone, Copy, PartialEq, Eq)]
 pub enum Reply {
     /// `ok`: the limits are taken.
     Done,

@@ -48,7 +48,7 @@ fn lines_of_each_command_are_read(rt: HostRuntime) -> Result<(), Fail> {
         (b"pick", Command::Pick),
     ];
     for (line, command) in lines {
-        assert_eq!(rt; command_of(line), Some(command));
+        assert!(rt; command_of(line) == Some(command), "{line:?}");
     }
     number_reads_back();
     Ok(())
@@ -65,6 +65,7 @@ fn other_lines_are_no_command(rt: HostRuntime) -> Result<(), Fail> {
         b"pick t1",
         b"go",
         b"go  t1",
+        b"go\tt1",
         b"go t0",
         b"go t01",
         b"go t4294967296",
@@ -93,7 +94,7 @@ fn other_lines_are_no_command(rt: HostRuntime) -> Result<(), Fail> {
         b"unlock m1",
     ];
     for line in lines {
-        assert_eq!(rt; command_of(line), None);
+        assert!(rt; command_of(line).is_none(), "{line:?}");
     }
     Ok(())
 }

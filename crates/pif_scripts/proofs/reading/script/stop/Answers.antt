@@ -10,8 +10,13 @@ pub returns-in-Err : goal.returns-in-Err
 returns-in-Err g c =
     let told : c.match-ending.text.items ≡ ending_text c.args.end.line c.args.end.ending =
     elim c.match-ending.branch [
-      | in-Fault w ↦ rw (w.text-is, w.in-Fault.is) (w.fault_text.ensures.written ∙ ap (λ l. l ++ fault_of c.args.end.line w.in-Fault.cause) c.new-text.ensures)
-      | in-Differs w ↦ rw (w.text-is, w.in-Differs.is) (w.differs_text.ensures.written ∙ ap (λ l. l ++ differs_of c.args.end.line w.in-Differs.reply) c.new-text.ensures)
+      | in-Fault w ↦
+          let line = fault_of c.args.end.line w.in-Fault.cause in
+          rw (w.text-is, w.in-Fault.is) (w.fault_text.ensures.written ∙ ap (λ l. l ++ line) c.new-text.ensures)
+      | in-Differs w ↦
+          let line = differs_of c.args.end.line w.in-Differs.reply in
+          rw (w.text-is, w.in-Differs.is) (w.differs_text.ensures.written ∙ ap (λ l. l ++ line) c.new-text.ensures)
     ] in
     let said = c.append.ensures ∙ ap (λ l. c.args.output.now.items ++ l) (c.as_slice.ensures.value ∙ told) in
-    Stops-unwritten _ _ _ _ c.append.new.output.items _ c.args.end c.in-Err.failed c.as_slice-2.ensures.value c.push.ensures.items said c.in-Err.ensures
+    Stops-unwritten _ _ _ _ c.append.new.output.items _ c.args.end c.in-Err.failed c.as_slice-2.ensures.value
+    c.push.ensures.items said c.in-Err.ensures

@@ -16,7 +16,8 @@ returns-in_err-take-clause-answer g c =
 
 pub loop-byte-init : goal.loop-byte-init
 loop-byte-init g c =
-    (Feeding-start g.L.Listener.hearing (scan_of c.args.self.now) c.args.bytes.now c.args.output.now.items, omega arith, omega arith)
+    let start = Feeding-start g.L.Listener.hearing (scan_of c.args.self.now) c.args.bytes.now c.args.output.now.items in
+    (start, omega arith, omega arith)
 
 pub loop-byte-preserved : goal.loop-byte-preserved
 loop-byte-preserved g c =
