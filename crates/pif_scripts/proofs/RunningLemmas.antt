@@ -3,11 +3,11 @@ use Rattle.std.proofs.Common.{◌≡◌, ℕ, ◌+◌, ◌-◌, ◌<◌, ◌≤�
 use Rattle.pif_model.specs.declared.events.Event.TheVariants.{Go}
 use Rattle.pif_model.specs.declared.events.Seen.{Seen}
 use Rattle.pif_model.specs.declared.events.Seen.TheVariants.{Begun, Went, Waits, Answered, Refused}
-use Rattle.pif_model.specs.Table.{Table}
+use Rattle.pif_model.specs.Table.{Table, new_table}
 use Rattle.pif_model.specs.Lines.{Outcome, event_outcome, goes_on}
 use Rattle.pif_text.specs.declared.commands.Command.{Command}
 use Rattle.pif_text.specs.declared.commands.Command.TheVariants as command
-use Rattle.pif_scripts.specs.Running.{answer_or_fault, finished, IsAnswer, obeyed}
+use Rattle.pif_scripts.specs.Running.{answer_or_fault, default_limits, finished, first_answer, IsAnswer, obeyed}
 
 -- it went, and goes on
 pub goes_on-went : (more t : ℕ) (s : Table) → (event_outcome (Go t) s).seen ≡ Went → goes_on (suc more) t s ≡ goes_on more t (event_outcome (Go t) s).after
@@ -45,6 +45,21 @@ goes_on-turn i t s u h e f =
 pub goes_on-last : (i t : ℕ) (s : Table) → 23 ≤ i → goes_on (23 - i) t s ≡ event_outcome (Go t) s
 unfolding goes_on
 goes_on-last i t s h = let n : 23 - i ≡ 0 = omega arith in ap (λ k. goes_on k t s) n
+
+-- the answer to a first command that isn't `limits` is its answer under the default limits
+pub first_answer-later : (c : Command) → ((t m v n : ℕ) → c ≡ command.Limits t m v n → ⊥)
+    → first_answer c ≡ answer_or_fault (obeyed c (new_table default_limits))
+unfolding first_answer
+first_answer-later (command.Limits t m v n) other = absurd (other t m v n refl)
+first_answer-later (command.Thread p) other = refl
+first_answer-later (command.Mutex k) other = refl
+first_answer-later (command.Begin t q) other = refl
+first_answer-later (command.Go t) other = refl
+first_answer-later (command.Call t q) other = refl
+first_answer-later (command.Finish t) other = refl
+first_answer-later (command.Word m) other = refl
+first_answer-later (command.Prio t) other = refl
+first_answer-later command.Pick other = refl
 
 -- each command but `limits` is answered
 pub answered-later : (c : Command) (s : Table) → ((t m v n : ℕ) → c ≡ command.Limits t m v n → ⊥)
