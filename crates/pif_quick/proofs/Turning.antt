@@ -11,7 +11,7 @@ use Rattle.pif_quick.specs.declared.rule.Record.{Record}
 use Rattle.pif_quick.specs.declared.rule.View.{View}
 use Rattle.pif_quick.specs.declared.rule.Role.TheVariants.{Seated}
 use Rattle.pif_quick.specs.Turns.{left_by, IsChain, turns_by, IsOlder, IsSound, with_open, closed, closed_from}
-use Rattle.pif_quick.specs.Rule.{number_at, opening_at, IsOut, IsSeat, HasOneHolder, with_record}
+use Rattle.pif_quick.specs.Rule.{number_at, opening_at, IsOut, IsSeat, HasOneHolder, OneHolds, with_record}
 use Rattle.pif_quick.proofs.TurnLists.{turns_by-others, turns_by-one, turns_by-other, chain-older, left_by-some, older-more, sound-opened, sound-closed, closed-is}
 use Rattle.pif_quick.proofs.OneStep.{Homes, Board, seat_quiet, Keeps, one_step}
 
@@ -269,3 +269,10 @@ module _ {T : Type 0} where
             set s.views id told;
       }
       rewords = one_step starts s r id v at seated n s.homes [] told rewords_with
+
+  -- two seats whose turns of one word are open have one number, which stands in the word
+  pub one_holds : (starts : List (Option T)) (s : Board T) (r : HasOneHolder starts s) → OneHolds s.views
+  one_holds starts s r j k v w ev ew rv rw same ov ow =
+      let a = (r.seats j v ev rv).holds ov.0 ov.1 in
+      let b = (r.seats k w ew rw).holds ow.0 ow.1 in
+      r.seating.unique j k v w ev ew rv rw (sym a.owns ∙ (ap (number_at s.words) same ∙ b.owns)) same

@@ -85,6 +85,11 @@ module _ {T : Type 0} where
     pub undealt : (j : ℕ) (d : View T) → get_elem? s.views j ≡ some d → d.role ≡ Dealer
         → (pass word : ℕ) → ¬ IsDealt d pass word → turns_by pass (logs word) ≡ []
 
+  -- two seats whose turns of one word are open are one seat
+  abbrev pub OneHolds : List (View T) → Type 0
+  OneHolds views = (j k : ℕ) (v w : View T) → get_elem? views j ≡ some v → get_elem? views k ≡ some w
+      → v.role ≡ Seated → w.role ≡ Seated → v.word ≡ w.word → IsOpen v.known → IsOpen w.known → j ≡ k
+
   -- the view of a seat that is given up, and of what a join leaves
   abbrev pub spent_view : View T
   spent_view = record { role = Spent; pass = 0; word = 0; starts = []; known = fresh None; beside = [] }

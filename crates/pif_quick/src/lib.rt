@@ -29,11 +29,13 @@
 //! know, in `specs/Quick.antt`.
 #![tactic(auto)]
 
+mod laws;
 mod parking;
 mod place;
 mod quick;
 mod rule;
 
+pub use laws::no_word_has_two_holders;
 pub use quick::{Held, Pass, Quick};
 
 #[cfg(test)]
