@@ -11,9 +11,9 @@ use Rattle.pif_scripts.specs.declared.faults.CliFault.TheVariants as fault
 use Rattle.pif_scripts.specs.declared.reading.ending.Ending.{Ending}
 use Rattle.pif_scripts.specs.declared.reading.ending.Ending.TheVariants.{Fault, Differs}
 use Rattle.pif_scripts.specs.declared.reading.ending.End.{End}
-use Rattle.pif_scripts.specs.Scripts.{Hearing, FirstMeaning, Meaning, Answered, Scan, start, byte_taken, fed, answered, answered_by, answered_first, answered_later, after_line, end_at, with_byte, at_end, ended_by}
+use Rattle.pif_scripts.specs.Scripts.{Hearing, FirstMeaning, Meaning, Answered, Scan, start, byte_taken, fed, line_answer, answered_by, answered_first, answered_later, after_line, end_at, with_byte, at_end, ended_by}
 use Rattle.pif_scripts.specs.Runs.{RunsFrom}
-use Rattle.pif_scripts.specs.Running.{Answer, RunsTo, script, first_line_meaning, line_meaning, first_answer, answer_or_fault, obeyed, told, made_by}
+use Rattle.pif_scripts.specs.Running.{Answer, RunsTo, script, first_line_meaning, line_meaning, first_answer, answer_or_fault, command_answer, answer_line, made_by}
 use Rattle.pif_scripts.proofs.ScriptLemmas.{by_cases, fed-nil, fed-ok, fed-err}
 
 -- an end that is a fault
@@ -23,8 +23,8 @@ IsFault e = (r : Reply) → e ≡ Differs r → ⊥
 fault-is : (c : Cause) → IsFault (Fault c)
 fault-is c r e = cc
 
-module _ {S : Type 0} (hearing : Hearing S) (first : (number : ℕ) (line : List ℕ) (e : Ending) → hearing.opened number line ≡ Err e → IsFault e)
-    (later : (s : S) (line : List ℕ) (e : Ending) → hearing.heard s line ≡ Err e → IsFault e) where
+module _ {S : Type 0} (hearing : Hearing S) (first : (number : ℕ) (line : List ℕ) (e : Ending) → hearing.first_meaning number line ≡ Err e → IsFault e)
+    (later : (s : S) (line : List ℕ) (e : Ending) → hearing.meaning s line ≡ Err e → IsFault e) where
   first-fault : (m : FirstMeaning S) (e : Ending) → answered_first m ≡ Err e → m ≡ Err e
   first-fault (Ok (Some m)) e p = cc
   first-fault (Ok None) e p = cc
@@ -35,8 +35,8 @@ module _ {S : Type 0} (hearing : Hearing S) (first : (number : ℕ) (line : List
   later-fault (Err x) e p = let q : x ≡ e = cc in ap Err q
 
   answered-fault : (l : Option S) (number : ℕ) (line : List ℕ) (e : Ending) → answered_by hearing l number line ≡ Err e → IsFault e
-  answered-fault None number line e p = first number line e (first-fault (hearing.opened number line) e p)
-  answered-fault (Some l) number line e p = later l line e (later-fault (hearing.heard l line) e p)
+  answered-fault None number line e p = first number line e (first-fault (hearing.first_meaning number line) e p)
+  answered-fault (Some l) number line e p = later l line e (later-fault (hearing.meaning l line) e p)
 
   after_line-fault : (s : Scan S) (m : Answered S) (x : End) → ((e : Ending) → m ≡ Err e → IsFault e) → after_line s m ≡ Err x → IsFault x.ending
   after_line-fault s (Ok m) x u p = cc
@@ -51,7 +51,7 @@ module _ {S : Type 0} (hearing : Hearing S) (first : (number : ℕ) (line : List
 
   byte_taken-fault : (s : Scan S) (b : ℕ) (e : End) → byte_taken hearing s b ≡ Err e → IsFault e.ending
   unfolding byte_taken
-  byte_taken-fault s b e p = fault-by _ _ _ s b (answered hearing s) e (answered-fault s.listener s.number s.line) p
+  byte_taken-fault s b e p = fault-by _ _ _ s b (line_answer hearing s) e (answered-fault s.listener s.number s.line) p
 
   fed-fault : (bs : List ℕ) (s : Scan S) (e : End) → (fed hearing s bs).stands ≡ Err e → IsFault e.ending
   fed-fault [] s e p = let n = fed-nil hearing s in let bad : Ok s ≡ Err e = sym n.1 ∙ p in cc
@@ -75,7 +75,7 @@ module _ {S : Type 0} (hearing : Hearing S) (first : (number : ℕ) (line : List
 
   ended-by : (stands : Result (Scan S) End) (e : End) → ((x : End) → stands ≡ Err x → IsFault x.ending) → ended_by hearing stands ≡ Err e → IsFault e.ending
   ended-by (Err x) e u p = let q : x ≡ e = cc in u e (ap Err q)
-  ended-by (Ok s) e u p = closed-by (length s.line == 0) s (hearing.closed s.number) e p
+  ended-by (Ok s) e u p = closed-by (length s.line == 0) s (hearing.end_text s.number) e p
 
   -- bytes that end a script end it with a fault
   pub ends-with_fault : (bs : List ℕ) (s : Scan S) (line : ℕ) (r : Reply) → ended_by hearing (fed hearing s bs).stands ≡ Err (record { line = line; ending = Differs r }) → ⊥
@@ -83,9 +83,9 @@ module _ {S : Type 0} (hearing : Hearing S) (first : (number : ℕ) (line : List
 
 -- ---- scripts
 
-told-fault : (a : Result Answer Cause) (e : Ending) → told a ≡ Err e → IsFault e
-told-fault (Ok a) e p = cc
-told-fault (Err c) e p = let q : Fault c ≡ e = cc in subst IsFault q (fault-is c)
+answer_line-fault : (a : Result Answer Cause) (e : Ending) → answer_line a ≡ Err e → IsFault e
+answer_line-fault (Ok a) e p = cc
+answer_line-fault (Err c) e p = let q : Fault c ≡ e = cc in subst IsFault q (fault-is c)
 
 made-fault : (m : Meaning Table) (e : Ending) → made_by m ≡ Err e → m ≡ Err e
 made-fault (Ok m) e p = cc
@@ -95,14 +95,14 @@ no_command-fault : (e : Ending) → Fault NoCommand ≡ e → IsFault e
 no_command-fault e p = subst IsFault p (fault-is NoCommand)
 
 first_line-by : (o : Option Command) (e : Ending)
-    → ◌≡◌ {A = FirstMeaning Table} (elim o [ None ↦ Err (Fault NoCommand) | Some c ↦ made_by (told (first_answer c)) ]) (Err e) → IsFault e
+    → ◌≡◌ {A = FirstMeaning Table} (elim o [ None ↦ Err (Fault NoCommand) | Some c ↦ made_by (answer_line (first_answer c)) ]) (Err e) → IsFault e
 first_line-by None e p = no_command-fault e (cc)
-first_line-by (Some c) e p = told-fault (first_answer c) e (made-fault (told (first_answer c)) e p)
+first_line-by (Some c) e p = answer_line-fault (first_answer c) e (made-fault (answer_line (first_answer c)) e p)
 
 line-by : (o : Option Command) (s : Table) (e : Ending)
-    → ◌≡◌ {A = Meaning Table} (elim o [ None ↦ Err (Fault NoCommand) | Some c ↦ told (answer_or_fault (obeyed c s)) ]) (Err e) → IsFault e
+    → ◌≡◌ {A = Meaning Table} (elim o [ None ↦ Err (Fault NoCommand) | Some c ↦ answer_line (answer_or_fault (command_answer c s)) ]) (Err e) → IsFault e
 line-by None s e p = no_command-fault e (cc)
-line-by (Some c) s e p = told-fault (answer_or_fault (obeyed c s)) e p
+line-by (Some c) s e p = answer_line-fault (answer_or_fault (command_answer c s)) e p
 
 first_line-fault : (line : List ℕ) (e : Ending) → first_line_meaning line ≡ Err e → IsFault e
 unfolding first_line_meaning

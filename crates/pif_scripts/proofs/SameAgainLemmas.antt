@@ -27,8 +27,8 @@ use Rattle.pif_scripts.specs.Scripts.{Hearing, FirstMeaning, Meaning, Scan, fed,
 use Rattle.pif_scripts.specs.Runs.{last_text}
 use Rattle.pif_types.specs.declared.requests.Kind.{Kind}
 use Rattle.pif_types.specs.declared.requests.Request.{Request}
-use Rattle.pif_scripts.specs.Running.{Answer, answer_or_fault, obeyed, first_answer, limits_in, are_limits, reply_of_seen, made_by}
-use Rattle.pif_scripts.specs.Traces.{if_traced, traced_in, compared, second_line_meaning, traced_meaning, trace_hearing, trace_end, verdict, entry_text, entry_line, limits_text, front_lines, trace, IsEntryWritten, IsHistory}
+use Rattle.pif_scripts.specs.Running.{Answer, answer_or_fault, command_answer, first_answer, limits_in, are_limits, reply_of_seen, made_by}
+use Rattle.pif_scripts.specs.Traces.{if_traced, traced_in, comparison, second_line_meaning, traced_meaning, trace_hearing, trace_end, verdict, entry_text, entry_line, limits_text, front_lines, trace, IsEntryWritten, IsHistory}
 use Rattle.pif_scripts.proofs.ScriptLemmas.{byte_taken-byte, byte_taken-end, fed-ok, fed-nil}
 
 -- ---- whole lines
@@ -72,32 +72,32 @@ unfolding traced_in
 traced_back c r p e = rw (recorded-parts c r p, command_back c p, e) refl
 
 -- the answer that was written is the one that is given
-compared_back : (r : Reply) (after : Table) → ◌≡◌ {A = Meaning Table} (compared (text_of r) (Ok (r, after))) (Ok ([], after))
-compared_back r after = by-test (bytes_eq (text_of r) (text_of r)) (same_bytes (text_of r))
+comparison_back : (r : Reply) (after : Table) → ◌≡◌ {A = Meaning Table} (comparison (text_of r) (Ok (r, after))) (Ok ([], after))
+comparison_back r after = by-test (bytes_eq (text_of r) (text_of r)) (same_bytes (text_of r))
   where
     by-test : (b : Bool) → b ≡ true → ◌≡◌ {A = Meaning Table} (cond b (Ok ([], after)) (Err (Differs r))) (Ok ([], after))
     by-test true e = refl
     by-test false e = absurd (false≢true e)
 
-given_back : (o : Option Answer) (r : Reply) (after : Table) → o ≡ Some (r, after) → compared (text_of r) (answer_or_fault o) ≡ Ok ([], after)
-given_back o r after e = subst (λ x. compared (text_of r) (answer_or_fault x) ≡ Ok ([], after)) (sym e) (compared_back r after)
+given_back : (o : Option Answer) (r : Reply) (after : Table) → o ≡ Some (r, after) → comparison (text_of r) (answer_or_fault o) ≡ Ok ([], after)
+given_back o r after e = subst (λ x. comparison (text_of r) (answer_or_fault x) ≡ Ok ([], after)) (sym e) (comparison_back r after)
 
-later_by : (o : Option (Command × List ℕ)) (c : Command) (r : Reply) (s after : Table) → o ≡ Some (c, text_of r) → obeyed c s ≡ Some (r, after)
-    → ◌≡◌ {A = Meaning Table} (elim o [ None ↦ Err (Fault NoCommand) | Some p ↦ compared p.1 (answer_or_fault (obeyed p.0 s)) ]) (Ok ([], after))
+later_by : (o : Option (Command × List ℕ)) (c : Command) (r : Reply) (s after : Table) → o ≡ Some (c, text_of r) → command_answer c s ≡ Some (r, after)
+    → ◌≡◌ {A = Meaning Table} (elim o [ None ↦ Err (Fault NoCommand) | Some p ↦ comparison p.1 (answer_or_fault (command_answer p.0 s)) ]) (Ok ([], after))
 later_by o c r s after e g =
-    subst (λ x. ◌≡◌ {A = Meaning Table} (elim x [ None ↦ Err (Fault NoCommand) | Some p ↦ compared p.1 (answer_or_fault (obeyed p.0 s)) ]) (Ok ([], after)))
-    (sym e) (given_back (obeyed c s) r after g)
+    subst (λ x. ◌≡◌ {A = Meaning Table} (elim x [ None ↦ Err (Fault NoCommand) | Some p ↦ comparison p.1 (answer_or_fault (command_answer p.0 s)) ]) (Ok ([], after)))
+    (sym e) (given_back (command_answer c s) r after g)
 
-heard_back : (c : Command) (r : Reply) (s after : Table) (number : ℕ) → IsWritten c → if_traced c ≡ Some c → obeyed c s ≡ Some (r, after)
+heard_back : (c : Command) (r : Reply) (s after : Table) (number : ℕ) → IsWritten c → if_traced c ≡ Some c → command_answer c s ≡ Some (r, after)
     → answered_by trace_hearing (Some s) number (command_text c ++ recorded r) ≡ Ok ([], Some after)
 unfolding traced_meaning
 heard_back c r s after number p e o = ap answered_later (later_by (traced_in (command_text c ++ recorded r)) c r s after (traced_back c r p e) o)
 
 first_by : (o : Option (Command × List ℕ)) (c : Command) (r : Reply) (after : Table) → o ≡ Some (c, text_of r) → first_answer c ≡ Ok (r, after)
-    → ◌≡◌ {A = FirstMeaning Table} (elim o [ None ↦ Err (Fault NoCommand) | Some p ↦ made_by (compared p.1 (first_answer p.0)) ]) (Ok (Some ([], after)))
+    → ◌≡◌ {A = FirstMeaning Table} (elim o [ None ↦ Err (Fault NoCommand) | Some p ↦ made_by (comparison p.1 (first_answer p.0)) ]) (Ok (Some ([], after)))
 first_by o c r after e g =
-    subst (λ x. ◌≡◌ {A = FirstMeaning Table} (elim x [ None ↦ Err (Fault NoCommand) | Some p ↦ made_by (compared p.1 (first_answer p.0)) ]) (Ok (Some ([], after))))
-    (sym e) (ap made_by (subst (λ x. compared (text_of r) x ≡ Ok ([], after)) (sym g) (compared_back r after)))
+    subst (λ x. ◌≡◌ {A = FirstMeaning Table} (elim x [ None ↦ Err (Fault NoCommand) | Some p ↦ made_by (comparison p.1 (first_answer p.0)) ]) (Ok (Some ([], after))))
+    (sym e) (ap made_by (subst (λ x. comparison (text_of r) x ≡ Ok ([], after)) (sym g) (comparison_back r after)))
 
 -- a line that is heard so, and what happened after it
 abbrev Heard : Table → List ℕ → List Entry → Type 0
@@ -105,28 +105,28 @@ Heard s line es =
     (after : Table) × ((number : ℕ) → answered_by trace_hearing (Some s) number line ≡ Ok ([], Some after)) × IsLine line × IsHistory after es
 
 written_back : (c : Command) (r : Reply) (s after : Table) (es : List Entry) → IsWritten c → IsTraced r → if_traced c ≡ Some c
-    → obeyed c s ≡ Some (r, after) → IsHistory after es → Heard s (command_text c ++ recorded r) es
+    → command_answer c s ≡ Some (r, after) → IsHistory after es → Heard s (command_text c ++ recorded r) es
 written_back c r s after es p q e o h = (after, λ number. heard_back c r s after number p e o, recorded-line c r p q, h)
 
 mutex_back : (m : ℕ) (k : Kind) (robust : Bool) → robust ≡ false → command_text (Mutex k) ++ recorded (reply.Mutex m) ≡ entry_text (AddedMutex m k robust)
 unfolding entry_text command_text
 mutex_back m k robust e = rw e refl
 
-thread_given : (t p : ℕ) (s : Table) → add_thread_answer p s ≡ Ok t → obeyed (Thread p) s ≡ Some (reply.Thread t, add_thread_after p (Ok t) s)
-unfolding obeyed
+thread_given : (t p : ℕ) (s : Table) → add_thread_answer p s ≡ Ok t → command_answer (Thread p) s ≡ Some (reply.Thread t, add_thread_after p (Ok t) s)
+unfolding command_answer
 thread_given t p s e = rw e refl
 
-mutex_given : (m : ℕ) (k : Kind) (s : Table) → add_mutex_answer s ≡ Ok m → obeyed (Mutex k) s ≡ Some (reply.Mutex m, add_mutex_after k false (Ok m) s)
-unfolding obeyed
+mutex_given : (m : ℕ) (k : Kind) (s : Table) → add_mutex_answer s ≡ Ok m → command_answer (Mutex k) s ≡ Some (reply.Mutex m, add_mutex_after k false (Ok m) s)
+unfolding command_answer
 mutex_given m k s e = rw e refl
 
 begin_given : (t : ℕ) (q : Request) (seen : Seen) (s : Table) → (event_outcome (BeginEvent t q) s).seen ≡ seen
-    → obeyed (Begin t q) s ≡ Some (reply_of_seen seen, (event_outcome (BeginEvent t q) s).after)
-unfolding obeyed
+    → command_answer (Begin t q) s ≡ Some (reply_of_seen seen, (event_outcome (BeginEvent t q) s).after)
+unfolding command_answer
 begin_given t q seen s e = ap (λ x. Some (reply_of_seen x, (event_outcome (BeginEvent t q) s).after)) e
 
-go_given : (t : ℕ) (seen : Seen) (s : Table) → (event_outcome (GoEvent t) s).seen ≡ seen → obeyed (Go t) s ≡ Some (reply_of_seen seen, (event_outcome (GoEvent t) s).after)
-unfolding obeyed
+go_given : (t : ℕ) (seen : Seen) (s : Table) → (event_outcome (GoEvent t) s).seen ≡ seen → command_answer (Go t) s ≡ Some (reply_of_seen seen, (event_outcome (GoEvent t) s).after)
+unfolding command_answer
 go_given t seen s e = ap (λ x. Some (reply_of_seen x, (event_outcome (GoEvent t) s).after)) e
 
 entry_back : (e : Entry) (es : List Entry) (s : Table) → IsEntryWritten e → IsHistory s (e ∷ es) → Heard s (entry_text e) es

@@ -12,15 +12,15 @@ use Rattle.pif_scripts.specs.declared.faults.CliFault.{CliFault}
 use Rattle.pif_scripts.specs.declared.faults.CliFault.TheVariants as fault
 use Rattle.pif_scripts.specs.declared.reading.ending.Ending.TheVariants.{Fault, Differs}
 use Rattle.pif_scripts.specs.declared.reading.ending.End.{End}
-use Rattle.pif_scripts.specs.Scripts.{Hearing, FirstMeaning, Meaning, Answered, Scan, start, byte_taken, fed, answered, answered_by, answered_first, answered_later, after_line, with_byte, ended_by}
+use Rattle.pif_scripts.specs.Scripts.{Hearing, FirstMeaning, Meaning, Answered, Scan, start, byte_taken, fed, line_answer, answered_by, answered_first, answered_later, after_line, with_byte, ended_by}
 use Rattle.pif_scripts.specs.Runs.{RunsFrom, last_text, WritesPart}
-use Rattle.pif_scripts.specs.Running.{Answer, first_answer, answer_or_fault, obeyed, made_by}
-use Rattle.pif_scripts.specs.Traces.{compared, header_meaning, second_line_meaning, traced_meaning, traced_in, trace_hearing, trace_end, verdict, ReplaysTo}
+use Rattle.pif_scripts.specs.Running.{Answer, first_answer, answer_or_fault, command_answer, made_by}
+use Rattle.pif_scripts.specs.Traces.{comparison, header_meaning, second_line_meaning, traced_meaning, traced_in, trace_hearing, trace_end, verdict, ReplaysTo}
 use Rattle.pif_scripts.proofs.RunLemmas.{Appends-kept_before}
 use Rattle.pif_scripts.proofs.ScriptLemmas.{by_cases, fed-nil, fed-ok, fed-err}
 
-module _ {S : Type 0} (hearing : Hearing S) (first : (number : ℕ) (line : List ℕ) (m : List ℕ × S) → hearing.opened number line ≡ Ok (Some m) → m.0 ≡ [])
-    (later : (s : S) (line : List ℕ) (m : List ℕ × S) → hearing.heard s line ≡ Ok m → m.0 ≡ []) where
+module _ {S : Type 0} (hearing : Hearing S) (first : (number : ℕ) (line : List ℕ) (m : List ℕ × S) → hearing.first_meaning number line ≡ Ok (Some m) → m.0 ≡ [])
+    (later : (s : S) (line : List ℕ) (m : List ℕ × S) → hearing.meaning s line ≡ Ok m → m.0 ≡ []) where
   first-silent : (x : FirstMeaning S) (m : List ℕ × Option S) → ((y : List ℕ × S) → x ≡ Ok (Some y) → y.0 ≡ []) → answered_first x ≡ Ok m → m.0 ≡ []
   first-silent (Ok (Some y)) m u p =
       let q : (y.0, Some y.1) ≡ m = cc in
@@ -35,8 +35,8 @@ module _ {S : Type 0} (hearing : Hearing S) (first : (number : ℕ) (line : List
   later-silent (Err e) m u p = cc
 
   answered-silent : (l : Option S) (number : ℕ) (line : List ℕ) (m : List ℕ × Option S) → answered_by hearing l number line ≡ Ok m → m.0 ≡ []
-  answered-silent None number line m p = first-silent (hearing.opened number line) m (first number line) p
-  answered-silent (Some l) number line m p = later-silent (hearing.heard l line) m (later l line) p
+  answered-silent None number line m p = first-silent (hearing.first_meaning number line) m (first number line) p
+  answered-silent (Some l) number line m p = later-silent (hearing.meaning l line) m (later l line) p
 
   after_line-silent : (s : Scan S) (x : Answered S) (r : List ℕ × Scan S) → ((m : List ℕ × Option S) → x ≡ Ok m → m.0 ≡ []) → after_line s x ≡ Ok r → r.0 ≡ []
   after_line-silent s (Ok m) r u p =
@@ -53,7 +53,7 @@ module _ {S : Type 0} (hearing : Hearing S) (first : (number : ℕ) (line : List
 
   byte_taken-silent : (s : Scan S) (b : ℕ) (r : List ℕ × Scan S) → byte_taken hearing s b ≡ Ok r → r.0 ≡ []
   unfolding byte_taken
-  byte_taken-silent s b r p = silent-by _ _ _ s b (answered hearing s) _ _ r (answered-silent s.listener s.number s.line) p
+  byte_taken-silent s b r p = silent-by _ _ _ s b (line_answer hearing s) _ _ r (answered-silent s.listener s.number s.line) p
 
   pub fed-silent : (bs : List ℕ) (s : Scan S) → (fed hearing s bs).text ≡ []
   fed-silent [] s = (fed-nil hearing s).0
@@ -67,13 +67,13 @@ module _ {S : Type 0} (hearing : Hearing S) (first : (number : ℕ) (line : List
 
 -- ---- traces
 
-compared-by : (x : Bool) (a : Answer) (m : List ℕ × Table) → ◌≡◌ {A = Meaning Table} (cond x (Ok ([], a.1)) (Err (Differs a.0))) (Ok m) → m.0 ≡ []
-compared-by true a m p = let q : ([], a.1) ≡ m = cc in sym (ap (λ (z : List ℕ × Table). z.0) q)
-compared-by false a m p = cc
+comparison-by : (x : Bool) (a : Answer) (m : List ℕ × Table) → ◌≡◌ {A = Meaning Table} (cond x (Ok ([], a.1)) (Err (Differs a.0))) (Ok m) → m.0 ≡ []
+comparison-by true a m p = let q : ([], a.1) ≡ m = cc in sym (ap (λ (z : List ℕ × Table). z.0) q)
+comparison-by false a m p = cc
 
-compared-silent : (recorded : List ℕ) (a : Result Answer Cause) (m : List ℕ × Table) → compared recorded a ≡ Ok m → m.0 ≡ []
-compared-silent recorded (Ok a) m p = compared-by (bytes_eq (text_of a.0) recorded) a m p
-compared-silent recorded (Err c) m p = cc
+comparison-silent : (recorded : List ℕ) (a : Result Answer Cause) (m : List ℕ × Table) → comparison recorded a ≡ Ok m → m.0 ≡ []
+comparison-silent recorded (Ok a) m p = comparison-by (bytes_eq (text_of a.0) recorded) a m p
+comparison-silent recorded (Err c) m p = cc
 
 made-silent : (x : Meaning Table) (m : List ℕ × Table) → made_by x ≡ Ok (Some m) → x ≡ Ok m
 made-silent (Ok y) m p = let q : y ≡ m = cc in ap Ok q
@@ -84,9 +84,9 @@ header-by true m p = cc
 header-by false m p = cc
 
 second-by : (o : Option (Command × List ℕ)) (m : List ℕ × Table)
-    → ◌≡◌ {A = FirstMeaning Table} (elim o [ None ↦ Err (Fault NoCommand) | Some p ↦ made_by (compared p.1 (first_answer p.0)) ]) (Ok (Some m)) → m.0 ≡ []
+    → ◌≡◌ {A = FirstMeaning Table} (elim o [ None ↦ Err (Fault NoCommand) | Some p ↦ made_by (comparison p.1 (first_answer p.0)) ]) (Ok (Some m)) → m.0 ≡ []
 second-by None m p = cc
-second-by (Some q) m p = compared-silent q.1 (first_answer q.0) m (made-silent (compared q.1 (first_answer q.0)) m p)
+second-by (Some q) m p = comparison-silent q.1 (first_answer q.0) m (made-silent (comparison q.1 (first_answer q.0)) m p)
 
 second-silent : (line : List ℕ) (m : List ℕ × Table) → second_line_meaning line ≡ Ok (Some m) → m.0 ≡ []
 unfolding second_line_meaning
@@ -97,9 +97,9 @@ opened-by true line m p = header-by (bytes_eq line header_text) m p
 opened-by false line m p = second-silent line m p
 
 traced-by : (o : Option (Command × List ℕ)) (s : Table) (m : List ℕ × Table)
-    → ◌≡◌ {A = Meaning Table} (elim o [ None ↦ Err (Fault NoCommand) | Some p ↦ compared p.1 (answer_or_fault (obeyed p.0 s)) ]) (Ok m) → m.0 ≡ []
+    → ◌≡◌ {A = Meaning Table} (elim o [ None ↦ Err (Fault NoCommand) | Some p ↦ comparison p.1 (answer_or_fault (command_answer p.0 s)) ]) (Ok m) → m.0 ≡ []
 traced-by None s m p = cc
-traced-by (Some q) s m p = compared-silent q.1 (answer_or_fault (obeyed q.0 s)) m p
+traced-by (Some q) s m p = comparison-silent q.1 (answer_or_fault (command_answer q.0 s)) m p
 
 traced-silent : (s : Table) (line : List ℕ) (m : List ℕ × Table) → traced_meaning s line ≡ Ok m → m.0 ≡ []
 unfolding traced_meaning

@@ -25,7 +25,7 @@ use Rattle.pif_scripts.specs.declared.reading.ending.Ending.TheVariants.{Fault, 
 use Rattle.pif_scripts.specs.declared.reading.ending.End.{End}
 use Rattle.pif_scripts.specs.Scripts.{Meaning, FirstMeaning, Hearing, Fed, start, fed, ended_by, NeedsIn}
 use Rattle.pif_scripts.specs.Runs.{WritesPart, last_text}
-use Rattle.pif_scripts.specs.Running.{Answer, answer_or_fault, obeyed, first_answer, made_by, reply_of_seen}
+use Rattle.pif_scripts.specs.Running.{Answer, answer_or_fault, command_answer, first_answer, made_by, reply_of_seen}
 
 -- ---- reading
 
@@ -48,9 +48,9 @@ traced_in line =
     option_and_then (λ parts. option_map (λ c. (c, parts.1)) (option_and_then if_traced (command_in parts.0))) (parts_of line)
 
 -- a recorded answer beside the answer that is given: nothing is told, and another answer is a difference
-abbrev pub compared : List ℕ → Result Answer Cause → Meaning Table
-compared recorded (Ok a) = if bytes_eq (text_of a.0) recorded then Ok ([], a.1) else Err (Differs a.0)
-compared recorded (Err c) = Err (Fault c)
+abbrev pub comparison : List ℕ → Result Answer Cause → Meaning Table
+comparison recorded (Ok a) = if bytes_eq (text_of a.0) recorded then Ok ([], a.1) else Err (Differs a.0)
+comparison recorded (Err c) = Err (Fault c)
 
 -- the first line of a trace is the header, which makes no core
 abbrev pub header_meaning : List ℕ → FirstMeaning Table
@@ -61,7 +61,7 @@ unfoldable pub second_line_meaning : List ℕ → FirstMeaning Table
 second_line_meaning line =
     elim (traced_in line) [
       | None ↦ Err (Fault NoCommand)
-      | Some p ↦ made_by (compared p.1 (first_answer p.0))
+      | Some p ↦ made_by (comparison p.1 (first_answer p.0))
     ]
 
 -- what a later line of a trace means to a core
@@ -69,7 +69,7 @@ unfoldable pub traced_meaning : Table → List ℕ → Meaning Table
 traced_meaning s line =
     elim (traced_in line) [
       | None ↦ Err (Fault NoCommand)
-      | Some p ↦ compared p.1 (answer_or_fault (obeyed p.0 s))
+      | Some p ↦ comparison p.1 (answer_or_fault (command_answer p.0 s))
     ]
 
 -- what is said at the end of a trace, where the next line would have this number: how many lines stand behind the
@@ -80,9 +80,9 @@ traced_end number = if nat_lt 1 number then Ok (same_of (number - 2) ++ 10 ∷ [
 -- how a trace is heard
 abbrev pub trace_hearing : Hearing Table
 trace_hearing = record {
-  opened = λ number line. if number == 1 then header_meaning line else second_line_meaning line;
-  heard = traced_meaning;
-  closed = traced_end;
+  first_meaning = λ number line. if number == 1 then header_meaning line else second_line_meaning line;
+  meaning = traced_meaning;
+  end_text = traced_end;
 }
 
 -- where a trace of these bytes stands behind them
