@@ -33,7 +33,8 @@ rise_without f g least (w ∷ ws) u next r same =
         )
 
 -- the others stay among them
-pub waiter_kept : (ws : List (ℕ × ℕ)) (u x m : ℕ) → x ≢ u → is_waiter ws x m ≡ true → is_waiter (without ws u) x m ≡ true
+pub waiter_kept : (ws : List (ℕ × ℕ)) (u x m : ℕ) → x ≢ u → is_waiter ws x m ≡ true
+    → is_waiter (without ws u) x m ≡ true
 waiter_kept [] u x m ne e = absurd (false≢true e)
 waiter_kept (w ∷ ws) u x m ne e = by_head (cases_eq w.0 u) (is_among_cons w ws x m e) (waiter_kept ws u x m ne)
   where
