@@ -10,19 +10,23 @@ use Rattle.pif_text.specs.declared.commands.Command.TheVariants as command
 use Rattle.pif_scripts.specs.Running.{answer_or_fault, default_limits, finish_outcome, first_answer, IsAnswer, command_answer}
 
 -- it went, and goes on
-pub goes_on-went : (more t : ℕ) (s : Table) → (event_outcome (Go t) s).seen ≡ Went → goes_on (suc more) t s ≡ goes_on more t (event_outcome (Go t) s).after
+pub goes_on-went : (more t : ℕ) (s : Table) → (event_outcome (Go t) s).seen ≡ Went
+    → goes_on (suc more) t s ≡ goes_on more t (event_outcome (Go t) s).after
 unfolding goes_on
 goes_on-went more t s e = rw (goes_on, e) refl
 
 -- it did not
-pub goes_on-other : (more t : ℕ) (s : Table) → ((event_outcome (Go t) s).seen ≡ Went → ⊥) → goes_on more t s ≡ event_outcome (Go t) s
+pub goes_on-other : (more t : ℕ) (s : Table) → ((event_outcome (Go t) s).seen ≡ Went → ⊥)
+    → goes_on more t s ≡ event_outcome (Go t) s
 unfolding goes_on
 goes_on-other zero t s e = refl
 goes_on-other (suc more) t s e = by-seen (event_outcome (Go t) s).seen refl
   where
     by-seen : (x : Seen) → (event_outcome (Go t) s).seen ≡ x → goes_on (suc more) t s ≡ event_outcome (Go t) s
     by-seen x p =
-        let P : Seen → Type 0 = λ y. ◌≡◌ {A = Outcome} (elim y [ Went ↦ goes_on more t (event_outcome (Go t) s).after | _ ↦ event_outcome (Go t) s ]) (event_outcome (Go t) s) in
+        let P : Seen → Type 0 = λ y. ◌≡◌ {A = Outcome}
+        (elim y [ Went ↦ goes_on more t (event_outcome (Go t) s).after | _ ↦ event_outcome (Go t) s ])
+        (event_outcome (Go t) s) in
         subst P (sym p) (elim x as (λ y. (y ≡ Went → ⊥) → P y) [
           | Went ↦ λ n. absurd (n refl)
           | Begun ↦ λ n. refl
@@ -36,7 +40,8 @@ unfolding finish_outcome
 finish_outcome-is t s = refl
 
 -- one step further in a loop that counts to 23
-pub goes_on-turn : (i t : ℕ) (s u : Table) → i < 23 → (event_outcome (Go t) s).seen ≡ Went → u ≡ (event_outcome (Go t) s).after
+pub goes_on-turn : (i t : ℕ) (s u : Table) → i < 23 → (event_outcome (Go t) s).seen ≡ Went
+    → u ≡ (event_outcome (Go t) s).after
     → goes_on (23 - (i + 1)) t u ≡ goes_on (23 - i) t s
 goes_on-turn i t s u h e f =
     let n : 23 - i ≡ suc (23 - (i + 1)) = omega arith in

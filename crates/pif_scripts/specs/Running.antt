@@ -72,7 +72,8 @@ reply_of_priority None = reply.Refused NoSuch
 -- what a command does; `limits` is none behind the first line
 unfoldable pub command_answer : Command → Table → Option Answer
 command_answer (Limits t m c n) s = None
-command_answer (Thread p) s = Some (reply_of_thread (add_thread_answer p s), add_thread_after p (add_thread_answer p s) s)
+command_answer (Thread p) s =
+    Some (reply_of_thread (add_thread_answer p s), add_thread_after p (add_thread_answer p s) s)
 command_answer (Mutex k) s = Some (reply_of_mutex (add_mutex_answer s), add_mutex_after k false (add_mutex_answer s) s)
 command_answer (Begin t q) s = Some (answer_of_outcome (event_outcome (BeginEvent t q) s))
 command_answer (Go t) s = Some (answer_of_outcome (event_outcome (GoEvent t) s))
@@ -90,13 +91,15 @@ answer_or_fault None = Err cause.Command
 -- whether limits are in their ranges
 abbrev pub are_limits : Bounds → Bool
 are_limits b =
-    nat_le 1 b.threads && nat_le b.threads 1024 && nat_le b.mutexes 1024 && nat_le b.conds 256 && nat_le 1 b.signals && nat_le b.signals 4294967295
+    nat_le 1 b.threads && nat_le b.threads 1024 && nat_le b.mutexes 1024 && nat_le b.conds 256 && nat_le 1 b.signals
+    && nat_le b.signals 4294967295
 
 -- the limits of a script that begins with no `limits`
 abbrev pub default_limits : Bounds
 default_limits = record { threads = 1024; mutexes = 1024; conds = 256; signals = 4294967295 }
 
--- what `limits` is answered as the first command: these limits, or the fault `limits` where a number is outside its range
+-- what `limits` is answered as the first command: these limits, or the fault `limits` where a number is out of its
+-- range
 abbrev pub limited_answer : Option Bounds → Result Answer Cause
 limited_answer (Some b) = Ok (reply.Done, new_table b)
 limited_answer None = Err cause.Limits
@@ -150,7 +153,11 @@ line_meaning s line =
 
 -- how a script is heard: its first line makes the core, and at its end nothing is said
 abbrev pub script : Hearing Table
-script = record { first_meaning = λ number line. first_line_meaning line; meaning = line_meaning; end_text = λ number. Ok [] }
+script = record {
+  first_meaning = λ number line. first_line_meaning line;
+  meaning = line_meaning;
+  end_text = λ number. Ok [];
+}
 
 -- a run of a script, by what the reader had and has left, and what the writer held and holds; it has no differences
 abbrev pub RunsTo : (before after held holds : Option (List ℕ)) → Result (Unit {0}) CliFault → Type 0

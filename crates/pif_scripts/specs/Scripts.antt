@@ -65,7 +65,7 @@ pub record Scan (S : Type 0) : Type 0 where
   pub taken : ℕ
 
 -- what bytes are answered: the text, and where the script stands after them, or the line that ends it
-pub record Fed (S : Type 0) : Type 0 where
+pub record Reading (S : Type 0) : Type 0 where
   pub text : List ℕ
   pub stands : Result (Scan S) End
 
@@ -117,11 +117,11 @@ byte_taken h s b =
     else Err (end_at s (Fault Size))
 
 -- bytes one after the other, up to the first line that ends the script
-unfoldable pub fed : {S : Type 0} → Hearing S → Scan S → List ℕ → Fed S
-fed h s [] = record { text = []; stands = Ok s }
-fed h s (b ∷ bs) =
+unfoldable pub reading_of : {S : Type 0} → Hearing S → Scan S → List ℕ → Reading S
+reading_of h s [] = record { text = []; stands = Ok s }
+reading_of h s (b ∷ bs) =
     elim (byte_taken h s b) [
-      | Ok m ↦ record { text = m.0 ++ (fed h m.1 bs).text; stands = (fed h m.1 bs).stands }
+      | Ok m ↦ record { text = m.0 ++ (reading_of h m.1 bs).text; stands = (reading_of h m.1 bs).stands }
       | Err f ↦ record { text = []; stands = Err f }
     ]
 
@@ -142,9 +142,11 @@ ended_by h (Ok s) = closed_at h s
 -- the line was answered so, and the script stands at t, with the line's bytes still there
 abbrev pub Answers : {S : Type 0} → Hearing S → Scan S → (old new : List ℕ) → Scan S → Result (Unit {0}) Stop → Type 0
 Answers {S = S} h s old new t (Ok x) =
-    (m : List ℕ × Option S) × (line_answer h s ≡ Ok m) × (new ≡ old ++ m.0) × (t ≡ record { listener = m.1; line = s.line; number = s.number; taken = s.taken })
+    (m : List ℕ × Option S) × (line_answer h s ≡ Ok m) × (new ≡ old ++ m.0)
+    × (t ≡ record { listener = m.1; line = s.line; number = s.number; taken = s.taken })
 Answers h s old new t (Err (StopEnded e)) = (line_answer h s ≡ Err e.ending) × (e.line ≡ s.number) × (new ≡ old)
-Answers h s old new t (Err StopNoMemory) = (s.listener ≡ None) × NeedsListener (h.first_meaning s.number s.line) × (new ≡ old)
+Answers h s old new t (Err StopNoMemory) =
+    (s.listener ≡ None) × NeedsListener (h.first_meaning s.number s.line) × (new ≡ old)
 
 -- this byte ends a line that needs a listener, where there is none
 abbrev pub NeedsAt : {S : Type 0} → Hearing S → Scan S → ℕ → Type 0
@@ -154,7 +156,7 @@ NeedsAt h s b = (s.listener ≡ None) × NeedsListener (h.first_meaning s.number
 abbrev pub NeedsIn : {S : Type 0} → Hearing S → Scan S → List ℕ → Type 0
 NeedsIn {S = S} h s bs =
     (front : List ℕ) × (t : Scan S) × (b : ℕ) × (rest : List ℕ) × (bs ≡ front ++ b ∷ rest)
-    × ((fed h s front).stands ≡ Ok t) × NeedsAt h t b
+    × ((reading_of h s front).stands ≡ Ok t) × NeedsAt h t b
 
 -- a byte was answered so, and left the script at t
 abbrev pub Takes : {S : Type 0} → Hearing S → Scan S → ℕ → (old new : List ℕ) → Scan S → Result (Unit {0}) Stop → Type 0
@@ -163,7 +165,9 @@ Takes h s b old new t (Err (StopEnded e)) = (byte_taken h s b ≡ Err e) × (new
 Takes h s b old new t (Err StopNoMemory) = NeedsAt h s b × (new ≡ old)
 
 -- bytes were answered so, and left the script at t
-abbrev pub Feeds : {S : Type 0} → Hearing S → Scan S → List ℕ → (old new : List ℕ) → Scan S → Result (Unit {0}) Stop → Type 0
-Feeds h s bs old new t (Ok x) = ((fed h s bs).stands ≡ Ok t) × (new ≡ old ++ (fed h s bs).text)
-Feeds h s bs old new t (Err (StopEnded e)) = ((fed h s bs).stands ≡ Err e) × (new ≡ old ++ (fed h s bs).text)
+abbrev pub Feeds : {S : Type 0} → Hearing S → Scan S → List ℕ → (old new : List ℕ) → Scan S → Result (Unit {0}) Stop
+    → Type 0
+Feeds h s bs old new t (Ok x) = ((reading_of h s bs).stands ≡ Ok t) × (new ≡ old ++ (reading_of h s bs).text)
+Feeds h s bs old new t (Err (StopEnded e)) =
+    ((reading_of h s bs).stands ≡ Err e) × (new ≡ old ++ (reading_of h s bs).text)
 Feeds h s bs old new t (Err StopNoMemory) = NeedsIn h s bs × (new ≡ old)
