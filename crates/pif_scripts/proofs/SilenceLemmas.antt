@@ -12,8 +12,8 @@ use Rattle.pif_scripts.specs.declared.faults.CliFault.{CliFault}
 use Rattle.pif_scripts.specs.declared.faults.CliFault.TheVariants as fault
 use Rattle.pif_scripts.specs.declared.reading.ending.Ending.TheVariants.{Fault, Differs}
 use Rattle.pif_scripts.specs.declared.reading.ending.End.{End}
-use Rattle.pif_scripts.specs.Scripts.{Hearing, FirstMeaning, Meaning, Answered, Scan, start, byte_taken, reading_of, line_answer, answered_by, answered_first, answered_later, after_line, with_byte, ended_by}
-use Rattle.pif_scripts.specs.Runs.{RunsFrom, last_text, WritesPart}
+use Rattle.pif_scripts.specs.Scripts.{Hearing, FirstMeaning, Meaning, Answered, Scan, start, byte_taken, reading_of, line_answer, answered_by, answered_first, answered_later, after_line, with_byte}
+use Rattle.pif_scripts.specs.Runs.{RunsFrom, WritesPart}
 use Rattle.pif_scripts.specs.Running.{Answer, first_answer, answer_or_fault, command_answer, made_by}
 use Rattle.pif_scripts.specs.Traces.{comparison, header_meaning, second_line_meaning, traced_meaning, traced_in, trace_hearing, trace_end, verdict, ReplaysTo}
 use Rattle.pif_scripts.proofs.RunLemmas.{Appends-kept_before}
@@ -136,9 +136,7 @@ ReplaysTo-from a b h k (Ok x) r =
       (
         r.2.0,
         r.2.1,
-        subst
-            (λ text. Appends h k (text ++ last_text (ended_by trace_hearing (reading_of trace_hearing start r.0).stands)))
-            silent r.2.2,
+        subst (λ text. Appends h k (text ++ verdict r.0)) silent r.2.2,
       ),
     )
 ReplaysTo-from a b h k (Err (fault.Differs line)) r =
@@ -147,8 +145,7 @@ ReplaysTo-from a b h k (Err (fault.Differs line)) r =
       r.1,
       (
         r.2.0,
-        subst (λ text. Appends h k
-            (text ++ last_text (ended_by trace_hearing (reading_of trace_hearing start r.0).stands))) silent r.2.1,
+        subst (λ text. Appends h k (text ++ verdict r.0)) silent r.2.1,
       ),
     )
 ReplaysTo-from a b h k (Err (fault.Script line cause)) r =
@@ -158,9 +155,7 @@ ReplaysTo-from a b h k (Err (fault.Script line cause)) r =
       (
         r.2.0,
         r.2.1,
-        subst
-            (λ text. Appends h k (text ++ last_text (ended_by trace_hearing (reading_of trace_hearing start r.0).stands)))
-            silent r.2.2,
+        subst (λ text. Appends h k (text ++ verdict r.0)) silent r.2.2,
       ),
     )
 ReplaysTo-from a b h k (Err fault.Read) r = (
@@ -175,7 +170,6 @@ ReplaysTo-from a b h k (Err fault.Read) r = (
 ReplaysTo-from a b h k (Err fault.Write) r = (
   r.0,
   r.1,
-  subst (λ text. WritesPart h k
-      (text ++ last_text (ended_by trace_hearing (reading_of trace_hearing start r.0).stands))) (trace-silent r.0) r.2,
+  subst (λ text. WritesPart h k (text ++ verdict r.0)) (trace-silent r.0) r.2,
 )
 ReplaysTo-from a b h k (Err fault.NoMemory) r = r
