@@ -7,17 +7,17 @@ use Rattle.pif_model.specs.Graph.{reaches_within, greatest_where}
 use Rattle.pif_chains.proofs.Following.{greatest_more, greatest_same}
 use Rattle.pif_boost.specs.Boosts.{priority_at, after_propagation}
 
--- what is to stand by u once a priority was handed on from `at` so many times more
+-- what is to stand by u once a priority was propagated from `at` over so many hops more
 pub still_handed : ℕ → (ℕ → ℕ) → ℕ → ℕ → (ℕ → ℕ) → ℕ → ℕ
 still_handed zero waits_for priority at now u = now u
 still_handed (suc hops) waits_for priority at now u = after_propagation hops waits_for priority at now u
 
--- it was handed to `at`, and to nobody else
+-- it was propagated to `at`, and to nobody else
 pub record IsHandedTo (n priority at : ℕ) (now after : ℕ → ℕ) : Type 0 where
   pub here : (u : ℕ) → u < n → u ≡ at → after u ≡ max priority (now u)
   pub others : (u : ℕ) → u < n → u ≢ at → after u ≡ now u
 
--- a place in a list is set to what it is handed
+-- a place in a list is set to what is propagated to it
 pub handed-set : (n p at : ℕ) (xs ys : List (Option ℕ)) → n ≤ length ys
     → ys ≡ set xs at (Some (max p (priority_at xs at)))
     → IsHandedTo n p at (priority_at xs) (priority_at ys)
@@ -36,7 +36,7 @@ handed-set n p at xs ys long is =
     most = max p (priority_at xs at)
 
 module _ (n : ℕ) (w : ℕ → ℕ) (p at : ℕ) (now after : ℕ → ℕ) (h : IsHandedTo n p at now after) (u : ℕ) (l : u < n) where
-  -- to be handed on where it was handed already changes nothing
+  -- to propagate it to where it was propagated already changes nothing
   again : (b : Bool) → u ≡ at → (if b then max p (after u) else after u) ≡ max p (now u)
   again true e = ap (max p) (h.here u l e) ∙ omega arith
   again false e = h.here u l e
@@ -56,7 +56,7 @@ module _ (n : ℕ) (w : ℕ → ℕ) (p at : ℕ) (now after : ℕ → ℕ) (h :
   handed-last (inl e) = h.here u l e ∙ sym (rw (eq-eqb at u (sym e)) refl)
   handed-last (inr ne) = h.others u l ne ∙ sym (rw (ne_eqb at u (λ e. ne (sym e))) refl)
 
-  -- who waits for nobody hands on to nobody
+  -- who waits for nobody propagates to nobody
   handed-end : (k : ℕ) → w at ≡ 0 → ((u ≡ at) ⊎ (u ≢ at)) → after u ≡ after_propagation k w p at now u
   unfolding reaches_within
   handed-end zero none c = handed-last c
@@ -85,7 +85,7 @@ pub still_handed-done : (k : ℕ) (w : ℕ → ℕ) (p at : ℕ) (now : ℕ → 
 unfolding still_handed
 still_handed-done k w p at now u e = ap (λ hops. still_handed hops w p at now u) e
 
--- once each number below k handed on what it has, the greatest that came to u
+-- once each number below k propagated its base priority, the greatest that came to u
 abbrev pub handed_by : ℕ → ℕ → (ℕ → ℕ) → (ℕ → ℕ) → ℕ → ℕ
 handed_by k n waits_for base u = greatest_where (λ x. reaches_within n waits_for x u) base k
 

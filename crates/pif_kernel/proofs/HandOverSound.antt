@@ -1,8 +1,8 @@
 -- What is kept stays sound where a mutex is handed to its next waiter.
-use Rattle.std.proofs.Common.{◌≡◌, ◌≢◌, ◌⊎◌, ℕ, ◌+◌, ◌<◌, ◌≤◌, ◌==◌, cond, Bool, true, false, if◌then◌else◌, List, [], ◌∷◌, length, get_or, set, Option, Some, None, IsSome, is_some, option_map, option_and_then, unwrap_or, refl, sym, ap, subst, ◌∙◌, inl, inr, arith, length-set}
+use Rattle.std.proofs.Common.{◌≡◌, ◌≢◌, ◌⊎◌, ℕ, ◌+◌, ◌<◌, ◌≤◌, ◌==◌, cond, Bool, true, false, if◌then◌else◌, List, length, get_or, set, Option, Some, None, IsSome, is_some, option_map, option_and_then, unwrap_or, refl, sym, ap, subst, ◌∙◌, inl, inr, arith, length-set}
 use Rattle.std.specs.Cmp.{nat_cmp_total}
 use Rattle.std.specs.FinMap.{len-insert}
-use Rattle.std.proofs.lemmas.Bool.{cases_eq, cases_lt, true≢false, false≢true}
+use Rattle.std.proofs.lemmas.Bool.{cases_eq, cases_lt, true≢false}
 use Rattle.std.proofs.lemmas.Bool.Decides.{nat_tests}
 use Rattle.std.proofs.lemmas.List.{get_or-set_same, get_or-set_other, get_or_past}
 use Rattle.pif_nodes.specs.declared.keys.Key.{Key}
@@ -14,23 +14,24 @@ use Rattle.pif_model.specs.declared.lines.Status.TheVariants.{Ready, Queued}
 use Rattle.pif_model.specs.declared.lines.Woken.TheVariants.{Fresh, Owns}
 use Rattle.pif_model.specs.Graph.{has_waiter, without}
 use Rattle.pif_model.specs.PiKernel.{Kernel, IsKernel, queued_on, is_ready, effective_in, has_seat, is_among, level_at, next_in, with_effective_levels, waits_for, levels_with, kernel_after_hand_over}
-use Rattle.pif_model.specs.PiKernel.{seat_at as kernel_seat_at, state_at as kernel_state_at, with_status, with_state}
+use Rattle.pif_model.specs.PiKernel.{state_at as kernel_state_at, with_status, with_state}
 use Rattle.pif_rtmutex.specs.Owners.{Owners, Seat, Wait, seat_at, owner_at, count, waits_on, rank_of, no_seat, with_base, with_wait, with_owner, without_state, IsTop, HasNoWaiter}
 use Rattle.pif_rtmutex.specs.Owners.{waits_for as owners_wait_for}
 use Rattle.pif_rtmutex.proofs.MapLemmas.{get-insert_same, get-insert_other, get-remove_other}
 use Rattle.pif_rtmutex.proofs.OwnersLemmas.{some_rank}
 use Rattle.pif_boost.specs.Boosts.{IsRepairedBut, base_of, local_of, greatest_base}
 use Rattle.pif_chains.proofs.Places.{kept_at}
-use Rattle.pif_chains.proofs.Among.{is_among_here, is_among_there, is_among_cons}
 use Rattle.pif_chains.proofs.Among.{is_among as is_waiter}
-use Rattle.pif_chains.proofs.Waiting.{names, Once, once_head, once_tail, without-unnamed, named-from_pair, has_waiter-from_pair, has_waiter-without_other, waited-from_pair}
+use Rattle.pif_chains.proofs.Waiting.{Once, has_waiter-from_pair}
 use Rattle.pif_chains.proofs.Greatest.{effective_same}
 use Rattle.pif_chains.proofs.Handed.{effective_handed, effective_lifted}
 use Rattle.pif_chains.proofs.KernelFacts.{queued-from_number}
 use Rattle.pif_chains.proofs.KernelKept.{hand_over_kept}
 use Rattle.pif_chains.proofs.KernelLevels.{level-joined_same, level-joined_other}
 use Rattle.pif_chains.proofs.KernelNumbers.{among-push_other}
-use Rattle.pif_kernel.specs.Plain.{Plain, IsListed, IsPlaced, IsSound, Rise, kernel_of, status_at, key_at, state_at, ticket_of, mutexes_of}
+use Rattle.pif_kernel.specs.Plain.{Plain, IsListed, IsPlaced, IsSound, kernel_of, status_at, key_at, state_at, ticket_of, mutexes_of}
+use Rattle.pif_kernel.proofs.WaitersWithout.{rise_without, waiter_kept, mutexes_without}
+use Rattle.pif_kernel.proofs.HandOverFacts.{IsHanded, IsGiven, IsHandable, IsHanding, IsHandedOn}
 use Rattle.pif_kernel.proofs.Seats.{IsFitted, same_seats, seats_length, status_seen, waits_seen, waits_below, owners_waits, added_back, waiters_seen, states_seen, states_length, kernel_by_parts, seats_of-set_status, seats_of-same_base}
 use Rattle.pif_kernel.proofs.Picked.{levels_count, levels_joined, length-joined}
 use Rattle.pif_kernel.proofs.Standing.{fits, effective_level, unqueued_free}
@@ -39,143 +40,6 @@ use Rattle.pif_kernel.proofs.QueueLaws.{rise_once}
 use Rattle.pif_kernel.proofs.Waiters.{ready_idle}
 use Rattle.pif_kernel.proofs.TopLaws.{waits_under, priority_below, top_is_next}
 use Rattle.pif_kernel.proofs.WalkSound.{IsWalkable, owners_effective}
-
--- THE WAITERS WITHOUT ONE OF THEM
-
-rise_lower : (f : ℕ → ℕ) (a b : ℕ) (ws : List (ℕ × ℕ)) (next : ℕ) → b ≤ a → Rise f a ws next → Rise f b ws next
-rise_lower f a b [] next le r = let up : a ≤ next = r in omega (arith, le, up)
-rise_lower f a b (w ∷ ws) next le r = (omega (arith, le, r.0), r.1)
-
--- the tickets of the others rise
-rise_without : (f g : ℕ → ℕ) (least : ℕ) (ws : List (ℕ × ℕ)) (u next : ℕ) → Rise f least ws next
-    → ((x : ℕ) → x ≢ u → g x ≡ f x) → Rise g least (without ws u) next
-rise_without f g least [] u next r same = r
-rise_without f g least (w ∷ ws) u next r same =
-    by_head (cases_eq w.0 u) (rise_without f g (f w.0 + 1) ws u next r.1 same)
-  where
-    by_head : ((w.0 ≡ u) ⊎ (w.0 ≡ u → ⊥)) → Rise g (f w.0 + 1) (without ws u) next
-        → Rise g least (without (w ∷ ws) u) next
-    by_head (inl e) ih =
-        let here : (w.0 == u) ≡ true = grind (arith, nat_tests) in
-        rw here (rise_lower g (f w.0 + 1) least (without ws u) next (omega (arith, r.0)) ih)
-    by_head (inr ne) ih =
-        let there : (w.0 == u) ≡ false = grind (arith, nat_tests) in
-        rw there (
-          omega (arith, r.0, same w.0 ne),
-          subst (λ (n : ℕ). Rise g (n + 1) (without ws u) next)
-              (sym (same w.0 ne)) ih,
-        )
-
--- the others stay among them
-waiter_kept : (ws : List (ℕ × ℕ)) (u x m : ℕ) → x ≢ u → is_waiter ws x m ≡ true → is_waiter (without ws u) x m ≡ true
-waiter_kept [] u x m ne e = absurd (false≢true e)
-waiter_kept (w ∷ ws) u x m ne e = by_head (cases_eq w.0 u) (is_among_cons w ws x m e) (waiter_kept ws u x m ne)
-  where
-    by_head : ((w.0 ≡ u) ⊎ (w.0 ≡ u → ⊥)) → ((w.0 ≡ x) × (w.1 ≡ m)) ⊎ (is_waiter ws x m ≡ true)
-        → (is_waiter ws x m ≡ true → is_waiter (without ws u) x m ≡ true)
-        → is_waiter (without (w ∷ ws) u) x m ≡ true
-    by_head (inl same) (inl a) ih = absurd (ne (sym a.0 ∙ same))
-    by_head (inl same) (inr r) ih = let here : (w.0 == u) ≡ true = grind (arith, nat_tests) in rw here (ih r)
-    by_head (inr other) (inl a) ih =
-        let there : (w.0 == u) ≡ false = grind (arith, nat_tests) in
-        rw there (is_among_here w (without ws u) x m a.0 a.1)
-    by_head (inr other) (inr r) ih =
-        let there : (w.0 == u) ≡ false = grind (arith, nat_tests) in
-        rw there (is_among_there w (without ws u) x m (ih r))
-
--- a mutex fewer has a waiter, where no other waits for that of the one
-mutexes_without : (ws : List (ℕ × ℕ)) (u m : ℕ) → Once ws → is_waiter ws u m ≡ true
-    → mutexes_of (without ws u) + (if has_waiter (without ws u) m then 0 else 1) ≡ mutexes_of ws
-mutexes_without [] u m once e = absurd (false≢true e)
-mutexes_without (w ∷ ws) u m once e =
-    by_head (cases_eq w.0 u) (is_among_cons w ws u m e) (mutexes_without ws u m (once_tail w ws once))
-  where
-    one : (b : Bool) (n : ℕ) → n + (if b then 0 else 1) ≡ (if b then n else n + 1)
-    one true n = omega arith
-    one false n = refl
-
-    two : (b : Bool) (n : ℕ) → (if b then n else n + 1) + 0 ≡ n + (if b then 0 else 1)
-    two true n = refl
-    two false n = omega arith
-
-    three : (b c : Bool) (n k : ℕ) → n + (if c then 0 else 1) ≡ k
-        → (if b then n else n + 1) + (if c then 0 else 1) ≡ (if b then k else k + 1)
-    three true c n k x = x
-    three false true n k x = let y : n + 0 ≡ k = x in omega (arith, y)
-    three false false n k x = let y : n + 1 ≡ k = x in omega (arith, y)
-
-    by_head : ((w.0 ≡ u) ⊎ (w.0 ≡ u → ⊥)) → ((w.0 ≡ u) × (w.1 ≡ m)) ⊎ (is_waiter ws u m ≡ true)
-        → (is_waiter ws u m ≡ true
-        → mutexes_of (without ws u) + (if has_waiter (without ws u) m then 0 else 1) ≡ mutexes_of ws)
-        → mutexes_of (without (w ∷ ws) u) + (if has_waiter (without (w ∷ ws) u) m then 0 else 1) ≡ mutexes_of (w ∷ ws)
-    by_head (inl same) (inl a) ih =
-        let unnamed : names u ws ≡ false = subst (λ (x : ℕ). names x ws ≡ false) same (once_head w ws once) in
-        let here : (w.0 == u) ≡ true = grind (arith, nat_tests) in
-        let rest : without ws u ≡ ws = without-unnamed ws u unnamed in
-        rw here (ap (λ (l : List (ℕ × ℕ)). mutexes_of l + (if has_waiter l m then 0 else 1)) rest
-        ∙ one (has_waiter ws m) (mutexes_of ws)
-        ∙ ap (λ (x : ℕ). if has_waiter ws x then mutexes_of ws else mutexes_of ws + 1) (sym a.1))
-    by_head (inl same) (inr r) ih =
-        let unnamed : names u ws ≡ false = subst (λ (x : ℕ). names x ws ≡ false) same (once_head w ws once) in
-        absurd (true≢false (sym (named-from_pair ws u m r) ∙ unnamed))
-    by_head (inr other) (inl a) ih = absurd (other a.0)
-    by_head (inr other) (inr r) ih =
-        let there : (w.0 == u) ≡ false = grind (arith, nat_tests) in rw there (by_mutex (cases_eq w.1 m) (ih r))
-      where
-        by_mutex : ((w.1 ≡ m) ⊎ (w.1 ≡ m → ⊥))
-            → mutexes_of (without ws u) + (if has_waiter (without ws u) m then 0 else 1) ≡ mutexes_of ws
-            → mutexes_of (w ∷ without ws u) + (if has_waiter (w ∷ without ws u) m then 0 else 1) ≡ mutexes_of (w ∷ ws)
-        by_mutex (inl at) ih =
-            let here : (w.1 == m) ≡ true = grind (arith, nat_tests) in
-            let some : has_waiter ws w.1 ≡ true = ap (has_waiter ws) at ∙ has_waiter-from_pair ws u m r in
-            rw (here, some)
-            (ap (λ (x : ℕ). (if has_waiter (without ws u) x then mutexes_of (without ws u) else mutexes_of
-            (without ws u) + 1) + 0) at ∙ two (has_waiter (without ws u) m) (mutexes_of (without ws u)) ∙ ih)
-        by_mutex (inr ne) ih =
-            let no : (w.1 == m) ≡ false = grind (arith, nat_tests) in
-            let same : has_waiter (without ws u) w.1 ≡ has_waiter ws w.1
-            = has_waiter-without_other ws u m w.1 (once_tail w ws once)
-            (waited-from_pair ws u m (once_tail w ws once) r) ne in
-            rw (no, same) (three (has_waiter ws w.1) (has_waiter (without ws u) m) (mutexes_of (without ws u))
-            (mutexes_of ws) ih)
-
--- WHO IS HANDED THE MUTEX
-
--- the keys and owner states in which m was handed to u, its next waiter: where others still wait for m, u is the owner
--- in its owner state, and else it has none
-pub record IsHanded (p : Plain) (keys : List (Option ℕ)) (owners : Owners) (u m key : ℕ) : Type 0 where
-  pub seats : owners.seats ≡ set p.owners.seats u (record (seat_at p.owners u) { wait = None })
-  pub long : length keys ≡ length p.keys
-  pub here : get_or keys m None ≡ (if has_waiter (without p.arrivals u) m then Some key else None)
-  pub there : (n : ℕ) → n ≢ m → get_or keys n None ≡ key_at p n
-  pub owned : has_waiter (without p.arrivals u) m ≡ true → owner_at owners key ≡ Some u
-  pub others : (k : ℕ) → k ≢ key → owner_at owners k ≡ owner_at p.owners k
-  pub counted : count owners + (if has_waiter (without p.arrivals u) m then 0 else 1) ≡ count p.owners
-
--- what is kept once the mutex was handed over
-pub record IsGiven (p x : Plain) (u m key : ℕ) : Type 0 where
-  pub frame : x ≡ record p { keys = x.keys; owners = x.owners; arrivals = without p.arrivals u }
-  pub handed : IsHanded p x.keys x.owners u m key
-
--- what is known before t hands m, which has this key, to its next waiter
-pub record IsHandable (p : Plain) (t m key : ℕ) : Type 0 where
-  pub sound : IsSound p
-  pub at : key_at p m ≡ Some key
-  pub owner : state_at p m ≡ t
-  pub ready : is_ready (kernel_seat_at (kernel_of p) t).status ≡ true
-
--- what is known once t handed m to u
-pub record IsHanding (old p x : Plain) (t m key u : ℕ) : Type 0 where
-  pub hands : IsHandable p t m key
-  pub top : IsTop p.owners key u
-  pub handed : IsHanded p x.keys x.owners u m key
-  pub rest : x.arrivals ≡ without p.arrivals u
-  pub same : kernel_of p ≡ kernel_of old
-
--- the same, where what was kept is written by what is kept now
-abbrev pub IsHandedOn : (old p x : Plain) (t m key u : ℕ) → Type 0
-IsHandedOn old p x t m key u =
-    IsHanding old (record x { keys = p.keys; owners = p.owners; arrivals = p.arrivals }) x t m key u
 
 module _ (p : Plain) (t m key u : ℕ) (d : IsHandable p t m key) (top : IsTop p.owners key u) where
   h : IsSound p
@@ -768,7 +632,8 @@ module _ (p : Plain) (t m key u : ℕ) (d : IsHandable p t m key) (top : IsTop p
         states_seen mid n ∙ state_other n ne ∙ sym (states_seen p n)
         ∙ sym (get_or-set_other (kernel_of p).states m n (if has_waiter rest m then u else 0) 0 ne)
 
-    kernel_mid : kernel_of mid ≡ record over { levels = levels_with u (effective_in (kernel_of p) u) (kernel_of p).levels }
+    kernel_mid : kernel_of mid
+        ≡ record over { levels = levels_with u (effective_in (kernel_of p) u) (kernel_of p).levels }
     unfolding kernel_of
     kernel_mid =
         kernel_by_parts (kernel_of mid) _ refl
@@ -783,7 +648,8 @@ module _ (p : Plain) (t m key u : ℕ) (d : IsHandable p t m key) (top : IsTop p
     level_same : effective_in over u ≡ effective_in (kernel_of p) u
     level_same = sym (ap (λ (k : Kernel). effective_in k u) kernel_mid) ∙ effective_kept u (λ e. owner_other (sym e))
 
-    handed_mid : with_effective_levels (record over { levels = levels_with u (effective_in over u) (kernel_of p).levels })
+    handed_mid : with_effective_levels
+        (record over { levels = levels_with u (effective_in over u) (kernel_of p).levels })
         ≡ kernel_after_hand_over u m (kernel_of p)
     unfolding kernel_after_hand_over kernel_of
     handed_mid = refl
@@ -795,7 +661,8 @@ module _ (p : Plain) (t m key u : ℕ) (d : IsHandable p t m key) (top : IsTop p
       repaired = repairs;
       after =
           ap with_effective_levels (kernel_mid
-          ∙ ap (λ (n : ℕ). record over { levels = levels_with u n (kernel_of p).levels }) (sym level_same)) ∙ handed_mid;
+          ∙ ap (λ (n : ℕ). record over { levels = levels_with u n (kernel_of p).levels }) (sym level_same))
+          ∙ handed_mid;
       kept =
           subst (λ (n : ℕ). IsKernel (kernel_after_hand_over n m (kernel_of p))) (sym next)
           (hand_over_kept m (kernel_of p) h.kernel (λ z. h.placed.owned m key at (sym (states_seen p m) ∙ z)));

@@ -18,4 +18,6 @@ pub mod RenumberSound
 pub mod QueueingFacts
 pub mod CallFacts
 pub mod TopLaws
+pub mod WaitersWithout
+pub mod HandOverFacts
 pub mod HandOverSound

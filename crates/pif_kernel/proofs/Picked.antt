@@ -130,7 +130,8 @@ levels_left p now t h r =
     by_test true e = rw e (h r (priority-range r e) ∙ without_left (level_of p.queue p.table r) t)
     by_test false e = rw e refl
 
-pub length-left : (p now : Plain) (t : ℕ) → length (kernel_of now).levels ≡ length (levels_without t (kernel_of p).levels)
+pub length-left : (p now : Plain) (t : ℕ)
+    → length (kernel_of now).levels ≡ length (levels_without t (kernel_of p).levels)
 length-left p now t =
     levels_count now ∙ sym (levels_count p)
     ∙ sym (length-map (kernel_of p).levels (filter (λ (u : ℕ). if u == t then false else true)))

@@ -127,7 +127,7 @@ impl Parts {
     }
 }
 
-/// So many places for keys, each empty.
+/// Empty places for this many keys.
 fn empty_places(alloc: Global, count: usize) -> Result<Vec<Option<Key>>, NoMemory>
     ensures { IfOk result (λ keys. keys.items ≡ replicate count None) }
 {

@@ -11,10 +11,10 @@ use Rattle.pif_scripts.specs.declared.faults.CliFault.TheVariants as fault
 use Rattle.pif_scripts.specs.declared.reading.ending.Ending.{Ending}
 use Rattle.pif_scripts.specs.declared.reading.ending.Ending.TheVariants.{Fault, Differs}
 use Rattle.pif_scripts.specs.declared.reading.ending.End.{End}
-use Rattle.pif_scripts.specs.Scripts.{Hearing, FirstMeaning, Meaning, Answered, Scan, start, byte_taken, fed, answered, answered_by, answered_first, answered_later, after_line, end_at, with_byte, at_end, ended_by}
+use Rattle.pif_scripts.specs.Scripts.{Hearing, FirstMeaning, Meaning, Answered, Scan, start, byte_taken, reading_of, line_answer, answered_by, answered_first, answered_later, after_line, end_at, with_byte, at_end, ended_by}
 use Rattle.pif_scripts.specs.Runs.{RunsFrom}
-use Rattle.pif_scripts.specs.Running.{Answer, RunsTo, script, first_line_meaning, line_meaning, first_answer, answer_or_fault, obeyed, told, made_by}
-use Rattle.pif_scripts.proofs.ScriptLemmas.{by_cases, fed-nil, fed-ok, fed-err}
+use Rattle.pif_scripts.specs.Running.{Answer, RunsTo, script, first_line_meaning, line_meaning, first_answer, answer_or_fault, command_answer, answer_line, made_by}
+use Rattle.pif_scripts.proofs.ScriptLemmas.{by_cases, reading_of-nil, reading_of-ok, reading_of-err}
 
 -- an end that is a fault
 abbrev pub IsFault : Ending → Type 0
@@ -23,8 +23,9 @@ IsFault e = (r : Reply) → e ≡ Differs r → ⊥
 fault-is : (c : Cause) → IsFault (Fault c)
 fault-is c r e = cc
 
-module _ {S : Type 0} (hearing : Hearing S) (first : (number : ℕ) (line : List ℕ) (e : Ending) → hearing.opened number line ≡ Err e → IsFault e)
-    (later : (s : S) (line : List ℕ) (e : Ending) → hearing.heard s line ≡ Err e → IsFault e) where
+module _ {S : Type 0} (hearing : Hearing S)
+    (first : (number : ℕ) (line : List ℕ) (e : Ending) → hearing.first_meaning number line ≡ Err e → IsFault e)
+    (later : (s : S) (line : List ℕ) (e : Ending) → hearing.meaning s line ≡ Err e → IsFault e) where
   first-fault : (m : FirstMeaning S) (e : Ending) → answered_first m ≡ Err e → m ≡ Err e
   first-fault (Ok (Some m)) e p = cc
   first-fault (Ok None) e p = cc
@@ -34,32 +35,38 @@ module _ {S : Type 0} (hearing : Hearing S) (first : (number : ℕ) (line : List
   later-fault (Ok m) e p = cc
   later-fault (Err x) e p = let q : x ≡ e = cc in ap Err q
 
-  answered-fault : (l : Option S) (number : ℕ) (line : List ℕ) (e : Ending) → answered_by hearing l number line ≡ Err e → IsFault e
-  answered-fault None number line e p = first number line e (first-fault (hearing.opened number line) e p)
-  answered-fault (Some l) number line e p = later l line e (later-fault (hearing.heard l line) e p)
+  answered-fault : (l : Option S) (number : ℕ) (line : List ℕ) (e : Ending) → answered_by hearing l number line ≡ Err e
+      → IsFault e
+  answered-fault None number line e p = first number line e (first-fault (hearing.first_meaning number line) e p)
+  answered-fault (Some l) number line e p = later l line e (later-fault (hearing.meaning l line) e p)
 
-  after_line-fault : (s : Scan S) (m : Answered S) (x : End) → ((e : Ending) → m ≡ Err e → IsFault e) → after_line s m ≡ Err x → IsFault x.ending
+  after_line-fault : (s : Scan S) (m : Answered S) (x : End) → ((e : Ending) → m ≡ Err e → IsFault e)
+      → after_line s m ≡ Err x → IsFault x.ending
   after_line-fault s (Ok m) x u p = cc
-  after_line-fault s (Err e) x u p = let q : end_at s e ≡ x = cc in subst IsFault (ap (λ (y : End). y.ending) q) (u e refl)
+  after_line-fault s (Err e) x u p =
+      let q : end_at s e ≡ x = cc in subst IsFault (ap (λ (y : End). y.ending) q) (u e refl)
 
   fault-by : (x y z : Bool) (s : Scan S) (b : ℕ) (m : Answered S) (e : End) → ((v : Ending) → m ≡ Err v → IsFault v)
-      → cond x (cond y (after_line s m) (cond z (Ok ([], with_byte s b)) (Err (end_at s (Fault Long))))) (Err (end_at s (Fault Size))) ≡ Err e → IsFault e.ending
+      → cond x (cond y (after_line s m) (cond z (Ok ([], with_byte s b)) (Err (end_at s (Fault Long)))))
+      (Err (end_at s (Fault Size))) ≡ Err e → IsFault e.ending
   fault-by true true z s b m e u p = after_line-fault s m e u p
   fault-by true false true s b m e u p = cc
-  fault-by true false false s b m e u p = let q : end_at s (Fault Long) ≡ e = cc in subst IsFault (ap (λ (y : End). y.ending) q) (fault-is Long)
-  fault-by false y z s b m e u p = let q : end_at s (Fault Size) ≡ e = cc in subst IsFault (ap (λ (y : End). y.ending) q) (fault-is Size)
+  fault-by true false false s b m e u p =
+      let q : end_at s (Fault Long) ≡ e = cc in subst IsFault (ap (λ (y : End). y.ending) q) (fault-is Long)
+  fault-by false y z s b m e u p =
+      let q : end_at s (Fault Size) ≡ e = cc in subst IsFault (ap (λ (y : End). y.ending) q) (fault-is Size)
 
   byte_taken-fault : (s : Scan S) (b : ℕ) (e : End) → byte_taken hearing s b ≡ Err e → IsFault e.ending
   unfolding byte_taken
-  byte_taken-fault s b e p = fault-by _ _ _ s b (answered hearing s) e (answered-fault s.listener s.number s.line) p
+  byte_taken-fault s b e p = fault-by _ _ _ s b (line_answer hearing s) e (answered-fault s.listener s.number s.line) p
 
-  fed-fault : (bs : List ℕ) (s : Scan S) (e : End) → (fed hearing s bs).stands ≡ Err e → IsFault e.ending
-  fed-fault [] s e p = let n = fed-nil hearing s in let bad : Ok s ≡ Err e = sym n.1 ∙ p in cc
-  fed-fault (b ∷ bs) s e p =
+  reading_of-fault : (bs : List ℕ) (s : Scan S) (e : End) → (reading_of hearing s bs).stands ≡ Err e → IsFault e.ending
+  reading_of-fault [] s e p = let n = reading_of-nil hearing s in let bad : Ok s ≡ Err e = sym n.1 ∙ p in cc
+  reading_of-fault (b ∷ bs) s e p =
       elim (by_cases (byte_taken hearing s b)) [
-        | inl r ↦ let one = fed-ok hearing s b bs r.0 r.1 in fed-fault bs r.0.1 e (sym one.1 ∙ p)
+        | inl r ↦ let one = reading_of-ok hearing s b bs r.0 r.1 in reading_of-fault bs r.0.1 e (sym one.1 ∙ p)
         | inr r ↦
-            let one = fed-err hearing s b bs r.0 r.1 in
+            let one = reading_of-err hearing s b bs r.0 r.1 in
             let same : Err r.0 ≡ Err e = sym one.1 ∙ p in
             let q : r.0 ≡ e = cc in
             subst IsFault (ap (λ (y : End). y.ending) q) (byte_taken-fault s b r.0 r.1)
@@ -67,25 +74,30 @@ module _ {S : Type 0} (hearing : Hearing S) (first : (number : ℕ) (line : List
 
   at_end-fault : (s : Scan S) (told : Result (List ℕ) Cause) (e : End) → at_end s told ≡ Err e → IsFault e.ending
   at_end-fault s (Ok text) e p = cc
-  at_end-fault s (Err c) e p = let q : end_at s (Fault c) ≡ e = cc in subst IsFault (ap (λ (y : End). y.ending) q) (fault-is c)
+  at_end-fault s (Err c) e p =
+      let q : end_at s (Fault c) ≡ e = cc in subst IsFault (ap (λ (y : End). y.ending) q) (fault-is c)
 
-  closed-by : (x : Bool) (s : Scan S) (told : Result (List ℕ) Cause) (e : End) → cond x (at_end s told) (Err (end_at s (Fault Cut))) ≡ Err e → IsFault e.ending
+  closed-by : (x : Bool) (s : Scan S) (told : Result (List ℕ) Cause) (e : End)
+      → cond x (at_end s told) (Err (end_at s (Fault Cut))) ≡ Err e → IsFault e.ending
   closed-by true s told e p = at_end-fault s told e p
-  closed-by false s told e p = let q : end_at s (Fault Cut) ≡ e = cc in subst IsFault (ap (λ (y : End). y.ending) q) (fault-is Cut)
+  closed-by false s told e p =
+      let q : end_at s (Fault Cut) ≡ e = cc in subst IsFault (ap (λ (y : End). y.ending) q) (fault-is Cut)
 
-  ended-by : (stands : Result (Scan S) End) (e : End) → ((x : End) → stands ≡ Err x → IsFault x.ending) → ended_by hearing stands ≡ Err e → IsFault e.ending
+  ended-by : (stands : Result (Scan S) End) (e : End) → ((x : End) → stands ≡ Err x → IsFault x.ending)
+      → ended_by hearing stands ≡ Err e → IsFault e.ending
   ended-by (Err x) e u p = let q : x ≡ e = cc in u e (ap Err q)
-  ended-by (Ok s) e u p = closed-by (length s.line == 0) s (hearing.closed s.number) e p
+  ended-by (Ok s) e u p = closed-by (length s.line == 0) s (hearing.end_text s.number) e p
 
   -- bytes that end a script end it with a fault
-  pub ends-with_fault : (bs : List ℕ) (s : Scan S) (line : ℕ) (r : Reply) → ended_by hearing (fed hearing s bs).stands ≡ Err (record { line = line; ending = Differs r }) → ⊥
-  ends-with_fault bs s line r p = ended-by (fed hearing s bs).stands _ (fed-fault bs s) p r refl
+  pub ends-with_fault : (bs : List ℕ) (s : Scan S) (line : ℕ) (r : Reply)
+      → ended_by hearing (reading_of hearing s bs).stands ≡ Err (record { line = line; ending = Differs r }) → ⊥
+  ends-with_fault bs s line r p = ended-by (reading_of hearing s bs).stands _ (reading_of-fault bs s) p r refl
 
 -- ---- scripts
 
-told-fault : (a : Result Answer Cause) (e : Ending) → told a ≡ Err e → IsFault e
-told-fault (Ok a) e p = cc
-told-fault (Err c) e p = let q : Fault c ≡ e = cc in subst IsFault q (fault-is c)
+answer_line-fault : (a : Result Answer Cause) (e : Ending) → answer_line a ≡ Err e → IsFault e
+answer_line-fault (Ok a) e p = cc
+answer_line-fault (Err c) e p = let q : Fault c ≡ e = cc in subst IsFault q (fault-is c)
 
 made-fault : (m : Meaning Table) (e : Ending) → made_by m ≡ Err e → m ≡ Err e
 made-fault (Ok m) e p = cc
@@ -95,14 +107,16 @@ no_command-fault : (e : Ending) → Fault NoCommand ≡ e → IsFault e
 no_command-fault e p = subst IsFault p (fault-is NoCommand)
 
 first_line-by : (o : Option Command) (e : Ending)
-    → ◌≡◌ {A = FirstMeaning Table} (elim o [ None ↦ Err (Fault NoCommand) | Some c ↦ made_by (told (first_answer c)) ]) (Err e) → IsFault e
+    → ◌≡◌ {A = FirstMeaning Table} (elim o
+    [ None ↦ Err (Fault NoCommand) | Some c ↦ made_by (answer_line (first_answer c)) ]) (Err e) → IsFault e
 first_line-by None e p = no_command-fault e (cc)
-first_line-by (Some c) e p = told-fault (first_answer c) e (made-fault (told (first_answer c)) e p)
+first_line-by (Some c) e p = answer_line-fault (first_answer c) e (made-fault (answer_line (first_answer c)) e p)
 
 line-by : (o : Option Command) (s : Table) (e : Ending)
-    → ◌≡◌ {A = Meaning Table} (elim o [ None ↦ Err (Fault NoCommand) | Some c ↦ told (answer_or_fault (obeyed c s)) ]) (Err e) → IsFault e
+    → ◌≡◌ {A = Meaning Table} (elim o
+    [ None ↦ Err (Fault NoCommand) | Some c ↦ answer_line (answer_or_fault (command_answer c s)) ]) (Err e) → IsFault e
 line-by None s e p = no_command-fault e (cc)
-line-by (Some c) s e p = told-fault (answer_or_fault (obeyed c s)) e p
+line-by (Some c) s e p = answer_line-fault (answer_or_fault (command_answer c s)) e p
 
 first_line-fault : (line : List ℕ) (e : Ending) → first_line_meaning line ≡ Err e → IsFault e
 unfolding first_line_meaning
@@ -112,9 +126,11 @@ line-fault : (s : Table) (line : List ℕ) (e : Ending) → line_meaning s line 
 unfolding line_meaning
 line-fault s line e p = line-by (command_in line) s e p
 
-pub RunsTo-from : (a b h k : Option (List ℕ)) (result : Result (Unit {0}) CliFault) → RunsFrom script start a b h k result → RunsTo a b h k result
+pub RunsTo-from : (a b h k : Option (List ℕ)) (result : Result (Unit {0}) CliFault)
+    → RunsFrom script start a b h k result → RunsTo a b h k result
 RunsTo-from a b h k (Ok x) r = r
-RunsTo-from a b h k (Err (fault.Differs line)) r = ends-with_fault script (λ number. first_line-fault) line-fault r.0 start line r.2.0.0 r.2.0.1
+RunsTo-from a b h k (Err (fault.Differs line)) r =
+    ends-with_fault script (λ number. first_line-fault) line-fault r.0 start line r.2.0.0 r.2.0.1
 RunsTo-from a b h k (Err (fault.Script line cause)) r = r
 RunsTo-from a b h k (Err fault.Read) r = r
 RunsTo-from a b h k (Err fault.Write) r = r

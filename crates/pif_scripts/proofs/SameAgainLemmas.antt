@@ -23,43 +23,57 @@ use Rattle.pif_text.proofs.Plain.{lacks, IsLine, recorded-line, recorded-parts}
 use Rattle.pif_text.proofs.ReadBack.{command_back}
 use Rattle.pif_text.specs.declared.replies.Cause.TheVariants.{Command as NoCommand}
 use Rattle.pif_scripts.specs.declared.reading.ending.Ending.TheVariants.{Fault, Differs}
-use Rattle.pif_scripts.specs.Scripts.{Hearing, FirstMeaning, Meaning, Scan, fed, answered_by, answered_first, answered_later, after_line, with_byte, closed_at, ended_by}
+use Rattle.pif_scripts.specs.Scripts.{Hearing, FirstMeaning, Meaning, Scan, reading_of, answered_by, answered_first, answered_later, after_line, with_byte, closed_at, ended_by}
 use Rattle.pif_scripts.specs.Runs.{last_text}
 use Rattle.pif_types.specs.declared.requests.Kind.{Kind}
 use Rattle.pif_types.specs.declared.requests.Request.{Request}
-use Rattle.pif_scripts.specs.Running.{Answer, answer_or_fault, obeyed, first_answer, limits_in, are_limits, reply_of_seen, made_by}
-use Rattle.pif_scripts.specs.Traces.{if_traced, traced_in, compared, second_line_meaning, traced_meaning, trace_hearing, trace_end, verdict, entry_text, entry_line, limits_text, front_lines, trace, IsEntryWritten, IsHistory}
-use Rattle.pif_scripts.proofs.ScriptLemmas.{byte_taken-byte, byte_taken-end, fed-ok, fed-nil}
+use Rattle.pif_scripts.specs.Running.{Answer, answer_or_fault, command_answer, first_answer, limits_in, are_limits, reply_of_seen, made_by}
+use Rattle.pif_scripts.specs.Traces.{if_traced, traced_in, comparison, second_line_meaning, traced_meaning, trace_hearing, trace_end, verdict, entry_text, entry_line, limits_text, front_lines, trace, IsEntryWritten, IsHistory}
+use Rattle.pif_scripts.proofs.ScriptLemmas.{byte_taken-byte, byte_taken-end, reading_of-ok, reading_of-nil}
 
 -- ---- whole lines
 
 module _ {S : Type 0} (hearing : Hearing S) where
-  fed-bytes : (bytes rest : List ℕ) (s : Scan S) (line : List ℕ) (taken : ℕ) → lacks 10 bytes ≡ true → length s.line + length bytes ≤ 120
+  reading_of-bytes : (bytes rest : List ℕ) (s : Scan S) (line : List ℕ) (taken : ℕ) → lacks 10 bytes ≡ true
+      → length s.line + length bytes ≤ 120
       → s.taken + length bytes ≤ 16777216 → line ≡ s.line ++ bytes → taken ≡ s.taken + length bytes
-      → (fed hearing s (bytes ++ rest)).stands ≡ (fed hearing (record { listener = s.listener; line = line; number = s.number; taken = taken }) rest).stands
-  fed-bytes [] rest s line taken e short small p q =
+      → (reading_of hearing s (bytes ++ rest)).stands
+      ≡ (reading_of hearing (record { listener = s.listener; line = line; number = s.number; taken = taken })
+      rest).stands
+  reading_of-bytes [] rest s line taken e short small p q =
       let same : s.line ≡ line = sym (p ∙ append-nil s.line) in
       let count : s.taken ≡ taken = omega arith in
-      ap (λ (t : Scan S). (fed hearing t rest).stands) (λ i. record { listener = s.listener; line = same i; number = s.number; taken = count i })
-  fed-bytes (b ∷ bs) rest s line taken e short small p q =
+      ap (λ (t : Scan S). (reading_of hearing t rest).stands)
+      (λ i. record { listener = s.listener; line = same i; number = s.number; taken = count i })
+  reading_of-bytes (b ∷ bs) rest s line taken e short small p q =
       let t = and_parts (not (b == 10)) (lacks 10 bs) e in
       let other : b ≡ 10 → ⊥ = λ h. let unequal : not (b == 10) ≡ true = t.0 in grind (arith, nat_tests) in
-      let one = fed-ok hearing s b (bs ++ rest) ([], with_byte s b) (byte_taken-byte hearing s b (omega arith) other (omega arith)) in
-      one.1 ∙ fed-bytes bs rest (with_byte s b) line taken t.1 (omega (arith, length-append s.line (b ∷ []))) (omega arith)
+      let one = reading_of-ok hearing s b (bs ++ rest) ([], with_byte s b)
+      (byte_taken-byte hearing s b (omega arith) other (omega arith)) in
+      one.1 ∙ reading_of-bytes bs rest (with_byte s b) line taken t.1 (omega (arith, length-append s.line (b ∷ [])))
+      (omega arith)
       (p ∙ sym (append_assoc s.line (b ∷ []) bs)) (omega arith)
 
   -- a line with its LF, from its first byte on
-  fed-line : (bytes rest : List ℕ) (l : Option S) (number taken : ℕ) (m : List ℕ × Option S) → IsLine bytes → taken + length bytes < 16777216
+  reading_of-line : (bytes rest : List ℕ) (l : Option S) (number taken : ℕ) (m : List ℕ × Option S) → IsLine bytes
+      → taken + length bytes < 16777216
       → answered_by hearing l number bytes ≡ Ok m
-      → (fed hearing (record { listener = l; line = []; number = number; taken = taken }) ((bytes ++ 10 ∷ []) ++ rest)).stands
-      ≡ (fed hearing (record { listener = m.1; line = []; number = number + 1; taken = taken + length bytes + 1 }) rest).stands
-  fed-line bytes rest l number taken m ok small e =
+      → (reading_of hearing (record { listener = l; line = []; number = number; taken = taken })
+      ((bytes ++ 10 ∷ []) ++ rest)).stands
+      ≡ (reading_of hearing (record {
+        listener = m.1;
+        line = [];
+        number = number + 1;
+        taken = taken + length bytes + 1;
+      }) rest).stands
+  reading_of-line bytes rest l number taken m ok small e =
       let s : Scan S = record { listener = l; line = []; number = number; taken = taken } in
       let t : Scan S = record { listener = l; line = bytes; number = number; taken = taken + length bytes } in
-      let bytes_read = fed-bytes bytes (10 ∷ rest) s bytes (taken + length bytes) ok.no_end (omega (arith, ok.short)) (omega arith) refl refl in
+      let bytes_read = reading_of-bytes bytes (10 ∷ rest) s bytes (taken + length bytes) ok.no_end
+      (omega (arith, ok.short)) (omega arith) refl refl in
       let last = byte_taken-end hearing t 10 small refl ∙ ap (after_line t) e in
-      let one = fed-ok hearing t 10 rest _ last in
-      ap (λ l. (fed hearing s l).stands) (append_assoc bytes (10 ∷ []) rest) ∙ bytes_read ∙ one.1
+      let one = reading_of-ok hearing t 10 rest _ last in
+      ap (λ l. (reading_of hearing s l).stands) (append_assoc bytes (10 ∷ []) rest) ∙ bytes_read ∙ one.1
 
 -- ---- the lines of a trace
 
@@ -67,79 +81,106 @@ same_bytes : (xs : List ℕ) → bytes_eq xs xs ≡ true
 same_bytes xs = (bytes_eq-Decides xs xs).1 refl
 
 -- a written line is read as what was written
-traced_back : (c : Command) (r : Reply) → IsWritten c → if_traced c ≡ Some c → traced_in (command_text c ++ recorded r) ≡ Some (c, text_of r)
+traced_back : (c : Command) (r : Reply) → IsWritten c → if_traced c ≡ Some c
+    → traced_in (command_text c ++ recorded r) ≡ Some (c, text_of r)
 unfolding traced_in
 traced_back c r p e = rw (recorded-parts c r p, command_back c p, e) refl
 
 -- the answer that was written is the one that is given
-compared_back : (r : Reply) (after : Table) → ◌≡◌ {A = Meaning Table} (compared (text_of r) (Ok (r, after))) (Ok ([], after))
-compared_back r after = by-test (bytes_eq (text_of r) (text_of r)) (same_bytes (text_of r))
+comparison_back : (r : Reply) (after : Table)
+    → ◌≡◌ {A = Meaning Table} (comparison (text_of r) (Ok (r, after))) (Ok ([], after))
+comparison_back r after = by-test (bytes_eq (text_of r) (text_of r)) (same_bytes (text_of r))
   where
-    by-test : (b : Bool) → b ≡ true → ◌≡◌ {A = Meaning Table} (cond b (Ok ([], after)) (Err (Differs r))) (Ok ([], after))
+    by-test : (b : Bool) → b ≡ true
+        → ◌≡◌ {A = Meaning Table} (cond b (Ok ([], after)) (Err (Differs r))) (Ok ([], after))
     by-test true e = refl
     by-test false e = absurd (false≢true e)
 
-given_back : (o : Option Answer) (r : Reply) (after : Table) → o ≡ Some (r, after) → compared (text_of r) (answer_or_fault o) ≡ Ok ([], after)
-given_back o r after e = subst (λ x. compared (text_of r) (answer_or_fault x) ≡ Ok ([], after)) (sym e) (compared_back r after)
+given_back : (o : Option Answer) (r : Reply) (after : Table) → o ≡ Some (r, after)
+    → comparison (text_of r) (answer_or_fault o) ≡ Ok ([], after)
+given_back o r after e =
+    subst (λ x. comparison (text_of r) (answer_or_fault x) ≡ Ok ([], after)) (sym e) (comparison_back r after)
 
-later_by : (o : Option (Command × List ℕ)) (c : Command) (r : Reply) (s after : Table) → o ≡ Some (c, text_of r) → obeyed c s ≡ Some (r, after)
-    → ◌≡◌ {A = Meaning Table} (elim o [ None ↦ Err (Fault NoCommand) | Some p ↦ compared p.1 (answer_or_fault (obeyed p.0 s)) ]) (Ok ([], after))
+later_by : (o : Option (Command × List ℕ)) (c : Command) (r : Reply) (s after : Table) → o ≡ Some (c, text_of r)
+    → command_answer c s ≡ Some (r, after)
+    → ◌≡◌ {A = Meaning Table} (elim o
+    [ None ↦ Err (Fault NoCommand) | Some p ↦ comparison p.1 (answer_or_fault (command_answer p.0 s)) ])
+    (Ok ([], after))
 later_by o c r s after e g =
-    subst (λ x. ◌≡◌ {A = Meaning Table} (elim x [ None ↦ Err (Fault NoCommand) | Some p ↦ compared p.1 (answer_or_fault (obeyed p.0 s)) ]) (Ok ([], after)))
-    (sym e) (given_back (obeyed c s) r after g)
+    subst (λ x. ◌≡◌ {A = Meaning Table}
+    (elim x [ None ↦ Err (Fault NoCommand) | Some p ↦ comparison p.1 (answer_or_fault (command_answer p.0 s)) ])
+    (Ok ([], after)))
+    (sym e) (given_back (command_answer c s) r after g)
 
-heard_back : (c : Command) (r : Reply) (s after : Table) (number : ℕ) → IsWritten c → if_traced c ≡ Some c → obeyed c s ≡ Some (r, after)
+heard_back : (c : Command) (r : Reply) (s after : Table) (number : ℕ) → IsWritten c → if_traced c ≡ Some c
+    → command_answer c s ≡ Some (r, after)
     → answered_by trace_hearing (Some s) number (command_text c ++ recorded r) ≡ Ok ([], Some after)
 unfolding traced_meaning
-heard_back c r s after number p e o = ap answered_later (later_by (traced_in (command_text c ++ recorded r)) c r s after (traced_back c r p e) o)
+heard_back c r s after number p e o =
+    ap answered_later (later_by (traced_in (command_text c ++ recorded r)) c r s after (traced_back c r p e) o)
 
-first_by : (o : Option (Command × List ℕ)) (c : Command) (r : Reply) (after : Table) → o ≡ Some (c, text_of r) → first_answer c ≡ Ok (r, after)
-    → ◌≡◌ {A = FirstMeaning Table} (elim o [ None ↦ Err (Fault NoCommand) | Some p ↦ made_by (compared p.1 (first_answer p.0)) ]) (Ok (Some ([], after)))
+first_by : (o : Option (Command × List ℕ)) (c : Command) (r : Reply) (after : Table) → o ≡ Some (c, text_of r)
+    → first_answer c ≡ Ok (r, after)
+    → ◌≡◌ {A = FirstMeaning Table} (elim o
+    [ None ↦ Err (Fault NoCommand) | Some p ↦ made_by (comparison p.1 (first_answer p.0)) ]) (Ok (Some ([], after)))
 first_by o c r after e g =
-    subst (λ x. ◌≡◌ {A = FirstMeaning Table} (elim x [ None ↦ Err (Fault NoCommand) | Some p ↦ made_by (compared p.1 (first_answer p.0)) ]) (Ok (Some ([], after))))
-    (sym e) (ap made_by (subst (λ x. compared (text_of r) x ≡ Ok ([], after)) (sym g) (compared_back r after)))
+    subst (λ x. ◌≡◌ {A = FirstMeaning Table}
+    (elim x [ None ↦ Err (Fault NoCommand) | Some p ↦ made_by (comparison p.1 (first_answer p.0)) ])
+    (Ok (Some ([], after))))
+    (sym e) (ap made_by (subst (λ x. comparison (text_of r) x ≡ Ok ([], after)) (sym g) (comparison_back r after)))
 
 -- a line that is heard so, and what happened after it
 abbrev Heard : Table → List ℕ → List Entry → Type 0
 Heard s line es =
-    (after : Table) × ((number : ℕ) → answered_by trace_hearing (Some s) number line ≡ Ok ([], Some after)) × IsLine line × IsHistory after es
+    (after : Table) × ((number : ℕ) → answered_by trace_hearing (Some s) number line ≡ Ok ([], Some after))
+    × IsLine line × IsHistory after es
 
-written_back : (c : Command) (r : Reply) (s after : Table) (es : List Entry) → IsWritten c → IsTraced r → if_traced c ≡ Some c
-    → obeyed c s ≡ Some (r, after) → IsHistory after es → Heard s (command_text c ++ recorded r) es
+written_back : (c : Command) (r : Reply) (s after : Table) (es : List Entry) → IsWritten c → IsTraced r
+    → if_traced c ≡ Some c
+    → command_answer c s ≡ Some (r, after) → IsHistory after es → Heard s (command_text c ++ recorded r) es
 written_back c r s after es p q e o h = (after, λ number. heard_back c r s after number p e o, recorded-line c r p q, h)
 
-mutex_back : (m : ℕ) (k : Kind) (robust : Bool) → robust ≡ false → command_text (Mutex k) ++ recorded (reply.Mutex m) ≡ entry_text (AddedMutex m k robust)
+mutex_back : (m : ℕ) (k : Kind) (robust : Bool) → robust ≡ false
+    → command_text (Mutex k) ++ recorded (reply.Mutex m) ≡ entry_text (AddedMutex m k robust)
 unfolding entry_text command_text
 mutex_back m k robust e = rw e refl
 
-thread_given : (t p : ℕ) (s : Table) → add_thread_answer p s ≡ Ok t → obeyed (Thread p) s ≡ Some (reply.Thread t, add_thread_after p (Ok t) s)
-unfolding obeyed
+thread_given : (t p : ℕ) (s : Table) → add_thread_answer p s ≡ Ok t
+    → command_answer (Thread p) s ≡ Some (reply.Thread t, add_thread_after p (Ok t) s)
+unfolding command_answer
 thread_given t p s e = rw e refl
 
-mutex_given : (m : ℕ) (k : Kind) (s : Table) → add_mutex_answer s ≡ Ok m → obeyed (Mutex k) s ≡ Some (reply.Mutex m, add_mutex_after k false (Ok m) s)
-unfolding obeyed
+mutex_given : (m : ℕ) (k : Kind) (s : Table) → add_mutex_answer s ≡ Ok m
+    → command_answer (Mutex k) s ≡ Some (reply.Mutex m, add_mutex_after k false (Ok m) s)
+unfolding command_answer
 mutex_given m k s e = rw e refl
 
 begin_given : (t : ℕ) (q : Request) (seen : Seen) (s : Table) → (event_outcome (BeginEvent t q) s).seen ≡ seen
-    → obeyed (Begin t q) s ≡ Some (reply_of_seen seen, (event_outcome (BeginEvent t q) s).after)
-unfolding obeyed
+    → command_answer (Begin t q) s ≡ Some (reply_of_seen seen, (event_outcome (BeginEvent t q) s).after)
+unfolding command_answer
 begin_given t q seen s e = ap (λ x. Some (reply_of_seen x, (event_outcome (BeginEvent t q) s).after)) e
 
-go_given : (t : ℕ) (seen : Seen) (s : Table) → (event_outcome (GoEvent t) s).seen ≡ seen → obeyed (Go t) s ≡ Some (reply_of_seen seen, (event_outcome (GoEvent t) s).after)
-unfolding obeyed
+go_given : (t : ℕ) (seen : Seen) (s : Table) → (event_outcome (GoEvent t) s).seen ≡ seen
+    → command_answer (Go t) s ≡ Some (reply_of_seen seen, (event_outcome (GoEvent t) s).after)
+unfolding command_answer
 go_given t seen s e = ap (λ x. Some (reply_of_seen x, (event_outcome (GoEvent t) s).after)) e
 
-entry_back : (e : Entry) (es : List Entry) (s : Table) → IsEntryWritten e → IsHistory s (e ∷ es) → Heard s (entry_text e) es
+entry_back : (e : Entry) (es : List Entry) (s : Table) → IsEntryWritten e → IsHistory s (e ∷ es)
+    → Heard s (entry_text e) es
 unfolding entry_text
 entry_back (AddedThread t p) es s w h =
-    written_back (Thread p) (reply.Thread t) s (add_thread_after p (Ok t) s) es w.0 w.1 refl (thread_given t p s h.0) h.1
+    written_back (Thread p) (reply.Thread t) s (add_thread_after p (Ok t) s) es w.0 w.1 refl
+    (thread_given t p s h.0) h.1
 entry_back (AddedMutex m k robust) es s w h =
     subst (λ line. Heard s line es) (mutex_back m k robust h.0)
-    (written_back (Mutex k) (reply.Mutex m) s (add_mutex_after k false (Ok m) s) es w.0 w.1 refl (mutex_given m k s h.1) h.2)
+    (written_back (Mutex k) (reply.Mutex m) s (add_mutex_after k false (Ok m) s) es w.0 w.1 refl
+    (mutex_given m k s h.1) h.2)
 entry_back (Step (BeginEvent t q) seen) es s w h =
-    written_back (Begin t q) (reply_of_seen seen) s (event_outcome (BeginEvent t q) s).after es w.0 w.1 refl (begin_given t q seen s h.0) h.1
+    written_back (Begin t q) (reply_of_seen seen) s (event_outcome (BeginEvent t q) s).after es w.0 w.1 refl
+    (begin_given t q seen s h.0) h.1
 entry_back (Step (GoEvent t) seen) es s w h =
-    written_back (Go t) (reply_of_seen seen) s (event_outcome (GoEvent t) s).after es w.0 w.1 refl (go_given t seen s h.0) h.1
+    written_back (Go t) (reply_of_seen seen) s (event_outcome (GoEvent t) s).after es w.0 w.1 refl
+    (go_given t seen s h.0) h.1
 
 -- a trace stands so between two lines
 abbrev at_line : Option Table → (number taken : ℕ) → Scan Table
@@ -148,14 +189,22 @@ at_line l number taken = record { listener = l; line = []; number = number; take
 -- the lines of entries are heard to their end
 entries_back : (es : List Entry) (s : Table) (number taken : ℕ) → All IsEntryWritten es → IsHistory s es
     → taken + length (flat_map entry_line es) ≤ 16777216
-    → (v : Scan Table) × ((fed trace_hearing (at_line (Some s) number taken) (flat_map entry_line es)).stands ≡ Ok v) × (v.line ≡ []) × (v.number ≡ number + length es)
-entries_back [] s number taken w h small = (at_line (Some s) number taken, (fed-nil trace_hearing (at_line (Some s) number taken)).1, refl, omega arith)
+    → (v : Scan Table) × ((reading_of trace_hearing (at_line (Some s) number taken) (flat_map entry_line es)).stands
+    ≡ Ok v) × (v.line ≡ []) × (v.number ≡ number + length es)
+entries_back [] s number taken w h small =
+    (at_line (Some s) number taken, (reading_of-nil trace_hearing (at_line (Some s) number taken)).1, refl, omega arith)
 entries_back (e ∷ es) s number taken w h small =
     let one = entry_back e es s (w 0 e (omega arith)) h in
     let bound : taken + (length (entry_text e) + 1) + length (flat_map entry_line es) ≤ 16777216 =
-    omega (arith, length-append (entry_text e ++ 10 ∷ []) (flat_map entry_line es), length-append (entry_text e) (10 ∷ [])) in
-    let line = fed-line trace_hearing (entry_text e) (flat_map entry_line es) (Some s) number taken ([], Some one.0) one.2 (omega arith) (one.1 number) in
-    let rest = entries_back es one.0 (number + 1) (taken + length (entry_text e) + 1) (λ k d below. w (suc k) d (omega arith)) one.3 (omega arith) in
+    omega (
+      arith,
+      length-append (entry_text e ++ 10 ∷ []) (flat_map entry_line es),
+      length-append (entry_text e) (10 ∷ []),
+    ) in
+    let line = reading_of-line trace_hearing (entry_text e) (flat_map entry_line es) (Some s) number taken
+    ([], Some one.0) one.2 (omega arith) (one.1 number) in
+    let rest = entries_back es one.0 (number + 1) (taken + length (entry_text e) + 1)
+    (λ k d below. w (suc k) d (omega arith)) one.3 (omega arith) in
     (rest.0, line ∙ rest.1, rest.2, omega (arith, rest.3))
 
 -- ---- the first two lines
@@ -164,7 +213,8 @@ header_line : IsLine header_text
 header_line = record { no_end = refl; short = omega arith }
 
 limits_written : (b : Bounds) → IsWithin b → IsWritten (Limits b.threads b.mutexes b.conds b.signals)
-limits_written b w = (omega (arith, w.threads), omega (arith, w.mutexes), omega (arith, w.conds), omega (arith, w.signals))
+limits_written b w =
+    (omega (arith, w.threads), omega (arith, w.mutexes), omega (arith, w.conds), omega (arith, w.signals))
 
 limits_line : (b : Bounds) → IsWithin b → IsLine (limits_text b)
 limits_line b w = recorded-line (Limits b.threads b.mutexes b.conds b.signals) reply.Done (limits_written b w) tt
@@ -179,7 +229,8 @@ are_limits_within b w =
     let signals_most : b.signals ≤ 4294967295 = w.signals in
     grind (arith, nat_tests)
 
-first_limits : (b : Bounds) → IsWithin b → first_answer (Limits b.threads b.mutexes b.conds b.signals) ≡ Ok (reply.Done, new_table b)
+first_limits : (b : Bounds) → IsWithin b
+    → first_answer (Limits b.threads b.mutexes b.conds b.signals) ≡ Ok (reply.Done, new_table b)
 unfolding first_answer limits_in
 first_limits b w = rw (are_limits_within b w) refl
 
@@ -187,22 +238,28 @@ limits_back : (b : Bounds) → IsWithin b → answered_by trace_hearing None 2 (
 unfolding second_line_meaning
 limits_back b w =
     let c = Limits b.threads b.mutexes b.conds b.signals in
-    ap answered_first (first_by (traced_in (limits_text b)) c reply.Done (new_table b) (traced_back c reply.Done (limits_written b w) refl) (first_limits b w))
+    ap answered_first (first_by (traced_in (limits_text b)) c reply.Done (new_table b)
+    (traced_back c reply.Done (limits_written b w) refl) (first_limits b w))
 
-closed_back : (v : Scan Table) (n : ℕ) → v.line ≡ [] → v.number ≡ 3 + n → last_text (closed_at trace_hearing v) ≡ same_of (1 + n) ++ 10 ∷ []
+closed_back : (v : Scan Table) (n : ℕ) → v.line ≡ [] → v.number ≡ 3 + n
+    → last_text (closed_at trace_hearing v) ≡ same_of (1 + n) ++ 10 ∷ []
 closed_back v n e f =
     let some : nat_lt 1 v.number ≡ true = grind (arith, nat_tests) in
     let count : v.number - 2 ≡ 1 + n = omega arith in
     rw (e, some, count) refl
 
-pub trace_back : (b : Bounds) (es : List Entry) → IsWithin b → All IsEntryWritten es → IsHistory (new_table b) es → length (trace b es) ≤ 16777216
+pub trace_back : (b : Bounds) (es : List Entry) → IsWithin b → All IsEntryWritten es → IsHistory (new_table b) es
+    → length (trace b es) ≤ 16777216
     → verdict (trace b es) ≡ same_of (1 + length es) ++ 10 ∷ []
 unfolding trace front_lines verdict trace_end
 trace_back b es w a h small =
     let entries = flat_map entry_line es in
     let size : 12 + (length (limits_text b) + 1) + length entries ≤ 16777216 =
     omega (arith, small, length-append (limits_text b ++ 10 ∷ []) entries, length-append (limits_text b) (10 ∷ [])) in
-    let header = fed-line trace_hearing header_text ((limits_text b ++ 10 ∷ []) ++ entries) None 1 0 ([], None) header_line (omega arith) refl in
-    let limits = fed-line trace_hearing (limits_text b) entries None 2 12 ([], Some (new_table b)) (limits_line b w) (omega arith) (limits_back b w) in
+    let header = reading_of-line trace_hearing header_text ((limits_text b ++ 10 ∷ []) ++ entries) None 1 0 ([], None)
+    header_line (omega arith) refl in
+    let limits = reading_of-line trace_hearing (limits_text b) entries None 2 12 ([], Some (new_table b))
+    (limits_line b w) (omega arith) (limits_back b w) in
     let rest = entries_back es (new_table b) 3 (12 + length (limits_text b) + 1) a h (omega arith) in
-    ap (λ stands. last_text (ended_by trace_hearing stands)) (header ∙ limits ∙ rest.1) ∙ closed_back rest.0 (length es) rest.2 rest.3
+    ap (λ stands. last_text (ended_by trace_hearing stands)) (header ∙ limits ∙ rest.1)
+    ∙ closed_back rest.0 (length es) rest.2 rest.3

@@ -6,7 +6,7 @@ use Rattle.pif_scripts.specs.declared.reading.ending.Ending.TheVariants.{Fault}
 use Rattle.pif_scripts.specs.declared.reading.ending.End.{End}
 use Rattle.pif_scripts.specs.declared.reading.ending.Stop.{Stop}
 use Rattle.pif_scripts.specs.declared.reading.ending.Stop.TheVariants.{Ended, NoMemory}
-use Rattle.pif_scripts.specs.Scripts.{Hearing, FirstMeaning, Meaning, Answered, Scan, byte_taken, fed, answered, answered_by, answered_first, answered_later, after_line, end_at, with_byte, Opens, Hears, Takes, Answers, Feeds}
+use Rattle.pif_scripts.specs.Scripts.{Hearing, FirstMeaning, Meaning, Answered, Scan, byte_taken, reading_of, line_answer, answered_by, answered_first, answered_later, after_line, end_at, with_byte, Opens, Hears, Takes, Answers, Feeds}
 
 -- an outcome is one of the two
 pub by_cases : {A E : Type 0} (r : Result A E) → ((x : A) × (r ≡ Ok x)) ⊎ ((e : E) × (r ≡ Err e))
@@ -18,15 +18,18 @@ module _ {S : Type 0} (hearing : Hearing S) where
   unfolding byte_taken
   byte_taken-size s b h = grind (arith, nat_tests)
 
-  pub byte_taken-end : (s : Scan S) (b : ℕ) → s.taken < 16777216 → b ≡ 10 → byte_taken hearing s b ≡ after_line s (answered hearing s)
+  pub byte_taken-end : (s : Scan S) (b : ℕ) → s.taken < 16777216 → b ≡ 10
+      → byte_taken hearing s b ≡ after_line s (line_answer hearing s)
   unfolding byte_taken
   byte_taken-end s b h e = grind (arith, nat_tests)
 
-  pub byte_taken-long : (s : Scan S) (b : ℕ) → s.taken < 16777216 → (b ≡ 10 → ⊥) → 120 ≤ length s.line → byte_taken hearing s b ≡ Err (end_at s (Fault Long))
+  pub byte_taken-long : (s : Scan S) (b : ℕ) → s.taken < 16777216 → (b ≡ 10 → ⊥) → 120 ≤ length s.line
+      → byte_taken hearing s b ≡ Err (end_at s (Fault Long))
   unfolding byte_taken
   byte_taken-long s b h e f = grind (arith, nat_tests)
 
-  pub byte_taken-byte : (s : Scan S) (b : ℕ) → s.taken < 16777216 → (b ≡ 10 → ⊥) → length s.line < 120 → byte_taken hearing s b ≡ Ok ([], with_byte s b)
+  pub byte_taken-byte : (s : Scan S) (b : ℕ) → s.taken < 16777216 → (b ≡ 10 → ⊥) → length s.line < 120
+      → byte_taken hearing s b ≡ Ok ([], with_byte s b)
   unfolding byte_taken
   byte_taken-byte s b h e f = grind (arith, nat_tests)
 
@@ -46,12 +49,14 @@ module _ {S : Type 0} (hearing : Hearing S) where
       cc
   later-heard (Err c) r e n = cc
 
-  answered-unheard : (l : Option S) (number : ℕ) (line : List ℕ) (r : List ℕ × Option S) → answered_by hearing l number line ≡ Ok r → r.1 ≡ None
+  answered-unheard : (l : Option S) (number : ℕ) (line : List ℕ) (r : List ℕ × Option S)
+      → answered_by hearing l number line ≡ Ok r → r.1 ≡ None
       → (l ≡ None) × (r.0 ≡ [])
-  answered-unheard None number line r e n = (refl, first-unheard (hearing.opened number line) r e n)
-  answered-unheard (Some l) number line r e n = absurd (later-heard (hearing.heard l line) r e n)
+  answered-unheard None number line r e n = (refl, first-unheard (hearing.first_meaning number line) r e n)
+  answered-unheard (Some l) number line r e n = absurd (later-heard (hearing.meaning l line) r e n)
 
-  after_line-unheard : (s : Scan S) (m : Answered S) (r : List ℕ × Scan S) → ((x : List ℕ × Option S) → m ≡ Ok x → x.1 ≡ None → (s.listener ≡ None) × (x.0 ≡ []))
+  after_line-unheard : (s : Scan S) (m : Answered S) (r : List ℕ × Scan S)
+      → ((x : List ℕ × Option S) → m ≡ Ok x → x.1 ≡ None → (s.listener ≡ None) × (x.0 ≡ []))
       → after_line s m ≡ Ok r → r.1.listener ≡ None → (s.listener ≡ None) × (r.0 ≡ [])
   after_line-unheard s (Ok m) r u e n =
       let p : (m.0, record { listener = m.1; line = []; number = s.number + 1; taken = s.taken + 1 }) ≡ r = cc in
@@ -61,7 +66,8 @@ module _ {S : Type 0} (hearing : Hearing S) where
 
   unheard-by : (x y z : Bool) (s : Scan S) (b : ℕ) (m : Answered S) (f g : End) (r : List ℕ × Scan S)
       → ((x : List ℕ × Option S) → m ≡ Ok x → x.1 ≡ None → (s.listener ≡ None) × (x.0 ≡ []))
-      → cond x (cond y (after_line s m) (cond z (Ok ([], with_byte s b)) (Err f))) (Err g) ≡ Ok r → r.1.listener ≡ None → (s.listener ≡ None) × (r.0 ≡ [])
+      → cond x (cond y (after_line s m) (cond z (Ok ([], with_byte s b)) (Err f))) (Err g) ≡ Ok r → r.1.listener ≡ None
+      → (s.listener ≡ None) × (r.0 ≡ [])
   unheard-by true true z s b m f g r u e n = after_line-unheard s m r u e n
   unheard-by true false true s b m f g r u e n =
       let p : ([], with_byte s b) ≡ r = cc in
@@ -70,33 +76,42 @@ module _ {S : Type 0} (hearing : Hearing S) where
   unheard-by false y z s b m f g r u e n = (cc, cc)
 
   -- while nobody answers, nothing was told
-  pub byte_taken-unheard : (s : Scan S) (b : ℕ) (r : List ℕ × Scan S) → byte_taken hearing s b ≡ Ok r → r.1.listener ≡ None → (s.listener ≡ None) × (r.0 ≡ [])
+  pub byte_taken-unheard : (s : Scan S) (b : ℕ) (r : List ℕ × Scan S) → byte_taken hearing s b ≡ Ok r
+      → r.1.listener ≡ None → (s.listener ≡ None) × (r.0 ≡ [])
   unfolding byte_taken
-  byte_taken-unheard s b r e n = unheard-by _ _ _ s b (answered hearing s) _ _ r (answered-unheard s.listener s.number s.line) e n
+  byte_taken-unheard s b r e n =
+      unheard-by _ _ _ s b (line_answer hearing s) _ _ r (answered-unheard s.listener s.number s.line) e n
 
   -- a line was passed over, or made a listener
-  opened-answers : (number : ℕ) (line old new : List ℕ) (o : Option S) → Opens (hearing.opened number line) old new (Ok o)
+  opened-answers : (number : ℕ) (line old new : List ℕ) (o : Option S)
+      → Opens (hearing.first_meaning number line) old new (Ok o)
       → (m : List ℕ × Option S) × (answered_by hearing None number line ≡ Ok m) × (new ≡ old ++ m.0) × (o ≡ m.1)
   opened-answers number line old new (Some l) p = ((p.0, Some l), ap answered_first p.1, p.2, refl)
   opened-answers number line old new None p = (([], None), ap answered_first p.0, p.1 ∙ sym (append-nil old), refl)
 
   pub Answers-opened : (s : Scan S) (shown old new : List ℕ) (o : Option S) → s.listener ≡ None → shown ≡ s.line
-      → Opens (hearing.opened s.number shown) old new (Ok o)
+      → Opens (hearing.first_meaning s.number shown) old new (Ok o)
       → Answers hearing s old new (record { listener = o; line = s.line; number = s.number; taken = s.taken }) (Ok tt)
   Answers-opened s shown old new o e f p =
-      let a = opened-answers s.number s.line old new o (subst (λ l. Opens (hearing.opened s.number l) old new (Ok o)) f p) in
+      let a = opened-answers s.number s.line old new o
+      (subst (λ l. Opens (hearing.first_meaning s.number l) old new (Ok o)) f p) in
       (a.0, rw e a.1, a.2, λ i. record { listener = a.3 i; line = s.line; number = s.number; taken = s.taken })
 
   -- a listener heard a line
   pub Answers-heard : (s : Scan S) (shown old new : List ℕ) (l m : S) → s.listener ≡ Some l → shown ≡ s.line
-      → Hears (hearing.heard l shown) old new m (Ok tt)
-      → Answers hearing s old new (record { listener = Some m; line = s.line; number = s.number; taken = s.taken }) (Ok tt)
+      → Hears (hearing.meaning l shown) old new m (Ok tt)
+      → Answers hearing s old new (record { listener = Some m; line = s.line; number = s.number; taken = s.taken })
+      (Ok tt)
   Answers-heard s shown old new l m e f p = ((p.0, Some m), rw (e, ← f) (ap answered_later p.1), p.2, refl)
 
   -- an LF whose line was answered
-  pub byte_taken-answered : (s : Scan S) (b : ℕ) (m : List ℕ × Option S) (t : Scan S) (l : List ℕ) → s.taken < 16777216 → b ≡ 10 → answered hearing s ≡ Ok m
+  pub byte_taken-answered : (s : Scan S) (b : ℕ) (m : List ℕ × Option S) (t : Scan S) (l : List ℕ) → s.taken < 16777216
+      → b ≡ 10 → line_answer hearing s ≡ Ok m
       → t ≡ record { listener = m.1; line = s.line; number = s.number; taken = s.taken } → l ≡ []
-      → byte_taken hearing s b ≡ Ok (m.0, record { listener = t.listener; line = l; number = t.number + 1; taken = t.taken + 1 })
+      → byte_taken hearing s b ≡ Ok (
+        m.0,
+        record { listener = t.listener; line = l; number = t.number + 1; taken = t.taken + 1 },
+      )
   byte_taken-answered s b m t l h e a u v = rw (u, v) (byte_taken-end s b h e ∙ ap (after_line s) a)
 
   same-end : (f : End) (s : Scan S) → f.line ≡ s.number → ◌≡◌ {A = End} (end_at s f.ending) f
@@ -109,80 +124,82 @@ module _ {S : Type 0} (hearing : Hearing S) where
       (byte_taken-end s b h e ∙ ap (after_line s) a.0 ∙ ap Err (same-end f s a.1), a.2)
   Takes-from_answer s b old new t NoMemory h e a = ((a.0, a.1, e, h), a.2)
 
-  pub fed-ok : (s : Scan S) (b : ℕ) (bs : List ℕ) (r : List ℕ × Scan S) → byte_taken hearing s b ≡ Ok r
-      → ((fed hearing s (b ∷ bs)).text ≡ r.0 ++ (fed hearing r.1 bs).text) × ((fed hearing s (b ∷ bs)).stands ≡ (fed hearing r.1 bs).stands)
-  unfolding fed
-  fed-ok s b bs r e = rw (fed, e) (refl, refl)
+  pub reading_of-ok : (s : Scan S) (b : ℕ) (bs : List ℕ) (r : List ℕ × Scan S) → byte_taken hearing s b ≡ Ok r
+      → ((reading_of hearing s (b ∷ bs)).text ≡ r.0 ++ (reading_of hearing r.1 bs).text)
+      × ((reading_of hearing s (b ∷ bs)).stands ≡ (reading_of hearing r.1 bs).stands)
+  unfolding reading_of
+  reading_of-ok s b bs r e = rw (reading_of, e) (refl, refl)
 
-  pub fed-err : (s : Scan S) (b : ℕ) (bs : List ℕ) (f : End) → byte_taken hearing s b ≡ Err f
-      → ((fed hearing s (b ∷ bs)).text ≡ []) × ((fed hearing s (b ∷ bs)).stands ≡ Err f)
-  unfolding fed
-  fed-err s b bs f e = rw (fed, e) (refl, refl)
+  pub reading_of-err : (s : Scan S) (b : ℕ) (bs : List ℕ) (f : End) → byte_taken hearing s b ≡ Err f
+      → ((reading_of hearing s (b ∷ bs)).text ≡ []) × ((reading_of hearing s (b ∷ bs)).stands ≡ Err f)
+  unfolding reading_of
+  reading_of-err s b bs f e = rw (reading_of, e) (refl, refl)
 
-  pub fed-nil : (s : Scan S) → ((fed hearing s []).text ≡ []) × ((fed hearing s []).stands ≡ Ok s)
-  unfolding fed
-  fed-nil s = (refl, refl)
+  pub reading_of-nil : (s : Scan S) → ((reading_of hearing s []).text ≡ []) × ((reading_of hearing s []).stands ≡ Ok s)
+  unfolding reading_of
+  reading_of-nil s = (refl, refl)
 
   -- bytes after bytes that had no fault
-  pub fed-append : (xs ys : List ℕ) (s t : Scan S) → (fed hearing s xs).stands ≡ Ok t
-      → ((fed hearing s (xs ++ ys)).text ≡ (fed hearing s xs).text ++ (fed hearing t ys).text)
-      × ((fed hearing s (xs ++ ys)).stands ≡ (fed hearing t ys).stands)
-  fed-append [] ys s t e =
-      let n = fed-nil s in
+  pub reading_of-append : (xs ys : List ℕ) (s t : Scan S) → (reading_of hearing s xs).stands ≡ Ok t
+      → ((reading_of hearing s (xs ++ ys)).text ≡ (reading_of hearing s xs).text ++ (reading_of hearing t ys).text)
+      × ((reading_of hearing s (xs ++ ys)).stands ≡ (reading_of hearing t ys).stands)
+  reading_of-append [] ys s t e =
+      let n = reading_of-nil s in
       let same : s ≡ t = cc in
-      let text = ap (λ u. (fed hearing u ys).text) same in
-      (text ∙ ap (λ l. l ++ (fed hearing t ys).text) (sym n.0), ap (λ u. (fed hearing u ys).stands) same)
-  fed-append (x ∷ xs) ys s t e =
+      let text = ap (λ u. (reading_of hearing u ys).text) same in
+      (text ∙ ap (λ l. l ++ (reading_of hearing t ys).text) (sym n.0), ap (λ u. (reading_of hearing u ys).stands) same)
+  reading_of-append (x ∷ xs) ys s t e =
       elim (by_cases (byte_taken hearing s x)) [
         | inl r ↦
-            let one = fed-ok s x xs r.0 r.1 in
-            let all = fed-ok s x (xs ++ ys) r.0 r.1 in
-            let rest = fed-append xs ys r.0.1 t (sym one.1 ∙ e) in (
+            let one = reading_of-ok s x xs r.0 r.1 in
+            let all = reading_of-ok s x (xs ++ ys) r.0 r.1 in
+            let rest = reading_of-append xs ys r.0.1 t (sym one.1 ∙ e) in (
               all.0 ∙ ap (λ l. r.0.0 ++ l) rest.0
-                  ∙ sym (append_assoc r.0.0 (fed hearing r.0.1 xs).text (fed hearing t ys).text)
-                  ∙ ap (λ l. l ++ (fed hearing t ys).text) (sym one.0),
+                  ∙ sym (append_assoc r.0.0 (reading_of hearing r.0.1 xs).text (reading_of hearing t ys).text)
+                  ∙ ap (λ l. l ++ (reading_of hearing t ys).text) (sym one.0),
               all.1 ∙ rest.1,
             )
-        | inr r ↦ let one = fed-err s x xs r.0 r.1 in let bad : Err r.0 ≡ Ok t = sym one.1 ∙ e in (cc, cc)
+        | inr r ↦ let one = reading_of-err s x xs r.0 r.1 in let bad : Err r.0 ≡ Ok t = sym one.1 ∙ e in (cc, cc)
       ]
 
   -- while nobody answers, nothing was told
-  pub fed-unheard : (xs : List ℕ) (s t : Scan S) → (fed hearing s xs).stands ≡ Ok t → t.listener ≡ None
-      → (s.listener ≡ None) × ((fed hearing s xs).text ≡ [])
-  fed-unheard [] s t e n =
-      let k = fed-nil s in
+  pub reading_of-unheard : (xs : List ℕ) (s t : Scan S) → (reading_of hearing s xs).stands ≡ Ok t → t.listener ≡ None
+      → (s.listener ≡ None) × ((reading_of hearing s xs).text ≡ [])
+  reading_of-unheard [] s t e n =
+      let k = reading_of-nil s in
       let same : s ≡ t = cc in
       (ap (λ (u : Scan S). u.listener) same ∙ n, k.0)
-  fed-unheard (x ∷ xs) s t e n =
+  reading_of-unheard (x ∷ xs) s t e n =
       elim (by_cases (byte_taken hearing s x)) [
         | inl r ↦
-            let one = fed-ok s x xs r.0 r.1 in
-            let rest = fed-unheard xs r.0.1 t (sym one.1 ∙ e) n in
+            let one = reading_of-ok s x xs r.0 r.1 in
+            let rest = reading_of-unheard xs r.0.1 t (sym one.1 ∙ e) n in
             let first = byte_taken-unheard s x r.0 r.1 rest.0 in
             (first.0, one.0 ∙ rw (first.1, rest.1) refl)
-        | inr r ↦ let one = fed-err s x xs r.0 r.1 in let bad : Err r.0 ≡ Ok t = sym one.1 ∙ e in (cc, cc)
+        | inr r ↦ let one = reading_of-err s x xs r.0 r.1 in let bad : Err r.0 ≡ Ok t = sym one.1 ∙ e in (cc, cc)
       ]
 
   -- of the bytes bs, that were read from s on, all but the rest were read, and the script stands at t
   pub record Feeding (s : Scan S) (bs old : List ℕ) (t : Scan S) (rest out : List ℕ) : Type 0 where
     pub front : List ℕ
     pub split : bs ≡ front ++ rest
-    pub stands : (fed hearing s front).stands ≡ Ok t
-    pub written : out ≡ old ++ (fed hearing s front).text
+    pub stands : (reading_of hearing s front).stands ≡ Ok t
+    pub written : out ≡ old ++ (reading_of hearing s front).text
 
   pub Feeding-start : (s : Scan S) (bs old : List ℕ) → Feeding s bs old s bs old
   Feeding-start s bs old =
-      let n = fed-nil s in
+      let n = reading_of-nil s in
       record { front = []; split = refl; stands = n.1; written = sym (ap (λ l. old ++ l) n.0 ∙ append-nil old) }
 
-  pub Feeding-more : (s : Scan S) (bs old : List ℕ) (t : Scan S) (b : ℕ) (rest out new : List ℕ) (u : Scan S) (x : Unit {0})
+  pub Feeding-more : (s : Scan S) (bs old : List ℕ) (t : Scan S) (b : ℕ) (rest out new : List ℕ) (u : Scan S)
+      (x : Unit {0})
       → Feeding s bs old t (b ∷ rest) out → Takes hearing t b out new u (Ok x) → Feeding s bs old u rest new
   Feeding-more s bs old t b rest out new u x f k =
-      let told = (fed hearing s f.front).text in
-      let one = fed-ok t b [] (k.0, u) k.1 in
-      let none = fed-nil u in
-      let more = fed-append f.front (b ∷ []) s t f.stands in
-      let text : (fed hearing s (f.front ++ b ∷ [])).text ≡ told ++ k.0 =
+      let told = (reading_of hearing s f.front).text in
+      let one = reading_of-ok t b [] (k.0, u) k.1 in
+      let none = reading_of-nil u in
+      let more = reading_of-append f.front (b ∷ []) s t f.stands in
+      let text : (reading_of hearing s (f.front ++ b ∷ [])).text ≡ told ++ k.0 =
       more.0 ∙ ap (λ l. told ++ l) (one.0 ∙ ap (λ l. k.0 ++ l) none.0 ∙ append-nil k.0) in
       record {
         front = f.front ++ b ∷ [];
@@ -191,20 +208,24 @@ module _ {S : Type 0} (hearing : Hearing S) where
         written = k.2 ∙ ap (λ l. l ++ k.0) f.written ∙ append_assoc old told k.0 ∙ ap (λ l. old ++ l) (sym text);
       }
 
-  pub Feeds-end : (s : Scan S) (bs old : List ℕ) (t : Scan S) (rest out : List ℕ) (x : Unit {0}) → Feeding s bs old t rest out → rest ≡ [] → Feeds hearing s bs old out t (Ok x)
+  pub Feeds-end : (s : Scan S) (bs old : List ℕ) (t : Scan S) (rest out : List ℕ) (x : Unit {0})
+      → Feeding s bs old t rest out → rest ≡ [] → Feeds hearing s bs old out t (Ok x)
   Feeds-end s bs old t rest out x f e =
       let whole = f.split ∙ ap (λ l. f.front ++ l) e ∙ append-nil f.front in
-      let text = ap (λ l. old ++ (fed hearing s l).text) (sym whole) in
-      (ap (λ l. (fed hearing s l).stands) whole ∙ f.stands, f.written ∙ text)
+      let text = ap (λ l. old ++ (reading_of hearing s l).text) (sym whole) in
+      (ap (λ l. (reading_of hearing s l).stands) whole ∙ f.stands, f.written ∙ text)
 
   pub Feeds-stop : (s : Scan S) (bs old : List ℕ) (t : Scan S) (b : ℕ) (rest out new : List ℕ) (u : Scan S) (y : Stop)
       → Feeding s bs old t (b ∷ rest) out → Takes hearing t b out new u (Err y) → Feeds hearing s bs old new u (Err y)
   Feeds-stop s bs old t b rest out new u (Ended x) f k =
-      let told = (fed hearing s f.front).text in
-      let step = fed-err t b rest x k.0 in
-      let more = fed-append f.front (b ∷ rest) s t f.stands in
-      let text = ap (λ l. (fed hearing s l).text) f.split ∙ more.0 ∙ ap (λ l. told ++ l) step.0 ∙ append-nil told in
-      (ap (λ l. (fed hearing s l).stands) f.split ∙ more.1 ∙ step.1, k.1 ∙ f.written ∙ ap (λ l. old ++ l) (sym text))
+      let told = (reading_of hearing s f.front).text in
+      let step = reading_of-err t b rest x k.0 in
+      let more = reading_of-append f.front (b ∷ rest) s t f.stands in
+      let text = ap (λ l. (reading_of hearing s l).text) f.split ∙ more.0 ∙ ap (λ l. told ++ l) step.0
+      ∙ append-nil told in (
+        ap (λ l. (reading_of hearing s l).stands) f.split ∙ more.1 ∙ step.1,
+        k.1 ∙ f.written ∙ ap (λ l. old ++ l) (sym text),
+      )
   Feeds-stop s bs old t b rest out new u NoMemory f k =
-      let quiet = fed-unheard f.front s t f.stands k.0.0 in
+      let quiet = reading_of-unheard f.front s t f.stands k.0.0 in
       ((f.front, t, b, rest, f.split, f.stands, k.0), k.1 ∙ f.written ∙ ap (λ l. old ++ l) quiet.1 ∙ append-nil old)

@@ -12,116 +12,164 @@ use Rattle.pif_scripts.specs.declared.faults.CliFault.{CliFault}
 use Rattle.pif_scripts.specs.declared.faults.CliFault.TheVariants as fault
 use Rattle.pif_scripts.specs.declared.reading.ending.Ending.TheVariants.{Fault, Differs}
 use Rattle.pif_scripts.specs.declared.reading.ending.End.{End}
-use Rattle.pif_scripts.specs.Scripts.{Hearing, FirstMeaning, Meaning, Answered, Scan, start, byte_taken, fed, answered, answered_by, answered_first, answered_later, after_line, with_byte, ended_by}
-use Rattle.pif_scripts.specs.Runs.{RunsFrom, last_text, WritesPart}
-use Rattle.pif_scripts.specs.Running.{Answer, first_answer, answer_or_fault, obeyed, made_by}
-use Rattle.pif_scripts.specs.Traces.{compared, header_meaning, second_line_meaning, traced_meaning, traced_in, trace_hearing, trace_end, verdict, ReplaysTo}
+use Rattle.pif_scripts.specs.Scripts.{Hearing, FirstMeaning, Meaning, Answered, Scan, start, byte_taken, reading_of, line_answer, answered_by, answered_first, answered_later, after_line, with_byte}
+use Rattle.pif_scripts.specs.Runs.{RunsFrom, WritesPart}
+use Rattle.pif_scripts.specs.Running.{Answer, first_answer, answer_or_fault, command_answer, made_by}
+use Rattle.pif_scripts.specs.Traces.{comparison, header_meaning, second_line_meaning, traced_meaning, traced_in, trace_hearing, trace_end, verdict, ReplaysTo}
 use Rattle.pif_scripts.proofs.RunLemmas.{Appends-kept_before}
-use Rattle.pif_scripts.proofs.ScriptLemmas.{by_cases, fed-nil, fed-ok, fed-err}
+use Rattle.pif_scripts.proofs.ScriptLemmas.{by_cases, reading_of-nil, reading_of-ok, reading_of-err}
 
-module _ {S : Type 0} (hearing : Hearing S) (first : (number : ℕ) (line : List ℕ) (m : List ℕ × S) → hearing.opened number line ≡ Ok (Some m) → m.0 ≡ [])
-    (later : (s : S) (line : List ℕ) (m : List ℕ × S) → hearing.heard s line ≡ Ok m → m.0 ≡ []) where
-  first-silent : (x : FirstMeaning S) (m : List ℕ × Option S) → ((y : List ℕ × S) → x ≡ Ok (Some y) → y.0 ≡ []) → answered_first x ≡ Ok m → m.0 ≡ []
+module _ {S : Type 0} (hearing : Hearing S)
+    (first : (number : ℕ) (line : List ℕ) (m : List ℕ × S) → hearing.first_meaning number line ≡ Ok (Some m) → m.0 ≡ [])
+    (later : (s : S) (line : List ℕ) (m : List ℕ × S) → hearing.meaning s line ≡ Ok m → m.0 ≡ []) where
+  first-silent : (x : FirstMeaning S) (m : List ℕ × Option S) → ((y : List ℕ × S) → x ≡ Ok (Some y) → y.0 ≡ [])
+      → answered_first x ≡ Ok m → m.0 ≡ []
   first-silent (Ok (Some y)) m u p =
       let q : (y.0, Some y.1) ≡ m = cc in
       sym (ap (λ (z : List ℕ × Option S). z.0) q) ∙ u y refl
   first-silent (Ok None) m u p = let q : ([], None) ≡ m = cc in sym (ap (λ (z : List ℕ × Option S). z.0) q)
   first-silent (Err e) m u p = cc
 
-  later-silent : (x : Meaning S) (m : List ℕ × Option S) → ((y : List ℕ × S) → x ≡ Ok y → y.0 ≡ []) → answered_later x ≡ Ok m → m.0 ≡ []
+  later-silent : (x : Meaning S) (m : List ℕ × Option S) → ((y : List ℕ × S) → x ≡ Ok y → y.0 ≡ [])
+      → answered_later x ≡ Ok m → m.0 ≡ []
   later-silent (Ok y) m u p =
       let q : (y.0, Some y.1) ≡ m = cc in
       sym (ap (λ (z : List ℕ × Option S). z.0) q) ∙ u y refl
   later-silent (Err e) m u p = cc
 
-  answered-silent : (l : Option S) (number : ℕ) (line : List ℕ) (m : List ℕ × Option S) → answered_by hearing l number line ≡ Ok m → m.0 ≡ []
-  answered-silent None number line m p = first-silent (hearing.opened number line) m (first number line) p
-  answered-silent (Some l) number line m p = later-silent (hearing.heard l line) m (later l line) p
+  answered-silent : (l : Option S) (number : ℕ) (line : List ℕ) (m : List ℕ × Option S)
+      → answered_by hearing l number line ≡ Ok m → m.0 ≡ []
+  answered-silent None number line m p = first-silent (hearing.first_meaning number line) m (first number line) p
+  answered-silent (Some l) number line m p = later-silent (hearing.meaning l line) m (later l line) p
 
-  after_line-silent : (s : Scan S) (x : Answered S) (r : List ℕ × Scan S) → ((m : List ℕ × Option S) → x ≡ Ok m → m.0 ≡ []) → after_line s x ≡ Ok r → r.0 ≡ []
+  after_line-silent : (s : Scan S) (x : Answered S) (r : List ℕ × Scan S)
+      → ((m : List ℕ × Option S) → x ≡ Ok m → m.0 ≡ []) → after_line s x ≡ Ok r → r.0 ≡ []
   after_line-silent s (Ok m) r u p =
       let q : (m.0, record { listener = m.1; line = []; number = s.number + 1; taken = s.taken + 1 }) ≡ r = cc in
       sym (ap (λ (z : List ℕ × Scan S). z.0) q) ∙ u m refl
   after_line-silent s (Err e) r u p = cc
 
-  silent-by : (x y z : Bool) (s : Scan S) (b : ℕ) (m : Answered S) (f g : End) (r : List ℕ × Scan S) → ((v : List ℕ × Option S) → m ≡ Ok v → v.0 ≡ [])
+  silent-by : (x y z : Bool) (s : Scan S) (b : ℕ) (m : Answered S) (f g : End) (r : List ℕ × Scan S)
+      → ((v : List ℕ × Option S) → m ≡ Ok v → v.0 ≡ [])
       → cond x (cond y (after_line s m) (cond z (Ok ([], with_byte s b)) (Err f))) (Err g) ≡ Ok r → r.0 ≡ []
   silent-by true true z s b m f g r u p = after_line-silent s m r u p
-  silent-by true false true s b m f g r u p = let q : ([], with_byte s b) ≡ r = cc in sym (ap (λ (x : List ℕ × Scan S). x.0) q)
+  silent-by true false true s b m f g r u p =
+      let q : ([], with_byte s b) ≡ r = cc in sym (ap (λ (x : List ℕ × Scan S). x.0) q)
   silent-by true false false s b m f g r u p = cc
   silent-by false y z s b m f g r u p = cc
 
   byte_taken-silent : (s : Scan S) (b : ℕ) (r : List ℕ × Scan S) → byte_taken hearing s b ≡ Ok r → r.0 ≡ []
   unfolding byte_taken
-  byte_taken-silent s b r p = silent-by _ _ _ s b (answered hearing s) _ _ r (answered-silent s.listener s.number s.line) p
+  byte_taken-silent s b r p =
+      silent-by _ _ _ s b (line_answer hearing s) _ _ r (answered-silent s.listener s.number s.line) p
 
-  pub fed-silent : (bs : List ℕ) (s : Scan S) → (fed hearing s bs).text ≡ []
-  fed-silent [] s = (fed-nil hearing s).0
-  fed-silent (b ∷ bs) s =
+  pub reading_of-silent : (bs : List ℕ) (s : Scan S) → (reading_of hearing s bs).text ≡ []
+  reading_of-silent [] s = (reading_of-nil hearing s).0
+  reading_of-silent (b ∷ bs) s =
       elim (by_cases (byte_taken hearing s b)) [
         | inl r ↦
-            let one = fed-ok hearing s b bs r.0 r.1 in
-            one.0 ∙ rw (byte_taken-silent s b r.0 r.1) (fed-silent bs r.0.1)
-        | inr r ↦ (fed-err hearing s b bs r.0 r.1).0
+            let one = reading_of-ok hearing s b bs r.0 r.1 in
+            one.0 ∙ rw (byte_taken-silent s b r.0 r.1) (reading_of-silent bs r.0.1)
+        | inr r ↦ (reading_of-err hearing s b bs r.0 r.1).0
       ]
 
 -- ---- traces
 
-compared-by : (x : Bool) (a : Answer) (m : List ℕ × Table) → ◌≡◌ {A = Meaning Table} (cond x (Ok ([], a.1)) (Err (Differs a.0))) (Ok m) → m.0 ≡ []
-compared-by true a m p = let q : ([], a.1) ≡ m = cc in sym (ap (λ (z : List ℕ × Table). z.0) q)
-compared-by false a m p = cc
+comparison-by : (x : Bool) (a : Answer) (m : List ℕ × Table)
+    → ◌≡◌ {A = Meaning Table} (cond x (Ok ([], a.1)) (Err (Differs a.0))) (Ok m) → m.0 ≡ []
+comparison-by true a m p = let q : ([], a.1) ≡ m = cc in sym (ap (λ (z : List ℕ × Table). z.0) q)
+comparison-by false a m p = cc
 
-compared-silent : (recorded : List ℕ) (a : Result Answer Cause) (m : List ℕ × Table) → compared recorded a ≡ Ok m → m.0 ≡ []
-compared-silent recorded (Ok a) m p = compared-by (bytes_eq (text_of a.0) recorded) a m p
-compared-silent recorded (Err c) m p = cc
+comparison-silent : (recorded : List ℕ) (a : Result Answer Cause) (m : List ℕ × Table) → comparison recorded a ≡ Ok m
+    → m.0 ≡ []
+comparison-silent recorded (Ok a) m p = comparison-by (bytes_eq (text_of a.0) recorded) a m p
+comparison-silent recorded (Err c) m p = cc
 
 made-silent : (x : Meaning Table) (m : List ℕ × Table) → made_by x ≡ Ok (Some m) → x ≡ Ok m
 made-silent (Ok y) m p = let q : y ≡ m = cc in ap Ok q
 made-silent (Err e) m p = cc
 
-header-by : (x : Bool) (m : List ℕ × Table) → ◌≡◌ {A = FirstMeaning Table} (cond x (Ok None) (Err (Fault NoCommand))) (Ok (Some m)) → m.0 ≡ []
+header-by : (x : Bool) (m : List ℕ × Table)
+    → ◌≡◌ {A = FirstMeaning Table} (cond x (Ok None) (Err (Fault NoCommand))) (Ok (Some m)) → m.0 ≡ []
 header-by true m p = cc
 header-by false m p = cc
 
 second-by : (o : Option (Command × List ℕ)) (m : List ℕ × Table)
-    → ◌≡◌ {A = FirstMeaning Table} (elim o [ None ↦ Err (Fault NoCommand) | Some p ↦ made_by (compared p.1 (first_answer p.0)) ]) (Ok (Some m)) → m.0 ≡ []
+    → ◌≡◌ {A = FirstMeaning Table} (elim o
+    [ None ↦ Err (Fault NoCommand) | Some p ↦ made_by (comparison p.1 (first_answer p.0)) ]) (Ok (Some m)) → m.0 ≡ []
 second-by None m p = cc
-second-by (Some q) m p = compared-silent q.1 (first_answer q.0) m (made-silent (compared q.1 (first_answer q.0)) m p)
+second-by (Some q) m p =
+    comparison-silent q.1 (first_answer q.0) m (made-silent (comparison q.1 (first_answer q.0)) m p)
 
 second-silent : (line : List ℕ) (m : List ℕ × Table) → second_line_meaning line ≡ Ok (Some m) → m.0 ≡ []
 unfolding second_line_meaning
 second-silent line m p = second-by (traced_in line) m p
 
-opened-by : (x : Bool) (line : List ℕ) (m : List ℕ × Table) → cond x (header_meaning line) (second_line_meaning line) ≡ Ok (Some m) → m.0 ≡ []
+opened-by : (x : Bool) (line : List ℕ) (m : List ℕ × Table)
+    → cond x (header_meaning line) (second_line_meaning line) ≡ Ok (Some m) → m.0 ≡ []
 opened-by true line m p = header-by (bytes_eq line header_text) m p
 opened-by false line m p = second-silent line m p
 
 traced-by : (o : Option (Command × List ℕ)) (s : Table) (m : List ℕ × Table)
-    → ◌≡◌ {A = Meaning Table} (elim o [ None ↦ Err (Fault NoCommand) | Some p ↦ compared p.1 (answer_or_fault (obeyed p.0 s)) ]) (Ok m) → m.0 ≡ []
+    → ◌≡◌ {A = Meaning Table} (elim o
+    [ None ↦ Err (Fault NoCommand) | Some p ↦ comparison p.1 (answer_or_fault (command_answer p.0 s)) ]) (Ok m)
+    → m.0 ≡ []
 traced-by None s m p = cc
-traced-by (Some q) s m p = compared-silent q.1 (answer_or_fault (obeyed q.0 s)) m p
+traced-by (Some q) s m p = comparison-silent q.1 (answer_or_fault (command_answer q.0 s)) m p
 
 traced-silent : (s : Table) (line : List ℕ) (m : List ℕ × Table) → traced_meaning s line ≡ Ok m → m.0 ≡ []
 unfolding traced_meaning
 traced-silent s line m p = traced-by (traced_in line) s m p
 
 -- nothing is told before the end of a trace
-trace-silent : (bytes : List ℕ) → (fed trace_hearing start bytes).text ≡ []
-trace-silent bytes = fed-silent trace_hearing (λ number line m p. opened-by (number == 1) line m p) traced-silent bytes start
+trace-silent : (bytes : List ℕ) → (reading_of trace_hearing start bytes).text ≡ []
+trace-silent bytes =
+    reading_of-silent trace_hearing (λ number line m p. opened-by (number == 1) line m p) traced-silent bytes start
 
-pub ReplaysTo-from : (a b h k : Option (List ℕ)) (result : Result (Unit {0}) CliFault) → RunsFrom trace_hearing start a b h k result → ReplaysTo a b h k result
+pub ReplaysTo-from : (a b h k : Option (List ℕ)) (result : Result (Unit {0}) CliFault)
+    → RunsFrom trace_hearing start a b h k result → ReplaysTo a b h k result
 unfolding verdict trace_end
 ReplaysTo-from a b h k (Ok x) r =
-    let silent = trace-silent r.0 in
-    (r.0, r.1, (r.2.0, r.2.1, subst (λ text. Appends h k (text ++ last_text (ended_by trace_hearing (fed trace_hearing start r.0).stands))) silent r.2.2))
+    let silent = trace-silent r.0 in (
+      r.0,
+      r.1,
+      (
+        r.2.0,
+        r.2.1,
+        subst (λ text. Appends h k (text ++ verdict r.0)) silent r.2.2,
+      ),
+    )
 ReplaysTo-from a b h k (Err (fault.Differs line)) r =
-    let silent = trace-silent r.0 in
-    (r.0, r.1, (r.2.0, subst (λ text. Appends h k (text ++ last_text (ended_by trace_hearing (fed trace_hearing start r.0).stands))) silent r.2.1))
+    let silent = trace-silent r.0 in (
+      r.0,
+      r.1,
+      (
+        r.2.0,
+        subst (λ text. Appends h k (text ++ verdict r.0)) silent r.2.1,
+      ),
+    )
 ReplaysTo-from a b h k (Err (fault.Script line cause)) r =
-    let silent = trace-silent r.0 in
-    (r.0, r.1, (r.2.0, r.2.1, subst (λ text. Appends h k (text ++ last_text (ended_by trace_hearing (fed trace_hearing start r.0).stands))) silent r.2.2))
-ReplaysTo-from a b h k (Err fault.Read) r =
-    (r.0, r.1, (r.2.0, Appends-kept_before h k k [] (subst (λ text. Appends h k text) (trace-silent r.0) r.2.1) (Keeps-refl k)))
-ReplaysTo-from a b h k (Err fault.Write) r =
-    (r.0, r.1, subst (λ text. WritesPart h k (text ++ last_text (ended_by trace_hearing (fed trace_hearing start r.0).stands))) (trace-silent r.0) r.2)
+    let silent = trace-silent r.0 in (
+      r.0,
+      r.1,
+      (
+        r.2.0,
+        r.2.1,
+        subst (λ text. Appends h k (text ++ verdict r.0)) silent r.2.2,
+      ),
+    )
+ReplaysTo-from a b h k (Err fault.Read) r = (
+  r.0,
+  r.1,
+  (
+    r.2.0,
+    Appends-kept_before h k k [] (subst (λ text. Appends h k text) (trace-silent r.0) r.2.1)
+        (Keeps-refl k),
+  ),
+)
+ReplaysTo-from a b h k (Err fault.Write) r = (
+  r.0,
+  r.1,
+  subst (λ text. WritesPart h k (text ++ verdict r.0)) (trace-silent r.0) r.2,
+)
 ReplaysTo-from a b h k (Err fault.NoMemory) r = r

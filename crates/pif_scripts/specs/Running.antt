@@ -35,15 +35,15 @@ reply_of_seen (SeenAnswered a) = reply.Answer a
 reply_of_seen (SeenRefused r) = reply.Refused r
 
 -- finish: a thread goes on, at most 24 times
-unfoldable pub finished : ℕ → Table → Outcome
-finished t s = goes_on 23 t s
+unfoldable pub finish_outcome : ℕ → Table → Outcome
+finish_outcome t s = goes_on 23 t s
 
 -- call: the thread begins the call, and if that is not refused it goes on as in finish
-unfoldable pub called : ℕ → Request → Table → Outcome
-called t q s =
+unfoldable pub call_outcome : ℕ → Request → Table → Outcome
+call_outcome t q s =
     elim (event_outcome (BeginEvent t q) s).seen [
       | SeenRefused r ↦ event_outcome (BeginEvent t q) s
-      | _ ↦ finished t (event_outcome (BeginEvent t q) s).after
+      | _ ↦ finish_outcome t (event_outcome (BeginEvent t q) s).after
     ]
 
 -- a reply, and the table afterwards
@@ -70,17 +70,18 @@ reply_of_priority (Some p) = reply.Priority p
 reply_of_priority None = reply.Refused NoSuch
 
 -- what a command does; `limits` is none behind the first line
-unfoldable pub obeyed : Command → Table → Option Answer
-obeyed (Limits t m c n) s = None
-obeyed (Thread p) s = Some (reply_of_thread (add_thread_answer p s), add_thread_after p (add_thread_answer p s) s)
-obeyed (Mutex k) s = Some (reply_of_mutex (add_mutex_answer s), add_mutex_after k false (add_mutex_answer s) s)
-obeyed (Begin t q) s = Some (answer_of_outcome (event_outcome (BeginEvent t q) s))
-obeyed (Go t) s = Some (answer_of_outcome (event_outcome (GoEvent t) s))
-obeyed (Call t q) s = Some (answer_of_outcome (called t q s))
-obeyed (Finish t) s = Some (answer_of_outcome (finished t s))
-obeyed (Word m) s = Some (reply_of_word (word_answer m s), s)
-obeyed (Prio t) s = Some (reply_of_priority (effective_answer t s), s)
-obeyed Pick s = Some (reply.Picked (pick_answer s), s)
+unfoldable pub command_answer : Command → Table → Option Answer
+command_answer (Limits t m c n) s = None
+command_answer (Thread p) s =
+    Some (reply_of_thread (add_thread_answer p s), add_thread_after p (add_thread_answer p s) s)
+command_answer (Mutex k) s = Some (reply_of_mutex (add_mutex_answer s), add_mutex_after k false (add_mutex_answer s) s)
+command_answer (Begin t q) s = Some (answer_of_outcome (event_outcome (BeginEvent t q) s))
+command_answer (Go t) s = Some (answer_of_outcome (event_outcome (GoEvent t) s))
+command_answer (Call t q) s = Some (answer_of_outcome (call_outcome t q s))
+command_answer (Finish t) s = Some (answer_of_outcome (finish_outcome t s))
+command_answer (Word m) s = Some (reply_of_word (word_answer m s), s)
+command_answer (Prio t) s = Some (reply_of_priority (effective_answer t s), s)
+command_answer Pick s = Some (reply.Picked (pick_answer s), s)
 
 -- an answer, or the fault `command`
 abbrev pub answer_or_fault : Option Answer → Result Answer Cause
@@ -90,13 +91,15 @@ answer_or_fault None = Err cause.Command
 -- whether limits are in their ranges
 abbrev pub are_limits : Bounds → Bool
 are_limits b =
-    nat_le 1 b.threads && nat_le b.threads 1024 && nat_le b.mutexes 1024 && nat_le b.conds 256 && nat_le 1 b.signals && nat_le b.signals 4294967295
+    nat_le 1 b.threads && nat_le b.threads 1024 && nat_le b.mutexes 1024 && nat_le b.conds 256 && nat_le 1 b.signals
+    && nat_le b.signals 4294967295
 
 -- the limits of a script that begins with no `limits`
 abbrev pub default_limits : Bounds
 default_limits = record { threads = 1024; mutexes = 1024; conds = 256; signals = 4294967295 }
 
--- what `limits` is answered as the first command: these limits, or the fault `limits` where a number is outside its range
+-- what `limits` is answered as the first command: these limits, or the fault `limits` where a number is out of its
+-- range
 abbrev pub limited_answer : Option Bounds → Result Answer Cause
 limited_answer (Some b) = Ok (reply.Done, new_table b)
 limited_answer None = Err cause.Limits
@@ -108,7 +111,7 @@ limits_in b = if are_limits b then Some b else None
 -- the first command makes the core: under the limits that it names, or else under the default limits
 unfoldable pub first_answer : Command → Result Answer Cause
 first_answer (Limits t m c n) = limited_answer (limits_in (record { threads = t; mutexes = m; conds = c; signals = n }))
-first_answer c = answer_or_fault (obeyed c (new_table default_limits))
+first_answer c = answer_or_fault (command_answer c (new_table default_limits))
 
 -- an answer, and no fault
 abbrev pub IsAnswer : Result Answer Cause → Type 0
@@ -123,9 +126,9 @@ Makes meant (Err (Ended (Differs r))) = ⊥
 Makes meant (Err NoMemory) = IsAnswer meant
 
 -- an answer as a line
-abbrev pub told : Result Answer Cause → Meaning Table
-told (Ok a) = Ok (text_of a.0 ++ 10 ∷ [], a.1)
-told (Err c) = Err (Fault c)
+abbrev pub answer_line : Result Answer Cause → Meaning Table
+answer_line (Ok a) = Ok (text_of a.0 ++ 10 ∷ [], a.1)
+answer_line (Err c) = Err (Fault c)
 
 -- a line that makes a core makes a listener
 abbrev pub made_by : Meaning Table → FirstMeaning Table
@@ -137,7 +140,7 @@ unfoldable pub first_line_meaning : List ℕ → FirstMeaning Table
 first_line_meaning line =
     elim (command_in line) [
       | None ↦ Err (Fault cause.Command)
-      | Some c ↦ made_by (told (first_answer c))
+      | Some c ↦ made_by (answer_line (first_answer c))
     ]
 
 -- what a later line of a script means to a core
@@ -145,12 +148,16 @@ unfoldable pub line_meaning : Table → List ℕ → Meaning Table
 line_meaning s line =
     elim (command_in line) [
       | None ↦ Err (Fault cause.Command)
-      | Some c ↦ told (answer_or_fault (obeyed c s))
+      | Some c ↦ answer_line (answer_or_fault (command_answer c s))
     ]
 
 -- how a script is heard: its first line makes the core, and at its end nothing is said
 abbrev pub script : Hearing Table
-script = record { opened = λ number line. first_line_meaning line; heard = line_meaning; closed = λ number. Ok [] }
+script = record {
+  first_meaning = λ number line. first_line_meaning line;
+  meaning = line_meaning;
+  end_text = λ number. Ok [];
+}
 
 -- a run of a script, by what the reader had and has left, and what the writer held and holds; it has no differences
 abbrev pub RunsTo : (before after held holds : Option (List ℕ)) → Result (Unit {0}) CliFault → Type 0

@@ -9,11 +9,12 @@ use Rattle.pif_scripts.specs.declared.faults.CliFault.TheVariants.{Read, Write, 
 use Rattle.pif_scripts.specs.declared.reading.ending.Ending.{Ending}
 use Rattle.pif_scripts.specs.declared.reading.ending.Ending.TheVariants as ending
 use Rattle.pif_scripts.specs.declared.reading.ending.End.{End}
-use Rattle.pif_scripts.specs.Scripts.{Hearing, Scan, Fed, fed, ended_by, NeedsIn}
+use Rattle.pif_scripts.specs.Scripts.{Hearing, Scan, Reading, reading_of, ended_by, NeedsIn}
 
 -- a proper part of the bytes was written, from their front
 abbrev pub WritesPart : (held holds : Option (List ℕ)) → List ℕ → Type 0
-WritesPart held holds bytes = (done : List ℕ) × (rest : List ℕ) × (bytes ≡ done ++ rest) × (rest ≡ [] → ⊥) × Appends held holds done
+WritesPart held holds bytes =
+    (done : List ℕ) × (rest : List ℕ) × (bytes ≡ done ++ rest) × (rest ≡ [] → ⊥) × Appends held holds done
 
 -- the bytes were written, or a proper part of them
 abbrev pub Writes : (held holds : Option (List ℕ)) → List ℕ → Result (Unit {0}) CliFault → Type 0
@@ -39,7 +40,7 @@ last_text (Ok text) = text
 last_text (Err e) = end_line e
 
 -- what is written for a script that ends there: what its lines are answered, and then what its end prints
-abbrev pub output_of : {S : Type 0} → Hearing S → Fed S → List ℕ
+abbrev pub output_of : {S : Type 0} → Hearing S → Reading S → List ℕ
 output_of h f = f.text ++ last_text (ended_by h f.stands)
 
 -- a run that read these bytes from where the script stood at s:
@@ -50,34 +51,46 @@ output_of h f = f.text ++ last_text (ended_by h f.stands)
 --   a write failed: a proper part of their output was written, from its front
 --   want of memory: a line of these bytes needs a listener, it and those before it have no fault, and nothing was
 --     written
-abbrev pub EndsAfter : {S : Type 0} → Hearing S → Scan S → List ℕ → (after held holds : Option (List ℕ)) → Result (Unit {0}) CliFault → Type 0
+abbrev pub EndsAfter : {S : Type 0} → Hearing S → Scan S → List ℕ → (after held holds : Option (List ℕ))
+    → Result (Unit {0}) CliFault → Type 0
 EndsAfter h s read after held holds (Ok x) =
-    (is_ok (ended_by h (fed h s read).stands) ≡ true) × IsAtEnd after × Appends held holds (output_of h (fed h s read))
+    (is_ok (ended_by h (reading_of h s read).stands) ≡ true) × IsAtEnd after
+    × Appends held holds (output_of h (reading_of h s read))
 EndsAfter h s read after held holds (Err (Script line cause)) =
-    (ended_by h (fed h s read).stands ≡ Err (record { line = line; ending = ending.Fault cause })) × (is_ok (fed h s read).stands ≡ true → IsAtEnd after)
-    × Appends held holds (output_of h (fed h s read))
+    (ended_by h (reading_of h s read).stands ≡ Err (record { line = line; ending = ending.Fault cause }))
+    × (is_ok (reading_of h s read).stands ≡ true → IsAtEnd after)
+    × Appends held holds (output_of h (reading_of h s read))
 EndsAfter h s read after held holds (Err (Differs line)) =
-    ((reply : Reply) × (ended_by h (fed h s read).stands ≡ Err (record { line = line; ending = ending.Differs reply })))
-    × Appends held holds (output_of h (fed h s read))
-EndsAfter h s read after held holds (Err Read) = (is_ok (fed h s read).stands ≡ true) × Appends held holds (fed h s read).text
-EndsAfter h s read after held holds (Err Write) = WritesPart held holds (output_of h (fed h s read))
+    ((reply : Reply) × (ended_by h (reading_of h s read).stands
+    ≡ Err (record { line = line; ending = ending.Differs reply })))
+    × Appends held holds (output_of h (reading_of h s read))
+EndsAfter h s read after held holds (Err Read) =
+    (is_ok (reading_of h s read).stands ≡ true) × Appends held holds (reading_of h s read).text
+EndsAfter h s read after held holds (Err Write) = WritesPart held holds (output_of h (reading_of h s read))
 EndsAfter h s read after held holds (Err NoMemory) = NeedsIn h s read × Keeps held holds
 
 -- a run from where the script stood at s, by what the reader had and has left, and what the writer held and holds
-abbrev pub RunsFrom : {S : Type 0} → Hearing S → Scan S → (before after held holds : Option (List ℕ)) → Result (Unit {0}) CliFault → Type 0
-RunsFrom h s before after held holds result = (read : List ℕ) × Consumes before after read × EndsAfter h s read after held holds result
+abbrev pub RunsFrom : {S : Type 0} → Hearing S → Scan S → (before after held holds : Option (List ℕ))
+    → Result (Unit {0}) CliFault → Type 0
+RunsFrom h s before after held holds result =
+    (read : List ℕ) × Consumes before after read × EndsAfter h s read after held holds result
 
 -- a part of a run, which leaves the script at t and goes on where the answer is true
-abbrev pub Turns : {S : Type 0} → Hearing S → (s t : Scan S) → (before after held holds : Option (List ℕ)) → Result Bool CliFault → Type 0
+abbrev pub Turns : {S : Type 0} → Hearing S → (s t : Scan S) → (before after held holds : Option (List ℕ))
+    → Result Bool CliFault → Type 0
 Turns h s t before after held holds (Ok true) =
-    (read : List ℕ) × Consumes before after read × ((fed h s read).stands ≡ Ok t) × Appends held holds (fed h s read).text
+    (read : List ℕ) × Consumes before after read × ((reading_of h s read).stands ≡ Ok t)
+    × Appends held holds (reading_of h s read).text
 Turns h s t before after held holds (Ok false) = RunsFrom h s before after held holds (Ok tt)
 Turns h s t before after held holds (Err e) = RunsFrom h s before after held holds (Err e)
 
 -- text and the line of an end were written, or a proper part of them
 abbrev pub Stops : (held holds : Option (List ℕ)) → List ℕ → End → CliFault → Type 0
-Stops held holds text e (Script l c) = (e ≡ record { line = l; ending = ending.Fault c }) × Appends held holds (text ++ end_line e)
-Stops held holds text e (Differs l) = ((reply : Reply) × (e ≡ record { line = l; ending = ending.Differs reply })) × Appends held holds (text ++ end_line e)
+Stops held holds text e (Script l c) =
+    (e ≡ record { line = l; ending = ending.Fault c }) × Appends held holds (text ++ end_line e)
+Stops held holds text e (Differs l) =
+    ((reply : Reply) × (e ≡ record { line = l; ending = ending.Differs reply }))
+    × Appends held holds (text ++ end_line e)
 Stops held holds text e Write = WritesPart held holds (text ++ end_line e)
 Stops held holds text e Read = ⊥
 Stops held holds text e NoMemory = ⊥

@@ -21,11 +21,11 @@ FirstMeaning S = Result (Option (List ℕ × S)) Ending
 -- how a script is heard
 pub record Hearing (S : Type 0) : Type 0 where
   -- what the line of this number, from 1, means while there is no listener
-  pub opened : ℕ → List ℕ → FirstMeaning S
+  pub first_meaning : ℕ → List ℕ → FirstMeaning S
   -- what a line means to a listener
-  pub heard : S → List ℕ → Meaning S
+  pub meaning : S → List ℕ → Meaning S
   -- what is said at the end, where the next line would have this number, or why the end is a fault
-  pub closed : ℕ → Result (List ℕ) Cause
+  pub end_text : ℕ → Result (List ℕ) Cause
 
 -- a line makes a listener, for all that its own bytes say: it is no fault, and it is not passed over; whether it
 -- differs is known once there is a listener
@@ -65,7 +65,7 @@ pub record Scan (S : Type 0) : Type 0 where
   pub taken : ℕ
 
 -- what bytes are answered: the text, and where the script stands after them, or the line that ends it
-pub record Fed (S : Type 0) : Type 0 where
+pub record Reading (S : Type 0) : Type 0 where
   pub text : List ℕ
   pub stands : Result (Scan S) End
 
@@ -92,12 +92,12 @@ answered_later (Err e) = Err e
 
 -- what the line so far is answered by this listener, or by nobody
 abbrev pub answered_by : {S : Type 0} → Hearing S → Option S → (number : ℕ) → (line : List ℕ) → Answered S
-answered_by h None number line = answered_first (h.opened number line)
-answered_by h (Some l) number line = answered_later (h.heard l line)
+answered_by h None number line = answered_first (h.first_meaning number line)
+answered_by h (Some l) number line = answered_later (h.meaning l line)
 
 -- what the line is answered at which the script stands
-abbrev pub answered : {S : Type 0} → Hearing S → Scan S → Answered S
-answered h s = answered_by h s.listener s.number s.line
+abbrev pub line_answer : {S : Type 0} → Hearing S → Scan S → Answered S
+line_answer h s = answered_by h s.listener s.number s.line
 
 -- the byte LF ends the line, which is answered so
 abbrev pub after_line : {S : Type 0} → Scan S → Answered S → Result (List ℕ × Scan S) End
@@ -112,16 +112,16 @@ with_byte s b = record { listener = s.listener; line = s.line ++ b ∷ []; numbe
 unfoldable pub byte_taken : {S : Type 0} → Hearing S → Scan S → ℕ → Result (List ℕ × Scan S) End
 byte_taken h s b =
     if nat_lt s.taken 16777216 then
-    (if b == 10 then after_line s (answered h s) else
+    (if b == 10 then after_line s (line_answer h s) else
     (if nat_lt (length s.line) 120 then Ok ([], with_byte s b) else Err (end_at s (Fault Long))))
     else Err (end_at s (Fault Size))
 
 -- bytes one after the other, up to the first line that ends the script
-unfoldable pub fed : {S : Type 0} → Hearing S → Scan S → List ℕ → Fed S
-fed h s [] = record { text = []; stands = Ok s }
-fed h s (b ∷ bs) =
+unfoldable pub reading_of : {S : Type 0} → Hearing S → Scan S → List ℕ → Reading S
+reading_of h s [] = record { text = []; stands = Ok s }
+reading_of h s (b ∷ bs) =
     elim (byte_taken h s b) [
-      | Ok m ↦ record { text = m.0 ++ (fed h m.1 bs).text; stands = (fed h m.1 bs).stands }
+      | Ok m ↦ record { text = m.0 ++ (reading_of h m.1 bs).text; stands = (reading_of h m.1 bs).stands }
       | Err f ↦ record { text = []; stands = Err f }
     ]
 
@@ -132,7 +132,7 @@ at_end s (Err c) = Err (end_at s (Fault c))
 
 -- a script that stands there at its end: an end inside a line is `cut`
 abbrev pub closed_at : {S : Type 0} → Hearing S → Scan S → Result (List ℕ) End
-closed_at h s = if length s.line == 0 then at_end s (h.closed s.number) else Err (end_at s (Fault Cut))
+closed_at h s = if length s.line == 0 then at_end s (h.end_text s.number) else Err (end_at s (Fault Cut))
 
 -- how a script ends that ends there: what is said at its end, or which line ended it, and how
 abbrev pub ended_by : {S : Type 0} → Hearing S → Result (Scan S) End → Result (List ℕ) End
@@ -142,19 +142,21 @@ ended_by h (Ok s) = closed_at h s
 -- the line was answered so, and the script stands at t, with the line's bytes still there
 abbrev pub Answers : {S : Type 0} → Hearing S → Scan S → (old new : List ℕ) → Scan S → Result (Unit {0}) Stop → Type 0
 Answers {S = S} h s old new t (Ok x) =
-    (m : List ℕ × Option S) × (answered h s ≡ Ok m) × (new ≡ old ++ m.0) × (t ≡ record { listener = m.1; line = s.line; number = s.number; taken = s.taken })
-Answers h s old new t (Err (StopEnded e)) = (answered h s ≡ Err e.ending) × (e.line ≡ s.number) × (new ≡ old)
-Answers h s old new t (Err StopNoMemory) = (s.listener ≡ None) × NeedsListener (h.opened s.number s.line) × (new ≡ old)
+    (m : List ℕ × Option S) × (line_answer h s ≡ Ok m) × (new ≡ old ++ m.0)
+    × (t ≡ record { listener = m.1; line = s.line; number = s.number; taken = s.taken })
+Answers h s old new t (Err (StopEnded e)) = (line_answer h s ≡ Err e.ending) × (e.line ≡ s.number) × (new ≡ old)
+Answers h s old new t (Err StopNoMemory) =
+    (s.listener ≡ None) × NeedsListener (h.first_meaning s.number s.line) × (new ≡ old)
 
 -- this byte ends a line that needs a listener, where there is none
 abbrev pub NeedsAt : {S : Type 0} → Hearing S → Scan S → ℕ → Type 0
-NeedsAt h s b = (s.listener ≡ None) × NeedsListener (h.opened s.number s.line) × (b ≡ 10) × (s.taken < 16777216)
+NeedsAt h s b = (s.listener ≡ None) × NeedsListener (h.first_meaning s.number s.line) × (b ≡ 10) × (s.taken < 16777216)
 
 -- one of these bytes does, and those before it have no fault
 abbrev pub NeedsIn : {S : Type 0} → Hearing S → Scan S → List ℕ → Type 0
 NeedsIn {S = S} h s bs =
     (front : List ℕ) × (t : Scan S) × (b : ℕ) × (rest : List ℕ) × (bs ≡ front ++ b ∷ rest)
-    × ((fed h s front).stands ≡ Ok t) × NeedsAt h t b
+    × ((reading_of h s front).stands ≡ Ok t) × NeedsAt h t b
 
 -- a byte was answered so, and left the script at t
 abbrev pub Takes : {S : Type 0} → Hearing S → Scan S → ℕ → (old new : List ℕ) → Scan S → Result (Unit {0}) Stop → Type 0
@@ -163,7 +165,9 @@ Takes h s b old new t (Err (StopEnded e)) = (byte_taken h s b ≡ Err e) × (new
 Takes h s b old new t (Err StopNoMemory) = NeedsAt h s b × (new ≡ old)
 
 -- bytes were answered so, and left the script at t
-abbrev pub Feeds : {S : Type 0} → Hearing S → Scan S → List ℕ → (old new : List ℕ) → Scan S → Result (Unit {0}) Stop → Type 0
-Feeds h s bs old new t (Ok x) = ((fed h s bs).stands ≡ Ok t) × (new ≡ old ++ (fed h s bs).text)
-Feeds h s bs old new t (Err (StopEnded e)) = ((fed h s bs).stands ≡ Err e) × (new ≡ old ++ (fed h s bs).text)
+abbrev pub Feeds : {S : Type 0} → Hearing S → Scan S → List ℕ → (old new : List ℕ) → Scan S → Result (Unit {0}) Stop
+    → Type 0
+Feeds h s bs old new t (Ok x) = ((reading_of h s bs).stands ≡ Ok t) × (new ≡ old ++ (reading_of h s bs).text)
+Feeds h s bs old new t (Err (StopEnded e)) =
+    ((reading_of h s bs).stands ≡ Err e) × (new ≡ old ++ (reading_of h s bs).text)
 Feeds h s bs old new t (Err StopNoMemory) = NeedsIn h s bs × (new ≡ old)

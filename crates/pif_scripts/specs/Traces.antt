@@ -23,9 +23,9 @@ use Rattle.pif_scripts.specs.declared.faults.CliFault.{CliFault}
 use Rattle.pif_scripts.specs.declared.faults.CliFault.TheVariants as fault
 use Rattle.pif_scripts.specs.declared.reading.ending.Ending.TheVariants.{Fault, Differs}
 use Rattle.pif_scripts.specs.declared.reading.ending.End.{End}
-use Rattle.pif_scripts.specs.Scripts.{Meaning, FirstMeaning, Hearing, Fed, start, fed, ended_by, NeedsIn}
+use Rattle.pif_scripts.specs.Scripts.{Meaning, FirstMeaning, Hearing, Reading, start, reading_of, ended_by, NeedsIn}
 use Rattle.pif_scripts.specs.Runs.{WritesPart, last_text}
-use Rattle.pif_scripts.specs.Running.{Answer, answer_or_fault, obeyed, first_answer, made_by, reply_of_seen}
+use Rattle.pif_scripts.specs.Running.{Answer, answer_or_fault, command_answer, first_answer, made_by, reply_of_seen}
 
 -- ---- reading
 
@@ -45,12 +45,13 @@ if_traced Pick = None
 -- the command of a trace's line, and the answer that it records
 unfoldable pub traced_in : List ℕ → Option (Command × List ℕ)
 traced_in line =
-    option_and_then (λ parts. option_map (λ c. (c, parts.1)) (option_and_then if_traced (command_in parts.0))) (parts_of line)
+    option_and_then (λ parts. option_map (λ c. (c, parts.1)) (option_and_then if_traced (command_in parts.0)))
+    (parts_of line)
 
 -- a recorded answer beside the answer that is given: nothing is told, and another answer is a difference
-abbrev pub compared : List ℕ → Result Answer Cause → Meaning Table
-compared recorded (Ok a) = if bytes_eq (text_of a.0) recorded then Ok ([], a.1) else Err (Differs a.0)
-compared recorded (Err c) = Err (Fault c)
+abbrev pub comparison : List ℕ → Result Answer Cause → Meaning Table
+comparison recorded (Ok a) = if bytes_eq (text_of a.0) recorded then Ok ([], a.1) else Err (Differs a.0)
+comparison recorded (Err c) = Err (Fault c)
 
 -- the first line of a trace is the header, which makes no core
 abbrev pub header_meaning : List ℕ → FirstMeaning Table
@@ -61,7 +62,7 @@ unfoldable pub second_line_meaning : List ℕ → FirstMeaning Table
 second_line_meaning line =
     elim (traced_in line) [
       | None ↦ Err (Fault NoCommand)
-      | Some p ↦ made_by (compared p.1 (first_answer p.0))
+      | Some p ↦ made_by (comparison p.1 (first_answer p.0))
     ]
 
 -- what a later line of a trace means to a core
@@ -69,7 +70,7 @@ unfoldable pub traced_meaning : Table → List ℕ → Meaning Table
 traced_meaning s line =
     elim (traced_in line) [
       | None ↦ Err (Fault NoCommand)
-      | Some p ↦ compared p.1 (answer_or_fault (obeyed p.0 s))
+      | Some p ↦ comparison p.1 (answer_or_fault (command_answer p.0 s))
     ]
 
 -- what is said at the end of a trace, where the next line would have this number: how many lines stand behind the
@@ -80,18 +81,18 @@ traced_end number = if nat_lt 1 number then Ok (same_of (number - 2) ++ 10 ∷ [
 -- how a trace is heard
 abbrev pub trace_hearing : Hearing Table
 trace_hearing = record {
-  opened = λ number line. if number == 1 then header_meaning line else second_line_meaning line;
-  heard = traced_meaning;
-  closed = traced_end;
+  first_meaning = λ number line. if number == 1 then header_meaning line else second_line_meaning line;
+  meaning = traced_meaning;
+  end_text = traced_end;
 }
 
 -- where a trace of these bytes stands behind them
-abbrev pub trace_fed : List ℕ → Fed Table
-trace_fed bytes = fed trace_hearing start bytes
+abbrev pub trace_reading : List ℕ → Reading Table
+trace_reading bytes = reading_of trace_hearing start bytes
 
 -- how a trace of these bytes ends: with what is said at its end, or with the line of its first fault or difference
 unfoldable pub trace_end : List ℕ → Result (List ℕ) End
-trace_end bytes = ended_by trace_hearing (trace_fed bytes).stands
+trace_end bytes = ended_by trace_hearing (trace_reading bytes).stands
 
 -- what a trace of these bytes comes to: `same`, `differs` or `fault`, with what belongs to it
 unfoldable pub verdict : List ℕ → List ℕ
@@ -105,19 +106,23 @@ verdict bytes = last_text (trace_end bytes)
 --   a write failed: a proper part of the verdict was written, from its front
 --   want of memory: the header and the line after it are among these bytes and have no fault, and nothing was written
 abbrev pub Replays : List ℕ → (after held holds : Option (List ℕ)) → Result (Unit {0}) CliFault → Type 0
-Replays read after held holds (Ok x) = (is_ok (trace_end read) ≡ true) × IsAtEnd after × Appends held holds (verdict read)
+Replays read after held holds (Ok x) =
+    (is_ok (trace_end read) ≡ true) × IsAtEnd after × Appends held holds (verdict read)
 Replays read after held holds (Err (fault.Script line cause)) =
-    (trace_end read ≡ Err (record { line = line; ending = Fault cause })) × (is_ok (trace_fed read).stands ≡ true → IsAtEnd after)
+    (trace_end read ≡ Err (record { line = line; ending = Fault cause }))
+    × (is_ok (trace_reading read).stands ≡ true → IsAtEnd after)
     × Appends held holds (verdict read)
 Replays read after held holds (Err (fault.Differs line)) =
-    ((given : Reply) × (trace_end read ≡ Err (record { line = line; ending = Differs given }))) × Appends held holds (verdict read)
-Replays read after held holds (Err fault.Read) = (is_ok (trace_fed read).stands ≡ true) × Keeps held holds
+    ((given : Reply) × (trace_end read ≡ Err (record { line = line; ending = Differs given })))
+    × Appends held holds (verdict read)
+Replays read after held holds (Err fault.Read) = (is_ok (trace_reading read).stands ≡ true) × Keeps held holds
 Replays read after held holds (Err fault.Write) = WritesPart held holds (verdict read)
 Replays read after held holds (Err fault.NoMemory) = NeedsIn trace_hearing start read × Keeps held holds
 
 -- replaying a trace, by what the reader had and has left, and what the writer held and holds
 abbrev pub ReplaysTo : (before after held holds : Option (List ℕ)) → Result (Unit {0}) CliFault → Type 0
-ReplaysTo before after held holds result = (read : List ℕ) × Consumes before after read × Replays read after held holds result
+ReplaysTo before after held holds result =
+    (read : List ℕ) × Consumes before after read × Replays read after held holds result
 
 -- ---- writing
 
@@ -169,7 +174,8 @@ IsEntryWritten e = IsWritten (entry_command e) × IsTraced (entry_reply e)
 -- what a core that stands at s did and was answered, entry by entry in order; no mutex is robust yet
 abbrev pub IsHistory : Table → List Entry → Type 0
 IsHistory s [] = Unit {0}
-IsHistory s (AddedThread t p ∷ entries) = (add_thread_answer p s ≡ Ok t) × IsHistory (add_thread_after p (Ok t) s) entries
+IsHistory s (AddedThread t p ∷ entries) =
+    (add_thread_answer p s ≡ Ok t) × IsHistory (add_thread_after p (Ok t) s) entries
 IsHistory s (AddedMutex m k robust ∷ entries) =
     (robust ≡ false) × (add_mutex_answer s ≡ Ok m) × IsHistory (add_mutex_after k false (Ok m) s) entries
 IsHistory s (Step e seen ∷ entries) = ((event_outcome e s).seen ≡ seen) × IsHistory (event_outcome e s).after entries
@@ -178,5 +184,7 @@ IsHistory s (Step e seen ∷ entries) = ((event_outcome e s).seen ≡ seen) × I
 -- trace may be; the line of the limits is counted too
 abbrev pub SameAgain : Type 0
 SameAgain =
-    (limits : Bounds) (entries : List Entry) → IsWithin limits → All IsEntryWritten entries → IsHistory (new_table limits) entries
-    → length (trace limits entries) ≤ 16777216 → verdict (trace limits entries) ≡ same_of (1 + length entries) ++ 10 ∷ []
+    (limits : Bounds) (entries : List Entry) → IsWithin limits → All IsEntryWritten entries
+    → IsHistory (new_table limits) entries
+    → length (trace limits entries) ≤ 16777216
+    → verdict (trace limits entries) ≡ same_of (1 + length entries) ++ 10 ∷ []

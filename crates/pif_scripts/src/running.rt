@@ -3,7 +3,7 @@ ghost use Rattle.arrayvec.specs.ArrayVec.{array_vec_len};
 ghost use Rattle.pif_types.specs.Bounds.{Bounds};
 ghost use Rattle.pif_model.specs.Table.{new_table};
 ghost use Rattle.pif_text.specs.Replies.{text_of};
-ghost use Rattle.pif_scripts.specs.Running.{reply_of_seen, finished, called, reply_of_thread, reply_of_mutex, reply_of_word, reply_of_priority, obeyed, default_limits, script, first_answer, limited_answer, answer_or_fault, IsAnswer, Makes};
+ghost use Rattle.pif_scripts.specs.Running.{reply_of_seen, finish_outcome, call_outcome, reply_of_thread, reply_of_mutex, reply_of_word, reply_of_priority, command_answer, default_limits, script, first_answer, limited_answer, answer_or_fault, IsAnswer, Makes};
 
 use crate::reading::{ANSWER_ROOM, Ending, Listener, OUTPUT_ROOM, OpenFault, Output, append};
 use pif_core::{Core, Event, Seen};
@@ -65,8 +65,8 @@ const MORE_STEPS: u32 = 23;
 
 /// The thread goes on up to the first answer that isn't `Went`, at most 24 times.
 fn finish(core: &mut Core, thread: Tid) -> Seen
-    ensures seen { result ≡ (finished thread core.old).seen }
-    ensures after { core.new ≡ (finished thread core.old).after }
+    ensures seen { result ≡ (finish_outcome thread core.old).seen }
+    ensures after { core.new ≡ (finish_outcome thread core.old).after }
 {
     for _turn in 0..MORE_STEPS {
         match core.step(Event::Go(thread)) {
@@ -78,10 +78,10 @@ fn finish(core: &mut Core, thread: Tid) -> Seen
 }
 
 /// The thread begins the call, and if that is not refused it goes on as in `finish`.
-#[tactic(auto, unfolding(crate::specs::Running::called))]
+#[tactic(auto, unfolding(crate::specs::Running::call_outcome))]
 fn call(core: &mut Core, thread: Tid, request: Request) -> Seen
-    ensures seen { result ≡ (called thread request core.old).seen }
-    ensures after { core.new ≡ (called thread request core.old).after }
+    ensures seen { result ≡ (call_outcome thread request core.old).seen }
+    ensures after { core.new ≡ (call_outcome thread request core.old).after }
 {
     match core.step(Event::Begin(thread, request)) {
         Seen::Refused(refusal) => Seen::Refused(refusal),
@@ -90,10 +90,10 @@ fn call(core: &mut Core, thread: Tid, request: Request) -> Seen
 }
 
 /// What a command is answered. `None` for `limits`, which is a first command alone; the core is then unchanged.
-#[tactic(auto, unfolding(crate::specs::Running::obeyed))]
+#[tactic(auto, unfolding(crate::specs::Running::command_answer))]
 pub fn obey(core: &mut Core, command: Command) -> Option<Reply>
-    ensures { MatchOption result ((obeyed command core.old ≡ None) × (core.new ≡ core.old))
-        (λ reply. obeyed command core.old ≡ Some (reply, core.new)) }
+    ensures { MatchOption result ((command_answer command core.old ≡ None) × (core.new ≡ core.old))
+        (λ reply. command_answer command core.old ≡ Some (reply, core.new)) }
 {
     match command {
         Command::Limits(..) => None,
@@ -145,8 +145,8 @@ fn open_limited(alloc: Global, limits: Option<Limits>) -> Result<(Core, Reply), 
 
 /// The core under the default limits, and the answer of it to the first command, which is one that it answers.
 fn open_default(alloc: Global, command: Command) -> Result<(Core, Reply), OpenFault>
-    requires { IsAnswer (answer_or_fault (obeyed command (new_table default_limits))) }
-    ensures { Makes (answer_or_fault (obeyed command (new_table default_limits))) result }
+    requires { IsAnswer (answer_or_fault (command_answer command (new_table default_limits))) }
+    ensures { Makes (answer_or_fault (command_answer command (new_table default_limits))) result }
 {
     match Core::new(alloc, default_limits()) {
         Ok(mut core) => match obey(&mut core, command) {

@@ -40,6 +40,6 @@ pub enum Cause {
     Cut,
     /// `command`: the line is no command.
     Command,
-    /// `limits`: a number of the limits, which stand in their place, is out of its range.
+    /// `limits`: the line has the form of limits, and a number in it is out of its range.
     Limits,
 }

@@ -48,7 +48,7 @@ pub trait Listener: Sized {
         output: &mut Output,
     ) -> Result<Option<Self>, OpenFault>
         requires { array_vec_len output.old + ANSWER_ROOM ≤ OUTPUT_ROOM }
-        ensures answer { Opens (hearing.opened number line.now) output.old.items output.new.items result }
+        ensures answer { Opens (hearing.first_meaning number line.now) output.old.items output.new.items result }
         ensures room { array_vec_len output.new ≤ array_vec_len output.old + ANSWER_ROOM };
 
     /// Hears a later line. Its answer is appended to `output`.
@@ -58,7 +58,7 @@ pub trait Listener: Sized {
     /// How the line ends the script; `output` is then unchanged.
     fn hear(&mut self, line: &[u8], output: &mut Output) -> Result<(), Ending>
         requires { array_vec_len output.old + ANSWER_ROOM ≤ OUTPUT_ROOM }
-        ensures answer { Hears (hearing.heard self.old line.now) output.old.items output.new.items self.new result }
+        ensures answer { Hears (hearing.meaning self.old line.now) output.old.items output.new.items self.new result }
         ensures room { array_vec_len output.new ≤ array_vec_len output.old + ANSWER_ROOM };
 
     /// Appends to `output` what is said at the end of a script, where the next line would have this number.
@@ -68,5 +68,5 @@ pub trait Listener: Sized {
     /// The cause, where the end is a fault; `output` is then unchanged.
     fn close(number: u64, output: &mut Output) -> Result<(), Cause>
         requires { array_vec_len output.old + END_ROOM ≤ OUTPUT_ROOM }
-        ensures { Tells (hearing.closed number) output.old.items output.new.items result };
+        ensures { Tells (hearing.end_text number) output.old.items output.new.items result };
 }

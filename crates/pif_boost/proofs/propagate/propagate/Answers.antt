@@ -1,4 +1,4 @@
--- Each hop hands on to whom the thread waits for.
+-- Each hop propagates the priority to whom the thread waits for.
 use Rattle.std.proofs.Common.{◌≡◌, ◌+◌, ◌-◌, suc, length, sym, ap, ◌∙◌, arith}
 use Rattle.pif_rtmutex.specs.Owners.{waits_for}
 use Rattle.pif_boost.specs.Boosts.{priority_at}

@@ -7,4 +7,6 @@ pub open_default-requires : goal.open_default-requires
 open_default-requires c = answered-later c.args.command _ c.in_default.not-Limits
 
 pub returns-in_default : goal.returns-in_default
-returns-in_default c = subst (λ a. Makes a c.open_default.result) (sym (first_answer-later c.args.command c.in_default.not-Limits)) c.open_default.ensures
+returns-in_default c =
+    subst (λ a. Makes a c.open_default.result) (sym (first_answer-later c.args.command c.in_default.not-Limits))
+    c.open_default.ensures

@@ -6,4 +6,5 @@ use Rattle.pif_scripts.proofs.tracing.write_trace.Given as goal
 
 abbrev pub invariant-loop-entry : goal.invariant-loop-entry
 invariant-loop-entry g l =
-    Appends (g.W.Write.contents l.fn.writer) (g.W.Write.contents l.writer) (front_lines l.fn.limits ++ flat_map entry_line (take l.entry-index l.entries))
+    Appends (g.W.Write.contents l.fn.writer) (g.W.Write.contents l.writer)
+    (front_lines l.fn.limits ++ flat_map entry_line (take l.entry-index l.entries))

@@ -10,7 +10,8 @@ use Rattle.pif_kernel.specs.Plain.{Plain, kernel_of}
 use Rattle.pif_kernel.specs.Fields.{plain_of}
 use Rattle.pif_kernel.proofs.TopLaws.{top_is_next, some_waiter}
 use Rattle.pif_kernel.proofs.WalkSound.{IsWalkable, on_levels, on_running, on_local, ended}
-use Rattle.pif_kernel.proofs.HandOverSound.{IsGiven, IsHandable, IsHandedOn, given_state, given_idle, ended_given, still_given, handing, local_low, free, before_walk}
+use Rattle.pif_kernel.proofs.HandOverFacts.{IsGiven, IsHandable, IsHandedOn}
+use Rattle.pif_kernel.proofs.HandOverSound.{given_state, given_idle, ended_given, still_given, handing, local_low, free, before_walk}
 use Rattle.pif_kernel.proofs.parts.Parts.hand_over.Goals.{Start, After-any, Joined-not-any, After-add, then-not-any, else-not-any}
 use Rattle.pif_kernel.proofs.parts.Parts.hand_over.Goals as goal
 

@@ -11,8 +11,10 @@ returns-in_err-take-clause-answer g c =
     let i = c.loop-byte.byte-index in
     let s = c.args.bytes.now in
     let f = rw (drop_more s i 0 c.loop-byte-test.true) at c.loop-byte.invariant.0 in
-    rw (p.1, p.2) (Feeds-stop g.L.Listener.hearing (scan_of c.args.self.now) s c.args.output.now.items (scan_of c.loop-byte.self) (get_or s i 0) (drop (i + 1) s)
-    c.loop-byte.output.items c.take.new.output.items (scan_of c.take.new.self) c.in_err-take.field-0.0 f c.in_err-take.ensures.answer)
+    rw (p.1, p.2) (Feeds-stop g.L.Listener.hearing (scan_of c.args.self.now) s c.args.output.now.items
+    (scan_of c.loop-byte.self) (get_or s i 0) (drop (i + 1) s)
+    c.loop-byte.output.items c.take.new.output.items (scan_of c.take.new.self) c.in_err-take.field-0.0 f
+    c.in_err-take.ensures.answer)
 
 pub loop-byte-init : goal.loop-byte-init
 loop-byte-init g c =
@@ -24,8 +26,10 @@ loop-byte-preserved g c =
     let i = c.loop-byte.byte-index in
     let s = c.args.bytes.now in
     let f = rw (drop_more s i 0 c.loop-byte-test.true) at c.loop-byte.invariant.0 in (
-      Feeding-more g.L.Listener.hearing (scan_of c.args.self.now) s c.args.output.now.items (scan_of c.loop-byte.self) (get_or s i 0) (drop (i + 1) s)
-          c.loop-byte.output.items c.take.new.output.items (scan_of c.take.new.self) c.in_ok-take.field-0 f c.in_ok-take.ensures.answer,
+      Feeding-more g.L.Listener.hearing (scan_of c.args.self.now) s c.args.output.now.items (scan_of c.loop-byte.self)
+          (get_or s i 0) (drop (i + 1) s)
+          c.loop-byte.output.items c.take.new.output.items (scan_of c.take.new.self) c.in_ok-take.field-0 f
+          c.in_ok-take.ensures.answer,
       omega (arith, c.take.ensures.room),
       omega (arith, c.in_ok-take.ensures.taken),
     )
@@ -33,5 +37,6 @@ loop-byte-preserved g c =
 pub returns-clause-answer : goal.returns-clause-answer
 returns-clause-answer g c =
     let s = c.args.bytes.now in
-    Feeds-end g.L.Listener.hearing (scan_of c.args.self.now) s c.args.output.now.items (scan_of c.loop-byte.self) (drop c.loop-byte.byte-index s) c.loop-byte.output.items
+    Feeds-end g.L.Listener.hearing (scan_of c.args.self.now) s c.args.output.now.items (scan_of c.loop-byte.self)
+    (drop c.loop-byte.byte-index s) c.loop-byte.output.items
     tt c.loop-byte.invariant.0 (drop_all c.loop-byte.byte-index s c.loop-byte-test.false)

@@ -5,29 +5,39 @@ use Rattle.pif_scripts.proofs.ScriptLemmas.{byte_taken-size, byte_taken-long, by
 use Rattle.pif_scripts.proofs.reading.scanner.Scanner.take.Goals as goal
 
 pub returns-then-self-ge-MOST_BYTES-clause-answer : goal.returns-then-self-ge-MOST_BYTES-clause-answer
-returns-then-self-ge-MOST_BYTES-clause-answer g c =
-    (byte_taken-size g.L.Listener.hearing (scan_of c.args.self.now) c.args.byte (omega arith) ∙ ap Err (sym c.fault.ensures), refl)
+returns-then-self-ge-MOST_BYTES-clause-answer g c = (
+  byte_taken-size g.L.Listener.hearing (scan_of c.args.self.now) c.args.byte (omega arith)
+      ∙ ap Err (sym c.fault.ensures),
+  refl,
+)
 
 pub returns-in_err-answer-clause-answer : goal.returns-in_err-answer-clause-answer
 returns-in_err-answer-clause-answer g c =
     let p = err_from_is_err_and c.from_residual.result c.from_residual.ensures.1 in
-    rw (p.1, p.2) (Takes-from_answer g.L.Listener.hearing (scan_of c.args.self.now) c.args.byte c.args.output.now.items c.answer.new.output.items (scan_of c.answer.new.self) c.in_err-answer.field-0.0 (omega arith) c.if-byte-eq10.true c.in_err-answer.ensures.answer)
+    rw (p.1, p.2) (Takes-from_answer g.L.Listener.hearing (scan_of c.args.self.now) c.args.byte c.args.output.now.items
+    c.answer.new.output.items (scan_of c.answer.new.self) c.in_err-answer.field-0.0 (omega arith) c.if-byte-eq10.true
+    c.in_err-answer.ensures.answer)
 
 pub returns-then-byte-eq10-clause-answer : goal.returns-then-byte-eq10-clause-answer
 returns-then-byte-eq10-clause-answer g c =
     let a = c.in_ok-answer.ensures.answer in (
       a.0.0,
-      byte_taken-answered g.L.Listener.hearing (scan_of c.args.self.now) c.args.byte a.0 (scan_of c.answer.new.self) _ (omega arith) c.if-byte-eq10.true a.1 a.3 c.clear.ensures,
+      byte_taken-answered g.L.Listener.hearing (scan_of c.args.self.now) c.args.byte a.0 (scan_of c.answer.new.self)
+          _ (omega arith) c.if-byte-eq10.true a.1 a.3 c.clear.ensures,
       a.2,
     )
 
 pub returns-then-len-ge-MOST_LINE-clause-answer : goal.returns-then-len-ge-MOST_LINE-clause-answer
-returns-then-len-ge-MOST_LINE-clause-answer g c =
-    (byte_taken-long g.L.Listener.hearing (scan_of c.args.self.now) c.args.byte (omega arith) c.if-byte-eq10.false (omega arith) ∙ ap Err (sym c.fault-then-len-ge-MOST_LINE.ensures), refl)
+returns-then-len-ge-MOST_LINE-clause-answer g c = (
+  byte_taken-long g.L.Listener.hearing (scan_of c.args.self.now) c.args.byte (omega arith) c.if-byte-eq10.false
+      (omega arith) ∙ ap Err (sym c.fault-then-len-ge-MOST_LINE.ensures),
+  refl,
+)
 
 pub returns-clause-answer : goal.returns-clause-answer
 returns-clause-answer g c = (
   [],
-  rw c.push.ensures.items (byte_taken-byte g.L.Listener.hearing (scan_of c.args.self.now) c.args.byte (omega arith) c.if-byte-eq10.false (omega arith)),
+  rw c.push.ensures.items (byte_taken-byte g.L.Listener.hearing (scan_of c.args.self.now) c.args.byte (omega arith)
+      c.if-byte-eq10.false (omega arith)),
   sym (append-nil c.args.output.now.items),
 )
