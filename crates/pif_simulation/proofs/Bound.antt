@@ -1,27 +1,26 @@
 -- How long a call goes on: each step that is answered Went leaves it at a place of lower rank, so of any 24 steps of one
 -- thread with nothing between one ends the call or waits. It holds of any table, sound or not.
-use Rattle.std.proofs.Common.{◌≡◌, ◌≢◌, ◌⊎◌, inl, inr, ◌<◌, ◌≤◌, ℕ, zero, suc, ◌+◌, ◌-◌, true, ◌==◌, nat_lt, length, Result, Ok, Err, Option, Some, None, refl, sym, ap, ◌∙◌, subst, if◌then◌else◌, arith}
+use Rattle.std.proofs.Common.{◌≡◌, ◌≢◌, ◌⊎◌, inl, inr, ◌<◌, ◌≤◌, ℕ, zero, suc, ◌+◌, ◌-◌, true, length, Result, Option, Some, None, refl, sym, ap, ◌∙◌, subst, arith}
 use Rattle.std.proofs.lemmas.Bool.{cases_lt, true≢false}
 use Rattle.std.proofs.lemmas.List.{get_or-set_same, get_or_past}
+use Rattle.pif_types.specs.Numbers.{number_of}
 use Rattle.pif_types.specs.declared.errors.Errno.{Errno}
-use Rattle.pif_types.specs.declared.errors.Errno.TheVariants.{NoSuchThread}
 use Rattle.pif_types.specs.declared.errors.Refusal.{Refusal}
 use Rattle.pif_types.specs.declared.requests.Request.{Request}
 use Rattle.pif_types.specs.declared.requests.Request.TheVariants.{Lock, TryLock, Unlock, SetPrio}
 use Rattle.pif_model.specs.declared.events.Event.TheVariants.{Go}
 use Rattle.pif_model.specs.declared.events.Seen.{Seen}
-use Rattle.pif_model.specs.declared.events.Seen.TheVariants.{Went, Waits, Answered, Refused}
+use Rattle.pif_model.specs.declared.events.Seen.TheVariants.{Went, Answered, Refused}
 use Rattle.pif_model.specs.declared.lines.Line.{Line}
 use Rattle.pif_model.specs.declared.lines.Line.TheVariants.{Idle, At}
 use Rattle.pif_model.specs.declared.lines.Place.{Place}
 use Rattle.pif_model.specs.declared.lines.Place.TheVariants.{LockLoad, LockExchange, LockKernel, LockQueued, LockStop, LockStopped, TryLoad, TryExchange, TryKernel, UnlockLoad, UnlockExchange, UnlockKernel, SetPriority}
 use Rattle.pif_model.specs.declared.lines.Took.{Took}
-use Rattle.pif_model.specs.declared.lines.Took.TheVariants.{Owns as TookOwns, Queued as TookQueued}
 use Rattle.pif_model.specs.Word.{free_word, held_by}
-use Rattle.pif_model.specs.PiKernel.{is_ready, lock_answer, words_after_lock, kernel_after_lock, try_lock_answer, unlock_answer, set_prio_answer}
-use Rattle.pif_model.specs.Table.{Table, cell_at, status_at, line_at, has_thread, with_line, with_word, with_count, with_kernel}
-use Rattle.pif_model.specs.Lines.{Outcome, goes_to, answers, locked_again, own_exchange, lock_load, lock_by, lock_kernel, lock_queued, lock_stop, try_load, unlock_load, unlock_exchange, answered_by, busy_for_again, try_kernel, unlock_kernel, set_priority, line_of, go_outcome, is_open, table_refusal, accepted_outcome, by_refusal, event_outcome, goes_on, ClosesOrWaits}
-use Rattle.pif_chains.proofs.LineCases.{locked_again_cases, own_exchange_cases, lock_load_cases, lock_queued_cases, try_load_cases, unlock_load_cases, unlock_exchange_cases, answered_by_cases}
+use Rattle.pif_model.specs.PiKernel.{lock_answer, words_after_lock, kernel_after_lock, try_lock_answer, unlock_answer, set_prio_answer}
+use Rattle.pif_model.specs.Table.{Table, cell_at, line_at, has_thread, with_line, with_word, with_count, with_kernel}
+use Rattle.pif_model.specs.Lines.{Outcome, goes_to, answers, locked_again, own_exchange, lock_load, lock_kernel, lock_queued, lock_stop, try_load, unlock_load, unlock_exchange, answered_by, busy_for_again, try_kernel, unlock_kernel, set_priority, line_of, go_outcome, is_open, table_refusal, accepted_outcome, by_refusal, event_outcome, goes_on, ClosesOrWaits}
+use Rattle.pif_chains.proofs.LineCases.{locked_again_cases, own_exchange_cases, lock_load_cases, lock_by_cases, lock_queued_cases, try_load_cases, unlock_load_cases, unlock_exchange_cases, answered_by_cases}
 use Rattle.pif_simulation.proofs.Shown.{go_allowed}
 
 -- how many steps at most a call at this place may still go on
@@ -113,14 +112,19 @@ module _ (s : Table) (t m : ℕ) (known : has_thread s t ≡ true) (l : t < leng
 
   -- lock: the kernel call lock_pi
   lock_kernel-turns : Turns t 1 (lock_kernel (Lock m) t m s)
-  unfolding lock_kernel lock_by kernel_after_lock
-  lock_kernel-turns = by_answer (lock_answer t m s.words s.kernel)
+  unfolding lock_kernel kernel_after_lock
+  lock_kernel-turns = lock_by_cases (Turns t 1) r (Lock m) t (after r)
+      (λ e. answers-turns 1 t 0 (after r))
+      (λ e. ends (inl refl))
+      (λ e. goes-turns (after r) t (ap (λ a. has_thread (after a) t) e ∙ known) l 1 (Lock m) LockStop (omega arith))
+      (λ e other is. answers-turns 1 t (number_of e) (after r))
     where
-      by_answer : (a : Result Took Errno) → Turns t 1 (lock_by a (Lock m) t (with_kernel (words_after_lock t m a s.words) (kernel_after_lock t m a s.words s.kernel) s))
-      by_answer (Ok TookOwns) = ends (inr (0, refl))
-      by_answer (Ok TookQueued) = ends (inl refl)
-      by_answer (Err NoSuchThread) = goes-turns (with_kernel (words_after_lock t m (Err NoSuchThread) s.words) s.kernel s) t known l 1 (Lock m) LockStop (omega arith)
-      by_answer (Err _) = ends (inr (_, refl))
+      r : Result Took Errno
+      r = lock_answer t m s.words s.kernel
+
+      -- the table after that answer
+      after : Result Took Errno → Table
+      after a = with_kernel (words_after_lock t m a s.words) (kernel_after_lock t m a s.words s.kernel) s
 
   -- lock: queued, or made the owner
   lock_queued-turns : Turns t 0 (lock_queued t s)

@@ -1,8 +1,8 @@
 -- What a sound mutex says of its waiters, its owner state and its health, and what a new word leaves of it.
-use Rattle.std.proofs.Common.{◌≡◌, ◌≢◌, ℕ, Bool, true, false, cond, ◌==◌, List, [], ◌∷◌, map, filter, refl, sym, ap, ◌∙◌, if◌then◌else◌, eqb-true, eq-eqb}
+use Rattle.std.proofs.Common.{◌≡◌, ◌≢◌, ℕ, Bool, true, false, cond, ◌==◌, List, [], ◌∷◌, map, filter, refl, sym, ap, ◌∙◌, if◌then◌else◌, eq-eqb}
 use Rattle.std.proofs.lemmas.Bool.{true≢false, or_parts}
 use Rattle.pif_model.specs.Graph.{has_waiter, first_greatest, next_waiter}
-use Rattle.pif_model.specs.Word.{Word, is_bare, held_by, free_word}
+use Rattle.pif_model.specs.Word.{Word, held_by, free_word}
 use Rattle.pif_model.specs.Posix.Health.{Fine}
 use Rattle.pif_model.specs.Table.{Cell}
 use Rattle.pif_model.specs.Standing.{health_of, CountIsSound, CellIsSound}

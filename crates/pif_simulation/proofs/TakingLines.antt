@@ -1,6 +1,6 @@
 -- What lock, trylock and unlock have in common: a free mutex is taken by its word or in the kernel, a mutex for which
 -- nobody waits is given up, and the owner of a RECURSIVE mutex holds it more or less often.
-use Rattle.std.proofs.Common.{◌≡◌, ◌≢◌, ◌<◌, ◌≤◌, ℕ, ◌+◌, ◌-◌, true, false, nat_lt, length, Some, None, refl, sym, ap, ◌∙◌, subst, if◌then◌else◌, arith, ltb-true, ltb-false}
+use Rattle.std.proofs.Common.{◌≡◌, ◌≢◌, ◌<◌, ◌≤◌, ℕ, ◌+◌, ◌-◌, true, false, length, refl, sym, ap, ◌∙◌, subst, arith}
 use Rattle.std.proofs.lemmas.Bool.{true≢false}
 use Rattle.pif_types.specs.declared.requests.Kind.TheVariants.{Recursive}
 use Rattle.pif_types.specs.declared.requests.Request.{Request}
@@ -11,13 +11,13 @@ use Rattle.pif_model.specs.declared.events.Entry.TheVariants.{Step as Happened}
 use Rattle.pif_model.specs.declared.lines.Line.TheVariants.{Idle}
 use Rattle.pif_model.specs.declared.lines.Place.{Place}
 use Rattle.pif_model.specs.Graph.{has_waiter}
-use Rattle.pif_model.specs.Word.{Word, is_bare, held_by, free_word, taken_word}
+use Rattle.pif_model.specs.Word.{Word, held_by, free_word, taken_word}
 use Rattle.pif_model.specs.Posix.{named_by, on_taking}
 use Rattle.pif_model.specs.Posix.Health.{Fine, Inconsistent}
 use Rattle.pif_model.specs.Posix.Progress.{Fresh, Has}
 use Rattle.pif_model.specs.PiKernel.{is_ready, is_living}
 use Rattle.pif_model.specs.Table.{Table, cell_at, has_thread, has_mutex, status_at, with_word, with_count}
-use Rattle.pif_model.specs.Lines.{answers, exchanged, own_exchange, locked_again}
+use Rattle.pif_model.specs.Lines.{answers, own_exchange, locked_again}
 use Rattle.pif_model.specs.Standing.{CellIsSound, CountIsSound, MeetsAll, needs, belongs, progress_at, health_at}
 use Rattle.pif_chains.proofs.LineCases.{locked_again_cases, own_exchange_cases}
 use Rattle.pif_chains.proofs.Numbers.{above_0}

@@ -1,17 +1,15 @@
 -- The lines of pthread_mutex_trylock: each step is an entry of the POSIX machine and keeps the invariant.
-use Rattle.std.proofs.Common.{◌≡◌, ◌≢◌, ◌⊎◌, inl, inr, ℕ, true, ◌==◌, length, Result, Ok, Err, refl, sym, ◌∙◌, subst, arith, if◌then◌else◌, eq-eqb, ne_eqb, eqb-true}
-use Rattle.std.proofs.lemmas.Bool.{eqb-false, cases_eq}
+use Rattle.std.proofs.Common.{◌≡◌, ◌≢◌, ◌⊎◌, inl, inr, ℕ, true, length, Result, Ok, Err, refl, sym, ◌∙◌, subst, arith, eq-eqb, ne_eqb}
+use Rattle.std.proofs.lemmas.Bool.{cases_eq}
 use Rattle.pif_types.specs.declared.errors.Errno.{Errno}
 use Rattle.pif_types.specs.declared.errors.Errno.TheVariants.{Again}
-use Rattle.pif_types.specs.declared.requests.Kind.{Kind}
-use Rattle.pif_types.specs.declared.requests.Kind.TheVariants.{Normal, ErrorCheck, Recursive}
 use Rattle.pif_types.specs.declared.requests.Request.TheVariants.{TryLock}
 use Rattle.pif_model.specs.declared.lines.Place.TheVariants.{TryLoad, TryExchange, TryKernel}
 use Rattle.pif_model.specs.Graph.{has_waiter}
 use Rattle.pif_model.specs.Word.{has_word}
 use Rattle.pif_model.specs.PiKernel.{try_lock_answer, words_after_try_lock}
 use Rattle.pif_model.specs.Table.{Table, cell_at, has_thread, with_kernel}
-use Rattle.pif_model.specs.Lines.{Outcome, goes_to, answers, own_exchange, locked_again, try_load, answered_by, busy_for_again, try_kernel}
+use Rattle.pif_model.specs.Lines.{Outcome, own_exchange, try_load, answered_by, busy_for_again, try_kernel}
 use Rattle.pif_model.specs.Standing.{CellIsSound}
 use Rattle.pif_chains.proofs.LineCases.{try_load_cases}
 use Rattle.pif_chains.proofs.Numbers.{above_0, below, from_within}

@@ -1,5 +1,5 @@
 -- The lines of pthread_mutex_unlock: each step is an entry of the POSIX machine and keeps the invariant.
-use Rattle.std.proofs.Common.{◌≡◌, ◌≢◌, ℕ, ◌≤◌, ◌-◌, true, ◌==◌, nat_lt, length, Some, None, Ok, refl, sym, ap, ◌∙◌, subst, arith, if◌then◌else◌, eq-eqb, eqb-true, ltb-true, ltb-false}
+use Rattle.std.proofs.Common.{◌≡◌, ◌≢◌, ℕ, ◌≤◌, ◌-◌, true, ◌==◌, length, None, Ok, refl, sym, ap, ◌∙◌, subst, arith, if◌then◌else◌, eq-eqb, eqb-true}
 use Rattle.std.proofs.lemmas.Bool.{eqb-false}
 use Rattle.pif_types.specs.declared.requests.Request.TheVariants.{Unlock}
 use Rattle.pif_model.specs.declared.events.Event.TheVariants.{Go}
@@ -7,7 +7,7 @@ use Rattle.pif_model.specs.declared.events.Seen.TheVariants.{Answered}
 use Rattle.pif_model.specs.declared.events.Entry.TheVariants.{Step as Happened}
 use Rattle.pif_model.specs.declared.lines.Line.TheVariants.{Idle}
 use Rattle.pif_model.specs.declared.lines.Place.TheVariants.{UnlockLoad, UnlockExchange, UnlockKernel}
-use Rattle.pif_model.specs.Word.{free_word, hand_word, is_bare, has_word, set_word}
+use Rattle.pif_model.specs.Word.{free_word, hand_word, has_word, set_word}
 use Rattle.pif_model.specs.Posix.{Mutex, Thread, mutex_at, progressed}
 use Rattle.pif_model.specs.Posix.Health.{Fine, Inconsistent}
 use Rattle.pif_model.specs.Posix.Progress.{Has}
@@ -16,8 +16,8 @@ use Rattle.pif_model.specs.Posix.Effects.{none, then as first}
 use Rattle.pif_model.specs.Posix.Unlocks.{released}
 use Rattle.pif_model.specs.Posix.Passes.{to_next}
 use Rattle.pif_model.specs.PiKernel.{state_at, next_in, unlock_answer, words_after_unlock, kernel_after_unlock, kernel_after_hand_over}
-use Rattle.pif_model.specs.Table.{Table, cell_at, with_count, with_kernel}
-use Rattle.pif_model.specs.Lines.{goes_to, answers, exchanged, unlock_load, unlock_exchange, answered_by, unlock_kernel}
+use Rattle.pif_model.specs.Table.{Table, cell_at, with_kernel}
+use Rattle.pif_model.specs.Lines.{answers, unlock_load, unlock_exchange, answered_by, unlock_kernel}
 use Rattle.pif_model.specs.Standing.{Shadow, world_of}
 use Rattle.pif_chains.proofs.Waiting.{by_test}
 use Rattle.pif_chains.proofs.LineCases.{unlock_load_cases, unlock_exchange_cases}
