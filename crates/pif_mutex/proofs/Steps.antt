@@ -155,23 +155,27 @@ module _ {s : Table} {t : ℕ} (h : IsRunnable s) (lt : t < length s.lines) wher
   -- the kernel call lock_pi
   lock_kernel_keeps : (m : ℕ) → has_mutex s m ≡ true → is_ready (status_at s t) ≡ true
       → Keeps t s (lock_kernel (Lock m) t m s).after
-  unfolding lock_kernel
-  lock_kernel_keeps m named ready = lock_by_cases (λ o. Keeps t s o.after) r (Lock m) t after
-      (λ e. arrives Idle lt left ready)
+  unfolding lock_kernel kernel_after_lock
+  lock_kernel_keeps m named ready = lock_by_cases (λ o. Keeps t s o.after) r (Lock m) t (after r)
+      (λ e. arrives Idle lt left (runs Idle _ e ready))
       (λ e. arrives (At (Lock m) LockQueued) lt left (waits LockQueued named refl refl))
-      (λ e. arrives (At (Lock m) LockStop) lt left (goes_on LockStop named ready refl))
-      (λ e other is. arrives Idle lt left ready)
+      (λ e. arrives (At (Lock m) LockStop) lt left (runs (At (Lock m) LockStop) _ e (goes_on LockStop named ready refl)))
+      (λ e other is. arrives Idle lt left (runs Idle _ is ready))
     where
       r : Result Took Errno
       r = lock_answer t m s.words s.kernel
 
-      -- the table after that answer
-      after : Table
-      after = with_kernel (words_after_lock t m r s.words) (kernel_after_lock t m r s.words s.kernel) s
+      -- the table after an answer
+      after : Result Took Errno → Table
+      after a = with_kernel (words_after_lock t m a s.words) (kernel_after_lock t m a s.words s.kernel) s
 
-      left : Leaves t s after
+      left : Leaves t s (after r)
       left = leaves_kernel t s _ _ (lock_ready t m r s.words s.kernel)
           (lock_goes t m r s (λ e. (h.mutexes m).unowned (lock_owns_free t m s.words s.kernel e)))
+
+      -- t may run at a line after the answer, where it may after what that is
+      runs : (l : Line) (a : Result Took Errno) → r ≡ a → LineIsRunnable (after a) t l → LineIsRunnable (after r) t l
+      runs l a e = subst (λ b. LineIsRunnable (after b) t l) (sym e)
 
   -- queued, or made the owner
   lock_queued_keeps : Keeps t s (lock_queued t s).after
