@@ -18,7 +18,7 @@ use Rattle.pif_model.specs.declared.lines.Took.TheVariants.{Owns as TookOwns, Qu
 use Rattle.pif_model.specs.Word.{Word, free_word, held_by, is_bare}
 use Rattle.pif_model.specs.PiKernel.{is_ready}
 use Rattle.pif_model.specs.Table.{Table, status_at, cell_at, with_count, with_word}
-use Rattle.pif_model.specs.Lines.{Outcome, goes_to, waits_at, answers, locked_again, exchanged, own_exchange, lock_load, lock_by, lock_queued, try_load, unlock_load, unlock_exchange, answered_by}
+use Rattle.pif_model.specs.Lines.{Outcome, goes_to, waits_at, answers, locked_again, exchange_outcome, own_exchange, lock_load, lock_by, lock_queued, try_load, unlock_load, unlock_exchange, answered_by}
 use Rattle.pif_chains.proofs.Waiting.{by_test}
 
 -- numbers that fail the test of equality differ
@@ -45,12 +45,12 @@ locked_again_cases P t m s rises full =
     (λ e. rises (ltb-true (cell_at s m).count 255 e)) (λ e. full (ltb-false (cell_at s m).count 255 e))
 
 -- an exchange of a word from a bare number n
-exchanged_cases : (P : Outcome → Type 0) (x w : Word) (n : ℕ) (q : Request) (p : Place) (t m : ℕ) (s : Table)
+exchange_outcome_cases : (P : Outcome → Type 0) (x w : Word) (n : ℕ) (q : Request) (p : Place) (t m : ℕ) (s : Table)
     → (w.waiters ≡ false → w.number ≡ n → P (answers t 0 (with_word m x s))) → P (goes_to t q p s)
-    → P (exchanged (if is_bare w n then Some x else None) q p t m s)
-unfolding exchanged
-exchanged_cases P x w n q p t m s done fails =
-    by_test (λ b. P (exchanged (if b then Some x else None) q p t m s)) (is_bare w n)
+    → P (exchange_outcome (if is_bare w n then Some x else None) q p t m s)
+unfolding exchange_outcome
+exchange_outcome_cases P x w n q p t m s done fails =
+    by_test (λ b. P (exchange_outcome (if b then Some x else None) q p t m s)) (is_bare w n)
     (λ e. let b = bare w.waiters w.died w.number n e in done b.0 b.1) (λ e. fails)
 
 -- compare-exchange from 0 to t
@@ -59,7 +59,7 @@ pub own_exchange_cases : (P : Outcome → Type 0) (q : Request) (p : Place) (t m
     → P (goes_to t q p s)
     → P (own_exchange q p t m s)
 unfolding own_exchange
-own_exchange_cases P q p t m s = exchanged_cases P (held_by t) (cell_at s m).word 0 q p t m s
+own_exchange_cases P q p t m s = exchange_outcome_cases P (held_by t) (cell_at s m).word 0 q p t m s
 
 -- LOCK
 
@@ -159,7 +159,7 @@ pub unlock_exchange_cases : (P : Outcome → Type 0) (t m : ℕ) (s : Table)
     → P (goes_to t (Unlock m) UnlockKernel s)
     → P (unlock_exchange t m s)
 unfolding unlock_exchange
-unlock_exchange_cases P t m s = exchanged_cases P free_word (cell_at s m).word t (Unlock m) UnlockKernel t m s
+unlock_exchange_cases P t m s = exchange_outcome_cases P free_word (cell_at s m).word t (Unlock m) UnlockKernel t m s
 
 -- by what its kernel call answered a call is closed
 pub answered_by_cases : (P : Outcome → Type 0) (r : Result (record {}) Errno) (t : ℕ) (s : Table)

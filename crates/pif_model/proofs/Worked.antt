@@ -11,11 +11,11 @@ use Rattle.pif_model.specs.Graph.{reaches_within, greatest_where, effective_amon
 use Rattle.pif_model.specs.Word.{bits_of, word_of}
 use Rattle.pif_model.specs.Table.{Table, new_table, thread_added, mutex_added, cell_at}
 use Rattle.pif_model.specs.PiKernel.{effective_in, pick_in, numbers, levels_by, no_states, first_from, lock_answer, words_after_lock, kernel_after_lock, try_lock_answer, words_after_try_lock, kernel_after_queueing, unlock_answer, words_after_unlock, kernel_after_unlock, kernel_after_hand_over, set_prio_answer, kernel_after_set_prio, kernel_after_stop}
-use Rattle.pif_model.specs.Lines.{locked_again, exchanged, own_exchange, lock_load, lock_by, lock_kernel, lock_queued, lock_stop, try_load, unlock_load, unlock_exchange, answered_by, try_kernel, unlock_kernel, set_priority, line_of, go_outcome, accepted_outcome, event_outcome}
+use Rattle.pif_model.specs.Lines.{locked_again, exchange_outcome, own_exchange, lock_load, lock_by, lock_kernel, lock_queued, lock_stop, try_load, unlock_load, unlock_exchange, answered_by, try_kernel, unlock_kernel, set_priority, line_of, go_outcome, accepted_outcome, event_outcome}
 
 -- opens every definition of the table machine
 machine : ℕ
-unfolding reaches_within greatest_where effective_among first_greatest waited_by next_waiter bits_of word_of numbers levels_by no_states first_from lock_answer words_after_lock kernel_after_lock try_lock_answer words_after_try_lock kernel_after_queueing unlock_answer words_after_unlock kernel_after_unlock kernel_after_hand_over set_prio_answer kernel_after_set_prio kernel_after_stop locked_again exchanged own_exchange lock_load lock_by lock_kernel lock_queued lock_stop try_load unlock_load unlock_exchange answered_by try_kernel unlock_kernel set_priority line_of go_outcome accepted_outcome event_outcome
+unfolding reaches_within greatest_where effective_among first_greatest waited_by next_waiter bits_of word_of numbers levels_by no_states first_from lock_answer words_after_lock kernel_after_lock try_lock_answer words_after_try_lock kernel_after_queueing unlock_answer words_after_unlock kernel_after_unlock kernel_after_hand_over set_prio_answer kernel_after_set_prio kernel_after_stop locked_again exchange_outcome own_exchange lock_load lock_by lock_kernel lock_queued lock_stop try_load unlock_load unlock_exchange answered_by try_kernel unlock_kernel set_priority line_of go_outcome accepted_outcome event_outcome
 machine = 0
 
 -- a core for examples

@@ -48,13 +48,13 @@ locked_again t m s =
     else answers t 11 s
 
 -- by the word that an own exchange has written, if it has: the call is answered, or goes on at this place
-unfoldable pub exchanged : Option Word → Request → Place → ℕ → ℕ → Table → Outcome
-exchanged (Some w) q p t m s = answers t 0 (with_word m w s)
-exchanged None q p t m s = goes_to t q p s
+unfoldable pub exchange_outcome : Option Word → Request → Place → ℕ → ℕ → Table → Outcome
+exchange_outcome (Some w) q p t m s = answers t 0 (with_word m w s)
+exchange_outcome None q p t m s = goes_to t q p s
 
 -- lock and trylock: compare-exchange from 0 to t. Where it fails the call goes on at this place, its kernel call
 unfoldable pub own_exchange : Request → Place → ℕ → ℕ → Table → Outcome
-own_exchange q p t m s = exchanged (take_word (cell_at s m).word t) q p t m s
+own_exchange q p t m s = exchange_outcome (take_word (cell_at s m).word t) q p t m s
 
 -- lock: load the word. The owner of a NORMAL mutex goes on to stop, that of an ERRORCHECK mutex is answered EDEADLK,
 -- that of a RECURSIVE mutex holds it once more
@@ -101,7 +101,7 @@ unlock_load t m s =
 
 -- unlock: compare-exchange from t to 0
 unfoldable pub unlock_exchange : ℕ → ℕ → Table → Outcome
-unlock_exchange t m s = exchanged (release_word (cell_at s m).word t) (Unlock m) UnlockKernel t m s
+unlock_exchange t m s = exchange_outcome (release_word (cell_at s m).word t) (Unlock m) UnlockKernel t m s
 
 -- the call is closed by what its kernel call answered: 0, or the number of the error
 unfoldable pub answered_by : Result (record {}) Errno → ℕ → Table → Outcome

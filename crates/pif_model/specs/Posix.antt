@@ -105,13 +105,13 @@ abbrev pub with_mutex : ℕ → Mutex → World → World
 with_mutex m x w = record w { mutexes = set w.mutexes m x }
 
 -- an open call that has come this far
-abbrev pub progressed : Progress → Option Call → Option Call
-progressed p None = None
-progressed p (Some c) = Some (record c { progress = p })
+abbrev pub call_at_progress : Progress → Option Call → Option Call
+call_at_progress p None = None
+call_at_progress p (Some c) = Some (record c { progress = p })
 
 -- t's call has come this far
 abbrev pub with_progress : ℕ → Progress → World → World
-with_progress t p w = with_thread t (record (thread_at w t) { call = progressed p (thread_at w t).call }) w
+with_progress t p w = with_thread t (record (thread_at w t) { call = call_at_progress p (thread_at w t).call }) w
 
 -- WAITING AND PRIORITY
 
@@ -169,13 +169,13 @@ taken t m w =
     with_progress t (on_taking (mutex_at w m).health) (with_mutex m (record (mutex_at w m) { owner = t; count = 1 }) w)
 
 -- m is held this often by its owner
-abbrev pub counted : ℕ → ℕ → World → World
-counted m n w = with_mutex m (record (mutex_at w m) { count = n }) w
+abbrev pub with_hold_count : ℕ → ℕ → World → World
+with_hold_count m n w = with_mutex m (record (mutex_at w m) { count = n }) w
 
 -- the owner t of a RECURSIVE mutex m locks it again, by lock or trylock
 pub data LocksAgain (t m : ℕ) (w v : World) : Type 0 where
   -- it holds m once more
-  rises : (mutex_at w m).count < 255 → v ≡ with_progress t (Has 0) (counted m ((mutex_at w m).count + 1) w) → LocksAgain t m w v
+  rises : (mutex_at w m).count < 255 → v ≡ with_progress t (Has 0) (with_hold_count m ((mutex_at w m).count + 1) w) → LocksAgain t m w v
   -- it holds m as often as it may: EAGAIN
   at_limit : (mutex_at w m).count ≡ 255 → v ≡ with_progress t (Has 11) w → LocksAgain t m w v
 
@@ -218,7 +218,7 @@ pub data Unlocks (t m : ℕ) (w v : World) : Type 0 where
   -- t isn't the owner: EPERM
   not_owner : (mutex_at w m).owner ≢ t → v ≡ with_progress t (Has 1) w → Unlocks t m w v
   -- the owner holds it more than once: it holds it once less, and the result is 0
-  falls : (mutex_at w m).owner ≡ t → 1 < (mutex_at w m).count → v ≡ with_progress t (Has 0) (counted m ((mutex_at w m).count - 1) w) → Unlocks t m w v
+  falls : (mutex_at w m).owner ≡ t → 1 < (mutex_at w m).count → v ≡ with_progress t (Has 0) (with_hold_count m ((mutex_at w m).count - 1) w) → Unlocks t m w v
   -- the owner, who holds it once, gives it up: it passes on, and the result is 0
   released : (mutex_at w m).owner ≡ t → (mutex_at w m).count ≡ 1 → (mutex_at w m).health ≢ Inconsistent → Passes m (with_progress t (Has 0) w) v → Unlocks t m w v
 

@@ -12,7 +12,7 @@ use Rattle.pif_chains.proofs.Numbers.{above_0, below}
 use Rattle.pif_simulation.proofs.Kept.{unwritten, line_spared}
 use Rattle.pif_simulation.proofs.Hole.{Changes, change_kept, excuse_one, admit_last}
 use Rattle.pif_simulation.proofs.Shown.{mutex_seen}
-use Rattle.pif_simulation.proofs.Written.{written, mutex_of, no_call, changes, line_here, call_shown, written_line}
+use Rattle.pif_simulation.proofs.Written.{table_after_write, mutex_of, no_call, changes, line_here, call_shown, written_line}
 use Rattle.pif_simulation.proofs.Local.{ready-not_queued}
 
 module _ (s : Table) (t : ℕ) (l : Line) (h : IsSound s) (known : has_thread s t ≡ true) where
@@ -26,7 +26,7 @@ module _ (s : Table) (t : ℕ) (l : Line) (h : IsSound s) (known : has_thread s 
   ml = h.all.shape.some_mutex
 
   -- the table then, as one in which place 0 of the mutexes is written as it was
-  same : written t 0 l (word_at s.words 0) (library_at s 0).count s.kernel s ≡ with_line t l s
+  same : table_after_write t 0 l (word_at s.words 0) (library_at s 0).count s.kernel s ≡ with_line t l s
   same = written_line t 0 l s.kernel s
 
   -- where it knows what it has to, the table is sound
@@ -41,7 +41,7 @@ module _ (s : Table) (t : ℕ) (l : Line) (h : IsSound s) (known : has_thread s 
   })
     where
       v : Table
-      v = written t 0 l (word_at s.words 0) (library_at s 0).count s.kernel s
+      v = table_after_write t 0 l (word_at s.words 0) (library_at s 0).count s.kernel s
 
       change : Changes (λ u. u ≡ t) s v 0
       change = changes s t 0 l (word_at s.words 0) (library_at s 0).count s.kernel t0 tl ml h.all.shape refl (no_call (λ u. u ≡ t) s.kernel 0)

@@ -15,7 +15,7 @@ use Rattle.pif_model.specs.declared.lines.Status.{Status}
 use Rattle.pif_model.specs.declared.lines.Status.TheVariants.{Queued}
 use Rattle.pif_model.specs.Graph.{has_waiter}
 use Rattle.pif_model.specs.Word.{Word, word_at}
-use Rattle.pif_model.specs.Posix.{Progress, Call, World, Effect, Effects, no_mutex, named_by, names_known, thread_at, with_thread, with_mutex, with_progress, progressed}
+use Rattle.pif_model.specs.Posix.{Progress, Call, World, Effect, Effects, no_mutex, named_by, names_known, thread_at, with_thread, with_mutex, with_progress, call_at_progress}
 use Rattle.pif_model.specs.Posix.Progress.{Has}
 use Rattle.pif_model.specs.Posix.Effects.{none, then as first}
 use Rattle.pif_model.specs.PiKernel.{is_ready, is_living}
@@ -25,8 +25,8 @@ use Rattle.pif_model.specs.Standing.{Shadow, MeetsAll, needs, belongs, call_at, 
 use Rattle.pif_chains.proofs.Numbers.{above_0, below}
 use Rattle.pif_simulation.proofs.Kept.{Spares, unwritten}
 use Rattle.pif_simulation.proofs.Hole.{Changes, change_kept, excuse_one, admit_last}
-use Rattle.pif_simulation.proofs.Shown.{mutex_seen, closed_progressed, call_progressed}
-use Rattle.pif_simulation.proofs.Written.{written, cell_written, mutex_of, no_call, changes, cell_here, line_here, call_shown, written_line}
+use Rattle.pif_simulation.proofs.Shown.{mutex_seen, with_call_closed-with_progress, call_progressed}
+use Rattle.pif_simulation.proofs.Written.{table_after_write, cell_written, mutex_of, no_call, changes, cell_here, line_here, call_shown, written_line}
 use Rattle.pif_simulation.proofs.Does.{Does, does_seen}
 use Rattle.pif_simulation.proofs.Does.Does.{nothing}
 use Rattle.pif_simulation.proofs.Steps.{Keeps, GoKeeps, Going, going_called, going_below, going_lined, goes_with, answers_with}
@@ -41,8 +41,8 @@ pub record Move : Type 0 where
   pub count : ℕ
 
 -- the table after a move of t on m
-abbrev pub moved : ℕ → ℕ → Move → Table → Table
-moved t m o s = written t m o.line o.word o.count s.kernel s
+abbrev pub table_after_move : ℕ → ℕ → Move → Table → Table
+table_after_move t m o s = table_after_write t m o.line o.word o.count s.kernel s
 
 -- the mutex that a move leaves
 abbrev pub cell_left : ℕ → Move → Table → Cell
@@ -102,7 +102,7 @@ module _ {s : Table} {t : ℕ} {q : Request} {p : Place} (g : Going s t q p) (na
 
   module _ (a : Progress) (o : Move) (l : IsLocal s t m q a o) where
     abbrev v : Table
-    v = moved t m o s
+    v = table_after_move t m o s
 
     -- the change that the move is
     change : Changes (λ u. u ≡ t) s v m
@@ -144,10 +144,10 @@ module _ {s : Table} {t : ℕ} {q : Request} {p : Place} (g : Going s t q p) (na
     -- the move is an entry of the POSIX machine, by its answer
     by_answer : (seen : Seen) → Shows s t q a seen o.line → ((y : Shadow) → Effects t (world_of s y) (with_progress t a (left y))) → Keeps s (Happened (Go t) seen) v
     by_answer Went e effects = goes_with g v move_sound refl g.known l.ready (λ y. subst (Effects t (world_of s y))
-        (sym (shown y (progressed a (thread_at (left y) t).call) (e ∙ sym (ap (progressed a) (going_called g y))))) (effects y))
+        (sym (shown y (call_at_progress a (thread_at (left y) t).call) (e ∙ sym (ap (call_at_progress a) (going_called g y))))) (effects y))
     by_answer (Answered n) e effects = answers_with g v n (λ y. with_progress t a (left y)) move_sound refl g.known l.ready effects
         (λ y. call_progressed (left y) t a _ (going_below g y) (going_called g y) ∙ (λ i. Some (record { request = q; progress = e.0 i })))
-        (λ y. shown y None (ap (λ k. call_at (health_at s) k (status_at s t)) e.1) ∙ sym (closed_progressed (left y) t a (going_below g y)))
+        (λ y. shown y None (ap (λ k. call_at (health_at s) k (status_at s t)) e.1) ∙ sym (with_call_closed-with_progress (left y) t a (going_below g y)))
     by_answer Begun e effects = absurd e
     by_answer Waits e effects = absurd e
     by_answer (Refused r) e effects = absurd e
@@ -166,7 +166,7 @@ module _ {s : Table} {t : ℕ} {q : Request} {p : Place} (g : Going s t q p) (na
   still seen l = record { seen = seen; line = l; word = word_at s.words m; count = (library_at s m).count }
 
   -- leaves all but t's line
-  still_line : (seen : Seen) (l : Line) → moved t m (still seen l) s ≡ with_line t l s
+  still_line : (seen : Seen) (l : Line) → table_after_move t m (still seen l) s ≡ with_line t l s
   still_line seen l = written_line t m l s.kernel s
 
   -- nobody is touched then

@@ -29,7 +29,7 @@ use Rattle.pif_chains.proofs.Numbers.{above_0, below, from_within}
 use Rattle.pif_chains.proofs.KernelKept.{stop_kept}
 use Rattle.pif_chains.proofs.KernelKept.{queueing_kept}
 use Rattle.pif_simulation.proofs.Shown.{mutex_seen, living_seen}
-use Rattle.pif_simulation.proofs.Written.{written, written_line, written_word}
+use Rattle.pif_simulation.proofs.Written.{table_after_write, written_line, written_word}
 use Rattle.pif_simulation.proofs.Steps.{Keeps, GoKeeps, Going, going_named, going_met, waits_with}
 use Rattle.pif_simulation.proofs.Does.IsLocking.{by_lock}
 use Rattle.pif_simulation.proofs.Local.{going_cell, goes, answers_alone}
@@ -81,7 +81,7 @@ module _ (s : Table) (t m : ℕ) where
       let c = stop_one g in
       let k = kernel_after_stop t s.kernel in
       subst (Keeps s (Happened (Go t) Waits)) (written_line t m (At (Lock m) LockStopped) k s)
-      (waits_with g (written t m (At (Lock m) LockStopped) (word_at s.words m) (library_at s m).count k s)
+      (waits_with g (table_after_write t m (At (Lock m) LockStopped) (word_at s.words m) (library_at s m).count k s)
       (called_sound g (going_named g) LockStopped (word_at s.words m) k c) refl (called_known g (going_named g) LockStopped (word_at s.words m) k c) (ap is_ready c.needs.0)
       (λ y. first (locks g refl y (with_progress t Stuck (world_of s y)) (stops g y (going_met g).1.0)) (none (called_shown g (going_named g) LockStopped (word_at s.words m) k c y Stuck refl))))
 
@@ -205,7 +205,7 @@ module _ (s : Table) (t m : ℕ) where
         let k = kernel_after_queueing t m (word_at s.words m).number s.kernel in
         let x = mark_word (word_at s.words m) in
         subst (Keeps s (Happened (Go t) Waits)) (written_word t m (At (Lock m) LockQueued) x k s)
-        (waits_with g (written t m (At (Lock m) LockQueued) x (library_at s m).count k s)
+        (waits_with g (table_after_write t m (At (Lock m) LockQueued) x (library_at s m).count k s)
         (called_sound g (going_named g) LockQueued x k c) refl (called_known g (going_named g) LockQueued x k c) (unready c)
         (λ y. first (locks g refl y (record (with_progress t Waiting (world_of s y)) { waiters = s.kernel.waiters ++ (t, m) ∷ [] })
         (joins (other_seen y) (owned_seen y) (not_lost y l) (chain_seen y ∙ e) refl))

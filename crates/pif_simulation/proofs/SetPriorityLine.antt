@@ -25,8 +25,8 @@ use Rattle.pif_chains.proofs.Waiting.{by_test}
 use Rattle.pif_chains.proofs.Numbers.{above_0, below}
 use Rattle.pif_chains.proofs.KernelKept.{set_prio_kept}
 use Rattle.pif_simulation.proofs.Hole.{change_kept, excuse_one, admit_last}
-use Rattle.pif_simulation.proofs.Shown.{threads_shown, mutexes_shown, thread_seen, mutex_seen, living_seen, closed, closed_progressed, call_progressed}
-use Rattle.pif_simulation.proofs.Written.{written, written_line, mutex_of, IsCallOn, changes, no_call, line_here, call_shown, thread_here, thread_there, shows}
+use Rattle.pif_simulation.proofs.Shown.{threads_shown, mutexes_shown, thread_seen, mutex_seen, living_seen, with_call_closed, with_call_closed-with_progress, call_progressed}
+use Rattle.pif_simulation.proofs.Written.{table_after_write, written_line, mutex_of, IsCallOn, changes, no_call, line_here, call_shown, thread_here, thread_there, shows}
 use Rattle.pif_simulation.proofs.Steps.{Keeps, GoKeeps, Going, going_met, going_called, going_lined, going_below, answers_with}
 use Rattle.pif_simulation.proofs.Local.{ready-not_queued}
 
@@ -42,7 +42,7 @@ module _ (s : Table) (t u p : ℕ) (g : Going s t (SetPrio u p) SetPriority) whe
 
   -- the table in which t's call is closed over this kernel
   abbrev v : Kernel → Table
-  v k = written t 0 Idle (word_at s.words 0) (library_at s 0).count k s
+  v k = table_after_write t 0 Idle (word_at s.words 0) (library_at s 0).count k s
 
   -- whatever the kernel's base priorities are then, it is sound
   closed_sound : (k : Kernel) → IsKernel k → IsCallOn (λ j. j ≡ t) s.kernel k 0 → status_at (v k) t ≡ status_at s t → IsSound (v k)
@@ -71,7 +71,7 @@ module _ (s : Table) (t u p : ℕ) (g : Going s t (SetPrio u p) SetPriority) whe
       (λ y. call_progressed (world_of s y) t (Has n) _ (going_below g y) (going_called g y))
       (λ y. call_shown s t 0 Idle (word_at s.words 0) (library_at s 0).count s.kernel t0 (going_lined g) ml g.sound.all.shape y None sound.all.shape refl refl (λ j d. refl) refl refl
       ∙ (λ i. with_thread t (record (thread_at (world_of s y) t) { call = None }) (stays y i))
-      ∙ sym (closed_progressed (world_of s y) t (Has n) (going_below g y))))
+      ∙ sym (with_call_closed-with_progress (world_of s y) t (Has n) (going_below g y))))
     where
       stays : (y : Shadow) → with_mutex 0 (mutex_of (cell_at s 0)) (world_of s y) ≡ world_of s y
       stays y =
@@ -134,11 +134,11 @@ module _ (s : Table) (t u p : ℕ) (g : Going s t (SetPrio u p) SetPriority) whe
             ∙ (λ i. record (thread_shown s j) { base = (sym (seat_else j d) i).base })
 
     -- the world that the table shows
-    rebased_shown : IsSound (v k) → world_of (v k) y ≡ closed t (with_base u p w)
+    rebased_shown : IsSound (v k) → world_of (v k) y ≡ with_call_closed t (with_base u p w)
     rebased_shown sound =
         let r : Thread = record (thread_at (with_base u p w) t) { call = None } in
         let long = length-set w.threads u (record (thread_at w u) { base = p }) in
-        shows s t 0 Idle (word_at s.words 0) (library_at s 0).count k t0 (going_lined g) ml g.sound.all.shape y (closed t (with_base u p w)) sound.all.shape
+        shows s t 0 Idle (word_at s.words 0) (library_at s 0).count k t0 (going_lined g) ml g.sound.all.shape y (with_call_closed t (with_base u p w)) sound.all.shape
         (length-set (with_base u p w).threads t r ∙ long ∙ threads_shown g.sound.all.shape y) (mutexes_shown g.sound.all.shape y) waiters_same
         (thread_here s t 0 Idle (word_at s.words 0) (library_at s 0).count k t0 (going_lined g) ml g.sound.all.shape refl
         ∙ (λ i. record { base = (seat_at k t).base; living = if t == 0 then false else nat_lt t ((call l).seats i); call = None })
@@ -157,7 +157,7 @@ module _ (s : Table) (t u p : ℕ) (g : Going s t (SetPrio u p) SetPriority) whe
       (answers_with g (v k) 0 (λ y. with_progress t (Has 0) (with_base u p (world_of s y))) sound limits known (ap is_ready (status_same l t) ∙ ready)
       (λ y. first (set_prio u p (going_called g y) (changed prio (living_seen s y u g.sound.all.shape ∙ l) refl)) (none refl))
       (λ y. call_progressed (with_base u p (world_of s y)) t (Has 0) _ (tw y) (ap (λ (x : Thread). x.call) (rebased l y t) ∙ sym (ap (λ (x : Thread). x.call) (thread_seen g.sound.all.shape y t)) ∙ going_called g y))
-      (λ y. rebased_shown l y sound ∙ sym (closed_progressed (with_base u p (world_of s y)) t (Has 0) (tw y))))
+      (λ y. rebased_shown l y sound ∙ sym (with_call_closed-with_progress (with_base u p (world_of s y)) t (Has 0) (tw y))))
     where
       tw : (y : Shadow) → t < length (with_base u p (world_of s y)).threads
       tw y = subst (λ j. t < j) (sym (length-set (world_of s y).threads u (record (thread_at (world_of s y) u) { base = p }))) (going_below g y)

@@ -9,7 +9,7 @@ use Rattle.pif_model.specs.declared.events.Event.TheVariants.{Begin, Go}
 use Rattle.pif_model.specs.declared.lines.Line.{Line}
 use Rattle.pif_model.specs.declared.lines.Line.TheVariants.{Idle, At}
 use Rattle.pif_model.specs.Refusals.{begin_refused, go_refused}
-use Rattle.pif_model.specs.Posix.{Progress, Call, Thread, World, nobody, no_mutex, thread_at, mutex_at, is_thread, is_mutex, with_thread, with_progress, progressed, refusal_of, names_known}
+use Rattle.pif_model.specs.Posix.{Progress, Call, Thread, World, nobody, no_mutex, thread_at, mutex_at, is_thread, is_mutex, with_thread, with_progress, call_at_progress, refusal_of, names_known}
 use Rattle.pif_model.specs.Posix.{is_living as lives}
 use Rattle.pif_model.specs.PiKernel.{is_living}
 use Rattle.pif_model.specs.Table.{Table, has_thread, has_mutex, status_at, line_at}
@@ -72,10 +72,10 @@ module _ {s : Table} (shape : IsShaped s) where
   -- behind the last thread there is nobody
   past_threads : (t : ℕ) → length s.lines ≤ t → thread_shown s t ≡ nobody
   past_threads t h =
-      rw (get_or_past s.lines t Idle h, get_or_past s.kernel.seats t _ (subst (λ n. n ≤ t) shape.lines h), gone) refl
+      rw (get_or_past s.lines t Idle h, get_or_past s.kernel.seats t _ (subst (λ n. n ≤ t) shape.lines h), past_none) refl
     where
-      gone : (if t == 0 then false else nat_lt t (length s.kernel.seats)) ≡ false
-      gone = ap (λ b. if t == 0 then false else b) (le-ltb t (length s.kernel.seats) (subst (λ n. n ≤ t) shape.lines h)) ∙ either (t == 0)
+      past_none : (if t == 0 then false else nat_lt t (length s.kernel.seats)) ≡ false
+      past_none = ap (λ b. if t == 0 then false else b) (le-ltb t (length s.kernel.seats) (subst (λ n. n ≤ t) shape.lines h)) ∙ either (t == 0)
 
   -- the POSIX machine sees the thread that the table shows
   pub thread_seen : (x : Shadow) (t : ℕ) → thread_at (world_of s x) t ≡ thread_shown s t
@@ -159,18 +159,18 @@ pub thread_changed_twice : (w : World) (t : ℕ) (x y : Thread) → with_thread 
 thread_changed_twice w t x y = λ i. record w { threads = set-set w.threads t x y i }
 
 -- the state once t's call is closed
-abbrev pub closed : ℕ → World → World
-closed t u = with_thread t (record (thread_at u t) { call = None }) u
+abbrev pub with_call_closed : ℕ → World → World
+with_call_closed t u = with_thread t (record (thread_at u t) { call = None }) u
 
 -- a call that has come far is closed like any other
-pub closed_progressed : (w : World) (t : ℕ) (p : Progress) → t < length w.threads → closed t (with_progress t p w) ≡ closed t w
-closed_progressed w t p h =
-    let x : Thread = record (thread_at w t) { call = progressed p (thread_at w t).call } in
+pub with_call_closed-with_progress : (w : World) (t : ℕ) (p : Progress) → t < length w.threads → with_call_closed t (with_progress t p w) ≡ with_call_closed t w
+with_call_closed-with_progress w t p h =
+    let x : Thread = record (thread_at w t) { call = call_at_progress p (thread_at w t).call } in
     ap (λ (y : Thread). with_thread t (record y { call = None }) (with_thread t x w)) (thread_changed w t x h)
     ∙ thread_changed_twice w t x (record (thread_at w t) { call = None })
 
 -- the call of a thread that has come far
 pub call_progressed : (w : World) (t : ℕ) (p : Progress) (c : Call) → t < length w.threads → (thread_at w t).call ≡ Some c → (thread_at (with_progress t p w) t).call ≡ Some (record c { progress = p })
 call_progressed w t p c h e =
-    ap (λ (y : Thread). y.call) (thread_changed w t (record (thread_at w t) { call = progressed p (thread_at w t).call }) h)
-    ∙ ap (progressed p) e
+    ap (λ (y : Thread). y.call) (thread_changed w t (record (thread_at w t) { call = call_at_progress p (thread_at w t).call }) h)
+    ∙ ap (call_at_progress p) e

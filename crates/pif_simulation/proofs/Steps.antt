@@ -23,7 +23,7 @@ use Rattle.pif_chains.proofs.Waiting.{by_test, names, named-from_pair}
 use Rattle.pif_chains.proofs.KernelFacts.{unnamed-from_ready}
 use Rattle.pif_chains.proofs.Numbers.{below}
 use Rattle.pif_simulation.proofs.Hole.{each_thread}
-use Rattle.pif_simulation.proofs.Shown.{threads_shown, call_seen, refusal_seen, closed}
+use Rattle.pif_simulation.proofs.Shown.{threads_shown, call_seen, refusal_seen, with_call_closed}
 
 -- v follows s by this entry: it is sound, both have the same limits, and what they show, with a shadow that agrees with
 -- s and a next one that agrees with v, is a step of the POSIX machine
@@ -149,7 +149,7 @@ module _ {s : Table} {t : ℕ} {q : Request} {p : Place} (g : Going s t q p) whe
   -- the step follows with these effects, after which the call has this result and closes
   pub answers_with : (v : Table) (a : ℕ) (u : Shadow → World) → IsSound v → v.limits ≡ s.limits → has_thread v t ≡ true → is_ready (status_at v t) ≡ true
       → ((x : Shadow) → Effects t (world_of s x) (u x)) → ((x : Shadow) → (thread_at (u x) t).call ≡ Some (record { request = q; progress = Has a }))
-      → ((x : Shadow) → world_of v x ≡ closed t (u x)) → Keeps s (Happened (Go t) (Answered a)) v
+      → ((x : Shadow) → world_of v x ≡ with_call_closed t (u x)) → Keeps s (Happened (Go t) (Answered a)) v
   answers_with v a u sound limits known ready effects call shown = record {
     sound = sound;
     limits = limits;

@@ -8,7 +8,7 @@ use Rattle.pif_model.specs.declared.events.Entry.TheVariants.{Step as Happened}
 use Rattle.pif_model.specs.declared.lines.Line.TheVariants.{Idle}
 use Rattle.pif_model.specs.declared.lines.Place.TheVariants.{UnlockLoad, UnlockExchange, UnlockKernel}
 use Rattle.pif_model.specs.Word.{free_word, hand_word, has_word, set_word}
-use Rattle.pif_model.specs.Posix.{Mutex, Thread, mutex_at, progressed}
+use Rattle.pif_model.specs.Posix.{Mutex, Thread, mutex_at, call_at_progress}
 use Rattle.pif_model.specs.Posix.Health.{Fine, Inconsistent}
 use Rattle.pif_model.specs.Posix.Progress.{Has}
 use Rattle.pif_model.specs.Posix.Effect.{unlock}
@@ -32,7 +32,7 @@ use Rattle.pif_simulation.proofs.Owning.{none_from_flag, none_from_state, state_
 use Rattle.pif_simulation.proofs.TakingLines.{gives_up, unlocks_one_kept}
 use Rattle.pif_simulation.proofs.Effective.{next_seen}
 use Rattle.pif_simulation.proofs.Progressed.{next-with_progress}
-use Rattle.pif_simulation.proofs.HandOver.{GivesUp, handed, passed, giver_passed, handed_sound, handed_known, handed_ready, handed_shown}
+use Rattle.pif_simulation.proofs.HandOver.{GivesUp, table_after_hand_over, world_after_passing, giver_passed, handed_sound, handed_known, handed_ready, handed_shown}
 
 -- a health is one
 fine : Fine ≡ Inconsistent → ⊥
@@ -82,10 +82,10 @@ module _ (s : Table) (t m : ℕ) where
       } in
       let sound = handed_sound h (going_met g).0 in
       subst (Keeps s (Happened (Go t) (Answered 0))) (written_word t m Idle (hand_word (next_in s.kernel m)) (kernel_after_hand_over (next_in s.kernel m) m s.kernel) s)
-      (answers_with g (handed h) 0 (λ y. passed h y (Has 0)) sound refl (handed_known h) (handed_ready h)
+      (answers_with g (table_after_hand_over h) 0 (λ y. world_after_passing h y (Has 0)) sound refl (handed_known h) (handed_ready h)
       (λ y. first (unlock m (going_called g y) (released (owner y) (count y) (not_inconsistent y) (to_next (next_in s.kernel m)
       (next-with_progress (world_of s y) t (Has 0) m ∙ next_seen g.sound y m) (next-some s.kernel g.sound.kernel m state) refl))) (none refl))
-      (λ y. ap (λ (x : Thread). x.call) (giver_passed h y (Has 0)) ∙ ap (progressed (Has 0)) (going_called g y))
+      (λ y. ap (λ (x : Thread). x.call) (giver_passed h y (Has 0)) ∙ ap (call_at_progress (Has 0)) (going_called g y))
       (λ y. handed_shown h y (Has 0) None sound refl))
     where
       owner : (y : Shadow) → (mutex_at (world_of s y) m).owner ≡ t

@@ -17,8 +17,8 @@ use Rattle.pif_simulation.proofs.Hole.{Changes}
 use Rattle.pif_simulation.proofs.Shown.{threads_shown, mutexes_shown, thread_seen, mutex_seen, same_world}
 
 -- t's line, m's word and count, and this kernel, in place of those that were there
-abbrev pub written : ℕ → ℕ → Line → Word → ℕ → Kernel → Table → Table
-written t m l x n k s = record s {
+abbrev pub table_after_write : ℕ → ℕ → Line → Word → ℕ → Kernel → Table → Table
+table_after_write t m l x n k s = record s {
   words = set_word s.words m x;
   kernel = k;
   lines = set s.lines t l;
@@ -34,7 +34,7 @@ abbrev pub mutex_of : Cell → Mutex
 mutex_of c = record { kind = c.kind; robust = c.robust; owner = c.word.number; count = c.count; health = health_of c.word.died }
 
 -- where m keeps its word and its count, its parts stay
-pub written_line : (t m : ℕ) (l : Line) (k : Kernel) (s : Table) → written t m l (word_at s.words m) (library_at s m).count k s ≡ record s { kernel = k; lines = set s.lines t l }
+pub written_line : (t m : ℕ) (l : Line) (k : Kernel) (s : Table) → table_after_write t m l (word_at s.words m) (library_at s m).count k s ≡ record s { kernel = k; lines = set s.lines t l }
 written_line t m l k s = λ i. record s {
   words = record s.words { mutexes = set-get_or s.words.mutexes m free_word i };
   kernel = k;
@@ -43,7 +43,7 @@ written_line t m l k s = λ i. record s {
 }
 
 -- where m keeps its count, what the library knows stays
-pub written_word : (t m : ℕ) (l : Line) (x : Word) (k : Kernel) (s : Table) → written t m l x (library_at s m).count k s ≡ record s { words = set_word s.words m x; kernel = k; lines = set s.lines t l }
+pub written_word : (t m : ℕ) (l : Line) (x : Word) (k : Kernel) (s : Table) → table_after_write t m l x (library_at s m).count k s ≡ record s { words = set_word s.words m x; kernel = k; lines = set s.lines t l }
 written_word t m l x k s = λ i. record s {
   words = set_word s.words m x;
   kernel = k;
@@ -52,7 +52,7 @@ written_word t m l x k s = λ i. record s {
 }
 
 -- where m keeps its word, the words stay
-pub written_count : (t m : ℕ) (l : Line) (n : ℕ) (k : Kernel) (s : Table) → written t m l (word_at s.words m) n k s ≡ record s { kernel = k; lines = set s.lines t l; mutexes = set s.mutexes m (record (library_at s m) { count = n }) }
+pub written_count : (t m : ℕ) (l : Line) (n : ℕ) (k : Kernel) (s : Table) → table_after_write t m l (word_at s.words m) n k s ≡ record s { kernel = k; lines = set s.lines t l; mutexes = set s.mutexes m (record (library_at s m) { count = n }) }
 written_count t m l n k s = λ i. record s {
   words = record s.words { mutexes = set-get_or s.words.mutexes m free_word i };
   kernel = k;
@@ -74,7 +74,7 @@ no_call Excused k m = record { limits = refl; seats = refl; status = λ u n. ref
 
 module _ (s : Table) (t m : ℕ) (l : Line) (x : Word) (n : ℕ) (k : Kernel) (t0 : t ≢ 0) (tl : t < length s.lines) (ml : m < length s.mutexes) (shape : IsShaped s) where
   abbrev v : Table
-  v = written t m l x n k s
+  v = table_after_write t m l x n k s
 
   -- t's line then
   pub line_here : line_at v t ≡ l
@@ -209,16 +209,16 @@ module _ (s : Table) (t m : ℕ) (l : Line) (x : Word) (n : ℕ) (k : Kernel) (t
       all j (inr d) = mutex_there j d ∙ others j d
 
   -- the world in which m is as it was written and the kernel's waiters wait
-  abbrev pub rewritten : Shadow → World
-  rewritten y = record (with_mutex m (mutex_of (cell_written m x n k s)) (world_of s y)) { waiters = k.waiters }
+  abbrev pub world_after_write : Shadow → World
+  world_after_write y = record (with_mutex m (mutex_of (cell_written m x n k s)) (world_of s y)) { waiters = k.waiters }
 
   -- where the kernel knows the same of all other threads, and t's base priority stays, that world is shown with another
   -- call of t
   pub call_shown : (y : Shadow) (c : Option Call) → IsShaped v → x.died ≡ (word_at s.words m).died → length k.seats ≡ length s.kernel.seats
       → ((u : ℕ) → u ≢ t → seat_at k u ≡ seat_at s.kernel u) → (seat_at k t).base ≡ (seat_at s.kernel t).base → call_at (health_at s) l (seat_at k t).status ≡ c
-      → world_of v y ≡ with_thread t (record (thread_at (rewritten y) t) { call = c }) (rewritten y)
+      → world_of v y ≡ with_thread t (record (thread_at (world_after_write y) t) { call = c }) (world_after_write y)
   call_shown y c fits died seats others base call =
-      let w : World = rewritten y in
+      let w : World = world_after_write y in
       let tw : t < length w.threads = subst (λ j. t < j) (sym (threads_shown shape y)) tl in
       let mw : m < length (world_of s y).mutexes = subst (λ j. m < j) (sym (mutexes_shown shape y)) ml in
       let z : Mutex = mutex_of (cell_written m x n k s) in
