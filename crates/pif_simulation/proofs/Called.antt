@@ -1,5 +1,5 @@
--- A line that makes a kernel call by which, of all threads, only its own changes: it is queued on its mutex, or stopped.
--- The table stays sound, and the POSIX machine sees the call go on.
+-- A line that makes a kernel call by which, of all threads, only its own changes: it is queued on its mutex, or
+-- stopped. The table stays sound, and the POSIX machine sees the call go on.
 use Rattle.std.proofs.Common.{◌≡◌, ◌≢◌, ℕ, ◌<◌, true, false, ◌==◌, nat_lt, length, set, Some, refl, sym, ap, ◌∙◌, subst, if◌then◌else◌, ne_eqb}
 use Rattle.std.proofs.lemmas.List.{length-set, get_or-set_other, set-get_or}
 use Rattle.pif_types.specs.declared.requests.Request.{Request}
@@ -26,9 +26,11 @@ unfolding kernel_after_queueing
 queueing_on t m n k = record {
   limits = refl;
   seats = length-set k.seats t _;
-  status = λ u d. ap (λ x. x.status) (get_or-set_other k.seats t u (record (seat_at k t) { status = Queued m }) no_seat d);
+  status = λ u d. ap (λ x. x.status) (get_or-set_other k.seats t u
+      (record (seat_at k t) { status = Queued m }) no_seat d);
   states = λ j d. get_or-set_other k.states m j n 0 d;
-  waited = λ j d. has_waiter-push k.waiters t m j ∙ rw (ne_eqb m j (λ e. d (sym e))) (or_false (has_waiter k.waiters j));
+  waited = λ j d. has_waiter-push k.waiters t m j ∙ rw (ne_eqb m j (λ e. d (sym e)))
+      (or_false (has_waiter k.waiters j));
 }
 
 -- to stop t is a call on any mutex by which t changes
@@ -37,7 +39,8 @@ unfolding kernel_after_stop
 stop_on t m k = record {
   limits = refl;
   seats = length-set k.seats t _;
-  status = λ u d. ap (λ x. x.status) (get_or-set_other k.seats t u (record (seat_at k t) { status = Stopped }) no_seat d);
+  status = λ u d. ap (λ x. x.status) (get_or-set_other k.seats t u
+      (record (seat_at k t) { status = Stopped }) no_seat d);
   states = λ j d. refl;
   waited = λ j d. refl;
 }
@@ -53,13 +56,16 @@ pub record IsOneCall (s : Table) (t : ℕ) (q : Request) (b : Place) (x : Word) 
   pub number : x.number ≡ (word_at s.words (named_by q)).number
   pub died : x.died ≡ (word_at s.words (named_by q)).died
   -- the mutex is sound
-  pub cell : CellIsSound (has_thread s) (has_waiter k.waiters (named_by q)) (cell_written (named_by q) x (library_at s (named_by q)).count k s)
+  pub cell : CellIsSound (has_thread s) (has_waiter k.waiters (named_by q))
+      (cell_written (named_by q) x (library_at s (named_by q)).count k s)
   -- the place is one of the call's, what it rests on there is met, and t is queued there if it is
   pub belongs : belongs q b ≡ true
-  pub needs : MeetsAll (is_living s.kernel) t (seat_at k t).status (cell_written (named_by q) x (library_at s (named_by q)).count k s) (needs b)
+  pub needs : MeetsAll (is_living s.kernel) t (seat_at k t).status
+      (cell_written (named_by q) x (library_at s (named_by q)).count k s) (needs b)
   pub queue : (j : ℕ) → (seat_at k t).status ≡ Queued j → IsQueuedLine j (At q b)
 
-module _ {s : Table} {t : ℕ} {q : Request} {p : Place} (g : Going s t q p) (named : has_mutex s (named_by q) ≡ true) (b : Place) (x : Word) (k : Kernel) (c : IsOneCall s t q b x k) where
+module _ {s : Table} {t : ℕ} {q : Request} {p : Place} (g : Going s t q p) (named : has_mutex s (named_by q) ≡ true)
+    (b : Place) (x : Word) (k : Kernel) (c : IsOneCall s t q b x k) where
   abbrev m : ℕ
   m = named_by q
 
@@ -78,7 +84,8 @@ module _ {s : Table} {t : ℕ} {q : Request} {p : Place} (g : Going s t q p) (na
 
   -- the change that it is
   change : Changes (λ u. u ≡ t) s table_after_call m
-  change = changes s t m (At q b) x n k t0 (going_lined g) ml g.sound.all.shape refl c.call (λ e. absurd (above_0 m (length s.mutexes) named e)) (λ e. c.cell)
+  change = changes s t m (At q b) x n k t0 (going_lined g) ml g.sound.all.shape refl c.call
+      (λ e. absurd (above_0 m (length s.mutexes) named e)) (λ e. c.cell)
       (λ u a d. record {
         kind = refl;
         robust = refl;
@@ -99,7 +106,8 @@ module _ {s : Table} {t : ℕ} {q : Request} {p : Place} (g : Going s t q p) (na
       line = subst (λ l. LineIsSound table_after_call t l) (sym here) (record {
         named = known_named (has_mutex table_after_call) q (change.mutexes m ∙ named);
         belongs = c.belongs;
-        needs = subst (λ d. MeetsAll (is_living k) t (seat_at k t).status d (needs b)) (sym (cell_here s t m (At q b) x n k t0 (going_lined g) ml g.sound.all.shape))
+        needs = subst (λ d. MeetsAll (is_living k) t (seat_at k t).status d (needs b))
+            (sym (cell_here s t m (At q b) x n k t0 (going_lined g) ml g.sound.all.shape))
             (subst (λ f. MeetsAll f t (seat_at k t).status (cell_written m x n k s) (needs b)) (sym living) c.needs);
       });
       queue = λ j e. subst (IsQueuedLine j) (sym here) (c.queue j e);
@@ -115,18 +123,27 @@ module _ {s : Table} {t : ℕ} {q : Request} {p : Place} (g : Going s t q p) (na
   called_known = change.threads t ∙ g.known
 
   -- the world shows the call at that place, and the kernel's waiters
-  pub called_shown : (y : Shadow) (a : Progress) → progress_at b (seat_at k t).status (health_at s m) ≡ a → world_of table_after_call y ≡ record (with_progress t a (world_of s y)) { waiters = k.waiters }
+  pub called_shown : (y : Shadow) (a : Progress) → progress_at b (seat_at k t).status (health_at s m) ≡ a
+      → world_of table_after_call y ≡ record (with_progress t a (world_of s y)) { waiters = k.waiters }
   called_shown y a e =
-      call_shown s t m (At q b) x n k t0 (going_lined g) ml g.sound.all.shape y (Some (record { request = q; progress = a })) called_sound.all.shape c.died c.call.seats c.others c.base
+      call_shown s t m (At q b) x n k t0 (going_lined g) ml g.sound.all.shape y
+      (Some (record { request = q; progress = a })) called_sound.all.shape c.died c.call.seats c.others c.base
       (ap (λ d. Some (record { request = q; progress = d })) e)
       ∙ (λ i. record {
-        threads = set (world_of s y).threads t (record (thread_at (world_of s y) t) { call = sym (ap (call_at_progress a) (going_called g y)) i });
+        threads = set (world_of s y).threads t
+            (record (thread_at (world_of s y) t) { call = sym (ap (call_at_progress a) (going_called g y)) i });
         mutexes = mutexes i;
         waiters = k.waiters;
       })
     where
       same : mutex_of (cell_written m x n k s) ≡ mutex_at (world_of s y) m
-      same = (λ i. record { kind = (library_at s m).kind; robust = (library_at s m).robust; owner = c.number i; count = n; health = health_of (c.died i) }) ∙ sym (mutex_seen g.sound.all.shape y m)
+      same = (λ i. record {
+        kind = (library_at s m).kind;
+        robust = (library_at s m).robust;
+        owner = c.number i;
+        count = n;
+        health = health_of (c.died i);
+      }) ∙ sym (mutex_seen g.sound.all.shape y m)
 
       mutexes : set (world_of s y).mutexes m (mutex_of (cell_written m x n k s)) ≡ (world_of s y).mutexes
       mutexes = ap (set (world_of s y).mutexes m) same ∙ set-get_or (world_of s y).mutexes m no_mutex

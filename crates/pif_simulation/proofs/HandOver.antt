@@ -1,5 +1,5 @@
--- The kernel hands a mutex on to its next waiter, while the thread that gave it up goes to another line: the table stays
--- sound, and the POSIX machine's mutex passes on.
+-- The kernel hands a mutex on to its next waiter, while the thread that gave it up goes to another line: the table
+-- stays sound, and the POSIX machine's mutex passes on.
 use Rattle.std.proofs.Common.{◌≡◌, ◌≢◌, ℕ, ◌<◌, true, false, ◌==◌, nat_lt, ◌⊎◌, inl, inr, length, Option, Some, refl, sym, ap, ap₂, ◌∙◌, subst, arith, if◌then◌else◌}
 use Rattle.std.proofs.lemmas.Bool.{cases_eq, true≢false}
 use Rattle.std.proofs.lemmas.List.{length-set, get_or-set_same, get_or-set_other}
@@ -36,7 +36,8 @@ waits-named (TryLock j) m n e = absurd (n (sym e))
 waits-named (Unlock j) m n e = absurd (n (sym e))
 waits-named (SetPrio u p) m n e = absurd (n (sym e))
 
--- t, in its call q, gives up the mutex of that call, which it holds once and for which threads wait, and goes to the line l
+-- t, in its call q, gives up the mutex of that call, which it holds once and for which threads wait, and goes to the
+-- line l
 pub record GivesUp (s : Table) (t : ℕ) (q : Request) (p : Place) (l : Line) : Type 0 where
   pub going : Going s t q p
   pub named : has_mutex s (named_by q) ≡ true
@@ -100,12 +101,14 @@ module _ {s : Table} {t : ℕ} {q : Request} {p : Place} {l : Line} (h : GivesUp
   -- what the kernel knows of it then
   seat_woken : seat_at k u ≡ record (seat_at s.kernel u) { status = Ready WokenOwns }
   unfolding kernel_after_hand_over
-  seat_woken = get_or-set_same s.kernel.seats u (record (seat_at s.kernel u) { status = Ready WokenOwns }) no_seat (below u (length s.kernel.seats) added)
+  seat_woken = get_or-set_same s.kernel.seats u (record (seat_at s.kernel u) { status = Ready WokenOwns }) no_seat
+      (below u (length s.kernel.seats) added)
 
   -- and of the others
   seat_kept : (j : ℕ) → j ≢ u → seat_at k j ≡ seat_at s.kernel j
   unfolding kernel_after_hand_over
-  seat_kept j d = get_or-set_other s.kernel.seats u j (record (seat_at s.kernel u) { status = Ready WokenOwns }) no_seat d
+  seat_kept j d = get_or-set_other s.kernel.seats u j
+      (record (seat_at s.kernel u) { status = Ready WokenOwns }) no_seat d
 
   -- the two threads that change
   abbrev Two : ℕ → Type 0
@@ -117,9 +120,12 @@ module _ {s : Table} {t : ℕ} {q : Request} {p : Place} {l : Line} (h : GivesUp
   call = record {
     limits = refl;
     seats = length-set s.kernel.seats u (record (seat_at s.kernel u) { status = Ready WokenOwns });
-    status = λ j d. ap (λ (x : Seat). x.status) (get_or-set_other s.kernel.seats u j (record (seat_at s.kernel u) { status = Ready WokenOwns }) no_seat (λ e. d (inr e)));
-    states = λ j d. get_or-set_other s.kernel.states m j (if has_waiter (without s.kernel.waiters u) m then u else 0) 0 d;
-    waited = λ j d. has_waiter-without_other s.kernel.waiters u m j sound.kernel.once (next-waited s.kernel sound.kernel m h.state) d;
+    status = λ j d. ap (λ (x : Seat). x.status) (get_or-set_other s.kernel.seats u j
+        (record (seat_at s.kernel u) { status = Ready WokenOwns }) no_seat (λ e. d (inr e)));
+    states = λ j d. get_or-set_other s.kernel.states m j
+        (if has_waiter (without s.kernel.waiters u) m then u else 0) 0 d;
+    waited = λ j d. has_waiter-without_other s.kernel.waiters u m j sound.kernel.once
+        (next-waited s.kernel sound.kernel m h.state) d;
   }
 
   -- the owner state of m, and who waits
@@ -147,7 +153,8 @@ module _ {s : Table} {t : ℕ} {q : Request} {p : Place} {l : Line} (h : GivesUp
 
   -- the change
   change : Changes Two s table_after_hand_over m
-  change = changes s t m l (hand_word u) n k t0 (going_lined h.going) ml sound.all.shape (inl refl) call (λ e. absurd (m0 e)) (λ e. cell_handed)
+  change = changes s t m l (hand_word u) n k t0 (going_lined h.going) ml sound.all.shape (inl refl) call
+      (λ e. absurd (m0 e)) (λ e. cell_handed)
       (λ j a d. record {
         kind = refl;
         robust = refl;
@@ -173,28 +180,34 @@ module _ {s : Table} {t : ℕ} {q : Request} {p : Place} {l : Line} (h : GivesUp
   living = λ i j. if j == 0 then false else nat_lt j (call.seats i)
 
   -- what t knows then at its line
-  giver_knows : (b : Line) → KnowsAfter s t m (cell_written m (hand_word u) n k s) b → LineIsSound table_after_hand_over t b
+  giver_knows : (b : Line) → KnowsAfter s t m (cell_written m (hand_word u) n k s) b
+      → LineIsSound table_after_hand_over t b
   giver_knows Idle e = ap (λ (x : Seat). is_ready x.status) (seat_kept t (λ z. other (sym z))) ∙ e
   giver_knows (At r b) e = record {
-    named = known_named (has_mutex table_after_hand_over) r (ap (has_mutex table_after_hand_over) e.0 ∙ change.mutexes m ∙ h.named);
+    named = known_named (has_mutex table_after_hand_over) r (ap (has_mutex table_after_hand_over) e.0
+        ∙ change.mutexes m ∙ h.named);
     belongs = e.1;
-    needs = subst (λ d. MeetsAll (is_living k) t (seat_at k t).status d (needs b)) (sym (ap (cell_at table_after_hand_over) e.0 ∙ cell_m))
+    needs = subst (λ d. MeetsAll (is_living k) t (seat_at k t).status d (needs b))
+        (sym (ap (cell_at table_after_hand_over) e.0 ∙ cell_m))
         (subst (λ f. MeetsAll f t (seat_at k t).status (cell_written m (hand_word u) n k s) (needs b)) (sym living)
-        (subst (λ x. MeetsAll (is_living s.kernel) t x (cell_written m (hand_word u) n k s) (needs b)) (sym (ap (λ (x : Seat). x.status) (seat_kept t (λ z. other (sym z))))) e.2));
+        (subst (λ x. MeetsAll (is_living s.kernel) t x (cell_written m (hand_word u) n k s) (needs b))
+        (sym (ap (λ (x : Seat). x.status) (seat_kept t (λ z. other (sym z))))) e.2));
   }
 
   -- t is sound then
   giver_sound : KnowsAfter s t m (cell_written m (hand_word u) n k s) l → ThreadIsSound table_after_hand_over t
   giver_sound e = record {
     line = subst (LineIsSound table_after_hand_over t) (sym line_t) (giver_knows l e);
-    queue = λ j z. absurd (ready-not_queued (status_at s t) j h.ready (sym (ap (λ (x : Seat). x.status) (seat_kept t (λ y. other (sym y)))) ∙ z));
+    queue = λ j z. absurd (ready-not_queued (status_at s t) j h.ready
+        (sym (ap (λ (x : Seat). x.status) (seat_kept t (λ y. other (sym y)))) ∙ z));
   }
 
   -- u is sound then
   taker_sound : ThreadIsSound table_after_hand_over u
   taker_sound = record {
     line = subst (LineIsSound table_after_hand_over u) (sym line_u) (record {
-      named = known_named (has_mutex table_after_hand_over) queued_line.request (ap (has_mutex table_after_hand_over) waiter_named ∙ change.mutexes m ∙ h.named);
+      named = known_named (has_mutex table_after_hand_over) queued_line.request
+          (ap (has_mutex table_after_hand_over) waiter_named ∙ change.mutexes m ∙ h.named);
       belongs = (subst (LineIsSound s u) queued_line.line (each_thread sound u added).line).belongs;
       needs = (
         (λ z. absurd (not_stopped (sym (ap (λ (x : Seat). x.status) seat_woken) ∙ z))),
@@ -213,7 +226,8 @@ module _ {s : Table} {t : ℕ} {q : Request} {p : Place} {l : Line} (h : GivesUp
   -- the table is sound
   pub handed_sound : KnowsAfter s t m (cell_written m (hand_word u) n k s) l → IsSound table_after_hand_over
   handed_sound e = record {
-    all = admit_last (admit (λ j. j ≡ u) t (λ j x. x) (giver_sound e) (change_kept (excuse Two (λ j x. absurd x) sound.all) change)) taker_sound;
+    all = admit_last (admit (λ j. j ≡ u) t (λ j x. x) (giver_sound e)
+        (change_kept (excuse Two (λ j x. absurd x) sound.all) change)) taker_sound;
     kernel = hand_over_kept m s.kernel sound.kernel h.state;
   }
 
@@ -228,7 +242,8 @@ module _ {s : Table} {t : ℕ} {q : Request} {p : Place} {l : Line} (h : GivesUp
 
   -- the world after t's call came as far as a, and m passed on
   abbrev pub world_after_passing : Shadow → Progress → World
-  world_after_passing y a = taken u m (record (with_progress t a (world_of s y)) { waiters = without s.kernel.waiters u })
+  world_after_passing y a = taken u m
+      (record (with_progress t a (world_of s y)) { waiters = without s.kernel.waiters u })
 
   -- t as it stands there before u takes m, and u
   abbrev pub giver_thread : (y : Shadow) (a : Progress) → Thread
@@ -242,15 +257,20 @@ module _ {s : Table} {t : ℕ} {q : Request} {p : Place} {l : Line} (h : GivesUp
     tw = subst (λ j. t < j) (sym (threads_shown sound.all.shape y)) (going_lined h.going)
 
     uw : u < length (with_progress t a w).threads
-    uw = subst (λ j. u < j) (sym (length-set w.threads t (giver_thread y a) ∙ threads_shown sound.all.shape y ∙ sound.all.shape.lines)) (below u (length s.kernel.seats) added)
+    uw = subst (λ j. u < j) (sym (length-set w.threads t (giver_thread y a) ∙ threads_shown sound.all.shape y
+        ∙ sound.all.shape.lines)) (below u (length s.kernel.seats) added)
 
     -- u, when it owns m
     abbrev taker : Thread
-    taker = record (thread_at (with_progress t a w) u) { call = call_at_progress (on_taking (mutex_at w m).health) (thread_at (with_progress t a w) u).call }
+    taker = record (thread_at (with_progress t a w) u) {
+      call = call_at_progress (on_taking (mutex_at w m).health)
+          (thread_at (with_progress t a w) u).call;
+    }
 
     -- t in that world
     pub giver_passed : thread_at (world_after_passing y a) t ≡ giver_thread y a
-    giver_passed = get_or-set_other (with_progress t a w).threads u t taker nobody (λ z. other (sym z)) ∙ get_or-set_same w.threads t (giver_thread y a) nobody tw
+    giver_passed = get_or-set_other (with_progress t a w).threads u t taker nobody (λ z. other (sym z))
+        ∙ get_or-set_same w.threads t (giver_thread y a) nobody tw
 
     -- u before
     taker_before : thread_at (with_progress t a w) u ≡ thread_shown s u
@@ -258,44 +278,83 @@ module _ {s : Table} {t : ℕ} {q : Request} {p : Place} {l : Line} (h : GivesUp
 
     -- the world that the table shows, with t's call as its line has it
     pub handed_shown : (b : Option Call) → IsSound table_after_hand_over → call_at (health_at s) l (status_at s t) ≡ b
-        → world_of table_after_hand_over y ≡ with_thread t (record (thread_at (world_after_passing y a) t) { call = b }) (world_after_passing y a)
+        → world_of table_after_hand_over y ≡ with_thread t
+        (record (thread_at (world_after_passing y a) t) { call = b }) (world_after_passing y a)
     handed_shown b fits e =
         let died : (hand_word u).died ≡ (word_at s.words m).died = sym c.no_death in
         let z : Mutex = record (mutex_at w m) { owner = u; count = 1 } in
         let r : Thread = record (thread_at (world_after_passing y a) t) { call = b } in
         let lw = length-set (with_progress t a w).threads u taker ∙ length-set w.threads t (giver_thread y a) in
-        shows s t m l (hand_word u) n k t0 (going_lined h.going) ml sound.all.shape y (with_thread t r (world_after_passing y a)) fits.all.shape
+        shows s t m l (hand_word u) n k t0 (going_lined h.going) ml sound.all.shape y
+        (with_thread t r (world_after_passing y a)) fits.all.shape
         (length-set (world_after_passing y a).threads t r ∙ lw ∙ threads_shown sound.all.shape y)
         (length-set w.mutexes m z ∙ mutexes_shown sound.all.shape y)
         waiters_left
         (thread_here s t m l (hand_word u) n k t0 (going_lined h.going) ml sound.all.shape died
-        ∙ (λ i. record { base = (seat_kept t (λ x. other (sym x)) i).base; living = living i t; call = (ap (λ (x : Seat). call_at (health_at s) l x.status) (seat_kept t (λ x. other (sym x))) ∙ e) i })
-        ∙ sym (get_or-set_same (world_after_passing y a).threads t r nobody (subst (λ j. t < j) (sym lw) tw) ∙ (λ i. record ((giver_passed ∙ ap (λ (x : Thread). record x { call = call_at_progress a x.call }) (thread_seen sound.all.shape y t)) i) { call = b })))
+        ∙ (λ i. record {
+          base = (seat_kept t (λ x. other (sym x)) i).base;
+          living = living i t;
+          call = (ap (λ (x : Seat). call_at (health_at s) l x.status) (seat_kept t (λ x. other (sym x))) ∙ e) i;
+        })
+        ∙ sym (get_or-set_same (world_after_passing y a).threads t r nobody (subst (λ j. t < j) (sym lw) tw)
+        ∙ (λ i. record ((giver_passed ∙ ap (λ (x : Thread). record x { call = call_at_progress a x.call })
+        (thread_seen sound.all.shape y t)) i) { call = b })))
         (λ j d. thread_there s t m l (hand_word u) n k t0 (going_lined h.going) ml sound.all.shape died call.seats j d
         ∙ another j d (cases_eq j u) ∙ sym (get_or-set_other (world_after_passing y a).threads t j r nobody d))
-        (mutex_taken ∙ sym (get_or-set_same w.mutexes m z no_mutex (subst (λ j. m < j) (sym (mutexes_shown sound.all.shape y)) ml)))
+        (mutex_taken ∙ sym (get_or-set_same w.mutexes m z no_mutex
+        (subst (λ j. m < j) (sym (mutexes_shown sound.all.shape y)) ml)))
         (λ j d. sym (get_or-set_other w.mutexes m j z no_mutex d ∙ mutex_seen sound.all.shape y j))
       where
         mutex_taken : mutex_of (cell_written m (hand_word u) n k s) ≡ record (mutex_at w m) { owner = u; count = 1 }
         mutex_taken =
-            (λ i. record { kind = (library_at s m).kind; robust = (library_at s m).robust; owner = u; count = h.once i; health = health_of (sym c.no_death i) })
+            (λ i. record {
+              kind = (library_at s m).kind;
+              robust = (library_at s m).robust;
+              owner = u;
+              count = h.once i;
+              health = health_of (sym c.no_death i);
+            })
             ∙ sym (ap (λ (x : Mutex). record x { owner = u; count = 1 }) (mutex_seen sound.all.shape y m))
 
-        taken_call : call_at (health_at s) (line_at s u) (seat_at k u).status ≡ call_at_progress (on_taking (mutex_at w m).health) (call_at (health_at s) (line_at s u) (status_at s u))
+        taken_call : call_at (health_at s) (line_at s u) (seat_at k u).status
+            ≡ call_at_progress (on_taking (mutex_at w m).health) (call_at (health_at s) (line_at s u) (status_at s u))
         taken_call =
             ap₂ (λ (b : Line) (x : Seat). call_at (health_at s) b x.status) queued_line.line seat_woken
-            ∙ ap (λ j. Some (record { request = queued_line.request; progress = on_taking (health_at s j) })) waiter_named
-            ∙ ap (λ (x : Mutex). Some (record { request = queued_line.request; progress = on_taking x.health })) (sym (mutex_seen sound.all.shape y m))
-            ∙ ap₂ (λ (b : Line) (x : Status). call_at_progress (on_taking (mutex_at w m).health) (call_at (health_at s) b x)) (sym queued_line.line) (sym was_queued)
+            ∙ ap (λ j. Some (record { request = queued_line.request; progress = on_taking (health_at s j) }))
+            waiter_named
+            ∙ ap (λ (x : Mutex). Some (record { request = queued_line.request; progress = on_taking x.health }))
+            (sym (mutex_seen sound.all.shape y m))
+            ∙ ap₂ (λ (b : Line) (x : Status). call_at_progress (on_taking (mutex_at w m).health)
+            (call_at (health_at s) b x)) (sym queued_line.line) (sym was_queued)
 
-        taker_shown : record { base = (seat_at k u).base; living = is_living s.kernel u; call = call_at (health_at s) (line_at s u) (seat_at k u).status } ≡ thread_at (world_after_passing y a) u
+        taker_shown : record {
+          base = (seat_at k u).base;
+          living = is_living s.kernel u;
+          call = call_at (health_at s) (line_at s u) (seat_at k u).status;
+        } ≡ thread_at (world_after_passing y a) u
         taker_shown =
             (λ i. record { base = (seat_woken i).base; living = is_living s.kernel u; call = taken_call i })
             ∙ sym (get_or-set_same (with_progress t a w).threads u taker nobody uw
-            ∙ ap (λ (x : Thread). record x { call = call_at_progress (on_taking (mutex_at w m).health) x.call }) taker_before)
+            ∙ ap (λ (x : Thread). record x { call = call_at_progress (on_taking (mutex_at w m).health) x.call })
+            taker_before)
 
-        another : (j : ℕ) → j ≢ t → (j ≡ u) ⊎ (j ≢ u) → record { base = (seat_at k j).base; living = is_living s.kernel j; call = call_at (health_at s) (line_at s j) (seat_at k j).status } ≡ thread_at (world_after_passing y a) j
-        another j d (inl e) = subst (λ i. record { base = (seat_at k i).base; living = is_living s.kernel i; call = call_at (health_at s) (line_at s i) (seat_at k i).status } ≡ thread_at (world_after_passing y a) i) (sym e) taker_shown
+        another : (j : ℕ) → j ≢ t → (j ≡ u) ⊎ (j ≢ u) → record {
+          base = (seat_at k j).base;
+          living = is_living s.kernel j;
+          call = call_at (health_at s) (line_at s j) (seat_at k j).status;
+        }
+            ≡ thread_at (world_after_passing y a) j
+        another j d (inl e) = subst (λ i. record {
+          base = (seat_at k i).base;
+          living = is_living s.kernel i;
+          call = call_at (health_at s) (line_at s i) (seat_at k i).status;
+        }
+            ≡ thread_at (world_after_passing y a) i) (sym e) taker_shown
         another j d (inr e) =
-            (λ i. record { base = (seat_kept j e i).base; living = is_living s.kernel j; call = call_at (health_at s) (line_at s j) (seat_kept j e i).status })
-            ∙ sym (get_or-set_other (with_progress t a w).threads u j taker nobody e ∙ get_or-set_other w.threads t j (giver_thread y a) nobody d ∙ thread_seen sound.all.shape y j)
+            (λ i. record {
+              base = (seat_kept j e i).base;
+              living = is_living s.kernel j;
+              call = call_at (health_at s) (line_at s j) (seat_kept j e i).status;
+            })
+            ∙ sym (get_or-set_other (with_progress t a w).threads u j taker nobody e
+            ∙ get_or-set_other w.threads t j (giver_thread y a) nobody d ∙ thread_seen sound.all.shape y j)

@@ -31,15 +31,22 @@ module _ (s : Table) (t m : ℕ) where
 
   -- trylock: compare-exchange from 0 to t
   pub try_exchange_kept : Going s t (TryLock m) TryExchange → GoKeeps s t (own_exchange (TryLock m) TryKernel t m s)
-  try_exchange_kept g = own_exchange_kept g (going_named g) (going_met g).0 refl (by_try_lock refl) TryKernel refl refl (going_met g)
+  try_exchange_kept g = own_exchange_kept g (going_named g) (going_met g).0 refl
+      (by_try_lock refl) TryKernel refl refl (going_met g)
 
   -- m is there, and has a word
   word_there : (g : Going s t (TryLock m) TryKernel) → has_word s.words m ≡ true
   word_there g = from_within m (length s.words.mutexes) (above_0 m (length s.mutexes) (going_named g))
-      (omega (arith, below m (length s.mutexes) (going_named g), g.sound.all.shape.words, g.sound.all.shape.few_mutexes))
+      (omega (
+        arith,
+        below m (length s.mutexes) (going_named g),
+        g.sound.all.shape.words,
+        g.sound.all.shape.few_mutexes,
+      ))
 
   -- what trylock_pi answers where nobody owns m
-  answer_free : (g : Going s t (TryLock m) TryKernel) → (cell_at s m).word.number ≡ 0 → try_lock_answer t m s.words s.kernel ≡ Ok (record {})
+  answer_free : (g : Going s t (TryLock m) TryKernel) → (cell_at s m).word.number ≡ 0
+      → try_lock_answer t m s.words s.kernel ≡ Ok (record {})
   unfolding try_lock_answer
   answer_free g zero = rw (
     word_there g,
@@ -52,9 +59,14 @@ module _ (s : Table) (t m : ℕ) where
       c = going_cell g (going_named g)
 
   -- what it answers where another thread owns m
-  answer_owned : (g : Going s t (TryLock m) TryKernel) → (cell_at s m).word.number ≢ 0 → try_lock_answer t m s.words s.kernel ≡ Err Again
+  answer_owned : (g : Going s t (TryLock m) TryKernel) → (cell_at s m).word.number ≢ 0
+      → try_lock_answer t m s.words s.kernel ≡ Err Again
   unfolding try_lock_answer
-  answer_owned g owned = rw (word_there g, ne_eqb (cell_at s m).word.number t (going_met g).1.0, ne_eqb (cell_at s m).word.number 0 owned) refl
+  answer_owned g owned = rw (
+    word_there g,
+    ne_eqb (cell_at s m).word.number t (going_met g).1.0,
+    ne_eqb (cell_at s m).word.number 0 owned,
+  ) refl
 
   -- the line, by its kernel call's answer
   abbrev by_call : Result (record {}) Errno → Outcome
@@ -65,7 +77,10 @@ module _ (s : Table) (t m : ℕ) where
   unfolding try_kernel answered_by words_after_try_lock
   try_kernel_kept g = go (cases_eq (cell_at s m).word.number 0)
     where
-      go : ((cell_at s m).word.number ≡ 0) ⊎ ((cell_at s m).word.number ≢ 0) → GoKeeps s t (by_call (try_lock_answer t m s.words s.kernel))
-      go (inl zero) = subst (λ r. GoKeeps s t (by_call r)) (sym (answer_free g zero)) (kernel_takes g (going_named g) (going_met g).0 refl (by_try_lock refl) zero)
+      go : ((cell_at s m).word.number ≡ 0) ⊎ ((cell_at s m).word.number ≢ 0)
+          → GoKeeps s t (by_call (try_lock_answer t m s.words s.kernel))
+      go (inl zero) = subst (λ r. GoKeeps s t (by_call r)) (sym (answer_free g zero))
+          (kernel_takes g (going_named g) (going_met g).0 refl (by_try_lock refl) zero)
       go (inr owned) = subst (λ r. GoKeeps s t (by_call r)) (sym (answer_owned g owned))
-          (answers_local g (going_named g) 16 (going_met g).0 (tries_owned refl refl owned (λ e. absurd ((going_met g).1.0 e)) refl refl))
+          (answers_local g (going_named g) 16 (going_met g).0
+          (tries_owned refl refl owned (λ e. absurd ((going_met g).1.0 e)) refl refl))

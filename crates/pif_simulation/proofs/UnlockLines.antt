@@ -43,7 +43,8 @@ module _ (s : Table) (t m : ℕ) where
   pub unlock_load_kept : Going s t (Unlock m) UnlockLoad → GoKeeps s t (unlock_load t m s)
   unlock_load_kept g = unlock_load_cases (GoKeeps s t) t m s
       (λ own more. unlocks_one_kept g (going_named g) (going_met g).0 refl own refl more)
-      (λ own few. goes g (going_named g) UnlockExchange (going_met g).0 refl refl ((going_met g).0, (own, ((λ z. once few), tt))))
+      (λ own few. goes g (going_named g) UnlockExchange (going_met g).0 refl refl
+      ((going_met g).0, (own, ((λ z. once few), tt))))
       (λ other. answers_local g (going_named g) 1 (going_met g).0 (unlocks_not_own refl refl other refl refl))
     where
       once : (cell_at s m).count ≤ 1 → (cell_at s m).count ≡ 1
@@ -59,18 +60,29 @@ module _ (s : Table) (t m : ℕ) where
   -- what unlock_pi answers to the owner
   answer_owner : (g : Going s t (Unlock m) UnlockKernel) → unlock_answer t m s.words s.kernel ≡ Ok (record {})
   unfolding unlock_answer
-  answer_owner g = rw (word_there, eq-eqb (cell_at s m).word.number t own, subst (λ n. (if (cell_at s m).state_owner == 0 then true else (cell_at s m).state_owner == n) ≡ true) own (state_agrees (going_cell g (going_named g)))) refl
+  answer_owner g = rw (
+    word_there,
+    eq-eqb (cell_at s m).word.number t own,
+    subst (λ n. (if (cell_at s m).state_owner == 0 then true else (cell_at s m).state_owner == n) ≡ true) own
+        (state_agrees (going_cell g (going_named g))),
+  ) refl
     where
       own : (cell_at s m).word.number ≡ t
       own = (going_met g).1.0
 
       word_there : has_word s.words m ≡ true
       word_there = from_within m (length s.words.mutexes) (above_0 m (length s.mutexes) (going_named g))
-          (omega (arith, below m (length s.mutexes) (going_named g), g.sound.all.shape.words, g.sound.all.shape.few_mutexes))
+          (omega (
+            arith,
+            below m (length s.mutexes) (going_named g),
+            g.sound.all.shape.words,
+            g.sound.all.shape.few_mutexes,
+          ))
 
   -- the kernel hands m to its next waiter
   kernel_hands : (g : Going s t (Unlock m) UnlockKernel) → (cell_at s m).state_owner ≢ 0
-      → GoKeeps s t (answers t 0 (with_kernel (set_word s.words m (hand_word (next_in s.kernel m))) (kernel_after_hand_over (next_in s.kernel m) m s.kernel) s))
+      → GoKeeps s t (answers t 0 (with_kernel (set_word s.words m (hand_word (next_in s.kernel m)))
+      (kernel_after_hand_over (next_in s.kernel m) m s.kernel) s))
   kernel_hands g state =
       let h : GivesUp s t (Unlock m) UnlockKernel Idle = record {
         going = g;
@@ -81,10 +93,14 @@ module _ (s : Table) (t m : ℕ) where
         state = state;
       } in
       let sound = handed_sound h (going_met g).0 in
-      subst (Keeps s (Happened (Go t) (Answered 0))) (written_word t m Idle (hand_word (next_in s.kernel m)) (kernel_after_hand_over (next_in s.kernel m) m s.kernel) s)
-      (answers_with g (table_after_hand_over h) 0 (λ y. world_after_passing h y (Has 0)) sound refl (handed_known h) (handed_ready h)
-      (λ y. first (unlock m (going_called g y) (released (owner y) (count y) (not_inconsistent y) (to_next (next_in s.kernel m)
-      (next-with_progress (world_of s y) t (Has 0) m ∙ next_seen g.sound y m) (next-some s.kernel g.sound.kernel m state) refl))) (none refl))
+      subst (Keeps s (Happened (Go t) (Answered 0))) (written_word t m Idle (hand_word (next_in s.kernel m))
+      (kernel_after_hand_over (next_in s.kernel m) m s.kernel) s)
+      (answers_with g (table_after_hand_over h) 0 (λ y. world_after_passing h y (Has 0)) sound refl
+      (handed_known h) (handed_ready h)
+      (λ y. first (unlock m (going_called g y) (released (owner y) (count y) (not_inconsistent y)
+      (to_next (next_in s.kernel m)
+      (next-with_progress (world_of s y) t (Has 0) m ∙ next_seen g.sound y m)
+      (next-some s.kernel g.sound.kernel m state) refl))) (none refl))
       (λ y. ap (λ (x : Thread). x.call) (giver_passed h y (Has 0)) ∙ ap (call_at_progress (Has 0)) (going_called g y))
       (λ y. handed_shown h y (Has 0) None sound refl))
     where
@@ -95,17 +111,23 @@ module _ (s : Table) (t m : ℕ) where
       count y = ap (λ (x : Mutex). x.count) (mutex_seen g.sound.all.shape y m) ∙ (going_met g).1.1.0 (going_met g).1.0
 
       not_inconsistent : (y : Shadow) → (mutex_at (world_of s y) m).health ≢ Inconsistent
-      not_inconsistent y e = absurd (fine (sym (ap (λ (x : Mutex). x.health) (mutex_seen g.sound.all.shape y m) ∙ in_order (going_cell g (going_named g))) ∙ e))
+      not_inconsistent y e =
+          absurd (fine (sym (ap (λ (x : Mutex). x.health) (mutex_seen g.sound.all.shape y m)
+          ∙ in_order (going_cell g (going_named g))) ∙ e))
 
   -- unlock: the kernel call unlock_pi
   pub unlock_kernel_kept : Going s t (Unlock m) UnlockKernel → GoKeeps s t (unlock_kernel t m s)
   unfolding unlock_kernel answered_by words_after_unlock kernel_after_unlock
   unlock_kernel_kept g =
-      subst (λ r. GoKeeps s t (answered_by r t (with_kernel (words_after_unlock m r s.kernel s.words) (kernel_after_unlock m r s.kernel) s))) (sym (answer_owner g))
-      (by_test (λ b. GoKeeps s t (answers t 0 (with_kernel (set_word s.words m (if b then free_word else hand_word (next_in s.kernel m))) (if b then s.kernel else kernel_after_hand_over (next_in s.kernel m) m s.kernel) s)))
+      subst (λ r. GoKeeps s t (answered_by r t (with_kernel (words_after_unlock m r s.kernel s.words)
+      (kernel_after_unlock m r s.kernel) s))) (sym (answer_owner g))
+      (by_test (λ b. GoKeeps s t (answers t 0 (with_kernel
+      (set_word s.words m (if b then free_word else hand_word (next_in s.kernel m)))
+      (if b then s.kernel else kernel_after_hand_over (next_in s.kernel m) m s.kernel) s)))
       (state_at s.kernel m == 0)
       (λ e. gives_up g (going_named g) (going_met g).0 refl own refl ((going_met g).1.1.0 own)
-      (none_from_state (going_cell g (going_named g)) (λ z. above_0 t (length s.kernel.seats) g.known (sym own ∙ z)) (eqb-true (cell_at s m).state_owner 0 e)))
+      (none_from_state (going_cell g (going_named g)) (λ z. above_0 t (length s.kernel.seats) g.known (sym own ∙ z))
+      (eqb-true (cell_at s m).state_owner 0 e)))
       (λ e. kernel_hands g (eqb-false (cell_at s m).state_owner 0 e)))
     where
       own : (cell_at s m).word.number ≡ t
