@@ -1,6 +1,6 @@
 -- What each line of the calls comes to, case by case: a fact on an outcome holds of a line where it holds in each of
 -- the line's cases.
-use Rattle.std.proofs.Common.{◌≡◌, ◌≢◌, ℕ, ◌+◌, ◌-◌, ◌<◌, ◌≤◌, Bool, true, false, ◌==◌, nat_lt, Option, Some, None, Result, Ok, Err, refl, sym, ap, ◌∙◌, subst, if◌then◌else◌, arith, eqb-true, ltb-true}
+use Rattle.std.proofs.Common.{◌≡◌, ◌≢◌, ℕ, ◌+◌, ◌-◌, ◌<◌, ◌≤◌, Bool, true, false, ◌==◌, nat_lt, Some, None, Result, Ok, Err, refl, sym, if◌then◌else◌, arith, eqb-true, ltb-true}
 use Rattle.std.proofs.lemmas.Bool.{true≢false, ltb-false}
 use Rattle.std.proofs.lemmas.Bool.Decides.{nat_tests}
 use Rattle.pif_types.specs.Numbers.{number_of}
@@ -9,16 +9,16 @@ use Rattle.pif_types.specs.declared.errors.Errno.TheVariants.{NoSuchThread}
 use Rattle.pif_types.specs.declared.requests.Kind.{Kind}
 use Rattle.pif_types.specs.declared.requests.Kind.TheVariants.{Normal, ErrorCheck, Recursive}
 use Rattle.pif_types.specs.declared.requests.Request.{Request}
-use Rattle.pif_types.specs.declared.requests.Request.TheVariants.{Lock, TryLock, Unlock, SetPrio}
+use Rattle.pif_types.specs.declared.requests.Request.TheVariants.{TryLock, Unlock}
 use Rattle.pif_model.specs.declared.events.Seen.TheVariants.{Waits}
 use Rattle.pif_model.specs.declared.lines.Place.{Place}
 use Rattle.pif_model.specs.declared.lines.Place.TheVariants.{LockExchange, LockQueued, LockStop, TryExchange, UnlockExchange, UnlockKernel}
 use Rattle.pif_model.specs.declared.lines.Took.{Took}
 use Rattle.pif_model.specs.declared.lines.Took.TheVariants.{Owns as TookOwns, Queued as TookQueued}
 use Rattle.pif_model.specs.Word.{Word, free_word, held_by, is_bare}
-use Rattle.pif_model.specs.PiKernel.{is_ready, lock_answer, words_after_lock, kernel_after_lock}
-use Rattle.pif_model.specs.Table.{Table, status_at, cell_at, with_count, with_word, with_kernel}
-use Rattle.pif_model.specs.Lines.{Outcome, goes_to, waits_at, answers, locked_again, exchanged, own_exchange, lock_load, lock_by, lock_kernel, lock_queued, try_load, unlock_load, unlock_exchange, answered_by}
+use Rattle.pif_model.specs.PiKernel.{is_ready}
+use Rattle.pif_model.specs.Table.{Table, status_at, cell_at, with_count, with_word}
+use Rattle.pif_model.specs.Lines.{Outcome, goes_to, waits_at, answers, locked_again, exchange_outcome, own_exchange, lock_load, lock_by, lock_queued, try_load, unlock_load, unlock_exchange, answered_by}
 use Rattle.pif_chains.proofs.Waiting.{by_test}
 
 -- numbers that fail the test of equality differ
@@ -45,12 +45,12 @@ locked_again_cases P t m s rises full =
     (λ e. rises (ltb-true (cell_at s m).count 255 e)) (λ e. full (ltb-false (cell_at s m).count 255 e))
 
 -- an exchange of a word from a bare number n
-exchanged_cases : (P : Outcome → Type 0) (x w : Word) (n : ℕ) (q : Request) (p : Place) (t m : ℕ) (s : Table)
+exchange_outcome_cases : (P : Outcome → Type 0) (x w : Word) (n : ℕ) (q : Request) (p : Place) (t m : ℕ) (s : Table)
     → (w.waiters ≡ false → w.number ≡ n → P (answers t 0 (with_word m x s))) → P (goes_to t q p s)
-    → P (exchanged (if is_bare w n then Some x else None) q p t m s)
-unfolding exchanged
-exchanged_cases P x w n q p t m s done fails =
-    by_test (λ b. P (exchanged (if b then Some x else None) q p t m s)) (is_bare w n)
+    → P (exchange_outcome (if is_bare w n then Some x else None) q p t m s)
+unfolding exchange_outcome
+exchange_outcome_cases P x w n q p t m s done fails =
+    by_test (λ b. P (exchange_outcome (if b then Some x else None) q p t m s)) (is_bare w n)
     (λ e. let b = bare w.waiters w.died w.number n e in done b.0 b.1) (λ e. fails)
 
 -- compare-exchange from 0 to t
@@ -59,7 +59,7 @@ pub own_exchange_cases : (P : Outcome → Type 0) (q : Request) (p : Place) (t m
     → P (goes_to t q p s)
     → P (own_exchange q p t m s)
 unfolding own_exchange
-own_exchange_cases P q p t m s = exchanged_cases P (held_by t) (cell_at s m).word 0 q p t m s
+own_exchange_cases P q p t m s = exchange_outcome_cases P (held_by t) (cell_at s m).word 0 q p t m s
 
 -- LOCK
 
@@ -86,6 +86,19 @@ lock_load_cases P q t m s normal errorcheck recursive other =
     by_kind Normal a b c = a refl
     by_kind ErrorCheck a b c = b refl
     by_kind Recursive a b c = c refl
+
+-- by what its kernel call answered
+pub lock_by_cases : (P : Outcome → Type 0) (r : Result Took Errno) (q : Request) (t : ℕ) (s : Table)
+    → (r ≡ Ok TookOwns → P (answers t 0 s))
+    → (r ≡ Ok TookQueued → P (waits_at t q LockQueued s))
+    → (r ≡ Err NoSuchThread → P (goes_to t q LockStop s))
+    → ((e : Errno) → e ≢ NoSuchThread → r ≡ Err e → P (answers t (number_of e) s))
+    → P (lock_by r q t s)
+unfolding lock_by
+lock_by_cases P (Ok TookOwns) q t s owns queued stops fails = owns refl
+lock_by_cases P (Ok TookQueued) q t s owns queued stops fails = queued refl
+lock_by_cases P (Err NoSuchThread) q t s owns queued stops fails = stops refl
+lock_by_cases P (Err e) q t s owns queued stops fails = fails e (λ h. cc) refl
 
 -- queued, or made the owner
 pub lock_queued_cases : (P : Outcome → Type 0) (t : ℕ) (s : Table)
@@ -146,7 +159,7 @@ pub unlock_exchange_cases : (P : Outcome → Type 0) (t m : ℕ) (s : Table)
     → P (goes_to t (Unlock m) UnlockKernel s)
     → P (unlock_exchange t m s)
 unfolding unlock_exchange
-unlock_exchange_cases P t m s = exchanged_cases P free_word (cell_at s m).word t (Unlock m) UnlockKernel t m s
+unlock_exchange_cases P t m s = exchange_outcome_cases P free_word (cell_at s m).word t (Unlock m) UnlockKernel t m s
 
 -- by what its kernel call answered a call is closed
 pub answered_by_cases : (P : Outcome → Type 0) (r : Result (record {}) Errno) (t : ℕ) (s : Table)

@@ -40,7 +40,8 @@ waits_at t q p s = record { seen = Waits; after = with_line t (At q p) s }
 abbrev pub answers : ℕ → ℕ → Table → Outcome
 answers t a s = record { seen = Answered a; after = with_line t Idle s }
 
--- lock and trylock: the owner of a RECURSIVE mutex holds it once more, or where it holds it 255 times is answered EAGAIN
+-- lock and trylock: the owner of a RECURSIVE mutex holds it once more, or is answered EAGAIN where it holds it
+-- 255 times
 unfoldable pub locked_again : ℕ → ℕ → Table → Outcome
 locked_again t m s =
     if nat_lt (cell_at s m).count 255
@@ -48,20 +49,24 @@ locked_again t m s =
     else answers t 11 s
 
 -- by the word that an own exchange has written, if it has: the call is answered, or goes on at this place
-unfoldable pub exchanged : Option Word → Request → Place → ℕ → ℕ → Table → Outcome
-exchanged (Some w) q p t m s = answers t 0 (with_word m w s)
-exchanged None q p t m s = goes_to t q p s
+unfoldable pub exchange_outcome : Option Word → Request → Place → ℕ → ℕ → Table → Outcome
+exchange_outcome (Some w) q p t m s = answers t 0 (with_word m w s)
+exchange_outcome None q p t m s = goes_to t q p s
 
 -- lock and trylock: compare-exchange from 0 to t. Where it fails the call goes on at this place, its kernel call
 unfoldable pub own_exchange : Request → Place → ℕ → ℕ → Table → Outcome
-own_exchange q p t m s = exchanged (take_word (cell_at s m).word t) q p t m s
+own_exchange q p t m s = exchange_outcome (take_word (cell_at s m).word t) q p t m s
 
 -- lock: load the word. The owner of a NORMAL mutex goes on to stop, that of an ERRORCHECK mutex is answered EDEADLK,
 -- that of a RECURSIVE mutex holds it once more
 unfoldable pub lock_load : Request → ℕ → ℕ → Table → Outcome
 lock_load q t m s =
     if (cell_at s m).word.number == t
-    then elim (cell_at s m).kind [ Normal ↦ goes_to t q LockStop s | ErrorCheck ↦ answers t 35 s | Recursive ↦ locked_again t m s ]
+    then elim (cell_at s m).kind [
+      | Normal ↦ goes_to t q LockStop s
+      | ErrorCheck ↦ answers t 35 s
+      | Recursive ↦ locked_again t m s
+    ]
     else goes_to t q LockExchange s
 
 -- a request that locks, by what its kernel call answered. ESRCH: the owner has ended, and the thread goes on to stop
@@ -96,12 +101,14 @@ try_load t m s =
 unfoldable pub unlock_load : ℕ → ℕ → Table → Outcome
 unlock_load t m s =
     if (cell_at s m).word.number == t
-    then (if nat_lt 1 (cell_at s m).count then answers t 0 (with_count m ((cell_at s m).count - 1) s) else goes_to t (Unlock m) UnlockExchange s)
+    then (if nat_lt 1 (cell_at s m).count
+    then answers t 0 (with_count m ((cell_at s m).count - 1) s)
+    else goes_to t (Unlock m) UnlockExchange s)
     else answers t 1 s
 
 -- unlock: compare-exchange from t to 0
 unfoldable pub unlock_exchange : ℕ → ℕ → Table → Outcome
-unlock_exchange t m s = exchanged (release_word (cell_at s m).word t) (Unlock m) UnlockKernel t m s
+unlock_exchange t m s = exchange_outcome (release_word (cell_at s m).word t) (Unlock m) UnlockKernel t m s
 
 -- the call is closed by what its kernel call answered: 0, or the number of the error
 unfoldable pub answered_by : Result (record {}) Errno → ℕ → Table → Outcome

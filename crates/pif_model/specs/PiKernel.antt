@@ -127,7 +127,8 @@ moves_to effective levels p u =
 -- and who changes it joins the end of the new one; several that do so join in order of their numbers
 abbrev pub effective_levels : ℕ → (ℕ → ℕ) → List (List ℕ) → List (List ℕ)
 effective_levels n effective levels =
-    levels_by (λ p. filter (λ u. effective u == p) (level_at levels p) ++ filter (moves_to effective levels p) (numbers n))
+    levels_by (λ p. filter (λ u. effective u == p) (level_at levels p)
+    ++ filter (moves_to effective levels p) (numbers n))
 
 -- k with each ready thread at the level of its effective priority now
 abbrev pub with_effective_levels : Kernel → Kernel
@@ -230,7 +231,8 @@ words_after_unlock m (Err e) k ws = ws
 unfoldable pub kernel_after_hand_over : ℕ → ℕ → Kernel → Kernel
 kernel_after_hand_over u m k =
     let rest = without k.waiters u in
-    let after = record (with_status u (Ready WokenOwns) (with_state m (if has_waiter rest m then u else 0) k)) { waiters = rest } in
+    let after = record (with_status u (Ready WokenOwns)
+    (with_state m (if has_waiter rest m then u else 0) k)) { waiters = rest } in
     with_effective_levels (record after { levels = levels_with u (effective_in after u) k.levels })
 
 -- the kernel after unlock_pi, by its answer
@@ -272,8 +274,10 @@ pub record IsKernelShaped (k : Kernel) : Type 0 where
 pub record IsKernel (k : Kernel) : Type 0 where
   pub shape : IsKernelShaped k
   -- a thread is queued where its status says
-  pub queue : (u m : ℕ) → list_any (λ (w : ℕ × ℕ). if w.0 == u then w.1 == m else false) k.waiters ≡ true → (seat_at k u).status ≡ Queued m
-  pub queued : (u m : ℕ) → (seat_at k u).status ≡ Queued m → list_any (λ (w : ℕ × ℕ). if w.0 == u then w.1 == m else false) k.waiters ≡ true
+  pub queue : (u m : ℕ) → list_any (λ (w : ℕ × ℕ). if w.0 == u then w.1 == m else false) k.waiters ≡ true
+      → (seat_at k u).status ≡ Queued m
+  pub queued : (u m : ℕ) → (seat_at k u).status ≡ Queued m
+      → list_any (λ (w : ℕ × ℕ). if w.0 == u then w.1 == m else false) k.waiters ≡ true
   pub once : IsDistinct eqb (map (λ (w : ℕ × ℕ). w.0) k.waiters)
   -- there is an owner state exactly while threads are queued, of a thread that was added
   pub states : (m : ℕ) → (state_at k m == 0) ≡ (if has_waiter k.waiters m then false else true)
@@ -281,5 +285,6 @@ pub record IsKernel (k : Kernel) : Type 0 where
   -- no chain closes
   pub acyclic : (u : ℕ) → waits_for k u ≢ 0 → reaches_within (length k.seats) (waits_for k) (waits_for k u) u ≡ false
   -- a thread is on a level exactly where it may run and the level is its effective priority
-  pub level : (t p : ℕ) → is_among (level_at k.levels p) t ≡ (if has_seat k t then (if is_ready (seat_at k t).status then effective_in k t == p else false) else false)
+  pub level : (t p : ℕ) → is_among (level_at k.levels p) t
+      ≡ (if has_seat k t then (if is_ready (seat_at k t).status then effective_in k t == p else false) else false)
   pub level_once : (p : ℕ) → IsDistinct eqb (level_at k.levels p)

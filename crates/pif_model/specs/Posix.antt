@@ -105,13 +105,13 @@ abbrev pub with_mutex : ℕ → Mutex → World → World
 with_mutex m x w = record w { mutexes = set w.mutexes m x }
 
 -- an open call that has come this far
-abbrev pub progressed : Progress → Option Call → Option Call
-progressed p None = None
-progressed p (Some c) = Some (record c { progress = p })
+abbrev pub call_at_progress : Progress → Option Call → Option Call
+call_at_progress p None = None
+call_at_progress p (Some c) = Some (record c { progress = p })
 
 -- t's call has come this far
 abbrev pub with_progress : ℕ → Progress → World → World
-with_progress t p w = with_thread t (record (thread_at w t) { call = progressed p (thread_at w t).call }) w
+with_progress t p w = with_thread t (record (thread_at w t) { call = call_at_progress p (thread_at w t).call }) w
 
 -- WAITING AND PRIORITY
 
@@ -169,13 +169,14 @@ taken t m w =
     with_progress t (on_taking (mutex_at w m).health) (with_mutex m (record (mutex_at w m) { owner = t; count = 1 }) w)
 
 -- m is held this often by its owner
-abbrev pub counted : ℕ → ℕ → World → World
-counted m n w = with_mutex m (record (mutex_at w m) { count = n }) w
+abbrev pub with_hold_count : ℕ → ℕ → World → World
+with_hold_count m n w = with_mutex m (record (mutex_at w m) { count = n }) w
 
 -- the owner t of a RECURSIVE mutex m locks it again, by lock or trylock
 pub data LocksAgain (t m : ℕ) (w v : World) : Type 0 where
   -- it holds m once more
-  rises : (mutex_at w m).count < 255 → v ≡ with_progress t (Has 0) (counted m ((mutex_at w m).count + 1) w) → LocksAgain t m w v
+  rises : (mutex_at w m).count < 255 → v ≡ with_progress t (Has 0) (with_hold_count m ((mutex_at w m).count + 1) w)
+      → LocksAgain t m w v
   -- it holds m as often as it may: EAGAIN
   at_limit : (mutex_at w m).count ≡ 255 → v ≡ with_progress t (Has 11) w → LocksAgain t m w v
 
@@ -184,13 +185,15 @@ pub data Locks (t m : ℕ) (w v : World) : Type 0 where
   -- the owner locks a NORMAL mutex again: it waits for good
   own_normal : (mutex_at w m).owner ≡ t → (mutex_at w m).kind ≡ Normal → v ≡ with_progress t Stuck w → Locks t m w v
   -- the owner locks an ERRORCHECK mutex again: EDEADLK
-  own_errorcheck : (mutex_at w m).owner ≡ t → (mutex_at w m).kind ≡ ErrorCheck → v ≡ with_progress t (Has 35) w → Locks t m w v
+  own_errorcheck : (mutex_at w m).owner ≡ t → (mutex_at w m).kind ≡ ErrorCheck
+      → v ≡ with_progress t (Has 35) w → Locks t m w v
   -- the owner locks a RECURSIVE mutex again
   own_recursive : (mutex_at w m).owner ≡ t → (mutex_at w m).kind ≡ Recursive → LocksAgain t m w v → Locks t m w v
   -- nobody owns it: t takes it
   free : (mutex_at w m).owner ≢ t → (mutex_at w m).owner ≡ 0 → v ≡ taken t m w → Locks t m w v
   -- it is lost: t waits for good
-  lost : (mutex_at w m).owner ≢ t → (mutex_at w m).owner ≢ 0 → is_lost w m ≡ true → v ≡ with_progress t Stuck w → Locks t m w v
+  lost : (mutex_at w m).owner ≢ t → (mutex_at w m).owner ≢ 0 → is_lost w m ≡ true
+      → v ≡ with_progress t Stuck w → Locks t m w v
   -- its owner waits for t through some chain: EDEADLK
   cycle : (mutex_at w m).owner ≢ t → (mutex_at w m).owner ≢ 0 → is_lost w m ≡ false
       → leads_to w (mutex_at w m).owner t ≡ true → v ≡ with_progress t (Has 35) w → Locks t m w v
@@ -204,23 +207,27 @@ pub data TriesToLock (t m : ℕ) (w v : World) : Type 0 where
   -- the owner locks a RECURSIVE mutex again
   own_recursive : (mutex_at w m).owner ≡ t → (mutex_at w m).kind ≡ Recursive → LocksAgain t m w v → TriesToLock t m w v
   -- it is owned otherwise, or lost: EBUSY
-  busy : (mutex_at w m).owner ≢ 0 → ((mutex_at w m).owner ≡ t → (mutex_at w m).kind ≢ Recursive) → v ≡ with_progress t (Has 16) w → TriesToLock t m w v
+  busy : (mutex_at w m).owner ≢ 0 → ((mutex_at w m).owner ≡ t → (mutex_at w m).kind ≢ Recursive)
+      → v ≡ with_progress t (Has 16) w → TriesToLock t m w v
   -- nobody owns it: t takes it
   free : (mutex_at w m).owner ≡ 0 → v ≡ taken t m w → TriesToLock t m w v
 
 -- m passes on: to nobody, which holds it once, or to its next waiter, which takes it
 pub data Passes (m : ℕ) (w v : World) : Type 0 where
   to_nobody : next_of w m ≡ 0 → v ≡ with_mutex m (record (mutex_at w m) { owner = 0; count = 1 }) w → Passes m w v
-  to_next : (u : ℕ) → next_of w m ≡ u → u ≢ 0 → v ≡ taken u m (record w { waiters = without w.waiters u }) → Passes m w v
+  to_next : (u : ℕ) → next_of w m ≡ u → u ≢ 0 → v ≡ taken u m (record w { waiters = without w.waiters u })
+      → Passes m w v
 
 -- pthread_mutex_unlock by t on m, where no effect has happened yet
 pub data Unlocks (t m : ℕ) (w v : World) : Type 0 where
   -- t isn't the owner: EPERM
   not_owner : (mutex_at w m).owner ≢ t → v ≡ with_progress t (Has 1) w → Unlocks t m w v
   -- the owner holds it more than once: it holds it once less, and the result is 0
-  falls : (mutex_at w m).owner ≡ t → 1 < (mutex_at w m).count → v ≡ with_progress t (Has 0) (counted m ((mutex_at w m).count - 1) w) → Unlocks t m w v
+  falls : (mutex_at w m).owner ≡ t → 1 < (mutex_at w m).count
+      → v ≡ with_progress t (Has 0) (with_hold_count m ((mutex_at w m).count - 1) w) → Unlocks t m w v
   -- the owner, who holds it once, gives it up: it passes on, and the result is 0
-  released : (mutex_at w m).owner ≡ t → (mutex_at w m).count ≡ 1 → (mutex_at w m).health ≢ Inconsistent → Passes m (with_progress t (Has 0) w) v → Unlocks t m w v
+  released : (mutex_at w m).owner ≡ t → (mutex_at w m).count ≡ 1 → (mutex_at w m).health ≢ Inconsistent
+      → Passes m (with_progress t (Has 0) w) v → Unlocks t m w v
 
 -- t with this base priority
 abbrev pub with_base : ℕ → ℕ → World → World
@@ -233,14 +240,19 @@ pub data SetsPriority (t u p : ℕ) (w v : World) : Type 0 where
   -- u is not living: ESRCH
   not_living : is_priority p ≡ true → is_living w u ≡ false → v ≡ with_progress t (Has 3) w → SetsPriority t u p w v
   -- u's base priority is p; who waits for what, and since when, stays
-  changed : is_priority p ≡ true → is_living w u ≡ true → v ≡ with_progress t (Has 0) (with_base u p w) → SetsPriority t u p w v
+  changed : is_priority p ≡ true → is_living w u ≡ true → v ≡ with_progress t (Has 0) (with_base u p w)
+      → SetsPriority t u p w v
 
 -- one effect of t's open call
 pub data Effect (t : ℕ) (w v : World) : Type 0 where
-  lock : (m : ℕ) → (thread_at w t).call ≡ Some (record { request = Lock m; progress = Fresh }) → Locks t m w v → Effect t w v
-  try_lock : (m : ℕ) → (thread_at w t).call ≡ Some (record { request = TryLock m; progress = Fresh }) → TriesToLock t m w v → Effect t w v
-  unlock : (m : ℕ) → (thread_at w t).call ≡ Some (record { request = Unlock m; progress = Fresh }) → Unlocks t m w v → Effect t w v
-  set_prio : (u p : ℕ) → (thread_at w t).call ≡ Some (record { request = SetPrio u p; progress = Fresh }) → SetsPriority t u p w v → Effect t w v
+  lock : (m : ℕ) → (thread_at w t).call ≡ Some (record { request = Lock m; progress = Fresh })
+      → Locks t m w v → Effect t w v
+  try_lock : (m : ℕ) → (thread_at w t).call ≡ Some (record { request = TryLock m; progress = Fresh })
+      → TriesToLock t m w v → Effect t w v
+  unlock : (m : ℕ) → (thread_at w t).call ≡ Some (record { request = Unlock m; progress = Fresh })
+      → Unlocks t m w v → Effect t w v
+  set_prio : (u p : ℕ) → (thread_at w t).call ≡ Some (record { request = SetPrio u p; progress = Fresh })
+      → SetsPriority t u p w v → Effect t w v
 
 -- some effects of t's open call in order, or none
 pub data Effects (t : ℕ) : World → World → Type 0 where
@@ -284,12 +296,17 @@ pub data Step (l : Bounds) (w : World) (e : Entry) (v : World) : Type 0 where
       → v ≡ record w { threads = w.threads ++ record { base = p; living = true; call = None } ∷ [] } → Step l w e v
   -- the next number, within the limit
   mutex_added : (m : ℕ) (k : Kind) (r : Bool) → e ≡ AddMutex m k r → m ≡ length w.mutexes → m ≤ l.mutexes
-      → v ≡ record w { mutexes = w.mutexes ++ record { kind = k; robust = r; owner = 0; count = 1; health = Fine } ∷ [] } → Step l w e v
+      → v ≡ record w {
+        mutexes = w.mutexes ++ record { kind = k; robust = r; owner = 0; count = 1; health = Fine } ∷ [];
+      }
+      → Step l w e v
   -- a refused event changes nothing
   refused : (x : Event) (r : Refusal) → e ≡ Happened x (Refused r) → refusal_of w x ≡ Some r → v ≡ w → Step l w e v
   -- the call is open
   begun : (t : ℕ) (q : Request) → e ≡ Happened (Begin t q) Begun → refusal_of w (Begin t q) ≡ None
-      → v ≡ with_thread t (record (thread_at w t) { call = Some (record { request = q; progress = begun_progress w q }) }) w → Step l w e v
+      → v ≡ with_thread t
+      (record (thread_at w t) { call = Some (record { request = q; progress = begun_progress w q }) }) w
+      → Step l w e v
   -- the call goes on, and its thread doesn't rest
   went : (t : ℕ) → e ≡ Happened (Go t) Went → Goes t w v → rests v t ≡ false → Step l w e v
   -- its thread rests
@@ -302,7 +319,8 @@ pub data Step (l : Bounds) (w : World) (e : Entry) (v : World) : Type 0 where
 -- A run: the entries of a history, newest first, the states before each of them, newest first, and the last state.
 pub data IsRun (l : Bounds) : List Entry → List World → World → Type 0 where
   start : {w : World} → w ≡ empty_world → IsRun l [] [] w
-  next : {h : List Entry} {r : List World} {e : Entry} {w v : World} → IsRun l h r w → Step l w e v → IsRun l (e ∷ h) (w ∷ r) v
+  next : {h : List Entry} {r : List World} {e : Entry} {w v : World} → IsRun l h r w → Step l w e v
+      → IsRun l (e ∷ h) (w ∷ r) v
 
 -- a history, newest entry first, is legal: some run from the empty state gives it, entry by entry
 pub record IsLegal (l : Bounds) (h : List Entry) : Type 0 where

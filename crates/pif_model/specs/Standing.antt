@@ -215,8 +215,8 @@ pub record CellIsSound (added : ℕ → Bool) (waited : Bool) (c : Cell) : Type 
   pub state : c.state_owner ≡ (if waited then c.word.number else 0)
   pub contended : waited ≡ true → c.word.waiters ≡ true
 
--- the parts fit together: each thread of the kernel has a line, and nobody is at place 0; there is a word for each mutex
--- that the limits allow, and of those that were not added it is free and nobody waits for them
+-- the parts fit together: each thread of the kernel has a line, and nobody is at place 0; there is a word for each
+-- mutex that the limits allow, and of those that were not added it is free and nobody waits for them
 pub record IsShaped (s : Table) : Type 0 where
   pub limits : s.kernel.limits ≡ s.limits
   pub within : IsWithin s.limits
@@ -227,12 +227,14 @@ pub record IsShaped (s : Table) : Type 0 where
   pub no_mutex : library_at s 0 ≡ new_mutex Normal false
   pub words : length s.words.mutexes ≡ s.limits.mutexes + 1
   pub no_word : word_at s.words 0 ≡ free_word
-  pub unmade : (m : ℕ) → length s.mutexes ≤ m → (word_at s.words m ≡ free_word) × (has_waiter s.kernel.waiters m ≡ false)
+  pub unmade : (m : ℕ) → length s.mutexes ≤ m
+      → (word_at s.words m ≡ free_word) × (has_waiter s.kernel.waiters m ≡ false)
 
 -- the invariant of the table, save for what holds of excused threads and for what its kernel keeps
 pub record SoundBut (Excused : ℕ → Type 0) (s : Table) : Type 0 where
   pub shape : IsShaped s
-  pub mutexes : (m : ℕ) → has_mutex s m ≡ true → CellIsSound (has_thread s) (has_waiter s.kernel.waiters m) (cell_at s m)
+  pub mutexes : (m : ℕ) → has_mutex s m ≡ true
+      → CellIsSound (has_thread s) (has_waiter s.kernel.waiters m) (cell_at s m)
   pub threads : (t : ℕ) → has_thread s t ≡ true → (Excused t → ⊥) → ThreadIsSound s t
 
 -- the invariant of the table: nobody is excused, and its kernel is one
@@ -266,8 +268,8 @@ pub record IsPossible (w : World) (m : ℕ) (x : Word) : Type 0 where
 abbrev pub HasEffective : World → ℕ → ℕ → Type 0
 HasEffective w t p = IsEffective (λ u. is_thread w u ≡ true) (WaitsFor w) (λ u. (thread_at w u).base) t p
 
--- p runs next: a living thread that doesn't rest, and no living thread that doesn't rest has a greater effective priority; 0 only
--- where every living thread rests
+-- p runs next: a living thread that doesn't rest, and no living thread that doesn't rest has a greater effective
+-- priority; 0 only where every living thread rests
 pub record IsPick (w : World) (p : ℕ) : Type 0 where
   pub runs : p ≢ 0 → (lives w p ≡ true) × (rests w p ≡ false)
   pub greatest : (t : ℕ) → lives w t ≡ true → rests w t ≡ false → (p ≢ 0) × (effective_of w t ≤ effective_of w p)

@@ -1,6 +1,6 @@
--- The state of the table machine: its parts side by side, as the code has them. They are the words, the kernel, and what
--- the library keeps of threads and mutexes. Threads and mutexes are numbered from 1; place 0 of each list stands for
--- nobody.
+-- The state of the table machine: its parts side by side, as the code has them. They are the words, the kernel, and
+-- what the library keeps of threads and mutexes. Threads and mutexes are numbered from 1; place 0 of each list stands
+-- for nobody.
 use Rattle.std.specs.Prelude.{ℕ, Bool, true, false, ◌==◌, nat_lt, List, [], ◌∷◌, ◌++◌, length, get_or, set, if◌then◌else◌}
 use Rattle.pif_types.specs.Bounds.{Bounds}
 use Rattle.pif_types.specs.declared.requests.Kind.{Kind}

@@ -8,7 +8,7 @@ use Rattle.pif_model.specs.declared.lines.Place.{Place}
 use Rattle.pif_model.specs.declared.lines.Place.TheVariants.{UnlockKernel}
 use Rattle.pif_model.specs.Word.{Word, Words, free_word, held_by, is_bare, word_of, set_word}
 use Rattle.pif_model.specs.Table.{Table, cell_at, with_word}
-use Rattle.pif_model.specs.Lines.{goes_to, answers, exchanged, own_exchange, unlock_exchange}
+use Rattle.pif_model.specs.Lines.{goes_to, answers, exchange_outcome, own_exchange, unlock_exchange}
 use Rattle.pif_word.specs.declared.cells.Cell.TheVariants.{Mutex}
 use Rattle.pif_word.specs.WordMap.{WordMap, words_of, with_bits}
 
@@ -38,21 +38,21 @@ exchanged_table false s m x ws e = ap (λ (v : Words). record s { words = v }) e
 exchanged_done : (q : Request) (p : Place) (t m n : ℕ) (x : Word) (s v : Table) (b : Bool) → b ≡ true
     → b ≡ is_bare (cell_at s m).word n
     → v ≡ (if b then with_word m x s else s)
-    → answers t 0 v ≡ exchanged (if is_bare (cell_at s m).word n then Some x else None) q p t m s
-unfolding exchanged
+    → answers t 0 v ≡ exchange_outcome (if is_bare (cell_at s m).word n then Some x else None) q p t m s
+unfolding exchange_outcome
 exchanged_done q p t m n x s v b done bare after =
     ap (answers t 0) (after ∙ ap (λ (c : Bool). if c then with_word m x s else s) done)
-    ∙ ap (λ (c : Bool). exchanged (if c then Some x else None) q p t m s) (sym done ∙ bare)
+    ∙ ap (λ (c : Bool). exchange_outcome (if c then Some x else None) q p t m s) (sym done ∙ bare)
 
 -- and which failed
 exchanged_failed : (q : Request) (p : Place) (t m n : ℕ) (x y : Word) (s v : Table) (b : Bool) → b ≡ false
     → b ≡ is_bare (cell_at s m).word n
     → v ≡ (if b then with_word m y s else s)
-    → goes_to t q p v ≡ exchanged (if is_bare (cell_at s m).word n then Some x else None) q p t m s
-unfolding exchanged
+    → goes_to t q p v ≡ exchange_outcome (if is_bare (cell_at s m).word n then Some x else None) q p t m s
+unfolding exchange_outcome
 exchanged_failed q p t m n x y s v b failed bare after =
     ap (goes_to t q p) (after ∙ ap (λ (c : Bool). if c then with_word m y s else s) failed)
-    ∙ ap (λ (c : Bool). exchanged (if c then Some x else None) q p t m s) (sym failed ∙ bare)
+    ∙ ap (λ (c : Bool). exchange_outcome (if c then Some x else None) q p t m s) (sym failed ∙ bare)
 
 -- lock and trylock, done
 pub own_exchange_done : (q : Request) (p : Place) (t m : ℕ) (x : Word) (s v : Table) (b : Bool) → x ≡ held_by t

@@ -1,9 +1,8 @@
 -- A step of a thread, line by line: what it leaves to the other threads and makes of the mutexes, and that the thread
 -- may take its next step.
-use Rattle.std.proofs.Common.{◌≡◌, ◌≢◌, ℕ, ◌+◌, ◌-◌, ◌<◌, ◌≤◌, true, false, length, Result, Ok, Err, refl, sym, ◌∙◌, subst, arith, length-set, get_or-set_same, get_or-set_other}
+use Rattle.std.proofs.Common.{◌≡◌, ◌≢◌, ℕ, ◌+◌, ◌-◌, ◌<◌, ◌≤◌, true, false, length, Result, refl, sym, ◌∙◌, subst, arith, length-set, get_or-set_same, get_or-set_other}
 use Rattle.std.proofs.lemmas.Bool.{true≢false}
 use Rattle.pif_types.specs.declared.errors.Errno.{Errno}
-use Rattle.pif_types.specs.declared.errors.Errno.TheVariants.{NoSuchThread}
 use Rattle.pif_types.specs.declared.requests.Request.{Request}
 use Rattle.pif_types.specs.declared.requests.Request.TheVariants.{Lock, TryLock, Unlock, SetPrio}
 use Rattle.pif_model.specs.declared.lines.Line.{Line}
@@ -11,19 +10,18 @@ use Rattle.pif_model.specs.declared.lines.Line.TheVariants.{Idle, At}
 use Rattle.pif_model.specs.declared.lines.Place.{Place}
 use Rattle.pif_model.specs.declared.lines.Place.TheVariants.{LockLoad, LockExchange, LockKernel, LockQueued, LockStop, LockStopped, TryLoad, TryExchange, TryKernel, UnlockLoad, UnlockExchange, UnlockKernel, SetPriority}
 use Rattle.pif_model.specs.declared.lines.Took.{Took}
-use Rattle.pif_model.specs.declared.lines.Took.TheVariants.{Owns as TookOwns, Queued as TookQueued}
 use Rattle.pif_model.specs.Word.{Word, Words, free_word, held_by, set_word}
 use Rattle.pif_model.specs.PiKernel.{Kernel, seat_at, is_ready, lock_answer, words_after_lock, kernel_after_lock, try_lock_answer, words_after_try_lock, unlock_answer, words_after_unlock, kernel_after_unlock, set_prio_answer, kernel_after_set_prio, kernel_after_stop}
 use Rattle.pif_model.specs.Posix.{names_known}
 use Rattle.pif_model.specs.Table.{Table, new_mutex, has_mutex, status_at, line_at, cell_at, with_line, with_count, with_word, with_kernel}
-use Rattle.pif_model.specs.Lines.{answers, locked_again, own_exchange, lock_load, lock_by, lock_kernel, lock_queued, lock_stop, try_load, busy_for_again, try_kernel, unlock_load, unlock_exchange, unlock_kernel, set_priority, line_of}
+use Rattle.pif_model.specs.Lines.{answers, locked_again, own_exchange, lock_load, lock_kernel, lock_queued, lock_stop, try_load, busy_for_again, try_kernel, unlock_load, unlock_exchange, unlock_kernel, set_priority, line_of}
 use Rattle.pif_types.specs.declared.requests.Kind.TheVariants.{Normal}
 use Rattle.pif_mutex.specs.Runnable.{may_run_at, gives_up_at, CallIsRunnable, LineIsRunnable, IsRunnable}
 use Rattle.pif_mutex.proofs.KernelLeaves.{lock_ready, unlock_ready, set_prio_ready, stop_ready}
 use Rattle.pif_mutex.proofs.ListChanges.{changed_at}
 use Rattle.pif_mutex.proofs.Counts.{CountGoes, CellGoes, WordGoes, words_stay, word_goes, lock_owns_free, try_takes_free, unlock_gives_own, lock_goes, try_goes, unlock_goes}
 use Rattle.pif_mutex.proofs.Counts.CountGoes.{stays, once, recounts}
-use Rattle.pif_chains.proofs.LineCases.{locked_again_cases, own_exchange_cases, lock_load_cases, lock_queued_cases, try_load_cases, unlock_load_cases, unlock_exchange_cases, answered_by_cases}
+use Rattle.pif_chains.proofs.LineCases.{locked_again_cases, own_exchange_cases, lock_load_cases, lock_by_cases, lock_queued_cases, try_load_cases, unlock_load_cases, unlock_exchange_cases, answered_by_cases}
 
 -- what a step of t leaves to the other threads, and makes of the mutexes
 pub record Leaves (t : ℕ) (s v : Table) : Type 0 where
@@ -154,33 +152,30 @@ module _ {s : Table} {t : ℕ} (h : IsRunnable s) (lt : t < length s.lines) wher
       (λ mine recursive. locked_again_keeps m ready mine)
       (λ other. arrives (At (Lock m) LockExchange) lt (leaves_all t s) (goes_on LockExchange named ready refl))
 
-  -- by what its kernel call answered
-  lock_by_keeps : (m : ℕ) (r : Result Took Errno) → has_mutex s m ≡ true → is_ready (status_at s t) ≡ true
-      → (r ≡ Ok TookOwns → (cell_at s m).count ≡ 1)
-      → Keeps t s (lock_by r (Lock m) t (with_kernel (words_after_lock t m r s.words)
-      (kernel_after_lock t m r s.words s.kernel) s)).after
-  unfolding lock_by kernel_after_lock
-  lock_by_keeps m (Ok TookOwns) named ready held =
-      arrives Idle lt (leaves_kernel t s _ _ (lock_ready t m (Ok TookOwns) s.words s.kernel)
-      (lock_goes t m (Ok TookOwns) s held)) ready
-  lock_by_keeps m (Ok TookQueued) named ready held =
-      arrives (At (Lock m) LockQueued) lt
-      (leaves_kernel t s _ _ (lock_ready t m (Ok TookQueued) s.words s.kernel)
-      (lock_goes t m (Ok TookQueued) s held)) (waits LockQueued named refl refl)
-  lock_by_keeps m (Err NoSuchThread) named ready held =
-      arrives (At (Lock m) LockStop) lt (leaves_kernel t s _ _ (lock_ready t m (Err NoSuchThread) s.words s.kernel)
-      (lock_goes t m (Err NoSuchThread) s held)) (goes_on LockStop named ready refl)
-  lock_by_keeps m (Err e) named ready held =
-      arrives Idle lt (leaves_kernel t s _ _ (lock_ready t m (Err e) s.words s.kernel) (lock_goes t m (Err e) s held))
-      ready
-
   -- the kernel call lock_pi
   lock_kernel_keeps : (m : ℕ) → has_mutex s m ≡ true → is_ready (status_at s t) ≡ true
       → Keeps t s (lock_kernel (Lock m) t m s).after
-  unfolding lock_kernel
-  lock_kernel_keeps m named ready =
-      lock_by_keeps m (lock_answer t m s.words s.kernel) named ready
-      (λ e. (h.mutexes m).unowned (lock_owns_free t m s.words s.kernel e))
+  unfolding lock_kernel kernel_after_lock
+  lock_kernel_keeps m named ready = lock_by_cases (λ o. Keeps t s o.after) r (Lock m) t (after r)
+      (λ e. arrives Idle lt left (runs Idle _ e ready))
+      (λ e. arrives (At (Lock m) LockQueued) lt left (waits LockQueued named refl refl))
+      (λ e. arrives (At (Lock m) LockStop) lt left (runs (At (Lock m) LockStop) _ e (goes_on LockStop named ready refl)))
+      (λ e other is. arrives Idle lt left (runs Idle _ is ready))
+    where
+      r : Result Took Errno
+      r = lock_answer t m s.words s.kernel
+
+      -- the table after an answer
+      after : Result Took Errno → Table
+      after a = with_kernel (words_after_lock t m a s.words) (kernel_after_lock t m a s.words s.kernel) s
+
+      left : Leaves t s (after r)
+      left = leaves_kernel t s _ _ (lock_ready t m r s.words s.kernel)
+          (lock_goes t m r s (λ e. (h.mutexes m).unowned (lock_owns_free t m s.words s.kernel e)))
+
+      -- t may run at a line after the answer, where it may after what that is
+      runs : (l : Line) (a : Result Took Errno) → r ≡ a → LineIsRunnable (after a) t l → LineIsRunnable (after r) t l
+      runs l a e = subst (λ b. LineIsRunnable (after b) t l) (sym e)
 
   -- queued, or made the owner
   lock_queued_keeps : Keeps t s (lock_queued t s).after

@@ -55,7 +55,8 @@ new_sound l within = record {
 
 -- it shows the state in which nothing was added
 pub new_seen : (l : Bounds) → IsWithin l → world_of (new_table l) no_shadow ≡ empty_world
-new_seen l within = same_world (world_of (new_table l) no_shadow) empty_world (threads_shown shape no_shadow) (λ t. thread_seen shape no_shadow t ∙ first_thread t)
+new_seen l within = same_world (world_of (new_table l) no_shadow) empty_world (threads_shown shape no_shadow)
+    (λ t. thread_seen shape no_shadow t ∙ first_thread t)
     (mutexes_shown shape no_shadow) (λ m. mutex_seen shape no_shadow m ∙ first_mutex m) refl
   where
     shape : IsShaped (new_table l)
@@ -66,8 +67,20 @@ new_seen l within = same_world (world_of (new_table l) no_shadow) empty_world (t
     first_thread (suc t) = (λ i. record { base = 0; living = not_below (suc t) 1 (omega arith) i; call = None })
 
     first_mutex : (m : ℕ) → mutex_shown (new_table l) m ≡ get_or (no_mutex ∷ []) m no_mutex
-    first_mutex zero = ap (λ (w : Word). record { kind = Normal; robust = false; owner = w.number; count = 1; health = health_of w.died }) (all_free (l.mutexes + 1) 0)
-    first_mutex (suc m) = ap (λ (w : Word). record { kind = Normal; robust = false; owner = w.number; count = 1; health = health_of w.died }) (all_free (l.mutexes + 1) (suc m))
+    first_mutex zero = ap (λ (w : Word). record {
+      kind = Normal;
+      robust = false;
+      owner = w.number;
+      count = 1;
+      health = health_of w.died;
+    }) (all_free (l.mutexes + 1) 0)
+    first_mutex (suc m) = ap (λ (w : Word). record {
+      kind = Normal;
+      robust = false;
+      owner = w.number;
+      count = 1;
+      health = health_of w.died;
+    }) (all_free (l.mutexes + 1) (suc m))
 
 -- ONE MORE
 
@@ -77,10 +90,12 @@ pushed_else l a d n e = go (cases_lt n (length l))
   where
     go : (n < length l) ⊎ (length l ≤ n) → get_or (l ++ a ∷ []) n d ≡ get_or l n d
     go (inl k) = get_or_append_left l (a ∷ []) d n k
-    go (inr k) = get_or_past (l ++ a ∷ []) n d (let f : n ≢ length l = e in omega (arith, length_push l a)) ∙ sym (get_or_past l n d k)
+    go (inr k) = get_or_past (l ++ a ∷ []) n d (let f : n ≢ length l = e in omega (arith, length_push l a))
+        ∙ sym (get_or_past l n d k)
 
 -- the test of a number with one more is the same but at that one
-pub more-else : (t n : ℕ) → t ≢ n → (if t == 0 then false else nat_lt t (n + 1)) ≡ (if t == 0 then false else nat_lt t n)
+pub more-else : (t n : ℕ) → t ≢ n → (if t == 0 then false else nat_lt t (n + 1))
+    ≡ (if t == 0 then false else nat_lt t n)
 more-else t n e = grind (arith, nat_tests)
 
 -- there is room below a limit

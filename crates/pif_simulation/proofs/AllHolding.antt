@@ -9,7 +9,7 @@ use Rattle.std.proofs.lemmas.List.{set-set, length-set, get_or_past}
 use Rattle.pif_types.specs.declared.requests.Request.{Request}
 use Rattle.pif_types.specs.declared.requests.Request.TheVariants.{Lock, TryLock, Unlock, SetPrio}
 use Rattle.pif_model.specs.Graph.{without}
-use Rattle.pif_model.specs.Posix.{Health, Progress, Call, Thread, Mutex, World, nobody, no_mutex, thread_at, mutex_at, is_thread, is_living, is_mutex, with_thread, with_mutex, with_progress, progressed, on_taking, taken, named_by, Passes}
+use Rattle.pif_model.specs.Posix.{Health, Progress, Call, Thread, Mutex, World, nobody, no_mutex, thread_at, mutex_at, is_thread, is_living, is_mutex, with_thread, with_mutex, with_progress, call_at_progress, on_taking, taken, named_by, Passes}
 use Rattle.pif_model.specs.Posix.Health.{Fine, Inconsistent, Unusable}
 use Rattle.pif_model.specs.Posix.Progress.{Fresh, Waiting}
 use Rattle.pif_model.specs.Posix.Passes.{to_nobody, to_next}
@@ -185,7 +185,7 @@ module _ {f : ℕ → Option Request} {counts : ℕ → ℕ → ℕ} {w : World}
       (subst (λ known. Holding (f t) (counts t) known (view_of v t)) (fun_ext (λ m. sym (s.same m)))
       (Holding-moves {q = q} {a = a} {b = b} (h.each t) (record {
         before = k.call;
-        after = call-with_progress w t b ∙ ap (progressed b) k.call;
+        after = call-with_progress w t b ∙ ap (call_at_progress b) k.call;
         living = lives t;
         waits = s.joined;
         others = λ m d. ap (λ l. times_held l t (get_or ms m no_mutex)) (lives t) ∙ s.theirs t m (inr d);
@@ -194,7 +194,7 @@ module _ {f : ℕ → Option Request} {counts : ℕ → ℕ → ℕ} {w : World}
       })))
     where
       further : Thread
-      further = record (thread_at w t) { call = progressed b (thread_at w t).call }
+      further = record (thread_at w t) { call = call_at_progress b (thread_at w t).call }
 
       among : World
       among = record w { mutexes = ms; waiters = ws }

@@ -17,17 +17,22 @@ use Rattle.pif_simulation.proofs.Shown.{threads_shown, thread_seen, mutex_seen}
 
 module _ {s : Table} (h : IsSound s) where
   -- where threads wait, the kernel's owner state names the owner in the word
-  pub state_is_number : (m : ℕ) → m ≢ 0 → has_waiter s.kernel.waiters m ≡ true → state_at s.kernel m ≡ (word_at s.words m).number
+  pub state_is_number : (m : ℕ) → m ≢ 0 → has_waiter s.kernel.waiters m ≡ true
+      → state_at s.kernel m ≡ (word_at s.words m).number
   state_is_number m n w = go (cases_lt m (length s.mutexes))
     where
       go : (m < length s.mutexes) ⊎ (length s.mutexes ≤ m) → state_at s.kernel m ≡ (word_at s.words m).number
-      go (inl l) = (h.all.mutexes m (from_within m (length s.mutexes) n l)).state ∙ ap (λ b. if b then (word_at s.words m).number else 0) w
+      go (inl l) = (h.all.mutexes m (from_within m (length s.mutexes) n l)).state
+          ∙ ap (λ b. if b then (word_at s.words m).number else 0) w
       go (inr k) = absurd (true≢false (sym w ∙ (h.all.shape.unmade m k).1))
 
   -- the owner of the mutex for which u waits, in both
-  owner_waited : (u m : ℕ) → waited_by s.kernel.waiters u ≡ m → (m ≡ 0) ⊎ (m ≢ 0) → state_at s.kernel m ≡ (word_at s.words m).number
-  owner_waited u m e (inl z) = ap (state_at s.kernel) z ∙ h.kernel.shape.no_mutex ∙ sym (ap (λ j. (word_at s.words j).number) z ∙ ap (λ (w : Word). w.number) h.all.shape.no_word)
-  owner_waited u m e (inr n) = state_is_number m n (has_waiter-from_pair s.kernel.waiters u m (paired-from_waited s.kernel.waiters u m n e))
+  owner_waited : (u m : ℕ) → waited_by s.kernel.waiters u ≡ m → (m ≡ 0) ⊎ (m ≢ 0)
+      → state_at s.kernel m ≡ (word_at s.words m).number
+  owner_waited u m e (inl z) = ap (state_at s.kernel) z ∙ h.kernel.shape.no_mutex
+      ∙ sym (ap (λ j. (word_at s.words j).number) z ∙ ap (λ (w : Word). w.number) h.all.shape.no_word)
+  owner_waited u m e (inr n) = state_is_number m n (has_waiter-from_pair s.kernel.waiters u m
+      (paired-from_waited s.kernel.waiters u m n e))
 
   -- a thread waits in the kernel for whom it waits in the POSIX machine
   pub waits_seen : (y : Shadow) → kernel_waits_for s.kernel ≡ waits_for (world_of s y)
@@ -38,7 +43,8 @@ module _ {s : Table} (h : IsSound s) where
 
   -- both machines have the same effective priorities
   pub effective_seen : (y : Shadow) → effective_in s.kernel ≡ effective_of (world_of s y)
-  effective_seen y = fun_ext (λ t. effective_same _ _ _ _ _ _ t (sym (threads_shown h.all.shape y ∙ h.all.shape.lines)) (λ u. ap (λ f. f u) (waits_seen y))
+  effective_seen y = fun_ext (λ t. effective_same _ _ _ _ _ _ t
+      (sym (threads_shown h.all.shape y ∙ h.all.shape.lines)) (λ u. ap (λ f. f u) (waits_seen y))
       (λ u. sym (ap (λ (x : Thread). x.base) (thread_seen h.all.shape y u))))
 
   -- both machines have the same next waiter
@@ -46,5 +52,7 @@ module _ {s : Table} (h : IsSound s) where
   next_seen y m = ap (λ f. next_waiter f s.kernel.waiters m) (sym (effective_seen y))
 
   -- both machines have the same chains
-  pub leads_seen : (y : Shadow) (u t : ℕ) → leads_to (world_of s y) u t ≡ reaches_within (length s.kernel.seats) (kernel_waits_for s.kernel) u t
-  leads_seen y u t = λ i. reaches_within ((threads_shown h.all.shape y ∙ h.all.shape.lines) i) (sym (waits_seen y) i) u t
+  pub leads_seen : (y : Shadow) (u t : ℕ) → leads_to (world_of s y) u t
+      ≡ reaches_within (length s.kernel.seats) (kernel_waits_for s.kernel) u t
+  leads_seen y u t = λ i. reaches_within ((threads_shown h.all.shape y ∙ h.all.shape.lines) i)
+      (sym (waits_seen y) i) u t

@@ -23,7 +23,8 @@ pub record Spares (living living' : ℕ → Bool) (u : ℕ) (c d : Cell) : Type 
   pub other : c.word.number ≢ u → d.word.number ≢ u
   pub count : c.word.number ≡ u → d.count ≡ c.count
   -- a mutex stays that of an owner that has ended
-  pub ended : c.word.number ≢ 0 → living c.word.number ≡ false → (d.word.number ≡ c.word.number) × (living' c.word.number ≡ false)
+  pub ended : c.word.number ≢ 0 → living c.word.number ≡ false
+      → (d.word.number ≡ c.word.number) × (living' c.word.number ≡ false)
 
 -- a mutex that nobody writes, while everybody lives who lived, spares everybody
 pub unwritten : (living : ℕ → Bool) (u : ℕ) (c d : Cell) → d ≡ c → Spares living living u c d
@@ -37,7 +38,8 @@ unwritten living u c d e = record {
 }
 
 -- a need outlives what others change
-meets_outlives : (l l' : ℕ → Bool) (u : ℕ) (x : Status) (c d : Cell) (n : Need) → Spares l l' u c d → Meets l u x c n → Meets l' u x d n
+meets_outlives : (l l' : ℕ → Bool) (u : ℕ) (x : Status) (c d : Cell) (n : Need) → Spares l l' u c d
+    → Meets l u x c n → Meets l' u x d n
 meets_outlives l l' u x c d MayRun k h = h
 meets_outlives l l' u x c d HasStopped k h = h
 meets_outlives l l' u x c d NotStopped k h = h
@@ -55,32 +57,51 @@ meets_outlives l l' u x c d MayStop k (lost r n e) =
     lost (k.robust ∙ r) (λ z. n (sym s.0 ∙ z)) (ap l' s.0 ∙ s.1)
 
 -- and so do all needs of a place
-all_outlive : (l l' : ℕ → Bool) (u : ℕ) (x : Status) (c d : Cell) (ns : List Need) → Spares l l' u c d → MeetsAll l u x c ns → MeetsAll l' u x d ns
+all_outlive : (l l' : ℕ → Bool) (u : ℕ) (x : Status) (c d : Cell) (ns : List Need) → Spares l l' u c d
+    → MeetsAll l u x c ns → MeetsAll l' u x d ns
 all_outlive l l' u x c d [] k h = h
 all_outlive l l' u x c d (n ∷ ns) k h = (meets_outlives l l' u x c d n k h.0, all_outlive l l' u x c d ns k h.1)
 
 -- at the place of a call that names no mutex, a thread need only be ready
-unnamed_needs : (l l' : ℕ → Bool) (u v n : ℕ) (x : Status) (c d : Cell) (p : Place) → belongs (SetPrio v n) p ≡ true → MeetsAll l u x c (needs p) → MeetsAll l' u x d (needs p)
+unnamed_needs : (l l' : ℕ → Bool) (u v n : ℕ) (x : Status) (c d : Cell) (p : Place) → belongs (SetPrio v n) p ≡ true
+    → MeetsAll l u x c (needs p) → MeetsAll l' u x d (needs p)
 unnamed_needs l l' u v n x c d SetPriority b h = h
 unnamed_needs l l' u v n x c d _ b h = absurd (true≢false (sym b))
 
 module _ (s v : Table) (u : ℕ) (status : status_at v u ≡ status_at s u)
-    (k : (m : ℕ) → has_mutex s m ≡ true → (has_mutex v m ≡ true) × Spares (is_living s.kernel) (is_living v.kernel) u (cell_at s m) (cell_at v m)) where
+    (k : (m : ℕ) → has_mutex s m ≡ true → (has_mutex v m ≡ true)
+    × Spares (is_living s.kernel) (is_living v.kernel) u (cell_at s m) (cell_at v m)) where
   -- what a call on a mutex rests on
-  on_mutex : (m : ℕ) (p : Place) → has_mutex s m ≡ true → MeetsAll (is_living s.kernel) u (status_at s u) (cell_at s m) (needs p) → MeetsAll (is_living v.kernel) u (status_at v u) (cell_at v m) (needs p)
+  on_mutex : (m : ℕ) (p : Place) → has_mutex s m ≡ true
+      → MeetsAll (is_living s.kernel) u (status_at s u) (cell_at s m) (needs p)
+      → MeetsAll (is_living v.kernel) u (status_at v u) (cell_at v m) (needs p)
   on_mutex m p e h = subst (λ x. MeetsAll (is_living v.kernel) u x (cell_at v m) (needs p)) (sym status)
-      (all_outlive (is_living s.kernel) (is_living v.kernel) u (status_at s u) (cell_at s m) (cell_at v m) (needs p) (k m e).1 h)
+      (all_outlive (is_living s.kernel) (is_living v.kernel) u (status_at s u) (cell_at s m) (cell_at v m)
+      (needs p) (k m e).1 h)
 
   -- what a call knows outlives what others change
   call_spared : (q : Request) (p : Place) → CallIsSound s u q p → CallIsSound v u q p
-  call_spared (Lock m) p h = record { named = (k m h.named).0; belongs = h.belongs; needs = on_mutex m p h.named h.needs }
-  call_spared (TryLock m) p h = record { named = (k m h.named).0; belongs = h.belongs; needs = on_mutex m p h.named h.needs }
-  call_spared (Unlock m) p h = record { named = (k m h.named).0; belongs = h.belongs; needs = on_mutex m p h.named h.needs }
+  call_spared (Lock m) p h = record {
+    named = (k m h.named).0;
+    belongs = h.belongs;
+    needs = on_mutex m p h.named h.needs;
+  }
+  call_spared (TryLock m) p h = record {
+    named = (k m h.named).0;
+    belongs = h.belongs;
+    needs = on_mutex m p h.named h.needs;
+  }
+  call_spared (Unlock m) p h = record {
+    named = (k m h.named).0;
+    belongs = h.belongs;
+    needs = on_mutex m p h.named h.needs;
+  }
   call_spared (SetPrio t n) p h = record {
     named = refl;
     belongs = h.belongs;
     needs = subst (λ x. MeetsAll (is_living v.kernel) u x (cell_at v 0) (needs p)) (sym status)
-        (unnamed_needs (is_living s.kernel) (is_living v.kernel) u t n (status_at s u) (cell_at s 0) (cell_at v 0) p h.belongs h.needs);
+        (unnamed_needs (is_living s.kernel) (is_living v.kernel) u t n (status_at s u) (cell_at s 0)
+        (cell_at v 0) p h.belongs h.needs);
   }
 
   -- what a line knows outlives what others change

@@ -29,7 +29,7 @@ use Rattle.pif_chains.proofs.Numbers.{above_0, below, from_within}
 use Rattle.pif_chains.proofs.KernelKept.{stop_kept}
 use Rattle.pif_chains.proofs.KernelKept.{queueing_kept}
 use Rattle.pif_simulation.proofs.Shown.{mutex_seen, living_seen}
-use Rattle.pif_simulation.proofs.Written.{written, written_line, written_word}
+use Rattle.pif_simulation.proofs.Written.{table_after_write, written_line, written_word}
 use Rattle.pif_simulation.proofs.Steps.{Keeps, GoKeeps, Going, going_named, going_met, waits_with}
 use Rattle.pif_simulation.proofs.Does.IsLocking.{by_lock}
 use Rattle.pif_simulation.proofs.Local.{going_cell, goes, answers_alone}
@@ -43,7 +43,8 @@ module _ (s : Table) (t m : ℕ) where
   -- STOP
 
   -- to stop is a call in which t goes to where it has stopped
-  stop_one : (g : Going s t (Lock m) LockStop) → IsOneCall s t (Lock m) LockStopped (word_at s.words m) (kernel_after_stop t s.kernel)
+  stop_one : (g : Going s t (Lock m) LockStop) → IsOneCall s t (Lock m) LockStopped (word_at s.words m)
+      (kernel_after_stop t s.kernel)
   unfolding kernel_after_stop
   stop_one g = record {
     kernel = stop_kept t s.kernel g.sound.kernel g.known (going_met g).0;
@@ -59,20 +60,27 @@ module _ (s : Table) (t m : ℕ) where
   }
     where
       here : seat_at (kernel_after_stop t s.kernel) t ≡ record (seat_at s.kernel t) { status = Stopped }
-      here = get_or-set_same s.kernel.seats t (record (seat_at s.kernel t) { status = Stopped }) no_seat (below t (length s.kernel.seats) g.known)
+      here = get_or-set_same s.kernel.seats t (record (seat_at s.kernel t) { status = Stopped }) no_seat
+          (below t (length s.kernel.seats) g.known)
 
       not_queued : (j : ℕ) → Stopped ≡ Queued j → ⊥
       not_queued j e = cc
 
   -- the owner, as the POSIX machine sees it, has ended
-  lost_seen : (g : Going s t (Lock m) LockStop) (y : Shadow) → (cell_at s m).robust ≡ false → (cell_at s m).word.number ≢ 0 → is_living s.kernel (cell_at s m).word.number ≡ false → is_lost (world_of s y) m ≡ true
+  lost_seen : (g : Going s t (Lock m) LockStop) (y : Shadow) → (cell_at s m).robust ≡ false
+      → (cell_at s m).word.number ≢ 0 → is_living s.kernel (cell_at s m).word.number ≡ false
+      → is_lost (world_of s y) m ≡ true
   lost_seen g y r n e = rw (mutex_seen g.sound.all.shape y m, r, ne_eqb (cell_at s m).word.number 0 n)
       (ap (λ b. if b then false else true) (living_seen s y (cell_at s m).word.number g.sound.all.shape ∙ e))
 
   -- why it may stop is a rule of locking
-  stops : (g : Going s t (Lock m) LockStop) (y : Shadow) → MayStopFor (is_living s.kernel) t (cell_at s m) → Locks t m (world_of s y) (with_progress t Stuck (world_of s y))
-  stops g y (stops_own own normal) = own_normal (owner_seen g y ∙ own) (ap (λ (x : Mutex). x.kind) (mutex_seen g.sound.all.shape y m) ∙ normal) refl
-  stops g y (stops_lost r n e) = lost (λ z. true≢false (sym g.known ∙ ap (is_living s.kernel) (sym (sym (owner_seen g y) ∙ z)) ∙ e)) (λ z. n (sym (owner_seen g y) ∙ z)) (lost_seen g y r n e) refl
+  stops : (g : Going s t (Lock m) LockStop) (y : Shadow) → MayStopFor (is_living s.kernel) t (cell_at s m)
+      → Locks t m (world_of s y) (with_progress t Stuck (world_of s y))
+  stops g y (stops_own own normal) = own_normal (owner_seen g y ∙ own)
+      (ap (λ (x : Mutex). x.kind) (mutex_seen g.sound.all.shape y m) ∙ normal) refl
+  stops g y (stops_lost r n e) = lost (λ z. true≢false (sym g.known
+      ∙ ap (is_living s.kernel) (sym (sym (owner_seen g y) ∙ z)) ∙ e)) (λ z. n (sym (owner_seen g y) ∙ z))
+      (lost_seen g y r n e) refl
 
   -- lock: stop for good
   pub lock_stop_kept : Going s t (Lock m) LockStop → GoKeeps s t (lock_stop (Lock m) t s)
@@ -81,19 +89,27 @@ module _ (s : Table) (t m : ℕ) where
       let c = stop_one g in
       let k = kernel_after_stop t s.kernel in
       subst (Keeps s (Happened (Go t) Waits)) (written_line t m (At (Lock m) LockStopped) k s)
-      (waits_with g (written t m (At (Lock m) LockStopped) (word_at s.words m) (library_at s m).count k s)
-      (called_sound g (going_named g) LockStopped (word_at s.words m) k c) refl (called_known g (going_named g) LockStopped (word_at s.words m) k c) (ap is_ready c.needs.0)
-      (λ y. first (locks g refl y (with_progress t Stuck (world_of s y)) (stops g y (going_met g).1.0)) (none (called_shown g (going_named g) LockStopped (word_at s.words m) k c y Stuck refl))))
+      (waits_with g (table_after_write t m (At (Lock m) LockStopped) (word_at s.words m) (library_at s m).count k s)
+      (called_sound g (going_named g) LockStopped (word_at s.words m) k c) refl
+      (called_known g (going_named g) LockStopped (word_at s.words m) k c) (ap is_ready c.needs.0)
+      (λ y. first (locks g refl y (with_progress t Stuck (world_of s y)) (stops g y (going_met g).1.0))
+      (none (called_shown g (going_named g) LockStopped (word_at s.words m) k c y Stuck refl))))
 
   -- LOCK_PI
 
   -- m is there, and has a word
   word_there : (g : Going s t (Lock m) LockKernel) → has_word s.words m ≡ true
   word_there g = from_within m (length s.words.mutexes) (above_0 m (length s.mutexes) (going_named g))
-      (omega (arith, below m (length s.mutexes) (going_named g), g.sound.all.shape.words, g.sound.all.shape.few_mutexes))
+      (omega (
+        arith,
+        below m (length s.mutexes) (going_named g),
+        g.sound.all.shape.words,
+        g.sound.all.shape.few_mutexes,
+      ))
 
   -- what lock_pi answers where nobody owns m
-  answer_free : (g : Going s t (Lock m) LockKernel) → (cell_at s m).word.number ≡ 0 → lock_answer t m s.words s.kernel ≡ Ok TookOwns
+  answer_free : (g : Going s t (Lock m) LockKernel) → (cell_at s m).word.number ≡ 0
+      → lock_answer t m s.words s.kernel ≡ Ok TookOwns
   unfolding lock_answer
   answer_free g zero = rw (
     word_there g,
@@ -114,9 +130,15 @@ module _ (s : Table) (t m : ℕ) where
 
   -- what it answers where somebody owns m
   answer_owned : (g : Going s t (Lock m) LockKernel) → (cell_at s m).word.number ≢ 0
-      → lock_answer t m s.words s.kernel ≡ (if lives_owner then (if closes then Err Deadlock else Ok TookQueued) else Err NoSuchThread)
+      → lock_answer t m s.words s.kernel ≡ (if lives_owner then (if closes then Err Deadlock else Ok TookQueued)
+      else Err NoSuchThread)
   unfolding lock_answer
-  answer_owned g owned = rw (word_there g, ne_eqb (cell_at s m).word.number t (going_met g).1.0, ne_eqb (cell_at s m).word.number 0 owned, state_agrees (going_cell g (going_named g))) refl
+  answer_owned g owned = rw (
+    word_there g,
+    ne_eqb (cell_at s m).word.number t (going_met g).1.0,
+    ne_eqb (cell_at s m).word.number 0 owned,
+    state_agrees (going_cell g (going_named g)),
+  ) refl
 
   module _ (g : Going s t (Lock m) LockKernel) (owned : (cell_at s m).word.number ≢ 0) where
     -- the owner is another, and there is one, as the POSIX machine sees it
@@ -128,24 +150,32 @@ module _ (s : Table) (t m : ℕ) where
 
     -- a mutex whose owner lives is not lost
     not_lost : (y : Shadow) → lives_owner ≡ true → is_lost (world_of s y) m ≡ false
-    not_lost y l = rw (mutex_seen g.sound.all.shape y m, (going_cell g (going_named g)).stalled, ne_eqb (cell_at s m).word.number 0 owned)
+    not_lost y l = rw (
+      mutex_seen g.sound.all.shape y m,
+      (going_cell g (going_named g)).stalled,
+      ne_eqb (cell_at s m).word.number 0 owned,
+    )
         (ap (λ b. if b then false else true) (living_seen s y (cell_at s m).word.number g.sound.all.shape ∙ l))
 
     -- chains from the owner, as the POSIX machine sees them
     chain_seen : (y : Shadow) → leads_to (world_of s y) (mutex_at (world_of s y) m).owner t ≡ closes
-    chain_seen y = ap (λ n. leads_to (world_of s y) n t) (owner_seen g y) ∙ leads_seen g.sound y (cell_at s m).word.number t
+    chain_seen y = ap (λ n. leads_to (world_of s y) n t) (owner_seen g y)
+        ∙ leads_seen g.sound y (cell_at s m).word.number t
 
     -- where a chain leads back, the lock is refused
     refused : lives_owner ≡ true → closes ≡ true → GoKeeps s t (answers t 35 s)
-    refused l e = answers_alone g (going_named g) 35 (going_met g).0 (λ y. locks g refl y (with_progress t (Has 35) (world_of s y))
+    refused l e = answers_alone g (going_named g) 35 (going_met g).0
+        (λ y. locks g refl y (with_progress t (Has 35) (world_of s y))
         (cycle (other_seen y) (owned_seen y) (not_lost y l) (chain_seen y ∙ e) refl))
 
     -- to queue t is a call in which t goes to where it is queued
     queue_one : lives_owner ≡ true → closes ≡ false
-        → IsOneCall s t (Lock m) LockQueued (mark_word (word_at s.words m)) (kernel_after_queueing t m (word_at s.words m).number s.kernel)
+        → IsOneCall s t (Lock m) LockQueued (mark_word (word_at s.words m))
+        (kernel_after_queueing t m (word_at s.words m).number s.kernel)
     unfolding kernel_after_queueing
     queue_one l e = record {
-      kernel = queueing_kept t m (word_at s.words m).number s.kernel g.sound.kernel g.known (going_met g).0 m0 few l agrees e;
+      kernel = queueing_kept t m (word_at s.words m).number s.kernel g.sound.kernel g.known
+          (going_met g).0 m0 few l agrees e;
       call = queueing_on t m (word_at s.words m).number s.kernel;
       others = λ u d. get_or-set_other s.kernel.seats t u (record (seat_at s.kernel t) { status = Queued m }) no_seat d;
       base = ap (λ x. x.base) here;
@@ -161,7 +191,10 @@ module _ (s : Table) (t m : ℕ) where
         contended = λ z. refl;
       };
       belongs = refl;
-      needs = ((λ z. absurd (not_stopped (sym (ap (λ x. x.status) here) ∙ z))), ((λ r. absurd (true≢false (sym r ∙ ap (λ x. is_ready x.status) here))), tt));
+      needs = (
+        (λ z. absurd (not_stopped (sym (ap (λ x. x.status) here) ∙ z))),
+        ((λ r. absurd (true≢false (sym r ∙ ap (λ x. is_ready x.status) here))), tt),
+      );
       queue = λ j z. record { request = Lock m; line = refl; waits = same j (sym (ap (λ x. x.status) here) ∙ z) };
     }
       where
@@ -172,20 +205,30 @@ module _ (s : Table) (t m : ℕ) where
         m0 = above_0 m (length s.mutexes) (going_named g)
 
         few : m < 1025
-        few = omega (arith, below m (length s.mutexes) (going_named g), g.sound.all.shape.few_mutexes, g.sound.all.shape.within.mutexes)
+        few = omega (
+          arith,
+          below m (length s.mutexes) (going_named g),
+          g.sound.all.shape.few_mutexes,
+          g.sound.all.shape.within.mutexes,
+        )
 
         agrees : state_at s.kernel m ≢ 0 → state_at s.kernel m ≡ (word_at s.words m).number
-        agrees n = by_test (λ b. state_at s.kernel m ≡ (if b then (word_at s.words m).number else 0) → state_at s.kernel m ≡ (word_at s.words m).number) (has_waiter s.kernel.waiters m)
+        agrees n = by_test (λ b. state_at s.kernel m ≡ (if b then (word_at s.words m).number else 0)
+            → state_at s.kernel m ≡ (word_at s.words m).number) (has_waiter s.kernel.waiters m)
             (λ _ z. z) (λ _ z. absurd (n z)) c.state
 
-        here : seat_at (kernel_after_queueing t m (word_at s.words m).number s.kernel) t ≡ record (seat_at s.kernel t) { status = Queued m }
-        here = get_or-set_same s.kernel.seats t (record (seat_at s.kernel t) { status = Queued m }) no_seat (below t (length s.kernel.seats) g.known)
+        here : seat_at (kernel_after_queueing t m (word_at s.words m).number s.kernel) t
+            ≡ record (seat_at s.kernel t) { status = Queued m }
+        here = get_or-set_same s.kernel.seats t (record (seat_at s.kernel t) { status = Queued m }) no_seat
+            (below t (length s.kernel.seats) g.known)
 
         waited : has_waiter (s.kernel.waiters ++ (t, m) ∷ []) m ≡ true
         waited = has_waiter-push s.kernel.waiters t m m ∙ rw (eq-eqb m m refl) (or_true (has_waiter s.kernel.waiters m))
 
-        owner_state : state_at (kernel_after_queueing t m (word_at s.words m).number s.kernel) m ≡ (word_at s.words m).number
-        owner_state = get_or-set_same s.kernel.states m (word_at s.words m).number 0 (subst (λ j. m < j) (sym g.sound.kernel.shape.states) few)
+        owner_state : state_at (kernel_after_queueing t m (word_at s.words m).number s.kernel) m
+            ≡ (word_at s.words m).number
+        owner_state = get_or-set_same s.kernel.states m (word_at s.words m).number 0
+            (subst (λ j. m < j) (sym g.sound.kernel.shape.states) few)
 
         not_stopped : Queued m ≡ Stopped → ⊥
         not_stopped z = cc
@@ -197,7 +240,9 @@ module _ (s : Table) (t m : ℕ) where
     queues : lives_owner ≡ true → closes ≡ false
         → GoKeeps s t (record {
           seen = Waits;
-          after = with_line t (At (Lock m) LockQueued) (with_kernel (set_word s.words m (mark_word (word_at s.words m))) (kernel_after_queueing t m (word_at s.words m).number s.kernel) s);
+          after = with_line t (At (Lock m) LockQueued) (with_kernel
+              (set_word s.words m (mark_word (word_at s.words m)))
+              (kernel_after_queueing t m (word_at s.words m).number s.kernel) s);
         })
     unfolding kernel_after_queueing
     queues l e =
@@ -205,32 +250,47 @@ module _ (s : Table) (t m : ℕ) where
         let k = kernel_after_queueing t m (word_at s.words m).number s.kernel in
         let x = mark_word (word_at s.words m) in
         subst (Keeps s (Happened (Go t) Waits)) (written_word t m (At (Lock m) LockQueued) x k s)
-        (waits_with g (written t m (At (Lock m) LockQueued) x (library_at s m).count k s)
-        (called_sound g (going_named g) LockQueued x k c) refl (called_known g (going_named g) LockQueued x k c) (unready c)
-        (λ y. first (locks g refl y (record (with_progress t Waiting (world_of s y)) { waiters = s.kernel.waiters ++ (t, m) ∷ [] })
+        (waits_with g (table_after_write t m (At (Lock m) LockQueued) x (library_at s m).count k s)
+        (called_sound g (going_named g) LockQueued x k c) refl
+        (called_known g (going_named g) LockQueued x k c) (unready c)
+        (λ y. first (locks g refl y (record (with_progress t Waiting (world_of s y)) {
+          waiters = s.kernel.waiters
+              ++ (t, m) ∷ [];
+        })
         (joins (other_seen y) (owned_seen y) (not_lost y l) (chain_seen y ∙ e) refl))
-        (none (called_shown g (going_named g) LockQueued x k c y Waiting (ap (λ z. progress_at LockQueued z (health_at s m)) (status_here))))))
+        (none (called_shown g (going_named g) LockQueued x k c y Waiting
+        (ap (λ z. progress_at LockQueued z (health_at s m)) (status_here))))))
       where
         status_here : (seat_at (kernel_after_queueing t m (word_at s.words m).number s.kernel) t).status ≡ Queued m
-        status_here = ap (λ x. x.status) (get_or-set_same s.kernel.seats t (record (seat_at s.kernel t) { status = Queued m }) no_seat (below t (length s.kernel.seats) g.known))
+        status_here = ap (λ x. x.status) (get_or-set_same s.kernel.seats t
+            (record (seat_at s.kernel t) { status = Queued m }) no_seat (below t (length s.kernel.seats) g.known))
 
-        unready : IsOneCall s t (Lock m) LockQueued (mark_word (word_at s.words m)) (kernel_after_queueing t m (word_at s.words m).number s.kernel) → is_ready (seat_at (kernel_after_queueing t m (word_at s.words m).number s.kernel) t).status ≡ false
+        unready : IsOneCall s t (Lock m) LockQueued (mark_word (word_at s.words m))
+            (kernel_after_queueing t m (word_at s.words m).number s.kernel)
+            → is_ready (seat_at (kernel_after_queueing t m (word_at s.words m).number s.kernel) t).status ≡ false
         unready c = ap is_ready status_here
 
   -- the line, by its kernel call's answer
   abbrev by_call : Result Took Errno → Outcome
-  by_call r = lock_by r (Lock m) t (with_kernel (words_after_lock t m r s.words) (kernel_after_lock t m r s.words s.kernel) s)
+  by_call r = lock_by r (Lock m) t (with_kernel (words_after_lock t m r s.words)
+      (kernel_after_lock t m r s.words s.kernel) s)
 
   -- lock: the kernel call lock_pi
   pub lock_kernel_kept : Going s t (Lock m) LockKernel → GoKeeps s t (lock_kernel (Lock m) t m s)
   unfolding lock_kernel lock_by words_after_lock kernel_after_lock
   lock_kernel_kept g = go (cases_eq (cell_at s m).word.number 0)
     where
-      by_owner : (owned : (cell_at s m).word.number ≢ 0) → GoKeeps s t (by_call (if lives_owner then (if closes then Err Deadlock else Ok TookQueued) else Err NoSuchThread))
-      by_owner owned = by_test (λ b. GoKeeps s t (by_call (if b then (if closes then Err Deadlock else Ok TookQueued) else Err NoSuchThread))) lives_owner
-          (λ l. by_test (λ b. GoKeeps s t (by_call (if b then Err Deadlock else Ok TookQueued))) closes (λ e. refused g owned l e) (λ e. queues g owned l e))
-          (λ l. goes g (going_named g) LockStop (going_met g).0 refl refl ((going_met g).0, (stops_lost (going_cell g (going_named g)).stalled owned l, tt)))
+      by_owner : (owned : (cell_at s m).word.number ≢ 0)
+          → GoKeeps s t (by_call (if lives_owner then (if closes then Err Deadlock else Ok TookQueued)
+          else Err NoSuchThread))
+      by_owner owned = by_test (λ b. GoKeeps s t (by_call
+          (if b then (if closes then Err Deadlock else Ok TookQueued) else Err NoSuchThread))) lives_owner
+          (λ l. by_test (λ b. GoKeeps s t (by_call (if b then Err Deadlock else Ok TookQueued))) closes
+          (λ e. refused g owned l e) (λ e. queues g owned l e))
+          (λ l. goes g (going_named g) LockStop (going_met g).0 refl refl
+          ((going_met g).0, (stops_lost (going_cell g (going_named g)).stalled owned l, tt)))
 
       go : ((cell_at s m).word.number ≡ 0) ⊎ ((cell_at s m).word.number ≢ 0) → GoKeeps s t (lock_kernel (Lock m) t m s)
-      go (inl zero) = subst (λ r. GoKeeps s t (by_call r)) (sym (answer_free g zero)) (kernel_takes g (going_named g) (going_met g).0 refl (by_lock refl) zero)
+      go (inl zero) = subst (λ r. GoKeeps s t (by_call r)) (sym (answer_free g zero))
+          (kernel_takes g (going_named g) (going_met g).0 refl (by_lock refl) zero)
       go (inr owned) = subst (λ r. GoKeeps s t (by_call r)) (sym (answer_owned g owned)) (by_owner owned)

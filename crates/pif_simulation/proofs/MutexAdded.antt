@@ -62,10 +62,12 @@ module _ (s : Table) (kind : Kind) (h : IsSound s) (free : has_mutex_room s ≡ 
 
   -- the same mutexes are there
   still : (j : ℕ) → j ≢ k → has_mutex v j ≡ has_mutex s j
-  still j d = ap (λ a. if j == 0 then false else nat_lt j a) (length_push s.mutexes (new_mutex kind false)) ∙ more-else j k d
+  still j d = ap (λ a. if j == 0 then false else nat_lt j a) (length_push s.mutexes (new_mutex kind false))
+      ∙ more-else j k d
 
   -- each mutex is sound
-  mutex_more : (j : ℕ) → has_mutex v j ≡ true → (j ≡ k) ⊎ (j ≢ k) → CellIsSound (has_thread v) (has_waiter v.kernel.waiters j) (cell_at v j)
+  mutex_more : (j : ℕ) → has_mutex v j ≡ true → (j ≡ k) ⊎ (j ≢ k)
+      → CellIsSound (has_thread v) (has_waiter v.kernel.waiters j) (cell_at v j)
   mutex_more j e (inl q) = subst (λ a. CellIsSound (has_thread v) (has_waiter v.kernel.waiters a) (cell_at v a)) (sym q)
       (subst (CellIsSound (has_thread v) (has_waiter v.kernel.waiters k)) (sym cell_new) (record {
         stalled = refl;
@@ -76,10 +78,13 @@ module _ (s : Table) (kind : Kind) (h : IsSound s) (free : has_mutex_room s ≡ 
         state = sym (ap (λ b. if b then 0 else 0) unmade.1);
         contended = λ w. absurd (true≢false (sym w ∙ unmade.1));
       }))
-  mutex_more j e (inr d) = cell_spared (has_thread s) (has_thread v) (has_waiter s.kernel.waiters j) (has_waiter s.kernel.waiters j) (cell_at s j) (cell_at v j) (λ u i. i) refl (cell_else j d) (h.all.mutexes j (sym (still j d) ∙ e))
+  mutex_more j e (inr d) = cell_spared (has_thread s) (has_thread v) (has_waiter s.kernel.waiters j)
+      (has_waiter s.kernel.waiters j) (cell_at s j) (cell_at v j) (λ u i. i) refl (cell_else j d)
+      (h.all.mutexes j (sym (still j d) ∙ e))
 
   -- those that were added are still there, and spare everybody
-  spares_more : (u j : ℕ) → has_mutex s j ≡ true → (has_mutex v j ≡ true) × Spares (is_living s.kernel) (is_living v.kernel) u (cell_at s j) (cell_at v j)
+  spares_more : (u j : ℕ) → has_mutex s j ≡ true → (has_mutex v j ≡ true)
+      × Spares (is_living s.kernel) (is_living v.kernel) u (cell_at s j) (cell_at v j)
   spares_more u j e =
       let d : j ≢ k = (λ q. omega (arith, below j k e, q)) in
       (still j d ∙ e, unwritten (is_living s.kernel) u (cell_at s j) (cell_at v j) (cell_else j d))
@@ -120,9 +125,14 @@ module _ (s : Table) (kind : Kind) (h : IsSound s) (free : has_mutex_room s ≡ 
   abbrev new_one : Mutex
   new_one = record { kind = kind; robust = false; owner = 0; count = 1; health = Fine }
 
-  pub mutex_added_seen : (y : Shadow) → world_of v y ≡ record (world_of s y) { mutexes = (world_of s y).mutexes ++ new_one ∷ [] }
-  mutex_added_seen y = same_world (world_of v y) (record (world_of s y) { mutexes = (world_of s y).mutexes ++ new_one ∷ [] }) refl (λ u. refl)
-      (mutexes_shown shape_more y ∙ length_push s.mutexes (new_mutex kind false) ∙ sym (length_push (world_of s y).mutexes new_one ∙ ap (λ j. j + 1) long))
+  pub mutex_added_seen : (y : Shadow) → world_of v y
+      ≡ record (world_of s y) { mutexes = (world_of s y).mutexes ++ new_one ∷ [] }
+  mutex_added_seen y = same_world (world_of v y) (record (world_of s y) {
+    mutexes = (world_of s y).mutexes
+        ++ new_one ∷ [];
+  }) refl (λ u. refl)
+      (mutexes_shown shape_more y ∙ length_push s.mutexes (new_mutex kind false)
+      ∙ sym (length_push (world_of s y).mutexes new_one ∙ ap (λ j. j + 1) long))
       (λ j. mutex_seen shape_more y j ∙ each j (cases_eq j k)) refl
     where
       long : length (world_of s y).mutexes ≡ k
@@ -131,12 +141,18 @@ module _ (s : Table) (kind : Kind) (h : IsSound s) (free : has_mutex_room s ≡ 
       each : (j : ℕ) → (j ≡ k) ⊎ (j ≢ k) → mutex_shown v j ≡ get_or ((world_of s y).mutexes ++ new_one ∷ []) j no_mutex
       each j (inl e) = subst (λ a. mutex_shown v a ≡ get_or ((world_of s y).mutexes ++ new_one ∷ []) a no_mutex) (sym e)
           (ap mutex_of cell_new ∙ sym (get_or_push (world_of s y).mutexes new_one no_mutex k long))
-      each j (inr d) = ap mutex_of (cell_else j d) ∙ sym (pushed_else (world_of s y).mutexes new_one no_mutex j (λ e. d (e ∙ long)) ∙ mutex_seen h.all.shape y j)
+      each j (inr d) = ap mutex_of (cell_else j d)
+          ∙ sym (pushed_else (world_of s y).mutexes new_one no_mutex j (λ e. d (e ∙ long)) ∙ mutex_seen h.all.shape y j)
 
   -- to add a mutex is an entry of the POSIX machine, and keeps the invariant
   pub mutex_added_kept : Keeps s (AddMutex k kind false) v
   mutex_added_kept = record {
     sound = mutex_added_sound;
     limits = refl;
-    shows = λ y a. (y, agrees_on s v y a, mutex_rule k kind false refl (sym (mutexes_shown h.all.shape y)) (room k s.limits.mutexes free) (mutex_added_seen y));
+    shows = λ y a. (
+      y,
+      agrees_on s v y a,
+      mutex_rule k kind false refl (sym (mutexes_shown h.all.shape y))
+          (room k s.limits.mutexes free) (mutex_added_seen y),
+    );
   }

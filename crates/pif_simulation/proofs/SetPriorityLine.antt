@@ -25,8 +25,8 @@ use Rattle.pif_chains.proofs.Waiting.{by_test}
 use Rattle.pif_chains.proofs.Numbers.{above_0, below}
 use Rattle.pif_chains.proofs.KernelKept.{set_prio_kept}
 use Rattle.pif_simulation.proofs.Hole.{change_kept, excuse_one, admit_last}
-use Rattle.pif_simulation.proofs.Shown.{threads_shown, mutexes_shown, thread_seen, mutex_seen, living_seen, closed, closed_progressed, call_progressed}
-use Rattle.pif_simulation.proofs.Written.{written, written_line, mutex_of, IsCallOn, changes, no_call, line_here, call_shown, thread_here, thread_there, shows}
+use Rattle.pif_simulation.proofs.Shown.{threads_shown, mutexes_shown, thread_seen, mutex_seen, living_seen, with_call_closed, with_call_closed-with_progress, call_progressed}
+use Rattle.pif_simulation.proofs.Written.{table_after_write, written_line, mutex_of, IsCallOn, changes, no_call, line_here, call_shown, thread_here, thread_there, shows}
 use Rattle.pif_simulation.proofs.Steps.{Keeps, GoKeeps, Going, going_met, going_called, going_lined, going_below, answers_with}
 use Rattle.pif_simulation.proofs.Local.{ready-not_queued}
 
@@ -42,16 +42,27 @@ module _ (s : Table) (t u p : ℕ) (g : Going s t (SetPrio u p) SetPriority) whe
 
   -- the table in which t's call is closed over this kernel
   abbrev v : Kernel → Table
-  v k = written t 0 Idle (word_at s.words 0) (library_at s 0).count k s
+  v k = table_after_write t 0 Idle (word_at s.words 0) (library_at s 0).count k s
 
   -- whatever the kernel's base priorities are then, it is sound
-  closed_sound : (k : Kernel) → IsKernel k → IsCallOn (λ j. j ≡ t) s.kernel k 0 → status_at (v k) t ≡ status_at s t → IsSound (v k)
+  closed_sound : (k : Kernel) → IsKernel k → IsCallOn (λ j. j ≡ t) s.kernel k 0
+      → status_at (v k) t ≡ status_at s t → IsSound (v k)
   closed_sound k kernel call same = record {
     all = admit_last (change_kept (excuse_one g.sound t)
-        (changes s t 0 Idle (word_at s.words 0) (library_at s 0).count k t0 (going_lined g) ml g.sound.all.shape refl call (λ e. (g.sound.all.shape.no_word, refl)) (λ e. absurd (true≢false (sym e)))
-        (λ j a d. record { kind = refl; robust = refl; owner = λ o. o; other = λ o. o; count = λ o. refl; ended = λ z l. (refl, l) })))
+        (changes s t 0 Idle (word_at s.words 0) (library_at s 0).count k t0
+        (going_lined g) ml g.sound.all.shape refl call (λ e. (g.sound.all.shape.no_word, refl))
+        (λ e. absurd (true≢false (sym e)))
+        (λ j a d. record {
+          kind = refl;
+          robust = refl;
+          owner = λ o. o;
+          other = λ o. o;
+          count = λ o. refl;
+          ended = λ z l. (refl, l);
+        })))
         (record {
-          line = subst (LineIsSound (v k) t) (sym (line_here s t 0 Idle (word_at s.words 0) (library_at s 0).count k t0 (going_lined g) ml g.sound.all.shape)) (ap is_ready same ∙ ready);
+          line = subst (LineIsSound (v k) t) (sym (line_here s t 0 Idle (word_at s.words 0)
+              (library_at s 0).count k t0 (going_lined g) ml g.sound.all.shape)) (ap is_ready same ∙ ready);
           queue = λ j e. absurd (ready-not_queued (status_at s t) j ready (sym same ∙ e));
         });
     kernel = kernel;
@@ -62,16 +73,18 @@ module _ (s : Table) (t u p : ℕ) (g : Going s t (SetPrio u p) SetPriority) whe
   by_call r = answered_by r t (with_kernel s.words (kernel_after_set_prio u p r s.kernel) s)
 
   -- to answer n and leave the kernel, where that is an effect
-  refuses : (n : ℕ) → ((y : Shadow) → SetsPriority t u p (world_of s y) (with_progress t (Has n) (world_of s y))) → GoKeeps s t (answers t n s)
+  refuses : (n : ℕ) → ((y : Shadow) → SetsPriority t u p (world_of s y) (with_progress t (Has n) (world_of s y)))
+      → GoKeeps s t (answers t n s)
   refuses n rule =
       let sound = closed_sound s.kernel g.sound.kernel (no_call (λ j. j ≡ t) s.kernel 0) refl in
       subst (Keeps s (Happened (Go t) (Answered n))) (written_line t 0 Idle s.kernel s)
       (answers_with g (v s.kernel) n (λ y. with_progress t (Has n) (world_of s y)) sound refl g.known ready
       (λ y. first (set_prio u p (going_called g y) (rule y)) (none refl))
       (λ y. call_progressed (world_of s y) t (Has n) _ (going_below g y) (going_called g y))
-      (λ y. call_shown s t 0 Idle (word_at s.words 0) (library_at s 0).count s.kernel t0 (going_lined g) ml g.sound.all.shape y None sound.all.shape refl refl (λ j d. refl) refl refl
+      (λ y. call_shown s t 0 Idle (word_at s.words 0) (library_at s 0).count s.kernel t0
+      (going_lined g) ml g.sound.all.shape y None sound.all.shape refl refl (λ j d. refl) refl refl
       ∙ (λ i. with_thread t (record (thread_at (world_of s y) t) { call = None }) (stays y i))
-      ∙ sym (closed_progressed (world_of s y) t (Has n) (going_below g y))))
+      ∙ sym (with_call_closed-with_progress (world_of s y) t (Has n) (going_below g y))))
     where
       stays : (y : Shadow) → with_mutex 0 (mutex_of (cell_at s 0)) (world_of s y) ≡ world_of s y
       stays y =
@@ -87,7 +100,8 @@ module _ (s : Table) (t u p : ℕ) (g : Going s t (SetPrio u p) SetPriority) whe
   -- what it knows of the thread, and of the others
   seat_u : is_living s.kernel u ≡ true → seat_at k u ≡ record (seat_at s.kernel u) { base = p }
   unfolding kernel_after_set_prio
-  seat_u l = get_or-set_same s.kernel.seats u (record (seat_at s.kernel u) { base = p }) no_seat (below u (length s.kernel.seats) l)
+  seat_u l = get_or-set_same s.kernel.seats u (record (seat_at s.kernel u) { base = p }) no_seat
+      (below u (length s.kernel.seats) l)
 
   seat_else : (j : ℕ) → j ≢ u → seat_at k j ≡ seat_at s.kernel j
   unfolding kernel_after_set_prio
@@ -98,7 +112,8 @@ module _ (s : Table) (t u p : ℕ) (g : Going s t (SetPrio u p) SetPriority) whe
   status_same l j = go (cases_eq j u)
     where
       go : (j ≡ u) ⊎ (j ≢ u) → (seat_at k j).status ≡ (seat_at s.kernel j).status
-      go (inl e) = subst (λ i. (seat_at k i).status ≡ (seat_at s.kernel i).status) (sym e) (ap (λ (x : Seat). x.status) (seat_u l))
+      go (inl e) = subst (λ i. (seat_at k i).status ≡ (seat_at s.kernel i).status) (sym e)
+          (ap (λ (x : Seat). x.status) (seat_u l))
       go (inr d) = ap (λ (x : Seat). x.status) (seat_else j d)
 
   -- it is a call by which nobody's status changes
@@ -125,26 +140,44 @@ module _ (s : Table) (t u p : ℕ) (g : Going s t (SetPrio u p) SetPriority) whe
     rebased j = go (cases_eq j u)
       where
         uw : u < length w.threads
-        uw = subst (λ i. u < i) (sym (threads_shown g.sound.all.shape y ∙ g.sound.all.shape.lines)) (below u (length s.kernel.seats) l)
+        uw = subst (λ i. u < i) (sym (threads_shown g.sound.all.shape y ∙ g.sound.all.shape.lines))
+            (below u (length s.kernel.seats) l)
 
         go : (j ≡ u) ⊎ (j ≢ u) → thread_at (with_base u p w) j ≡ record (thread_shown s j) { base = (seat_at k j).base }
-        go (inl e) = subst (λ i. thread_at (with_base u p w) i ≡ record (thread_shown s i) { base = (seat_at k i).base }) (sym e)
-            (get_or-set_same w.threads u (record (thread_at w u) { base = p }) nobody uw ∙ (λ i. record (thread_seen g.sound.all.shape y u i) { base = (sym (seat_u l) i).base }))
-        go (inr d) = get_or-set_other w.threads u j (record (thread_at w u) { base = p }) nobody d ∙ thread_seen g.sound.all.shape y j
+        go (inl e) = subst (λ i. thread_at (with_base u p w) i
+            ≡ record (thread_shown s i) { base = (seat_at k i).base }) (sym e)
+            (get_or-set_same w.threads u (record (thread_at w u) { base = p }) nobody uw
+            ∙ (λ i. record (thread_seen g.sound.all.shape y u i) { base = (sym (seat_u l) i).base }))
+        go (inr d) = get_or-set_other w.threads u j (record (thread_at w u) { base = p }) nobody d
+            ∙ thread_seen g.sound.all.shape y j
             ∙ (λ i. record (thread_shown s j) { base = (sym (seat_else j d) i).base })
 
     -- the world that the table shows
-    rebased_shown : IsSound (v k) → world_of (v k) y ≡ closed t (with_base u p w)
+    rebased_shown : IsSound (v k) → world_of (v k) y ≡ with_call_closed t (with_base u p w)
     rebased_shown sound =
         let r : Thread = record (thread_at (with_base u p w) t) { call = None } in
         let long = length-set w.threads u (record (thread_at w u) { base = p }) in
-        shows s t 0 Idle (word_at s.words 0) (library_at s 0).count k t0 (going_lined g) ml g.sound.all.shape y (closed t (with_base u p w)) sound.all.shape
-        (length-set (with_base u p w).threads t r ∙ long ∙ threads_shown g.sound.all.shape y) (mutexes_shown g.sound.all.shape y) waiters_same
-        (thread_here s t 0 Idle (word_at s.words 0) (library_at s 0).count k t0 (going_lined g) ml g.sound.all.shape refl
-        ∙ (λ i. record { base = (seat_at k t).base; living = if t == 0 then false else nat_lt t ((call l).seats i); call = None })
-        ∙ sym (get_or-set_same (with_base u p w).threads t r nobody (subst (λ j. t < j) (sym long) (going_below g y)) ∙ (λ i. record (rebased t i) { call = None })))
-        (λ j d. thread_there s t 0 Idle (word_at s.words 0) (library_at s 0).count k t0 (going_lined g) ml g.sound.all.shape refl (call l).seats j d
-        ∙ (λ i. record { base = (seat_at k j).base; living = is_living s.kernel j; call = call_at (health_at s) (line_at s j) (status_same l j i) })
+        shows s t 0 Idle (word_at s.words 0) (library_at s 0).count k t0 (going_lined g) ml g.sound.all.shape y
+        (with_call_closed t (with_base u p w)) sound.all.shape
+        (length-set (with_base u p w).threads t r ∙ long ∙ threads_shown g.sound.all.shape y)
+        (mutexes_shown g.sound.all.shape y) waiters_same
+        (thread_here s t 0 Idle (word_at s.words 0) (library_at s 0).count k t0
+        (going_lined g) ml g.sound.all.shape refl
+        ∙ (λ i. record {
+          base = (seat_at k t).base;
+          living = if t == 0 then false
+              else nat_lt t ((call l).seats i);
+          call = None;
+        })
+        ∙ sym (get_or-set_same (with_base u p w).threads t r nobody (subst (λ j. t < j) (sym long) (going_below g y))
+        ∙ (λ i. record (rebased t i) { call = None })))
+        (λ j d. thread_there s t 0 Idle (word_at s.words 0) (library_at s 0).count k t0
+        (going_lined g) ml g.sound.all.shape refl (call l).seats j d
+        ∙ (λ i. record {
+          base = (seat_at k j).base;
+          living = is_living s.kernel j;
+          call = call_at (health_at s) (line_at s j) (status_same l j i);
+        })
         ∙ sym (get_or-set_other (with_base u p w).threads t j r nobody d ∙ rebased j))
         (sym (mutex_seen g.sound.all.shape y 0))
         (λ j d. sym (mutex_seen g.sound.all.shape y j))
@@ -154,13 +187,19 @@ module _ (s : Table) (t u p : ℕ) (g : Going s t (SetPrio u p) SetPriority) whe
   changes_it prio l =
       let sound = closed_sound k (set_prio_kept u p s.kernel g.sound.kernel prio l) (call l) (status_same l t) in
       subst (Keeps s (Happened (Go t) (Answered 0))) (written_line t 0 Idle k s)
-      (answers_with g (v k) 0 (λ y. with_progress t (Has 0) (with_base u p (world_of s y))) sound limits known (ap is_ready (status_same l t) ∙ ready)
-      (λ y. first (set_prio u p (going_called g y) (changed prio (living_seen s y u g.sound.all.shape ∙ l) refl)) (none refl))
-      (λ y. call_progressed (with_base u p (world_of s y)) t (Has 0) _ (tw y) (ap (λ (x : Thread). x.call) (rebased l y t) ∙ sym (ap (λ (x : Thread). x.call) (thread_seen g.sound.all.shape y t)) ∙ going_called g y))
-      (λ y. rebased_shown l y sound ∙ sym (closed_progressed (with_base u p (world_of s y)) t (Has 0) (tw y))))
+      (answers_with g (v k) 0 (λ y. with_progress t (Has 0) (with_base u p (world_of s y))) sound limits known
+      (ap is_ready (status_same l t) ∙ ready)
+      (λ y. first (set_prio u p (going_called g y) (changed prio (living_seen s y u g.sound.all.shape ∙ l) refl))
+      (none refl))
+      (λ y. call_progressed (with_base u p (world_of s y)) t (Has 0) _ (tw y)
+      (ap (λ (x : Thread). x.call) (rebased l y t)
+      ∙ sym (ap (λ (x : Thread). x.call) (thread_seen g.sound.all.shape y t)) ∙ going_called g y))
+      (λ y. rebased_shown l y sound ∙ sym (with_call_closed-with_progress
+      (with_base u p (world_of s y)) t (Has 0) (tw y))))
     where
       tw : (y : Shadow) → t < length (with_base u p (world_of s y)).threads
-      tw y = subst (λ j. t < j) (sym (length-set (world_of s y).threads u (record (thread_at (world_of s y) u) { base = p }))) (going_below g y)
+      tw y = subst (λ j. t < j) (sym (length-set (world_of s y).threads u
+          (record (thread_at (world_of s y) u) { base = p }))) (going_below g y)
 
       limits : (v k).limits ≡ s.limits
       limits = refl
@@ -171,7 +210,8 @@ module _ (s : Table) (t u p : ℕ) (g : Going s t (SetPrio u p) SetPriority) whe
   -- setprio: the kernel call set_prio
   pub set_priority_kept : GoKeeps s t (set_priority t u p s)
   unfolding set_priority answered_by set_prio_answer kernel_after_set_prio
-  set_priority_kept = by_test (λ b. GoKeeps s t (by_call (if b then (if is_living s.kernel u then Ok (record {}) else Err NoSuchThread) else Err Invalid))) (is_priority p)
+  set_priority_kept = by_test (λ b. GoKeeps s t (by_call
+      (if b then (if is_living s.kernel u then Ok (record {}) else Err NoSuchThread) else Err Invalid))) (is_priority p)
       (λ e. by_test (λ b. GoKeeps s t (by_call (if b then Ok (record {}) else Err NoSuchThread))) (is_living s.kernel u)
       (λ l. changes_it e l)
       (λ l. refuses 3 (λ y. not_living e (living_seen s y u g.sound.all.shape ∙ l) refl)))

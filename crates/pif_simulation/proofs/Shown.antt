@@ -9,7 +9,7 @@ use Rattle.pif_model.specs.declared.events.Event.TheVariants.{Begin, Go}
 use Rattle.pif_model.specs.declared.lines.Line.{Line}
 use Rattle.pif_model.specs.declared.lines.Line.TheVariants.{Idle, At}
 use Rattle.pif_model.specs.Refusals.{begin_refused, go_refused}
-use Rattle.pif_model.specs.Posix.{Progress, Call, Thread, World, nobody, no_mutex, thread_at, mutex_at, is_thread, is_mutex, with_thread, with_progress, progressed, refusal_of, names_known}
+use Rattle.pif_model.specs.Posix.{Progress, Call, Thread, World, nobody, no_mutex, thread_at, mutex_at, is_thread, is_mutex, with_thread, with_progress, call_at_progress, refusal_of, names_known}
 use Rattle.pif_model.specs.Posix.{is_living as lives}
 use Rattle.pif_model.specs.PiKernel.{is_living}
 use Rattle.pif_model.specs.Table.{Table, has_thread, has_mutex, status_at, line_at}
@@ -28,18 +28,22 @@ length-places (suc n) = length_push (places n) n ∙ (let e = length-places n in
 pub place_at : {A : Type 0} (f : ℕ → A) (n i : ℕ) (d : A) → i < n → get_or (map f (places n)) i d ≡ f i
 unfolding places
 place_at f zero i d h = absurd (omega arith)
-place_at {A = A} f (suc n) i d h = ap (λ (l : List A). get_or l i d) (map-append f (places n) (n ∷ [])) ∙ go (λ l. place_at f n i d l) (cases_lt i n)
+place_at {A = A} f (suc n) i d h = ap (λ (l : List A). get_or l i d) (map-append f (places n) (n ∷ []))
+    ∙ go (λ l. place_at f n i d l) (cases_lt i n)
   where
     long : length (map f (places n)) ≡ n
     long = length-map (places n) f ∙ length-places n
 
-    go : (i < n → get_or (map f (places n)) i d ≡ f i) → (i < n) ⊎ (n ≤ i) → get_or (map f (places n) ++ f n ∷ []) i d ≡ f i
+    go : (i < n → get_or (map f (places n)) i d ≡ f i) → (i < n) ⊎ (n ≤ i)
+        → get_or (map f (places n) ++ f n ∷ []) i d ≡ f i
     go before (inl l) = get_or_append_left (map f (places n)) (f n ∷ []) d i (omega (arith, long)) ∙ before l
     go before (inr m) = let e : n ≡ i = omega arith in get_or_push (map f (places n)) (f n) d i (long ∙ e) ∙ ap f e
 
 -- a list is made place by place of what stands in it
-pub by_places : {A : Type 0} (f : ℕ → A) (n : ℕ) (xs : List A) (d : A) → length xs ≡ n → ((i : ℕ) → i < n → f i ≡ get_or xs i d) → map f (places n) ≡ xs
-by_places f n xs d e h = ext_get_or d (map f (places n)) xs (long ∙ sym e) (λ i k. (let k' : i < n = omega (arith, long) in place_at f n i d k' ∙ h i k'))
+pub by_places : {A : Type 0} (f : ℕ → A) (n : ℕ) (xs : List A) (d : A) → length xs ≡ n
+    → ((i : ℕ) → i < n → f i ≡ get_or xs i d) → map f (places n) ≡ xs
+by_places f n xs d e h = ext_get_or d (map f (places n)) xs (long ∙ sym e)
+    (λ i k. (let k' : i < n = omega (arith, long) in place_at f n i d k' ∙ h i k'))
   where
     long : length (map f (places n)) ≡ n
     long = length-map (places n) f ∙ length-places n
@@ -72,10 +76,15 @@ module _ {s : Table} (shape : IsShaped s) where
   -- behind the last thread there is nobody
   past_threads : (t : ℕ) → length s.lines ≤ t → thread_shown s t ≡ nobody
   past_threads t h =
-      rw (get_or_past s.lines t Idle h, get_or_past s.kernel.seats t _ (subst (λ n. n ≤ t) shape.lines h), gone) refl
+      rw (
+        get_or_past s.lines t Idle h,
+        get_or_past s.kernel.seats t _ (subst (λ n. n ≤ t) shape.lines h),
+        past_none,
+      ) refl
     where
-      gone : (if t == 0 then false else nat_lt t (length s.kernel.seats)) ≡ false
-      gone = ap (λ b. if t == 0 then false else b) (le-ltb t (length s.kernel.seats) (subst (λ n. n ≤ t) shape.lines h)) ∙ either (t == 0)
+      past_none : (if t == 0 then false else nat_lt t (length s.kernel.seats)) ≡ false
+      past_none = ap (λ b. if t == 0 then false else b) (le-ltb t (length s.kernel.seats)
+          (subst (λ n. n ≤ t) shape.lines h)) ∙ either (t == 0)
 
   -- the POSIX machine sees the thread that the table shows
   pub thread_seen : (x : Shadow) (t : ℕ) → thread_at (world_of s x) t ≡ thread_shown s t
@@ -95,7 +104,8 @@ module _ {s : Table} (shape : IsShaped s) where
     where
       go : (m < length s.mutexes) ⊎ (length s.mutexes ≤ m) → mutex_at (world_of s x) m ≡ mutex_shown s m
       go (inl l) = place_at (mutex_shown s) (length s.mutexes) m no_mutex l
-      go (inr k) = get_or_past (world_of s x).mutexes m no_mutex (omega (arith, mutexes_shown x)) ∙ sym (past_mutexes m k)
+      go (inr k) = get_or_past (world_of s x).mutexes m no_mutex (omega (arith, mutexes_shown x))
+          ∙ sym (past_mutexes m k)
 
   -- both machines have the same threads
   pub is_thread_seen : (x : Shadow) (t : ℕ) → is_thread (world_of s x) t ≡ has_thread s t
@@ -106,8 +116,10 @@ module _ {s : Table} (shape : IsShaped s) where
   is_mutex_seen x m = ap (λ n. if m == 0 then false else nat_lt m n) (mutexes_shown x)
 
   -- the call that the POSIX machine sees is the line's
-  pub call_seen : (x : Shadow) (t : ℕ) (l : Line) → line_at s t ≡ l → (thread_at (world_of s x) t).call ≡ call_at (health_at s) l (status_at s t)
-  call_seen x t l e = ap (λ (y : Thread). y.call) (thread_seen x t) ∙ ap (λ k. call_at (health_at s) k (status_at s t)) e
+  pub call_seen : (x : Shadow) (t : ℕ) (l : Line) → line_at s t ≡ l
+      → (thread_at (world_of s x) t).call ≡ call_at (health_at s) l (status_at s t)
+  call_seen x t l e = ap (λ (y : Thread). y.call) (thread_seen x t)
+      ∙ ap (λ k. call_at (health_at s) k (status_at s t)) e
 
   -- REFUSALS
 
@@ -142,7 +154,8 @@ go_allowed true false e = absurd (cc)
 go_allowed false busy e = absurd (cc)
 
 -- a Begin that is not refused: the thread is there, with no call open, and the mutex is there
-pub begin_allowed : (known busy named : Bool) → begin_refused known busy named ≡ None → (known ≡ true) × (busy ≡ false) × (named ≡ true)
+pub begin_allowed : (known busy named : Bool) → begin_refused known busy named ≡ None
+    → (known ≡ true) × (busy ≡ false) × (named ≡ true)
 begin_allowed true false true e = (refl, refl, refl)
 begin_allowed true false false e = absurd (cc)
 begin_allowed true true named e = absurd (cc)
@@ -159,18 +172,21 @@ pub thread_changed_twice : (w : World) (t : ℕ) (x y : Thread) → with_thread 
 thread_changed_twice w t x y = λ i. record w { threads = set-set w.threads t x y i }
 
 -- the state once t's call is closed
-abbrev pub closed : ℕ → World → World
-closed t u = with_thread t (record (thread_at u t) { call = None }) u
+abbrev pub with_call_closed : ℕ → World → World
+with_call_closed t u = with_thread t (record (thread_at u t) { call = None }) u
 
 -- a call that has come far is closed like any other
-pub closed_progressed : (w : World) (t : ℕ) (p : Progress) → t < length w.threads → closed t (with_progress t p w) ≡ closed t w
-closed_progressed w t p h =
-    let x : Thread = record (thread_at w t) { call = progressed p (thread_at w t).call } in
+pub with_call_closed-with_progress : (w : World) (t : ℕ) (p : Progress) → t < length w.threads
+    → with_call_closed t (with_progress t p w) ≡ with_call_closed t w
+with_call_closed-with_progress w t p h =
+    let x : Thread = record (thread_at w t) { call = call_at_progress p (thread_at w t).call } in
     ap (λ (y : Thread). with_thread t (record y { call = None }) (with_thread t x w)) (thread_changed w t x h)
     ∙ thread_changed_twice w t x (record (thread_at w t) { call = None })
 
 -- the call of a thread that has come far
-pub call_progressed : (w : World) (t : ℕ) (p : Progress) (c : Call) → t < length w.threads → (thread_at w t).call ≡ Some c → (thread_at (with_progress t p w) t).call ≡ Some (record c { progress = p })
+pub call_progressed : (w : World) (t : ℕ) (p : Progress) (c : Call) → t < length w.threads
+    → (thread_at w t).call ≡ Some c → (thread_at (with_progress t p w) t).call ≡ Some (record c { progress = p })
 call_progressed w t p c h e =
-    ap (λ (y : Thread). y.call) (thread_changed w t (record (thread_at w t) { call = progressed p (thread_at w t).call }) h)
-    ∙ ap (progressed p) e
+    ap (λ (y : Thread). y.call) (thread_changed w t
+    (record (thread_at w t) { call = call_at_progress p (thread_at w t).call }) h)
+    ∙ ap (call_at_progress p) e

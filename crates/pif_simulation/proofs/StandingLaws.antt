@@ -19,7 +19,13 @@ use Rattle.pif_simulation.proofs.Steps.{Keeps}
 
 -- a core to which nothing was added stands after the empty history
 pub new_stands : (l : Bounds) → IsWithin l → Stands (new_table l) [] [] empty_world
-new_stands l within = record { shadow = no_shadow; agrees = record {}; shows = sym (new_seen l within); run = start refl; sound = new_sound l within }
+new_stands l within = record {
+  shadow = no_shadow;
+  agrees = record {};
+  shows = sym (new_seen l within);
+  run = start refl;
+  sound = new_sound l within;
+}
 
 -- a core that stands stands after an entry by which its table changes so
 after_entry : {s v : Table} {e : Entry} {h : List Entry} {r : List World} {w : World} → Stands s h r w → Keeps s e v
@@ -31,7 +37,8 @@ after_entry {s} {v} {e} {h} {r} {w} k p =
         shadow = y.0;
         agrees = y.1;
         shows = refl;
-        run = subst (λ l. IsRun l (e ∷ h) (w ∷ r) (world_of v y.0)) (sym p.limits) (next k.run (subst (λ a. Step s.limits a e (world_of v y.0)) (sym k.shows) y.2));
+        run = subst (λ l. IsRun l (e ∷ h) (w ∷ r) (world_of v y.0)) (sym p.limits)
+            (next k.run (subst (λ a. Step s.limits a e (world_of v y.0)) (sym k.shows) y.2));
         sound = p.sound;
       },
     )
@@ -42,11 +49,13 @@ pub event_stands : (s : Table) (e : Event) (h : List Entry) (r : List World) (w 
 event_stands s e h r w k = after_entry k (event_kept s e k.sound)
 
 -- a core that stands stands after a thread was added
-pub thread_added_stands : (s : Table) (p : ℕ) (h : List Entry) (r : List World) (w : World) → Stands s h r w → has_thread_room s ≡ true → is_priority p ≡ true
+pub thread_added_stands : (s : Table) (p : ℕ) (h : List Entry) (r : List World) (w : World) → Stands s h r w
+    → has_thread_room s ≡ true → is_priority p ≡ true
     → (v : World) × Stands (thread_added p s) (AddThread (length s.lines) p ∷ h) (w ∷ r) v
 thread_added_stands s p h r w k room prio = after_entry k (thread_added_kept s p k.sound room prio)
 
 -- a core that stands stands after a mutex was added
-pub mutex_added_stands : (s : Table) (k : Kind) (h : List Entry) (r : List World) (w : World) → Stands s h r w → has_mutex_room s ≡ true
+pub mutex_added_stands : (s : Table) (k : Kind) (h : List Entry) (r : List World) (w : World) → Stands s h r w
+    → has_mutex_room s ≡ true
     → (v : World) × Stands (mutex_added k false s) (AddMutex (length s.mutexes) k false ∷ h) (w ∷ r) v
 mutex_added_stands s k h r w st room = after_entry st (mutex_added_kept s k st.sound room)

@@ -23,7 +23,7 @@ use Rattle.pif_chains.proofs.Waiting.{by_test, names, named-from_pair}
 use Rattle.pif_chains.proofs.KernelFacts.{unnamed-from_ready}
 use Rattle.pif_chains.proofs.Numbers.{below}
 use Rattle.pif_simulation.proofs.Hole.{each_thread}
-use Rattle.pif_simulation.proofs.Shown.{threads_shown, call_seen, refusal_seen, closed}
+use Rattle.pif_simulation.proofs.Shown.{threads_shown, call_seen, refusal_seen, with_call_closed}
 
 -- v follows s by this entry: it is sound, both have the same limits, and what they show, with a shadow that agrees with
 -- s and a next one that agrees with v, is a step of the POSIX machine
@@ -55,10 +55,12 @@ ready_not_stopped (Queued m) e = refl
 ready_not_stopped Stopped e = absurd (true≢false (sym e))
 
 -- an open call is stuck where its thread is stopped
-place_stuck : (health : ℕ → Health) (l : ℕ → Bool) (t : ℕ) (q : Request) (x : Status) (c : Cell) (p : Place) → MeetsAll l t x c (needs p) → is_stuck (call_at health (At q p) x) ≡ is_stopped x
+place_stuck : (health : ℕ → Health) (l : ℕ → Bool) (t : ℕ) (q : Request) (x : Status) (c : Cell) (p : Place)
+    → MeetsAll l t x c (needs p) → is_stuck (call_at health (At q p) x) ≡ is_stopped x
 place_stuck health l t q (Ready w) c LockQueued h = taking (health (named_by q))
   where
-    taking : (y : Health) → is_stuck (Some (record { request = q; progress = progress_at LockQueued (Ready w) y })) ≡ false
+    taking : (y : Health) → is_stuck (Some (record { request = q; progress = progress_at LockQueued (Ready w) y }))
+        ≡ false
     taking Health.Fine = refl
     taking Health.Inconsistent = refl
     taking Health.Unusable = refl
@@ -68,27 +70,39 @@ place_stuck health l t q x c LockStopped h = ap is_stopped (sym h.0)
 place_stuck health l t q x c _ h = sym (ready_not_stopped x h.0)
 
 -- a call is stuck where its thread is stopped
-pub line_stuck : (s : Table) (t : ℕ) (l : Line) → LineIsSound s t l → is_stuck (call_at (health_at s) l (status_at s t)) ≡ is_stopped (status_at s t)
+pub line_stuck : (s : Table) (t : ℕ) (l : Line) → LineIsSound s t l
+    → is_stuck (call_at (health_at s) l (status_at s t)) ≡ is_stopped (status_at s t)
 line_stuck s t Idle h = sym (ready_not_stopped (status_at s t) h)
-line_stuck s t (At q p) h = place_stuck (health_at s) (is_living s.kernel) t q (status_at s t) (cell_at s (named_by q)) p h.needs
+line_stuck s t (At q p) h = place_stuck (health_at s) (is_living s.kernel) t q (status_at s t)
+    (cell_at s (named_by q)) p h.needs
 
 -- whether t rests, by its line and its status
-rests_seen : {s : Table} (h : IsSound s) (x : Shadow) (t : ℕ) → rests (world_of s x) t ≡ (if is_stuck (call_at (health_at s) (line_at s t) (status_at s t)) then true else names t s.kernel.waiters)
-rests_seen {s} h x t = ap (λ c. if is_stuck c then true else names t s.kernel.waiters) (call_seen h.all.shape x t (line_at s t) refl)
+rests_seen : {s : Table} (h : IsSound s) (x : Shadow) (t : ℕ)
+    → rests (world_of s x) t ≡ (if is_stuck (call_at (health_at s) (line_at s t) (status_at s t)) then true
+    else names t s.kernel.waiters)
+rests_seen {s} h x t = ap (λ c. if is_stuck c then true else names t s.kernel.waiters)
+    (call_seen h.all.shape x t (line_at s t) refl)
 
 -- a thread that may run doesn't rest
-pub rests_ready : {s : Table} (h : IsSound s) (x : Shadow) (t : ℕ) → has_thread s t ≡ true → is_ready (status_at s t) ≡ true → rests (world_of s x) t ≡ false
+pub rests_ready : {s : Table} (h : IsSound s) (x : Shadow) (t : ℕ) → has_thread s t ≡ true
+    → is_ready (status_at s t) ≡ true → rests (world_of s x) t ≡ false
 rests_ready {s} h x t k e = rests_seen h x t ∙ ap₂ (λ a b. if a then true else b)
-    (line_stuck s t (line_at s t) (each_thread h t k).line ∙ ready_not_stopped (status_at s t) e) (unnamed-from_ready s.kernel h.kernel t e)
+    (line_stuck s t (line_at s t) (each_thread h t k).line ∙ ready_not_stopped (status_at s t) e)
+    (unnamed-from_ready s.kernel h.kernel t e)
 
 -- a thread that may not run rests
-pub rests_not_ready : {s : Table} (h : IsSound s) (x : Shadow) (t : ℕ) → has_thread s t ≡ true → is_ready (status_at s t) ≡ false → rests (world_of s x) t ≡ true
+pub rests_not_ready : {s : Table} (h : IsSound s) (x : Shadow) (t : ℕ) → has_thread s t ≡ true
+    → is_ready (status_at s t) ≡ false → rests (world_of s x) t ≡ true
 rests_not_ready {s} h x t k e = rests_seen h x t ∙ go (status_at s t) refl
   where
-    go : (y : Status) → status_at s t ≡ y → (if is_stuck (call_at (health_at s) (line_at s t) (status_at s t)) then true else names t s.kernel.waiters) ≡ true
+    go : (y : Status) → status_at s t ≡ y
+        → (if is_stuck (call_at (health_at s) (line_at s t) (status_at s t)) then true else names t s.kernel.waiters)
+        ≡ true
     go (Ready w) q = absurd (true≢false (sym (ap is_ready q) ∙ e))
-    go Stopped q = ap (λ b. if b then true else names t s.kernel.waiters) (line_stuck s t (line_at s t) (each_thread h t k).line ∙ ap is_stopped q)
-    go (Queued m) q = by_test (λ b. (if b then true else names t s.kernel.waiters) ≡ true) (is_stuck (call_at (health_at s) (line_at s t) (status_at s t)))
+    go Stopped q = ap (λ b. if b then true else names t s.kernel.waiters)
+        (line_stuck s t (line_at s t) (each_thread h t k).line ∙ ap is_stopped q)
+    go (Queued m) q = by_test (λ b. (if b then true else names t s.kernel.waiters) ≡ true)
+        (is_stuck (call_at (health_at s) (line_at s t) (status_at s t)))
         (λ _. refl) (λ _. named-from_pair s.kernel.waiters t m (h.kernel.queued t m q))
 
 -- A STEP OF AN OPEN CALL
@@ -117,7 +131,8 @@ module _ {s : Table} {t : ℕ} {q : Request} {p : Place} (g : Going s t q p) whe
   going_allowed x = refusal_seen g.sound.all.shape x (Go t) ∙ ap₂ go_refused g.known (ap is_open g.line)
 
   -- the world has t's call open
-  pub going_called : (x : Shadow) → (thread_at (world_of s x) t).call ≡ Some (record { request = q; progress = progress_at p (status_at s t) (health_at s (named_by q)) })
+  pub going_called : (x : Shadow) → (thread_at (world_of s x) t).call
+      ≡ Some (record { request = q; progress = progress_at p (status_at s t) (health_at s (named_by q)) })
   going_called x = call_seen g.sound.all.shape x t (At q p) g.line
 
   -- t has a line
@@ -129,29 +144,49 @@ module _ {s : Table} {t : ℕ} {q : Request} {p : Place} (g : Going s t q p) whe
   going_below x = subst (λ n. t < n) (sym (threads_shown g.sound.all.shape x)) going_lined
 
   -- the step follows with these effects, after which t may run
-  pub goes_with : (v : Table) → IsSound v → v.limits ≡ s.limits → has_thread v t ≡ true → is_ready (status_at v t) ≡ true
+  pub goes_with : (v : Table) → IsSound v → v.limits ≡ s.limits → has_thread v t ≡ true
+      → is_ready (status_at v t) ≡ true
       → ((x : Shadow) → Effects t (world_of s x) (world_of v x)) → Keeps s (Happened (Go t) Went) v
   goes_with v sound limits known ready effects = record {
     sound = sound;
     limits = limits;
-    shows = λ x a. (x, agrees_on s v x a, went t refl (record { allowed = going_allowed x; effects = effects x }) (rests_ready sound x t known ready));
+    shows = λ x a. (
+      x,
+      agrees_on s v x a,
+      went t refl (record { allowed = going_allowed x; effects = effects x })
+          (rests_ready sound x t known ready),
+    );
   }
 
   -- the step follows with these effects, after which t rests
-  pub waits_with : (v : Table) → IsSound v → v.limits ≡ s.limits → has_thread v t ≡ true → is_ready (status_at v t) ≡ false
+  pub waits_with : (v : Table) → IsSound v → v.limits ≡ s.limits → has_thread v t ≡ true
+      → is_ready (status_at v t) ≡ false
       → ((x : Shadow) → Effects t (world_of s x) (world_of v x)) → Keeps s (Happened (Go t) Waits) v
   waits_with v sound limits known ready effects = record {
     sound = sound;
     limits = limits;
-    shows = λ x a. (x, agrees_on s v x a, waits t refl (record { allowed = going_allowed x; effects = effects x }) (rests_not_ready sound x t known ready));
+    shows = λ x a. (
+      x,
+      agrees_on s v x a,
+      waits t refl (record { allowed = going_allowed x; effects = effects x })
+          (rests_not_ready sound x t known ready),
+    );
   }
 
   -- the step follows with these effects, after which the call has this result and closes
-  pub answers_with : (v : Table) (a : ℕ) (u : Shadow → World) → IsSound v → v.limits ≡ s.limits → has_thread v t ≡ true → is_ready (status_at v t) ≡ true
-      → ((x : Shadow) → Effects t (world_of s x) (u x)) → ((x : Shadow) → (thread_at (u x) t).call ≡ Some (record { request = q; progress = Has a }))
-      → ((x : Shadow) → world_of v x ≡ closed t (u x)) → Keeps s (Happened (Go t) (Answered a)) v
+  pub answers_with : (v : Table) (a : ℕ) (u : Shadow → World) → IsSound v → v.limits ≡ s.limits
+      → has_thread v t ≡ true → is_ready (status_at v t) ≡ true
+      → ((x : Shadow) → Effects t (world_of s x) (u x)) → ((x : Shadow)
+      → (thread_at (u x) t).call ≡ Some (record { request = q; progress = Has a }))
+      → ((x : Shadow) → world_of v x ≡ with_call_closed t (u x)) → Keeps s (Happened (Go t) (Answered a)) v
   answers_with v a u sound limits known ready effects call shown = record {
     sound = sound;
     limits = limits;
-    shows = λ x b. (x, agrees_on s v x b, answered t a q (u x) refl (record { allowed = going_allowed x; effects = effects x }) (call x) (shown x) (rests_ready sound x t known ready));
+    shows = λ x b. (
+      x,
+      agrees_on s v x b,
+      answered t a q (u x) refl
+          (record { allowed = going_allowed x; effects = effects x }) (call x) (shown x)
+          (rests_ready sound x t known ready),
+    );
   }

@@ -34,7 +34,8 @@ module _ (s : Table) (p : ℕ) (h : IsSound s) (free : has_thread_room s ≡ tru
   seats = sym h.all.shape.lines
 
   few : length s.kernel.seats ≤ s.kernel.limits.threads
-  few = let r = room n s.limits.threads free in omega (arith, r, seats, ap (λ (b : Bounds). b.threads) h.all.shape.limits)
+  few = let r = room n s.limits.threads free in omega
+      (arith, r, seats, ap (λ (b : Bounds). b.threads) h.all.shape.limits)
 
   some : 1 ≤ n
   some = omega (arith, h.kernel.shape.some, seats)
@@ -45,18 +46,22 @@ module _ (s : Table) (p : ℕ) (h : IsSound s) (free : has_thread_room s ≡ tru
 
   -- who was added is still there
   still : (u : ℕ) → u ≢ n → has_thread v u ≡ has_thread s u
-  still u d = ap (λ j. if u == 0 then false else nat_lt u j) (length_push s.kernel.seats (record { base = p; status = Ready WokenFresh })) ∙ more-else u (length s.kernel.seats) (λ e. d (e ∙ seats))
+  still u d = ap (λ j. if u == 0 then false else nat_lt u j)
+      (length_push s.kernel.seats (record { base = p; status = Ready WokenFresh }))
+      ∙ more-else u (length s.kernel.seats) (λ e. d (e ∙ seats))
 
   known_more : (u : ℕ) → has_thread s u ≡ true → has_thread v u ≡ true
   known_more u k = still u (λ e. omega (arith, below u (length s.kernel.seats) k, e, seats)) ∙ k
 
   -- the new one
   new_known : has_thread v n ≡ true
-  new_known = from_within n (length v.kernel.seats) (λ z. omega (arith, some, z)) (omega (arith, seats, length_push s.kernel.seats (record { base = p; status = Ready WokenFresh })))
+  new_known = from_within n (length v.kernel.seats) (λ z. omega (arith, some, z))
+      (omega (arith, seats, length_push s.kernel.seats (record { base = p; status = Ready WokenFresh })))
 
   -- what the kernel knows of the others, and of the new one
   seat_else : (u : ℕ) → u ≢ n → seat_at v.kernel u ≡ seat_at s.kernel u
-  seat_else u d = pushed_else s.kernel.seats (record { base = p; status = Ready WokenFresh }) no_seat u (λ e. d (e ∙ seats))
+  seat_else u d = pushed_else s.kernel.seats (record { base = p; status = Ready WokenFresh }) no_seat u
+      (λ e. d (e ∙ seats))
 
   seat_new : seat_at v.kernel n ≡ record { base = p; status = Ready WokenFresh }
   seat_new = get_or_push s.kernel.seats (record { base = p; status = Ready WokenFresh }) no_seat n seats
@@ -75,7 +80,8 @@ module _ (s : Table) (p : ℕ) (h : IsSound s) (free : has_thread_room s ≡ tru
       record {
         limits = b.limits;
         within = b.within;
-        lines = length_push s.lines Idle ∙ (let e = length_push s.kernel.seats (record { base = p; status = Ready WokenFresh }) in omega (arith, e, seats));
+        lines = length_push s.lines Idle ∙ (let e = length_push s.kernel.seats
+            (record { base = p; status = Ready WokenFresh }) in omega (arith, e, seats));
         nobody = line_else 0 (λ e. omega (arith, some, e)) ∙ b.nobody;
         some_mutex = b.some_mutex;
         few_mutexes = b.few_mutexes;
@@ -86,7 +92,8 @@ module _ (s : Table) (p : ℕ) (h : IsSound s) (free : has_thread_room s ≡ tru
       }
 
   -- no mutex is changed for a thread that was there
-  spares_more : (u j : ℕ) → has_mutex s j ≡ true → Spares (is_living s.kernel) (is_living v.kernel) u (cell_at s j) (cell_at v j)
+  spares_more : (u j : ℕ) → has_mutex s j ≡ true → Spares (is_living s.kernel) (is_living v.kernel) u
+      (cell_at s j) (cell_at v j)
   spares_more u j e = record {
     kind = refl;
     robust = refl;
@@ -108,8 +115,11 @@ module _ (s : Table) (p : ℕ) (h : IsSound s) (free : has_thread_room s ≡ tru
   thread_more u k (inr d) =
       let b = each_thread h u (sym (still u d) ∙ k) in
       record {
-        line = subst (LineIsSound v u) (sym (line_else u d)) (line_spared s v u (ap (λ (x : Seat). x.status) (seat_else u d)) (λ j e. (e, spares_more u j e)) (line_at s u) b.line);
-        queue = λ j z. subst (IsQueuedLine j) (sym (line_else u d)) (b.queue j (sym (ap (λ (x : Seat). x.status) (seat_else u d)) ∙ z));
+        line = subst (LineIsSound v u) (sym (line_else u d))
+            (line_spared s v u (ap (λ (x : Seat). x.status) (seat_else u d)) (λ j e. (e, spares_more u j e))
+            (line_at s u) b.line);
+        queue = λ j z. subst (IsQueuedLine j) (sym (line_else u d))
+            (b.queue j (sym (ap (λ (x : Seat). x.status) (seat_else u d)) ∙ z));
       }
 
   -- the table is sound
@@ -117,7 +127,8 @@ module _ (s : Table) (p : ℕ) (h : IsSound s) (free : has_thread_room s ≡ tru
   thread_added_sound = record {
     all = record {
       shape = shape_more;
-      mutexes = λ j e. cell_spared (has_thread s) (has_thread v) (has_waiter s.kernel.waiters j) (has_waiter s.kernel.waiters j) (cell_at s j) (cell_at s j) known_more refl refl (h.all.mutexes j e);
+      mutexes = λ j e. cell_spared (has_thread s) (has_thread v) (has_waiter s.kernel.waiters j)
+          (has_waiter s.kernel.waiters j) (cell_at s j) (cell_at s j) known_more refl refl (h.all.mutexes j e);
       threads = λ u k out. thread_more u k (cases_eq u n);
     };
     kernel = kernel_more;
@@ -127,26 +138,47 @@ module _ (s : Table) (p : ℕ) (h : IsSound s) (free : has_thread_room s ≡ tru
   abbrev new_thread : Thread
   new_thread = record { base = p; living = true; call = None }
 
-  pub thread_added_seen : (y : Shadow) → world_of v y ≡ record (world_of s y) { threads = (world_of s y).threads ++ new_thread ∷ [] }
-  thread_added_seen y = same_world (world_of v y) (record (world_of s y) { threads = (world_of s y).threads ++ new_thread ∷ [] })
-      (threads_shown shape_more y ∙ length_push s.lines Idle ∙ sym (length_push (world_of s y).threads new_thread ∙ ap (λ j. j + 1) long))
+  pub thread_added_seen : (y : Shadow) → world_of v y
+      ≡ record (world_of s y) { threads = (world_of s y).threads ++ new_thread ∷ [] }
+  thread_added_seen y = same_world (world_of v y) (record (world_of s y) {
+    threads = (world_of s y).threads
+        ++ new_thread ∷ [];
+  })
+      (threads_shown shape_more y ∙ length_push s.lines Idle
+      ∙ sym (length_push (world_of s y).threads new_thread ∙ ap (λ j. j + 1) long))
       (λ u. thread_seen shape_more y u ∙ each u (cases_eq u n)) refl (λ j. refl) refl
     where
       long : length (world_of s y).threads ≡ n
       long = threads_shown h.all.shape y
 
-      each : (u : ℕ) → (u ≡ n) ⊎ (u ≢ n) → thread_shown v u ≡ get_or ((world_of s y).threads ++ new_thread ∷ []) u nobody
-      each u (inl e) = subst (λ j. thread_shown v j ≡ get_or ((world_of s y).threads ++ new_thread ∷ []) j nobody) (sym e)
-          ((λ i. record { base = (seat_new i).base; living = new_known i; call = call_at (health_at s) (line_new i) (seat_at v.kernel n).status })
+      each : (u : ℕ) → (u ≡ n) ⊎ (u ≢ n) → thread_shown v u
+          ≡ get_or ((world_of s y).threads ++ new_thread ∷ []) u nobody
+      each u (inl e) = subst (λ j. thread_shown v j ≡ get_or ((world_of s y).threads ++ new_thread ∷ []) j nobody)
+          (sym e)
+          ((λ i. record {
+            base = (seat_new i).base;
+            living = new_known i;
+            call = call_at (health_at s) (line_new i) (seat_at v.kernel n).status;
+          })
           ∙ sym (get_or_push (world_of s y).threads new_thread nobody n long))
       each u (inr d) =
-          (λ i. record { base = (seat_else u d i).base; living = still u d i; call = call_at (health_at s) (line_else u d i) (seat_else u d i).status })
-          ∙ sym (pushed_else (world_of s y).threads new_thread nobody u (λ e. d (e ∙ long)) ∙ thread_seen h.all.shape y u)
+          (λ i. record {
+            base = (seat_else u d i).base;
+            living = still u d i;
+            call = call_at (health_at s) (line_else u d i) (seat_else u d i).status;
+          })
+          ∙ sym (pushed_else (world_of s y).threads new_thread nobody u (λ e. d (e ∙ long))
+          ∙ thread_seen h.all.shape y u)
 
   -- to add a thread is an entry of the POSIX machine, and keeps the invariant
   pub thread_added_kept : Keeps s (AddThread n p) v
   thread_added_kept = record {
     sound = thread_added_sound;
     limits = refl;
-    shows = λ y a. (y, agrees_on s v y a, thread_rule n p refl (sym (threads_shown h.all.shape y)) (room n s.limits.threads free) (priority-range p prio).0 (priority-range p prio).1 (thread_added_seen y));
+    shows = λ y a. (
+      y,
+      agrees_on s v y a,
+      thread_rule n p refl (sym (threads_shown h.all.shape y))
+          (room n s.limits.threads free) (priority-range p prio).0 (priority-range p prio).1 (thread_added_seen y),
+    );
   }

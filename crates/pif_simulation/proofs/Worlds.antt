@@ -4,7 +4,7 @@ use Rattle.std.proofs.lemmas.Bool.{cases_eq, cases_lt, cases_order}
 use Rattle.std.proofs.lemmas.List.{get_or-set_same, get_or-set_other, length-set, set_past, get_or_past, length_push, get_or_push, get_or_append_left}
 use Rattle.pif_types.specs.declared.requests.Request.{Request}
 use Rattle.pif_model.specs.declared.events.Event.TheVariants.{Begin}
-use Rattle.pif_model.specs.Posix.{Progress, Call, Thread, Mutex, World, nobody, no_mutex, thread_at, mutex_at, is_thread, is_living, is_mutex, with_thread, with_mutex, with_progress, progressed, refusal_of, names_known}
+use Rattle.pif_model.specs.Posix.{Progress, Call, Thread, Mutex, World, nobody, no_mutex, thread_at, mutex_at, is_thread, is_living, is_mutex, with_thread, with_mutex, with_progress, call_at_progress, refusal_of, names_known}
 use Rattle.pif_model.specs.Refusals.{begin_refused}
 use Rattle.pif_chains.proofs.Places.{kept_at}
 
@@ -50,13 +50,13 @@ push_same part l x d n e = by_place (cases_eq n (length l))
 
 -- t's call, after it has come further
 pub call-with_progress : (w : World) (t : ℕ) (p : Progress)
-    → call_of (with_progress t p w) t ≡ progressed p (call_of w t)
+    → call_of (with_progress t p w) t ≡ call_at_progress p (call_of w t)
 call-with_progress w t p =
     written_at (λ (x : Thread). x.call) w.threads t further nobody
-    (λ h. ap (λ (x : Thread). progressed p x.call) (get_or_past w.threads t nobody h))
+    (λ h. ap (λ (x : Thread). call_at_progress p x.call) (get_or_past w.threads t nobody h))
   where
     further : Thread
-    further = record (thread_at w t) { call = progressed p (thread_at w t).call }
+    further = record (thread_at w t) { call = call_at_progress p (thread_at w t).call }
 
 -- the calls of others stay
 pub call-with_thread_other : (w : World) (t : ℕ) (x : Thread) (u : ℕ) → u ≢ t
