@@ -89,7 +89,8 @@ trail_from {waits_for} {t} (last {u = v} e) u h = (
 )
 trail_from {waits_for} {t} (more {u = v} {v = w} {xs = xs} e n trail) u h = by_head (cases_eq u v) (trail_from trail u)
   where
-    by_head : ((u ≡ v) ⊎ (u ≡ v → ⊥)) → (list_any (eqb u) xs ≡ true
+    by_head : ((u ≡ v) ⊎ (u ≡ v → ⊥))
+        → (list_any (eqb u) xs ≡ true
         → (ys : List ℕ) × Trail waits_for t ys u × (IsDistinct eqb xs → IsDistinct eqb ys))
         → (ys : List ℕ) × Trail waits_for t ys u × (IsDistinct eqb (v ∷ xs) → IsDistinct eqb ys)
     by_head (inl same) ih = (

@@ -11,10 +11,9 @@ use Rattle.pif_chains.proofs.Greatest.{effective_most, effective_above, effectiv
 -- `on` says who is queued on the mutex: they waited for t, and now all but u wait for u
 module _ (n : ℕ) (w now b : ℕ → ℕ) (t u : ℕ) (on : ℕ → Bool) (below : (x : ℕ) → w x < n)
     (below_now : (x : ℕ) → now x < n)
-    (waited : (x : ℕ) → on x ≡ true → w x ≡ t) (others : (x : ℕ) → on x ≡ false → now x ≡ w x) (moved : (x : ℕ)
-    → on x ≡ true → x ≢ u → now x ≡ u)
-    (freed : now u ≡ 0) (idle : w t ≡ 0) (top : (x : ℕ) → on x ≡ true
-    → effective_among n w b x ≤ effective_among n w b u) where
+    (waited : (x : ℕ) → on x ≡ true → w x ≡ t) (others : (x : ℕ) → on x ≡ false → now x ≡ w x)
+    (moved : (x : ℕ) → on x ≡ true → x ≢ u → now x ≡ u) (freed : now u ≡ 0) (idle : w t ≡ 0)
+    (top : (x : ℕ) → on x ≡ true → effective_among n w b x ≤ effective_among n w b u) where
   abbrev effective : ℕ → ℕ
   effective x = effective_among n w b x
 

@@ -87,8 +87,7 @@ module _ (effective : ℕ → ℕ) where
           (λ _. omega (
             arith,
             greatest_own ws m h,
-            ltb-true (effective w.0)
-                (first_greatest (waiters_with effective ws m)).1 y,
+            ltb-true (effective w.0) (first_greatest (waiters_with effective ws m)).1 y,
           )) (ih h)
       rest_is y (inr h) =
           absurd (omega (

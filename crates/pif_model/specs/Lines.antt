@@ -100,10 +100,9 @@ try_load t m s =
 -- unlock: load the word. Who isn't the owner is answered EPERM; an owner who holds it more than once holds it once less
 unfoldable pub unlock_load : ℕ → ℕ → Table → Outcome
 unlock_load t m s =
+    let n = (cell_at s m).count in
     if (cell_at s m).word.number == t
-    then (if nat_lt 1 (cell_at s m).count
-    then answers t 0 (with_count m ((cell_at s m).count - 1) s)
-    else goes_to t (Unlock m) UnlockExchange s)
+    then (if nat_lt 1 n then answers t 0 (with_count m (n - 1) s) else goes_to t (Unlock m) UnlockExchange s)
     else answers t 1 s
 
 -- unlock: compare-exchange from t to 0

@@ -231,8 +231,8 @@ words_after_unlock m (Err e) k ws = ws
 unfoldable pub kernel_after_hand_over : ℕ → ℕ → Kernel → Kernel
 kernel_after_hand_over u m k =
     let rest = without k.waiters u in
-    let after = record (with_status u (Ready WokenOwns)
-    (with_state m (if has_waiter rest m then u else 0) k)) { waiters = rest } in
+    let owner = if has_waiter rest m then u else 0 in
+    let after = record (with_status u (Ready WokenOwns) (with_state m owner k)) { waiters = rest } in
     with_effective_levels (record after { levels = levels_with u (effective_in after u) k.levels })
 
 -- the kernel after unlock_pi, by its answer

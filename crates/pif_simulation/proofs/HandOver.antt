@@ -263,8 +263,7 @@ module _ {s : Table} {t : ℕ} {q : Request} {p : Place} {l : Line} (h : GivesUp
     -- u, when it owns m
     abbrev taker : Thread
     taker = record (thread_at (with_progress t a w) u) {
-      call = call_at_progress (on_taking (mutex_at w m).health)
-          (thread_at (with_progress t a w) u).call;
+      call = call_at_progress (on_taking (mutex_at w m).health) (thread_at (with_progress t a w) u).call;
     }
 
     -- t in that world
@@ -278,8 +277,8 @@ module _ {s : Table} {t : ℕ} {q : Request} {p : Place} {l : Line} (h : GivesUp
 
     -- the world that the table shows, with t's call as its line has it
     pub handed_shown : (b : Option Call) → IsSound table_after_hand_over → call_at (health_at s) l (status_at s t) ≡ b
-        → world_of table_after_hand_over y ≡ with_thread t
-        (record (thread_at (world_after_passing y a) t) { call = b }) (world_after_passing y a)
+        → world_of table_after_hand_over y
+        ≡ with_thread t (record (thread_at (world_after_passing y a) t) { call = b }) (world_after_passing y a)
     handed_shown b fits e =
         let died : (hand_word u).died ≡ (word_at s.words m).died = sym c.no_death in
         let z : Mutex = record (mutex_at w m) { owner = u; count = 1 } in

@@ -254,8 +254,7 @@ module _ (s : Table) (t m : ℕ) where
         (called_sound g (going_named g) LockQueued x k c) refl
         (called_known g (going_named g) LockQueued x k c) (unready c)
         (λ y. first (locks g refl y (record (with_progress t Waiting (world_of s y)) {
-          waiters = s.kernel.waiters
-              ++ (t, m) ∷ [];
+          waiters = s.kernel.waiters ++ (t, m) ∷ [];
         })
         (joins (other_seen y) (owned_seen y) (not_lost y l) (chain_seen y ∙ e) refl))
         (none (called_shown g (going_named g) LockQueued x k c y Waiting

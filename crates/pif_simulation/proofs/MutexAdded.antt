@@ -128,8 +128,7 @@ module _ (s : Table) (kind : Kind) (h : IsSound s) (free : has_mutex_room s ≡ 
   pub mutex_added_seen : (y : Shadow) → world_of v y
       ≡ record (world_of s y) { mutexes = (world_of s y).mutexes ++ new_one ∷ [] }
   mutex_added_seen y = same_world (world_of v y) (record (world_of s y) {
-    mutexes = (world_of s y).mutexes
-        ++ new_one ∷ [];
+    mutexes = (world_of s y).mutexes ++ new_one ∷ [];
   }) refl (λ u. refl)
       (mutexes_shown shape_more y ∙ length_push s.mutexes (new_mutex kind false)
       ∙ sym (length_push (world_of s y).mutexes new_one ∙ ap (λ j. j + 1) long))

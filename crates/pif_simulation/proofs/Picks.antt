@@ -26,8 +26,7 @@ module _ {s : Table} (h : IsSound s) (y : Shadow) where
   pub pick_runs : IsPick (world_of s y) (pick_in s.kernel)
   pick_runs = record {
     runs = λ n. (let p = pick_law s.kernel h.kernel n in (
-      living_seen s y (pick_in s.kernel) h.all.shape
-          ∙ p.added,
+      living_seen s y (pick_in s.kernel) h.all.shape ∙ p.added,
       rests_ready h y (pick_in s.kernel) p.added p.ready,
     ));
     greatest = λ t l awake. greatest t (sym (living_seen s y t h.all.shape) ∙ l) awake;

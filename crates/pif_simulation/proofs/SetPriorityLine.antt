@@ -165,8 +165,7 @@ module _ (s : Table) (t u p : ℕ) (g : Going s t (SetPrio u p) SetPriority) whe
         (going_lined g) ml g.sound.all.shape refl
         ∙ (λ i. record {
           base = (seat_at k t).base;
-          living = if t == 0 then false
-              else nat_lt t ((call l).seats i);
+          living = if t == 0 then false else nat_lt t ((call l).seats i);
           call = None;
         })
         ∙ sym (get_or-set_same (with_base u p w).threads t r nobody (subst (λ j. t < j) (sym long) (going_below g y))

@@ -176,8 +176,8 @@ module _ {s : Table} {t : ℕ} {q : Request} {p : Place} (g : Going s t q p) whe
   -- the step follows with these effects, after which the call has this result and closes
   pub answers_with : (v : Table) (a : ℕ) (u : Shadow → World) → IsSound v → v.limits ≡ s.limits
       → has_thread v t ≡ true → is_ready (status_at v t) ≡ true
-      → ((x : Shadow) → Effects t (world_of s x) (u x)) → ((x : Shadow)
-      → (thread_at (u x) t).call ≡ Some (record { request = q; progress = Has a }))
+      → ((x : Shadow) → Effects t (world_of s x) (u x))
+      → ((x : Shadow) → (thread_at (u x) t).call ≡ Some (record { request = q; progress = Has a }))
       → ((x : Shadow) → world_of v x ≡ with_call_closed t (u x)) → Keeps s (Happened (Go t) (Answered a)) v
   answers_with v a u sound limits known ready effects call shown = record {
     sound = sound;

@@ -141,8 +141,7 @@ module _ (s : Table) (p : ℕ) (h : IsSound s) (free : has_thread_room s ≡ tru
   pub thread_added_seen : (y : Shadow) → world_of v y
       ≡ record (world_of s y) { threads = (world_of s y).threads ++ new_thread ∷ [] }
   thread_added_seen y = same_world (world_of v y) (record (world_of s y) {
-    threads = (world_of s y).threads
-        ++ new_thread ∷ [];
+    threads = (world_of s y).threads ++ new_thread ∷ [];
   })
       (threads_shown shape_more y ∙ length_push s.lines Idle
       ∙ sym (length_push (world_of s y).threads new_thread ∙ ap (λ j. j + 1) long))

@@ -67,8 +67,7 @@ pub written_count : (t m : ℕ) (l : Line) (n : ℕ) (k : Kernel) (s : Table)
     ≡ record s {
       kernel = k;
       lines = set s.lines t l;
-      mutexes = set s.mutexes m
-          (record (library_at s m) { count = n });
+      mutexes = set s.mutexes m (record (library_at s m) { count = n });
     }
 written_count t m l n k s = λ i. record s {
   words = record s.words { mutexes = set-get_or s.words.mutexes m free_word i };
@@ -150,8 +149,7 @@ module _ (s : Table) (t m : ℕ) (l : Line) (x : Word) (n : ℕ) (k : Kernel) (t
         let far : length s.mutexes ≤ j = subst (λ a. a ≤ j) (length-set s.mutexes m _) e in
         let d : j ≢ m = (λ q. omega (arith, q, far, ml)) in (
           get_or-set_other s.words.mutexes m j x free_word d ∙ (shape.unmade j far).0,
-          c.waited j d
-              ∙ (shape.unmade j far).1,
+          c.waited j d ∙ (shape.unmade j far).1,
         )
         );
   }
@@ -284,8 +282,7 @@ module _ (s : Table) (t m : ℕ) (l : Line) (x : Word) (n : ℕ) (k : Kernel) (t
       (length-set (world_of s y).mutexes m z ∙ mutexes_shown shape y) refl
       (thread_here died ∙ (λ i. record {
         base = base i;
-        living = if t == 0 then false
-            else nat_lt t (seats i);
+        living = if t == 0 then false else nat_lt t (seats i);
         call = call i;
       })
       ∙ sym (get_or-set_same w.threads t r nobody tw ∙ (λ i. record (thread_seen shape y t i) { call = c })))
