@@ -1,5 +1,6 @@
-use pif_core::{Core, Event, Seen};
-use pif_types::{Kind, Limits, MutexId, Request, Tid};
+use crate::scenes::{call, core_of, each};
+use pif_core::{Core, Event};
+use pif_types::{MutexId, Request, Tid};
 use std::io;
 use std::rt::Clock;
 use std::time::{Duration, Instant};
@@ -10,13 +11,10 @@ const HAND_OVERS: u32 = 10_000;
 /// How many changes of priority are measured.
 const CHANGES: u32 = 10;
 
-/// How many steps of a call are taken at most.
-const MOST_STEPS: u32 = 24;
-
 /// Two threads pass one mutex on, again and again. Answers how many nanoseconds each hand-over took: the unlock of the
 /// owner, through the kernel, and the step of the other thread that finds out.
 pub fn hand_over(rt: &(impl Clock + AllocGlobal)) -> io::Result<u64> {
-    let mut core = core_of(rt, 2, 1)?;
+    let mut core = core_of(rt, 2, 1, 99, false)?;
     time_hand_overs(rt, &mut core)
 }
 
@@ -41,7 +39,7 @@ fn time_hand_overs(rt: &impl Clock, core: &mut Core) -> io::Result<u64> {
 /// A chain of so many threads: each but the first holds a mutex and waits for that of the one before it. Answers how many
 /// nanoseconds the lock took by which the last thread, of the greatest priority, joined it.
 pub fn last_lock(rt: &(impl Clock + AllocGlobal), depth: u32) -> io::Result<u64> {
-    let mut core = core_of(rt, depth, depth)?;
+    let mut core = core_of(rt, depth, depth, 99, false)?;
     time_last_lock(rt, &mut core, depth)
 }
 
@@ -57,7 +55,7 @@ fn time_last_lock(rt: &impl Clock, core: &mut Core, depth: u32) -> io::Result<u6
 
 /// The same chain. Answers how many nanoseconds a change of the last thread's priority took, to 98 and to 99 in turn.
 pub fn set_prio(rt: &(impl Clock + AllocGlobal), depth: u32) -> io::Result<u64> {
-    let mut core = core_of(rt, depth, depth)?;
+    let mut core = core_of(rt, depth, depth, 99, false)?;
     time_set_prio(rt, &mut core, depth)
 }
 
@@ -97,39 +95,4 @@ fn join(core: &mut Core, number: u32) -> Option<()> {
     let before = MutexId::new(number.saturating_sub(1))?;
     call(core, Tid::new(number)?, Request::Lock(before));
     Some(())
-}
-
-/// A core with so many threads, of priority 1 but the last, which has 99, and so many normal mutexes.
-fn core_of(rt: &impl AllocGlobal, threads: u32, mutexes: u32) -> io::Result<Core> {
-    let limits = Limits::new(threads, mutexes, 0, 1).ok_or(io::ErrorKind::InvalidInput)?;
-    let Ok(mut core) = Core::new(rt.alloc(), limits) else {
-        return Err(io::Error::from(io::ErrorKind::OutOfMemory));
-    };
-    for number in 1..=threads {
-        let prio = if number == threads { 99 } else { 1 };
-        if core.add_thread(prio).is_err() {
-            return Err(io::Error::from(io::ErrorKind::InvalidInput));
-        }
-    }
-    for _number in 0..mutexes {
-        if core.add_mutex(Kind::Normal, false).is_err() {
-            return Err(io::Error::from(io::ErrorKind::InvalidInput));
-        }
-    }
-    Ok(core)
-}
-
-/// Begins a call, and goes on until it is answered or waits.
-fn call(core: &mut Core, thread: Tid, request: Request) {
-    core.step(Event::Begin(thread, request));
-    for _step in 0..MOST_STEPS {
-        if core.step(Event::Go(thread)) != Seen::Went {
-            break;
-        }
-    }
-}
-
-/// The nanoseconds of each of so many rounds.
-fn each(spent: Duration, rounds: u32) -> u64 {
-    u64::try_from(spent.as_nanos() / u128::from(rounds.max(1))).unwrap_or(u64::MAX)
 }

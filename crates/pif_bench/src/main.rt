@@ -3,6 +3,8 @@
 
 mod chains;
 mod lists;
+mod robust;
+mod scenes;
 
 use chains::{hand_over, last_lock, set_prio};
 use lists::{Priorities, nanoseconds_each};
@@ -13,7 +15,8 @@ use std::{env, io};
 /// The names of the benchmarks, one a line.
 const NAMES: &str =
     "plist_equal\nplist_distinct\nhand_over\nlast_lock_10\nlast_lock_100\nlast_lock_1000\n\
-    setprio_10\nsetprio_100\nsetprio_1000\n";
+    setprio_10\nsetprio_100\nsetprio_1000\nstalled_pair\nrobust_pair\n\
+    end_10\nend_100\nend_1000\nend_contended_10\nend_contended_100\nend_contended_1000\n";
 
 /// A benchmark.
 #[derive(Clone, Copy)]
@@ -26,6 +29,10 @@ enum Benchmark {
     LastLock(u32),
     /// The priority of the last thread of a chain of so many changes.
     SetPrio(u32),
+    /// A mutex is locked and unlocked, a robust one or a stalled one.
+    Pair(bool),
+    /// A thread that holds so many robust mutexes ends, with a waiter for each or with none.
+    End(u32, bool),
 }
 
 /// The status where the words name no benchmark.
@@ -58,6 +65,14 @@ fn benchmark_of(name: &str) -> Option<Benchmark> {
         "setprio_10" => Some(Benchmark::SetPrio(10)),
         "setprio_100" => Some(Benchmark::SetPrio(100)),
         "setprio_1000" => Some(Benchmark::SetPrio(1000)),
+        "stalled_pair" => Some(Benchmark::Pair(false)),
+        "robust_pair" => Some(Benchmark::Pair(true)),
+        "end_10" => Some(Benchmark::End(10, false)),
+        "end_100" => Some(Benchmark::End(100, false)),
+        "end_1000" => Some(Benchmark::End(1000, false)),
+        "end_contended_10" => Some(Benchmark::End(10, true)),
+        "end_contended_100" => Some(Benchmark::End(100, true)),
+        "end_contended_1000" => Some(Benchmark::End(1000, true)),
         _ => None,
     }
 }
@@ -69,5 +84,7 @@ fn nanoseconds_of(rt: &(impl Clock + AllocGlobal), benchmark: Benchmark) -> io::
         Benchmark::HandOver => hand_over(rt),
         Benchmark::LastLock(depth) => last_lock(rt, depth),
         Benchmark::SetPrio(depth) => set_prio(rt, depth),
+        Benchmark::Pair(robust) => robust::pair(rt, robust),
+        Benchmark::End(held, contended) => robust::end(rt, held, contended),
     }
 }

@@ -25,8 +25,7 @@ pub NoCycle-fewer : {W V : ℕ → ℕ → Type 0} → ((t u : ℕ) → V t u �
 NoCycle-fewer f none t u a r = none t u (f t u a) (Reaches-map f r)
 
 -- a chain after one more hop from t to n: it was there before, or it goes over that hop
-reaches-past_hop : {W V : ℕ → ℕ → Type 0} (t n : ℕ) → ((x z : ℕ) → V x z → W x z ⊎ ((x ≡ t) × (z ≡ n)))
-    → {x y : ℕ} → Reaches V x y
+reaches-past_hop : {W V : ℕ → ℕ → Type 0} (t n : ℕ) → ((x z : ℕ) → V x z → W x z ⊎ ((x ≡ t) × (z ≡ n))) → {x y : ℕ} → Reaches V x y
     → Reaches W x y ⊎ (Reaches W x t × Reaches W n y)
 reaches-past_hop t n f (here e) = inl (here e)
 reaches-past_hop {W} {V} t n f {y = y} (hop {u = x} {v = z} a r) = further (f x z a) (reaches-past_hop t n f r)
@@ -59,8 +58,7 @@ reaches-past_still : {W V : ℕ → ℕ → Type 0} (r : ℕ) → ((z : ℕ) →
     → {x y : ℕ} → Reaches V x y
     → Reaches W x y ⊎ (y ≡ r)
 reaches-past_still r still f (here e) = inl (here e)
-reaches-past_still {W} {V} r still f {y = y} (hop {u = x} {v = z} a q) =
-    further (f x z a) (reaches-past_still r still f q)
+reaches-past_still {W} {V} r still f {y = y} (hop {u = x} {v = z} a q) = further (f x z a) (reaches-past_still r still f q)
   where
     further : W x z ⊎ (z ≡ r) → Reaches W z y ⊎ (y ≡ r) → Reaches W x y ⊎ (y ≡ r)
     further (inl b) (inl p) = inl (hop b p)
@@ -83,27 +81,21 @@ NoCycle-still {W} {V} r still f none x z a q = further (f x z a) (reaches-past_s
 -- OVER A FUNCTION
 
 -- where the test finds that nobody reaches itself over the hops that it looks at, nobody waits for itself
-NoCycle-from_test : (n : ℕ) (w : ℕ → ℕ) → ((x : ℕ) → w x < n)
-    → ((y : ℕ) → w y ≢ 0 → reaches_within n w (w y) y ≡ false) → NoCycle (Follows w)
+NoCycle-from_test : (n : ℕ) (w : ℕ → ℕ) → ((x : ℕ) → w x < n) → ((y : ℕ) → w y ≢ 0 → reaches_within n w (w y) y ≡ false) → NoCycle (Follows w)
 NoCycle-from_test n w below acyclic t u a r =
     true≢false
-    (sym (within-from_reaches n w (w t) t (below t) (λ x some. below x)
-    (subst (λ (x : ℕ). Reaches (Follows w) x t) (sym a.0) r))
+    (sym (within-from_reaches n w (w t) t (below t) (λ x some. below x) (subst (λ (x : ℕ). Reaches (Follows w) x t) (sym a.0) r))
     ∙ acyclic t (λ z. a.1 (sym a.0 ∙ z)))
 
 -- and back
 test-from_NoCycle : (n : ℕ) (w : ℕ → ℕ) → NoCycle (Follows w) → (y : ℕ) → w y ≢ 0 → reaches_within n w (w y) y ≡ false
-test-from_NoCycle n w none y some = false_from_ne_true (reaches_within n w (w y) y)
-    (λ h. none y (w y) (refl, some) (reaches-from_within n w (w y) y h))
+test-from_NoCycle n w none y some = false_from_ne_true (reaches_within n w (w y) y) (λ h. none y (w y) (refl, some) (reaches-from_within n w (w y) y h))
 
 -- where t comes to wait for an owner that did not reach it, no thread comes to reach itself
-pub still_acyclic : (w now : ℕ → ℕ) (t owner : ℕ) → ((x : ℕ) → x ≢ t → now x ≡ w x) → now t ≡ owner → (n : ℕ)
-    → ((x : ℕ) → w x < n) → owner < n
-    → reaches_within n w owner t ≡ false → ((y : ℕ) → w y ≢ 0 → reaches_within n w (w y) y ≡ false) → (y : ℕ)
-    → now y ≢ 0 → reaches_within n now (now y) y ≡ false
+pub still_acyclic : (w now : ℕ → ℕ) (t owner : ℕ) → ((x : ℕ) → x ≢ t → now x ≡ w x) → now t ≡ owner → (n : ℕ) → ((x : ℕ) → w x < n) → owner < n
+    → reaches_within n w owner t ≡ false → ((y : ℕ) → w y ≢ 0 → reaches_within n w (w y) y ≡ false) → (y : ℕ) → now y ≢ 0 → reaches_within n now (now y) y ≡ false
 still_acyclic w now t owner same new n below less unreached acyclic =
-    test-from_NoCycle n now (NoCycle-hop t owner (λ x z a. by_start x z a (cases_eq x t)) never
-    (NoCycle-from_test n w below acyclic))
+    test-from_NoCycle n now (NoCycle-hop t owner (λ x z a. by_start x z a (cases_eq x t)) never (NoCycle-from_test n w below acyclic))
   where
     by_start : (x z : ℕ) → Follows now x z → ((x ≡ t) ⊎ (x ≡ t → ⊥)) → Follows w x z ⊎ ((x ≡ t) × (z ≡ owner))
     by_start x z a (inl e) = inr (e, sym a.0 ∙ ap now e ∙ new)
@@ -113,19 +105,15 @@ still_acyclic w now t owner same new n below less unreached acyclic =
     never r = true≢false (sym (within-from_reaches n w owner t less (λ x some. below x) r) ∙ unreached)
 
 -- nor where those that `on` tells come to wait for u, which waits for nobody then
-pub acyclic_handed : (w now : ℕ → ℕ) (u : ℕ) (on : ℕ → Bool) → ((x : ℕ) → on x ≡ false → now x ≡ w x)
-    → ((x : ℕ) → on x ≡ true → x ≢ u → now x ≡ u) → now u ≡ 0
-    → (n : ℕ) → ((x : ℕ) → w x < n) → ((y : ℕ) → w y ≢ 0 → reaches_within n w (w y) y ≡ false) → (y : ℕ) → now y ≢ 0
-    → reaches_within n now (now y) y ≡ false
+pub acyclic_handed : (w now : ℕ → ℕ) (u : ℕ) (on : ℕ → Bool) → ((x : ℕ) → on x ≡ false → now x ≡ w x) → ((x : ℕ) → on x ≡ true → x ≢ u → now x ≡ u) → now u ≡ 0
+    → (n : ℕ) → ((x : ℕ) → w x < n) → ((y : ℕ) → w y ≢ 0 → reaches_within n w (w y) y ≡ false) → (y : ℕ) → now y ≢ 0 → reaches_within n now (now y) y ≡ false
 acyclic_handed w now u on others moved freed n below acyclic =
-    test-from_NoCycle n now (NoCycle-still u still (λ x z a. by_on x z a (cases_Bool (on x)) (cases_eq x u))
-    (NoCycle-from_test n w below acyclic))
+    test-from_NoCycle n now (NoCycle-still u still (λ x z a. by_on x z a (cases_Bool (on x)) (cases_eq x u)) (NoCycle-from_test n w below acyclic))
   where
     still : (z : ℕ) → Follows now u z → ⊥
     still z a = a.1 (sym a.0 ∙ freed)
 
-    by_on : (x z : ℕ) → Follows now x z → ((on x ≡ true) ⊎ (on x ≡ false)) → ((x ≡ u) ⊎ (x ≡ u → ⊥))
-        → Follows w x z ⊎ (z ≡ u)
+    by_on : (x z : ℕ) → Follows now x z → ((on x ≡ true) ⊎ (on x ≡ false)) → ((x ≡ u) ⊎ (x ≡ u → ⊥)) → Follows w x z ⊎ (z ≡ u)
     by_on x z a (inl e) (inl same) = absurd (still z (ap now (sym same) ∙ a.0, a.1))
     by_on x z a (inl e) (inr other) = inr (sym a.0 ∙ moved x e other)
     by_on x z a (inr e) c = inl (sym (others x e) ∙ a.0, a.1)

@@ -1,5 +1,5 @@
--- Chains of waiting, hop by hop: one hop more, the last hop, and whom one reaches. Where threads below n alone wait,
--- also chains that end at a number from n on are found over few hops.
+-- Chains of waiting, hop by hop: one hop more, the last hop, and whom one reaches. Where threads below n alone wait, also
+-- chains that end at a number from n on are found over few hops.
 use Rattle.std.proofs.Common.{◌≡◌, ◌≢◌, ◌⊎◌, ℕ, zero, suc, ◌<◌, ◌≤◌, ◌+◌, ◌-◌, true, false, ◌==◌, nat_lt, refl, sym, ◌∙◌, subst, inl, inr, if◌then◌else◌, arith}
 use Rattle.std.proofs.lemmas.Bool.{cases_lt, ne_eqb, false_from_ne_true}
 use Rattle.std.proofs.lemmas.Bool.Decides.{nat_tests}
@@ -36,15 +36,13 @@ reach_below w n below (here e) l = omega arith
 reach_below w n below (hop {u = u} {v = v} e r) l = reach_below w n below r (omega (arith, e.0, below u))
 
 -- over the hops of another function, where that one waits for the same or for nobody
-within_wider : (f w : ℕ → ℕ) → ((x : ℕ) → f x ≢ 0 → f x ≡ w x) → (k u t : ℕ) → reaches_within k f u t ≡ true
-    → reaches_within k w u t ≡ true
+within_wider : (f w : ℕ → ℕ) → ((x : ℕ) → f x ≢ 0 → f x ≡ w x) → (k u t : ℕ) → reaches_within k f u t ≡ true → reaches_within k w u t ≡ true
 unfolding reaches_within
 within_wider f w same zero u t h = h
 within_wider f w same (suc k) u t h = grind (arith, nat_tests, within_wider f w same k (f u) t, same u)
 
 -- one hop more at the end
-within_then : (w : ℕ → ℕ) (k u v t : ℕ) → reaches_within k w u v ≡ true → w v ≡ t → t ≢ 0
-    → reaches_within (suc k) w u t ≡ true
+within_then : (w : ℕ → ℕ) (k u v t : ℕ) → reaches_within k w u v ≡ true → w v ≡ t → t ≢ 0 → reaches_within (suc k) w u t ≡ true
 unfolding reaches_within
 within_then w zero u v t h e n = grind (arith, nat_tests)
 within_then w (suc k) u v t h e n = grind (arith, nat_tests, within_then w k (w u) v t)
@@ -77,13 +75,11 @@ module _ (n : ℕ) (w : ℕ → ℕ) (out : (x : ℕ) → n ≤ x → w x ≡ 0)
       by_place : ((v < n) ⊎ (n ≤ v)) → Stays v t → Stays u t
       by_place (inl l) (inl s) = inl (hop (inside l) s)
       by_place (inl l) (inr s) = inr (s.0, hop (inside l) s.1, s.2)
-      by_place (inr l) s = let same : v ≡ t = alone w (out v l) r in
-          inr (u, here refl, (a.0 ∙ same, λ e. a.1 (same ∙ e)))
+      by_place (inr l) s = let same : v ≡ t = alone w (out v l) r in inr (u, here refl, (a.0 ∙ same, λ e. a.1 (same ∙ e)))
 
   -- who is below n is found over n hops
   pub found_below : (u t : ℕ) → u < n → t < n → Reaches (Follows w) u t → reaches_within n w u t ≡ true
-  found_below u t lu lt r = within_wider inner w inner_waits n u t
-      (within-from_reaches n inner u t lu inner_below (by_end (stays r)))
+  found_below u t lu lt r = within_wider inner w inner_waits n u t (within-from_reaches n inner u t lu inner_below (by_end (stays r)))
     where
       by_end : Stays u t → Reaches (Follows inner) u t
       by_end (inl s) = s
@@ -94,15 +90,12 @@ module _ (n : ℕ) (w : ℕ → ℕ) (out : (x : ℕ) → n ≤ x → w x ≡ 0)
   found u t r = by_start (cases_lt u n)
     where
       by_end : u < n → Stays u t → reaches_within (suc n) w u t ≡ true
-      by_end l (inl s) = reaches_over_more n (suc n) w u t (omega arith)
-          (within_wider inner w inner_waits n u t (within-from_reaches n inner u t l inner_below s))
-      by_end l (inr s) = within_then w n u s.0 t (within_wider inner w inner_waits n u s.0
-          (within-from_reaches n inner u s.0 l inner_below s.1)) s.2.0 s.2.1
+      by_end l (inl s) = reaches_over_more n (suc n) w u t (omega arith) (within_wider inner w inner_waits n u t (within-from_reaches n inner u t l inner_below s))
+      by_end l (inr s) = within_then w n u s.0 t (within_wider inner w inner_waits n u s.0 (within-from_reaches n inner u s.0 l inner_below s.1)) s.2.0 s.2.1
 
       by_start : ((u < n) ⊎ (n ≤ u)) → reaches_within (suc n) w u t ≡ true
       by_start (inl l) = by_end l (stays r)
-      by_start (inr l) = subst (λ (x : ℕ). reaches_within (suc n) w u x ≡ true) (alone w (out u l) r)
-          (within_here (suc n) w u)
+      by_start (inr l) = subst (λ (x : ℕ). reaches_within (suc n) w u x ≡ true) (alone w (out u l) r) (within_here (suc n) w u)
 
 -- HOP BY HOP
 

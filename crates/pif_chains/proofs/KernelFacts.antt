@@ -1,11 +1,11 @@
 -- What follows from what a kernel keeps: who waits for whom, and the next waiter.
-use Rattle.std.proofs.Common.{◌≡◌, ◌≢◌, ◌⊎◌, ℕ, ◌<◌, ◌≤◌, true, false, length, refl, sym, ap, ◌∙◌, subst, arith, eqb-true, true≢false, inl, inr}
+use Rattle.std.proofs.Common.{◌≡◌, ◌≢◌, ◌⊎◌, ℕ, ◌<◌, ◌≤◌, Bool, true, false, if◌then◌else◌, length, refl, sym, ap, ◌∙◌, subst, arith, eqb-true, true≢false, inl, inr}
 use Rattle.std.proofs.lemmas.Bool.{cases_eq, cases_lt, eqb-false, false_from_ne_true}
 use Rattle.std.proofs.lemmas.List.{get_or_past}
 use Rattle.pif_model.specs.declared.lines.Status.{Status}
-use Rattle.pif_model.specs.declared.lines.Status.TheVariants.{Ready, Queued, Stopped}
+use Rattle.pif_model.specs.declared.lines.Status.TheVariants.{Ready, Queued, Stopped, Ended}
 use Rattle.pif_model.specs.Graph.{waited_by, has_waiter, reaches_within}
-use Rattle.pif_model.specs.PiKernel.{Kernel, Seat, IsKernel, IsKernelShaped, no_seat, seat_at, has_seat, state_at, waits_for, effective_in, next_in, queued_on, is_ready}
+use Rattle.pif_model.specs.PiKernel.{Kernel, Seat, IsKernel, IsKernelShaped, no_seat, seat_at, has_seat, state_at, waits_for, effective_in, next_in, queued_on, is_ready, has_ended, is_living}
 use Rattle.pif_chains.proofs.Numbers.{from_within, within}
 use Rattle.pif_chains.proofs.Following.{within_here}
 use Rattle.pif_chains.proofs.Waiting.{by_test, names, pairs, waited-from_pair, unnamed-from_0, paired-from_waited, next-is_waiter, has_waiter-from_pair}
@@ -17,12 +17,45 @@ pub queued-from_number : (x : Status) (m : ℕ) → m ≢ 0 → queued_on x ≡ 
 queued-from_number (Ready w) m n e = absurd (n (sym e))
 queued-from_number (Queued k) m n e = ap Queued e
 queued-from_number Stopped m n e = absurd (n (sym e))
+queued-from_number Ended m n e = absurd (n (sym e))
 
 -- who is queued may not run
 pub queued-unready : (x : Status) (m : ℕ) → x ≡ Queued m → is_ready x ≡ false
 queued-unready x m e = ap is_ready e
 
 -- THREADS
+
+-- a thread that lives was added, and has not ended
+pub living-facts : (k : Kernel) (t : ℕ) → is_living k t ≡ true
+    → (has_seat k t ≡ true) × (has_ended (seat_at k t).status ≡ false)
+living-facts k t e = go (has_seat k t) (has_ended (seat_at k t).status) e
+  where
+    go : (a b : Bool) → (if a then (if b then false else true) else false) ≡ true → (a ≡ true) × (b ≡ false)
+    go true true e = absurd (true≢false (sym e))
+    go true false e = (refl, refl)
+    go false b e = absurd (true≢false (sym e))
+
+-- a thread that lives was added
+pub living-added : (k : Kernel) (t : ℕ) → is_living k t ≡ true → has_seat k t ≡ true
+living-added k t e = (living-facts k t e).0
+
+-- and back
+pub living-from_added : (k : Kernel) (t : ℕ) → has_seat k t ≡ true → has_ended (seat_at k t).status ≡ false
+    → is_living k t ≡ true
+living-from_added k t added e = rw (added, e) refl
+
+-- who may run has not ended
+pub ready-not_ended : (x : Status) → is_ready x ≡ true → has_ended x ≡ false
+ready-not_ended (Ready w) e = refl
+ready-not_ended (Queued m) e = refl
+ready-not_ended Stopped e = refl
+ready-not_ended Ended e = absurd (true≢false (sym e))
+
+-- where a thread's seat is as it was, and as many were added, it lives if it did
+pub living-same : (k now : Kernel) (t : ℕ) → has_seat now t ≡ has_seat k t → seat_at now t ≡ seat_at k t
+    → is_living now t ≡ is_living k t
+living-same k now t has seat =
+    λ i. if has i then (if has_ended (ap (λ (x : Seat). x.status) seat i) then false else true) else false
 
 -- who was not added has the place of nobody
 pub seat-unadded : (k : Kernel) → IsKernelShaped k → (u : ℕ) → has_seat k u ≡ false → seat_at k u ≡ no_seat

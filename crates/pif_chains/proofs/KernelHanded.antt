@@ -33,9 +33,7 @@ module _ (u m : ℕ) (k : Kernel) where
 
   -- the kernel before it is settled
   abbrev pub kernel_with_hand_over : Kernel
-  kernel_with_hand_over = record kernel_with_owner {
-    levels = levels_with u (effective_in kernel_with_owner u) k.levels;
-  }
+  kernel_with_hand_over = record kernel_with_owner { levels = levels_with u (effective_in kernel_with_owner u) k.levels }
 
   -- as many threads
   pub length-handed : length kernel_with_hand_over.seats ≡ length k.seats

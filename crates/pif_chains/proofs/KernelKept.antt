@@ -3,7 +3,7 @@ use Rattle.std.proofs.Common.{◌≡◌, ◌≢◌, ◌<◌, ◌≤◌, ℕ, tru
 use Rattle.pif_types.specs.Bounds.{Bounds}
 use Rattle.pif_model.specs.Graph.{is_priority, reaches_within}
 use Rattle.pif_model.specs.PiKernel.{Kernel, IsKernel, seat_at, has_seat, is_living, is_ready, state_at, waits_for, next_in, new_kernel, kernel_after_add, kernel_after_queueing, kernel_after_hand_over, kernel_after_set_prio, kernel_after_stop}
-use Rattle.pif_chains.proofs.KernelFacts.{next-queued}
+use Rattle.pif_chains.proofs.KernelFacts.{next-queued, living-added}
 use Rattle.pif_chains.proofs.KernelNew.{kernel-new}
 use Rattle.pif_chains.proofs.KernelAdded.{kernel-added}
 use Rattle.pif_chains.proofs.KernelQueued.{kernel-queued}
@@ -27,7 +27,7 @@ pub queueing_kept : (t m n : ℕ) (k : Kernel) → IsKernel k → has_seat k t �
     → reaches_within (length k.seats) (waits_for k) n t ≡ false
     → IsKernel (kernel_after_queueing t m n k)
 queueing_kept t m n k h added ready some few owner agrees free =
-    kernel-queued t m n k h added ready some few owner agrees free
+    kernel-queued t m n k h added ready some few (living-added k n owner) agrees free
 
 -- a mutex that has an owner state is handed to its next waiter
 pub hand_over_kept : (m : ℕ) (k : Kernel) → IsKernel k → state_at k m ≢ 0
@@ -37,7 +37,7 @@ hand_over_kept m k h some = kernel-handed (next_in k m) m k h some (next-queued 
 -- a thread gets another base priority
 pub set_prio_kept : (t p : ℕ) (k : Kernel) → IsKernel k → is_priority p ≡ true → is_living k t ≡ true
     → IsKernel (kernel_after_set_prio t p (Ok (record {})) k)
-set_prio_kept t p k h ranged added = kernel-rebased t p k h ranged added
+set_prio_kept t p k h ranged living = kernel-rebased t p k h ranged (living-added k t living)
 
 -- a thread that may run stops for good
 pub stop_kept : (t : ℕ) (k : Kernel) → IsKernel k → has_seat k t ≡ true → is_ready (seat_at k t).status ≡ true

@@ -173,8 +173,7 @@ module _ (k : Kernel) (at : ℕ → ℕ) (s : IsKernelShaped k) (h : IsListed k 
       go (inr d) (inr g) = subst (λ xs. P xs p) (sym (level-by_past (λ q. stay q ++ move q) p g)) (outside p (inr g))
 
   -- each stands at the level of its effective priority
-  pub settled_level : (t p : ℕ) → is_among (level_at (with_effective_levels k).levels p) t
-      ≡ stands k (effective_in k) t p
+  pub settled_level : (t p : ℕ) → is_among (level_at (with_effective_levels k).levels p) t ≡ stands k (effective_in k) t p
   settled_level t p =
       by_level (λ xs q. is_among xs t ≡ stands k (effective_in k) t q) (λ q l m. among-settled t q)
       (λ q out. sym (stands_nowhere t q out)) p

@@ -5,7 +5,6 @@ pub mod Greatest
 pub mod Handed
 pub mod Chains
 pub mod Waiting
-pub mod LineCases
 pub mod Among
 pub mod Next
 pub mod Places
@@ -28,3 +27,6 @@ pub mod KernelAdded
 pub mod KernelCalls
 pub mod KernelPicks
 pub mod KernelPlaces
+pub mod KernelEnded
+pub mod KernelExit
+pub mod LineCases

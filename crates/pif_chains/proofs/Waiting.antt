@@ -57,8 +57,7 @@ unnamed-from_0 (w ∷ ws) u h e =
     let ih = unnamed-from_0 ws u p.1 in
     step (w.0 == u) e ih
   where
-    step : (b : Bool) → (if b then w.1 else waited_by ws u) ≡ 0 → (waited_by ws u ≡ 0 → names u ws ≡ false)
-        → (b || names u ws) ≡ false
+    step : (b : Bool) → (if b then w.1 else waited_by ws u) ≡ 0 → (waited_by ws u ≡ 0 → names u ws ≡ false) → (b || names u ws) ≡ false
     step true e ih = absurd (eqb-false w.1 0 (or_parts (w.1 == 0) (has_waiter ws 0) h).0 e)
     step false e ih = ih e
 
@@ -68,8 +67,7 @@ unfolding waited_by
 paired-from_waited [] u m n e = absurd (n (sym e))
 paired-from_waited (w ∷ ws) u m n e = step (w.0 == u) e (paired-from_waited ws u m n)
   where
-    step : (b : Bool) → (if b then w.1 else waited_by ws u) ≡ m → (waited_by ws u ≡ m → pairs u m ws ≡ true)
-        → ((if b then w.1 == m else false) || pairs u m ws) ≡ true
+    step : (b : Bool) → (if b then w.1 else waited_by ws u) ≡ m → (waited_by ws u ≡ m → pairs u m ws ≡ true) → ((if b then w.1 == m else false) || pairs u m ws) ≡ true
     step true e ih = rw (eq-eqb w.1 m e) refl
     step false e ih = ih e
 
@@ -85,16 +83,14 @@ or_false false = refl
 
 -- two tests of equality in either order
 eqb_flip : (a b : ℕ) → (a == b) ≡ (b == a)
-eqb_flip a b = by_test (λ x. x ≡ (b == a)) (a == b) (λ e. sym (eq-eqb b a (sym (eqb-true a b e))))
-    (λ e. sym (ne_eqb b a (λ h. eqb-false a b e (sym h))))
+eqb_flip a b = by_test (λ x. x ≡ (b == a)) (a == b) (λ e. sym (eq-eqb b a (sym (eqb-true a b e)))) (λ e. sym (ne_eqb b a (λ h. eqb-false a b e (sym h))))
 
 -- a mutex for which one waits has a waiter
 pub has_waiter-from_pair : (ws : List (ℕ × ℕ)) (u m : ℕ) → pairs u m ws ≡ true → has_waiter ws m ≡ true
 has_waiter-from_pair [] u m h = h
 has_waiter-from_pair (w ∷ ws) u m h = step (w.0 == u) (w.1 == m) (has_waiter-from_pair ws u m) h
   where
-    step : (a b : Bool) → (pairs u m ws ≡ true → has_waiter ws m ≡ true)
-        → ((if a then b else false) || pairs u m ws) ≡ true → (b || has_waiter ws m) ≡ true
+    step : (a b : Bool) → (pairs u m ws ≡ true → has_waiter ws m ≡ true) → ((if a then b else false) || pairs u m ws) ≡ true → (b || has_waiter ws m) ≡ true
     step a true ih h = refl
     step true false ih h = ih h
     step false false ih h = ih h
@@ -104,8 +100,7 @@ pub named-from_pair : (ws : List (ℕ × ℕ)) (u m : ℕ) → pairs u m ws ≡ 
 named-from_pair [] u m h = h
 named-from_pair (w ∷ ws) u m h = step (w.0 == u) (w.1 == m) (named-from_pair ws u m) h
   where
-    step : (a b : Bool) → (pairs u m ws ≡ true → names u ws ≡ true)
-        → ((if a then b else false) || pairs u m ws) ≡ true → (a || names u ws) ≡ true
+    step : (a b : Bool) → (pairs u m ws ≡ true → names u ws ≡ true) → ((if a then b else false) || pairs u m ws) ≡ true → (a || names u ws) ≡ true
     step true b ih h = refl
     step false b ih h = ih h
 
@@ -123,8 +118,7 @@ unfolding IsDistinct
 once_tail w ws h = h.1
 
 -- who stands nowhere in a list differs from each in it
-apart : (u : ℕ) (ws : List (ℕ × ℕ)) → names u ws ≡ false
-    → AllByRecursion (λ y. eqb u y ≡ false) (map (λ (w : ℕ × ℕ). w.0) ws)
+apart : (u : ℕ) (ws : List (ℕ × ℕ)) → names u ws ≡ false → AllByRecursion (λ y. eqb u y ≡ false) (map (λ (w : ℕ × ℕ). w.0) ws)
 apart u [] h = tt
 apart u (x ∷ xs) h =
     let p = or_parts (x.0 == u) (names u xs) h in
@@ -141,9 +135,7 @@ once_push [] w h o = once_cons w [] refl o
 once_push (x ∷ xs) w h o =
     let p = or_parts (x.0 == w.0) (names w.0 xs) h in
     once_cons x (xs ++ w ∷ [])
-    (list_any-append (λ (v : ℕ × ℕ). v.0 == x.0) xs (w ∷ [])
-    ∙ or_from (names x.0 xs) (names x.0 (w ∷ [])) (once_head x xs o)
-    (or_from (w.0 == x.0) false (eqb_flip w.0 x.0 ∙ p.0) refl))
+    (list_any-append (λ (v : ℕ × ℕ). v.0 == x.0) xs (w ∷ []) ∙ or_from (names x.0 xs) (names x.0 (w ∷ [])) (once_head x xs o) (or_from (w.0 == x.0) false (eqb_flip w.0 x.0 ∙ p.0) refl))
     (once_push xs w p.1 (once_tail x xs o))
 
 -- who leaves a list leaves the others once
@@ -155,25 +147,20 @@ pub waited-from_pair : (ws : List (ℕ × ℕ)) (u m : ℕ) → Once ws → pair
 unfolding waited_by
 waited-from_pair [] u m o h = absurd (true≢false (sym h))
 waited-from_pair (w ∷ ws) u m o h =
-    by_test (λ b. ((if b then w.1 == m else false) || pairs u m ws) ≡ true
-    → (if b then w.1 else waited_by ws u) ≡ m) (w.0 == u)
+    by_test (λ b. ((if b then w.1 == m else false) || pairs u m ws) ≡ true → (if b then w.1 else waited_by ws u) ≡ m) (w.0 == u)
     (λ e h. by_test (λ c. c ≡ true → w.1 ≡ m) (w.1 == m) (λ k x. eqb-true w.1 m k) (λ k x. absurd (true≢false (sym x)))
     (sym (or_false (w.1 == m)) ∙ ap (λ x. (w.1 == m) || x) (sym (unpaired e)) ∙ h))
     (λ e h. waited-from_pair ws u m (once_tail w ws o) h)
     h
   where
     unpaired : (w.0 == u) ≡ true → pairs u m ws ≡ false
-    unpaired e = by_test (λ b. pairs u m ws ≡ b → b ≡ false) (pairs u m ws)
-        (λ k x. absurd (true≢false (sym (named-from_pair ws u m k)
-        ∙ subst (λ x. names x ws ≡ false) (eqb-true w.0 u e) (once_head w ws o)))) (λ k x. refl) refl
+    unpaired e = by_test (λ b. pairs u m ws ≡ b → b ≡ false) (pairs u m ws) (λ k x. absurd (true≢false (sym (named-from_pair ws u m k) ∙ subst (λ x. names x ws ≡ false) (eqb-true w.0 u e) (once_head w ws o)))) (λ k x. refl) refl
 
 -- LEAVING THE QUEUE
 
 -- a list without u, at its first
-without-first : (P : List (ℕ × ℕ) → Type 0) (w : ℕ × ℕ) (ws : List (ℕ × ℕ)) (u : ℕ) → (w.0 ≡ u → P (without ws u))
-    → (w.0 ≢ u → P (w ∷ without ws u)) → P (without (w ∷ ws) u)
-without-first P w ws u h k = by_test (λ b. P (cond (cond b false true) (w ∷ without ws u) (without ws u))) (w.0 == u)
-    (λ e. h (eqb-true w.0 u e)) (λ e. k (eqb-false w.0 u e))
+without-first : (P : List (ℕ × ℕ) → Type 0) (w : ℕ × ℕ) (ws : List (ℕ × ℕ)) (u : ℕ) → (w.0 ≡ u → P (without ws u)) → (w.0 ≢ u → P (w ∷ without ws u)) → P (without (w ∷ ws) u)
+without-first P w ws u h k = by_test (λ b. P (cond (cond b false true) (w ∷ without ws u) (without ws u))) (w.0 == u) (λ e. h (eqb-true w.0 u e)) (λ e. k (eqb-false w.0 u e))
 
 -- the others stay
 pub named-without_other : (ws : List (ℕ × ℕ)) (u v : ℕ) → v ≢ u → names v (without ws u) ≡ names v ws
@@ -205,8 +192,7 @@ pub waited_by-without_same : (ws : List (ℕ × ℕ)) (u : ℕ) → waited_by (w
 waited_by-without_same ws u = waited_by-unnamed (without ws u) u (named-without_same ws u)
 
 -- a mutex for which nobody waits has no waiter afterwards
-pub has_waiter-without_none : (ws : List (ℕ × ℕ)) (u k : ℕ) → has_waiter ws k ≡ false
-    → has_waiter (without ws u) k ≡ false
+pub has_waiter-without_none : (ws : List (ℕ × ℕ)) (u k : ℕ) → has_waiter ws k ≡ false → has_waiter (without ws u) k ≡ false
 has_waiter-without_none [] u k h = refl
 has_waiter-without_none (w ∷ ws) u k h =
     let p = or_parts (w.1 == k) (has_waiter ws k) h in
@@ -224,29 +210,24 @@ without-unnamed (w ∷ ws) u h =
     (λ e. ap (λ x. w ∷ x) (without-unnamed ws u p.1))
 
 -- the mutexes for which u doesn't wait keep their waiters
-pub has_waiter-without_other : (ws : List (ℕ × ℕ)) (u m k : ℕ) → Once ws → waited_by ws u ≡ m → k ≢ m
-    → has_waiter (without ws u) k ≡ has_waiter ws k
+pub has_waiter-without_other : (ws : List (ℕ × ℕ)) (u m k : ℕ) → Once ws → waited_by ws u ≡ m → k ≢ m → has_waiter (without ws u) k ≡ has_waiter ws k
 unfolding waited_by
 has_waiter-without_other [] u m k o h n = refl
 has_waiter-without_other (w ∷ ws) u m k o h n =
     without-first (λ x. has_waiter x k ≡ ((w.1 == k) || has_waiter ws k)) w ws u
     (λ e. let f : w.1 ≡ m = sym (rw (eq-eqb w.0 u e) refl) ∙ h in
-    rw (ne_eqb w.1 k (λ q. n (sym q ∙ f))) (ap (λ x. has_waiter x k)
-    (without-unnamed ws u (subst (λ x. names x ws ≡ false) e (once_head w ws o)))))
-    (λ e. ap (λ x. (w.1 == k) || x) (has_waiter-without_other ws u m k (once_tail w ws o)
-    (sym (rw (ne_eqb w.0 u e) refl) ∙ h) n))
+    rw (ne_eqb w.1 k (λ q. n (sym q ∙ f))) (ap (λ x. has_waiter x k) (without-unnamed ws u (subst (λ x. names x ws ≡ false) e (once_head w ws o)))))
+    (λ e. ap (λ x. (w.1 == k) || x) (has_waiter-without_other ws u m k (once_tail w ws o) (sym (rw (ne_eqb w.0 u e) refl) ∙ h) n))
 
 -- JOINING THE QUEUE
 
 -- who joins for m makes m a mutex with waiters, and no other
 pub has_waiter-push : (ws : List (ℕ × ℕ)) (t m k : ℕ) → has_waiter (ws ++ (t, m) ∷ []) k ≡ (has_waiter ws k || (m == k))
-has_waiter-push ws t m k = list_any-append (λ (w : ℕ × ℕ). w.1 == k) ws ((t, m) ∷ [])
-    ∙ ap (λ x. has_waiter ws k || x) (or_false (m == k))
+has_waiter-push ws t m k = list_any-append (λ (w : ℕ × ℕ). w.1 == k) ws ((t, m) ∷ []) ∙ ap (λ x. has_waiter ws k || x) (or_false (m == k))
 
 -- who joins stands in the list, and the others as before
 pub named-push : (ws : List (ℕ × ℕ)) (t m u : ℕ) → names u (ws ++ (t, m) ∷ []) ≡ (names u ws || (t == u))
-named-push ws t m u = list_any-append (λ (w : ℕ × ℕ). w.0 == u) ws ((t, m) ∷ [])
-    ∙ ap (λ x. names u ws || x) (or_false (t == u))
+named-push ws t m u = list_any-append (λ (w : ℕ × ℕ). w.0 == u) ws ((t, m) ∷ []) ∙ ap (λ x. names u ws || x) (or_false (t == u))
 
 -- THE NEXT WAITER
 
@@ -258,26 +239,22 @@ waiters_with-none f (w ∷ ws) m h =
     rw p.0 (waiters_with-none f ws m p.1)
 
 -- the next waiter of a mutex that has one is among its waiters
-pub next-is_waiter : (f : ℕ → ℕ) (ws : List (ℕ × ℕ)) (m : ℕ) → has_waiter ws m ≡ true
-    → pairs (next_waiter f ws m) m ws ≡ true
+pub next-is_waiter : (f : ℕ → ℕ) (ws : List (ℕ × ℕ)) (m : ℕ) → has_waiter ws m ≡ true → pairs (next_waiter f ws m) m ws ≡ true
 unfolding next_waiter first_greatest
 next-is_waiter f [] m h = h
 next-is_waiter f (w ∷ ws) m h =
     by_test (λ b. (b || has_waiter ws m) ≡ true →
-    pairs (first_greatest (map (λ (w : ℕ × ℕ). (w.0, f w.0))
-    (cond b (w ∷ filter (λ w. w.1 == m) ws) (filter (λ w. w.1 == m) ws)))).0 m (w ∷ ws) ≡ true)
+    pairs (first_greatest (map (λ (w : ℕ × ℕ). (w.0, f w.0)) (cond b (w ∷ filter (λ w. w.1 == m) ws) (filter (λ w. w.1 == m) ws)))).0 m (w ∷ ws) ≡ true)
     (w.1 == m)
     (λ e h. by_test (λ b. pairs (if b then first_greatest (waiters_with f ws m) else (w.0, f w.0)).0 m (w ∷ ws) ≡ true)
     (nat_lt (f w.0) (first_greatest (waiters_with f ws m)).1)
     (λ k. by_test (λ c. has_waiter ws m ≡ c → pairs (next_waiter f ws m) m (w ∷ ws) ≡ true) (has_waiter ws m)
     (λ q x. later (next-is_waiter f ws m q))
-    (λ q x. absurd (true≢false (sym k ∙ ap (λ (l : List (ℕ × ℕ)). nat_lt (f w.0) (first_greatest l).1)
-    (waiters_with-none f ws m q) ∙ le-ltb (f w.0) 0 (omega arith))))
+    (λ q x. absurd (true≢false (sym k ∙ ap (λ (l : List (ℕ × ℕ)). nat_lt (f w.0) (first_greatest l).1) (waiters_with-none f ws m q) ∙ le-ltb (f w.0) 0 (omega arith))))
     refl)
     (λ k. rw (eq-eqb w.0 w.0 refl, e) refl))
     (λ e h. later (next-is_waiter f ws m h))
     h
   where
     later : pairs (next_waiter f ws m) m ws ≡ true → pairs (next_waiter f ws m) m (w ∷ ws) ≡ true
-    later q = ap (λ x. (if w.0 == next_waiter f ws m then w.1 == m else false) || x) q
-        ∙ or_true (if w.0 == next_waiter f ws m then w.1 == m else false)
+    later q = ap (λ x. (if w.0 == next_waiter f ws m then w.1 == m else false) || x) q ∙ or_true (if w.0 == next_waiter f ws m then w.1 == m else false)

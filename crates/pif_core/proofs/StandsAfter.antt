@@ -1,27 +1,33 @@
 -- What a core that stands shows, and that it stands after each call.
-use Rattle.std.proofs.Common.{◌≡◌, ℕ, ◌≤◌, ◌==◌, Bool, true, false, List, ◌∷◌, length, Option, Some, None, IfSome, unwrap_or, refl, sym, ap, ◌∙◌, subst, eqb-true, if◌then◌else◌}
+use Rattle.std.proofs.Common.{◌≡◌, ◌≢◌, ℕ, ◌≤◌, ◌==◌, Bool, true, false, List, ◌∷◌, length, Option, Some, None, IfSome, unwrap_or, refl, sym, ap, ◌∙◌, subst, eqb-true, if◌then◌else◌}
 use Rattle.std.specs.Option.{is_some}
+use Rattle.std.proofs.lemmas.Bool.{eqb-false}
+use Rattle.pif_chains.proofs.KernelFacts.{living-added}
+use Rattle.pif_chains.proofs.Waiting.{by_test}
 use Rattle.pif_types.specs.declared.requests.Kind.{Kind}
+use Rattle.pif_types.specs.declared.requests.Health.{Health}
+use Rattle.pif_types.specs.declared.requests.Health.TheVariants.{Fine, Inconsistent, Unusable}
 use Rattle.pif_model.specs.declared.events.Event.{Event}
 use Rattle.pif_model.specs.declared.events.Seen.{Seen}
 use Rattle.pif_model.specs.declared.events.Entry.{Entry}
 use Rattle.pif_model.specs.declared.events.Entry.TheVariants.{Thread as AddThread, Mutex as AddMutex, Step as Happened}
-use Rattle.pif_model.specs.Posix.{World, IsLegal, is_thread, is_mutex, effective_of}
+use Rattle.pif_model.specs.Posix.{World, IsLegal, is_thread, is_mutex, mutex_at, effective_of}
+use Rattle.pif_model.specs.Posix.Health.{Inconsistent as WasInconsistent}
 use Rattle.pif_model.specs.Posix.{is_living as lives}
 use Rattle.pif_model.specs.History.{AlwaysOneHolder}
 use Rattle.pif_model.specs.PiKernel.{is_living, effective_in, pick_in}
 use Rattle.pif_model.specs.Table.{Table, cell_at, has_mutex, thread_added, mutex_added}
-use Rattle.pif_model.specs.Calls.{effective_answer, word_answer, pick_answer}
-use Rattle.pif_model.specs.Word.{word_of, bits_of}
+use Rattle.pif_model.specs.Calls.{effective_answer, word_answer, health_answer, pick_answer}
+use Rattle.pif_model.specs.Word.{word_of, bits_of, health_in, health_word}
 use Rattle.pif_model.specs.Lines.{event_outcome}
-use Rattle.pif_model.specs.Standing.{Stands, HasEffective, IsPick, IsPossible}
+use Rattle.pif_model.specs.Standing.{Stands, HasEffective, IsPick, IsPossible, IsPossibleHealth, ArePossible}
 use Rattle.pif_simulation.proofs.StandingLaws.{event_stands, thread_added_stands, mutex_added_stands}
 use Rattle.pif_simulation.proofs.Holders.{one_holder}
 use Rattle.pif_simulation.proofs.Shown.{threads_shown, is_thread_seen, is_mutex_seen, living_seen}
 use Rattle.pif_simulation.proofs.Effective.{effective_seen}
-use Rattle.pif_simulation.proofs.Picks.{pick_runs, word_is_possible}
+use Rattle.pif_simulation.proofs.Picks.{pick_runs, word_is_possible, health_is_possible, died_behind_inconsistent}
 use Rattle.pif_simulation.proofs.Priority.{effective_is_greatest}
-use Rattle.pif_core.proofs.SoundTables.{thread_room, mutex_room, priority}
+use Rattle.pif_core.proofs.Rooms.{thread_room, mutex_room, priority}
 
 -- AFTER A CALL
 
@@ -48,11 +54,11 @@ thread_stands s v t p base after is same le low high h r w st =
     rw (after, is, ← same) (thread_added_stands s base h r w st (thread_room s le) (priority base low high))
 
 -- after an addition of a mutex
-pub mutex_stands : (s v : Table) (m : ℕ) (k : Kind) (robust : Bool) → v ≡ mutex_added k false s → m ≡ length s.mutexes
-    → robust ≡ false → length s.mutexes ≤ s.limits.mutexes → (h : List Entry) (r : List World) (w : World)
+pub mutex_stands : (s v : Table) (m : ℕ) (k : Kind) (robust : Bool) → v ≡ mutex_added k robust s → m ≡ length s.mutexes
+    → length s.mutexes ≤ s.limits.mutexes → (h : List Entry) (r : List World) (w : World)
     → Stands s h r w → (u : World) × Stands v (AddMutex m k robust ∷ h) (w ∷ r) u
-mutex_stands s v m k robust after is stalled le h r w st =
-    rw (after, is, stalled) (mutex_added_stands s k h r w st (mutex_room s le))
+mutex_stands s v m k robust after is le h r w st =
+    rw (after, is) (mutex_added_stands s k robust h r w st (mutex_room s le))
 
 module _ (s : Table) (h : List Entry) (r : List World) (w : World) (st : Stands s h r w) where
   -- WHAT A READER SHOWS
@@ -64,7 +70,8 @@ module _ (s : Table) (h : List Entry) (r : List World) (w : World) (st : Stands 
   -- the effective priority in the kernel is that of the subject
   effective_stands : (t : ℕ) → is_living s.kernel t ≡ true → HasEffective w t (effective_in s.kernel t)
   effective_stands t living =
-      let known = ap (λ (u : World). is_thread u t) st.shows ∙ is_thread_seen st.sound.all.shape st.shadow t ∙ living in
+      let known = ap (λ (u : World). is_thread u t) st.shows ∙ is_thread_seen st.sound.all.shape st.shadow t
+      ∙ living-added s.kernel t living in
       let same = ap (λ (f : ℕ → ℕ). f t) (effective_seen st.sound st.shadow)
       ∙ ap (λ (u : World). effective_of u t) (sym st.shows) in
       subst (λ (p : ℕ). HasEffective w t p) (sym same) (effective_is_greatest s.limits h r w st.run t known)
@@ -72,6 +79,18 @@ module _ (s : Table) (h : List Entry) (r : List World) (w : World) (st : Stands 
   -- the kernel's pick is that of the subject
   pick_stands : IsPick w (pick_in s.kernel)
   pick_stands = subst (λ u. IsPick u (pick_in s.kernel)) (sym st.shows) (pick_runs st.sound st.shadow)
+
+  -- a mutex's health word is possible, and OWNER_DIED where it doesn't say that the mutex is inconsistent
+  health_stands : (m : ℕ) → has_mutex s m ≡ true → IsPossibleHealth w m (cell_at s m).health
+  health_stands m known =
+      subst (λ u. IsPossibleHealth u m (cell_at s m).health) (sym st.shows)
+      (health_is_possible st.sound st.shadow m known)
+
+  died_stands : (m : ℕ) → has_mutex s m ≡ true → (mutex_at w m).health ≡ WasInconsistent → (cell_at s m).health ≢ 1
+      → (cell_at s m).word.died ≡ true
+  died_stands m known e n =
+      died_behind_inconsistent st.sound st.shadow m known
+      (ap (λ (u : World). (mutex_at u m).health) (sym st.shows) ∙ e) n
 
   -- a mutex's word is possible
   word_stands : (m : ℕ) → has_mutex s m ≡ true → IsPossible w m (cell_at s m).word
@@ -141,3 +160,61 @@ word_answered s m o h r w st e =
         → IfSome (if b then Some (bits_of (cell_at s m).word) else None) (λ bits. IsPossible w m (word_of bits))
     by_test true known same = subst (IsPossible w m) (sym same) (word_stands s h r w st m known)
     by_test false known same = tt
+
+-- the reader of health words answers for the mutexes that were added
+pub health_is_some : (s : Table) (m : ℕ) (o : Option Health) (h : List Entry) (r : List World) (w : World)
+    → Stands s h r w → o ≡ health_answer m s → is_some o ≡ is_mutex w m
+health_is_some s m o h r w st e =
+    ap is_some e ∙ there_by_test (has_mutex s m) (health_in (cell_at s m).health)
+    ∙ sym (ap (λ (u : World). is_mutex u m) st.shows ∙ is_mutex_seen st.sound.all.shape st.shadow m)
+  where
+    there_by_test : (b : Bool) (x : Health) → is_some (if b then Some x else None) ≡ b
+    there_by_test true x = refl
+    there_by_test false x = refl
+
+-- a fact of a number holds of the one that a health word's health has, if it holds of 2, of 1 or of 0 for any other
+by_health : (P : ℕ → Type 0) (n : ℕ) → (n ≡ 2 → P 2) → (n ≡ 1 → P 1) → (n ≢ 2 → n ≢ 1 → P 0)
+    → P (health_word (health_in n))
+by_health P n two one other =
+    by_test (λ b. P (health_word (if b then Unusable else (if n == 1 then Inconsistent else Fine)))) (n == 2)
+    (λ e. two (eqb-true n 2 e))
+    (λ e. by_test (λ b. P (health_word (if b then Inconsistent else Fine))) (n == 1)
+    (λ d. one (eqb-true n 1 d)) (λ d. other (eqb-false n 2 e) (eqb-false n 1 d)))
+
+module _ (s : Table) (m : ℕ) (h : List Entry) (r : List World) (w : World) (st : Stands s h r w)
+    (known : has_mutex s m ≡ true) where
+  -- the health that a reader answers is possible
+  health_said : IsPossibleHealth w m (health_word (health_in (cell_at s m).health))
+  health_said =
+      let is : IsPossibleHealth w m (cell_at s m).health = health_stands s h r w st m known in
+      by_health (IsPossibleHealth w m) (cell_at s m).health
+      (λ e. subst (IsPossibleHealth w m) e is) (λ e. subst (IsPossibleHealth w m) e is)
+      (λ n k. record {
+        unusable = λ e. cc;
+        given_up = λ e. absurd (n (is.given_up e));
+        inconsistent = λ e. cc;
+      })
+
+  -- and with the mutex's word
+  both_said : ArePossible w m (cell_at s m).word (health_word (health_in (cell_at s m).health))
+  both_said = by_health (ArePossible w m (cell_at s m).word) (cell_at s m).health
+      (λ e d z. cc) (λ e d z. cc) (λ n k d z. died_stands s h r w st m known d k)
+
+-- what holds of the health that a reader answers, if it answers
+by_known : (P : Health → Type 0) (b : Bool) (x : Health) → (b ≡ true → P x) → IfSome (if b then Some x else None) P
+by_known P true x f = f refl
+by_known P false x f = tt
+
+pub health_answered : (s : Table) (m : ℕ) (o : Option Health) (h : List Entry) (r : List World) (w : World)
+    → Stands s h r w → o ≡ health_answer m s → IfSome o (λ x. IsPossibleHealth w m (health_word x))
+health_answered s m o h r w st e =
+    subst (λ (x : Option Health). IfSome x (λ y. IsPossibleHealth w m (health_word y))) (sym e)
+    (by_known (λ y. IsPossibleHealth w m (health_word y)) (has_mutex s m) (health_in (cell_at s m).health)
+    (health_said s m h r w st))
+
+pub both_answered : (s : Table) (m : ℕ) (o : Option Health) (h : List Entry) (r : List World) (w : World)
+    → Stands s h r w → o ≡ health_answer m s → IfSome o (λ x. ArePossible w m (cell_at s m).word (health_word x))
+both_answered s m o h r w st e =
+    subst (λ (x : Option Health). IfSome x (λ y. ArePossible w m (cell_at s m).word (health_word y))) (sym e)
+    (by_known (λ y. ArePossible w m (cell_at s m).word (health_word y)) (has_mutex s m)
+    (health_in (cell_at s m).health) (both_said s m h r w st))

@@ -1,17 +1,19 @@
 ghost use Rattle.std.specs.Prelude.{ℕ, ◌≡◌, ◌+◌, length, true, false, List, [], ◌∷◌, None, IfOk, IfSome, is_some, unwrap_or};
 ghost use Rattle.pif_model.specs.declared.events.Entry.{Entry};
-ghost use Rattle.pif_model.specs.Word.{word_of};
-ghost use Rattle.pif_model.specs.Posix.{World, IsLegal, is_living, is_mutex};
+ghost use Rattle.pif_model.specs.Word.{word_of, health_word};
+ghost use Rattle.pif_model.specs.PiKernel.{is_living};
+ghost use Rattle.pif_model.specs.Posix.{World, IsLegal, is_mutex};
+ghost use Rattle.pif_model.specs.Posix.{is_living as lives};
 ghost use Rattle.pif_model.specs.History.{AlwaysOneHolder};
-ghost use Rattle.pif_model.specs.Standing.{Stands, HasEffective, IsPick, IsPossible};
-ghost use Rattle.pif_model.specs.Table.{new_table, line_at, has_thread, has_mutex};
+ghost use Rattle.pif_model.specs.Standing.{Stands, HasEffective, IsPick, IsPossible, IsPossibleHealth, ArePossible};
+ghost use Rattle.pif_model.specs.Table.{new_table, line_at, cell_at, has_thread, has_mutex};
 ghost use Rattle.pif_model.specs.Lines.{table_refusal, accepted_outcome, event_outcome, is_open, goes_on, ClosesOrWaits};
-ghost use Rattle.pif_model.specs.Calls.{add_thread_answer, add_thread_after, add_mutex_answer, add_mutex_after, effective_answer, word_answer, pick_answer, threads_answer};
+ghost use Rattle.pif_model.specs.Calls.{add_thread_answer, add_thread_after, add_mutex_answer, add_mutex_after, effective_answer, word_answer, health_answer, pick_answer, threads_answer};
 
 use pif_kernel::PlainKernel;
 use pif_model::{Entry, Event, Seen};
 use pif_mutex::{Parts, Progress, advance};
-use pif_types::{AddFault, Kind, Limits, MutexId, NoMemory, Prio, Refusal, Request, Tid};
+use pif_types::{AddFault, Health, Kind, Limits, MutexId, NoMemory, Prio, Refusal, Request, Tid};
 use std::alloc::Global;
 use std::marker::Model;
 
@@ -26,13 +28,10 @@ pub struct Core {
 
 impl Model for Core {
     ghost use Rattle.pif_model.specs.Table.{Table};
-    ghost use Rattle.pif_model.specs.Standing.{IsSound};
 
     ghost Value = { Table };
 
     ghost view = { λ c. c.parts };
-
-    ghost invariant = { λ c. IsSound c.parts };
 }
 
 impl Core {
@@ -67,26 +66,27 @@ impl Core {
         }
     }
 
-    /// Adds a mutex of this kind, free: the next number from 1. `TooMany` where the limit is reached; nothing has
-    /// changed then. No mutex is robust yet.
+    /// Adds a mutex of this kind, free and fine, which is robust or stalled (pthread_mutexattr_settype and
+    /// pthread_mutexattr_setrobust of POSIX): the next number from 1. `TooMany` where the limit is reached; nothing has
+    /// changed then.
     pub fn add_mutex(&mut self, kind: Kind, robust: bool) -> Result<MutexId, AddFault>
-        requires { robust ≡ false }
         ensures answer { result ≡ add_mutex_answer self.old }
         ensures after { self.new ≡ add_mutex_after kind robust result self.old }
         ensures stands { IfOk result (λ m. (h : List Entry) (r : List World) (w : World) → Stands self.old h r w
             → (v : World) × Stands self.new (Entry.Mutex m kind robust ∷ h) (w ∷ r) v) }
     {
         if self.parts.mutexes() < self.parts.limits().mutexes() {
-            Ok(self.parts.add_mutex(kind))
+            Ok(self.parts.add_mutex(kind, robust))
         } else {
             Err(AddFault::TooMany)
         }
     }
 
     /// One event: what it is answered. It is refused, and nothing changes, by the first of these that holds: `NoSuch`
-    /// where the thread was never added, `Busy` where a thread with a call open begins one, `Idle` where a thread goes
-    /// on that has none, and `NoSuch` where the mutex of a call was never added. A call that is open closes or waits
-    /// within 24 steps of its thread, where no other event comes between.
+    /// where the thread was never added, `Dead` where it has ended, `Busy` where a thread with a call open begins one,
+    /// `Idle` where a thread goes on that has none, and `NoSuch` where the mutex of a call was never added. A thread may
+    /// end at any point, with a call open or not. A call that is open closes or waits within 24 steps of its thread,
+    /// where no other event comes between.
     pub fn step(&mut self, event: Event) -> Seen
         ensures seen { result ≡ (event_outcome event self.old).seen }
         ensures after { self.new ≡ (event_outcome event self.old).after }
@@ -96,7 +96,7 @@ impl Core {
             → IsLegal self.new.limits (Entry.Step event result ∷ h) }
         ensures holders { (h : List Entry) (r : List World) (w : World) → Stands self.old h r w
             → AlwaysOneHolder (Entry.Step event result ∷ h) }
-        ensures ends { (t : ℕ) → has_thread self.new t ≡ true → is_open (line_at self.new t) ≡ true
+        ensures ends { (t : ℕ) → is_living self.new.kernel t ≡ true → is_open (line_at self.new t) ≡ true
             → ClosesOrWaits (goes_on 23 t self.new).seen }
     {
         self.turn(event)
@@ -107,7 +107,7 @@ impl Core {
     pub fn effective(&self, thread: Tid) -> Option<Prio>
         ensures value { result ≡ effective_answer thread self.now }
         ensures added { (h : List Entry) (r : List World) (w : World) → Stands self.now h r w
-            → is_some result ≡ is_living w thread }
+            → is_some result ≡ lives w thread }
         ensures priority { (h : List Entry) (r : List World) (w : World) → Stands self.now h r w
             → IfSome result (λ p. HasEffective w thread p) }
     {
@@ -123,6 +123,20 @@ impl Core {
             → IfSome result (λ bits. IsPossible w mutex (word_of bits)) }
     {
         self.parts.word(mutex)
+    }
+
+    /// The health of a mutex, as its health word has it. Right after its owner ended it is still what it was: who takes
+    /// the mutex next writes it. That of a stalled mutex is `Fine`. `None` where the mutex was never added.
+    pub fn health(&self, mutex: MutexId) -> Option<Health>
+        ensures value { result ≡ health_answer mutex self.now }
+        ensures added { (h : List Entry) (r : List World) (w : World) → Stands self.now h r w
+            → is_some result ≡ is_mutex w mutex }
+        ensures possible { (h : List Entry) (r : List World) (w : World) → Stands self.now h r w
+            → IfSome result (λ x. IsPossibleHealth w mutex (health_word x)) }
+        ensures both { (h : List Entry) (r : List World) (w : World) → Stands self.now h r w
+            → IfSome result (λ x. ArePossible w mutex (cell_at self.now mutex).word (health_word x)) }
+    {
+        self.parts.health(mutex)
     }
 
     /// The thread that runs next: of the ready threads of greatest effective priority the first that joined them.
@@ -158,34 +172,50 @@ impl Core {
         mutex.get() <= self.parts.mutexes()
     }
 
-    /// Why a Begin is refused, if it is: the thread was never added, has a call open, or names a mutex that was never
-    /// added.
-    fn begin_refusal(&self, thread: Tid, request: Request) -> Option<Refusal>
-        ensures { result ≡ table_refusal self.now (Event.Begin thread request) }
+    /// Why a thread is refused, if it is: it was never added, or has ended.
+    fn thread_refusal(&self, thread: Tid) -> Option<Refusal>
+        ensures { result ≡ table_refusal self.now (Event.End thread) }
     {
         if !self.has_thread(thread) {
             return Some(Refusal::NoSuch);
+        }
+        if self.parts.is_living(thread) {
+            None
+        } else {
+            Some(Refusal::Dead)
+        }
+    }
+
+    /// Why a Begin is refused, if it is: the thread was never added, has ended, has a call open, or names a mutex that was
+    /// never added.
+    fn begin_refusal(&self, thread: Tid, request: Request) -> Option<Refusal>
+        ensures { result ≡ table_refusal self.now (Event.Begin thread request) }
+    {
+        if let Some(refusal) = self.thread_refusal(thread) {
+            return Some(refusal);
         }
         if self.parts.is_open(thread) {
             return Some(Refusal::Busy);
         }
         match request {
-            Request::Lock(mutex) | Request::TryLock(mutex) | Request::Unlock(mutex) =>
-                if self.has_mutex(mutex) {
-                    None
-                } else {
-                    Some(Refusal::NoSuch)
-                },
+            Request::Lock(mutex)
+            | Request::TryLock(mutex)
+            | Request::Unlock(mutex)
+            | Request::Consistent(mutex) => if self.has_mutex(mutex) {
+                None
+            } else {
+                Some(Refusal::NoSuch)
+            },
             Request::SetPrio(_, _) => None,
         }
     }
 
-    /// Why a Go is refused, if it is: the thread was never added, or has no call open.
+    /// Why a Go is refused, if it is: the thread was never added, has ended, or has no call open.
     fn go_refusal(&self, thread: Tid) -> Option<Refusal>
         ensures { result ≡ table_refusal self.now (Event.Go thread) }
     {
-        if !self.has_thread(thread) {
-            return Some(Refusal::NoSuch);
+        if let Some(refusal) = self.thread_refusal(thread) {
+            return Some(refusal);
         }
         if self.parts.is_open(thread) {
             None
@@ -201,6 +231,7 @@ impl Core {
         match *event {
             Event::Begin(thread, request) => self.begin_refusal(thread, request),
             Event::Go(thread) => self.go_refusal(thread),
+            Event::End(thread) => self.thread_refusal(thread),
         }
     }
 
@@ -225,6 +256,7 @@ impl Core {
         match event {
             Event::Begin(thread, request) => self.begin(thread, request),
             Event::Go(thread) => self.go(thread),
+            Event::End(thread) => self.end(thread),
         }
     }
 
@@ -251,5 +283,16 @@ impl Core {
             Progress::Waits => Seen::Waits,
             Progress::Done(answer) => Seen::Answered(answer),
         }
+    }
+
+    /// A thread ends, which is not refused.
+    #[tactic(auto, unfolding(pif_model::specs::Lines::accepted_outcome))]
+    fn end(&mut self, thread: Tid) -> Seen
+        requires { table_refusal self.old (Event.End thread) ≡ None }
+        ensures seen { result ≡ (accepted_outcome (Event.End thread) self.old).seen }
+        ensures after { self.new ≡ (accepted_outcome (Event.End thread) self.old).after }
+    {
+        self.parts.end(thread);
+        Seen::Ended
     }
 }

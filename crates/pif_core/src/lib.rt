@@ -5,10 +5,14 @@
 //! | What is asked | Refused by | Where |
 //! |---|---|---|
 //! | `Begin` | `NoSuch` | the thread was never added |
+//! | | `Dead` | the thread has ended |
 //! | | `Busy` | the thread has a call open |
 //! | | `NoSuch` | the call names a mutex that was never added |
 //! | `Go` | `NoSuch` | the thread was never added |
+//! | | `Dead` | the thread has ended |
 //! | | `Idle` | the thread has no call open |
+//! | `End` | `NoSuch` | the thread was never added |
+//! | | `Dead` | the thread has ended |
 //! | `add_thread` | `BadPrio` | the priority is outside 1 to 99 |
 //! | | `TooMany` | as many threads were added as the limits allow |
 //! | `add_mutex` | `TooMany` | as many mutexes were added as the limits allow |

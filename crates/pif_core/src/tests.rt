@@ -1,6 +1,6 @@
 use crate::Core;
 use pif_model::{Event, Seen};
-use pif_types::{AddFault, Kind, Limits, MutexId, Prio, Request, Tid};
+use pif_types::{AddFault, Health, Kind, Limits, MutexId, Prio, Refusal, Request, Tid};
 use std::alloc::Global;
 use std::process::Abort;
 use std::test::Fail;
@@ -91,4 +91,29 @@ fn serve_equals(rt: &impl Abort, core: &mut Core) -> Result<(), Fail> {
         (1, Request::Unlock(mutex), 3, Seen::Answered(0), 0x8000_0002),
     ];
     play(rt, core, &rows)
+}
+
+#[test]
+fn who_has_ended_is_refused(rt: HostRuntime) -> Result<(), Fail> {
+    let mut core = scene(rt.alloc(), Kind::Normal, &[10])?;
+    end_once(&rt, &mut core)
+}
+
+fn end_once(rt: &impl Abort, core: &mut Core) -> Result<(), Fail> {
+    let mutex = MutexId::new(1).ok_or("a mutex")?;
+    let thread = Tid::new(1).ok_or("a thread")?;
+    assert_eq!(rt; core.step(Event::End(thread)), Seen::Ended);
+    let later = [
+        Event::Begin(thread, Request::Lock(mutex)),
+        Event::Go(thread),
+        Event::End(thread),
+    ];
+    for event in later {
+        assert_eq!(rt; core.step(event), Seen::Refused(Refusal::Dead), "{event:?}");
+    }
+    assert_eq!(rt;
+        (core.effective(thread), core.health(mutex), core.threads()),
+        (None, Some(Health::Fine), 1)
+    );
+    Ok(())
 }

@@ -13,6 +13,7 @@ use Rattle.pif_model.specs.PiKernel.{Kernel, state_at, is_living, waits_for, wai
 use Rattle.pif_word.specs.declared.cells.Cell.TheVariants.{Mutex}
 use Rattle.pif_word.specs.WordMap.{WordMap, HasCell, bits_at, with_bits, words_of}
 use Rattle.pif_rtmutex.specs.Owners.{WaitsFor}
+use Rattle.pif_chains.proofs.KernelFacts.{living-added}
 use Rattle.pif_chains.proofs.KernelSettled.{priority-from_range}
 use Rattle.pif_chains.proofs.Places.{mapped_at}
 use Rattle.pif_chains.proofs.Numbers.{from_within, within}
@@ -76,7 +77,9 @@ map_set (w ∷ ws) (suc m) bits = ap (λ (l : List Word). word_of w ∷ l) (map_
 -- another word
 pub words_stored : (s s' : WordMap) (m bits : ℕ) → s' ≡ with_bits (Mutex m) bits s
     → words_of s' ≡ set_word (words_of s) m (word_of bits)
-words_stored s s' m bits e = ap words_of e ∙ ap (λ (l : List Word). record { mutexes = l }) (map_set s.mutexes m bits)
+words_stored s s' m bits e =
+    ap words_of e
+    ∙ ap (λ (l : List Word). record { mutexes = l; healths = s.healths }) (map_set s.mutexes m bits)
 
 -- CYCLES
 
@@ -89,7 +92,11 @@ closes_seen p h t owner r l closes =
     (reaches_within (length (kernel_of p).seats) (waits_for (kernel_of p)) owner t) r (
       (λ e. reaches-from_within (length (kernel_of p).seats) (waits_for (kernel_of p)) owner t e),
       (λ c. within-from_reaches (length (kernel_of p).seats) (waits_for (kernel_of p)) owner t
-          (omega (arith, (added_seen p (fits p h) owner l).1, seats_length p (fits p h)))
+          (omega (
+            arith,
+            (added_seen p (fits p h) owner (living-added (kernel_of p) owner l)).1,
+            seats_length p (fits p h),
+          ))
           (λ x some. waits_below p (fits p h) x) c),
     )
     (subst (λ (w : ℕ → ℕ). IsTrue r ↔ Reaches (Follows w) owner t) (fun_ext (owners_waits p (fits p h))) closes)

@@ -9,6 +9,7 @@ use Rattle.pif_model.specs.PiKernel.{seat_at as kernel_seat_at, with_seat as ker
 use Rattle.pif_rtmutex.specs.Owners.{Seat, Wait, seat_at, owner_at, waits_on, rank_of, no_seat, with_base}
 use Rattle.pif_rtmutex.specs.Owners.{waits_for as owners_wait_for}
 use Rattle.pif_boost.specs.Boosts.{IsRepairedBut}
+use Rattle.pif_chains.proofs.KernelFacts.{living-added}
 use Rattle.pif_chains.proofs.KernelSettled.{priority-from_range}
 use Rattle.pif_chains.proofs.KernelKept.{set_prio_kept}
 use Rattle.pif_chains.proofs.Places.{kept_at}
@@ -31,11 +32,14 @@ module _ (p : Plain) (t prio : ℕ) (h : IsSound p) (lives : is_living (kernel_o
   fit : IsFitted p
   fit = fits p h
 
+  known : has_seat (kernel_of p) t ≡ true
+  known = living-added (kernel_of p) t lives
+
   nonzero : t ≢ 0
-  nonzero = (added_seen p fit t lives).0
+  nonzero = (added_seen p fit t known).0
 
   added : t < length p.statuses
-  added = (added_seen p fit t lives).1
+  added = (added_seen p fit t known).1
 
   inside : t < length p.owners.seats
   inside = omega (arith, added, fit.few)

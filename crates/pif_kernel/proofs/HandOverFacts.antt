@@ -1,7 +1,7 @@
 -- What holds while a mutex is handed to its next waiter.
 use Rattle.std.proofs.Common.{◌≡◌, ◌≢◌, ℕ, ◌+◌, true, if◌then◌else◌, List, length, get_or, set, Option, Some, None}
 use Rattle.pif_model.specs.Graph.{has_waiter, without}
-use Rattle.pif_model.specs.PiKernel.{is_ready}
+use Rattle.pif_model.specs.PiKernel.{queued_on}
 use Rattle.pif_model.specs.PiKernel.{seat_at as kernel_seat_at}
 use Rattle.pif_rtmutex.specs.Owners.{Owners, seat_at, owner_at, count, IsTop}
 use Rattle.pif_kernel.specs.Plain.{Plain, IsSound, kernel_of, key_at, state_at}
@@ -27,7 +27,7 @@ pub record IsHandable (p : Plain) (t m key : ℕ) : Type 0 where
   pub sound : IsSound p
   pub at : key_at p m ≡ Some key
   pub owner : state_at p m ≡ t
-  pub ready : is_ready (kernel_seat_at (kernel_of p) t).status ≡ true
+  pub idle : queued_on (kernel_seat_at (kernel_of p) t).status ≡ 0
 
 -- what is known once t handed m to u
 pub record IsHanding (old p x : Plain) (t m key u : ℕ) : Type 0 where

@@ -37,7 +37,6 @@ use Rattle.pif_kernel.proofs.Picked.{levels_count, levels_joined, length-joined}
 use Rattle.pif_kernel.proofs.Standing.{fits, effective_level, unqueued_free}
 use Rattle.pif_kernel.proofs.ChainLaws.{repaired_but}
 use Rattle.pif_kernel.proofs.QueueLaws.{rise_once}
-use Rattle.pif_kernel.proofs.Waiters.{ready_idle}
 use Rattle.pif_kernel.proofs.TopLaws.{waits_under, priority_below, top_is_next}
 use Rattle.pif_kernel.proofs.WalkSound.{IsWalkable, owners_effective}
 
@@ -106,8 +105,8 @@ module _ (p : Plain) (t m key u : ℕ) (d : IsHandable p t m key) (top : IsTop p
 
   owner_other : t ≢ u
   owner_other e =
-      true≢false (sym d.ready ∙ ap is_ready (status_seen p fit t) ∙ ap (λ (x : ℕ). is_ready (status_at p x)) e
-      ∙ ap is_ready status_next)
+      mutex_some (sym (ap queued_on status_next) ∙ ap (λ (x : ℕ). queued_on (status_at p x)) (sym e)
+      ∙ sym (ap queued_on (status_seen p fit t)) ∙ d.idle)
 
   pub level_some : 1 ≤ effective_in (kernel_of p) u
   level_some = (effective_level p h u next_known).0
@@ -398,7 +397,7 @@ module _ (p : Plain) (t m key u : ℕ) (d : IsHandable p t m key) (top : IsTop p
 
     idle : waits_for (kernel_of p) t ≡ 0
     idle =
-        waits_seen p fit t ∙ ap (state_at p) (ready_idle p h t d.ready)
+        waits_seen p fit t ∙ ap (state_at p) (sym (ap queued_on (status_seen p fit t)) ∙ d.idle)
         ∙ ap (λ (k : Option ℕ). unwrap_or (option_and_then (owner_at p.owners) k) 0) h.placed.no_mutex
 
     below : (x : ℕ) → owners_wait_for p.owners x < length p.owners.seats

@@ -21,3 +21,5 @@ pub mod TopLaws
 pub mod WaitersWithout
 pub mod HandOverFacts
 pub mod HandOverSound
+pub mod LeavingFacts
+pub mod LeavingSound

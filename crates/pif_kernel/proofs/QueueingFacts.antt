@@ -11,6 +11,7 @@ use Rattle.pif_model.specs.PiKernel.{Kernel, queued_on, has_seat, is_living, is_
 use Rattle.pif_model.specs.PiKernel.{seat_at as kernel_seat_at, state_at as kernel_state_at}
 use Rattle.pif_rtmutex.specs.Owners.{Owners, Seat, Wait, no_seat, seat_at, owner_at, waits_on, with_wait, WaitsFor}
 use Rattle.pif_rtmutex.specs.Owners.{waits_for as owners_wait_for}
+use Rattle.pif_chains.proofs.KernelFacts.{living-added}
 use Rattle.pif_chains.proofs.Following.{Follows, within-from_reaches}
 use Rattle.pif_kernel.specs.Plain.{Plain, IsSound, IsOpened, Rise, kernel_of, status_at, key_at, state_at, ticket_of}
 use Rattle.pif_kernel.proofs.Seats.{seats_length, waits_below, owners_waits, added_seen, states_seen}
@@ -115,7 +116,11 @@ no_cycle now p x t m owner key ticket i n e r =
     let at : n ≡ owner = cc in
     true≢false
     (sym (within-from_reaches (length (kernel_of p).seats) (waits_for (kernel_of p)) owner t
-    (omega (arith, (added_seen p (fits p i.sound) owner i.living).1, seats_length p (fits p i.sound)))
+    (omega (
+      arith,
+      (added_seen p (fits p i.sound) owner (living-added (kernel_of p) owner i.living)).1,
+      seats_length p (fits p i.sound),
+    ))
     (λ y some. waits_below p (fits p i.sound) y)
     (subst (λ (w : ℕ → ℕ). Reaches (Follows w) owner t) (fun_ext (waits_open now p x t m owner key ticket i))
     (subst (λ (y : ℕ). Reaches (WaitsFor x.owners) y t) at r)))

@@ -18,7 +18,7 @@ use Rattle.pif_rtmutex.specs.Owners.{Owners, Seat, Wait, seat_at, owner_at, coun
 use Rattle.pif_rtmutex.specs.Owners.{waits_for as owners_wait_for}
 use Rattle.pif_rtmutex.proofs.MapLemmas.{get-insert_same, get-insert_other}
 use Rattle.pif_boost.specs.Boosts.{IsRepairedBut}
-use Rattle.pif_chains.proofs.KernelFacts.{queued-from_number}
+use Rattle.pif_chains.proofs.KernelFacts.{living-added, queued-from_number}
 use Rattle.pif_chains.proofs.KernelKept.{queueing_kept}
 use Rattle.pif_chains.proofs.KernelLevels.{level-left}
 use Rattle.pif_chains.proofs.KernelNumbers.{is_other, among-left_same, among-left_other}
@@ -135,10 +135,10 @@ module _ (p : Plain) (keys : List (Option ℕ)) (owners : Owners) (t m owner key
   added = (added_seen p fit t known).1
 
   owner_some : owner ≢ 0
-  owner_some = (added_seen p fit owner living).0
+  owner_some = (added_seen p fit owner (living-added (kernel_of p) owner living)).0
 
   owner_added : owner < length p.statuses
-  owner_added = (added_seen p fit owner living).1
+  owner_added = (added_seen p fit owner (living-added (kernel_of p) owner living)).1
 
   abbrev row : Seat
   row = record (seat_at owners t) { wait = wait }

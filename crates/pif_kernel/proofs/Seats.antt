@@ -1,11 +1,11 @@
 -- The threads of the kernel by itself, by the statuses and rows that are kept.
-use Rattle.std.proofs.Common.{◌≡◌, ◌≢◌, ℕ, zero, suc, ◌<◌, ◌≤◌, ◌==◌, true, false, nat_lt, if◌then◌else◌, List, [], ◌∷◌, ◌++◌, length, get_or, set, Option, None, option_and_then, unwrap_or, refl, sym, ap, ◌∙◌, arith}
+use Rattle.std.proofs.Common.{◌≡◌, ◌≢◌, ◌⊎◌, ℕ, zero, suc, ◌<◌, ◌≤◌, ◌==◌, Bool, true, false, nat_lt, if◌then◌else◌, List, [], ◌∷◌, ◌++◌, length, get_or, set, Option, None, option_and_then, unwrap_or, refl, sym, ap, ◌∙◌, inl, inr, arith}
 use Rattle.std.proofs.lemmas.Bool.Decides.{nat_tests}
 use Rattle.std.proofs.lemmas.List.{ext_get_or, length-map}
 use Rattle.pif_model.specs.declared.lines.Status.{Status}
-use Rattle.pif_model.specs.declared.lines.Status.TheVariants.{Ready}
+use Rattle.pif_model.specs.declared.lines.Status.TheVariants.{Ready, Queued, Stopped, Ended}
 use Rattle.pif_model.specs.declared.lines.Woken.TheVariants.{Fresh}
-use Rattle.pif_model.specs.PiKernel.{Kernel, queued_on, has_seat, is_living, level_at, waits_for}
+use Rattle.pif_model.specs.PiKernel.{Kernel, queued_on, has_ended, has_seat, is_living, level_at, waits_for}
 use Rattle.pif_model.specs.PiKernel.{Seat as KernelSeat, seat_at as kernel_seat_at, no_seat as no_kernel_seat, state_at as kernel_state_at}
 use Rattle.pif_chains.proofs.Numbers.{from_within, within}
 use Rattle.pif_chains.proofs.Places.{mapped_at}
@@ -146,11 +146,42 @@ seats_of-set_base (x ∷ xs) (r ∷ rows) zero b le = refl
 seats_of-set_base (x ∷ xs) (r ∷ rows) (suc t) b le =
     ap (λ (l : List KernelSeat). seat_of x r ∷ l) (seats_of-set_base xs rows t b (omega arith))
 
--- whether a thread lives, by how many were added
-pub living_seen : (p : Plain) → IsFitted p → (t : ℕ) → 1 ≤ t → nat_lt t (length p.statuses) ≡ is_living (kernel_of p) t
-living_seen p h t some =
-    let nonzero : (t == 0) ≡ false = grind (arith, nat_tests) in
-    sym (rw nonzero (ap (nat_lt t) (seats_length p h)))
+-- a thread that was added lives if it has not ended
+pub living_seen : (p : Plain) → IsFitted p → (t : ℕ) → t ≢ 0 → t < length p.statuses
+    → is_living (kernel_of p) t ≡ (if has_ended (status_at p t) then false else true)
+living_seen p h t some l =
+    rw (added_back p h t some l, status_seen p h t) refl
+
+-- so that this answers it
+pub living_by : (p : Plain) → IsFitted p → (t : ℕ) → t ≢ 0 → t < length p.statuses → (x : Status) → status_at p t ≡ x
+    → (b : Bool) → ((x ≡ Ended) × (b ≡ false)) ⊎ ((x ≡ Ended → ⊥) × (b ≡ true)) → b ≡ is_living (kernel_of p) t
+living_by p h t some l x is b r =
+    by_status x r
+    ∙ sym (living_seen p h t some l ∙ ap (λ (y : Status). if has_ended y then false else true) is)
+  where
+    by_status : (y : Status) → ((y ≡ Ended) × (b ≡ false)) ⊎ ((y ≡ Ended → ⊥) × (b ≡ true))
+        → b ≡ (if has_ended y then false else true)
+    by_status Ended (inl e) = e.1
+    by_status Ended (inr e) = absurd (e.0 refl)
+    by_status (Ready w) (inr e) = e.1
+    by_status (Queued m) (inr e) = e.1
+    by_status Stopped (inr e) = e.1
+    by_status (Ready w) (inl e) = let both : Ready w ≡ Ended = e.0 in absurd (cc)
+    by_status (Queued m) (inl e) = let both : Queued m ≡ Ended = e.0 in absurd (cc)
+    by_status Stopped (inl e) = let both : Stopped ≡ Ended = e.0 in absurd (cc)
+
+-- and no other does
+pub unadded_dead : (p : Plain) → IsFitted p → (t : ℕ) → length p.statuses ≤ t → is_living (kernel_of p) t ≡ false
+unadded_dead p h t le = by_zero (t == 0) past
+  where
+    past : nat_lt t (length (kernel_of p).seats) ≡ false
+    past = grind (arith, nat_tests, seats_length p h)
+
+    by_zero : (b : Bool) → nat_lt t (length (kernel_of p).seats) ≡ false
+        → (if (if b then false else nat_lt t (length (kernel_of p).seats)) then
+        (if has_ended (kernel_seat_at (kernel_of p) t).status then false else true) else false) ≡ false
+    by_zero true e = refl
+    by_zero false e = rw e refl
 
 -- as many threads, and so the same
 pub same_seats : (p now : Plain) → IsFitted p → IsFitted now → length now.statuses ≡ length p.statuses → (t : ℕ)

@@ -9,6 +9,7 @@ use Rattle.pif_runq.proofs.LevelLemmas.{has-threads}
 use Rattle.pif_model.specs.PiKernel.{IsKernel, effective_in, is_among, is_living, is_ready, has_seat, level_at}
 use Rattle.pif_model.specs.PiKernel.{seat_at as kernel_seat_at}
 use Rattle.pif_rtmutex.specs.Owners.{seat_at}
+use Rattle.pif_chains.proofs.KernelFacts.{living-added}
 use Rattle.pif_chains.proofs.KernelSettled.{effective_range}
 use Rattle.pif_kernel.specs.Plain.{Plain, IsListed, IsSound, kernel_of}
 use Rattle.pif_kernel.proofs.Seats.{IsFitted, fitted, seats_length, status_seen}
@@ -76,7 +77,8 @@ pub effective_answer : (p : Plain) → IsSound p → (t : ℕ) (r : Option ℕ) 
     → (IsSome r ↔ (1 ≤ (seat_at p.owners t).local)) → IfSome r (λ x. x ≡ (seat_at p.owners t).local)
     → r ≡ (if is_living (kernel_of p) t then Some (effective_in (kernel_of p) t) else None)
 effective_answer p h t None lives given value =
-    absurd (true≢false (sym (given.1 (omega (arith, h.local t, (effective_level p h t lives).0)))))
+    let level : IsLevel (effective_in (kernel_of p) t) = effective_level p h t (living-added (kernel_of p) t lives) in
+    absurd (true≢false (sym (given.1 (omega (arith, h.local t, level.0)))))
 effective_answer p h t (Some x) lives given value = rw lives (ap Some (value ∙ h.local t))
 
 -- who was never added is on no level

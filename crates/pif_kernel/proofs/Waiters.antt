@@ -3,7 +3,7 @@ use Rattle.std.proofs.Common.{◌≡◌, ◌≢◌, ◌⊎◌, ℕ, ◌+◌, ◌
 use Rattle.std.proofs.lemmas.Bool.{cases_eq, cases_lt, true≢false, false≢true}
 use Rattle.std.proofs.lemmas.Bool.Decides.{nat_tests}
 use Rattle.pif_model.specs.declared.lines.Status.{Status}
-use Rattle.pif_model.specs.declared.lines.Status.TheVariants.{Ready, Queued, Stopped}
+use Rattle.pif_model.specs.declared.lines.Status.TheVariants.{Ready, Queued, Stopped, Ended}
 use Rattle.pif_model.specs.Graph.{has_waiter}
 use Rattle.pif_model.specs.PiKernel.{queued_on, is_ready, has_seat}
 use Rattle.pif_model.specs.PiKernel.{seat_at as kernel_seat_at, state_at as kernel_state_at}
@@ -84,6 +84,7 @@ waits_named p h u k e = by_status (status_at p u) refl (sym (h.placed.waits u) �
         → names u p.arrivals ≡ true
     by_status (Ready w) s f = none (status_at p u) (ap queued_on s) f
     by_status Stopped s f = none (status_at p u) (ap queued_on s) f
+    by_status Ended s f = none (status_at p u) (ap queued_on s) f
     by_status (Queued n) s f =
         named-from_pair p.arrivals u n (subst (λ (ws : List (ℕ × ℕ)). is_waiter ws u n ≡ true) (waiters_seen p)
         (h.kernel.queued u n (status_seen p (fits p h) u ∙ s)))

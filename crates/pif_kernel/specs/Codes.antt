@@ -3,7 +3,7 @@ use Rattle.std.specs.Prelude.{◌≡◌, ℕ, ◌==◌, if◌then◌else◌, Lis
 use Rattle.std.specs.Coded.{Coded, code_by, coded×, coded_ℕ, coded_list, coded_option}
 use Rattle.pif_types.specs.Bounds.{Bounds}
 use Rattle.pif_model.specs.declared.lines.Status.{Status}
-use Rattle.pif_model.specs.declared.lines.Status.TheVariants.{Ready, Queued, Stopped}
+use Rattle.pif_model.specs.declared.lines.Status.TheVariants.{Ready, Queued, Stopped, Ended}
 use Rattle.pif_model.specs.declared.lines.Woken.TheVariants.{Fresh, Owns}
 use Rattle.pif_nodes.specs.declared.keys.Key.{Key}
 use Rattle.pif_nodes.specs.Table.{Table}
@@ -23,16 +23,19 @@ numbers_of (Ready Fresh) = (0, 0)
 numbers_of (Ready Owns) = (1, 0)
 numbers_of (Queued m) = (2, m)
 numbers_of Stopped = (3, 0)
+numbers_of Ended = (4, 0)
 
 abbrev status_of : ℕ × ℕ → Status
 status_of p =
-    if p.0 == 0 then Ready Fresh else (if p.0 == 1 then Ready Owns else (if p.0 == 2 then Queued p.1 else Stopped))
+    if p.0 == 0 then Ready Fresh else
+    (if p.0 == 1 then Ready Owns else (if p.0 == 2 then Queued p.1 else (if p.0 == 3 then Stopped else Ended)))
 
 pub status_of-numbers : (x : Status) → status_of (numbers_of x) ≡ x
 status_of-numbers (Ready Fresh) = refl
 status_of-numbers (Ready Owns) = refl
 status_of-numbers (Queued m) = refl
 status_of-numbers Stopped = refl
+status_of-numbers Ended = refl
 
 abbrev pub status_code : Coded Status
 status_code = code_by (ℕ × ℕ) (coded× coded_ℕ coded_ℕ) numbers_of status_of status_of-numbers

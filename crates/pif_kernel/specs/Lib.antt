@@ -3,5 +3,7 @@ pub mod Answers
 pub mod Plain
 pub mod Codes
 pub mod Fields
+pub mod Leaving
 pub mod Found
 pub mod Tickets
+pub mod Systems

@@ -1,9 +1,11 @@
 ghost use Rattle.std.specs.Prelude.{◌≡◌, ◌≤◌, ◌==◌, true, length, if◌then◌else◌, Some, None};
-ghost use Rattle.pif_model.specs.PiKernel.{Kernel, IsKernel, seat_at, has_seat, is_living, is_ready, effective_in, pick_in, kernel_after_add, lock_answer, words_after_lock, kernel_after_lock, try_lock_answer, words_after_try_lock, unlock_answer, words_after_unlock, kernel_after_unlock, set_prio_answer, kernel_after_set_prio, kernel_after_stop};
+ghost use Rattle.pif_model.specs.PiKernel.{Kernel, IsKernel, seat_at, has_seat, is_living, is_ready, effective_in, pick_in, kernel_after_add, lock_answer, words_after_lock, kernel_after_lock, try_lock_answer, words_after_try_lock, unlock_answer, words_after_unlock, kernel_after_unlock, set_prio_answer, kernel_after_set_prio, kernel_after_stop, after_exit};
+ghost use Rattle.pif_model.specs.RobustList.{robust_at, walk_of, without_robust};
 ghost use Rattle.pif_word.specs.WordMap.{words_of};
 ghost use Rattle.pif_kernel.specs.Answers.{unit_answer};
 
 use pif_model::{Status, Took};
+use pif_robust::RobustLists;
 use pif_types::{Errno, MutexId, Prio, Tid};
 use pif_word::Words;
 
@@ -22,7 +24,7 @@ pub trait PiKernel {
         ensures after { meaning self.new ≡ kernel_after_add prio (meaning self.old) }
         ensures kept { IsKernel (meaning self.new) };
 
-    /// What the kernel knows of the thread `t`, which was added: ready, queued on a mutex, or stopped for good.
+    /// What the kernel knows of the thread `t`, which was added: ready, queued on a mutex, stopped for good, or ended.
     fn status(&self, t: Tid) -> Status
         requires added { has_seat (meaning self.now) t ≡ true }
         ensures value { result ≡ (seat_at (meaning self.now) t).status };
@@ -92,5 +94,23 @@ pub trait PiKernel {
         requires added { has_seat (meaning self.old) t ≡ true }
         requires ready { is_ready (seat_at (meaning self.old) t).status ≡ true }
         ensures after { meaning self.new ≡ kernel_after_stop t (meaning self.old) }
+        ensures kept { IsKernel (meaning self.new) };
+
+    /// The living thread `t` ends, in whatever it does, and on any words and robust lists (robust futexes of Linux;
+    /// get_robust_list(2)). First it leaves the mutex on which it is queued, whose owner state goes where nobody else
+    /// waits, and the run queue, and all for whom it waited get their new priorities. Then each mutex that its robust
+    /// list and its pending field name passes on, in the order of the list and the pending one last, where its word has
+    /// the number of `t`: with an owner state of `t` the next waiter owns it, is ready and joins its level, and the word
+    /// gets that number with WAITERS and OWNER_DIED; with no owner state the word gets OWNER_DIED, keeps WAITERS as it
+    /// was, and loses the number; with one of another owner nothing changes. No health word is written. Owner states that
+    /// `t` owns still keep their waiters, and boost nobody. At last its robust list, its half-linked mutex and its pending
+    /// field are empty. Its number is never used again.
+    fn exit(&mut self, words: &mut Words, lists: &mut RobustLists, t: Tid)
+        requires living { is_living (meaning self.old) t ≡ true }
+        ensures words { words_of words.new
+            ≡ (after_exit t (walk_of (robust_at lists.old t)) (words_of words.old) (meaning self.old)).words }
+        ensures after { meaning self.new
+            ≡ (after_exit t (walk_of (robust_at lists.old t)) (words_of words.old) (meaning self.old)).kernel }
+        ensures lists { lists.new ≡ without_robust t lists.old }
         ensures kept { IsKernel (meaning self.new) };
 }

@@ -25,14 +25,24 @@
 //! unlock_pi, u is next     u and WAITERS     s is u, or none  all but u       u is ready   u joins; then t
 //! set_prio                                                                                 t and its chain
 //! stop                                                                        t is stopped t leaves
+//! exit, t itself                             s, or none       all but t       t has ended  t leaves; then its chain
+//! exit, then m with no s   OWNER_DIED
+//! exit, u is next of m     u and both flags  s is u, or none  all but u       u is ready   u joins; then t
 //! ```
 //!
-//! `PlainKernel` makes a call of its steps, which stand in four files over the same parts: `refusals` has the tests of the
-//! calls, `threads` adds and stops a thread and gives it another priority, `queueing` queues a thread and hands a mutex
-//! over, and `tickets` numbers the waiters in their order. `parts` keeps what they touch.
+//! exit refuses nothing. `t` itself leaves the mutex on which it is queued, if it is on one. Then it goes through the
+//! mutexes that its robust list and its pending field name, and touches each whose word has n = t, and where s, if
+//! there is one, is t too. A word without s loses its number, gets OWNER_DIED, and keeps WAITERS.
+//!
+//! `PlainKernel` makes a call of its steps, which stand in six files over the same parts: `refusals` has the tests of
+//! the calls, `threads` adds and stops a thread and gives it another priority, `queueing` queues a thread and hands a
+//! mutex over, `leaving` takes a thread that ends off what it waits for, `dying` passes its mutexes on, and `tickets`
+//! numbers the waiters in their order. `parts` keeps what they touch.
 #![tactic(auto)]
 
+mod dying;
 mod kernel;
+mod leaving;
 mod parts;
 mod plain;
 mod queueing;

@@ -83,12 +83,15 @@ impl Parts {
         self.statuses[t.get() as usize]
     }
 
-    /// Whether a thread lives: it was added.
+    /// Whether a thread lives: it was added, and has not ended.
     pub(crate) fn lives(&self, t: Tid) -> bool
         requires { IsSound self.now }
         ensures { result ≡ is_living (kernel_of self.now) t }
     {
-        (t.get() as usize) < self.statuses.len()
+        match self.statuses.get(t.get() as usize) {
+            Some(status) => !matches!(*status, Status::Ended),
+            None => false,
+        }
     }
 
     /// The effective priority of a thread. `None` where it doesn't live.

@@ -6,6 +6,7 @@ use crate::kernel::PiKernel;
 use crate::parts::Parts;
 use crate::refusals::Found;
 use pif_model::{Status, Took};
+use pif_robust::RobustLists;
 use pif_types::{Errno, Limits, MutexId, NoMemory, Prio, Tid};
 use pif_word::{Cell, Words, hand_word, mark_word, taken_word};
 use std::alloc::Global;
@@ -113,5 +114,12 @@ impl PiKernel for PlainKernel {
 
     fn stop(&mut self, t: Tid) {
         self.parts.stop(t);
+    }
+
+    fn exit(&mut self, words: &mut Words, lists: &mut RobustLists, t: Tid) {
+        let mutexes = lists.walk(t);
+        self.parts.leave(t);
+        self.parts.pass_all_on(words, t, &mutexes);
+        lists.forget(t);
     }
 }

@@ -1,7 +1,7 @@
 ghost use Rattle.std.specs.Prelude.{◌≡◌, ◌≢◌, ◌<◌, ◌+◌, true, false, length, Some, None};
 ghost use Rattle.pif_rtmutex.specs.Owners.{count};
 ghost use Rattle.pif_model.specs.Graph.{reaches_within};
-ghost use Rattle.pif_model.specs.PiKernel.{seat_at, has_seat, is_living, is_ready, kernel_after_queueing, kernel_after_hand_over, next_in, waits_for};
+ghost use Rattle.pif_model.specs.PiKernel.{seat_at, has_seat, is_living, is_ready, queued_on, kernel_after_queueing, kernel_after_hand_over, next_in, waits_for};
 ghost use Rattle.pif_kernel.specs.Plain.{IsSound, kernel_of, key_at, state_at, IsOpened};
 
 use crate::parts::Parts;
@@ -54,13 +54,14 @@ impl Parts {
         }
     }
 
-    /// Hands the mutex, which has the owner state `key`, from `holder` to its next waiter. That one is ready and joins its
-    /// level, what the other waiters boost is that one, and then `holder` loses their boost. Answers who is next.
+    /// Hands the mutex, which has the owner state `key`, from `holder`, which is queued on nothing, to its next waiter. That
+    /// one is ready and joins its level, what the other waiters boost is that one, and then `holder` loses their boost.
+    /// Answers who is next.
     pub(crate) fn hand_over(&mut self, holder: Tid, m: MutexId, key: Key) -> Tid
         requires sound { IsSound self.old }
         requires key { key_at self.old m ≡ Some key }
         requires owner { state_at self.old m ≡ holder }
-        requires ready { is_ready (seat_at (kernel_of self.old) holder).status ≡ true }
+        requires idle { queued_on (seat_at (kernel_of self.old) holder).status ≡ 0 }
         ensures next { result ≡ next_in (kernel_of self.old) m }
         ensures after { kernel_of self.new ≡ kernel_after_hand_over result m (kernel_of self.old) }
         ensures sound { IsSound self.new }

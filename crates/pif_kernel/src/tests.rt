@@ -1,8 +1,10 @@
-ghost use Rattle.std.specs.Prelude.{◌≡◌, ◌≤◌, ◌+◌, true, length, OnOk};
-ghost use Rattle.pif_model.specs.PiKernel.{has_seat, is_ready, seat_at};
+ghost use Rattle.std.specs.Prelude.{◌≡◌, ◌<◌, ◌≤◌, ◌+◌, ℕ, true, length, OnOk};
+ghost use Rattle.pif_model.specs.PiKernel.{has_seat, is_living, is_ready, seat_at};
+ghost use Rattle.pif_model.specs.RobustList.{robust_at};
 ghost use Rattle.pif_kernel.specs.Plain.{kernel_of};
 
 use crate::{PiKernel, PlainKernel, Status, Took, Woken};
+use pif_robust::RobustLists;
 use pif_types::{Errno, Limits, MutexId, Prio, Tid};
 use pif_word::{Cell, Words};
 use std::alloc::Global;
@@ -103,7 +105,7 @@ impl Scene {
     }
 
     fn status(&self, t: Tid) -> Result<Reply, Fail> {
-        see_added(&self.kernel, t)?;
+        see_living(&self.kernel, t)?;
         Ok(match self.kernel.status(t) {
             Status::Queued(m) => Reply::QueuedOn(m.get()),
             other => Reply::Is(other),
@@ -166,11 +168,12 @@ fn add_all(kernel: &mut PlainKernel, levels: &[u32]) -> Result<(), Fail>
     Ok(())
 }
 
-// Fails where the thread wasn't added.
-fn see_added(kernel: &PlainKernel, t: Tid) -> Result<(), Fail>
-    ensures { OnOk result (has_seat (kernel_of kernel.now) t ≡ true) }
+// Fails where the thread doesn't live.
+fn see_living(kernel: &PlainKernel, t: Tid) -> Result<(), Fail>
+    ensures living { OnOk result (is_living (kernel_of kernel.now) t ≡ true) }
+    ensures added { OnOk result (has_seat (kernel_of kernel.now) t ≡ true) }
 {
-    let _prio = kernel.effective(t).ok_or("the thread wasn't added")?;
+    let _prio = kernel.effective(t).ok_or("the thread doesn't live")?;
     Ok(())
 }
 
@@ -179,11 +182,12 @@ fn see_ready(kernel: &PlainKernel, t: Tid) -> Result<(), Fail>
     ensures added { OnOk result (has_seat (kernel_of kernel.now) t ≡ true) }
     ensures ready { OnOk result (is_ready (seat_at (kernel_of kernel.now) t).status ≡ true) }
 {
-    see_added(kernel, t)?;
+    see_living(kernel, t)?;
     match kernel.status(t) {
         Status::Ready(_) => Ok(()),
         Status::Queued(_) => Err("the thread is queued")?,
         Status::Stopped => Err("the thread is stopped")?,
+        Status::Ended => Err("the thread has ended")?,
     }
 }
 
@@ -422,4 +426,87 @@ fn tickets_are_renumbered(rt: HostRuntime) -> Result<(), Fail> {
         hand_over_from(&rt, rt.alloc(), first, next)?;
     }
     Ok(())
+}
+
+// Puts the mutex on the robust list of the thread.
+fn list(lists: &mut RobustLists, t: Tid, m: MutexId) -> Result<(), Fail>
+    requires thread { t < length lists.old.threads }
+    requires mutex { m ≤ lists.old.mutexes }
+    requires whole { (u : ℕ) → (robust_at lists.old u).half_linked ≡ 0 }
+{
+    if lists.holder(m).is_some() {
+        Err("the mutex is on a list")?
+    }
+    lists.link_next(t, m);
+    lists.link_head(t, m);
+    Ok(())
+}
+
+// Ends thread 1, whose robust list has mutex 1.
+fn end_first(scene: &mut Scene, alloc: Global) -> Result<(), Fail> {
+    let limits = Limits::new(3, 1, 0, 1).ok_or("limits")?;
+    let t = Tid::new(1).ok_or("a thread")?;
+    let m = MutexId::new(1).ok_or("a mutex")?;
+    let mut lists = RobustLists::new(alloc, limits)?;
+    list(&mut lists, t, m)?;
+    see_living(&scene.kernel, t)?;
+    scene.kernel.exit(&mut scene.words, &mut lists, t);
+    Ok(())
+}
+
+// Ends thread 1 of two, where the word of the mutex on its robust list is `before`. Then it is `after`.
+fn end_on_word(rt: &impl Abort, alloc: Global, before: u32, after: u32) -> Result<(), Fail> {
+    let mut scene = Scene::new(alloc, &[20, 10], 1, 1)?;
+    check(rt, &mut scene, &[(Ask::Store(1, before), Reply::Done)])?;
+    end_first(&mut scene, alloc)?;
+    check(
+        rt,
+        &mut scene,
+        &[
+            (Ask::Word(1), Reply::Bits(after)),
+            (Ask::Effective(1), Reply::Nobody),
+            (Ask::SetPrio(1, 10), Reply::Refused(Errno::NoSuchThread)),
+            (Ask::Pick, Reply::Runs(2)),
+        ],
+    )
+}
+
+#[test]
+fn exit_leaves_words_of_others(rt: HostRuntime) -> Result<(), Fail> {
+    end_on_word(&rt, rt.alloc(), 0x0000_0002, 0x0000_0002)
+}
+
+#[test]
+fn exit_marks_words_of_its_own(rt: HostRuntime) -> Result<(), Fail> {
+    end_on_word(&rt, rt.alloc(), 0xc000_0001, 0xc000_0000)
+}
+
+#[test]
+fn exit_hands_over_to_the_next_waiter(rt: HostRuntime) -> Result<(), Fail> {
+    let mut scene = Scene::new(rt.alloc(), &[10, 10, 20], 1, 1)?;
+    hand_over_at_the_end(&rt, &mut scene, rt.alloc())
+}
+
+// Thread 1 ends as the owner of mutex 1, for which threads 2 and 3 wait.
+fn hand_over_at_the_end(rt: &impl Abort, scene: &mut Scene, alloc: Global) -> Result<(), Fail> {
+    check(
+        rt,
+        scene,
+        &[
+            (Ask::Lock(1, 1), Reply::Owns),
+            (Ask::Lock(2, 1), Reply::Queued),
+            (Ask::Lock(3, 1), Reply::Queued),
+        ],
+    )?;
+    end_first(scene, alloc)?;
+    check(
+        rt,
+        scene,
+        &[
+            (Ask::Word(1), Reply::Bits(0xc000_0003)),
+            (Ask::Status(3), Reply::Is(Status::Ready(Woken::Owns))),
+            (Ask::Status(2), Reply::QueuedOn(1)),
+            (Ask::Pick, Reply::Runs(3)),
+        ],
+    )
 }

@@ -1,1 +1,3 @@
 pub mod Worked
+pub mod EndsWorked
+pub mod WorkedRobust

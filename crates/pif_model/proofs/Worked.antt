@@ -10,21 +10,16 @@ use Rattle.pif_model.specs.declared.events.Seen.TheVariants.{Begun, Went, Waits,
 use Rattle.pif_model.specs.Graph.{reaches_within, greatest_where, effective_among, first_greatest, waited_by, next_waiter}
 use Rattle.pif_model.specs.Word.{bits_of, word_of}
 use Rattle.pif_model.specs.Table.{Table, new_table, thread_added, mutex_added, cell_at}
-use Rattle.pif_model.specs.PiKernel.{effective_in, pick_in, numbers, levels_by, no_states, first_from, lock_answer, words_after_lock, kernel_after_lock, try_lock_answer, words_after_try_lock, kernel_after_queueing, unlock_answer, words_after_unlock, kernel_after_unlock, kernel_after_hand_over, set_prio_answer, kernel_after_set_prio, kernel_after_stop}
-use Rattle.pif_model.specs.Lines.{locked_again, exchange_outcome, own_exchange, lock_load, lock_by, lock_kernel, lock_queued, lock_stop, try_load, unlock_load, unlock_exchange, answered_by, try_kernel, unlock_kernel, set_priority, line_of, go_outcome, accepted_outcome, event_outcome}
+use Rattle.pif_model.specs.PiKernel.{effective_in, pick_in, numbers, levels_by, no_states, first_from, lock_answer, words_after_lock, kernel_after_lock, try_lock_answer, words_after_try_lock, kernel_after_queueing, unlock_answer, words_after_unlock, kernel_after_unlock, kernel_after_hand_over, set_prio_answer, kernel_after_set_prio, kernel_after_stop, kernel_after_leaving, after_death, after_deaths}
+use Rattle.pif_model.specs.Lines.{locked_again, exchanged, own_exchange, lock_load, lock_by, lock_kernel, take_load, lock_queued, lock_stop, take_health, take_store, take_word_back, link_next, link_head, clears, leave_exchange, given_up_by, gives_up, try_load, try_by, try_kernel, unlock_load, unlock_health, unlock_exchange, consistent_load, consistent_health, answered_by, set_priority, library_after_end, ended_table, shared_line, line_of, go_outcome, accepted_outcome, event_outcome}
 
 -- opens every definition of the table machine
-machine : ℕ
-unfolding reaches_within greatest_where effective_among first_greatest waited_by next_waiter bits_of word_of numbers
-    levels_by no_states first_from lock_answer words_after_lock kernel_after_lock try_lock_answer
-    words_after_try_lock kernel_after_queueing unlock_answer words_after_unlock kernel_after_unlock
-    kernel_after_hand_over set_prio_answer kernel_after_set_prio kernel_after_stop locked_again exchange_outcome
-    own_exchange lock_load lock_by lock_kernel lock_queued lock_stop try_load unlock_load unlock_exchange answered_by
-    try_kernel unlock_kernel set_priority line_of go_outcome accepted_outcome event_outcome
+unfoldable pub machine : ℕ
+unfolding reaches_within greatest_where effective_among first_greatest waited_by next_waiter bits_of word_of numbers levels_by no_states first_from lock_answer words_after_lock kernel_after_lock try_lock_answer words_after_try_lock kernel_after_queueing unlock_answer words_after_unlock kernel_after_unlock kernel_after_hand_over set_prio_answer kernel_after_set_prio kernel_after_stop kernel_after_leaving after_death after_deaths locked_again exchanged own_exchange lock_load lock_by lock_kernel take_load lock_queued lock_stop take_health take_store take_word_back link_next link_head clears leave_exchange given_up_by gives_up try_load try_by try_kernel unlock_load unlock_health unlock_exchange consistent_load consistent_health answered_by set_priority library_after_end ended_table shared_line line_of go_outcome accepted_outcome event_outcome
 machine = 0
 
 -- a core for examples
-small : Table
+unfoldable pub small : Table
 unfolding machine
 small = new_table (record { threads = 9; mutexes = 9; conds = 0; signals = 1 })
 
@@ -99,8 +94,7 @@ unfolding machine small three chain locks seen after
 chain_pick = refl
 
 -- closing a cycle is refused
-cycle_seen : seen (Begin 1 (Lock 2) ∷ Go 1 ∷ Go 1 ∷ Go 1 ∷ []) (after chain three)
-    ≡ Begun ∷ Went ∷ Went ∷ Answered 35 ∷ []
+cycle_seen : seen (Begin 1 (Lock 2) ∷ Go 1 ∷ Go 1 ∷ Go 1 ∷ []) (after chain three) ≡ Begun ∷ Went ∷ Went ∷ Answered 35 ∷ []
 unfolding machine small three chain locks seen after
 cycle_seen = refl
 
@@ -109,10 +103,7 @@ equals : Table
 unfolding machine small
 equals = mutex_added Normal false (thread_added 20 (thread_added 20 (thread_added 10 small)))
 
-equals_word : bits_of (cell_at (after (locks 1 1
-    ++ Begin 2 (Lock 1) ∷ Go 2 ∷ Go 2 ∷ Go 2
-    ∷ Begin 3 (Lock 1) ∷ Go 3 ∷ Go 3 ∷ Go 3 ∷ released) equals) 1).word
-    ≡ 0x80000002
+equals_word : bits_of (cell_at (after (locks 1 1 ++ Begin 2 (Lock 1) ∷ Go 2 ∷ Go 2 ∷ Go 2 ∷ Begin 3 (Lock 1) ∷ Go 3 ∷ Go 3 ∷ Go 3 ∷ released) equals) 1).word ≡ 0x80000002
 unfolding machine small equals locks released seen after
 equals_word = refl
 
@@ -131,14 +122,12 @@ changed_back_priority : effective_in (after (wait_both ++ changes 30 ++ changes 
 unfolding machine small equals locks wait_both changes after
 changed_back_priority = refl
 
-changed_back_word : bits_of (cell_at (after (wait_both ++ changes 30 ++ changes 20 ++ released) equals) 1).word
-    ≡ 0x80000002
+changed_back_word : bits_of (cell_at (after (wait_both ++ changes 30 ++ changes 20 ++ released) equals) 1).word ≡ 0x80000002
 unfolding machine small equals locks wait_both changes released after
 changed_back_word = refl
 
 -- no priority: EINVAL, also for a thread that was never added; such a thread: ESRCH
-unchanged_seen : seen
-    (Begin 1 (SetPrio 3 100) ∷ Go 1 ∷ Begin 1 (SetPrio 9 0) ∷ Go 1 ∷ Begin 1 (SetPrio 9 5) ∷ Go 1 ∷ []) equals
+unchanged_seen : seen (Begin 1 (SetPrio 3 100) ∷ Go 1 ∷ Begin 1 (SetPrio 9 0) ∷ Go 1 ∷ Begin 1 (SetPrio 9 5) ∷ Go 1 ∷ []) equals
     ≡ Begun ∷ Answered 22 ∷ Begun ∷ Answered 22 ∷ Begun ∷ Answered 3 ∷ []
 unfolding machine small equals seen after
 unchanged_seen = refl
@@ -148,10 +137,8 @@ kinds : Table
 unfolding machine small
 kinds = mutex_added ErrorCheck false (mutex_added Normal false (thread_added 10 (thread_added 10 small)))
 
-kinds_seen : seen (locks 1 1 ++ locks 1 2 ++ Begin 1 (Lock 2) ∷ Go 1 ∷ Begin 2 (Unlock 1) ∷ Go 2
-    ∷ Begin 1 (Lock 1) ∷ Go 1 ∷ Go 1 ∷ Go 1 ∷ []) kinds
-    ≡ Begun ∷ Went ∷ Answered 0 ∷ Begun ∷ Went ∷ Answered 0 ∷ Begun ∷ Answered 35 ∷ Begun ∷ Answered 1
-    ∷ Begun ∷ Went ∷ Waits ∷ Waits ∷ []
+kinds_seen : seen (locks 1 1 ++ locks 1 2 ++ Begin 1 (Lock 2) ∷ Go 1 ∷ Begin 2 (Unlock 1) ∷ Go 2 ∷ Begin 1 (Lock 1) ∷ Go 1 ∷ Go 1 ∷ Go 1 ∷ []) kinds
+    ≡ Begun ∷ Went ∷ Answered 0 ∷ Begun ∷ Went ∷ Answered 0 ∷ Begun ∷ Answered 35 ∷ Begun ∷ Answered 1 ∷ Begun ∷ Went ∷ Waits ∷ Waits ∷ []
 unfolding machine small kinds locks seen after
 kinds_seen = refl
 
@@ -189,8 +176,7 @@ unlocked_254_times : bits_of (cell_at (after (times 254 unlock_one) held_255_tim
 unfolding machine held_255_times times unlock_one after
 unlocked_254_times = refl
 
-unlocked_255_times : bits_of (cell_at (after (times 254 unlock_one ++ unlock_one ++ Go 1 ∷ []) held_255_times) 1).word
-    ≡ 0x00000000
+unlocked_255_times : bits_of (cell_at (after (times 254 unlock_one ++ unlock_one ++ Go 1 ∷ []) held_255_times) 1).word ≡ 0x00000000
 unfolding machine held_255_times times unlock_one after
 unlocked_255_times = refl
 
@@ -199,8 +185,7 @@ tries : ℕ → ℕ → List Event
 tries t m = Begin t (TryLock m) ∷ Go t ∷ Go t ∷ []
 
 tried_seen : seen (tries 1 1 ++ Begin 1 (TryLock 1) ∷ Go 1 ∷ tries 2 1 ++ Go 2 ∷ tries 2 2) kinds
-    ≡ Begun ∷ Went ∷ Answered 0 ∷ Begun ∷ Answered 16 ∷ Begun ∷ Went ∷ Went ∷ Answered 16
-    ∷ Begun ∷ Went ∷ Answered 0 ∷ []
+    ≡ Begun ∷ Went ∷ Answered 0 ∷ Begun ∷ Answered 16 ∷ Begun ∷ Went ∷ Went ∷ Answered 16 ∷ Begun ∷ Went ∷ Answered 0 ∷ []
 unfolding machine small kinds tries seen after
 tried_seen = refl
 

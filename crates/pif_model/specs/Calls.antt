@@ -2,9 +2,10 @@
 use Rattle.std.specs.Prelude.{ℕ, ◌-◌, Bool, ◌==◌, length, Option, Some, None, Result, Ok, Err, if◌then◌else◌}
 use Rattle.pif_types.specs.declared.errors.AddFault.{AddFault}
 use Rattle.pif_types.specs.declared.errors.AddFault.TheVariants.{TooMany, BadPrio}
+use Rattle.pif_types.specs.declared.requests.Health.{Health}
 use Rattle.pif_types.specs.declared.requests.Kind.{Kind}
 use Rattle.pif_model.specs.Graph.{is_priority}
-use Rattle.pif_model.specs.Word.{bits_of}
+use Rattle.pif_model.specs.Word.{bits_of, health_in}
 use Rattle.pif_model.specs.PiKernel.{is_living, effective_in, pick_in}
 use Rattle.pif_model.specs.Table.{Table, cell_at, has_mutex, has_thread_room, has_mutex_room, thread_added, mutex_added}
 
@@ -32,6 +33,10 @@ effective_answer t s = if is_living s.kernel t then Some (effective_in s.kernel 
 -- the 32 bits of the word of a mutex that was added
 abbrev pub word_answer : ℕ → Table → Option ℕ
 word_answer m s = if has_mutex s m then Some (bits_of (cell_at s m).word) else None
+
+-- the health of a mutex that was added, by its health word
+abbrev pub health_answer : ℕ → Table → Option Health
+health_answer m s = if has_mutex s m then Some (health_in (cell_at s m).health) else None
 
 -- the thread that runs next, if one is ready
 abbrev pub pick_answer : Table → Option ℕ

@@ -72,7 +72,5 @@ pub record IsNextWaiter (effective : ℕ → ℕ) (ws : List (ℕ × ℕ)) (m u 
   pub earlier : List (ℕ × ℕ)
   pub later : List (ℕ × ℕ)
   pub place : ws ≡ earlier ++ (u, m) ∷ later
-  pub above_earlier : (v : ℕ) → list_any (λ w. if w.0 == v then w.1 == m else false) earlier ≡ true
-      → effective v < effective u
-  pub above_later : (v : ℕ) → list_any (λ w. if w.0 == v then w.1 == m else false) later ≡ true
-      → effective v ≤ effective u
+  pub above_earlier : (v : ℕ) → list_any (λ w. if w.0 == v then w.1 == m else false) earlier ≡ true → effective v < effective u
+  pub above_later : (v : ℕ) → list_any (λ w. if w.0 == v then w.1 == m else false) later ≡ true → effective v ≤ effective u

@@ -1,9 +1,9 @@
 -- Who holds a mutex by the answers alone. It reads a history, newest entry first, and no machine.
 use Rattle.std.specs.Prelude.{ℕ, ◌≡◌, ◌+◌, ◌-◌, Bool, true, ◌==◌, nat_lt, List, [], ◌∷◌, Option, Some, None, if◌then◌else◌}
 use Rattle.pif_types.specs.declared.requests.Request.{Request}
-use Rattle.pif_types.specs.declared.requests.Request.TheVariants.{Lock, TryLock, Unlock, SetPrio}
-use Rattle.pif_model.specs.declared.events.Event.TheVariants.{Begin, Go}
-use Rattle.pif_model.specs.declared.events.Seen.TheVariants.{Begun, Answered}
+use Rattle.pif_types.specs.declared.requests.Request.TheVariants.{Lock, TryLock, Unlock, Consistent, SetPrio}
+use Rattle.pif_model.specs.declared.events.Event.TheVariants.{Begin, Go, End}
+use Rattle.pif_model.specs.declared.events.Seen.TheVariants.{Begun, Answered, Ended}
 use Rattle.pif_model.specs.declared.events.Entry.{Entry}
 use Rattle.pif_model.specs.declared.events.Entry.TheVariants.{Step as Happened}
 
@@ -11,6 +11,7 @@ use Rattle.pif_model.specs.declared.events.Entry.TheVariants.{Step as Happened}
 abbrev pub open_after : ℕ → Entry → Option Request → Option Request
 open_after t (Happened (Begin u q) Begun) before = if u == t then Some q else before
 open_after t (Happened (Go u) (Answered a)) before = if u == t then None else before
+open_after t (Happened (End u) Ended) before = if u == t then None else before
 open_after t _ before = before
 
 -- t's open call, by a history
@@ -29,12 +30,14 @@ hold_count_after_answer m None a count = count
 hold_count_after_answer m (Some (Lock n)) a count = if n == m then hold_count_locked a count else count
 hold_count_after_answer m (Some (TryLock n)) a count = if n == m then hold_count_locked a count else count
 hold_count_after_answer m (Some (Unlock n)) a count = if n == m then (if a == 0 then count - 1 else count) else count
+hold_count_after_answer m (Some (Consistent n)) a count = count
 hold_count_after_answer m (Some (SetPrio u p)) a count = count
 
--- the hold count of t on m after one more entry
+-- the hold count of t on m after one more entry: an end of t makes it 0
 abbrev pub hold_count_after : ℕ → ℕ → Option Request → Entry → ℕ → ℕ
 hold_count_after t m call (Happened (Go u) (Answered a)) count =
     if u == t then hold_count_after_answer m call a count else count
+hold_count_after t m call (Happened (End u) Ended) count = if u == t then 0 else count
 hold_count_after t m call _ count = count
 
 -- the hold count of t on m by a history: how often t holds m by the answers
@@ -48,6 +51,7 @@ unlocking m None = 0
 unlocking m (Some (Lock n)) = 0
 unlocking m (Some (TryLock n)) = 0
 unlocking m (Some (Unlock n)) = if n == m then 1 else 0
+unlocking m (Some (Consistent n)) = 0
 unlocking m (Some (SetPrio u p)) = 0
 
 -- whether t holds m by the answers: its hold count, less 1 while an unlock of m by t is open, is above 0

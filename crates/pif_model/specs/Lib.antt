@@ -2,10 +2,10 @@ pub mod Graph
 pub mod Refusals
 pub mod Word
 pub mod PiKernel
+pub mod RobustList
 pub mod Posix
 pub mod History
 pub mod Table
 pub mod Lines
 pub mod Calls
 pub mod Standing
-pub mod RobustList

@@ -1,27 +1,28 @@
 -- The calls of the library, one step per Go, and the events of the table machine.
-use Rattle.std.specs.Prelude.{ℕ, zero, suc, ◌≡◌, ◌⊎◌, ◌+◌, ◌-◌, Bool, true, false, ◌==◌, nat_lt, Result, Ok, Err, Option, Some, None, if◌then◌else◌}
+use Rattle.std.specs.Prelude.{ℕ, zero, suc, ◌≡◌, ◌⊎◌, ◌+◌, ◌-◌, Bool, true, false, ◌==◌, nat_lt, List, [], ◌∷◌, get_or, set, Result, Ok, Err, Option, Some, None, if◌then◌else◌}
 use Rattle.pif_types.specs.Numbers.{number_of}
 use Rattle.pif_types.specs.declared.errors.Errno.{Errno}
-use Rattle.pif_types.specs.declared.errors.Errno.TheVariants.{NoSuchThread, Again, Busy}
+use Rattle.pif_types.specs.declared.errors.Errno.TheVariants.{NoSuchThread, Again, Deadlock}
 use Rattle.pif_types.specs.declared.errors.Refusal.{Refusal}
 use Rattle.pif_types.specs.declared.requests.Kind.TheVariants.{Normal, ErrorCheck, Recursive}
 use Rattle.pif_types.specs.declared.requests.Request.{Request}
-use Rattle.pif_types.specs.declared.requests.Request.TheVariants.{Lock, TryLock, Unlock, SetPrio}
+use Rattle.pif_types.specs.declared.requests.Request.TheVariants.{Lock, TryLock, Unlock, Consistent, SetPrio}
 use Rattle.pif_model.specs.declared.events.Event.{Event}
-use Rattle.pif_model.specs.declared.events.Event.TheVariants.{Begin, Go}
+use Rattle.pif_model.specs.declared.events.Event.TheVariants.{Begin, Go, End}
 use Rattle.pif_model.specs.declared.events.Seen.{Seen}
-use Rattle.pif_model.specs.declared.events.Seen.TheVariants.{Begun, Went, Waits, Answered, Refused}
+use Rattle.pif_model.specs.declared.events.Seen.TheVariants.{Begun, Went, Waits, Answered, Ended, Refused}
 use Rattle.pif_model.specs.declared.lines.Line.{Line}
 use Rattle.pif_model.specs.declared.lines.Line.TheVariants.{Idle, At}
 use Rattle.pif_model.specs.declared.lines.Place.{Place}
-use Rattle.pif_model.specs.declared.lines.Place.TheVariants.{LockLoad, LockExchange, LockKernel, LockQueued, LockStop, LockStopped, TryLoad, TryExchange, TryKernel, UnlockLoad, UnlockExchange, UnlockKernel, SetPriority}
+use Rattle.pif_model.specs.declared.lines.Place.TheVariants.{LockLoad, LockPending, LockExchange, LockKernel, LockQueued, LockStop, LockStopped, LockClear, TakeLoad, TakeHealth, TakeStore, TakeWord, LinkNext, LinkHead, LinkClear, LeaveExchange, LeaveKernel, LeaveClear, TryLoad, TryPending, TryExchange, TryKernel, TryClear, UnlockLoad, UnlockPending, UnlockHealth, UnlockStore, UnlockUnlink, UnlockExchange, UnlockKernel, UnlockClear, ConsistentLoad, ConsistentHealth, ConsistentStore, SetPriority}
 use Rattle.pif_model.specs.declared.lines.Took.{Took}
 use Rattle.pif_model.specs.declared.lines.Took.TheVariants.{Owns as TookOwns, Queued as TookQueued}
 use Rattle.pif_model.specs.Posix.{names_known}
-use Rattle.pif_model.specs.Refusals.{begin_refused, go_refused}
-use Rattle.pif_model.specs.Word.{Word, take_word, release_word}
-use Rattle.pif_model.specs.PiKernel.{is_ready, lock_answer, words_after_lock, kernel_after_lock, try_lock_answer, words_after_try_lock, unlock_answer, words_after_unlock, kernel_after_unlock, set_prio_answer, kernel_after_set_prio, kernel_after_stop}
-use Rattle.pif_model.specs.Table.{Table, status_at, line_at, cell_at, has_thread, has_mutex, with_line, with_count, with_word, with_kernel}
+use Rattle.pif_model.specs.Refusals.{begin_refused, go_refused, end_refused}
+use Rattle.pif_model.specs.Word.{Word, Words, word_at, take_word, release_word}
+use Rattle.pif_model.specs.PiKernel.{is_ready, is_living, lock_answer, words_after_lock, kernel_after_lock, try_lock_answer, words_after_try_lock, unlock_answer, words_after_unlock, kernel_after_unlock, set_prio_answer, kernel_after_set_prio, kernel_after_stop, after_exit}
+use Rattle.pif_model.specs.RobustList.{robust_at, walk_of, with_pending, without_pending, with_half_linked, with_listed, without_listed, without_robust}
+use Rattle.pif_model.specs.Table.{Table, LibraryMutex, new_mutex, status_at, line_at, cell_at, has_thread, has_mutex, with_line, with_count, with_word, with_health_word, with_lists, with_kernel}
 
 -- what a step is answered, and the state after it
 pub record Outcome : Type 0 where
@@ -40,96 +41,172 @@ waits_at t q p s = record { seen = Waits; after = with_line t (At q p) s }
 abbrev pub answers : ℕ → ℕ → Table → Outcome
 answers t a s = record { seen = Answered a; after = with_line t Idle s }
 
--- lock and trylock: the owner of a RECURSIVE mutex holds it once more, or is answered EAGAIN where it holds it
--- 255 times
+-- whether m is robust
+abbrev pub is_robust : ℕ → Table → Bool
+is_robust m s = (cell_at s m).robust
+
+-- m is named in the pending field of t; no mutex is
+abbrev pub pending : ℕ → ℕ → Table → Table
+pending t m s = with_lists (with_pending t m s.lists) s
+
+abbrev pub cleared : ℕ → Table → Table
+cleared t s = with_lists (without_pending t s.lists) s
+
+-- the call goes on at this place for a robust mutex, and at that place for a stalled one
+abbrev pub goes_by : ℕ → Request → ℕ → Place → Place → Table → Outcome
+goes_by t q m robust stalled s = if is_robust m s then goes_to t q robust s else goes_to t q stalled s
+
+-- the call goes on at this place for a robust mutex, and answers for a stalled one
+abbrev pub ends_by : ℕ → Request → ℕ → Place → ℕ → Table → Outcome
+ends_by t q m robust a s = if is_robust m s then goes_to t q robust s else answers t a s
+
+-- lock and trylock: the owner of a RECURSIVE mutex holds it once more, or where it holds it 255 times is answered EAGAIN
 unfoldable pub locked_again : ℕ → ℕ → Table → Outcome
 locked_again t m s =
     if nat_lt (cell_at s m).count 255
     then answers t 0 (with_count m ((cell_at s m).count + 1) s)
     else answers t 11 s
 
--- by the word that an own exchange has written, if it has: the call is answered, or goes on at this place
-unfoldable pub exchange_outcome : Option Word → Request → Place → ℕ → ℕ → Table → Outcome
-exchange_outcome (Some w) q p t m s = answers t 0 (with_word m w s)
-exchange_outcome None q p t m s = goes_to t q p s
+-- by the word that an exchange has written, if it has
+unfoldable pub exchanged : Option Word → ℕ → (Table → Outcome) → (Table → Outcome) → Table → Outcome
+exchanged (Some w) m done failed s = done (with_word m w s)
+exchanged None m done failed s = failed s
 
--- lock and trylock: compare-exchange from 0 to t. Where it fails the call goes on at this place, its kernel call
+-- lock and trylock: compare-exchange from 0 to t. Done, a stalled mutex is taken, and of a robust one the health is next;
+-- where it fails the call goes on at this place, its kernel call
 unfoldable pub own_exchange : Request → Place → ℕ → ℕ → Table → Outcome
-own_exchange q p t m s = exchange_outcome (take_word (cell_at s m).word t) q p t m s
+own_exchange q p t m s = exchanged (take_word (cell_at s m).word t) m (ends_by t q m (TakeHealth false) 0) (goes_to t q p) s
 
--- lock: load the word. The owner of a NORMAL mutex goes on to stop, that of an ERRORCHECK mutex is answered EDEADLK,
--- that of a RECURSIVE mutex holds it once more
+-- a request that locks: load the word. The owner of a NORMAL mutex goes on to stop, that of an ERRORCHECK mutex is
+-- answered EDEADLK, that of a RECURSIVE mutex holds it once more
 unfoldable pub lock_load : Request → ℕ → ℕ → Table → Outcome
 lock_load q t m s =
     if (cell_at s m).word.number == t
-    then elim (cell_at s m).kind [
-      | Normal ↦ goes_to t q LockStop s
-      | ErrorCheck ↦ answers t 35 s
-      | Recursive ↦ locked_again t m s
-    ]
-    else goes_to t q LockExchange s
+    then elim (cell_at s m).kind [ Normal ↦ goes_to t q LockStop s | ErrorCheck ↦ answers t 35 s | Recursive ↦ locked_again t m s ]
+    else goes_by t q m LockPending LockExchange s
 
 -- a request that locks, by what its kernel call answered. ESRCH: the owner has ended, and the thread goes on to stop
-unfoldable pub lock_by : Result Took Errno → Request → ℕ → Table → Outcome
-lock_by (Ok TookOwns) q t s = answers t 0 s
-lock_by (Ok TookQueued) q t s = waits_at t q LockQueued s
-lock_by (Err NoSuchThread) q t s = goes_to t q LockStop s
-lock_by (Err e) q t s = answers t (number_of e) s
+unfoldable pub lock_by : Result Took Errno → Request → ℕ → ℕ → Table → Outcome
+lock_by (Ok TookOwns) q t m s = ends_by t q m TakeLoad 0 s
+lock_by (Ok TookQueued) q t m s = waits_at t q LockQueued s
+lock_by (Err Deadlock) q t m s = ends_by t q m LockClear 35 s
+lock_by (Err NoSuchThread) q t m s = goes_to t q LockStop s
+lock_by (Err e) q t m s = answers t (number_of e) s
 
 -- a request that locks: the kernel call lock_pi
 unfoldable pub lock_kernel : Request → ℕ → ℕ → Table → Outcome
 lock_kernel q t m s =
     let r = lock_answer t m s.words s.kernel in
-    lock_by r q t (with_kernel (words_after_lock t m r s.words) (kernel_after_lock t m r s.words s.kernel) s)
+    lock_by r q t m (with_kernel (words_after_lock t m r s.words) (kernel_after_lock t m r s.words s.kernel) s)
 
--- a request that locks: queued, or made the owner, which is answered with no access
-unfoldable pub lock_queued : ℕ → Table → Outcome
-lock_queued t s = if is_ready (status_at s t) then answers t 0 s else record { seen = Waits; after = s }
+-- taking over: load the word
+unfoldable pub take_load : Request → ℕ → ℕ → Table → Outcome
+take_load q t m s = goes_to t q (TakeHealth (cell_at s m).word.died) s
+
+-- a request that locks: queued; or made the owner, which is answered with no access for a stalled mutex, and is the load
+-- of taking over for a robust one
+unfoldable pub lock_queued : Request → ℕ → ℕ → Table → Outcome
+lock_queued q t m s =
+    if is_ready (status_at s t)
+    then (if is_robust m s then take_load q t m s else answers t 0 s)
+    else record { seen = Waits; after = s }
 
 -- a request that locks: stop for good
 unfoldable pub lock_stop : Request → ℕ → Table → Outcome
 lock_stop q t s = waits_at t q LockStopped (with_kernel s.words (kernel_after_stop t s.kernel) s)
+
+-- taking over: load the health word. An unusable mutex is left again; one whose last owner was seen to have ended is
+-- inconsistent
+unfoldable pub take_health : Request → Bool → ℕ → ℕ → Table → Outcome
+take_health q died t m s =
+    if (cell_at s m).health == 2 then goes_to t q LeaveExchange s else
+    (if died then goes_to t q TakeStore s else goes_to t q (LinkNext 0) s)
+
+-- taking over: the mutex is inconsistent, by its health word and then without OWNER_DIED
+unfoldable pub take_store : Request → ℕ → ℕ → Table → Outcome
+take_store q t m s = goes_to t q TakeWord (with_health_word m 1 s)
+
+unfoldable pub take_word_back : Request → ℕ → ℕ → Table → Outcome
+take_word_back q t m s = goes_to t q (LinkNext 130) (with_word m (record (cell_at s m).word { died = false }) s)
+
+-- taking over: the mutex becomes the head of the caller's list in two writes, and the pending field is cleared
+unfoldable pub link_next : Request → ℕ → ℕ → ℕ → Table → Outcome
+link_next q a t m s = goes_to t q (LinkHead a) (with_lists (with_half_linked t m s.lists) s)
+
+unfoldable pub link_head : Request → ℕ → ℕ → ℕ → Table → Outcome
+link_head q a t m s = goes_to t q (LinkClear a) (with_lists (with_listed t m s.lists) s)
+
+-- the pending field is cleared, and the call answered
+unfoldable pub clears : ℕ → ℕ → Table → Outcome
+clears a t s = answers t a (cleared t s)
+
+-- leaving: compare-exchange from t to 0
+unfoldable pub leave_exchange : Request → ℕ → ℕ → Table → Outcome
+leave_exchange q t m s = exchanged (release_word (cell_at s m).word t) m (goes_to t q LeaveClear) (goes_to t q LeaveKernel) s
+
+-- a kernel call that gave a mutex up leads to this outcome; an error is answered
+unfoldable pub given_up_by : Result (record {}) Errno → ℕ → (Table → Outcome) → Table → Outcome
+given_up_by (Ok x) t done s = done s
+given_up_by (Err e) t done s = answers t (number_of e) s
+
+-- the kernel call unlock_pi
+unfoldable pub gives_up : ℕ → ℕ → (Table → Outcome) → Table → Outcome
+gives_up t m done s =
+    let r = unlock_answer t m s.words s.kernel in
+    given_up_by r t done (with_kernel (words_after_unlock m r s.kernel s.words) (kernel_after_unlock m r s.kernel) s)
 
 -- trylock: load the word. The owner of a RECURSIVE mutex holds it once more, that of another is answered EBUSY
 unfoldable pub try_load : ℕ → ℕ → Table → Outcome
 try_load t m s =
     if (cell_at s m).word.number == t
     then elim (cell_at s m).kind [ Recursive ↦ locked_again t m s | _ ↦ answers t 16 s ]
-    else goes_to t (TryLock m) TryExchange s
+    else goes_by t (TryLock m) m TryPending TryExchange s
 
--- unlock: load the word. Who isn't the owner is answered EPERM; an owner who holds it more than once holds it once less
-unfoldable pub unlock_load : ℕ → ℕ → Table → Outcome
-unlock_load t m s =
-    let n = (cell_at s m).count in
-    if (cell_at s m).word.number == t
-    then (if nat_lt 1 n then answers t 0 (with_count m (n - 1) s) else goes_to t (Unlock m) UnlockExchange s)
-    else answers t 1 s
-
--- unlock: compare-exchange from t to 0
-unfoldable pub unlock_exchange : ℕ → ℕ → Table → Outcome
-unlock_exchange t m s = exchange_outcome (release_word (cell_at s m).word t) (Unlock m) UnlockKernel t m s
-
--- the call is closed by what its kernel call answered: 0, or the number of the error
-unfoldable pub answered_by : Result (record {}) Errno → ℕ → Table → Outcome
-answered_by (Ok x) t s = answers t 0 s
-answered_by (Err e) t s = answers t (number_of e) s
-
--- what the library makes of trylock_pi's answer: EAGAIN, that the mutex is held, becomes EBUSY
-abbrev pub busy_for_again : Result (record {}) Errno → Result (record {}) Errno
-busy_for_again (Err Again) = Err Busy
-busy_for_again a = a
+-- trylock, by what its kernel call answered: EAGAIN, that the mutex is held, becomes EBUSY
+unfoldable pub try_by : Result (record {}) Errno → ℕ → ℕ → Table → Outcome
+try_by (Ok x) t m s = ends_by t (TryLock m) m TakeLoad 0 s
+try_by (Err Again) t m s = ends_by t (TryLock m) m TryClear 16 s
+try_by (Err e) t m s = answers t (number_of e) s
 
 -- trylock: the kernel call trylock_pi
 unfoldable pub try_kernel : ℕ → ℕ → Table → Outcome
 try_kernel t m s =
     let r = try_lock_answer t m s.words s.kernel in
-    answered_by (busy_for_again r) t (with_kernel (words_after_try_lock t m r s.words) s.kernel s)
+    try_by r t m (with_kernel (words_after_try_lock t m r s.words) s.kernel s)
 
--- unlock: the kernel call unlock_pi
-unfoldable pub unlock_kernel : ℕ → ℕ → Table → Outcome
-unlock_kernel t m s =
-    let r = unlock_answer t m s.words s.kernel in
-    answered_by r t (with_kernel (words_after_unlock m r s.kernel s.words) (kernel_after_unlock m r s.kernel) s)
+-- unlock: load the word. Who isn't the owner is answered EPERM; an owner who holds it more than once holds it once less
+unfoldable pub unlock_load : ℕ → ℕ → Table → Outcome
+unlock_load t m s =
+    if (cell_at s m).word.number == t
+    then (if nat_lt 1 (cell_at s m).count then answers t 0 (with_count m ((cell_at s m).count - 1) s) else goes_by t (Unlock m) m UnlockPending UnlockExchange s)
+    else answers t 1 s
+
+-- unlock: load the health word. An inconsistent mutex becomes unusable
+unfoldable pub unlock_health : ℕ → ℕ → Table → Outcome
+unlock_health t m s =
+    if (cell_at s m).health == 1 then goes_to t (Unlock m) UnlockStore s else goes_to t (Unlock m) UnlockUnlink s
+
+-- unlock: compare-exchange from t to 0
+unfoldable pub unlock_exchange : ℕ → ℕ → Table → Outcome
+unlock_exchange t m s =
+    exchanged (release_word (cell_at s m).word t) m (ends_by t (Unlock m) m UnlockClear 0) (goes_to t (Unlock m) UnlockKernel) s
+
+-- consistent: a stalled mutex is answered EINVAL with no access. Else load the word; who isn't the owner is answered EPERM
+unfoldable pub consistent_load : ℕ → ℕ → Table → Outcome
+consistent_load t m s =
+    if is_robust m s
+    then (if (cell_at s m).word.number == t then goes_to t (Consistent m) ConsistentHealth s else answers t 1 s)
+    else answers t 22 s
+
+-- consistent: load the health word. A mutex that isn't inconsistent is answered EINVAL
+unfoldable pub consistent_health : ℕ → ℕ → Table → Outcome
+consistent_health t m s =
+    if (cell_at s m).health == 1 then goes_to t (Consistent m) ConsistentStore s else answers t 22 s
+
+-- the call is closed by what its kernel call answered: 0, or the number of the error
+unfoldable pub answered_by : Result (record {}) Errno → ℕ → Table → Outcome
+answered_by (Ok x) t s = answers t 0 s
+answered_by (Err e) t s = answers t (number_of e) s
 
 -- setprio: the kernel call set_prio
 unfoldable pub set_priority : ℕ → ℕ → ℕ → Table → Outcome
@@ -137,20 +214,72 @@ set_priority t u p s =
     let r = set_prio_answer u p s.kernel in
     answered_by r t (with_kernel s.words (kernel_after_set_prio u p r s.kernel) s)
 
--- one step of a call at a place of its own; at a place of another call, at which no call stands, EINVAL
+-- THE END OF A THREAD
+
+-- what the library knows of mutexes once t has ended: those of these that it held are held once from now on
+unfoldable pub library_after_end : ℕ → List ℕ → Words → List LibraryMutex → List LibraryMutex
+library_after_end t [] ws ls = ls
+library_after_end t (m ∷ ms) ws ls =
+    library_after_end t ms ws
+    (if (word_at ws m).number == t then set ls m (record (get_or ls m (new_mutex Normal false)) { count = 1 }) else ls)
+
+-- t has ended: its call is gone, and what its robust list and its pending field name has passed on
+unfoldable pub ended_table : ℕ → Table → Table
+ended_table t s =
+    let ms = walk_of (robust_at s.lists t) in
+    let x = after_exit t ms s.words s.kernel in
+    record s {
+      words = x.words;
+      kernel = x.kernel;
+      lists = without_robust t s.lists;
+      lines = set s.lines t Idle;
+      mutexes = library_after_end t ms s.words s.mutexes;
+    }
+
+-- ONE STEP
+
+-- one step of taking over or leaving in a request that locks m; at another place, which never comes, EINVAL
+unfoldable pub shared_line : Request → Place → ℕ → ℕ → Table → Outcome
+shared_line q TakeLoad t m s = take_load q t m s
+shared_line q (TakeHealth died) t m s = take_health q died t m s
+shared_line q TakeStore t m s = take_store q t m s
+shared_line q TakeWord t m s = take_word_back q t m s
+shared_line q (LinkNext a) t m s = link_next q a t m s
+shared_line q (LinkHead a) t m s = link_head q a t m s
+shared_line q (LinkClear a) t m s = clears a t s
+shared_line q LeaveExchange t m s = leave_exchange q t m s
+shared_line q LeaveKernel t m s = gives_up t m (goes_to t q LeaveClear) s
+shared_line q LeaveClear t m s = clears 131 t s
+shared_line q _ t m s = answers t 22 s
+
+-- one step of a call at a place of its own; at a place of another, which never comes, EINVAL
 unfoldable pub line_of : Request → Place → ℕ → Table → Outcome
 line_of (Lock m) LockLoad t s = lock_load (Lock m) t m s
+line_of (Lock m) LockPending t s = goes_to t (Lock m) LockExchange (pending t m s)
 line_of (Lock m) LockExchange t s = own_exchange (Lock m) LockKernel t m s
 line_of (Lock m) LockKernel t s = lock_kernel (Lock m) t m s
-line_of (Lock m) LockQueued t s = lock_queued t s
+line_of (Lock m) LockQueued t s = lock_queued (Lock m) t m s
 line_of (Lock m) LockStop t s = lock_stop (Lock m) t s
 line_of (Lock m) LockStopped t s = record { seen = Waits; after = s }
+line_of (Lock m) LockClear t s = clears 35 t s
+line_of (Lock m) p t s = shared_line (Lock m) p t m s
 line_of (TryLock m) TryLoad t s = try_load t m s
+line_of (TryLock m) TryPending t s = goes_to t (TryLock m) TryExchange (pending t m s)
 line_of (TryLock m) TryExchange t s = own_exchange (TryLock m) TryKernel t m s
 line_of (TryLock m) TryKernel t s = try_kernel t m s
+line_of (TryLock m) TryClear t s = clears 16 t s
+line_of (TryLock m) p t s = shared_line (TryLock m) p t m s
 line_of (Unlock m) UnlockLoad t s = unlock_load t m s
+line_of (Unlock m) UnlockPending t s = goes_to t (Unlock m) UnlockHealth (pending t m s)
+line_of (Unlock m) UnlockHealth t s = unlock_health t m s
+line_of (Unlock m) UnlockStore t s = goes_to t (Unlock m) UnlockUnlink (with_health_word m 2 s)
+line_of (Unlock m) UnlockUnlink t s = goes_to t (Unlock m) UnlockExchange (with_lists (without_listed t m s.lists) s)
 line_of (Unlock m) UnlockExchange t s = unlock_exchange t m s
-line_of (Unlock m) UnlockKernel t s = unlock_kernel t m s
+line_of (Unlock m) UnlockKernel t s = gives_up t m (ends_by t (Unlock m) m UnlockClear 0) s
+line_of (Unlock m) UnlockClear t s = clears 0 t s
+line_of (Consistent m) ConsistentLoad t s = consistent_load t m s
+line_of (Consistent m) ConsistentHealth t s = consistent_health t m s
+line_of (Consistent m) ConsistentStore t s = answers t 0 (with_health_word m 0 s)
 line_of (SetPrio u p) SetPriority t s = set_priority t u p s
 line_of _ _ t s = answers t 22 s
 
@@ -164,6 +293,7 @@ abbrev pub first_place : Request → Place
 first_place (Lock m) = LockLoad
 first_place (TryLock m) = TryLoad
 first_place (Unlock m) = UnlockLoad
+first_place (Consistent m) = ConsistentLoad
 first_place (SetPrio u p) = SetPriority
 
 -- whether a call is open
@@ -173,13 +303,15 @@ is_open (At q p) = true
 
 -- why an event is refused, if it is
 abbrev pub table_refusal : Table → Event → Option Refusal
-table_refusal s (Begin t q) = begin_refused (has_thread s t) (is_open (line_at s t)) (names_known (has_mutex s) q)
-table_refusal s (Go t) = go_refused (has_thread s t) (is_open (line_at s t))
+table_refusal s (Begin t q) = begin_refused (has_thread s t) (is_living s.kernel t) (is_open (line_at s t)) (names_known (has_mutex s) q)
+table_refusal s (Go t) = go_refused (has_thread s t) (is_living s.kernel t) (is_open (line_at s t))
+table_refusal s (End t) = end_refused (has_thread s t) (is_living s.kernel t)
 
 -- an event that is not refused
 unfoldable pub accepted_outcome : Event → Table → Outcome
 accepted_outcome (Begin t q) s = record { seen = Begun; after = with_line t (At q (first_place q)) s }
 accepted_outcome (Go t) s = go_outcome (line_at s t) t s
+accepted_outcome (End t) s = record { seen = Ended; after = ended_table t s }
 
 -- an event by its refusal, if there is one
 abbrev pub by_refusal : Option Refusal → Event → Table → Outcome

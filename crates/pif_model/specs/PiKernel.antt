@@ -8,12 +8,12 @@ use Rattle.pif_types.specs.Bounds.{Bounds}
 use Rattle.pif_types.specs.declared.errors.Errno.{Errno}
 use Rattle.pif_types.specs.declared.errors.Errno.TheVariants.{NotPermitted, NoSuchThread, Again, Fault, Invalid, Deadlock}
 use Rattle.pif_model.specs.declared.lines.Status.{Status}
-use Rattle.pif_model.specs.declared.lines.Status.TheVariants.{Ready, Queued, Stopped}
+use Rattle.pif_model.specs.declared.lines.Status.TheVariants.{Ready, Queued, Stopped, Ended}
 use Rattle.pif_model.specs.declared.lines.Woken.TheVariants.{Fresh as WokenFresh, Owns as WokenOwns}
 use Rattle.pif_model.specs.declared.lines.Took.{Took}
 use Rattle.pif_model.specs.declared.lines.Took.TheVariants.{Owns as TookOwns, Queued as TookQueued}
 use Rattle.pif_model.specs.Graph.{is_priority, reaches_within, effective_among, next_waiter, has_waiter, without}
-use Rattle.pif_model.specs.Word.{Words, free_word, taken_word, mark_word, hand_word, word_at, has_word, set_word}
+use Rattle.pif_model.specs.Word.{Words, free_word, taken_word, mark_word, hand_word, orphan_word, inherit_word, word_at, has_word, set_word}
 
 -- a thread, as the kernel knows it
 pub record Seat : Type 0 where
@@ -45,21 +45,30 @@ seat_at k t = get_or k.seats t no_seat
 abbrev pub has_seat : Kernel → ℕ → Bool
 has_seat k t = if t == 0 then false else nat_lt t (length k.seats)
 
--- whether t lives: it was added
+-- whether a thread of this status has ended
+abbrev pub has_ended : Status → Bool
+has_ended (Ready w) = false
+has_ended (Queued m) = false
+has_ended Stopped = false
+has_ended Ended = true
+
+-- whether t lives: it was added and has not ended
 abbrev pub is_living : Kernel → ℕ → Bool
-is_living k t = has_seat k t
+is_living k t = if has_seat k t then (if has_ended (seat_at k t).status then false else true) else false
 
 -- the mutex on which a thread of this status is queued, 0 where it is on none
 abbrev pub queued_on : Status → ℕ
 queued_on (Ready w) = 0
 queued_on (Queued m) = m
 queued_on Stopped = 0
+queued_on Ended = 0
 
 -- whether a thread of this status may run
 abbrev pub is_ready : Status → Bool
 is_ready (Ready w) = true
 is_ready (Queued m) = false
 is_ready Stopped = false
+is_ready Ended = false
 
 -- the owner that the owner state of m names; 0 where there is no owner state
 abbrev pub state_at : Kernel → ℕ → ℕ
@@ -108,11 +117,11 @@ levels_by level = [] ∷ map level (numbers 99)
 abbrev pub level_at : List (List ℕ) → ℕ → List ℕ
 level_at levels p = get_or levels p []
 
--- the levels with t at the end of level p
+-- t has joined the end of level p
 abbrev pub levels_with : ℕ → ℕ → List (List ℕ) → List (List ℕ)
 levels_with t p levels = set levels p (level_at levels p ++ t ∷ [])
 
--- the levels without t
+-- t has left its level
 abbrev pub levels_without : ℕ → List (List ℕ) → List (List ℕ)
 levels_without t levels = map (filter (λ u. if u == t then false else true)) levels
 
@@ -127,10 +136,9 @@ moves_to effective levels p u =
 -- and who changes it joins the end of the new one; several that do so join in order of their numbers
 abbrev pub effective_levels : ℕ → (ℕ → ℕ) → List (List ℕ) → List (List ℕ)
 effective_levels n effective levels =
-    levels_by (λ p. filter (λ u. effective u == p) (level_at levels p)
-    ++ filter (moves_to effective levels p) (numbers n))
+    levels_by (λ p. filter (λ u. effective u == p) (level_at levels p) ++ filter (moves_to effective levels p) (numbers n))
 
--- k with each ready thread at the level of its effective priority now
+-- each ready thread at the level of its effective priority now
 abbrev pub with_effective_levels : Kernel → Kernel
 with_effective_levels k = record k { levels = effective_levels (length k.seats - 1) (effective_in k) k.levels }
 
@@ -179,7 +187,7 @@ lock_answer t m ws k =
     (if n == 0 then (if state_at k m == 0 then Ok TookOwns else Err Invalid) else wait_answer t n (state_at k m) k))
     else Err Fault
 
--- the words after lock_pi, by its answer: the number, with OWNER_DIED as it was; or WAITERS besides
+-- the words after lock_pi, by its answer: the number, and what there was of OWNER_DIED; or WAITERS besides
 unfoldable pub words_after_lock : ℕ → ℕ → Result Took Errno → Words → Words
 words_after_lock t m (Ok TookOwns) ws = set_word ws m (taken_word t (word_at ws m))
 words_after_lock t m (Ok TookQueued) ws = set_word ws m (mark_word (word_at ws m))
@@ -207,7 +215,7 @@ try_lock_answer t m ws k =
     (if n == 0 then (if state_at k m == 0 then Ok (record {}) else Err Invalid) else Err Again))
     else Err Fault
 
--- the words after trylock_pi, by its answer: the number, with OWNER_DIED as it was
+-- the words after trylock_pi, by its answer: the number, and what there was of OWNER_DIED
 unfoldable pub words_after_try_lock : ℕ → ℕ → Result (record {}) Errno → Words → Words
 words_after_try_lock t m (Ok x) ws = set_word ws m (taken_word t (word_at ws m))
 words_after_try_lock t m (Err e) ws = ws
@@ -231,8 +239,7 @@ words_after_unlock m (Err e) k ws = ws
 unfoldable pub kernel_after_hand_over : ℕ → ℕ → Kernel → Kernel
 kernel_after_hand_over u m k =
     let rest = without k.waiters u in
-    let owner = if has_waiter rest m then u else 0 in
-    let after = record (with_status u (Ready WokenOwns) (with_state m owner k)) { waiters = rest } in
+    let after = record (with_status u (Ready WokenOwns) (with_state m (if has_waiter rest m then u else 0) k)) { waiters = rest } in
     with_effective_levels (record after { levels = levels_with u (effective_in after u) k.levels })
 
 -- the kernel after unlock_pi, by its answer
@@ -255,6 +262,45 @@ kernel_after_set_prio t p (Err e) k = k
 unfoldable pub kernel_after_stop : ℕ → Kernel → Kernel
 kernel_after_stop t k = record (with_status t Stopped k) { levels = levels_without t k.levels }
 
+-- THE END OF A THREAD
+
+-- t has ended: it has left the mutex on which it was queued, whose owner state goes where nobody else waits, and its
+-- level, and the chain above has its priorities. Of the owner states that it still owns nothing is changed
+unfoldable pub kernel_after_leaving : ℕ → Kernel → Kernel
+kernel_after_leaving t k =
+    let m = queued_on (seat_at k t).status in
+    let rest = without k.waiters t in
+    with_effective_levels (record (with_status t Ended (with_state m (if has_waiter rest m then state_at k m else 0) k)) {
+      waiters = rest;
+      levels = levels_without t k.levels;
+    })
+
+-- the words and the kernel
+pub record System : Type 0 where
+  pub words : Words
+  pub kernel : Kernel
+
+-- m passes on where its word has the number of t, which has ended: with no owner state it has no owner; with one of t it
+-- is handed to its next waiter; with one of another owner nothing changes. OWNER_DIED is set
+unfoldable pub after_death : ℕ → ℕ → System → System
+after_death t m x =
+    if (if has_word x.words m then (word_at x.words m).number == t else false) then
+    (if state_at x.kernel m == 0 then record x { words = set_word x.words m (orphan_word (word_at x.words m)) } else
+    (if state_at x.kernel m == t then record {
+      words = set_word x.words m (inherit_word (next_in x.kernel m));
+      kernel = kernel_after_hand_over (next_in x.kernel m) m x.kernel;
+    } else x))
+    else x
+
+-- and so does each of these mutexes, in this order
+unfoldable pub after_deaths : ℕ → List ℕ → System → System
+after_deaths t [] x = x
+after_deaths t (m ∷ ms) x = after_deaths t ms (after_death t m x)
+
+-- words and kernel after exit of t, where its robust list and its pending field name these mutexes
+abbrev pub after_exit : ℕ → List ℕ → Words → Kernel → System
+after_exit t ms ws k = after_deaths t ms (record { words = ws; kernel = kernel_after_leaving t k })
+
 -- WHAT A KERNEL KEEPS
 
 -- the lists of a kernel: nobody stands at place 0, threads are within the limits and have a priority, and there is a
@@ -274,10 +320,8 @@ pub record IsKernelShaped (k : Kernel) : Type 0 where
 pub record IsKernel (k : Kernel) : Type 0 where
   pub shape : IsKernelShaped k
   -- a thread is queued where its status says
-  pub queue : (u m : ℕ) → list_any (λ (w : ℕ × ℕ). if w.0 == u then w.1 == m else false) k.waiters ≡ true
-      → (seat_at k u).status ≡ Queued m
-  pub queued : (u m : ℕ) → (seat_at k u).status ≡ Queued m
-      → list_any (λ (w : ℕ × ℕ). if w.0 == u then w.1 == m else false) k.waiters ≡ true
+  pub queue : (u m : ℕ) → list_any (λ (w : ℕ × ℕ). if w.0 == u then w.1 == m else false) k.waiters ≡ true → (seat_at k u).status ≡ Queued m
+  pub queued : (u m : ℕ) → (seat_at k u).status ≡ Queued m → list_any (λ (w : ℕ × ℕ). if w.0 == u then w.1 == m else false) k.waiters ≡ true
   pub once : IsDistinct eqb (map (λ (w : ℕ × ℕ). w.0) k.waiters)
   -- there is an owner state exactly while threads are queued, of a thread that was added
   pub states : (m : ℕ) → (state_at k m == 0) ≡ (if has_waiter k.waiters m then false else true)
@@ -285,6 +329,5 @@ pub record IsKernel (k : Kernel) : Type 0 where
   -- no chain closes
   pub acyclic : (u : ℕ) → waits_for k u ≢ 0 → reaches_within (length k.seats) (waits_for k) (waits_for k u) u ≡ false
   -- a thread is on a level exactly where it may run and the level is its effective priority
-  pub level : (t p : ℕ) → is_among (level_at k.levels p) t
-      ≡ (if has_seat k t then (if is_ready (seat_at k t).status then effective_in k t == p else false) else false)
+  pub level : (t p : ℕ) → is_among (level_at k.levels p) t ≡ (if has_seat k t then (if is_ready (seat_at k t).status then effective_in k t == p else false) else false)
   pub level_once : (p : ℕ) → IsDistinct eqb (level_at k.levels p)

@@ -1,6 +1,7 @@
--- The POSIX machine of mutexes: what pthread_mutex_lock, pthread_mutex_trylock, pthread_mutex_unlock and
--- pthread_setschedprio do, by POSIX.1-2017 (the pages pthread_mutex_lock, pthread_mutex_trylock,
--- pthread_mutexattr_settype, pthread_mutexattr_setprotocol, pthread_mutexattr_setrobust and pthread_setschedprio).
+-- The POSIX machine of mutexes: what pthread_mutex_lock, pthread_mutex_trylock, pthread_mutex_unlock,
+-- pthread_mutex_consistent, pthread_setschedprio and the end of a thread do, by POSIX.1-2017 (the pages
+-- pthread_mutex_lock, pthread_mutex_trylock, pthread_mutex_consistent, pthread_mutexattr_settype,
+-- pthread_mutexattr_setprotocol, pthread_mutexattr_setrobust and pthread_setschedprio).
 -- It knows no words, no kernel and no chain walks. A call has effects, each of which happens at one moment between
 -- its beginning and its answer. Threads and mutexes are numbered from 1; place 0 of each list stands for nobody.
 use Rattle.std.specs.Prelude.{ℕ, ◌≡◌, ◌≢◌, ◌≤◌, ◌<◌, ◌+◌, ◌-◌, Bool, true, false, ◌==◌, nat_lt, List, [], ◌∷◌, ◌++◌, length, get_or, set, Option, Some, None, is_some, if◌then◌else◌}
@@ -10,14 +11,14 @@ use Rattle.pif_types.specs.declared.errors.Refusal.{Refusal}
 use Rattle.pif_types.specs.declared.requests.Kind.{Kind}
 use Rattle.pif_types.specs.declared.requests.Kind.TheVariants.{Normal, ErrorCheck, Recursive}
 use Rattle.pif_types.specs.declared.requests.Request.{Request}
-use Rattle.pif_types.specs.declared.requests.Request.TheVariants.{Lock, TryLock, Unlock, SetPrio}
+use Rattle.pif_types.specs.declared.requests.Request.TheVariants.{Lock, TryLock, Unlock, Consistent, SetPrio}
 use Rattle.pif_model.specs.declared.events.Event.{Event}
-use Rattle.pif_model.specs.declared.events.Event.TheVariants.{Begin, Go}
-use Rattle.pif_model.specs.declared.events.Seen.TheVariants.{Begun, Went, Waits, Answered, Refused}
+use Rattle.pif_model.specs.declared.events.Event.TheVariants.{Begin, Go, End}
+use Rattle.pif_model.specs.declared.events.Seen.TheVariants.{Begun, Went, Waits, Answered, Ended, Refused}
 use Rattle.pif_model.specs.declared.events.Entry.{Entry}
 use Rattle.pif_model.specs.declared.events.Entry.TheVariants.{Thread as AddThread, Mutex as AddMutex, Step as Happened}
 use Rattle.pif_model.specs.Graph.{is_priority, effective_among, next_waiter, reaches_within, waited_by, without}
-use Rattle.pif_model.specs.Refusals.{begin_refused, go_refused}
+use Rattle.pif_model.specs.Refusals.{begin_refused, go_refused, end_refused}
 
 -- what a robust mutex protects is in order, may be in disorder since an owner ended, or was given up for good
 pub data Health : Type 0 where
@@ -105,13 +106,13 @@ abbrev pub with_mutex : ℕ → Mutex → World → World
 with_mutex m x w = record w { mutexes = set w.mutexes m x }
 
 -- an open call that has come this far
-abbrev pub call_at_progress : Progress → Option Call → Option Call
-call_at_progress p None = None
-call_at_progress p (Some c) = Some (record c { progress = p })
+abbrev pub progressed : Progress → Option Call → Option Call
+progressed p None = None
+progressed p (Some c) = Some (record c { progress = p })
 
 -- t's call has come this far
 abbrev pub with_progress : ℕ → Progress → World → World
-with_progress t p w = with_thread t (record (thread_at w t) { call = call_at_progress p (thread_at w t).call }) w
+with_progress t p w = with_thread t (record (thread_at w t) { call = progressed p (thread_at w t).call }) w
 
 -- WAITING AND PRIORITY
 
@@ -168,32 +169,41 @@ abbrev pub taken : ℕ → ℕ → World → World
 taken t m w =
     with_progress t (on_taking (mutex_at w m).health) (with_mutex m (record (mutex_at w m) { owner = t; count = 1 }) w)
 
+-- what m protects is in this state of health
+abbrev pub with_health : ℕ → Health → World → World
+with_health m x w = with_mutex m (record (mutex_at w m) { health = x }) w
+
 -- m is held this often by its owner
-abbrev pub with_hold_count : ℕ → ℕ → World → World
-with_hold_count m n w = with_mutex m (record (mutex_at w m) { count = n }) w
+abbrev pub counted : ℕ → ℕ → World → World
+counted m n w = with_mutex m (record (mutex_at w m) { count = n }) w
 
 -- the owner t of a RECURSIVE mutex m locks it again, by lock or trylock
 pub data LocksAgain (t m : ℕ) (w v : World) : Type 0 where
   -- it holds m once more
-  rises : (mutex_at w m).count < 255 → v ≡ with_progress t (Has 0) (with_hold_count m ((mutex_at w m).count + 1) w)
-      → LocksAgain t m w v
+  rises : (mutex_at w m).count < 255 → v ≡ with_progress t (Has 0) (counted m ((mutex_at w m).count + 1) w) → LocksAgain t m w v
   -- it holds m as often as it may: EAGAIN
   at_limit : (mutex_at w m).count ≡ 255 → v ≡ with_progress t (Has 11) w → LocksAgain t m w v
+
+-- the mutex that a request names; 0 where it names none
+abbrev pub named_by : Request → ℕ
+named_by (Lock m) = m
+named_by (TryLock m) = m
+named_by (Unlock m) = m
+named_by (Consistent m) = m
+named_by (SetPrio u p) = 0
 
 -- pthread_mutex_lock by t on m, where no effect has happened yet
 pub data Locks (t m : ℕ) (w v : World) : Type 0 where
   -- the owner locks a NORMAL mutex again: it waits for good
   own_normal : (mutex_at w m).owner ≡ t → (mutex_at w m).kind ≡ Normal → v ≡ with_progress t Stuck w → Locks t m w v
   -- the owner locks an ERRORCHECK mutex again: EDEADLK
-  own_errorcheck : (mutex_at w m).owner ≡ t → (mutex_at w m).kind ≡ ErrorCheck
-      → v ≡ with_progress t (Has 35) w → Locks t m w v
+  own_errorcheck : (mutex_at w m).owner ≡ t → (mutex_at w m).kind ≡ ErrorCheck → v ≡ with_progress t (Has 35) w → Locks t m w v
   -- the owner locks a RECURSIVE mutex again
   own_recursive : (mutex_at w m).owner ≡ t → (mutex_at w m).kind ≡ Recursive → LocksAgain t m w v → Locks t m w v
   -- nobody owns it: t takes it
   free : (mutex_at w m).owner ≢ t → (mutex_at w m).owner ≡ 0 → v ≡ taken t m w → Locks t m w v
   -- it is lost: t waits for good
-  lost : (mutex_at w m).owner ≢ t → (mutex_at w m).owner ≢ 0 → is_lost w m ≡ true
-      → v ≡ with_progress t Stuck w → Locks t m w v
+  lost : (mutex_at w m).owner ≢ t → (mutex_at w m).owner ≢ 0 → is_lost w m ≡ true → v ≡ with_progress t Stuck w → Locks t m w v
   -- its owner waits for t through some chain: EDEADLK
   cycle : (mutex_at w m).owner ≢ t → (mutex_at w m).owner ≢ 0 → is_lost w m ≡ false
       → leads_to w (mutex_at w m).owner t ≡ true → v ≡ with_progress t (Has 35) w → Locks t m w v
@@ -207,27 +217,42 @@ pub data TriesToLock (t m : ℕ) (w v : World) : Type 0 where
   -- the owner locks a RECURSIVE mutex again
   own_recursive : (mutex_at w m).owner ≡ t → (mutex_at w m).kind ≡ Recursive → LocksAgain t m w v → TriesToLock t m w v
   -- it is owned otherwise, or lost: EBUSY
-  busy : (mutex_at w m).owner ≢ 0 → ((mutex_at w m).owner ≡ t → (mutex_at w m).kind ≢ Recursive)
-      → v ≡ with_progress t (Has 16) w → TriesToLock t m w v
+  busy : (mutex_at w m).owner ≢ 0 → ((mutex_at w m).owner ≡ t → (mutex_at w m).kind ≢ Recursive) → v ≡ with_progress t (Has 16) w → TriesToLock t m w v
   -- nobody owns it: t takes it
   free : (mutex_at w m).owner ≡ 0 → v ≡ taken t m w → TriesToLock t m w v
 
 -- m passes on: to nobody, which holds it once, or to its next waiter, which takes it
 pub data Passes (m : ℕ) (w v : World) : Type 0 where
   to_nobody : next_of w m ≡ 0 → v ≡ with_mutex m (record (mutex_at w m) { owner = 0; count = 1 }) w → Passes m w v
-  to_next : (u : ℕ) → next_of w m ≡ u → u ≢ 0 → v ≡ taken u m (record w { waiters = without w.waiters u })
-      → Passes m w v
+  to_next : (u : ℕ) → next_of w m ≡ u → u ≢ 0 → v ≡ taken u m (record w { waiters = without w.waiters u }) → Passes m w v
 
 -- pthread_mutex_unlock by t on m, where no effect has happened yet
 pub data Unlocks (t m : ℕ) (w v : World) : Type 0 where
   -- t isn't the owner: EPERM
   not_owner : (mutex_at w m).owner ≢ t → v ≡ with_progress t (Has 1) w → Unlocks t m w v
   -- the owner holds it more than once: it holds it once less, and the result is 0
-  falls : (mutex_at w m).owner ≡ t → 1 < (mutex_at w m).count
-      → v ≡ with_progress t (Has 0) (with_hold_count m ((mutex_at w m).count - 1) w) → Unlocks t m w v
-  -- the owner, who holds it once, gives it up: it passes on, and the result is 0
+  falls : (mutex_at w m).owner ≡ t → 1 < (mutex_at w m).count → v ≡ with_progress t (Has 0) (counted m ((mutex_at w m).count - 1) w) → Unlocks t m w v
+  -- the owner, who holds it once, gives it up Inconsistent: it becomes Unusable, and the unlock goes on from there
+  -- (pthread_mutex_unlock of a mutex that wasn't made consistent)
+  becomes_unusable : (mutex_at w m).owner ≡ t → (mutex_at w m).count ≡ 1 → (mutex_at w m).health ≡ Inconsistent
+      → v ≡ with_health m Unusable w → Unlocks t m w v
+  -- the owner, who holds it once, gives it up otherwise: it passes on, and the result is 0
   released : (mutex_at w m).owner ≡ t → (mutex_at w m).count ≡ 1 → (mutex_at w m).health ≢ Inconsistent
       → Passes m (with_progress t (Has 0) w) v → Unlocks t m w v
+
+-- pthread_mutex_consistent by t on m, where no effect has happened yet
+pub data MakesConsistent (t m : ℕ) (w v : World) : Type 0 where
+  -- it isn't robust: EINVAL
+  not_robust : (mutex_at w m).robust ≡ false → v ≡ with_progress t (Has 22) w → MakesConsistent t m w v
+  -- t isn't the owner: EPERM
+  not_owner : (mutex_at w m).robust ≡ true → (mutex_at w m).owner ≢ t → v ≡ with_progress t (Has 1) w
+      → MakesConsistent t m w v
+  -- it isn't Inconsistent: EINVAL
+  not_inconsistent : (mutex_at w m).robust ≡ true → (mutex_at w m).owner ≡ t → (mutex_at w m).health ≢ Inconsistent
+      → v ≡ with_progress t (Has 22) w → MakesConsistent t m w v
+  -- it is Fine from now on
+  made_fine : (mutex_at w m).robust ≡ true → (mutex_at w m).owner ≡ t → (mutex_at w m).health ≡ Inconsistent
+      → v ≡ with_progress t (Has 0) (with_health m Fine w) → MakesConsistent t m w v
 
 -- t with this base priority
 abbrev pub with_base : ℕ → ℕ → World → World
@@ -240,19 +265,19 @@ pub data SetsPriority (t u p : ℕ) (w v : World) : Type 0 where
   -- u is not living: ESRCH
   not_living : is_priority p ≡ true → is_living w u ≡ false → v ≡ with_progress t (Has 3) w → SetsPriority t u p w v
   -- u's base priority is p; who waits for what, and since when, stays
-  changed : is_priority p ≡ true → is_living w u ≡ true → v ≡ with_progress t (Has 0) (with_base u p w)
-      → SetsPriority t u p w v
+  changed : is_priority p ≡ true → is_living w u ≡ true → v ≡ with_progress t (Has 0) (with_base u p w) → SetsPriority t u p w v
 
 -- one effect of t's open call
 pub data Effect (t : ℕ) (w v : World) : Type 0 where
-  lock : (m : ℕ) → (thread_at w t).call ≡ Some (record { request = Lock m; progress = Fresh })
-      → Locks t m w v → Effect t w v
-  try_lock : (m : ℕ) → (thread_at w t).call ≡ Some (record { request = TryLock m; progress = Fresh })
-      → TriesToLock t m w v → Effect t w v
-  unlock : (m : ℕ) → (thread_at w t).call ≡ Some (record { request = Unlock m; progress = Fresh })
-      → Unlocks t m w v → Effect t w v
-  set_prio : (u p : ℕ) → (thread_at w t).call ≡ Some (record { request = SetPrio u p; progress = Fresh })
-      → SetsPriority t u p w v → Effect t w v
+  lock : (m : ℕ) → (thread_at w t).call ≡ Some (record { request = Lock m; progress = Fresh }) → Locks t m w v → Effect t w v
+  try_lock : (m : ℕ) → (thread_at w t).call ≡ Some (record { request = TryLock m; progress = Fresh }) → TriesToLock t m w v → Effect t w v
+  unlock : (m : ℕ) → (thread_at w t).call ≡ Some (record { request = Unlock m; progress = Fresh }) → Unlocks t m w v → Effect t w v
+  consistent : (m : ℕ) → (thread_at w t).call ≡ Some (record { request = Consistent m; progress = Fresh })
+      → MakesConsistent t m w v → Effect t w v
+  set_prio : (u p : ℕ) → (thread_at w t).call ≡ Some (record { request = SetPrio u p; progress = Fresh }) → SetsPriority t u p w v → Effect t w v
+  -- a call that took an Unusable mutex gives it up again: ENOTRECOVERABLE
+  leave : (q : Request) → (thread_at w t).call ≡ Some (record { request = q; progress = Leaving })
+      → Passes (named_by q) (with_progress t (Has 131) w) v → Effect t w v
 
 -- some effects of t's open call in order, or none
 pub data Effects (t : ℕ) : World → World → Type 0 where
@@ -263,31 +288,54 @@ pub data Effects (t : ℕ) : World → World → Type 0 where
 abbrev pub begun_progress : World → Request → Progress
 begun_progress w q = Fresh
 
--- ONE ENTRY OF A HISTORY
+-- THE END OF A THREAD
 
--- the mutex that a request names; 0 where it names none
-abbrev pub named_by : Request → ℕ
-named_by (Lock m) = m
-named_by (TryLock m) = m
-named_by (Unlock m) = m
-named_by (SetPrio u p) = 0
+-- t has ended: its call is gone, and it has left the waiters
+abbrev pub after_end : ℕ → World → World
+after_end t w = record (with_thread t (record (thread_at w t) { living = false; call = None }) w) {
+  waiters = without w.waiters t;
+}
+
+-- the health of a mutex once its owner has ended: Inconsistent, unless it was given up for good
+abbrev pub on_death : Health → Health
+on_death Fine = Inconsistent
+on_death Inconsistent = Inconsistent
+on_death Unusable = Unusable
+
+-- the robust mutexes that t owned pass on, one after another in any order, until it owns none (POSIX,
+-- pthread_mutexattr_setrobust; futex(2), robust futexes). A stalled one keeps its owner
+pub data Releases (t : ℕ) : World → World → Type 0 where
+  none_left : {w v : World} → ((m : ℕ) → (mutex_at w m).owner ≡ t → (mutex_at w m).robust ≡ false) → v ≡ w
+      → Releases t w v
+  one_more : {w u v : World} (m : ℕ) → (mutex_at w m).owner ≡ t → (mutex_at w m).robust ≡ true
+      → Passes m (with_health m (on_death (mutex_at w m).health) w) u → Releases t u v → Releases t w v
+
+-- ONE ENTRY OF A HISTORY
 
 -- whether the mutex that a request names is one that is known, if it names one
 abbrev pub names_known : (ℕ → Bool) → Request → Bool
 names_known known (Lock m) = known m
 names_known known (TryLock m) = known m
 names_known known (Unlock m) = known m
+names_known known (Consistent m) = known m
 names_known known (SetPrio u p) = true
 
 -- why an event is refused, if it is
 abbrev pub refusal_of : World → Event → Option Refusal
-refusal_of w (Begin t q) = begin_refused (is_thread w t) (is_some (thread_at w t).call) (names_known (is_mutex w) q)
-refusal_of w (Go t) = go_refused (is_thread w t) (is_some (thread_at w t).call)
+refusal_of w (Begin t q) =
+    begin_refused (is_thread w t) (is_living w t) (is_some (thread_at w t).call) (names_known (is_mutex w) q)
+refusal_of w (Go t) = go_refused (is_thread w t) (is_living w t) (is_some (thread_at w t).call)
+refusal_of w (End t) = end_refused (is_thread w t) (is_living w t)
 
 -- a Go of t from w to u: it is not refused, and t's open call has some effects
 pub record Goes (t : ℕ) (w u : World) : Type 0 where
   pub allowed : refusal_of w (Go t) ≡ None
   pub effects : Effects t w u
+
+-- t ends: it leaves all, and then its robust mutexes pass on
+pub record Ends (t : ℕ) (w v : World) : Type 0 where
+  pub allowed : refusal_of w (End t) ≡ None
+  pub releases : Releases t (after_end t w) v
 
 -- one entry of a history, from w to v, under the limits l
 pub data Step (l : Bounds) (w : World) (e : Entry) (v : World) : Type 0 where
@@ -296,17 +344,12 @@ pub data Step (l : Bounds) (w : World) (e : Entry) (v : World) : Type 0 where
       → v ≡ record w { threads = w.threads ++ record { base = p; living = true; call = None } ∷ [] } → Step l w e v
   -- the next number, within the limit
   mutex_added : (m : ℕ) (k : Kind) (r : Bool) → e ≡ AddMutex m k r → m ≡ length w.mutexes → m ≤ l.mutexes
-      → v ≡ record w {
-        mutexes = w.mutexes ++ record { kind = k; robust = r; owner = 0; count = 1; health = Fine } ∷ [];
-      }
-      → Step l w e v
+      → v ≡ record w { mutexes = w.mutexes ++ record { kind = k; robust = r; owner = 0; count = 1; health = Fine } ∷ [] } → Step l w e v
   -- a refused event changes nothing
   refused : (x : Event) (r : Refusal) → e ≡ Happened x (Refused r) → refusal_of w x ≡ Some r → v ≡ w → Step l w e v
   -- the call is open
   begun : (t : ℕ) (q : Request) → e ≡ Happened (Begin t q) Begun → refusal_of w (Begin t q) ≡ None
-      → v ≡ with_thread t
-      (record (thread_at w t) { call = Some (record { request = q; progress = begun_progress w q }) }) w
-      → Step l w e v
+      → v ≡ with_thread t (record (thread_at w t) { call = Some (record { request = q; progress = begun_progress w q }) }) w → Step l w e v
   -- the call goes on, and its thread doesn't rest
   went : (t : ℕ) → e ≡ Happened (Go t) Went → Goes t w v → rests v t ≡ false → Step l w e v
   -- its thread rests
@@ -315,12 +358,13 @@ pub data Step (l : Bounds) (w : World) (e : Entry) (v : World) : Type 0 where
   answered : (t a : ℕ) (q : Request) (u : World) → e ≡ Happened (Go t) (Answered a) → Goes t w u
       → (thread_at u t).call ≡ Some (record { request = q; progress = Has a })
       → v ≡ with_thread t (record (thread_at u t) { call = None }) u → rests v t ≡ false → Step l w e v
+  -- its thread has ended
+  ended : (t : ℕ) → e ≡ Happened (End t) Ended → Ends t w v → Step l w e v
 
 -- A run: the entries of a history, newest first, the states before each of them, newest first, and the last state.
 pub data IsRun (l : Bounds) : List Entry → List World → World → Type 0 where
   start : {w : World} → w ≡ empty_world → IsRun l [] [] w
-  next : {h : List Entry} {r : List World} {e : Entry} {w v : World} → IsRun l h r w → Step l w e v
-      → IsRun l (e ∷ h) (w ∷ r) v
+  next : {h : List Entry} {r : List World} {e : Entry} {w v : World} → IsRun l h r w → Step l w e v → IsRun l (e ∷ h) (w ∷ r) v
 
 -- a history, newest entry first, is legal: some run from the empty state gives it, entry by entry
 pub record IsLegal (l : Bounds) (h : List Entry) : Type 0 where

@@ -1,6 +1,6 @@
--- The state of the table machine: its parts side by side, as the code has them. They are the words, the kernel, and
--- what the library keeps of threads and mutexes. Threads and mutexes are numbered from 1; place 0 of each list stands
--- for nobody.
+-- The state of the table machine: its parts side by side, as the code has them. They are the words, the kernel, and what
+-- the library keeps of threads and mutexes. Threads and mutexes are numbered from 1; place 0 of each list stands for
+-- nobody.
 use Rattle.std.specs.Prelude.{ℕ, Bool, true, false, ◌==◌, nat_lt, List, [], ◌∷◌, ◌++◌, length, get_or, set, if◌then◌else◌}
 use Rattle.pif_types.specs.Bounds.{Bounds}
 use Rattle.pif_types.specs.declared.requests.Kind.{Kind}
@@ -8,7 +8,8 @@ use Rattle.pif_types.specs.declared.requests.Kind.TheVariants.{Normal}
 use Rattle.pif_model.specs.declared.lines.Line.{Line}
 use Rattle.pif_model.specs.declared.lines.Line.TheVariants.{Idle}
 use Rattle.pif_model.specs.declared.lines.Status.{Status}
-use Rattle.pif_model.specs.Word.{Word, Words, free_words, word_at, set_word}
+use Rattle.pif_model.specs.Word.{Word, Words, free_words, word_at, health_word_at, set_word, set_health_word}
+use Rattle.pif_model.specs.RobustList.{Robust, no_robust}
 use Rattle.pif_model.specs.PiKernel.{Kernel, new_kernel, seat_at, has_seat, state_at, kernel_after_add}
 
 -- what the library knows of a mutex beside its words
@@ -23,6 +24,8 @@ pub record Table : Type 0 where
   pub limits : Bounds
   pub words : Words
   pub kernel : Kernel
+  -- the robust lists
+  pub lists : Robust
   -- the line of each thread: its open call and the place in it
   pub lines : List Line
   -- what the library knows of each mutex
@@ -38,6 +41,7 @@ new_table l = record {
   limits = l;
   words = free_words l;
   kernel = new_kernel l;
+  lists = no_robust l;
   lines = Idle ∷ [];
   mutexes = new_mutex Normal false ∷ [];
 }
@@ -76,6 +80,8 @@ pub record Cell : Type 0 where
   pub robust : Bool
   pub count : ℕ
   pub word : Word
+  -- its health word: 0 fine, 1 inconsistent, 2 unusable
+  pub health : ℕ
   -- the owner that the kernel's owner state names, 0 where there is no owner state
   pub state_owner : ℕ
 
@@ -86,6 +92,7 @@ cell_at s m = record {
   robust = (library_at s m).robust;
   count = (library_at s m).count;
   word = word_at s.words m;
+  health = health_word_at s.words m;
   state_owner = state_at s.kernel m;
 }
 
@@ -96,6 +103,14 @@ with_count m n s = record s { mutexes = set s.mutexes m (record (library_at s m)
 -- m with this word
 abbrev pub with_word : ℕ → Word → Table → Table
 with_word m x s = record s { words = set_word s.words m x }
+
+-- m with this health word
+abbrev pub with_health_word : ℕ → ℕ → Table → Table
+with_health_word m h s = record s { words = set_health_word s.words m h }
+
+-- these robust lists
+abbrev pub with_lists : Robust → Table → Table
+with_lists v s = record s { lists = v }
 
 -- a kernel call leaves these words and this kernel, and nothing else changes
 abbrev pub with_kernel : Words → Kernel → Table → Table

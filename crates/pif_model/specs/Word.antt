@@ -2,6 +2,8 @@
 -- number in FUTEX_TID_MASK 0x3fffffff; and the words in user memory.
 use Rattle.std.specs.Prelude.{ℕ, ◌+◌, ◌*◌, ◌/◌, ◌%◌, ◌<◌, ◌==◌, nat_lt, Bool, true, false, if◌then◌else◌, Option, Some, None, List, length, get_or, set, replicate}
 use Rattle.pif_types.specs.Bounds.{Bounds}
+use Rattle.pif_types.specs.declared.requests.Health.{Health}
+use Rattle.pif_types.specs.declared.requests.Health.TheVariants.{Fine, Inconsistent, Unusable}
 
 -- a word, taken apart
 pub record Word : Type 0 where
@@ -20,7 +22,7 @@ free_word = record { number = 0; waiters = false; died = false }
 abbrev pub held_by : ℕ → Word
 held_by t = record { number = t; waiters = false; died = false }
 
--- the word of a mutex that t takes in the kernel: its number, with OWNER_DIED as it was
+-- the word of a mutex that t takes in the kernel: its number and what there was of OWNER_DIED
 abbrev pub taken_word : ℕ → Word → Word
 taken_word t w = record { number = t; waiters = false; died = w.died }
 
@@ -44,6 +46,15 @@ mark_word w = record w { waiters = true }
 abbrev pub hand_word : ℕ → Word
 hand_word u = record { number = u; waiters = true; died = false }
 
+-- the word of a mutex whose owner has ended, and for which nobody waits in the kernel: no number, WAITERS as it was,
+-- and OWNER_DIED
+abbrev pub orphan_word : Word → Word
+orphan_word w = record { number = 0; waiters = w.waiters; died = true }
+
+-- the word of a mutex that is handed to u since its owner has ended: its number with WAITERS and OWNER_DIED
+abbrev pub inherit_word : ℕ → Word
+inherit_word u = record { number = u; waiters = true; died = true }
+
 -- the bit at place 31 or 30 as a number
 abbrev pub flag : Bool → ℕ → ℕ
 flag b n = if b then n else 0
@@ -62,6 +73,8 @@ word_of bits =
 -- the words, by the number of their mutex; place 0 stands for no mutex
 pub record Words : Type 0 where
   pub mutexes : List Word
+  -- the health word of each mutex: 0 fine, 1 inconsistent, 2 unusable
+  pub healths : List ℕ
 
 -- the word of m; the free word where there is none
 abbrev pub word_at : Words → ℕ → Word
@@ -75,6 +88,24 @@ has_word ws m = if m == 0 then false else nat_lt m (length ws.mutexes)
 abbrev pub set_word : Words → ℕ → Word → Words
 set_word ws m x = record ws { mutexes = set ws.mutexes m x }
 
--- a word for each mutex that the limits allow, each free
+-- what a health word says
+abbrev pub health_in : ℕ → Health
+health_in h = if h == 2 then Unusable else (if h == 1 then Inconsistent else Fine)
+
+-- the health word that says this
+abbrev pub health_word : Health → ℕ
+health_word Fine = 0
+health_word Inconsistent = 1
+health_word Unusable = 2
+
+-- the health word of m; 0 where there is none
+abbrev pub health_word_at : Words → ℕ → ℕ
+health_word_at ws m = get_or ws.healths m 0
+
+-- the words with another health word of m; all others are as they were
+abbrev pub set_health_word : Words → ℕ → ℕ → Words
+set_health_word ws m h = record ws { healths = set ws.healths m h }
+
+-- a word and a health word for each mutex that the limits allow, each free and fine
 abbrev pub free_words : Bounds → Words
-free_words l = record { mutexes = replicate (l.mutexes + 1) free_word }
+free_words l = record { mutexes = replicate (l.mutexes + 1) free_word; healths = replicate (l.mutexes + 1) 0 }

@@ -1,12 +1,14 @@
 use pif_types::{Answer, Kind, MutexId, Prio, Refusal, Request, Tid};
 
-/// What a caller hands to a core: a thread begins a call, or goes on by one step of its open call.
+/// What a caller hands to a core: a thread begins a call, goes on by one step of its open call, or ends.
 #[derive(Clone, Copy, Debug, PartialEq, Eq, Hash)]
 pub enum Event {
     /// The thread begins this call. No word is touched.
     Begin(Tid, Request),
     /// The thread takes one step of its open call: one access of one word, one kernel call, or an answer.
     Go(Tid),
+    /// The thread ends, with a call open or not. Its number is never used again.
+    End(Tid),
 }
 
 /// What a core answers to an event.
@@ -20,6 +22,8 @@ pub enum Seen {
     Waits,
     /// The call is closed with this answer: 0, or the number of an error.
     Answered(Answer),
+    /// The thread has ended, and its open call is gone.
+    Ended,
     /// The event was refused, and nothing has changed.
     Refused(Refusal),
 }

@@ -1,10 +1,13 @@
-use pif_types::{MutexId, Request};
+use pif_types::{Answer, MutexId, Request};
 
-/// Where in its call a thread stands: the step that its next Go takes. It is named by what that step does.
+/// Where in its call a thread stands: the step that its next Go takes. It is named by what that step does. Taking over and
+/// leaving are steps that lock and trylock share; steps on robust lists are for robust mutexes alone.
 #[derive(Clone, Copy, Debug, PartialEq, Eq, Hash)]
 pub enum Place {
     /// lock: load the word, and see whether the caller owns the mutex.
     LockLoad,
+    /// lock: name the mutex in the pending field.
+    LockPending,
     /// lock: compare-exchange the word from 0 to the caller's number.
     LockExchange,
     /// lock: the kernel call lock_pi.
@@ -15,18 +18,60 @@ pub enum Place {
     LockStop,
     /// lock: stopped for good.
     LockStopped,
+    /// lock: clear the pending field, and answer EDEADLK.
+    LockClear,
+    /// taking over: load the word, and see whether its last owner ended.
+    TakeLoad,
+    /// taking over: load the health word; true where the last owner was seen to have ended.
+    TakeHealth(bool),
+    /// taking over: store in the health word that the mutex is inconsistent.
+    TakeStore,
+    /// taking over: take OWNER_DIED out of the word.
+    TakeWord,
+    /// taking over: write the mutex's link to the head of the caller's list. The answer comes at the end.
+    LinkNext(Answer),
+    /// taking over: make the mutex the head of the list.
+    LinkHead(Answer),
+    /// taking over: clear the pending field, and answer.
+    LinkClear(Answer),
+    /// leaving an unusable mutex: compare-exchange the word from the caller's number to 0.
+    LeaveExchange,
+    /// leaving: the kernel call unlock_pi.
+    LeaveKernel,
+    /// leaving: clear the pending field, and answer ENOTRECOVERABLE.
+    LeaveClear,
     /// trylock: load the word, and see whether the caller owns the mutex.
     TryLoad,
+    /// trylock: name the mutex in the pending field.
+    TryPending,
     /// trylock: compare-exchange the word from 0 to the caller's number.
     TryExchange,
     /// trylock: the kernel call trylock_pi.
     TryKernel,
+    /// trylock: clear the pending field, and answer EBUSY.
+    TryClear,
     /// unlock: load the word, and see whether the caller owns the mutex.
     UnlockLoad,
+    /// unlock: name the mutex in the pending field.
+    UnlockPending,
+    /// unlock: load the health word.
+    UnlockHealth,
+    /// unlock: store in the health word that the mutex is unusable.
+    UnlockStore,
+    /// unlock: take the mutex off the caller's list.
+    UnlockUnlink,
     /// unlock: compare-exchange the word from the caller's number to 0.
     UnlockExchange,
     /// unlock: the kernel call unlock_pi.
     UnlockKernel,
+    /// unlock: clear the pending field, and answer 0.
+    UnlockClear,
+    /// consistent: load the word, and see whether the caller owns the mutex.
+    ConsistentLoad,
+    /// consistent: load the health word.
+    ConsistentHealth,
+    /// consistent: store in the health word that the mutex is fine, and answer 0.
+    ConsistentStore,
     /// setprio: the kernel call set_prio.
     SetPriority,
 }
@@ -58,6 +103,8 @@ pub enum Status {
     Queued(MutexId),
     /// It is stopped for good.
     Stopped,
+    /// It has ended. Its number is never used again.
+    Ended,
 }
 
 /// What the kernel call lock_pi did.

@@ -1,56 +1,150 @@
--- Parts that fit together fit together after an exchange of a word and after each kernel call.
-use Rattle.std.proofs.Common.{◌≡◌, ℕ, zero, suc, ◌+◌, ◌∷◌, arith, Bool, true, false, Result, Ok, Err, List, length, map, replicate, if◌then◌else◌, refl, sym, ap, ◌∙◌, subst, length-set}
+-- Parts that fit together fit together after each access and each kernel call.
+use Rattle.std.proofs.Common.{◌≡◌, ℕ, zero, suc, ◌+◌, ◌<◌, ◌==◌, nat_lt, [], ◌∷◌, arith, Bool, true, false, Result, Ok, Err, List, length, map, replicate, if◌then◌else◌, refl, sym, ap, ◌∙◌, subst, length-set}
+use Rattle.std.proofs.lemmas.Bool.{ltb-true}
 use Rattle.pif_types.specs.Bounds.{Bounds}
 use Rattle.pif_types.specs.declared.errors.Errno.{Errno}
 use Rattle.pif_model.specs.declared.lines.Took.{Took}
 use Rattle.pif_model.specs.declared.lines.Took.TheVariants.{Owns as TookOwns, Queued as TookQueued}
-use Rattle.pif_model.specs.Word.{Word, Words, free_word, word_of, set_word}
+use Rattle.pif_model.specs.Word.{Word, Words, free_word, orphan_word, inherit_word, word_of, word_at, has_word, set_word, set_health_word}
 use Rattle.pif_model.specs.Word.{free_words as words_free}
-use Rattle.pif_model.specs.PiKernel.{Kernel, IsKernel, words_after_lock, kernel_after_lock, words_after_try_lock, words_after_unlock, kernel_after_unlock, kernel_after_set_prio, kernel_after_stop}
-use Rattle.pif_model.specs.Table.{Table, with_kernel}
+use Rattle.pif_model.specs.PiKernel.{Kernel, System, IsKernel, has_seat, seat_at, has_ended, is_living, state_at, next_in, words_after_lock, kernel_after_lock, words_after_try_lock, words_after_unlock, kernel_after_hand_over, kernel_after_unlock, kernel_after_set_prio, kernel_after_stop, kernel_after_leaving, after_death, after_deaths, after_exit}
+use Rattle.pif_model.specs.RobustList.{Robust, RobustRow, no_robust_row, with_robust, without_robust}
+use Rattle.pif_model.specs.Table.{Table, has_mutex, with_kernel, with_lists}
 use Rattle.pif_word.specs.WordMap.{words_of, free_words}
 use Rattle.pif_word.proofs.WordBits.{word_of-number}
 use Rattle.pif_mutex.specs.Assembled.{IsAssembled}
-use Rattle.pif_mutex.proofs.KernelLeaves.{IsAlike, lock_alike, unlock_alike, set_prio_alike, stop_alike}
+use Rattle.pif_mutex.proofs.KernelLeaves.{IsAlike, alike, alike_twice, alike_keeps_threads, lock_alike, hand_over_alike, unlock_alike, set_prio_alike, stop_alike, leaving_alike}
 
 -- THE WORDS
 
+-- as many words and health words as others
+record IsAsLong (ws vs : Words) : Type 0 where
+  pub mutexes : length vs.mutexes ≡ length ws.mutexes
+  pub healths : length vs.healths ≡ length ws.healths
+
+-- as many as there are
+as_long : (ws : Words) → IsAsLong ws ws
+as_long ws = record { mutexes = refl; healths = refl }
+
+-- as many as there are of others that are as many
+as_long_twice : (ws vs us : Words) → IsAsLong ws vs → IsAsLong vs us → IsAsLong ws us
+as_long_twice ws vs us h k = record { mutexes = k.mutexes ∙ h.mutexes; healths = k.healths ∙ h.healths }
+
+-- a write of one word leaves as many
+set_long : (ws : Words) (m : ℕ) (x : Word) → IsAsLong ws (set_word ws m x)
+set_long ws m x = record { mutexes = length-set ws.mutexes m x; healths = refl }
+
+-- and so does one of a health word
+set_health_long : (ws : Words) (m h : ℕ) → IsAsLong ws (set_health_word ws m h)
+set_health_long ws m h = record { mutexes = refl; healths = length-set ws.healths m h }
+
 -- lock_pi leaves as many words
-lock_length : (t m : ℕ) (r : Result Took Errno) (ws : Words)
-    → length (words_after_lock t m r ws).mutexes ≡ length ws.mutexes
+lock_long : (t m : ℕ) (r : Result Took Errno) (ws : Words) → IsAsLong ws (words_after_lock t m r ws)
 unfolding words_after_lock
-lock_length t m (Ok TookOwns) ws = length-set ws.mutexes m _
-lock_length t m (Ok TookQueued) ws = length-set ws.mutexes m _
-lock_length t m (Err e) ws = refl
+lock_long t m (Ok TookOwns) ws = set_long ws m _
+lock_long t m (Ok TookQueued) ws = set_long ws m _
+lock_long t m (Err e) ws = as_long ws
 
 -- also trylock_pi
-try_length : (t m : ℕ) (r : Result (record {}) Errno) (ws : Words)
-    → length (words_after_try_lock t m r ws).mutexes ≡ length ws.mutexes
+try_long : (t m : ℕ) (r : Result (record {}) Errno) (ws : Words) → IsAsLong ws (words_after_try_lock t m r ws)
 unfolding words_after_try_lock
-try_length t m (Ok x) ws = length-set ws.mutexes m _
-try_length t m (Err e) ws = refl
+try_long t m (Ok x) ws = set_long ws m _
+try_long t m (Err e) ws = as_long ws
 
 -- and unlock_pi
-unlock_length : (m : ℕ) (r : Result (record {}) Errno) (k : Kernel) (ws : Words)
-    → length (words_after_unlock m r k ws).mutexes ≡ length ws.mutexes
+unlock_long : (m : ℕ) (r : Result (record {}) Errno) (k : Kernel) (ws : Words)
+    → IsAsLong ws (words_after_unlock m r k ws)
 unfolding words_after_unlock
-unlock_length m (Ok x) k ws = length-set ws.mutexes m _
-unlock_length m (Err e) k ws = refl
+unlock_long m (Ok x) k ws = set_long ws m _
+unlock_long m (Err e) k ws = as_long ws
 
 -- the words that are all 0 are free
 pub words_free_at_first : (l : Bounds) → words_of (free_words l) ≡ words_free l
-words_free_at_first l = ap (λ (xs : List Word). record { mutexes = xs }) (each (l.mutexes + 1))
+words_free_at_first l =
+    ap (λ (xs : List Word). record { mutexes = xs; healths = replicate (l.mutexes + 1) 0 }) (each (l.mutexes + 1))
   where
     each : (n : ℕ) → map word_of (replicate n 0) ≡ replicate n free_word
     each zero = refl
     each (suc n) = λ i. word_of-number 0 (omega arith) i ∷ each n i
 
+-- THE END OF A THREAD
+
+-- a system with as many words and threads as another, under the same limits
+record IsLike (x y : System) : Type 0 where
+  pub words : IsAsLong x.words y.words
+  pub kernel : IsAlike x.kernel y.kernel
+
+-- a mutex that passes on leaves as many words and threads
+death_like : (t m : ℕ) (x : System) → IsLike x (after_death t m x)
+unfolding after_death
+death_like t m x =
+    by_word (if has_word x.words m then (word_at x.words m).number == t else false) (state_at x.kernel m == 0)
+    (state_at x.kernel m == t)
+  where
+    by_word : (a b c : Bool)
+        → IsLike x (if a then
+        (if b then record x { words = set_word x.words m (orphan_word (word_at x.words m)) } else
+        (if c then record x {
+          words = set_word x.words m (inherit_word (next_in x.kernel m));
+          kernel = kernel_after_hand_over (next_in x.kernel m) m x.kernel;
+        } else x))
+        else x)
+    by_word true true c = record { words = set_long x.words m _; kernel = alike x.kernel }
+    by_word true false true =
+        record { words = set_long x.words m _; kernel = hand_over_alike (next_in x.kernel m) m x.kernel }
+    by_word true false false = record { words = as_long x.words; kernel = alike x.kernel }
+    by_word false b c = record { words = as_long x.words; kernel = alike x.kernel }
+
+-- and so do any
+deaths_like : (t : ℕ) (ms : List ℕ) (x : System) → IsLike x (after_deaths t ms x)
+unfolding after_deaths
+deaths_like t [] x = record { words = as_long x.words; kernel = alike x.kernel }
+deaths_like t (m ∷ ms) x =
+    let here = death_like t m x in
+    let rest = deaths_like t ms (after_death t m x) in
+    record {
+      words = as_long_twice x.words (after_death t m x).words _ here.words rest.words;
+      kernel = alike_twice x.kernel (after_death t m x).kernel _ here.kernel rest.kernel;
+    }
+
+-- the end of a thread leaves as many words and threads
+exit_like : (t : ℕ) (ms : List ℕ) (ws : Words) (k : Kernel)
+    → IsLike (record { words = ws; kernel = k }) (after_exit t ms ws k)
+exit_like t ms ws k =
+    let first : System = record { words = ws; kernel = kernel_after_leaving t k } in
+    let rest = deaths_like t ms first in
+    record {
+      words = rest.words;
+      kernel = alike_twice k (kernel_after_leaving t k) _ (leaving_alike t k) rest.kernel;
+    }
+
+-- and so who lived is known still
+pub exit_keeps_thread : (t : ℕ) (ms : List ℕ) (ws : Words) (k : Kernel) → is_living k t ≡ true
+    → has_seat (after_exit t ms ws k).kernel t ≡ true
+exit_keeps_thread t ms ws k h =
+    alike_keeps_threads k (after_exit t ms ws k).kernel t (exit_like t ms ws k).kernel (known (has_seat k t) h)
+  where
+    known : (b : Bool) → (if b then (if has_ended (seat_at k t).status then false else true) else false) ≡ true
+        → b ≡ true
+    known true e = refl
+    known false e = e
+
 -- PARTS THAT FIT TOGETHER
 
+-- a mutex that was added has a number below theirs
+added_below : (b : Bool) (m n : ℕ) → (if b then false else nat_lt m n) ≡ true → m < n
+added_below true m n e = ltb-true m n (ap (λ (b : Bool). if b then true else nat_lt m n) e)
+added_below false m n e = ltb-true m n e
+
 module _ {s : Table} (h : IsAssembled s) where
+  -- a mutex that was added has a word
+  pub added_has_word : (m : ℕ) → has_mutex s m ≡ true → m < length s.words.mutexes
+  added_has_word m known =
+      let below : m < length s.mutexes = added_below (m == 0) m (length s.mutexes) known in
+      omega (arith, h.few_mutexes, h.words)
+
   -- with other words, as many
-  with_words_assembled : (ws : Words) → length ws.mutexes ≡ length s.words.mutexes
-      → IsAssembled (record s { words = ws })
+  with_words_assembled : (ws : Words) → IsAsLong s.words ws → IsAssembled (record s { words = ws })
   with_words_assembled ws long = record {
     within = h.within;
     limits = h.limits;
@@ -58,12 +152,15 @@ module _ {s : Table} (h : IsAssembled s) where
     lines = h.lines;
     some_mutex = h.some_mutex;
     few_mutexes = h.few_mutexes;
-    words = long ∙ h.words;
+    words = long.mutexes ∙ h.words;
+    healths = long.healths ∙ h.healths;
+    lists = h.lists;
+    listed = h.listed;
   }
 
   -- with other words, and another kernel, alike
-  with_kernel_assembled : (ws : Words) (k : Kernel) → length ws.mutexes ≡ length s.words.mutexes → IsAlike s.kernel k
-      → IsKernel k → IsAssembled (with_kernel ws k s)
+  with_kernel_assembled : (ws : Words) (k : Kernel) → IsAsLong s.words ws → IsAlike s.kernel k → IsKernel k
+      → IsAssembled (with_kernel ws k s)
   with_kernel_assembled ws k long same kept = record {
     within = h.within;
     limits = same.limits ∙ h.limits;
@@ -71,46 +168,89 @@ module _ {s : Table} (h : IsAssembled s) where
     lines = h.lines ∙ sym same.seats;
     some_mutex = h.some_mutex;
     few_mutexes = h.few_mutexes;
-    words = long ∙ h.words;
+    words = long.mutexes ∙ h.words;
+    healths = long.healths ∙ h.healths;
+    lists = h.lists;
+    listed = h.listed;
+  }
+
+  -- with the robust list of a thread as another
+  pub with_robust_assembled : (t : ℕ) (x : RobustRow) (v : Robust) → v ≡ with_robust t x s.lists
+      → IsAssembled (with_lists v s)
+  with_robust_assembled t x v is = record {
+    within = h.within;
+    limits = h.limits;
+    kernel = h.kernel;
+    lines = h.lines;
+    some_mutex = h.some_mutex;
+    few_mutexes = h.few_mutexes;
+    words = h.words;
+    healths = h.healths;
+    lists = ap (λ (u : Robust). length u.threads) is ∙ length-set s.lists.threads t x ∙ h.lists;
+    listed = ap (λ (u : Robust). u.mutexes) is ∙ h.listed;
   }
 
   -- after an exchange
   pub exchanged_assembled : (b : Bool) (m : ℕ) (x : Word) (ws : Words)
       → ws ≡ (if b then set_word s.words m x else s.words) → IsAssembled (record s { words = ws })
-  exchanged_assembled true m x ws e = with_words_assembled ws
-      (ap (λ (v : Words). length v.mutexes) e ∙ length-set s.words.mutexes m x)
-  exchanged_assembled false m x ws e = with_words_assembled ws (ap (λ (v : Words). length v.mutexes) e)
+  exchanged_assembled true m x ws e =
+      with_words_assembled ws (subst (IsAsLong s.words) (sym e) (set_long s.words m x))
+  exchanged_assembled false m x ws e = with_words_assembled ws (subst (IsAsLong s.words) (sym e) (as_long s.words))
+
+  -- after a write of a word
+  pub written_assembled : (m : ℕ) (x : Word) (ws : Words) → ws ≡ set_word s.words m x
+      → IsAssembled (record s { words = ws })
+  written_assembled = exchanged_assembled true
+
+  -- after a write of a health word
+  pub health_assembled : (m x : ℕ) (ws : Words) → ws ≡ set_health_word s.words m x
+      → IsAssembled (record s { words = ws })
+  health_assembled m x ws e =
+      with_words_assembled ws (subst (IsAsLong s.words) (sym e) (set_health_long s.words m x))
 
   -- after lock_pi
   pub lock_assembled : (t m : ℕ) (r : Result Took Errno) (ws : Words) (k : Kernel) → ws ≡ words_after_lock t m r s.words
       → k ≡ kernel_after_lock t m r s.words s.kernel
       → IsKernel k → IsAssembled (with_kernel ws k s)
   lock_assembled t m r ws k words after =
-      with_kernel_assembled ws k (ap (λ (v : Words). length v.mutexes) words ∙ lock_length t m r s.words)
+      with_kernel_assembled ws k (subst (IsAsLong s.words) (sym words) (lock_long t m r s.words))
       (subst (IsAlike s.kernel) (sym after) (lock_alike t m r s.words s.kernel))
 
   -- after trylock_pi
   pub try_lock_assembled : (t m : ℕ) (r : Result (record {}) Errno) (ws : Words)
       → ws ≡ words_after_try_lock t m r s.words → IsAssembled (record s { words = ws })
-  try_lock_assembled t m r ws words = with_words_assembled ws
-      (ap (λ (v : Words). length v.mutexes) words ∙ try_length t m r s.words)
+  try_lock_assembled t m r ws words =
+      with_words_assembled ws (subst (IsAsLong s.words) (sym words) (try_long t m r s.words))
 
   -- after unlock_pi
   pub unlock_assembled : (m : ℕ) (r : Result (record {}) Errno) (ws : Words) (k : Kernel)
       → ws ≡ words_after_unlock m r s.kernel s.words → k ≡ kernel_after_unlock m r s.kernel
       → IsKernel k → IsAssembled (with_kernel ws k s)
   unlock_assembled m r ws k words after =
-      with_kernel_assembled ws k (ap (λ (v : Words). length v.mutexes) words ∙ unlock_length m r s.kernel s.words)
+      with_kernel_assembled ws k (subst (IsAsLong s.words) (sym words) (unlock_long m r s.kernel s.words))
       (subst (IsAlike s.kernel) (sym after) (unlock_alike m r s.kernel))
 
   -- after set_prio
   pub set_prio_assembled : (t p : ℕ) (r : Result (record {}) Errno) (k : Kernel)
       → k ≡ kernel_after_set_prio t p r s.kernel → IsKernel k → IsAssembled (record s { kernel = k })
   set_prio_assembled t p r k after =
-      with_kernel_assembled s.words k refl (subst (IsAlike s.kernel) (sym after) (set_prio_alike t p r s.kernel))
+      with_kernel_assembled s.words k (as_long s.words)
+      (subst (IsAlike s.kernel) (sym after) (set_prio_alike t p r s.kernel))
 
-  -- and after stop
+  -- after stop
   pub stop_assembled : (t : ℕ) (k : Kernel) → k ≡ kernel_after_stop t s.kernel → IsKernel k
       → IsAssembled (record s { kernel = k })
   stop_assembled t k after =
-      with_kernel_assembled s.words k refl (subst (IsAlike s.kernel) (sym after) (stop_alike t s.kernel))
+      with_kernel_assembled s.words k (as_long s.words)
+      (subst (IsAlike s.kernel) (sym after) (stop_alike t s.kernel))
+
+-- and after the end of a thread
+pub exit_assembled : {s : Table} → IsAssembled s → (t : ℕ) (ms : List ℕ) (ws : Words) (k : Kernel) (v : Robust)
+    → ws ≡ (after_exit t ms s.words s.kernel).words → k ≡ (after_exit t ms s.words s.kernel).kernel
+    → v ≡ without_robust t s.lists
+    → IsKernel k → IsAssembled (with_lists v (with_kernel ws k s))
+exit_assembled {s} h t ms ws k v words after forgotten kept =
+    let like = exit_like t ms s.words s.kernel in
+    let long = subst (IsAsLong s.words) (sym words) like.words in
+    let same = subst (IsAlike s.kernel) (sym after) like.kernel in
+    with_robust_assembled (with_kernel_assembled h ws k long same kept) t no_robust_row v forgotten

@@ -1,76 +1,43 @@
--- How often an owner holds a mutex, from one table to the next.
-use Rattle.std.proofs.Common.{◌≡◌, ◌≢◌, ℕ, ◌≤◌, Bool, true, false, Result, Ok, Err, refl, sym, ◌∙◌, subst, if◌then◌else◌, arith, eqb-true, ◌==◌}
+-- Who comes to own a mutex holds it once: what is written of words and counts, and what the kernel's calls write.
+use Rattle.std.proofs.Common.{◌≡◌, ◌≢◌, ◌⊎◌, inl, inr, ℕ, Bool, true, false, List, get_or, Result, Ok, Err, refl, ap, ◌∙◌, if◌then◌else◌, eqb-true, ◌==◌}
 use Rattle.pif_types.specs.declared.errors.Errno.{Errno}
-use Rattle.pif_types.specs.declared.errors.Errno.TheVariants.{NoSuchThread, Again, Fault, Invalid, Deadlock, NotPermitted}
+use Rattle.pif_types.specs.declared.errors.Errno.TheVariants.{NoSuchThread, Again, Fault, Invalid, Deadlock}
+use Rattle.pif_types.specs.declared.requests.Kind.TheVariants.{Normal}
 use Rattle.pif_model.specs.declared.lines.Took.{Took}
 use Rattle.pif_model.specs.declared.lines.Took.TheVariants.{Owns as TookOwns, Queued as TookQueued}
 use Rattle.pif_model.specs.Graph.{reaches_within}
 use Rattle.pif_model.specs.Word.{Word, Words, free_word, word_at, has_word, set_word}
-use Rattle.pif_model.specs.PiKernel.{Kernel, is_living, state_at, waits_for, wait_answer, lock_answer, words_after_lock, try_lock_answer, words_after_try_lock, unlock_answer, words_after_unlock}
-use Rattle.pif_model.specs.Table.{Table, Cell, cell_at}
-use Rattle.pif_mutex.specs.Runnable.{IsCounted}
+use Rattle.pif_model.specs.PiKernel.{Kernel, is_living, state_at, waits_for, wait_answer, lock_answer, words_after_lock, try_lock_answer, words_after_try_lock, words_after_unlock}
+use Rattle.pif_model.specs.Table.{Table, LibraryMutex, new_mutex, library_at}
 use Rattle.pif_mutex.proofs.ListChanges.{changed_at}
 
--- what a step of t makes of a mutex of this owner and count: both stay, or it is held once, or t owns it as before
-pub data CountGoes (t owner count owner_after count_after : ℕ) : Type 0 where
-  stays : owner_after ≡ owner → count_after ≡ count → CountGoes t owner count owner_after count_after
-  once : count_after ≡ 1 → CountGoes t owner count owner_after count_after
-  recounts : owner ≡ t → owner_after ≡ t → 1 ≤ count_after → CountGoes t owner count owner_after count_after
+-- with these words each mutex has the owner that it has in s, or is held once there
+abbrev pub WordsGoOnce : Table → Words → Type 0
+WordsGoOnce s ws = (m : ℕ) → ((word_at ws m).number ≡ (word_at s.words m).number) ⊎ ((library_at s m).count ≡ 1)
 
--- the same, of all that the parts have of it
-abbrev pub CellGoes : ℕ → Cell → Cell → Type 0
-CellGoes t c d = CountGoes t c.word.number c.count d.word.number d.count
+-- from s to v each mutex keeps its owner, or is held once
+abbrev pub GoesOnce : Table → Table → Type 0
+GoesOnce s v = (m : ℕ) → ((word_at v.words m).number ≡ (word_at s.words m).number) ⊎ ((library_at v m).count ≡ 1)
 
--- WHAT THAT LEAVES
+-- TABLES
 
--- who is no owner of it but u holds it once, where it did before
-pub once_for_others : (t u n c m d : ℕ) → u ≢ t → CountGoes t n c m d → (n ≡ u → c ≡ 1) → m ≡ u → d ≡ 1
-once_for_others t u n c m d other (stays a b) h e = b ∙ h (sym a ∙ e)
-once_for_others t u n c m d other (once a) h e = a
-once_for_others t u n c m d other (recounts a b k) h e = absurd (other (sym e ∙ b))
-
--- it is held at least once
-some_count : (t n c m d : ℕ) → CountGoes t n c m d → 1 ≤ c → 1 ≤ d
-some_count t n c m d (stays a b) h = subst (λ (k : ℕ). 1 ≤ k) (sym b) h
-some_count t n c m d (once a) h = omega (arith, a)
-some_count t n c m d (recounts a b k) h = k
-
--- and once where nobody owns it
-unowned_count : (t n c m d : ℕ) → t ≢ 0 → CountGoes t n c m d → (n ≡ 0 → c ≡ 1) → m ≡ 0 → d ≡ 1
-unowned_count t n c m d some (stays a b) h e = b ∙ h (sym a ∙ e)
-unowned_count t n c m d some (once a) h e = a
-unowned_count t n c m d some (recounts a b k) h e = absurd (some (sym b ∙ e))
-
--- so it is held often enough
-pub goes_counted : (t : ℕ) (c d : Cell) → t ≢ 0 → CellGoes t c d → IsCounted c → IsCounted d
-goes_counted t c d some g h = record {
-  some = some_count t c.word.number c.count d.word.number d.count g h.some;
-  unowned = unowned_count t c.word.number c.count d.word.number d.count some g h.unowned;
-}
-
--- who owns it now, and did not before, holds it once
-pub goes_once : (t n c m d : ℕ) → CountGoes t n c m d → m ≢ n → d ≡ 1
-goes_once t n c m d (stays a b) new = absurd (new a)
-goes_once t n c m d (once a) new = a
-goes_once t n c m d (recounts a b k) new = absurd (new (b ∙ sym a))
+-- a table with such words, and with the mutexes of s
+pub words_go : (s v : Table) (ws : Words) → WordsGoOnce s ws → v.words ≡ ws → v.mutexes ≡ s.mutexes → GoesOnce s v
+words_go s v ws h e f m = by_owner (h m)
+  where
+    by_owner : ((word_at ws m).number ≡ (word_at s.words m).number) ⊎ ((library_at s m).count ≡ 1)
+        → ((word_at v.words m).number ≡ (word_at s.words m).number) ⊎ ((library_at v m).count ≡ 1)
+    by_owner (inl same) = inl (ap (λ (x : Words). (word_at x m).number) e ∙ same)
+    by_owner (inr once) = inr (ap (λ (x : List LibraryMutex). (get_or x m (new_mutex Normal false)).count) f ∙ once)
 
 -- WORDS
 
--- the word of a mutex goes so with its count as it was
-abbrev pub WordGoes : ℕ → Table → Words → ℕ → Type 0
-WordGoes t s ws m = CountGoes t (cell_at s m).word.number (cell_at s m).count (word_at ws m).number (cell_at s m).count
-
--- no word changes
-pub words_stay : (t : ℕ) (s : Table) (m : ℕ) → WordGoes t s s.words m
-words_stay t s m = stays refl refl
-
 -- one word changes
-pub word_goes : (t m : ℕ) (s : Table) (x : Word)
-    → CountGoes t (cell_at s m).word.number (cell_at s m).count x.number (cell_at s m).count
-    → (k : ℕ) → WordGoes t s (set_word s.words m x) k
-word_goes t m s x here = changed_at free_word
-    (λ k y. CountGoes t (cell_at s k).word.number (cell_at s k).count y.number (cell_at s k).count)
-    s.words.mutexes m x here (λ k. stays refl refl)
+pub word_goes : (m : ℕ) (s : Table) (x : Word)
+    → (x.number ≡ (word_at s.words m).number) ⊎ ((library_at s m).count ≡ 1) → WordsGoOnce s (set_word s.words m x)
+word_goes m s x here = changed_at free_word
+    (λ k y. (y.number ≡ (word_at s.words k).number) ⊎ ((library_at s k).count ≡ 1))
+    s.words.mutexes m x here (λ k. inl refl)
 
 -- WHAT KERNEL CALLS ANSWER
 
@@ -122,44 +89,26 @@ try_takes_free t m ws k x e =
     let n : ℕ = (word_at ws m).number in
     eqb-true n 0 (takes_free (has_word ws m) (n == t) (n == 0) (state_at k m == 0) x e)
 
--- unlock_pi lets only its owner give up a mutex
-gives_own : (named own fits : Bool) (x : record {})
-    → (if named then (if own then (if fits then Ok (record {}) else Err Invalid) else Err NotPermitted) else Err Fault)
-    ≡ Ok x → own ≡ true
-gives_own named true fits x e = refl
-gives_own false false fits x e = cc
-gives_own true false fits x e = cc
-
--- the same of its words
-pub unlock_gives_own : (t m : ℕ) (ws : Words) (k : Kernel) (x : record {}) → unlock_answer t m ws k ≡ Ok x
-    → (word_at ws m).number ≡ t
-unfolding unlock_answer
-unlock_gives_own t m ws k x e =
-    eqb-true (word_at ws m).number t
-    (gives_own (has_word ws m) ((word_at ws m).number == t) (if state_at k m == 0 then true else state_at k m == t) x e)
-
 -- KERNEL CALLS
 
--- lock_pi
-pub lock_goes : (t m : ℕ) (r : Result Took Errno) (s : Table) → (r ≡ Ok TookOwns → (cell_at s m).count ≡ 1) → (k : ℕ)
-    → WordGoes t s (words_after_lock t m r s.words) k
+-- lock_pi of a mutex that is held once where nobody owns it
+pub lock_goes : (t m : ℕ) (r : Result Took Errno) (s : Table) → (r ≡ Ok TookOwns → (library_at s m).count ≡ 1)
+    → WordsGoOnce s (words_after_lock t m r s.words)
 unfolding words_after_lock
-lock_goes t m (Ok TookOwns) s h = word_goes t m s _ (once (h refl))
-lock_goes t m (Ok TookQueued) s h = word_goes t m s _ (stays refl refl)
-lock_goes t m (Err e) s h = words_stay t s
+lock_goes t m (Ok TookOwns) s h = word_goes m s _ (inr (h refl))
+lock_goes t m (Ok TookQueued) s h = word_goes m s _ (inl refl)
+lock_goes t m (Err e) s h = λ k. inl refl
 
--- trylock_pi
+-- trylock_pi of such a mutex
 pub try_goes : (t m : ℕ) (r : Result (record {}) Errno) (s : Table)
-    → ((x : record {}) → r ≡ Ok x → (cell_at s m).count ≡ 1) → (k : ℕ)
-    → WordGoes t s (words_after_try_lock t m r s.words) k
+    → ((x : record {}) → r ≡ Ok x → (library_at s m).count ≡ 1) → WordsGoOnce s (words_after_try_lock t m r s.words)
 unfolding words_after_try_lock
-try_goes t m (Ok x) s h = word_goes t m s _ (once (h x refl))
-try_goes t m (Err e) s h = words_stay t s
+try_goes t m (Ok x) s h = word_goes m s _ (inr (h x refl))
+try_goes t m (Err e) s h = λ k. inl refl
 
--- unlock_pi
-pub unlock_goes : (t m : ℕ) (r : Result (record {}) Errno) (s : Table)
-    → ((x : record {}) → r ≡ Ok x → (cell_at s m).count ≡ 1)
-    → (k : ℕ) → WordGoes t s (words_after_unlock m r s.kernel s.words) k
+-- unlock_pi of a mutex that is held once
+pub unlock_goes : (m : ℕ) (r : Result (record {}) Errno) (s : Table) → (library_at s m).count ≡ 1
+    → WordsGoOnce s (words_after_unlock m r s.kernel s.words)
 unfolding words_after_unlock
-unlock_goes t m (Ok x) s h = word_goes t m s _ (once (h x refl))
-unlock_goes t m (Err e) s h = words_stay t s
+unlock_goes m (Ok x) s h = word_goes m s _ (inr h)
+unlock_goes m (Err e) s h = λ k. inl refl

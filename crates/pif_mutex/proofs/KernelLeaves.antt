@@ -6,7 +6,7 @@ use Rattle.pif_types.specs.declared.errors.Errno.{Errno}
 use Rattle.pif_model.specs.declared.lines.Took.{Took}
 use Rattle.pif_model.specs.declared.lines.Took.TheVariants.{Owns as TookOwns, Queued as TookQueued}
 use Rattle.pif_model.specs.Word.{Words}
-use Rattle.pif_model.specs.PiKernel.{Kernel, Seat, no_seat, has_seat, seat_at, state_at, next_in, is_ready, kernel_after_queueing, kernel_after_lock, kernel_after_hand_over, kernel_after_unlock, kernel_after_set_prio, kernel_after_stop}
+use Rattle.pif_model.specs.PiKernel.{Kernel, Seat, no_seat, has_seat, seat_at, state_at, next_in, is_ready, kernel_after_queueing, kernel_after_lock, kernel_after_hand_over, kernel_after_unlock, kernel_after_set_prio, kernel_after_stop, kernel_after_leaving}
 
 -- a kernel under the same limits and of as many threads as another
 pub record IsAlike (k j : Kernel) : Type 0 where
@@ -17,8 +17,12 @@ pub record IsAlike (k j : Kernel) : Type 0 where
 pub alike : (k : Kernel) → IsAlike k k
 alike k = record { limits = refl; seats = refl }
 
+-- a kernel alike one that is alike a third is alike that
+pub alike_twice : (k j i : Kernel) → IsAlike k j → IsAlike j i → IsAlike k i
+alike_twice k j i h g = record { limits = g.limits ∙ h.limits; seats = g.seats ∙ h.seats }
+
 -- a thread of a kernel is one of each kernel alike
-alike_keeps_threads : (k j : Kernel) (u : ℕ) → IsAlike k j → has_seat k u ≡ true → has_seat j u ≡ true
+pub alike_keeps_threads : (k j : Kernel) (u : ℕ) → IsAlike k j → has_seat k u ≡ true → has_seat j u ≡ true
 alike_keeps_threads k j u h known = ap (λ (n : ℕ). if u == 0 then false else nat_lt u n) h.seats ∙ known
 
 -- HOW MANY THREADS
@@ -31,7 +35,7 @@ lock_alike t m (Ok TookQueued) ws k = record { limits = refl; seats = length-set
 lock_alike t m (Err e) ws k = alike k
 
 -- where a mutex is handed over
-hand_over_alike : (u m : ℕ) (k : Kernel) → IsAlike k (kernel_after_hand_over u m k)
+pub hand_over_alike : (u m : ℕ) (k : Kernel) → IsAlike k (kernel_after_hand_over u m k)
 unfolding kernel_after_hand_over
 hand_over_alike u m k = record { limits = refl; seats = length-set k.seats u _ }
 
@@ -56,6 +60,11 @@ pub stop_alike : (t : ℕ) (k : Kernel) → IsAlike k (kernel_after_stop t k)
 unfolding kernel_after_stop
 stop_alike t k = record { limits = refl; seats = length-set k.seats t _ }
 
+-- and after a thread has left all that it waits for
+pub leaving_alike : (t : ℕ) (k : Kernel) → IsAlike k (kernel_after_leaving t k)
+unfolding kernel_after_leaving
+leaving_alike t k = record { limits = refl; seats = length-set k.seats t _ }
+
 -- WHO WAS ADDED
 
 -- after lock_pi
@@ -76,73 +85,3 @@ set_prio_keeps_threads t p r k u = alike_keeps_threads k (kernel_after_set_prio 
 -- after stop
 pub stop_keeps_threads : (t : ℕ) (k : Kernel) (u : ℕ) → has_seat k u ≡ true → has_seat (kernel_after_stop t k) u ≡ true
 stop_keeps_threads t k u = alike_keeps_threads k (kernel_after_stop t k) u (stop_alike t k)
-
--- WHO MAY RUN
-
--- whether u may run among these threads
-abbrev pub may_run : List Seat → ℕ → Bool
-may_run seats u = is_ready (get_or seats u no_seat).status
-
--- where another thread changes, u may run if it could before
-may_run_beside : (seats : List Seat) (t u : ℕ) (x : Seat) → u ≢ t → may_run seats u ≡ true
-    → may_run (set seats t x) u ≡ true
-may_run_beside seats t u x other h = ap (λ (y : Seat). is_ready y.status) (get_or-set_other seats t u x no_seat other)
-    ∙ h
-
--- where a thread becomes one that may run, all that could run may
-may_run_after : (seats : List Seat) (t u : ℕ) (x : Seat) → is_ready x.status ≡ true → may_run seats u ≡ true
-    → may_run (set seats t x) u ≡ true
-may_run_after seats t u x ready h = by_place (cases_eq u t) (cases_lt t (length seats))
-  where
-    by_place : ((u ≡ t) ⊎ (u ≡ t → ⊥)) → ((t < length seats) ⊎ (length seats ≤ t)) → may_run (set seats t x) u ≡ true
-    by_place (inl same) (inl lt) =
-        ap (λ (v : ℕ). may_run (set seats t x) v) same
-        ∙ ap (λ (y : Seat). is_ready y.status) (get_or-set_same seats t x no_seat lt) ∙ ready
-    by_place (inl same) (inr le) =
-        ap (λ (v : ℕ). may_run (set seats t x) v) same
-        ∙ ap (λ (y : Seat). is_ready y.status)
-        (get_or_past (set seats t x) t no_seat (subst (λ (n : ℕ). n ≤ t) (sym (length-set seats t x)) le))
-    by_place (inr other) _ = may_run_beside seats t u x other h
-
--- lock_pi of t leaves the others ready
-pub lock_ready : (t m : ℕ) (r : Result Took Errno) (ws : Words) (k : Kernel) (u : ℕ) → u ≢ t
-    → is_ready (seat_at k u).status ≡ true → is_ready (seat_at (kernel_after_lock t m r ws k) u).status ≡ true
-unfolding kernel_after_lock kernel_after_queueing
-lock_ready t m (Ok TookOwns) ws k u other h = h
-lock_ready t m (Ok TookQueued) ws k u other h = may_run_beside k.seats t u _ other h
-lock_ready t m (Err e) ws k u other h = h
-
--- where a mutex is handed over, all stay ready
-hand_over_ready : (n m : ℕ) (k : Kernel) (u : ℕ) → is_ready (seat_at k u).status ≡ true
-    → is_ready (seat_at (kernel_after_hand_over n m k) u).status ≡ true
-unfolding kernel_after_hand_over
-hand_over_ready n m k u h = may_run_after k.seats n u _ refl h
-
--- unlock_pi leaves all ready
-pub unlock_ready : (m : ℕ) (r : Result (record {}) Errno) (k : Kernel) (u : ℕ)
-    → is_ready (seat_at k u).status ≡ true → is_ready (seat_at (kernel_after_unlock m r k) u).status ≡ true
-unfolding kernel_after_unlock
-unlock_ready m (Ok x) k u h = by_state (state_at k m == 0)
-  where
-    by_state : (b : Bool) → is_ready (seat_at (if b then k else kernel_after_hand_over (next_in k m) m k) u).status ≡
-        true
-    by_state true = h
-    by_state false = hand_over_ready (next_in k m) m k u h
-unlock_ready m (Err e) k u h = h
-
--- set_prio leaves all ready
-pub set_prio_ready : (t p : ℕ) (r : Result (record {}) Errno) (k : Kernel) (u : ℕ)
-    → is_ready (seat_at k u).status ≡ true → is_ready (seat_at (kernel_after_set_prio t p r k) u).status ≡ true
-unfolding kernel_after_set_prio
-set_prio_ready t p (Ok x) k u h = by_place (cases_eq u t)
-  where
-    by_place : ((u ≡ t) ⊎ (u ≡ t → ⊥)) → may_run (set k.seats t (record (seat_at k t) { base = p })) u ≡ true
-    by_place (inl same) = may_run_after k.seats t u _ (ap (λ (v : ℕ). is_ready (seat_at k v).status) (sym same) ∙ h) h
-    by_place (inr other) = may_run_beside k.seats t u _ other h
-set_prio_ready t p (Err e) k u h = h
-
--- stop of t leaves the others ready
-pub stop_ready : (t : ℕ) (k : Kernel) (u : ℕ) → u ≢ t → is_ready (seat_at k u).status ≡ true
-    → is_ready (seat_at (kernel_after_stop t k) u).status ≡ true
-unfolding kernel_after_stop
-stop_ready t k u other h = may_run_beside k.seats t u _ other h

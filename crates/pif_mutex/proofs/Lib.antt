@@ -1,7 +1,9 @@
 pub mod KernelLeaves
 pub mod Assembly
 pub mod Exchanges
+pub mod EndedCounts
 pub mod ListChanges
 pub mod Counts
+pub mod Stepping
 pub mod Steps
-pub mod RunnableTables
+pub mod SoundTables

@@ -1,3 +1,3 @@
 pub mod Assembled
-pub mod Runnable
+pub mod Steppable
 pub mod Outcomes

@@ -1,6 +1,7 @@
 ghost use Rattle.std.specs.Prelude.{◌≡◌, true};
-ghost use Rattle.pif_model.specs.PiKernel.{is_ready, lock_answer, words_after_lock, kernel_after_lock, try_lock_answer, words_after_try_lock, unlock_answer, words_after_unlock, kernel_after_unlock, set_prio_answer, kernel_after_set_prio, kernel_after_stop};
-ghost use Rattle.pif_model.specs.Table.{has_thread, status_at, with_kernel};
+ghost use Rattle.pif_model.specs.PiKernel.{is_ready, lock_answer, words_after_lock, kernel_after_lock, try_lock_answer, words_after_try_lock, unlock_answer, words_after_unlock, kernel_after_unlock, set_prio_answer, kernel_after_set_prio, kernel_after_stop, is_living, after_exit};
+ghost use Rattle.pif_model.specs.RobustList.{robust_at, walk_of, without_robust};
+ghost use Rattle.pif_model.specs.Table.{has_thread, status_at, with_kernel, with_lists};
 ghost use Rattle.pif_kernel.specs.Answers.{unit_answer};
 
 use crate::state::State;
@@ -59,5 +60,15 @@ impl<K: PiKernel + Drop> State<K> {
         ensures { self.new ≡ with_kernel self.old.words (kernel_after_stop t self.old.kernel) self.old }
     {
         self.kernel.stop(t);
+    }
+    /// The end of a living thread in the kernel: what its robust list and its pending field name passes on, and both
+    /// are empty then.
+    pub(crate) fn exit(&mut self, t: Tid)
+        requires living { is_living self.old.kernel t ≡ true }
+        ensures { self.new ≡ with_lists (without_robust t self.old.lists) (with_kernel
+            (after_exit t (walk_of (robust_at self.old.lists t)) self.old.words self.old.kernel).words
+            (after_exit t (walk_of (robust_at self.old.lists t)) self.old.words self.old.kernel).kernel self.old) }
+    {
+        self.kernel.exit(&mut self.words, &mut self.lists, t);
     }
 }

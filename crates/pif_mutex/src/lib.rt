@@ -1,32 +1,62 @@
-//! The calls on mutexes, one step per access of a word or kernel call: pthread_mutex_lock, pthread_mutex_trylock and
-//! pthread_mutex_unlock over words and any kernel, and pthread_setschedprio.
+//! The calls on mutexes, one step per access of a word, of a robust list or kernel call: pthread_mutex_lock,
+//! pthread_mutex_trylock, pthread_mutex_unlock and pthread_mutex_consistent over words, robust lists and any kernel, and
+//! pthread_setschedprio; and the end of a thread.
 //!
 //! A thread with a call open stands at a place of that call. A step, `advance`, does what the line of the place says.
 //! The thread then goes on to another place, waits, or is answered; a number or the name of an error is an answer, and
-//! closes the call.
+//! closes the call. Places of the pending field, of the health word and of the own robust list are for robust mutexes
+//! alone; what a stalled mutex comes to in their stead stands after 'stalled'.
 //!
 //! | Place | The step | Then |
 //! |---|---|---|
-//! | `LockLoad` | loads the word | another owner or none: `LockExchange`; own NORMAL: `LockStop`; own ERRORCHECK: EDEADLK; own RECURSIVE: held once more, 0, or EAGAIN where it is held 255 times |
-//! | `LockExchange` | compare-exchange from 0 to the own number | done: 0; failed: `LockKernel` |
-//! | `LockKernel` | lock_pi | owns: 0; queued: waits at `LockQueued`; ESRCH: `LockStop`; any other error |
-//! | `LockQueued` | no access | handed over: 0; else waits |
+//! | `LockLoad` | loads the word | another owner or none: `LockPending`, stalled `LockExchange`; own NORMAL: `LockStop`; own ERRORCHECK: EDEADLK; own RECURSIVE: held once more, 0, or EAGAIN where it is held 255 times |
+//! | `LockPending` | names the mutex in the pending field | `LockExchange` |
+//! | `LockExchange` | compare-exchange from 0 to the own number | done: `TakeHealth` with false, stalled 0; failed: `LockKernel` |
+//! | `LockKernel` | lock_pi | owns: `TakeLoad`, stalled 0; queued: waits at `LockQueued`; EDEADLK: `LockClear`, stalled EDEADLK; ESRCH: `LockStop`; any other error |
+//! | `LockQueued` | handed over and robust: loads the word; else no access | handed over: `TakeHealth` with whether OWNER_DIED is set, stalled 0; else waits |
 //! | `LockStop` | stop | waits at `LockStopped` |
 //! | `LockStopped` | no access | waits |
-//! | `TryLoad` | loads the word | another owner or none: `TryExchange`; own RECURSIVE: held once more, 0, or EAGAIN where it is held 255 times; any other of its own: EBUSY |
-//! | `TryExchange` | compare-exchange from 0 to the own number | done: 0; failed: `TryKernel` |
-//! | `TryKernel` | trylock_pi | 0; EAGAIN: EBUSY; any other error |
-//! | `UnlockLoad` | loads the word | not the owner: EPERM; held more than once: held once less, 0; else `UnlockExchange` |
-//! | `UnlockExchange` | compare-exchange from the own number to 0 | done: 0; failed: `UnlockKernel` |
-//! | `UnlockKernel` | unlock_pi | 0, or its error |
+//! | `LockClear` | clears the pending field | EDEADLK |
+//! | `TakeLoad` | loads the word | `TakeHealth` with whether OWNER_DIED is set |
+//! | `TakeHealth` | loads the health word | unusable: `LeaveExchange`; OWNER_DIED was set: `TakeStore`; else `LinkNext` with 0 |
+//! | `TakeStore` | stores in the health word that the mutex is inconsistent | `TakeWord` |
+//! | `TakeWord` | takes OWNER_DIED out of the word | `LinkNext` with EOWNERDEAD |
+//! | `LinkNext` | writes the mutex's link to the head of the own list | `LinkHead` |
+//! | `LinkHead` | makes the mutex the head of the own list | `LinkClear` |
+//! | `LinkClear` | clears the pending field | the answer that it was given: 0 or EOWNERDEAD |
+//! | `LeaveExchange` | compare-exchange from the own number to 0 | done: `LeaveClear`; failed: `LeaveKernel` |
+//! | `LeaveKernel` | unlock_pi | done: `LeaveClear`; or its error |
+//! | `LeaveClear` | clears the pending field | ENOTRECOVERABLE |
+//! | `TryLoad` | loads the word | another owner or none: `TryPending`, stalled `TryExchange`; own RECURSIVE: held once more, 0, or EAGAIN where it is held 255 times; any other of its own: EBUSY |
+//! | `TryPending` | names the mutex in the pending field | `TryExchange` |
+//! | `TryExchange` | compare-exchange from 0 to the own number | done: `TakeHealth` with false, stalled 0; failed: `TryKernel` |
+//! | `TryKernel` | trylock_pi | done: `TakeLoad`, stalled 0; EAGAIN: `TryClear`, stalled EBUSY; any other error |
+//! | `TryClear` | clears the pending field | EBUSY |
+//! | `UnlockLoad` | loads the word | not the owner: EPERM; held more than once: held once less, 0; else `UnlockPending`, stalled `UnlockExchange` |
+//! | `UnlockPending` | names the mutex in the pending field | `UnlockHealth` |
+//! | `UnlockHealth` | loads the health word | inconsistent: `UnlockStore`; else `UnlockUnlink` |
+//! | `UnlockStore` | stores in the health word that the mutex is unusable | `UnlockUnlink` |
+//! | `UnlockUnlink` | takes the mutex off the own list | `UnlockExchange` |
+//! | `UnlockExchange` | compare-exchange from the own number to 0 | done: `UnlockClear`, stalled 0; failed: `UnlockKernel` |
+//! | `UnlockKernel` | unlock_pi | done: `UnlockClear`, stalled 0; or its error |
+//! | `UnlockClear` | clears the pending field | 0 |
+//! | `ConsistentLoad` | robust: loads the word; else no access | stalled: EINVAL; not the owner: EPERM; else `ConsistentHealth` |
+//! | `ConsistentHealth` | loads the health word | inconsistent: `ConsistentStore`; else EINVAL |
+//! | `ConsistentStore` | stores in the health word that the mutex is fine | 0 |
 //! | `SetPriority` | set_prio | 0, or its error |
 //!
-//! `lock`, `try_lock`, `unlock` and `set_priority` have the lines of each call, `taking` what lock and trylock share,
-//! and `step` which line a step is. All are methods of `State`, which keeps only that the parts fit together; `Parts`
-//! keeps besides that each open call may take its next step.
+//! `lock`, `try_lock`, `unlock`, `consistent` and `set_priority` have the lines of each call; `taking`, `linking` and
+//! `leaving` what lock and trylock share; `lists` the robust lists; `end` the end of a thread; and `step` which line a
+//! step is. All are methods of `State`, which keeps only that the parts fit together; `Parts` keeps besides that they are
+//! sound, by which each open call may take its next step.
 #![tactic(auto)]
 
+mod consistent;
+mod end;
 mod kernel;
+mod leaving;
+mod linking;
+mod lists;
 mod lock;
 mod mutex;
 mod outcome;

@@ -22,7 +22,7 @@ impl<K: PiKernel + Drop> State<K> {
         ensures { outcome_of result self.new ≡ lock_load request t m self.old }
     {
         if number(self.word(m)) != t.get() {
-            return self.go_on(request, Place::LockExchange, t);
+            return self.go_by(request, m, Place::LockPending, Place::LockExchange, t);
         }
         match self.kind(m) {
             Kind::Normal => self.go_on(request, Place::LockStop, t),
@@ -31,30 +31,38 @@ impl<K: PiKernel + Drop> State<K> {
         }
     }
 
-    /// The kernel call lock_pi. Where the owner has ended, the thread goes on to stop.
+    /// The kernel call lock_pi. A stalled mutex that it took is answered, and a robust one is taken over next. Where
+    /// the owner has ended, the thread goes on to stop.
     #[tactic(auto, unfolding(pif_model::specs::Lines::lock_kernel, pif_model::specs::Lines::lock_by), using(crate::proofs::KernelLeaves::lock_keeps_threads))]
     pub(crate) fn lock_kernel(&mut self, request: Request, t: Tid, m: MutexId) -> Progress
         requires known { has_thread self.old t ≡ true }
+        requires mutex { has_mutex self.old m ≡ true }
         requires ready { is_ready (status_at self.old t) ≡ true }
         ensures { outcome_of result self.new ≡ lock_kernel request t m self.old }
     {
         match self.lock_pi(t, m) {
-            Ok(Took::Owns) => self.answer(t, 0),
+            Ok(Took::Owns) => self.end_by(request, m, Place::TakeLoad, 0, t),
             Ok(Took::Queued) => self.wait(request, Place::LockQueued, t),
+            Err(Errno::Deadlock) => {
+                self.end_by(request, m, Place::LockClear, Errno::Deadlock.number(), t)
+            }
             Err(Errno::NoSuchThread) => self.go_on(request, Place::LockStop, t),
             Err(error) => self.answer(t, error.number()),
         }
     }
 
-    /// Queued, or made the owner, which is answered with no access of the word.
+    /// Queued, or made the owner: a stalled mutex is answered with no access of the word, and a robust one is taken
+    /// over from the load on.
     #[tactic(auto, unfolding(pif_model::specs::Lines::lock_queued))]
-    pub(crate) fn lock_queued(&mut self, t: Tid) -> Progress
-        requires { has_thread self.old t ≡ true }
-        ensures { outcome_of result self.new ≡ lock_queued t self.old }
+    pub(crate) fn lock_queued(&mut self, request: Request, t: Tid, m: MutexId) -> Progress
+        requires known { has_thread self.old t ≡ true }
+        requires mutex { has_mutex self.old m ≡ true }
+        ensures { outcome_of result self.new ≡ lock_queued request t m self.old }
     {
         match self.status(t) {
+            Status::Ready(_) if self.is_robust(m) => self.take_load(request, t, m),
             Status::Ready(_) => self.answer(t, 0),
-            Status::Queued(_) | Status::Stopped => Progress::Waits,
+            Status::Queued(_) | Status::Stopped | Status::Ended => Progress::Waits,
         }
     }
 

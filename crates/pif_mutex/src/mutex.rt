@@ -4,7 +4,7 @@ ghost use Rattle.pif_model.specs.Table.{new_mutex};
 use pif_types::Kind;
 use std::marker::Model;
 
-/// What the library knows of a mutex beside its word.
+/// What the library knows of a mutex beside its words.
 #[derive(Clone, Copy)]
 pub struct Mutex {
     kind: Kind,
@@ -39,6 +39,13 @@ impl Mutex {
         ensures { result ≡ self.kind }
     {
         self.kind
+    }
+
+    /// Whether it is robust.
+    pub fn is_robust(self) -> bool
+        ensures { result ≡ self.robust }
+    {
+        self.robust
     }
 
     /// How often its owner holds it.

@@ -1,6 +1,6 @@
 ghost use Rattle.std.specs.Prelude.{◌≡◌, true};
-ghost use Rattle.pif_model.specs.Table.{has_thread};
-ghost use Rattle.pif_model.specs.Lines.{goes_to, waits_at, answers, answered_by};
+ghost use Rattle.pif_model.specs.Table.{has_thread, has_mutex};
+ghost use Rattle.pif_model.specs.Lines.{goes_to, goes_by, ends_by, waits_at, answers, answered_by, clears, pending};
 ghost use Rattle.pif_kernel.specs.Answers.{unit_answer};
 ghost use Rattle.pif_mutex.specs.Outcomes.{outcome_of};
 
@@ -8,9 +8,9 @@ use crate::progress::Progress;
 use crate::state::State;
 use pif_kernel::PiKernel;
 use pif_model::{Line, Place};
-use pif_types::{Answer, Errno, Request, Tid};
+use pif_types::{Answer, Errno, MutexId, Request, Tid};
 
-/// What a line can come to, each of which changes the line of the thread alone.
+/// What a line can come to, and the writes of the pending field, after or before which a call goes on or ends.
 impl<K: PiKernel + Drop> State<K> {
     /// The call goes on at this place.
     pub(crate) fn go_on(&mut self, request: Request, place: Place, t: Tid) -> Progress
@@ -19,6 +19,46 @@ impl<K: PiKernel + Drop> State<K> {
     {
         self.set_line(t, Line::At(request, place));
         Progress::Went
+    }
+
+    /// The call goes on at the place `robust` for a robust mutex, and at the place `stalled` for a stalled one.
+    pub(crate) fn go_by(
+        &mut self,
+        request: Request,
+        m: MutexId,
+        robust: Place,
+        stalled: Place,
+        t: Tid,
+    ) -> Progress
+        requires known { has_thread self.old t ≡ true }
+        requires mutex { has_mutex self.old m ≡ true }
+        ensures { outcome_of result self.new ≡ goes_by t request m robust stalled self.old }
+    {
+        if self.is_robust(m) {
+            self.go_on(request, robust, t)
+        } else {
+            self.go_on(request, stalled, t)
+        }
+    }
+
+    /// The call goes on at this place for a robust mutex, and is closed with this answer for a stalled one.
+    pub(crate) fn end_by(
+        &mut self,
+        request: Request,
+        m: MutexId,
+        robust: Place,
+        answer: Answer,
+        t: Tid,
+    ) -> Progress
+        requires known { has_thread self.old t ≡ true }
+        requires mutex { has_mutex self.old m ≡ true }
+        ensures { outcome_of result self.new ≡ ends_by t request m robust answer self.old }
+    {
+        if self.is_robust(m) {
+            self.go_on(request, robust, t)
+        } else {
+            self.answer(t, answer)
+        }
     }
 
     /// The thread waits at this place.
@@ -49,5 +89,30 @@ impl<K: PiKernel + Drop> State<K> {
             Ok(()) => self.answer(t, 0),
             Err(error) => self.answer(t, error.number()),
         }
+    }
+    /// Names the mutex in the pending field of the thread, and goes on at this place.
+    pub(crate) fn name_pending(
+        &mut self,
+        request: Request,
+        place: Place,
+        t: Tid,
+        m: MutexId,
+    ) -> Progress
+        requires known { has_thread self.old t ≡ true }
+        requires mutex { has_mutex self.old m ≡ true }
+        ensures { outcome_of result self.new ≡ goes_to t request place (pending t m self.old) }
+    {
+        self.set_pending(t, m);
+        self.go_on(request, place, t)
+    }
+
+    /// Clears the pending field of the thread, and closes the call with this answer.
+    #[tactic(auto, unfolding(pif_model::specs::Lines::clears))]
+    pub(crate) fn clear(&mut self, t: Tid, answer: Answer) -> Progress
+        requires { has_thread self.old t ≡ true }
+        ensures { outcome_of result self.new ≡ clears answer t self.old }
+    {
+        self.clear_pending(t);
+        self.answer(t, answer)
     }
 }

@@ -1,22 +1,23 @@
 ghost use Rattle.std.specs.Prelude.{ℕ, ◌≡◌, ◌≢◌, ◌+◌, true, false, length, IfOk, IfSome, None};
 ghost use Rattle.pif_types.specs.Bounds.{IsWithin};
 ghost use Rattle.pif_model.specs.Word.{word_of};
-ghost use Rattle.pif_model.specs.PiKernel.{IsKernel, new_kernel};
+ghost use Rattle.pif_model.specs.PiKernel.{IsKernel, new_kernel, is_living};
 ghost use Rattle.pif_model.specs.Table.{new_table, line_at, cell_at, with_line, has_thread, has_thread_room, has_mutex_room, thread_added, mutex_added};
-ghost use Rattle.pif_model.specs.Lines.{go_outcome, is_open, first_place, table_refusal};
-ghost use Rattle.pif_model.specs.Calls.{effective_answer, word_answer, pick_answer};
+ghost use Rattle.pif_model.specs.Lines.{go_outcome, is_open, first_place, table_refusal, ended_table};
+ghost use Rattle.pif_model.specs.Calls.{effective_answer, word_answer, health_answer, pick_answer};
 ghost use Rattle.pif_mutex.specs.Outcomes.{outcome_of};
 
 use crate::progress::Progress;
 use crate::state::State;
 use pif_kernel::PiKernel;
 use pif_model::{Event, Line, Place};
-use pif_types::{Kind, Limits, MutexId, NoMemory, Prio, Request, Tid};
+use pif_types::{Health, Kind, Limits, MutexId, NoMemory, Prio, Request, Tid};
+use pif_word::health_in;
 use std::alloc::Global;
 use std::marker::Model;
 
-/// The parts of a machine: the words, a kernel, and what the library keeps of threads and mutexes - kinds, counts and
-/// open calls. Only `new` takes memory.
+/// The parts of a machine: the words, a kernel, the robust lists, and what the library keeps of threads and mutexes -
+/// kinds, counts and open calls. They are sound at any time. Only `new` takes memory.
 #[derive(Drop)]
 pub struct Parts<K: PiKernel + Drop> {
     state: State<K>,
@@ -24,13 +25,13 @@ pub struct Parts<K: PiKernel + Drop> {
 
 impl<K: PiKernel + Drop> Model for Parts<K> {
     ghost use Rattle.pif_model.specs.Table.{Table};
-    ghost use Rattle.pif_mutex.specs.Runnable.{IsRunnable};
+    ghost use Rattle.pif_model.specs.Standing.{IsSound};
 
     ghost Value = { Table };
 
     ghost view = { λ p. p.state };
 
-    ghost invariant = { λ p. IsRunnable p.state };
+    ghost invariant = { λ p. IsSound p.state };
 }
 
 impl<K: PiKernel + Drop> Parts<K> {
@@ -42,6 +43,8 @@ impl<K: PiKernel + Drop> Parts<K> {
         requires kept { IsKernel (K.meaning kernel) }
         ensures { IfOk result (λ p. p ≡ new_table limits) }
     {
+        // This reads a limit, so that the proof has the ranges of all.
+        let _threads = limits.threads();
         let state = State::new(alloc, limits, kernel)?;
         Ok(Parts { state })
     }
@@ -75,18 +78,27 @@ impl<K: PiKernel + Drop> Parts<K> {
         ensures number { result ≡ length self.old.lines }
         ensures after { self.new ≡ thread_added prio self.old }
     {
+        // This reads the priority, so that the proof has its range.
+        let _level = prio.get();
         self.state.add_thread(prio)
     }
 
-    /// Adds a mutex of this kind, free. There has to be room for it under the limits.
-    pub fn add_mutex(&mut self, kind: Kind) -> MutexId
+    /// Adds a mutex of this kind, robust or stalled, free and fine. There has to be room for it under the limits.
+    pub fn add_mutex(&mut self, kind: Kind, robust: bool) -> MutexId
         requires { has_mutex_room self.old ≡ true }
         ensures number { result ≡ length self.old.mutexes }
-        ensures after { self.new ≡ mutex_added kind false self.old }
+        ensures after { self.new ≡ mutex_added kind robust self.old }
     {
         let mutex = MutexId::new(self.state.mutex_count()).unwrap();
-        self.state.add_mutex(kind);
+        self.state.add_mutex(kind, robust);
         mutex
+    }
+
+    /// Whether a thread lives: it was added and has not ended.
+    pub fn is_living(&self, t: Tid) -> bool
+        ensures { result ≡ is_living self.now.kernel t }
+    {
+        self.state.is_living(t)
     }
 
     /// Whether a thread, which was added, has a call open.
@@ -100,7 +112,7 @@ impl<K: PiKernel + Drop> Parts<K> {
         }
     }
 
-    /// A thread begins a call. It was added and has no call open, and so was the mutex that the call names.
+    /// A thread begins a call. It lives and has no call open, and the mutex that the call names was added.
     pub fn begin(&mut self, t: Tid, request: Request)
         requires { table_refusal self.old (Event.Begin t request) ≡ None }
         ensures { self.new ≡ with_line t (Line.At request (first_place request)) self.old }
@@ -109,9 +121,19 @@ impl<K: PiKernel + Drop> Parts<K> {
             Request::Lock(_) => Place::LockLoad,
             Request::TryLock(_) => Place::TryLoad,
             Request::Unlock(_) => Place::UnlockLoad,
+            Request::Consistent(_) => Place::ConsistentLoad,
             Request::SetPrio(_, _) => Place::SetPriority,
         };
         self.state.set_line(t, Line::At(request, place));
+    }
+
+    /// A living thread ends, at any point: its call is gone, and each robust mutex that it holds, or was taking or giving
+    /// up, passes to its next waiter or is free, with OWNER_DIED.
+    pub fn end(&mut self, t: Tid)
+        requires living { is_living self.old.kernel t ≡ true }
+        ensures { self.new ≡ ended_table t self.old }
+    {
+        self.state.end(t);
     }
 
     /// The effective priority of a thread: the greatest base priority of it and of all that wait for it through any
@@ -134,6 +156,18 @@ impl<K: PiKernel + Drop> Parts<K> {
         }
     }
 
+    /// The health of a mutex, by its health word; that of a stalled mutex is `Health::Fine`. `None` where it was never
+    /// added.
+    pub fn health(&self, m: MutexId) -> Option<Health>
+        ensures value { result ≡ health_answer m self.now }
+    {
+        if m.get() < self.state.mutex_count() {
+            Some(health_in(self.state.health(m)))
+        } else {
+            None
+        }
+    }
+
     /// The thread that runs next: of the ready threads of greatest effective priority the first that joined them.
     /// `None` where no thread is ready.
     pub fn pick(&self) -> Option<Tid>
@@ -143,11 +177,11 @@ impl<K: PiKernel + Drop> Parts<K> {
     }
 }
 
-/// The thread, which has a call open, takes one step of it: one access of one word, one kernel call, or the answer
-/// after the mutex was handed to it; or it waits, and nothing changes. Whoever owns a mutex after the step and did not
-/// before, the thread or the next waiter, holds it once.
+/// The thread, which lives and has a call open, takes one step of it: one access of one word, one write of its robust
+/// list, one kernel call, or the answer after a stalled mutex was handed to it; or it waits, and nothing changes. Whoever
+/// owns a mutex after the step and did not before, the thread or the next waiter, holds it once.
 pub fn advance<K: PiKernel + Drop>(parts: &mut Parts<K>, t: Tid) -> Progress
-    requires added { has_thread parts.old t ≡ true }
+    requires living { is_living parts.old.kernel t ≡ true }
     requires open { is_open (line_at parts.old t) ≡ true }
     ensures line { outcome_of result parts.new ≡ go_outcome (line_at parts.old t) t parts.old }
     ensures once { (m : ℕ) → (cell_at parts.new m).word.number ≢ (cell_at parts.old m).word.number

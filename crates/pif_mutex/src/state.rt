@@ -2,23 +2,36 @@ ghost use Rattle.std.specs.Prelude.{◌≡◌, ◌<◌, ◌≤◌, ◌+◌, ◌^
 ghost use Rattle.pif_types.specs.Bounds.{IsWithin};
 ghost use Rattle.pif_model.specs.Word.{word_of, is_bare};
 ghost use Rattle.pif_model.specs.PiKernel.{IsKernel, new_kernel, is_living, effective_in, pick_in};
-ghost use Rattle.pif_model.specs.Table.{new_table, line_at, status_at, cell_at, with_line, with_count, with_word, has_thread, has_mutex, has_thread_room, has_mutex_room, thread_added, mutex_added};
+ghost use Rattle.pif_model.specs.Table.{new_table, line_at, status_at, cell_at, with_line, with_count, with_word, with_health_word, has_thread, has_mutex, has_thread_room, has_mutex_room, thread_added, mutex_added};
+ghost use Rattle.pif_model.specs.Lines.{is_robust};
 ghost use Rattle.pif_mutex.specs.Assembled.{IsAssembled};
 
 use crate::mutex::Mutex;
 use pif_kernel::PiKernel;
 use pif_model::{Line, Status};
+use pif_robust::RobustLists;
 use pif_types::{Kind, Limits, MutexId, NoMemory, Prio, Tid, push_within, with_room};
-use pif_word::{Cell, Words};
+use pif_word::{Cell, OWNER_DIED, Words};
 use std::alloc::Global;
 use std::marker::Model;
 
-/// The lines, what the library knows of mutexes, the words and the kernel, between two accesses of an event.
+/// The health word of a robust mutex that is fine.
+pub(crate) const FINE: u32 = 0;
+
+/// The health word of a robust mutex that is inconsistent.
+pub(crate) const INCONSISTENT: u32 = 1;
+
+/// The health word of a robust mutex that is unusable.
+pub(crate) const UNUSABLE: u32 = 2;
+
+/// The lines, what the library knows of mutexes, the words, the robust lists and the kernel, between two accesses of an
+/// event.
 #[derive(Drop)]
 pub struct State<K: PiKernel + Drop> {
     limits: Limits,
     pub(crate) words: Words,
     pub(crate) kernel: K,
+    pub(crate) lists: RobustLists,
     lines: Vec<Line>,
     mutexes: Vec<Mutex>,
 }
@@ -30,10 +43,10 @@ impl<K: PiKernel + Drop> Model for State<K> {
 
     ghost Value = { Table };
 
-    ghost view = { λ s. table_of s.limits s.words (K.meaning s.kernel) s.lines.items s.mutexes.items };
+    ghost view = { λ s. table_of s.limits s.words (K.meaning s.kernel) s.lists s.lines.items s.mutexes.items };
 
     ghost invariant = { λ s. record {
-      assembled : IsAssembled (table_of s.limits s.words (K.meaning s.kernel) s.lines.items s.mutexes.items);
+      assembled : IsAssembled (table_of s.limits s.words (K.meaning s.kernel) s.lists s.lines.items s.mutexes.items);
       lines : s.limits.threads + 1 ≤ vec_capacity s.lines;
       mutexes : s.limits.mutexes + 1 ≤ vec_capacity s.mutexes;
     } };
@@ -48,6 +61,7 @@ impl<K: PiKernel + Drop> State<K> {
         ensures { IfOk result (λ s. s ≡ new_table limits) }
     {
         let words = Words::new(alloc, limits)?;
+        let lists = RobustLists::new(alloc, limits)?;
         let mut lines = with_room(alloc, limits.threads() as usize + 1)?;
         push_within(&mut lines, Line::Idle);
         let mut mutexes = with_room(alloc, limits.mutexes() as usize + 1)?;
@@ -56,6 +70,7 @@ impl<K: PiKernel + Drop> State<K> {
             limits,
             words,
             kernel,
+            lists,
             lines,
             mutexes,
         })
@@ -114,6 +129,13 @@ impl<K: PiKernel + Drop> State<K> {
         self.kernel.status(t)
     }
 
+    /// Whether a thread lives: it was added and has not ended.
+    pub(crate) fn is_living(&self, t: Tid) -> bool
+        ensures { result ≡ is_living self.now.kernel t }
+    {
+        self.kernel.effective(t).is_some()
+    }
+
     /// The effective priority of a thread. `None` where no living thread has that number.
     pub(crate) fn effective(&self, t: Tid) -> Option<Prio>
         ensures { result ≡ (if is_living self.now.kernel t then Some (effective_in self.now.kernel t) else None) }
@@ -134,6 +156,14 @@ impl<K: PiKernel + Drop> State<K> {
         ensures { result ≡ (cell_at self.now m).kind }
     {
         self.mutexes[m.get() as usize].kind()
+    }
+
+    /// Whether a mutex that was added is robust.
+    pub(crate) fn is_robust(&self, m: MutexId) -> bool
+        requires { has_mutex self.now m ≡ true }
+        ensures { result ≡ is_robust m self.now }
+    {
+        self.mutexes[m.get() as usize].is_robust()
     }
 
     /// How often its owner holds a mutex that was added.
@@ -174,6 +204,30 @@ impl<K: PiKernel + Drop> State<K> {
             .is_ok()
     }
 
+    /// Takes OWNER_DIED out of the word of a mutex that was added.
+    pub(crate) fn settle_word(&mut self, m: MutexId)
+        requires { has_mutex self.old m ≡ true }
+        ensures { self.new ≡ with_word m (record (cell_at self.old m).word { died = false }) self.old }
+    {
+        self.words.fetch_and(Cell::Mutex(m), !OWNER_DIED);
+    }
+
+    /// The health word of a mutex that was added: 0 fine, 1 inconsistent, 2 unusable.
+    pub(crate) fn health(&self, m: MutexId) -> u32
+        requires { has_mutex self.now m ≡ true }
+        ensures { result ≡ (cell_at self.now m).health }
+    {
+        self.words.load(Cell::Health(m))
+    }
+
+    /// Makes `health` the health word of a mutex that was added.
+    pub(crate) fn set_health(&mut self, m: MutexId, health: u32)
+        requires { has_mutex self.old m ≡ true }
+        ensures { self.new ≡ with_health_word m health self.old }
+    {
+        self.words.store(Cell::Health(m), health);
+    }
+
     /// The number of a thread that was added, which a word has room for: it is below 2^30.
     pub(crate) fn number_of(&self, t: Tid) -> u32
         requires { has_thread self.now t ≡ true }
@@ -195,11 +249,11 @@ impl<K: PiKernel + Drop> State<K> {
         self.kernel.add(prio)
     }
 
-    /// Adds a stalled mutex of this kind, with the next number.
-    pub(crate) fn add_mutex(&mut self, kind: Kind)
+    /// Adds a mutex of this kind, robust or stalled, with the next number.
+    pub(crate) fn add_mutex(&mut self, kind: Kind, robust: bool)
         requires { has_mutex_room self.old ≡ true }
-        ensures { self.new ≡ mutex_added kind false self.old }
+        ensures { self.new ≡ mutex_added kind robust self.old }
     {
-        push_within(&mut self.mutexes, Mutex::new(kind, false));
+        push_within(&mut self.mutexes, Mutex::new(kind, robust));
     }
 }

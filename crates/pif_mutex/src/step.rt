@@ -1,8 +1,11 @@
-ghost use Rattle.std.specs.Prelude.{◌≡◌, true};
-ghost use Rattle.pif_model.specs.Table.{has_thread};
-ghost use Rattle.pif_model.specs.Lines.{line_of};
+ghost use Rattle.std.specs.Prelude.{◌≡◌, true, false};
+ghost use Rattle.pif_model.specs.PiKernel.{is_ready};
+ghost use Rattle.pif_model.specs.RobustList.{robust_at, IsUnlisted, IsHalfLinkedByNoOther};
+ghost use Rattle.pif_model.specs.Standing.{is_half_linked};
+ghost use Rattle.pif_model.specs.Table.{has_thread, has_mutex, status_at};
+ghost use Rattle.pif_model.specs.Lines.{line_of, shared_line};
 ghost use Rattle.pif_mutex.specs.Outcomes.{outcome_of};
-ghost use Rattle.pif_mutex.specs.Runnable.{CallIsRunnable};
+ghost use Rattle.pif_mutex.specs.Steppable.{CallMayStep, waits_at, is_link_next};
 
 use crate::progress::Progress;
 use crate::state::State;
@@ -15,13 +18,14 @@ impl<K: PiKernel + Drop> State<K> {
     /// One step of the open call of `t`, which is this request at this place.
     pub(crate) fn step(&mut self, request: Request, place: Place, t: Tid) -> Progress
         requires known { has_thread self.old t ≡ true }
-        requires call { CallIsRunnable self.old t request place }
+        requires call { CallMayStep self.old t request place }
         ensures { outcome_of result self.new ≡ line_of request place t self.old }
     {
         match request {
             Request::Lock(m) => self.lock_step(place, t, m),
             Request::TryLock(m) => self.try_lock_step(place, t, m),
             Request::Unlock(m) => self.unlock_step(place, t, m),
+            Request::Consistent(m) => self.consistent_step(place, t, m),
             Request::SetPrio(other, prio) => self.set_prio_step(place, t, other, prio),
         }
     }
@@ -30,18 +34,20 @@ impl<K: PiKernel + Drop> State<K> {
     #[tactic(auto, unfolding(pif_model::specs::Lines::line_of))]
     fn lock_step(&mut self, place: Place, t: Tid, m: MutexId) -> Progress
         requires known { has_thread self.old t ≡ true }
-        requires call { CallIsRunnable self.old t (Request.Lock m) place }
+        requires call { CallMayStep self.old t (Request.Lock m) place }
         ensures { outcome_of result self.new ≡ line_of (Request.Lock m) place t self.old }
     {
         let request = Request::Lock(m);
         match place {
             Place::LockLoad => self.lock_load(request, t, m),
+            Place::LockPending => self.name_pending(request, Place::LockExchange, t, m),
             Place::LockExchange => self.own_exchange(request, Place::LockKernel, t, m),
             Place::LockKernel => self.lock_kernel(request, t, m),
-            Place::LockQueued => self.lock_queued(t),
+            Place::LockQueued => self.lock_queued(request, t, m),
             Place::LockStop => self.lock_stop(request, t),
             Place::LockStopped => Progress::Waits,
-            _ => self.answer(t, Errno::Invalid.number()),
+            Place::LockClear => self.clear(t, Errno::Deadlock.number()),
+            _ => self.shared_step(request, place, t, m),
         }
     }
 
@@ -49,13 +55,42 @@ impl<K: PiKernel + Drop> State<K> {
     #[tactic(auto, unfolding(pif_model::specs::Lines::line_of))]
     fn try_lock_step(&mut self, place: Place, t: Tid, m: MutexId) -> Progress
         requires known { has_thread self.old t ≡ true }
-        requires call { CallIsRunnable self.old t (Request.TryLock m) place }
+        requires call { CallMayStep self.old t (Request.TryLock m) place }
         ensures { outcome_of result self.new ≡ line_of (Request.TryLock m) place t self.old }
     {
+        let request = Request::TryLock(m);
         match place {
             Place::TryLoad => self.try_load(t, m),
-            Place::TryExchange => self.own_exchange(Request::TryLock(m), Place::TryKernel, t, m),
+            Place::TryPending => self.name_pending(request, Place::TryExchange, t, m),
+            Place::TryExchange => self.own_exchange(request, Place::TryKernel, t, m),
             Place::TryKernel => self.try_kernel(t, m),
+            Place::TryClear => self.clear(t, Errno::Busy.number()),
+            _ => self.shared_step(request, place, t, m),
+        }
+    }
+
+    /// One step of taking over or leaving in a request that locks `m`.
+    #[tactic(auto, unfolding(pif_model::specs::Lines::shared_line))]
+    fn shared_step(&mut self, request: Request, place: Place, t: Tid, m: MutexId) -> Progress
+        requires known { has_thread self.old t ≡ true }
+        requires mutex { has_mutex self.old m ≡ true }
+        requires ready { waits_at place ≡ false → is_ready (status_at self.old t) ≡ true }
+        requires unlisted { is_link_next place ≡ true → IsUnlisted self.old.lists m }
+        requires half { is_link_next place ≡ true → IsHalfLinkedByNoOther self.old.lists t m }
+        requires linked { is_half_linked place ≡ true → (robust_at self.old.lists t).half_linked ≡ m }
+        ensures { outcome_of result self.new ≡ shared_line request place t m self.old }
+    {
+        match place {
+            Place::TakeLoad => self.take_load(request, t, m),
+            Place::TakeHealth(died) => self.take_health(request, died, t, m),
+            Place::TakeStore => self.take_store(request, t, m),
+            Place::TakeWord => self.take_word(request, t, m),
+            Place::LinkNext(answer) => self.link_next(request, answer, t, m),
+            Place::LinkHead(answer) => self.link_head(request, answer, t, m),
+            Place::LinkClear(answer) => self.clear(t, answer),
+            Place::LeaveExchange => self.leave_exchange(request, t, m),
+            Place::LeaveKernel => self.leave_kernel(request, t, m),
+            Place::LeaveClear => self.clear(t, Errno::NotRecoverable.number()),
             _ => self.answer(t, Errno::Invalid.number()),
         }
     }
@@ -64,13 +99,34 @@ impl<K: PiKernel + Drop> State<K> {
     #[tactic(auto, unfolding(pif_model::specs::Lines::line_of))]
     fn unlock_step(&mut self, place: Place, t: Tid, m: MutexId) -> Progress
         requires known { has_thread self.old t ≡ true }
-        requires call { CallIsRunnable self.old t (Request.Unlock m) place }
+        requires call { CallMayStep self.old t (Request.Unlock m) place }
         ensures { outcome_of result self.new ≡ line_of (Request.Unlock m) place t self.old }
     {
+        let request = Request::Unlock(m);
         match place {
             Place::UnlockLoad => self.unlock_load(t, m),
+            Place::UnlockPending => self.name_pending(request, Place::UnlockHealth, t, m),
+            Place::UnlockHealth => self.unlock_health(t, m),
+            Place::UnlockStore => self.unlock_store(t, m),
+            Place::UnlockUnlink => self.unlock_unlink(t, m),
             Place::UnlockExchange => self.unlock_exchange(t, m),
             Place::UnlockKernel => self.unlock_kernel(t, m),
+            Place::UnlockClear => self.clear(t, 0),
+            _ => self.answer(t, Errno::Invalid.number()),
+        }
+    }
+
+    /// One step of a consistent.
+    #[tactic(auto, unfolding(pif_model::specs::Lines::line_of))]
+    fn consistent_step(&mut self, place: Place, t: Tid, m: MutexId) -> Progress
+        requires known { has_thread self.old t ≡ true }
+        requires call { CallMayStep self.old t (Request.Consistent m) place }
+        ensures { outcome_of result self.new ≡ line_of (Request.Consistent m) place t self.old }
+    {
+        match place {
+            Place::ConsistentLoad => self.consistent_load(t, m),
+            Place::ConsistentHealth => self.consistent_health(t, m),
+            Place::ConsistentStore => self.consistent_store(t, m),
             _ => self.answer(t, Errno::Invalid.number()),
         }
     }

@@ -1,18 +1,19 @@
 ghost use Rattle.std.specs.Prelude.{◌≡◌, true};
 ghost use Rattle.pif_model.specs.Table.{has_thread, has_mutex};
-ghost use Rattle.pif_model.specs.Lines.{locked_again, own_exchange};
+ghost use Rattle.pif_model.specs.Lines.{locked_again, own_exchange, take_load, take_health, take_store, take_word_back};
 ghost use Rattle.pif_mutex.specs.Outcomes.{outcome_of};
 
 use crate::progress::Progress;
-use crate::state::State;
+use crate::state::{INCONSISTENT, State, UNUSABLE};
 use pif_kernel::PiKernel;
 use pif_model::Place;
 use pif_types::{Errno, MutexId, Request, Tid};
+use pif_word::owner_died;
 
 /// The most often that an owner holds a recursive mutex.
 const MOST: u32 = 255;
 
-/// What lock and trylock have in common.
+/// What lock and trylock have in common: the exchange, and taking over a robust mutex up to its links.
 impl<K: PiKernel + Drop> State<K> {
     /// The owner of a recursive mutex holds it once more, or is answered EAGAIN where it holds it as often as it may.
     #[tactic(auto, unfolding(pif_model::specs::Lines::locked_again))]
@@ -30,8 +31,9 @@ impl<K: PiKernel + Drop> State<K> {
         }
     }
 
-    /// Compare-exchange of the word from 0 to the number of the thread. Where it fails the request goes on with its
-    /// kernel call, at the place `kernel`.
+    /// Compare-exchange of the word from 0 to the number of the thread. Done, a stalled mutex is answered, and of a
+    /// robust one the health word is next. Where it fails the request goes on with its kernel call, at the place
+    /// `kernel`.
     pub(crate) fn own_exchange(
         &mut self,
         request: Request,
@@ -45,9 +47,65 @@ impl<K: PiKernel + Drop> State<K> {
     {
         let number = self.number_of(t);
         if self.exchange(m, 0, number) {
-            self.answer(t, 0)
+            self.end_by(request, m, Place::TakeHealth(false), 0, t)
         } else {
             self.go_on(request, kernel, t)
         }
+    }
+
+    /// Loads the word, and sees whether its last owner has ended.
+    #[tactic(auto, unfolding(pif_model::specs::Lines::take_load))]
+    pub(crate) fn take_load(&mut self, request: Request, t: Tid, m: MutexId) -> Progress
+        requires known { has_thread self.old t ≡ true }
+        requires mutex { has_mutex self.old m ≡ true }
+        ensures { outcome_of result self.new ≡ take_load request t m self.old }
+    {
+        let died = owner_died(self.word(m));
+        self.go_on(request, Place::TakeHealth(died), t)
+    }
+
+    /// Loads the health word. An unusable mutex is left again, and one whose last owner has ended, which is `died`, is
+    /// inconsistent.
+    #[tactic(auto, unfolding(pif_model::specs::Lines::take_health))]
+    pub(crate) fn take_health(
+        &mut self,
+        request: Request,
+        died: bool,
+        t: Tid,
+        m: MutexId,
+    ) -> Progress
+        requires known { has_thread self.old t ≡ true }
+        requires mutex { has_mutex self.old m ≡ true }
+        ensures { outcome_of result self.new ≡ take_health request died t m self.old }
+    {
+        if self.health(m) == UNUSABLE {
+            self.go_on(request, Place::LeaveExchange, t)
+        } else if died {
+            self.go_on(request, Place::TakeStore, t)
+        } else {
+            self.go_on(request, Place::LinkNext(0), t)
+        }
+    }
+
+    /// Stores in the health word that the mutex is inconsistent.
+    #[tactic(auto, unfolding(pif_model::specs::Lines::take_store))]
+    pub(crate) fn take_store(&mut self, request: Request, t: Tid, m: MutexId) -> Progress
+        requires known { has_thread self.old t ≡ true }
+        requires mutex { has_mutex self.old m ≡ true }
+        ensures { outcome_of result self.new ≡ take_store request t m self.old }
+    {
+        self.set_health(m, INCONSISTENT);
+        self.go_on(request, Place::TakeWord, t)
+    }
+
+    /// Takes OWNER_DIED out of the word. The call will answer EOWNERDEAD.
+    #[tactic(auto, unfolding(pif_model::specs::Lines::take_word_back))]
+    pub(crate) fn take_word(&mut self, request: Request, t: Tid, m: MutexId) -> Progress
+        requires known { has_thread self.old t ≡ true }
+        requires mutex { has_mutex self.old m ≡ true }
+        ensures { outcome_of result self.new ≡ take_word_back request t m self.old }
+    {
+        self.settle_word(m);
+        self.go_on(request, Place::LinkNext(Errno::OwnerDead.number()), t)
     }
 }

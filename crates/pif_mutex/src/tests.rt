@@ -1,10 +1,12 @@
 ghost use Rattle.std.specs.Prelude.{◌≡◌, true, Some, None};
-ghost use Rattle.pif_model.specs.Table.{has_thread, has_mutex};
+ghost use Rattle.pif_model.specs.PiKernel.{is_living};
+ghost use Rattle.pif_model.specs.Table.{has_thread, has_mutex, line_at};
+ghost use Rattle.pif_model.specs.Lines.{is_open};
 ghost use Rattle.pif_model.specs.Posix.{names_known};
 
 use crate::{Parts, Progress, advance};
 use pif_kernel::PlainKernel;
-use pif_types::{Kind, Limits, MutexId, Prio, Request, Tid};
+use pif_types::{Health, Kind, Limits, MutexId, Prio, Request, Tid};
 use std::alloc::Global;
 use std::process::Abort;
 use std::test::Fail;
@@ -29,7 +31,7 @@ fn scene(alloc: Global, kind: Kind, levels: &[u32]) -> Result<Parts<PlainKernel>
 
 /// Adds a mutex of this kind, and threads of these priorities.
 fn fill(parts: &mut Parts<PlainKernel>, kind: Kind, levels: &[u32]) -> Option<()> {
-    mutex(parts, kind)?;
+    mutex(parts, kind, false)?;
     for level in levels {
         thread(parts, *level)?;
     }
@@ -46,20 +48,22 @@ fn thread(parts: &mut Parts<PlainKernel>, level: u32) -> Option<Tid> {
     }
 }
 
-/// Adds a mutex where there is room for it.
-fn mutex(parts: &mut Parts<PlainKernel>, kind: Kind) -> Option<MutexId> {
+/// Adds a mutex, robust or not, where there is room for it.
+fn mutex(parts: &mut Parts<PlainKernel>, kind: Kind, robust: bool) -> Option<MutexId> {
     if parts.mutexes() < parts.limits().mutexes() {
-        Some(parts.add_mutex(kind))
+        Some(parts.add_mutex(kind, robust))
     } else {
         None
     }
 }
 
-// Whether a thread was added.
-fn has_thread(parts: &Parts<PlainKernel>, t: Tid) -> bool
-    ensures { result ≡ true → has_thread parts.now t ≡ true }
+/// Whether a thread was added, lives, and has a call open or none, as asked.
+fn may_act(parts: &Parts<PlainKernel>, t: Tid, calling: bool) -> bool
+    ensures known { result ≡ true → has_thread parts.now t ≡ true }
+    ensures living { result ≡ true → is_living parts.now.kernel t ≡ true }
+    ensures open { result ≡ true → is_open (line_at parts.now t) ≡ calling }
 {
-    t.get() <= parts.threads()
+    t.get() <= parts.threads() && parts.is_living(t) && parts.is_open(t) == calling
 }
 
 // Whether the mutex that a call names was added.
@@ -67,14 +71,15 @@ fn names_known(parts: &Parts<PlainKernel>, request: &Request) -> bool
     ensures { result ≡ true → names_known (has_mutex parts.now) request.now ≡ true }
 {
     match *request {
-        Request::Lock(m) | Request::TryLock(m) | Request::Unlock(m) => m.get() <= parts.mutexes(),
+        Request::Lock(m) | Request::TryLock(m) | Request::Unlock(m) | Request::Consistent(m) =>
+            m.get() <= parts.mutexes(),
         Request::SetPrio(_, _) => true,
     }
 }
 
 /// A thread begins a call, where that is not refused.
 fn begin(parts: &mut Parts<PlainKernel>, t: Tid, request: Request) -> Option<()> {
-    if has_thread(parts, t) && !parts.is_open(t) && names_known(parts, &request) {
+    if may_act(parts, t, false) && names_known(parts, &request) {
         parts.begin(t, request);
         Some(())
     } else {
@@ -84,7 +89,7 @@ fn begin(parts: &mut Parts<PlainKernel>, t: Tid, request: Request) -> Option<()>
 
 /// A thread takes one step of its open call. `None` where it has none.
 fn go(parts: &mut Parts<PlainKernel>, t: Tid) -> Option<Progress> {
-    if has_thread(parts, t) && parts.is_open(t) {
+    if may_act(parts, t, true) {
         Some(advance(parts, t))
     } else {
         None
@@ -95,7 +100,7 @@ fn go(parts: &mut Parts<PlainKernel>, t: Tid) -> Option<Progress> {
 /// came to.
 fn call(parts: &mut Parts<PlainKernel>, t: Tid, request: Request) -> Option<(u32, Progress)> {
     begin(parts, t, request)?;
-    for step in 1..=4 {
+    for step in 1..=8 {
         match go(parts, t)? {
             Progress::Went => (),
             progress => return Some((step, progress)),
@@ -131,7 +136,7 @@ fn add_and_count(rt: &impl Abort, parts: &mut Parts<PlainKernel>) -> Result<(), 
     assert_eq!(rt; parts.pick(), None);
     let t1 = thread(parts, 10).ok_or("room")?;
     let t2 = thread(parts, 50).ok_or("room")?;
-    let m1 = mutex(parts, Kind::Normal).ok_or("room")?;
+    let m1 = mutex(parts, Kind::Normal, false).ok_or("room")?;
     assert_eq!(rt; (t1.get(), t2.get(), m1.get()), (1, 2, 1));
     assert_eq!(rt; (parts.threads(), parts.mutexes()), (2, 1));
     assert_eq!(rt; Some(parts.limits()), Limits::new(4, 2, 0, 1));
@@ -290,4 +295,27 @@ fn set_priorities(rt: &impl Abort, parts: &mut Parts<PlainKernel>) -> Result<(),
         assert_eq!(rt; parts.effective(t2), Prio::new(effective));
     }
     Ok(())
+}
+
+#[test]
+fn end_of_a_holder_leaves_its_robust_mutex(rt: HostRuntime) -> Result<(), Fail> {
+    let mut parts = new_parts(rt.alloc())?;
+    let left = end_holder(&mut parts);
+    assert_eq!(rt; left, Some((Some(0x4000_0000), Some(Health::Fine), false)));
+    Ok(())
+}
+
+/// A thread locks a robust mutex and ends: the word, the health, and whether the thread lives.
+fn end_holder(parts: &mut Parts<PlainKernel>) -> Option<(Option<u32>, Option<Health>, bool)> {
+    let held = mutex(parts, Kind::Normal, true)?;
+    let holder = thread(parts, 10)?;
+    call(parts, holder, Request::Lock(held))?;
+    if may_act(parts, holder, false) {
+        parts.end(holder);
+    }
+    Some((
+        parts.word(held),
+        parts.health(held),
+        parts.is_living(holder),
+    ))
 }

@@ -21,7 +21,13 @@ impl<K: PiKernel + Drop> State<K> {
         ensures { outcome_of result self.new ≡ try_load t m self.old }
     {
         if number(self.word(m)) != t.get() {
-            return self.go_on(Request::TryLock(m), Place::TryExchange, t);
+            return self.go_by(
+                Request::TryLock(m),
+                m,
+                Place::TryPending,
+                Place::TryExchange,
+                t,
+            );
         }
         match self.kind(m) {
             Kind::Recursive => self.lock_again(t, m),
@@ -29,17 +35,22 @@ impl<K: PiKernel + Drop> State<K> {
         }
     }
 
-    /// The kernel call trylock_pi. Its EAGAIN, that the mutex is held, is answered as EBUSY.
-    #[tactic(auto, unfolding(pif_model::specs::Lines::try_kernel))]
+    /// The kernel call trylock_pi. A stalled mutex that it took is answered, and a robust one is taken over next. Its
+    /// EAGAIN, that the mutex is held, is answered as EBUSY.
+    #[tactic(auto, unfolding(pif_model::specs::Lines::try_kernel, pif_model::specs::Lines::try_by))]
     pub(crate) fn try_kernel(&mut self, t: Tid, m: MutexId) -> Progress
         requires known { has_thread self.old t ≡ true }
+        requires mutex { has_mutex self.old m ≡ true }
         requires ready { is_ready (status_at self.old t) ≡ true }
         ensures { outcome_of result self.new ≡ try_kernel t m self.old }
     {
-        let called = match self.trylock_pi(t, m) {
-            Err(Errno::Again) => Err(Errno::Busy),
-            other => other,
-        };
-        self.answer_by(t, called)
+        let request = Request::TryLock(m);
+        match self.trylock_pi(t, m) {
+            Ok(()) => self.end_by(request, m, Place::TakeLoad, 0, t),
+            Err(Errno::Again) => {
+                self.end_by(request, m, Place::TryClear, Errno::Busy.number(), t)
+            }
+            Err(error) => self.answer(t, error.number()),
+        }
     }
 }

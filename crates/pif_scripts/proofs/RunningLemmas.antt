@@ -2,7 +2,7 @@
 use Rattle.std.proofs.Common.{◌≡◌, ℕ, ◌+◌, ◌-◌, ◌<◌, ◌≤◌, suc, zero, refl, sym, ap, ◌∙◌, subst, arith}
 use Rattle.pif_model.specs.declared.events.Event.TheVariants.{Go}
 use Rattle.pif_model.specs.declared.events.Seen.{Seen}
-use Rattle.pif_model.specs.declared.events.Seen.TheVariants.{Begun, Went, Waits, Answered, Refused}
+use Rattle.pif_model.specs.declared.events.Seen.TheVariants.{Begun, Went, Waits, Answered, Ended, Refused}
 use Rattle.pif_model.specs.Table.{Table, new_table}
 use Rattle.pif_model.specs.Lines.{Outcome, event_outcome, goes_on}
 use Rattle.pif_text.specs.declared.commands.Command.{Command}
@@ -32,6 +32,7 @@ goes_on-other (suc more) t s e = by-seen (event_outcome (Go t) s).seen refl
           | Begun ↦ λ n. refl
           | Waits ↦ λ n. refl
           | Answered a ↦ λ n. refl
+          | Ended ↦ λ n. refl
           | Refused r ↦ λ n. refl
         ] (λ q. e (p ∙ q)))
 
@@ -57,12 +58,14 @@ pub first_answer-later : (c : Command) → ((t m v n : ℕ) → c ≡ command.Li
 unfolding first_answer
 first_answer-later (command.Limits t m v n) other = absurd (other t m v n refl)
 first_answer-later (command.Thread p) other = refl
-first_answer-later (command.Mutex k) other = refl
+first_answer-later (command.Mutex k robust) other = refl
 first_answer-later (command.Begin t q) other = refl
 first_answer-later (command.Go t) other = refl
+first_answer-later (command.End t) other = refl
 first_answer-later (command.Call t q) other = refl
 first_answer-later (command.Finish t) other = refl
 first_answer-later (command.Word m) other = refl
+first_answer-later (command.Health m) other = refl
 first_answer-later (command.Prio t) other = refl
 first_answer-later command.Pick other = refl
 
@@ -72,11 +75,13 @@ pub answered-later : (c : Command) (s : Table) → ((t m v n : ℕ) → c ≡ co
 unfolding command_answer
 answered-later (command.Limits t m v n) s other = absurd (other t m v n refl)
 answered-later (command.Thread p) s other = tt
-answered-later (command.Mutex k) s other = tt
+answered-later (command.Mutex k robust) s other = tt
 answered-later (command.Begin t q) s other = tt
 answered-later (command.Go t) s other = tt
+answered-later (command.End t) s other = tt
 answered-later (command.Call t q) s other = tt
 answered-later (command.Finish t) s other = tt
 answered-later (command.Word m) s other = tt
+answered-later (command.Health m) s other = tt
 answered-later (command.Prio t) s other = tt
 answered-later command.Pick s other = tt

@@ -7,13 +7,13 @@ use Rattle.std.proofs.lemmas.Slice.Eq.{bytes_eq-Decides}
 use Rattle.pif_types.specs.Bounds.{Bounds, IsWithin}
 use Rattle.pif_model.specs.declared.events.Entry.{Entry}
 use Rattle.pif_model.specs.declared.events.Entry.TheVariants.{Thread as AddedThread, Mutex as AddedMutex, Step}
-use Rattle.pif_model.specs.declared.events.Event.TheVariants.{Begin as BeginEvent, Go as GoEvent}
+use Rattle.pif_model.specs.declared.events.Event.TheVariants.{Begin as BeginEvent, Go as GoEvent, End as EndEvent}
 use Rattle.pif_model.specs.declared.events.Seen.{Seen}
 use Rattle.pif_model.specs.Calls.{add_thread_answer, add_thread_after, add_mutex_answer, add_mutex_after}
 use Rattle.pif_model.specs.Lines.{event_outcome}
 use Rattle.pif_model.specs.Table.{Table, new_table}
 use Rattle.pif_text.specs.declared.commands.Command.{Command}
-use Rattle.pif_text.specs.declared.commands.Command.TheVariants.{Limits, Thread, Mutex, Begin, Go}
+use Rattle.pif_text.specs.declared.commands.Command.TheVariants.{Limits, Thread, Mutex, Begin, Go, End}
 use Rattle.pif_text.specs.declared.replies.Reply.{Reply}
 use Rattle.pif_text.specs.declared.replies.Reply.TheVariants as reply
 use Rattle.pif_text.specs.CommandTexts.{command_text, IsWritten}
@@ -140,20 +140,15 @@ written_back : (c : Command) (r : Reply) (s after : Table) (es : List Entry) →
     → command_answer c s ≡ Some (r, after) → IsHistory after es → Heard s (command_text c ++ recorded r) es
 written_back c r s after es p q e o h = (after, λ number. heard_back c r s after number p e o, recorded-line c r p q, h)
 
-mutex_back : (m : ℕ) (k : Kind) (robust : Bool) → robust ≡ false
-    → command_text (Mutex k) ++ recorded (reply.Mutex m) ≡ entry_text (AddedMutex m k robust)
-unfolding entry_text command_text
-mutex_back m k robust e = rw e refl
-
 thread_given : (t p : ℕ) (s : Table) → add_thread_answer p s ≡ Ok t
     → command_answer (Thread p) s ≡ Some (reply.Thread t, add_thread_after p (Ok t) s)
 unfolding command_answer
 thread_given t p s e = rw e refl
 
-mutex_given : (m : ℕ) (k : Kind) (s : Table) → add_mutex_answer s ≡ Ok m
-    → command_answer (Mutex k) s ≡ Some (reply.Mutex m, add_mutex_after k false (Ok m) s)
+mutex_given : (m : ℕ) (k : Kind) (robust : Bool) (s : Table) → add_mutex_answer s ≡ Ok m
+    → command_answer (Mutex k robust) s ≡ Some (reply.Mutex m, add_mutex_after k robust (Ok m) s)
 unfolding command_answer
-mutex_given m k s e = rw e refl
+mutex_given m k robust s e = rw e refl
 
 begin_given : (t : ℕ) (q : Request) (seen : Seen) (s : Table) → (event_outcome (BeginEvent t q) s).seen ≡ seen
     → command_answer (Begin t q) s ≡ Some (reply_of_seen seen, (event_outcome (BeginEvent t q) s).after)
@@ -165,6 +160,11 @@ go_given : (t : ℕ) (seen : Seen) (s : Table) → (event_outcome (GoEvent t) s)
 unfolding command_answer
 go_given t seen s e = ap (λ x. Some (reply_of_seen x, (event_outcome (GoEvent t) s).after)) e
 
+end_given : (t : ℕ) (seen : Seen) (s : Table) → (event_outcome (EndEvent t) s).seen ≡ seen
+    → command_answer (End t) s ≡ Some (reply_of_seen seen, (event_outcome (EndEvent t) s).after)
+unfolding command_answer
+end_given t seen s e = ap (λ x. Some (reply_of_seen x, (event_outcome (EndEvent t) s).after)) e
+
 entry_back : (e : Entry) (es : List Entry) (s : Table) → IsEntryWritten e → IsHistory s (e ∷ es)
     → Heard s (entry_text e) es
 unfolding entry_text
@@ -172,15 +172,17 @@ entry_back (AddedThread t p) es s w h =
     written_back (Thread p) (reply.Thread t) s (add_thread_after p (Ok t) s) es w.0 w.1 refl
     (thread_given t p s h.0) h.1
 entry_back (AddedMutex m k robust) es s w h =
-    subst (λ line. Heard s line es) (mutex_back m k robust h.0)
-    (written_back (Mutex k) (reply.Mutex m) s (add_mutex_after k false (Ok m) s) es w.0 w.1 refl
-    (mutex_given m k s h.1) h.2)
+    written_back (Mutex k robust) (reply.Mutex m) s (add_mutex_after k robust (Ok m) s) es w.0 w.1 refl
+    (mutex_given m k robust s h.0) h.1
 entry_back (Step (BeginEvent t q) seen) es s w h =
     written_back (Begin t q) (reply_of_seen seen) s (event_outcome (BeginEvent t q) s).after es w.0 w.1 refl
     (begin_given t q seen s h.0) h.1
 entry_back (Step (GoEvent t) seen) es s w h =
     written_back (Go t) (reply_of_seen seen) s (event_outcome (GoEvent t) s).after es w.0 w.1 refl
     (go_given t seen s h.0) h.1
+entry_back (Step (EndEvent t) seen) es s w h =
+    written_back (End t) (reply_of_seen seen) s (event_outcome (EndEvent t) s).after es w.0 w.1 refl
+    (end_given t seen s h.0) h.1
 
 -- a trace stands so between two lines
 abbrev at_line : Option Table → (number taken : ℕ) → Scan Table

@@ -1,17 +1,18 @@
 -- The commands of a script on a core, and what its lines mean.
-use Rattle.std.specs.Prelude.{ℕ, ◌≡◌, ◌&&◌, nat_le, Bool, false, List, [], ◌∷◌, ◌++◌, Option, Some, None, Result, Ok, Err, zero, suc, if◌then◌else◌}
+use Rattle.std.specs.Prelude.{ℕ, ◌≡◌, ◌&&◌, nat_le, Bool, List, [], ◌∷◌, ◌++◌, Option, Some, None, Result, Ok, Err, if◌then◌else◌}
 use Rattle.pif_types.specs.Bounds.{Bounds}
 use Rattle.pif_types.specs.declared.errors.AddFault.{AddFault}
 use Rattle.pif_types.specs.declared.errors.Refusal.TheVariants.{NoSuch}
+use Rattle.pif_types.specs.declared.requests.Health.{Health}
 use Rattle.pif_types.specs.declared.requests.Request.{Request}
-use Rattle.pif_model.specs.declared.events.Event.TheVariants.{Begin as BeginEvent, Go as GoEvent}
+use Rattle.pif_model.specs.declared.events.Event.TheVariants.{Begin as BeginEvent, Go as GoEvent, End as EndEvent}
 use Rattle.pif_model.specs.declared.events.Seen.{Seen}
-use Rattle.pif_model.specs.declared.events.Seen.TheVariants.{Begun as SeenBegun, Went as SeenWent, Waits as SeenWaits, Answered as SeenAnswered, Refused as SeenRefused}
+use Rattle.pif_model.specs.declared.events.Seen.TheVariants.{Begun as SeenBegun, Went as SeenWent, Waits as SeenWaits, Answered as SeenAnswered, Ended as SeenEnded, Refused as SeenRefused}
 use Rattle.pif_model.specs.Table.{Table, new_table}
 use Rattle.pif_model.specs.Lines.{Outcome, event_outcome, goes_on}
-use Rattle.pif_model.specs.Calls.{add_thread_answer, add_thread_after, add_mutex_answer, add_mutex_after, effective_answer, word_answer, pick_answer}
+use Rattle.pif_model.specs.Calls.{add_thread_answer, add_thread_after, add_mutex_answer, add_mutex_after, effective_answer, word_answer, health_answer, pick_answer, threads_answer}
 use Rattle.pif_text.specs.declared.commands.Command.{Command}
-use Rattle.pif_text.specs.declared.commands.Command.TheVariants.{Limits, Thread, Mutex, Begin, Go, Call, Finish, Word, Prio, Pick}
+use Rattle.pif_text.specs.declared.commands.Command.TheVariants.{Limits, Thread, Mutex, Begin, Go, End, Call, Finish, Word, Health as HealthOf, Prio, Pick}
 use Rattle.pif_text.specs.declared.replies.Cause.{Cause}
 use Rattle.pif_text.specs.declared.replies.Cause.TheVariants as cause
 use Rattle.pif_text.specs.declared.replies.Reply.{Reply}
@@ -32,6 +33,7 @@ reply_of_seen SeenBegun = reply.Begun
 reply_of_seen SeenWent = reply.Went
 reply_of_seen SeenWaits = reply.Waits
 reply_of_seen (SeenAnswered a) = reply.Answer a
+reply_of_seen SeenEnded = reply.Ended
 reply_of_seen (SeenRefused r) = reply.Refused r
 
 -- finish: a thread goes on, at most 24 times
@@ -65,22 +67,34 @@ abbrev pub reply_of_word : Option ℕ → Reply
 reply_of_word (Some w) = reply.Word w
 reply_of_word None = reply.Refused NoSuch
 
-abbrev pub reply_of_priority : Option ℕ → Reply
-reply_of_priority (Some p) = reply.Priority p
-reply_of_priority None = reply.Refused NoSuch
+abbrev pub reply_of_health : Option Health → Reply
+reply_of_health (Some h) = reply.Health h
+reply_of_health None = reply.Refused NoSuch
+
+-- whether a thread of this number, which is at least 1, was ever added
+abbrev pub was_added : ℕ → Table → Bool
+was_added t s = nat_le t (threads_answer s)
+
+-- the priority that a thread runs at: one that was added and runs at none has ended
+abbrev pub reply_of_priority : Option ℕ → Bool → Reply
+reply_of_priority (Some p) added = reply.Priority p
+reply_of_priority None added = if added then reply.Dead else reply.Refused NoSuch
 
 -- what a command does; `limits` is none behind the first line
 unfoldable pub command_answer : Command → Table → Option Answer
 command_answer (Limits t m c n) s = None
 command_answer (Thread p) s =
     Some (reply_of_thread (add_thread_answer p s), add_thread_after p (add_thread_answer p s) s)
-command_answer (Mutex k) s = Some (reply_of_mutex (add_mutex_answer s), add_mutex_after k false (add_mutex_answer s) s)
+command_answer (Mutex k robust) s =
+    Some (reply_of_mutex (add_mutex_answer s), add_mutex_after k robust (add_mutex_answer s) s)
 command_answer (Begin t q) s = Some (answer_of_outcome (event_outcome (BeginEvent t q) s))
 command_answer (Go t) s = Some (answer_of_outcome (event_outcome (GoEvent t) s))
+command_answer (End t) s = Some (answer_of_outcome (event_outcome (EndEvent t) s))
 command_answer (Call t q) s = Some (answer_of_outcome (call_outcome t q s))
 command_answer (Finish t) s = Some (answer_of_outcome (finish_outcome t s))
 command_answer (Word m) s = Some (reply_of_word (word_answer m s), s)
-command_answer (Prio t) s = Some (reply_of_priority (effective_answer t s), s)
+command_answer (HealthOf m) s = Some (reply_of_health (health_answer m s), s)
+command_answer (Prio t) s = Some (reply_of_priority (effective_answer t s) (was_added t s), s)
 command_answer Pick s = Some (reply.Picked (pick_answer s), s)
 
 -- an answer, or the fault `command`

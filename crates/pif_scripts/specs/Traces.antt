@@ -1,22 +1,22 @@
 -- Traces: what a trace comes to, and the trace of a history.
-use Rattle.std.specs.Prelude.{ℕ, ◌≡◌, ◌-◌, ◌==◌, true, nat_lt, List, [], ◌∷◌, ◌++◌, Option, Some, None, Result, Ok, Err, is_ok, option_and_then, option_map, if◌then◌else◌, bytes_eq, flat_map, ◌+◌, ◌≤◌, All, false, length}
+use Rattle.std.specs.Prelude.{ℕ, ◌≡◌, ◌-◌, ◌==◌, true, nat_lt, List, [], ◌∷◌, ◌++◌, Option, Some, None, Result, Ok, Err, is_ok, option_and_then, option_map, if◌then◌else◌, bytes_eq, flat_map, ◌+◌, ◌≤◌, All, length}
 use Rattle.std.specs.Io.KnownBytes.{Appends, Consumes, IsAtEnd, Keeps}
 use Rattle.pif_types.specs.Bounds.{Bounds, IsWithin}
 use Rattle.pif_model.specs.declared.events.Entry.{Entry}
 use Rattle.pif_model.specs.declared.events.Entry.TheVariants.{Thread as AddedThread, Mutex as AddedMutex, Step}
 use Rattle.pif_model.specs.declared.events.Event.{Event}
-use Rattle.pif_model.specs.declared.events.Event.TheVariants.{Begin as BeginEvent, Go as GoEvent}
+use Rattle.pif_model.specs.declared.events.Event.TheVariants.{Begin as BeginEvent, Go as GoEvent, End as EndEvent}
 use Rattle.pif_model.specs.Calls.{add_thread_answer, add_thread_after, add_mutex_answer, add_mutex_after}
 use Rattle.pif_model.specs.Lines.{event_outcome}
 use Rattle.pif_model.specs.Table.{Table, new_table}
 use Rattle.pif_text.specs.declared.commands.Command.{Command}
-use Rattle.pif_text.specs.declared.commands.Command.TheVariants.{Limits, Thread, Mutex, Begin, Go, Call, Finish, Word, Prio, Pick}
+use Rattle.pif_text.specs.declared.commands.Command.TheVariants.{Limits, Thread, Mutex, Begin, Go, End as EndThread, Call, Finish, Word, Health, Prio, Pick}
 use Rattle.pif_text.specs.declared.replies.Cause.{Cause}
 use Rattle.pif_text.specs.declared.replies.Cause.TheVariants.{Command as NoCommand}
 use Rattle.pif_text.specs.declared.replies.Reply.{Reply}
 use Rattle.pif_text.specs.declared.replies.Reply.TheVariants as reply
 use Rattle.pif_text.specs.Commands.{command_in}
-use Rattle.pif_text.specs.CommandTexts.{IsWritten, command_text, mutex_text}
+use Rattle.pif_text.specs.CommandTexts.{IsWritten, command_text}
 use Rattle.pif_text.specs.Replies.{text_of}
 use Rattle.pif_text.specs.Traces.{IsTraced, header_text, parts_of, recorded, same_of}
 use Rattle.pif_scripts.specs.declared.faults.CliFault.{CliFault}
@@ -33,12 +33,14 @@ use Rattle.pif_scripts.specs.Running.{Answer, answer_or_fault, command_answer, f
 abbrev pub if_traced : Command → Option Command
 if_traced (Limits t m c n) = Some (Limits t m c n)
 if_traced (Thread p) = Some (Thread p)
-if_traced (Mutex k) = Some (Mutex k)
+if_traced (Mutex k robust) = Some (Mutex k robust)
 if_traced (Begin t q) = Some (Begin t q)
 if_traced (Go t) = Some (Go t)
+if_traced (EndThread t) = Some (EndThread t)
 if_traced (Call t q) = None
 if_traced (Finish t) = None
 if_traced (Word m) = None
+if_traced (Health m) = None
 if_traced (Prio t) = None
 if_traced Pick = None
 
@@ -130,11 +132,12 @@ ReplaysTo before after held holds result =
 abbrev pub event_command : Event → Command
 event_command (BeginEvent t q) = Begin t q
 event_command (GoEvent t) = Go t
+event_command (EndEvent t) = EndThread t
 
 -- an entry of a history as a command and the answer to it
 unfoldable pub entry_text : Entry → List ℕ
 entry_text (AddedThread t p) = command_text (Thread p) ++ recorded (reply.Thread t)
-entry_text (AddedMutex m k robust) = mutex_text k robust ++ recorded (reply.Mutex m)
+entry_text (AddedMutex m k robust) = command_text (Mutex k robust) ++ recorded (reply.Mutex m)
 entry_text (Step e seen) = command_text (event_command e) ++ recorded (reply_of_seen seen)
 
 -- limits as the command that names them, and the answer to it
@@ -158,7 +161,7 @@ trace b entries = front_lines b ++ flat_map entry_line entries
 -- the command that an entry asks for
 abbrev pub entry_command : Entry → Command
 entry_command (AddedThread t p) = Thread p
-entry_command (AddedMutex m k robust) = Mutex k
+entry_command (AddedMutex m k robust) = Mutex k robust
 entry_command (Step e seen) = event_command e
 
 -- the answer that an entry records
@@ -171,13 +174,13 @@ entry_reply (Step e seen) = reply_of_seen seen
 abbrev pub IsEntryWritten : Entry → Type 0
 IsEntryWritten e = IsWritten (entry_command e) × IsTraced (entry_reply e)
 
--- what a core that stands at s did and was answered, entry by entry in order; no mutex is robust yet
+-- what a core that stands at s did and was answered, entry by entry in order
 abbrev pub IsHistory : Table → List Entry → Type 0
 IsHistory s [] = Unit {0}
 IsHistory s (AddedThread t p ∷ entries) =
     (add_thread_answer p s ≡ Ok t) × IsHistory (add_thread_after p (Ok t) s) entries
 IsHistory s (AddedMutex m k robust ∷ entries) =
-    (robust ≡ false) × (add_mutex_answer s ≡ Ok m) × IsHistory (add_mutex_after k false (Ok m) s) entries
+    (add_mutex_answer s ≡ Ok m) × IsHistory (add_mutex_after k robust (Ok m) s) entries
 IsHistory s (Step e seen ∷ entries) = ((event_outcome e s).seen ≡ seen) × IsHistory (event_outcome e s).after entries
 
 -- the trace of what a core under these limits did is the same when it is replayed, as long as it is no larger than a

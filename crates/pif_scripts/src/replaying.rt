@@ -32,6 +32,7 @@ fn if_traced(command: Command) -> Option<Command>
         Command::Call(..) => None,
         Command::Finish(_) => None,
         Command::Word(_) => None,
+        Command::Health(_) => None,
         Command::Prio(_) => None,
         Command::Pick => None,
         traced => Some(traced),

@@ -3,12 +3,12 @@ ghost use Rattle.arrayvec.specs.ArrayVec.{array_vec_len};
 ghost use Rattle.pif_types.specs.Bounds.{Bounds};
 ghost use Rattle.pif_model.specs.Table.{new_table};
 ghost use Rattle.pif_text.specs.Replies.{text_of};
-ghost use Rattle.pif_scripts.specs.Running.{reply_of_seen, finish_outcome, call_outcome, reply_of_thread, reply_of_mutex, reply_of_word, reply_of_priority, command_answer, default_limits, script, first_answer, limited_answer, answer_or_fault, IsAnswer, Makes};
+ghost use Rattle.pif_scripts.specs.Running.{reply_of_seen, finish_outcome, call_outcome, reply_of_thread, reply_of_mutex, reply_of_word, reply_of_health, was_added, reply_of_priority, command_answer, default_limits, script, first_answer, limited_answer, answer_or_fault, IsAnswer, Makes};
 
 use crate::reading::{ANSWER_ROOM, Ending, Listener, OUTPUT_ROOM, OpenFault, Output, append};
 use pif_core::{Core, Event, Seen};
 use pif_text::{Cause, Command, Reply, Text, command_of, reply_text};
-use pif_types::{AddFault, Limits, MutexId, Prio, Refusal, Request, Tid};
+use pif_types::{AddFault, Health, Limits, MutexId, Prio, Refusal, Request, Tid};
 use std::alloc::Global;
 
 /// The reply that says what an event was answered.
@@ -20,6 +20,7 @@ pub fn reply_of_seen(seen: Seen) -> Reply
         Seen::Went => Reply::Went,
         Seen::Waits => Reply::Waits,
         Seen::Answered(answer) => Reply::Answer(answer),
+        Seen::Ended => Reply::Ended,
         Seen::Refused(refusal) => Reply::Refused(refusal),
     }
 }
@@ -51,12 +52,33 @@ fn reply_of_word(word: Option<u32>) -> Reply
     }
 }
 
-fn reply_of_priority(priority: Option<Prio>) -> Reply
-    ensures { result ≡ reply_of_priority priority }
+fn reply_of_health(health: Option<Health>) -> Reply
+    ensures { result ≡ reply_of_health health }
+{
+    match health {
+        Some(health) => Reply::Health(health),
+        None => Reply::Refused(Refusal::NoSuch),
+    }
+}
+
+/// Whether a thread of this number was ever added.
+fn was_added(core: &Core, thread: Tid) -> bool
+    ensures { result ≡ was_added thread core.now }
+{
+    thread.get() <= core.threads()
+}
+
+/// The priority that a thread runs at; one that was added and runs at none has ended.
+fn reply_of_priority(priority: Option<Prio>, added: bool) -> Reply
+    ensures { result ≡ reply_of_priority priority added }
 {
     match priority {
         Some(priority) => Reply::Priority(priority),
-        None => Reply::Refused(Refusal::NoSuch),
+        None => if added {
+            Reply::Dead
+        } else {
+            Reply::Refused(Refusal::NoSuch)
+        },
     }
 }
 
@@ -98,15 +120,19 @@ pub fn obey(core: &mut Core, command: Command) -> Option<Reply>
     match command {
         Command::Limits(..) => None,
         Command::Thread(priority) => Some(reply_of_thread(core.add_thread(priority))),
-        Command::Mutex(kind) => Some(reply_of_mutex(core.add_mutex(kind, false))),
+        Command::Mutex(kind, robust) => Some(reply_of_mutex(core.add_mutex(kind, robust))),
         Command::Begin(thread, request) => {
             Some(reply_of_seen(core.step(Event::Begin(thread, request))))
         }
         Command::Go(thread) => Some(reply_of_seen(core.step(Event::Go(thread)))),
+        Command::End(thread) => Some(reply_of_seen(core.step(Event::End(thread)))),
         Command::Call(thread, request) => Some(reply_of_seen(call(core, thread, request))),
         Command::Finish(thread) => Some(reply_of_seen(finish(core, thread))),
         Command::Word(mutex) => Some(reply_of_word(core.word(mutex))),
-        Command::Prio(thread) => Some(reply_of_priority(core.effective(thread))),
+        Command::Health(mutex) => Some(reply_of_health(core.health(mutex))),
+        Command::Prio(thread) => {
+            Some(reply_of_priority(core.effective(thread), was_added(core, thread)))
+        }
         Command::Pick => Some(Reply::Picked(core.pick())),
     }
 }

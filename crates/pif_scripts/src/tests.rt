@@ -1,7 +1,9 @@
 mod chains;
+mod deaths;
 mod kinds;
 mod limits;
 mod reading;
+mod robust;
 mod streams;
 mod traces;
 

@@ -9,7 +9,7 @@ use crate::writing::write_whole;
 use pif_core::{Entry, Event};
 use pif_text::{
     COMMAND_ROOM, Command, RECORDED_ROOM, Reply, TEXT_ROOM, Text, command_text, header_text,
-    mutex_text, recorded_text,
+    recorded_text,
 };
 use pif_types::Limits;
 use std::io::Write;
@@ -24,6 +24,7 @@ fn event_command(event: Event) -> Command
     match event {
         Event::Begin(thread, request) => Command::Begin(thread, request),
         Event::Go(thread) => Command::Go(thread),
+        Event::End(thread) => Command::End(thread),
     }
 }
 
@@ -40,7 +41,7 @@ fn append_entry(entry: Entry, text: &mut Text)
             recorded_text(Reply::Thread(thread), text);
         }
         Entry::Mutex(mutex, kind, robust) => {
-            mutex_text(kind, robust, text);
+            command_text(Command::Mutex(kind, robust), text);
             recorded_text(Reply::Mutex(mutex), text);
         }
         Entry::Step(event, seen) => {

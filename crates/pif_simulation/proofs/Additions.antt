@@ -1,15 +1,19 @@
 -- The empty table, which is sound and shows the empty world; and lists with one more.
-use Rattle.std.proofs.Common.{◌≡◌, ◌≢◌, ◌⊎◌, inl, inr, ℕ, zero, suc, ◌<◌, ◌≤◌, ◌+◌, true, false, ◌==◌, nat_lt, List, [], ◌∷◌, ◌++◌, length, get_or, replicate, None, refl, sym, ap, ◌∙◌, arith, if◌then◌else◌}
+use Rattle.std.proofs.Common.{◌≡◌, ◌≢◌, ◌⊎◌, inl, inr, ℕ, zero, suc, ◌<◌, ◌≤◌, ◌+◌, true, false, ◌==◌, nat_lt, List, [], ◌∷◌, ◌++◌, length, get_or, replicate, None, refl, sym, ◌∙◌, arith, if◌then◌else◌}
 use Rattle.std.proofs.lemmas.Bool.{cases_lt}
 use Rattle.std.proofs.lemmas.Bool.Decides.{nat_tests}
 use Rattle.std.proofs.lemmas.List.{length_push, get_or_append_left, get_or_past, get_or-replicate, length-replicate}
 use Rattle.pif_types.specs.Bounds.{Bounds, IsWithin}
 use Rattle.pif_types.specs.declared.requests.Kind.TheVariants.{Normal}
-use Rattle.pif_model.specs.Word.{Word, free_word}
+use Rattle.pif_model.specs.Word.{free_word, free_words, word_at, health_word_at}
+use Rattle.pif_model.specs.RobustList.{no_robust_row}
+use Rattle.pif_model.specs.PiKernel.{new_kernel}
+use Rattle.pif_model.specs.declared.lines.Line.TheVariants.{Idle}
 use Rattle.pif_model.specs.Posix.{empty_world, nobody, no_mutex}
 use Rattle.pif_model.specs.Table.{new_table}
 use Rattle.pif_model.specs.Standing.{no_shadow, health_of, thread_shown, mutex_shown, world_of, IsShaped, IsSound}
 use Rattle.pif_chains.proofs.Numbers.{above_0, below}
+use Rattle.pif_chains.proofs.KernelFacts.{living-added}
 use Rattle.pif_chains.proofs.KernelKept.{new_kernel_kept}
 use Rattle.pif_simulation.proofs.Shown.{threads_shown, mutexes_shown, thread_seen, mutex_seen, same_world}
 
@@ -19,13 +23,18 @@ use Rattle.pif_simulation.proofs.Shown.{threads_shown, mutexes_shown, thread_see
 none_below_1 : (t : ℕ) → (if t == 0 then false else nat_lt t 1) ≡ true → ⊥
 none_below_1 t h = above_0 t 1 h (let b = below t 1 h in omega arith)
 
--- every word is free at first
-all_free : (n m : ℕ) → get_or (replicate n free_word) m free_word ≡ free_word
-all_free n m = go (cases_lt m n)
+-- what stands at each place at first
+all_same : {A : Type 0} (n m : ℕ) (x : A) → get_or (replicate n x) m x ≡ x
+all_same n m x = go (cases_lt m n)
   where
-    go : (m < n) ⊎ (n ≤ m) → get_or (replicate n free_word) m free_word ≡ free_word
-    go (inl l) = get_or-replicate n m free_word free_word l
-    go (inr k) = get_or_past (replicate n free_word) m free_word (omega (arith, length-replicate n free_word))
+    go : (m < n) ⊎ (n ≤ m) → get_or (replicate n x) m x ≡ x
+    go (inl l) = get_or-replicate n m x x l
+    go (inr k) = get_or_past (replicate n x) m x (omega (arith, length-replicate n x))
+
+-- nobody has a line at first
+no_line : (t : ℕ) → get_or (Idle ∷ []) t Idle ≡ Idle
+no_line zero = refl
+no_line (suc t) = refl
 
 -- a number is not below one that is no greater
 not_below : (t n : ℕ) → n ≤ t → (if t == 0 then false else nat_lt t n) ≡ false
@@ -40,15 +49,20 @@ new_sound l within = record {
       within = within;
       lines = refl;
       nobody = refl;
+      lists = length-replicate (l.threads + 1) no_robust_row;
       some_mutex = omega arith;
       few_mutexes = omega arith;
       no_mutex = refl;
       words = length-replicate (l.mutexes + 1) free_word;
-      no_word = all_free (l.mutexes + 1) 0;
-      unmade = λ m e. (all_free (l.mutexes + 1) m, refl);
+      healths = length-replicate (l.mutexes + 1) 0;
+      no_word = all_same (l.mutexes + 1) 0 free_word;
+      no_health = all_same (l.mutexes + 1) 0 0;
+      unmade = λ m e. (all_same (l.mutexes + 1) m free_word, all_same (l.mutexes + 1) m 0, refl);
     };
     mutexes = λ m e. absurd (none_below_1 m e);
-    threads = λ t e out. absurd (none_below_1 t e);
+    alive = λ m e. absurd (none_below_1 m e);
+    threads = λ t e out. absurd (none_below_1 t (living-added (new_kernel l) t e));
+    absent = λ t e out. record { line = no_line t; list = all_same (l.threads + 1) t no_robust_row };
   };
   kernel = new_kernel_kept l;
 }
@@ -64,23 +78,35 @@ new_seen l within = same_world (world_of (new_table l) no_shadow) empty_world (t
 
     first_thread : (t : ℕ) → thread_shown (new_table l) t ≡ get_or (nobody ∷ []) t nobody
     first_thread zero = refl
-    first_thread (suc t) = (λ i. record { base = 0; living = not_below (suc t) 1 (omega arith) i; call = None })
+    first_thread (suc t) = (λ i. record {
+      base = 0;
+      living = if not_below (suc t) 1
+          (omega arith) i then true else false;
+      call = None;
+    })
+
+    at_first : (m : ℕ) → record {
+      kind = Normal;
+      robust = false;
+      owner = (word_at (free_words l) m).number;
+      count = 1;
+      health = health_of (health_word_at (free_words l) m) (word_at (free_words l) m).died;
+    } ≡ no_mutex
+    at_first m =
+        let w = all_same (l.mutexes + 1) m free_word in
+        let h = all_same (l.mutexes + 1) m 0 in
+        (λ i. record {
+          kind = Normal;
+          robust = false;
+          owner = (w i).number;
+          count = 1;
+          health = health_of (h i)
+              (w i).died;
+        })
 
     first_mutex : (m : ℕ) → mutex_shown (new_table l) m ≡ get_or (no_mutex ∷ []) m no_mutex
-    first_mutex zero = ap (λ (w : Word). record {
-      kind = Normal;
-      robust = false;
-      owner = w.number;
-      count = 1;
-      health = health_of w.died;
-    }) (all_free (l.mutexes + 1) 0)
-    first_mutex (suc m) = ap (λ (w : Word). record {
-      kind = Normal;
-      robust = false;
-      owner = w.number;
-      count = 1;
-      health = health_of w.died;
-    }) (all_free (l.mutexes + 1) (suc m))
+    first_mutex zero = at_first 0
+    first_mutex (suc m) = at_first (suc m)
 
 -- ONE MORE
 

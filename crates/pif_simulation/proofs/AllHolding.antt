@@ -1,21 +1,23 @@
 -- The invariant of all threads in a state of the POSIX machine, and what keeps it, one lemma for each kind of change: a
 -- thread's call comes further; it writes its mutex; it joins the waiters; it takes its mutex; it gives that up, and the
--- mutex passes on; or all threads stay as they were.
+-- mutex passes on; a mutex has another health; or all threads stay as they were. And what is left of an ended thread.
 use Rattle.std.proofs.Common.{◌≡◌, ◌≢◌, ◌⊎◌, ◌<◌, ◌≤◌, ℕ, Bool, true, false, ◌==◌, List, [], ◌∷◌, ◌++◌, length, get_or, set, Option, Some, None, refl, sym, ap, ◌∙◌, subst, inl, inr, arith, if◌then◌else◌}
 use Rattle.std.proofs.Math.Path.{fun_ext}
 use Rattle.std.proofs.lemmas.Bool.{true≢false, cases_eq, cases_Bool, cases_lt}
 use Rattle.std.proofs.lemmas.Bool.Decides.{nat_tests}
-use Rattle.std.proofs.lemmas.List.{set-set, length-set, get_or_past}
+use Rattle.std.proofs.lemmas.List.{set-set, set-get_or, length-set, get_or_past}
 use Rattle.pif_types.specs.declared.requests.Request.{Request}
-use Rattle.pif_types.specs.declared.requests.Request.TheVariants.{Lock, TryLock, Unlock, SetPrio}
+use Rattle.pif_types.specs.declared.requests.Request.TheVariants.{Lock, TryLock, Unlock, Consistent, SetPrio}
 use Rattle.pif_model.specs.Graph.{without}
-use Rattle.pif_model.specs.Posix.{Health, Progress, Call, Thread, Mutex, World, nobody, no_mutex, thread_at, mutex_at, is_thread, is_living, is_mutex, with_thread, with_mutex, with_progress, call_at_progress, on_taking, taken, named_by, Passes}
+use Rattle.pif_model.specs.Posix.{Health, Progress, Call, Thread, Mutex, World, nobody, no_mutex, thread_at, mutex_at, is_thread, is_living, is_mutex, with_thread, with_mutex, with_progress, progressed, on_taking, taken, with_health, on_death, named_by, Passes, Releases}
 use Rattle.pif_model.specs.Posix.Health.{Fine, Inconsistent, Unusable}
 use Rattle.pif_model.specs.Posix.Progress.{Fresh, Waiting}
 use Rattle.pif_model.specs.Posix.Passes.{to_nobody, to_next}
+use Rattle.pif_model.specs.Posix.Releases.{none_left, one_more}
 use Rattle.pif_model.specs.Standing.{waited_in}
 use Rattle.pif_chains.proofs.Among.{is_among, is_among-without, is_among_push, next_is_among}
 use Rattle.pif_chains.proofs.Numbers.{from_within, within}
+use Rattle.pif_chains.proofs.Places.{kept_at}
 use Rattle.pif_simulation.proofs.Worlds.{call_of, owner_of, call-with_progress, call-with_thread_other, living-with_thread, mutex-with_mutex, mutex-with_mutex_other, is_mutex-with_mutex, is_thread-with_thread}
 use Rattle.pif_simulation.proofs.Holding.{View, Holding, IsWaiting, Stays, Counted, same_progress, Holding-stays, Holding-moves}
 
@@ -32,12 +34,11 @@ view_of w t = record {
   among = is_among w.waiters t;
 }
 
--- at place 0 nobody lives and nothing is owned; who was added lives, since no thread ends yet; and owners were added
+-- at place 0 nobody lives and nothing is owned, and owners were added
 pub record IsOrderly (w : World) : Type 0 where
   pub room : 0 < length w.threads
   pub nobody : is_living w 0 ≡ false
   pub no_mutex : owner_of w 0 ≡ 0
-  pub living : (t : ℕ) → is_thread w t ≡ true → is_living w t ≡ true
   pub owners : (m : ℕ) → owner_of w m ≢ 0 → is_thread w (owner_of w m) ≡ true
 
 -- the invariant of a state, over a history's open calls and hold counts
@@ -47,14 +48,13 @@ pub record IsHeld (f : ℕ → Option Request) (counts : ℕ → ℕ → ℕ) (w
 
 -- ORDER
 
--- a thread is written that lives as it did
-pub IsOrderly-with_thread : (w : World) (t : ℕ) (x : Thread) → IsOrderly w → x.living ≡ is_living w t
-    → IsOrderly (with_thread t x w)
+-- a thread is written, and at place 0 still nobody lives
+pub IsOrderly-with_thread : (w : World) (t : ℕ) (x : Thread) → IsOrderly w
+    → is_living (with_thread t x w) 0 ≡ is_living w 0 → IsOrderly (with_thread t x w)
 IsOrderly-with_thread w t x h lives =
     record {
       room = omega (arith, h.room, length-set w.threads t x);
-      living = λ u k. living-with_thread w t x lives u ∙ h.living u (sym (is_thread-with_thread w t x u) ∙ k);
-      nobody = living-with_thread w t x lives 0 ∙ h.nobody;
+      nobody = lives ∙ h.nobody;
       no_mutex = h.no_mutex;
       owners = λ m n. is_thread-with_thread w t x (owner_of w m) ∙ h.owners m n;
     }
@@ -65,7 +65,6 @@ pub IsOrderly-with_mutex : (w : World) (m : ℕ) (z : Mutex) → IsOrderly w →
 IsOrderly-with_mutex w m z h known added =
     record {
       room = h.room;
-      living = h.living;
       nobody = h.nobody;
       no_mutex = ap (λ (y : Mutex). y.owner) (mutex-with_mutex_other w m z 0 (λ e. place.0 (sym e))) ∙ h.no_mutex;
       owners = λ n. by_place n (cases_eq n m);
@@ -83,9 +82,9 @@ IsOrderly-with_mutex w m z h known added =
     by_place n (inr d) = subst OwnerAdded (sym (mutex-with_mutex_other w m z n d)) (h.owners n)
 
 -- other waiters change nothing
-IsOrderly-waiters : (w : World) (ws : List (ℕ × ℕ)) → IsOrderly w → IsOrderly (record w { waiters = ws })
+pub IsOrderly-waiters : (w : World) (ws : List (ℕ × ℕ)) → IsOrderly w → IsOrderly (record w { waiters = ws })
 IsOrderly-waiters w ws h =
-    record { room = h.room; nobody = h.nobody; no_mutex = h.no_mutex; living = h.living; owners = h.owners }
+    record { room = h.room; nobody = h.nobody; no_mutex = h.no_mutex; owners = h.owners }
 
 -- WHO ACTS
 
@@ -149,7 +148,7 @@ IsHeld-stays h orderly grows all =
 
 -- The mutexes ms and the waiters ws, where t's call of q goes on from a to b: t holds of its call's mutex what the call
 -- then says, and all else is held as before; of the waiters none is new but t.
-record Moved (w : World) (t : ℕ) (q : Request) (a b : Progress) (ms : List Mutex) (ws : List (ℕ × ℕ)) : Type 0 where
+record MovesTo (w : World) (t : ℕ) (q : Request) (a b : Progress) (ms : List Mutex) (ws : List (ℕ × ℕ)) : Type 0 where
   orderly : IsOrderly (record w { mutexes = ms })
   same : (m : ℕ) → is_mutex (record w { mutexes = ms }) m ≡ is_mutex w m
   theirs : (x m : ℕ) → (x ≢ t) ⊎ (named_by q ≢ m)
@@ -166,11 +165,11 @@ module _ {f : ℕ → Option Request} {counts : ℕ → ℕ → ℕ} {w : World}
   actor_lives = caller_lives h t (record { request = q; progress = a }) k.call
 
   -- t's call comes further, among these mutexes and waiters
-  IsHeld-moves : (b : Progress) (ms : List Mutex) (ws : List (ℕ × ℕ)) → Moved w t q a b ms ws
+  IsHeld-moves : (b : Progress) (ms : List Mutex) (ws : List (ℕ × ℕ)) → MovesTo w t q a b ms ws
       → IsHeld f counts (record (with_progress t b w) { mutexes = ms; waiters = ws })
   IsHeld-moves b ms ws s =
       IsHeld-but t h
-      (IsOrderly-with_thread among t further (IsOrderly-waiters (record w { mutexes = ms }) ws s.orderly) refl)
+      (IsOrderly-with_thread among t further (IsOrderly-waiters (record w { mutexes = ms }) ws s.orderly) (lives 0))
       (λ m e. s.same m ∙ e)
       (λ x d. (
         refl,
@@ -185,7 +184,7 @@ module _ {f : ℕ → Option Request} {counts : ℕ → ℕ → ℕ} {w : World}
       (subst (λ known. Holding (f t) (counts t) known (view_of v t)) (fun_ext (λ m. sym (s.same m)))
       (Holding-moves {q = q} {a = a} {b = b} (h.each t) (record {
         before = k.call;
-        after = call-with_progress w t b ∙ ap (call_at_progress b) k.call;
+        after = call-with_progress w t b ∙ ap (progressed b) k.call;
         living = lives t;
         waits = s.joined;
         others = λ m d. ap (λ l. times_held l t (get_or ms m no_mutex)) (lives t) ∙ s.theirs t m (inr d);
@@ -194,7 +193,7 @@ module _ {f : ℕ → Option Request} {counts : ℕ → ℕ → ℕ} {w : World}
       })))
     where
       further : Thread
-      further = record (thread_at w t) { call = call_at_progress b (thread_at w t).call }
+      further = record (thread_at w t) { call = progressed b (thread_at w t).call }
 
       among : World
       among = record w { mutexes = ms; waiters = ws }
@@ -285,8 +284,8 @@ abbrev pub MayTake : Request → Progress → Type 0
 MayTake q a = (n : ℕ) (x : Health) → Counted q a n 0 → Counted q (on_taking x) n 1
 
 -- m has no owner
-abbrev pub freed : ℕ → World → World
-freed m w = with_mutex m (record (mutex_at w m) { owner = 0; count = 1 }) w
+abbrev pub without_owner : ℕ → World → World
+without_owner m w = with_mutex m (record (mutex_at w m) { owner = 0; count = 1 }) w
 
 module _ {f : ℕ → Option Request} {counts : ℕ → ℕ → ℕ} {w : World} (h : IsHeld f counts w) {t : ℕ} {q : Request}
     {a : Progress} (k : IsActing w t q a) (known : is_mutex w (named_by q) ≡ true) where
@@ -322,9 +321,16 @@ module _ {f : ℕ → Option Request} {counts : ℕ → ℕ → ℕ} {w : World}
       none : (y : Mutex) → y.owner ≡ t → (x : ℕ) → x ≢ t → times_held (is_living w x) x y ≡ 0
       none y o x d = times-other (is_living w x) x y (λ e. d (sym e ∙ o))
 
+  -- its owner t holds it as often as before
+  pub IsHeld-owns : (b : Progress) → mutex.owner ≡ t → ((n : ℕ) → Counted q a n mutex.count → Counted q b n mutex.count)
+      → IsHeld f counts (with_progress t b w)
+  IsHeld-owns b own mine =
+      subst (λ (ms : List Mutex). IsHeld f counts (with_progress t b (record w { mutexes = ms })))
+      (set-get_or w.mutexes (named_by q) no_mutex) (IsHeld-counts b mutex.count own mine)
+
   -- its owner t, who holds it once, gives it up
   IsHeld-gives_up : (b : Progress) → mutex.owner ≡ t → mutex.count ≡ 1 → ((n : ℕ) → Counted q a n 1 → Counted q b n 0)
-      → IsHeld f counts (freed (named_by q) (with_progress t b w))
+      → IsHeld f counts (without_owner (named_by q) (with_progress t b w))
   IsHeld-gives_up b own once mine =
       IsHeld-writes h k b z known (λ n. absurd (n refl))
       (λ x d. times-free h.orderly x z refl ∙ sym (times-other (is_living w x) x mutex (λ e. d (sym e ∙ own))))
@@ -355,11 +361,12 @@ waiting_takes : (q : Request) (m : ℕ) → waited_in q ≡ m → m ≢ 0 → (n
 waiting_takes (Lock k) m e some = (e, (may_take k).1)
 waiting_takes (TryLock k) m e some = absurd (some (sym e))
 waiting_takes (Unlock k) m e some = absurd (some (sym e))
+waiting_takes (Consistent k) m e some = absurd (some (sym e))
 waiting_takes (SetPrio u p) m e some = absurd (some (sym e))
 
 -- m, which has no owner now, passes on
 pub IsHeld-Passes : {f : ℕ → Option Request} {counts : ℕ → ℕ → ℕ} {m : ℕ} {w v : World} → is_mutex w m ≡ true
-    → IsHeld f counts (freed m w) → Passes m w v → IsHeld f counts v
+    → IsHeld f counts (without_owner m w) → Passes m w v → IsHeld f counts v
 IsHeld-Passes known h (to_nobody none e) = rw e h
 IsHeld-Passes {f} {counts} {m} {w} {v} known h (to_next u next some e) = rw e (subst (IsHeld f counts) shown takes)
   where
@@ -378,11 +385,11 @@ IsHeld-Passes {f} {counts} {m} {w} {v} known h (to_next u next some e) = rw e (s
 
     -- u has left the waiters
     left : World
-    left = record (freed m w) { waiters = without w.waiters u }
+    left = record (without_owner m w) { waiters = without w.waiters u }
 
     IsHeld-left : IsHeld f counts left
     IsHeld-left =
-        IsHeld-stays h (IsOrderly-waiters (freed m w) (without w.waiters u) h.orderly) (λ n y. y)
+        IsHeld-stays h (IsOrderly-waiters (without_owner m w) (without w.waiters u) h.orderly) (λ n y. y)
         (λ x. record {
           call = refl;
           living = λ y. y;
@@ -419,3 +426,112 @@ pub IsHeld-releases : {f : ℕ → Option Request} {counts : ℕ → ℕ → ℕ
     → Passes (named_by q) (with_progress t b w) v → IsHeld f counts v
 IsHeld-releases {w = w} h {q = q} k known b own once mine passes =
     IsHeld-Passes known (IsHeld-gives_up h k known b own once mine) passes
+
+-- a mutex that is owned was added
+pub owned_is_mutex : (w : World) (m : ℕ) → IsOrderly w → owner_of w m ≢ 0 → is_mutex w m ≡ true
+owned_is_mutex w m h owned = from_within m (length w.mutexes) some (by_room (cases_lt m (length w.mutexes)))
+  where
+    some : m ≢ 0
+    some e = owned (ap (owner_of w) e ∙ h.no_mutex)
+
+    by_room : (m < length w.mutexes) ⊎ (length w.mutexes ≤ m) → m < length w.mutexes
+    by_room (inl l) = l
+    by_room (inr l) = absurd (owned (ap (λ (y : Mutex). y.owner) (get_or_past w.mutexes m no_mutex l)))
+
+-- who holds a mutex owns it, and it was added
+pub holder_is_owner : {w : World} → IsOrderly w → (t m : ℕ) → times_held (is_living w t) t (mutex_at w m) ≡ 1
+    → (owner_of w m ≡ t) × ((mutex_at w m).count ≡ 1) × (is_mutex w m ≡ true)
+holder_is_owner {w} h t m once = (own.0, own.1, owned_is_mutex w m h some)
+  where
+    own : (owner_of w m ≡ t) × ((mutex_at w m).count ≡ 1)
+    own = by_tests (is_living w t) (mutex_at w m) once
+      where
+        by_tests : (l : Bool) (y : Mutex) → times_held l t y ≡ 1 → (y.owner ≡ t) × (y.count ≡ 1)
+        by_tests l y e = grind (arith, nat_tests)
+
+    some : owner_of w m ≢ 0
+    some free =
+        let none : times_held (is_living w t) t (mutex_at w m) ≡ 0 = times-free h t (mutex_at w m) free in
+        omega arith
+
+-- another health of a mutex changes nothing
+pub IsHeld-with_health : {f : ℕ → Option Request} {counts : ℕ → ℕ → ℕ} {w : World} → IsHeld f counts w → (m : ℕ)
+    (x : Health) → IsHeld f counts (with_health m x w)
+IsHeld-with_health {w = w} h m x =
+    IsHeld-stays h
+    (record {
+      room = h.orderly.room;
+      nobody = h.orderly.nobody;
+      no_mutex = owners 0 ∙ h.orderly.no_mutex;
+      owners = λ n. subst (λ (o : ℕ). o ≢ 0 → is_thread w o ≡ true) (sym (owners n)) (h.orderly.owners n);
+    })
+    (λ n y. is_mutex-with_mutex w m z n ∙ y)
+    (λ t. record {
+      call = refl;
+      living = λ y. y;
+      held = λ n. kept_at (λ (y : Mutex). times_held (is_living w t) t y) w.mutexes m z no_mutex refl n;
+      fewer = λ n y. y;
+    })
+  where
+    z : Mutex
+    z = record (mutex_at w m) { health = x }
+
+    owners : (n : ℕ) → owner_of (with_health m x w) n ≡ owner_of w n
+    owners = kept_at (λ (y : Mutex). y.owner) w.mutexes m z no_mutex refl
+
+-- THE END OF A THREAD
+
+-- the mutex of an owner that doesn't live is held by nobody: it is given up
+pub IsHeld-frees : {f : ℕ → Option Request} {counts : ℕ → ℕ → ℕ} {w : World} → IsHeld f counts w → (m : ℕ)
+    → is_mutex w m ≡ true → is_living w (owner_of w m) ≡ false → IsHeld f counts (without_owner m w)
+IsHeld-frees {w = w} h m known dead =
+    IsHeld-stays h (IsOrderly-with_mutex w m z h.orderly known (λ n. absurd (n refl)))
+    (λ n y. is_mutex-with_mutex w m z n ∙ y)
+    (λ t. record {
+      call = refl;
+      living = λ y. y;
+      held = λ n. kept_at (λ (y : Mutex). times_held (is_living w t) t y) w.mutexes m z no_mutex (none t) n;
+      fewer = λ n y. y;
+    })
+  where
+    z : Mutex
+    z = record (mutex_at w m) { owner = 0; count = 1 }
+
+    of_dead : (t : ℕ) → (owner_of w m ≡ t) ⊎ (owner_of w m ≡ t → ⊥) → times_held (is_living w t) t (mutex_at w m) ≡ 0
+    of_dead t (inl e) = ap (λ l. times_held l t (mutex_at w m)) (ap (is_living w) (sym e) ∙ dead)
+    of_dead t (inr d) = times-other (is_living w t) t (mutex_at w m) d
+
+    none : (t : ℕ) → times_held (is_living w t) t z ≡ times_held (is_living w t) t (mutex_at w m)
+    none t = times-free h.orderly t z refl ∙ sym (of_dead t (cases_eq (owner_of w m) t))
+
+-- passing on changes nobody's life
+living-Passes : {m : ℕ} {w v : World} → Passes m w v → (t : ℕ) → is_living v t ≡ is_living w t
+living-Passes {m} {w} (to_nobody none e) t = ap (λ (u : World). is_living u t) e
+living-Passes {m} {w} (to_next u next some e) t =
+    ap (λ (x : World). is_living x t) e ∙ living-with_thread w u further refl t
+  where
+    further : Thread
+    further = record (thread_at w u) { call = progressed (on_taking (mutex_at w m).health) (thread_at w u).call }
+
+-- the robust mutexes of a thread that doesn't live pass on
+pub IsHeld-Releases : {f : ℕ → Option Request} {counts : ℕ → ℕ → ℕ} {t : ℕ} {w v : World} → IsHeld f counts w
+    → is_living w t ≡ false → t ≢ 0 → Releases t w v → IsHeld f counts v
+IsHeld-Releases h dead some (none_left rest e) = rw e h
+IsHeld-Releases {f} {counts} {t} h dead some (one_more {w = w} m own robust passes more) =
+    IsHeld-Releases (IsHeld-Passes known_later (IsHeld-frees healed m known_later dead_owner) passes)
+    (living-Passes passes t ∙ dead) some more
+  where
+    x : Health
+    x = on_death (mutex_at w m).health
+
+    healed : IsHeld f counts (with_health m x w)
+    healed = IsHeld-with_health h m x
+
+    z : Mutex
+    z = record (mutex_at w m) { health = x }
+
+    known_later : is_mutex (with_health m x w) m ≡ true
+    known_later = is_mutex-with_mutex w m z m ∙ owned_is_mutex w m h.orderly (λ e. some (sym own ∙ e))
+
+    dead_owner : is_living w (owner_of (with_health m x w) m) ≡ false
+    dead_owner = ap (is_living w) (kept_at (λ (y : Mutex). y.owner) w.mutexes m z no_mutex refl m ∙ own) ∙ dead

@@ -1,18 +1,19 @@
 -- Effects on one call and its mutex, with no list and no world in them; that they are effects of the POSIX machine.
-use Rattle.std.proofs.Common.{◌≡◌, ◌≢◌, ℕ, ◌<◌, ◌+◌, ◌-◌, Bool, false, Some, refl, sym, ap, ap₂, ◌∙◌, subst}
+use Rattle.std.proofs.Common.{◌≡◌, ◌≢◌, ℕ, ◌<◌, ◌+◌, ◌-◌, Bool, false, Some, refl, sym, ap, ap₂, ◌∙◌, subst, true}
 use Rattle.std.proofs.lemmas.List.{set-get_or}
 use Rattle.pif_types.specs.declared.requests.Kind.TheVariants.{ErrorCheck, Recursive}
 use Rattle.pif_types.specs.declared.requests.Request.{Request}
-use Rattle.pif_types.specs.declared.requests.Request.TheVariants.{Lock, TryLock, Unlock}
+use Rattle.pif_types.specs.declared.requests.Request.TheVariants.{Lock, TryLock, Unlock, Consistent}
 use Rattle.pif_model.specs.Graph.{has_waiter}
-use Rattle.pif_model.specs.Posix.{Progress, Mutex, World, Effect, Effects, LocksAgain, no_mutex, nobody, thread_at, mutex_at, with_thread, with_mutex, with_progress, call_at_progress, on_taking, taken, effective_of}
-use Rattle.pif_model.specs.Posix.Health.{Inconsistent}
-use Rattle.pif_model.specs.Posix.Progress.{Fresh, Has}
-use Rattle.pif_model.specs.Posix.Effect.{lock, try_lock, unlock}
+use Rattle.pif_model.specs.Posix.{Passes, named_by, with_health, Progress, Mutex, World, Effect, Effects, LocksAgain, no_mutex, nobody, thread_at, mutex_at, with_thread, with_mutex, with_progress, progressed, on_taking, taken, effective_of}
+use Rattle.pif_model.specs.Posix.Health.{Fine, Inconsistent, Unusable}
+use Rattle.pif_model.specs.Posix.Progress.{Fresh, Leaving, Has}
+use Rattle.pif_model.specs.Posix.Effect.{lock, try_lock, unlock, consistent, leave}
 use Rattle.pif_model.specs.Posix.Locks.{own_errorcheck, own_recursive as lock_own_recursive, free as lock_free}
 use Rattle.pif_model.specs.Posix.LocksAgain.{rises, at_limit}
 use Rattle.pif_model.specs.Posix.TriesToLock.{own_recursive as try_own_recursive, busy, free as try_free}
-use Rattle.pif_model.specs.Posix.Unlocks.{not_owner, falls, released}
+use Rattle.pif_model.specs.Posix.Unlocks.{not_owner, falls, becomes_unusable, released}
+use Rattle.pif_model.specs.Posix.MakesConsistent.{not_robust, not_owner as consistent_not_owner, not_inconsistent, made_fine}
 use Rattle.pif_model.specs.Posix.Passes.{to_nobody}
 use Rattle.pif_model.specs.Posix.Effects.{none, then as first}
 use Rattle.pif_simulation.proofs.Owning.{next_none}
@@ -40,68 +41,95 @@ pub data Does (t m : ℕ) (waited : Bool) (q : Request) (a : Progress) (y : Mute
   unlocks_not_own : q ≡ Unlock m → a ≡ Fresh → y.owner ≢ t → b ≡ Has 1 → z ≡ y → Does t m waited q a y b z
   unlocks_one : q ≡ Unlock m → a ≡ Fresh → y.owner ≡ t → 1 < y.count → b ≡ Has 0
       → z ≡ record y { count = y.count - 1 } → Does t m waited q a y b z
+  gives_up_inconsistent : q ≡ Unlock m → a ≡ Fresh → y.owner ≡ t → y.count ≡ 1 → y.health ≡ Inconsistent → b ≡ Fresh
+      → z ≡ record y { health = Unusable } → Does t m waited q a y b z
+  leaves : named_by q ≡ m → a ≡ Leaving → waited ≡ false → b ≡ Has 131 → z ≡ record y { owner = 0; count = 1 }
+      → Does t m waited q a y b z
+  consistent_stalled : q ≡ Consistent m → a ≡ Fresh → y.robust ≡ false → b ≡ Has 22 → z ≡ y → Does t m waited q a y b z
+  consistent_other : q ≡ Consistent m → a ≡ Fresh → y.robust ≡ true → y.owner ≢ t → b ≡ Has 1 → z ≡ y
+      → Does t m waited q a y b z
+  consistent_in_order : q ≡ Consistent m → a ≡ Fresh → y.robust ≡ true → y.owner ≡ t → y.health ≢ Inconsistent
+      → b ≡ Has 22 → z ≡ y → Does t m waited q a y b z
+  consistent_made : q ≡ Consistent m → a ≡ Fresh → y.robust ≡ true → y.owner ≡ t → y.health ≡ Inconsistent → b ≡ Has 0
+      → z ≡ record y { health = Fine } → Does t m waited q a y b z
   unlocks_own : q ≡ Unlock m → a ≡ Fresh → y.owner ≡ t → y.count ≡ 1 → y.health ≢ Inconsistent → waited ≡ false
       → b ≡ Has 0 → z ≡ record y { owner = 0; count = 1 } → Does t m waited q a y b z
 
 module _ (w : World) (t : ℕ) {q : Request} {a : Progress}
     (call : (thread_at w t).call ≡ Some (record { request = q; progress = a })) where
   -- the call, as a rule of the POSIX machine wants it
-  fresh_call : (r : Request) → q ≡ r → a ≡ Fresh → (thread_at w t).call
-      ≡ Some (record { request = r; progress = Fresh })
-  fresh_call r e f = call ∙ (λ i. Some (record { request = e i; progress = f i }))
+  called : (r : Request) → q ≡ r → a ≡ Fresh → (thread_at w t).call ≡ Some (record { request = r; progress = Fresh })
+  called r e f = call ∙ (λ i. Some (record { request = e i; progress = f i }))
 
   -- the call is what it was
   unmoved : with_progress t a w ≡ w
   unmoved =
-      ap (λ c. with_thread t (record (thread_at w t) { call = c }) w) (ap (call_at_progress a) call ∙ sym call)
+      ap (λ c. with_thread t (record (thread_at w t) { call = c }) w) (ap (progressed a) call ∙ sym call)
       ∙ (λ i. record w { threads = set-get_or w.threads t nobody i })
 
   -- a lock or a trylock by the owner of a RECURSIVE mutex
-  again : (m : ℕ) {v : World} → IsLocking m q → a ≡ Fresh → (mutex_at w m).owner ≡ t
-      → (mutex_at w m).kind ≡ Recursive → LocksAgain t m w v → Effect t w v
-  again m (by_lock r) n o k e = lock m (fresh_call (Lock m) r n) (lock_own_recursive o k e)
-  again m (by_try_lock r) n o k e = try_lock m (fresh_call (TryLock m) r n) (try_own_recursive o k e)
+  again : (m : ℕ) {v : World} → IsLocking m q → a ≡ Fresh → (mutex_at w m).owner ≡ t → (mutex_at w m).kind ≡ Recursive
+      → LocksAgain t m w v → Effect t w v
+  again m (by_lock r) n o k e = lock m (called (Lock m) r n) (lock_own_recursive o k e)
+  again m (by_try_lock r) n o k e = try_lock m (called (TryLock m) r n) (try_own_recursive o k e)
 
   -- a lock or a trylock of a free mutex
   takes_free : (m : ℕ) {v : World} → IsLocking m q → a ≡ Fresh → (mutex_at w m).owner ≢ t → (mutex_at w m).owner ≡ 0
       → v ≡ taken t m w → Effect t w v
-  takes_free m (by_lock r) n o k e = lock m (fresh_call (Lock m) r n) (lock_free o k e)
-  takes_free m (by_try_lock r) n o k e = try_lock m (fresh_call (TryLock m) r n) (try_free k e)
+  takes_free m (by_lock r) n o k e = lock m (called (Lock m) r n) (lock_free o k e)
+  takes_free m (by_try_lock r) n o k e = try_lock m (called (TryLock m) r n) (try_free k e)
 
 module _ (w : World) (t m : ℕ) {q : Request} {a b : Progress} {z : Mutex}
     (call : (thread_at w t).call ≡ Some (record { request = q; progress = a })) where
   -- the call has come as far as c, and the mutex is x
-  both : (c : Progress) (x : Mutex) → b ≡ c → z ≡ x → with_progress t b (with_mutex m z w)
-      ≡ with_progress t c (with_mutex m x w)
+  both : (c : Progress) (x : Mutex) → b ≡ c → z ≡ x → with_progress t b (with_mutex m z w) ≡ with_progress t c
+      (with_mutex m x w)
   both c x e f = ap₂ (λ d (y : Mutex). with_progress t d (with_mutex m y w)) e f
 
   -- the call has come as far as c, and the mutex is what it was
   alone : (c : Progress) → b ≡ c → z ≡ mutex_at w m → with_progress t b (with_mutex m z w) ≡ with_progress t c w
-  alone c e f = both c (mutex_at w m) e f
-      ∙ (λ i. with_progress t c (record w { mutexes = set-get_or w.mutexes m no_mutex i }))
+  alone c e f = both c (mutex_at w m) e f ∙ (λ i. with_progress t c
+      (record w { mutexes = set-get_or w.mutexes m no_mutex i }))
+
+  -- the call has had no effect on itself, and the mutex is Unusable
+  fresh_again : a ≡ Fresh → b ≡ Fresh → z ≡ record (mutex_at w m) { health = Unusable }
+      → with_progress t b (with_mutex m z w) ≡ with_health m Unusable w
+  fresh_again n e f = both a (record (mutex_at w m) { health = Unusable }) (e ∙ sym n) f
+      ∙ unmoved (with_health m Unusable w) t call
 
   -- effects on one call and its mutex are effects of the POSIX machine
   does_here : Does t m (has_waiter w.waiters m) q a (mutex_at w m) b z
       → Effects t w (with_progress t b (with_mutex m z w))
   does_here (nothing e f) = none (alone a e f ∙ unmoved w t call)
-  does_here (locks_own_errorcheck r n o k e f) = first
-      (lock m (fresh_call w t call (Lock m) r n) (own_errorcheck o k (alone (Has 35) e f))) (none refl)
-  does_here (locks_again r n o k l e f) =
-      first (again w t call m r n o k (rises l (both (Has 0)
-      (record (mutex_at w m) { count = (mutex_at w m).count + 1 }) e f))) (none refl)
+  does_here (locks_own_errorcheck r n o k e f) = first (lock m (called w t call (Lock m) r n)
+      (own_errorcheck o k (alone (Has 35) e f))) (none refl)
+  does_here (locks_again r n o k l e f) = first (again w t call m r n o k
+      (rises l (both (Has 0) (record (mutex_at w m) { count = (mutex_at w m).count + 1 }) e f))) (none refl)
   does_here (locks_at_limit r n o k l e f) = first (again w t call m r n o k (at_limit l (alone (Has 11) e f)))
       (none refl)
-  does_here (locks_free r n o k e f) =
-      first (takes_free w t call m r n o k (both (on_taking (mutex_at w m).health)
-      (record (mutex_at w m) { owner = t; count = 1 }) e f)) (none refl)
-  does_here (tries_owned r n o k e f) =
-      first (try_lock m (fresh_call w t call (TryLock m) r n) (busy o k (alone (Has 16) e f))) (none refl)
-  does_here (unlocks_not_own r n o e f) =
-      first (unlock m (fresh_call w t call (Unlock m) r n) (not_owner o (alone (Has 1) e f))) (none refl)
-  does_here (unlocks_one r n o l e f) =
-      first (unlock m (fresh_call w t call (Unlock m) r n)
+  does_here (locks_free r n o k e f) = first (takes_free w t call m r n o k
+      (both (on_taking (mutex_at w m).health) (record (mutex_at w m) { owner = t; count = 1 }) e f)) (none refl)
+  does_here (tries_owned r n o k e f) = first (try_lock m (called w t call (TryLock m) r n)
+      (busy o k (alone (Has 16) e f))) (none refl)
+  does_here (unlocks_not_own r n o e f) = first (unlock m (called w t call (Unlock m) r n)
+      (not_owner o (alone (Has 1) e f))) (none refl)
+  does_here (unlocks_one r n o l e f) = first (unlock m (called w t call (Unlock m) r n)
       (falls o l (both (Has 0) (record (mutex_at w m) { count = (mutex_at w m).count - 1 }) e f))) (none refl)
-  does_here (unlocks_own r n o c k u e f) = first (unlock m (fresh_call w t call (Unlock m) r n) (released o c k
+  does_here (gives_up_inconsistent r n o c k e f) = first
+      (unlock m (called w t call (Unlock m) r n) (becomes_unusable o c k (fresh_again n e f))) (none refl)
+  does_here (leaves r n u e f) = first (leave q (call ∙ (λ i. Some (record { request = q; progress = n i })))
+      (subst (λ j. Passes j (with_progress t (Has 131) w) (with_progress t b (with_mutex m z w))) (sym r)
+      (to_nobody (next_none (effective_of (with_progress t (Has 131) w)) w.waiters m u)
+      (both (Has 131) (record (mutex_at w m) { owner = 0; count = 1 }) e f)))) (none refl)
+  does_here (consistent_stalled r n o e f) = first (consistent m (called w t call (Consistent m) r n)
+      (not_robust o (alone (Has 22) e f))) (none refl)
+  does_here (consistent_other r n o k e f) = first (consistent m (called w t call (Consistent m) r n)
+      (consistent_not_owner o k (alone (Has 1) e f))) (none refl)
+  does_here (consistent_in_order r n o k l e f) = first
+      (consistent m (called w t call (Consistent m) r n) (not_inconsistent o k l (alone (Has 22) e f))) (none refl)
+  does_here (consistent_made r n o k l e f) = first (consistent m (called w t call (Consistent m) r n)
+      (made_fine o k l (both (Has 0) (record (mutex_at w m) { health = Fine }) e f))) (none refl)
+  does_here (unlocks_own r n o c k u e f) = first (unlock m (called w t call (Unlock m) r n) (released o c k
       (to_nobody (next_none (effective_of (with_progress t (Has 0) w)) w.waiters m u)
       (both (Has 0) (record (mutex_at w m) { owner = 0; count = 1 }) e f)))) (none refl)
 

@@ -1,55 +1,63 @@
--- The kernel hands a mutex on to its next waiter, while the thread that gave it up goes to another line: the table
--- stays sound, and the POSIX machine's mutex passes on.
-use Rattle.std.proofs.Common.{◌≡◌, ◌≢◌, ℕ, ◌<◌, true, false, ◌==◌, nat_lt, ◌⊎◌, inl, inr, length, Option, Some, refl, sym, ap, ap₂, ◌∙◌, subst, arith, if◌then◌else◌}
+-- The kernel hands a mutex on to its next waiter, where the thread that owned it gives it up or has ended: the table
+-- stays
+-- sound, save for that thread, and the POSIX machine's mutex passes on.
+use Rattle.std.proofs.Common.{◌≡◌, ◌≢◌, ℕ, ◌<◌, Bool, true, false, ◌==◌, ◌⊎◌, inl, inr, length, Some, refl, sym, ap, ap₂, ◌∙◌, subst, arith, if◌then◌else◌, eq-eqb}
 use Rattle.std.proofs.lemmas.Bool.{cases_eq, true≢false}
-use Rattle.std.proofs.lemmas.List.{length-set, get_or-set_same, get_or-set_other}
 use Rattle.pif_types.specs.declared.requests.Request.{Request}
-use Rattle.pif_types.specs.declared.requests.Request.TheVariants.{Lock, TryLock, Unlock, SetPrio}
+use Rattle.pif_types.specs.declared.requests.Request.TheVariants.{Lock, TryLock, Unlock, Consistent, SetPrio}
 use Rattle.pif_model.specs.declared.lines.Line.{Line}
-use Rattle.pif_model.specs.declared.lines.Line.TheVariants.{Idle, At}
-use Rattle.pif_model.specs.declared.lines.Place.{Place}
+use Rattle.pif_model.specs.declared.lines.Line.TheVariants.{At}
 use Rattle.pif_model.specs.declared.lines.Place.TheVariants.{LockQueued}
 use Rattle.pif_model.specs.declared.lines.Status.{Status}
-use Rattle.pif_model.specs.declared.lines.Status.TheVariants.{Ready, Queued, Stopped}
+use Rattle.pif_model.specs.declared.lines.Status.TheVariants.{Ready, Queued, Stopped, Ended}
 use Rattle.pif_model.specs.declared.lines.Woken.TheVariants.{Owns as WokenOwns}
 use Rattle.pif_model.specs.Graph.{has_waiter, without}
-use Rattle.pif_model.specs.Word.{hand_word, word_at}
-use Rattle.pif_model.specs.Posix.{Progress, Call, Thread, Mutex, World, nobody, no_mutex, named_by, thread_at, mutex_at, with_thread, with_progress, call_at_progress, taken, on_taking}
-use Rattle.pif_model.specs.PiKernel.{Kernel, Seat, no_seat, seat_at, state_at, is_ready, is_living, next_in, kernel_after_hand_over}
+use Rattle.pif_model.specs.Word.{Word, word_at, health_word_at}
+use Rattle.pif_model.specs.Posix.{World, named_by, thread_at, mutex_at, progressed, on_taking}
+use Rattle.pif_model.specs.PiKernel.{Kernel, IsKernel, Seat, seat_at, state_at, is_living, has_ended, next_in, kernel_after_hand_over}
+use Rattle.pif_model.specs.RobustList.{RobustRow, robust_at}
 use Rattle.pif_model.specs.Table.{Table, Cell, has_thread, has_mutex, status_at, line_at, library_at, cell_at}
-use Rattle.pif_model.specs.Standing.{Shadow, call_at, health_of, health_at, thread_shown, world_of, MeetsAll, needs, waited_in, LineIsSound, IsQueuedLine, CellIsSound, ThreadIsSound, IsSound}
-use Rattle.pif_chains.proofs.Waiting.{has_waiter-without_other}
+use Rattle.pif_model.specs.Standing.{Shadow, call_at, health_of, health_at, thread_shown, mutex_shown, world_of, MeetsAll, needs, waited_in, mutex_by, is_unsettled, LineIsSound, IsQueuedLine, CellIsSound, ListIsSound, ThreadIsSound, SoundBut}
+use Rattle.pif_chains.proofs.Waiting.{by_test, has_waiter-without_other}
 use Rattle.pif_chains.proofs.Numbers.{above_0, below}
 use Rattle.pif_chains.proofs.KernelFacts.{next-queued, next-added, next-waited, next-some}
 use Rattle.pif_chains.proofs.KernelKept.{hand_over_kept}
+use Rattle.pif_chains.proofs.KernelPlaces.{handed_limits, handed_length, handed_has, handed_seat_same, handed_seat_other, handed_state_other, handed_state_same, handed_waiters}
 use Rattle.pif_simulation.proofs.Kept.{held_once}
-use Rattle.pif_simulation.proofs.Hole.{Changes, change_kept, excuse, admit, admit_last, each_thread}
-use Rattle.pif_simulation.proofs.Shown.{threads_shown, mutexes_shown, thread_seen, mutex_seen}
-use Rattle.pif_simulation.proofs.Written.{table_after_write, cell_written, mutex_of, IsCallOn, changes, cell_here, line_here, line_there, thread_here, thread_there, shows}
-use Rattle.pif_simulation.proofs.Steps.{Going, going_lined}
-use Rattle.pif_simulation.proofs.Local.{KnowsAfter, known_named, ready-not_queued, going_cell}
+use Rattle.pif_simulation.proofs.Hole.{Changes, change_kept, excuse, admit}
+use Rattle.pif_simulation.proofs.Hole.MayBeAdmitted.{lives}
+use Rattle.pif_simulation.proofs.Written.{written, cell_written, IsCallOn, changes, cell_here, line_here, line_there, list_there, call_there, thread_here, thread_there, shows}
+use Rattle.pif_simulation.proofs.Local.{ListsAfter, lists_after, settled_after, known_named}
 
 -- a call that waits for a mutex names it
 waits-named : (q : Request) (m : ℕ) → m ≢ 0 → waited_in q ≡ m → named_by q ≡ m
 waits-named (Lock j) m n e = e
 waits-named (TryLock j) m n e = absurd (n (sym e))
 waits-named (Unlock j) m n e = absurd (n (sym e))
+waits-named (Consistent j) m n e = absurd (n (sym e))
 waits-named (SetPrio u p) m n e = absurd (n (sym e))
 
--- t, in its call q, gives up the mutex of that call, which it holds once and for which threads wait, and goes to the
--- line l
-pub record GivesUp (s : Table) (t : ℕ) (q : Request) (p : Place) (l : Line) : Type 0 where
-  pub going : Going s t q p
-  pub named : has_mutex s (named_by q) ≡ true
-  pub ready : is_ready (status_at s t) ≡ true
-  pub own : (cell_at s (named_by q)).word.number ≡ t
-  pub once : (cell_at s (named_by q)).count ≡ 1
-  pub state : state_at s.kernel (named_by q) ≢ 0
+-- t, which alone is excused, owns m, for which threads wait, and m is handed on: it gets this word and is held once,
+-- and t
+-- goes to this line and robust list
+pub record HandsOver (s : Table) (t m : ℕ) (l : Line) (r : RobustRow) (x : Word) : Type 0 where
+  pub sound : SoundBut (λ j. j ≡ t) s
+  pub kernel : IsKernel s.kernel
+  pub somebody : t ≢ 0
+  pub lined : t < length s.lines
+  pub row : t < length s.lists.threads
+  pub named : has_mutex s m ≡ true
+  pub own : (word_at s.words m).number ≡ t
+  pub unqueued : status_at s t ≢ Queued m
+  pub state : state_at s.kernel m ≢ 0
+  -- who ended had a robust mutex
+  pub living : (library_at s m).robust ≡ false → is_living s.kernel t ≡ true
+  pub number : x.number ≡ next_in s.kernel m
+  pub waiters : x.waiters ≡ true
+  pub stalled : (library_at s m).robust ≡ false → (x.died ≡ false) × (health_word_at s.words m ≡ 0)
+  pub disorder : health_word_at s.words m ≡ 1 → x.died ≡ true
 
-module _ {s : Table} {t : ℕ} {q : Request} {p : Place} {l : Line} (h : GivesUp s t q p l) where
-  abbrev m : ℕ
-  m = named_by q
-
+module _ {s : Table} {t m : ℕ} {l : Line} {r : RobustRow} {x : Word} (h : HandsOver s t m l r x) where
   -- who gets it
   abbrev pub u : ℕ
   u = next_in s.kernel m
@@ -58,21 +66,15 @@ module _ {s : Table} {t : ℕ} {q : Request} {p : Place} {l : Line} (h : GivesUp
   abbrev pub k : Kernel
   k = kernel_after_hand_over u m s.kernel
 
-  abbrev n : ℕ
-  n = (library_at s m).count
+  abbrev a : ℕ
+  a = health_word_at s.words m
 
   -- the table that is left
-  abbrev pub table_after_hand_over : Table
-  table_after_hand_over = table_after_write t m l (hand_word u) n k s
-
-  sound : IsSound s
-  sound = h.going.sound
+  abbrev pub handed : Table
+  handed = written t m l r x a 1 k s
 
   c : CellIsSound (has_thread s) (has_waiter s.kernel.waiters m) (cell_at s m)
-  c = going_cell h.going h.named
-
-  t0 : t ≢ 0
-  t0 = above_0 t (length s.kernel.seats) h.going.known
+  c = h.sound.mutexes m h.named
 
   m0 : m ≢ 0
   m0 = above_0 m (length s.mutexes) h.named
@@ -80,35 +82,52 @@ module _ {s : Table} {t : ℕ} {q : Request} {p : Place} {l : Line} (h : GivesUp
   ml : m < length s.mutexes
   ml = below m (length s.mutexes) h.named
 
-  -- the next waiter is another thread, which was added
+  -- the next waiter is another thread, which lives
   added : has_thread s u ≡ true
-  added = next-added s.kernel sound.kernel m h.state
+  added = next-added s.kernel h.kernel m h.state
 
   was_queued : status_at s u ≡ Queued m
-  was_queued = next-queued s.kernel sound.kernel m h.state
+  was_queued = next-queued s.kernel h.kernel m h.state
 
   pub other : u ≢ t
-  other e = true≢false (sym h.ready ∙ ap (λ j. is_ready (status_at s j)) (sym e) ∙ ap is_ready was_queued)
+  other e = h.unqueued (sym (ap (status_at s) e) ∙ was_queued)
+
+  u0 : u ≢ 0
+  u0 = next-some s.kernel h.kernel m h.state
+
+  living_u : is_living s.kernel u ≡ true
+  living_u = rw (added, was_queued) refl
+
+  -- it is sound
+  sound_u : ThreadIsSound s u
+  sound_u = h.sound.threads u living_u other
 
   -- it is at the place where it was queued
   queued_line : IsQueuedLine m (line_at s u)
-  queued_line = (each_thread sound u added).queue m was_queued
+  queued_line = sound_u.queue m was_queued
 
   -- the call in which it waits names the mutex
   waiter_named : named_by queued_line.request ≡ m
   waiter_named = waits-named queued_line.request m m0 queued_line.waits
 
-  -- what the kernel knows of it then
+  -- what the kernel knows of it then, and of the others
   seat_woken : seat_at k u ≡ record (seat_at s.kernel u) { status = Ready WokenOwns }
-  unfolding kernel_after_hand_over
-  seat_woken = get_or-set_same s.kernel.seats u (record (seat_at s.kernel u) { status = Ready WokenOwns }) no_seat
-      (below u (length s.kernel.seats) added)
+  seat_woken = handed_seat_same u m s.kernel added
 
-  -- and of the others
-  seat_kept : (j : ℕ) → j ≢ u → seat_at k j ≡ seat_at s.kernel j
-  unfolding kernel_after_hand_over
-  seat_kept j d = get_or-set_other s.kernel.seats u j
-      (record (seat_at s.kernel u) { status = Ready WokenOwns }) no_seat d
+  pub seat_kept : (j : ℕ) → j ≢ u → seat_at k j ≡ seat_at s.kernel j
+  seat_kept j d = handed_seat_other u m s.kernel j d
+
+  -- each lives that lived
+  ended_kept : (j : ℕ) → has_ended (seat_at k j).status ≡ has_ended (seat_at s.kernel j).status
+  ended_kept j = go (cases_eq j u)
+    where
+      go : (j ≡ u) ⊎ (j ≢ u) → has_ended (seat_at k j).status ≡ has_ended (seat_at s.kernel j).status
+      go (inl e) = subst (λ i. has_ended (seat_at k i).status ≡ has_ended (seat_at s.kernel i).status) (sym e)
+          (ap (λ (y : Seat). has_ended y.status) seat_woken ∙ sym (ap has_ended was_queued))
+      go (inr d) = ap (λ (y : Seat). has_ended y.status) (seat_kept j d)
+
+  pub living_kept : (j : ℕ) → is_living k j ≡ is_living s.kernel j
+  living_kept j = λ i. if handed_has u m s.kernel j i then (if ended_kept j i then false else true) else false
 
   -- the two threads that change
   abbrev Two : ℕ → Type 0
@@ -116,244 +135,239 @@ module _ {s : Table} {t : ℕ} {q : Request} {p : Place} {l : Line} (h : GivesUp
 
   -- it is a call on m by which the two change
   call : IsCallOn Two s.kernel k m
-  unfolding kernel_after_hand_over
   call = record {
-    limits = refl;
-    seats = length-set s.kernel.seats u (record (seat_at s.kernel u) { status = Ready WokenOwns });
-    status = λ j d. ap (λ (x : Seat). x.status) (get_or-set_other s.kernel.seats u j
-        (record (seat_at s.kernel u) { status = Ready WokenOwns }) no_seat (λ e. d (inr e)));
-    states = λ j d. get_or-set_other s.kernel.states m j
-        (if has_waiter (without s.kernel.waiters u) m then u else 0) 0 d;
-    waited = λ j d. has_waiter-without_other s.kernel.waiters u m j sound.kernel.once
-        (next-waited s.kernel sound.kernel m h.state) d;
+    limits = handed_limits u m s.kernel;
+    seats = handed_length u m s.kernel;
+    status = λ j d. ap (λ (y : Seat). y.status) (seat_kept j (λ e. d (inr e)));
+    living = living_kept;
+    states = λ j d. handed_state_other u m s.kernel j d;
+    waited = λ j d. ap (λ ws. has_waiter ws j) (handed_waiters u m s.kernel)
+        ∙ has_waiter-without_other s.kernel.waiters u m j h.kernel.once (next-waited s.kernel h.kernel m h.state) d;
   }
 
-  -- the owner state of m, and who waits
+  -- the owner state of m
   state_left : state_at k m ≡ (if has_waiter k.waiters m then u else 0)
-  unfolding kernel_after_hand_over
-  state_left = get_or-set_same s.kernel.states m (if has_waiter (without s.kernel.waiters u) m then u else 0) 0
-      (omega (arith, sound.kernel.shape.states, ml, sound.all.shape.few_mutexes, sound.all.shape.within.mutexes))
+  state_left =
+      handed_state_same u m s.kernel h.kernel (omega (
+        arith,
+        ml,
+        h.sound.shape.few_mutexes,
+        h.sound.shape.within.mutexes,
+      ))
+      ∙ ap (λ ws. if has_waiter ws m then u else 0) (sym (handed_waiters u m s.kernel))
 
-  -- who waits then
-  waiters_left : k.waiters ≡ without s.kernel.waiters u
-  unfolding kernel_after_hand_over
-  waiters_left = refl
+  -- m then
+  abbrev pub left : Cell
+  left = cell_written m x a 1 k s
 
   -- the mutex is sound then
-  cell_handed : CellIsSound (has_thread s) (has_waiter k.waiters m) (cell_written m (hand_word u) n k s)
+  cell_handed : CellIsSound (has_thread s) (has_waiter k.waiters m) left
   cell_handed = record {
-    stalled = c.stalled;
-    no_death = refl;
-    count = held_once (cell_at s m).kind u n h.once;
-    owner = λ z. added;
-    free = λ z. absurd (next-some s.kernel sound.kernel m h.state z);
-    state = state_left;
-    contended = λ z. refl;
+    count = held_once (cell_at s m).kind x.number 1 refl;
+    stalled = h.stalled;
+    owner = λ z. ap (has_thread s) h.number ∙ added;
+    free = λ z. absurd (u0 (sym h.number ∙ z));
+    clean = λ z. absurd (u0 (sym h.number ∙ z));
+    state = state_left ∙ ap (λ n. if has_waiter k.waiters m then n else 0) (sym h.number);
+    contended = λ z. h.waiters;
   }
 
   -- the change
-  change : Changes Two s table_after_hand_over m
-  change = changes s t m l (hand_word u) n k t0 (going_lined h.going) ml sound.all.shape (inl refl) call
-      (λ e. absurd (m0 e)) (λ e. cell_handed)
-      (λ j a d. record {
+  change : Changes Two s handed m
+  change = changes s t m l r x a 1 k h.somebody h.lined h.row ml h.sound.shape (inl refl) call (λ e. absurd (m0 e))
+      (λ e. cell_handed)
+      (λ e b z d. absurd (d (inr h.number)))
+      (λ j z d. record {
         kind = refl;
         robust = refl;
         owner = λ o. absurd (d (inl (sym o ∙ h.own)));
-        other = λ o z. d (inr (sym z));
-        count = λ o. refl;
-        ended = λ z e. absurd (true≢false (sym h.going.known ∙ ap (is_living s.kernel) (sym h.own) ∙ e));
+        other = λ o y. d (inr (sym y ∙ h.number));
+        same = λ o. absurd (d (inl (sym o ∙ h.own)));
+        ended = λ b z e. absurd (true≢false (sym (h.living b) ∙ ap (is_living s.kernel) (sym h.own) ∙ e));
       })
 
   -- t's line, and u's
-  line_t : line_at table_after_hand_over t ≡ l
-  line_t = line_here s t m l (hand_word u) n k t0 (going_lined h.going) ml sound.all.shape
+  pub line_t : line_at handed t ≡ l
+  line_t = line_here s t m l r x a 1 k h.somebody h.lined h.row ml h.sound.shape
 
-  line_u : line_at table_after_hand_over u ≡ At queued_line.request LockQueued
-  line_u = line_there s t m l (hand_word u) n k t0 (going_lined h.going) ml sound.all.shape u other ∙ queued_line.line
+  line_u : line_at handed u ≡ At queued_line.request LockQueued
+  line_u = line_there s t m l r x a 1 k h.somebody h.lined h.row ml h.sound.shape u other ∙ queued_line.line
+
+  list_u : robust_at handed.lists u ≡ robust_at s.lists u
+  list_u = list_there s t m l r x a 1 k h.somebody h.lined h.row ml h.sound.shape u other
 
   -- m then
-  cell_m : cell_at table_after_hand_over m ≡ cell_written m (hand_word u) n k s
-  cell_m = cell_here s t m l (hand_word u) n k t0 (going_lined h.going) ml sound.all.shape
+  pub cell_m : cell_at handed m ≡ left
+  cell_m = cell_here s t m l r x a 1 k h.somebody h.lined h.row ml h.sound.shape
 
-  -- the same threads live
-  living : is_living k ≡ is_living s.kernel
-  living = λ i j. if j == 0 then false else nat_lt j (call.seats i)
+  -- u's robust list: m, which is at an unlinked place, is not on it
+  row_u : ListIsSound s u (At queued_line.request LockQueued)
+  row_u = subst (ListIsSound s u) queued_line.line sound_u.list
 
-  -- what t knows then at its line
-  giver_knows : (b : Line) → KnowsAfter s t m (cell_written m (hand_word u) n k s) b
-      → LineIsSound table_after_hand_over t b
-  giver_knows Idle e = ap (λ (x : Seat). is_ready x.status) (seat_kept t (λ z. other (sym z))) ∙ e
-  giver_knows (At r b) e = record {
-    named = known_named (has_mutex table_after_hand_over) r (ap (has_mutex table_after_hand_over) e.0
-        ∙ change.mutexes m ∙ h.named);
-    belongs = e.1;
-    needs = subst (λ d. MeetsAll (is_living k) t (seat_at k t).status d (needs b))
-        (sym (ap (cell_at table_after_hand_over) e.0 ∙ cell_m))
-        (subst (λ f. MeetsAll f t (seat_at k t).status (cell_written m (hand_word u) n k s) (needs b)) (sym living)
-        (subst (λ x. MeetsAll (is_living s.kernel) t x (cell_written m (hand_word u) n k s) (needs b))
-        (sym (ap (λ (x : Seat). x.status) (seat_kept t (λ z. other (sym z))))) e.2));
+  m_of_line : (if m == named_by queued_line.request then false else true) ≡ false
+  m_of_line = ap (λ b. if b then false else true) (eq-eqb m (named_by queued_line.request) (sym waiter_named))
+
+  lists_u : ListsAfter s u m left (At queued_line.request LockQueued) (robust_at s.lists u)
+  lists_u = record {
+    pending = row_u.pending;
+    half_linked = row_u.half_linked;
+    others = λ j d. refl;
+    own = row_u.listed m ∙ never (if has_mutex s m then (if
+        (library_at s m).robust then (word_at s.words m).number == u else false) else false)
+        ∙ sym (never (if (library_at s m).robust then x.number == u else false));
+    settled = λ o d. absurd (d (sym waiter_named));
   }
-
-  -- t is sound then
-  giver_sound : KnowsAfter s t m (cell_written m (hand_word u) n k s) l → ThreadIsSound table_after_hand_over t
-  giver_sound e = record {
-    line = subst (LineIsSound table_after_hand_over t) (sym line_t) (giver_knows l e);
-    queue = λ j z. absurd (ready-not_queued (status_at s t) j h.ready
-        (sym (ap (λ (x : Seat). x.status) (seat_kept t (λ y. other (sym y)))) ∙ z));
-  }
+    where
+      never : (b : Bool) → (if b then (if m == named_by queued_line.request then false else true) else false) ≡ false
+      never b = ap (λ y. if b then y else false) m_of_line ∙ either b
+        where
+          either : (b : Bool) → (if b then false else false) ≡ false
+          either true = refl
+          either false = refl
 
   -- u is sound then
-  taker_sound : ThreadIsSound table_after_hand_over u
+  taker_sound : ThreadIsSound handed u
   taker_sound = record {
-    line = subst (LineIsSound table_after_hand_over u) (sym line_u) (record {
-      named = known_named (has_mutex table_after_hand_over) queued_line.request
-          (ap (has_mutex table_after_hand_over) waiter_named ∙ change.mutexes m ∙ h.named);
-      belongs = (subst (LineIsSound s u) queued_line.line (each_thread sound u added).line).belongs;
-      needs = (
-        (λ z. absurd (not_stopped (sym (ap (λ (x : Seat). x.status) seat_woken) ∙ z))),
-        ((λ r. ap (λ (d : Cell). d.word.number) (ap (cell_at table_after_hand_over) waiter_named ∙ cell_m)), tt),
-      );
+    line = subst (LineIsSound handed u) (sym line_u) (record {
+      named = known_named (has_mutex handed) queued_line.request
+          (ap (has_mutex handed) waiter_named ∙ change.mutexes m ∙ h.named);
+      belongs = (subst (LineIsSound s u) queued_line.line sound_u.line).belongs;
+      needs = subst (λ d. MeetsAll (is_living k) u (seat_at k u).status d (needs LockQueued))
+          (sym (ap (cell_at handed) waiter_named ∙ cell_m)) (
+            (
+              (λ z. absurd (not_stopped (sym (ap (λ (y : Seat). y.status) seat_woken) ∙ z))),
+              λ z. absurd
+                  (not_ended (sym (ap (λ (y : Seat). y.status) seat_woken) ∙ z)),
+            ),
+            ((λ z. h.number), ((λ z. refl), ((λ z. h.disorder), tt))),
+          );
     });
-    queue = λ j z. absurd (not_queued j (sym (ap (λ (x : Seat). x.status) seat_woken) ∙ z));
+    queue = λ j z. absurd (not_queued j (sym (ap (λ (y : Seat). y.status) seat_woken) ∙ z));
+    list = subst (ListIsSound handed u) (sym line_u)
+        (lists_after s handed u m (At queued_line.request LockQueued)
+        (At queued_line.request LockQueued) waiter_named waiter_named h.named
+        change.mutexes change.robust change.cells row_u
+        (subst (λ d. ListsAfter s u m d (At queued_line.request LockQueued) (robust_at handed.lists u)) (sym cell_m)
+        (subst (ListsAfter s u m left (At queued_line.request LockQueued)) (sym list_u) lists_u)));
+    settled = subst (λ b. (j : ℕ) → has_mutex handed j ≡ true → (word_at handed.words j).number ≡ u
+        → j ≢ mutex_by is_unsettled b → ((word_at handed.words j).died ≡ false) × (health_word_at handed.words j ≢ 2))
+        (sym line_u)
+        (settled_after s handed u m (At queued_line.request LockQueued)
+        (At queued_line.request LockQueued) waiter_named change.mutexes change.cells
+        (subst (λ b. (j : ℕ) → has_mutex s j ≡ true → (word_at s.words j).number ≡ u → j ≢ mutex_by is_unsettled b
+        → ((word_at s.words j).died ≡ false) × (health_word_at s.words j ≢ 2)) queued_line.line sound_u.settled)
+        (λ o d. absurd (d (sym waiter_named))));
   }
     where
       not_stopped : Ready WokenOwns ≡ Stopped → ⊥
       not_stopped z = cc
 
+      not_ended : Ready WokenOwns ≡ Ended → ⊥
+      not_ended z = cc
+
       not_queued : (j : ℕ) → Ready WokenOwns ≡ Queued j → ⊥
       not_queued j z = cc
 
-  -- the table is sound
-  pub handed_sound : KnowsAfter s t m (cell_written m (hand_word u) n k s) l → IsSound table_after_hand_over
-  handed_sound e = record {
-    all = admit_last (admit (λ j. j ≡ u) t (λ j x. x) (giver_sound e)
-        (change_kept (excuse Two (λ j x. absurd x) sound.all) change)) taker_sound;
-    kernel = hand_over_kept m s.kernel sound.kernel h.state;
-  }
+  -- the table is sound, save for t
+  pub handed_sound : SoundBut (λ j. j ≡ t) handed
+  handed_sound = admit (λ j. j ≡ t) u by_two (lives (living_kept u ∙ living_u) taker_sound)
+      (change_kept (excuse Two (λ j e. inl e) h.sound) change)
+    where
+      by_two : (j : ℕ) → Two j → (j ≡ u) ⊎ (j ≡ t)
+      by_two j (inl e) = inr e
+      by_two j (inr e) = inl e
 
-  -- t was added, and may run
-  pub handed_known : has_thread table_after_hand_over t ≡ true
-  handed_known = change.threads t ∙ h.going.known
+  -- and its kernel is one
+  pub handed_kernel : IsKernel k
+  handed_kernel = hand_over_kept m s.kernel h.kernel h.state
 
-  pub handed_ready : is_ready (status_at table_after_hand_over t) ≡ true
-  handed_ready = ap (λ (x : Seat). is_ready x.status) (seat_kept t (λ z. other (sym z))) ∙ h.ready
+  -- the same mutexes are there, of which another is as it was
+  pub handed_mutexes : (j : ℕ) → has_mutex handed j ≡ has_mutex s j
+  handed_mutexes = change.mutexes
+
+  pub handed_robust : (j : ℕ) → (library_at handed j).robust ≡ (library_at s j).robust
+  handed_robust = change.robust
+
+  pub handed_cells : (j : ℕ) → j ≢ m → cell_at handed j ≡ cell_at s j
+  handed_cells = change.cells
+
+  -- t's status is as it was
+  pub status_t : status_at handed t ≡ status_at s t
+  status_t = ap (λ (y : Seat). y.status) (seat_kept t (λ e. other (sym e)))
 
   -- IN THE POSIX MACHINE
 
-  -- the world after t's call came as far as a, and m passed on
-  abbrev pub world_after_passing : Shadow → Progress → World
-  world_after_passing y a = taken u m
-      (record (with_progress t a (world_of s y)) { waiters = without s.kernel.waiters u })
+  -- the call of a third thread has come as far as before
+  calls : (j : ℕ) → j ≢ t → j ≢ u → is_living s.kernel j ≡ true
+      → call_at (health_at handed) (line_at s j) (status_at s j) ≡ call_at (health_at s) (line_at s j) (status_at s j)
+  calls j d e i = call_there s t m l r x a 1 k h.somebody h.lined h.row ml h.sound.shape j
+      (inr (λ o. d (sym o ∙ h.own))) (h.sound.threads j i d)
 
-  -- t as it stands there before u takes m, and u
-  abbrev pub giver_thread : (y : Shadow) (a : Progress) → Thread
-  giver_thread y a = record (thread_at (world_of s y) t) { call = call_at_progress a (thread_at (world_of s y) t).call }
+  -- u's call has taken m
+  taken_call : call_at (health_at handed) (line_at s u) (seat_at k u).status ≡ progressed
+      (on_taking (health_of a x.died)) (call_at (health_at s) (line_at s u) (status_at s u))
+  taken_call =
+      ap₂ (λ (b : Line) (y : Seat). call_at (health_at handed) b y.status) queued_line.line seat_woken
+      ∙ ap (λ j. Some (record { request = queued_line.request; progress = on_taking (health_at handed j) }))
+      waiter_named
+      ∙ ap (λ (d : Cell). Some (record {
+        request = queued_line.request;
+        progress = on_taking
+            (health_of d.health d.word.died);
+      })) cell_m
+      ∙ ap₂ (λ (b : Line) (y : Status). progressed (on_taking (health_of a x.died)) (call_at (health_at s) b y))
+      (sym queued_line.line) (sym was_queued)
 
-  module _ (y : Shadow) (a : Progress) where
-    abbrev w : World
-    w = world_of s y
+  -- the world that the table shows is w, where w has these threads, mutexes and waiters
+  pub handed_shown : (y : Shadow) (w : World) → length w.threads ≡ length s.lines → length w.mutexes ≡ length s.mutexes
+      → w.waiters ≡ without s.kernel.waiters u
+      → thread_at w t ≡ record (thread_shown s t) { call = call_at (health_at handed) l (status_at s t) }
+      → thread_at w u ≡ record (thread_shown s u) {
+        call = progressed (on_taking (health_of a x.died))
+            (thread_shown s u).call;
+      }
+      → ((j : ℕ) → j ≢ t → j ≢ u → thread_at w j ≡ thread_shown s j)
+      → mutex_at w m ≡ record (mutex_shown s m) { owner = u; count = 1; health = health_of a x.died }
+      → ((j : ℕ) → j ≢ m → mutex_at w j ≡ mutex_shown s j)
+      → world_of handed y ≡ w
+  handed_shown y w b d waiters giver taker others it rest =
+      shows s t m l r x a 1 k h.somebody h.lined h.row ml h.sound.shape y w handed_sound.shape b d
+      (handed_waiters u m s.kernel ∙ sym waiters)
+      (thread_here s t m l r x a 1 k h.somebody h.lined h.row ml h.sound.shape
+      ∙ (λ i. record {
+        base = (seat_kept t (λ e. other (sym e)) i).base;
+        living = living_kept t i;
+        call = call_at
+            (health_at handed) l (seat_kept t (λ e. other (sym e)) i).status;
+      })
+      ∙ sym giver)
+      (λ j z. thread_there s t m l r x a 1 k h.somebody h.lined h.row ml h.sound.shape j z ∙ another j z (cases_eq j u))
+      ((λ i. record (mutex_shown s m) { owner = h.number i; count = 1; health = health_of a x.died }) ∙ sym it)
+      (λ j z. sym (rest j z))
+    where
+      third : (j : ℕ) → j ≢ t → j ≢ u → call_at (health_at handed) (line_at s j) (seat_at k j).status ≡ call_at
+          (health_at s) (line_at s j) (status_at s j)
+      third j z e = ap (λ (q : Seat). call_at (health_at handed) (line_at s j) q.status) (seat_kept j e)
+          ∙ by_test (λ b. is_living s.kernel j ≡ b → call_at (health_at handed) (line_at s j)
+          (status_at s j) ≡ call_at (health_at s) (line_at s j) (status_at s j)) (is_living s.kernel j)
+          (λ i _. calls j z e i)
+          (λ i _. subst (λ b. call_at (health_at handed) b (status_at s j) ≡ call_at (health_at s) b (status_at s j))
+          (sym (h.sound.absent j i z).line) refl) refl
 
-    tw : t < length w.threads
-    tw = subst (λ j. t < j) (sym (threads_shown sound.all.shape y)) (going_lined h.going)
-
-    uw : u < length (with_progress t a w).threads
-    uw = subst (λ j. u < j) (sym (length-set w.threads t (giver_thread y a) ∙ threads_shown sound.all.shape y
-        ∙ sound.all.shape.lines)) (below u (length s.kernel.seats) added)
-
-    -- u, when it owns m
-    abbrev taker : Thread
-    taker = record (thread_at (with_progress t a w) u) {
-      call = call_at_progress (on_taking (mutex_at w m).health) (thread_at (with_progress t a w) u).call;
-    }
-
-    -- t in that world
-    pub giver_passed : thread_at (world_after_passing y a) t ≡ giver_thread y a
-    giver_passed = get_or-set_other (with_progress t a w).threads u t taker nobody (λ z. other (sym z))
-        ∙ get_or-set_same w.threads t (giver_thread y a) nobody tw
-
-    -- u before
-    taker_before : thread_at (with_progress t a w) u ≡ thread_shown s u
-    taker_before = get_or-set_other w.threads t u (giver_thread y a) nobody other ∙ thread_seen sound.all.shape y u
-
-    -- the world that the table shows, with t's call as its line has it
-    pub handed_shown : (b : Option Call) → IsSound table_after_hand_over → call_at (health_at s) l (status_at s t) ≡ b
-        → world_of table_after_hand_over y
-        ≡ with_thread t (record (thread_at (world_after_passing y a) t) { call = b }) (world_after_passing y a)
-    handed_shown b fits e =
-        let died : (hand_word u).died ≡ (word_at s.words m).died = sym c.no_death in
-        let z : Mutex = record (mutex_at w m) { owner = u; count = 1 } in
-        let r : Thread = record (thread_at (world_after_passing y a) t) { call = b } in
-        let lw = length-set (with_progress t a w).threads u taker ∙ length-set w.threads t (giver_thread y a) in
-        shows s t m l (hand_word u) n k t0 (going_lined h.going) ml sound.all.shape y
-        (with_thread t r (world_after_passing y a)) fits.all.shape
-        (length-set (world_after_passing y a).threads t r ∙ lw ∙ threads_shown sound.all.shape y)
-        (length-set w.mutexes m z ∙ mutexes_shown sound.all.shape y)
-        waiters_left
-        (thread_here s t m l (hand_word u) n k t0 (going_lined h.going) ml sound.all.shape died
-        ∙ (λ i. record {
-          base = (seat_kept t (λ x. other (sym x)) i).base;
-          living = living i t;
-          call = (ap (λ (x : Seat). call_at (health_at s) l x.status) (seat_kept t (λ x. other (sym x))) ∙ e) i;
-        })
-        ∙ sym (get_or-set_same (world_after_passing y a).threads t r nobody (subst (λ j. t < j) (sym lw) tw)
-        ∙ (λ i. record ((giver_passed ∙ ap (λ (x : Thread). record x { call = call_at_progress a x.call })
-        (thread_seen sound.all.shape y t)) i) { call = b })))
-        (λ j d. thread_there s t m l (hand_word u) n k t0 (going_lined h.going) ml sound.all.shape died call.seats j d
-        ∙ another j d (cases_eq j u) ∙ sym (get_or-set_other (world_after_passing y a).threads t j r nobody d))
-        (mutex_taken ∙ sym (get_or-set_same w.mutexes m z no_mutex
-        (subst (λ j. m < j) (sym (mutexes_shown sound.all.shape y)) ml)))
-        (λ j d. sym (get_or-set_other w.mutexes m j z no_mutex d ∙ mutex_seen sound.all.shape y j))
-      where
-        mutex_taken : mutex_of (cell_written m (hand_word u) n k s) ≡ record (mutex_at w m) { owner = u; count = 1 }
-        mutex_taken =
-            (λ i. record {
-              kind = (library_at s m).kind;
-              robust = (library_at s m).robust;
-              owner = u;
-              count = h.once i;
-              health = health_of (sym c.no_death i);
-            })
-            ∙ sym (ap (λ (x : Mutex). record x { owner = u; count = 1 }) (mutex_seen sound.all.shape y m))
-
-        taken_call : call_at (health_at s) (line_at s u) (seat_at k u).status
-            ≡ call_at_progress (on_taking (mutex_at w m).health) (call_at (health_at s) (line_at s u) (status_at s u))
-        taken_call =
-            ap₂ (λ (b : Line) (x : Seat). call_at (health_at s) b x.status) queued_line.line seat_woken
-            ∙ ap (λ j. Some (record { request = queued_line.request; progress = on_taking (health_at s j) }))
-            waiter_named
-            ∙ ap (λ (x : Mutex). Some (record { request = queued_line.request; progress = on_taking x.health }))
-            (sym (mutex_seen sound.all.shape y m))
-            ∙ ap₂ (λ (b : Line) (x : Status). call_at_progress (on_taking (mutex_at w m).health)
-            (call_at (health_at s) b x)) (sym queued_line.line) (sym was_queued)
-
-        taker_shown : record {
-          base = (seat_at k u).base;
-          living = is_living s.kernel u;
-          call = call_at (health_at s) (line_at s u) (seat_at k u).status;
-        } ≡ thread_at (world_after_passing y a) u
-        taker_shown =
-            (λ i. record { base = (seat_woken i).base; living = is_living s.kernel u; call = taken_call i })
-            ∙ sym (get_or-set_same (with_progress t a w).threads u taker nobody uw
-            ∙ ap (λ (x : Thread). record x { call = call_at_progress (on_taking (mutex_at w m).health) x.call })
-            taker_before)
-
-        another : (j : ℕ) → j ≢ t → (j ≡ u) ⊎ (j ≢ u) → record {
-          base = (seat_at k j).base;
-          living = is_living s.kernel j;
-          call = call_at (health_at s) (line_at s j) (seat_at k j).status;
-        }
-            ≡ thread_at (world_after_passing y a) j
-        another j d (inl e) = subst (λ i. record {
-          base = (seat_at k i).base;
-          living = is_living s.kernel i;
-          call = call_at (health_at s) (line_at s i) (seat_at k i).status;
-        }
-            ≡ thread_at (world_after_passing y a) i) (sym e) taker_shown
-        another j d (inr e) =
-            (λ i. record {
-              base = (seat_kept j e i).base;
-              living = is_living s.kernel j;
-              call = call_at (health_at s) (line_at s j) (seat_kept j e i).status;
-            })
-            ∙ sym (get_or-set_other (with_progress t a w).threads u j taker nobody e
-            ∙ get_or-set_other w.threads t j (giver_thread y a) nobody d ∙ thread_seen sound.all.shape y j)
+      another : (j : ℕ) → j ≢ t → (j ≡ u) ⊎ (j ≢ u) → record {
+        base = (seat_at k j).base;
+        living = is_living k j;
+        call = call_at (health_at handed) (line_at s j) (seat_at k j).status;
+      } ≡ thread_at w j
+      another j z (inl e) = subst (λ i. record {
+        base = (seat_at k i).base;
+        living = is_living k i;
+        call = call_at
+            (health_at handed) (line_at s i) (seat_at k i).status;
+      } ≡ thread_at w i) (sym e)
+          ((λ i. record { base = (seat_woken i).base; living = living_kept u i; call = taken_call i }) ∙ sym taker)
+      another j z (inr e) = (λ i. record {
+        base = (seat_kept j e i).base;
+        living = living_kept j i;
+        call = third j z e i;
+      }) ∙ sym (others j z e)

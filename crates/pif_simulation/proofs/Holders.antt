@@ -3,35 +3,39 @@
 use Rattle.std.proofs.Common.{if◌then◌else◌, ◌-◌, ◌==◌, ◌≡◌, ◌≢◌, ◌⊎◌, ◌<◌, ℕ, ◌+◌, ◌-◌, Bool, true, false, List, [], ◌∷◌, ◌++◌, length, get_or, Option, Some, None, refl, sym, ap, ◌∙◌, subst, zero, suc, inl, inr, arith}
 use Rattle.std.proofs.lemmas.Bool.{cases_eq, eq-eqb, ne_eqb, true≢false}
 use Rattle.std.proofs.lemmas.Bool.Decides.{nat_tests}
-use Rattle.std.proofs.lemmas.List.{get_or_past, get_or_push, length_push}
+use Rattle.std.proofs.lemmas.List.{get_or-set_same, get_or-set_other, get_or_past, length_push}
 use Rattle.pif_types.specs.Bounds.{Bounds}
 use Rattle.pif_types.specs.declared.errors.Refusal.{Refusal}
 use Rattle.pif_types.specs.declared.requests.Kind.{Kind}
 use Rattle.pif_types.specs.declared.requests.Request.{Request}
-use Rattle.pif_types.specs.declared.requests.Request.TheVariants.{Lock, TryLock, Unlock, SetPrio}
+use Rattle.pif_types.specs.declared.requests.Request.TheVariants.{Lock, TryLock, Unlock, Consistent, SetPrio}
 use Rattle.pif_model.specs.declared.events.Event.{Event}
-use Rattle.pif_model.specs.declared.events.Event.TheVariants.{Begin, Go}
-use Rattle.pif_model.specs.declared.events.Seen.TheVariants.{Begun, Answered, Refused}
+use Rattle.pif_model.specs.declared.events.Event.TheVariants.{Begin, Go, End}
+use Rattle.pif_model.specs.declared.events.Seen.TheVariants.{Begun, Answered, Ended, Refused}
 use Rattle.pif_model.specs.declared.events.Entry.{Entry}
 use Rattle.pif_model.specs.declared.events.Entry.TheVariants.{Step as Happened}
 use Rattle.pif_model.specs.History.{open_call, hold_count, hold_count_after_answer, holds, HasOneHolder, AlwaysOneHolder}
-use Rattle.pif_model.specs.Posix.{Call, Thread, Mutex, World, empty_world, nobody, no_mutex, thread_at, mutex_at, is_thread, is_living, is_mutex, with_thread, with_progress, with_base, named_by, names_known, begun_progress, LocksAgain, Locks, TriesToLock, Unlocks, SetsPriority, Effect, Effects, refusal_of, Step, IsRun}
-use Rattle.pif_model.specs.Posix.Health.{Fine}
-use Rattle.pif_model.specs.Posix.Progress.{Fresh, Stuck, Has}
+use Rattle.pif_model.specs.Posix.{Progress, Call, Thread, Mutex, World, empty_world, nobody, no_mutex, thread_at, mutex_at, is_thread, is_living, is_mutex, with_thread, with_progress, with_base, named_by, names_known, begun_progress, LocksAgain, Locks, TriesToLock, Unlocks, MakesConsistent, Passes, SetsPriority, after_end, Ends, Effect, Effects, refusal_of, Step, IsRun}
+use Rattle.pif_model.specs.Graph.{without}
+use Rattle.pif_model.specs.Posix.Health.{Fine, Unusable}
+use Rattle.pif_model.specs.Posix.Progress.{Fresh, Waiting, Stuck, Leaving, Has}
 use Rattle.pif_model.specs.Posix.LocksAgain.{rises, at_limit}
 use Rattle.pif_model.specs.Posix.Locks.{own_normal, own_errorcheck, own_recursive as lock_own_recursive, free as lock_free, lost as lock_lost, cycle, joins}
 use Rattle.pif_model.specs.Posix.TriesToLock.{own_recursive as try_own_recursive, busy as try_busy, free as try_free}
-use Rattle.pif_model.specs.Posix.Unlocks.{not_owner, falls, released}
+use Rattle.pif_model.specs.Posix.Unlocks.{not_owner, falls, becomes_unusable, released}
+use Rattle.pif_model.specs.Posix.MakesConsistent.{not_robust, not_owner as consistent_not_owner, not_inconsistent, made_fine}
 use Rattle.pif_model.specs.Posix.SetsPriority.{no_priority, not_living, changed}
-use Rattle.pif_model.specs.Posix.Effect.{lock, try_lock, unlock, set_prio}
+use Rattle.pif_model.specs.Posix.Effect.{lock, try_lock, unlock, consistent, set_prio, leave}
 use Rattle.pif_model.specs.Posix.Effects.{none as no_effect, then as effect_then}
-use Rattle.pif_model.specs.Posix.Step.{thread_added, mutex_added, refused, begun, went, waits, answered}
+use Rattle.pif_model.specs.Posix.Step.{thread_added, mutex_added, refused, begun, went, waits, answered, ended}
 use Rattle.pif_model.specs.Posix.IsRun.{start, next}
+use Rattle.pif_model.specs.Standing.{waited_in}
+use Rattle.pif_chains.proofs.Among.{is_among-without}
 use Rattle.pif_chains.proofs.Numbers.{within, from_within}
 use Rattle.pif_chains.proofs.Places.{kept_at}
-use Rattle.pif_simulation.proofs.Worlds.{call_of, owner_of, written_at, push_other, push_same, call-with_thread_other, living-with_thread, begin_allowed}
-use Rattle.pif_simulation.proofs.Holding.{Holding, Stays, request_of, held-from_holds, Holding-begins, Holding-answers}
-use Rattle.pif_simulation.proofs.AllHolding.{IsHeld, IsActing, view_of, times_held, times-other, acting, may_take, IsOrderly-with_thread, IsHeld-but, IsHeld-stays, IsHeld-progresses, IsHeld-joins, IsHeld-takes, IsHeld-counts, IsHeld-releases}
+use Rattle.pif_simulation.proofs.Worlds.{call_of, owner_of, written_at, push_other, push_same, call-with_thread_other, living-with_thread, begin_allowed, end_allowed}
+use Rattle.pif_simulation.proofs.Holding.{Counted, Holding, Stays, request_of, held-from_holds, Holding-begins, Holding-answers, Holding-ends}
+use Rattle.pif_simulation.proofs.AllHolding.{IsHeld, IsActing, view_of, times_held, times-other, acting, MayTake, may_take, IsOrderly-with_thread, IsHeld-but, IsHeld-stays, IsHeld-progresses, IsHeld-joins, IsHeld-takes, IsHeld-counts, IsHeld-owns, IsHeld-releases, IsHeld-with_health, IsHeld-Releases, IsOrderly-waiters, holder_is_owner}
 
 -- CALLS
 
@@ -45,66 +49,126 @@ error_changes_nothing : (q : Request) (a : ℕ) → is_error a ≡ true → (n :
 error_changes_nothing (Lock m) a e n = grind (arith, nat_tests)
 error_changes_nothing (TryLock m) a e n = grind (arith, nat_tests)
 error_changes_nothing (Unlock m) a e n = grind (arith, nat_tests)
+error_changes_nothing (Consistent m) a e n = refl
 error_changes_nothing (SetPrio u p) a e n = refl
 
--- a call on which no effect has happened yet
+-- a call that leaves its mutex holds it once by the machine, and has given it up where it has its result
+leaving_ends : (q : Request) (n k : ℕ) → Counted q Leaving n k → (k ≡ 1) × Counted q (Has 131) n 0
+leaving_ends q n k c = (c.1, error_changes_nothing q 131 refl n ∙ c.0)
+
+-- what a call of q that has come to a rests on where it locks its mutex: how what it says of its hold count goes on to
+-- what it says at each point to which a lock may bring it
+record MayLock (q : Request) (a : Progress) : Type 0 where
+  takes : MayTake q a
+  again : (n i : ℕ) → Counted q a n i → Counted q (Has 0) n (i + 1)
+  full : (n : ℕ) → Counted q a n 255 → Counted q (Has 11) n 255
+  sticks : (n i : ℕ) → Counted q a n i → Counted q Stuck n i
+  cycle : (n i : ℕ) → Counted q a n i → Counted q (Has 35) n i
+  joins : (n i : ℕ) → Counted q a n i → Counted q Waiting n i
+
+-- a lock and a trylock may
+may_lock : (m : ℕ) → MayLock (Lock m) Fresh × MayLock (TryLock m) Fresh
+may_lock m = (
+  record {
+    takes = (may_take m).0;
+    again = λ n i e. again_lock n i e;
+    full = λ n e. error_changes_nothing (Lock m) 11 refl n ∙ e;
+    sticks = λ n i e. e;
+    cycle = λ n i e. error_changes_nothing (Lock m) 35 refl n ∙ e;
+    joins = λ n i e. e;
+  },
+  record {
+    takes = (may_take m).2;
+    again = λ n i e. again_try n i e;
+    full = λ n e. error_changes_nothing (TryLock m) 11 refl n ∙ e;
+    sticks = λ n i e. e;
+    cycle = λ n i e. error_changes_nothing (TryLock m) 35 refl n ∙ e;
+    joins = λ n i e. e;
+  },
+)
+  where
+    again_lock : (n i : ℕ) → n ≡ i → hold_count_after_answer m (Some (Lock m)) 0 n ≡ i + 1
+    again_lock n i e = grind (arith, nat_tests)
+
+    again_try : (n i : ℕ) → n ≡ i → hold_count_after_answer m (Some (TryLock m)) 0 n ≡ i + 1
+    again_try n i e = grind (arith, nat_tests)
+
+-- a call that may lock its mutex
 module _ {f : ℕ → Option Request} {counts : ℕ → ℕ → ℕ} {w : World} (h : IsHeld f counts w) {t : ℕ} {q : Request}
-    (k : IsActing w t q Fresh) where
-  -- it is stuck
-  IsHeld-sticks : IsHeld f counts (with_progress t Stuck w)
-  IsHeld-sticks = IsHeld-progresses h k Stuck (λ n i e. e)
-
-  -- it has an error as its result
-  IsHeld-fails : (a : ℕ) → is_error a ≡ true → IsHeld f counts (with_progress t (Has a) w)
-  IsHeld-fails a wrong = IsHeld-progresses h k (Has a) (λ n i e. error_changes_nothing q a wrong n ∙ e)
-
+    {a : Progress} (k : IsActing w t q a) (known : is_mutex w (named_by q) ≡ true) (may : MayLock q a) where
   -- the owner of a recursive mutex locks it again
-  IsHeld-LocksAgain : {v : World} → is_mutex w (named_by q) ≡ true → owner_of w (named_by q) ≡ t
-      → ((n : ℕ) → hold_count_after_answer (named_by q) (Some q) 0 n ≡ n + 1) → LocksAgain t (named_by q) w v
-      → IsHeld f counts v
-  IsHeld-LocksAgain known own again (rises few e) =
+  IsHeld-LocksAgain : {v : World} → owner_of w (named_by q) ≡ t → LocksAgain t (named_by q) w v → IsHeld f counts v
+  IsHeld-LocksAgain own (rises few e) =
       rw e (IsHeld-counts h k known (Has 0) ((mutex_at w (named_by q)).count + 1) own
-      (λ n j. again n ∙ ap (λ i. i + 1) j))
-  IsHeld-LocksAgain known own again (at_limit full e) = rw e (IsHeld-fails 11 refl)
+      (λ n. may.again n (mutex_at w (named_by q)).count))
+  IsHeld-LocksAgain own (at_limit full e) =
+      rw e (IsHeld-owns h k known (Has 11) own
+      (λ n. subst (λ i. Counted q a n i → Counted q (Has 11) n i) (sym full) (may.full n)))
 
-module _ {f : ℕ → Option Request} {counts : ℕ → ℕ → ℕ} {w : World} (h : IsHeld f counts w) {t : ℕ} {v : World} where
-  -- a lock
-  IsHeld-Locks : {m : ℕ} → is_mutex w m ≡ true → IsActing w t (Lock m) Fresh → Locks t m w v → IsHeld f counts v
-  IsHeld-Locks known k (own_normal own kind e) = rw e (IsHeld-sticks h k)
-  IsHeld-Locks known k (own_errorcheck own kind e) = rw e (IsHeld-fails h k 35 refl)
-  IsHeld-Locks known k (lock_own_recursive own kind e) =
-      IsHeld-LocksAgain h k known own (λ n. grind (arith, nat_tests)) e
-  IsHeld-Locks {m} known k (lock_free other free e) = rw e (IsHeld-takes h k known (may_take m).0 free)
-  IsHeld-Locks known k (lock_lost other owned is_lost e) = rw e (IsHeld-sticks h k)
-  IsHeld-Locks known k (cycle other owned not_lost leads e) = rw e (IsHeld-fails h k 35 refl)
-  IsHeld-Locks {m} known k (joins other owned not_lost leads e) = rw e (IsHeld-joins h k m refl (λ n i j. j))
+  -- it locks its mutex, for which it waits where another owns it
+  IsHeld-Locks : {v : World} → waited_in q ≡ named_by q → Locks t (named_by q) w v → IsHeld f counts v
+  IsHeld-Locks named (own_normal own kind e) = rw e (IsHeld-progresses h k Stuck may.sticks)
+  IsHeld-Locks named (own_errorcheck own kind e) = rw e (IsHeld-progresses h k (Has 35) may.cycle)
+  IsHeld-Locks named (lock_own_recursive own kind e) = IsHeld-LocksAgain own e
+  IsHeld-Locks named (lock_free other free e) = rw e (IsHeld-takes h k known may.takes free)
+  IsHeld-Locks named (lock_lost other owned is_lost e) = rw e (IsHeld-progresses h k Stuck may.sticks)
+  IsHeld-Locks named (cycle other owned not_lost leads e) = rw e (IsHeld-progresses h k (Has 35) may.cycle)
+  IsHeld-Locks named (joins other owned not_lost leads e) = rw e (IsHeld-joins h k (named_by q) named may.joins)
+
+module _ {f : ℕ → Option Request} {counts : ℕ → ℕ → ℕ} {w : World} (h : IsHeld f counts w) {t : ℕ} where
+  -- a call on which no effect has happened yet has an error as its result
+  IsHeld-fails : {q : Request} → IsActing w t q Fresh → (a : ℕ) → is_error a ≡ true
+      → IsHeld f counts (with_progress t (Has a) w)
+  IsHeld-fails {q} k a wrong = IsHeld-progresses h k (Has a) (λ n i e. error_changes_nothing q a wrong n ∙ e)
 
   -- a trylock
-  IsHeld-TriesToLock : {m : ℕ} → is_mutex w m ≡ true → IsActing w t (TryLock m) Fresh → TriesToLock t m w v
+  IsHeld-TriesToLock : {m : ℕ} {v : World} → is_mutex w m ≡ true → IsActing w t (TryLock m) Fresh → TriesToLock t m w v
       → IsHeld f counts v
-  IsHeld-TriesToLock known k (try_own_recursive own kind e) =
-      IsHeld-LocksAgain h k known own (λ n. grind (arith, nat_tests)) e
-  IsHeld-TriesToLock known k (try_busy owned kind e) = rw e (IsHeld-fails h k 16 refl)
+  IsHeld-TriesToLock {m} known k (try_own_recursive own kind e) = IsHeld-LocksAgain h k known (may_lock m).1 own e
+  IsHeld-TriesToLock known k (try_busy owned kind e) = rw e (IsHeld-fails k 16 refl)
   IsHeld-TriesToLock {m} known k (try_free free e) = rw e (IsHeld-takes h k known (may_take m).2 free)
 
   -- an unlock
-  IsHeld-Unlocks : {m : ℕ} → is_mutex w m ≡ true → IsActing w t (Unlock m) Fresh → Unlocks t m w v → IsHeld f counts v
-  IsHeld-Unlocks {m} known k effect = by_case effect
+  IsHeld-Unlocks : {m : ℕ} {v : World} → is_mutex w m ≡ true → IsActing w t (Unlock m) Fresh → Unlocks t m w v
+      → IsHeld f counts v
+  IsHeld-Unlocks {m} {v} known k effect = by_case effect
     where
       less : (n i : ℕ) → n ≡ i → hold_count_after_answer m (Some (Unlock m)) 0 n ≡ i - 1
       less n i e = grind (arith, nat_tests)
 
       by_case : Unlocks t m w v → IsHeld f counts v
-      by_case (not_owner other e) = rw e (IsHeld-fails h k 1 refl)
+      by_case (not_owner other e) = rw e (IsHeld-fails k 1 refl)
       by_case (falls own more e) =
           rw e (IsHeld-counts h k known (Has 0) ((mutex_at w m).count - 1) own (λ n. less n (mutex_at w m).count))
+      by_case (becomes_unusable own once health e) = rw e (IsHeld-with_health h m Unusable)
       by_case (released own once health passes) = IsHeld-releases h k known (Has 0) own once (λ n. less n 1) passes
+
+  -- a mutex is made consistent
+  IsHeld-MakesConsistent : {m : ℕ} {v : World} → is_mutex w m ≡ true → IsActing w t (Consistent m) Fresh
+      → MakesConsistent t m w v → IsHeld f counts v
+  IsHeld-MakesConsistent known k (not_robust kind e) = rw e (IsHeld-fails k 22 refl)
+  IsHeld-MakesConsistent known k (consistent_not_owner robust other e) = rw e (IsHeld-fails k 1 refl)
+  IsHeld-MakesConsistent known k (not_inconsistent robust own health e) = rw e (IsHeld-fails k 22 refl)
+  IsHeld-MakesConsistent {m} known k (made_fine robust own health e) =
+      rw e (IsHeld-progresses (IsHeld-with_health h m Fine) (record { call = k.call; alone = k.alone }) (Has 0)
+      (λ n i j. j))
+
+  -- a call gives the Unusable mutex up that it took
+  IsHeld-leaves : {q : Request} {v : World} → IsActing w t q Leaving
+      → Passes (named_by q) (with_progress t (Has 131) w) v → IsHeld f counts v
+  IsHeld-leaves {q} k passes =
+      IsHeld-releases h k own.2 (Has 131) own.0 own.1 (λ n c. (leaving_ends q n 1 c).1) passes
+    where
+      own : (owner_of w (named_by q) ≡ t) × ((mutex_at w (named_by q)).count ≡ 1) × (is_mutex w (named_by q) ≡ true)
+      own =
+          holder_is_owner h.orderly t (named_by q)
+          (leaving_ends q _ _ ((h.each t).own (record { request = q; progress = Leaving }) k.call)).0
 
 -- a base priority changes neither calls nor owners
 IsHeld-with_base : {f : ℕ → Option Request} {counts : ℕ → ℕ → ℕ} {w : World} → IsHeld f counts w → (u p : ℕ)
     → IsHeld f counts (with_base u p w)
 IsHeld-with_base {w = w} h u p =
-    IsHeld-stays h (IsOrderly-with_thread w u x h.orderly refl) (λ m y. y)
+    IsHeld-stays h (IsOrderly-with_thread w u x h.orderly (lives 0)) (λ m y. y)
     (λ t. record {
       call = kept_at (λ (y : Thread). y.call) w.threads u x nobody refl t;
       living = λ e. sym (lives t) ∙ e;
@@ -141,9 +205,13 @@ IsHeld-Effect {f} {counts} {t} {w} {v} h effect = by_call effect
     afresh q before = acting h t q Fresh before (λ e. absurd (cc))
 
     by_call : Effect t w v → IsHeld f counts v
-    by_call (lock m before e) = IsHeld-Locks h ((h.each t).named _ before) (afresh (Lock m) before) e
+    by_call (lock m before e) =
+        IsHeld-Locks h (afresh (Lock m) before) ((h.each t).named _ before) (may_lock m).0 refl e
     by_call (try_lock m before e) = IsHeld-TriesToLock h ((h.each t).named _ before) (afresh (TryLock m) before) e
     by_call (unlock m before e) = IsHeld-Unlocks h ((h.each t).named _ before) (afresh (Unlock m) before) e
+    by_call (consistent m before e) =
+        IsHeld-MakesConsistent h ((h.each t).named _ before) (afresh (Consistent m) before) e
+    by_call (leave q before e) = IsHeld-leaves h (acting h t q Leaving before (λ k. absurd (cc))) e
     by_call (set_prio u p before e) = IsHeld-SetsPriority h (afresh (SetPrio u p) before) e
 
 -- the effects of one Go
@@ -166,7 +234,7 @@ IsHeld-calls : {f later_f : ℕ → Option Request} {counts later_counts : ℕ �
     → Holding (later_f t) (later_counts t) (is_mutex w) (view_of v t))
     → IsHeld later_f later_counts v
 IsHeld-calls {w = w} h t c others mine =
-    IsHeld-but t h (IsOrderly-with_thread w t x h.orderly refl) (λ m y. y)
+    IsHeld-but t h (IsOrderly-with_thread w t x h.orderly (lives 0)) (λ m y. y)
     (λ u d. (
       (others u d).0,
       (others u d).1,
@@ -196,20 +264,21 @@ IsHeld-begins h w t q held allowed =
     IsHeld-calls held t (Some c)
     (λ x d. (rw (ne_eqb t x (λ e. d (sym e))) refl, λ m. refl))
     (λ lives same. Holding-begins (held.each t) (rw (eq-eqb t t refl) refl) (record {
-      before = let_in.1;
+      before = let_in.2;
       after = written_at (λ (y : Thread). y.call) w.threads t (record (thread_at w t) { call = Some c }) nobody
           (λ l. absurd (omega (arith, (within t (length w.threads) let_in.0).1)));
-      lives = lives ∙ held.orderly.living t let_in.0;
+      lives = lives ∙ let_in.1;
       held = same;
       fewer = λ m y. y;
-      named = let_in.2;
+      named = let_in.3;
       fresh = λ n i e. e;
     }))
   where
     c : Call
     c = record { request = q; progress = Fresh }
 
-    let_in : (is_thread w t ≡ true) × (call_of w t ≡ None) × (names_known (is_mutex w) q ≡ true)
+    let_in : (is_thread w t ≡ true) × (is_living w t ≡ true) × (call_of w t ≡ None)
+        × (names_known (is_mutex w) q ≡ true)
     let_in = begin_allowed w t q allowed
 
 -- a call is answered
@@ -238,7 +307,6 @@ IsHeld-thread_added {w = w} h p =
       room = omega (arith, length_push w.threads x);
       nobody = ap (λ (y : Thread). y.living) (earlier 0 (λ e. omega (arith, e, h.orderly.room))) ∙ h.orderly.nobody;
       no_mutex = h.orderly.no_mutex;
-      living = λ t k. lives t (within t (length v.threads) k) (cases_eq t (length w.threads));
       owners = λ m n. more (owner_of w m) (within (owner_of w m) (length w.threads) (h.orderly.owners m n));
     })
     (λ m y. y) (λ t. stays t (cases_eq t (length w.threads)))
@@ -254,13 +322,6 @@ IsHeld-thread_added {w = w} h p =
 
     more : (t : ℕ) → (t ≢ 0) × (t < length w.threads) → is_thread v t ≡ true
     more t r = from_within t (length v.threads) r.0 (omega (arith, length_push w.threads x, r.1))
-
-    lives : (t : ℕ) → (t ≢ 0) × (t < length v.threads) → (t ≡ length w.threads) ⊎ (t ≡ length w.threads → ⊥)
-        → is_living v t ≡ true
-    lives t r (inl e) = ap (λ (y : Thread). y.living) (get_or_push w.threads x nobody t (sym e))
-    lives t r (inr d) =
-        ap (λ (y : Thread). y.living) (earlier t d)
-        ∙ h.orderly.living t (from_within t (length w.threads) r.0 (omega (arith, length_push w.threads x, r.1, d)))
 
     -- nobody's number yet is no owner's
     unowned : (t m : ℕ) → t ≡ length w.threads → owner_of w m ≢ t
@@ -294,7 +355,6 @@ IsHeld-mutex_added {w = w} h k r =
       room = h.orderly.room;
       nobody = h.orderly.nobody;
       no_mutex = owners 0 ∙ h.orderly.no_mutex;
-      living = h.orderly.living;
       owners = λ m. subst (λ (o : ℕ). o ≢ 0 → is_thread w o ≡ true) (sym (owners m)) (h.orderly.owners m);
     })
     (λ m y.
@@ -316,11 +376,57 @@ IsHeld-mutex_added {w = w} h k r =
     owners : (m : ℕ) → owner_of v m ≡ owner_of w m
     owners m = push_same (λ (y : Mutex). y.owner) w.mutexes z no_mutex m refl
 
+-- a thread ends
+IsHeld-ends : (h : List Entry) (w v : World) (t : ℕ) → IsHeldBy h w → Ends t w v
+    → IsHeldBy (Happened (End t) Ended ∷ h) v
+IsHeld-ends h w v t held ends = IsHeld-Releases left dead place.0 ends.releases
+  where
+    let_in : (is_thread w t ≡ true) × (is_living w t ≡ true)
+    let_in = end_allowed w t ends.allowed
+
+    place : (t ≢ 0) × (t < length w.threads)
+    place = within t (length w.threads) let_in.0
+
+    x : Thread
+    x = record (thread_at w t) { living = false; call = None }
+
+    u : World
+    u = after_end t w
+
+    dead : is_living u t ≡ false
+    dead = ap (λ (y : Thread). y.living) (get_or-set_same w.threads t x nobody place.1)
+
+    others : (y : ℕ) → y ≢ t → thread_at u y ≡ thread_at w y
+    others y d = get_or-set_other w.threads t y x nobody d
+
+    left : IsHeldBy (Happened (End t) Ended ∷ h) u
+    left =
+        IsHeld-but t held
+        (IsOrderly-waiters (with_thread t x w) (without w.waiters t)
+        (IsOrderly-with_thread w t x held.orderly (ap (λ (y : Thread). y.living) (others 0 (λ e. place.0 (sym e))))))
+        (λ m y. y)
+        (λ y d. (
+          rw (ne_eqb t y (λ e. d (sym e))) refl,
+          (λ m. rw (ne_eqb t y (λ e. d (sym e))) refl),
+          record {
+            call = ap (λ (z : Thread). z.call) (others y d);
+            living = λ e. sym (ap (λ (z : Thread). z.living) (others y d)) ∙ e;
+            held = λ m. ap (λ (z : Thread). times_held z.living y (mutex_at w m)) (others y d);
+            fewer = λ m k. (is_among-without w.waiters t y m k).0;
+          },
+        ))
+        (Holding-ends (rw (eq-eqb t t refl) refl) (λ m. rw (eq-eqb t t refl) refl) (record {
+          call = ap (λ (y : Thread). y.call) (get_or-set_same w.threads t x nobody place.1);
+          held = λ m. ap (λ l. times_held l t (mutex_at w m)) dead;
+          among = λ m k. (is_among-without w.waiters t t m k).1 refl;
+        }))
+
 -- a refused event changes nothing
 IsHeld-refused : (h : List Entry) (w : World) (x : Event) (r : Refusal) → IsHeldBy h w
     → IsHeldBy (Happened x (Refused r) ∷ h) w
 IsHeld-refused h w (Begin t q) r held = held
 IsHeld-refused h w (Go t) r held = held
+IsHeld-refused h w (End t) r held = held
 
 -- one entry keeps the invariant
 IsHeld-Step : (l : Bounds) (h : List Entry) (w : World) (e : Entry) (v : World) → IsHeldBy h w → Step l w e v
@@ -334,6 +440,7 @@ IsHeld-Step l h w e v held (went t same goes runs) = rw same (IsHeld-Effects hel
 IsHeld-Step l h w e v held (waits t same goes resting) = rw same (IsHeld-Effects held goes.effects)
 IsHeld-Step l h w e v held (answered t a q u same goes before after runs) =
     rw (same, after) (IsHeld-answers h u t a q (IsHeld-Effects held goes.effects) before)
+IsHeld-Step l h w e v held (ended t same ends) = rw same (IsHeld-ends h w v t held ends)
 
 -- RUNS
 
@@ -345,7 +452,6 @@ IsHeld-empty =
         room = omega arith;
         nobody = refl;
         no_mutex = refl;
-        living = λ t k. absurd (none t (within t 1 k));
         owners = λ m n. absurd (n (ap (λ (y : Mutex). y.owner) (lone no_mutex m)));
       };
       each = λ t. record {
@@ -359,9 +465,6 @@ IsHeld-empty =
       };
     }
   where
-    none : (t : ℕ) → (t ≢ 0) × (t < 1) → ⊥
-    none t r = omega (arith, r.1, r.0)
-
     lone : {A : Type 0} (d : A) (n : ℕ) → get_or (d ∷ []) n d ≡ d
     lone d zero = refl
     lone d (suc n) = refl

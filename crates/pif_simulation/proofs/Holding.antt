@@ -11,8 +11,11 @@
 -- TO ADD.
 -- * A new request: in the definitions what an answer to it does (`hold_count_after_answer`), what it names, and for
 --   which mutex it waits; here its case in `names_kept`, `elsewhere_answered` and `unlocked_once`; in `AllHolding` its
---   case in `waiting_takes`, and `may_take` where it may take a mutex; in `Holders` in `error_changes_nothing`.
--- * A new progress: its line in `Counted`, for the requests that can come so far, and in `unlocked_once`.
+--   case in `waiting_takes`, and `may_take` where it may take a mutex; in `Holders` in `error_changes_nothing`, and in
+--   `may_lock` where it locks its mutex.
+-- * A new progress: its line in `Counted`, for the requests that can come so far, and in `unlocked_once`. Where a call
+--   has given its mutex up and will own it again, `Counted` says that it holds it once by the answers and not at all by
+--   the machine.
 -- * A new effect: its line in `Holders`, by the lemma in `AllHolding` for what it does. All of those ask one thing of
 --   the hold count: how `Counted` at the call's progress before gives `Counted` after.
 -- * A new entry: its line in `IsHeld-Step`; one that closes calls or resets hold counts goes by `IsHeld-but`.
@@ -20,7 +23,7 @@ use Rattle.std.proofs.Common.{◌≡◌, ◌≢◌, ◌⊎◌, ◌<◌, ℕ, Boo
 use Rattle.std.proofs.lemmas.Bool.{ne_eqb, cases_eq}
 use Rattle.std.proofs.lemmas.Bool.Decides.{nat_tests}
 use Rattle.pif_types.specs.declared.requests.Request.{Request}
-use Rattle.pif_types.specs.declared.requests.Request.TheVariants.{Lock, TryLock, Unlock, SetPrio}
+use Rattle.pif_types.specs.declared.requests.Request.TheVariants.{Lock, TryLock, Unlock, Consistent, SetPrio}
 use Rattle.pif_model.specs.History.{hold_count_after_answer, unlocking}
 use Rattle.pif_model.specs.Posix.{Progress, Call, named_by, names_known}
 use Rattle.pif_model.specs.Posix.Progress.{Fresh, Waiting, Stuck, Leaving, Has}
@@ -88,6 +91,7 @@ names_kept : (known more : ℕ → Bool) → ((m : ℕ) → known m ≡ true →
 names_kept known more h (Lock m) e = h m e
 names_kept known more h (TryLock m) e = h m e
 names_kept known more h (Unlock m) e = h m e
+names_kept known more h (Consistent m) e = h m e
 names_kept known more h (SetPrio u p) e = refl
 
 -- an answer changes the hold count of no other mutex
@@ -95,6 +99,7 @@ elsewhere_answered : (m : ℕ) (q : Request) (a n : ℕ) → named_by q ≢ m �
 elsewhere_answered m (Lock k) a n d = rw (ne_eqb k m d) refl
 elsewhere_answered m (TryLock k) a n d = rw (ne_eqb k m d) refl
 elsewhere_answered m (Unlock k) a n d = rw (ne_eqb k m d) refl
+elsewhere_answered m (Consistent k) a n d = refl
 elsewhere_answered m (SetPrio u p) a n d = refl
 
 -- only an unlock takes a hold away: who holds a mutex by the answers, less 1 while its unlock is open, holds it by the
@@ -103,6 +108,7 @@ unlocked_once : (q : Request) (p : Progress) (n k : ℕ) → Counted q p n k →
 unlocked_once (Lock m) (Has a) n k h l = λ e. grind (arith, nat_tests)
 unlocked_once (TryLock m) (Has a) n k h l = λ e. grind (arith, nat_tests)
 unlocked_once (Unlock m) (Has a) n k h l = λ e. grind (arith, nat_tests)
+unlocked_once (Consistent m) (Has a) n k h l = λ e. grind (arith, nat_tests)
 unlocked_once (SetPrio u p) (Has a) n k h l = λ e. grind (arith, nat_tests)
 unlocked_once q Leaving n k h l = λ e. omega arith
 unlocked_once q Fresh n k h l = λ e. omega arith
@@ -255,3 +261,21 @@ Holding-answers {counts = counts} {x = x} {y = y} {q = q} {a = a} h closed count
         elsewhere_answered m q a (counts m) d
         ∙ h.elsewhere m (λ c e g. d (ap named_by (same_request s.before e) ∙ g))
         ∙ sym (s.held m)
+
+-- a thread ends: its call is gone, and it holds nothing
+pub record IsGone (y : View) : Type 0 where
+  pub call : y.call ≡ None
+  pub held : (m : ℕ) → y.held m ≡ 0
+  pub among : (m : ℕ) → y.among m ≡ true → ⊥
+
+pub Holding-ends : {f : Option Request} {counts : ℕ → ℕ} {known : ℕ → Bool} {y : View} → f ≡ None
+    → ((m : ℕ) → counts m ≡ 0) → IsGone y → Holding f counts known y
+Holding-ends closed reset s =
+    record {
+      idle = λ e. s.call;
+      request = closed ∙ sym (ap request_of s.call);
+      named = λ c e. let none = s.call in absurd (cc);
+      waiting = λ m e. absurd (s.among m e);
+      own = λ c e. let none = s.call in absurd (cc);
+      elsewhere = λ m apart. reset m ∙ sym (s.held m);
+    }

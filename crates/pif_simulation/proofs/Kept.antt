@@ -3,7 +3,7 @@ use Rattle.std.proofs.Common.{◌≡◌, ◌≢◌, ◌⊎◌, inl, inr, ℕ, Bo
 use Rattle.std.proofs.lemmas.Bool.{cases_eq}
 use Rattle.pif_types.specs.declared.requests.Kind.{Kind}
 use Rattle.pif_types.specs.declared.requests.Request.{Request}
-use Rattle.pif_types.specs.declared.requests.Request.TheVariants.{Lock, TryLock, Unlock, SetPrio}
+use Rattle.pif_types.specs.declared.requests.Request.TheVariants.{Lock, TryLock, Unlock, Consistent, SetPrio}
 use Rattle.pif_model.specs.declared.lines.Line.{Line}
 use Rattle.pif_model.specs.declared.lines.Line.TheVariants.{Idle, At}
 use Rattle.pif_model.specs.declared.lines.Place.{Place}
@@ -12,7 +12,7 @@ use Rattle.pif_model.specs.declared.lines.Status.{Status}
 use Rattle.pif_model.specs.PiKernel.{is_ready, is_living}
 use Rattle.pif_model.specs.Table.{Table, Cell, has_mutex, status_at, cell_at}
 use Rattle.pif_model.specs.Standing.{Need, Meets, MeetsAll, needs, belongs, CallIsSound, LineIsSound, CountIsSound}
-use Rattle.pif_model.specs.Standing.Need.{MayRun, HasStopped, NotStopped, Owns, OwnsNot, OwnsOnceReady, HoldsOnce, MayStop}
+use Rattle.pif_model.specs.Standing.Need.{MayRun, HasStopped, NotStopped, Owns, OwnsNot, OwnsOnceReady, HoldsOnce, MayStop, OfRobust, HealthIs, HealthIsNot, DiedIs, DiedBehindDisorder}
 use Rattle.pif_model.specs.Standing.MayStopFor.{own_normal, lost}
 
 -- what a change of a mutex from c to d, and of who lives, leaves to u, who doesn't make it
@@ -21,9 +21,10 @@ pub record Spares (living living' : ℕ → Bool) (u : ℕ) (c d : Cell) : Type 
   pub robust : d.robust ≡ c.robust
   pub owner : c.word.number ≡ u → d.word.number ≡ u
   pub other : c.word.number ≢ u → d.word.number ≢ u
-  pub count : c.word.number ≡ u → d.count ≡ c.count
-  -- a mutex stays that of an owner that has ended
-  pub ended : c.word.number ≢ 0 → living c.word.number ≡ false
+  -- who owns it finds it as it was
+  pub same : c.word.number ≡ u → (d.count ≡ c.count) × (d.word.died ≡ c.word.died) × (d.health ≡ c.health)
+  -- a stalled mutex stays that of an owner that has ended
+  pub ended : c.robust ≡ false → c.word.number ≢ 0 → living c.word.number ≡ false
       → (d.word.number ≡ c.word.number) × (living' c.word.number ≡ false)
 
 -- a mutex that nobody writes, while everybody lives who lived, spares everybody
@@ -33,28 +34,39 @@ unwritten living u c d e = record {
   robust = ap (λ (x : Cell). x.robust) e;
   owner = λ o. ap (λ (x : Cell). x.word.number) e ∙ o;
   other = λ o p. o (sym (ap (λ (x : Cell). x.word.number) e) ∙ p);
-  count = λ o. ap (λ (x : Cell). x.count) e;
-  ended = λ n l. (ap (λ (x : Cell). x.word.number) e, l);
+  same = λ o. (ap (λ (x : Cell). x.count) e, ap (λ (x : Cell). x.word.died) e, ap (λ (x : Cell). x.health) e);
+  ended = λ r n l. (ap (λ (x : Cell). x.word.number) e, l);
 }
 
+-- what an owner knows of count, OWNER_DIED and health outlives what others change
+owner_knows : (P : ℕ → Bool → ℕ → Type 0) (l l' : ℕ → Bool) (u : ℕ) (c d : Cell) → Spares l l' u c d
+    → (c.word.number ≡ u → P c.count c.word.died c.health) → d.word.number ≡ u → P d.count d.word.died d.health
+owner_knows P l l' u c d k h e = go (cases_eq c.word.number u)
+  where
+    go : (c.word.number ≡ u) ⊎ (c.word.number ≢ u) → P d.count d.word.died d.health
+    go (inl own) = let a = k.same own in subst (λ n. P n d.word.died d.health) (sym a.0)
+        (subst (λ b. P c.count b d.health) (sym a.1) (subst (λ x. P c.count c.word.died x) (sym a.2) (h own)))
+    go (inr not) = absurd (k.other not e)
+
 -- a need outlives what others change
-meets_outlives : (l l' : ℕ → Bool) (u : ℕ) (x : Status) (c d : Cell) (n : Need) → Spares l l' u c d
-    → Meets l u x c n → Meets l' u x d n
+meets_outlives : (l l' : ℕ → Bool) (u : ℕ) (x : Status) (c d : Cell) (n : Need) → Spares l l' u c d → Meets l u x c n
+    → Meets l' u x d n
 meets_outlives l l' u x c d MayRun k h = h
 meets_outlives l l' u x c d HasStopped k h = h
 meets_outlives l l' u x c d NotStopped k h = h
 meets_outlives l l' u x c d Owns k h = k.owner h
 meets_outlives l l' u x c d OwnsNot k h = k.other h
 meets_outlives l l' u x c d OwnsOnceReady k h = λ e. k.owner (h e)
-meets_outlives l l' u x c d HoldsOnce k h = λ e. held (cases_eq c.word.number u) e
-  where
-    held : (c.word.number ≡ u) ⊎ (c.word.number ≢ u) → d.word.number ≡ u → d.count ≡ 1
-    held (inl own) e = k.count own ∙ h own
-    held (inr not) e = absurd (k.other not e)
+meets_outlives l l' u x c d HoldsOnce k h = owner_knows (λ n b a. n ≡ 1) l l' u c d k h
 meets_outlives l l' u x c d MayStop k (own_normal o n) = own_normal (k.owner o) (k.kind ∙ n)
 meets_outlives l l' u x c d MayStop k (lost r n e) =
-    let s = k.ended n e in
+    let s = k.ended r n e in
     lost (k.robust ∙ r) (λ z. n (sym s.0 ∙ z)) (ap l' s.0 ∙ s.1)
+meets_outlives l l' u x c d OfRobust k h = k.robust ∙ h
+meets_outlives l l' u x c d (HealthIs a) k h = owner_knows (λ n b j. j ≡ a) l l' u c d k h
+meets_outlives l l' u x c d (HealthIsNot a) k h = owner_knows (λ n b j. j ≢ a) l l' u c d k h
+meets_outlives l l' u x c d (DiedIs a) k h = owner_knows (λ n b j. b ≡ a) l l' u c d k h
+meets_outlives l l' u x c d DiedBehindDisorder k h = owner_knows (λ n b j. j ≡ 1 → b ≡ true) l l' u c d k h
 
 -- and so do all needs of a place
 all_outlive : (l l' : ℕ → Bool) (u : ℕ) (x : Status) (c d : Cell) (ns : List Need) → Spares l l' u c d
@@ -69,15 +81,15 @@ unnamed_needs l l' u v n x c d SetPriority b h = h
 unnamed_needs l l' u v n x c d _ b h = absurd (true≢false (sym b))
 
 module _ (s v : Table) (u : ℕ) (status : status_at v u ≡ status_at s u)
-    (k : (m : ℕ) → has_mutex s m ≡ true → (has_mutex v m ≡ true)
-    × Spares (is_living s.kernel) (is_living v.kernel) u (cell_at s m) (cell_at v m)) where
+    (k : (m : ℕ) → has_mutex s m ≡ true → (has_mutex v m ≡ true) × Spares (is_living s.kernel) (is_living v.kernel) u
+    (cell_at s m) (cell_at v m)) where
   -- what a call on a mutex rests on
   on_mutex : (m : ℕ) (p : Place) → has_mutex s m ≡ true
       → MeetsAll (is_living s.kernel) u (status_at s u) (cell_at s m) (needs p)
       → MeetsAll (is_living v.kernel) u (status_at v u) (cell_at v m) (needs p)
   on_mutex m p e h = subst (λ x. MeetsAll (is_living v.kernel) u x (cell_at v m) (needs p)) (sym status)
-      (all_outlive (is_living s.kernel) (is_living v.kernel) u (status_at s u) (cell_at s m) (cell_at v m)
-      (needs p) (k m e).1 h)
+      (all_outlive (is_living s.kernel) (is_living v.kernel) u (status_at s u) (cell_at s m) (cell_at v m) (needs p)
+      (k m e).1 h)
 
   -- what a call knows outlives what others change
   call_spared : (q : Request) (p : Place) → CallIsSound s u q p → CallIsSound v u q p
@@ -92,6 +104,11 @@ module _ (s v : Table) (u : ℕ) (status : status_at v u ≡ status_at s u)
     needs = on_mutex m p h.named h.needs;
   }
   call_spared (Unlock m) p h = record {
+    named = (k m h.named).0;
+    belongs = h.belongs;
+    needs = on_mutex m p h.named h.needs;
+  }
+  call_spared (Consistent m) p h = record {
     named = (k m h.named).0;
     belongs = h.belongs;
     needs = on_mutex m p h.named h.needs;

@@ -1,12 +1,14 @@
--- Local lines: a step that writes one thread's line and one mutex, and makes no kernel call. What such a line has to
--- show is of these two alone; one lemma makes it an entry of the POSIX machine that keeps the invariant.
-use Rattle.std.proofs.Common.{◌≡◌, ◌≢◌, ℕ, ◌<◌, Bool, true, length, Option, Some, None, refl, sym, ap, ◌∙◌, subst, true≢false}
-use Rattle.std.proofs.lemmas.List.{set-get_or}
+-- Local lines: a step that writes one thread's line and robust list, and one mutex, and makes no kernel call. What such
+-- a
+-- line has to show is of these alone; one lemma makes it an entry of the POSIX machine that keeps the invariant.
+use Rattle.std.proofs.Common.{◌≡◌, ◌≢◌, ℕ, ◌<◌, Bool, true, false, ◌==◌, length, Option, Some, None, refl, sym, ap, ap₂, ◌∙◌, subst, arith, if◌then◌else◌, ◌⊎◌, inl, inr, true≢false, ne_eqb}
+use Rattle.std.proofs.lemmas.Bool.{cases_eq}
+use Rattle.pif_types.specs.Bounds.{Bounds}
 use Rattle.pif_types.specs.declared.requests.Request.{Request}
-use Rattle.pif_types.specs.declared.requests.Request.TheVariants.{Lock, TryLock, Unlock, SetPrio}
+use Rattle.pif_types.specs.declared.requests.Request.TheVariants.{Lock, TryLock, Unlock, Consistent, SetPrio}
 use Rattle.pif_model.specs.declared.events.Event.TheVariants.{Go}
 use Rattle.pif_model.specs.declared.events.Seen.{Seen}
-use Rattle.pif_model.specs.declared.events.Seen.TheVariants.{Begun, Went, Waits, Answered, Refused}
+use Rattle.pif_model.specs.declared.events.Seen.TheVariants.{Begun, Went, Waits, Answered, Ended as SeenEnded, Refused}
 use Rattle.pif_model.specs.declared.events.Entry.TheVariants.{Step as Happened}
 use Rattle.pif_model.specs.declared.lines.Line.{Line}
 use Rattle.pif_model.specs.declared.lines.Line.TheVariants.{Idle, At}
@@ -14,67 +16,87 @@ use Rattle.pif_model.specs.declared.lines.Place.{Place}
 use Rattle.pif_model.specs.declared.lines.Status.{Status}
 use Rattle.pif_model.specs.declared.lines.Status.TheVariants.{Queued}
 use Rattle.pif_model.specs.Graph.{has_waiter}
-use Rattle.pif_model.specs.Word.{Word, word_at}
-use Rattle.pif_model.specs.Posix.{Progress, Call, World, Effect, Effects, no_mutex, named_by, names_known, thread_at, with_thread, with_mutex, with_progress, call_at_progress}
+use Rattle.pif_model.specs.Word.{Word, word_at, health_word_at}
+use Rattle.pif_model.specs.Posix.{Health, Progress, Call, World, Effects, named_by, names_known, thread_at, with_thread, with_mutex, with_progress, progressed}
 use Rattle.pif_model.specs.Posix.Progress.{Has}
-use Rattle.pif_model.specs.Posix.Effects.{none, then as first}
 use Rattle.pif_model.specs.PiKernel.{is_ready, is_living}
-use Rattle.pif_model.specs.Table.{Table, Cell, has_thread, has_mutex, status_at, line_at, library_at, cell_at, with_line}
-use Rattle.pif_model.specs.Lines.{goes_to, answers}
-use Rattle.pif_model.specs.Standing.{Shadow, MeetsAll, needs, belongs, call_at, progress_at, health_at, world_of, LineIsSound, CellIsSound, IsSound}
+use Rattle.pif_model.specs.RobustList.{RobustRow, has_entry, robust_at, is_listed}
+use Rattle.pif_model.specs.Table.{Table, Cell, has_thread, has_mutex, status_at, line_at, library_at, cell_at}
+use Rattle.pif_model.specs.Standing.{Shadow, MeetsAll, needs, belongs, call_at, progress_at, health_of, health_at, world_of, LineIsSound, CellIsSound, ListIsSound, ThreadIsSound, IsSound, mutex_by, robust_by, is_pending, is_half_linked, is_unlinked, is_unsettled, holds_robust}
 use Rattle.pif_chains.proofs.Numbers.{above_0, below}
-use Rattle.pif_simulation.proofs.Kept.{Spares, unwritten}
-use Rattle.pif_simulation.proofs.Hole.{Changes, change_kept, excuse_one, admit_last}
-use Rattle.pif_simulation.proofs.Shown.{mutex_seen, with_call_closed-with_progress, call_progressed}
-use Rattle.pif_simulation.proofs.Written.{table_after_write, cell_written, mutex_of, no_call, changes, cell_here, line_here, call_shown, written_line}
+use Rattle.pif_chains.proofs.KernelFacts.{living-added}
+use Rattle.pif_chains.proofs.Waiting.{by_test}
+use Rattle.pif_simulation.proofs.Kept.{Spares}
+use Rattle.pif_simulation.proofs.Hole.{Changes, change_kept, excuse_one, admit_last, each_thread, each_absent}
+use Rattle.pif_simulation.proofs.Shown.{mutex_seen, closed_progressed, call_progressed}
+use Rattle.pif_simulation.proofs.Written.{written, cell_written, mutex_of, no_call, changes, cell_here, line_here, list_here, call_there, call_shown}
 use Rattle.pif_simulation.proofs.Does.{Does, does_seen}
-use Rattle.pif_simulation.proofs.Does.Does.{nothing}
-use Rattle.pif_simulation.proofs.Steps.{Keeps, GoKeeps, Going, going_called, going_below, going_lined, goes_with, answers_with}
+use Rattle.pif_simulation.proofs.Steps.{Keeps, Going, going_called, going_below, going_lined, goes_with, answers_with}
 
 -- WHAT A LINE DOES
 
--- its answer, its thread's line, and the word and the count of its mutex
+-- its answer, its thread's line and robust list, and the word, the health word and the count of its mutex
 pub record Move : Type 0 where
   pub seen : Seen
   pub line : Line
+  pub row : RobustRow
   pub word : Word
+  pub health : ℕ
   pub count : ℕ
 
 -- the table after a move of t on m
-abbrev pub table_after_move : ℕ → ℕ → Move → Table → Table
-table_after_move t m o s = table_after_write t m o.line o.word o.count s.kernel s
+abbrev pub moved : ℕ → ℕ → Move → Table → Table
+moved t m o s = written t m o.line o.row o.word o.health o.count s.kernel s
 
 -- the mutex that a move leaves
 abbrev pub cell_left : ℕ → Move → Table → Cell
-cell_left m o s = cell_written m o.word o.count s.kernel s
+cell_left m o s = cell_written m o.word o.health o.count s.kernel s
 
 -- WHAT A LOCAL LINE HAS TO SHOW
 
 -- what t knows at the line to which it has gone, of the one mutex m as it is then
 abbrev pub KnowsAfter : Table → ℕ → ℕ → Cell → Line → Type 0
 KnowsAfter s t m c Idle = is_ready (status_at s t) ≡ true
-KnowsAfter s t m c (At q p) = (named_by q ≡ m) × (belongs q p ≡ true)
-    × MeetsAll (is_living s.kernel) t (status_at s t) c (needs p)
+KnowsAfter s t m c (At q p) = (named_by q ≡ m) × (belongs q p ≡ true) × MeetsAll (is_living s.kernel) t
+    (status_at s t) c (needs p)
 
--- what the answer says of the call q, which has come as far as a: it went and is open, or it has a result and is closed
-abbrev pub Shows : Table → ℕ → Request → Progress → Seen → Line → Type 0
-Shows s t q a Went l = call_at (health_at s) l (status_at s t) ≡ Some (record { request = q; progress = a })
-Shows s t q a (Answered n) l = (a ≡ Has n) × (l ≡ Idle)
-Shows s t q a Begun l = ⊥
-Shows s t q a Waits l = ⊥
-Shows s t q a (Refused r) l = ⊥
+-- what the answer says of the call q, which has come as far as a, where its mutex m has the health h then: it went and
+-- is
+-- open, or it has a result and is closed
+abbrev pub Shows : Table → ℕ → ℕ → Health → Request → Progress → Seen → Line → Type 0
+Shows s t m h q a Went l = (p : Place) × (l ≡ At q p) × (progress_at p (status_at s t) h ≡ a)
+Shows s t m h q a (Answered n) l = (a ≡ Has n) × (l ≡ Idle)
+Shows s t m h q a Begun l = ⊥
+Shows s t m h q a Waits l = ⊥
+Shows s t m h q a SeenEnded l = ⊥
+Shows s t m h q a (Refused r) l = ⊥
+
+-- what is on the robust list of t after a line that goes to l and leaves m as the cell c: pending field and half-linked
+-- mutex are the place's, the other mutexes stay on the list or off it, and m is there where t owns it, save at an
+-- unlinked place; and t, where it owns m, finds it in order, save at an unsettled place
+pub record ListsAfter (s : Table) (t m : ℕ) (c : Cell) (l : Line) (r : RobustRow) : Type 0 where
+  pub pending : r.pending ≡ robust_by is_pending s l
+  pub half_linked : r.half_linked ≡ robust_by is_half_linked s l
+  pub others : (j : ℕ) → j ≢ m → has_entry r.listed j ≡ is_listed s.lists t j
+  pub own : has_entry r.listed m ≡ (if (if c.robust then c.word.number == t else false)
+      then (if m == mutex_by is_unlinked l then false else true) else false)
+  pub settled : c.word.number ≡ t → m ≢ mutex_by is_unsettled l → (c.word.died ≡ false) × (c.health ≢ 2)
 
 -- a move of t in its call q on m, by which the call has come as far as a: it changes what t alone may change
 pub record IsLocal (s : Table) (t m : ℕ) (q : Request) (a : Progress) (o : Move) : Type 0 where
   pub ready : is_ready (status_at s t) ≡ true
   -- t knows what it has to, there
   pub knows : KnowsAfter s t m (cell_left m o s) o.line
-  -- the mutex is sound, its health stays, and it spares the others
+  pub lists : ListsAfter s t m (cell_left m o s) o.line o.row
+  -- the mutex is sound, and spares the others; who owns it lives
   pub cell : CellIsSound (has_thread s) (has_waiter s.kernel.waiters m) (cell_left m o s)
-  pub died : o.word.died ≡ (word_at s.words m).died
-  pub spares : (u : ℕ) → u ≢ t → u ≢ 0 → Spares (is_living s.kernel) (is_living s.kernel) u
-      (cell_at s m) (cell_left m o s)
-  pub shows : Shows s t q a o.seen o.line
+  pub alive : (library_at s m).robust ≡ true → o.word.number ≢ 0 → o.word.number ≢ t
+      → is_living s.kernel o.word.number ≡ true
+  pub spares : (u : ℕ) → u ≢ t → u ≢ 0 → Spares (is_living s.kernel) (is_living s.kernel) u (cell_at s m)
+      (cell_left m o s)
+  -- its health stays, or t owned it
+  pub health : (health_of o.health o.word.died ≡ health_at s m) ⊎ ((word_at s.words m).number ≡ t)
+  pub shows : Shows s t m (health_of o.health o.word.died) q a o.seen o.line
 
 -- who may run is queued on nothing
 pub ready-not_queued : (x : Status) (m : ℕ) → is_ready x ≡ true → x ≡ Queued m → ⊥
@@ -85,38 +107,159 @@ pub known_named : (exists : ℕ → Bool) (q : Request) → exists (named_by q) 
 known_named exists (Lock m) e = e
 known_named exists (TryLock m) e = e
 known_named exists (Unlock m) e = e
+known_named exists (Consistent m) e = e
 known_named exists (SetPrio u p) e = refl
+
+-- the only mutex that a line names
+abbrev pub NamesOnly : ℕ → Line → Type 0
+NamesOnly m Idle = Unit {0}
+NamesOnly m (At q p) = named_by q ≡ m
+
+-- another mutex is not the one of a line, whatever its place
+pub apart : (test : Place → Bool) (l : Line) (m j : ℕ) → NamesOnly m l → j ≢ m → j ≢ 0 → j ≢ mutex_by test l
+apart test Idle m j k d z e = z e
+apart test (At q p) m j k d z e = by_test (λ b. j ≡ (if b then named_by q else 0) → ⊥) (test p) (λ _ x. d (x ∙ k))
+    (λ _ x. z x) e
+
+-- a line at which a thread knows one mutex names only that
+pub knows-names : (s : Table) (t m : ℕ) (c : Cell) (l : Line) → KnowsAfter s t m c l → NamesOnly m l
+knows-names s t m c Idle k = tt
+knows-names s t m c (At q p) k = k.0
+
+-- a robust list after a change of one mutex, that of its thread's line before and after
+pub lists_after : (s v : Table) (t m : ℕ) (l l' : Line) → NamesOnly m l → NamesOnly m l' → has_mutex s m ≡ true
+    → ((j : ℕ) → has_mutex v j ≡ has_mutex s j) → ((j : ℕ) → (library_at v j).robust ≡ (library_at s j).robust)
+    → ((j : ℕ) → j ≢ m → cell_at v j ≡ cell_at s j)
+    → ListIsSound s t l → ListsAfter s t m (cell_at v m) l' (robust_at v.lists t) → ListIsSound v t l'
+lists_after s v t m l l' k k' known mutexes robust cells b a = record {
+  pending = a.pending ∙ sym (ap (λ x. if x then mutex_by is_pending l' else 0) (robust (mutex_by is_pending l')));
+  half_linked = a.half_linked ∙ sym (ap (λ x. if x then mutex_by is_half_linked l' else 0)
+      (robust (mutex_by is_half_linked l')));
+  listed = λ j. go j (cases_eq j m);
+}
+  where
+    elsewhere : (j : ℕ) → j ≢ m → j ≢ 0 → (x : Line) → NamesOnly m x
+        → (if j == mutex_by is_unlinked x then false else true) ≡ true
+    elsewhere j d z x n = ap (λ y. if y then false else true)
+        (ne_eqb j (mutex_by is_unlinked x) (apart is_unlinked x m j n d z))
+
+    other : (j : ℕ) → j ≢ m → (j ≡ 0) ⊎ (j ≢ 0) → is_listed v.lists t j
+        ≡ (if holds_robust v t j then (if j == mutex_by is_unlinked l' then false else true) else false)
+    other j d z = a.others j d ∙ b.listed j ∙ same z
+      where
+        held : holds_robust v t j ≡ holds_robust s t j
+        held = ap (λ x. if x then (if (library_at v j).robust then (word_at v.words j).number == t else false)
+            else false) (mutexes j)
+            ∙ ap (λ (c : Cell). if has_mutex s j then (if c.robust then c.word.number == t else false) else false)
+            (cells j d)
+
+        none : j ≡ 0 → (x : Table) → holds_robust x t j ≡ false
+        none e x = ap (λ i. holds_robust x t i) e
+
+        same : (j ≡ 0) ⊎ (j ≢ 0) → (if holds_robust s t j then (if j == mutex_by is_unlinked l then false else true)
+            else false) ≡ (if holds_robust v t j then (if j == mutex_by is_unlinked l' then false else true) else false)
+        same (inl e) = ap (λ y. if y then (if j == mutex_by is_unlinked l then false else true) else false) (none e s)
+            ∙ sym (ap (λ y. if y then (if j == mutex_by is_unlinked l' then false else true) else false) (none e v))
+        same (inr e) = ap₂ (λ x y. if x then y else false) (sym held)
+            (elsewhere j d e l k ∙ sym (elsewhere j d e l' k'))
+
+    go : (j : ℕ) → (j ≡ m) ⊎ (j ≢ m) → is_listed v.lists t j
+        ≡ (if holds_robust v t j then (if j == mutex_by is_unlinked l' then false else true) else false)
+    go j (inl e) = subst (λ i. is_listed v.lists t i ≡ (if holds_robust v t i
+        then (if i == mutex_by is_unlinked l' then false else true) else false)) (sym e)
+        (a.own ∙ ap (λ x. if (if x then (if (library_at v m).robust then (word_at v.words m).number == t else false)
+        else false) then (if m == mutex_by is_unlinked l' then false else true) else false)
+        (sym (mutexes m ∙ known)))
+    go j (inr d) = other j d (cases_eq j 0)
+
+-- what its thread owns is in order after such a change
+pub settled_after : (s v : Table) (t m : ℕ) (l l' : Line) → NamesOnly m l → ((j : ℕ) → has_mutex v j ≡ has_mutex s j)
+    → ((j : ℕ) → j ≢ m → cell_at v j ≡ cell_at s j)
+    → ((j : ℕ) → has_mutex s j ≡ true → (word_at s.words j).number ≡ t → j ≢ mutex_by is_unsettled l
+    → ((word_at s.words j).died ≡ false) × (health_word_at s.words j ≢ 2))
+    → ((cell_at v m).word.number ≡ t → m ≢ mutex_by is_unsettled l'
+    → ((cell_at v m).word.died ≡ false) × ((cell_at v m).health ≢ 2))
+    → (j : ℕ) → has_mutex v j ≡ true → (word_at v.words j).number ≡ t → j ≢ mutex_by is_unsettled l'
+    → ((word_at v.words j).died ≡ false) × (health_word_at v.words j ≢ 2)
+settled_after s v t m l l' k mutexes cells b own j e o away = go (cases_eq j m)
+  where
+    go : (j ≡ m) ⊎ (j ≢ m) → ((word_at v.words j).died ≡ false) × (health_word_at v.words j ≢ 2)
+    go (inl q) = subst (λ i. (word_at v.words i).number ≡ t → i ≢ mutex_by is_unsettled l'
+        → ((word_at v.words i).died ≡ false) × (health_word_at v.words i ≢ 2)) (sym q) own o away
+    go (inr d) =
+        let c = cells j d in
+        let known : has_mutex s j ≡ true = sym (mutexes j) ∙ e in
+        subst (λ (x : Cell). (x.word.died ≡ false) × (x.health ≢ 2)) (sym c)
+        (b j known (sym (ap (λ (x : Cell). x.word.number) c) ∙ o)
+        (apart is_unsettled l m j k d (above_0 j (length s.mutexes) known)))
 
 module _ {s : Table} {t : ℕ} {q : Request} {p : Place} (g : Going s t q p)
     (named : has_mutex s (named_by q) ≡ true) where
   abbrev m : ℕ
   m = named_by q
 
+  -- t was added
+  pub going_added : has_thread s t ≡ true
+  going_added = living-added s.kernel t g.known
+
   -- both are there
   t0 : t ≢ 0
-  t0 = above_0 t (length s.kernel.seats) g.known
+  t0 = above_0 t (length s.kernel.seats) going_added
 
   ml : m < length s.mutexes
   ml = below m (length s.mutexes) named
+
+  -- t has a robust list
+  pub going_row : t < length s.lists.threads
+  going_row = omega (
+    arith,
+    below t (length s.kernel.seats) going_added,
+    g.sound.kernel.shape.few,
+    g.sound.all.shape.lists,
+    ap (λ (b : Bounds). b.threads) g.sound.all.shape.limits,
+  )
 
   -- the mutex of t's call is sound
   pub going_cell : CellIsSound (has_thread s) (has_waiter s.kernel.waiters m) (cell_at s m)
   going_cell = g.sound.all.mutexes m named
 
+  -- what holds of t
+  pub going_thread : ThreadIsSound s t
+  going_thread = each_thread g.sound t g.known
+
+  -- its robust list
+  pub going_list : ListIsSound s t (At q p)
+  going_list = subst (ListIsSound s t) g.line going_thread.list
+
+  -- what it owns is in order
+  pub going_settled : (j : ℕ) → has_mutex s j ≡ true → (word_at s.words j).number ≡ t
+      → j ≢ mutex_by is_unsettled (At q p) → ((word_at s.words j).died ≡ false) × (health_word_at s.words j ≢ 2)
+  going_settled j e o away = going_thread.settled j e o (λ x. away (x ∙ ap (mutex_by is_unsettled) g.line))
+
   module _ (a : Progress) (o : Move) (l : IsLocal s t m q a o) where
     abbrev v : Table
-    v = table_after_move t m o s
+    v = moved t m o s
 
     -- the change that the move is
     change : Changes (λ u. u ≡ t) s v m
-    change = changes s t m o.line o.word o.count s.kernel t0 (going_lined g) ml g.sound.all.shape refl
-        (no_call (λ u. u ≡ t) s.kernel m)
-        (λ e. absurd (above_0 m (length s.mutexes) named e)) (λ e. l.cell)
-        (λ u k n. l.spares u n (above_0 u (length s.kernel.seats) k))
+    change = changes s t m o.line o.row o.word o.health o.count s.kernel t0
+        (going_lined g) going_row ml g.sound.all.shape refl (no_call (λ u. u ≡ t) s.kernel m)
+        (λ e. absurd (above_0 m (length s.mutexes) named e)) (λ e. l.cell) (λ e r z n. l.alive r z n)
+        (λ u z n. l.spares u n z)
 
-    -- t's line after it
+    -- t's line and robust list after it
     here : line_at v t ≡ o.line
-    here = line_here s t m o.line o.word o.count s.kernel t0 (going_lined g) ml g.sound.all.shape
+    here = line_here s t m o.line o.row o.word o.health o.count s.kernel t0
+        (going_lined g) going_row ml g.sound.all.shape
+
+    row_here : robust_at v.lists t ≡ o.row
+    row_here = list_here s t m o.line o.row o.word o.health o.count s.kernel t0
+        (going_lined g) going_row ml g.sound.all.shape
+
+    -- the mutex
+    cell_m : cell_at v m ≡ cell_left m o s
+    cell_m = cell_here s t m o.line o.row o.word o.health o.count s.kernel t0
+        (going_lined g) going_row ml g.sound.all.shape
 
     -- what t knows then
     after : (k : Line) → KnowsAfter s t m (cell_left m o s) k → LineIsSound v t k
@@ -125,16 +268,26 @@ module _ {s : Table} {t : ℕ} {q : Request} {p : Place} (g : Going s t q p)
       named = known_named (has_mutex v) r (ap (has_mutex v) h.0 ∙ change.mutexes m ∙ named);
       belongs = h.1;
       needs = subst (λ c. MeetsAll (is_living s.kernel) t (status_at s t) c (needs b))
-          (sym (ap (cell_at v) h.0 ∙ cell_here s t m o.line o.word o.count s.kernel t0
-          (going_lined g) ml g.sound.all.shape)) h.2;
+          (sym (ap (cell_at v) h.0 ∙ cell_m)) h.2;
     }
 
     -- the table is sound after the move
     pub move_sound : IsSound v
     move_sound = record {
-      all = admit_last (change_kept (excuse_one g.sound t) change) (record {
+      all = admit_last (change_kept (excuse_one g.sound t) change) g.known (record {
         line = subst (LineIsSound v t) (sym here) (after o.line l.knows);
         queue = λ n e. absurd (ready-not_queued (status_at s t) n l.ready e);
+        list = subst (ListIsSound v t) (sym here) (lists_after s v t m (At q p) o.line refl
+            (knows-names s t m (cell_left m o s) o.line l.knows) named change.mutexes change.robust change.cells
+            going_list
+            (subst (λ c. ListsAfter s t m c o.line (robust_at v.lists t)) (sym cell_m)
+            (subst (ListsAfter s t m (cell_left m o s) o.line) (sym row_here) l.lists)));
+        settled = subst (λ k. (j : ℕ) → has_mutex v j ≡ true → (word_at v.words j).number ≡ t
+            → j ≢ mutex_by is_unsettled k → ((word_at v.words j).died ≡ false) × (health_word_at v.words j ≢ 2))
+            (sym here)
+            (settled_after s v t m (At q p) o.line refl change.mutexes change.cells going_settled
+            (subst (λ (c : Cell). c.word.number ≡ t → m ≢ mutex_by is_unsettled o.line
+            → (c.word.died ≡ false) × (c.health ≢ 2)) (sym cell_m) l.lists.settled));
       });
       kernel = g.sound.kernel;
     }
@@ -143,26 +296,53 @@ module _ {s : Table} {t : ℕ} {q : Request} {p : Place} (g : Going s t q p)
     abbrev left : Shadow → World
     left y = with_mutex m (mutex_of (cell_left m o s)) (world_of s y)
 
+    -- another thread's call has come as far as before
+    calls : (u : ℕ) → u ≢ t → call_at (health_at v) (line_at s u) (status_at s u) ≡ call_at (health_at s)
+        (line_at s u) (status_at s u)
+    calls u d = by_test (λ b. is_living s.kernel u ≡ b → call_at (health_at v) (line_at s u) (status_at s u) ≡ call_at
+        (health_at s) (line_at s u) (status_at s u)) (is_living s.kernel u)
+        (λ e _. call_there s t m o.line o.row o.word o.health o.count s.kernel t0
+        (going_lined g) going_row ml g.sound.all.shape u (why l.health) (each_thread g.sound u e))
+        (λ e _. subst (λ k. call_at (health_at v) k (status_at s u) ≡ call_at (health_at s) k (status_at s u))
+        (sym (each_absent g.sound u e).line) refl) refl
+      where
+        why : (health_of o.health o.word.died ≡ health_at s m) ⊎ ((word_at s.words m).number ≡ t)
+            → (health_of o.health o.word.died ≡ health_at s m) ⊎ ((word_at s.words m).number ≢ u)
+        why (inl e) = inl e
+        why (inr e) = inr (λ x. d (sym x ∙ e))
+
     -- the world that the move shows, with this call of t
-    shown : (y : Shadow) (c : Option Call) → call_at (health_at s) o.line (status_at s t) ≡ c
+    shown : (y : Shadow) (c : Option Call) → call_at (health_at v) o.line (status_at s t) ≡ c
         → world_of v y ≡ with_thread t (record (thread_at (left y) t) { call = c }) (left y)
-    shown y c e = call_shown s t m o.line o.word o.count s.kernel t0
-        (going_lined g) ml g.sound.all.shape y c move_sound.all.shape l.died refl (λ u d. refl) refl e
+    shown y c e = call_shown s t m o.line o.row o.word o.health o.count s.kernel t0
+        (going_lined g) going_row ml g.sound.all.shape y c move_sound.all.shape (λ u. refl) (λ u d. refl) calls refl e
+
+    -- how far the call has come at its place then
+    at_place : (b : Place) → o.line ≡ At q b → progress_at b (status_at s t) (health_of o.health o.word.died) ≡ a
+        → call_at (health_at v) o.line (status_at s t) ≡ Some (record { request = q; progress = a })
+    at_place b e f = ap (λ k. call_at (health_at v) k (status_at s t)) e
+        ∙ ap (λ (c : Cell). Some (record {
+          request = q;
+          progress = progress_at b (status_at s t)
+              (health_of c.health c.word.died);
+        })) cell_m
+        ∙ ap (λ x. Some (record { request = q; progress = x })) f
 
     -- the move is an entry of the POSIX machine, by its answer
-    by_answer : (seen : Seen) → Shows s t q a seen o.line
+    by_answer : (seen : Seen) → Shows s t m (health_of o.health o.word.died) q a seen o.line
         → ((y : Shadow) → Effects t (world_of s y) (with_progress t a (left y))) → Keeps s (Happened (Go t) seen) v
     by_answer Went e effects = goes_with g v move_sound refl g.known l.ready (λ y. subst (Effects t (world_of s y))
-        (sym (shown y (call_at_progress a (thread_at (left y) t).call) (e
-        ∙ sym (ap (call_at_progress a) (going_called g y))))) (effects y))
+        (sym (shown y (progressed a (thread_at (left y) t).call)
+        (at_place e.0 e.1 e.2 ∙ sym (ap (progressed a) (going_called g y))))) (effects y))
     by_answer (Answered n) e effects = answers_with g v n
         (λ y. with_progress t a (left y)) move_sound refl g.known l.ready effects
         (λ y. call_progressed (left y) t a _ (going_below g y) (going_called g y)
         ∙ (λ i. Some (record { request = q; progress = e.0 i })))
-        (λ y. shown y None (ap (λ k. call_at (health_at s) k (status_at s t)) e.1)
-        ∙ sym (with_call_closed-with_progress (left y) t a (going_below g y)))
+        (λ y. shown y None (ap (λ k. call_at (health_at v) k (status_at s t)) e.1)
+        ∙ sym (closed_progressed (left y) t a (going_below g y)))
     by_answer Begun e effects = absurd e
     by_answer Waits e effects = absurd e
+    by_answer SeenEnded e effects = absurd e
     by_answer (Refused r) e effects = absurd e
 
     -- a local move with such effects is an entry of the POSIX machine, and keeps the invariant
@@ -176,63 +356,3 @@ module _ {s : Table} {t : ℕ} {q : Request} {p : Place} (g : Going s t q p)
         → Keeps s (Happened (Go t) o.seen) v
     local_kept does = local_by (λ y. does_seen (world_of s y) t m (going_called g y)
         (mutex_seen g.sound.all.shape y m) does)
-
-  -- a move that leaves the mutex as it was
-  abbrev still : Seen → Line → Move
-  still seen l = record { seen = seen; line = l; word = word_at s.words m; count = (library_at s m).count }
-
-  -- leaves all but t's line
-  still_line : (seen : Seen) (l : Line) → table_after_move t m (still seen l) s ≡ with_line t l s
-  still_line seen l = written_line t m l s.kernel s
-
-  -- nobody is touched then
-  spares_still : (u : ℕ) → u ≢ t → u ≢ 0 → Spares (is_living s.kernel) (is_living s.kernel) u
-      (cell_at s m) (cell_at s m)
-  spares_still u d z = unwritten (is_living s.kernel) u (cell_at s m) (cell_at s m) refl
-
-  -- to go on at a place where all that the call rests on is met, with no effect
-  pub goes : (b : Place) → is_ready (status_at s t) ≡ true → belongs q b ≡ true
-      → progress_at b (status_at s t) (health_at s m) ≡ progress_at p (status_at s t) (health_at s m)
-      → MeetsAll (is_living s.kernel) t (status_at s t) (cell_at s m) (needs b) → GoKeeps s t (goes_to t q b s)
-  goes b ready ours same met = subst (Keeps s (Happened (Go t) Went)) (still_line Went (At q b))
-      (local_kept (progress_at p (status_at s t) (health_at s m)) (still Went (At q b)) (record {
-        ready = ready;
-        knows = (refl, ours, met);
-        cell = going_cell;
-        died = refl;
-        spares = spares_still;
-        shows = ap (λ c. Some (record { request = q; progress = c })) same;
-      }) (nothing refl refl))
-
-  -- what to answer and leave the mutex as it is has to show
-  answer_is_local : (n : ℕ) → is_ready (status_at s t) ≡ true → IsLocal s t m q (Has n) (still (Answered n) Idle)
-  answer_is_local n ready = record {
-    ready = ready;
-    knows = ready;
-    cell = going_cell;
-    died = refl;
-    spares = spares_still;
-    shows = (refl, refl);
-  }
-
-  -- to answer with an effect on the call alone, which is one of those on a call and its mutex
-  pub answers_local : (n : ℕ) → is_ready (status_at s t) ≡ true
-      → Does t m (has_waiter s.kernel.waiters m) q (progress_at p (status_at s t) (health_at s m))
-      (mutex_of (cell_at s m)) (Has n) (mutex_of (cell_at s m))
-      → GoKeeps s t (answers t n s)
-  answers_local n ready does = subst (Keeps s (Happened (Go t) (Answered n))) (still_line (Answered n) Idle)
-      (local_kept (Has n) (still (Answered n) Idle) (answer_is_local n ready) does)
-
-  -- a mutex is put where it stays
-  mutex_stays : (y : Shadow) → with_mutex m (mutex_of (cell_at s m)) (world_of s y) ≡ world_of s y
-  mutex_stays y =
-      ap (λ z. with_mutex m z (world_of s y)) (sym (mutex_seen g.sound.all.shape y m))
-      ∙ (λ i. record (world_of s y) { mutexes = set-get_or (world_of s y).mutexes m no_mutex i })
-
-  -- to answer with an effect of another kind on the call alone
-  pub answers_alone : (n : ℕ) → is_ready (status_at s t) ≡ true
-      → ((y : Shadow) → Effect t (world_of s y) (with_progress t (Has n) (world_of s y))) → GoKeeps s t (answers t n s)
-  answers_alone n ready effect = subst (Keeps s (Happened (Go t) (Answered n))) (still_line (Answered n) Idle)
-      (local_by (Has n) (still (Answered n) Idle) (answer_is_local n ready)
-      (λ y. subst (λ x. Effects t (world_of s y) (with_progress t (Has n) x)) (sym (mutex_stays y))
-      (first (effect y) (none refl))))

@@ -1,7 +1,7 @@
 -- The lines of pthread_mutex_lock that make a kernel call: lock_pi, and stop.
-use Rattle.std.proofs.Common.{◌≡◌, ◌≢◌, ◌⊎◌, inl, inr, ℕ, ◌<◌, Bool, true, false, [], ◌∷◌, ◌++◌, length, Result, Ok, Err, refl, sym, ap, ◌∙◌, subst, arith, if◌then◌else◌, eq-eqb, ne_eqb}
+use Rattle.std.proofs.Common.{List, set, get_or, nat_lt, ◌==◌, ◌≡◌, ◌≢◌, ◌⊎◌, inl, inr, ℕ, ◌<◌, Bool, true, false, [], ◌∷◌, ◌++◌, length, Result, Ok, Err, refl, sym, ap, ◌∙◌, subst, arith, if◌then◌else◌, eq-eqb, ne_eqb}
 use Rattle.std.proofs.lemmas.Bool.{cases_eq, true≢false}
-use Rattle.std.proofs.lemmas.List.{get_or-set_same, get_or-set_other}
+use Rattle.std.proofs.lemmas.List.{length-set, get_or-set_same, get_or-set_other}
 use Rattle.pif_types.specs.declared.errors.Errno.{Errno}
 use Rattle.pif_types.specs.declared.errors.Errno.TheVariants.{NoSuchThread, Deadlock}
 use Rattle.pif_types.specs.declared.requests.Request.TheVariants.{Lock}
@@ -9,35 +9,55 @@ use Rattle.pif_model.specs.declared.events.Event.TheVariants.{Go}
 use Rattle.pif_model.specs.declared.events.Seen.TheVariants.{Waits}
 use Rattle.pif_model.specs.declared.events.Entry.TheVariants.{Step as Happened}
 use Rattle.pif_model.specs.declared.lines.Line.TheVariants.{At}
-use Rattle.pif_model.specs.declared.lines.Place.TheVariants.{LockKernel, LockQueued, LockStop, LockStopped}
-use Rattle.pif_model.specs.declared.lines.Status.TheVariants.{Queued, Stopped}
+use Rattle.pif_model.specs.declared.lines.Place.TheVariants.{LockKernel, LockQueued, LockStop, LockStopped, LockClear, TakeLoad}
+use Rattle.pif_model.specs.declared.lines.Status.TheVariants.{Queued, Stopped, Ended}
 use Rattle.pif_model.specs.declared.lines.Took.{Took}
 use Rattle.pif_model.specs.declared.lines.Took.TheVariants.{Owns as TookOwns, Queued as TookQueued}
 use Rattle.pif_model.specs.Graph.{has_waiter, reaches_within}
-use Rattle.pif_model.specs.Word.{mark_word, word_at, has_word, set_word}
-use Rattle.pif_model.specs.Posix.{Mutex, Locks, mutex_at, is_lost, leads_to, with_progress}
+use Rattle.pif_model.specs.Word.{mark_word, taken_word, word_at, health_word_at, has_word, set_word}
+use Rattle.pif_model.specs.Posix.{Mutex, Effect, Locks, mutex_at, is_lost, leads_to, with_progress}
 use Rattle.pif_model.specs.Posix.Progress.{Waiting, Stuck, Has}
 use Rattle.pif_model.specs.Posix.Effects.{none, then as first}
 use Rattle.pif_model.specs.Posix.Locks.{own_normal, lost, cycle, joins}
-use Rattle.pif_model.specs.PiKernel.{no_seat, seat_at, state_at, is_ready, is_living, waits_for, lock_answer, words_after_lock, kernel_after_lock, kernel_after_queueing, kernel_after_stop}
-use Rattle.pif_model.specs.Table.{Table, cell_at, has_thread, library_at, with_kernel, with_line}
-use Rattle.pif_model.specs.Lines.{Outcome, answers, lock_by, lock_kernel, lock_stop}
+use Rattle.pif_model.specs.PiKernel.{Kernel, Seat, has_seat, has_ended, no_seat, seat_at, state_at, is_ready, is_living, waits_for, lock_answer, words_after_lock, kernel_after_lock, kernel_after_queueing, kernel_after_stop}
+use Rattle.pif_model.specs.Table.{Table, cell_at, has_thread, library_at, with_kernel, with_line, with_word}
+use Rattle.pif_model.specs.Lines.{Outcome, ends_by, lock_by, lock_kernel, lock_stop}
+use Rattle.pif_model.specs.RobustList.{robust_at}
 use Rattle.pif_model.specs.Standing.{Shadow, CellIsSound, MayStopFor, progress_at, health_at, world_of}
 use Rattle.pif_model.specs.Standing.MayStopFor.{own_normal as stops_own, lost as stops_lost}
 use Rattle.pif_chains.proofs.Waiting.{by_test, has_waiter-push, or_true}
 use Rattle.pif_chains.proofs.Numbers.{above_0, below, from_within}
-use Rattle.pif_chains.proofs.KernelKept.{stop_kept}
-use Rattle.pif_chains.proofs.KernelKept.{queueing_kept}
+use Rattle.pif_chains.proofs.KernelFacts.{ready-not_ended}
+use Rattle.pif_chains.proofs.KernelKept.{stop_kept, queueing_kept}
+use Rattle.pif_chains.proofs.LineCases.{ends_by_cases}
 use Rattle.pif_simulation.proofs.Shown.{mutex_seen, living_seen}
-use Rattle.pif_simulation.proofs.Written.{table_after_write, written_line, written_word}
+use Rattle.pif_simulation.proofs.Written.{written, written_is, same_word, same_health, same_list, same_library}
 use Rattle.pif_simulation.proofs.Steps.{Keeps, GoKeeps, Going, going_named, going_met, waits_with}
 use Rattle.pif_simulation.proofs.Does.IsLocking.{by_lock}
-use Rattle.pif_simulation.proofs.Local.{going_cell, goes, answers_alone}
-use Rattle.pif_simulation.proofs.Owning.{none_from_free, state_from_none, state_agrees}
-use Rattle.pif_simulation.proofs.TakingLines.{kernel_takes}
+use Rattle.pif_simulation.proofs.Local.{going_cell, going_added}
+use Rattle.pif_simulation.proofs.LocalLines.{goes, goes_alone, answers_alone, lists_by, row_same, row_other, settled_so_far}
+use Rattle.pif_simulation.proofs.Owning.{state_from_none, state_agrees}
+use Rattle.pif_simulation.proofs.TakingLines.{takes_stalled, takes_to_load}
 use Rattle.pif_simulation.proofs.Effective.{leads_seen}
 use Rattle.pif_simulation.proofs.Called.{IsOneCall, queueing_on, stop_on, called_sound, called_known, called_shown}
 use Rattle.pif_simulation.proofs.LockLines.{locks, owner_seen}
+
+-- who lives is the same where the kernel knows something else of one thread, which may run and has not ended then
+living_same : (k k' : Kernel) (t : ℕ) (x : Seat) → has_seat k t ≡ true → is_ready (seat_at k t).status ≡ true
+    → has_ended x.status ≡ false
+    → k'.seats ≡ set k.seats t x → (u : ℕ) → is_living k' u ≡ is_living k u
+living_same k k' t x known ready alive e u =
+    ap (λ (ss : List Seat). if (if u == 0 then false else nat_lt u (length ss))
+    then (if has_ended (get_or ss u no_seat).status then false else true) else false) e
+    ∙ (λ i. if (if u == 0 then false else nat_lt u (length-set k.seats t x i))
+    then (if ended (cases_eq u t) i then false else true) else false)
+  where
+    ended : (u ≡ t) ⊎ (u ≢ t) → has_ended (get_or (set k.seats t x) u no_seat).status ≡ has_ended (seat_at k u).status
+    ended (inl q) = subst (λ j. has_ended (get_or (set k.seats t x) j no_seat).status ≡ has_ended
+        (seat_at k j).status) (sym q)
+        (ap (λ (y : Seat). has_ended y.status) (get_or-set_same k.seats t x no_seat (below t (length k.seats) known))
+        ∙ alive ∙ sym (ready-not_ended (seat_at k t).status ready))
+    ended (inr d) = ap (λ (y : Seat). has_ended y.status) (get_or-set_other k.seats t u x no_seat d)
 
 module _ (s : Table) (t m : ℕ) where
   -- STOP
@@ -47,8 +67,8 @@ module _ (s : Table) (t m : ℕ) where
       (kernel_after_stop t s.kernel)
   unfolding kernel_after_stop
   stop_one g = record {
-    kernel = stop_kept t s.kernel g.sound.kernel g.known (going_met g).0;
-    call = stop_on t m s.kernel;
+    kernel = stop_kept t s.kernel g.sound.kernel (going_added g (going_named g)) (going_met g).0;
+    call = stop_on t m s.kernel living;
     others = λ u d. get_or-set_other s.kernel.seats t u (record (seat_at s.kernel t) { status = Stopped }) no_seat d;
     base = ap (λ x. x.base) here;
     number = refl;
@@ -57,11 +77,20 @@ module _ (s : Table) (t m : ℕ) where
     belongs = refl;
     needs = (ap (λ x. x.status) here, tt);
     queue = λ j e. absurd (not_queued j (sym (ap (λ x. x.status) here) ∙ e));
+    lists = lists_by g (going_named g) refl refl (going_cell g (going_named g))
+        (λ r. row_same g (going_named g) r refl refl refl (λ o u. settled_so_far g (going_named g) refl o));
   }
     where
+      known : has_thread s t ≡ true
+      known = going_added g (going_named g)
+
+      living : (u : ℕ) → is_living (kernel_after_stop t s.kernel) u ≡ is_living s.kernel u
+      living u = living_same s.kernel (kernel_after_stop t s.kernel) t
+          (record (seat_at s.kernel t) { status = Stopped }) known (going_met g).0 refl refl u
+
       here : seat_at (kernel_after_stop t s.kernel) t ≡ record (seat_at s.kernel t) { status = Stopped }
       here = get_or-set_same s.kernel.seats t (record (seat_at s.kernel t) { status = Stopped }) no_seat
-          (below t (length s.kernel.seats) g.known)
+          (below t (length s.kernel.seats) (going_added g (going_named g)))
 
       not_queued : (j : ℕ) → Stopped ≡ Queued j → ⊥
       not_queued j e = cc
@@ -88,8 +117,11 @@ module _ (s : Table) (t m : ℕ) where
   lock_stop_kept g =
       let c = stop_one g in
       let k = kernel_after_stop t s.kernel in
-      subst (Keeps s (Happened (Go t) Waits)) (written_line t m (At (Lock m) LockStopped) k s)
-      (waits_with g (table_after_write t m (At (Lock m) LockStopped) (word_at s.words m) (library_at s m).count k s)
+      subst (Keeps s (Happened (Go t) Waits))
+      (written_is t m (At (Lock m) LockStopped) (robust_at s.lists t) (word_at s.words m) (health_word_at s.words m)
+      (library_at s m).count k s (same_word s m) (same_health s m) (same_list s t) (same_library s m))
+      (waits_with g (written t m (At (Lock m) LockStopped) (robust_at s.lists t) (word_at s.words m)
+      (health_word_at s.words m) (library_at s m).count k s)
       (called_sound g (going_named g) LockStopped (word_at s.words m) k c) refl
       (called_known g (going_named g) LockStopped (word_at s.words m) k c) (ap is_ready c.needs.0)
       (λ y. first (locks g refl y (with_progress t Stuck (world_of s y)) (stops g y (going_met g).1.0))
@@ -115,7 +147,7 @@ module _ (s : Table) (t m : ℕ) where
     word_there g,
     ne_eqb (cell_at s m).word.number t (going_met g).1.0,
     eq-eqb (cell_at s m).word.number 0 zero,
-    eq-eqb (cell_at s m).state_owner 0 (state_from_none c (none_from_free c zero)),
+    eq-eqb (cell_at s m).state_owner 0 (state_from_none c (c.free zero)),
   ) refl
     where
       c : CellIsSound (has_thread s) (has_waiter s.kernel.waiters m) (cell_at s m)
@@ -136,7 +168,8 @@ module _ (s : Table) (t m : ℕ) where
   answer_owned g owned = rw (
     word_there g,
     ne_eqb (cell_at s m).word.number t (going_met g).1.0,
-    ne_eqb (cell_at s m).word.number 0 owned,
+    ne_eqb
+        (cell_at s m).word.number 0 owned,
     state_agrees (going_cell g (going_named g)),
   ) refl
 
@@ -152,10 +185,14 @@ module _ (s : Table) (t m : ℕ) where
     not_lost : (y : Shadow) → lives_owner ≡ true → is_lost (world_of s y) m ≡ false
     not_lost y l = rw (
       mutex_seen g.sound.all.shape y m,
-      (going_cell g (going_named g)).stalled,
       ne_eqb (cell_at s m).word.number 0 owned,
-    )
-        (ap (λ b. if b then false else true) (living_seen s y (cell_at s m).word.number g.sound.all.shape ∙ l))
+      living_seen s y
+          (cell_at s m).word.number g.sound.all.shape ∙ l,
+    ) (either (cell_at s m).robust)
+      where
+        either : (b : Bool) → (if b then false else false) ≡ false
+        either true = refl
+        either false = refl
 
     -- chains from the owner, as the POSIX machine sees them
     chain_seen : (y : Shadow) → leads_to (world_of s y) (mutex_at (world_of s y) m).owner t ≡ closes
@@ -163,10 +200,17 @@ module _ (s : Table) (t m : ℕ) where
         ∙ leads_seen g.sound y (cell_at s m).word.number t
 
     -- where a chain leads back, the lock is refused
-    refused : lives_owner ≡ true → closes ≡ true → GoKeeps s t (answers t 35 s)
-    refused l e = answers_alone g (going_named g) 35 (going_met g).0
-        (λ y. locks g refl y (with_progress t (Has 35) (world_of s y))
-        (cycle (other_seen y) (owned_seen y) (not_lost y l) (chain_seen y ∙ e) refl))
+    refused : lives_owner ≡ true → closes ≡ true → GoKeeps s t (ends_by t (Lock m) m LockClear 35 s)
+    refused l e = ends_by_cases (GoKeeps s t) (Lock m) LockClear 35 t m s
+        (λ robust. goes_alone g (going_named g) 35 LockClear (going_met g).0 refl refl
+        ((going_met g).0, ((going_met g).1.0, (robust, tt))) effect
+        (λ r. row_other g (going_named g) r refl refl (going_met g).1.0 (going_met g).1.0))
+        (λ stalled. answers_alone g (going_named g) 35 (going_met g).0 effect
+        (λ r. absurd (true≢false (sym r ∙ stalled))))
+      where
+        effect : (y : Shadow) → Effect t (world_of s y) (with_progress t (Has 35) (world_of s y))
+        effect y = locks g refl y (with_progress t (Has 35) (world_of s y))
+            (cycle (other_seen y) (owned_seen y) (not_lost y l) (chain_seen y ∙ e) refl)
 
     -- to queue t is a call in which t goes to where it is queued
     queue_one : lives_owner ≡ true → closes ≡ false
@@ -174,30 +218,57 @@ module _ (s : Table) (t m : ℕ) where
         (kernel_after_queueing t m (word_at s.words m).number s.kernel)
     unfolding kernel_after_queueing
     queue_one l e = record {
-      kernel = queueing_kept t m (word_at s.words m).number s.kernel g.sound.kernel g.known
+      kernel = queueing_kept t m (word_at s.words m).number s.kernel g.sound.kernel known
           (going_met g).0 m0 few l agrees e;
-      call = queueing_on t m (word_at s.words m).number s.kernel;
+      call = queueing_on t m (word_at s.words m).number s.kernel living;
       others = λ u d. get_or-set_other s.kernel.seats t u (record (seat_at s.kernel t) { status = Queued m }) no_seat d;
       base = ap (λ x. x.base) here;
       number = refl;
       died = refl;
       cell = record {
-        stalled = c.stalled;
-        no_death = c.no_death;
         count = c.count;
+        stalled = c.stalled;
         owner = c.owner;
         free = λ z. absurd (owned z);
+        clean = λ z. absurd (owned z);
         state = owner_state ∙ ap (λ b. if b then (word_at s.words m).number else 0) (sym waited);
         contended = λ z. refl;
       };
       belongs = refl;
       needs = (
-        (λ z. absurd (not_stopped (sym (ap (λ x. x.status) here) ∙ z))),
-        ((λ r. absurd (true≢false (sym r ∙ ap (λ x. is_ready x.status) here))), tt),
+        (
+          (λ z. absurd (not_stopped (sym (ap (λ x. x.status) here) ∙ z))),
+          λ z. absurd
+              (not_ended (sym (ap (λ x. x.status) here) ∙ z)),
+        ),
+        (
+          (λ r. absurd (true≢false (sym r ∙ ap (λ x. is_ready x.status) here))),
+          ((λ o. absurd ((going_met g).1.0 o)), ((λ o. absurd ((going_met g).1.0 o)), tt)),
+        ),
       );
       queue = λ j z. record { request = Lock m; line = refl; waits = same j (sym (ap (λ x. x.status) here) ∙ z) };
+      lists = lists_by g (going_named g) {added = has_thread s} {waited = true} refl refl (record {
+        count = c.count;
+        stalled = c.stalled;
+        owner = c.owner;
+        free = λ z. absurd (owned z);
+        clean = λ z. absurd (owned z);
+        state = owner_state;
+        contended = λ z. refl;
+      }) (λ r. row_other g (going_named g) r refl refl (going_met g).1.0 (going_met g).1.0);
     }
       where
+        known : has_thread s t ≡ true
+        known = going_added g (going_named g)
+
+        living : (u : ℕ) → is_living (kernel_after_queueing t m (word_at s.words m).number s.kernel) u ≡ is_living
+            s.kernel u
+        living u = living_same s.kernel (kernel_after_queueing t m (word_at s.words m).number s.kernel) t
+            (record (seat_at s.kernel t) { status = Queued m }) known (going_met g).0 refl refl u
+
+        not_ended : Queued m ≡ Ended → ⊥
+        not_ended z = cc
+
         c : CellIsSound (has_thread s) (has_waiter s.kernel.waiters m) (cell_at s m)
         c = going_cell g (going_named g)
 
@@ -217,10 +288,10 @@ module _ (s : Table) (t m : ℕ) where
             → state_at s.kernel m ≡ (word_at s.words m).number) (has_waiter s.kernel.waiters m)
             (λ _ z. z) (λ _ z. absurd (n z)) c.state
 
-        here : seat_at (kernel_after_queueing t m (word_at s.words m).number s.kernel) t
-            ≡ record (seat_at s.kernel t) { status = Queued m }
+        here : seat_at (kernel_after_queueing t m (word_at s.words m).number s.kernel) t ≡ record (seat_at s.kernel t)
+            { status = Queued m }
         here = get_or-set_same s.kernel.seats t (record (seat_at s.kernel t) { status = Queued m }) no_seat
-            (below t (length s.kernel.seats) g.known)
+            (below t (length s.kernel.seats) (going_added g (going_named g)))
 
         waited : has_waiter (s.kernel.waiters ++ (t, m) ∷ []) m ≡ true
         waited = has_waiter-push s.kernel.waiters t m m ∙ rw (eq-eqb m m refl) (or_true (has_waiter s.kernel.waiters m))
@@ -249,20 +320,23 @@ module _ (s : Table) (t m : ℕ) where
         let c = queue_one l e in
         let k = kernel_after_queueing t m (word_at s.words m).number s.kernel in
         let x = mark_word (word_at s.words m) in
-        subst (Keeps s (Happened (Go t) Waits)) (written_word t m (At (Lock m) LockQueued) x k s)
-        (waits_with g (table_after_write t m (At (Lock m) LockQueued) x (library_at s m).count k s)
-        (called_sound g (going_named g) LockQueued x k c) refl
-        (called_known g (going_named g) LockQueued x k c) (unready c)
-        (λ y. first (locks g refl y (record (with_progress t Waiting (world_of s y)) {
-          waiters = s.kernel.waiters ++ (t, m) ∷ [];
-        })
+        subst (Keeps s (Happened (Go t) Waits))
+        (written_is t m (At (Lock m) LockQueued) (robust_at s.lists t) x (health_word_at s.words m)
+        (library_at s m).count k s refl (same_health s m) (same_list s t) (same_library s m))
+        (waits_with g (written t m (At (Lock m) LockQueued) (robust_at s.lists t) x (health_word_at s.words m)
+        (library_at s m).count k s)
+        (called_sound g (going_named g) LockQueued x k c) refl (called_known g (going_named g) LockQueued x k c)
+        (unready c)
+        (λ y. first (locks g refl y (record (with_progress t Waiting (world_of s y))
+        { waiters = s.kernel.waiters ++ (t, m) ∷ [] })
         (joins (other_seen y) (owned_seen y) (not_lost y l) (chain_seen y ∙ e) refl))
         (none (called_shown g (going_named g) LockQueued x k c y Waiting
         (ap (λ z. progress_at LockQueued z (health_at s m)) (status_here))))))
       where
         status_here : (seat_at (kernel_after_queueing t m (word_at s.words m).number s.kernel) t).status ≡ Queued m
         status_here = ap (λ x. x.status) (get_or-set_same s.kernel.seats t
-            (record (seat_at s.kernel t) { status = Queued m }) no_seat (below t (length s.kernel.seats) g.known))
+            (record (seat_at s.kernel t) { status = Queued m }) no_seat
+            (below t (length s.kernel.seats) (going_added g (going_named g))))
 
         unready : IsOneCall s t (Lock m) LockQueued (mark_word (word_at s.words m))
             (kernel_after_queueing t m (word_at s.words m).number s.kernel)
@@ -271,7 +345,7 @@ module _ (s : Table) (t m : ℕ) where
 
   -- the line, by its kernel call's answer
   abbrev by_call : Result Took Errno → Outcome
-  by_call r = lock_by r (Lock m) t (with_kernel (words_after_lock t m r s.words)
+  by_call r = lock_by r (Lock m) t m (with_kernel (words_after_lock t m r s.words)
       (kernel_after_lock t m r s.words s.kernel) s)
 
   -- lock: the kernel call lock_pi
@@ -279,17 +353,26 @@ module _ (s : Table) (t m : ℕ) where
   unfolding lock_kernel lock_by words_after_lock kernel_after_lock
   lock_kernel_kept g = go (cases_eq (cell_at s m).word.number 0)
     where
+      -- a mutex whose owner has ended is stalled
+      stalled : (cell_at s m).word.number ≢ 0 → lives_owner ≡ false → (cell_at s m).robust ≡ false
+      stalled owned l = by_test (λ b. (cell_at s m).robust ≡ b → b ≡ false) (cell_at s m).robust
+          (λ _ r. absurd (true≢false (sym (g.sound.all.alive m (going_named g) r owned (λ e. e)) ∙ l)))
+          (λ _ _. refl) refl
+
       by_owner : (owned : (cell_at s m).word.number ≢ 0)
-          → GoKeeps s t (by_call (if lives_owner then (if closes then Err Deadlock else Ok TookQueued)
-          else Err NoSuchThread))
+          → GoKeeps s t (by_call (if lives_owner then (if closes then Err Deadlock else Ok TookQueued) else Err
+          NoSuchThread))
       by_owner owned = by_test (λ b. GoKeeps s t (by_call
           (if b then (if closes then Err Deadlock else Ok TookQueued) else Err NoSuchThread))) lives_owner
           (λ l. by_test (λ b. GoKeeps s t (by_call (if b then Err Deadlock else Ok TookQueued))) closes
           (λ e. refused g owned l e) (λ e. queues g owned l e))
           (λ l. goes g (going_named g) LockStop (going_met g).0 refl refl
-          ((going_met g).0, (stops_lost (going_cell g (going_named g)).stalled owned l, tt)))
+          ((going_met g).0, (stops_lost (stalled owned l) owned l, tt))
+          (λ r. absurd (true≢false (sym r ∙ stalled owned l))))
 
       go : ((cell_at s m).word.number ≡ 0) ⊎ ((cell_at s m).word.number ≢ 0) → GoKeeps s t (lock_kernel (Lock m) t m s)
       go (inl zero) = subst (λ r. GoKeeps s t (by_call r)) (sym (answer_free g zero))
-          (kernel_takes g (going_named g) (going_met g).0 refl (by_lock refl) zero)
+          (ends_by_cases (GoKeeps s t) (Lock m) TakeLoad 0 t m (with_word m (taken_word t (word_at s.words m)) s)
+          (λ robust. takes_to_load g (going_named g) (going_met g).0 refl zero (by_lock refl) robust refl refl refl)
+          (λ stalled. takes_stalled g (going_named g) (going_met g).0 refl zero (by_lock refl) stalled))
       go (inr owned) = subst (λ r. GoKeeps s t (by_call r)) (sym (answer_owned g owned)) (by_owner owned)

@@ -1,14 +1,22 @@
 -- What a sound mutex says of its waiters, its owner state and its health, and what a new word leaves of it.
-use Rattle.std.proofs.Common.{◌≡◌, ◌≢◌, ℕ, Bool, true, false, cond, ◌==◌, List, [], ◌∷◌, map, filter, refl, sym, ap, ◌∙◌, if◌then◌else◌, eq-eqb}
+use Rattle.std.proofs.Common.{◌≡◌, ◌≢◌, ℕ, Bool, true, false, cond, ◌==◌, List, [], ◌∷◌, map, filter, refl, sym, ap, ◌∙◌, if◌then◌else◌, eqb-true, eq-eqb, ap₂}
 use Rattle.std.proofs.lemmas.Bool.{true≢false, or_parts}
 use Rattle.pif_model.specs.Graph.{has_waiter, first_greatest, next_waiter}
-use Rattle.pif_model.specs.Word.{Word, held_by, free_word}
+use Rattle.pif_model.specs.Word.{Word, is_bare}
 use Rattle.pif_model.specs.Posix.Health.{Fine}
 use Rattle.pif_model.specs.Table.{Cell}
 use Rattle.pif_model.specs.Standing.{health_of, CountIsSound, CellIsSound}
 use Rattle.pif_chains.proofs.Waiting.{by_test}
 use Rattle.pif_simulation.proofs.Kept.{held_once}
-use Rattle.pif_simulation.proofs.Written.{mutex_of}
+
+-- a word that passes the test of a compare-exchange
+pub bare : (w : Word) (t : ℕ) → is_bare w t ≡ true → (w.waiters ≡ false) × (w.number ≡ t)
+bare w t = by_test (λ a. (if a then false else (if w.died then false else w.number == t)) ≡ true
+    → (w.waiters ≡ false) × (w.number ≡ t)) w.waiters
+    (λ e h. absurd (true≢false (sym h)))
+    (λ e. by_test (λ b. (if b then false else w.number == t) ≡ true → (w.waiters ≡ false) × (w.number ≡ t)) w.died
+    (λ d h. absurd (true≢false (sym h)))
+    (λ d h. (e, eqb-true w.number t h)))
 
 -- where the kernel has no owner state, or the word no flag, nobody waits
 module _ {added : ℕ → Bool} {waited : Bool} {c : Cell} (h : CellIsSound added waited c) where
@@ -16,10 +24,6 @@ module _ {added : ℕ → Bool} {waited : Bool} {c : Cell} (h : CellIsSound adde
   pub none_from_flag : c.word.waiters ≡ false → waited ≡ false
   none_from_flag e = by_test (λ b. waited ≡ b → b ≡ false) waited
       (λ k x. absurd (true≢false (sym (h.contended k) ∙ e))) (λ k x. refl) refl
-
-  -- nobody waits for a free mutex
-  pub none_from_free : c.word.number ≡ 0 → waited ≡ false
-  none_from_free e = none_from_flag (h.free e)
 
   -- nobody waits for an owned mutex of which the kernel has no owner state
   pub none_from_state : c.word.number ≢ 0 → c.state_owner ≡ 0 → waited ≡ false
@@ -43,49 +47,50 @@ module _ {added : ℕ → Bool} {waited : Bool} {c : Cell} (h : CellIsSound adde
       either true = refl
       either false = refl
 
-  -- the mutex is in order
-  pub in_order : health_of c.word.died ≡ Fine
-  in_order = ap health_of h.no_death
+  -- a stalled mutex is in order
+  pub stalled_in_order : c.robust ≡ false → health_of c.health c.word.died ≡ Fine
+  stalled_in_order e = ap₂ health_of (h.stalled e).1 (h.stalled e).0
 
-  -- with another word, of which OWNER_DIED is not set, a mutex that is held once and for which nobody waits is sound
-  pub reworded : (x : Word) → c.count ≡ 1 → waited ≡ false → x.died ≡ false → (x.number ≢ 0 → added x.number ≡ true)
-      → (x.number ≡ 0 → x.waiters ≡ false) → CellIsSound added waited (record c { word = x })
-  reworded x once e died owner unflagged = record {
-    stalled = h.stalled;
-    no_death = died;
+  -- a mutex held once and for which nobody waits stays sound with another word and health word, where these say of a
+  -- stalled one what they said, an owner was added, and no disorder is told of a free one without OWNER_DIED
+  pub reworded : (x : Word) (a : ℕ) → c.count ≡ 1 → waited ≡ false → (c.robust ≡ false → (x.died ≡ false) × (a ≡ 0))
+      → (x.number ≢ 0 → added x.number ≡ true)
+      → (x.number ≡ 0 → x.died ≡ false → (x.waiters ≡ false) × (a ≢ 1))
+      → CellIsSound added waited (record c { word = x; health = a })
+  reworded x a once e stalled owner clean = record {
     count = held_once c.kind x.number c.count once;
+    stalled = stalled;
     owner = owner;
-    free = unflagged;
+    free = λ z. e;
+    clean = clean;
     state = state_from_none e ∙ ap (λ b. if b then x.number else 0) (sym e);
     contended = λ k. absurd (true≢false (sym k ∙ e));
+  }
+
+  -- an owned mutex stays sound with the same number and flag of waiters, where it is robust
+  pub rehealthed : (b : Bool) (a : ℕ) → c.robust ≡ true → c.word.number ≢ 0
+      → CellIsSound added waited (record c { word = record c.word { died = b }; health = a })
+  rehealthed b a robust owned = record {
+    count = h.count;
+    stalled = λ e. absurd (true≢false (sym robust ∙ e));
+    owner = h.owner;
+    free = λ z. absurd (owned z);
+    clean = λ z. absurd (owned z);
+    state = h.state;
+    contended = h.contended;
   }
 
   -- held this often, a mutex is sound
   pub recounted : (n : ℕ) → CountIsSound c.kind c.word.number n → CellIsSound added waited (record c { count = n })
   recounted n e = record {
-    stalled = h.stalled;
-    no_death = h.no_death;
     count = e;
+    stalled = h.stalled;
     owner = h.owner;
     free = h.free;
+    clean = h.clean;
     state = h.state;
     contended = h.contended;
   }
-
-  -- the mutex that t takes
-  pub taken_seen : (t : ℕ) → c.count ≡ 1 → mutex_of (record c { word = held_by t })
-      ≡ record (mutex_of c) { owner = t; count = 1 }
-  taken_seen t once = λ i. record {
-    kind = c.kind;
-    robust = c.robust;
-    owner = t;
-    count = once i;
-    health = sym in_order i;
-  }
-
-  -- the mutex that is given up
-  pub freed_seen : c.count ≡ 1 → mutex_of (record c { word = free_word }) ≡ record (mutex_of c) { owner = 0; count = 1 }
-  freed_seen once = λ i. record { kind = c.kind; robust = c.robust; owner = 0; count = once i; health = sym in_order i }
 
 -- who waits for nobody's mutex
 pub waiters_none : (ws : List (ℕ × ℕ)) (m : ℕ) → has_waiter ws m ≡ false → filter (λ (w : ℕ × ℕ). w.1 == m) ws ≡ []

@@ -1,72 +1,57 @@
 -- The line of pthread_setschedprio: a thread's base priority changes, or the call is refused.
 use Rattle.std.proofs.Common.{◌≡◌, ◌≢◌, ◌⊎◌, inl, inr, ℕ, ◌<◌, true, false, ◌==◌, nat_lt, length, None, Result, Ok, Err, refl, sym, ap, ◌∙◌, subst, if◌then◌else◌}
-use Rattle.std.proofs.lemmas.Bool.{cases_eq, true≢false}
-use Rattle.std.proofs.lemmas.List.{length-set, get_or-set_same, get_or-set_other, set-get_or}
+use Rattle.std.proofs.lemmas.Bool.{cases_eq}
+use Rattle.std.proofs.lemmas.List.{length-set, get_or-set_same, get_or-set_other}
 use Rattle.pif_types.specs.declared.errors.Errno.{Errno}
 use Rattle.pif_types.specs.declared.errors.Errno.TheVariants.{NoSuchThread, Invalid}
 use Rattle.pif_types.specs.declared.requests.Request.TheVariants.{SetPrio}
-use Rattle.pif_model.specs.declared.events.Event.TheVariants.{Go}
-use Rattle.pif_model.specs.declared.events.Seen.TheVariants.{Answered}
-use Rattle.pif_model.specs.declared.events.Entry.TheVariants.{Step as Happened}
-use Rattle.pif_model.specs.declared.lines.Line.TheVariants.{Idle}
+use Rattle.pif_model.specs.declared.lines.Line.TheVariants.{Idle, At}
 use Rattle.pif_model.specs.declared.lines.Place.TheVariants.{SetPriority}
 use Rattle.pif_model.specs.Graph.{is_priority}
-use Rattle.pif_model.specs.Word.{word_at}
-use Rattle.pif_model.specs.Posix.{Thread, World, SetsPriority, nobody, no_mutex, thread_at, with_thread, with_mutex, with_base, with_progress}
+use Rattle.pif_model.specs.Word.{word_at, health_word_at}
+use Rattle.pif_model.specs.RobustList.{robust_at}
+use Rattle.pif_model.specs.Posix.{Thread, World, SetsPriority, nobody, thread_at, with_base, with_progress}
 use Rattle.pif_model.specs.Posix.Effect.{set_prio}
 use Rattle.pif_model.specs.Posix.Effects.{none, then as first}
 use Rattle.pif_model.specs.Posix.Progress.{Has}
 use Rattle.pif_model.specs.Posix.SetsPriority.{no_priority, not_living, changed}
-use Rattle.pif_model.specs.PiKernel.{Kernel, IsKernel, Seat, no_seat, seat_at, is_ready, is_living, set_prio_answer, kernel_after_set_prio}
-use Rattle.pif_model.specs.Table.{Table, has_thread, status_at, line_at, library_at, cell_at, with_kernel}
+use Rattle.pif_model.specs.PiKernel.{Kernel, IsKernel, Seat, no_seat, seat_at, has_ended, is_ready, is_living, set_prio_answer, kernel_after_set_prio}
+use Rattle.pif_model.specs.Table.{Table, has_mutex, status_at, line_at, library_at, with_line, with_kernel}
 use Rattle.pif_model.specs.Lines.{Outcome, answers, answered_by, set_priority}
-use Rattle.pif_model.specs.Standing.{Shadow, call_at, health_at, thread_shown, world_of, LineIsSound, IsSound}
+use Rattle.pif_model.specs.Standing.{Shadow, call_at, health_at, thread_shown, world_of, mutex_by, is_unsettled, ListIsSound, IsShaped, IsSound}
 use Rattle.pif_chains.proofs.Waiting.{by_test}
-use Rattle.pif_chains.proofs.Numbers.{above_0, below}
+use Rattle.pif_chains.proofs.Numbers.{below}
+use Rattle.pif_chains.proofs.KernelFacts.{living-added}
 use Rattle.pif_chains.proofs.KernelKept.{set_prio_kept}
-use Rattle.pif_simulation.proofs.Hole.{change_kept, excuse_one, admit_last}
-use Rattle.pif_simulation.proofs.Shown.{threads_shown, mutexes_shown, thread_seen, mutex_seen, living_seen, with_call_closed, with_call_closed-with_progress, call_progressed}
-use Rattle.pif_simulation.proofs.Written.{table_after_write, written_line, mutex_of, IsCallOn, changes, no_call, line_here, call_shown, thread_here, thread_there, shows}
-use Rattle.pif_simulation.proofs.Steps.{Keeps, GoKeeps, Going, going_met, going_called, going_lined, going_below, answers_with}
-use Rattle.pif_simulation.proofs.Local.{ready-not_queued}
+use Rattle.pif_simulation.proofs.Hole.{each_thread}
+use Rattle.pif_simulation.proofs.Shown.{threads_shown, mutexes_shown, thread_seen, mutex_seen, living_seen, closed, closed_progressed, call_progressed}
+use Rattle.pif_simulation.proofs.Written.{IsCallOn, no_call, thread_here, thread_there, shows}
+use Rattle.pif_simulation.proofs.Steps.{GoKeeps, Going, going_met, going_called, going_below, answers_with}
+use Rattle.pif_simulation.proofs.Lined.{t0, tl, tr, ml, lined_same, lined_sound, lined_shown}
 
 module _ (s : Table) (t u p : ℕ) (g : Going s t (SetPrio u p) SetPriority) where
   ready : is_ready (status_at s t) ≡ true
   ready = (going_met g).0
 
-  t0 : t ≢ 0
-  t0 = above_0 t (length s.kernel.seats) g.known
+  -- t's robust list is that of a thread with no call open
+  list : ListIsSound s t Idle
+  list =
+      let b : ListIsSound s t (At (SetPrio u p) SetPriority) = subst (ListIsSound s t) g.line
+      (each_thread g.sound t g.known).list in
+      record { pending = b.pending; half_linked = b.half_linked; listed = b.listed }
 
-  ml : 0 < length s.mutexes
-  ml = g.sound.all.shape.some_mutex
+  settled : (m : ℕ) → has_mutex s m ≡ true → (word_at s.words m).number ≡ t → m ≢ 0
+      → ((word_at s.words m).died ≡ false) × (health_word_at s.words m ≢ 2)
+  settled m e o z = (each_thread g.sound t g.known).settled m e o (λ x. z (x ∙ ap (mutex_by is_unsettled) g.line))
 
   -- the table in which t's call is closed over this kernel
   abbrev v : Kernel → Table
-  v k = table_after_write t 0 Idle (word_at s.words 0) (library_at s 0).count k s
+  v k = with_line t Idle (with_kernel s.words k s)
 
   -- whatever the kernel's base priorities are then, it is sound
-  closed_sound : (k : Kernel) → IsKernel k → IsCallOn (λ j. j ≡ t) s.kernel k 0
-      → status_at (v k) t ≡ status_at s t → IsSound (v k)
-  closed_sound k kernel call same = record {
-    all = admit_last (change_kept (excuse_one g.sound t)
-        (changes s t 0 Idle (word_at s.words 0) (library_at s 0).count k t0
-        (going_lined g) ml g.sound.all.shape refl call (λ e. (g.sound.all.shape.no_word, refl))
-        (λ e. absurd (true≢false (sym e)))
-        (λ j a d. record {
-          kind = refl;
-          robust = refl;
-          owner = λ o. o;
-          other = λ o. o;
-          count = λ o. refl;
-          ended = λ z l. (refl, l);
-        })))
-        (record {
-          line = subst (LineIsSound (v k) t) (sym (line_here s t 0 Idle (word_at s.words 0)
-              (library_at s 0).count k t0 (going_lined g) ml g.sound.all.shape)) (ap is_ready same ∙ ready);
-          queue = λ j e. absurd (ready-not_queued (status_at s t) j ready (sym same ∙ e));
-        });
-    kernel = kernel;
-  }
+  closed_sound : (k : Kernel) → IsKernel k → IsCallOn (λ j. j ≡ t) s.kernel k 0 → (seat_at k t).status ≡ status_at s t
+      → IsSound (v k)
+  closed_sound k kernel call same = lined_sound s t Idle g.sound g.known k kernel call same ready ready list settled
 
   -- the line, by its kernel call's answer
   abbrev by_call : Result (record {}) Errno → Outcome
@@ -77,19 +62,11 @@ module _ (s : Table) (t u p : ℕ) (g : Going s t (SetPrio u p) SetPriority) whe
       → GoKeeps s t (answers t n s)
   refuses n rule =
       let sound = closed_sound s.kernel g.sound.kernel (no_call (λ j. j ≡ t) s.kernel 0) refl in
-      subst (Keeps s (Happened (Go t) (Answered n))) (written_line t 0 Idle s.kernel s)
-      (answers_with g (v s.kernel) n (λ y. with_progress t (Has n) (world_of s y)) sound refl g.known ready
+      answers_with g (v s.kernel) n (λ y. with_progress t (Has n) (world_of s y)) sound refl g.known ready
       (λ y. first (set_prio u p (going_called g y) (rule y)) (none refl))
       (λ y. call_progressed (world_of s y) t (Has n) _ (going_below g y) (going_called g y))
-      (λ y. call_shown s t 0 Idle (word_at s.words 0) (library_at s 0).count s.kernel t0
-      (going_lined g) ml g.sound.all.shape y None sound.all.shape refl refl (λ j d. refl) refl refl
-      ∙ (λ i. with_thread t (record (thread_at (world_of s y) t) { call = None }) (stays y i))
-      ∙ sym (with_call_closed-with_progress (world_of s y) t (Has n) (going_below g y))))
-    where
-      stays : (y : Shadow) → with_mutex 0 (mutex_of (cell_at s 0)) (world_of s y) ≡ world_of s y
-      stays y =
-          ap (λ z. with_mutex 0 z (world_of s y)) (sym (mutex_seen g.sound.all.shape y 0))
-          ∙ (λ i. record (world_of s y) { mutexes = set-get_or (world_of s y).mutexes 0 no_mutex i })
+      (λ y. lined_shown s t Idle g.sound g.known y sound None refl
+      ∙ sym (closed_progressed (world_of s y) t (Has n) (going_below g y)))
 
   -- THE PRIORITY CHANGES
 
@@ -101,7 +78,7 @@ module _ (s : Table) (t u p : ℕ) (g : Going s t (SetPrio u p) SetPriority) whe
   seat_u : is_living s.kernel u ≡ true → seat_at k u ≡ record (seat_at s.kernel u) { base = p }
   unfolding kernel_after_set_prio
   seat_u l = get_or-set_same s.kernel.seats u (record (seat_at s.kernel u) { base = p }) no_seat
-      (below u (length s.kernel.seats) l)
+      (below u (length s.kernel.seats) (living-added s.kernel u l))
 
   seat_else : (j : ℕ) → j ≢ u → seat_at k j ≡ seat_at s.kernel j
   unfolding kernel_after_set_prio
@@ -116,6 +93,13 @@ module _ (s : Table) (t u p : ℕ) (g : Going s t (SetPrio u p) SetPriority) whe
           (ap (λ (x : Seat). x.status) (seat_u l))
       go (inr d) = ap (λ (x : Seat). x.status) (seat_else j d)
 
+  -- and lives if it did
+  living_same : is_living s.kernel u ≡ true → (j : ℕ) → is_living k j ≡ is_living s.kernel j
+  unfolding kernel_after_set_prio
+  living_same l j = λ i. if (if j == 0 then false else nat_lt j
+      (length-set s.kernel.seats u (record (seat_at s.kernel u) { base = p }) i))
+      then (if has_ended (status_same l j i) then false else true) else false
+
   -- it is a call by which nobody's status changes
   call : is_living s.kernel u ≡ true → IsCallOn (λ j. j ≡ t) s.kernel k 0
   unfolding kernel_after_set_prio
@@ -123,6 +107,7 @@ module _ (s : Table) (t u p : ℕ) (g : Going s t (SetPrio u p) SetPriority) whe
     limits = refl;
     seats = length-set s.kernel.seats u (record (seat_at s.kernel u) { base = p });
     status = λ j d. status_same l j;
+    living = living_same l;
     states = λ j d. refl;
     waited = λ j d. refl;
   }
@@ -141,11 +126,11 @@ module _ (s : Table) (t u p : ℕ) (g : Going s t (SetPrio u p) SetPriority) whe
       where
         uw : u < length w.threads
         uw = subst (λ i. u < i) (sym (threads_shown g.sound.all.shape y ∙ g.sound.all.shape.lines))
-            (below u (length s.kernel.seats) l)
+            (below u (length s.kernel.seats) (living-added s.kernel u l))
 
         go : (j ≡ u) ⊎ (j ≢ u) → thread_at (with_base u p w) j ≡ record (thread_shown s j) { base = (seat_at k j).base }
-        go (inl e) = subst (λ i. thread_at (with_base u p w) i
-            ≡ record (thread_shown s i) { base = (seat_at k i).base }) (sym e)
+        go (inl e) = subst (λ i. thread_at (with_base u p w) i ≡ record (thread_shown s i)
+            { base = (seat_at k i).base }) (sym e)
             (get_or-set_same w.threads u (record (thread_at w u) { base = p }) nobody uw
             ∙ (λ i. record (thread_seen g.sound.all.shape y u i) { base = (sym (seat_u l) i).base }))
         go (inr d) = get_or-set_other w.threads u j (record (thread_at w u) { base = p }) nobody d
@@ -153,48 +138,57 @@ module _ (s : Table) (t u p : ℕ) (g : Going s t (SetPrio u p) SetPriority) whe
             ∙ (λ i. record (thread_shown s j) { base = (sym (seat_else j d) i).base })
 
     -- the world that the table shows
-    rebased_shown : IsSound (v k) → world_of (v k) y ≡ with_call_closed t (with_base u p w)
+    rebased_shown : IsSound (v k) → world_of (v k) y ≡ closed t (with_base u p w)
     rebased_shown sound =
         let r : Thread = record (thread_at (with_base u p w) t) { call = None } in
         let long = length-set w.threads u (record (thread_at w u) { base = p }) in
-        shows s t 0 Idle (word_at s.words 0) (library_at s 0).count k t0 (going_lined g) ml g.sound.all.shape y
-        (with_call_closed t (with_base u p w)) sound.all.shape
+        ap (λ x. world_of x y) (sym (lined_same s t Idle g.sound g.known k))
+        ∙ shows s t 0 Idle (robust_at s.lists t) (word_at s.words 0) (health_word_at s.words 0)
+        (library_at s 0).count k t0' tl' tr' ml' g.sound.all.shape y (closed t (with_base u p w))
+        (subst IsShaped (sym (lined_same s t Idle g.sound g.known k)) sound.all.shape)
         (length-set (with_base u p w).threads t r ∙ long ∙ threads_shown g.sound.all.shape y)
         (mutexes_shown g.sound.all.shape y) waiters_same
-        (thread_here s t 0 Idle (word_at s.words 0) (library_at s 0).count k t0
-        (going_lined g) ml g.sound.all.shape refl
-        ∙ (λ i. record {
-          base = (seat_at k t).base;
-          living = if t == 0 then false else nat_lt t ((call l).seats i);
-          call = None;
-        })
+        (thread_here s t 0 Idle (robust_at s.lists t) (word_at s.words 0) (health_word_at s.words 0)
+        (library_at s 0).count k t0' tl' tr' ml' g.sound.all.shape
+        ∙ (λ i. record { base = (seat_at k t).base; living = living_same l t i; call = None })
         ∙ sym (get_or-set_same (with_base u p w).threads t r nobody (subst (λ j. t < j) (sym long) (going_below g y))
         ∙ (λ i. record (rebased t i) { call = None })))
-        (λ j d. thread_there s t 0 Idle (word_at s.words 0) (library_at s 0).count k t0
-        (going_lined g) ml g.sound.all.shape refl (call l).seats j d
+        (λ j d. thread_there s t 0 Idle (robust_at s.lists t) (word_at s.words 0) (health_word_at s.words 0)
+        (library_at s 0).count k t0' tl' tr' ml' g.sound.all.shape j d
         ∙ (λ i. record {
           base = (seat_at k j).base;
-          living = is_living s.kernel j;
-          call = call_at (health_at s) (line_at s j) (status_same l j i);
+          living = living_same l j i;
+          call = call_at
+              (health_at (lined_same s t Idle g.sound g.known k i)) (line_at s j) (status_same l j i);
         })
         ∙ sym (get_or-set_other (with_base u p w).threads t j r nobody d ∙ rebased j))
         (sym (mutex_seen g.sound.all.shape y 0))
         (λ j d. sym (mutex_seen g.sound.all.shape y j))
+      where
+        t0' : t ≢ 0
+        t0' = t0 s t Idle g.sound g.known
+
+        tl' : t < length s.lines
+        tl' = tl s t Idle g.sound g.known
+
+        tr' : t < length s.lists.threads
+        tr' = tr s t Idle g.sound g.known
+
+        ml' : 0 < length s.mutexes
+        ml' = ml s t Idle g.sound g.known
 
   -- the priority changes
   changes_it : is_priority p ≡ true → is_living s.kernel u ≡ true → GoKeeps s t (answers t 0 (with_kernel s.words k s))
   changes_it prio l =
       let sound = closed_sound k (set_prio_kept u p s.kernel g.sound.kernel prio l) (call l) (status_same l t) in
-      subst (Keeps s (Happened (Go t) (Answered 0))) (written_line t 0 Idle k s)
       (answers_with g (v k) 0 (λ y. with_progress t (Has 0) (with_base u p (world_of s y))) sound limits known
       (ap is_ready (status_same l t) ∙ ready)
       (λ y. first (set_prio u p (going_called g y) (changed prio (living_seen s y u g.sound.all.shape ∙ l) refl))
       (none refl))
       (λ y. call_progressed (with_base u p (world_of s y)) t (Has 0) _ (tw y)
-      (ap (λ (x : Thread). x.call) (rebased l y t)
-      ∙ sym (ap (λ (x : Thread). x.call) (thread_seen g.sound.all.shape y t)) ∙ going_called g y))
-      (λ y. rebased_shown l y sound ∙ sym (with_call_closed-with_progress
-      (with_base u p (world_of s y)) t (Has 0) (tw y))))
+      (ap (λ (x : Thread). x.call) (rebased l y t) ∙ sym
+      (ap (λ (x : Thread). x.call) (thread_seen g.sound.all.shape y t)) ∙ going_called g y))
+      (λ y. rebased_shown l y sound ∙ sym (closed_progressed (with_base u p (world_of s y)) t (Has 0) (tw y))))
     where
       tw : (y : Shadow) → t < length (with_base u p (world_of s y)).threads
       tw y = subst (λ j. t < j) (sym (length-set (world_of s y).threads u
@@ -203,8 +197,8 @@ module _ (s : Table) (t u p : ℕ) (g : Going s t (SetPrio u p) SetPriority) whe
       limits : (v k).limits ≡ s.limits
       limits = refl
 
-      known : has_thread (v k) t ≡ true
-      known = ap (λ n. if t == 0 then false else nat_lt t n) (call l).seats ∙ g.known
+      known : is_living (v k).kernel t ≡ true
+      known = living_same l t ∙ g.known
 
   -- setprio: the kernel call set_prio
   pub set_priority_kept : GoKeeps s t (set_priority t u p s)

@@ -3,14 +3,13 @@ use Rattle.std.proofs.Common.{◌≡◌, ℕ, zero, suc, ◌<◌, ◌≤◌, Boo
 use Rattle.std.proofs.lemmas.Bool.{cases_lt}
 use Rattle.std.proofs.lemmas.List.{length-map, length_push, map-append, get_or_append_left, get_or_push, get_or_past, ext_get_or, get_or-set_same, set-set}
 use Rattle.pif_types.specs.declared.requests.Request.{Request}
-use Rattle.pif_types.specs.declared.requests.Request.TheVariants.{Lock, TryLock, Unlock, SetPrio}
+use Rattle.pif_types.specs.declared.requests.Request.TheVariants.{Lock, TryLock, Unlock, Consistent, SetPrio}
 use Rattle.pif_model.specs.declared.events.Event.{Event}
-use Rattle.pif_model.specs.declared.events.Event.TheVariants.{Begin, Go}
+use Rattle.pif_model.specs.declared.events.Event.TheVariants.{Begin, Go, End}
 use Rattle.pif_model.specs.declared.lines.Line.{Line}
 use Rattle.pif_model.specs.declared.lines.Line.TheVariants.{Idle, At}
-use Rattle.pif_model.specs.Refusals.{begin_refused, go_refused}
-use Rattle.pif_model.specs.Posix.{Progress, Call, Thread, World, nobody, no_mutex, thread_at, mutex_at, is_thread, is_mutex, with_thread, with_progress, call_at_progress, refusal_of, names_known}
-use Rattle.pif_model.specs.Posix.{is_living as lives}
+use Rattle.pif_model.specs.Refusals.{begin_refused, go_refused, end_refused}
+use Rattle.pif_model.specs.Posix.{Progress, Call, Thread, World, nobody, no_mutex, thread_at, mutex_at, is_thread, is_mutex, with_thread, with_progress, progressed, refusal_of, names_known, is_living as lives}
 use Rattle.pif_model.specs.PiKernel.{is_living}
 use Rattle.pif_model.specs.Table.{Table, has_thread, has_mutex, status_at, line_at}
 use Rattle.pif_model.specs.Lines.{is_open, table_refusal}
@@ -76,14 +75,10 @@ module _ {s : Table} (shape : IsShaped s) where
   -- behind the last thread there is nobody
   past_threads : (t : ℕ) → length s.lines ≤ t → thread_shown s t ≡ nobody
   past_threads t h =
-      rw (
-        get_or_past s.lines t Idle h,
-        get_or_past s.kernel.seats t _ (subst (λ n. n ≤ t) shape.lines h),
-        past_none,
-      ) refl
+      rw (get_or_past s.lines t Idle h, get_or_past s.kernel.seats t _ (subst (λ n. n ≤ t) shape.lines h), gone) refl
     where
-      past_none : (if t == 0 then false else nat_lt t (length s.kernel.seats)) ≡ false
-      past_none = ap (λ b. if t == 0 then false else b) (le-ltb t (length s.kernel.seats)
+      gone : (if t == 0 then false else nat_lt t (length s.kernel.seats)) ≡ false
+      gone = ap (λ b. if t == 0 then false else b) (le-ltb t (length s.kernel.seats)
           (subst (λ n. n ≤ t) shape.lines h)) ∙ either (t == 0)
 
   -- the POSIX machine sees the thread that the table shows
@@ -96,7 +91,7 @@ module _ {s : Table} (shape : IsShaped s) where
 
   -- behind the last mutex there is none
   past_mutexes : (m : ℕ) → length s.mutexes ≤ m → mutex_shown s m ≡ no_mutex
-  past_mutexes m h = rw (get_or_past s.mutexes m _ h, (shape.unmade m h).0) refl
+  past_mutexes m h = rw (get_or_past s.mutexes m _ h, (shape.unmade m h).0, (shape.unmade m h).1) refl
 
   -- the POSIX machine sees the mutex that the table shows
   pub mutex_seen : (x : Shadow) (m : ℕ) → mutex_at (world_of s x) m ≡ mutex_shown s m
@@ -110,6 +105,10 @@ module _ {s : Table} (shape : IsShaped s) where
   -- both machines have the same threads
   pub is_thread_seen : (x : Shadow) (t : ℕ) → is_thread (world_of s x) t ≡ has_thread s t
   is_thread_seen x t = ap (λ n. if t == 0 then false else nat_lt t n) (threads_shown x ∙ shape.lines)
+
+  -- both machines have the same living threads
+  pub lives_seen : (x : Shadow) (t : ℕ) → lives (world_of s x) t ≡ is_living s.kernel t
+  lives_seen x t = ap (λ (y : Thread). y.living) (thread_seen x t)
 
   -- both machines have the same mutexes
   pub is_mutex_seen : (x : Shadow) (m : ℕ) → is_mutex (world_of s x) m ≡ has_mutex s m
@@ -136,30 +135,41 @@ module _ {s : Table} (shape : IsShaped s) where
   named_seen x (Lock m) = is_mutex_seen x m
   named_seen x (TryLock m) = is_mutex_seen x m
   named_seen x (Unlock m) = is_mutex_seen x m
+  named_seen x (Consistent m) = is_mutex_seen x m
   named_seen x (SetPrio u p) = refl
 
   -- both machines refuse the same events
   pub refusal_seen : (x : Shadow) (e : Event) → refusal_of (world_of s x) e ≡ table_refusal s e
-  refusal_seen x (Begin t q) = λ i. begin_refused (is_thread_seen x t i) (busy_seen x t i) (named_seen x q i)
-  refusal_seen x (Go t) = λ i. go_refused (is_thread_seen x t i) (busy_seen x t i)
+  refusal_seen x (Begin t q) = λ i. begin_refused (is_thread_seen x t i) (lives_seen x t i) (busy_seen x t i)
+      (named_seen x q i)
+  refusal_seen x (Go t) = λ i. go_refused (is_thread_seen x t i) (lives_seen x t i) (busy_seen x t i)
+  refusal_seen x (End t) = λ i. end_refused (is_thread_seen x t i) (lives_seen x t i)
 
 -- both machines have the same living threads
 pub living_seen : (s : Table) (y : Shadow) (n : ℕ) → IsShaped s → lives (world_of s y) n ≡ is_living s.kernel n
-living_seen s y n shape = ap (λ (x : Thread). x.living) (thread_seen shape y n)
+living_seen s y n shape = lives_seen shape y n
 
--- a Go that is not refused: the thread is there, with a call open
-pub go_allowed : (known busy : Bool) → go_refused known busy ≡ None → (known ≡ true) × (busy ≡ true)
-go_allowed true true e = (refl, refl)
-go_allowed true false e = absurd (cc)
-go_allowed false busy e = absurd (cc)
+-- a Go that is not refused: the thread lives, with a call open
+pub go_allowed : (known living busy : Bool) → go_refused known living busy ≡ None → (living ≡ true) × (busy ≡ true)
+go_allowed true true true e = (refl, refl)
+go_allowed true true false e = absurd (cc)
+go_allowed true false busy e = absurd (cc)
+go_allowed false living busy e = absurd (cc)
 
--- a Begin that is not refused: the thread is there, with no call open, and the mutex is there
-pub begin_allowed : (known busy named : Bool) → begin_refused known busy named ≡ None
-    → (known ≡ true) × (busy ≡ false) × (named ≡ true)
-begin_allowed true false true e = (refl, refl, refl)
-begin_allowed true false false e = absurd (cc)
-begin_allowed true true named e = absurd (cc)
-begin_allowed false busy named e = absurd (cc)
+-- a Begin that is not refused: the thread lives, with no call open, and the mutex is there
+pub begin_allowed : (known living busy named : Bool) → begin_refused known living busy named ≡ None
+    → (living ≡ true) × (busy ≡ false) × (named ≡ true)
+begin_allowed true true false true e = (refl, refl, refl)
+begin_allowed true true false false e = absurd (cc)
+begin_allowed true true true named e = absurd (cc)
+begin_allowed true false busy named e = absurd (cc)
+begin_allowed false living busy named e = absurd (cc)
+
+-- an End that is not refused: the thread lives
+pub end_allowed : (known living : Bool) → end_refused known living ≡ None → living ≡ true
+end_allowed true true e = refl
+end_allowed true false e = absurd (cc)
+end_allowed false living e = absurd (cc)
 
 -- WORLDS
 
@@ -172,14 +182,14 @@ pub thread_changed_twice : (w : World) (t : ℕ) (x y : Thread) → with_thread 
 thread_changed_twice w t x y = λ i. record w { threads = set-set w.threads t x y i }
 
 -- the state once t's call is closed
-abbrev pub with_call_closed : ℕ → World → World
-with_call_closed t u = with_thread t (record (thread_at u t) { call = None }) u
+abbrev pub closed : ℕ → World → World
+closed t u = with_thread t (record (thread_at u t) { call = None }) u
 
 -- a call that has come far is closed like any other
-pub with_call_closed-with_progress : (w : World) (t : ℕ) (p : Progress) → t < length w.threads
-    → with_call_closed t (with_progress t p w) ≡ with_call_closed t w
-with_call_closed-with_progress w t p h =
-    let x : Thread = record (thread_at w t) { call = call_at_progress p (thread_at w t).call } in
+pub closed_progressed : (w : World) (t : ℕ) (p : Progress) → t < length w.threads
+    → closed t (with_progress t p w) ≡ closed t w
+closed_progressed w t p h =
+    let x : Thread = record (thread_at w t) { call = progressed p (thread_at w t).call } in
     ap (λ (y : Thread). with_thread t (record y { call = None }) (with_thread t x w)) (thread_changed w t x h)
     ∙ thread_changed_twice w t x (record (thread_at w t) { call = None })
 
@@ -187,6 +197,6 @@ with_call_closed-with_progress w t p h =
 pub call_progressed : (w : World) (t : ℕ) (p : Progress) (c : Call) → t < length w.threads
     → (thread_at w t).call ≡ Some c → (thread_at (with_progress t p w) t).call ≡ Some (record c { progress = p })
 call_progressed w t p c h e =
-    ap (λ (y : Thread). y.call) (thread_changed w t
-    (record (thread_at w t) { call = call_at_progress p (thread_at w t).call }) h)
-    ∙ ap (call_at_progress p) e
+    ap (λ (y : Thread). y.call) (thread_changed w t (record
+    (thread_at w t) { call = progressed p (thread_at w t).call }) h)
+    ∙ ap (progressed p) e

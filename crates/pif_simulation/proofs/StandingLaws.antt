@@ -1,5 +1,5 @@
 -- A core stands after each step: what the table shows is the last state of a run that gives the history.
-use Rattle.std.proofs.Common.{◌≡◌, ℕ, true, false, List, [], ◌∷◌, length, refl, sym, subst}
+use Rattle.std.proofs.Common.{◌≡◌, ℕ, Bool, true, List, [], ◌∷◌, length, refl, sym, subst}
 use Rattle.pif_types.specs.Bounds.{Bounds, IsWithin}
 use Rattle.pif_types.specs.declared.requests.Kind.{Kind}
 use Rattle.pif_model.specs.declared.events.Event.{Event}
@@ -55,7 +55,7 @@ pub thread_added_stands : (s : Table) (p : ℕ) (h : List Entry) (r : List World
 thread_added_stands s p h r w k room prio = after_entry k (thread_added_kept s p k.sound room prio)
 
 -- a core that stands stands after a mutex was added
-pub mutex_added_stands : (s : Table) (k : Kind) (h : List Entry) (r : List World) (w : World) → Stands s h r w
-    → has_mutex_room s ≡ true
-    → (v : World) × Stands (mutex_added k false s) (AddMutex (length s.mutexes) k false ∷ h) (w ∷ r) v
-mutex_added_stands s k h r w st room = after_entry st (mutex_added_kept s k st.sound room)
+pub mutex_added_stands : (s : Table) (k : Kind) (b : Bool) (h : List Entry) (r : List World) (w : World)
+    → Stands s h r w → has_mutex_room s ≡ true
+    → (v : World) × Stands (mutex_added k b s) (AddMutex (length s.mutexes) k b ∷ h) (w ∷ r) v
+mutex_added_stands s k b h r w st room = after_entry st (mutex_added_kept s k b st.sound room)

@@ -1,5 +1,5 @@
 -- One thread more: the table stays sound, and the POSIX machine gets the same thread.
-use Rattle.std.proofs.Common.{◌≡◌, ◌≢◌, ◌⊎◌, inl, inr, ℕ, ◌≤◌, ◌+◌, true, false, ◌==◌, nat_lt, [], ◌∷◌, ◌++◌, length, get_or, None, refl, sym, ap, ◌∙◌, subst, arith, if◌then◌else◌}
+use Rattle.std.proofs.Common.{Bool, ◌<◌, ne_eqb, ◌≡◌, ◌≢◌, ◌⊎◌, inl, inr, ℕ, ◌≤◌, ◌+◌, true, false, ◌==◌, nat_lt, [], ◌∷◌, ◌++◌, length, get_or, None, refl, sym, ap, ◌∙◌, subst, arith, if◌then◌else◌}
 use Rattle.std.proofs.lemmas.Bool.{cases_eq, true≢false}
 use Rattle.std.proofs.lemmas.List.{length_push, get_or_push}
 use Rattle.pif_types.specs.Bounds.{Bounds}
@@ -10,17 +10,29 @@ use Rattle.pif_model.specs.declared.lines.Woken.TheVariants.{Fresh as WokenFresh
 use Rattle.pif_model.specs.Graph.{is_priority, has_waiter}
 use Rattle.pif_model.specs.Posix.{Thread, nobody}
 use Rattle.pif_model.specs.Posix.Step.{thread_added as thread_rule}
-use Rattle.pif_model.specs.PiKernel.{IsKernel, Seat, no_seat, seat_at, is_ready, is_living}
-use Rattle.pif_model.specs.Table.{Table, has_thread, has_mutex, line_at, cell_at, has_thread_room, thread_added}
-use Rattle.pif_model.specs.Standing.{Shadow, call_at, health_at, thread_shown, world_of, LineIsSound, IsQueuedLine, ThreadIsSound, IsShaped, IsSound}
+use Rattle.pif_model.specs.PiKernel.{IsKernel, Seat, no_seat, seat_at, has_ended, is_ready, is_living}
+use Rattle.pif_model.specs.RobustList.{RobustRow, has_entry}
+use Rattle.pif_model.specs.Word.{word_at}
+use Rattle.pif_model.specs.Table.{Table, has_thread, has_mutex, line_at, library_at, cell_at, has_thread_room, thread_added}
+use Rattle.pif_model.specs.Standing.{Shadow, call_at, health_at, thread_shown, world_of, LineIsSound, ListIsSound, mutex_by, is_unsettled, IsQueuedLine, ThreadIsSound, AbsentIsSound, IsShaped, IsSound}
 use Rattle.pif_chains.proofs.Numbers.{below, from_within}
+use Rattle.pif_chains.proofs.Waiting.{by_test}
 use Rattle.pif_chains.proofs.KernelSettled.{priority-range}
 use Rattle.pif_chains.proofs.KernelKept.{add_kept}
 use Rattle.pif_simulation.proofs.Kept.{Spares, line_spared}
-use Rattle.pif_simulation.proofs.Hole.{cell_spared, each_thread}
+use Rattle.pif_simulation.proofs.Hole.{cell_spared, each_thread, each_absent}
 use Rattle.pif_simulation.proofs.Shown.{threads_shown, thread_seen, same_world}
 use Rattle.pif_simulation.proofs.Steps.{Keeps, agrees_on}
 use Rattle.pif_simulation.proofs.Additions.{pushed_else, more-else, room}
+
+-- what is below another is another
+less_not_same : (a b : ℕ) → a < b → a ≢ b
+less_not_same a b l e = absurd (omega arith)
+
+-- the same either way
+either : {A : Type 0} (x : A) (b : Bool) → (if b then x else x) ≡ x
+either x true = refl
+either x false = refl
 
 module _ (s : Table) (p : ℕ) (h : IsSound s) (free : has_thread_room s ≡ true) (prio : is_priority p ≡ true) where
   abbrev n : ℕ
@@ -34,8 +46,13 @@ module _ (s : Table) (p : ℕ) (h : IsSound s) (free : has_thread_room s ≡ tru
   seats = sym h.all.shape.lines
 
   few : length s.kernel.seats ≤ s.kernel.limits.threads
-  few = let r = room n s.limits.threads free in omega
-      (arith, r, seats, ap (λ (b : Bounds). b.threads) h.all.shape.limits)
+  few = let r = room n s.limits.threads free in omega (
+    arith,
+    r,
+    seats,
+    ap
+        (λ (b : Bounds). b.threads) h.all.shape.limits,
+  )
 
   some : 1 ≤ n
   some = omega (arith, h.kernel.shape.some, seats)
@@ -52,6 +69,16 @@ module _ (s : Table) (p : ℕ) (h : IsSound s) (free : has_thread_room s ≡ tru
 
   known_more : (u : ℕ) → has_thread s u ≡ true → has_thread v u ≡ true
   known_more u k = still u (λ e. omega (arith, below u (length s.kernel.seats) k, e, seats)) ∙ k
+
+  -- the new one was not there
+  new_unknown : has_thread s n ≡ false
+  new_unknown = by_test (λ b. has_thread s n ≡ b → has_thread s n ≡ false) (has_thread s n)
+      (λ _ e. absurd (less_not_same n (length s.kernel.seats) (below n (length s.kernel.seats) e) (sym seats)))
+      (λ _ e. e) refl
+
+  new_absent : AbsentIsSound s n
+  new_absent = each_absent h n (ap (λ b. if b then (if has_ended (seat_at s.kernel n).status then false else true)
+      else false) new_unknown)
 
   -- the new one
   new_known : has_thread v n ≡ true
@@ -73,6 +100,18 @@ module _ (s : Table) (p : ℕ) (h : IsSound s) (free : has_thread_room s ≡ tru
   line_new : line_at v n ≡ Idle
   line_new = get_or_push s.lines Idle Idle n refl
 
+  -- who lives
+  living_else : (u : ℕ) → u ≢ n → is_living v.kernel u ≡ is_living s.kernel u
+  living_else u d = λ i. if still u d i then (if has_ended (seat_else u d i).status then false else true) else false
+
+  living_new : is_living v.kernel n ≡ true
+  living_new = λ i. if new_known i then (if has_ended (seat_new i).status then false else true) else false
+
+  -- the new one owns nothing
+  unowned : (m : ℕ) → has_mutex s m ≡ true → (word_at s.words m).number ≢ n
+  unowned m e o = true≢false (sym ((h.all.mutexes m e).owner (λ z. omega (arith, some, sym o ∙ z)))
+      ∙ ap (has_thread s) o ∙ new_unknown)
+
   -- the parts fit together
   shape_more : IsShaped v
   shape_more =
@@ -83,43 +122,62 @@ module _ (s : Table) (p : ℕ) (h : IsSound s) (free : has_thread_room s ≡ tru
         lines = length_push s.lines Idle ∙ (let e = length_push s.kernel.seats
             (record { base = p; status = Ready WokenFresh }) in omega (arith, e, seats));
         nobody = line_else 0 (λ e. omega (arith, some, e)) ∙ b.nobody;
+        lists = b.lists;
         some_mutex = b.some_mutex;
         few_mutexes = b.few_mutexes;
         no_mutex = b.no_mutex;
         words = b.words;
+        healths = b.healths;
         no_word = b.no_word;
+        no_health = b.no_health;
         unmade = b.unmade;
       }
 
   -- no mutex is changed for a thread that was there
-  spares_more : (u j : ℕ) → has_mutex s j ≡ true → Spares (is_living s.kernel) (is_living v.kernel) u
-      (cell_at s j) (cell_at v j)
+  spares_more : (u j : ℕ) → has_mutex s j ≡ true → Spares (is_living s.kernel) (is_living v.kernel) u (cell_at s j)
+      (cell_at v j)
   spares_more u j e = record {
     kind = refl;
     robust = refl;
     owner = λ o. o;
     other = λ o. o;
-    count = λ o. refl;
-    ended = λ z l. absurd (true≢false (sym ((h.all.mutexes j e).owner z) ∙ l));
+    same = λ o. (refl, refl, refl);
+    ended = λ r z l. (refl, living_else (word_at s.words j).number (unowned j e) ∙ l);
   }
 
   -- each thread is sound
-  thread_more : (u : ℕ) → has_thread v u ≡ true → (u ≡ n) ⊎ (u ≢ n) → ThreadIsSound v u
+  thread_more : (u : ℕ) → is_living v.kernel u ≡ true → (u ≡ n) ⊎ (u ≢ n) → ThreadIsSound v u
   thread_more u k (inl e) = subst (ThreadIsSound v) (sym e) (record {
     line = subst (LineIsSound v n) (sym line_new) (ap (λ (x : Seat). is_ready x.status) seat_new);
     queue = λ j z. absurd (fresh j (sym (ap (λ (x : Seat). x.status) seat_new) ∙ z));
+    list = subst (ListIsSound v n) (sym line_new) (record {
+      pending = ap (λ (x : RobustRow). x.pending) new_absent.list ∙ sym (either 0 (library_at s 0).robust);
+      half_linked = ap (λ (x : RobustRow). x.half_linked) new_absent.list ∙ sym (either 0 (library_at s 0).robust);
+      listed = λ m. ap (λ (x : RobustRow). has_entry x.listed m) new_absent.list
+          ∙ by_test (λ b. has_mutex s m ≡ b → false ≡ (if
+          (if b then (if (library_at s m).robust then (word_at s.words m).number == n else false) else false)
+          then (if m == 0 then false else true) else false)) (has_mutex s m)
+          (λ e _. sym (ap (λ b. if (if (library_at s m).robust then b else false)
+          then (if m == 0 then false else true) else false) (ne_eqb (word_at s.words m).number n (unowned m e))
+          ∙ ap (λ b. if b then (if m == 0 then false else true) else false) (either false (library_at s m).robust)))
+          (λ _ _. refl) refl;
+    });
+    settled = λ m e o away. absurd (unowned m e o);
   })
     where
       fresh : (j : ℕ) → Ready WokenFresh ≡ Queued j → ⊥
       fresh j z = cc
   thread_more u k (inr d) =
-      let b = each_thread h u (sym (still u d) ∙ k) in
+      let b = each_thread h u (sym (living_else u d) ∙ k) in
       record {
         line = subst (LineIsSound v u) (sym (line_else u d))
             (line_spared s v u (ap (λ (x : Seat). x.status) (seat_else u d)) (λ j e. (e, spares_more u j e))
             (line_at s u) b.line);
         queue = λ j z. subst (IsQueuedLine j) (sym (line_else u d))
             (b.queue j (sym (ap (λ (x : Seat). x.status) (seat_else u d)) ∙ z));
+        list = subst (ListIsSound v u) (sym (line_else u d))
+            (record { pending = b.list.pending; half_linked = b.list.half_linked; listed = b.list.listed });
+        settled = λ m e o away. b.settled m e o (λ z. away (z ∙ sym (ap (mutex_by is_unsettled) (line_else u d))));
       }
 
   -- the table is sound
@@ -129,7 +187,13 @@ module _ (s : Table) (p : ℕ) (h : IsSound s) (free : has_thread_room s ≡ tru
       shape = shape_more;
       mutexes = λ j e. cell_spared (has_thread s) (has_thread v) (has_waiter s.kernel.waiters j)
           (has_waiter s.kernel.waiters j) (cell_at s j) (cell_at s j) known_more refl refl (h.all.mutexes j e);
+      alive = λ m e r z out. living_else (word_at s.words m).number (unowned m e) ∙ h.all.alive m e r z (λ x. x);
       threads = λ u k out. thread_more u k (cases_eq u n);
+      absent = λ u k out. (
+          let d : u ≢ n = (λ e. true≢false (sym living_new ∙ ap (is_living v.kernel) (sym e) ∙ k)) in
+          let b = each_absent h u (sym (living_else u d) ∙ k) in
+          record { line = line_else u d ∙ b.line; list = b.list }
+          );
     };
     kernel = kernel_more;
   }
@@ -138,11 +202,10 @@ module _ (s : Table) (p : ℕ) (h : IsSound s) (free : has_thread_room s ≡ tru
   abbrev new_thread : Thread
   new_thread = record { base = p; living = true; call = None }
 
-  pub thread_added_seen : (y : Shadow) → world_of v y
-      ≡ record (world_of s y) { threads = (world_of s y).threads ++ new_thread ∷ [] }
-  thread_added_seen y = same_world (world_of v y) (record (world_of s y) {
-    threads = (world_of s y).threads ++ new_thread ∷ [];
-  })
+  pub thread_added_seen : (y : Shadow) → world_of v y ≡ record (world_of s y)
+      { threads = (world_of s y).threads ++ new_thread ∷ [] }
+  thread_added_seen y = same_world (world_of v y) (record
+      (world_of s y) { threads = (world_of s y).threads ++ new_thread ∷ [] })
       (threads_shown shape_more y ∙ length_push s.lines Idle
       ∙ sym (length_push (world_of s y).threads new_thread ∙ ap (λ j. j + 1) long))
       (λ u. thread_seen shape_more y u ∙ each u (cases_eq u n)) refl (λ j. refl) refl
@@ -150,21 +213,23 @@ module _ (s : Table) (p : ℕ) (h : IsSound s) (free : has_thread_room s ≡ tru
       long : length (world_of s y).threads ≡ n
       long = threads_shown h.all.shape y
 
-      each : (u : ℕ) → (u ≡ n) ⊎ (u ≢ n) → thread_shown v u
-          ≡ get_or ((world_of s y).threads ++ new_thread ∷ []) u nobody
+      each : (u : ℕ) → (u ≡ n) ⊎ (u ≢ n) → thread_shown v u ≡ get_or
+          ((world_of s y).threads ++ new_thread ∷ []) u nobody
       each u (inl e) = subst (λ j. thread_shown v j ≡ get_or ((world_of s y).threads ++ new_thread ∷ []) j nobody)
           (sym e)
           ((λ i. record {
             base = (seat_new i).base;
-            living = new_known i;
-            call = call_at (health_at s) (line_new i) (seat_at v.kernel n).status;
+            living = living_new i;
+            call = call_at (health_at s) (line_new i)
+                (seat_at v.kernel n).status;
           })
           ∙ sym (get_or_push (world_of s y).threads new_thread nobody n long))
       each u (inr d) =
           (λ i. record {
             base = (seat_else u d i).base;
-            living = still u d i;
-            call = call_at (health_at s) (line_else u d i) (seat_else u d i).status;
+            living = living_else u d i;
+            call = call_at (health_at s)
+                (line_else u d i) (seat_else u d i).status;
           })
           ∙ sym (pushed_else (world_of s y).threads new_thread nobody u (λ e. d (e ∙ long))
           ∙ thread_seen h.all.shape y u)

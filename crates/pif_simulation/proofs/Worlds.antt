@@ -3,9 +3,9 @@ use Rattle.std.proofs.Common.{◌≡◌, ◌≢◌, ◌⊎◌, ◌<◌, ◌≤�
 use Rattle.std.proofs.lemmas.Bool.{cases_eq, cases_lt, cases_order}
 use Rattle.std.proofs.lemmas.List.{get_or-set_same, get_or-set_other, length-set, set_past, get_or_past, length_push, get_or_push, get_or_append_left}
 use Rattle.pif_types.specs.declared.requests.Request.{Request}
-use Rattle.pif_model.specs.declared.events.Event.TheVariants.{Begin}
-use Rattle.pif_model.specs.Posix.{Progress, Call, Thread, Mutex, World, nobody, no_mutex, thread_at, mutex_at, is_thread, is_living, is_mutex, with_thread, with_mutex, with_progress, call_at_progress, refusal_of, names_known}
-use Rattle.pif_model.specs.Refusals.{begin_refused}
+use Rattle.pif_model.specs.declared.events.Event.TheVariants.{Begin, End}
+use Rattle.pif_model.specs.Posix.{Progress, Call, Thread, Mutex, World, nobody, no_mutex, thread_at, mutex_at, is_thread, is_living, is_mutex, with_thread, with_mutex, with_progress, progressed, refusal_of, names_known}
+use Rattle.pif_model.specs.Refusals.{begin_refused, end_refused}
 use Rattle.pif_chains.proofs.Places.{kept_at}
 
 -- the open call of t
@@ -50,13 +50,13 @@ push_same part l x d n e = by_place (cases_eq n (length l))
 
 -- t's call, after it has come further
 pub call-with_progress : (w : World) (t : ℕ) (p : Progress)
-    → call_of (with_progress t p w) t ≡ call_at_progress p (call_of w t)
+    → call_of (with_progress t p w) t ≡ progressed p (call_of w t)
 call-with_progress w t p =
     written_at (λ (x : Thread). x.call) w.threads t further nobody
-    (λ h. ap (λ (x : Thread). call_at_progress p x.call) (get_or_past w.threads t nobody h))
+    (λ h. ap (λ (x : Thread). progressed p x.call) (get_or_past w.threads t nobody h))
   where
     further : Thread
-    further = record (thread_at w t) { call = call_at_progress p (thread_at w t).call }
+    further = record (thread_at w t) { call = progressed p (thread_at w t).call }
 
 -- the calls of others stay
 pub call-with_thread_other : (w : World) (t : ℕ) (x : Thread) (u : ℕ) → u ≢ t
@@ -89,14 +89,24 @@ is_thread-with_thread w t x u = ap (λ k. if u == 0 then false else nat_lt u k) 
 
 -- REFUSALS
 
--- a Begin that is not refused: the thread was added and has no call open, and the mutex that it names was added
+-- a Begin that is not refused: the thread lives and has no call open, and the mutex that it names was added
 pub begin_allowed : (w : World) (t : ℕ) (q : Request) → refusal_of w (Begin t q) ≡ None
-    → (is_thread w t ≡ true) × (call_of w t ≡ None) × (names_known (is_mutex w) q ≡ true)
-begin_allowed w t q e = by_tests (is_thread w t) (call_of w t) (names_known (is_mutex w) q) e
+    → (is_thread w t ≡ true) × (is_living w t ≡ true) × (call_of w t ≡ None) × (names_known (is_mutex w) q ≡ true)
+begin_allowed w t q e = by_tests (is_thread w t) (is_living w t) (call_of w t) (names_known (is_mutex w) q) e
   where
-    by_tests : (k : Bool) (c : Option Call) (n : Bool) → begin_refused k (is_some c) n ≡ None
-        → (k ≡ true) × (c ≡ None) × (n ≡ true)
-    by_tests true None true e = (refl, refl, refl)
-    by_tests true None false e = absurd (cc)
-    by_tests true (Some c) n e = absurd (cc)
-    by_tests false c n e = absurd (cc)
+    by_tests : (k l : Bool) (c : Option Call) (n : Bool) → begin_refused k l (is_some c) n ≡ None
+        → (k ≡ true) × (l ≡ true) × (c ≡ None) × (n ≡ true)
+    by_tests true true None true e = (refl, refl, refl, refl)
+    by_tests true true None false e = absurd (cc)
+    by_tests true true (Some c) n e = absurd (cc)
+    by_tests true false c n e = absurd (cc)
+    by_tests false l c n e = absurd (cc)
+
+-- an End that is not refused: the thread was added, and lives
+pub end_allowed : (w : World) (t : ℕ) → refusal_of w (End t) ≡ None → (is_thread w t ≡ true) × (is_living w t ≡ true)
+end_allowed w t e = by_tests (is_thread w t) (is_living w t) e
+  where
+    by_tests : (k l : Bool) → end_refused k l ≡ None → (k ≡ true) × (l ≡ true)
+    by_tests true true e = (refl, refl)
+    by_tests true false e = absurd (cc)
+    by_tests false l e = absurd (cc)

@@ -5,7 +5,8 @@ ghost use Rattle.pif_model.specs.Graph.{has_waiter, next_waiter, IsNextWaiter, R
 ghost use Rattle.pif_model.specs.Posix.{World, IsRun, WaitsFor, is_thread, effective_of, leads_to};
 ghost use Rattle.pif_model.specs.Standing.{HasEffective};
 ghost use Rattle.pif_model.specs.History.{AlwaysOneHolder};
-ghost use Rattle.pif_model.specs.Table.{Table, line_at, has_thread};
+ghost use Rattle.pif_model.specs.PiKernel.{is_living};
+ghost use Rattle.pif_model.specs.Table.{Table, line_at};
 ghost use Rattle.pif_model.specs.Lines.{is_open, goes_on, ClosesOrWaits};
 
 /// A law: the next waiter of a mutex for which threads wait is, among those of greatest effective priority, the first
@@ -33,7 +34,7 @@ pub fn chain_is_found_where_there_is_one()
     ensures finds { (limits : Bounds) (history : List Entry) (states : List World) (last : World) → IsRun limits history states last → (u t : ℕ) → Reaches (WaitsFor last) u t → leads_to last u t ≡ true }
 {}
 
-/// A law: of 24 steps of one thread with a call open, with nothing between them, one closes the call or waits.
+/// A law: of 24 steps of one living thread with a call open, with nothing between them, one closes the call or waits.
 pub fn call_closes_or_waits_within_24_steps()
-    ensures { (thread : ℕ) (table : Table) → has_thread table thread ≡ true → is_open (line_at table thread) ≡ true → ClosesOrWaits (goes_on 23 thread table).seen }
+    ensures { (thread : ℕ) (table : Table) → is_living table.kernel thread ≡ true → is_open (line_at table thread) ≡ true → ClosesOrWaits (goes_on 23 thread table).seen }
 {}

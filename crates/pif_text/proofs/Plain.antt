@@ -6,12 +6,12 @@ use Rattle.std.proofs.lemmas.Bool.{and_parts, and_from, and_right}
 use Rattle.std.proofs.lemmas.Bool.Decides.{nat_tests}
 use Rattle.std.proofs.lemmas.Fmt.{digits_decimal, length-decimal-le}
 use Rattle.pif_types.specs.declared.errors.AddFault.TheVariants.{TooMany, BadPrio}
-use Rattle.pif_types.specs.declared.errors.Refusal.TheVariants.{Busy, Idle, NoSuch}
+use Rattle.pif_types.specs.declared.errors.Refusal.TheVariants.{Dead, Busy, Idle, NoSuch}
 use Rattle.pif_types.specs.declared.requests.Kind.TheVariants.{Normal, ErrorCheck, Recursive}
 use Rattle.pif_types.specs.declared.requests.Request.{Request}
-use Rattle.pif_types.specs.declared.requests.Request.TheVariants.{Lock, TryLock, Unlock, SetPrio}
+use Rattle.pif_types.specs.declared.requests.Request.TheVariants.{Lock, TryLock, Unlock, Consistent, SetPrio}
 use Rattle.pif_text.specs.declared.commands.Command.{Command}
-use Rattle.pif_text.specs.declared.commands.Command.TheVariants.{Limits, Thread, Mutex, Begin, Go, Call, Finish, Word, Prio, Pick}
+use Rattle.pif_text.specs.declared.commands.Command.TheVariants.{Limits, Thread, Mutex, Begin, Go, End, Call, Finish, Word, Health, Prio, Pick}
 use Rattle.pif_text.specs.declared.replies.Reply.{Reply}
 use Rattle.pif_text.specs.declared.replies.Reply.TheVariants as reply
 use Rattle.pif_text.specs.CommandTexts.{command_text, request_text, IsWritten, IsRequestWritten}
@@ -96,6 +96,9 @@ request-plain (TryLock m) r =
     plain-more 19 30 _ (omega arith) (plain-append 8 11 (codes "trylock ") (mutex_name m) (record { no_end = refl; no_equals = refl; short = omega arith }) (plain-mutex m r.1))
 request-plain (Unlock m) r =
     plain-more 18 30 _ (omega arith) (plain-append 7 11 (codes "unlock ") (mutex_name m) (record { no_end = refl; no_equals = refl; short = omega arith }) (plain-mutex m r.1))
+request-plain (Consistent m) r =
+    plain-more 22 30 _ (omega arith)
+    (plain-append 11 11 (codes "consistent ") (mutex_name m) (record { no_end = refl; no_equals = refl; short = omega arith }) (plain-mutex m r.1))
 request-plain (SetPrio t p) r =
     plain-append 20 10 (codes "setprio " ++ thread_name t ++ codes " ") (decimal p)
     (plain-append 19 1 (codes "setprio " ++ thread_name t) (codes " ")
@@ -113,9 +116,12 @@ command-plain (Limits t m c s) r =
     plain-more 50 60 _ (omega arith) (plain-append 40 10 _ (decimal s) (three _ 39 third) (plain-number s r.3))
 command-plain (Thread p) r =
     plain-more 17 60 _ (omega arith) (plain-append 7 10 (codes "thread ") (decimal p) (record { no_end = refl; no_equals = refl; short = omega arith }) (plain-number p r))
-command-plain (Mutex Normal) r = record { no_end = refl; no_equals = refl; short = omega arith }
-command-plain (Mutex ErrorCheck) r = record { no_end = refl; no_equals = refl; short = omega arith }
-command-plain (Mutex Recursive) r = record { no_end = refl; no_equals = refl; short = omega arith }
+command-plain (Mutex Normal false) r = record { no_end = refl; no_equals = refl; short = omega arith }
+command-plain (Mutex Normal true) r = record { no_end = refl; no_equals = refl; short = omega arith }
+command-plain (Mutex ErrorCheck false) r = record { no_end = refl; no_equals = refl; short = omega arith }
+command-plain (Mutex ErrorCheck true) r = record { no_end = refl; no_equals = refl; short = omega arith }
+command-plain (Mutex Recursive false) r = record { no_end = refl; no_equals = refl; short = omega arith }
+command-plain (Mutex Recursive true) r = record { no_end = refl; no_equals = refl; short = omega arith }
 command-plain (Begin t q) r =
     plain-more 48 60 _ (omega arith) (plain-append 18 30 (codes "begin " ++ thread_name t ++ codes " ") (request_text q)
     (plain-append 17 1 (codes "begin " ++ thread_name t) (codes " ")
@@ -123,6 +129,8 @@ command-plain (Begin t q) r =
     (request-plain q r.1))
 command-plain (Go t) r =
     plain-more 14 60 _ (omega arith) (plain-append 3 11 (codes "go ") (thread_name t) (record { no_end = refl; no_equals = refl; short = omega arith }) (plain-thread t r.1))
+command-plain (End t) r =
+    plain-more 15 60 _ (omega arith) (plain-append 4 11 (codes "end ") (thread_name t) (record { no_end = refl; no_equals = refl; short = omega arith }) (plain-thread t r.1))
 command-plain (Call t q) r =
     plain-more 47 60 _ (omega arith) (plain-append 17 30 (codes "call " ++ thread_name t ++ codes " ") (request_text q)
     (plain-append 16 1 (codes "call " ++ thread_name t) (codes " ")
@@ -132,6 +140,8 @@ command-plain (Finish t) r =
     plain-more 18 60 _ (omega arith) (plain-append 7 11 (codes "finish ") (thread_name t) (record { no_end = refl; no_equals = refl; short = omega arith }) (plain-thread t r.1))
 command-plain (Word m) r =
     plain-more 16 60 _ (omega arith) (plain-append 5 11 (codes "word ") (mutex_name m) (record { no_end = refl; no_equals = refl; short = omega arith }) (plain-mutex m r.1))
+command-plain (Health m) r =
+    plain-more 18 60 _ (omega arith) (plain-append 7 11 (codes "health ") (mutex_name m) (record { no_end = refl; no_equals = refl; short = omega arith }) (plain-mutex m r.1))
 command-plain (Prio t) r =
     plain-more 16 60 _ (omega arith) (plain-append 5 11 (codes "prio ") (thread_name t) (record { no_end = refl; no_equals = refl; short = omega arith }) (plain-thread t r.1))
 command-plain Pick r = record { no_end = refl; no_equals = refl; short = omega arith }
@@ -167,11 +177,15 @@ reply-plain reply.Went r = record { no_end = refl; no_equals = refl; short = ome
 reply-plain reply.Waits r = record { no_end = refl; no_equals = refl; short = omega arith }
 reply-plain (reply.Answer n) r =
     plain-more 17 20 _ (omega arith) (plain-append 7 10 (codes "answer ") (decimal n) (record { no_end = refl; no_equals = refl; short = omega arith }) (plain-number n r))
+reply-plain reply.Ended r = record { no_end = refl; no_equals = refl; short = omega arith }
+reply-plain (reply.Refused Dead) r = record { no_end = refl; no_equals = refl; short = omega arith }
 reply-plain (reply.Refused Busy) r = record { no_end = refl; no_equals = refl; short = omega arith }
 reply-plain (reply.Refused Idle) r = record { no_end = refl; no_equals = refl; short = omega arith }
 reply-plain (reply.Refused NoSuch) r = record { no_end = refl; no_equals = refl; short = omega arith }
 reply-plain (reply.Word value) r = absurd r
+reply-plain (reply.Health health) r = absurd r
 reply-plain (reply.Priority p) r = absurd r
+reply-plain reply.Dead r = absurd r
 reply-plain (reply.Picked thread) r = absurd r
 
 -- a line of a trace has no LF, and is short

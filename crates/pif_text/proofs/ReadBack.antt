@@ -10,10 +10,10 @@ use Rattle.std.proofs.lemmas.List.Splits.{slice_split-cons_yes, slice_split-cons
 use Rattle.pif_types.specs.declared.requests.Kind.{Kind}
 use Rattle.pif_types.specs.declared.requests.Kind.TheVariants.{Normal, ErrorCheck, Recursive}
 use Rattle.pif_types.specs.declared.requests.Request.{Request}
-use Rattle.pif_types.specs.declared.requests.Request.TheVariants.{Lock, TryLock, Unlock, SetPrio}
+use Rattle.pif_types.specs.declared.requests.Request.TheVariants.{Lock, TryLock, Unlock, Consistent, SetPrio}
 use Rattle.pif_text.specs.declared.commands.Command.{Command}
-use Rattle.pif_text.specs.declared.commands.Command.TheVariants.{Limits, Thread, Mutex, Begin, Go, Call, Finish, Word, Prio, Pick}
-use Rattle.pif_text.specs.Commands.{kind_in, request_in, request_in_three, command_of_one, command_of_two, command_of_four, command_of_five, command_of_words, command_in}
+use Rattle.pif_text.specs.declared.commands.Command.TheVariants.{Limits, Thread, Mutex, Begin, Go, End, Call, Finish, Word, Health, Prio, Pick}
+use Rattle.pif_text.specs.Commands.{kind_in, request_in, request_in_three, command_of_one, command_of_two, command_of_three, command_of_four, command_of_five, command_of_words, command_in}
 use Rattle.pif_text.specs.CommandTexts.{command_text, request_text, IsWritten, IsRequestWritten}
 use Rattle.pif_text.specs.Numbers.{thread_in, mutex_in}
 use Rattle.pif_text.specs.Replies.{thread_name, mutex_name}
@@ -96,6 +96,11 @@ unlock-words : (m : ℕ) → m < 4294967296 → words (request_text (Unlock m)) 
 unfolding request_text
 unlock-words m small = first_word (codes "unlock") (mutex_name m) refl ∙ ap (λ l. codes "unlock" ∷ l) (last_word (mutex_name m) (mutex-no_space m small))
 
+consistent-words : (m : ℕ) → m < 4294967296 → words (request_text (Consistent m)) ≡ codes "consistent" ∷ mutex_name m ∷ []
+unfolding request_text
+consistent-words m small =
+    first_word (codes "consistent") (mutex_name m) refl ∙ ap (λ l. codes "consistent" ∷ l) (last_word (mutex_name m) (mutex-no_space m small))
+
 setprio-words : (t p : ℕ) → t < 4294967296 → p < 4294967296 → words (request_text (SetPrio t p)) ≡ codes "setprio" ∷ thread_name t ∷ decimal p ∷ []
 unfolding request_text
 setprio-words t p small low =
@@ -121,6 +126,8 @@ unfolding command_in command_of_words command_of_four command_of_five request_in
 begin-back t (Lock m) some small r = rw (begin-words t (Lock m) small, lock-words m r.1, thread_back t some small, mutex_back m r.0 r.1) refl
 begin-back t (TryLock m) some small r = rw (begin-words t (TryLock m) small, try_lock-words m r.1, thread_back t some small, mutex_back m r.0 r.1) refl
 begin-back t (Unlock m) some small r = rw (begin-words t (Unlock m) small, unlock-words m r.1, thread_back t some small, mutex_back m r.0 r.1) refl
+begin-back t (Consistent m) some small r =
+    rw (begin-words t (Consistent m) small, consistent-words m r.1, thread_back t some small, mutex_back m r.0 r.1) refl
 begin-back t (SetPrio u p) some small r =
     rw (begin-words t (SetPrio u p) small, setprio-words u p r.0.1 r.1, thread_back t some small, thread_back u r.0.0 r.0.1, number_decimal p r.1) refl
 
@@ -129,6 +136,8 @@ unfolding command_in command_of_words command_of_four command_of_five request_in
 call-back t (Lock m) some small r = rw (call-words t (Lock m) small, lock-words m r.1, thread_back t some small, mutex_back m r.0 r.1) refl
 call-back t (TryLock m) some small r = rw (call-words t (TryLock m) small, try_lock-words m r.1, thread_back t some small, mutex_back m r.0 r.1) refl
 call-back t (Unlock m) some small r = rw (call-words t (Unlock m) small, unlock-words m r.1, thread_back t some small, mutex_back m r.0 r.1) refl
+call-back t (Consistent m) some small r =
+    rw (call-words t (Consistent m) small, consistent-words m r.1, thread_back t some small, mutex_back m r.0 r.1) refl
 call-back t (SetPrio u p) some small r =
     rw (call-words t (SetPrio u p) small, setprio-words u p r.0.1 r.1, thread_back t some small, thread_back u r.0.0 r.0.1, number_decimal p r.1) refl
 
@@ -142,6 +151,10 @@ go-back : (t : ℕ) → 1 ≤ t → t < 4294967296 → command_in (command_text 
 unfolding command_in command_of_words command_of_two command_text
 go-back t some small = rw (two-words (codes "go") (thread_name t) refl (thread-no_space t small), thread_back t some small) refl
 
+end-back : (t : ℕ) → 1 ≤ t → t < 4294967296 → command_in (command_text (End t)) ≡ Some (End t)
+unfolding command_in command_of_words command_of_two command_text
+end-back t some small = rw (two-words (codes "end") (thread_name t) refl (thread-no_space t small), thread_back t some small) refl
+
 finish-back : (t : ℕ) → 1 ≤ t → t < 4294967296 → command_in (command_text (Finish t)) ≡ Some (Finish t)
 unfolding command_in command_of_words command_of_two command_text
 finish-back t some small = rw (two-words (codes "finish") (thread_name t) refl (thread-no_space t small), thread_back t some small) refl
@@ -154,15 +167,22 @@ word-back : (m : ℕ) → 1 ≤ m → m < 4294967296 → command_in (command_tex
 unfolding command_in command_of_words command_of_two command_text
 word-back m some small = rw (two-words (codes "word") (mutex_name m) refl (mutex-no_space m small), mutex_back m some small) refl
 
+health-back : (m : ℕ) → 1 ≤ m → m < 4294967296 → command_in (command_text (Health m)) ≡ Some (Health m)
+unfolding command_in command_of_words command_of_two command_text
+health-back m some small = rw (two-words (codes "health") (mutex_name m) refl (mutex-no_space m small), mutex_back m some small) refl
+
 thread-back : (p : ℕ) → p < 4294967296 → command_in (command_text (Thread p)) ≡ Some (Thread p)
 unfolding command_in command_of_words command_of_two command_text
 thread-back p small = rw (two-words (codes "thread") (decimal p) refl (number-no_space p small), number_decimal p small) refl
 
-mutex-back : (k : Kind) → command_in (command_text (Mutex k)) ≡ Some (Mutex k)
-unfolding command_in command_of_words command_of_two command_text kind_in words
-mutex-back Normal = refl
-mutex-back ErrorCheck = refl
-mutex-back Recursive = refl
+mutex-back : (k : Kind) (robust : Bool) → command_in (command_text (Mutex k robust)) ≡ Some (Mutex k robust)
+unfolding command_in command_of_words command_of_two command_of_three command_text kind_in words
+mutex-back Normal false = refl
+mutex-back Normal true = refl
+mutex-back ErrorCheck false = refl
+mutex-back ErrorCheck true = refl
+mutex-back Recursive false = refl
+mutex-back Recursive true = refl
 
 pick-back : command_in (command_text Pick) ≡ Some Pick
 unfolding command_in command_of_words command_of_one command_text words
@@ -197,11 +217,13 @@ limits-back t m c s e f g h =
 pub command_back : (c : Command) → IsWritten c → command_in (command_text c) ≡ Some c
 command_back (Limits t m c s) r = limits-back t m c s r.0 r.1 r.2 r.3
 command_back (Thread p) r = thread-back p r
-command_back (Mutex k) r = mutex-back k
+command_back (Mutex k robust) r = mutex-back k robust
 command_back (Begin t q) r = begin-back t q r.0.0 r.0.1 r.1
 command_back (Go t) r = go-back t r.0 r.1
+command_back (End t) r = end-back t r.0 r.1
 command_back (Call t q) r = call-back t q r.0.0 r.0.1 r.1
 command_back (Finish t) r = finish-back t r.0 r.1
 command_back (Word m) r = word-back m r.0 r.1
+command_back (Health m) r = health-back m r.0 r.1
 command_back (Prio t) r = prio-back t r.0 r.1
 command_back Pick r = pick-back

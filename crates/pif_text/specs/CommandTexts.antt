@@ -1,11 +1,11 @@
 -- The texts of commands.
-use Rattle.std.specs.Prelude.{ℕ, ◌<◌, ◌≤◌, Bool, false, List, [], ◌++◌, codes, decimal, if◌then◌else◌}
+use Rattle.std.specs.Prelude.{ℕ, ◌<◌, ◌≤◌, Bool, List, [], ◌++◌, codes, decimal, if◌then◌else◌}
 use Rattle.pif_types.specs.declared.requests.Kind.{Kind}
 use Rattle.pif_types.specs.declared.requests.Kind.TheVariants.{Normal, ErrorCheck, Recursive}
 use Rattle.pif_types.specs.declared.requests.Request.{Request}
-use Rattle.pif_types.specs.declared.requests.Request.TheVariants.{Lock, TryLock, Unlock, SetPrio}
+use Rattle.pif_types.specs.declared.requests.Request.TheVariants.{Lock, TryLock, Unlock, Consistent, SetPrio}
 use Rattle.pif_text.specs.declared.commands.Command.{Command}
-use Rattle.pif_text.specs.declared.commands.Command.TheVariants.{Limits, Thread, Mutex, Begin, Go, Call, Finish, Word, Prio, Pick}
+use Rattle.pif_text.specs.declared.commands.Command.TheVariants.{Limits, Thread, Mutex, Begin, Go, End, Call, Finish, Word, Health, Prio, Pick}
 use Rattle.pif_text.specs.Replies.{thread_name, mutex_name}
 
 -- The type of a mutex, in one word.
@@ -23,6 +23,7 @@ unfoldable pub request_text : Request → List ℕ
 request_text (Lock m) = codes "lock " ++ mutex_name m
 request_text (TryLock m) = codes "trylock " ++ mutex_name m
 request_text (Unlock m) = codes "unlock " ++ mutex_name m
+request_text (Consistent m) = codes "consistent " ++ mutex_name m
 request_text (SetPrio t p) = codes "setprio " ++ thread_name t ++ codes " " ++ decimal p
 
 -- The text of a command, without a line feed: the words by which a line asks for it, with one space between them.
@@ -30,12 +31,14 @@ unfoldable pub command_text : Command → List ℕ
 command_text (Limits t m c s) =
     codes "limits " ++ decimal t ++ codes " " ++ decimal m ++ codes " " ++ decimal c ++ codes " " ++ decimal s
 command_text (Thread p) = codes "thread " ++ decimal p
-command_text (Mutex k) = mutex_text k false
+command_text (Mutex k robust) = mutex_text k robust
 command_text (Begin t q) = codes "begin " ++ thread_name t ++ codes " " ++ request_text q
 command_text (Go t) = codes "go " ++ thread_name t
+command_text (End t) = codes "end " ++ thread_name t
 command_text (Call t q) = codes "call " ++ thread_name t ++ codes " " ++ request_text q
 command_text (Finish t) = codes "finish " ++ thread_name t
 command_text (Word m) = codes "word " ++ mutex_name m
+command_text (Health m) = codes "health " ++ mutex_name m
 command_text (Prio t) = codes "prio " ++ thread_name t
 command_text Pick = codes "pick"
 
@@ -52,17 +55,20 @@ abbrev pub IsRequestWritten : Request → Type 0
 IsRequestWritten (Lock m) = IsName m
 IsRequestWritten (TryLock m) = IsName m
 IsRequestWritten (Unlock m) = IsName m
+IsRequestWritten (Consistent m) = IsName m
 IsRequestWritten (SetPrio t p) = IsName t × IsNumber p
 
 -- A command whose numbers a line can write.
 abbrev pub IsWritten : Command → Type 0
 IsWritten (Limits t m c s) = IsNumber t × IsNumber m × IsNumber c × IsNumber s
 IsWritten (Thread p) = IsNumber p
-IsWritten (Mutex k) = Unit {0}
+IsWritten (Mutex k robust) = Unit {0}
 IsWritten (Begin t q) = IsName t × IsRequestWritten q
 IsWritten (Go t) = IsName t
+IsWritten (End t) = IsName t
 IsWritten (Call t q) = IsName t × IsRequestWritten q
 IsWritten (Finish t) = IsName t
 IsWritten (Word m) = IsName m
+IsWritten (Health m) = IsName m
 IsWritten (Prio t) = IsName t
 IsWritten Pick = Unit {0}

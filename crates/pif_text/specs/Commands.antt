@@ -1,11 +1,11 @@
 -- The command of a line.
-use Rattle.std.specs.Prelude.{ℕ, List, [], ◌∷◌, Option, Some, None, option_map, option_and_then, if◌then◌else◌, bytes_eq, codes}
+use Rattle.std.specs.Prelude.{ℕ, true, false, ◌&&◌, List, [], ◌∷◌, Option, Some, None, option_map, option_and_then, if◌then◌else◌, bytes_eq, codes}
 use Rattle.pif_types.specs.declared.requests.Kind.{Kind}
 use Rattle.pif_types.specs.declared.requests.Kind.TheVariants.{Normal, ErrorCheck, Recursive}
 use Rattle.pif_types.specs.declared.requests.Request.{Request}
-use Rattle.pif_types.specs.declared.requests.Request.TheVariants.{Lock, TryLock, Unlock, SetPrio}
+use Rattle.pif_types.specs.declared.requests.Request.TheVariants.{Lock, TryLock, Unlock, Consistent, SetPrio}
 use Rattle.pif_text.specs.declared.commands.Command.{Command}
-use Rattle.pif_text.specs.declared.commands.Command.TheVariants.{Limits, Thread, Mutex, Begin, Go, Call, Finish, Word, Prio, Pick}
+use Rattle.pif_text.specs.declared.commands.Command.TheVariants.{Limits, Thread, Mutex, Begin, Go, End, Call, Finish, Word, Health, Prio, Pick}
 use Rattle.pif_text.specs.Numbers.{number_in, thread_in, mutex_in}
 use Rattle.pif_text.specs.Words.{words}
 
@@ -23,12 +23,13 @@ kind_in word =
     else if bytes_eq word (codes "recursive") then Some Recursive
     else None
 
--- A request of two words: `lock mN`, `trylock mN` or `unlock mN`.
+-- A request of two words: `lock mN`, `trylock mN`, `unlock mN` or `consistent mN`.
 unfoldable pub request_in : List ℕ → List ℕ → Option Request
 request_in call mutex =
     if bytes_eq call (codes "lock") then option_map Lock (mutex_in mutex)
     else if bytes_eq call (codes "trylock") then option_map TryLock (mutex_in mutex)
     else if bytes_eq call (codes "unlock") then option_map Unlock (mutex_in mutex)
+    else if bytes_eq call (codes "consistent") then option_map Consistent (mutex_in mutex)
     else None
 
 -- A request of three words: `setprio tN P`.
@@ -46,15 +47,23 @@ command_of_one name =
     if bytes_eq name (codes "pick") then Some Pick
     else None
 
--- A command of two words: `thread P`, `mutex K`, `go tN`, `finish tN`, `word mN` or `prio tN`.
+-- A command of two words: `thread P`, `mutex K`, `go tN`, `end tN`, `finish tN`, `word mN`, `health mN` or `prio tN`.
 unfoldable pub command_of_two : List ℕ → List ℕ → Option Command
 command_of_two name word =
     if bytes_eq name (codes "go") then option_map Go (thread_in word)
+    else if bytes_eq name (codes "end") then option_map End (thread_in word)
     else if bytes_eq name (codes "word") then option_map Word (mutex_in word)
+    else if bytes_eq name (codes "health") then option_map Health (mutex_in word)
     else if bytes_eq name (codes "prio") then option_map Prio (thread_in word)
     else if bytes_eq name (codes "finish") then option_map Finish (thread_in word)
     else if bytes_eq name (codes "thread") then option_map Thread (number_in word)
-    else if bytes_eq name (codes "mutex") then option_map Mutex (kind_in word)
+    else if bytes_eq name (codes "mutex") then option_map (λ kind. Mutex kind false) (kind_in word)
+    else None
+
+-- A command of three words: `mutex K robust`.
+unfoldable pub command_of_three : List ℕ → List ℕ → List ℕ → Option Command
+command_of_three name word last =
+    if bytes_eq name (codes "mutex") && bytes_eq last (codes "robust") then option_map (λ kind. Mutex kind true) (kind_in word)
     else None
 
 -- A command of four words: `call tN Q` or `begin tN Q`, for a request Q of two words.
@@ -95,7 +104,7 @@ unfoldable pub command_of_words : List (List ℕ) → Option Command
 command_of_words [] = None
 command_of_words (a ∷ []) = command_of_one a
 command_of_words (a ∷ b ∷ []) = command_of_two a b
-command_of_words (a ∷ b ∷ c ∷ []) = None
+command_of_words (a ∷ b ∷ c ∷ []) = command_of_three a b c
 command_of_words (a ∷ b ∷ c ∷ d ∷ []) = command_of_four a b c d
 command_of_words (a ∷ b ∷ c ∷ d ∷ e ∷ []) = command_of_five a b c d e
 command_of_words (a ∷ b ∷ c ∷ d ∷ e ∷ f ∷ more) = None

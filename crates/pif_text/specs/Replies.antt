@@ -3,9 +3,11 @@ use Rattle.std.specs.Prelude.{ℕ, List, ◌++◌, Option, Some, None, codes, de
 use Rattle.pif_types.specs.declared.errors.AddFault.{AddFault}
 use Rattle.pif_types.specs.declared.errors.AddFault.TheVariants.{TooMany, BadPrio}
 use Rattle.pif_types.specs.declared.errors.Refusal.{Refusal}
-use Rattle.pif_types.specs.declared.errors.Refusal.TheVariants.{Busy, Idle, NoSuch}
+use Rattle.pif_types.specs.declared.errors.Refusal.TheVariants.{Dead, Busy, Idle, NoSuch}
+use Rattle.pif_types.specs.declared.requests.Health.{Health}
+use Rattle.pif_types.specs.declared.requests.Health.TheVariants.{Fine, Inconsistent, Unusable}
 use Rattle.pif_text.specs.declared.replies.Reply.{Reply}
-use Rattle.pif_text.specs.declared.replies.Reply.TheVariants.{Done, Thread, Mutex, NotAdded, Begun, Went, Waits, Answer, Refused, Word, Priority, Picked}
+use Rattle.pif_text.specs.declared.replies.Reply.TheVariants as reply
 use Rattle.pif_text.specs.declared.replies.Cause.{Cause}
 use Rattle.pif_text.specs.declared.replies.Cause.TheVariants as cause
 use Rattle.pif_text.specs.Numbers.{hex_digits}
@@ -17,9 +19,16 @@ add_fault_word BadPrio = codes "badprio"
 
 -- Why an event was refused, in one word.
 abbrev pub refusal_word : Refusal → List ℕ
+refusal_word Dead = codes "dead"
 refusal_word Busy = codes "busy"
 refusal_word Idle = codes "idle"
 refusal_word NoSuch = codes "nosuch"
+
+-- What is known of the state that a mutex protects, in one word.
+abbrev pub health_word : Health → List ℕ
+health_word Fine = codes "fine"
+health_word Inconsistent = codes "inconsistent"
+health_word Unusable = codes "unusable"
 
 -- The name of a thread.
 abbrev pub thread_name : ℕ → List ℕ
@@ -36,18 +45,21 @@ picked_text None = codes "none"
 
 -- The text of a reply, without a line feed. A word is written in eight hexadecimal digits.
 unfoldable pub text_of : Reply → List ℕ
-text_of Done = codes "ok"
-text_of (Thread thread) = thread_name thread
-text_of (Mutex mutex) = mutex_name mutex
-text_of (NotAdded fault) = codes "refused " ++ add_fault_word fault
-text_of Begun = codes "begun"
-text_of Went = codes "went"
-text_of Waits = codes "waits"
-text_of (Answer number) = codes "answer " ++ decimal number
-text_of (Refused refusal) = codes "refused " ++ refusal_word refusal
-text_of (Word value) = codes "0x" ++ hex_digits 8 value
-text_of (Priority priority) = decimal priority
-text_of (Picked thread) = picked_text thread
+text_of reply.Done = codes "ok"
+text_of (reply.Thread thread) = thread_name thread
+text_of (reply.Mutex mutex) = mutex_name mutex
+text_of (reply.NotAdded fault) = codes "refused " ++ add_fault_word fault
+text_of reply.Begun = codes "begun"
+text_of reply.Went = codes "went"
+text_of reply.Waits = codes "waits"
+text_of (reply.Answer number) = codes "answer " ++ decimal number
+text_of reply.Ended = codes "ended"
+text_of (reply.Refused refusal) = codes "refused " ++ refusal_word refusal
+text_of (reply.Word value) = codes "0x" ++ hex_digits 8 value
+text_of (reply.Health health) = health_word health
+text_of (reply.Priority priority) = decimal priority
+text_of reply.Dead = codes "dead"
+text_of (reply.Picked thread) = picked_text thread
 
 -- The cause of a fault, in one word.
 abbrev pub cause_word : Cause → List ℕ

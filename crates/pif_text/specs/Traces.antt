@@ -1,7 +1,7 @@
 -- The lines of traces.
 use Rattle.std.specs.Prelude.{ℕ, ◌==◌, ◌&&◌, Bool, List, [], ◌∷◌, ◌++◌, drop, take, Option, Some, None, option_map, if◌then◌else◌, bytes_eq, codes, decimal}
 use Rattle.pif_text.specs.declared.replies.Reply.{Reply}
-use Rattle.pif_text.specs.declared.replies.Reply.TheVariants.{Done, Thread, Mutex, NotAdded, Begun, Went, Waits, Answer, Refused, Word, Priority, Picked}
+use Rattle.pif_text.specs.declared.replies.Reply.TheVariants.{Done, Thread, Mutex, NotAdded, Begun, Went, Waits, Answer, Ended, Refused, Word, Health, Priority, Dead, Picked}
 use Rattle.pif_text.specs.CommandTexts.{IsNumber}
 use Rattle.pif_text.specs.Replies.{text_of}
 
@@ -47,7 +47,10 @@ IsTraced Begun = Unit {0}
 IsTraced Went = Unit {0}
 IsTraced Waits = Unit {0}
 IsTraced (Answer n) = IsNumber n
+IsTraced Ended = Unit {0}
 IsTraced (Refused refusal) = Unit {0}
 IsTraced (Word value) = ⊥
+IsTraced (Health health) = ⊥
 IsTraced (Priority p) = ⊥
+IsTraced Dead = ⊥
 IsTraced (Picked thread) = ⊥

@@ -57,6 +57,10 @@ fn append_request(out: &mut Text, request: Request)
             append(out, b"unlock ");
             append_mutex(out, mutex);
         }
+        Request::Consistent(mutex) => {
+            append(out, b"consistent ");
+            append_mutex(out, mutex);
+        }
         Request::SetPrio(thread, priority) => {
             append(out, b"setprio ");
             append_thread(out, thread);
@@ -110,13 +114,17 @@ pub fn command_text(command: Command, out: &mut Text)
             append(out, b"thread ");
             append_decimal(out, u64::from(priority));
         }
-        Command::Mutex(kind) => mutex_text(kind, false, out),
+        Command::Mutex(kind, robust) => mutex_text(kind, robust, out),
         Command::Begin(thread, request) => {
             append(out, b"begin ");
             append_call(out, thread, request);
         }
         Command::Go(thread) => {
             append(out, b"go ");
+            append_thread(out, thread);
+        }
+        Command::End(thread) => {
+            append(out, b"end ");
             append_thread(out, thread);
         }
         Command::Call(thread, request) => {
@@ -129,6 +137,10 @@ pub fn command_text(command: Command, out: &mut Text)
         }
         Command::Word(mutex) => {
             append(out, b"word ");
+            append_mutex(out, mutex);
+        }
+        Command::Health(mutex) => {
+            append(out, b"health ");
             append_mutex(out, mutex);
         }
         Command::Prio(thread) => {

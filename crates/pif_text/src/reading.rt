@@ -1,6 +1,6 @@
 ghost use Rattle.std.specs.Prelude.{◌≡◌, ◌∷◌, []};
 ghost use Rattle.pif_text.specs.Words.{words};
-ghost use Rattle.pif_text.specs.Commands.{kind_in, request_in, request_in_three, command_of_one, command_of_two, command_of_four, command_of_five, command_of_words, command_in};
+ghost use Rattle.pif_text.specs.Commands.{kind_in, request_in, request_in_three, command_of_one, command_of_two, command_of_three, command_of_four, command_of_five, command_of_words, command_in};
 
 use crate::Command;
 use crate::numbers::{mutex_of, number_of, thread_of};
@@ -35,6 +35,8 @@ fn request_of(call: &[u8], mutex: &[u8]) -> Option<Request>
         Some(Request::TryLock(mutex))
     } else if call == b"unlock".as_slice() {
         Some(Request::Unlock(mutex))
+    } else if call == b"consistent".as_slice() {
+        Some(Request::Consistent(mutex))
     } else {
         None
     }
@@ -71,8 +73,12 @@ fn of_two(name: &[u8], word: &[u8]) -> Option<Command>
 {
     if name == b"go".as_slice() {
         Some(Command::Go(thread_of(word)?))
+    } else if name == b"end".as_slice() {
+        Some(Command::End(thread_of(word)?))
     } else if name == b"word".as_slice() {
         Some(Command::Word(mutex_of(word)?))
+    } else if name == b"health".as_slice() {
+        Some(Command::Health(mutex_of(word)?))
     } else if name == b"prio".as_slice() {
         Some(Command::Prio(thread_of(word)?))
     } else if name == b"finish".as_slice() {
@@ -80,7 +86,19 @@ fn of_two(name: &[u8], word: &[u8]) -> Option<Command>
     } else if name == b"thread".as_slice() {
         Some(Command::Thread(number_of(word)?))
     } else if name == b"mutex".as_slice() {
-        Some(Command::Mutex(kind_of(word)?))
+        Some(Command::Mutex(kind_of(word)?, false))
+    } else {
+        None
+    }
+}
+
+/// The command of three words.
+#[tactic(auto, unfolding(crate::specs::Commands::command_of_three))]
+fn of_three(name: &[u8], kind: &[u8], last: &[u8]) -> Option<Command>
+    ensures { result ≡ command_of_three name.now kind.now last.now }
+{
+    if name == b"mutex".as_slice() && last == b"robust".as_slice() {
+        Some(Command::Mutex(kind_of(kind)?, true))
     } else {
         None
     }
@@ -146,7 +164,7 @@ fn of_named(name: &[u8], rest: &[u8]) -> Option<Command>
     };
     let (second, rest) = split_first(rest);
     match rest {
-        None => None,
+        None => of_three(name, first, second),
         Some(rest) => of_more(name, first, second, rest),
     }
 }

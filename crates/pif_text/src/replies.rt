@@ -1,4 +1,4 @@
-use pif_types::{AddFault, Answer, MutexId, Prio, Refusal, Tid};
+use pif_types::{AddFault, Answer, Health, MutexId, Prio, Refusal, Tid};
 
 /// What a command is answered.
 #[derive(Clone, Copy, PartialEq, Eq)]
@@ -19,12 +19,18 @@ pub enum Reply {
     Waits,
     /// `answer N`: the call is answered 0 or the number of an error.
     Answer(Answer),
-    /// `refused busy`, `refused idle` or `refused nosuch`: nothing has changed.
+    /// `ended`: the thread has ended now.
+    Ended,
+    /// `refused dead`, `refused busy`, `refused idle` or `refused nosuch`: nothing has changed.
     Refused(Refusal),
     /// `0x` and eight hexadecimal digits in lower case: the value of a mutex's word.
     Word(u32),
+    /// `fine`, `inconsistent` or `unusable`: what is known of the state that a mutex protects.
+    Health(Health),
     /// The number alone: the priority that a thread runs at.
     Priority(Prio),
+    /// `dead`: the thread whose priority was asked for has ended.
+    Dead,
     /// `tN` or `none`: the thread that runs next.
     Picked(Option<Tid>),
 }

@@ -2,11 +2,11 @@ ghost use Rattle.std.specs.Prelude.{◌≡◌, ◌+◌, ◌≤◌, ◌<◌, ◌+
 ghost use Rattle.arrayvec.specs.ArrayVec.{array_vec_len};
 ghost use Rattle.std.specs.Fmt.{digit_glyph};
 ghost use Rattle.pif_text.specs.Numbers.{hex_digits};
-ghost use Rattle.pif_text.specs.Replies.{text_of, fault_of, add_fault_word, refusal_word, thread_name, mutex_name, picked_text, cause_word};
+ghost use Rattle.pif_text.specs.Replies.{text_of, fault_of, add_fault_word, refusal_word, health_word, thread_name, mutex_name, picked_text, cause_word};
 
 use crate::{Cause, Reply, TEXT_ROOM, Text};
 use itoa::Buffer;
-use pif_types::{AddFault, Answer, MutexId, Refusal, Tid};
+use pif_types::{AddFault, Answer, Health, MutexId, Refusal, Tid};
 
 /// How many bytes of room `reply_text` and `fault_text` ask for: no text is longer.
 pub const REPLY_ROOM: usize = 40;
@@ -122,9 +122,22 @@ fn refusal_of(refusal: Refusal) -> &'static [u8]
     ensures len { length result.now ≤ 10 }
 {
     match refusal {
+        Refusal::Dead => b"dead",
         Refusal::Busy => b"busy",
         Refusal::Idle => b"idle",
         Refusal::NoSuch => b"nosuch",
+    }
+}
+
+/// What is known of the state that a mutex protects, in one word.
+fn health_of(health: Health) -> &'static [u8]
+    ensures items { result.now ≡ health_word health }
+    ensures len { length result.now ≤ 12 }
+{
+    match health {
+        Health::Fine => b"fine",
+        Health::Inconsistent => b"inconsistent",
+        Health::Unusable => b"unusable",
     }
 }
 
@@ -180,9 +193,12 @@ pub fn reply_text(reply: Reply, out: &mut Text)
         Reply::Went => append(out, b"went"),
         Reply::Waits => append(out, b"waits"),
         Reply::Answer(number) => append_answer(out, number),
+        Reply::Ended => append(out, b"ended"),
         Reply::Refused(refusal) => append_refused(out, refusal_of(refusal)),
         Reply::Word(value) => append_hex(out, value),
+        Reply::Health(health) => append(out, health_of(health)),
         Reply::Priority(priority) => append_decimal(out, u64::from(priority.get())),
+        Reply::Dead => append(out, b"dead"),
         Reply::Picked(thread) => append_picked(out, thread),
     }
 }

@@ -84,6 +84,9 @@ pub enum AddFault {
 /// Why an event was refused. Nothing has changed.
 #[derive(Clone, Copy, Debug, PartialEq, Eq, Hash, Error)]
 pub enum Refusal {
+    /// The thread has ended.
+    #[error("dead")]
+    Dead,
     /// The thread has a call open already.
     #[error("busy")]
     Busy,

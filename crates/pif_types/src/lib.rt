@@ -18,7 +18,7 @@ mod room;
 pub use errors::{AddFault, Answer, Errno, NoMemory, Refusal};
 pub use limits::Limits;
 pub use numbers::{CondId, MutexId, Prio, Tid};
-pub use requests::{Kind, Request};
+pub use requests::{Health, Kind, Request};
 pub use room::{push_within, with_room};
 
 #[cfg(test)]

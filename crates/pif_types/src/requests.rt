@@ -12,6 +12,19 @@ pub enum Kind {
     Recursive,
 }
 
+/// What is known of the state that a robust mutex protects, as its health word has it (pthread_mutexattr_setrobust and
+/// pthread_mutex_consistent of POSIX). That of a stalled mutex is `Fine`.
+#[derive(Clone, Copy, Debug, PartialEq, Eq, Hash)]
+pub enum Health {
+    /// It is in order, as far as the health word says. Right after its owner ended it is so still: who takes the mutex
+    /// next writes `Inconsistent`.
+    Fine,
+    /// An owner ended, and nobody has said since that it is in order.
+    Inconsistent,
+    /// The mutex was given up while it was inconsistent, and nobody can lock it again: ENOTRECOVERABLE.
+    Unusable,
+}
+
 /// A pthread call that a thread may begin.
 #[derive(Clone, Copy, Debug, PartialEq, Eq, Hash)]
 pub enum Request {
@@ -22,6 +35,10 @@ pub enum Request {
     TryLock(MutexId),
     /// pthread_mutex_unlock
     Unlock(MutexId),
+    /// pthread_mutex_consistent: the caller, who owns the robust mutex in an inconsistent state, says that what it protects
+    /// is in order again. A mutex that isn't robust is answered EINVAL, then one that the caller doesn't own EPERM, then one
+    /// that isn't inconsistent EINVAL.
+    Consistent(MutexId),
     /// pthread_setschedprio: gives this thread this base priority, which may be out of range.
     SetPrio(Tid, u32),
 }

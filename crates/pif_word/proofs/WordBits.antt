@@ -1,6 +1,6 @@
 -- What the bits of a word say: bits and words are each other's, and what `|` and `&` of the flags make of a word.
 use Rattle.std.proofs.Common.{◌≡◌, ℕ, zero, suc, ◌+◌, ◌*◌, ◌/◌, ◌%◌, ◌<◌, Bool, true, false, not, ◌==◌, refl, sym, ap, ◌∙◌, arith, bit_and, bit_or, zero-mul, one-mul, eq-eqb, ne_eqb, ◌≢◌, Option, Some, None, if◌then◌else◌}
-use Rattle.std.proofs.lemmas.Nat.{and_mask, and_comm, and-not, or_block, or_shifted}
+use Rattle.std.proofs.lemmas.Nat.{and_mask, and_comm, and-not, or_block, or_comm, or_shifted}
 use Rattle.std.proofs.lemmas.Nat.Bits.{and_pow}
 use Rattle.std.proofs.lemmas.Bool.Decides.{nat_tests}
 use Rattle.std.specs.Int.Bits.{or_zero_r}
@@ -174,3 +174,17 @@ word_of-without_died b h =
     ∙ and-not 32 1073741824 b (omega arith) h in
     let p : bit_and b 1073741824 ≡ (b / 1073741824) % 2 * 1073741824 = and_pow b 30 in
     word_from (bit_and b 3221225471) (b % 1073741824) ((b / 2147483648) % 2) 0 (omega arith) (omega arith) (omega arith)
+
+-- `& WAITERS | OWNER_DIED` is the word of no owner with OWNER_DIED, and with WAITERS where it was set
+pub word_of-orphan : (b : ℕ) → word_of (bit_or (bit_and b 2147483648) 1073741824) ≡ word 0 (word_of b).waiters true
+unfolding word_of
+word_of-orphan b =
+    ap (λ k. word_of (bit_or k 1073741824)) (and_pow b 31)
+    ∙ ap word_of (or_shifted ((b / 2147483648) % 2) 31 1073741824 (omega arith))
+    ∙ word_from ((b / 2147483648) % 2 * 2147483648 + 1073741824) 0 ((b / 2147483648) % 2) 1 (omega arith) (omega arith) (omega arith)
+
+-- `| (WAITERS | OWNER_DIED)` of a number below 2^30
+pub word_of-inherit : (u : ℕ) → u < 1073741824 → word_of (bit_or u 3221225472) ≡ word u true true
+word_of-inherit u h =
+    ap word_of (or_comm u 3221225472 ∙ or_shifted 3 30 u h)
+    ∙ word_from (3 * 1073741824 + u) u 1 1 (omega arith) (omega arith) (omega arith)

@@ -1,6 +1,8 @@
-ghost use Rattle.std.specs.Prelude.{◌≡◌, ◌<◌, ◌^◌, option_map};
+ghost use Rattle.std.specs.Prelude.{◌≡◌, ◌<◌, ◌^◌, false, option_map};
 ghost use Rattle.pif_model.specs.Word as model;
 ghost use Rattle.pif_model.specs.Word.{word_of};
+
+use pif_types::Health;
 
 /// FUTEX_WAITERS: threads contend for the mutex, or did.
 pub const WAITERS: u32 = 0x8000_0000;
@@ -73,4 +75,50 @@ pub fn taken_word(w: u32, t: u32) -> u32
     ensures { word_of result ≡ model.taken_word t (word_of w) }
 {
     (w & OWNER_DIED) | t
+}
+
+/// The word that the kernel writes when the owner of a mutex, whose word is `w`, has ended and nobody is queued: no number,
+/// `WAITERS` as it was, and `OWNER_DIED`.
+pub fn orphan_word(w: u32) -> u32
+    ensures { word_of result ≡ model.orphan_word (word_of w) }
+{
+    (w & WAITERS) | OWNER_DIED
+}
+
+/// The word that the kernel writes when it hands a mutex, whose owner has ended, to the thread `u`, below 2^30: its number,
+/// and both flags.
+pub fn inherit_word(u: u32) -> u32
+    requires { u < 2 ^ 30 }
+    ensures { word_of result ≡ model.inherit_word u }
+{
+    u | (WAITERS | OWNER_DIED)
+}
+
+/// The word `w` without `OWNER_DIED`. The number and `WAITERS` stay.
+pub fn settled_word(w: u32) -> u32
+    ensures { word_of result ≡ record (word_of w) { died = false } }
+{
+    w & !OWNER_DIED
+}
+
+/// What the health word `w` says: 1 inconsistent, 2 unusable, and any other fine.
+pub fn health_in(w: u32) -> Health
+    ensures { result ≡ model.health_in w }
+{
+    match w {
+        1 => Health::Inconsistent,
+        2 => Health::Unusable,
+        _ => Health::Fine,
+    }
+}
+
+/// The health word that says this: 0, 1 or 2.
+pub fn health_word(health: Health) -> u32
+    ensures { result ≡ model.health_word health }
+{
+    match health {
+        Health::Fine => 0,
+        Health::Inconsistent => 1,
+        Health::Unusable => 2,
+    }
 }

@@ -5,4 +5,6 @@ use pif_types::MutexId;
 pub enum Cell {
     /// The word of this mutex: its owner's number and the flags.
     Mutex(MutexId),
+    /// The health word of this mutex: 0 fine, 1 inconsistent, 2 unusable.
+    Health(MutexId),
 }

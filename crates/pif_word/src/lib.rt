@@ -1,5 +1,5 @@
 //! Words of 32 bits, as futex(2) has them: one for each mutex, what their bits say, and the accesses of one word at a
-//! time.
+//! time; and for each mutex a health word.
 //!
 //! ```text
 //!       31         30       29                              0
@@ -15,6 +15,12 @@
 //! | `0x80000003` | held by thread 3, and threads wait for it, or did when it was handed over |
 //! | `0x40000000` | free, and its last owner ended |
 //! | `0xc0000003` | held by thread 3 with both flags |
+//!
+//! | Health word | Robust mutex |
+//! |---|---|
+//! | 0 | fine, or its owner ended and nobody has taken it since |
+//! | 1 | inconsistent |
+//! | 2 | unusable |
 #![tactic(auto)]
 
 mod bits;
@@ -22,8 +28,8 @@ mod cells;
 mod words;
 
 pub use bits::{
-    OWNER_DIED, TID_MASK, WAITERS, hand_word, has_waiters, mark_word, number, owner_died,
-    release_word, take_word, taken_word,
+    OWNER_DIED, TID_MASK, WAITERS, hand_word, has_waiters, health_in, health_word, inherit_word,
+    mark_word, number, orphan_word, owner_died, release_word, settled_word, take_word, taken_word,
 };
 pub use cells::Cell;
 pub use words::Words;

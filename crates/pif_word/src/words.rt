@@ -7,11 +7,12 @@ use pif_types::{Limits, NoMemory};
 use std::alloc::Global;
 use std::marker::Model;
 
-/// The words that threads share, one for each mutex that the limits allow, of which there are at most 1,024. Each access
-/// is one step: it touches one word once.
+/// The words that threads share: a word and a health word for each mutex that the limits allow, of which there are at most
+/// 1,024. Each access is one step: it touches one word once.
 #[derive(Drop)]
 pub struct Words {
     mutexes: Vec<u32>,
+    healths: Vec<u32>,
 }
 
 impl Model for Words {
@@ -19,29 +20,32 @@ impl Model for Words {
 
     ghost Value = { WordMap };
 
-    ghost view = { λ w. record { mutexes = w.mutexes.items } };
+    ghost view = { λ w. record { mutexes = w.mutexes.items; healths = w.healths.items } };
 
-    ghost invariant = { λ w. IsWordMap (record { mutexes = w.mutexes.items }) };
+    ghost invariant = { λ w. IsWordMap (record { mutexes = w.mutexes.items; healths = w.healths.items }) };
 }
 
 impl Words {
-    /// A word for each mutex that `limits` allow, each 0. Takes one piece of memory, and answers `NoMemory` where that is
-    /// refused.
+    /// A word and a health word for each mutex that `limits` allow, each 0. Takes two pieces of memory, and answers
+    /// `NoMemory` where one of them is refused.
     pub fn new(alloc: Global, limits: Limits) -> Result<Words, NoMemory>
         ensures made { IfOk result (λ w. w ≡ free_words limits) }
         ensures words { IfOk result IsWordMap }
     {
         let count = limits.mutexes() as usize + 1;
         let mutexes = vec![in alloc; 0; count].map_err(|_| NoMemory)?;
-        Ok(Words { mutexes })
+        let healths = vec![in alloc; 0; count].map_err(|_| NoMemory)?;
+        Ok(Words { mutexes, healths })
     }
 
-    /// Whether there is such a cell: mutex m has a word where m is at most the mutexes that the limits allow.
+    /// Whether there is such a cell: mutex m has a word and a health word where m is at most the mutexes that the
+    /// limits allow.
     pub fn has(&self, cell: Cell) -> bool
         ensures { IsTrue result ↔ HasCell self.now cell }
     {
         match cell {
             Cell::Mutex(mutex) => (mutex.get() as usize) < self.mutexes.len(),
+            Cell::Health(mutex) => (mutex.get() as usize) < self.healths.len(),
         }
     }
 
@@ -53,6 +57,7 @@ impl Words {
     {
         match cell {
             Cell::Mutex(mutex) => self.mutexes[mutex.get() as usize],
+            Cell::Health(mutex) => self.healths[mutex.get() as usize],
         }
     }
 
@@ -64,6 +69,7 @@ impl Words {
     {
         match cell {
             Cell::Mutex(mutex) => self.mutexes[mutex.get() as usize] = bits,
+            Cell::Health(mutex) => self.healths[mutex.get() as usize] = bits,
         }
     }
 
@@ -79,6 +85,7 @@ impl Words {
     {
         match cell {
             Cell::Mutex(mutex) => exchange(&mut self.mutexes[mutex.get() as usize], expected, new),
+            Cell::Health(mutex) => exchange(&mut self.healths[mutex.get() as usize], expected, new),
         }
     }
 
@@ -91,6 +98,7 @@ impl Words {
     {
         match cell {
             Cell::Mutex(mutex) => keep(&mut self.mutexes[mutex.get() as usize], mask),
+            Cell::Health(mutex) => keep(&mut self.healths[mutex.get() as usize], mask),
         }
     }
 }

@@ -123,6 +123,7 @@ fn other_lines_are_faults(rt: HostRuntime) {
         "call t1 lock m1 = answer 0",
         "finish t1 = answer 0",
         "word m1 = 0x00000000",
+        "health m1 = fine",
         "prio t1 = 10",
         "pick = t1",
         "go t1",
@@ -188,7 +189,7 @@ fn want_of_memory_writes_nothing(rt: HostRuntime) {
 #[derive(Clone, Copy)]
 enum Asked {
     Thread(u32),
-    Mutex(Kind),
+    Mutex(Kind, bool),
     Step(Event),
 }
 
@@ -199,7 +200,9 @@ fn entry_of(core: &mut Core, asked: Asked) -> Result<Entry, Fail> {
             let thread = core.add_thread(priority)?;
             Ok(Entry::Thread(thread, Prio::new(priority).ok_or("priority")?))
         }
-        Asked::Mutex(kind) => Ok(Entry::Mutex(core.add_mutex(kind, false)?, kind, false)),
+        Asked::Mutex(kind, robust) => {
+            Ok(Entry::Mutex(core.add_mutex(kind, robust)?, kind, robust))
+        }
         Asked::Step(event) => Ok(Entry::Step(event, core.step(event))),
     }
 }
@@ -212,7 +215,7 @@ fn record(core: &mut Core, entries: &mut Vec<Entry>) -> Result<(), Fail> {
     for asked in [
         Asked::Thread(10),
         Asked::Thread(50),
-        Asked::Mutex(Kind::ErrorCheck),
+        Asked::Mutex(Kind::ErrorCheck, false),
         Asked::Step(Event::Begin(low, Request::Lock(mutex))),
         Asked::Step(Event::Go(low)),
         Asked::Step(Event::Go(low)),

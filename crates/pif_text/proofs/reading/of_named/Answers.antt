@@ -1,4 +1,3 @@
-use Rattle.std.proofs.Common.{refl}
 use Rattle.pif_text.specs.Commands.{command_of_words}
 use Rattle.pif_text.proofs.reading.of_named.Goals as goal
 
@@ -8,4 +7,4 @@ returns-in_default c = rw (c.split_first.ensures, c.in_default.is) c.of_two.ensu
 
 pub returns-in-None : goal.returns-in-None
 unfolding command_of_words
-returns-in-None c = rw (c.split_first.ensures, c.in-Some.is, c.split_first-2.ensures, c.in-None.is) refl
+returns-in-None c = rw (c.split_first.ensures, c.in-Some.is, c.split_first-2.ensures, c.in-None.is) c.of_three.ensures

@@ -1,25 +1,8 @@
--- A thread that is added leaves the table sound, and the core stands after it.
+-- A core that stands stands after a thread is added.
 use Rattle.std.proofs.Common.{◌≤◌, length, ap, arith}
 use Rattle.pif_types.specs.Bounds.{Bounds}
-use Rattle.pif_core.proofs.SoundTables.{added_thread_sound}
 use Rattle.pif_core.proofs.StandsAfter.{from_some, thread_stands}
 use Rattle.pif_core.proofs.cores.Core.add_thread.Goals as goal
-
-pub invariant_of-self : goal.invariant_of-self
-invariant_of-self c =
-    let s = c.self.inside.parts in
-    let few : length s.lines ≤ s.limits.threads =
-    omega (
-      arith,
-      c.threads.ensures.lines,
-      c.if-threads.true,
-      c.threads-2.ensures.value,
-      ap (λ (l : Bounds). l.threads) c.limits.ensures.value,
-    ) in
-    rw c.add_thread.ensures.after
-    (added_thread_sound s c.in_ok-prio.prio c.self.invariant few
-    (rw (← c.get-level.ensures.value) c.get-level.ensures.low)
-    (rw (← c.get-level.ensures.value) c.get-level.ensures.high))
 
 pub returns-then-threads-clause-stands : goal.returns-then-threads-clause-stands
 returns-then-threads-clause-stands c = λ h r w st.

@@ -1,11 +1,7 @@
--- A core to which nothing was added is sound, and stands after the empty history.
+-- A core to which nothing was added stands after the empty history.
 use Rattle.pif_model.specs.Posix.{empty_world}
-use Rattle.pif_simulation.proofs.Additions.{new_sound}
 use Rattle.pif_simulation.proofs.StandingLaws.{new_stands}
 use Rattle.pif_core.proofs.cores.Core.new.Goals as goal
-
-pub invariant_of-result : goal.invariant_of-result
-invariant_of-result c = rw c.in_ok-parts.ensures (new_sound _ c.threads-threads.ensures.range)
 
 pub returns-clause-stands : goal.returns-clause-stands
 returns-clause-stands c = (empty_world, rw c.in_ok-parts.ensures (new_stands _ c.threads-threads.ensures.range))

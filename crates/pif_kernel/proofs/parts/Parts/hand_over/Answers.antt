@@ -19,7 +19,7 @@ use Rattle.pif_kernel.proofs.parts.Parts.hand_over.Goals as goal
 hands : (c : Start) (p : Plain) → p ≡ c.args.self.now → IsHandable p c.args.holder c.args.m c.args.key
 hands c p is =
     subst (λ (x : Plain). IsHandable x c.args.holder c.args.m c.args.key) (sym is)
-    (record { sound = c.requires.sound; at = c.requires.key; owner = c.requires.owner; ready = c.requires.ready })
+    (record { sound = c.requires.sound; at = c.requires.key; owner = c.requires.owner; idle = c.requires.idle })
 
 -- the other waiters, and whether one of them waits for the mutex
 others : (c : After-any)

@@ -1,8 +1,9 @@
-use Rattle.std.proofs.Common.{◌≡◌, ℕ, Ok, Some, sym, ap, ◌∙◌, arith}
+use Rattle.std.proofs.Common.{◌≡◌, ℕ, Ok, Some, subst, sym, ap, ◌∙◌, arith}
 use Rattle.pif_model.specs.Word.{Words, word_of, set_word, hand_word}
-use Rattle.pif_model.specs.PiKernel.{words_after_unlock, kernel_after_unlock, kernel_after_hand_over}
+use Rattle.pif_model.specs.PiKernel.{seat_at, queued_on, words_after_unlock, kernel_after_unlock, kernel_after_hand_over}
 use Rattle.pif_word.specs.WordMap.{words_of}
 use Rattle.pif_kernel.specs.Plain.{Plain, kernel_of, key_at}
+use Rattle.pif_chains.proofs.Statuses.{ready-queued_on_nothing}
 use Rattle.pif_kernel.proofs.Seats.{states_seen}
 use Rattle.pif_kernel.proofs.Answering.{words_stored}
 use Rattle.pif_kernel.proofs.CallFacts.{some_state, no_state, next_below, zero_word, words_freed, words_handed, kernel_freed, kernel_handed}
@@ -15,6 +16,11 @@ hand_over-requires-clause-owner c =
     let at : key_at p c.args.m ≡ Some c.in-Some.key = sym c.in_ok-key.ensures.own.at ∙ c.in-Some.is in
     c.in_ok-key.ensures.own.state (λ z. some_state p c.self.invariant c.args.m c.in-Some.key at
     (states_seen p c.args.m ∙ z))
+
+pub hand_over-requires-clause-idle : goal.hand_over-requires-clause-idle
+hand_over-requires-clause-idle c =
+    subst (λ (x : Plain). queued_on (seat_at (kernel_of x) c.args.t).status ≡ 0) (sym c.self.view_is)
+    (ready-queued_on_nothing (seat_at (kernel_of c.args.self.now) c.args.t).status c.requires.ready)
 
 pub hand_word-bits-requires : goal.hand_word-bits-requires
 hand_word-bits-requires c =

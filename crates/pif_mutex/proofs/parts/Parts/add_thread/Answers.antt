@@ -1,7 +1,15 @@
--- A new thread leaves the parts runnable.
-use Rattle.pif_mutex.proofs.RunnableTables.{thread_added_runnable}
+-- A new thread leaves the parts sound.
+use Rattle.std.proofs.Common.{ap, ◌∙◌}
+use Rattle.pif_model.specs.Table.{Table, has_thread_room}
+use Rattle.pif_simulation.proofs.ThreadAdded.{thread_added_sound}
+use Rattle.pif_mutex.proofs.SoundTables.{priority}
 use Rattle.pif_mutex.proofs.parts.Parts.add_thread.Goals as goal
 
 pub invariant_of-self : goal.invariant_of-self
-invariant_of-self g c = rw c.add_thread.ensures.after
-    (thread_added_runnable c.self.inside.state c.args.prio c.self.invariant)
+invariant_of-self g c =
+    let s = c.self.inside.state in
+    rw c.add_thread.ensures.after
+    (thread_added_sound s c.args.prio c.self.invariant
+    (ap (λ (x : Table). has_thread_room x) c.self.view_is ∙ c.requires)
+    (priority c.args.prio (rw (← c.get-level.ensures.value) c.get-level.ensures.low)
+    (rw (← c.get-level.ensures.value) c.get-level.ensures.high)))

@@ -1,6 +1,6 @@
--- Parts to which nothing was added are runnable.
-use Rattle.pif_mutex.proofs.RunnableTables.{new_runnable}
+-- Parts to which nothing was added are sound.
+use Rattle.pif_simulation.proofs.Additions.{new_sound}
 use Rattle.pif_mutex.proofs.parts.Parts.new.Goals as goal
 
 pub invariant_of-result : goal.invariant_of-result
-invariant_of-result g c = rw c.in_ok-state.ensures (new_runnable _)
+invariant_of-result g c = rw c.in_ok-state.ensures (new_sound _ c.threads-threads.ensures.range)

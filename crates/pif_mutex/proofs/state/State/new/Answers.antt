@@ -9,9 +9,10 @@ returns g c =
       c.push_within.ensures.items,
       c.push_within-2.ensures.items,
       c.in_ok-words.ensures.made,
+      c.in_ok-lists.ensures.made,
       c.in_ok-lines.ensures.items,
       c.in_ok-mutexes.ensures.items,
-      c.new-2.ensures,
+      c.new-3.ensures,
       c.requires.new,
       words_free_at_first
           c.args.limits,

@@ -10,7 +10,7 @@ returns-then-exchange g c =
     let held : word_of c.number_of-number.result ≡ held_by c.args.t =
     word_of-number c.number_of-number.result c.number_of-number.ensures.bare
     ∙ ap held_by c.number_of-number.ensures.value in
-    c.answer.ensures
+    c.end_by.ensures
     ∙ own_exchange_done c.args.request c.args.kernel c.args.t c.args.m (word_of c.number_of-number.result)
     c.args.self.now c.exchange.new.self c.exchange.result held
     c.if-exchange.true c.exchange.ensures.value c.exchange.ensures.after

@@ -8,7 +8,7 @@ use Rattle.pif_mutex.proofs.state.State.unlock_exchange.Goals as goal
 
 pub returns-then-exchange : goal.returns-then-exchange
 returns-then-exchange g c =
-    c.answer.ensures
+    c.end_by.ensures
     ∙ unlock_exchange_done c.args.t c.args.m (word_of 0) c.args.self.now c.exchange.new.self c.exchange.result
     (word_of-number 0 (omega arith)) c.if-exchange.true
     (c.exchange.ensures.value ∙ ap (is_bare (cell_at c.args.self.now c.args.m).word) c.number_of-number.ensures.value)

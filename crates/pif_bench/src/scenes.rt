@@ -1,0 +1,49 @@
+use pif_core::{Core, Event, Seen};
+use pif_types::{Kind, Limits, Request, Tid};
+use std::io;
+use std::time::Duration;
+
+/// How many steps of a call are taken at most.
+const MOST_STEPS: u32 = 24;
+
+/// A core with so many threads, of priority 1 but the last, which has `last`, and so many normal mutexes, which are robust
+/// or stalled.
+pub fn core_of(
+    rt: &impl AllocGlobal,
+    threads: u32,
+    mutexes: u32,
+    last: u32,
+    robust: bool,
+) -> io::Result<Core> {
+    let limits = Limits::new(threads, mutexes, 0, 1).ok_or(io::ErrorKind::InvalidInput)?;
+    let Ok(mut core) = Core::new(rt.alloc(), limits) else {
+        return Err(io::Error::from(io::ErrorKind::OutOfMemory));
+    };
+    for number in 1..=threads {
+        let prio = if number == threads { last } else { 1 };
+        if core.add_thread(prio).is_err() {
+            return Err(io::Error::from(io::ErrorKind::InvalidInput));
+        }
+    }
+    for _number in 0..mutexes {
+        if core.add_mutex(Kind::Normal, robust).is_err() {
+            return Err(io::Error::from(io::ErrorKind::InvalidInput));
+        }
+    }
+    Ok(core)
+}
+
+/// Begins a call, and goes on until it is answered or waits.
+pub fn call(core: &mut Core, thread: Tid, request: Request) {
+    core.step(Event::Begin(thread, request));
+    for _step in 0..MOST_STEPS {
+        if core.step(Event::Go(thread)) != Seen::Went {
+            break;
+        }
+    }
+}
+
+/// The nanoseconds of each of so many rounds.
+pub fn each(spent: Duration, rounds: u32) -> u64 {
+    u64::try_from(spent.as_nanos() / u128::from(rounds.max(1))).unwrap_or(u64::MAX)
+}

@@ -1,0 +1,40 @@
+-- What one step of an open call rests on.
+use Rattle.std.specs.Prelude.{ℕ, ◌≡◌, Bool, true, false}
+use Rattle.pif_types.specs.declared.requests.Request.{Request}
+use Rattle.pif_model.specs.declared.lines.Place.{Place}
+use Rattle.pif_model.specs.declared.lines.Place.TheVariants.{LockQueued, LockStopped, LinkNext, UnlockUnlink}
+use Rattle.pif_model.specs.PiKernel.{is_ready}
+use Rattle.pif_model.specs.Posix.{named_by, names_known}
+use Rattle.pif_model.specs.RobustList.{robust_at, is_listed, IsUnlisted, IsHalfLinkedByNoOther}
+use Rattle.pif_model.specs.Standing.{is_half_linked}
+use Rattle.pif_model.specs.Table.{Table, has_mutex, status_at}
+
+-- whether the thread of a call may wait at this place: queued, or stopped for good
+abbrev pub waits_at : Place → Bool
+waits_at LockQueued = true
+waits_at LockStopped = true
+waits_at _ = false
+
+-- whether the link of the call's mutex to the head of the list is written at this place
+abbrev pub is_link_next : Place → Bool
+is_link_next (LinkNext a) = true
+is_link_next _ = false
+
+-- whether the call's mutex is taken off the list at this place
+abbrev pub is_unlink : Place → Bool
+is_unlink UnlockUnlink = true
+is_unlink _ = false
+
+-- what a step of a call of t at a place rests on
+pub record CallMayStep (s : Table) (t : ℕ) (q : Request) (p : Place) : Type 0 where
+  -- the mutex that it names was added
+  pub mutex : names_known (has_mutex s) q ≡ true
+  -- its thread may run, save where it may wait
+  pub ready : waits_at p ≡ false → is_ready (status_at s t) ≡ true
+  -- a mutex that is linked is on no list, and half-linked by no other thread
+  pub unlisted : is_link_next p ≡ true → IsUnlisted s.lists (named_by q)
+  pub half : is_link_next p ≡ true → IsHalfLinkedByNoOther s.lists t (named_by q)
+  -- one that becomes the head is half-linked by its thread
+  pub linked : is_half_linked p ≡ true → (robust_at s.lists t).half_linked ≡ named_by q
+  -- and one that is taken off the list is on it
+  pub listed : is_unlink p ≡ true → is_listed s.lists t (named_by q) ≡ true
