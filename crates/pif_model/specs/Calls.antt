@@ -1,13 +1,14 @@
 -- What the public calls of a core answer, and the table that they leave, by the table before.
-use Rattle.std.specs.Prelude.{ℕ, ◌-◌, Bool, ◌==◌, length, Option, Some, None, Result, Ok, Err, if◌then◌else◌}
+use Rattle.std.specs.Prelude.{ℕ, ◌-◌, Bool, true, false, ◌==◌, length, Option, Some, None, Result, Ok, Err, if◌then◌else◌}
 use Rattle.pif_types.specs.declared.errors.AddFault.{AddFault}
 use Rattle.pif_types.specs.declared.errors.AddFault.TheVariants.{TooMany, BadPrio}
 use Rattle.pif_types.specs.declared.requests.Health.{Health}
 use Rattle.pif_types.specs.declared.requests.Kind.{Kind}
 use Rattle.pif_model.specs.Graph.{is_priority}
 use Rattle.pif_model.specs.Word.{bits_of, health_in}
-use Rattle.pif_model.specs.PiKernel.{is_living, effective_in, pick_in}
-use Rattle.pif_model.specs.Table.{Table, cell_at, has_mutex, has_thread_room, has_mutex_room, thread_added, mutex_added}
+use Rattle.pif_model.specs.PiKernel.{is_living, is_ready, effective_in, pick_in}
+use Rattle.pif_model.specs.Table.{Table, cell_at, line_at, status_at, has_mutex, has_thread_room, has_mutex_room, thread_added, mutex_added}
+use Rattle.pif_model.specs.Lines.{is_open}
 
 -- adding a thread of priority p: BadPrio, then TooMany, else its number
 abbrev pub add_thread_answer : ℕ → Table → Result ℕ AddFault
@@ -45,3 +46,10 @@ pick_answer s = if pick_in s.kernel == 0 then None else Some (pick_in s.kernel)
 -- how many threads were ever added
 abbrev pub threads_answer : Table → ℕ
 threads_answer s = length s.lines - 1
+
+-- whether a living thread with a call open rests: it may not run
+abbrev pub waiting_answer : ℕ → Table → Option Bool
+waiting_answer t s =
+    if is_living s.kernel t
+    then (if is_open (line_at s t) then Some (if is_ready (status_at s t) then false else true) else None)
+    else None
