@@ -1,8 +1,8 @@
 ghost use Rattle.std.specs.Prelude.{ℕ, ◌≡◌, ◌≢◌, ◌+◌, true, false, length, IfOk, IfSome, None};
 ghost use Rattle.pif_types.specs.Bounds.{IsWithin};
 ghost use Rattle.pif_model.specs.Word.{word_of};
-ghost use Rattle.pif_model.specs.PiKernel.{IsKernel, new_kernel, is_living};
-ghost use Rattle.pif_model.specs.Table.{new_table, line_at, cell_at, with_line, has_thread, has_thread_room, has_mutex_room, thread_added, mutex_added};
+ghost use Rattle.pif_model.specs.PiKernel.{IsKernel, new_kernel, is_living, is_ready};
+ghost use Rattle.pif_model.specs.Table.{new_table, line_at, cell_at, with_line, status_at, has_thread, has_thread_room, has_mutex_room, thread_added, mutex_added};
 ghost use Rattle.pif_model.specs.Lines.{go_outcome, is_open, first_place, table_refusal, ended_table};
 ghost use Rattle.pif_model.specs.Calls.{effective_answer, word_answer, health_answer, pick_answer};
 ghost use Rattle.pif_mutex.specs.Outcomes.{outcome_of};
@@ -10,7 +10,7 @@ ghost use Rattle.pif_mutex.specs.Outcomes.{outcome_of};
 use crate::progress::Progress;
 use crate::state::State;
 use pif_kernel::PiKernel;
-use pif_model::{Event, Line, Place};
+use pif_model::{Event, Line, Place, Status};
 use pif_types::{Health, Kind, Limits, MutexId, NoMemory, Prio, Request, Tid};
 use pif_word::health_in;
 use std::alloc::Global;
@@ -109,6 +109,17 @@ impl<K: PiKernel + Drop> Parts<K> {
         match self.state.line(t) {
             Line::Idle => false,
             Line::At(_, _) => true,
+        }
+    }
+
+    /// Whether a thread, which was added, may run: it is not queued, not stopped, and has not ended.
+    pub fn is_ready(&self, t: Tid) -> bool
+        requires { has_thread self.now t ≡ true }
+        ensures { result ≡ is_ready (status_at self.now t) }
+    {
+        match self.state.status(t) {
+            Status::Ready(_) => true,
+            Status::Queued(_) | Status::Stopped | Status::Ended => false,
         }
     }
 
