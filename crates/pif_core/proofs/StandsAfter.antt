@@ -1,5 +1,5 @@
 -- What a core that stands shows, and that it stands after each call.
-use Rattle.std.proofs.Common.{◌≡◌, ◌≢◌, ℕ, ◌≤◌, ◌==◌, Bool, true, false, List, ◌∷◌, length, Option, Some, None, IfSome, unwrap_or, refl, sym, ap, ◌∙◌, subst, eqb-true, if◌then◌else◌}
+use Rattle.std.proofs.Common.{◌≡◌, ◌≢◌, ℕ, ◌≤◌, ◌==◌, Bool, true, false, List, ◌∷◌, length, Option, Some, None, IfSome, unwrap_or, refl, sym, ap, ap₂, ◌∙◌, subst, eqb-true, if◌then◌else◌}
 use Rattle.std.specs.Option.{is_some}
 use Rattle.std.proofs.lemmas.Bool.{eqb-false}
 use Rattle.pif_chains.proofs.KernelFacts.{living-added}
@@ -11,19 +11,20 @@ use Rattle.pif_model.specs.declared.events.Event.{Event}
 use Rattle.pif_model.specs.declared.events.Seen.{Seen}
 use Rattle.pif_model.specs.declared.events.Entry.{Entry}
 use Rattle.pif_model.specs.declared.events.Entry.TheVariants.{Thread as AddThread, Mutex as AddMutex, Step as Happened}
-use Rattle.pif_model.specs.Posix.{World, IsLegal, is_thread, is_mutex, mutex_at, effective_of}
+use Rattle.pif_model.specs.Posix.{World, IsLegal, is_thread, is_mutex, thread_at, mutex_at, rests, effective_of}
 use Rattle.pif_model.specs.Posix.Health.{Inconsistent as WasInconsistent}
 use Rattle.pif_model.specs.Posix.{is_living as lives}
 use Rattle.pif_model.specs.History.{AlwaysOneHolder}
-use Rattle.pif_model.specs.PiKernel.{is_living, effective_in, pick_in}
-use Rattle.pif_model.specs.Table.{Table, cell_at, has_mutex, thread_added, mutex_added}
-use Rattle.pif_model.specs.Calls.{effective_answer, word_answer, health_answer, pick_answer}
+use Rattle.pif_model.specs.PiKernel.{is_living, is_ready, effective_in, pick_in}
+use Rattle.pif_model.specs.Table.{Table, cell_at, line_at, status_at, has_mutex, thread_added, mutex_added}
+use Rattle.pif_model.specs.Calls.{effective_answer, word_answer, health_answer, pick_answer, waiting_answer}
 use Rattle.pif_model.specs.Word.{word_of, bits_of, health_in, health_word}
-use Rattle.pif_model.specs.Lines.{event_outcome}
+use Rattle.pif_model.specs.Lines.{is_open, event_outcome}
 use Rattle.pif_model.specs.Standing.{Stands, HasEffective, IsPick, IsPossible, IsPossibleHealth, ArePossible}
 use Rattle.pif_simulation.proofs.StandingLaws.{event_stands, thread_added_stands, mutex_added_stands}
 use Rattle.pif_simulation.proofs.Holders.{one_holder}
-use Rattle.pif_simulation.proofs.Shown.{threads_shown, is_thread_seen, is_mutex_seen, living_seen}
+use Rattle.pif_simulation.proofs.Shown.{threads_shown, is_thread_seen, is_mutex_seen, living_seen, busy_seen}
+use Rattle.pif_simulation.proofs.Steps.{rests_ready, rests_not_ready}
 use Rattle.pif_simulation.proofs.Effective.{effective_seen}
 use Rattle.pif_simulation.proofs.Picks.{pick_runs, word_is_possible, health_is_possible, died_behind_inconsistent}
 use Rattle.pif_simulation.proofs.Priority.{effective_is_greatest}
@@ -218,3 +219,49 @@ both_answered s m o h r w st e =
     subst (λ (x : Option Health). IfSome x (λ y. ArePossible w m (cell_at s m).word (health_word y))) (sym e)
     (by_known (λ y. ArePossible w m (cell_at s m).word (health_word y)) (has_mutex s m)
     (health_in (cell_at s m).health) (both_said s m h r w st))
+
+-- WHO RESTS
+
+-- a living thread rests where it may not run
+rests_said : (s : Table) (t : ℕ) (h : List Entry) (r : List World) (w : World) → Stands s h r w
+    → is_living s.kernel t ≡ true → (if is_ready (status_at s t) then false else true) ≡ rests w t
+rests_said s t h r w st k =
+    by_test (λ b. (if b then false else true) ≡ rests w t) (is_ready (status_at s t))
+    (λ e. sym (ap (λ (u : World). rests u t) st.shows ∙ rests_ready st.sound st.shadow t k e))
+    (λ e. sym (ap (λ (u : World). rests u t) st.shows ∙ rests_not_ready st.sound st.shadow t k e))
+
+-- the reader of who rests
+pub waiting_answered : (s : Table) (t : ℕ) (o : Option Bool) (h : List Entry) (r : List World) (w : World)
+    → Stands s h r w → o ≡ waiting_answer t s → IfSome o (λ b. b ≡ rests w t)
+waiting_answered s t o h r w st e =
+    subst (λ (x : Option Bool). IfSome x (λ b. b ≡ rests w t)) (sym e)
+    (by_tests (is_living s.kernel t) (is_open (line_at s t)) (rests_said s t h r w st))
+  where
+    by_tests : (living called : Bool) → (living ≡ true → (if is_ready (status_at s t) then false else true) ≡ rests w t)
+        → IfSome (if living then (if called then Some (if is_ready
+        (status_at s t) then false else true) else None) else None)
+        (λ b. b ≡ rests w t)
+    by_tests true true f = f refl
+    by_tests true false f = tt
+    by_tests false called f = tt
+
+-- the reader of who rests answers for living threads with a call open
+pub waiting_is_some : (s : Table) (t : ℕ) (o : Option Bool) (h : List Entry) (r : List World) (w : World)
+    → Stands s h r w → o ≡ waiting_answer t s
+    → is_some o ≡ (if lives w t then is_some (thread_at w t).call else false)
+waiting_is_some s t o h r w st e =
+    ap is_some e ∙ there (is_living s.kernel t) (is_open (line_at s t)) (if is_ready
+    (status_at s t) then false else true)
+    ∙ sym (ap₂ (λ a b. if a then b else false) living busy)
+  where
+    there : (living called said : Bool) → is_some (if living then (if called then Some said else None) else None)
+        ≡ (if living then called else false)
+    there true true said = refl
+    there true false said = refl
+    there false called said = refl
+
+    living : lives w t ≡ is_living s.kernel t
+    living = ap (λ (u : World). lives u t) st.shows ∙ living_seen s st.shadow t st.sound.all.shape
+
+    busy : is_some (thread_at w t).call ≡ is_open (line_at s t)
+    busy = ap (λ (u : World). is_some (thread_at u t).call) st.shows ∙ busy_seen st.sound.all.shape st.shadow t

@@ -1,14 +1,14 @@
-ghost use Rattle.std.specs.Prelude.{ℕ, ◌≡◌, ◌+◌, length, true, false, List, [], ◌∷◌, None, IfOk, IfSome, is_some, unwrap_or};
+ghost use Rattle.std.specs.Prelude.{ℕ, ◌≡◌, ◌+◌, length, true, false, List, [], ◌∷◌, None, IfOk, IfSome, is_some, unwrap_or, if◌then◌else◌};
 ghost use Rattle.pif_model.specs.declared.events.Entry.{Entry};
 ghost use Rattle.pif_model.specs.Word.{word_of, health_word};
 ghost use Rattle.pif_model.specs.PiKernel.{is_living};
-ghost use Rattle.pif_model.specs.Posix.{World, IsLegal, is_mutex};
+ghost use Rattle.pif_model.specs.Posix.{World, IsLegal, is_mutex, thread_at, rests};
 ghost use Rattle.pif_model.specs.Posix.{is_living as lives};
 ghost use Rattle.pif_model.specs.History.{AlwaysOneHolder};
 ghost use Rattle.pif_model.specs.Standing.{Stands, HasEffective, IsPick, IsPossible, IsPossibleHealth, ArePossible};
 ghost use Rattle.pif_model.specs.Table.{new_table, line_at, cell_at, has_thread, has_mutex};
 ghost use Rattle.pif_model.specs.Lines.{table_refusal, accepted_outcome, event_outcome, is_open, goes_on, ClosesOrWaits};
-ghost use Rattle.pif_model.specs.Calls.{add_thread_answer, add_thread_after, add_mutex_answer, add_mutex_after, effective_answer, word_answer, health_answer, pick_answer, threads_answer};
+ghost use Rattle.pif_model.specs.Calls.{add_thread_answer, add_thread_after, add_mutex_answer, add_mutex_after, effective_answer, word_answer, health_answer, pick_answer, threads_answer, waiting_answer};
 
 use pif_kernel::PlainKernel;
 use pif_model::{Entry, Event, Seen};
@@ -84,9 +84,9 @@ impl Core {
 
     /// One event: what it is answered. It is refused, and nothing changes, by the first of these that holds: `NoSuch`
     /// where the thread was never added, `Dead` where it has ended, `Busy` where a thread with a call open begins one,
-    /// `Idle` where a thread goes on that has none, and `NoSuch` where the mutex of a call was never added. A thread may
-    /// end at any point, with a call open or not. A call that is open closes or waits within 24 steps of its thread,
-    /// where no other event comes between.
+    /// `Idle` where a thread goes on that has none, and `NoSuch` where the mutex of a call was never added. A thread
+    /// may end at any point, with a call open or not. A call that is open closes or waits within 24 steps of its
+    /// thread, where no other event comes between.
     pub fn step(&mut self, event: Event) -> Seen
         ensures seen { result ≡ (event_outcome event self.old).seen }
         ensures after { self.new ≡ (event_outcome event self.old).after }
@@ -149,6 +149,25 @@ impl Core {
         self.parts.pick()
     }
 
+    /// Whether a thread rests: true where it is among the waiters of a mutex or waits for good, false where it may take
+    /// a step. `None` where no living thread has that number, or where that thread has no call open.
+    pub fn waiting(&self, thread: Tid) -> Option<bool>
+        ensures value { result ≡ waiting_answer thread self.now }
+        ensures open { (h : List Entry) (r : List World) (w : World) → Stands self.now h r w
+            → is_some result ≡ (if lives w thread then is_some (thread_at w thread).call else false) }
+        ensures rests { (h : List Entry) (r : List World) (w : World) → Stands self.now h r w
+            → IfSome result (λ b. b ≡ rests w thread) }
+    {
+        self.resting(thread)
+    }
+
+    /// The limits.
+    pub fn limits(&self) -> Limits
+        ensures value { result ≡ self.now.limits }
+    {
+        self.parts.limits()
+    }
+
     /// How many threads were ever added.
     pub fn threads(&self) -> u32
         ensures value { result ≡ threads_answer self.now }
@@ -156,6 +175,20 @@ impl Core {
             → result + 1 ≡ length w.threads }
     {
         self.parts.threads()
+    }
+
+    /// Whether a living thread with a call open rests.
+    fn resting(&self, thread: Tid) -> Option<bool>
+        ensures { result ≡ waiting_answer thread self.now }
+    {
+        if !self.parts.is_living(thread) {
+            return None;
+        }
+        if self.parts.is_open(thread) {
+            Some(!self.parts.is_ready(thread))
+        } else {
+            None
+        }
     }
 
     /// Whether this thread was added.
@@ -186,8 +219,8 @@ impl Core {
         }
     }
 
-    /// Why a Begin is refused, if it is: the thread was never added, has ended, has a call open, or names a mutex that was
-    /// never added.
+    /// Why a Begin is refused, if it is: the thread was never added, has ended, has a call open, or names a mutex that
+    /// was never added.
     fn begin_refusal(&self, thread: Tid, request: Request) -> Option<Refusal>
         ensures { result ≡ table_refusal self.now (Event.Begin thread request) }
     {

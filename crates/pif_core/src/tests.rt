@@ -70,6 +70,7 @@ fn boost(rt: &impl Abort, core: &mut Core) -> Result<(), Fail> {
         (core.effective(low), core.pick()),
         (Prio::new(50), Some(low))
     );
+    assert_eq!(rt; (core.waiting(low), core.waiting(high)), (None, Some(true)));
     play(rt, core, &handed)?;
     assert_eq!(rt; core.effective(low), Prio::new(10));
     assert_eq!(rt; core.step(Event::Go(high)), Seen::Answered(0));
