@@ -6,6 +6,7 @@
 #![tactic(auto)]
 
 mod faults;
+mod notices;
 mod reading;
 mod replaying;
 mod running;
@@ -14,8 +15,9 @@ mod tracing;
 mod writing;
 
 pub use faults::CliFault;
+pub use notices::Notice;
 pub use pif_text::Cause;
-pub use runs::{replay, run};
+pub use runs::{replay, replay_noting, run, run_noting};
 pub use tracing::{write_trace, written_trace_is_the_same};
 pub use writing::write_whole;
 

@@ -5,4 +5,5 @@ mod script;
 
 pub use ending::{Ending, OpenFault};
 pub use listener::{ANSWER_ROOM, END_ROOM, Listener, OUTPUT_ROOM, Output, append};
+pub use scanner::MOST_LINE;
 pub use script::read_script;

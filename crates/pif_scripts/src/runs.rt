@@ -1,9 +1,9 @@
 ghost use Rattle.pif_scripts.specs.Running.{RunsTo};
 ghost use Rattle.pif_scripts.specs.Traces.{ReplaysTo};
 
-use crate::CliFault;
 use crate::reading::read_script;
 use crate::replaying::Replayed;
+use crate::{CliFault, Notice};
 use pif_core::Core;
 use std::alloc::Global;
 use std::io::{Read, Write};
@@ -19,7 +19,24 @@ use std::io::{Read, Write};
 pub fn run<R: Read, W: Write>(alloc: Global, reader: &mut R, writer: &mut W) -> Result<(), CliFault>
     ensures { RunsTo (R.remaining reader.old) (R.remaining reader.new) (W.contents writer.old) (W.contents writer.new) result }
 {
-    read_script::<Core, R, W>(alloc, reader, writer)
+    run_noting(alloc, reader, writer, &mut Notice::new())
+}
+
+/// Runs a script as `run` does, and has `notice` keep the line of the fault; where there is none, `notice` is left as it
+/// is.
+///
+/// # Errors
+///
+/// Those of `run`.
+pub fn run_noting<R: Read, W: Write>(
+    alloc: Global,
+    reader: &mut R,
+    writer: &mut W,
+    notice: &mut Notice,
+) -> Result<(), CliFault>
+    ensures { RunsTo (R.remaining reader.old) (R.remaining reader.new) (W.contents writer.old) (W.contents writer.new) result }
+{
+    read_script::<Core, R, W>(alloc, reader, writer, notice)
 }
 
 /// Replays a trace of version 1: gives its commands to a fresh core, and compares each answer with the recorded one. At
@@ -39,5 +56,22 @@ pub fn replay<R: Read, W: Write>(
 ) -> Result<(), CliFault>
     ensures { ReplaysTo (R.remaining reader.old) (R.remaining reader.new) (W.contents writer.old) (W.contents writer.new) result }
 {
-    read_script::<Replayed, R, W>(alloc, reader, writer)
+    replay_noting(alloc, reader, writer, &mut Notice::new())
+}
+
+/// Replays a trace as `replay` does, and has `notice` keep the line of the fault or of the difference; where there is
+/// none, `notice` is left as it is.
+///
+/// # Errors
+///
+/// Those of `replay`.
+pub fn replay_noting<R: Read, W: Write>(
+    alloc: Global,
+    reader: &mut R,
+    writer: &mut W,
+    notice: &mut Notice,
+) -> Result<(), CliFault>
+    ensures { ReplaysTo (R.remaining reader.old) (R.remaining reader.new) (W.contents writer.old) (W.contents writer.new) result }
+{
+    read_script::<Replayed, R, W>(alloc, reader, writer, notice)
 }

@@ -2,6 +2,7 @@ mod chains;
 mod deaths;
 mod kinds;
 mod limits;
+mod notices;
 mod reading;
 mod robust;
 mod streams;

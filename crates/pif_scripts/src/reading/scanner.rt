@@ -11,7 +11,7 @@ use std::alloc::Global;
 const MOST_BYTES: u32 = 16_777_216;
 
 /// The most bytes of a line before its LF.
-const MOST_LINE: usize = 120;
+pub const MOST_LINE: usize = 120;
 
 /// Reads a script byte by byte, and has its lines answered by an `L`, which one of the first lines makes.
 #[derive(Drop)]
@@ -38,6 +38,11 @@ impl<L: Listener + Drop> Scanner<L> {
             number: 1,
             taken: 0,
         }
+    }
+
+    /// The bytes of the line in which the script stands, as far as they were taken.
+    pub fn line(&self) -> &[u8] {
+        self.line.as_slice()
     }
 
     /// Reads these bytes, up to the first line that ends the script. What their lines are answered is appended to `output`.

@@ -7,14 +7,15 @@ ghost use Rattle.pif_scripts.specs.Scanners.{scan_of};
 use super::ending::{End, Ending, Stop};
 use super::listener::{CHUNK, END_ROOM, Listener, OUTPUT_ROOM, Output, append};
 use super::scanner::Scanner;
-use crate::CliFault;
 use crate::writing::write_whole;
+use crate::{CliFault, Notice};
 use pif_text::{Text, differs_text, fault_text};
 use std::alloc::Global;
 use std::io::{Read, Write};
 
 /// Reads a script or a trace to its end, or to the first line that ends it. What its lines are answered is written,
 /// chunk by chunk, before more is read, and at last what is said at its end, or the line of the fault or difference.
+/// `notice` keeps the line that ends it, and is left as it is where none does.
 ///
 /// # Errors
 ///
@@ -24,13 +25,14 @@ pub fn read_script<L: Listener + Drop, R: Read, W: Write>(
     alloc: Global,
     reader: &mut R,
     writer: &mut W,
+    notice: &mut Notice,
 ) -> Result<(), CliFault>
     ensures { RunsFrom L.hearing start (R.remaining reader.old) (R.remaining reader.new) (W.contents writer.old) (W.contents writer.new) result }
 {
     let mut scanner = Scanner::<L>::new();
     let mut output = Output::new();
     loop {
-        if !turn(alloc, &mut scanner, &mut output, reader, writer)? {
+        if !turn(alloc, &mut scanner, &mut output, reader, writer, notice)? {
             return Ok(());
         }
     }
@@ -43,6 +45,7 @@ fn turn<L: Listener + Drop, R: Read, W: Write>(
     output: &mut Output,
     reader: &mut R,
     writer: &mut W,
+    notice: &mut Notice,
 ) -> Result<bool, CliFault>
     ensures answer { Turns L.hearing (scan_of scanner.old) (scan_of scanner.new) (R.remaining reader.old) (R.remaining reader.new) (W.contents writer.old) (W.contents writer.new) result }
     ensures taken { result ≡ Ok true → scanner.old.taken < scanner.new.taken }
@@ -54,14 +57,17 @@ fn turn<L: Listener + Drop, R: Read, W: Write>(
     };
     output.clear();
     if count == 0 {
-        return close(scanner, output, writer);
+        return close(scanner, output, writer, notice);
     }
     match scanner.feed(alloc, &chunk[..count], output) {
         Ok(()) => {
             write_whole(writer, output.as_slice())?;
             Ok(true)
         }
-        Err(Stop::Ended(end)) => Err(stop(end, output, writer)),
+        Err(Stop::Ended(end)) => {
+            notice.keep(scanner.line(), &end.ending);
+            Err(stop(end, output, writer))
+        }
         Err(Stop::NoMemory) => Err(CliFault::NoMemory),
     }
 }
@@ -71,6 +77,7 @@ fn close<L: Listener + Drop, W: Write>(
     scanner: &Scanner<L>,
     output: &mut Output,
     writer: &mut W,
+    notice: &mut Notice,
 ) -> Result<bool, CliFault>
     requires { output.old.items ≡ [] }
     ensures { Closes (W.contents writer.old) (W.contents writer.new) (closed_at L.hearing (scan_of scanner.now)) result }
@@ -80,7 +87,10 @@ fn close<L: Listener + Drop, W: Write>(
             write_whole(writer, output.as_slice())?;
             Ok(false)
         }
-        Err(end) => Err(stop(end, output, writer)),
+        Err(end) => {
+            notice.keep(scanner.line(), &end.ending);
+            Err(stop(end, output, writer))
+        }
     }
 }
 
