@@ -2,6 +2,9 @@
 //! Scripts and traces themselves are `pif_scripts`', whose calls are handed on.
 #![tactic(auto)]
 
+mod causes;
+mod helps;
+mod messages;
 mod process;
 mod statuses;
 mod words;

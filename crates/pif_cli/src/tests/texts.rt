@@ -62,7 +62,7 @@ fn check_helped(
 
 #[test]
 fn wrong_words_are_refused(rt: HostRuntime) -> Result<(), Fail> {
-    let refused: [(&[&str], [&str; 4]); 6] = [
+    let refused: [(&[&str], [&str; 4]); 8] = [
         (
             ["pif"].as_slice(),
             ["requires a subcommand", "run, replay", USAGE, MORE],
@@ -86,6 +86,24 @@ fn wrong_words_are_refused(rt: HostRuntime) -> Result<(), Fail> {
                 "error",
                 "unexpected argument 'fast'",
                 "Usage: pif run",
+                MORE,
+            ],
+        ),
+        (
+            ["pif", "run", "boosted.script"].as_slice(),
+            [
+                "error",
+                "unexpected argument 'boosted.script'",
+                "Usage: pif run < FILE\n",
+                MORE,
+            ],
+        ),
+        (
+            ["pif", "replay", "boosted.trace"].as_slice(),
+            [
+                "error",
+                "unexpected argument 'boosted.trace'",
+                "Usage: pif replay < FILE\n",
                 MORE,
             ],
         ),
@@ -114,12 +132,33 @@ fn help_is_shown(rt: HostRuntime) -> Result<(), Fail> {
         "  replay ",
         REPLAY,
         "-h, --help",
+        "-V, --version",
         "Example:\n  printf 'thread 10\\nmutex normal\\ncall t1 lock m1\\nword m1\\n' | pif run",
     ];
     for word in ["--help", "-h"] {
         check_helped(&rt, rt.alloc(), ["pif", word].as_slice(), whole.as_slice())?;
     }
-    let run = [RUN, "Usage: pif run", "-h, --help"];
+    let run = [
+        RUN,
+        "Usage: pif run < FILE\n",
+        "-h, --help",
+        "A script comes by < FILE, or by a pipe",
+        "\n  limits T M C S    the most threads",
+        "\n  thread P          adds a thread",
+        "\n  mutex K           adds a mutex",
+        "\n  mutex K robust    adds one",
+        "\n  call tN Q         thread N begins",
+        "\n  begin tN Q        thread N begins",
+        "\n  go tN             thread N takes one step",
+        "\n  finish tN         thread N goes on",
+        "\n  end tN            thread N ends",
+        "\n  word mN           shows the word",
+        "\n  health mN         shows whether",
+        "\n  prio tN           shows the effective priority",
+        "\n  pick              shows the thread that runs next",
+        "The calls Q: lock mN, trylock mN, unlock mN, consistent mN, setprio tN P\n",
+        "Status: 0 done, 1 wrong words, 2 a fault of the script, 3 a read or write failed,\n4 out of memory.",
+    ];
     check_helped(
         &rt,
         rt.alloc(),
@@ -130,7 +169,21 @@ fn help_is_shown(rt: HostRuntime) -> Result<(), Fail> {
 
 #[test]
 fn help_of_replay_is_shown(rt: HostRuntime) -> Result<(), Fail> {
-    let replay = [REPLAY, "Usage: pif replay", "-h, --help"];
+    let replay = [
+        REPLAY,
+        "Usage: pif replay < FILE\n",
+        "-h, --help",
+        "A trace comes by < FILE, or by a pipe.",
+        "\n  limits T M C S    the most threads",
+        "\n  thread P          adds a thread",
+        "\n  mutex K           adds a mutex",
+        "\n  mutex K robust    adds one",
+        "\n  begin tN Q        thread N begins",
+        "\n  go tN             thread N takes one step",
+        "\n  end tN            thread N ends",
+        "It prints 'same N'",
+        "4 out of memory, 5 a difference.",
+    ];
     check_helped(
         &rt,
         rt.alloc(),
@@ -140,25 +193,38 @@ fn help_of_replay_is_shown(rt: HostRuntime) -> Result<(), Fail> {
 }
 
 #[test]
+fn the_version_is_shown(rt: HostRuntime) {
+    for word in ["--version", "-V"] {
+        let mut output = Kept::new();
+        let mut errors = Kept::new();
+        let words = ["pif", word];
+        let shown = show(rt.alloc(), words.as_slice(), &mut output, &mut errors);
+        assert_eq!(rt; (shown, errors.len()), ((0, BOOSTED.len()), 0));
+        assert!(rt; output.as_slice() == b"pif 0.1\n".as_slice());
+    }
+}
+
+#[test]
 fn a_failed_write_of_help_or_of_the_refusal_is_told(rt: HostRuntime) {
-    let mut output = ArrayVec::<u8, 4>::new();
-    let mut errors = ArrayVec::<u8, 4>::new();
-    let help = ["pif", "--help"];
-    let status = command(
-        rt.alloc(),
-        help.as_slice(),
-        &mut BOOSTED.as_bytes(),
-        &mut output,
-        &mut errors,
-    );
-    assert_eq!(rt; (status, output.len(), errors.len()), (3, 4, 0));
-    let bare = ["pif"];
-    let status = command(
-        rt.alloc(),
-        bare.as_slice(),
-        &mut BOOSTED.as_bytes(),
-        &mut output,
-        &mut errors,
-    );
-    assert_eq!(rt; (status, output.len(), errors.len()), (3, 4, 4));
+    let asked = [
+        (["pif", "--help"].as_slice(), 4),
+        (["pif", "--version"].as_slice(), 4),
+        (["pif"].as_slice(), 0),
+    ];
+    for (words, shown) in asked {
+        let mut output = ArrayVec::<u8, 4>::new();
+        let mut errors = ArrayVec::<u8, 4>::new();
+        let status = command(
+            rt.alloc(),
+            words,
+            &mut BOOSTED.as_bytes(),
+            &mut output,
+            &mut errors,
+        );
+        assert_eq!(rt;
+            (status, output.len(), errors.len()),
+            (3, shown, 4),
+            "{words:?}"
+        );
+    }
 }
