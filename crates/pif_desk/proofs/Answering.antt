@@ -12,11 +12,11 @@ use Rattle.pif_model.specs.declared.events.Event.{Event}
 use Rattle.pif_model.specs.declared.events.Event.TheVariants.{Begin, Go, End}
 use Rattle.pif_model.specs.declared.events.Seen.TheVariants.{Begun, Answered, Ended, Refused}
 use Rattle.pif_model.specs.declared.events.Entry.{Entry}
-use Rattle.pif_model.specs.declared.events.Entry.TheVariants.{Thread as AddThread, Mutex as AddMutex, Step as Happened}
+use Rattle.pif_model.specs.declared.events.Entry.TheVariants.{Thread as AddThread, Mutex as AddMutex, Cond as AddCond, Step as Happened}
 use Rattle.pif_model.specs.Refusals.{go_refused}
 use Rattle.pif_model.specs.History.{open_call, open_after}
 use Rattle.pif_model.specs.Posix.{Call as MachineCall, World, is_thread, is_living, thread_at, refusal_of, Step, IsRun}
-use Rattle.pif_model.specs.Posix.Step.{thread_added, mutex_added, refused, begun, went, waits, answered as step_answered, ended}
+use Rattle.pif_model.specs.Posix.Step.{thread_added, mutex_added, cond_added, refused, begun, went, waits, answered as step_answered, ended}
 use Rattle.pif_model.specs.Posix.IsRun.{start, next}
 use Rattle.pif_simulation.proofs.Holding.{request_of}
 use Rattle.pif_simulation.proofs.Holders.{IsHeld-IsRun}
@@ -44,6 +44,7 @@ open_on : (t : ℕ) (e : Entry) (at : ℕ) (l : Log) (before : Option Request)
     → (q : Request) → open_after t e before ≡ Some q → last_open (log_after (mark_in t e) at l).calls ≡ Some q
 open_on t (AddThread u p) at l before ih q o = ih q o
 open_on t (AddMutex m k r) at l before ih q o = ih q o
+open_on t (AddCond c m) at l before ih q o = ih q o
 open_on t (Happened (Begin u p) Begun) at l before ih q o = by_test (u == t) o
   where
     by_test : (b : Bool) → (if b then Some p else before) ≡ Some q
@@ -194,10 +195,11 @@ refused-no_answer (End t) r = refl
 answer_or_not : (l : Bounds) (w : World) (e : Entry) (v : World) → Step l w e v → AnswerOrNot e w
 answer_or_not l w e v (thread_added t p is number few low high after) = inl (ap is_answer is)
 answer_or_not l w e v (mutex_added m k r is number few after) = inl (ap is_answer is)
+answer_or_not l w e v (cond_added c m is known number few after) = inl (ap is_answer is)
 answer_or_not l w e v (refused x r is why after) = inl (ap is_answer is ∙ refused-no_answer x r)
 answer_or_not l w e v (begun t q is may after) = inl (ap is_answer is)
 answer_or_not l w e v (went t is goes awake) = inl (ap is_answer is)
-answer_or_not l w e v (waits t is goes rests) = inl (ap is_answer is)
+answer_or_not l w e v (waits t u is goes after rests) = inl (ap is_answer is)
 answer_or_not l w e v (step_answered t a q u is goes has after awake) = inr (t, a, is, goes.allowed)
 answer_or_not l w e v (ended t is ends) = inl (ap is_answer is)
 

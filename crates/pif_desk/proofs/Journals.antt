@@ -12,7 +12,7 @@ use Rattle.pif_model.specs.declared.events.Seen.TheVariants.{Begun, Went, Waits,
 use Rattle.pif_model.specs.declared.events.Entry.{Entry}
 use Rattle.pif_model.specs.declared.events.Entry.TheVariants.{Step as Happened}
 use Rattle.pif_model.specs.Posix.{World, Step, IsRun}
-use Rattle.pif_model.specs.Posix.Step.{thread_added, mutex_added, refused, begun, went, waits, answered, ended}
+use Rattle.pif_model.specs.Posix.Step.{thread_added, mutex_added, cond_added, refused, begun, went, waits, answered, ended}
 use Rattle.pif_model.specs.Posix.IsRun.{next}
 use Rattle.pif_model.specs.Standing.{Stands}
 use Rattle.pif_model.specs.Table.{Table}
@@ -54,10 +54,11 @@ refusal_fits (Ends t) r = refl
 step_fits : (l : Bounds) (w : World) (e : Entry) (v : World) → Step l w e v → Fits e ≡ true
 step_fits l w e v (thread_added t p is number few low high after) = ap Fits is
 step_fits l w e v (mutex_added m k r is number few after) = ap Fits is
+step_fits l w e v (cond_added c m is known number few after) = ap Fits is
 step_fits l w e v (refused x r is why after) = ap Fits is ∙ refusal_fits x r
 step_fits l w e v (begun t q is may after) = ap Fits is
 step_fits l w e v (went t is goes awake) = ap Fits is
-step_fits l w e v (waits t is goes rests) = ap Fits is
+step_fits l w e v (waits t u is goes after rests) = ap Fits is
 step_fits l w e v (answered t a q u is goes has after awake) = ap Fits is
 step_fits l w e v (ended t is ends) = ap Fits is
 

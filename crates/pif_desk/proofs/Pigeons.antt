@@ -7,7 +7,7 @@ use Rattle.std.proofs.lemmas.Bool.Decides.{nat_tests}
 use Rattle.std.proofs.lemmas.List.Elements.{All-head, All-tail}
 use Rattle.std.proofs.lemmas.List.Sums.{sum_by-cons}
 use Rattle.pif_model.specs.declared.events.Entry.{Entry}
-use Rattle.pif_model.specs.declared.events.Entry.TheVariants.{Thread as AddThread, Mutex as AddMutex, Step as Happened}
+use Rattle.pif_model.specs.declared.events.Entry.TheVariants.{Thread as AddThread, Mutex as AddMutex, Cond as AddCond, Step as Happened}
 use Rattle.pif_desk.specs.Rooms.{ClientState}
 use Rattle.pif_desk.specs.Settling.{adds_thread, adds, is_stranger, IsCounted, AreKnown}
 
@@ -67,6 +67,7 @@ abbrev added : List Entry → List ℕ
 added [] = []
 added (AddThread t p ∷ j) = t ∷ added j
 added (AddMutex m k r ∷ j) = added j
+added (AddCond c m ∷ j) = added j
 added (Happened x s ∷ j) = added j
 
 -- the threads of clients
@@ -82,6 +83,7 @@ length-added : (j : List Entry) → count_by adds_thread j ≡ length (added j)
 length-added [] = refl
 length-added (AddThread t p ∷ j) = let e = length-added j in sum_by-cons _ (AddThread t p) j ∙ omega (arith, e)
 length-added (AddMutex m k r ∷ j) = let e = length-added j in sum_by-cons _ (AddMutex m k r) j ∙ omega (arith, e)
+length-added (AddCond c m ∷ j) = let e = length-added j in sum_by-cons _ (AddCond c m) j ∙ omega (arith, e)
 length-added (Happened x s ∷ j) = let e = length-added j in sum_by-cons _ (Happened x s) j ∙ omega (arith, e)
 
 -- clients of a thread
@@ -106,6 +108,7 @@ times-added t (AddThread u p ∷ j) h = by_test (u == t) (times-added t j) h
     by_test true ih h = omega arith
     by_test false ih h = let e = ih h in omega (arith, e)
 times-added t (AddMutex m k r ∷ j) h = times-added t j h
+times-added t (AddCond c m ∷ j) h = times-added t j h
 times-added t (Happened x s ∷ j) h = times-added t j h
 
 -- what holds of each client's thread holds of each number that stands among them

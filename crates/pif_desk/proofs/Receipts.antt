@@ -9,7 +9,7 @@ use Rattle.pif_model.specs.declared.events.Event.TheVariants.{Begin, Go, End}
 use Rattle.pif_model.specs.declared.events.Seen.{Seen}
 use Rattle.pif_model.specs.declared.events.Seen.TheVariants.{Begun, Answered, Ended}
 use Rattle.pif_model.specs.declared.events.Entry.{Entry}
-use Rattle.pif_model.specs.declared.events.Entry.TheVariants.{Thread as AddThread, Mutex as AddMutex, Step as Happened}
+use Rattle.pif_model.specs.declared.events.Entry.TheVariants.{Thread as AddThread, Mutex as AddMutex, Cond as AddCond, Step as Happened}
 use Rattle.pif_desk.specs.declared.log.Mark.{Mark}
 use Rattle.pif_desk.specs.declared.log.Mark.TheVariants.{Begun as MarkBegun, Answered as MarkAnswered, Ended as MarkEnded, Nothing}
 use Rattle.pif_desk.specs.declared.log.Reply.{Reply}
@@ -51,6 +51,7 @@ answers_only _ _ a e = absurd (cc)
 pub mark_answered : (t : ℕ) (e : Entry) (a : ℕ) → mark_in t e ≡ MarkAnswered a → e ≡ Happened (Go t) (Answered a)
 mark_answered t (AddThread u p) a told = absurd (cc)
 mark_answered t (AddMutex m k r) a told = absurd (cc)
+mark_answered t (AddCond c m) a told = absurd (cc)
 mark_answered t (Happened x seen) a told = by_test (thread_of x == t) refl told
   where
     by_test : (b : Bool) → (thread_of x == t) ≡ b → (if b then mark_of (act_of x) seen else Nothing) ≡ MarkAnswered a

@@ -1,12 +1,13 @@
 -- In a history that a run gives, each thread was added by an entry.
-use Rattle.std.proofs.Common.{◌≡◌, ◌≢◌, ◌⊎◌, ◌<◌, ◌≤◌, ℕ, ◌+◌, Bool, true, false, ◌==◌, nat_lt, ◌||◌, List, ◌∷◌, length, refl, sym, ap, ◌∙◌, inl, inr, arith, if◌then◌else◌}
+use Rattle.std.proofs.Common.{◌≡◌, ◌≢◌, ◌⊎◌, ◌<◌, ◌≤◌, ℕ, ◌+◌, Bool, true, false, ◌==◌, nat_lt, ◌||◌, List, [], ◌∷◌, length, refl, sym, ap, ◌∙◌, inl, inr, arith, if◌then◌else◌}
 use Rattle.std.specs.List.{list_any}
 use Rattle.std.proofs.lemmas.Bool.{cases_lt, eq-eqb}
-use Rattle.std.proofs.lemmas.List.{length-set, length_push}
+use Rattle.std.proofs.lemmas.List.{length-set, length-map, length_push}
 use Rattle.pif_types.specs.Bounds.{Bounds}
+use Rattle.pif_types.specs.declared.requests.Request.{Request}
 use Rattle.pif_model.specs.declared.events.Entry.{Entry}
 use Rattle.pif_model.specs.declared.events.Entry.TheVariants.{Thread as AddThread}
-use Rattle.pif_model.specs.Posix.{World, is_thread, Passes, LocksAgain, Locks, TriesToLock, Unlocks, MakesConsistent, SetsPriority, Effect, Effects, Releases, Step, IsRun}
+use Rattle.pif_model.specs.Posix.{World, is_thread, recalled, unblocked, after_use, all_unblocked, Passes, LocksAgain, Locks, TriesToLock, Unlocks, MakesConsistent, SetsPriority, ChecksWait, GivesUp, Uses, Chooses, Effect, Effects, Releases, Step, IsRun}
 use Rattle.pif_model.specs.Posix.Passes.{to_nobody, to_next}
 use Rattle.pif_model.specs.Posix.LocksAgain.{rises, at_limit}
 use Rattle.pif_model.specs.Posix.Locks.{own_normal, own_errorcheck, own_recursive as lock_own_recursive, free as lock_free, lost, cycle, joins}
@@ -14,10 +15,14 @@ use Rattle.pif_model.specs.Posix.TriesToLock.{own_recursive as try_own_recursive
 use Rattle.pif_model.specs.Posix.Unlocks.{not_owner, falls, becomes_unusable, released}
 use Rattle.pif_model.specs.Posix.MakesConsistent.{not_robust, not_owner as consistent_not_owner, not_inconsistent, made_fine}
 use Rattle.pif_model.specs.Posix.SetsPriority.{no_priority, not_living, changed}
-use Rattle.pif_model.specs.Posix.Effect.{lock, try_lock, unlock, consistent, set_prio, leave}
-use Rattle.pif_model.specs.Posix.Effects.{none as no_effect, then as effect_then}
+use Rattle.pif_model.specs.Posix.ChecksWait.{other_mutex, not_owner as wait_not_owner, held_more, checked}
+use Rattle.pif_model.specs.Posix.GivesUp.{becomes_unusable as wait_becomes_unusable, released as wait_released}
+use Rattle.pif_model.specs.Posix.Uses.{at_limit as use_at_limit, counts}
+use Rattle.pif_model.specs.Posix.Chooses.{one as one_chosen, no_one as none_chosen, all as all_chosen}
+use Rattle.pif_model.specs.Posix.Effect.{lock, try_lock, unlock, consistent, set_prio, check_wait, enlist, give_up, lock_again, use_variable, choose, leave}
+use Rattle.pif_model.specs.Posix.Effects.{none as no_effect, then as effect_then, owed}
 use Rattle.pif_model.specs.Posix.Releases.{none_left, one_more}
-use Rattle.pif_model.specs.Posix.Step.{thread_added, mutex_added, refused, begun, went, waits, answered, ended}
+use Rattle.pif_model.specs.Posix.Step.{thread_added, mutex_added, cond_added, refused, begun, went, waits, answered, ended}
 use Rattle.pif_model.specs.Posix.IsRun.{start, next}
 use Rattle.pif_chains.proofs.Numbers.{within, from_within}
 use Rattle.pif_desk.specs.Settling.{adds}
@@ -71,17 +76,49 @@ same_SetsPriority {w = w} (no_priority out e) = by e (length-set w.threads _ _)
 same_SetsPriority {w = w} (not_living prio dead e) = by e (length-set w.threads _ _)
 same_SetsPriority {w = w} (changed prio lives e) = by e (length-set _ _ _ ∙ length-set w.threads _ _)
 
+same_ChecksWait : {t c m : ℕ} {w v : World} → ChecksWait t c m w v → Same w v
+same_ChecksWait {w = w} (other_mutex bound e) = by e (length-set w.threads _ _)
+same_ChecksWait {w = w} (wait_not_owner bound other e) = by e (length-set w.threads _ _)
+same_ChecksWait {w = w} (held_more bound own more e) = by e (length-set w.threads _ _)
+same_ChecksWait {w = w} (checked bound own once e) = by e (length-set w.threads _ _)
+
+same_GivesUp : {t m : ℕ} {still : Bool} {w v : World} → GivesUp t m still w v → Same w v
+same_GivesUp (wait_becomes_unusable own bad e) = by e refl
+same_GivesUp {w = w} (wait_released own good passes) = same_Passes passes ∙ length-set w.threads _ _
+
+same_Uses : {t c : ℕ} {w v : World} → Uses t c w v → Same w v
+same_Uses {w = w} (use_at_limit full e) = by e (length-set w.threads _ _)
+same_Uses {c = c} {w = w} (counts few e) = by e (length-set _ _ _ ∙ length-map w.threads (after_use c))
+
+same_all_unblocked : (us : List ℕ) (w : World) → Same w (all_unblocked us w)
+unfolding all_unblocked
+same_all_unblocked [] w = refl
+same_all_unblocked (u ∷ us) w = same_all_unblocked us (recalled u unblocked w) ∙ length-set w.threads _ _
+
+same_Chooses : {t : ℕ} {q : Request} {w v : World} → Chooses t q w v → Same w v
+same_Chooses {w = w} (one_chosen c u is blocked greatest e) = by e (length-set _ _ _ ∙ length-set w.threads _ _)
+same_Chooses {w = w} (none_chosen c is none e) = by e (length-set w.threads _ _)
+same_Chooses {w = w} (all_chosen c us is blocked those e) =
+    by e (same_all_unblocked us _ ∙ length-set w.threads _ _)
+
 same_Effect : {t : ℕ} {w v : World} → Effect t w v → Same w v
 same_Effect (lock m call e) = same_Locks e
 same_Effect (try_lock m call e) = same_TriesToLock e
 same_Effect (unlock m call e) = same_Unlocks e
 same_Effect (consistent m call e) = same_MakesConsistent e
 same_Effect (set_prio u p call e) = same_SetsPriority e
+same_Effect (check_wait c m call e) = same_ChecksWait e
+same_Effect {w = w} (enlist c m call e) = by e (length-set w.threads _ _)
+same_Effect (give_up c m still call e) = same_GivesUp e
+same_Effect (lock_again c m call e) = same_Locks e
+same_Effect (use_variable q call uses e) = same_Uses e
+same_Effect (choose q call e) = same_Chooses e
 same_Effect {w = w} (leave q call passes) = same_Passes passes ∙ length-set w.threads _ _
 
-same_Effects : {t : ℕ} {w v : World} → Effects t w v → Same w v
+same_Effects : {t : ℕ} {first w v : World} → Effects t first w v → Same w v
 same_Effects (no_effect e) = by e refl
-same_Effects (effect_then first rest) = same_Effects rest ∙ same_Effect first
+same_Effects (effect_then e rest) = same_Effects rest ∙ same_Effect e
+same_Effects (owed b c m blocked call e rest) = same_Effects rest ∙ same_Locks e
 
 same_Releases : {t : ℕ} {w v : World} → Releases t w v → Same w v
 same_Releases (none_left none e) = by e refl
@@ -124,10 +161,12 @@ step_adds : (l : Bounds) (h : List Entry) (e : Entry) (w v : World) → AllAdded
 step_adds l h e w v all (thread_added u p is number few low high after) =
     thread_adds h e w v u p is number (ap (λ (x : World). length x.threads) after ∙ length_push w.threads _) all
 step_adds l h e w v all (mutex_added m k r is number few after) = all_kept h e w v (by after refl) all
+step_adds l h e w v all (cond_added c m is known number few after) = all_kept h e w v (by after refl) all
 step_adds l h e w v all (refused x r is why after) = all_kept h e w v (by after refl) all
 step_adds l h e w v all (begun t q is may after) = all_kept h e w v (by after (length-set w.threads _ _)) all
 step_adds l h e w v all (went t is goes awake) = all_kept h e w v (same_Effects goes.effects) all
-step_adds l h e w v all (waits t is goes rests) = all_kept h e w v (same_Effects goes.effects) all
+step_adds l h e w v all (waits t u is goes after rests) =
+    all_kept h e w v (by after (length-set u.threads _ _ ∙ same_Effects goes.effects)) all
 step_adds l h e w v all (answered t a q u is goes has after awake) =
     all_kept h e w v (by after (length-set u.threads _ _ ∙ same_Effects goes.effects)) all
 step_adds l h e w v all (ended t is ends) =

@@ -9,7 +9,7 @@ use crate::faults::DeskFault;
 use crate::room::Room;
 use pif_core::Core;
 use pif_model::Seen;
-use pif_types::{Kind, Limits, MutexId, NoMemory, Tid};
+use pif_types::{CondId, Kind, Limits, MutexId, NoMemory, Tid};
 use std::alloc::Global;
 use std::sync::{Condvar, Mutex, Wait};
 
@@ -67,6 +67,12 @@ impl<P: Pause + Drop> Desk<P> {
         robust: bool,
     ) -> Result<MutexId, DeskFault> {
         self.room.lock(rt).add_mutex(kind, robust)
+    }
+
+    /// Adds a condition variable that is bound to this mutex. Nothing has changed where the core refuses it, or by
+    /// `NoMemory` where the journal can't grow.
+    pub fn make_cond<R: Wait>(&self, rt: &R, mutex: MutexId) -> Result<CondId, DeskFault> {
+        self.room.lock(rt).add_cond(mutex)
     }
 
     /// Takes the room out of its lock.

@@ -4,8 +4,8 @@ ghost use Rattle.pif_model.specs.declared.events.Entry.{Entry};
 ghost use Rattle.pif_model.specs.Posix.{World};
 ghost use Rattle.pif_model.specs.Standing.{Stands};
 ghost use Rattle.pif_model.specs.Lines.{event_outcome};
-ghost use Rattle.pif_model.specs.Table.{thread_added, mutex_added};
-ghost use Rattle.pif_model.specs.Calls.{add_thread_answer, add_mutex_answer};
+ghost use Rattle.pif_model.specs.Table.{thread_added, mutex_added, cond_added};
+ghost use Rattle.pif_model.specs.Calls.{add_thread_answer, add_mutex_answer, add_cond_answer};
 ghost use Rattle.pif_desk.specs.Logs.{act_of, event_of, begins, is_answer_to};
 ghost use Rattle.pif_desk.specs.Rooms.{StandsAfter, Turns, Adds, IsExact, IsWhyNotAdded, client_after};
 
@@ -14,7 +14,7 @@ use crate::faults::DeskFault;
 use crate::log::{Act, Call, Mark, note};
 use pif_core::Core;
 use pif_model::{Entry, Event, Seen};
-use pif_types::{AddFault, Kind, MutexId, NoMemory, Prio, Request, Tid, push_within};
+use pif_types::{AddFault, CondId, Kind, MutexId, NoMemory, Prio, Request, Tid, push_within};
 use std::alloc::Global;
 use std::marker::Model;
 
@@ -85,6 +85,13 @@ fn mutex_entry(m: &MutexId, kind: Kind, robust: bool) -> Entry
     ensures { result ≡ Entry.Mutex m.now kind robust }
 {
     Entry::Mutex(*m, kind, robust)
+}
+
+/// The entry that this variable was added.
+fn cond_entry(c: &CondId, m: &MutexId) -> Entry
+    ensures { result ≡ Entry.Cond c.now m.now }
+{
+    Entry::Cond(*c, *m)
 }
 
 /// Writes an entry behind the others. There has to be room for it.
@@ -174,6 +181,26 @@ impl Room {
             Ok(m) => {
                 write(&mut self.journal, mutex_entry(&m, kind, robust));
                 Ok(m)
+            }
+            Err(fault) => Err(DeskFault::NotAdded(fault)),
+        }
+    }
+
+    /// Adds a condition variable that is bound to a mutex, as `Core::add_cond` does, and the journal has one entry
+    /// more. Nothing has changed where the core refuses it, or by `NoMemory` where the journal can't grow.
+    pub fn add_cond(&mut self, mutex: MutexId) -> Result<CondId, DeskFault>
+        ensures added { IfOk result (λ c. (add_cond_answer mutex self.old.core ≡ Ok c)
+            × Adds (cond_added mutex self.old.core) (Entry.Cond c mutex) self.old self.new) }
+        ensures unchanged { OnErr result (self.new ≡ self.old) }
+        ensures why { IfErr result (λ f. IsWhyNotAdded f (add_cond_answer mutex self.old.core)) }
+    {
+        if make_room(&mut self.journal, self.growth).is_err() {
+            return Err(DeskFault::NoMemory);
+        }
+        match self.core.add_cond(mutex) {
+            Ok(c) => {
+                write(&mut self.journal, cond_entry(&c, &mutex));
+                Ok(c)
             }
             Err(fault) => Err(DeskFault::NotAdded(fault)),
         }

@@ -1,7 +1,7 @@
 //! The journal's growth is refused between two events of a call.
 ghost use Rattle.std.specs.Prelude.{◌≤◌};
 
-use super::scenes::{desk_of, settles};
+use super::scenes::{desk_of, enter, settled};
 use crate::{Client, Desk, DeskFault, NoPause};
 use pif_types::{Kind, MutexId, Refusal, Request};
 use std::process::Abort;
@@ -58,43 +58,55 @@ fn resume_call<R: Wait + Abort>(
     desk: &Desk<NoPause>,
     client: &mut Client,
 ) -> Result<(), Fail> {
-    match client.call(rt, desk, lock()) {
-        Err(fault) => assert_eq!(rt; fault, DeskFault::Refused(Refusal::Busy)),
-        Ok(_) => panic!(rt; "two calls were open"),
-    }
+    let busy = client.call(rt, desk, lock()).err();
+    assert_eq!(rt; busy, Some(DeskFault::Refused(Refusal::Busy)));
     let receipt = client.resume(rt, desk)?;
     assert_eq!(rt; (receipt.request, receipt.answer), (lock(), 0));
     assert!(rt; !client.is_open());
     Ok(())
 }
 
-#[test]
-fn refused_journal_growth_leaves_call_open(rt: HostRuntime) -> Result<(), Fail> {
-    let desk = desk_of(&rt, rt.alloc(), Kind::Normal, false)?;
-    open_and_resume(&rt, &desk)
+/// The client ends with its call open.
+fn quit<R: Wait + Abort>(rt: &R, desk: &Desk<NoPause>, client: &mut Client) -> Result<(), Fail> {
+    client.quit(rt, desk)?;
+    let dead = client.resume(rt, desk).err();
+    assert_eq!(rt; dead, Some(DeskFault::Refused(Refusal::Dead)));
+    Ok(())
 }
 
-fn open_and_resume<R: Wait + Abort>(rt: &R, desk: &Desk<NoPause>) -> Result<(), Fail> {
-    let mut client = desk.enter(rt, 10)?;
-    begin_call(rt, desk, &mut client)?;
-    resume_call(rt, desk, &mut client)
+/// A client's call is refused memory, and then the client resumes it, or quits.
+fn call_and_end<R: Wait + Abort>(
+    rt: &R,
+    desk: &Desk<NoPause>,
+    clients: &mut Vec<Client>,
+    resumes: bool,
+) -> Result<(), Fail> {
+    enter(rt, desk, 1, clients)?;
+    for client in clients.iter_mut() {
+        begin_call(rt, desk, client)?;
+        if resumes {
+            resume_call(rt, desk, client)?;
+        } else {
+            quit(rt, desk, client)?;
+        }
+    }
+    Ok(())
+}
+
+#[test]
+fn refused_journal_growth_leaves_call_open(rt: HostRuntime) -> Result<(), Fail> {
+    let mut clients = Vec::new(rt.alloc());
+    let desk = desk_of(&rt, rt.alloc(), Kind::Normal, false)?;
+    call_and_end(&rt, &desk, &mut clients, true)?;
+    assert_eq!(rt; settled(desk.into_room(), clients), Ok(1));
+    Ok(())
 }
 
 #[test]
 fn quit_after_refused_memory(rt: HostRuntime) -> Result<(), Fail> {
-    let desk = desk_of(&rt, rt.alloc(), Kind::Normal, false)?;
-    let client = open_and_quit(&rt, &desk)?;
     let mut clients = Vec::new(rt.alloc());
-    clients.push(client)?;
-    settles(&rt, desk.into_room(), clients, 0);
+    let desk = desk_of(&rt, rt.alloc(), Kind::Normal, false)?;
+    call_and_end(&rt, &desk, &mut clients, false)?;
+    assert_eq!(rt; settled(desk.into_room(), clients), Ok(0));
     Ok(())
-}
-
-fn open_and_quit<R: Wait + Abort>(rt: &R, desk: &Desk<NoPause>) -> Result<Client, Fail> {
-    let mut client = desk.enter(rt, 10)?;
-    begin_call(rt, desk, &mut client)?;
-    client.quit(rt, desk)?;
-    let dead = Some(DeskFault::Refused(Refusal::Dead));
-    assert_eq!(rt; client.resume(rt, desk).err(), dead);
-    Ok(client)
 }

@@ -1,16 +1,28 @@
 //! Receipts, and what settling finds.
-use super::scenes::{clients_of, desk_of, differs, settles};
-use crate::{Act, Client, Desk, DeskFault, Event, NoPause, Room, Seen, Why};
-use pif_types::{Kind, MutexId, Refusal, Request, Tid};
+use super::scenes::{desk_of, enter, limits, settled};
+use crate::{Act, Client, Desk, DeskFault, Entry, Event, NoPause, Room, Seen, Why};
+use pif_types::{AddFault, Kind, MutexId, Prio, Refusal, Request, Tid};
 use std::alloc::Global;
 use std::process::Abort;
 use std::sync::Wait;
 use std::test::Fail;
 
-/// Locks mutex 1: the answer.
-fn lock<R: Wait>(rt: &R, desk: &Desk<NoPause>, client: &mut Client) -> Result<u32, DeskFault> {
-    let receipt = client.call(rt, desk, Request::Lock(MutexId::default()))?;
-    Ok(receipt.answer)
+/// The request to lock mutex 1.
+fn lock() -> Request {
+    Request::Lock(MutexId::default())
+}
+
+/// The thread of this number.
+fn thread(number: u32) -> Result<Tid, Fail> {
+    Ok(Tid::new(number).ok_or("a thread")?)
+}
+
+/// The answer of a lock of mutex 1.
+fn locks<R: Wait>(rt: &R, desk: &Desk<NoPause>, client: &mut Client) -> Result<u32, DeskFault> {
+    match client.call(rt, desk, lock()) {
+        Ok(receipt) => Ok(receipt.answer),
+        Err(fault) => Err(fault),
+    }
 }
 
 /// The first client locks the mutex and quits; the second gets it from an owner that has ended.
@@ -19,120 +31,159 @@ fn lock_and_quit<R: Wait + Abort>(
     desk: &Desk<NoPause>,
     one: &mut Client,
     two: &mut Client,
+) {
+    let dead = Err(DeskFault::Refused(Refusal::Dead));
+    assert_eq!(rt; locks(rt, desk, one), Ok(0));
+    assert_eq!(rt; one.quit(rt, desk), Ok(()));
+    assert_eq!(rt; locks(rt, desk, one), dead);
+    let idle = two.resume(rt, desk).err();
+    assert_eq!(rt; idle, Some(DeskFault::Refused(Refusal::Idle)));
+    assert_eq!(rt; locks(rt, desk, two), Ok(130));
+}
+
+/// Two clients, of which the second gets the mutex from the first.
+fn two_that_lock<R: Wait + Abort>(
+    rt: &R,
+    desk: &Desk<NoPause>,
+    clients: &mut Vec<Client>,
 ) -> Result<(), Fail> {
-    assert_eq!(rt; lock(rt, desk, one)?, 0);
-    one.quit(rt, desk)?;
-    assert_eq!(rt;
-        lock(rt, desk, one).err(),
-        Some(DeskFault::Refused(Refusal::Dead))
-    );
-    assert_eq!(rt;
-        one.resume(rt, desk).err(),
-        Some(DeskFault::Refused(Refusal::Dead))
-    );
-    assert_eq!(rt;
-        two.resume(rt, desk).err(),
-        Some(DeskFault::Refused(Refusal::Idle))
-    );
-    assert_eq!(rt; lock(rt, desk, two)?, 130);
+    enter(rt, desk, 2, clients)?;
+    match clients.as_mut_slice() {
+        [one, two] => lock_and_quit(rt, desk, one, two),
+        _ => panic!(rt; "there are not two clients"),
+    }
     Ok(())
 }
 
 #[test]
 fn desk_keeps_receipts(rt: HostRuntime) -> Result<(), Fail> {
+    let mut clients = Vec::new(rt.alloc());
     let desk = desk_of(&rt, rt.alloc(), Kind::Normal, true)?;
-    let clients = two_that_lock(&rt, rt.alloc(), &desk)?;
-    settles(&rt, desk.into_room(), clients, 2);
+    two_that_lock(&rt, &desk, &mut clients)?;
+    assert_eq!(rt; settled(desk.into_room(), clients), Ok(2));
     Ok(())
 }
 
-fn two_that_lock<R: Wait + Abort>(
-    rt: &R,
-    alloc: Global,
-    desk: &Desk<NoPause>,
-) -> Result<Vec<Client>, Fail> {
-    let mut clients = clients_of(rt, alloc, desk, 2)?;
-    match clients.as_mut_slice() {
-        [one, two] => lock_and_quit(rt, desk, one, two)?,
-        _ => panic!(rt; "there are not two clients"),
-    }
-    Ok(clients)
-}
-
-/// A room with mutex 1 and so many clients.
-fn room_of(rt: &impl Wait, alloc: Global, count: u32) -> Result<(Room, Vec<Client>), Fail> {
-    let desk = desk_of(rt, alloc, Kind::Normal, false)?;
-    let clients = clients_of(rt, alloc, &desk, count)?;
-    Ok((desk.into_room(), clients))
-}
-
-#[test]
-fn room_settles_after_played_call(rt: HostRuntime) -> Result<(), Fail> {
-    let (mut room, mut clients) = room_of(&rt, rt.alloc(), 1)?;
-    play_lock(&rt, &mut room, &mut clients)?;
-    settles(&rt, room, clients, 1);
-    Ok(())
-}
-
-/// Each client plays a lock of mutex 1.
-fn play_lock(rt: &impl Abort, room: &mut Room, clients: &mut Vec<Client>) -> Result<(), Fail> {
-    for client in clients.iter_mut() {
-        play_one(rt, room, client)?;
-    }
-    Ok(())
+/// What happens in a room before it settles.
+#[derive(Clone, Copy)]
+enum Before {
+    /// The client plays a lock.
+    Played,
+    /// The client's thread begins a call of which the client doesn't know.
+    Turned,
+    /// The client is that of another desk's second thread.
+    Changed,
+    /// The client is lost.
+    Lost,
 }
 
 /// The client plays a lock of mutex 1, which is answered 0.
-fn play_one(rt: &impl Abort, room: &mut Room, client: &mut Client) -> Result<(), Fail> {
-    let begin = Act::Begin(Request::Lock(MutexId::default()));
-    assert_eq!(rt; room.play(client, begin)?, Seen::Begun);
-    assert_eq!(rt; room.play(client, Act::Go)?, Seen::Went);
-    assert_eq!(rt; room.play(client, Act::Go)?, Seen::Answered(0));
-    Ok(())
-}
-
-/// Thread 1 begins a call of which no client knows.
-fn turn_alone(room: &mut Room) -> Result<Tid, Fail> {
-    let t = Tid::new(1).ok_or("a thread")?;
-    room.turn(Event::Begin(t, Request::Lock(MutexId::default())))?;
-    Ok(t)
-}
-
-#[test]
-fn unknown_call_does_not_settle(rt: HostRuntime) -> Result<(), Fail> {
-    let (mut room, clients) = room_of(&rt, rt.alloc(), 1)?;
-    let t = turn_alone(&mut room)?;
-    differs(&rt, room, clients, Why::Differs(t));
-    Ok(())
-}
-
-#[test]
-fn client_of_another_desk_is_a_stranger(rt: HostRuntime) -> Result<(), Fail> {
-    let (room, _) = room_of(&rt, rt.alloc(), 1)?;
-    let clients = second_alone(&rt, rt.alloc())?;
-    differs(
-        &rt,
-        room,
-        clients,
-        Why::Stranger(Tid::new(2).ok_or("a thread")?),
-    );
-    Ok(())
-}
-
-/// The second client of a desk of two.
-fn second_alone(rt: &impl Wait, alloc: Global) -> Result<Vec<Client>, Fail> {
-    let (_, mut clients) = room_of(rt, alloc, 2)?;
-    let mut second = Vec::new(alloc);
-    if let Some(client) = clients.pop() {
-        second.push(client)?;
+fn play_lock(rt: &impl Abort, room: &mut Room, client: &mut Client) -> Result<(), Fail> {
+    let steps = [
+        (Act::Begin(lock()), Seen::Begun),
+        (Act::Go, Seen::Went),
+        (Act::Go, Seen::Answered(0)),
+    ];
+    for (act, seen) in steps {
+        assert_eq!(rt; room.play(client, act)?, seen);
     }
-    Ok(second)
+    Ok(())
+}
+
+/// The second client of a desk with two takes the place of this one.
+fn change(rt: &impl Wait, alloc: Global, clients: &mut Vec<Client>) -> Result<(), Fail> {
+    let desk = desk_of(rt, alloc, Kind::Normal, false)?;
+    enter(rt, &desk, 2, clients)?;
+    let second = clients.pop().ok_or("a client")?;
+    clients.clear();
+    clients.push(second)?;
+    Ok(())
+}
+
+/// Does what happens before the room settles.
+fn prepare<R: Wait + Abort>(
+    rt: &R,
+    alloc: Global,
+    before: Before,
+    room: &mut Room,
+    clients: &mut Vec<Client>,
+) -> Result<(), Fail> {
+    match before {
+        Before::Played => {
+            for client in clients.iter_mut() {
+                play_lock(rt, room, client)?;
+            }
+        }
+        Before::Turned => {
+            room.turn(Event::Begin(thread(1)?, lock()))?;
+        }
+        Before::Changed => change(rt, alloc, clients)?,
+        Before::Lost => clients.clear(),
+    }
+    Ok(())
+}
+
+/// What a room with one client comes to.
+fn outcome<R: Wait + Abort>(
+    rt: &R,
+    alloc: Global,
+    before: Before,
+) -> Result<Result<u64, Why>, Fail> {
+    let mut clients = Vec::new(alloc);
+    let desk = desk_of(rt, alloc, Kind::Normal, false)?;
+    enter(rt, &desk, 1, &mut clients)?;
+    let mut room = desk.into_room();
+    prepare(rt, alloc, before, &mut room, &mut clients)?;
+    Ok(settled(room, clients))
 }
 
 #[test]
-fn missing_client_is_counted(rt: HostRuntime) -> Result<(), Fail> {
-    let (room, mut clients) = room_of(&rt, rt.alloc(), 2)?;
-    let _one = clients.pop();
-    differs(&rt, room, clients, Why::Count);
+fn settling_finds_what_clients_do_not_know(rt: HostRuntime) -> Result<(), Fail> {
+    let rooms = [
+        (Before::Played, Ok(1)),
+        (Before::Turned, Err(Why::Differs(thread(1)?))),
+        (Before::Changed, Err(Why::Stranger(thread(2)?))),
+        (Before::Lost, Err(Why::Count)),
+    ];
+    for (before, end) in rooms {
+        assert_eq!(rt; outcome(&rt, rt.alloc(), before)?, end);
+    }
+    Ok(())
+}
+
+/// A client of priority 7, behind a mutex, and after one whose priority is refused.
+fn add_both<R: Wait + Abort>(
+    rt: &R,
+    desk: &Desk<NoPause>,
+    clients: &mut Vec<Client>,
+) -> Result<(), Fail> {
+    let refused = desk.enter(rt, 0).err();
+    assert_eq!(rt; refused, Some(DeskFault::NotAdded(AddFault::BadPrio)));
+    assert_eq!(rt;
+        desk.make_mutex(rt, Kind::Recursive, true),
+        Ok(MutexId::default())
+    );
+    clients.push(desk.enter(rt, 7)?)?;
+    Ok(())
+}
+
+/// The room settles with these clients, and its journal has these entries.
+fn has_entries(rt: &impl Abort, room: Room, clients: Vec<Client>, entries: &[Entry]) {
+    match room.settle(clients) {
+        Ok(book) => assert!(rt; book.entries.as_slice() == entries),
+        Err(unsettled) => panic!(rt; "it doesn't settle: {:?}", unsettled.why),
+    }
+}
+
+#[test]
+fn desk_adds_what_it_is_asked_for(rt: HostRuntime) -> Result<(), Fail> {
+    let entries = [
+        Entry::Mutex(MutexId::default(), Kind::Recursive, true),
+        Entry::Thread(thread(1)?, Prio::new(7).ok_or("a priority")?),
+    ];
+    let mut clients = Vec::new(rt.alloc());
+    let desk = Desk::new(rt.alloc(), limits()?, NoPause)?;
+    add_both(&rt, &desk, &mut clients)?;
+    has_entries(&rt, desk.into_room(), clients, entries.as_slice());
     Ok(())
 }

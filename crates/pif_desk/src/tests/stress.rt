@@ -1,7 +1,8 @@
-//! Eight real threads on three robust mutexes, and then calls that end at each of their steps.
-use super::scenes::{clients_of, desk_with, settles};
+//! Eight real threads on three robust mutexes and a condition variable, one that wakes them, and then calls that end at
+//! each of their steps.
+use super::scenes::{enter, settled};
 use crate::{Act, Client, Desk, DeskFault, NoPause, Room, Seen};
-use pif_types::{Kind, MutexId, Request};
+use pif_types::{CondId, Kind, Limits, MutexId, Request, Tid};
 use std::alloc::{AllocError, Global};
 use std::process::Abort;
 use std::sync::Wait;
@@ -15,13 +16,26 @@ const THREADS: u32 = 8;
 /// How many calls each of them makes.
 const CALLS: u32 = 200;
 
-/// How many clients end inside a call, at its steps from 0.
-const ENDINGS: u32 = 18;
+/// The most steps after which a client ends inside a call.
+const MOST_STEPS: u32 = 18;
+
+/// How many clients end so, in a lock after 0 steps and more, and then in a wait.
+const ENDINGS: u32 = 38;
+
+/// Room for all of them, for three mutexes and a condition variable.
+fn limits() -> Result<Limits, Fail> {
+    Ok(Limits::new(64, 3, 1, u32::MAX).ok_or("limits")?)
+}
 
 /// The next number of a row that looks like chance.
 fn next(seed: u64) -> u64 {
     seed.wrapping_mul(6_364_136_223_846_793_005)
         .wrapping_add(1_442_695_040_888_963_407)
+}
+
+/// The condition variable.
+fn cond() -> CondId {
+    CondId::new(1).unwrap()
 }
 
 /// One of the mutexes 1 to 3.
@@ -36,7 +50,8 @@ fn mutex_of(seed: u64) -> MutexId {
 fn request_of(seed: u64) -> Request {
     let mutex = mutex_of(seed);
     match (seed >> 50) % 8 {
-        0 | 1 | 2 => Request::Lock(mutex),
+        0 | 1 => Request::Lock(mutex),
+        2 => Request::Wait(cond(), mutex),
         3 => Request::TryLock(mutex),
         4 => Request::Consistent(mutex),
         _ => Request::Unlock(mutex),
@@ -70,8 +85,8 @@ fn give_up_all<R: Wait>(
     Ok(())
 }
 
-/// Makes calls by chance, and then quits or gives up all that the client holds.
-fn run<R: Wait>(
+/// Makes calls by chance, and gives up all that the client holds, where its number is odd.
+fn make_calls<R: Wait>(
     rt: &R,
     desk: &Desk<NoPause>,
     client: &mut Client,
@@ -84,11 +99,56 @@ fn run<R: Wait>(
         client.call(rt, desk, request_of(seed))?;
         *answered = answered.wrapping_add(1);
     }
-    if number % 2 == 0 {
-        client.quit(rt, desk)
-    } else {
-        give_up_all(rt, desk, client, answered)
+    if number % 2 == 1 {
+        give_up_all(rt, desk, client, answered)?;
     }
+    Ok(())
+}
+
+/// Whether the threads from 1 that make calls have all ended.
+fn have_all_ended<R: Wait>(rt: &R, desk: &Desk<NoPause>) -> bool {
+    let room = desk.room.lock(rt);
+    for number in 1..=THREADS {
+        if let Some(thread) = Tid::new(number) {
+            if room.core.effective(thread).is_some() {
+                return false;
+            }
+        }
+    }
+    true
+}
+
+/// Broadcasts until all others are done, so that no wait stays open.
+fn wake_others<R: Wait>(
+    rt: &R,
+    desk: &Desk<NoPause>,
+    client: &mut Client,
+    answered: &mut u64,
+) -> Result<(), DeskFault> {
+    for _ in rt.forever() {
+        if have_all_ended(rt, desk) {
+            break;
+        }
+        client.call(rt, desk, Request::Broadcast(cond()))?;
+        *answered = answered.wrapping_add(1);
+    }
+    Ok(())
+}
+
+/// A client's calls, after which it quits: an even one of those that make them by chance with what it holds.
+fn run<R: Wait>(
+    rt: &R,
+    desk: &Desk<NoPause>,
+    client: &mut Client,
+    answered: &mut u64,
+) -> Result<(), DeskFault> {
+    let made = if client.t.get() > THREADS {
+        wake_others(rt, desk, client, answered)
+    } else {
+        make_calls(rt, desk, client, answered)
+    };
+    client.quit(rt, desk)?;
+    made
 }
 
 /// A client's part.
@@ -123,46 +183,58 @@ fn gather(rt: &impl Abort, clients: &mut Vec<Client>, done: Vec<Done>) -> Result
     Ok(answered)
 }
 
-/// A client begins a lock, takes so many steps, and ends. Answers how many calls were answered.
-fn end_at(room: &mut Room, client: &mut Client, steps: u32) -> Result<u64, Fail> {
+/// A client begins a call and takes so many steps of it. Answers how many calls were answered.
+fn play(room: &mut Room, client: &mut Client, request: Request, steps: u32) -> Result<u64, Fail> {
     let mut answered = 0u64;
-    room.play(
-        client,
-        Act::Begin(Request::Lock(mutex_of(u64::from(steps) << 33))),
-    )?;
+    room.play(client, Act::Begin(request))?;
     for _ in 0..steps {
         if let Seen::Answered(_) = room.play(client, Act::Go)? {
             answered = answered.wrapping_add(1);
         }
     }
+    Ok(answered)
+}
+
+/// A client takes mutex 1 if it is to wait, takes so many steps of a lock or a wait, and ends.
+fn end_at(room: &mut Room, client: &mut Client, waits: bool, steps: u32) -> Result<u64, Fail> {
+    let mutex = MutexId::default();
+    let mut answered = 0u64;
+    if waits {
+        answered = play(room, client, Request::Lock(mutex), 24)?;
+    }
+    let request = if waits {
+        Request::Wait(cond(), mutex)
+    } else {
+        Request::Lock(mutex)
+    };
+    answered = answered.wrapping_add(play(room, client, request, steps)?);
     room.play(client, Act::End)?;
     Ok(answered)
 }
 
-/// Each of these clients ends in a lock, one step later than the one before.
+/// Each of these clients ends one step later in its call than the one before: the first in a lock, the others in a wait.
 fn end_all(room: &mut Room, clients: &mut Vec<Client>) -> Result<u64, Fail> {
     let mut answered = 0u64;
+    let mut waits = false;
     let mut steps = 0;
     for client in clients.iter_mut() {
-        answered = answered.wrapping_add(end_at(room, client, steps)?);
-        steps = if steps < ENDINGS { steps + 1 } else { 0 };
+        answered = answered.wrapping_add(end_at(room, client, waits, steps)?);
+        if steps < MOST_STEPS {
+            steps += 1;
+        } else {
+            waits = true;
+            steps = 0;
+        }
     }
     Ok(answered)
 }
 
-/// Clients that make no call by themselves.
-fn enter_more(rt: &impl Wait, desk: &Desk<NoPause>, clients: &mut Vec<Client>) -> Result<(), Fail> {
-    for _ in 0..ENDINGS {
-        clients.push(desk.enter(rt, 10)?)?;
-    }
-    Ok(())
-}
-
-/// The three mutexes.
+/// The three mutexes, and a condition variable for the first.
 fn make_mutexes(rt: &impl Wait, desk: &Desk<NoPause>) -> Result<(), DeskFault> {
     for kind in [Kind::ErrorCheck, Kind::Recursive, Kind::ErrorCheck] {
-        desk.make_mutex(rt, kind, true)?;
+        let _mutex = desk.make_mutex(rt, kind, true)?;
     }
+    let _cond = desk.make_cond(rt, MutexId::default())?;
     Ok(())
 }
 
@@ -173,20 +245,21 @@ fn run_threads<R: Threads + Wait + Abort + Sync>(
     desk: &Desk<NoPause>,
     clients: &mut Vec<Client>,
 ) -> Result<u64, Fail> {
+    let mut runners = Vec::new(alloc);
     make_mutexes(rt, desk)?;
-    let runners = clients_of(rt, alloc, desk, THREADS)?;
-    enter_more(rt, desk, clients)?;
+    enter(rt, desk, THREADS + 1, &mut runners)?;
+    enter(rt, desk, ENDINGS, clients)?;
     let done = run_all(rt, desk, runners)?;
     gather(rt, clients, done)
 }
 
 #[test]
 fn eight_threads_settle(rt: HostRuntime) -> Result<(), Fail> {
-    let desk = desk_with(rt.alloc(), NoPause)?;
+    let desk = Desk::new(rt.alloc(), limits()?, NoPause)?;
     run_desk(&rt, rt.alloc(), desk)
 }
 
-/// The threads run at this desk, and then its room settles.
+/// The threads run at this desk. Then each client ends inside a call, if it has not ended, and all settle.
 fn run_desk<R: Threads + Wait + Abort + Sync>(
     rt: &R,
     alloc: Global,
@@ -194,19 +267,8 @@ fn run_desk<R: Threads + Wait + Abort + Sync>(
 ) -> Result<(), Fail> {
     let mut clients = Vec::new(alloc);
     let answered = run_threads(rt, alloc, &desk, &mut clients)?;
-    settle_room(rt, desk.into_room(), clients, answered)
-}
-
-/// Each client ends inside a call, if it has not ended, and then all settle.
-fn settle_room(
-    rt: &impl Abort,
-    room: Room,
-    clients: Vec<Client>,
-    answered: u64,
-) -> Result<(), Fail> {
-    let mut room = room;
-    let mut clients = clients;
+    let mut room = desk.into_room();
     let ended = end_all(&mut room, &mut clients)?;
-    settles(rt, room, clients, answered.wrapping_add(ended));
+    assert_eq!(rt; settled(room, clients), Ok(answered.wrapping_add(ended)));
     Ok(())
 }

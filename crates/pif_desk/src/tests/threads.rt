@@ -1,10 +1,9 @@
 //! Two real threads at one desk.
-use super::scenes::{clients_of, desk_with, settles};
+use super::scenes::{limits, settled};
 use crate::{Client, Desk, DeskFault, Pause, Receipt, Seen};
 use pif_types::{Kind, MutexId, Request, Tid};
 use std::alloc::Global;
 use std::process::Abort;
-use std::rt::Clock;
 use std::sync::Wait;
 use std::sync::atomic::{AtomicBool, Ordering};
 use std::test::Fail;
@@ -17,13 +16,13 @@ const TURNS: u32 = 10_000;
 
 /// Holds thread 1 after its call has begun until a call of thread 2 was answered.
 #[derive(Drop)]
-struct Overlap<R: Clock + Drop> {
-    rt: R,
+struct Overlap {
+    rt: HostRuntime,
     answered: AtomicBool,
     overlapped: AtomicBool,
 }
 
-impl<R: Clock + Drop> Overlap<R> {
+impl Overlap {
     /// Waits until thread 2 was answered.
     fn wait_for_other(&self) {
         for _ in 0..TURNS {
@@ -36,7 +35,7 @@ impl<R: Clock + Drop> Overlap<R> {
     }
 }
 
-impl<R: Clock + Drop> Pause for Overlap<R> {
+impl Pause for Overlap {
     fn after(&self, t: Tid, seen: Seen) {
         match seen {
             Seen::Begun => if t.get() == 1 {
@@ -50,48 +49,49 @@ impl<R: Clock + Drop> Pause for Overlap<R> {
     }
 }
 
-/// Both clients make their calls, each in a thread of its own.
-fn call_both<R: Threads + Wait + Sync, P: Pause + Drop + Sync>(
+/// Locks this mutex.
+fn lock<R: Wait>(
     rt: &R,
-    desk: &Desk<P>,
-    one: &mut Client,
-    two: &mut Client,
-    first: MutexId,
-    second: MutexId,
-) -> (Result<Receipt, DeskFault>, Result<Receipt, DeskFault>) {
-    join(
-        rt,
-        || one.call(rt, desk, Request::Lock(first)),
-        || two.call(rt, desk, Request::Lock(second)),
-    )
+    desk: &Desk<Overlap>,
+    client: &mut Client,
+    mutex: MutexId,
+) -> Result<Receipt, DeskFault> {
+    client.call(rt, desk, Request::Lock(mutex))
 }
 
 /// Two threads lock a mutex each, while the first is held inside its call.
-fn lock_both<R: Threads + Wait + Abort + Sync, P: Pause + Drop + Sync>(
+fn lock_both<R: Threads + Wait + Abort + Sync>(
     rt: &R,
-    desk: &Desk<P>,
+    desk: &Desk<Overlap>,
     one: &mut Client,
     two: &mut Client,
 ) -> Result<(), Fail> {
     let first = desk.make_mutex(rt, Kind::Normal, false)?;
     let second = desk.make_mutex(rt, Kind::Normal, false)?;
-    let (a, b) = call_both(rt, desk, one, two, first, second);
+    let (a, b) = join(
+        rt,
+        || lock(rt, desk, one, first),
+        || lock(rt, desk, two, second),
+    );
     assert_eq!(rt; (a?.answer, b?.answer), (0, 0));
     Ok(())
 }
 
-/// Two clients of this desk, whose calls overlapped.
-fn two_that_overlap<R: Threads + Wait + Abort + Sync, P: Pause + Drop + Sync>(
+/// Two clients of this desk, whose calls overlap.
+fn call_both<R: Threads + Wait + Abort + Sync>(
     rt: &R,
-    alloc: Global,
-    desk: &Desk<P>,
-) -> Result<Vec<Client>, Fail> {
-    let mut clients = clients_of(rt, alloc, desk, 2)?;
+    desk: &Desk<Overlap>,
+    clients: &mut Vec<Client>,
+) -> Result<(), Fail> {
+    for _ in 0..2 {
+        clients.push(desk.enter(rt, 10)?)?;
+    }
     match clients.as_mut_slice() {
         [one, two] => lock_both(rt, desk, one, two)?,
         _ => panic!(rt; "there are not two clients"),
     }
-    Ok(clients)
+    assert!(rt; desk.pause.overlapped.load(Ordering::SeqCst));
+    Ok(())
 }
 
 #[test]
@@ -101,9 +101,9 @@ fn calls_of_two_threads_overlap(rt: HostRuntime) -> Result<(), Fail> {
         answered: AtomicBool::new(false),
         overlapped: AtomicBool::new(false),
     };
-    let desk = desk_with(rt.alloc(), pause)?;
-    let clients = two_that_overlap(&rt, rt.alloc(), &desk)?;
-    assert!(rt; desk.pause.overlapped.load(Ordering::SeqCst));
-    settles(&rt, desk.into_room(), clients, 2);
+    let mut clients = Vec::new(rt.alloc());
+    let desk = Desk::new(rt.alloc(), limits()?, pause)?;
+    call_both(&rt, &desk, &mut clients)?;
+    assert_eq!(rt; settled(desk.into_room(), clients), Ok(2));
     Ok(())
 }
