@@ -6,14 +6,14 @@ use Rattle.std.proofs.lemmas.Bool.Decides.{nat_tests}
 use Rattle.std.proofs.lemmas.Slice.Eq.{bytes_eq-Decides}
 use Rattle.pif_types.specs.Bounds.{Bounds, IsWithin}
 use Rattle.pif_model.specs.declared.events.Entry.{Entry}
-use Rattle.pif_model.specs.declared.events.Entry.TheVariants.{Thread as AddedThread, Mutex as AddedMutex, Step}
+use Rattle.pif_model.specs.declared.events.Entry.TheVariants.{Thread as AddedThread, Mutex as AddedMutex, Cond as AddedCond, Step}
 use Rattle.pif_model.specs.declared.events.Event.TheVariants.{Begin as BeginEvent, Go as GoEvent, End as EndEvent}
 use Rattle.pif_model.specs.declared.events.Seen.{Seen}
-use Rattle.pif_model.specs.Calls.{add_thread_answer, add_thread_after, add_mutex_answer, add_mutex_after}
+use Rattle.pif_model.specs.Calls.{add_thread_answer, add_thread_after, add_mutex_answer, add_mutex_after, add_cond_answer, add_cond_after}
 use Rattle.pif_model.specs.Lines.{event_outcome}
 use Rattle.pif_model.specs.Table.{Table, new_table}
 use Rattle.pif_text.specs.declared.commands.Command.{Command}
-use Rattle.pif_text.specs.declared.commands.Command.TheVariants.{Limits, Thread, Mutex, Begin, Go, End}
+use Rattle.pif_text.specs.declared.commands.Command.TheVariants.{Limits, Thread, Mutex, Cond as NewCond, Begin, Go, End}
 use Rattle.pif_text.specs.declared.replies.Reply.{Reply}
 use Rattle.pif_text.specs.declared.replies.Reply.TheVariants as reply
 use Rattle.pif_text.specs.CommandTexts.{command_text, IsWritten}
@@ -150,6 +150,11 @@ mutex_given : (m : ℕ) (k : Kind) (robust : Bool) (s : Table) → add_mutex_ans
 unfolding command_answer
 mutex_given m k robust s e = rw e refl
 
+cond_given : (c m : ℕ) (s : Table) → add_cond_answer m s ≡ Ok c
+    → command_answer (NewCond m) s ≡ Some (reply.Cond c, add_cond_after m (Ok c) s)
+unfolding command_answer
+cond_given c m s e = rw e refl
+
 begin_given : (t : ℕ) (q : Request) (seen : Seen) (s : Table) → (event_outcome (BeginEvent t q) s).seen ≡ seen
     → command_answer (Begin t q) s ≡ Some (reply_of_seen seen, (event_outcome (BeginEvent t q) s).after)
 unfolding command_answer
@@ -174,6 +179,8 @@ entry_back (AddedThread t p) es s w h =
 entry_back (AddedMutex m k robust) es s w h =
     written_back (Mutex k robust) (reply.Mutex m) s (add_mutex_after k robust (Ok m) s) es w.0 w.1 refl
     (mutex_given m k robust s h.0) h.1
+entry_back (AddedCond c m) es s w h =
+    written_back (NewCond m) (reply.Cond c) s (add_cond_after m (Ok c) s) es w.0 w.1 refl (cond_given c m s h.0) h.1
 entry_back (Step (BeginEvent t q) seen) es s w h =
     written_back (Begin t q) (reply_of_seen seen) s (event_outcome (BeginEvent t q) s).after es w.0 w.1 refl
     (begin_given t q seen s h.0) h.1

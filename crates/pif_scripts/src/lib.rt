@@ -1,8 +1,9 @@
 //! Scripts and traces: reading their bytes, answering their lines or comparing the answers, and writing the trace of a
 //! history.
 //!
-//! A script may have every command. A line of a trace has `limits`, `thread`, `mutex`, `begin`, `go` or `end`, and the
-//! answer that was recorded: these make and change a core, while the others only read it or go on several steps at once.
+//! A script may have every command. A line of a trace has `limits`, `thread`, `mutex`, `cond`, `begin`, `go` or `end`,
+//! and the answer that was recorded: these make and change a core, while the others only read it or go on several steps
+//! at once.
 #![tactic(auto)]
 
 mod faults;

@@ -33,6 +33,7 @@ fn if_traced(command: Command) -> Option<Command>
         Command::Finish(_) => None,
         Command::Word(_) => None,
         Command::Health(_) => None,
+        Command::CondWord(_) => None,
         Command::Prio(_) => None,
         Command::Pick => None,
         traced => Some(traced),

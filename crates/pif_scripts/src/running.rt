@@ -3,12 +3,12 @@ ghost use Rattle.arrayvec.specs.ArrayVec.{array_vec_len};
 ghost use Rattle.pif_types.specs.Bounds.{Bounds};
 ghost use Rattle.pif_model.specs.Table.{new_table};
 ghost use Rattle.pif_text.specs.Replies.{text_of};
-ghost use Rattle.pif_scripts.specs.Running.{reply_of_seen, finish_outcome, call_outcome, reply_of_thread, reply_of_mutex, reply_of_word, reply_of_health, was_added, reply_of_priority, command_answer, default_limits, script, first_answer, limited_answer, answer_or_fault, IsAnswer, Makes};
+ghost use Rattle.pif_scripts.specs.Running.{reply_of_seen, finish_outcome, call_outcome, reply_of_thread, reply_of_mutex, reply_of_cond, reply_of_word, reply_of_health, reply_of_uses, was_added, reply_of_priority, command_answer, default_limits, script, first_answer, limited_answer, answer_or_fault, IsAnswer, Makes};
 
 use crate::reading::{ANSWER_ROOM, Ending, Listener, OUTPUT_ROOM, OpenFault, Output, append};
 use pif_core::{Core, Event, Seen};
 use pif_text::{Cause, Command, Reply, Text, command_of, reply_text};
-use pif_types::{AddFault, Health, Limits, MutexId, Prio, Refusal, Request, Tid};
+use pif_types::{AddFault, CondId, Health, Limits, MutexId, Prio, Refusal, Request, Tid};
 use std::alloc::Global;
 
 /// The reply that says what an event was answered.
@@ -43,6 +43,15 @@ fn reply_of_mutex(added: Result<MutexId, AddFault>) -> Reply
     }
 }
 
+fn reply_of_cond(added: Result<CondId, AddFault>) -> Reply
+    ensures { result ≡ reply_of_cond added }
+{
+    match added {
+        Ok(cond) => Reply::Cond(cond),
+        Err(fault) => Reply::NotAdded(fault),
+    }
+}
+
 fn reply_of_word(word: Option<u32>) -> Reply
     ensures { result ≡ reply_of_word word }
 {
@@ -57,6 +66,15 @@ fn reply_of_health(health: Option<Health>) -> Reply
 {
     match health {
         Some(health) => Reply::Health(health),
+        None => Reply::Refused(Refusal::NoSuch),
+    }
+}
+
+fn reply_of_uses(uses: Option<u32>) -> Reply
+    ensures { result ≡ reply_of_uses uses }
+{
+    match uses {
+        Some(uses) => Reply::Uses(uses),
         None => Reply::Refused(Refusal::NoSuch),
     }
 }
@@ -121,6 +139,7 @@ pub fn obey(core: &mut Core, command: Command) -> Option<Reply>
         Command::Limits(..) => None,
         Command::Thread(priority) => Some(reply_of_thread(core.add_thread(priority))),
         Command::Mutex(kind, robust) => Some(reply_of_mutex(core.add_mutex(kind, robust))),
+        Command::Cond(mutex) => Some(reply_of_cond(core.add_cond(mutex))),
         Command::Begin(thread, request) => {
             Some(reply_of_seen(core.step(Event::Begin(thread, request))))
         }
@@ -130,6 +149,7 @@ pub fn obey(core: &mut Core, command: Command) -> Option<Reply>
         Command::Finish(thread) => Some(reply_of_seen(finish(core, thread))),
         Command::Word(mutex) => Some(reply_of_word(core.word(mutex))),
         Command::Health(mutex) => Some(reply_of_health(core.health(mutex))),
+        Command::CondWord(cond) => Some(reply_of_uses(core.cond_word(cond))),
         Command::Prio(thread) => {
             Some(reply_of_priority(core.effective(thread), was_added(core, thread)))
         }

@@ -104,3 +104,28 @@ fn want_of_memory_writes_nothing(rt: HostRuntime) {
     output.check(&rt, answers);
     assert!(rt; matches!(ended, Ok(()) | Err(CliFault::NoMemory)));
 }
+
+#[test]
+fn variables_are_refused_in_order(rt: HostRuntime) {
+    let script =
+        "limits 2 1 1 1\nthread 10\nmutex normal\ncond m2\ncond m1\ncond m1\ncond m2\ncondword c2\n\
+        begin t1 wait c2 m1\nbegin t1 wait c1 m2\ncall t1 signal c2\ncall t1 broadcast c2\nbegin t1 wait c1 m1\n\
+        begin t1 signal c2\ncall t2 broadcast c1\ngo t1\n";
+    let answers =
+        "ok\nt1\nm1\nrefused nosuch\nc1\nrefused toomany\nrefused nosuch\nrefused nosuch\n\
+        refused nosuch\nrefused nosuch\nrefused nosuch\nrefused nosuch\nbegun\n\
+        refused busy\nrefused nosuch\nanswer 1\n";
+    check(&rt, rt.alloc(), script, answers);
+}
+
+#[test]
+fn waits_are_signalled_and_broadcast(rt: HostRuntime) {
+    let script =
+        "thread 10\nthread 20\nmutex normal\ncond m1\ncondword c1\ncall t1 lock m1\ncall t1 wait c1 m1\n\
+        word m1\ncall t2 signal c1\ncondword c1\nword m1\nfinish t1\nbegin t1 wait c1 m1\nfinish t1\ncall t2 lock m1\n\
+        call t2 broadcast c1\ncondword c1\nword m1\nfinish t1\ncall t2 unlock m1\nfinish t1\nword m1\n";
+    let answers = "t1\nt2\nm1\nc1\n0\nanswer 0\nwaits\n\
+        0x00000000\nanswer 0\n1\n0x00000001\nanswer 0\nbegun\nwaits\nanswer 0\n\
+        answer 0\n2\n0x80000002\nwaits\nanswer 0\nanswer 0\n0x80000001\n";
+    check(&rt, rt.alloc(), script, answers);
+}

@@ -44,6 +44,10 @@ fn append_entry(entry: Entry, text: &mut Text)
             command_text(Command::Mutex(kind, robust), text);
             recorded_text(Reply::Mutex(mutex), text);
         }
+        Entry::Cond(cond, mutex) => {
+            command_text(Command::Cond(mutex), text);
+            recorded_text(Reply::Cond(cond), text);
+        }
         Entry::Step(event, seen) => {
             command_text(event_command(event), text);
             recorded_text(reply_of_seen(seen), text);
