@@ -24,7 +24,7 @@ use Rattle.pif_text.proofs.ReadBack.{command_back}
 use Rattle.pif_text.specs.declared.replies.Cause.TheVariants.{Command as NoCommand}
 use Rattle.pif_scripts.specs.declared.reading.ending.Ending.TheVariants.{Fault, Differs}
 use Rattle.pif_scripts.specs.Scripts.{Hearing, FirstMeaning, Meaning, Scan, reading_of, answered_by, answered_first, answered_later, after_line, with_byte, closed_at, ended_by}
-use Rattle.pif_scripts.specs.Runs.{last_text}
+use Rattle.pif_scripts.specs.Runs.{end_line, last_text}
 use Rattle.pif_types.specs.declared.requests.Kind.{Kind}
 use Rattle.pif_types.specs.declared.requests.Request.{Request}
 use Rattle.pif_scripts.specs.Running.{Answer, answer_or_fault, command_answer, first_answer, limits_in, are_limits, reply_of_seen, made_by}
@@ -251,7 +251,7 @@ limits_back b w =
     (traced_back c reply.Done (limits_written b w) refl) (first_limits b w))
 
 closed_back : (v : Scan Table) (n : ℕ) → v.line ≡ [] → v.number ≡ 3 + n
-    → last_text (closed_at trace_hearing v) ≡ same_of (1 + n) ++ 10 ∷ []
+    → last_text end_line (closed_at trace_hearing v) ≡ same_of (1 + n) ++ 10 ∷ []
 closed_back v n e f =
     let some : nat_lt 1 v.number ≡ true = grind (arith, nat_tests) in
     let count : v.number - 2 ≡ 1 + n = omega arith in
@@ -270,5 +270,5 @@ trace_back b es w a h small =
     let limits = reading_of-line trace_hearing (limits_text b) entries None 2 12 ([], Some (new_table b))
     (limits_line b w) (omega arith) (limits_back b w) in
     let rest = entries_back es (new_table b) 3 (12 + length (limits_text b) + 1) a h (omega arith) in
-    ap (λ stands. last_text (ended_by trace_hearing stands)) (header ∙ limits ∙ rest.1)
+    ap (λ stands. last_text end_line (ended_by trace_hearing stands)) (header ∙ limits ∙ rest.1)
     ∙ closed_back rest.0 (length es) rest.2 rest.3

@@ -21,7 +21,7 @@ use Rattle.pif_text.specs.Commands.{command_in}
 use Rattle.pif_text.specs.Replies.{text_of}
 use Rattle.pif_scripts.specs.declared.faults.CliFault.{CliFault}
 use Rattle.pif_scripts.specs.declared.faults.CliFault.TheVariants as fault
-use Rattle.pif_scripts.specs.Runs.{RunsFrom}
+use Rattle.pif_scripts.specs.Runs.{RunsFrom, end_line}
 use Rattle.pif_scripts.specs.declared.reading.ending.Ending.TheVariants.{Fault, Differs}
 use Rattle.pif_scripts.specs.declared.reading.ending.OpenFault.{OpenFault}
 use Rattle.pif_scripts.specs.declared.reading.ending.OpenFault.TheVariants.{Ended, NoMemory}
@@ -181,6 +181,7 @@ script = record {
   first_meaning = λ number line. first_line_meaning line;
   meaning = line_meaning;
   end_text = λ number. Ok [];
+  said_of = end_line;
 }
 
 -- a run of a script, by what the reader had and has left, and what the writer held and holds; it has no differences

@@ -24,7 +24,7 @@ use Rattle.pif_scripts.specs.declared.faults.CliFault.TheVariants as fault
 use Rattle.pif_scripts.specs.declared.reading.ending.Ending.TheVariants.{Fault, Differs}
 use Rattle.pif_scripts.specs.declared.reading.ending.End.{End}
 use Rattle.pif_scripts.specs.Scripts.{Meaning, FirstMeaning, Hearing, Reading, start, reading_of, ended_by, NeedsIn}
-use Rattle.pif_scripts.specs.Runs.{WritesPart, last_text}
+use Rattle.pif_scripts.specs.Runs.{WritesPart, end_line, last_text}
 use Rattle.pif_scripts.specs.Running.{Answer, answer_or_fault, command_answer, first_answer, made_by, reply_of_seen}
 
 -- ---- reading
@@ -88,6 +88,7 @@ trace_hearing = record {
   first_meaning = λ number line. if number == 1 then header_meaning line else second_line_meaning line;
   meaning = traced_meaning;
   end_text = traced_end;
+  said_of = end_line;
 }
 
 -- where a trace of these bytes stands behind them
@@ -100,7 +101,7 @@ trace_end bytes = ended_by trace_hearing (trace_reading bytes).stands
 
 -- what a trace of these bytes comes to: `same`, `differs` or `fault`, with what belongs to it
 unfoldable pub verdict : List ℕ → List ℕ
-verdict bytes = last_text (trace_end bytes)
+verdict bytes = last_text end_line (trace_end bytes)
 
 -- replaying a trace of which these bytes were read:
 --   ended well: all was read, and each answer is the recorded one; the verdict was written
