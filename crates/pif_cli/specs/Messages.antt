@@ -2,7 +2,7 @@
 use Rattle.std.specs.Prelude.{ℕ, ◌≡◌, ◌≤◌, ◌⊎◌, ◌&&◌, nat_le, Bool, true, List, [], ◌∷◌, ◌++◌, Option, Result, Ok, Err}
 use Rattle.std.specs.List.{list_all}
 use Rattle.std.specs.Io.KnownBytes.{Appends, Keeps}
-use Rattle.pif_scripts.specs.declared.faults.CliFault.{CliFault}
+use Rattle.pif_cli.specs.declared.statuses.JobFault.{JobFault}
 use Rattle.pif_scripts.specs.Runs.{WritesPart}
 
 -- a byte of ASCII that shows: from a space to a tilde
@@ -20,15 +20,15 @@ TellsLine held holds =
     × (Appends held holds (text ++ 10 ∷ []) ⊎ WritesPart held holds (text ++ 10 ∷ []))
 
 -- what is told of a job that ended so: nothing where it was done, else one line
-abbrev pub TellsOf : Result (Unit {0}) CliFault → (held holds : Option (List ℕ)) → Type 0
+abbrev pub TellsOf : Result (Unit {0}) JobFault → (held holds : Option (List ℕ)) → Type 0
 TellsOf (Ok x) held holds = Keeps held holds
 TellsOf (Err e) held holds = TellsLine held holds
 
--- what is told at a status of the program: nothing at 0; a text at 1; one line at 2 to 5; and at 3, where the text of 1
+-- what is told at a status of the program: nothing at 0; a text at 1; one line at 2 to 6; and at 3, where the text of 1
 -- could not be written, a proper part of that
 abbrev pub TellsAt : ℕ → (held holds : Option (List ℕ)) → Type 0
 TellsAt status held holds =
     ((status ≡ 0) × Keeps held holds)
     ⊎ (((status ≡ 1) × ((text : List ℕ) × Appends held holds text))
-    ⊎ (((2 ≤ status) × (status ≤ 5) × TellsLine held holds)
+    ⊎ (((2 ≤ status) × (status ≤ 6) × TellsLine held holds)
     ⊎ ((status ≡ 3) × ((text : List ℕ) × WritesPart held holds text))))

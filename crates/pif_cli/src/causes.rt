@@ -1,10 +1,27 @@
 use crate::messages::Message;
+use crate::statuses::JobFault;
 use crate::words::Job;
 use pif_scripts::{Cause, CliFault, Notice};
 use std::fmt::Write;
 
-/// What a person is told of a job's fault: of a line its number, the cause, and its text.
-pub fn message_of(job: Job, fault: CliFault, notice: &Notice) -> Message {
+/// What a person is told of a job's fault.
+pub fn message_of(job: Job, fault: JobFault, notice: &Notice) -> Message {
+    match fault {
+        JobFault::Cli(fault) => text_message(job, fault, notice),
+        JobFault::Threads => said("a thread cannot be started"),
+        JobFault::Unsettled => said("the desk does not settle with its clients"),
+    }
+}
+
+/// A message of these words.
+fn said(words: &str) -> Message {
+    let mut message = Message::new();
+    message.say(words);
+    message
+}
+
+/// What a person is told of a fault of a script or a trace: of a line its number, the cause, and its text.
+fn text_message(job: Job, fault: CliFault, notice: &Notice) -> Message {
     match fault {
         CliFault::Script(number, cause) => {
             let words = cause_words(job, number, cause, notice);
@@ -58,8 +75,8 @@ fn cause_words(job: Job, number: u64, cause: Cause, notice: &Notice) -> &'static
             signals 1 to 4294967295)"
         }
         Cause::Command => match job {
-            Job::Run => no_command(number, notice.line()),
             Job::Replay => no_traced(number, notice),
+            Job::Run | Job::Trace | Job::Drive(_) => no_command(number, notice.line()),
         },
     }
 }

@@ -3,7 +3,8 @@ pub const VERSION: &str = "0.1";
 
 /// What the program is for.
 pub const ABOUT: &str =
-    "Runs scripts and replays traces on a model of pthread mutexes with priority inheritance";
+    "Runs scripts and replays traces on a model of pthread mutexes and condition variables with \
+    priority inheritance";
 
 /// What `run` does.
 pub const ABOUT_RUN: &str =
@@ -13,11 +14,28 @@ pub const ABOUT_RUN: &str =
 pub const ABOUT_REPLAY: &str =
     "Reads a trace from the standard input, and says whether each of its answers is given again";
 
+/// What `trace` does.
+pub const ABOUT_TRACE: &str =
+    "Reads a script from the standard input, and writes the trace that 'pif replay' takes";
+
 /// How `run` is called.
 pub const USAGE_RUN: &str = "pif run < FILE";
 
 /// How `replay` is called.
 pub const USAGE_REPLAY: &str = "pif replay < FILE";
+
+/// How `trace` is called.
+pub const USAGE_TRACE: &str = "pif trace < FILE";
+
+/// What `drive` does.
+pub const ABOUT_DRIVE: &str =
+    "Lets clients in threads of their own lock and unlock one mutex, and counts the calls that were answered";
+
+/// How `drive` is called.
+pub const USAGE_DRIVE: &str = "pif drive N";
+
+/// What the number of `drive` is.
+pub const ABOUT_CLIENTS: &str = "How many clients, 1 to 64";
 
 /// The end of the program's help.
 pub const EXAMPLE: &str =
@@ -32,6 +50,7 @@ The commands of scripts:
   thread P          adds a thread of base priority P, 1 to 99; the first is t1
   mutex K           adds a mutex, normal, default, errorcheck or recursive; the first is m1
   mutex K robust    adds one that outlives its owner's end
+  cond mN           adds a condition variable, bound to mutex N; the first is c1
   call tN Q         thread N begins the call Q, and goes on until it is answered or waits
   begin tN Q        thread N begins the call Q, and takes no step yet
   go tN             thread N takes one step of its call
@@ -39,10 +58,12 @@ The commands of scripts:
   end tN            thread N ends, whatever it does
   word mN           shows the word of mutex N
   health mN         shows whether mutex N is fine, inconsistent or unusable
+  condword cN       shows how often condition variable N was signalled or broadcast
   prio tN           shows the effective priority of thread N
   pick              shows the thread that runs next
 
-The calls Q: lock mN, trylock mN, unlock mN, consistent mN, setprio tN P
+The calls Q: lock mN, trylock mN, unlock mN, consistent mN, setprio tN P, wait cN mN, signal cN,
+broadcast cN
 
 Status: 0 done, 1 wrong words, 2 a fault of the script, 3 a read or write failed,
 4 out of memory.
@@ -58,6 +79,7 @@ The commands of traces:
   thread P          adds a thread of base priority P
   mutex K           adds a mutex, normal, default, errorcheck or recursive
   mutex K robust    adds one that outlives its owner's end
+  cond mN           adds a condition variable, bound to mutex N
   begin tN Q        thread N begins the call Q
   go tN             thread N takes one step of its call
   end tN            thread N ends
@@ -68,3 +90,28 @@ and what the core gives there; or 'fault L cause', with the first line that is n
 Status: 0 the same, 1 wrong words, 2 a fault of the trace, 3 a read or write failed,
 4 out of memory, 5 a difference.
 Standard error says what went wrong, and in which line.";
+
+/// The end of the help of `trace`.
+pub const MORE_TRACE: &str =
+    "A script comes by < FILE, or by a pipe, as 'pif run' takes it; 'pif run --help' names its commands.
+
+Its trace begins with 'pif-trace 1' and the line of the limits. Behind them stand the threads,
+mutexes and variables that were added, and each begin, go and end, all with what the core
+answered, as in 'go t1 = went'. 'call' and 'finish' stand there as the begin and the go of which
+they are made. What was not added, and what only asks, leaves no line; nor does a fault.
+
+Status: 0 done, 1 wrong words, 2 a fault of the script, 3 a read or write failed,
+4 out of memory.
+Standard error says what went wrong, and in which line.";
+
+/// The end of the help of `drive`.
+pub const MORE_DRIVE: &str =
+    "The mutex is errorcheck and robust. Client i has priority i; each locks and unlocks the mutex 100 times.
+Then the journal of what was done is compared with what each client was answered.
+
+It prints 'answered A', where A is 200 times N; or 'fault threads', where a thread cannot be started;
+or 'unsettled', where journal and clients don't agree.
+
+Status: 0 done, 1 wrong words, 3 a write failed, 4 out of memory, 6 a thread cannot be started,
+or journal and clients don't agree.
+Standard error says what went wrong.";

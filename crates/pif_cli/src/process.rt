@@ -8,28 +8,37 @@ use crate::words::{command, fail, show};
 use pif_scripts::CliFault;
 use std::io::{ErrorKind, Read, Write};
 use std::rt::Env;
+use std::sync::Wait;
+use std::thread::Threads;
 use std::{env, io};
 
 /// What is said where a word is no text.
 const NO_TEXT: &str = "error: a word is not UTF-8\n";
 
 /// The program over the words of a process, its name first, as `command` is over words at hand: `main` hands over the
-/// process and its streams, and ends with what it is answered.
+/// process and its streams, and ends with what it is answered. The process starts the threads.
 ///
 /// Where the words cannot be had, nothing is read. The status is then 1 where one of them is not UTF-8, which `errors`
 /// is told; 4 for want of memory; and 3 where they cannot be read, or where `errors` cannot be told of such a word. At
 /// 4, and where the words cannot be read, `errors` is told so in one line, as by `command`.
-pub fn command_of_process<P: Env + AllocGlobal, R: Read, W: Write, E: Write>(
-    process: &P,
-    input: &mut R,
-    output: &mut W,
-    errors: &mut E,
-) -> Status
+pub fn command_of_process<
+    P: Env + AllocGlobal + Threads + Wait + Sync,
+    R: Read,
+    W: Write,
+    E: Write,
+>(process: &P, input: &mut R, output: &mut W, errors: &mut E) -> Status
     ensures { (words : Result (List (List ℕ)) IoErrorKind) × EndsOver words (R.remaining input.old) (R.remaining input.new)
         (W.contents output.old) (W.contents output.new) (E.contents errors.old) (E.contents errors.new) result }
 {
     match words_of(process) {
-        Ok(words) => Status::new(command(process.alloc(), words.as_slice(), input, output, errors)),
+        Ok(words) => Status::new(command(
+            process.alloc(),
+            process,
+            words.as_slice(),
+            input,
+            output,
+            errors,
+        )),
         Err(error) => Status::new(refuse(error.kind(), errors)),
     }
 }

@@ -1,3 +1,5 @@
+mod desks;
+mod drives;
 mod messages;
 mod texts;
 mod words_of_processes;
@@ -8,6 +10,8 @@ use std::alloc::Global;
 use std::io;
 use std::io::{ErrorKind, Read};
 use std::process::Abort;
+use std::sync::Wait;
+use std::thread::Threads;
 
 /// Keeps what is written, and allocates nothing; past its room it takes no byte.
 type Kept = ArrayVec<u8, 4096>;
@@ -24,15 +28,26 @@ const LOCKED: &str =
     "pif-trace 1\nthread 10 = t1\nmutex normal = m1\nbegin t1 lock m1 = begun\ngo t1 = went\n\
     go t1 = answer 0\n";
 
+const TRACED: &str =
+    "pif-trace 1\nlimits 1024 1024 256 4294967295 = ok\nthread 10 = t1\ngo t2 = refused nosuch\n";
+
 /// Does what the second word asks for over the input `text`, and checks the status and what is written; the errors are
 /// told of each status but 0.
-fn check(rt: &impl Abort, alloc: Global, job: &str, text: &str, status: u8, answers: &str) {
+fn check(
+    rt: &(impl Abort + Threads + Wait + Sync),
+    alloc: Global,
+    job: &str,
+    text: &str,
+    status: u8,
+    answers: &str,
+) {
     let mut output = Kept::new();
     let mut errors = Kept::new();
     let words = ["pif", job];
     let mut input = text.as_bytes();
     let ended = command(
         alloc,
+        rt,
         words.as_slice(),
         &mut input,
         &mut output,
@@ -61,6 +76,9 @@ fn each_job_ends_with_its_status(rt: HostRuntime) {
             5,
             "differs 2 t1\n",
         ),
+        ("trace", "", 0, ""),
+        ("trace", "thread 10\npick\ngo t2\nthread 2", 2, TRACED),
+        ("trace", LOCKED, 2, ""),
     ];
     for (job, text, status, answers) in jobs {
         check(&rt, rt.alloc(), job, text, status, answers);
@@ -80,12 +98,13 @@ impl Read for Broken {
 
 #[test]
 fn a_failed_read_or_write_has_status_3(rt: HostRuntime) {
-    for job in ["run", "replay"] {
+    for job in ["run", "replay", "trace"] {
         let words = ["pif", job];
         let mut output = Kept::new();
         let mut errors = Kept::new();
         let ended = command(
             rt.alloc(),
+            &rt,
             words.as_slice(),
             &mut Broken,
             &mut output,
@@ -98,6 +117,7 @@ fn a_failed_read_or_write_has_status_3(rt: HostRuntime) {
     let words = ["pif", "run"];
     let ended = command(
         rt.alloc(),
+        &rt,
         words.as_slice(),
         &mut BOOSTED.as_bytes(),
         &mut output,
@@ -114,6 +134,7 @@ fn want_of_memory_writes_nothing(rt: HostRuntime) {
     let words = ["pif", "run"];
     let ended = command(
         rt.alloc(),
+        &rt,
         words.as_slice(),
         &mut BOOSTED.as_bytes(),
         &mut output,

@@ -1,6 +1,7 @@
 use super::{Broken, Kept};
 use crate::causes::message_of;
 use crate::command;
+use crate::statuses::JobFault;
 use crate::words::Job;
 use arrayvec::ArrayVec;
 use pif_scripts::{Cause, CliFault, Notice};
@@ -8,15 +9,24 @@ use std::alloc::Global;
 use std::io::Read;
 use std::process::Abort;
 use std::str::from_utf8;
+use std::sync::Wait;
 use std::test::Fail;
+use std::thread::Threads;
 
 /// Does a job over an input, and checks its status and what the errors are told.
-fn check_told<R: Read>(rt: &impl Abort, alloc: Global, job: &str, input: &mut R, told: (u8, &str)) {
+fn check_told<R: Read>(
+    rt: &(impl Abort + Threads + Wait + Sync),
+    alloc: Global,
+    job: &str,
+    input: &mut R,
+    told: (u8, &str),
+) {
     let (status, message) = told;
     let mut errors = Kept::new();
     let words = ["pif", job];
     let ended = command(
         alloc,
+        rt,
         words.as_slice(),
         input,
         &mut Kept::new(),
@@ -27,7 +37,13 @@ fn check_told<R: Read>(rt: &impl Abort, alloc: Global, job: &str, input: &mut R,
 }
 
 /// Checks what the errors are told of an input, whose job ends with this status.
-fn check_input(rt: &impl Abort, alloc: Global, job: &str, input: &[u8], told: (u8, &str)) {
+fn check_input(
+    rt: &(impl Abort + Threads + Wait + Sync),
+    alloc: Global,
+    job: &str,
+    input: &[u8],
+    told: (u8, &str),
+) {
     let mut bytes = input;
     check_told(rt, alloc, job, &mut bytes, told);
 }
@@ -92,7 +108,9 @@ fn a_faulty_script_is_told_by_its_line(rt: HostRuntime) {
         ),
     ];
     for (script, message) in scripts {
-        check_input(&rt, rt.alloc(), "run", script, (2, message));
+        for job in ["run", "trace"] {
+            check_input(&rt, rt.alloc(), job, script, (2, message));
+        }
     }
 }
 
@@ -165,17 +183,22 @@ fn a_difference_is_told_with_both_answers(rt: HostRuntime) {
 #[test]
 fn a_failed_read_is_told(rt: HostRuntime) {
     let told = (3, "pif: the input cannot be read\n");
-    for job in ["run", "replay"] {
+    for job in ["run", "replay", "trace"] {
         check_told(&rt, rt.alloc(), job, &mut Broken, told);
     }
 }
 
 /// Checks that the errors are told of an output that takes four bytes, whatever the words ask for.
-fn check_unwritten(rt: &impl Abort, alloc: Global, words: &[&str], script: &str) {
+fn check_unwritten(
+    rt: &(impl Abort + Threads + Wait + Sync),
+    alloc: Global,
+    words: &[&str],
+    script: &str,
+) {
     let mut output = ArrayVec::<u8, 4>::new();
     let mut errors = Kept::new();
     let mut input = script.as_bytes();
-    let ended = command(alloc, words, &mut input, &mut output, &mut errors);
+    let ended = command(alloc, rt, words, &mut input, &mut output, &mut errors);
     assert_eq!(rt; (ended, output.len()), (3, 4), "{words:?}");
     assert!(rt; errors.as_slice() == b"pif: the output cannot be written\n".as_slice());
 }
@@ -184,6 +207,7 @@ fn check_unwritten(rt: &impl Abort, alloc: Global, words: &[&str], script: &str)
 fn a_failed_write_is_told(rt: HostRuntime) {
     let asked = [
         ["pif", "run"].as_slice(),
+        ["pif", "trace"].as_slice(),
         ["pif", "--help"].as_slice(),
         ["pif", "--version"].as_slice(),
         ["pif", "replay", "--help"].as_slice(),
@@ -205,6 +229,7 @@ fn a_message_that_cannot_be_written_leaves_the_status(rt: HostRuntime) {
         let mut input = text.as_bytes();
         let ended = command(
             rt.alloc(),
+            &rt,
             words.as_slice(),
             &mut input,
             &mut Kept::new(),
@@ -249,10 +274,15 @@ fn faults_without_a_line_are_told_by_their_words(rt: HostRuntime) {
     let size = CliFault::Script(18_446_744_073_709_551_615, Cause::Size);
     let faults = [
         (
-            size,
+            JobFault::Cli(size),
             "pif: line 18446744073709551615: the input has more than 16777216 bytes\n",
         ),
-        (CliFault::NoMemory, "pif: out of memory\n"),
+        (JobFault::Cli(CliFault::NoMemory), "pif: out of memory\n"),
+        (JobFault::Threads, "pif: a thread cannot be started\n"),
+        (
+            JobFault::Unsettled,
+            "pif: the desk does not settle with its clients\n",
+        ),
     ];
     for (fault, message) in faults {
         let mut errors = Kept::new();
