@@ -1,7 +1,9 @@
 #!/usr/bin/env bash
 # Prints, for a script of 16 MB of `pick` lines, one of uncontended `call` lines and a trace of 16 MB of uncontended
-# calls: lines a second, nanoseconds a line and peak memory, through a pipe. It is a benchmark, never a test: nothing
-# here passes or fails.
+# calls: lines a second, nanoseconds a line and peak memory, through a pipe. Then the benchmarks of single layers, of the
+# quick path, and of a desk: events a second with 1 to 8 threads, on mutexes of their own and all on one, beside the same
+# calls on a core without a desk; and the seconds of `drive 64`. It is a benchmark, never a test: nothing here passes or
+# fails.
 set -euo pipefail
 here="$(cd "$(dirname "$0")/.." && pwd)"
 program="$here/crates/pif/out/pif"
@@ -79,3 +81,11 @@ quick="$here/crates/pif_quick_bench/out/pif_quick_bench"
 for name in $("$quick"); do
   "$quick" "$name"
 done
+
+desk="$here/crates/pif_desk_bench/out/pif_desk_bench"
+[ -x "$desk" ] || (cd "$here/crates/pif_desk_bench" && rt run > /dev/null)
+for name in $("$desk"); do
+  "$desk" "$name"
+done
+TIMEFORMAT='drive 64: %R s, of which %U s in the program and %S s in the system'
+time "$program" drive 64 > /dev/null

@@ -1,6 +1,7 @@
-use crate::scenes::{call, core_of, each};
+use crate::scenes::{core_of, each};
 use pif_core::{Core, Event};
 use pif_types::{MutexId, Request, Tid};
+use pif_uses::call;
 use std::io;
 use std::rt::Clock;
 use std::time::{Duration, Instant};

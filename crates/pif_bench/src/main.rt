@@ -2,6 +2,7 @@
 #![tactic(auto)]
 
 mod chains;
+mod conditions;
 mod lists;
 mod robust;
 mod scenes;
@@ -16,7 +17,9 @@ use std::{env, io};
 const NAMES: &str =
     "plist_equal\nplist_distinct\nhand_over\nlast_lock_10\nlast_lock_100\nlast_lock_1000\n\
     setprio_10\nsetprio_100\nsetprio_1000\nstalled_pair\nrobust_pair\n\
-    end_10\nend_100\nend_1000\nend_contended_10\nend_contended_100\nend_contended_1000\n";
+    end_10\nend_100\nend_1000\nend_contended_10\nend_contended_100\nend_contended_1000\nwait_and_signal\n\
+    broadcast_free_10\nbroadcast_free_100\nbroadcast_free_1000\n\
+    broadcast_held_10\nbroadcast_held_100\nbroadcast_held_1000\n";
 
 /// A benchmark.
 #[derive(Clone, Copy)]
@@ -33,6 +36,10 @@ enum Benchmark {
     Pair(bool),
     /// A thread that holds so many robust mutexes ends, with a waiter for each or with none.
     End(u32, bool),
+    /// A thread waits on a condition variable, and another signals it.
+    WaitAndSignal,
+    /// A broadcast to so many parked threads, whose caller holds their mutex or not.
+    Broadcast(u32, bool),
 }
 
 /// The status where the words name no benchmark.
@@ -73,6 +80,13 @@ fn benchmark_of(name: &str) -> Option<Benchmark> {
         "end_contended_10" => Some(Benchmark::End(10, true)),
         "end_contended_100" => Some(Benchmark::End(100, true)),
         "end_contended_1000" => Some(Benchmark::End(1000, true)),
+        "wait_and_signal" => Some(Benchmark::WaitAndSignal),
+        "broadcast_free_10" => Some(Benchmark::Broadcast(10, false)),
+        "broadcast_free_100" => Some(Benchmark::Broadcast(100, false)),
+        "broadcast_free_1000" => Some(Benchmark::Broadcast(1000, false)),
+        "broadcast_held_10" => Some(Benchmark::Broadcast(10, true)),
+        "broadcast_held_100" => Some(Benchmark::Broadcast(100, true)),
+        "broadcast_held_1000" => Some(Benchmark::Broadcast(1000, true)),
         _ => None,
     }
 }
@@ -86,5 +100,7 @@ fn nanoseconds_of(rt: &(impl Clock + AllocGlobal), benchmark: Benchmark) -> io::
         Benchmark::SetPrio(depth) => set_prio(rt, depth),
         Benchmark::Pair(robust) => robust::pair(rt, robust),
         Benchmark::End(held, contended) => robust::end(rt, held, contended),
+        Benchmark::WaitAndSignal => conditions::wait_and_signal(rt),
+        Benchmark::Broadcast(parked, held) => conditions::broadcast(rt, parked, held),
     }
 }

@@ -1,13 +1,10 @@
-use pif_core::{Core, Event, Seen};
-use pif_types::{Kind, Limits, Request, Tid};
+use pif_core::Core;
+use pif_types::{Kind, Limits};
 use std::io;
 use std::time::Duration;
 
-/// How many steps of a call are taken at most.
-const MOST_STEPS: u32 = 24;
-
 /// A core with so many threads, of priority 1 but the last, which has `last`, and so many normal mutexes, which are robust
-/// or stalled.
+/// or stalled, and room for a condition variable.
 pub fn core_of(
     rt: &impl AllocGlobal,
     threads: u32,
@@ -15,7 +12,7 @@ pub fn core_of(
     last: u32,
     robust: bool,
 ) -> io::Result<Core> {
-    let limits = Limits::new(threads, mutexes, 0, 1).ok_or(io::ErrorKind::InvalidInput)?;
+    let limits = Limits::new(threads, mutexes, 1, u32::MAX).ok_or(io::ErrorKind::InvalidInput)?;
     let Ok(mut core) = Core::new(rt.alloc(), limits) else {
         return Err(io::Error::from(io::ErrorKind::OutOfMemory));
     };
@@ -31,16 +28,6 @@ pub fn core_of(
         }
     }
     Ok(core)
-}
-
-/// Begins a call, and goes on until it is answered or waits.
-pub fn call(core: &mut Core, thread: Tid, request: Request) {
-    core.step(Event::Begin(thread, request));
-    for _step in 0..MOST_STEPS {
-        if core.step(Event::Go(thread)) != Seen::Went {
-            break;
-        }
-    }
 }
 
 /// The nanoseconds of each of so many rounds.

@@ -1,5 +1,5 @@
--- Chains of waiting over a function that says for whom each thread waits: whom one reaches at all, one reaches over
--- few hops. And the greatest value among the numbers that pass a test.
+-- Chains of waiting over a function that says for whom each thread waits: whom one reaches at all, one reaches over few
+-- hops. And the greatest value among the numbers that pass a test.
 use Rattle.std.proofs.Common.{◌≡◌, ◌≢◌, ◌⊎◌, ◌<◌, ◌≤◌, ◌+◌, ℕ, zero, suc, Bool, true, false, eqb, max, List, [], ◌∷◌, length, refl, sym, ap, ◌∙◌, subst, inl, inr, add-one, arith}
 use Rattle.std.specs.List.{list_any, IsDistinct, AllByRecursion}
 use Rattle.std.proofs.lemmas.Bool.{true≢false, cases_Bool, cases_eq, cases_lt, eqb-true, eq-eqb, or_parts}

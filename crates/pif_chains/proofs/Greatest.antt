@@ -41,7 +41,7 @@ effective_attained n w b t l = greatest_where_at (λ (u : ℕ). reaches_within n
 pub effective_own : (n : ℕ) (w b : ℕ → ℕ) (t : ℕ) → t < n → b t ≤ effective_among n w b t
 effective_own n w b t l = effective_above n w b t t l (within_here n w t)
 
--- the effective priority is at most another where each that reaches the one has one that reaches the other and is as high
+-- the effective priority is at most another where each that reaches the one has one as high that reaches the other
 pub effective_under : (n n' : ℕ) (w w' b b' : ℕ → ℕ) (t t' : ℕ)
     → ((u : ℕ) → u < n → reaches_within n w u t ≡ true → (b u ≡ 0) ⊎ ((v : ℕ) × (v < n') × (reaches_within n' w' v t' ≡ true) × (b u ≤ b' v)))
     → effective_among n w b t ≤ effective_among n' w' b' t'

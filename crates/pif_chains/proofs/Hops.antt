@@ -1,5 +1,5 @@
--- Chains of waiting, hop by hop: one hop more, the last hop, and whom one reaches. Where threads below n alone wait, also
--- chains that end at a number from n on are found over few hops.
+-- Chains of waiting, hop by hop: one hop more, the last hop, and whom one reaches. Where threads below n alone wait,
+-- also chains that end at a number from n on are found over few hops.
 use Rattle.std.proofs.Common.{◌≡◌, ◌≢◌, ◌⊎◌, ℕ, zero, suc, ◌<◌, ◌≤◌, ◌+◌, ◌-◌, true, false, ◌==◌, nat_lt, refl, sym, ◌∙◌, subst, inl, inr, if◌then◌else◌, arith}
 use Rattle.std.proofs.lemmas.Bool.{cases_lt, ne_eqb, false_from_ne_true}
 use Rattle.std.proofs.lemmas.Bool.Decides.{nat_tests}

@@ -12,6 +12,7 @@ use Rattle.pif_chains.proofs.Numbers.{within, from_within}
 use Rattle.pif_chains.proofs.Greatest.{effective_same, reaches_same}
 use Rattle.pif_chains.proofs.Chains.{reaches_with_more, effective_with_more, effective_of_more}
 use Rattle.pif_chains.proofs.KernelSettled.{IsUnsettled, IsListed, priority-range, listed-from_kernel, kernel-from_listed}
+use Rattle.pif_chains.proofs.KernelParks.{parks_same}
 use Rattle.pif_chains.proofs.KernelFacts.{waits_below}
 use Rattle.pif_chains.proofs.KernelLevels.{length-joined}
 use Rattle.pif_chains.proofs.KernelListed.{listed-joined, stands-unadded}
@@ -146,6 +147,7 @@ module _ (p : ℕ) (k : Kernel) where
         queue = λ u m e. status-added u ∙ h.queue u m e;
         queued = λ u m e. h.queued u m (sym (status-added u) ∙ e);
         once = h.once;
+        parking = parks_same k now refl status-added h.parking;
         states = h.states;
         owners = owner;
         acyclic = acyclic;

@@ -3,7 +3,7 @@ use Rattle.std.proofs.Common.{◌≡◌, ◌≢◌, ◌⊎◌, ◌+◌, ◌<◌,
 use Rattle.std.proofs.lemmas.Bool.{cases_eq, cases_Bool}
 use Rattle.pif_model.specs.declared.lines.Status.TheVariants.{Queued, Ended}
 use Rattle.pif_model.specs.Graph.{is_priority, has_waiter, without, reaches_within}
-use Rattle.pif_model.specs.PiKernel.{Kernel, Seat, IsKernel, no_seat, seat_at, has_seat, is_living, state_at, waits_for, effective_in, queued_on, is_ready, levels_without, with_effective_levels, with_status, with_state, kernel_after_leaving}
+use Rattle.pif_model.specs.PiKernel.{Kernel, Seat, IsKernel, no_seat, seat_at, has_seat, is_living, state_at, waits_for, effective_in, queued_on, is_ready, is_parked, unparked, levels_without, with_effective_levels, with_status, with_state, kernel_after_leaving}
 use Rattle.pif_chains.proofs.Numbers.{within}
 use Rattle.pif_chains.proofs.Places.{kept_at}
 use Rattle.pif_chains.proofs.Among.{is_among-without}
@@ -11,6 +11,7 @@ use Rattle.pif_chains.proofs.Waiting.{pairs, once_without, has_waiter-without_no
 use Rattle.pif_chains.proofs.Hops.{reached_never}
 use Rattle.pif_chains.proofs.Greatest.{reaches_same}
 use Rattle.pif_chains.proofs.Cycles.{still_acyclic}
+use Rattle.pif_chains.proofs.KernelParks.{parks_left}
 use Rattle.pif_chains.proofs.KernelSettled.{IsUnsettled, IsListed, effective_range, settled_kept, listed-from_kernel}
 use Rattle.pif_chains.proofs.KernelFacts.{mutex_below, waits_below, waited-status, queued-from_number, has_state-from_queued, waiter-from_state, state-from_waiter, living-same}
 use Rattle.pif_chains.proofs.KernelLevels.{length-left}
@@ -39,6 +40,7 @@ module _ (t : ℕ) (k : Kernel) where
   kernel_with_leaving =
       record (with_status t Ended (with_state mutex_left owner_left k)) {
         waiters = waiters_left;
+        parked = unparked k.parked t;
         levels = levels_without t k.levels;
       }
 
@@ -105,6 +107,11 @@ module _ (t : ℕ) (k : Kernel) where
   pub waiters-left : now.waiters ≡ waiters_left
   unfolding kernel_after_leaving
   waiters-left = refl
+
+  -- nor among the parked
+  pub parked-left : now.parked ≡ unparked k.parked t
+  unfolding kernel_after_leaving
+  parked-left = refl
 
   -- the other owner states are as they were
   pub state-left_other : (i : ℕ) → i ≢ mutex_left → state_at now i ≡ state_at k i
@@ -258,6 +265,8 @@ module _ (t : ℕ) (k : Kernel) where
         queue = λ u i e. is_queued u i (is_among-without k.waiters t u i e);
         queued = λ u i e. in_queue u i (cases_eq u t) e;
         once = once_without k.waiters t h.once;
+        parking = parks_left k kernel_with_leaving t status-left_other h.parking refl
+            (ap is_parked (status-left_same added));
         states = states;
         owners = owners;
         acyclic = acyclic;

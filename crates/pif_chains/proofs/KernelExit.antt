@@ -2,15 +2,16 @@
 use Rattle.std.proofs.Common.{◌≡◌, ◌≢◌, ◌⊎◌, ℕ, Bool, true, false, ◌==◌, nat_lt, List, [], ◌∷◌, length, refl, sym, ap, ◌∙◌, subst, if◌then◌else◌, eqb-true, eq-eqb, ne_eqb, inl, inr, length-set, get_or-set_other}
 use Rattle.std.proofs.lemmas.Bool.{cases_eq, eqb-false, or_parts}
 use Rattle.pif_model.specs.declared.lines.Status.{Status}
-use Rattle.pif_model.specs.declared.lines.Status.TheVariants.{Ready, Queued, Ended}
+use Rattle.pif_model.specs.declared.lines.Status.TheVariants.{Ready, Queued, Parked, Ended}
 use Rattle.pif_model.specs.declared.lines.Woken.TheVariants.{Owns as WokenOwns}
 use Rattle.pif_model.specs.Word.{Words, free_word, orphan_word, inherit_word, word_at, has_word, set_word}
-use Rattle.pif_model.specs.PiKernel.{Kernel, Seat, System, IsKernel, seat_at, has_seat, has_ended, is_living, state_at, next_in, kernel_after_leaving, kernel_after_hand_over, after_death, after_deaths, after_exit}
+use Rattle.pif_model.specs.PiKernel.{Kernel, Seat, System, IsKernel, seat_at, has_seat, has_ended, is_living, state_at, next_in, parked_pairs, unparked, kernel_after_leaving, kernel_after_hand_over, after_death, after_deaths, after_exit}
 use Rattle.pif_model.specs.RobustList.{has_entry}
+use Rattle.pif_chains.proofs.Waiting.{pairs}
 use Rattle.pif_chains.proofs.KernelFacts.{next-queued, next-added}
 use Rattle.pif_chains.proofs.KernelKept.{hand_over_kept}
-use Rattle.pif_chains.proofs.KernelPlaces.{handed_limits, handed_length, handed_seat_other, handed_seat_same, handed_base, handed_state_other}
-use Rattle.pif_chains.proofs.KernelEnded.{leaving_kept, limits-left, length-left_seats, has-left, base-left, status-left_same, living-left_same, living-left_other}
+use Rattle.pif_chains.proofs.KernelPlaces.{handed_limits, handed_length, handed_seat_other, handed_seat_same, handed_base, handed_state_other, handed_parked}
+use Rattle.pif_chains.proofs.KernelEnded.{leaving_kept, limits-left, parked-left, length-left_seats, has-left, base-left, status-left_same, living-left_same, living-left_other}
 
 -- ONE MUTEX
 
@@ -141,6 +142,11 @@ module _ (t m : ℕ) (x : System) where
   death-state_other i n = death-cases t m x (λ y. state_at y.kernel i ≡ state_at x.kernel i) refl (λ e f g. refl)
       (λ e f d g. handed_state_other (next_in x.kernel m) m x.kernel i n)
 
+  -- the same threads are parked
+  pub death-parked : later.kernel.parked ≡ x.kernel.parked
+  death-parked = death-cases t m x (λ y. y.kernel.parked ≡ x.kernel.parked) refl (λ e f g. refl)
+      (λ e f d g. handed_parked (next_in x.kernel m) m x.kernel)
+
   -- there are as many words
   pub death-words : length later.words.mutexes ≡ length x.words.mutexes
   death-words = death-cases t m x (λ y. length y.words.mutexes ≡ length x.words.mutexes) refl
@@ -154,6 +160,10 @@ module _ (t m : ℕ) (x : System) where
   -- health words are as they were
   pub death-healths : later.words.healths ≡ x.words.healths
   death-healths = death-cases t m x (λ y. y.words.healths ≡ x.words.healths) refl (λ e f g. refl) (λ e f d g. refl)
+
+  -- and so are condition words
+  pub death-conds : later.words.conds ≡ x.words.conds
+  death-conds = death-cases t m x (λ y. y.words.conds ≡ x.words.conds) refl (λ e f g. refl) (λ e f d g. refl)
 
   -- the other words are as they were
   pub death-word_other : (i : ℕ) → i ≢ m → word_at later.words i ≡ word_at x.words i
@@ -221,6 +231,14 @@ module _ (t m : ℕ) (x : System) where
         handed d q (inr n) =
             ap (λ (y : Seat). y.status) (sym (handed_seat_other (next_in x.kernel m) m x.kernel u n)) ∙ q
 
+    -- who is parked was parked there
+    pub death-was_parked : (u c : ℕ) → (seat_at later.kernel u).status ≡ Parked c
+        → (seat_at x.kernel u).status ≡ Parked c
+    death-was_parked u c q =
+        h.parking.status u c
+        (sym (ap (λ ps. pairs u c (parked_pairs ps)) death-parked)
+        ∙ (death_kept t m x h).parking.parked u c q)
+
 -- what the kernel and the words have after all
 module _ (t : ℕ) (ms : List ℕ) (x : System) where
   -- the system after
@@ -246,6 +264,11 @@ module _ (t : ℕ) (ms : List ℕ) (x : System) where
   deaths-base u = deaths-keep (λ y. (seat_at y.kernel u).base ≡ (seat_at x.kernel u).base) t
       (λ m y e. death-base t m y u ∙ e) ms x refl
 
+  -- the same threads are parked
+  pub deaths-parked : last.kernel.parked ≡ x.kernel.parked
+  deaths-parked =
+      deaths-keep (λ y. y.kernel.parked ≡ x.kernel.parked) t (λ m y e. death-parked t m y ∙ e) ms x refl
+
   -- there are as many words
   pub deaths-words : length last.words.mutexes ≡ length x.words.mutexes
   deaths-words =
@@ -259,6 +282,10 @@ module _ (t : ℕ) (ms : List ℕ) (x : System) where
   pub deaths-healths : last.words.healths ≡ x.words.healths
   deaths-healths =
       deaths-keep (λ y. y.words.healths ≡ x.words.healths) t (λ m y e. death-healths t m y ∙ e) ms x refl
+
+  -- and so are condition words
+  pub deaths-conds : last.words.conds ≡ x.words.conds
+  deaths-conds = deaths-keep (λ y. y.words.conds ≡ x.words.conds) t (λ m y e. death-conds t m y ∙ e) ms x refl
 
   module _ (h : IsKernel x.kernel) where
     -- who has ended has ended
@@ -277,6 +304,14 @@ module _ (t : ℕ) (ms : List ℕ) (x : System) where
     deaths-was_queued u i = (deaths-keep (λ y. IsKernel y.kernel
         × ((seat_at y.kernel u).status ≡ Queued i → (seat_at x.kernel u).status ≡ Queued i)) t
         (λ m y r. (death_kept t m y r.0, λ q. r.1 (death-was_queued t m y r.0 u i q))) ms x (h, λ q. q)).1
+
+    -- who is parked was parked there
+    pub deaths-was_parked : (u c : ℕ) → (seat_at last.kernel u).status ≡ Parked c
+        → (seat_at x.kernel u).status ≡ Parked c
+    deaths-was_parked u c q =
+        h.parking.status u c
+        (sym (ap (λ ps. pairs u c (parked_pairs ps)) deaths-parked)
+        ∙ (deaths_kept t ms x h).parking.parked u c q)
 
 -- the word of a mutex that is not among those that pass on is as it was
 pub deaths-word_other : (t : ℕ) (ms : List ℕ) (x : System) (i : ℕ) → has_entry ms i ≡ false
@@ -331,6 +366,14 @@ module _ (t : ℕ) (ms : List ℕ) (ws : Words) (k : Kernel) where
   -- health words are as they were
   pub exit-healths : finish.words.healths ≡ ws.healths
   exit-healths = deaths-healths t ms start
+
+  -- and so are condition words
+  pub exit-conds : finish.words.conds ≡ ws.conds
+  exit-conds = deaths-conds t ms start
+
+  -- t is not among the parked, and the others are as they were
+  pub exit-parked : finish.kernel.parked ≡ unparked k.parked t
+  exit-parked = deaths-parked t ms start ∙ parked-left t k
 
   module _ (h : IsKernel k) (added : has_seat k t ≡ true) where
     -- t has ended

@@ -3,7 +3,7 @@ use Rattle.std.proofs.Common.{◌≡◌, ◌≢◌, ◌⊎◌, ℕ, ◌<◌, ◌
 use Rattle.std.proofs.lemmas.Bool.{cases_eq, cases_lt, eqb-false, false_from_ne_true}
 use Rattle.std.proofs.lemmas.List.{get_or_past}
 use Rattle.pif_model.specs.declared.lines.Status.{Status}
-use Rattle.pif_model.specs.declared.lines.Status.TheVariants.{Ready, Queued, Stopped, Ended}
+use Rattle.pif_model.specs.declared.lines.Status.TheVariants.{Ready, Queued, Parked, Stopped, Ended}
 use Rattle.pif_model.specs.Graph.{waited_by, has_waiter, reaches_within}
 use Rattle.pif_model.specs.PiKernel.{Kernel, Seat, IsKernel, IsKernelShaped, no_seat, seat_at, has_seat, state_at, waits_for, effective_in, next_in, queued_on, is_ready, has_ended, is_living}
 use Rattle.pif_chains.proofs.Numbers.{from_within, within}
@@ -16,6 +16,7 @@ use Rattle.pif_chains.proofs.Waiting.{by_test, names, pairs, waited-from_pair, u
 pub queued-from_number : (x : Status) (m : ℕ) → m ≢ 0 → queued_on x ≡ m → x ≡ Queued m
 queued-from_number (Ready w) m n e = absurd (n (sym e))
 queued-from_number (Queued k) m n e = ap Queued e
+queued-from_number (Parked c) m n e = absurd (n (sym e))
 queued-from_number Stopped m n e = absurd (n (sym e))
 queued-from_number Ended m n e = absurd (n (sym e))
 
@@ -48,6 +49,7 @@ living-from_added k t added e = rw (added, e) refl
 pub ready-not_ended : (x : Status) → is_ready x ≡ true → has_ended x ≡ false
 ready-not_ended (Ready w) e = refl
 ready-not_ended (Queued m) e = refl
+ready-not_ended (Parked c) e = refl
 ready-not_ended Stopped e = refl
 ready-not_ended Ended e = absurd (true≢false (sym e))
 

@@ -4,13 +4,14 @@ use Rattle.std.proofs.lemmas.Bool.{cases_eq, eqb-false}
 use Rattle.pif_model.specs.declared.lines.Status.TheVariants.{Ready, Queued}
 use Rattle.pif_model.specs.declared.lines.Woken.TheVariants.{Owns as WokenOwns}
 use Rattle.pif_model.specs.Graph.{is_priority, has_waiter, without, reaches_within}
-use Rattle.pif_model.specs.PiKernel.{Kernel, Seat, IsKernel, IsKernelShaped, no_seat, seat_at, has_seat, state_at, waits_for, effective_in, queued_on, is_ready, levels_with, with_status, with_state, kernel_after_hand_over}
+use Rattle.pif_model.specs.PiKernel.{Kernel, Seat, IsKernel, IsKernelShaped, no_seat, seat_at, has_seat, state_at, waits_for, effective_in, queued_on, is_ready, is_parked, levels_with, with_status, with_state, kernel_after_hand_over}
 use Rattle.pif_chains.proofs.Numbers.{within}
 use Rattle.pif_chains.proofs.Places.{kept_at}
 use Rattle.pif_chains.proofs.Among.{is_among-without}
 use Rattle.pif_chains.proofs.Waiting.{pairs, once_without, has_waiter-without_other, has_waiter-from_pair}
 use Rattle.pif_chains.proofs.Greatest.{reaches_same}
 use Rattle.pif_chains.proofs.Cycles.{acyclic_handed}
+use Rattle.pif_chains.proofs.KernelParks.{parks_kept}
 use Rattle.pif_chains.proofs.KernelSettled.{IsUnsettled, IsListed, effective_range, settled_kept, listed-from_kernel}
 use Rattle.pif_chains.proofs.KernelFacts.{mutex_below, some_mutex, waits_below, waited-status, queued-from_number, queued-unready, added-from_queued}
 use Rattle.pif_chains.proofs.KernelLevels.{length-joined}
@@ -183,6 +184,8 @@ module _ (u m : ℕ) (k : Kernel) where
       queue = λ v i e. is_queued v i (is_among-without k.waiters u v i e);
       queued = λ v i e. in_queue v i (cases_eq v u) e;
       once = once_without k.waiters u h.once;
+      parking = parks_kept k kernel_with_hand_over u (λ v d. ap (λ (x : Seat). x.status) (seat-handed_other v d))
+          h.parking refl (ap is_parked queued) (ap is_parked status-same);
       states = λ i. states i (cases_eq i m);
       owners = λ i x. owners i (cases_eq i m) x;
       acyclic = acyclic;

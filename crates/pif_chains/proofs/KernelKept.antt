@@ -9,7 +9,7 @@ use Rattle.pif_chains.proofs.KernelAdded.{kernel-added}
 use Rattle.pif_chains.proofs.KernelQueued.{kernel-queued}
 use Rattle.pif_chains.proofs.KernelHanded.{kernel-handed}
 use Rattle.pif_chains.proofs.KernelRebased.{kernel-rebased}
-use Rattle.pif_chains.proofs.KernelStopped.{kernel-stopped}
+use Rattle.pif_chains.proofs.KernelRested.{kernel-stopped}
 
 -- a kernel to which nothing was added is one
 pub new_kernel_kept : (l : Bounds) → IsKernel (new_kernel l)

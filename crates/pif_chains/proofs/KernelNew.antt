@@ -4,7 +4,7 @@ use Rattle.std.specs.List.{IsDistinct}
 use Rattle.std.proofs.lemmas.Bool.{cases_eq, cases_lt, false_from_ne_true}
 use Rattle.std.proofs.lemmas.List.{get_or_past, get_or-replicate, length-replicate}
 use Rattle.pif_types.specs.Bounds.{Bounds}
-use Rattle.pif_model.specs.declared.lines.Status.TheVariants.{Ready, Queued}
+use Rattle.pif_model.specs.declared.lines.Status.TheVariants.{Ready, Queued, Parked}
 use Rattle.pif_model.specs.declared.lines.Woken.TheVariants.{Fresh as WokenFresh}
 use Rattle.pif_model.specs.PiKernel.{Seat, IsKernel, no_seat, no_states, seat_at, has_seat, level_at, levels_by, new_kernel, is_among, effective_in}
 use Rattle.pif_chains.proofs.Numbers.{within}
@@ -53,6 +53,10 @@ none_added l u = false_from_ne_true (has_seat (new_kernel l) u) (λ e. let r = w
 none_queued : (l : Bounds) (u m : ℕ) → (seat_at (new_kernel l) u).status ≡ Queued m → ⊥
 none_queued l u m e = let both : Ready WokenFresh ≡ Queued m = sym (ap (λ (x : Seat). x.status) (nobody l u)) ∙ e in cc
 
+-- nor parked
+none_parked : (l : Bounds) (u c : ℕ) → (seat_at (new_kernel l) u).status ≡ Parked c → ⊥
+none_parked l u c e = let both : Ready WokenFresh ≡ Parked c = sym (ap (λ (x : Seat). x.status) (nobody l u)) ∙ e in cc
+
 -- all but the levels
 unsettled-new : (l : Bounds) → IsUnsettled (new_kernel l)
 unfolding IsDistinct
@@ -69,6 +73,11 @@ unsettled-new l = record {
   queue = λ u m e. absurd (true≢false (sym e));
   queued = λ u m e. absurd (none_queued l u m e);
   once = tt;
+  parking = record {
+    status = λ u c e. absurd (true≢false (sym e));
+    parked = λ u c e. absurd (none_parked l u c e);
+    once = tt;
+  };
   states = λ m. ap (λ n. n == 0) (no_state m);
   owners = λ m n. absurd (n (no_state m));
   acyclic = λ u n. absurd (n (no_state _));

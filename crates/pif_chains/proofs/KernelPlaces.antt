@@ -68,6 +68,11 @@ module _ (t m n : ℕ) (k : Kernel) where
   unfolding kernel_after_queueing
   queued_waiters = refl
 
+  -- the same threads are parked
+  pub queued_parked : after_queueing.parked ≡ k.parked
+  unfolding kernel_after_queueing
+  queued_parked = refl
+
   -- effective priorities do not depend on the levels
   pub queued_effective : (u : ℕ) → effective_in after_queueing u ≡ effective_in (kernel_with_queueing t m n k) u
   unfolding kernel_after_queueing
@@ -133,6 +138,11 @@ module _ (u m : ℕ) (k : Kernel) where
   unfolding kernel_after_hand_over
   handed_waiters = refl
 
+  -- the same threads are parked
+  pub handed_parked : after_hand_over.parked ≡ k.parked
+  unfolding kernel_after_hand_over
+  handed_parked = refl
+
   -- effective priorities do not depend on the levels
   pub handed_effective : (v : ℕ) → effective_in after_hand_over v ≡ effective_in (kernel_with_hand_over u m k) v
   unfolding kernel_after_hand_over
@@ -189,6 +199,11 @@ module _ (t p : ℕ) (k : Kernel) where
   pub set_prio_waiters : after_set_prio.waiters ≡ k.waiters
   unfolding kernel_after_set_prio
   set_prio_waiters = refl
+
+  -- the same threads are parked
+  pub set_prio_parked : after_set_prio.parked ≡ k.parked
+  unfolding kernel_after_set_prio
+  set_prio_parked = refl
 
   -- each waits for whom it waited
   pub set_prio_waits : (u : ℕ) → waits_for after_set_prio u ≡ waits_for k u

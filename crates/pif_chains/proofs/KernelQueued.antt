@@ -3,13 +3,15 @@ use Rattle.std.proofs.Common.{◌≡◌, ◌≢◌, ◌⊎◌, ◌+◌, ◌<◌,
 use Rattle.std.proofs.lemmas.Bool.{cases_eq}
 use Rattle.pif_model.specs.declared.lines.Status.TheVariants.{Queued}
 use Rattle.pif_model.specs.Graph.{is_priority, has_waiter, reaches_within}
-use Rattle.pif_model.specs.PiKernel.{Kernel, Seat, IsKernel, no_seat, seat_at, has_seat, state_at, waits_for, effective_in, queued_on, is_ready, levels_without, with_status, with_state, kernel_after_queueing}
+use Rattle.pif_model.specs.PiKernel.{Kernel, Seat, IsKernel, no_seat, seat_at, has_seat, state_at, waits_for, effective_in, queued_on, is_ready, is_parked, levels_without, with_status, with_state, kernel_after_queueing}
 use Rattle.pif_chains.proofs.Numbers.{within}
 use Rattle.pif_chains.proofs.Places.{kept_at}
 use Rattle.pif_chains.proofs.Among.{is_among_push}
 use Rattle.pif_chains.proofs.Waiting.{pairs, once_push, has_waiter-push, or_true, or_false}
 use Rattle.pif_chains.proofs.Greatest.{reaches_same}
 use Rattle.pif_chains.proofs.Cycles.{still_acyclic}
+use Rattle.pif_chains.proofs.Statuses.{ready-unparked}
+use Rattle.pif_chains.proofs.KernelParks.{parks_kept}
 use Rattle.pif_chains.proofs.KernelSettled.{IsUnsettled, IsListed, effective_range, settled_kept, listed-from_kernel}
 use Rattle.pif_chains.proofs.KernelFacts.{waits_below, unnamed-from_ready, has_state-from_queued}
 use Rattle.pif_chains.proofs.KernelLevels.{length-left}
@@ -156,6 +158,8 @@ module _ (t m n : ℕ) (k : Kernel) where
       queue = λ u i e. is_queued u i (cases_eq u t) (is_among_push k.waiters t m u i e);
       queued = λ u i e. in_queue u i (cases_eq u t) e;
       once = once_push k.waiters (t, m) (unnamed-from_ready k h t ready) h.once;
+      parking = parks_kept k kernel_with_queueing t (λ u d. ap (λ (x : Seat). x.status) (seat-queueing_other u d))
+          h.parking refl (ready-unparked (seat_at k t).status ready) (ap is_parked status-same);
       states = λ i. states i (cases_eq i m);
       owners = λ i x. owners i (cases_eq i m) x;
       acyclic = acyclic;

@@ -6,6 +6,7 @@ use Rattle.pif_model.specs.PiKernel.{Kernel, Seat, IsKernel, no_seat, seat_at, h
 use Rattle.pif_chains.proofs.Numbers.{within}
 use Rattle.pif_chains.proofs.Places.{kept_at}
 use Rattle.pif_chains.proofs.Greatest.{reaches_same}
+use Rattle.pif_chains.proofs.KernelParks.{parks_same}
 use Rattle.pif_chains.proofs.KernelSettled.{IsUnsettled, IsListed, settled_kept, listed-from_kernel}
 use Rattle.pif_chains.proofs.KernelListed.{listed-seats}
 
@@ -65,6 +66,7 @@ module _ (t p : ℕ) (k : Kernel) where
       queue = λ u m e. status-rebased u ∙ h.queue u m e;
       queued = λ u m e. h.queued u m (sym (status-rebased u) ∙ e);
       once = h.once;
+      parking = parks_same k kernel_with_base refl status-rebased h.parking;
       states = h.states;
       owners = λ m n. has-rebased (get_or k.states m 0) ∙ h.owners m n;
       acyclic = λ u n. reaches_same _ _ _ _ _ _ u length-rebased waits-rebased (waits-rebased u)

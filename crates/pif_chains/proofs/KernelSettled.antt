@@ -5,10 +5,11 @@ use Rattle.std.proofs.lemmas.Bool.{cases_eq, cases_lt, false_from_ne_true}
 use Rattle.std.proofs.lemmas.List.Folds.{list_any-append}
 use Rattle.pif_model.specs.declared.lines.Status.TheVariants.{Queued}
 use Rattle.pif_model.specs.Graph.{is_priority, has_waiter, reaches_within}
-use Rattle.pif_model.specs.PiKernel.{Kernel, Seat, IsKernel, IsKernelShaped, seat_at, has_seat, state_at, waits_for, effective_in, is_ready, is_among, numbers, level_at, moves_to, with_effective_levels}
+use Rattle.pif_model.specs.PiKernel.{Kernel, Seat, IsKernel, IsKernelShaped, ParksAsTold, seat_at, has_seat, state_at, waits_for, effective_in, is_ready, is_among, numbers, level_at, moves_to, with_effective_levels}
 use Rattle.pif_chains.proofs.Numbers.{within, from_within}
 use Rattle.pif_chains.proofs.Greatest.{effective_most, effective_own}
 use Rattle.pif_chains.proofs.KernelNumbers.{among-filter, distinct-filter, distinct-append, distinct-none, distinct-numbers, any_number, no_number, among-numbers}
+use Rattle.pif_chains.proofs.KernelParks.{parks_same}
 use Rattle.pif_chains.proofs.KernelLevels.{level-by, level-by_none, level-by_past, length-levels_by}
 
 -- PRIORITIES
@@ -219,6 +220,7 @@ pub record IsUnsettled (k : Kernel) : Type 0 where
   pub queued : (u m : ℕ) → (seat_at k u).status ≡ Queued m
       → list_any (λ (w : ℕ × ℕ). if w.0 == u then w.1 == m else false) k.waiters ≡ true
   pub once : IsDistinct eqb (map (λ (w : ℕ × ℕ). w.0) k.waiters)
+  pub parking : ParksAsTold k
   pub states : (m : ℕ) → (state_at k m == 0) ≡ (if has_waiter k.waiters m then false else true)
   pub owners : (m : ℕ) → state_at k m ≢ 0 → has_seat k (state_at k m) ≡ true
   pub acyclic : (u : ℕ) → waits_for k u ≢ 0 → reaches_within (length k.seats) (waits_for k) (waits_for k u) u ≡ false
@@ -230,6 +232,7 @@ settled_kept k at w h = record {
   queue = w.queue;
   queued = w.queued;
   once = w.once;
+  parking = parks_same k (with_effective_levels k) refl (λ u. refl) w.parking;
   states = w.states;
   owners = w.owners;
   acyclic = w.acyclic;
@@ -248,6 +251,7 @@ kernel-from_listed k w h = record {
   queue = w.queue;
   queued = w.queued;
   once = w.once;
+  parking = w.parking;
   states = w.states;
   owners = w.owners;
   acyclic = w.acyclic;

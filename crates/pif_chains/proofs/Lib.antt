@@ -12,16 +12,18 @@ pub mod Bounded
 pub mod Numbers
 pub mod Statuses
 pub mod KernelNumbers
+pub mod KernelParks
 pub mod KernelLevels
 pub mod KernelSettled
 pub mod KernelListed
 pub mod KernelFacts
-pub mod KernelStopped
+pub mod KernelRested
 pub mod KernelNew
 pub mod KernelKept
 pub mod KernelRebased
 pub mod KernelQueues
 pub mod KernelQueued
+pub mod KernelWoken
 pub mod KernelHanded
 pub mod KernelAdded
 pub mod KernelCalls
@@ -29,4 +31,7 @@ pub mod KernelPicks
 pub mod KernelPlaces
 pub mod KernelEnded
 pub mod KernelExit
+pub mod KernelTaken
+pub mod KernelRequeued
+pub mod KernelAllTaken
 pub mod LineCases

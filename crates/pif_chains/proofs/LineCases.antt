@@ -7,14 +7,14 @@ use Rattle.pif_types.specs.declared.errors.Errno.{Errno}
 use Rattle.pif_types.specs.declared.requests.Kind.{Kind}
 use Rattle.pif_types.specs.declared.requests.Kind.TheVariants.{Normal, ErrorCheck, Recursive}
 use Rattle.pif_types.specs.declared.requests.Request.{Request}
-use Rattle.pif_types.specs.declared.requests.Request.TheVariants.{TryLock, Unlock, Consistent}
+use Rattle.pif_types.specs.declared.requests.Request.TheVariants.{TryLock, Unlock, Consistent, Wait}
 use Rattle.pif_model.specs.declared.events.Seen.TheVariants.{Waits}
 use Rattle.pif_model.specs.declared.lines.Place.{Place}
-use Rattle.pif_model.specs.declared.lines.Place.TheVariants.{LockPending, LockExchange, LockStop, TakeHealth, TakeStore, LinkNext, LeaveExchange, LeaveKernel, LeaveClear, TryPending, TryExchange, UnlockPending, UnlockStore, UnlockUnlink, UnlockExchange, UnlockKernel, UnlockClear, ConsistentHealth, ConsistentStore}
+use Rattle.pif_model.specs.declared.lines.Place.TheVariants.{LockPending, LockExchange, LockKernel, LockStop, TakeHealth, TakeStore, LinkNext, LeaveExchange, LeaveKernel, LeaveClear, TryPending, TryExchange, UnlockPending, UnlockStore, UnlockUnlink, UnlockExchange, UnlockKernel, UnlockClear, ConsistentHealth, ConsistentStore, WaitUses, WaitPending, WaitStore, WaitUnlink, WaitExchange, WaitKernel, WaitPark, UseExchange, UseRequeue}
 use Rattle.pif_model.specs.Word.{Word, free_word, held_by, is_bare}
-use Rattle.pif_model.specs.PiKernel.{is_ready}
-use Rattle.pif_model.specs.Table.{Table, status_at, cell_at, with_count, with_word}
-use Rattle.pif_model.specs.Lines.{Outcome, goes_to, answers, is_robust, goes_by, ends_by, locked_again, exchanged, own_exchange, lock_load, lock_queued, take_load, take_health, leave_exchange, try_load, unlock_load, unlock_health, unlock_exchange, consistent_load, consistent_health, answered_by}
+use Rattle.pif_model.specs.PiKernel.{is_ready, is_woken_again}
+use Rattle.pif_model.specs.Table.{Table, status_at, cell_at, bound_to, uses_of, with_count, with_word, with_cond_word}
+use Rattle.pif_model.specs.Lines.{Outcome, goes_to, answers, is_robust, goes_by, ends_by, locked_again, exchanged, own_exchange, lock_load, lock_queued, take_load, take_health, leave_exchange, try_load, unlock_load, unlock_health, unlock_exchange, consistent_load, consistent_health, wait_load, wait_uses, wait_health, wait_exchange, wait_parked, use_read, use_exchange, answered_by}
 use Rattle.pif_chains.proofs.Waiting.{by_test}
 
 -- a word that is exchanged has no flag, and the number from which it is exchanged
@@ -254,6 +254,99 @@ consistent_health_cases P t m s disorder order =
     by_test (λ b. P (if b then goes_to t (Consistent m) ConsistentStore s else answers t 22 s))
     ((cell_at s m).health == 1)
     (λ e. disorder (eqb-true (cell_at s m).health 1 e)) (λ e. order (eqb-false (cell_at s m).health 1 e))
+
+-- WAIT
+
+-- load the word
+pub wait_load_cases : (P : Outcome → Type 0) (c m t : ℕ) (s : Table)
+    → (bound_to s c ≡ m → (cell_at s m).word.number ≡ t → 1 < (cell_at s m).count → P (answers t 22 s))
+    → (bound_to s c ≡ m → (cell_at s m).word.number ≡ t → (cell_at s m).count ≤ 1 → P (goes_to t (Wait c m) WaitUses s))
+    → (bound_to s c ≡ m → (cell_at s m).word.number ≢ t → P (answers t 1 s))
+    → (bound_to s c ≢ m → P (answers t 22 s))
+    → P (wait_load c m t s)
+unfolding wait_load
+wait_load_cases P c m t s more once other apart =
+    by_test (λ b. P (if b then (if (cell_at s m).word.number == t then (if nat_lt 1 (cell_at s m).count then
+    answers t 22 s else goes_to t (Wait c m) WaitUses s) else answers t 1 s) else answers t 22 s))
+    (bound_to s c == m)
+    (λ d. by_test (λ b. P (if b then (if nat_lt 1 (cell_at s m).count then answers t 22 s else
+    goes_to t (Wait c m) WaitUses s) else answers t 1 s))
+    ((cell_at s m).word.number == t)
+    (λ e. by_test (λ b. P (if b then answers t 22 s else goes_to t (Wait c m) WaitUses s))
+    (nat_lt 1 (cell_at s m).count)
+    (λ f. more (eqb-true (bound_to s c) m d) (eqb-true (cell_at s m).word.number t e)
+    (ltb-true 1 (cell_at s m).count f))
+    (λ f. once (eqb-true (bound_to s c) m d) (eqb-true (cell_at s m).word.number t e)
+    (ltb-false 1 (cell_at s m).count f)))
+    (λ e. other (eqb-true (bound_to s c) m d) (eqb-false (cell_at s m).word.number t e)))
+    (λ d. apart (eqb-false (bound_to s c) m d))
+
+-- load the condition word
+pub wait_uses_cases : (P : Outcome → Type 0) (c m t : ℕ) (s : Table)
+    → ((cell_at s m).robust ≡ true → P (goes_to t (Wait c m) (WaitPending (uses_of s c)) s))
+    → ((cell_at s m).robust ≡ false → P (goes_to t (Wait c m) (WaitExchange (uses_of s c)) s))
+    → P (wait_uses c m t s)
+unfolding wait_uses
+wait_uses_cases P c m t s =
+    goes_by_cases P (Wait c m) (WaitPending (uses_of s c)) (WaitExchange (uses_of s c)) t m s
+
+-- load the health word
+pub wait_health_cases : (P : Outcome → Type 0) (v c m t : ℕ) (s : Table)
+    → ((cell_at s m).health ≡ 1 → P (goes_to t (Wait c m) (WaitStore v) s))
+    → ((cell_at s m).health ≢ 1 → P (goes_to t (Wait c m) (WaitUnlink v) s))
+    → P (wait_health v c m t s)
+unfolding wait_health
+wait_health_cases P v c m t s disorder order =
+    by_test (λ b. P (if b then goes_to t (Wait c m) (WaitStore v) s else goes_to t (Wait c m) (WaitUnlink v) s))
+    ((cell_at s m).health == 1)
+    (λ e. disorder (eqb-true (cell_at s m).health 1 e)) (λ e. order (eqb-false (cell_at s m).health 1 e))
+
+-- compare-exchange from t to 0
+pub wait_exchange_cases : (P : Outcome → Type 0) (v c m t : ℕ) (s : Table)
+    → ((cell_at s m).word.waiters ≡ false → (cell_at s m).word.died ≡ false → (cell_at s m).word.number ≡ t
+    → P (goes_to t (Wait c m) (WaitPark v) (with_word m free_word s)))
+    → P (goes_to t (Wait c m) (WaitKernel v) s)
+    → P (wait_exchange v c m t s)
+unfolding wait_exchange
+wait_exchange_cases P v c m t s =
+    exchanged_cases P free_word (cell_at s m).word t m (goes_to t (Wait c m) (WaitPark v))
+    (goes_to t (Wait c m) (WaitKernel v)) s
+
+-- woken to lock the mutex; or queued, parked or made the owner
+pub wait_parked_cases : (P : Outcome → Type 0) (c m t : ℕ) (s : Table)
+    → (is_woken_again (status_at s t) ≡ true → P (own_exchange (Wait c m) LockKernel t m s))
+    → (is_woken_again (status_at s t) ≡ false → P (lock_queued (Wait c m) t m s))
+    → P (wait_parked c m t s)
+unfolding wait_parked
+wait_parked_cases P c m t s =
+    by_test (λ b. P (if b then own_exchange (Wait c m) LockKernel t m s else lock_queued (Wait c m) t m s))
+    (is_woken_again (status_at s t))
+
+-- SIGNAL AND BROADCAST
+
+-- the condition word was read
+pub use_read_cases : (P : Outcome → Type 0) (q : Request) (n t : ℕ) (s : Table)
+    → (n ≡ s.limits.signals → P (answers t 75 s)) → (n ≢ s.limits.signals → P (goes_to t q (UseExchange n) s))
+    → P (use_read q n t s)
+unfolding use_read
+use_read_cases P q n t s full some =
+    by_test (λ b. P (if b then answers t 75 s else goes_to t q (UseExchange n) s)) (n == s.limits.signals)
+    (λ e. full (eqb-true n s.limits.signals e)) (λ e. some (eqb-false n s.limits.signals e))
+
+-- compare-exchange of the condition word from v to one more
+pub use_exchange_cases : (P : Outcome → Type 0) (q : Request) (v c t : ℕ) (s : Table)
+    → (uses_of s c ≡ v → P (goes_to t q (UseRequeue (v + 1)) (with_cond_word c (v + 1) s)))
+    → (uses_of s c ≢ v → uses_of s c ≡ s.limits.signals → P (answers t 75 s))
+    → (uses_of s c ≢ v → uses_of s c ≢ s.limits.signals → P (goes_to t q (UseExchange (uses_of s c)) s))
+    → P (use_exchange q v c t s)
+unfolding use_exchange
+use_exchange_cases P q v c t s done full again =
+    by_test (λ b. P (if b then goes_to t q (UseRequeue (v + 1)) (with_cond_word c (v + 1) s) else
+    use_read q (uses_of s c) t s))
+    (uses_of s c == v)
+    (λ e. done (eqb-true (uses_of s c) v e))
+    (λ e. use_read_cases P q (uses_of s c) t s (full (eqb-false (uses_of s c) v e))
+    (again (eqb-false (uses_of s c) v e)))
 
 -- SETPRIO
 

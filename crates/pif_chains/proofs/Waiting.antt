@@ -1,5 +1,5 @@
--- What queueing and leaving a queue do to who waits where, and what the kernel's waiting has in common with that of
--- the POSIX machine.
+-- What queueing and leaving a queue do to who waits where, and what the kernel's waiting has in common with that of the
+-- POSIX machine.
 use Rattle.std.proofs.Common.{◌≡◌, ◌≢◌, ℕ, Bool, true, false, cond, ◌||◌, ◌==◌, eqb, nat_lt, List, [], ◌∷◌, ◌++◌, map, refl, sym, ap, ◌∙◌, subst, arith, if◌then◌else◌, eqb-true, eq-eqb, ne_eqb, le-ltb, filter, true≢false}
 use Rattle.std.specs.List.{list_any, IsDistinct, AllByRecursion}
 use Rattle.std.proofs.lemmas.Bool.{eqb-false, or_parts, or_from}
@@ -103,6 +103,16 @@ named-from_pair (w ∷ ws) u m h = step (w.0 == u) (w.1 == m) (named-from_pair w
     step : (a b : Bool) → (pairs u m ws ≡ true → names u ws ≡ true) → ((if a then b else false) || pairs u m ws) ≡ true → (a || names u ws) ≡ true
     step true b ih h = refl
     step false b ih h = ih h
+
+-- who stands in the queue waits for a mutex
+pub pair-from_named : (ws : List (ℕ × ℕ)) (u : ℕ) → names u ws ≡ true → (m : ℕ) × (pairs u m ws ≡ true)
+pair-from_named [] u h = absurd (true≢false (sym h))
+pair-from_named (w ∷ ws) u h = step (w.0 == u) refl h (pair-from_named ws u)
+  where
+    step : (b : Bool) → (w.0 == u) ≡ b → (b || names u ws) ≡ true
+        → (names u ws ≡ true → (m : ℕ) × (pairs u m ws ≡ true)) → (m : ℕ) × (pairs u m (w ∷ ws) ≡ true)
+    step true e h ih = (w.1, rw e (rw (eq-eqb w.1 w.1 refl) refl))
+    step false e h ih = let r = ih h in (r.0, rw e r.1)
 
 -- ONCE
 

@@ -1,2 +1,4 @@
+pub mod Driving
+pub mod Messages
 pub mod Statuses
 pub mod Words

@@ -1,6 +1,8 @@
 -- The statuses of the program.
 use Rattle.std.specs.Prelude.{ℕ, Result, Ok, Err}
 use Rattle.pif_scripts.specs.declared.faults.CliFault.{CliFault}
+use Rattle.pif_cli.specs.declared.statuses.JobFault.{JobFault}
+use Rattle.pif_cli.specs.declared.statuses.JobFault.TheVariants.{Cli, Threads, Unsettled}
 use Rattle.pif_scripts.specs.declared.faults.CliFault.TheVariants.{Read, Write, NoMemory, Script, Differs}
 
 -- the status of a fault: 2 for one of the script or trace, 3 where a read or a write failed, 4 for want of memory, 5
@@ -12,7 +14,13 @@ fault_status Write = 3
 fault_status NoMemory = 4
 fault_status (Differs line) = 5
 
+-- the status where a job was not done: 6 where a thread could not be started, or the desk didn't settle
+abbrev pub job_fault_status : JobFault → ℕ
+job_fault_status (Cli fault) = fault_status fault
+job_fault_status Threads = 6
+job_fault_status Unsettled = 6
+
 -- the status of a job: 0 where it was done
-abbrev pub job_status : Result (Unit {0}) CliFault → ℕ
+abbrev pub job_status : Result (Unit {0}) JobFault → ℕ
 job_status (Ok x) = 0
-job_status (Err e) = fault_status e
+job_status (Err e) = job_fault_status e

@@ -1,12 +1,20 @@
 //! The command line of the program `pif`: its words, the texts of help and refusals, and the status with which it ends.
-//! Scripts and traces themselves are `pif_scripts`', whose calls are handed on.
+//! Scripts and traces themselves are `pif_scripts`', whose calls are handed on; `drive` lets clients make calls in real
+//! threads at a desk.
 #![tactic(auto)]
 
+mod causes;
+mod drive;
+mod helps;
+mod messages;
 mod process;
 mod statuses;
 mod words;
 
-pub use pif_scripts::{Cause, CliFault, replay, run, write_trace, written_trace_is_the_same};
+pub use pif_scripts::{
+    Cause, CliFault, replay, run, script_trace_is_the_same, trace, write_trace,
+    written_trace_is_the_same,
+};
 pub use process::command_of_process;
 pub use statuses::Status;
 pub use words::{command, words_of_the_program};

@@ -2,31 +2,43 @@ ghost use Rattle.std.specs.Prelude.{◌≡◌, ℕ, List, Result};
 ghost use Rattle.std.specs.declared.io.ErrorKind.{ErrorKind as IoErrorKind};
 ghost use Rattle.pif_cli.specs.Words.{EndsOver, HadNoWords};
 
+use crate::messages::Message;
 use crate::statuses::Status;
-use crate::words::{command, show};
+use crate::words::{command, fail, show};
+use pif_scripts::CliFault;
 use std::io::{ErrorKind, Read, Write};
 use std::rt::Env;
+use std::sync::Wait;
+use std::thread::Threads;
 use std::{env, io};
 
 /// What is said where a word is no text.
 const NO_TEXT: &str = "error: a word is not UTF-8\n";
 
 /// The program over the words of a process, its name first, as `command` is over words at hand: `main` hands over the
-/// process and its streams, and ends with what it is answered.
+/// process and its streams, and ends with what it is answered. The process starts the threads.
 ///
-/// Where the words cannot be had, nothing is read. The status is then 1 where one of them is not UTF-8, which `errors` is
-/// told; 4 for want of memory; and 3 where they cannot be read, or where `errors` cannot be written.
-pub fn command_of_process<P: Env + AllocGlobal, R: Read, W: Write, E: Write>(
-    process: &P,
-    input: &mut R,
-    output: &mut W,
-    errors: &mut E,
-) -> Status
+/// Where the words cannot be had, nothing is read. The status is then 1 where one of them is not UTF-8, which `errors`
+/// is told; 4 for want of memory; and 3 where they cannot be read, or where `errors` cannot be told of such a word. At
+/// 4, and where the words cannot be read, `errors` is told so in one line, as by `command`.
+pub fn command_of_process<
+    P: Env + AllocGlobal + Threads + Wait + Sync,
+    R: Read,
+    W: Write,
+    E: Write,
+>(process: &P, input: &mut R, output: &mut W, errors: &mut E) -> Status
     ensures { (words : Result (List (List ℕ)) IoErrorKind) × EndsOver words (R.remaining input.old) (R.remaining input.new)
         (W.contents output.old) (W.contents output.new) (E.contents errors.old) (E.contents errors.new) result }
 {
     match words_of(process) {
-        Ok(words) => Status::new(command(process.alloc(), words.as_slice(), input, output, errors)),
+        Ok(words) => Status::new(command(
+            process.alloc(),
+            process,
+            words.as_slice(),
+            input,
+            output,
+            errors,
+        )),
         Err(error) => Status::new(refuse(error.kind(), errors)),
     }
 }
@@ -36,15 +48,18 @@ fn words_of<P: Env + AllocGlobal>(process: &P) -> io::Result<Vec<String>> {
     Ok(env::args(process)?.collect(process.alloc())?)
 }
 
-/// The status where the words cannot be had. Says so where one of them is no text.
+/// The status where the words cannot be had, of which `errors` is told.
 fn refuse<E: Write>(kind: ErrorKind, errors: &mut E) -> u8
     ensures { HadNoWords kind (E.contents errors.old) (E.contents errors.new) result }
 {
     if kind == ErrorKind::OutOfMemory {
-        4
+        fail(CliFault::NoMemory, errors)
     } else if kind == ErrorKind::InvalidData {
         show(NO_TEXT, 1, errors)
     } else {
+        let mut message = Message::new();
+        message.say("the words cannot be read");
+        message.tell(errors);
         3
     }
 }

@@ -1,14 +1,35 @@
 ghost use Rattle.std.specs.Prelude.{◌≡◌, ℕ};
 ghost use Rattle.std.specs.Process.{exit_status};
-ghost use Rattle.pif_cli.specs.Statuses.{fault_status, job_status};
+ghost use Rattle.pif_cli.specs.Statuses.{fault_status, job_fault_status};
 
 use pif_scripts::CliFault;
 use std::marker::Model;
 use std::process::{ExitCode, Termination};
 
+/// Why a job was not done.
+#[derive(Clone, Copy, Debug, PartialEq, Eq)]
+pub enum JobFault {
+    /// A fault of the script or trace, a read or a write that failed, or want of memory.
+    Cli(CliFault),
+    /// A thread could not be started.
+    Threads,
+    /// The desk didn't settle with its clients.
+    Unsettled,
+}
+
+/// The status of the program after this fault of a job: 6 where a thread could not be started, or the desk didn't settle.
+pub fn job_fault_status(fault: JobFault) -> u8
+    ensures { result ≡ job_fault_status fault }
+{
+    match fault {
+        JobFault::Cli(fault) => fault_status(fault),
+        JobFault::Threads | JobFault::Unsettled => 6,
+    }
+}
+
 /// The status of the program after this fault: 2 for a fault of the script or trace, 3 for a read or a write that
 /// failed, 4 for want of memory, and 5 for a difference.
-fn fault_status(fault: CliFault) -> u8
+pub fn fault_status(fault: CliFault) -> u8
     ensures { result ≡ fault_status fault }
 {
     match fault {
@@ -16,16 +37,6 @@ fn fault_status(fault: CliFault) -> u8
         CliFault::Read | CliFault::Write => 3,
         CliFault::NoMemory => 4,
         CliFault::Differs(_) => 5,
-    }
-}
-
-/// The status of the program after a job that ended so: 0 where it was done, or else that of its fault.
-pub fn job_status(ended: Result<(), CliFault>) -> u8
-    ensures { result ≡ job_status ended }
-{
-    match ended {
-        Ok(()) => 0,
-        Err(fault) => fault_status(fault),
     }
 }
 

@@ -1,3 +1,6 @@
+mod desks;
+mod drives;
+mod messages;
 mod texts;
 mod words_of_processes;
 
@@ -7,6 +10,8 @@ use std::alloc::Global;
 use std::io;
 use std::io::{ErrorKind, Read};
 use std::process::Abort;
+use std::sync::Wait;
+use std::thread::Threads;
 
 /// Keeps what is written, and allocates nothing; past its room it takes no byte.
 type Kept = ArrayVec<u8, 4096>;
@@ -23,21 +28,37 @@ const LOCKED: &str =
     "pif-trace 1\nthread 10 = t1\nmutex normal = m1\nbegin t1 lock m1 = begun\ngo t1 = went\n\
     go t1 = answer 0\n";
 
-/// Does what the second word asks for over the input `text`, and checks the status and what is written.
-fn check(rt: &impl Abort, alloc: Global, job: &str, text: &str, status: u8, answers: &str) {
+const TRACED: &str =
+    "pif-trace 1\nlimits 1024 1024 256 4294967295 = ok\nthread 10 = t1\ngo t2 = refused nosuch\n";
+
+/// Does what the second word asks for over the input `text`, and checks the status and what is written; the errors are
+/// told of each status but 0.
+fn check(
+    rt: &(impl Abort + Threads + Wait + Sync),
+    alloc: Global,
+    job: &str,
+    text: &str,
+    status: u8,
+    answers: &str,
+) {
     let mut output = Kept::new();
     let mut errors = Kept::new();
     let words = ["pif", job];
     let mut input = text.as_bytes();
     let ended = command(
         alloc,
+        rt,
         words.as_slice(),
         &mut input,
         &mut output,
         &mut errors,
     );
     assert!(rt; output.as_slice() == answers.as_bytes(), "{text:?}");
-    assert_eq!(rt; (ended, errors.len()), (status, 0), "{text:?}");
+    assert_eq!(rt;
+        (ended, errors.is_empty()),
+        (status, status == 0),
+        "{text:?}"
+    );
 }
 
 #[test]
@@ -55,6 +76,9 @@ fn each_job_ends_with_its_status(rt: HostRuntime) {
             5,
             "differs 2 t1\n",
         ),
+        ("trace", "", 0, ""),
+        ("trace", "thread 10\npick\ngo t2\nthread 2", 2, TRACED),
+        ("trace", LOCKED, 2, ""),
     ];
     for (job, text, status, answers) in jobs {
         check(&rt, rt.alloc(), job, text, status, answers);
@@ -74,36 +98,35 @@ impl Read for Broken {
 
 #[test]
 fn a_failed_read_or_write_has_status_3(rt: HostRuntime) {
-    for job in ["run", "replay"] {
+    for job in ["run", "replay", "trace"] {
         let words = ["pif", job];
         let mut output = Kept::new();
         let mut errors = Kept::new();
         let ended = command(
             rt.alloc(),
+            &rt,
             words.as_slice(),
             &mut Broken,
             &mut output,
             &mut errors,
         );
-        assert_eq!(rt; (ended, output.len(), errors.len()), (3, 0, 0));
+        assert_eq!(rt; (ended, output.len()), (3, 0));
     }
     let mut output = ArrayVec::<u8, 4>::new();
     let mut errors = Kept::new();
     let words = ["pif", "run"];
     let ended = command(
         rt.alloc(),
+        &rt,
         words.as_slice(),
         &mut BOOSTED.as_bytes(),
         &mut output,
         &mut errors,
     );
-    assert_eq!(rt;
-        (ended, output.as_slice(), errors.len()),
-        (3, b"t1\nt".as_slice(), 0)
-    );
+    assert_eq!(rt; (ended, output.as_slice()), (3, b"t1\nt".as_slice()));
 }
 
-/// Each allocation of a run is refused in turn by `rt try --test --fail-alloc N`: then nothing is written.
+/// Each allocation of a run is refused in turn by `rt try --test --fail-alloc N`: then nothing is written but the message.
 #[test]
 fn want_of_memory_writes_nothing(rt: HostRuntime) {
     let mut output = Kept::new();
@@ -111,12 +134,16 @@ fn want_of_memory_writes_nothing(rt: HostRuntime) {
     let words = ["pif", "run"];
     let ended = command(
         rt.alloc(),
+        &rt,
         words.as_slice(),
         &mut BOOSTED.as_bytes(),
         &mut output,
         &mut errors,
     );
-    let answers = if ended == 4 { "" } else { BOOSTED_ANSWERS };
+    let (answers, message) = match ended {
+        4 => ("", "pif: out of memory\n"),
+        _ => (BOOSTED_ANSWERS, ""),
+    };
     assert!(rt; output.as_slice() == answers.as_bytes());
-    assert!(rt; errors.is_empty() && (ended == 4 || ended == 0));
+    assert!(rt; errors.as_slice() == message.as_bytes() && (ended == 4 || ended == 0));
 }

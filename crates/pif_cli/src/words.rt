@@ -1,27 +1,27 @@
-ghost use Rattle.std.specs.Prelude.{◌≡◌, ◌⊎◌, ℕ, List, [], ◌∷◌, Some, IfOk, codes, map};
+ghost use Rattle.std.specs.Prelude.{◌≡◌, ◌⊎◌, ℕ, List, [], ◌∷◌, IfOk, codes, map, false, option_map};
 ghost use Rattle.std.specs.Io.KnownBytes.{Keeps};
-ghost use Rattle.clap.specs.Words.{app_of, FailsBy, kind_of};
-ghost use Rattle.clap.specs.declared.error.kind.ErrorKind.TheVariants.{DisplayHelp, MissingSubcommand};
-ghost use Rattle.pif_cli.specs.Words.{program, refusals_of, job_of, job_named, Does, EndsBy, HadNoMemory, RefusedFor, Shows, bare_program, with_job};
+ghost use Rattle.clap.specs.Words.{app_of, FailsBy, kind_of, rule_of};
+ghost use Rattle.clap.specs.declared.builder.command.Command.TheViews.{out-Command};
+ghost use Rattle.clap.specs.declared.error.kind.ErrorKind.TheVariants.{DisplayHelp, DisplayVersion, MissingRequiredArgument, MissingSubcommand, ValueValidation};
+ghost use Rattle.pif_cli.specs.Messages.{TellsAt, TellsLine};
+ghost use Rattle.pif_cli.specs.Statuses.{fault_status};
+ghost use Rattle.pif_cli.specs.Words.{program, refusals_of, job_of, job_named, clients_in, clients_rule, drive_app, Did, Does, as_job, EndsBy, HadNoMemory, RefusedFor, Shows, ShowsHelp, bare_program, with_job};
 
-use crate::statuses::job_status;
+use crate::causes::{message_of, plain_message};
+use crate::drive::drive;
+use crate::helps::{
+    ABOUT, ABOUT_CLIENTS, ABOUT_DRIVE, ABOUT_REPLAY, ABOUT_RUN, ABOUT_TRACE, EXAMPLE, MORE_DRIVE,
+    MORE_REPLAY, MORE_RUN, MORE_TRACE, USAGE_DRIVE, USAGE_REPLAY, USAGE_RUN, USAGE_TRACE, VERSION,
+};
+use crate::statuses::{JobFault, fault_status, job_fault_status};
+use clap::builder::ValueParser;
 use clap::error::ErrorKind;
-use pif_scripts::{CliFault, replay, run, write_whole};
+use pif_scripts::{CliFault, Notice, replay_noting, run_noting, trace_noting, write_whole};
 use std::alloc::{AllocError, Global};
 use std::convert::AsStr;
 use std::io::{Read, Write};
-
-const ABOUT: &str =
-    "Runs scripts and replays traces on a model of pthread mutexes with priority inheritance";
-
-const ABOUT_RUN: &str =
-    "Reads a script from the standard input, and writes an answer for each of its lines";
-
-const ABOUT_REPLAY: &str =
-    "Reads a trace from the standard input, and says whether each of its answers is given again";
-
-const EXAMPLE: &str =
-    "Example:\n  printf 'thread 10\\nmutex normal\\ncall t1 lock m1\\nword m1\\n' | pif run";
+use std::sync::Wait;
+use std::thread::Threads;
 
 /// What the words ask the program to do.
 #[derive(Clone, Copy, Debug, PartialEq, Eq)]
@@ -30,6 +30,10 @@ pub enum Job {
     Run,
     /// `replay`: replay a trace.
     Replay,
+    /// `trace`: write the trace of a script.
+    Trace,
+    /// `drive`: let so many clients make calls in threads of their own.
+    Drive(u32),
 }
 
 /// The program without its commands.
@@ -37,30 +41,70 @@ fn bare_program<'a>(alloc: Global) -> clap::Command<'a>
     ensures { app_of result ≡ bare_program }
 {
     clap::Command::new(alloc, "pif")
+        .version(VERSION)
         .about(ABOUT)
         .after_help(EXAMPLE)
         .disable_help_subcommand(true)
         .subcommand_required(true)
 }
 
-/// The program with one more command, which has this name.
+/// The program with one more command, which has this name and these texts.
 fn with_job<'a>(
     alloc: Global,
     pif: clap::Command<'a>,
     name: &'a str,
     about: &'a str,
+    usage: &'a str,
+    more: &'a str,
 ) -> Result<clap::Command<'a>, AllocError>
     ensures { IfOk result (λ c. app_of c ≡ with_job (app_of pif.entry) name.now) }
 {
-    pif.subcommand(clap::Command::new(alloc, name).about(about))
+    let job = clap::Command::new(alloc, name)
+        .about(about)
+        .override_usage(usage)
+        .after_help(more);
+    pif.subcommand(job)
 }
 
 /// The program's commands.
 fn program<'a>(alloc: Global) -> Result<clap::Command<'a>, AllocError>
     ensures { IfOk result (λ c. app_of c ≡ program) }
 {
-    let pif = with_job(alloc, bare_program(alloc), "run", ABOUT_RUN)?;
-    with_job(alloc, pif, "replay", ABOUT_REPLAY)
+    let pif = bare_program(alloc);
+    let pif = with_job(alloc, pif, "run", ABOUT_RUN, USAGE_RUN, MORE_RUN)?;
+    let pif = with_job(
+        alloc,
+        pif,
+        "replay",
+        ABOUT_REPLAY,
+        USAGE_REPLAY,
+        MORE_REPLAY,
+    )?;
+    let pif = with_job(alloc, pif, "trace", ABOUT_TRACE, USAGE_TRACE, MORE_TRACE)?;
+    pif.subcommand(drive_command(alloc)?)
+}
+
+/// How many clients `drive` has.
+fn clients_given<'a>(alloc: Global) -> clap::Arg<'a>
+    ensures rule { rule_of result ≡ clients_rule }
+    ensures local { result.global ≡ false }
+{
+    clap::Arg::new(alloc, "N")
+        .required(true)
+        .value_parser(ValueParser::unsigned(1, 64))
+        .help(ABOUT_CLIENTS)
+}
+
+/// The command `drive`.
+fn drive_command<'a>(alloc: Global) -> Result<clap::Command<'a>, AllocError>
+    ensures app { IfOk result (λ c. app_of c ≡ drive_app) }
+    ensures local { IfOk result (λ c. (out-Command c).has_globals ≡ false) }
+{
+    clap::Command::new(alloc, "drive")
+        .about(ABOUT_DRIVE)
+        .override_usage(USAGE_DRIVE)
+        .after_help(MORE_DRIVE)
+        .arg(clients_given(alloc))
 }
 
 /// The job that the words ask for, the program's name first.
@@ -69,35 +113,119 @@ fn read_words<S: AsStr>(alloc: Global, words: &[S]) -> Result<Job, clap::Error>
     ensures job { IfOk result (λ job. job ≡ job_of (map S.text words.now)) }
 {
     let matches = program(alloc)?.try_get_matches_from(words)?;
-    match matches.subcommand_name() {
-        Some(name) => Ok(job_named(name)),
+    match matches.subcommand() {
+        Some((name, given)) => Ok(job_named(name, given.get_str("N"))),
         None => Ok(Job::Run),
     }
 }
 
-/// The job of a command's name.
-fn job_named(name: &str) -> Job
-    ensures { result ≡ job_named (Some name.now) }
+/// The job of a command's name, with what was given as its number.
+fn job_named(name: &str, given: Option<&str>) -> Job
+    ensures { result ≡ job_named name.now (option_map (λ s. s.now) given.entry) }
 {
     if name == "replay" {
         Job::Replay
+    } else if name == "trace" {
+        Job::Trace
+    } else if name == "drive" {
+        Job::Drive(clients_in(given))
     } else {
         Job::Run
     }
 }
 
-/// Does a job over these streams.
-fn do_job<R: Read, W: Write>(
+/// The number of clients that a text writes, from 1 to 64; 0 where it writes none.
+fn clients_in(given: Option<&str>) -> u32
+    ensures { result ≡ clients_in (option_map (λ s. s.now) given.entry) }
+{
+    match given {
+        Some(text) => clients_of(text),
+        None => 0,
+    }
+}
+
+/// The same of a text.
+fn clients_of(text: &str) -> u32
+    ensures { result ≡ clients_in (Some text.now) }
+{
+    match text.parse::<u32>() {
+        Ok(clients) => if clients >= 1 && clients <= 64 {
+            clients
+        } else {
+            0
+        },
+        Err(_) => 0,
+    }
+}
+
+/// The fault of a job over a script or a trace.
+fn as_job(done: Result<(), CliFault>) -> Result<(), JobFault>
+    ensures { result ≡ as_job done }
+{
+    match done {
+        Ok(()) => Ok(()),
+        Err(fault) => Err(JobFault::Cli(fault)),
+    }
+}
+
+/// Does a job over these streams, and has `notice` keep the line that ends it.
+fn do_job<T: Threads + Wait + Sync, R: Read, W: Write>(
     job: Job,
     alloc: Global,
+    rt: &T,
     input: &mut R,
     output: &mut W,
-) -> Result<(), CliFault>
+    notice: &mut Notice,
+) -> Result<(), JobFault>
     ensures { Does job (R.remaining input.old) (R.remaining input.new) (W.contents output.old) (W.contents output.new) result }
 {
     match job {
-        Job::Run => run(alloc, input, output),
-        Job::Replay => replay(alloc, input, output),
+        Job::Run => as_job(run_noting(alloc, input, output, notice)),
+        Job::Replay => as_job(replay_noting(alloc, input, output, notice)),
+        Job::Trace => as_job(trace_noting(alloc, input, output, notice)),
+        Job::Drive(clients) => drive(alloc, rt, clients, output),
+    }
+}
+
+/// Does a job over these streams, and tells `errors` of a fault. Answers the status, which is that of the job where
+/// `errors` fails, too.
+fn do_and_tell<T: Threads + Wait + Sync, R: Read, W: Write, E: Write>(
+    job: Job,
+    alloc: Global,
+    rt: &T,
+    input: &mut R,
+    output: &mut W,
+    errors: &mut E,
+) -> u8
+    ensures { Did job (R.remaining input.old) (R.remaining input.new) (W.contents output.old) (W.contents output.new)
+        (E.contents errors.old) (E.contents errors.new) result }
+{
+    let mut notice = Notice::new();
+    match do_job(job, alloc, rt, input, output, &mut notice) {
+        Ok(()) => 0,
+        Err(fault) => {
+            message_of(job, fault, &notice).tell(errors);
+            job_fault_status(fault)
+        }
+    }
+}
+
+/// Tells `errors` of a fault by its own text. Answers the status of the fault, also where `errors` fails.
+pub fn fail<E: Write>(fault: CliFault, errors: &mut E) -> u8
+    ensures status { result ≡ fault_status fault }
+    ensures told { TellsLine (E.contents errors.old) (E.contents errors.new) }
+{
+    plain_message(fault).tell(errors);
+    fault_status(fault)
+}
+
+/// Shows a text of help. Answers 0, or 3 where the output fails, of which `errors` is told.
+fn show_help<W: Write, E: Write>(text: &str, output: &mut W, errors: &mut E) -> u8
+    ensures { ShowsHelp (W.contents output.old) (W.contents output.new) (E.contents errors.old) (E.contents errors.new) text.now result }
+{
+    match write_whole(output, text.as_bytes()) {
+        Ok(()) => 0,
+        Err(_) => fail(CliFault::Write, errors),
     }
 }
 
@@ -124,45 +252,65 @@ fn refuse<W: Write, E: Write>(
 {
     let kind = error.kind();
     if let ErrorKind::OutOfMemory = kind {
-        return 4;
+        return fail(CliFault::NoMemory, errors);
     }
     match error.to_string(alloc) {
         Ok(text) => match kind {
-            ErrorKind::DisplayHelp => show(text.as_str(), 0, output),
+            ErrorKind::DisplayHelp | ErrorKind::DisplayVersion => {
+                show_help(text.as_str(), output, errors)
+            }
             _ => show(text.as_str(), 1, errors),
         },
-        Err(_) => 4,
+        Err(_) => fail(CliFault::NoMemory, errors),
     }
 }
 
 /// The program over its words, the program's name first. `pif run` reads a script from `input`, and writes what its
 /// lines are answered, and the line of a fault, to `output`. `pif replay` reads a trace from `input`, and writes to
-/// `output` what it comes to, as `replay` does.
+/// `output` what it comes to, as `replay` does. `pif trace` reads a script from `input`, and writes its trace to
+/// `output`, as `trace` does, without the line of a fault. `pif drive N` lets N clients, 1 to 64, make their calls in
+/// threads of their own, as `rt` starts them, reads nothing, and writes to `output` how many were answered, as `drive`
+/// does.
 ///
-/// The status is 0 where the script or trace was done, or help was asked for, whose text goes to `output`; 1 where the
-/// words are refused, and the reason goes to `errors`; 2 for a fault of the script or trace; 3 where a read or a write
-/// fails; 4 for want of memory; and 5 where a trace differs. Nothing is read where no job is asked for.
-pub fn command<S: AsStr, R: Read, W: Write, E: Write>(
+/// The status is 0 where the job was done, or help or the version was asked for, whose text goes to `output`; 1 where
+/// the words are refused, and the reason goes to `errors`; 2 for a fault of the script or trace; 3 where a read or a
+/// write fails; 4 for want of memory; 5 where a trace differs; and 6 where a thread can't be started, or the desk of the
+/// clients doesn't settle. Nothing is read where no job is asked for.
+///
+/// At status 0 nothing goes to `errors`, and at 2 to 6 one line of printable ASCII, which says what went wrong; where
+/// that line cannot be written, the status stays. At 3 it is a part of the reason why the words are refused, where that
+/// is what could not be written. No memory is taken for the line.
+pub fn command<T: Threads + Wait + Sync, S: AsStr, R: Read, W: Write, E: Write>(
     alloc: Global,
+    rt: &T,
     words: &[S],
     input: &mut R,
     output: &mut W,
     errors: &mut E,
 ) -> u8
-    ensures { EndsBy (refusals_of (map S.text words.now)) (job_of (map S.text words.now)) (R.remaining input.old) (R.remaining input.new)
+    ensures errors { TellsAt result (E.contents errors.old) (E.contents errors.new) }
+    ensures ends { EndsBy (refusals_of (map S.text words.now)) (job_of (map S.text words.now)) (R.remaining input.old) (R.remaining input.new)
         (W.contents output.old) (W.contents output.new) (E.contents errors.old) (E.contents errors.new) result }
 {
     match read_words(alloc, words) {
-        Ok(job) => job_status(do_job(job, alloc, input, output)),
+        Ok(job) => do_and_tell(job, alloc, rt, input, output, errors),
         Err(error) => refuse(alloc, error, output, errors),
     }
 }
 
-/// Which words ask for which job: `run` alone and `replay` alone do, and no word and `--help` don't.
+/// Which words ask for which job: `run` alone, `replay` alone, `trace` alone, and `drive` with a number from 1 to 64 do;
+/// no word, `--help` and `--version` don't.
 #[tactic(auto, unfolding(clap::proofs::OnLiterals::clap_on_literals))]
 pub fn words_of_the_program()
     ensures run { (name : List ℕ) → (refusals_of (name ∷ codes "run" ∷ []) ≡ []) × (job_of (name ∷ codes "run" ∷ []) ≡ Job.Run) }
     ensures replay { (name : List ℕ) → (refusals_of (name ∷ codes "replay" ∷ []) ≡ []) × (job_of (name ∷ codes "replay" ∷ []) ≡ Job.Replay) }
+    ensures trace { (name : List ℕ) → (refusals_of (name ∷ codes "trace" ∷ []) ≡ []) × (job_of (name ∷ codes "trace" ∷ []) ≡ Job.Trace) }
+    ensures least { (name : List ℕ) → (refusals_of (name ∷ codes "drive" ∷ codes "1" ∷ []) ≡ []) × (job_of (name ∷ codes "drive" ∷ codes "1" ∷ []) ≡ Job.Drive 1) }
+    ensures most { (name : List ℕ) → (refusals_of (name ∷ codes "drive" ∷ codes "64" ∷ []) ≡ []) × (job_of (name ∷ codes "drive" ∷ codes "64" ∷ []) ≡ Job.Drive 64) }
+    ensures too_few { (name : List ℕ) → refusals_of (name ∷ codes "drive" ∷ codes "0" ∷ []) ≡ ValueValidation ∷ [] }
+    ensures too_many { (name : List ℕ) → refusals_of (name ∷ codes "drive" ∷ codes "65" ∷ []) ≡ ValueValidation ∷ [] }
+    ensures no_number { (name : List ℕ) → refusals_of (name ∷ codes "drive" ∷ []) ≡ MissingRequiredArgument ∷ [] }
     ensures help { (name : List ℕ) → refusals_of (name ∷ codes "--help" ∷ []) ≡ DisplayHelp ∷ [] }
+    ensures version { (name : List ℕ) → refusals_of (name ∷ codes "--version" ∷ []) ≡ DisplayVersion ∷ [] }
     ensures none { (name : List ℕ) → refusals_of (name ∷ []) ≡ MissingSubcommand ∷ [] }
 {}

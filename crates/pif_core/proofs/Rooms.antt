@@ -1,8 +1,8 @@
--- Room for one more thread or mutex, and what is a priority.
+-- Room for one more thread, mutex or condition variable, and what is a priority.
 use Rattle.std.proofs.Common.{◌≡◌, ℕ, ◌≤◌, Bool, true, false, length, ap, nat_lt, if◌then◌else◌, arith}
 use Rattle.std.proofs.lemmas.Bool.Decides.{nat_tests}
 use Rattle.pif_model.specs.Graph.{is_priority}
-use Rattle.pif_model.specs.Table.{Table, has_thread_room, has_mutex_room}
+use Rattle.pif_model.specs.Table.{Table, has_thread_room, has_mutex_room, has_cond_room}
 use Rattle.pif_chains.proofs.Numbers.{from_within}
 
 -- numbers that fail a test of order stand the other way round
@@ -16,6 +16,10 @@ thread_room s le = ap (λ (b : Bool). if b then false else true) (not_lt s.limit
 -- room for one more mutex
 pub mutex_room : (s : Table) → length s.mutexes ≤ s.limits.mutexes → has_mutex_room s ≡ true
 mutex_room s le = ap (λ (b : Bool). if b then false else true) (not_lt s.limits.mutexes (length s.mutexes) le)
+
+-- room for one more condition variable
+pub cond_room : (s : Table) → length s.conds ≤ s.limits.conds → has_cond_room s ≡ true
+cond_room s le = ap (λ (b : Bool). if b then false else true) (not_lt s.limits.conds (length s.conds) le)
 
 -- 1 to 99 are priorities
 pub priority : (p : ℕ) → 1 ≤ p → p ≤ 99 → is_priority p ≡ true

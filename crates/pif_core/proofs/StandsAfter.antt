@@ -1,5 +1,5 @@
 -- What a core that stands shows, and that it stands after each call.
-use Rattle.std.proofs.Common.{◌≡◌, ◌≢◌, ℕ, ◌≤◌, ◌==◌, Bool, true, false, List, ◌∷◌, length, Option, Some, None, IfSome, unwrap_or, refl, sym, ap, ◌∙◌, subst, eqb-true, if◌then◌else◌}
+use Rattle.std.proofs.Common.{◌≡◌, ◌≢◌, ℕ, ◌≤◌, ◌==◌, Bool, true, false, List, ◌∷◌, length, Option, Some, None, IfSome, unwrap_or, refl, sym, ap, ap₂, ◌∙◌, subst, eqb-true, if◌then◌else◌}
 use Rattle.std.specs.Option.{is_some}
 use Rattle.std.proofs.lemmas.Bool.{eqb-false}
 use Rattle.pif_chains.proofs.KernelFacts.{living-added}
@@ -10,24 +10,25 @@ use Rattle.pif_types.specs.declared.requests.Health.TheVariants.{Fine, Inconsist
 use Rattle.pif_model.specs.declared.events.Event.{Event}
 use Rattle.pif_model.specs.declared.events.Seen.{Seen}
 use Rattle.pif_model.specs.declared.events.Entry.{Entry}
-use Rattle.pif_model.specs.declared.events.Entry.TheVariants.{Thread as AddThread, Mutex as AddMutex, Step as Happened}
-use Rattle.pif_model.specs.Posix.{World, IsLegal, is_thread, is_mutex, mutex_at, effective_of}
+use Rattle.pif_model.specs.declared.events.Entry.TheVariants.{Thread as AddThread, Mutex as AddMutex, Cond as AddCond, Step as Happened}
+use Rattle.pif_model.specs.Posix.{World, IsLegal, is_thread, is_mutex, is_variable, thread_at, mutex_at, rests, effective_of}
 use Rattle.pif_model.specs.Posix.Health.{Inconsistent as WasInconsistent}
 use Rattle.pif_model.specs.Posix.{is_living as lives}
 use Rattle.pif_model.specs.History.{AlwaysOneHolder}
-use Rattle.pif_model.specs.PiKernel.{is_living, effective_in, pick_in}
-use Rattle.pif_model.specs.Table.{Table, cell_at, has_mutex, thread_added, mutex_added}
-use Rattle.pif_model.specs.Calls.{effective_answer, word_answer, health_answer, pick_answer}
+use Rattle.pif_model.specs.PiKernel.{is_living, is_ready, effective_in, pick_in}
+use Rattle.pif_model.specs.Table.{Table, cell_at, line_at, status_at, has_mutex, has_cond, uses_of, thread_added, mutex_added, cond_added}
+use Rattle.pif_model.specs.Calls.{effective_answer, word_answer, health_answer, cond_word_answer, pick_answer, waiting_answer}
 use Rattle.pif_model.specs.Word.{word_of, bits_of, health_in, health_word}
-use Rattle.pif_model.specs.Lines.{event_outcome}
-use Rattle.pif_model.specs.Standing.{Stands, HasEffective, IsPick, IsPossible, IsPossibleHealth, ArePossible}
-use Rattle.pif_simulation.proofs.StandingLaws.{event_stands, thread_added_stands, mutex_added_stands}
+use Rattle.pif_model.specs.Lines.{is_open, event_outcome}
+use Rattle.pif_model.specs.Standing.{Stands, HasEffective, IsPick, IsPossible, IsPossibleHealth, IsPossibleUses, ArePossible}
+use Rattle.pif_simulation.proofs.StandingLaws.{event_stands, thread_added_stands, mutex_added_stands, cond_added_stands}
 use Rattle.pif_simulation.proofs.Holders.{one_holder}
-use Rattle.pif_simulation.proofs.Shown.{threads_shown, is_thread_seen, is_mutex_seen, living_seen}
+use Rattle.pif_simulation.proofs.Shown.{threads_shown, is_thread_seen, is_mutex_seen, is_variable_seen, living_seen, busy_seen}
+use Rattle.pif_simulation.proofs.Steps.{rests_ready, rests_not_ready}
 use Rattle.pif_simulation.proofs.Effective.{effective_seen}
-use Rattle.pif_simulation.proofs.Picks.{pick_runs, word_is_possible, health_is_possible, died_behind_inconsistent}
+use Rattle.pif_simulation.proofs.Picks.{pick_runs, word_is_possible, health_is_possible, died_behind_inconsistent, uses_are_possible}
 use Rattle.pif_simulation.proofs.Priority.{effective_is_greatest}
-use Rattle.pif_core.proofs.Rooms.{thread_room, mutex_room, priority}
+use Rattle.pif_core.proofs.Rooms.{thread_room, mutex_room, cond_room, priority}
 
 -- AFTER A CALL
 
@@ -59,6 +60,13 @@ pub mutex_stands : (s v : Table) (m : ℕ) (k : Kind) (robust : Bool) → v ≡ 
     → Stands s h r w → (u : World) × Stands v (AddMutex m k robust ∷ h) (w ∷ r) u
 mutex_stands s v m k robust after is le h r w st =
     rw (after, is) (mutex_added_stands s k robust h r w st (mutex_room s le))
+
+-- after an addition of a condition variable
+pub cond_stands : (s v : Table) (c m : ℕ) → v ≡ cond_added m s → c ≡ length s.conds → has_mutex s m ≡ true
+    → length s.conds ≤ s.limits.conds → (h : List Entry) (r : List World) (w : World)
+    → Stands s h r w → (u : World) × Stands v (AddCond c m ∷ h) (w ∷ r) u
+cond_stands s v c m after is named le h r w st =
+    rw (after, is) (cond_added_stands s m h r w st named (cond_room s le))
 
 module _ (s : Table) (h : List Entry) (r : List World) (w : World) (st : Stands s h r w) where
   -- WHAT A READER SHOWS
@@ -96,6 +104,10 @@ module _ (s : Table) (h : List Entry) (r : List World) (w : World) (st : Stands 
   word_stands : (m : ℕ) → has_mutex s m ≡ true → IsPossible w m (cell_at s m).word
   word_stands m known =
       subst (λ u. IsPossible u m (cell_at s m).word) (sym st.shows) (word_is_possible st.sound st.shadow m known)
+
+  -- a condition word is how often its variable was used
+  uses_stand : (c : ℕ) → IsPossibleUses w c (uses_of s c)
+  uses_stand c = subst (λ u. IsPossibleUses u c (uses_of s c)) (sym st.shows) (uses_are_possible st.sound st.shadow c)
 
 -- WHAT AN OPTION HOLDS
 
@@ -161,6 +173,23 @@ word_answered s m o h r w st e =
     by_test true known same = subst (IsPossible w m) (sym same) (word_stands s h r w st m known)
     by_test false known same = tt
 
+-- the reader of condition words answers for the variables that were added
+pub cond_word_is_some : (s : Table) (c : ℕ) (o : Option ℕ) (h : List Entry) (r : List World) (w : World)
+    → Stands s h r w → o ≡ cond_word_answer c s → is_some o ≡ is_variable w c
+cond_word_is_some s c o h r w st e =
+    ap is_some e ∙ there_by (has_cond s c) (uses_of s c)
+    ∙ sym (ap (λ (u : World). is_variable u c) st.shows ∙ is_variable_seen st.sound.all.shape st.shadow c)
+
+-- the answer of the reader of condition words
+pub cond_word_answered : (s : Table) (c : ℕ) (o : Option ℕ) (h : List Entry) (r : List World) (w : World)
+    → Stands s h r w → o ≡ cond_word_answer c s → IfSome o (λ n. IsPossibleUses w c n)
+cond_word_answered s c o h r w st e =
+    subst (λ (x : Option ℕ). IfSome x (λ n. IsPossibleUses w c n)) (sym e) (by_known (has_cond s c))
+  where
+    by_known : (b : Bool) → IfSome (if b then Some (uses_of s c) else None) (λ n. IsPossibleUses w c n)
+    by_known true = uses_stand s h r w st c
+    by_known false = tt
+
 -- the reader of health words answers for the mutexes that were added
 pub health_is_some : (s : Table) (m : ℕ) (o : Option Health) (h : List Entry) (r : List World) (w : World)
     → Stands s h r w → o ≡ health_answer m s → is_some o ≡ is_mutex w m
@@ -218,3 +247,49 @@ both_answered s m o h r w st e =
     subst (λ (x : Option Health). IfSome x (λ y. ArePossible w m (cell_at s m).word (health_word y))) (sym e)
     (by_known (λ y. ArePossible w m (cell_at s m).word (health_word y)) (has_mutex s m)
     (health_in (cell_at s m).health) (both_said s m h r w st))
+
+-- WHO RESTS
+
+-- a living thread rests where it may not run
+rests_said : (s : Table) (t : ℕ) (h : List Entry) (r : List World) (w : World) → Stands s h r w
+    → is_living s.kernel t ≡ true → (if is_ready (status_at s t) then false else true) ≡ rests w t
+rests_said s t h r w st k =
+    by_test (λ b. (if b then false else true) ≡ rests w t) (is_ready (status_at s t))
+    (λ e. sym (ap (λ (u : World). rests u t) st.shows ∙ rests_ready st.sound st.shadow t k e))
+    (λ e. sym (ap (λ (u : World). rests u t) st.shows ∙ rests_not_ready st.sound st.shadow t k e))
+
+-- the reader of who rests
+pub waiting_answered : (s : Table) (t : ℕ) (o : Option Bool) (h : List Entry) (r : List World) (w : World)
+    → Stands s h r w → o ≡ waiting_answer t s → IfSome o (λ b. b ≡ rests w t)
+waiting_answered s t o h r w st e =
+    subst (λ (x : Option Bool). IfSome x (λ b. b ≡ rests w t)) (sym e)
+    (by_tests (is_living s.kernel t) (is_open (line_at s t)) (rests_said s t h r w st))
+  where
+    by_tests : (living called : Bool) → (living ≡ true → (if is_ready (status_at s t) then false else true) ≡ rests w t)
+        → IfSome (if living then (if called then Some (if is_ready
+        (status_at s t) then false else true) else None) else None)
+        (λ b. b ≡ rests w t)
+    by_tests true true f = f refl
+    by_tests true false f = tt
+    by_tests false called f = tt
+
+-- the reader of who rests answers for living threads with a call open
+pub waiting_is_some : (s : Table) (t : ℕ) (o : Option Bool) (h : List Entry) (r : List World) (w : World)
+    → Stands s h r w → o ≡ waiting_answer t s
+    → is_some o ≡ (if lives w t then is_some (thread_at w t).call else false)
+waiting_is_some s t o h r w st e =
+    ap is_some e ∙ there (is_living s.kernel t) (is_open (line_at s t)) (if is_ready
+    (status_at s t) then false else true)
+    ∙ sym (ap₂ (λ a b. if a then b else false) living busy)
+  where
+    there : (living called said : Bool) → is_some (if living then (if called then Some said else None) else None)
+        ≡ (if living then called else false)
+    there true true said = refl
+    there true false said = refl
+    there false called said = refl
+
+    living : lives w t ≡ is_living s.kernel t
+    living = ap (λ (u : World). lives u t) st.shows ∙ living_seen s st.shadow t st.sound.all.shape
+
+    busy : is_some (thread_at w t).call ≡ is_open (line_at s t)
+    busy = ap (λ (u : World). is_some (thread_at u t).call) st.shows ∙ busy_seen st.sound.all.shape st.shadow t

@@ -1,26 +1,30 @@
-ghost use Rattle.std.specs.Prelude.{ℕ, ◌≡◌, ◌+◌, length, true, false, List, [], ◌∷◌, None, IfOk, IfSome, is_some, unwrap_or};
+ghost use Rattle.std.specs.Prelude.{ℕ, ◌≡◌, ◌+◌, length, true, false, List, [], ◌∷◌, None, IfOk, IfSome, is_some, unwrap_or, if◌then◌else◌};
 ghost use Rattle.pif_model.specs.declared.events.Entry.{Entry};
 ghost use Rattle.pif_model.specs.Word.{word_of, health_word};
 ghost use Rattle.pif_model.specs.PiKernel.{is_living};
-ghost use Rattle.pif_model.specs.Posix.{World, IsLegal, is_mutex};
+ghost use Rattle.pif_model.specs.Posix.{World, IsLegal, is_mutex, is_variable, names_known, thread_at, rests};
 ghost use Rattle.pif_model.specs.Posix.{is_living as lives};
 ghost use Rattle.pif_model.specs.History.{AlwaysOneHolder};
-ghost use Rattle.pif_model.specs.Standing.{Stands, HasEffective, IsPick, IsPossible, IsPossibleHealth, ArePossible};
-ghost use Rattle.pif_model.specs.Table.{new_table, line_at, cell_at, has_thread, has_mutex};
-ghost use Rattle.pif_model.specs.Lines.{table_refusal, accepted_outcome, event_outcome, is_open, goes_on, ClosesOrWaits};
-ghost use Rattle.pif_model.specs.Calls.{add_thread_answer, add_thread_after, add_mutex_answer, add_mutex_after, effective_answer, word_answer, health_answer, pick_answer, threads_answer};
+ghost use Rattle.pif_model.specs.Standing.{Stands, HasEffective, IsPick, IsPossible, IsPossibleHealth, IsPossibleUses, ArePossible};
+ghost use Rattle.pif_model.specs.Table.{new_table, line_at, cell_at, has_thread, has_mutex, has_cond};
+ghost use Rattle.pif_model.specs.Lines.{table_refusal, accepted_outcome, event_outcome, go_outcome, is_open, goes_on, ClosesOrWaits};
+ghost use Rattle.pif_model.specs.Calls.{add_thread_answer, add_thread_after, add_mutex_answer, add_mutex_after, add_cond_answer, add_cond_after, effective_answer, word_answer, health_answer, cond_word_answer, pick_answer, threads_answer, waiting_answer};
+ghost use Rattle.pif_mutex.specs.Outcomes.{outcome_of};
 
 use pif_kernel::PlainKernel;
 use pif_model::{Entry, Event, Seen};
-use pif_mutex::{Parts, Progress, advance};
-use pif_types::{AddFault, Health, Kind, Limits, MutexId, NoMemory, Prio, Refusal, Request, Tid};
+use pif_mutex::{Parts, Progress};
+use pif_types::{
+    AddFault, CondId, Health, Kind, Limits, MutexId, NoMemory, Prio, Refusal, Request, Tid,
+};
 use std::alloc::Global;
 use std::marker::Model;
 
 /// The first ticket of a core's kernel.
 const FIRST_TICKET: u64 = 1;
 
-/// A core under limits: threads, mutexes, and what library and kernel know of them. Only `new` takes memory.
+/// A core under limits: threads, mutexes, condition variables, and what library and kernel know of them. Only `new`
+/// takes memory.
 #[derive(Drop)]
 pub struct Core {
     parts: Parts<PlainKernel>,
@@ -82,11 +86,31 @@ impl Core {
         }
     }
 
+    /// Adds a condition variable that was never used, and binds it to this mutex for good (pthread_cond_init of POSIX,
+    /// where a wait binds it): the next number from 1. A pthread_cond_wait that names it with another mutex is answered
+    /// EINVAL at its first step. `NoSuch` where the mutex was never added, else `TooMany` where the limit is reached;
+    /// nothing has changed then.
+    pub fn add_cond(&mut self, mutex: MutexId) -> Result<CondId, AddFault>
+        ensures answer { result ≡ add_cond_answer mutex self.old }
+        ensures after { self.new ≡ add_cond_after mutex result self.old }
+        ensures stands { IfOk result (λ c. (h : List Entry) (r : List World) (w : World) → Stands self.old h r w
+            → (v : World) × Stands self.new (Entry.Cond c mutex ∷ h) (w ∷ r) v) }
+    {
+        if !self.has_mutex(mutex) {
+            return Err(AddFault::NoSuch);
+        }
+        if self.parts.conds() < self.parts.limits().conds() {
+            Ok(self.parts.add_cond(mutex))
+        } else {
+            Err(AddFault::TooMany)
+        }
+    }
+
     /// One event: what it is answered. It is refused, and nothing changes, by the first of these that holds: `NoSuch`
     /// where the thread was never added, `Dead` where it has ended, `Busy` where a thread with a call open begins one,
-    /// `Idle` where a thread goes on that has none, and `NoSuch` where the mutex of a call was never added. A thread may
-    /// end at any point, with a call open or not. A call that is open closes or waits within 24 steps of its thread,
-    /// where no other event comes between.
+    /// `Idle` where a thread goes on that has none, and `NoSuch` where the mutex or the condition variable of a call
+    /// was never added. A thread may end at any point, with a call open or not. A call that is open closes or waits
+    /// within 24 steps of its thread, where no other event comes between.
     pub fn step(&mut self, event: Event) -> Seen
         ensures seen { result ≡ (event_outcome event self.old).seen }
         ensures after { self.new ≡ (event_outcome event self.old).after }
@@ -139,6 +163,18 @@ impl Core {
         self.parts.health(mutex)
     }
 
+    /// The condition word of a variable: how often it was used, by pthread_cond_signal and pthread_cond_broadcast
+    /// together, 0 up to the limit of signals. `None` where the variable was never added.
+    pub fn cond_word(&self, cond: CondId) -> Option<u32>
+        ensures value { result ≡ cond_word_answer cond self.now }
+        ensures added { (h : List Entry) (r : List World) (w : World) → Stands self.now h r w
+            → is_some result ≡ is_variable w cond }
+        ensures possible { (h : List Entry) (r : List World) (w : World) → Stands self.now h r w
+            → IfSome result (λ n. IsPossibleUses w cond n) }
+    {
+        self.parts.cond_word(cond)
+    }
+
     /// The thread that runs next: of the ready threads of greatest effective priority the first that joined them.
     /// `None` where no thread is ready.
     pub fn pick(&self) -> Option<Tid>
@@ -149,6 +185,26 @@ impl Core {
         self.parts.pick()
     }
 
+    /// Whether a thread rests: true where it is among the waiters of a mutex, is blocked on a condition variable or
+    /// waits for good, false where it may take a step. `None` where no living thread has that number, or where that
+    /// thread has no call open.
+    pub fn waiting(&self, thread: Tid) -> Option<bool>
+        ensures value { result ≡ waiting_answer thread self.now }
+        ensures open { (h : List Entry) (r : List World) (w : World) → Stands self.now h r w
+            → is_some result ≡ (if lives w thread then is_some (thread_at w thread).call else false) }
+        ensures rests { (h : List Entry) (r : List World) (w : World) → Stands self.now h r w
+            → IfSome result (λ b. b ≡ rests w thread) }
+    {
+        self.resting(thread)
+    }
+
+    /// The limits.
+    pub fn limits(&self) -> Limits
+        ensures value { result ≡ self.now.limits }
+    {
+        self.parts.limits()
+    }
+
     /// How many threads were ever added.
     pub fn threads(&self) -> u32
         ensures value { result ≡ threads_answer self.now }
@@ -156,6 +212,20 @@ impl Core {
             → result + 1 ≡ length w.threads }
     {
         self.parts.threads()
+    }
+
+    /// Whether a living thread with a call open rests.
+    fn resting(&self, thread: Tid) -> Option<bool>
+        ensures { result ≡ waiting_answer thread self.now }
+    {
+        if !self.parts.is_living(thread) {
+            return None;
+        }
+        if self.parts.is_open(thread) {
+            Some(!self.parts.is_ready(thread))
+        } else {
+            None
+        }
     }
 
     /// Whether this thread was added.
@@ -172,6 +242,28 @@ impl Core {
         mutex.get() <= self.parts.mutexes()
     }
 
+    /// Whether this condition variable was added.
+    fn has_cond(&self, cond: CondId) -> bool
+        ensures { result ≡ has_cond self.now cond }
+    {
+        cond.get() <= self.parts.conds()
+    }
+
+    /// Whether the mutex and the condition variable that a call names were added, as far as it names any.
+    fn knows_names(&self, request: Request) -> bool
+        ensures { result ≡ names_known (has_mutex self.now) (has_cond self.now) request }
+    {
+        match request {
+            Request::Lock(mutex)
+            | Request::TryLock(mutex)
+            | Request::Unlock(mutex)
+            | Request::Consistent(mutex) => self.has_mutex(mutex),
+            Request::Wait(cond, mutex) => self.has_cond(cond) && self.has_mutex(mutex),
+            Request::Signal(cond) | Request::Broadcast(cond) => self.has_cond(cond),
+            Request::SetPrio(_, _) => true,
+        }
+    }
+
     /// Why a thread is refused, if it is: it was never added, or has ended.
     fn thread_refusal(&self, thread: Tid) -> Option<Refusal>
         ensures { result ≡ table_refusal self.now (Event.End thread) }
@@ -186,8 +278,8 @@ impl Core {
         }
     }
 
-    /// Why a Begin is refused, if it is: the thread was never added, has ended, has a call open, or names a mutex that was
-    /// never added.
+    /// Why a Begin is refused, if it is: the thread was never added, has ended, has a call open, or names a mutex or a
+    /// condition variable that was never added.
     fn begin_refusal(&self, thread: Tid, request: Request) -> Option<Refusal>
         ensures { result ≡ table_refusal self.now (Event.Begin thread request) }
     {
@@ -197,16 +289,10 @@ impl Core {
         if self.parts.is_open(thread) {
             return Some(Refusal::Busy);
         }
-        match request {
-            Request::Lock(mutex)
-            | Request::TryLock(mutex)
-            | Request::Unlock(mutex)
-            | Request::Consistent(mutex) => if self.has_mutex(mutex) {
-                None
-            } else {
-                Some(Refusal::NoSuch)
-            },
-            Request::SetPrio(_, _) => None,
+        if self.knows_names(request) {
+            None
+        } else {
+            Some(Refusal::NoSuch)
         }
     }
 
@@ -278,10 +364,22 @@ impl Core {
         ensures seen { result ≡ (accepted_outcome (Event.Go thread) self.old).seen }
         ensures after { self.new ≡ (accepted_outcome (Event.Go thread) self.old).after }
     {
-        match advance(&mut self.parts, thread) {
+        match self.advance(thread) {
             Progress::Went => Seen::Went,
             Progress::Waits => Seen::Waits,
             Progress::Done(answer) => Seen::Answered(answer),
+        }
+    }
+
+    /// A thread takes one step of its open call, which is not refused: what it came to.
+    fn advance(&mut self, thread: Tid) -> Progress
+        requires { table_refusal self.old (Event.Go thread) ≡ None }
+        ensures { outcome_of result self.new ≡ go_outcome (line_at self.old thread) thread self.old }
+    {
+        match self.parts.open_call(thread) {
+            Some(Request::Wait(_, _) | Request::Signal(_) | Request::Broadcast(_)) =>
+                pif_cond::advance(&mut self.parts, thread),
+            _ => pif_mutex::advance(&mut self.parts, thread),
         }
     }
 

@@ -1,4 +1,5 @@
-//! A core: threads and mutexes under limits, the calls on them, and the kernel below. One event is one step.
+//! A core: threads, mutexes and condition variables under limits, the calls on them, and the kernel below. One event is
+//! one step.
 //!
 //! An event, and an addition, is refused by the first of these that holds, and nothing changes then:
 //!
@@ -7,7 +8,7 @@
 //! | `Begin` | `NoSuch` | the thread was never added |
 //! | | `Dead` | the thread has ended |
 //! | | `Busy` | the thread has a call open |
-//! | | `NoSuch` | the call names a mutex that was never added |
+//! | | `NoSuch` | the call names a mutex or a condition variable that was never added |
 //! | `Go` | `NoSuch` | the thread was never added |
 //! | | `Dead` | the thread has ended |
 //! | | `Idle` | the thread has no call open |
@@ -16,6 +17,8 @@
 //! | `add_thread` | `BadPrio` | the priority is outside 1 to 99 |
 //! | | `TooMany` | as many threads were added as the limits allow |
 //! | `add_mutex` | `TooMany` | as many mutexes were added as the limits allow |
+//! | `add_cond` | `NoSuch` | the mutex was never added |
+//! | | `TooMany` | as many condition variables were added as the limits allow |
 //!
 //! What is not refused is an entry of the core's history. The contracts say what a core shows after a history: that the
 //! history is one that POSIX allows, and what each reader answers then.

@@ -1,6 +1,6 @@
 use crate::Core;
 use pif_model::{Event, Seen};
-use pif_types::{AddFault, Health, Kind, Limits, MutexId, Prio, Refusal, Request, Tid};
+use pif_types::{AddFault, CondId, Health, Kind, Limits, MutexId, Prio, Refusal, Request, Tid};
 use std::alloc::Global;
 use std::process::Abort;
 use std::test::Fail;
@@ -9,9 +9,9 @@ use std::test::Fail;
 /// mutex 1 after it.
 type Row = (u32, Request, u32, Seen, u32);
 
-/// A core with mutex 1 of this kind, and threads of these priorities.
+/// A core with mutex 1 of this kind, threads of these priorities, and room for one condition variable.
 fn scene(alloc: Global, kind: Kind, levels: &[u32]) -> Result<Core, Fail> {
-    let limits = Limits::new(4, 2, 0, 1).ok_or("limits")?;
+    let limits = Limits::new(4, 2, 1, 1).ok_or("limits")?;
     let mut core = Core::new(alloc, limits)?;
     fill(&mut core, kind, levels)?;
     Ok(core)
@@ -70,6 +70,7 @@ fn boost(rt: &impl Abort, core: &mut Core) -> Result<(), Fail> {
         (core.effective(low), core.pick()),
         (Prio::new(50), Some(low))
     );
+    assert_eq!(rt; (core.waiting(low), core.waiting(high)), (None, Some(true)));
     play(rt, core, &handed)?;
     assert_eq!(rt; core.effective(low), Prio::new(10));
     assert_eq!(rt; core.step(Event::Go(high)), Seen::Answered(0));
@@ -116,4 +117,59 @@ fn end_once(rt: &impl Abort, core: &mut Core) -> Result<(), Fail> {
         (None, Some(Health::Fine), 1)
     );
     Ok(())
+}
+
+#[test]
+fn condition_variable_needs_its_mutex_and_room(rt: HostRuntime) -> Result<(), Fail> {
+    let mut core = scene(rt.alloc(), Kind::Normal, &[10])?;
+    bind(&rt, &mut core)
+}
+
+fn bind(rt: &impl Abort, core: &mut Core) -> Result<(), Fail> {
+    let mutex = MutexId::new(1).ok_or("a mutex")?;
+    let absent = MutexId::new(2).ok_or("a mutex")?;
+    let cond = CondId::new(1).ok_or("a variable")?;
+    assert_eq!(rt; core.cond_word(cond), None);
+    let rows = [
+        (absent, Err(AddFault::NoSuch)),
+        (mutex, Ok(cond)),
+        (absent, Err(AddFault::NoSuch)),
+        (mutex, Err(AddFault::TooMany)),
+    ];
+    for row in rows {
+        let (bound, answer) = row;
+        assert_eq!(rt; core.add_cond(bound), answer, "{bound:?}");
+    }
+    assert_eq!(rt; core.cond_word(cond), Some(0));
+    Ok(())
+}
+
+#[test]
+fn signal_hands_a_free_mutex_to_who_waits(rt: HostRuntime) -> Result<(), Fail> {
+    let mut core = scene(rt.alloc(), Kind::Normal, &[10, 20])?;
+    signal(&rt, &mut core)
+}
+
+fn signal(rt: &impl Abort, core: &mut Core) -> Result<(), Fail> {
+    let mutex = MutexId::new(1).ok_or("a mutex")?;
+    let waiter = Tid::new(1).ok_or("a thread")?;
+    let cond = core.add_cond(mutex)?;
+    let waits = [
+        (1, Request::Lock(mutex), 2, Seen::Answered(0), 1),
+        (1, Request::Wait(cond, mutex), 4, Seen::Waits, 0),
+    ];
+    let signals = [(2, Request::Signal(cond), 3, Seen::Answered(0), 1)];
+    let beyond = [(2, Request::Signal(cond), 1, Seen::Answered(75), 1)];
+    play(rt, core, &waits)?;
+    assert_eq!(rt;
+        (core.waiting(waiter), core.cond_word(cond)),
+        (Some(true), Some(0))
+    );
+    play(rt, core, &signals)?;
+    assert_eq!(rt;
+        (core.waiting(waiter), core.cond_word(cond)),
+        (Some(false), Some(1))
+    );
+    assert_eq!(rt; core.step(Event::Go(waiter)), Seen::Answered(0));
+    play(rt, core, &beyond)
 }

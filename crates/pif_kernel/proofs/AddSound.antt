@@ -74,7 +74,7 @@ module _ (p : Plain) (q : Queue) (tb : Table) (t prio : ℕ) (h : IsSound p) (is
   kernel_after =
       kernel_by_parts (kernel_of after) (kernel_after_add prio (kernel_of p)) refl
       (seats_of-push p.statuses p.owners.seats (Ready Fresh) row t is (omega (arith, within, is)))
-      refl (λ m. refl) refl
+      refl (λ m. refl) refl refl
       (length-joined p after (length (kernel_of p).seats) prio)
       (λ r. levels_joined p after t prio (some, few) levels r
       ∙ ap (λ (n : ℕ). level_at (levels_with n prio (kernel_of p).levels) r) (sym many))

@@ -79,7 +79,7 @@ pub words_stored : (s s' : WordMap) (m bits : ℕ) → s' ≡ with_bits (Mutex m
     → words_of s' ≡ set_word (words_of s) m (word_of bits)
 words_stored s s' m bits e =
     ap words_of e
-    ∙ ap (λ (l : List Word). record { mutexes = l; healths = s.healths }) (map_set s.mutexes m bits)
+    ∙ ap (λ (l : List Word). record { mutexes = l; healths = s.healths; conds = s.conds }) (map_set s.mutexes m bits)
 
 -- CYCLES
 

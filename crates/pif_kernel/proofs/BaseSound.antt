@@ -94,7 +94,7 @@ module _ (p : Plain) (t prio : ℕ) (h : IsSound p) (lives : is_living (kernel_o
   unfolding kernel_of
   kernel_mid =
       kernel_by_parts (kernel_of mid) _ refl (seats_of-set_base p.statuses p.owners.seats t prio fit.few) refl
-      (λ m. refl) refl refl (λ r. refl)
+      (λ m. refl) refl refl refl (λ r. refl)
 
   has_mid : (u : ℕ) → has_seat (kernel_of mid) u ≡ has_seat (kernel_of p) u
   has_mid u = same_seats p mid fit fit_mid refl u

@@ -640,7 +640,7 @@ module _ (p : Plain) (t m key u : ℕ) (d : IsHandable p t m key) (top : IsTop p
         ∙ seats_of-set_status p.statuses p.owners.seats u (Ready Owns) fit.few)
         (states_length mid ∙ o.long ∙ sym (states_length p)
         ∙ sym (length-set (kernel_of p).states m (if has_waiter rest m then u else 0))) (λ n. state_placed n
-        (cases_eq n m)) refl
+        (cases_eq n m)) refl refl
         (length-joined p mid u (effective_in (kernel_of p) u))
         (λ r. joins_level r ∙ ap (λ (n : ℕ). level_at (levels_with u n (kernel_of p).levels) r) rank_is)
 

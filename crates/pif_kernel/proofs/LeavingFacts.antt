@@ -9,15 +9,17 @@ use Rattle.pif_runq.specs.Levels.{Queue, Holds, IsLevel, level_of}
 use Rattle.pif_model.specs.declared.lines.Status.{Status}
 use Rattle.pif_model.specs.declared.lines.Status.TheVariants.{Queued}
 use Rattle.pif_model.specs.Graph.{has_waiter, without}
-use Rattle.pif_model.specs.PiKernel.{queued_on, is_ready, has_seat, is_among, waits_for}
+use Rattle.pif_model.specs.PiKernel.{queued_on, is_ready, is_parked, has_seat, is_among, waits_for}
 use Rattle.pif_model.specs.PiKernel.{seat_at as kernel_seat_at}
 use Rattle.pif_rtmutex.specs.Owners.{Owners, Seat, Wait, seat_at, owner_at, count, waits_on, no_seat, with_wait, without_state, HasNoWaiter}
 use Rattle.pif_rtmutex.proofs.MapLemmas.{get-remove_other}
 use Rattle.pif_chains.proofs.Among.{is_among as is_waiter}
 use Rattle.pif_chains.proofs.Waiting.{names, Once, without-unnamed, has_waiter-from_pair, has_waiter-without_other, waited-from_pair}
-use Rattle.pif_kernel.specs.Plain.{Plain, IsSound, kernel_of, status_at, key_at, state_at, ticket_of, mutexes_of}
+use Rattle.pif_kernel.specs.declared.parking.Parking.{Parking}
+use Rattle.pif_kernel.specs.Plain.{Plain, IsSound, kernel_of, status_at, key_at, state_at, ticket_of, mutexes_of, parked_but}
 use Rattle.pif_kernel.specs.Leaving.{IsLeft}
 use Rattle.pif_kernel.proofs.Seats.{status_seen, waits_seen, added_seen, waiters_seen}
+use Rattle.pif_kernel.proofs.ParkingFacts.{unparked_absent}
 use Rattle.pif_kernel.proofs.Picked.{among_has}
 use Rattle.pif_kernel.proofs.Standing.{fits, level_same}
 use Rattle.pif_kernel.proofs.QueueLaws.{rise_once}
@@ -56,12 +58,12 @@ unready_off p h t unready r l =
     both_false true = refl
     both_false false = refl
 
--- who waits for nothing leaves its level alone
+-- who waits for nothing leaves its level alone, or the variable on which it is parked
 module _ (p : Plain) (t : ℕ) (h : IsSound p) (known : has_seat (kernel_of p) t ≡ true)
     (idle : queued_on (status_at p t) ≡ 0) (q : Queue) (tb : Table)
     (levels : (r : ℕ) → IsLevel r → level_of q tb r ≡ list_without t (level_of p.queue p.table r))
     (place : q ≡ record p.queue { mask = q.mask }) (holds : Holds q tb)
-    (lists : length tb.lists ≡ length p.table.lists) where
+    (lists : length tb.lists ≡ length p.table.lists) (ps : List Parking) (but : ps ≡ parked_but p.parked t) where
   free_here : waits_on p.owners t ≡ None
   free_here = h.placed.waits t ∙ ap (key_at p) idle ∙ h.placed.no_mutex
 
@@ -80,9 +82,9 @@ module _ (p : Plain) (t : ℕ) (h : IsSound p) (known : has_seat (kernel_of p) t
       waits_seen p (fits p h) t ∙ ap (state_at p) idle
       ∙ ap (λ (k : Option ℕ). unwrap_or (option_and_then (owner_at p.owners) k) 0) h.placed.no_mutex
 
-  pub left_idle : IsLeft p (record p { queue = q; table = tb }) t t
+  pub left_idle : IsLeft p (record p { queue = q; table = tb; parked = ps }) t t
   left_idle = record {
-    frame = ap (λ (ws : List (ℕ × ℕ)). record p { queue = q; table = tb; arrivals = ws }) (sym same);
+    frame = λ i. record p { queue = q; table = tb; arrivals = sym same i; parked = but i };
     rows = refl;
     free = no_wait (seat_at p.owners t) free_here;
     others = λ u n. refl;
@@ -110,6 +112,10 @@ module _ (p : Plain) (t m : ℕ) (h : IsSound p) (queued : (kernel_seat_at (kern
 
   unready : is_ready (kernel_seat_at (kernel_of p) t).status ≡ false
   unready = ap is_ready queued
+
+  -- it is not parked
+  unparked : p.parked ≡ parked_but p.parked t
+  unparked = unparked_absent p h t (ap is_parked queued)
 
   among : is_waiter p.arrivals t m ≡ true
   among = subst (λ (ws : List (ℕ × ℕ)). is_waiter ws t m ≡ true) (waiters_seen p) (h.kernel.queued t m queued)
@@ -211,7 +217,7 @@ module _ (p : Plain) (t m : ℕ) (h : IsSound p) (queued : (kernel_seat_at (kern
       -- others wait for the mutex
       pub left_still : has_waiter rest m ≡ true → IsLeft p (record p { owners = freed; arrivals = rest }) t owner
       left_still some = record {
-        frame = refl;
+        frame = λ i. record p { owners = freed; arrivals = rest; parked = unparked i };
         rows = length-set p.owners.seats t row;
         free = row_here;
         others = row_other;
@@ -242,7 +248,7 @@ module _ (p : Plain) (t m : ℕ) (h : IsSound p) (queued : (kernel_seat_at (kern
           → count v + 1 ≡ count freed
           → IsLeft p (record p { keys = set p.keys m None; owners = v; arrivals = rest }) t owner
       left_ended v none is one = record {
-        frame = refl;
+        frame = λ i. record p { keys = set p.keys m None; owners = v; arrivals = rest; parked = unparked i };
         rows = ap (λ (o : Owners). length o.seats) is ∙ length-set p.owners.seats t row;
         free = ap (λ (o : Owners). seat_at o t) is ∙ row_here;
         others = λ u n. ap (λ (o : Owners). seat_at o u) is ∙ row_other u n;

@@ -19,9 +19,10 @@ use Rattle.pif_chains.proofs.KernelLevels.{level-left}
 use Rattle.pif_chains.proofs.KernelNumbers.{is_other, among-left_same, among-left_other}
 use Rattle.pif_chains.proofs.Waiting.{has_waiter-from_pair}
 use Rattle.pif_chains.proofs.Among.{is_among as is_waiter}
-use Rattle.pif_kernel.specs.Plain.{Plain, IsListed, IsPlaced, IsSound, kernel_of, status_at, key_at, state_at, ticket_of}
+use Rattle.pif_kernel.specs.Plain.{Plain, IsListed, IsPlaced, IsSound, kernel_of, status_at, key_at, state_at, ticket_of, parked_but}
 use Rattle.pif_kernel.specs.Leaving.{IsLeft}
 use Rattle.pif_kernel.proofs.Seats.{IsFitted, same_seats, status_seen, owners_waits, added_seen, waiters_seen, states_seen, states_length, kernel_by_parts, seats_of-set_status, seats_of-same_base}
+use Rattle.pif_kernel.proofs.Parked.{parked_but-seen}
 use Rattle.pif_kernel.proofs.Picked.{levels_left, length-left}
 use Rattle.pif_kernel.proofs.Standing.{fits}
 use Rattle.pif_kernel.proofs.ChainLaws.{repaired_but}
@@ -43,6 +44,7 @@ module _ (p x : Plain) (t start : ℕ) (h : IsSound p) (lives : is_living (kerne
         queue = x.queue;
         table = x.table;
         arrivals = rest;
+        parked = parked_but p.parked t;
       }
 
   fit : IsFitted p
@@ -124,7 +126,7 @@ module _ (p x : Plain) (t start : ℕ) (h : IsSound p) (lives : is_living (kerne
       (seats_of-same_base mid.statuses p.owners.seats mid.owners.seats l.rows base_same
       ∙ seats_of-set_status p.statuses p.owners.seats t Ended fit.few)
       (states_length mid ∙ l.places ∙ sym (states_length p) ∙ sym (length-set (kernel_of p).states _ _))
-      state_placed refl
+      state_placed refl (parked_but-seen p.parked t)
       (length-left p mid t) (levels_left p mid t l.levels)
 
   waits_left : (u : ℕ) → waits_for (kernel_of mid) u ≡ waits_for (kernel_after_leaving t (kernel_of p)) u

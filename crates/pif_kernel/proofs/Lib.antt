@@ -1,8 +1,15 @@
 pub mod Seats
+pub mod Parked
 pub mod Levels
 pub mod Picked
 pub mod Standing
-pub mod StopSound
+pub mod MovedSound
+pub mod RestSound
+pub mod WakeSound
+pub mod NextParked
+pub mod RequeueAnswers
+pub mod TakingSound
+pub mod ParkingFacts
 pub mod Answering
 pub mod NewSound
 pub mod AddSound

@@ -89,6 +89,7 @@ module _ (l : Bounds) (first : ℕ) (within : IsWithin l) (some : 1 ≤ first) w
   new_seen =
       kernel_by_parts (kernel_of new) (new_kernel l) refl (seats_first l.threads)
       (states_length new ∙ keys ∙ sym length-no_states) (λ m. states_seen new m ∙ none_at m ∙ sym (no_state m)) refl
+      refl
       (levels_count new ∙ sym (length-levels_by (λ p. [])))
       (λ r. levels_seen new r ∙ empty_level l.threads r ∙ sym (no_level r))
 

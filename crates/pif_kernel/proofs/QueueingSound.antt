@@ -398,7 +398,7 @@ module _ (p : Plain) (keys : List (Option ℕ)) (owners : Owners) (t m owner key
       (seats_of-same_base mid.statuses p.owners.seats mid.owners.seats long base_same
       ∙ seats_of-set_status p.statuses p.owners.seats t (Queued m) fit.few)
       (states_length mid ∙ o.long ∙ sym (states_length p) ∙ sym (length-set (kernel_of p).states m owner))
-      (λ n. state_placed n (cases_eq n m)) refl
+      (λ n. state_placed n (cases_eq n m)) refl refl
       (length-left p mid t) (levels_left p mid t levels)
 
   settled_mid : with_effective_levels (kernel_of mid) ≡ kernel_after_queueing t m owner (kernel_of p)

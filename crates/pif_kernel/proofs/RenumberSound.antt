@@ -128,7 +128,7 @@ module _ (p : Plain) (now : Owners) (i : ℕ) (h : IsSound p) (g : IsRenumbered 
         kernel_by_parts (kernel_of after) (kernel_of p) refl
         (seats_of-same_base p.statuses p.owners.seats now.seats g.seats base_now)
         (states_length after ∙ sym (states_length p))
-        (λ m. states_seen after m ∙ state_now m ∙ sym (states_seen p m)) refl refl (λ r. refl)
+        (λ m. states_seen after m ∙ state_now m ∙ sym (states_seen p m)) refl refl refl (λ r. refl)
 
     kept : IsKernel (kernel_of after)
     kept = subst IsKernel (sym kernel_after) h.kernel

@@ -3,7 +3,7 @@ use Rattle.std.proofs.Common.{◌≡◌, ◌≢◌, ◌⊎◌, ℕ, zero, suc, �
 use Rattle.std.proofs.lemmas.Bool.Decides.{nat_tests}
 use Rattle.std.proofs.lemmas.List.{ext_get_or, length-map}
 use Rattle.pif_model.specs.declared.lines.Status.{Status}
-use Rattle.pif_model.specs.declared.lines.Status.TheVariants.{Ready, Queued, Stopped, Ended}
+use Rattle.pif_model.specs.declared.lines.Status.TheVariants.{Ready, Queued, Parked, Stopped, Ended}
 use Rattle.pif_model.specs.declared.lines.Woken.TheVariants.{Fresh}
 use Rattle.pif_model.specs.PiKernel.{Kernel, queued_on, has_ended, has_seat, is_living, level_at, waits_for}
 use Rattle.pif_model.specs.PiKernel.{Seat as KernelSeat, seat_at as kernel_seat_at, no_seat as no_kernel_seat, state_at as kernel_state_at}
@@ -11,7 +11,7 @@ use Rattle.pif_chains.proofs.Numbers.{from_within, within}
 use Rattle.pif_chains.proofs.Places.{mapped_at}
 use Rattle.pif_rtmutex.specs.Owners.{Seat, seat_at, owner_at, no_seat, waits_on}
 use Rattle.pif_rtmutex.specs.Owners.{waits_for as owners_wait_for}
-use Rattle.pif_kernel.specs.Plain.{Plain, IsPlaced, kernel_of, owner_under, seat_of, seats_of, status_at, key_at, state_at}
+use Rattle.pif_kernel.specs.Plain.{Plain, IsPlaced, kernel_of, parkings_of, owner_under, seat_of, seats_of, status_at, key_at, state_at}
 
 pub length-seats_of : (xs : List Status) (rows : List Seat) → length xs ≤ length rows
     → length (seats_of xs rows) ≡ length xs
@@ -86,12 +86,14 @@ waits_below p h u = rw (waits_seen p h u, seats_length p h) (h.owners (queued_on
 -- two kernels of the same parts are one
 pub kernel_by_parts : (a b : Kernel) → a.limits ≡ b.limits → a.seats ≡ b.seats
     → length a.states ≡ length b.states → ((m : ℕ) → kernel_state_at a m ≡ kernel_state_at b m) → a.waiters ≡ b.waiters
-    → length a.levels ≡ length b.levels → ((r : ℕ) → level_at a.levels r ≡ level_at b.levels r) → a ≡ b
-kernel_by_parts a b l s many states w count levels = λ i. record {
+    → a.parked ≡ b.parked → length a.levels ≡ length b.levels
+    → ((r : ℕ) → level_at a.levels r ≡ level_at b.levels r) → a ≡ b
+kernel_by_parts a b l s many states w parked count levels = λ i. record {
   limits = l i;
   seats = s i;
   states = ext_get_or 0 a.states b.states many (λ m x. states m) i;
   waiters = w i;
+  parked = parked i;
   levels = ext_get_or [] a.levels b.levels count (λ r x. levels r) i;
 }
 
@@ -136,6 +138,10 @@ pub waiters_seen : (p : Plain) → (kernel_of p).waiters ≡ p.arrivals
 unfolding kernel_of
 waiters_seen p = refl
 
+pub parked_seen : (p : Plain) → (kernel_of p).parked ≡ parkings_of p.parked
+unfolding kernel_of
+parked_seen p = refl
+
 -- another base priority of a thread
 pub seats_of-set_base : (xs : List Status) (rows : List Seat) (t b : ℕ) → length xs ≤ length rows
     → seats_of xs (set rows t (record (get_or rows t no_seat) { base = b }))
@@ -165,9 +171,11 @@ living_by p h t some l x is b r =
     by_status Ended (inr e) = absurd (e.0 refl)
     by_status (Ready w) (inr e) = e.1
     by_status (Queued m) (inr e) = e.1
+    by_status (Parked c) (inr e) = e.1
     by_status Stopped (inr e) = e.1
     by_status (Ready w) (inl e) = let both : Ready w ≡ Ended = e.0 in absurd (cc)
     by_status (Queued m) (inl e) = let both : Queued m ≡ Ended = e.0 in absurd (cc)
+    by_status (Parked c) (inl e) = let both : Parked c ≡ Ended = e.0 in absurd (cc)
     by_status Stopped (inl e) = let both : Stopped ≡ Ended = e.0 in absurd (cc)
 
 -- and no other does

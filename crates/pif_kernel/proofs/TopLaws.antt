@@ -4,7 +4,7 @@ use Rattle.std.proofs.lemmas.Bool.Decides.{nat_tests}
 use Rattle.pif_nodes.specs.declared.keys.Key.{Key}
 use Rattle.pif_plist.specs.Order.{comes_before}
 use Rattle.pif_model.specs.declared.lines.Status.{Status}
-use Rattle.pif_model.specs.declared.lines.Status.TheVariants.{Ready, Queued, Stopped, Ended}
+use Rattle.pif_model.specs.declared.lines.Status.TheVariants.{Ready, Queued, Parked, Stopped, Ended}
 use Rattle.pif_model.specs.Graph.{next_waiter, IsNextWaiter}
 use Rattle.pif_model.specs.PiKernel.{queued_on, effective_in, next_in}
 use Rattle.pif_rtmutex.specs.Owners.{seat_at, waits_on, rank_of, IsTop}
@@ -62,6 +62,7 @@ waits_under p h u m key at waits =
     by_status : (x : Status) → status_at p u ≡ x → status_at p u ≡ Queued m
     by_status (Queued n) e = e ∙ ap Queued (sym (ap queued_on e) ∙ on)
     by_status (Ready w) e = absurd (nobody (sym on ∙ ap queued_on e))
+    by_status (Parked c) e = absurd (nobody (sym on ∙ ap queued_on e))
     by_status Stopped e = absurd (nobody (sym on ∙ ap queued_on e))
     by_status Ended e = absurd (nobody (sym on ∙ ap queued_on e))
 

@@ -3,7 +3,7 @@ use Rattle.std.proofs.Common.{◌≡◌, ◌≢◌, ◌⊎◌, ℕ, ◌+◌, ◌
 use Rattle.std.proofs.lemmas.Bool.{cases_eq, cases_lt, true≢false, false≢true}
 use Rattle.std.proofs.lemmas.Bool.Decides.{nat_tests}
 use Rattle.pif_model.specs.declared.lines.Status.{Status}
-use Rattle.pif_model.specs.declared.lines.Status.TheVariants.{Ready, Queued, Stopped, Ended}
+use Rattle.pif_model.specs.declared.lines.Status.TheVariants.{Ready, Queued, Parked, Stopped, Ended}
 use Rattle.pif_model.specs.Graph.{has_waiter}
 use Rattle.pif_model.specs.PiKernel.{queued_on, is_ready, has_seat}
 use Rattle.pif_model.specs.PiKernel.{seat_at as kernel_seat_at, state_at as kernel_state_at}
@@ -83,6 +83,7 @@ waits_named p h u k e = by_status (status_at p u) refl (sym (h.placed.waits u) �
     by_status : (x : Status) → status_at p u ≡ x → key_at p (queued_on (status_at p u)) ≡ Some k
         → names u p.arrivals ≡ true
     by_status (Ready w) s f = none (status_at p u) (ap queued_on s) f
+    by_status (Parked c) s f = none (status_at p u) (ap queued_on s) f
     by_status Stopped s f = none (status_at p u) (ap queued_on s) f
     by_status Ended s f = none (status_at p u) (ap queued_on s) f
     by_status (Queued n) s f =

@@ -148,7 +148,7 @@ module _ (p : Plain) (h : IsPlaced p) (now : Owners) (q : Queue) (tb : Table) (r
       kernel_by_parts (kernel_of after) (with_effective_levels (kernel_of p)) refl
       (seats_of-same_base p.statuses p.owners.seats now.seats repaired.threads base_now)
       (states_length after ∙ sym (states_length p))
-      (λ m. states_seen after m ∙ state_now m ∙ sym (states_seen p m)) refl
+      (λ m. states_seen after m ∙ state_now m ∙ sym (states_seen p m)) refl refl
       (levels_count after ∙ sym (length-levels_by _))
       (λ r. levels_seen after r
       ∙ levels_settled p.owners p.queue p.table (kernel_of p).levels (length (kernel_of p).seats - 1)

@@ -13,6 +13,7 @@ plain_of a = record {
   queue = a.queue;
   table = a.table;
   arrivals = a.arrivals.items;
+  parked = a.parked.items;
   next = a.next;
 }
 
@@ -20,3 +21,4 @@ plain_of a = record {
 pub record IsRoomy (a : Inside) : Type 0 where
   pub statuses : a.limits.threads + 1 ≤ vec_capacity a.statuses
   pub arrivals : a.limits.threads ≤ vec_capacity a.arrivals
+  pub parked : a.limits.threads ≤ vec_capacity a.parked

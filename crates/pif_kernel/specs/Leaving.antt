@@ -5,10 +5,10 @@ use Rattle.pif_runq.specs.Levels.{Holds, IsLevel, level_of}
 use Rattle.pif_model.specs.Graph.{has_waiter, without}
 use Rattle.pif_model.specs.PiKernel.{waits_for}
 use Rattle.pif_rtmutex.specs.Owners.{seat_at, owner_at, count}
-use Rattle.pif_kernel.specs.Plain.{Plain, kernel_of, key_at, mutexes_of}
+use Rattle.pif_kernel.specs.Plain.{Plain, kernel_of, key_at, mutexes_of, parked_but}
 
--- t has left: it waits for nothing and is on no level, and an owner state stays exactly where others are queued. Nobody
--- but `start` had it as a waiter
+-- t has left: it waits for nothing, is not parked, and is on no level, and an owner state stays exactly where others
+-- are queued. Nobody but `start` had it as a waiter
 pub record IsLeft (old now : Plain) (t start : ℕ) : Type 0 where
   pub frame : now ≡ record old {
     keys = now.keys;
@@ -16,6 +16,7 @@ pub record IsLeft (old now : Plain) (t start : ℕ) : Type 0 where
     queue = now.queue;
     table = now.table;
     arrivals = without old.arrivals t;
+    parked = parked_but old.parked t;
   }
   pub rows : length now.owners.seats ≡ length old.owners.seats
   pub free : seat_at now.owners t ≡ record (seat_at old.owners t) { wait = None }

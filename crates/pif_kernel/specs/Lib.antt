@@ -7,3 +7,4 @@ pub mod Leaving
 pub mod Found
 pub mod Tickets
 pub mod Systems
+pub mod Takings

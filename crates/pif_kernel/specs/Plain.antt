@@ -1,15 +1,17 @@
 -- What the kernel of this crate keeps, and the kernel by itself that it stands for.
-use Rattle.std.specs.Prelude.{◌≡◌, ◌≢◌, ℕ, ◌+◌, ◌<◌, ◌≤◌, true, if◌then◌else◌, List, [], ◌∷◌, length, map, replicate, get_or, set, Option, Some, None, IsSome, option_map, option_and_then, unwrap_or}
+use Rattle.std.specs.Prelude.{◌==◌, false, ◌≡◌, ◌≢◌, ℕ, ◌+◌, ◌<◌, ◌≤◌, true, if◌then◌else◌, List, [], ◌∷◌, length, map, replicate, get_or, set, Option, Some, None, IsSome, option_map, option_and_then, unwrap_or}
+use Rattle.std.specs.List.{filter}
 use Rattle.pif_types.specs.Bounds.{Bounds, IsWithin}
 use Rattle.pif_model.specs.declared.lines.Status.{Status}
 use Rattle.pif_model.specs.declared.lines.Status.TheVariants.{Ready}
 use Rattle.pif_model.specs.declared.lines.Woken.TheVariants.{Fresh}
 use Rattle.pif_model.specs.Graph.{has_waiter}
 use Rattle.pif_model.specs.PiKernel.{Kernel, IsKernel, queued_on, is_ready, has_seat, is_among, level_at, levels_by, effective_in}
-use Rattle.pif_model.specs.PiKernel.{Seat as KernelSeat}
+use Rattle.pif_model.specs.PiKernel.{Seat as KernelSeat, Parking as KernelParking}
 use Rattle.pif_nodes.specs.declared.keys.Key.{Key}
 use Rattle.pif_nodes.specs.Table.{Table, no_key}
 use Rattle.pif_runq.specs.Levels.{Queue, Holds, level_of}
+use Rattle.pif_kernel.specs.declared.parking.Parking.{Parking}
 use Rattle.pif_rtmutex.specs.Owners.{Owners, Seat, seat_at, owner_at, count, waits_on, rank_of, no_seat, no_owners, with_owner}
 
 -- what the kernel of this crate keeps
@@ -25,6 +27,8 @@ pub record Plain : Type 0 where
   pub table : Table
   -- pairs of a thread and the mutex on which it is queued, in order of their tickets
   pub arrivals : List (ℕ × ℕ)
+  -- the parked threads, in order of their tickets. Nothing but that order is asked of these, so they aren't stored
+  pub parked : List Parking
   -- the next ticket
   pub next : ℕ
 
@@ -54,6 +58,18 @@ seats_of [] rows = []
 seats_of (x ∷ xs) [] = []
 seats_of (x ∷ xs) (r ∷ rows) = seat_of x r ∷ seats_of xs rows
 
+-- a parked thread
+abbrev pub parking_of : Parking → KernelParking
+parking_of x = record { thread = x.thread; cond = x.cond; target = x.target }
+
+-- the parked threads
+abbrev pub parkings_of : List Parking → List KernelParking
+parkings_of ps = map parking_of ps
+
+-- the parked threads but t
+abbrev pub parked_but : List Parking → ℕ → List Parking
+parked_but ps t = filter (λ (x : Parking). if x.thread == t then false else true) ps
+
 -- the kernel by itself
 unfoldable pub kernel_of : Plain → Kernel
 kernel_of p = record {
@@ -61,6 +77,7 @@ kernel_of p = record {
   seats = seats_of p.statuses p.owners.seats;
   states = map (owner_under p.owners) p.keys;
   waiters = p.arrivals;
+  parked = parkings_of p.parked;
   levels = levels_by (level_of p.queue p.table);
 }
 
@@ -96,6 +113,7 @@ new_plain l first_ticket = record {
   queue = record { first_list = 0; first_node = 0; threads = l.threads; mask = 0 };
   table = record { lists = replicate 99 []; keys = replicate l.threads no_key };
   arrivals = [];
+  parked = [];
   next = first_ticket;
 }
 

@@ -10,9 +10,9 @@ use pif_word::{Cell, Words, inherit_word, number, orphan_word};
 
 impl Parts {
     /// A mutex passes on where its word has the number of this thread, which has ended. With no owner state the word
-    /// gets OWNER_DIED, keeps WAITERS, and loses the number. With one of the thread it is handed to its next waiter, and
-    /// the word gets that number and both flags. With one of another owner nothing changes. Without a word, and where
-    /// the word has another number, nothing changes either.
+    /// gets OWNER_DIED, keeps WAITERS, and loses the number. With one of the thread it is handed to its next waiter,
+    /// and the word gets that number and both flags. With one of another owner nothing changes. Without a word, and
+    /// where the word has another number, nothing changes either.
     pub(crate) fn pass_on(&mut self, words: &mut Words, t: Tid, m: MutexId)
         requires sound { IsSound self.old }
         requires ended { (seat_at (kernel_of self.old) t).status ≡ Ended }

@@ -11,7 +11,8 @@ use pif_types::{MutexId, Tid};
 
 impl Parts {
     /// A living thread ends: it leaves the mutex on which it is queued, whose owner state goes where nobody else waits,
-    /// and the run queue, and all for whom it waited get their new priorities. What it owns is not touched.
+    /// or the variable on which it is parked, and the run queue, and all for whom it waited get their new priorities.
+    /// What it owns is not touched.
     pub(crate) fn leave(&mut self, t: Tid)
         requires sound { IsSound self.old }
         requires living { is_living (kernel_of self.old) t ≡ true }
@@ -23,8 +24,8 @@ impl Parts {
         walk(&mut self.owners, &mut self.queue, &mut self.table, start);
     }
 
-    /// Takes a living thread off the mutex on which it is queued, or out of the run queue. Answers for whom it waited,
-    /// and itself where it waited for nobody.
+    /// Takes a living thread off the mutex on which it is queued or the variable on which it is parked, or out of the
+    /// run queue. Answers for whom it waited, and itself where it waited for nobody.
     fn take_off(&mut self, t: Tid) -> Tid
         requires sound { IsSound self.old }
         requires living { is_living (kernel_of self.old) t ≡ true }
@@ -34,6 +35,10 @@ impl Parts {
             Status::Queued(m) => self.dequeue(t, m),
             Status::Ready(_) => {
                 self.queue.take_out(&mut self.table, t);
+                t
+            }
+            Status::Parked(_) => {
+                self.unpark(t);
                 t
             }
             Status::Stopped | Status::Ended => t,

@@ -1,5 +1,6 @@
-//! The kernel by itself, over its own calls: threads with priorities, the owner states of mutexes with their waiters, and
-//! the run queue. It knows nothing of the library that makes the calls.
+//! The kernel by itself, over its own calls: threads with priorities, the owner states of mutexes with their waiters,
+//! the threads that are parked on condition variables, and the run queue. It knows nothing of the library that makes
+//! the calls.
 //!
 //! A call refuses by the first of its tests that fails, from left to right, and has then changed nothing. `n` is the
 //! number in the mutex word, `s` the owner that the mutex's owner state names; there is an owner state exactly while
@@ -12,6 +13,16 @@
 //! unlock_pi   no word   n not t                                                       s not t
 //! set_prio                                           p not 1 to 99      t lives not
 //! ```
+//!
+//! Those of condition variables, where `w` is the condition word:
+//!
+//! ```text
+//! call             EFAULT   EINVAL     EAGAIN            EINVAL          EINVAL
+//! wait_requeue_pi  no word             w not `expected`
+//! cmp_requeue_pi   no word  val not 1  w not `expected`  another target  n = 0, there is s; n lives, s not n
+//! ```
+//!
+//! The last one is tested only where a thread is parked on the variable.
 //!
 //! Where nothing refuses, a call touches:
 //!
@@ -30,23 +41,45 @@
 //! exit, u is next of m     u and both flags  s is u, or none  all but u       u is ready   u joins; then t
 //! ```
 //!
-//! exit refuses nothing. `t` itself leaves the mutex on which it is queued, if it is on one. Then it goes through the
-//! mutexes that its robust list and its pending field name, and touches each whose word has n = t, and where s, if
-//! there is one, is t too. A word without s loses its number, gets OWNER_DIED, and keeps WAITERS.
+//! And the calls of condition variables, of which cmp_requeue_pi touches this for each `u` that it takes:
 //!
-//! `PlainKernel` makes a call of its steps, which stand in six files over the same parts: `refusals` has the tests of
+//! ```text
+//! call                        the word       owner state  who is queued  who is parked  statuses     run queue
+//! wait_requeue_pi                                                        t, at the end  t is parked  t leaves
+//! u taken, n = 0              u, OWNER_DIED                              all but u      u is ready   u joins
+//! u taken, n lives, no cycle  and WAITERS    s is n       u, at the end  all but u      u is queued  n and its chain
+//! u taken, else                                                          all but u      u is ready   u joins
+//! ```
+//!
+//! cmp_requeue_pi takes at most 1 + `more` of the threads that are parked on the variable, one after another, and each
+//! whole before the next, by the word as it is then. Each time it takes that of greatest effective priority now, and of
+//! several the first that was parked. In the last row n lives not, is u, or waits for u through a chain: u is woken,
+//! and locks the mutex itself.
+//!
+//! A parked thread has no ticket of its own: all that a ticket says of it is its place among the parked, which stand in
+//! one list in that order, and once it is queued it gets a new one. So only tickets of waiters are ever numbered anew.
+//! Its effective priority is read where a thread is taken; set_prio and boosts change nothing in the list.
+//!
+//! exit refuses nothing. `t` itself leaves the mutex on which it is queued, or the variable on which it is parked. Then
+//! it goes through the mutexes that its robust list and its pending field name, and touches each whose word has n = t,
+//! and where s, if there is one, is t too. A word without s loses its number, gets OWNER_DIED, and keeps WAITERS.
+//!
+//! `PlainKernel` makes a call of its steps, which stand in eight files over the same parts: `refusals` has the tests of
 //! the calls, `threads` adds and stops a thread and gives it another priority, `queueing` queues a thread and hands a
-//! mutex over, `leaving` takes a thread that ends off what it waits for, `dying` passes its mutexes on, and `tickets`
+//! mutex over, `parking` parks a thread, wakes it, and finds the next, `requeueing` takes parked threads for their
+//! mutex, `leaving` takes a thread that ends off what it waits for, `dying` passes its mutexes on, and `tickets`
 //! numbers the waiters in their order. `parts` keeps what they touch.
 #![tactic(auto)]
 
 mod dying;
 mod kernel;
 mod leaving;
+mod parking;
 mod parts;
 mod plain;
 mod queueing;
 mod refusals;
+mod requeueing;
 mod threads;
 mod tickets;
 

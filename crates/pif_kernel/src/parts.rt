@@ -4,6 +4,7 @@ ghost use Rattle.pif_runq.specs.Levels.{Holds};
 ghost use Rattle.pif_model.specs.PiKernel.{seat_at, has_seat, is_living, effective_in, pick_in};
 ghost use Rattle.pif_kernel.specs.Plain.{IsSound, kernel_of, new_plain, key_at};
 
+use crate::parking::Parking;
 use pif_model::{Status, Woken};
 use pif_nodes::NodeTable;
 use pif_rtmutex::{Key, RtMutexes};
@@ -19,7 +20,7 @@ const LEVELS: u32 = 99;
 const KEYS: usize = 1025;
 
 /// What a kernel keeps: the status of each thread, the key of each mutex that has an owner state, the owner states, the
-/// run queue with its table, and who is queued where, in order of tickets.
+/// run queue with its table, and in order of tickets who is queued where and who is parked where.
 #[derive(Drop)]
 pub struct Parts {
     pub(crate) limits: Limits,
@@ -29,6 +30,7 @@ pub struct Parts {
     pub(crate) queue: RunQueue,
     pub(crate) table: NodeTable,
     pub(crate) arrivals: Vec<(Tid, MutexId)>,
+    pub(crate) parked: Vec<Parking>,
     pub(crate) next: u64,
 }
 
@@ -62,6 +64,7 @@ impl Parts {
         let owners = RtMutexes::new(alloc, threads)?;
         let table = NodeTable::new(alloc, threads, LEVELS)?;
         let arrivals = with_room(alloc, threads as usize)?;
+        let parked = with_room(alloc, threads as usize)?;
         Ok(Parts {
             limits,
             statuses,
@@ -70,6 +73,7 @@ impl Parts {
             queue: RunQueue::new(0, 0, threads),
             table,
             arrivals,
+            parked,
             next: first_ticket,
         })
     }

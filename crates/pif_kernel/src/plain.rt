@@ -7,13 +7,13 @@ use crate::parts::Parts;
 use crate::refusals::Found;
 use pif_model::{Status, Took};
 use pif_robust::RobustLists;
-use pif_types::{Errno, Limits, MutexId, NoMemory, Prio, Tid};
+use pif_types::{CondId, Errno, Limits, MutexId, NoMemory, Prio, Tid};
 use pif_word::{Cell, Words, hand_word, mark_word, taken_word};
 use std::alloc::Global;
 use std::marker::Model;
 
-/// A kernel whose run queue is a table of nodes, and whose waiters stand by the tickets of a counter. Only `new` takes
-/// memory.
+/// A kernel whose run queue is a table of nodes, whose waiters stand by the tickets of a counter, and whose parked
+/// threads stand in one list, in the order in which they came. Only `new` takes memory.
 #[derive(Drop)]
 pub struct PlainKernel {
     parts: Parts,
@@ -103,6 +103,34 @@ impl PiKernel for PlainKernel {
         };
         words.store(Cell::Mutex(m), bits);
         Ok(())
+    }
+
+    #[tactic(auto, unfolding(pif_model::specs::PiKernel::kernel_after_wait_requeue))]
+    fn wait_requeue_pi(
+        &mut self,
+        words: &Words,
+        t: Tid,
+        c: CondId,
+        expected: u32,
+        m: MutexId,
+    ) -> Result<(), Errno> {
+        self.parts.test_parking(words, c, expected, m)?;
+        self.parts.park(t, c, m);
+        Ok(())
+    }
+
+    #[tactic(auto, unfolding(pif_model::specs::PiKernel::after_requeue))]
+    fn cmp_requeue_pi(
+        &mut self,
+        words: &mut Words,
+        c: CondId,
+        m: MutexId,
+        val: u32,
+        more: u32,
+        expected: u32,
+    ) -> Result<u32, Errno> {
+        self.parts.test_requeue(words, c, m, val, expected)?;
+        Ok(self.parts.take_all(words, c, m, more))
     }
 
     #[tactic(auto, unfolding(pif_model::specs::PiKernel::kernel_after_set_prio))]

@@ -11,8 +11,8 @@ use pif_rtmutex::Key;
 use pif_types::{MutexId, Tid, push_within};
 
 impl Parts {
-    /// Queues a ready thread on a mutex of this owner, whose owner state has this key, if there is one. Then there is an
-    /// owner state, and the owner and its chain are boosted.
+    /// Queues a ready thread on a mutex of this owner, whose owner state has this key, if there is one. Then there is
+    /// an owner state, and the owner and its chain are boosted.
     pub(crate) fn queue_on(&mut self, t: Tid, m: MutexId, owner: Tid, key: Option<Key>)
         requires sound { IsSound self.old }
         requires mutex { m < 1025 }
@@ -54,9 +54,9 @@ impl Parts {
         }
     }
 
-    /// Hands the mutex, which has the owner state `key`, from `holder`, which is queued on nothing, to its next waiter. That
-    /// one is ready and joins its level, what the other waiters boost is that one, and then `holder` loses their boost.
-    /// Answers who is next.
+    /// Hands the mutex, which has the owner state `key`, from `holder`, which is queued on nothing, to its next waiter.
+    /// That one is ready and joins its level, what the other waiters boost is that one, and then `holder` loses their
+    /// boost. Answers who is next.
     pub(crate) fn hand_over(&mut self, holder: Tid, m: MutexId, key: Key) -> Tid
         requires sound { IsSound self.old }
         requires key { key_at self.old m ≡ Some key }

@@ -1,16 +1,20 @@
-ghost use Rattle.std.specs.Prelude.{◌≡◌, ◌==◌, true, if◌then◌else◌, IfOk, IsSome};
+ghost use Rattle.std.specs.Prelude.{ℕ, ◌≡◌, ◌==◌, ◌<◌, true, false, IsTrue, length, if◌then◌else◌, IfOk, OnOk, IsSome};
 ghost use Rattle.std.specs.Option.{ForSome};
 ghost use Rattle.pif_rtmutex.specs.Owners.{owner_at};
-ghost use Rattle.pif_model.specs.PiKernel.{lock_answer, wait_answer, try_lock_answer, unlock_answer, set_prio_answer};
-ghost use Rattle.pif_word.specs.WordMap.{words_of};
-ghost use Rattle.pif_kernel.specs.Answers.{test_answer, wait_test_answer, lock_test_answer};
+ghost use Rattle.pif_model.specs.Word.{has_word, has_cond_word};
+ghost use Rattle.pif_model.specs.PiKernel.{lock_answer, wait_answer, try_lock_answer, unlock_answer, set_prio_answer, state_at, has_parked, has_other_target, fits_state, wait_requeue_answer, requeue_answer};
+ghost use Rattle.pif_word.specs.declared.cells.Cell.TheVariants.{Mutex, Cond};
+ghost use Rattle.pif_word.specs.WordMap.{HasCell, words_of};
+ghost use Rattle.pif_kernel.specs.Answers.{unit_answer, test_answer, wait_test_answer, lock_test_answer};
 ghost use Rattle.pif_kernel.specs.Found.{IsWord, IsFound, IsOwn};
 ghost use Rattle.pif_kernel.specs.Plain.{IsSound, kernel_of, owner_under};
+ghost use Rattle.pif_kernel.specs.Systems.{system_of};
+ghost use Rattle.pif_kernel.specs.Takings.{FitsWord, requeue_test_answer};
 
 use crate::parts::Parts;
 use pif_boost::would_close;
 use pif_rtmutex::Key;
-use pif_types::{Errno, MutexId, Prio, Tid};
+use pif_types::{CondId, Errno, MutexId, Prio, Tid};
 use pif_word::{Cell, Words, number};
 
 /// What lock_pi finds where nothing refuses it.
@@ -18,7 +22,8 @@ use pif_word::{Cell, Words, number};
 pub enum Found {
     /// The mutex has this word and no owner.
     Free(u32),
-    /// The mutex has this word and this owner, for whom the thread may wait. Its owner state has this key, if there is one.
+    /// The mutex has this word and this owner, for whom the thread may wait. Its owner state has this key, if there is
+    /// one.
     Held(u32, Tid, Option<Key>),
 }
 
@@ -137,4 +142,92 @@ impl Parts {
             Some(_) => Err(Errno::NoSuchThread),
         }
     }
+
+    /// The tests of wait_requeue_pi: EFAULT or EAGAIN.
+    pub(crate) fn test_parking(
+        &self,
+        words: &Words,
+        c: CondId,
+        expected: u32,
+        m: MutexId,
+    ) -> Result<(), Errno>
+        ensures { unit_answer result ≡ wait_requeue_answer c expected m (words_of words.now) }
+    {
+        if !have_words(words, c, m) {
+            return Err(Errno::Fault);
+        }
+        if words.load(Cell::Cond(c)) != expected {
+            return Err(Errno::Again);
+        }
+        Ok(())
+    }
+
+    /// The tests of cmp_requeue_pi: EFAULT, EINVAL, EAGAIN or EINVAL.
+    pub(crate) fn test_requeue(
+        &self,
+        words: &Words,
+        c: CondId,
+        m: MutexId,
+        val: u32,
+        expected: u32,
+    ) -> Result<(), Errno>
+        requires { IsSound self.now }
+        ensures answer { (more : ℕ) → requeue_answer c m val more expected (words_of words.now) (kernel_of self.now) ≡ requeue_test_answer result c more (kernel_of self.now) }
+        ensures word { OnOk result (HasCell words.now (Mutex m)) }
+        ensures fits { OnOk result (has_parked (kernel_of self.now) c ≡ true → FitsWord m (system_of words.now self.now)) }
+    {
+        if !have_words(words, c, m) {
+            return Err(Errno::Fault);
+        }
+        if val != 1 {
+            return Err(Errno::Invalid);
+        }
+        if words.load(Cell::Cond(c)) != expected {
+            return Err(Errno::Again);
+        }
+        if self.has_other_target(c, m) {
+            return Err(Errno::Invalid);
+        }
+        if self.next_parked(c).is_none() {
+            return Ok(());
+        }
+        if !self.fits_state(number(words.load(Cell::Mutex(m))), m) {
+            return Err(Errno::Invalid);
+        }
+        Ok(())
+    }
+
+    /// Whether a thread that is parked on the variable has another target than this mutex.
+    fn has_other_target(&self, c: CondId, m: MutexId) -> bool
+        ensures { result ≡ has_other_target (kernel_of self.now) c m }
+    {
+        self.parked
+            .iter()
+            .any(|parking| parking.cond == c && parking.target != m)
+    }
+
+    /// Whether the number in a mutex's word and its owner state fit together: no number and no owner state, or that of
+    /// a living thread and no owner state of another. The number of no living thread fits with any.
+    fn fits_state(&self, number: u32, m: MutexId) -> bool
+        requires sound { IsSound self.now }
+        requires place { m < length self.now.keys }
+        ensures { result ≡ fits_state number (state_at (kernel_of self.now) m) (kernel_of self.now) }
+    {
+        match self.key(m) {
+            None => true,
+            Some(key) => match Tid::new(number) {
+                None => false,
+                Some(owner) => !self.lives(owner) || self.owners.owner(key) == owner,
+            },
+        }
+    }
+}
+
+/// Whether the variable and the mutex have words.
+fn have_words(words: &Words, c: CondId, m: MutexId) -> bool
+    ensures value { result ≡ (if has_cond_word (words_of words.now) c then has_word (words_of words.now) m else false) }
+    ensures cond { IsTrue result → HasCell words.now (Cond c) }
+    ensures mutex { IsTrue result → HasCell words.now (Mutex m) }
+{
+    words.has(Cell::Cond(c)) && words.has(Cell::Mutex(m))
 }

@@ -1,3 +1,5 @@
+mod conditions;
+
 ghost use Rattle.std.specs.Prelude.{◌≡◌, ◌<◌, ◌≤◌, ◌+◌, ℕ, true, length, OnOk};
 ghost use Rattle.pif_model.specs.PiKernel.{has_seat, is_living, is_ready, seat_at};
 ghost use Rattle.pif_model.specs.RobustList.{robust_at};
@@ -5,7 +7,7 @@ ghost use Rattle.pif_kernel.specs.Plain.{kernel_of};
 
 use crate::{PiKernel, PlainKernel, Status, Took, Woken};
 use pif_robust::RobustLists;
-use pif_types::{Errno, Limits, MutexId, Prio, Tid};
+use pif_types::{CondId, Errno, Limits, MutexId, Prio, Tid};
 use pif_word::{Cell, Words};
 use std::alloc::Global;
 use std::process::Abort;
@@ -18,12 +20,17 @@ struct Scene {
     words: Words,
 }
 
-// What is asked of a scene: a call of the kernel, a read, or a write of a word. Threads and mutexes go by their numbers.
+// What is asked of a scene: a call of the kernel, a read, or a write of a word. Threads, mutexes and variables go by
+// their numbers.
 #[derive(Clone, Copy, Debug)]
 enum Ask {
     Lock(u32, u32),
     TryLock(u32, u32),
     Unlock(u32, u32),
+    // A thread parks on a variable, whose word it expects to be this, with this mutex as its target.
+    Park(u32, u32, u32, u32),
+    // A requeue from a variable, whose word is expected to be this, to a mutex, of `val` and `more` threads.
+    Requeue(u32, u32, u32, u32, u32),
     SetPrio(u32, u32),
     Stop(u32),
     Status(u32),
@@ -32,6 +39,7 @@ enum Ask {
     NextTicket,
     Word(u32),
     Store(u32, u32),
+    StoreUses(u32, u32),
 }
 
 // What it answers.
@@ -43,6 +51,8 @@ enum Reply {
     Refused(Errno),
     Is(Status),
     QueuedOn(u32),
+    ParkedOn(u32),
+    Taken(u32),
     Prio(u32),
     Runs(u32),
     Nobody,
@@ -51,12 +61,12 @@ enum Reply {
 }
 
 impl Scene {
-    // A thread of each of these priorities, this first ticket, and so many mutexes, whose words are 0.
+    // A thread of each of these priorities, this first ticket, so many mutexes, and two variables; all words are 0.
     fn new(alloc: Global, levels: &[u32], mutexes: u32, first_ticket: u64) -> Result<Scene, Fail>
         requires threads { length levels.now ≤ 1024 }
         requires ticket { 1 ≤ first_ticket }
     {
-        let limits = Limits::new(levels.len() as u32, mutexes, 0, 1).ok_or("limits")?;
+        let limits = Limits::new(levels.len() as u32, mutexes, 2, 1).ok_or("limits")?;
         let words = Words::new(alloc, limits)?;
         let mut kernel = PlainKernel::new(alloc, limits, first_ticket)?;
         add_all(&mut kernel, levels)?;
@@ -68,10 +78,17 @@ impl Scene {
             Ask::Lock(t, m) => self.lock(thread(t)?, mutex(m)?)?,
             Ask::TryLock(t, m) => self.trylock(thread(t)?, mutex(m)?)?,
             Ask::Unlock(t, m) => self.unlock(thread(t)?, mutex(m)?)?,
+            Ask::Park(t, c, expected, m) => {
+                self.park(thread(t)?, variable(c)?, expected, mutex(m)?)?
+            }
+            Ask::Requeue(c, expected, m, val, more) => {
+                self.requeue(variable(c)?, expected, mutex(m)?, val, more)
+            }
             Ask::SetPrio(t, p) => done(self.kernel.set_prio(thread(t)?, p)),
             Ask::Stop(t) => self.stop(thread(t)?)?,
             Ask::Word(m) => self.word(mutex(m)?)?,
             Ask::Store(m, bits) => self.store(mutex(m)?, bits)?,
+            Ask::StoreUses(c, uses) => self.store_uses(variable(c)?, uses)?,
             Ask::Status(t) => self.status(thread(t)?)?,
             Ask::Effective(t) => self.effective(thread(t)?),
             Ask::Pick => self.pick(),
@@ -98,6 +115,21 @@ impl Scene {
         Ok(done(self.kernel.unlock_pi(&mut self.words, t, m)))
     }
 
+    fn park(&mut self, t: Tid, c: CondId, expected: u32, m: MutexId) -> Result<Reply, Fail> {
+        see_ready(&self.kernel, t)?;
+        Ok(done(self.kernel.wait_requeue_pi(&self.words, t, c, expected, m)))
+    }
+
+    fn requeue(&mut self, c: CondId, expected: u32, m: MutexId, val: u32, more: u32) -> Reply {
+        match self
+            .kernel
+            .cmp_requeue_pi(&mut self.words, c, m, val, more, expected)
+        {
+            Ok(taken) => Reply::Taken(taken),
+            Err(errno) => Reply::Refused(errno),
+        }
+    }
+
     fn stop(&mut self, t: Tid) -> Result<Reply, Fail> {
         see_ready(&self.kernel, t)?;
         self.kernel.stop(t);
@@ -108,6 +140,7 @@ impl Scene {
         see_living(&self.kernel, t)?;
         Ok(match self.kernel.status(t) {
             Status::Queued(m) => Reply::QueuedOn(m.get()),
+            Status::Parked(c) => Reply::ParkedOn(c.get()),
             other => Reply::Is(other),
         })
     }
@@ -140,6 +173,14 @@ impl Scene {
         self.words.store(Cell::Mutex(m), bits);
         Ok(Reply::Done)
     }
+
+    fn store_uses(&mut self, c: CondId, uses: u32) -> Result<Reply, Fail> {
+        if !self.words.has(Cell::Cond(c)) {
+            Err("a condition word")?
+        }
+        self.words.store(Cell::Cond(c), uses);
+        Ok(Reply::Done)
+    }
 }
 
 fn thread(number: u32) -> Result<Tid, Fail> {
@@ -148,6 +189,10 @@ fn thread(number: u32) -> Result<Tid, Fail> {
 
 fn mutex(number: u32) -> Result<MutexId, Fail> {
     Ok(MutexId::new(number).ok_or("a mutex")?)
+}
+
+fn variable(number: u32) -> Result<CondId, Fail> {
+    Ok(CondId::new(number).ok_or("a variable")?)
 }
 
 fn done(answer: Result<(), Errno>) -> Reply {
@@ -186,6 +231,7 @@ fn see_ready(kernel: &PlainKernel, t: Tid) -> Result<(), Fail>
     match kernel.status(t) {
         Status::Ready(_) => Ok(()),
         Status::Queued(_) => Err("the thread is queued")?,
+        Status::Parked(_) => Err("the thread is parked")?,
         Status::Stopped => Err("the thread is stopped")?,
         Status::Ended => Err("the thread has ended")?,
     }
@@ -195,6 +241,27 @@ fn see_ready(kernel: &PlainKernel, t: Tid) -> Result<(), Fail>
 fn check(rt: &impl Abort, scene: &mut Scene, steps: &[(Ask, Reply)]) -> Result<(), Fail> {
     for (ask, reply) in steps {
         assert_eq!(rt; scene.answer(*ask)?, *reply, "at {ask:?}");
+    }
+    Ok(())
+}
+
+// The same with what stands in these tables, of a new scene of such threads and so many mutexes.
+fn play(
+    rt: &impl Abort,
+    alloc: Global,
+    levels: &[u32],
+    mutexes: u32,
+    tables: &[&[(Ask, Reply)]],
+) -> Result<(), Fail>
+    requires { length levels.now ≤ 1024 }
+{
+    let mut scene = Scene::new(alloc, levels, mutexes, 1)?;
+    check_all(rt, &mut scene, tables)
+}
+
+fn check_all(rt: &impl Abort, scene: &mut Scene, tables: &[&[(Ask, Reply)]]) -> Result<(), Fail> {
+    for steps in tables {
+        check(rt, scene, steps)?;
     }
     Ok(())
 }
@@ -209,119 +276,85 @@ fn nobody_runs_in_a_new_kernel(rt: HostRuntime) -> Result<(), Fail> {
 
 #[test]
 fn a_thread_takes_a_free_mutex(rt: HostRuntime) -> Result<(), Fail> {
-    let mut scene = Scene::new(rt.alloc(), &[10], 1, 1)?;
-    check(
-        &rt,
-        &mut scene,
-        &[
-            (Ask::Pick, Reply::Runs(1)),
-            (Ask::Effective(1), Reply::Prio(10)),
-            (Ask::Status(1), Reply::Is(Status::Ready(Woken::Fresh))),
-            (Ask::Lock(1, 1), Reply::Owns),
-            (Ask::Word(1), Reply::Bits(1)),
-        ],
-    )
+    let steps = [
+        (Ask::Pick, Reply::Runs(1)),
+        (Ask::Effective(1), Reply::Prio(10)),
+        (Ask::Status(1), Reply::Is(Status::Ready(Woken::Fresh))),
+        (Ask::Lock(1, 1), Reply::Owns),
+        (Ask::Word(1), Reply::Bits(1)),
+    ];
+    play(&rt, rt.alloc(), &[10], 1, &[&steps])
 }
 
 #[test]
 fn a_thread_that_stops_is_not_picked(rt: HostRuntime) -> Result<(), Fail> {
-    let mut scene = Scene::new(rt.alloc(), &[10], 1, 1)?;
-    check(
-        &rt,
-        &mut scene,
-        &[
-            (Ask::Stop(1), Reply::Done),
-            (Ask::Pick, Reply::Nobody),
-            (Ask::Status(1), Reply::Is(Status::Stopped)),
-        ],
-    )
-}
-
-#[test]
-fn priorities_are_refused_in_order(rt: HostRuntime) -> Result<(), Fail> {
-    let mut scene = Scene::new(rt.alloc(), &[10], 1, 1)?;
-    check(
-        &rt,
-        &mut scene,
-        &[
-            (Ask::SetPrio(1, 30), Reply::Done),
-            (Ask::Effective(1), Reply::Prio(30)),
-            (Ask::SetPrio(4, 100), Reply::Refused(Errno::Invalid)),
-            (Ask::SetPrio(1, 0), Reply::Refused(Errno::Invalid)),
-            (Ask::SetPrio(4, 50), Reply::Refused(Errno::NoSuchThread)),
-            (Ask::Effective(4), Reply::Nobody),
-            (Ask::Effective(1), Reply::Prio(30)),
-        ],
-    )
+    let steps = [
+        (Ask::Stop(1), Reply::Done),
+        (Ask::Pick, Reply::Nobody),
+        (Ask::Status(1), Reply::Is(Status::Stopped)),
+    ];
+    play(&rt, rt.alloc(), &[10], 1, &[&steps])
 }
 
 // lock_pi by thread 1 of three, on words that no thread wrote.
 #[test]
 fn kernel_on_stored_words(rt: HostRuntime) -> Result<(), Fail> {
-    let mut scene = Scene::new(rt.alloc(), &[10, 10, 10], 1, 1)?;
-    check(
-        &rt,
-        &mut scene,
-        &[
-            (Ask::Lock(1, 2), Reply::Refused(Errno::Fault)),
-            (Ask::Store(1, 0x0000_0001), Reply::Done),
-            (Ask::Lock(1, 1), Reply::Refused(Errno::Deadlock)),
-            (Ask::Word(1), Reply::Bits(0x0000_0001)),
-            (Ask::Store(1, 0x0000_03ff), Reply::Done),
-            (Ask::Lock(1, 1), Reply::Refused(Errno::NoSuchThread)),
-            (Ask::Word(1), Reply::Bits(0x0000_03ff)),
-            (Ask::Store(1, 0x8000_0000), Reply::Done),
-            (Ask::Lock(1, 1), Reply::Owns),
-            (Ask::Word(1), Reply::Bits(0x0000_0001)),
-            // Thread 3 queues on it, so that there is an owner state of thread 2.
-            (Ask::Store(1, 0x0000_0002), Reply::Done),
-            (Ask::Lock(3, 1), Reply::Queued),
-            (Ask::Word(1), Reply::Bits(0x8000_0002)),
-            (Ask::Store(1, 0x0000_0003), Reply::Done),
-            (Ask::Lock(1, 1), Reply::Refused(Errno::Invalid)),
-            (Ask::Word(1), Reply::Bits(0x0000_0003)),
-            (Ask::Store(1, 0x0000_0000), Reply::Done),
-            (Ask::Lock(1, 1), Reply::Refused(Errno::Invalid)),
-            (Ask::Word(1), Reply::Bits(0x0000_0000)),
-        ],
-    )
+    let steps = [
+        (Ask::Lock(1, 2), Reply::Refused(Errno::Fault)),
+        (Ask::Store(1, 0x0000_0001), Reply::Done),
+        (Ask::Lock(1, 1), Reply::Refused(Errno::Deadlock)),
+        (Ask::Word(1), Reply::Bits(0x0000_0001)),
+        (Ask::Store(1, 0x0000_03ff), Reply::Done),
+        (Ask::Lock(1, 1), Reply::Refused(Errno::NoSuchThread)),
+        (Ask::Word(1), Reply::Bits(0x0000_03ff)),
+        (Ask::Store(1, 0x8000_0000), Reply::Done),
+        (Ask::Lock(1, 1), Reply::Owns),
+        (Ask::Word(1), Reply::Bits(0x0000_0001)),
+        // Thread 3 queues on it, so that there is an owner state of thread 2.
+        (Ask::Store(1, 0x0000_0002), Reply::Done),
+        (Ask::Lock(3, 1), Reply::Queued),
+        (Ask::Word(1), Reply::Bits(0x8000_0002)),
+        (Ask::Store(1, 0x0000_0003), Reply::Done),
+        (Ask::Lock(1, 1), Reply::Refused(Errno::Invalid)),
+        (Ask::Word(1), Reply::Bits(0x0000_0003)),
+        (Ask::Store(1, 0x0000_0000), Reply::Done),
+        (Ask::Lock(1, 1), Reply::Refused(Errno::Invalid)),
+        (Ask::Word(1), Reply::Bits(0x0000_0000)),
+    ];
+    play(&rt, rt.alloc(), &[10, 10, 10], 1, &[&steps])
 }
 
 // trylock_pi and unlock_pi by thread 1 of three, on words that no thread wrote.
 #[test]
 fn kernel_refusals_on_any_words(rt: HostRuntime) -> Result<(), Fail> {
-    let mut scene = Scene::new(rt.alloc(), &[10, 10, 10], 1, 1)?;
-    check(
-        &rt,
-        &mut scene,
-        &[
-            (Ask::TryLock(1, 2), Reply::Refused(Errno::Fault)),
-            (Ask::Store(1, 0x0000_0001), Reply::Done),
-            (Ask::TryLock(1, 1), Reply::Refused(Errno::Deadlock)),
-            (Ask::Word(1), Reply::Bits(0x0000_0001)),
-            (Ask::Store(1, 0x8000_0002), Reply::Done),
-            (Ask::TryLock(1, 1), Reply::Refused(Errno::Again)),
-            (Ask::Word(1), Reply::Bits(0x8000_0002)),
-            (Ask::Store(1, 0xc000_0000), Reply::Done),
-            (Ask::TryLock(1, 1), Reply::Done),
-            (Ask::Word(1), Reply::Bits(0x4000_0001)),
-            (Ask::Unlock(1, 2), Reply::Refused(Errno::Fault)),
-            (Ask::Store(1, 0x8000_0001), Reply::Done),
-            (Ask::Unlock(1, 1), Reply::Done),
-            (Ask::Word(1), Reply::Bits(0x0000_0000)),
-            (Ask::Store(1, 0x0000_0002), Reply::Done),
-            (Ask::Unlock(1, 1), Reply::Refused(Errno::NotPermitted)),
-            (Ask::Word(1), Reply::Bits(0x0000_0002)),
-            // Thread 3 queues on it, so that there is an owner state of thread 2.
-            (Ask::Lock(3, 1), Reply::Queued),
-            (Ask::Store(1, 0x0000_0000), Reply::Done),
-            (Ask::TryLock(1, 1), Reply::Refused(Errno::Invalid)),
-            (Ask::Store(1, 0x0000_0001), Reply::Done),
-            (Ask::Unlock(1, 1), Reply::Refused(Errno::Invalid)),
-            (Ask::Word(1), Reply::Bits(0x0000_0001)),
-            (Ask::Status(3), Reply::QueuedOn(1)),
-        ],
-    )
+    let steps = [
+        (Ask::TryLock(1, 2), Reply::Refused(Errno::Fault)),
+        (Ask::Store(1, 0x0000_0001), Reply::Done),
+        (Ask::TryLock(1, 1), Reply::Refused(Errno::Deadlock)),
+        (Ask::Word(1), Reply::Bits(0x0000_0001)),
+        (Ask::Store(1, 0x8000_0002), Reply::Done),
+        (Ask::TryLock(1, 1), Reply::Refused(Errno::Again)),
+        (Ask::Word(1), Reply::Bits(0x8000_0002)),
+        (Ask::Store(1, 0xc000_0000), Reply::Done),
+        (Ask::TryLock(1, 1), Reply::Done),
+        (Ask::Word(1), Reply::Bits(0x4000_0001)),
+        (Ask::Unlock(1, 2), Reply::Refused(Errno::Fault)),
+        (Ask::Store(1, 0x8000_0001), Reply::Done),
+        (Ask::Unlock(1, 1), Reply::Done),
+        (Ask::Word(1), Reply::Bits(0x0000_0000)),
+        (Ask::Store(1, 0x0000_0002), Reply::Done),
+        (Ask::Unlock(1, 1), Reply::Refused(Errno::NotPermitted)),
+        (Ask::Word(1), Reply::Bits(0x0000_0002)),
+        // Thread 3 queues on it, so that there is an owner state of thread 2.
+        (Ask::Lock(3, 1), Reply::Queued),
+        (Ask::Store(1, 0x0000_0000), Reply::Done),
+        (Ask::TryLock(1, 1), Reply::Refused(Errno::Invalid)),
+        (Ask::Store(1, 0x0000_0001), Reply::Done),
+        (Ask::Unlock(1, 1), Reply::Refused(Errno::Invalid)),
+        (Ask::Word(1), Reply::Bits(0x0000_0001)),
+        (Ask::Status(3), Reply::QueuedOn(1)),
+    ];
+    play(&rt, rt.alloc(), &[10, 10, 10], 1, &[&steps])
 }
 
 // Thread 1 holds mutex 1, thread 2 holds mutex 2 and waits for mutex 1, and thread 3 waits for mutex 2.
@@ -334,55 +367,41 @@ const CHAIN: [(Ask, Reply); 4] = [
 
 #[test]
 fn boosts_go_through_a_chain(rt: HostRuntime) -> Result<(), Fail> {
-    let mut scene = Scene::new(rt.alloc(), &[1, 2, 99], 2, 1)?;
-    check(&rt, &mut scene, &CHAIN)?;
-    check(
-        &rt,
-        &mut scene,
-        &[
-            (Ask::Effective(1), Reply::Prio(99)),
-            (Ask::Effective(2), Reply::Prio(99)),
-            (Ask::Status(3), Reply::QueuedOn(2)),
-            (Ask::Pick, Reply::Runs(1)),
-            (Ask::Lock(1, 2), Reply::Refused(Errno::Deadlock)),
-        ],
-    )
+    let steps = [
+        (Ask::Effective(1), Reply::Prio(99)),
+        (Ask::Effective(2), Reply::Prio(99)),
+        (Ask::Status(3), Reply::QueuedOn(2)),
+        (Ask::Pick, Reply::Runs(1)),
+        (Ask::Lock(1, 2), Reply::Refused(Errno::Deadlock)),
+    ];
+    play(&rt, rt.alloc(), &[1, 2, 99], 2, &[&CHAIN, &steps])
 }
 
 #[test]
 fn who_unlocks_loses_the_boost(rt: HostRuntime) -> Result<(), Fail> {
-    let mut scene = Scene::new(rt.alloc(), &[1, 2, 99], 2, 1)?;
-    check(&rt, &mut scene, &CHAIN)?;
-    check(
-        &rt,
-        &mut scene,
-        &[
-            (Ask::Unlock(1, 1), Reply::Done),
-            (Ask::Effective(1), Reply::Prio(1)),
-            (Ask::Status(2), Reply::Is(Status::Ready(Woken::Owns))),
-            (Ask::Pick, Reply::Runs(2)),
-        ],
-    )
+    let steps = [
+        (Ask::Unlock(1, 1), Reply::Done),
+        (Ask::Effective(1), Reply::Prio(1)),
+        (Ask::Status(2), Reply::Is(Status::Ready(Woken::Owns))),
+        (Ask::Pick, Reply::Runs(2)),
+    ];
+    play(&rt, rt.alloc(), &[1, 2, 99], 2, &[&CHAIN, &steps])
 }
 
 #[test]
 fn priority_is_set_and_places_stay(rt: HostRuntime) -> Result<(), Fail> {
-    let mut scene = Scene::new(rt.alloc(), &[10, 20, 20], 1, 1)?;
-    check(
-        &rt,
-        &mut scene,
-        &[
-            (Ask::Lock(1, 1), Reply::Owns),
-            (Ask::Lock(2, 1), Reply::Queued),
-            (Ask::Lock(3, 1), Reply::Queued),
-            (Ask::SetPrio(2, 30), Reply::Done),
-            (Ask::Effective(1), Reply::Prio(30)),
-            (Ask::SetPrio(2, 20), Reply::Done),
-            (Ask::Effective(1), Reply::Prio(20)),
-            (Ask::Unlock(1, 1), Reply::Done),
-            (Ask::Word(1), Reply::Bits(0x8000_0002)),
-        ],
-    )
+    let steps = [
+        (Ask::Lock(1, 1), Reply::Owns),
+        (Ask::Lock(2, 1), Reply::Queued),
+        (Ask::Lock(3, 1), Reply::Queued),
+        (Ask::SetPrio(2, 30), Reply::Done),
+        (Ask::Effective(1), Reply::Prio(30)),
+        (Ask::SetPrio(2, 20), Reply::Done),
+        (Ask::Effective(1), Reply::Prio(20)),
+        (Ask::Unlock(1, 1), Reply::Done),
+        (Ask::Word(1), Reply::Bits(0x8000_0002)),
+    ];
+    play(&rt, rt.alloc(), &[10, 20, 20], 1, &[&steps])
 }
 
 // Four threads of priority 10 lock mutex 1 in turn, and then unlock it in turn.
@@ -402,17 +421,13 @@ const HAND_OVERS: [(Ask, Reply); 12] = [
 ];
 
 // The same, between these two next tickets.
-fn hand_over(rt: &impl Abort, scene: &mut Scene, first: u64, next: u64) -> Result<(), Fail> {
-    check(rt, scene, &[(Ask::NextTicket, Reply::Ticket(first))])?;
-    check(rt, scene, &HAND_OVERS)?;
-    check(rt, scene, &[(Ask::NextTicket, Reply::Ticket(next))])
-}
-
 fn hand_over_from(rt: &impl Abort, alloc: Global, first: u64, next: u64) -> Result<(), Fail>
     requires { 1 ≤ first }
 {
     let mut scene = Scene::new(alloc, &[10, 10, 10, 10], 1, first)?;
-    hand_over(rt, &mut scene, first, next)
+    let before = [(Ask::NextTicket, Reply::Ticket(first))];
+    let after = [(Ask::NextTicket, Reply::Ticket(next))];
+    check_all(rt, &mut scene, &[&before, &HAND_OVERS, &after])
 }
 
 #[test]
@@ -454,14 +469,42 @@ fn end_first(scene: &mut Scene, alloc: Global) -> Result<(), Fail> {
     Ok(())
 }
 
+// Asks of a new scene of such threads and so many mutexes what stands in the first table, ends thread 1, and asks what
+// stands in the second.
+fn play_end(
+    rt: &impl Abort,
+    alloc: Global,
+    levels: &[u32],
+    mutexes: u32,
+    before: &[(Ask, Reply)],
+    after: &[(Ask, Reply)],
+) -> Result<(), Fail>
+    requires { length levels.now ≤ 1024 }
+{
+    let mut scene = Scene::new(alloc, levels, mutexes, 1)?;
+    end_between(rt, alloc, &mut scene, before, after)
+}
+
+fn end_between(
+    rt: &impl Abort,
+    alloc: Global,
+    scene: &mut Scene,
+    before: &[(Ask, Reply)],
+    after: &[(Ask, Reply)],
+) -> Result<(), Fail> {
+    check(rt, scene, before)?;
+    end_first(scene, alloc)?;
+    check(rt, scene, after)
+}
+
 // Ends thread 1 of two, where the word of the mutex on its robust list is `before`. Then it is `after`.
 fn end_on_word(rt: &impl Abort, alloc: Global, before: u32, after: u32) -> Result<(), Fail> {
-    let mut scene = Scene::new(alloc, &[20, 10], 1, 1)?;
-    check(rt, &mut scene, &[(Ask::Store(1, before), Reply::Done)])?;
-    end_first(&mut scene, alloc)?;
-    check(
+    play_end(
         rt,
-        &mut scene,
+        alloc,
+        &[20, 10],
+        1,
+        &[(Ask::Store(1, before), Reply::Done)],
         &[
             (Ask::Word(1), Reply::Bits(after)),
             (Ask::Effective(1), Reply::Nobody),
@@ -481,27 +524,19 @@ fn exit_marks_words_of_its_own(rt: HostRuntime) -> Result<(), Fail> {
     end_on_word(&rt, rt.alloc(), 0xc000_0001, 0xc000_0000)
 }
 
+// Thread 1 ends as the owner of mutex 1, for which threads 2 and 3 wait.
 #[test]
 fn exit_hands_over_to_the_next_waiter(rt: HostRuntime) -> Result<(), Fail> {
-    let mut scene = Scene::new(rt.alloc(), &[10, 10, 20], 1, 1)?;
-    hand_over_at_the_end(&rt, &mut scene, rt.alloc())
-}
-
-// Thread 1 ends as the owner of mutex 1, for which threads 2 and 3 wait.
-fn hand_over_at_the_end(rt: &impl Abort, scene: &mut Scene, alloc: Global) -> Result<(), Fail> {
-    check(
-        rt,
-        scene,
+    play_end(
+        &rt,
+        rt.alloc(),
+        &[10, 10, 20],
+        1,
         &[
             (Ask::Lock(1, 1), Reply::Owns),
             (Ask::Lock(2, 1), Reply::Queued),
             (Ask::Lock(3, 1), Reply::Queued),
         ],
-    )?;
-    end_first(scene, alloc)?;
-    check(
-        rt,
-        scene,
         &[
             (Ask::Word(1), Reply::Bits(0xc000_0003)),
             (Ask::Status(3), Reply::Is(Status::Ready(Woken::Owns))),

@@ -10,7 +10,7 @@ use Rattle.pif_model.specs.declared.events.Seen.TheVariants.{Begun, Waits, Answe
 use Rattle.pif_model.specs.declared.events.Entry.{Entry}
 use Rattle.pif_model.specs.declared.events.Entry.TheVariants.{Thread as AddThread, Mutex as AddMutex, Step as Happened}
 use Rattle.pif_model.specs.Graph.{reaches_within, greatest_where, effective_among, first_greatest, waited_by, next_waiter}
-use Rattle.pif_model.specs.Posix.{Health, Progress, Call, World, nobody, no_mutex, mutex_at, Step, IsLegal}
+use Rattle.pif_model.specs.Posix.{Health, Progress, Call, World, nobody, no_mutex, no_variable, no_memory, mutex_at, Step, IsLegal}
 use Rattle.pif_model.specs.Posix.Health.{Fine, Inconsistent, Unusable}
 use Rattle.pif_model.specs.Posix.Progress.{Fresh, Waiting, Leaving, Has}
 use Rattle.pif_model.specs.Posix.Locks.{free, joins}
@@ -29,9 +29,12 @@ small = record { threads = 9; mutexes = 9; conds = 0; signals = 1 }
 abbrev world : Bool → Option Call → Option Call → ℕ → Health → List (ℕ × ℕ) → World
 world living one two owner health ws = record {
   threads =
-      nobody ∷ record { base = 10; living = living; call = one } ∷ record { base = 20; living = true; call = two } ∷ [];
+      nobody ∷ record { base = 10; living = living; call = one; memory = no_memory }
+      ∷ record { base = 20; living = true; call = two; memory = no_memory } ∷ [];
   mutexes = no_mutex ∷ record { kind = Normal; robust = true; owner = owner; count = 1; health = health } ∷ [];
+  variables = no_variable ∷ [];
   waiters = ws;
+  signals = 1;
 }
 
 -- a call of this request that has come this far
@@ -102,12 +105,12 @@ takes = answered 1 0 (Lock 1) (world true (at (Lock 1) (Has 0)) None 1 Fine []) 
 -- t2 waits for it
 queues : Step small (world true None (at (Lock 1) Fresh) 1 Fine []) (Happened (Go 2) Waits) t2_waits
 unfolding reaches_within greatest_where effective_among first_greatest waited_by next_waiter
-queues = waits 2 refl
+queues = waits 2 t2_waits refl
     (record {
       allowed = refl;
       effects = effect_then (lock 1 refl (joins (λ e. omega arith) (λ e. omega arith) refl refl refl)) (no_effect refl);
     })
-    refl
+    refl refl
 
 -- the history, newest entry first
 abbrev history : List Entry

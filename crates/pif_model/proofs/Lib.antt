@@ -1,3 +1,6 @@
+pub mod Asked
 pub mod Worked
 pub mod EndsWorked
 pub mod WorkedRobust
+pub mod WorkedConditions
+pub mod ConditionsWorked

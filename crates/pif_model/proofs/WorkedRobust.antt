@@ -1,74 +1,18 @@
 -- Worked examples of robust mutexes and of threads that end, computed on the definitions themselves: what a core is
 -- asked, and what it shows.
-use Rattle.std.proofs.Common.{◌≡◌, ℕ, zero, suc, true, false, List, [], ◌∷◌, ◌++◌, refl}
+use Rattle.std.proofs.Common.{◌≡◌, ℕ, true, false, [], ◌∷◌, ◌++◌, refl}
 use Rattle.pif_types.specs.declared.requests.Kind.TheVariants.{Normal, Recursive}
-use Rattle.pif_types.specs.declared.requests.Request.{Request}
 use Rattle.pif_types.specs.declared.requests.Request.TheVariants.{Lock, TryLock, Unlock, Consistent}
-use Rattle.pif_model.specs.declared.events.Event.{Event}
 use Rattle.pif_model.specs.declared.events.Event.TheVariants.{Begin, Go, End}
-use Rattle.pif_model.specs.declared.events.Seen.{Seen}
-use Rattle.pif_model.specs.declared.events.Seen.TheVariants.{Begun, Went, Waits, Answered, Ended}
+use Rattle.pif_model.specs.declared.events.Seen.TheVariants.{Begun, Waits, Answered, Ended}
 use Rattle.pif_model.specs.Word.{bits_of, word_of, word_at, set_word}
-use Rattle.pif_model.specs.Table.{Table, thread_added, mutex_added, cell_at}
-use Rattle.pif_model.specs.PiKernel.{effective_in, after_exit}
-use Rattle.pif_model.specs.Lines.{Outcome, event_outcome, goes_on}
+use Rattle.pif_model.specs.Table.{Table, thread_added, mutex_added}
+use Rattle.pif_model.specs.PiKernel.{after_exit}
+use Rattle.pif_model.specs.Lines.{goes_on}
 use Rattle.pif_model.proofs.Worked.{machine, small}
-
--- what a core is asked
-data Ask : Type 0 where
-  -- one event
-  Do : Event → Ask
-  -- a call, up to the first step that isn't Went
-  Call : ℕ → Request → Ask
-  -- the open call, up to the first step that isn't Went
-  Finish : ℕ → Ask
-  -- the word of a mutex, its health word, and the effective priority of a thread
-  Word : ℕ → Ask
-  Health : ℕ → Ask
-  Priority : ℕ → Ask
-
--- what it shows
-data Shown : Type 0 where
-  Saw : Seen → Shown
-  Bits : ℕ → Shown
-  HealthWord : ℕ → Shown
-  Effective : ℕ → Shown
-
--- at most 24 steps of t
-finished : ℕ → Table → Outcome
-finished t s = goes_on 23 t s
-
--- what one question shows
-reply : Ask → Table → Shown
-reply (Do e) s = Saw (event_outcome e s).seen
-reply (Call t q) s = Saw (finished t (event_outcome (Begin t q) s).after).seen
-reply (Finish t) s = Saw (finished t s).seen
-reply (Word m) s = Bits (bits_of (cell_at s m).word)
-reply (Health m) s = HealthWord (cell_at s m).health
-reply (Priority t) s = Effective (effective_in s.kernel t)
-
--- the table after it
-next : Ask → Table → Table
-next (Do e) s = (event_outcome e s).after
-next (Call t q) s = (finished t (event_outcome (Begin t q) s).after).after
-next (Finish t) s = (finished t s).after
-next (Word m) s = s
-next (Health m) s = s
-next (Priority t) s = s
-
--- what some questions show
-shows : List Ask → Table → List Shown
-shows [] s = []
-shows (a ∷ more) s = reply a s ∷ shows more (next a s)
-
--- steps of t, this many, each of which is Went
-goes : ℕ → ℕ → List Ask
-goes t zero = []
-goes t (suc n) = Do (Go t) ∷ goes t n
-
-wents : ℕ → List Shown
-wents zero = []
-wents (suc n) = Saw Went ∷ wents n
+use Rattle.pif_model.proofs.Asked.{shows, reply, next, finished, goes, wents}
+use Rattle.pif_model.proofs.Asked.Ask.{Do, Call, Finish, Word, Health, Priority}
+use Rattle.pif_model.proofs.Asked.Shown.{Saw, Bits, HealthWord, Effective}
 
 -- three threads of priority 10, and a robust mutex
 robust : Table

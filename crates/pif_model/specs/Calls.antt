@@ -1,13 +1,14 @@
 -- What the public calls of a core answer, and the table that they leave, by the table before.
-use Rattle.std.specs.Prelude.{ℕ, ◌-◌, Bool, ◌==◌, length, Option, Some, None, Result, Ok, Err, if◌then◌else◌}
+use Rattle.std.specs.Prelude.{ℕ, ◌-◌, Bool, true, false, ◌==◌, length, Option, Some, None, Result, Ok, Err, if◌then◌else◌}
 use Rattle.pif_types.specs.declared.errors.AddFault.{AddFault}
-use Rattle.pif_types.specs.declared.errors.AddFault.TheVariants.{TooMany, BadPrio}
+use Rattle.pif_types.specs.declared.errors.AddFault.TheVariants.{TooMany, BadPrio, NoSuch}
 use Rattle.pif_types.specs.declared.requests.Health.{Health}
 use Rattle.pif_types.specs.declared.requests.Kind.{Kind}
 use Rattle.pif_model.specs.Graph.{is_priority}
 use Rattle.pif_model.specs.Word.{bits_of, health_in}
-use Rattle.pif_model.specs.PiKernel.{is_living, effective_in, pick_in}
-use Rattle.pif_model.specs.Table.{Table, cell_at, has_mutex, has_thread_room, has_mutex_room, thread_added, mutex_added}
+use Rattle.pif_model.specs.PiKernel.{is_living, is_ready, effective_in, pick_in}
+use Rattle.pif_model.specs.Table.{Table, cell_at, line_at, status_at, has_mutex, has_cond, uses_of, has_thread_room, has_mutex_room, has_cond_room, thread_added, mutex_added, cond_added}
+use Rattle.pif_model.specs.Lines.{is_open}
 
 -- adding a thread of priority p: BadPrio, then TooMany, else its number
 abbrev pub add_thread_answer : ℕ → Table → Result ℕ AddFault
@@ -26,6 +27,15 @@ abbrev pub add_mutex_after : Kind → Bool → Result ℕ AddFault → Table →
 add_mutex_after k r (Ok m) s = mutex_added k r s
 add_mutex_after k r (Err e) s = s
 
+-- adding a condition variable that is bound to m: NoSuch, then TooMany, else its number
+abbrev pub add_cond_answer : ℕ → Table → Result ℕ AddFault
+add_cond_answer m s =
+    if has_mutex s m then (if has_cond_room s then Ok (length s.conds) else Err TooMany) else Err NoSuch
+
+abbrev pub add_cond_after : ℕ → Result ℕ AddFault → Table → Table
+add_cond_after m (Ok c) s = cond_added m s
+add_cond_after m (Err e) s = s
+
 -- the effective priority of a living thread
 abbrev pub effective_answer : ℕ → Table → Option ℕ
 effective_answer t s = if is_living s.kernel t then Some (effective_in s.kernel t) else None
@@ -38,6 +48,10 @@ word_answer m s = if has_mutex s m then Some (bits_of (cell_at s m).word) else N
 abbrev pub health_answer : ℕ → Table → Option Health
 health_answer m s = if has_mutex s m then Some (health_in (cell_at s m).health) else None
 
+-- the condition word of a variable that was added
+abbrev pub cond_word_answer : ℕ → Table → Option ℕ
+cond_word_answer c s = if has_cond s c then Some (uses_of s c) else None
+
 -- the thread that runs next, if one is ready
 abbrev pub pick_answer : Table → Option ℕ
 pick_answer s = if pick_in s.kernel == 0 then None else Some (pick_in s.kernel)
@@ -45,3 +59,10 @@ pick_answer s = if pick_in s.kernel == 0 then None else Some (pick_in s.kernel)
 -- how many threads were ever added
 abbrev pub threads_answer : Table → ℕ
 threads_answer s = length s.lines - 1
+
+-- whether a living thread with a call open rests: it may not run
+abbrev pub waiting_answer : ℕ → Table → Option Bool
+waiting_answer t s =
+    if is_living s.kernel t
+    then (if is_open (line_at s t) then Some (if is_ready (status_at s t) then false else true) else None)
+    else None

@@ -1,7 +1,7 @@
--- Priority inheritance over a graph of threads. Both machines hand in the same three things: which thread a
--- thread waits for (0: none), base priorities, and the waiters in order of arrival. (RT-mutex design.)
+-- Priority inheritance over a graph of threads. Both machines hand in the same three things: which thread a thread
+-- waits for (0: none), base priorities, and the waiters in order of arrival. (RT-mutex design.)
 -- Threads are numbered from 1; the number 0 is nobody.
-use Rattle.std.specs.Prelude.{ℕ, zero, suc, ◌≡◌, ◌≢◌, ◌<◌, ◌≤◌, Bool, true, false, ◌==◌, nat_lt, max, List, [], ◌∷◌, map, if◌then◌else◌}
+use Rattle.std.specs.Prelude.{ℕ, zero, suc, ◌≡◌, ◌<◌, ◌≤◌, Bool, true, false, ◌==◌, nat_lt, max, List, [], ◌∷◌, map, if◌then◌else◌}
 use Rattle.std.specs.List.{filter, list_any}
 use Rattle.std.specs.Prelude.{◌++◌}
 

@@ -1,7 +1,7 @@
 -- Who holds a mutex by the answers alone. It reads a history, newest entry first, and no machine.
-use Rattle.std.specs.Prelude.{ℕ, ◌≡◌, ◌+◌, ◌-◌, Bool, true, ◌==◌, nat_lt, List, [], ◌∷◌, Option, Some, None, if◌then◌else◌}
+use Rattle.std.specs.Prelude.{ℕ, ◌≡◌, ◌+◌, ◌-◌, Bool, true, false, ◌==◌, nat_lt, List, [], ◌∷◌, Option, Some, None, if◌then◌else◌}
 use Rattle.pif_types.specs.declared.requests.Request.{Request}
-use Rattle.pif_types.specs.declared.requests.Request.TheVariants.{Lock, TryLock, Unlock, Consistent, SetPrio}
+use Rattle.pif_types.specs.declared.requests.Request.TheVariants.{Lock, TryLock, Unlock, Consistent, Wait, Signal, Broadcast, SetPrio}
 use Rattle.pif_model.specs.declared.events.Event.TheVariants.{Begin, Go, End}
 use Rattle.pif_model.specs.declared.events.Seen.TheVariants.{Begun, Answered, Ended}
 use Rattle.pif_model.specs.declared.events.Entry.{Entry}
@@ -23,14 +23,22 @@ open_call t (e ∷ h) = open_after t e (open_call t h)
 abbrev pub hold_count_locked : ℕ → ℕ → ℕ
 hold_count_locked a count = if a == 0 then count + 1 else (if a == 130 then count + 1 else count)
 
+-- the hold count after an answer to a wait: ENOTRECOVERABLE and EDEADLK make it 0, since the thread doesn't hold the
+-- mutex then
+abbrev pub hold_count_waited : ℕ → ℕ → ℕ
+hold_count_waited a count = if a == 131 then 0 else (if a == 35 then 0 else count)
+
 -- the hold count on m after an answer to this request: lock and trylock may add 1, unlock takes 1 away where it is
--- answered 0
+-- answered 0, and wait may make it 0
 abbrev pub hold_count_after_answer : ℕ → Option Request → ℕ → ℕ → ℕ
 hold_count_after_answer m None a count = count
 hold_count_after_answer m (Some (Lock n)) a count = if n == m then hold_count_locked a count else count
 hold_count_after_answer m (Some (TryLock n)) a count = if n == m then hold_count_locked a count else count
 hold_count_after_answer m (Some (Unlock n)) a count = if n == m then (if a == 0 then count - 1 else count) else count
 hold_count_after_answer m (Some (Consistent n)) a count = count
+hold_count_after_answer m (Some (Wait c n)) a count = if n == m then hold_count_waited a count else count
+hold_count_after_answer m (Some (Signal c)) a count = count
+hold_count_after_answer m (Some (Broadcast c)) a count = count
 hold_count_after_answer m (Some (SetPrio u p)) a count = count
 
 -- the hold count of t on m after one more entry: an end of t makes it 0
@@ -52,11 +60,28 @@ unlocking m (Some (Lock n)) = 0
 unlocking m (Some (TryLock n)) = 0
 unlocking m (Some (Unlock n)) = if n == m then 1 else 0
 unlocking m (Some (Consistent n)) = 0
+unlocking m (Some (Wait c n)) = 0
+unlocking m (Some (Signal c)) = 0
+unlocking m (Some (Broadcast c)) = 0
 unlocking m (Some (SetPrio u p)) = 0
 
--- whether t holds m by the answers: its hold count, less 1 while an unlock of m by t is open, is above 0
+-- whether a wait on m is open
+abbrev pub waiting_with : ℕ → Option Request → Bool
+waiting_with m None = false
+waiting_with m (Some (Lock n)) = false
+waiting_with m (Some (TryLock n)) = false
+waiting_with m (Some (Unlock n)) = false
+waiting_with m (Some (Consistent n)) = false
+waiting_with m (Some (Wait c n)) = n == m
+waiting_with m (Some (Signal c)) = false
+waiting_with m (Some (Broadcast c)) = false
+waiting_with m (Some (SetPrio u p)) = false
+
+-- whether t holds m by the answers: no wait of t on m is open, and its hold count, less 1 while an unlock of m by t is
+-- open, is above 0
 abbrev pub holds : ℕ → ℕ → List Entry → Bool
-holds t m h = nat_lt (unlocking m (open_call t h)) (hold_count t m h)
+holds t m h =
+    if waiting_with m (open_call t h) then false else nat_lt (unlocking m (open_call t h)) (hold_count t m h)
 
 -- no mutex has two holders
 abbrev pub HasOneHolder : List Entry → Type 0

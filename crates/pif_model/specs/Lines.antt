@@ -6,7 +6,7 @@ use Rattle.pif_types.specs.declared.errors.Errno.TheVariants.{NoSuchThread, Agai
 use Rattle.pif_types.specs.declared.errors.Refusal.{Refusal}
 use Rattle.pif_types.specs.declared.requests.Kind.TheVariants.{Normal, ErrorCheck, Recursive}
 use Rattle.pif_types.specs.declared.requests.Request.{Request}
-use Rattle.pif_types.specs.declared.requests.Request.TheVariants.{Lock, TryLock, Unlock, Consistent, SetPrio}
+use Rattle.pif_types.specs.declared.requests.Request.TheVariants.{Lock, TryLock, Unlock, Consistent, Wait, Signal, Broadcast, SetPrio}
 use Rattle.pif_model.specs.declared.events.Event.{Event}
 use Rattle.pif_model.specs.declared.events.Event.TheVariants.{Begin, Go, End}
 use Rattle.pif_model.specs.declared.events.Seen.{Seen}
@@ -14,15 +14,15 @@ use Rattle.pif_model.specs.declared.events.Seen.TheVariants.{Begun, Went, Waits,
 use Rattle.pif_model.specs.declared.lines.Line.{Line}
 use Rattle.pif_model.specs.declared.lines.Line.TheVariants.{Idle, At}
 use Rattle.pif_model.specs.declared.lines.Place.{Place}
-use Rattle.pif_model.specs.declared.lines.Place.TheVariants.{LockLoad, LockPending, LockExchange, LockKernel, LockQueued, LockStop, LockStopped, LockClear, TakeLoad, TakeHealth, TakeStore, TakeWord, LinkNext, LinkHead, LinkClear, LeaveExchange, LeaveKernel, LeaveClear, TryLoad, TryPending, TryExchange, TryKernel, TryClear, UnlockLoad, UnlockPending, UnlockHealth, UnlockStore, UnlockUnlink, UnlockExchange, UnlockKernel, UnlockClear, ConsistentLoad, ConsistentHealth, ConsistentStore, SetPriority}
+use Rattle.pif_model.specs.declared.lines.Place.TheVariants.{LockLoad, LockPending, LockExchange, LockKernel, LockQueued, LockStop, LockStopped, LockClear, TakeLoad, TakeHealth, TakeStore, TakeWord, LinkNext, LinkHead, LinkClear, LeaveExchange, LeaveKernel, LeaveClear, TryLoad, TryPending, TryExchange, TryKernel, TryClear, UnlockLoad, UnlockPending, UnlockHealth, UnlockStore, UnlockUnlink, UnlockExchange, UnlockKernel, UnlockClear, ConsistentLoad, ConsistentHealth, ConsistentStore, WaitLoad, WaitUses, WaitPending, WaitHealth, WaitStore, WaitUnlink, WaitExchange, WaitKernel, WaitPark, WaitParked, UseLoad, UseExchange, UseRequeue, UseReload, SetPriority}
 use Rattle.pif_model.specs.declared.lines.Took.{Took}
 use Rattle.pif_model.specs.declared.lines.Took.TheVariants.{Owns as TookOwns, Queued as TookQueued}
 use Rattle.pif_model.specs.Posix.{names_known}
 use Rattle.pif_model.specs.Refusals.{begin_refused, go_refused, end_refused}
 use Rattle.pif_model.specs.Word.{Word, Words, word_at, take_word, release_word}
-use Rattle.pif_model.specs.PiKernel.{is_ready, is_living, lock_answer, words_after_lock, kernel_after_lock, try_lock_answer, words_after_try_lock, unlock_answer, words_after_unlock, kernel_after_unlock, set_prio_answer, kernel_after_set_prio, kernel_after_stop, after_exit}
+use Rattle.pif_model.specs.PiKernel.{is_ready, is_woken_again, is_living, lock_answer, words_after_lock, kernel_after_lock, try_lock_answer, words_after_try_lock, unlock_answer, words_after_unlock, kernel_after_unlock, set_prio_answer, kernel_after_set_prio, kernel_after_stop, wait_requeue_answer, kernel_after_wait_requeue, requeue_answer, after_requeue, after_exit}
 use Rattle.pif_model.specs.RobustList.{robust_at, walk_of, with_pending, without_pending, with_half_linked, with_listed, without_listed, without_robust}
-use Rattle.pif_model.specs.Table.{Table, LibraryMutex, new_mutex, status_at, line_at, cell_at, has_thread, has_mutex, with_line, with_count, with_word, with_health_word, with_lists, with_kernel}
+use Rattle.pif_model.specs.Table.{Table, LibraryMutex, new_mutex, status_at, line_at, cell_at, has_thread, has_mutex, has_cond, bound_to, uses_of, with_line, with_count, with_word, with_health_word, with_cond_word, with_lists, with_kernel}
 
 -- what a step is answered, and the state after it
 pub record Outcome : Type 0 where
@@ -60,7 +60,7 @@ goes_by t q m robust stalled s = if is_robust m s then goes_to t q robust s else
 abbrev pub ends_by : ℕ → Request → ℕ → Place → ℕ → Table → Outcome
 ends_by t q m robust a s = if is_robust m s then goes_to t q robust s else answers t a s
 
--- lock and trylock: the owner of a RECURSIVE mutex holds it once more, or where it holds it 255 times is answered EAGAIN
+-- lock and trylock: the owner of a RECURSIVE mutex holds it once more, or if it holds it 255 times is answered EAGAIN
 unfoldable pub locked_again : ℕ → ℕ → Table → Outcome
 locked_again t m s =
     if nat_lt (cell_at s m).count 255
@@ -72,8 +72,8 @@ unfoldable pub exchanged : Option Word → ℕ → (Table → Outcome) → (Tabl
 exchanged (Some w) m done failed s = done (with_word m w s)
 exchanged None m done failed s = failed s
 
--- lock and trylock: compare-exchange from 0 to t. Done, a stalled mutex is taken, and of a robust one the health is next;
--- where it fails the call goes on at this place, its kernel call
+-- lock and trylock: compare-exchange from 0 to t. Done, a stalled mutex is taken, and of a robust one the health is
+-- next; where it fails the call goes on at this place, its kernel call
 unfoldable pub own_exchange : Request → Place → ℕ → ℕ → Table → Outcome
 own_exchange q p t m s = exchanged (take_word (cell_at s m).word t) m (ends_by t q m (TakeHealth false) 0) (goes_to t q p) s
 
@@ -103,8 +103,8 @@ lock_kernel q t m s =
 unfoldable pub take_load : Request → ℕ → ℕ → Table → Outcome
 take_load q t m s = goes_to t q (TakeHealth (cell_at s m).word.died) s
 
--- a request that locks: queued; or made the owner, which is answered with no access for a stalled mutex, and is the load
--- of taking over for a robust one
+-- a request that locks: queued; or made the owner, which is answered with no access for a stalled mutex, and is the
+-- load of taking over for a robust one
 unfoldable pub lock_queued : Request → ℕ → ℕ → Table → Outcome
 lock_queued q t m s =
     if is_ready (status_at s t)
@@ -191,7 +191,8 @@ unfoldable pub unlock_exchange : ℕ → ℕ → Table → Outcome
 unlock_exchange t m s =
     exchanged (release_word (cell_at s m).word t) m (ends_by t (Unlock m) m UnlockClear 0) (goes_to t (Unlock m) UnlockKernel) s
 
--- consistent: a stalled mutex is answered EINVAL with no access. Else load the word; who isn't the owner is answered EPERM
+-- consistent: a stalled mutex is answered EINVAL with no access. Else load the word; who isn't the owner is answered
+-- EPERM
 unfoldable pub consistent_load : ℕ → ℕ → Table → Outcome
 consistent_load t m s =
     if is_robust m s
@@ -213,6 +214,81 @@ unfoldable pub set_priority : ℕ → ℕ → ℕ → Table → Outcome
 set_priority t u p s =
     let r = set_prio_answer u p s.kernel in
     answered_by r t (with_kernel s.words (kernel_after_set_prio u p r s.kernel) s)
+
+-- CONDITION VARIABLES
+
+-- wait: a mutex to which the variable isn't bound is answered EINVAL with no access. Else load the word: who isn't the
+-- owner is answered EPERM, and an owner who holds it more than once EINVAL
+unfoldable pub wait_load : ℕ → ℕ → ℕ → Table → Outcome
+wait_load c m t s =
+    if bound_to s c == m
+    then (if (cell_at s m).word.number == t
+    then (if nat_lt 1 (cell_at s m).count then answers t 22 s else goes_to t (Wait c m) WaitUses s)
+    else answers t 1 s)
+    else answers t 22 s
+
+-- wait: load the condition word
+unfoldable pub wait_uses : ℕ → ℕ → ℕ → Table → Outcome
+wait_uses c m t s = goes_by t (Wait c m) m (WaitPending (uses_of s c)) (WaitExchange (uses_of s c)) s
+
+-- wait: load the health word. An inconsistent mutex becomes unusable
+unfoldable pub wait_health : ℕ → ℕ → ℕ → ℕ → Table → Outcome
+wait_health v c m t s =
+    if (cell_at s m).health == 1 then goes_to t (Wait c m) (WaitStore v) s else goes_to t (Wait c m) (WaitUnlink v) s
+
+-- wait: compare-exchange from t to 0
+unfoldable pub wait_exchange : ℕ → ℕ → ℕ → ℕ → Table → Outcome
+wait_exchange v c m t s =
+    exchanged (release_word (cell_at s m).word t) m (goes_to t (Wait c m) (WaitPark v))
+    (goes_to t (Wait c m) (WaitKernel v)) s
+
+-- wait, by what its kernel call answered. EAGAIN: the variable was used since, and the thread locks the mutex again
+unfoldable pub wait_by : Result (record {}) Errno → ℕ → ℕ → ℕ → Table → Outcome
+wait_by (Ok x) c m t s = waits_at t (Wait c m) WaitParked s
+wait_by (Err Again) c m t s = goes_to t (Wait c m) LockExchange s
+wait_by (Err e) c m t s = answers t (number_of e) s
+
+-- wait: the kernel call wait_requeue_pi
+unfoldable pub wait_park : ℕ → ℕ → ℕ → ℕ → Table → Outcome
+wait_park v c m t s =
+    let r = wait_requeue_answer c v m s.words in
+    wait_by r c m t (with_kernel s.words (kernel_after_wait_requeue t c m r s.kernel) s)
+
+-- wait: parked, or queued since; or woken to lock the mutex, which is the exchange of lock; or made the owner, which is
+-- answered or is the load of taking over, as in lock
+unfoldable pub wait_parked : ℕ → ℕ → ℕ → Table → Outcome
+wait_parked c m t s =
+    if is_woken_again (status_at s t) then own_exchange (Wait c m) LockKernel t m s else lock_queued (Wait c m) t m s
+
+-- signal and broadcast: the variable was used this often, as it was read. At its limit EOVERFLOW
+unfoldable pub use_read : Request → ℕ → ℕ → Table → Outcome
+use_read q n t s = if n == s.limits.signals then answers t 75 s else goes_to t q (UseExchange n) s
+
+-- signal and broadcast: compare-exchange the condition word from v to one more. Where it fails it goes on with what the
+-- word is
+unfoldable pub use_exchange : Request → ℕ → ℕ → ℕ → Table → Outcome
+use_exchange q v c t s =
+    if uses_of s c == v
+    then goes_to t q (UseRequeue (v + 1)) (with_cond_word c (v + 1) s)
+    else use_read q (uses_of s c) t s
+
+-- how many threads a signal or a broadcast takes besides the first
+abbrev pub more_in : Request → ℕ
+more_in (Broadcast c) = 1024
+more_in _ = 0
+
+-- signal and broadcast, by what their kernel call answered. EAGAIN: the variable was used since
+unfoldable pub use_by : Result ℕ Errno → Request → ℕ → Table → Outcome
+use_by (Ok n) q t s = answers t 0 s
+use_by (Err Again) q t s = goes_to t q UseReload s
+use_by (Err e) q t s = answers t (number_of e) s
+
+-- signal and broadcast: the kernel call cmp_requeue_pi, for the mutex to which the variable is bound
+unfoldable pub use_requeue : Request → ℕ → ℕ → ℕ → Table → Outcome
+use_requeue q v c t s =
+    let r = requeue_answer c (bound_to s c) 1 (more_in q) v s.words s.kernel in
+    let x = after_requeue c (bound_to s c) (more_in q) r s.words s.kernel in
+    use_by r q t (with_kernel x.words x.kernel s)
 
 -- THE END OF A THREAD
 
@@ -252,17 +328,29 @@ shared_line q LeaveKernel t m s = gives_up t m (goes_to t q LeaveClear) s
 shared_line q LeaveClear t m s = clears 131 t s
 shared_line q _ t m s = answers t 22 s
 
+-- one step of a request that locks m, from the exchange on
+unfoldable pub locking_line : Request → Place → ℕ → ℕ → Table → Outcome
+locking_line q LockExchange t m s = own_exchange q LockKernel t m s
+locking_line q LockKernel t m s = lock_kernel q t m s
+locking_line q LockQueued t m s = lock_queued q t m s
+locking_line q LockStop t m s = lock_stop q t s
+locking_line q LockStopped t m s = record { seen = Waits; after = s }
+locking_line q LockClear t m s = clears 35 t s
+locking_line q p t m s = shared_line q p t m s
+
+-- one step of a signal or a broadcast of c; at another place, which never comes, EINVAL
+unfoldable pub use_line : Request → Place → ℕ → ℕ → Table → Outcome
+use_line q UseLoad c t s = use_read q (uses_of s c) t s
+use_line q (UseExchange v) c t s = use_exchange q v c t s
+use_line q (UseRequeue v) c t s = use_requeue q v c t s
+use_line q UseReload c t s = goes_to t q (UseRequeue (uses_of s c)) s
+use_line q _ c t s = answers t 22 s
+
 -- one step of a call at a place of its own; at a place of another, which never comes, EINVAL
 unfoldable pub line_of : Request → Place → ℕ → Table → Outcome
 line_of (Lock m) LockLoad t s = lock_load (Lock m) t m s
 line_of (Lock m) LockPending t s = goes_to t (Lock m) LockExchange (pending t m s)
-line_of (Lock m) LockExchange t s = own_exchange (Lock m) LockKernel t m s
-line_of (Lock m) LockKernel t s = lock_kernel (Lock m) t m s
-line_of (Lock m) LockQueued t s = lock_queued (Lock m) t m s
-line_of (Lock m) LockStop t s = lock_stop (Lock m) t s
-line_of (Lock m) LockStopped t s = record { seen = Waits; after = s }
-line_of (Lock m) LockClear t s = clears 35 t s
-line_of (Lock m) p t s = shared_line (Lock m) p t m s
+line_of (Lock m) p t s = locking_line (Lock m) p t m s
 line_of (TryLock m) TryLoad t s = try_load t m s
 line_of (TryLock m) TryPending t s = goes_to t (TryLock m) TryExchange (pending t m s)
 line_of (TryLock m) TryExchange t s = own_exchange (TryLock m) TryKernel t m s
@@ -280,6 +368,20 @@ line_of (Unlock m) UnlockClear t s = clears 0 t s
 line_of (Consistent m) ConsistentLoad t s = consistent_load t m s
 line_of (Consistent m) ConsistentHealth t s = consistent_health t m s
 line_of (Consistent m) ConsistentStore t s = answers t 0 (with_health_word m 0 s)
+line_of (Wait c m) WaitLoad t s = wait_load c m t s
+line_of (Wait c m) WaitUses t s = wait_uses c m t s
+line_of (Wait c m) (WaitPending v) t s = goes_to t (Wait c m) (WaitHealth v) (pending t m s)
+line_of (Wait c m) (WaitHealth v) t s = wait_health v c m t s
+line_of (Wait c m) (WaitStore v) t s = goes_to t (Wait c m) (WaitUnlink v) (with_health_word m 2 s)
+line_of (Wait c m) (WaitUnlink v) t s =
+    goes_to t (Wait c m) (WaitExchange v) (with_lists (without_listed t m s.lists) s)
+line_of (Wait c m) (WaitExchange v) t s = wait_exchange v c m t s
+line_of (Wait c m) (WaitKernel v) t s = gives_up t m (goes_to t (Wait c m) (WaitPark v)) s
+line_of (Wait c m) (WaitPark v) t s = wait_park v c m t s
+line_of (Wait c m) WaitParked t s = wait_parked c m t s
+line_of (Wait c m) p t s = locking_line (Wait c m) p t m s
+line_of (Signal c) p t s = use_line (Signal c) p c t s
+line_of (Broadcast c) p t s = use_line (Broadcast c) p c t s
 line_of (SetPrio u p) SetPriority t s = set_priority t u p s
 line_of _ _ t s = answers t 22 s
 
@@ -294,6 +396,9 @@ first_place (Lock m) = LockLoad
 first_place (TryLock m) = TryLoad
 first_place (Unlock m) = UnlockLoad
 first_place (Consistent m) = ConsistentLoad
+first_place (Wait c m) = WaitLoad
+first_place (Signal c) = UseLoad
+first_place (Broadcast c) = UseLoad
 first_place (SetPrio u p) = SetPriority
 
 -- whether a call is open
@@ -303,7 +408,9 @@ is_open (At q p) = true
 
 -- why an event is refused, if it is
 abbrev pub table_refusal : Table → Event → Option Refusal
-table_refusal s (Begin t q) = begin_refused (has_thread s t) (is_living s.kernel t) (is_open (line_at s t)) (names_known (has_mutex s) q)
+table_refusal s (Begin t q) =
+    begin_refused (has_thread s t) (is_living s.kernel t) (is_open (line_at s t))
+    (names_known (has_mutex s) (has_cond s) q)
 table_refusal s (Go t) = go_refused (has_thread s t) (is_living s.kernel t) (is_open (line_at s t))
 table_refusal s (End t) = end_refused (has_thread s t) (is_living s.kernel t)
 

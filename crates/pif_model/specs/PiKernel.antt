@@ -1,25 +1,34 @@
--- The kernel by itself: what it knows of threads and owner states, its queue and its run queue, and its calls, total on
--- any words. A refused call changes nothing; refusals are tested in the order in which they stand. (futex(2),
--- FUTEX_LOCK_PI, FUTEX_TRYLOCK_PI and FUTEX_UNLOCK_PI; PI-futex and RT-mutex design; sched(7) for the run queue.)
--- Threads and mutexes are numbered from 1; place 0 of each list stands for nobody.
-use Rattle.std.specs.Prelude.{ℕ, zero, suc, ◌≡◌, ◌≢◌, ◌+◌, ◌-◌, ◌≤◌, Bool, true, false, ◌==◌, nat_lt, List, [], ◌∷◌, ◌++◌, length, get_or, set, map, replicate, Option, Some, None, Result, Ok, Err, if◌then◌else◌, eqb}
+-- The kernel by itself: what it knows of threads and owner states, its queue, the threads that are parked on condition
+-- variables, its run queue, and its calls, total on any words. A refused call changes nothing; refusals are tested in
+-- the order in which they stand. (futex(2), FUTEX_LOCK_PI, FUTEX_TRYLOCK_PI, FUTEX_UNLOCK_PI, FUTEX_WAIT_REQUEUE_PI and
+-- FUTEX_CMP_REQUEUE_PI; PI-futex and RT-mutex design; sched(7) for the run queue.)
+-- Threads, mutexes and variables are numbered from 1; place 0 of each list stands for nobody.
+use Rattle.std.specs.Prelude.{ℕ, zero, suc, ◌≡◌, ◌≢◌, ◌+◌, ◌-◌, ◌≤◌, Bool, true, false, ◌==◌, nat_lt, min, List, [], ◌∷◌, ◌++◌, length, get_or, set, map, replicate, Result, Ok, Err, if◌then◌else◌, eqb}
 use Rattle.std.specs.List.{filter, list_any, IsDistinct}
 use Rattle.pif_types.specs.Bounds.{Bounds}
 use Rattle.pif_types.specs.declared.errors.Errno.{Errno}
 use Rattle.pif_types.specs.declared.errors.Errno.TheVariants.{NotPermitted, NoSuchThread, Again, Fault, Invalid, Deadlock}
 use Rattle.pif_model.specs.declared.lines.Status.{Status}
-use Rattle.pif_model.specs.declared.lines.Status.TheVariants.{Ready, Queued, Stopped, Ended}
-use Rattle.pif_model.specs.declared.lines.Woken.TheVariants.{Fresh as WokenFresh, Owns as WokenOwns}
+use Rattle.pif_model.specs.declared.lines.Status.TheVariants.{Ready, Queued, Parked, Stopped, Ended}
+use Rattle.pif_model.specs.declared.lines.Woken.{Woken}
+use Rattle.pif_model.specs.declared.lines.Woken.TheVariants.{Fresh as WokenFresh, Owns as WokenOwns, Again as WokenAgain}
 use Rattle.pif_model.specs.declared.lines.Took.{Took}
 use Rattle.pif_model.specs.declared.lines.Took.TheVariants.{Owns as TookOwns, Queued as TookQueued}
 use Rattle.pif_model.specs.Graph.{is_priority, reaches_within, effective_among, next_waiter, has_waiter, without}
-use Rattle.pif_model.specs.Word.{Words, free_word, taken_word, mark_word, hand_word, orphan_word, inherit_word, word_at, has_word, set_word}
+use Rattle.pif_model.specs.Word.{Words, free_word, taken_word, mark_word, hand_word, orphan_word, inherit_word, word_at, has_word, set_word, cond_word_at, has_cond_word}
 
 -- a thread, as the kernel knows it
 pub record Seat : Type 0 where
   -- its base priority
   pub base : ℕ
   pub status : Status
+
+-- a thread that is parked on a condition variable
+pub record Parking : Type 0 where
+  pub thread : ℕ
+  pub cond : ℕ
+  -- the mutex that it is to get once it is taken from the variable
+  pub target : ℕ
 
 -- the state of the kernel
 pub record Kernel : Type 0 where
@@ -31,6 +40,8 @@ pub record Kernel : Type 0 where
   pub states : List ℕ
   -- pairs of a thread and the mutex on which it is queued, in order of their tickets
   pub waiters : List (ℕ × ℕ)
+  -- the threads that are parked, in order of their tickets
+  pub parked : List Parking
   -- the ready threads of each of the 99 levels, in order of joining; nobody stands at place 0
   pub levels : List (List ℕ)
 
@@ -49,6 +60,7 @@ has_seat k t = if t == 0 then false else nat_lt t (length k.seats)
 abbrev pub has_ended : Status → Bool
 has_ended (Ready w) = false
 has_ended (Queued m) = false
+has_ended (Parked c) = false
 has_ended Stopped = false
 has_ended Ended = true
 
@@ -60,13 +72,33 @@ is_living k t = if has_seat k t then (if has_ended (seat_at k t).status then fal
 abbrev pub queued_on : Status → ℕ
 queued_on (Ready w) = 0
 queued_on (Queued m) = m
+queued_on (Parked c) = 0
 queued_on Stopped = 0
 queued_on Ended = 0
+
+-- whether a thread of this status is parked on a variable
+abbrev pub is_parked : Status → Bool
+is_parked (Ready w) = false
+is_parked (Queued m) = false
+is_parked (Parked c) = true
+is_parked Stopped = false
+is_parked Ended = false
+
+-- whether a thread of this status was woken to lock its mutex itself
+abbrev pub is_woken_again : Status → Bool
+is_woken_again (Ready WokenFresh) = false
+is_woken_again (Ready WokenOwns) = false
+is_woken_again (Ready WokenAgain) = true
+is_woken_again (Queued m) = false
+is_woken_again (Parked c) = false
+is_woken_again Stopped = false
+is_woken_again Ended = false
 
 -- whether a thread of this status may run
 abbrev pub is_ready : Status → Bool
 is_ready (Ready w) = true
 is_ready (Queued m) = false
+is_ready (Parked c) = false
 is_ready Stopped = false
 is_ready Ended = false
 
@@ -85,6 +117,23 @@ effective_in k t = effective_among (length k.seats) (waits_for k) (λ u. (seat_a
 -- the next waiter of m, 0 where there is none
 abbrev pub next_in : Kernel → ℕ → ℕ
 next_in k m = next_waiter (effective_in k) k.waiters m
+
+-- pairs of a parked thread and the variable on which it is parked, in order of their tickets
+abbrev pub parked_pairs : List Parking → List (ℕ × ℕ)
+parked_pairs ps = map (λ (p : Parking). (p.thread, p.cond)) ps
+
+-- the parked threads but u
+abbrev pub unparked : List Parking → ℕ → List Parking
+unparked ps u = filter (λ (p : Parking). if p.thread == u then false else true) ps
+
+-- whether a thread is parked on c
+abbrev pub has_parked : Kernel → ℕ → Bool
+has_parked k c = has_waiter (parked_pairs k.parked) c
+
+-- the thread that is taken next from c: the first in order of tickets among those of greatest effective priority that
+-- are parked on it; 0 where none is
+abbrev pub top_parked : Kernel → ℕ → ℕ
+top_parked k c = next_waiter (effective_in k) (parked_pairs k.parked) c
 
 -- t as x
 abbrev pub with_seat : ℕ → Seat → Kernel → Kernel
@@ -158,7 +207,14 @@ no_states = replicate 1025 0
 -- a kernel under these limits to which nothing was added
 abbrev pub new_kernel : Bounds → Kernel
 new_kernel l =
-    record { limits = l; seats = no_seat ∷ []; states = no_states; waiters = []; levels = levels_by (λ p. []) }
+    record {
+      limits = l;
+      seats = no_seat ∷ [];
+      states = no_states;
+      waiters = [];
+      parked = [];
+      levels = levels_by (λ p. []);
+    }
 
 -- THE CALLS
 
@@ -262,26 +318,123 @@ kernel_after_set_prio t p (Err e) k = k
 unfoldable pub kernel_after_stop : ℕ → Kernel → Kernel
 kernel_after_stop t k = record (with_status t Stopped k) { levels = levels_without t k.levels }
 
+-- the words and the kernel
+pub record System : Type 0 where
+  pub words : Words
+  pub kernel : Kernel
+
+-- CONDITION VARIABLES
+
+-- what wait_requeue_pi answers on c and m, where the caller expects this condition word
+unfoldable pub wait_requeue_answer : ℕ → ℕ → ℕ → Words → Result (record {}) Errno
+wait_requeue_answer c expected m ws =
+    if (if has_cond_word ws c then has_word ws m else false) then
+    (if cond_word_at ws c == expected then Ok (record {}) else Err Again)
+    else Err Fault
+
+-- t is parked on c with the target m: it has the last ticket, and has left its level
+unfoldable pub kernel_after_parking : ℕ → ℕ → ℕ → Kernel → Kernel
+kernel_after_parking t c m k = record (with_status t (Parked c) k) {
+  parked = k.parked ++ record { thread = t; cond = c; target = m } ∷ [];
+  levels = levels_without t k.levels;
+}
+
+-- the kernel after wait_requeue_pi, by its answer
+unfoldable pub kernel_after_wait_requeue : ℕ → ℕ → ℕ → Result (record {}) Errno → Kernel → Kernel
+kernel_after_wait_requeue t c m (Ok x) k = kernel_after_parking t c m k
+kernel_after_wait_requeue t c m (Err e) k = k
+
+-- u has left the variable on which it was parked
+abbrev pub without_parking : ℕ → Kernel → Kernel
+without_parking u k = record k { parked = unparked k.parked u }
+
+-- u is woken from the variable on which it was parked: it is ready, and joins its level
+unfoldable pub kernel_after_waking : ℕ → Woken → Kernel → Kernel
+kernel_after_waking u w k = record (with_status u (Ready w) (without_parking u k)) {
+  levels = levels_with u (effective_in k u) k.levels;
+}
+
+-- whether u may queue behind n: n lives, and no chain leads from n to u, which is not n itself
+abbrev pub may_queue : ℕ → ℕ → Kernel → Bool
+may_queue u n k =
+    if is_living k n then (if reaches_within (length k.seats) (waits_for k) n u then false else true) else false
+
+-- u is taken from its variable, for m, by the word as it is now. A word without a number: u owns m. The number of a
+-- living thread, for which u can wait without a cycle: u is queued on m, with a new ticket. Else u is woken to lock m
+-- itself. All is settled then
+unfoldable pub after_taking : ℕ → ℕ → System → System
+after_taking u m x =
+    let w = word_at x.words m in
+    if w.number == 0
+    then record {
+      words = set_word x.words m (taken_word u w);
+      kernel = kernel_after_waking u WokenOwns x.kernel;
+    }
+    else (if may_queue u w.number x.kernel
+    then record {
+      words = set_word x.words m (mark_word w);
+      kernel = kernel_after_queueing u m w.number (without_parking u x.kernel);
+    }
+    else record x { kernel = kernel_after_waking u WokenAgain x.kernel })
+
+-- at most n of the threads that are parked on c are taken for m, one after another, each time the next one then
+unfoldable pub after_takings : ℕ → ℕ → ℕ → System → System
+after_takings zero c m x = x
+after_takings (suc n) c m x =
+    elim (has_parked x.kernel c) [ true ↦ after_takings n c m (after_taking (top_parked x.kernel c) m x) | false ↦ x ]
+
+-- whether a thread that is parked on c has another target than m
+abbrev pub has_other_target : Kernel → ℕ → ℕ → Bool
+has_other_target k c m =
+    list_any (λ (p : Parking). if p.cond == c then (if p.target == m then false else true) else false) k.parked
+
+-- how many threads are parked on c
+abbrev pub parked_count : Kernel → ℕ → ℕ
+parked_count k c = length (filter (λ (p : Parking). p.cond == c) k.parked)
+
+-- whether the number n of a word and the owner state, that of s (0: none), fit together: a word without a number has no
+-- owner state, and one with the number of a living thread has none of another owner
+abbrev pub fits_state : ℕ → ℕ → Kernel → Bool
+fits_state n s k = if s == 0 then true else (if n == 0 then false else (if is_living k n then s == n else true))
+
+-- what cmp_requeue_pi answers on c and m, where `val` threads, which is to be 1, and this many `more` may be taken, and
+-- the caller expects this condition word: how many are taken
+unfoldable pub requeue_answer : ℕ → ℕ → ℕ → ℕ → ℕ → Words → Kernel → Result ℕ Errno
+requeue_answer c m val more expected ws k =
+    if (if has_cond_word ws c then has_word ws m else false) then
+    (if val == 1 then
+    (if cond_word_at ws c == expected then
+    (if has_other_target k c m then Err Invalid else
+    (if has_parked k c then
+    (if fits_state (word_at ws m).number (state_at k m) k
+    then Ok (min (parked_count k c) (more + 1)) else Err Invalid)
+    else Ok 0))
+    else Err Again)
+    else Err Invalid)
+    else Err Fault
+
+-- words and kernel after cmp_requeue_pi, by its answer
+unfoldable pub after_requeue : ℕ → ℕ → ℕ → Result ℕ Errno → Words → Kernel → System
+after_requeue c m more (Ok n) ws k = after_takings (suc more) c m (record { words = ws; kernel = k })
+after_requeue c m more (Err e) ws k = record { words = ws; kernel = k }
+
 -- THE END OF A THREAD
 
--- t has ended: it has left the mutex on which it was queued, whose owner state goes where nobody else waits, and its
--- level, and the chain above has its priorities. Of the owner states that it still owns nothing is changed
+-- t has ended: it has left the mutex on which it was queued, whose owner state goes where nobody else waits, or the
+-- variable on which it was parked, and its level, and the chain above has its priorities. Of the owner states that it
+-- still owns nothing is changed
 unfoldable pub kernel_after_leaving : ℕ → Kernel → Kernel
 kernel_after_leaving t k =
     let m = queued_on (seat_at k t).status in
     let rest = without k.waiters t in
     with_effective_levels (record (with_status t Ended (with_state m (if has_waiter rest m then state_at k m else 0) k)) {
       waiters = rest;
+      parked = unparked k.parked t;
       levels = levels_without t k.levels;
     })
 
--- the words and the kernel
-pub record System : Type 0 where
-  pub words : Words
-  pub kernel : Kernel
-
--- m passes on where its word has the number of t, which has ended: with no owner state it has no owner; with one of t it
--- is handed to its next waiter; with one of another owner nothing changes. OWNER_DIED is set
+-- m passes on where its word has the number of t, which has ended: with no owner state it has no owner; with one of t
+-- it is handed to its next waiter; with one of another owner nothing changes. OWNER_DIED is set
 unfoldable pub after_death : ℕ → ℕ → System → System
 after_death t m x =
     if (if has_word x.words m then (word_at x.words m).number == t else false) then
@@ -314,15 +467,24 @@ pub record IsKernelShaped (k : Kernel) : Type 0 where
   pub no_mutex : state_at k 0 ≡ 0
   pub levels : length k.levels ≡ 100
 
+-- a thread is parked on a variable exactly where its status says, and once
+pub record ParksAsTold (k : Kernel) : Type 0 where
+  pub status : (u c : ℕ) → list_any (λ (w : ℕ × ℕ). if w.0 == u then w.1 == c else false) (parked_pairs k.parked) ≡ true
+      → (seat_at k u).status ≡ Parked c
+  pub parked : (u c : ℕ) → (seat_at k u).status ≡ Parked c
+      → list_any (λ (w : ℕ × ℕ). if w.0 == u then w.1 == c else false) (parked_pairs k.parked) ≡ true
+  pub once : IsDistinct eqb (map (λ (w : ℕ × ℕ). w.0) (parked_pairs k.parked))
+
 -- each thread stands in at most one waiting list, an owner state exists exactly while threads are queued on its mutex,
 -- nobody waits for itself, and the ready threads stand at the levels of their effective priorities; nobody stands in
--- the queue twice, nor in the run queue
+-- the queue twice, nor among the parked, nor in the run queue
 pub record IsKernel (k : Kernel) : Type 0 where
   pub shape : IsKernelShaped k
   -- a thread is queued where its status says
   pub queue : (u m : ℕ) → list_any (λ (w : ℕ × ℕ). if w.0 == u then w.1 == m else false) k.waiters ≡ true → (seat_at k u).status ≡ Queued m
   pub queued : (u m : ℕ) → (seat_at k u).status ≡ Queued m → list_any (λ (w : ℕ × ℕ). if w.0 == u then w.1 == m else false) k.waiters ≡ true
   pub once : IsDistinct eqb (map (λ (w : ℕ × ℕ). w.0) k.waiters)
+  pub parking : ParksAsTold k
   -- there is an owner state exactly while threads are queued, of a thread that was added
   pub states : (m : ℕ) → (state_at k m == 0) ≡ (if has_waiter k.waiters m then false else true)
   pub owners : (m : ℕ) → state_at k m ≢ 0 → has_seat k (state_at k m) ≡ true

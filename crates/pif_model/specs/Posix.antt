@@ -1,22 +1,23 @@
--- The POSIX machine of mutexes: what pthread_mutex_lock, pthread_mutex_trylock, pthread_mutex_unlock,
--- pthread_mutex_consistent, pthread_setschedprio and the end of a thread do, by POSIX.1-2017 (the pages
--- pthread_mutex_lock, pthread_mutex_trylock, pthread_mutex_consistent, pthread_mutexattr_settype,
+-- The POSIX machine of mutexes and condition variables: what pthread_mutex_lock, pthread_mutex_trylock,
+-- pthread_mutex_unlock, pthread_mutex_consistent, pthread_cond_wait, pthread_cond_signal, pthread_cond_broadcast,
+-- pthread_setschedprio and the end of a thread do, by POSIX.1-2017 (the pages pthread_mutex_lock,
+-- pthread_mutex_trylock, pthread_mutex_consistent, pthread_cond_wait, pthread_cond_signal, pthread_mutexattr_settype,
 -- pthread_mutexattr_setprotocol, pthread_mutexattr_setrobust and pthread_setschedprio).
--- It knows no words, no kernel and no chain walks. A call has effects, each of which happens at one moment between
--- its beginning and its answer. Threads and mutexes are numbered from 1; place 0 of each list stands for nobody.
-use Rattle.std.specs.Prelude.{ℕ, ◌≡◌, ◌≢◌, ◌≤◌, ◌<◌, ◌+◌, ◌-◌, Bool, true, false, ◌==◌, nat_lt, List, [], ◌∷◌, ◌++◌, length, get_or, set, Option, Some, None, is_some, if◌then◌else◌}
+-- It knows no words, no kernel and no chain walks. A call has effects, each of which happens at one moment between its
+-- beginning and its answer. Threads, mutexes and variables are numbered from 1; place 0 of each list stands for nobody.
+use Rattle.std.specs.Prelude.{ℕ, zero, suc, ◌≡◌, ◌≢◌, ◌≤◌, ◌<◌, ◌+◌, ◌-◌, Bool, true, false, ◌==◌, nat_lt, List, [], ◌∷◌, ◌++◌, length, get_or, set, map, Option, Some, None, is_some, if◌then◌else◌}
 use Rattle.std.specs.List.{list_any}
 use Rattle.pif_types.specs.Bounds.{Bounds}
 use Rattle.pif_types.specs.declared.errors.Refusal.{Refusal}
 use Rattle.pif_types.specs.declared.requests.Kind.{Kind}
 use Rattle.pif_types.specs.declared.requests.Kind.TheVariants.{Normal, ErrorCheck, Recursive}
 use Rattle.pif_types.specs.declared.requests.Request.{Request}
-use Rattle.pif_types.specs.declared.requests.Request.TheVariants.{Lock, TryLock, Unlock, Consistent, SetPrio}
+use Rattle.pif_types.specs.declared.requests.Request.TheVariants.{Lock, TryLock, Unlock, Consistent, Wait, Signal, Broadcast, SetPrio}
 use Rattle.pif_model.specs.declared.events.Event.{Event}
 use Rattle.pif_model.specs.declared.events.Event.TheVariants.{Begin, Go, End}
 use Rattle.pif_model.specs.declared.events.Seen.TheVariants.{Begun, Went, Waits, Answered, Ended, Refused}
 use Rattle.pif_model.specs.declared.events.Entry.{Entry}
-use Rattle.pif_model.specs.declared.events.Entry.TheVariants.{Thread as AddThread, Mutex as AddMutex, Step as Happened}
+use Rattle.pif_model.specs.declared.events.Entry.TheVariants.{Thread as AddThread, Mutex as AddMutex, Cond as AddCond, Step as Happened}
 use Rattle.pif_model.specs.Graph.{is_priority, effective_among, next_waiter, reaches_within, waited_by, without}
 use Rattle.pif_model.specs.Refusals.{begin_refused, go_refused, end_refused}
 
@@ -36,11 +37,30 @@ pub data Progress : Type 0 where
   Leaving : Progress
   -- it has this result
   Has : ℕ → Progress
+  -- a wait whose thread owns the mutex and holds it once
+  Checked : Progress
+  -- a wait that has joined the blocked threads of the variable, and whose thread still owns the mutex. Is it blocked
+  -- still?
+  Enlisted : Bool → Progress
+  -- a wait that has given the mutex up and is blocked. Was it answered Waits?
+  Blocked : Bool → Progress
+  -- a wait that has given the mutex up and is unblocked: it has to lock the mutex
+  Owing : Progress
+  -- a signal or broadcast that has used the variable, and has to choose whom it wakes
+  Used : Progress
 
 -- an open call
 pub record Call : Type 0 where
   pub request : Request
   pub progress : Progress
+
+-- what tells the waits of a thread apart, and who was blocked when its signal or broadcast began
+pub record Memory : Type 0 where
+  -- how many waits it has begun
+  pub waits : ℕ
+  -- the threads that were blocked on the variable when its last signal or broadcast began, each with the number of the
+  -- wait by which it was
+  pub found : List (ℕ × ℕ)
 
 -- a thread
 pub record Thread : Type 0 where
@@ -49,6 +69,7 @@ pub record Thread : Type 0 where
   -- it has not ended
   pub living : Bool
   pub call : Option Call
+  pub memory : Memory
 
 -- a mutex
 pub record Mutex : Type 0 where
@@ -60,30 +81,57 @@ pub record Mutex : Type 0 where
   pub count : ℕ
   pub health : Health
 
+-- a condition variable
+pub record Variable : Type 0 where
+  -- the mutex to which it is bound
+  pub mutex : ℕ
+  -- how often it was signalled or broadcast
+  pub uses : ℕ
+
 -- the state of the POSIX machine
 pub record World : Type 0 where
   pub threads : List Thread
   pub mutexes : List Mutex
+  pub variables : List Variable
   -- pairs of a waiting thread and the mutex for which it waits, in order of arrival
   pub waiters : List (ℕ × ℕ)
+  -- how often a variable may be signalled or broadcast
+  pub signals : ℕ
+
+-- the memory of a thread that has begun no call
+abbrev pub no_memory : Memory
+no_memory = record { waits = 0; found = [] }
 
 -- what stands at place 0 of the threads
 abbrev pub nobody : Thread
-nobody = record { base = 0; living = false; call = None }
+nobody = record { base = 0; living = false; call = None; memory = no_memory }
 
 -- what stands at place 0 of the mutexes
 abbrev pub no_mutex : Mutex
 no_mutex = record { kind = Normal; robust = false; owner = 0; count = 1; health = Fine }
 
--- the state in which nothing was added yet
-abbrev pub empty_world : World
-empty_world = record { threads = nobody ∷ []; mutexes = no_mutex ∷ []; waiters = [] }
+-- what stands at place 0 of the variables
+abbrev pub no_variable : Variable
+no_variable = record { mutex = 0; uses = 0 }
+
+-- the state in which nothing was added yet, where a variable may be used this often
+abbrev pub empty_world : ℕ → World
+empty_world n = record {
+  threads = nobody ∷ [];
+  mutexes = no_mutex ∷ [];
+  variables = no_variable ∷ [];
+  waiters = [];
+  signals = n;
+}
 
 abbrev pub thread_at : World → ℕ → Thread
 thread_at w t = get_or w.threads t nobody
 
 abbrev pub mutex_at : World → ℕ → Mutex
 mutex_at w m = get_or w.mutexes m no_mutex
+
+abbrev pub variable_at : World → ℕ → Variable
+variable_at w c = get_or w.variables c no_variable
 
 -- whether t was added
 abbrev pub is_thread : World → ℕ → Bool
@@ -97,6 +145,10 @@ is_living w t = (thread_at w t).living
 abbrev pub is_mutex : World → ℕ → Bool
 is_mutex w m = if m == 0 then false else nat_lt m (length w.mutexes)
 
+-- whether c was added
+abbrev pub is_variable : World → ℕ → Bool
+is_variable w c = if c == 0 then false else nat_lt c (length w.variables)
+
 -- t as x
 abbrev pub with_thread : ℕ → Thread → World → World
 with_thread t x w = record w { threads = set w.threads t x }
@@ -105,6 +157,14 @@ with_thread t x w = record w { threads = set w.threads t x }
 abbrev pub with_mutex : ℕ → Mutex → World → World
 with_mutex m x w = record w { mutexes = set w.mutexes m x }
 
+-- c as x
+abbrev pub with_variable : ℕ → Variable → World → World
+with_variable c x w = record w { variables = set w.variables c x }
+
+-- t's call as this makes it
+abbrev pub recalled : ℕ → (Option Call → Option Call) → World → World
+recalled t f w = with_thread t (record (thread_at w t) { call = f (thread_at w t).call }) w
+
 -- an open call that has come this far
 abbrev pub progressed : Progress → Option Call → Option Call
 progressed p None = None
@@ -112,7 +172,7 @@ progressed p (Some c) = Some (record c { progress = p })
 
 -- t's call has come this far
 abbrev pub with_progress : ℕ → Progress → World → World
-with_progress t p w = with_thread t (record (thread_at w t) { call = progressed p (thread_at w t).call }) w
+with_progress t p w = recalled t (progressed p) w
 
 -- WAITING AND PRIORITY
 
@@ -127,8 +187,8 @@ pub record WaitsFor (w : World) (u t : ℕ) : Type 0 where
 abbrev pub waits_for : World → ℕ → ℕ
 waits_for w u = (mutex_at w (waited_by w.waiters u)).owner
 
--- the effective priority of t: the greatest base priority of t and of all that wait for it through any chain
--- (POSIX, PTHREAD_PRIO_INHERIT; RT-mutex design)
+-- the effective priority of t: the greatest base priority of t and of all that wait for it through any chain (POSIX,
+-- PTHREAD_PRIO_INHERIT; RT-mutex design)
 abbrev pub effective_of : World → ℕ → ℕ
 effective_of w t = effective_among (length w.threads) (waits_for w) (λ u. (thread_at w u).base) t
 
@@ -147,14 +207,63 @@ is_lost w m =
     else (if (mutex_at w m).owner == 0 then false
     else (if is_living w (mutex_at w m).owner then false else true))
 
--- whether t's call waits for good
-abbrev pub is_stuck : Option Call → Bool
-is_stuck None = false
-is_stuck (Some c) = elim c.progress [ Fresh ↦ false | Waiting ↦ false | Stuck ↦ true | Leaving ↦ false | Has a ↦ false ]
+-- whether a call that has come this far waits for good, or is blocked and was answered Waits
+abbrev pub is_idle : Progress → Bool
+is_idle Stuck = true
+is_idle (Blocked noted) = noted
+is_idle _ = false
 
--- whether t rests: it is among the waiters of a mutex, or it is stuck
+-- whether an open call is so
+abbrev pub sleeps : Option Call → Bool
+sleeps None = false
+sleeps (Some c) = is_idle c.progress
+
+-- whether t rests: it is among the waiters of a mutex, its call waits for good, or it is blocked and was answered Waits
 abbrev pub rests : World → ℕ → Bool
-rests w t = if is_stuck (thread_at w t).call then true else list_any (λ p. p.0 == t) w.waiters
+rests w t = if sleeps (thread_at w t).call then true else list_any (λ p. p.0 == t) w.waiters
+
+-- BLOCKED THREADS
+
+-- whether a call that has come this far is blocked
+abbrev pub is_blocked : Progress → Bool
+is_blocked (Enlisted still) = still
+is_blocked (Blocked noted) = true
+is_blocked _ = false
+
+-- the variable that a request names; 0 where it names none
+abbrev pub variable_of : Request → ℕ
+variable_of (Lock m) = 0
+variable_of (TryLock m) = 0
+variable_of (Unlock m) = 0
+variable_of (Consistent m) = 0
+variable_of (Wait c m) = c
+variable_of (Signal c) = c
+variable_of (Broadcast c) = c
+variable_of (SetPrio u p) = 0
+
+-- whether an open call is blocked on c
+abbrev pub is_call_blocked : ℕ → Option Call → Bool
+is_call_blocked c None = false
+is_call_blocked c (Some x) = if is_blocked x.progress then variable_of x.request == c else false
+
+-- whether u is blocked on c
+abbrev pub is_blocked_on : World → ℕ → ℕ → Bool
+is_blocked_on w c u = is_call_blocked c (thread_at w u).call
+
+-- the threads below n that are blocked on c, each with the number of its wait
+unfoldable pub blocked_below : World → ℕ → ℕ → List (ℕ × ℕ)
+blocked_below w c zero = []
+blocked_below w c (suc n) =
+    if is_blocked_on w c n then (n, (thread_at w n).memory.waits) ∷ blocked_below w c n else blocked_below w c n
+
+-- whether t's signal or broadcast found u blocked when it began, by the wait that is u's last
+abbrev pub is_found : World → ℕ → ℕ → Bool
+is_found w t u =
+    list_any (λ p. if p.0 == u then p.1 == (thread_at w u).memory.waits else false) (thread_at w t).memory.found
+
+-- whether t's signal or broadcast of c found u blocked when it began, and u still is, by the same wait
+abbrev pub is_still_blocked : World → ℕ → ℕ → ℕ → Bool
+is_still_blocked w t c u = if is_blocked_on w c u then is_found w t u else false
 
 -- EFFECTS
 
@@ -190,9 +299,18 @@ named_by (Lock m) = m
 named_by (TryLock m) = m
 named_by (Unlock m) = m
 named_by (Consistent m) = m
+named_by (Wait c m) = m
+named_by (Signal c) = 0
+named_by (Broadcast c) = 0
 named_by (SetPrio u p) = 0
 
--- pthread_mutex_lock by t on m, where no effect has happened yet
+-- whether a request signals or broadcasts a variable
+abbrev pub is_use : Request → Bool
+is_use (Signal c) = true
+is_use (Broadcast c) = true
+is_use _ = false
+
+-- pthread_mutex_lock by t on m, where no effect has happened yet; or the lock that a wait of t owes
 pub data Locks (t m : ℕ) (w v : World) : Type 0 where
   -- the owner locks a NORMAL mutex again: it waits for good
   own_normal : (mutex_at w m).owner ≡ t → (mutex_at w m).kind ≡ Normal → v ≡ with_progress t Stuck w → Locks t m w v
@@ -267,6 +385,90 @@ pub data SetsPriority (t u p : ℕ) (w v : World) : Type 0 where
   -- u's base priority is p; who waits for what, and since when, stays
   changed : is_priority p ≡ true → is_living w u ≡ true → v ≡ with_progress t (Has 0) (with_base u p w) → SetsPriority t u p w v
 
+-- pthread_cond_wait by t on c with m, where no effect has happened yet
+pub data ChecksWait (t c m : ℕ) (w v : World) : Type 0 where
+  -- c is bound to another mutex: EINVAL
+  other_mutex : (variable_at w c).mutex ≢ m → v ≡ with_progress t (Has 22) w → ChecksWait t c m w v
+  -- t isn't the owner: EPERM
+  not_owner : (variable_at w c).mutex ≡ m → (mutex_at w m).owner ≢ t → v ≡ with_progress t (Has 1) w
+      → ChecksWait t c m w v
+  -- the owner holds it more than once: EINVAL
+  held_more : (variable_at w c).mutex ≡ m → (mutex_at w m).owner ≡ t → 1 < (mutex_at w m).count
+      → v ≡ with_progress t (Has 22) w → ChecksWait t c m w v
+  -- the owner holds it once
+  checked : (variable_at w c).mutex ≡ m → (mutex_at w m).owner ≡ t → (mutex_at w m).count ≡ 1
+      → v ≡ with_progress t Checked w → ChecksWait t c m w v
+
+-- how far a wait has come once it has given the mutex up, where it is blocked still, or is not
+abbrev pub on_release : Bool → Progress
+on_release still = if still then Blocked false else Owing
+
+-- a wait of t, which has joined the blocked threads, gives m up
+pub data GivesUp (t m : ℕ) (still : Bool) (w v : World) : Type 0 where
+  -- an Inconsistent mutex becomes Unusable first, and the wait goes on from there
+  becomes_unusable : (mutex_at w m).owner ≡ t → (mutex_at w m).health ≡ Inconsistent → v ≡ with_health m Unusable w
+      → GivesUp t m still w v
+  -- another passes on
+  released : (mutex_at w m).owner ≡ t → (mutex_at w m).health ≢ Inconsistent
+      → Passes m (with_progress t (on_release still) w) v → GivesUp t m still w v
+
+-- how far a blocked call has come once it is unblocked
+abbrev pub on_unblocking : Progress → Progress
+on_unblocking (Enlisted still) = Enlisted false
+on_unblocking (Blocked noted) = Owing
+on_unblocking p = p
+
+-- an open call once it is unblocked
+abbrev pub unblocked : Option Call → Option Call
+unblocked None = None
+unblocked (Some x) = Some (record x { progress = on_unblocking x.progress })
+
+-- whether an open call is blocked on c and was not answered Waits yet
+abbrev pub is_newly_blocked : ℕ → Option Call → Bool
+is_newly_blocked c None = false
+is_newly_blocked c (Some x) = if is_idle x.progress then false else is_call_blocked c (Some x)
+
+-- a thread once c is used: a wait on c that was not answered Waits yet is unblocked
+abbrev pub after_use : ℕ → Thread → Thread
+after_use c x = if is_newly_blocked c x.call then record x { call = unblocked x.call } else x
+
+-- c is used once more
+abbrev pub used : ℕ → World → World
+used c w = record w {
+  threads = map (after_use c) w.threads;
+  variables = set w.variables c (record (variable_at w c) { uses = (variable_at w c).uses + 1 });
+}
+
+-- pthread_cond_signal or pthread_cond_broadcast by t on c, where no effect has happened yet
+pub data Uses (t c : ℕ) (w v : World) : Type 0 where
+  -- c was used as often as it may be: EOVERFLOW
+  at_limit : (variable_at w c).uses ≡ w.signals → v ≡ with_progress t (Has 75) w → Uses t c w v
+  -- it is used once more, and each thread that is blocked on it and was not answered Waits yet is unblocked
+  counts : (variable_at w c).uses ≢ w.signals → v ≡ with_progress t Used (used c w) → Uses t c w v
+
+-- each of these threads is unblocked
+unfoldable pub all_unblocked : List ℕ → World → World
+all_unblocked [] w = w
+all_unblocked (u ∷ us) w = all_unblocked us (recalled u unblocked w)
+
+-- a signal or a broadcast by t, which has used its variable, chooses whom it wakes, and the result is 0 (POSIX,
+-- pthread_cond_signal: at least one of the threads that are blocked; pthread_cond_broadcast: all of them)
+pub data Chooses (t : ℕ) (q : Request) (w v : World) : Type 0 where
+  -- a signal wakes one thread that is blocked, where none of those that were blocked when the signal began, and still
+  -- are by the same wait, has a greater effective priority
+  one : (c u : ℕ) → q ≡ Signal c → is_blocked_on w c u ≡ true
+      → ((b : ℕ) → is_still_blocked w t c b ≡ true → effective_of w b ≤ effective_of w u)
+      → v ≡ recalled u unblocked (with_progress t (Has 0) w) → Chooses t q w v
+  -- or nobody, where none of those is left
+  no_one : (c : ℕ) → q ≡ Signal c → ((b : ℕ) → is_still_blocked w t c b ≡ false) → v ≡ with_progress t (Has 0) w
+      → Chooses t q w v
+  -- a broadcast wakes some threads that are blocked, among which are all that were blocked when the broadcast began and
+  -- still are by the same wait
+  all : (c : ℕ) (us : List ℕ) → q ≡ Broadcast c
+      → ((u : ℕ) → list_any (λ x. x == u) us ≡ true → is_blocked_on w c u ≡ true)
+      → ((b : ℕ) → is_still_blocked w t c b ≡ true → list_any (λ x. x == b) us ≡ true)
+      → v ≡ all_unblocked us (with_progress t (Has 0) w) → Chooses t q w v
+
 -- one effect of t's open call
 pub data Effect (t : ℕ) (w v : World) : Type 0 where
   lock : (m : ℕ) → (thread_at w t).call ≡ Some (record { request = Lock m; progress = Fresh }) → Locks t m w v → Effect t w v
@@ -275,22 +477,67 @@ pub data Effect (t : ℕ) (w v : World) : Type 0 where
   consistent : (m : ℕ) → (thread_at w t).call ≡ Some (record { request = Consistent m; progress = Fresh })
       → MakesConsistent t m w v → Effect t w v
   set_prio : (u p : ℕ) → (thread_at w t).call ≡ Some (record { request = SetPrio u p; progress = Fresh }) → SetsPriority t u p w v → Effect t w v
+  check_wait : (c m : ℕ) → (thread_at w t).call ≡ Some (record { request = Wait c m; progress = Fresh })
+      → ChecksWait t c m w v → Effect t w v
+  -- a wait joins the blocked threads of its variable; it still owns the mutex
+  enlist : (c m : ℕ) → (thread_at w t).call ≡ Some (record { request = Wait c m; progress = Checked })
+      → v ≡ with_progress t (Enlisted true) w → Effect t w v
+  give_up : (c m : ℕ) (still : Bool)
+      → (thread_at w t).call ≡ Some (record { request = Wait c m; progress = Enlisted still }) → GivesUp t m still w v
+      → Effect t w v
+  -- a wait that was unblocked locks its mutex
+  lock_again : (c m : ℕ) → (thread_at w t).call ≡ Some (record { request = Wait c m; progress = Owing })
+      → Locks t m w v → Effect t w v
+  -- a signal or a broadcast uses its variable, and then chooses whom it wakes
+  use_variable : (q : Request) → (thread_at w t).call ≡ Some (record { request = q; progress = Fresh })
+      → is_use q ≡ true → Uses t (variable_of q) w v → Effect t w v
+  choose : (q : Request) → (thread_at w t).call ≡ Some (record { request = q; progress = Used }) → Chooses t q w v
+      → Effect t w v
   -- a call that took an Unusable mutex gives it up again: ENOTRECOVERABLE
   leave : (q : Request) → (thread_at w t).call ≡ Some (record { request = q; progress = Leaving })
       → Passes (named_by q) (with_progress t (Has 131) w) v → Effect t w v
 
--- some effects of t's open call in order, or none
-pub data Effects (t : ℕ) : World → World → Type 0 where
-  none : {w v : World} → v ≡ w → Effects t w v
-  then : {w u v : World} → Effect t w u → Effects t u v → Effects t w v
+-- some effects of t's open call in order, or none, from the state `first` on. A thread that one of them unblocks may
+-- also do the lock that it owes
+pub data Effects (t : ℕ) (first : World) : World → World → Type 0 where
+  none : {w v : World} → v ≡ w → Effects t first w v
+  then : {w u v : World} → Effect t w u → Effects t first u v → Effects t first w v
+  -- b, which was blocked in the first state and owes its lock now, locks its mutex
+  owed : {w u v : World} (b c m : ℕ) → is_blocked_on first c b ≡ true
+      → (thread_at w b).call ≡ Some (record { request = Wait c m; progress = Owing }) → Locks b m w u
+      → Effects t first u v → Effects t first w v
 
--- how far a call of this request has come when it begins
-abbrev pub begun_progress : World → Request → Progress
-begun_progress w q = Fresh
+-- what is remembered of a thread once its call begins: a wait has the next number; a signal or broadcast finds those
+-- that are blocked on its variable
+abbrev pub begun_memory : World → Request → Memory → Memory
+begun_memory w (Lock m) x = x
+begun_memory w (TryLock m) x = x
+begun_memory w (Unlock m) x = x
+begun_memory w (Consistent m) x = x
+begun_memory w (Wait c m) x = record x { waits = x.waits + 1 }
+begun_memory w (Signal c) x = record x { found = blocked_below w c (length w.threads) }
+begun_memory w (Broadcast c) x = record x { found = blocked_below w c (length w.threads) }
+begun_memory w (SetPrio u p) x = x
+
+-- a thread that begins this call
+abbrev pub begun_thread : World → Request → Thread → Thread
+begun_thread w q x = record x {
+  call = Some (record { request = q; progress = Fresh });
+  memory = begun_memory w q x.memory;
+}
+
+-- a call that was answered Waits: where it is blocked, it is noted
+abbrev pub noted : Option Call → Option Call
+noted None = None
+noted (Some x) = Some (record x { progress = elim x.progress [ Blocked b ↦ Blocked true | p ↦ p ] })
+
+-- no open call any more
+abbrev pub closed : Option Call → Option Call
+closed x = None
 
 -- THE END OF A THREAD
 
--- t has ended: its call is gone, and it has left the waiters
+-- t has ended: its call is gone, so that it is blocked no more, and it has left the waiters
 abbrev pub after_end : ℕ → World → World
 after_end t w = record (with_thread t (record (thread_at w t) { living = false; call = None }) w) {
   waiters = without w.waiters t;
@@ -312,58 +559,70 @@ pub data Releases (t : ℕ) : World → World → Type 0 where
 
 -- ONE ENTRY OF A HISTORY
 
--- whether the mutex that a request names is one that is known, if it names one
-abbrev pub names_known : (ℕ → Bool) → Request → Bool
-names_known known (Lock m) = known m
-names_known known (TryLock m) = known m
-names_known known (Unlock m) = known m
-names_known known (Consistent m) = known m
-names_known known (SetPrio u p) = true
+-- whether the mutex and the variable that a request names are known, as far as it names any
+abbrev pub names_known : (ℕ → Bool) → (ℕ → Bool) → Request → Bool
+names_known mutex variable (Lock m) = mutex m
+names_known mutex variable (TryLock m) = mutex m
+names_known mutex variable (Unlock m) = mutex m
+names_known mutex variable (Consistent m) = mutex m
+names_known mutex variable (Wait c m) = if variable c then mutex m else false
+names_known mutex variable (Signal c) = variable c
+names_known mutex variable (Broadcast c) = variable c
+names_known mutex variable (SetPrio u p) = true
 
 -- why an event is refused, if it is
 abbrev pub refusal_of : World → Event → Option Refusal
 refusal_of w (Begin t q) =
-    begin_refused (is_thread w t) (is_living w t) (is_some (thread_at w t).call) (names_known (is_mutex w) q)
+    begin_refused (is_thread w t) (is_living w t) (is_some (thread_at w t).call)
+    (names_known (is_mutex w) (is_variable w) q)
 refusal_of w (Go t) = go_refused (is_thread w t) (is_living w t) (is_some (thread_at w t).call)
 refusal_of w (End t) = end_refused (is_thread w t) (is_living w t)
 
 -- a Go of t from w to u: it is not refused, and t's open call has some effects
 pub record Goes (t : ℕ) (w u : World) : Type 0 where
   pub allowed : refusal_of w (Go t) ≡ None
-  pub effects : Effects t w u
+  pub effects : Effects t w w u
 
 -- t ends: it leaves all, and then its robust mutexes pass on
 pub record Ends (t : ℕ) (w v : World) : Type 0 where
   pub allowed : refusal_of w (End t) ≡ None
   pub releases : Releases t (after_end t w) v
 
+-- a new thread of this base priority, with no call open
+abbrev pub new_thread : ℕ → Thread
+new_thread p = record { base = p; living = true; call = None; memory = no_memory }
+
 -- one entry of a history, from w to v, under the limits l
 pub data Step (l : Bounds) (w : World) (e : Entry) (v : World) : Type 0 where
   -- the next number, within the limit, and a priority within 1 to 99
   thread_added : (t p : ℕ) → e ≡ AddThread t p → t ≡ length w.threads → t ≤ l.threads → 1 ≤ p → p ≤ 99
-      → v ≡ record w { threads = w.threads ++ record { base = p; living = true; call = None } ∷ [] } → Step l w e v
+      → v ≡ record w { threads = w.threads ++ new_thread p ∷ [] } → Step l w e v
   -- the next number, within the limit
   mutex_added : (m : ℕ) (k : Kind) (r : Bool) → e ≡ AddMutex m k r → m ≡ length w.mutexes → m ≤ l.mutexes
       → v ≡ record w { mutexes = w.mutexes ++ record { kind = k; robust = r; owner = 0; count = 1; health = Fine } ∷ [] } → Step l w e v
+  -- the next number, within the limit, bound to a mutex that exists
+  cond_added : (c m : ℕ) → e ≡ AddCond c m → is_mutex w m ≡ true → c ≡ length w.variables → c ≤ l.conds
+      → v ≡ record w { variables = w.variables ++ record { mutex = m; uses = 0 } ∷ [] } → Step l w e v
   -- a refused event changes nothing
   refused : (x : Event) (r : Refusal) → e ≡ Happened x (Refused r) → refusal_of w x ≡ Some r → v ≡ w → Step l w e v
   -- the call is open
   begun : (t : ℕ) (q : Request) → e ≡ Happened (Begin t q) Begun → refusal_of w (Begin t q) ≡ None
-      → v ≡ with_thread t (record (thread_at w t) { call = Some (record { request = q; progress = begun_progress w q }) }) w → Step l w e v
+      → v ≡ with_thread t (begun_thread w q (thread_at w t)) w → Step l w e v
   -- the call goes on, and its thread doesn't rest
   went : (t : ℕ) → e ≡ Happened (Go t) Went → Goes t w v → rests v t ≡ false → Step l w e v
   -- its thread rests
-  waits : (t : ℕ) → e ≡ Happened (Go t) Waits → Goes t w v → rests v t ≡ true → Step l w e v
+  waits : (t : ℕ) (u : World) → e ≡ Happened (Go t) Waits → Goes t w u → v ≡ recalled t noted u → rests v t ≡ true
+      → Step l w e v
   -- the call has this result and closes, and its thread doesn't rest
   answered : (t a : ℕ) (q : Request) (u : World) → e ≡ Happened (Go t) (Answered a) → Goes t w u
       → (thread_at u t).call ≡ Some (record { request = q; progress = Has a })
-      → v ≡ with_thread t (record (thread_at u t) { call = None }) u → rests v t ≡ false → Step l w e v
+      → v ≡ recalled t closed u → rests v t ≡ false → Step l w e v
   -- its thread has ended
   ended : (t : ℕ) → e ≡ Happened (End t) Ended → Ends t w v → Step l w e v
 
 -- A run: the entries of a history, newest first, the states before each of them, newest first, and the last state.
 pub data IsRun (l : Bounds) : List Entry → List World → World → Type 0 where
-  start : {w : World} → w ≡ empty_world → IsRun l [] [] w
+  start : {w : World} → w ≡ empty_world l.signals → IsRun l [] [] w
   next : {h : List Entry} {r : List World} {e : Entry} {w v : World} → IsRun l h r w → Step l w e v → IsRun l (e ∷ h) (w ∷ r) v
 
 -- a history, newest entry first, is legal: some run from the empty state gives it, entry by entry

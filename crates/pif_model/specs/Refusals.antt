@@ -1,5 +1,5 @@
 -- When an event is refused, for both machines. Nothing changes then.
-use Rattle.std.specs.Prelude.{Bool, true, false, Option, Some, None, if◌then◌else◌}
+use Rattle.std.specs.Prelude.{Bool, Option, Some, None, if◌then◌else◌}
 use Rattle.pif_types.specs.declared.errors.Refusal.{Refusal}
 use Rattle.pif_types.specs.declared.errors.Refusal.TheVariants.{Dead, Busy, Idle, NoSuch}
 
@@ -7,8 +7,8 @@ use Rattle.pif_types.specs.declared.errors.Refusal.TheVariants.{Dead, Busy, Idle
 abbrev pub end_refused : (known living : Bool) → Option Refusal
 end_refused known living = if known then (if living then None else Some Dead) else Some NoSuch
 
--- Begin, in this order: a thread that was never added, one that has ended, one with a call open, and a mutex that
--- doesn't exist
+-- Begin, in this order: a thread that was never added, one that has ended, one with a call open, and a mutex or a
+-- variable that doesn't exist
 abbrev pub begin_refused : (known living busy named : Bool) → Option Refusal
 begin_refused known living busy named =
     if known then (if living then (if busy then Some Busy else (if named then None else Some NoSuch)) else Some Dead)

@@ -1,7 +1,7 @@
 -- The robust lists: for each thread the robust mutexes that it holds, the mutex of which only the link is written, and
 -- the mutex that its pending field names. (Linux: 'robust futexes' and its ABI; get_robust_list(2).)
 -- Threads and mutexes are numbered from 1; place 0 of the threads stands for nobody, and the number 0 for no mutex.
-use Rattle.std.specs.Prelude.{ℕ, ◌≡◌, ◌+◌, ◌≤◌, true, false, Bool, ◌==◌, List, [], ◌∷◌, ◌++◌, length, replicate, get_or, set, if◌then◌else◌, ⊤}
+use Rattle.std.specs.Prelude.{ℕ, ◌≡◌, ◌+◌, ◌≤◌, true, false, Bool, ◌==◌, List, [], ◌∷◌, ◌++◌, replicate, get_or, set, if◌then◌else◌, ⊤}
 use Rattle.std.specs.List.{filter, list_any}
 use Rattle.pif_types.specs.Bounds.{Bounds}
 

@@ -1,80 +1,121 @@
 -- What it means that a core stands after a history.
-use Rattle.std.specs.Prelude.{ℕ, zero, suc, ◌≡◌, ◌≢◌, ◌≤◌, ◌+◌, ⊤, Bool, true, false, ◌==◌, List, [], ◌∷◌, ◌++◌, length, map, Option, Some, None, if◌then◌else◌}
+use Rattle.std.specs.Prelude.{ℕ, zero, suc, ◌≡◌, ◌≢◌, ◌<◌, ◌≤◌, ◌+◌, ⊤, Bool, true, false, ◌==◌, List, [], ◌∷◌, ◌++◌, length, get_or, map, Option, Some, None, if◌then◌else◌}
+use Rattle.std.specs.List.{list_any}
 use Rattle.pif_types.specs.Bounds.{IsWithin}
 use Rattle.pif_types.specs.declared.requests.Kind.{Kind}
 use Rattle.pif_types.specs.declared.requests.Kind.TheVariants.{Normal, Recursive}
 use Rattle.pif_types.specs.declared.requests.Request.{Request}
-use Rattle.pif_types.specs.declared.requests.Request.TheVariants.{Lock, TryLock, Unlock, Consistent, SetPrio}
+use Rattle.pif_types.specs.declared.requests.Request.TheVariants.{Lock, TryLock, Unlock, Consistent, Wait, Signal, Broadcast, SetPrio}
 use Rattle.pif_model.specs.declared.events.Entry.{Entry}
 use Rattle.pif_model.specs.declared.lines.Line.{Line}
 use Rattle.pif_model.specs.declared.lines.Line.TheVariants.{Idle, At}
 use Rattle.pif_model.specs.declared.lines.Place.{Place}
-use Rattle.pif_model.specs.declared.lines.Place.TheVariants.{LockLoad, LockPending, LockExchange, LockKernel, LockQueued, LockStop, LockStopped, LockClear, TakeLoad, TakeHealth, TakeStore, TakeWord, LinkNext, LinkHead, LinkClear, LeaveExchange, LeaveKernel, LeaveClear, TryLoad, TryPending, TryExchange, TryKernel, TryClear, UnlockLoad, UnlockPending, UnlockHealth, UnlockStore, UnlockUnlink, UnlockExchange, UnlockKernel, UnlockClear, ConsistentLoad, ConsistentHealth, ConsistentStore, SetPriority}
+use Rattle.pif_model.specs.declared.lines.Place.TheVariants.{LockLoad, LockPending, LockExchange, LockKernel, LockQueued, LockStop, LockStopped, LockClear, TakeLoad, TakeHealth, TakeStore, TakeWord, LinkNext, LinkHead, LinkClear, LeaveExchange, LeaveKernel, LeaveClear, TryLoad, TryPending, TryExchange, TryKernel, TryClear, UnlockLoad, UnlockPending, UnlockHealth, UnlockStore, UnlockUnlink, UnlockExchange, UnlockKernel, UnlockClear, ConsistentLoad, ConsistentHealth, ConsistentStore, WaitLoad, WaitUses, WaitPending, WaitHealth, WaitStore, WaitUnlink, WaitExchange, WaitKernel, WaitPark, WaitParked, UseLoad, UseExchange, UseRequeue, UseReload, SetPriority}
 use Rattle.pif_model.specs.declared.lines.Status.{Status}
-use Rattle.pif_model.specs.declared.lines.Status.TheVariants.{Ready, Queued, Stopped, Ended}
+use Rattle.pif_model.specs.declared.lines.Status.TheVariants.{Ready, Queued, Parked, Stopped, Ended}
+use Rattle.pif_model.specs.declared.lines.Woken.TheVariants.{Fresh as WokenFresh, Owns as WokenOwns, Again as WokenAgain}
 use Rattle.pif_model.specs.Graph.{has_waiter, IsEffective}
 use Rattle.pif_model.specs.Word.{Word, free_word, word_at, health_word_at}
-use Rattle.pif_model.specs.PiKernel.{IsKernel, seat_at, is_ready, is_living}
-use Rattle.pif_model.specs.Posix.{Health, Progress, Call, Thread, Mutex, World, WaitsFor, IsRun, thread_at, mutex_at, is_thread, named_by, names_known, on_taking, rests, effective_of}
+use Rattle.pif_model.specs.PiKernel.{IsKernel, Parking, seat_at, is_ready, is_parked, is_woken_again, is_living}
+use Rattle.pif_model.specs.Posix.{Health, Progress, Call, Memory, Thread, Mutex, Variable, World, WaitsFor, IsRun, no_memory, thread_at, mutex_at, variable_at, is_thread, named_by, variable_of, is_call_blocked, names_known, on_taking, on_release, rests, effective_of}
 use Rattle.pif_model.specs.Posix.{is_living as lives}
 use Rattle.pif_model.specs.Posix.Health.{Fine, Inconsistent, Unusable}
-use Rattle.pif_model.specs.Posix.Progress.{Fresh, Waiting, Stuck, Leaving, Has}
+use Rattle.pif_model.specs.Posix.Progress.{Fresh, Waiting, Stuck, Leaving, Has, Checked, Enlisted, Blocked, Owing, Used}
 use Rattle.pif_model.specs.RobustList.{no_robust_row, robust_at, is_listed}
-use Rattle.pif_model.specs.Table.{Table, Cell, new_mutex, has_thread, has_mutex, status_at, line_at, library_at, cell_at}
+use Rattle.pif_model.specs.Table.{Table, Cell, new_mutex, has_thread, has_mutex, has_cond, bound_to, uses_of, status_at, line_at, library_at, cell_at}
 
 -- THE PROJECTION: the state of the POSIX machine that a table shows
 
--- what the POSIX machine knows and the table doesn't: nothing yet
+-- what the POSIX machine knows and the table doesn't: what it remembers of each thread
 pub record Shadow : Type 0 where
+  pub memories : List Memory
 
 -- the shadow of a table to which nothing was added
 abbrev pub no_shadow : Shadow
-no_shadow = record {}
+no_shadow = record { memories = no_memory ∷ [] }
 
--- what joins a shadow to its table: nothing yet
-pub record Agrees (s : Table) (x : Shadow) : Type 0 where
+-- what is remembered of t
+abbrev pub memory_at : Shadow → ℕ → Memory
+memory_at x t = get_or x.memories t no_memory
 
 -- the health that a health word and OWNER_DIED show
 abbrev pub health_of : ℕ → Bool → Health
 health_of h died = if h == 2 then Unusable else (if h == 1 then Inconsistent else (if died then Inconsistent else Fine))
 
--- how far a call at this place has come, by its thread's status and by the health of the mutex that it names
-abbrev pub progress_at : Place → Status → Health → Progress
-progress_at LockClear x h = Has 35
-progress_at LockQueued (Queued m) h = Waiting
-progress_at LockQueued (Ready w) h = on_taking h
-progress_at LockQueued Stopped h = Stuck
-progress_at LockQueued Ended h = Stuck
-progress_at LockStopped x h = Stuck
-progress_at TakeLoad x h = on_taking h
-progress_at (TakeHealth died) x h = on_taking h
-progress_at TakeStore x h = Has 130
-progress_at TakeWord x h = Has 130
-progress_at (LinkNext a) x h = Has a
-progress_at (LinkHead a) x h = Has a
-progress_at (LinkClear a) x h = Has a
-progress_at LeaveExchange x h = Leaving
-progress_at LeaveKernel x h = Leaving
-progress_at LeaveClear x h = Has 131
-progress_at TryClear x h = Has 16
-progress_at UnlockClear x h = Has 0
-progress_at _ x h = Fresh
+-- how far a call of a request has come before it has locked: a wait owes the lock
+abbrev pub before_lock : Request → Progress
+before_lock (Wait c m) = Owing
+before_lock _ = Fresh
 
--- the open call at a line, by the health of each mutex
-abbrev pub call_at : (ℕ → Health) → Line → Status → Option Call
-call_at health Idle x = None
-call_at health (At q p) x = Some (record { request = q; progress = progress_at p x (health (named_by q)) })
+-- how far a wait that is parked, or was, has come, by its thread's status and by the health of its mutex
+abbrev pub progress_parked : Status → Health → Progress
+progress_parked (Parked c) h = Blocked true
+progress_parked (Queued m) h = Waiting
+progress_parked (Ready WokenFresh) h = on_taking h
+progress_parked (Ready WokenOwns) h = on_taking h
+progress_parked (Ready WokenAgain) h = Owing
+progress_parked Stopped h = Stuck
+progress_parked Ended h = Stuck
+
+-- how far a call of a request at this place has come, by its thread's status, by the health of the mutex that it names,
+-- and by how often the variable that it names was used: until it is parked, a wait is blocked while that is as it read
+abbrev pub progress_at : Request → Place → Status → Health → ℕ → Progress
+progress_at q LockExchange x h n = before_lock q
+progress_at q LockKernel x h n = before_lock q
+progress_at q LockQueued (Queued m) h n = Waiting
+progress_at q LockQueued (Ready w) h n = on_taking h
+progress_at q LockQueued (Parked c) h n = Stuck
+progress_at q LockQueued Stopped h n = Stuck
+progress_at q LockQueued Ended h n = Stuck
+progress_at q LockStop x h n = before_lock q
+progress_at q LockStopped x h n = Stuck
+progress_at q LockClear x h n = Has 35
+progress_at q TakeLoad x h n = on_taking h
+progress_at q (TakeHealth died) x h n = on_taking h
+progress_at q TakeStore x h n = Has 130
+progress_at q TakeWord x h n = Has 130
+progress_at q (LinkNext a) x h n = Has a
+progress_at q (LinkHead a) x h n = Has a
+progress_at q (LinkClear a) x h n = Has a
+progress_at q LeaveExchange x h n = Leaving
+progress_at q LeaveKernel x h n = Leaving
+progress_at q LeaveClear x h n = Has 131
+progress_at q TryClear x h n = Has 16
+progress_at q UnlockClear x h n = Has 0
+progress_at q WaitUses x h n = Checked
+progress_at q (WaitPending v) x h n = Enlisted (v == n)
+progress_at q (WaitHealth v) x h n = Enlisted (v == n)
+progress_at q (WaitStore v) x h n = Enlisted (v == n)
+progress_at q (WaitUnlink v) x h n = Enlisted (v == n)
+progress_at q (WaitExchange v) x h n = Enlisted (v == n)
+progress_at q (WaitKernel v) x h n = Enlisted (v == n)
+progress_at q (WaitPark v) x h n = on_release (v == n)
+progress_at q WaitParked x h n = progress_parked x h
+progress_at q (UseRequeue v) x h n = Used
+progress_at q UseReload x h n = Used
+progress_at q _ x h n = Fresh
+
+-- the open call at a line, by the health of each mutex and the uses of each variable
+abbrev pub call_at : (ℕ → Health) → (ℕ → ℕ) → Line → Status → Option Call
+call_at health uses Idle x = None
+call_at health uses (At q p) x =
+    Some (record { request = q; progress = progress_at q p x (health (named_by q)) (uses (variable_of q)) })
 
 -- the health of m
 abbrev pub health_at : Table → ℕ → Health
 health_at s m = health_of (health_word_at s.words m) (word_at s.words m).died
 
+-- the open call of t
+abbrev pub call_shown : Table → ℕ → Option Call
+call_shown s t = call_at (health_at s) (uses_of s) (line_at s t) (status_at s t)
+
 -- the thread t
-abbrev pub thread_shown : Table → ℕ → Thread
-thread_shown s t = record {
+abbrev pub thread_shown : Table → Shadow → ℕ → Thread
+thread_shown s x t = record {
   base = (seat_at s.kernel t).base;
   living = is_living s.kernel t;
-  call = call_at (health_at s) (line_at s t) (status_at s t);
+  call = call_shown s t;
+  memory = memory_at x t;
 }
 
 -- the mutex m
@@ -87,6 +128,10 @@ mutex_shown s m = record {
   health = health_at s m;
 }
 
+-- the variable c
+abbrev pub variable_shown : Table → ℕ → Variable
+variable_shown s c = record { mutex = bound_to s c; uses = uses_of s c }
+
 -- the numbers below n
 unfoldable pub places : ℕ → List ℕ
 places zero = []
@@ -95,10 +140,44 @@ places (suc n) = places n ++ n ∷ []
 -- the state of the POSIX machine that a table shows with its shadow
 abbrev pub world_of : Table → Shadow → World
 world_of s x = record {
-  threads = map (thread_shown s) (places (length s.lines));
+  threads = map (thread_shown s x) (places (length s.lines));
   mutexes = map (mutex_shown s) (places (length s.mutexes));
+  variables = map (variable_shown s) (places (length s.conds));
   waiters = s.kernel.waiters;
+  signals = s.limits.signals;
 }
+
+-- WHAT JOINS A SHADOW TO ITS TABLE
+
+-- whether the signal or broadcast of t found u blocked when it began, by the wait that is u's last
+abbrev pub remembered : Shadow → ℕ → ℕ → Bool
+remembered x t u =
+    list_any (λ p. if p.0 == u then p.1 == (memory_at x u).waits else false) (memory_at x t).found
+
+-- whether a wait at this line has not joined the blocked threads of its variable yet
+abbrev pub may_enlist : Line → Bool
+may_enlist (At q WaitLoad) = true
+may_enlist (At q WaitUses) = true
+may_enlist _ = false
+
+-- the variable of a signal or a broadcast at this line that has used it, and has to choose whom it wakes; 0 else
+abbrev pub chooses_on : Line → ℕ
+chooses_on (At q (UseRequeue v)) = variable_of q
+chooses_on (At q UseReload) = variable_of q
+chooses_on _ = 0
+
+-- a shadow fits its table
+pub record Agrees (s : Table) (x : Shadow) : Type 0 where
+  -- something is remembered of each thread
+  pub all : length x.memories ≡ length s.lines
+  -- no wait was found that has not begun yet
+  pub past : (t u n : ℕ) → list_any (λ p. if p.0 == u then p.1 == n else false) (memory_at x t).found ≡ true
+      → n ≤ (memory_at x u).waits
+  -- who was found blocked had joined the blocked threads
+  pub joined : (t u : ℕ) → remembered x t u ≡ true → may_enlist (line_at s u) ≡ false
+  -- whom a signal or broadcast that has used its variable found blocked, and who still is by the same wait, is parked
+  pub parked : (t u c : ℕ) → chooses_on (line_at s t) ≡ c → c ≢ 0 → remembered x t u ≡ true
+      → is_call_blocked c (call_shown s u) ≡ true → is_parked (status_at s u) ≡ true
 
 -- THE INVARIANT
 
@@ -109,8 +188,25 @@ pub data MayStopFor (living : ℕ → Bool) (t : ℕ) (c : Cell) : Type 0 where
   -- the mutex is lost: it is stalled, and its owner has ended
   lost : c.robust ≡ false → c.word.number ≢ 0 → living c.word.number ≡ false → MayStopFor living t c
 
--- a fact on which a call rests at a place: of its thread's status, of its mutex, and of who lives. No step of another
--- thread ends it, but for one that hands the mutex to this thread
+-- what a call has of the variable that it names
+pub record Use : Type 0 where
+  -- it is bound to the mutex that the call names
+  pub bound : Bool
+  -- how often it was used
+  pub uses : ℕ
+  -- how often it may be
+  pub signals : ℕ
+
+-- what a call of this request has of its variable
+abbrev pub use_at : Table → Request → Use
+use_at s q = record {
+  bound = bound_to s (variable_of q) == named_by q;
+  uses = uses_of s (variable_of q);
+  signals = s.limits.signals;
+}
+
+-- a fact on which a call rests at a place: of its thread's status, of its mutex and its variable, and of who lives. No
+-- step of another thread ends it, but for one that hands the mutex to this thread, or takes it off its variable
 pub data Need : Type 0 where
   -- the thread may run
   MayRun : Need
@@ -124,6 +220,8 @@ pub data Need : Type 0 where
   OwnsNot : Need
   -- the thread owns the mutex as soon as it may run: it was handed over
   OwnsOnceReady : Need
+  -- the thread owns the mutex exactly where it may run and wasn't woken to lock it again: it was handed over
+  OwnsOnceHanded : Need
   -- the thread holds the mutex once, where it owns it
   HoldsOnce : Need
   -- the thread may stop for good
@@ -136,27 +234,42 @@ pub data Need : Type 0 where
   HealthIsNot : ℕ → Need
   DiedIs : Bool → Need
   DiedBehindDisorder : Need
+  -- the variable is bound to the mutex
+  IsBound : Need
+  -- the variable was used at least this often
+  UsedAtLeast : ℕ → Need
+  -- this is less often than the variable may be used
+  BelowLimit : ℕ → Need
 
--- whether a thread of this status and its call's mutex meet a need
-abbrev pub Meets : (ℕ → Bool) → ℕ → Status → Cell → Need → Type 0
-Meets living t x c MayRun = is_ready x ≡ true
-Meets living t x c HasStopped = x ≡ Stopped
-Meets living t x c NotStopped = (x ≢ Stopped) × (x ≢ Ended)
-Meets living t x c Owns = c.word.number ≡ t
-Meets living t x c OwnsNot = c.word.number ≢ t
-Meets living t x c OwnsOnceReady = is_ready x ≡ true → c.word.number ≡ t
-Meets living t x c HoldsOnce = c.word.number ≡ t → c.count ≡ 1
-Meets living t x c MayStop = MayStopFor living t c
-Meets living t x c OfRobust = c.robust ≡ true
-Meets living t x c (HealthIs h) = c.word.number ≡ t → c.health ≡ h
-Meets living t x c (HealthIsNot h) = c.word.number ≡ t → c.health ≢ h
-Meets living t x c (DiedIs b) = c.word.number ≡ t → c.word.died ≡ b
-Meets living t x c DiedBehindDisorder = c.word.number ≡ t → c.health ≡ 1 → c.word.died ≡ true
+-- whether a thread of this status may run, and wasn't woken to lock its mutex itself
+abbrev pub is_handed : Status → Bool
+is_handed x = if is_woken_again x then false else is_ready x
+
+-- whether a thread of this status and its call's mutex and variable meet a need
+abbrev pub Meets : (ℕ → Bool) → ℕ → Status → Cell → Use → Need → Type 0
+Meets living t x c z MayRun = is_ready x ≡ true
+Meets living t x c z HasStopped = x ≡ Stopped
+Meets living t x c z NotStopped = (x ≢ Stopped) × (x ≢ Ended)
+Meets living t x c z Owns = c.word.number ≡ t
+Meets living t x c z OwnsNot = c.word.number ≢ t
+Meets living t x c z OwnsOnceReady = is_ready x ≡ true → c.word.number ≡ t
+Meets living t x c z OwnsOnceHanded =
+    (is_handed x ≡ true → c.word.number ≡ t) × (is_handed x ≡ false → c.word.number ≢ t)
+Meets living t x c z HoldsOnce = c.word.number ≡ t → c.count ≡ 1
+Meets living t x c z MayStop = MayStopFor living t c
+Meets living t x c z OfRobust = c.robust ≡ true
+Meets living t x c z (HealthIs h) = c.word.number ≡ t → c.health ≡ h
+Meets living t x c z (HealthIsNot h) = c.word.number ≡ t → c.health ≢ h
+Meets living t x c z (DiedIs b) = c.word.number ≡ t → c.word.died ≡ b
+Meets living t x c z DiedBehindDisorder = c.word.number ≡ t → c.health ≡ 1 → c.word.died ≡ true
+Meets living t x c z IsBound = z.bound ≡ true
+Meets living t x c z (UsedAtLeast v) = v ≤ z.uses
+Meets living t x c z (BelowLimit v) = v < z.signals
 
 -- they meet all of some needs
-abbrev pub MeetsAll : (ℕ → Bool) → ℕ → Status → Cell → List Need → Type 0
-MeetsAll living t x c [] = ⊤
-MeetsAll living t x c (n ∷ ns) = Meets living t x c n × MeetsAll living t x c ns
+abbrev pub MeetsAll : (ℕ → Bool) → ℕ → Status → Cell → Use → List Need → Type 0
+MeetsAll living t x c z [] = ⊤
+MeetsAll living t x c z (n ∷ ns) = Meets living t x c z n × MeetsAll living t x c z ns
 
 -- what a call rests on at each place
 abbrev pub needs : Place → List Need
@@ -194,6 +307,21 @@ needs UnlockClear = MayRun ∷ OwnsNot ∷ OfRobust ∷ []
 needs ConsistentLoad = MayRun ∷ []
 needs ConsistentHealth = MayRun ∷ Owns ∷ OfRobust ∷ []
 needs ConsistentStore = MayRun ∷ Owns ∷ OfRobust ∷ HealthIs 1 ∷ []
+needs WaitLoad = MayRun ∷ []
+needs WaitUses = MayRun ∷ Owns ∷ HoldsOnce ∷ IsBound ∷ []
+needs (WaitPending v) = MayRun ∷ Owns ∷ HoldsOnce ∷ OfRobust ∷ IsBound ∷ UsedAtLeast v ∷ []
+needs (WaitHealth v) = MayRun ∷ Owns ∷ HoldsOnce ∷ OfRobust ∷ IsBound ∷ UsedAtLeast v ∷ []
+needs (WaitStore v) = MayRun ∷ Owns ∷ HoldsOnce ∷ OfRobust ∷ HealthIs 1 ∷ IsBound ∷ UsedAtLeast v ∷ []
+needs (WaitUnlink v) =
+    MayRun ∷ Owns ∷ HoldsOnce ∷ OfRobust ∷ HealthIsNot 1 ∷ DiedIs false ∷ IsBound ∷ UsedAtLeast v ∷ []
+needs (WaitExchange v) = MayRun ∷ Owns ∷ HoldsOnce ∷ HealthIsNot 1 ∷ DiedIs false ∷ IsBound ∷ UsedAtLeast v ∷ []
+needs (WaitKernel v) = MayRun ∷ Owns ∷ HoldsOnce ∷ HealthIsNot 1 ∷ DiedIs false ∷ IsBound ∷ UsedAtLeast v ∷ []
+needs (WaitPark v) = MayRun ∷ OwnsNot ∷ IsBound ∷ UsedAtLeast v ∷ []
+needs WaitParked = NotStopped ∷ OwnsOnceHanded ∷ HoldsOnce ∷ DiedBehindDisorder ∷ IsBound ∷ []
+needs UseLoad = MayRun ∷ []
+needs (UseExchange v) = MayRun ∷ BelowLimit v ∷ []
+needs (UseRequeue v) = MayRun ∷ []
+needs UseReload = MayRun ∷ []
 needs SetPriority = MayRun ∷ []
 
 -- whether a call that locks comes to this place, which all such calls share: taking over, and leaving
@@ -210,17 +338,29 @@ is_shared LeaveKernel = true
 is_shared LeaveClear = true
 is_shared _ = false
 
+-- whether lock and wait come to this place: the steps of lock from the exchange on
+abbrev pub is_locking : Place → Bool
+is_locking LockExchange = true
+is_locking LockKernel = true
+is_locking LockQueued = true
+is_locking LockStop = true
+is_locking LockStopped = true
+is_locking LockClear = true
+is_locking p = is_shared p
+
+-- whether signal and broadcast come to this place
+abbrev pub is_using : Place → Bool
+is_using UseLoad = true
+is_using (UseExchange v) = true
+is_using (UseRequeue v) = true
+is_using UseReload = true
+is_using _ = false
+
 -- whether a call of this request comes to this place
 abbrev pub belongs : Request → Place → Bool
 belongs (Lock m) LockLoad = true
 belongs (Lock m) LockPending = true
-belongs (Lock m) LockExchange = true
-belongs (Lock m) LockKernel = true
-belongs (Lock m) LockQueued = true
-belongs (Lock m) LockStop = true
-belongs (Lock m) LockStopped = true
-belongs (Lock m) LockClear = true
-belongs (Lock m) p = is_shared p
+belongs (Lock m) p = is_locking p
 belongs (TryLock m) TryLoad = true
 belongs (TryLock m) TryPending = true
 belongs (TryLock m) TryExchange = true
@@ -238,6 +378,19 @@ belongs (Unlock m) UnlockClear = true
 belongs (Consistent m) ConsistentLoad = true
 belongs (Consistent m) ConsistentHealth = true
 belongs (Consistent m) ConsistentStore = true
+belongs (Wait c m) WaitLoad = true
+belongs (Wait c m) WaitUses = true
+belongs (Wait c m) (WaitPending v) = true
+belongs (Wait c m) (WaitHealth v) = true
+belongs (Wait c m) (WaitStore v) = true
+belongs (Wait c m) (WaitUnlink v) = true
+belongs (Wait c m) (WaitExchange v) = true
+belongs (Wait c m) (WaitKernel v) = true
+belongs (Wait c m) (WaitPark v) = true
+belongs (Wait c m) WaitParked = true
+belongs (Wait c m) p = is_locking p
+belongs (Signal c) p = is_using p
+belongs (Broadcast c) p = is_using p
 belongs (SetPrio u p) SetPriority = true
 belongs _ _ = false
 
@@ -247,25 +400,41 @@ waited_in (Lock m) = m
 waited_in (TryLock m) = 0
 waited_in (Unlock m) = 0
 waited_in (Consistent m) = 0
+waited_in (Wait c m) = m
+waited_in (Signal c) = 0
+waited_in (Broadcast c) = 0
 waited_in (SetPrio u p) = 0
 
--- what an open call of t at a place knows: the mutex that it names exists, the place is one of the request's, and what
--- the call rests on there holds
+-- what an open call of t at a place knows: the mutex and the variable that it names exist, the place is one of the
+-- request's, and what the call rests on there holds
 pub record CallIsSound (s : Table) (t : ℕ) (q : Request) (p : Place) : Type 0 where
-  pub named : names_known (has_mutex s) q ≡ true
+  pub named : names_known (has_mutex s) (has_cond s) q ≡ true
   pub belongs : belongs q p ≡ true
-  pub needs : MeetsAll (is_living s.kernel) t (status_at s t) (cell_at s (named_by q)) (needs p)
+  pub needs : MeetsAll (is_living s.kernel) t (status_at s t) (cell_at s (named_by q)) (use_at s q) (needs p)
 
 -- what a thread at this line knows: with no call open it may run
 abbrev pub LineIsSound : Table → ℕ → Line → Type 0
 LineIsSound s t Idle = is_ready (status_at s t) ≡ true
 LineIsSound s t (At q p) = CallIsSound s t q p
 
--- a thread that is queued on m is in a call that waits for m, at the place where it is queued
+-- whether a thread may be queued at this place: by lock_pi, or since it was taken from its variable
+abbrev pub is_queued_place : Place → Bool
+is_queued_place LockQueued = true
+is_queued_place WaitParked = true
+is_queued_place _ = false
+
+-- a thread that is queued on m is in a call that waits for m, at a place where it may be queued
 pub record IsQueuedLine (m : ℕ) (l : Line) : Type 0 where
   pub request : Request
-  pub line : l ≡ At request LockQueued
+  pub place : Place
+  pub line : l ≡ At request place
+  pub queued : is_queued_place place ≡ true
   pub waits : waited_in request ≡ m
+
+-- a thread that is parked on c is in a wait on c, at the place where it is parked
+pub record IsParkedLine (c : ℕ) (l : Line) : Type 0 where
+  pub mutex : ℕ
+  pub line : l ≡ At (Wait c mutex) WaitParked
 
 -- ROBUST LISTS
 
@@ -284,10 +453,17 @@ is_pending UnlockUnlink = true
 is_pending UnlockExchange = true
 is_pending UnlockKernel = true
 is_pending UnlockClear = true
+is_pending (WaitHealth v) = true
+is_pending (WaitStore v) = true
+is_pending (WaitUnlink v) = true
+is_pending (WaitExchange v) = true
+is_pending (WaitKernel v) = true
+is_pending (WaitPark v) = true
+is_pending WaitParked = true
 is_pending p = is_shared p
 
--- whether the call's mutex, where its thread owns it, is not on the list at this place: handed over and not noticed, while
--- it is taken over, left, or given up
+-- whether the call's mutex, where its thread owns it, is not on the list at this place: handed over and not noticed,
+-- while it is taken over, left, or given up by an unlock or a wait
 abbrev pub is_unlinked : Place → Bool
 is_unlinked LockQueued = true
 is_unlinked TakeLoad = true
@@ -300,6 +476,9 @@ is_unlinked LeaveExchange = true
 is_unlinked LeaveKernel = true
 is_unlinked UnlockExchange = true
 is_unlinked UnlockKernel = true
+is_unlinked (WaitExchange v) = true
+is_unlinked (WaitKernel v) = true
+is_unlinked WaitParked = true
 is_unlinked _ = false
 
 -- whether only the link of the call's mutex is written at this place
@@ -319,6 +498,10 @@ is_unsettled LeaveKernel = true
 is_unsettled UnlockUnlink = true
 is_unsettled UnlockExchange = true
 is_unsettled UnlockKernel = true
+is_unsettled (WaitUnlink v) = true
+is_unsettled (WaitExchange v) = true
+is_unsettled (WaitKernel v) = true
+is_unsettled WaitParked = true
 is_unsettled _ = false
 
 -- the mutex of the call at a line, where its place passes this test; 0 else
@@ -345,6 +528,7 @@ pub record ListIsSound (s : Table) (t : ℕ) (l : Line) : Type 0 where
 pub record ThreadIsSound (s : Table) (t : ℕ) : Type 0 where
   pub line : LineIsSound s t (line_at s t)
   pub queue : (m : ℕ) → status_at s t ≡ Queued m → IsQueuedLine m (line_at s t)
+  pub parked : (c : ℕ) → status_at s t ≡ Parked c → IsParkedLine c (line_at s t)
   pub list : ListIsSound s t (line_at s t)
   -- what it owns is in order, save for the mutex of an unsettled place
   pub settled : (m : ℕ) → has_mutex s m ≡ true → (word_at s.words m).number ≡ t → m ≢ mutex_by is_unsettled (line_at s t)
@@ -377,9 +561,15 @@ pub record CellIsSound (added : ℕ → Bool) (waited : Bool) (c : Cell) : Type 
   pub state : c.state_owner ≡ (if waited then c.word.number else 0)
   pub contended : waited ≡ true → c.word.waiters ≡ true
 
--- the parts fit together: each thread of the kernel has a line, and each that can be a robust list, and nobody is at place
--- 0; there are a word and a health word for each mutex that the limits allow, and of those that were not added they are
--- free and fine, and nobody waits for them
+-- a variable that was added: it is bound to a mutex that was, and was used as often as it may be at most
+pub record CondIsSound (s : Table) (c : ℕ) : Type 0 where
+  pub bound : has_mutex s (bound_to s c) ≡ true
+  pub uses : uses_of s c ≤ s.limits.signals
+
+-- the parts fit together: each thread of the kernel has a line, and each that can be a robust list, and nobody is at
+-- place 0; there are a word and a health word for each mutex that the limits allow, and of those that were not added
+-- they are free and fine, and nobody waits for them; there is a condition word for each variable that the limits allow,
+-- and of those that were not added it is 0
 pub record IsShaped (s : Table) : Type 0 where
   pub limits : s.kernel.limits ≡ s.limits
   pub within : IsWithin s.limits
@@ -394,11 +584,22 @@ pub record IsShaped (s : Table) : Type 0 where
   pub no_word : word_at s.words 0 ≡ free_word
   pub no_health : health_word_at s.words 0 ≡ 0
   pub unmade : (m : ℕ) → length s.mutexes ≤ m → (word_at s.words m ≡ free_word) × (health_word_at s.words m ≡ 0) × (has_waiter s.kernel.waiters m ≡ false)
+  pub some_cond : 1 ≤ length s.conds
+  pub few_conds : length s.conds ≤ s.limits.conds + 1
+  pub no_cond : bound_to s 0 ≡ 0
+  pub cond_words : length s.words.conds ≡ s.limits.conds + 1
+  pub no_cond_word : uses_of s 0 ≡ 0
+  pub unmade_conds : (c : ℕ) → length s.conds ≤ c → uses_of s c ≡ 0
 
 -- the invariant of the table, save for what holds of excused threads and for what its kernel keeps
 pub record SoundBut (Excused : ℕ → Type 0) (s : Table) : Type 0 where
   pub shape : IsShaped s
   pub mutexes : (m : ℕ) → has_mutex s m ≡ true → CellIsSound (has_thread s) (has_waiter s.kernel.waiters m) (cell_at s m)
+  pub conds : (c : ℕ) → has_cond s c ≡ true → CondIsSound s c
+  -- who is parked is to get the mutex to which the variable is bound
+  pub targets : (c m : ℕ)
+      → list_any (λ (p : Parking). if p.cond == c then p.target == m else false) s.kernel.parked ≡ true
+      → bound_to s c ≡ m
   -- who owns a robust mutex lives
   pub alive : (m : ℕ) → has_mutex s m ≡ true → (library_at s m).robust ≡ true → (word_at s.words m).number ≢ 0
       → (Excused (word_at s.words m).number → ⊥) → is_living s.kernel (word_at s.words m).number ≡ true
@@ -422,9 +623,9 @@ pub record Stands (s : Table) (h : List Entry) (r : List World) (w : World) : Ty
 
 -- WHAT STANDING TELLS A CALLER
 
--- x may be m's word in this state: its number is the owner's, WAITERS is set where m has waiters, OWNER_DIED only
--- where m is robust and not Fine; with no owner a Fine mutex has the word 0 and an Inconsistent one OWNER_DIED
--- (futex(2), robust futexes)
+-- x may be m's word in this state: its number is the owner's, WAITERS is set where m has waiters, OWNER_DIED only where
+-- m is robust and not Fine; with no owner a Fine mutex has the word 0 and an Inconsistent one OWNER_DIED (futex(2),
+-- robust futexes)
 pub record IsPossible (w : World) (m : ℕ) (x : Word) : Type 0 where
   pub number : x.number ≡ (mutex_at w m).owner
   pub waiters : has_waiter w.waiters m ≡ true → x.waiters ≡ true
@@ -442,12 +643,16 @@ pub record IsPossibleHealth (w : World) (m h : ℕ) : Type 0 where
 abbrev pub ArePossible : World → ℕ → Word → ℕ → Type 0
 ArePossible w m x h = (mutex_at w m).health ≡ Inconsistent → h ≡ 0 → x.died ≡ true
 
+-- n may be the condition word of c in this state: it is how often c was used
+abbrev pub IsPossibleUses : World → ℕ → ℕ → Type 0
+IsPossibleUses w c n = n ≡ (variable_at w c).uses
+
 -- p is the effective priority of t: the greatest of its own base priority and of all that wait for it through any chain
 abbrev pub HasEffective : World → ℕ → ℕ → Type 0
 HasEffective w t p = IsEffective (λ u. is_thread w u ≡ true) (WaitsFor w) (λ u. (thread_at w u).base) t p
 
--- p runs next: a living thread that doesn't rest, and no living thread that doesn't rest has a greater effective priority; 0 only
--- where every living thread rests
+-- p runs next: a living thread that doesn't rest, and no living thread that doesn't rest has a greater effective
+-- priority; 0 only where every living thread rests
 pub record IsPick (w : World) (p : ℕ) : Type 0 where
   pub runs : p ≢ 0 → (lives w p ≡ true) × (rests w p ≡ false)
   pub greatest : (t : ℕ) → lives w t ≡ true → rests w t ≡ false → (p ≢ 0) × (effective_of w t ≤ effective_of w p)

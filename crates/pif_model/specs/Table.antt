@@ -1,6 +1,6 @@
--- The state of the table machine: its parts side by side, as the code has them. They are the words, the kernel, and what
--- the library keeps of threads and mutexes. Threads and mutexes are numbered from 1; place 0 of each list stands for
--- nobody.
+-- The state of the table machine: its parts side by side, as the code has them. They are the words, the kernel, and
+-- what the library keeps of threads, mutexes and condition variables. Threads, mutexes and variables are numbered
+-- from 1; place 0 of each list stands for nobody.
 use Rattle.std.specs.Prelude.{ℕ, Bool, true, false, ◌==◌, nat_lt, List, [], ◌∷◌, ◌++◌, length, get_or, set, if◌then◌else◌}
 use Rattle.pif_types.specs.Bounds.{Bounds}
 use Rattle.pif_types.specs.declared.requests.Kind.{Kind}
@@ -8,7 +8,7 @@ use Rattle.pif_types.specs.declared.requests.Kind.TheVariants.{Normal}
 use Rattle.pif_model.specs.declared.lines.Line.{Line}
 use Rattle.pif_model.specs.declared.lines.Line.TheVariants.{Idle}
 use Rattle.pif_model.specs.declared.lines.Status.{Status}
-use Rattle.pif_model.specs.Word.{Word, Words, free_words, word_at, health_word_at, set_word, set_health_word}
+use Rattle.pif_model.specs.Word.{Word, Words, free_words, word_at, health_word_at, cond_word_at, set_word, set_health_word, set_cond_word}
 use Rattle.pif_model.specs.RobustList.{Robust, no_robust}
 use Rattle.pif_model.specs.PiKernel.{Kernel, new_kernel, seat_at, has_seat, state_at, kernel_after_add}
 
@@ -30,6 +30,8 @@ pub record Table : Type 0 where
   pub lines : List Line
   -- what the library knows of each mutex
   pub mutexes : List LibraryMutex
+  -- the mutex to which each condition variable is bound
+  pub conds : List ℕ
 
 -- a new mutex of this kind: nobody holds it
 abbrev pub new_mutex : Kind → Bool → LibraryMutex
@@ -44,6 +46,7 @@ new_table l = record {
   lists = no_robust l;
   lines = Idle ∷ [];
   mutexes = new_mutex Normal false ∷ [];
+  conds = 0 ∷ [];
 }
 
 -- THREADS
@@ -116,6 +119,24 @@ with_lists v s = record s { lists = v }
 abbrev pub with_kernel : Words → Kernel → Table → Table
 with_kernel ws k s = record s { words = ws; kernel = k }
 
+-- CONDITION VARIABLES
+
+-- whether c was added
+abbrev pub has_cond : Table → ℕ → Bool
+has_cond s c = if c == 0 then false else nat_lt c (length s.conds)
+
+-- the mutex to which c is bound
+abbrev pub bound_to : Table → ℕ → ℕ
+bound_to s c = get_or s.conds c 0
+
+-- how often c was used, by its condition word
+abbrev pub uses_of : Table → ℕ → ℕ
+uses_of s c = cond_word_at s.words c
+
+-- c with this condition word
+abbrev pub with_cond_word : ℕ → ℕ → Table → Table
+with_cond_word c n s = record s { words = set_cond_word s.words c n }
+
 -- ADDITIONS
 
 -- a new thread of base priority p, with no call open
@@ -126,6 +147,10 @@ thread_added p s = record s { kernel = kernel_after_add p s.kernel; lines = s.li
 abbrev pub mutex_added : Kind → Bool → Table → Table
 mutex_added k r s = record s { mutexes = s.mutexes ++ new_mutex k r ∷ [] }
 
+-- a new condition variable, bound to m
+abbrev pub cond_added : ℕ → Table → Table
+cond_added m s = record s { conds = s.conds ++ m ∷ [] }
+
 -- whether one more thread may be added
 abbrev pub has_thread_room : Table → Bool
 has_thread_room s = if nat_lt s.limits.threads (length s.lines) then false else true
@@ -133,3 +158,7 @@ has_thread_room s = if nat_lt s.limits.threads (length s.lines) then false else 
 -- whether one more mutex may be added
 abbrev pub has_mutex_room : Table → Bool
 has_mutex_room s = if nat_lt s.limits.mutexes (length s.mutexes) then false else true
+
+-- whether one more condition variable may be added
+abbrev pub has_cond_room : Table → Bool
+has_cond_room s = if nat_lt s.limits.conds (length s.conds) then false else true

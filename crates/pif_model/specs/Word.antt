@@ -1,6 +1,7 @@
 -- A mutex word as futex(2) has it: 32 bits, FUTEX_WAITERS 0x80000000, FUTEX_OWNER_DIED 0x40000000, and a thread's
--- number in FUTEX_TID_MASK 0x3fffffff; and the words in user memory.
-use Rattle.std.specs.Prelude.{ℕ, ◌+◌, ◌*◌, ◌/◌, ◌%◌, ◌<◌, ◌==◌, nat_lt, Bool, true, false, if◌then◌else◌, Option, Some, None, List, length, get_or, set, replicate}
+-- number in FUTEX_TID_MASK 0x3fffffff; and the words in user memory: those of mutexes, and a count of uses for each
+-- condition variable.
+use Rattle.std.specs.Prelude.{ℕ, ◌+◌, ◌/◌, ◌%◌, ◌==◌, nat_lt, Bool, true, false, if◌then◌else◌, Option, Some, None, List, length, get_or, set, replicate}
 use Rattle.pif_types.specs.Bounds.{Bounds}
 use Rattle.pif_types.specs.declared.requests.Health.{Health}
 use Rattle.pif_types.specs.declared.requests.Health.TheVariants.{Fine, Inconsistent, Unusable}
@@ -70,11 +71,13 @@ word_of bits =
 
 -- THE WORDS IN USER MEMORY
 
--- the words, by the number of their mutex; place 0 stands for no mutex
+-- the words, by the number of their mutex or their variable; place 0 stands for none
 pub record Words : Type 0 where
   pub mutexes : List Word
   -- the health word of each mutex: 0 fine, 1 inconsistent, 2 unusable
   pub healths : List ℕ
+  -- the condition word of each variable: how often it was signalled or broadcast
+  pub conds : List ℕ
 
 -- the word of m; the free word where there is none
 abbrev pub word_at : Words → ℕ → Word
@@ -106,6 +109,23 @@ health_word_at ws m = get_or ws.healths m 0
 abbrev pub set_health_word : Words → ℕ → ℕ → Words
 set_health_word ws m h = record ws { healths = set ws.healths m h }
 
--- a word and a health word for each mutex that the limits allow, each free and fine
+-- the condition word of c; 0 where there is none
+abbrev pub cond_word_at : Words → ℕ → ℕ
+cond_word_at ws c = get_or ws.conds c 0
+
+-- whether c has a condition word
+abbrev pub has_cond_word : Words → ℕ → Bool
+has_cond_word ws c = if c == 0 then false else nat_lt c (length ws.conds)
+
+-- the words with another condition word of c; all others are as they were
+abbrev pub set_cond_word : Words → ℕ → ℕ → Words
+set_cond_word ws c n = record ws { conds = set ws.conds c n }
+
+-- a word and a health word for each mutex that the limits allow, each free and fine, and a condition word for each
+-- variable that they allow, each 0
 abbrev pub free_words : Bounds → Words
-free_words l = record { mutexes = replicate (l.mutexes + 1) free_word; healths = replicate (l.mutexes + 1) 0 }
+free_words l = record {
+  mutexes = replicate (l.mutexes + 1) free_word;
+  healths = replicate (l.mutexes + 1) 0;
+  conds = replicate (l.conds + 1) 0;
+}

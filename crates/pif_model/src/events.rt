@@ -1,4 +1,4 @@
-use pif_types::{Answer, Kind, MutexId, Prio, Refusal, Request, Tid};
+use pif_types::{Answer, CondId, Kind, MutexId, Prio, Refusal, Request, Tid};
 
 /// What a caller hands to a core: a thread begins a call, goes on by one step of its open call, or ends.
 #[derive(Clone, Copy, Debug, PartialEq, Eq, Hash)]
@@ -18,7 +18,7 @@ pub enum Seen {
     Begun,
     /// The step was taken; the call stays open and goes on.
     Went,
-    /// The thread waits: it is queued on a mutex, or it is stopped for good.
+    /// The thread waits: it is queued on a mutex, parked on a condition variable, or stopped for good.
     Waits,
     /// The call is closed with this answer: 0, or the number of an error.
     Answered(Answer),
@@ -35,6 +35,8 @@ pub enum Entry {
     Thread(Tid, Prio),
     /// This mutex was added, of this kind; true where it is robust.
     Mutex(MutexId, Kind, bool),
+    /// This condition variable was added, bound to this mutex.
+    Cond(CondId, MutexId),
     /// This event was answered so.
     Step(Event, Seen),
 }

@@ -1,6 +1,6 @@
-//! The definitions that every layer's contract cites: the POSIX machine of mutexes, the table machine of words,
-//! kernel and calls, and what it means that a core stands after a history. The definitions are in `specs/`; the
-//! types here are those that both they and the code speak of.
+//! The definitions that every layer's contract cites: the POSIX machine of mutexes and condition variables, the table
+//! machine of words, kernel and calls, and what it means that a core stands after a history. The definitions are in
+//! `specs/`; the types here are those that both they and the code speak of.
 #![tactic(auto)]
 
 mod events;

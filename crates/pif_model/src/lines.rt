@@ -1,7 +1,8 @@
-use pif_types::{Answer, MutexId, Request};
+use pif_types::{Answer, CondId, MutexId, Request};
 
-/// Where in its call a thread stands: the step that its next Go takes. It is named by what that step does. Taking over and
-/// leaving are steps that lock and trylock share; steps on robust lists are for robust mutexes alone.
+/// Where in its call a thread stands: the step that its next Go takes. It is named by what that step does. Taking over
+/// and leaving are steps that lock, trylock and wait share; a wait that was unblocked goes on with the steps of lock,
+/// from the exchange on; signal and broadcast share their steps. Steps on robust lists are for robust mutexes alone.
 #[derive(Clone, Copy, Debug, PartialEq, Eq, Hash)]
 pub enum Place {
     /// lock: load the word, and see whether the caller owns the mutex.
@@ -72,6 +73,35 @@ pub enum Place {
     ConsistentHealth,
     /// consistent: store in the health word that the mutex is fine, and answer 0.
     ConsistentStore,
+    /// wait: load the mutex's word, and see whether the caller owns the mutex and holds it once.
+    WaitLoad,
+    /// wait: load the condition word. What it was goes along from here on.
+    WaitUses,
+    /// wait: name the mutex in the pending field.
+    WaitPending(u32),
+    /// wait: load the health word.
+    WaitHealth(u32),
+    /// wait: store in the health word that the mutex is unusable.
+    WaitStore(u32),
+    /// wait: take the mutex off the caller's list.
+    WaitUnlink(u32),
+    /// wait: compare-exchange the word from the caller's number to 0.
+    WaitExchange(u32),
+    /// wait: the kernel call unlock_pi.
+    WaitKernel(u32),
+    /// wait: the kernel call wait_requeue_pi, which parks the caller where the condition word is what it was.
+    WaitPark(u32),
+    /// wait: the kernel has parked the caller. Once it was made the owner it takes the mutex over; once it was woken to
+    /// lock the mutex again, this is the exchange of lock.
+    WaitParked,
+    /// signal and broadcast: load the condition word.
+    UseLoad,
+    /// signal and broadcast: compare-exchange the condition word from what it was to one more.
+    UseExchange(u32),
+    /// signal and broadcast: the kernel call cmp_requeue_pi, where the condition word is what this call wrote or read.
+    UseRequeue(u32),
+    /// signal and broadcast: load the condition word, which another has changed since.
+    UseReload,
     /// setprio: the kernel call set_prio.
     SetPriority,
 }
@@ -88,10 +118,12 @@ pub enum Line {
 /// Why a thread is ready to run.
 #[derive(Clone, Copy, Debug, PartialEq, Eq, Hash)]
 pub enum Woken {
-    /// It has never been queued.
+    /// It has never been queued or parked.
     Fresh,
-    /// It was queued, and was handed the mutex for which it waited.
+    /// It was queued or parked, and was handed the mutex for which it waited.
     Owns,
+    /// It was parked, and has to lock its mutex itself.
+    Again,
 }
 
 /// What the kernel knows of a thread.
@@ -101,6 +133,8 @@ pub enum Status {
     Ready(Woken),
     /// It is queued on this mutex.
     Queued(MutexId),
+    /// It is parked on this condition variable.
+    Parked(CondId),
     /// It is stopped for good.
     Stopped,
     /// It has ended. Its number is never used again.

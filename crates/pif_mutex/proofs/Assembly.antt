@@ -1,42 +1,49 @@
 -- Parts that fit together fit together after each access and each kernel call.
-use Rattle.std.proofs.Common.{◌≡◌, ℕ, zero, suc, ◌+◌, ◌<◌, ◌==◌, nat_lt, [], ◌∷◌, arith, Bool, true, false, Result, Ok, Err, List, length, map, replicate, if◌then◌else◌, refl, sym, ap, ◌∙◌, subst, length-set}
-use Rattle.std.proofs.lemmas.Bool.{ltb-true}
+use Rattle.std.proofs.Common.{◌≡◌, ℕ, zero, suc, ◌+◌, ◌<◌, ◌==◌, [], ◌∷◌, arith, Bool, true, false, Result, Ok, Err, List, length, map, replicate, if◌then◌else◌, refl, sym, ap, ◌∙◌, subst, length-set}
 use Rattle.pif_types.specs.Bounds.{Bounds}
 use Rattle.pif_types.specs.declared.errors.Errno.{Errno}
 use Rattle.pif_model.specs.declared.lines.Took.{Took}
 use Rattle.pif_model.specs.declared.lines.Took.TheVariants.{Owns as TookOwns, Queued as TookQueued}
-use Rattle.pif_model.specs.Word.{Word, Words, free_word, orphan_word, inherit_word, word_of, word_at, has_word, set_word, set_health_word}
+use Rattle.pif_model.specs.Word.{Word, Words, free_word, orphan_word, inherit_word, word_of, word_at, has_word, set_word, set_health_word, set_cond_word}
 use Rattle.pif_model.specs.Word.{free_words as words_free}
-use Rattle.pif_model.specs.PiKernel.{Kernel, System, IsKernel, has_seat, seat_at, has_ended, is_living, state_at, next_in, words_after_lock, kernel_after_lock, words_after_try_lock, words_after_unlock, kernel_after_hand_over, kernel_after_unlock, kernel_after_set_prio, kernel_after_stop, kernel_after_leaving, after_death, after_deaths, after_exit}
+use Rattle.pif_model.specs.PiKernel.{Kernel, System, IsKernel, has_seat, seat_at, has_ended, is_living, state_at, next_in, words_after_lock, kernel_after_lock, words_after_try_lock, words_after_unlock, kernel_after_hand_over, kernel_after_unlock, kernel_after_set_prio, kernel_after_stop, kernel_after_wait_requeue, after_requeue, kernel_after_leaving, after_death, after_deaths, after_exit}
 use Rattle.pif_model.specs.RobustList.{Robust, RobustRow, no_robust_row, with_robust, without_robust}
 use Rattle.pif_model.specs.Table.{Table, has_mutex, with_kernel, with_lists}
+use Rattle.pif_chains.proofs.Numbers.{below}
+use Rattle.pif_chains.proofs.KernelRequeued.{takings-words, takings-healths, takings-conds}
 use Rattle.pif_word.specs.WordMap.{words_of, free_words}
 use Rattle.pif_word.proofs.WordBits.{word_of-number}
 use Rattle.pif_mutex.specs.Assembled.{IsAssembled}
-use Rattle.pif_mutex.proofs.KernelLeaves.{IsAlike, alike, alike_twice, alike_keeps_threads, lock_alike, hand_over_alike, unlock_alike, set_prio_alike, stop_alike, leaving_alike}
+use Rattle.pif_mutex.proofs.KernelLeaves.{IsAlike, alike, alike_twice, alike_keeps_threads, lock_alike, hand_over_alike, unlock_alike, set_prio_alike, stop_alike, wait_requeue_alike, requeue_alike, leaving_alike}
 
 -- THE WORDS
 
--- as many words and health words as others
+-- as many words, health words and condition words as others
 record IsAsLong (ws vs : Words) : Type 0 where
   pub mutexes : length vs.mutexes ≡ length ws.mutexes
   pub healths : length vs.healths ≡ length ws.healths
+  pub conds : length vs.conds ≡ length ws.conds
 
 -- as many as there are
 as_long : (ws : Words) → IsAsLong ws ws
-as_long ws = record { mutexes = refl; healths = refl }
+as_long ws = record { mutexes = refl; healths = refl; conds = refl }
 
 -- as many as there are of others that are as many
 as_long_twice : (ws vs us : Words) → IsAsLong ws vs → IsAsLong vs us → IsAsLong ws us
-as_long_twice ws vs us h k = record { mutexes = k.mutexes ∙ h.mutexes; healths = k.healths ∙ h.healths }
+as_long_twice ws vs us h k =
+    record { mutexes = k.mutexes ∙ h.mutexes; healths = k.healths ∙ h.healths; conds = k.conds ∙ h.conds }
 
 -- a write of one word leaves as many
 set_long : (ws : Words) (m : ℕ) (x : Word) → IsAsLong ws (set_word ws m x)
-set_long ws m x = record { mutexes = length-set ws.mutexes m x; healths = refl }
+set_long ws m x = record { mutexes = length-set ws.mutexes m x; healths = refl; conds = refl }
 
 -- and so does one of a health word
 set_health_long : (ws : Words) (m h : ℕ) → IsAsLong ws (set_health_word ws m h)
-set_health_long ws m h = record { mutexes = refl; healths = length-set ws.healths m h }
+set_health_long ws m h = record { mutexes = refl; healths = length-set ws.healths m h; conds = refl }
+
+-- and one of a condition word
+set_cond_long : (ws : Words) (c n : ℕ) → IsAsLong ws (set_cond_word ws c n)
+set_cond_long ws c n = record { mutexes = refl; healths = refl; conds = length-set ws.conds c n }
 
 -- lock_pi leaves as many words
 lock_long : (t m : ℕ) (r : Result Took Errno) (ws : Words) → IsAsLong ws (words_after_lock t m r ws)
@@ -51,17 +58,33 @@ unfolding words_after_try_lock
 try_long t m (Ok x) ws = set_long ws m _
 try_long t m (Err e) ws = as_long ws
 
--- and unlock_pi
+-- unlock_pi
 unlock_long : (m : ℕ) (r : Result (record {}) Errno) (k : Kernel) (ws : Words)
     → IsAsLong ws (words_after_unlock m r k ws)
 unfolding words_after_unlock
 unlock_long m (Ok x) k ws = set_long ws m _
 unlock_long m (Err e) k ws = as_long ws
 
+-- and cmp_requeue_pi
+requeue_long : (c m more : ℕ) (r : Result ℕ Errno) (ws : Words) (k : Kernel)
+    → IsAsLong ws (after_requeue c m more r ws k).words
+unfolding after_requeue
+requeue_long c m more (Ok n) ws k = record {
+  mutexes = takings-words (suc more) c m (record { words = ws; kernel = k });
+  healths = ap (λ (hs : List ℕ). length hs) (takings-healths (suc more) c m (record { words = ws; kernel = k }));
+  conds = ap (λ (ns : List ℕ). length ns) (takings-conds (suc more) c m (record { words = ws; kernel = k }));
+}
+requeue_long c m more (Err e) ws k = as_long ws
+
 -- the words that are all 0 are free
 pub words_free_at_first : (l : Bounds) → words_of (free_words l) ≡ words_free l
 words_free_at_first l =
-    ap (λ (xs : List Word). record { mutexes = xs; healths = replicate (l.mutexes + 1) 0 }) (each (l.mutexes + 1))
+    ap (λ (xs : List Word). record {
+      mutexes = xs;
+      healths = replicate (l.mutexes + 1) 0;
+      conds = replicate (l.conds + 1) 0;
+    })
+    (each (l.mutexes + 1))
   where
     each : (n : ℕ) → map word_of (replicate n 0) ≡ replicate n free_word
     each zero = refl
@@ -131,17 +154,11 @@ exit_keeps_thread t ms ws k h =
 
 -- PARTS THAT FIT TOGETHER
 
--- a mutex that was added has a number below theirs
-added_below : (b : Bool) (m n : ℕ) → (if b then false else nat_lt m n) ≡ true → m < n
-added_below true m n e = ltb-true m n (ap (λ (b : Bool). if b then true else nat_lt m n) e)
-added_below false m n e = ltb-true m n e
-
 module _ {s : Table} (h : IsAssembled s) where
   -- a mutex that was added has a word
   pub added_has_word : (m : ℕ) → has_mutex s m ≡ true → m < length s.words.mutexes
   added_has_word m known =
-      let below : m < length s.mutexes = added_below (m == 0) m (length s.mutexes) known in
-      omega (arith, h.few_mutexes, h.words)
+      let low = below m (length s.mutexes) known in omega (arith, low, h.few_mutexes, h.words)
 
   -- with other words, as many
   with_words_assembled : (ws : Words) → IsAsLong s.words ws → IsAssembled (record s { words = ws })
@@ -154,6 +171,9 @@ module _ {s : Table} (h : IsAssembled s) where
     few_mutexes = h.few_mutexes;
     words = long.mutexes ∙ h.words;
     healths = long.healths ∙ h.healths;
+    some_cond = h.some_cond;
+    few_conds = h.few_conds;
+    cond_words = long.conds ∙ h.cond_words;
     lists = h.lists;
     listed = h.listed;
   }
@@ -170,6 +190,9 @@ module _ {s : Table} (h : IsAssembled s) where
     few_mutexes = h.few_mutexes;
     words = long.mutexes ∙ h.words;
     healths = long.healths ∙ h.healths;
+    some_cond = h.some_cond;
+    few_conds = h.few_conds;
+    cond_words = long.conds ∙ h.cond_words;
     lists = h.lists;
     listed = h.listed;
   }
@@ -186,16 +209,29 @@ module _ {s : Table} (h : IsAssembled s) where
     few_mutexes = h.few_mutexes;
     words = h.words;
     healths = h.healths;
+    some_cond = h.some_cond;
+    few_conds = h.few_conds;
+    cond_words = h.cond_words;
     lists = ap (λ (u : Robust). length u.threads) is ∙ length-set s.lists.threads t x ∙ h.lists;
     listed = ap (λ (u : Robust). u.mutexes) is ∙ h.listed;
   }
 
-  -- after an exchange
+  -- with other words, as many, or the same
+  either_assembled : (b : Bool) (us ws : Words) → IsAsLong s.words us → ws ≡ (if b then us else s.words)
+      → IsAssembled (record s { words = ws })
+  either_assembled true us ws long e = with_words_assembled ws (subst (IsAsLong s.words) (sym e) long)
+  either_assembled false us ws long e =
+      with_words_assembled ws (subst (IsAsLong s.words) (sym e) (as_long s.words))
+
+  -- after an exchange of a word
   pub exchanged_assembled : (b : Bool) (m : ℕ) (x : Word) (ws : Words)
       → ws ≡ (if b then set_word s.words m x else s.words) → IsAssembled (record s { words = ws })
-  exchanged_assembled true m x ws e =
-      with_words_assembled ws (subst (IsAsLong s.words) (sym e) (set_long s.words m x))
-  exchanged_assembled false m x ws e = with_words_assembled ws (subst (IsAsLong s.words) (sym e) (as_long s.words))
+  exchanged_assembled b m x ws = either_assembled b (set_word s.words m x) ws (set_long s.words m x)
+
+  -- after an exchange of a condition word
+  pub uses_assembled : (b : Bool) (c n : ℕ) (ws : Words)
+      → ws ≡ (if b then set_cond_word s.words c n else s.words) → IsAssembled (record s { words = ws })
+  uses_assembled b c n ws = either_assembled b (set_cond_word s.words c n) ws (set_cond_long s.words c n)
 
   -- after a write of a word
   pub written_assembled : (m : ℕ) (x : Word) (ws : Words) → ws ≡ set_word s.words m x
@@ -205,8 +241,7 @@ module _ {s : Table} (h : IsAssembled s) where
   -- after a write of a health word
   pub health_assembled : (m x : ℕ) (ws : Words) → ws ≡ set_health_word s.words m x
       → IsAssembled (record s { words = ws })
-  health_assembled m x ws e =
-      with_words_assembled ws (subst (IsAsLong s.words) (sym e) (set_health_long s.words m x))
+  health_assembled m x ws = either_assembled true (set_health_word s.words m x) ws (set_health_long s.words m x)
 
   -- after lock_pi
   pub lock_assembled : (t m : ℕ) (r : Result Took Errno) (ws : Words) (k : Kernel) → ws ≡ words_after_lock t m r s.words
@@ -243,6 +278,22 @@ module _ {s : Table} (h : IsAssembled s) where
   stop_assembled t k after =
       with_kernel_assembled s.words k (as_long s.words)
       (subst (IsAlike s.kernel) (sym after) (stop_alike t s.kernel))
+
+  -- after wait_requeue_pi
+  pub wait_requeue_assembled : (t c m : ℕ) (r : Result (record {}) Errno) (k : Kernel)
+      → k ≡ kernel_after_wait_requeue t c m r s.kernel → IsKernel k → IsAssembled (record s { kernel = k })
+  wait_requeue_assembled t c m r k after =
+      with_kernel_assembled s.words k (as_long s.words)
+      (subst (IsAlike s.kernel) (sym after) (wait_requeue_alike t c m r s.kernel))
+
+  -- after cmp_requeue_pi
+  pub requeue_assembled : (c m more : ℕ) (r : Result ℕ Errno) (ws : Words) (k : Kernel)
+      → ws ≡ (after_requeue c m more r s.words s.kernel).words
+      → k ≡ (after_requeue c m more r s.words s.kernel).kernel
+      → IsKernel k → IsAssembled (with_kernel ws k s)
+  requeue_assembled c m more r ws k words after =
+      with_kernel_assembled ws k (subst (IsAsLong s.words) (sym words) (requeue_long c m more r s.words s.kernel))
+      (subst (IsAlike s.kernel) (sym after) (requeue_alike c m more r s.words s.kernel))
 
 -- and after the end of a thread
 pub exit_assembled : {s : Table} → IsAssembled s → (t : ℕ) (ms : List ℕ) (ws : Words) (k : Kernel) (v : Robust)

@@ -1,14 +1,15 @@
 -- Who comes to own a mutex holds it once: what is written of words and counts, and what the kernel's calls write.
-use Rattle.std.proofs.Common.{◌≡◌, ◌≢◌, ◌⊎◌, inl, inr, ℕ, Bool, true, false, List, get_or, Result, Ok, Err, refl, ap, ◌∙◌, if◌then◌else◌, eqb-true, ◌==◌}
+use Rattle.std.proofs.Common.{◌≡◌, ◌≢◌, ◌⊎◌, inl, inr, ℕ, suc, Bool, true, false, List, get_or, Result, Ok, Err, refl, sym, ap, ◌∙◌, if◌then◌else◌, eqb-true, ◌==◌}
 use Rattle.pif_types.specs.declared.errors.Errno.{Errno}
 use Rattle.pif_types.specs.declared.errors.Errno.TheVariants.{NoSuchThread, Again, Fault, Invalid, Deadlock}
 use Rattle.pif_types.specs.declared.requests.Kind.TheVariants.{Normal}
 use Rattle.pif_model.specs.declared.lines.Took.{Took}
 use Rattle.pif_model.specs.declared.lines.Took.TheVariants.{Owns as TookOwns, Queued as TookQueued}
 use Rattle.pif_model.specs.Graph.{reaches_within}
-use Rattle.pif_model.specs.Word.{Word, Words, free_word, word_at, has_word, set_word}
-use Rattle.pif_model.specs.PiKernel.{Kernel, is_living, state_at, waits_for, wait_answer, lock_answer, words_after_lock, try_lock_answer, words_after_try_lock, words_after_unlock}
+use Rattle.pif_model.specs.Word.{Word, Words, free_word, taken_word, mark_word, word_at, has_word, set_word}
+use Rattle.pif_model.specs.PiKernel.{Kernel, System, is_living, state_at, waits_for, top_parked, wait_answer, lock_answer, words_after_lock, try_lock_answer, words_after_try_lock, words_after_unlock, after_taking, after_requeue}
 use Rattle.pif_model.specs.Table.{Table, LibraryMutex, new_mutex, library_at}
+use Rattle.pif_chains.proofs.KernelTaken.{taking-cases, takings-keep}
 use Rattle.pif_mutex.proofs.ListChanges.{changed_at}
 
 -- with these words each mutex has the owner that it has in s, or is held once there
@@ -32,12 +33,17 @@ words_go s v ws h e f m = by_owner (h m)
 
 -- WORDS
 
+-- one more word changes
+word_goes_on : (m : ℕ) (s : Table) (ws : Words) (x : Word)
+    → (x.number ≡ (word_at s.words m).number) ⊎ ((library_at s m).count ≡ 1) → WordsGoOnce s ws
+    → WordsGoOnce s (set_word ws m x)
+word_goes_on m s ws x = changed_at free_word
+    (λ k y. (y.number ≡ (word_at s.words k).number) ⊎ ((library_at s k).count ≡ 1)) ws.mutexes m x
+
 -- one word changes
 pub word_goes : (m : ℕ) (s : Table) (x : Word)
     → (x.number ≡ (word_at s.words m).number) ⊎ ((library_at s m).count ≡ 1) → WordsGoOnce s (set_word s.words m x)
-word_goes m s x here = changed_at free_word
-    (λ k y. (y.number ≡ (word_at s.words k).number) ⊎ ((library_at s k).count ≡ 1))
-    s.words.mutexes m x here (λ k. inl refl)
+word_goes m s x here = word_goes_on m s s.words x here (λ k. inl refl)
 
 -- WHAT KERNEL CALLS ANSWER
 
@@ -112,3 +118,27 @@ pub unlock_goes : (m : ℕ) (r : Result (record {}) Errno) (s : Table) → (libr
 unfolding words_after_unlock
 unlock_goes m (Ok x) s h = word_goes m s _ (inr h)
 unlock_goes m (Err e) s h = λ k. inl refl
+
+-- CONDITION VARIABLES
+
+-- who is taken from a variable gets a mutex that is held once where nobody owns it, and no other
+module _ (s : Table) (m : ℕ) (free : (word_at s.words m).number ≡ 0 → (library_at s m).count ≡ 1) where
+  -- one thread
+  taking_goes : (u : ℕ) (x : System) → WordsGoOnce s x.words → WordsGoOnce s (after_taking u m x).words
+  taking_goes u x h = taking-cases u m x (λ y. WordsGoOnce s y.words)
+      (λ none. word_goes_on m s x.words (taken_word u (word_at x.words m)) (inr (owned none (h m))) h)
+      (λ some queues. word_goes_on m s x.words (mark_word (word_at x.words m)) (h m) h) (λ some again. h)
+    where
+      owned : (word_at x.words m).number ≡ 0
+          → ((word_at x.words m).number ≡ (word_at s.words m).number) ⊎ ((library_at s m).count ≡ 1)
+          → (library_at s m).count ≡ 1
+      owned none (inl same) = free (sym same ∙ none)
+      owned none (inr once) = once
+
+  -- and all whom cmp_requeue_pi takes
+  pub requeue_goes : (c more : ℕ) (r : Result ℕ Errno) → WordsGoOnce s (after_requeue c m more r s.words s.kernel).words
+  unfolding after_requeue
+  requeue_goes c more (Ok n) = takings-keep (λ x. WordsGoOnce s x.words) c m
+      (λ x some. taking_goes (top_parked x.kernel c) x) (suc more) (record { words = s.words; kernel = s.kernel })
+      (λ k. inl refl)
+  requeue_goes c more (Err e) = λ k. inl refl

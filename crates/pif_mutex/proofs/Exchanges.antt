@@ -6,10 +6,10 @@ use Rattle.pif_types.specs.declared.requests.Request.{Request}
 use Rattle.pif_types.specs.declared.requests.Request.TheVariants.{Unlock}
 use Rattle.pif_model.specs.declared.lines.Place.{Place}
 use Rattle.pif_model.specs.declared.lines.Place.TheVariants.{TakeHealth, LeaveClear, LeaveKernel, UnlockKernel, UnlockClear}
-use Rattle.pif_model.specs.Word.{Word, Words, free_word, held_by, is_bare, word_of, word_at, set_word}
+use Rattle.pif_model.specs.Word.{Word, Words, free_word, held_by, is_bare, word_of, word_at, set_word, set_cond_word}
 use Rattle.pif_model.specs.Table.{Table, cell_at, with_word}
 use Rattle.pif_model.specs.Lines.{Outcome, goes_to, ends_by, exchanged, own_exchange, leave_exchange, unlock_exchange}
-use Rattle.pif_word.specs.declared.cells.Cell.TheVariants.{Mutex}
+use Rattle.pif_word.specs.declared.cells.Cell.TheVariants.{Mutex, Cond}
 use Rattle.pif_word.specs.WordMap.{WordMap, words_of, bits_at, with_bits}
 use Rattle.pif_word.proofs.WordBits.{word_of-without_died}
 
@@ -17,7 +17,8 @@ use Rattle.pif_word.proofs.WordBits.{word_of-without_died}
 write_bits : (ws : WordMap) (m bits : ℕ)
     → words_of (with_bits (Mutex m) bits ws) ≡ set_word (words_of ws) m (word_of bits)
 write_bits ws m bits =
-    ap (λ (xs : List Word). record { mutexes = xs; healths = ws.healths }) (map-set word_of ws.mutexes m bits)
+    ap (λ (xs : List Word). record { mutexes = xs; healths = ws.healths; conds = ws.conds })
+    (map-set word_of ws.mutexes m bits)
 
 -- the words after an exchange by this answer
 pub exchanged_words : (b : Bool) (x : ℕ) (r : Result ℕ ℕ) (ws vs : WordMap) (m bits : ℕ)
@@ -26,6 +27,12 @@ pub exchanged_words : (b : Bool) (x : ℕ) (r : Result ℕ ℕ) (ws vs : WordMap
     → words_of vs ≡ (if is_ok r then set_word (words_of ws) m (word_of bits) else words_of ws)
 exchanged_words true x r ws vs m bits answer stored = rw (answer, stored) (write_bits ws m bits)
 exchanged_words false x r ws vs m bits answer stored = rw (answer, stored) refl
+
+-- the words after an exchange of a condition word
+pub exchanged_uses : (b : Bool) (ws vs : WordMap) (c n : ℕ) → vs ≡ (if b then with_bits (Cond c) n ws else ws)
+    → words_of vs ≡ (if b then set_cond_word (words_of ws) c n else words_of ws)
+exchanged_uses true ws vs c n stored = ap words_of stored
+exchanged_uses false ws vs c n stored = ap words_of stored
 
 -- the words after OWNER_DIED was taken out of one
 pub settled_words : (ws vs : WordMap) (m : ℕ) → m < length ws.mutexes → bits_at ws (Mutex m) < 4294967296
@@ -43,12 +50,11 @@ pub settled_table : (s : Table) (m : ℕ) (ws : Words)
     → record s { words = ws } ≡ with_word m (record (cell_at s m).word { died = false }) s
 settled_table s m ws e = ap (λ (v : Words). record s { words = v }) e
 
--- the table after an exchange by this answer
-pub exchanged_table : (b : Bool) (s : Table) (m : ℕ) (x : Word) (ws : Words)
-    → ws ≡ (if b then set_word s.words m x else s.words)
-    → record s { words = ws } ≡ (if b then with_word m x s else s)
-exchanged_table true s m x ws e = ap (λ (v : Words). record s { words = v }) e
-exchanged_table false s m x ws e = ap (λ (v : Words). record s { words = v }) e
+-- the table after an exchange that wrote these words, if it did
+pub exchanged_table : (b : Bool) (s : Table) (us ws : Words) → ws ≡ (if b then us else s.words)
+    → record s { words = ws } ≡ (if b then record s { words = us } else s)
+exchanged_table true s us ws e = ap (λ (v : Words). record s { words = v }) e
+exchanged_table false s us ws e = ap (λ (v : Words). record s { words = v }) e
 
 -- THE LINES
 

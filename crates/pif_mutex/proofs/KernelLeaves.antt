@@ -1,12 +1,11 @@
 -- What the kernel's calls leave: the limits, how many threads there are, and who may run.
-use Rattle.std.proofs.Common.{◌≡◌, ◌≢◌, ◌⊎◌, ℕ, ◌<◌, ◌≤◌, true, false, ◌==◌, nat_lt, Bool, Result, Ok, Err, List, length, get_or, set, if◌then◌else◌, refl, sym, ap, ◌∙◌, inl, inr, subst, length-set, get_or-set_same, get_or-set_other}
-use Rattle.std.proofs.lemmas.Bool.{cases_eq, cases_lt}
-use Rattle.std.proofs.lemmas.List.{get_or_past}
+use Rattle.std.proofs.Common.{◌≡◌, ℕ, suc, true, false, ◌==◌, nat_lt, Bool, Result, Ok, Err, length, if◌then◌else◌, refl, ap, ◌∙◌, length-set}
 use Rattle.pif_types.specs.declared.errors.Errno.{Errno}
 use Rattle.pif_model.specs.declared.lines.Took.{Took}
 use Rattle.pif_model.specs.declared.lines.Took.TheVariants.{Owns as TookOwns, Queued as TookQueued}
 use Rattle.pif_model.specs.Word.{Words}
-use Rattle.pif_model.specs.PiKernel.{Kernel, Seat, no_seat, has_seat, seat_at, state_at, next_in, is_ready, kernel_after_queueing, kernel_after_lock, kernel_after_hand_over, kernel_after_unlock, kernel_after_set_prio, kernel_after_stop, kernel_after_leaving}
+use Rattle.pif_model.specs.PiKernel.{Kernel, has_seat, state_at, next_in, kernel_after_queueing, kernel_after_lock, kernel_after_hand_over, kernel_after_unlock, kernel_after_set_prio, kernel_after_stop, kernel_after_parking, kernel_after_wait_requeue, after_requeue, kernel_after_leaving}
+use Rattle.pif_chains.proofs.KernelRequeued.{takings-limits, takings-length}
 
 -- a kernel under the same limits and of as many threads as another
 pub record IsAlike (k j : Kernel) : Type 0 where
@@ -60,6 +59,23 @@ pub stop_alike : (t : ℕ) (k : Kernel) → IsAlike k (kernel_after_stop t k)
 unfolding kernel_after_stop
 stop_alike t k = record { limits = refl; seats = length-set k.seats t _ }
 
+-- after wait_requeue_pi
+pub wait_requeue_alike : (t c m : ℕ) (r : Result (record {}) Errno) (k : Kernel)
+    → IsAlike k (kernel_after_wait_requeue t c m r k)
+unfolding kernel_after_wait_requeue kernel_after_parking
+wait_requeue_alike t c m (Ok x) k = record { limits = refl; seats = length-set k.seats t _ }
+wait_requeue_alike t c m (Err e) k = alike k
+
+-- after cmp_requeue_pi
+pub requeue_alike : (c m more : ℕ) (r : Result ℕ Errno) (ws : Words) (k : Kernel)
+    → IsAlike k (after_requeue c m more r ws k).kernel
+unfolding after_requeue
+requeue_alike c m more (Ok n) ws k = record {
+  limits = takings-limits (suc more) c m (record { words = ws; kernel = k });
+  seats = takings-length (suc more) c m (record { words = ws; kernel = k });
+}
+requeue_alike c m more (Err e) ws k = alike k
+
 -- and after a thread has left all that it waits for
 pub leaving_alike : (t : ℕ) (k : Kernel) → IsAlike k (kernel_after_leaving t k)
 unfolding kernel_after_leaving
@@ -85,3 +101,15 @@ set_prio_keeps_threads t p r k u = alike_keeps_threads k (kernel_after_set_prio 
 -- after stop
 pub stop_keeps_threads : (t : ℕ) (k : Kernel) (u : ℕ) → has_seat k u ≡ true → has_seat (kernel_after_stop t k) u ≡ true
 stop_keeps_threads t k u = alike_keeps_threads k (kernel_after_stop t k) u (stop_alike t k)
+
+-- after wait_requeue_pi
+pub wait_requeue_keeps_threads : (t c m : ℕ) (r : Result (record {}) Errno) (k : Kernel) (u : ℕ) → has_seat k u ≡ true
+    → has_seat (kernel_after_wait_requeue t c m r k) u ≡ true
+wait_requeue_keeps_threads t c m r k u =
+    alike_keeps_threads k (kernel_after_wait_requeue t c m r k) u (wait_requeue_alike t c m r k)
+
+-- after cmp_requeue_pi
+pub requeue_keeps_threads : (c m more : ℕ) (r : Result ℕ Errno) (ws : Words) (k : Kernel) (u : ℕ) → has_seat k u ≡ true
+    → has_seat (after_requeue c m more r ws k).kernel u ≡ true
+requeue_keeps_threads c m more r ws k u =
+    alike_keeps_threads k (after_requeue c m more r ws k).kernel u (requeue_alike c m more r ws k)

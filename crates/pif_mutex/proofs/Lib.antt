@@ -6,4 +6,6 @@ pub mod ListChanges
 pub mod Counts
 pub mod Stepping
 pub mod Steps
+pub mod Locking
+pub mod OpenCalls
 pub mod SoundTables

@@ -1,43 +1,51 @@
 -- What the soundness of a table gives to the next step of an open call.
-use Rattle.std.proofs.Common.{◌≡◌, ◌≢◌, ◌⊎◌, inl, inr, ℕ, Bool, true, false, ◌==◌, if◌then◌else◌, refl, sym, ap, ◌∙◌, subst, eq-eqb, ne_eqb}
+use Rattle.std.proofs.Common.{◌≡◌, ◌≢◌, ◌⊎◌, inl, inr, ℕ, Bool, true, false, ◌==◌, length, if◌then◌else◌, refl, sym, ap, ◌∙◌, subst, eq-eqb, ne_eqb}
 use Rattle.std.proofs.lemmas.Bool.{true≢false, cases_eq}
 use Rattle.pif_types.specs.declared.requests.Request.{Request}
-use Rattle.pif_types.specs.declared.requests.Request.TheVariants.{Lock, TryLock, Unlock, Consistent, SetPrio}
+use Rattle.pif_types.specs.declared.requests.Request.TheVariants.{Lock, TryLock, Unlock, Consistent, Wait, Signal, Broadcast, SetPrio}
 use Rattle.pif_model.specs.declared.lines.Line.{Line}
 use Rattle.pif_model.specs.declared.lines.Line.TheVariants.{Idle, At}
 use Rattle.pif_model.specs.declared.lines.Place.{Place}
-use Rattle.pif_model.specs.declared.lines.Place.TheVariants.{LockQueued, LockStopped, LinkNext, LinkHead, UnlockUnlink, SetPriority}
+use Rattle.pif_model.specs.declared.lines.Place.TheVariants.{LockQueued, LockStopped, LinkNext, LinkHead, UnlockUnlink, WaitUnlink, WaitParked}
 use Rattle.pif_model.specs.declared.lines.Status.{Status}
 use Rattle.pif_model.specs.PiKernel.{is_ready, is_living}
 use Rattle.pif_model.specs.Posix.{named_by, names_known}
 use Rattle.pif_model.specs.RobustList.{RobustRow, robust_at, has_entry, is_listed, IsUnlisted, IsHalfLinkedByNoOther}
-use Rattle.pif_model.specs.Table.{Table, Cell, has_mutex, status_at, line_at, library_at, cell_at}
+use Rattle.pif_model.specs.Table.{Table, Cell, LibraryMutex, has_mutex, has_cond, status_at, line_at, library_at, cell_at}
 use Rattle.pif_model.specs.Word.{word_at}
-use Rattle.pif_model.specs.Standing.{MeetsAll, needs, belongs, CallIsSound, LineIsSound, ListIsSound, ThreadIsSound, IsSound, is_half_linked, is_unlinked, mutex_by, robust_by, holds_robust}
+use Rattle.pif_model.specs.Standing.{Use, MeetsAll, needs, CallIsSound, LineIsSound, ListIsSound, ThreadIsSound, IsSound, use_at, is_half_linked, is_unlinked, mutex_by, robust_by, holds_robust}
+use Rattle.pif_chains.proofs.Numbers.{above_0}
 use Rattle.pif_chains.proofs.Waiting.{by_test}
 use Rattle.pif_simulation.proofs.Hole.{each_thread, each_absent}
+use Rattle.pif_simulation.proofs.Kept.{second}
 use Rattle.pif_mutex.specs.Steppable.{waits_at, is_link_next, is_unlink, CallMayStep}
 
 -- at each place where its thread doesn't wait, a call rests on that the thread may run
-rests_on_ready : (living : ℕ → Bool) (t : ℕ) (x : Status) (c : Cell) (p : Place)
-    → MeetsAll living t x c (needs p) → waits_at p ≡ false → is_ready x ≡ true
-rests_on_ready living t x c LockQueued h e = absurd (true≢false e)
-rests_on_ready living t x c LockStopped h e = absurd (true≢false e)
-rests_on_ready living t x c _ h e = h.0
+rests_on_ready : (living : ℕ → Bool) (t : ℕ) (x : Status) (c : Cell) (z : Use) (p : Place)
+    → MeetsAll living t x c z (needs p) → waits_at p ≡ false → is_ready x ≡ true
+rests_on_ready living t x c z LockQueued h e = absurd (true≢false e)
+rests_on_ready living t x c z LockStopped h e = absurd (true≢false e)
+rests_on_ready living t x c z WaitParked h e = absurd (true≢false e)
+rests_on_ready living t x c z _ h e = h.0
 
--- the mutex that a call names was added, save where it changes a priority
-named_added : (exists : ℕ → Bool) (q : Request) (p : Place) → names_known exists q ≡ true → belongs q p ≡ true
-    → p ≢ SetPriority → exists (named_by q) ≡ true
-named_added exists (Lock m) p h b other = h
-named_added exists (TryLock m) p h b other = h
-named_added exists (Unlock m) p h b other = h
-named_added exists (Consistent m) p h b other = h
-named_added exists (SetPrio u n) SetPriority h b other = absurd (other refl)
-named_added exists (SetPrio u n) _ h b other = absurd (true≢false (sym b))
+-- the mutex that a call names, if it names one, was added
+named_added : (mutex variable : ℕ → Bool) (q : Request) → names_known mutex variable q ≡ true → named_by q ≢ 0
+    → mutex (named_by q) ≡ true
+named_added mutex variable (Lock m) h some = h
+named_added mutex variable (TryLock m) h some = h
+named_added mutex variable (Unlock m) h some = h
+named_added mutex variable (Consistent m) h some = h
+named_added mutex variable (Wait c m) h some = second (variable c) (mutex m) h
+named_added mutex variable (Signal c) h some = absurd (some refl)
+named_added mutex variable (Broadcast c) h some = absurd (some refl)
+named_added mutex variable (SetPrio u n) h some = absurd (some refl)
 
--- a mutex that was added hasn't the number 0
-added_some : (s : Table) (m : ℕ) → has_mutex s m ≡ true → m ≢ 0
-added_some s m h e = true≢false (sym h ∙ ap (has_mutex s) e)
+-- a robust mutex that a call names was added: at place 0 there is none
+robust_added : (s : Table) (q : Request) → IsSound s → names_known (has_mutex s) (has_cond s) q ≡ true
+    → (cell_at s (named_by q)).robust ≡ true → has_mutex s (named_by q) ≡ true
+robust_added s q h named robust = named_added (has_mutex s) (has_cond s) q named
+    (λ none. true≢false (sym robust ∙ ap (λ m. (library_at s m).robust) none
+    ∙ ap (λ (x : LibraryMutex). x.robust) h.all.shape.no_mutex))
 
 -- A MUTEX THAT IS LINKED
 
@@ -108,12 +116,12 @@ module _ {s : Table} (h : IsSound s) where
 pub may_step : (s : Table) (t : ℕ) (q : Request) (p : Place) → IsSound s → is_living s.kernel t ≡ true
     → line_at s t ≡ At q p → CallMayStep s t q p
 may_step s t q p h k e = record {
-  mutex = call.named;
-  ready = rests_on_ready (is_living s.kernel) t (status_at s t) (cell_at s (named_by q)) p call.needs;
+  named = call.named;
+  ready = rests_on_ready (is_living s.kernel) t (status_at s t) (cell_at s (named_by q)) (use_at s q) p call.needs;
   unlisted = unlisted p e call;
   half = half p call;
   linked = linked p call list;
-  listed = listed p call list;
+  listed = listed p call e;
 }
   where
     thread : ThreadIsSound s t
@@ -132,7 +140,7 @@ may_step s t q p h k e = record {
 
     half : (p : Place) → CallIsSound s t q p → is_link_next p ≡ true → IsHalfLinkedByNoOther s.lists t (named_by q)
     half (LinkNext a) c i = half_linked_by h t (named_by q)
-        (added_some s (named_by q) (named_added (has_mutex s) q (LinkNext a) c.named c.belongs (λ x. cc))) c.needs.1.0
+        (above_0 (named_by q) (length s.mutexes) (robust_added s q h c.named c.needs.1.1.1.0)) c.needs.1.0
     half _ c i = absurd (true≢false (sym i))
 
     linked : (p : Place) → CallIsSound s t q p → ListIsSound s t (At q p) → is_half_linked p ≡ true
@@ -140,15 +148,21 @@ may_step s t q p h k e = record {
     linked (LinkHead a) c l i = l.half_linked ∙ ap (λ b. if b then named_by q else 0) c.needs.1.1.1.0
     linked _ c l i = absurd (true≢false (sym i))
 
-    listed : (p : Place) → CallIsSound s t q p → ListIsSound s t (At q p) → is_unlink p ≡ true
-        → is_listed s.lists t (named_by q) ≡ true
-    listed UnlockUnlink c l i =
-        let known = named_added (has_mutex s) q UnlockUnlink c.named c.belongs (λ x. cc) in
-        l.listed (named_by q)
+    on_list : (word_at s.words (named_by q)).number ≡ t → (cell_at s (named_by q)).robust ≡ true
+        → mutex_by is_unlinked (line_at s t) ≡ 0 → is_listed s.lists t (named_by q) ≡ true
+    on_list own robust none =
+        let known = robust_added s q h call.named robust in
+        thread.list.listed (named_by q)
         ∙ rw (
           known,
-          c.needs.1.1.1.0,
-          eq-eqb (word_at s.words (named_by q)).number t c.needs.1.0,
-          ne_eqb (named_by q) 0 (added_some s (named_by q) known),
+          robust,
+          eq-eqb (word_at s.words (named_by q)).number t own,
+          none,
+          ne_eqb (named_by q) 0 (above_0 (named_by q) (length s.mutexes) known),
         ) refl
-    listed _ c l i = absurd (true≢false (sym i))
+
+    listed : (p : Place) → CallIsSound s t q p → line_at s t ≡ At q p → is_unlink p ≡ true
+        → is_listed s.lists t (named_by q) ≡ true
+    listed UnlockUnlink c e i = on_list c.needs.1.0 c.needs.1.1.1.0 (ap (mutex_by is_unlinked) e)
+    listed (WaitUnlink v) c e i = on_list c.needs.1.0 c.needs.1.1.1.0 (ap (mutex_by is_unlinked) e)
+    listed _ c e i = absurd (true≢false (sym i))

@@ -3,21 +3,22 @@ use Rattle.std.proofs.Common.{◌≡◌, ◌≢◌, ◌⊎◌, inl, inr, ℕ, tr
 use Rattle.pif_types.specs.declared.errors.Errno.{Errno}
 use Rattle.pif_types.specs.declared.errors.Errno.TheVariants.{NoSuchThread, Again, Deadlock}
 use Rattle.pif_types.specs.declared.requests.Request.{Request}
-use Rattle.pif_types.specs.declared.requests.Request.TheVariants.{Lock, TryLock, Unlock, Consistent, SetPrio}
+use Rattle.pif_types.specs.declared.requests.Request.TheVariants.{Lock, TryLock, Unlock, Consistent, Wait, Signal, Broadcast, SetPrio}
 use Rattle.pif_model.specs.declared.lines.Line.TheVariants.{At}
 use Rattle.pif_model.specs.declared.lines.Place.{Place}
-use Rattle.pif_model.specs.declared.lines.Place.TheVariants.{LockLoad, LockPending, LockExchange, LockKernel, LockQueued, LockStop, LockStopped, LockClear, TakeLoad, TakeHealth, TakeStore, TakeWord, LinkNext, LinkHead, LinkClear, LeaveExchange, LeaveKernel, LeaveClear, TryLoad, TryPending, TryExchange, TryKernel, TryClear, UnlockLoad, UnlockPending, UnlockHealth, UnlockStore, UnlockUnlink, UnlockExchange, UnlockKernel, UnlockClear, ConsistentLoad, ConsistentHealth, ConsistentStore, SetPriority}
+use Rattle.pif_model.specs.declared.lines.Place.TheVariants.{LockLoad, LockPending, LockExchange, LockKernel, LockQueued, LockStop, LockStopped, LockClear, TakeLoad, TakeHealth, TakeStore, TakeWord, LinkNext, LinkHead, LinkClear, LeaveExchange, LeaveKernel, LeaveClear, TryLoad, TryPending, TryExchange, TryKernel, TryClear, UnlockLoad, UnlockPending, UnlockHealth, UnlockStore, UnlockUnlink, UnlockExchange, UnlockKernel, UnlockClear, ConsistentLoad, ConsistentHealth, ConsistentStore, WaitLoad, WaitUses, WaitPending, WaitHealth, WaitStore, WaitUnlink, WaitExchange, WaitKernel, WaitPark, WaitParked, UseLoad, UseExchange, UseRequeue, UseReload, SetPriority}
 use Rattle.pif_model.specs.declared.lines.Took.{Took}
 use Rattle.pif_model.specs.declared.lines.Took.TheVariants.{Owns as TookOwns, Queued as TookQueued}
 use Rattle.pif_model.specs.Word.{free_word, held_by, word_at, set_word}
-use Rattle.pif_model.specs.PiKernel.{is_living, lock_answer, words_after_lock, kernel_after_lock, try_lock_answer, words_after_try_lock, unlock_answer, words_after_unlock, kernel_after_unlock, set_prio_answer, kernel_after_set_prio}
+use Rattle.pif_model.specs.PiKernel.{is_living, lock_answer, words_after_lock, kernel_after_lock, try_lock_answer, words_after_try_lock, unlock_answer, words_after_unlock, kernel_after_unlock, set_prio_answer, kernel_after_set_prio, wait_requeue_answer, kernel_after_wait_requeue, requeue_answer, after_requeue}
 use Rattle.pif_model.specs.Posix.{named_by}
-use Rattle.pif_model.specs.Table.{Table, has_mutex, line_at, library_at, cell_at, with_word, with_kernel}
-use Rattle.pif_model.specs.Lines.{Outcome, goes_to, ends_by, answers, own_exchange, locked_again, lock_load, lock_by, lock_kernel, lock_queued, lock_stop, take_load, take_health, take_store, take_word_back, link_next, link_head, clears, leave_exchange, given_up_by, gives_up, try_load, try_by, try_kernel, unlock_load, unlock_health, unlock_exchange, consistent_load, consistent_health, set_priority, shared_line, line_of}
+use Rattle.pif_model.specs.Table.{Table, has_mutex, has_cond, bound_to, uses_of, line_at, library_at, cell_at, with_word, with_kernel}
+use Rattle.pif_model.specs.Lines.{Outcome, goes_to, ends_by, answers, own_exchange, locked_again, lock_load, lock_by, lock_kernel, lock_queued, lock_stop, take_load, take_health, take_store, take_word_back, link_next, link_head, clears, leave_exchange, given_up_by, gives_up, try_load, try_by, try_kernel, unlock_load, unlock_health, unlock_exchange, consistent_load, consistent_health, set_priority, wait_load, wait_uses, wait_health, wait_exchange, wait_by, wait_park, wait_parked, more_in, use_read, use_exchange, use_by, use_requeue, shared_line, locking_line, use_line, line_of}
 use Rattle.pif_model.specs.Standing.{CallIsSound, LineIsSound, IsSound}
-use Rattle.pif_chains.proofs.LineCases.{ends_by_cases, locked_again_cases, own_exchange_cases, lock_load_cases, lock_queued_cases, take_health_cases, leave_exchange_cases, try_load_cases, unlock_load_cases, unlock_health_cases, unlock_exchange_cases, consistent_load_cases, consistent_health_cases, answered_by_cases}
+use Rattle.pif_chains.proofs.LineCases.{ends_by_cases, locked_again_cases, own_exchange_cases, lock_load_cases, lock_queued_cases, take_health_cases, leave_exchange_cases, try_load_cases, unlock_load_cases, unlock_health_cases, unlock_exchange_cases, consistent_load_cases, consistent_health_cases, wait_load_cases, wait_uses_cases, wait_health_cases, wait_exchange_cases, wait_parked_cases, use_read_cases, use_exchange_cases, answered_by_cases}
 use Rattle.pif_simulation.proofs.Hole.{each_thread}
-use Rattle.pif_mutex.proofs.Counts.{GoesOnce, words_go, word_goes, lock_owns_free, try_takes_free, lock_goes, try_goes, unlock_goes}
+use Rattle.pif_simulation.proofs.Kept.{second}
+use Rattle.pif_mutex.proofs.Counts.{GoesOnce, words_go, word_goes, lock_owns_free, try_takes_free, lock_goes, try_goes, unlock_goes, requeue_goes}
 
 -- the outcome has the words and the mutexes of v
 abbrev Has : Table → Outcome → Type 0
@@ -50,9 +51,23 @@ unfolding given_up_by
 give_has (Ok x) t done v h = h
 give_has (Err e) t done v h = (refl, refl)
 
+-- after that of wait_requeue_pi
+park_has : (r : Result (record {}) Errno) (c m t : ℕ) (v : Table) → Has v (wait_by r c m t v)
+unfolding wait_by
+park_has (Ok x) c m t v = (refl, refl)
+park_has (Err Again) c m t v = (refl, refl)
+park_has (Err _) c m t v = (refl, refl)
+
+-- and after that of cmp_requeue_pi
+use_has : (r : Result ℕ Errno) (q : Request) (t : ℕ) (v : Table) → Has v (use_by r q t v)
+unfolding use_by
+use_has (Ok n) q t v = (refl, refl)
+use_has (Err Again) q t v = (refl, refl)
+use_has (Err _) q t v = (refl, refl)
+
 -- LINES
 
--- a lock or trylock of t on m, which was added, in a sound table
+-- a call of t that locks m, which was added, in a sound table
 module _ (s : Table) (t m : ℕ) (h : IsSound s) (known : has_mutex s m ≡ true) where
   -- m is held once where nobody owns it
   free_once : (word_at s.words m).number ≡ 0 → (library_at s m).count ≡ 1
@@ -133,6 +148,12 @@ module _ (s : Table) (t m : ℕ) (once : (library_at s m).count ≡ 1) where
       let has = give_has r t done v (h v) in
       words_go s (given_up_by r t done v).after ws (unlock_goes m r s once) has.0 has.1
 
+  -- wait
+  wait_exchange_once : (v c : ℕ) → GoesOnce s (wait_exchange v c m t s).after
+  wait_exchange_once v c = wait_exchange_cases (λ o. GoesOnce s o.after) v c m t s
+      (λ flag died own. given_once (goes_to t (Wait c m) (WaitPark v) (with_word m free_word s)).after refl refl)
+      (λ k. inl refl)
+
 -- OTHER LINES, WHICH CHANGE NO OWNER
 
 module _ (s : Table) (t m : ℕ) where
@@ -179,6 +200,52 @@ module _ (s : Table) (t m : ℕ) where
       answered_by_cases (λ o. GoesOnce s o.after) r t (with_kernel s.words (kernel_after_set_prio u p r s.kernel) s)
       (λ a k. inl refl)
 
+-- WAIT, SIGNAL AND BROADCAST
+
+module _ (s : Table) (t c : ℕ) where
+  -- wait: load the word, the condition word, and the health word
+  wait_load_once : (m : ℕ) → GoesOnce s (wait_load c m t s).after
+  wait_load_once m = wait_load_cases (λ o. GoesOnce s o.after) c m t s (λ bound own more k. inl refl)
+      (λ bound own once k. inl refl) (λ bound other k. inl refl) (λ apart k. inl refl)
+
+  wait_uses_once : (m : ℕ) → GoesOnce s (wait_uses c m t s).after
+  wait_uses_once m =
+      wait_uses_cases (λ o. GoesOnce s o.after) c m t s (λ robust k. inl refl) (λ stalled k. inl refl)
+
+  wait_health_once : (v m : ℕ) → GoesOnce s (wait_health v c m t s).after
+  wait_health_once v m =
+      wait_health_cases (λ o. GoesOnce s o.after) v c m t s (λ disorder k. inl refl) (λ order k. inl refl)
+
+  -- wait: the kernel call wait_requeue_pi
+  wait_park_once : (v m : ℕ) → GoesOnce s (wait_park v c m t s).after
+  unfolding wait_park
+  wait_park_once v m =
+      let r = wait_requeue_answer c v m s.words in
+      let x = with_kernel s.words (kernel_after_wait_requeue t c m r s.kernel) s in
+      let has = park_has r c m t x in
+      words_go s (wait_by r c m t x).after s.words (λ k. inl refl) has.0 has.1
+
+  -- signal and broadcast: the condition word was read, and is exchanged
+  use_read_once : (q : Request) (n : ℕ) → GoesOnce s (use_read q n t s).after
+  use_read_once q n = use_read_cases (λ o. GoesOnce s o.after) q n t s (λ full k. inl refl) (λ some k. inl refl)
+
+  use_exchange_once : (q : Request) (v : ℕ) → GoesOnce s (use_exchange q v c t s).after
+  use_exchange_once q v = use_exchange_cases (λ o. GoesOnce s o.after) q v c t s (λ same k. inl refl)
+      (λ other full k. inl refl) (λ other some k. inl refl)
+
+-- signal and broadcast: the kernel call cmp_requeue_pi, on a variable that was added in a sound table
+use_requeue_once : (s : Table) (t c : ℕ) (q : Request) (v : ℕ) → IsSound s → has_cond s c ≡ true
+    → GoesOnce s (use_requeue q v c t s).after
+unfolding use_requeue
+use_requeue_once s t c q v h known =
+    let m : ℕ = bound_to s c in
+    let r = requeue_answer c m 1 (more_in q) v s.words s.kernel in
+    let x = after_requeue c m (more_in q) r s.words s.kernel in
+    let y = with_kernel x.words x.kernel s in
+    let has = use_has r q t y in
+    words_go s (use_by r q t y).after x.words
+    (requeue_goes s m (free_once s t m h (h.all.conds c known).bound) c (more_in q) r) has.0 has.1
+
 -- ANY LINE
 
 -- a step of taking over or leaving
@@ -198,19 +265,40 @@ shared_once s t q LeaveKernel c =
 shared_once s t q LeaveClear c = λ k. inl refl
 shared_once s t q _ c = λ k. inl refl
 
+-- a step of a call that locks a mutex that was added, from the exchange on
+locking_once : (s : Table) (t : ℕ) (q : Request) (p : Place) → IsSound s → has_mutex s (named_by q) ≡ true
+    → CallIsSound s t q p → GoesOnce s (locking_line q p t (named_by q) s).after
+unfolding locking_line lock_stop clears
+locking_once s t q LockExchange h k c = own_exchange_once s t (named_by q) h k q LockKernel
+locking_once s t q LockKernel h k c = lock_kernel_once s t (named_by q) h k q
+locking_once s t q LockQueued h k c = lock_queued_once s t (named_by q) q
+locking_once s t q LockStop h k c = λ i. inl refl
+locking_once s t q LockStopped h k c = λ i. inl refl
+locking_once s t q LockClear h k c = λ i. inl refl
+locking_once s t q p h k c = shared_once s t q p c
+
+-- a step of a wait that is parked, or was
+parked_once : (s : Table) (t c m : ℕ) → IsSound s → has_mutex s m ≡ true → GoesOnce s (wait_parked c m t s).after
+parked_once s t c m h k = wait_parked_cases (λ o. GoesOnce s o.after) c m t s
+    (λ again. own_exchange_once s t m h k (Wait c m) LockKernel) (λ rests. lock_queued_once s t m (Wait c m))
+
+-- a step of a signal or a broadcast of a variable that was added
+use_once : (s : Table) (t c : ℕ) (q : Request) (p : Place) → IsSound s → has_cond s c ≡ true
+    → GoesOnce s (use_line q p c t s).after
+unfolding use_line
+use_once s t c q UseLoad h k = use_read_once s t c q (uses_of s c)
+use_once s t c q (UseExchange v) h k = use_exchange_once s t c q v
+use_once s t c q (UseRequeue v) h k = use_requeue_once s t c q v h k
+use_once s t c q UseReload h k = λ i. inl refl
+use_once s t c q _ h k = λ i. inl refl
+
 -- a step of a call
 call_once : (s : Table) (t : ℕ) (q : Request) (p : Place) → IsSound s → CallIsSound s t q p
     → GoesOnce s (line_of q p t s).after
-unfolding line_of lock_stop clears
+unfolding line_of clears
 call_once s t (Lock m) LockLoad h c = lock_load_once s t m h c.named (Lock m)
 call_once s t (Lock m) LockPending h c = λ k. inl refl
-call_once s t (Lock m) LockExchange h c = own_exchange_once s t m h c.named (Lock m) LockKernel
-call_once s t (Lock m) LockKernel h c = lock_kernel_once s t m h c.named (Lock m)
-call_once s t (Lock m) LockQueued h c = lock_queued_once s t m (Lock m)
-call_once s t (Lock m) LockStop h c = λ k. inl refl
-call_once s t (Lock m) LockStopped h c = λ k. inl refl
-call_once s t (Lock m) LockClear h c = λ k. inl refl
-call_once s t (Lock m) p h c = shared_once s t (Lock m) p c
+call_once s t (Lock m) p h c = locking_once s t (Lock m) p h c.named c
 call_once s t (TryLock m) TryLoad h c = try_load_once s t m h c.named
 call_once s t (TryLock m) TryPending h c = λ k. inl refl
 call_once s t (TryLock m) TryExchange h c = own_exchange_once s t m h c.named (TryLock m) TryKernel
@@ -230,6 +318,20 @@ call_once s t (Unlock m) UnlockClear h c = λ k. inl refl
 call_once s t (Consistent m) ConsistentLoad h c = consistent_load_once s t m
 call_once s t (Consistent m) ConsistentHealth h c = consistent_health_once s t m
 call_once s t (Consistent m) ConsistentStore h c = λ k. inl refl
+call_once s t (Wait d m) WaitLoad h c = wait_load_once s t d m
+call_once s t (Wait d m) WaitUses h c = wait_uses_once s t d m
+call_once s t (Wait d m) (WaitPending v) h c = λ k. inl refl
+call_once s t (Wait d m) (WaitHealth v) h c = wait_health_once s t d v m
+call_once s t (Wait d m) (WaitStore v) h c = λ k. inl refl
+call_once s t (Wait d m) (WaitUnlink v) h c = λ k. inl refl
+call_once s t (Wait d m) (WaitExchange v) h c = wait_exchange_once s t m (c.needs.1.1.0 c.needs.1.0) v d
+call_once s t (Wait d m) (WaitKernel v) h c =
+    gives_up_once s t m (c.needs.1.1.0 c.needs.1.0) (goes_to t (Wait d m) (WaitPark v)) (λ v. (refl, refl))
+call_once s t (Wait d m) (WaitPark v) h c = wait_park_once s t d v m
+call_once s t (Wait d m) WaitParked h c = parked_once s t d m h (second (has_cond s d) (has_mutex s m) c.named)
+call_once s t (Wait d m) p h c = locking_once s t (Wait d m) p h (second (has_cond s d) (has_mutex s m) c.named) c
+call_once s t (Signal d) p h c = use_once s t d (Signal d) p h c.named
+call_once s t (Broadcast d) p h c = use_once s t d (Broadcast d) p h c.named
 call_once s t (SetPrio u p) SetPriority h c = set_priority_once s t 0 u p
 call_once s t _ _ h c = λ k. inl refl
 

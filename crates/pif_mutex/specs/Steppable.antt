@@ -1,18 +1,40 @@
 -- What one step of an open call rests on.
-use Rattle.std.specs.Prelude.{ℕ, ◌≡◌, Bool, true, false}
+use Rattle.std.specs.Prelude.{ℕ, ◌≡◌, Bool, true, false, Option, Some, None}
 use Rattle.pif_types.specs.declared.requests.Request.{Request}
+use Rattle.pif_types.specs.declared.requests.Request.TheVariants.{Lock, TryLock, Unlock, Consistent, Wait, Signal, Broadcast, SetPrio}
+use Rattle.pif_model.specs.declared.lines.Line.{Line}
+use Rattle.pif_model.specs.declared.lines.Line.TheVariants.{Idle, At}
 use Rattle.pif_model.specs.declared.lines.Place.{Place}
-use Rattle.pif_model.specs.declared.lines.Place.TheVariants.{LockQueued, LockStopped, LinkNext, UnlockUnlink}
+use Rattle.pif_model.specs.declared.lines.Place.TheVariants.{LockQueued, LockStopped, LinkNext, UnlockUnlink, WaitUnlink, WaitParked}
 use Rattle.pif_model.specs.PiKernel.{is_ready}
 use Rattle.pif_model.specs.Posix.{named_by, names_known}
 use Rattle.pif_model.specs.RobustList.{robust_at, is_listed, IsUnlisted, IsHalfLinkedByNoOther}
-use Rattle.pif_model.specs.Standing.{is_half_linked}
-use Rattle.pif_model.specs.Table.{Table, has_mutex, status_at}
+use Rattle.pif_model.specs.Standing.{is_locking, is_half_linked}
+use Rattle.pif_model.specs.Table.{Table, has_mutex, has_cond, status_at}
 
--- whether the thread of a call may wait at this place: queued, or stopped for good
+-- the open call at a line
+abbrev pub request_at : Line → Option Request
+request_at Idle = None
+request_at (At q p) = Some q
+
+-- whether a call is open at this line whose next step is one on mutexes: a call on mutexes, a change of priority, or a
+-- wait at a place of lock from the exchange on, of taking over or of leaving
+abbrev pub is_of_mutexes : Line → Bool
+is_of_mutexes Idle = false
+is_of_mutexes (At (Lock m) p) = true
+is_of_mutexes (At (TryLock m) p) = true
+is_of_mutexes (At (Unlock m) p) = true
+is_of_mutexes (At (Consistent m) p) = true
+is_of_mutexes (At (Wait c m) p) = is_locking p
+is_of_mutexes (At (Signal c) p) = false
+is_of_mutexes (At (Broadcast c) p) = false
+is_of_mutexes (At (SetPrio u n) p) = true
+
+-- whether the thread of a call may wait at this place: queued, parked, or stopped for good
 abbrev pub waits_at : Place → Bool
 waits_at LockQueued = true
 waits_at LockStopped = true
+waits_at WaitParked = true
 waits_at _ = false
 
 -- whether the link of the call's mutex to the head of the list is written at this place
@@ -23,12 +45,13 @@ is_link_next _ = false
 -- whether the call's mutex is taken off the list at this place
 abbrev pub is_unlink : Place → Bool
 is_unlink UnlockUnlink = true
+is_unlink (WaitUnlink v) = true
 is_unlink _ = false
 
 -- what a step of a call of t at a place rests on
 pub record CallMayStep (s : Table) (t : ℕ) (q : Request) (p : Place) : Type 0 where
-  -- the mutex that it names was added
-  pub mutex : names_known (has_mutex s) q ≡ true
+  -- the mutex and the variable that it names were added
+  pub named : names_known (has_mutex s) (has_cond s) q ≡ true
   -- its thread may run, save where it may wait
   pub ready : waits_at p ≡ false → is_ready (status_at s t) ≡ true
   -- a mutex that is linked is on no list, and half-linked by no other thread

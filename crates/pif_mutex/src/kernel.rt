@@ -1,5 +1,5 @@
 ghost use Rattle.std.specs.Prelude.{◌≡◌, true};
-ghost use Rattle.pif_model.specs.PiKernel.{is_ready, lock_answer, words_after_lock, kernel_after_lock, try_lock_answer, words_after_try_lock, unlock_answer, words_after_unlock, kernel_after_unlock, set_prio_answer, kernel_after_set_prio, kernel_after_stop, is_living, after_exit};
+ghost use Rattle.pif_model.specs.PiKernel.{is_ready, lock_answer, words_after_lock, kernel_after_lock, try_lock_answer, words_after_try_lock, unlock_answer, words_after_unlock, kernel_after_unlock, set_prio_answer, kernel_after_set_prio, kernel_after_stop, wait_requeue_answer, kernel_after_wait_requeue, requeue_answer, after_requeue, is_living, after_exit};
 ghost use Rattle.pif_model.specs.RobustList.{robust_at, walk_of, without_robust};
 ghost use Rattle.pif_model.specs.Table.{has_thread, status_at, with_kernel, with_lists};
 ghost use Rattle.pif_kernel.specs.Answers.{unit_answer};
@@ -7,7 +7,7 @@ ghost use Rattle.pif_kernel.specs.Answers.{unit_answer};
 use crate::state::State;
 use pif_kernel::PiKernel;
 use pif_model::Took;
-use pif_types::{Errno, MutexId, Tid};
+use pif_types::{CondId, Errno, MutexId, Tid};
 
 impl<K: PiKernel + Drop> State<K> {
     /// The kernel call lock_pi by a thread that was added and may run.
@@ -33,7 +33,7 @@ impl<K: PiKernel + Drop> State<K> {
     }
 
     /// The kernel call unlock_pi by a thread that was added and may run.
-    pub(crate) fn unlock_pi(&mut self, t: Tid, m: MutexId) -> Result<(), Errno>
+    pub fn unlock_pi(&mut self, t: Tid, m: MutexId) -> Result<(), Errno>
         requires known { has_thread self.old t ≡ true }
         requires ready { is_ready (status_at self.old t) ≡ true }
         ensures answer { unit_answer result ≡ unlock_answer t m self.old.words self.old.kernel }
@@ -61,6 +61,41 @@ impl<K: PiKernel + Drop> State<K> {
     {
         self.kernel.stop(t);
     }
+
+    /// The kernel call wait_requeue_pi by a thread that was added and may run.
+    pub fn wait_requeue_pi(
+        &mut self,
+        t: Tid,
+        c: CondId,
+        expected: u32,
+        m: MutexId,
+    ) -> Result<(), Errno>
+        requires known { has_thread self.old t ≡ true }
+        requires ready { is_ready (status_at self.old t) ≡ true }
+        ensures answer { unit_answer result ≡ wait_requeue_answer c expected m self.old.words }
+        ensures after { self.new ≡ with_kernel self.old.words
+            (kernel_after_wait_requeue t c m (unit_answer result) self.old.kernel) self.old }
+    {
+        self.kernel.wait_requeue_pi(&self.words, t, c, expected, m)
+    }
+
+    /// The kernel call cmp_requeue_pi: how many threads were taken from the variable.
+    pub fn cmp_requeue_pi(
+        &mut self,
+        c: CondId,
+        m: MutexId,
+        val: u32,
+        more: u32,
+        expected: u32,
+    ) -> Result<u32, Errno>
+        ensures answer { result ≡ requeue_answer c m val more expected self.old.words self.old.kernel }
+        ensures after { self.new ≡ with_kernel (after_requeue c m more result self.old.words self.old.kernel).words
+            (after_requeue c m more result self.old.words self.old.kernel).kernel self.old }
+    {
+        self.kernel
+            .cmp_requeue_pi(&mut self.words, c, m, val, more, expected)
+    }
+
     /// The end of a living thread in the kernel: what its robust list and its pending field name passes on, and both
     /// are empty then.
     pub(crate) fn exit(&mut self, t: Tid)

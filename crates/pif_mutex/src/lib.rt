@@ -1,11 +1,18 @@
 //! The calls on mutexes, one step per access of a word, of a robust list or kernel call: pthread_mutex_lock,
-//! pthread_mutex_trylock, pthread_mutex_unlock and pthread_mutex_consistent over words, robust lists and any kernel, and
-//! pthread_setschedprio; and the end of a thread.
+//! pthread_mutex_trylock, pthread_mutex_unlock and pthread_mutex_consistent over words, robust lists and any kernel,
+//! and pthread_setschedprio; and the end of a thread.
+//!
+//! The parts of condition variables are kept here too: to which mutex each is bound, and how often it was used. A
+//! pthread_cond_wait that has to lock its mutex itself does so by the steps of a lock, from the exchange on, and one
+//! that owns it takes it over, or leaves it, as a lock does: `advance` takes those steps. The steps of a wait before
+//! that, and those of pthread_cond_signal and pthread_cond_broadcast, are pif_cond's, over the accesses and kernel
+//! calls of `State`.
 //!
 //! A thread with a call open stands at a place of that call. A step, `advance`, does what the line of the place says.
 //! The thread then goes on to another place, waits, or is answered; a number or the name of an error is an answer, and
 //! closes the call. Places of the pending field, of the health word and of the own robust list are for robust mutexes
-//! alone; what a stalled mutex comes to in their stead stands after 'stalled'.
+//! alone; what a stalled mutex comes to in their stead stands after 'stalled'. The places from `LockExchange` to
+//! `LeaveClear` are also those of a wait.
 //!
 //! | Place | The step | Then |
 //! |---|---|---|
@@ -46,9 +53,9 @@
 //! | `SetPriority` | set_prio | 0, or its error |
 //!
 //! `lock`, `try_lock`, `unlock`, `consistent` and `set_priority` have the lines of each call; `taking`, `linking` and
-//! `leaving` what lock and trylock share; `lists` the robust lists; `end` the end of a thread; and `step` which line a
-//! step is. All are methods of `State`, which keeps only that the parts fit together; `Parts` keeps besides that they are
-//! sound, by which each open call may take its next step.
+//! `leaving` what lock, trylock and wait share; `lists` the robust lists; `kernel` the kernel calls; `end` the end of a
+//! thread; and `step` which line a step is. All are methods of `State`, which keeps only that the parts fit together;
+//! `Parts` keeps besides that they are sound, by which each open call may take its next step.
 #![tactic(auto)]
 
 mod consistent;
@@ -71,6 +78,7 @@ mod unlock;
 
 pub use parts::{Parts, advance};
 pub use progress::Progress;
+pub use state::{INCONSISTENT, State, UNUSABLE};
 
 #[cfg(test)]
 mod tests;

@@ -51,10 +51,10 @@ impl<K: PiKernel + Drop> State<K> {
         }
     }
 
-    /// Queued, or made the owner: a stalled mutex is answered with no access of the word, and a robust one is taken
-    /// over from the load on.
+    /// Queued or parked, and waits; or made the owner: a stalled mutex is answered with no access of the word, and a
+    /// robust one is taken over from the load on.
     #[tactic(auto, unfolding(pif_model::specs::Lines::lock_queued))]
-    pub(crate) fn lock_queued(&mut self, request: Request, t: Tid, m: MutexId) -> Progress
+    pub fn lock_queued(&mut self, request: Request, t: Tid, m: MutexId) -> Progress
         requires known { has_thread self.old t ≡ true }
         requires mutex { has_mutex self.old m ≡ true }
         ensures { outcome_of result self.new ≡ lock_queued request t m self.old }
@@ -62,7 +62,9 @@ impl<K: PiKernel + Drop> State<K> {
         match self.status(t) {
             Status::Ready(_) if self.is_robust(m) => self.take_load(request, t, m),
             Status::Ready(_) => self.answer(t, 0),
-            Status::Queued(_) | Status::Stopped | Status::Ended => Progress::Waits,
+            Status::Queued(_) | Status::Parked(_) | Status::Stopped | Status::Ended => {
+                Progress::Waits
+            }
         }
     }
 

@@ -13,7 +13,7 @@ use pif_types::{Answer, Errno, MutexId, Request, Tid};
 /// What a line can come to, and the writes of the pending field, after or before which a call goes on or ends.
 impl<K: PiKernel + Drop> State<K> {
     /// The call goes on at this place.
-    pub(crate) fn go_on(&mut self, request: Request, place: Place, t: Tid) -> Progress
+    pub fn go_on(&mut self, request: Request, place: Place, t: Tid) -> Progress
         requires { has_thread self.old t ≡ true }
         ensures { outcome_of result self.new ≡ goes_to t request place self.old }
     {
@@ -22,7 +22,7 @@ impl<K: PiKernel + Drop> State<K> {
     }
 
     /// The call goes on at the place `robust` for a robust mutex, and at the place `stalled` for a stalled one.
-    pub(crate) fn go_by(
+    pub fn go_by(
         &mut self,
         request: Request,
         m: MutexId,
@@ -42,7 +42,7 @@ impl<K: PiKernel + Drop> State<K> {
     }
 
     /// The call goes on at this place for a robust mutex, and is closed with this answer for a stalled one.
-    pub(crate) fn end_by(
+    pub fn end_by(
         &mut self,
         request: Request,
         m: MutexId,
@@ -62,7 +62,7 @@ impl<K: PiKernel + Drop> State<K> {
     }
 
     /// The thread waits at this place.
-    pub(crate) fn wait(&mut self, request: Request, place: Place, t: Tid) -> Progress
+    pub fn wait(&mut self, request: Request, place: Place, t: Tid) -> Progress
         requires { has_thread self.old t ≡ true }
         ensures { outcome_of result self.new ≡ waits_at t request place self.old }
     {
@@ -71,7 +71,7 @@ impl<K: PiKernel + Drop> State<K> {
     }
 
     /// The call is closed with this answer.
-    pub(crate) fn answer(&mut self, t: Tid, answer: Answer) -> Progress
+    pub fn answer(&mut self, t: Tid, answer: Answer) -> Progress
         requires { has_thread self.old t ≡ true }
         ensures { outcome_of result self.new ≡ answers t answer self.old }
     {
@@ -91,13 +91,7 @@ impl<K: PiKernel + Drop> State<K> {
         }
     }
     /// Names the mutex in the pending field of the thread, and goes on at this place.
-    pub(crate) fn name_pending(
-        &mut self,
-        request: Request,
-        place: Place,
-        t: Tid,
-        m: MutexId,
-    ) -> Progress
+    pub fn name_pending(&mut self, request: Request, place: Place, t: Tid, m: MutexId) -> Progress
         requires known { has_thread self.old t ≡ true }
         requires mutex { has_mutex self.old m ≡ true }
         ensures { outcome_of result self.new ≡ goes_to t request place (pending t m self.old) }

@@ -1,26 +1,30 @@
 ghost use Rattle.std.specs.Prelude.{ℕ, ◌≡◌, ◌≢◌, ◌+◌, true, false, length, IfOk, IfSome, None};
 ghost use Rattle.pif_types.specs.Bounds.{IsWithin};
 ghost use Rattle.pif_model.specs.Word.{word_of};
-ghost use Rattle.pif_model.specs.PiKernel.{IsKernel, new_kernel, is_living};
-ghost use Rattle.pif_model.specs.Table.{new_table, line_at, cell_at, with_line, has_thread, has_thread_room, has_mutex_room, thread_added, mutex_added};
+ghost use Rattle.pif_model.specs.PiKernel.{IsKernel, new_kernel, is_living, is_ready};
+ghost use Rattle.pif_model.specs.Table.{new_table, line_at, cell_at, with_line, status_at, has_thread, has_mutex, has_thread_room, has_mutex_room, has_cond_room, thread_added, mutex_added, cond_added};
 ghost use Rattle.pif_model.specs.Lines.{go_outcome, is_open, first_place, table_refusal, ended_table};
-ghost use Rattle.pif_model.specs.Calls.{effective_answer, word_answer, health_answer, pick_answer};
+ghost use Rattle.pif_model.specs.Calls.{effective_answer, word_answer, health_answer, cond_word_answer, pick_answer};
 ghost use Rattle.pif_mutex.specs.Outcomes.{outcome_of};
+ghost use Rattle.pif_mutex.specs.Steppable.{request_at, is_of_mutexes};
 
 use crate::progress::Progress;
 use crate::state::State;
 use pif_kernel::PiKernel;
-use pif_model::{Event, Line, Place};
-use pif_types::{Health, Kind, Limits, MutexId, NoMemory, Prio, Request, Tid};
+use pif_model::{Event, Line, Place, Status};
+use pif_types::{CondId, Health, Kind, Limits, MutexId, NoMemory, Prio, Request, Tid};
 use pif_word::health_in;
 use std::alloc::Global;
 use std::marker::Model;
 
-/// The parts of a machine: the words, a kernel, the robust lists, and what the library keeps of threads and mutexes -
-/// kinds, counts and open calls. They are sound at any time. Only `new` takes memory.
+/// The parts of a machine: the words, a kernel, the robust lists, and what the library keeps of threads, mutexes and
+/// condition variables - kinds, counts, open calls, and to which mutex each variable is bound. They are sound at any
+/// time. Only `new` takes memory.
 #[derive(Drop)]
 pub struct Parts<K: PiKernel + Drop> {
-    state: State<K>,
+    /// The parts between two accesses of an event, where they are sound. Whoever changes them leaves them sound, which
+    /// the invariant of this type asks.
+    pub state: State<K>,
 }
 
 impl<K: PiKernel + Drop> Model for Parts<K> {
@@ -36,8 +40,8 @@ impl<K: PiKernel + Drop> Model for Parts<K> {
 
 impl<K: PiKernel + Drop> Parts<K> {
     /// Parts under these limits to which nothing was added, over a kernel under the same limits to which nothing was
-    /// added. It takes all the memory that it will ever need beside the kernel's, in three pieces, and fails where one
-    /// of them is refused.
+    /// added. It takes all the memory that it will ever need beside the kernel's, in eight pieces at most, and fails
+    /// where one of them is refused.
     pub fn new(alloc: Global, limits: Limits, kernel: K) -> Result<Parts<K>, NoMemory>
         requires new { K.meaning kernel ≡ new_kernel limits }
         requires kept { IsKernel (K.meaning kernel) }
@@ -72,6 +76,13 @@ impl<K: PiKernel + Drop> Parts<K> {
         self.state.mutex_count() - 1
     }
 
+    /// How many condition variables were added.
+    pub fn conds(&self) -> u32
+        ensures { result + 1 ≡ length self.now.conds }
+    {
+        self.state.cond_count() - 1
+    }
+
     /// Adds a thread of this base priority, with no call open. There has to be room for it under the limits.
     pub fn add_thread(&mut self, prio: Prio) -> Tid
         requires { has_thread_room self.old ≡ true }
@@ -94,6 +105,19 @@ impl<K: PiKernel + Drop> Parts<K> {
         mutex
     }
 
+    /// Adds a condition variable bound to this mutex, which was added: nobody waits on it, and it was never used. There
+    /// has to be room for it under the limits.
+    pub fn add_cond(&mut self, m: MutexId) -> CondId
+        requires named { has_mutex self.old m ≡ true }
+        requires room { has_cond_room self.old ≡ true }
+        ensures number { result ≡ length self.old.conds }
+        ensures after { self.new ≡ cond_added m self.old }
+    {
+        let cond = CondId::new(self.state.cond_count()).unwrap();
+        self.state.add_cond(m);
+        cond
+    }
+
     /// Whether a thread lives: it was added and has not ended.
     pub fn is_living(&self, t: Tid) -> bool
         ensures { result ≡ is_living self.now.kernel t }
@@ -112,7 +136,30 @@ impl<K: PiKernel + Drop> Parts<K> {
         }
     }
 
-    /// A thread begins a call. It lives and has no call open, and the mutex that the call names was added.
+    /// The open call of a thread, which was added. `None` where it has none.
+    pub fn open_call(&self, t: Tid) -> Option<Request>
+        requires { has_thread self.now t ≡ true }
+        ensures { result ≡ request_at (line_at self.now t) }
+    {
+        match self.state.line(t) {
+            Line::Idle => None,
+            Line::At(request, _) => Some(request),
+        }
+    }
+
+    /// Whether a thread, which was added, may run: it is not queued, not parked, not stopped, and has not ended.
+    pub fn is_ready(&self, t: Tid) -> bool
+        requires { has_thread self.now t ≡ true }
+        ensures { result ≡ is_ready (status_at self.now t) }
+    {
+        match self.state.status(t) {
+            Status::Ready(_) => true,
+            Status::Queued(_) | Status::Parked(_) | Status::Stopped | Status::Ended => false,
+        }
+    }
+
+    /// A thread begins a call. It lives and has no call open, and the mutex and the variable that the call names were
+    /// added.
     pub fn begin(&mut self, t: Tid, request: Request)
         requires { table_refusal self.old (Event.Begin t request) ≡ None }
         ensures { self.new ≡ with_line t (Line.At request (first_place request)) self.old }
@@ -122,13 +169,16 @@ impl<K: PiKernel + Drop> Parts<K> {
             Request::TryLock(_) => Place::TryLoad,
             Request::Unlock(_) => Place::UnlockLoad,
             Request::Consistent(_) => Place::ConsistentLoad,
+            Request::Wait(_, _) => Place::WaitLoad,
+            Request::Signal(_) => Place::UseLoad,
+            Request::Broadcast(_) => Place::UseLoad,
             Request::SetPrio(_, _) => Place::SetPriority,
         };
         self.state.set_line(t, Line::At(request, place));
     }
 
-    /// A living thread ends, at any point: its call is gone, and each robust mutex that it holds, or was taking or giving
-    /// up, passes to its next waiter or is free, with OWNER_DIED.
+    /// A living thread ends, at any point: its call is gone, and each robust mutex that it holds, or was taking or
+    /// giving up, passes to its next waiter or is free, with OWNER_DIED.
     pub fn end(&mut self, t: Tid)
         requires living { is_living self.old.kernel t ≡ true }
         ensures { self.new ≡ ended_table t self.old }
@@ -168,6 +218,18 @@ impl<K: PiKernel + Drop> Parts<K> {
         }
     }
 
+    /// How often a condition variable was used, by its word: its signals and broadcasts together. `None` where it was
+    /// never added.
+    pub fn cond_word(&self, c: CondId) -> Option<u32>
+        ensures { result ≡ cond_word_answer c self.now }
+    {
+        if c.get() < self.state.cond_count() {
+            Some(self.state.uses(c))
+        } else {
+            None
+        }
+    }
+
     /// The thread that runs next: of the ready threads of greatest effective priority the first that joined them.
     /// `None` where no thread is ready.
     pub fn pick(&self) -> Option<Tid>
@@ -177,12 +239,13 @@ impl<K: PiKernel + Drop> Parts<K> {
     }
 }
 
-/// The thread, which lives and has a call open, takes one step of it: one access of one word, one write of its robust
-/// list, one kernel call, or the answer after a stalled mutex was handed to it; or it waits, and nothing changes. Whoever
-/// owns a mutex after the step and did not before, the thread or the next waiter, holds it once.
+/// The thread, which lives and has a call on mutexes open, or a wait that locks its mutex again, takes one step of it:
+/// one access of one word, one write of its robust list, one kernel call, or the answer after a stalled mutex was
+/// handed to it; or it waits, and nothing changes. Whoever owns a mutex after the step and did not before, the thread
+/// or the next waiter, holds it once.
 pub fn advance<K: PiKernel + Drop>(parts: &mut Parts<K>, t: Tid) -> Progress
     requires living { is_living parts.old.kernel t ≡ true }
-    requires open { is_open (line_at parts.old t) ≡ true }
+    requires call { is_of_mutexes (line_at parts.old t) ≡ true }
     ensures line { outcome_of result parts.new ≡ go_outcome (line_at parts.old t) t parts.old }
     ensures once { (m : ℕ) → (cell_at parts.new m).word.number ≢ (cell_at parts.old m).word.number
         → (cell_at parts.new m).word.number ≢ 0 → (cell_at parts.new m).count ≡ 1 }

@@ -5,7 +5,7 @@ use pif_types::Answer;
 pub enum Progress {
     /// The call goes on.
     Went,
-    /// The thread waits: it is queued on a mutex, or it is stopped for good.
+    /// The thread waits: it is queued on a mutex, parked on a condition variable, or stopped for good.
     Waits,
     /// The call is closed with this answer: 0, or the number of an error.
     Done(Answer),

@@ -1,8 +1,8 @@
-ghost use Rattle.std.specs.Prelude.{◌≡◌, ◌<◌, ◌≤◌, ◌+◌, ◌^◌, ◌==◌, true, false, IfOk, length, if◌then◌else◌, Some, None};
+ghost use Rattle.std.specs.Prelude.{◌≡◌, ◌<◌, ◌≤◌, ◌+◌, ◌^◌, ◌==◌, true, false, IfOk, Ok, Err, length, if◌then◌else◌, Some, None};
 ghost use Rattle.pif_types.specs.Bounds.{IsWithin};
 ghost use Rattle.pif_model.specs.Word.{word_of, is_bare};
 ghost use Rattle.pif_model.specs.PiKernel.{IsKernel, new_kernel, is_living, effective_in, pick_in};
-ghost use Rattle.pif_model.specs.Table.{new_table, line_at, status_at, cell_at, with_line, with_count, with_word, with_health_word, has_thread, has_mutex, has_thread_room, has_mutex_room, thread_added, mutex_added};
+ghost use Rattle.pif_model.specs.Table.{new_table, line_at, status_at, cell_at, bound_to, uses_of, with_line, with_count, with_word, with_health_word, with_cond_word, has_thread, has_mutex, has_cond, has_thread_room, has_mutex_room, has_cond_room, thread_added, mutex_added, cond_added};
 ghost use Rattle.pif_model.specs.Lines.{is_robust};
 ghost use Rattle.pif_mutex.specs.Assembled.{IsAssembled};
 
@@ -10,7 +10,7 @@ use crate::mutex::Mutex;
 use pif_kernel::PiKernel;
 use pif_model::{Line, Status};
 use pif_robust::RobustLists;
-use pif_types::{Kind, Limits, MutexId, NoMemory, Prio, Tid, push_within, with_room};
+use pif_types::{CondId, Kind, Limits, MutexId, NoMemory, Prio, Tid, push_within, with_room};
 use pif_word::{Cell, OWNER_DIED, Words};
 use std::alloc::Global;
 use std::marker::Model;
@@ -19,13 +19,13 @@ use std::marker::Model;
 pub(crate) const FINE: u32 = 0;
 
 /// The health word of a robust mutex that is inconsistent.
-pub(crate) const INCONSISTENT: u32 = 1;
+pub const INCONSISTENT: u32 = 1;
 
 /// The health word of a robust mutex that is unusable.
-pub(crate) const UNUSABLE: u32 = 2;
+pub const UNUSABLE: u32 = 2;
 
-/// The lines, what the library knows of mutexes, the words, the robust lists and the kernel, between two accesses of an
-/// event.
+/// The lines, what the library knows of mutexes and of condition variables, the words, the robust lists and the kernel,
+/// between two accesses of an event.
 #[derive(Drop)]
 pub struct State<K: PiKernel + Drop> {
     limits: Limits,
@@ -34,6 +34,7 @@ pub struct State<K: PiKernel + Drop> {
     pub(crate) lists: RobustLists,
     lines: Vec<Line>,
     mutexes: Vec<Mutex>,
+    conds: Vec<MutexId>,
 }
 
 impl<K: PiKernel + Drop> Model for State<K> {
@@ -43,12 +44,15 @@ impl<K: PiKernel + Drop> Model for State<K> {
 
     ghost Value = { Table };
 
-    ghost view = { λ s. table_of s.limits s.words (K.meaning s.kernel) s.lists s.lines.items s.mutexes.items };
+    ghost view = { λ s. table_of s.limits s.words (K.meaning s.kernel) s.lists s.lines.items s.mutexes.items
+        s.conds.items };
 
     ghost invariant = { λ s. record {
-      assembled : IsAssembled (table_of s.limits s.words (K.meaning s.kernel) s.lists s.lines.items s.mutexes.items);
+      assembled : IsAssembled (table_of s.limits s.words (K.meaning s.kernel) s.lists s.lines.items s.mutexes.items
+          s.conds.items);
       lines : s.limits.threads + 1 ≤ vec_capacity s.lines;
       mutexes : s.limits.mutexes + 1 ≤ vec_capacity s.mutexes;
+      conds : s.limits.conds ≤ vec_capacity s.conds;
     } };
 }
 
@@ -66,6 +70,7 @@ impl<K: PiKernel + Drop> State<K> {
         push_within(&mut lines, Line::Idle);
         let mut mutexes = with_room(alloc, limits.mutexes() as usize + 1)?;
         push_within(&mut mutexes, Mutex::new(Kind::Normal, false));
+        let conds = with_room(alloc, limits.conds() as usize)?;
         Ok(State {
             limits,
             words,
@@ -73,11 +78,12 @@ impl<K: PiKernel + Drop> State<K> {
             lists,
             lines,
             mutexes,
+            conds,
         })
     }
 
     /// The limits.
-    pub(crate) fn limits(&self) -> Limits
+    pub fn limits(&self) -> Limits
         ensures value { result ≡ self.now.limits }
         ensures range { IsWithin self.now.limits }
     {
@@ -103,8 +109,17 @@ impl<K: PiKernel + Drop> State<K> {
         self.mutexes.len() as u32
     }
 
+    /// One more than the condition variables that were added: 1 to 257.
+    pub fn cond_count(&self) -> u32
+        ensures value { result ≡ length self.now.conds }
+        ensures least { 1 ≤ result }
+        ensures most { result ≤ 257 }
+    {
+        self.conds.len() as u32 + 1
+    }
+
     /// The line of a thread that was added.
-    pub(crate) fn line(&self, t: Tid) -> Line
+    pub fn line(&self, t: Tid) -> Line
         requires { has_thread self.now t ≡ true }
         ensures value { result ≡ line_at self.now t }
         ensures assembled { IsAssembled self.now }
@@ -122,7 +137,7 @@ impl<K: PiKernel + Drop> State<K> {
     }
 
     /// What the kernel knows of a thread that was added.
-    pub(crate) fn status(&self, t: Tid) -> Status
+    pub fn status(&self, t: Tid) -> Status
         requires { has_thread self.now t ≡ true }
         ensures { result ≡ status_at self.now t }
     {
@@ -159,7 +174,7 @@ impl<K: PiKernel + Drop> State<K> {
     }
 
     /// Whether a mutex that was added is robust.
-    pub(crate) fn is_robust(&self, m: MutexId) -> bool
+    pub fn is_robust(&self, m: MutexId) -> bool
         requires { has_mutex self.now m ≡ true }
         ensures { result ≡ is_robust m self.now }
     {
@@ -167,7 +182,7 @@ impl<K: PiKernel + Drop> State<K> {
     }
 
     /// How often its owner holds a mutex that was added.
-    pub(crate) fn count(&self, m: MutexId) -> u32
+    pub fn count(&self, m: MutexId) -> u32
         requires { has_mutex self.now m ≡ true }
         ensures { result ≡ (cell_at self.now m).count }
     {
@@ -184,7 +199,7 @@ impl<K: PiKernel + Drop> State<K> {
     }
 
     /// The bits of the word of a mutex that was added.
-    pub(crate) fn word(&self, m: MutexId) -> u32
+    pub fn word(&self, m: MutexId) -> u32
         requires { has_mutex self.now m ≡ true }
         ensures { word_of result ≡ (cell_at self.now m).word }
     {
@@ -193,7 +208,7 @@ impl<K: PiKernel + Drop> State<K> {
 
     /// Makes `new` the word of a mutex that was added if it was `expected`, a bare number below 2^30, and answers
     /// whether it was.
-    pub(crate) fn exchange(&mut self, m: MutexId, expected: u32, new: u32) -> bool
+    pub fn exchange(&mut self, m: MutexId, expected: u32, new: u32) -> bool
         requires mutex { has_mutex self.old m ≡ true }
         requires bare { expected < 2 ^ 30 }
         ensures value { result ≡ is_bare (cell_at self.old m).word expected }
@@ -213,7 +228,7 @@ impl<K: PiKernel + Drop> State<K> {
     }
 
     /// The health word of a mutex that was added: 0 fine, 1 inconsistent, 2 unusable.
-    pub(crate) fn health(&self, m: MutexId) -> u32
+    pub fn health(&self, m: MutexId) -> u32
         requires { has_mutex self.now m ≡ true }
         ensures { result ≡ (cell_at self.now m).health }
     {
@@ -221,15 +236,43 @@ impl<K: PiKernel + Drop> State<K> {
     }
 
     /// Makes `health` the health word of a mutex that was added.
-    pub(crate) fn set_health(&mut self, m: MutexId, health: u32)
+    pub fn set_health(&mut self, m: MutexId, health: u32)
         requires { has_mutex self.old m ≡ true }
         ensures { self.new ≡ with_health_word m health self.old }
     {
         self.words.store(Cell::Health(m), health);
     }
 
+    /// The mutex to which a variable that was added is bound.
+    pub fn bound(&self, c: CondId) -> MutexId
+        requires { has_cond self.now c ≡ true }
+        ensures { result ≡ bound_to self.now c }
+    {
+        self.conds[c.get() as usize - 1]
+    }
+
+    /// How often a variable that was added was used, by its condition word: its signals and broadcasts together.
+    pub fn uses(&self, c: CondId) -> u32
+        requires { has_cond self.now c ≡ true }
+        ensures { result ≡ uses_of self.now c }
+    {
+        self.words.load(Cell::Cond(c))
+    }
+
+    /// Makes `new` the condition word of a variable that was added if it was `expected`, and answers `Ok` with what it
+    /// was. Otherwise answers `Err` with what it is, and changes nothing.
+    pub fn exchange_uses(&mut self, c: CondId, expected: u32, new: u32) -> Result<u32, u32>
+        requires { has_cond self.old c ≡ true }
+        ensures value { result
+            ≡ (if uses_of self.old c == expected then Ok (uses_of self.old c) else Err (uses_of self.old c)) }
+        ensures after { self.new
+            ≡ (if uses_of self.old c == expected then with_cond_word c new self.old else self.old) }
+    {
+        self.words.compare_exchange(Cell::Cond(c), expected, new)
+    }
+
     /// The number of a thread that was added, which a word has room for: it is below 2^30.
-    pub(crate) fn number_of(&self, t: Tid) -> u32
+    pub fn number_of(&self, t: Tid) -> u32
         requires { has_thread self.now t ≡ true }
         ensures value { result ≡ t }
         ensures bare { result < 2 ^ 30 }
@@ -255,5 +298,13 @@ impl<K: PiKernel + Drop> State<K> {
         ensures { self.new ≡ mutex_added kind robust self.old }
     {
         push_within(&mut self.mutexes, Mutex::new(kind, robust));
+    }
+
+    /// Adds a condition variable with the next number, bound to this mutex, which was added. It was never used.
+    pub fn add_cond(&mut self, m: MutexId)
+        requires { has_cond_room self.old ≡ true }
+        ensures { self.new ≡ cond_added m self.old }
+    {
+        push_within(&mut self.conds, m);
     }
 }

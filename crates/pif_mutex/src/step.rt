@@ -3,22 +3,24 @@ ghost use Rattle.pif_model.specs.PiKernel.{is_ready};
 ghost use Rattle.pif_model.specs.RobustList.{robust_at, IsUnlisted, IsHalfLinkedByNoOther};
 ghost use Rattle.pif_model.specs.Standing.{is_half_linked};
 ghost use Rattle.pif_model.specs.Table.{has_thread, has_mutex, status_at};
-ghost use Rattle.pif_model.specs.Lines.{line_of, shared_line};
+ghost use Rattle.pif_model.specs.Lines.{line_of, locking_line, shared_line};
 ghost use Rattle.pif_mutex.specs.Outcomes.{outcome_of};
-ghost use Rattle.pif_mutex.specs.Steppable.{CallMayStep, waits_at, is_link_next};
+ghost use Rattle.pif_mutex.specs.Steppable.{CallMayStep, is_of_mutexes, waits_at, is_link_next};
 
 use crate::progress::Progress;
 use crate::state::State;
 use pif_kernel::PiKernel;
-use pif_model::Place;
+use pif_model::{Line, Place};
 use pif_types::{Errno, MutexId, Request, Tid};
 
 /// Which line a step is, by request and place.
 impl<K: PiKernel + Drop> State<K> {
-    /// One step of the open call of `t`, which is this request at this place.
+    /// One step of the open call of `t`, which is this request at this place: one on mutexes.
+    #[tactic(auto, using(crate::proofs::Locking::wait_locks))]
     pub(crate) fn step(&mut self, request: Request, place: Place, t: Tid) -> Progress
         requires known { has_thread self.old t ≡ true }
         requires call { CallMayStep self.old t request place }
+        requires mutexes { is_of_mutexes (Line.At request place) ≡ true }
         ensures { outcome_of result self.new ≡ line_of request place t self.old }
     {
         match request {
@@ -26,6 +28,8 @@ impl<K: PiKernel + Drop> State<K> {
             Request::TryLock(m) => self.try_lock_step(place, t, m),
             Request::Unlock(m) => self.unlock_step(place, t, m),
             Request::Consistent(m) => self.consistent_step(place, t, m),
+            Request::Wait(_, m) => self.locking_step(request, place, t, m),
+            Request::Signal(_) | Request::Broadcast(_) => unreachable!(),
             Request::SetPrio(other, prio) => self.set_prio_step(place, t, other, prio),
         }
     }
@@ -41,6 +45,22 @@ impl<K: PiKernel + Drop> State<K> {
         match place {
             Place::LockLoad => self.lock_load(request, t, m),
             Place::LockPending => self.name_pending(request, Place::LockExchange, t, m),
+            _ => self.locking_step(request, place, t, m),
+        }
+    }
+
+    /// One step of a request that locks `m`, from the exchange on: of a lock, or of a wait that was unblocked.
+    #[tactic(auto, unfolding(pif_model::specs::Lines::locking_line))]
+    fn locking_step(&mut self, request: Request, place: Place, t: Tid, m: MutexId) -> Progress
+        requires known { has_thread self.old t ≡ true }
+        requires mutex { has_mutex self.old m ≡ true }
+        requires ready { waits_at place ≡ false → is_ready (status_at self.old t) ≡ true }
+        requires unlisted { is_link_next place ≡ true → IsUnlisted self.old.lists m }
+        requires half { is_link_next place ≡ true → IsHalfLinkedByNoOther self.old.lists t m }
+        requires linked { is_half_linked place ≡ true → (robust_at self.old.lists t).half_linked ≡ m }
+        ensures { outcome_of result self.new ≡ locking_line request place t m self.old }
+    {
+        match place {
             Place::LockExchange => self.own_exchange(request, Place::LockKernel, t, m),
             Place::LockKernel => self.lock_kernel(request, t, m),
             Place::LockQueued => self.lock_queued(request, t, m),

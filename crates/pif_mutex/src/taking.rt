@@ -13,7 +13,7 @@ use pif_word::owner_died;
 /// The most often that an owner holds a recursive mutex.
 const MOST: u32 = 255;
 
-/// What lock and trylock have in common: the exchange, and taking over a robust mutex up to its links.
+/// What lock, trylock and wait have in common: the exchange, and taking over a robust mutex up to its links.
 impl<K: PiKernel + Drop> State<K> {
     /// The owner of a recursive mutex holds it once more, or is answered EAGAIN where it holds it as often as it may.
     #[tactic(auto, unfolding(pif_model::specs::Lines::locked_again))]
@@ -34,13 +34,7 @@ impl<K: PiKernel + Drop> State<K> {
     /// Compare-exchange of the word from 0 to the number of the thread. Done, a stalled mutex is answered, and of a
     /// robust one the health word is next. Where it fails the request goes on with its kernel call, at the place
     /// `kernel`.
-    pub(crate) fn own_exchange(
-        &mut self,
-        request: Request,
-        kernel: Place,
-        t: Tid,
-        m: MutexId,
-    ) -> Progress
+    pub fn own_exchange(&mut self, request: Request, kernel: Place, t: Tid, m: MutexId) -> Progress
         requires known { has_thread self.old t ≡ true }
         requires mutex { has_mutex self.old m ≡ true }
         ensures { outcome_of result self.new ≡ own_exchange request kernel t m self.old }

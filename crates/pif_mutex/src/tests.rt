@@ -1,12 +1,14 @@
 ghost use Rattle.std.specs.Prelude.{◌≡◌, true, Some, None};
 ghost use Rattle.pif_model.specs.PiKernel.{is_living};
-ghost use Rattle.pif_model.specs.Table.{has_thread, has_mutex, line_at};
+ghost use Rattle.pif_model.specs.Table.{has_thread, has_mutex, has_cond, line_at};
 ghost use Rattle.pif_model.specs.Lines.{is_open};
 ghost use Rattle.pif_model.specs.Posix.{names_known};
+ghost use Rattle.pif_mutex.specs.Steppable.{is_of_mutexes};
 
-use crate::{Parts, Progress, advance};
+use crate::{Parts, Progress, State, advance};
 use pif_kernel::PlainKernel;
-use pif_types::{Health, Kind, Limits, MutexId, Prio, Request, Tid};
+use pif_model::Status;
+use pif_types::{CondId, Errno, Health, Kind, Limits, MutexId, Prio, Request, Tid};
 use std::alloc::Global;
 use std::process::Abort;
 use std::test::Fail;
@@ -15,9 +17,9 @@ use std::test::Fail;
 /// mutex 1 after it.
 type Row = (u32, Request, u32, Progress, u32);
 
-/// Parts for four threads and two mutexes, to which nothing was added.
+/// Parts for four threads, two mutexes and one condition variable, to which nothing was added.
 fn new_parts(alloc: Global) -> Result<Parts<PlainKernel>, Fail> {
-    let limits = Limits::new(4, 2, 0, 1).ok_or("limits")?;
+    let limits = Limits::new(4, 2, 1, 1).ok_or("limits")?;
     let kernel = PlainKernel::new(alloc, limits, 1)?;
     Ok(Parts::new(alloc, limits, kernel)?)
 }
@@ -57,6 +59,15 @@ fn mutex(parts: &mut Parts<PlainKernel>, kind: Kind, robust: bool) -> Option<Mut
     }
 }
 
+/// Adds a condition variable bound to this mutex, where there is room for it.
+fn cond(parts: &mut Parts<PlainKernel>, m: MutexId) -> Option<CondId> {
+    if m.get() <= parts.mutexes() && parts.conds() < parts.limits().conds() {
+        Some(parts.add_cond(m))
+    } else {
+        None
+    }
+}
+
 /// Whether a thread was added, lives, and has a call open or none, as asked.
 fn may_act(parts: &Parts<PlainKernel>, t: Tid, calling: bool) -> bool
     ensures known { result ≡ true → has_thread parts.now t ≡ true }
@@ -66,13 +77,31 @@ fn may_act(parts: &Parts<PlainKernel>, t: Tid, calling: bool) -> bool
     t.get() <= parts.threads() && parts.is_living(t) && parts.is_open(t) == calling
 }
 
-// Whether the mutex that a call names was added.
+/// Whether the open call of a thread, which was added, is one on mutexes.
+#[tactic(auto, using(crate::proofs::OpenCalls::mutexes_at_request))]
+fn is_on_mutexes(parts: &Parts<PlainKernel>, t: Tid) -> bool
+    requires { has_thread parts.now t ≡ true }
+    ensures { result ≡ true → is_of_mutexes (line_at parts.now t) ≡ true }
+{
+    match parts.open_call(t) {
+        Some(Request::Lock(_)) => true,
+        Some(Request::TryLock(_)) => true,
+        Some(Request::Unlock(_)) => true,
+        Some(Request::Consistent(_)) => true,
+        Some(Request::SetPrio(_, _)) => true,
+        _ => false,
+    }
+}
+
+/// Whether the mutex and the variable that a call names were added.
 fn names_known(parts: &Parts<PlainKernel>, request: &Request) -> bool
-    ensures { result ≡ true → names_known (has_mutex parts.now) request.now ≡ true }
+    ensures { result ≡ true → names_known (has_mutex parts.now) (has_cond parts.now) request.now ≡ true }
 {
     match *request {
         Request::Lock(m) | Request::TryLock(m) | Request::Unlock(m) | Request::Consistent(m) =>
             m.get() <= parts.mutexes(),
+        Request::Wait(c, m) => c.get() <= parts.conds() && m.get() <= parts.mutexes(),
+        Request::Signal(c) | Request::Broadcast(c) => c.get() <= parts.conds(),
         Request::SetPrio(_, _) => true,
     }
 }
@@ -87,9 +116,9 @@ fn begin(parts: &mut Parts<PlainKernel>, t: Tid, request: Request) -> Option<()>
     }
 }
 
-/// A thread takes one step of its open call. `None` where it has none.
+/// A thread takes one step of its open call on mutexes. `None` where it has none.
 fn go(parts: &mut Parts<PlainKernel>, t: Tid) -> Option<Progress> {
-    if may_act(parts, t, true) {
+    if may_act(parts, t, true) && is_on_mutexes(parts, t) {
         Some(advance(parts, t))
     } else {
         None
@@ -139,7 +168,7 @@ fn add_and_count(rt: &impl Abort, parts: &mut Parts<PlainKernel>) -> Result<(), 
     let m1 = mutex(parts, Kind::Normal, false).ok_or("room")?;
     assert_eq!(rt; (t1.get(), t2.get(), m1.get()), (1, 2, 1));
     assert_eq!(rt; (parts.threads(), parts.mutexes()), (2, 1));
-    assert_eq!(rt; Some(parts.limits()), Limits::new(4, 2, 0, 1));
+    assert_eq!(rt; Some(parts.limits()), Limits::new(4, 2, 1, 1));
     assert_eq!(rt;
         (parts.pick(), parts.effective(t1)),
         (Some(t2), Prio::new(10))
@@ -318,4 +347,99 @@ fn end_holder(parts: &mut Parts<PlainKernel>) -> Option<(Option<u32>, Option<Hea
         parts.health(held),
         parts.is_living(holder),
     ))
+}
+
+#[test]
+fn variable_is_added_unused(rt: HostRuntime) -> Result<(), Fail> {
+    let mut parts = scene(rt.alloc(), Kind::Normal, &[10])?;
+    add_variable(&rt, &mut parts)
+}
+
+fn add_variable(rt: &impl Abort, parts: &mut Parts<PlainKernel>) -> Result<(), Fail> {
+    let m1 = MutexId::new(1).ok_or("a mutex")?;
+    let t1 = Tid::new(1).ok_or("a thread")?;
+    let none = CondId::new(2).ok_or("a variable")?;
+    let c1 = cond(parts, m1).ok_or("room")?;
+    assert_eq!(rt; (c1.get(), parts.conds()), (1, 1));
+    assert_eq!(rt;
+        (parts.cond_word(c1), parts.cond_word(none)),
+        (Some(0), None)
+    );
+    begin(parts, t1, Request::Wait(c1, m1)).ok_or("may begin")?;
+    assert_eq!(rt; open_call(parts, t1), Some(Request::Wait(c1, m1)));
+    Ok(())
+}
+
+/// The open call of a thread. `None` where it has none.
+fn open_call(parts: &Parts<PlainKernel>, t: Tid) -> Option<Request> {
+    if t.get() <= parts.threads() {
+        parts.open_call(t)
+    } else {
+        None
+    }
+}
+
+#[test]
+fn variable_is_used_and_its_waiter_taken(rt: HostRuntime) -> Result<(), Fail> {
+    let limits = Limits::new(1, 1, 1, 1).ok_or("limits")?;
+    let kernel = PlainKernel::new(rt.alloc(), limits, 1)?;
+    let mut state = State::new(rt.alloc(), limits, kernel)?;
+    use_variable(&rt, &mut state)
+}
+
+fn use_variable(rt: &impl Abort, state: &mut State<PlainKernel>) -> Result<(), Fail> {
+    let m1 = MutexId::new(1).ok_or("a mutex")?;
+    let c1 = CondId::new(1).ok_or("a variable")?;
+    let t1 = first_of_each(state, m1).ok_or("room")?;
+    assert_eq!(rt; exchange(state, c1), Some((m1, Ok(0), 1)));
+    assert_eq!(rt; exchange(state, c1), Some((m1, Err(1), 1)));
+    assert_eq!(rt; park(state, t1, c1, m1), Some(Ok(())));
+    assert_eq!(rt; state.cmp_requeue_pi(c1, m1, 1, 0, 1), Ok(1));
+    Ok(())
+}
+
+/// Adds a thread, a mutex, and a variable bound to that.
+fn first_of_each(state: &mut State<PlainKernel>, m: MutexId) -> Option<Tid> {
+    let limits = state.limits();
+    let rooms = (
+        state.line_count() <= limits.threads(),
+        state.mutex_count() <= limits.mutexes(),
+        state.cond_count() <= limits.conds(),
+    );
+    if rooms != (true, true, true) {
+        return None;
+    }
+    state.add_mutex(Kind::Normal, false);
+    state.add_cond(m);
+    Some(state.add_thread(Prio::new(10)?))
+}
+
+/// Makes the condition word of a variable 1 if it was 0: its mutex, what the exchange answers, and how often it was
+/// used then.
+fn exchange(state: &mut State<PlainKernel>, c: CondId) -> Option<(MutexId, Result<u32, u32>, u32)> {
+    if c.get() >= state.cond_count() {
+        return None;
+    }
+    let bound = state.bound(c);
+    let exchanged = state.exchange_uses(c, 0, 1);
+    if c.get() >= state.cond_count() {
+        return None;
+    }
+    Some((bound, exchanged, state.uses(c)))
+}
+
+/// Parks a thread that may run on a variable that was used once.
+fn park(
+    state: &mut State<PlainKernel>,
+    t: Tid,
+    c: CondId,
+    m: MutexId,
+) -> Option<Result<(), Errno>> {
+    if t.get() >= state.line_count() {
+        return None;
+    }
+    match state.status(t) {
+        Status::Ready(_) => Some(state.wait_requeue_pi(t, c, 1, m)),
+        _ => None,
+    }
 }

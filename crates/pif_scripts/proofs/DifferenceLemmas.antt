@@ -126,11 +126,16 @@ line-fault : (s : Table) (line : List ℕ) (e : Ending) → line_meaning s line 
 unfolding line_meaning
 line-fault s line e p = line-by (command_in line) s e p
 
+-- a script ends with no difference
+pub script_ends-with_fault : (bs : List ℕ) (line : ℕ) (r : Reply)
+    → ended_by script (reading_of script start bs).stands ≡ Err (record { line = line; ending = Differs r }) → ⊥
+script_ends-with_fault bs line r p = ends-with_fault script (λ number. first_line-fault) line-fault bs start line r p
+
 pub RunsTo-from : (a b h k : Option (List ℕ)) (result : Result (Unit {0}) CliFault)
     → RunsFrom script start a b h k result → RunsTo a b h k result
 RunsTo-from a b h k (Ok x) r = r
 RunsTo-from a b h k (Err (fault.Differs line)) r =
-    ends-with_fault script (λ number. first_line-fault) line-fault r.0 start line r.2.0.0 r.2.0.1
+    script_ends-with_fault r.0 line r.2.0.0 r.2.0.1
 RunsTo-from a b h k (Err (fault.Script line cause)) r = r
 RunsTo-from a b h k (Err fault.Read) r = r
 RunsTo-from a b h k (Err fault.Write) r = r

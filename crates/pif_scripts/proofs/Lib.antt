@@ -1,7 +1,11 @@
 pub mod RunningLemmas
 pub mod SameAgainLemmas
 pub mod DifferenceLemmas
+pub mod AgainLemmas
+pub mod EntryLemmas
+pub mod FeedLemmas
 pub mod RunLemmas
 pub mod ScriptLemmas
 pub mod SilenceLemmas
 pub mod TracingLemmas
+pub mod TranscriptLemmas

@@ -9,7 +9,7 @@ use Rattle.pif_scripts.specs.declared.faults.CliFault.{CliFault}
 use Rattle.pif_scripts.specs.declared.faults.CliFault.TheVariants.{Read, Write, NoMemory, Script, Differs}
 use Rattle.pif_scripts.specs.declared.reading.ending.End.{End}
 use Rattle.pif_scripts.specs.Scripts.{Hearing, Scan, reading_of, ended_by, closed_at}
-use Rattle.pif_scripts.specs.Runs.{WritesPart, ending_text, last_text, output_of, EndsAfter, RunsFrom, Turns, Closes, Stops, Writes}
+use Rattle.pif_scripts.specs.Runs.{WritesPart, last_text, output_of, EndsAfter, RunsFrom, Turns, Closes, Stops, Writes}
 use Rattle.pif_scripts.proofs.ScriptLemmas.{reading_of-append, reading_of-unheard, reading_of-nil}
 
 pub Appends-kept_before : (a b c : Option (List ℕ)) (bs : List ℕ) → Appends a b [] → Keeps b c → Keeps a c
@@ -18,28 +18,19 @@ Appends-kept_before (Some x) None c bs p q = absurd p
 Appends-kept_before (Some x) (Some y) None bs p q = absurd q
 Appends-kept_before (Some x) (Some y) (Some z) bs p q = q ∙ p ∙ append-nil x
 
--- the output was emptied, took the text, and was shown
-pub Writes-text : (h k : Option (List ℕ)) (shown kept emptied text : List ℕ) (e : CliFault) → shown ≡ kept
-    → kept ≡ emptied ++ text → emptied ≡ []
-    → Writes h k shown (Err e) → Writes h k text (Err e)
-Writes-text h k shown kept emptied text e p q r w = subst (λ l. Writes h k l (Err e)) (p ∙ q ∙ ap (λ l. l ++ text) r) w
-
 Consumes-from_keeps : (a b : Option (List ℕ)) → Keeps a b → Consumes a b []
 Consumes-from_keeps None b p = tt
 Consumes-from_keeps (Some x) None p = absurd p
 Consumes-from_keeps (Some x) (Some y) p = sym p
 
--- the line of an end was appended to what was told, and was not written
-pub Stops-unwritten : (h k : Option (List ℕ)) (shown kept said old : List ℕ) (x : End) (e : CliFault) → shown ≡ kept
-    → kept ≡ said ++ 10 ∷ []
-    → said ≡ old ++ ending_text x.line x.ending → Writes h k shown (Err e) → Stops h k old x e
-Stops-unwritten h k shown kept said old x Write p q r w =
-    subst (λ l. WritesPart h k l) (p ∙ q ∙ ap (λ l. l ++ 10 ∷ []) r
-    ∙ append_assoc old (ending_text x.line x.ending) (10 ∷ [])) w
-Stops-unwritten h k shown kept said old x Read p q r w = absurd w
-Stops-unwritten h k shown kept said old x NoMemory p q r w = absurd w
-Stops-unwritten h k shown kept said old x (Script l c) p q r w = absurd w
-Stops-unwritten h k shown kept said old x (Differs l) p q r w = absurd w
+-- what is said of an end was appended to what was told, and was not written
+pub Stops-unwritten : (h k : Option (List ℕ)) (shown old said : List ℕ) (x : End) (e : CliFault) → shown ≡ old ++ said
+    → Writes h k shown (Err e) → Stops h k old said x e
+Stops-unwritten h k shown old said x Write p w = subst (λ l. WritesPart h k l) p w
+Stops-unwritten h k shown old said x Read p w = absurd w
+Stops-unwritten h k shown old said x NoMemory p w = absurd w
+Stops-unwritten h k shown old said x (Script l c) p w = absurd w
+Stops-unwritten h k shown old said x (Differs l) p w = absurd w
 
 -- ---- bytes that are written in several calls
 
@@ -66,7 +57,7 @@ WritesPart-append : (bytes more : List ℕ) (a b : Option (List ℕ)) → Writes
 WritesPart-append bytes more a b w =
     (w.0, w.1 ++ more, ap (λ l. l ++ more) w.2 ∙ append_assoc w.0 w.1 more, tail-not_nil w.1 more w.3, w.4)
 
-part-append : (first bytes : List ℕ) (h k l : Option (List ℕ)) → Appends h k first → WritesPart k l bytes
+pub part-append : (first bytes : List ℕ) (h k l : Option (List ℕ)) → Appends h k first → WritesPart k l bytes
     → WritesPart h l (first ++ bytes)
 part-append first bytes h k l p w = (
   first ++ w.0,
@@ -87,14 +78,26 @@ Writes-more first shown bytes rest h k l NoMemory p q w = absurd w
 Writes-more first shown bytes rest h k l (Script line cause) p q w = absurd w
 Writes-more first shown bytes rest h k l (Differs line) p q w = absurd w
 
+-- behind what was written before
+pub Stops-after : (first text said : List ℕ) (h k l : Option (List ℕ)) (x : End) (e : CliFault) → Appends h k first
+    → Stops k l text said x e → Stops h l (first ++ text) said x e
+Stops-after first text said h k l x (Script n c) p w =
+    (w.0, rw (append_assoc first text said) (Appends-trans h k l first (text ++ said) p w.1))
+Stops-after first text said h k l x (Differs n) p w =
+    (w.0, rw (append_assoc first text said) (Appends-trans h k l first (text ++ said) p w.1))
+Stops-after first text said h k l x Write p w =
+    rw (append_assoc first text said) (part-append first (text ++ said) h k l p w)
+Stops-after first text said h k l x Read p w = absurd w
+Stops-after first text said h k l x NoMemory p w = absurd w
+
 module _ {S : Type 0} (hearing : Hearing S) where
-  output_of-append : (xs ys : List ℕ) (s t : Scan S) → (reading_of hearing s xs).stands ≡ Ok t
+  pub output_of-append : (xs ys : List ℕ) (s t : Scan S) → (reading_of hearing s xs).stands ≡ Ok t
       → output_of hearing (reading_of hearing s (xs ++ ys))
       ≡ (reading_of hearing s xs).text ++ output_of hearing (reading_of hearing t ys)
   output_of-append xs ys s t e =
       let f = reading_of-append hearing xs ys s t e in
       rw (f.0, f.1) (append_assoc (reading_of hearing s xs).text (reading_of hearing t ys).text
-      (last_text (ended_by hearing (reading_of hearing t ys).stands)))
+      (last_text hearing.said_of (ended_by hearing (reading_of hearing t ys).stands)))
 
   -- a run goes on where a part of it ended
   EndsAfter-more : (xs ys : List ℕ) (s t : Scan S) (c h k l : Option (List ℕ)) (result : Result (Unit {0}) CliFault)
@@ -162,28 +165,29 @@ module _ {S : Type 0} (hearing : Hearing S) where
   RunsFrom-read_failed s a b h k =
       let n = reading_of-nil hearing s in ([], Consumes-from_keeps a b k, (ap is_ok n.1, rw n.0 (Appends-nil h)))
 
-  -- the text and the line of an end were written
-  stops : (s : Scan S) (read : List ℕ) (a b h k : Option (List ℕ)) (x : End) (e : CliFault) → Consumes a b read
+  -- the text and what is said of an end were written
+  stops : (s : Scan S) (read : List ℕ) (b h k : Option (List ℕ)) (x : End) (e : CliFault)
       → ended_by hearing (reading_of hearing s read).stands ≡ Err x
       → (is_ok (reading_of hearing s read).stands ≡ true → IsAtEnd b)
-      → Stops h k (reading_of hearing s read).text x e → RunsFrom hearing s a b h k (Err e)
-  stops s read a b h k x (Script l c) p f end w = (read, p, (f ∙ ap Err w.0, end, rw f w.1))
-  stops s read a b h k x (Differs l) p f end w = (read, p, ((w.0.0, f ∙ ap Err w.0.1), rw f w.1))
-  stops s read a b h k x Write p f end w = (read, p, rw f w)
-  stops s read a b h k x Read p f end w = absurd w
-  stops s read a b h k x NoMemory p f end w = absurd w
+      → Stops h k (reading_of hearing s read).text (hearing.said_of x) x e
+      → EndsAfter hearing s read b h k (Err e)
+  stops s read b h k x (Script l c) f end w = (f ∙ ap Err w.0, end, rw f w.1)
+  stops s read b h k x (Differs l) f end w = ((w.0.0, f ∙ ap Err w.0.1), rw f w.1)
+  stops s read b h k x Write f end w = rw f w
+  stops s read b h k x Read f end w = absurd w
+  stops s read b h k x NoMemory f end w = absurd w
 
-  pub RunsFrom-stopped : (s : Scan S) (read : List ℕ) (a b h k : Option (List ℕ)) (x : End) (e : CliFault)
-      → Consumes a b read
-      → (reading_of hearing s read).stands ≡ Err x → Stops h k (reading_of hearing s read).text x e
-      → RunsFrom hearing s a b h k (Err e)
-  RunsFrom-stopped s read a b h k x e p f w =
-      stops s read a b h k x e p (ap (ended_by hearing) f)
+  -- a byte ended it
+  pub EndsAfter-stopped : (s : Scan S) (read : List ℕ) (b h k : Option (List ℕ)) (x : End) (e : CliFault)
+      → (reading_of hearing s read).stands ≡ Err x
+      → Stops h k (reading_of hearing s read).text (hearing.said_of x) x e → EndsAfter hearing s read b h k (Err e)
+  EndsAfter-stopped s read b h k x e f w =
+      stops s read b h k x e (ap (ended_by hearing) f)
       (λ o. let bad : false ≡ true = sym (ap is_ok f) ∙ o in absurd (false≢true bad)) w
 
   closes-by : (s : Scan S) (a b h k : Option (List ℕ)) (told : Result (List ℕ) End) (result : Result Bool CliFault)
       → closed_at hearing s ≡ told
-      → Consumes a b [] → IsAtEnd b → Closes h k told result → Turns hearing s s a b h k result
+      → Consumes a b [] → IsAtEnd b → Closes h k hearing.said_of told result → Turns hearing s s a b h k result
   closes-by s a b h k (Ok text) (Ok true) e p end w = absurd (false≢true (sym w.0))
   closes-by s a b h k (Ok text) (Ok false) e p end w =
       let n = reading_of-nil hearing s in
@@ -200,18 +204,10 @@ module _ {S : Type 0} (hearing : Hearing S) where
   closes-by s a b h k (Err x) (Ok more) e p end w = absurd w
   closes-by s a b h k (Err x) (Err y) e p end w =
       let n = reading_of-nil hearing s in
-      stops s [] a b h k x y p (ap (ended_by hearing) n.1 ∙ e) (λ _. end) (rw n.0 w)
+      ([], p, stops s [] b h k x y (ap (ended_by hearing) n.1 ∙ e) (λ _. end) (rw n.0 w))
 
   -- the input ended
   pub Turns-closed : (s : Scan S) (a b h k : Option (List ℕ)) (result : Result Bool CliFault) → Consumes a b []
       → IsAtEnd b
-      → Closes h k (closed_at hearing s) result → Turns hearing s s a b h k result
+      → Closes h k hearing.said_of (closed_at hearing s) result → Turns hearing s s a b h k result
   Turns-closed s a b h k result p end w = closes-by s a b h k (closed_at hearing s) result refl p end w
-
-  pub RunsFrom-unwritten : (s : Scan S) (read : List ℕ) (a b h k : Option (List ℕ)) (e : CliFault) → Consumes a b read
-      → Writes h k (reading_of hearing s read).text (Err e) → RunsFrom hearing s a b h k (Err e)
-  RunsFrom-unwritten s read a b h k Write p w = (read, p, WritesPart-append _ _ h k w)
-  RunsFrom-unwritten s read a b h k Read p w = absurd w
-  RunsFrom-unwritten s read a b h k NoMemory p w = absurd w
-  RunsFrom-unwritten s read a b h k (Script line cause) p w = absurd w
-  RunsFrom-unwritten s read a b h k (Differs line) p w = absurd w

@@ -59,6 +59,7 @@ unfolding first_answer
 first_answer-later (command.Limits t m v n) other = absurd (other t m v n refl)
 first_answer-later (command.Thread p) other = refl
 first_answer-later (command.Mutex k robust) other = refl
+first_answer-later (command.Cond m) other = refl
 first_answer-later (command.Begin t q) other = refl
 first_answer-later (command.Go t) other = refl
 first_answer-later (command.End t) other = refl
@@ -66,6 +67,7 @@ first_answer-later (command.Call t q) other = refl
 first_answer-later (command.Finish t) other = refl
 first_answer-later (command.Word m) other = refl
 first_answer-later (command.Health m) other = refl
+first_answer-later (command.CondWord c) other = refl
 first_answer-later (command.Prio t) other = refl
 first_answer-later command.Pick other = refl
 
@@ -76,6 +78,7 @@ unfolding command_answer
 answered-later (command.Limits t m v n) s other = absurd (other t m v n refl)
 answered-later (command.Thread p) s other = tt
 answered-later (command.Mutex k robust) s other = tt
+answered-later (command.Cond m) s other = tt
 answered-later (command.Begin t q) s other = tt
 answered-later (command.Go t) s other = tt
 answered-later (command.End t) s other = tt
@@ -83,5 +86,6 @@ answered-later (command.Call t q) s other = tt
 answered-later (command.Finish t) s other = tt
 answered-later (command.Word m) s other = tt
 answered-later (command.Health m) s other = tt
+answered-later (command.CondWord c) s other = tt
 answered-later (command.Prio t) s other = tt
 answered-later command.Pick s other = tt

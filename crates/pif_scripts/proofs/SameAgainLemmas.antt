@@ -6,14 +6,14 @@ use Rattle.std.proofs.lemmas.Bool.Decides.{nat_tests}
 use Rattle.std.proofs.lemmas.Slice.Eq.{bytes_eq-Decides}
 use Rattle.pif_types.specs.Bounds.{Bounds, IsWithin}
 use Rattle.pif_model.specs.declared.events.Entry.{Entry}
-use Rattle.pif_model.specs.declared.events.Entry.TheVariants.{Thread as AddedThread, Mutex as AddedMutex, Step}
+use Rattle.pif_model.specs.declared.events.Entry.TheVariants.{Thread as AddedThread, Mutex as AddedMutex, Cond as AddedCond, Step}
 use Rattle.pif_model.specs.declared.events.Event.TheVariants.{Begin as BeginEvent, Go as GoEvent, End as EndEvent}
 use Rattle.pif_model.specs.declared.events.Seen.{Seen}
-use Rattle.pif_model.specs.Calls.{add_thread_answer, add_thread_after, add_mutex_answer, add_mutex_after}
+use Rattle.pif_model.specs.Calls.{add_thread_answer, add_thread_after, add_mutex_answer, add_mutex_after, add_cond_answer, add_cond_after}
 use Rattle.pif_model.specs.Lines.{event_outcome}
 use Rattle.pif_model.specs.Table.{Table, new_table}
 use Rattle.pif_text.specs.declared.commands.Command.{Command}
-use Rattle.pif_text.specs.declared.commands.Command.TheVariants.{Limits, Thread, Mutex, Begin, Go, End}
+use Rattle.pif_text.specs.declared.commands.Command.TheVariants.{Limits, Thread, Mutex, Cond as NewCond, Begin, Go, End}
 use Rattle.pif_text.specs.declared.replies.Reply.{Reply}
 use Rattle.pif_text.specs.declared.replies.Reply.TheVariants as reply
 use Rattle.pif_text.specs.CommandTexts.{command_text, IsWritten}
@@ -24,7 +24,7 @@ use Rattle.pif_text.proofs.ReadBack.{command_back}
 use Rattle.pif_text.specs.declared.replies.Cause.TheVariants.{Command as NoCommand}
 use Rattle.pif_scripts.specs.declared.reading.ending.Ending.TheVariants.{Fault, Differs}
 use Rattle.pif_scripts.specs.Scripts.{Hearing, FirstMeaning, Meaning, Scan, reading_of, answered_by, answered_first, answered_later, after_line, with_byte, closed_at, ended_by}
-use Rattle.pif_scripts.specs.Runs.{last_text}
+use Rattle.pif_scripts.specs.Runs.{end_line, last_text}
 use Rattle.pif_types.specs.declared.requests.Kind.{Kind}
 use Rattle.pif_types.specs.declared.requests.Request.{Request}
 use Rattle.pif_scripts.specs.Running.{Answer, answer_or_fault, command_answer, first_answer, limits_in, are_limits, reply_of_seen, made_by}
@@ -150,6 +150,11 @@ mutex_given : (m : ℕ) (k : Kind) (robust : Bool) (s : Table) → add_mutex_ans
 unfolding command_answer
 mutex_given m k robust s e = rw e refl
 
+cond_given : (c m : ℕ) (s : Table) → add_cond_answer m s ≡ Ok c
+    → command_answer (NewCond m) s ≡ Some (reply.Cond c, add_cond_after m (Ok c) s)
+unfolding command_answer
+cond_given c m s e = rw e refl
+
 begin_given : (t : ℕ) (q : Request) (seen : Seen) (s : Table) → (event_outcome (BeginEvent t q) s).seen ≡ seen
     → command_answer (Begin t q) s ≡ Some (reply_of_seen seen, (event_outcome (BeginEvent t q) s).after)
 unfolding command_answer
@@ -174,6 +179,8 @@ entry_back (AddedThread t p) es s w h =
 entry_back (AddedMutex m k robust) es s w h =
     written_back (Mutex k robust) (reply.Mutex m) s (add_mutex_after k robust (Ok m) s) es w.0 w.1 refl
     (mutex_given m k robust s h.0) h.1
+entry_back (AddedCond c m) es s w h =
+    written_back (NewCond m) (reply.Cond c) s (add_cond_after m (Ok c) s) es w.0 w.1 refl (cond_given c m s h.0) h.1
 entry_back (Step (BeginEvent t q) seen) es s w h =
     written_back (Begin t q) (reply_of_seen seen) s (event_outcome (BeginEvent t q) s).after es w.0 w.1 refl
     (begin_given t q seen s h.0) h.1
@@ -244,7 +251,7 @@ limits_back b w =
     (traced_back c reply.Done (limits_written b w) refl) (first_limits b w))
 
 closed_back : (v : Scan Table) (n : ℕ) → v.line ≡ [] → v.number ≡ 3 + n
-    → last_text (closed_at trace_hearing v) ≡ same_of (1 + n) ++ 10 ∷ []
+    → last_text end_line (closed_at trace_hearing v) ≡ same_of (1 + n) ++ 10 ∷ []
 closed_back v n e f =
     let some : nat_lt 1 v.number ≡ true = grind (arith, nat_tests) in
     let count : v.number - 2 ≡ 1 + n = omega arith in
@@ -263,5 +270,5 @@ trace_back b es w a h small =
     let limits = reading_of-line trace_hearing (limits_text b) entries None 2 12 ([], Some (new_table b))
     (limits_line b w) (omega arith) (limits_back b w) in
     let rest = entries_back es (new_table b) 3 (12 + length (limits_text b) + 1) a h (omega arith) in
-    ap (λ stands. last_text (ended_by trace_hearing stands)) (header ∙ limits ∙ rest.1)
+    ap (λ stands. last_text end_line (ended_by trace_hearing stands)) (header ∙ limits ∙ rest.1)
     ∙ closed_back rest.0 (length es) rest.2 rest.3

@@ -6,7 +6,7 @@ use Rattle.pif_scripts.specs.declared.reading.ending.Ending.TheVariants.{Fault}
 use Rattle.pif_scripts.specs.declared.reading.ending.End.{End}
 use Rattle.pif_scripts.specs.declared.reading.ending.Stop.{Stop}
 use Rattle.pif_scripts.specs.declared.reading.ending.Stop.TheVariants.{Ended, NoMemory}
-use Rattle.pif_scripts.specs.Scripts.{Hearing, FirstMeaning, Meaning, Answered, Scan, byte_taken, reading_of, line_answer, answered_by, answered_first, answered_later, after_line, end_at, with_byte, Opens, Hears, Takes, Answers, Feeds}
+use Rattle.pif_scripts.specs.Scripts.{Hearing, FirstMeaning, Meaning, Answered, Scan, byte_taken, reading_of, line_answer, answered_by, answered_first, answered_later, after_line, end_at, with_byte, Opens, Hears, Takes, Answers}
 
 -- an outcome is one of the two
 pub by_cases : {A E : Type 0} (r : Result A E) → ((x : A) × (r ≡ Ok x)) ⊎ ((e : E) × (r ≡ Err e))
@@ -178,54 +178,3 @@ module _ {S : Type 0} (hearing : Hearing S) where
             (first.0, one.0 ∙ rw (first.1, rest.1) refl)
         | inr r ↦ let one = reading_of-err s x xs r.0 r.1 in let bad : Err r.0 ≡ Ok t = sym one.1 ∙ e in (cc, cc)
       ]
-
-  -- of the bytes bs, that were read from s on, all but the rest were read, and the script stands at t
-  pub record Feeding (s : Scan S) (bs old : List ℕ) (t : Scan S) (rest out : List ℕ) : Type 0 where
-    pub front : List ℕ
-    pub split : bs ≡ front ++ rest
-    pub stands : (reading_of hearing s front).stands ≡ Ok t
-    pub written : out ≡ old ++ (reading_of hearing s front).text
-
-  pub Feeding-start : (s : Scan S) (bs old : List ℕ) → Feeding s bs old s bs old
-  Feeding-start s bs old =
-      let n = reading_of-nil s in
-      record { front = []; split = refl; stands = n.1; written = sym (ap (λ l. old ++ l) n.0 ∙ append-nil old) }
-
-  pub Feeding-more : (s : Scan S) (bs old : List ℕ) (t : Scan S) (b : ℕ) (rest out new : List ℕ) (u : Scan S)
-      (x : Unit {0})
-      → Feeding s bs old t (b ∷ rest) out → Takes hearing t b out new u (Ok x) → Feeding s bs old u rest new
-  Feeding-more s bs old t b rest out new u x f k =
-      let told = (reading_of hearing s f.front).text in
-      let one = reading_of-ok t b [] (k.0, u) k.1 in
-      let none = reading_of-nil u in
-      let more = reading_of-append f.front (b ∷ []) s t f.stands in
-      let text : (reading_of hearing s (f.front ++ b ∷ [])).text ≡ told ++ k.0 =
-      more.0 ∙ ap (λ l. told ++ l) (one.0 ∙ ap (λ l. k.0 ++ l) none.0 ∙ append-nil k.0) in
-      record {
-        front = f.front ++ b ∷ [];
-        split = f.split ∙ sym (append_assoc f.front (b ∷ []) rest);
-        stands = more.1 ∙ one.1 ∙ none.1;
-        written = k.2 ∙ ap (λ l. l ++ k.0) f.written ∙ append_assoc old told k.0 ∙ ap (λ l. old ++ l) (sym text);
-      }
-
-  pub Feeds-end : (s : Scan S) (bs old : List ℕ) (t : Scan S) (rest out : List ℕ) (x : Unit {0})
-      → Feeding s bs old t rest out → rest ≡ [] → Feeds hearing s bs old out t (Ok x)
-  Feeds-end s bs old t rest out x f e =
-      let whole = f.split ∙ ap (λ l. f.front ++ l) e ∙ append-nil f.front in
-      let text = ap (λ l. old ++ (reading_of hearing s l).text) (sym whole) in
-      (ap (λ l. (reading_of hearing s l).stands) whole ∙ f.stands, f.written ∙ text)
-
-  pub Feeds-stop : (s : Scan S) (bs old : List ℕ) (t : Scan S) (b : ℕ) (rest out new : List ℕ) (u : Scan S) (y : Stop)
-      → Feeding s bs old t (b ∷ rest) out → Takes hearing t b out new u (Err y) → Feeds hearing s bs old new u (Err y)
-  Feeds-stop s bs old t b rest out new u (Ended x) f k =
-      let told = (reading_of hearing s f.front).text in
-      let step = reading_of-err t b rest x k.0 in
-      let more = reading_of-append f.front (b ∷ rest) s t f.stands in
-      let text = ap (λ l. (reading_of hearing s l).text) f.split ∙ more.0 ∙ ap (λ l. told ++ l) step.0
-      ∙ append-nil told in (
-        ap (λ l. (reading_of hearing s l).stands) f.split ∙ more.1 ∙ step.1,
-        k.1 ∙ f.written ∙ ap (λ l. old ++ l) (sym text),
-      )
-  Feeds-stop s bs old t b rest out new u NoMemory f k =
-      let quiet = reading_of-unheard f.front s t f.stands k.0.0 in
-      ((f.front, t, b, rest, f.split, f.stands, k.0), k.1 ∙ f.written ∙ ap (λ l. old ++ l) quiet.1 ∙ append-nil old)

@@ -3,3 +3,4 @@ pub mod Runs
 pub mod Scanners
 pub mod Scripts
 pub mod Traces
+pub mod Transcripts

@@ -10,9 +10,9 @@ use Rattle.pif_model.specs.declared.events.Seen.{Seen}
 use Rattle.pif_model.specs.declared.events.Seen.TheVariants.{Begun as SeenBegun, Went as SeenWent, Waits as SeenWaits, Answered as SeenAnswered, Ended as SeenEnded, Refused as SeenRefused}
 use Rattle.pif_model.specs.Table.{Table, new_table}
 use Rattle.pif_model.specs.Lines.{Outcome, event_outcome, goes_on}
-use Rattle.pif_model.specs.Calls.{add_thread_answer, add_thread_after, add_mutex_answer, add_mutex_after, effective_answer, word_answer, health_answer, pick_answer, threads_answer}
+use Rattle.pif_model.specs.Calls.{add_thread_answer, add_thread_after, add_mutex_answer, add_mutex_after, add_cond_answer, add_cond_after, effective_answer, word_answer, health_answer, cond_word_answer, pick_answer, threads_answer}
 use Rattle.pif_text.specs.declared.commands.Command.{Command}
-use Rattle.pif_text.specs.declared.commands.Command.TheVariants.{Limits, Thread, Mutex, Begin, Go, End, Call, Finish, Word, Health as HealthOf, Prio, Pick}
+use Rattle.pif_text.specs.declared.commands.Command.TheVariants.{Limits, Thread, Mutex, Cond, Begin, Go, End, Call, Finish, Word, Health as HealthOf, CondWord, Prio, Pick}
 use Rattle.pif_text.specs.declared.replies.Cause.{Cause}
 use Rattle.pif_text.specs.declared.replies.Cause.TheVariants as cause
 use Rattle.pif_text.specs.declared.replies.Reply.{Reply}
@@ -21,7 +21,7 @@ use Rattle.pif_text.specs.Commands.{command_in}
 use Rattle.pif_text.specs.Replies.{text_of}
 use Rattle.pif_scripts.specs.declared.faults.CliFault.{CliFault}
 use Rattle.pif_scripts.specs.declared.faults.CliFault.TheVariants as fault
-use Rattle.pif_scripts.specs.Runs.{RunsFrom}
+use Rattle.pif_scripts.specs.Runs.{RunsFrom, end_line}
 use Rattle.pif_scripts.specs.declared.reading.ending.Ending.TheVariants.{Fault, Differs}
 use Rattle.pif_scripts.specs.declared.reading.ending.OpenFault.{OpenFault}
 use Rattle.pif_scripts.specs.declared.reading.ending.OpenFault.TheVariants.{Ended, NoMemory}
@@ -63,6 +63,10 @@ abbrev pub reply_of_mutex : Result ℕ AddFault → Reply
 reply_of_mutex (Ok m) = reply.Mutex m
 reply_of_mutex (Err e) = reply.NotAdded e
 
+abbrev pub reply_of_cond : Result ℕ AddFault → Reply
+reply_of_cond (Ok c) = reply.Cond c
+reply_of_cond (Err e) = reply.NotAdded e
+
 abbrev pub reply_of_word : Option ℕ → Reply
 reply_of_word (Some w) = reply.Word w
 reply_of_word None = reply.Refused NoSuch
@@ -70,6 +74,10 @@ reply_of_word None = reply.Refused NoSuch
 abbrev pub reply_of_health : Option Health → Reply
 reply_of_health (Some h) = reply.Health h
 reply_of_health None = reply.Refused NoSuch
+
+abbrev pub reply_of_uses : Option ℕ → Reply
+reply_of_uses (Some n) = reply.Uses n
+reply_of_uses None = reply.Refused NoSuch
 
 -- whether a thread of this number, which is at least 1, was ever added
 abbrev pub was_added : ℕ → Table → Bool
@@ -87,6 +95,7 @@ command_answer (Thread p) s =
     Some (reply_of_thread (add_thread_answer p s), add_thread_after p (add_thread_answer p s) s)
 command_answer (Mutex k robust) s =
     Some (reply_of_mutex (add_mutex_answer s), add_mutex_after k robust (add_mutex_answer s) s)
+command_answer (Cond m) s = Some (reply_of_cond (add_cond_answer m s), add_cond_after m (add_cond_answer m s) s)
 command_answer (Begin t q) s = Some (answer_of_outcome (event_outcome (BeginEvent t q) s))
 command_answer (Go t) s = Some (answer_of_outcome (event_outcome (GoEvent t) s))
 command_answer (End t) s = Some (answer_of_outcome (event_outcome (EndEvent t) s))
@@ -94,6 +103,7 @@ command_answer (Call t q) s = Some (answer_of_outcome (call_outcome t q s))
 command_answer (Finish t) s = Some (answer_of_outcome (finish_outcome t s))
 command_answer (Word m) s = Some (reply_of_word (word_answer m s), s)
 command_answer (HealthOf m) s = Some (reply_of_health (health_answer m s), s)
+command_answer (CondWord c) s = Some (reply_of_uses (cond_word_answer c s), s)
 command_answer (Prio t) s = Some (reply_of_priority (effective_answer t s) (was_added t s), s)
 command_answer Pick s = Some (reply.Picked (pick_answer s), s)
 
@@ -171,6 +181,7 @@ script = record {
   first_meaning = λ number line. first_line_meaning line;
   meaning = line_meaning;
   end_text = λ number. Ok [];
+  said_of = end_line;
 }
 
 -- a run of a script, by what the reader had and has left, and what the writer held and holds; it has no differences

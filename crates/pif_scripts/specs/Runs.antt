@@ -34,14 +34,14 @@ ending_text line (ending.Differs reply) = differs_of line reply
 abbrev pub end_line : End → List ℕ
 end_line e = ending_text e.line e.ending ++ 10 ∷ []
 
--- the last that a script prints that ends so
-abbrev pub last_text : Result (List ℕ) End → List ℕ
-last_text (Ok text) = text
-last_text (Err e) = end_line e
+-- the last that a script prints that ends so, by what is said of the line that ends it
+abbrev pub last_text : (End → List ℕ) → Result (List ℕ) End → List ℕ
+last_text said (Ok text) = text
+last_text said (Err e) = said e
 
 -- what is written for a script that ends there: what its lines are answered, and then what its end prints
 abbrev pub output_of : {S : Type 0} → Hearing S → Reading S → List ℕ
-output_of h f = f.text ++ last_text (ended_by h f.stands)
+output_of h f = f.text ++ last_text h.said_of (ended_by h f.stands)
 
 -- a run that read these bytes from where the script stood at s:
 --   ended well: all was read, no line ended it, and their output was written
@@ -84,20 +84,33 @@ Turns h s t before after held holds (Ok true) =
 Turns h s t before after held holds (Ok false) = RunsFrom h s before after held holds (Ok tt)
 Turns h s t before after held holds (Err e) = RunsFrom h s before after held holds (Err e)
 
--- text and the line of an end were written, or a proper part of them
-abbrev pub Stops : (held holds : Option (List ℕ)) → List ℕ → End → CliFault → Type 0
-Stops held holds text e (Script l c) =
-    (e ≡ record { line = l; ending = ending.Fault c }) × Appends held holds (text ++ end_line e)
-Stops held holds text e (Differs l) =
-    ((reply : Reply) × (e ≡ record { line = l; ending = ending.Differs reply }))
-    × Appends held holds (text ++ end_line e)
-Stops held holds text e Write = WritesPart held holds (text ++ end_line e)
-Stops held holds text e Read = ⊥
-Stops held holds text e NoMemory = ⊥
+-- bytes that were read from where the script stood at s, and left it at t: what their lines are answered was written; or
+-- they ended the run
+abbrev pub Feeds : {S : Type 0} → Hearing S → Scan S → List ℕ → Scan S → (held holds : Option (List ℕ))
+    → Result (Unit {0}) CliFault → Type 0
+Feeds h s read t held holds (Ok x) =
+    ((reading_of h s read).stands ≡ Ok t) × Appends held holds (reading_of h s read).text
+Feeds h s read t held holds (Err e) = (after : Option (List ℕ)) → EndsAfter h s read after held holds (Err e)
+
+-- a front of old was written, and new is left of it; or not all of old was written
+abbrev pub Flushes : (held holds : Option (List ℕ)) → (old new : List ℕ) → Result (Unit {0}) CliFault → Type 0
+Flushes held holds old new (Ok x) = (done : List ℕ) × (old ≡ done ++ new) × Appends held holds done
+Flushes held holds old new (Err e) = Writes held holds old (Err e)
+
+-- text and what is said of an end were written, or a proper part of them
+abbrev pub Stops : (held holds : Option (List ℕ)) → List ℕ → (said : List ℕ) → End → CliFault → Type 0
+Stops held holds text said e (Script l c) =
+    (e ≡ record { line = l; ending = ending.Fault c }) × Appends held holds (text ++ said)
+Stops held holds text said e (Differs l) =
+    ((reply : Reply) × (e ≡ record { line = l; ending = ending.Differs reply })) × Appends held holds (text ++ said)
+Stops held holds text said e Write = WritesPart held holds (text ++ said)
+Stops held holds text said e Read = ⊥
+Stops held holds text said e NoMemory = ⊥
 
 -- what such an end prints was written, or a proper part of it, and nothing is left to do
-abbrev pub Closes : (held holds : Option (List ℕ)) → Result (List ℕ) End → Result Bool CliFault → Type 0
-Closes held holds (Ok text) (Ok more) = (more ≡ false) × Appends held holds text
-Closes held holds (Ok text) (Err e) = Writes held holds text (Err e)
-Closes held holds (Err e) (Ok more) = ⊥
-Closes held holds (Err e) (Err f) = Stops held holds [] e f
+abbrev pub Closes : (held holds : Option (List ℕ)) → (End → List ℕ) → Result (List ℕ) End → Result Bool CliFault
+    → Type 0
+Closes held holds said (Ok text) (Ok more) = (more ≡ false) × Appends held holds text
+Closes held holds said (Ok text) (Err e) = Writes held holds text (Err e)
+Closes held holds said (Err e) (Ok more) = ⊥
+Closes held holds said (Err e) (Err f) = Stops held holds [] (said e) e f

@@ -26,6 +26,8 @@ pub record Hearing (S : Type 0) : Type 0 where
   pub meaning : S → List ℕ → Meaning S
   -- what is said at the end, where the next line would have this number, or why the end is a fault
   pub end_text : ℕ → Result (List ℕ) Cause
+  -- what is said of the line that ends a script
+  pub said_of : End → List ℕ
 
 -- a line makes a listener, for all that its own bytes say: it is no fault, and it is not passed over; whether it
 -- differs is known once there is a listener
@@ -163,11 +165,3 @@ abbrev pub Takes : {S : Type 0} → Hearing S → Scan S → ℕ → (old new : 
 Takes h s b old new t (Ok x) = (text : List ℕ) × (byte_taken h s b ≡ Ok (text, t)) × (new ≡ old ++ text)
 Takes h s b old new t (Err (StopEnded e)) = (byte_taken h s b ≡ Err e) × (new ≡ old)
 Takes h s b old new t (Err StopNoMemory) = NeedsAt h s b × (new ≡ old)
-
--- bytes were answered so, and left the script at t
-abbrev pub Feeds : {S : Type 0} → Hearing S → Scan S → List ℕ → (old new : List ℕ) → Scan S → Result (Unit {0}) Stop
-    → Type 0
-Feeds h s bs old new t (Ok x) = ((reading_of h s bs).stands ≡ Ok t) × (new ≡ old ++ (reading_of h s bs).text)
-Feeds h s bs old new t (Err (StopEnded e)) =
-    ((reading_of h s bs).stands ≡ Err e) × (new ≡ old ++ (reading_of h s bs).text)
-Feeds h s bs old new t (Err StopNoMemory) = NeedsIn h s bs × (new ≡ old)

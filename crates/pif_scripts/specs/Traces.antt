@@ -3,14 +3,14 @@ use Rattle.std.specs.Prelude.{ℕ, ◌≡◌, ◌-◌, ◌==◌, true, nat_lt, L
 use Rattle.std.specs.Io.KnownBytes.{Appends, Consumes, IsAtEnd, Keeps}
 use Rattle.pif_types.specs.Bounds.{Bounds, IsWithin}
 use Rattle.pif_model.specs.declared.events.Entry.{Entry}
-use Rattle.pif_model.specs.declared.events.Entry.TheVariants.{Thread as AddedThread, Mutex as AddedMutex, Step}
+use Rattle.pif_model.specs.declared.events.Entry.TheVariants.{Thread as AddedThread, Mutex as AddedMutex, Cond as AddedCond, Step}
 use Rattle.pif_model.specs.declared.events.Event.{Event}
 use Rattle.pif_model.specs.declared.events.Event.TheVariants.{Begin as BeginEvent, Go as GoEvent, End as EndEvent}
-use Rattle.pif_model.specs.Calls.{add_thread_answer, add_thread_after, add_mutex_answer, add_mutex_after}
+use Rattle.pif_model.specs.Calls.{add_thread_answer, add_thread_after, add_mutex_answer, add_mutex_after, add_cond_answer, add_cond_after}
 use Rattle.pif_model.specs.Lines.{event_outcome}
 use Rattle.pif_model.specs.Table.{Table, new_table}
 use Rattle.pif_text.specs.declared.commands.Command.{Command}
-use Rattle.pif_text.specs.declared.commands.Command.TheVariants.{Limits, Thread, Mutex, Begin, Go, End as EndThread, Call, Finish, Word, Health, Prio, Pick}
+use Rattle.pif_text.specs.declared.commands.Command.TheVariants.{Limits, Thread, Mutex, Cond, Begin, Go, End as EndThread, Call, Finish, Word, Health, CondWord, Prio, Pick}
 use Rattle.pif_text.specs.declared.replies.Cause.{Cause}
 use Rattle.pif_text.specs.declared.replies.Cause.TheVariants.{Command as NoCommand}
 use Rattle.pif_text.specs.declared.replies.Reply.{Reply}
@@ -24,7 +24,7 @@ use Rattle.pif_scripts.specs.declared.faults.CliFault.TheVariants as fault
 use Rattle.pif_scripts.specs.declared.reading.ending.Ending.TheVariants.{Fault, Differs}
 use Rattle.pif_scripts.specs.declared.reading.ending.End.{End}
 use Rattle.pif_scripts.specs.Scripts.{Meaning, FirstMeaning, Hearing, Reading, start, reading_of, ended_by, NeedsIn}
-use Rattle.pif_scripts.specs.Runs.{WritesPart, last_text}
+use Rattle.pif_scripts.specs.Runs.{WritesPart, end_line, last_text}
 use Rattle.pif_scripts.specs.Running.{Answer, answer_or_fault, command_answer, first_answer, made_by, reply_of_seen}
 
 -- ---- reading
@@ -34,6 +34,7 @@ abbrev pub if_traced : Command → Option Command
 if_traced (Limits t m c n) = Some (Limits t m c n)
 if_traced (Thread p) = Some (Thread p)
 if_traced (Mutex k robust) = Some (Mutex k robust)
+if_traced (Cond m) = Some (Cond m)
 if_traced (Begin t q) = Some (Begin t q)
 if_traced (Go t) = Some (Go t)
 if_traced (EndThread t) = Some (EndThread t)
@@ -41,6 +42,7 @@ if_traced (Call t q) = None
 if_traced (Finish t) = None
 if_traced (Word m) = None
 if_traced (Health m) = None
+if_traced (CondWord c) = None
 if_traced (Prio t) = None
 if_traced Pick = None
 
@@ -86,6 +88,7 @@ trace_hearing = record {
   first_meaning = λ number line. if number == 1 then header_meaning line else second_line_meaning line;
   meaning = traced_meaning;
   end_text = traced_end;
+  said_of = end_line;
 }
 
 -- where a trace of these bytes stands behind them
@@ -98,7 +101,7 @@ trace_end bytes = ended_by trace_hearing (trace_reading bytes).stands
 
 -- what a trace of these bytes comes to: `same`, `differs` or `fault`, with what belongs to it
 unfoldable pub verdict : List ℕ → List ℕ
-verdict bytes = last_text (trace_end bytes)
+verdict bytes = last_text end_line (trace_end bytes)
 
 -- replaying a trace of which these bytes were read:
 --   ended well: all was read, and each answer is the recorded one; the verdict was written
@@ -138,6 +141,7 @@ event_command (EndEvent t) = EndThread t
 unfoldable pub entry_text : Entry → List ℕ
 entry_text (AddedThread t p) = command_text (Thread p) ++ recorded (reply.Thread t)
 entry_text (AddedMutex m k robust) = command_text (Mutex k robust) ++ recorded (reply.Mutex m)
+entry_text (AddedCond c m) = command_text (Cond m) ++ recorded (reply.Cond c)
 entry_text (Step e seen) = command_text (event_command e) ++ recorded (reply_of_seen seen)
 
 -- limits as the command that names them, and the answer to it
@@ -162,12 +166,14 @@ trace b entries = front_lines b ++ flat_map entry_line entries
 abbrev pub entry_command : Entry → Command
 entry_command (AddedThread t p) = Thread p
 entry_command (AddedMutex m k robust) = Mutex k robust
+entry_command (AddedCond c m) = Cond m
 entry_command (Step e seen) = event_command e
 
 -- the answer that an entry records
 abbrev pub entry_reply : Entry → Reply
 entry_reply (AddedThread t p) = reply.Thread t
 entry_reply (AddedMutex m k robust) = reply.Mutex m
+entry_reply (AddedCond c m) = reply.Cond c
 entry_reply (Step e seen) = reply_of_seen seen
 
 -- an entry whose numbers a line can write, as those of each `Entry` are
@@ -181,6 +187,7 @@ IsHistory s (AddedThread t p ∷ entries) =
     (add_thread_answer p s ≡ Ok t) × IsHistory (add_thread_after p (Ok t) s) entries
 IsHistory s (AddedMutex m k robust ∷ entries) =
     (add_mutex_answer s ≡ Ok m) × IsHistory (add_mutex_after k robust (Ok m) s) entries
+IsHistory s (AddedCond c m ∷ entries) = (add_cond_answer m s ≡ Ok c) × IsHistory (add_cond_after m (Ok c) s) entries
 IsHistory s (Step e seen ∷ entries) = ((event_outcome e s).seen ≡ seen) × IsHistory (event_outcome e s).after entries
 
 -- the trace of what a core under these limits did is the same when it is replayed, as long as it is no larger than a

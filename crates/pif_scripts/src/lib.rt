@@ -1,21 +1,27 @@
 //! Scripts and traces: reading their bytes, answering their lines or comparing the answers, and writing the trace of a
-//! history.
+//! history or of a script.
 //!
-//! A script may have every command. A line of a trace has `limits`, `thread`, `mutex`, `begin`, `go` or `end`, and the
-//! answer that was recorded: these make and change a core, while the others only read it or go on several steps at once.
+//! A script may have every command. A line of a trace has `limits`, `thread`, `mutex`, `cond`, `begin`, `go` or `end`,
+//! and the answer that was recorded: these make and change a core, while the others only read it or go on several steps
+//! at once.
 #![tactic(auto)]
 
 mod faults;
+mod notices;
 mod reading;
 mod replaying;
 mod running;
 mod runs;
 mod tracing;
+mod transcribing;
 mod writing;
 
 pub use faults::CliFault;
+pub use notices::Notice;
 pub use pif_text::Cause;
-pub use runs::{replay, run};
+pub use runs::{
+    replay, replay_noting, run, run_noting, script_trace_is_the_same, trace, trace_noting,
+};
 pub use tracing::{write_trace, written_trace_is_the_same};
 pub use writing::write_whole;
 

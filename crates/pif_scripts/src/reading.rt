@@ -3,6 +3,9 @@ mod listener;
 mod scanner;
 mod script;
 
-pub use ending::{Ending, OpenFault};
-pub use listener::{ANSWER_ROOM, END_ROOM, Listener, OUTPUT_ROOM, Output, append};
+pub use ending::{End, Ending, OpenFault};
+pub use listener::{
+    ANSWER_ROOM, END_ROOM, Listener, OUTPUT_ROOM, Output, REPLY_ROOM, append, append_end,
+};
+pub use scanner::MOST_LINE;
 pub use script::read_script;

@@ -3,7 +3,7 @@ ghost use Rattle.pif_text.specs.Replies.{text_of};
 ghost use Rattle.pif_model.specs.Table.{Table};
 ghost use Rattle.pif_scripts.specs.Traces.{if_traced, traced_in, trace_hearing};
 
-use crate::reading::{Ending, Listener, OpenFault, Output, append};
+use crate::reading::{End, Ending, Listener, OpenFault, Output, append, append_end};
 use crate::running::{obey, open_core};
 use pif_core::Core;
 use pif_text::{
@@ -25,7 +25,7 @@ impl Model for Replayed {
 }
 
 /// A command, if it stands in traces.
-fn if_traced(command: Command) -> Option<Command>
+pub fn if_traced(command: Command) -> Option<Command>
     ensures { result ≡ if_traced command }
 {
     match command {
@@ -33,6 +33,7 @@ fn if_traced(command: Command) -> Option<Command>
         Command::Finish(_) => None,
         Command::Word(_) => None,
         Command::Health(_) => None,
+        Command::CondWord(_) => None,
         Command::Prio(_) => None,
         Command::Pick => None,
         traced => Some(traced),
@@ -114,5 +115,9 @@ impl Listener for Replayed {
         append(output, text.as_slice());
         output.push(b'\n');
         Ok(())
+    }
+
+    fn report(end: End, output: &mut Output) {
+        append_end(end, output);
     }
 }

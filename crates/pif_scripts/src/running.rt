@@ -3,12 +3,15 @@ ghost use Rattle.arrayvec.specs.ArrayVec.{array_vec_len};
 ghost use Rattle.pif_types.specs.Bounds.{Bounds};
 ghost use Rattle.pif_model.specs.Table.{new_table};
 ghost use Rattle.pif_text.specs.Replies.{text_of};
-ghost use Rattle.pif_scripts.specs.Running.{reply_of_seen, finish_outcome, call_outcome, reply_of_thread, reply_of_mutex, reply_of_word, reply_of_health, was_added, reply_of_priority, command_answer, default_limits, script, first_answer, limited_answer, answer_or_fault, IsAnswer, Makes};
+ghost use Rattle.pif_scripts.specs.Running.{reply_of_seen, finish_outcome, call_outcome, reply_of_thread, reply_of_mutex, reply_of_cond, reply_of_word, reply_of_health, reply_of_uses, was_added, reply_of_priority, command_answer, default_limits, script, first_answer, limited_answer, answer_or_fault, IsAnswer, Makes};
 
-use crate::reading::{ANSWER_ROOM, Ending, Listener, OUTPUT_ROOM, OpenFault, Output, append};
+use crate::reading::{
+    ANSWER_ROOM, End, Ending, Listener, OUTPUT_ROOM, OpenFault, Output, REPLY_ROOM, append,
+    append_end,
+};
 use pif_core::{Core, Event, Seen};
 use pif_text::{Cause, Command, Reply, Text, command_of, reply_text};
-use pif_types::{AddFault, Health, Limits, MutexId, Prio, Refusal, Request, Tid};
+use pif_types::{AddFault, CondId, Health, Limits, MutexId, Prio, Refusal, Request, Tid};
 use std::alloc::Global;
 
 /// The reply that says what an event was answered.
@@ -43,6 +46,15 @@ fn reply_of_mutex(added: Result<MutexId, AddFault>) -> Reply
     }
 }
 
+fn reply_of_cond(added: Result<CondId, AddFault>) -> Reply
+    ensures { result ≡ reply_of_cond added }
+{
+    match added {
+        Ok(cond) => Reply::Cond(cond),
+        Err(fault) => Reply::NotAdded(fault),
+    }
+}
+
 fn reply_of_word(word: Option<u32>) -> Reply
     ensures { result ≡ reply_of_word word }
 {
@@ -57,6 +69,15 @@ fn reply_of_health(health: Option<Health>) -> Reply
 {
     match health {
         Some(health) => Reply::Health(health),
+        None => Reply::Refused(Refusal::NoSuch),
+    }
+}
+
+fn reply_of_uses(uses: Option<u32>) -> Reply
+    ensures { result ≡ reply_of_uses uses }
+{
+    match uses {
+        Some(uses) => Reply::Uses(uses),
         None => Reply::Refused(Refusal::NoSuch),
     }
 }
@@ -83,7 +104,7 @@ fn reply_of_priority(priority: Option<Prio>, added: bool) -> Reply
 }
 
 /// How often `finish` goes on at most, after the first time.
-const MORE_STEPS: u32 = 23;
+pub const MORE_STEPS: u32 = 23;
 
 /// The thread goes on up to the first answer that isn't `Went`, at most 24 times.
 fn finish(core: &mut Core, thread: Tid) -> Seen
@@ -121,6 +142,7 @@ pub fn obey(core: &mut Core, command: Command) -> Option<Reply>
         Command::Limits(..) => None,
         Command::Thread(priority) => Some(reply_of_thread(core.add_thread(priority))),
         Command::Mutex(kind, robust) => Some(reply_of_mutex(core.add_mutex(kind, robust))),
+        Command::Cond(mutex) => Some(reply_of_cond(core.add_cond(mutex))),
         Command::Begin(thread, request) => {
             Some(reply_of_seen(core.step(Event::Begin(thread, request))))
         }
@@ -130,6 +152,7 @@ pub fn obey(core: &mut Core, command: Command) -> Option<Reply>
         Command::Finish(thread) => Some(reply_of_seen(finish(core, thread))),
         Command::Word(mutex) => Some(reply_of_word(core.word(mutex))),
         Command::Health(mutex) => Some(reply_of_health(core.health(mutex))),
+        Command::CondWord(cond) => Some(reply_of_uses(core.cond_word(cond))),
         Command::Prio(thread) => {
             Some(reply_of_priority(core.effective(thread), was_added(core, thread)))
         }
@@ -139,9 +162,9 @@ pub fn obey(core: &mut Core, command: Command) -> Option<Reply>
 
 /// Appends a reply and LF.
 fn tell(reply: Reply, output: &mut Output)
-    requires { array_vec_len output.old + ANSWER_ROOM ≤ OUTPUT_ROOM }
+    requires { array_vec_len output.old + REPLY_ROOM ≤ OUTPUT_ROOM }
     ensures told { output.new.items ≡ output.old.items ++ (text_of reply ++ 10 ∷ []) }
-    ensures room { array_vec_len output.new ≤ array_vec_len output.old + ANSWER_ROOM }
+    ensures room { array_vec_len output.new ≤ array_vec_len output.old + REPLY_ROOM }
 {
     let mut text = Text::new();
     reply_text(reply, &mut text);
@@ -150,7 +173,7 @@ fn tell(reply: Reply, output: &mut Output)
 }
 
 /// The limits of a script that begins with no `limits`.
-fn default_limits() -> Limits
+pub fn default_limits() -> Limits
     ensures { result ≡ default_limits }
 {
     Limits::new(1024, 1024, 256, 4_294_967_295).unwrap()
@@ -236,5 +259,9 @@ impl Listener for Core {
 
     fn close(_number: u64, _output: &mut Output) -> Result<(), Cause> {
         Ok(())
+    }
+
+    fn report(end: End, output: &mut Output) {
+        append_end(end, output);
     }
 }

@@ -1,9 +1,11 @@
 ghost use Rattle.pif_scripts.specs.Running.{RunsTo};
 ghost use Rattle.pif_scripts.specs.Traces.{ReplaysTo};
+ghost use Rattle.pif_scripts.specs.Transcripts.{SameAsTraced, TracesTo};
 
-use crate::CliFault;
 use crate::reading::read_script;
 use crate::replaying::Replayed;
+use crate::transcribing::Transcribing;
+use crate::{CliFault, Notice};
 use pif_core::Core;
 use std::alloc::Global;
 use std::io::{Read, Write};
@@ -19,7 +21,24 @@ use std::io::{Read, Write};
 pub fn run<R: Read, W: Write>(alloc: Global, reader: &mut R, writer: &mut W) -> Result<(), CliFault>
     ensures { RunsTo (R.remaining reader.old) (R.remaining reader.new) (W.contents writer.old) (W.contents writer.new) result }
 {
-    read_script::<Core, R, W>(alloc, reader, writer)
+    run_noting(alloc, reader, writer, &mut Notice::new())
+}
+
+/// Runs a script as `run` does, and has `notice` keep the line of the fault; where there is none, `notice` is left as
+/// it is.
+///
+/// # Errors
+///
+/// Those of `run`.
+pub fn run_noting<R: Read, W: Write>(
+    alloc: Global,
+    reader: &mut R,
+    writer: &mut W,
+    notice: &mut Notice,
+) -> Result<(), CliFault>
+    ensures { RunsTo (R.remaining reader.old) (R.remaining reader.new) (W.contents writer.old) (W.contents writer.new) result }
+{
+    read_script::<Core, R, W>(alloc, reader, writer, notice)
 }
 
 /// Replays a trace of version 1: gives its commands to a fresh core, and compares each answer with the recorded one. At
@@ -39,5 +58,68 @@ pub fn replay<R: Read, W: Write>(
 ) -> Result<(), CliFault>
     ensures { ReplaysTo (R.remaining reader.old) (R.remaining reader.new) (W.contents writer.old) (W.contents writer.new) result }
 {
-    read_script::<Replayed, R, W>(alloc, reader, writer)
+    replay_noting(alloc, reader, writer, &mut Notice::new())
 }
+
+/// Replays a trace as `replay` does, and has `notice` keep the line of the fault or of the difference; where there is
+/// none, `notice` is left as it is.
+///
+/// # Errors
+///
+/// Those of `replay`.
+pub fn replay_noting<R: Read, W: Write>(
+    alloc: Global,
+    reader: &mut R,
+    writer: &mut W,
+    notice: &mut Notice,
+) -> Result<(), CliFault>
+    ensures { ReplaysTo (R.remaining reader.old) (R.remaining reader.new) (W.contents writer.old) (W.contents writer.new) result }
+{
+    read_script::<Replayed, R, W>(alloc, reader, writer, notice)
+}
+
+/// Writes the trace of a script, of version 1: runs the script as `run` does, and writes in place of its answers the
+/// header, the line of the limits, and a line for each entry that the script makes, in their order, with what the core
+/// answered. Those are the additions that were made, and each event, also a refused one; `call` and `finish` make the
+/// events of which they consist. Refused additions and questions make none. The line of a fault is not written: the trace
+/// is that of the lines before it. Where no core was made, nothing is written. `replay` finds the trace the same, up to
+/// the size that a trace may have: `script_trace_is_the_same`.
+///
+/// # Errors
+///
+/// Those of `run`: `Script` with the first fault of the script; `Read`, where the reader fails, and the trace of the whole
+/// lines read so far was written; `Write`, where the writer fails or takes no byte; and `NoMemory`, where the core cannot
+/// be made, and nothing was written.
+pub fn trace<R: Read, W: Write>(
+    alloc: Global,
+    reader: &mut R,
+    writer: &mut W,
+) -> Result<(), CliFault>
+    ensures { TracesTo (R.remaining reader.old) (R.remaining reader.new) (W.contents writer.old) (W.contents writer.new) result }
+{
+    trace_noting(alloc, reader, writer, &mut Notice::new())
+}
+
+/// Writes the trace of a script as `trace` does, and has `notice` keep the line of the fault; where there is none,
+/// `notice` is left as it is.
+///
+/// # Errors
+///
+/// Those of `trace`.
+pub fn trace_noting<R: Read, W: Write>(
+    alloc: Global,
+    reader: &mut R,
+    writer: &mut W,
+    notice: &mut Notice,
+) -> Result<(), CliFault>
+    ensures { TracesTo (R.remaining reader.old) (R.remaining reader.new) (W.contents writer.old) (W.contents writer.new) result }
+{
+    read_script::<Transcribing, R, W>(alloc, reader, writer, notice)
+}
+
+/// The trace that `trace` writes of a script that makes a core prints `same` when it is replayed, with the number of its
+/// entries and one more, for the line of the limits, as long as it has at most 16,777,216 bytes, and the numbers of its
+/// entries are those that an `Entry` has.
+pub fn script_trace_is_the_same()
+    ensures { SameAsTraced }
+{}

@@ -1,11 +1,17 @@
 mod chains;
+mod conditions;
 mod deaths;
 mod kinds;
 mod limits;
+mod notices;
 mod reading;
 mod robust;
+mod steps;
 mod streams;
 mod traces;
+mod transcripts;
+mod uses;
+mod waits;
 
 use crate::{Cause, CliFault, run};
 use std::alloc::Global;
@@ -66,11 +72,16 @@ fn equals_are_served_in_order_of_arrival(rt: HostRuntime) {
 #[test]
 fn refusals_in_order(rt: HostRuntime) {
     let script =
-        "limits 1 1 1 1\nthread 100\nthread 99\nthread 1\ngo t1\nbegin t1 lock m1\ngo t2\npick\nprio t2\nword m1\n\
-        mutex errorcheck\nmutex normal\n";
+        "limits 1 1 1 1\nthread 100\nthread 99\nthread 1\ncond m1\ngo t1\nbegin t1 lock m1\ngo t2\npick\nprio t2\n\
+        word m1\ncondword c1\nbegin t1 wait c1 m1\nbegin t1 signal c1\nmutex errorcheck\nmutex normal\ncond m2\n\
+        begin t1 wait c1 m1\ncond m1\ncond m2\ncond m1\nbegin t1 wait c1 m2\nbegin t1 wait c2 m1\n\
+        begin t1 broadcast c2\nbegin t1 signal c1\nbegin t1 signal c2\nend t1\ngo t1\nbegin t1 wait c2 m2\nprio t1\n\
+        pick\n";
     let answers =
-        "ok\nrefused badprio\nt1\nrefused toomany\nrefused idle\nrefused nosuch\nrefused nosuch\nt1\n\
-        refused nosuch\nrefused nosuch\nm1\nrefused toomany\n";
+        "ok\nrefused badprio\nt1\nrefused toomany\nrefused nosuch\nrefused idle\nrefused nosuch\nrefused nosuch\nt1\n\
+        refused nosuch\nrefused nosuch\nrefused nosuch\nrefused nosuch\nrefused nosuch\nm1\nrefused toomany\n\
+        refused nosuch\nrefused nosuch\nc1\nrefused nosuch\nrefused toomany\nrefused nosuch\nrefused nosuch\n\
+        refused nosuch\nbegun\nrefused busy\nended\nrefused dead\nrefused dead\ndead\nnone\n";
     check(&rt, rt.alloc(), script, answers);
 }
 
@@ -102,4 +113,17 @@ fn want_of_memory_writes_nothing(rt: HostRuntime) {
     };
     output.check(&rt, answers);
     assert!(rt; matches!(ended, Ok(()) | Err(CliFault::NoMemory)));
+}
+
+#[test]
+fn variables_are_refused_in_order(rt: HostRuntime) {
+    let script =
+        "limits 2 1 1 1\nthread 10\nmutex normal\ncond m2\ncond m1\ncond m1\ncond m2\ncondword c2\n\
+        begin t1 wait c2 m1\nbegin t1 wait c1 m2\ncall t1 signal c2\ncall t1 broadcast c2\nbegin t1 wait c1 m1\n\
+        begin t1 signal c2\ncall t2 broadcast c1\ngo t1\n";
+    let answers =
+        "ok\nt1\nm1\nrefused nosuch\nc1\nrefused toomany\nrefused nosuch\nrefused nosuch\n\
+        refused nosuch\nrefused nosuch\nrefused nosuch\nrefused nosuch\nbegun\n\
+        refused busy\nrefused nosuch\nanswer 1\n";
+    check(&rt, rt.alloc(), script, answers);
 }

@@ -15,10 +15,13 @@ use pif_types::Limits;
 use std::io::Write;
 
 /// Room for a command and the answer to it.
-const ROW_ROOM: usize = COMMAND_ROOM + RECORDED_ROOM;
+pub const ROW_ROOM: usize = COMMAND_ROOM + RECORDED_ROOM;
+
+/// The most bytes of the first two lines of a trace.
+pub const FRONT_ROOM: usize = 13 + ROW_ROOM;
 
 /// The command that asks for an event.
-fn event_command(event: Event) -> Command
+pub fn event_command(event: Event) -> Command
     ensures { result ≡ event_command event }
 {
     match event {
@@ -43,6 +46,10 @@ fn append_entry(entry: Entry, text: &mut Text)
         Entry::Mutex(mutex, kind, robust) => {
             command_text(Command::Mutex(kind, robust), text);
             recorded_text(Reply::Mutex(mutex), text);
+        }
+        Entry::Cond(cond, mutex) => {
+            command_text(Command::Cond(mutex), text);
+            recorded_text(Reply::Cond(cond), text);
         }
         Entry::Step(event, seen) => {
             command_text(event_command(event), text);
@@ -69,8 +76,9 @@ fn append_limits(limits: Limits, text: &mut Text)
 
 /// The first two lines of a trace.
 #[tactic(auto, unfolding(crate::specs::Traces::front_lines))]
-fn front_lines(limits: Limits) -> Text
-    ensures { result.items ≡ front_lines limits }
+pub fn front_lines(limits: Limits) -> Text
+    ensures written { result.items ≡ front_lines limits }
+    ensures within { array_vec_len result ≤ FRONT_ROOM }
 {
     let mut text = Text::new();
     header_text(&mut text);

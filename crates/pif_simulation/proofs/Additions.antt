@@ -1,6 +1,6 @@
 -- The empty table, which is sound and shows the empty world; and lists with one more.
-use Rattle.std.proofs.Common.{◌≡◌, ◌≢◌, ◌⊎◌, inl, inr, ℕ, zero, suc, ◌<◌, ◌≤◌, ◌+◌, true, false, ◌==◌, nat_lt, List, [], ◌∷◌, ◌++◌, length, get_or, replicate, None, refl, sym, ◌∙◌, arith, if◌then◌else◌}
-use Rattle.std.proofs.lemmas.Bool.{cases_lt}
+use Rattle.std.proofs.Common.{◌≡◌, ◌≢◌, ◌⊎◌, inl, inr, ℕ, zero, suc, ◌<◌, ◌≤◌, ◌+◌, true, false, ◌==◌, nat_lt, List, [], ◌∷◌, ◌++◌, length, get_or, replicate, refl, sym, ◌∙◌, arith, if◌then◌else◌}
+use Rattle.std.proofs.lemmas.Bool.{cases_lt, true≢false}
 use Rattle.std.proofs.lemmas.Bool.Decides.{nat_tests}
 use Rattle.std.proofs.lemmas.List.{length_push, get_or_append_left, get_or_past, get_or-replicate, length-replicate}
 use Rattle.pif_types.specs.Bounds.{Bounds, IsWithin}
@@ -9,13 +9,13 @@ use Rattle.pif_model.specs.Word.{free_word, free_words, word_at, health_word_at}
 use Rattle.pif_model.specs.RobustList.{no_robust_row}
 use Rattle.pif_model.specs.PiKernel.{new_kernel}
 use Rattle.pif_model.specs.declared.lines.Line.TheVariants.{Idle}
-use Rattle.pif_model.specs.Posix.{empty_world, nobody, no_mutex}
+use Rattle.pif_model.specs.Posix.{empty_world, nobody, no_mutex, no_variable, thread_at}
 use Rattle.pif_model.specs.Table.{new_table}
-use Rattle.pif_model.specs.Standing.{no_shadow, health_of, thread_shown, mutex_shown, world_of, IsShaped, IsSound}
+use Rattle.pif_model.specs.Standing.{no_shadow, health_of, places, mutex_shown, world_of, IsShaped, IsSound}
 use Rattle.pif_chains.proofs.Numbers.{above_0, below}
 use Rattle.pif_chains.proofs.KernelFacts.{living-added}
 use Rattle.pif_chains.proofs.KernelKept.{new_kernel_kept}
-use Rattle.pif_simulation.proofs.Shown.{threads_shown, mutexes_shown, thread_seen, mutex_seen, same_world}
+use Rattle.pif_simulation.proofs.Shown.{threads_shown, mutexes_shown, mutex_seen, same_world}
 
 -- THE EMPTY TABLE
 
@@ -58,8 +58,16 @@ new_sound l within = record {
       no_word = all_same (l.mutexes + 1) 0 free_word;
       no_health = all_same (l.mutexes + 1) 0 0;
       unmade = λ m e. (all_same (l.mutexes + 1) m free_word, all_same (l.mutexes + 1) m 0, refl);
+      some_cond = omega arith;
+      few_conds = omega arith;
+      no_cond = refl;
+      cond_words = length-replicate (l.conds + 1) 0;
+      no_cond_word = all_same (l.conds + 1) 0 0;
+      unmade_conds = λ c e. all_same (l.conds + 1) c 0;
     };
     mutexes = λ m e. absurd (none_below_1 m e);
+    conds = λ c e. absurd (none_below_1 c e);
+    targets = λ c m e. absurd (true≢false (sym e));
     alive = λ m e. absurd (none_below_1 m e);
     threads = λ t e out. absurd (none_below_1 t (living-added (new_kernel l) t e));
     absent = λ t e out. record { line = no_line t; list = all_same (l.threads + 1) t no_robust_row };
@@ -68,22 +76,22 @@ new_sound l within = record {
 }
 
 -- it shows the state in which nothing was added
-pub new_seen : (l : Bounds) → IsWithin l → world_of (new_table l) no_shadow ≡ empty_world
-new_seen l within = same_world (world_of (new_table l) no_shadow) empty_world (threads_shown shape no_shadow)
-    (λ t. thread_seen shape no_shadow t ∙ first_thread t)
-    (mutexes_shown shape no_shadow) (λ m. mutex_seen shape no_shadow m ∙ first_mutex m) refl
+pub new_seen : (l : Bounds) → IsWithin l → world_of (new_table l) no_shadow ≡ empty_world l.signals
+unfolding places
+new_seen l within = same_world (world_of (new_table l) no_shadow) (empty_world l.signals)
+    (threads_shown shape no_shadow) (λ t i. first_thread t i)
+    (mutexes_shown shape no_shadow) (λ m. mutex_seen shape no_shadow m ∙ first_mutex m) first_variable refl refl
   where
     shape : IsShaped (new_table l)
     shape = (new_sound l within).all.shape
 
-    first_thread : (t : ℕ) → thread_shown (new_table l) t ≡ get_or (nobody ∷ []) t nobody
-    first_thread zero = refl
-    first_thread (suc t) = (λ i. record {
-      base = 0;
-      living = if not_below (suc t) 1
-          (omega arith) i then true else false;
-      call = None;
-    })
+    first_thread : (t : ℕ) → t < length (world_of (new_table l) no_shadow).threads
+        → thread_at (world_of (new_table l) no_shadow) t ≡ get_or (nobody ∷ []) t nobody
+    first_thread zero e = refl
+    first_thread (suc t) e = absurd (omega (arith, e, threads_shown shape no_shadow))
+
+    first_variable : (world_of (new_table l) no_shadow).variables ≡ no_variable ∷ []
+    first_variable = λ i. record { mutex = 0; uses = all_same (l.conds + 1) 0 0 i } ∷ []
 
     at_first : (m : ℕ) → record {
       kind = Normal;

@@ -7,11 +7,11 @@ use Rattle.std.proofs.lemmas.Bool.{true≢false, cases_eq, cases_Bool, cases_lt}
 use Rattle.std.proofs.lemmas.Bool.Decides.{nat_tests}
 use Rattle.std.proofs.lemmas.List.{set-set, set-get_or, length-set, get_or_past}
 use Rattle.pif_types.specs.declared.requests.Request.{Request}
-use Rattle.pif_types.specs.declared.requests.Request.TheVariants.{Lock, TryLock, Unlock, Consistent, SetPrio}
+use Rattle.pif_types.specs.declared.requests.Request.TheVariants.{Lock, TryLock, Unlock, Consistent, Wait, Signal, Broadcast, SetPrio}
 use Rattle.pif_model.specs.Graph.{without}
 use Rattle.pif_model.specs.Posix.{Health, Progress, Call, Thread, Mutex, World, nobody, no_mutex, thread_at, mutex_at, is_thread, is_living, is_mutex, with_thread, with_mutex, with_progress, progressed, on_taking, taken, with_health, on_death, named_by, Passes, Releases}
 use Rattle.pif_model.specs.Posix.Health.{Fine, Inconsistent, Unusable}
-use Rattle.pif_model.specs.Posix.Progress.{Fresh, Waiting}
+use Rattle.pif_model.specs.Posix.Progress.{Fresh, Waiting, Owing}
 use Rattle.pif_model.specs.Posix.Passes.{to_nobody, to_next}
 use Rattle.pif_model.specs.Posix.Releases.{none_left, one_more}
 use Rattle.pif_model.specs.Standing.{waited_in}
@@ -356,12 +356,24 @@ may_take m = ((λ n x c. lock x n c), (λ n x c. lock x n c), (λ n x c. try x n
     try Inconsistent n e = grind (arith, nat_tests)
     try Unusable n e = (e, refl)
 
+-- and so may a wait that has given it up
+pub wait_may_take : (c m : ℕ) → MayTake (Wait c m) Owing × MayTake (Wait c m) Waiting
+wait_may_take c m = ((λ n x e. takes x n e.0), (λ n x e. takes x n e.0))
+  where
+    takes : (x : Health) (n : ℕ) → n ≡ 1 → Counted (Wait c m) (on_taking x) n 1
+    takes Fine n e = grind (arith, nat_tests)
+    takes Inconsistent n e = grind (arith, nat_tests)
+    takes Unusable n e = (e, refl)
+
 -- and so may a call that waits for it
 waiting_takes : (q : Request) (m : ℕ) → waited_in q ≡ m → m ≢ 0 → (named_by q ≡ m) × MayTake q Waiting
 waiting_takes (Lock k) m e some = (e, (may_take k).1)
 waiting_takes (TryLock k) m e some = absurd (some (sym e))
 waiting_takes (Unlock k) m e some = absurd (some (sym e))
 waiting_takes (Consistent k) m e some = absurd (some (sym e))
+waiting_takes (Wait c k) m e some = (e, (wait_may_take c k).1)
+waiting_takes (Signal c) m e some = absurd (some (sym e))
+waiting_takes (Broadcast c) m e some = absurd (some (sym e))
 waiting_takes (SetPrio u p) m e some = absurd (some (sym e))
 
 -- m, which has no owner now, passes on

@@ -1,31 +1,31 @@
 -- How long a call goes on: each step that is answered Went leaves it at a place of lower rank, so of any 24 steps of
--- one
--- thread with nothing between one ends the call or waits. It holds of any table, sound or not.
-use Rattle.std.proofs.Common.{Bool, false, ◌≡◌, ◌≢◌, ◌⊎◌, inl, inr, ◌<◌, ◌≤◌, ℕ, zero, suc, ◌+◌, ◌-◌, true, ◌==◌, length, Result, Ok, Err, Option, Some, None, refl, sym, ap, ◌∙◌, subst, if◌then◌else◌, arith}
+-- one thread with nothing between one ends the call or waits. It holds of any table, sound or not.
+use Rattle.std.proofs.Common.{Bool, false, ◌≡◌, ◌≢◌, ◌⊎◌, inl, inr, ◌<◌, ◌≤◌, ℕ, zero, suc, ◌+◌, ◌-◌, true, ◌==◌, length, Result, Ok, Err, Option, Some, None, refl, sym, ap, ◌∙◌, subst, if◌then◌else◌, arith, min, eq-eqb}
 use Rattle.std.proofs.lemmas.Bool.{cases_lt, cases_eq, true≢false}
 use Rattle.std.proofs.lemmas.List.{get_or-set_same, get_or_past}
 use Rattle.pif_types.specs.declared.errors.Errno.{Errno}
-use Rattle.pif_types.specs.declared.errors.Errno.TheVariants.{NoSuchThread, Deadlock, Again}
+use Rattle.pif_types.specs.declared.errors.Errno.TheVariants.{NoSuchThread, Deadlock, Again, Fault, Invalid}
 use Rattle.pif_types.specs.declared.errors.Refusal.{Refusal}
 use Rattle.pif_types.specs.declared.requests.Request.{Request}
-use Rattle.pif_types.specs.declared.requests.Request.TheVariants.{Lock, TryLock, Unlock, Consistent, SetPrio}
+use Rattle.pif_types.specs.declared.requests.Request.TheVariants.{Lock, TryLock, Unlock, Consistent, Wait, Signal, Broadcast, SetPrio}
 use Rattle.pif_model.specs.declared.events.Event.TheVariants.{Go}
 use Rattle.pif_model.specs.declared.events.Seen.{Seen}
 use Rattle.pif_model.specs.declared.events.Seen.TheVariants.{Went, Answered, Refused}
 use Rattle.pif_model.specs.declared.lines.Line.{Line}
 use Rattle.pif_model.specs.declared.lines.Line.TheVariants.{Idle, At}
 use Rattle.pif_model.specs.declared.lines.Place.{Place}
-use Rattle.pif_model.specs.declared.lines.Place.TheVariants.{LockLoad, LockPending, LockExchange, LockKernel, LockQueued, LockStop, LockStopped, LockClear, TakeLoad, TakeHealth, TakeStore, TakeWord, LinkNext, LinkHead, LinkClear, LeaveExchange, LeaveKernel, LeaveClear, TryLoad, TryPending, TryExchange, TryKernel, TryClear, UnlockLoad, UnlockPending, UnlockHealth, UnlockStore, UnlockUnlink, UnlockExchange, UnlockKernel, UnlockClear, ConsistentLoad, ConsistentHealth, ConsistentStore, SetPriority}
+use Rattle.pif_model.specs.declared.lines.Place.TheVariants.{LockLoad, LockPending, LockExchange, LockKernel, LockQueued, LockStop, LockStopped, LockClear, TakeLoad, TakeHealth, TakeStore, TakeWord, LinkNext, LinkHead, LinkClear, LeaveExchange, LeaveKernel, LeaveClear, TryLoad, TryPending, TryExchange, TryKernel, TryClear, UnlockLoad, UnlockPending, UnlockHealth, UnlockStore, UnlockUnlink, UnlockExchange, UnlockKernel, UnlockClear, ConsistentLoad, ConsistentHealth, ConsistentStore, WaitLoad, WaitUses, WaitPending, WaitHealth, WaitStore, WaitUnlink, WaitExchange, WaitKernel, WaitPark, WaitParked, UseLoad, UseExchange, UseRequeue, UseReload, SetPriority}
 use Rattle.pif_model.specs.declared.lines.Took.{Took}
 use Rattle.pif_model.specs.declared.lines.Took.TheVariants.{Owns as TookOwns, Queued as TookQueued}
 use Rattle.pif_model.specs.Refusals.{go_refused}
-use Rattle.pif_model.specs.Word.{free_word, held_by}
-use Rattle.pif_model.specs.PiKernel.{Kernel, Seat, seat_at, has_seat, has_ended, state_at, next_in, is_living, lock_answer, words_after_lock, kernel_after_lock, try_lock_answer, words_after_try_lock, unlock_answer, words_after_unlock, kernel_after_unlock, kernel_after_hand_over, set_prio_answer}
-use Rattle.pif_model.specs.Table.{Table, cell_at, line_at, has_thread, with_line, with_word, with_count, with_kernel}
-use Rattle.pif_model.specs.Lines.{Outcome, goes_to, answers, ends_by, locked_again, own_exchange, lock_load, lock_by, lock_kernel, lock_queued, lock_stop, take_load, take_health, take_store, take_word_back, link_next, link_head, clears, leave_exchange, given_up_by, gives_up, try_load, try_by, try_kernel, unlock_load, unlock_health, unlock_exchange, consistent_load, consistent_health, answered_by, set_priority, shared_line, line_of, go_outcome, is_open, table_refusal, accepted_outcome, by_refusal, event_outcome, goes_on, ClosesOrWaits}
+use Rattle.pif_model.specs.Word.{free_word, held_by, word_at, has_word, has_cond_word}
+use Rattle.pif_model.specs.Posix.{variable_of}
+use Rattle.pif_model.specs.PiKernel.{Kernel, Seat, seat_at, has_seat, has_ended, state_at, next_in, is_living, lock_answer, words_after_lock, kernel_after_lock, try_lock_answer, words_after_try_lock, unlock_answer, words_after_unlock, kernel_after_unlock, kernel_after_hand_over, set_prio_answer, has_parked, parked_count, has_other_target, fits_state, wait_requeue_answer, kernel_after_wait_requeue, requeue_answer, after_requeue}
+use Rattle.pif_model.specs.Table.{Table, cell_at, line_at, has_thread, bound_to, uses_of, with_line, with_word, with_cond_word, with_count, with_kernel}
+use Rattle.pif_model.specs.Lines.{Outcome, goes_to, answers, ends_by, locked_again, own_exchange, lock_load, lock_by, lock_kernel, lock_queued, lock_stop, take_load, take_health, take_store, take_word_back, link_next, link_head, clears, leave_exchange, given_up_by, gives_up, try_load, try_by, try_kernel, unlock_load, unlock_health, unlock_exchange, consistent_load, consistent_health, answered_by, set_priority, wait_load, wait_uses, wait_health, wait_exchange, wait_by, wait_park, wait_parked, use_read, use_exchange, more_in, use_by, use_requeue, shared_line, locking_line, use_line, line_of, go_outcome, is_open, table_refusal, accepted_outcome, by_refusal, event_outcome, goes_on, ClosesOrWaits}
 use Rattle.pif_chains.proofs.KernelFacts.{living-added}
 use Rattle.pif_chains.proofs.KernelPlaces.{handed_has, handed_seat_same, handed_seat_other}
-use Rattle.pif_chains.proofs.LineCases.{ends_by_cases, locked_again_cases, own_exchange_cases, lock_load_cases, lock_queued_cases, take_health_cases, leave_exchange_cases, try_load_cases, unlock_load_cases, unlock_health_cases, unlock_exchange_cases, consistent_load_cases, consistent_health_cases, answered_by_cases}
+use Rattle.pif_chains.proofs.LineCases.{ends_by_cases, locked_again_cases, own_exchange_cases, lock_load_cases, lock_queued_cases, take_health_cases, leave_exchange_cases, try_load_cases, unlock_load_cases, unlock_health_cases, unlock_exchange_cases, consistent_load_cases, consistent_health_cases, wait_load_cases, wait_uses_cases, wait_health_cases, wait_exchange_cases, wait_parked_cases, use_read_cases, answered_by_cases}
 use Rattle.pif_chains.proofs.Waiting.{by_test}
 use Rattle.pif_simulation.proofs.Shown.{go_allowed}
 
@@ -57,12 +57,35 @@ rank UnlockExchange = 2
 rank UnlockKernel = 1
 rank ConsistentLoad = 2
 rank ConsistentHealth = 1
+rank WaitLoad = 17
+rank WaitUses = 16
+rank (WaitPending v) = 15
+rank (WaitHealth v) = 14
+rank (WaitStore v) = 13
+rank (WaitUnlink v) = 12
+rank (WaitExchange v) = 11
+rank (WaitKernel v) = 10
+rank (WaitPark v) = 9
+rank WaitParked = 9
+rank UseLoad = 5
+rank UseReload = 2
 rank _ = 0
 
+-- where it has read a condition word, by whether that is still what it was
+abbrev rank_in : Table → Request → Place → ℕ
+rank_in s q (UseExchange v) = if uses_of s (variable_of q) == v then 4 else 5
+rank_in s q (UseRequeue v) = if uses_of s (variable_of q) == v then 1 else 3
+rank_in s q p = rank p
+
 -- and at this line
-abbrev line_rank : Line → ℕ
-line_rank Idle = 0
-line_rank (At q p) = rank p
+abbrev line_rank : Table → Line → ℕ
+line_rank s Idle = 0
+line_rank s (At q p) = rank_in s q p
+
+-- either of two numbers
+of_two : (b : Bool) (i j n : ℕ) → i ≤ n → j ≤ n → (if b then i else j) ≤ n
+of_two true i j n a b = a
+of_two false i j n a b = b
 
 -- no rank is above 23
 low_rank : (p : Place) → rank p ≤ 23
@@ -92,12 +115,29 @@ low_rank UnlockExchange = omega arith
 low_rank UnlockKernel = omega arith
 low_rank ConsistentLoad = omega arith
 low_rank ConsistentHealth = omega arith
+low_rank WaitLoad = omega arith
+low_rank WaitUses = omega arith
+low_rank (WaitPending v) = omega arith
+low_rank (WaitHealth v) = omega arith
+low_rank (WaitStore v) = omega arith
+low_rank (WaitUnlink v) = omega arith
+low_rank (WaitExchange v) = omega arith
+low_rank (WaitKernel v) = omega arith
+low_rank (WaitPark v) = omega arith
+low_rank WaitParked = omega arith
+low_rank UseLoad = omega arith
+low_rank UseReload = omega arith
 low_rank _ = omega arith
 
+low_rank_in : (s : Table) (q : Request) (p : Place) → rank_in s q p ≤ 23
+low_rank_in s q (UseExchange v) = of_two (uses_of s (variable_of q) == v) 4 5 23 (omega arith) (omega arith)
+low_rank_in s q (UseRequeue v) = of_two (uses_of s (variable_of q) == v) 1 3 23 (omega arith) (omega arith)
+low_rank_in s q p = low_rank p
+
 -- and none at a line
-low_line : (l : Line) → line_rank l ≤ 23
-low_line Idle = omega arith
-low_line (At q p) = low_rank p
+low_line : (s : Table) (l : Line) → line_rank s l ≤ 23
+low_line s Idle = omega arith
+low_line s (At q p) = low_rank_in s q p
 
 -- an answer that closes the call or waits is not Went
 ends-not_went : (x : Seen) → ClosesOrWaits x → x ≢ Went
@@ -115,7 +155,7 @@ refused_not_went r h = absurd cc
 data Turns (t n : ℕ) (o : Outcome) : Type 0 where
   ends : ClosesOrWaits o.seen → Turns t n o
   goes : o.seen ≡ Went → is_living o.after.kernel t ≡ true → is_open (line_at o.after t) ≡ true
-      → line_rank (line_at o.after t) < n → Turns t n o
+      → line_rank o.after (line_at o.after t) < n → Turns t n o
 
 -- a line that is open is one of those that there are
 lined : (s : Table) (t : ℕ) → is_open (line_at s t) ≡ true → t < length s.lines
@@ -127,9 +167,9 @@ lined s t e = go (cases_lt t (length s.lines))
 
 -- to go on at a place of lower rank
 goes-turns : (s : Table) (t : ℕ) → is_living s.kernel t ≡ true → t < length s.lines
-    → (n : ℕ) (q : Request) (p : Place) → rank p < n
+    → (n : ℕ) (q : Request) (p : Place) → rank_in s q p < n
     → Turns t n (goes_to t q p s)
-goes-turns s t known l n q p less = goes refl known (ap is_open here) (subst (λ k. line_rank k < n) (sym here) less)
+goes-turns s t known l n q p less = goes refl known (ap is_open here) (subst (λ k. line_rank s k < n) (sym here) less)
   where
     here : line_at (with_line t (At q p) s) t ≡ At q p
     here = get_or-set_same s.lines t (At q p) Idle l
@@ -169,13 +209,13 @@ lives-handed k u m t l =
 
 module _ (s : Table) (t m : ℕ) (known : is_living s.kernel t ≡ true) (l : t < length s.lines) where
   -- a call that goes on for a robust mutex, and answers for a stalled one
-  ends_by-turns : (n : ℕ) (q : Request) (p : Place) (a : ℕ) → rank p < n → Turns t n (ends_by t q m p a s)
+  ends_by-turns : (n : ℕ) (q : Request) (p : Place) (a : ℕ) → rank_in s q p < n → Turns t n (ends_by t q m p a s)
   ends_by-turns n q p a less = ends_by_cases (Turns t n) q p a t m s (λ r. goes-turns s t known l n q p less)
       (λ r. answers-turns n t a s)
 
 module _ (s : Table) (t m : ℕ) (known : is_living s.kernel t ≡ true) (l : t < length s.lines) where
   -- lock and trylock: compare-exchange from 0 to t
-  own_exchange-turns : (n : ℕ) (q : Request) (p : Place) → rank p < n → 5 < n → Turns t n (own_exchange q p t m s)
+  own_exchange-turns : (n : ℕ) (q : Request) (p : Place) → rank_in s q p < n → 5 < n → Turns t n (own_exchange q p t m s)
   own_exchange-turns n q p less more = own_exchange_cases (Turns t n) q p t m s
       (λ d free r. goes-turns (with_word m (held_by t) s) t known l n q (TakeHealth false) more)
       (λ d free r. answers-turns n t 0 (with_word m (held_by t) s)) (goes-turns s t known l n q p less)
@@ -189,31 +229,31 @@ module _ (s : Table) (t m : ℕ) (known : is_living s.kernel t ≡ true) (l : t 
       (λ other r. goes-turns s t known l 10 (Lock m) LockExchange (omega arith))
 
   -- lock: the kernel call lock_pi
-  lock_kernel-turns : Turns t 7 (lock_kernel (Lock m) t m s)
+  lock_kernel-turns : (q : Request) → Turns t 7 (lock_kernel q t m s)
   unfolding lock_kernel lock_by kernel_after_lock
-  lock_kernel-turns = by_answer (lock_answer t m s.words s.kernel)
+  lock_kernel-turns q = by_answer (lock_answer t m s.words s.kernel)
     where
-      by_answer : (a : Result Took Errno) → Turns t 7 (lock_by a (Lock m) t m
+      by_answer : (a : Result Took Errno) → Turns t 7 (lock_by a q t m
           (with_kernel (words_after_lock t m a s.words) (kernel_after_lock t m a s.words s.kernel) s))
       by_answer (Ok TookOwns) = ends_by-turns (with_kernel (words_after_lock t m (Ok TookOwns) s.words) s.kernel s) t
-          m known l 7 (Lock m) TakeLoad 0 (omega arith)
+          m known l 7 q TakeLoad 0 (omega arith)
       by_answer (Ok TookQueued) = ends (inl refl)
       by_answer (Err Deadlock) = ends_by-turns (with_kernel (words_after_lock t m (Err Deadlock) s.words) s.kernel s)
-          t m known l 7 (Lock m) LockClear 35 (omega arith)
+          t m known l 7 q LockClear 35 (omega arith)
       by_answer (Err NoSuchThread) = goes-turns (with_kernel
-          (words_after_lock t m (Err NoSuchThread) s.words) s.kernel s) t known l 7 (Lock m) LockStop (omega arith)
+          (words_after_lock t m (Err NoSuchThread) s.words) s.kernel s) t known l 7 q LockStop (omega arith)
       by_answer (Err _) = ends (inr (_, refl))
 
   -- lock: queued, or made the owner
-  lock_queued-turns : Turns t 6 (lock_queued (Lock m) t m s)
-  lock_queued-turns = lock_queued_cases (Turns t 6) (Lock m) t m s
-      (λ e r. goes-turns s t known l 6 (Lock m) (TakeHealth (cell_at s m).word.died) (omega arith))
-      (λ e r. answers-turns 6 t 0 s) (λ e. ends (inl refl))
+  lock_queued-turns : (n : ℕ) (q : Request) → 5 < n → Turns t n (lock_queued q t m s)
+  lock_queued-turns n q more = lock_queued_cases (Turns t n) q t m s
+      (λ e r. goes-turns s t known l n q (TakeHealth (cell_at s m).word.died) more)
+      (λ e r. answers-turns n t 0 s) (λ e. ends (inl refl))
 
   -- lock: stop for good
-  lock_stop-turns : Turns t 0 (lock_stop (Lock m) t s)
+  lock_stop-turns : (q : Request) → Turns t 0 (lock_stop q t s)
   unfolding lock_stop
-  lock_stop-turns = ends (inl refl)
+  lock_stop-turns q = ends (inl refl)
 
   -- taking over: load the health word
   take_health-turns : (q : Request) (d : Bool) → Turns t 5 (take_health q d t m s)
@@ -243,6 +283,47 @@ module _ (s : Table) (t m : ℕ) (known : is_living s.kernel t ≡ true) (l : t 
           ≡ true) (state_at s.kernel m == 0)
           (λ e. known) (λ e. lives-handed s.kernel (next_in s.kernel m) m t known)) l
       by_answer (Err e) = ends (inr (_, refl))
+
+  -- wait: load the word
+  wait_load-turns : (c : ℕ) → Turns t 17 (wait_load c m t s)
+  wait_load-turns c = wait_load_cases (Turns t 17) c m t s (λ b own more. answers-turns 17 t 22 s)
+      (λ b own few. goes-turns s t known l 17 (Wait c m) WaitUses (omega arith)) (λ b other. answers-turns 17 t 1 s)
+      (λ apart. answers-turns 17 t 22 s)
+
+  -- wait: load the condition word
+  wait_uses-turns : (c : ℕ) → Turns t 16 (wait_uses c m t s)
+  wait_uses-turns c = wait_uses_cases (Turns t 16) c m t s
+      (λ r. goes-turns s t known l 16 (Wait c m) (WaitPending (uses_of s c)) (omega arith))
+      (λ r. goes-turns s t known l 16 (Wait c m) (WaitExchange (uses_of s c)) (omega arith))
+
+  -- wait: load the health word
+  wait_health-turns : (v c : ℕ) → Turns t 14 (wait_health v c m t s)
+  wait_health-turns v c = wait_health_cases (Turns t 14) v c m t s
+      (λ e. goes-turns s t known l 14 (Wait c m) (WaitStore v) (omega arith))
+      (λ e. goes-turns s t known l 14 (Wait c m) (WaitUnlink v) (omega arith))
+
+  -- wait: compare-exchange from t to 0
+  wait_exchange-turns : (v c : ℕ) → Turns t 11 (wait_exchange v c m t s)
+  wait_exchange-turns v c = wait_exchange_cases (Turns t 11) v c m t s
+      (λ w d n. goes-turns (with_word m free_word s) t known l 11 (Wait c m) (WaitPark v) (omega arith))
+      (goes-turns s t known l 11 (Wait c m) (WaitKernel v) (omega arith))
+
+  -- wait: the kernel call wait_requeue_pi
+  wait_park-turns : (v c : ℕ) → Turns t 9 (wait_park v c m t s)
+  unfolding wait_park wait_by kernel_after_wait_requeue
+  wait_park-turns v c = by_answer (wait_requeue_answer c v m s.words)
+    where
+      by_answer : (a : Result (record {}) Errno) → Turns t 9
+          (wait_by a c m t (with_kernel s.words (kernel_after_wait_requeue t c m a s.kernel) s))
+      by_answer (Ok x) = ends (inl refl)
+      by_answer (Err Again) = goes-turns s t known l 9 (Wait c m) LockExchange (omega arith)
+      by_answer (Err _) = ends (inr (_, refl))
+
+  -- wait: parked, or woken since
+  wait_parked-turns : (c : ℕ) → Turns t 9 (wait_parked c m t s)
+  wait_parked-turns c = wait_parked_cases (Turns t 9) c m t s
+      (λ e. own_exchange-turns 9 (Wait c m) LockKernel (omega arith) (omega arith))
+      (λ e. lock_queued-turns 9 (Wait c m) (omega arith))
 
   -- trylock: load the word
   try_load-turns : Turns t 10 (try_load t m s)
@@ -298,7 +379,7 @@ module _ (s : Table) (t m : ℕ) (known : is_living s.kernel t ≡ true) (l : t 
 
 -- each step of taking over or leaving ends the call, or leaves it at a place of lower rank
 shared-turns : (q : Request) (p : Place) (t m : ℕ) (s : Table) → is_living s.kernel t ≡ true → t < length s.lines
-    → Turns t (rank p) (shared_line q p t m s)
+    → Turns t (rank_in s q p) (shared_line q p t m s)
 unfolding shared_line take_load take_store take_word_back link_next link_head clears
 shared-turns q TakeLoad t m s k l = goes-turns s t k l 6 q (TakeHealth (cell_at s m).word.died) (omega arith)
 shared-turns q (TakeHealth d) t m s k l = take_health-turns s t m k l q d
@@ -311,22 +392,88 @@ shared-turns q LeaveExchange t m s k l = leave_exchange-turns s t m k l q
 shared-turns q LeaveKernel t m s k l = gives_up-turns s t m k l 1 (goes_to t q LeaveClear)
     (λ v e b. goes-turns v t e b 1 q LeaveClear (omega arith))
 shared-turns q LeaveClear t m s k l = ends (inr (131, refl))
-shared-turns q p t m s k l = answers-turns (rank p) t 22 s
+shared-turns q p t m s k l = answers-turns (rank_in s q p) t 22 s
+
+-- cmp_requeue_pi answers EAGAIN only where the condition word is another
+changed_since : (c m more v : ℕ) (s : Table) → requeue_answer c m 1 more v s.words s.kernel ≡ Err Again
+    → (uses_of s c == v) ≡ false
+unfolding requeue_answer
+changed_since c m more v s e = go (if has_cond_word s.words c then has_word s.words m else false) (uses_of s c == v)
+    (has_other_target s.kernel c m) (has_parked s.kernel c)
+    (fits_state (word_at s.words m).number (state_at s.kernel m) s.kernel)
+    (min (parked_count s.kernel c) (more + 1)) e
+  where
+    go : (there same other some fits : Bool) (n : ℕ) → (if there then (if same then (if other then Err Invalid else
+        (if some then (if fits then Ok n else Err Invalid) else Ok 0)) else Err Again) else Err Fault) ≡ Err Again
+        → same ≡ false
+    go true false other some fits n e = refl
+    go true true true some fits n e = absurd (cc)
+    go true true false true true n e = absurd (cc)
+    go true true false true false n e = absurd (cc)
+    go true true false false fits n e = absurd (cc)
+    go false same other some fits n e = absurd (cc)
+
+-- each step of a request that may queue, from the exchange on
+locking-turns : (q : Request) (p : Place) (t m : ℕ) (s : Table) → is_living s.kernel t ≡ true → t < length s.lines
+    → Turns t (rank_in s q p) (locking_line q p t m s)
+unfolding locking_line clears
+locking-turns q LockExchange t m s k l = own_exchange-turns s t m k l 8 q LockKernel (omega arith) (omega arith)
+locking-turns q LockKernel t m s k l = lock_kernel-turns s t m k l q
+locking-turns q LockQueued t m s k l = lock_queued-turns s t m k l 6 q (omega arith)
+locking-turns q LockStop t m s k l = lock_stop-turns s t m k l q
+locking-turns q LockStopped t m s k l = ends (inl refl)
+locking-turns q LockClear t m s k l = ends (inr (35, refl))
+locking-turns q p t m s k l = shared-turns q p t m s k l
+
+-- how often a variable was used is read, before the exchange
+use_read-turns : (s : Table) (t : ℕ) → is_living s.kernel t ≡ true → t < length s.lines → (n : ℕ) (q : Request) → 4 < n
+    → Turns t n (use_read q (uses_of s (variable_of q)) t s)
+use_read-turns s t known l n q more = use_read_cases (Turns t n) q (uses_of s (variable_of q)) t s
+    (λ e. answers-turns n t 75 s)
+    (λ e. goes-turns s t known l n q (UseExchange (uses_of s (variable_of q)))
+    (subst (λ b. (if b then 4 else 5) < n) (sym (eq-eqb (uses_of s (variable_of q)) (uses_of s (variable_of q)) refl))
+    more))
+
+-- each step of a signal or a broadcast
+use-turns : (q : Request) (p : Place) (t : ℕ) (s : Table) → is_living s.kernel t ≡ true → t < length s.lines
+    → Turns t (rank_in s q p) (use_line q p (variable_of q) t s)
+unfolding use_line use_exchange use_requeue use_by after_requeue
+use-turns q UseLoad t s k l = use_read-turns s t k l 5 q (omega arith)
+use-turns q (UseExchange v) t s k l = by_test (λ b. Turns t (if b then 4 else 5) (if b
+    then goes_to t q (UseRequeue (v + 1)) (with_cond_word (variable_of q) (v + 1) s)
+    else use_read q (uses_of s (variable_of q)) t s)) (uses_of s (variable_of q) == v)
+    (λ e. goes-turns (with_cond_word (variable_of q) (v + 1) s) t k l 4 q (UseRequeue (v + 1))
+    (below_4 (uses_of (with_cond_word (variable_of q) (v + 1) s) (variable_of q) == v + 1)))
+    (λ e. use_read-turns s t k l 5 q (omega arith))
+  where
+    below_4 : (b : Bool) → (if b then 1 else 3) < 4
+    below_4 true = omega arith
+    below_4 false = omega arith
+use-turns q (UseRequeue v) t s k l = by_answer (requeue_answer (variable_of q) (bound_to s (variable_of q)) 1 (more_in q) v
+    s.words s.kernel) refl
+  where
+    by_answer : (a : Result ℕ Errno)
+        → requeue_answer (variable_of q) (bound_to s (variable_of q)) 1 (more_in q) v s.words s.kernel ≡ a
+        → Turns t (if uses_of s (variable_of q) == v then 1 else 3) (use_by a q t (with_kernel
+        (after_requeue (variable_of q) (bound_to s (variable_of q)) (more_in q) a s.words s.kernel).words
+        (after_requeue (variable_of q) (bound_to s (variable_of q)) (more_in q) a s.words s.kernel).kernel s))
+    by_answer (Ok n) e = ends (inr (0, refl))
+    by_answer (Err Again) e = goes-turns s t k l _ q UseReload
+        (subst (λ b. 2 < (if b then 1 else 3)) (sym (changed_since (variable_of q) (bound_to s (variable_of q)) (more_in q)
+        v s e)) (omega arith))
+    by_answer (Err x) e = ends (inr (_, refl))
+use-turns q UseReload t s k l = goes-turns s t k l 2 q (UseRequeue (uses_of s (variable_of q)))
+    (subst (λ b. (if b then 1 else 3) < 2) (sym (eq-eqb (uses_of s (variable_of q)) (uses_of s (variable_of q)) refl))
+    (omega arith))
+use-turns q p t s k l = answers-turns (rank_in s q p) t 22 s
 
 -- each step of a call ends it, waits, or leaves it at a place of lower rank
 line-turns : (q : Request) (p : Place) (t : ℕ) (s : Table) → is_living s.kernel t ≡ true → t < length s.lines
-    → Turns t (rank p) (line_of q p t s)
+    → Turns t (rank_in s q p) (line_of q p t s)
 unfolding line_of clears set_priority
 line-turns (Lock m) LockLoad t s k l = lock_load-turns s t m k l
 line-turns (Lock m) LockPending t s k l = goes-turns _ t k l 9 (Lock m) LockExchange (omega arith)
-line-turns (Lock m) LockExchange t s k l = own_exchange-turns s t m k l 8 (Lock m) LockKernel (omega arith)
-    (omega arith)
-line-turns (Lock m) LockKernel t s k l = lock_kernel-turns s t m k l
-line-turns (Lock m) LockQueued t s k l = lock_queued-turns s t m k l
-line-turns (Lock m) LockStop t s k l = lock_stop-turns s t m k l
-line-turns (Lock m) LockStopped t s k l = ends (inl refl)
-line-turns (Lock m) LockClear t s k l = ends (inr (35, refl))
-line-turns (Lock m) p t s k l = shared-turns (Lock m) p t m s k l
+line-turns (Lock m) p t s k l = locking-turns (Lock m) p t m s k l
 line-turns (TryLock m) TryLoad t s k l = try_load-turns s t m k l
 line-turns (TryLock m) TryPending t s k l = goes-turns _ t k l 9 (TryLock m) TryExchange (omega arith)
 line-turns (TryLock m) TryExchange t s k l = own_exchange-turns s t m k l 8 (TryLock m) TryKernel (omega arith)
@@ -346,8 +493,22 @@ line-turns (Unlock m) UnlockClear t s k l = ends (inr (0, refl))
 line-turns (Consistent m) ConsistentLoad t s k l = consistent_load-turns s t m k l
 line-turns (Consistent m) ConsistentHealth t s k l = consistent_health-turns s t m k l
 line-turns (Consistent m) ConsistentStore t s k l = ends (inr (0, refl))
+line-turns (Wait c m) WaitLoad t s k l = wait_load-turns s t m k l c
+line-turns (Wait c m) WaitUses t s k l = wait_uses-turns s t m k l c
+line-turns (Wait c m) (WaitPending v) t s k l = goes-turns _ t k l 15 (Wait c m) (WaitHealth v) (omega arith)
+line-turns (Wait c m) (WaitHealth v) t s k l = wait_health-turns s t m k l v c
+line-turns (Wait c m) (WaitStore v) t s k l = goes-turns _ t k l 13 (Wait c m) (WaitUnlink v) (omega arith)
+line-turns (Wait c m) (WaitUnlink v) t s k l = goes-turns _ t k l 12 (Wait c m) (WaitExchange v) (omega arith)
+line-turns (Wait c m) (WaitExchange v) t s k l = wait_exchange-turns s t m k l v c
+line-turns (Wait c m) (WaitKernel v) t s k l = gives_up-turns s t m k l 10 (goes_to t (Wait c m) (WaitPark v))
+    (λ x e b. goes-turns x t e b 10 (Wait c m) (WaitPark v) (omega arith))
+line-turns (Wait c m) (WaitPark v) t s k l = wait_park-turns s t m k l v c
+line-turns (Wait c m) WaitParked t s k l = wait_parked-turns s t m k l c
+line-turns (Wait c m) p t s k l = locking-turns (Wait c m) p t m s k l
+line-turns (Signal c) p t s k l = use-turns (Signal c) p t s k l
+line-turns (Broadcast c) p t s k l = use-turns (Broadcast c) p t s k l
 line-turns (SetPrio u n) SetPriority t s k l = answered_by-turns 0 t (set_prio_answer u n s.kernel) _
-line-turns _ p t s k l = answers-turns (rank p) t 22 s
+line-turns q p t s k l = answers-turns (rank_in s q p) t 22 s
 
 -- a step of t is not refused where its call is open
 open_step : (s : Table) (t : ℕ) → is_living s.kernel t ≡ true → is_open (line_at s t) ≡ true
@@ -357,15 +518,15 @@ open_step s t known busy = λ i. by_refusal (go_refused (living-added s.kernel t
 
 -- a step of what is open at a line
 go_outcome-turns : (s : Table) (t : ℕ) (l : Line) → is_living s.kernel t ≡ true → t < length s.lines
-    → is_open l ≡ true → Turns t (line_rank l) (go_outcome l t s)
+    → is_open l ≡ true → Turns t (line_rank s l) (go_outcome l t s)
 unfolding go_outcome
 go_outcome-turns s t Idle known b e = absurd cc
 go_outcome-turns s t (At q p) known b e = line-turns q p t s known b
 
 -- a step of an open call ends it, waits, or leaves it at a line of lower rank
 step-turns : (s : Table) (t : ℕ) → is_living s.kernel t ≡ true → is_open (line_at s t) ≡ true
-    → Turns t (line_rank (line_at s t)) (event_outcome (Go t) s)
-step-turns s t known busy = subst (Turns t (line_rank (line_at s t))) (sym (open_step s t known busy))
+    → Turns t (line_rank s (line_at s t)) (event_outcome (Go t) s)
+step-turns s t known busy = subst (Turns t (line_rank s (line_at s t))) (sym (open_step s t known busy))
     (go_outcome-turns s t (line_at s t) known (lined s t busy) busy)
 
 -- of a first step, which was answered x, and what follows it: the last one
@@ -380,7 +541,7 @@ last-ends first later x (inr e) = ap (last first later) e.1
 -- a step of t that turns, with what follows it, ends the call or waits, where what follows does
 turn-ends : (t n : ℕ) (first later : Outcome) → Turns t n first
     → (is_living first.after.kernel t ≡ true → is_open (line_at first.after t) ≡ true
-    → line_rank (line_at first.after t) < n → ClosesOrWaits later.seen)
+    → line_rank first.after (line_at first.after t) < n → ClosesOrWaits later.seen)
     → ClosesOrWaits (last first later first.seen).seen
 turn-ends t n first later (ends e) h = subst (λ (o : Outcome). ClosesOrWaits o.seen)
     (sym (last-ends first later first.seen e)) e
@@ -394,11 +555,11 @@ last_turn-ends t n first (goes e known busy less) low = absurd (omega arith)
 
 -- going on as often as the rank says ends the call or waits
 ends_within : (n t : ℕ) (s : Table) → is_living s.kernel t ≡ true → is_open (line_at s t) ≡ true
-    → line_rank (line_at s t) ≤ n → ClosesOrWaits (goes_on n t s).seen
+    → line_rank s (line_at s t) ≤ n → ClosesOrWaits (goes_on n t s).seen
 unfolding goes_on
-ends_within zero t s known busy low = last_turn-ends t (line_rank (line_at s t)) (event_outcome (Go t) s)
+ends_within zero t s known busy low = last_turn-ends t (line_rank s (line_at s t)) (event_outcome (Go t) s)
     (step-turns s t known busy) low
-ends_within (suc n) t s known busy low = turn-ends t (line_rank (line_at s t)) (event_outcome (Go t) s)
+ends_within (suc n) t s known busy low = turn-ends t (line_rank s (line_at s t)) (event_outcome (Go t) s)
     (goes_on n t (event_outcome (Go t) s).after) (step-turns s t known busy)
     (λ k b less. ends_within n t (event_outcome (Go t) s).after k b (omega arith))
 
@@ -412,7 +573,7 @@ refused-last n t s r e = ap (λ (o : Option Refusal). (last (by_refusal o (Go t)
 -- of 24 steps of a thread with a call open one closes it or waits
 pub open_ends_within_24 : (t : ℕ) (s : Table) → is_living s.kernel t ≡ true → is_open (line_at s t) ≡ true
     → ClosesOrWaits (goes_on 23 t s).seen
-open_ends_within_24 t s known busy = ends_within 23 t s known busy (low_line (line_at s t))
+open_ends_within_24 t s known busy = ends_within 23 t s known busy (low_line s (line_at s t))
 
 -- of 24 steps of a thread one is not answered Went
 pub ends_within_24 : (t : ℕ) (s : Table) → (goes_on 23 t s).seen ≢ Went

@@ -8,12 +8,12 @@ use Rattle.pif_model.specs.declared.lines.Line.TheVariants.{Idle}
 use Rattle.pif_model.specs.declared.lines.Status.TheVariants.{Queued, Ended}
 use Rattle.pif_model.specs.Graph.{has_waiter, without, next_waiter}
 use Rattle.pif_model.specs.Word.{Word, orphan_word, inherit_word, word_at, health_word_at, set_word}
-use Rattle.pif_model.specs.Posix.{Thread, Mutex, World, Passes, nobody, no_mutex, thread_at, mutex_at, with_mutex, with_health, taken, on_taking, on_death, progressed, effective_of, next_of}
+use Rattle.pif_model.specs.Posix.{Thread, Mutex, is_call_blocked, World, Passes, nobody, no_mutex, thread_at, mutex_at, with_mutex, with_health, taken, on_taking, on_death, progressed, effective_of, next_of}
 use Rattle.pif_model.specs.Posix.Passes.{to_nobody, to_next}
 use Rattle.pif_model.specs.PiKernel.{Kernel, IsKernel, seat_at, state_at, is_living, next_in, kernel_after_hand_over}
 use Rattle.pif_model.specs.RobustList.{no_robust_row, robust_at}
-use Rattle.pif_model.specs.Table.{Table, Cell, has_thread, has_mutex, status_at, line_at, library_at, cell_at}
-use Rattle.pif_model.specs.Standing.{Shadow, call_at, health_of, health_at, thread_shown, mutex_shown, world_of, CellIsSound, SoundBut}
+use Rattle.pif_model.specs.Table.{Table, Cell, has_thread, has_mutex, bound_to, uses_of, status_at, line_at, library_at, cell_at}
+use Rattle.pif_model.specs.Standing.{Shadow, memory_at, call_shown, call_at, health_of, health_at, thread_shown, mutex_shown, world_of, CellIsSound, SoundBut}
 use Rattle.pif_chains.proofs.Greatest.{effective_same}
 use Rattle.pif_chains.proofs.KernelFacts.{next-some, next-added}
 use Rattle.pif_chains.proofs.Numbers.{above_0, below}
@@ -23,10 +23,11 @@ use Rattle.pif_simulation.proofs.Kept.{held_once}
 use Rattle.pif_simulation.proofs.Hole.{Changes, change_kept}
 use Rattle.pif_simulation.proofs.Healths.{health-cases, health-unusable, health-inconsistent, health-behind}
 use Rattle.pif_simulation.proofs.Shown.{threads_shown, mutexes_shown, thread_seen, mutex_seen}
-use Rattle.pif_simulation.proofs.Written.{written, cell_written, no_call, changes, cell_here, line_here, list_here, call_there, thread_here, thread_there, shows, same_health, same_list}
+use Rattle.pif_simulation.proofs.Written.{written, cell_written, no_call, changes, cell_here, line_here, list_here, call_there, thread_here, thread_there, shows, frames_written, same_health, same_list}
 use Rattle.pif_simulation.proofs.Effective.{next_seen_but}
 use Rattle.pif_simulation.proofs.Owning.{next_none}
-use Rattle.pif_simulation.proofs.HandOver.{HandsOver, other, line_t, cell_m, handed_sound, handed_kernel, handed_mutexes, handed_robust, handed_cells, handed_shown, status_t, living_kept}
+use Rattle.pif_simulation.proofs.Agreement.{Frames, quiet, was_not}
+use Rattle.pif_simulation.proofs.HandOver.{HandsOver, other, line_t, cell_m, handed_sound, handed_kernel, handed_mutexes, handed_robust, handed_cells, handed_shown, handed_frames, status_t, living_kept}
 
 -- the health that a mutex has once its owner has ended
 death-health : (h : ℕ) (d : Bool) → health_of h true ≡ on_death (health_of h d)
@@ -54,6 +55,8 @@ pub record HasPassed (s v : Table) (t m : ℕ) : Type 0 where
   pub cells : (j : ℕ) → j ≢ m → cell_at v j ≡ cell_at s j
   pub number : (word_at v.words m).number ≢ t
   pub count : (library_at v m).count ≡ 1
+  -- who was found blocked stays so
+  pub frames : Frames s v
   pub passes : (y : Shadow) → Passes m (with_health m (on_death (mutex_at (world_of s y) m).health) (world_of s y))
       (world_of v y)
 
@@ -124,9 +127,13 @@ module _ (s : Table) (t m : ℕ) (h : IsDead s t) (named : has_mutex s m ≡ tru
         (λ x. kept_at (λ (z : Mutex). z.owner) w.mutexes m behind no_mutex refl _) (λ x. refl)))
 
   -- t in the world
-  none_called : (y : Shadow) → thread_at (world_of s y) t ≡ record (thread_shown s t) { call = None }
-  none_called y = thread_seen h.sound.shape y t ∙ (λ i.
-      record (thread_shown s t) { call = call_at (health_at s) (h.line i) (status_at s t) })
+  none_called : (y : Shadow) → thread_at (world_of s y) t ≡ record (thread_shown s y t) { call = None }
+  none_called y = thread_seen h.sound.shape y t h.lined ∙ (λ i.
+      record (thread_shown s y t) { call = call_at (health_at s) (uses_of s) (h.line i) (status_at s t) })
+
+  -- where t has no call then, it is not blocked
+  not_blocked : (z : Table) → line_at z t ≡ Idle → (c : ℕ) → is_call_blocked c (call_shown z t) ≡ false
+  not_blocked z e c = ap (λ l. is_call_blocked c (call_at (health_at z) (uses_of z) l (status_at z t))) e
 
   -- TO NOBODY
 
@@ -139,7 +146,7 @@ module _ (s : Table) (t m : ℕ) (h : IsDead s t) (named : has_mutex s m ≡ tru
 
     change : Changes (λ u. u ≡ t) s v m
     change = changes s t m Idle no_robust_row x a 1 s.kernel h.somebody h.lined h.row ml h.sound.shape refl
-        (no_call (λ u. u ≡ t) s.kernel m)
+        (no_call (λ u. u ≡ t) (bound_to s) s.kernel m)
         (λ e. absurd (above_0 m (length s.mutexes) named e))
         (λ e. record {
           count = held_once (cell_at s m).kind 0 1 refl;
@@ -168,14 +175,20 @@ module _ (s : Table) (t m : ℕ) (h : IsDead s t) (named : has_mutex s m ≡ tru
     cell = cell_here s t m Idle no_robust_row x a 1 s.kernel h.somebody h.lined h.row ml h.sound.shape
 
     -- the calls of others have come as far as before
-    calls : (u : ℕ) → u ≢ t → call_at (health_at v) (line_at s u) (status_at s u) ≡ call_at (health_at s)
-        (line_at s u) (status_at s u)
-    calls u d = by_test (λ b. is_living s.kernel u ≡ b → call_at (health_at v) (line_at s u) (status_at s u) ≡ call_at
-        (health_at s) (line_at s u) (status_at s u)) (is_living s.kernel u)
+    calls : (u : ℕ) → u ≢ t → call_at (health_at v) (uses_of s) (line_at s u) (status_at s u) ≡ call_shown s u
+    calls u d = by_test (λ b. is_living s.kernel u ≡ b → call_at (health_at v) (uses_of s) (line_at s u)
+        (status_at s u) ≡ call_shown s u) (is_living s.kernel u)
         (λ e _. call_there s t m Idle no_robust_row x a 1 s.kernel h.somebody h.lined h.row ml h.sound.shape u
         (inr (λ o. d (sym o ∙ own))) (h.sound.threads u e d))
-        (λ e _. subst (λ l. call_at (health_at v) l (status_at s u) ≡ call_at (health_at s) l (status_at s u))
-        (sym (h.sound.absent u e d).line) refl) refl
+        (λ e _. subst (λ l. call_at (health_at v) (uses_of s) l (status_at s u)
+        ≡ call_at (health_at s) (uses_of s) l (status_at s u)) (sym (h.sound.absent u e d).line) refl) refl
+
+    line_v : line_at v t ≡ Idle
+    line_v = line_here s t m Idle no_robust_row x a 1 s.kernel h.somebody h.lined h.row ml h.sound.shape
+
+    orphan_frames : Frames s v
+    orphan_frames = frames_written s t m Idle no_robust_row x a 1 s.kernel h.somebody h.lined h.row ml h.sound.shape
+        (λ u d. refl) calls (quiet refl refl) (λ e. was_not s v t (not_blocked v line_v))
 
     orphan_shown : (y : Shadow) → world_of v y ≡ with_mutex m (record (mutex_at (w1 y) m) { owner = 0; count = 1 })
         (w1 y)
@@ -186,15 +199,20 @@ module _ (s : Table) (t m : ℕ) (h : IsDead s t) (named : has_mutex s m ≡ tru
         (threads_shown h.sound.shape y)
         (length-set (w1 y).mutexes m z ∙ length-set (world_of s y).mutexes m (behind y)
         ∙ mutexes_shown h.sound.shape y) refl
-        (thread_here s t m Idle no_robust_row x a 1 s.kernel h.somebody h.lined h.row ml h.sound.shape
+        (thread_here s t m Idle no_robust_row x a 1 s.kernel h.somebody h.lined h.row ml h.sound.shape y
         ∙ sym (none_called y))
-        (λ u d. thread_there s t m Idle no_robust_row x a 1 s.kernel h.somebody h.lined h.row ml h.sound.shape u d
-        ∙ (λ i. record { base = (seat_at s.kernel u).base; living = is_living s.kernel u; call = calls u d i })
-        ∙ sym (thread_seen h.sound.shape y u))
+        (λ u f d. thread_there s t m Idle no_robust_row x a 1 s.kernel h.somebody h.lined h.row ml h.sound.shape y u d
+        ∙ (λ i. record {
+          base = (seat_at s.kernel u).base;
+          living = is_living s.kernel u;
+          call = calls u d i;
+          memory = memory_at y u;
+        })
+        ∙ sym (thread_seen h.sound.shape y u f))
         (sym (get_or-set_same (w1 y).mutexes m z no_mutex (mw1 y)
         ∙ (λ i. record (behind_seen y i) { owner = 0; count = 1 })))
         (λ j d. sym (get_or-set_other (w1 y).mutexes m j z no_mutex d
-        ∙ get_or-set_other (world_of s y).mutexes m j (behind y) no_mutex d ∙ mutex_seen h.sound.shape y j))
+        ∙ get_or-set_other (world_of s y).mutexes m j (behind y) no_mutex d ∙ mutex_seen h.sound.shape y j)) refl refl
 
     -- it passes on to nobody
     pub passes_to_nobody : HasPassed s (passed_table x s.kernel) t m
@@ -215,6 +233,7 @@ module _ (s : Table) (t m : ℕ) (h : IsDead s t) (named : has_mutex s m ≡ tru
       cells = change.cells;
       number = λ e. h.somebody (sym (sym (ap (λ (d : Cell). d.word.number) cell) ∙ e));
       count = ap (λ (d : Cell). d.count) cell;
+      frames = orphan_frames;
       passes = λ y. to_nobody (next_none (effective_of (w1 y)) s.kernel.waiters m alone) (orphan_shown y);
     })
 
@@ -263,13 +282,17 @@ module _ (s : Table) (t m : ℕ) (h : IsDead s t) (named : has_mutex s m ≡ tru
         ∙ mutexes_shown h.sound.shape y) refl
         (get_or-set_other (world_of s y).threads u t z nobody (λ e. other hands (sym e)) ∙ none_called y)
         (get_or-set_same (world_of s y).threads u z nobody (uw y)
-        ∙ (λ i. record (thread_seen h.sound.shape y u i)
-        { call = progressed (on_taking (behind_seen y i).health) (thread_seen h.sound.shape y u i).call }))
-        (λ j d e. get_or-set_other (world_of s y).threads u j z nobody e ∙ thread_seen h.sound.shape y j)
+        ∙ (λ i. record (thread_seen h.sound.shape y u ul i)
+        { call = progressed (on_taking (behind_seen y i).health) (thread_seen h.sound.shape y u ul i).call }))
+        (λ j f d e. get_or-set_other (world_of s y).threads u j z nobody e ∙ thread_seen h.sound.shape y j f)
         (get_or-set_same (w1 y).mutexes m o no_mutex (mw1 y) ∙ (λ i. record (behind_seen y i) { owner = u; count = 1 }))
         (λ j d. get_or-set_other (w1 y).mutexes m j o no_mutex d
-        ∙ get_or-set_other (world_of s y).mutexes m j (behind y) no_mutex d ∙ mutex_seen h.sound.shape y j)
+        ∙ get_or-set_other (world_of s y).mutexes m j (behind y) no_mutex d ∙ mutex_seen h.sound.shape y j) refl refl
       where
+        ul : u < length s.lines
+        ul = subst (λ j. u < j) (sym h.sound.shape.lines)
+            (below u (length s.kernel.seats) (next-added s.kernel h.kernel m state))
+
         uw : (y : Shadow) → u < length (world_of s y).threads
         uw y = subst (λ j. u < j) (sym (threads_shown h.sound.shape y ∙ h.sound.shape.lines))
             (below u (length s.kernel.seats) (next-added s.kernel h.kernel m state))
@@ -293,6 +316,7 @@ module _ (s : Table) (t m : ℕ) (h : IsDead s t) (named : has_mutex s m ≡ tru
       cells = handed_cells hands;
       number = λ e. other hands (sym (ap (λ (d : Cell). d.word.number) (cell_m hands)) ∙ e);
       count = ap (λ (d : Cell). d.count) (cell_m hands);
+      frames = handed_frames hands (quiet refl refl) (λ e. was_not s next_table t (not_blocked next_table (line_t hands)));
       passes = λ y. to_next u (next_same y ∙ next_seen_but h.sound h.kernel y m) (next-some s.kernel h.kernel m state)
           (inherit_shown y);
     })

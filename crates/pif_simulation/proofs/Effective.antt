@@ -3,7 +3,7 @@ use Rattle.std.proofs.Common.{◌≡◌, ◌≢◌, ℕ, ◌<◌, ◌≤◌, tru
 use Rattle.std.proofs.Math.Path.{fun_ext}
 use Rattle.std.proofs.lemmas.Bool.{cases_eq, cases_lt, true≢false}
 use Rattle.pif_model.specs.Graph.{reaches_within, waited_by, has_waiter, next_waiter}
-use Rattle.pif_model.specs.Posix.{Thread, Mutex, waits_for, effective_of, next_of, leads_to}
+use Rattle.pif_model.specs.Posix.{Mutex, waits_for, effective_of, next_of, leads_to}
 use Rattle.pif_model.specs.PiKernel.{IsKernel, state_at, effective_in, next_in, waits_for as kernel_waits_for}
 use Rattle.pif_model.specs.Word.{Word, word_at}
 use Rattle.pif_model.specs.Table.{Table}
@@ -12,7 +12,7 @@ use Rattle.pif_chains.proofs.Waiting.{paired-from_waited, has_waiter-from_pair}
 use Rattle.pif_chains.proofs.Numbers.{from_within}
 use Rattle.pif_chains.proofs.Greatest.{effective_same}
 use Rattle.pif_chains.proofs.KernelFacts.{waited-status}
-use Rattle.pif_simulation.proofs.Shown.{threads_shown, thread_seen, mutex_seen}
+use Rattle.pif_simulation.proofs.Shown.{threads_shown, base_seen, mutex_seen}
 
 module _ {Excused : ℕ → Type 0} {s : Table} (h : SoundBut Excused s) (kernel : IsKernel s.kernel) where
   -- where threads wait, the kernel's owner state names the owner in the word
@@ -44,7 +44,7 @@ module _ {Excused : ℕ → Type 0} {s : Table} (h : SoundBut Excused s) (kernel
   pub effective_seen_but : (y : Shadow) → effective_in s.kernel ≡ effective_of (world_of s y)
   effective_seen_but y = fun_ext (λ t. effective_same _ _ _ _ _ _ t (sym (threads_shown h.shape y ∙ h.shape.lines))
       (λ u. ap (λ f. f u) (waits_seen_but y))
-      (λ u. sym (ap (λ (x : Thread). x.base) (thread_seen h.shape y u))))
+      (λ u. sym (base_seen h.shape y u)))
 
   -- both machines have the same next waiter
   pub next_seen_but : (y : Shadow) (m : ℕ) → next_of (world_of s y) m ≡ next_in s.kernel m

@@ -1,19 +1,18 @@
 -- The end of a thread: an entry of the POSIX machine that keeps the invariant. The thread leaves all, and then its
--- robust
--- mutexes pass on, one after another.
+-- robust mutexes pass on, one after another.
 use Rattle.std.proofs.Common.{◌≡◌, ◌≢◌, ◌⊎◌, inl, inr, ℕ, ◌<◌, ◌≤◌, ◌||◌, Bool, true, false, ◌==◌, List, [], ◌∷◌, length, get_or, set, None, refl, sym, ap, ◌∙◌, subst, arith, if◌then◌else◌, eqb-true, eq-eqb, ne_eqb}
 use Rattle.std.proofs.lemmas.Bool.{cases_eq, cases_lt, true≢false}
 use Rattle.std.proofs.lemmas.List.{length-set, get_or_past, set-get_or}
 use Rattle.pif_types.specs.declared.requests.Kind.TheVariants.{Normal}
 use Rattle.pif_types.specs.declared.requests.Request.{Request}
-use Rattle.pif_types.specs.declared.requests.Request.TheVariants.{Lock, TryLock, Unlock, Consistent, SetPrio}
+use Rattle.pif_types.specs.declared.requests.Request.TheVariants.{Lock, TryLock, Unlock, Consistent, Wait, Signal, Broadcast, SetPrio}
 use Rattle.pif_model.specs.declared.events.Event.TheVariants.{End}
 use Rattle.pif_model.specs.declared.events.Seen.TheVariants.{Ended as SeenEnded}
 use Rattle.pif_model.specs.declared.events.Entry.TheVariants.{Step as Happened}
 use Rattle.pif_model.specs.declared.lines.Line.{Line}
 use Rattle.pif_model.specs.declared.lines.Line.TheVariants.{Idle, At}
 use Rattle.pif_model.specs.declared.lines.Place.{Place}
-use Rattle.pif_model.specs.declared.lines.Place.TheVariants.{LockQueued, TakeLoad, TakeHealth, TakeStore, TakeWord, LinkNext, LinkHead, LeaveExchange, LeaveKernel, UnlockExchange, UnlockKernel}
+use Rattle.pif_model.specs.declared.lines.Place.TheVariants.{LockQueued, TakeLoad, TakeHealth, TakeStore, TakeWord, LinkNext, LinkHead, LeaveExchange, LeaveKernel, UnlockExchange, UnlockKernel, WaitExchange, WaitKernel, WaitParked}
 use Rattle.pif_model.specs.Graph.{has_waiter}
 use Rattle.pif_model.specs.Word.{word_at, has_word}
 use Rattle.pif_model.specs.Posix.{Mutex, Releases, mutex_at, named_by, names_known}
@@ -21,9 +20,9 @@ use Rattle.pif_model.specs.Posix.Releases.{none_left, one_more}
 use Rattle.pif_model.specs.Posix.Step.{ended as ended_rule}
 use Rattle.pif_model.specs.PiKernel.{System, state_at, is_living, kernel_after_leaving, after_death, after_deaths}
 use Rattle.pif_model.specs.RobustList.{RobustRow, no_robust_row, robust_at, has_entry, walk_of}
-use Rattle.pif_model.specs.Table.{Table, Cell, LibraryMutex, new_mutex, has_thread, has_mutex, line_at, library_at, cell_at}
+use Rattle.pif_model.specs.Table.{Table, Cell, LibraryMutex, new_mutex, has_thread, has_mutex, has_cond, line_at, library_at, cell_at}
 use Rattle.pif_model.specs.Lines.{table_refusal, ended_table, library_after_end}
-use Rattle.pif_model.specs.Standing.{Shadow, world_of, mutex_by, is_pending, is_unlinked, holds_robust, LineIsSound, ListIsSound, CellIsSound, IsShaped, IsSound}
+use Rattle.pif_model.specs.Standing.{Shadow, Agrees, world_of, mutex_by, is_pending, is_unlinked, holds_robust, LineIsSound, ListIsSound, CellIsSound, IsShaped, IsSound}
 use Rattle.pif_chains.proofs.KernelEnded.{status-left_same, living-left_same}
 use Rattle.pif_chains.proofs.KernelExit.{death-other_number, death-orphaned, death-inherited, orphaned, inherited}
 use Rattle.pif_chains.proofs.KernelFacts.{living-added}
@@ -32,10 +31,12 @@ use Rattle.pif_chains.proofs.Waiting.{by_test}
 use Rattle.pif_simulation.proofs.Hole.{admit, each_thread}
 use Rattle.pif_simulation.proofs.Hole.MayBeAdmitted.{gone as may_be_gone}
 use Rattle.pif_simulation.proofs.Shown.{mutex_seen, refusal_seen}
-use Rattle.pif_simulation.proofs.Steps.{Keeps, agrees_on}
+use Rattle.pif_simulation.proofs.Steps.{Keeps}
+use Rattle.pif_simulation.proofs.Kept.{second}
+use Rattle.pif_simulation.proofs.Agreement.{framed}
 use Rattle.pif_simulation.proofs.Entries.{walks-pending, walks-listed, walked}
 use Rattle.pif_simulation.proofs.Lined.{tl, tr}
-use Rattle.pif_simulation.proofs.Ended.{gone, t_some, line_gone, list_gone, gone_sound, gone_kernel, gone_shown}
+use Rattle.pif_simulation.proofs.Ended.{gone, t_some, line_gone, list_gone, gone_sound, gone_kernel, gone_frames, gone_shown}
 use Rattle.pif_simulation.proofs.Dying.{IsDead, HasPassed, passes_to_nobody, passes_to_next}
 
 -- a conjunction that holds
@@ -72,6 +73,9 @@ unlinked-pending LeaveExchange e = refl
 unlinked-pending LeaveKernel e = refl
 unlinked-pending UnlockExchange e = refl
 unlinked-pending UnlockKernel e = refl
+unlinked-pending (WaitExchange v) e = refl
+unlinked-pending (WaitKernel v) e = refl
+unlinked-pending WaitParked e = refl
 unlinked-pending _ e = absurd (true≢false (sym e))
 
 pending_line : (l : Line) → mutex_by is_unlinked l ≢ 0 → mutex_by is_pending l ≡ mutex_by is_unlinked l
@@ -89,11 +93,14 @@ line_named s t (At q p) h test z = by_test (λ b. (if b then named_by q else 0) 
     → has_mutex s (if b then named_by q else 0) ≡ true) (test p)
     (λ _ n. go q h.named n) (λ _ n. absurd (n refl)) z
   where
-    go : (q : Request) → names_known (has_mutex s) q ≡ true → named_by q ≢ 0 → has_mutex s (named_by q) ≡ true
+    go : (q : Request) → names_known (has_mutex s) (has_cond s) q ≡ true → named_by q ≢ 0 → has_mutex s (named_by q) ≡ true
     go (Lock m) e n = e
     go (TryLock m) e n = e
     go (Unlock m) e n = e
     go (Consistent m) e n = e
+    go (Wait c m) e n = second (has_cond s c) (has_mutex s m) e
+    go (Signal c) e n = absurd (n refl)
+    go (Broadcast c) e n = absurd (n refl)
     go (SetPrio u p) e n = absurd (n refl)
 
 module _ (s : Table) (t : ℕ) (h : IsSound s) (known : is_living s.kernel t ≡ true) where
@@ -166,6 +173,7 @@ module _ (s : Table) (t : ℕ) (h : IsSound s) (known : is_living s.kernel t ≡
     none : (m : ℕ) → has_mutex (at_system x' ls') m ≡ true → (library_at (at_system x' ls') m).robust ≡ true
         → (word_at x'.words m).number ≡ t → ⊥
     releases : (y : Shadow) → Releases t (world_of (at_system x ls) y) (world_of (at_system x' ls') y)
+    agrees : (y : Shadow) → Agrees (at_system x ls) y → Agrees (at_system x' ls') y
 
   -- another than the first
   entry_rest : (m j : ℕ) (ms : List ℕ) → j ≢ m → has_entry (m ∷ ms) j ≡ true → has_entry ms j ≡ true
@@ -212,6 +220,7 @@ module _ (s : Table) (t : ℕ) (h : IsSound s) (known : is_living s.kernel t ≡
       releases = λ y. one_more m (ap (λ (z : Mutex). z.owner) (mutex_seen w.dead.sound.shape y m) ∙ own)
           (ap (λ (z : Mutex). z.robust) (mutex_seen w.dead.sound.shape y m) ∙ (w.entries m (entry_first m ms)).1)
           (p.passes y) (a.releases y);
+      agrees = λ y f. a.agrees y (framed p.frames y f);
     }
 
     -- where m is not t's, nothing changes
@@ -238,6 +247,7 @@ module _ (s : Table) (t : ℕ) (h : IsSound s) (known : is_living s.kernel t ≡
     dead = w.dead;
     none = λ m e r o. true≢false (sym (w.covers m e r o));
     releases = λ y. none_left (λ m o. stalled m y o) refl;
+    agrees = λ y f. f;
   }
     where
       stalled : (m : ℕ) (y : Shadow) → (mutex_at (world_of (at_system x ls) y) m).owner ≡ t
@@ -382,7 +392,7 @@ module _ (s : Table) (t : ℕ) (h : IsSound s) (known : is_living s.kernel t ≡
     limits = refl;
     shows = λ y a. (
       y,
-      agrees_on s finish y a,
+      last.agrees y (framed (gone_frames s t h known) y a),
       ended_rule t refl (record {
         allowed = refusal_seen h.all.shape y (End t) ∙ e;
         releases = subst (λ w. Releases t w (world_of finish y)) (gone_shown s t h known y) (last.releases y);

@@ -1,22 +1,24 @@
 -- A thread has ended, and nothing that it owned has passed on yet: the table is sound, save for that thread, and shows
--- the
--- world that the thread has left.
+-- the world that the thread has left.
 use Rattle.std.proofs.Common.{◌<◌, ◌≡◌, ◌≢◌, ◌⊎◌, inl, inr, ℕ, true, false, length, set, None, refl, sym, ap, ◌∙◌, subst, if◌then◌else◌}
 use Rattle.std.proofs.lemmas.Bool.{cases_eq}
 use Rattle.std.proofs.lemmas.List.{length-set, get_or-set_same, get_or-set_other}
 use Rattle.pif_model.specs.declared.lines.Line.TheVariants.{Idle}
 use Rattle.pif_model.specs.Graph.{has_waiter}
 use Rattle.pif_model.specs.Word.{word_at}
-use Rattle.pif_model.specs.Posix.{Thread, nobody, after_end, thread_at}
+use Rattle.pif_model.specs.Posix.{Thread, nobody, after_end, is_call_blocked, thread_at}
 use Rattle.pif_model.specs.PiKernel.{Kernel, IsKernel, state_at, is_living, kernel_after_leaving}
 use Rattle.pif_model.specs.RobustList.{no_robust_row, robust_at, without_robust}
-use Rattle.pif_model.specs.Table.{Table, has_thread, has_mutex, status_at, line_at, cell_at}
-use Rattle.pif_model.specs.Standing.{Shadow, call_at, health_at, thread_shown, world_of, CellIsSound, IsShaped, SoundBut, IsSound}
-use Rattle.pif_chains.proofs.KernelEnded.{mutex_left, waiters_left, limits-left, length-left_seats, has-left, seat-left_other, base-left, status-left_other, living-left_other, living-left_same, waiters-left, state-left_other, waiter-left_other, waiter-left_before, state-left, leaving_kept}
+use Rattle.pif_model.specs.Table.{Table, has_thread, has_mutex, uses_of, status_at, line_at, cell_at}
+use Rattle.pif_model.specs.Standing.{Shadow, memory_at, may_enlist, chooses_on, call_at, health_at, thread_shown, world_of, CellIsSound, IsShaped, SoundBut, IsSound}
+use Rattle.pif_chains.proofs.KernelEnded.{mutex_left, waiters_left, limits-left, length-left_seats, has-left, seat-left_other, base-left, status-left_other, living-left_other, living-left_same, waiters-left, state-left_other, waiter-left_other, waiter-left_before, state-left, parked-left, leaving_kept}
 use Rattle.pif_chains.proofs.KernelFacts.{living-added}
 use Rattle.pif_chains.proofs.Numbers.{above_0}
 use Rattle.pif_chains.proofs.Waiting.{by_test, has_waiter-without_none}
-use Rattle.pif_simulation.proofs.Hole.{Changes, change_kept, excuse_one}
+use Rattle.pif_simulation.proofs.Hole.{Changes, aims, change_kept, excuse_one}
+use Rattle.pif_simulation.proofs.Kept.{unused}
+use Rattle.pif_simulation.proofs.Aims.{aims-unparked}
+use Rattle.pif_simulation.proofs.Agreement.{Frames, quiet, frames_by, was_same, was_not}
 use Rattle.pif_simulation.proofs.Shown.{threads_shown, mutexes_shown, thread_seen, mutex_seen, same_world}
 use Rattle.pif_simulation.proofs.Lined.{tl, tr}
 
@@ -77,6 +79,12 @@ module _ (s : Table) (t : ℕ) (h : IsSound s) (known : is_living s.kernel t ≡
           waited j
               ∙ has_waiter-without_none s.kernel.waiters t j u.2,
         ));
+        some_cond = b.some_cond;
+        few_conds = b.few_conds;
+        no_cond = b.no_cond;
+        cond_words = b.cond_words;
+        no_cond_word = b.no_cond_word;
+        unmade_conds = b.unmade_conds;
       }
 
   -- the mutex on which t was queued is sound
@@ -131,6 +139,11 @@ module _ (s : Table) (t : ℕ) (h : IsSound s) (known : is_living s.kernel t ≡
       ended = λ r n l. (refl, still_ended (word_at s.words m).number l);
     };
     ended = λ u e l. still_ended u l;
+    conds = refl;
+    used = unused s gone refl refl refl;
+    few_uses = λ i e. e;
+    targets = λ i j e. inl (aims-unparked s.kernel.parked t i j
+        (sym (ap (λ ps. aims (record k { parked = ps }) i j) (parked-left t s.kernel)) ∙ e));
   }
 
   -- the table is sound, save for t
@@ -140,37 +153,50 @@ module _ (s : Table) (t : ℕ) (h : IsSound s) (known : is_living s.kernel t ≡
   pub gone_kernel : IsKernel k
   gone_kernel = leaving_kept t s.kernel h.kernel added
 
+  -- who was found blocked stays so
+  pub gone_frames : Frames s gone
+  gone_frames = frames_by s gone t (length-set s.lines t Idle) line_else
+      (λ u d. was_same s gone u
+      (λ i. call_at (health_at s) (uses_of s) (line_else u d i) (status-left_other t s.kernel u d i))
+      (status-left_other t s.kernel u d))
+      (quiet (ap may_enlist line_gone) (ap chooses_on line_gone))
+      (λ e. was_not s gone t (λ c. ap (λ l. is_call_blocked c (call_at (health_at s) (uses_of s) l (status_at gone t)))
+      line_gone))
+
   -- it shows the world that t has left
   pub gone_shown : (y : Shadow) → world_of gone y ≡ after_end t (world_of s y)
   gone_shown y = same_world (world_of gone y) (after_end t (world_of s y))
       (threads_shown shape_gone y ∙ length-set s.lines t Idle
       ∙ sym (length-set (world_of s y).threads t x ∙ threads_shown h.all.shape y))
-      (λ u. thread_seen shape_gone y u ∙ each u (cases_eq u t))
+      (λ u i. let e : u < length gone.lines = subst (λ n. u < n) (threads_shown shape_gone y) i in
+      thread_seen shape_gone y u e ∙ each u (subst (λ n. u < n) (length-set s.lines t Idle) e) (cases_eq u t))
       (mutexes_shown shape_gone y ∙ sym (mutexes_shown h.all.shape y))
-      (λ j. mutex_seen shape_gone y j ∙ sym (mutex_seen h.all.shape y j))
-      (waiters-left t s.kernel)
+      (λ j. mutex_seen shape_gone y j ∙ sym (mutex_seen h.all.shape y j)) refl
+      (waiters-left t s.kernel) refl
     where
       x : Thread
       x = record (thread_at (world_of s y) t) { living = false; call = None }
 
-      here : thread_shown gone t ≡ thread_at (after_end t (world_of s y)) t
+      here : thread_shown gone y t ≡ thread_at (after_end t (world_of s y)) t
       here =
           (λ i. record {
             base = base-left t s.kernel t i;
             living = living-left_same t s.kernel added i;
-            call = call_at
-                (health_at s) (line_gone i) (status_at gone t);
+            call = call_at (health_at s) (uses_of s) (line_gone i) (status_at gone t);
+            memory = memory_at y t;
           })
           ∙ sym (get_or-set_same (world_of s y).threads t x nobody
           (subst (λ n. t < n) (sym (threads_shown h.all.shape y)) (tl s t Idle h known))
-          ∙ (λ i. record (thread_seen h.all.shape y t i) { living = false; call = None }))
+          ∙ (λ i. record (thread_seen h.all.shape y t (tl s t Idle h known) i) { living = false; call = None }))
 
-      each : (u : ℕ) → (u ≡ t) ⊎ (u ≢ t) → thread_shown gone u ≡ thread_at (after_end t (world_of s y)) u
-      each u (inl q) = subst (λ j. thread_shown gone j ≡ thread_at (after_end t (world_of s y)) j) (sym q) here
-      each u (inr d) =
+      each : (u : ℕ) → u < length s.lines → (u ≡ t) ⊎ (u ≢ t)
+          → thread_shown gone y u ≡ thread_at (after_end t (world_of s y)) u
+      each u f (inl q) = subst (λ j. thread_shown gone y j ≡ thread_at (after_end t (world_of s y)) j) (sym q) here
+      each u f (inr d) =
           (λ i. record {
             base = (seat-left_other t s.kernel u d i).base;
             living = living-left_other t s.kernel u d i;
-            call = call_at (health_at s) (line_else u d i) (seat-left_other t s.kernel u d i).status;
+            call = call_at (health_at s) (uses_of s) (line_else u d i) (seat-left_other t s.kernel u d i).status;
+            memory = memory_at y u;
           })
-          ∙ sym (get_or-set_other (world_of s y).threads t u x nobody d ∙ thread_seen h.all.shape y u)
+          ∙ sym (get_or-set_other (world_of s y).threads t u x nobody d ∙ thread_seen h.all.shape y u f)

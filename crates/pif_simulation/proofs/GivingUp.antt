@@ -1,6 +1,6 @@
 -- A thread gives up a mutex that it holds once, by the kernel call unlock_pi: nobody has it then, or its next waiter.
-use Rattle.std.proofs.Common.{set, ◌≡◌, ◌≢◌, ℕ, ◌<◌, true, false, ◌==◌, length, Some, None, Option, Ok, refl, sym, ap, ◌∙◌, subst, arith, if◌then◌else◌, eq-eqb, eqb-true}
-use Rattle.std.proofs.lemmas.Bool.{eqb-false}
+use Rattle.std.proofs.Common.{Bool, set, ◌≡◌, ◌≢◌, ℕ, ◌<◌, true, false, ◌==◌, length, Some, None, Option, Ok, refl, sym, ap, ◌∙◌, subst, arith, if◌then◌else◌, eq-eqb, eqb-true}
+use Rattle.std.proofs.lemmas.Bool.{eqb-false, true≢false}
 use Rattle.std.proofs.lemmas.List.{length-set, get_or-set_same, get_or-set_other, set-get_or}
 use Rattle.pif_types.specs.declared.requests.Request.{Request}
 use Rattle.pif_model.specs.declared.events.Event.TheVariants.{Go}
@@ -11,28 +11,30 @@ use Rattle.pif_model.specs.declared.lines.Line.TheVariants.{Idle, At}
 use Rattle.pif_model.specs.declared.lines.Place.{Place}
 use Rattle.pif_model.specs.Graph.{has_waiter, without}
 use Rattle.pif_model.specs.Word.{free_word, hand_word, word_at, health_word_at, has_word, set_word}
-use Rattle.pif_model.specs.Posix.{Call, Thread, Mutex, World, Effect, Passes, nobody, no_mutex, named_by, thread_at, mutex_at, with_thread, with_progress, progressed, taken, on_taking}
+use Rattle.pif_model.specs.Posix.{Progress, is_blocked, is_call_blocked, Call, Thread, Mutex, World, Effect, Passes, nobody, no_mutex, variable_of, named_by, thread_at, mutex_at, with_thread, with_progress, progressed, taken, on_taking}
 use Rattle.pif_model.specs.Posix.Progress.{Has}
 use Rattle.pif_model.specs.Posix.Effects.{none, then as first}
 use Rattle.pif_model.specs.Posix.Passes.{to_next}
 use Rattle.pif_model.specs.PiKernel.{is_ready, is_living, state_at, next_in, unlock_answer, words_after_unlock, kernel_after_unlock, kernel_after_hand_over}
 use Rattle.pif_model.specs.RobustList.{robust_at}
-use Rattle.pif_model.specs.Table.{Table, Cell, has_thread, has_mutex, status_at, library_at, cell_at, with_kernel, with_word, with_line}
+use Rattle.pif_model.specs.Table.{Table, Cell, has_thread, has_mutex, uses_of, status_at, line_at, library_at, cell_at, with_kernel, with_word, with_line}
 use Rattle.pif_model.specs.Lines.{Outcome, given_up_by, gives_up}
-use Rattle.pif_model.specs.Standing.{Shadow, call_at, health_of, health_at, thread_shown, world_of, MeetsAll, needs, mutex_by, is_pending, is_half_linked, is_unlinked, is_unsettled, LineIsSound, CellIsSound, ListIsSound, ThreadIsSound, IsSound}
+use Rattle.pif_model.specs.Standing.{Shadow, no_shadow, use_at, may_enlist, call_shown as shown_call, call_at, health_of, health_at, thread_shown, world_of, MeetsAll, needs, mutex_by, is_pending, is_half_linked, is_unlinked, is_unsettled, LineIsSound, CellIsSound, ListIsSound, ThreadIsSound, IsSound}
 use Rattle.pif_chains.proofs.Waiting.{by_test}
 use Rattle.pif_chains.proofs.Numbers.{above_0, below, from_within}
 use Rattle.pif_chains.proofs.KernelFacts.{next-some, next-added}
 use Rattle.pif_simulation.proofs.Hole.{excuse_one, admit_last}
 use Rattle.pif_simulation.proofs.Shown.{threads_shown, mutexes_shown, thread_seen, mutex_seen}
 use Rattle.pif_simulation.proofs.Written.{written_is, same_health, same_list, same_library}
-use Rattle.pif_simulation.proofs.Steps.{Keeps, Going, going_called, going_lined, going_below, goes_with, answers_with}
+use Rattle.pif_simulation.proofs.Steps.{Keeps, Going, progress_of, going_named, going_called, going_lined, going_below, goes_with, answers_with}
+use Rattle.pif_simulation.proofs.Agreement.{Frames, Follows, WasBlockedIn}
+use Rattle.pif_chains.proofs.Statuses.{ready-unparked}
 use Rattle.pif_simulation.proofs.Effective.{next_seen}
 use Rattle.pif_simulation.proofs.Progressed.{next-with_progress}
-use Rattle.pif_simulation.proofs.Local.{KnowsAfter, ListsAfter, NamesOnly, known_named, lists_after, settled_after, ready-not_queued, going_cell, going_added, going_row, going_list, going_settled}
+use Rattle.pif_simulation.proofs.Local.{KnowsAfter, ListsAfter, NamesOnly, known_still, lists_after, settled_after, ready-not_queued, ready-not_parked, going_cell, going_added, going_row, going_list, going_settled}
 use Rattle.pif_simulation.proofs.LocalLines.{at_line, lists_by, row_given}
 use Rattle.pif_simulation.proofs.Owning.{none_from_state, state_agrees}
-use Rattle.pif_simulation.proofs.HandOver.{HandsOver, handed, left, other, line_t, cell_m, handed_sound, handed_kernel, handed_mutexes, handed_robust, handed_cells, handed_shown, status_t, living_kept}
+use Rattle.pif_simulation.proofs.HandOver.{HandsOver, handed, left, other, line_t, cell_m, handed_sound, handed_kernel, handed_mutexes, handed_robust, handed_cells, handed_shown, handed_frames, status_t, living_kept}
 
 -- t, in its call q, gives up the mutex of that call, which it holds once and which is not on its list
 pub record GivesUp (s : Table) (t : ℕ) (q : Request) (p : Place) : Type 0 where
@@ -52,7 +54,8 @@ pub record GivesUpTo (s : Table) (t : ℕ) (q : Request) (p : Place) (l : Line) 
   pub pending : (library_at s (named_by q)).robust ≡ true → at_line is_pending l ≡ is_pending p
   pub half_linked : (library_at s (named_by q)).robust ≡ true → at_line is_half_linked l ≡ is_half_linked p
   pub knows : (c : Cell) → c.word.number ≢ t → c.robust ≡ (library_at s (named_by q)).robust
-      → KnowsAfter s t (named_by q) c l
+      → KnowsAfter s t q c l
+  pub follows : Follows (At q p) l
 
 module _ {s : Table} {t : ℕ} {q : Request} {p : Place} (h : GivesUp s t q p) where
   abbrev m : ℕ
@@ -92,16 +95,16 @@ module _ {s : Table} {t : ℕ} {q : Request} {p : Place} (h : GivesUp s t q p) w
     v = handed hands
 
     -- what t knows then
-    knows : (b : Line) → KnowsAfter s t m (left hands) b → LineIsSound v t b
+    knows : (b : Line) → KnowsAfter s t q (left hands) b → LineIsSound v t b
     knows Idle e = ap is_ready (status_t hands) ∙ e
-    knows (At r b) e = record {
-      named = known_named (has_mutex v) r (ap (has_mutex v) e.0 ∙ handed_mutexes hands m ∙ h.named);
+    knows (At r b) e = subst (λ j. LineIsSound v t (At j b)) (sym e.0) (record {
+      named = known_still (handed_mutexes hands) (λ i. refl) q (going_named h.going);
       belongs = e.1;
-      needs = subst (λ d. MeetsAll (is_living v.kernel) t (status_at v t) d (needs b))
-          (sym (ap (cell_at v) e.0 ∙ cell_m hands))
-          (subst (λ f. MeetsAll f t (status_at v t) (left hands) (needs b)) (sym living)
-          (subst (λ x. MeetsAll (is_living s.kernel) t x (left hands) (needs b)) (sym (status_t hands)) e.2));
-    }
+      needs = subst (λ d. MeetsAll (is_living v.kernel) t (status_at v t) d (use_at s q) (needs b)) (sym (cell_m hands))
+          (subst (λ f. MeetsAll f t (status_at v t) (left hands) (use_at s q) (needs b)) (sym living)
+          (subst (λ x. MeetsAll (is_living s.kernel) t x (left hands) (use_at s q) (needs b)) (sym (status_t hands))
+          e.2));
+    })
       where
         living : is_living v.kernel ≡ is_living s.kernel
         living = λ i j. living_kept hands j i
@@ -123,6 +126,7 @@ module _ {s : Table} {t : ℕ} {q : Request} {p : Place} (h : GivesUp s t q p) w
     giver_sound = record {
       line = subst (LineIsSound v t) (sym (line_t hands)) (knows l (to.knows (left hands) not_own refl));
       queue = λ j z. absurd (ready-not_queued (status_at s t) j h.ready (sym (status_t hands) ∙ z));
+      parked = λ j z. absurd (ready-not_parked (status_at s t) j h.ready (sym (status_t hands) ∙ z));
       list = subst (ListIsSound v t) (sym (line_t hands))
           (lists_after s v t m (At q p) l refl to.names h.named (handed_mutexes hands) (handed_robust hands)
           (handed_cells hands) (going_list h.going h.named)
@@ -144,80 +148,81 @@ module _ {s : Table} {t : ℕ} {q : Request} {p : Place} (h : GivesUp s t q p) w
 
     -- IN THE POSIX MACHINE
 
-    module _ (n : ℕ) (y : Shadow) where
+    module _ (a : Progress) (y : Shadow) where
       abbrev w : World
       w = world_of s y
 
       -- t, when it has its result, and the next waiter, when it owns m
       abbrev given : Thread
-      given = record (thread_at w t) { call = progressed (Has n) (thread_at w t).call }
+      given = record (thread_at w t) { call = progressed a (thread_at w t).call }
 
       abbrev taker : Thread
-      taker = record (thread_at (with_progress t (Has n) w) u)
-          { call = progressed (on_taking (mutex_at w m).health) (thread_at (with_progress t (Has n) w) u).call }
+      taker = record (thread_at (with_progress t a w) u)
+          { call = progressed (on_taking (mutex_at w m).health) (thread_at (with_progress t a w) u).call }
 
       -- the world after t's call has its result, and m passed on
       abbrev passed : World
-      passed = taken u m (record (with_progress t (Has n) w) { waiters = without s.kernel.waiters u })
+      passed = taken u m (record (with_progress t a w) { waiters = without s.kernel.waiters u })
 
       tw : t < length w.threads
       tw = going_below h.going y
 
-      uw : u < length (with_progress t (Has n) w).threads
+      uw : u < length (with_progress t a w).threads
       uw = subst (λ j. u < j) (sym (length-set w.threads t given ∙ threads_shown h.going.sound.all.shape y
           ∙ h.going.sound.all.shape.lines))
           (below u (length s.kernel.seats) (next-added s.kernel h.going.sound.kernel m state))
 
       -- t in that world
       giver_passed : thread_at passed t ≡ given
-      giver_passed = get_or-set_other (with_progress t (Has n) w).threads u t taker nobody (λ z. other hands (sym z))
+      giver_passed = get_or-set_other (with_progress t a w).threads u t taker nobody (λ z. other hands (sym z))
           ∙ get_or-set_same w.threads t given nobody tw
 
       -- its call
-      pub call_passed : (thread_at passed t).call ≡ Some (record { request = q; progress = Has n })
-      call_passed = ap (λ (x : Thread). x.call) giver_passed ∙ ap (progressed (Has n)) (going_called h.going y)
+      pub call_passed : (thread_at passed t).call ≡ Some (record { request = q; progress = a })
+      call_passed = ap (λ (x : Thread). x.call) giver_passed ∙ ap (progressed a) (going_called h.going y)
 
       -- the world that the table shows, with t's call as its line has it
-      pub passed_shown : (b : Option Call) → call_at (health_at v) l (status_at s t) ≡ b
+      pub passed_shown : (b : Option Call) → call_at (health_at v) (uses_of s) l (status_at s t) ≡ b
           → world_of v y ≡ with_thread t (record (thread_at passed t) { call = b }) passed
       passed_shown b e =
           let r : Thread = record (thread_at passed t) { call = b } in
           let z : Mutex = record (mutex_at w m) { owner = u; count = 1 } in
-          let lw = length-set (with_progress t (Has n) w).threads u taker ∙ length-set w.threads t given in
+          let lw = length-set (with_progress t a w).threads u taker ∙ length-set w.threads t given in
           handed_shown hands y (with_thread t r passed)
           (length-set passed.threads t r ∙ lw ∙ threads_shown h.going.sound.all.shape y)
           (length-set w.mutexes m z ∙ mutexes_shown h.going.sound.all.shape y) refl
           (get_or-set_same passed.threads t r nobody (subst (λ j. t < j) (sym lw) tw)
           ∙ (λ i. record (giver_passed i) { call = sym e i })
-          ∙ (λ i. record (thread_seen h.going.sound.all.shape y t i)
-          { call = call_at (health_at v) l (status_at s t) }))
+          ∙ (λ i. record (thread_seen h.going.sound.all.shape y t (going_lined h.going) i)
+          { call = call_at (health_at v) (uses_of s) l (status_at s t) }))
           (get_or-set_other passed.threads t u r nobody (other hands)
-          ∙ get_or-set_same (with_progress t (Has n) w).threads u taker nobody uw
+          ∙ get_or-set_same (with_progress t a w).threads u taker nobody uw
           ∙ (λ i. record (taker_before i) { call = progressed (on_taking (health_m i)) (taker_before i).call }))
-          (λ j d f. get_or-set_other passed.threads t j r nobody d
-          ∙ get_or-set_other (with_progress t (Has n) w).threads u j taker nobody f
-          ∙ get_or-set_other w.threads t j given nobody d ∙ thread_seen h.going.sound.all.shape y j)
+          (λ j i d f. get_or-set_other passed.threads t j r nobody d
+          ∙ get_or-set_other (with_progress t a w).threads u j taker nobody f
+          ∙ get_or-set_other w.threads t j given nobody d ∙ thread_seen h.going.sound.all.shape y j i)
           (get_or-set_same w.mutexes m z no_mutex (subst (λ j. m < j) (sym (mutexes_shown h.going.sound.all.shape y))
           (below m (length s.mutexes) h.named))
           ∙ (λ i. record (mutex_seen h.going.sound.all.shape y m i) { owner = u; count = 1; health = health_m i }))
-          (λ j d. get_or-set_other w.mutexes m j z no_mutex d ∙ mutex_seen h.going.sound.all.shape y j)
+          (λ j d. get_or-set_other w.mutexes m j z no_mutex d ∙ mutex_seen h.going.sound.all.shape y j) refl refl
         where
-          taker_before : thread_at (with_progress t (Has n) w) u ≡ thread_shown s u
+          taker_before : thread_at (with_progress t a w) u ≡ thread_shown s y u
           taker_before = get_or-set_other w.threads t u given nobody (other hands)
-              ∙ thread_seen h.going.sound.all.shape y u
+              ∙ thread_seen h.going.sound.all.shape y u (subst (λ j. u < j) (sym h.going.sound.all.shape.lines)
+              (below u (length s.kernel.seats) (next-added s.kernel h.going.sound.kernel m state)))
 
           health_m : (mutex_at w m).health ≡ health_of (health_word_at s.words m) false
           health_m = ap (λ (x : Mutex). x.health) (mutex_seen h.going.sound.all.shape y m) ∙ sym h.health
 
       -- and with t's call as it is there
-      pub passed_open : call_at (health_at v) l (status_at s t) ≡ Some (record { request = q; progress = Has n })
+      pub passed_open : call_at (health_at v) (uses_of s) l (status_at s t) ≡ Some (record { request = q; progress = a })
           → world_of v y ≡ passed
       passed_open e = passed_shown (thread_at passed t).call (e ∙ sym call_passed)
           ∙ (λ i. record passed { threads = set-get_or passed.threads t nobody i })
 
       -- it passes on to its next waiter
-      pub passes_next : Passes m (with_progress t (Has n) w) passed
-      passes_next = to_next u (next-with_progress w t (Has n) m ∙ next_seen h.going.sound y m)
+      pub passes_next : Passes m (with_progress t a w) passed
+      passes_next = to_next u (next-with_progress w t a m ∙ next_seen h.going.sound y m)
           (next-some s.kernel h.going.sound.kernel m state) refl
 
     -- the table that is left, in the words of the line
@@ -233,15 +238,46 @@ module _ {s : Table} {t : ℕ} {q : Request} {p : Place} (h : GivesUp s t q p) w
     limits : v.limits ≡ s.limits
     limits = refl
 
+    -- t is blocked then only if it was
+    was : (a : Progress) → (may_enlist (At q p) ≡ false → is_blocked a ≡ true → is_blocked (progress_of s t q p) ≡ true)
+        → ((c : ℕ) → is_call_blocked c (shown_call v t) ≡ true
+        → is_call_blocked c (Some (record { request = q; progress = a })) ≡ true)
+        → may_enlist (line_at s t) ≡ false → WasBlockedIn s v t
+    was a blocked call j c b unparked = (
+      ap (is_call_blocked c) (ap (λ k. call_at (health_at s) (uses_of s) k (status_at s t)) h.going.line)
+          ∙ both (is_blocked a) (call c b) (blocked (sym (ap may_enlist h.going.line) ∙ j)),
+      ready-unparked (status_at s t) h.ready,
+    )
+      where
+        both : (y : Bool) → (if y then variable_of q == c else false) ≡ true
+            → (y ≡ true → is_blocked (progress_of s t q p) ≡ true)
+            → (if is_blocked (progress_of s t q p) then variable_of q == c else false) ≡ true
+        both true e f = ap (λ y. if y then variable_of q == c else false) (f refl) ∙ e
+        both false e f = absurd (true≢false (sym e))
+
+    -- t's call then
+    call_then : shown_call v t ≡ call_at (health_at v) (uses_of s) l (status_at s t)
+    call_then = λ i. call_at (health_at v) (uses_of s) (line_t hands i) (status_t hands i)
+
+    -- who was found blocked stays so
+    frames : (a : Progress) → (may_enlist (At q p) ≡ false → is_blocked a ≡ true → is_blocked (progress_of s t q p) ≡ true)
+        → ((c : ℕ) → is_call_blocked c (shown_call v t) ≡ true
+        → is_call_blocked c (Some (record { request = q; progress = a })) ≡ true) → Frames s v
+    frames a blocked call = handed_frames hands (subst (λ k. Follows k l) (sym h.going.line) to.follows)
+        (was a blocked call)
+
     -- m is handed on, and the call goes on
-    pub handed_goes : (n : ℕ) → ((y : Shadow) → call_at (health_at v) l (status_at s t) ≡ Some
-        (record { request = q; progress = Has n }))
-        → ((y : Shadow) (w' : World) → Passes m (with_progress t (Has n) (world_of s y)) w'
+    pub handed_goes : (a : Progress)
+        → (may_enlist (At q p) ≡ false → is_blocked a ≡ true → is_blocked (progress_of s t q p) ≡ true)
+        → ((y : Shadow) → call_at (health_at v) (uses_of s) l (status_at s t) ≡ Some
+        (record { request = q; progress = a }))
+        → ((y : Shadow) (w' : World) → Passes m (with_progress t a (world_of s y)) w'
         → Effect t (world_of s y) w')
         → Keeps s (Happened (Go t) Went) hands_on
-    handed_goes n call effect = subst (Keeps s (Happened (Go t) Went)) is_handed
+    handed_goes a blocked call effect = subst (Keeps s (Happened (Go t) Went)) is_handed
         (goes_with h.going v sound limits (living_kept hands t ∙ h.going.known) (ap is_ready (status_t hands) ∙ h.ready)
-        (λ y. first (effect y (passed n y) (passes_next n y)) (none (passed_open n y (call y)))))
+        (frames a blocked (λ c b. sym (ap (is_call_blocked c) (call_then ∙ call no_shadow)) ∙ b))
+        (λ y. first (effect y (passed a y) (passes_next a y)) (none (passed_open a y (call y)))))
 
     -- m is handed on, and the call is answered
     pub handed_answers : (n : ℕ) → l ≡ Idle
@@ -249,11 +285,13 @@ module _ {s : Table} {t : ℕ} {q : Request} {p : Place} (h : GivesUp s t q p) w
         → Effect t (world_of s y) w')
         → Keeps s (Happened (Go t) (Answered n)) hands_on
     handed_answers n e effect = subst (Keeps s (Happened (Go t) (Answered n))) is_handed
-        (answers_with h.going v n (λ y. passed n y) sound limits (living_kept hands t ∙ h.going.known)
+        (answers_with h.going v n (λ y. passed (Has n) y) sound limits (living_kept hands t ∙ h.going.known)
         (ap is_ready (status_t hands) ∙ h.ready)
-        (λ y. first (effect y (passed n y) (passes_next n y)) (none refl))
-        (λ y. call_passed n y)
-        (λ y. passed_shown n y None (ap (λ b. call_at (health_at v) b (status_at s t)) e)))
+        (frames (Has n) (λ j f. absurd (true≢false (sym f))) (λ c b. absurd (true≢false (sym b
+        ∙ ap (is_call_blocked c) (call_then ∙ ap (λ k. call_at (health_at v) (uses_of s) k (status_at s t)) e)))))
+        (λ y. first (effect y (passed (Has n) y) (passes_next (Has n) y)) (none refl))
+        (λ y. call_passed (Has n) y)
+        (λ y. passed_shown (Has n) y None (ap (λ b. call_at (health_at v) (uses_of s) b (status_at s t)) e)))
 
   -- THE KERNEL CALL
 

@@ -1,33 +1,34 @@
 -- The kernel hands a mutex on to its next waiter, where the thread that owned it gives it up or has ended: the table
--- stays
--- sound, save for that thread, and the POSIX machine's mutex passes on.
+-- stays sound, save for that thread, and the POSIX machine's mutex passes on.
 use Rattle.std.proofs.Common.{◌≡◌, ◌≢◌, ℕ, ◌<◌, Bool, true, false, ◌==◌, ◌⊎◌, inl, inr, length, Some, refl, sym, ap, ap₂, ◌∙◌, subst, arith, if◌then◌else◌, eq-eqb}
 use Rattle.std.proofs.lemmas.Bool.{cases_eq, true≢false}
+use Rattle.std.proofs.lemmas.List.{length-set}
 use Rattle.pif_types.specs.declared.requests.Request.{Request}
-use Rattle.pif_types.specs.declared.requests.Request.TheVariants.{Lock, TryLock, Unlock, Consistent, SetPrio}
+use Rattle.pif_types.specs.declared.requests.Request.TheVariants.{Lock, TryLock, Unlock, Consistent, Wait, Signal, Broadcast, SetPrio}
 use Rattle.pif_model.specs.declared.lines.Line.{Line}
 use Rattle.pif_model.specs.declared.lines.Line.TheVariants.{At}
-use Rattle.pif_model.specs.declared.lines.Place.TheVariants.{LockQueued}
-use Rattle.pif_model.specs.declared.lines.Status.{Status}
-use Rattle.pif_model.specs.declared.lines.Status.TheVariants.{Ready, Queued, Stopped, Ended}
+use Rattle.pif_model.specs.declared.lines.Place.{Place}
+use Rattle.pif_model.specs.declared.lines.Place.TheVariants.{LockQueued, WaitParked}
+use Rattle.pif_model.specs.declared.lines.Status.TheVariants.{Ready, Queued, Parked}
 use Rattle.pif_model.specs.declared.lines.Woken.TheVariants.{Owns as WokenOwns}
 use Rattle.pif_model.specs.Graph.{has_waiter, without}
 use Rattle.pif_model.specs.Word.{Word, word_at, health_word_at}
-use Rattle.pif_model.specs.Posix.{World, named_by, thread_at, mutex_at, progressed, on_taking}
+use Rattle.pif_model.specs.Posix.{World, Health, is_call_blocked, named_by, variable_of, thread_at, mutex_at, progressed, on_taking}
 use Rattle.pif_model.specs.PiKernel.{Kernel, IsKernel, Seat, seat_at, state_at, is_living, has_ended, next_in, kernel_after_hand_over}
 use Rattle.pif_model.specs.RobustList.{RobustRow, robust_at}
-use Rattle.pif_model.specs.Table.{Table, Cell, has_thread, has_mutex, status_at, line_at, library_at, cell_at}
-use Rattle.pif_model.specs.Standing.{Shadow, call_at, health_of, health_at, thread_shown, mutex_shown, world_of, MeetsAll, needs, waited_in, mutex_by, is_unsettled, LineIsSound, IsQueuedLine, CellIsSound, ListIsSound, ThreadIsSound, SoundBut}
+use Rattle.pif_model.specs.Table.{Table, Cell, has_thread, has_mutex, bound_to, uses_of, status_at, line_at, library_at, cell_at}
+use Rattle.pif_model.specs.Standing.{Shadow, Use, use_at, may_enlist, call_shown as shown_call, is_queued_place, is_unlinked, memory_at, progress_at, call_at, health_of, health_at, thread_shown, mutex_shown, world_of, MeetsAll, needs, waited_in, CallIsSound, mutex_by, is_unsettled, LineIsSound, IsQueuedLine, CellIsSound, ListIsSound, ThreadIsSound, SoundBut}
 use Rattle.pif_chains.proofs.Waiting.{by_test, has_waiter-without_other}
 use Rattle.pif_chains.proofs.Numbers.{above_0, below}
 use Rattle.pif_chains.proofs.KernelFacts.{next-queued, next-added, next-waited, next-some}
 use Rattle.pif_chains.proofs.KernelKept.{hand_over_kept}
-use Rattle.pif_chains.proofs.KernelPlaces.{handed_limits, handed_length, handed_has, handed_seat_same, handed_seat_other, handed_state_other, handed_state_same, handed_waiters}
+use Rattle.pif_chains.proofs.KernelPlaces.{handed_limits, handed_length, handed_has, handed_seat_same, handed_seat_other, handed_state_other, handed_state_same, handed_waiters, handed_parked}
 use Rattle.pif_simulation.proofs.Kept.{held_once}
 use Rattle.pif_simulation.proofs.Hole.{Changes, change_kept, excuse, admit}
 use Rattle.pif_simulation.proofs.Hole.MayBeAdmitted.{lives}
-use Rattle.pif_simulation.proofs.Written.{written, cell_written, IsCallOn, changes, cell_here, line_here, line_there, list_there, call_there, thread_here, thread_there, shows}
-use Rattle.pif_simulation.proofs.Local.{ListsAfter, lists_after, settled_after, known_named}
+use Rattle.pif_simulation.proofs.Written.{written, cell_written, IsCallOn, same_targets, changes, cell_here, line_here, line_there, list_there, call_there, thread_here, thread_there, shows}
+use Rattle.pif_simulation.proofs.Local.{ListsAfter, lists_after, settled_after, known_still}
+use Rattle.pif_simulation.proofs.Agreement.{Frames, Follows, WasBlockedIn, frames_by, was_same, was_not, call_unblocked, taking_unblocked}
 
 -- a call that waits for a mutex names it
 waits-named : (q : Request) (m : ℕ) → m ≢ 0 → waited_in q ≡ m → named_by q ≡ m
@@ -35,11 +36,41 @@ waits-named (Lock j) m n e = e
 waits-named (TryLock j) m n e = absurd (n (sym e))
 waits-named (Unlock j) m n e = absurd (n (sym e))
 waits-named (Consistent j) m n e = absurd (n (sym e))
+waits-named (Wait c j) m n e = e
+waits-named (Signal c) m n e = absurd (n (sym e))
+waits-named (Broadcast c) m n e = absurd (n (sym e))
 waits-named (SetPrio u p) m n e = absurd (n (sym e))
 
+-- who is handed its mutex, at a place where it was queued, knows there what it has to
+handed_needs : (living living' : ℕ → Bool) (u m : ℕ) (c d : Cell) (z : Use) (b : Place) → is_queued_place b ≡ true
+    → MeetsAll living u (Queued m) c z (needs b) → d.word.number ≡ u → d.count ≡ 1
+    → (d.health ≡ 1 → d.word.died ≡ true) → MeetsAll living' u (Ready WokenOwns) d z (needs b)
+handed_needs living living' u m c d z LockQueued e k own once behind =
+    (((λ x. cc), λ x. cc), ((λ x. own), ((λ x. once), ((λ x. behind), tt))))
+handed_needs living living' u m c d z WaitParked e k own once behind =
+    (((λ x. cc), λ x. cc), (((λ x. own), λ x. absurd (true≢false x)), ((λ x. once), ((λ x. behind), k.1.1.1.1))))
+handed_needs living living' u m c d z _ e k own once behind = absurd (true≢false (sym e))
+
+-- its mutex is unlinked and unsettled there
+queued_unlinked : (b : Place) → is_queued_place b ≡ true → is_unlinked b ≡ true
+queued_unlinked LockQueued e = refl
+queued_unlinked WaitParked e = refl
+queued_unlinked _ e = absurd (true≢false (sym e))
+
+queued_unsettled : (b : Place) → is_queued_place b ≡ true → is_unsettled b ≡ true
+queued_unsettled LockQueued e = refl
+queued_unsettled WaitParked e = refl
+queued_unsettled _ e = absurd (true≢false (sym e))
+
+-- its call takes the mutex
+queued_takes : (q : Request) (b : Place) (h : Health) (n : ℕ) → is_queued_place b ≡ true
+    → progress_at q b (Ready WokenOwns) h n ≡ on_taking h
+queued_takes q LockQueued h n e = refl
+queued_takes q WaitParked h n e = refl
+queued_takes q _ h n e = absurd (true≢false (sym e))
+
 -- t, which alone is excused, owns m, for which threads wait, and m is handed on: it gets this word and is held once,
--- and t
--- goes to this line and robust list
+-- and t goes to this line and robust list
 pub record HandsOver (s : Table) (t m : ℕ) (l : Line) (r : RobustRow) (x : Word) : Type 0 where
   pub sound : SoundBut (λ j. j ≡ t) s
   pub kernel : IsKernel s.kernel
@@ -134,7 +165,7 @@ module _ {s : Table} {t m : ℕ} {l : Line} {r : RobustRow} {x : Word} (h : Hand
   Two j = (j ≡ t) ⊎ (j ≡ u)
 
   -- it is a call on m by which the two change
-  call : IsCallOn Two s.kernel k m
+  call : IsCallOn Two (bound_to s) s.kernel k m
   call = record {
     limits = handed_limits u m s.kernel;
     seats = handed_length u m s.kernel;
@@ -143,6 +174,7 @@ module _ {s : Table} {t m : ℕ} {l : Line} {r : RobustRow} {x : Word} (h : Hand
     states = λ j d. handed_state_other u m s.kernel j d;
     waited = λ j d. ap (λ ws. has_waiter ws j) (handed_waiters u m s.kernel)
         ∙ has_waiter-without_other s.kernel.waiters u m j h.kernel.once (next-waited s.kernel h.kernel m h.state) d;
+    targets = same_targets (bound_to s) s.kernel k (handed_parked u m s.kernel);
   }
 
   -- the owner state of m
@@ -190,7 +222,7 @@ module _ {s : Table} {t m : ℕ} {l : Line} {r : RobustRow} {x : Word} (h : Hand
   pub line_t : line_at handed t ≡ l
   line_t = line_here s t m l r x a 1 k h.somebody h.lined h.row ml h.sound.shape
 
-  line_u : line_at handed u ≡ At queued_line.request LockQueued
+  line_u : line_at handed u ≡ At queued_line.request queued_line.place
   line_u = line_there s t m l r x a 1 k h.somebody h.lined h.row ml h.sound.shape u other ∙ queued_line.line
 
   list_u : robust_at handed.lists u ≡ robust_at s.lists u
@@ -201,13 +233,22 @@ module _ {s : Table} {t m : ℕ} {l : Line} {r : RobustRow} {x : Word} (h : Hand
   cell_m = cell_here s t m l r x a 1 k h.somebody h.lined h.row ml h.sound.shape
 
   -- u's robust list: m, which is at an unlinked place, is not on it
-  row_u : ListIsSound s u (At queued_line.request LockQueued)
+  row_u : ListIsSound s u (At queued_line.request queued_line.place)
   row_u = subst (ListIsSound s u) queued_line.line sound_u.list
 
-  m_of_line : (if m == named_by queued_line.request then false else true) ≡ false
-  m_of_line = ap (λ b. if b then false else true) (eq-eqb m (named_by queued_line.request) (sym waiter_named))
+  unlinked_line : mutex_by is_unlinked (At queued_line.request queued_line.place) ≡ m
+  unlinked_line = ap (λ b. if b then named_by queued_line.request else 0)
+      (queued_unlinked queued_line.place queued_line.queued) ∙ waiter_named
 
-  lists_u : ListsAfter s u m left (At queued_line.request LockQueued) (robust_at s.lists u)
+  unsettled_line : mutex_by is_unsettled (At queued_line.request queued_line.place) ≡ m
+  unsettled_line = ap (λ b. if b then named_by queued_line.request else 0)
+      (queued_unsettled queued_line.place queued_line.queued) ∙ waiter_named
+
+  m_of_line : (if m == mutex_by is_unlinked (At queued_line.request queued_line.place) then false else true) ≡ false
+  m_of_line = ap (λ b. if b then false else true)
+      (eq-eqb m (mutex_by is_unlinked (At queued_line.request queued_line.place)) (sym unlinked_line))
+
+  lists_u : ListsAfter s u m left (At queued_line.request queued_line.place) (robust_at s.lists u)
   lists_u = record {
     pending = row_u.pending;
     half_linked = row_u.half_linked;
@@ -215,10 +256,11 @@ module _ {s : Table} {t m : ℕ} {l : Line} {r : RobustRow} {x : Word} (h : Hand
     own = row_u.listed m ∙ never (if has_mutex s m then (if
         (library_at s m).robust then (word_at s.words m).number == u else false) else false)
         ∙ sym (never (if (library_at s m).robust then x.number == u else false));
-    settled = λ o d. absurd (d (sym waiter_named));
+    settled = λ o d. absurd (d (sym unsettled_line));
   }
     where
-      never : (b : Bool) → (if b then (if m == named_by queued_line.request then false else true) else false) ≡ false
+      never : (b : Bool) → (if b then (if m == mutex_by is_unlinked (At queued_line.request queued_line.place)
+          then false else true) else false) ≡ false
       never b = ap (λ y. if b then y else false) m_of_line ∙ either b
         where
           either : (b : Bool) → (if b then false else false) ≡ false
@@ -229,41 +271,41 @@ module _ {s : Table} {t m : ℕ} {l : Line} {r : RobustRow} {x : Word} (h : Hand
   taker_sound : ThreadIsSound handed u
   taker_sound = record {
     line = subst (LineIsSound handed u) (sym line_u) (record {
-      named = known_named (has_mutex handed) queued_line.request
-          (ap (has_mutex handed) waiter_named ∙ change.mutexes m ∙ h.named);
-      belongs = (subst (LineIsSound s u) queued_line.line sound_u.line).belongs;
-      needs = subst (λ d. MeetsAll (is_living k) u (seat_at k u).status d (needs LockQueued))
-          (sym (ap (cell_at handed) waiter_named ∙ cell_m)) (
-            (
-              (λ z. absurd (not_stopped (sym (ap (λ (y : Seat). y.status) seat_woken) ∙ z))),
-              λ z. absurd
-                  (not_ended (sym (ap (λ (y : Seat). y.status) seat_woken) ∙ z)),
-            ),
-            ((λ z. h.number), ((λ z. refl), ((λ z. h.disorder), tt))),
-          );
+      named = known_still change.mutexes (λ i. refl) queued_line.request call_u.named;
+      belongs = call_u.belongs;
+      needs = subst (λ x. MeetsAll (is_living k) u x (cell_at handed (named_by queued_line.request))
+          (use_at s queued_line.request) (needs queued_line.place)) (sym (ap (λ (y : Seat). y.status) seat_woken))
+          (subst (λ d. MeetsAll (is_living k) u (Ready WokenOwns) d (use_at s queued_line.request)
+          (needs queued_line.place)) (sym (ap (cell_at handed) waiter_named ∙ cell_m))
+          (handed_needs (is_living s.kernel) (is_living k) u m (cell_at s (named_by queued_line.request)) left
+          (use_at s queued_line.request) queued_line.place queued_line.queued
+          (subst (λ x. MeetsAll (is_living s.kernel) u x (cell_at s (named_by queued_line.request))
+          (use_at s queued_line.request) (needs queued_line.place)) was_queued call_u.needs)
+          h.number refl h.disorder));
     });
     queue = λ j z. absurd (not_queued j (sym (ap (λ (y : Seat). y.status) seat_woken) ∙ z));
+    parked = λ j z. absurd (not_parked j (sym (ap (λ (y : Seat). y.status) seat_woken) ∙ z));
     list = subst (ListIsSound handed u) (sym line_u)
-        (lists_after s handed u m (At queued_line.request LockQueued)
-        (At queued_line.request LockQueued) waiter_named waiter_named h.named
+        (lists_after s handed u m (At queued_line.request queued_line.place)
+        (At queued_line.request queued_line.place) waiter_named waiter_named h.named
         change.mutexes change.robust change.cells row_u
-        (subst (λ d. ListsAfter s u m d (At queued_line.request LockQueued) (robust_at handed.lists u)) (sym cell_m)
-        (subst (ListsAfter s u m left (At queued_line.request LockQueued)) (sym list_u) lists_u)));
+        (subst (λ d. ListsAfter s u m d (At queued_line.request queued_line.place) (robust_at handed.lists u)) (sym cell_m)
+        (subst (ListsAfter s u m left (At queued_line.request queued_line.place)) (sym list_u) lists_u)));
     settled = subst (λ b. (j : ℕ) → has_mutex handed j ≡ true → (word_at handed.words j).number ≡ u
         → j ≢ mutex_by is_unsettled b → ((word_at handed.words j).died ≡ false) × (health_word_at handed.words j ≢ 2))
         (sym line_u)
-        (settled_after s handed u m (At queued_line.request LockQueued)
-        (At queued_line.request LockQueued) waiter_named change.mutexes change.cells
+        (settled_after s handed u m (At queued_line.request queued_line.place)
+        (At queued_line.request queued_line.place) waiter_named change.mutexes change.cells
         (subst (λ b. (j : ℕ) → has_mutex s j ≡ true → (word_at s.words j).number ≡ u → j ≢ mutex_by is_unsettled b
         → ((word_at s.words j).died ≡ false) × (health_word_at s.words j ≢ 2)) queued_line.line sound_u.settled)
-        (λ o d. absurd (d (sym waiter_named))));
+        (λ o d. absurd (d (sym unsettled_line))));
   }
     where
-      not_stopped : Ready WokenOwns ≡ Stopped → ⊥
-      not_stopped z = cc
+      call_u : CallIsSound s u queued_line.request queued_line.place
+      call_u = subst (LineIsSound s u) queued_line.line sound_u.line
 
-      not_ended : Ready WokenOwns ≡ Ended → ⊥
-      not_ended z = cc
+      not_parked : (j : ℕ) → Ready WokenOwns ≡ Parked j → ⊥
+      not_parked j z = cc
 
       not_queued : (j : ℕ) → Ready WokenOwns ≡ Queued j → ⊥
       not_queued j z = cc
@@ -298,76 +340,106 @@ module _ {s : Table} {t m : ℕ} {l : Line} {r : RobustRow} {x : Word} (h : Hand
   -- IN THE POSIX MACHINE
 
   -- the call of a third thread has come as far as before
-  calls : (j : ℕ) → j ≢ t → j ≢ u → is_living s.kernel j ≡ true
-      → call_at (health_at handed) (line_at s j) (status_at s j) ≡ call_at (health_at s) (line_at s j) (status_at s j)
-  calls j d e i = call_there s t m l r x a 1 k h.somebody h.lined h.row ml h.sound.shape j
-      (inr (λ o. d (sym o ∙ h.own))) (h.sound.threads j i d)
+  calls : (j : ℕ) → j ≢ t → j ≢ u
+      → call_at (health_at handed) (uses_of s) (line_at s j) (status_at s j) ≡ shown_call s j
+  calls j d e = by_test (λ b. is_living s.kernel j ≡ b → call_at (health_at handed) (uses_of s) (line_at s j)
+      (status_at s j) ≡ shown_call s j) (is_living s.kernel j)
+      (λ i _. call_there s t m l r x a 1 k h.somebody h.lined h.row ml h.sound.shape j
+      (inr (λ o. d (sym o ∙ h.own))) (h.sound.threads j i d))
+      (λ i _. subst (λ b. call_at (health_at handed) (uses_of s) b (status_at s j)
+      ≡ call_at (health_at s) (uses_of s) b (status_at s j)) (sym (h.sound.absent j i d).line) refl) refl
+
+  -- how often the variable of u's call was used
+  abbrev uses_u : ℕ
+  uses_u = uses_of s (variable_of queued_line.request)
+
+  -- u's call takes m
+  takes : call_at (health_at handed) (uses_of s) (line_at s u) (seat_at k u).status
+      ≡ Some (record { request = queued_line.request; progress = on_taking (health_of a x.died) })
+  takes =
+      ap₂ (λ (b : Line) (y : Seat). call_at (health_at handed) (uses_of s) b y.status) queued_line.line seat_woken
+      ∙ ap (λ p. Some (record { request = queued_line.request; progress = p }))
+      (queued_takes queued_line.request queued_line.place (health_at handed (named_by queued_line.request)) uses_u
+      queued_line.queued
+      ∙ ap (λ j. on_taking (health_at handed j)) waiter_named
+      ∙ ap (λ (d : Cell). on_taking (health_of d.health d.word.died)) cell_m)
 
   -- u's call has taken m
-  taken_call : call_at (health_at handed) (line_at s u) (seat_at k u).status ≡ progressed
-      (on_taking (health_of a x.died)) (call_at (health_at s) (line_at s u) (status_at s u))
-  taken_call =
-      ap₂ (λ (b : Line) (y : Seat). call_at (health_at handed) b y.status) queued_line.line seat_woken
-      ∙ ap (λ j. Some (record { request = queued_line.request; progress = on_taking (health_at handed j) }))
-      waiter_named
-      ∙ ap (λ (d : Cell). Some (record {
-        request = queued_line.request;
-        progress = on_taking
-            (health_of d.health d.word.died);
-      })) cell_m
-      ∙ ap₂ (λ (b : Line) (y : Status). progressed (on_taking (health_of a x.died)) (call_at (health_at s) b y))
-      (sym queued_line.line) (sym was_queued)
+  taken_call : call_at (health_at handed) (uses_of s) (line_at s u) (seat_at k u).status ≡ progressed
+      (on_taking (health_of a x.died)) (shown_call s u)
+  taken_call = takes
+      ∙ ap (λ (b : Line). progressed (on_taking (health_of a x.died))
+      (call_at (health_at s) (uses_of s) b (status_at s u))) (sym queued_line.line)
+
+  -- where t goes on to no wait or use, who was found blocked stays so
+  pub handed_frames : Follows (line_at s t) l → (may_enlist (line_at s t) ≡ false → WasBlockedIn s handed t)
+      → Frames s handed
+  handed_frames follows here = frames_by s handed t (length-set s.lines t l)
+      (λ j d. line_there s t m l r x a 1 k h.somebody h.lined h.row ml h.sound.shape j d)
+      (λ j d. by_thread j d (cases_eq j u))
+      (subst (Follows (line_at s t)) (sym line_t) follows) here
+    where
+      line_j : (j : ℕ) → j ≢ t → line_at handed j ≡ line_at s j
+      line_j j d = line_there s t m l r x a 1 k h.somebody h.lined h.row ml h.sound.shape j d
+
+      by_thread : (j : ℕ) → j ≢ t → (j ≡ u) ⊎ (j ≢ u) → WasBlockedIn s handed j
+      by_thread j d (inl e) = was_not s handed j (λ c. ap (is_call_blocked c)
+          (ap (λ b. call_at (health_at handed) (uses_of s) b (seat_at k j).status) (line_j j d)
+          ∙ ap (λ i. call_at (health_at handed) (uses_of s) (line_at s i) (seat_at k i).status) e ∙ takes)
+          ∙ call_unblocked queued_line.request (on_taking (health_of a x.died))
+          (taking_unblocked (health_of a x.died)) c)
+      by_thread j d (inr e) = was_same s handed j
+          ((λ i. call_at (health_at handed) (uses_of s) (line_j j d i) (seat_kept j e i).status) ∙ calls j d e)
+          (ap (λ (y : Seat). y.status) (seat_kept j e))
 
   -- the world that the table shows is w, where w has these threads, mutexes and waiters
   pub handed_shown : (y : Shadow) (w : World) → length w.threads ≡ length s.lines → length w.mutexes ≡ length s.mutexes
       → w.waiters ≡ without s.kernel.waiters u
-      → thread_at w t ≡ record (thread_shown s t) { call = call_at (health_at handed) l (status_at s t) }
-      → thread_at w u ≡ record (thread_shown s u) {
-        call = progressed (on_taking (health_of a x.died))
-            (thread_shown s u).call;
-      }
-      → ((j : ℕ) → j ≢ t → j ≢ u → thread_at w j ≡ thread_shown s j)
+      → thread_at w t ≡ record (thread_shown s y t) { call = call_at (health_at handed) (uses_of s) l (status_at s t) }
+      → thread_at w u ≡ record (thread_shown s y u) { call = progressed (on_taking (health_of a x.died)) (shown_call s u) }
+      → ((j : ℕ) → j < length s.lines → j ≢ t → j ≢ u → thread_at w j ≡ thread_shown s y j)
       → mutex_at w m ≡ record (mutex_shown s m) { owner = u; count = 1; health = health_of a x.died }
       → ((j : ℕ) → j ≢ m → mutex_at w j ≡ mutex_shown s j)
+      → (world_of s y).variables ≡ w.variables → s.limits.signals ≡ w.signals
       → world_of handed y ≡ w
-  handed_shown y w b d waiters giver taker others it rest =
+  handed_shown y w b d waiters giver taker others it rest variables signals =
       shows s t m l r x a 1 k h.somebody h.lined h.row ml h.sound.shape y w handed_sound.shape b d
       (handed_waiters u m s.kernel ∙ sym waiters)
-      (thread_here s t m l r x a 1 k h.somebody h.lined h.row ml h.sound.shape
+      (thread_here s t m l r x a 1 k h.somebody h.lined h.row ml h.sound.shape y
       ∙ (λ i. record {
         base = (seat_kept t (λ e. other (sym e)) i).base;
         living = living_kept t i;
-        call = call_at
-            (health_at handed) l (seat_kept t (λ e. other (sym e)) i).status;
+        call = call_at (health_at handed) (uses_of s) l (seat_kept t (λ e. other (sym e)) i).status;
+        memory = memory_at y t;
       })
       ∙ sym giver)
-      (λ j z. thread_there s t m l r x a 1 k h.somebody h.lined h.row ml h.sound.shape j z ∙ another j z (cases_eq j u))
+      (λ j f z. thread_there s t m l r x a 1 k h.somebody h.lined h.row ml h.sound.shape y j z
+      ∙ another j f z (cases_eq j u))
       ((λ i. record (mutex_shown s m) { owner = h.number i; count = 1; health = health_of a x.died }) ∙ sym it)
-      (λ j z. sym (rest j z))
+      (λ j z. sym (rest j z)) variables signals
     where
-      third : (j : ℕ) → j ≢ t → j ≢ u → call_at (health_at handed) (line_at s j) (seat_at k j).status ≡ call_at
-          (health_at s) (line_at s j) (status_at s j)
-      third j z e = ap (λ (q : Seat). call_at (health_at handed) (line_at s j) q.status) (seat_kept j e)
-          ∙ by_test (λ b. is_living s.kernel j ≡ b → call_at (health_at handed) (line_at s j)
-          (status_at s j) ≡ call_at (health_at s) (line_at s j) (status_at s j)) (is_living s.kernel j)
-          (λ i _. calls j z e i)
-          (λ i _. subst (λ b. call_at (health_at handed) b (status_at s j) ≡ call_at (health_at s) b (status_at s j))
-          (sym (h.sound.absent j i z).line) refl) refl
-
-      another : (j : ℕ) → j ≢ t → (j ≡ u) ⊎ (j ≢ u) → record {
+      another : (j : ℕ) → j < length s.lines → j ≢ t → (j ≡ u) ⊎ (j ≢ u) → record {
         base = (seat_at k j).base;
         living = is_living k j;
-        call = call_at (health_at handed) (line_at s j) (seat_at k j).status;
+        call = call_at (health_at handed) (uses_of s) (line_at s j) (seat_at k j).status;
+        memory = memory_at y j;
       } ≡ thread_at w j
-      another j z (inl e) = subst (λ i. record {
+      another j f z (inl e) = subst (λ i. record {
         base = (seat_at k i).base;
         living = is_living k i;
-        call = call_at
-            (health_at handed) (line_at s i) (seat_at k i).status;
+        call = call_at (health_at handed) (uses_of s) (line_at s i) (seat_at k i).status;
+        memory = memory_at y i;
       } ≡ thread_at w i) (sym e)
-          ((λ i. record { base = (seat_woken i).base; living = living_kept u i; call = taken_call i }) ∙ sym taker)
-      another j z (inr e) = (λ i. record {
+          ((λ i. record {
+            base = (seat_woken i).base;
+            living = living_kept u i;
+            call = taken_call i;
+            memory = memory_at y u;
+          }) ∙ sym taker)
+      another j f z (inr e) = (λ i. record {
         base = (seat_kept j e i).base;
         living = living_kept j i;
-        call = third j z e i;
-      }) ∙ sym (others j z e)
+        call = (ap (λ (q : Seat). call_at (health_at handed) (uses_of s) (line_at s j) q.status) (seat_kept j e)
+            ∙ calls j z e) i;
+        memory = memory_at y j;
+      }) ∙ sym (others j f z e)

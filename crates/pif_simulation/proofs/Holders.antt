@@ -1,47 +1,55 @@
 -- The law that no mutex ever has two holders by the answers, over runs of the POSIX machine: each call, each entry and
 -- each run keeps the invariant of `Holding`, and by it a holder is the owner.
-use Rattle.std.proofs.Common.{if◌then◌else◌, ◌-◌, ◌==◌, ◌≡◌, ◌≢◌, ◌⊎◌, ◌<◌, ℕ, ◌+◌, ◌-◌, Bool, true, false, List, [], ◌∷◌, ◌++◌, length, get_or, Option, Some, None, refl, sym, ap, ◌∙◌, subst, zero, suc, inl, inr, arith}
+use Rattle.std.proofs.Common.{if◌then◌else◌, ◌-◌, ◌==◌, ◌≡◌, ◌≢◌, ◌⊎◌, ◌<◌, ℕ, ◌+◌, nat_lt, Bool, true, false, List, [], ◌∷◌, ◌++◌, length, get_or, Option, Some, None, refl, sym, ap, ◌∙◌, subst, zero, suc, inl, inr, arith}
 use Rattle.std.proofs.lemmas.Bool.{cases_eq, eq-eqb, ne_eqb, true≢false}
 use Rattle.std.proofs.lemmas.Bool.Decides.{nat_tests}
-use Rattle.std.proofs.lemmas.List.{get_or-set_same, get_or-set_other, get_or_past, length_push}
+use Rattle.std.proofs.lemmas.List.{get_or-set_same, get_or-set_other, get_or_past, length_push, length-set, length-map}
+use Rattle.std.proofs.Math.ListN.{get_or-map}
 use Rattle.pif_types.specs.Bounds.{Bounds}
 use Rattle.pif_types.specs.declared.errors.Refusal.{Refusal}
 use Rattle.pif_types.specs.declared.requests.Kind.{Kind}
 use Rattle.pif_types.specs.declared.requests.Request.{Request}
-use Rattle.pif_types.specs.declared.requests.Request.TheVariants.{Lock, TryLock, Unlock, Consistent, SetPrio}
+use Rattle.pif_types.specs.declared.requests.Request.TheVariants.{Lock, TryLock, Unlock, Consistent, Wait, Signal, Broadcast, SetPrio}
 use Rattle.pif_model.specs.declared.events.Event.{Event}
 use Rattle.pif_model.specs.declared.events.Event.TheVariants.{Begin, Go, End}
 use Rattle.pif_model.specs.declared.events.Seen.TheVariants.{Begun, Answered, Ended, Refused}
 use Rattle.pif_model.specs.declared.events.Entry.{Entry}
 use Rattle.pif_model.specs.declared.events.Entry.TheVariants.{Step as Happened}
-use Rattle.pif_model.specs.History.{open_call, hold_count, hold_count_after_answer, holds, HasOneHolder, AlwaysOneHolder}
-use Rattle.pif_model.specs.Posix.{Progress, Call, Thread, Mutex, World, empty_world, nobody, no_mutex, thread_at, mutex_at, is_thread, is_living, is_mutex, with_thread, with_progress, with_base, named_by, names_known, begun_progress, LocksAgain, Locks, TriesToLock, Unlocks, MakesConsistent, Passes, SetsPriority, after_end, Ends, Effect, Effects, refusal_of, Step, IsRun}
+use Rattle.pif_model.specs.History.{open_call, hold_count, hold_count_after_answer, waiting_with, unlocking, holds, HasOneHolder, AlwaysOneHolder}
+use Rattle.pif_model.specs.Posix.{Progress, Call, Thread, Mutex, World, empty_world, nobody, no_mutex, thread_at, mutex_at, is_thread, is_living, is_mutex, with_thread, with_progress, with_base, variable_of, named_by, names_known, Memory, Variable, is_variable, begun_memory, begun_thread, recalled, noted, unblocked, on_unblocking, is_newly_blocked, after_use, used, all_unblocked, on_release, ChecksWait, GivesUp, Chooses, new_thread, LocksAgain, Locks, TriesToLock, Unlocks, MakesConsistent, Passes, SetsPriority, after_end, Ends, Effect, Effects, refusal_of, Step, IsRun}
 use Rattle.pif_model.specs.Graph.{without}
 use Rattle.pif_model.specs.Posix.Health.{Fine, Unusable}
-use Rattle.pif_model.specs.Posix.Progress.{Fresh, Waiting, Stuck, Leaving, Has}
+use Rattle.pif_model.specs.Posix.Progress.{Fresh, Waiting, Stuck, Leaving, Has, Checked, Enlisted, Blocked, Owing, Used}
+use Rattle.pif_model.specs.Posix.ChecksWait.{other_mutex, not_owner as wait_not_owner, held_more, checked}
+use Rattle.pif_model.specs.Posix.GivesUp.{becomes_unusable as wait_unusable, released as wait_released}
+use Rattle.pif_model.specs.Posix.Uses.{at_limit as use_at_limit, counts as use_counts}
+use Rattle.pif_model.specs.Posix.Chooses.{one, no_one, all}
 use Rattle.pif_model.specs.Posix.LocksAgain.{rises, at_limit}
 use Rattle.pif_model.specs.Posix.Locks.{own_normal, own_errorcheck, own_recursive as lock_own_recursive, free as lock_free, lost as lock_lost, cycle, joins}
 use Rattle.pif_model.specs.Posix.TriesToLock.{own_recursive as try_own_recursive, busy as try_busy, free as try_free}
 use Rattle.pif_model.specs.Posix.Unlocks.{not_owner, falls, becomes_unusable, released}
 use Rattle.pif_model.specs.Posix.MakesConsistent.{not_robust, not_owner as consistent_not_owner, not_inconsistent, made_fine}
 use Rattle.pif_model.specs.Posix.SetsPriority.{no_priority, not_living, changed}
-use Rattle.pif_model.specs.Posix.Effect.{lock, try_lock, unlock, consistent, set_prio, leave}
-use Rattle.pif_model.specs.Posix.Effects.{none as no_effect, then as effect_then}
-use Rattle.pif_model.specs.Posix.Step.{thread_added, mutex_added, refused, begun, went, waits, answered, ended}
+use Rattle.pif_model.specs.Posix.Effect.{lock, try_lock, unlock, consistent, set_prio, check_wait, enlist, give_up, lock_again, use_variable, choose, leave}
+use Rattle.pif_model.specs.Posix.Effects.{none as no_effect, then as effect_then, owed as effect_owed}
+use Rattle.pif_model.specs.Posix.Step.{thread_added, mutex_added, cond_added, refused, begun, went, waits, answered, ended}
 use Rattle.pif_model.specs.Posix.IsRun.{start, next}
 use Rattle.pif_model.specs.Standing.{waited_in}
 use Rattle.pif_chains.proofs.Among.{is_among-without}
 use Rattle.pif_chains.proofs.Numbers.{within, from_within}
 use Rattle.pif_chains.proofs.Places.{kept_at}
+use Rattle.pif_chains.proofs.Waiting.{by_test}
+use Rattle.pif_simulation.proofs.Kept.{second}
 use Rattle.pif_simulation.proofs.Worlds.{call_of, owner_of, written_at, push_other, push_same, call-with_thread_other, living-with_thread, begin_allowed, end_allowed}
-use Rattle.pif_simulation.proofs.Holding.{Counted, Holding, Stays, request_of, held-from_holds, Holding-begins, Holding-answers, Holding-ends}
-use Rattle.pif_simulation.proofs.AllHolding.{IsHeld, IsActing, view_of, times_held, times-other, acting, MayTake, may_take, IsOrderly-with_thread, IsHeld-but, IsHeld-stays, IsHeld-progresses, IsHeld-joins, IsHeld-takes, IsHeld-counts, IsHeld-owns, IsHeld-releases, IsHeld-with_health, IsHeld-Releases, IsOrderly-waiters, holder_is_owner}
+use Rattle.pif_simulation.proofs.Holding.{Counted, held_before, same_progress, Eases, Holding-eases, names_mutex, Holding, Stays, request_of, held-from_holds, Holding-begins, Holding-answers, Holding-ends}
+use Rattle.pif_simulation.proofs.AllHolding.{IsHeld, IsActing, view_of, times_held, times-other, acting, MayTake, may_take, wait_may_take, IsOrderly-with_thread, IsHeld-but, IsHeld-stays, IsHeld-progresses, IsHeld-joins, IsHeld-takes, IsHeld-counts, IsHeld-owns, IsHeld-releases, IsHeld-with_health, IsHeld-Releases, IsOrderly-waiters, holder_is_owner}
 
 -- CALLS
 
--- a result that is an error: neither 0 nor EOWNERDEAD
+-- a result that changes no hold count, of whatever call: not 0, EOWNERDEAD, ENOTRECOVERABLE or EDEADLK
 abbrev is_error : ℕ → Bool
-is_error a = if a == 0 then false else (if a == 130 then false else true)
+is_error a = if a == 0 then false else (if a == 130 then false else (if a == 131 then false
+    else (if a == 35 then false else true)))
 
 -- an error changes no hold count
 error_changes_nothing : (q : Request) (a : ℕ) → is_error a ≡ true → (n : ℕ)
@@ -50,11 +58,25 @@ error_changes_nothing (Lock m) a e n = grind (arith, nat_tests)
 error_changes_nothing (TryLock m) a e n = grind (arith, nat_tests)
 error_changes_nothing (Unlock m) a e n = grind (arith, nat_tests)
 error_changes_nothing (Consistent m) a e n = refl
+error_changes_nothing (Wait c m) a e n = grind (arith, nat_tests)
+error_changes_nothing (Signal c) a e n = refl
+error_changes_nothing (Broadcast c) a e n = refl
 error_changes_nothing (SetPrio u p) a e n = refl
+
+-- who leaves its mutex doesn't hold it by the answers then
+left_by : (q : Request) (n : ℕ) → n ≡ held_before q → hold_count_after_answer (named_by q) (Some q) 131 n ≡ 0
+left_by (Lock m) n e = grind (arith, nat_tests)
+left_by (TryLock m) n e = grind (arith, nat_tests)
+left_by (Unlock m) n e = grind (arith, nat_tests)
+left_by (Consistent m) n e = e
+left_by (Wait c m) n e = rw (eq-eqb m m refl) refl
+left_by (Signal c) n e = e
+left_by (Broadcast c) n e = e
+left_by (SetPrio u p) n e = e
 
 -- a call that leaves its mutex holds it once by the machine, and has given it up where it has its result
 leaving_ends : (q : Request) (n k : ℕ) → Counted q Leaving n k → (k ≡ 1) × Counted q (Has 131) n 0
-leaving_ends q n k c = (c.1, error_changes_nothing q 131 refl n ∙ c.0)
+leaving_ends q n k c = (c.1, left_by q n c.0)
 
 -- what a call of q that has come to a rests on where it locks its mutex: how what it says of its hold count goes on to
 -- what it says at each point to which a lock may bring it
@@ -74,7 +96,7 @@ may_lock m = (
     again = λ n i e. again_lock n i e;
     full = λ n e. error_changes_nothing (Lock m) 11 refl n ∙ e;
     sticks = λ n i e. e;
-    cycle = λ n i e. error_changes_nothing (Lock m) 35 refl n ∙ e;
+    cycle = λ n i e. rw (eq-eqb m m refl) e;
     joins = λ n i e. e;
   },
   record {
@@ -82,7 +104,7 @@ may_lock m = (
     again = λ n i e. again_try n i e;
     full = λ n e. error_changes_nothing (TryLock m) 11 refl n ∙ e;
     sticks = λ n i e. e;
-    cycle = λ n i e. error_changes_nothing (TryLock m) 35 refl n ∙ e;
+    cycle = λ n i e. rw (eq-eqb m m refl) e;
     joins = λ n i e. e;
   },
 )
@@ -92,6 +114,20 @@ may_lock m = (
 
     again_try : (n i : ℕ) → n ≡ i → hold_count_after_answer m (Some (TryLock m)) 0 n ≡ i + 1
     again_try n i e = grind (arith, nat_tests)
+
+-- and a wait that owes the lock
+wait_may_lock : (c m : ℕ) → MayLock (Wait c m) Owing
+wait_may_lock c m = record {
+  takes = (wait_may_take c m).0;
+  again = λ n i e. rw (eq-eqb m m refl) (more n i e.0 e.1);
+  full = λ n e. (let z = e.1 in absurd (omega arith));
+  sticks = λ n i e. e;
+  cycle = λ n i e. rw (eq-eqb m m refl) (sym e.1);
+  joins = λ n i e. e;
+}
+  where
+    more : (n i : ℕ) → n ≡ 1 → i ≡ 0 → n ≡ i + 1
+    more n i a b = omega arith
 
 -- a call that may lock its mutex
 module _ {f : ℕ → Option Request} {counts : ℕ → ℕ → ℕ} {w : World} (h : IsHeld f counts w) {t : ℕ} {q : Request}
@@ -164,6 +200,148 @@ module _ {f : ℕ → Option Request} {counts : ℕ → ℕ → ℕ} {w : World}
           holder_is_owner h.orderly t (named_by q)
           (leaving_ends q _ _ ((h.each t).own (record { request = q; progress = Leaving }) k.call)).0
 
+  -- a wait is checked
+  IsHeld-ChecksWait : {c m : ℕ} {v : World} → is_mutex w m ≡ true → IsActing w t (Wait c m) Fresh → ChecksWait t c m w v
+      → IsHeld f counts v
+  IsHeld-ChecksWait known k (other_mutex bound e) = rw e (IsHeld-fails k 22 refl)
+  IsHeld-ChecksWait known k (wait_not_owner bound other e) = rw e (IsHeld-fails k 1 refl)
+  IsHeld-ChecksWait known k (held_more bound own more e) = rw e (IsHeld-fails k 22 refl)
+  IsHeld-ChecksWait known k (checked bound own once e) =
+      rw e (IsHeld-owns h k known Checked own (λ n i. (i ∙ once, once)))
+
+  -- a wait gives its mutex up
+  IsHeld-GivesUp : {c m : ℕ} {v : World} (still : Bool) → IsActing w t (Wait c m) (Enlisted still)
+      → GivesUp t m still w v → IsHeld f counts v
+  IsHeld-GivesUp {c} {m} still k (wait_unusable own health e) = rw e (IsHeld-with_health h m Unusable)
+  IsHeld-GivesUp {c} {m} still k (wait_released own health passes) =
+      IsHeld-releases h k holds_it.2 (on_release still) holds_it.0 holds_it.1 (gives still) passes
+    where
+      holds_it : (owner_of w m ≡ t) × ((mutex_at w m).count ≡ 1) × (is_mutex w m ≡ true)
+      holds_it = holder_is_owner h.orderly t m
+          ((h.each t).own (record { request = Wait c m; progress = Enlisted still }) k.call).1
+
+      gives : (b : Bool) (n : ℕ) → Counted (Wait c m) (Enlisted still) n 1 → Counted (Wait c m) (on_release b) n 0
+      gives true n e = (e.0, refl)
+      gives false n e = (e.0, refl)
+
+-- CALLS BESIDE
+
+-- each thread's call comes further, if at all, and it lives, waits and holds as before
+IsHeld-eased : {f : ℕ → Option Request} {counts : ℕ → ℕ → ℕ} {w : World} → IsHeld f counts w → (ts : List Thread)
+    (vs : List Variable) → let v : World = record w { threads = ts; variables = vs } in
+    length ts ≡ length w.threads → ((x : ℕ) → is_living v x ≡ is_living w x)
+    → ((x : ℕ) → Eases (call_of w x) (call_of v x)) → IsHeld f counts v
+IsHeld-eased {f} {counts} {w} h ts vs long lives eases = record {
+  orderly = record {
+    room = omega (arith, long, h.orderly.room);
+    nobody = lives 0 ∙ h.orderly.nobody;
+    no_mutex = h.orderly.no_mutex;
+    owners = λ m n. ap (λ k. if owner_of w m == 0 then false else nat_lt (owner_of w m) k) long ∙ h.orderly.owners m n;
+  };
+  each = λ x. subst (Holding (f x) (counts x) (is_mutex w)) (as_seen x)
+      (Holding-eases (call_of (record w { threads = ts; variables = vs }) x) (h.each x) (eases x));
+}
+  where
+    as_seen : (x : ℕ) → record (view_of w x) { call = call_of (record w { threads = ts; variables = vs }) x }
+        ≡ view_of (record w { threads = ts; variables = vs }) x
+    as_seen x = λ i. record {
+      call = call_of (record w { threads = ts; variables = vs }) x;
+      living = sym (lives x) i;
+      held = λ m. times_held (sym (lives x) i) x (mutex_at w m);
+      among = (view_of w x).among;
+    }
+
+-- a call that stays
+eases_same : (o : Option Call) → Eases o o
+eases_same o = record { none = λ e. e; some = λ q a e. (a, e, (λ n k c. c), λ z. z) }
+
+-- a call that is unblocked
+eases_unblocked : (o : Option Call) → Eases o (unblocked o)
+eases_unblocked o = record {
+  none = λ e. ap unblocked e;
+  some = λ q a e. (on_unblocking a, ap unblocked e, (λ n k c. counted q a n k c), waiting a);
+}
+  where
+    counted : (q : Request) (a : Progress) (n k : ℕ) → Counted q a n k → Counted q (on_unblocking a) n k
+    counted q (Enlisted still) n k c = c
+    counted q (Blocked b) n k c = c
+    counted q _ n k c = c
+
+    waiting : (a : Progress) → a ≡ Waiting → on_unblocking a ≡ Waiting
+    waiting a e = ap on_unblocking e
+
+-- a call that is noted
+eases_noted : (o : Option Call) → Eases o (noted o)
+eases_noted None = eases_same None
+eases_noted (Some x) = by_progress x.request x.progress
+  where
+    by_progress : (q : Request) (a : Progress)
+        → Eases (Some (record { request = q; progress = a })) (noted (Some (record { request = q; progress = a })))
+    by_progress q (Blocked b) = record {
+      none = λ e. absurd (cc);
+      some = λ r p e. (
+        Blocked true,
+        ap noted e ∙ ap (λ x. noted (Some (record { request = r; progress = x }))) (same_progress e refl),
+        (λ n k c. subst (λ x. Counted r x n k) (same_progress e refl) c),
+        λ z. absurd (let x : Blocked b ≡ Waiting = sym (same_progress e refl) ∙ z in cc),
+      );
+    }
+    by_progress q a = eases_same (Some (record { request = q; progress = a }))
+
+module _ {f : ℕ → Option Request} {counts : ℕ → ℕ → ℕ} {w : World} (h : IsHeld f counts w) where
+  -- the call of one thread is changed so
+  IsHeld-recalled : (u : ℕ) (g : Option Call → Option Call) → g None ≡ None → ((o : Option Call) → Eases o (g o))
+      → IsHeld f counts (recalled u g w)
+  IsHeld-recalled u g none eases = IsHeld-eased h (recalled u g w).threads w.variables
+      (length-set w.threads u x) (living-with_thread w u x refl) (λ y. by_thread y (cases_eq y u))
+    where
+      x : Thread
+      x = record (thread_at w u) { call = g (thread_at w u).call }
+
+      by_thread : (y : ℕ) → (y ≡ u) ⊎ (y ≡ u → ⊥) → Eases (call_of w y) (call_of (recalled u g w) y)
+      by_thread y (inl e) = subst (λ z. Eases (call_of w z) (call_of (recalled u g w) z)) (sym e)
+          (subst (Eases (call_of w u)) (sym (written_at (λ (z : Thread). z.call) w.threads u x nobody
+          (λ l. ap (λ (z : Thread). g z.call) (get_or_past w.threads u nobody l) ∙ none))) (eases (call_of w u)))
+      by_thread y (inr d) = subst (Eases (call_of w y)) (sym (call-with_thread_other w u x y d)) (eases_same (call_of w y))
+
+  -- a variable is used
+  IsHeld-used : (c : ℕ) → IsHeld f counts (used c w)
+  IsHeld-used c = IsHeld-eased h (used c w).threads (used c w).variables (length-map w.threads (after_use c))
+      (λ x. ap (λ (y : Thread). y.living) (get_or-map (after_use c) w.threads x nobody) ∙ lives (thread_at w x))
+      (λ x. subst (Eases (call_of w x)) (sym (ap (λ (y : Thread). y.call) (get_or-map (after_use c) w.threads x nobody)))
+      (eases (thread_at w x)))
+    where
+      lives : (x : Thread) → (after_use c x).living ≡ x.living
+      lives x = by_test (λ b. (if b then record x { call = unblocked x.call } else x).living ≡ x.living)
+          (is_newly_blocked c x.call) (λ _. refl) (λ _. refl)
+
+      eases : (x : Thread) → Eases x.call (after_use c x).call
+      eases x = by_test (λ b. Eases x.call (if b then record x { call = unblocked x.call } else x).call)
+          (is_newly_blocked c x.call) (λ _. eases_unblocked x.call) (λ _. eases_same x.call)
+
+-- these are unblocked
+IsHeld-all_unblocked : {f : ℕ → Option Request} {counts : ℕ → ℕ → ℕ} (us : List ℕ) {w : World} → IsHeld f counts w
+    → IsHeld f counts (all_unblocked us w)
+unfolding all_unblocked
+IsHeld-all_unblocked [] h = h
+IsHeld-all_unblocked (u ∷ us) h = IsHeld-all_unblocked us (IsHeld-recalled h u unblocked refl eases_unblocked)
+
+-- a choice
+IsHeld-Chooses : {f : ℕ → Option Request} {counts : ℕ → ℕ → ℕ} {w v : World} {t : ℕ} {q : Request}
+    → IsHeld f counts w → IsActing w t q Used → Chooses t q w v → IsHeld f counts v
+IsHeld-Chooses {f} {counts} {w} {v} {t} {q} h k e = by_case e
+  where
+    has_result : (r : Request) → q ≡ r → ((n i : ℕ) → n ≡ i → hold_count_after_answer (named_by r) (Some r) 0 n ≡ i)
+        → IsHeld f counts (with_progress t (Has 0) w)
+    has_result r s same = IsHeld-progresses h k (Has 0)
+        (subst (λ x. (n i : ℕ) → n ≡ i → hold_count_after_answer (named_by x) (Some x) 0 n ≡ i) (sym s) same)
+
+    by_case : Chooses t q w v → IsHeld f counts v
+    by_case (one c u s blocked greatest e) =
+        rw e (IsHeld-recalled (has_result (Signal c) s (λ n i x. x)) u unblocked refl eases_unblocked)
+    by_case (no_one c s none e) = rw e (has_result (Signal c) s (λ n i x. x))
+    by_case (all c us s blocked among e) = rw e (IsHeld-all_unblocked us (has_result (Broadcast c) s (λ n i x. x)))
+
 -- a base priority changes neither calls nor owners
 IsHeld-with_base : {f : ℕ → Option Request} {counts : ℕ → ℕ → ℕ} {w : World} → IsHeld f counts w → (u p : ℕ)
     → IsHeld f counts (with_base u p w)
@@ -196,6 +374,12 @@ IsHeld-SetsPriority {w = w} h {t} {u} {p} k (changed good lives e) =
       alone = k.alone;
     }
 
+-- a call on which no effect has happened yet stays so where a variable is used
+after_use_fresh : (c : ℕ) (x : Thread) (q : Request) → x.call ≡ Some (record { request = q; progress = Fresh })
+    → (after_use c x).call ≡ Some (record { request = q; progress = Fresh })
+after_use_fresh c x q e =
+    ap (λ b. (if b then record x { call = unblocked x.call } else x).call) (ap (is_newly_blocked c) e) ∙ e
+
 -- an effect
 IsHeld-Effect : {f : ℕ → Option Request} {counts : ℕ → ℕ → ℕ} {t : ℕ} {w v : World} → IsHeld f counts w → Effect t w v
     → IsHeld f counts v
@@ -212,13 +396,34 @@ IsHeld-Effect {f} {counts} {t} {w} {v} h effect = by_call effect
     by_call (consistent m before e) =
         IsHeld-MakesConsistent h ((h.each t).named _ before) (afresh (Consistent m) before) e
     by_call (leave q before e) = IsHeld-leaves h (acting h t q Leaving before (λ k. absurd (cc))) e
+    by_call (check_wait c m before e) =
+        IsHeld-ChecksWait h ((h.each t).named _ before) (afresh (Wait c m) before) e
+    by_call (enlist c m before e) =
+        rw e (IsHeld-progresses h (acting h t (Wait c m) Checked before (λ k. absurd (cc))) (Enlisted true) (λ n i x. x))
+    by_call (give_up c m still before e) =
+        IsHeld-GivesUp h still (acting h t (Wait c m) (Enlisted still) before (λ k. absurd (cc))) e
+    by_call (lock_again c m before e) =
+        IsHeld-Locks h (acting h t (Wait c m) Owing before (λ k. absurd (cc))) ((h.each t).named _ before)
+        (wait_may_lock c m) refl e
+    by_call (use_variable q before is_used (use_at_limit full e)) = rw e (IsHeld-fails h (afresh q before) 75 refl)
+    by_call (use_variable q before is_used (use_counts some e)) =
+        rw e (IsHeld-progresses (IsHeld-used h (variable_of q)) (record {
+          call = ap (λ (x : Thread). x.call) (get_or-map (after_use (variable_of q)) w.threads t nobody)
+              ∙ after_use_fresh (variable_of q) (thread_at w t) q before;
+          alone = (afresh q before).alone;
+        }) Used (λ n i x. x))
+    by_call (choose q before e) = IsHeld-Chooses h (acting h t q Used before (λ k. absurd (cc))) e
     by_call (set_prio u p before e) = IsHeld-SetsPriority h (afresh (SetPrio u p) before) e
 
 -- the effects of one Go
-IsHeld-Effects : {f : ℕ → Option Request} {counts : ℕ → ℕ → ℕ} {t : ℕ} {w v : World} → IsHeld f counts w → Effects t w v
+IsHeld-Effects : {f : ℕ → Option Request} {counts : ℕ → ℕ → ℕ} {t : ℕ} {begin w v : World} → IsHeld f counts w
+    → Effects t begin w v
     → IsHeld f counts v
 IsHeld-Effects h (no_effect e) = rw e h
 IsHeld-Effects h (effect_then e more) = IsHeld-Effects (IsHeld-Effect h e) more
+IsHeld-Effects h (effect_owed b c m blocked before e more) =
+    IsHeld-Effects (IsHeld-Locks h (acting h b (Wait c m) Owing before (λ k. absurd (cc))) ((h.each b).named _ before)
+    (wait_may_lock c m) refl e) more
 
 -- ENTRIES
 
@@ -228,12 +433,13 @@ IsHeldBy h w = IsHeld (λ t. open_call t h) (λ t m. hold_count t m h) w
 
 -- t's call is c from now on, which the history opens or closes: the others stay, and t lives and holds as it did
 IsHeld-calls : {f later_f : ℕ → Option Request} {counts later_counts : ℕ → ℕ → ℕ} {w : World} → IsHeld f counts w
-    → (t : ℕ) (c : Option Call) → let v : World = with_thread t (record (thread_at w t) { call = c }) w in
+    → (t : ℕ) (c : Option Call) (y : Memory)
+    → let v : World = with_thread t (record (thread_at w t) { call = c; memory = y }) w in
     ((x : ℕ) → x ≢ t → (later_f x ≡ f x) × ((m : ℕ) → later_counts x m ≡ counts x m))
     → (is_living v t ≡ is_living w t → ((m : ℕ) → (view_of v t).held m ≡ (view_of w t).held m)
     → Holding (later_f t) (later_counts t) (is_mutex w) (view_of v t))
     → IsHeld later_f later_counts v
-IsHeld-calls {w = w} h t c others mine =
+IsHeld-calls {w = w} h t c y others mine =
     IsHeld-but t h (IsOrderly-with_thread w t x h.orderly (lives 0)) (λ m y. y)
     (λ u d. (
       (others u d).0,
@@ -248,7 +454,7 @@ IsHeld-calls {w = w} h t c others mine =
     (mine (lives t) (held t))
   where
     x : Thread
-    x = record (thread_at w t) { call = c }
+    x = record (thread_at w t) { call = c; memory = y }
 
     lives : (u : ℕ) → is_living (with_thread t x w) u ≡ is_living w u
     lives = living-with_thread w t x refl
@@ -258,27 +464,36 @@ IsHeld-calls {w = w} h t c others mine =
 
 -- a call begins
 IsHeld-begins : (h : List Entry) (w : World) (t : ℕ) (q : Request) → IsHeldBy h w → refusal_of w (Begin t q) ≡ None
-    → let c : Call = record { request = q; progress = begun_progress w q } in
-    IsHeldBy (Happened (Begin t q) Begun ∷ h) (with_thread t (record (thread_at w t) { call = Some c }) w)
+    → IsHeldBy (Happened (Begin t q) Begun ∷ h) (with_thread t (begun_thread w q (thread_at w t)) w)
 IsHeld-begins h w t q held allowed =
-    IsHeld-calls held t (Some c)
+    IsHeld-calls held t (Some c) (begun_memory w q (thread_at w t).memory)
     (λ x d. (rw (ne_eqb t x (λ e. d (sym e))) refl, λ m. refl))
     (λ lives same. Holding-begins (held.each t) (rw (eq-eqb t t refl) refl) (record {
       before = let_in.2;
-      after = written_at (λ (y : Thread). y.call) w.threads t (record (thread_at w t) { call = Some c }) nobody
+      after = written_at (λ (y : Thread). y.call) w.threads t (begun_thread w q (thread_at w t)) nobody
           (λ l. absurd (omega (arith, (within t (length w.threads) let_in.0).1)));
       lives = lives ∙ let_in.1;
       held = same;
       fewer = λ m y. y;
-      named = let_in.3;
+      named = names_only q let_in.3;
       fresh = λ n i e. e;
     }))
   where
     c : Call
     c = record { request = q; progress = Fresh }
 
+    names_only : (r : Request) → names_known (is_mutex w) (is_variable w) r ≡ true → names_mutex (is_mutex w) r ≡ true
+    names_only (Lock m) e = e
+    names_only (TryLock m) e = e
+    names_only (Unlock m) e = e
+    names_only (Consistent m) e = e
+    names_only (Wait i m) e = second (is_variable w i) (is_mutex w m) e
+    names_only (Signal i) e = refl
+    names_only (Broadcast i) e = refl
+    names_only (SetPrio u p) e = refl
+
     let_in : (is_thread w t ≡ true) × (is_living w t ≡ true) × (call_of w t ≡ None)
-        × (names_known (is_mutex w) q ≡ true)
+        × (names_known (is_mutex w) (is_variable w) q ≡ true)
     let_in = begin_allowed w t q allowed
 
 -- a call is answered
@@ -286,7 +501,7 @@ IsHeld-answers : (h : List Entry) (w : World) (t a : ℕ) (q : Request) → IsHe
     → call_of w t ≡ Some (record { request = q; progress = Has a })
     → IsHeldBy (Happened (Go t) (Answered a) ∷ h) (with_thread t (record (thread_at w t) { call = None }) w)
 IsHeld-answers h w t a q held before =
-    IsHeld-calls held t None
+    IsHeld-calls held t None (thread_at w t).memory
     (λ x d. (rw (ne_eqb t x (λ e. d (sym e))) refl, λ m. rw (ne_eqb t x (λ e. d (sym e))) refl))
     (λ lives same. Holding-answers {q = q} {a = a} (held.each t) (rw (eq-eqb t t refl) refl)
     (λ m. rw (eq-eqb t t refl) refl)
@@ -300,7 +515,7 @@ IsHeld-answers h w t a q held before =
 
 -- one more thread, with no call open: it owns nothing yet
 IsHeld-thread_added : {f : ℕ → Option Request} {counts : ℕ → ℕ → ℕ} {w : World} → IsHeld f counts w → (p : ℕ)
-    → IsHeld f counts (record w { threads = w.threads ++ record { base = p; living = true; call = None } ∷ [] })
+    → IsHeld f counts (record w { threads = w.threads ++ new_thread p ∷ [] })
 IsHeld-thread_added {w = w} h p =
     IsHeld-stays h
     (record {
@@ -312,7 +527,7 @@ IsHeld-thread_added {w = w} h p =
     (λ m y. y) (λ t. stays t (cases_eq t (length w.threads)))
   where
     x : Thread
-    x = record { base = p; living = true; call = None }
+    x = new_thread p
 
     v : World
     v = record w { threads = w.threads ++ x ∷ [] }
@@ -376,6 +591,18 @@ IsHeld-mutex_added {w = w} h k r =
     owners : (m : ℕ) → owner_of v m ≡ owner_of w m
     owners m = push_same (λ (y : Mutex). y.owner) w.mutexes z no_mutex m refl
 
+-- one more variable
+IsHeld-variables : {f : ℕ → Option Request} {counts : ℕ → ℕ → ℕ} {w : World} → IsHeld f counts w → (vs : List Variable)
+    → IsHeld f counts (record w { variables = vs })
+IsHeld-variables h vs = IsHeld-stays h
+    (record {
+      room = h.orderly.room;
+      nobody = h.orderly.nobody;
+      no_mutex = h.orderly.no_mutex;
+      owners = h.orderly.owners;
+    })
+    (λ m y. y) (λ t. record { call = refl; living = λ e. e; held = λ m. refl; fewer = λ m y. y })
+
 -- a thread ends
 IsHeld-ends : (h : List Entry) (w v : World) (t : ℕ) → IsHeldBy h w → Ends t w v
     → IsHeldBy (Happened (End t) Ended ∷ h) v
@@ -434,10 +661,13 @@ IsHeld-Step : (l : Bounds) (h : List Entry) (w : World) (e : Entry) (v : World) 
 IsHeld-Step l h w e v held (thread_added t p same is_next room low high after) =
     rw (same, after) (IsHeld-thread_added held p)
 IsHeld-Step l h w e v held (mutex_added m k r same is_next room after) = rw (same, after) (IsHeld-mutex_added held k r)
+IsHeld-Step l h w e v held (cond_added c m same known is_next room after) =
+    rw (same, after) (IsHeld-variables held _)
 IsHeld-Step l h w e v held (refused x r same why after) = rw (same, after) (IsHeld-refused h w x r held)
 IsHeld-Step l h w e v held (begun t q same allowed after) = rw (same, after) (IsHeld-begins h w t q held allowed)
 IsHeld-Step l h w e v held (went t same goes runs) = rw same (IsHeld-Effects held goes.effects)
-IsHeld-Step l h w e v held (waits t same goes resting) = rw same (IsHeld-Effects held goes.effects)
+IsHeld-Step l h w e v held (waits t u same goes after resting) =
+    rw (same, after) (IsHeld-recalled (IsHeld-Effects held goes.effects) t noted refl eases_noted)
 IsHeld-Step l h w e v held (answered t a q u same goes before after runs) =
     rw (same, after) (IsHeld-answers h u t a q (IsHeld-Effects held goes.effects) before)
 IsHeld-Step l h w e v held (ended t same ends) = rw same (IsHeld-ends h w v t held ends)
@@ -445,23 +675,23 @@ IsHeld-Step l h w e v held (ended t same ends) = rw same (IsHeld-ends h w v t he
 -- RUNS
 
 -- the empty state
-IsHeld-empty : IsHeldBy [] empty_world
-IsHeld-empty =
+IsHeld-empty : (n : ℕ) → IsHeldBy [] (empty_world n)
+IsHeld-empty n =
     record {
       orderly = record {
         room = omega arith;
         nobody = refl;
         no_mutex = refl;
-        owners = λ m n. absurd (n (ap (λ (y : Mutex). y.owner) (lone no_mutex m)));
+        owners = λ m z. absurd (z (ap (λ (y : Mutex). y.owner) (lone no_mutex m)));
       };
       each = λ t. record {
         idle = λ e. no_call t;
         request = sym (ap request_of (no_call t));
-        named = λ c e. let none : call_of empty_world t ≡ None = no_call t in absurd (cc);
+        named = λ c e. let none : call_of (empty_world n) t ≡ None = no_call t in absurd (cc);
         waiting = λ m e. absurd (true≢false (sym e));
-        own = λ c e. let none : call_of empty_world t ≡ None = no_call t in absurd (cc);
+        own = λ c e. let none : call_of (empty_world n) t ≡ None = no_call t in absurd (cc);
         elsewhere = λ m apart.
-            sym (ap (λ (y : Thread). times_held y.living t (mutex_at empty_world m)) (lone nobody t));
+            sym (ap (λ (y : Thread). times_held y.living t (mutex_at (empty_world n) m)) (lone nobody t));
       };
     }
   where
@@ -469,12 +699,12 @@ IsHeld-empty =
     lone d zero = refl
     lone d (suc n) = refl
 
-    no_call : (t : ℕ) → call_of empty_world t ≡ None
+    no_call : (t : ℕ) → call_of (empty_world n) t ≡ None
     no_call t = ap (λ (x : Thread). x.call) (lone nobody t)
 
 -- the invariant holds after each run
 pub IsHeld-IsRun : (l : Bounds) {h : List Entry} {r : List World} {w : World} → IsRun l h r w → IsHeldBy h w
-IsHeld-IsRun l (start e) = subst (λ (x : World). IsHeldBy [] x) (sym e) IsHeld-empty
+IsHeld-IsRun l (start e) = subst (λ (x : World). IsHeldBy [] x) (sym e) (IsHeld-empty l.signals)
 IsHeld-IsRun l (next {h = h} {e = e} {w = w} {v = v} run step) = IsHeld-Step l h w e v (IsHeld-IsRun l run) step
 
 -- who holds a mutex by the answers owns it
@@ -482,10 +712,20 @@ pub holder_owns : (l : Bounds) (h : List Entry) (r : List World) (w : World) →
     → holds t m h ≡ true → owner_of w m ≡ t
 holder_owns l h r w run t m held = by_owner (cases_eq (owner_of w m) t)
   where
+    -- no wait on it is open
+    outside : (waiting_with m (open_call t h) ≡ false)
+        × (nat_lt (unlocking m (open_call t h)) (hold_count t m h) ≡ true)
+    outside = go (waiting_with m (open_call t h)) (nat_lt (unlocking m (open_call t h)) (hold_count t m h)) held
+      where
+        go : (a b : Bool) → (if a then false else b) ≡ true → (a ≡ false) × (b ≡ true)
+        go false b e = (refl, e)
+        go true b e = absurd (true≢false (sym e))
+
     by_owner : (owner_of w m ≡ t) ⊎ (owner_of w m ≡ t → ⊥) → owner_of w m ≡ t
     by_owner (inl e) = e
     by_owner (inr d) =
-        absurd (held-from_holds ((IsHeld-IsRun l run).each t) m held (times-other (is_living w t) t (mutex_at w m) d))
+        absurd (held-from_holds ((IsHeld-IsRun l run).each t) m outside.0 outside.1
+        (times-other (is_living w t) t (mutex_at w m) d))
 
 -- after a run no mutex has two holders
 one_now : (l : Bounds) (h : List Entry) (r : List World) (w : World) → IsRun l h r w → HasOneHolder h

@@ -20,13 +20,13 @@
 --   the hold count: how `Counted` at the call's progress before gives `Counted` after.
 -- * A new entry: its line in `IsHeld-Step`; one that closes calls or resets hold counts goes by `IsHeld-but`.
 use Rattle.std.proofs.Common.{◌≡◌, ◌≢◌, ◌⊎◌, ◌<◌, ℕ, Bool, true, false, nat_lt, Option, Some, None, refl, sym, ap, ◌∙◌, subst, subst₂, inl, inr, arith}
-use Rattle.std.proofs.lemmas.Bool.{ne_eqb, cases_eq}
+use Rattle.std.proofs.lemmas.Bool.{ne_eqb, eq-eqb, cases_eq, true≢false}
 use Rattle.std.proofs.lemmas.Bool.Decides.{nat_tests}
 use Rattle.pif_types.specs.declared.requests.Request.{Request}
-use Rattle.pif_types.specs.declared.requests.Request.TheVariants.{Lock, TryLock, Unlock, Consistent, SetPrio}
-use Rattle.pif_model.specs.History.{hold_count_after_answer, unlocking}
+use Rattle.pif_types.specs.declared.requests.Request.TheVariants.{Lock, TryLock, Unlock, Consistent, Wait, Signal, Broadcast, SetPrio}
+use Rattle.pif_model.specs.History.{hold_count_after_answer, unlocking, waiting_with}
 use Rattle.pif_model.specs.Posix.{Progress, Call, named_by, names_known}
-use Rattle.pif_model.specs.Posix.Progress.{Fresh, Waiting, Stuck, Leaving, Has}
+use Rattle.pif_model.specs.Posix.Progress.{Fresh, Waiting, Stuck, Leaving, Has, Checked, Enlisted, Blocked, Owing, Used}
 use Rattle.pif_model.specs.Standing.{waited_in}
 
 -- what a state of the POSIX machine has of one thread
@@ -43,14 +43,34 @@ abbrev pub request_of : Option Call → Option Request
 request_of None = None
 request_of (Some c) = Some c.request
 
+-- the mutex that a request names is known, as far as it names any
+abbrev pub names_mutex : (ℕ → Bool) → Request → Bool
+names_mutex known q = names_known known (λ c. true) q
+
+-- a thread that waits for the call's mutex holds it n times by the answers, k times by the machine: a wait has given it
+-- up and will own it again
+abbrev pub Apart : Request → ℕ → ℕ → Type 0
+Apart (Wait c m) n k = (n ≡ 1) × (k ≡ 0)
+Apart _ n k = n ≡ k
+
+-- how often a call that leaves its mutex held it before by the answers
+abbrev pub held_before : Request → ℕ
+held_before (Wait c m) = 1
+held_before _ = 0
+
 -- a thread whose call of this request has come this far holds the call's mutex n times by the answers, k times by the
 -- machine
 abbrev pub Counted : Request → Progress → ℕ → ℕ → Type 0
 Counted q Fresh n k = n ≡ k
-Counted q Waiting n k = n ≡ k
-Counted q Stuck n k = n ≡ k
-Counted q Leaving n k = (n ≡ 0) × (k ≡ 1)
+Counted q Waiting n k = Apart q n k
+Counted q Stuck n k = Apart q n k
+Counted q Leaving n k = (n ≡ held_before q) × (k ≡ 1)
 Counted q (Has a) n k = hold_count_after_answer (named_by q) (Some q) a n ≡ k
+Counted q Checked n k = (n ≡ 1) × (k ≡ 1)
+Counted q (Enlisted still) n k = (n ≡ 1) × (k ≡ 1)
+Counted q (Blocked noted) n k = Apart q n k
+Counted q Owing n k = Apart q n k
+Counted q Used n k = n ≡ k
 
 -- this call waits for m
 pub record IsWaiting (m : ℕ) (o : Option Call) : Type 0 where
@@ -63,7 +83,7 @@ pub record IsWaiting (m : ℕ) (o : Option Call) : Type 0 where
 pub record Holding (f : Option Request) (counts : ℕ → ℕ) (known : ℕ → Bool) (x : View) : Type 0 where
   pub idle : x.living ≡ false → x.call ≡ None
   pub request : f ≡ request_of x.call
-  pub named : (c : Call) → x.call ≡ Some c → names_known known c.request ≡ true
+  pub named : (c : Call) → x.call ≡ Some c → names_mutex known c.request ≡ true
   pub waiting : (m : ℕ) → x.among m ≡ true → IsWaiting m x.call
   pub own : (c : Call) → x.call ≡ Some c
       → Counted c.request c.progress (counts (named_by c.request)) (x.held (named_by c.request))
@@ -87,11 +107,14 @@ same_progress e k = ap (λ (c : Call). c.progress) (same_call e k)
 
 -- a mutex that was added stays so
 names_kept : (known more : ℕ → Bool) → ((m : ℕ) → known m ≡ true → more m ≡ true) → (q : Request)
-    → names_known known q ≡ true → names_known more q ≡ true
+    → names_mutex known q ≡ true → names_mutex more q ≡ true
 names_kept known more h (Lock m) e = h m e
 names_kept known more h (TryLock m) e = h m e
 names_kept known more h (Unlock m) e = h m e
 names_kept known more h (Consistent m) e = h m e
+names_kept known more h (Wait c m) e = h m e
+names_kept known more h (Signal c) e = refl
+names_kept known more h (Broadcast c) e = refl
 names_kept known more h (SetPrio u p) e = refl
 
 -- an answer changes the hold count of no other mutex
@@ -100,25 +123,49 @@ elsewhere_answered m (Lock k) a n d = rw (ne_eqb k m d) refl
 elsewhere_answered m (TryLock k) a n d = rw (ne_eqb k m d) refl
 elsewhere_answered m (Unlock k) a n d = rw (ne_eqb k m d) refl
 elsewhere_answered m (Consistent k) a n d = refl
+elsewhere_answered m (Wait c k) a n d = rw (ne_eqb k m d) refl
+elsewhere_answered m (Signal c) a n d = refl
+elsewhere_answered m (Broadcast c) a n d = refl
 elsewhere_answered m (SetPrio u p) a n d = refl
+
+-- who waits for a mutex holds it by the machine, if by the answers and not in a wait
+apart_held : (q : Request) (n k : ℕ) → Apart q n k → waiting_with (named_by q) (Some q) ≡ false
+    → unlocking (named_by q) (Some q) < n → k ≢ 0
+apart_held (Lock m) n k h w l = λ e. omega arith
+apart_held (TryLock m) n k h w l = λ e. omega arith
+apart_held (Unlock m) n k h w l = λ e. omega arith
+apart_held (Consistent m) n k h w l = λ e. omega arith
+apart_held (Wait c m) n k h w l = absurd (true≢false (sym (eq-eqb m m refl) ∙ w))
+apart_held (Signal c) n k h w l = λ e. omega arith
+apart_held (Broadcast c) n k h w l = λ e. omega arith
+apart_held (SetPrio u p) n k h w l = λ e. omega arith
 
 -- only an unlock takes a hold away: who holds a mutex by the answers, less 1 while its unlock is open, holds it by the
 -- machine
-unlocked_once : (q : Request) (p : Progress) (n k : ℕ) → Counted q p n k → unlocking (named_by q) (Some q) < n → k ≢ 0
-unlocked_once (Lock m) (Has a) n k h l = λ e. grind (arith, nat_tests)
-unlocked_once (TryLock m) (Has a) n k h l = λ e. grind (arith, nat_tests)
-unlocked_once (Unlock m) (Has a) n k h l = λ e. grind (arith, nat_tests)
-unlocked_once (Consistent m) (Has a) n k h l = λ e. grind (arith, nat_tests)
-unlocked_once (SetPrio u p) (Has a) n k h l = λ e. grind (arith, nat_tests)
-unlocked_once q Leaving n k h l = λ e. omega arith
-unlocked_once q Fresh n k h l = λ e. omega arith
-unlocked_once q Waiting n k h l = λ e. omega arith
-unlocked_once q Stuck n k h l = λ e. omega arith
+unlocked_once : (q : Request) (p : Progress) (n k : ℕ) → Counted q p n k → waiting_with (named_by q) (Some q) ≡ false
+    → unlocking (named_by q) (Some q) < n → k ≢ 0
+unlocked_once (Lock m) (Has a) n k h w l = λ e. grind (arith, nat_tests)
+unlocked_once (TryLock m) (Has a) n k h w l = λ e. grind (arith, nat_tests)
+unlocked_once (Unlock m) (Has a) n k h w l = λ e. grind (arith, nat_tests)
+unlocked_once (Consistent m) (Has a) n k h w l = λ e. grind (arith, nat_tests)
+unlocked_once (Wait c m) (Has a) n k h w l = absurd (true≢false (sym (eq-eqb m m refl) ∙ w))
+unlocked_once (Signal c) (Has a) n k h w l = λ e. grind (arith, nat_tests)
+unlocked_once (Broadcast c) (Has a) n k h w l = λ e. grind (arith, nat_tests)
+unlocked_once (SetPrio u p) (Has a) n k h w l = λ e. grind (arith, nat_tests)
+unlocked_once q Leaving n k h w l = λ e. omega arith
+unlocked_once q Checked n k h w l = λ e. omega arith
+unlocked_once q (Enlisted still) n k h w l = λ e. omega arith
+unlocked_once q Fresh n k h w l = λ e. omega arith
+unlocked_once q Used n k h w l = λ e. omega arith
+unlocked_once q Waiting n k h w l = apart_held q n k h w l
+unlocked_once q Stuck n k h w l = apart_held q n k h w l
+unlocked_once q (Blocked noted) n k h w l = apart_held q n k h w l
+unlocked_once q Owing n k h w l = apart_held q n k h w l
 
 -- who holds a mutex by the answers holds it by the machine
 pub held-from_holds : {f : Option Request} {counts : ℕ → ℕ} {known : ℕ → Bool} {x : View} → Holding f counts known x
-    → (m : ℕ) → nat_lt (unlocking m f) (counts m) ≡ true → x.held m ≢ 0
-held-from_holds {f} {counts} {known} {x} h m above = by_call x.call refl
+    → (m : ℕ) → waiting_with m f ≡ false → nat_lt (unlocking m f) (counts m) ≡ true → x.held m ≢ 0
+held-from_holds {f} {counts} {known} {x} h m outside above = by_call x.call refl
   where
     some : counts m ≢ 0
     some = λ e. grind (arith, nat_tests)
@@ -127,6 +174,7 @@ held-from_holds {f} {counts} {known} {x} h m above = by_call x.call refl
     by_mutex c e (inl same) =
         subst (λ n. x.held n ≢ 0) same
         (unlocked_once c.request c.progress (counts (named_by c.request)) (x.held (named_by c.request)) (h.own c e)
+        (ap (λ k. waiting_with k (Some c.request)) same ∙ ap (waiting_with m) (sym (h.request ∙ ap request_of e)) ∙ outside)
         (grind (arith, nat_tests, h.request, ap request_of e, above, same)))
     by_mutex c e (inr other) =
         λ z. some (h.elsewhere m (λ d k g. other (ap named_by (same_request e k) ∙ g)) ∙ z)
@@ -163,8 +211,8 @@ Holding-stays {counts = counts} {known = known} {more = more} {x = x} {y = y} h 
 -- this thread's one open call is this one, in what the invariant says of open calls
 module _ (counts : ℕ → ℕ) (known : ℕ → Bool) (y : View) (q : Request) (p : Progress)
     (only : y.call ≡ Some (record { request = q; progress = p })) where
-  named_at : names_known known q ≡ true → (c : Call) → y.call ≡ Some c → names_known known c.request ≡ true
-  named_at h c e = subst (λ (d : Call). names_known known d.request ≡ true) (same_call only e) h
+  named_at : names_mutex known q ≡ true → (c : Call) → y.call ≡ Some c → names_mutex known c.request ≡ true
+  named_at h c e = subst (λ (d : Call). names_mutex known d.request ≡ true) (same_call only e) h
 
   own_at : Counted q p (counts (named_by q)) (y.held (named_by q)) → (c : Call) → y.call ≡ Some c
       → Counted c.request c.progress (counts (named_by c.request)) (y.held (named_by c.request))
@@ -201,6 +249,46 @@ Holding-moves {counts = counts} {known = known} {x = x} {y = y} {q = q} {a = a} 
           h.elsewhere m (λ c e g. d (ap named_by (same_request s.before e) ∙ g)) ∙ sym (s.others m d);
     }
 
+-- a call comes further beside others: it is among the same waiters and holds as before
+pub record Eases (o p : Option Call) : Type 0 where
+  pub none : o ≡ None → p ≡ None
+  pub some : (q : Request) (a : Progress) → o ≡ Some (record { request = q; progress = a })
+      → (b : Progress) × (p ≡ Some (record { request = q; progress = b }))
+      × ((n k : ℕ) → Counted q a n k → Counted q b n k) × (a ≡ Waiting → b ≡ Waiting)
+
+pub Holding-eases : {f : Option Request} {counts : ℕ → ℕ} {known : ℕ → Bool} {x : View} (o : Option Call)
+    → Holding f counts known x → Eases x.call o → Holding f counts known (record x { call = o })
+Holding-eases {f} {counts} {known} {x} o h e = by_call x.call refl
+  where
+    by_call : (i : Option Call) → x.call ≡ i → Holding f counts known (record x { call = o })
+    by_call None k = record {
+      idle = λ z. e.none k;
+      request = h.request ∙ ap request_of k ∙ sym (ap request_of (e.none k));
+      named = λ c z. let none = e.none k in absurd (cc);
+      waiting = λ m z. let some = (h.waiting m z).call in absurd (cc);
+      own = λ c z. let none = e.none k in absurd (cc);
+      elsewhere = λ m apart. h.elsewhere m (λ c z. absurd (cc));
+    }
+    by_call (Some i) k =
+        let r = e.some i.request i.progress k in
+        record {
+          idle = λ z. (let none = h.idle z in absurd (cc));
+          request = h.request ∙ ap request_of k ∙ sym (ap request_of r.1);
+          named = named_at counts known (record x { call = o }) i.request r.0 r.1 (h.named i k);
+          waiting = λ m z. (let j = h.waiting m z in record {
+            request = j.request;
+            waits = j.waits;
+            call = r.1 ∙ (λ a. Some (record {
+              request = same_request k j.call a;
+              progress = r.3 (same_progress k j.call) a;
+            }));
+          });
+          own = own_at counts known (record x { call = o }) i.request r.0 r.1
+              (r.2 (counts (named_by i.request)) (x.held (named_by i.request)) (h.own i k));
+          elsewhere = λ m apart. h.elsewhere m (λ c z g. apart (record { request = i.request; progress = r.0 }) r.1
+              (ap named_by (same_request k z) ∙ g));
+        }
+
 -- a call begins: nothing has happened yet
 pub record Begins (q : Request) (p : Progress) (known : ℕ → Bool) (x y : View) : Type 0 where
   pub before : x.call ≡ None
@@ -208,7 +296,7 @@ pub record Begins (q : Request) (p : Progress) (known : ℕ → Bool) (x y : Vie
   pub lives : y.living ≡ true
   pub held : (m : ℕ) → y.held m ≡ x.held m
   pub fewer : (m : ℕ) → y.among m ≡ true → x.among m ≡ true
-  pub named : names_known known q ≡ true
+  pub named : names_mutex known q ≡ true
   pub fresh : (n k : ℕ) → n ≡ k → Counted q p n k
 
 pub Holding-begins : {f later_f : Option Request} {counts : ℕ → ℕ} {known : ℕ → Bool} {x y : View} {q : Request}

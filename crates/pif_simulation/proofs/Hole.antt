@@ -1,15 +1,20 @@
 -- The invariant with a hole: one change of a table, of one mutex and of excused threads, keeps it save for these. Every
 -- step of the table is such a change, after which the excused threads are admitted again.
-use Rattle.std.proofs.Common.{◌≡◌, ◌≢◌, ℕ, Bool, true, false, ◌==◌, refl, sym, ap, ◌∙◌, subst, if◌then◌else◌, ◌⊎◌, inl, inr, true≢false, eq-eqb, ne_eqb}
+use Rattle.std.proofs.Common.{◌≡◌, ◌≢◌, ◌≤◌, ℕ, nat_lt, length, get_or, Bool, true, false, ◌==◌, refl, sym, ap, ◌∙◌, subst, if◌then◌else◌, ◌⊎◌, inl, inr, true≢false, eq-eqb, ne_eqb}
+use Rattle.std.specs.List.{list_any}
 use Rattle.std.proofs.lemmas.Bool.{cases_eq}
 use Rattle.pif_model.specs.Graph.{has_waiter}
 use Rattle.pif_model.specs.Word.{word_at, health_word_at}
-use Rattle.pif_model.specs.PiKernel.{is_living}
+use Rattle.pif_model.specs.PiKernel.{Kernel, Parking, is_living}
 use Rattle.pif_model.specs.RobustList.{RobustRow, robust_at, has_entry}
-use Rattle.pif_model.specs.Table.{Table, Cell, has_thread, has_mutex, status_at, line_at, library_at, cell_at}
-use Rattle.pif_model.specs.Standing.{LineIsSound, IsQueuedLine, CellIsSound, ListIsSound, ThreadIsSound, AbsentIsSound, IsShaped, SoundBut, IsSound, mutex_by, is_pending, is_half_linked, is_unlinked, is_unsettled, holds_robust}
+use Rattle.pif_model.specs.Table.{Table, Cell, has_thread, has_mutex, has_cond, bound_to, uses_of, status_at, line_at, library_at, cell_at}
+use Rattle.pif_model.specs.Standing.{LineIsSound, IsQueuedLine, IsParkedLine, CellIsSound, CondIsSound, ListIsSound, ThreadIsSound, AbsentIsSound, IsShaped, SoundBut, IsSound, mutex_by, is_pending, is_half_linked, is_unlinked, is_unsettled, holds_robust}
 use Rattle.pif_chains.proofs.Waiting.{by_test}
-use Rattle.pif_simulation.proofs.Kept.{Spares, unwritten, line_spared}
+use Rattle.pif_simulation.proofs.Kept.{Spares, Uses, unwritten, line_spared}
+
+-- whether a thread that is parked on c is to get m
+abbrev pub aims : Kernel → ℕ → ℕ → Bool
+aims k c m = list_any (λ (p : Parking). if p.cond == c then p.target == m else false) k.parked
 
 -- the table v in place of s, where m alone may be another mutex, and other threads than the excused ones stay
 pub record Changes (Excused : ℕ → Type 0) (s v : Table) (m : ℕ) : Type 0 where
@@ -27,8 +32,7 @@ pub record Changes (Excused : ℕ → Type 0) (s v : Table) (m : ℕ) : Type 0 w
       → (Excused (cell_at v m).word.number → ⊥)
       → is_living s.kernel (cell_at v m).word.number ≡ true
   -- a thread that is not excused lives as it did, and keeps its status, its line and its robust list; what its line
-  -- knows of
-  -- m outlives the change
+  -- knows of m outlives the change
   pub living : (u : ℕ) → (Excused u → ⊥) → is_living v.kernel u ≡ is_living s.kernel u
   pub status : (u : ℕ) → (Excused u → ⊥) → status_at v u ≡ status_at s u
   pub line : (u : ℕ) → (Excused u → ⊥) → line_at v u ≡ line_at s u
@@ -37,6 +41,12 @@ pub record Changes (Excused : ℕ → Type 0) (s v : Table) (m : ℕ) : Type 0 w
       (cell_at v m)
   -- who has ended stays so
   pub ended : (u : ℕ) → has_thread s u ≡ true → is_living s.kernel u ≡ false → is_living v.kernel u ≡ false
+  -- the variables are there that were, and used at least as often, within the limit
+  pub conds : v.conds ≡ s.conds
+  pub used : Uses s v
+  pub few_uses : (c : ℕ) → uses_of s c ≤ s.limits.signals → uses_of v c ≤ s.limits.signals
+  -- who is parked then was, or is to get the mutex to which the variable is bound
+  pub targets : (c n : ℕ) → aims v.kernel c n ≡ true → (aims s.kernel c n ≡ true) ⊎ (bound_to s c ≡ n)
 
 -- a sound mutex stays so where all threads that were added still are
 pub cell_spared : (added added' : ℕ → Bool) (waited waited' : Bool) (c d : Cell)
@@ -154,11 +164,31 @@ module _ {Excused : ℕ → Type 0} {s v : Table} {m : ℕ} (h : SoundBut Excuse
   somebody : (u : ℕ) → is_living s.kernel u ≡ true → u ≢ 0
   somebody u l z = true≢false (sym l ∙ ap (is_living s.kernel) z)
 
+  -- a variable is bound to the mutex to which it was
+  bound_same : (i : ℕ) → bound_to v i ≡ bound_to s i
+  bound_same i = ap (λ cs. get_or cs i 0) c.conds
+
+  -- it is sound
+  cond_sound : (i : ℕ) → has_cond v i ≡ true → CondIsSound v i
+  cond_sound i e =
+      let b = h.conds i (sym (ap (λ cs. if i == 0 then false else nat_lt i (length cs)) c.conds) ∙ e) in
+      record {
+        bound = ap (has_mutex v) (bound_same i) ∙ c.mutexes (bound_to s i) ∙ b.bound;
+        uses = subst (λ n. uses_of v i ≤ n) (sym c.used.signals) (c.few_uses i b.uses);
+      }
+
+  -- who is parked is to get the mutex to which the variable is bound
+  aimed : (i n : ℕ) → (aims s.kernel i n ≡ true) ⊎ (bound_to s i ≡ n) → bound_to v i ≡ n
+  aimed i n (inl e) = bound_same i ∙ h.targets i n e
+  aimed i n (inr e) = bound_same i ∙ e
+
   -- such a change keeps the invariant, save for the excused threads
   pub change_kept : SoundBut Excused v
   change_kept = record {
     shape = c.shape;
     mutexes = λ n e. each_cell n e (cases_eq n m);
+    conds = cond_sound;
+    targets = λ i n e. aimed i n (c.targets i n e);
     alive = λ n e r z out. each_alive n e (cases_eq n m) r z out;
     threads = λ u e out. (
         let l : is_living s.kernel u ≡ true = sym (c.living u out) ∙ e in
@@ -166,9 +196,10 @@ module _ {Excused : ℕ → Type 0} {s v : Table} {m : ℕ} (h : SoundBut Excuse
         let b = h.threads u l out in
         record {
           line = subst (LineIsSound v u) (sym (c.line u out))
-              (line_spared s v u (c.status u out) (λ n i. (c.mutexes n ∙ i, each_spares u k out n i (cases_eq n m)))
+              (line_spared s v u (c.status u out) c.used (λ n i. (c.mutexes n ∙ i, each_spares u k out n i (cases_eq n m)))
               (line_at s u) b.line);
           queue = λ n q. subst (IsQueuedLine n) (sym (c.line u out)) (b.queue n (sym (c.status u out) ∙ q));
+          parked = λ n q. subst (IsParkedLine n) (sym (c.line u out)) (b.parked n (sym (c.status u out) ∙ q));
           list = subst (ListIsSound v u) (sym (c.line u out)) (list_kept u k out b.list);
           settled = λ n e own away. settled_kept u k out b n e own
               (λ x. away (x ∙ sym (ap (mutex_by is_unsettled) (c.line u out))));
@@ -186,14 +217,15 @@ pub excuse : {Excused : ℕ → Type 0} {s : Table} (More : ℕ → Type 0) → 
 excuse More f h = record {
   shape = h.shape;
   mutexes = h.mutexes;
+  conds = h.conds;
+  targets = h.targets;
   alive = λ m e r z out. h.alive m e r z (λ x. out (f _ x));
   threads = λ u k out. h.threads u k (λ e. out (f u e));
   absent = λ u k out. h.absent u k (λ e. out (f u e));
 }
 
 -- what an excused number has to show to be excused no more: it is a living thread and sound, or it is none, owns no
--- robust
--- mutex and is sound
+-- robust mutex and is sound
 pub data MayBeAdmitted (s : Table) (t : ℕ) : Type 0 where
   lives : is_living s.kernel t ≡ true → ThreadIsSound s t → MayBeAdmitted s t
   gone : is_living s.kernel t ≡ false → ((m : ℕ) → has_mutex s m ≡ true → (library_at s m).robust ≡ true
@@ -206,6 +238,8 @@ pub admit : {Excused : ℕ → Type 0} {s : Table} (Fewer : ℕ → Type 0) (t :
 admit {Excused} {s} Fewer t f sound h = record {
   shape = h.shape;
   mutexes = h.mutexes;
+  conds = h.conds;
+  targets = h.targets;
   alive = λ m e r z out. owner m e r z out (cases_eq (word_at s.words m).number t) sound;
   threads = λ u k out. thread u k out (cases_eq u t) sound;
   absent = λ u k out. none u k out (cases_eq u t) sound;

@@ -1,18 +1,19 @@
 -- What a change of one mutex leaves to the threads that do not make it: what their lines know outlives it.
-use Rattle.std.proofs.Common.{◌≡◌, ◌≢◌, ◌⊎◌, inl, inr, ℕ, Bool, true, false, List, [], ◌∷◌, refl, sym, ◌∙◌, subst, ap, true≢false, arith}
+use Rattle.std.proofs.Common.{◌≡◌, ◌≢◌, ◌⊎◌, inl, inr, ℕ, ◌<◌, ◌≤◌, Bool, true, false, ◌==◌, nat_lt, List, [], ◌∷◌, length, get_or, refl, sym, ◌∙◌, subst, ap, true≢false, arith, if◌then◌else◌}
 use Rattle.std.proofs.lemmas.Bool.{cases_eq}
 use Rattle.pif_types.specs.declared.requests.Kind.{Kind}
 use Rattle.pif_types.specs.declared.requests.Request.{Request}
-use Rattle.pif_types.specs.declared.requests.Request.TheVariants.{Lock, TryLock, Unlock, Consistent, SetPrio}
+use Rattle.pif_types.specs.declared.requests.Request.TheVariants.{Lock, TryLock, Unlock, Consistent, Wait, Signal, Broadcast, SetPrio}
 use Rattle.pif_model.specs.declared.lines.Line.{Line}
 use Rattle.pif_model.specs.declared.lines.Line.TheVariants.{Idle, At}
 use Rattle.pif_model.specs.declared.lines.Place.{Place}
-use Rattle.pif_model.specs.declared.lines.Place.TheVariants.{SetPriority}
+use Rattle.pif_model.specs.declared.lines.Place.TheVariants.{UseLoad, UseExchange, UseRequeue, UseReload, SetPriority}
 use Rattle.pif_model.specs.declared.lines.Status.{Status}
+use Rattle.pif_model.specs.Posix.{named_by, variable_of}
 use Rattle.pif_model.specs.PiKernel.{is_ready, is_living}
-use Rattle.pif_model.specs.Table.{Table, Cell, has_mutex, status_at, cell_at}
-use Rattle.pif_model.specs.Standing.{Need, Meets, MeetsAll, needs, belongs, CallIsSound, LineIsSound, CountIsSound}
-use Rattle.pif_model.specs.Standing.Need.{MayRun, HasStopped, NotStopped, Owns, OwnsNot, OwnsOnceReady, HoldsOnce, MayStop, OfRobust, HealthIs, HealthIsNot, DiedIs, DiedBehindDisorder}
+use Rattle.pif_model.specs.Table.{Table, Cell, has_mutex, has_cond, bound_to, uses_of, status_at, cell_at}
+use Rattle.pif_model.specs.Standing.{Need, Use, Meets, MeetsAll, needs, belongs, is_using, use_at, CallIsSound, LineIsSound, CountIsSound}
+use Rattle.pif_model.specs.Standing.Need.{MayRun, HasStopped, NotStopped, Owns, OwnsNot, OwnsOnceReady, OwnsOnceHanded, HoldsOnce, MayStop, OfRobust, HealthIs, HealthIsNot, DiedIs, DiedBehindDisorder, IsBound, UsedAtLeast, BelowLimit}
 use Rattle.pif_model.specs.Standing.MayStopFor.{own_normal, lost}
 
 -- what a change of a mutex from c to d, and of who lives, leaves to u, who doesn't make it
@@ -48,77 +49,171 @@ owner_knows P l l' u c d k h e = go (cases_eq c.word.number u)
         (subst (λ b. P c.count b d.health) (sym a.1) (subst (λ x. P c.count c.word.died x) (sym a.2) (h own)))
     go (inr not) = absurd (k.other not e)
 
+-- what others change of a variable leaves it bound as it was; it was used as often, or more often
+pub record Grows (z z' : Use) : Type 0 where
+  pub bound : z'.bound ≡ z.bound
+  pub uses : z.uses ≤ z'.uses
+  pub signals : z'.signals ≡ z.signals
+
 -- a need outlives what others change
-meets_outlives : (l l' : ℕ → Bool) (u : ℕ) (x : Status) (c d : Cell) (n : Need) → Spares l l' u c d → Meets l u x c n
-    → Meets l' u x d n
-meets_outlives l l' u x c d MayRun k h = h
-meets_outlives l l' u x c d HasStopped k h = h
-meets_outlives l l' u x c d NotStopped k h = h
-meets_outlives l l' u x c d Owns k h = k.owner h
-meets_outlives l l' u x c d OwnsNot k h = k.other h
-meets_outlives l l' u x c d OwnsOnceReady k h = λ e. k.owner (h e)
-meets_outlives l l' u x c d HoldsOnce k h = owner_knows (λ n b a. n ≡ 1) l l' u c d k h
-meets_outlives l l' u x c d MayStop k (own_normal o n) = own_normal (k.owner o) (k.kind ∙ n)
-meets_outlives l l' u x c d MayStop k (lost r n e) =
+meets_outlives : (l l' : ℕ → Bool) (u : ℕ) (x : Status) (c d : Cell) (z z' : Use) (n : Need) → Spares l l' u c d
+    → Grows z z' → Meets l u x c z n → Meets l' u x d z' n
+meets_outlives l l' u x c d z z' MayRun k o h = h
+meets_outlives l l' u x c d z z' HasStopped k o h = h
+meets_outlives l l' u x c d z z' NotStopped k o h = h
+meets_outlives l l' u x c d z z' Owns k o h = k.owner h
+meets_outlives l l' u x c d z z' OwnsNot k o h = k.other h
+meets_outlives l l' u x c d z z' OwnsOnceReady k o h = λ e. k.owner (h e)
+meets_outlives l l' u x c d z z' OwnsOnceHanded k o h = ((λ e. k.owner (h.0 e)), λ e. k.other (h.1 e))
+meets_outlives l l' u x c d z z' HoldsOnce k o h = owner_knows (λ n b a. n ≡ 1) l l' u c d k h
+meets_outlives l l' u x c d z z' MayStop k o (own_normal e n) = own_normal (k.owner e) (k.kind ∙ n)
+meets_outlives l l' u x c d z z' MayStop k o (lost r n e) =
     let s = k.ended r n e in
     lost (k.robust ∙ r) (λ z. n (sym s.0 ∙ z)) (ap l' s.0 ∙ s.1)
-meets_outlives l l' u x c d OfRobust k h = k.robust ∙ h
-meets_outlives l l' u x c d (HealthIs a) k h = owner_knows (λ n b j. j ≡ a) l l' u c d k h
-meets_outlives l l' u x c d (HealthIsNot a) k h = owner_knows (λ n b j. j ≢ a) l l' u c d k h
-meets_outlives l l' u x c d (DiedIs a) k h = owner_knows (λ n b j. b ≡ a) l l' u c d k h
-meets_outlives l l' u x c d DiedBehindDisorder k h = owner_knows (λ n b j. j ≡ 1 → b ≡ true) l l' u c d k h
+meets_outlives l l' u x c d z z' OfRobust k o h = k.robust ∙ h
+meets_outlives l l' u x c d z z' (HealthIs a) k o h = owner_knows (λ n b j. j ≡ a) l l' u c d k h
+meets_outlives l l' u x c d z z' (HealthIsNot a) k o h = owner_knows (λ n b j. j ≢ a) l l' u c d k h
+meets_outlives l l' u x c d z z' (DiedIs a) k o h = owner_knows (λ n b j. b ≡ a) l l' u c d k h
+meets_outlives l l' u x c d z z' DiedBehindDisorder k o h = owner_knows (λ n b j. j ≡ 1 → b ≡ true) l l' u c d k h
+meets_outlives l l' u x c d z z' IsBound k o h = o.bound ∙ h
+meets_outlives l l' u x c d z z' (UsedAtLeast v) k o h = let e = o.uses in omega arith
+meets_outlives l l' u x c d z z' (BelowLimit v) k o h = subst (λ n. v < n) (sym o.signals) h
 
 -- and so do all needs of a place
-all_outlive : (l l' : ℕ → Bool) (u : ℕ) (x : Status) (c d : Cell) (ns : List Need) → Spares l l' u c d
-    → MeetsAll l u x c ns → MeetsAll l' u x d ns
-all_outlive l l' u x c d [] k h = h
-all_outlive l l' u x c d (n ∷ ns) k h = (meets_outlives l l' u x c d n k h.0, all_outlive l l' u x c d ns k h.1)
+all_outlive : (l l' : ℕ → Bool) (u : ℕ) (x : Status) (c d : Cell) (z z' : Use) (ns : List Need) → Spares l l' u c d
+    → Grows z z' → MeetsAll l u x c z ns → MeetsAll l' u x d z' ns
+all_outlive l l' u x c d z z' [] k o h = h
+all_outlive l l' u x c d z z' (n ∷ ns) k o h =
+    (meets_outlives l l' u x c d z z' n k o h.0, all_outlive l l' u x c d z z' ns k o h.1)
 
--- at the place of a call that names no mutex, a thread need only be ready
-unnamed_needs : (l l' : ℕ → Bool) (u v n : ℕ) (x : Status) (c d : Cell) (p : Place) → belongs (SetPrio v n) p ≡ true
-    → MeetsAll l u x c (needs p) → MeetsAll l' u x d (needs p)
-unnamed_needs l l' u v n x c d SetPriority b h = h
-unnamed_needs l l' u v n x c d _ b h = absurd (true≢false (sym b))
+-- at the place of a call that names neither, a thread need only be ready
+unnamed_needs : (l l' : ℕ → Bool) (u v n : ℕ) (x : Status) (c d : Cell) (z z' : Use) (p : Place)
+    → belongs (SetPrio v n) p ≡ true → MeetsAll l u x c z (needs p) → MeetsAll l' u x d z' (needs p)
+unnamed_needs l l' u v n x c d z z' SetPriority b h = h
+unnamed_needs l l' u v n x c d z z' _ b h = absurd (true≢false (sym b))
 
-module _ (s v : Table) (u : ℕ) (status : status_at v u ≡ status_at s u)
+-- at a place of signal and broadcast it need only be ready, and know what it has read
+using_needs : (l l' : ℕ → Bool) (u : ℕ) (x : Status) (c d : Cell) (z z' : Use) (p : Place) → is_using p ≡ true
+    → Grows z z' → MeetsAll l u x c z (needs p) → MeetsAll l' u x d z' (needs p)
+using_needs l l' u x c d z z' UseLoad b o h = h
+using_needs l l' u x c d z z' (UseExchange v) b o h = (h.0, (subst (λ n. v < n) (sym o.signals) h.1.0, tt))
+using_needs l l' u x c d z z' (UseRequeue v) b o h = h
+using_needs l l' u x c d z z' UseReload b o h = h
+using_needs l l' u x c d z z' _ b o h = absurd (true≢false (sym b))
+
+-- two conditions both hold, and so they do of others that hold where these do
+both_kept : (a b a' b' : Bool) → (a ≡ true → a' ≡ true) → (b ≡ true → b' ≡ true) → (if a then b else false) ≡ true
+    → (if a' then b' else false) ≡ true
+both_kept true b a' b' f g e = rw (f refl) (g e)
+both_kept false b a' b' f g e = absurd (true≢false (sym e))
+
+-- of two conditions that hold the second holds
+pub second : (a b : Bool) → (if a then b else false) ≡ true → b ≡ true
+second true b e = e
+second false b e = absurd (true≢false (sym e))
+
+pub first : (a b : Bool) → (if a then b else false) ≡ true → a ≡ true
+first true b e = refl
+first false b e = absurd (true≢false (sym e))
+
+-- the variables of v in place of those of s: those that were there are, bound as they were, used as often or more
+pub record Uses (s v : Table) : Type 0 where
+  pub has : (c : ℕ) → has_cond s c ≡ true → has_cond v c ≡ true
+  pub bound : (c : ℕ) → (c ≡ 0) ⊎ (has_cond s c ≡ true) → bound_to v c ≡ bound_to s c
+  pub uses : (c : ℕ) → uses_of s c ≤ uses_of v c
+  pub signals : v.limits.signals ≡ s.limits.signals
+
+-- the same variables
+pub same_conds : (s v : Table) → v.conds ≡ s.conds → ((c : ℕ) → uses_of s c ≤ uses_of v c)
+    → v.limits.signals ≡ s.limits.signals → Uses s v
+same_conds s v a b c = record {
+  has = λ i e. ap (λ cs. if i == 0 then false else nat_lt i (length cs)) a ∙ e;
+  bound = λ i e. ap (λ cs. get_or cs i 0) a;
+  uses = b;
+  signals = c;
+}
+
+-- and used as often
+pub unused : (s v : Table) → v.conds ≡ s.conds → v.words.conds ≡ s.words.conds
+    → v.limits.signals ≡ s.limits.signals → Uses s v
+unused s v a b c = same_conds s v a (λ i. subst (λ n. uses_of s i ≤ n) (ap (λ us. get_or us i 0) (sym b)) (omega arith))
+    c
+
+-- what a call has of its variable
+grows : {s v : Table} → Uses s v → (q : Request) → (variable_of q ≡ 0) ⊎ (has_cond s (variable_of q) ≡ true)
+    → Grows (use_at s q) (use_at v q)
+grows h q known = record {
+  bound = ap (λ m. m == named_by q) (h.bound (variable_of q) known);
+  uses = h.uses (variable_of q);
+  signals = h.signals;
+}
+
+module _ (s v : Table) (u : ℕ) (status : status_at v u ≡ status_at s u) (uses : Uses s v)
     (k : (m : ℕ) → has_mutex s m ≡ true → (has_mutex v m ≡ true) × Spares (is_living s.kernel) (is_living v.kernel) u
     (cell_at s m) (cell_at v m)) where
   -- what a call on a mutex rests on
-  on_mutex : (m : ℕ) (p : Place) → has_mutex s m ≡ true
-      → MeetsAll (is_living s.kernel) u (status_at s u) (cell_at s m) (needs p)
-      → MeetsAll (is_living v.kernel) u (status_at v u) (cell_at v m) (needs p)
-  on_mutex m p e h = subst (λ x. MeetsAll (is_living v.kernel) u x (cell_at v m) (needs p)) (sym status)
-      (all_outlive (is_living s.kernel) (is_living v.kernel) u (status_at s u) (cell_at s m) (cell_at v m) (needs p)
-      (k m e).1 h)
+  on_mutex : (q : Request) (p : Place) → (variable_of q ≡ 0) ⊎ (has_cond s (variable_of q) ≡ true)
+      → has_mutex s (named_by q) ≡ true
+      → MeetsAll (is_living s.kernel) u (status_at s u) (cell_at s (named_by q)) (use_at s q) (needs p)
+      → MeetsAll (is_living v.kernel) u (status_at v u) (cell_at v (named_by q)) (use_at v q) (needs p)
+  on_mutex q p w e h = subst (λ x. MeetsAll (is_living v.kernel) u x (cell_at v (named_by q)) (use_at v q) (needs p))
+      (sym status)
+      (all_outlive (is_living s.kernel) (is_living v.kernel) u (status_at s u) (cell_at s (named_by q))
+      (cell_at v (named_by q)) (use_at s q) (use_at v q) (needs p) (k (named_by q) e).1 (grows uses q w) h)
+
+  -- and one on a variable alone
+  on_variable : (q : Request) (p : Place) → has_cond s (variable_of q) ≡ true → is_using p ≡ true
+      → MeetsAll (is_living s.kernel) u (status_at s u) (cell_at s (named_by q)) (use_at s q) (needs p)
+      → MeetsAll (is_living v.kernel) u (status_at v u) (cell_at v (named_by q)) (use_at v q) (needs p)
+  on_variable q p w b h = subst (λ x. MeetsAll (is_living v.kernel) u x (cell_at v (named_by q)) (use_at v q) (needs p))
+      (sym status)
+      (using_needs (is_living s.kernel) (is_living v.kernel) u (status_at s u) (cell_at s (named_by q))
+      (cell_at v (named_by q)) (use_at s q) (use_at v q) p b (grows uses q (inr w)) h)
 
   -- what a call knows outlives what others change
   call_spared : (q : Request) (p : Place) → CallIsSound s u q p → CallIsSound v u q p
   call_spared (Lock m) p h = record {
     named = (k m h.named).0;
     belongs = h.belongs;
-    needs = on_mutex m p h.named h.needs;
+    needs = on_mutex (Lock m) p (inl refl) h.named h.needs;
   }
   call_spared (TryLock m) p h = record {
     named = (k m h.named).0;
     belongs = h.belongs;
-    needs = on_mutex m p h.named h.needs;
+    needs = on_mutex (TryLock m) p (inl refl) h.named h.needs;
   }
   call_spared (Unlock m) p h = record {
     named = (k m h.named).0;
     belongs = h.belongs;
-    needs = on_mutex m p h.named h.needs;
+    needs = on_mutex (Unlock m) p (inl refl) h.named h.needs;
   }
   call_spared (Consistent m) p h = record {
     named = (k m h.named).0;
     belongs = h.belongs;
-    needs = on_mutex m p h.named h.needs;
+    needs = on_mutex (Consistent m) p (inl refl) h.named h.needs;
+  }
+  call_spared (Wait c m) p h = record {
+    named = both_kept (has_cond s c) (has_mutex s m) (has_cond v c) (has_mutex v m) (uses.has c) (λ e. (k m e).0)
+        h.named;
+    belongs = h.belongs;
+    needs = on_mutex (Wait c m) p (inr (first (has_cond s c) (has_mutex s m) h.named)) (second (has_cond s c) (has_mutex s m) h.named) h.needs;
+  }
+  call_spared (Signal c) p h = record {
+    named = uses.has c h.named;
+    belongs = h.belongs;
+    needs = on_variable (Signal c) p h.named h.belongs h.needs;
+  }
+  call_spared (Broadcast c) p h = record {
+    named = uses.has c h.named;
+    belongs = h.belongs;
+    needs = on_variable (Broadcast c) p h.named h.belongs h.needs;
   }
   call_spared (SetPrio t n) p h = record {
     named = refl;
     belongs = h.belongs;
-    needs = subst (λ x. MeetsAll (is_living v.kernel) u x (cell_at v 0) (needs p)) (sym status)
+    needs = subst (λ x. MeetsAll (is_living v.kernel) u x (cell_at v 0) (use_at v (SetPrio t n)) (needs p)) (sym status)
         (unnamed_needs (is_living s.kernel) (is_living v.kernel) u t n (status_at s u) (cell_at s 0)
-        (cell_at v 0) p h.belongs h.needs);
+        (cell_at v 0) (use_at s (SetPrio t n)) (use_at v (SetPrio t n)) p h.belongs h.needs);
   }
 
   -- what a line knows outlives what others change

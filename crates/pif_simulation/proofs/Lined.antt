@@ -1,7 +1,7 @@
 -- A thread that may run goes to another line over another kernel, and no mutex changes.
 use Rattle.std.proofs.Common.{◌≡◌, ◌≢◌, ℕ, ◌<◌, true, false, ◌⊎◌, inl, inr, length, Option, refl, sym, ap, ◌∙◌, subst, arith}
 use Rattle.std.proofs.lemmas.Bool.{cases_eq, true≢false}
-use Rattle.std.proofs.lemmas.List.{set-get_or, get_or-set_same}
+use Rattle.std.proofs.lemmas.List.{length-set, set-get_or, get_or-set_same, get_or-set_other}
 use Rattle.pif_types.specs.Bounds.{Bounds}
 use Rattle.pif_model.specs.declared.lines.Line.{Line}
 use Rattle.pif_model.specs.declared.lines.Line.TheVariants.{Idle}
@@ -9,15 +9,16 @@ use Rattle.pif_model.specs.Word.{word_at, health_word_at}
 use Rattle.pif_model.specs.Posix.{Call, no_mutex, thread_at, with_thread, with_mutex}
 use Rattle.pif_model.specs.PiKernel.{Kernel, IsKernel, state_at, seat_at, is_ready, is_living}
 use Rattle.pif_model.specs.RobustList.{robust_at}
-use Rattle.pif_model.specs.Table.{Table, has_thread, has_mutex, status_at, line_at, library_at, cell_at, with_line, with_kernel}
-use Rattle.pif_model.specs.Standing.{Shadow, call_at, health_at, world_of, mutex_by, is_unsettled, LineIsSound, ListIsSound, IsShaped, SoundBut, IsSound}
+use Rattle.pif_model.specs.Table.{Table, has_thread, has_mutex, bound_to, uses_of, status_at, line_at, library_at, cell_at, with_line, with_kernel}
+use Rattle.pif_model.specs.Standing.{Shadow, call_shown as shown_call, may_enlist, call_at, health_at, world_of, mutex_by, is_unsettled, LineIsSound, ListIsSound, IsShaped, SoundBut, IsSound}
 use Rattle.pif_chains.proofs.KernelFacts.{living-added}
 use Rattle.pif_chains.proofs.Numbers.{above_0, below}
-use Rattle.pif_simulation.proofs.Kept.{Spares, unwritten, line_spared}
+use Rattle.pif_simulation.proofs.Kept.{Spares, unwritten, unused, line_spared}
 use Rattle.pif_simulation.proofs.Hole.{Changes, change_kept, excuse_one, admit_last}
 use Rattle.pif_simulation.proofs.Shown.{mutex_seen}
-use Rattle.pif_simulation.proofs.Written.{IsCallOn, written, mutex_of, changes, call_shown, written_is, same_word, same_health, same_library, same_list}
-use Rattle.pif_simulation.proofs.Local.{ready-not_queued}
+use Rattle.pif_simulation.proofs.Written.{IsCallOn, written, mutex_of, changes, world_shown, written_is, same_word, same_health, same_library, same_list}
+use Rattle.pif_simulation.proofs.Local.{ready-not_queued, ready-not_parked}
+use Rattle.pif_simulation.proofs.Agreement.{Frames, Follows, WasBlockedIn, frames_by, was_same}
 
 module _ (s : Table) (t : ℕ) (l : Line) (h : IsSound s) (known : is_living s.kernel t ≡ true) where
   added : has_thread s t ≡ true
@@ -58,7 +59,7 @@ module _ (s : Table) (t : ℕ) (l : Line) (h : IsSound s) (known : is_living s.k
         (same_word s 0) (same_health s 0) (same_list s t) (same_library s 0)
 
     -- where it knows what it has to, and its robust list is right there, the table is sound
-    pub lined_sound : IsKernel k → IsCallOn (λ u. u ≡ t) s.kernel k 0 → (seat_at k t).status ≡ status_at s t
+    pub lined_sound : IsKernel k → IsCallOn (λ u. u ≡ t) (bound_to s) s.kernel k 0 → (seat_at k t).status ≡ status_at s t
         → is_ready (status_at s t) ≡ true
         → LineIsSound s t l → ListIsSound s t l
         → ((m : ℕ) → has_mutex s m ≡ true → (word_at s.words m).number ≡ t → m ≢ mutex_by is_unsettled l
@@ -67,13 +68,14 @@ module _ (s : Table) (t : ℕ) (l : Line) (h : IsSound s) (known : is_living s.k
     lined_sound kernel call status ready line list settled = record {
       all = admit_last rest (call.living t ∙ known) (record {
         line = subst (LineIsSound lined t) (sym here)
-            (line_spared s lined t status (λ j e. (
+            (line_spared s lined t status (unused s lined refl refl refl) (λ j e. (
               e,
               subst
                   (λ f. Spares (is_living s.kernel) f t (cell_at s j) (cell_at lined j)) (sym living)
                   (unwritten (is_living s.kernel) t (cell_at s j) (cell_at lined j) (cell j)),
             )) l line);
         queue = λ j e. absurd (ready-not_queued (status_at s t) j ready (sym status ∙ e));
+        parked = λ j e. absurd (ready-not_parked (status_at s t) j ready (sym status ∙ e));
         list = subst (ListIsSound lined t) (sym here) (record
             { pending = list.pending; half_linked = list.half_linked; listed = list.listed });
         settled = subst (λ b. (m : ℕ) → has_mutex s m ≡ true → (word_at s.words m).number ≡ t
@@ -114,17 +116,30 @@ module _ (s : Table) (t : ℕ) (l : Line) (h : IsSound s) (known : is_living s.k
                 ∙ sym (ap (state_at s.kernel) e ∙ h.kernel.shape.no_mutex)
             state j (inr d) = call.states j d
 
+    -- where the others know the same of each other, and t is blocked as it was, who was found blocked stays so
+    pub lined_frames : ((u : ℕ) → (seat_at k u).status ≡ status_at s u) → Follows (line_at s t) l
+        → (may_enlist (line_at s t) ≡ false → WasBlockedIn s lined t) → Frames s lined
+    lined_frames status follows here = frames_by s lined t (length-set s.lines t l)
+        (λ u d. get_or-set_other s.lines t u l Idle d)
+        (λ u d. was_same s lined u
+        (λ i. call_at (health_at s) (uses_of s) (get_or-set_other s.lines t u l Idle d i) (status u i)) (status u))
+        (subst (Follows (line_at s t)) (sym (get_or-set_same s.lines t l Idle tl)) follows) here
+
+    -- t's call then
+    pub lined_call : shown_call lined t ≡ call_at (health_at s) (uses_of s) l (seat_at k t).status
+    lined_call = ap (λ b. call_at (health_at s) (uses_of s) b (seat_at k t).status) (get_or-set_same s.lines t l Idle tl)
+
   -- over the same kernel it shows the world with the call that is at that line
   pub lined_shown : (y : Shadow) → IsSound (with_line t l s) → (c : Option Call)
-      → call_at (health_at s) l (status_at s t) ≡ c
+      → call_at (health_at s) (uses_of s) l (status_at s t) ≡ c
       → world_of (with_line t l s) y ≡ with_thread t (record (thread_at (world_of s y) t) { call = c }) (world_of s y)
   lined_shown y sound c e =
       ap (λ v. world_of v y) (sym (lined_same s.kernel))
-      ∙ call_shown s t 0 l (robust_at s.lists t) (word_at s.words 0) (health_word_at s.words 0)
-      (library_at s 0).count s.kernel t0 tl tr ml h.all.shape y c
-      (subst IsShaped (sym (lined_same s.kernel)) sound.all.shape) (λ u. refl) (λ u d. refl)
-      (λ u d. ap (λ v. call_at (health_at v) (line_at s u) (status_at s u)) (lined_same s.kernel)) refl
-      (ap (λ v. call_at (health_at v) l (status_at s t)) (lined_same s.kernel) ∙ e)
+      ∙ world_shown s t 0 l (robust_at s.lists t) (word_at s.words 0) (health_word_at s.words 0)
+      (library_at s 0).count s.kernel t0 tl tr ml h.all.shape (λ u d. refl)
+      (λ u d. ap (λ v. call_at (health_at v) (uses_of s) (line_at s u) (status_at s u)) (lined_same s.kernel)) y c
+      (subst IsShaped (sym (lined_same s.kernel)) sound.all.shape) (λ u. refl) refl
+      (ap (λ v. call_at (health_at v) (uses_of s) l (status_at s t)) (lined_same s.kernel) ∙ e)
       ∙ (λ i. with_thread t (record (thread_at (world_of s y) t) { call = c }) (stays i))
     where
       stays : with_mutex 0 (mutex_of (cell_at s 0)) (world_of s y) ≡ world_of s y

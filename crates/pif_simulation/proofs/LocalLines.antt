@@ -1,7 +1,6 @@
 -- What a local line has to show of its thread's robust list, by its place; and the local lines that leave their mutex
--- as
--- it is: the call goes on, or is answered.
-use Rattle.std.proofs.Common.{◌≡◌, ◌≢◌, ℕ, Bool, true, false, ◌==◌, length, set, inl, refl, sym, ap, ap₂, ◌∙◌, subst, arith, if◌then◌else◌, eq-eqb, ne_eqb}
+-- as it is: the call goes on, or is answered.
+use Rattle.std.proofs.Common.{◌≡◌, ◌≢◌, ℕ, Bool, true, false, ◌==◌, length, set, inl, refl, true≢false, sym, ap, ap₂, ◌∙◌, subst, arith, if◌then◌else◌, eq-eqb, ne_eqb}
 use Rattle.std.proofs.lemmas.List.{set-get_or}
 use Rattle.pif_types.specs.declared.requests.Request.{Request}
 use Rattle.pif_model.specs.declared.events.Event.TheVariants.{Go}
@@ -13,14 +12,14 @@ use Rattle.pif_model.specs.declared.lines.Line.TheVariants.{Idle, At}
 use Rattle.pif_model.specs.declared.lines.Place.{Place}
 use Rattle.pif_model.specs.Graph.{has_waiter}
 use Rattle.pif_model.specs.Word.{word_at, health_word_at}
-use Rattle.pif_model.specs.Posix.{Effect, Effects, no_mutex, named_by, with_mutex, with_progress}
+use Rattle.pif_model.specs.Posix.{Effect, Effects, Progress, is_blocked, no_mutex, named_by, with_mutex, with_progress}
 use Rattle.pif_model.specs.Posix.Progress.{Has}
 use Rattle.pif_model.specs.Posix.Effects.{none, then as first}
 use Rattle.pif_model.specs.PiKernel.{is_ready, is_living}
 use Rattle.pif_model.specs.RobustList.{RobustRow, has_entry, robust_at, is_listed, with_robust}
 use Rattle.pif_model.specs.Table.{Table, Cell, has_mutex, status_at, library_at, cell_at}
 use Rattle.pif_model.specs.Lines.{goes_to, answers, pending, clears}
-use Rattle.pif_model.specs.Standing.{Shadow, MeetsAll, needs, belongs, progress_at, health_at, world_of, CellIsSound, mutex_by, robust_by, is_pending, is_half_linked, is_unlinked, is_unsettled}
+use Rattle.pif_model.specs.Standing.{Shadow, use_at, MeetsAll, needs, belongs, world_of, may_enlist, CellIsSound, mutex_by, robust_by, is_pending, is_half_linked, is_unlinked, is_unsettled}
 use Rattle.pif_chains.proofs.Numbers.{above_0}
 use Rattle.pif_chains.proofs.Waiting.{by_test}
 use Rattle.pif_simulation.proofs.Kept.{Spares, unwritten}
@@ -28,7 +27,8 @@ use Rattle.pif_simulation.proofs.Shown.{mutex_seen}
 use Rattle.pif_simulation.proofs.Written.{mutex_of, written_is, same_word, same_health, same_library, same_list}
 use Rattle.pif_simulation.proofs.Does.{Does}
 use Rattle.pif_simulation.proofs.Does.Does.{nothing}
-use Rattle.pif_simulation.proofs.Steps.{Keeps, GoKeeps, Going}
+use Rattle.pif_simulation.proofs.Steps.{Keeps, GoKeeps, Going, progress_of}
+use Rattle.pif_simulation.proofs.Agreement.{Follows, quiet}
 use Rattle.pif_simulation.proofs.Local.{Move, moved, IsLocal, ListsAfter, NamesOnly, going_cell, going_list, going_settled, local_kept, local_by}
 
 -- whether a line is at a place that passes this test
@@ -169,8 +169,7 @@ module _ {s : Table} {t : ℕ} {q : Request} {p : Place} (g : Going s t q p)
       (λ _ e. stalled_lists n e (same ∙ e) (sound.stalled (same ∙ e))) refl
 
   -- the list stays as it is where the places before and after have the same of it, whatever OWNER_DIED and the health
-  -- word
-  -- are then
+  -- word are then
   pub row_stated : {l : Line} (b : Bool) (h : ℕ) → (library_at s m).robust ≡ true → at_line is_pending l ≡ is_pending p
       → at_line is_half_linked l ≡ is_half_linked p → at_line is_unlinked l ≡ is_unlinked p
       → ((word_at s.words m).number ≡ t → at_line is_unsettled l ≡ false → (b ≡ false) × (h ≢ 2))
@@ -254,12 +253,12 @@ module _ {s : Table} {t : ℕ} {q : Request} {p : Place} (g : Going s t q p)
   spares_still u d z = unwritten (is_living s.kernel) u (cell_at s m) (cell_at s m) refl
 
   -- going on is local
-  goes_is_local : (b : Place) (r : RobustRow) → is_ready (status_at s t) ≡ true → belongs q b ≡ true
-      → progress_at b (status_at s t) (health_at s m) ≡ progress_at p (status_at s t) (health_at s m)
-      → MeetsAll (is_living s.kernel) t (status_at s t) (cell_at s m) (needs b)
+  goes_is_local : (b : Place) → Follows (At q p) (At q b) → (r : RobustRow) → is_ready (status_at s t) ≡ true → belongs q b ≡ true
+      → progress_of s t q b ≡ progress_of s t q p
+      → MeetsAll (is_living s.kernel) t (status_at s t) (cell_at s m) (use_at s q) (needs b)
       → ListsAfter s t m (cell_at s m) (At q b) r
-      → IsLocal s t m q (progress_at p (status_at s t) (health_at s m)) (still Went (At q b) r)
-  goes_is_local b r ready ours same met lists = record {
+      → IsLocal s t m q p (progress_of s t q p) (still Went (At q b) r)
+  goes_is_local b follows r ready ours same met lists = record {
     ready = ready;
     knows = (refl, ours, met);
     lists = lists;
@@ -268,32 +267,34 @@ module _ {s : Table} {t : ℕ} {q : Request} {p : Place} (g : Going s t q p)
     spares = spares_still;
     health = inl refl;
     shows = (b, refl, same);
+    follows = follows;
+    blocked = λ j e. e;
   }
 
   -- to go on at a place where all that the call rests on is met, with no effect and with this robust list
-  pub goes_listed : (b : Place) (r : RobustRow) → is_ready (status_at s t) ≡ true → belongs q b ≡ true
-      → progress_at b (status_at s t) (health_at s m) ≡ progress_at p (status_at s t) (health_at s m)
-      → MeetsAll (is_living s.kernel) t (status_at s t) (cell_at s m) (needs b)
+  pub goes_listed : (b : Place) → Follows (At q p) (At q b) → (r : RobustRow) → is_ready (status_at s t) ≡ true → belongs q b ≡ true
+      → progress_of s t q b ≡ progress_of s t q p
+      → MeetsAll (is_living s.kernel) t (status_at s t) (cell_at s m) (use_at s q) (needs b)
       → ListsAfter s t m (cell_at s m) (At q b) r
       → Keeps s (Happened (Go t) Went) (record s { lists = with_robust t r s.lists; lines = set s.lines t (At q b) })
-  goes_listed b r ready ours same met lists = subst (Keeps s (Happened (Go t) Went)) (still_table Went (At q b) r)
-      (local_kept g named (progress_at p (status_at s t) (health_at s m)) (still Went (At q b) r)
-      (goes_is_local b r ready ours same met lists) (nothing refl refl))
+  goes_listed b follows r ready ours same met lists = subst (Keeps s (Happened (Go t) Went)) (still_table Went (At q b) r)
+      (local_kept g named (progress_of s t q p) (still Went (At q b) r)
+      (goes_is_local b follows r ready ours same met lists) (nothing refl refl))
 
   -- and with the same one
-  pub goes : (b : Place) → is_ready (status_at s t) ≡ true → belongs q b ≡ true
-      → progress_at b (status_at s t) (health_at s m) ≡ progress_at p (status_at s t) (health_at s m)
-      → MeetsAll (is_living s.kernel) t (status_at s t) (cell_at s m) (needs b)
+  pub goes : (b : Place) → Follows (At q p) (At q b) → is_ready (status_at s t) ≡ true → belongs q b ≡ true
+      → progress_of s t q b ≡ progress_of s t q p
+      → MeetsAll (is_living s.kernel) t (status_at s t) (cell_at s m) (use_at s q) (needs b)
       → ((library_at s m).robust ≡ true → RowAfter s t m (cell_at s m) (At q b) (robust_at s.lists t))
       → GoKeeps s t (goes_to t q b s)
-  goes b ready ours same met row = subst (Keeps s (Happened (Go t) Went)) (still_line Went (At q b))
-      (local_kept g named (progress_at p (status_at s t) (health_at s m)) (still Went (At q b) (robust_at s.lists t))
-      (goes_is_local b (robust_at s.lists t) ready ours same met (lists_by refl refl (going_cell g named) row))
+  goes b follows ready ours same met row = subst (Keeps s (Happened (Go t) Went)) (still_line Went (At q b))
+      (local_kept g named (progress_of s t q p) (still Went (At q b) (robust_at s.lists t))
+      (goes_is_local b follows (robust_at s.lists t) ready ours same met (lists_by refl refl (going_cell g named) row))
       (nothing refl refl))
 
   -- answering is local
   answer_is_local : (n : ℕ) (r : RobustRow) → is_ready (status_at s t) ≡ true → ListsAfter s t m (cell_at s m) Idle r
-      → IsLocal s t m q (Has n) (still (Answered n) Idle r)
+      → IsLocal s t m q p (Has n) (still (Answered n) Idle r)
   answer_is_local n r ready lists = record {
     ready = ready;
     knows = ready;
@@ -303,12 +304,14 @@ module _ {s : Table} {t : ℕ} {q : Request} {p : Place} (g : Going s t q p)
     spares = spares_still;
     health = inl refl;
     shows = (refl, refl);
+    follows = quiet refl refl;
+    blocked = λ j e. absurd (true≢false (sym e));
   }
 
   -- to answer with an effect on the call alone, which is one of those on a call and its mutex, and with this robust
   -- list
   pub answers_listed : (n : ℕ) (r : RobustRow) → is_ready (status_at s t) ≡ true
-      → Does t m (has_waiter s.kernel.waiters m) q (progress_at p (status_at s t) (health_at s m))
+      → Does t m (has_waiter s.kernel.waiters m) q (progress_of s t q p)
       (mutex_of (cell_at s m)) (Has n) (mutex_of (cell_at s m))
       → ListsAfter s t m (cell_at s m) Idle r
       → Keeps s (Happened (Go t) (Answered n)) (record s
@@ -318,7 +321,7 @@ module _ {s : Table} {t : ℕ} {q : Request} {p : Place} (g : Going s t q p)
 
   -- and with the same one
   pub answers_local : (n : ℕ) → is_ready (status_at s t) ≡ true
-      → Does t m (has_waiter s.kernel.waiters m) q (progress_at p (status_at s t) (health_at s m))
+      → Does t m (has_waiter s.kernel.waiters m) q (progress_of s t q p)
       (mutex_of (cell_at s m)) (Has n) (mutex_of (cell_at s m))
       → ((library_at s m).robust ≡ true → RowAfter s t m (cell_at s m) Idle (robust_at s.lists t))
       → GoKeeps s t (answers t n s)
@@ -340,18 +343,20 @@ module _ {s : Table} {t : ℕ} {q : Request} {p : Place} (g : Going s t q p)
   answers_alone n ready effect row = subst (Keeps s (Happened (Go t) (Answered n))) (still_line (Answered n) Idle)
       (local_by g named (Has n) (still (Answered n) Idle (robust_at s.lists t))
       (answer_is_local n (robust_at s.lists t) ready (lists_by tt refl (going_cell g named) row))
-      (λ y. subst (λ x. Effects t (world_of s y) (with_progress t (Has n) x)) (sym (mutex_stays y))
+      (λ y. subst (λ x. Effects t (world_of s y) (world_of s y) (with_progress t (Has n) x)) (sym (mutex_stays y))
       (first (effect y) (none refl))))
 
-  -- to go on with an effect of another kind on the call alone, after which it has this result
-  pub goes_alone : (n : ℕ) (b : Place) → is_ready (status_at s t) ≡ true → belongs q b ≡ true
-      → progress_at b (status_at s t) (health_at s m) ≡ Has n
-      → MeetsAll (is_living s.kernel) t (status_at s t) (cell_at s m) (needs b)
-      → ((y : Shadow) → Effect t (world_of s y) (with_progress t (Has n) (world_of s y)))
+  -- to go on with an effect of another kind on the call alone, after which it has come as far as a
+  pub goes_alone : (a : Progress) (b : Place) → Follows (At q p) (At q b)
+      → (may_enlist (At q p) ≡ false → is_blocked a ≡ true → is_blocked (progress_of s t q p) ≡ true)
+      → is_ready (status_at s t) ≡ true → belongs q b ≡ true → progress_of s t q b ≡ a
+      → MeetsAll (is_living s.kernel) t (status_at s t) (cell_at s m) (use_at s q) (needs b)
+      → ((y : Shadow) → Effect t (world_of s y) (with_progress t a (world_of s y)))
       → ((library_at s m).robust ≡ true → RowAfter s t m (cell_at s m) (At q b) (robust_at s.lists t))
       → GoKeeps s t (goes_to t q b s)
-  goes_alone n b ready ours has met effect row = subst (Keeps s (Happened (Go t) Went)) (still_line Went (At q b))
-      (local_by g named (Has n) (still Went (At q b) (robust_at s.lists t))
+  goes_alone a b follows blocked ready ours has met effect row = subst (Keeps s (Happened (Go t) Went))
+      (still_line Went (At q b))
+      (local_by g named a (still Went (At q b) (robust_at s.lists t))
       (record {
         ready = ready;
         knows = (refl, ours, met);
@@ -361,20 +366,22 @@ module _ {s : Table} {t : ℕ} {q : Request} {p : Place} (g : Going s t q p)
         spares = spares_still;
         health = inl refl;
         shows = (b, refl, has);
+        follows = follows;
+        blocked = blocked;
       })
-      (λ y. subst (λ x. Effects t (world_of s y) (with_progress t (Has n) x)) (sym (mutex_stays y))
+      (λ y. subst (λ x. Effects t (world_of s y) (world_of s y) (with_progress t a x)) (sym (mutex_stays y))
       (first (effect y) (none refl))))
 
   -- THE PENDING FIELD
 
   -- m is named in the pending field
-  pub pending_kept : (b : Place) → is_ready (status_at s t) ≡ true → (library_at s m).robust ≡ true → belongs q b ≡ true
-      → progress_at b (status_at s t) (health_at s m) ≡ progress_at p (status_at s t) (health_at s m)
-      → MeetsAll (is_living s.kernel) t (status_at s t) (cell_at s m) (needs b)
+  pub pending_kept : (b : Place) → Follows (At q p) (At q b) → is_ready (status_at s t) ≡ true → (library_at s m).robust ≡ true → belongs q b ≡ true
+      → progress_of s t q b ≡ progress_of s t q p
+      → MeetsAll (is_living s.kernel) t (status_at s t) (cell_at s m) (use_at s q) (needs b)
       → is_pending b ≡ true → is_half_linked p ≡ false → is_half_linked b ≡ false → is_unlinked b ≡ is_unlinked p
       → is_unsettled p ≡ false → GoKeeps s t (goes_to t q b (pending t m s))
-  pending_kept b ready robust ours same met bp ph bh unlinked settled =
-      goes_listed b (record (robust_at s.lists t) { pending = m }) ready ours same met
+  pending_kept b follows ready robust ours same met bp ph bh unlinked settled =
+      goes_listed b follows (record (robust_at s.lists t) { pending = m }) ready ours same met
       (robust_lists refl robust robust (record {
         pending = sym (ap (λ x. if x then m else 0) bp);
         half_linked = row_half_linked robust ∙ ap (λ x. if x then m else 0) (ph ∙ sym bh);
@@ -386,7 +393,7 @@ module _ {s : Table} {t : ℕ} {q : Request} {p : Place} (g : Going s t q p)
 
   -- the pending field is cleared, and the call answered
   pub clears_kept : (a : ℕ) → is_ready (status_at s t) ≡ true → (library_at s m).robust ≡ true
-      → progress_at p (status_at s t) (health_at s m) ≡ Has a → is_half_linked p ≡ false → is_unlinked p ≡ false
+      → progress_of s t q p ≡ Has a → is_half_linked p ≡ false → is_unlinked p ≡ false
       → is_unsettled p ≡ false → GoKeeps s t (clears a t s)
   unfolding clears
   clears_kept a ready robust has ph unlinked settled =

@@ -11,21 +11,22 @@ use Rattle.pif_model.specs.declared.lines.Line.{Line}
 use Rattle.pif_model.specs.declared.lines.Line.TheVariants.{Idle, At}
 use Rattle.pif_model.specs.declared.lines.Place.{Place}
 use Rattle.pif_types.specs.declared.requests.Request.{Request}
-use Rattle.pif_types.specs.declared.requests.Request.TheVariants.{Lock, TryLock, Unlock, Consistent, SetPrio}
+use Rattle.pif_types.specs.declared.requests.Request.TheVariants.{Lock, TryLock, Unlock, Consistent, Wait, Signal, Broadcast, SetPrio}
 use Rattle.pif_model.specs.Posix.{Mutex, no_mutex, named_by, names_known}
 use Rattle.pif_model.specs.Posix.Health.{Fine}
 use Rattle.pif_model.specs.Posix.Step.{mutex_added as mutex_rule}
 use Rattle.pif_model.specs.PiKernel.{state_at, is_living}
-use Rattle.pif_model.specs.Table.{Table, LibraryMutex, new_mutex, has_thread, has_mutex, line_at, library_at, cell_at, has_mutex_room, mutex_added}
+use Rattle.pif_model.specs.Table.{Table, LibraryMutex, new_mutex, has_thread, has_mutex, has_cond, bound_to, line_at, library_at, cell_at, has_mutex_room, mutex_added}
 use Rattle.pif_model.specs.Standing.{Shadow, mutex_shown, world_of, CellIsSound, LineIsSound, ThreadIsSound, IsShaped, IsSound, mutex_by, is_pending, is_half_linked, is_unlinked, is_unsettled, holds_robust}
 use Rattle.pif_chains.proofs.Numbers.{above_0, below}
 use Rattle.pif_chains.proofs.KernelFacts.{living-added}
 use Rattle.pif_chains.proofs.Waiting.{by_test}
-use Rattle.pif_simulation.proofs.Kept.{Spares, unwritten, line_spared, held_once}
+use Rattle.pif_simulation.proofs.Kept.{Spares, unwritten, unused, second, line_spared, held_once}
 use Rattle.pif_simulation.proofs.Hole.{cell_spared, each_thread, each_absent}
 use Rattle.pif_simulation.proofs.Shown.{mutexes_shown, mutex_seen, same_world}
 use Rattle.pif_simulation.proofs.Written.{mutex_of}
-use Rattle.pif_simulation.proofs.Steps.{Keeps, agrees_on}
+use Rattle.pif_simulation.proofs.Steps.{Keeps}
+use Rattle.pif_simulation.proofs.Agreement.{frames_alike, framed}
 use Rattle.pif_simulation.proofs.Additions.{pushed_else, more-else, room}
 
 -- numbers that differ
@@ -98,6 +99,10 @@ module _ (s : Table) (kind : Kind) (r : Bool) (h : IsSound s) (free : has_mutex_
       (has_waiter s.kernel.waiters j) (cell_at s j) (cell_at v j) (λ u i. i) refl (cell_else j d)
       (h.all.mutexes j (sym (still j d) ∙ e))
 
+  -- those that were added are still there
+  known_more : (j : ℕ) → has_mutex s j ≡ true → has_mutex v j ≡ true
+  known_more j e = still j (λ q. omega (arith, below j k e, q)) ∙ e
+
   -- those that were added are still there, and spare everybody
   spares_more : (u j : ℕ) → has_mutex s j ≡ true → (has_mutex v j ≡ true) × Spares (is_living s.kernel)
       (is_living v.kernel) u (cell_at s j) (cell_at v j)
@@ -124,6 +129,12 @@ module _ (s : Table) (kind : Kind) (r : Bool) (h : IsSound s) (free : has_mutex_
         no_word = b.no_word;
         no_health = b.no_health;
         unmade = λ j e. b.unmade j (omega (arith, e, long));
+        some_cond = b.some_cond;
+        few_conds = b.few_conds;
+        no_cond = b.no_cond;
+        cond_words = b.cond_words;
+        no_cond_word = b.no_cond_word;
+        unmade_conds = b.unmade_conds;
       }
 
   -- a mutex that a line names is another
@@ -132,11 +143,14 @@ module _ (s : Table) (kind : Kind) (r : Bool) (h : IsSound s) (free : has_mutex_
   known_in_line u (At q p) b test e = by_test (λ x. (if x then named_by q else 0) ≡ k → ⊥) (test p)
       (λ _ f. named q b.named f) (λ _ f. less_not_same 0 k h.all.shape.some_mutex f) e
     where
-      named : (q : Request) → names_known (has_mutex s) q ≡ true → named_by q ≢ k
+      named : (q : Request) → names_known (has_mutex s) (has_cond s) q ≡ true → named_by q ≢ k
       named (Lock j) e f = absurd (less_not_same j k (below j k e) f)
       named (TryLock j) e f = absurd (less_not_same j k (below j k e) f)
       named (Unlock j) e f = absurd (less_not_same j k (below j k e) f)
       named (Consistent j) e f = absurd (less_not_same j k (below j k e) f)
+      named (Wait c j) e f = absurd (less_not_same j k (below j k (second (has_cond s c) (has_mutex s j) e)) f)
+      named (Signal c) e f = absurd (less_not_same 0 k h.all.shape.some_mutex f)
+      named (Broadcast c) e f = absurd (less_not_same 0 k h.all.shape.some_mutex f)
       named (SetPrio w p) e f = absurd (less_not_same 0 k h.all.shape.some_mutex f)
 
   -- the kinds of the others stay
@@ -185,10 +199,13 @@ module _ (s : Table) (kind : Kind) (r : Bool) (h : IsSound s) (free : has_mutex_
     all = record {
       shape = shape_more;
       mutexes = λ j e. mutex_more j e (cases_eq j k);
+      conds = λ c e. (let b = h.all.conds c e in record { bound = known_more (bound_to s c) b.bound; uses = b.uses });
+      targets = h.all.targets;
       alive = λ j e b z out. alive_more j e b z (cases_eq j k);
       threads = λ u e out. (let b = each_thread h u e in record {
-        line = line_spared s v u refl (λ j i. spares_more u j i) (line_at s u) b.line;
+        line = line_spared s v u refl (unused s v refl refl refl) (λ j i. spares_more u j i) (line_at s u) b.line;
         queue = b.queue;
+        parked = b.parked;
         list = record {
           pending = b.list.pending ∙ sym (ap (λ x. if x then mutex_by is_pending (line_at s u) else 0)
               (robust_else (mutex_by is_pending (line_at s u)) (known_in_line u (line_at s u) b.line is_pending)));
@@ -213,10 +230,10 @@ module _ (s : Table) (kind : Kind) (r : Bool) (h : IsSound s) (free : has_mutex_
   pub mutex_added_seen : (y : Shadow) → world_of v y ≡ record (world_of s y)
       { mutexes = (world_of s y).mutexes ++ new_one ∷ [] }
   mutex_added_seen y = same_world (world_of v y) (record
-      (world_of s y) { mutexes = (world_of s y).mutexes ++ new_one ∷ [] }) refl (λ u. refl)
+      (world_of s y) { mutexes = (world_of s y).mutexes ++ new_one ∷ [] }) refl (λ u i. refl)
       (mutexes_shown shape_more y ∙ length_push s.mutexes (new_mutex kind r)
       ∙ sym (length_push (world_of s y).mutexes new_one ∙ ap (λ j. j + 1) long))
-      (λ j. mutex_seen shape_more y j ∙ each j (cases_eq j k)) refl
+      (λ j. mutex_seen shape_more y j ∙ each j (cases_eq j k)) refl refl refl
     where
       long : length (world_of s y).mutexes ≡ k
       long = mutexes_shown h.all.shape y
@@ -234,7 +251,7 @@ module _ (s : Table) (kind : Kind) (r : Bool) (h : IsSound s) (free : has_mutex_
     limits = refl;
     shows = λ y a. (
       y,
-      agrees_on s v y a,
+      framed (frames_alike s v refl (λ u. refl) (λ u. refl) (λ u. refl)) y a,
       mutex_rule k kind r refl (sym (mutexes_shown h.all.shape y))
           (room k s.limits.mutexes free) (mutex_added_seen y),
     );

@@ -1,19 +1,18 @@
 -- What standing tells a caller: the kernel's pick runs next, an effective priority is the subject's, and a mutex's word
--- is
--- one of those that its state allows.
+-- is one of those that its state allows.
 use Rattle.std.proofs.Common.{◌≡◌, ◌≢◌, ℕ, ◌≤◌, true, false, refl, sym, ap, ◌∙◌, subst, if◌then◌else◌}
 use Rattle.std.proofs.lemmas.Bool.{true≢false}
 use Rattle.pif_model.specs.Word.{free_word}
 use Rattle.pif_model.specs.Graph.{has_waiter}
-use Rattle.pif_model.specs.Posix.{Mutex, mutex_at, rests, effective_of}
+use Rattle.pif_model.specs.Posix.{Mutex, Variable, mutex_at, rests, effective_of}
 use Rattle.pif_model.specs.Posix.Health.{Fine, Inconsistent}
 use Rattle.pif_model.specs.PiKernel.{is_ready, is_living, pick_in}
-use Rattle.pif_model.specs.Table.{Table, cell_at, has_thread, has_mutex, status_at}
-use Rattle.pif_model.specs.Standing.{Shadow, mutex_shown, world_of, health_of, CellIsSound, IsSound, IsPick, IsPossible, IsPossibleHealth, ArePossible}
+use Rattle.pif_model.specs.Table.{Table, cell_at, has_thread, has_mutex, uses_of, status_at}
+use Rattle.pif_model.specs.Standing.{Shadow, mutex_shown, world_of, health_of, CellIsSound, IsSound, IsPick, IsPossible, IsPossibleHealth, IsPossibleUses, ArePossible}
 use Rattle.pif_chains.proofs.Waiting.{by_test}
 use Rattle.pif_chains.proofs.KernelPicks.{pick_law, pick_some}
 use Rattle.pif_chains.proofs.KernelFacts.{living-added, ready-not_ended}
-use Rattle.pif_simulation.proofs.Shown.{mutex_seen, living_seen}
+use Rattle.pif_simulation.proofs.Shown.{mutex_seen, variable_seen, living_seen}
 use Rattle.pif_simulation.proofs.Effective.{effective_seen}
 use Rattle.pif_simulation.proofs.Steps.{rests_ready, rests_not_ready}
 use Rattle.pif_simulation.proofs.Healths.{fine-undied, health-unusable, health-inconsistent, unusable-word, inconsistent-word, inconsistent-died}
@@ -110,3 +109,7 @@ module _ {s : Table} (h : IsSound s) (y : Shadow) where
     pub both_are_possible : ArePossible (world_of s y) m (cell_at s m).word (cell_at s m).health
     both_are_possible e z =
         inconsistent-died (cell_at s m).health (cell_at s m).word.died z (sym health ∙ e)
+
+  -- the condition word of a variable is how often it was used
+  pub uses_are_possible : (c : ℕ) → IsPossibleUses (world_of s y) c (uses_of s c)
+  uses_are_possible c = sym (ap (λ (x : Variable). x.uses) (variable_seen h.all.shape y c))

@@ -10,24 +10,25 @@ use Rattle.pif_model.specs.declared.lines.Place.TheVariants.{SetPriority}
 use Rattle.pif_model.specs.Graph.{is_priority}
 use Rattle.pif_model.specs.Word.{word_at, health_word_at}
 use Rattle.pif_model.specs.RobustList.{robust_at}
-use Rattle.pif_model.specs.Posix.{Thread, World, SetsPriority, nobody, thread_at, with_base, with_progress}
+use Rattle.pif_model.specs.Posix.{Thread, World, SetsPriority, closed, recalled, is_call_blocked, nobody, thread_at, with_base, with_progress}
 use Rattle.pif_model.specs.Posix.Effect.{set_prio}
 use Rattle.pif_model.specs.Posix.Effects.{none, then as first}
 use Rattle.pif_model.specs.Posix.Progress.{Has}
 use Rattle.pif_model.specs.Posix.SetsPriority.{no_priority, not_living, changed}
 use Rattle.pif_model.specs.PiKernel.{Kernel, IsKernel, Seat, no_seat, seat_at, has_ended, is_ready, is_living, set_prio_answer, kernel_after_set_prio}
-use Rattle.pif_model.specs.Table.{Table, has_mutex, status_at, line_at, library_at, with_line, with_kernel}
+use Rattle.pif_model.specs.Table.{Table, has_mutex, bound_to, uses_of, status_at, line_at, library_at, with_line, with_kernel}
 use Rattle.pif_model.specs.Lines.{Outcome, answers, answered_by, set_priority}
-use Rattle.pif_model.specs.Standing.{Shadow, call_at, health_at, thread_shown, world_of, mutex_by, is_unsettled, ListIsSound, IsShaped, IsSound}
+use Rattle.pif_model.specs.Standing.{Shadow, memory_at, call_at, health_at, thread_shown, world_of, mutex_by, is_unsettled, ListIsSound, IsShaped, IsSound}
 use Rattle.pif_chains.proofs.Waiting.{by_test}
 use Rattle.pif_chains.proofs.Numbers.{below}
 use Rattle.pif_chains.proofs.KernelFacts.{living-added}
 use Rattle.pif_chains.proofs.KernelKept.{set_prio_kept}
 use Rattle.pif_simulation.proofs.Hole.{each_thread}
-use Rattle.pif_simulation.proofs.Shown.{threads_shown, mutexes_shown, thread_seen, mutex_seen, living_seen, closed, closed_progressed, call_progressed}
+use Rattle.pif_simulation.proofs.Shown.{threads_shown, mutexes_shown, thread_seen, mutex_seen, living_seen, closed_progressed, call_progressed}
+use Rattle.pif_simulation.proofs.Agreement.{Frames, quiet, was_not}
 use Rattle.pif_simulation.proofs.Written.{IsCallOn, no_call, thread_here, thread_there, shows}
 use Rattle.pif_simulation.proofs.Steps.{GoKeeps, Going, going_met, going_called, going_below, answers_with}
-use Rattle.pif_simulation.proofs.Lined.{t0, tl, tr, ml, lined_same, lined_sound, lined_shown}
+use Rattle.pif_simulation.proofs.Lined.{t0, tl, tr, ml, lined_same, lined_sound, lined_frames, lined_call, lined_shown}
 
 module _ (s : Table) (t u p : ℕ) (g : Going s t (SetPrio u p) SetPriority) where
   ready : is_ready (status_at s t) ≡ true
@@ -49,9 +50,14 @@ module _ (s : Table) (t u p : ℕ) (g : Going s t (SetPrio u p) SetPriority) whe
   v k = with_line t Idle (with_kernel s.words k s)
 
   -- whatever the kernel's base priorities are then, it is sound
-  closed_sound : (k : Kernel) → IsKernel k → IsCallOn (λ j. j ≡ t) s.kernel k 0 → (seat_at k t).status ≡ status_at s t
+  closed_sound : (k : Kernel) → IsKernel k → IsCallOn (λ j. j ≡ t) (bound_to s) s.kernel k 0 → (seat_at k t).status ≡ status_at s t
       → IsSound (v k)
   closed_sound k kernel call same = lined_sound s t Idle g.sound g.known k kernel call same ready ready list settled
+
+  -- and who was found blocked stays so
+  closed_frames : (k : Kernel) → ((j : ℕ) → (seat_at k j).status ≡ status_at s j) → Frames s (v k)
+  closed_frames k same = lined_frames s t Idle g.sound g.known k same (quiet refl refl)
+      (λ e. was_not s (v k) t (λ c. ap (is_call_blocked c) (lined_call s t Idle g.sound g.known k)))
 
   -- the line, by its kernel call's answer
   abbrev by_call : Result (record {}) Errno → Outcome
@@ -61,8 +67,9 @@ module _ (s : Table) (t u p : ℕ) (g : Going s t (SetPrio u p) SetPriority) whe
   refuses : (n : ℕ) → ((y : Shadow) → SetsPriority t u p (world_of s y) (with_progress t (Has n) (world_of s y)))
       → GoKeeps s t (answers t n s)
   refuses n rule =
-      let sound = closed_sound s.kernel g.sound.kernel (no_call (λ j. j ≡ t) s.kernel 0) refl in
+      let sound = closed_sound s.kernel g.sound.kernel (no_call (λ j. j ≡ t) (bound_to s) s.kernel 0) refl in
       answers_with g (v s.kernel) n (λ y. with_progress t (Has n) (world_of s y)) sound refl g.known ready
+      (closed_frames s.kernel (λ j. refl))
       (λ y. first (set_prio u p (going_called g y) (rule y)) (none refl))
       (λ y. call_progressed (world_of s y) t (Has n) _ (going_below g y) (going_called g y))
       (λ y. lined_shown s t Idle g.sound g.known y sound None refl
@@ -101,7 +108,7 @@ module _ (s : Table) (t u p : ℕ) (g : Going s t (SetPrio u p) SetPriority) whe
       then (if has_ended (status_same l j i) then false else true) else false
 
   -- it is a call by which nobody's status changes
-  call : is_living s.kernel u ≡ true → IsCallOn (λ j. j ≡ t) s.kernel k 0
+  call : is_living s.kernel u ≡ true → IsCallOn (λ j. j ≡ t) (bound_to s) s.kernel k 0
   unfolding kernel_after_set_prio
   call l = record {
     limits = refl;
@@ -110,6 +117,7 @@ module _ (s : Table) (t u p : ℕ) (g : Going s t (SetPrio u p) SetPriority) whe
     living = living_same l;
     states = λ j d. refl;
     waited = λ j d. refl;
+    targets = λ i n e. inl e;
   }
 
   waiters_same : k.waiters ≡ s.kernel.waiters
@@ -121,49 +129,58 @@ module _ (s : Table) (t u p : ℕ) (g : Going s t (SetPrio u p) SetPriority) whe
     w = world_of s y
 
     -- the threads of the world in which the priority has changed
-    rebased : (j : ℕ) → thread_at (with_base u p w) j ≡ record (thread_shown s j) { base = (seat_at k j).base }
-    rebased j = go (cases_eq j u)
+    rebased : (j : ℕ) → j < length s.lines
+        → thread_at (with_base u p w) j ≡ record (thread_shown s y j) { base = (seat_at k j).base }
+    rebased j f = go (cases_eq j u)
       where
-        uw : u < length w.threads
-        uw = subst (λ i. u < i) (sym (threads_shown g.sound.all.shape y ∙ g.sound.all.shape.lines))
+        ul : u < length s.lines
+        ul = subst (λ i. u < i) (sym g.sound.all.shape.lines)
             (below u (length s.kernel.seats) (living-added s.kernel u l))
 
-        go : (j ≡ u) ⊎ (j ≢ u) → thread_at (with_base u p w) j ≡ record (thread_shown s j) { base = (seat_at k j).base }
-        go (inl e) = subst (λ i. thread_at (with_base u p w) i ≡ record (thread_shown s i)
+        go : (j ≡ u) ⊎ (j ≢ u)
+            → thread_at (with_base u p w) j ≡ record (thread_shown s y j) { base = (seat_at k j).base }
+        go (inl e) = subst (λ i. thread_at (with_base u p w) i ≡ record (thread_shown s y i)
             { base = (seat_at k i).base }) (sym e)
-            (get_or-set_same w.threads u (record (thread_at w u) { base = p }) nobody uw
-            ∙ (λ i. record (thread_seen g.sound.all.shape y u i) { base = (sym (seat_u l) i).base }))
+            (get_or-set_same w.threads u (record (thread_at w u) { base = p }) nobody
+            (subst (λ i. u < i) (sym (threads_shown g.sound.all.shape y)) ul)
+            ∙ (λ i. record (thread_seen g.sound.all.shape y u ul i) { base = (sym (seat_u l) i).base }))
         go (inr d) = get_or-set_other w.threads u j (record (thread_at w u) { base = p }) nobody d
-            ∙ thread_seen g.sound.all.shape y j
-            ∙ (λ i. record (thread_shown s j) { base = (sym (seat_else j d) i).base })
+            ∙ thread_seen g.sound.all.shape y j f
+            ∙ (λ i. record (thread_shown s y j) { base = (sym (seat_else j d) i).base })
 
     -- the world that the table shows
-    rebased_shown : IsSound (v k) → world_of (v k) y ≡ closed t (with_base u p w)
+    rebased_shown : IsSound (v k) → world_of (v k) y ≡ recalled t closed (with_base u p w)
     rebased_shown sound =
         let r : Thread = record (thread_at (with_base u p w) t) { call = None } in
         let long = length-set w.threads u (record (thread_at w u) { base = p }) in
         ap (λ x. world_of x y) (sym (lined_same s t Idle g.sound g.known k))
         ∙ shows s t 0 Idle (robust_at s.lists t) (word_at s.words 0) (health_word_at s.words 0)
-        (library_at s 0).count k t0' tl' tr' ml' g.sound.all.shape y (closed t (with_base u p w))
+        (library_at s 0).count k t0' tl' tr' ml' g.sound.all.shape y (recalled t closed (with_base u p w))
         (subst IsShaped (sym (lined_same s t Idle g.sound g.known k)) sound.all.shape)
         (length-set (with_base u p w).threads t r ∙ long ∙ threads_shown g.sound.all.shape y)
         (mutexes_shown g.sound.all.shape y) waiters_same
         (thread_here s t 0 Idle (robust_at s.lists t) (word_at s.words 0) (health_word_at s.words 0)
-        (library_at s 0).count k t0' tl' tr' ml' g.sound.all.shape
-        ∙ (λ i. record { base = (seat_at k t).base; living = living_same l t i; call = None })
+        (library_at s 0).count k t0' tl' tr' ml' g.sound.all.shape y
+        ∙ (λ i. record {
+          base = (seat_at k t).base;
+          living = living_same l t i;
+          call = None;
+          memory = memory_at y t;
+        })
         ∙ sym (get_or-set_same (with_base u p w).threads t r nobody (subst (λ j. t < j) (sym long) (going_below g y))
-        ∙ (λ i. record (rebased t i) { call = None })))
-        (λ j d. thread_there s t 0 Idle (robust_at s.lists t) (word_at s.words 0) (health_word_at s.words 0)
-        (library_at s 0).count k t0' tl' tr' ml' g.sound.all.shape j d
+        ∙ (λ i. record (rebased t tl' i) { call = None })))
+        (λ j f d. thread_there s t 0 Idle (robust_at s.lists t) (word_at s.words 0) (health_word_at s.words 0)
+        (library_at s 0).count k t0' tl' tr' ml' g.sound.all.shape y j d
         ∙ (λ i. record {
           base = (seat_at k j).base;
           living = living_same l j i;
-          call = call_at
-              (health_at (lined_same s t Idle g.sound g.known k i)) (line_at s j) (status_same l j i);
+          call = call_at (health_at (lined_same s t Idle g.sound g.known k i)) (uses_of s) (line_at s j)
+              (status_same l j i);
+          memory = memory_at y j;
         })
-        ∙ sym (get_or-set_other (with_base u p w).threads t j r nobody d ∙ rebased j))
+        ∙ sym (get_or-set_other (with_base u p w).threads t j r nobody d ∙ rebased j f))
         (sym (mutex_seen g.sound.all.shape y 0))
-        (λ j d. sym (mutex_seen g.sound.all.shape y j))
+        (λ j d. sym (mutex_seen g.sound.all.shape y j)) refl refl
       where
         t0' : t ≢ 0
         t0' = t0 s t Idle g.sound g.known
@@ -182,12 +199,13 @@ module _ (s : Table) (t u p : ℕ) (g : Going s t (SetPrio u p) SetPriority) whe
   changes_it prio l =
       let sound = closed_sound k (set_prio_kept u p s.kernel g.sound.kernel prio l) (call l) (status_same l t) in
       (answers_with g (v k) 0 (λ y. with_progress t (Has 0) (with_base u p (world_of s y))) sound limits known
-      (ap is_ready (status_same l t) ∙ ready)
+      (ap is_ready (status_same l t) ∙ ready) (closed_frames k (status_same l))
       (λ y. first (set_prio u p (going_called g y) (changed prio (living_seen s y u g.sound.all.shape ∙ l) refl))
       (none refl))
       (λ y. call_progressed (with_base u p (world_of s y)) t (Has 0) _ (tw y)
-      (ap (λ (x : Thread). x.call) (rebased l y t) ∙ sym
-      (ap (λ (x : Thread). x.call) (thread_seen g.sound.all.shape y t)) ∙ going_called g y))
+      (ap (λ (x : Thread). x.call) (rebased l y t (tl s t Idle g.sound g.known)) ∙ sym
+      (ap (λ (x : Thread). x.call) (thread_seen g.sound.all.shape y t (tl s t Idle g.sound g.known)))
+      ∙ going_called g y))
       (λ y. rebased_shown l y sound ∙ sym (closed_progressed (with_base u p (world_of s y)) t (Has 0) (tw y))))
     where
       tw : (y : Shadow) → t < length (with_base u p (world_of s y)).threads

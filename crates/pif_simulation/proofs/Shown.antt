@@ -1,19 +1,19 @@
 -- What the POSIX machine sees of a table, place by place: its threads and mutexes, and its refusals.
-use Rattle.std.proofs.Common.{◌≡◌, ℕ, zero, suc, ◌<◌, ◌≤◌, Bool, true, false, ◌==◌, nat_lt, List, [], ◌∷◌, ◌++◌, length, get_or, map, Some, None, is_some, refl, sym, ap, ◌∙◌, subst, arith, if◌then◌else◌, ◌⊎◌, inl, inr, le-ltb}
+use Rattle.std.proofs.Common.{◌≡◌, ℕ, zero, suc, ◌<◌, ◌≤◌, Bool, true, false, ◌==◌, nat_lt, List, [], ◌∷◌, ◌++◌, length, get_or, map, Option, Some, None, is_some, refl, sym, ap, ◌∙◌, subst, arith, if◌then◌else◌, ◌⊎◌, inl, inr, le-ltb}
 use Rattle.std.proofs.lemmas.Bool.{cases_lt}
-use Rattle.std.proofs.lemmas.List.{length-map, length_push, map-append, get_or_append_left, get_or_push, get_or_past, ext_get_or, get_or-set_same, set-set}
+use Rattle.std.proofs.lemmas.List.{length-map, length_push, map-append, get_or_append_left, get_or_push, get_or_past, ext_get_or, get_or-set_same, set-set, set-get_or}
 use Rattle.pif_types.specs.declared.requests.Request.{Request}
-use Rattle.pif_types.specs.declared.requests.Request.TheVariants.{Lock, TryLock, Unlock, Consistent, SetPrio}
+use Rattle.pif_types.specs.declared.requests.Request.TheVariants.{Lock, TryLock, Unlock, Consistent, Wait, Signal, Broadcast, SetPrio}
 use Rattle.pif_model.specs.declared.events.Event.{Event}
 use Rattle.pif_model.specs.declared.events.Event.TheVariants.{Begin, Go, End}
 use Rattle.pif_model.specs.declared.lines.Line.{Line}
 use Rattle.pif_model.specs.declared.lines.Line.TheVariants.{Idle, At}
 use Rattle.pif_model.specs.Refusals.{begin_refused, go_refused, end_refused}
-use Rattle.pif_model.specs.Posix.{Progress, Call, Thread, World, nobody, no_mutex, thread_at, mutex_at, is_thread, is_mutex, with_thread, with_progress, progressed, refusal_of, names_known, is_living as lives}
-use Rattle.pif_model.specs.PiKernel.{is_living}
-use Rattle.pif_model.specs.Table.{Table, has_thread, has_mutex, status_at, line_at}
+use Rattle.pif_model.specs.Posix.{Progress, Call, Thread, World, nobody, no_mutex, no_variable, thread_at, mutex_at, variable_at, is_thread, is_mutex, is_variable, with_thread, with_progress, progressed, recalled, refusal_of, names_known, is_living as lives}
+use Rattle.pif_model.specs.PiKernel.{seat_at, is_living, has_ended}
+use Rattle.pif_model.specs.Table.{Table, has_thread, has_mutex, has_cond, uses_of, status_at, line_at}
 use Rattle.pif_model.specs.Lines.{is_open, table_refusal}
-use Rattle.pif_model.specs.Standing.{Shadow, call_at, health_at, thread_shown, mutex_shown, places, world_of, IsShaped}
+use Rattle.pif_model.specs.Standing.{Shadow, call_at, call_shown, health_at, thread_shown, mutex_shown, variable_shown, places, world_of, IsShaped}
 
 -- PLACES
 
@@ -47,13 +47,17 @@ by_places f n xs d e h = ext_get_or d (map f (places n)) xs (long ∙ sym e)
     long : length (map f (places n)) ≡ n
     long = length-map (places n) f ∙ length-places n
 
--- two worlds are one where they have the same threads and mutexes, place by place, and the same waiters
-pub same_world : (v w : World) → length v.threads ≡ length w.threads → ((t : ℕ) → thread_at v t ≡ thread_at w t)
-    → length v.mutexes ≡ length w.mutexes → ((m : ℕ) → mutex_at v m ≡ mutex_at w m) → v.waiters ≡ w.waiters → v ≡ w
-same_world v w a threads b mutexes c = λ i. record {
-  threads = ext_get_or nobody v.threads w.threads a (λ t k. threads t) i;
+-- two worlds are one where they have the same threads and mutexes, place by place, and the same variables and waiters
+pub same_world : (v w : World) → length v.threads ≡ length w.threads
+    → ((t : ℕ) → t < length v.threads → thread_at v t ≡ thread_at w t)
+    → length v.mutexes ≡ length w.mutexes → ((m : ℕ) → mutex_at v m ≡ mutex_at w m) → v.variables ≡ w.variables
+    → v.waiters ≡ w.waiters → v.signals ≡ w.signals → v ≡ w
+same_world v w a threads b mutexes variables c d = λ i. record {
+  threads = ext_get_or nobody v.threads w.threads a threads i;
   mutexes = ext_get_or no_mutex v.mutexes w.mutexes b (λ m k. mutexes m) i;
+  variables = variables i;
   waiters = c i;
+  signals = d i;
 }
 
 -- THREADS AND MUTEXES
@@ -66,28 +70,49 @@ either false = refl
 module _ {s : Table} (shape : IsShaped s) where
   -- a table shows as many threads as it has lines
   pub threads_shown : (x : Shadow) → length (world_of s x).threads ≡ length s.lines
-  threads_shown x = length-map (places (length s.lines)) (thread_shown s) ∙ length-places (length s.lines)
+  threads_shown x = length-map (places (length s.lines)) (thread_shown s x) ∙ length-places (length s.lines)
 
   -- and as many mutexes as the library knows
   pub mutexes_shown : (x : Shadow) → length (world_of s x).mutexes ≡ length s.mutexes
   mutexes_shown x = length-map (places (length s.mutexes)) (mutex_shown s) ∙ length-places (length s.mutexes)
 
-  -- behind the last thread there is nobody
-  past_threads : (t : ℕ) → length s.lines ≤ t → thread_shown s t ≡ nobody
-  past_threads t h =
-      rw (get_or_past s.lines t Idle h, get_or_past s.kernel.seats t _ (subst (λ n. n ≤ t) shape.lines h), gone) refl
+  -- and as many variables
+  pub variables_shown : (x : Shadow) → length (world_of s x).variables ≡ length s.conds
+  variables_shown x = length-map (places (length s.conds)) (variable_shown s) ∙ length-places (length s.conds)
+
+  -- behind the last thread nobody lives, has a priority or a call
+  past_threads : (t : ℕ) → length s.lines ≤ t
+      → ((seat_at s.kernel t).base ≡ 0) × (is_living s.kernel t ≡ false) × (call_shown s t ≡ None)
+  past_threads t h = (
+    ap (λ x. x.base) (get_or_past s.kernel.seats t _ far),
+    (λ i. if gone i then (if has_ended (seat_at s.kernel t).status then false else true) else false),
+    ap (λ l. call_at (health_at s) (uses_of s) l (status_at s t)) (get_or_past s.lines t Idle h),
+  )
     where
+      far : length s.kernel.seats ≤ t
+      far = subst (λ n. n ≤ t) shape.lines h
+
       gone : (if t == 0 then false else nat_lt t (length s.kernel.seats)) ≡ false
-      gone = ap (λ b. if t == 0 then false else b) (le-ltb t (length s.kernel.seats)
-          (subst (λ n. n ≤ t) shape.lines h)) ∙ either (t == 0)
+      gone = ap (λ b. if t == 0 then false else b) (le-ltb t (length s.kernel.seats) far) ∙ either (t == 0)
 
   -- the POSIX machine sees the thread that the table shows
-  pub thread_seen : (x : Shadow) (t : ℕ) → thread_at (world_of s x) t ≡ thread_shown s t
-  thread_seen x t = go (cases_lt t (length s.lines))
+  pub thread_seen : (x : Shadow) (t : ℕ) → t < length s.lines → thread_at (world_of s x) t ≡ thread_shown s x t
+  thread_seen x t l = place_at (thread_shown s x) (length s.lines) t nobody l
+
+  -- what the POSIX machine sees of a thread beside what it remembers, also behind the last one
+  part_seen : {A : Type 0} (part : Thread → A) (x : Shadow) (t : ℕ)
+      → (length s.lines ≤ t → part nobody ≡ part (thread_shown s x t))
+      → part (thread_at (world_of s x) t) ≡ part (thread_shown s x t)
+  part_seen part x t past = go (cases_lt t (length s.lines))
     where
-      go : (t < length s.lines) ⊎ (length s.lines ≤ t) → thread_at (world_of s x) t ≡ thread_shown s t
-      go (inl l) = place_at (thread_shown s) (length s.lines) t nobody l
-      go (inr m) = get_or_past (world_of s x).threads t nobody (omega (arith, threads_shown x)) ∙ sym (past_threads t m)
+      go : (t < length s.lines) ⊎ (length s.lines ≤ t)
+          → part (thread_at (world_of s x) t) ≡ part (thread_shown s x t)
+      go (inl l) = ap part (thread_seen x t l)
+      go (inr m) = ap part (get_or_past (world_of s x).threads t nobody (omega (arith, threads_shown x))) ∙ past m
+
+  -- its base priority
+  pub base_seen : (x : Shadow) (t : ℕ) → (thread_at (world_of s x) t).base ≡ (seat_at s.kernel t).base
+  base_seen x t = part_seen (λ y. y.base) x t (λ l. sym (past_threads t l).0)
 
   -- behind the last mutex there is none
   past_mutexes : (m : ℕ) → length s.mutexes ≤ m → mutex_shown s m ≡ no_mutex
@@ -102,23 +127,43 @@ module _ {s : Table} (shape : IsShaped s) where
       go (inr k) = get_or_past (world_of s x).mutexes m no_mutex (omega (arith, mutexes_shown x))
           ∙ sym (past_mutexes m k)
 
+  -- behind the last variable there is none
+  past_variables : (c : ℕ) → length s.conds ≤ c → variable_shown s c ≡ no_variable
+  past_variables c h = λ i. record { mutex = get_or_past s.conds c 0 h i; uses = shape.unmade_conds c h i }
+
+  -- the POSIX machine sees the variable that the table shows
+  pub variable_seen : (x : Shadow) (c : ℕ) → variable_at (world_of s x) c ≡ variable_shown s c
+  variable_seen x c = go (cases_lt c (length s.conds))
+    where
+      go : (c < length s.conds) ⊎ (length s.conds ≤ c) → variable_at (world_of s x) c ≡ variable_shown s c
+      go (inl l) = place_at (variable_shown s) (length s.conds) c no_variable l
+      go (inr k) = get_or_past (world_of s x).variables c no_variable (omega (arith, variables_shown x))
+          ∙ sym (past_variables c k)
+
   -- both machines have the same threads
   pub is_thread_seen : (x : Shadow) (t : ℕ) → is_thread (world_of s x) t ≡ has_thread s t
   is_thread_seen x t = ap (λ n. if t == 0 then false else nat_lt t n) (threads_shown x ∙ shape.lines)
 
   -- both machines have the same living threads
   pub lives_seen : (x : Shadow) (t : ℕ) → lives (world_of s x) t ≡ is_living s.kernel t
-  lives_seen x t = ap (λ (y : Thread). y.living) (thread_seen x t)
+  lives_seen x t = part_seen (λ y. y.living) x t (λ l. sym (past_threads t l).1)
 
   -- both machines have the same mutexes
   pub is_mutex_seen : (x : Shadow) (m : ℕ) → is_mutex (world_of s x) m ≡ has_mutex s m
   is_mutex_seen x m = ap (λ n. if m == 0 then false else nat_lt m n) (mutexes_shown x)
 
-  -- the call that the POSIX machine sees is the line's
+  -- both machines have the same variables
+  pub is_variable_seen : (x : Shadow) (c : ℕ) → is_variable (world_of s x) c ≡ has_cond s c
+  is_variable_seen x c = ap (λ n. if c == 0 then false else nat_lt c n) (variables_shown x)
+
+  -- the call that the POSIX machine sees is the table's
+  pub call_seen_of : (x : Shadow) (t : ℕ) → (thread_at (world_of s x) t).call ≡ call_shown s t
+  call_seen_of x t = part_seen (λ y. y.call) x t (λ l. sym (past_threads t l).2)
+
+  -- and so the line's
   pub call_seen : (x : Shadow) (t : ℕ) (l : Line) → line_at s t ≡ l
-      → (thread_at (world_of s x) t).call ≡ call_at (health_at s) l (status_at s t)
-  call_seen x t l e = ap (λ (y : Thread). y.call) (thread_seen x t)
-      ∙ ap (λ k. call_at (health_at s) k (status_at s t)) e
+      → (thread_at (world_of s x) t).call ≡ call_at (health_at s) (uses_of s) l (status_at s t)
+  call_seen x t l e = call_seen_of x t ∙ ap (λ k. call_at (health_at s) (uses_of s) k (status_at s t)) e
 
   -- REFUSALS
 
@@ -126,16 +171,20 @@ module _ {s : Table} (shape : IsShaped s) where
   pub busy_seen : (x : Shadow) (t : ℕ) → is_some (thread_at (world_of s x) t).call ≡ is_open (line_at s t)
   busy_seen x t = ap is_some (call_seen x t (line_at s t) refl) ∙ at_line (line_at s t)
     where
-      at_line : (l : Line) → is_some (call_at (health_at s) l (status_at s t)) ≡ is_open l
+      at_line : (l : Line) → is_some (call_at (health_at s) (uses_of s) l (status_at s t)) ≡ is_open l
       at_line Idle = refl
       at_line (At q p) = refl
 
-  -- both machines know the mutex that a request names, or neither
-  named_seen : (x : Shadow) (q : Request) → names_known (is_mutex (world_of s x)) q ≡ names_known (has_mutex s) q
+  -- both machines know the mutex and the variable that a request names, or neither
+  named_seen : (x : Shadow) (q : Request)
+      → names_known (is_mutex (world_of s x)) (is_variable (world_of s x)) q ≡ names_known (has_mutex s) (has_cond s) q
   named_seen x (Lock m) = is_mutex_seen x m
   named_seen x (TryLock m) = is_mutex_seen x m
   named_seen x (Unlock m) = is_mutex_seen x m
   named_seen x (Consistent m) = is_mutex_seen x m
+  named_seen x (Wait c m) = λ i. if is_variable_seen x c i then is_mutex_seen x m i else false
+  named_seen x (Signal c) = is_variable_seen x c
+  named_seen x (Broadcast c) = is_variable_seen x c
   named_seen x (SetPrio u p) = refl
 
   -- both machines refuse the same events
@@ -184,6 +233,13 @@ thread_changed_twice w t x y = λ i. record w { threads = set-set w.threads t x 
 -- the state once t's call is closed
 abbrev pub closed : ℕ → World → World
 closed t u = with_thread t (record (thread_at u t) { call = None }) u
+
+-- a call that stays as it is
+pub recalled_same : (w : World) (t : ℕ) (f : Option Call → Option Call) → f (thread_at w t).call ≡ (thread_at w t).call
+    → w ≡ recalled t f w
+recalled_same w t f e =
+    sym (ap (λ c. with_thread t (record (thread_at w t) { call = c }) w) e
+    ∙ (λ i. record w { threads = set-get_or w.threads t nobody i }))
 
 -- a call that has come far is closed like any other
 pub closed_progressed : (w : World) (t : ℕ) (p : Progress) → t < length w.threads

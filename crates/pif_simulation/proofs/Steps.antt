@@ -1,6 +1,7 @@
 -- One step of the table machine as one entry of the POSIX machine: what every line has to show.
-use Rattle.std.proofs.Common.{◌≡◌, ℕ, ◌<◌, Bool, true, false, length, Some, None, refl, sym, ap, ap₂, ◌∙◌, subst, if◌then◌else◌, true≢false}
+use Rattle.std.proofs.Common.{◌≡◌, ℕ, ◌<◌, Bool, true, false, length, Some, None, refl, sym, ap, ap₂, ◌==◌, ◌∙◌, subst, if◌then◌else◌, true≢false}
 use Rattle.pif_types.specs.declared.requests.Request.{Request}
+use Rattle.pif_types.specs.declared.requests.Request.TheVariants.{Lock, TryLock, Unlock, Consistent, Wait, Signal, Broadcast, SetPrio}
 use Rattle.pif_model.specs.declared.events.Event.TheVariants.{Go}
 use Rattle.pif_model.specs.declared.events.Seen.TheVariants.{Went, Waits, Answered}
 use Rattle.pif_model.specs.declared.events.Entry.{Entry}
@@ -8,22 +9,24 @@ use Rattle.pif_model.specs.declared.events.Entry.TheVariants.{Step as Happened}
 use Rattle.pif_model.specs.declared.lines.Line.{Line}
 use Rattle.pif_model.specs.declared.lines.Line.TheVariants.{Idle, At}
 use Rattle.pif_model.specs.declared.lines.Place.{Place}
-use Rattle.pif_model.specs.declared.lines.Place.TheVariants.{LockQueued, LockStopped, TakeLoad, TakeHealth}
+use Rattle.pif_model.specs.declared.lines.Place.TheVariants.{LockExchange, LockKernel, LockQueued, LockStop, LockStopped, TakeLoad, TakeHealth, WaitPark, WaitParked}
 use Rattle.pif_model.specs.declared.lines.Status.{Status}
-use Rattle.pif_model.specs.declared.lines.Status.TheVariants.{Ready, Queued, Stopped, Ended}
+use Rattle.pif_model.specs.declared.lines.Status.TheVariants.{Ready, Queued, Parked, Stopped, Ended}
+use Rattle.pif_model.specs.declared.lines.Woken.TheVariants.{Fresh as WokenFresh, Owns as WokenOwns, Again as WokenAgain}
 use Rattle.pif_model.specs.Refusals.{go_refused}
-use Rattle.pif_model.specs.Posix.{Health, World, Step, Effects, thread_at, refusal_of, named_by, names_known, on_taking, rests, is_stuck}
+use Rattle.pif_model.specs.Posix.{Health, Progress, World, Step, Effects, thread_at, refusal_of, named_by, variable_of, names_known, recalled, closed, noted, on_taking, on_release, rests, sleeps, is_idle}
 use Rattle.pif_model.specs.Posix.Progress.{Has}
 use Rattle.pif_model.specs.Posix.Step.{went, waits, answered}
 use Rattle.pif_model.specs.PiKernel.{is_ready, is_living}
-use Rattle.pif_model.specs.Table.{Table, Cell, cell_at, has_mutex, status_at, line_at}
+use Rattle.pif_model.specs.Table.{Table, Cell, cell_at, has_mutex, has_cond, uses_of, status_at, line_at}
 use Rattle.pif_model.specs.Lines.{Outcome, is_open}
-use Rattle.pif_model.specs.Standing.{Shadow, Agrees, call_at, progress_at, health_at, world_of, MeetsAll, needs, CallIsSound, LineIsSound, IsSound}
+use Rattle.pif_model.specs.Standing.{Shadow, Agrees, Use, use_at, before_lock, call_at, call_shown, progress_at, health_at, world_of, MeetsAll, needs, CallIsSound, LineIsSound, IsSound}
 use Rattle.pif_chains.proofs.Waiting.{by_test, names, named-from_pair}
 use Rattle.pif_chains.proofs.KernelFacts.{unnamed-from_ready, living-added}
 use Rattle.pif_chains.proofs.Numbers.{below}
 use Rattle.pif_simulation.proofs.Hole.{each_thread}
-use Rattle.pif_simulation.proofs.Shown.{threads_shown, call_seen, refusal_seen, closed}
+use Rattle.pif_simulation.proofs.Shown.{threads_shown, call_seen, call_seen_of, refusal_seen, recalled_same}
+use Rattle.pif_simulation.proofs.Agreement.{Frames, framed}
 
 -- v follows s by this entry: it is sound, both have the same limits, and what they show, with a shadow that agrees with
 -- s and a next one that agrees with v, is a step of the POSIX machine
@@ -36,63 +39,116 @@ pub record Keeps (s : Table) (e : Entry) (v : Table) : Type 0 where
 abbrev pub GoKeeps : Table → ℕ → Outcome → Type 0
 GoKeeps s t o = Keeps s (Happened (Go t) o.seen) o.after
 
--- a shadow that agrees with a table agrees with each table that follows
-pub agrees_on : (s v : Table) (x : Shadow) → Agrees s x → Agrees v x
-agrees_on s v x a = record {}
+-- how far the call q of t has come at a place
+abbrev pub progress_of : Table → ℕ → Request → Place → Progress
+progress_of s t q p = progress_at q p (status_at s t) (health_at s (named_by q)) (uses_of s (variable_of q))
 
 -- WHO RESTS
 
--- whether a thread of this status is stopped, or has ended
-abbrev is_stopped : Status → Bool
-is_stopped (Ready w) = false
-is_stopped (Queued m) = false
-is_stopped Stopped = true
-is_stopped Ended = true
+-- whether a thread of this status is parked or stopped, or has ended
+abbrev is_still : Status → Bool
+is_still (Ready w) = false
+is_still (Queued m) = false
+is_still (Parked c) = true
+is_still Stopped = true
+is_still Ended = true
 
--- who may run is not stopped
-ready_not_stopped : (x : Status) → is_ready x ≡ true → is_stopped x ≡ false
-ready_not_stopped (Ready w) e = refl
-ready_not_stopped (Queued m) e = refl
-ready_not_stopped Stopped e = absurd (true≢false (sym e))
-ready_not_stopped Ended e = absurd (true≢false (sym e))
+-- who may run is not
+ready_not_still : (x : Status) → is_ready x ≡ true → is_still x ≡ false
+ready_not_still (Ready w) e = refl
+ready_not_still (Queued m) e = refl
+ready_not_still (Parked c) e = absurd (true≢false (sym e))
+ready_not_still Stopped e = absurd (true≢false (sym e))
+ready_not_still Ended e = absurd (true≢false (sym e))
 
--- taking is not being stuck
-taking_not_stuck : (q : Request) (y : Health) → is_stuck (Some (record { request = q; progress = on_taking y })) ≡ false
-taking_not_stuck q Health.Fine = refl
-taking_not_stuck q Health.Inconsistent = refl
-taking_not_stuck q Health.Unusable = refl
+-- a call that is taking doesn't sleep
+taking_awake : (y : Health) → is_idle (on_taking y) ≡ false
+taking_awake Health.Fine = refl
+taking_awake Health.Inconsistent = refl
+taking_awake Health.Unusable = refl
 
--- an open call is stuck where its thread is stopped
-place_stuck : (health : ℕ → Health) (l : ℕ → Bool) (t : ℕ) (q : Request) (x : Status) (c : Cell) (p : Place)
-    → MeetsAll l t x c (needs p) → is_stuck (call_at health (At q p) x) ≡ is_stopped x
-place_stuck health l t q (Ready w) c LockQueued h = taking_not_stuck q (health (named_by q))
-place_stuck health l t q (Queued n) c LockQueued h = refl
-place_stuck health l t q Stopped c LockQueued h = refl
-place_stuck health l t q Ended c LockQueued h = refl
-place_stuck health l t q x c LockStopped h = ap is_stopped (sym h.0)
-place_stuck health l t q x c TakeLoad h = taking_not_stuck q (health (named_by q)) ∙ sym (ready_not_stopped x h.0)
-place_stuck health l t q x c (TakeHealth b) h = taking_not_stuck q (health (named_by q)) ∙ sym (ready_not_stopped x h.0)
-place_stuck health l t q x c _ h = sym (ready_not_stopped x h.0)
+-- nor one that is to lock
+locking_awake : (q : Request) → is_idle (before_lock q) ≡ false
+locking_awake (Lock m) = refl
+locking_awake (TryLock m) = refl
+locking_awake (Unlock m) = refl
+locking_awake (Consistent m) = refl
+locking_awake (Wait c m) = refl
+locking_awake (Signal c) = refl
+locking_awake (Broadcast c) = refl
+locking_awake (SetPrio u p) = refl
 
--- a call is stuck where its thread is stopped
-pub line_stuck : (s : Table) (t : ℕ) (l : Line) → LineIsSound s t l
-    → is_stuck (call_at (health_at s) l (status_at s t)) ≡ is_stopped (status_at s t)
-line_stuck s t Idle h = sym (ready_not_stopped (status_at s t) h)
-line_stuck s t (At q p) h = place_stuck (health_at s) (is_living s.kernel) t q (status_at s t)
-    (cell_at s (named_by q)) p h.needs
+-- nor a wait that has given its mutex up, and was not answered since
+released_awake : (b : Bool) → is_idle (on_release b) ≡ false
+released_awake true = refl
+released_awake false = refl
+
+-- an open call sleeps where its thread is parked or stopped
+place_sleeps : (l : ℕ → Bool) (t : ℕ) (q : Request) (x : Status) (c : Cell) (z : Use) (p : Place) (h : Health) (n : ℕ)
+    → MeetsAll l t x c z (needs p) → is_idle (progress_at q p x h n) ≡ is_still x
+place_sleeps l t q x c z LockExchange h n k = locking_awake q ∙ sym (ready_not_still x k.0)
+place_sleeps l t q x c z LockKernel h n k = locking_awake q ∙ sym (ready_not_still x k.0)
+place_sleeps l t q x c z LockStop h n k = locking_awake q ∙ sym (ready_not_still x k.0)
+place_sleeps l t q (Ready w) c z LockQueued h n k = taking_awake h
+place_sleeps l t q (Queued m) c z LockQueued h n k = refl
+place_sleeps l t q (Parked i) c z LockQueued h n k = refl
+place_sleeps l t q Stopped c z LockQueued h n k = refl
+place_sleeps l t q Ended c z LockQueued h n k = refl
+place_sleeps l t q x c z LockStopped h n k = ap is_still (sym k.0)
+place_sleeps l t q x c z TakeLoad h n k = taking_awake h ∙ sym (ready_not_still x k.0)
+place_sleeps l t q x c z (TakeHealth b) h n k = taking_awake h ∙ sym (ready_not_still x k.0)
+place_sleeps l t q x c z (WaitPark v) h n k = released_awake (v == n) ∙ sym (ready_not_still x k.0)
+place_sleeps l t q (Ready WokenFresh) c z WaitParked h n k = taking_awake h
+place_sleeps l t q (Ready WokenOwns) c z WaitParked h n k = taking_awake h
+place_sleeps l t q (Ready WokenAgain) c z WaitParked h n k = refl
+place_sleeps l t q (Queued m) c z WaitParked h n k = refl
+place_sleeps l t q (Parked i) c z WaitParked h n k = refl
+place_sleeps l t q Stopped c z WaitParked h n k = refl
+place_sleeps l t q Ended c z WaitParked h n k = refl
+place_sleeps l t q x c z _ h n k = sym (ready_not_still x k.0)
+
+-- a call sleeps where its thread is parked or stopped
+pub line_sleeps : (s : Table) (t : ℕ) (l : Line) → LineIsSound s t l
+    → sleeps (call_at (health_at s) (uses_of s) l (status_at s t)) ≡ is_still (status_at s t)
+line_sleeps s t Idle h = sym (ready_not_still (status_at s t) h)
+line_sleeps s t (At q p) h = place_sleeps (is_living s.kernel) t q (status_at s t) (cell_at s (named_by q)) (use_at s q)
+    p (health_at s (named_by q)) (uses_of s (variable_of q)) h.needs
+
+-- a call whose thread may not run has been noted, where it is blocked
+place_noted : (l : ℕ → Bool) (t : ℕ) (q : Request) (x : Status) (c : Cell) (z : Use) (p : Place) (h : Health) (n : ℕ)
+    → MeetsAll l t x c z (needs p) → is_ready x ≡ false
+    → noted (Some (record { request = q; progress = progress_at q p x h n }))
+    ≡ Some (record { request = q; progress = progress_at q p x h n })
+place_noted l t q (Ready w) c z p h n k e = absurd (true≢false e)
+place_noted l t q (Queued m) c z LockQueued h n k e = refl
+place_noted l t q (Parked i) c z LockQueued h n k e = refl
+place_noted l t q Stopped c z LockQueued h n k e = refl
+place_noted l t q Ended c z LockQueued h n k e = refl
+place_noted l t q x c z LockStopped h n k e = refl
+place_noted l t q (Queued m) c z WaitParked h n k e = refl
+place_noted l t q (Parked i) c z WaitParked h n k e = refl
+place_noted l t q Stopped c z WaitParked h n k e = refl
+place_noted l t q Ended c z WaitParked h n k e = refl
+place_noted l t q x c z _ h n k e = absurd (true≢false (sym k.0 ∙ e))
+
+line_noted : (s : Table) (t : ℕ) (l : Line) → LineIsSound s t l → is_ready (status_at s t) ≡ false
+    → noted (call_at (health_at s) (uses_of s) l (status_at s t)) ≡ call_at (health_at s) (uses_of s) l (status_at s t)
+line_noted s t Idle h e = absurd (true≢false (sym h ∙ e))
+line_noted s t (At q p) h e = place_noted (is_living s.kernel) t q (status_at s t) (cell_at s (named_by q)) (use_at s q)
+    p (health_at s (named_by q)) (uses_of s (variable_of q)) h.needs e
 
 -- whether t rests, by its line and its status
 rests_seen : {s : Table} (h : IsSound s) (x : Shadow) (t : ℕ)
-    → rests (world_of s x) t ≡ (if is_stuck (call_at (health_at s) (line_at s t) (status_at s t)) then true else names
+    → rests (world_of s x) t ≡ (if sleeps (call_shown s t) then true else names
     t s.kernel.waiters)
-rests_seen {s} h x t = ap (λ c. if is_stuck c then true else names t s.kernel.waiters)
+rests_seen {s} h x t = ap (λ c. if sleeps c then true else names t s.kernel.waiters)
     (call_seen h.all.shape x t (line_at s t) refl)
 
 -- a thread that may run doesn't rest
 pub rests_ready : {s : Table} (h : IsSound s) (x : Shadow) (t : ℕ) → is_living s.kernel t ≡ true
     → is_ready (status_at s t) ≡ true → rests (world_of s x) t ≡ false
 rests_ready {s} h x t k e = rests_seen h x t ∙ ap₂ (λ a b. if a then true else b)
-    (line_stuck s t (line_at s t) (each_thread h t k).line ∙ ready_not_stopped (status_at s t) e)
+    (line_sleeps s t (line_at s t) (each_thread h t k).line ∙ ready_not_still (status_at s t) e)
     (unnamed-from_ready s.kernel h.kernel t e)
 
 -- a thread that may not run rests
@@ -100,15 +156,17 @@ pub rests_not_ready : {s : Table} (h : IsSound s) (x : Shadow) (t : ℕ) → is_
     → is_ready (status_at s t) ≡ false → rests (world_of s x) t ≡ true
 rests_not_ready {s} h x t k e = rests_seen h x t ∙ go (status_at s t) refl
   where
-    go : (y : Status) → status_at s t ≡ y → (if is_stuck
-        (call_at (health_at s) (line_at s t) (status_at s t)) then true else names t s.kernel.waiters) ≡ true
+    go : (y : Status) → status_at s t ≡ y → (if sleeps
+        (call_shown s t) then true else names t s.kernel.waiters) ≡ true
     go (Ready w) q = absurd (true≢false (sym (ap is_ready q) ∙ e))
+    go (Parked c) q = ap (λ b. if b then true else names t s.kernel.waiters)
+        (line_sleeps s t (line_at s t) (each_thread h t k).line ∙ ap is_still q)
     go Stopped q = ap (λ b. if b then true else names t s.kernel.waiters)
-        (line_stuck s t (line_at s t) (each_thread h t k).line ∙ ap is_stopped q)
+        (line_sleeps s t (line_at s t) (each_thread h t k).line ∙ ap is_still q)
     go Ended q = ap (λ b. if b then true else names t s.kernel.waiters)
-        (line_stuck s t (line_at s t) (each_thread h t k).line ∙ ap is_stopped q)
+        (line_sleeps s t (line_at s t) (each_thread h t k).line ∙ ap is_still q)
     go (Queued m) q = by_test (λ b. (if b then true else names t s.kernel.waiters) ≡ true)
-        (is_stuck (call_at (health_at s) (line_at s t) (status_at s t)))
+        (sleeps (call_shown s t))
         (λ _. refl) (λ _. named-from_pair s.kernel.waiters t m (h.kernel.queued t m q))
 
 -- A STEP OF AN OPEN CALL
@@ -125,11 +183,11 @@ module _ {s : Table} {t : ℕ} {q : Request} {p : Place} (g : Going s t q p) whe
   going_knows = subst (LineIsSound s t) g.line (each_thread g.sound t g.known).line
 
   -- the mutex that the call names exists
-  pub going_named : names_known (has_mutex s) q ≡ true
+  pub going_named : names_known (has_mutex s) (has_cond s) q ≡ true
   going_named = going_knows.named
 
   -- what the call rests on is met
-  pub going_met : MeetsAll (is_living s.kernel) t (status_at s t) (cell_at s (named_by q)) (needs p)
+  pub going_met : MeetsAll (is_living s.kernel) t (status_at s t) (cell_at s (named_by q)) (use_at s q) (needs p)
   going_met = going_knows.needs
 
   -- the step is not refused
@@ -139,7 +197,7 @@ module _ {s : Table} {t : ℕ} {q : Request} {p : Place} (g : Going s t q p) whe
 
   -- the world has t's call open
   pub going_called : (x : Shadow) → (thread_at (world_of s x) t).call ≡ Some
-      (record { request = q; progress = progress_at p (status_at s t) (health_at s (named_by q)) })
+      (record { request = q; progress = progress_of s t q p })
   going_called x = call_seen g.sound.all.shape x t (At q p) g.line
 
   -- t has a line
@@ -153,46 +211,56 @@ module _ {s : Table} {t : ℕ} {q : Request} {p : Place} (g : Going s t q p) whe
 
   -- the step follows with these effects, after which t may run
   pub goes_with : (v : Table) → IsSound v → v.limits ≡ s.limits → is_living v.kernel t ≡ true
-      → is_ready (status_at v t) ≡ true
-      → ((x : Shadow) → Effects t (world_of s x) (world_of v x)) → Keeps s (Happened (Go t) Went) v
-  goes_with v sound limits known ready effects = record {
+      → is_ready (status_at v t) ≡ true → Frames s v
+      → ((x : Shadow) → Effects t (world_of s x) (world_of s x) (world_of v x)) → Keeps s (Happened (Go t) Went) v
+  goes_with v sound limits known ready frames effects = record {
     sound = sound;
     limits = limits;
     shows = λ x a. (
       x,
-      agrees_on s v x a,
+      framed frames x a,
       went t refl (record { allowed = going_allowed x; effects = effects x })
           (rests_ready sound x t known ready),
     );
   }
 
-  -- the step follows with these effects, after which t rests
-  pub waits_with : (v : Table) → IsSound v → v.limits ≡ s.limits → is_living v.kernel t ≡ true
-      → is_ready (status_at v t) ≡ false
-      → ((x : Shadow) → Effects t (world_of s x) (world_of v x)) → Keeps s (Happened (Go t) Waits) v
-  waits_with v sound limits known ready effects = record {
+  -- the step follows with these effects, after which t rests, and is noted where it is blocked
+  pub waits_noted : (v : Table) (u : Shadow → World) → IsSound v → v.limits ≡ s.limits → is_living v.kernel t ≡ true
+      → is_ready (status_at v t) ≡ false → Frames s v
+      → ((x : Shadow) → Effects t (world_of s x) (world_of s x) (u x))
+      → ((x : Shadow) → world_of v x ≡ recalled t noted (u x)) → Keeps s (Happened (Go t) Waits) v
+  waits_noted v u sound limits known ready frames effects shown = record {
     sound = sound;
     limits = limits;
     shows = λ x a. (
       x,
-      agrees_on s v x a,
-      waits t refl (record { allowed = going_allowed x; effects = effects x })
+      framed frames x a,
+      waits t (u x) refl (record { allowed = going_allowed x; effects = effects x }) (shown x)
           (rests_not_ready sound x t known ready),
     );
   }
 
+  -- the step follows with these effects, after which t rests
+  pub waits_with : (v : Table) → IsSound v → v.limits ≡ s.limits → is_living v.kernel t ≡ true
+      → is_ready (status_at v t) ≡ false → Frames s v
+      → ((x : Shadow) → Effects t (world_of s x) (world_of s x) (world_of v x)) → Keeps s (Happened (Go t) Waits) v
+  waits_with v sound limits known ready frames effects =
+      waits_noted v (world_of v) sound limits known ready frames effects (λ x.
+      recalled_same (world_of v x) t noted (ap noted (call_seen_of sound.all.shape x t)
+      ∙ line_noted v t (line_at v t) (each_thread sound t known).line ready ∙ sym (call_seen_of sound.all.shape x t)))
+
   -- the step follows with these effects, after which the call has this result and closes
   pub answers_with : (v : Table) (a : ℕ) (u : Shadow → World) → IsSound v → v.limits ≡ s.limits
-      → is_living v.kernel t ≡ true → is_ready (status_at v t) ≡ true
-      → ((x : Shadow) → Effects t (world_of s x) (u x))
+      → is_living v.kernel t ≡ true → is_ready (status_at v t) ≡ true → Frames s v
+      → ((x : Shadow) → Effects t (world_of s x) (world_of s x) (u x))
       → ((x : Shadow) → (thread_at (u x) t).call ≡ Some (record { request = q; progress = Has a }))
-      → ((x : Shadow) → world_of v x ≡ closed t (u x)) → Keeps s (Happened (Go t) (Answered a)) v
-  answers_with v a u sound limits known ready effects call shown = record {
+      → ((x : Shadow) → world_of v x ≡ recalled t closed (u x)) → Keeps s (Happened (Go t) (Answered a)) v
+  answers_with v a u sound limits known ready frames effects call shown = record {
     sound = sound;
     limits = limits;
     shows = λ x b. (
       x,
-      agrees_on s v x b,
+      framed frames x b,
       answered t a q (u x) refl
           (record { allowed = going_allowed x; effects = effects x }) (call x) (shown x)
           (rests_ready sound x t known ready),

@@ -1,6 +1,5 @@
 -- What calls have in common: a free mutex is taken by its word or in the kernel, a mutex for which nobody waits is
--- given
--- up, and the owner of a RECURSIVE mutex holds it more or less often.
+-- given up, and the owner of a RECURSIVE mutex holds it more or less often.
 use Rattle.std.proofs.Common.{◌≡◌, ◌≢◌, ◌<◌, ◌≤◌, ℕ, ◌+◌, ◌-◌, Bool, true, false, length, inl, inr, refl, sym, ap, ◌∙◌, subst, if◌then◌else◌, arith, eq-eqb, ne_eqb}
 use Rattle.std.proofs.lemmas.Bool.{true≢false}
 use Rattle.pif_types.specs.declared.requests.Kind.TheVariants.{Recursive}
@@ -16,18 +15,19 @@ use Rattle.pif_model.specs.declared.lines.Place.{Place}
 use Rattle.pif_model.specs.declared.lines.Place.TheVariants.{TakeLoad, TakeHealth}
 use Rattle.pif_model.specs.Graph.{has_waiter}
 use Rattle.pif_model.specs.Word.{Word, held_by, free_word, taken_word, word_at, health_word_at}
-use Rattle.pif_model.specs.Posix.{Progress, named_by, on_taking}
-use Rattle.pif_model.specs.Posix.Progress.{Fresh, Has}
+use Rattle.pif_model.specs.Posix.{Progress, is_blocked, named_by, on_taking}
+use Rattle.pif_model.specs.Posix.Progress.{Has}
 use Rattle.pif_model.specs.PiKernel.{is_ready, is_living}
 use Rattle.pif_model.specs.RobustList.{robust_at}
 use Rattle.pif_model.specs.Table.{Table, Cell, cell_at, has_thread, has_mutex, status_at, library_at, with_line, with_word, with_health_word, with_count}
 use Rattle.pif_model.specs.Lines.{goes_to, answers, locked_again, own_exchange}
-use Rattle.pif_model.specs.Standing.{CellIsSound, CountIsSound, MeetsAll, needs, belongs, progress_at, health_of, health_at, is_pending, is_half_linked, is_unlinked, is_unsettled}
+use Rattle.pif_model.specs.Standing.{CellIsSound, CountIsSound, use_at, before_lock, may_enlist, MeetsAll, needs, belongs, health_of, health_at, is_pending, is_half_linked, is_unlinked, is_unsettled}
 use Rattle.pif_chains.proofs.LineCases.{locked_again_cases, own_exchange_cases}
 use Rattle.pif_chains.proofs.Numbers.{above_0}
 use Rattle.pif_simulation.proofs.Kept.{Spares}
 use Rattle.pif_simulation.proofs.Written.{mutex_of, written_is, same_word, same_health, same_library, same_list}
-use Rattle.pif_simulation.proofs.Steps.{Keeps, GoKeeps, Going}
+use Rattle.pif_simulation.proofs.Steps.{Keeps, GoKeeps, Going, progress_of}
+use Rattle.pif_simulation.proofs.Agreement.{Follows, quiet, taking_unblocked}
 use Rattle.pif_simulation.proofs.Does.{Does, IsLocking}
 use Rattle.pif_simulation.proofs.Does.Does.{locks_free, locks_again, locks_at_limit, unlocks_one}
 use Rattle.pif_simulation.proofs.Local.{Move, moved, KnowsAfter, Shows, going_cell, going_added, local_kept, knows-names}
@@ -91,28 +91,31 @@ module _ {s : Table} {t : ℕ} {q : Request} {p : Place} (g : Going s t q p) (na
   owned own e = t0 (sym own ∙ e)
 
   -- to write OWNER_DIED and the health word of one's own robust mutex is local, where the list stays
-  pub states : (seen : Seen) (l : Line) (b : Bool) (h : ℕ) (a : Progress) → (word_at s.words m).number ≡ t
-      → (library_at s m).robust ≡ true
-      → KnowsAfter s t m (record (cell_at s m) { word = record (word_at s.words m) { died = b }; health = h }) l
+  pub states : (seen : Seen) (l : Line) → Follows (At q p) l → (b : Bool) (h : ℕ) (a : Progress)
+      → (may_enlist (At q p) ≡ false → is_blocked a ≡ true → is_blocked (progress_of s t q p) ≡ true)
+      → (word_at s.words m).number ≡ t → (library_at s m).robust ≡ true
+      → KnowsAfter s t q (record (cell_at s m) { word = record (word_at s.words m) { died = b }; health = h }) l
       → Shows s t m (health_of h b) q a seen l
       → RowAfter s t m (record (cell_at s m) { word = record (word_at s.words m) { died = b }; health = h }) l
       (robust_at s.lists t)
-      → Does t m (has_waiter s.kernel.waiters m) q (progress_at p (status_at s t) (health_at s m))
+      → Does t m (has_waiter s.kernel.waiters m) q (progress_of s t q p)
       (mutex_of (cell_at s m)) a
       (mutex_of (record (cell_at s m) { word = record (word_at s.words m) { died = b }; health = h }))
       → Keeps s (Happened (Go t) seen) (moved t m (writes seen l (record (word_at s.words m) { died = b }) h
       (library_at s m).count) s)
-  states seen l b h a own robust knows shows row does =
+  states seen l follows b h a blocked own robust knows shows row does =
       local_kept g named a (writes seen l (record (word_at s.words m) { died = b }) h (library_at s m).count)
       (record {
         ready = ready;
         knows = knows;
-        lists = lists_by g named (knows-names s t m _ l knows) refl sound (λ e. row);
+        lists = lists_by g named (knows-names s t q _ l knows) refl sound (λ e. row);
         cell = sound;
         alive = λ r z n. absurd (n own);
         spares = spares_own b h (library_at s m).count own;
         health = inr own;
         shows = shows;
+        follows = follows;
+        blocked = blocked;
       }) does
     where
       sound : CellIsSound (has_thread s) (has_waiter s.kernel.waiters m)
@@ -121,7 +124,7 @@ module _ {s : Table} {t : ℕ} {q : Request} {p : Place} (g : Going s t q p) (na
 
   -- TAKING
 
-  module _ (fresh : progress_at p (status_at s t) (health_at s m) ≡ Fresh) (zero : (word_at s.words m).number ≡ 0) where
+  module _ (fresh : progress_of s t q p ≡ before_lock q) (zero : (word_at s.words m).number ≡ 0) where
     -- the word that is written, and the mutex then
     abbrev mine : Word
     mine = taken_word t (word_at s.words m)
@@ -145,7 +148,7 @@ module _ {s : Table} {t : ℕ} {q : Request} {p : Place} (g : Going s t q p) (na
 
     -- taking is an effect on the call and its mutex
     taken_does : IsLocking m q → (a : Progress) → a ≡ on_taking (health_at s m)
-        → Does t m (has_waiter s.kernel.waiters m) q (progress_at p (status_at s t) (health_at s m))
+        → Does t m (has_waiter s.kernel.waiters m) q (progress_of s t q p)
         (mutex_of (cell_at s m)) a (mutex_of taken)
     taken_does l a e = subst (λ b. Does t m (has_waiter s.kernel.waiters m) q b (mutex_of (cell_at s m)) a
         (mutex_of taken)) (sym fresh)
@@ -173,16 +176,18 @@ module _ {s : Table} {t : ℕ} {q : Request} {p : Place} (g : Going s t q p) (na
           spares = taken_spares;
           health = inl refl;
           shows = (refl, refl);
+          follows = quiet refl refl;
+          blocked = λ j e. absurd (true≢false (sym e));
         }) (taken_does l (Has 0) (sym (ap on_taking (stalled_in_order c stalled)))))
 
     -- t takes a robust mutex, at a place where it takes it over
-    pub takes_robust : IsLocking m q → (library_at s m).robust ≡ true → (b : Place) → belongs q b ≡ true
-        → progress_at b (status_at s t) (health_at s m) ≡ on_taking (health_at s m)
-        → MeetsAll (is_living s.kernel) t (status_at s t) taken (needs b)
+    pub takes_robust : IsLocking m q → (library_at s m).robust ≡ true → (b : Place) → Follows (At q p) (At q b)
+        → belongs q b ≡ true → progress_of s t q b ≡ on_taking (health_at s m)
+        → MeetsAll (is_living s.kernel) t (status_at s t) taken (use_at s q) (needs b)
         → is_pending p ≡ true → is_half_linked p ≡ false
         → is_pending b ≡ true → is_half_linked b ≡ false → is_unlinked b ≡ true → is_unsettled b ≡ true
         → GoKeeps s t (goes_to t q b (with_word m mine s))
-    takes_robust l robust b ours progress met pp ph bp bh bu bs =
+    takes_robust l robust b follows ours progress met pp ph bp bh bu bs =
         subst (Keeps s (Happened (Go t) Went)) (word_table Went (At q b) mine)
         (local_kept g named (on_taking (health_at s m))
         (writes Went (At q b) mine (health_word_at s.words m) (library_at s m).count)
@@ -203,19 +208,21 @@ module _ {s : Table} {t : ℕ} {q : Request} {p : Place} (g : Going s t q p) (na
           spares = taken_spares;
           health = inl refl;
           shows = (b, refl, progress);
+          follows = follows;
+          blocked = λ j e. absurd (true≢false (sym e ∙ taking_unblocked (health_at s m)));
         }) (taken_does l (on_taking (health_at s m)) refl))
 
     -- where t goes to load the word
     pub takes_to_load : IsLocking m q → (library_at s m).robust ≡ true → belongs q TakeLoad ≡ true
         → is_pending p ≡ true → is_half_linked p ≡ false → GoKeeps s t (goes_to t q TakeLoad (with_word m mine s))
-    takes_to_load l robust ours pp ph = takes_robust l robust TakeLoad ours refl
+    takes_to_load l robust ours pp ph = takes_robust l robust TakeLoad (quiet refl refl) ours refl
         (ready, (refl, ((λ e. c.count.unowned zero), (robust, ((λ e. behind), tt))))) pp ph refl refl refl refl
 
     -- where t goes to load the health word, since it has seen no OWNER_DIED
     pub takes_to_health : IsLocking m q → (library_at s m).robust ≡ true → belongs q (TakeHealth false) ≡ true
         → (word_at s.words m).died ≡ false → is_pending p ≡ true → is_half_linked p ≡ false
         → GoKeeps s t (goes_to t q (TakeHealth false) (with_word m mine s))
-    takes_to_health l robust ours d pp ph = takes_robust l robust (TakeHealth false) ours refl
+    takes_to_health l robust ours d pp ph = takes_robust l robust (TakeHealth false) (quiet refl refl) ours refl
         (ready, (refl, ((λ e. c.count.unowned zero), (robust, ((λ e. behind), ((λ e. d), tt)))))) pp ph refl refl refl
         refl
 
@@ -224,7 +231,7 @@ module _ {s : Table} {t : ℕ} {q : Request} {p : Place} (g : Going s t q p) (na
     bare_word d = λ i. record { number = t; waiters = false; died = d i }
 
   -- compare-exchange from 0 to t; where it fails the call goes on where all that it rests on is met
-  pub own_exchange_kept : progress_at p (status_at s t) (health_at s m) ≡ Fresh → IsLocking m q
+  pub own_exchange_kept : progress_of s t q p ≡ before_lock q → IsLocking m q
       → belongs q (TakeHealth false) ≡ true
       → is_pending p ≡ true → is_half_linked p ≡ false → (b : Place) → GoKeeps s t (goes_to t q b s)
       → GoKeeps s t (own_exchange q b t m s)
@@ -250,21 +257,23 @@ module _ {s : Table} {t : ℕ} {q : Request} {p : Place} (g : Going s t q p) (na
         (λ e d. (refl, order))
 
     -- a mutex that t gives up, and for which nobody waits, by its word
-    pub frees : (seen : Seen) (l : Line) (a : Progress) → KnowsAfter s t m freed l
+    pub frees : (seen : Seen) (l : Line) (a : Progress) → Follows (At q p) l
+        → (may_enlist (At q p) ≡ false → is_blocked a ≡ true → is_blocked (progress_of s t q p) ≡ true)
+        → KnowsAfter s t q freed l
         → Shows s t m (health_of (health_word_at s.words m) false) q a seen l
         → ((library_at s m).robust ≡ true → at_line is_pending l ≡ is_pending p)
         → ((library_at s m).robust ≡ true → at_line is_half_linked l ≡ is_half_linked p)
         → ((library_at s m).robust ≡ true → is_unlinked p ≡ true)
-        → Does t m (has_waiter s.kernel.waiters m) q (progress_at p (status_at s t) (health_at s m))
+        → Does t m (has_waiter s.kernel.waiters m) q (progress_of s t q p)
         (mutex_of (cell_at s m)) a (mutex_of freed)
         → Keeps s (Happened (Go t) seen) (with_line t l (with_word m free_word s))
-    frees seen l a knows shows pending half unlinked does = subst (Keeps s (Happened (Go t) seen))
+    frees seen l a follows blocked knows shows pending half unlinked does = subst (Keeps s (Happened (Go t) seen))
         (word_table seen l free_word)
         (local_kept g named a (writes seen l free_word (health_word_at s.words m) (library_at s m).count)
         (record {
           ready = ready;
           knows = knows;
-          lists = lists_by g named (knows-names s t m _ l knows) refl freed_sound (λ e. record {
+          lists = lists_by g named (knows-names s t q _ l knows) refl freed_sound (λ e. record {
             pending = row_pending g named e ∙ sym (ap (λ x. if x then m else 0) (pending e));
             half_linked = row_half_linked g named e ∙ sym (ap (λ x. if x then m else 0) (half e));
             others = λ j d. refl;
@@ -285,15 +294,17 @@ module _ {s : Table} {t : ℕ} {q : Request} {p : Place} (g : Going s t q p) (na
           };
           health = inr own;
           shows = shows;
+          follows = follows;
+          blocked = blocked;
         }) does)
 
   -- HOLDING MORE OR LESS OFTEN
 
-  module _ (fresh : progress_at p (status_at s t) (health_at s m) ≡ Fresh) (own : (word_at s.words m).number ≡ t)
+  module _ (fresh : progress_of s t q p ≡ before_lock q) (own : (word_at s.words m).number ≡ t)
       (row : (library_at s m).robust ≡ true → RowAfter s t m (cell_at s m) Idle (robust_at s.lists t)) where
     -- the owner holds its mutex this often from now on, and the result is 0
     counts : (n : ℕ) → CountIsSound (cell_at s m).kind (cell_at s m).word.number n
-        → Does t m (has_waiter s.kernel.waiters m) q Fresh (mutex_of (cell_at s m)) (Has 0)
+        → Does t m (has_waiter s.kernel.waiters m) q (before_lock q) (mutex_of (cell_at s m)) (Has 0)
         (record (mutex_of (cell_at s m)) { count = n })
         → GoKeeps s t (answers t 0 (with_count m n s))
     counts n sound does = subst (Keeps s (Happened (Go t) (Answered 0))) (count_table (Answered 0) Idle n)
@@ -313,6 +324,8 @@ module _ {s : Table} {t : ℕ} {q : Request} {p : Place} (g : Going s t q p) (na
           spares = spares_own (word_at s.words m).died (health_word_at s.words m) n own;
           health = inr own;
           shows = (refl, refl);
+          follows = quiet refl refl;
+          blocked = λ j e. absurd (true≢false (sym e));
         })
         (subst (λ a. Does t m (has_waiter s.kernel.waiters m) q a (mutex_of (cell_at s m)) (Has 0)
         (record (mutex_of (cell_at s m)) { count = n })) (sym fresh) does))
@@ -349,4 +362,4 @@ module _ {s : Table} {t : ℕ} {q : Request} {p : Place} (g : Going s t q p) (na
           unowned = λ z. absurd (owned own z);
           single = λ z. omega (arith, c.count.single z);
         })
-        (unlocks_one r refl own more refl refl)
+        (unlocks_one r (ap before_lock r) own more refl refl)

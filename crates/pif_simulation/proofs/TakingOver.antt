@@ -3,13 +3,13 @@
 use Rattle.std.proofs.Common.{◌≡◌, ◌≢◌, ◌∷◌, ℕ, Bool, true, false, length, refl, sym, ap, ◌∙◌, subst, eq-eqb, ne_eqb, arith}
 use Rattle.std.proofs.lemmas.Bool.{true≢false}
 use Rattle.pif_types.specs.declared.requests.Request.{Request}
-use Rattle.pif_types.specs.declared.requests.Request.TheVariants.{Lock, TryLock}
+use Rattle.pif_types.specs.declared.requests.Request.TheVariants.{Lock, TryLock, Wait}
 use Rattle.pif_model.specs.declared.events.Event.TheVariants.{Go}
 use Rattle.pif_model.specs.declared.events.Seen.TheVariants.{Went}
 use Rattle.pif_model.specs.declared.events.Entry.TheVariants.{Step as Happened}
 use Rattle.pif_model.specs.declared.lines.Line.TheVariants.{At}
 use Rattle.pif_model.specs.declared.lines.Place.{Place}
-use Rattle.pif_model.specs.declared.lines.Place.TheVariants.{LockLoad, LockPending, LockExchange, LockKernel, LockQueued, LockStop, LockStopped, LockClear, TakeLoad, TakeHealth, TakeStore, TakeWord, LinkNext, LinkHead, LinkClear, LeaveExchange, LeaveKernel, LeaveClear, TryLoad, TryPending, TryExchange, TryKernel, TryClear}
+use Rattle.pif_model.specs.declared.lines.Place.TheVariants.{LockLoad, LockPending, LockExchange, LockKernel, LockQueued, LockStop, LockStopped, LockClear, TakeLoad, TakeHealth, TakeStore, TakeWord, LinkNext, LinkHead, LinkClear, LeaveExchange, LeaveKernel, LeaveClear, TryLoad, TryPending, TryExchange, TryKernel, TryClear, WaitLoad, WaitUses, WaitPending, WaitHealth, WaitStore, WaitUnlink, WaitExchange, WaitKernel, WaitPark, WaitParked}
 use Rattle.pif_model.specs.Graph.{has_waiter}
 use Rattle.pif_model.specs.Word.{free_word, word_at, health_word_at}
 use Rattle.pif_model.specs.Posix.{named_by, on_taking}
@@ -18,13 +18,14 @@ use Rattle.pif_model.specs.PiKernel.{is_ready, is_living}
 use Rattle.pif_model.specs.RobustList.{robust_at}
 use Rattle.pif_model.specs.Table.{Table, cell_at, has_mutex, status_at, library_at, with_word}
 use Rattle.pif_model.specs.Lines.{goes_to, take_load, take_health, take_store, take_word_back, link_next, link_head, leave_exchange}
-use Rattle.pif_model.specs.Standing.{MeetsAll, belongs, is_shared, is_pending, is_half_linked, is_unlinked, needs, progress_at, health_at}
+use Rattle.pif_model.specs.Standing.{use_at, MeetsAll, belongs, is_shared, is_pending, is_half_linked, is_unlinked, needs}
 use Rattle.pif_chains.proofs.LineCases.{take_health_cases, leave_exchange_cases}
 use Rattle.pif_chains.proofs.Numbers.{above_0}
 use Rattle.pif_simulation.proofs.Written.{mutex_of}
-use Rattle.pif_simulation.proofs.Steps.{Keeps, GoKeeps, Going, going_met}
+use Rattle.pif_simulation.proofs.Steps.{Keeps, GoKeeps, Going, progress_of, going_met}
+use Rattle.pif_simulation.proofs.Agreement.{quiet}
 use Rattle.pif_simulation.proofs.Does.{IsLocking}
-use Rattle.pif_simulation.proofs.Does.IsLocking.{by_lock, by_try_lock}
+use Rattle.pif_simulation.proofs.Does.IsLocking.{by_lock, by_try_lock, by_wait}
 use Rattle.pif_simulation.proofs.Does.Does.{nothing, leaves}
 use Rattle.pif_simulation.proofs.Healths.{health-unusable, health-inconsistent, health-behind, health-fine}
 use Rattle.pif_simulation.proofs.Local.{going_cell, going_added}
@@ -53,10 +54,31 @@ try_shared m TryKernel e = refl
 try_shared m TryClear e = refl
 try_shared m _ e = e
 
+-- and a wait
+wait_shared : (c m : ℕ) (p : Place) → is_shared p ≡ true → belongs (Wait c m) p ≡ true
+wait_shared c m WaitLoad e = refl
+wait_shared c m WaitUses e = refl
+wait_shared c m (WaitPending v) e = refl
+wait_shared c m (WaitHealth v) e = refl
+wait_shared c m (WaitStore v) e = refl
+wait_shared c m (WaitUnlink v) e = refl
+wait_shared c m (WaitExchange v) e = refl
+wait_shared c m (WaitKernel v) e = refl
+wait_shared c m (WaitPark v) e = refl
+wait_shared c m WaitParked e = refl
+wait_shared c m LockExchange e = refl
+wait_shared c m LockKernel e = refl
+wait_shared c m LockQueued e = refl
+wait_shared c m LockStop e = refl
+wait_shared c m LockStopped e = refl
+wait_shared c m LockClear e = refl
+wait_shared c m _ e = e
+
 -- a request that locks comes to each shared place
 pub shared_belongs : {m : ℕ} {q : Request} → IsLocking m q → (p : Place) → is_shared p ≡ true → belongs q p ≡ true
 shared_belongs {m} {q} (by_lock r) p e = subst (λ x. belongs x p ≡ true) (sym r) (lock_shared m p e)
 shared_belongs {m} {q} (by_try_lock r) p e = subst (λ x. belongs x p ≡ true) (sym r) (try_shared m p e)
+shared_belongs {m} {q} (by_wait c r) p e = subst (λ x. belongs x p ≡ true) (sym r) (wait_shared c m p e)
 
 -- numbers that differ
 one_not_two : (h : ℕ) → h ≡ 1 → h ≢ 2
@@ -77,7 +99,7 @@ module _ (s : Table) (t : ℕ) (q : Request) (named : has_mutex s (named_by q) �
   unfolding take_load
   take_load_kept g =
       let h = going_met g in
-      goes g named (TakeHealth (word_at s.words m).died) h.0
+      goes g named (TakeHealth (word_at s.words m).died) (quiet refl refl) h.0
       (shared_belongs l (TakeHealth (word_at s.words m).died) refl) refl
       (h.0, (h.1.0, (h.1.1.0, (h.1.1.1.0, (h.1.1.1.1.0, ((λ o. refl), tt))))))
       (λ r. row_same g named r refl refl refl (λ o u. absurd (true≢false u)))
@@ -85,21 +107,21 @@ module _ (s : Table) (t : ℕ) (q : Request) (named : has_mutex s (named_by q) �
   -- load the health word
   pub take_health_kept : (d : Bool) → Going s t q (TakeHealth d) → GoKeeps s t (take_health q d t m s)
   take_health_kept d g = take_health_cases (GoKeeps s t) q d t m s
-      (λ e. goes g named LeaveExchange h.0 (shared_belongs l LeaveExchange refl)
+      (λ e. goes g named LeaveExchange (quiet refl refl) h.0 (shared_belongs l LeaveExchange refl)
       (sym (ap on_taking (health-unusable (health_word_at s.words m) (word_at s.words m).died e)))
       (h.0, (own, (h.1.1.0, (h.1.1.1.0, ((λ o. e), tt)))))
       (λ r. row_same g named r refl refl refl (λ o u. absurd (true≢false u))))
-      (λ n e. goes g named TakeStore h.0 (shared_belongs l TakeStore refl)
+      (λ n e. goes g named TakeStore (quiet refl refl) h.0 (shared_belongs l TakeStore refl)
       (sym (ap on_taking (health-behind (health_word_at s.words m) (word_at s.words m).died n (died ∙ e))))
       (h.0, (own, (h.1.1.0, (h.1.1.1.0, ((λ o. n), ((λ o. died ∙ e), tt))))))
       (λ r. row_same g named r refl refl refl (λ o u. absurd (true≢false u))))
-      (λ n e. goes g named (LinkNext 0) h.0 (shared_belongs l (LinkNext 0) refl)
+      (λ n e. goes g named (LinkNext 0) (quiet refl refl) h.0 (shared_belongs l (LinkNext 0) refl)
       (sym (ap on_taking (health-fine (health_word_at s.words m) (word_at s.words m).died n
       (λ f. true≢false (sym (h.1.1.1.1.0 own f) ∙ died ∙ e)) (died ∙ e))))
       (h.0, (own, (h.1.1.0, (h.1.1.1.0, tt))))
       (λ r. row_same g named r refl refl refl (λ o u. (died ∙ e, n))))
     where
-      h : MeetsAll (is_living s.kernel) t (status_at s t) (cell_at s m) (needs (TakeHealth d))
+      h : MeetsAll (is_living s.kernel) t (status_at s t) (cell_at s m) (use_at s q) (needs (TakeHealth d))
       h = going_met g
 
       own : (word_at s.words m).number ≡ t
@@ -116,7 +138,7 @@ module _ (s : Table) (t : ℕ) (q : Request) (named : has_mutex s (named_by q) �
       let own : (word_at s.words m).number ≡ t = h.1.0 in
       let d : Bool = (word_at s.words m).died in
       subst (Keeps s (Happened (Go t) Went)) (health_table g named h.0 Went (At q TakeWord) 1)
-      (states g named h.0 Went (At q TakeWord) d 1 (Has 130) own h.1.1.1.0 (
+      (states g named h.0 Went (At q TakeWord) (quiet refl refl) d 1 (Has 130) (λ j e. e) own h.1.1.1.0 (
         refl,
         shared_belongs l TakeWord refl,
         (
@@ -142,7 +164,8 @@ module _ (s : Table) (t : ℕ) (q : Request) (named : has_mutex s (named_by q) �
       let one : health_word_at s.words m ≡ 1 = h.1.1.1.1.0 own in
       subst (Keeps s (Happened (Go t) Went)) (word_table g named h.0 Went (At q (LinkNext 130))
       (record (word_at s.words m) { died = false }))
-      (states g named h.0 Went (At q (LinkNext 130)) false (health_word_at s.words m) (Has 130) own h.1.1.1.0
+      (states g named h.0 Went (At q (LinkNext 130)) (quiet refl refl) false (health_word_at s.words m) (Has 130)
+      (λ j e. e) own h.1.1.1.0
       (refl, shared_belongs l (LinkNext 130) refl, (h.0, (own, (h.1.1.0, (h.1.1.1.0, tt)))))
       (LinkNext 130, refl, refl)
       (row_stated g named false (health_word_at s.words m) h.1.1.1.0 refl refl refl
@@ -157,7 +180,7 @@ module _ (s : Table) (t : ℕ) (q : Request) (named : has_mutex s (named_by q) �
   link_next_kept a g =
       let h = going_met g in
       let robust : (library_at s m).robust ≡ true = h.1.1.1.0 in
-      goes_listed g named (LinkHead a) (record (robust_at s.lists t) { half_linked = m }) h.0
+      goes_listed g named (LinkHead a) (quiet refl refl) (record (robust_at s.lists t) { half_linked = m }) h.0
       (shared_belongs l (LinkHead a) refl) refl h
       (robust_lists g named refl robust robust (record {
         pending = row_pending g named robust;
@@ -173,7 +196,7 @@ module _ (s : Table) (t : ℕ) (q : Request) (named : has_mutex s (named_by q) �
   link_head_kept a g =
       let h = going_met g in
       let robust : (library_at s m).robust ≡ true = h.1.1.1.0 in
-      goes_listed g named (LinkClear a) (record (robust_at s.lists t)
+      goes_listed g named (LinkClear a) (quiet refl refl) (record (robust_at s.lists t)
       { listed = m ∷ (robust_at s.lists t).listed; half_linked = 0 })
       h.0 (shared_belongs l (LinkClear a) refl) refl h
       (robust_lists g named refl robust robust (record {
@@ -188,14 +211,14 @@ module _ (s : Table) (t : ℕ) (q : Request) (named : has_mutex s (named_by q) �
 
   -- a mutex for which nobody waits is left by its word
   pub leaves_by_word : {p : Place} (g : Going s t q p) → is_ready (status_at s t) ≡ true
-      → progress_at p (status_at s t) (health_at s m) ≡ Leaving → (word_at s.words m).number ≡ t
+      → progress_of s t q p ≡ Leaving → (word_at s.words m).number ≡ t
       → (library_at s m).count ≡ 1
       → has_waiter s.kernel.waiters m ≡ false → (library_at s m).robust ≡ true → health_word_at s.words m ≡ 2
       → is_pending p ≡ true → is_half_linked p ≡ false → is_unlinked p ≡ true
       → GoKeeps s t (goes_to t q LeaveClear (with_word m free_word s))
   leaves_by_word {p} g ready leaving own once alone robust unusable pending half unlinked =
       frees g named ready own once alone (two_not_one (health_word_at s.words m) unusable) Went (At q LeaveClear)
-      (Has 131) (
+      (Has 131) (quiet refl refl) (λ j e. absurd (true≢false (sym e))) (
         refl,
         shared_belongs l LeaveClear refl,
         (
@@ -220,10 +243,10 @@ module _ (s : Table) (t : ℕ) (q : Request) (named : has_mutex s (named_by q) �
   leave_exchange_kept g = leave_exchange_cases (GoKeeps s t) q t m s
       (λ w d n. leaves_by_word g h.0 refl own (h.1.1.0 own) (none_from_flag (going_cell g named) w) h.1.1.1.0
       (h.1.1.1.1.0 own) refl refl refl)
-      (goes g named LeaveKernel h.0 (shared_belongs l LeaveKernel refl) refl h
+      (goes g named LeaveKernel (quiet refl refl) h.0 (shared_belongs l LeaveKernel refl) refl h
       (λ r. row_same g named r refl refl refl (λ o u. absurd (true≢false u))))
     where
-      h : MeetsAll (is_living s.kernel) t (status_at s t) (cell_at s m) (needs LeaveExchange)
+      h : MeetsAll (is_living s.kernel) t (status_at s t) (cell_at s m) (use_at s q) (needs LeaveExchange)
       h = going_met g
 
       own : (word_at s.words m).number ≡ t

@@ -9,11 +9,13 @@ use Rattle.pif_model.specs.Word.{has_word, word_at, taken_word}
 use Rattle.pif_model.specs.PiKernel.{is_living, try_lock_answer, words_after_try_lock}
 use Rattle.pif_model.specs.Table.{Table, cell_at, status_at, with_kernel, with_word}
 use Rattle.pif_model.specs.Lines.{Outcome, goes_to, own_exchange, try_load, try_by, try_kernel, pending, clears}
-use Rattle.pif_model.specs.Standing.{MeetsAll, needs}
+use Rattle.pif_model.specs.Standing.{use_at, MeetsAll, needs}
 use Rattle.pif_chains.proofs.LineCases.{try_load_cases, ends_by_cases}
 use Rattle.pif_chains.proofs.Numbers.{above_0, below, from_within}
 use Rattle.pif_simulation.proofs.Steps.{GoKeeps, Going, going_named, going_met, going_called}
+use Rattle.pif_simulation.proofs.Agreement.{quiet}
 use Rattle.pif_model.specs.Posix.{Mutex}
+use Rattle.pif_model.specs.Posix.Progress.{Has}
 use Rattle.pif_model.specs.Posix.Effect.{try_lock}
 use Rattle.pif_model.specs.Posix.TriesToLock.{busy}
 use Rattle.pif_simulation.proofs.Shown.{mutex_seen}
@@ -35,12 +37,12 @@ module _ (s : Table) (t m : ℕ) where
       (tries_owned refl refl (λ z. above_0 t (length s.kernel.seats) (going_added g (going_named g)) (sym own ∙ z))
       (λ e. kind) refl refl)
       (λ r. row_same g (going_named g) r refl refl refl (λ o u. settled_so_far g (going_named g) refl o)))
-      (λ other robust. goes g (going_named g) TryPending h.0 refl refl (h.0, (other, (robust, tt)))
+      (λ other robust. goes g (going_named g) TryPending (quiet refl refl) h.0 refl refl (h.0, (other, (robust, tt)))
       (λ r. row_other g (going_named g) r refl refl other other))
-      (λ other stalled. goes g (going_named g) TryExchange h.0 refl refl (h.0, (other, tt))
+      (λ other stalled. goes g (going_named g) TryExchange (quiet refl refl) h.0 refl refl (h.0, (other, tt))
       (λ r. absurd (true≢false (sym r ∙ stalled))))
     where
-      h : MeetsAll (is_living s.kernel) t (status_at s t) (cell_at s m) (needs TryLoad)
+      h : MeetsAll (is_living s.kernel) t (status_at s t) (cell_at s m) (use_at s (TryLock m)) (needs TryLoad)
       h = going_met g
 
   -- trylock: name the mutex in the pending field
@@ -48,14 +50,14 @@ module _ (s : Table) (t m : ℕ) where
       → GoKeeps s t (goes_to t (TryLock m) TryExchange (pending t m s))
   try_pending_kept g =
       let h = going_met g in
-      pending_kept g (going_named g) TryExchange h.0 h.1.1.0 refl refl (h.0, (h.1.0, tt)) refl refl refl refl refl
+      pending_kept g (going_named g) TryExchange (quiet refl refl) h.0 h.1.1.0 refl refl (h.0, (h.1.0, tt)) refl refl refl refl refl
 
   -- trylock: compare-exchange from 0 to t
   pub try_exchange_kept : Going s t (TryLock m) TryExchange → GoKeeps s t (own_exchange (TryLock m) TryKernel t m s)
   try_exchange_kept g =
       let h = going_met g in
       own_exchange_kept g (going_named g) h.0 refl (by_try_lock refl) refl refl refl TryKernel
-      (goes g (going_named g) TryKernel h.0 refl refl h (λ r. row_other g (going_named g) r refl refl h.1.0 h.1.0))
+      (goes g (going_named g) TryKernel (quiet refl refl) h.0 refl refl h (λ r. row_other g (going_named g) r refl refl h.1.0 h.1.0))
 
   -- m is there, and has a word
   word_there : (g : Going s t (TryLock m) TryKernel) → has_word s.words m ≡ true
@@ -99,7 +101,7 @@ module _ (s : Table) (t m : ℕ) where
   unfolding try_kernel try_by words_after_try_lock
   try_kernel_kept g = go (cases_eq (cell_at s m).word.number 0)
     where
-      h : MeetsAll (is_living s.kernel) t (status_at s t) (cell_at s m) (needs TryKernel)
+      h : MeetsAll (is_living s.kernel) t (status_at s t) (cell_at s m) (use_at s (TryLock m)) (needs TryKernel)
       h = going_met g
 
       go : ((cell_at s m).word.number ≡ 0) ⊎ ((cell_at s m).word.number ≢ 0)
@@ -110,7 +112,8 @@ module _ (s : Table) (t m : ℕ) where
           (λ stalled. takes_stalled g (going_named g) h.0 refl zero (by_try_lock refl) stalled))
       go (inr owned) = subst (λ r. GoKeeps s t (by_call r)) (sym (answer_owned g owned))
           (ends_by_cases (GoKeeps s t) (TryLock m) TryClear 16 t m s
-          (λ robust. goes_alone g (going_named g) 16 TryClear h.0 refl refl (h.0, (h.1.0, (robust, tt)))
+          (λ robust. goes_alone g (going_named g) (Has 16) TryClear (quiet refl refl)
+          (λ j e. absurd (true≢false (sym e))) h.0 refl refl (h.0, (h.1.0, (robust, tt)))
           (λ y. try_lock m (going_called g y)
           (busy (λ z. owned (sym (ap (λ (x : Mutex). x.owner) (mutex_seen g.sound.all.shape y m)) ∙ z))
           (λ e. absurd (h.1.0 (sym (ap (λ (x : Mutex). x.owner) (mutex_seen g.sound.all.shape y m)) ∙ e))) refl))

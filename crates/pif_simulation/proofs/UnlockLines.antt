@@ -1,6 +1,5 @@
 -- The lines of pthread_mutex_unlock and of pthread_mutex_consistent: each step is an entry of the POSIX machine and
--- keeps
--- the invariant.
+-- keeps the invariant.
 use Rattle.std.proofs.Common.{◌≡◌, ◌≢◌, ℕ, ◌≤◌, Bool, true, false, ◌==◌, length, refl, sym, ap, ◌∙◌, subst, arith, if◌then◌else◌}
 use Rattle.std.proofs.lemmas.Bool.{true≢false}
 use Rattle.pif_types.specs.declared.requests.Request.TheVariants.{Unlock, Consistent}
@@ -20,12 +19,13 @@ use Rattle.pif_model.specs.PiKernel.{is_living, next_in, kernel_after_hand_over}
 use Rattle.pif_model.specs.RobustList.{robust_at, without_entry, without_listed}
 use Rattle.pif_model.specs.Table.{Table, cell_at, has_thread, library_at, status_at, with_word, with_health_word, with_lists, with_kernel}
 use Rattle.pif_model.specs.Lines.{goes_to, answers, ends_by, pending, clears, unlock_load, unlock_health, unlock_exchange, gives_up, consistent_load, consistent_health}
-use Rattle.pif_model.specs.Standing.{Shadow, CellIsSound, MeetsAll, needs, health_of, health_at, world_of}
+use Rattle.pif_model.specs.Standing.{Shadow, CellIsSound, use_at, MeetsAll, needs, health_of, health_at, world_of}
 use Rattle.pif_chains.proofs.LineCases.{unlock_load_cases, unlock_health_cases, unlock_exchange_cases, ends_by_cases, consistent_load_cases, consistent_health_cases}
 use Rattle.pif_chains.proofs.Numbers.{above_0}
 use Rattle.pif_simulation.proofs.Shown.{mutex_seen}
 use Rattle.pif_simulation.proofs.Written.{mutex_of}
 use Rattle.pif_simulation.proofs.Steps.{Keeps, GoKeeps, Going, going_named, going_met, going_called}
+use Rattle.pif_simulation.proofs.Agreement.{quiet}
 use Rattle.pif_simulation.proofs.Does.{Does}
 use Rattle.pif_simulation.proofs.Does.Does.{unlocks_not_own, unlocks_own, gives_up_inconsistent, consistent_stalled, consistent_other, consistent_in_order, consistent_made}
 use Rattle.pif_simulation.proofs.Entries.{has_entry-without_other, has_entry-without_same}
@@ -52,10 +52,10 @@ module _ (s : Table) (t m : ℕ) where
   unlock_load_kept g = unlock_load_cases (GoKeeps s t) t m s
       (λ own more. unlocks_one_kept g (going_named g) h.0 refl own
       (λ r. row_same g (going_named g) r refl refl refl (λ o u. settled_so_far g (going_named g) refl o)) refl more)
-      (λ own few robust. goes g (going_named g) UnlockPending h.0 refl refl
+      (λ own few robust. goes g (going_named g) UnlockPending (quiet refl refl) h.0 refl refl
       (h.0, (own, ((λ z. once few), (robust, tt))))
       (λ r. row_same g (going_named g) r refl refl refl (λ o u. settled_so_far g (going_named g) refl o)))
-      (λ own few stalled. goes g (going_named g) UnlockExchange h.0 refl refl (
+      (λ own few stalled. goes g (going_named g) UnlockExchange (quiet refl refl) h.0 refl refl (
         h.0,
         (
           own,
@@ -75,7 +75,7 @@ module _ (s : Table) (t m : ℕ) where
       c : CellIsSound (has_thread s) (has_waiter s.kernel.waiters m) (cell_at s m)
       c = going_cell g (going_named g)
 
-      h : MeetsAll (is_living s.kernel) t (status_at s t) (cell_at s m) (needs UnlockLoad)
+      h : MeetsAll (is_living s.kernel) t (status_at s t) (cell_at s m) (use_at s (Unlock m)) (needs UnlockLoad)
       h = going_met g
 
       once : (cell_at s m).count ≤ 1 → (cell_at s m).count ≡ 1
@@ -86,18 +86,18 @@ module _ (s : Table) (t m : ℕ) where
       → GoKeeps s t (goes_to t (Unlock m) UnlockHealth (pending t m s))
   unlock_pending_kept g =
       let h = going_met g in
-      pending_kept g (going_named g) UnlockHealth h.0 h.1.1.1.0 refl refl h refl refl refl refl refl
+      pending_kept g (going_named g) UnlockHealth (quiet refl refl) h.0 h.1.1.1.0 refl refl h refl refl refl refl refl
 
   -- load the health word
   pub unlock_health_kept : Going s t (Unlock m) UnlockHealth → GoKeeps s t (unlock_health t m s)
   unlock_health_kept g = unlock_health_cases (GoKeeps s t) t m s
-      (λ e. goes g (going_named g) UnlockStore h.0 refl refl (h.0, (h.1.0, (h.1.1.0, (h.1.1.1.0, ((λ o. e), tt)))))
+      (λ e. goes g (going_named g) UnlockStore (quiet refl refl) h.0 refl refl (h.0, (h.1.0, (h.1.1.0, (h.1.1.1.0, ((λ o. e), tt)))))
       (λ r. row_same g (going_named g) r refl refl refl (λ o u. settled_so_far g (going_named g) refl o)))
-      (λ e. goes g (going_named g) UnlockUnlink h.0 refl refl
+      (λ e. goes g (going_named g) UnlockUnlink (quiet refl refl) h.0 refl refl
       (h.0, (h.1.0, (h.1.1.0, (h.1.1.1.0, ((λ o. e), ((λ o. (settled_so_far g (going_named g) refl o).0), tt))))))
       (λ r. row_same g (going_named g) r refl refl refl (λ o u. absurd (true≢false u))))
     where
-      h : MeetsAll (is_living s.kernel) t (status_at s t) (cell_at s m) (needs UnlockHealth)
+      h : MeetsAll (is_living s.kernel) t (status_at s t) (cell_at s m) (use_at s (Unlock m)) (needs UnlockHealth)
       h = going_met g
 
   -- the mutex was given up inconsistent: it is unusable
@@ -108,7 +108,7 @@ module _ (s : Table) (t m : ℕ) where
       let own : (word_at s.words m).number ≡ t = h.1.0 in
       let d : Bool = (word_at s.words m).died in
       subst (Keeps s (Happened (Go t) Went)) (health_table g (going_named g) h.0 Went (At (Unlock m) UnlockUnlink) 2)
-      (states g (going_named g) h.0 Went (At (Unlock m) UnlockUnlink) d 2 Fresh own h.1.1.1.0 (
+      (states g (going_named g) h.0 Went (At (Unlock m) UnlockUnlink) (quiet refl refl) d 2 Fresh (λ j e. e) own h.1.1.1.0 (
         refl,
         refl,
         (
@@ -140,7 +140,7 @@ module _ (s : Table) (t m : ℕ) where
   unlock_unlink_kept g =
       let h = going_met g in
       let robust : (library_at s m).robust ≡ true = h.1.1.1.0 in
-      goes_listed g (going_named g) UnlockExchange (record
+      goes_listed g (going_named g) UnlockExchange (quiet refl refl) (record
       (robust_at s.lists t) { listed = without_entry (robust_at s.lists t).listed m; half_linked = 0 })
       h.0 refl refl (h.0, (h.1.0, (h.1.1.0, h.1.1.1.1)))
       (robust_lists g (going_named g) refl robust robust (record {
@@ -163,14 +163,16 @@ module _ (s : Table) (t m : ℕ) where
   pub unlock_exchange_kept : Going s t (Unlock m) UnlockExchange → GoKeeps s t (unlock_exchange t m s)
   unlock_exchange_kept g = unlock_exchange_cases (GoKeeps s t) t m s
       (λ w n robust. frees g (going_named g) h.0 own once (alone w) order Went (At (Unlock m) UnlockClear) (Has 0)
+      (quiet refl refl) (λ j e. absurd (true≢false (sym e)))
       (refl, refl, (h.0, ((λ e. t0 (sym e)), (robust, tt)))) (UnlockClear, refl, refl) (λ e. refl) (λ e. refl)
       (λ e. refl) (effect (alone w)))
       (λ w n stalled. frees g (going_named g) h.0 own once (alone w) order (Answered 0) Idle (Has 0)
+      (quiet refl refl) (λ j e. absurd (true≢false (sym e)))
       h.0 (refl, refl) (λ e. absurd (true≢false (sym e ∙ stalled))) (λ e. refl) (λ e. refl) (effect (alone w)))
-      (goes g (going_named g) UnlockKernel h.0 refl refl h
+      (goes g (going_named g) UnlockKernel (quiet refl refl) h.0 refl refl h
       (λ r. row_same g (going_named g) r refl refl refl (λ o u. absurd (true≢false u))))
     where
-      h : MeetsAll (is_living s.kernel) t (status_at s t) (cell_at s m) (needs UnlockExchange)
+      h : MeetsAll (is_living s.kernel) t (status_at s t) (cell_at s m) (use_at s (Unlock m)) (needs UnlockExchange)
       h = going_met g
 
       own : (word_at s.words m).number ≡ t
@@ -207,9 +209,11 @@ module _ (s : Table) (t m : ℕ) where
   unlock_kernel_kept g = gives_up_cases given (GoKeeps s t) (ends_by t (Unlock m) m UnlockClear 0)
       (λ alone. ends_by_cases (GoKeeps s t) (Unlock m) UnlockClear 0 t m (with_word m free_word s)
       (λ robust. frees g (going_named g) h.0 own once alone order Went (At (Unlock m) UnlockClear) (Has 0)
+      (quiet refl refl) (λ j e. absurd (true≢false (sym e)))
       (refl, refl, (h.0, ((λ e. t0 (sym e)), (robust, tt)))) (UnlockClear, refl, refl) (λ e. refl) (λ e. refl)
       (λ e. refl) (effect alone))
       (λ stalled. frees g (going_named g) h.0 own once alone order (Answered 0) Idle (Has 0)
+      (quiet refl refl) (λ j e. absurd (true≢false (sym e)))
       h.0 (refl, refl) (λ e. absurd (true≢false (sym e ∙ stalled))) (λ e. refl) (λ e. refl) (effect alone)))
       (λ state. ends_by_cases (GoKeeps s t) (Unlock m) UnlockClear 0 t m
       (with_kernel (set_word s.words m (hand_word (next_in s.kernel m)))
@@ -218,16 +222,18 @@ module _ (s : Table) (t m : ℕ) where
         names = refl;
         pending = λ r. refl;
         half_linked = λ r. refl;
+        follows = quiet refl refl;
         knows = λ c other r. (refl, refl, (h.0, (other, (r ∙ robust, tt))));
-      }) state 0 (λ y. refl) unlocks)
+      }) state (Has 0) (λ j e. absurd (true≢false (sym e))) (λ y. refl) unlocks)
       (λ stalled. handed_answers given Idle (record {
         names = tt;
         pending = λ r. absurd (true≢false (sym r ∙ stalled));
         half_linked = λ r. refl;
+        follows = quiet refl refl;
         knows = λ c other r. h.0;
       }) state 0 refl unlocks))
     where
-      h : MeetsAll (is_living s.kernel) t (status_at s t) (cell_at s m) (needs UnlockKernel)
+      h : MeetsAll (is_living s.kernel) t (status_at s t) (cell_at s m) (use_at s (Unlock m)) (needs UnlockKernel)
       h = going_met g
 
       own : (word_at s.words m).number ≡ t
@@ -284,26 +290,26 @@ module _ (s : Table) (t m : ℕ) where
   -- load the word
   pub consistent_load_kept : Going s t (Consistent m) ConsistentLoad → GoKeeps s t (consistent_load t m s)
   consistent_load_kept g = consistent_load_cases (GoKeeps s t) t m s
-      (λ robust own. goes g (going_named g) ConsistentHealth h.0 refl refl (h.0, (own, (robust, tt)))
+      (λ robust own. goes g (going_named g) ConsistentHealth (quiet refl refl) h.0 refl refl (h.0, (own, (robust, tt)))
       (λ r. row_same g (going_named g) r refl refl refl (λ o u. settled_so_far g (going_named g) refl o)))
       (λ robust other. answers_local g (going_named g) 1 h.0 (consistent_other refl refl robust other refl refl)
       (λ r. row_other g (going_named g) r refl refl other other))
       (λ stalled. answers_local g (going_named g) 22 h.0 (consistent_stalled refl refl stalled refl refl)
       (λ r. absurd (true≢false (sym r ∙ stalled))))
     where
-      h : MeetsAll (is_living s.kernel) t (status_at s t) (cell_at s m) (needs ConsistentLoad)
+      h : MeetsAll (is_living s.kernel) t (status_at s t) (cell_at s m) (use_at s (Consistent m)) (needs ConsistentLoad)
       h = going_met g
 
   -- load the health word
   pub consistent_health_kept : Going s t (Consistent m) ConsistentHealth → GoKeeps s t (consistent_health t m s)
   consistent_health_kept g = consistent_health_cases (GoKeeps s t) t m s
-      (λ e. goes g (going_named g) ConsistentStore h.0 refl refl (h.0, (h.1.0, (h.1.1.0, ((λ o. e), tt)))) row)
+      (λ e. goes g (going_named g) ConsistentStore (quiet refl refl) h.0 refl refl (h.0, (h.1.0, (h.1.1.0, ((λ o. e), tt)))) row)
       (λ e. answers_local g (going_named g) 22 h.0
       (consistent_in_order refl refl h.1.1.0 h.1.0 (not_inconsistent
       (settled_so_far g (going_named g) refl h.1.0).0 e) refl refl)
       (λ r. row_same g (going_named g) r refl refl refl (λ o u. settled_so_far g (going_named g) refl o)))
     where
-      h : MeetsAll (is_living s.kernel) t (status_at s t) (cell_at s m) (needs ConsistentHealth)
+      h : MeetsAll (is_living s.kernel) t (status_at s t) (cell_at s m) (use_at s (Consistent m)) (needs ConsistentHealth)
       h = going_met g
 
       row : (library_at s m).robust ≡ true → RowAfter s t m (cell_at s m) (At (Consistent m) ConsistentStore)
@@ -319,7 +325,8 @@ module _ (s : Table) (t m : ℕ) where
       let d : Bool = (word_at s.words m).died in
       let died : d ≡ false = (settled_so_far g (going_named g) refl own).0 in
       subst (Keeps s (Happened (Go t) (Answered 0))) (health_table g (going_named g) h.0 (Answered 0) Idle 0)
-      (states g (going_named g) h.0 (Answered 0) Idle d 0 (Has 0) own h.1.1.0 h.0 (refl, refl)
+      (states g (going_named g) h.0 (Answered 0) Idle (quiet refl refl) d 0 (Has 0)
+      (λ j e. absurd (true≢false (sym e))) own h.1.1.0 h.0 (refl, refl)
       (row_stated g (going_named g) d 0 h.1.1.0 refl refl refl (λ o u. (died, zero_not_two 0 refl)))
       (consistent_made refl refl h.1.1.0 own (health-inconsistent (health_word_at s.words m) d (h.1.1.1.0 own)) refl
       (ap (λ x. record (mutex_of (cell_at s m)) { health = x }) (ap (health_of 0) died))))

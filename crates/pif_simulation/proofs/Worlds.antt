@@ -4,7 +4,7 @@ use Rattle.std.proofs.lemmas.Bool.{cases_eq, cases_lt, cases_order}
 use Rattle.std.proofs.lemmas.List.{get_or-set_same, get_or-set_other, length-set, set_past, get_or_past, length_push, get_or_push, get_or_append_left}
 use Rattle.pif_types.specs.declared.requests.Request.{Request}
 use Rattle.pif_model.specs.declared.events.Event.TheVariants.{Begin, End}
-use Rattle.pif_model.specs.Posix.{Progress, Call, Thread, Mutex, World, nobody, no_mutex, thread_at, mutex_at, is_thread, is_living, is_mutex, with_thread, with_mutex, with_progress, progressed, refusal_of, names_known}
+use Rattle.pif_model.specs.Posix.{Progress, Call, Thread, Mutex, World, nobody, no_mutex, thread_at, mutex_at, is_thread, is_living, is_mutex, is_variable, with_thread, with_mutex, with_progress, progressed, refusal_of, names_known}
 use Rattle.pif_model.specs.Refusals.{begin_refused, end_refused}
 use Rattle.pif_chains.proofs.Places.{kept_at}
 
@@ -91,8 +91,8 @@ is_thread-with_thread w t x u = ap (λ k. if u == 0 then false else nat_lt u k) 
 
 -- a Begin that is not refused: the thread lives and has no call open, and the mutex that it names was added
 pub begin_allowed : (w : World) (t : ℕ) (q : Request) → refusal_of w (Begin t q) ≡ None
-    → (is_thread w t ≡ true) × (is_living w t ≡ true) × (call_of w t ≡ None) × (names_known (is_mutex w) q ≡ true)
-begin_allowed w t q e = by_tests (is_thread w t) (is_living w t) (call_of w t) (names_known (is_mutex w) q) e
+    → (is_thread w t ≡ true) × (is_living w t ≡ true) × (call_of w t ≡ None) × (names_known (is_mutex w) (is_variable w) q ≡ true)
+begin_allowed w t q e = by_tests (is_thread w t) (is_living w t) (call_of w t) (names_known (is_mutex w) (is_variable w) q) e
   where
     by_tests : (k l : Bool) (c : Option Call) (n : Bool) → begin_refused k l (is_some c) n ≡ None
         → (k ≡ true) × (l ≡ true) × (c ≡ None) × (n ≡ true)

@@ -7,20 +7,22 @@ use Rattle.pif_types.specs.declared.requests.Kind.TheVariants.{Normal}
 use Rattle.pif_model.specs.declared.lines.Line.{Line}
 use Rattle.pif_model.specs.declared.lines.Line.TheVariants.{Idle, At}
 use Rattle.pif_model.specs.declared.lines.Place.{Place}
-use Rattle.pif_model.specs.declared.lines.Place.TheVariants.{LockQueued, TakeLoad, TakeHealth}
+use Rattle.pif_model.specs.declared.lines.Place.TheVariants.{LockQueued, TakeLoad, TakeHealth, WaitParked}
 use Rattle.pif_model.specs.declared.lines.Status.{Status}
-use Rattle.pif_model.specs.declared.lines.Status.TheVariants.{Ready, Queued, Stopped, Ended}
+use Rattle.pif_model.specs.declared.lines.Status.TheVariants.{Ready, Queued, Parked, Stopped, Ended}
+use Rattle.pif_model.specs.declared.lines.Woken.TheVariants.{Fresh as WokenFresh, Owns as WokenOwns, Again as WokenAgain}
 use Rattle.pif_model.specs.Graph.{has_waiter}
 use Rattle.pif_model.specs.Word.{Word, free_word, word_at, health_word_at}
 use Rattle.pif_types.specs.declared.requests.Request.{Request}
-use Rattle.pif_model.specs.Posix.{named_by, Health, Thread, Mutex, World, Call, thread_at, mutex_at, with_thread, with_mutex, nobody, no_mutex}
-use Rattle.pif_model.specs.PiKernel.{Kernel, seat_at, state_at, is_living}
+use Rattle.pif_model.specs.Posix.{named_by, variable_of, Health, Thread, Mutex, World, Call, thread_at, mutex_at, with_thread, with_mutex, nobody, no_mutex}
+use Rattle.pif_model.specs.PiKernel.{Kernel, Seat, seat_at, state_at, is_living}
 use Rattle.pif_model.specs.RobustList.{RobustRow, no_robust_row, robust_at, with_robust}
-use Rattle.pif_model.specs.Table.{Table, Cell, LibraryMutex, new_mutex, has_thread, has_mutex, status_at, line_at, library_at, cell_at}
-use Rattle.pif_model.specs.Standing.{Shadow, MeetsAll, LineIsSound, ThreadIsSound, needs, progress_at, call_at, health_of, health_at, thread_shown, mutex_shown, world_of, CellIsSound, IsShaped}
-use Rattle.pif_simulation.proofs.Kept.{Spares}
-use Rattle.pif_simulation.proofs.Hole.{Changes}
+use Rattle.pif_model.specs.Table.{Table, Cell, LibraryMutex, new_mutex, has_thread, has_mutex, bound_to, uses_of, status_at, line_at, library_at, cell_at}
+use Rattle.pif_model.specs.Standing.{Shadow, Use, use_at, MeetsAll, LineIsSound, ThreadIsSound, needs, progress_at, call_at, call_shown, memory_at, may_enlist, health_of, health_at, thread_shown, mutex_shown, world_of, CellIsSound, IsShaped}
+use Rattle.pif_simulation.proofs.Kept.{Spares, unused}
+use Rattle.pif_simulation.proofs.Hole.{Changes, aims}
 use Rattle.pif_simulation.proofs.Shown.{threads_shown, mutexes_shown, thread_seen, mutex_seen, same_world}
+use Rattle.pif_simulation.proofs.Agreement.{Frames, Follows, WasBlockedIn, frames_by, was_same}
 
 -- t's line and robust list, m's word, health word and count in place of what there was, and this kernel
 abbrev pub written : ℕ → ℕ → Line → RobustRow → Word → ℕ → ℕ → Kernel → Table → Table
@@ -80,37 +82,51 @@ written_is t m l r x a n k s e f g h = λ i. record s {
   mutexes = h i;
 }
 
--- what a kernel call on m leaves, but for excused threads
-pub record IsCallOn (Excused : ℕ → Type 0) (k k' : Kernel) (m : ℕ) : Type 0 where
+-- what a kernel call on m leaves, but for excused threads, where variables are bound so
+pub record IsCallOn (Excused : ℕ → Type 0) (bound : ℕ → ℕ) (k k' : Kernel) (m : ℕ) : Type 0 where
   pub limits : k'.limits ≡ k.limits
   pub seats : length k'.seats ≡ length k.seats
   pub status : (u : ℕ) → (Excused u → ⊥) → (seat_at k' u).status ≡ (seat_at k u).status
   pub living : (u : ℕ) → is_living k' u ≡ is_living k u
   pub states : (n : ℕ) → n ≢ m → state_at k' n ≡ state_at k n
   pub waited : (n : ℕ) → n ≢ m → has_waiter k'.waiters n ≡ has_waiter k.waiters n
+  pub targets : (c n : ℕ) → aims k' c n ≡ true → (aims k c n ≡ true) ⊎ (bound c ≡ n)
+
+-- where the same threads are parked
+pub same_targets : (bound : ℕ → ℕ) (k k' : Kernel) → k'.parked ≡ k.parked → (c n : ℕ) → aims k' c n ≡ true
+    → (aims k c n ≡ true) ⊎ (bound c ≡ n)
+same_targets bound k k' e c n a = inl (sym (ap (λ ps. aims (record k { parked = ps }) c n) e) ∙ a)
 
 -- no kernel call
-pub no_call : (Excused : ℕ → Type 0) (k : Kernel) (m : ℕ) → IsCallOn Excused k k m
-no_call Excused k m = record {
+pub no_call : (Excused : ℕ → Type 0) (bound : ℕ → ℕ) (k : Kernel) (m : ℕ) → IsCallOn Excused bound k k m
+no_call Excused bound k m = record {
   limits = refl;
   seats = refl;
   status = λ u n. refl;
   living = λ u. refl;
-  states = λ n d.
-      refl;
+  states = λ n d. refl;
   waited = λ n d. refl;
+  targets = λ c n e. inl e;
 }
 
 -- how far a call of a thread that doesn't own its mutex has come does not depend on the mutex's health
-progress_other : (living : ℕ → Bool) (u : ℕ) (x : Status) (c : Cell) (p : Place) (h h' : Health) → c.word.number ≢ u
-    → MeetsAll living u x c (needs p) → progress_at p x h ≡ progress_at p x h'
-progress_other living u (Ready w) c LockQueued h h' d m = absurd (d (m.1.0 refl))
-progress_other living u (Queued n) c LockQueued h h' d m = refl
-progress_other living u Stopped c LockQueued h h' d m = refl
-progress_other living u Ended c LockQueued h h' d m = refl
-progress_other living u x c TakeLoad h h' d m = absurd (d m.1.0)
-progress_other living u x c (TakeHealth b) h h' d m = absurd (d m.1.0)
-progress_other living u x c _ h h' d m = refl
+progress_other : (living : ℕ → Bool) (u : ℕ) (q : Request) (x : Status) (c : Cell) (z : Use) (p : Place) (h h' : Health)
+    (n : ℕ) → c.word.number ≢ u → MeetsAll living u x c z (needs p) → progress_at q p x h n ≡ progress_at q p x h' n
+progress_other living u q (Ready w) c z LockQueued h h' n d m = absurd (d (m.1.0 refl))
+progress_other living u q (Queued i) c z LockQueued h h' n d m = refl
+progress_other living u q (Parked i) c z LockQueued h h' n d m = refl
+progress_other living u q Stopped c z LockQueued h h' n d m = refl
+progress_other living u q Ended c z LockQueued h h' n d m = refl
+progress_other living u q x c z TakeLoad h h' n d m = absurd (d m.1.0)
+progress_other living u q x c z (TakeHealth b) h h' n d m = absurd (d m.1.0)
+progress_other living u q (Ready WokenFresh) c z WaitParked h h' n d m = absurd (d (m.1.0.0 refl))
+progress_other living u q (Ready WokenOwns) c z WaitParked h h' n d m = absurd (d (m.1.0.0 refl))
+progress_other living u q (Ready WokenAgain) c z WaitParked h h' n d m = refl
+progress_other living u q (Queued i) c z WaitParked h h' n d m = refl
+progress_other living u q (Parked i) c z WaitParked h h' n d m = refl
+progress_other living u q Stopped c z WaitParked h h' n d m = refl
+progress_other living u q Ended c z WaitParked h h' n d m = refl
+progress_other living u q x c z _ h h' n d m = refl
 
 module _ (s : Table) (t m : ℕ) (l : Line) (r : RobustRow) (x : Word) (a n : ℕ) (k : Kernel) (t0 : t ≢ 0)
     (tl : t < length s.lines) (tr : t < length s.lists.threads) (ml : m < length s.mutexes) (shape : IsShaped s) where
@@ -175,7 +191,7 @@ module _ (s : Table) (t m : ℕ) (l : Line) (r : RobustRow) (x : Word) (a n : �
       (get_or-set_other s.mutexes m j (record (library_at s m) { count = n }) (new_mutex Normal false) d)
 
   -- the parts still fit together
-  pub shape_written : {Excused : ℕ → Type 0} → IsCallOn Excused s.kernel k m
+  pub shape_written : {Excused : ℕ → Type 0} → IsCallOn Excused (bound_to s) s.kernel k m
       → (m ≡ 0 → (x ≡ free_word) × (a ≡ 0) × (n ≡ (library_at s m).count)) → IsShaped v
   shape_written c zero = record {
     limits = c.limits ∙ shape.limits;
@@ -200,6 +216,12 @@ module _ (s : Table) (t m : ℕ) (l : Line) (r : RobustRow) (x : Word) (a n : �
           c.waited j d ∙ u.2,
         )
         );
+    some_cond = shape.some_cond;
+    few_conds = shape.few_conds;
+    no_cond = shape.no_cond;
+    cond_words = shape.cond_words;
+    no_cond_word = shape.no_cond_word;
+    unmade_conds = shape.unmade_conds;
   }
     where
       long : length v.mutexes ≡ length s.mutexes
@@ -222,7 +244,7 @@ module _ (s : Table) (t m : ℕ) (l : Line) (r : RobustRow) (x : Word) (a n : �
       first_health (inr d) = get_or-set_other s.words.healths m 0 a 0 d
 
   -- the change that is written
-  pub changes : {Excused : ℕ → Type 0} → Excused t → IsCallOn Excused s.kernel k m
+  pub changes : {Excused : ℕ → Type 0} → Excused t → IsCallOn Excused (bound_to s) s.kernel k m
       → (m ≡ 0 → (x ≡ free_word) × (a ≡ 0) × (n ≡ (library_at s m).count))
       → (has_mutex s m ≡ true → CellIsSound (has_thread s) (has_waiter k.waiters m) (cell_written m x a n k s))
       → (has_mutex s m ≡ true → (library_at s m).robust ≡ true → x.number ≢ 0 → (Excused x.number → ⊥)
@@ -250,6 +272,10 @@ module _ (s : Table) (t m : ℕ) (l : Line) (r : RobustRow) (x : Word) (a n : �
         (subst (Spares (is_living s.kernel) (is_living s.kernel) u (cell_at s m)) (sym cell_here) (spares u z b))
         );
     ended = λ u e b. c.living u ∙ b;
+    conds = refl;
+    used = unused s v refl refl refl;
+    few_uses = λ i e. e;
+    targets = c.targets;
   }
 
   -- IN THE POSIX MACHINE
@@ -265,58 +291,61 @@ module _ (s : Table) (t m : ℕ) (l : Line) (r : RobustRow) (x : Word) (a n : �
 
   -- where m's health stays or its owner was not u, u's call has come as far as before
   pub call_there : (u : ℕ) → (health_of a x.died ≡ health_at s m) ⊎ ((word_at s.words m).number ≢ u) → ThreadIsSound s u
-      → call_at (health_at v) (line_at s u) (status_at s u) ≡ call_at (health_at s) (line_at s u) (status_at s u)
+      → call_at (health_at v) (uses_of s) (line_at s u) (status_at s u) ≡ call_shown s u
   call_there u why b = go (line_at s u) b.line
     where
-      of_m : (p : Place) → MeetsAll (is_living s.kernel) u (status_at s u) (cell_at s m) (needs p)
+      of_m : (q : Request) (p : Place)
+          → MeetsAll (is_living s.kernel) u (status_at s u) (cell_at s m) (use_at s q) (needs p)
           → (health_of a x.died ≡ health_at s m) ⊎ ((word_at s.words m).number ≢ u)
-          → progress_at p (status_at s u) (health_at v m) ≡ progress_at p (status_at s u) (health_at s m)
-      of_m p e (inl w) = ap (progress_at p (status_at s u)) (health_m ∙ w)
-      of_m p e (inr w) = progress_other (is_living s.kernel) u (status_at s u) (cell_at s m) p (health_at v m)
-          (health_at s m) w e
+          → progress_at q p (status_at s u) (health_at v m) (uses_of s (variable_of q))
+          ≡ progress_at q p (status_at s u) (health_at s m) (uses_of s (variable_of q))
+      of_m q p e (inl w) = ap (λ y. progress_at q p (status_at s u) y (uses_of s (variable_of q))) (health_m ∙ w)
+      of_m q p e (inr w) = progress_other (is_living s.kernel) u q (status_at s u) (cell_at s m) (use_at s q) p
+          (health_at v m) (health_at s m) (uses_of s (variable_of q)) w e
 
       by_mutex : (q : Request) (p : Place) → MeetsAll (is_living s.kernel) u (status_at s u) (cell_at s (named_by q))
-          (needs p) → (named_by q ≡ m) ⊎ (named_by q ≢ m)
-          → progress_at p (status_at s u) (health_at v (named_by q)) ≡ progress_at p (status_at s u)
-          (health_at s (named_by q))
-      by_mutex q p e (inl w) = subst (λ j. MeetsAll (is_living s.kernel) u (status_at s u) (cell_at s j) (needs p)
-          → progress_at p (status_at s u) (health_at v j) ≡ progress_at p (status_at s u) (health_at s j)) (sym w)
-          (λ e. of_m p e why) e
-      by_mutex q p e (inr w) = ap (progress_at p (status_at s u)) (health_there (named_by q) w)
+          (use_at s q) (needs p) → (named_by q ≡ m) ⊎ (named_by q ≢ m)
+          → progress_at q p (status_at s u) (health_at v (named_by q)) (uses_of s (variable_of q))
+          ≡ progress_at q p (status_at s u) (health_at s (named_by q)) (uses_of s (variable_of q))
+      by_mutex q p e (inl w) = subst (λ j. MeetsAll (is_living s.kernel) u (status_at s u) (cell_at s j) (use_at s q)
+          (needs p) → progress_at q p (status_at s u) (health_at v j) (uses_of s (variable_of q))
+          ≡ progress_at q p (status_at s u) (health_at s j) (uses_of s (variable_of q))) (sym w)
+          (λ e. of_m q p e why) e
+      by_mutex q p e (inr w) = ap (λ y. progress_at q p (status_at s u) y (uses_of s (variable_of q)))
+          (health_there (named_by q) w)
 
-      go : (b : Line) → LineIsSound s u b → call_at (health_at v) b (status_at s u) ≡ call_at (health_at s) b
-          (status_at s u)
+      go : (b : Line) → LineIsSound s u b → call_at (health_at v) (uses_of s) b (status_at s u)
+          ≡ call_at (health_at s) (uses_of s) b (status_at s u)
       go Idle e = refl
       go (At q p) e = ap (λ y. Some (record { request = q; progress = y }))
           (by_mutex q p e.needs (cases_eq (named_by q) m))
 
   -- t then
-  pub thread_here : thread_shown v t ≡ record {
+  pub thread_here : (y : Shadow) → thread_shown v y t ≡ record {
     base = (seat_at k t).base;
     living = is_living k t;
-    call = call_at
-        (health_at v) l (seat_at k t).status;
+    call = call_at (health_at v) (uses_of s) l (seat_at k t).status;
+    memory = memory_at y t;
   }
-  thread_here = λ i. record {
+  thread_here y = λ i. record {
     base = (seat_at k t).base;
     living = is_living k t;
-    call = call_at (health_at v)
-        (line_here i) (seat_at k t).status;
+    call = call_at (health_at v) (uses_of s) (line_here i) (seat_at k t).status;
+    memory = memory_at y t;
   }
 
   -- another thread
-  pub thread_there : (u : ℕ) → u ≢ t
-      → thread_shown v u ≡ record {
-        base = (seat_at k u).base;
-        living = is_living k u;
-        call = call_at (health_at v)
-            (line_at s u) (seat_at k u).status;
-      }
-  thread_there u d = λ i. record {
+  pub thread_there : (y : Shadow) (u : ℕ) → u ≢ t → thread_shown v y u ≡ record {
     base = (seat_at k u).base;
     living = is_living k u;
-    call = call_at (health_at v)
-        (line_there u d i) (seat_at k u).status;
+    call = call_at (health_at v) (uses_of s) (line_at s u) (seat_at k u).status;
+    memory = memory_at y u;
+  }
+  thread_there y u d = λ i. record {
+    base = (seat_at k u).base;
+    living = is_living k u;
+    call = call_at (health_at v) (uses_of s) (line_there u d i) (seat_at k u).status;
+    memory = memory_at y u;
   }
 
   -- m then
@@ -336,20 +365,24 @@ module _ (s : Table) (t m : ℕ) (l : Line) (r : RobustRow) (x : Word) (a n : �
         health = health_there j d i;
       })
 
-  -- what is shown is w, where w has these threads, mutexes and waiters
+  -- what is shown is w, where w has these threads, mutexes and waiters, and the variables that there were
   pub shows : (y : Shadow) (w : World) → IsShaped v → length w.threads ≡ length s.lines
       → length w.mutexes ≡ length s.mutexes → k.waiters ≡ w.waiters
-      → (thread_shown v t ≡ thread_at w t) → ((u : ℕ) → u ≢ t → thread_shown v u ≡ thread_at w u)
+      → (thread_shown v y t ≡ thread_at w t)
+      → ((u : ℕ) → u < length s.lines → u ≢ t → thread_shown v y u ≡ thread_at w u)
       → (mutex_of (cell_written m x a n k s) ≡ mutex_at w m) → ((j : ℕ) → j ≢ m → mutex_shown s j ≡ mutex_at w j)
+      → (world_of s y).variables ≡ w.variables → s.limits.signals ≡ w.signals
       → world_of v y ≡ w
-  shows y w fits b c waiters here there it others = same_world (world_of v y) w
-      (threads_shown fits y ∙ length-set s.lines t l ∙ sym b) (λ u. thread_seen fits y u ∙ each u (cases_eq u t))
+  shows y w fits b c waiters here there it others variables signals = same_world (world_of v y) w
+      (threads_shown fits y ∙ length-set s.lines t l ∙ sym b)
+      (λ u i. let e : u < length v.lines = subst (λ n. u < n) (threads_shown fits y) i in
+      thread_seen fits y u e ∙ each u (subst (λ n. u < n) (length-set s.lines t l) e) (cases_eq u t))
       (mutexes_shown fits y ∙ length-set s.mutexes m (record (library_at s m) { count = n }) ∙ sym c)
-      (λ j. mutex_seen fits y j ∙ all j (cases_eq j m)) waiters
+      (λ j. mutex_seen fits y j ∙ all j (cases_eq j m)) variables waiters signals
     where
-      each : (u : ℕ) → (u ≡ t) ⊎ (u ≢ t) → thread_shown v u ≡ thread_at w u
-      each u (inl q) = subst (λ i. thread_shown v i ≡ thread_at w i) (sym q) here
-      each u (inr d) = there u d
+      each : (u : ℕ) → u < length s.lines → (u ≡ t) ⊎ (u ≢ t) → thread_shown v y u ≡ thread_at w u
+      each u i (inl q) = subst (λ i. thread_shown v y i ≡ thread_at w i) (sym q) here
+      each u i (inr d) = there u i d
 
       all : (j : ℕ) → (j ≡ m) ⊎ (j ≢ m) → mutex_shown v j ≡ mutex_at w j
       all j (inl q) = subst (λ i. mutex_shown v i ≡ mutex_at w i) (sym q) (mutex_here ∙ it)
@@ -359,33 +392,52 @@ module _ (s : Table) (t m : ℕ) (l : Line) (r : RobustRow) (x : Word) (a n : �
   abbrev pub rewritten : Shadow → World
   rewritten y = record (with_mutex m (mutex_of (cell_written m x a n k s)) (world_of s y)) { waiters = k.waiters }
 
-  -- where the kernel knows the same of all other threads, their calls have come as far, and t's base priority and life
-  -- stay,
-  -- that world is shown with another call of t
-  pub call_shown : (y : Shadow) (c : Option Call) → IsShaped v → ((u : ℕ) → is_living k u ≡ is_living s.kernel u)
-      → ((u : ℕ) → u ≢ t → seat_at k u ≡ seat_at s.kernel u)
-      → ((u : ℕ) → u ≢ t → call_at (health_at v) (line_at s u) (status_at s u) ≡ call_at (health_at s) (line_at s u)
-      (status_at s u))
-      → (seat_at k t).base ≡ (seat_at s.kernel t).base → call_at (health_at v) l (seat_at k t).status ≡ c
-      → world_of v y ≡ with_thread t (record (thread_at (rewritten y) t) { call = c }) (rewritten y)
-  call_shown y c fits living others calls base call =
-      let w : World = rewritten y in
-      let tw : t < length w.threads = subst (λ j. t < j) (sym (threads_shown shape y)) tl in
-      let mw : m < length (world_of s y).mutexes = subst (λ j. m < j) (sym (mutexes_shown shape y)) ml in
-      let z : Mutex = mutex_of (cell_written m x a n k s) in
-      let q : Thread = record (thread_at w t) { call = c } in
-      shows y (with_thread t q w) fits (length-set w.threads t q ∙ threads_shown shape y)
-      (length-set (world_of s y).mutexes m z ∙ mutexes_shown shape y) refl
-      (thread_here ∙ (λ i. record { base = base i; living = living t i; call = call i })
-      ∙ sym (get_or-set_same w.threads t q nobody tw ∙ (λ i. record (thread_seen shape y t i) { call = c })))
-      (λ u d. thread_there u d
-      ∙ (λ i. record {
-        base = (others u d i).base;
-        living = living u i;
-        call = call_at (health_at v) (line_at s u)
-            (others u d i).status;
-      })
-      ∙ (λ i. record { base = (seat_at s.kernel u).base; living = is_living s.kernel u; call = calls u d i })
-      ∙ sym (get_or-set_other w.threads t u q nobody d ∙ thread_seen shape y u))
-      (sym (get_or-set_same (world_of s y).mutexes m z no_mutex mw))
-      (λ j d. sym (get_or-set_other (world_of s y).mutexes m j z no_mutex d ∙ mutex_seen shape y j))
+  -- the kernel knows the same of all other threads, and their calls have come as far
+  module _ (others : (u : ℕ) → u ≢ t → seat_at k u ≡ seat_at s.kernel u)
+      (calls : (u : ℕ) → u ≢ t → call_at (health_at v) (uses_of s) (line_at s u) (status_at s u) ≡ call_shown s u) where
+    -- where t's base priority and life stay, that world is shown with another call of t
+    pub world_shown : (y : Shadow) (c : Option Call) → IsShaped v → ((u : ℕ) → is_living k u ≡ is_living s.kernel u)
+        → (seat_at k t).base ≡ (seat_at s.kernel t).base
+        → call_at (health_at v) (uses_of s) l (seat_at k t).status ≡ c
+        → world_of v y ≡ with_thread t (record (thread_at (rewritten y) t) { call = c }) (rewritten y)
+    world_shown y c fits living base call =
+        let w : World = rewritten y in
+        let tw : t < length w.threads = subst (λ j. t < j) (sym (threads_shown shape y)) tl in
+        let mw : m < length (world_of s y).mutexes = subst (λ j. m < j) (sym (mutexes_shown shape y)) ml in
+        let z : Mutex = mutex_of (cell_written m x a n k s) in
+        let q : Thread = record (thread_at w t) { call = c } in
+        shows y (with_thread t q w) fits (length-set w.threads t q ∙ threads_shown shape y)
+        (length-set (world_of s y).mutexes m z ∙ mutexes_shown shape y) refl
+        (thread_here y
+        ∙ (λ i. record { base = base i; living = living t i; call = call i; memory = memory_at y t })
+        ∙ sym (get_or-set_same w.threads t q nobody tw ∙ (λ i. record (thread_seen shape y t tl i) { call = c })))
+        (λ u e d. thread_there y u d
+        ∙ (λ i. record {
+          base = (others u d i).base;
+          living = living u i;
+          call = call_at (health_at v) (uses_of s) (line_at s u) (others u d i).status;
+          memory = memory_at y u;
+        })
+        ∙ (λ i. record {
+          base = (seat_at s.kernel u).base;
+          living = is_living s.kernel u;
+          call = calls u d i;
+          memory = memory_at y u;
+        })
+        ∙ sym (get_or-set_other w.threads t u q nobody d ∙ thread_seen shape y u e))
+        (sym (get_or-set_same (world_of s y).mutexes m z no_mutex mw))
+        (λ j d. sym (get_or-set_other (world_of s y).mutexes m j z no_mutex d ∙ mutex_seen shape y j)) refl refl
+
+    -- where t is blocked as it was, who was found blocked stays so
+    pub frames_written : Follows (line_at s t) l → (may_enlist (line_at s t) ≡ false → WasBlockedIn s v t) → Frames s v
+    frames_written follows here = frames_by s v t (length-set s.lines t l) line_there
+        (λ u d. was_same s v u (call_same u d) (ap (λ (y : Seat). y.status) (others u d)))
+        (subst (Follows (line_at s t)) (sym line_here) follows) here
+      where
+        call_same : (u : ℕ) → u ≢ t → call_shown v u ≡ call_shown s u
+        call_same u d =
+            (λ i. call_at (health_at v) (uses_of s) (line_there u d i) (others u d i).status) ∙ calls u d
+
+    -- t's call then
+    pub call_here : call_shown v t ≡ call_at (health_at v) (uses_of s) l (seat_at k t).status
+    call_here = ap (λ b. call_at (health_at v) (uses_of s) b (seat_at k t).status) line_here

@@ -20,15 +20,15 @@ pub fn no_mutex_has_two_holders()
     ensures { (limits : Bounds) (history : List Entry) (states : List World) (last : World) → IsRun limits history states last → AlwaysOneHolder history }
 {}
 
-/// A law: in each state that a run of the POSIX machine reaches, the effective priority of a thread, which looks over as
-/// many hops as there are threads, is the greatest base priority of it and of all that wait for it through a chain of
-/// any length.
+/// A law: in each state that a run of the POSIX machine reaches, the effective priority of a thread, which looks over
+/// as many hops as there are threads, is the greatest base priority of it and of all that wait for it through a chain
+/// of any length.
 pub fn effective_priority_is_greatest_over_any_chain()
     ensures { (limits : Bounds) (history : List Entry) (states : List World) (last : World) → IsRun limits history states last → (t : ℕ) → is_thread last t ≡ true → HasEffective last t (effective_of last t) }
 {}
 
-/// A law: in each state that a run of the POSIX machine reaches, the test for a chain of waiting, which looks over as many
-/// hops as there are threads, finds one from a thread to another exactly where there is one, of any length.
+/// A law: in each state that a run of the POSIX machine reaches, the test for a chain of waiting, which looks over as
+/// many hops as there are threads, finds one from a thread to another exactly where there is one, of any length.
 pub fn chain_is_found_where_there_is_one()
     ensures found { (limits : Bounds) (history : List Entry) (states : List World) (last : World) → IsRun limits history states last → (u t : ℕ) → leads_to last u t ≡ true → Reaches (WaitsFor last) u t }
     ensures finds { (limits : Bounds) (history : List Entry) (states : List World) (last : World) → IsRun limits history states last → (u t : ℕ) → Reaches (WaitsFor last) u t → leads_to last u t ≡ true }

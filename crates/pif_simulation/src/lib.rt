@@ -1,6 +1,6 @@
-//! The proof that each step of the table machine is an entry of the POSIX machine and keeps the invariant, and the
-//! laws over whole histories. The proof is in `proofs/`, and `pif_core` cites it; the functions here do nothing, and
-//! state laws in their contracts.
+//! The proof that each step of the table machine is an entry of the POSIX machine and keeps the invariant, and the laws
+//! over whole histories. The proof is in `proofs/`, and `pif_core` cites it; the functions here do nothing, and state
+//! laws in their contracts.
 #![tactic(auto)]
 
 mod laws;

@@ -5,17 +5,17 @@ use Rattle.std.specs.Str.{all_ascii_digits}
 use Rattle.std.proofs.lemmas.Bool.{and_parts, and_from, and_right}
 use Rattle.std.proofs.lemmas.Bool.Decides.{nat_tests}
 use Rattle.std.proofs.lemmas.Fmt.{digits_decimal, length-decimal-le}
-use Rattle.pif_types.specs.declared.errors.AddFault.TheVariants.{TooMany, BadPrio}
-use Rattle.pif_types.specs.declared.errors.Refusal.TheVariants.{Dead, Busy, Idle, NoSuch}
+use Rattle.pif_types.specs.declared.errors.AddFault.TheVariants as add_fault
+use Rattle.pif_types.specs.declared.errors.Refusal.TheVariants as refusal
 use Rattle.pif_types.specs.declared.requests.Kind.TheVariants.{Normal, ErrorCheck, Recursive}
 use Rattle.pif_types.specs.declared.requests.Request.{Request}
-use Rattle.pif_types.specs.declared.requests.Request.TheVariants.{Lock, TryLock, Unlock, Consistent, SetPrio}
+use Rattle.pif_types.specs.declared.requests.Request.TheVariants.{Lock, TryLock, Unlock, Consistent, Wait, Signal, Broadcast, SetPrio}
 use Rattle.pif_text.specs.declared.commands.Command.{Command}
-use Rattle.pif_text.specs.declared.commands.Command.TheVariants.{Limits, Thread, Mutex, Begin, Go, End, Call, Finish, Word, Health, Prio, Pick}
+use Rattle.pif_text.specs.declared.commands.Command.TheVariants.{Limits, Thread, Mutex, Cond, Begin, Go, End, Call, Finish, Word, Health, CondWord, Prio, Pick}
 use Rattle.pif_text.specs.declared.replies.Reply.{Reply}
 use Rattle.pif_text.specs.declared.replies.Reply.TheVariants as reply
 use Rattle.pif_text.specs.CommandTexts.{command_text, request_text, IsWritten, IsRequestWritten}
-use Rattle.pif_text.specs.Replies.{text_of, thread_name, mutex_name}
+use Rattle.pif_text.specs.Replies.{text_of, thread_name, mutex_name, cond_name}
 use Rattle.pif_text.specs.Traces.{IsTraced, parts_of, recorded}
 use Rattle.pif_text.proofs.Marks.{marked_here, unmarked_here, onto}
 use Rattle.pif_text.proofs.Numerals.{own}
@@ -85,6 +85,9 @@ plain-thread t small = plain-name 116 t refl refl small
 plain-mutex : (m : ℕ) → m < 4294967296 → IsPlain 11 (mutex_name m)
 plain-mutex m small = plain-name 109 m refl refl small
 
+plain-cond : (c : ℕ) → c < 4294967296 → IsPlain 11 (cond_name c)
+plain-cond c small = plain-name 99 c refl refl small
+
 space-plain : IsPlain 1 (codes " ")
 space-plain = record { no_end = refl; no_equals = refl; short = omega arith }
 
@@ -99,6 +102,15 @@ request-plain (Unlock m) r =
 request-plain (Consistent m) r =
     plain-more 22 30 _ (omega arith)
     (plain-append 11 11 (codes "consistent ") (mutex_name m) (record { no_end = refl; no_equals = refl; short = omega arith }) (plain-mutex m r.1))
+request-plain (Wait c m) r =
+    plain-more 28 30 _ (omega arith) (plain-append 17 11 (codes "wait " ++ cond_name c ++ codes " ") (mutex_name m)
+    (plain-append 16 1 (codes "wait " ++ cond_name c) (codes " ")
+    (plain-append 5 11 (codes "wait ") (cond_name c) (record { no_end = refl; no_equals = refl; short = omega arith }) (plain-cond c r.0.1)) space-plain)
+    (plain-mutex m r.1.1))
+request-plain (Signal c) r =
+    plain-more 18 30 _ (omega arith) (plain-append 7 11 (codes "signal ") (cond_name c) (record { no_end = refl; no_equals = refl; short = omega arith }) (plain-cond c r.1))
+request-plain (Broadcast c) r =
+    plain-more 21 30 _ (omega arith) (plain-append 10 11 (codes "broadcast ") (cond_name c) (record { no_end = refl; no_equals = refl; short = omega arith }) (plain-cond c r.1))
 request-plain (SetPrio t p) r =
     plain-append 20 10 (codes "setprio " ++ thread_name t ++ codes " ") (decimal p)
     (plain-append 19 1 (codes "setprio " ++ thread_name t) (codes " ")
@@ -122,6 +134,8 @@ command-plain (Mutex ErrorCheck false) r = record { no_end = refl; no_equals = r
 command-plain (Mutex ErrorCheck true) r = record { no_end = refl; no_equals = refl; short = omega arith }
 command-plain (Mutex Recursive false) r = record { no_end = refl; no_equals = refl; short = omega arith }
 command-plain (Mutex Recursive true) r = record { no_end = refl; no_equals = refl; short = omega arith }
+command-plain (Cond m) r =
+    plain-more 16 60 _ (omega arith) (plain-append 5 11 (codes "cond ") (mutex_name m) (record { no_end = refl; no_equals = refl; short = omega arith }) (plain-mutex m r.1))
 command-plain (Begin t q) r =
     plain-more 48 60 _ (omega arith) (plain-append 18 30 (codes "begin " ++ thread_name t ++ codes " ") (request_text q)
     (plain-append 17 1 (codes "begin " ++ thread_name t) (codes " ")
@@ -142,6 +156,8 @@ command-plain (Word m) r =
     plain-more 16 60 _ (omega arith) (plain-append 5 11 (codes "word ") (mutex_name m) (record { no_end = refl; no_equals = refl; short = omega arith }) (plain-mutex m r.1))
 command-plain (Health m) r =
     plain-more 18 60 _ (omega arith) (plain-append 7 11 (codes "health ") (mutex_name m) (record { no_end = refl; no_equals = refl; short = omega arith }) (plain-mutex m r.1))
+command-plain (CondWord c) r =
+    plain-more 20 60 _ (omega arith) (plain-append 9 11 (codes "condword ") (cond_name c) (record { no_end = refl; no_equals = refl; short = omega arith }) (plain-cond c r.1))
 command-plain (Prio t) r =
     plain-more 16 60 _ (omega arith) (plain-append 5 11 (codes "prio ") (thread_name t) (record { no_end = refl; no_equals = refl; short = omega arith }) (plain-thread t r.1))
 command-plain Pick r = record { no_end = refl; no_equals = refl; short = omega arith }
@@ -170,20 +186,23 @@ unfolding text_of
 reply-plain reply.Done r = record { no_end = refl; no_equals = refl; short = omega arith }
 reply-plain (reply.Thread t) r = plain-more 11 20 _ (omega arith) (plain-thread t r)
 reply-plain (reply.Mutex m) r = plain-more 11 20 _ (omega arith) (plain-mutex m r)
-reply-plain (reply.NotAdded TooMany) r = record { no_end = refl; no_equals = refl; short = omega arith }
-reply-plain (reply.NotAdded BadPrio) r = record { no_end = refl; no_equals = refl; short = omega arith }
+reply-plain (reply.Cond c) r = plain-more 11 20 _ (omega arith) (plain-cond c r)
+reply-plain (reply.NotAdded add_fault.TooMany) r = record { no_end = refl; no_equals = refl; short = omega arith }
+reply-plain (reply.NotAdded add_fault.BadPrio) r = record { no_end = refl; no_equals = refl; short = omega arith }
+reply-plain (reply.NotAdded add_fault.NoSuch) r = record { no_end = refl; no_equals = refl; short = omega arith }
 reply-plain reply.Begun r = record { no_end = refl; no_equals = refl; short = omega arith }
 reply-plain reply.Went r = record { no_end = refl; no_equals = refl; short = omega arith }
 reply-plain reply.Waits r = record { no_end = refl; no_equals = refl; short = omega arith }
 reply-plain (reply.Answer n) r =
     plain-more 17 20 _ (omega arith) (plain-append 7 10 (codes "answer ") (decimal n) (record { no_end = refl; no_equals = refl; short = omega arith }) (plain-number n r))
 reply-plain reply.Ended r = record { no_end = refl; no_equals = refl; short = omega arith }
-reply-plain (reply.Refused Dead) r = record { no_end = refl; no_equals = refl; short = omega arith }
-reply-plain (reply.Refused Busy) r = record { no_end = refl; no_equals = refl; short = omega arith }
-reply-plain (reply.Refused Idle) r = record { no_end = refl; no_equals = refl; short = omega arith }
-reply-plain (reply.Refused NoSuch) r = record { no_end = refl; no_equals = refl; short = omega arith }
+reply-plain (reply.Refused refusal.Dead) r = record { no_end = refl; no_equals = refl; short = omega arith }
+reply-plain (reply.Refused refusal.Busy) r = record { no_end = refl; no_equals = refl; short = omega arith }
+reply-plain (reply.Refused refusal.Idle) r = record { no_end = refl; no_equals = refl; short = omega arith }
+reply-plain (reply.Refused refusal.NoSuch) r = record { no_end = refl; no_equals = refl; short = omega arith }
 reply-plain (reply.Word value) r = absurd r
 reply-plain (reply.Health health) r = absurd r
+reply-plain (reply.Uses n) r = absurd r
 reply-plain (reply.Priority p) r = absurd r
 reply-plain reply.Dead r = absurd r
 reply-plain (reply.Picked thread) r = absurd r

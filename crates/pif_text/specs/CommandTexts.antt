@@ -3,10 +3,10 @@ use Rattle.std.specs.Prelude.{ℕ, ◌<◌, ◌≤◌, Bool, List, [], ◌++◌,
 use Rattle.pif_types.specs.declared.requests.Kind.{Kind}
 use Rattle.pif_types.specs.declared.requests.Kind.TheVariants.{Normal, ErrorCheck, Recursive}
 use Rattle.pif_types.specs.declared.requests.Request.{Request}
-use Rattle.pif_types.specs.declared.requests.Request.TheVariants.{Lock, TryLock, Unlock, Consistent, SetPrio}
+use Rattle.pif_types.specs.declared.requests.Request.TheVariants.{Lock, TryLock, Unlock, Consistent, Wait, Signal, Broadcast, SetPrio}
 use Rattle.pif_text.specs.declared.commands.Command.{Command}
-use Rattle.pif_text.specs.declared.commands.Command.TheVariants.{Limits, Thread, Mutex, Begin, Go, End, Call, Finish, Word, Health, Prio, Pick}
-use Rattle.pif_text.specs.Replies.{thread_name, mutex_name}
+use Rattle.pif_text.specs.declared.commands.Command.TheVariants.{Limits, Thread, Mutex, Cond, Begin, Go, End, Call, Finish, Word, Health, CondWord, Prio, Pick}
+use Rattle.pif_text.specs.Replies.{thread_name, mutex_name, cond_name}
 
 -- The type of a mutex, in one word.
 abbrev pub kind_word : Kind → List ℕ
@@ -24,6 +24,9 @@ request_text (Lock m) = codes "lock " ++ mutex_name m
 request_text (TryLock m) = codes "trylock " ++ mutex_name m
 request_text (Unlock m) = codes "unlock " ++ mutex_name m
 request_text (Consistent m) = codes "consistent " ++ mutex_name m
+request_text (Wait c m) = codes "wait " ++ cond_name c ++ codes " " ++ mutex_name m
+request_text (Signal c) = codes "signal " ++ cond_name c
+request_text (Broadcast c) = codes "broadcast " ++ cond_name c
 request_text (SetPrio t p) = codes "setprio " ++ thread_name t ++ codes " " ++ decimal p
 
 -- The text of a command, without a line feed: the words by which a line asks for it, with one space between them.
@@ -32,6 +35,7 @@ command_text (Limits t m c s) =
     codes "limits " ++ decimal t ++ codes " " ++ decimal m ++ codes " " ++ decimal c ++ codes " " ++ decimal s
 command_text (Thread p) = codes "thread " ++ decimal p
 command_text (Mutex k robust) = mutex_text k robust
+command_text (Cond m) = codes "cond " ++ mutex_name m
 command_text (Begin t q) = codes "begin " ++ thread_name t ++ codes " " ++ request_text q
 command_text (Go t) = codes "go " ++ thread_name t
 command_text (End t) = codes "end " ++ thread_name t
@@ -39,6 +43,7 @@ command_text (Call t q) = codes "call " ++ thread_name t ++ codes " " ++ request
 command_text (Finish t) = codes "finish " ++ thread_name t
 command_text (Word m) = codes "word " ++ mutex_name m
 command_text (Health m) = codes "health " ++ mutex_name m
+command_text (CondWord c) = codes "condword " ++ cond_name c
 command_text (Prio t) = codes "prio " ++ thread_name t
 command_text Pick = codes "pick"
 
@@ -46,7 +51,7 @@ command_text Pick = codes "pick"
 abbrev pub IsNumber : ℕ → Type 0
 IsNumber n = n < 4294967296
 
--- A number of a thread or a mutex that a line can name.
+-- A number of a thread, a mutex or a condition variable that a line can name.
 abbrev pub IsName : ℕ → Type 0
 IsName n = (1 ≤ n) × (n < 4294967296)
 
@@ -56,6 +61,9 @@ IsRequestWritten (Lock m) = IsName m
 IsRequestWritten (TryLock m) = IsName m
 IsRequestWritten (Unlock m) = IsName m
 IsRequestWritten (Consistent m) = IsName m
+IsRequestWritten (Wait c m) = IsName c × IsName m
+IsRequestWritten (Signal c) = IsName c
+IsRequestWritten (Broadcast c) = IsName c
 IsRequestWritten (SetPrio t p) = IsName t × IsNumber p
 
 -- A command whose numbers a line can write.
@@ -63,6 +71,7 @@ abbrev pub IsWritten : Command → Type 0
 IsWritten (Limits t m c s) = IsNumber t × IsNumber m × IsNumber c × IsNumber s
 IsWritten (Thread p) = IsNumber p
 IsWritten (Mutex k robust) = Unit {0}
+IsWritten (Cond m) = IsName m
 IsWritten (Begin t q) = IsName t × IsRequestWritten q
 IsWritten (Go t) = IsName t
 IsWritten (End t) = IsName t
@@ -70,5 +79,6 @@ IsWritten (Call t q) = IsName t × IsRequestWritten q
 IsWritten (Finish t) = IsName t
 IsWritten (Word m) = IsName m
 IsWritten (Health m) = IsName m
+IsWritten (CondWord c) = IsName c
 IsWritten (Prio t) = IsName t
 IsWritten Pick = Unit {0}

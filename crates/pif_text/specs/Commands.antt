@@ -3,10 +3,10 @@ use Rattle.std.specs.Prelude.{ℕ, true, false, ◌&&◌, List, [], ◌∷◌, O
 use Rattle.pif_types.specs.declared.requests.Kind.{Kind}
 use Rattle.pif_types.specs.declared.requests.Kind.TheVariants.{Normal, ErrorCheck, Recursive}
 use Rattle.pif_types.specs.declared.requests.Request.{Request}
-use Rattle.pif_types.specs.declared.requests.Request.TheVariants.{Lock, TryLock, Unlock, Consistent, SetPrio}
+use Rattle.pif_types.specs.declared.requests.Request.TheVariants.{Lock, TryLock, Unlock, Consistent, Wait, Signal, Broadcast, SetPrio}
 use Rattle.pif_text.specs.declared.commands.Command.{Command}
-use Rattle.pif_text.specs.declared.commands.Command.TheVariants.{Limits, Thread, Mutex, Begin, Go, End, Call, Finish, Word, Health, Prio, Pick}
-use Rattle.pif_text.specs.Numbers.{number_in, thread_in, mutex_in}
+use Rattle.pif_text.specs.declared.commands.Command.TheVariants.{Limits, Thread, Mutex, Cond, Begin, Go, End, Call, Finish, Word, Health, CondWord, Prio, Pick}
+use Rattle.pif_text.specs.Numbers.{number_in, thread_in, mutex_in, cond_in}
 use Rattle.pif_text.specs.Words.{words}
 
 infixl 10 ◌>>=◌
@@ -23,22 +23,28 @@ kind_in word =
     else if bytes_eq word (codes "recursive") then Some Recursive
     else None
 
--- A request of two words: `lock mN`, `trylock mN`, `unlock mN` or `consistent mN`.
+-- A request of two words: `lock mN`, `trylock mN`, `unlock mN`, `consistent mN`, `signal cN` or `broadcast cN`.
 unfoldable pub request_in : List ℕ → List ℕ → Option Request
-request_in call mutex =
-    if bytes_eq call (codes "lock") then option_map Lock (mutex_in mutex)
-    else if bytes_eq call (codes "trylock") then option_map TryLock (mutex_in mutex)
-    else if bytes_eq call (codes "unlock") then option_map Unlock (mutex_in mutex)
-    else if bytes_eq call (codes "consistent") then option_map Consistent (mutex_in mutex)
+request_in call word =
+    if bytes_eq call (codes "lock") then option_map Lock (mutex_in word)
+    else if bytes_eq call (codes "trylock") then option_map TryLock (mutex_in word)
+    else if bytes_eq call (codes "unlock") then option_map Unlock (mutex_in word)
+    else if bytes_eq call (codes "consistent") then option_map Consistent (mutex_in word)
+    else if bytes_eq call (codes "signal") then option_map Signal (cond_in word)
+    else if bytes_eq call (codes "broadcast") then option_map Broadcast (cond_in word)
     else None
 
--- A request of three words: `setprio tN P`.
+-- A request of three words: `setprio tN P` or `wait cN mN`.
 unfoldable pub request_in_three : List ℕ → List ℕ → List ℕ → Option Request
-request_in_three call thread priority =
+request_in_three call first second =
     if bytes_eq call (codes "setprio") then (do
-      t ← thread_in thread
-      p ← number_in priority
+      t ← thread_in first
+      p ← number_in second
       Some (SetPrio t p))
+    else if bytes_eq call (codes "wait") then (do
+      c ← cond_in first
+      m ← mutex_in second
+      Some (Wait c m))
     else None
 
 -- A command of one word: `pick`.
@@ -47,7 +53,8 @@ command_of_one name =
     if bytes_eq name (codes "pick") then Some Pick
     else None
 
--- A command of two words: `thread P`, `mutex K`, `go tN`, `end tN`, `finish tN`, `word mN`, `health mN` or `prio tN`.
+-- A command of two words: `thread P`, `mutex K`, `cond mN`, `go tN`, `end tN`, `finish tN`, `word mN`, `health mN`,
+-- `condword cN` or `prio tN`.
 unfoldable pub command_of_two : List ℕ → List ℕ → Option Command
 command_of_two name word =
     if bytes_eq name (codes "go") then option_map Go (thread_in word)
@@ -58,6 +65,8 @@ command_of_two name word =
     else if bytes_eq name (codes "finish") then option_map Finish (thread_in word)
     else if bytes_eq name (codes "thread") then option_map Thread (number_in word)
     else if bytes_eq name (codes "mutex") then option_map (λ kind. Mutex kind false) (kind_in word)
+    else if bytes_eq name (codes "cond") then option_map Cond (mutex_in word)
+    else if bytes_eq name (codes "condword") then option_map CondWord (cond_in word)
     else None
 
 -- A command of three words: `mutex K robust`.
@@ -68,14 +77,14 @@ command_of_three name word last =
 
 -- A command of four words: `call tN Q` or `begin tN Q`, for a request Q of two words.
 unfoldable pub command_of_four : List ℕ → List ℕ → List ℕ → List ℕ → Option Command
-command_of_four name thread call mutex =
+command_of_four name thread call word =
     if bytes_eq name (codes "call") then (do
       t ← thread_in thread
-      q ← request_in call mutex
+      q ← request_in call word
       Some (Call t q))
     else if bytes_eq name (codes "begin") then (do
       t ← thread_in thread
-      q ← request_in call mutex
+      q ← request_in call word
       Some (Begin t q))
     else None
 

@@ -1,4 +1,4 @@
--- Numbers and names of threads and mutexes, as scripts and traces write them.
+-- Numbers, and the names of threads, mutexes and condition variables, as scripts and traces write them.
 use Rattle.std.specs.Prelude.{ℕ, ◌/◌, ◌%◌, zero, suc, Bool, false, not, ◌&&◌, ◌==◌, nat_lt, if◌then◌else◌, List, [], ◌∷◌, ◌++◌, Option, Some, None, option_and_then}
 use Rattle.std.specs.Char.{is_ascii_digit}
 use Rattle.std.specs.Str.{all_ascii_digits}
@@ -35,6 +35,10 @@ thread_in word = name_in 116 word
 -- The number of the mutex that a word names, as `m1`.
 unfoldable pub mutex_in : List ℕ → Option ℕ
 mutex_in word = name_in 109 word
+
+-- The number of the condition variable that a word names, as `c1`.
+unfoldable pub cond_in : List ℕ → Option ℕ
+cond_in word = name_in 99 word
 
 -- The last hexadecimal digits of n, so many of them, the highest first and in lower case.
 unfoldable pub hex_digits : ℕ → ℕ → List ℕ

@@ -1,7 +1,7 @@
 -- The lines of traces.
 use Rattle.std.specs.Prelude.{ℕ, ◌==◌, ◌&&◌, Bool, List, [], ◌∷◌, ◌++◌, drop, take, Option, Some, None, option_map, if◌then◌else◌, bytes_eq, codes, decimal}
 use Rattle.pif_text.specs.declared.replies.Reply.{Reply}
-use Rattle.pif_text.specs.declared.replies.Reply.TheVariants.{Done, Thread, Mutex, NotAdded, Begun, Went, Waits, Answer, Ended, Refused, Word, Health, Priority, Dead, Picked}
+use Rattle.pif_text.specs.declared.replies.Reply.TheVariants.{Done, Thread, Mutex, Cond, NotAdded, Begun, Went, Waits, Answer, Ended, Refused, Word, Health, Uses, Priority, Dead, Picked}
 use Rattle.pif_text.specs.CommandTexts.{IsNumber}
 use Rattle.pif_text.specs.Replies.{text_of}
 
@@ -42,6 +42,7 @@ abbrev pub IsTraced : Reply → Type 0
 IsTraced Done = Unit {0}
 IsTraced (Thread t) = IsNumber t
 IsTraced (Mutex m) = IsNumber m
+IsTraced (Cond c) = IsNumber c
 IsTraced (NotAdded fault) = Unit {0}
 IsTraced Begun = Unit {0}
 IsTraced Went = Unit {0}
@@ -51,6 +52,7 @@ IsTraced Ended = Unit {0}
 IsTraced (Refused refusal) = Unit {0}
 IsTraced (Word value) = ⊥
 IsTraced (Health health) = ⊥
+IsTraced (Uses n) = ⊥
 IsTraced (Priority p) = ⊥
 IsTraced Dead = ⊥
 IsTraced (Picked thread) = ⊥

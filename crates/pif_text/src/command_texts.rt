@@ -4,7 +4,7 @@ ghost use Rattle.pif_text.specs.Commands.{command_in};
 ghost use Rattle.pif_text.specs.CommandTexts.{IsWritten, command_text, kind_word, mutex_text, request_text};
 ghost use Rattle.pif_text.specs.Replies.{thread_name, mutex_name};
 
-use crate::writing::{append, append_decimal, append_mutex, append_thread};
+use crate::writing::{append, append_cond, append_decimal, append_mutex, append_thread};
 use crate::{Command, TEXT_ROOM, Text};
 use pif_types::{Kind, Request, Tid};
 
@@ -61,6 +61,20 @@ fn append_request(out: &mut Text, request: Request)
             append(out, b"consistent ");
             append_mutex(out, mutex);
         }
+        Request::Wait(cond, mutex) => {
+            append(out, b"wait ");
+            append_cond(out, cond);
+            append(out, b" ");
+            append_mutex(out, mutex);
+        }
+        Request::Signal(cond) => {
+            append(out, b"signal ");
+            append_cond(out, cond);
+        }
+        Request::Broadcast(cond) => {
+            append(out, b"broadcast ");
+            append_cond(out, cond);
+        }
         Request::SetPrio(thread, priority) => {
             append(out, b"setprio ");
             append_thread(out, thread);
@@ -115,6 +129,10 @@ pub fn command_text(command: Command, out: &mut Text)
             append_decimal(out, u64::from(priority));
         }
         Command::Mutex(kind, robust) => mutex_text(kind, robust, out),
+        Command::Cond(mutex) => {
+            append(out, b"cond ");
+            append_mutex(out, mutex);
+        }
         Command::Begin(thread, request) => {
             append(out, b"begin ");
             append_call(out, thread, request);
@@ -142,6 +160,10 @@ pub fn command_text(command: Command, out: &mut Text)
         Command::Health(mutex) => {
             append(out, b"health ");
             append_mutex(out, mutex);
+        }
+        Command::CondWord(cond) => {
+            append(out, b"condword ");
+            append_cond(out, cond);
         }
         Command::Prio(thread) => {
             append(out, b"prio ");

@@ -1,7 +1,7 @@
 ghost use Rattle.std.specs.Prelude.{◌≡◌, ℕ, ◌<◌, decimal};
-ghost use Rattle.pif_text.specs.Numbers.{value_in, number_in, thread_in, mutex_in};
+ghost use Rattle.pif_text.specs.Numbers.{value_in, number_in, thread_in, mutex_in, cond_in};
 
-use pif_types::{MutexId, Tid};
+use pif_types::{CondId, MutexId, Tid};
 
 /// The number below 2 ^ 32 that decimal digits write, zeros in front of it or not.
 fn value_of(digits: &[u8]) -> Option<u32>
@@ -49,6 +49,17 @@ pub fn mutex_of(word: &[u8]) -> Option<MutexId>
 {
     match word {
         [b'm', digits @ ..] => MutexId::new(number_of(digits)?),
+        _ => None,
+    }
+}
+
+/// The condition variable that a word names.
+#[tactic(auto, unfolding(crate::specs::Numbers::cond_in))]
+pub fn cond_of(word: &[u8]) -> Option<CondId>
+    ensures { result ≡ cond_in word.now }
+{
+    match word {
+        [b'c', digits @ ..] => CondId::new(number_of(digits)?),
         _ => None,
     }
 }

@@ -3,7 +3,7 @@ ghost use Rattle.pif_text.specs.Words.{words};
 ghost use Rattle.pif_text.specs.Commands.{kind_in, request_in, request_in_three, command_of_one, command_of_two, command_of_three, command_of_four, command_of_five, command_of_words, command_in};
 
 use crate::Command;
-use crate::numbers::{mutex_of, number_of, thread_of};
+use crate::numbers::{cond_of, mutex_of, number_of, thread_of};
 use crate::words::split_first;
 use pif_types::{Kind, Request};
 
@@ -25,18 +25,21 @@ fn kind_of(word: &[u8]) -> Option<Kind>
 
 /// The request that two words write.
 #[tactic(auto, unfolding(crate::specs::Commands::request_in))]
-fn request_of(call: &[u8], mutex: &[u8]) -> Option<Request>
-    ensures { result ≡ request_in call.now mutex.now }
+fn request_of(call: &[u8], word: &[u8]) -> Option<Request>
+    ensures { result ≡ request_in call.now word.now }
 {
-    let mutex = mutex_of(mutex)?;
     if call == b"lock".as_slice() {
-        Some(Request::Lock(mutex))
+        Some(Request::Lock(mutex_of(word)?))
     } else if call == b"trylock".as_slice() {
-        Some(Request::TryLock(mutex))
+        Some(Request::TryLock(mutex_of(word)?))
     } else if call == b"unlock".as_slice() {
-        Some(Request::Unlock(mutex))
+        Some(Request::Unlock(mutex_of(word)?))
     } else if call == b"consistent".as_slice() {
-        Some(Request::Consistent(mutex))
+        Some(Request::Consistent(mutex_of(word)?))
+    } else if call == b"signal".as_slice() {
+        Some(Request::Signal(cond_of(word)?))
+    } else if call == b"broadcast".as_slice() {
+        Some(Request::Broadcast(cond_of(word)?))
     } else {
         None
     }
@@ -44,11 +47,13 @@ fn request_of(call: &[u8], mutex: &[u8]) -> Option<Request>
 
 /// The request that three words write.
 #[tactic(auto, unfolding(crate::specs::Commands::request_in_three))]
-fn request_of_three(call: &[u8], thread: &[u8], priority: &[u8]) -> Option<Request>
-    ensures { result ≡ request_in_three call.now thread.now priority.now }
+fn request_of_three(call: &[u8], first: &[u8], second: &[u8]) -> Option<Request>
+    ensures { result ≡ request_in_three call.now first.now second.now }
 {
     if call == b"setprio".as_slice() {
-        Some(Request::SetPrio(thread_of(thread)?, number_of(priority)?))
+        Some(Request::SetPrio(thread_of(first)?, number_of(second)?))
+    } else if call == b"wait".as_slice() {
+        Some(Request::Wait(cond_of(first)?, mutex_of(second)?))
     } else {
         None
     }
@@ -87,6 +92,10 @@ fn of_two(name: &[u8], word: &[u8]) -> Option<Command>
         Some(Command::Thread(number_of(word)?))
     } else if name == b"mutex".as_slice() {
         Some(Command::Mutex(kind_of(word)?, false))
+    } else if name == b"cond".as_slice() {
+        Some(Command::Cond(mutex_of(word)?))
+    } else if name == b"condword".as_slice() {
+        Some(Command::CondWord(cond_of(word)?))
     } else {
         None
     }
@@ -106,13 +115,13 @@ fn of_three(name: &[u8], kind: &[u8], last: &[u8]) -> Option<Command>
 
 /// The command of four words.
 #[tactic(auto, unfolding(crate::specs::Commands::command_of_four))]
-fn of_four(name: &[u8], thread: &[u8], call: &[u8], mutex: &[u8]) -> Option<Command>
-    ensures { result ≡ command_of_four name.now thread.now call.now mutex.now }
+fn of_four(name: &[u8], thread: &[u8], call: &[u8], word: &[u8]) -> Option<Command>
+    ensures { result ≡ command_of_four name.now thread.now call.now word.now }
 {
     if name == b"call".as_slice() {
-        Some(Command::Call(thread_of(thread)?, request_of(call, mutex)?))
+        Some(Command::Call(thread_of(thread)?, request_of(call, word)?))
     } else if name == b"begin".as_slice() {
-        Some(Command::Begin(thread_of(thread)?, request_of(call, mutex)?))
+        Some(Command::Begin(thread_of(thread)?, request_of(call, word)?))
     } else {
         None
     }

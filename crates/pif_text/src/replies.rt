@@ -1,4 +1,4 @@
-use pif_types::{AddFault, Answer, Health, MutexId, Prio, Refusal, Tid};
+use pif_types::{AddFault, Answer, CondId, Health, MutexId, Prio, Refusal, Tid};
 
 /// What a command is answered.
 #[derive(Clone, Copy, PartialEq, Eq)]
@@ -9,7 +9,9 @@ pub enum Reply {
     Thread(Tid),
     /// `mN`: the number of the mutex that was added.
     Mutex(MutexId),
-    /// `refused toomany` or `refused badprio`: nothing was added.
+    /// `cN`: the number of the condition variable that was added.
+    Cond(CondId),
+    /// `refused toomany`, `refused badprio` or `refused nosuch`: nothing was added.
     NotAdded(AddFault),
     /// `begun`: the call has begun.
     Begun,
@@ -27,6 +29,8 @@ pub enum Reply {
     Word(u32),
     /// `fine`, `inconsistent` or `unusable`: what is known of the state that a mutex protects.
     Health(Health),
+    /// The number alone: how often a condition variable was used.
+    Uses(u32),
     /// The number alone: the priority that a thread runs at.
     Priority(Prio),
     /// `dead`: the thread whose priority was asked for has ended.

@@ -3,7 +3,7 @@ use crate::{
     fault_text, header_text, mutex_text, number_reads_back, recorded_text, reply_text, same_text,
     split_answer,
 };
-use pif_types::{AddFault, Health, Kind, MutexId, Prio, Refusal, Request, Tid};
+use pif_types::{AddFault, CondId, Health, Kind, MutexId, Prio, Refusal, Request, Tid};
 use std::process::Abort;
 use std::test::Fail;
 
@@ -75,6 +75,47 @@ fn lines_of_each_command_are_read(rt: HostRuntime) -> Result<(), Fail> {
 }
 
 #[test]
+fn lines_of_condition_variables_are_read(rt: HostRuntime) -> Result<(), Fail> {
+    let thread = Tid::new(3).ok_or("thread")?;
+    let mutex = MutexId::new(10).ok_or("mutex")?;
+    let cond = CondId::new(256).ok_or("cond")?;
+    let last = CondId::new(u32::MAX).ok_or("last")?;
+    let lines = [
+        (b"cond m10".as_slice(), Command::Cond(mutex)),
+        (b"condword c256", Command::CondWord(cond)),
+        (b"condword c4294967295", Command::CondWord(last)),
+        (
+            b"begin t3 wait c256 m10",
+            Command::Begin(thread, Request::Wait(cond, mutex)),
+        ),
+        (
+            b"call t3 wait c256 m10",
+            Command::Call(thread, Request::Wait(cond, mutex)),
+        ),
+        (
+            b"begin t3 signal c256",
+            Command::Begin(thread, Request::Signal(cond)),
+        ),
+        (
+            b"call t3 signal c256",
+            Command::Call(thread, Request::Signal(cond)),
+        ),
+        (
+            b"begin t3 broadcast c256",
+            Command::Begin(thread, Request::Broadcast(cond)),
+        ),
+        (
+            b"call t3 broadcast c256",
+            Command::Call(thread, Request::Broadcast(cond)),
+        ),
+    ];
+    for (line, command) in lines {
+        assert!(rt; command_of(line) == Some(command), "{line:?}");
+    }
+    Ok(())
+}
+
+#[test]
 fn other_lines_are_no_command(rt: HostRuntime) -> Result<(), Fail> {
     let lines = [
         b"".as_slice(),
@@ -131,6 +172,43 @@ fn other_lines_are_no_command(rt: HostRuntime) -> Result<(), Fail> {
 }
 
 #[test]
+fn other_lines_of_condition_variables_are_no_command(rt: HostRuntime) -> Result<(), Fail> {
+    let lines = [
+        b"cond".as_slice(),
+        b"cond c1",
+        b"cond m0",
+        b"cond m1 robust",
+        b"cond m1 m1",
+        b"Cond m1",
+        b"condword",
+        b"condword m1",
+        b"condword c0",
+        b"condword c01",
+        b"condword c4294967296",
+        b"word c1",
+        b"begin t1 wait",
+        b"begin t1 wait c1",
+        b"begin t1 wait m1",
+        b"call t1 wait m1 c1",
+        b"call t1 wait c1  m1",
+        b"call t1 wait c1 m1 5",
+        b"call t1 signal",
+        b"call t1 signal m1",
+        b"call t1 signal c1 m1",
+        b"begin t1 broadcast t1",
+        b"begin t1 broadcast c1 c2",
+        b"call t1 lock c1",
+        b"call t1 setprio c1 30",
+        b"signal c1",
+        b"wait c1 m1",
+    ];
+    for line in lines {
+        assert!(rt; command_of(line).is_none(), "{line:?}");
+    }
+    Ok(())
+}
+
+#[test]
 fn replies_are_written(rt: HostRuntime) -> Result<(), Fail> {
     check_replies(&rt, &mut Text::new())
 }
@@ -141,8 +219,10 @@ fn check_replies(rt: &impl Abort, out: &mut Text) -> Result<(), Fail> {
         (Reply::Done, b"ok".as_slice()),
         (Reply::Thread(thread), b"t3"),
         (Reply::Mutex(MutexId::new(1).ok_or("mutex")?), b"m1"),
+        (Reply::Cond(CondId::new(2).ok_or("cond")?), b"c2"),
         (Reply::NotAdded(AddFault::BadPrio), b"refused badprio"),
         (Reply::NotAdded(AddFault::TooMany), b"refused toomany"),
+        (Reply::NotAdded(AddFault::NoSuch), b"refused nosuch"),
         (Reply::Begun, b"begun"),
         (Reply::Went, b"went"),
         (Reply::Waits, b"waits"),
@@ -157,6 +237,8 @@ fn check_replies(rt: &impl Abort, out: &mut Text) -> Result<(), Fail> {
         (Reply::Health(Health::Fine), b"fine"),
         (Reply::Health(Health::Inconsistent), b"inconsistent"),
         (Reply::Health(Health::Unusable), b"unusable"),
+        (Reply::Uses(0), b"0"),
+        (Reply::Uses(u32::MAX), b"4294967295"),
         (Reply::Priority(Prio::new(99).ok_or("priority")?), b"99"),
         (Reply::Dead, b"dead"),
         (Reply::Picked(Some(thread)), b"t3"),
@@ -208,6 +290,11 @@ fn check_commands(rt: &impl Abort, out: &mut Text) -> Result<(), Fail> {
         b"begin t3 unlock m10",
         b"begin t3 consistent m10",
         b"begin t3 setprio t4294967295 0",
+        b"cond m10",
+        b"begin t3 wait c256 m10",
+        b"begin t3 signal c256",
+        b"begin t3 broadcast c256",
+        b"condword c256",
         b"go t3",
         b"end t3",
         b"call t3 lock m10",

@@ -59,8 +59,8 @@ pub fn same_text(lines: u64, out: &mut Text)
     append_decimal(out, lines);
 }
 
-/// Appends `differs N X`, the first difference of a trace: at this line, counted from 1, the answer is `reply`. There is
-/// no line feed, and it is at most `VERDICT_ROOM` bytes. What stands in `out` stays.
+/// Appends `differs N X`, the first difference of a trace: at this line, counted from 1, the answer is `reply`. There
+/// is no line feed, and it is at most `VERDICT_ROOM` bytes. What stands in `out` stays.
 #[tactic(auto, unfolding(crate::specs::Traces::differs_of))]
 pub fn differs_text(line_number: u64, reply: Reply, out: &mut Text)
     requires { array_vec_len out.old + VERDICT_ROOM ≤ TEXT_ROOM }

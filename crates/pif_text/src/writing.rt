@@ -2,11 +2,11 @@ ghost use Rattle.std.specs.Prelude.{◌≡◌, ◌+◌, ◌≤◌, ◌<◌, ◌+
 ghost use Rattle.arrayvec.specs.ArrayVec.{array_vec_len};
 ghost use Rattle.std.specs.Fmt.{digit_glyph};
 ghost use Rattle.pif_text.specs.Numbers.{hex_digits};
-ghost use Rattle.pif_text.specs.Replies.{text_of, fault_of, add_fault_word, refusal_word, health_word, thread_name, mutex_name, picked_text, cause_word};
+ghost use Rattle.pif_text.specs.Replies.{text_of, fault_of, add_fault_word, refusal_word, health_word, thread_name, mutex_name, cond_name, picked_text, cause_word};
 
 use crate::{Cause, Reply, TEXT_ROOM, Text};
 use itoa::Buffer;
-use pif_types::{AddFault, Answer, Health, MutexId, Refusal, Tid};
+use pif_types::{AddFault, Answer, CondId, Health, MutexId, Refusal, Tid};
 
 /// How many bytes of room `reply_text` and `fault_text` ask for: no text is longer.
 pub const REPLY_ROOM: usize = 40;
@@ -47,6 +47,16 @@ pub fn append_mutex(out: &mut Text, mutex: MutexId)
 {
     append(out, b"m");
     append_decimal(out, u64::from(mutex.get()));
+}
+
+/// Appends the name of a condition variable.
+pub fn append_cond(out: &mut Text, cond: CondId)
+    requires { array_vec_len out.old + 21 ≤ TEXT_ROOM }
+    ensures items { out.new.items ≡ out.old.items ++ cond_name cond }
+    ensures len { length (cond_name cond) ≤ 21 }
+{
+    append(out, b"c");
+    append_decimal(out, u64::from(cond.get()));
 }
 
 /// Appends what a call is answered.
@@ -113,6 +123,7 @@ fn add_fault_of(fault: AddFault) -> &'static [u8]
     match fault {
         AddFault::TooMany => b"toomany",
         AddFault::BadPrio => b"badprio",
+        AddFault::NoSuch => b"nosuch",
     }
 }
 
@@ -188,6 +199,7 @@ pub fn reply_text(reply: Reply, out: &mut Text)
         Reply::Done => append(out, b"ok"),
         Reply::Thread(thread) => append_thread(out, thread),
         Reply::Mutex(mutex) => append_mutex(out, mutex),
+        Reply::Cond(cond) => append_cond(out, cond),
         Reply::NotAdded(fault) => append_refused(out, add_fault_of(fault)),
         Reply::Begun => append(out, b"begun"),
         Reply::Went => append(out, b"went"),
@@ -197,6 +209,7 @@ pub fn reply_text(reply: Reply, out: &mut Text)
         Reply::Refused(refusal) => append_refused(out, refusal_of(refusal)),
         Reply::Word(value) => append_hex(out, value),
         Reply::Health(health) => append(out, health_of(health)),
+        Reply::Uses(uses) => append_decimal(out, u64::from(uses)),
         Reply::Priority(priority) => append_decimal(out, u64::from(priority.get())),
         Reply::Dead => append(out, b"dead"),
         Reply::Picked(thread) => append_picked(out, thread),

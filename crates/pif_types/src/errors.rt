@@ -79,6 +79,9 @@ pub enum AddFault {
     /// The priority is outside 1 to 99.
     #[error("bad priority")]
     BadPrio,
+    /// The mutex to which a variable is to be bound doesn't exist.
+    #[error("no such mutex")]
+    NoSuch,
 }
 
 /// Why an event was refused. Nothing has changed.
@@ -93,7 +96,7 @@ pub enum Refusal {
     /// The thread has no call open.
     #[error("idle")]
     Idle,
-    /// The thread was never added, or the request names a mutex that doesn't exist.
-    #[error("no such thread or mutex")]
+    /// The thread was never added, or the request names a mutex or a variable that doesn't exist.
+    #[error("no such thread, mutex or variable")]
     NoSuch,
 }

@@ -1,5 +1,5 @@
-//! The numbers, kinds, requests, limits and errors that all crates of this workspace share, and lists whose room is taken
-//! once.
+//! The numbers, kinds, requests, limits and errors that all crates of this workspace share, and lists whose room is
+//! taken once.
 //!
 //! | Type | Its number |
 //! |---|---|

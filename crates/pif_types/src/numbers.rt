@@ -2,8 +2,8 @@ ghost use Rattle.std.specs.Prelude.{◌≡◌, ℕ, ◌≤◌, ◌↔◌, IsSome
 
 use std::marker::Model;
 
-/// The number of a thread. Threads are numbered from 1 in the order in which they are added, and a number is
-/// never used again; it is the number that futex(2) keeps in a word (a thread identifier).
+/// The number of a thread. Threads are numbered from 1 in the order in which they are added, and a number is never used
+/// again; it is the number that futex(2) keeps in a word (a thread identifier).
 #[derive(Clone, Copy, Debug, PartialEq, Eq, Hash, PartialOrd, Ord)]
 pub struct Tid {
     thread: u32,

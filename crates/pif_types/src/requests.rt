@@ -1,4 +1,4 @@
-use crate::{MutexId, Tid};
+use crate::{CondId, MutexId, Tid};
 
 /// The type of a mutex, as pthread_mutexattr_settype has it. PTHREAD_MUTEX_DEFAULT is `Normal`.
 #[derive(Clone, Copy, Debug, PartialEq, Eq, Hash)]
@@ -35,10 +35,20 @@ pub enum Request {
     TryLock(MutexId),
     /// pthread_mutex_unlock
     Unlock(MutexId),
-    /// pthread_mutex_consistent: the caller, who owns the robust mutex in an inconsistent state, says that what it protects
-    /// is in order again. A mutex that isn't robust is answered EINVAL, then one that the caller doesn't own EPERM, then one
-    /// that isn't inconsistent EINVAL.
+    /// pthread_mutex_consistent: the caller, who owns the robust mutex in an inconsistent state, says that what it
+    /// protects is in order again. A mutex that isn't robust is answered EINVAL, then one that the caller doesn't own
+    /// EPERM, then one that isn't inconsistent EINVAL.
     Consistent(MutexId),
+    /// pthread_cond_wait: gives the mutex up, waits until the variable is signalled, and locks the mutex again. A mutex
+    /// to which the variable isn't bound is answered EINVAL, then one that the caller doesn't own EPERM, then one that
+    /// the caller holds more than once EINVAL. Where the mutex can't be locked again the answer is EDEADLK or
+    /// ENOTRECOVERABLE, as that of a lock, and the caller doesn't hold it.
+    Wait(CondId, MutexId),
+    /// pthread_cond_signal: wakes one of the threads that wait on the variable, if there is one. It is answered
+    /// EOVERFLOW where the variable has had all the signals and broadcasts that its limit allows.
+    Signal(CondId),
+    /// pthread_cond_broadcast: wakes all threads that wait on the variable. It is answered EOVERFLOW as a signal is.
+    Broadcast(CondId),
     /// pthread_setschedprio: gives this thread this base priority, which may be out of range.
     SetPrio(Tid, u32),
 }

@@ -3,7 +3,8 @@ ghost use Rattle.std.specs.Prelude.{◌≡◌, ◌<◌, ◌≤◌, ◌+◌, ◌+
 use crate::errors::NoMemory;
 use std::alloc::Global;
 
-/// An empty list with room for `count` items. It takes one piece of memory, and answers `NoMemory` where that is refused.
+/// An empty list with room for `count` items. It takes one piece of memory, and answers `NoMemory` where that is
+/// refused.
 pub fn with_room<T: Drop>(alloc: Global, count: usize) -> Result<Vec<T>, NoMemory>
     ensures items { IfOk result (λ v. v.items ≡ []) }
     ensures len { IfOk result (λ v. vec_len v ≡ 0) }

@@ -76,9 +76,15 @@ fn other_errors_say_what_they_are(rt: HostRuntime) -> Result<(), Fail> {
     let alloc = rt.alloc();
     check_printed(&rt, alloc, &AddFault::TooMany, "too many")?;
     check_printed(&rt, alloc, &AddFault::BadPrio, "bad priority")?;
+    check_printed(&rt, alloc, &AddFault::NoSuch, "no such mutex")?;
     check_printed(&rt, alloc, &Refusal::Busy, "busy")?;
     check_printed(&rt, alloc, &Refusal::Idle, "idle")?;
-    check_printed(&rt, alloc, &Refusal::NoSuch, "no such thread or mutex")?;
+    check_printed(
+        &rt,
+        alloc,
+        &Refusal::NoSuch,
+        "no such thread, mutex or variable",
+    )?;
     check_printed(&rt, alloc, &NoMemory, "out of memory")
 }
 

@@ -1,5 +1,5 @@
 -- What the bits of a word say: bits and words are each other's, and what `|` and `&` of the flags make of a word.
-use Rattle.std.proofs.Common.{◌≡◌, ℕ, zero, suc, ◌+◌, ◌*◌, ◌/◌, ◌%◌, ◌<◌, Bool, true, false, not, ◌==◌, refl, sym, ap, ◌∙◌, arith, bit_and, bit_or, zero-mul, one-mul, eq-eqb, ne_eqb, ◌≢◌, Option, Some, None, if◌then◌else◌}
+use Rattle.std.proofs.Common.{◌≡◌, ℕ, zero, suc, ◌+◌, ◌*◌, ◌/◌, ◌%◌, ◌<◌, Bool, true, false, not, ◌==◌, refl, sym, ap, ◌∙◌, arith, bit_and, bit_or, zero-mul, one-mul, eq-eqb, ne_eqb, ◌≢◌, Some, None, if◌then◌else◌}
 use Rattle.std.proofs.lemmas.Nat.{and_mask, and_comm, and-not, or_block, or_comm, or_shifted}
 use Rattle.std.proofs.lemmas.Nat.Bits.{and_pow}
 use Rattle.std.proofs.lemmas.Bool.Decides.{nat_tests}

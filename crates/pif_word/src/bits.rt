@@ -35,8 +35,8 @@ pub fn owner_died(w: u32) -> bool
     w & OWNER_DIED != 0
 }
 
-/// The word after a compare-exchange of the word `w` from 0 to the number `t`, below 2^30: how user space takes a mutex.
-/// `Some(t)` where `w` is 0, and `None`, with nothing written, where it is not.
+/// The word after a compare-exchange of the word `w` from 0 to the number `t`, below 2^30: how user space takes a
+/// mutex. `Some(t)` where `w` is 0, and `None`, with nothing written, where it is not.
 pub fn take_word(w: u32, t: u32) -> Option<u32>
     requires { t < 2 ^ 30 }
     ensures { option_map word_of result ≡ model.take_word (word_of w) t }
@@ -77,16 +77,16 @@ pub fn taken_word(w: u32, t: u32) -> u32
     (w & OWNER_DIED) | t
 }
 
-/// The word that the kernel writes when the owner of a mutex, whose word is `w`, has ended and nobody is queued: no number,
-/// `WAITERS` as it was, and `OWNER_DIED`.
+/// The word that the kernel writes when the owner of a mutex, whose word is `w`, has ended and nobody is queued: no
+/// number, `WAITERS` as it was, and `OWNER_DIED`.
 pub fn orphan_word(w: u32) -> u32
     ensures { word_of result ≡ model.orphan_word (word_of w) }
 {
     (w & WAITERS) | OWNER_DIED
 }
 
-/// The word that the kernel writes when it hands a mutex, whose owner has ended, to the thread `u`, below 2^30: its number,
-/// and both flags.
+/// The word that the kernel writes when it hands a mutex, whose owner has ended, to the thread `u`, below 2^30: its
+/// number, and both flags.
 pub fn inherit_word(u: u32) -> u32
     requires { u < 2 ^ 30 }
     ensures { word_of result ≡ model.inherit_word u }

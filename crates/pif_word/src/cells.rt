@@ -1,4 +1,4 @@
-use pif_types::MutexId;
+use pif_types::{CondId, MutexId};
 
 /// The name of a word that threads share.
 #[derive(Clone, Copy, Debug, PartialEq, Eq, Hash)]
@@ -7,4 +7,6 @@ pub enum Cell {
     Mutex(MutexId),
     /// The health word of this mutex: 0 fine, 1 inconsistent, 2 unusable.
     Health(MutexId),
+    /// The word of this condition variable: how often it was signalled or broadcast.
+    Cond(CondId),
 }

@@ -1,5 +1,5 @@
 //! Words of 32 bits, as futex(2) has them: one for each mutex, what their bits say, and the accesses of one word at a
-//! time; and for each mutex a health word.
+//! time; and for each mutex a health word, and for each condition variable a word that counts its uses.
 //!
 //! ```text
 //!       31         30       29                              0
@@ -21,6 +21,10 @@
 //! | 0 | fine, or its owner ended and nobody has taken it since |
 //! | 1 | inconsistent |
 //! | 2 | unusable |
+//!
+//! | Condition word | Variable |
+//! |---|---|
+//! | n | its signals and broadcasts were n together |
 #![tactic(auto)]
 
 mod bits;

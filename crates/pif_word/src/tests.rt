@@ -1,10 +1,10 @@
-ghost use Rattle.std.specs.Prelude.{◌≡◌, ◌≤◌, length};
+ghost use Rattle.std.specs.Prelude.{◌≤◌};
 
 use crate::{
     Cell, OWNER_DIED, Words, hand_word, has_waiters, mark_word, number, owner_died, release_word,
     take_word, taken_word,
 };
-use pif_types::{Limits, MutexId};
+use pif_types::{CondId, Limits, MutexId};
 use std::process::Abort;
 use std::test::Fail;
 
@@ -51,4 +51,27 @@ fn touch_one_word_each(rt: &impl Abort, words: &mut Words) {
     assert_eq!(rt; words.fetch_and(two, !OWNER_DIED), 0xc000_0002);
     assert_eq!(rt; words.load(one), 1);
     assert_eq!(rt; words.load(two), 0x8000_0002);
+}
+
+#[test]
+fn a_condition_word_counts(rt: HostRuntime) -> Result<(), Fail> {
+    let limits = Limits::new(1, 1, 2, 1).ok_or("limits")?;
+    let mut words = Words::new(rt.alloc(), limits)?;
+    count_a_use(&rt, &mut words);
+    Ok(())
+}
+
+fn variable(cond: u32) -> Cell
+    requires { 1 ≤ cond }
+{
+    Cell::Cond(CondId::new(cond).unwrap())
+}
+
+fn count_a_use(rt: &impl Abort, words: &mut Words) {
+    let (one, two) = (variable(1), variable(2));
+    assert!(rt; words.has(one) && words.has(two) && !words.has(variable(3)));
+    assert_eq!(rt; words.compare_exchange(two, 0, 1), Ok(0));
+    assert_eq!(rt; words.compare_exchange(two, 0, 1), Err(1));
+    assert_eq!(rt; words.load(two), 1);
+    assert_eq!(rt; words.load(one), 0);
 }

@@ -1,4 +1,4 @@
-ghost use Rattle.std.specs.Prelude.{◌≡◌, ◌↔◌, ◌<◌, ◌^◌, ◌==◌, Ok, Err, IsTrue, IfOk, OnOk, is_ok, bit_and, if◌then◌else◌};
+ghost use Rattle.std.specs.Prelude.{◌≡◌, ◌↔◌, ◌<◌, ◌^◌, ◌==◌, Ok, Err, IsTrue, IfOk, replicate, OnOk, is_ok, bit_and, if◌then◌else◌};
 ghost use Rattle.pif_model.specs.Word.{word_of, is_bare, held_by};
 ghost use Rattle.pif_word.specs.WordMap.{HasCell, IsWordMap, bits_at, with_bits, free_words};
 
@@ -7,12 +7,14 @@ use pif_types::{Limits, NoMemory};
 use std::alloc::Global;
 use std::marker::Model;
 
-/// The words that threads share: a word and a health word for each mutex that the limits allow, of which there are at most
-/// 1,024. Each access is one step: it touches one word once.
+/// The words that threads share: a word and a health word for each mutex that the limits allow, of which there are at
+/// most 1,024, and a word for each condition variable that they allow, of which there are at most 256. Each access is
+/// one step: it touches one word once.
 #[derive(Drop)]
 pub struct Words {
     mutexes: Vec<u32>,
     healths: Vec<u32>,
+    conds: Vec<u32>,
 }
 
 impl Model for Words {
@@ -20,32 +22,37 @@ impl Model for Words {
 
     ghost Value = { WordMap };
 
-    ghost view = { λ w. record { mutexes = w.mutexes.items; healths = w.healths.items } };
+    ghost view = { λ w. record { mutexes = w.mutexes.items; healths = w.healths.items; conds = w.conds.items } };
 
-    ghost invariant = { λ w. IsWordMap (record { mutexes = w.mutexes.items; healths = w.healths.items }) };
+    ghost invariant = { λ w. IsWordMap (record { mutexes = w.mutexes.items; healths = w.healths.items; conds = w.conds.items }) };
 }
 
 impl Words {
-    /// A word and a health word for each mutex that `limits` allow, each 0. Takes two pieces of memory, and answers
-    /// `NoMemory` where one of them is refused.
+    /// A word and a health word for each mutex that `limits` allow, and a word for each condition variable that they
+    /// allow, each 0. Takes three pieces of memory, and answers `NoMemory` where one of them is refused.
     pub fn new(alloc: Global, limits: Limits) -> Result<Words, NoMemory>
         ensures made { IfOk result (λ w. w ≡ free_words limits) }
         ensures words { IfOk result IsWordMap }
     {
-        let count = limits.mutexes() as usize + 1;
-        let mutexes = vec![in alloc; 0; count].map_err(|_| NoMemory)?;
-        let healths = vec![in alloc; 0; count].map_err(|_| NoMemory)?;
-        Ok(Words { mutexes, healths })
+        let mutexes = zeros(alloc, limits.mutexes() as usize + 1)?;
+        let healths = zeros(alloc, limits.mutexes() as usize + 1)?;
+        let conds = zeros(alloc, limits.conds() as usize + 1)?;
+        Ok(Words {
+            mutexes,
+            healths,
+            conds,
+        })
     }
 
     /// Whether there is such a cell: mutex m has a word and a health word where m is at most the mutexes that the
-    /// limits allow.
+    /// limits allow, and variable c has a word where c is at most the variables that they allow.
     pub fn has(&self, cell: Cell) -> bool
         ensures { IsTrue result ↔ HasCell self.now cell }
     {
         match cell {
             Cell::Mutex(mutex) => (mutex.get() as usize) < self.mutexes.len(),
             Cell::Health(mutex) => (mutex.get() as usize) < self.healths.len(),
+            Cell::Cond(cond) => (cond.get() as usize) < self.conds.len(),
         }
     }
 
@@ -58,6 +65,7 @@ impl Words {
         match cell {
             Cell::Mutex(mutex) => self.mutexes[mutex.get() as usize],
             Cell::Health(mutex) => self.healths[mutex.get() as usize],
+            Cell::Cond(cond) => self.conds[cond.get() as usize],
         }
     }
 
@@ -70,6 +78,7 @@ impl Words {
         match cell {
             Cell::Mutex(mutex) => self.mutexes[mutex.get() as usize] = bits,
             Cell::Health(mutex) => self.healths[mutex.get() as usize] = bits,
+            Cell::Cond(cond) => self.conds[cond.get() as usize] = bits,
         }
     }
 
@@ -86,6 +95,7 @@ impl Words {
         match cell {
             Cell::Mutex(mutex) => exchange(&mut self.mutexes[mutex.get() as usize], expected, new),
             Cell::Health(mutex) => exchange(&mut self.healths[mutex.get() as usize], expected, new),
+            Cell::Cond(cond) => exchange(&mut self.conds[cond.get() as usize], expected, new),
         }
     }
 
@@ -99,8 +109,16 @@ impl Words {
         match cell {
             Cell::Mutex(mutex) => keep(&mut self.mutexes[mutex.get() as usize], mask),
             Cell::Health(mutex) => keep(&mut self.healths[mutex.get() as usize], mask),
+            Cell::Cond(cond) => keep(&mut self.conds[cond.get() as usize], mask),
         }
     }
+}
+
+/// This many words, each 0.
+fn zeros(alloc: Global, count: usize) -> Result<Vec<u32>, NoMemory>
+    ensures { IfOk result (λ words. words.items ≡ replicate count 0) }
+{
+    vec![in alloc; 0; count].map_err(|_| NoMemory)
 }
 
 /// Makes `new` of the word if it is `expected`, and answers `Ok` with what it was. Otherwise answers `Err` with what it

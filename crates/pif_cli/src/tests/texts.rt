@@ -4,7 +4,9 @@ use arrayvec::ArrayVec;
 use std::alloc::Global;
 use std::process::Abort;
 use std::str::from_utf8;
+use std::sync::Wait;
 use std::test::Fail;
+use std::thread::Threads;
 
 const USAGE: &str = "Usage: pif <COMMAND>";
 
@@ -16,10 +18,19 @@ const RUN: &str =
 const REPLAY: &str =
     "Reads a trace from the standard input, and says whether each of its answers is given again";
 
+const TRACE: &str =
+    "Reads a script from the standard input, and writes the trace that 'pif replay' takes";
+
 /// What is shown for `words`, which ask for no job: the status, and what is written to the output and to the errors.
-fn show(alloc: Global, words: &[&str], output: &mut Kept, errors: &mut Kept) -> (u8, usize) {
+fn show(
+    rt: &(impl Threads + Wait + Sync),
+    alloc: Global,
+    words: &[&str],
+    output: &mut Kept,
+    errors: &mut Kept,
+) -> (u8, usize) {
     let mut input = BOOSTED.as_bytes();
-    let status = command(alloc, words, &mut input, output, errors);
+    let status = command(alloc, rt, words, &mut input, output, errors);
     (status, input.len())
 }
 
@@ -34,38 +45,43 @@ fn check_says(rt: &impl Abort, written: &Kept, texts: &[&str]) -> Result<(), Fai
 
 /// Checks that words are refused with status 1, that the errors say these texts, and that nothing was read.
 fn check_refused(
-    rt: &impl Abort,
+    rt: &(impl Abort + Threads + Wait + Sync),
     alloc: Global,
     words: &[&str],
     texts: &[&str],
 ) -> Result<(), Fail> {
     let mut output = Kept::new();
     let mut errors = Kept::new();
-    let shown = show(alloc, words, &mut output, &mut errors);
+    let shown = show(rt, alloc, words, &mut output, &mut errors);
     assert_eq!(rt; (shown, output.len()), ((1, BOOSTED.len()), 0), "{words:?}");
     check_says(rt, &errors, texts)
 }
 
 /// Checks that help is shown with status 0, that the output says these texts, and that nothing was read.
 fn check_helped(
-    rt: &impl Abort,
+    rt: &(impl Abort + Threads + Wait + Sync),
     alloc: Global,
     words: &[&str],
     texts: &[&str],
 ) -> Result<(), Fail> {
     let mut output = Kept::new();
     let mut errors = Kept::new();
-    let shown = show(alloc, words, &mut output, &mut errors);
+    let shown = show(rt, alloc, words, &mut output, &mut errors);
     assert_eq!(rt; (shown, errors.len()), ((0, BOOSTED.len()), 0), "{words:?}");
     check_says(rt, &output, texts)
 }
 
 #[test]
 fn wrong_words_are_refused(rt: HostRuntime) -> Result<(), Fail> {
-    let refused: [(&[&str], [&str; 4]); 6] = [
+    let refused: [(&[&str], [&str; 4]); 11] = [
         (
             ["pif"].as_slice(),
-            ["requires a subcommand", "run, replay", USAGE, MORE],
+            [
+                "requires a subcommand",
+                "run, replay, trace, drive",
+                USAGE,
+                MORE,
+            ],
         ),
         (
             ["pif", "walk"].as_slice(),
@@ -90,12 +106,52 @@ fn wrong_words_are_refused(rt: HostRuntime) -> Result<(), Fail> {
             ],
         ),
         (
+            ["pif", "run", "boosted.script"].as_slice(),
+            [
+                "error",
+                "unexpected argument 'boosted.script'",
+                "Usage: pif run < FILE\n",
+                MORE,
+            ],
+        ),
+        (
+            ["pif", "replay", "boosted.trace"].as_slice(),
+            [
+                "error",
+                "unexpected argument 'boosted.trace'",
+                "Usage: pif replay < FILE\n",
+                MORE,
+            ],
+        ),
+        (
+            ["pif", "trace", "boosted.pif"].as_slice(),
+            [
+                "error",
+                "unexpected argument 'boosted.pif'",
+                "Usage: pif trace < FILE\n",
+                MORE,
+            ],
+        ),
+        (
             ["pif", "--fast", "run"].as_slice(),
             ["error", "unexpected argument '--fast'", USAGE, MORE],
         ),
         (
             ["pif", "help"].as_slice(),
             ["error", "unrecognized subcommand 'help'", USAGE, MORE],
+        ),
+        (
+            ["pif", "drive"].as_slice(),
+            ["error", "<N>", "Usage: pif drive N\n", MORE],
+        ),
+        (
+            ["pif", "drive", "0"].as_slice(),
+            [
+                "error",
+                "invalid value '0' for '<N>'",
+                "0 is not in 1..=64",
+                MORE,
+            ],
         ),
     ];
     for (words, texts) in refused {
@@ -107,19 +163,46 @@ fn wrong_words_are_refused(rt: HostRuntime) -> Result<(), Fail> {
 #[test]
 fn help_is_shown(rt: HostRuntime) -> Result<(), Fail> {
     let whole = [
-        "Runs scripts and replays traces on a model of pthread mutexes with priority inheritance\n",
+        "Runs scripts and replays traces on a model of pthread mutexes and condition variables with priority \
+        inheritance\n",
         USAGE,
         "  run ",
         RUN,
         "  replay ",
         REPLAY,
+        "  trace ",
+        TRACE,
         "-h, --help",
+        "-V, --version",
         "Example:\n  printf 'thread 10\\nmutex normal\\ncall t1 lock m1\\nword m1\\n' | pif run",
     ];
     for word in ["--help", "-h"] {
         check_helped(&rt, rt.alloc(), ["pif", word].as_slice(), whole.as_slice())?;
     }
-    let run = [RUN, "Usage: pif run", "-h, --help"];
+    let run = [
+        RUN,
+        "Usage: pif run < FILE\n",
+        "-h, --help",
+        "A script comes by < FILE, or by a pipe",
+        "\n  limits T M C S    the most threads",
+        "\n  thread P          adds a thread",
+        "\n  mutex K           adds a mutex",
+        "\n  mutex K robust    adds one",
+        "\n  cond mN           adds a condition variable",
+        "\n  call tN Q         thread N begins",
+        "\n  begin tN Q        thread N begins",
+        "\n  go tN             thread N takes one step",
+        "\n  finish tN         thread N goes on",
+        "\n  end tN            thread N ends",
+        "\n  word mN           shows the word",
+        "\n  health mN         shows whether",
+        "\n  condword cN       shows how often",
+        "\n  prio tN           shows the effective priority",
+        "\n  pick              shows the thread that runs next",
+        "The calls Q: lock mN, trylock mN, unlock mN, consistent mN, setprio tN P, wait cN mN, signal cN,\n\
+        broadcast cN\n",
+        "Status: 0 done, 1 wrong words, 2 a fault of the script, 3 a read or write failed,\n4 out of memory.",
+    ];
     check_helped(
         &rt,
         rt.alloc(),
@@ -130,7 +213,22 @@ fn help_is_shown(rt: HostRuntime) -> Result<(), Fail> {
 
 #[test]
 fn help_of_replay_is_shown(rt: HostRuntime) -> Result<(), Fail> {
-    let replay = [REPLAY, "Usage: pif replay", "-h, --help"];
+    let replay = [
+        REPLAY,
+        "Usage: pif replay < FILE\n",
+        "-h, --help",
+        "A trace comes by < FILE, or by a pipe.",
+        "\n  limits T M C S    the most threads",
+        "\n  thread P          adds a thread",
+        "\n  mutex K           adds a mutex",
+        "\n  mutex K robust    adds one",
+        "\n  cond mN           adds a condition variable",
+        "\n  begin tN Q        thread N begins",
+        "\n  go tN             thread N takes one step",
+        "\n  end tN            thread N ends",
+        "It prints 'same N'",
+        "4 out of memory, 5 a difference.",
+    ];
     check_helped(
         &rt,
         rt.alloc(),
@@ -140,25 +238,77 @@ fn help_of_replay_is_shown(rt: HostRuntime) -> Result<(), Fail> {
 }
 
 #[test]
+fn help_of_trace_is_shown(rt: HostRuntime) -> Result<(), Fail> {
+    let trace = [
+        TRACE,
+        "Usage: pif trace < FILE\n",
+        "-h, --help",
+        "A script comes by < FILE, or by a pipe",
+        "'pif run --help' names its commands.",
+        "Its trace begins with 'pif-trace 1'",
+        "as in 'go t1 = went'",
+        "Status: 0 done, 1 wrong words, 2 a fault of the script, 3 a read or write failed,\n4 out of memory.",
+    ];
+    check_helped(
+        &rt,
+        rt.alloc(),
+        ["pif", "trace", "--help"].as_slice(),
+        trace.as_slice(),
+    )
+}
+
+#[test]
+fn help_of_drive_is_shown(rt: HostRuntime) -> Result<(), Fail> {
+    let drive = [
+        "Lets clients in threads of their own lock and unlock one mutex",
+        "Usage: pif drive N\n",
+        "How many clients, 1 to 64",
+        "-h, --help",
+        "It prints 'answered A'",
+        "6 a thread cannot be started",
+    ];
+    check_helped(
+        &rt,
+        rt.alloc(),
+        ["pif", "drive", "-h"].as_slice(),
+        drive.as_slice(),
+    )
+}
+
+#[test]
+fn the_version_is_shown(rt: HostRuntime) {
+    for word in ["--version", "-V"] {
+        let mut output = Kept::new();
+        let mut errors = Kept::new();
+        let words = ["pif", word];
+        let shown = show(&rt, rt.alloc(), words.as_slice(), &mut output, &mut errors);
+        assert_eq!(rt; (shown, errors.len()), ((0, BOOSTED.len()), 0));
+        assert!(rt; output.as_slice() == b"pif 0.1\n".as_slice());
+    }
+}
+
+#[test]
 fn a_failed_write_of_help_or_of_the_refusal_is_told(rt: HostRuntime) {
-    let mut output = ArrayVec::<u8, 4>::new();
-    let mut errors = ArrayVec::<u8, 4>::new();
-    let help = ["pif", "--help"];
-    let status = command(
-        rt.alloc(),
-        help.as_slice(),
-        &mut BOOSTED.as_bytes(),
-        &mut output,
-        &mut errors,
-    );
-    assert_eq!(rt; (status, output.len(), errors.len()), (3, 4, 0));
-    let bare = ["pif"];
-    let status = command(
-        rt.alloc(),
-        bare.as_slice(),
-        &mut BOOSTED.as_bytes(),
-        &mut output,
-        &mut errors,
-    );
-    assert_eq!(rt; (status, output.len(), errors.len()), (3, 4, 4));
+    let asked = [
+        (["pif", "--help"].as_slice(), 4),
+        (["pif", "--version"].as_slice(), 4),
+        (["pif"].as_slice(), 0),
+    ];
+    for (words, shown) in asked {
+        let mut output = ArrayVec::<u8, 4>::new();
+        let mut errors = ArrayVec::<u8, 4>::new();
+        let status = command(
+            rt.alloc(),
+            &rt,
+            words,
+            &mut BOOSTED.as_bytes(),
+            &mut output,
+            &mut errors,
+        );
+        assert_eq!(rt;
+            (status, output.len(), errors.len()),
+            (3, shown, 4),
+            "{words:?}"
+        );
+    }
 }

@@ -6,15 +6,22 @@ use std::env::FillError;
 use std::process::{Abort, ExitCode, Termination};
 use std::rt::Env;
 use std::str::from_utf8;
+use std::sync::Wait;
 use std::test::Fail;
+use std::thread::Threads;
 
-/// A process of the words `pif`, `run`, and a third one where there is one.
+/// A process of the words `pif`, `run`, and a third one where there is one, which starts threads as `rt` does.
 #[derive(Drop)]
-struct Process {
+struct Process<'a, R> {
     third: Option<&'static [u8]>,
+    rt: &'a R,
 }
 
-impl Env for Process {
+impl<'a, R: Threads> Threads for Process<'a, R> {}
+
+impl<'a, R: Wait> Wait for Process<'a, R> {}
+
+impl<'a, R> Env for Process<'a, R> {
     fn arg(&self, i: usize, buf: &mut [u8]) -> Result<usize, FillError> {
         let word = match i {
             0 => b"pif".as_slice(),
@@ -40,14 +47,14 @@ impl Env for Process {
 
 /// Runs the program over the words of a process, and checks its status.
 fn check_status(
-    rt: &impl Abort,
+    rt: &(impl Abort + Threads + Wait + Sync),
     alloc: Global,
     third: Option<&'static [u8]>,
     output: &mut Kept,
     errors: &mut Kept,
     status: u8,
 ) {
-    let process = (Process { third }, alloc);
+    let process = (Process { third, rt }, alloc);
     let ended = command_of_process(&process, &mut BOOSTED.as_bytes(), output, errors);
     assert!(rt; ended.exit_code() == ExitCode::from(status), "{third:?}");
 }
@@ -81,7 +88,7 @@ fn a_word_that_is_no_text_is_refused(rt: HostRuntime) {
 #[test]
 fn the_status_is_that_of_the_process(rt: HostRuntime) {
     let third = Some(b"\xff".as_slice());
-    let process = (Process { third }, rt.alloc());
+    let process = (Process { third, rt: &rt }, rt.alloc());
     let mut errors = ArrayVec::<u8, 4>::new();
     let mut input = BOOSTED.as_bytes();
     let ended = command_of_process(&process, &mut input, &mut Kept::new(), &mut errors);

@@ -1,14 +1,19 @@
 ghost use Rattle.std.specs.Prelude.{ℕ, ◌≡◌, ◌+◌, ◌≤◌, ◌++◌, List, Option, Some, None, length};
 ghost use Rattle.arrayvec.specs.ArrayVec.{array_vec_len};
 ghost use Rattle.pif_scripts.specs.Scripts.{Hearing, Opens, Hears, Tells};
+ghost use Rattle.pif_scripts.specs.Runs.{end_line};
 
-use super::ending::{Ending, OpenFault};
+use super::ending::{End, Ending, OpenFault};
 use arrayvec::ArrayVec;
-use pif_text::Cause;
+use pif_text::{Cause, Text, differs_text, fault_text};
 use std::alloc::Global;
 
-/// The most bytes that the answer to a line has, its LF included.
-pub const ANSWER_ROOM: usize = 41;
+/// The most bytes that a reply has, its LF included.
+pub const REPLY_ROOM: usize = 41;
+
+/// The most bytes that the answer to a line has. The longest is what the first line of a script makes of a trace: the
+/// two lines in front, and those of 25 events.
+pub const ANSWER_ROOM: usize = 3_496;
 
 /// The most bytes that are said at an end, its LF included.
 pub const END_ROOM: usize = 71;
@@ -16,10 +21,14 @@ pub const END_ROOM: usize = 71;
 /// The most bytes that are read at once.
 pub const CHUNK: usize = 4096;
 
-/// Room for the answers to a chunk, of which each byte ends at most one line, and for what is said at an end.
-pub const OUTPUT_ROOM: usize = CHUNK * ANSWER_ROOM + END_ROOM;
+/// How many bytes of answers are written before there are more. Replies to the lines of a chunk, of which each byte ends
+/// at most one, are no more.
+pub const FULL: usize = CHUNK * REPLY_ROOM;
 
-/// The answers to the lines of a chunk.
+/// Room for answers that are not yet too many, for one more, and for what is said at an end.
+pub const OUTPUT_ROOM: usize = FULL + ANSWER_ROOM + END_ROOM;
+
+/// The answers to lines of a chunk that were not written yet.
 pub type Output = ArrayVec<u8, OUTPUT_ROOM>;
 
 /// Appends bytes.
@@ -28,6 +37,21 @@ pub fn append(output: &mut Output, text: &[u8])
     ensures { output.new.items ≡ output.old.items ++ text.now }
 {
     let _ = output.try_extend_from_slice(text);
+}
+
+/// Appends the line of an end, and LF.
+pub fn append_end(end: End, output: &mut Output)
+    requires { array_vec_len output.old + END_ROOM ≤ OUTPUT_ROOM }
+    ensures { output.new.items ≡ output.old.items ++ end_line end }
+{
+    let End { line, ending } = end;
+    let mut text = Text::new();
+    match ending {
+        Ending::Fault(cause) => fault_text(line, cause, &mut text),
+        Ending::Differs(reply) => differs_text(line, reply, &mut text),
+    }
+    append(output, text.as_slice());
+    output.push(b'\n');
 }
 
 /// Who answers the lines of a script or a trace.
@@ -69,4 +93,9 @@ pub trait Listener: Sized {
     fn close(number: u64, output: &mut Output) -> Result<(), Cause>
         requires { array_vec_len output.old + END_ROOM ≤ OUTPUT_ROOM }
         ensures { Tells (hearing.end_text number) output.old.items output.new.items result };
+
+    /// Appends to `output` what is said of the line that ends a script.
+    fn report(end: End, output: &mut Output)
+        requires { array_vec_len output.old + END_ROOM ≤ OUTPUT_ROOM }
+        ensures { output.new.items ≡ output.old.items ++ hearing.said_of end };
 }

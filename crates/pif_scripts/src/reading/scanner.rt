@@ -11,7 +11,7 @@ use std::alloc::Global;
 const MOST_BYTES: u32 = 16_777_216;
 
 /// The most bytes of a line before its LF.
-const MOST_LINE: usize = 120;
+pub const MOST_LINE: usize = 120;
 
 /// Reads a script byte by byte, and has its lines answered by an `L`, which one of the first lines makes.
 #[derive(Drop)]
@@ -25,7 +25,7 @@ pub struct Scanner<L> {
 }
 
 impl<L: Listener + Drop> Scanner<L> {
-    ghost use Rattle.pif_scripts.specs.Scripts.{start, Takes, Feeds, Answers, Tells, closed_at, end_at};
+    ghost use Rattle.pif_scripts.specs.Scripts.{start, Takes, Answers, Tells, closed_at, end_at};
     ghost use Rattle.pif_scripts.specs.Scanners.{scan_of};
 
     /// A scanner before the first byte.
@@ -40,21 +40,9 @@ impl<L: Listener + Drop> Scanner<L> {
         }
     }
 
-    /// Reads these bytes, up to the first line that ends the script. What their lines are answered is appended to `output`.
-    ///
-    /// # Errors
-    ///
-    /// `Ended` with that line, and `NoMemory`, where no line was answered yet.
-    pub fn feed(&mut self, alloc: Global, bytes: &[u8], output: &mut Output) -> Result<(), Stop>
-        requires { array_vec_len output.old + ANSWER_ROOM * length bytes.now ≤ OUTPUT_ROOM }
-        ensures answer { Feeds L.hearing (scan_of self.old) bytes.now output.old.items output.new.items (scan_of self.new) result }
-        ensures room { array_vec_len output.new ≤ array_vec_len output.old + ANSWER_ROOM * length bytes.now }
-        ensures taken { OnOk result (self.new.taken ≡ self.old.taken + length bytes.now) }
-    {
-        for byte in bytes {
-            self.take(alloc, *byte, output)?;
-        }
-        Ok(())
+    /// The bytes of the line in which the script stands, as far as they were taken.
+    pub fn line(&self) -> &[u8] {
+        self.line.as_slice()
     }
 
     /// Appends to `output` what is said where the script ends here.
@@ -85,8 +73,12 @@ impl<L: Listener + Drop> Scanner<L> {
         }
     }
 
-    /// Reads one byte.
-    fn take(&mut self, alloc: Global, byte: u8, output: &mut Output) -> Result<(), Stop>
+    /// Reads one byte. Where it ends a line, what that is answered is appended to `output`.
+    ///
+    /// # Errors
+    ///
+    /// `Ended` with the line, where the byte ends the script, and `NoMemory`, where no line was answered yet.
+    pub fn take(&mut self, alloc: Global, byte: u8, output: &mut Output) -> Result<(), Stop>
         requires { array_vec_len output.old + ANSWER_ROOM ≤ OUTPUT_ROOM }
         ensures answer { Takes L.hearing (scan_of self.old) byte output.old.items output.new.items (scan_of self.new) result }
         ensures room { array_vec_len output.new ≤ array_vec_len output.old + ANSWER_ROOM }

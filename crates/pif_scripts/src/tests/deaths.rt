@@ -1,19 +1,20 @@
 //! The table of docs/DEATHS.md: a thread ends after each number of steps of a call, and then others lock the mutex.
 
-use super::streams::Kept;
-use crate::run;
+use super::steps::{Lines, NOTHING, Row, Scene, check_row, check_rows};
 use std::alloc::Global;
 use std::process::Abort;
 
-/// Lines of a script, and what they are answered.
-type Lines = (&'static str, &'static str);
-
-/// Ends of t1 in one call on m1. By place: what stands before the call, what comes between its first steps and the
-/// rest, whether t2 waits for m1 by then, from which to which number of further steps t1 ends, what the last of these
-/// steps is answered, and what the end leaves.
-type Row = (Lines, Lines, bool, u32, u32, &'static str, &'static str);
-
-const KINDS: [&str; 3] = ["normal", "errorcheck", "recursive"];
+/// t1 ends, t2 locks, and then t3.
+const ENDED: Scene = (
+    (
+        "limits 5 2 0 1\nthread 20\nthread 10\nthread 10\nthread 10\nthread 10\n",
+        "ok\nt1\nt2\nt3\nt4\nt5\n",
+    ),
+    NOTHING,
+    ("end t1\n", "ended\n"),
+    ("word m1\n", "word m1\nhealth m1\ncall t3 lock m1\n"),
+    NOTHING,
+);
 
 // What the end leaves: the word, what the lock of t2 is answered, the word and the health after it, and what the lock
 // of t3 is answered.
@@ -113,9 +114,7 @@ const LOST_BY_ANOTHER_WAITED: Lines = (
     "answer 0\nwaits\nended\n",
 );
 
-// What comes between: nothing; t1 takes m1 in two, three or four steps, and t2 waits for it.
-const NOTHING: Lines = ("", "");
-
+// What comes between: t1 takes m1 in two, three or four steps, and t2 waits for it.
 const TAKEN_AT_2: Lines = ("go t1\ngo t1\ncall t2 lock m1\n", "went\nanswer 0\nwaits\n");
 
 const TAKEN_AT_3: Lines = (
@@ -385,12 +384,12 @@ const NOT_OWNING: [Row; 5] = [
 
 /// A kind, a call of the owner of such a mutex that leaves it to its owner, in how many steps, and its answer.
 const OWNING: [(&str, &str, u32, &str); 6] = [
-    ("normal", "lock", 2, "waits\n"),
-    ("errorcheck", "lock", 1, "answer 35\n"),
-    ("recursive", "lock", 1, "answer 0\n"),
-    ("normal", "trylock", 1, "answer 16\n"),
-    ("errorcheck", "trylock", 1, "answer 16\n"),
-    ("recursive", "trylock", 1, "answer 0\n"),
+    ("normal", "lock m1", 2, "waits\n"),
+    ("errorcheck", "lock m1", 1, "answer 35\n"),
+    ("recursive", "lock m1", 1, "answer 0\n"),
+    ("normal", "trylock m1", 1, "answer 16\n"),
+    ("errorcheck", "trylock m1", 1, "answer 16\n"),
+    ("recursive", "trylock m1", 1, "answer 0\n"),
 ];
 
 /// What stands before such a call on a robust mutex, whether t2 waits, and what the end leaves.
@@ -607,106 +606,6 @@ const STALLED_REPAIRING: [Row; 7] = [
     ),
 ];
 
-/// A kind, with what makes a mutex of it robust or stalled, and a call on it.
-type Called = (&'static str, &'static str, &'static str);
-
-/// Keeps these texts, one after the other.
-fn keep(kept: &mut Kept, texts: &[&str]) {
-    for text in texts {
-        kept.append(text.as_bytes());
-    }
-}
-
-/// Keeps the script in which t1 ends after so many steps of a row.
-fn keep_script(script: &mut Kept, called: Called, row: Row, steps: u32) {
-    let (kind, robust, call) = called;
-    let (before, between, waits, _, _, _, _) = row;
-    let lock = if waits {
-        "finish t2\n"
-    } else {
-        "call t2 lock m1\n"
-    };
-    keep(
-        script,
-        &[
-            "limits 5 2 0 1\nthread 20\nthread 10\nthread 10\nthread 10\nthread 10\nmutex ",
-            kind,
-            robust,
-        ],
-    );
-    keep(
-        script,
-        &["\n", before.0, "begin t1 ", call, " m1\n", between.0],
-    );
-    script.append_times(b"go t1\n", steps);
-    keep(
-        script,
-        &[
-            "end t1\nword m1\n",
-            lock,
-            "word m1\nhealth m1\ncall t3 lock m1\n",
-        ],
-    );
-}
-
-/// Keeps what that script is answered.
-fn keep_answers(answers: &mut Kept, row: Row, steps: u32) {
-    let (before, between, _, _, last, closing, left) = row;
-    keep(
-        answers,
-        &[
-            "ok\nt1\nt2\nt3\nt4\nt5\nm1\n",
-            before.1,
-            "begun\n",
-            between.1,
-        ],
-    );
-    if steps < last {
-        answers.append_times(b"went\n", steps);
-    } else {
-        answers.append_times(b"went\n", steps.saturating_sub(1));
-        answers.append(closing.as_bytes());
-    }
-    keep(answers, &["ended\n", left]);
-}
-
-/// Ends t1 after so many steps of a row, and checks what is answered.
-fn check_end(rt: &impl Abort, alloc: Global, called: Called, row: Row, steps: u32) {
-    let mut script = Kept::new();
-    let mut answers = Kept::new();
-    let mut output = Kept::new();
-    keep_script(&mut script, called, row, steps);
-    keep_answers(&mut answers, row, steps);
-    let ended = run(alloc, &mut script.text(), &mut output);
-    assert!(rt;
-        ended.is_ok() && output.text() == answers.text(),
-        "{called:?} {row:?} {steps}"
-    );
-}
-
-/// Ends t1 after each number of steps of a row.
-fn check_row(rt: &impl Abort, alloc: Global, called: Called, row: Row) {
-    let (_, _, _, first, last, _, _) = row;
-    for steps in first..=last {
-        check_end(rt, alloc, called, row, steps);
-    }
-}
-
-/// Goes through rows of a call on mutexes of each kind.
-fn check_rows(
-    rt: &impl Abort,
-    alloc: Global,
-    robust: &'static str,
-    call: &'static str,
-    rows: &[Row],
-) {
-    for kind in KINDS {
-        for row in rows {
-            check_row(rt, alloc, (kind, robust, call), *row);
-        }
-    }
-}
-
 /// Goes through the calls of an owner that leave it the mutex.
 fn check_owning(
     rt: &impl Abort,
@@ -717,7 +616,7 @@ fn check_owning(
     for (kind, call, last, closing) in OWNING {
         for (before, waits, left) in owned {
             let row = (*before, NOTHING, *waits, 0, last, closing, *left);
-            check_row(rt, alloc, (kind, robust, call), row);
+            check_row(rt, alloc, &ENDED, (kind, robust, call), row);
         }
     }
 }
@@ -725,42 +624,56 @@ fn check_owning(
 /// Goes through rows of an unlock of a recursive mutex.
 fn check_recursive(rt: &impl Abort, alloc: Global, robust: &'static str, rows: &[Row]) {
     for row in rows {
-        check_row(rt, alloc, ("recursive", robust, "unlock"), *row);
+        check_row(rt, alloc, &ENDED, ("recursive", robust, "unlock m1"), *row);
     }
 }
 
 #[test]
 fn deaths_in_the_middle_of_taking_robust_mutexes(rt: HostRuntime) {
-    for call in ["lock", "trylock"] {
-        check_rows(&rt, rt.alloc(), " robust", call, &TAKING);
+    for call in ["lock m1", "trylock m1"] {
+        check_rows(&rt, rt.alloc(), &ENDED, " robust", call, &TAKING);
     }
-    check_rows(&rt, rt.alloc(), " robust", "lock", &LOCKING);
-    check_rows(&rt, rt.alloc(), " robust", "trylock", &TRYING);
+    check_rows(&rt, rt.alloc(), &ENDED, " robust", "lock m1", &LOCKING);
+    check_rows(&rt, rt.alloc(), &ENDED, " robust", "trylock m1", &TRYING);
 }
 
 #[test]
 fn deaths_in_the_middle_of_giving_up_robust_mutexes(rt: HostRuntime) {
-    for call in ["unlock", "consistent"] {
-        check_rows(&rt, rt.alloc(), " robust", call, &NOT_OWNING);
+    for call in ["unlock m1", "consistent m1"] {
+        check_rows(&rt, rt.alloc(), &ENDED, " robust", call, &NOT_OWNING);
     }
-    check_rows(&rt, rt.alloc(), " robust", "unlock", &UNLOCKING);
-    check_rows(&rt, rt.alloc(), " robust", "consistent", &REPAIRING);
+    check_rows(&rt, rt.alloc(), &ENDED, " robust", "unlock m1", &UNLOCKING);
+    check_rows(
+        &rt,
+        rt.alloc(),
+        &ENDED,
+        " robust",
+        "consistent m1",
+        &REPAIRING,
+    );
     check_recursive(&rt, rt.alloc(), " robust", &UNLOCKING_TWICE);
 }
 
 #[test]
 fn deaths_in_the_middle_of_taking_stalled_mutexes(rt: HostRuntime) {
-    for call in ["lock", "trylock"] {
-        check_rows(&rt, rt.alloc(), "", call, &STALLED_TAKING);
+    for call in ["lock m1", "trylock m1"] {
+        check_rows(&rt, rt.alloc(), &ENDED, "", call, &STALLED_TAKING);
     }
-    check_rows(&rt, rt.alloc(), "", "lock", &STALLED_LOCKING);
-    check_rows(&rt, rt.alloc(), "", "trylock", &STALLED_TRYING);
+    check_rows(&rt, rt.alloc(), &ENDED, "", "lock m1", &STALLED_LOCKING);
+    check_rows(&rt, rt.alloc(), &ENDED, "", "trylock m1", &STALLED_TRYING);
 }
 
 #[test]
 fn deaths_in_the_middle_of_giving_up_stalled_mutexes(rt: HostRuntime) {
-    check_rows(&rt, rt.alloc(), "", "unlock", &STALLED_UNLOCKING);
-    check_rows(&rt, rt.alloc(), "", "consistent", &STALLED_REPAIRING);
+    check_rows(&rt, rt.alloc(), &ENDED, "", "unlock m1", &STALLED_UNLOCKING);
+    check_rows(
+        &rt,
+        rt.alloc(),
+        &ENDED,
+        "",
+        "consistent m1",
+        &STALLED_REPAIRING,
+    );
     check_recursive(&rt, rt.alloc(), "", &STALLED_UNLOCKING_TWICE);
 }
 

@@ -54,7 +54,8 @@ fn lines_have_120_bytes_at_most(rt: HostRuntime) {
     }
 }
 
-/// The line `pick` 3,355,444 times: more than 16,777,216 bytes, of which the last fault line's number stands at the end.
+/// The line `pick` 3,355,444 times: more than 16,777,216 bytes, of which the last fault line's number stands at the
+/// end.
 #[test]
 fn script_faults_by_its_size(rt: HostRuntime) {
     let mut input = Endless::new("pick\n", 5 * 3_355_444);

@@ -239,7 +239,8 @@ impl<'a> Patient<'a> {
         self.asked
     }
 
-    /// Checks that it was asked so often, each time with all answered that it had given, and how many lines were answered.
+    /// Checks that it was asked so often, each time with all answered that it had given, and how many lines were
+    /// answered.
     pub fn check(&self, rt: &impl Abort, asked: u64, answered: u64) {
         assert!(rt; self.was_answered);
         assert_eq!(rt; (self.asked, self.answered.get()), (asked, answered));

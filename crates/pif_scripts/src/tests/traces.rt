@@ -2,7 +2,7 @@ use super::streams::{Cautious, Failing, Kept};
 use super::{Cause, CliFault};
 use crate::{replay, write_trace, written_trace_is_the_same};
 use pif_core::{Core, Entry, Event};
-use pif_types::{Kind, Limits, MutexId, Prio, Request, Tid};
+use pif_types::{CondId, Kind, Limits, MutexId, Prio, Request, Tid};
 use std::alloc::Global;
 use std::io::Read;
 use std::process::Abort;
@@ -75,8 +75,9 @@ fn header_alone_is_a_trace(rt: HostRuntime) {
 #[test]
 fn limits_hold_in_a_trace(rt: HostRuntime) {
     let trace = "pif-trace 1\nlimits 1 0 0 1 = ok\nthread 10 = t1\nthread 10 = refused toomany\n\
-        thread 100 = refused badprio\nmutex errorcheck = refused toomany\ngo t2 = refused nosuch\n";
-    check(&rt, rt.alloc(), trace, "same 6\n", Ok(()));
+        thread 100 = refused badprio\nmutex errorcheck = refused toomany\ncond m1 = refused nosuch\n\
+        go t2 = refused nosuch\n";
+    check(&rt, rt.alloc(), trace, "same 7\n", Ok(()));
 }
 
 #[test]
@@ -124,6 +125,7 @@ fn other_lines_are_faults(rt: HostRuntime) {
         "finish t1 = answer 0",
         "word m1 = 0x00000000",
         "health m1 = fine",
+        "condword c1 = 0",
         "prio t1 = 10",
         "pick = t1",
         "go t1",
@@ -190,6 +192,7 @@ fn want_of_memory_writes_nothing(rt: HostRuntime) {
 enum Asked {
     Thread(u32),
     Mutex(Kind, bool),
+    Cond(MutexId),
     Step(Event),
 }
 
@@ -203,6 +206,7 @@ fn entry_of(core: &mut Core, asked: Asked) -> Result<Entry, Fail> {
         Asked::Mutex(kind, robust) => {
             Ok(Entry::Mutex(core.add_mutex(kind, robust)?, kind, robust))
         }
+        Asked::Cond(mutex) => Ok(Entry::Cond(core.add_cond(mutex)?, mutex)),
         Asked::Step(event) => Ok(Entry::Step(event, core.step(event))),
     }
 }
@@ -254,6 +258,55 @@ const HISTORY: &str =
     begin t1 setprio t2 60 = begun\ngo t1 = answer 0\n\
     begin t1 unlock m1 = begun\ngo t1 = went\ngo t1 = went\ngo t1 = answer 0\ngo t2 = answer 0\n";
 
+/// A thread waits on a variable, and the other uses it as often as the limits allow, and once more.
+fn record_uses(core: &mut Core, entries: &mut Vec<Entry>) -> Result<(), Fail> {
+    let low = Tid::new(1).ok_or("thread")?;
+    let high = Tid::new(2).ok_or("thread")?;
+    let mutex = MutexId::new(1).ok_or("mutex")?;
+    let cond = CondId::new(1).ok_or("cond")?;
+    for asked in [
+        Asked::Thread(10),
+        Asked::Thread(20),
+        Asked::Mutex(Kind::ErrorCheck, false),
+        Asked::Cond(mutex),
+        Asked::Step(Event::Begin(low, Request::Lock(mutex))),
+        Asked::Step(Event::Go(low)),
+        Asked::Step(Event::Go(low)),
+        Asked::Step(Event::Begin(low, Request::Wait(cond, mutex))),
+        Asked::Step(Event::Go(low)),
+        Asked::Step(Event::Go(low)),
+        Asked::Step(Event::Go(low)),
+        Asked::Step(Event::Go(low)),
+        Asked::Step(Event::Begin(high, Request::Signal(cond))),
+        Asked::Step(Event::Go(high)),
+        Asked::Step(Event::Go(high)),
+        Asked::Step(Event::Go(high)),
+        Asked::Step(Event::Go(low)),
+        Asked::Step(Event::Begin(high, Request::Broadcast(cond))),
+        Asked::Step(Event::Go(high)),
+    ] {
+        let entry = entry_of(core, asked)?;
+        entries.push(entry)?;
+    }
+    Ok(())
+}
+
+/// The limits and the history of a core with a condition variable.
+fn history_of_uses(alloc: Global) -> Result<(Limits, Vec<Entry>), Fail> {
+    let limits = Limits::new(2, 1, 1, 1).ok_or("limits")?;
+    let mut core = Core::new(alloc, limits)?;
+    let mut entries = Vec::new(alloc);
+    record_uses(&mut core, &mut entries)?;
+    Ok((limits, entries))
+}
+
+const HISTORY_OF_USES: &str =
+    "pif-trace 1\nlimits 2 1 1 1 = ok\nthread 10 = t1\nthread 20 = t2\nmutex errorcheck = m1\ncond m1 = c1\n\
+    begin t1 lock m1 = begun\ngo t1 = went\ngo t1 = answer 0\n\
+    begin t1 wait c1 m1 = begun\ngo t1 = went\ngo t1 = went\ngo t1 = went\ngo t1 = waits\n\
+    begin t2 signal c1 = begun\ngo t2 = went\ngo t2 = went\ngo t2 = answer 0\ngo t1 = answer 0\n\
+    begin t2 broadcast c1 = begun\ngo t2 = answer 75\n";
+
 /// Writes a trace, and replays what was written.
 fn check_written(
     rt: &impl Abort,
@@ -261,10 +314,12 @@ fn check_written(
     limits: Limits,
     entries: &[Entry],
     trace: &mut Kept,
+    lines: &str,
+    verdict: &str,
 ) {
     assert_eq!(rt; write_trace(limits, entries, trace), Ok(()));
-    trace.check(rt, HISTORY);
-    check_replay(rt, alloc, &mut trace.text(), "same 19\n", Ok(()));
+    trace.check(rt, lines);
+    check_replay(rt, alloc, &mut trace.text(), verdict, Ok(()));
 }
 
 #[test]
@@ -276,9 +331,50 @@ fn written_trace_is_replayed(rt: HostRuntime) -> Result<(), Fail> {
         limits,
         entries.as_slice(),
         &mut Kept::new(),
+        HISTORY,
+        "same 19\n",
     );
     written_trace_is_the_same();
     Ok(())
+}
+
+#[test]
+fn written_trace_of_a_variable_is_replayed(rt: HostRuntime) -> Result<(), Fail> {
+    let (limits, entries) = history_of_uses(rt.alloc())?;
+    check_written(
+        &rt,
+        rt.alloc(),
+        limits,
+        entries.as_slice(),
+        &mut Kept::new(),
+        HISTORY_OF_USES,
+        "same 20\n",
+    );
+    Ok(())
+}
+
+#[test]
+fn replay_compares_what_is_answered_of_variables(rt: HostRuntime) {
+    let traces = [
+        (
+            "pif-trace 1\nmutex normal = m1\ncond m1 = c2\n",
+            "differs 3 c1\n",
+            Err(CliFault::Differs(3)),
+        ),
+        (
+            "pif-trace 1\ncond m1 = refused toomany\n",
+            "differs 2 refused nosuch\n",
+            Err(CliFault::Differs(2)),
+        ),
+        (
+            "pif-trace 1\nthread 10 = t1\nbegin t1 signal c1 = begun\n",
+            "differs 3 refused nosuch\n",
+            Err(CliFault::Differs(3)),
+        ),
+    ];
+    for (trace, verdict, ended) in traces {
+        check(&rt, rt.alloc(), trace, verdict, ended);
+    }
 }
 
 #[test]
@@ -288,11 +384,16 @@ fn trace_names_each_entry(rt: HostRuntime) -> Result<(), Fail> {
     let entries = [
         Entry::Thread(thread, Prio::new(99).ok_or("priority")?),
         Entry::Mutex(MutexId::new(3).ok_or("mutex")?, Kind::Normal, true),
+        Entry::Cond(
+            CondId::new(256).ok_or("cond")?,
+            MutexId::new(3).ok_or("mutex")?,
+        ),
     ];
     let mut trace = Kept::new();
     assert_eq!(rt; write_trace(limits, entries.as_slice(), &mut trace), Ok(()));
     let lines =
-        "pif-trace 1\nlimits 1024 1024 256 4294967295 = ok\nthread 99 = t7\nmutex normal robust = m3\n";
+        "pif-trace 1\nlimits 1024 1024 256 4294967295 = ok\nthread 99 = t7\nmutex normal robust = m3\n\
+        cond m3 = c256\n";
     trace.check(&rt, lines);
     Ok(())
 }

@@ -2,5 +2,5 @@ use Rattle.clap.specs.Words.{kind_of}
 use Rattle.pif_cli.proofs.WordsLemmas.{EndsBy-refused}
 use Rattle.pif_cli.proofs.words.command.Goals as goal
 
-pub returns-in-Err : goal.returns-in-Err
-returns-in-Err g c = EndsBy-refused _ _ (kind_of c.in-Err.error) _ _ _ _ _ _ c.in-Err.ensures.refusals c.refuse.ensures
+pub returns-in-Err-clause-ends : goal.returns-in-Err-clause-ends
+returns-in-Err-clause-ends g c = EndsBy-refused _ _ (kind_of c.in-Err.error) _ _ _ _ _ _ c.in-Err.ensures.refusals c.refuse.ensures

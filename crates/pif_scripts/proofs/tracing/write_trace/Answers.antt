@@ -15,7 +15,7 @@ returns-in_err-write_whole g c =
     let held = g.W.Write.contents c.args.writer.now in
     rw (p.1, p.2) (Writes-more [] c.as_slice.result.now (front_lines c.args.limits)
     (flat_map entry_line c.args.entries.now) held held _
-    c.in_err-write_whole.field-0.0 (Appends-nil held) (c.as_slice.ensures.value ∙ c.front_lines.ensures)
+    c.in_err-write_whole.field-0.0 (Appends-nil held) (c.as_slice.ensures.value ∙ c.front_lines.ensures.written)
     c.in_err-write_whole.ensures)
 
 pub returns-in_err-write_whole-2 : goal.returns-in_err-write_whole-2

@@ -1,6 +1,5 @@
 -- Mutexes that were added have a health, a possible one.
-use Rattle.std.proofs.Common.{◌∙◌, ap, subst, IfSome}
-use Rattle.pif_model.specs.Table.{Table}
+use Rattle.std.proofs.Common.{◌∙◌, ap}
 use Rattle.pif_model.specs.Calls.{health_answer}
 use Rattle.pif_core.proofs.StandsAfter.{health_answered, both_answered, health_is_some}
 use Rattle.pif_core.proofs.cores.Core.health.Goals as goal

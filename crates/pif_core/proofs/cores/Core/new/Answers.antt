@@ -4,4 +4,5 @@ use Rattle.pif_simulation.proofs.StandingLaws.{new_stands}
 use Rattle.pif_core.proofs.cores.Core.new.Goals as goal
 
 pub returns-clause-stands : goal.returns-clause-stands
-returns-clause-stands c = (empty_world, rw c.in_ok-parts.ensures (new_stands _ c.threads-threads.ensures.range))
+returns-clause-stands c =
+    (empty_world c.args.limits.signals, rw c.in_ok-parts.ensures (new_stands _ c.threads-threads.ensures.range))

@@ -31,6 +31,7 @@ returns-clause-made c =
     let table : c.in_ok-table.table ≡ new_table c.args.limits.threads
     = c.in_ok-table.ensures.made ∙ ap new_table threads in
     let arrivals : c.in_ok-arrivals.arrivals.items ≡ [] = c.in_ok-arrivals.ensures.items in
+    let parked : c.in_ok-parked.parked.items ≡ [] = c.in_ok-parked.ensures.items in
     λ i. record {
       limits = c.args.limits;
       statuses = statuses i;
@@ -39,5 +40,6 @@ returns-clause-made c =
       queue = queue i;
       table = table i;
       arrivals = arrivals i;
+      parked = parked i;
       next = c.args.first_ticket;
     }

@@ -4,7 +4,7 @@ use Rattle.pif_kernel.specs.Plain.{Plain, IsSound, kernel_of}
 use Rattle.pif_kernel.specs.Fields.{plain_of}
 use Rattle.pif_kernel.proofs.Seats.{added_seen}
 use Rattle.pif_kernel.proofs.Standing.{fits, ready_queued}
-use Rattle.pif_kernel.proofs.StopSound.{kernel_after, sound_after}
+use Rattle.pif_kernel.proofs.RestSound.{kernel_stopped, sound_stopped}
 use Rattle.pif_kernel.proofs.parts.Parts.stop.Goals as goal
 
 pub index_mut-requires : goal.index_mut-requires
@@ -35,10 +35,10 @@ returns c =
     (sym c.self.view_is) c.requires.ready in
     record {
       after = rw c.get.ensures.value
-          (kernel_after p c.take_out.new.self c.take_out.new.table c.args.t h known ready c.take_out.ensures.place
+          (kernel_stopped p c.take_out.new.self c.take_out.new.table c.args.t h known ready c.take_out.ensures.place
           c.take_out.ensures.levels c.take_out.ensures.holds c.take_out.ensures.outside.count
           ∙ ap (λ (x : Plain). kernel_after_stop c.args.t (kernel_of x)) c.self.view_is);
       sound = rw c.get.ensures.value
-          (sound_after p c.take_out.new.self c.take_out.new.table c.args.t h known ready c.take_out.ensures.place
+          (sound_stopped p c.take_out.new.self c.take_out.new.table c.args.t h known ready c.take_out.ensures.place
           c.take_out.ensures.levels c.take_out.ensures.holds c.take_out.ensures.outside.count);
     }

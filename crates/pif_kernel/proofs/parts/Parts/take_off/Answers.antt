@@ -1,12 +1,14 @@
 use Rattle.std.proofs.Common.{◌≡◌, ◌⊎◌, true, false, subst, sym, ap, ◌∙◌, refl, inl, inr}
 use Rattle.pif_model.specs.declared.lines.Status.{Status}
 use Rattle.pif_model.specs.declared.lines.Status.TheVariants.{Stopped, Ended}
-use Rattle.pif_model.specs.PiKernel.{is_ready, queued_on, seat_at, is_living}
+use Rattle.pif_model.specs.PiKernel.{is_ready, is_parked, queued_on, seat_at, is_living}
 use Rattle.pif_chains.proofs.KernelFacts.{living-added}
-use Rattle.pif_kernel.specs.Plain.{Plain, IsSound, kernel_of}
+use Rattle.pif_chains.proofs.Statuses.{ready-unparked}
+use Rattle.pif_kernel.specs.Plain.{Plain, IsSound, kernel_of, parked_but}
 use Rattle.pif_kernel.specs.Leaving.{IsLeft}
 use Rattle.pif_kernel.specs.Fields.{plain_of}
 use Rattle.pif_kernel.proofs.Seats.{status_seen}
+use Rattle.pif_kernel.proofs.ParkingFacts.{unparked_absent}
 use Rattle.pif_kernel.proofs.Standing.{fits, ready_queued}
 use Rattle.pif_kernel.proofs.Waiters.{ready_idle}
 use Rattle.pif_kernel.proofs.LeavingFacts.{left_idle, unready_off}
@@ -38,7 +40,19 @@ returns-in-Ready c =
     c.args.t) c.self.view_is
     (left_idle p c.args.t h (living-added (kernel_of p) c.args.t lives) (ready_idle p h c.args.t ready)
     c.take_out.new.self c.take_out.new.table c.take_out.ensures.levels c.take_out.ensures.place c.take_out.ensures.holds
-    c.take_out.ensures.outside.count)
+    c.take_out.ensures.outside.count p.parked
+    (unparked_absent p h c.args.t (ready-unparked (seat_at (kernel_of p) c.args.t).status ready)))
+
+pub returns-in-Parked : goal.returns-in-Parked
+returns-in-Parked c =
+    let p : Plain = c.args.self.now in
+    let h : IsSound p = c.requires.sound in
+    rw c.unpark.ensures
+    (left_idle p c.args.t h (living-added (kernel_of p) c.args.t c.requires.living)
+    (ap queued_on (sym (status_seen p (fits p h) c.args.t) ∙ sym c.status.ensures ∙ c.in-Parked.is))
+    p.queue p.table
+    (unready_off p h c.args.t (ap is_ready (sym c.status.ensures ∙ c.in-Parked.is))) refl
+    h.placed.holds refl (parked_but p.parked c.args.t) refl)
 
 unready : (x : Status) → ((x ≡ Stopped) ⊎ (x ≡ Ended)) → is_ready x ≡ false
 unready x (inl e) = ap is_ready e
@@ -47,6 +61,10 @@ unready x (inr e) = ap is_ready e
 idle : (x : Status) → ((x ≡ Stopped) ⊎ (x ≡ Ended)) → queued_on x ≡ 0
 idle x (inl e) = ap queued_on e
 idle x (inr e) = ap queued_on e
+
+unparked : (x : Status) → ((x ≡ Stopped) ⊎ (x ≡ Ended)) → is_parked x ≡ false
+unparked x (inl e) = ap is_parked e
+unparked x (inr e) = ap is_parked e
 
 pub returns-in-Stopped : goal.returns-in-Stopped
 returns-in-Stopped c =
@@ -57,4 +75,5 @@ returns-in-Stopped c =
     ∙ idle c.status.result c.in-Stopped.is)
     p.queue p.table
     (unready_off p h c.args.t (ap is_ready (sym c.status.ensures) ∙ unready c.status.result c.in-Stopped.is)) refl
-    h.placed.holds refl
+    h.placed.holds refl p.parked
+    (unparked_absent p h c.args.t (ap is_parked (sym c.status.ensures) ∙ unparked c.status.result c.in-Stopped.is))

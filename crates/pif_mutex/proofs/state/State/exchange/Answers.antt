@@ -1,7 +1,7 @@
 -- The parts fit together after the exchange, which writes the word of one mutex, or none.
 use Rattle.std.specs.Prelude.{◌==◌}
 use Rattle.std.specs.Result.{is_ok}
-use Rattle.pif_model.specs.Word.{word_of}
+use Rattle.pif_model.specs.Word.{word_of, set_word}
 use Rattle.pif_word.specs.declared.cells.Cell.TheVariants.{Mutex}
 use Rattle.pif_word.specs.WordMap.{words_of, bits_at}
 use Rattle.pif_mutex.proofs.Exchanges.{exchanged_words, exchanged_table}
@@ -19,6 +19,7 @@ invariant_of-self g c =
           (word_of c.args.new) (words_of c.compare_exchange.new.self) words;
       lines = c.self.invariant.lines;
       mutexes = c.self.invariant.mutexes;
+      conds = c.self.invariant.conds;
     }
 
 pub returns-clause-after : goal.returns-clause-after
@@ -28,5 +29,6 @@ returns-clause-after g c =
     c.compare_exchange.new.self c.args.m c.args.new
     c.compare_exchange.ensures.value c.compare_exchange.ensures.stored in
     rw (← c.self.view_is, c.is_ok.ensures.value)
-    (exchanged_table (is_ok c.compare_exchange.result) _ c.args.m (word_of c.args.new)
+    (exchanged_table (is_ok c.compare_exchange.result) _
+    (set_word (words_of c.self.inside.words) c.args.m (word_of c.args.new))
     (words_of c.compare_exchange.new.self) words)

@@ -10,4 +10,5 @@ invariant_of-self g c = record {
       c.exit.ensures.words c.exit.ensures.after c.exit.ensures.lists c.exit.ensures.kept;
   lines = c.self.invariant.lines;
   mutexes = c.self.invariant.mutexes;
+  conds = c.self.invariant.conds;
 }

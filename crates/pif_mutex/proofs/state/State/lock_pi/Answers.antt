@@ -8,4 +8,5 @@ invariant_of-self g c = record {
       c.lock_pi.ensures.after c.lock_pi.ensures.kept;
   lines = c.self.invariant.lines;
   mutexes = c.self.invariant.mutexes;
+  conds = c.self.invariant.conds;
 }

@@ -12,6 +12,7 @@ returns g c =
       c.in_ok-lists.ensures.made,
       c.in_ok-lines.ensures.items,
       c.in_ok-mutexes.ensures.items,
+      c.in_ok-conds.ensures.items,
       c.new-3.ensures,
       c.requires.new,
       words_free_at_first

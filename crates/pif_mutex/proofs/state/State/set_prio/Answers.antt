@@ -9,4 +9,5 @@ invariant_of-self g c = record {
       c.set_prio.ensures.after c.set_prio.ensures.kept;
   lines = c.self.invariant.lines;
   mutexes = c.self.invariant.mutexes;
+  conds = c.self.invariant.conds;
 }

@@ -7,4 +7,5 @@ invariant_of-self g c = record {
   assembled = stop_assembled c.self.invariant.assembled c.args.t _ c.stop.ensures.after c.stop.ensures.kept;
   lines = c.self.invariant.lines;
   mutexes = c.self.invariant.mutexes;
+  conds = c.self.invariant.conds;
 }

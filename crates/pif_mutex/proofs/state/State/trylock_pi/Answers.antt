@@ -9,4 +9,5 @@ invariant_of-self g c = record {
       c.trylock_pi.ensures.words;
   lines = c.self.invariant.lines;
   mutexes = c.self.invariant.mutexes;
+  conds = c.self.invariant.conds;
 }

@@ -9,4 +9,5 @@ invariant_of-self g c = record {
       c.unlock_pi.ensures.words c.unlock_pi.ensures.after c.unlock_pi.ensures.kept;
   lines = c.self.invariant.lines;
   mutexes = c.self.invariant.mutexes;
+  conds = c.self.invariant.conds;
 }

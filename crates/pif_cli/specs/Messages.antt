@@ -1,0 +1,34 @@
+-- What the standard error gets where a run fails: one line.
+use Rattle.std.specs.Prelude.{ℕ, ◌≡◌, ◌≤◌, ◌⊎◌, ◌&&◌, nat_le, Bool, true, List, [], ◌∷◌, ◌++◌, Option, Result, Ok, Err}
+use Rattle.std.specs.List.{list_all}
+use Rattle.std.specs.Io.KnownBytes.{Appends, Keeps}
+use Rattle.pif_cli.specs.declared.statuses.JobFault.{JobFault}
+use Rattle.pif_scripts.specs.Runs.{WritesPart}
+
+-- a byte of ASCII that shows: from a space to a tilde
+abbrev pub is_printable : ℕ → Bool
+is_printable b = nat_le 32 b && nat_le b 126
+
+-- a text of such bytes
+abbrev pub is_shown : List ℕ → Bool
+is_shown text = list_all is_printable text
+
+-- one line was told: printable bytes, and the one LF behind them; or a proper part of it, where a write failed
+abbrev pub TellsLine : (held holds : Option (List ℕ)) → Type 0
+TellsLine held holds =
+    (text : List ℕ) × (is_shown text ≡ true)
+    × (Appends held holds (text ++ 10 ∷ []) ⊎ WritesPart held holds (text ++ 10 ∷ []))
+
+-- what is told of a job that ended so: nothing where it was done, else one line
+abbrev pub TellsOf : Result (Unit {0}) JobFault → (held holds : Option (List ℕ)) → Type 0
+TellsOf (Ok x) held holds = Keeps held holds
+TellsOf (Err e) held holds = TellsLine held holds
+
+-- what is told at a status of the program: nothing at 0; a text at 1; one line at 2 to 6; and at 3, where the text of 1
+-- could not be written, a proper part of that
+abbrev pub TellsAt : ℕ → (held holds : Option (List ℕ)) → Type 0
+TellsAt status held holds =
+    ((status ≡ 0) × Keeps held holds)
+    ⊎ (((status ≡ 1) × ((text : List ℕ) × Appends held holds text))
+    ⊎ (((2 ≤ status) × (status ≤ 6) × TellsLine held holds)
+    ⊎ ((status ≡ 3) × ((text : List ℕ) × WritesPart held holds text))))

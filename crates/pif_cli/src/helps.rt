@@ -1,0 +1,117 @@
+/// The program's version.
+pub const VERSION: &str = "0.1";
+
+/// What the program is for.
+pub const ABOUT: &str =
+    "Runs scripts and replays traces on a model of pthread mutexes and condition variables with \
+    priority inheritance";
+
+/// What `run` does.
+pub const ABOUT_RUN: &str =
+    "Reads a script from the standard input, and writes an answer for each of its lines";
+
+/// What `replay` does.
+pub const ABOUT_REPLAY: &str =
+    "Reads a trace from the standard input, and says whether each of its answers is given again";
+
+/// What `trace` does.
+pub const ABOUT_TRACE: &str =
+    "Reads a script from the standard input, and writes the trace that 'pif replay' takes";
+
+/// How `run` is called.
+pub const USAGE_RUN: &str = "pif run < FILE";
+
+/// How `replay` is called.
+pub const USAGE_REPLAY: &str = "pif replay < FILE";
+
+/// How `trace` is called.
+pub const USAGE_TRACE: &str = "pif trace < FILE";
+
+/// What `drive` does.
+pub const ABOUT_DRIVE: &str =
+    "Lets clients in threads of their own lock and unlock one mutex, and counts the calls that were answered";
+
+/// How `drive` is called.
+pub const USAGE_DRIVE: &str = "pif drive N";
+
+/// What the number of `drive` is.
+pub const ABOUT_CLIENTS: &str = "How many clients, 1 to 64";
+
+/// The end of the program's help.
+pub const EXAMPLE: &str =
+    "Example:\n  printf 'thread 10\\nmutex normal\\ncall t1 lock m1\\nword m1\\n' | pif run";
+
+/// The end of the help of `run`.
+pub const MORE_RUN: &str =
+    "A script comes by < FILE, or by a pipe: one command a line, each answered by one line.
+
+The commands of scripts:
+  limits T M C S    the most threads, mutexes, variables and signals; on the first line only
+  thread P          adds a thread of base priority P, 1 to 99; the first is t1
+  mutex K           adds a mutex, normal, default, errorcheck or recursive; the first is m1
+  mutex K robust    adds one that outlives its owner's end
+  cond mN           adds a condition variable, bound to mutex N; the first is c1
+  call tN Q         thread N begins the call Q, and goes on until it is answered or waits
+  begin tN Q        thread N begins the call Q, and takes no step yet
+  go tN             thread N takes one step of its call
+  finish tN         thread N goes on until its call is answered or waits
+  end tN            thread N ends, whatever it does
+  word mN           shows the word of mutex N
+  health mN         shows whether mutex N is fine, inconsistent or unusable
+  condword cN       shows how often condition variable N was signalled or broadcast
+  prio tN           shows the effective priority of thread N
+  pick              shows the thread that runs next
+
+The calls Q: lock mN, trylock mN, unlock mN, consistent mN, setprio tN P, wait cN mN, signal cN,
+broadcast cN
+
+Status: 0 done, 1 wrong words, 2 a fault of the script, 3 a read or write failed,
+4 out of memory.
+Standard error says what went wrong, and in which line.";
+
+/// The end of the help of `replay`.
+pub const MORE_REPLAY: &str =
+    "A trace comes by < FILE, or by a pipe. Its first line is 'pif-trace 1'; each line behind it is a
+command, ' = ' and the answer that was recorded, as in 'thread 10 = t1'.
+
+The commands of traces:
+  limits T M C S    the most threads, mutexes, variables and signals; on the second line only
+  thread P          adds a thread of base priority P
+  mutex K           adds a mutex, normal, default, errorcheck or recursive
+  mutex K robust    adds one that outlives its owner's end
+  cond mN           adds a condition variable, bound to mutex N
+  begin tN Q        thread N begins the call Q
+  go tN             thread N takes one step of its call
+  end tN            thread N ends
+
+It prints 'same N', with the number of answers; or 'differs L X', with the first line that differs
+and what the core gives there; or 'fault L cause', with the first line that is no line of a trace.
+
+Status: 0 the same, 1 wrong words, 2 a fault of the trace, 3 a read or write failed,
+4 out of memory, 5 a difference.
+Standard error says what went wrong, and in which line.";
+
+/// The end of the help of `trace`.
+pub const MORE_TRACE: &str =
+    "A script comes by < FILE, or by a pipe, as 'pif run' takes it; 'pif run --help' names its commands.
+
+Its trace begins with 'pif-trace 1' and the line of the limits. Behind them stand the threads,
+mutexes and variables that were added, and each begin, go and end, all with what the core
+answered, as in 'go t1 = went'. 'call' and 'finish' stand there as the begin and the go of which
+they are made. What was not added, and what only asks, leaves no line; nor does a fault.
+
+Status: 0 done, 1 wrong words, 2 a fault of the script, 3 a read or write failed,
+4 out of memory.
+Standard error says what went wrong, and in which line.";
+
+/// The end of the help of `drive`.
+pub const MORE_DRIVE: &str =
+    "The mutex is errorcheck and robust. Client i has priority i; each locks and unlocks the mutex 100 times.
+Then the journal of what was done is compared with what each client was answered.
+
+It prints 'answered A', where A is 200 times N; or 'fault threads', where a thread cannot be started;
+or 'unsettled', where journal and clients don't agree.
+
+Status: 0 done, 1 wrong words, 3 a write failed, 4 out of memory, 6 a thread cannot be started,
+or journal and clients don't agree.
+Standard error says what went wrong.";

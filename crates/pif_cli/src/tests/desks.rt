@@ -1,0 +1,181 @@
+//! The journal of a desk as a trace. One growth of memory may be refused anywhere: what was refused is then asked again,
+//! and no answer changes.
+use super::Kept;
+use pif_desk::{Book, Client, Desk, DeskFault, NoPause};
+use pif_scripts::{CliFault, replay, write_trace};
+use pif_types::{CondId, Kind, Limits, MutexId, NoMemory, Request, with_room};
+use std::alloc::Global;
+use std::process::Abort;
+use std::sync::Wait;
+use std::test::Fail;
+
+/// A mutex, and a condition variable that is bound to it.
+#[derive(Clone, Copy)]
+struct Scene {
+    mutex: MutexId,
+    cond: CondId,
+}
+
+/// What a call of a client is answered.
+fn called<R: Wait>(
+    rt: &R,
+    desk: &Desk<NoPause>,
+    client: &mut Client,
+    request: &Request,
+) -> Result<u32, DeskFault> {
+    match client.call(rt, desk, *request) {
+        Ok(receipt) => Ok(receipt.answer),
+        Err(fault) => Err(fault),
+    }
+}
+
+/// What the open call of a client is answered.
+fn resumed<R: Wait>(rt: &R, desk: &Desk<NoPause>, client: &mut Client) -> Result<u32, DeskFault> {
+    match client.resume(rt, desk) {
+        Ok(receipt) => Ok(receipt.answer),
+        Err(fault) => Err(fault),
+    }
+}
+
+/// What a call of a client is answered, at the second time where memory was refused.
+fn answer<R: Wait>(
+    rt: &R,
+    desk: &Desk<NoPause>,
+    client: &mut Client,
+    request: &Request,
+) -> Result<u32, DeskFault> {
+    match called(rt, desk, client, request) {
+        Err(DeskFault::NoMemory) => if client.is_open() {
+            resumed(rt, desk, client)
+        } else {
+            called(rt, desk, client, request)
+        },
+        done => done,
+    }
+}
+
+/// The client's thread ends.
+fn quit<R: Wait>(rt: &R, desk: &Desk<NoPause>, client: &mut Client) -> Result<(), DeskFault> {
+    match client.quit(rt, desk) {
+        Err(DeskFault::NoMemory) => client.quit(rt, desk),
+        done => done,
+    }
+}
+
+/// A client makes these calls, and gets these answers.
+fn check_calls<R: Wait + Abort>(
+    rt: &R,
+    desk: &Desk<NoPause>,
+    client: &mut Client,
+    calls: &[(Request, u32)],
+) {
+    for (request, expected) in calls {
+        let answered = answer(rt, desk, client, request);
+        assert_eq!(rt; answered, Ok(*expected));
+    }
+}
+
+/// The first client ends with the mutex, and the second gets it from an owner that has ended.
+fn pass_on<R: Wait + Abort>(
+    rt: &R,
+    desk: &Desk<NoPause>,
+    one: &mut Client,
+    two: &mut Client,
+    scene: Scene,
+) {
+    let first = [
+        (Request::Lock(scene.mutex), 0),
+        (Request::Signal(scene.cond), 0),
+    ];
+    let second = [
+        (Request::Lock(scene.mutex), 130),
+        (Request::Consistent(scene.mutex), 0),
+        (Request::Unlock(scene.mutex), 0),
+    ];
+    check_calls(rt, desk, one, first.as_slice());
+    assert_eq!(rt; quit(rt, desk, one), Ok(()));
+    check_calls(rt, desk, two, second.as_slice());
+}
+
+/// A robust mutex, and a variable that is bound to it.
+fn make_scene<R: Wait>(rt: &R, desk: &Desk<NoPause>) -> Result<Scene, DeskFault> {
+    let mutex = match desk.make_mutex(rt, Kind::Normal, true) {
+        Err(DeskFault::NoMemory) => desk.make_mutex(rt, Kind::Normal, true)?,
+        made => made?,
+    };
+    let cond = match desk.make_cond(rt, mutex) {
+        Err(DeskFault::NoMemory) => desk.make_cond(rt, mutex)?,
+        made => made?,
+    };
+    Ok(Scene { mutex, cond })
+}
+
+/// A client of this priority.
+fn enter<R: Wait>(rt: &R, desk: &Desk<NoPause>, prio: u32) -> Result<Client, DeskFault> {
+    match desk.enter(rt, prio) {
+        Err(DeskFault::NoMemory) => desk.enter(rt, prio),
+        entered => entered,
+    }
+}
+
+/// Two clients at this desk, with a robust mutex and a condition variable.
+fn make_calls<R: Wait + Abort>(
+    rt: &R,
+    desk: &Desk<NoPause>,
+    clients: &mut Vec<Client>,
+) -> Result<(), Fail> {
+    let scene = make_scene(rt, desk)?;
+    clients.push(enter(rt, desk, 10)?)?;
+    clients.push(enter(rt, desk, 20)?)?;
+    match clients.as_mut_slice() {
+        [one, two] => pass_on(rt, desk, one, two, scene),
+        _ => panic!(rt; "there are not two clients"),
+    }
+    Ok(())
+}
+
+/// The trace of a book is the same when it is replayed: 4 additions, 36 events, and the line of the limits.
+fn check_book(rt: &impl Abort, alloc: Global, book: &Book) {
+    let mut trace = Kept::new();
+    let mut output = Kept::new();
+    let written = write_trace(book.limits, book.entries.as_slice(), &mut trace);
+    let mut ended = replay(alloc, &mut trace.as_slice(), &mut output);
+    if ended == Err(CliFault::NoMemory) {
+        ended = replay(alloc, &mut trace.as_slice(), &mut output);
+    }
+    assert_eq!(rt; (book.answered, written, ended), (5, Ok(()), Ok(())));
+    assert_eq!(rt; output.as_slice(), b"same 41\n".as_slice());
+}
+
+/// A list with room for two clients.
+fn room_for_two(alloc: Global) -> Result<Vec<Client>, NoMemory> {
+    match with_room(alloc, 2) {
+        Err(NoMemory) => with_room(alloc, 2),
+        made => made,
+    }
+}
+
+/// A desk under these limits.
+fn desk_of(alloc: Global, limits: Limits) -> Result<Desk<NoPause>, NoMemory> {
+    match Desk::new(alloc, limits, NoPause) {
+        Err(NoMemory) => Desk::new(alloc, limits, NoPause),
+        made => made,
+    }
+}
+
+/// Two clients make their calls and settle, and the book is replayed.
+fn settle<R: Wait + Abort>(rt: &R, alloc: Global, desk: Desk<NoPause>) -> Result<(), Fail> {
+    let mut clients = room_for_two(alloc)?;
+    make_calls(rt, &desk, &mut clients)?;
+    match desk.into_room().settle(clients) {
+        Ok(book) => check_book(rt, alloc, &book),
+        Err(_) => panic!(rt; "the desk does not settle"),
+    }
+    Ok(())
+}
+
+#[test]
+fn desk_keeps_receipts(rt: HostRuntime) -> Result<(), Fail> {
+    let limits = Limits::new(2, 1, 1, 9).ok_or("limits")?;
+    settle(&rt, rt.alloc(), desk_of(rt.alloc(), limits)?)
+}

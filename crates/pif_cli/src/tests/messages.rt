@@ -1,0 +1,292 @@
+use super::{Broken, Kept};
+use crate::causes::message_of;
+use crate::command;
+use crate::statuses::JobFault;
+use crate::words::Job;
+use arrayvec::ArrayVec;
+use pif_scripts::{Cause, CliFault, Notice};
+use std::alloc::Global;
+use std::io::Read;
+use std::process::Abort;
+use std::str::from_utf8;
+use std::sync::Wait;
+use std::test::Fail;
+use std::thread::Threads;
+
+/// Does a job over an input, and checks its status and what the errors are told.
+fn check_told<R: Read>(
+    rt: &(impl Abort + Threads + Wait + Sync),
+    alloc: Global,
+    job: &str,
+    input: &mut R,
+    told: (u8, &str),
+) {
+    let (status, message) = told;
+    let mut errors = Kept::new();
+    let words = ["pif", job];
+    let ended = command(
+        alloc,
+        rt,
+        words.as_slice(),
+        input,
+        &mut Kept::new(),
+        &mut errors,
+    );
+    assert_eq!(rt; ended, status, "{message:?}");
+    assert!(rt; errors.as_slice() == message.as_bytes(), "{message:?}");
+}
+
+/// Checks what the errors are told of an input, whose job ends with this status.
+fn check_input(
+    rt: &(impl Abort + Threads + Wait + Sync),
+    alloc: Global,
+    job: &str,
+    input: &[u8],
+    told: (u8, &str),
+) {
+    let mut bytes = input;
+    check_told(rt, alloc, job, &mut bytes, told);
+}
+
+#[test]
+fn a_faulty_script_is_told_by_its_line(rt: HostRuntime) {
+    let scripts = [
+        (
+            b"thread 10\nmutex normal\ncall t1 lock m1\ncall t1 lok m1\n".as_slice(),
+            "pif: line 4: no such command: call t1 lok m1\n",
+        ),
+        (b"Thread 10\n", "pif: line 1: no such command: Thread 10\n"),
+        (
+            b"# a comment\nthread 10\n",
+            "pif: line 1: no such command, and there are no comments: # a comment\n",
+        ),
+        (
+            b"thread 10\n\npick\n",
+            "pif: line 2: an empty line is no command\n",
+        ),
+        (
+            b"thread 10\r\npick\r\n",
+            "pif: line 1: the line ends in CR LF, and not in LF alone: thread 10\\r\n",
+        ),
+        (
+            b"pick\nthread  10\n",
+            "pif: line 2: words are separated by one space, with none at either end: thread  10\n",
+        ),
+        (
+            b" pick\n",
+            "pif: line 1: words are separated by one space, with none at either end:  pick\n",
+        ),
+        (
+            b"pick \n",
+            "pif: line 1: words are separated by one space, with none at either end: pick \n",
+        ),
+        (
+            b"thread\t10\n",
+            "pif: line 1: no such command: thread\\t10\n",
+        ),
+        (
+            b"thr\xc3\xa9ad 10\n",
+            "pif: line 1: no such command: thr\\xc3\\xa9ad 10\n",
+        ),
+        (b"\0\x7f\n", "pif: line 1: no such command: \\x00\\x7f\n"),
+        (
+            b"limits 0 1 1 1\n",
+            "pif: line 1: a limit is out of range (threads 1 to 1024, mutexes 0 to 1024, variables 0 to 256, \
+            signals 1 to 4294967295): limits 0 1 1 1\n",
+        ),
+        (
+            b"pick\nlimits 1 1 1 1\n",
+            "pif: line 2: limits may stand on the first line only: limits 1 1 1 1\n",
+        ),
+        (
+            b"pick\nthread 1",
+            "pif: line 2: the input ends inside the line, with no LF behind it: thread 1\n",
+        ),
+        (
+            b"pif-trace 1\nthread 10 = t1\n",
+            "pif: line 1: no such command: pif-trace 1\n",
+        ),
+    ];
+    for (script, message) in scripts {
+        for job in ["run", "trace"] {
+            check_input(&rt, rt.alloc(), job, script, (2, message));
+        }
+    }
+}
+
+#[test]
+fn a_faulty_trace_is_told_by_its_line(rt: HostRuntime) {
+    let traces = [
+        (
+            b"thread 10\n".as_slice(),
+            "pif: line 1: the first line of a trace is 'pif-trace 1': thread 10\n",
+        ),
+        (
+            b"",
+            "pif: line 1: the first line of a trace is 'pif-trace 1'\n",
+        ),
+        (
+            b"pif-trace 1\r\n",
+            "pif: line 1: the line ends in CR LF, and not in LF alone: pif-trace 1\\r\n",
+        ),
+        (
+            b"pif-trace 1\nthread 10\n",
+            "pif: line 2: no ' = ' with an answer behind it: thread 10\n",
+        ),
+        (
+            b"pif-trace 1\n\n",
+            "pif: line 2: no ' = ' with an answer behind it\n",
+        ),
+        (
+            b"pif-trace 1\nthread  10 = t1\n",
+            "pif: line 2: words are separated by one space, with none at either end: thread  10 = t1\n",
+        ),
+        (
+            b"pif-trace 1\nthread 10 = t1\npick = t1\n",
+            "pif: line 3: no such command in a trace: pick = t1\n",
+        ),
+        (
+            b"pif-trace 1\nthread 10 = t1\nlimits 1 1 1 1 = ok\n",
+            "pif: line 3: limits may stand on the second line only: limits 1 1 1 1 = ok\n",
+        ),
+        (
+            b"pif-trace 1\nthread 10 = t1",
+            "pif: line 2: the input ends inside the line, with no LF behind it: thread 10 = t1\n",
+        ),
+    ];
+    for (trace, message) in traces {
+        check_input(&rt, rt.alloc(), "replay", trace, (2, message));
+    }
+}
+
+#[test]
+fn a_difference_is_told_with_both_answers(rt: HostRuntime) {
+    let traces = [
+        (
+            b"pif-trace 1\nthread 10 = t2\n".as_slice(),
+            "pif: line 2: recorded 't2', but the core gives 't1': thread 10 = t2\n",
+        ),
+        (
+            b"pif-trace 1\nthread 10 = t1\ngo t1 = \n",
+            "pif: line 3: recorded '', but the core gives 'refused idle': go t1 = \n",
+        ),
+        (
+            b"pif-trace 1\nthread 10 = t1\r\n",
+            "pif: line 2: recorded 't1\\r', but the core gives 't1': thread 10 = t1\\r\n",
+        ),
+    ];
+    for (trace, message) in traces {
+        check_input(&rt, rt.alloc(), "replay", trace, (5, message));
+    }
+}
+
+#[test]
+fn a_failed_read_is_told(rt: HostRuntime) {
+    let told = (3, "pif: the input cannot be read\n");
+    for job in ["run", "replay", "trace"] {
+        check_told(&rt, rt.alloc(), job, &mut Broken, told);
+    }
+}
+
+/// Checks that the errors are told of an output that takes four bytes, whatever the words ask for.
+fn check_unwritten(
+    rt: &(impl Abort + Threads + Wait + Sync),
+    alloc: Global,
+    words: &[&str],
+    script: &str,
+) {
+    let mut output = ArrayVec::<u8, 4>::new();
+    let mut errors = Kept::new();
+    let mut input = script.as_bytes();
+    let ended = command(alloc, rt, words, &mut input, &mut output, &mut errors);
+    assert_eq!(rt; (ended, output.len()), (3, 4), "{words:?}");
+    assert!(rt; errors.as_slice() == b"pif: the output cannot be written\n".as_slice());
+}
+
+#[test]
+fn a_failed_write_is_told(rt: HostRuntime) {
+    let asked = [
+        ["pif", "run"].as_slice(),
+        ["pif", "trace"].as_slice(),
+        ["pif", "--help"].as_slice(),
+        ["pif", "--version"].as_slice(),
+        ["pif", "replay", "--help"].as_slice(),
+    ];
+    for words in asked {
+        check_unwritten(&rt, rt.alloc(), words, "thread 10\nthread 20\n");
+    }
+}
+
+#[test]
+fn a_message_that_cannot_be_written_leaves_the_status(rt: HostRuntime) {
+    let jobs = [
+        ("run", "pik\n", 2),
+        ("replay", "pif-trace 1\nthread 10 = t2\n", 5),
+    ];
+    for (job, text, status) in jobs {
+        let mut errors = ArrayVec::<u8, 4>::new();
+        let words = ["pif", job];
+        let mut input = text.as_bytes();
+        let ended = command(
+            rt.alloc(),
+            &rt,
+            words.as_slice(),
+            &mut input,
+            &mut Kept::new(),
+            &mut errors,
+        );
+        assert_eq!(rt; (ended, errors.as_slice()), (status, b"pif:".as_slice()));
+    }
+}
+
+/// A text, so many times these bytes, and another text.
+fn filled(text: &[u8], bytes: &[u8], times: u32, end: &[u8]) -> Kept {
+    let mut all = Kept::new();
+    let _ = all.try_extend_from_slice(text);
+    for _ in 0..times {
+        let _ = all.try_extend_from_slice(bytes);
+    }
+    let _ = all.try_extend_from_slice(end);
+    all
+}
+
+#[test]
+fn a_line_is_shown_in_120_bytes_at_most(rt: HostRuntime) -> Result<(), Fail> {
+    let long = b"pif: line 2: the line has more than 120 bytes: ".as_slice();
+    let unknown = b"pif: line 2: no such command: ".as_slice();
+    let lines = [
+        (b"x".as_slice(), 121, long, b"x".as_slice(), 120),
+        (b"x", 120, unknown, b"x", 120),
+        (b"\x01", 120, unknown, b"\\x01", 30),
+        (b"\xffabc", 30, unknown, b"\\xffabc", 17),
+    ];
+    for (bytes, times, said, shown, count) in lines {
+        let script = filled(b"pick\n", bytes, times, b"\n");
+        let message = filled(said, shown, count, b"\n");
+        let told = (2, from_utf8(message.as_slice())?);
+        check_input(&rt, rt.alloc(), "run", script.as_slice(), told);
+    }
+    Ok(())
+}
+
+#[test]
+fn faults_without_a_line_are_told_by_their_words(rt: HostRuntime) {
+    let size = CliFault::Script(18_446_744_073_709_551_615, Cause::Size);
+    let faults = [
+        (
+            JobFault::Cli(size),
+            "pif: line 18446744073709551615: the input has more than 16777216 bytes\n",
+        ),
+        (JobFault::Cli(CliFault::NoMemory), "pif: out of memory\n"),
+        (JobFault::Threads, "pif: a thread cannot be started\n"),
+        (
+            JobFault::Unsettled,
+            "pif: the desk does not settle with its clients\n",
+        ),
+    ];
+    for (fault, message) in faults {
+        let mut errors = Kept::new();
+        message_of(Job::Run, fault, &Notice::new()).tell(&mut errors);
+        assert!(rt; errors.as_slice() == message.as_bytes(), "{message:?}");
+    }
+}

@@ -1,0 +1,53 @@
+-- What the soundness of a table gives to the next step of a call on a condition variable.
+use Rattle.std.proofs.Common.{◌≡◌, ℕ, ◌<◌, true, false, ap, ◌∙◌, sym, subst}
+use Rattle.std.proofs.lemmas.Bool.{true≢false}
+use Rattle.pif_types.specs.declared.requests.Request.{Request}
+use Rattle.pif_types.specs.declared.requests.Request.TheVariants.{Wait, Signal, Broadcast}
+use Rattle.pif_model.specs.declared.lines.Line.TheVariants.{At}
+use Rattle.pif_model.specs.declared.lines.Place.{Place}
+use Rattle.pif_model.specs.declared.lines.Place.TheVariants.{WaitLoad, WaitUses, WaitPending, WaitHealth, WaitStore, WaitUnlink, WaitExchange, WaitKernel, WaitPark, WaitParked, UseExchange}
+use Rattle.pif_model.specs.PiKernel.{is_living}
+use Rattle.pif_model.specs.Table.{Table, line_at}
+use Rattle.pif_model.specs.Standing.{belongs, is_locking, CallIsSound, LineIsSound, IsSound}
+use Rattle.pif_simulation.proofs.Hole.{each_thread}
+use Rattle.pif_mutex.specs.Steppable.{is_of_mutexes}
+use Rattle.pif_cond.specs.Conditions.{is_of_conditions, is_of_wait, is_own}
+
+-- the call of a living thread is sound
+call_of : (s : Table) (t : ℕ) (q : Request) (p : Place) → IsSound s → is_living s.kernel t ≡ true
+    → line_at s t ≡ At q p → CallIsSound s t q p
+call_of s t q p h k e = subst (LineIsSound s t) e (each_thread h t k).line
+
+-- the exchange of a signal or a broadcast expects less than the variable may be used
+pub below_limit : (s : Table) (t : ℕ) (q : Request) (p : Place) → IsSound s → is_living s.kernel t ≡ true
+    → line_at s t ≡ At q p → (v : ℕ) → p ≡ UseExchange v → v < s.limits.signals
+below_limit s t q p h k e v at = (call_of s t q (UseExchange v) h k (e ∙ ap (At q) at)).needs.1.0
+
+-- a wait at a place that isn't its own is at one of lock
+locking_else : (p : Place) (c m : ℕ) → belongs (Wait c m) p ≡ true → is_of_wait p ≡ false → is_locking p ≡ true
+locking_else WaitLoad c m b e = absurd (true≢false e)
+locking_else WaitUses c m b e = absurd (true≢false e)
+locking_else (WaitPending v) c m b e = absurd (true≢false e)
+locking_else (WaitHealth v) c m b e = absurd (true≢false e)
+locking_else (WaitStore v) c m b e = absurd (true≢false e)
+locking_else (WaitUnlink v) c m b e = absurd (true≢false e)
+locking_else (WaitExchange v) c m b e = absurd (true≢false e)
+locking_else (WaitKernel v) c m b e = absurd (true≢false e)
+locking_else (WaitPark v) c m b e = absurd (true≢false e)
+locking_else WaitParked c m b e = absurd (true≢false e)
+locking_else p c m b e = b
+
+-- a step of a call on a condition variable that isn't its own is one on mutexes
+of_mutexes : (q : Request) (p : Place) → belongs q p ≡ true → is_of_conditions (At q p) ≡ true → is_own q p ≡ false
+    → is_of_mutexes (At q p) ≡ true
+of_mutexes (Wait c m) p b o e = locking_else p c m b e
+of_mutexes (Signal c) p b o e = absurd (true≢false e)
+of_mutexes (Broadcast c) p b o e = absurd (true≢false e)
+of_mutexes _ p b o e = absurd (true≢false (sym o))
+
+-- such a step is handed on
+pub handed_on : (s : Table) (t : ℕ) (q : Request) (p : Place) → IsSound s → is_living s.kernel t ≡ true
+    → line_at s t ≡ At q p → is_of_conditions (line_at s t) ≡ true → is_own q p ≡ false
+    → is_of_mutexes (line_at s t) ≡ true
+handed_on s t q p h k e o other =
+    rw e (of_mutexes q p (call_of s t q p h k e).belongs (rw e at o) other)

@@ -1,0 +1,149 @@
+ghost use Rattle.std.specs.Prelude.{ℕ, ◌≡◌, ◌≢◌, ◌<◌, true};
+ghost use Rattle.pif_types.specs.declared.requests.Request;
+ghost use Rattle.pif_model.specs.declared.lines.Place;
+ghost use Rattle.pif_model.specs.PiKernel.{is_living};
+ghost use Rattle.pif_model.specs.Table.{line_at, cell_at, has_thread, has_cond};
+ghost use Rattle.pif_model.specs.Lines.{line_of, use_line, go_outcome};
+ghost use Rattle.pif_mutex.specs.Outcomes.{outcome_of};
+ghost use Rattle.pif_mutex.specs.Steppable.{CallMayStep};
+ghost use Rattle.pif_cond.specs.Conditions.{is_of_conditions, is_of_wait, is_own};
+
+use crate::uses::{use_exchange, use_load, use_reload, use_requeue};
+use crate::wait::{
+    wait_exchange, wait_health, wait_kernel, wait_load, wait_park, wait_parked, wait_store,
+    wait_unlink, wait_uses,
+};
+use pif_kernel::PiKernel;
+use pif_model::{Line, Place};
+use pif_mutex::{Parts, Progress, State};
+use pif_types::{CondId, Errno, MutexId, Request, Tid};
+
+/// The thread, which lives and has a wait, a signal or a broadcast open, takes one step of it: one access of one word,
+/// one write of its robust list, one kernel call, or the answer with no access where the variable is bound to another
+/// mutex, and after a stalled mutex was handed to it; or it waits, and nothing changes (POSIX, pthread_cond_wait,
+/// pthread_cond_signal and pthread_cond_broadcast; futex(2), FUTEX_WAIT_REQUEUE_PI and FUTEX_CMP_REQUEUE_PI). Whoever
+/// owns a mutex after the step and did not before holds it once: the thread, the next waiter, or a thread that was
+/// parked.
+pub fn advance<K: PiKernel + Drop>(parts: &mut Parts<K>, t: Tid) -> Progress
+    requires living { is_living parts.old.kernel t ≡ true }
+    requires call { is_of_conditions (line_at parts.old t) ≡ true }
+    ensures line { outcome_of result parts.new ≡ go_outcome (line_at parts.old t) t parts.old }
+    ensures once { (m : ℕ) → (cell_at parts.new m).word.number ≢ (cell_at parts.old m).word.number
+        → (cell_at parts.new m).word.number ≢ 0 → (cell_at parts.new m).count ≡ 1 }
+{
+    match parts.state.line(t) {
+        Line::At(request, place) => {
+            if is_own(&request, &place) {
+                step(&mut parts.state, request, place, t)
+            } else {
+                pif_mutex::advance(parts, t)
+            }
+        }
+        Line::Idle => unreachable!(),
+    }
+}
+
+/// Whether a call takes a step of its own on a condition variable at this place.
+fn is_own(request: &Request, place: &Place) -> bool
+    ensures { result ≡ is_own request.now place.now }
+{
+    match request {
+        Request::Wait(_, _) => is_of_wait(place),
+        Request::Signal(_) | Request::Broadcast(_) => true,
+        _ => false,
+    }
+}
+
+/// Whether a wait takes a step of its own at this place.
+fn is_of_wait(place: &Place) -> bool
+    ensures { result ≡ is_of_wait place.now }
+{
+    match place {
+        Place::WaitLoad
+        | Place::WaitUses
+        | Place::WaitPending(_)
+        | Place::WaitHealth(_)
+        | Place::WaitStore(_)
+        | Place::WaitUnlink(_)
+        | Place::WaitExchange(_)
+        | Place::WaitKernel(_)
+        | Place::WaitPark(_)
+        | Place::WaitParked => true,
+        _ => false,
+    }
+}
+
+/// One step of the open call of `t`, which is this request at this place, on a condition variable.
+#[tactic(auto, unfolding(pif_model::specs::Lines::line_of))]
+fn step<K: PiKernel + Drop>(
+    state: &mut State<K>,
+    request: Request,
+    place: Place,
+    t: Tid,
+) -> Progress
+    requires known { has_thread state.old t ≡ true }
+    requires own { is_own request place ≡ true }
+    requires call { CallMayStep state.old t request place }
+    requires below { (v : ℕ) → place ≡ Place.UseExchange v → v < state.old.limits.signals }
+    ensures { outcome_of result state.new ≡ line_of request place t state.old }
+{
+    match request {
+        Request::Wait(c, m) => wait_step(state, place, c, m, t),
+        Request::Signal(c) => use_step(state, Request::Signal(c), place, c, t),
+        Request::Broadcast(c) => use_step(state, Request::Broadcast(c), place, c, t),
+        _ => unreachable!(),
+    }
+}
+
+/// One step of a wait, which is not one of lock.
+#[tactic(auto, unfolding(pif_model::specs::Lines::line_of))]
+fn wait_step<K: PiKernel + Drop>(
+    state: &mut State<K>,
+    place: Place,
+    c: CondId,
+    m: MutexId,
+    t: Tid,
+) -> Progress
+    requires known { has_thread state.old t ≡ true }
+    requires own { is_of_wait place ≡ true }
+    requires call { CallMayStep state.old t (Request.Wait c m) place }
+    ensures { outcome_of result state.new ≡ line_of (Request.Wait c m) place t state.old }
+{
+    let request = Request::Wait(c, m);
+    match place {
+        Place::WaitLoad => wait_load(state, c, m, t),
+        Place::WaitUses => wait_uses(state, c, m, t),
+        Place::WaitPending(uses) => state.name_pending(request, Place::WaitHealth(uses), t, m),
+        Place::WaitHealth(uses) => wait_health(state, uses, c, m, t),
+        Place::WaitStore(uses) => wait_store(state, uses, c, m, t),
+        Place::WaitUnlink(uses) => wait_unlink(state, uses, c, m, t),
+        Place::WaitExchange(uses) => wait_exchange(state, uses, c, m, t),
+        Place::WaitKernel(uses) => wait_kernel(state, uses, c, m, t),
+        Place::WaitPark(uses) => wait_park(state, uses, c, m, t),
+        Place::WaitParked => wait_parked(state, c, m, t),
+        _ => unreachable!(),
+    }
+}
+
+/// One step of a signal or a broadcast.
+#[tactic(auto, unfolding(pif_model::specs::Lines::use_line))]
+fn use_step<K: PiKernel + Drop>(
+    state: &mut State<K>,
+    request: Request,
+    place: Place,
+    c: CondId,
+    t: Tid,
+) -> Progress
+    requires known { has_thread state.old t ≡ true }
+    requires cond { has_cond state.old c ≡ true }
+    requires below { (v : ℕ) → place ≡ Place.UseExchange v → v < state.old.limits.signals }
+    ensures { outcome_of result state.new ≡ use_line request place c t state.old }
+{
+    match place {
+        Place::UseLoad => use_load(state, request, c, t),
+        Place::UseExchange(read) => use_exchange(state, request, read, c, t),
+        Place::UseRequeue(read) => use_requeue(state, request, read, c, t),
+        Place::UseReload => use_reload(state, request, c, t),
+        _ => state.answer(t, Errno::Invalid.number()),
+    }
+}

@@ -1,0 +1,201 @@
+ghost use Rattle.std.specs.Prelude.{◌≡◌, true};
+ghost use Rattle.pif_types.specs.declared.requests.Request;
+ghost use Rattle.pif_model.specs.declared.lines.Place;
+ghost use Rattle.pif_model.specs.Lines.{goes_to, gives_up, wait_load, wait_uses, wait_health, wait_exchange, wait_park, wait_parked};
+ghost use Rattle.pif_model.specs.PiKernel.{is_ready};
+ghost use Rattle.pif_model.specs.RobustList.{is_listed, without_listed};
+ghost use Rattle.pif_model.specs.Table.{has_thread, has_mutex, has_cond, status_at, with_health_word, with_lists};
+ghost use Rattle.pif_mutex.specs.Outcomes.{outcome_of};
+
+use pif_kernel::{PiKernel, Status, Woken};
+use pif_model::Place;
+use pif_mutex::{INCONSISTENT, Progress, State, UNUSABLE};
+use pif_types::{CondId, Errno, MutexId, Request, Tid};
+use pif_word::number;
+
+/// A mutex to which the variable is not bound is answered EINVAL with no access (POSIX, pthread_cond_wait: at one time
+/// the threads that wait on a variable have to use one mutex). Else loads the word: who is not the owner is answered
+/// EPERM, and an owner who holds the mutex more than once EINVAL.
+#[tactic(auto, unfolding(pif_model::specs::Lines::wait_load))]
+pub(crate) fn wait_load<K: PiKernel + Drop>(
+    state: &mut State<K>,
+    c: CondId,
+    m: MutexId,
+    t: Tid,
+) -> Progress
+    requires known { has_thread state.old t ≡ true }
+    requires cond { has_cond state.old c ≡ true }
+    requires mutex { has_mutex state.old m ≡ true }
+    ensures { outcome_of result state.new ≡ wait_load c m t state.old }
+{
+    if state.bound(c) != m {
+        state.answer(t, Errno::Invalid.number())
+    } else if number(state.word(m)) != t.get() {
+        state.answer(t, Errno::NotPermitted.number())
+    } else if state.count(m) > 1 {
+        state.answer(t, Errno::Invalid.number())
+    } else {
+        state.go_on(Request::Wait(c, m), Place::WaitUses, t)
+    }
+}
+
+/// Loads the condition word, while the caller still owns the mutex. What it was goes along.
+#[tactic(auto, unfolding(pif_model::specs::Lines::wait_uses))]
+pub(crate) fn wait_uses<K: PiKernel + Drop>(
+    state: &mut State<K>,
+    c: CondId,
+    m: MutexId,
+    t: Tid,
+) -> Progress
+    requires known { has_thread state.old t ≡ true }
+    requires cond { has_cond state.old c ≡ true }
+    requires mutex { has_mutex state.old m ≡ true }
+    ensures { outcome_of result state.new ≡ wait_uses c m t state.old }
+{
+    let uses = state.uses(c);
+    state.go_by(
+        Request::Wait(c, m),
+        m,
+        Place::WaitPending(uses),
+        Place::WaitExchange(uses),
+        t,
+    )
+}
+
+/// Loads the health word. An inconsistent mutex becomes unusable next.
+#[tactic(auto, unfolding(pif_model::specs::Lines::wait_health))]
+pub(crate) fn wait_health<K: PiKernel + Drop>(
+    state: &mut State<K>,
+    uses: u32,
+    c: CondId,
+    m: MutexId,
+    t: Tid,
+) -> Progress
+    requires known { has_thread state.old t ≡ true }
+    requires mutex { has_mutex state.old m ≡ true }
+    ensures { outcome_of result state.new ≡ wait_health uses c m t state.old }
+{
+    if state.health(m) == INCONSISTENT {
+        state.go_on(Request::Wait(c, m), Place::WaitStore(uses), t)
+    } else {
+        state.go_on(Request::Wait(c, m), Place::WaitUnlink(uses), t)
+    }
+}
+
+/// Stores in the health word that the mutex is unusable.
+pub(crate) fn wait_store<K: PiKernel + Drop>(
+    state: &mut State<K>,
+    uses: u32,
+    c: CondId,
+    m: MutexId,
+    t: Tid,
+) -> Progress
+    requires known { has_thread state.old t ≡ true }
+    requires mutex { has_mutex state.old m ≡ true }
+    ensures { outcome_of result state.new
+        ≡ goes_to t (Request.Wait c m) (Place.WaitUnlink uses) (with_health_word m 2 state.old) }
+{
+    state.set_health(m, UNUSABLE);
+    state.go_on(Request::Wait(c, m), Place::WaitUnlink(uses), t)
+}
+
+/// Takes the mutex off the list of the thread, on which it is.
+pub(crate) fn wait_unlink<K: PiKernel + Drop>(
+    state: &mut State<K>,
+    uses: u32,
+    c: CondId,
+    m: MutexId,
+    t: Tid,
+) -> Progress
+    requires known { has_thread state.old t ≡ true }
+    requires listed { is_listed state.old.lists t m ≡ true }
+    ensures { outcome_of result state.new
+        ≡ goes_to t (Request.Wait c m) (Place.WaitExchange uses)
+        (with_lists (without_listed t m state.old.lists) state.old) }
+{
+    state.unlist(t, m);
+    state.go_on(Request::Wait(c, m), Place::WaitExchange(uses), t)
+}
+
+/// Compare-exchange of the mutex's word from the number of the thread to 0.
+pub(crate) fn wait_exchange<K: PiKernel + Drop>(
+    state: &mut State<K>,
+    uses: u32,
+    c: CondId,
+    m: MutexId,
+    t: Tid,
+) -> Progress
+    requires known { has_thread state.old t ≡ true }
+    requires mutex { has_mutex state.old m ≡ true }
+    ensures { outcome_of result state.new ≡ wait_exchange uses c m t state.old }
+{
+    let number = state.number_of(t);
+    if state.exchange(m, number, 0) {
+        state.go_on(Request::Wait(c, m), Place::WaitPark(uses), t)
+    } else {
+        state.go_on(Request::Wait(c, m), Place::WaitKernel(uses), t)
+    }
+}
+
+/// The kernel call unlock_pi.
+#[tactic(auto, unfolding(pif_model::specs::Lines::gives_up, pif_model::specs::Lines::given_up_by), using(pif_mutex::proofs::KernelLeaves::unlock_keeps_threads))]
+pub(crate) fn wait_kernel<K: PiKernel + Drop>(
+    state: &mut State<K>,
+    uses: u32,
+    c: CondId,
+    m: MutexId,
+    t: Tid,
+) -> Progress
+    requires known { has_thread state.old t ≡ true }
+    requires ready { is_ready (status_at state.old t) ≡ true }
+    ensures { outcome_of result state.new
+        ≡ gives_up t m (goes_to t (Request.Wait c m) (Place.WaitPark uses)) state.old }
+{
+    match state.unlock_pi(t, m) {
+        Ok(()) => state.go_on(Request::Wait(c, m), Place::WaitPark(uses), t),
+        Err(error) => state.answer(t, error.number()),
+    }
+}
+
+/// The kernel call wait_requeue_pi (FUTEX_WAIT_REQUEUE_PI of futex(2)), which expects the condition word that was read
+/// before the mutex was given up. Where the variable was used since the thread is not parked, and locks the mutex
+/// again.
+#[tactic(auto, unfolding(pif_model::specs::Lines::wait_park, pif_model::specs::Lines::wait_by), using(pif_mutex::proofs::KernelLeaves::wait_requeue_keeps_threads))]
+pub(crate) fn wait_park<K: PiKernel + Drop>(
+    state: &mut State<K>,
+    uses: u32,
+    c: CondId,
+    m: MutexId,
+    t: Tid,
+) -> Progress
+    requires known { has_thread state.old t ≡ true }
+    requires ready { is_ready (status_at state.old t) ≡ true }
+    ensures { outcome_of result state.new ≡ wait_park uses c m t state.old }
+{
+    let request = Request::Wait(c, m);
+    match state.wait_requeue_pi(t, c, uses, m) {
+        Ok(()) => state.wait(request, Place::WaitParked, t),
+        Err(Errno::Again) => state.go_on(request, Place::LockExchange, t),
+        Err(error) => state.answer(t, error.number()),
+    }
+}
+
+/// Parked, or queued since, and waits; or woken to lock the mutex, which is the exchange of a lock; or made the owner,
+/// which goes on as a lock that was queued.
+#[tactic(auto, unfolding(pif_model::specs::Lines::wait_parked))]
+pub(crate) fn wait_parked<K: PiKernel + Drop>(
+    state: &mut State<K>,
+    c: CondId,
+    m: MutexId,
+    t: Tid,
+) -> Progress
+    requires known { has_thread state.old t ≡ true }
+    requires mutex { has_mutex state.old m ≡ true }
+    ensures { outcome_of result state.new ≡ wait_parked c m t state.old }
+{
+    let request = Request::Wait(c, m);
+    match state.status(t) {
+        Status::Ready(Woken::Again) => state.own_exchange(request, Place::LockKernel, t, m),
+        _ => state.lock_queued(request, t, m),
+    }
+}

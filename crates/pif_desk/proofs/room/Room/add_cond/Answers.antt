@@ -1,0 +1,16 @@
+-- The core stands after the journal with the addition.
+use Rattle.std.proofs.Common.{ap, ◌∙◌, ◌++◌, [], ◌∷◌, List}
+use Rattle.pif_model.specs.declared.events.Entry.{Entry}
+use Rattle.pif_model.specs.declared.events.Entry.TheVariants.{Cond as Added}
+use Rattle.pif_desk.proofs.Journals.{stands_on}
+use Rattle.pif_desk.proofs.room.Room.add_cond.Goals as goal
+
+pub invariant_of-self-in-Ok : goal.invariant_of-self-in-Ok
+invariant_of-self-in-Ok c =
+    let entry = Added c.in-Ok.c c.args.mutex in
+    let more = c.write.ensures ∙ ap (λ (e : Entry). c.make_room.new.items.items ++ e ∷ []) c.cond_entry.ensures
+    ∙ ap (λ (j : List Entry). j ++ entry ∷ []) c.make_room.ensures.items in (
+      c.self.invariant.0,
+      stands_on c.self.inside.core c.add_cond.new.self c.self.inside.journal.items c.write.new.journal.items entry more
+          c.in-Ok.ensures.stands c.self.invariant.1,
+    )

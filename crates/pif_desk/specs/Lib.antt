@@ -1,0 +1,3 @@
+pub mod Logs
+pub mod Rooms
+pub mod Settling

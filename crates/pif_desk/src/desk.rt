@@ -1,0 +1,88 @@
+//! A room behind a lock, which real threads share.
+ghost use Rattle.std.specs.Prelude.{◌≡◌, IfOk};
+ghost use Rattle.pif_model.specs.Posix.{IsLegal};
+ghost use Rattle.pif_desk.specs.Logs.{no_calls};
+ghost use Rattle.pif_desk.specs.Rooms.{history_of, StandsAfter};
+
+use crate::client::Client;
+use crate::faults::DeskFault;
+use crate::room::Room;
+use pif_core::Core;
+use pif_model::Seen;
+use pif_types::{CondId, Kind, Limits, MutexId, NoMemory, Tid};
+use std::alloc::Global;
+use std::sync::{Condvar, Mutex, Wait};
+
+/// What a client does after each of its events, outside the lock.
+pub trait Pause {
+    /// Called after an event of this thread that was answered so.
+    fn after(&self, t: Tid, seen: Seen);
+}
+
+/// A pause that does nothing.
+#[derive(Clone, Copy, Drop)]
+pub struct NoPause;
+
+impl Pause for NoPause {
+    fn after(&self, _t: Tid, _seen: Seen) {}
+}
+
+/// A room behind a lock. Each event and each addition is one acquisition of the lock; whenever it is free, the core
+/// stands after the journal.
+#[derive(Drop)]
+pub struct Desk<P: Pause + Drop> {
+    pub(crate) room: Mutex<Room>,
+    pub(crate) moved: Condvar,
+    pub(crate) pause: P,
+    alloc: Global,
+}
+
+impl<P: Pause + Drop> Desk<P> {
+    /// A desk under these limits to which nothing was added. It fails where the core's memory is refused.
+    pub fn new(alloc: Global, limits: Limits, pause: P) -> Result<Desk<P>, NoMemory> {
+        let core = Core::new(alloc, limits)?;
+        Ok(Desk {
+            room: Mutex::new(Room::new(alloc, core)),
+            moved: Condvar::new(),
+            pause,
+            alloc,
+        })
+    }
+
+    /// Adds a thread of this base priority, and gives its client, whose log is empty. Nothing has changed where the
+    /// core refuses it, or by `NoMemory` where the journal can't grow.
+    pub fn enter<R: Wait>(&self, rt: &R, prio: u32) -> Result<Client, DeskFault>
+        ensures { IfOk result (λ c. c.log ≡ no_calls) }
+    {
+        let t = self.room.lock(rt).add_thread(prio)?;
+        Ok(Client::new(self.alloc, t))
+    }
+
+    /// Adds a mutex of this kind. Nothing has changed where the core refuses it, or by `NoMemory` where the journal
+    /// can't grow.
+    pub fn make_mutex<R: Wait>(
+        &self,
+        rt: &R,
+        kind: Kind,
+        robust: bool,
+    ) -> Result<MutexId, DeskFault> {
+        self.room.lock(rt).add_mutex(kind, robust)
+    }
+
+    /// Adds a condition variable that is bound to this mutex. Nothing has changed where the core refuses it, or by
+    /// `NoMemory` where the journal can't grow.
+    pub fn make_cond<R: Wait>(&self, rt: &R, mutex: MutexId) -> Result<CondId, DeskFault> {
+        self.room.lock(rt).add_cond(mutex)
+    }
+
+    /// Takes the room out of its lock.
+    pub fn into_room(self) -> Room
+        ensures stands { StandsAfter result.core result.journal }
+        ensures legal { IsLegal result.core.limits (history_of result.journal) }
+    {
+        let room = self.room.into_inner();
+        // This reads the journal, so that the proof has what the type of a room keeps.
+        let _journal = &room.journal;
+        room
+    }
+}

@@ -1,0 +1,5 @@
+mod memory;
+mod receipts;
+mod scenes;
+mod stress;
+mod threads;

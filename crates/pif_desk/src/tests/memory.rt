@@ -1,0 +1,112 @@
+//! The journal's growth is refused between two events of a call.
+ghost use Rattle.std.specs.Prelude.{◌≤◌};
+
+use super::scenes::{desk_of, enter, settled};
+use crate::{Client, Desk, DeskFault, NoPause};
+use pif_types::{Kind, MutexId, Refusal, Request};
+use std::process::Abort;
+use std::sync::Wait;
+use std::test::Fail;
+
+/// Each growth of a full journal has to make room for so many entries: no list has room for `usize::MAX`.
+fn set_growth(rt: &impl Wait, desk: &Desk<NoPause>, growth: usize)
+    requires { 1 ≤ growth }
+{
+    let mut room = desk.room.lock(rt);
+    room.growth = growth;
+}
+
+/// How many entries there is room for.
+fn room_left(rt: &impl Wait, desk: &Desk<NoPause>) -> usize {
+    let room = desk.room.lock(rt);
+    room.journal.capacity().wrapping_sub(room.journal.len())
+}
+
+/// Makes mutexes until the journal has room for one entry alone, and refuses its growth from then on.
+fn refuse_growth(rt: &impl Wait, desk: &Desk<NoPause>) -> Result<(), DeskFault> {
+    for _ in 0..60 {
+        if room_left(rt, desk) == 1 {
+            break;
+        }
+        let _mutex = desk.make_mutex(rt, Kind::Normal, false)?;
+    }
+    set_growth(rt, desk, usize::MAX);
+    Ok(())
+}
+
+/// The request to lock mutex 1.
+fn lock() -> Request {
+    Request::Lock(MutexId::default())
+}
+
+/// A call is refused memory at its second event, and stays open.
+fn begin_call<R: Wait + Abort>(
+    rt: &R,
+    desk: &Desk<NoPause>,
+    client: &mut Client,
+) -> Result<(), Fail> {
+    refuse_growth(rt, desk)?;
+    assert!(rt; matches!(client.call(rt, desk, lock()), Err(DeskFault::NoMemory)));
+    assert!(rt; client.is_open());
+    set_growth(rt, desk, 1);
+    Ok(())
+}
+
+/// Another call is refused while one is open; the open one goes on.
+fn resume_call<R: Wait + Abort>(
+    rt: &R,
+    desk: &Desk<NoPause>,
+    client: &mut Client,
+) -> Result<(), Fail> {
+    let busy = client.call(rt, desk, lock()).err();
+    assert_eq!(rt; busy, Some(DeskFault::Refused(Refusal::Busy)));
+    let receipt = client.resume(rt, desk)?;
+    assert_eq!(rt; (receipt.request, receipt.answer), (lock(), 0));
+    assert!(rt; !client.is_open());
+    Ok(())
+}
+
+/// The client ends with its call open.
+fn quit<R: Wait + Abort>(rt: &R, desk: &Desk<NoPause>, client: &mut Client) -> Result<(), Fail> {
+    client.quit(rt, desk)?;
+    let dead = client.resume(rt, desk).err();
+    assert_eq!(rt; dead, Some(DeskFault::Refused(Refusal::Dead)));
+    Ok(())
+}
+
+/// A client's call is refused memory, and then the client resumes it, or quits.
+fn call_and_end<R: Wait + Abort>(
+    rt: &R,
+    desk: &Desk<NoPause>,
+    clients: &mut Vec<Client>,
+    resumes: bool,
+) -> Result<(), Fail> {
+    enter(rt, desk, 1, clients)?;
+    for client in clients.iter_mut() {
+        begin_call(rt, desk, client)?;
+        if resumes {
+            resume_call(rt, desk, client)?;
+        } else {
+            quit(rt, desk, client)?;
+        }
+    }
+    Ok(())
+}
+
+#[test]
+fn refused_journal_growth_leaves_call_open(rt: HostRuntime) -> Result<(), Fail> {
+    let mut clients = Vec::new(rt.alloc());
+    let desk = desk_of(&rt, rt.alloc(), Kind::Normal, false)?;
+    call_and_end(&rt, &desk, &mut clients, true)?;
+    assert_eq!(rt; settled(desk.into_room(), clients), Ok(1));
+    Ok(())
+}
+
+#[test]
+fn quit_after_refused_memory(rt: HostRuntime) -> Result<(), Fail> {
+    let mut clients = Vec::new(rt.alloc());
+    let desk = desk_of(&rt, rt.alloc(), Kind::Normal, false)?;
+    call_and_end(&rt, &desk, &mut clients, false)?;
+    assert_eq!(rt; settled(desk.into_room(), clients), Ok(0));
+    Ok(())
+}

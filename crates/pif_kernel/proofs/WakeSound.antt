@@ -1,0 +1,110 @@
+-- What is kept stays sound where a parked thread is woken.
+use Rattle.std.proofs.Common.{◌≡◌, ◌≢◌, ℕ, ◌<◌, ◌≤◌, Bool, true, false, if◌then◌else◌, length, set, None, refl, sym, ap, ◌∙◌, subst, arith}
+use Rattle.std.proofs.lemmas.Bool.{true≢false}
+use Rattle.pif_nodes.specs.Table.{Table, holder}
+use Rattle.pif_runq.specs.Levels.{Queue, Holds, IsLevel, level_of, node_for}
+use Rattle.pif_runq.specs.Levels.{level_after_add}
+use Rattle.pif_model.specs.declared.lines.Status.{Status}
+use Rattle.pif_model.specs.declared.lines.Status.TheVariants.{Ready, Queued, Parked, Stopped, Ended}
+use Rattle.pif_model.specs.declared.lines.Woken.{Woken}
+use Rattle.pif_model.specs.PiKernel.{IsKernel, queued_on, has_seat, is_ready, is_parked, level_at, effective_in, levels_with, kernel_after_waking}
+use Rattle.pif_model.specs.PiKernel.{seat_at as kernel_seat_at}
+use Rattle.pif_rtmutex.specs.Owners.{seat_at}
+use Rattle.pif_chains.proofs.KernelWoken.{added-from_parked, kernel-woken}
+use Rattle.pif_kernel.specs.Plain.{Plain, IsSound, kernel_of, status_at, parked_but}
+use Rattle.pif_kernel.proofs.Seats.{status_seen, added_seen, kernel_by_parts, seats_of-set_status}
+use Rattle.pif_kernel.proofs.Parked.{parked_but-seen}
+use Rattle.pif_kernel.proofs.Picked.{levels_joined, length-joined}
+use Rattle.pif_kernel.proofs.Standing.{fits, effective_level, unqueued_free}
+use Rattle.pif_kernel.proofs.MovedSound.{sound_moved}
+
+-- who is parked is parked on a variable
+pub parked_somewhere : (x : Status) → is_parked x ≡ true → (c : ℕ) × (x ≡ Parked c)
+parked_somewhere (Parked c) e = (c, refl)
+parked_somewhere (Ready w) e = absurd (true≢false (sym e))
+parked_somewhere (Queued m) e = absurd (true≢false (sym e))
+parked_somewhere Stopped e = absurd (true≢false (sym e))
+parked_somewhere Ended e = absurd (true≢false (sym e))
+
+module _ (p : Plain) (u : ℕ) (h : IsSound p) (c : ℕ) (was : (kernel_seat_at (kernel_of p) u).status ≡ Parked c) where
+  -- it was added
+  pub parked_added : has_seat (kernel_of p) u ≡ true
+  parked_added = added-from_parked (kernel_of p) h.kernel u c was
+
+  -- it has a number, and stands within
+  pub parked_number : (u ≢ 0) × (u < length p.statuses)
+  parked_number = added_seen p (fits p h) u parked_added
+
+  -- its priority is a level
+  pub parked_level : 1 ≤ (seat_at p.owners u).local
+  parked_level = omega (arith, h.local u, (effective_level p h u parked_added).0)
+
+  -- it is on no level
+  pub parked_free : holder p.table (node_for p.queue u) ≡ None
+  parked_free = unqueued_free p h u (omega (arith, some u parked_number.0))
+      (λ r. h.kernel.level u r ∙ rw (ap is_ready was) (both_false (has_seat (kernel_of p) u)))
+    where
+      some : (n : ℕ) → n ≢ 0 → 1 ≤ n
+      some n z = grind (arith, z)
+
+      both_false : (b : Bool) → (if b then false else false) ≡ false
+      both_false true = refl
+      both_false false = refl
+
+  module _ (w : Woken) (prio : ℕ) (rank_is : prio ≡ effective_in (kernel_of p) u) (q : Queue) (tb : Table)
+      (place : q ≡ record p.queue { mask = q.mask })
+      (levels : (r : ℕ) → IsLevel r → level_of q tb r ≡ level_after_add u prio r (level_of p.queue p.table r))
+      (holds : Holds q tb) (count : length tb.lists ≡ length p.table.lists) where
+    -- what is kept then
+    abbrev pub after : Plain
+    after = record p {
+      statuses = set p.statuses u (Ready w);
+      queue = q;
+      table = tb;
+      parked = parked_but p.parked u;
+    }
+
+    -- the kernel by itself then
+    pub kernel_woken : kernel_of after ≡ kernel_after_waking u w (kernel_of p)
+    unfolding kernel_of kernel_after_waking
+    kernel_woken =
+        kernel_by_parts (kernel_of after) (kernel_after_waking u w (kernel_of p)) refl
+        (seats_of-set_status p.statuses p.owners.seats u (Ready w) (fits p h).few) refl (λ m. refl) refl
+        (parked_but-seen p.parked u) (length-joined p after u (effective_in (kernel_of p) u))
+        (λ r. levels_joined p after u prio level levels r
+        ∙ ap (λ (n : ℕ). level_at (levels_with u n (kernel_of p).levels) r) rank_is)
+      where
+        level : IsLevel prio
+        level = subst IsLevel (sym rank_is) (effective_level p h u parked_added)
+
+    kept : IsKernel (kernel_of after)
+    kept = subst IsKernel (sym kernel_woken) (kernel-woken u w (kernel_of p) h.kernel c was)
+
+    idle : queued_on (status_at p u) ≡ 0
+    idle = ap queued_on (sym (status_seen p (fits p h) u) ∙ was)
+
+    -- and all is sound
+    pub sound_woken : IsSound after
+    sound_woken =
+        sound_moved p (Ready w) (parked_but p.parked u) q tb u h idle refl place holds count kept
+
+-- the same, as it is written
+pub woken_ends : (p x : Plain) (u : ℕ) → IsSound p → (c : ℕ) → (kernel_seat_at (kernel_of p) u).status ≡ Parked c
+    → (w : Woken) (prio : ℕ) (q : Queue) (tb : Table) → x ≡ record p { parked = parked_but p.parked u }
+    → prio ≡ (seat_at x.owners u).local → q ≡ record x.queue { mask = q.mask }
+    → ((r : ℕ) → IsLevel r → level_of q tb r ≡ level_after_add u prio r (level_of x.queue x.table r)) → Holds q tb
+    → length tb.lists ≡ length x.table.lists
+    → (kernel_of (record x { statuses = set x.statuses u (Ready w); queue = q; table = tb })
+    ≡ kernel_after_waking u w (kernel_of p))
+    × IsSound (record x { statuses = set x.statuses u (Ready w); queue = q; table = tb })
+woken_ends p x u h c was w prio q tb e =
+    subst (λ (y : Plain). prio ≡ (seat_at y.owners u).local → q ≡ record y.queue { mask = q.mask }
+    → ((r : ℕ) → IsLevel r → level_of q tb r ≡ level_after_add u prio r (level_of y.queue y.table r)) → Holds q tb
+    → length tb.lists ≡ length y.table.lists
+    → (kernel_of (record y { statuses = set y.statuses u (Ready w); queue = q; table = tb })
+    ≡ kernel_after_waking u w (kernel_of p))
+    × IsSound (record y { statuses = set y.statuses u (Ready w); queue = q; table = tb })) (sym e)
+    (λ rank place levels holds count. (
+      kernel_woken p u h c was w prio (rank ∙ h.local u) q tb place levels holds count,
+      sound_woken p u h c was w prio (rank ∙ h.local u) q tb place levels holds count,
+    ))

@@ -1,0 +1,366 @@
+-- The entries that a command makes, and their lines.
+use Rattle.std.proofs.Common.{◌≡◌, ℕ, ◌+◌, ◌-◌, ◌<◌, ◌≤◌, suc, zero, cond, Bool, true, false, List, [], ◌∷◌, ◌++◌, Option, Some, None, Result, Ok, Err, refl, sym, ap, ◌∙◌, subst, append_assoc, append-nil, ◌⊎◌, inl, inr, arith}
+use Rattle.pif_types.specs.declared.errors.AddFault.{AddFault}
+use Rattle.pif_types.specs.declared.requests.Kind.{Kind}
+use Rattle.pif_types.specs.declared.requests.Request.{Request}
+use Rattle.pif_types.specs.Bounds.{Bounds}
+use Rattle.pif_model.specs.declared.events.Entry.{Entry}
+use Rattle.pif_model.specs.declared.events.Event.{Event}
+use Rattle.pif_model.specs.declared.events.Event.TheVariants.{Begin as BeginEvent, Go as GoEvent, End as EndEvent}
+use Rattle.pif_model.specs.declared.events.Seen.{Seen}
+use Rattle.pif_model.specs.declared.events.Seen.TheVariants.{Begun, Went, Waits, Answered, Ended, Refused}
+use Rattle.pif_model.specs.Calls.{add_thread_answer, add_mutex_answer, add_cond_answer}
+use Rattle.pif_model.specs.Table.{Table, new_table}
+use Rattle.pif_model.specs.Lines.{event_outcome}
+use Rattle.pif_text.specs.declared.commands.Command.{Command}
+use Rattle.pif_text.specs.declared.commands.Command.TheVariants as command
+use Rattle.pif_text.specs.declared.replies.Cause.TheVariants.{Limits as LimitsCause}
+use Rattle.pif_text.specs.declared.replies.Reply.{Reply}
+use Rattle.pif_text.specs.declared.replies.Reply.TheVariants as reply
+use Rattle.pif_scripts.specs.Running.{Answer, IsAnswer, answer_or_fault, call_outcome, command_answer, default_limits, finish_outcome, are_limits, first_answer, limited_answer, limits_in, reply_of_seen, reply_of_thread, reply_of_mutex, reply_of_cond}
+use Rattle.pif_scripts.specs.Traces.{entry_line, entry_text, event_command}
+use Rattle.pif_scripts.specs.Transcripts.{Transcribed, call_entries, command_entries, cond_entries, entry_lines, event_entry, finish_entries, first_limits, going_entries, mutex_entries, row, single_line, thread_entries, was_made}
+use Rattle.pif_scripts.proofs.RunningLemmas.{answered-later, first_answer-later}
+
+-- the line of an event
+pub step-row : (e : Event) (s : Table) (c : Command) (r : Reply) → c ≡ event_command e
+    → r ≡ reply_of_seen (event_outcome e s).seen → row c r ≡ entry_line (event_entry e s)
+unfolding entry_text
+step-row e s c r p q = rw (p, q) refl
+
+-- ---- going on
+
+went-seen : {A : Type 0} (x : Seen) (f g : A) → x ≡ Went → ◌≡◌ {A = A} (elim x [ Went ↦ f | _ ↦ g ]) f
+went-seen Went f g e = refl
+went-seen (Refused r) f g e = cc
+went-seen Begun f g e = cc
+went-seen Waits f g e = cc
+went-seen (Answered a) f g e = cc
+went-seen Ended f g e = cc
+
+pub going-went : (more t : ℕ) (s : Table) → (event_outcome (GoEvent t) s).seen ≡ Went
+    → going_entries (suc more) t s
+    ≡ event_entry (GoEvent t) s ∷ going_entries more t (event_outcome (GoEvent t) s).after
+unfolding going_entries
+going-went more t s e = went-seen (event_outcome (GoEvent t) s).seen _ _ e
+
+pub going-other : (more t : ℕ) (s : Table) → ((event_outcome (GoEvent t) s).seen ≡ Went → ⊥)
+    → going_entries more t s ≡ event_entry (GoEvent t) s ∷ []
+unfolding going_entries
+going-other zero t s e = refl
+going-other (suc more) t s e = by-seen (event_outcome (GoEvent t) s).seen refl
+  where
+    by-seen : (x : Seen) → (event_outcome (GoEvent t) s).seen ≡ x
+        → going_entries (suc more) t s ≡ event_entry (GoEvent t) s ∷ []
+    by-seen x p =
+        let P : Seen → Type 0 = λ y. ◌≡◌ {A = List Entry}
+        (elim y [
+          | Went ↦ event_entry (GoEvent t) s ∷ going_entries more t (event_outcome (GoEvent t) s).after
+          | _ ↦ event_entry (GoEvent t) s ∷ []
+        ])
+        (event_entry (GoEvent t) s ∷ []) in
+        subst P (sym p) (elim x as (λ y. (y ≡ Went → ⊥) → P y) [
+          | Went ↦ λ n. absurd (n refl)
+          | Begun ↦ λ n. refl
+          | Waits ↦ λ n. refl
+          | Answered a ↦ λ n. refl
+          | Ended ↦ λ n. refl
+          | Refused r ↦ λ n. refl
+        ] (λ q. e (p ∙ q)))
+
+going-zero : (t : ℕ) (s : Table) → going_entries 0 t s ≡ event_entry (GoEvent t) s ∷ []
+unfolding going_entries
+going-zero t s = refl
+
+one-line : (e : Entry) → entry_lines (e ∷ []) ≡ entry_line e
+one-line e = append-nil (entry_line e)
+
+-- one step further in a loop that counts to 23
+pub going-turn : (i t : ℕ) (s u : Table) (now next all : List ℕ) → i < 23
+    → (event_outcome (GoEvent t) s).seen ≡ Went → u ≡ (event_outcome (GoEvent t) s).after
+    → now ++ entry_lines (going_entries (23 - i) t s) ≡ all
+    → next ≡ now ++ entry_line (event_entry (GoEvent t) s)
+    → next ++ entry_lines (going_entries (23 - (i + 1)) t u) ≡ all
+going-turn i t s u now next all h e f told line =
+    let n : 23 - i ≡ suc (23 - (i + 1)) = omega arith in
+    let rest = going_entries (23 - (i + 1)) t u in
+    let same : going_entries (23 - i) t s ≡ event_entry (GoEvent t) s ∷ rest =
+    ap (λ k. going_entries k t s) n ∙ going-went (23 - (i + 1)) t s e
+    ∙ ap (λ v. event_entry (GoEvent t) s ∷ going_entries (23 - (i + 1)) t v) (sym f) in
+    ap (λ l. l ++ entry_lines rest) line
+    ∙ append_assoc now (entry_line (event_entry (GoEvent t) s)) (entry_lines rest)
+    ∙ ap (λ l. now ++ entry_lines l) (sym same) ∙ told
+
+-- the last step
+going-ends : (n t : ℕ) (s : Table) (now next all : List ℕ)
+    → going_entries n t s ≡ event_entry (GoEvent t) s ∷ []
+    → now ++ entry_lines (going_entries n t s) ≡ all → next ≡ now ++ entry_line (event_entry (GoEvent t) s) → next ≡ all
+going-ends n t s now next all e told line =
+    line ∙ ap (λ l. now ++ l) (sym (one-line (event_entry (GoEvent t) s))) ∙ ap (λ l. now ++ entry_lines l) (sym e) ∙ told
+
+pub going-stops : (n t : ℕ) (s : Table) (now next old : List ℕ) (u : Table)
+    → ((event_outcome (GoEvent t) s).seen ≡ Went → ⊥)
+    → now ++ entry_lines (going_entries n t s) ≡ old ++ entry_lines (going_entries 23 t u)
+    → next ≡ now ++ entry_line (event_entry (GoEvent t) s) → next ≡ old ++ entry_lines (finish_entries t u)
+unfolding finish_entries
+going-stops n t s now next old u e told line = going-ends n t s now next _ (going-other n t s e) told line
+
+pub going-last : (i t : ℕ) (s : Table) (now next old : List ℕ) (u : Table) → 23 ≤ i
+    → now ++ entry_lines (going_entries (23 - i) t s) ≡ old ++ entry_lines (going_entries 23 t u)
+    → next ≡ now ++ entry_line (event_entry (GoEvent t) s) → next ≡ old ++ entry_lines (finish_entries t u)
+unfolding finish_entries
+going-last i t s now next old u h told line =
+    let n : 23 - i ≡ 0 = omega arith in
+    going-ends (23 - i) t s now next _ (ap (λ k. going_entries k t s) n ∙ going-zero t s) told line
+
+-- ---- a call
+
+pub refused-seen : {A : Type 0} (x : Seen) (f g : A) (r : _) → x ≡ Refused r → ◌≡◌ {A = A} (elim x [ Refused r ↦ f | _ ↦ g ]) f
+refused-seen (Refused q) f g r e = refl
+refused-seen Begun f g r e = cc
+refused-seen Went f g r e = cc
+refused-seen Waits f g r e = cc
+refused-seen (Answered a) f g r e = cc
+refused-seen Ended f g r e = cc
+
+pub other-seen : {A : Type 0} (x : Seen) (f g : A) → ((r : _) → x ≡ Refused r → ⊥)
+    → ◌≡◌ {A = A} (elim x [ Refused r ↦ f | _ ↦ g ]) g
+other-seen (Refused r) f g n = absurd (n r refl)
+other-seen Begun f g n = refl
+other-seen Went f g n = refl
+other-seen Waits f g n = refl
+other-seen (Answered a) f g n = refl
+other-seen Ended f g n = refl
+
+pub call-refused : (t : ℕ) (q : Request) (s : Table) (r : _) (now next : List ℕ)
+    → (event_outcome (BeginEvent t q) s).seen ≡ Refused r
+    → next ≡ now ++ entry_line (event_entry (BeginEvent t q) s)
+    → (call_outcome t q s ≡ event_outcome (BeginEvent t q) s) × (next ≡ now ++ entry_lines (call_entries t q s))
+unfolding call_outcome call_entries
+call-refused t q s r now next e line =
+    let seen = (event_outcome (BeginEvent t q) s).seen in
+    let rest = finish_entries t (event_outcome (BeginEvent t q) s).after in (
+      refused-seen seen _ _ r e,
+      line ∙ ap (λ l. now ++ l) (sym (one-line (event_entry (BeginEvent t q) s)))
+          ∙ ap (λ l. now ++ (entry_line (event_entry (BeginEvent t q) s) ++ entry_lines l))
+          (sym (refused-seen seen [] rest r e)),
+    )
+
+pub call-begun : (t : ℕ) (q : Request) (s u : Table) (now begun next : List ℕ)
+    → ((r : _) → (event_outcome (BeginEvent t q) s).seen ≡ Refused r → ⊥)
+    → u ≡ (event_outcome (BeginEvent t q) s).after → begun ≡ now ++ entry_line (event_entry (BeginEvent t q) s)
+    → next ≡ begun ++ entry_lines (finish_entries t u)
+    → (call_outcome t q s ≡ finish_outcome t u) × (next ≡ now ++ entry_lines (call_entries t q s))
+unfolding call_outcome call_entries
+call-begun t q s u now begun next n after line more =
+    let e = event_entry (BeginEvent t q) s in
+    let rest = finish_entries t (event_outcome (BeginEvent t q) s).after in (
+      other-seen (event_outcome (BeginEvent t q) s).seen _ _ n ∙ ap (finish_outcome t) (sym after),
+      more ∙ ap (λ l. l ++ entry_lines (finish_entries t u)) line
+          ∙ append_assoc now (entry_line e) (entry_lines (finish_entries t u))
+          ∙ ap (λ v. now ++ (entry_line e ++ entry_lines (finish_entries t v))) after
+          ∙ ap (λ l. now ++ (entry_line e ++ entry_lines l))
+          (sym (other-seen (event_outcome (BeginEvent t q) s).seen [] rest n)),
+    )
+
+-- ---- commands
+
+pub call-answer : (t : ℕ) (q : Request) (s u : Table) (seen : Seen) (r : Reply) → r ≡ reply_of_seen seen
+    → seen ≡ (call_outcome t q s).seen → u ≡ (call_outcome t q s).after
+    → command_answer (command.Call t q) s ≡ Some (r, u)
+unfolding command_answer
+call-answer t q s u seen r p e f = rw (p, e, f) refl
+
+pub finish-answer : (t : ℕ) (s u : Table) (seen : Seen) (r : Reply) → r ≡ reply_of_seen seen
+    → seen ≡ (finish_outcome t s).seen → u ≡ (finish_outcome t s).after
+    → command_answer (command.Finish t) s ≡ Some (r, u)
+unfolding command_answer
+finish-answer t s u seen r p e f = rw (p, e, f) refl
+
+thread-line : (p : ℕ) (a : Result ℕ AddFault)
+    → single_line (command.Thread p) (reply_of_thread a) ≡ entry_lines (thread_entries p a)
+unfolding entry_text
+thread-line p (Ok t) = sym (append-nil _)
+thread-line p (Err e) = refl
+
+mutex-line : (k : Kind) (robust : Bool) (a : Result ℕ AddFault)
+    → single_line (command.Mutex k robust) (reply_of_mutex a) ≡ entry_lines (mutex_entries k robust a)
+unfolding entry_text
+mutex-line k robust (Ok m) = sym (append-nil _)
+mutex-line k robust (Err e) = refl
+
+cond-line : (m : ℕ) (a : Result ℕ AddFault)
+    → single_line (command.Cond m) (reply_of_cond a) ≡ entry_lines (cond_entries m a)
+unfolding entry_text
+cond-line m (Ok c) = sym (append-nil _)
+cond-line m (Err e) = refl
+
+seen-made : (x : Seen) → was_made (reply_of_seen x) ≡ true
+seen-made Begun = refl
+seen-made Went = refl
+seen-made Waits = refl
+seen-made (Answered a) = refl
+seen-made Ended = refl
+seen-made (Refused r) = refl
+
+event-line : (e : Event) (s : Table) → single_line (event_command e) (reply_of_seen (event_outcome e s).seen)
+    ≡ entry_lines (event_entry e s ∷ [])
+unfolding entry_text
+event-line (BeginEvent t q) s =
+    rw (seen-made (event_outcome (BeginEvent t q) s).seen) (sym (append-nil _))
+event-line (GoEvent t) s = rw (seen-made (event_outcome (GoEvent t) s).seen) (sym (append-nil _))
+event-line (EndEvent t) s = rw (seen-made (event_outcome (EndEvent t) s).seen) (sym (append-nil _))
+
+replied : (x y : Answer) → ◌≡◌ {A = Option Answer} (Some x) (Some y) → x.0 ≡ y.0
+replied x y e = let same : x ≡ y = cc in ap (λ (z : Answer). z.0) same
+
+-- the line of a command that makes one entry at most
+pub single-lines : (c : Command) (s t : Table) (r : Reply) → ((u : ℕ) (q : Request) → c ≡ command.Call u q → ⊥)
+    → ((u : ℕ) → c ≡ command.Finish u → ⊥) → command_answer c s ≡ Some (r, t)
+    → single_line c r ≡ entry_lines (command_entries c s)
+unfolding command_answer command_entries
+single-lines (command.Limits a b c d) s t r n m e = cc
+single-lines (command.Thread p) s t r n m e = rw (← replied _ _ e) (thread-line p (add_thread_answer p s))
+single-lines (command.Mutex k robust) s t r n m e = rw (← replied _ _ e) (mutex-line k robust (add_mutex_answer s))
+single-lines (command.Cond v) s t r n m e = rw (← replied _ _ e) (cond-line v (add_cond_answer v s))
+single-lines (command.Begin u q) s t r n m e = rw (← replied _ _ e) (event-line (BeginEvent u q) s)
+single-lines (command.Go u) s t r n m e = rw (← replied _ _ e) (event-line (GoEvent u) s)
+single-lines (command.End u) s t r n m e = rw (← replied _ _ e) (event-line (EndEvent u) s)
+single-lines (command.Call u q) s t r n m e = absurd (n u q refl)
+single-lines (command.Finish u) s t r n m e = absurd (m u refl)
+single-lines (command.Word v) s t r n m e = refl
+single-lines (command.Health v) s t r n m e = refl
+single-lines (command.CondWord v) s t r n m e = refl
+single-lines (command.Prio u) s t r n m e = refl
+single-lines command.Pick s t r n m e = refl
+
+-- ---- first commands
+
+-- a command is `limits`, or makes a core under the default limits
+pub limits-or_default : (c : Command) → ((b : Bounds) × (c ≡ command.Limits b.threads b.mutexes b.conds b.signals)
+    × (first_limits c ≡ limits_in b))
+    ⊎ (((t m v n : ℕ) → c ≡ command.Limits t m v n → ⊥) × (first_limits c ≡ Some default_limits))
+unfolding first_limits
+limits-or_default (command.Limits t m c n) =
+    inl (record { threads = t; mutexes = m; conds = c; signals = n }, refl, refl)
+limits-or_default (command.Thread p) = inr (λ t m v n e. cc, refl)
+limits-or_default (command.Mutex k robust) = inr (λ t m v n e. cc, refl)
+limits-or_default (command.Cond m) = inr (λ t m v n e. cc, refl)
+limits-or_default (command.Begin t q) = inr (λ t m v n e. cc, refl)
+limits-or_default (command.Go t) = inr (λ t m v n e. cc, refl)
+limits-or_default (command.End t) = inr (λ t m v n e. cc, refl)
+limits-or_default (command.Call t q) = inr (λ t m v n e. cc, refl)
+limits-or_default (command.Finish t) = inr (λ t m v n e. cc, refl)
+limits-or_default (command.Word m) = inr (λ t m v n e. cc, refl)
+limits-or_default (command.Health m) = inr (λ t m v n e. cc, refl)
+limits-or_default (command.CondWord c) = inr (λ t m v n e. cc, refl)
+limits-or_default (command.Prio t) = inr (λ t m v n e. cc, refl)
+limits-or_default command.Pick = inr (λ t m v n e. cc, refl)
+
+-- a number out of its range is the fault `limits`
+pub first-fault : (c : Command) → first_limits c ≡ None → first_answer c ≡ Err LimitsCause
+unfolding first_answer
+first-fault c e =
+    elim (limits-or_default c) [
+      | inl r ↦ rw (r.1) (ap limited_answer (sym r.2 ∙ e))
+      | inr r ↦ let bad : Some default_limits ≡ None = sym r.1 ∙ e in cc
+    ]
+
+done : (b : Bounds) → limits_in b ≡ Some b → first_answer (command.Limits b.threads b.mutexes b.conds b.signals)
+    ≡ Ok (reply.Done, new_table b)
+unfolding first_answer
+done b e = ap limited_answer e
+
+within : (x : Bool) (b l : Bounds) → ◌≡◌ {A = Option Bounds} (cond x (Some b) None) (Some l) → l ≡ b
+within true b l e = let same : b ≡ l = cc in sym same
+within false b l e = cc
+
+pub limits_in-same : (b l : Bounds) → limits_in b ≡ Some l → l ≡ b
+unfolding limits_in
+limits_in-same b l e = within (are_limits b) b l e
+
+limits-none : (b : Bounds) (s : Table)
+    → command_answer (command.Limits b.threads b.mutexes b.conds b.signals) s ≡ None
+unfolding command_answer
+limits-none b s = refl
+
+limits-quiet : (b : Bounds) (s : Table)
+    → command_entries (command.Limits b.threads b.mutexes b.conds b.signals) s ≡ []
+unfolding command_entries
+limits-quiet b s = refl
+
+-- what a core did that was just made for the command `limits`
+named-first : (b : Bounds) (t : Table) (old new : List ℕ) (r : Option Reply) → limits_in b ≡ Some b
+    → Transcribed (command.Limits b.threads b.mutexes b.conds b.signals) (new_table b) t old new r
+    → (x : Reply) × (first_answer (command.Limits b.threads b.mutexes b.conds b.signals) ≡ Ok (x, t))
+    × (new ≡ old ++ entry_lines (command_entries (command.Limits b.threads b.mutexes b.conds b.signals) (new_table b)))
+named-first b t old new None e w = (
+  reply.Done,
+  done b e ∙ ap (λ u. Ok (reply.Done, u)) (sym w.1),
+  w.2 ∙ sym (append-nil old) ∙ ap (λ l. old ++ entry_lines l) (sym (limits-quiet b (new_table b))),
+)
+named-first b t old new (Some r) e w =
+    let bad : None ≡ Some (r, t) = sym (limits-none b (new_table b)) ∙ w.0 in absurd (none≢some bad)
+  where
+    none≢some : {A : Type 0} {x : A} → ◌≡◌ {A = Option A} None (Some x) → ⊥
+    none≢some e = cc
+
+-- and for another command
+later-first : (c : Command) (t : Table) (old new : List ℕ) (r : Option Reply)
+    → ((t m v n : ℕ) → c ≡ command.Limits t m v n → ⊥)
+    → Transcribed c (new_table default_limits) t old new r
+    → (x : Reply) × (first_answer c ≡ Ok (x, t))
+    × (new ≡ old ++ entry_lines (command_entries c (new_table default_limits)))
+later-first c t old new None n w =
+    absurd (subst (λ a. IsAnswer (answer_or_fault a)) w.0 (answered-later c (new_table default_limits) n))
+later-first c t old new (Some r) n w =
+    (r, first_answer-later c n ∙ ap answer_or_fault w.0, w.1)
+
+-- what a core did that was just made for a first command
+pub first-done : (c : Command) (b : Bounds) (t : Table) (old new : List ℕ) (r : Option Reply) → first_limits c ≡ Some b
+    → Transcribed c (new_table b) t old new r
+    → (x : Reply) × (first_answer c ≡ Ok (x, t)) × (new ≡ old ++ entry_lines (command_entries c (new_table b)))
+first-done c b t old new r e w =
+    elim (limits-or_default c) [
+      | inl l ↦
+          let same : b ≡ l.0 = limits_in-same l.0 b (sym l.2 ∙ e) in
+          let named = subst (λ d. Transcribed d (new_table b) t old new r) l.1 w in
+          let fit = subst (λ d. Transcribed (command.Limits l.0.threads l.0.mutexes l.0.conds l.0.signals)
+          (new_table d) t old new r) same named in
+          rw (l.1, same) (named-first l.0 t old new r (sym l.2 ∙ e ∙ ap Some same) fit)
+      | inr l ↦
+          let some : Some default_limits ≡ Some b = sym l.1 ∙ e in
+          let same : default_limits ≡ b = cc in
+          rw (← same) (later-first c t old new r l.0 (subst (λ d. Transcribed c (new_table d) t old new r) (sym same) w))
+    ]
+
+-- a first command that makes a core is answered
+pub first-answered : (c : Command) (b : Bounds) → first_limits c ≡ Some b → (a : Answer) × (first_answer c ≡ Ok a)
+first-answered c b e =
+    elim (limits-or_default c) [
+      | inl l ↦
+          let same : b ≡ l.0 = limits_in-same l.0 b (sym l.2 ∙ e) in
+          ((reply.Done, new_table l.0), ap first_answer l.1 ∙ done l.0 (sym l.2 ∙ e ∙ ap Some same))
+      | inr l ↦ answered c l.0 (command_answer c (new_table default_limits)) refl
+    ]
+  where
+    answered : (c : Command) → ((t m v n : ℕ) → c ≡ command.Limits t m v n → ⊥) → (o : Option Answer)
+        → command_answer c (new_table default_limits) ≡ o → (a : Answer) × (first_answer c ≡ Ok a)
+    answered c n (Some a) e = (a, first_answer-later c n ∙ ap answer_or_fault e)
+    answered c n None e =
+        absurd (subst (λ a. IsAnswer (answer_or_fault a)) e (answered-later c (new_table default_limits) n))
+
+-- the answer to a first command is `ok`, or that of a core under the default limits
+pub first_answer-is : (c : Command) (b : Bounds) → first_limits c ≡ Some b
+    → ((first_answer c ≡ Ok (reply.Done, new_table b)) × (command_entries c (new_table b) ≡ []))
+    ⊎ (first_answer c ≡ answer_or_fault (command_answer c (new_table b)))
+first_answer-is c b e =
+    elim (limits-or_default c) [
+      | inl l ↦
+          let same : b ≡ l.0 = limits_in-same l.0 b (sym l.2 ∙ e) in
+          inl (rw (l.1, same) (done l.0 (sym l.2 ∙ e ∙ ap Some same), limits-quiet l.0 (new_table l.0)))
+      | inr l ↦
+          let some : Some default_limits ≡ Some b = sym l.1 ∙ e in
+          let same : default_limits ≡ b = cc in
+          inr (rw (← same) (first_answer-later c l.0))
+    ]

@@ -1,0 +1,262 @@
+-- The trace of what a script asks of its core: the entries that its lines make, and what is written of them.
+use Rattle.std.specs.Prelude.{ℕ, ◌≡◌, ◌==◌, ◌+◌, ◌≤◌, zero, suc, Bool, true, false, List, [], ◌∷◌, ◌++◌, Option, Some, None, option_and_then, Result, Ok, Err, is_ok, if◌then◌else◌, flat_map, length, All}
+use Rattle.std.specs.Io.KnownBytes.{Appends, Consumes, IsAtEnd, Keeps}
+use Rattle.pif_types.specs.Bounds.{Bounds}
+use Rattle.pif_types.specs.declared.errors.AddFault.{AddFault}
+use Rattle.pif_types.specs.declared.requests.Kind.{Kind}
+use Rattle.pif_types.specs.declared.requests.Request.{Request}
+use Rattle.pif_model.specs.declared.events.Entry.{Entry}
+use Rattle.pif_model.specs.declared.events.Entry.TheVariants.{Thread as AddedThread, Mutex as AddedMutex, Cond as AddedCond, Step}
+use Rattle.pif_model.specs.declared.events.Event.{Event}
+use Rattle.pif_model.specs.declared.events.Event.TheVariants.{Begin as BeginEvent, Go as GoEvent, End as EndEvent}
+use Rattle.pif_model.specs.declared.events.Seen.{Seen}
+use Rattle.pif_model.specs.declared.events.Seen.TheVariants.{Went as SeenWent, Refused as SeenRefused}
+use Rattle.pif_model.specs.Table.{Table, new_table}
+use Rattle.pif_model.specs.Lines.{event_outcome}
+use Rattle.pif_model.specs.Calls.{add_thread_answer, add_mutex_answer, add_cond_answer}
+use Rattle.pif_text.specs.declared.commands.Command.{Command}
+use Rattle.pif_text.specs.declared.commands.Command.TheVariants.{Limits, Thread, Mutex, Cond, Begin, Go, End as EndThread, Call, Finish, Word, Health, CondWord, Prio, Pick}
+use Rattle.pif_text.specs.declared.replies.Reply.{Reply}
+use Rattle.pif_text.specs.declared.replies.Reply.TheVariants as reply
+use Rattle.pif_text.specs.Commands.{command_in}
+use Rattle.pif_text.specs.CommandTexts.{command_text}
+use Rattle.pif_text.specs.Traces.{recorded, same_of}
+use Rattle.pif_scripts.specs.declared.faults.CliFault.{CliFault}
+use Rattle.pif_scripts.specs.declared.faults.CliFault.TheVariants as fault
+use Rattle.pif_scripts.specs.declared.reading.ending.Ending.TheVariants.{Fault}
+use Rattle.pif_scripts.specs.declared.reading.ending.End.{End}
+use Rattle.pif_scripts.specs.Scripts.{Meaning, FirstMeaning, Hearing, Scan, Reading, start, byte_taken, reading_of, ended_by, NeedsIn}
+use Rattle.pif_scripts.specs.Runs.{WritesPart}
+use Rattle.pif_scripts.specs.Running.{command_answer, default_limits, first_line_meaning, limits_in, line_meaning, script}
+use Rattle.pif_scripts.specs.Traces.{IsEntryWritten, entry_line, front_lines, if_traced, trace, verdict}
+
+-- ---- the entries that a script makes
+
+-- the entry of an event, with what it is answered
+abbrev pub event_entry : Event → Table → Entry
+event_entry e s = Step e (event_outcome e s).seen
+
+-- the entries of a thread that goes on up to the first answer that isn't Went, this often at most after a first time
+unfoldable pub going_entries : ℕ → ℕ → Table → List Entry
+going_entries zero t s = event_entry (GoEvent t) s ∷ []
+going_entries (suc more) t s =
+    elim (event_outcome (GoEvent t) s).seen [
+      | SeenWent ↦ event_entry (GoEvent t) s ∷ going_entries more t (event_outcome (GoEvent t) s).after
+      | _ ↦ event_entry (GoEvent t) s ∷ []
+    ]
+
+-- finish: at most 24 times
+unfoldable pub finish_entries : ℕ → Table → List Entry
+finish_entries t s = going_entries 23 t s
+
+-- what follows a begun call; a refused one is all
+abbrev pub called_entries : Seen → ℕ → Table → List Entry
+called_entries seen t after = elim seen [ SeenRefused r ↦ [] | _ ↦ finish_entries t after ]
+
+-- call: the thread begins the call, and if that is not refused it goes on as in finish
+unfoldable pub call_entries : ℕ → Request → Table → List Entry
+call_entries t q s =
+    event_entry (BeginEvent t q) s
+    ∷ called_entries (event_outcome (BeginEvent t q) s).seen t (event_outcome (BeginEvent t q) s).after
+
+-- an addition that was made; a refused one is no entry
+abbrev pub thread_entries : ℕ → Result ℕ AddFault → List Entry
+thread_entries p (Ok t) = AddedThread t p ∷ []
+thread_entries p (Err e) = []
+
+abbrev pub mutex_entries : Kind → Bool → Result ℕ AddFault → List Entry
+mutex_entries k robust (Ok m) = AddedMutex m k robust ∷ []
+mutex_entries k robust (Err e) = []
+
+abbrev pub cond_entries : ℕ → Result ℕ AddFault → List Entry
+cond_entries m (Ok c) = AddedCond c m ∷ []
+cond_entries m (Err e) = []
+
+-- the entries that a command makes of a core that stands at s: additions that were made, and each event, refused or not;
+-- a question makes none
+unfoldable pub command_entries : Command → Table → List Entry
+command_entries (Limits t m c n) s = []
+command_entries (Thread p) s = thread_entries p (add_thread_answer p s)
+command_entries (Mutex k robust) s = mutex_entries k robust (add_mutex_answer s)
+command_entries (Cond m) s = cond_entries m (add_cond_answer m s)
+command_entries (Begin t q) s = event_entry (BeginEvent t q) s ∷ []
+command_entries (Go t) s = event_entry (GoEvent t) s ∷ []
+command_entries (EndThread t) s = event_entry (EndEvent t) s ∷ []
+command_entries (Call t q) s = call_entries t q s
+command_entries (Finish t) s = finish_entries t s
+command_entries (Word m) s = []
+command_entries (Health m) s = []
+command_entries (CondWord c) s = []
+command_entries (Prio t) s = []
+command_entries Pick s = []
+
+-- the limits of the core that a first command makes: those that it names, if each is in its range, or else the default
+unfoldable pub first_limits : Command → Option Bounds
+first_limits (Limits t m c n) = limits_in (record { threads = t; mutexes = m; conds = c; signals = n })
+first_limits (Thread p) = Some default_limits
+first_limits (Mutex k robust) = Some default_limits
+first_limits (Cond m) = Some default_limits
+first_limits (Begin t q) = Some default_limits
+first_limits (Go t) = Some default_limits
+first_limits (EndThread t) = Some default_limits
+first_limits (Call t q) = Some default_limits
+first_limits (Finish t) = Some default_limits
+first_limits (Word m) = Some default_limits
+first_limits (Health m) = Some default_limits
+first_limits (CondWord c) = Some default_limits
+first_limits (Prio t) = Some default_limits
+first_limits Pick = Some default_limits
+
+-- the entries that a first command makes of the core that it makes
+abbrev pub first_entries : Command → List Entry
+first_entries c = elim (first_limits c) [ None ↦ [] | Some b ↦ command_entries c (new_table b) ]
+
+-- the entries that a command makes of a core, or as the first one
+abbrev pub entries_by : Option Table → Command → List Entry
+entries_by None c = first_entries c
+entries_by (Some s) c = command_entries c s
+
+-- the entries that the line makes at which a script stands
+unfoldable pub line_entries : Scan Table → List Entry
+line_entries s = elim (command_in s.line) [ None ↦ [] | Some c ↦ entries_by s.listener c ]
+
+-- the entries that a script makes that stands at s and goes on so, up to its first fault or its end: those of each line,
+-- at its LF
+unfoldable pub script_entries : Scan Table → List ℕ → List Entry
+script_entries s [] = []
+script_entries s (b ∷ bs) =
+    elim (byte_taken script s b) [
+      | Ok m ↦ (if b == 10 then line_entries s else []) ++ script_entries m.1 bs
+      | Err e ↦ []
+    ]
+
+-- the limits of the core that a script makes that stands at s, with no core, and goes on so; none where it makes none
+unfoldable pub script_limits : Scan Table → List ℕ → Option Bounds
+script_limits s [] = None
+script_limits s (b ∷ bs) =
+    elim (byte_taken script s b) [
+      | Ok m ↦ elim m.1.listener [
+        | None ↦ script_limits m.1 bs
+        | Some core ↦ option_and_then first_limits (command_in s.line)
+      ]
+      | Err e ↦ None
+    ]
+
+-- what is written of a script of these bytes: the trace of the entries that it makes, and nothing where it makes no core
+unfoldable pub script_trace : List ℕ → List ℕ
+script_trace bytes = elim (script_limits start bytes) [ None ↦ [] | Some b ↦ trace b (script_entries start bytes) ]
+
+-- where a script of these bytes stands behind them
+abbrev pub script_reading : List ℕ → Reading Table
+script_reading bytes = reading_of script start bytes
+
+-- how a script of these bytes ends
+unfoldable pub script_end : List ℕ → Result (List ℕ) End
+script_end bytes = ended_by script (script_reading bytes).stands
+
+-- tracing a script of which these bytes were read; the results are those of a run:
+--   ended well: all was read, and the script has no fault; its trace was written
+--   a fault: it is the first of these bytes, or they end there and all was read; the trace up to it was written
+--   a read failed: these bytes have no fault so far, and the trace of their lines was written
+--   a write failed: a proper part of the trace was written, from its front
+--   want of memory: a line of these bytes needs a core, it has no fault, and nothing was written
+--   there are no differences
+abbrev pub Transcribes : List ℕ → (after held holds : Option (List ℕ)) → Result (Unit {0}) CliFault → Type 0
+Transcribes read after held holds (Ok x) =
+    (is_ok (script_end read) ≡ true) × IsAtEnd after × Appends held holds (script_trace read)
+Transcribes read after held holds (Err (fault.Script line cause)) =
+    (script_end read ≡ Err (record { line = line; ending = Fault cause }))
+    × (is_ok (script_reading read).stands ≡ true → IsAtEnd after)
+    × Appends held holds (script_trace read)
+Transcribes read after held holds (Err (fault.Differs line)) = ⊥
+Transcribes read after held holds (Err fault.Read) =
+    (is_ok (script_reading read).stands ≡ true) × Appends held holds (script_trace read)
+Transcribes read after held holds (Err fault.Write) = WritesPart held holds (script_trace read)
+Transcribes read after held holds (Err fault.NoMemory) = NeedsIn script start read × Keeps held holds
+
+-- tracing a script, by what the reader had and has left, and what the writer held and holds
+abbrev pub TracesTo : (before after held holds : Option (List ℕ)) → Result (Unit {0}) CliFault → Type 0
+TracesTo before after held holds result =
+    (read : List ℕ) × Consumes before after read × Transcribes read after held holds result
+
+-- ---- the lines of a trace, line of a script by line
+
+-- entries as lines
+abbrev pub entry_lines : List Entry → List ℕ
+entry_lines entries = flat_map entry_line entries
+
+-- a command and what it was answered, as a line
+abbrev pub row : Command → Reply → List ℕ
+row c r = (command_text c ++ recorded r) ++ 10 ∷ []
+
+-- whether an addition was made, or it was none
+abbrev pub was_made : Reply → Bool
+was_made (reply.NotAdded e) = false
+was_made reply.Done = true
+was_made (reply.Thread t) = true
+was_made (reply.Mutex m) = true
+was_made (reply.Cond c) = true
+was_made reply.Begun = true
+was_made reply.Went = true
+was_made reply.Waits = true
+was_made (reply.Answer n) = true
+was_made reply.Ended = true
+was_made (reply.Refused r) = true
+was_made (reply.Word w) = true
+was_made (reply.Health h) = true
+was_made (reply.Uses n) = true
+was_made (reply.Priority p) = true
+was_made reply.Dead = true
+was_made (reply.Picked t) = true
+
+-- the line of a command that makes one entry at most, by what it was answered
+abbrev pub single_line : Command → Reply → List ℕ
+single_line c r = elim (if_traced c) [ None ↦ [] | Some d ↦ (if was_made r then row d r else []) ]
+
+-- what a line means whose meaning is this one, but for what it is answered
+abbrev pub retold : List ℕ → Meaning Table → Meaning Table
+retold text (Ok m) = Ok (text, m.1)
+retold text (Err e) = Err e
+
+abbrev pub first_retold : List ℕ → FirstMeaning Table → FirstMeaning Table
+first_retold text (Ok (Some m)) = Ok (Some (text, m.1))
+first_retold text (Ok None) = Ok None
+first_retold text (Err e) = Err e
+
+-- the lines that a first command makes: those in front, and those of its entries
+unfoldable pub first_lines : Command → List ℕ
+first_lines c = elim (first_limits c) [ None ↦ [] | Some b ↦ front_lines b ++ entry_lines (command_entries c (new_table b)) ]
+
+-- what the first line of a script makes of a trace
+unfoldable pub first_line_lines : List ℕ → List ℕ
+first_line_lines line = elim (command_in line) [ None ↦ [] | Some c ↦ first_lines c ]
+
+-- what a later line makes of it
+unfoldable pub later_line_lines : Table → List ℕ → List ℕ
+later_line_lines s line = elim (command_in line) [ None ↦ [] | Some c ↦ entry_lines (command_entries c s) ]
+
+-- how a script is heard whose trace is written: as in a run, but for what its lines are answered; nothing is said of the
+-- line that ends it
+abbrev pub transcript : Hearing Table
+transcript = record {
+  first_meaning = λ number line. first_retold (first_line_lines line) (first_line_meaning line);
+  meaning = λ s line. retold (later_line_lines s line) (line_meaning s line);
+  end_text = λ number. Ok [];
+  said_of = λ e. [];
+}
+
+-- what a command did to a core, and what was told of it
+abbrev pub Transcribed : Command → (s t : Table) → (old new : List ℕ) → Option Reply → Type 0
+Transcribed c s t old new None = (command_answer c s ≡ None) × (t ≡ s) × (new ≡ old)
+Transcribed c s t old new (Some r) = (command_answer c s ≡ Some (r, t)) × (new ≡ old ++ entry_lines (command_entries c s))
+
+-- ---- replaying it
+
+-- the trace of a script that makes a core is the same when it is replayed, as long as it is no larger than a trace may
+-- be: with the number of its entries, and one more for the line of the limits
+abbrev pub SameAsTraced : Type 0
+SameAsTraced =
+    (bytes : List ℕ) (limits : Bounds) → script_limits start bytes ≡ Some limits
+    → All IsEntryWritten (script_entries start bytes)
+    → length (script_trace bytes) ≤ 16777216
+    → verdict (script_trace bytes) ≡ same_of (1 + length (script_entries start bytes)) ++ 10 ∷ []

@@ -1,0 +1,203 @@
+ghost use Rattle.std.specs.Prelude.{◌≡◌, ◌+◌, ◌*◌, ◌≤◌, ◌++◌, ◌∷◌, [], Option, Some, None, Ok, is_some, if◌then◌else◌, IfOk};
+ghost use Rattle.arrayvec.specs.ArrayVec.{array_vec_len};
+ghost use Rattle.pif_types.specs.Bounds.{Bounds};
+ghost use Rattle.pif_model.specs.Table.{Table};
+ghost use Rattle.pif_model.specs.declared.events.Event.TheVariants as event;
+ghost use Rattle.pif_model.specs.Lines.{event_outcome};
+ghost use Rattle.pif_scripts.specs.Running.{finish_outcome, call_outcome};
+ghost use Rattle.pif_scripts.specs.Traces.{event_command, entry_line};
+ghost use Rattle.pif_scripts.specs.Transcripts.{Transcribed, call_entries, entry_lines, event_entry, finish_entries, first_limits, row, single_line, transcript, was_made};
+
+use crate::reading::{End, Ending, Listener, OUTPUT_ROOM, OpenFault, Output, append};
+use crate::replaying::if_traced;
+use crate::running::{MORE_STEPS, default_limits, obey, reply_of_seen};
+use crate::tracing::{ROW_ROOM, event_command, front_lines};
+use pif_core::{Core, Event, Seen};
+use pif_text::{Cause, Command, Reply, Text, command_of, command_text, recorded_text};
+use pif_types::{Limits, Request, Tid};
+use std::alloc::Global;
+use std::marker::Model;
+
+/// The most bytes that the line of an entry has, its LF included.
+const LINE_ROOM: usize = ROW_ROOM + 1;
+
+/// The most bytes that a thread's going on makes.
+const FINISH_ROOM: usize = 24 * LINE_ROOM;
+
+/// The most bytes that the lines have that a command makes.
+const LINES_ROOM: usize = LINE_ROOM + FINISH_ROOM;
+
+/// A core whose trace is written while it does what a script asks.
+#[derive(Drop)]
+pub struct Transcribing {
+    core: Core,
+}
+
+impl Model for Transcribing {
+    ghost Value = { Table };
+
+    ghost view = { λ t. t.core };
+}
+
+/// Appends a command and what it was answered, as a line of a trace.
+fn append_row(command: Command, reply: Reply, output: &mut Output)
+    requires { array_vec_len output.old + LINE_ROOM ≤ OUTPUT_ROOM }
+    ensures told { output.new.items ≡ output.old.items ++ row command reply }
+    ensures room { array_vec_len output.new ≤ array_vec_len output.old + LINE_ROOM }
+{
+    let mut text = Text::new();
+    command_text(command, &mut text);
+    recorded_text(reply, &mut text);
+    append(output, text.as_slice());
+    output.push(b'\n');
+}
+
+/// One event, and its line.
+fn step(core: &mut Core, event: Event, output: &mut Output) -> Seen
+    requires { array_vec_len output.old + LINE_ROOM ≤ OUTPUT_ROOM }
+    ensures seen { result ≡ (event_outcome event core.old).seen }
+    ensures after { core.new ≡ (event_outcome event core.old).after }
+    ensures told { output.new.items ≡ output.old.items ++ entry_line (event_entry event core.old) }
+    ensures room { array_vec_len output.new ≤ array_vec_len output.old + LINE_ROOM }
+{
+    let asked = event;
+    let command = event_command(event);
+    let seen = core.step(asked);
+    let answered = seen;
+    append_row(command, reply_of_seen(seen), output);
+    answered
+}
+
+/// The thread goes on up to the first answer that isn't `Went`, at most 24 times, with a line for each.
+fn finish(core: &mut Core, thread: Tid, output: &mut Output) -> Seen
+    requires { array_vec_len output.old + FINISH_ROOM ≤ OUTPUT_ROOM }
+    ensures seen { result ≡ (finish_outcome thread core.old).seen }
+    ensures after { core.new ≡ (finish_outcome thread core.old).after }
+    ensures told { output.new.items ≡ output.old.items ++ entry_lines (finish_entries thread core.old) }
+    ensures room { array_vec_len output.new ≤ array_vec_len output.old + FINISH_ROOM }
+{
+    for _turn in 0..MORE_STEPS {
+        match step(core, Event::Go(thread), output) {
+            Seen::Went => {}
+            seen => return seen,
+        }
+    }
+    step(core, Event::Go(thread), output)
+}
+
+/// The thread begins the call, and if that is not refused it goes on as in `finish`.
+fn call(core: &mut Core, thread: Tid, request: Request, output: &mut Output) -> Seen
+    requires { array_vec_len output.old + LINES_ROOM ≤ OUTPUT_ROOM }
+    ensures seen { result ≡ (call_outcome thread request core.old).seen }
+    ensures after { core.new ≡ (call_outcome thread request core.old).after }
+    ensures told { output.new.items ≡ output.old.items ++ entry_lines (call_entries thread request core.old) }
+    ensures room { array_vec_len output.new ≤ array_vec_len output.old + LINES_ROOM }
+{
+    match step(core, Event::Begin(thread, request), output) {
+        Seen::Refused(refusal) => Seen::Refused(refusal),
+        _ => finish(core, thread, output),
+    }
+}
+
+/// Whether an answer says that an addition was made, or it is not that of an addition.
+fn was_made(reply: Reply) -> bool
+    ensures { result ≡ was_made reply }
+{
+    match reply {
+        Reply::NotAdded(_) => false,
+        _ => true,
+    }
+}
+
+/// Appends the line of a command that makes one entry at most.
+fn append_single(command: Command, reply: Reply, output: &mut Output)
+    requires { array_vec_len output.old + LINE_ROOM ≤ OUTPUT_ROOM }
+    ensures told { output.new.items ≡ output.old.items ++ single_line command reply }
+    ensures room { array_vec_len output.new ≤ array_vec_len output.old + LINE_ROOM }
+{
+    let answered = reply;
+    if let Some(traced) = if_traced(command)
+        && was_made(reply)
+    {
+        append_row(traced, answered, output);
+    }
+}
+
+/// What a command is answered; the lines of the entries that it makes are appended. `None` for `limits`, which is a first
+/// command alone; nothing has changed then.
+fn transcribe(core: &mut Core, command: Command, output: &mut Output) -> Option<Reply>
+    requires { array_vec_len output.old + LINES_ROOM ≤ OUTPUT_ROOM }
+    ensures answer { Transcribed command core.old core.new output.old.items output.new.items result }
+    ensures room { array_vec_len output.new ≤ array_vec_len output.old + LINES_ROOM }
+{
+    match command {
+        Command::Call(thread, request) => Some(reply_of_seen(call(core, thread, request, output))),
+        Command::Finish(thread) => Some(reply_of_seen(finish(core, thread, output))),
+        single => {
+            let asked = single;
+            match obey(core, single) {
+                Some(reply) => {
+                    let answered = reply;
+                    append_single(asked, reply, output);
+                    Some(answered)
+                }
+                None => None,
+            }
+        }
+    }
+}
+
+/// The limits of the core that a first command makes; `None` where it names one that is out of its range.
+#[tactic(auto, unfolding(crate::specs::Transcripts::first_limits, crate::specs::Running::limits_in))]
+fn first_limits(command: Command) -> Option<Limits>
+    ensures { result ≡ first_limits command }
+{
+    match command {
+        Command::Limits(threads, mutexes, conds, signals) => {
+            Limits::new(threads, mutexes, conds, signals)
+        }
+        _ => Some(default_limits()),
+    }
+}
+
+impl Listener for Transcribing {
+    ghost hearing = { transcript };
+
+    fn open(
+        alloc: Global,
+        _number: u64,
+        line: &[u8],
+        output: &mut Output,
+    ) -> Result<Option<Transcribing>, OpenFault> {
+        let Some(command) = command_of(line) else {
+            return Err(OpenFault::Ended(Ending::Fault(Cause::Command)));
+        };
+        let first = command;
+        let Some(limits) = first_limits(command) else {
+            return Err(OpenFault::Ended(Ending::Fault(Cause::Limits)));
+        };
+        let front = front_lines(limits);
+        let Ok(mut core) = Core::new(alloc, limits) else {
+            return Err(OpenFault::NoMemory);
+        };
+        append(output, front.as_slice());
+        let _ = transcribe(&mut core, first, output);
+        Ok(Some(Transcribing { core }))
+    }
+
+    fn hear(&mut self, line: &[u8], output: &mut Output) -> Result<(), Ending> {
+        let Some(command) = command_of(line) else {
+            return Err(Ending::Fault(Cause::Command));
+        };
+        match transcribe(&mut self.core, command, output) {
+            Some(_) => Ok(()),
+            None => Err(Ending::Fault(Cause::Command)),
+        }
+    }
+
+    fn close(_number: u64, _output: &mut Output) -> Result<(), Cause> {
+        Ok(())
+    }
+
+    fn report(_end: End, _output: &mut Output) {}
+}

@@ -1,0 +1,88 @@
+use pif_desk::{Pause, Seen};
+use pif_types::Tid;
+use std::sync::Wait;
+use std::sync::atomic::{AtomicBool, AtomicU64, Ordering};
+use std::thread::yield_now;
+
+/// How far the threads are.
+#[derive(Drop)]
+pub struct Course {
+    /// How often low has got the mutex.
+    held: AtomicU64,
+    /// How often a thread was answered that it waits.
+    waited: AtomicU64,
+    /// How many parts of rounds middle and high have done.
+    done: AtomicU64,
+    /// Whether a thread has met a fault, or could not be started.
+    stopped: AtomicBool,
+}
+
+impl Course {
+    /// No thread has done anything.
+    pub fn new() -> Course {
+        Course {
+            held: AtomicU64::new(0),
+            waited: AtomicU64::new(0),
+            done: AtomicU64::new(0),
+            stopped: AtomicBool::new(false),
+        }
+    }
+
+    /// Lets all threads end.
+    pub fn stop(&self) {
+        self.stopped.store(true, Ordering::SeqCst);
+    }
+
+    /// Low has got the mutex once more.
+    pub fn hold(&self) {
+        self.held.fetch_add(1, Ordering::SeqCst);
+    }
+
+    /// Middle or high has done its part of a round.
+    pub fn end_part(&self) {
+        self.done.fetch_add(1, Ordering::SeqCst);
+    }
+
+    /// Waits until low holds the mutex in this round; false where the threads are to end.
+    pub fn is_held<R: Wait>(&self, rt: &R, round: u32) -> bool {
+        self.comes_to(rt, &self.held, u64::from(round) + 1)
+    }
+
+    /// Waits until high waits in this round; false where the threads are to end.
+    pub fn is_waited_for<R: Wait>(&self, rt: &R, round: u32) -> bool {
+        self.comes_to(rt, &self.waited, u64::from(round) + 1)
+    }
+
+    /// Waits until middle and high have done all rounds before this one; false where the threads are to end.
+    pub fn is_ready<R: Wait>(&self, rt: &R, round: u32) -> bool {
+        self.comes_to(rt, &self.done, 2 * u64::from(round))
+    }
+
+    /// Waits until a counter has come so far; false where the threads are to end.
+    fn comes_to<R: Wait>(&self, rt: &R, counter: &AtomicU64, count: u64) -> bool {
+        for _ in rt.forever() {
+            if counter.load(Ordering::SeqCst) >= count {
+                return true;
+            }
+            if self.stopped.load(Ordering::SeqCst) {
+                return false;
+            }
+            yield_now();
+        }
+        unreachable!()
+    }
+}
+
+/// Notes in a course that a thread waits.
+#[derive(Drop)]
+pub struct Watch<'a> {
+    pub course: &'a Course,
+}
+
+impl<'a> Pause for Watch<'a> {
+    fn after(&self, _t: Tid, seen: Seen) {
+        if let Seen::Waits = seen {
+            self.course.waited.fetch_add(1, Ordering::SeqCst);
+        }
+    }
+}

@@ -1,0 +1,21 @@
+-- Who has made a mutex consistent still holds it.
+use Rattle.std.proofs.Common.{sym, ap, ◌∙◌, ◌+◌, subst}
+use Rattle.pif_types.specs.declared.requests.Request.TheVariants.{Lock, Consistent}
+use Rattle.pif_model.specs.declared.events.Seen.TheVariants.{Answered}
+use Rattle.pif_model.specs.History.{hold_count}
+use Rattle.pif_model.specs.Table.{Table}
+use Rattle.pif_uses.specs.Calls.{called}
+use Rattle.pif_uses.specs.Holding.{HoldsOn}
+use Rattle.pif_uses.proofs.HoldLemmas.{consistent_holds}
+use Rattle.pif_uses.proofs.locking.lock_and_repair.Goals as goal
+
+pub returns-in-Answered-eq0-clause-holds : goal.returns-in-Answered-eq0-clause-holds
+returns-in-Answered-eq0-clause-holds c = λ h r w st.
+    let t = c.args.thread in
+    let m = c.args.mutex in
+    let k = called t (Lock m) c.args.core.now h in
+    subst (λ (s : Table). HoldsOn t m (hold_count t m h + 1) c.call.new.core (called t (Consistent m) s k) r w)
+    c.lock_and_hold.ensures.after
+    (consistent_holds c.lock_and_hold.new.core c.call.new.core t m (hold_count t m h) k r w
+    (c.in-Ok-OwnerDied.ensures.holds h r w st)
+    (sym c.call.ensures.seen ∙ c.in-Answered-eq0.is ∙ ap Answered c.in-Answered-eq0.field-0-test) c.call.ensures.after)

@@ -1,0 +1,54 @@
+-- What a whole call comes to, and which entries it adds to a history.
+use Rattle.std.specs.Prelude.{ℕ, zero, suc, List, ◌∷◌, ◌++◌}
+use Rattle.pif_types.specs.declared.requests.Request.{Request}
+use Rattle.pif_model.specs.declared.events.Event.TheVariants.{Begin, Go}
+use Rattle.pif_model.specs.declared.events.Seen.TheVariants.{Went, Refused}
+use Rattle.pif_model.specs.declared.events.Entry.{Entry}
+use Rattle.pif_model.specs.declared.events.Entry.TheVariants.{Step as Happened}
+use Rattle.pif_model.specs.Posix.{World}
+use Rattle.pif_model.specs.Standing.{Stands}
+use Rattle.pif_model.specs.Table.{Table}
+use Rattle.pif_model.specs.Lines.{Outcome, event_outcome, goes_on}
+
+-- how many of the first steps of t, this many at most, are answered Went before the first that isn't
+unfoldable pub steps_before : ℕ → ℕ → Table → ℕ
+steps_before zero t s = 0
+steps_before (suc more) t s =
+    elim (event_outcome (Go t) s).seen [
+      | Went ↦ suc (steps_before more t (event_outcome (Go t) s).after)
+      | _ ↦ 0
+    ]
+
+-- a history, newest entry first, with this many steps of t more that were answered Went
+unfoldable pub went : ℕ → ℕ → List Entry → List Entry
+went zero t h = h
+went (suc n) t h = went n t (Happened (Go t) Went ∷ h)
+
+-- a history with the entries more by which t went on, at most 24 times, up to the first answer that isn't Went
+abbrev pub finished : ℕ → Table → List Entry → List Entry
+finished t s h = Happened (Go t) (goes_on 23 t s).seen ∷ went (steps_before 23 t s) t h
+
+-- a whole call: t begins it, and if that is not refused goes on, at most 24 times, up to the first answer that isn't
+-- Went
+unfoldable pub call_outcome : ℕ → Request → Table → Outcome
+call_outcome t q s =
+    elim (event_outcome (Begin t q) s).seen [
+      | Refused r ↦ event_outcome (Begin t q) s
+      | _ ↦ goes_on 23 t (event_outcome (Begin t q) s).after
+    ]
+
+-- a history with the entries more of a whole call
+unfoldable pub called : ℕ → Request → Table → List Entry → List Entry
+called t q s h =
+    elim (event_outcome (Begin t q) s).seen [
+      | Refused r ↦ Happened (Begin t q) (event_outcome (Begin t q) s).seen ∷ h
+      | _ ↦ finished t (event_outcome (Begin t q) s).after (Happened (Begin t q) (event_outcome (Begin t q) s).seen ∷ h)
+    ]
+
+-- a core with this table stands after the history h, by a run that goes on from the state w, which it reached through
+-- the states r (newest first)
+pub record StandsOn (s : Table) (h : List Entry) (r : List World) (w : World) : Type 0 where
+  -- the states that it went through since, newest first
+  pub more : List World
+  pub last : World
+  pub stands : Stands s h (more ++ w ∷ r) last

@@ -1,0 +1,4 @@
+pub mod Calls
+pub mod Holding
+pub mod Waiting
+pub mod Events

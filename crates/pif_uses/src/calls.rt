@@ -1,0 +1,51 @@
+ghost use Rattle.std.specs.Prelude.{ℕ, ◌≡◌, ◌≢◌, List};
+ghost use Rattle.pif_model.specs.declared.events.Entry.{Entry};
+ghost use Rattle.pif_model.specs.declared.events.Seen.TheVariants.{Went};
+ghost use Rattle.pif_model.specs.Posix.{World};
+ghost use Rattle.pif_model.specs.Standing.{Stands};
+ghost use Rattle.pif_model.specs.Lines.{goes_on};
+ghost use Rattle.pif_uses.specs.Calls.{StandsOn, call_outcome, called, finished};
+
+use pif_core::{Core, Event, Seen};
+use pif_types::{Request, Tid};
+
+/// How often `finish` goes on at most, after the first time.
+const MORE_STEPS: u32 = 23;
+
+/// A thread goes on with its open call up to the first answer that isn't `Went`, at most 24 times; that is enough for
+/// each call of POSIX here, so the answer is never `Went`. `Answered` closes the call, with 0 or the number of an
+/// error. `Waits` leaves it open: the thread waits for others, and once they have had their turns this is called
+/// again. `Refused` says that nothing has changed: the thread was never added (`NoSuch`), has ended (`Dead`), or has
+/// no call open (`Idle`).
+pub fn finish(core: &mut Core, thread: Tid) -> Seen
+    ensures seen { result ≡ (goes_on 23 thread core.old).seen }
+    ensures after { core.new ≡ (goes_on 23 thread core.old).after }
+    ensures ends { result ≢ Went }
+    ensures stands { (h : List Entry) (r : List World) (w : World) → Stands core.old h r w
+        → StandsOn core.new (finished thread core.old h) r w }
+{
+    for _turn in 0..MORE_STEPS {
+        match core.step(Event::Go(thread)) {
+            Seen::Went => {}
+            seen => return seen,
+        }
+    }
+    core.step(Event::Go(thread))
+}
+
+/// A whole call: the thread begins it, and goes on as in `finish`. `Refused` says that nothing has changed: the
+/// thread was never added or the call names what was never added (`NoSuch`), the thread has ended (`Dead`), or it has
+/// a call open already (`Busy`).
+#[tactic(auto, unfolding(crate::specs::Calls::call_outcome))]
+pub fn call(core: &mut Core, thread: Tid, request: Request) -> Seen
+    ensures seen { result ≡ (call_outcome thread request core.old).seen }
+    ensures after { core.new ≡ (call_outcome thread request core.old).after }
+    ensures ends { result ≢ Went }
+    ensures stands { (h : List Entry) (r : List World) (w : World) → Stands core.old h r w
+        → StandsOn core.new (called thread request core.old h) r w }
+{
+    match core.step(Event::Begin(thread, request)) {
+        Seen::Refused(refusal) => Seen::Refused(refusal),
+        _ => finish(core, thread),
+    }
+}

@@ -1,0 +1,122 @@
+ghost use Rattle.std.specs.Prelude.{ℕ, ◌≡◌, ◌+◌, ◌%◌, ◌^◌, List, Some, IfOk, IfErr};
+ghost use Rattle.pif_types.specs.declared.requests.Request.TheVariants.{Lock, Unlock};
+ghost use Rattle.pif_model.specs.declared.events.Entry.{Entry};
+ghost use Rattle.pif_model.specs.declared.events.Seen.TheVariants.{Answered};
+ghost use Rattle.pif_model.specs.Posix.{World};
+ghost use Rattle.pif_model.specs.History.{hold_count, open_call};
+ghost use Rattle.pif_model.specs.Standing.{Stands};
+ghost use Rattle.pif_model.specs.Lines.{goes_on};
+ghost use Rattle.pif_uses.specs.Calls.{StandsOn, call_outcome, called, finished};
+ghost use Rattle.pif_uses.specs.Holding.{CountsOn, HoldsOn, held_by, repaired, repaired_table, repaired_value};
+
+use crate::calls::{call, finish};
+use pif_core::{Core, Event, Seen};
+use pif_types::{Errno, MutexId, Request, Tid};
+
+/// How a lock found the mutex that it has taken.
+#[derive(Clone, Copy, Debug, PartialEq, Eq, Hash)]
+pub enum Held {
+    /// What the mutex protects is in order: the lock was answered 0.
+    InOrder,
+    /// Its last owner has ended, and what the mutex protects may be in disorder: the lock was answered EOWNERDEAD.
+    OwnerDied,
+}
+
+/// Whether a lock that was answered so has taken the mutex.
+fn held_by(seen: Seen) -> Result<Held, Seen>
+    ensures { result ≡ held_by seen }
+{
+    match seen {
+        Seen::Answered(answer) => if answer == 0 {
+            Ok(Held::InOrder)
+        } else if answer == Errno::OwnerDead.number() {
+            Ok(Held::OwnerDied)
+        } else {
+            Err(seen)
+        },
+        _ => Err(seen),
+    }
+}
+
+/// A thread locks a mutex, by a whole call (pthread_mutex_lock of POSIX). Where it answers `Ok`, the thread holds the
+/// mutex once more than before, and no other thread does. `Err` has what the call was answered otherwise; after
+/// `Waits` the lock stays open, and `finish_lock` goes on with it.
+pub fn lock_and_hold(core: &mut Core, thread: Tid, mutex: MutexId) -> Result<Held, Seen>
+    ensures answer { result ≡ held_by (call_outcome thread (Lock mutex) core.old).seen }
+    ensures after { core.new ≡ (call_outcome thread (Lock mutex) core.old).after }
+    ensures stands { (h : List Entry) (r : List World) (w : World) → Stands core.old h r w
+        → StandsOn core.new (called thread (Lock mutex) core.old h) r w }
+    ensures holds { IfOk result (λ x. (h : List Entry) (r : List World) (w : World) → Stands core.old h r w
+        → HoldsOn thread mutex (hold_count thread mutex h + 1) core.new (called thread (Lock mutex) core.old h) r w) }
+{
+    held_by(call(core, thread, Request::Lock(mutex)))
+}
+
+/// A thread goes on with a lock of a mutex that waited. Where it answers `Ok`, the thread holds the mutex once more
+/// than before, and no other thread does. `Err` has what the lock was answered otherwise; after `Waits` it stays
+/// open, and this is called again once others have had their turns.
+pub fn finish_lock(core: &mut Core, thread: Tid, mutex: MutexId) -> Result<Held, Seen>
+    ensures answer { result ≡ held_by (goes_on 23 thread core.old).seen }
+    ensures after { core.new ≡ (goes_on 23 thread core.old).after }
+    ensures stands { (h : List Entry) (r : List World) (w : World) → Stands core.old h r w
+        → StandsOn core.new (finished thread core.old h) r w }
+    ensures holds { IfOk result (λ x. (h : List Entry) (r : List World) (w : World) → Stands core.old h r w
+        → open_call thread h ≡ Some (Lock mutex)
+        → HoldsOn thread mutex (hold_count thread mutex h + 1) core.new (finished thread core.old h) r w) }
+{
+    let _lock = Request::Lock(mutex);
+    held_by(finish(core, thread))
+}
+
+/// A thread locks a mutex, adds this amount to a sum that the mutex protects, modulo 2 to the power 64, and unlocks
+/// the mutex. `Ok` has what the unlock was answered: after 0 the thread holds the mutex as often as before. `Err` has
+/// what the lock was answered where it has not taken the mutex; the sum is unchanged then.
+pub fn add_under(
+    core: &mut Core,
+    thread: Tid,
+    mutex: MutexId,
+    sum: &mut u64,
+    amount: u64,
+) -> Result<Seen, Seen>
+    ensures added { IfOk result (λ x. sum.new ≡ (sum.old + amount) % 2 ^ 64) }
+    ensures refused { IfErr result (λ x. sum.new ≡ sum.old) }
+    ensures left { IfOk result (λ x. (h : List Entry) (r : List World) (w : World) → Stands core.old h r w
+        → x ≡ Answered 0 → CountsOn thread mutex (hold_count thread mutex h) core.new
+        (called thread (Unlock mutex) (call_outcome thread (Lock mutex) core.old).after
+        (called thread (Lock mutex) core.old h)) r w) }
+{
+    lock_and_hold(core, thread, mutex)?;
+    // Here the thread is the one holder of the mutex.
+    *sum = sum.wrapping_add(amount);
+    Ok(call(core, thread, Request::Unlock(mutex)))
+}
+
+/// A thread locks a robust mutex that protects a value. Where its last owner has ended, the value is made this fresh
+/// one, and the mutex consistent (pthread_mutex_consistent of POSIX), so that it stays usable. Where this answers
+/// `Ok`, the thread holds the mutex once more than before, and no other thread does. `Err` has what the lock was
+/// answered otherwise: after ENOTRECOVERABLE nobody will hold the mutex again, and the thread gives up.
+pub fn lock_and_repair(
+    core: &mut Core,
+    thread: Tid,
+    mutex: MutexId,
+    value: &mut u64,
+    fresh: u64,
+) -> Result<Held, Seen>
+    ensures after { IfOk result (λ x. core.new ≡ repaired_table x thread mutex core.old) }
+    ensures value { IfOk result (λ x. value.new ≡ repaired_value x fresh value.old) }
+    ensures holds { IfOk result (λ x. (h : List Entry) (r : List World) (w : World) → Stands core.old h r w
+        → HoldsOn thread mutex (hold_count thread mutex h + 1) core.new (repaired x thread mutex core.old h) r w) }
+{
+    match lock_and_hold(core, thread, mutex) {
+        Ok(Held::OwnerDied) => {
+            // Here the thread is the one holder of the mutex, and what the mutex protects may be in disorder.
+            *value = fresh;
+            match call(core, thread, Request::Consistent(mutex)) {
+                Seen::Answered(0) => Ok(Held::OwnerDied),
+                seen => Err(seen),
+            }
+        }
+        Ok(Held::InOrder) => Ok(Held::InOrder),
+        Err(seen) => Err(seen),
+    }
+}

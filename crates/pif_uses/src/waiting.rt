@@ -1,0 +1,63 @@
+ghost use Rattle.std.specs.Prelude.{ℕ, ◌≡◌, ◌+◌, true, List, Some};
+ghost use Rattle.pif_types.specs.declared.requests.Request.TheVariants.{Wait};
+ghost use Rattle.pif_model.specs.declared.events.Entry.{Entry};
+ghost use Rattle.pif_model.specs.Posix.{World};
+ghost use Rattle.pif_model.specs.History.{hold_count, open_call};
+ghost use Rattle.pif_model.specs.Standing.{Stands};
+ghost use Rattle.pif_model.specs.Lines.{goes_on};
+ghost use Rattle.pif_uses.specs.Calls.{call_outcome, finished};
+ghost use Rattle.pif_uses.specs.Holding.{HoldsOn};
+ghost use Rattle.pif_uses.specs.declared.waiting.Awaited.TheVariants.{Met};
+ghost use Rattle.pif_uses.specs.Waiting.{awaited_by, waited_table};
+
+use crate::calls::{call, finish};
+use pif_core::{Core, Event, Seen};
+use pif_types::{CondId, MutexId, Request, Tid};
+
+/// How far a thread has come that waits until something is so.
+#[derive(Clone, Copy, Debug, PartialEq, Eq, Hash)]
+pub enum Awaited {
+    /// It is so, and the thread holds the mutex.
+    Met,
+    /// The wait was answered so: after `Waits` it is open, and `resume_wait` goes on with it; after `Answered(0)` the
+    /// thread holds the mutex and tests again.
+    Not(Seen),
+}
+
+/// One round of the loop that pthread_cond_wait asks for: a thread that holds the mutex tests what it waits for, and
+/// where that is not so it waits on the variable. Where it is so, nothing has changed.
+pub fn wait_unless(
+    core: &mut Core,
+    thread: Tid,
+    cond: CondId,
+    mutex: MutexId,
+    is_met: bool,
+) -> Awaited
+    ensures answer { result ≡ awaited_by is_met (call_outcome thread (Wait cond mutex) core.old).seen }
+    ensures after { core.new ≡ waited_table is_met core.old (call_outcome thread (Wait cond mutex) core.old).after }
+{
+    if is_met {
+        Awaited::Met
+    } else {
+        Awaited::Not(call(core, thread, Request::Wait(cond, mutex)))
+    }
+}
+
+/// A thread goes on with a wait that waited. Once the wait is answered 0, the thread holds the mutex again, and tests
+/// what it waits for again: it may have been woken for nothing, or another thread may have come between.
+pub fn resume_wait(
+    core: &mut Core,
+    thread: Tid,
+    cond: CondId,
+    mutex: MutexId,
+    is_met: bool,
+) -> Awaited
+    ensures holds { result ≡ Met → (is_met ≡ true) × ((h : List Entry) (r : List World) (w : World) (n : ℕ)
+        → Stands core.old h r w → open_call thread h ≡ Some (Wait cond mutex) → hold_count thread mutex h ≡ n + 1
+        → HoldsOn thread mutex (n + 1) core.new (finished thread core.old h) r w) }
+{
+    match finish(core, thread) {
+        Seen::Answered(0) => wait_unless(core, thread, cond, mutex, is_met),
+        seen => Awaited::Not(seen),
+    }
+}
