@@ -1,10 +1,10 @@
 #!/usr/bin/env python3
 """Refuses each request for memory of the built program in turn, by a `malloc` and `realloc` that refuse the Nth: for a
-run, a replay, a trace, help, a wrong word and two clients in real threads. Each time the status must be 4, with nothing
-on standard output and one line on standard error, or, of the clients, 6 with `fault threads`; or all must be as with no
-refusal, since the standard library asks again for some. And the same of the test `desk_keeps_receipts` of pif_cli, which
-asks again for what was refused, by `resume` where a call is open, and fails where any answer, the book or its replayed
-trace changes. The status is 0 where all is so. It needs a C compiler, and is no part of the gate.
+run, a run that is shown, a replay, a trace, help, a wrong word and two clients in real threads. Each time the status must
+be 4, with nothing on standard output and one line on standard error, or, of the clients, 6 with `fault threads`; or all
+must be as with no refusal, since the standard library asks again for some. And the same of the test `desk_keeps_receipts`
+of pif_cli, which asks again for what was refused, by `resume` where a call is open, and fails where any answer, the book
+or its replayed trace changes. The status is 0 where all is so. It needs a C compiler, and is no part of the gate.
 
     bench/refused_requests.py       once ./pif, and in crates/pif_cli `rt test`, have built both
 """
@@ -89,8 +89,8 @@ def sweep(room, name, command, text, same_alone):
 
 def main():
     script, trace = Path(str(EXAMPLE) + ".pif").read_bytes(), Path(str(EXAMPLE) + ".trace").read_bytes()
-    jobs = [(["run"], script), (["replay"], trace), (["trace"], script), (["--help"], b""), (["walk"], b""),
-            (["drive", "2"], b"")]
+    jobs = [(["run"], script), (["show"], script), (["replay"], trace), (["trace"], script), (["--help"], b""),
+            (["walk"], b""), (["drive", "2"], b"")]
     sweeps = [("pif " + " ".join(words), [PROGRAM] + words, text, False) for words, text in jobs]
     sweeps.append(("desk_keeps_receipts", [TESTS, "tests::desks::desk_keeps_receipts"], b"", True))
     with tempfile.TemporaryDirectory() as folder:

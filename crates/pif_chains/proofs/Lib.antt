@@ -35,3 +35,4 @@ pub mod KernelTaken
 pub mod KernelRequeued
 pub mod KernelAllTaken
 pub mod LineCases
+pub mod Orders

@@ -1,11 +1,12 @@
 -- What queueing and leaving a queue do to who waits where, and what the kernel's waiting has in common with that of the
 -- POSIX machine.
-use Rattle.std.proofs.Common.{◌≡◌, ◌≢◌, ℕ, Bool, true, false, cond, ◌||◌, ◌==◌, eqb, nat_lt, List, [], ◌∷◌, ◌++◌, map, refl, sym, ap, ◌∙◌, subst, arith, if◌then◌else◌, eqb-true, eq-eqb, ne_eqb, le-ltb, filter, true≢false}
+use Rattle.std.proofs.Common.{◌≡◌, ◌≢◌, ℕ, Bool, true, false, cond, ◌||◌, ◌==◌, eqb, List, [], ◌∷◌, ◌++◌, map, refl, sym, ap, ◌∙◌, subst, if◌then◌else◌, eqb-true, eq-eqb, ne_eqb, true≢false}
 use Rattle.std.specs.List.{list_any, IsDistinct, AllByRecursion}
 use Rattle.std.proofs.lemmas.Bool.{eqb-false, or_parts, or_from}
 use Rattle.std.proofs.lemmas.List.Folds.{list_any-append}
 use Rattle.std.proofs.lemmas.Map.Made.{IsDistinct-keys_filter}
-use Rattle.pif_model.specs.Graph.{waited_by, has_waiter, without, first_greatest, next_waiter, waiters_with}
+use Rattle.pif_model.specs.Graph.{waited_by, has_waiter, without, next_waiter, IsNextWaiter}
+use Rattle.pif_chains.proofs.Next.{next_is_next}
 
 -- a property of a test's value from its two cases, each with its equation
 pub by_test : (P : Bool → Type 0) (b : Bool) → (b ≡ true → P true) → (b ≡ false → P false) → P b
@@ -169,7 +170,7 @@ waited-from_pair (w ∷ ws) u m o h =
 -- LEAVING THE QUEUE
 
 -- a list without u, at its first
-without-first : (P : List (ℕ × ℕ) → Type 0) (w : ℕ × ℕ) (ws : List (ℕ × ℕ)) (u : ℕ) → (w.0 ≡ u → P (without ws u)) → (w.0 ≢ u → P (w ∷ without ws u)) → P (without (w ∷ ws) u)
+pub without-first : (P : List (ℕ × ℕ) → Type 0) (w : ℕ × ℕ) (ws : List (ℕ × ℕ)) (u : ℕ) → (w.0 ≡ u → P (without ws u)) → (w.0 ≢ u → P (w ∷ without ws u)) → P (without (w ∷ ws) u)
 without-first P w ws u h k = by_test (λ b. P (cond (cond b false true) (w ∷ without ws u) (without ws u))) (w.0 == u) (λ e. h (eqb-true w.0 u e)) (λ e. k (eqb-false w.0 u e))
 
 -- the others stay
@@ -241,30 +242,11 @@ named-push ws t m u = list_any-append (λ (w : ℕ × ℕ). w.0 == u) ws ((t, m)
 
 -- THE NEXT WAITER
 
--- a mutex without a waiter
-waiters_with-none : (f : ℕ → ℕ) (ws : List (ℕ × ℕ)) (m : ℕ) → has_waiter ws m ≡ false → waiters_with f ws m ≡ []
-waiters_with-none f [] m h = refl
-waiters_with-none f (w ∷ ws) m h =
-    let p = or_parts (w.1 == m) (has_waiter ws m) h in
-    rw p.0 (waiters_with-none f ws m p.1)
-
 -- the next waiter of a mutex that has one is among its waiters
 pub next-is_waiter : (f : ℕ → ℕ) (ws : List (ℕ × ℕ)) (m : ℕ) → has_waiter ws m ≡ true → pairs (next_waiter f ws m) m ws ≡ true
-unfolding next_waiter first_greatest
-next-is_waiter f [] m h = h
-next-is_waiter f (w ∷ ws) m h =
-    by_test (λ b. (b || has_waiter ws m) ≡ true →
-    pairs (first_greatest (map (λ (w : ℕ × ℕ). (w.0, f w.0)) (cond b (w ∷ filter (λ w. w.1 == m) ws) (filter (λ w. w.1 == m) ws)))).0 m (w ∷ ws) ≡ true)
-    (w.1 == m)
-    (λ e h. by_test (λ b. pairs (if b then first_greatest (waiters_with f ws m) else (w.0, f w.0)).0 m (w ∷ ws) ≡ true)
-    (nat_lt (f w.0) (first_greatest (waiters_with f ws m)).1)
-    (λ k. by_test (λ c. has_waiter ws m ≡ c → pairs (next_waiter f ws m) m (w ∷ ws) ≡ true) (has_waiter ws m)
-    (λ q x. later (next-is_waiter f ws m q))
-    (λ q x. absurd (true≢false (sym k ∙ ap (λ (l : List (ℕ × ℕ)). nat_lt (f w.0) (first_greatest l).1) (waiters_with-none f ws m q) ∙ le-ltb (f w.0) 0 (omega arith))))
-    refl)
-    (λ k. rw (eq-eqb w.0 w.0 refl, e) refl))
-    (λ e h. later (next-is_waiter f ws m h))
-    h
+next-is_waiter f ws m h = go (next_waiter f ws m) (next_is_next f ws m h)
   where
-    later : pairs (next_waiter f ws m) m ws ≡ true → pairs (next_waiter f ws m) m (w ∷ ws) ≡ true
-    later q = ap (λ x. (if w.0 == next_waiter f ws m then w.1 == m else false) || x) q ∙ or_true (if w.0 == next_waiter f ws m then w.1 == m else false)
+    go : (u : ℕ) → IsNextWaiter f ws m u → pairs u m ws ≡ true
+    go u n = ap (pairs u m) n.place
+        ∙ list_any-append (λ (w : ℕ × ℕ). if w.0 == u then w.1 == m else false) n.earlier ((u, m) ∷ n.later)
+        ∙ rw (eq-eqb u u refl, eq-eqb m m refl) (or_true (pairs u m n.earlier))

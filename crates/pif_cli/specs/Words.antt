@@ -11,10 +11,11 @@ use Rattle.std.specs.declared.io.ErrorKind.{ErrorKind as IoErrorKind}
 use Rattle.std.specs.declared.io.ErrorKind.TheVariants.{OutOfMemory, InvalidData}
 use Rattle.pif_scripts.specs.declared.faults.CliFault.{CliFault}
 use Rattle.pif_cli.specs.declared.words.Job.{Job}
-use Rattle.pif_cli.specs.declared.words.Job.TheVariants.{Run, Replay, Trace, Drive}
+use Rattle.pif_cli.specs.declared.words.Job.TheVariants.{Run, Replay, Trace, Show, Drive}
 use Rattle.pif_cli.specs.declared.statuses.JobFault.{JobFault}
 use Rattle.pif_cli.specs.declared.statuses.JobFault.TheVariants.{Cli}
 use Rattle.pif_scripts.specs.Running.{RunsTo}
+use Rattle.pif_scripts.specs.Showing.{ShowsTo}
 use Rattle.pif_scripts.specs.Traces.{ReplaysTo}
 use Rattle.pif_scripts.specs.Transcripts.{TracesTo}
 use Rattle.pif_scripts.specs.Runs.{WritesPart}
@@ -40,10 +41,11 @@ clients_rule = record (new_rule (codes "N")) { required = true; parser = Some (U
 abbrev pub drive_app : App
 drive_app = with_rule (new_app (codes "drive")) clients_rule
 
--- the program's commands: `run`, `replay`, `trace` and `drive`
+-- the program's commands: `run`, `show`, `replay`, `trace` and `drive`
 abbrev pub program : App
 program =
-    with_subcommand (with_job (with_job (with_job bare_program (codes "run")) (codes "replay")) (codes "trace")) drive_app.top
+    with_subcommand (with_job (with_job (with_job (with_job bare_program (codes "run")) (codes "show")) (codes "replay"))
+    (codes "trace")) drive_app.top
 
 -- why the words are refused, the program's name first; none where they ask for a job
 abbrev pub refusals_of : List (List ℕ) → Kinds
@@ -58,7 +60,9 @@ clients_in None = 0
 abbrev pub job_named : Text → Option Text → Job
 job_named name given =
     if bytes_eq name (codes "replay") then Replay
-    else (if bytes_eq name (codes "trace") then Trace else (if bytes_eq name (codes "drive") then Drive (clients_in given) else Run))
+    else (if bytes_eq name (codes "trace") then Trace
+    else (if bytes_eq name (codes "show") then Show
+    else (if bytes_eq name (codes "drive") then Drive (clients_in given) else Run)))
 
 -- the job of a command, by its name and what was given to it
 abbrev pub job_by : Option (Text × List Row) → Job
@@ -87,6 +91,7 @@ abbrev pub Does : Job → (before after held holds : Option (List ℕ)) → Resu
 Does Run before after held holds result = EndsAsCli (RunsTo before after held holds) result
 Does Replay before after held holds result = EndsAsCli (ReplaysTo before after held holds) result
 Does Trace before after held holds result = EndsAsCli (TracesTo before after held holds) result
+Does Show before after held holds result = EndsAsCli (ShowsTo before after held holds) result
 Does (Drive clients) before after held holds result = Keeps before after × Drives clients held holds result
 
 -- the job was done, and the errors were told how it ended

@@ -76,7 +76,7 @@ fn cause_words(job: Job, number: u64, cause: Cause, notice: &Notice) -> &'static
         }
         Cause::Command => match job {
             Job::Replay => no_traced(number, notice),
-            Job::Run | Job::Trace | Job::Drive(_) => no_command(number, notice.line()),
+            Job::Run | Job::Trace | Job::Show | Job::Drive(_) => no_command(number, notice.line()),
         },
     }
 }
@@ -87,7 +87,7 @@ fn slip(line: &[u8]) -> Option<&'static str> {
         return Some("the line ends in CR LF, and not in LF alone");
     }
     let spaces = line.windows(2).any(|pair| pair == b"  ".as_slice());
-    if spaces || line.starts_with(b" ") || line.ends_with(b" ") {
+    if spaces || line.starts_with(b" ") || line.ends_with(b" ") || line.contains(&b'\t') {
         return Some("words are separated by one space, with none at either end");
     }
     None
@@ -98,7 +98,7 @@ fn no_command(number: u64, line: &[u8]) -> &'static str {
     if line.is_empty() {
         return "an empty line is no command";
     }
-    if line.starts_with(b"#") {
+    if line.contains(&b'#') {
         return "no such command, and there are no comments";
     }
     if let Some(words) = slip(line) {
@@ -106,6 +106,12 @@ fn no_command(number: u64, line: &[u8]) -> &'static str {
     }
     if number > 1 && line.starts_with(b"limits ") {
         return "limits may stand on the first line only";
+    }
+    if line.starts_with(b"pif-trace ") {
+        return "a trace is no script: 'pif replay' takes it";
+    }
+    if line.iter().any(|byte| byte.is_ascii_uppercase()) {
+        return "no such command, and none has capital letters";
     }
     "no such command"
 }

@@ -18,6 +18,10 @@ pub const ABOUT_REPLAY: &str =
 pub const ABOUT_TRACE: &str =
     "Reads a script from the standard input, and writes the trace that 'pif replay' takes";
 
+/// What `show` does.
+pub const ABOUT_SHOW: &str =
+    "Reads a script from the standard input, and shows for each of its lines the answer and the state";
+
 /// How `run` is called.
 pub const USAGE_RUN: &str = "pif run < FILE";
 
@@ -26,6 +30,9 @@ pub const USAGE_REPLAY: &str = "pif replay < FILE";
 
 /// How `trace` is called.
 pub const USAGE_TRACE: &str = "pif trace < FILE";
+
+/// How `show` is called.
+pub const USAGE_SHOW: &str = "pif show < FILE";
 
 /// What `drive` does.
 pub const ABOUT_DRIVE: &str =
@@ -99,6 +106,24 @@ Its trace begins with 'pif-trace 1' and the line of the limits. Behind them stan
 mutexes and variables that were added, and each begin, go and end, all with what the core
 answered, as in 'go t1 = went'. 'call' and 'finish' stand there as the begin and the go of which
 they are made. What was not added, and what only asks, leaves no line; nor does a fault.
+
+Status: 0 done, 1 wrong words, 2 a fault of the script, 3 a read or write failed,
+4 out of memory.
+Standard error says what went wrong, and in which line.";
+
+/// The end of the help of `show`.
+pub const MORE_SHOW: &str =
+    "A script comes by < FILE, or by a pipe, as 'pif run' takes it; 'pif run --help' names its commands.
+
+For each line it prints the line behind '> ', what 'pif run' answers it, and what there is then:
+  tN             its effective priority, and its base priority where that differs; what it does;
+                 the call that it has open; the mutexes that it holds
+  mN             its kind, and whether it is robust; its health; its word; its owner;
+                 its waiters, the next one first
+  cN             its mutex; how often it was used; who is parked on it, the next one first
+  run queue      the threads that are ready, the one that runs next first
+  chain          who waits for which mutex, who holds it, and for which that one waits
+What is empty is left out. This text is for reading, and may change; 'pif run' prints for programs.
 
 Status: 0 done, 1 wrong words, 2 a fault of the script, 3 a read or write failed,
 4 out of memory.

@@ -1,6 +1,8 @@
 mod desks;
 mod drives;
 mod messages;
+mod pages;
+mod shows;
 mod texts;
 mod words_of_processes;
 
@@ -31,6 +33,21 @@ const LOCKED: &str =
 const TRACED: &str =
     "pif-trace 1\nlimits 1024 1024 256 4294967295 = ok\nthread 10 = t1\ngo t2 = refused nosuch\n";
 
+/// Asks the program for a job with these words over an input. Answers the status, and what is written to the output and to
+/// the errors.
+fn asked(
+    rt: &(impl Threads + Wait + Sync),
+    alloc: Global,
+    words: &[&str],
+    input: &[u8],
+) -> (u8, Kept, Kept) {
+    let mut output = Kept::new();
+    let mut errors = Kept::new();
+    let mut bytes = input;
+    let status = command(alloc, rt, words, &mut bytes, &mut output, &mut errors);
+    (status, output, errors)
+}
+
 /// Does what the second word asks for over the input `text`, and checks the status and what is written; the errors are
 /// told of each status but 0.
 fn check(
@@ -41,18 +58,8 @@ fn check(
     status: u8,
     answers: &str,
 ) {
-    let mut output = Kept::new();
-    let mut errors = Kept::new();
     let words = ["pif", job];
-    let mut input = text.as_bytes();
-    let ended = command(
-        alloc,
-        rt,
-        words.as_slice(),
-        &mut input,
-        &mut output,
-        &mut errors,
-    );
+    let (ended, output, errors) = asked(rt, alloc, words.as_slice(), text.as_bytes());
     assert!(rt; output.as_slice() == answers.as_bytes(), "{text:?}");
     assert_eq!(rt;
         (ended, errors.is_empty()),
@@ -98,7 +105,7 @@ impl Read for Broken {
 
 #[test]
 fn a_failed_read_or_write_has_status_3(rt: HostRuntime) {
-    for job in ["run", "replay", "trace"] {
+    for job in ["run", "show", "replay", "trace"] {
         let words = ["pif", job];
         let mut output = Kept::new();
         let mut errors = Kept::new();
@@ -129,17 +136,8 @@ fn a_failed_read_or_write_has_status_3(rt: HostRuntime) {
 /// Each allocation of a run is refused in turn by `rt try --test --fail-alloc N`: then nothing is written but the message.
 #[test]
 fn want_of_memory_writes_nothing(rt: HostRuntime) {
-    let mut output = Kept::new();
-    let mut errors = Kept::new();
     let words = ["pif", "run"];
-    let ended = command(
-        rt.alloc(),
-        &rt,
-        words.as_slice(),
-        &mut BOOSTED.as_bytes(),
-        &mut output,
-        &mut errors,
-    );
+    let (ended, output, errors) = asked(&rt, rt.alloc(), words.as_slice(), BOOSTED.as_bytes());
     let (answers, message) = match ended {
         4 => ("", "pif: out of memory\n"),
         _ => (BOOSTED_ANSWERS, ""),

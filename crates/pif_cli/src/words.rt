@@ -10,13 +10,16 @@ ghost use Rattle.pif_cli.specs.Words.{program, refusals_of, job_of, job_named, c
 use crate::causes::{message_of, plain_message};
 use crate::drive::drive;
 use crate::helps::{
-    ABOUT, ABOUT_CLIENTS, ABOUT_DRIVE, ABOUT_REPLAY, ABOUT_RUN, ABOUT_TRACE, EXAMPLE, MORE_DRIVE,
-    MORE_REPLAY, MORE_RUN, MORE_TRACE, USAGE_DRIVE, USAGE_REPLAY, USAGE_RUN, USAGE_TRACE, VERSION,
+    ABOUT, ABOUT_CLIENTS, ABOUT_DRIVE, ABOUT_REPLAY, ABOUT_RUN, ABOUT_SHOW, ABOUT_TRACE, EXAMPLE,
+    MORE_DRIVE, MORE_REPLAY, MORE_RUN, MORE_SHOW, MORE_TRACE, USAGE_DRIVE, USAGE_REPLAY, USAGE_RUN,
+    USAGE_SHOW, USAGE_TRACE, VERSION,
 };
 use crate::statuses::{JobFault, fault_status, job_fault_status};
 use clap::builder::ValueParser;
 use clap::error::ErrorKind;
-use pif_scripts::{CliFault, Notice, replay_noting, run_noting, trace_noting, write_whole};
+use pif_scripts::{
+    CliFault, Notice, replay_noting, run_noting, show_noting, trace_noting, write_whole,
+};
 use std::alloc::{AllocError, Global};
 use std::convert::AsStr;
 use std::io::{Read, Write};
@@ -32,6 +35,8 @@ pub enum Job {
     Replay,
     /// `trace`: write the trace of a script.
     Trace,
+    /// `show`: run a script, and show it to a person.
+    Show,
     /// `drive`: let so many clients make calls in threads of their own.
     Drive(u32),
 }
@@ -72,6 +77,7 @@ fn program<'a>(alloc: Global) -> Result<clap::Command<'a>, AllocError>
 {
     let pif = bare_program(alloc);
     let pif = with_job(alloc, pif, "run", ABOUT_RUN, USAGE_RUN, MORE_RUN)?;
+    let pif = with_job(alloc, pif, "show", ABOUT_SHOW, USAGE_SHOW, MORE_SHOW)?;
     let pif = with_job(
         alloc,
         pif,
@@ -127,6 +133,8 @@ fn job_named(name: &str, given: Option<&str>) -> Job
         Job::Replay
     } else if name == "trace" {
         Job::Trace
+    } else if name == "show" {
+        Job::Show
     } else if name == "drive" {
         Job::Drive(clients_in(given))
     } else {
@@ -183,6 +191,7 @@ fn do_job<T: Threads + Wait + Sync, R: Read, W: Write>(
         Job::Run => as_job(run_noting(alloc, input, output, notice)),
         Job::Replay => as_job(replay_noting(alloc, input, output, notice)),
         Job::Trace => as_job(trace_noting(alloc, input, output, notice)),
+        Job::Show => as_job(show_noting(alloc, input, output, notice)),
         Job::Drive(clients) => drive(alloc, rt, clients, output),
     }
 }
@@ -268,7 +277,8 @@ fn refuse<W: Write, E: Write>(
 /// The program over its words, the program's name first. `pif run` reads a script from `input`, and writes what its
 /// lines are answered, and the line of a fault, to `output`. `pif replay` reads a trace from `input`, and writes to
 /// `output` what it comes to, as `replay` does. `pif trace` reads a script from `input`, and writes its trace to
-/// `output`, as `trace` does, without the line of a fault. `pif drive N` lets N clients, 1 to 64, make their calls in
+/// `output`, as `trace` does, without the line of a fault. `pif show` reads a script from `input`, and writes to `output`
+/// each line, its answer and the state behind it, as `show` does. `pif drive N` lets N clients, 1 to 64, make their calls in
 /// threads of their own, as `rt` starts them, reads nothing, and writes to `output` how many were answered, as `drive`
 /// does.
 ///
@@ -298,13 +308,14 @@ pub fn command<T: Threads + Wait + Sync, S: AsStr, R: Read, W: Write, E: Write>(
     }
 }
 
-/// Which words ask for which job: `run` alone, `replay` alone, `trace` alone, and `drive` with a number from 1 to 64 do;
+/// Which words ask for which job: `run` alone, `replay` alone, `trace` alone, `show` alone, and `drive` with a number from 1 to 64 do;
 /// no word, `--help` and `--version` don't.
 #[tactic(auto, unfolding(clap::proofs::OnLiterals::clap_on_literals))]
 pub fn words_of_the_program()
     ensures run { (name : List ℕ) → (refusals_of (name ∷ codes "run" ∷ []) ≡ []) × (job_of (name ∷ codes "run" ∷ []) ≡ Job.Run) }
     ensures replay { (name : List ℕ) → (refusals_of (name ∷ codes "replay" ∷ []) ≡ []) × (job_of (name ∷ codes "replay" ∷ []) ≡ Job.Replay) }
     ensures trace { (name : List ℕ) → (refusals_of (name ∷ codes "trace" ∷ []) ≡ []) × (job_of (name ∷ codes "trace" ∷ []) ≡ Job.Trace) }
+    ensures show { (name : List ℕ) → (refusals_of (name ∷ codes "show" ∷ []) ≡ []) × (job_of (name ∷ codes "show" ∷ []) ≡ Job.Show) }
     ensures least { (name : List ℕ) → (refusals_of (name ∷ codes "drive" ∷ codes "1" ∷ []) ≡ []) × (job_of (name ∷ codes "drive" ∷ codes "1" ∷ []) ≡ Job.Drive 1) }
     ensures most { (name : List ℕ) → (refusals_of (name ∷ codes "drive" ∷ codes "64" ∷ []) ≡ []) × (job_of (name ∷ codes "drive" ∷ codes "64" ∷ []) ≡ Job.Drive 64) }
     ensures too_few { (name : List ℕ) → refusals_of (name ∷ codes "drive" ∷ codes "0" ∷ []) ≡ ValueValidation ∷ [] }

@@ -16,7 +16,7 @@ use Rattle.pif_model.specs.Posix.Health.{Inconsistent as WasInconsistent}
 use Rattle.pif_model.specs.Posix.{is_living as lives}
 use Rattle.pif_model.specs.History.{AlwaysOneHolder}
 use Rattle.pif_model.specs.PiKernel.{is_living, is_ready, effective_in, pick_in}
-use Rattle.pif_model.specs.Table.{Table, cell_at, line_at, status_at, has_mutex, has_cond, uses_of, thread_added, mutex_added, cond_added}
+use Rattle.pif_model.specs.Table.{Table, cell_at, line_at, status_at, has_thread, has_mutex, has_cond, uses_of, thread_added, mutex_added, cond_added}
 use Rattle.pif_model.specs.Calls.{effective_answer, word_answer, health_answer, cond_word_answer, pick_answer, waiting_answer}
 use Rattle.pif_model.specs.Word.{word_of, bits_of, health_in, health_word}
 use Rattle.pif_model.specs.Lines.{is_open, event_outcome}
@@ -85,7 +85,7 @@ module _ (s : Table) (h : List Entry) (r : List World) (w : World) (st : Stands 
       subst (λ (p : ℕ). HasEffective w t p) (sym same) (effective_is_greatest s.limits h r w st.run t known)
 
   -- the kernel's pick is that of the subject
-  pick_stands : IsPick w (pick_in s.kernel)
+  pub pick_stands : IsPick w (pick_in s.kernel)
   pick_stands = subst (λ u. IsPick u (pick_in s.kernel)) (sym st.shows) (pick_runs st.sound st.shadow)
 
   -- a mutex's health word is possible, and OWNER_DIED where it doesn't say that the mutex is inconsistent
@@ -118,34 +118,47 @@ from_some o x y h e =
     subst P e h
 
 -- an answer that is there by a test
-there_by : (b : Bool) (x : ℕ) → is_some (if b then Some x else None) ≡ b
+there_by : {A : Type 0} (b : Bool) (x : A) → is_some (if b then Some x else None) ≡ b
 there_by true x = refl
 there_by false x = refl
+
+-- what holds of an answer that is there by a test
+pub said_by : {A : Type 0} (P : A → Type 0) (b : Bool) (x : A) (o : Option A) → o ≡ (if b then Some x else None)
+    → (b ≡ true → P x) → IfSome o P
+said_by {A} P b x o e f = subst (λ (y : Option A). IfSome y P) (sym e) (go b f)
+  where
+    go : (a : Bool) → (a ≡ true → P x) → IfSome (if a then Some x else None) P
+    go true g = g refl
+    go false g = tt
+
+module _ {A : Type 0} (s : Table) (x : A) (o : Option A) (h : List Entry) (r : List World) (w : World)
+    (st : Stands s h r w) where
+  -- a reader answers for the threads that were added
+  pub thread_is_some : (t : ℕ) → o ≡ (if has_thread s t then Some x else None) → is_some o ≡ is_thread w t
+  thread_is_some t e = ap is_some e ∙ there_by (has_thread s t) x
+      ∙ sym (ap (λ (u : World). is_thread u t) st.shows ∙ is_thread_seen st.sound.all.shape st.shadow t)
+
+  -- or for the living ones
+  pub living_is_some : (t : ℕ) → o ≡ (if is_living s.kernel t then Some x else None) → is_some o ≡ lives w t
+  living_is_some t e = ap is_some e ∙ there_by (is_living s.kernel t) x
+      ∙ sym (ap (λ (u : World). lives u t) st.shows ∙ living_seen s st.shadow t st.sound.all.shape)
+
+  -- or for the mutexes that were added
+  pub mutex_is_some : (m : ℕ) → o ≡ (if has_mutex s m then Some x else None) → is_some o ≡ is_mutex w m
+  mutex_is_some m e = ap is_some e ∙ there_by (has_mutex s m) x
+      ∙ sym (ap (λ (u : World). is_mutex u m) st.shows ∙ is_mutex_seen st.sound.all.shape st.shadow m)
+
+  -- or for the variables
+  pub variable_is_some : (c : ℕ) → o ≡ (if has_cond s c then Some x else None) → is_some o ≡ is_variable w c
+  variable_is_some c e = ap is_some e ∙ there_by (has_cond s c) x
+      ∙ sym (ap (λ (u : World). is_variable u c) st.shows ∙ is_variable_seen st.sound.all.shape st.shadow c)
 
 -- the answer of the reader of effective priorities
 pub effective_answered : (s : Table) (t : ℕ) (o : Option ℕ) (h : List Entry) (r : List World) (w : World)
     → Stands s h r w → o ≡ effective_answer t s → IfSome o (λ p. HasEffective w t p)
 effective_answered s t o h r w st e =
-    subst (λ (x : Option ℕ). IfSome x (λ p. HasEffective w t p)) (sym e) (by_test (is_living s.kernel t) refl)
-  where
-    by_test : (b : Bool) → is_living s.kernel t ≡ b
-        → IfSome (if b then Some (effective_in s.kernel t) else None) (λ p. HasEffective w t p)
-    by_test true living = effective_stands s h r w st t living
-    by_test false living = tt
-
--- the reader of effective priorities answers for living threads
-pub effective_is_some : (s : Table) (t : ℕ) (o : Option ℕ) (h : List Entry) (r : List World) (w : World)
-    → Stands s h r w → o ≡ effective_answer t s → is_some o ≡ lives w t
-effective_is_some s t o h r w st e =
-    ap is_some e ∙ there_by (is_living s.kernel t) (effective_in s.kernel t)
-    ∙ sym (ap (λ (u : World). lives u t) st.shows ∙ living_seen s st.shadow t st.sound.all.shape)
-
--- the reader of words answers for the mutexes that were added
-pub word_is_some : (s : Table) (m : ℕ) (o : Option ℕ) (h : List Entry) (r : List World) (w : World) → Stands s h r w
-    → o ≡ word_answer m s → is_some o ≡ is_mutex w m
-word_is_some s m o h r w st e =
-    ap is_some e ∙ there_by (has_mutex s m) (bits_of (cell_at s m).word)
-    ∙ sym (ap (λ (u : World). is_mutex u m) st.shows ∙ is_mutex_seen st.sound.all.shape st.shadow m)
+    said_by (λ p. HasEffective w t p) (is_living s.kernel t) (effective_in s.kernel t) o e
+    (effective_stands s h r w st t)
 
 -- the answer of the reader of the pick
 pub pick_answered : (s : Table) (o : Option ℕ) (h : List Entry) (r : List World) (w : World) → Stands s h r w
@@ -173,33 +186,11 @@ word_answered s m o h r w st e =
     by_test true known same = subst (IsPossible w m) (sym same) (word_stands s h r w st m known)
     by_test false known same = tt
 
--- the reader of condition words answers for the variables that were added
-pub cond_word_is_some : (s : Table) (c : ℕ) (o : Option ℕ) (h : List Entry) (r : List World) (w : World)
-    → Stands s h r w → o ≡ cond_word_answer c s → is_some o ≡ is_variable w c
-cond_word_is_some s c o h r w st e =
-    ap is_some e ∙ there_by (has_cond s c) (uses_of s c)
-    ∙ sym (ap (λ (u : World). is_variable u c) st.shows ∙ is_variable_seen st.sound.all.shape st.shadow c)
-
 -- the answer of the reader of condition words
 pub cond_word_answered : (s : Table) (c : ℕ) (o : Option ℕ) (h : List Entry) (r : List World) (w : World)
     → Stands s h r w → o ≡ cond_word_answer c s → IfSome o (λ n. IsPossibleUses w c n)
 cond_word_answered s c o h r w st e =
-    subst (λ (x : Option ℕ). IfSome x (λ n. IsPossibleUses w c n)) (sym e) (by_known (has_cond s c))
-  where
-    by_known : (b : Bool) → IfSome (if b then Some (uses_of s c) else None) (λ n. IsPossibleUses w c n)
-    by_known true = uses_stand s h r w st c
-    by_known false = tt
-
--- the reader of health words answers for the mutexes that were added
-pub health_is_some : (s : Table) (m : ℕ) (o : Option Health) (h : List Entry) (r : List World) (w : World)
-    → Stands s h r w → o ≡ health_answer m s → is_some o ≡ is_mutex w m
-health_is_some s m o h r w st e =
-    ap is_some e ∙ there_by_test (has_mutex s m) (health_in (cell_at s m).health)
-    ∙ sym (ap (λ (u : World). is_mutex u m) st.shows ∙ is_mutex_seen st.sound.all.shape st.shadow m)
-  where
-    there_by_test : (b : Bool) (x : Health) → is_some (if b then Some x else None) ≡ b
-    there_by_test true x = refl
-    there_by_test false x = refl
+    said_by (λ n. IsPossibleUses w c n) (has_cond s c) (uses_of s c) o e (λ _. uses_stand s h r w st c)
 
 -- a fact of a number holds of the one that a health word's health has, if it holds of 2, of 1 or of 0 for any other
 by_health : (P : ℕ → Type 0) (n : ℕ) → (n ≡ 2 → P 2) → (n ≡ 1 → P 1) → (n ≢ 2 → n ≢ 1 → P 0)
@@ -229,24 +220,18 @@ module _ (s : Table) (m : ℕ) (h : List Entry) (r : List World) (w : World) (st
   both_said = by_health (ArePossible w m (cell_at s m).word) (cell_at s m).health
       (λ e d z. cc) (λ e d z. cc) (λ n k d z. died_stands s h r w st m known d k)
 
--- what holds of the health that a reader answers, if it answers
-by_known : (P : Health → Type 0) (b : Bool) (x : Health) → (b ≡ true → P x) → IfSome (if b then Some x else None) P
-by_known P true x f = f refl
-by_known P false x f = tt
-
+-- the answer of the reader of health words, by itself and with the mutex's word
 pub health_answered : (s : Table) (m : ℕ) (o : Option Health) (h : List Entry) (r : List World) (w : World)
     → Stands s h r w → o ≡ health_answer m s → IfSome o (λ x. IsPossibleHealth w m (health_word x))
 health_answered s m o h r w st e =
-    subst (λ (x : Option Health). IfSome x (λ y. IsPossibleHealth w m (health_word y))) (sym e)
-    (by_known (λ y. IsPossibleHealth w m (health_word y)) (has_mutex s m) (health_in (cell_at s m).health)
-    (health_said s m h r w st))
+    said_by (λ x. IsPossibleHealth w m (health_word x)) (has_mutex s m) (health_in (cell_at s m).health) o e
+    (health_said s m h r w st)
 
 pub both_answered : (s : Table) (m : ℕ) (o : Option Health) (h : List Entry) (r : List World) (w : World)
     → Stands s h r w → o ≡ health_answer m s → IfSome o (λ x. ArePossible w m (cell_at s m).word (health_word x))
 both_answered s m o h r w st e =
-    subst (λ (x : Option Health). IfSome x (λ y. ArePossible w m (cell_at s m).word (health_word y))) (sym e)
-    (by_known (λ y. ArePossible w m (cell_at s m).word (health_word y)) (has_mutex s m)
-    (health_in (cell_at s m).health) (both_said s m h r w st))
+    said_by (λ x. ArePossible w m (cell_at s m).word (health_word x)) (has_mutex s m) (health_in (cell_at s m).health)
+    o e (both_said s m h r w st)
 
 -- WHO RESTS
 

@@ -27,7 +27,7 @@ const FIRST_TICKET: u64 = 1;
 /// takes memory.
 #[derive(Drop)]
 pub struct Core {
-    parts: Parts<PlainKernel>,
+    pub(crate) parts: Parts<PlainKernel>,
 }
 
 impl Model for Core {
@@ -229,7 +229,7 @@ impl Core {
     }
 
     /// Whether this thread was added.
-    fn has_thread(&self, thread: Tid) -> bool
+    pub(crate) fn has_thread(&self, thread: Tid) -> bool
         ensures { result ≡ has_thread self.now thread }
     {
         thread.get() <= self.parts.threads()

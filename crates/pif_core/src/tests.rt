@@ -1,5 +1,5 @@
 use crate::Core;
-use pif_model::{Event, Seen};
+use pif_model::{Event, Seen, Status, Woken};
 use pif_types::{AddFault, CondId, Health, Kind, Limits, MutexId, Prio, Refusal, Request, Tid};
 use std::alloc::Global;
 use std::process::Abort;
@@ -8,6 +8,13 @@ use std::test::Fail;
 /// A thread's call: its number, what it asks, in how many steps, what the last of them is answered, and the word of
 /// mutex 1 after it.
 type Row = (u32, Request, u32, Seen, u32);
+
+/// What a thread shows: its base priority, what it does, and its open call.
+type ThreadRow = (Tid, u32, Status, Option<Request>);
+
+/// What a mutex shows: its kind and whether it is robust, its owner and how often that one holds it, and who gets it
+/// next.
+type MutexRow = (MutexId, (Kind, bool), Option<(Tid, u32)>, Option<Tid>);
 
 /// A core with mutex 1 of this kind, threads of these priorities, and room for one condition variable.
 fn scene(alloc: Global, kind: Kind, levels: &[u32]) -> Result<Core, Fail> {
@@ -172,4 +179,110 @@ fn signal(rt: &impl Abort, core: &mut Core) -> Result<(), Fail> {
     );
     assert_eq!(rt; core.step(Event::Go(waiter)), Seen::Answered(0));
     play(rt, core, &beyond)
+}
+
+#[test]
+fn one_who_looks_sees_who_does_what(rt: HostRuntime) -> Result<(), Fail> {
+    let mut core = scene(rt.alloc(), Kind::Recursive, &[10, 50, 30])?;
+    look(&rt, &mut core)
+}
+
+/// Thread 1 holds a recursive mutex twice, for which thread 3 waits, and thread 2 is parked with a robust one.
+fn look(rt: &impl Abort, core: &mut Core) -> Result<(), Fail> {
+    let recursive = MutexId::new(1).ok_or("a mutex")?;
+    let robust = core.add_mutex(Kind::Normal, true)?;
+    let cond = core.add_cond(robust)?;
+    let holder = Tid::new(1).ok_or("a thread")?;
+    let parked = Tid::new(2).ok_or("a thread")?;
+    let waiter = Tid::new(3).ok_or("a thread")?;
+    let calls = [
+        (parked, Request::Lock(robust), Seen::Answered(0)),
+        (parked, Request::Wait(cond, robust), Seen::Waits),
+        (holder, Request::Lock(recursive), Seen::Answered(0)),
+        (holder, Request::Lock(recursive), Seen::Answered(0)),
+        (waiter, Request::Lock(recursive), Seen::Waits),
+    ];
+    let threads = [
+        (holder, 10, Status::Ready(Woken::Fresh), None),
+        (
+            parked,
+            50,
+            Status::Parked(cond),
+            Some(Request::Wait(cond, robust)),
+        ),
+        (
+            waiter,
+            30,
+            Status::Queued(recursive),
+            Some(Request::Lock(recursive)),
+        ),
+    ];
+    let mutexes = [
+        (
+            recursive,
+            (Kind::Recursive, false),
+            Some((holder, 2)),
+            Some(waiter),
+        ),
+        (robust, (Kind::Normal, true), None, None),
+    ];
+    call_all(rt, core, &calls);
+    see_threads(rt, core, &threads);
+    see_mutexes(rt, core, &mutexes);
+    assert_eq!(rt;
+        (core.mutexes(), core.conds(), core.bound(cond)),
+        (2, 1, Some(robust))
+    );
+    assert_eq!(rt;
+        (core.parked(cond, 0), core.ready(0)),
+        (Some(parked), Some(holder))
+    );
+    Ok(())
+}
+
+/// Threads make their calls, one after the other, each until it closes or waits.
+fn call_all(rt: &impl Abort, core: &mut Core, calls: &[(Tid, Request, Seen)]) {
+    for row in calls {
+        let (thread, request, answer) = *row;
+        assert_eq!(rt; call(core, thread, request), answer, "{thread:?}");
+    }
+}
+
+/// The thread begins this call and takes its steps until the call closes or waits: what the last one was answered.
+fn call(core: &mut Core, thread: Tid, request: Request) -> Seen {
+    let mut seen = core.step(Event::Begin(thread, request));
+    for _ in 0..24 {
+        if let Seen::Begun | Seen::Went = seen {
+            seen = core.step(Event::Go(thread));
+        }
+    }
+    seen
+}
+
+/// Each thread shows what its row says.
+fn see_threads(rt: &impl Abort, core: &Core, rows: &[ThreadRow]) {
+    for row in rows {
+        let (thread, base, status, open) = *row;
+        assert_eq!(rt;
+            (
+                core.base(thread),
+                core.status(thread),
+                core.open_call(thread)
+            ),
+            (Prio::new(base), Some(status), open),
+            "{thread:?}"
+        );
+    }
+}
+
+/// Each mutex shows what its row says.
+fn see_mutexes(rt: &impl Abort, core: &Core, rows: &[MutexRow]) {
+    for row in rows {
+        let (mutex, kind, owner, next) = *row;
+        assert_eq!(rt;
+            (core.kind(mutex), core.owner(mutex), core.waiter(mutex, 0)),
+            (Some(kind), owner, next),
+            "{mutex:?}"
+        );
+    }
 }

@@ -30,3 +30,4 @@ pub mod HandOverFacts
 pub mod HandOverSound
 pub mod LeavingFacts
 pub mod LeavingSound
+pub mod WaitingOrder

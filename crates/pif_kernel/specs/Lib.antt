@@ -8,3 +8,4 @@ pub mod Found
 pub mod Tickets
 pub mod Systems
 pub mod Takings
+pub mod Orders

@@ -1,5 +1,6 @@
 ghost use Rattle.std.specs.Prelude.{◌≡◌, ◌≤◌, ◌==◌, true, length, if◌then◌else◌, Some, None};
-ghost use Rattle.pif_model.specs.PiKernel.{Kernel, IsKernel, seat_at, has_seat, is_living, is_ready, effective_in, pick_in, kernel_after_add, lock_answer, words_after_lock, kernel_after_lock, try_lock_answer, words_after_try_lock, unlock_answer, words_after_unlock, kernel_after_unlock, set_prio_answer, kernel_after_set_prio, kernel_after_stop, wait_requeue_answer, kernel_after_wait_requeue, requeue_answer, after_requeue, after_exit};
+ghost use Rattle.std.specs.List.{slice_get};
+ghost use Rattle.pif_model.specs.PiKernel.{Kernel, IsKernel, seat_at, has_seat, is_living, is_ready, effective_in, pick_in, waiters_in, parked_in, ready_in, kernel_after_add, lock_answer, words_after_lock, kernel_after_lock, try_lock_answer, words_after_try_lock, unlock_answer, words_after_unlock, kernel_after_unlock, set_prio_answer, kernel_after_set_prio, kernel_after_stop, wait_requeue_answer, kernel_after_wait_requeue, requeue_answer, after_requeue, after_exit};
 ghost use Rattle.pif_model.specs.RobustList.{robust_at, walk_of, without_robust};
 ghost use Rattle.pif_word.specs.WordMap.{words_of};
 ghost use Rattle.pif_kernel.specs.Answers.{unit_answer};
@@ -35,6 +36,27 @@ pub trait PiKernel {
     /// any chain. `None` where no living thread has that number.
     fn effective(&self, t: Tid) -> Option<Prio>
         ensures value { result ≡ (if is_living (meaning self.now) t then Some (effective_in (meaning self.now) t) else None) };
+
+    /// The base priority of the thread `t`, which was added.
+    fn base(&self, t: Tid) -> Prio
+        requires added { has_seat (meaning self.now) t ≡ true }
+        ensures value { result ≡ (seat_at (meaning self.now) t).base };
+
+    /// The waiter of the mutex `m` before which `place` others get it, as long as no priority changes and nobody comes
+    /// or goes: those of greatest effective priority first, and of equals the first in arrival. `None` where so few
+    /// wait for it.
+    fn waiter(&self, m: MutexId, place: u32) -> Option<Tid>
+        ensures value { result ≡ slice_get (waiters_in (meaning self.now) m) place };
+
+    /// The thread that is parked on the variable `c` and before which `place` others are taken from it, as long as no
+    /// priority changes and nobody comes or goes. `None` where so few are parked on it.
+    fn parked(&self, c: CondId, place: u32) -> Option<Tid>
+        ensures value { result ≡ slice_get (parked_in (meaning self.now) c) place };
+
+    /// The ready thread before which `place` others run, as long as none comes or goes: those of the greatest level
+    /// first, and of each level in order of joining (sched(7), SCHED_FIFO). `None` where so few are ready.
+    fn ready(&self, place: u32) -> Option<Tid>
+        ensures value { result ≡ slice_get (ready_in (meaning self.now)) place };
 
     /// The thread that runs next: the first that joined the greatest level (sched(7), SCHED_FIFO). `None` where none is
     /// ready.

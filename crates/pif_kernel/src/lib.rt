@@ -64,16 +64,22 @@
 //! it goes through the mutexes that its robust list and its pending field name, and touches each whose word has n = t,
 //! and where s, if there is one, is t too. A word without s loses its number, gets OWNER_DIED, and keeps WAITERS.
 //!
+//! The calls that read touch nothing. `waiter`, `parked` and `ready` answer the thread at a place of an order, 0 for
+//! the next: the waiters of a mutex and the threads that are parked on a variable stand by their effective priorities
+//! now, equals in arrival, and the ready threads by their levels, those of one level in order of joining. `pick` is the
+//! first of the ready threads.
+//!
 //! `PlainKernel` makes a call of its steps, which stand in eight files over the same parts: `refusals` has the tests of
 //! the calls, `threads` adds and stops a thread and gives it another priority, `queueing` queues a thread and hands a
 //! mutex over, `parking` parks a thread, wakes it, and finds the next, `requeueing` takes parked threads for their
 //! mutex, `leaving` takes a thread that ends off what it waits for, `dying` passes its mutexes on, and `tickets`
-//! numbers the waiters in their order. `parts` keeps what they touch.
+//! numbers the waiters in their order. `orders` reads who stands at which place. `parts` keeps what they touch.
 #![tactic(auto)]
 
 mod dying;
 mod kernel;
 mod leaving;
+mod orders;
 mod parking;
 mod parts;
 mod plain;

@@ -89,7 +89,7 @@ impl Parts {
     }
 
     /// The effective priority of a thread. 0 where it was never added.
-    fn level(&self, t: Tid) -> u32
+    pub(crate) fn level(&self, t: Tid) -> u32
         requires sound { IsSound self.now }
         ensures { result ≡ effective_in (kernel_of self.now) t }
     {

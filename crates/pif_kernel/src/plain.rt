@@ -69,6 +69,22 @@ impl PiKernel for PlainKernel {
         self.parts.effective(t)
     }
 
+    fn base(&self, t: Tid) -> Prio {
+        self.parts.base(t)
+    }
+
+    fn waiter(&self, m: MutexId, place: u32) -> Option<Tid> {
+        self.parts.waiter(m, place)
+    }
+
+    fn parked(&self, c: CondId, place: u32) -> Option<Tid> {
+        self.parts.parked_at(c, place)
+    }
+
+    fn ready(&self, place: u32) -> Option<Tid> {
+        self.parts.ready(place)
+    }
+
     fn pick(&self) -> Option<Tid> {
         self.parts.pick()
     }

@@ -35,6 +35,11 @@ enum Ask {
     Stop(u32),
     Status(u32),
     Effective(u32),
+    Base(u32),
+    // The waiter of a mutex, the thread that is parked on a variable, and the ready thread, at a place.
+    Waiter(u32, u32),
+    Parked(u32, u32),
+    Ready(u32),
     Pick,
     NextTicket,
     Word(u32),
@@ -54,6 +59,7 @@ enum Reply {
     ParkedOn(u32),
     Taken(u32),
     Prio(u32),
+    Thread(u32),
     Runs(u32),
     Nobody,
     Ticket(u64),
@@ -91,6 +97,10 @@ impl Scene {
             Ask::StoreUses(c, uses) => self.store_uses(variable(c)?, uses)?,
             Ask::Status(t) => self.status(thread(t)?)?,
             Ask::Effective(t) => self.effective(thread(t)?),
+            Ask::Base(t) => self.base(thread(t)?)?,
+            Ask::Waiter(m, place) => who(self.kernel.waiter(mutex(m)?, place)),
+            Ask::Parked(c, place) => who(self.kernel.parked(variable(c)?, place)),
+            Ask::Ready(place) => who(self.kernel.ready(place)),
             Ask::Pick => self.pick(),
             Ask::NextTicket => Reply::Ticket(self.kernel.next_ticket()),
         })
@@ -152,6 +162,11 @@ impl Scene {
         }
     }
 
+    fn base(&self, t: Tid) -> Result<Reply, Fail> {
+        see_living(&self.kernel, t)?;
+        Ok(Reply::Prio(self.kernel.base(t).get()))
+    }
+
     fn pick(&self) -> Reply {
         match self.kernel.pick() {
             Some(t) => Reply::Runs(t.get()),
@@ -193,6 +208,13 @@ fn mutex(number: u32) -> Result<MutexId, Fail> {
 
 fn variable(number: u32) -> Result<CondId, Fail> {
     Ok(CondId::new(number).ok_or("a variable")?)
+}
+
+fn who(read: Option<Tid>) -> Reply {
+    match read {
+        Some(t) => Reply::Thread(t.get()),
+        None => Reply::Nobody,
+    }
 }
 
 fn done(answer: Result<(), Errno>) -> Reply {
@@ -402,6 +424,44 @@ fn priority_is_set_and_places_stay(rt: HostRuntime) -> Result<(), Fail> {
         (Ask::Word(1), Reply::Bits(0x8000_0002)),
     ];
     play(&rt, rt.alloc(), &[10, 20, 20], 1, &[&steps])
+}
+
+// Thread 1 holds mutex 1, for which threads 2, 3 and 4, of priorities 20, 50 and 20, wait in that order. Threads 5 and
+// 6, of priorities 30 and 40, are parked on variable 1, and thread 7, of priority 50, is ready.
+const WAITING: [(Ask, Reply); 6] = [
+    (Ask::Lock(1, 1), Reply::Owns),
+    (Ask::Lock(2, 1), Reply::Queued),
+    (Ask::Lock(3, 1), Reply::Queued),
+    (Ask::Lock(4, 1), Reply::Queued),
+    (Ask::Park(5, 1, 0, 1), Reply::Done),
+    (Ask::Park(6, 1, 0, 1), Reply::Done),
+];
+
+// The greatest effective priority comes first, and equals in arrival: thread 1 joined level 50 behind thread 7.
+#[test]
+fn places_are_read_in_order(rt: HostRuntime) -> Result<(), Fail> {
+    let steps = [
+        (Ask::Waiter(1, 0), Reply::Thread(3)),
+        (Ask::Waiter(1, 1), Reply::Thread(2)),
+        (Ask::Waiter(1, 2), Reply::Thread(4)),
+        (Ask::Waiter(1, 3), Reply::Nobody),
+        (Ask::Waiter(2, 0), Reply::Nobody),
+        (Ask::Parked(1, 0), Reply::Thread(6)),
+        (Ask::Parked(1, 1), Reply::Thread(5)),
+        (Ask::Parked(1, 2), Reply::Nobody),
+        (Ask::Parked(2, 0), Reply::Nobody),
+        (Ask::Ready(0), Reply::Thread(7)),
+        (Ask::Ready(1), Reply::Thread(1)),
+        (Ask::Ready(2), Reply::Nobody),
+        (Ask::Base(1), Reply::Prio(10)),
+    ];
+    play(
+        &rt,
+        rt.alloc(),
+        &[10, 20, 50, 20, 30, 40, 50],
+        1,
+        &[&WAITING, &steps],
+    )
 }
 
 // Four threads of priority 10 lock mutex 1 in turn, and then unlock it in turn.

@@ -1,13 +1,18 @@
 -- What the public calls of a core answer, and the table that they leave, by the table before.
 use Rattle.std.specs.Prelude.{ℕ, ◌-◌, Bool, true, false, ◌==◌, length, Option, Some, None, Result, Ok, Err, if◌then◌else◌}
+use Rattle.std.specs.List.{slice_get}
 use Rattle.pif_types.specs.declared.errors.AddFault.{AddFault}
 use Rattle.pif_types.specs.declared.errors.AddFault.TheVariants.{TooMany, BadPrio, NoSuch}
 use Rattle.pif_types.specs.declared.requests.Health.{Health}
 use Rattle.pif_types.specs.declared.requests.Kind.{Kind}
+use Rattle.pif_types.specs.declared.requests.Request.{Request}
+use Rattle.pif_model.specs.declared.lines.Line.{Line}
+use Rattle.pif_model.specs.declared.lines.Line.TheVariants.{Idle, At}
+use Rattle.pif_model.specs.declared.lines.Status.{Status}
 use Rattle.pif_model.specs.Graph.{is_priority}
 use Rattle.pif_model.specs.Word.{bits_of, health_in}
-use Rattle.pif_model.specs.PiKernel.{is_living, is_ready, effective_in, pick_in}
-use Rattle.pif_model.specs.Table.{Table, cell_at, line_at, status_at, has_mutex, has_cond, uses_of, has_thread_room, has_mutex_room, has_cond_room, thread_added, mutex_added, cond_added}
+use Rattle.pif_model.specs.PiKernel.{is_living, is_ready, seat_at, effective_in, pick_in, waiters_in, parked_in, ready_in}
+use Rattle.pif_model.specs.Table.{Table, cell_at, line_at, status_at, has_thread, has_mutex, has_cond, bound_to, uses_of, has_thread_room, has_mutex_room, has_cond_room, thread_added, mutex_added, cond_added}
 use Rattle.pif_model.specs.Lines.{is_open}
 
 -- adding a thread of priority p: BadPrio, then TooMany, else its number
@@ -66,3 +71,51 @@ waiting_answer t s =
     if is_living s.kernel t
     then (if is_open (line_at s t) then Some (if is_ready (status_at s t) then false else true) else None)
     else None
+
+-- WHAT A PERSON LOOKS AT
+
+-- the base priority of a living thread
+abbrev pub base_answer : ℕ → Table → Option ℕ
+base_answer t s = if is_living s.kernel t then Some (seat_at s.kernel t).base else None
+
+-- what a thread does that was added
+abbrev pub status_answer : ℕ → Table → Option Status
+status_answer t s = if has_thread s t then Some (status_at s t) else None
+
+-- the request of the open call at a line
+abbrev pub request_at : Line → Option Request
+request_at Idle = None
+request_at (At q p) = Some q
+
+-- the open call of a thread that was added
+abbrev pub open_call_answer : ℕ → Table → Option Request
+open_call_answer t s = if has_thread s t then request_at (line_at s t) else None
+
+-- the number in a word and how often its thread holds the mutex; none where the word has no number
+abbrev pub owner_by : ℕ → ℕ → Option (ℕ × ℕ)
+owner_by number count = if number == 0 then None else Some (number, count)
+
+-- the owner of a mutex that was added, by its word, and how often that one holds it
+abbrev pub owner_answer : ℕ → Table → Option (ℕ × ℕ)
+owner_answer m s =
+    if has_mutex s m then owner_by (cell_at s m).word.number (cell_at s m).count else None
+
+-- the kind of a mutex that was added, and whether it is robust
+abbrev pub kind_answer : ℕ → Table → Option (Kind × Bool)
+kind_answer m s = if has_mutex s m then Some ((cell_at s m).kind, (cell_at s m).robust) else None
+
+-- the mutex to which a variable is bound that was added
+abbrev pub bound_answer : ℕ → Table → Option ℕ
+bound_answer c s = if has_cond s c then Some (bound_to s c) else None
+
+-- the waiter of a mutex before which this many others get it
+abbrev pub waiter_answer : ℕ → ℕ → Table → Option ℕ
+waiter_answer m place s = slice_get (waiters_in s.kernel m) place
+
+-- the thread that is parked on a variable and before which this many others are taken
+abbrev pub parked_answer : ℕ → ℕ → Table → Option ℕ
+parked_answer c place s = slice_get (parked_in s.kernel c) place
+
+-- the ready thread before which this many others run
+abbrev pub ready_answer : ℕ → Table → Option ℕ
+ready_answer place s = slice_get (ready_in s.kernel) place

@@ -52,6 +52,16 @@ waiters_with effective ws m = map (λ w. (w.0, effective w.0)) (filter (λ w. w.
 unfoldable pub next_waiter : (ℕ → ℕ) → List (ℕ × ℕ) → ℕ → ℕ
 next_waiter effective ws m = (first_greatest (waiters_with effective ws m)).0
 
+-- these threads, those of greatest f first, of which all are below n; of equals in their order
+unfoldable pub by_greatest : (ℕ → ℕ) → ℕ → List ℕ → List ℕ
+by_greatest f zero us = []
+by_greatest f (suc n) us = filter (λ u. f u == n) us ++ by_greatest f n us
+
+-- the waiters of m in the order in which they get it, as long as no priority changes and nobody comes or goes: those of
+-- greatest effective priority, which is 99 at most, first, and of equals the first in arrival
+abbrev pub waiting_order : (ℕ → ℕ) → List (ℕ × ℕ) → ℕ → List ℕ
+waiting_order effective ws m = by_greatest effective 100 (map (λ w. w.0) (filter (λ w. w.1 == m) ws))
+
 -- The same in the subject's words, over a relation `Waits u t`, 'u waits for t'.
 
 -- t is u, or is reached from u by following whom each thread waits for

@@ -14,7 +14,7 @@ use Rattle.pif_model.specs.declared.lines.Woken.{Woken}
 use Rattle.pif_model.specs.declared.lines.Woken.TheVariants.{Fresh as WokenFresh, Owns as WokenOwns, Again as WokenAgain}
 use Rattle.pif_model.specs.declared.lines.Took.{Took}
 use Rattle.pif_model.specs.declared.lines.Took.TheVariants.{Owns as TookOwns, Queued as TookQueued}
-use Rattle.pif_model.specs.Graph.{is_priority, reaches_within, effective_among, next_waiter, has_waiter, without}
+use Rattle.pif_model.specs.Graph.{is_priority, reaches_within, effective_among, next_waiter, has_waiter, without, waiting_order}
 use Rattle.pif_model.specs.Word.{Words, free_word, taken_word, mark_word, hand_word, orphan_word, inherit_word, word_at, has_word, set_word, cond_word_at, has_cond_word}
 
 -- a thread, as the kernel knows it
@@ -135,6 +135,14 @@ has_parked k c = has_waiter (parked_pairs k.parked) c
 abbrev pub top_parked : Kernel → ℕ → ℕ
 top_parked k c = next_waiter (effective_in k) (parked_pairs k.parked) c
 
+-- the waiters of m in the order in which they get it
+abbrev pub waiters_in : Kernel → ℕ → List ℕ
+waiters_in k m = waiting_order (effective_in k) k.waiters m
+
+-- the threads that are parked on c, in the order in which they are taken
+abbrev pub parked_in : Kernel → ℕ → List ℕ
+parked_in k c = waiting_order (effective_in k) (parked_pairs k.parked) c
+
 -- t as x
 abbrev pub with_seat : ℕ → Seat → Kernel → Kernel
 with_seat t x k = record k { seats = set k.seats t x }
@@ -199,6 +207,15 @@ first_from levels (suc p) = elim (level_at levels (suc p)) [ [] ↦ first_from l
 -- the thread that runs next: the first that joined the greatest level; 0 where none is ready
 abbrev pub pick_in : Kernel → ℕ
 pick_in k = first_from k.levels 99
+
+-- the threads of the levels below n, those of the greatest first, and of each level in order of joining
+unfoldable pub levels_below : List (List ℕ) → ℕ → List ℕ
+levels_below levels zero = []
+levels_below levels (suc p) = level_at levels p ++ levels_below levels p
+
+-- the ready threads in the order in which they run, as long as none comes or goes (sched(7), SCHED_FIFO)
+abbrev pub ready_in : Kernel → List ℕ
+ready_in k = levels_below k.levels 100
 
 -- no owner state, for each of the 1,024 mutexes that can be
 unfoldable pub no_states : List ℕ

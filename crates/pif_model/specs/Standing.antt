@@ -1,5 +1,5 @@
 -- What it means that a core stands after a history.
-use Rattle.std.specs.Prelude.{ℕ, zero, suc, ◌≡◌, ◌≢◌, ◌<◌, ◌≤◌, ◌+◌, ⊤, Bool, true, false, ◌==◌, List, [], ◌∷◌, ◌++◌, length, get_or, map, Option, Some, None, if◌then◌else◌}
+use Rattle.std.specs.Prelude.{ℕ, zero, suc, ◌≡◌, ◌≢◌, ◌<◌, ◌≤◌, ◌+◌, ⊤, Bool, true, false, ◌==◌, List, [], ◌∷◌, ◌++◌, length, get_or, map, Option, Some, None, option_map, if◌then◌else◌}
 use Rattle.std.specs.List.{list_any}
 use Rattle.pif_types.specs.Bounds.{IsWithin}
 use Rattle.pif_types.specs.declared.requests.Kind.{Kind}
@@ -14,10 +14,10 @@ use Rattle.pif_model.specs.declared.lines.Place.TheVariants.{LockLoad, LockPendi
 use Rattle.pif_model.specs.declared.lines.Status.{Status}
 use Rattle.pif_model.specs.declared.lines.Status.TheVariants.{Ready, Queued, Parked, Stopped, Ended}
 use Rattle.pif_model.specs.declared.lines.Woken.TheVariants.{Fresh as WokenFresh, Owns as WokenOwns, Again as WokenAgain}
-use Rattle.pif_model.specs.Graph.{has_waiter, IsEffective}
+use Rattle.pif_model.specs.Graph.{has_waiter, waiting_order, IsEffective}
 use Rattle.pif_model.specs.Word.{Word, free_word, word_at, health_word_at}
 use Rattle.pif_model.specs.PiKernel.{IsKernel, Parking, seat_at, is_ready, is_parked, is_woken_again, is_living}
-use Rattle.pif_model.specs.Posix.{Health, Progress, Call, Memory, Thread, Mutex, Variable, World, WaitsFor, IsRun, no_memory, thread_at, mutex_at, variable_at, is_thread, named_by, variable_of, is_call_blocked, names_known, on_taking, on_release, rests, effective_of}
+use Rattle.pif_model.specs.Posix.{Health, Progress, Call, Memory, Thread, Mutex, Variable, World, WaitsFor, IsRun, no_memory, thread_at, mutex_at, variable_at, is_thread, named_by, variable_of, is_call_blocked, is_blocked_on, names_known, on_taking, on_release, rests, effective_of}
 use Rattle.pif_model.specs.Posix.{is_living as lives}
 use Rattle.pif_model.specs.Posix.Health.{Fine, Inconsistent, Unusable}
 use Rattle.pif_model.specs.Posix.Progress.{Fresh, Waiting, Stuck, Leaving, Has, Checked, Enlisted, Blocked, Owing, Used}
@@ -656,3 +656,25 @@ HasEffective w t p = IsEffective (λ u. is_thread w u ≡ true) (WaitsFor w) (λ
 pub record IsPick (w : World) (p : ℕ) : Type 0 where
   pub runs : p ≢ 0 → (lives w p ≡ true) × (rests w p ≡ false)
   pub greatest : (t : ℕ) → lives w t ≡ true → rests w t ≡ false → (p ≢ 0) × (effective_of w t ≤ effective_of w p)
+
+-- t does in this state what a status says: it may run, is among the waiters of a mutex, is blocked on a variable, waits
+-- for good, or has ended
+abbrev pub IsDoing : World → ℕ → Status → Type 0
+IsDoing w t (Ready x) = (lives w t ≡ true) × (rests w t ≡ false)
+IsDoing w t (Queued m) = list_any (λ p. if p.0 == t then p.1 == m else false) w.waiters ≡ true
+IsDoing w t (Parked c) = is_blocked_on w c t ≡ true
+IsDoing w t Stopped = option_map (λ (c : Call). c.progress) (thread_at w t).call ≡ Some Stuck
+IsDoing w t Ended = (is_thread w t ≡ true) × (lives w t ≡ false)
+
+-- the request of t's open call
+abbrev pub call_of : World → ℕ → Option Request
+call_of w t = option_map (λ (c : Call). c.request) (thread_at w t).call
+
+-- the owner of m, and how often it holds m
+abbrev pub owner_of : World → ℕ → Option (ℕ × ℕ)
+owner_of w m =
+    if (mutex_at w m).owner == 0 then None else Some ((mutex_at w m).owner, (mutex_at w m).count)
+
+-- the waiters of m in the order in which they get it, as long as no priority changes and nobody comes or goes
+abbrev pub waiters_of : World → ℕ → List ℕ
+waiters_of w m = waiting_order (effective_of w) w.waiters m

@@ -4,7 +4,8 @@ use Rattle.pif_types.specs.declared.requests.Request.{Request}
 use Rattle.pif_model.specs.declared.lines.Line.{Line}
 use Rattle.pif_model.specs.declared.lines.Line.TheVariants.{Idle, At}
 use Rattle.pif_model.specs.declared.lines.Place.{Place}
-use Rattle.pif_mutex.specs.Steppable.{request_at, is_of_mutexes}
+use Rattle.pif_model.specs.Calls.{request_at}
+use Rattle.pif_mutex.specs.Steppable.{is_of_mutexes}
 
 -- what holds at each place of a request holds of a line at which it is open
 pub at_request : (P : Line → Type 0) (l : Line) (q : Request) → request_at l ≡ Some q → ((p : Place) → P (At q p)) → P l

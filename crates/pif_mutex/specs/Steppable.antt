@@ -1,5 +1,5 @@
 -- What one step of an open call rests on.
-use Rattle.std.specs.Prelude.{ℕ, ◌≡◌, Bool, true, false, Option, Some, None}
+use Rattle.std.specs.Prelude.{ℕ, ◌≡◌, Bool, true, false}
 use Rattle.pif_types.specs.declared.requests.Request.{Request}
 use Rattle.pif_types.specs.declared.requests.Request.TheVariants.{Lock, TryLock, Unlock, Consistent, Wait, Signal, Broadcast, SetPrio}
 use Rattle.pif_model.specs.declared.lines.Line.{Line}
@@ -11,11 +11,6 @@ use Rattle.pif_model.specs.Posix.{named_by, names_known}
 use Rattle.pif_model.specs.RobustList.{robust_at, is_listed, IsUnlisted, IsHalfLinkedByNoOther}
 use Rattle.pif_model.specs.Standing.{is_locking, is_half_linked}
 use Rattle.pif_model.specs.Table.{Table, has_mutex, has_cond, status_at}
-
--- the open call at a line
-abbrev pub request_at : Line → Option Request
-request_at Idle = None
-request_at (At q p) = Some q
 
 -- whether a call is open at this line whose next step is one on mutexes: a call on mutexes, a change of priority, or a
 -- wait at a place of lock from the exchange on, of taking over or of leaving

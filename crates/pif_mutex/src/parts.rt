@@ -4,16 +4,16 @@ ghost use Rattle.pif_model.specs.Word.{word_of};
 ghost use Rattle.pif_model.specs.PiKernel.{IsKernel, new_kernel, is_living, is_ready};
 ghost use Rattle.pif_model.specs.Table.{new_table, line_at, cell_at, with_line, status_at, has_thread, has_mutex, has_thread_room, has_mutex_room, has_cond_room, thread_added, mutex_added, cond_added};
 ghost use Rattle.pif_model.specs.Lines.{go_outcome, is_open, first_place, table_refusal, ended_table};
-ghost use Rattle.pif_model.specs.Calls.{effective_answer, word_answer, health_answer, cond_word_answer, pick_answer};
+ghost use Rattle.pif_model.specs.Calls.{request_at, effective_answer, base_answer, owner_answer, kind_answer, bound_answer, waiter_answer, parked_answer, ready_answer, word_answer, health_answer, cond_word_answer, pick_answer};
 ghost use Rattle.pif_mutex.specs.Outcomes.{outcome_of};
-ghost use Rattle.pif_mutex.specs.Steppable.{request_at, is_of_mutexes};
+ghost use Rattle.pif_mutex.specs.Steppable.{is_of_mutexes};
 
 use crate::progress::Progress;
 use crate::state::State;
 use pif_kernel::PiKernel;
 use pif_model::{Event, Line, Place, Status};
 use pif_types::{CondId, Health, Kind, Limits, MutexId, NoMemory, Prio, Request, Tid};
-use pif_word::health_in;
+use pif_word::{health_in, number};
 use std::alloc::Global;
 use std::marker::Model;
 
@@ -192,6 +192,84 @@ impl<K: PiKernel + Drop> Parts<K> {
         ensures { result ≡ effective_answer t self.now }
     {
         self.state.effective(t)
+    }
+
+    /// The base priority of a thread. `None` where no living thread has that number.
+    pub fn base(&self, t: Tid) -> Option<Prio>
+        ensures { result ≡ base_answer t self.now }
+    {
+        if self.is_living(t) {
+            Some(self.state.base(t))
+        } else {
+            None
+        }
+    }
+
+    /// What a thread, which was added, does: it may run, is queued on a mutex, is parked on a variable, is stopped for
+    /// good, or has ended.
+    pub fn status(&self, t: Tid) -> Status
+        requires { has_thread self.now t ≡ true }
+        ensures { result ≡ status_at self.now t }
+    {
+        self.state.status(t)
+    }
+
+    /// The owner of a mutex, by its word, and how often that one holds it. `None` where the mutex was never added, or
+    /// where its word has no number.
+    pub fn owner(&self, m: MutexId) -> Option<(Tid, u32)>
+        ensures { result ≡ owner_answer m self.now }
+    {
+        if m.get() < self.state.mutex_count() {
+            let owner = Tid::new(number(self.state.word(m)))?;
+            Some((owner, self.state.count(m)))
+        } else {
+            None
+        }
+    }
+
+    /// The kind of a mutex, and whether it is robust. `None` where it was never added.
+    pub fn kind(&self, m: MutexId) -> Option<(Kind, bool)>
+        ensures { result ≡ kind_answer m self.now }
+    {
+        if m.get() < self.state.mutex_count() {
+            Some((self.state.kind(m), self.state.is_robust(m)))
+        } else {
+            None
+        }
+    }
+
+    /// The mutex to which a variable is bound. `None` where the variable was never added.
+    pub fn bound(&self, c: CondId) -> Option<MutexId>
+        ensures { result ≡ bound_answer c self.now }
+    {
+        if c.get() < self.state.cond_count() {
+            Some(self.state.bound(c))
+        } else {
+            None
+        }
+    }
+
+    /// The waiter of a mutex before which `place` others get it, as long as no priority changes and nobody comes or
+    /// goes. `None` where so few wait for it.
+    pub fn waiter(&self, m: MutexId, place: u32) -> Option<Tid>
+        ensures { result ≡ waiter_answer m place self.now }
+    {
+        self.state.kernel.waiter(m, place)
+    }
+
+    /// The thread that is parked on a variable and before which `place` others are taken from it, as long as no
+    /// priority changes and nobody comes or goes. `None` where so few are parked on it.
+    pub fn parked(&self, c: CondId, place: u32) -> Option<Tid>
+        ensures { result ≡ parked_answer c place self.now }
+    {
+        self.state.kernel.parked(c, place)
+    }
+
+    /// The ready thread before which `place` others run, as long as none comes or goes. `None` where so few are ready.
+    pub fn ready(&self, place: u32) -> Option<Tid>
+        ensures { result ≡ ready_answer place self.now }
+    {
+        self.state.kernel.ready(place)
     }
 
     /// The 32 bits of the word of a mutex. `None` where it was never added.

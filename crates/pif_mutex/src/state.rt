@@ -1,7 +1,7 @@
 ghost use Rattle.std.specs.Prelude.{◌≡◌, ◌<◌, ◌≤◌, ◌+◌, ◌^◌, ◌==◌, true, false, IfOk, Ok, Err, length, if◌then◌else◌, Some, None};
 ghost use Rattle.pif_types.specs.Bounds.{IsWithin};
 ghost use Rattle.pif_model.specs.Word.{word_of, is_bare};
-ghost use Rattle.pif_model.specs.PiKernel.{IsKernel, new_kernel, is_living, effective_in, pick_in};
+ghost use Rattle.pif_model.specs.PiKernel.{IsKernel, new_kernel, seat_at, is_living, effective_in, pick_in};
 ghost use Rattle.pif_model.specs.Table.{new_table, line_at, status_at, cell_at, bound_to, uses_of, with_line, with_count, with_word, with_health_word, with_cond_word, has_thread, has_mutex, has_cond, has_thread_room, has_mutex_room, has_cond_room, thread_added, mutex_added, cond_added};
 ghost use Rattle.pif_model.specs.Lines.{is_robust};
 ghost use Rattle.pif_mutex.specs.Assembled.{IsAssembled};
@@ -163,6 +163,14 @@ impl<K: PiKernel + Drop> State<K> {
         ensures { result ≡ (if pick_in self.now.kernel == 0 then None else Some (pick_in self.now.kernel)) }
     {
         self.kernel.pick()
+    }
+
+    /// The base priority of a thread that was added.
+    pub(crate) fn base(&self, t: Tid) -> Prio
+        requires { has_thread self.now t ≡ true }
+        ensures { result ≡ (seat_at self.now.kernel t).base }
+    {
+        self.kernel.base(t)
     }
 
     /// The kind of a mutex that was added.

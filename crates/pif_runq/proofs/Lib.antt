@@ -2,3 +2,4 @@ pub mod Bits
 pub mod KeptLemmas
 pub mod LevelLemmas
 pub mod LevelWithLemmas
+pub mod Places

@@ -1,6 +1,6 @@
 -- A run queue: the threads that are ready, by level, as sched(7) has them for SCHED_FIFO. Each level is a list of a
 -- node table, in which each thread has a node.
-use Rattle.std.specs.Prelude.{◌≡◌, ℕ, ◌+◌, ◌-◌, ◌<◌, ◌≤◌, ◌↔◌, ◌&&◌, true, nat_eq, nat_lt, nat_le, if◌then◌else◌, List, [], ◌∷◌, ◌++◌, length, map, Option, Some, None, option_and_then}
+use Rattle.std.specs.Prelude.{◌≡◌, ℕ, zero, suc, ◌+◌, ◌-◌, ◌<◌, ◌≤◌, ◌↔◌, ◌&&◌, true, nat_eq, nat_lt, nat_le, if◌then◌else◌, List, [], ◌∷◌, ◌++◌, length, map, Option, Some, None, option_and_then}
 use Rattle.std.specs.Int.{bit_at}
 use Rattle.pif_nodes.specs.Lists.{has, first_of, without}
 use Rattle.pif_nodes.specs.Table.{Table, list_at, holder, IsApart}
@@ -39,6 +39,12 @@ IsThreadNode q n = (q.first_node ≤ n) × (n < q.first_node + q.threads)
 -- the threads of a level, in the order in which they joined it
 abbrev pub level_of : Queue → Table → ℕ → List ℕ
 level_of q t p = map (thread_for q) (list_at t (list_for q p))
+
+-- the threads of the levels below n, those of the greatest first, and of each level in the order in which they joined it
+unfoldable pub all_below : Queue → Table → ℕ → List ℕ
+all_below q t zero = []
+all_below q t (suc zero) = []
+all_below q t (suc (suc p)) = level_of q t (suc p) ++ all_below q t (suc p)
 
 -- a queue stands in a table, and its mask says which of its levels have a thread
 pub record Holds (q : Queue) (t : Table) : Type 0 where

@@ -1,10 +1,12 @@
 //! A run queue as sched(7) describes it for SCHED_FIFO: 99 levels, each a list of a node table, and a mask of the
-//! levels that have a thread. No call takes memory, and each takes constant time.
+//! levels that have a thread. No call takes memory, and each takes constant time, but for `nth`, which goes through the
+//! levels and the threads before a place.
 //!
 //! ```text
 //!  mask     bits 99 and 10 are set                level 99 │ t3
 //!  pick     t3: the greatest bit, then            level 10 │ t1, t2
 //!           the first of that level               others   │ (empty)
+//!  nth      t3, t1, t2 at places 0, 1 and 2
 //! ```
 //!
 //! | Call | From the picture |

@@ -1,8 +1,9 @@
 ghost use Rattle.std.specs.Prelude.{◌≡◌, ℕ, ◌+◌, ◌-◌, ◌<◌, ◌≤◌, ◌^◌, ◌↔◌, true, [], ◌∷◌, ◌++◌, length, nat_eq, if◌then◌else◌, IfNone, IfSome, IfOk, Some, None};
 ghost use Rattle.std.specs.Int.{bit_at};
+ghost use Rattle.std.specs.List.{slice_get};
 ghost use Rattle.pif_nodes.specs.Lists.{has, without};
-ghost use Rattle.pif_nodes.specs.Table.{Table, holder};
-ghost use Rattle.pif_runq.specs.Levels.{IsLevel, list_for, node_for, thread_for, IsThreadNode, level_of, level_with, HasRoom, Holds, IsQueued, StandsOn, IsFirstOfGreatest, IsEmpty, level_after_add, level_after_move, SameOutside};
+ghost use Rattle.pif_nodes.specs.Table.{Table, holder, list_at};
+ghost use Rattle.pif_runq.specs.Levels.{all_below, IsLevel, list_for, node_for, thread_for, IsThreadNode, level_of, level_with, HasRoom, Holds, IsQueued, StandsOn, IsFirstOfGreatest, IsEmpty, level_after_add, level_after_move, SameOutside};
 ghost use Rattle.pif_runq.specs.Masks.{ChangesBit, IsGreatestBit};
 
 use crate::masks::{greatest_bit, with_bit, without_bit};
@@ -117,6 +118,22 @@ impl RunQueue {
         self.thread_for(node)
     }
 
+    /// The thread before which `place` others stand: those of the greatest level first, and those of each level in the
+    /// order in which they joined it. `None` where so few threads are on a level.
+    pub fn nth(&self, table: &NodeTable, place: u32) -> Option<Tid>
+        requires { Holds self.now table.now }
+        ensures { result ≡ slice_get (all_below self.now table.now 100) place }
+    {
+        let mut before = place;
+        for above in 0..99 {
+            let list = self.list_for(99 - above);
+            if let Some(node) = nth_of_list(table, list, &mut before) {
+                return self.thread_for(node);
+            }
+        }
+        None
+    }
+
     /// The list of a level.
     fn list_for(&self, level: u32) -> List
         requires { IsLevel level }
@@ -196,4 +213,21 @@ impl RunQueue {
         }
         Prio::new(number - self.first_list + 1)
     }
+}
+
+/// The node of a list before which `before` others stand. `None` where it has so few, which are taken off `before` then.
+fn nth_of_list(table: &NodeTable, list: List, before: &mut u32) -> Option<Node>
+    requires { list < length table.now.lists }
+    ensures nth { result ≡ slice_get (list_at table.now list) before.old }
+    ensures fewer { IfNone result (before.new + length (list_at table.now list) ≡ before.old) }
+{
+    let mut next = table.first(list);
+    while let Some(node) = next {
+        if *before == 0 {
+            return Some(node);
+        }
+        *before -= 1;
+        next = table.next(node);
+    }
+    None
 }

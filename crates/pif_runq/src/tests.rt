@@ -66,6 +66,7 @@ fn run_queue_picks_first_of_greatest(rt: HostRuntime) -> Result<(), Fail> {
     let mut table = NodeTable::new(rt.alloc(), 3, 99)?;
     let mut queue = RunQueue::new(0, 0, 3);
     add_three(&mut queue, &mut table);
+    read_places(&rt, &queue, &table);
     pick_greatest(&rt, &mut queue, &mut table);
     pick_first(&rt, &mut queue, &mut table);
     Ok(())
@@ -93,4 +94,14 @@ fn pick_first(rt: &impl Abort, queue: &mut RunQueue, table: &mut NodeTable)
     }
     assert!(rt; take_out(queue, table, t2) && take_out(queue, table, t1));
     assert_eq!(rt; queue.pick(table), None);
+}
+
+// Thread 3 is on level 99, and threads 1 and 2 are on level 10.
+fn read_places(rt: &impl Abort, queue: &RunQueue, table: &NodeTable)
+    requires { Holds queue.now table.now }
+{
+    let (t1, t2, t3) = (thread(1), thread(2), thread(3));
+    for (place, read) in [(0, Some(t3)), (1, Some(t1)), (2, Some(t2)), (3, None)] {
+        assert_eq!(rt; queue.nth(table, place), read, "at {place}");
+    }
 }

@@ -1,5 +1,5 @@
 -- The entries that a script makes are a history of its core, and its trace is the same when it is replayed.
-use Rattle.std.proofs.Common.{◌≡◌, ℕ, ◌≤◌, suc, zero, Bool, cond, true, false, List, [], ◌∷◌, ◌++◌, length, Option, Some, None, Result, Ok, Err, ◌⊎◌, inl, inr, refl, sym, ap, ◌∙◌, subst, arith}
+use Rattle.std.proofs.Common.{◌≡◌, ℕ, ◌≤◌, suc, zero, Bool, cond, true, false, List, [], ◌∷◌, ◌++◌, length, Option, Some, None, Result, Ok, Err, inl, inr, refl, sym, ap, ◌∙◌, subst, arith}
 use Rattle.std.specs.Prelude.{option_and_then}
 use Rattle.std.proofs.lemmas.Bool.Decides.{nat_tests}
 use Rattle.pif_types.specs.Bounds.{Bounds, IsWithin}
@@ -9,11 +9,12 @@ use Rattle.pif_types.specs.declared.requests.Request.{Request}
 use Rattle.pif_model.specs.declared.events.Entry.{Entry}
 use Rattle.pif_model.specs.declared.events.Event.{Event}
 use Rattle.pif_model.specs.declared.events.Event.TheVariants.{Begin as BeginEvent, Go as GoEvent, End as EndEvent}
-use Rattle.pif_model.specs.declared.events.Seen.{Seen}
-use Rattle.pif_model.specs.declared.events.Seen.TheVariants.{Begun, Went, Waits, Answered, Ended, Refused}
+use Rattle.pif_model.specs.declared.events.Seen.TheVariants.{Went}
 use Rattle.pif_model.specs.Calls.{add_thread_answer, add_thread_after, add_mutex_answer, add_mutex_after, add_cond_answer, add_cond_after}
 use Rattle.pif_model.specs.Table.{Table, new_table}
 use Rattle.pif_model.specs.Lines.{Outcome, event_outcome, goes_on}
+use Rattle.pif_uses.specs.Calls.{call_outcome}
+use Rattle.pif_uses.proofs.CallLemmas.{call_other, call_refused, goes_on-other, goes_on-went, is_refused, is_went}
 use Rattle.pif_text.specs.declared.commands.Command.{Command}
 use Rattle.pif_text.specs.declared.commands.Command.TheVariants as command
 use Rattle.pif_text.specs.declared.replies.Cause.{Cause}
@@ -21,32 +22,16 @@ use Rattle.pif_text.specs.declared.replies.Reply.TheVariants as reply
 use Rattle.pif_text.specs.Commands.{command_in}
 use Rattle.pif_scripts.specs.declared.reading.ending.Ending.{Ending}
 use Rattle.pif_scripts.specs.Scripts.{Answered as AnsweredLine, Scan, start, byte_taken, line_answer, answered_by, answered_first, answered_later}
-use Rattle.pif_scripts.specs.Running.{Answer, answer_line, answer_or_fault, are_limits, call_outcome, command_answer, default_limits, finish_outcome, first_answer, limits_in, made_by, script}
+use Rattle.pif_scripts.specs.Running.{Answer, answer_line, answer_or_fault, are_limits, command_answer, default_limits, first_answer, limits_in, made_by, script}
 use Rattle.pif_scripts.specs.Traces.{IsHistory, trace, verdict}
-use Rattle.pif_scripts.specs.Transcripts.{SameAsTraced, call_entries, command_entries, cond_entries, entries_by, event_entry, finish_entries, first_limits, going_entries, line_entries, mutex_entries, script_entries, script_limits, script_trace, thread_entries}
-use Rattle.pif_scripts.proofs.EntryLemmas.{first_answer-is, going-other, going-went, limits-or_default, other-seen, refused-seen}
-use Rattle.pif_scripts.proofs.RunningLemmas.{goes_on-other, goes_on-went}
+use Rattle.pif_scripts.specs.Transcripts.{SameAsTraced, call_entries, command_entries, cond_entries, entries_by, event_entry, first_limits, going_entries, line_entries, mutex_entries, script_entries, script_limits, script_trace, thread_entries}
+use Rattle.pif_scripts.proofs.EntryLemmas.{call-entries-begun, call-entries-refused, first_answer-is, going-other, going-went, going-zero, limits-or_default}
 use Rattle.pif_scripts.proofs.SameAgainLemmas.{trace_back}
 use Rattle.pif_scripts.proofs.ScriptLemmas.{by_cases}
 use Rattle.pif_scripts.proofs.TranscriptLemmas.{by_option, byte-same, entries-err, entries-nil, entries-ok, first_line-answered, limits-err, limits-nil, limits-ok, line-answered, line-no_command, none≢some, opened, opened-entries, answered-same}
+use Rattle.pif_scripts.proofs.WrittenLemmas.{script-written}
 
 -- ---- commands
-
-is_went : (x : Seen) → (x ≡ Went) ⊎ (x ≡ Went → ⊥)
-is_went Went = inl refl
-is_went Begun = inr (λ e. cc)
-is_went Waits = inr (λ e. cc)
-is_went (Answered a) = inr (λ e. cc)
-is_went Ended = inr (λ e. cc)
-is_went (Refused r) = inr (λ e. cc)
-
-is_refused : (x : Seen) → ((r : _) × (x ≡ Refused r)) ⊎ ((r : _) → x ≡ Refused r → ⊥)
-is_refused (Refused r) = inl (r, refl)
-is_refused Begun = inr (λ r e. cc)
-is_refused Went = inr (λ r e. cc)
-is_refused Waits = inr (λ r e. cc)
-is_refused (Answered a) = inr (λ r e. cc)
-is_refused Ended = inr (λ r e. cc)
 
 -- an event and what follows it
 event-history : (e : Event) (s : Table) (es : List Entry) → IsHistory (event_outcome e s).after es
@@ -62,8 +47,9 @@ going-stop n t s es other h =
 
 going-last : (t : ℕ) (s : Table) (es : List Entry) → IsHistory (goes_on zero t s).after es
     → IsHistory s (going_entries zero t s ++ es)
-unfolding goes_on going_entries
-going-last t s es h = event-history (GoEvent t) s es h
+unfolding goes_on
+going-last t s es h =
+    subst (λ l. IsHistory s (l ++ es)) (sym (going-zero t s)) (event-history (GoEvent t) s es h)
 
 -- the events of a thread that goes on, and what follows them
 going-history : (n t : ℕ) (s : Table) (es : List Entry) → IsHistory (goes_on n t s).after es
@@ -79,27 +65,21 @@ going-history (suc n) t s es h =
       | inr e ↦ going-stop (suc n) t s es e h
     ]
 
-finish-history : (t : ℕ) (s : Table) (es : List Entry) → IsHistory (finish_outcome t s).after es
-    → IsHistory s (finish_entries t s ++ es)
-unfolding finish_outcome finish_entries
-finish-history t s es h = going-history 23 t s es h
-
+-- the events of a call, and what follows them
 call-history : (t : ℕ) (q : Request) (s : Table) (es : List Entry) → IsHistory (call_outcome t q s).after es
     → IsHistory s (call_entries t q s ++ es)
-unfolding call_outcome call_entries
 call-history t q s es h =
     let begun = event_outcome (BeginEvent t q) s in
-    let rest = finish_entries t begun.after in
     elim (is_refused begun.seen) [
       | inl r ↦
-          let more = subst (λ (o : Outcome). IsHistory o.after es) (refused-seen begun.seen _ _ r.0 r.1) h in
-          subst (λ l. IsHistory s (event_entry (BeginEvent t q) s ∷ (l ++ es)))
-          (sym (refused-seen begun.seen [] rest r.0 r.1)) (event-history (BeginEvent t q) s es more)
+          let more = subst (λ (o : Outcome). IsHistory o.after es) (call_refused t q s r.0 r.1) h in
+          subst (λ l. IsHistory s (l ++ es)) (sym (call-entries-refused t q s r.0 r.1))
+          (event-history (BeginEvent t q) s es more)
       | inr n ↦
-          let more = subst (λ (o : Outcome). IsHistory o.after es) (other-seen begun.seen _ _ n) h in
-          subst (λ l. IsHistory s (event_entry (BeginEvent t q) s ∷ (l ++ es)))
-          (sym (other-seen begun.seen [] rest n))
-          (event-history (BeginEvent t q) s (rest ++ es) (finish-history t begun.after es more))
+          let more = subst (λ (o : Outcome). IsHistory o.after es) (call_other t q s n) h in
+          subst (λ l. IsHistory s (l ++ es)) (sym (call-entries-begun t q s n))
+          (event-history (BeginEvent t q) s (going_entries 23 t begun.after ++ es)
+          (going-history 23 t begun.after es more))
     ]
 
 after-answer : (o : Answer) (x : Answer) → ◌≡◌ {A = Option Answer} (Some o) (Some x) → o.1 ≡ x.1
@@ -142,7 +122,7 @@ command-history (command.End t) s x es e h =
 command-history (command.Call t q) s x es e h =
     call-history t q s es (subst (λ u. IsHistory u es) (sym (after-answer _ _ e)) h)
 command-history (command.Finish t) s x es e h =
-    finish-history t s es (subst (λ u. IsHistory u es) (sym (after-answer _ _ e)) h)
+    going-history 23 t s es (subst (λ u. IsHistory u es) (sym (after-answer _ _ e)) h)
 command-history (command.Word m) s x es e h = subst (λ u. IsHistory u es) (sym (after-answer _ _ e)) h
 command-history (command.Health m) s x es e h = subst (λ u. IsHistory u es) (sym (after-answer _ _ e)) h
 command-history (command.CondWord c) s x es e h = subst (λ u. IsHistory u es) (sym (after-answer _ _ e)) h
@@ -317,8 +297,8 @@ unfolding script_trace
 script_trace-is bytes b e = made-trace (script_limits start bytes) b (script_entries start bytes) e
 
 pub script_trace_back : SameAsTraced
-script_trace_back bytes b e written small =
+script_trace_back bytes b e small =
     let h = first-history bytes start b refl e in
     let is = script_trace-is bytes b e in
-    ap verdict is ∙ trace_back b (script_entries start bytes) h.1 written h.0
+    ap verdict is ∙ trace_back b (script_entries start bytes) h.1 (script-written bytes start b h.1 h.0) h.0
     (subst (λ l. length l ≤ 16777216) is small)

@@ -1,25 +1,30 @@
 -- The entries that a command makes, and their lines.
-use Rattle.std.proofs.Common.{◌≡◌, ℕ, ◌+◌, ◌-◌, ◌<◌, ◌≤◌, suc, zero, cond, Bool, true, false, List, [], ◌∷◌, ◌++◌, Option, Some, None, Result, Ok, Err, refl, sym, ap, ◌∙◌, subst, append_assoc, append-nil, ◌⊎◌, inl, inr, arith}
+use Rattle.std.proofs.Common.{◌≡◌, ℕ, ◌+◌, ◌-◌, ◌<◌, ◌≤◌, suc, cond, Bool, true, false, List, [], ◌∷◌, ◌++◌, Option, Some, None, Result, Ok, Err, refl, sym, ap, ◌∙◌, subst, append_assoc, append-nil, reverse, ◌⊎◌, inl, inr, arith}
+use Rattle.std.proofs.lemmas.List.{reverse-append}
 use Rattle.pif_types.specs.declared.errors.AddFault.{AddFault}
+use Rattle.pif_types.specs.declared.errors.Refusal.{Refusal}
 use Rattle.pif_types.specs.declared.requests.Kind.{Kind}
 use Rattle.pif_types.specs.declared.requests.Request.{Request}
 use Rattle.pif_types.specs.Bounds.{Bounds}
 use Rattle.pif_model.specs.declared.events.Entry.{Entry}
+use Rattle.pif_model.specs.declared.events.Entry.TheVariants.{Step}
 use Rattle.pif_model.specs.declared.events.Event.{Event}
 use Rattle.pif_model.specs.declared.events.Event.TheVariants.{Begin as BeginEvent, Go as GoEvent, End as EndEvent}
 use Rattle.pif_model.specs.declared.events.Seen.{Seen}
 use Rattle.pif_model.specs.declared.events.Seen.TheVariants.{Begun, Went, Waits, Answered, Ended, Refused}
 use Rattle.pif_model.specs.Calls.{add_thread_answer, add_mutex_answer, add_cond_answer}
 use Rattle.pif_model.specs.Table.{Table, new_table}
-use Rattle.pif_model.specs.Lines.{event_outcome}
+use Rattle.pif_model.specs.Lines.{event_outcome, goes_on}
+use Rattle.pif_uses.specs.Calls.{call_outcome, gone}
+use Rattle.pif_uses.proofs.CallLemmas.{called-other, called-refused, gone-below, gone-other, gone-went, gone-zero}
 use Rattle.pif_text.specs.declared.commands.Command.{Command}
 use Rattle.pif_text.specs.declared.commands.Command.TheVariants as command
 use Rattle.pif_text.specs.declared.replies.Cause.TheVariants.{Limits as LimitsCause}
 use Rattle.pif_text.specs.declared.replies.Reply.{Reply}
 use Rattle.pif_text.specs.declared.replies.Reply.TheVariants as reply
-use Rattle.pif_scripts.specs.Running.{Answer, IsAnswer, answer_or_fault, call_outcome, command_answer, default_limits, finish_outcome, are_limits, first_answer, limited_answer, limits_in, reply_of_seen, reply_of_thread, reply_of_mutex, reply_of_cond}
+use Rattle.pif_scripts.specs.Running.{Answer, IsAnswer, answer_or_fault, command_answer, default_limits, are_limits, first_answer, limited_answer, limits_in, reply_of_seen, reply_of_thread, reply_of_mutex, reply_of_cond}
 use Rattle.pif_scripts.specs.Traces.{entry_line, entry_text, event_command}
-use Rattle.pif_scripts.specs.Transcripts.{Transcribed, call_entries, command_entries, cond_entries, entry_lines, event_entry, finish_entries, first_limits, going_entries, mutex_entries, row, single_line, thread_entries, was_made}
+use Rattle.pif_scripts.specs.Transcripts.{Transcribed, call_entries, command_entries, cond_entries, entry_lines, event_entry, first_limits, going_entries, mutex_entries, row, single_line, thread_entries, was_made}
 use Rattle.pif_scripts.proofs.RunningLemmas.{answered-later, first_answer-later}
 
 -- the line of an event
@@ -30,47 +35,27 @@ step-row e s c r p q = rw (p, q) refl
 
 -- ---- going on
 
-went-seen : {A : Type 0} (x : Seen) (f g : A) → x ≡ Went → ◌≡◌ {A = A} (elim x [ Went ↦ f | _ ↦ g ]) f
-went-seen Went f g e = refl
-went-seen (Refused r) f g e = cc
-went-seen Begun f g e = cc
-went-seen Waits f g e = cc
-went-seen (Answered a) f g e = cc
-went-seen Ended f g e = cc
-
+-- a step that went, and those that follow it
 pub going-went : (more t : ℕ) (s : Table) → (event_outcome (GoEvent t) s).seen ≡ Went
     → going_entries (suc more) t s
     ≡ event_entry (GoEvent t) s ∷ going_entries more t (event_outcome (GoEvent t) s).after
 unfolding going_entries
-going-went more t s e = went-seen (event_outcome (GoEvent t) s).seen _ _ e
+going-went more t s e =
+    let o = event_outcome (GoEvent t) s in
+    ap reverse (gone-went more t s [] e ∙ gone-below more t o.after [] (Step (GoEvent t) Went ∷ []))
+    ∙ reverse-append (gone more t o.after []) (Step (GoEvent t) Went ∷ [])
+    ∙ ap (λ x. Step (GoEvent t) x ∷ reverse (gone more t o.after [])) (sym e)
 
+-- another, which is the last
 pub going-other : (more t : ℕ) (s : Table) → ((event_outcome (GoEvent t) s).seen ≡ Went → ⊥)
     → going_entries more t s ≡ event_entry (GoEvent t) s ∷ []
 unfolding going_entries
-going-other zero t s e = refl
-going-other (suc more) t s e = by-seen (event_outcome (GoEvent t) s).seen refl
-  where
-    by-seen : (x : Seen) → (event_outcome (GoEvent t) s).seen ≡ x
-        → going_entries (suc more) t s ≡ event_entry (GoEvent t) s ∷ []
-    by-seen x p =
-        let P : Seen → Type 0 = λ y. ◌≡◌ {A = List Entry}
-        (elim y [
-          | Went ↦ event_entry (GoEvent t) s ∷ going_entries more t (event_outcome (GoEvent t) s).after
-          | _ ↦ event_entry (GoEvent t) s ∷ []
-        ])
-        (event_entry (GoEvent t) s ∷ []) in
-        subst P (sym p) (elim x as (λ y. (y ≡ Went → ⊥) → P y) [
-          | Went ↦ λ n. absurd (n refl)
-          | Begun ↦ λ n. refl
-          | Waits ↦ λ n. refl
-          | Answered a ↦ λ n. refl
-          | Ended ↦ λ n. refl
-          | Refused r ↦ λ n. refl
-        ] (λ q. e (p ∙ q)))
+going-other more t s e = ap reverse (gone-other more t s [] e)
 
-going-zero : (t : ℕ) (s : Table) → going_entries 0 t s ≡ event_entry (GoEvent t) s ∷ []
+-- no step more is allowed
+pub going-zero : (t : ℕ) (s : Table) → going_entries 0 t s ≡ event_entry (GoEvent t) s ∷ []
 unfolding going_entries
-going-zero t s = refl
+going-zero t s = ap reverse (gone-zero t s [])
 
 one-line : (e : Entry) → entry_lines (e ∷ []) ≡ entry_line e
 one-line e = append-nil (entry_line e)
@@ -101,67 +86,54 @@ going-ends n t s now next all e told line =
 pub going-stops : (n t : ℕ) (s : Table) (now next old : List ℕ) (u : Table)
     → ((event_outcome (GoEvent t) s).seen ≡ Went → ⊥)
     → now ++ entry_lines (going_entries n t s) ≡ old ++ entry_lines (going_entries 23 t u)
-    → next ≡ now ++ entry_line (event_entry (GoEvent t) s) → next ≡ old ++ entry_lines (finish_entries t u)
-unfolding finish_entries
+    → next ≡ now ++ entry_line (event_entry (GoEvent t) s) → next ≡ old ++ entry_lines (going_entries 23 t u)
 going-stops n t s now next old u e told line = going-ends n t s now next _ (going-other n t s e) told line
 
 pub going-last : (i t : ℕ) (s : Table) (now next old : List ℕ) (u : Table) → 23 ≤ i
     → now ++ entry_lines (going_entries (23 - i) t s) ≡ old ++ entry_lines (going_entries 23 t u)
-    → next ≡ now ++ entry_line (event_entry (GoEvent t) s) → next ≡ old ++ entry_lines (finish_entries t u)
-unfolding finish_entries
+    → next ≡ now ++ entry_line (event_entry (GoEvent t) s) → next ≡ old ++ entry_lines (going_entries 23 t u)
 going-last i t s now next old u h told line =
     let n : 23 - i ≡ 0 = omega arith in
     going-ends (23 - i) t s now next _ (ap (λ k. going_entries k t s) n ∙ going-zero t s) told line
 
 -- ---- a call
 
-pub refused-seen : {A : Type 0} (x : Seen) (f g : A) (r : _) → x ≡ Refused r → ◌≡◌ {A = A} (elim x [ Refused r ↦ f | _ ↦ g ]) f
-refused-seen (Refused q) f g r e = refl
-refused-seen Begun f g r e = cc
-refused-seen Went f g r e = cc
-refused-seen Waits f g r e = cc
-refused-seen (Answered a) f g r e = cc
-refused-seen Ended f g r e = cc
-
-pub other-seen : {A : Type 0} (x : Seen) (f g : A) → ((r : _) → x ≡ Refused r → ⊥)
-    → ◌≡◌ {A = A} (elim x [ Refused r ↦ f | _ ↦ g ]) g
-other-seen (Refused r) f g n = absurd (n r refl)
-other-seen Begun f g n = refl
-other-seen Went f g n = refl
-other-seen Waits f g n = refl
-other-seen (Answered a) f g n = refl
-other-seen Ended f g n = refl
-
-pub call-refused : (t : ℕ) (q : Request) (s : Table) (r : _) (now next : List ℕ)
+-- a refused begin is all
+pub call-entries-refused : (t : ℕ) (q : Request) (s : Table) (r : Refusal)
     → (event_outcome (BeginEvent t q) s).seen ≡ Refused r
-    → next ≡ now ++ entry_line (event_entry (BeginEvent t q) s)
-    → (call_outcome t q s ≡ event_outcome (BeginEvent t q) s) × (next ≡ now ++ entry_lines (call_entries t q s))
-unfolding call_outcome call_entries
+    → call_entries t q s ≡ event_entry (BeginEvent t q) s ∷ []
+unfolding call_entries
+call-entries-refused t q s r e = ap reverse (called-refused t q s [] r e)
+
+-- what follows another
+pub call-entries-begun : (t : ℕ) (q : Request) (s : Table)
+    → ((r : Refusal) → (event_outcome (BeginEvent t q) s).seen ≡ Refused r → ⊥)
+    → call_entries t q s
+    ≡ event_entry (BeginEvent t q) s ∷ going_entries 23 t (event_outcome (BeginEvent t q) s).after
+unfolding call_entries going_entries
+call-entries-begun t q s n =
+    let after = (event_outcome (BeginEvent t q) s).after in
+    let begun = event_entry (BeginEvent t q) s in
+    ap reverse (called-other t q s [] n ∙ gone-below 23 t after [] (begun ∷ []))
+    ∙ reverse-append (gone 23 t after []) (begun ∷ [])
+
+pub call-refused : (t : ℕ) (q : Request) (s : Table) (r : Refusal) (now next : List ℕ)
+    → (event_outcome (BeginEvent t q) s).seen ≡ Refused r
+    → next ≡ now ++ entry_line (event_entry (BeginEvent t q) s) → next ≡ now ++ entry_lines (call_entries t q s)
 call-refused t q s r now next e line =
-    let seen = (event_outcome (BeginEvent t q) s).seen in
-    let rest = finish_entries t (event_outcome (BeginEvent t q) s).after in (
-      refused-seen seen _ _ r e,
-      line ∙ ap (λ l. now ++ l) (sym (one-line (event_entry (BeginEvent t q) s)))
-          ∙ ap (λ l. now ++ (entry_line (event_entry (BeginEvent t q) s) ++ entry_lines l))
-          (sym (refused-seen seen [] rest r e)),
-    )
+    line ∙ ap (λ l. now ++ l) (sym (one-line (event_entry (BeginEvent t q) s)))
+    ∙ ap (λ l. now ++ entry_lines l) (sym (call-entries-refused t q s r e))
 
 pub call-begun : (t : ℕ) (q : Request) (s u : Table) (now begun next : List ℕ)
-    → ((r : _) → (event_outcome (BeginEvent t q) s).seen ≡ Refused r → ⊥)
+    → ((r : Refusal) → (event_outcome (BeginEvent t q) s).seen ≡ Refused r → ⊥)
     → u ≡ (event_outcome (BeginEvent t q) s).after → begun ≡ now ++ entry_line (event_entry (BeginEvent t q) s)
-    → next ≡ begun ++ entry_lines (finish_entries t u)
-    → (call_outcome t q s ≡ finish_outcome t u) × (next ≡ now ++ entry_lines (call_entries t q s))
-unfolding call_outcome call_entries
+    → next ≡ begun ++ entry_lines (going_entries 23 t u) → next ≡ now ++ entry_lines (call_entries t q s)
 call-begun t q s u now begun next n after line more =
     let e = event_entry (BeginEvent t q) s in
-    let rest = finish_entries t (event_outcome (BeginEvent t q) s).after in (
-      other-seen (event_outcome (BeginEvent t q) s).seen _ _ n ∙ ap (finish_outcome t) (sym after),
-      more ∙ ap (λ l. l ++ entry_lines (finish_entries t u)) line
-          ∙ append_assoc now (entry_line e) (entry_lines (finish_entries t u))
-          ∙ ap (λ v. now ++ (entry_line e ++ entry_lines (finish_entries t v))) after
-          ∙ ap (λ l. now ++ (entry_line e ++ entry_lines l))
-          (sym (other-seen (event_outcome (BeginEvent t q) s).seen [] rest n)),
-    )
+    more ∙ ap (λ l. l ++ entry_lines (going_entries 23 t u)) line
+    ∙ append_assoc now (entry_line e) (entry_lines (going_entries 23 t u))
+    ∙ ap (λ v. now ++ (entry_line e ++ entry_lines (going_entries 23 t v))) after
+    ∙ ap (λ l. now ++ entry_lines l) (sym (call-entries-begun t q s n))
 
 -- ---- commands
 
@@ -172,7 +144,7 @@ unfolding command_answer
 call-answer t q s u seen r p e f = rw (p, e, f) refl
 
 pub finish-answer : (t : ℕ) (s u : Table) (seen : Seen) (r : Reply) → r ≡ reply_of_seen seen
-    → seen ≡ (finish_outcome t s).seen → u ≡ (finish_outcome t s).after
+    → seen ≡ (goes_on 23 t s).seen → u ≡ (goes_on 23 t s).after
     → command_answer (command.Finish t) s ≡ Some (r, u)
 unfolding command_answer
 finish-answer t s u seen r p e f = rw (p, e, f) refl

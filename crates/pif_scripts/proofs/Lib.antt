@@ -1,7 +1,9 @@
+pub mod AnswerLemmas
 pub mod RunningLemmas
 pub mod SameAgainLemmas
 pub mod DifferenceLemmas
 pub mod AgainLemmas
+pub mod CommandLemmas
 pub mod EntryLemmas
 pub mod FeedLemmas
 pub mod RunLemmas
@@ -9,3 +11,5 @@ pub mod ScriptLemmas
 pub mod SilenceLemmas
 pub mod TracingLemmas
 pub mod TranscriptLemmas
+pub mod WrittenLemmas
+pub mod ShowingLemmas

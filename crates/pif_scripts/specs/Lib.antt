@@ -2,5 +2,6 @@ pub mod Running
 pub mod Runs
 pub mod Scanners
 pub mod Scripts
+pub mod Showing
 pub mod Traces
 pub mod Transcripts

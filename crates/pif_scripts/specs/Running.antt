@@ -4,13 +4,13 @@ use Rattle.pif_types.specs.Bounds.{Bounds}
 use Rattle.pif_types.specs.declared.errors.AddFault.{AddFault}
 use Rattle.pif_types.specs.declared.errors.Refusal.TheVariants.{NoSuch}
 use Rattle.pif_types.specs.declared.requests.Health.{Health}
-use Rattle.pif_types.specs.declared.requests.Request.{Request}
 use Rattle.pif_model.specs.declared.events.Event.TheVariants.{Begin as BeginEvent, Go as GoEvent, End as EndEvent}
 use Rattle.pif_model.specs.declared.events.Seen.{Seen}
 use Rattle.pif_model.specs.declared.events.Seen.TheVariants.{Begun as SeenBegun, Went as SeenWent, Waits as SeenWaits, Answered as SeenAnswered, Ended as SeenEnded, Refused as SeenRefused}
 use Rattle.pif_model.specs.Table.{Table, new_table}
 use Rattle.pif_model.specs.Lines.{Outcome, event_outcome, goes_on}
 use Rattle.pif_model.specs.Calls.{add_thread_answer, add_thread_after, add_mutex_answer, add_mutex_after, add_cond_answer, add_cond_after, effective_answer, word_answer, health_answer, cond_word_answer, pick_answer, threads_answer}
+use Rattle.pif_uses.specs.Calls.{call_outcome}
 use Rattle.pif_text.specs.declared.commands.Command.{Command}
 use Rattle.pif_text.specs.declared.commands.Command.TheVariants.{Limits, Thread, Mutex, Cond, Begin, Go, End, Call, Finish, Word, Health as HealthOf, CondWord, Prio, Pick}
 use Rattle.pif_text.specs.declared.replies.Cause.{Cause}
@@ -35,18 +35,6 @@ reply_of_seen SeenWaits = reply.Waits
 reply_of_seen (SeenAnswered a) = reply.Answer a
 reply_of_seen SeenEnded = reply.Ended
 reply_of_seen (SeenRefused r) = reply.Refused r
-
--- finish: a thread goes on, at most 24 times
-unfoldable pub finish_outcome : ℕ → Table → Outcome
-finish_outcome t s = goes_on 23 t s
-
--- call: the thread begins the call, and if that is not refused it goes on as in finish
-unfoldable pub call_outcome : ℕ → Request → Table → Outcome
-call_outcome t q s =
-    elim (event_outcome (BeginEvent t q) s).seen [
-      | SeenRefused r ↦ event_outcome (BeginEvent t q) s
-      | _ ↦ finish_outcome t (event_outcome (BeginEvent t q) s).after
-    ]
 
 -- a reply, and the table afterwards
 abbrev pub Answer : Type 0
@@ -88,7 +76,8 @@ abbrev pub reply_of_priority : Option ℕ → Bool → Reply
 reply_of_priority (Some p) added = reply.Priority p
 reply_of_priority None added = if added then reply.Dead else reply.Refused NoSuch
 
--- what a command does; `limits` is none behind the first line
+-- what a command does; `limits` is none behind the first line. `finish`: a thread goes on, at most 24 times; `call`: it
+-- begins the call, and if that is not refused it goes on so
 unfoldable pub command_answer : Command → Table → Option Answer
 command_answer (Limits t m c n) s = None
 command_answer (Thread p) s =
@@ -100,7 +89,7 @@ command_answer (Begin t q) s = Some (answer_of_outcome (event_outcome (BeginEven
 command_answer (Go t) s = Some (answer_of_outcome (event_outcome (GoEvent t) s))
 command_answer (End t) s = Some (answer_of_outcome (event_outcome (EndEvent t) s))
 command_answer (Call t q) s = Some (answer_of_outcome (call_outcome t q s))
-command_answer (Finish t) s = Some (answer_of_outcome (finish_outcome t s))
+command_answer (Finish t) s = Some (answer_of_outcome (goes_on 23 t s))
 command_answer (Word m) s = Some (reply_of_word (word_answer m s), s)
 command_answer (HealthOf m) s = Some (reply_of_health (health_answer m s), s)
 command_answer (CondWord c) s = Some (reply_of_uses (cond_word_answer c s), s)

@@ -1,5 +1,5 @@
 -- The trace of what a script asks of its core: the entries that its lines make, and what is written of them.
-use Rattle.std.specs.Prelude.{ℕ, ◌≡◌, ◌==◌, ◌+◌, ◌≤◌, zero, suc, Bool, true, false, List, [], ◌∷◌, ◌++◌, Option, Some, None, option_and_then, Result, Ok, Err, is_ok, if◌then◌else◌, flat_map, length, All}
+use Rattle.std.specs.Prelude.{ℕ, ◌≡◌, ◌==◌, ◌+◌, ◌≤◌, Bool, true, false, List, [], ◌∷◌, ◌++◌, Option, Some, None, option_and_then, Result, Ok, Err, is_ok, if◌then◌else◌, flat_map, length, reverse}
 use Rattle.std.specs.Io.KnownBytes.{Appends, Consumes, IsAtEnd, Keeps}
 use Rattle.pif_types.specs.Bounds.{Bounds}
 use Rattle.pif_types.specs.declared.errors.AddFault.{AddFault}
@@ -9,11 +9,10 @@ use Rattle.pif_model.specs.declared.events.Entry.{Entry}
 use Rattle.pif_model.specs.declared.events.Entry.TheVariants.{Thread as AddedThread, Mutex as AddedMutex, Cond as AddedCond, Step}
 use Rattle.pif_model.specs.declared.events.Event.{Event}
 use Rattle.pif_model.specs.declared.events.Event.TheVariants.{Begin as BeginEvent, Go as GoEvent, End as EndEvent}
-use Rattle.pif_model.specs.declared.events.Seen.{Seen}
-use Rattle.pif_model.specs.declared.events.Seen.TheVariants.{Went as SeenWent, Refused as SeenRefused}
 use Rattle.pif_model.specs.Table.{Table, new_table}
 use Rattle.pif_model.specs.Lines.{event_outcome}
 use Rattle.pif_model.specs.Calls.{add_thread_answer, add_mutex_answer, add_cond_answer}
+use Rattle.pif_uses.specs.Calls.{called, gone}
 use Rattle.pif_text.specs.declared.commands.Command.{Command}
 use Rattle.pif_text.specs.declared.commands.Command.TheVariants.{Limits, Thread, Mutex, Cond, Begin, Go, End as EndThread, Call, Finish, Word, Health, CondWord, Prio, Pick}
 use Rattle.pif_text.specs.declared.replies.Reply.{Reply}
@@ -28,7 +27,7 @@ use Rattle.pif_scripts.specs.declared.reading.ending.End.{End}
 use Rattle.pif_scripts.specs.Scripts.{Meaning, FirstMeaning, Hearing, Scan, Reading, start, byte_taken, reading_of, ended_by, NeedsIn}
 use Rattle.pif_scripts.specs.Runs.{WritesPart}
 use Rattle.pif_scripts.specs.Running.{command_answer, default_limits, first_line_meaning, limits_in, line_meaning, script}
-use Rattle.pif_scripts.specs.Traces.{IsEntryWritten, entry_line, front_lines, if_traced, trace, verdict}
+use Rattle.pif_scripts.specs.Traces.{entry_line, front_lines, if_traced, trace, verdict}
 
 -- ---- the entries that a script makes
 
@@ -36,28 +35,14 @@ use Rattle.pif_scripts.specs.Traces.{IsEntryWritten, entry_line, front_lines, if
 abbrev pub event_entry : Event → Table → Entry
 event_entry e s = Step e (event_outcome e s).seen
 
--- the entries of a thread that goes on up to the first answer that isn't Went, this often at most after a first time
+-- the entries of a thread that goes on up to the first answer that isn't Went, this often at most after a first time,
+-- in their order
 unfoldable pub going_entries : ℕ → ℕ → Table → List Entry
-going_entries zero t s = event_entry (GoEvent t) s ∷ []
-going_entries (suc more) t s =
-    elim (event_outcome (GoEvent t) s).seen [
-      | SeenWent ↦ event_entry (GoEvent t) s ∷ going_entries more t (event_outcome (GoEvent t) s).after
-      | _ ↦ event_entry (GoEvent t) s ∷ []
-    ]
+going_entries more t s = reverse (gone more t s [])
 
--- finish: at most 24 times
-unfoldable pub finish_entries : ℕ → Table → List Entry
-finish_entries t s = going_entries 23 t s
-
--- what follows a begun call; a refused one is all
-abbrev pub called_entries : Seen → ℕ → Table → List Entry
-called_entries seen t after = elim seen [ SeenRefused r ↦ [] | _ ↦ finish_entries t after ]
-
--- call: the thread begins the call, and if that is not refused it goes on as in finish
+-- the entries of a whole call, in their order
 unfoldable pub call_entries : ℕ → Request → Table → List Entry
-call_entries t q s =
-    event_entry (BeginEvent t q) s
-    ∷ called_entries (event_outcome (BeginEvent t q) s).seen t (event_outcome (BeginEvent t q) s).after
+call_entries t q s = reverse (called t q s [])
 
 -- an addition that was made; a refused one is no entry
 abbrev pub thread_entries : ℕ → Result ℕ AddFault → List Entry
@@ -83,7 +68,7 @@ command_entries (Begin t q) s = event_entry (BeginEvent t q) s ∷ []
 command_entries (Go t) s = event_entry (GoEvent t) s ∷ []
 command_entries (EndThread t) s = event_entry (EndEvent t) s ∷ []
 command_entries (Call t q) s = call_entries t q s
-command_entries (Finish t) s = finish_entries t s
+command_entries (Finish t) s = going_entries 23 t s
 command_entries (Word m) s = []
 command_entries (Health m) s = []
 command_entries (CondWord c) s = []
@@ -257,6 +242,5 @@ Transcribed c s t old new (Some r) = (command_answer c s ≡ Some (r, t)) × (ne
 abbrev pub SameAsTraced : Type 0
 SameAsTraced =
     (bytes : List ℕ) (limits : Bounds) → script_limits start bytes ≡ Some limits
-    → All IsEntryWritten (script_entries start bytes)
     → length (script_trace bytes) ≤ 16777216
     → verdict (script_trace bytes) ≡ same_of (1 + length (script_entries start bytes)) ++ 10 ∷ []

@@ -12,6 +12,7 @@ mod reading;
 mod replaying;
 mod running;
 mod runs;
+mod showing;
 mod tracing;
 mod transcribing;
 mod writing;
@@ -22,6 +23,7 @@ pub use pif_text::Cause;
 pub use runs::{
     replay, replay_noting, run, run_noting, script_trace_is_the_same, trace, trace_noting,
 };
+pub use showing::{show, show_noting};
 pub use tracing::{write_trace, written_trace_is_the_same};
 pub use writing::write_whole;
 

@@ -3,9 +3,9 @@ mod listener;
 mod scanner;
 mod script;
 
-pub use ending::{End, Ending, OpenFault};
+pub use ending::{End, Ending, OpenFault, Stop};
 pub use listener::{
-    ANSWER_ROOM, END_ROOM, Listener, OUTPUT_ROOM, Output, REPLY_ROOM, append, append_end,
+    ANSWER_ROOM, CHUNK, END_ROOM, Listener, OUTPUT_ROOM, Output, REPLY_ROOM, append, append_end,
 };
-pub use scanner::MOST_LINE;
-pub use script::read_script;
+pub use scanner::{MOST_LINE, Scanner};
+pub use script::{read_script, stop};

@@ -3,7 +3,7 @@ ghost use Rattle.arrayvec.specs.ArrayVec.{array_vec_len};
 ghost use Rattle.pif_types.specs.Bounds.{Bounds};
 ghost use Rattle.pif_model.specs.Table.{new_table};
 ghost use Rattle.pif_text.specs.Replies.{text_of};
-ghost use Rattle.pif_scripts.specs.Running.{reply_of_seen, finish_outcome, call_outcome, reply_of_thread, reply_of_mutex, reply_of_cond, reply_of_word, reply_of_health, reply_of_uses, was_added, reply_of_priority, command_answer, default_limits, script, first_answer, limited_answer, answer_or_fault, IsAnswer, Makes};
+ghost use Rattle.pif_scripts.specs.Running.{reply_of_seen, reply_of_thread, reply_of_mutex, reply_of_cond, reply_of_word, reply_of_health, reply_of_uses, was_added, reply_of_priority, command_answer, default_limits, script, first_answer, limited_answer, answer_or_fault, IsAnswer, Makes};
 
 use crate::reading::{
     ANSWER_ROOM, End, Ending, Listener, OUTPUT_ROOM, OpenFault, Output, REPLY_ROOM, append,
@@ -11,7 +11,8 @@ use crate::reading::{
 };
 use pif_core::{Core, Event, Seen};
 use pif_text::{Cause, Command, Reply, Text, command_of, reply_text};
-use pif_types::{AddFault, CondId, Health, Limits, MutexId, Prio, Refusal, Request, Tid};
+use pif_types::{AddFault, CondId, Health, Limits, MutexId, Prio, Refusal, Tid};
+use pif_uses::{call, finish};
 use std::alloc::Global;
 
 /// The reply that says what an event was answered.
@@ -100,35 +101,6 @@ fn reply_of_priority(priority: Option<Prio>, added: bool) -> Reply
         } else {
             Reply::Refused(Refusal::NoSuch)
         },
-    }
-}
-
-/// How often `finish` goes on at most, after the first time.
-pub const MORE_STEPS: u32 = 23;
-
-/// The thread goes on up to the first answer that isn't `Went`, at most 24 times.
-fn finish(core: &mut Core, thread: Tid) -> Seen
-    ensures seen { result ≡ (finish_outcome thread core.old).seen }
-    ensures after { core.new ≡ (finish_outcome thread core.old).after }
-{
-    for _turn in 0..MORE_STEPS {
-        match core.step(Event::Go(thread)) {
-            Seen::Went => {}
-            seen => return seen,
-        }
-    }
-    core.step(Event::Go(thread))
-}
-
-/// The thread begins the call, and if that is not refused it goes on as in `finish`.
-#[tactic(auto, unfolding(crate::specs::Running::call_outcome))]
-fn call(core: &mut Core, thread: Tid, request: Request) -> Seen
-    ensures seen { result ≡ (call_outcome thread request core.old).seen }
-    ensures after { core.new ≡ (call_outcome thread request core.old).after }
-{
-    match core.step(Event::Begin(thread, request)) {
-        Seen::Refused(refusal) => Seen::Refused(refusal),
-        _ => finish(core, thread),
     }
 }
 

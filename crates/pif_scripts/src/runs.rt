@@ -118,8 +118,7 @@ pub fn trace_noting<R: Read, W: Write>(
 }
 
 /// The trace that `trace` writes of a script that makes a core prints `same` when it is replayed, with the number of its
-/// entries and one more, for the line of the limits, as long as it has at most 16,777,216 bytes, and the numbers of its
-/// entries are those that an `Entry` has.
+/// entries and one more, for the line of the limits, as long as it has at most 16,777,216 bytes.
 pub fn script_trace_is_the_same()
     ensures { SameAsTraced }
 {}

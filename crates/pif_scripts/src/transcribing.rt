@@ -3,18 +3,19 @@ ghost use Rattle.arrayvec.specs.ArrayVec.{array_vec_len};
 ghost use Rattle.pif_types.specs.Bounds.{Bounds};
 ghost use Rattle.pif_model.specs.Table.{Table};
 ghost use Rattle.pif_model.specs.declared.events.Event.TheVariants as event;
-ghost use Rattle.pif_model.specs.Lines.{event_outcome};
-ghost use Rattle.pif_scripts.specs.Running.{finish_outcome, call_outcome};
+ghost use Rattle.pif_model.specs.Lines.{event_outcome, goes_on};
+ghost use Rattle.pif_uses.specs.Calls.{call_outcome};
 ghost use Rattle.pif_scripts.specs.Traces.{event_command, entry_line};
-ghost use Rattle.pif_scripts.specs.Transcripts.{Transcribed, call_entries, entry_lines, event_entry, finish_entries, first_limits, row, single_line, transcript, was_made};
+ghost use Rattle.pif_scripts.specs.Transcripts.{Transcribed, call_entries, entry_lines, event_entry, first_limits, going_entries, row, single_line, transcript, was_made};
 
 use crate::reading::{End, Ending, Listener, OUTPUT_ROOM, OpenFault, Output, append};
 use crate::replaying::if_traced;
-use crate::running::{MORE_STEPS, default_limits, obey, reply_of_seen};
+use crate::running::{default_limits, obey, reply_of_seen};
 use crate::tracing::{ROW_ROOM, event_command, front_lines};
 use pif_core::{Core, Event, Seen};
 use pif_text::{Cause, Command, Reply, Text, command_of, command_text, recorded_text};
 use pif_types::{Limits, Request, Tid};
+use pif_uses::MORE_STEPS;
 use std::alloc::Global;
 use std::marker::Model;
 
@@ -68,12 +69,12 @@ fn step(core: &mut Core, event: Event, output: &mut Output) -> Seen
     answered
 }
 
-/// The thread goes on up to the first answer that isn't `Went`, at most 24 times, with a line for each.
+/// The thread goes on as in `pif_uses::finish`, with a line for each time.
 fn finish(core: &mut Core, thread: Tid, output: &mut Output) -> Seen
     requires { array_vec_len output.old + FINISH_ROOM ≤ OUTPUT_ROOM }
-    ensures seen { result ≡ (finish_outcome thread core.old).seen }
-    ensures after { core.new ≡ (finish_outcome thread core.old).after }
-    ensures told { output.new.items ≡ output.old.items ++ entry_lines (finish_entries thread core.old) }
+    ensures seen { result ≡ (goes_on 23 thread core.old).seen }
+    ensures after { core.new ≡ (goes_on 23 thread core.old).after }
+    ensures told { output.new.items ≡ output.old.items ++ entry_lines (going_entries 23 thread core.old) }
     ensures room { array_vec_len output.new ≤ array_vec_len output.old + FINISH_ROOM }
 {
     for _turn in 0..MORE_STEPS {
@@ -85,7 +86,7 @@ fn finish(core: &mut Core, thread: Tid, output: &mut Output) -> Seen
     step(core, Event::Go(thread), output)
 }
 
-/// The thread begins the call, and if that is not refused it goes on as in `finish`.
+/// A whole call, as in `pif_uses::call`, with a line for each event.
 fn call(core: &mut Core, thread: Tid, request: Request, output: &mut Output) -> Seen
     requires { array_vec_len output.old + LINES_ROOM ≤ OUTPUT_ROOM }
     ensures seen { result ≡ (call_outcome thread request core.old).seen }

@@ -81,6 +81,17 @@ IsOrderly-with_mutex w m z h known added =
         subst OwnerAdded (sym (ap (mutex_at (with_mutex m z w)) e ∙ mutex-with_mutex w m z place.1)) added
     by_place n (inr d) = subst OwnerAdded (sym (mutex-with_mutex_other w m z n d)) (h.owners n)
 
+-- other mutexes with the same owners change nothing
+pub IsOrderly-mutexes : {w : World} {ms : List Mutex} → IsOrderly w
+    → ((n : ℕ) → owner_of (record w { mutexes = ms }) n ≡ owner_of w n) → IsOrderly (record w { mutexes = ms })
+IsOrderly-mutexes {w} {ms} h owners =
+    record {
+      room = h.room;
+      nobody = h.nobody;
+      no_mutex = owners 0 ∙ h.no_mutex;
+      owners = λ n. subst (λ (o : ℕ). o ≢ 0 → is_thread w o ≡ true) (sym (owners n)) (h.owners n);
+    }
+
 -- other waiters change nothing
 pub IsOrderly-waiters : (w : World) (ws : List (ℕ × ℕ)) → IsOrderly w → IsOrderly (record w { waiters = ws })
 IsOrderly-waiters w ws h =
@@ -471,12 +482,7 @@ pub IsHeld-with_health : {f : ℕ → Option Request} {counts : ℕ → ℕ → 
     (x : Health) → IsHeld f counts (with_health m x w)
 IsHeld-with_health {w = w} h m x =
     IsHeld-stays h
-    (record {
-      room = h.orderly.room;
-      nobody = h.orderly.nobody;
-      no_mutex = owners 0 ∙ h.orderly.no_mutex;
-      owners = λ n. subst (λ (o : ℕ). o ≢ 0 → is_thread w o ≡ true) (sym (owners n)) (h.orderly.owners n);
-    })
+    (IsOrderly-mutexes h.orderly (kept_at (λ (y : Mutex). y.owner) w.mutexes m z no_mutex refl))
     (λ n y. is_mutex-with_mutex w m z n ∙ y)
     (λ t. record {
       call = refl;
@@ -487,9 +493,6 @@ IsHeld-with_health {w = w} h m x =
   where
     z : Mutex
     z = record (mutex_at w m) { health = x }
-
-    owners : (n : ℕ) → owner_of (with_health m x w) n ≡ owner_of w n
-    owners = kept_at (λ (y : Mutex). y.owner) w.mutexes m z no_mutex refl
 
 -- THE END OF A THREAD
 

@@ -1,5 +1,5 @@
 -- A thread gives up a mutex that it holds once, by the kernel call unlock_pi: nobody has it then, or its next waiter.
-use Rattle.std.proofs.Common.{Bool, set, ◌≡◌, ◌≢◌, ℕ, ◌<◌, true, false, ◌==◌, length, Some, None, Option, Ok, refl, sym, ap, ◌∙◌, subst, arith, if◌then◌else◌, eq-eqb, eqb-true}
+use Rattle.std.proofs.Common.{set, ◌≡◌, ◌≢◌, ℕ, ◌<◌, true, false, ◌==◌, length, Some, None, Option, Ok, refl, sym, ap, ◌∙◌, subst, arith, if◌then◌else◌, eq-eqb, eqb-true}
 use Rattle.std.proofs.lemmas.Bool.{eqb-false, true≢false}
 use Rattle.std.proofs.lemmas.List.{length-set, get_or-set_same, get_or-set_other, set-get_or}
 use Rattle.pif_types.specs.declared.requests.Request.{Request}
@@ -31,7 +31,7 @@ use Rattle.pif_simulation.proofs.Agreement.{Frames, Follows, WasBlockedIn}
 use Rattle.pif_chains.proofs.Statuses.{ready-unparked}
 use Rattle.pif_simulation.proofs.Effective.{next_seen}
 use Rattle.pif_simulation.proofs.Progressed.{next-with_progress}
-use Rattle.pif_simulation.proofs.Local.{KnowsAfter, ListsAfter, NamesOnly, known_still, lists_after, settled_after, ready-not_queued, ready-not_parked, going_cell, going_added, going_row, going_list, going_settled}
+use Rattle.pif_simulation.proofs.Local.{blocked_before, KnowsAfter, ListsAfter, NamesOnly, known_still, lists_after, settled_after, ready-not_queued, ready-not_parked, going_cell, going_added, going_row, going_list, going_settled}
 use Rattle.pif_simulation.proofs.LocalLines.{at_line, lists_by, row_given}
 use Rattle.pif_simulation.proofs.Owning.{none_from_state, state_agrees}
 use Rattle.pif_simulation.proofs.HandOver.{HandsOver, handed, left, other, line_t, cell_m, handed_sound, handed_kernel, handed_mutexes, handed_robust, handed_cells, handed_shown, handed_frames, status_t, living_kept}
@@ -245,15 +245,10 @@ module _ {s : Table} {t : ℕ} {q : Request} {p : Place} (h : GivesUp s t q p) w
         → may_enlist (line_at s t) ≡ false → WasBlockedIn s v t
     was a blocked call j c b unparked = (
       ap (is_call_blocked c) (ap (λ k. call_at (health_at s) (uses_of s) k (status_at s t)) h.going.line)
-          ∙ both (is_blocked a) (call c b) (blocked (sym (ap may_enlist h.going.line) ∙ j)),
+          ∙ blocked_before (is_blocked a) (is_blocked (progress_of s t q p)) (variable_of q == c) (call c b)
+          (blocked (sym (ap may_enlist h.going.line) ∙ j)),
       ready-unparked (status_at s t) h.ready,
     )
-      where
-        both : (y : Bool) → (if y then variable_of q == c else false) ≡ true
-            → (y ≡ true → is_blocked (progress_of s t q p) ≡ true)
-            → (if is_blocked (progress_of s t q p) then variable_of q == c else false) ≡ true
-        both true e f = ap (λ y. if y then variable_of q == c else false) (f refl) ∙ e
-        both false e f = absurd (true≢false (sym e))
 
     -- t's call then
     call_then : shown_call v t ≡ call_at (health_at v) (uses_of s) l (status_at s t)

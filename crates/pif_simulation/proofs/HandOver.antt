@@ -9,7 +9,7 @@ use Rattle.pif_model.specs.declared.lines.Line.{Line}
 use Rattle.pif_model.specs.declared.lines.Line.TheVariants.{At}
 use Rattle.pif_model.specs.declared.lines.Place.{Place}
 use Rattle.pif_model.specs.declared.lines.Place.TheVariants.{LockQueued, WaitParked}
-use Rattle.pif_model.specs.declared.lines.Status.TheVariants.{Ready, Queued, Parked}
+use Rattle.pif_model.specs.declared.lines.Status.TheVariants.{Ready, Queued}
 use Rattle.pif_model.specs.declared.lines.Woken.TheVariants.{Owns as WokenOwns}
 use Rattle.pif_model.specs.Graph.{has_waiter, without}
 use Rattle.pif_model.specs.Word.{Word, word_at, health_word_at}
@@ -27,7 +27,7 @@ use Rattle.pif_simulation.proofs.Kept.{held_once}
 use Rattle.pif_simulation.proofs.Hole.{Changes, change_kept, excuse, admit}
 use Rattle.pif_simulation.proofs.Hole.MayBeAdmitted.{lives}
 use Rattle.pif_simulation.proofs.Written.{written, cell_written, IsCallOn, same_targets, changes, cell_here, line_here, line_there, list_there, call_there, thread_here, thread_there, shows}
-use Rattle.pif_simulation.proofs.Local.{ListsAfter, lists_after, settled_after, known_still}
+use Rattle.pif_simulation.proofs.Local.{ListsAfter, lists_after, settled_after, known_still, ready-not_queued, ready-not_parked}
 use Rattle.pif_simulation.proofs.Agreement.{Frames, Follows, WasBlockedIn, frames_by, was_same, was_not, call_unblocked, taking_unblocked}
 
 -- a call that waits for a mutex names it
@@ -283,8 +283,8 @@ module _ {s : Table} {t m : ℕ} {l : Line} {r : RobustRow} {x : Word} (h : Hand
           (use_at s queued_line.request) (needs queued_line.place)) was_queued call_u.needs)
           h.number refl h.disorder));
     });
-    queue = λ j z. absurd (not_queued j (sym (ap (λ (y : Seat). y.status) seat_woken) ∙ z));
-    parked = λ j z. absurd (not_parked j (sym (ap (λ (y : Seat). y.status) seat_woken) ∙ z));
+    queue = λ j z. absurd (ready-not_queued (Ready WokenOwns) j refl (sym (ap (λ (y : Seat). y.status) seat_woken) ∙ z));
+    parked = λ j z. absurd (ready-not_parked (Ready WokenOwns) j refl (sym (ap (λ (y : Seat). y.status) seat_woken) ∙ z));
     list = subst (ListIsSound handed u) (sym line_u)
         (lists_after s handed u m (At queued_line.request queued_line.place)
         (At queued_line.request queued_line.place) waiter_named waiter_named h.named
@@ -303,12 +303,6 @@ module _ {s : Table} {t m : ℕ} {l : Line} {r : RobustRow} {x : Word} (h : Hand
     where
       call_u : CallIsSound s u queued_line.request queued_line.place
       call_u = subst (LineIsSound s u) queued_line.line sound_u.line
-
-      not_parked : (j : ℕ) → Ready WokenOwns ≡ Parked j → ⊥
-      not_parked j z = cc
-
-      not_queued : (j : ℕ) → Ready WokenOwns ≡ Queued j → ⊥
-      not_queued j z = cc
 
   -- the table is sound, save for t
   pub handed_sound : SoundBut (λ j. j ≡ t) handed

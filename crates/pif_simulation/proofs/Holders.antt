@@ -42,7 +42,7 @@ use Rattle.pif_chains.proofs.Waiting.{by_test}
 use Rattle.pif_simulation.proofs.Kept.{second}
 use Rattle.pif_simulation.proofs.Worlds.{call_of, owner_of, written_at, push_other, push_same, call-with_thread_other, living-with_thread, begin_allowed, end_allowed}
 use Rattle.pif_simulation.proofs.Holding.{Counted, held_before, same_progress, Eases, Holding-eases, names_mutex, Holding, Stays, request_of, held-from_holds, Holding-begins, Holding-answers, Holding-ends}
-use Rattle.pif_simulation.proofs.AllHolding.{IsHeld, IsActing, view_of, times_held, times-other, acting, MayTake, may_take, wait_may_take, IsOrderly-with_thread, IsHeld-but, IsHeld-stays, IsHeld-progresses, IsHeld-joins, IsHeld-takes, IsHeld-counts, IsHeld-owns, IsHeld-releases, IsHeld-with_health, IsHeld-Releases, IsOrderly-waiters, holder_is_owner}
+use Rattle.pif_simulation.proofs.AllHolding.{IsHeld, IsActing, view_of, times_held, times-other, acting, MayTake, may_take, wait_may_take, IsOrderly-with_thread, IsHeld-but, IsHeld-stays, IsHeld-progresses, IsHeld-joins, IsHeld-takes, IsHeld-counts, IsHeld-owns, IsHeld-releases, IsHeld-with_health, IsHeld-Releases, IsOrderly-mutexes, IsOrderly-waiters, holder_is_owner}
 
 -- CALLS
 
@@ -566,12 +566,7 @@ IsHeld-mutex_added : {f : ℕ → Option Request} {counts : ℕ → ℕ → ℕ}
     IsHeld f counts (record w { mutexes = w.mutexes ++ z ∷ [] })
 IsHeld-mutex_added {w = w} h k r =
     IsHeld-stays h
-    (record {
-      room = h.orderly.room;
-      nobody = h.orderly.nobody;
-      no_mutex = owners 0 ∙ h.orderly.no_mutex;
-      owners = λ m. subst (λ (o : ℕ). o ≢ 0 → is_thread w o ≡ true) (sym (owners m)) (h.orderly.owners m);
-    })
+    (IsOrderly-mutexes h.orderly (λ m. push_same (λ (y : Mutex). y.owner) w.mutexes z no_mutex m refl))
     (λ m y.
     let p = within m (length w.mutexes) y in
     from_within m (length v.mutexes) p.0 (omega (arith, length_push w.mutexes z, p.1)))
@@ -587,9 +582,6 @@ IsHeld-mutex_added {w = w} h k r =
 
     v : World
     v = record w { mutexes = w.mutexes ++ z ∷ [] }
-
-    owners : (m : ℕ) → owner_of v m ≡ owner_of w m
-    owners m = push_same (λ (y : Mutex). y.owner) w.mutexes z no_mutex m refl
 
 -- one more variable
 IsHeld-variables : {f : ℕ → Option Request} {counts : ℕ → ℕ → ℕ} {w : World} → IsHeld f counts w → (vs : List Variable)

@@ -12,6 +12,7 @@ pub mod TakingLines
 pub mod TakingOver
 pub mod HandOver
 pub mod GivingUp
+pub mod GivingSteps
 pub mod LockLines
 pub mod TryLines
 pub mod Entries
@@ -51,3 +52,4 @@ pub mod Holders
 pub mod Priority
 pub mod Picks
 pub mod Bound
+pub mod Looks

@@ -110,6 +110,12 @@ ready-not_queued x m h e = true≢false (sym h ∙ ap is_ready e)
 pub ready-not_parked : (x : Status) (c : ℕ) → is_ready x ≡ true → x ≡ Parked c → ⊥
 ready-not_parked x c h e = true≢false (sym h ∙ ap is_ready e)
 
+-- who is blocked on a variable then was so before, where it was blocked
+pub blocked_before : (x y b : Bool) → (if x then b else false) ≡ true → (x ≡ true → y ≡ true)
+    → (if y then b else false) ≡ true
+blocked_before true y b e f = ap (λ z. if z then b else false) (f refl) ∙ e
+blocked_before false y b e f = absurd (true≢false (sym e))
+
 -- what a request names exists still
 pub known_still : {f f' g g' : ℕ → Bool} → ((m : ℕ) → f' m ≡ f m) → ((c : ℕ) → g' c ≡ g c) → (q : Request)
     → names_known f g q ≡ true → names_known f' g' q ≡ true
@@ -341,13 +347,8 @@ module _ {s : Table} {t : ℕ} {q : Request} {p : Place} (g : Going s t q p)
         -- t's call then is blocked, and so it was
         opened : Some (record { request = q; progress = a }) ≡ shown_call v t → is_call_blocked c (shown_call s t) ≡ true
         opened x = ap (is_call_blocked c) (ap (λ k. call_at (health_at s) (uses_of s) k (status_at s t)) g.line)
-            ∙ both (is_blocked a) (ap (is_call_blocked c) x ∙ b) (l.blocked (sym (ap may_enlist g.line) ∙ j))
-          where
-            both : (y : Bool) → (if y then variable_of q == c else false) ≡ true
-                → (y ≡ true → is_blocked (progress_of s t q p) ≡ true)
-                → (if is_blocked (progress_of s t q p) then variable_of q == c else false) ≡ true
-            both true e f = ap (λ y. if y then variable_of q == c else false) (f refl) ∙ e
-            both false e f = absurd (true≢false (sym e))
+            ∙ blocked_before (is_blocked a) (is_blocked (progress_of s t q p)) (variable_of q == c)
+            (ap (is_call_blocked c) x ∙ b) (l.blocked (sym (ap may_enlist g.line) ∙ j))
 
         call_is : shown_call v t ≡ call_at (health_at v) (uses_of s) o.line (status_at s t)
         call_is = ap (λ k. call_at (health_at v) (uses_of s) k (status_at s t)) here

@@ -2,11 +2,11 @@
 -- entry of the POSIX machine and keeps the invariant.
 use Rattle.std.proofs.Common.{◌≡◌, ℕ, true, false, refl, sym, ap, ◌∙◌, subst, true≢false}
 use Rattle.pif_types.specs.declared.requests.Request.{Request}
-use Rattle.pif_types.specs.declared.requests.Request.TheVariants.{Lock, Wait}
+use Rattle.pif_types.specs.declared.requests.Request.TheVariants.{Lock}
 use Rattle.pif_model.specs.declared.events.Seen.TheVariants.{Waits}
 use Rattle.pif_model.specs.declared.lines.Line.TheVariants.{At}
 use Rattle.pif_model.specs.declared.lines.Place.{Place}
-use Rattle.pif_model.specs.declared.lines.Place.TheVariants.{LockLoad, LockPending, LockExchange, LockKernel, LockQueued, LockStop, LockStopped, LockClear, TakeHealth, LinkClear, LeaveKernel, LeaveClear, WaitLoad, WaitUses, WaitPending, WaitHealth, WaitStore, WaitUnlink, WaitExchange, WaitKernel, WaitPark, WaitParked}
+use Rattle.pif_model.specs.declared.lines.Place.TheVariants.{LockLoad, LockPending, LockExchange, LockKernel, LockQueued, LockStop, LockStopped, LockClear, TakeHealth, LinkClear, LeaveKernel, LeaveClear}
 use Rattle.pif_model.specs.declared.lines.Status.{Status}
 use Rattle.pif_model.specs.declared.lines.Status.TheVariants.{Ready, Queued, Parked, Stopped, Ended}
 use Rattle.pif_model.specs.Word.{word_at, health_word_at}
@@ -32,7 +32,7 @@ use Rattle.pif_simulation.proofs.Local.{going_cell}
 use Rattle.pif_simulation.proofs.LocalLines.{goes, answers_local, pending_kept, clears_kept, row_same, row_other, settled_so_far}
 use Rattle.pif_simulation.proofs.Owning.{stalled_in_order}
 use Rattle.pif_simulation.proofs.TakingLines.{own_exchange_kept, locked_again_kept}
-use Rattle.pif_simulation.proofs.TakingOver.{shared_belongs, leaves_by_word, two_not_one}
+use Rattle.pif_simulation.proofs.TakingOver.{lock_locking, wait_locking, shared_belongs, leaves_by_word, two_not_one}
 use Rattle.pif_simulation.proofs.GivingUp.{GivesUp, gives_up_cases, handed_goes}
 
 -- a thread that was queued and may run was handed its mutex
@@ -73,24 +73,6 @@ module _ {s : Table} {t m : ℕ} where
       refl refl refl
 
 -- a request that may queue comes to each place of locking
-lock_locking : (m : ℕ) (p : Place) → is_locking p ≡ true → belongs (Lock m) p ≡ true
-lock_locking m LockLoad e = refl
-lock_locking m LockPending e = refl
-lock_locking m _ e = e
-
-wait_locking : (c m : ℕ) (p : Place) → is_locking p ≡ true → belongs (Wait c m) p ≡ true
-wait_locking c m WaitLoad e = refl
-wait_locking c m WaitUses e = refl
-wait_locking c m (WaitPending v) e = refl
-wait_locking c m (WaitHealth v) e = refl
-wait_locking c m (WaitStore v) e = refl
-wait_locking c m (WaitUnlink v) e = refl
-wait_locking c m (WaitExchange v) e = refl
-wait_locking c m (WaitKernel v) e = refl
-wait_locking c m (WaitPark v) e = refl
-wait_locking c m WaitParked e = refl
-wait_locking c m _ e = e
-
 pub locking_belongs : {m : ℕ} {q : Request} → MayQueue m q → (p : Place) → is_locking p ≡ true → belongs q p ≡ true
 locking_belongs {m} {q} (in_lock r) p e = subst (λ x. belongs x p ≡ true) (sym r) (lock_locking m p e)
 locking_belongs {m} {q} (in_wait c r) p e = subst (λ x. belongs x p ≡ true) (sym r) (wait_locking c m p e)

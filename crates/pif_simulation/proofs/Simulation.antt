@@ -28,8 +28,8 @@ use Rattle.pif_simulation.proofs.Begun.{begin_kept}
 use Rattle.pif_simulation.proofs.LockLines.{lock_load_kept, lock_pending_kept, lock_exchange_kept, lock_queued_kept, lock_stopped_kept, lock_clear_kept, link_clear_kept, leave_kernel_kept, leave_clear_kept}
 use Rattle.pif_simulation.proofs.TakingOver.{take_load_kept, take_health_kept, take_store_kept, take_word_kept, link_next_kept, link_head_kept, leave_exchange_kept}
 use Rattle.pif_simulation.proofs.LockCalls.{lock_kernel_kept, lock_stop_kept}
-use Rattle.pif_simulation.proofs.WaitLines.{wait_load_kept, wait_uses_kept, wait_pending_kept, wait_health_kept, wait_store_kept, wait_unlink_kept}
-use Rattle.pif_simulation.proofs.WaitGivingUp.{wait_exchange_kept, wait_kernel_kept}
+use Rattle.pif_simulation.proofs.WaitLines.{wait_load_kept, wait_uses_kept}
+use Rattle.pif_simulation.proofs.WaitGivingUp.{wait_pending_kept, wait_health_kept, wait_store_kept, wait_unlink_kept, wait_exchange_kept, wait_kernel_kept}
 use Rattle.pif_simulation.proofs.WaitParking.{wait_park_kept, wait_parked_kept}
 use Rattle.pif_simulation.proofs.UseLines.{use_load_kept, use_reload_kept}
 use Rattle.pif_simulation.proofs.UseCounting.{use_exchange_kept}

@@ -29,7 +29,7 @@ use Rattle.pif_simulation.proofs.Shown.{mutex_seen, living_seen}
 use Rattle.pif_simulation.proofs.Agreement.{Frames, quiet, taking_unblocked}
 use Rattle.pif_simulation.proofs.Written.{IsCallOn, written, written_is, same_word, same_health, same_list, same_library}
 use Rattle.pif_simulation.proofs.Steps.{Going, going_named, going_met, going_called, going_below}
-use Rattle.pif_simulation.proofs.Local.{going_cell}
+use Rattle.pif_simulation.proofs.Local.{going_cell, ready-not_queued, ready-not_parked}
 use Rattle.pif_simulation.proofs.LocalLines.{lists_by, row_other, row_pending, row_half_linked, row_unowned}
 use Rattle.pif_simulation.proofs.Owning.{reworded}
 use Rattle.pif_simulation.proofs.WaitLines.{wait_mutex}
@@ -215,8 +215,8 @@ module _ (s : Table) (h : IsSound s) (c : ℕ) (some : has_parked s.kernel c ≡
             ((λ z. cc), λ z. cc),
             (((λ z. refl), λ z. absurd (true≢false z)), ((λ o. sound_m.count.unowned zero), ((λ o. behind), (bound, tt)))),
           );
-      queue = λ j e. absurd (not_queued j (sym status ∙ e));
-      parked = λ j e. absurd (not_parked j (sym status ∙ e));
+      queue = λ j e. absurd (ready-not_queued (Ready WokenOwns) j refl (sym status ∙ e));
+      parked = λ j e. absurd (ready-not_parked (Ready WokenOwns) j refl (sym status ∙ e));
       follows = quiet refl refl;
       blocked = λ j f e. absurd (true≢false (sym e ∙ ap (λ x. is_blocked (progress_parked x (health_at s m))) status
           ∙ taking_unblocked (health_at s m)));
@@ -232,12 +232,6 @@ module _ (s : Table) (h : IsSound s) (c : ℕ) (some : has_parked s.kernel c ≡
       where
         status : (seat_at (kernel_after_waking u WokenOwns s.kernel) u).status ≡ Ready WokenOwns
         status = ap (λ (y : Seat). y.status) (woken_seat_same u WokenOwns s.kernel (top-added s.kernel h.kernel c some))
-
-        not_queued : (j : ℕ) → Ready WokenOwns ≡ Queued j → ⊥
-        not_queued j e = cc
-
-        not_parked : (j : ℕ) → Ready WokenOwns ≡ Parked j → ⊥
-        not_parked j e = cc
 
     takes_owning : TakesOne s u m (record { words = set_word s.words m mine; kernel = woken WokenOwns })
     takes_owning = record {
@@ -281,8 +275,8 @@ module _ (s : Table) (h : IsSound s) (c : ℕ) (some : has_parked s.kernel c ≡
           ((λ z. cc), λ z. cc),
           (((λ z. absurd (true≢false (sym z))), λ z. other), (met.1.1.0, (met.1.1.1.0, (bound, tt)))),
         );
-    queue = λ j e. absurd (not_queued j (sym status ∙ e));
-    parked = λ j e. absurd (not_parked j (sym status ∙ e));
+    queue = λ j e. absurd (ready-not_queued (Ready WokenAgain) j refl (sym status ∙ e));
+    parked = λ j e. absurd (ready-not_parked (Ready WokenAgain) j refl (sym status ∙ e));
     follows = quiet refl refl;
     blocked = λ j f e. absurd (true≢false (sym e ∙ ap (λ x. is_blocked (progress_parked x (health_at s m))) status));
     lists = lists_by parked_going named refl refl (woken_cell WokenAgain (cell_at s m) sound_m)
@@ -291,12 +285,6 @@ module _ (s : Table) (h : IsSound s) (c : ℕ) (some : has_parked s.kernel c ≡
     where
       status : (seat_at (kernel_after_waking u WokenAgain s.kernel) u).status ≡ Ready WokenAgain
       status = ap (λ (y : Seat). y.status) (woken_seat_same u WokenAgain s.kernel (top-added s.kernel h.kernel c some))
-
-      not_queued : (j : ℕ) → Ready WokenAgain ≡ Queued j → ⊥
-      not_queued j e = cc
-
-      not_parked : (j : ℕ) → Ready WokenAgain ≡ Parked j → ⊥
-      not_parked j e = cc
 
   -- the words are what they were
   as_woken : written u m (At (Wait c m) WaitParked) (robust_at s.lists u) (word_at s.words m) (health_word_at s.words m)

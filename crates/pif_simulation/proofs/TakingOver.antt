@@ -18,7 +18,7 @@ use Rattle.pif_model.specs.PiKernel.{is_ready, is_living}
 use Rattle.pif_model.specs.RobustList.{robust_at}
 use Rattle.pif_model.specs.Table.{Table, cell_at, has_mutex, status_at, library_at, with_word}
 use Rattle.pif_model.specs.Lines.{goes_to, take_load, take_health, take_store, take_word_back, link_next, link_head, leave_exchange}
-use Rattle.pif_model.specs.Standing.{use_at, MeetsAll, belongs, is_shared, is_pending, is_half_linked, is_unlinked, needs}
+use Rattle.pif_model.specs.Standing.{use_at, MeetsAll, belongs, is_shared, is_locking, is_pending, is_half_linked, is_unlinked, needs}
 use Rattle.pif_chains.proofs.LineCases.{take_health_cases, leave_exchange_cases}
 use Rattle.pif_chains.proofs.Numbers.{above_0}
 use Rattle.pif_simulation.proofs.Written.{mutex_of}
@@ -33,19 +33,37 @@ use Rattle.pif_simulation.proofs.LocalLines.{goes, goes_listed, robust_lists, ro
 use Rattle.pif_simulation.proofs.Owning.{none_from_flag}
 use Rattle.pif_simulation.proofs.TakingLines.{states, frees, word_table, health_table}
 
--- a lock comes to each shared place
-lock_shared : (m : ℕ) (p : Place) → is_shared p ≡ true → belongs (Lock m) p ≡ true
-lock_shared m LockLoad e = refl
-lock_shared m LockPending e = refl
-lock_shared m LockExchange e = refl
-lock_shared m LockKernel e = refl
-lock_shared m LockQueued e = refl
-lock_shared m LockStop e = refl
-lock_shared m LockStopped e = refl
-lock_shared m LockClear e = refl
-lock_shared m _ e = e
+-- a lock comes to each place of locking
+pub lock_locking : (m : ℕ) (p : Place) → is_locking p ≡ true → belongs (Lock m) p ≡ true
+lock_locking m LockLoad e = refl
+lock_locking m LockPending e = refl
+lock_locking m _ e = e
 
--- and so does a trylock
+-- and so does a wait
+pub wait_locking : (c m : ℕ) (p : Place) → is_locking p ≡ true → belongs (Wait c m) p ≡ true
+wait_locking c m WaitLoad e = refl
+wait_locking c m WaitUses e = refl
+wait_locking c m (WaitPending v) e = refl
+wait_locking c m (WaitHealth v) e = refl
+wait_locking c m (WaitStore v) e = refl
+wait_locking c m (WaitUnlink v) e = refl
+wait_locking c m (WaitExchange v) e = refl
+wait_locking c m (WaitKernel v) e = refl
+wait_locking c m (WaitPark v) e = refl
+wait_locking c m WaitParked e = refl
+wait_locking c m _ e = e
+
+-- each shared place is one of locking
+shared_locking : (p : Place) → is_shared p ≡ true → is_locking p ≡ true
+shared_locking LockExchange e = refl
+shared_locking LockKernel e = refl
+shared_locking LockQueued e = refl
+shared_locking LockStop e = refl
+shared_locking LockStopped e = refl
+shared_locking LockClear e = refl
+shared_locking _ e = e
+
+-- a trylock comes to each shared place
 try_shared : (m : ℕ) (p : Place) → is_shared p ≡ true → belongs (TryLock m) p ≡ true
 try_shared m TryLoad e = refl
 try_shared m TryPending e = refl
@@ -54,31 +72,12 @@ try_shared m TryKernel e = refl
 try_shared m TryClear e = refl
 try_shared m _ e = e
 
--- and a wait
-wait_shared : (c m : ℕ) (p : Place) → is_shared p ≡ true → belongs (Wait c m) p ≡ true
-wait_shared c m WaitLoad e = refl
-wait_shared c m WaitUses e = refl
-wait_shared c m (WaitPending v) e = refl
-wait_shared c m (WaitHealth v) e = refl
-wait_shared c m (WaitStore v) e = refl
-wait_shared c m (WaitUnlink v) e = refl
-wait_shared c m (WaitExchange v) e = refl
-wait_shared c m (WaitKernel v) e = refl
-wait_shared c m (WaitPark v) e = refl
-wait_shared c m WaitParked e = refl
-wait_shared c m LockExchange e = refl
-wait_shared c m LockKernel e = refl
-wait_shared c m LockQueued e = refl
-wait_shared c m LockStop e = refl
-wait_shared c m LockStopped e = refl
-wait_shared c m LockClear e = refl
-wait_shared c m _ e = e
-
 -- a request that locks comes to each shared place
 pub shared_belongs : {m : ℕ} {q : Request} → IsLocking m q → (p : Place) → is_shared p ≡ true → belongs q p ≡ true
-shared_belongs {m} {q} (by_lock r) p e = subst (λ x. belongs x p ≡ true) (sym r) (lock_shared m p e)
+shared_belongs {m} {q} (by_lock r) p e = subst (λ x. belongs x p ≡ true) (sym r) (lock_locking m p (shared_locking p e))
 shared_belongs {m} {q} (by_try_lock r) p e = subst (λ x. belongs x p ≡ true) (sym r) (try_shared m p e)
-shared_belongs {m} {q} (by_wait c r) p e = subst (λ x. belongs x p ≡ true) (sym r) (wait_shared c m p e)
+shared_belongs {m} {q} (by_wait c r) p e =
+    subst (λ x. belongs x p ≡ true) (sym r) (wait_locking c m p (shared_locking p e))
 
 -- numbers that differ
 one_not_two : (h : ℕ) → h ≡ 1 → h ≢ 2

@@ -1,37 +1,28 @@
--- A wait gives its mutex up, by its word or by the kernel call unlock_pi: each step is an entry of the POSIX machine
--- and keeps the invariant.
-use Rattle.std.proofs.Common.{◌≡◌, ◌≢◌, ℕ, Bool, true, false, ◌==◌, length, refl, sym, ap, ◌∙◌}
-use Rattle.std.proofs.lemmas.Bool.{true≢false}
+-- A wait gives its mutex up, from naming it in the pending field on: each step is an entry of the POSIX machine and
+-- keeps the invariant.
+use Rattle.std.proofs.Common.{◌≡◌, ℕ, Bool, true, false, ◌==◌, [], ◌∷◌, refl, sym}
 use Rattle.pif_types.specs.declared.requests.Request.TheVariants.{Wait}
 use Rattle.pif_model.specs.declared.events.Seen.TheVariants.{Went}
 use Rattle.pif_model.specs.declared.lines.Line.TheVariants.{At}
-use Rattle.pif_model.specs.declared.lines.Place.TheVariants.{WaitExchange, WaitKernel, WaitPark}
+use Rattle.pif_model.specs.declared.lines.Place.{Place}
+use Rattle.pif_model.specs.declared.lines.Place.TheVariants.{WaitPending, WaitHealth, WaitStore, WaitUnlink, WaitExchange, WaitKernel, WaitPark}
 use Rattle.pif_model.specs.Graph.{has_waiter}
-use Rattle.pif_model.specs.Word.{free_word, word_at, health_word_at}
-use Rattle.pif_model.specs.Posix.{Mutex, World, Passes, Effect, is_blocked, on_release, with_progress}
-use Rattle.pif_model.specs.Posix.Health.{Inconsistent}
+use Rattle.pif_model.specs.Word.{free_word}
+use Rattle.pif_model.specs.Posix.{is_blocked, on_release}
 use Rattle.pif_model.specs.Posix.Progress.{Enlisted}
 use Rattle.pif_model.specs.Posix.Effect.{give_up}
 use Rattle.pif_model.specs.Posix.GivesUp.{released}
-use Rattle.pif_model.specs.PiKernel.{is_living}
-use Rattle.pif_model.specs.Table.{Table, cell_at, has_mutex, has_cond, uses_of, library_at, status_at}
-use Rattle.pif_model.specs.Lines.{goes_to, wait_exchange, gives_up}
-use Rattle.pif_model.specs.Standing.{Shadow, use_at, MeetsAll, needs, health_of, health_at, world_of}
-use Rattle.pif_chains.proofs.LineCases.{wait_exchange_cases}
-use Rattle.pif_chains.proofs.Numbers.{above_0}
+use Rattle.pif_model.specs.RobustList.{without_listed}
+use Rattle.pif_model.specs.Table.{Table, has_mutex, has_cond, uses_of, with_word, with_health_word, with_lists}
+use Rattle.pif_model.specs.Lines.{goes_to, pending, wait_health, wait_exchange, gives_up}
+use Rattle.pif_model.specs.Standing.Need.{IsBound, UsedAtLeast}
+use Rattle.pif_chains.proofs.LineCases.{wait_health_cases, wait_exchange_cases}
 use Rattle.pif_simulation.proofs.Kept.{second}
-use Rattle.pif_simulation.proofs.Shown.{mutex_seen}
 use Rattle.pif_simulation.proofs.Agreement.{quiet}
-use Rattle.pif_simulation.proofs.Written.{mutex_of}
-use Rattle.pif_simulation.proofs.Steps.{GoKeeps, Going, going_named, going_met, going_called}
-use Rattle.pif_simulation.proofs.Does.{Does}
-use Rattle.pif_simulation.proofs.Does.Does.{waits_own}
-use Rattle.pif_simulation.proofs.Healths.{inconsistent-word}
-use Rattle.pif_simulation.proofs.Local.{going_cell, going_added}
-use Rattle.pif_simulation.proofs.LocalLines.{goes, row_same}
-use Rattle.pif_simulation.proofs.Owning.{none_from_flag}
-use Rattle.pif_simulation.proofs.TakingLines.{frees}
-use Rattle.pif_simulation.proofs.GivingUp.{GivesUp, gives_up_cases, handed_goes}
+use Rattle.pif_simulation.proofs.Steps.{GoKeeps, Going}
+use Rattle.pif_simulation.proofs.Does.Does.{waits_inconsistent, waits_own}
+use Rattle.pif_simulation.proofs.GivingUp.{GivesUpTo, gives_up_cases}
+use Rattle.pif_simulation.proofs.GivingSteps.{is_at, GivesUpBy, IsLast, names_kept, loads_disorder, loads_order, stores_kept, unlinks_kept, exchange_fails, alone, given, gives_to, rests_besides, frees_kept, hands_kept}
 
 -- a wait that gave its mutex up is blocked where it was
 release_blocked : (b : Bool) → is_blocked (on_release b) ≡ true → is_blocked (Enlisted b) ≡ true
@@ -39,110 +30,76 @@ release_blocked true e = refl
 release_blocked false e = e
 
 module _ (s : Table) (t c m v : ℕ) where
-  -- what it gives up is in order, or unusable
-  not_inconsistent : (word_at s.words m).died ≡ false → health_word_at s.words m ≢ 1 → health_at s m ≢ Inconsistent
-  not_inconsistent d n e = n (inconsistent-word (health_word_at s.words m) (word_at s.words m).died d e)
-
   -- whether it is still blocked
   abbrev still : Bool
   still = v == uses_of s c
 
-  -- where it gives the mutex up, which nobody waits for, its call and the mutex change so
-  effect : (word_at s.words m).number ≡ t → (library_at s m).count ≡ 1 → health_word_at s.words m ≢ 1
-      → (word_at s.words m).died ≡ false → has_waiter s.kernel.waiters m ≡ false
-      → Does t m (has_waiter s.kernel.waiters m) (Wait c m) (Enlisted still) (mutex_of (cell_at s m)) (on_release still)
-      (mutex_of (record (cell_at s m) { word = free_word }))
-  effect own once order died none = waits_own c still refl refl own (not_inconsistent died order) none refl
-      (λ i. record (mutex_of (cell_at s m)) {
-        owner = 0;
-        count = once i;
-        health = health_of (health_word_at s.words m) (sym died i);
-      })
+  -- it gives the mutex up by these steps
+  abbrev by_wait : GivesUpBy s t (Wait c m)
+  by_wait = record {
+    before = Enlisted still;
+    after = on_release still;
+    besides = IsBound ∷ UsedAtLeast v ∷ [];
+    stays = λ c d h. h;
+    naming = WaitPending v;
+    loading = WaitHealth v;
+    storing = WaitStore v;
+    unlinking = WaitUnlink v;
+    exchanging = WaitExchange v;
+    calling = WaitKernel v;
+    at_naming = is_at refl (λ y. refl) refl refl refl refl refl (λ l. quiet refl refl);
+    at_loading = is_at refl (λ y. refl) refl refl refl refl refl (λ l. quiet refl refl);
+    at_storing = is_at refl (λ y. refl) refl refl refl refl refl (λ l. quiet refl refl);
+    at_unlinking = is_at refl (λ y. refl) refl refl refl refl refl (λ l. quiet refl refl);
+    at_exchanging = is_at refl (λ y. refl) refl refl refl refl refl (λ l. quiet refl refl);
+    at_calling = is_at refl (λ y. refl) refl refl refl refl refl (λ l. quiet refl refl);
+    named = second (has_cond s c) (has_mutex s m);
+    blocked = release_blocked still;
+    spoils = λ waited a y z f o n i e. waits_inconsistent c still refl f o i (sym f) e;
+    releases = λ waited a y z f o n i u e. waits_own c still refl f o i u refl e;
+    passes = λ w u call o n i p. give_up c m still call (released o i p);
+  }
+
+  -- name the mutex in the pending field
+  pub wait_pending_kept : Going s t (Wait c m) (WaitPending v)
+      → GoKeeps s t (goes_to t (Wait c m) (WaitHealth v) (pending t m s))
+  wait_pending_kept = names_kept by_wait
+
+  -- load the health word
+  pub wait_health_kept : Going s t (Wait c m) (WaitHealth v) → GoKeeps s t (wait_health v c m t s)
+  wait_health_kept g =
+      wait_health_cases (GoKeeps s t) v c m t s (loads_disorder by_wait g) (loads_order by_wait g)
+
+  -- the mutex is given up inconsistent: it is unusable
+  pub wait_store_kept : Going s t (Wait c m) (WaitStore v)
+      → GoKeeps s t (goes_to t (Wait c m) (WaitUnlink v) (with_health_word m 2 s))
+  wait_store_kept = stores_kept by_wait
+
+  -- take the mutex off the list
+  pub wait_unlink_kept : Going s t (Wait c m) (WaitUnlink v)
+      → GoKeeps s t (goes_to t (Wait c m) (WaitExchange v) (with_lists (without_listed t m s.lists) s))
+  wait_unlink_kept = unlinks_kept by_wait
+
+  module _ {p : Place} (x : IsLast by_wait p) (g : Going s t (Wait c m) p) where
+    -- once the mutex is given up, the wait parks
+    to_park : GivesUpTo s t (Wait c m) p (At (Wait c m) (WaitPark v))
+    to_park = gives_to by_wait x g (WaitPark v) refl refl refl (λ l. quiet refl refl)
+        (λ d other e. ((given by_wait x g).ready, (other, rests_besides by_wait x g d)))
+
+    -- nobody waits for it
+    frees : has_waiter s.kernel.waiters m ≡ false
+        → GoKeeps s t (goes_to t (Wait c m) (WaitPark v) (with_word m free_word s))
+    frees = frees_kept by_wait x g Went (At (Wait c m) (WaitPark v)) to_park (WaitPark v, refl, refl)
 
   -- compare-exchange from t to 0
   pub wait_exchange_kept : Going s t (Wait c m) (WaitExchange v) → GoKeeps s t (wait_exchange v c m t s)
   wait_exchange_kept g = wait_exchange_cases (GoKeeps s t) v c m t s
-      (λ w d n. frees g named h.0 own once (alone w) order Went (At (Wait c m) (WaitPark v)) (on_release still)
-      (quiet refl refl) (λ j e. release_blocked still e) (refl, refl, (h.0, ((λ e. t0 (sym e)), h.1.1.1.1.1)))
-      (WaitPark v, refl, refl) (λ e. refl) (λ e. refl) (λ e. refl) (effect own once order died (alone w)))
-      (goes g named (WaitKernel v) (quiet refl refl) h.0 refl refl h
-      (λ r. row_same g named r refl refl refl (λ o u. absurd (true≢false u))))
-    where
-      named : has_mutex s m ≡ true
-      named = second (has_cond s c) (has_mutex s m) (going_named g)
-
-      h : MeetsAll (is_living s.kernel) t (status_at s t) (cell_at s m) (use_at s (Wait c m)) (needs (WaitExchange v))
-      h = going_met g
-
-      own : (word_at s.words m).number ≡ t
-      own = h.1.0
-
-      once : (library_at s m).count ≡ 1
-      once = h.1.1.0 own
-
-      order : health_word_at s.words m ≢ 1
-      order = h.1.1.1.0 own
-
-      died : (word_at s.words m).died ≡ false
-      died = h.1.1.1.1.0 own
-
-      t0 : t ≢ 0
-      t0 = above_0 t (length s.kernel.seats) (going_added g named)
-
-      alone : (cell_at s m).word.waiters ≡ false → has_waiter s.kernel.waiters m ≡ false
-      alone w = none_from_flag (going_cell g named) w
+      (λ w d n. frees by_wait.at_exchanging g (alone by_wait by_wait.at_exchanging g w)) (exchange_fails by_wait g)
 
   -- the kernel call unlock_pi
   pub wait_kernel_kept : Going s t (Wait c m) (WaitKernel v)
       → GoKeeps s t (gives_up t m (goes_to t (Wait c m) (WaitPark v)) s)
-  wait_kernel_kept g = gives_up_cases given (GoKeeps s t) (goes_to t (Wait c m) (WaitPark v))
-      (λ alone. frees g named h.0 own once alone order Went (At (Wait c m) (WaitPark v)) (on_release still)
-      (quiet refl refl) (λ j e. release_blocked still e) (refl, refl, (h.0, ((λ e. t0 (sym e)), h.1.1.1.1.1)))
-      (WaitPark v, refl, refl) (λ e. refl) (λ e. refl) (λ e. refl) (effect own once order died alone))
-      (λ state. handed_goes given (At (Wait c m) (WaitPark v)) (record {
-        names = refl;
-        pending = λ r. refl;
-        half_linked = λ r. refl;
-        follows = quiet refl refl;
-        knows = λ d other r. (refl, refl, (h.0, (other, h.1.1.1.1.1)));
-      }) state (on_release still) (λ j e. release_blocked still e) (λ y. refl) passes_on)
-    where
-      named : has_mutex s m ≡ true
-      named = second (has_cond s c) (has_mutex s m) (going_named g)
-
-      h : MeetsAll (is_living s.kernel) t (status_at s t) (cell_at s m) (use_at s (Wait c m)) (needs (WaitKernel v))
-      h = going_met g
-
-      own : (word_at s.words m).number ≡ t
-      own = h.1.0
-
-      once : (library_at s m).count ≡ 1
-      once = h.1.1.0 own
-
-      order : health_word_at s.words m ≢ 1
-      order = h.1.1.1.0 own
-
-      died : (word_at s.words m).died ≡ false
-      died = h.1.1.1.1.0 own
-
-      t0 : t ≢ 0
-      t0 = above_0 t (length s.kernel.seats) (going_added g named)
-
-      given : GivesUp s t (Wait c m) (WaitKernel v)
-      given = record {
-        going = g;
-        named = named;
-        ready = h.0;
-        own = own;
-        once = once;
-        order = order;
-        health = ap (health_of (health_word_at s.words m)) (sym died);
-        unlinked = λ r. refl;
-      }
-
-      passes_on : (y : Shadow) (w : World) → Passes m (with_progress t (on_release still) (world_of s y)) w
-          → Effect t (world_of s y) w
-      passes_on y w passes = give_up c m still (going_called g y) (released
-          (ap (λ (x : Mutex). x.owner) (mutex_seen g.sound.all.shape y m) ∙ own)
-          (λ e. not_inconsistent died order (sym (ap (λ (x : Mutex). x.health) (mutex_seen g.sound.all.shape y m))
-          ∙ e)) passes)
+  wait_kernel_kept g =
+      gives_up_cases (given by_wait by_wait.at_calling g) (GoKeeps s t) (goes_to t (Wait c m) (WaitPark v))
+      (frees by_wait.at_calling g)
+      (hands_kept by_wait by_wait.at_calling g (WaitPark v) (to_park by_wait.at_calling g) (λ y. refl))

@@ -1,7 +1,8 @@
-ghost use Rattle.std.specs.Prelude.{◌≡◌, ℕ, List, true};
+ghost use Rattle.std.specs.Prelude.{◌≡◌, ◌≤◌, ℕ, List, [], ◌∷◌, map, eqb, true, false};
+ghost use Rattle.std.specs.List.{IsDistinct};
 ghost use Rattle.pif_types.specs.Bounds.{Bounds};
 ghost use Rattle.pif_model.specs.declared.events.Entry.{Entry};
-ghost use Rattle.pif_model.specs.Graph.{has_waiter, next_waiter, IsNextWaiter, Reaches};
+ghost use Rattle.pif_model.specs.Graph.{has_waiter, next_waiter, without, waiting_order, IsNextWaiter, Reaches};
 ghost use Rattle.pif_model.specs.Posix.{World, IsRun, WaitsFor, is_thread, effective_of, leads_to};
 ghost use Rattle.pif_model.specs.Standing.{HasEffective};
 ghost use Rattle.pif_model.specs.History.{AlwaysOneHolder};
@@ -13,6 +14,14 @@ ghost use Rattle.pif_model.specs.Lines.{is_open, goes_on, ClosesOrWaits};
 /// in arrival (SCHED_FIFO, sched(7)).
 pub fn next_waiter_is_first_of_greatest()
     ensures { (effective : ℕ → ℕ) (waiters : List (ℕ × ℕ)) (m : ℕ) → has_waiter waiters m ≡ true → IsNextWaiter effective waiters m (next_waiter effective waiters m) }
+{}
+
+/// A law: where nobody waits twice and no effective priority is above 99, the waiters of a mutex in order are those that
+/// get it, one after another: its next waiter, and then the order of those that wait when that one has it. Where nobody
+/// waits for it there is none.
+pub fn waiters_get_a_mutex_in_order()
+    ensures none { (effective : ℕ → ℕ) (waiters : List (ℕ × ℕ)) (m : ℕ) → has_waiter waiters m ≡ false → waiting_order effective waiters m ≡ [] }
+    ensures next { (effective : ℕ → ℕ) (waiters : List (ℕ × ℕ)) (m : ℕ) → IsDistinct eqb (map (λ (w : ℕ × ℕ). w.0) waiters) → ((u : ℕ) → effective u ≤ 99) → has_waiter waiters m ≡ true → waiting_order effective waiters m ≡ next_waiter effective waiters m ∷ waiting_order effective (without waiters (next_waiter effective waiters m)) m }
 {}
 
 /// A law: in a history that a run of the POSIX machine gives, no mutex has two holders by the answers at any point.

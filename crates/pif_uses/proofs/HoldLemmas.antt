@@ -21,7 +21,8 @@ use Rattle.pif_uses.specs.declared.locking.Held.TheVariants.{InOrder, OwnerDied}
 use Rattle.pif_uses.specs.declared.waiting.Awaited.TheVariants.{Met}
 use Rattle.pif_uses.specs.Waiting.{awaited_by}
 use Rattle.pif_uses.specs.Holding.{HoldsOn, CountsOn, held_by}
-use Rattle.pif_uses.proofs.CallLemmas.{call_other, call_refused, call_stands, finish_stands}
+use Rattle.pif_uses.proofs.CallLemmas.{call_other, call_refused, called-other}
+use Rattle.pif_uses.proofs.StandingLemmas.{call_stands, finish_stands}
 
 -- steps that went change no open call
 went_open : (n t u : ℕ) (h : List Entry) → open_call u (went n t h) ≡ open_call u h
@@ -81,7 +82,7 @@ module _ (t a : ℕ) (q : Request) (s : Table) (h : List Entry) (e : (call_outco
   abbrev o : Outcome
   o = event_outcome (Begin t q) s
 
-  begun : o.seen ≡ Begun
+  pub begun : o.seen ≡ Begun
   begun = by_answer (begin_answer t q s)
     where
       no_refusal : (r : Refusal) → o.seen ≡ Refused r → Refused r ≡ Answered a
@@ -91,18 +92,14 @@ module _ (t a : ℕ) (q : Request) (s : Table) (h : List Entry) (e : (call_outco
       by_answer (inl d) = d
       by_answer (inr d) = let f = no_refusal d.0 d.1 in absurd cc
 
-  rest : (goes_on 23 t o.after).seen ≡ Answered a
-  rest = ap (λ (x : Outcome). x.seen)
-      (sym (call_other t q s (λ r d. let f : Begun ≡ Refused r = sym begun ∙ d in absurd cc))) ∙ e
+  pub allowed : (r : Refusal) → o.seen ≡ Refused r → ⊥
+  allowed r d = let f : Begun ≡ Refused r = sym begun ∙ d in absurd cc
+
+  pub rest : (goes_on 23 t o.after).seen ≡ Answered a
+  rest = ap (λ (x : Outcome). x.seen) (sym (call_other t q s allowed)) ∙ e
 
   whole : called t q s h ≡ finished t o.after (Happened (Begin t q) Begun ∷ h)
-  unfolding called
-  whole =
-      let P : Seen → Type 0 = λ x. (elim x as (λ y. List Entry) [
-        | Refused r ↦ Happened (Begin t q) x ∷ h
-        | _ ↦ finished t o.after (Happened (Begin t q) x ∷ h)
-      ]) ≡ finished t o.after (Happened (Begin t q) Begun ∷ h) in
-      subst P (sym begun) refl
+  whole = called-other t q s h allowed ∙ ap (λ x. finished t o.after (Happened (Begin t q) x ∷ h)) begun
 
   opened : open_call t (Happened (Begin t q) Begun ∷ h) ≡ Some q
   opened = rw (itself t) refl
@@ -177,6 +174,23 @@ lock_taken Went x e = absurd cc
 lock_taken Waits x e = absurd cc
 lock_taken Ended x e = absurd cc
 lock_taken (Refused r) x e = absurd cc
+
+-- a lock that found the mutex in order was answered 0
+pub in_order : (seen : Seen) → Ok InOrder ≡ held_by seen → seen ≡ Answered 0
+in_order (Answered a) e = by_zero (a == 0) refl (a == 130) e
+  where
+    by_zero : (b : Bool) → (a == 0) ≡ b → (d : Bool)
+        → ◌≡◌ {A = Result Held Seen} (Ok InOrder)
+        (if b then Ok InOrder else (if d then Ok OwnerDied else Err (Answered a)))
+        → Answered a ≡ Answered 0
+    by_zero true z d f = ap Answered (eqb-true a 0 z)
+    by_zero false z true f = absurd cc
+    by_zero false z false f = absurd cc
+in_order Begun e = absurd cc
+in_order Went e = absurd cc
+in_order Waits e = absurd cc
+in_order Ended e = absurd cc
+in_order (Refused r) e = absurd cc
 
 -- it counts
 lock_counts : (m a n : ℕ) → (a ≡ 0) ⊎ (a ≡ 130) → hold_count_after_answer m (Some (Lock m)) a n ≡ n + 1

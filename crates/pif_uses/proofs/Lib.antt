@@ -1,2 +1,5 @@
 pub mod CallLemmas
+pub mod FineLemmas
 pub mod HoldLemmas
+pub mod OrderLemmas
+pub mod StandingLemmas

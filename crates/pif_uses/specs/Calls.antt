@@ -24,9 +24,14 @@ unfoldable pub went : ℕ → ℕ → List Entry → List Entry
 went zero t h = h
 went (suc n) t h = went n t (Happened (Go t) Went ∷ h)
 
--- a history with the entries more by which t went on, at most 24 times, up to the first answer that isn't Went
+-- a history with the entries more by which t went on, this often at most after a first time, up to the first answer
+-- that isn't Went
+abbrev pub gone : ℕ → ℕ → Table → List Entry → List Entry
+gone more t s h = Happened (Go t) (goes_on more t s).seen ∷ went (steps_before more t s) t h
+
+-- at most 24 times
 abbrev pub finished : ℕ → Table → List Entry → List Entry
-finished t s h = Happened (Go t) (goes_on 23 t s).seen ∷ went (steps_before 23 t s) t h
+finished t s h = gone 23 t s h
 
 -- a whole call: t begins it, and if that is not refused goes on, at most 24 times, up to the first answer that isn't
 -- Went

@@ -5,6 +5,8 @@ use Rattle.pif_model.specs.declared.events.Entry.{Entry}
 use Rattle.pif_model.specs.declared.events.Seen.{Seen}
 use Rattle.pif_model.specs.declared.events.Seen.TheVariants.{Answered}
 use Rattle.pif_model.specs.Posix.{World, mutex_at}
+use Rattle.pif_model.specs.Posix.Health.{Fine}
+use Rattle.pif_model.specs.Standing.{Stands}
 use Rattle.pif_model.specs.History.{hold_count, holds, open_call}
 use Rattle.pif_model.specs.Table.{Table}
 use Rattle.pif_uses.specs.declared.locking.Held.{Held}
@@ -45,3 +47,7 @@ repaired OwnerDied t m s h = called t (Consistent m) (call_outcome t (Lock m) s)
 abbrev pub repaired_value : Held → ℕ → ℕ → ℕ
 repaired_value InOrder fresh value = value
 repaired_value OwnerDied fresh value = fresh
+
+-- what m protects is in order in each state of the POSIX machine in which a core with this table stands
+abbrev pub IsFineIn : ℕ → Table → Type 0
+IsFineIn m s = (h : List Entry) (r : List World) (w : World) → Stands s h r w → (mutex_at w m).health ≡ Fine

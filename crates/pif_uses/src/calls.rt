@@ -10,7 +10,7 @@ use pif_core::{Core, Event, Seen};
 use pif_types::{Request, Tid};
 
 /// How often `finish` goes on at most, after the first time.
-const MORE_STEPS: u32 = 23;
+pub const MORE_STEPS: u32 = 23;
 
 /// A thread goes on with its open call up to the first answer that isn't `Went`, at most 24 times; that is enough for
 /// each call of POSIX here, so the answer is never `Went`. `Answered` closes the call, with 0 or the number of an

@@ -14,7 +14,7 @@ mod events;
 mod locking;
 mod waiting;
 
-pub use calls::{call, finish};
+pub use calls::{MORE_STEPS, call, finish};
 pub use events::{Next, next_after, one_event};
 pub use locking::{Held, add_under, finish_lock, lock_and_hold, lock_and_repair};
 pub use pif_core::{Core, Entry, Event, Seen};

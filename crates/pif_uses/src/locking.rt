@@ -1,13 +1,14 @@
-ghost use Rattle.std.specs.Prelude.{ℕ, ◌≡◌, ◌+◌, ◌%◌, ◌^◌, List, Some, IfOk, IfErr};
+ghost use Rattle.std.specs.Prelude.{ℕ, ◌≡◌, ◌≢◌, ◌+◌, ◌%◌, ◌^◌, List, Some, IfOk, IfErr};
 ghost use Rattle.pif_types.specs.declared.requests.Request.TheVariants.{Lock, Unlock};
 ghost use Rattle.pif_model.specs.declared.events.Entry.{Entry};
 ghost use Rattle.pif_model.specs.declared.events.Seen.TheVariants.{Answered};
-ghost use Rattle.pif_model.specs.Posix.{World};
+ghost use Rattle.pif_model.specs.Posix.{World, mutex_at};
 ghost use Rattle.pif_model.specs.History.{hold_count, open_call};
 ghost use Rattle.pif_model.specs.Standing.{Stands};
 ghost use Rattle.pif_model.specs.Lines.{goes_on};
 ghost use Rattle.pif_uses.specs.Calls.{StandsOn, call_outcome, called, finished};
-ghost use Rattle.pif_uses.specs.Holding.{CountsOn, HoldsOn, held_by, repaired, repaired_table, repaired_value};
+ghost use Rattle.pif_uses.specs.declared.locking.Held.TheVariants.{InOrder};
+ghost use Rattle.pif_uses.specs.Holding.{CountsOn, HoldsOn, IsFineIn, held_by, repaired, repaired_table, repaired_value};
 
 use crate::calls::{call, finish};
 use pif_core::{Core, Event, Seen};
@@ -93,8 +94,9 @@ pub fn add_under(
 
 /// A thread locks a robust mutex that protects a value. Where its last owner has ended, the value is made this fresh
 /// one, and the mutex consistent (pthread_mutex_consistent of POSIX), so that it stays usable. Where this answers
-/// `Ok`, the thread holds the mutex once more than before, and no other thread does. `Err` has what the lock was
-/// answered otherwise: after ENOTRECOVERABLE nobody will hold the mutex again, and the thread gives up.
+/// `Ok`, the thread holds the mutex once more than before, and no other thread does; the mutex is then fine, unless
+/// the thread was its owner before. `Err` has what the lock was answered otherwise: after ENOTRECOVERABLE nobody will
+/// hold the mutex again, and the thread gives up.
 pub fn lock_and_repair(
     core: &mut Core,
     thread: Tid,
@@ -106,6 +108,8 @@ pub fn lock_and_repair(
     ensures value { IfOk result (λ x. value.new ≡ repaired_value x fresh value.old) }
     ensures holds { IfOk result (λ x. (h : List Entry) (r : List World) (w : World) → Stands core.old h r w
         → HoldsOn thread mutex (hold_count thread mutex h + 1) core.new (repaired x thread mutex core.old h) r w) }
+    ensures fine { IfOk result (λ x. (h : List Entry) (r : List World) (w : World) → Stands core.old h r w
+        → (x ≡ InOrder → (mutex_at w mutex).owner ≢ thread) → IsFineIn mutex core.new) }
 {
     match lock_and_hold(core, thread, mutex) {
         Ok(Held::OwnerDied) => {

@@ -1,2 +1,1 @@
 pub mod WordBits
-pub mod WordMaps

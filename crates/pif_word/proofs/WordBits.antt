@@ -1,4 +1,4 @@
--- What the bits of a word say: bits and words are each other's, and what `|` and `&` of the flags make of a word.
+-- What the bits of a word say: the bits of their word are they again, and what `|` and `&` of the flags make of a word.
 use Rattle.std.proofs.Common.{◌≡◌, ℕ, zero, suc, ◌+◌, ◌*◌, ◌/◌, ◌%◌, ◌<◌, Bool, true, false, not, ◌==◌, refl, sym, ap, ◌∙◌, arith, bit_and, bit_or, zero-mul, one-mul, eq-eqb, ne_eqb, ◌≢◌, Some, None, if◌then◌else◌}
 use Rattle.std.proofs.lemmas.Nat.{and_mask, and_comm, and-not, or_block, or_comm, or_shifted}
 use Rattle.std.proofs.lemmas.Nat.Bits.{and_pow}
@@ -20,10 +20,6 @@ pub word_of-is : (b : ℕ) → word_of b ≡ word (b % 1073741824) ((b / 2147483
 unfolding word_of
 word_of-is b = refl
 
--- the word of a number below 2^30 with the two flags, each 0 or 1
-pub word_of-parts : (n x y : ℕ) → n < 1073741824 → x < 2 → y < 2 → word_of (n + y * 1073741824 + x * 2147483648) ≡ word n (x == 1) (y == 1)
-word_of-parts n x y p q r = word_from (n + y * 1073741824 + x * 2147483648) n x y (omega arith) (omega arith) (omega arith)
-
 -- 32 bits are a number below 2^30 and two flags
 pub parts : (b : ℕ) → b < 4294967296 → b % 1073741824 + ((b / 1073741824) % 2) * 1073741824 + ((b / 2147483648) % 2) * 2147483648 ≡ b
 parts b h = omega arith
@@ -34,41 +30,12 @@ flag-bit zero n h = sym (zero-mul n)
 flag-bit (suc zero) n h = sym (one-mul n)
 flag-bit (suc (suc x)) n h = absurd (omega arith)
 
--- the word of the bits of a word with these parts
-word_of-bits_of-word : (n : ℕ) (a d : Bool) → n < 1073741824 → word_of (bits_of (word n a d)) ≡ word n a d
-unfolding bits_of
-word_of-bits_of-word n true true h = word_from (n + 1073741824 + 2147483648) n 1 1 (omega arith) (omega arith) (omega arith)
-word_of-bits_of-word n true false h = word_from (n + 0 + 2147483648) n 1 0 (omega arith) (omega arith) (omega arith)
-word_of-bits_of-word n false true h = word_from (n + 1073741824 + 0) n 0 1 (omega arith) (omega arith) (omega arith)
-word_of-bits_of-word n false false h = word_from (n + 0 + 0) n 0 0 (omega arith) (omega arith) (omega arith)
-
--- the word of the bits of a word is that word
-pub word_of-bits_of : (w : Word) → w.number < 1073741824 → word_of (bits_of w) ≡ w
-word_of-bits_of w h = word_of-bits_of-word w.number w.waiters w.died h
-
--- the bits of a word with these parts are 32
-bits_of-word-lt : (n : ℕ) (a d : Bool) → n < 1073741824 → bits_of (word n a d) < 4294967296
-unfolding bits_of
-bits_of-word-lt n true true h = omega arith
-bits_of-word-lt n true false h = omega arith
-bits_of-word-lt n false true h = omega arith
-bits_of-word-lt n false false h = omega arith
-
--- the bits of a word are 32
-pub bits_of-lt : (w : Word) → w.number < 1073741824 → bits_of w < 4294967296
-bits_of-lt w h = bits_of-word-lt w.number w.waiters w.died h
-
 -- the bits of the word of 32 bits are those bits
 pub bits_of-word_of : (b : ℕ) → b < 4294967296 → bits_of (word_of b) ≡ b
 unfolding bits_of word_of
 bits_of-word_of b h =
     rw (flag-bit ((b / 1073741824) % 2) 1073741824 (omega arith), flag-bit ((b / 2147483648) % 2) 2147483648 (omega arith))
     (parts b h)
-
--- the number in a word is below 2^30
-pub number-lt : (b : ℕ) → (word_of b).number < 1073741824
-unfolding word_of
-number-lt b = omega arith
 
 -- a number below 2^30 is the word of its owner, with no flag
 pub word_of-number : (t : ℕ) → t < 1073741824 → word_of t ≡ held_by t

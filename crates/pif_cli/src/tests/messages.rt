@@ -55,10 +55,17 @@ fn a_faulty_script_is_told_by_its_line(rt: HostRuntime) {
             b"thread 10\nmutex normal\ncall t1 lock m1\ncall t1 lok m1\n".as_slice(),
             "pif: line 4: no such command: call t1 lok m1\n",
         ),
-        (b"Thread 10\n", "pif: line 1: no such command: Thread 10\n"),
+        (
+            b"Thread 10\n",
+            "pif: line 1: no such command, and none has capital letters: Thread 10\n",
+        ),
         (
             b"# a comment\nthread 10\n",
             "pif: line 1: no such command, and there are no comments: # a comment\n",
+        ),
+        (
+            b"thread 10 # low\n",
+            "pif: line 1: no such command, and there are no comments: thread 10 # low\n",
         ),
         (
             b"thread 10\n\npick\n",
@@ -82,7 +89,7 @@ fn a_faulty_script_is_told_by_its_line(rt: HostRuntime) {
         ),
         (
             b"thread\t10\n",
-            "pif: line 1: no such command: thread\\t10\n",
+            "pif: line 1: words are separated by one space, with none at either end: thread\\t10\n",
         ),
         (
             b"thr\xc3\xa9ad 10\n",
@@ -104,7 +111,7 @@ fn a_faulty_script_is_told_by_its_line(rt: HostRuntime) {
         ),
         (
             b"pif-trace 1\nthread 10 = t1\n",
-            "pif: line 1: no such command: pif-trace 1\n",
+            "pif: line 1: a trace is no script: 'pif replay' takes it: pif-trace 1\n",
         ),
     ];
     for (script, message) in scripts {
@@ -146,6 +153,15 @@ fn a_faulty_trace_is_told_by_its_line(rt: HostRuntime) {
             "pif: line 3: no such command in a trace: pick = t1\n",
         ),
         (
+            b"pif-trace 1\nmutex fair = m1\n",
+            "pif: line 2: no such command in a trace: mutex fair = m1\n",
+        ),
+        (
+            b"pif-trace 1\nlimits 1025 0 0 1 = ok\n",
+            "pif: line 2: a limit is out of range (threads 1 to 1024, mutexes 0 to 1024, variables 0 to 256, \
+            signals 1 to 4294967295): limits 1025 0 0 1 = ok\n",
+        ),
+        (
             b"pif-trace 1\nthread 10 = t1\nlimits 1 1 1 1 = ok\n",
             "pif: line 3: limits may stand on the second line only: limits 1 1 1 1 = ok\n",
         ),
@@ -167,6 +183,10 @@ fn a_difference_is_told_with_both_answers(rt: HostRuntime) {
             "pif: line 2: recorded 't2', but the core gives 't1': thread 10 = t2\n",
         ),
         (
+            b"pif-trace 1\nthread 10 = t1\nmutex normal = m1\nbegin t1 lock m1 = begun\ngo t1 = waits\n",
+            "pif: line 5: recorded 'waits', but the core gives 'went': go t1 = waits\n",
+        ),
+        (
             b"pif-trace 1\nthread 10 = t1\ngo t1 = \n",
             "pif: line 3: recorded '', but the core gives 'refused idle': go t1 = \n",
         ),
@@ -183,7 +203,7 @@ fn a_difference_is_told_with_both_answers(rt: HostRuntime) {
 #[test]
 fn a_failed_read_is_told(rt: HostRuntime) {
     let told = (3, "pif: the input cannot be read\n");
-    for job in ["run", "replay", "trace"] {
+    for job in ["run", "show", "replay", "trace"] {
         check_told(&rt, rt.alloc(), job, &mut Broken, told);
     }
 }
@@ -265,6 +285,41 @@ fn a_line_is_shown_in_120_bytes_at_most(rt: HostRuntime) -> Result<(), Fail> {
         let message = filled(said, shown, count, b"\n");
         let told = (2, from_utf8(message.as_slice())?);
         check_input(&rt, rt.alloc(), "run", script.as_slice(), told);
+    }
+    Ok(())
+}
+
+/// Checks that the first line of a script is told of as no command.
+fn check_no_command(
+    rt: &(impl Abort + Threads + Wait + Sync),
+    alloc: Global,
+    line: &str,
+) -> Result<(), Fail> {
+    let said = b"pif: line 1: no such command: ";
+    let script = filled(line.as_bytes(), b"\n", 1, b"");
+    let message = filled(said.as_slice(), line.as_bytes(), 1, b"\n");
+    let told = (2, from_utf8(message.as_slice())?);
+    check_input(rt, alloc, "run", script.as_slice(), told);
+    Ok(())
+}
+
+#[test]
+fn words_that_a_command_does_not_take_make_it_none(rt: HostRuntime) -> Result<(), Fail> {
+    let lines = [
+        "mutex fair",
+        "mutex normal normal",
+        "thread",
+        "thread -1",
+        "thread 010",
+        "thread 4294967296",
+        "call t0 lock m1",
+        "call t1 lok m1",
+        "begin t1 lock c1",
+        "limits 1 1 1",
+        "pick t1",
+    ];
+    for line in lines {
+        check_no_command(&rt, rt.alloc(), line)?;
     }
     Ok(())
 }

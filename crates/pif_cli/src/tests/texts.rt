@@ -78,7 +78,7 @@ fn wrong_words_are_refused(rt: HostRuntime) -> Result<(), Fail> {
             ["pif"].as_slice(),
             [
                 "requires a subcommand",
-                "run, replay, trace, drive",
+                "run, show, replay, trace, drive",
                 USAGE,
                 MORE,
             ],

@@ -1,4 +1,4 @@
-ghost use Rattle.std.specs.Prelude.{◌≡◌, ◌+◌, ◌*◌, ◌≤◌, ◌<◌, ◌==◌, length, OnOk, None, Some};
+ghost use Rattle.std.specs.Prelude.{◌≡◌, ◌+◌, ◌*◌, ◌≤◌, ◌<◌, ◌==◌, length, OnOk, None, Some, is_some};
 ghost use Rattle.arrayvec.specs.ArrayVec.{array_vec_len};
 
 use super::ending::{End, Ending, OpenFault, Stop};
@@ -43,6 +43,16 @@ impl<L: Listener + Drop> Scanner<L> {
     /// The bytes of the line in which the script stands, as far as they were taken.
     pub fn line(&self) -> &[u8] {
         self.line.as_slice()
+    }
+
+    /// Who answers the lines, if a line has made one.
+    pub fn listener(&self) -> Option<&L>
+        ensures { is_some result ≡ is_some self.now.listener }
+    {
+        match &self.listener {
+            Some(listener) => Some(listener),
+            None => None,
+        }
     }
 
     /// Appends to `output` what is said where the script ends here.

@@ -125,7 +125,7 @@ fn close<L: Listener + Drop, W: Write>(
 }
 
 /// Writes the output, and behind it what is said of an end.
-fn stop<L: Listener + Drop, W: Write>(end: End, output: &mut Output, writer: &mut W) -> CliFault
+pub fn stop<L: Listener + Drop, W: Write>(end: End, output: &mut Output, writer: &mut W) -> CliFault
     requires { array_vec_len output.old + END_ROOM ≤ OUTPUT_ROOM }
     ensures { Stops (W.contents writer.old) (W.contents writer.new) output.old.items (L.hearing.said_of end) end result }
 {

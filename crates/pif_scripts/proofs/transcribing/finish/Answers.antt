@@ -1,15 +1,14 @@
 use Rattle.std.proofs.Common.{◌-◌, sym, ap, ◌∙◌, arith}
 use Rattle.pif_model.specs.Lines.{Outcome}
-use Rattle.pif_scripts.proofs.RunningLemmas.{goes_on-other, goes_on-turn, goes_on-last, finish_outcome-is}
+use Rattle.pif_uses.proofs.CallLemmas.{goes_on-other, goes_on-turn, goes_on-last}
 use Rattle.pif_scripts.proofs.EntryLemmas.{going-turn, going-stops, going-last}
 use Rattle.pif_scripts.proofs.transcribing.finish.Goals as goal
 
 pub returns-in_default : goal.returns-in_default
 returns-in_default c =
-    let all = finish_outcome-is c.args.thread c.args.core.now in
     let last = goes_on-other (23 - c.loop-turn._turn) c.args.thread c.loop-turn.core
     (λ e. c.in_default.not-Went (c.step.ensures.seen ∙ e)) in
-    let same = sym last ∙ c.loop-turn.invariant.0 ∙ sym all in
+    let same = sym last ∙ c.loop-turn.invariant.0 in
     record {
       seen = c.step.ensures.seen ∙ ap (λ (o : Outcome). o.seen) same;
       after = c.step.ensures.after ∙ ap (λ (o : Outcome). o.after) same;
@@ -34,13 +33,13 @@ pub returns-clause-seen : goal.returns-clause-seen
 returns-clause-seen c =
     let last = goes_on-last c.loop-turn._turn c.args.thread c.loop-turn.core c.loop-turn-test.false in
     c.step-2.ensures.seen ∙ ap (λ (o : Outcome). o.seen)
-    (sym last ∙ c.loop-turn.invariant.0 ∙ sym (finish_outcome-is c.args.thread c.args.core.now))
+    (sym last ∙ c.loop-turn.invariant.0)
 
 pub returns-clause-after : goal.returns-clause-after
 returns-clause-after c =
     let last = goes_on-last c.loop-turn._turn c.args.thread c.loop-turn.core c.loop-turn-test.false in
     c.step-2.ensures.after ∙ ap (λ (o : Outcome). o.after)
-    (sym last ∙ c.loop-turn.invariant.0 ∙ sym (finish_outcome-is c.args.thread c.args.core.now))
+    (sym last ∙ c.loop-turn.invariant.0)
 
 pub returns-clause-told : goal.returns-clause-told
 returns-clause-told c =

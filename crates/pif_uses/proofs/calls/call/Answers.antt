@@ -1,7 +1,8 @@
 -- A whole call: it ends, and standing goes along.
 use Rattle.std.proofs.Common.{sym, ap, ◌∙◌}
 use Rattle.pif_model.specs.Lines.{Outcome, goes_on}
-use Rattle.pif_uses.proofs.CallLemmas.{call_other, call_refused, call_stands}
+use Rattle.pif_uses.proofs.CallLemmas.{call_other, call_refused}
+use Rattle.pif_uses.proofs.StandingLemmas.{call_stands}
 use Rattle.pif_uses.proofs.calls.call.Goals as goal
 
 pub returns-in-Refused-clause-stands : goal.returns-in-Refused-clause-stands

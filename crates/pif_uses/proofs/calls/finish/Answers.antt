@@ -2,7 +2,8 @@
 use Rattle.std.proofs.Common.{◌-◌, sym, ap, ◌∙◌}
 use Rattle.pif_model.specs.Lines.{Outcome}
 use Rattle.pif_simulation.proofs.Bound.{ends_within_24}
-use Rattle.pif_uses.proofs.CallLemmas.{goes_on-other, goes_on-turn, goes_on-last, finish_stands}
+use Rattle.pif_uses.proofs.CallLemmas.{goes_on-other, goes_on-turn, goes_on-last}
+use Rattle.pif_uses.proofs.StandingLemmas.{finish_stands}
 use Rattle.pif_uses.proofs.calls.finish.Goals as goal
 
 pub loop-turn-preserved : goal.loop-turn-preserved

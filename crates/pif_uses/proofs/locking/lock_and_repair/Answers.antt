@@ -1,12 +1,14 @@
 -- Who has made a mutex consistent still holds it.
-use Rattle.std.proofs.Common.{sym, ap, ◌∙◌, ◌+◌, subst}
+use Rattle.std.proofs.Common.{Ok, refl, sym, ap, ◌∙◌, ◌+◌, subst}
 use Rattle.pif_types.specs.declared.requests.Request.TheVariants.{Lock, Consistent}
 use Rattle.pif_model.specs.declared.events.Seen.TheVariants.{Answered}
 use Rattle.pif_model.specs.History.{hold_count}
 use Rattle.pif_model.specs.Table.{Table}
-use Rattle.pif_uses.specs.Calls.{called}
+use Rattle.pif_uses.specs.Calls.{call_outcome, called}
 use Rattle.pif_uses.specs.Holding.{HoldsOn}
-use Rattle.pif_uses.proofs.HoldLemmas.{consistent_holds}
+use Rattle.pif_uses.proofs.FineLemmas.{consistent_fine}
+use Rattle.pif_uses.proofs.HoldLemmas.{consistent_holds, in_order}
+use Rattle.pif_uses.proofs.OrderLemmas.{lock_fine}
 use Rattle.pif_uses.proofs.locking.lock_and_repair.Goals as goal
 
 pub returns-in-Answered-eq0-clause-holds : goal.returns-in-Answered-eq0-clause-holds
@@ -19,3 +21,16 @@ returns-in-Answered-eq0-clause-holds c = λ h r w st.
     (consistent_holds c.lock_and_hold.new.core c.call.new.core t m (hold_count t m h) k r w
     (c.in-Ok-OwnerDied.ensures.holds h r w st)
     (sym c.call.ensures.seen ∙ c.in-Answered-eq0.is ∙ ap Answered c.in-Answered-eq0.field-0-test) c.call.ensures.after)
+
+pub returns-in-Answered-eq0-clause-fine : goal.returns-in-Answered-eq0-clause-fine
+returns-in-Answered-eq0-clause-fine c = λ h r w st apart.
+    consistent_fine c.lock_and_hold.new.core c.call.new.core c.args.thread c.args.mutex
+    (c.lock_and_hold.ensures.stands h r w st).stands.sound
+    (sym c.call.ensures.seen ∙ c.in-Answered-eq0.is ∙ ap Answered c.in-Answered-eq0.field-0-test) c.call.ensures.after
+
+pub returns-in-Ok-InOrder-clause-fine : goal.returns-in-Ok-InOrder-clause-fine
+returns-in-Ok-InOrder-clause-fine c = λ h r w st apart.
+    lock_fine c.args.core.now c.lock_and_hold.new.core c.args.thread c.args.mutex h r w st (apart refl)
+    (in_order (call_outcome c.args.thread (Lock c.args.mutex) c.args.core.now).seen
+    (ap Ok (sym c.in-Ok-InOrder.field-0-is) ∙ sym c.in-Ok-InOrder.is ∙ c.lock_and_hold.ensures.answer))
+    c.lock_and_hold.ensures.after

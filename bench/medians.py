@@ -1,0 +1,55 @@
+#!/usr/bin/env python3
+"""Runs bench/run.sh several times, 11 by default, and prints each of its lines once, with the median of each figure and in
+brackets the least and the greatest. docs/SPEED.md has what it printed. It judges nothing.
+
+    bench/medians.py [TIMES]        once ./pif has built the program
+"""
+
+import re
+import statistics
+import subprocess
+import sys
+from pathlib import Path
+
+RUN = Path(__file__).resolve().parent / "run.sh"
+# a figure stands by itself: no digits of names such as `end_10`
+FIGURE = re.compile(r"(?<![\w.])\d+(?:\.\d+)?(?![\w.])")
+
+
+def figures(text):
+    """The lines of a run by their texts without figures, each with its figures; a text that comes again is told apart."""
+    found = {}
+    for line in text.splitlines():
+        key = FIGURE.sub("#", line)
+        while key in found:
+            key += " "
+        found[key] = [float(figure) for figure in FIGURE.findall(line)]
+    return found
+
+
+def shown(value):
+    return f"{value:,.0f}" if value >= 100 or value == int(value) else f"{value:.2f}"
+
+
+def spread(values):
+    least, greatest = min(values), max(values)
+    if least == greatest:
+        return shown(least)
+    return f"{shown(statistics.median(values))} ({shown(least)} to {shown(greatest)})"
+
+
+def main():
+    times = int(sys.argv[1]) if len(sys.argv) > 1 else 11
+    runs = []
+    for _ in range(times):
+        done = subprocess.run([RUN], stdout=subprocess.PIPE, stderr=subprocess.STDOUT, text=True, check=True)
+        runs.append(figures(done.stdout))
+    for key in runs[0]:
+        columns = zip(*(run[key] for run in runs if key in run))
+        texts = iter([spread(column) for column in columns])
+        print(re.sub("#", lambda _: next(texts, "#"), key).rstrip())
+    return 0
+
+
+if __name__ == "__main__":
+    sys.exit(main())

@@ -1,0 +1,29 @@
+//! A thread of priority 10 holds a mutex, and one of priority 50 waits for it.
+#![tactic(auto)]
+
+use pif_core::Core;
+use pif_types::{AddFault, Kind, Limits, Prio, Request};
+use pif_uses::call;
+use std::io;
+
+/// At which priority the holder runs while the other waits.
+fn boosted(core: &mut Core) -> Result<Option<Prio>, AddFault> {
+    let low = core.add_thread(10)?;
+    let high = core.add_thread(50)?;
+    let mutex = core.add_mutex(Kind::Normal, false)?;
+    call(core, low, Request::Lock(mutex));
+    call(core, high, Request::Lock(mutex));
+    Ok(core.effective(low))
+}
+
+fn main(rt: HostRuntime) -> io::Result<()> {
+    let limits = Limits::new(2, 1, 0, 1).ok_or(io::ErrorKind::InvalidInput)?;
+    let Ok(mut core) = Core::new(rt.alloc(), limits) else {
+        return Err(io::Error::from(io::ErrorKind::OutOfMemory));
+    };
+    match boosted(&mut core) {
+        Ok(Some(prio)) => println!(rt; "{}", prio.get()),
+        Ok(None) => println!(rt; "no such thread"),
+        Err(fault) => println!(rt; "{fault}"),
+    }
+}

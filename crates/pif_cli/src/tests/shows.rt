@@ -1,0 +1,173 @@
+use super::{Kept, asked};
+use crate::command;
+use arrayvec::ArrayVec;
+use std::alloc::Global;
+use std::process::Abort;
+use std::str::from_utf8;
+use std::sync::Wait;
+use std::test::Fail;
+use std::thread::Threads;
+
+/// Shows a script, and checks the status, the first lines and the last lines of what is written; the errors are told of
+/// each status but 0.
+fn check(
+    rt: &(impl Abort + Threads + Wait + Sync),
+    alloc: Global,
+    text: &str,
+    status: u8,
+    ends: (&str, &str),
+) -> Result<(), Fail> {
+    let words = ["pif", "show"];
+    let (ended, output, errors) = asked(rt, alloc, words.as_slice(), text.as_bytes());
+    assert_eq!(rt;
+        (ended, errors.is_empty()),
+        (status, status == 0),
+        "{text:?}"
+    );
+    let shown = from_utf8(output.as_slice())?;
+    let (first, last) = ends;
+    assert!(rt;
+        shown.starts_with(first) && shown.ends_with(last),
+        "{shown:?}"
+    );
+    Ok(())
+}
+
+#[test]
+fn a_chain_of_three_is_shown(rt: HostRuntime) -> Result<(), Fail> {
+    let text =
+        "thread 10\nthread 20\nthread 50\nmutex normal\nmutex normal\ncall t1 lock m1\ncall t2 lock m2\n\
+        call t2 lock m1\ncall t3 lock m2\n";
+    let first = "> thread 10\nt1\n  t1: priority 10; ready\n  run queue: t1\n\n\
+        > thread 20\nt2\n  t1: priority 10; ready\n  t2: priority 20; ready\n  run queue: t2, t1\n\n";
+    let last = "\n\n> call t3 lock m2\nwaits\n\
+        \x20 t1: priority 50 (base 10); ready; holds m1\n\
+        \x20 t2: priority 50 (base 20); waits for m1, held by t1; in lock m1; holds m2\n\
+        \x20 t3: priority 50; waits for m2, held by t2; in lock m2\n\
+        \x20 m1: normal, fine; word t1 + WAITERS; owner t1; waiters t2\n\
+        \x20 m2: normal, fine; word t2 + WAITERS; owner t2; waiters t3\n\
+        \x20 run queue: t1\n\
+        \x20 chain: t3 -> m2 -> t2 -> m1 -> t1\n\n";
+    check(&rt, rt.alloc(), text, 0, (first, last))
+}
+
+#[test]
+fn a_robust_mutex_is_shown_whose_owner_ended(rt: HostRuntime) -> Result<(), Fail> {
+    let text =
+        "mutex normal robust\nthread 10\nthread 20\ncall t1 lock m1\ncall t2 lock m1\nend t1\n";
+    let last = "> end t1\nended\n\
+        \x20 t1: ended\n\
+        \x20 t2: priority 20; ready; in lock m1; holds m1\n\
+        \x20 m1: normal, robust, fine; word t2 + WAITERS + OWNER_DIED; owner t2\n\
+        \x20 run queue: t2\n\n";
+    let first = "> mutex normal robust\nm1\n  m1: normal, robust, fine; word 0\n\n";
+    check(&rt, rt.alloc(), text, 0, (first, last))
+}
+
+#[test]
+fn a_variable_is_shown_with_two_parked(rt: HostRuntime) -> Result<(), Fail> {
+    let text =
+        "thread 10\nthread 20\nmutex normal\ncond m1\ncall t1 lock m1\ncall t1 wait c1 m1\ncall t2 lock m1\n\
+        call t2 wait c1 m1\n";
+    let last = "> call t2 wait c1 m1\nwaits\n\
+        \x20 t1: priority 10; parked on c1 for m1; in wait c1 m1\n\
+        \x20 t2: priority 20; parked on c1 for m1; in wait c1 m1\n\
+        \x20 m1: normal, fine; word 0\n\
+        \x20 c1: for m1; uses 0; parked t2, t1\n\n";
+    check(&rt, rt.alloc(), text, 0, ("> thread 10\nt1\n", last))
+}
+
+#[test]
+fn the_line_of_a_fault_is_shown_behind_the_state_before_it(rt: HostRuntime) -> Result<(), Fail> {
+    let scripts = [
+        (
+            "limits 1 0 0 1\nthread 10\nthreat 20\n",
+            "> threat 20\nfault 3 command\n",
+        ),
+        (
+            "limits 1 0 0 1\nthread 10\nthread 20",
+            "> thread 20\nfault 3 cut\n",
+        ),
+        (
+            "limits 1 0 0 1\nthread 10\n\tpick\n",
+            "> ?pick\nfault 3 command\n",
+        ),
+    ];
+    for (text, fault) in scripts {
+        check(
+            &rt,
+            rt.alloc(),
+            text,
+            2,
+            (
+                "> limits 1 0 0 1\nok\n\n> thread 10\nt1\n  t1: priority 10; ready\n",
+                fault,
+            ),
+        )?;
+    }
+    check(
+        &rt,
+        rt.alloc(),
+        "limits 0 0 0 1\n",
+        2,
+        ("> limits 0 0 0 1\nfault 1 limits\n", ""),
+    )
+}
+
+#[test]
+fn nothing_is_shown_of_no_script(rt: HostRuntime) {
+    let words = ["pif", "show"];
+    let (ended, output, errors) = asked(&rt, rt.alloc(), words.as_slice(), b"".as_slice());
+    assert_eq!(rt; (ended, output.len(), errors.len()), (0, 0, 0));
+}
+
+/// Shows the script of one line at a writer that takes no more than so many bytes: status 3.
+#[test]
+fn a_failed_write_has_status_3(rt: HostRuntime) {
+    let mut output = ArrayVec::<u8, 20>::new();
+    let mut errors = Kept::new();
+    let words = ["pif", "show"];
+    let ended = command(
+        rt.alloc(),
+        &rt,
+        words.as_slice(),
+        &mut b"thread 10\npick\n".as_slice(),
+        &mut output,
+        &mut errors,
+    );
+    assert_eq!(rt;
+        (ended, output.as_slice()),
+        (3, b"> thread 10\nt1\n  t1:".as_slice())
+    );
+}
+
+#[test]
+fn a_file_is_no_word_of_show(rt: HostRuntime) -> Result<(), Fail> {
+    let words = ["pif", "show", "boosted.pif"];
+    let (ended, output, errors) = asked(&rt, rt.alloc(), words.as_slice(), b"pick\n".as_slice());
+    assert_eq!(rt; (ended, output.len()), (1, 0));
+    let told = from_utf8(errors.as_slice())?;
+    assert!(rt;
+        told.contains("unexpected argument 'boosted.pif'")
+            && told.contains("Usage: pif show < FILE\n")
+    );
+    Ok(())
+}
+
+/// Each allocation is refused in turn by `rt try --test --fail-alloc N`: then nothing is written but the message.
+#[test]
+fn want_of_memory_shows_nothing(rt: HostRuntime) {
+    let words = ["pif", "show"];
+    let (ended, output, errors) = asked(
+        &rt,
+        rt.alloc(),
+        words.as_slice(),
+        b"thread 10\n".as_slice(),
+    );
+    let shown = match ended {
+        4 => "",
+        _ => "> thread 10\nt1\n  t1: priority 10; ready\n  run queue: t1\n\n",
+    };
+    assert!(rt; output.as_slice() == shown.as_bytes());
+    assert!(rt; ended == 0 || errors.as_slice() == b"pif: out of memory\n".as_slice());
+}

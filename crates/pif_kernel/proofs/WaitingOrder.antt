@@ -1,0 +1,81 @@
+-- Who stands at a place, of those that wait for one thing.
+use Rattle.std.proofs.Common.{◌≡◌, ℕ, zero, suc, ◌+◌, ◌-◌, ◌<◌, ◌==◌, List, [], ◌∷◌, ◌++◌, length, map, filter, Some, refl, sym, ap, ◌∙◌, arith}
+use Rattle.std.specs.List.{slice_get}
+use Rattle.pif_model.specs.Graph.{by_greatest}
+use Rattle.pif_model.specs.PiKernel.{level_at, levels_below, parked_pairs}
+use Rattle.pif_runq.specs.Levels.{all_below}
+use Rattle.pif_runq.proofs.Places.{slice_get-front, slice_get-behind, all_below-none, all_below-more}
+use Rattle.pif_kernel.specs.declared.parking.Parking.{Parking}
+use Rattle.pif_kernel.specs.Plain.{Plain, kernel_of, parkings_of}
+use Rattle.pif_kernel.proofs.Picked.{levels_seen}
+use Rattle.pif_kernel.proofs.Seats.{waiters_seen, parked_seen}
+use Rattle.pif_kernel.proofs.Standing.{level_same}
+
+module _ (f : ℕ → ℕ) where
+  module _ (us : List ℕ) (above k : ℕ) (l : above < 100) where
+    -- those of the greatest level that is left stand before the others
+    split : by_greatest f (100 - above) us ≡ filter (λ u. f u == (99 - above)) us ++ by_greatest f (99 - above) us
+    unfolding by_greatest
+    split = let e : 100 - above ≡ suc (99 - above) = omega arith in ap (λ (n : ℕ). by_greatest f n us) e
+
+    -- one of that level
+    pub by_greatest-found : (t : ℕ) → Some t ≡ slice_get (filter (λ u. f u == (99 - above)) us) k
+        → slice_get (by_greatest f (100 - above) us) k ≡ Some t
+    by_greatest-found t e =
+        ap (λ (vs : List ℕ). slice_get vs k) split
+        ∙ slice_get-front (filter (λ (u : ℕ). f u == (99 - above)) us) (by_greatest f (99 - above) us) k t (sym e)
+
+    -- one behind those of that level
+    pub by_greatest-passed : (left : ℕ) → left + length (filter (λ u. f u == (99 - above)) us) ≡ k
+        → slice_get (by_greatest f (100 - above) us) k ≡ slice_get (by_greatest f (100 - (above + 1)) us) left
+    by_greatest-passed left e =
+        ap (λ (vs : List ℕ). slice_get vs k) split
+        ∙ slice_get-behind (filter (λ (u : ℕ). f u == (99 - above)) us) (by_greatest f (99 - above) us) k left e
+        ∙ ap (λ (n : ℕ). slice_get (by_greatest f n us) left) (omega arith)
+
+  -- nobody is left
+  pub by_greatest-none : (us : List ℕ) → by_greatest f 0 us ≡ []
+  unfolding by_greatest
+  by_greatest-none us = refl
+
+-- pairs as they are
+same_pairs : (ws : List (ℕ × ℕ)) → map (λ w. w) ws ≡ ws
+same_pairs [] = refl
+same_pairs (w ∷ ws) = ap (λ (vs : List (ℕ × ℕ)). w ∷ vs) (same_pairs ws)
+
+-- the waiters of the kernel by itself, by those that are gone through
+pub waiters_gone_through : (p : Plain) (ws : List (ℕ × ℕ)) → ws ≡ p.arrivals
+    → map (λ w. w) ws ≡ (kernel_of p).waiters
+waiters_gone_through p ws e = same_pairs ws ∙ e ∙ sym (waiters_seen p)
+
+-- the pairs of some parked threads
+pairs_of_parked : (ps : List Parking) → map (λ (x : Parking). (x.thread, x.cond)) ps ≡ parked_pairs (parkings_of ps)
+pairs_of_parked [] = refl
+pairs_of_parked (x ∷ ps) = ap (λ (ws : List (ℕ × ℕ)). (x.thread, x.cond) ∷ ws) (pairs_of_parked ps)
+
+-- the parked threads of the kernel by itself, by those that are gone through
+pub parked_gone_through : (p : Plain) (ps : List Parking) → ps ≡ p.parked
+    → map (λ (x : Parking). (x.thread, x.cond)) ps ≡ parked_pairs (kernel_of p).parked
+parked_gone_through p ps e = pairs_of_parked ps ∙ ap (λ (xs : List Parking). parked_pairs (parkings_of xs)) e ∙ ap parked_pairs (sym (parked_seen p))
+
+-- a level, and those below it
+levels_below-more : (levels : List (List ℕ)) (n : ℕ) → levels_below levels (suc n) ≡ level_at levels n ++ levels_below levels n
+unfolding levels_below
+levels_below-more levels n = refl
+
+-- below level 0 is nobody
+levels_below-none : (levels : List (List ℕ)) → levels_below levels 0 ≡ []
+unfolding levels_below
+levels_below-none levels = refl
+
+-- the ready threads, by the run queue
+pub all_below-seen : (p : Plain) (n : ℕ) → n < 100
+    → all_below p.queue p.table (suc n) ≡ levels_below (kernel_of p).levels (suc n)
+all_below-seen p zero l =
+    all_below-none p.queue p.table
+    ∙ sym (levels_below-more (kernel_of p).levels 0
+    ∙ (λ i. levels_seen p 0 i ++ levels_below-none (kernel_of p).levels i))
+all_below-seen p (suc n) l =
+    all_below-more p.queue p.table (suc n) (omega arith)
+    ∙ (λ i. sym (level_same p (suc n) (omega arith, omega arith)) i ++ all_below-seen p n (omega arith) i)
+    ∙ sym (levels_below-more (kernel_of p).levels (suc n))

@@ -1,0 +1,7 @@
+-- Who stands before whom, of those that wait for one thing.
+use Rattle.std.specs.Prelude.{ℕ, ◌==◌, List, map}
+use Rattle.std.specs.List.{filter}
+
+-- the threads among these that wait for m with this effective priority, in their order
+abbrev pub waiting_with : (ℕ → ℕ) → ℕ → List (ℕ × ℕ) → ℕ → List ℕ
+waiting_with effective level ws m = filter (λ u. effective u == level) (map (λ w. w.0) (filter (λ w. w.1 == m) ws))

@@ -1,0 +1,37 @@
+ghost use Rattle.pif_show.specs.Extends.{Stays};
+
+use crate::pages::Page;
+use pif_types::{CondId, MutexId, Request, Tid};
+use std::io::Write;
+
+/// Writes that a thread is in this call, which stands there as in a script.
+pub fn show_call<W: Write>(request: Request, page: &mut Page, writer: &mut W)
+    ensures { Stays (W.contents writer.old) (W.contents writer.new) }
+{
+    match request {
+        Request::Lock(mutex) => page.mutex("; in lock ", mutex, writer),
+        Request::TryLock(mutex) => page.mutex("; in trylock ", mutex, writer),
+        Request::Unlock(mutex) => page.mutex("; in unlock ", mutex, writer),
+        Request::Consistent(mutex) => page.mutex("; in consistent ", mutex, writer),
+        Request::Wait(cond, mutex) => show_cond_wait(cond, mutex, page, writer),
+        Request::Signal(cond) => page.cond("; in signal ", cond, writer),
+        Request::Broadcast(cond) => page.cond("; in broadcast ", cond, writer),
+        Request::SetPrio(thread, priority) => show_setting(thread, priority, page, writer),
+    }
+}
+
+/// Writes that a thread is in a wait.
+fn show_cond_wait<W: Write>(cond: CondId, mutex: MutexId, page: &mut Page, writer: &mut W)
+    ensures { Stays (W.contents writer.old) (W.contents writer.new) }
+{
+    page.cond("; in wait ", cond, writer);
+    page.mutex(" ", mutex, writer);
+}
+
+/// Writes that a thread is about to set a priority.
+fn show_setting<W: Write>(thread: Tid, priority: u32, page: &mut Page, writer: &mut W)
+    ensures { Stays (W.contents writer.old) (W.contents writer.new) }
+{
+    page.thread("; in setprio ", thread, writer);
+    page.number(" ", priority, writer);
+}

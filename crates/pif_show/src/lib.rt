@@ -1,0 +1,29 @@
+//! What a core does, as text that a person reads at a glance: each thread, mutex and condition variable, the run queue,
+//! and who waits for whom.
+//!
+//! ```text
+//!   t1: priority 50 (base 10); ready; holds m1
+//!   t2: priority 50 (base 20); waits for m1, held by t1; in lock m1; holds m2
+//!   t3: priority 50; waits for m2, held by t2; in lock m2
+//!   m1: normal, fine; word t1 + WAITERS; owner t1; waiters t2
+//!   m2: normal, fine; word t2 + WAITERS; owner t2; waiters t3
+//!   run queue: t1
+//!   chain: t3 -> m2 -> t2 -> m1 -> t1
+//! ```
+//!
+//! What is empty is left out. The text is written in parts, and takes no memory.
+#![tactic(auto)]
+
+mod calls;
+mod chains;
+mod conds;
+mod mutexes;
+mod pages;
+mod queues;
+mod states;
+#[cfg(test)]
+mod tests;
+mod threads;
+
+pub use pages::Unwritten;
+pub use states::write_state;
