@@ -2,23 +2,32 @@
 """Prints what `rt ci` costs: processor seconds of each crate's proof, tests and must-fail edits.
 
     cd the top of a clone && python3 bench/gate_cost.py [--jobs N] [--parts proof,tests,edits] [--edits NAME,..] [CRATE ..]
+    .. && python3 bench/gate_cost.py --since COMMIT [the same]
 
 With no crate, those of crates.txt in their order, so that a crate is proved after those that it stands on. Each part is
 done as `rt ci` does it, by the toolchain's own `rt`: a proof starts from nothing, tests are proved over a proof from
-nothing and built, and a crate's first edit starts from nothing too. It is no test: the gate alone judges. What the
-toolchain says goes to standard error, the figures to standard output. The clock of a machine differs by two from day to
-day and with what else runs, so compare figures of one sitting on a quiet machine.
+nothing and built, and a crate's first edit starts from nothing too. A part that can't be built, or that stands on a crate
+without a library, is named as such and in no sum; the status is then 1. It is no test: the gate alone judges.
+
+With `--since COMMIT` two clones are made, of that commit and of HEAD, and each part is measured in one right after the
+other, so that what else the machine does falls on both alike.
+
+What the toolchain says goes to standard error, the figures to standard output. The clock of a machine differs by two from
+day to day and with what else runs, so compare figures of one sitting on a quiet machine.
 """
 import argparse
 import importlib.machinery
 import importlib.util
 import os
+import re
 import resource
 import shutil
+import subprocess
 import sys
 import tempfile
 
 PARTS = ("proof", "tests", "edits")
+MEASURED = re.compile(r"(\w+) (proof|tests|edits): ([0-9.]+) s$")
 
 
 def load_rt():
@@ -43,52 +52,82 @@ def processor_seconds():
 
 
 class Sitting:
-    """One run over some crates; keeps the sums."""
+    """One run over some crates; keeps the sums, and which parts could not be measured."""
 
     def __init__(self, rt, jobs, figures):
         self.rt = rt
         self.jobs = ["--jobs", str(jobs)]
         self.figures = figures
         self.sums = dict.fromkeys(PARTS, 0.0)
+        self.failed = []
 
     def say(self, text):
         print(text, file=self.figures, flush=True)
 
+    def fail(self, name, part, why):
+        self.failed.append(f"{name} {part}")
+        self.say(f"{name} {part}: NOT MEASURED: {why}")
+
     def timed(self, name, part, work):
+        """Measures a part; `work` answers why it could not be built, or nothing."""
         before = processor_seconds()
-        work()
+        why = work()
         spent = processor_seconds() - before
+        if why:
+            self.fail(name, part, why)
+            return
         self.sums[part] += spent
         self.say(f"{name} {part}: {spent:.1f} s")
 
+    def build(self, crate, tests):
+        return "it could not be built" if crate.ci(self.jobs, tests) else None
+
     def edits(self, crate, wanted):
         """Tries a crate's edits one after the other, over one another's work, as the gate does."""
-        good, _bad = self.rt.edits_of(crate)
         kept = tempfile.mkdtemp(prefix="gate-cost-")
+        bad = []
         try:
-            for edit in good:
+            for edit in self.rt.edits_of(crate)[0]:
                 name = os.path.basename(edit)
                 if wanted and not name.startswith(wanted):
                     continue
                 before = processor_seconds()
-                refused, _said = self.rt.must_fail(crate, edit, self.jobs, kept)
-                outcome = "" if refused else "  NOT REFUSED"
-                self.say(f"  {name}: {processor_seconds() - before:.1f} s{outcome}")
+                refused, said = self.rt.must_fail(crate, edit, self.jobs, kept)
+                if not refused:
+                    bad.append(name)
+                    print(said, file=sys.stderr)
+                self.say(f"  {name}: {processor_seconds() - before:.1f} s{'' if refused else '  NOT REFUSED'}")
         finally:
             shutil.rmtree(kept, ignore_errors=True)
+        return f"not refused: {', '.join(bad)}" if bad else None
 
     def crate(self, crate, parts, wanted):
         os.makedirs(os.path.join(crate.folder, "out"), exist_ok=True)
-        if "proof" in parts:
-            self.timed(crate.name, "proof", lambda: crate.ci(self.jobs, False))
-        if "tests" in parts and crate.has_tests():
-            self.timed(crate.name, "tests", lambda: crate.ci(self.jobs, True))
-        if "edits" in parts and self.rt.edits_of(crate)[0]:
-            self.timed(crate.name, "edits", lambda: self.edits(crate, wanted))
+        has = {"proof": True, "tests": crate.has_tests(), "edits": bool(self.rt.edits_of(crate)[0])}
+        work = {
+            "proof": lambda: self.build(crate, False),
+            "tests": lambda: self.build(crate, True),
+            "edits": lambda: self.edits(crate, wanted),
+        }
+        lacking = [below.name for below in crate.below() if not os.path.isdir(f"{below.folder}/out/rlib")]
+        for part in PARTS:
+            if part in parts and has[part]:
+                if lacking:
+                    self.fail(crate.name, part, f"there is no library of {', '.join(lacking)}")
+                else:
+                    self.timed(crate.name, part, work[part])
 
     def total(self):
         each = ", ".join(f"{part} {seconds / 60:.1f}" for part, seconds in self.sums.items())
         self.say(f"minutes: {each}, together {sum(self.sums.values()) / 60:.1f}")
+        if self.failed:
+            self.say(f"not measured, and in no sum: {', '.join(self.failed)}")
+
+
+def names_of(top):
+    """The crates of crates.txt, in their order."""
+    with open(os.path.join(top, "crates.txt"), encoding="utf-8") as lines:
+        return [line.split(":")[0].split()[0] for line in lines if ":" in line and line[0] != "#"]
 
 
 def crates_in_order(rt, top):
@@ -98,9 +137,65 @@ def crates_in_order(rt, top):
     rt.Crate.allowed = rt.handles_of(top)
     rt.rtlib.Crate = rt.Crate
     found = {crate.name: crate for crate in rt.rtlib.crates_below(top)}
-    with open(os.path.join(top, "crates.txt"), encoding="utf-8") as lines:
-        names = [line.split(":")[0].split()[0] for line in lines if ":" in line and line[0] != "#"]
-    return {name: found[name] for name in names}
+    return {name: found[name] for name in names_of(top)}
+
+
+def clone_of(top, commit, folder):
+    subprocess.run(["git", "clone", "-q", top, folder], check=True)
+    subprocess.run(["git", "-C", folder, "checkout", "-q", commit], check=True)
+    return folder
+
+
+def measured(clone, name, chosen):
+    """What one crate costs in one clone, by part, and what could not be measured, by a run of this program in it."""
+    words = [sys.executable, os.path.realpath(__file__), "--jobs", str(chosen.jobs), "--parts", chosen.parts]
+    words += ["--edits", chosen.edits, name]
+    done = subprocess.run(words, cwd=clone, stdout=subprocess.PIPE, text=True, check=False)
+    found = {}
+    for line in done.stdout.splitlines():
+        match = MEASURED.match(line)
+        if match:
+            found[match[2]] = float(match[3])
+    return found, [line for line in done.stdout.splitlines() if "NOT" in line]
+
+
+def in_turn(old, new):
+    """The crates of both clones, each as often as it stands in one; those of the older clone that are gone in their place."""
+    gone = [name for name in old if name not in new]
+    order = list(new)
+    for name in gone:
+        before = old[: old.index(name)]
+        place = max((order.index(other) + 1 for other in before if other in order), default=0)
+        order.insert(place, name)
+    return order
+
+
+def compare(chosen):
+    """Measures the crates of an older commit and of HEAD in turn, and prints both figures of each part."""
+    top = os.getcwd()
+    with tempfile.TemporaryDirectory(prefix="gate-cost-clones-") as room:
+        clones = [clone_of(top, chosen.since, f"{room}/old"), clone_of(top, "HEAD", f"{room}/new")]
+        there = [names_of(clone) for clone in clones]
+        sums, failed = [dict.fromkeys(PARTS, 0.0) for _ in clones], []
+        for name in chosen.crates or in_turn(*there):
+            costs = []
+            for clone, names, total in zip(clones, there, sums):
+                found, bad = measured(clone, name, chosen) if name in names else ({}, [])
+                failed += [f"{os.path.basename(clone)}: {line.strip()}" for line in bad]
+                costs.append(found)
+                for part, seconds in found.items():
+                    total[part] += seconds
+            for part in PARTS:
+                if any(part in found for found in costs):
+                    shown = [f"{found[part]:.1f} s" if part in found else "none" for found in costs]
+                    print(f"{name} {part}: {shown[0]} before, {shown[1]} after", flush=True)
+        for part in PARTS:
+            print(f"minutes of {part}: {sums[0][part] / 60:.1f} before, {sums[1][part] / 60:.1f} after")
+        both = [sum(total.values()) / 60 for total in sums]
+        print(f"minutes together: {both[0]:.1f} before, {both[1]:.1f} after")
+        for line in failed:
+            print(line)
+    return 1 if failed else 0
 
 
 def main():
@@ -108,19 +203,26 @@ def main():
     words.add_argument("--jobs", type=int, default=1, help="jobs of each check (1)")
     words.add_argument("--parts", default=",".join(PARTS), help="some of proof,tests,edits")
     words.add_argument("--edits", default="", help="only edits whose names begin so, joined by commas")
+    words.add_argument("--since", metavar="COMMIT", help="measure that commit and HEAD in turn, each in a clone of its own")
     words.add_argument("crates", nargs="*", metavar="CRATE")
     chosen = words.parse_args()
     if not os.path.exists("crates.txt"):
         sys.exit("gate_cost: run it at the top of a clone, where crates.txt stands")
+    if chosen.since:
+        return compare(chosen)
     figures = os.fdopen(os.dup(1), "w")
     os.dup2(2, 1)
     rt = load_rt()
     crates = crates_in_order(rt, os.getcwd())
+    unknown = [name for name in chosen.crates if name not in crates]
+    if unknown:
+        sys.exit(f"gate_cost: crates.txt has no {', '.join(unknown)}")
     sitting = Sitting(rt, chosen.jobs, figures)
     wanted = tuple(filter(None, chosen.edits.split(",")))
     for name in chosen.crates or crates:
         sitting.crate(crates[name], chosen.parts.split(","), wanted)
     sitting.total()
+    return 1 if sitting.failed else 0
 
 
-main()
+sys.exit(main())
