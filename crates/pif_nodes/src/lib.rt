@@ -21,6 +21,3 @@ mod table;
 pub use keys::Key;
 pub use numbers::{List, Node};
 pub use table::NodeTable;
-
-#[cfg(test)]
-mod tests;

@@ -18,6 +18,3 @@ mod plist;
 
 pub use order::precedes;
 pub use plist::PList;
-
-#[cfg(test)]
-mod tests;

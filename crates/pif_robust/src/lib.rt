@@ -26,6 +26,3 @@ mod links;
 mod lists;
 
 pub use lists::RobustLists;
-
-#[cfg(test)]
-mod tests;

@@ -23,6 +23,3 @@ mod masks;
 mod queue;
 
 pub use queue::RunQueue;
-
-#[cfg(test)]
-mod tests;

@@ -20,6 +20,3 @@ pub use limits::Limits;
 pub use numbers::{CondId, MutexId, Prio, Tid};
 pub use requests::{Health, Kind, Request};
 pub use room::{push_within, with_room};
-
-#[cfg(test)]
-mod tests;

@@ -37,6 +37,3 @@ pub use bits::{
 };
 pub use cells::Cell;
 pub use words::Words;
-
-#[cfg(test)]
-mod tests;

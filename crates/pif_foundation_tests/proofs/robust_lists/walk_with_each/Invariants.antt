@@ -1,5 +1,5 @@
 use Rattle.std.proofs.Common.{◌≡◌, length}
-use Rattle.pif_robust.proofs.tests.walk_with_each.Given as goal
+use Rattle.pif_foundation_tests.proofs.robust_lists.walk_with_each.Given as goal
 
 abbrev pub invariant-loop-number : goal.invariant-loop-number
 invariant-loop-number g l =

@@ -1,7 +1,7 @@
 ghost use Rattle.std.specs.Prelude.{◌≡◌, ◌<◌, length, replicate, []};
 ghost use Rattle.pif_nodes.specs.Table.{no_key};
 
-use crate::PList;
+use pif_plist::PList;
 use pif_nodes::{List, Node, NodeTable};
 use std::process::Abort;
 use std::test::Fail;

@@ -1,6 +1,6 @@
 ghost use Rattle.std.specs.Prelude.{◌≤◌};
 
-use crate::{
+use pif_word::{
     Cell, OWNER_DIED, Words, hand_word, has_waiters, mark_word, number, owner_died, release_word,
     take_word, taken_word,
 };

@@ -1,7 +1,7 @@
 -- What leaves a list leaves as many lists, and all keys.
 use Rattle.std.proofs.Common.{◌≡◌, List, ℕ, length, length-set, ap, ◌∙◌, arith}
 use Rattle.pif_nodes.specs.Table.{Table, with_list}
-use Rattle.pif_nodes.proofs.tests.move_to_head.Goals as goal
+use Rattle.pif_foundation_tests.proofs.nodes.move_to_head.Goals as goal
 
 -- another list leaves as many
 as_many : (t now : Table) (l : ℕ) (xs : List ℕ) → now ≡ with_list t l xs → length now.lists ≡ length t.lists

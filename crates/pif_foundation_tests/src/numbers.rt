@@ -1,4 +1,4 @@
-use crate::{
+use pif_types::{
     AddFault, CondId, Errno, Limits, MutexId, NoMemory, Prio, Refusal, Tid, push_within, with_room,
 };
 use std::alloc::Global;

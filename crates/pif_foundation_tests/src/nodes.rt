@@ -1,7 +1,7 @@
 ghost use Rattle.std.specs.Prelude.{◌≡◌, ◌<◌, length, replicate, [], ◌∷◌, Some};
 ghost use Rattle.pif_nodes.specs.Table.{no_key, holder};
 
-use super::*;
+use pif_nodes::{Key, List, Node, NodeTable};
 use std::process::Abort;
 use std::test::Fail;
 

@@ -1,7 +1,7 @@
 ghost use Rattle.std.specs.Prelude.{◌≡◌, ◌<◌, ◌≤◌, ℕ, length};
 ghost use Rattle.pif_model.specs.RobustList.{robust_at};
 
-use crate::RobustLists;
+use pif_robust::RobustLists;
 use pif_types::{Limits, MutexId, Tid};
 use std::process::Abort;
 use std::test::Fail;

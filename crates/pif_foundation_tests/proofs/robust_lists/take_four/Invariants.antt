@@ -1,6 +1,6 @@
 use Rattle.std.proofs.Common.{◌≡◌, ℕ, length}
 use Rattle.pif_model.specs.RobustList.{robust_at}
-use Rattle.pif_robust.proofs.tests.take_four.Given as goal
+use Rattle.pif_foundation_tests.proofs.robust_lists.take_four.Given as goal
 
 abbrev pub invariant-loop-number : goal.invariant-loop-number
 invariant-loop-number g l =
