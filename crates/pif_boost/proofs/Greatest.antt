@@ -11,7 +11,7 @@ use Rattle.pif_model.specs.Graph.Reaches.{here, hop}
 use Rattle.pif_chains.proofs.Following.{IsGreatestAt, reaches-from_within, all_apart, no_repeats, greatest_where_above, greatest_where_some}
 use Rattle.pif_chains.proofs.Greatest.{effective_above, effective_attained, effective_own, effective_same}
 use Rattle.pif_chains.proofs.Hops.{Reaches-then, alone, nobody, found, found_below}
-use Rattle.pif_rtmutex.specs.Owners.{Owners, Seat, Wait, no_seat, seat_at, owner_at, waits_on, waits_for, WaitsFor, IsSound}
+use Rattle.pif_owners.specs.Owners.{Owners, Seat, Wait, no_seat, seat_at, owner_at, waits_on, waits_for, WaitsFor, IsSound}
 use Rattle.pif_boost.specs.Boosts.{IsThread, base_of, local_of, greatest_base, greatest_waiting, with_rank_priority, with_effective, IsRepairedBut}
 
 -- for whom a thread with this wait waits

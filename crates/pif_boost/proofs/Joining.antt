@@ -11,7 +11,7 @@ use Rattle.pif_chains.proofs.Hops.{alone}
 use Rattle.pif_runq.specs.Levels.{Queue, IsLevel, level_of, level_with, Holds, IsQueued}
 use Rattle.pif_runq.proofs.LevelLemmas.{queued_on}
 use Rattle.pif_runq.proofs.LevelWithLemmas.{listed-from_level_with}
-use Rattle.pif_rtmutex.specs.Owners.{Owners, waits_on, waits_for, WaitsFor, IsSound}
+use Rattle.pif_owners.specs.Owners.{Owners, waits_on, waits_for, WaitsFor, IsSound}
 use Rattle.pif_boost.specs.Boosts.{IsThread, base_of, local_of, greatest_base, is_other, joins, IsRepairedBut}
 use Rattle.pif_boost.proofs.Greatest.{closes, waits_for-none, local_is_greatest}
 use Rattle.pif_boost.proofs.Walks.{admitted_row}

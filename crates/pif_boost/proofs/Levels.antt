@@ -11,7 +11,7 @@ use Rattle.pif_nodes.proofs.ListLemmas.{has-head, has-append, without_absent}
 use Rattle.pif_runq.specs.Levels.{Queue, IsLevel, level_of, level_with, Holds, level_after_move}
 use Rattle.std.proofs.lemmas.Option.{same_Some}
 use Rattle.pif_runq.proofs.LevelWithLemmas.{level_with-from_listed, listed-from_level_with}
-use Rattle.pif_rtmutex.specs.Owners.{Owners}
+use Rattle.pif_owners.specs.Owners.{Owners}
 use Rattle.pif_boost.specs.Boosts.{greatest_base, is_other, joins, level_after_walk}
 
 -- LISTS

@@ -16,8 +16,8 @@ use Rattle.pif_model.specs.Graph.{greatest_where}
 use Rattle.pif_chains.proofs.Greatest.{effective_step, greatest_where_same}
 use Rattle.pif_chains.proofs.Places.{kept_at}
 use Rattle.pif_runq.specs.Levels.{Queue, IsLevel, level_of, level_with, Holds, IsQueued}
-use Rattle.pif_rtmutex.specs.Owners.{Owners, Seat, Wait, no_seat, seat_at, owner_at, waits_for, rank_of, with_wait, IsTop}
-use Rattle.pif_rtmutex.proofs.OwnersLemmas.{seat_at-with_seat, seat_at-with_seat_other, some_rank}
+use Rattle.pif_owners.specs.Owners.{Owners, Seat, Wait, no_seat, seat_at, owner_at, waits_for, rank_of, with_wait, IsTop}
+use Rattle.pif_owners.proofs.OwnersLemmas.{seat_at-with_seat, seat_at-with_seat_other, some_rank}
 use Rattle.pif_boost.specs.Boosts.{IsThread, base_of, local_of, greatest_base, greatest_waiting, with_rank_priority, with_effective, is_other, joins, level_after_walk, threads_of, IsRepaired, IsRepairedBut, IsNext}
 use Rattle.pif_boost.proofs.Greatest.{out_waits}
 use Rattle.pif_boost.proofs.Levels.{has-filter}

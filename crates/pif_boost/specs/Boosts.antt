@@ -6,7 +6,7 @@ use Rattle.pif_nodes.specs.declared.keys.Key.{Key}
 use Rattle.pif_nodes.specs.Table.{Table}
 use Rattle.pif_runq.specs.Levels.{Queue, level_of, level_with, level_after_move}
 use Rattle.pif_model.specs.Graph.{reaches_within, effective_among, greatest_where}
-use Rattle.pif_rtmutex.specs.Owners.{Owners, Seat, Wait, seat_at, waits_on, rank_of, waits_for}
+use Rattle.pif_owners.specs.Owners.{Owners, Seat, Wait, seat_at, waits_on, rank_of, waits_for}
 
 -- t is a thread that has a seat
 abbrev pub IsThread : Owners → ℕ → Type 0

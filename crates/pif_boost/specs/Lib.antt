@@ -1,3 +1,2 @@
 pub mod Boosts
 pub mod Settled
-pub mod Examples

@@ -12,7 +12,7 @@ use Rattle.pif_model.specs.declared.lines.Status.{Status}
 use Rattle.pif_model.specs.declared.lines.Status.TheVariants.{Ready}
 use Rattle.pif_model.specs.declared.lines.Woken.TheVariants.{Fresh}
 use Rattle.pif_model.specs.PiKernel.{Kernel, IsKernel, queued_on, effective_in, level_at, levels_with, kernel_after_add}
-use Rattle.pif_rtmutex.specs.Owners.{Seat, Wait, seat_at, rank_of, no_seat, with_seat}
+use Rattle.pif_owners.specs.Owners.{Seat, Wait, seat_at, rank_of, no_seat, with_seat}
 use Rattle.pif_chains.proofs.KernelSettled.{priority-from_range}
 use Rattle.pif_chains.proofs.Places.{kept_at}
 use Rattle.pif_kernel.specs.Plain.{Plain, IsPlaced, IsSound, Rise, kernel_of, status_at, key_at, ticket_of}

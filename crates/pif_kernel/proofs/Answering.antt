@@ -12,7 +12,7 @@ use Rattle.pif_model.specs.Word.{Word, Words, word_of, word_at, has_word, set_wo
 use Rattle.pif_model.specs.PiKernel.{Kernel, state_at, is_living, waits_for, wait_answer, lock_answer, try_lock_answer, unlock_answer, set_prio_answer}
 use Rattle.pif_word.specs.declared.cells.Cell.TheVariants.{Mutex}
 use Rattle.pif_word.specs.WordMap.{WordMap, HasCell, bits_at, with_bits, words_of}
-use Rattle.pif_rtmutex.specs.Owners.{WaitsFor}
+use Rattle.pif_owners.specs.Owners.{WaitsFor}
 use Rattle.pif_chains.proofs.KernelFacts.{living-added}
 use Rattle.pif_chains.proofs.KernelSettled.{priority-from_range}
 use Rattle.pif_chains.proofs.Places.{mapped_at}

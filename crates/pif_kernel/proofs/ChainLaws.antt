@@ -4,7 +4,7 @@ use Rattle.std.proofs.Common.{◌≡◌, ◌≢◌, ℕ, ◌==◌, max, length, 
 use Rattle.std.proofs.Math.Path.{fun_ext}
 use Rattle.pif_nodes.specs.declared.keys.Key.{Key}
 use Rattle.pif_model.specs.Graph.{greatest_where}
-use Rattle.pif_rtmutex.specs.Owners.{Owners, rank_of, waits_for}
+use Rattle.pif_owners.specs.Owners.{Owners, rank_of, waits_for}
 use Rattle.pif_chains.proofs.Greatest.{effective_step}
 use Rattle.pif_boost.specs.Boosts.{IsRepairedBut, base_of, local_of, greatest_base}
 use Rattle.pif_boost.proofs.Greatest.{out_waits}

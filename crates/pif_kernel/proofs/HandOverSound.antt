@@ -15,10 +15,10 @@ use Rattle.pif_model.specs.declared.lines.Woken.TheVariants.{Fresh, Owns}
 use Rattle.pif_model.specs.Graph.{has_waiter, without}
 use Rattle.pif_model.specs.PiKernel.{Kernel, IsKernel, queued_on, is_ready, effective_in, has_seat, is_among, level_at, next_in, with_effective_levels, waits_for, levels_with, kernel_after_hand_over}
 use Rattle.pif_model.specs.PiKernel.{state_at as kernel_state_at, with_status, with_state}
-use Rattle.pif_rtmutex.specs.Owners.{Owners, Seat, Wait, seat_at, owner_at, count, waits_on, rank_of, no_seat, with_base, with_wait, with_owner, without_state, IsTop, HasNoWaiter}
-use Rattle.pif_rtmutex.specs.Owners.{waits_for as owners_wait_for}
-use Rattle.pif_rtmutex.proofs.MapLemmas.{get-insert_same, get-insert_other, get-remove_other}
-use Rattle.pif_rtmutex.proofs.OwnersLemmas.{some_rank}
+use Rattle.pif_owners.specs.Owners.{Owners, Seat, Wait, seat_at, owner_at, count, waits_on, rank_of, no_seat, with_base, with_wait, with_owner, without_state, IsTop, HasNoWaiter}
+use Rattle.pif_owners.specs.Owners.{waits_for as owners_wait_for}
+use Rattle.pif_owners.proofs.MapLemmas.{get-insert_same, get-insert_other, get-remove_other}
+use Rattle.pif_owners.proofs.OwnersLemmas.{some_rank}
 use Rattle.pif_boost.specs.Boosts.{IsRepairedBut, base_of, local_of, greatest_base}
 use Rattle.pif_chains.proofs.Places.{kept_at}
 use Rattle.pif_chains.proofs.Among.{is_among as is_waiter}

@@ -11,11 +11,11 @@ use Rattle.pif_model.specs.declared.lines.Status.TheVariants.{Queued}
 use Rattle.pif_model.specs.Graph.{has_waiter, without}
 use Rattle.pif_model.specs.PiKernel.{queued_on, is_ready, is_parked, has_seat, is_among, waits_for}
 use Rattle.pif_model.specs.PiKernel.{seat_at as kernel_seat_at}
-use Rattle.pif_rtmutex.specs.Owners.{Owners, Seat, Wait, seat_at, owner_at, count, waits_on, no_seat, with_wait, without_state, HasNoWaiter}
-use Rattle.pif_rtmutex.proofs.MapLemmas.{get-remove_other}
+use Rattle.pif_owners.specs.Owners.{Owners, Seat, Wait, seat_at, owner_at, count, waits_on, no_seat, with_wait, without_state, HasNoWaiter}
+use Rattle.pif_owners.proofs.MapLemmas.{get-remove_other}
 use Rattle.pif_chains.proofs.Among.{is_among as is_waiter}
 use Rattle.pif_chains.proofs.Waiting.{names, Once, without-unnamed, has_waiter-from_pair, has_waiter-without_other, waited-from_pair}
-use Rattle.pif_kernel.specs.declared.parking.Parking.{Parking}
+use Rattle.pif_kernel.specs.declared.parkings.Parking.{Parking}
 use Rattle.pif_kernel.specs.Plain.{Plain, IsSound, kernel_of, status_at, key_at, state_at, ticket_of, mutexes_of, parked_but}
 use Rattle.pif_kernel.specs.Leaving.{IsLeft}
 use Rattle.pif_kernel.proofs.Seats.{status_seen, waits_seen, added_seen, waiters_seen}

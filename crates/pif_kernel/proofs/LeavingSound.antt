@@ -10,8 +10,8 @@ use Rattle.pif_model.specs.declared.lines.Woken.TheVariants.{Fresh}
 use Rattle.pif_model.specs.Graph.{has_waiter, without}
 use Rattle.pif_model.specs.PiKernel.{Kernel, queued_on, is_ready, effective_in, has_seat, is_among, is_living, level_at, with_effective_levels, waits_for, kernel_after_leaving}
 use Rattle.pif_model.specs.PiKernel.{state_at as kernel_state_at}
-use Rattle.pif_rtmutex.specs.Owners.{Seat, Wait, seat_at, owner_at, waits_on, rank_of}
-use Rattle.pif_rtmutex.specs.Owners.{waits_for as owners_wait_for}
+use Rattle.pif_owners.specs.Owners.{Seat, Wait, seat_at, owner_at, waits_on, rank_of}
+use Rattle.pif_owners.specs.Owners.{waits_for as owners_wait_for}
 use Rattle.pif_boost.specs.Boosts.{IsRepairedBut}
 use Rattle.pif_chains.proofs.KernelFacts.{living-added, queued-from_number}
 use Rattle.pif_chains.proofs.KernelEnded.{kernel_with_leaving, left_is, state-left, waits-left_other, waits-left_same, leaving_kept}

@@ -9,7 +9,7 @@ use Rattle.pif_nodes.specs.Lists.{has}
 use Rattle.pif_nodes.specs.Table.{Table}
 use Rattle.pif_runq.specs.Levels.{Queue, Holds, IsLevel, level_of, level_with}
 use Rattle.pif_runq.proofs.LevelWithLemmas.{level_with-from_listed, listed-from_level_with}
-use Rattle.pif_rtmutex.specs.Owners.{Owners}
+use Rattle.pif_owners.specs.Owners.{Owners}
 use Rattle.pif_boost.specs.Boosts.{greatest_base, is_other, joins}
 use Rattle.pif_boost.specs.Boosts.{level_after_walk}
 use Rattle.pif_model.specs.Graph.{is_priority}

@@ -8,10 +8,10 @@ use Rattle.pif_model.specs.declared.lines.Status.TheVariants.{Ready}
 use Rattle.pif_model.specs.declared.lines.Woken.TheVariants.{Fresh}
 use Rattle.pif_model.specs.PiKernel.{IsKernel, queued_on, effective_in, waits_for}
 use Rattle.pif_model.specs.PiKernel.{seat_at as kernel_seat_at}
-use Rattle.pif_rtmutex.specs.Owners.{seat_at}
+use Rattle.pif_owners.specs.Owners.{seat_at}
 use Rattle.pif_chains.proofs.Greatest.{effective_same}
 use Rattle.pif_chains.proofs.Places.{kept_at}
-use Rattle.pif_kernel.specs.declared.parking.Parking.{Parking}
+use Rattle.pif_kernel.specs.declared.parkings.Parking.{Parking}
 use Rattle.pif_kernel.specs.Plain.{Plain, IsPlaced, IsSound, kernel_of, status_at, key_at, state_at}
 use Rattle.pif_kernel.proofs.Seats.{IsFitted, base_seen, waits_seen, seats_length}
 use Rattle.pif_kernel.proofs.Standing.{fits, listed_kept}

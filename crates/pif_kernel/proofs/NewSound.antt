@@ -11,7 +11,7 @@ use Rattle.pif_model.specs.declared.lines.Woken.TheVariants.{Fresh}
 use Rattle.pif_model.specs.Graph.{is_priority}
 use Rattle.pif_model.specs.PiKernel.{IsKernel, queued_on, new_kernel, effective_in}
 use Rattle.pif_model.specs.PiKernel.{Seat as KernelSeat, no_seat as no_kernel_seat}
-use Rattle.pif_rtmutex.specs.Owners.{Seat, Wait, seat_at, no_seat}
+use Rattle.pif_owners.specs.Owners.{Seat, Wait, seat_at, no_seat}
 use Rattle.pif_chains.proofs.Greatest.{effective_most}
 use Rattle.pif_chains.proofs.KernelKept.{new_kernel_kept}
 use Rattle.pif_chains.proofs.KernelLevels.{length-levels_by}

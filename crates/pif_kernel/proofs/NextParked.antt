@@ -10,7 +10,7 @@ use Rattle.pif_model.specs.PiKernel.{Parking as KernelParking, parked_pairs, eff
 use Rattle.pif_chains.proofs.Among.{is_among_here, is_among_there}
 use Rattle.pif_chains.proofs.KernelParks.{parked_pairs-push}
 use Rattle.pif_chains.proofs.KernelWoken.{added-from_parked}
-use Rattle.pif_kernel.specs.declared.parking.Parking.{Parking}
+use Rattle.pif_kernel.specs.declared.parkings.Parking.{Parking}
 use Rattle.pif_kernel.specs.Plain.{Plain, IsSound, kernel_of, parking_of, parkings_of}
 use Rattle.pif_kernel.proofs.Seats.{parked_seen}
 use Rattle.pif_kernel.proofs.Standing.{effective_level}

@@ -4,7 +4,7 @@ use Rattle.std.proofs.lemmas.Bool.{true≢false}
 use Rattle.pif_model.specs.PiKernel.{parked_pairs, unparked}
 use Rattle.pif_model.specs.PiKernel.{Parking as KernelParking}
 use Rattle.pif_chains.proofs.Waiting.{by_test, names}
-use Rattle.pif_kernel.specs.declared.parking.Parking.{Parking}
+use Rattle.pif_kernel.specs.declared.parkings.Parking.{Parking}
 use Rattle.pif_kernel.specs.Plain.{parking_of, parkings_of, parked_but}
 
 -- the parked threads but one

@@ -9,8 +9,8 @@ use Rattle.pif_model.specs.declared.lines.Status.TheVariants.{Queued}
 use Rattle.pif_model.specs.Graph.{reaches_within, Reaches}
 use Rattle.pif_model.specs.PiKernel.{Kernel, queued_on, has_seat, is_living, is_ready, effective_in, waits_for, kernel_after_queueing}
 use Rattle.pif_model.specs.PiKernel.{seat_at as kernel_seat_at, state_at as kernel_state_at}
-use Rattle.pif_rtmutex.specs.Owners.{Owners, Seat, Wait, no_seat, seat_at, owner_at, waits_on, with_wait, WaitsFor}
-use Rattle.pif_rtmutex.specs.Owners.{waits_for as owners_wait_for}
+use Rattle.pif_owners.specs.Owners.{Owners, Seat, Wait, no_seat, seat_at, owner_at, waits_on, with_wait, WaitsFor}
+use Rattle.pif_owners.specs.Owners.{waits_for as owners_wait_for}
 use Rattle.pif_chains.proofs.KernelFacts.{living-added}
 use Rattle.pif_chains.proofs.Following.{Follows, within-from_reaches}
 use Rattle.pif_kernel.specs.Plain.{Plain, IsSound, IsOpened, Rise, kernel_of, status_at, key_at, state_at, ticket_of}

@@ -14,9 +14,9 @@ use Rattle.pif_model.specs.declared.lines.Woken.TheVariants.{Fresh}
 use Rattle.pif_model.specs.Graph.{reaches_within, has_waiter}
 use Rattle.pif_model.specs.PiKernel.{queued_on, is_ready, effective_in, has_seat, is_among, is_living, level_at, with_effective_levels, waits_for, levels_without, kernel_after_queueing}
 use Rattle.pif_model.specs.PiKernel.{seat_at as kernel_seat_at, state_at as kernel_state_at, with_status, with_state}
-use Rattle.pif_rtmutex.specs.Owners.{Owners, Seat, Wait, seat_at, owner_at, count, waits_on, rank_of, no_seat, with_wait, with_owner}
-use Rattle.pif_rtmutex.specs.Owners.{waits_for as owners_wait_for}
-use Rattle.pif_rtmutex.proofs.MapLemmas.{get-insert_same, get-insert_other}
+use Rattle.pif_owners.specs.Owners.{Owners, Seat, Wait, seat_at, owner_at, count, waits_on, rank_of, no_seat, with_wait, with_owner}
+use Rattle.pif_owners.specs.Owners.{waits_for as owners_wait_for}
+use Rattle.pif_owners.proofs.MapLemmas.{get-insert_same, get-insert_other}
 use Rattle.pif_boost.specs.Boosts.{IsRepairedBut}
 use Rattle.pif_chains.proofs.KernelFacts.{living-added, queued-from_number}
 use Rattle.pif_chains.proofs.KernelKept.{queueing_kept}

@@ -11,7 +11,7 @@ use Rattle.pif_model.specs.PiKernel.{seat_at as kernel_seat_at}
 use Rattle.pif_chains.proofs.KernelKept.{stop_kept}
 use Rattle.pif_chains.proofs.KernelRested.{kernel-parked}
 use Rattle.pif_chains.proofs.Statuses.{ready-queued_on_nothing}
-use Rattle.pif_kernel.specs.declared.parking.Parking.{Parking}
+use Rattle.pif_kernel.specs.declared.parkings.Parking.{Parking}
 use Rattle.pif_kernel.specs.Plain.{Plain, IsSound, kernel_of, status_at, parking_of, parkings_of}
 use Rattle.pif_kernel.proofs.Seats.{status_seen, kernel_by_parts, seats_of-set_status}
 use Rattle.pif_kernel.proofs.Picked.{levels_left, length-left}

@@ -9,8 +9,8 @@ use Rattle.pif_model.specs.PiKernel.{Kernel, queued_on, has_ended, has_seat, is_
 use Rattle.pif_model.specs.PiKernel.{Seat as KernelSeat, seat_at as kernel_seat_at, no_seat as no_kernel_seat, state_at as kernel_state_at}
 use Rattle.pif_chains.proofs.Numbers.{from_within, within}
 use Rattle.pif_chains.proofs.Places.{mapped_at}
-use Rattle.pif_rtmutex.specs.Owners.{Seat, seat_at, owner_at, no_seat, waits_on}
-use Rattle.pif_rtmutex.specs.Owners.{waits_for as owners_wait_for}
+use Rattle.pif_owners.specs.Owners.{Seat, seat_at, owner_at, no_seat, waits_on}
+use Rattle.pif_owners.specs.Owners.{waits_for as owners_wait_for}
 use Rattle.pif_kernel.specs.Plain.{Plain, IsPlaced, kernel_of, parkings_of, owner_under, seat_of, seats_of, status_at, key_at, state_at}
 
 pub length-seats_of : (xs : List Status) (rows : List Seat) → length xs ≤ length rows

@@ -8,7 +8,7 @@ use Rattle.pif_runq.specs.Levels.{Queue, IsQueued, IsLevel, level_of, list_for, 
 use Rattle.pif_runq.proofs.LevelLemmas.{has-threads}
 use Rattle.pif_model.specs.PiKernel.{IsKernel, effective_in, is_among, is_living, is_ready, has_seat, level_at}
 use Rattle.pif_model.specs.PiKernel.{seat_at as kernel_seat_at}
-use Rattle.pif_rtmutex.specs.Owners.{seat_at}
+use Rattle.pif_owners.specs.Owners.{seat_at}
 use Rattle.pif_chains.proofs.KernelFacts.{living-added}
 use Rattle.pif_chains.proofs.KernelSettled.{effective_range}
 use Rattle.pif_kernel.specs.Plain.{Plain, IsListed, IsSound, kernel_of}

@@ -7,8 +7,8 @@ use Rattle.pif_model.specs.declared.lines.Status.{Status}
 use Rattle.pif_model.specs.declared.lines.Status.TheVariants.{Ready, Queued, Parked, Stopped, Ended}
 use Rattle.pif_model.specs.Graph.{next_waiter, IsNextWaiter}
 use Rattle.pif_model.specs.PiKernel.{queued_on, effective_in, next_in}
-use Rattle.pif_rtmutex.specs.Owners.{seat_at, waits_on, rank_of, IsTop}
-use Rattle.pif_rtmutex.proofs.OwnersLemmas.{some_rank}
+use Rattle.pif_owners.specs.Owners.{seat_at, waits_on, rank_of, IsTop}
+use Rattle.pif_owners.proofs.OwnersLemmas.{some_rank}
 use Rattle.pif_chains.proofs.Among.{is_among_cons, is_among_here, is_among_there}
 use Rattle.pif_chains.proofs.Among.{is_among as is_waiter}
 use Rattle.pif_chains.proofs.Next.{next_is_next}

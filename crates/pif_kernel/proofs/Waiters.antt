@@ -7,7 +7,7 @@ use Rattle.pif_model.specs.declared.lines.Status.TheVariants.{Ready, Queued, Par
 use Rattle.pif_model.specs.Graph.{has_waiter}
 use Rattle.pif_model.specs.PiKernel.{queued_on, is_ready, has_seat}
 use Rattle.pif_model.specs.PiKernel.{seat_at as kernel_seat_at, state_at as kernel_state_at}
-use Rattle.pif_rtmutex.specs.Owners.{Seat, Wait, owner_at, count, waits_on}
+use Rattle.pif_owners.specs.Owners.{Seat, Wait, owner_at, count, waits_on}
 use Rattle.pif_chains.proofs.Statuses.{ready-queued_on_nothing}
 use Rattle.pif_chains.proofs.Waiting.{names, named-from_pair, has_waiter-from_pair}
 use Rattle.pif_chains.proofs.Among.{is_among_here, is_among_there}

@@ -5,7 +5,7 @@ use Rattle.pif_model.specs.Graph.{by_greatest}
 use Rattle.pif_model.specs.PiKernel.{level_at, levels_below, parked_pairs}
 use Rattle.pif_runq.specs.Levels.{all_below}
 use Rattle.pif_runq.proofs.Places.{slice_get-front, slice_get-behind, all_below-none, all_below-more}
-use Rattle.pif_kernel.specs.declared.parking.Parking.{Parking}
+use Rattle.pif_kernel.specs.declared.parkings.Parking.{Parking}
 use Rattle.pif_kernel.specs.Plain.{Plain, kernel_of, parkings_of}
 use Rattle.pif_kernel.proofs.Picked.{levels_seen}
 use Rattle.pif_kernel.proofs.Seats.{waiters_seen, parked_seen}

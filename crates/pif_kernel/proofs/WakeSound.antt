@@ -9,7 +9,7 @@ use Rattle.pif_model.specs.declared.lines.Status.TheVariants.{Ready, Queued, Par
 use Rattle.pif_model.specs.declared.lines.Woken.{Woken}
 use Rattle.pif_model.specs.PiKernel.{IsKernel, queued_on, has_seat, is_ready, is_parked, level_at, effective_in, levels_with, kernel_after_waking}
 use Rattle.pif_model.specs.PiKernel.{seat_at as kernel_seat_at}
-use Rattle.pif_rtmutex.specs.Owners.{seat_at}
+use Rattle.pif_owners.specs.Owners.{seat_at}
 use Rattle.pif_chains.proofs.KernelWoken.{added-from_parked, kernel-woken}
 use Rattle.pif_kernel.specs.Plain.{Plain, IsSound, kernel_of, status_at, parked_but}
 use Rattle.pif_kernel.proofs.Seats.{status_seen, added_seen, kernel_by_parts, seats_of-set_status}

@@ -9,7 +9,7 @@ use Rattle.pif_nodes.specs.Table.{Table}
 use Rattle.pif_runq.specs.Levels.{Queue, Holds, IsLevel, IsQueued, level_of}
 use Rattle.pif_model.specs.PiKernel.{Kernel, IsKernel, effective_in, is_among, level_at, with_effective_levels, waits_for}
 use Rattle.pif_model.specs.PiKernel.{seat_at as kernel_seat_at}
-use Rattle.pif_rtmutex.specs.Owners.{Owners, Seat, Wait, seat_at, owner_at, count, waits_on, rank_of, no_seat}
+use Rattle.pif_owners.specs.Owners.{Owners, Seat, Wait, seat_at, owner_at, count, waits_on, rank_of, no_seat}
 use Rattle.pif_boost.specs.Boosts.{IsRepaired, IsRepairedBut, base_of, local_of, greatest_base}
 use Rattle.pif_boost.specs.Boosts.{with_effective, with_rank_priority}
 use Rattle.pif_boost.specs.Boosts.{level_after_walk}

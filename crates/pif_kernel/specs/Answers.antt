@@ -2,9 +2,7 @@
 use Rattle.std.specs.Prelude.{Result, Ok, Err}
 use Rattle.pif_types.specs.declared.errors.Errno.{Errno}
 use Rattle.pif_model.specs.declared.lines.Took.{Took}
-use Rattle.pif_model.specs.declared.lines.Took.TheVariants.{Owns, Queued}
-use Rattle.pif_kernel.specs.declared.refusals.Found.{Found}
-use Rattle.pif_kernel.specs.declared.refusals.Found.TheVariants.{Free, Held}
+use Rattle.pif_model.specs.declared.lines.Took.TheVariants.{Queued}
 
 -- a call's answer, where success says no more
 abbrev pub unit_answer : Result (Unit {0}) Errno → Result (record {}) Errno
@@ -20,9 +18,3 @@ test_answer (Err e) = Err e
 abbrev pub wait_test_answer : Result (Unit {0}) Errno → Result Took Errno
 wait_test_answer (Ok x) = Ok Queued
 wait_test_answer (Err e) = Err e
-
--- what lock_pi answers, by what it found
-abbrev pub lock_test_answer : Result Found Errno → Result Took Errno
-lock_test_answer (Ok (Free word)) = Ok Owns
-lock_test_answer (Ok (Held word owner key)) = Ok Queued
-lock_test_answer (Err e) = Err e

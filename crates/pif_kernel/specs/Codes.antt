@@ -8,8 +8,8 @@ use Rattle.pif_model.specs.declared.lines.Woken.TheVariants.{Fresh, Owns, Again}
 use Rattle.pif_nodes.specs.declared.keys.Key.{Key}
 use Rattle.pif_nodes.specs.Table.{Table}
 use Rattle.pif_runq.specs.Levels.{Queue}
-use Rattle.pif_rtmutex.specs.Owners.{Owners, owners_code, rank_code}
-use Rattle.pif_kernel.specs.declared.parking.Parking.{Parking}
+use Rattle.pif_owners.specs.Owners.{Owners, owners_code, rank_code}
+use Rattle.pif_kernel.specs.declared.parkings.Parking.{Parking}
 use Rattle.pif_kernel.specs.Plain.{Plain}
 
 abbrev pub bounds_code : Coded Bounds

@@ -4,7 +4,7 @@ use Rattle.pif_nodes.specs.Lists.{without as list_without}
 use Rattle.pif_runq.specs.Levels.{Holds, IsLevel, level_of}
 use Rattle.pif_model.specs.Graph.{has_waiter, without}
 use Rattle.pif_model.specs.PiKernel.{waits_for}
-use Rattle.pif_rtmutex.specs.Owners.{seat_at, owner_at, count}
+use Rattle.pif_owners.specs.Owners.{seat_at, owner_at, count}
 use Rattle.pif_kernel.specs.Plain.{Plain, kernel_of, key_at, mutexes_of, parked_but}
 
 -- t has left: it waits for nothing, is not parked, and is on no level, and an owner state stays exactly where others

@@ -2,9 +2,7 @@ pub use Rattle.pif_model.specs.PiKernel
 pub mod Answers
 pub mod Plain
 pub mod Codes
-pub mod Fields
 pub mod Leaving
-pub mod Found
 pub mod Tickets
 pub mod Systems
 pub mod Takings

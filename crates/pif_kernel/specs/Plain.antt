@@ -11,8 +11,8 @@ use Rattle.pif_model.specs.PiKernel.{Seat as KernelSeat, Parking as KernelParkin
 use Rattle.pif_nodes.specs.declared.keys.Key.{Key}
 use Rattle.pif_nodes.specs.Table.{Table, no_key}
 use Rattle.pif_runq.specs.Levels.{Queue, Holds, level_of}
-use Rattle.pif_kernel.specs.declared.parking.Parking.{Parking}
-use Rattle.pif_rtmutex.specs.Owners.{Owners, Seat, seat_at, owner_at, count, waits_on, rank_of, no_seat, no_owners, with_owner}
+use Rattle.pif_kernel.specs.declared.parkings.Parking.{Parking}
+use Rattle.pif_owners.specs.Owners.{Owners, Seat, seat_at, owner_at, count, waits_on, rank_of, no_seat, no_owners, with_owner}
 
 -- what the kernel of this crate keeps
 pub record Plain : Type 0 where

@@ -56,10 +56,6 @@
 //! several the first that was parked. In the last row n lives not, is u, or waits for u through a chain: u is woken,
 //! and locks the mutex itself.
 //!
-//! A parked thread has no ticket of its own: all that a ticket says of it is its place among the parked, which stand in
-//! one list in that order, and once it is queued it gets a new one. So only tickets of waiters are ever numbered anew.
-//! Its effective priority is read where a thread is taken; set_prio and boosts change nothing in the list.
-//!
 //! exit refuses nothing. `t` itself leaves the mutex on which it is queued, or the variable on which it is parked. Then
 //! it goes through the mutexes that its robust list and its pending field name, and touches each whose word has n = t,
 //! and where s, if there is one, is t too. A word without s loses its number, gets OWNER_DIED, and keeps WAITERS.
@@ -69,29 +65,13 @@
 //! now, equals in arrival, and the ready threads by their levels, those of one level in order of joining. `pick` is the
 //! first of the ready threads.
 //!
-//! `PlainKernel` makes a call of its steps, which stand in eight files over the same parts: `refusals` has the tests of
-//! the calls, `threads` adds and stops a thread and gives it another priority, `queueing` queues a thread and hands a
-//! mutex over, `parking` parks a thread, wakes it, and finds the next, `requeueing` takes parked threads for their
-//! mutex, `leaving` takes a thread that ends off what it waits for, `dying` passes its mutexes on, and `tickets`
-//! numbers the waiters in their order. `orders` reads who stands at which place. `parts` keeps what they touch.
+//! `PiKernel` is the trait that a kernel meets; `pif_plain` has one that does. What both it and any other are seen as is
+//! in `specs/Plain.antt`, and what follows of the calls from that in `proofs/`.
 #![tactic(auto)]
 
-mod dying;
 mod kernel;
-mod leaving;
-mod orders;
-mod parking;
-mod parts;
-mod plain;
-mod queueing;
-mod refusals;
-mod requeueing;
-mod threads;
-mod tickets;
+mod parkings;
 
 pub use kernel::PiKernel;
+pub use parkings::Parking;
 pub use pif_model::{Status, Took, Woken};
-pub use plain::PlainKernel;
-
-#[cfg(test)]
-mod tests;

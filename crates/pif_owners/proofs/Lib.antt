@@ -1,0 +1,3 @@
+pub mod MapLemmas
+pub mod OwnersLemmas
+pub mod PrioLemmas

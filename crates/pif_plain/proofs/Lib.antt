@@ -1,0 +1,5 @@
+pub mod StateFieldsLemmas
+pub mod TopLemmas
+pub mod StateTestLemmas
+pub mod Propagation
+pub mod WalkTestLemmas

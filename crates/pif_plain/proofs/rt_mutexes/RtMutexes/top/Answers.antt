@@ -1,0 +1,12 @@
+use Rattle.std.proofs.Common.{◌≡◌, length, arith, ap, subst}
+use Rattle.pif_owners.specs.Owners.{Owners, IsSound}
+use Rattle.pif_plain.proofs.TopLemmas.{first-some, top-state}
+use Rattle.pif_plain.proofs.rt_mutexes.RtMutexes.top.Goals as goal
+
+pub returns-clause-top : goal.returns-clause-top
+returns-clause-top c =
+    let all : c.loop-t.t ≡ length c.args.self.now.seats = omega (arith, c.len-t-end.ensures, ap (λ (v : Owners). length v.seats) c.self.view_is, c.self.inside.rows.ok) in
+    first-some c.new.result c.args.self.now c.args.key c.loop-t.t c.loop-t.first all c.new.ensures.valid c.new.ensures.value c.loop-t.invariant
+
+pub returns-clause-state : goal.returns-clause-state
+returns-clause-state c = top-state c.new.result c.args.self.now c.args.key (subst IsSound c.self.view_is c.self.invariant.sound) (returns-clause-top c)

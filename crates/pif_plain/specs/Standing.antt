@@ -1,0 +1,19 @@
+-- The waiters of one owner state, in their order.
+use Rattle.std.specs.Prelude.{ℕ, Bool, true, false, ◌==◌, if◌then◌else◌, Option, Some, None, option_and_then}
+use Rattle.pif_nodes.specs.declared.keys.Key.{Key}
+use Rattle.pif_plist.specs.Order.{comes_before}
+use Rattle.pif_owners.specs.Owners.{Owners, Wait, seat_at}
+
+-- the rank of a wait on a state; None where it is on another
+abbrev pub rank_on : ℕ → Wait → Option Key
+rank_on k w = if w.state == k then Some w.rank else None
+
+-- the rank with which a thread stands among the waiters of a state; None where it doesn't wait there
+abbrev pub standing : Owners → ℕ → ℕ → Option Key
+standing v k t = option_and_then (rank_on k) (seat_at v t).wait
+
+-- whether who stands so leads who stands so: nobody leads, all others lead nobody, and two waiters are in their order
+abbrev pub leads : Option Key → Option Key → Bool
+leads None other = false
+leads (Some mine) None = true
+leads (Some mine) (Some other) = comes_before mine other

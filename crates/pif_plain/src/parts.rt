@@ -1,0 +1,143 @@
+ghost use Rattle.std.specs.Prelude.{◌≡◌, ◌<◌, ◌==◌, true, length, if◌then◌else◌, Some, None, IfOk, replicate};
+ghost use Rattle.pif_types.specs.Bounds.{IsWithin};
+ghost use Rattle.pif_runq.specs.Levels.{Holds};
+ghost use Rattle.pif_model.specs.PiKernel.{seat_at, has_seat, is_living, effective_in, pick_in};
+ghost use Rattle.pif_kernel.specs.Plain.{IsSound, kernel_of, new_plain, key_at};
+
+use crate::rows::Key;
+use crate::rt_mutexes::RtMutexes;
+use pif_kernel::Parking;
+use pif_model::{Status, Woken};
+use pif_nodes::NodeTable;
+use pif_runq::RunQueue;
+use pif_types::{Limits, MutexId, NoMemory, Prio, Tid, push_within, with_room};
+use std::alloc::Global;
+use std::marker::Model;
+
+/// The lists of the run queue: one for each level.
+const LEVELS: u32 = 99;
+
+/// The places for keys: one for each of the 1,024 mutexes that can be, and one for number 0.
+const KEYS: usize = 1025;
+
+/// What a kernel keeps: the status of each thread, the key of each mutex that has an owner state, the owner states, the
+/// run queue with its table, and in order of tickets who is queued where and who is parked where.
+#[derive(Drop)]
+pub struct Parts {
+    pub(crate) limits: Limits,
+    pub(crate) statuses: Vec<Status>,
+    pub(crate) keys: Vec<Option<Key>>,
+    pub(crate) owners: RtMutexes,
+    pub(crate) queue: RunQueue,
+    pub(crate) table: NodeTable,
+    pub(crate) arrivals: Vec<(Tid, MutexId)>,
+    pub(crate) parked: Vec<Parking>,
+    pub(crate) next: u64,
+}
+
+impl Model for Parts {
+    ghost use Rattle.pif_kernel.specs.Plain.{Plain};
+    ghost use Rattle.pif_kernel.specs.Codes.{plain_code};
+
+    ghost Value = { Plain };
+
+    ghost coded = { plain_code };
+
+    ghost use Rattle.pif_plain.specs.Fields.{plain_of, IsRoomy};
+
+    ghost view = { plain_of };
+
+    ghost invariant = { IsRoomy };
+}
+
+impl Parts {
+    /// The parts of a kernel to which nothing was added, whose first ticket is `first_ticket`. It takes all the memory
+    /// that it will ever need.
+    pub(crate) fn new(alloc: Global, limits: Limits, first_ticket: u64) -> Result<Parts, NoMemory>
+        ensures made { IfOk result (λ p. p ≡ new_plain limits first_ticket) }
+        ensures within { IfOk result (λ p. IsWithin p.limits) }
+        ensures holds { IfOk result (λ p. Holds p.queue p.table) }
+    {
+        let threads = limits.threads();
+        let mut statuses = with_room(alloc, threads as usize + 1)?;
+        push_within(&mut statuses, Status::Ready(Woken::Fresh));
+        let keys = empty_places(alloc, KEYS)?;
+        let owners = RtMutexes::new(alloc, threads)?;
+        let table = NodeTable::new(alloc, threads, LEVELS)?;
+        let arrivals = with_room(alloc, threads as usize)?;
+        let parked = with_room(alloc, threads as usize)?;
+        Ok(Parts {
+            limits,
+            statuses,
+            keys,
+            owners,
+            queue: RunQueue::new(0, 0, threads),
+            table,
+            arrivals,
+            parked,
+            next: first_ticket,
+        })
+    }
+
+    /// The status of a thread.
+    pub(crate) fn status(&self, t: Tid) -> Status
+        requires sound { IsSound self.now }
+        requires added { has_seat (kernel_of self.now) t ≡ true }
+        ensures { result ≡ (seat_at (kernel_of self.now) t).status }
+    {
+        self.statuses[t.get() as usize]
+    }
+
+    /// Whether a thread lives: it was added, and has not ended.
+    pub(crate) fn lives(&self, t: Tid) -> bool
+        requires { IsSound self.now }
+        ensures { result ≡ is_living (kernel_of self.now) t }
+    {
+        match self.statuses.get(t.get() as usize) {
+            Some(status) => !matches!(*status, Status::Ended),
+            None => false,
+        }
+    }
+
+    /// The effective priority of a thread. `None` where it doesn't live.
+    pub(crate) fn effective(&self, t: Tid) -> Option<Prio>
+        requires { IsSound self.now }
+        ensures { result ≡ (if is_living (kernel_of self.now) t then Some (effective_in (kernel_of self.now) t) else None) }
+    {
+        if self.lives(t) {
+            self.owners.local(t)
+        } else {
+            None
+        }
+    }
+
+    /// The first thread of the greatest level that has one. `None` where no level has a thread.
+    pub(crate) fn pick(&self) -> Option<Tid>
+        requires { IsSound self.now }
+        ensures { result ≡ (if pick_in (kernel_of self.now) == 0 then None else Some (pick_in (kernel_of self.now))) }
+    {
+        self.queue.pick(&self.table)
+    }
+
+    /// The key of the owner state of a mutex. `None` where it has none.
+    pub(crate) fn key(&self, m: MutexId) -> Option<Key>
+        requires { m < length self.now.keys }
+        ensures { result ≡ key_at self.now m }
+    {
+        self.keys[m.get() as usize]
+    }
+
+    /// The next ticket.
+    pub(crate) fn next_ticket(&self) -> u64
+        ensures { result ≡ self.now.next }
+    {
+        self.next
+    }
+}
+
+/// Empty places for this many keys.
+fn empty_places(alloc: Global, count: usize) -> Result<Vec<Option<Key>>, NoMemory>
+    ensures { IfOk result (λ keys. keys.items ≡ replicate count None) }
+{
+    vec![in alloc; None; count].map_err(|_| NoMemory)
+}

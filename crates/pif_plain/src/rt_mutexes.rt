@@ -1,0 +1,335 @@
+//! Owner states of a kernel: which thread owns each, which threads are queued on it, and for each thread its base and
+//! effective priority and what it waits for. No thread ever waits for itself through any chain. No call but `new` takes
+//! memory.
+//!
+//! | Owner state | Call | Then it is |
+//! |---|---|---|
+//! | none | `make` | owned, with nobody queued |
+//! | owned, with nobody queued | `enqueue` | owned, with threads queued |
+//! | | `end` | none |
+//! | owned, with threads queued | `enqueue`, `dequeue` | owned, with one more or one less |
+//! | | `hand_over` | owned by its top waiter, which waits no longer; the others wait for that one |
+//!
+//! | Row of a thread | `base`, `local` | `waits_on`, `ticket` |
+//! |---|---|---|
+//! | not admitted, or no row | `None` | `None` |
+//! | after `admit`, `dequeue`, or `hand_over` to it | `Some`, where it was admitted | `None` |
+//! | after `enqueue` | `Some`, where it was admitted | the state on which it is queued, and its ticket there |
+//!
+//! A waiter stands among the others by the priority that `enqueue` or `rekey` last handed in, and of equals by its
+//! ticket. `local` is the effective priority as it was last set; nothing here keeps the two the same (`chain_walk` does).
+ghost use Rattle.std.specs.Prelude.{◌≡◌, ◌≢◌, ℕ, ◌+◌, ◌<◌, ◌≤◌, ◌↔◌, length, IfOk, IfSome, IfNone, OnSome, IsSome, Some, None, option_map};
+ghost use Rattle.std.specs.Option.{ForSome};
+ghost use Rattle.pif_model.specs.Graph.{Reaches};
+ghost use Rattle.pif_nodes.specs.declared.keys.Key.{Key as RankSeen};
+ghost use Rattle.pif_owners.specs.Owners.{no_owners, seat_at, owner_at, count, waits_on, rank_of, WaitsFor, IsAcyclic, IsSound, IsTop, HasNoWaiter, KeepsOrder, with_seat, with_base, with_local, with_wait, with_prio, with_ticket, with_owner, without_state};
+ghost use Rattle.pif_plain.specs.Standing.{standing};
+
+use crate::rows::{Key, NOBODY, Row, Wait};
+use crate::standing::leads;
+use pif_nodes::Key as Rank;
+use pif_types::{NoMemory, Prio, Tid};
+use slab::Slab;
+use std::alloc::Global;
+use std::marker::Model;
+
+/// Owner states with their waiters, and a row for each thread (the RT-mutex design of Linux). A thread without a row reads
+/// as one that was not admitted: its priorities are 0, and it waits for nothing.
+#[derive(Drop)]
+pub struct RtMutexes {
+    rows: Vec<Row>,
+    owners: Slab<Tid>,
+}
+
+impl Model for RtMutexes {
+    ghost use Rattle.std.specs.Prelude.{◌+◌, ◌≤◌, length};
+    ghost use Rattle.pif_owners.specs.Owners.{Owners, owners_code, IsSound};
+    ghost use Rattle.pif_plain.specs.StateFields.{owners_from};
+
+    ghost Value = { Owners };
+
+    ghost coded = { owners_code };
+
+    ghost view = { λ m. owners_from m.rows.items m.owners };
+
+    ghost invariant = { λ m. record {
+      room : length m.rows.items ≤ m.owners.capacity + 1;
+      sound : IsSound (owners_from m.rows.items m.owners);
+    } };
+}
+
+impl RtMutexes {
+    /// No owner state, and a row for each of `threads` threads, at most 1,024, of which none is admitted. It takes two
+    /// pieces of memory, which are enough for as many states as threads, and answers `NoMemory` where one is refused.
+    pub fn new(alloc: Global, threads: u32) -> Result<RtMutexes, NoMemory>
+        requires { threads ≤ 1024 }
+        ensures made { IfOk result (λ m. m ≡ no_owners threads) }
+    {
+        let rows = vec![in alloc; NOBODY; threads as usize + 1].map_err(|_| NoMemory)?;
+        let owners = Slab::with_capacity(alloc, threads as usize).map_err(|_| NoMemory)?;
+        Ok(RtMutexes { rows, owners })
+    }
+
+    /// How many threads have a row, at most 1,024.
+    pub fn threads(&self) -> u32
+        ensures value { result + 1 ≡ length self.now.seats }
+        ensures most { result ≤ 1024 }
+        ensures sound { IsSound self.now }
+    {
+        self.rows.len() as u32 - 1
+    }
+
+    /// Gives the thread `t`, which waits for nothing, this base priority, which is its effective priority at first. All
+    /// other threads and all states stay as they were.
+    pub fn admit(&mut self, t: Tid, prio: Prio)
+        requires row { t < length self.old.seats }
+        requires free { waits_on self.old t ≡ None }
+        ensures admitted { self.new ≡ with_seat t (record { base = prio; local = prio; wait = None }) self.old }
+        ensures acyclic { IsAcyclic self.new }
+    {
+        self.put(t, NOBODY.with_base(prio).with_local(prio));
+    }
+
+    /// The base priority of the thread `t`. `None` where it was given none.
+    pub fn base(&self, t: Tid) -> Option<Prio>
+        ensures given { IsSome result ↔ (1 ≤ (seat_at self.now t).base) }
+        ensures value { IfSome result (λ p. p ≡ (seat_at self.now t).base) }
+        ensures most { (seat_at self.now t).base ≤ 99 }
+    {
+        self.row(t.get()).base
+    }
+
+    /// Makes `prio` the base priority of the thread `t`. All else stays as it was, and so does all where `t` has no row.
+    pub fn set_base(&mut self, t: Tid, prio: Prio)
+        ensures changed { self.new ≡ with_base t prio self.old }
+        ensures acyclic { IsAcyclic self.new }
+    {
+        let row = self.row(t.get());
+        self.put(t, row.with_base(prio));
+    }
+
+    /// The effective priority of the thread `t` as it was last set. `None` where it was given none.
+    pub fn local(&self, t: Tid) -> Option<Prio>
+        ensures given { IsSome result ↔ (1 ≤ (seat_at self.now t).local) }
+        ensures value { IfSome result (λ p. p ≡ (seat_at self.now t).local) }
+        ensures most { (seat_at self.now t).local ≤ 99 }
+    {
+        self.row(t.get()).local
+    }
+
+    /// Makes `prio` the effective priority of the thread `t`. All else stays as it was, and so does all where `t` has no
+    /// row.
+    pub fn set_local(&mut self, t: Tid, prio: Prio)
+        ensures changed { self.new ≡ with_local t prio self.old }
+        ensures acyclic { IsAcyclic self.new }
+    {
+        let row = self.row(t.get());
+        self.put(t, row.with_local(prio));
+    }
+
+    /// An owner state of `owner` on which nobody is queued, under a key that no other state has. There have to be fewer
+    /// states than threads. It takes no memory, and all threads and all other states stay as they were.
+    pub fn make(&mut self, owner: Tid) -> Key
+        requires room { count self.old + 1 < length self.old.seats }
+        ensures fresh { owner_at self.old result ≡ None }
+        ensures made { self.new ≡ with_owner result owner self.old }
+        ensures count { count self.new ≡ count self.old + 1 }
+        ensures free { HasNoWaiter self.new result }
+        ensures acyclic { IsAcyclic self.new }
+    {
+        Key::new(self.owners.insert_reserved(owner))
+    }
+
+    /// The owner of a state, which has to be there.
+    pub fn owner(&self, key: Key) -> Tid
+        requires { IsSome (owner_at self.now key) }
+        ensures value { owner_at self.now key ≡ Some result }
+    {
+        self.owners[key.get()]
+    }
+
+    /// The top waiter of a state: of those that are queued on it the one with the highest priority as last handed in,
+    /// and of equal ones the one with the lowest ticket. `None` where nobody is queued on it.
+    pub fn top(&self, key: Key) -> Option<Tid>
+        ensures none { IfNone result (HasNoWaiter self.now key) }
+        ensures top { IfSome result (λ t. IsTop self.now key t) }
+        ensures state { OnSome result (IsSome (owner_at self.now key)) }
+    {
+        let mut first = 0;
+        for t in 0..self.rows.len() as u32 {
+            if leads(self.standing(key, t), self.standing(key, first)) {
+                first = t;
+            }
+        }
+        Tid::new(first)
+    }
+
+    /// Queues the thread `t`, which waits for nothing, on a state, with this priority and ticket. The owner of the state
+    /// may not be `t`, nor wait for it through any chain. All other threads and all states stay as they were.
+    pub fn enqueue(&mut self, key: Key, t: Tid, prio: Prio, ticket: u64)
+        requires state { IsSome (owner_at self.old key) }
+        requires row { t < length self.old.seats }
+        requires free { waits_on self.old t ≡ None }
+        requires no_cycle { (n : ℕ) → owner_at self.old key ≡ Some n → Reaches (WaitsFor self.old) n t → ⊥ }
+        ensures queued { let rank : RankSeen = record { prio = prio; ticket = ticket } in
+            self.new ≡ with_wait t (Some (record { state = key; rank = rank })) self.old }
+        ensures acyclic { IsAcyclic self.new }
+    {
+        let rank = Rank {
+            prio: prio.get(),
+            ticket,
+        };
+        self.set_wait(t, Some(Wait { state: key, rank }));
+    }
+
+    /// Takes the thread `t` off the state on which it is queued. All other threads and all states stay as they were.
+    pub fn dequeue(&mut self, key: Key, t: Tid)
+        requires { waits_on self.old t ≡ Some key }
+        ensures free { self.new ≡ with_wait t None self.old }
+        ensures acyclic { IsAcyclic self.new }
+    {
+        self.set_wait(t, None);
+    }
+
+    /// Gives the thread `t` another priority among the waiters of the state on which it is queued. It keeps its ticket,
+    /// and all else stays as it was.
+    pub fn rekey(&mut self, key: Key, t: Tid, prio: Prio)
+        requires { waits_on self.old t ≡ Some key }
+        ensures changed { self.new ≡ with_prio t prio self.old }
+        ensures acyclic { IsAcyclic self.new }
+    {
+        if let Some(wait) = self.row(t.get()).wait {
+            let rank = Rank {
+                prio: prio.get(),
+                ticket: wait.rank.ticket,
+            };
+            let changed = Wait {
+                state: wait.state,
+                rank,
+            };
+            self.set_wait(t, Some(changed));
+        }
+    }
+
+    /// The ticket with which the thread `t` is queued. `None` where it waits for nothing.
+    pub fn ticket(&self, t: Tid) -> Option<u64>
+        ensures value { result ≡ option_map (λ (r : RankSeen). r.ticket) (rank_of self.now t) }
+    {
+        let wait = self.row(t.get()).wait?;
+        Some(wait.rank.ticket)
+    }
+
+    /// Gives the thread `t`, which is queued on a state, another ticket, with which it stands among the other waiters of
+    /// that state as before. It keeps its priority, and all else stays as it was.
+    pub fn set_ticket(&mut self, t: Tid, ticket: u64)
+        requires queued { IsSome (waits_on self.old t) }
+        requires order { KeepsOrder self.old t ticket }
+        ensures changed { self.new ≡ with_ticket t ticket self.old }
+        ensures acyclic { IsAcyclic self.new }
+    {
+        if let Some(wait) = self.row(t.get()).wait {
+            let rank = Rank {
+                prio: wait.rank.prio,
+                ticket,
+            };
+            let changed = Wait {
+                state: wait.state,
+                rank,
+            };
+            self.set_wait(t, Some(changed));
+        }
+    }
+
+    /// Hands a state on which somebody is queued to its top waiter, which waits no longer; the others wait for it now.
+    /// Answers who that is. All other threads and states stay as they were.
+    pub fn hand_over(&mut self, key: Key) -> Tid
+        requires waiter { (t : ℕ) × (waits_on self.old t ≡ Some key) }
+        ensures top { IsTop self.old key result }
+        ensures handed { self.new ≡ with_owner key result (with_wait result None self.old) }
+        ensures acyclic { IsAcyclic self.new }
+    {
+        match self.top(key) {
+            Some(next) => {
+                self.set_wait(next, None);
+                self.set_owner(key, next);
+                next
+            }
+            None => unreachable!(),
+        }
+    }
+
+    /// Ends a state on which nobody is queued. All threads and all other states stay as they were.
+    pub fn end(&mut self, key: Key)
+        requires state { IsSome (owner_at self.old key) }
+        requires free { HasNoWaiter self.old key }
+        ensures ended { self.new ≡ without_state key self.old }
+        ensures count { count self.new + 1 ≡ count self.old }
+        ensures acyclic { IsAcyclic self.new }
+    {
+        self.owners.remove(key.get());
+    }
+
+    /// The state on which the thread `t` is queued. `None` where it waits for nothing.
+    pub fn waits_on(&self, t: Tid) -> Option<Key>
+        ensures value { result ≡ waits_on self.now t }
+        ensures state { ForSome result (λ k. IsSome (owner_at self.now k)) }
+        ensures acyclic { IsAcyclic self.now }
+    {
+        let wait = self.row(t.get()).wait?;
+        Some(wait.state)
+    }
+
+    /// The row of a thread.
+    fn row(&self, t: u32) -> Row
+        ensures value { result ≡ seat_at self.now t }
+        ensures sound { IsSound self.now }
+    {
+        if (t as usize) < self.rows.len() {
+            self.rows[t as usize]
+        } else {
+            NOBODY
+        }
+    }
+
+    /// Makes `row` the row of a thread, if it has one.
+    fn put(&mut self, t: Tid, row: Row)
+        requires { 1 ≤ t → IsSound self.old → IsSound (with_seat t row self.old) }
+        ensures put { self.new ≡ with_seat t row self.old }
+        ensures sound { IsSound self.new }
+    {
+        let place = t.get() as usize;
+        if place < self.rows.len() {
+            self.rows[place] = row;
+        }
+    }
+
+    /// Lets a thread wait for this, or for nothing.
+    fn set_wait(&mut self, t: Tid, wait: Option<Wait>)
+        requires { 1 ≤ t → IsSound self.old → IsSound (with_wait t wait self.old) }
+        ensures put { self.new ≡ with_wait t wait self.old }
+        ensures sound { IsSound self.new }
+    {
+        let row = self.row(t.get());
+        self.put(t, row.with_wait(wait));
+    }
+
+    /// Makes `owner` the owner of a state.
+    fn set_owner(&mut self, key: Key, owner: Tid)
+        requires state { IsSome (owner_at self.old key) }
+        requires sound { IsSound self.old → IsSound (with_owner key owner self.old) }
+        ensures put { self.new ≡ with_owner key owner self.old }
+        ensures sound { IsSound self.new }
+    {
+        self.owners[key.get()] = owner;
+    }
+
+    /// The rank with which a thread stands among the waiters of a state. `None` where it doesn't wait there.
+    fn standing(&self, key: Key, t: u32) -> Option<Rank>
+        ensures { result ≡ standing self.now key t }
+    {
+        match self.row(t).wait {
+            Some(wait) if wait.state == key => Some(wait.rank),
+            _ => None,
+        }
+    }
+}

@@ -1,6 +1,0 @@
-pub mod MapLemmas
-pub mod OwnersLemmas
-pub mod FieldsLemmas
-pub mod PrioLemmas
-pub mod TopLemmas
-pub mod TestLemmas

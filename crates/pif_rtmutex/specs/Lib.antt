@@ -1,4 +1,0 @@
-pub mod Owners
-pub mod Standing
-pub mod Fields
-pub mod Examples
