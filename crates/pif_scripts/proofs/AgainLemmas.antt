@@ -8,13 +8,15 @@ use Rattle.pif_types.specs.declared.requests.Kind.{Kind}
 use Rattle.pif_types.specs.declared.requests.Request.{Request}
 use Rattle.pif_model.specs.declared.events.Entry.{Entry}
 use Rattle.pif_model.specs.declared.events.Event.{Event}
-use Rattle.pif_model.specs.declared.events.Event.TheVariants.{Begin as BeginEvent, Go as GoEvent, End as EndEvent}
+use Rattle.pif_model.specs.declared.events.Event.TheVariants.{Begin as BeginEvent, Go as GoEvent}
 use Rattle.pif_model.specs.declared.events.Seen.TheVariants.{Went}
 use Rattle.pif_model.specs.Calls.{add_thread_answer, add_thread_after, add_mutex_answer, add_mutex_after, add_cond_answer, add_cond_after}
 use Rattle.pif_model.specs.Table.{Table, new_table}
 use Rattle.pif_model.specs.Lines.{Outcome, event_outcome, goes_on}
 use Rattle.pif_uses.specs.Calls.{call_outcome}
 use Rattle.pif_uses.proofs.CallLemmas.{call_other, call_refused, goes_on-other, goes_on-went, is_refused, is_went}
+use Rattle.pif_text.specs.declared.commands.Addition.{Addition}
+use Rattle.pif_text.specs.declared.commands.Addition.TheVariants.{Thread, Mutex, Cond}
 use Rattle.pif_text.specs.declared.commands.Command.{Command}
 use Rattle.pif_text.specs.declared.commands.Command.TheVariants as command
 use Rattle.pif_text.specs.declared.replies.Cause.{Cause}
@@ -22,9 +24,9 @@ use Rattle.pif_text.specs.declared.replies.Reply.TheVariants as reply
 use Rattle.pif_text.specs.Commands.{command_in}
 use Rattle.pif_scripts.specs.declared.reading.ending.Ending.{Ending}
 use Rattle.pif_scripts.specs.Scripts.{Answered as AnsweredLine, Scan, start, byte_taken, line_answer, answered_by, answered_first, answered_later}
-use Rattle.pif_scripts.specs.Running.{Answer, answer_line, answer_or_fault, are_limits, command_answer, default_limits, first_answer, limits_in, made_by, script}
+use Rattle.pif_scripts.specs.Running.{Answer, addition_after, answer_line, answer_or_fault, are_limits, command_answer, default_limits, first_answer, limits_in, made_by, run_outcome, script}
 use Rattle.pif_scripts.specs.Traces.{IsHistory, trace, verdict}
-use Rattle.pif_scripts.specs.Transcripts.{SameAsTraced, call_entries, command_entries, cond_entries, entries_by, event_entry, first_limits, going_entries, line_entries, mutex_entries, script_entries, script_limits, script_trace, thread_entries}
+use Rattle.pif_scripts.specs.Transcripts.{SameAsTraced, addition_entries, call_entries, command_entries, cond_entries, entries_by, event_entry, first_limits, going_entries, line_entries, mutex_entries, run_entries, script_entries, script_limits, script_trace, thread_entries}
 use Rattle.pif_scripts.proofs.EntryLemmas.{call-entries-begun, call-entries-refused, first_answer-is, going-other, going-went, going-zero, limits-or_default}
 use Rattle.pif_scripts.proofs.SameAgainLemmas.{trace_back}
 use Rattle.pif_scripts.proofs.ScriptLemmas.{by_cases}
@@ -101,33 +103,32 @@ cond-history : (m : ℕ) (a : Result ℕ AddFault) (s : Table) (es : List Entry)
 cond-history m (Ok c) s es e h = (e, h)
 cond-history m (Err f) s es e h = h
 
+-- the entries of an addition, and what follows them
+addition-history : (a : Addition) (s : Table) (es : List Entry) → IsHistory (addition_after a s) es
+    → IsHistory s (addition_entries a s ++ es)
+unfolding addition_after addition_entries
+addition-history (Thread p) s es h = thread-history p (add_thread_answer p s) s es refl h
+addition-history (Mutex k robust) s es h = mutex-history k robust (add_mutex_answer s) s es refl h
+addition-history (Cond m) s es h = cond-history m (add_cond_answer m s) s es refl h
+
+-- the events of a thread that goes on, and what follows them
+run-history : (t : ℕ) (q : Option Request) (s : Table) (es : List Entry) → IsHistory (run_outcome t q s).after es
+    → IsHistory s (run_entries t q s ++ es)
+run-history t (Some q) s es h = call-history t q s es h
+run-history t None s es h = going-history 23 t s es h
+
 -- the entries of a command, and what follows them
 command-history : (c : Command) (s : Table) (x : Answer) (es : List Entry) → command_answer c s ≡ Some x
     → IsHistory x.1 es → IsHistory s (command_entries c s ++ es)
 unfolding command_answer command_entries
 command-history (command.Limits t m c n) s x es e h = cc
-command-history (command.Thread p) s x es e h =
-    thread-history p (add_thread_answer p s) s es refl (subst (λ u. IsHistory u es) (sym (after-answer _ _ e)) h)
-command-history (command.Mutex k robust) s x es e h =
-    mutex-history k robust (add_mutex_answer s) s es refl
-    (subst (λ u. IsHistory u es) (sym (after-answer _ _ e)) h)
-command-history (command.Cond m) s x es e h =
-    cond-history m (add_cond_answer m s) s es refl (subst (λ u. IsHistory u es) (sym (after-answer _ _ e)) h)
-command-history (command.Begin t q) s x es e h =
-    event-history (BeginEvent t q) s es (subst (λ u. IsHistory u es) (sym (after-answer _ _ e)) h)
-command-history (command.Go t) s x es e h =
-    event-history (GoEvent t) s es (subst (λ u. IsHistory u es) (sym (after-answer _ _ e)) h)
-command-history (command.End t) s x es e h =
-    event-history (EndEvent t) s es (subst (λ u. IsHistory u es) (sym (after-answer _ _ e)) h)
-command-history (command.Call t q) s x es e h =
-    call-history t q s es (subst (λ u. IsHistory u es) (sym (after-answer _ _ e)) h)
-command-history (command.Finish t) s x es e h =
-    going-history 23 t s es (subst (λ u. IsHistory u es) (sym (after-answer _ _ e)) h)
-command-history (command.Word m) s x es e h = subst (λ u. IsHistory u es) (sym (after-answer _ _ e)) h
-command-history (command.Health m) s x es e h = subst (λ u. IsHistory u es) (sym (after-answer _ _ e)) h
-command-history (command.CondWord c) s x es e h = subst (λ u. IsHistory u es) (sym (after-answer _ _ e)) h
-command-history (command.Prio t) s x es e h = subst (λ u. IsHistory u es) (sym (after-answer _ _ e)) h
-command-history command.Pick s x es e h = subst (λ u. IsHistory u es) (sym (after-answer _ _ e)) h
+command-history (command.Add a) s x es e h =
+    addition-history a s es (subst (λ u. IsHistory u es) (sym (after-answer _ _ e)) h)
+command-history (command.Event v) s x es e h =
+    event-history v s es (subst (λ u. IsHistory u es) (sym (after-answer _ _ e)) h)
+command-history (command.Run t q) s x es e h =
+    run-history t q s es (subst (λ u. IsHistory u es) (sym (after-answer _ _ e)) h)
+command-history (command.Ask q) s x es e h = subst (λ u. IsHistory u es) (sym (after-answer _ _ e)) h
 
 -- ---- lines
 

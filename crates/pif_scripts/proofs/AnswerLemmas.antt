@@ -21,9 +21,8 @@ use Rattle.pif_model.specs.PiKernel.{is_ready, is_woken_again, lock_answer, try_
 use Rattle.pif_model.specs.Word.{Word, take_word, release_word}
 use Rattle.pif_model.specs.Table.{Table, cell_at, status_at, bound_to, uses_of, with_word, line_at}
 use Rattle.pif_model.specs.Lines.{Outcome, goes_to, waits_at, answers, is_robust, ends_by, locked_again, exchanged, own_exchange, lock_load, lock_by, lock_kernel, take_load, lock_queued, lock_stop, take_health, take_store, take_word_back, link_next, link_head, clears, leave_exchange, given_up_by, gives_up, try_load, try_by, try_kernel, unlock_load, unlock_health, unlock_exchange, consistent_load, consistent_health, answered_by, set_priority, wait_load, wait_uses, wait_health, wait_exchange, wait_by, wait_park, wait_parked, use_read, use_exchange, more_in, use_by, use_requeue, ended_table, shared_line, locking_line, use_line, line_of, go_outcome, first_place, table_refusal, accepted_outcome, by_refusal, event_outcome}
-use Rattle.pif_text.specs.CommandTexts.{IsNumber}
-use Rattle.pif_text.specs.Traces.{IsTraced}
-use Rattle.pif_scripts.specs.Running.{reply_of_seen}
+use Rattle.pif_text.specs.Numbers.{IsNumber}
+use Rattle.pif_text.specs.Traces.{IsSeenTraced}
 
 -- an answer that a place keeps is a number that a line can write
 abbrev pub IsSmallPlace : Place → Type 0
@@ -43,7 +42,7 @@ AreSmall ls = (u : ℕ) → IsSmallLine (get_or ls u Idle)
 
 -- an outcome whose answer is written, and whose lines keep such answers
 pub record Fits (o : Outcome) : Type 0 where
-  pub seen : IsTraced (reply_of_seen o.seen)
+  pub seen : IsSeenTraced o.seen
   pub lines : AreSmall o.after.lines
 
 -- the number of an error is one

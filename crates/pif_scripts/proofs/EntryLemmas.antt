@@ -9,29 +9,31 @@ use Rattle.pif_types.specs.Bounds.{Bounds}
 use Rattle.pif_model.specs.declared.events.Entry.{Entry}
 use Rattle.pif_model.specs.declared.events.Entry.TheVariants.{Step}
 use Rattle.pif_model.specs.declared.events.Event.{Event}
-use Rattle.pif_model.specs.declared.events.Event.TheVariants.{Begin as BeginEvent, Go as GoEvent, End as EndEvent}
+use Rattle.pif_model.specs.declared.events.Event.TheVariants.{Begin as BeginEvent, Go as GoEvent}
 use Rattle.pif_model.specs.declared.events.Seen.{Seen}
-use Rattle.pif_model.specs.declared.events.Seen.TheVariants.{Begun, Went, Waits, Answered, Ended, Refused}
+use Rattle.pif_model.specs.declared.events.Seen.TheVariants.{Went, Refused}
 use Rattle.pif_model.specs.Calls.{add_thread_answer, add_mutex_answer, add_cond_answer}
 use Rattle.pif_model.specs.Table.{Table, new_table}
 use Rattle.pif_model.specs.Lines.{event_outcome, goes_on}
 use Rattle.pif_uses.specs.Calls.{call_outcome, gone}
 use Rattle.pif_uses.proofs.CallLemmas.{called-other, called-refused, gone-below, gone-other, gone-went, gone-zero}
+use Rattle.pif_text.specs.declared.commands.Addition.{Addition}
+use Rattle.pif_text.specs.declared.commands.Addition.TheVariants.{Thread, Mutex, Cond}
 use Rattle.pif_text.specs.declared.commands.Command.{Command}
 use Rattle.pif_text.specs.declared.commands.Command.TheVariants as command
 use Rattle.pif_text.specs.declared.replies.Cause.TheVariants.{Limits as LimitsCause}
 use Rattle.pif_text.specs.declared.replies.Reply.{Reply}
 use Rattle.pif_text.specs.declared.replies.Reply.TheVariants as reply
-use Rattle.pif_scripts.specs.Running.{Answer, IsAnswer, answer_or_fault, command_answer, default_limits, are_limits, first_answer, limited_answer, limits_in, reply_of_seen, reply_of_thread, reply_of_mutex, reply_of_cond}
-use Rattle.pif_scripts.specs.Traces.{entry_line, entry_text, event_command}
-use Rattle.pif_scripts.specs.Transcripts.{Transcribed, call_entries, command_entries, cond_entries, entry_lines, event_entry, first_limits, going_entries, mutex_entries, row, single_line, thread_entries, was_made}
+use Rattle.pif_scripts.specs.Running.{Answer, IsAnswer, answer_or_fault, command_answer, default_limits, are_limits, first_answer, limited_answer, limits_in, added_thread, added_mutex, added_cond, addition_answer, run_outcome}
+use Rattle.pif_scripts.specs.Traces.{entry_line, entry_text}
+use Rattle.pif_scripts.specs.Transcripts.{Transcribed, addition_entries, call_entries, command_entries, cond_entries, entry_lines, event_entry, first_limits, going_entries, mutex_entries, row, single_line, thread_entries}
 use Rattle.pif_scripts.proofs.RunningLemmas.{answered-later, first_answer-later}
 
 -- the line of an event
-pub step-row : (e : Event) (s : Table) (c : Command) (r : Reply) → c ≡ event_command e
-    → r ≡ reply_of_seen (event_outcome e s).seen → row c r ≡ entry_line (event_entry e s)
+pub step-row : (e : Event) (s : Table) (seen : Seen) → seen ≡ (event_outcome e s).seen
+    → row (command.Event e) (reply.Seen seen) ≡ entry_line (event_entry e s)
 unfolding entry_text
-step-row e s c r p q = rw (p, q) refl
+step-row e s seen p = rw p refl
 
 -- ---- going on
 
@@ -137,74 +139,53 @@ call-begun t q s u now begun next n after line more =
 
 -- ---- commands
 
-pub call-answer : (t : ℕ) (q : Request) (s u : Table) (seen : Seen) (r : Reply) → r ≡ reply_of_seen seen
-    → seen ≡ (call_outcome t q s).seen → u ≡ (call_outcome t q s).after
-    → command_answer (command.Call t q) s ≡ Some (r, u)
+pub run-answer : (t : ℕ) (q : Option Request) (s u : Table) (seen : Seen) → seen ≡ (run_outcome t q s).seen
+    → u ≡ (run_outcome t q s).after → command_answer (command.Run t q) s ≡ Some (reply.Seen seen, u)
 unfolding command_answer
-call-answer t q s u seen r p e f = rw (p, e, f) refl
-
-pub finish-answer : (t : ℕ) (s u : Table) (seen : Seen) (r : Reply) → r ≡ reply_of_seen seen
-    → seen ≡ (goes_on 23 t s).seen → u ≡ (goes_on 23 t s).after
-    → command_answer (command.Finish t) s ≡ Some (r, u)
-unfolding command_answer
-finish-answer t s u seen r p e f = rw (p, e, f) refl
+run-answer t q s u seen e f = rw (e, f) refl
 
 thread-line : (p : ℕ) (a : Result ℕ AddFault)
-    → single_line (command.Thread p) (reply_of_thread a) ≡ entry_lines (thread_entries p a)
+    → single_line (command.Add (Thread p)) (reply.Added (added_thread a)) ≡ entry_lines (thread_entries p a)
 unfolding entry_text
 thread-line p (Ok t) = sym (append-nil _)
 thread-line p (Err e) = refl
 
 mutex-line : (k : Kind) (robust : Bool) (a : Result ℕ AddFault)
-    → single_line (command.Mutex k robust) (reply_of_mutex a) ≡ entry_lines (mutex_entries k robust a)
+    → single_line (command.Add (Mutex k robust)) (reply.Added (added_mutex a)) ≡ entry_lines (mutex_entries k robust a)
 unfolding entry_text
 mutex-line k robust (Ok m) = sym (append-nil _)
 mutex-line k robust (Err e) = refl
 
 cond-line : (m : ℕ) (a : Result ℕ AddFault)
-    → single_line (command.Cond m) (reply_of_cond a) ≡ entry_lines (cond_entries m a)
+    → single_line (command.Add (Cond m)) (reply.Added (added_cond a)) ≡ entry_lines (cond_entries m a)
 unfolding entry_text
 cond-line m (Ok c) = sym (append-nil _)
 cond-line m (Err e) = refl
 
-seen-made : (x : Seen) → was_made (reply_of_seen x) ≡ true
-seen-made Begun = refl
-seen-made Went = refl
-seen-made Waits = refl
-seen-made (Answered a) = refl
-seen-made Ended = refl
-seen-made (Refused r) = refl
+addition-line : (a : Addition) (s : Table)
+    → single_line (command.Add a) (reply.Added (addition_answer a s)) ≡ entry_lines (addition_entries a s)
+unfolding addition_answer addition_entries
+addition-line (Thread p) s = thread-line p (add_thread_answer p s)
+addition-line (Mutex k robust) s = mutex-line k robust (add_mutex_answer s)
+addition-line (Cond m) s = cond-line m (add_cond_answer m s)
 
-event-line : (e : Event) (s : Table) → single_line (event_command e) (reply_of_seen (event_outcome e s).seen)
+event-line : (e : Event) (s : Table) → single_line (command.Event e) (reply.Seen (event_outcome e s).seen)
     ≡ entry_lines (event_entry e s ∷ [])
 unfolding entry_text
-event-line (BeginEvent t q) s =
-    rw (seen-made (event_outcome (BeginEvent t q) s).seen) (sym (append-nil _))
-event-line (GoEvent t) s = rw (seen-made (event_outcome (GoEvent t) s).seen) (sym (append-nil _))
-event-line (EndEvent t) s = rw (seen-made (event_outcome (EndEvent t) s).seen) (sym (append-nil _))
+event-line e s = sym (append-nil _)
 
 replied : (x y : Answer) → ◌≡◌ {A = Option Answer} (Some x) (Some y) → x.0 ≡ y.0
 replied x y e = let same : x ≡ y = cc in ap (λ (z : Answer). z.0) same
 
 -- the line of a command that makes one entry at most
-pub single-lines : (c : Command) (s t : Table) (r : Reply) → ((u : ℕ) (q : Request) → c ≡ command.Call u q → ⊥)
-    → ((u : ℕ) → c ≡ command.Finish u → ⊥) → command_answer c s ≡ Some (r, t)
-    → single_line c r ≡ entry_lines (command_entries c s)
+pub single-lines : (c : Command) (s t : Table) (r : Reply) → ((u : ℕ) (q : Option Request) → c ≡ command.Run u q → ⊥)
+    → command_answer c s ≡ Some (r, t) → single_line c r ≡ entry_lines (command_entries c s)
 unfolding command_answer command_entries
-single-lines (command.Limits a b c d) s t r n m e = cc
-single-lines (command.Thread p) s t r n m e = rw (← replied _ _ e) (thread-line p (add_thread_answer p s))
-single-lines (command.Mutex k robust) s t r n m e = rw (← replied _ _ e) (mutex-line k robust (add_mutex_answer s))
-single-lines (command.Cond v) s t r n m e = rw (← replied _ _ e) (cond-line v (add_cond_answer v s))
-single-lines (command.Begin u q) s t r n m e = rw (← replied _ _ e) (event-line (BeginEvent u q) s)
-single-lines (command.Go u) s t r n m e = rw (← replied _ _ e) (event-line (GoEvent u) s)
-single-lines (command.End u) s t r n m e = rw (← replied _ _ e) (event-line (EndEvent u) s)
-single-lines (command.Call u q) s t r n m e = absurd (n u q refl)
-single-lines (command.Finish u) s t r n m e = absurd (m u refl)
-single-lines (command.Word v) s t r n m e = refl
-single-lines (command.Health v) s t r n m e = refl
-single-lines (command.CondWord v) s t r n m e = refl
-single-lines (command.Prio u) s t r n m e = refl
-single-lines command.Pick s t r n m e = refl
+single-lines (command.Limits a b c d) s t r n e = cc
+single-lines (command.Add a) s t r n e = rw (← replied _ _ e) (addition-line a s)
+single-lines (command.Event v) s t r n e = rw (← replied _ _ e) (event-line v s)
+single-lines (command.Run u q) s t r n e = absurd (n u q refl)
+single-lines (command.Ask q) s t r n e = refl
 
 -- ---- first commands
 
@@ -215,19 +196,10 @@ pub limits-or_default : (c : Command) → ((b : Bounds) × (c ≡ command.Limits
 unfolding first_limits
 limits-or_default (command.Limits t m c n) =
     inl (record { threads = t; mutexes = m; conds = c; signals = n }, refl, refl)
-limits-or_default (command.Thread p) = inr (λ t m v n e. cc, refl)
-limits-or_default (command.Mutex k robust) = inr (λ t m v n e. cc, refl)
-limits-or_default (command.Cond m) = inr (λ t m v n e. cc, refl)
-limits-or_default (command.Begin t q) = inr (λ t m v n e. cc, refl)
-limits-or_default (command.Go t) = inr (λ t m v n e. cc, refl)
-limits-or_default (command.End t) = inr (λ t m v n e. cc, refl)
-limits-or_default (command.Call t q) = inr (λ t m v n e. cc, refl)
-limits-or_default (command.Finish t) = inr (λ t m v n e. cc, refl)
-limits-or_default (command.Word m) = inr (λ t m v n e. cc, refl)
-limits-or_default (command.Health m) = inr (λ t m v n e. cc, refl)
-limits-or_default (command.CondWord c) = inr (λ t m v n e. cc, refl)
-limits-or_default (command.Prio t) = inr (λ t m v n e. cc, refl)
-limits-or_default command.Pick = inr (λ t m v n e. cc, refl)
+limits-or_default (command.Add a) = inr (λ t m v n e. cc, refl)
+limits-or_default (command.Event e) = inr (λ t m v n e. cc, refl)
+limits-or_default (command.Run t q) = inr (λ t m v n e. cc, refl)
+limits-or_default (command.Ask q) = inr (λ t m v n e. cc, refl)
 
 -- a number out of its range is the fault `limits`
 pub first-fault : (c : Command) → first_limits c ≡ None → first_answer c ≡ Err LimitsCause

@@ -3,7 +3,6 @@ pub mod RunningLemmas
 pub mod SameAgainLemmas
 pub mod DifferenceLemmas
 pub mod AgainLemmas
-pub mod CommandLemmas
 pub mod EntryLemmas
 pub mod FeedLemmas
 pub mod RunLemmas

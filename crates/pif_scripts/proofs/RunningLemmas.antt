@@ -10,35 +10,17 @@ pub first_answer-later : (c : Command) → ((t m v n : ℕ) → c ≡ command.Li
     → first_answer c ≡ answer_or_fault (command_answer c (new_table default_limits))
 unfolding first_answer
 first_answer-later (command.Limits t m v n) other = absurd (other t m v n refl)
-first_answer-later (command.Thread p) other = refl
-first_answer-later (command.Mutex k robust) other = refl
-first_answer-later (command.Cond m) other = refl
-first_answer-later (command.Begin t q) other = refl
-first_answer-later (command.Go t) other = refl
-first_answer-later (command.End t) other = refl
-first_answer-later (command.Call t q) other = refl
-first_answer-later (command.Finish t) other = refl
-first_answer-later (command.Word m) other = refl
-first_answer-later (command.Health m) other = refl
-first_answer-later (command.CondWord c) other = refl
-first_answer-later (command.Prio t) other = refl
-first_answer-later command.Pick other = refl
+first_answer-later (command.Add a) other = refl
+first_answer-later (command.Event e) other = refl
+first_answer-later (command.Run t q) other = refl
+first_answer-later (command.Ask q) other = refl
 
 -- each command but `limits` is answered
 pub answered-later : (c : Command) (s : Table) → ((t m v n : ℕ) → c ≡ command.Limits t m v n → ⊥)
     → IsAnswer (answer_or_fault (command_answer c s))
 unfolding command_answer
 answered-later (command.Limits t m v n) s other = absurd (other t m v n refl)
-answered-later (command.Thread p) s other = tt
-answered-later (command.Mutex k robust) s other = tt
-answered-later (command.Cond m) s other = tt
-answered-later (command.Begin t q) s other = tt
-answered-later (command.Go t) s other = tt
-answered-later (command.End t) s other = tt
-answered-later (command.Call t q) s other = tt
-answered-later (command.Finish t) s other = tt
-answered-later (command.Word m) s other = tt
-answered-later (command.Health m) s other = tt
-answered-later (command.CondWord c) s other = tt
-answered-later (command.Prio t) s other = tt
-answered-later command.Pick s other = tt
+answered-later (command.Add a) s other = tt
+answered-later (command.Event e) s other = tt
+answered-later (command.Run t q) s other = tt
+answered-later (command.Ask q) s other = tt

@@ -7,18 +7,21 @@ use Rattle.std.proofs.lemmas.Slice.Eq.{bytes_eq-Decides}
 use Rattle.pif_types.specs.Bounds.{Bounds, IsWithin}
 use Rattle.pif_model.specs.declared.events.Entry.{Entry}
 use Rattle.pif_model.specs.declared.events.Entry.TheVariants.{Thread as AddedThread, Mutex as AddedMutex, Cond as AddedCond, Step}
-use Rattle.pif_model.specs.declared.events.Event.TheVariants.{Begin as BeginEvent, Go as GoEvent, End as EndEvent}
+use Rattle.pif_model.specs.declared.events.Event.{Event}
 use Rattle.pif_model.specs.declared.events.Seen.{Seen}
 use Rattle.pif_model.specs.Calls.{add_thread_answer, add_thread_after, add_mutex_answer, add_mutex_after, add_cond_answer, add_cond_after}
 use Rattle.pif_model.specs.Lines.{event_outcome}
 use Rattle.pif_model.specs.Table.{Table, new_table}
 use Rattle.pif_text.specs.declared.commands.Command.{Command}
-use Rattle.pif_text.specs.declared.commands.Command.TheVariants.{Limits, Thread, Mutex, Cond as NewCond, Begin, Go, End}
+use Rattle.pif_text.specs.declared.commands.Command.TheVariants as command
+use Rattle.pif_text.specs.declared.commands.Addition.{Addition}
+use Rattle.pif_text.specs.declared.commands.Addition.TheVariants.{Thread, Mutex, Cond as NewCond}
 use Rattle.pif_text.specs.declared.replies.Reply.{Reply}
 use Rattle.pif_text.specs.declared.replies.Reply.TheVariants as reply
+use Rattle.pif_text.specs.declared.replies.Added.TheVariants as added
 use Rattle.pif_text.specs.CommandTexts.{command_text, IsWritten}
 use Rattle.pif_text.specs.Replies.{text_of}
-use Rattle.pif_text.specs.Traces.{header_text, recorded, same_of, IsTraced}
+use Rattle.pif_text.specs.Traces.{header_text, if_traced, recorded, same_of, IsTraced}
 use Rattle.pif_text.proofs.Plain.{lacks, IsLine, recorded-line, recorded-parts}
 use Rattle.pif_text.proofs.ReadBack.{command_back}
 use Rattle.pif_text.specs.declared.replies.Cause.TheVariants.{Command as NoCommand}
@@ -26,9 +29,8 @@ use Rattle.pif_scripts.specs.declared.reading.ending.Ending.TheVariants.{Fault, 
 use Rattle.pif_scripts.specs.Scripts.{Hearing, FirstMeaning, Meaning, Scan, reading_of, answered_by, answered_first, answered_later, after_line, with_byte, closed_at, ended_by}
 use Rattle.pif_scripts.specs.Runs.{end_line, last_text}
 use Rattle.pif_types.specs.declared.requests.Kind.{Kind}
-use Rattle.pif_types.specs.declared.requests.Request.{Request}
-use Rattle.pif_scripts.specs.Running.{Answer, answer_or_fault, command_answer, first_answer, limits_in, are_limits, reply_of_seen, made_by}
-use Rattle.pif_scripts.specs.Traces.{if_traced, traced_in, comparison, second_line_meaning, traced_meaning, trace_hearing, trace_end, verdict, entry_text, entry_line, limits_text, front_lines, trace, IsEntryWritten, IsHistory}
+use Rattle.pif_scripts.specs.Running.{Answer, answer_or_fault, command_answer, first_answer, limits_in, are_limits, made_by, addition_answer, addition_after}
+use Rattle.pif_scripts.specs.Traces.{traced_in, comparison, second_line_meaning, traced_meaning, trace_hearing, trace_end, verdict, entry_command, entry_reply, entry_text, entry_line, limits_text, front_lines, trace, IsEntryWritten, IsHistory}
 use Rattle.pif_scripts.proofs.ScriptLemmas.{byte_taken-byte, byte_taken-end, reading_of-ok, reading_of-nil}
 
 -- ---- whole lines
@@ -84,7 +86,7 @@ same_bytes xs = (bytes_eq-Decides xs xs).1 refl
 traced_back : (c : Command) (r : Reply) → IsWritten c → if_traced c ≡ Some c
     → traced_in (command_text c ++ recorded r) ≡ Some (c, text_of r)
 unfolding traced_in
-traced_back c r p e = rw (recorded-parts c r p, command_back c p, e) refl
+traced_back c r p e = rw (recorded-parts c r p e, command_back c p, e) refl
 
 -- the answer that was written is the one that is given
 comparison_back : (r : Reply) (after : Table)
@@ -138,58 +140,31 @@ Heard s line es =
 written_back : (c : Command) (r : Reply) (s after : Table) (es : List Entry) → IsWritten c → IsTraced r
     → if_traced c ≡ Some c
     → command_answer c s ≡ Some (r, after) → IsHistory after es → Heard s (command_text c ++ recorded r) es
-written_back c r s after es p q e o h = (after, λ number. heard_back c r s after number p e o, recorded-line c r p q, h)
+written_back c r s after es p q e o h = (after, λ number. heard_back c r s after number p e o, recorded-line c r p e q, h)
 
-thread_given : (t p : ℕ) (s : Table) → add_thread_answer p s ≡ Ok t
-    → command_answer (Thread p) s ≡ Some (reply.Thread t, add_thread_after p (Ok t) s)
-unfolding command_answer
-thread_given t p s e = rw e refl
+-- what an entry asks is answered as it records, and the core goes on behind it
+given : (e : Entry) (es : List Entry) (s : Table) → IsHistory s (e ∷ es)
+    → (after : Table) × (command_answer (entry_command e) s ≡ Some (entry_reply e, after)) × IsHistory after es
+unfolding command_answer addition_answer addition_after
+given (AddedThread t p) es s h = (add_thread_after p (Ok t) s, rw h.0 refl, h.1)
+given (AddedMutex m k robust) es s h = (add_mutex_after k robust (Ok m) s, rw h.0 refl, h.1)
+given (AddedCond c m) es s h = (add_cond_after m (Ok c) s, rw h.0 refl, h.1)
+given (Step e seen) es s h =
+    ((event_outcome e s).after, ap (λ x. Some (reply.Seen x, (event_outcome e s).after)) h.0, h.1)
 
-mutex_given : (m : ℕ) (k : Kind) (robust : Bool) (s : Table) → add_mutex_answer s ≡ Ok m
-    → command_answer (Mutex k robust) s ≡ Some (reply.Mutex m, add_mutex_after k robust (Ok m) s)
-unfolding command_answer
-mutex_given m k robust s e = rw e refl
-
-cond_given : (c m : ℕ) (s : Table) → add_cond_answer m s ≡ Ok c
-    → command_answer (NewCond m) s ≡ Some (reply.Cond c, add_cond_after m (Ok c) s)
-unfolding command_answer
-cond_given c m s e = rw e refl
-
-begin_given : (t : ℕ) (q : Request) (seen : Seen) (s : Table) → (event_outcome (BeginEvent t q) s).seen ≡ seen
-    → command_answer (Begin t q) s ≡ Some (reply_of_seen seen, (event_outcome (BeginEvent t q) s).after)
-unfolding command_answer
-begin_given t q seen s e = ap (λ x. Some (reply_of_seen x, (event_outcome (BeginEvent t q) s).after)) e
-
-go_given : (t : ℕ) (seen : Seen) (s : Table) → (event_outcome (GoEvent t) s).seen ≡ seen
-    → command_answer (Go t) s ≡ Some (reply_of_seen seen, (event_outcome (GoEvent t) s).after)
-unfolding command_answer
-go_given t seen s e = ap (λ x. Some (reply_of_seen x, (event_outcome (GoEvent t) s).after)) e
-
-end_given : (t : ℕ) (seen : Seen) (s : Table) → (event_outcome (EndEvent t) s).seen ≡ seen
-    → command_answer (End t) s ≡ Some (reply_of_seen seen, (event_outcome (EndEvent t) s).after)
-unfolding command_answer
-end_given t seen s e = ap (λ x. Some (reply_of_seen x, (event_outcome (EndEvent t) s).after)) e
+-- and it stands in traces
+entry_traced : (e : Entry) → if_traced (entry_command e) ≡ Some (entry_command e)
+entry_traced (AddedThread t p) = refl
+entry_traced (AddedMutex m k robust) = refl
+entry_traced (AddedCond c m) = refl
+entry_traced (Step e seen) = refl
 
 entry_back : (e : Entry) (es : List Entry) (s : Table) → IsEntryWritten e → IsHistory s (e ∷ es)
     → Heard s (entry_text e) es
 unfolding entry_text
-entry_back (AddedThread t p) es s w h =
-    written_back (Thread p) (reply.Thread t) s (add_thread_after p (Ok t) s) es w.0 w.1 refl
-    (thread_given t p s h.0) h.1
-entry_back (AddedMutex m k robust) es s w h =
-    written_back (Mutex k robust) (reply.Mutex m) s (add_mutex_after k robust (Ok m) s) es w.0 w.1 refl
-    (mutex_given m k robust s h.0) h.1
-entry_back (AddedCond c m) es s w h =
-    written_back (NewCond m) (reply.Cond c) s (add_cond_after m (Ok c) s) es w.0 w.1 refl (cond_given c m s h.0) h.1
-entry_back (Step (BeginEvent t q) seen) es s w h =
-    written_back (Begin t q) (reply_of_seen seen) s (event_outcome (BeginEvent t q) s).after es w.0 w.1 refl
-    (begin_given t q seen s h.0) h.1
-entry_back (Step (GoEvent t) seen) es s w h =
-    written_back (Go t) (reply_of_seen seen) s (event_outcome (GoEvent t) s).after es w.0 w.1 refl
-    (go_given t seen s h.0) h.1
-entry_back (Step (EndEvent t) seen) es s w h =
-    written_back (End t) (reply_of_seen seen) s (event_outcome (EndEvent t) s).after es w.0 w.1 refl
-    (end_given t seen s h.0) h.1
+entry_back e es s w h =
+    let g = given e es s h in
+    written_back (entry_command e) (entry_reply e) s g.0 es w.0 w.1 (entry_traced e) g.1 g.2
 
 -- a trace stands so between two lines
 abbrev at_line : Option Table → (number taken : ℕ) → Scan Table
@@ -221,12 +196,12 @@ entries_back (e ∷ es) s number taken w h small =
 header_line : IsLine header_text
 header_line = record { no_end = refl; short = omega arith }
 
-limits_written : (b : Bounds) → IsWithin b → IsWritten (Limits b.threads b.mutexes b.conds b.signals)
+limits_written : (b : Bounds) → IsWithin b → IsWritten (command.Limits b.threads b.mutexes b.conds b.signals)
 limits_written b w =
     (omega (arith, w.threads), omega (arith, w.mutexes), omega (arith, w.conds), omega (arith, w.signals))
 
 limits_line : (b : Bounds) → IsWithin b → IsLine (limits_text b)
-limits_line b w = recorded-line (Limits b.threads b.mutexes b.conds b.signals) reply.Done (limits_written b w) tt
+limits_line b w = recorded-line (command.Limits b.threads b.mutexes b.conds b.signals) reply.Done (limits_written b w) refl tt
 
 are_limits_within : (b : Bounds) → IsWithin b → are_limits b ≡ true
 are_limits_within b w =
@@ -239,14 +214,14 @@ are_limits_within b w =
     grind (arith, nat_tests)
 
 first_limits : (b : Bounds) → IsWithin b
-    → first_answer (Limits b.threads b.mutexes b.conds b.signals) ≡ Ok (reply.Done, new_table b)
+    → first_answer (command.Limits b.threads b.mutexes b.conds b.signals) ≡ Ok (reply.Done, new_table b)
 unfolding first_answer limits_in
 first_limits b w = rw (are_limits_within b w) refl
 
 limits_back : (b : Bounds) → IsWithin b → answered_by trace_hearing None 2 (limits_text b) ≡ Ok ([], Some (new_table b))
 unfolding second_line_meaning
 limits_back b w =
-    let c = Limits b.threads b.mutexes b.conds b.signals in
+    let c = command.Limits b.threads b.mutexes b.conds b.signals in
     ap answered_first (first_by (traced_in (limits_text b)) c reply.Done (new_table b)
     (traced_back c reply.Done (limits_written b w) refl) (first_limits b w))
 

@@ -22,17 +22,20 @@ use Rattle.pif_simulation.proofs.MutexAdded.{mutex_added_kept}
 use Rattle.pif_simulation.proofs.CondAdded.{cond_added_kept}
 use Rattle.pif_simulation.proofs.Simulation.{event_kept}
 use Rattle.pif_uses.proofs.CallLemmas.{is_refused, is_went}
+use Rattle.pif_text.specs.declared.commands.Addition.{Addition}
+use Rattle.pif_text.specs.declared.commands.Addition.TheVariants.{Thread, Mutex, Cond}
 use Rattle.pif_text.specs.declared.commands.Command.{Command}
 use Rattle.pif_text.specs.declared.commands.Command.TheVariants as command
 use Rattle.pif_text.specs.Commands.{command_in}
-use Rattle.pif_text.specs.CommandTexts.{IsName, IsNumber, IsRequestWritten, IsWritten}
-use Rattle.pif_text.specs.Traces.{IsTraced}
-use Rattle.pif_scripts.specs.Running.{reply_of_seen, script}
+use Rattle.pif_text.specs.CommandTexts.{IsAdditionWritten, IsRequestWritten, IsRunWritten, IsWritten}
+use Rattle.pif_text.specs.Numbers.{IsName, IsNumber}
+use Rattle.pif_text.specs.Traces.{IsSeenTraced, IsTraced}
+use Rattle.pif_text.proofs.Written.{command_in-written}
+use Rattle.pif_scripts.specs.Running.{script}
 use Rattle.pif_scripts.specs.Scripts.{Scan, byte_taken}
 use Rattle.pif_scripts.specs.Traces.{IsEntryWritten, IsHistory, entry_command, entry_reply}
-use Rattle.pif_scripts.specs.Transcripts.{call_entries, command_entries, cond_entries, entries_by, event_entry, first_limits, going_entries, line_entries, mutex_entries, script_entries, thread_entries}
+use Rattle.pif_scripts.specs.Transcripts.{addition_entries, call_entries, command_entries, cond_entries, entries_by, event_entry, first_limits, going_entries, line_entries, mutex_entries, run_entries, script_entries, thread_entries}
 use Rattle.pif_scripts.proofs.AnswerLemmas.{AreSmall, added-small, event-fits, none-small}
-use Rattle.pif_scripts.proofs.CommandLemmas.{command_in-written}
 use Rattle.pif_scripts.proofs.EntryLemmas.{call-entries-begun, call-entries-refused, going-other, going-went, going-zero}
 use Rattle.pif_scripts.proofs.ScriptLemmas.{by_cases}
 use Rattle.pif_scripts.proofs.TranscriptLemmas.{entries-err, entries-nil, entries-ok}
@@ -84,23 +87,25 @@ cond-asked : (m : ℕ) (a : Result ℕ AddFault) → IsName m → All IsAsked (c
 cond-asked m (Ok c) h = one-asked (AddedCond c m) h
 cond-asked m (Err e) h = All-nil IsAsked
 
+addition-asked : (a : Addition) (s : Table) → IsAdditionWritten a → All IsAsked (addition_entries a s)
+unfolding addition_entries
+addition-asked (Thread p) s h = thread-asked p (add_thread_answer p s) h
+addition-asked (Mutex k robust) s h = mutex-asked k robust (add_mutex_answer s)
+addition-asked (Cond m) s h = cond-asked m (add_cond_answer m s) h
+
+-- of a thread that goes on
+run-asked : (t : ℕ) (q : Option Request) (s : Table) → IsRunWritten t q → All IsAsked (run_entries t q s)
+run-asked t (Some q) s h = call-asked t q s h.0 h.1
+run-asked t None s h = going-asked 23 t s h
+
 -- of a command
 command-asked : (c : Command) (s : Table) → IsWritten c → All IsAsked (command_entries c s)
 unfolding command_entries
 command-asked (command.Limits t m c n) s h = All-nil IsAsked
-command-asked (command.Thread p) s h = thread-asked p (add_thread_answer p s) h
-command-asked (command.Mutex k robust) s h = mutex-asked k robust (add_mutex_answer s)
-command-asked (command.Cond m) s h = cond-asked m (add_cond_answer m s) h
-command-asked (command.Begin t q) s h = one-asked _ h
-command-asked (command.Go t) s h = one-asked _ h
-command-asked (command.End t) s h = one-asked _ h
-command-asked (command.Call t q) s h = call-asked t q s h.0 h.1
-command-asked (command.Finish t) s h = going-asked 23 t s h
-command-asked (command.Word m) s h = All-nil IsAsked
-command-asked (command.Health m) s h = All-nil IsAsked
-command-asked (command.CondWord c) s h = All-nil IsAsked
-command-asked (command.Prio t) s h = All-nil IsAsked
-command-asked command.Pick s h = All-nil IsAsked
+command-asked (command.Add a) s h = addition-asked a s h
+command-asked (command.Event e) s h = one-asked _ h
+command-asked (command.Run t q) s h = run-asked t q s h
+command-asked (command.Ask q) s h = All-nil IsAsked
 
 -- of a first command
 first-asked : (o : Option Bounds) (c : Command) → IsWritten c
@@ -196,7 +201,7 @@ history-told (AddedCond c m ∷ es) s k h x =
     (cond_added_kept s m k a.0 a.1).sound h x.1)
 history-told (Step e seen ∷ es) s k h x =
     let fits = event-fits e s h in
-    All-cons IsTold (Step e seen) es (subst (λ y. IsTraced (reply_of_seen y)) x.0 fits.seen)
+    All-cons IsTold (Step e seen) es (subst IsSeenTraced x.0 fits.seen)
     (history-told es (event_outcome e s).after (event_kept s e k).sound fits.lines x.1)
 
 -- the entries that a script makes, which are a history of a new core

@@ -2,17 +2,22 @@
 use Rattle.std.specs.Prelude.{ℕ, ◌≡◌, ◌&&◌, nat_le, Bool, List, [], ◌∷◌, ◌++◌, Option, Some, None, Result, Ok, Err, if◌then◌else◌}
 use Rattle.pif_types.specs.Bounds.{Bounds}
 use Rattle.pif_types.specs.declared.errors.AddFault.{AddFault}
-use Rattle.pif_types.specs.declared.errors.Refusal.TheVariants.{NoSuch}
 use Rattle.pif_types.specs.declared.requests.Health.{Health}
-use Rattle.pif_model.specs.declared.events.Event.TheVariants.{Begin as BeginEvent, Go as GoEvent, End as EndEvent}
-use Rattle.pif_model.specs.declared.events.Seen.{Seen}
-use Rattle.pif_model.specs.declared.events.Seen.TheVariants.{Begun as SeenBegun, Went as SeenWent, Waits as SeenWaits, Answered as SeenAnswered, Ended as SeenEnded, Refused as SeenRefused}
+use Rattle.pif_types.specs.declared.requests.Request.{Request}
 use Rattle.pif_model.specs.Table.{Table, new_table}
 use Rattle.pif_model.specs.Lines.{Outcome, event_outcome, goes_on}
 use Rattle.pif_model.specs.Calls.{add_thread_answer, add_thread_after, add_mutex_answer, add_mutex_after, add_cond_answer, add_cond_after, effective_answer, word_answer, health_answer, cond_word_answer, pick_answer, threads_answer}
 use Rattle.pif_uses.specs.Calls.{call_outcome}
 use Rattle.pif_text.specs.declared.commands.Command.{Command}
-use Rattle.pif_text.specs.declared.commands.Command.TheVariants.{Limits, Thread, Mutex, Cond, Begin, Go, End, Call, Finish, Word, Health as HealthOf, CondWord, Prio, Pick}
+use Rattle.pif_text.specs.declared.commands.Command.TheVariants.{Limits, Add, Event, Run, Ask}
+use Rattle.pif_text.specs.declared.commands.Addition.{Addition}
+use Rattle.pif_text.specs.declared.commands.Addition.TheVariants.{Thread, Mutex, Cond}
+use Rattle.pif_text.specs.declared.questions.Question.{Question}
+use Rattle.pif_text.specs.declared.questions.Question.TheVariants as question
+use Rattle.pif_text.specs.declared.replies.Added.{Added}
+use Rattle.pif_text.specs.declared.replies.Added.TheVariants as added
+use Rattle.pif_text.specs.declared.replies.Fact.{Fact}
+use Rattle.pif_text.specs.declared.replies.Fact.TheVariants as fact
 use Rattle.pif_text.specs.declared.replies.Cause.{Cause}
 use Rattle.pif_text.specs.declared.replies.Cause.TheVariants as cause
 use Rattle.pif_text.specs.declared.replies.Reply.{Reply}
@@ -20,81 +25,85 @@ use Rattle.pif_text.specs.declared.replies.Reply.TheVariants as reply
 use Rattle.pif_text.specs.Commands.{command_in}
 use Rattle.pif_text.specs.Replies.{text_of}
 use Rattle.pif_scripts.specs.declared.faults.CliFault.{CliFault}
-use Rattle.pif_scripts.specs.declared.faults.CliFault.TheVariants as fault
+use Rattle.pif_scripts.specs.declared.faults.CliFault.TheVariants as cli_fault
 use Rattle.pif_scripts.specs.Runs.{RunsFrom, end_line}
 use Rattle.pif_scripts.specs.declared.reading.ending.Ending.TheVariants.{Fault, Differs}
 use Rattle.pif_scripts.specs.declared.reading.ending.OpenFault.{OpenFault}
 use Rattle.pif_scripts.specs.declared.reading.ending.OpenFault.TheVariants.{Ended, NoMemory}
 use Rattle.pif_scripts.specs.Scripts.{Meaning, FirstMeaning, Hearing, start}
 
--- the reply that says what an event was answered
-abbrev pub reply_of_seen : Seen → Reply
-reply_of_seen SeenBegun = reply.Begun
-reply_of_seen SeenWent = reply.Went
-reply_of_seen SeenWaits = reply.Waits
-reply_of_seen (SeenAnswered a) = reply.Answer a
-reply_of_seen SeenEnded = reply.Ended
-reply_of_seen (SeenRefused r) = reply.Refused r
-
 -- a reply, and the table afterwards
 abbrev pub Answer : Type 0
 Answer = Reply × Table
 
-abbrev pub answer_of_outcome : Outcome → Answer
-answer_of_outcome o = (reply_of_seen o.seen, o.after)
+-- ---- additions
 
-abbrev pub reply_of_thread : Result ℕ AddFault → Reply
-reply_of_thread (Ok t) = reply.Thread t
-reply_of_thread (Err e) = reply.NotAdded e
+abbrev pub added_thread : Result ℕ AddFault → Added
+added_thread (Ok t) = added.Thread t
+added_thread (Err e) = added.Refused e
 
-abbrev pub reply_of_mutex : Result ℕ AddFault → Reply
-reply_of_mutex (Ok m) = reply.Mutex m
-reply_of_mutex (Err e) = reply.NotAdded e
+abbrev pub added_mutex : Result ℕ AddFault → Added
+added_mutex (Ok m) = added.Mutex m
+added_mutex (Err e) = added.Refused e
 
-abbrev pub reply_of_cond : Result ℕ AddFault → Reply
-reply_of_cond (Ok c) = reply.Cond c
-reply_of_cond (Err e) = reply.NotAdded e
+abbrev pub added_cond : Result ℕ AddFault → Added
+added_cond (Ok c) = added.Cond c
+added_cond (Err e) = added.Refused e
 
-abbrev pub reply_of_word : Option ℕ → Reply
-reply_of_word (Some w) = reply.Word w
-reply_of_word None = reply.Refused NoSuch
+-- what an addition is answered
+unfoldable pub addition_answer : Addition → Table → Added
+addition_answer (Thread p) s = added_thread (add_thread_answer p s)
+addition_answer (Mutex k robust) s = added_mutex (add_mutex_answer s)
+addition_answer (Cond m) s = added_cond (add_cond_answer m s)
 
-abbrev pub reply_of_health : Option Health → Reply
-reply_of_health (Some h) = reply.Health h
-reply_of_health None = reply.Refused NoSuch
+-- and the table after it
+unfoldable pub addition_after : Addition → Table → Table
+addition_after (Thread p) s = add_thread_after p (add_thread_answer p s) s
+addition_after (Mutex k robust) s = add_mutex_after k robust (add_mutex_answer s) s
+addition_after (Cond m) s = add_cond_after m (add_cond_answer m s) s
 
-abbrev pub reply_of_uses : Option ℕ → Reply
-reply_of_uses (Some n) = reply.Uses n
-reply_of_uses None = reply.Refused NoSuch
+-- ---- questions
+
+-- a fact about what was added, or that it wasn't
+abbrev pub fact_or_none : {A : Type 0} → (A → Fact) → Option A → Fact
+fact_or_none told (Some x) = told x
+fact_or_none told None = fact.NoSuch
 
 -- whether a thread of this number, which is at least 1, was ever added
 abbrev pub was_added : ℕ → Table → Bool
 was_added t s = nat_le t (threads_answer s)
 
 -- the priority that a thread runs at: one that was added and runs at none has ended
-abbrev pub reply_of_priority : Option ℕ → Bool → Reply
-reply_of_priority (Some p) added = reply.Priority p
-reply_of_priority None added = if added then reply.Dead else reply.Refused NoSuch
+abbrev pub priority_fact : Option ℕ → Bool → Fact
+priority_fact (Some p) added = fact.Priority p
+priority_fact None added = if added then fact.Dead else fact.NoSuch
 
--- what a command does; `limits` is none behind the first line. `finish`: a thread goes on, at most 24 times; `call`: it
--- begins the call, and if that is not refused it goes on so
+-- what a question is answered
+unfoldable pub question_answer : Question → Table → Fact
+question_answer (question.Word m) s = fact_or_none fact.Word (word_answer m s)
+question_answer (question.Health m) s = fact_or_none fact.Health (health_answer m s)
+question_answer (question.CondWord c) s = fact_or_none fact.Uses (cond_word_answer c s)
+question_answer (question.Prio t) s = priority_fact (effective_answer t s) (was_added t s)
+question_answer question.Pick s = fact.Thread (pick_answer s)
+
+-- ---- commands
+
+-- a thread goes on, at most 24 times; with a request it begins that call, and if that is not refused it goes on so
+abbrev pub run_outcome : ℕ → Option Request → Table → Outcome
+run_outcome t (Some q) s = call_outcome t q s
+run_outcome t None s = goes_on 23 t s
+
+-- the last that was seen of events
+abbrev pub seen_answer : Outcome → Answer
+seen_answer o = (reply.Seen o.seen, o.after)
+
+-- what a command does; `limits` is none behind the first line
 unfoldable pub command_answer : Command → Table → Option Answer
 command_answer (Limits t m c n) s = None
-command_answer (Thread p) s =
-    Some (reply_of_thread (add_thread_answer p s), add_thread_after p (add_thread_answer p s) s)
-command_answer (Mutex k robust) s =
-    Some (reply_of_mutex (add_mutex_answer s), add_mutex_after k robust (add_mutex_answer s) s)
-command_answer (Cond m) s = Some (reply_of_cond (add_cond_answer m s), add_cond_after m (add_cond_answer m s) s)
-command_answer (Begin t q) s = Some (answer_of_outcome (event_outcome (BeginEvent t q) s))
-command_answer (Go t) s = Some (answer_of_outcome (event_outcome (GoEvent t) s))
-command_answer (End t) s = Some (answer_of_outcome (event_outcome (EndEvent t) s))
-command_answer (Call t q) s = Some (answer_of_outcome (call_outcome t q s))
-command_answer (Finish t) s = Some (answer_of_outcome (goes_on 23 t s))
-command_answer (Word m) s = Some (reply_of_word (word_answer m s), s)
-command_answer (HealthOf m) s = Some (reply_of_health (health_answer m s), s)
-command_answer (CondWord c) s = Some (reply_of_uses (cond_word_answer c s), s)
-command_answer (Prio t) s = Some (reply_of_priority (effective_answer t s) (was_added t s), s)
-command_answer Pick s = Some (reply.Picked (pick_answer s), s)
+command_answer (Add a) s = Some (reply.Added (addition_answer a s), addition_after a s)
+command_answer (Event e) s = Some (seen_answer (event_outcome e s))
+command_answer (Run t q) s = Some (seen_answer (run_outcome t q s))
+command_answer (Ask q) s = Some (reply.Told (question_answer q s), s)
 
 -- an answer, or the fault `command`
 abbrev pub answer_or_fault : Option Answer → Result Answer Cause
@@ -176,5 +185,5 @@ script = record {
 -- a run of a script, by what the reader had and has left, and what the writer held and holds; it has no differences
 abbrev pub RunsTo : (before after held holds : Option (List ℕ)) → Result (Unit {0}) CliFault → Type 0
 RunsTo before after held holds (Ok x) = RunsFrom script start before after held holds (Ok x)
-RunsTo before after held holds (Err (fault.Differs line)) = ⊥
+RunsTo before after held holds (Err (cli_fault.Differs line)) = ⊥
 RunsTo before after held holds (Err e) = RunsFrom script start before after held holds (Err e)

@@ -4,47 +4,30 @@ use Rattle.std.specs.Io.KnownBytes.{Appends, Consumes, IsAtEnd, Keeps}
 use Rattle.pif_types.specs.Bounds.{Bounds, IsWithin}
 use Rattle.pif_model.specs.declared.events.Entry.{Entry}
 use Rattle.pif_model.specs.declared.events.Entry.TheVariants.{Thread as AddedThread, Mutex as AddedMutex, Cond as AddedCond, Step}
-use Rattle.pif_model.specs.declared.events.Event.{Event}
-use Rattle.pif_model.specs.declared.events.Event.TheVariants.{Begin as BeginEvent, Go as GoEvent, End as EndEvent}
 use Rattle.pif_model.specs.Calls.{add_thread_answer, add_thread_after, add_mutex_answer, add_mutex_after, add_cond_answer, add_cond_after}
 use Rattle.pif_model.specs.Lines.{event_outcome}
 use Rattle.pif_model.specs.Table.{Table, new_table}
 use Rattle.pif_text.specs.declared.commands.Command.{Command}
-use Rattle.pif_text.specs.declared.commands.Command.TheVariants.{Limits, Thread, Mutex, Cond, Begin, Go, End as EndThread, Call, Finish, Word, Health, CondWord, Prio, Pick}
+use Rattle.pif_text.specs.declared.commands.Command.TheVariants.{Limits, Add, Event}
+use Rattle.pif_text.specs.declared.commands.Addition.TheVariants.{Thread, Mutex, Cond}
 use Rattle.pif_text.specs.declared.replies.Cause.{Cause}
 use Rattle.pif_text.specs.declared.replies.Cause.TheVariants.{Command as NoCommand}
 use Rattle.pif_text.specs.declared.replies.Reply.{Reply}
 use Rattle.pif_text.specs.declared.replies.Reply.TheVariants as reply
+use Rattle.pif_text.specs.declared.replies.Added.TheVariants as added
 use Rattle.pif_text.specs.Commands.{command_in}
 use Rattle.pif_text.specs.CommandTexts.{IsWritten, command_text}
 use Rattle.pif_text.specs.Replies.{text_of}
-use Rattle.pif_text.specs.Traces.{IsTraced, header_text, parts_of, recorded, same_of}
+use Rattle.pif_text.specs.Traces.{IsTraced, header_text, if_traced, parts_of, recorded, same_of}
 use Rattle.pif_scripts.specs.declared.faults.CliFault.{CliFault}
 use Rattle.pif_scripts.specs.declared.faults.CliFault.TheVariants as fault
 use Rattle.pif_scripts.specs.declared.reading.ending.Ending.TheVariants.{Fault, Differs}
 use Rattle.pif_scripts.specs.declared.reading.ending.End.{End}
 use Rattle.pif_scripts.specs.Scripts.{Meaning, FirstMeaning, Hearing, Reading, start, reading_of, ended_by, NeedsIn}
 use Rattle.pif_scripts.specs.Runs.{WritesPart, end_line, last_text}
-use Rattle.pif_scripts.specs.Running.{Answer, answer_or_fault, command_answer, first_answer, made_by, reply_of_seen}
+use Rattle.pif_scripts.specs.Running.{Answer, answer_or_fault, command_answer, first_answer, made_by}
 
 -- ---- reading
-
--- a command, if it stands in traces
-abbrev pub if_traced : Command → Option Command
-if_traced (Limits t m c n) = Some (Limits t m c n)
-if_traced (Thread p) = Some (Thread p)
-if_traced (Mutex k robust) = Some (Mutex k robust)
-if_traced (Cond m) = Some (Cond m)
-if_traced (Begin t q) = Some (Begin t q)
-if_traced (Go t) = Some (Go t)
-if_traced (EndThread t) = Some (EndThread t)
-if_traced (Call t q) = None
-if_traced (Finish t) = None
-if_traced (Word m) = None
-if_traced (Health m) = None
-if_traced (CondWord c) = None
-if_traced (Prio t) = None
-if_traced Pick = None
 
 -- the command of a trace's line, and the answer that it records
 unfoldable pub traced_in : List ℕ → Option (Command × List ℕ)
@@ -131,18 +114,23 @@ ReplaysTo before after held holds result =
 
 -- ---- writing
 
--- an event as the command that asks for it
-abbrev pub event_command : Event → Command
-event_command (BeginEvent t q) = Begin t q
-event_command (GoEvent t) = Go t
-event_command (EndEvent t) = EndThread t
+-- the command that an entry asks for
+abbrev pub entry_command : Entry → Command
+entry_command (AddedThread t p) = Add (Thread p)
+entry_command (AddedMutex m k robust) = Add (Mutex k robust)
+entry_command (AddedCond c m) = Add (Cond m)
+entry_command (Step e seen) = Event e
+
+-- the answer that an entry records
+abbrev pub entry_reply : Entry → Reply
+entry_reply (AddedThread t p) = reply.Added (added.Thread t)
+entry_reply (AddedMutex m k robust) = reply.Added (added.Mutex m)
+entry_reply (AddedCond c m) = reply.Added (added.Cond c)
+entry_reply (Step e seen) = reply.Seen seen
 
 -- an entry of a history as a command and the answer to it
 unfoldable pub entry_text : Entry → List ℕ
-entry_text (AddedThread t p) = command_text (Thread p) ++ recorded (reply.Thread t)
-entry_text (AddedMutex m k robust) = command_text (Mutex k robust) ++ recorded (reply.Mutex m)
-entry_text (AddedCond c m) = command_text (Cond m) ++ recorded (reply.Cond c)
-entry_text (Step e seen) = command_text (event_command e) ++ recorded (reply_of_seen seen)
+entry_text e = command_text (entry_command e) ++ recorded (entry_reply e)
 
 -- limits as the command that names them, and the answer to it
 abbrev pub limits_text : Bounds → List ℕ
@@ -161,20 +149,6 @@ unfoldable pub trace : Bounds → List Entry → List ℕ
 trace b entries = front_lines b ++ flat_map entry_line entries
 
 -- ---- writing and reading again
-
--- the command that an entry asks for
-abbrev pub entry_command : Entry → Command
-entry_command (AddedThread t p) = Thread p
-entry_command (AddedMutex m k robust) = Mutex k robust
-entry_command (AddedCond c m) = Cond m
-entry_command (Step e seen) = event_command e
-
--- the answer that an entry records
-abbrev pub entry_reply : Entry → Reply
-entry_reply (AddedThread t p) = reply.Thread t
-entry_reply (AddedMutex m k robust) = reply.Mutex m
-entry_reply (AddedCond c m) = reply.Cond c
-entry_reply (Step e seen) = reply_of_seen seen
 
 -- an entry whose numbers a line can write, as those of each `Entry` are
 abbrev pub IsEntryWritten : Entry → Type 0

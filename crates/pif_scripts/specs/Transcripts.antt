@@ -8,18 +8,21 @@ use Rattle.pif_types.specs.declared.requests.Request.{Request}
 use Rattle.pif_model.specs.declared.events.Entry.{Entry}
 use Rattle.pif_model.specs.declared.events.Entry.TheVariants.{Thread as AddedThread, Mutex as AddedMutex, Cond as AddedCond, Step}
 use Rattle.pif_model.specs.declared.events.Event.{Event}
-use Rattle.pif_model.specs.declared.events.Event.TheVariants.{Begin as BeginEvent, Go as GoEvent, End as EndEvent}
 use Rattle.pif_model.specs.Table.{Table, new_table}
 use Rattle.pif_model.specs.Lines.{event_outcome}
 use Rattle.pif_model.specs.Calls.{add_thread_answer, add_mutex_answer, add_cond_answer}
 use Rattle.pif_uses.specs.Calls.{called, gone}
 use Rattle.pif_text.specs.declared.commands.Command.{Command}
-use Rattle.pif_text.specs.declared.commands.Command.TheVariants.{Limits, Thread, Mutex, Cond, Begin, Go, End as EndThread, Call, Finish, Word, Health, CondWord, Prio, Pick}
+use Rattle.pif_text.specs.declared.commands.Command.TheVariants.{Limits, Add, Event as EventOf, Run, Ask}
+use Rattle.pif_text.specs.declared.commands.Addition.{Addition}
+use Rattle.pif_text.specs.declared.commands.Addition.TheVariants.{Thread, Mutex, Cond}
+use Rattle.pif_text.specs.declared.replies.Added.{Added}
+use Rattle.pif_text.specs.declared.replies.Added.TheVariants as added
 use Rattle.pif_text.specs.declared.replies.Reply.{Reply}
 use Rattle.pif_text.specs.declared.replies.Reply.TheVariants as reply
 use Rattle.pif_text.specs.Commands.{command_in}
 use Rattle.pif_text.specs.CommandTexts.{command_text}
-use Rattle.pif_text.specs.Traces.{recorded, same_of}
+use Rattle.pif_text.specs.Traces.{if_traced, recorded, same_of}
 use Rattle.pif_scripts.specs.declared.faults.CliFault.{CliFault}
 use Rattle.pif_scripts.specs.declared.faults.CliFault.TheVariants as fault
 use Rattle.pif_scripts.specs.declared.reading.ending.Ending.TheVariants.{Fault}
@@ -27,7 +30,7 @@ use Rattle.pif_scripts.specs.declared.reading.ending.End.{End}
 use Rattle.pif_scripts.specs.Scripts.{Meaning, FirstMeaning, Hearing, Scan, Reading, start, byte_taken, reading_of, ended_by, NeedsIn}
 use Rattle.pif_scripts.specs.Runs.{WritesPart}
 use Rattle.pif_scripts.specs.Running.{command_answer, default_limits, first_line_meaning, limits_in, line_meaning, script}
-use Rattle.pif_scripts.specs.Traces.{entry_line, front_lines, if_traced, trace, verdict}
+use Rattle.pif_scripts.specs.Traces.{entry_line, front_lines, trace, verdict}
 
 -- ---- the entries that a script makes
 
@@ -44,6 +47,11 @@ going_entries more t s = reverse (gone more t s [])
 unfoldable pub call_entries : ℕ → Request → Table → List Entry
 call_entries t q s = reverse (called t q s [])
 
+-- the entries of a thread that goes on, with a request after it has begun that call
+abbrev pub run_entries : ℕ → Option Request → Table → List Entry
+run_entries t (Some q) s = call_entries t q s
+run_entries t None s = going_entries 23 t s
+
 -- an addition that was made; a refused one is no entry
 abbrev pub thread_entries : ℕ → Result ℕ AddFault → List Entry
 thread_entries p (Ok t) = AddedThread t p ∷ []
@@ -57,40 +65,27 @@ abbrev pub cond_entries : ℕ → Result ℕ AddFault → List Entry
 cond_entries m (Ok c) = AddedCond c m ∷ []
 cond_entries m (Err e) = []
 
+unfoldable pub addition_entries : Addition → Table → List Entry
+addition_entries (Thread p) s = thread_entries p (add_thread_answer p s)
+addition_entries (Mutex k robust) s = mutex_entries k robust (add_mutex_answer s)
+addition_entries (Cond m) s = cond_entries m (add_cond_answer m s)
+
 -- the entries that a command makes of a core that stands at s: additions that were made, and each event, refused or not;
 -- a question makes none
 unfoldable pub command_entries : Command → Table → List Entry
 command_entries (Limits t m c n) s = []
-command_entries (Thread p) s = thread_entries p (add_thread_answer p s)
-command_entries (Mutex k robust) s = mutex_entries k robust (add_mutex_answer s)
-command_entries (Cond m) s = cond_entries m (add_cond_answer m s)
-command_entries (Begin t q) s = event_entry (BeginEvent t q) s ∷ []
-command_entries (Go t) s = event_entry (GoEvent t) s ∷ []
-command_entries (EndThread t) s = event_entry (EndEvent t) s ∷ []
-command_entries (Call t q) s = call_entries t q s
-command_entries (Finish t) s = going_entries 23 t s
-command_entries (Word m) s = []
-command_entries (Health m) s = []
-command_entries (CondWord c) s = []
-command_entries (Prio t) s = []
-command_entries Pick s = []
+command_entries (Add a) s = addition_entries a s
+command_entries (EventOf e) s = event_entry e s ∷ []
+command_entries (Run t q) s = run_entries t q s
+command_entries (Ask q) s = []
 
 -- the limits of the core that a first command makes: those that it names, if each is in its range, or else the default
 unfoldable pub first_limits : Command → Option Bounds
 first_limits (Limits t m c n) = limits_in (record { threads = t; mutexes = m; conds = c; signals = n })
-first_limits (Thread p) = Some default_limits
-first_limits (Mutex k robust) = Some default_limits
-first_limits (Cond m) = Some default_limits
-first_limits (Begin t q) = Some default_limits
-first_limits (Go t) = Some default_limits
-first_limits (EndThread t) = Some default_limits
-first_limits (Call t q) = Some default_limits
-first_limits (Finish t) = Some default_limits
-first_limits (Word m) = Some default_limits
-first_limits (Health m) = Some default_limits
-first_limits (CondWord c) = Some default_limits
-first_limits (Prio t) = Some default_limits
-first_limits Pick = Some default_limits
+first_limits (Add a) = Some default_limits
+first_limits (EventOf e) = Some default_limits
+first_limits (Run t q) = Some default_limits
+first_limits (Ask q) = Some default_limits
 
 -- the entries that a first command makes of the core that it makes
 abbrev pub first_entries : Command → List Entry
@@ -174,25 +169,19 @@ entry_lines entries = flat_map entry_line entries
 abbrev pub row : Command → Reply → List ℕ
 row c r = (command_text c ++ recorded r) ++ 10 ∷ []
 
+-- whether an addition was made
+abbrev pub is_added : Added → Bool
+is_added (added.Thread t) = true
+is_added (added.Mutex m) = true
+is_added (added.Cond c) = true
+is_added (added.Refused e) = false
+
 -- whether an addition was made, or it was none
 abbrev pub was_made : Reply → Bool
-was_made (reply.NotAdded e) = false
 was_made reply.Done = true
-was_made (reply.Thread t) = true
-was_made (reply.Mutex m) = true
-was_made (reply.Cond c) = true
-was_made reply.Begun = true
-was_made reply.Went = true
-was_made reply.Waits = true
-was_made (reply.Answer n) = true
-was_made reply.Ended = true
-was_made (reply.Refused r) = true
-was_made (reply.Word w) = true
-was_made (reply.Health h) = true
-was_made (reply.Uses n) = true
-was_made (reply.Priority p) = true
-was_made reply.Dead = true
-was_made (reply.Picked t) = true
+was_made (reply.Added a) = is_added a
+was_made (reply.Seen s) = true
+was_made (reply.Told f) = true
 
 -- the line of a command that makes one entry at most, by what it was answered
 abbrev pub single_line : Command → Reply → List ℕ

@@ -1,13 +1,13 @@
 ghost use Rattle.std.specs.Prelude.{◌≡◌, Option, Some, None, Ok, Err, option_map, bytes_eq, if◌then◌else◌};
 ghost use Rattle.pif_text.specs.Replies.{text_of};
 ghost use Rattle.pif_model.specs.Table.{Table};
-ghost use Rattle.pif_scripts.specs.Traces.{if_traced, traced_in, trace_hearing};
+ghost use Rattle.pif_scripts.specs.Traces.{traced_in, trace_hearing};
 
 use crate::reading::{End, Ending, Listener, OpenFault, Output, append, append_end};
 use crate::running::{obey, open_core};
 use pif_core::Core;
 use pif_text::{
-    Cause, Command, HEADER, Reply, Text, command_of, reply_text, same_text, split_answer,
+    Cause, Command, HEADER, Reply, Text, command_of, if_traced, reply_text, same_text, split_answer,
 };
 use std::alloc::Global;
 use std::marker::Model;
@@ -22,22 +22,6 @@ impl Model for Replayed {
     ghost Value = { Table };
 
     ghost view = { λ r. r.core };
-}
-
-/// A command, if it stands in traces.
-pub fn if_traced(command: Command) -> Option<Command>
-    ensures { result ≡ if_traced command }
-{
-    match command {
-        Command::Call(..) => None,
-        Command::Finish(_) => None,
-        Command::Word(_) => None,
-        Command::Health(_) => None,
-        Command::CondWord(_) => None,
-        Command::Prio(_) => None,
-        Command::Pick => None,
-        traced => Some(traced),
-    }
 }
 
 /// The command of a trace's line, and the answer that it records.

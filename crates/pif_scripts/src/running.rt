@@ -2,84 +2,86 @@ ghost use Rattle.std.specs.Prelude.{◌≡◌, ◌+◌, ◌≤◌, ◌++◌, ◌
 ghost use Rattle.arrayvec.specs.ArrayVec.{array_vec_len};
 ghost use Rattle.pif_types.specs.Bounds.{Bounds};
 ghost use Rattle.pif_model.specs.Table.{new_table};
+ghost use Rattle.pif_text.specs.declared.replies.Fact.TheVariants as fact;
 ghost use Rattle.pif_text.specs.Replies.{text_of};
-ghost use Rattle.pif_scripts.specs.Running.{reply_of_seen, reply_of_thread, reply_of_mutex, reply_of_cond, reply_of_word, reply_of_health, reply_of_uses, was_added, reply_of_priority, command_answer, default_limits, script, first_answer, limited_answer, answer_or_fault, IsAnswer, Makes};
+ghost use Rattle.pif_scripts.specs.Running.{added_thread, added_mutex, added_cond, addition_answer, addition_after, fact_or_none, was_added, priority_fact, question_answer, run_outcome, command_answer, default_limits, script, first_answer, limited_answer, answer_or_fault, IsAnswer, Makes};
 
 use crate::reading::{
     ANSWER_ROOM, End, Ending, Listener, OUTPUT_ROOM, OpenFault, Output, REPLY_ROOM, append,
     append_end,
 };
-use pif_core::{Core, Event, Seen};
-use pif_text::{Cause, Command, Reply, Text, command_of, reply_text};
-use pif_types::{AddFault, CondId, Health, Limits, MutexId, Prio, Refusal, Tid};
+use pif_core::{Core, Seen};
+use pif_text::{
+    Added, Addition, Cause, Command, Fact, Question, Reply, Text, command_of, reply_text,
+};
+use pif_types::{AddFault, CondId, Health, Limits, MutexId, Prio, Request, Tid};
 use pif_uses::{call, finish};
 use std::alloc::Global;
 
-/// The reply that says what an event was answered.
-pub fn reply_of_seen(seen: Seen) -> Reply
-    ensures { result ≡ reply_of_seen seen }
-{
-    match seen {
-        Seen::Begun => Reply::Begun,
-        Seen::Went => Reply::Went,
-        Seen::Waits => Reply::Waits,
-        Seen::Answered(answer) => Reply::Answer(answer),
-        Seen::Ended => Reply::Ended,
-        Seen::Refused(refusal) => Reply::Refused(refusal),
-    }
-}
-
-fn reply_of_thread(added: Result<Tid, AddFault>) -> Reply
-    ensures { result ≡ reply_of_thread added }
+fn added_thread(added: Result<Tid, AddFault>) -> Added
+    ensures { result ≡ added_thread added }
 {
     match added {
-        Ok(thread) => Reply::Thread(thread),
-        Err(fault) => Reply::NotAdded(fault),
+        Ok(thread) => Added::Thread(thread),
+        Err(fault) => Added::Refused(fault),
     }
 }
 
-fn reply_of_mutex(added: Result<MutexId, AddFault>) -> Reply
-    ensures { result ≡ reply_of_mutex added }
+fn added_mutex(added: Result<MutexId, AddFault>) -> Added
+    ensures { result ≡ added_mutex added }
 {
     match added {
-        Ok(mutex) => Reply::Mutex(mutex),
-        Err(fault) => Reply::NotAdded(fault),
+        Ok(mutex) => Added::Mutex(mutex),
+        Err(fault) => Added::Refused(fault),
     }
 }
 
-fn reply_of_cond(added: Result<CondId, AddFault>) -> Reply
-    ensures { result ≡ reply_of_cond added }
+fn added_cond(added: Result<CondId, AddFault>) -> Added
+    ensures { result ≡ added_cond added }
 {
     match added {
-        Ok(cond) => Reply::Cond(cond),
-        Err(fault) => Reply::NotAdded(fault),
+        Ok(cond) => Added::Cond(cond),
+        Err(fault) => Added::Refused(fault),
     }
 }
 
-fn reply_of_word(word: Option<u32>) -> Reply
-    ensures { result ≡ reply_of_word word }
+/// Makes an addition, and says what it is answered.
+#[tactic(auto, unfolding(crate::specs::Running::addition_answer, crate::specs::Running::addition_after))]
+fn add(core: &mut Core, addition: Addition) -> Added
+    ensures answer { result ≡ addition_answer addition core.old }
+    ensures after { core.new ≡ addition_after addition core.old }
+{
+    match addition {
+        Addition::Thread(priority) => added_thread(core.add_thread(priority)),
+        Addition::Mutex(kind, robust) => added_mutex(core.add_mutex(kind, robust)),
+        Addition::Cond(mutex) => added_cond(core.add_cond(mutex)),
+    }
+}
+
+fn word_fact(word: Option<u32>) -> Fact
+    ensures { result ≡ fact_or_none fact.Word word }
 {
     match word {
-        Some(word) => Reply::Word(word),
-        None => Reply::Refused(Refusal::NoSuch),
+        Some(word) => Fact::Word(word),
+        None => Fact::NoSuch,
     }
 }
 
-fn reply_of_health(health: Option<Health>) -> Reply
-    ensures { result ≡ reply_of_health health }
+fn health_fact(health: Option<Health>) -> Fact
+    ensures { result ≡ fact_or_none fact.Health health }
 {
     match health {
-        Some(health) => Reply::Health(health),
-        None => Reply::Refused(Refusal::NoSuch),
+        Some(health) => Fact::Health(health),
+        None => Fact::NoSuch,
     }
 }
 
-fn reply_of_uses(uses: Option<u32>) -> Reply
-    ensures { result ≡ reply_of_uses uses }
+fn uses_fact(uses: Option<u32>) -> Fact
+    ensures { result ≡ fact_or_none fact.Uses uses }
 {
     match uses {
-        Some(uses) => Reply::Uses(uses),
-        None => Reply::Refused(Refusal::NoSuch),
+        Some(uses) => Fact::Uses(uses),
+        None => Fact::NoSuch,
     }
 }
 
@@ -91,16 +93,37 @@ fn was_added(core: &Core, thread: Tid) -> bool
 }
 
 /// The priority that a thread runs at; one that was added and runs at none has ended.
-fn reply_of_priority(priority: Option<Prio>, added: bool) -> Reply
-    ensures { result ≡ reply_of_priority priority added }
+fn priority_fact(priority: Option<Prio>, added: bool) -> Fact
+    ensures { result ≡ priority_fact priority added }
 {
     match priority {
-        Some(priority) => Reply::Priority(priority),
-        None => if added {
-            Reply::Dead
-        } else {
-            Reply::Refused(Refusal::NoSuch)
-        },
+        Some(priority) => Fact::Priority(priority),
+        None => if added { Fact::Dead } else { Fact::NoSuch },
+    }
+}
+
+/// What a question is answered.
+#[tactic(auto, unfolding(crate::specs::Running::question_answer))]
+fn ask(core: &Core, question: Question) -> Fact
+    ensures { result ≡ question_answer question core.now }
+{
+    match question {
+        Question::Word(mutex) => word_fact(core.word(mutex)),
+        Question::Health(mutex) => health_fact(core.health(mutex)),
+        Question::CondWord(cond) => uses_fact(core.cond_word(cond)),
+        Question::Prio(thread) => priority_fact(core.effective(thread), was_added(core, thread)),
+        Question::Pick => Fact::Thread(core.pick()),
+    }
+}
+
+/// A thread goes on with its call, after it has begun this one, if one is given.
+fn run(core: &mut Core, thread: Tid, request: Option<Request>) -> Seen
+    ensures seen { result ≡ (run_outcome thread request core.old).seen }
+    ensures after { core.new ≡ (run_outcome thread request core.old).after }
+{
+    match request {
+        Some(request) => call(core, thread, request),
+        None => finish(core, thread),
     }
 }
 
@@ -112,23 +135,10 @@ pub fn obey(core: &mut Core, command: Command) -> Option<Reply>
 {
     match command {
         Command::Limits(..) => None,
-        Command::Thread(priority) => Some(reply_of_thread(core.add_thread(priority))),
-        Command::Mutex(kind, robust) => Some(reply_of_mutex(core.add_mutex(kind, robust))),
-        Command::Cond(mutex) => Some(reply_of_cond(core.add_cond(mutex))),
-        Command::Begin(thread, request) => {
-            Some(reply_of_seen(core.step(Event::Begin(thread, request))))
-        }
-        Command::Go(thread) => Some(reply_of_seen(core.step(Event::Go(thread)))),
-        Command::End(thread) => Some(reply_of_seen(core.step(Event::End(thread)))),
-        Command::Call(thread, request) => Some(reply_of_seen(call(core, thread, request))),
-        Command::Finish(thread) => Some(reply_of_seen(finish(core, thread))),
-        Command::Word(mutex) => Some(reply_of_word(core.word(mutex))),
-        Command::Health(mutex) => Some(reply_of_health(core.health(mutex))),
-        Command::CondWord(cond) => Some(reply_of_uses(core.cond_word(cond))),
-        Command::Prio(thread) => {
-            Some(reply_of_priority(core.effective(thread), was_added(core, thread)))
-        }
-        Command::Pick => Some(Reply::Picked(core.pick())),
+        Command::Add(addition) => Some(Reply::Added(add(core, addition))),
+        Command::Event(event) => Some(Reply::Seen(core.step(event))),
+        Command::Run(thread, request) => Some(Reply::Seen(run(core, thread, request))),
+        Command::Ask(question) => Some(Reply::Told(ask(core, question))),
     }
 }
 

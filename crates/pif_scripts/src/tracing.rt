@@ -1,15 +1,14 @@
 ghost use Rattle.std.specs.Prelude.{◌≡◌, ◌+◌, ◌≤◌, ◌++◌};
 ghost use Rattle.pif_scripts.specs.Runs.{Writes};
-ghost use Rattle.pif_scripts.specs.Traces.{SameAgain, event_command, entry_text, entry_line, front_lines, limits_text, trace};
+ghost use Rattle.pif_scripts.specs.Traces.{SameAgain, entry_command, entry_reply, entry_text, entry_line, front_lines, limits_text, trace};
 ghost use Rattle.arrayvec.specs.ArrayVec.{array_vec_len};
 
 use crate::CliFault;
-use crate::running::reply_of_seen;
 use crate::writing::write_whole;
-use pif_core::{Entry, Event};
+use pif_core::Entry;
 use pif_text::{
-    COMMAND_ROOM, Command, RECORDED_ROOM, Reply, TEXT_ROOM, Text, command_text, header_text,
-    recorded_text,
+    Added, Addition, COMMAND_ROOM, Command, RECORDED_ROOM, Reply, TEXT_ROOM, Text, command_text,
+    header_text, recorded_text,
 };
 use pif_types::Limits;
 use std::io::Write;
@@ -20,14 +19,27 @@ pub const ROW_ROOM: usize = COMMAND_ROOM + RECORDED_ROOM;
 /// The most bytes of the first two lines of a trace.
 pub const FRONT_ROOM: usize = 13 + ROW_ROOM;
 
-/// The command that asks for an event.
-pub fn event_command(event: Event) -> Command
-    ensures { result ≡ event_command event }
+/// The command that an entry asks for.
+fn entry_command(entry: Entry) -> Command
+    ensures { result ≡ entry_command entry }
 {
-    match event {
-        Event::Begin(thread, request) => Command::Begin(thread, request),
-        Event::Go(thread) => Command::Go(thread),
-        Event::End(thread) => Command::End(thread),
+    match entry {
+        Entry::Thread(_, priority) => Command::Add(Addition::Thread(priority.get())),
+        Entry::Mutex(_, kind, robust) => Command::Add(Addition::Mutex(kind, robust)),
+        Entry::Cond(_, mutex) => Command::Add(Addition::Cond(mutex)),
+        Entry::Step(event, _) => Command::Event(event),
+    }
+}
+
+/// The answer that an entry records.
+fn entry_reply(entry: Entry) -> Reply
+    ensures { result ≡ entry_reply entry }
+{
+    match entry {
+        Entry::Thread(thread, _) => Reply::Added(Added::Thread(thread)),
+        Entry::Mutex(mutex, ..) => Reply::Added(Added::Mutex(mutex)),
+        Entry::Cond(cond, _) => Reply::Added(Added::Cond(cond)),
+        Entry::Step(_, seen) => Reply::Seen(seen),
     }
 }
 
@@ -38,24 +50,9 @@ fn append_entry(entry: Entry, text: &mut Text)
     ensures written { text.new.items ≡ text.old.items ++ entry_text entry }
     ensures within { array_vec_len text.new ≤ array_vec_len text.old + ROW_ROOM }
 {
-    match entry {
-        Entry::Thread(thread, priority) => {
-            command_text(Command::Thread(priority.get()), text);
-            recorded_text(Reply::Thread(thread), text);
-        }
-        Entry::Mutex(mutex, kind, robust) => {
-            command_text(Command::Mutex(kind, robust), text);
-            recorded_text(Reply::Mutex(mutex), text);
-        }
-        Entry::Cond(cond, mutex) => {
-            command_text(Command::Cond(mutex), text);
-            recorded_text(Reply::Cond(cond), text);
-        }
-        Entry::Step(event, seen) => {
-            command_text(event_command(event), text);
-            recorded_text(reply_of_seen(seen), text);
-        }
-    }
+    let answered = entry;
+    command_text(entry_command(entry), text);
+    recorded_text(entry_reply(answered), text);
 }
 
 /// Appends limits as the command that names them, and the answer to it.

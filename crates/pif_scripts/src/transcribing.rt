@@ -5,15 +5,17 @@ ghost use Rattle.pif_model.specs.Table.{Table};
 ghost use Rattle.pif_model.specs.declared.events.Event.TheVariants as event;
 ghost use Rattle.pif_model.specs.Lines.{event_outcome, goes_on};
 ghost use Rattle.pif_uses.specs.Calls.{call_outcome};
-ghost use Rattle.pif_scripts.specs.Traces.{event_command, entry_line};
-ghost use Rattle.pif_scripts.specs.Transcripts.{Transcribed, call_entries, entry_lines, event_entry, first_limits, going_entries, row, single_line, transcript, was_made};
+ghost use Rattle.pif_scripts.specs.Running.{run_outcome};
+ghost use Rattle.pif_scripts.specs.Traces.{entry_line};
+ghost use Rattle.pif_scripts.specs.Transcripts.{Transcribed, call_entries, entry_lines, event_entry, first_limits, going_entries, is_added, row, run_entries, single_line, transcript, was_made};
 
 use crate::reading::{End, Ending, Listener, OUTPUT_ROOM, OpenFault, Output, append};
-use crate::replaying::if_traced;
-use crate::running::{default_limits, obey, reply_of_seen};
-use crate::tracing::{ROW_ROOM, event_command, front_lines};
+use crate::running::{default_limits, obey};
+use crate::tracing::{ROW_ROOM, front_lines};
 use pif_core::{Core, Event, Seen};
-use pif_text::{Cause, Command, Reply, Text, command_of, command_text, recorded_text};
+use pif_text::{
+    Added, Cause, Command, Reply, Text, command_of, command_text, if_traced, recorded_text,
+};
 use pif_types::{Limits, Request, Tid};
 use pif_uses::MORE_STEPS;
 use std::alloc::Global;
@@ -62,10 +64,9 @@ fn step(core: &mut Core, event: Event, output: &mut Output) -> Seen
     ensures room { array_vec_len output.new ≤ array_vec_len output.old + LINE_ROOM }
 {
     let asked = event;
-    let command = event_command(event);
-    let seen = core.step(asked);
+    let seen = core.step(event);
     let answered = seen;
-    append_row(command, reply_of_seen(seen), output);
+    append_row(Command::Event(asked), Reply::Seen(seen), output);
     answered
 }
 
@@ -100,12 +101,36 @@ fn call(core: &mut Core, thread: Tid, request: Request, output: &mut Output) -> 
     }
 }
 
+/// A thread that goes on, in a whole call where a request is given, with a line for each event.
+fn run(core: &mut Core, thread: Tid, request: Option<Request>, output: &mut Output) -> Seen
+    requires { array_vec_len output.old + LINES_ROOM ≤ OUTPUT_ROOM }
+    ensures seen { result ≡ (run_outcome thread request core.old).seen }
+    ensures after { core.new ≡ (run_outcome thread request core.old).after }
+    ensures told { output.new.items ≡ output.old.items ++ entry_lines (run_entries thread request core.old) }
+    ensures room { array_vec_len output.new ≤ array_vec_len output.old + LINES_ROOM }
+{
+    match request {
+        Some(request) => call(core, thread, request, output),
+        None => finish(core, thread, output),
+    }
+}
+
+/// Whether an addition was made.
+fn is_added(added: Added) -> bool
+    ensures { result ≡ is_added added }
+{
+    match added {
+        Added::Refused(_) => false,
+        _ => true,
+    }
+}
+
 /// Whether an answer says that an addition was made, or it is not that of an addition.
 fn was_made(reply: Reply) -> bool
     ensures { result ≡ was_made reply }
 {
     match reply {
-        Reply::NotAdded(_) => false,
+        Reply::Added(added) => is_added(added),
         _ => true,
     }
 }
@@ -132,8 +157,7 @@ fn transcribe(core: &mut Core, command: Command, output: &mut Output) -> Option<
     ensures room { array_vec_len output.new ≤ array_vec_len output.old + LINES_ROOM }
 {
     match command {
-        Command::Call(thread, request) => Some(reply_of_seen(call(core, thread, request, output))),
-        Command::Finish(thread) => Some(reply_of_seen(finish(core, thread, output))),
+        Command::Run(thread, request) => Some(Reply::Seen(run(core, thread, request, output))),
         single => {
             let asked = single;
             match obey(core, single) {

@@ -1,5 +1,9 @@
 pub mod Splits
 pub mod Numerals
 pub mod Marks
+pub mod Names
+pub mod Yields
+pub mod QuestionLemmas
+pub mod Written
 pub mod ReadBack
 pub mod Plain

@@ -10,13 +10,21 @@ use Rattle.pif_types.specs.declared.errors.Refusal.TheVariants as refusal
 use Rattle.pif_types.specs.declared.requests.Kind.TheVariants.{Normal, ErrorCheck, Recursive}
 use Rattle.pif_types.specs.declared.requests.Request.{Request}
 use Rattle.pif_types.specs.declared.requests.Request.TheVariants.{Lock, TryLock, Unlock, Consistent, Wait, Signal, Broadcast, SetPrio}
+use Rattle.pif_model.specs.declared.events.Event.{Event}
+use Rattle.pif_model.specs.declared.events.Event.TheVariants.{Begin, Go, End}
+use Rattle.pif_model.specs.declared.events.Seen.{Seen}
+use Rattle.pif_model.specs.declared.events.Seen.TheVariants as seen
+use Rattle.pif_text.specs.declared.commands.Addition.{Addition}
+use Rattle.pif_text.specs.declared.commands.Addition.TheVariants.{Thread, Mutex, Cond}
 use Rattle.pif_text.specs.declared.commands.Command.{Command}
-use Rattle.pif_text.specs.declared.commands.Command.TheVariants.{Limits, Thread, Mutex, Cond, Begin, Go, End, Call, Finish, Word, Health, CondWord, Prio, Pick}
+use Rattle.pif_text.specs.declared.commands.Command.TheVariants as command
+use Rattle.pif_text.specs.declared.replies.Added.{Added}
+use Rattle.pif_text.specs.declared.replies.Added.TheVariants as added
 use Rattle.pif_text.specs.declared.replies.Reply.{Reply}
 use Rattle.pif_text.specs.declared.replies.Reply.TheVariants as reply
-use Rattle.pif_text.specs.CommandTexts.{command_text, request_text, IsWritten, IsRequestWritten}
-use Rattle.pif_text.specs.Replies.{text_of, thread_name, mutex_name, cond_name}
-use Rattle.pif_text.specs.Traces.{IsTraced, parts_of, recorded}
+use Rattle.pif_text.specs.CommandTexts.{command_text, addition_text, event_text, request_text, IsWritten, IsAdditionWritten, IsEventWritten, IsRequestWritten}
+use Rattle.pif_text.specs.Replies.{text_of, added_text, seen_text, thread_name, mutex_name, cond_name}
+use Rattle.pif_text.specs.Traces.{IsTraced, IsAddedTraced, IsSeenTraced, if_traced, parts_of, recorded}
 use Rattle.pif_text.proofs.Marks.{marked_here, unmarked_here, onto}
 use Rattle.pif_text.proofs.Numerals.{own}
 
@@ -91,76 +99,75 @@ plain-cond c small = plain-name 99 c refl refl small
 space-plain : IsPlain 1 (codes " ")
 space-plain = record { no_end = refl; no_equals = refl; short = omega arith }
 
+-- words of the grammar, and what stands behind them
+behind : (m n : ℕ) (xs ys : List ℕ) → lacks 10 xs ≡ true → lacks 61 xs ≡ true → length xs ≤ m → IsPlain n ys
+    → IsPlain (m + n) (xs ++ ys)
+behind m n xs ys e f h p = plain-append m n xs ys (record { no_end = e; no_equals = f; short = h }) p
+
+-- a space, and what stands behind it
+spaced : (m n : ℕ) (xs ys : List ℕ) → IsPlain m xs → IsPlain n ys → IsPlain (m + 1 + n) (xs ++ codes " " ++ ys)
+spaced m n xs ys p q = plain-append (m + 1) n (xs ++ codes " ") ys (plain-append m 1 xs (codes " ") p space-plain) q
+
 request-plain : (q : Request) → IsRequestWritten q → IsPlain 30 (request_text q)
 unfolding request_text
 request-plain (Lock m) r =
-    plain-more 16 30 _ (omega arith) (plain-append 5 11 (codes "lock ") (mutex_name m) (record { no_end = refl; no_equals = refl; short = omega arith }) (plain-mutex m r.1))
+    plain-more 16 30 _ (omega arith) (behind 5 11 (codes "lock ") _ refl refl (omega arith) (plain-mutex m r.1))
 request-plain (TryLock m) r =
-    plain-more 19 30 _ (omega arith) (plain-append 8 11 (codes "trylock ") (mutex_name m) (record { no_end = refl; no_equals = refl; short = omega arith }) (plain-mutex m r.1))
+    plain-more 19 30 _ (omega arith) (behind 8 11 (codes "trylock ") _ refl refl (omega arith) (plain-mutex m r.1))
 request-plain (Unlock m) r =
-    plain-more 18 30 _ (omega arith) (plain-append 7 11 (codes "unlock ") (mutex_name m) (record { no_end = refl; no_equals = refl; short = omega arith }) (plain-mutex m r.1))
+    plain-more 18 30 _ (omega arith) (behind 7 11 (codes "unlock ") _ refl refl (omega arith) (plain-mutex m r.1))
 request-plain (Consistent m) r =
-    plain-more 22 30 _ (omega arith)
-    (plain-append 11 11 (codes "consistent ") (mutex_name m) (record { no_end = refl; no_equals = refl; short = omega arith }) (plain-mutex m r.1))
+    plain-more 22 30 _ (omega arith) (behind 11 11 (codes "consistent ") _ refl refl (omega arith) (plain-mutex m r.1))
 request-plain (Wait c m) r =
-    plain-more 28 30 _ (omega arith) (plain-append 17 11 (codes "wait " ++ cond_name c ++ codes " ") (mutex_name m)
-    (plain-append 16 1 (codes "wait " ++ cond_name c) (codes " ")
-    (plain-append 5 11 (codes "wait ") (cond_name c) (record { no_end = refl; no_equals = refl; short = omega arith }) (plain-cond c r.0.1)) space-plain)
-    (plain-mutex m r.1.1))
+    plain-more 28 30 _ (omega arith) (spaced 16 11 (codes "wait " ++ cond_name c) (mutex_name m)
+    (behind 5 11 (codes "wait ") _ refl refl (omega arith) (plain-cond c r.0.1)) (plain-mutex m r.1.1))
 request-plain (Signal c) r =
-    plain-more 18 30 _ (omega arith) (plain-append 7 11 (codes "signal ") (cond_name c) (record { no_end = refl; no_equals = refl; short = omega arith }) (plain-cond c r.1))
+    plain-more 18 30 _ (omega arith) (behind 7 11 (codes "signal ") _ refl refl (omega arith) (plain-cond c r.1))
 request-plain (Broadcast c) r =
-    plain-more 21 30 _ (omega arith) (plain-append 10 11 (codes "broadcast ") (cond_name c) (record { no_end = refl; no_equals = refl; short = omega arith }) (plain-cond c r.1))
+    plain-more 21 30 _ (omega arith) (behind 10 11 (codes "broadcast ") _ refl refl (omega arith) (plain-cond c r.1))
 request-plain (SetPrio t p) r =
-    plain-append 20 10 (codes "setprio " ++ thread_name t ++ codes " ") (decimal p)
-    (plain-append 19 1 (codes "setprio " ++ thread_name t) (codes " ")
-    (plain-append 8 11 (codes "setprio ") (thread_name t) (record { no_end = refl; no_equals = refl; short = omega arith }) (plain-thread t r.0.1)) space-plain)
-    (plain-number p r.1)
+    spaced 19 10 (codes "setprio " ++ thread_name t) (decimal p)
+    (behind 8 11 (codes "setprio ") _ refl refl (omega arith) (plain-thread t r.0.1)) (plain-number p r.1)
 
--- the text of a command that a trace can ask for
-pub command-plain : (c : Command) → IsWritten c → IsPlain 60 (command_text c)
+limits-plain : (t m c s : ℕ) → IsWritten (command.Limits t m c s) → IsPlain 60 (command_text (command.Limits t m c s))
 unfolding command_text
-command-plain (Limits t m c s) r =
-    let three = λ (xs : List ℕ) (k : ℕ) (p : IsPlain k xs). plain-append k 1 xs (codes " ") p space-plain in
-    let first = plain-append 7 10 (codes "limits ") (decimal t) (record { no_end = refl; no_equals = refl; short = omega arith }) (plain-number t r.0) in
-    let second = plain-append 18 10 _ (decimal m) (three _ 17 first) (plain-number m r.1) in
-    let third = plain-append 29 10 _ (decimal c) (three _ 28 second) (plain-number c r.2) in
-    plain-more 50 60 _ (omega arith) (plain-append 40 10 _ (decimal s) (three _ 39 third) (plain-number s r.3))
-command-plain (Thread p) r =
-    plain-more 17 60 _ (omega arith) (plain-append 7 10 (codes "thread ") (decimal p) (record { no_end = refl; no_equals = refl; short = omega arith }) (plain-number p r))
-command-plain (Mutex Normal false) r = record { no_end = refl; no_equals = refl; short = omega arith }
-command-plain (Mutex Normal true) r = record { no_end = refl; no_equals = refl; short = omega arith }
-command-plain (Mutex ErrorCheck false) r = record { no_end = refl; no_equals = refl; short = omega arith }
-command-plain (Mutex ErrorCheck true) r = record { no_end = refl; no_equals = refl; short = omega arith }
-command-plain (Mutex Recursive false) r = record { no_end = refl; no_equals = refl; short = omega arith }
-command-plain (Mutex Recursive true) r = record { no_end = refl; no_equals = refl; short = omega arith }
-command-plain (Cond m) r =
-    plain-more 16 60 _ (omega arith) (plain-append 5 11 (codes "cond ") (mutex_name m) (record { no_end = refl; no_equals = refl; short = omega arith }) (plain-mutex m r.1))
-command-plain (Begin t q) r =
-    plain-more 48 60 _ (omega arith) (plain-append 18 30 (codes "begin " ++ thread_name t ++ codes " ") (request_text q)
-    (plain-append 17 1 (codes "begin " ++ thread_name t) (codes " ")
-    (plain-append 6 11 (codes "begin ") (thread_name t) (record { no_end = refl; no_equals = refl; short = omega arith }) (plain-thread t r.0.1)) space-plain)
-    (request-plain q r.1))
-command-plain (Go t) r =
-    plain-more 14 60 _ (omega arith) (plain-append 3 11 (codes "go ") (thread_name t) (record { no_end = refl; no_equals = refl; short = omega arith }) (plain-thread t r.1))
-command-plain (End t) r =
-    plain-more 15 60 _ (omega arith) (plain-append 4 11 (codes "end ") (thread_name t) (record { no_end = refl; no_equals = refl; short = omega arith }) (plain-thread t r.1))
-command-plain (Call t q) r =
-    plain-more 47 60 _ (omega arith) (plain-append 17 30 (codes "call " ++ thread_name t ++ codes " ") (request_text q)
-    (plain-append 16 1 (codes "call " ++ thread_name t) (codes " ")
-    (plain-append 5 11 (codes "call ") (thread_name t) (record { no_end = refl; no_equals = refl; short = omega arith }) (plain-thread t r.0.1)) space-plain)
-    (request-plain q r.1))
-command-plain (Finish t) r =
-    plain-more 18 60 _ (omega arith) (plain-append 7 11 (codes "finish ") (thread_name t) (record { no_end = refl; no_equals = refl; short = omega arith }) (plain-thread t r.1))
-command-plain (Word m) r =
-    plain-more 16 60 _ (omega arith) (plain-append 5 11 (codes "word ") (mutex_name m) (record { no_end = refl; no_equals = refl; short = omega arith }) (plain-mutex m r.1))
-command-plain (Health m) r =
-    plain-more 18 60 _ (omega arith) (plain-append 7 11 (codes "health ") (mutex_name m) (record { no_end = refl; no_equals = refl; short = omega arith }) (plain-mutex m r.1))
-command-plain (CondWord c) r =
-    plain-more 20 60 _ (omega arith) (plain-append 9 11 (codes "condword ") (cond_name c) (record { no_end = refl; no_equals = refl; short = omega arith }) (plain-cond c r.1))
-command-plain (Prio t) r =
-    plain-more 16 60 _ (omega arith) (plain-append 5 11 (codes "prio ") (thread_name t) (record { no_end = refl; no_equals = refl; short = omega arith }) (plain-thread t r.1))
-command-plain Pick r = record { no_end = refl; no_equals = refl; short = omega arith }
+limits-plain t m c s r =
+    let first = behind 7 10 (codes "limits ") (decimal t) refl refl (omega arith) (plain-number t r.0) in
+    let second = spaced 17 10 _ (decimal m) first (plain-number m r.1) in
+    let third = spaced 28 10 _ (decimal c) second (plain-number c r.2) in
+    plain-more 50 60 _ (omega arith) (spaced 39 10 _ (decimal s) third (plain-number s r.3))
+
+addition-plain : (a : Addition) → IsAdditionWritten a → IsPlain 60 (addition_text a)
+unfolding addition_text
+addition-plain (Thread p) r =
+    plain-more 17 60 _ (omega arith) (behind 7 10 (codes "thread ") _ refl refl (omega arith) (plain-number p r))
+addition-plain (Mutex Normal false) r = record { no_end = refl; no_equals = refl; short = omega arith }
+addition-plain (Mutex Normal true) r = record { no_end = refl; no_equals = refl; short = omega arith }
+addition-plain (Mutex ErrorCheck false) r = record { no_end = refl; no_equals = refl; short = omega arith }
+addition-plain (Mutex ErrorCheck true) r = record { no_end = refl; no_equals = refl; short = omega arith }
+addition-plain (Mutex Recursive false) r = record { no_end = refl; no_equals = refl; short = omega arith }
+addition-plain (Mutex Recursive true) r = record { no_end = refl; no_equals = refl; short = omega arith }
+addition-plain (Cond m) r =
+    plain-more 16 60 _ (omega arith) (behind 5 11 (codes "cond ") _ refl refl (omega arith) (plain-mutex m r.1))
+
+event-plain : (e : Event) → IsEventWritten e → IsPlain 60 (event_text e)
+unfolding event_text
+event-plain (Begin t q) r =
+    plain-more 48 60 _ (omega arith) (spaced 17 30 (codes "begin " ++ thread_name t) (request_text q)
+    (behind 6 11 (codes "begin ") _ refl refl (omega arith) (plain-thread t r.0.1)) (request-plain q r.1))
+event-plain (Go t) r =
+    plain-more 14 60 _ (omega arith) (behind 3 11 (codes "go ") _ refl refl (omega arith) (plain-thread t r.1))
+event-plain (End t) r =
+    plain-more 15 60 _ (omega arith) (behind 4 11 (codes "end ") _ refl refl (omega arith) (plain-thread t r.1))
+
+-- the text of a command that stands in traces
+command-plain : (c : Command) → IsWritten c → if_traced c ≡ Some c → IsPlain 60 (command_text c)
+unfolding command_text
+command-plain (command.Limits t m c s) r e = limits-plain t m c s r
+command-plain (command.Add a) r e = addition-plain a r
+command-plain (command.Event v) r e = event-plain v r
+command-plain (command.Run t q) r e = cc
+command-plain (command.Ask q) r e = cc
 
 -- ---- a command and the answer to it
 
@@ -180,41 +187,45 @@ parts_of-recorded (x ∷ xs) text e =
     unmarked_here x (xs ++ 32 ∷ 61 ∷ 32 ∷ text) (and_right (x == 32) (bytes_eq (codes "= ") (take 2 (xs ++ 32 ∷ 61 ∷ 32 ∷ text))) (space_first xs text t.1))
     ∙ ap (onto x) (parts_of-recorded xs text t.1)
 
--- the text of an answer that stands in traces
-pub reply-plain : (r : Reply) → IsTraced r → IsPlain 20 (text_of r)
+-- the texts of answers that stand in traces
+added-plain : (a : Added) → IsAddedTraced a → IsPlain 20 (added_text a)
+unfolding added_text
+added-plain (added.Thread t) r = plain-more 11 20 _ (omega arith) (plain-thread t r)
+added-plain (added.Mutex m) r = plain-more 11 20 _ (omega arith) (plain-mutex m r)
+added-plain (added.Cond c) r = plain-more 11 20 _ (omega arith) (plain-cond c r)
+added-plain (added.Refused add_fault.TooMany) r = record { no_end = refl; no_equals = refl; short = omega arith }
+added-plain (added.Refused add_fault.BadPrio) r = record { no_end = refl; no_equals = refl; short = omega arith }
+added-plain (added.Refused add_fault.NoSuch) r = record { no_end = refl; no_equals = refl; short = omega arith }
+
+seen-plain : (s : Seen) → IsSeenTraced s → IsPlain 20 (seen_text s)
+unfolding seen_text
+seen-plain seen.Begun r = record { no_end = refl; no_equals = refl; short = omega arith }
+seen-plain seen.Went r = record { no_end = refl; no_equals = refl; short = omega arith }
+seen-plain seen.Waits r = record { no_end = refl; no_equals = refl; short = omega arith }
+seen-plain (seen.Answered n) r =
+    plain-more 17 20 _ (omega arith) (behind 7 10 (codes "answer ") _ refl refl (omega arith) (plain-number n r))
+seen-plain seen.Ended r = record { no_end = refl; no_equals = refl; short = omega arith }
+seen-plain (seen.Refused refusal.Dead) r = record { no_end = refl; no_equals = refl; short = omega arith }
+seen-plain (seen.Refused refusal.Busy) r = record { no_end = refl; no_equals = refl; short = omega arith }
+seen-plain (seen.Refused refusal.Idle) r = record { no_end = refl; no_equals = refl; short = omega arith }
+seen-plain (seen.Refused refusal.NoSuch) r = record { no_end = refl; no_equals = refl; short = omega arith }
+
+reply-plain : (r : Reply) → IsTraced r → IsPlain 20 (text_of r)
 unfolding text_of
 reply-plain reply.Done r = record { no_end = refl; no_equals = refl; short = omega arith }
-reply-plain (reply.Thread t) r = plain-more 11 20 _ (omega arith) (plain-thread t r)
-reply-plain (reply.Mutex m) r = plain-more 11 20 _ (omega arith) (plain-mutex m r)
-reply-plain (reply.Cond c) r = plain-more 11 20 _ (omega arith) (plain-cond c r)
-reply-plain (reply.NotAdded add_fault.TooMany) r = record { no_end = refl; no_equals = refl; short = omega arith }
-reply-plain (reply.NotAdded add_fault.BadPrio) r = record { no_end = refl; no_equals = refl; short = omega arith }
-reply-plain (reply.NotAdded add_fault.NoSuch) r = record { no_end = refl; no_equals = refl; short = omega arith }
-reply-plain reply.Begun r = record { no_end = refl; no_equals = refl; short = omega arith }
-reply-plain reply.Went r = record { no_end = refl; no_equals = refl; short = omega arith }
-reply-plain reply.Waits r = record { no_end = refl; no_equals = refl; short = omega arith }
-reply-plain (reply.Answer n) r =
-    plain-more 17 20 _ (omega arith) (plain-append 7 10 (codes "answer ") (decimal n) (record { no_end = refl; no_equals = refl; short = omega arith }) (plain-number n r))
-reply-plain reply.Ended r = record { no_end = refl; no_equals = refl; short = omega arith }
-reply-plain (reply.Refused refusal.Dead) r = record { no_end = refl; no_equals = refl; short = omega arith }
-reply-plain (reply.Refused refusal.Busy) r = record { no_end = refl; no_equals = refl; short = omega arith }
-reply-plain (reply.Refused refusal.Idle) r = record { no_end = refl; no_equals = refl; short = omega arith }
-reply-plain (reply.Refused refusal.NoSuch) r = record { no_end = refl; no_equals = refl; short = omega arith }
-reply-plain (reply.Word value) r = absurd r
-reply-plain (reply.Health health) r = absurd r
-reply-plain (reply.Uses n) r = absurd r
-reply-plain (reply.Priority p) r = absurd r
-reply-plain reply.Dead r = absurd r
-reply-plain (reply.Picked thread) r = absurd r
+reply-plain (reply.Added a) r = added-plain a r
+reply-plain (reply.Seen s) r = seen-plain s r
+reply-plain (reply.Told f) r = absurd r
 
 -- a line of a trace has no LF, and is short
 pub record IsLine (bytes : List ℕ) : Type 0 where
   pub no_end : lacks 10 bytes ≡ true
   pub short : length bytes ≤ 120
 
-pub recorded-line : (c : Command) (r : Reply) → IsWritten c → IsTraced r → IsLine (command_text c ++ recorded r)
-recorded-line c r p q =
-    let command = command-plain c p in
+pub recorded-line : (c : Command) (r : Reply) → IsWritten c → if_traced c ≡ Some c → IsTraced r
+    → IsLine (command_text c ++ recorded r)
+recorded-line c r p e q =
+    let command = command-plain c p e in
     let text = reply-plain r q in
     let mark : lacks 10 (32 ∷ 61 ∷ 32 ∷ text_of r) ≡ true = text.no_end in
     record {
@@ -223,5 +234,6 @@ recorded-line c r p q =
     }
 
 -- the command and the answer in a line are those that were written
-pub recorded-parts : (c : Command) (r : Reply) → IsWritten c → parts_of (command_text c ++ recorded r) ≡ Some (command_text c, text_of r)
-recorded-parts c r p = parts_of-recorded (command_text c) (text_of r) (command-plain c p).no_equals
+pub recorded-parts : (c : Command) (r : Reply) → IsWritten c → if_traced c ≡ Some c
+    → parts_of (command_text c ++ recorded r) ≡ Some (command_text c, text_of r)
+recorded-parts c r p e = parts_of-recorded (command_text c) (text_of r) (command-plain c p e).no_equals

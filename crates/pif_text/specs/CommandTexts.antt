@@ -1,11 +1,17 @@
 -- The texts of commands.
-use Rattle.std.specs.Prelude.{ℕ, ◌<◌, ◌≤◌, Bool, List, [], ◌++◌, codes, decimal, if◌then◌else◌}
+use Rattle.std.specs.Prelude.{ℕ, Bool, List, [], ◌++◌, Option, Some, None, codes, decimal, if◌then◌else◌}
 use Rattle.pif_types.specs.declared.requests.Kind.{Kind}
 use Rattle.pif_types.specs.declared.requests.Kind.TheVariants.{Normal, ErrorCheck, Recursive}
 use Rattle.pif_types.specs.declared.requests.Request.{Request}
 use Rattle.pif_types.specs.declared.requests.Request.TheVariants.{Lock, TryLock, Unlock, Consistent, Wait, Signal, Broadcast, SetPrio}
 use Rattle.pif_text.specs.declared.commands.Command.{Command}
-use Rattle.pif_text.specs.declared.commands.Command.TheVariants.{Limits, Thread, Mutex, Cond, Begin, Go, End, Call, Finish, Word, Health, CondWord, Prio, Pick}
+use Rattle.pif_text.specs.declared.commands.Command.TheVariants as command
+use Rattle.pif_text.specs.declared.commands.Addition.{Addition}
+use Rattle.pif_text.specs.declared.commands.Addition.TheVariants.{Thread, Mutex, Cond}
+use Rattle.pif_model.specs.declared.events.Event.{Event}
+use Rattle.pif_model.specs.declared.events.Event.TheVariants.{Begin, Go, End}
+use Rattle.pif_text.specs.Numbers.{IsName, IsNumber}
+use Rattle.pif_text.specs.Questions.{question_text, IsQuestionWritten}
 use Rattle.pif_text.specs.Replies.{thread_name, mutex_name, cond_name}
 
 -- The type of a mutex, in one word.
@@ -29,31 +35,31 @@ request_text (Signal c) = codes "signal " ++ cond_name c
 request_text (Broadcast c) = codes "broadcast " ++ cond_name c
 request_text (SetPrio t p) = codes "setprio " ++ thread_name t ++ codes " " ++ decimal p
 
+-- The text of an addition.
+unfoldable pub addition_text : Addition → List ℕ
+addition_text (Thread p) = codes "thread " ++ decimal p
+addition_text (Mutex k robust) = mutex_text k robust
+addition_text (Cond m) = codes "cond " ++ mutex_name m
+
+-- The text of an event.
+unfoldable pub event_text : Event → List ℕ
+event_text (Begin t q) = codes "begin " ++ thread_name t ++ codes " " ++ request_text q
+event_text (Go t) = codes "go " ++ thread_name t
+event_text (End t) = codes "end " ++ thread_name t
+
+-- The text by which a thread goes on with a request or, with none, with what it has open.
+unfoldable pub run_text : ℕ → Option Request → List ℕ
+run_text t (Some q) = codes "call " ++ thread_name t ++ codes " " ++ request_text q
+run_text t None = codes "finish " ++ thread_name t
+
 -- The text of a command, without a line feed: the words by which a line asks for it, with one space between them.
 unfoldable pub command_text : Command → List ℕ
-command_text (Limits t m c s) =
+command_text (command.Limits t m c s) =
     codes "limits " ++ decimal t ++ codes " " ++ decimal m ++ codes " " ++ decimal c ++ codes " " ++ decimal s
-command_text (Thread p) = codes "thread " ++ decimal p
-command_text (Mutex k robust) = mutex_text k robust
-command_text (Cond m) = codes "cond " ++ mutex_name m
-command_text (Begin t q) = codes "begin " ++ thread_name t ++ codes " " ++ request_text q
-command_text (Go t) = codes "go " ++ thread_name t
-command_text (End t) = codes "end " ++ thread_name t
-command_text (Call t q) = codes "call " ++ thread_name t ++ codes " " ++ request_text q
-command_text (Finish t) = codes "finish " ++ thread_name t
-command_text (Word m) = codes "word " ++ mutex_name m
-command_text (Health m) = codes "health " ++ mutex_name m
-command_text (CondWord c) = codes "condword " ++ cond_name c
-command_text (Prio t) = codes "prio " ++ thread_name t
-command_text Pick = codes "pick"
-
--- A number that a line can write.
-abbrev pub IsNumber : ℕ → Type 0
-IsNumber n = n < 4294967296
-
--- A number of a thread, a mutex or a condition variable that a line can name.
-abbrev pub IsName : ℕ → Type 0
-IsName n = (1 ≤ n) × (n < 4294967296)
+command_text (command.Add a) = addition_text a
+command_text (command.Event e) = event_text e
+command_text (command.Run t q) = run_text t q
+command_text (command.Ask q) = question_text q
 
 -- A request whose numbers a line can write.
 abbrev pub IsRequestWritten : Request → Type 0
@@ -66,19 +72,27 @@ IsRequestWritten (Signal c) = IsName c
 IsRequestWritten (Broadcast c) = IsName c
 IsRequestWritten (SetPrio t p) = IsName t × IsNumber p
 
+-- An addition whose numbers a line can write.
+abbrev pub IsAdditionWritten : Addition → Type 0
+IsAdditionWritten (Thread p) = IsNumber p
+IsAdditionWritten (Mutex k robust) = Unit {0}
+IsAdditionWritten (Cond m) = IsName m
+
+-- An event whose numbers a line can write.
+abbrev pub IsEventWritten : Event → Type 0
+IsEventWritten (Begin t q) = IsName t × IsRequestWritten q
+IsEventWritten (Go t) = IsName t
+IsEventWritten (End t) = IsName t
+
+-- A thread, and a request if there is one, whose numbers a line can write.
+abbrev pub IsRunWritten : ℕ → Option Request → Type 0
+IsRunWritten t (Some q) = IsName t × IsRequestWritten q
+IsRunWritten t None = IsName t
+
 -- A command whose numbers a line can write.
 abbrev pub IsWritten : Command → Type 0
-IsWritten (Limits t m c s) = IsNumber t × IsNumber m × IsNumber c × IsNumber s
-IsWritten (Thread p) = IsNumber p
-IsWritten (Mutex k robust) = Unit {0}
-IsWritten (Cond m) = IsName m
-IsWritten (Begin t q) = IsName t × IsRequestWritten q
-IsWritten (Go t) = IsName t
-IsWritten (End t) = IsName t
-IsWritten (Call t q) = IsName t × IsRequestWritten q
-IsWritten (Finish t) = IsName t
-IsWritten (Word m) = IsName m
-IsWritten (Health m) = IsName m
-IsWritten (CondWord c) = IsName c
-IsWritten (Prio t) = IsName t
-IsWritten Pick = Unit {0}
+IsWritten (command.Limits t m c s) = IsNumber t × IsNumber m × IsNumber c × IsNumber s
+IsWritten (command.Add a) = IsAdditionWritten a
+IsWritten (command.Event e) = IsEventWritten e
+IsWritten (command.Run t q) = IsRunWritten t q
+IsWritten (command.Ask q) = IsQuestionWritten q

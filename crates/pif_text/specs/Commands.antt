@@ -5,8 +5,11 @@ use Rattle.pif_types.specs.declared.requests.Kind.TheVariants.{Normal, ErrorChec
 use Rattle.pif_types.specs.declared.requests.Request.{Request}
 use Rattle.pif_types.specs.declared.requests.Request.TheVariants.{Lock, TryLock, Unlock, Consistent, Wait, Signal, Broadcast, SetPrio}
 use Rattle.pif_text.specs.declared.commands.Command.{Command}
-use Rattle.pif_text.specs.declared.commands.Command.TheVariants.{Limits, Thread, Mutex, Cond, Begin, Go, End, Call, Finish, Word, Health, CondWord, Prio, Pick}
+use Rattle.pif_text.specs.declared.commands.Command.TheVariants.{Limits, Add, Event, Run, Ask}
+use Rattle.pif_text.specs.declared.commands.Addition.TheVariants.{Thread, Mutex, Cond}
+use Rattle.pif_model.specs.declared.events.Event.TheVariants.{Begin, Go, End}
 use Rattle.pif_text.specs.Numbers.{number_in, thread_in, mutex_in, cond_in}
+use Rattle.pif_text.specs.Questions.{question_in_one, question_in_two}
 use Rattle.pif_text.specs.Words.{words}
 
 infixl 10 ◌>>=◌
@@ -47,32 +50,25 @@ request_in_three call first second =
       Some (Wait c m))
     else None
 
--- A command of one word: `pick`.
+-- A command of one word: a question.
 unfoldable pub command_of_one : List ℕ → Option Command
-command_of_one name =
-    if bytes_eq name (codes "pick") then Some Pick
-    else None
+command_of_one name = option_map Ask (question_in_one name)
 
--- A command of two words: `thread P`, `mutex K`, `cond mN`, `go tN`, `end tN`, `finish tN`, `word mN`, `health mN`,
--- `condword cN` or `prio tN`.
+-- A command of two words: `go tN`, `finish tN`, `end tN`, `thread P`, `mutex K`, `cond mN` or a question.
 unfoldable pub command_of_two : List ℕ → List ℕ → Option Command
 command_of_two name word =
-    if bytes_eq name (codes "go") then option_map Go (thread_in word)
-    else if bytes_eq name (codes "end") then option_map End (thread_in word)
-    else if bytes_eq name (codes "word") then option_map Word (mutex_in word)
-    else if bytes_eq name (codes "health") then option_map Health (mutex_in word)
-    else if bytes_eq name (codes "prio") then option_map Prio (thread_in word)
-    else if bytes_eq name (codes "finish") then option_map Finish (thread_in word)
-    else if bytes_eq name (codes "thread") then option_map Thread (number_in word)
-    else if bytes_eq name (codes "mutex") then option_map (λ kind. Mutex kind false) (kind_in word)
-    else if bytes_eq name (codes "cond") then option_map Cond (mutex_in word)
-    else if bytes_eq name (codes "condword") then option_map CondWord (cond_in word)
-    else None
+    if bytes_eq name (codes "go") then option_map (λ t. Event (Go t)) (thread_in word)
+    else if bytes_eq name (codes "finish") then option_map (λ t. Run t None) (thread_in word)
+    else if bytes_eq name (codes "end") then option_map (λ t. Event (End t)) (thread_in word)
+    else if bytes_eq name (codes "thread") then option_map (λ p. Add (Thread p)) (number_in word)
+    else if bytes_eq name (codes "mutex") then option_map (λ kind. Add (Mutex kind false)) (kind_in word)
+    else if bytes_eq name (codes "cond") then option_map (λ m. Add (Cond m)) (mutex_in word)
+    else option_map Ask (question_in_two name word)
 
 -- A command of three words: `mutex K robust`.
 unfoldable pub command_of_three : List ℕ → List ℕ → List ℕ → Option Command
 command_of_three name word last =
-    if bytes_eq name (codes "mutex") && bytes_eq last (codes "robust") then option_map (λ kind. Mutex kind true) (kind_in word)
+    if bytes_eq name (codes "mutex") && bytes_eq last (codes "robust") then option_map (λ kind. Add (Mutex kind true)) (kind_in word)
     else None
 
 -- A command of four words: `call tN Q` or `begin tN Q`, for a request Q of two words.
@@ -81,11 +77,11 @@ command_of_four name thread call word =
     if bytes_eq name (codes "call") then (do
       t ← thread_in thread
       q ← request_in call word
-      Some (Call t q))
+      Some (Run t (Some q)))
     else if bytes_eq name (codes "begin") then (do
       t ← thread_in thread
       q ← request_in call word
-      Some (Begin t q))
+      Some (Event (Begin t q)))
     else None
 
 -- A command of five words: `call tN Q` or `begin tN Q`, for a request Q of three words, or `limits T M C S`, for four
@@ -95,11 +91,11 @@ command_of_five name first second third fourth =
     if bytes_eq name (codes "call") then (do
       t ← thread_in first
       q ← request_in_three second third fourth
-      Some (Call t q))
+      Some (Run t (Some q)))
     else if bytes_eq name (codes "begin") then (do
       t ← thread_in first
       q ← request_in_three second third fourth
-      Some (Begin t q))
+      Some (Event (Begin t q)))
     else if bytes_eq name (codes "limits") then (do
       t ← number_in first
       m ← number_in second

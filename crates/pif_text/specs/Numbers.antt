@@ -1,5 +1,5 @@
 -- Numbers, and the names of threads, mutexes and condition variables, as scripts and traces write them.
-use Rattle.std.specs.Prelude.{ℕ, ◌/◌, ◌%◌, zero, suc, Bool, false, not, ◌&&◌, ◌==◌, nat_lt, if◌then◌else◌, List, [], ◌∷◌, ◌++◌, Option, Some, None, option_and_then}
+use Rattle.std.specs.Prelude.{ℕ, ◌<◌, ◌≤◌, ◌/◌, ◌%◌, zero, suc, Bool, false, not, ◌&&◌, ◌==◌, nat_lt, if◌then◌else◌, List, [], ◌∷◌, ◌++◌, Option, Some, None, option_and_then}
 use Rattle.std.specs.Char.{is_ascii_digit}
 use Rattle.std.specs.Str.{all_ascii_digits}
 use Rattle.std.specs.Str.Parse.{digits_value}
@@ -44,3 +44,11 @@ cond_in word = name_in 99 word
 unfoldable pub hex_digits : ℕ → ℕ → List ℕ
 hex_digits zero n = []
 hex_digits (suc places) n = hex_digits places (n / 16) ++ digit_glyph false (n % 16) ∷ []
+
+-- A number that a line can write.
+abbrev pub IsNumber : ℕ → Type 0
+IsNumber n = n < 4294967296
+
+-- A number of a thread, a mutex or a condition variable that a line can name.
+abbrev pub IsName : ℕ → Type 0
+IsName n = (1 ≤ n) × (n < 4294967296)

@@ -6,8 +6,14 @@ use Rattle.pif_types.specs.declared.errors.Refusal.{Refusal}
 use Rattle.pif_types.specs.declared.errors.Refusal.TheVariants as refusal
 use Rattle.pif_types.specs.declared.requests.Health.{Health}
 use Rattle.pif_types.specs.declared.requests.Health.TheVariants.{Fine, Inconsistent, Unusable}
+use Rattle.pif_model.specs.declared.events.Seen.{Seen}
+use Rattle.pif_model.specs.declared.events.Seen.TheVariants as seen
 use Rattle.pif_text.specs.declared.replies.Reply.{Reply}
 use Rattle.pif_text.specs.declared.replies.Reply.TheVariants as reply
+use Rattle.pif_text.specs.declared.replies.Added.{Added}
+use Rattle.pif_text.specs.declared.replies.Added.TheVariants as added
+use Rattle.pif_text.specs.declared.replies.Fact.{Fact}
+use Rattle.pif_text.specs.declared.replies.Fact.TheVariants as fact
 use Rattle.pif_text.specs.declared.replies.Cause.{Cause}
 use Rattle.pif_text.specs.declared.replies.Cause.TheVariants as cause
 use Rattle.pif_text.specs.Numbers.{hex_digits}
@@ -43,30 +49,44 @@ mutex_name mutex = codes "m" ++ decimal mutex
 abbrev pub cond_name : ℕ → List ℕ
 cond_name cond = codes "c" ++ decimal cond
 
--- The thread that runs next, or `none`.
-abbrev pub picked_text : Option ℕ → List ℕ
-picked_text (Some thread) = thread_name thread
-picked_text None = codes "none"
+-- A thread, or `none`.
+abbrev pub thread_or_none : Option ℕ → List ℕ
+thread_or_none (Some thread) = thread_name thread
+thread_or_none None = codes "none"
 
--- The text of a reply, without a line feed. The word of a mutex is written in eight hexadecimal digits.
+-- The text of what an addition is answered, without a line feed.
+unfoldable pub added_text : Added → List ℕ
+added_text (added.Thread thread) = thread_name thread
+added_text (added.Mutex mutex) = mutex_name mutex
+added_text (added.Cond cond) = cond_name cond
+added_text (added.Refused why) = codes "refused " ++ add_fault_word why
+
+-- The text of what an event is answered, without a line feed.
+unfoldable pub seen_text : Seen → List ℕ
+seen_text seen.Begun = codes "begun"
+seen_text seen.Went = codes "went"
+seen_text seen.Waits = codes "waits"
+seen_text (seen.Answered number) = codes "answer " ++ decimal number
+seen_text seen.Ended = codes "ended"
+seen_text (seen.Refused why) = codes "refused " ++ refusal_word why
+
+-- The text of what a question is answered, without a line feed. The word of a mutex is written in eight hexadecimal
+-- digits.
+unfoldable pub fact_text : Fact → List ℕ
+fact_text fact.NoSuch = codes "refused nosuch"
+fact_text (fact.Word value) = codes "0x" ++ hex_digits 8 value
+fact_text (fact.Health health) = health_word health
+fact_text (fact.Uses uses) = decimal uses
+fact_text (fact.Priority priority) = decimal priority
+fact_text fact.Dead = codes "dead"
+fact_text (fact.Thread thread) = thread_or_none thread
+
+-- The text of a reply, without a line feed.
 unfoldable pub text_of : Reply → List ℕ
 text_of reply.Done = codes "ok"
-text_of (reply.Thread thread) = thread_name thread
-text_of (reply.Mutex mutex) = mutex_name mutex
-text_of (reply.Cond cond) = cond_name cond
-text_of (reply.NotAdded fault) = codes "refused " ++ add_fault_word fault
-text_of reply.Begun = codes "begun"
-text_of reply.Went = codes "went"
-text_of reply.Waits = codes "waits"
-text_of (reply.Answer number) = codes "answer " ++ decimal number
-text_of reply.Ended = codes "ended"
-text_of (reply.Refused why) = codes "refused " ++ refusal_word why
-text_of (reply.Word value) = codes "0x" ++ hex_digits 8 value
-text_of (reply.Health health) = health_word health
-text_of (reply.Uses uses) = decimal uses
-text_of (reply.Priority priority) = decimal priority
-text_of reply.Dead = codes "dead"
-text_of (reply.Picked thread) = picked_text thread
+text_of (reply.Added a) = added_text a
+text_of (reply.Seen s) = seen_text s
+text_of (reply.Told f) = fact_text f
 
 -- The cause of a fault, in one word.
 abbrev pub cause_word : Cause → List ℕ

@@ -1,8 +1,14 @@
 -- The lines of traces.
 use Rattle.std.specs.Prelude.{ℕ, ◌==◌, ◌&&◌, Bool, List, [], ◌∷◌, ◌++◌, drop, take, Option, Some, None, option_map, if◌then◌else◌, bytes_eq, codes, decimal}
+use Rattle.pif_text.specs.declared.commands.Command.{Command}
+use Rattle.pif_text.specs.declared.commands.Command.TheVariants as command
 use Rattle.pif_text.specs.declared.replies.Reply.{Reply}
-use Rattle.pif_text.specs.declared.replies.Reply.TheVariants.{Done, Thread, Mutex, Cond, NotAdded, Begun, Went, Waits, Answer, Ended, Refused, Word, Health, Uses, Priority, Dead, Picked}
-use Rattle.pif_text.specs.CommandTexts.{IsNumber}
+use Rattle.pif_text.specs.declared.replies.Reply.TheVariants as reply
+use Rattle.pif_text.specs.declared.replies.Added.{Added}
+use Rattle.pif_text.specs.declared.replies.Added.TheVariants as added
+use Rattle.pif_model.specs.declared.events.Seen.{Seen}
+use Rattle.pif_model.specs.declared.events.Seen.TheVariants as seen
+use Rattle.pif_text.specs.Numbers.{IsNumber}
 use Rattle.pif_text.specs.Replies.{text_of}
 
 -- The first line of a trace.
@@ -24,6 +30,14 @@ parts_of (byte ∷ more) =
     if is_marked byte more then Some ([], drop 2 more)
     else option_map (λ parts. (byte ∷ parts.0, parts.1)) (parts_of more)
 
+-- A command, if it stands in traces: limits, additions and events do.
+abbrev pub if_traced : Command → Option Command
+if_traced (command.Limits t m c s) = Some (command.Limits t m c s)
+if_traced (command.Add a) = Some (command.Add a)
+if_traced (command.Event e) = Some (command.Event e)
+if_traced (command.Run t q) = None
+if_traced (command.Ask q) = None
+
 -- An answer as it stands behind its command in a line of a trace.
 abbrev pub recorded : Reply → List ℕ
 recorded reply = answer_mark ++ text_of reply
@@ -37,22 +51,25 @@ same_of lines = codes "same " ++ decimal lines
 unfoldable pub differs_of : ℕ → Reply → List ℕ
 differs_of line_number reply = codes "differs " ++ decimal line_number ++ codes " " ++ text_of reply
 
--- An answer that stands in traces, with numbers that a line can write.
+-- What an addition is answered, with a number that a line can write.
+abbrev pub IsAddedTraced : Added → Type 0
+IsAddedTraced (added.Thread t) = IsNumber t
+IsAddedTraced (added.Mutex m) = IsNumber m
+IsAddedTraced (added.Cond c) = IsNumber c
+IsAddedTraced (added.Refused why) = Unit {0}
+
+-- What an event is answered, with a number that a line can write.
+abbrev pub IsSeenTraced : Seen → Type 0
+IsSeenTraced seen.Begun = Unit {0}
+IsSeenTraced seen.Went = Unit {0}
+IsSeenTraced seen.Waits = Unit {0}
+IsSeenTraced (seen.Answered n) = IsNumber n
+IsSeenTraced seen.Ended = Unit {0}
+IsSeenTraced (seen.Refused why) = Unit {0}
+
+-- An answer that stands in traces, with numbers that a line can write. That of a question doesn't.
 abbrev pub IsTraced : Reply → Type 0
-IsTraced Done = Unit {0}
-IsTraced (Thread t) = IsNumber t
-IsTraced (Mutex m) = IsNumber m
-IsTraced (Cond c) = IsNumber c
-IsTraced (NotAdded fault) = Unit {0}
-IsTraced Begun = Unit {0}
-IsTraced Went = Unit {0}
-IsTraced Waits = Unit {0}
-IsTraced (Answer n) = IsNumber n
-IsTraced Ended = Unit {0}
-IsTraced (Refused refusal) = Unit {0}
-IsTraced (Word value) = ⊥
-IsTraced (Health health) = ⊥
-IsTraced (Uses n) = ⊥
-IsTraced (Priority p) = ⊥
-IsTraced Dead = ⊥
-IsTraced (Picked thread) = ⊥
+IsTraced reply.Done = Unit {0}
+IsTraced (reply.Added a) = IsAddedTraced a
+IsTraced (reply.Seen s) = IsSeenTraced s
+IsTraced (reply.Told f) = ⊥

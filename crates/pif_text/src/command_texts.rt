@@ -1,11 +1,14 @@
-ghost use Rattle.std.specs.Prelude.{◌≡◌, Some, ◌+◌, ◌≤◌, ◌++◌, codes, decimal, length};
+ghost use Rattle.std.specs.Prelude.{◌≡◌, ℕ, List, Some, ◌+◌, ◌≤◌, ◌++◌, codes, decimal, length};
 ghost use Rattle.arrayvec.specs.ArrayVec.{array_vec_len};
+ghost use Rattle.pif_text.specs.declared.commands.Command.{Command};
 ghost use Rattle.pif_text.specs.Commands.{command_in};
-ghost use Rattle.pif_text.specs.CommandTexts.{IsWritten, command_text, kind_word, mutex_text, request_text};
+ghost use Rattle.pif_text.specs.CommandTexts.{IsWritten, addition_text, command_text, event_text, kind_word, mutex_text, request_text, run_text};
 ghost use Rattle.pif_text.specs.Replies.{thread_name, mutex_name};
 
+use crate::questions::append_question;
 use crate::writing::{append, append_cond, append_decimal, append_mutex, append_thread};
-use crate::{Command, TEXT_ROOM, Text};
+use crate::{Addition, Command, TEXT_ROOM, Text};
+use pif_model::Event;
 use pif_types::{Kind, Request, Tid};
 
 /// How many bytes of room `command_text` asks for: no command is longer.
@@ -111,6 +114,68 @@ fn append_numbers(out: &mut Text, first: u32, second: u32, third: u32, fourth: u
     append_decimal(out, u64::from(fourth));
 }
 
+/// Appends an addition.
+#[tactic(auto, unfolding(crate::specs::CommandTexts::addition_text))]
+fn append_addition(out: &mut Text, addition: Addition)
+    requires { array_vec_len out.old + COMMAND_ROOM ≤ TEXT_ROOM }
+    ensures items { out.new.items ≡ out.old.items ++ addition_text addition }
+    ensures len { array_vec_len out.new ≤ array_vec_len out.old + COMMAND_ROOM }
+{
+    match addition {
+        Addition::Thread(priority) => {
+            append(out, b"thread ");
+            append_decimal(out, u64::from(priority));
+        }
+        Addition::Mutex(kind, robust) => mutex_text(kind, robust, out),
+        Addition::Cond(mutex) => {
+            append(out, b"cond ");
+            append_mutex(out, mutex);
+        }
+    }
+}
+
+/// Appends an event.
+#[tactic(auto, unfolding(crate::specs::CommandTexts::event_text))]
+fn append_event(out: &mut Text, event: Event)
+    requires { array_vec_len out.old + COMMAND_ROOM ≤ TEXT_ROOM }
+    ensures items { out.new.items ≡ out.old.items ++ event_text event }
+    ensures len { array_vec_len out.new ≤ array_vec_len out.old + COMMAND_ROOM }
+{
+    match event {
+        Event::Begin(thread, request) => {
+            append(out, b"begin ");
+            append_call(out, thread, request);
+        }
+        Event::Go(thread) => {
+            append(out, b"go ");
+            append_thread(out, thread);
+        }
+        Event::End(thread) => {
+            append(out, b"end ");
+            append_thread(out, thread);
+        }
+    }
+}
+
+/// Appends a thread that goes on with a request or, with none, with what it has open.
+#[tactic(auto, unfolding(crate::specs::CommandTexts::run_text))]
+fn append_run(out: &mut Text, thread: Tid, request: Option<Request>)
+    requires { array_vec_len out.old + COMMAND_ROOM ≤ TEXT_ROOM }
+    ensures items { out.new.items ≡ out.old.items ++ run_text thread request }
+    ensures len { array_vec_len out.new ≤ array_vec_len out.old + COMMAND_ROOM }
+{
+    match request {
+        Some(request) => {
+            append(out, b"call ");
+            append_call(out, thread, request);
+        }
+        None => {
+            append(out, b"finish ");
+            append_thread(out, thread);
+        }
+    }
+}
+
 /// Appends the line that asks for a command, with no line feed, at most `COMMAND_ROOM` bytes. What stands in `out`
 /// stays.
 #[tactic(auto, unfolding(crate::specs::CommandTexts::command_text))]
@@ -124,56 +189,19 @@ pub fn command_text(command: Command, out: &mut Text)
             append(out, b"limits ");
             append_numbers(out, threads, mutexes, conds, signals);
         }
-        Command::Thread(priority) => {
-            append(out, b"thread ");
-            append_decimal(out, u64::from(priority));
-        }
-        Command::Mutex(kind, robust) => mutex_text(kind, robust, out),
-        Command::Cond(mutex) => {
-            append(out, b"cond ");
-            append_mutex(out, mutex);
-        }
-        Command::Begin(thread, request) => {
-            append(out, b"begin ");
-            append_call(out, thread, request);
-        }
-        Command::Go(thread) => {
-            append(out, b"go ");
-            append_thread(out, thread);
-        }
-        Command::End(thread) => {
-            append(out, b"end ");
-            append_thread(out, thread);
-        }
-        Command::Call(thread, request) => {
-            append(out, b"call ");
-            append_call(out, thread, request);
-        }
-        Command::Finish(thread) => {
-            append(out, b"finish ");
-            append_thread(out, thread);
-        }
-        Command::Word(mutex) => {
-            append(out, b"word ");
-            append_mutex(out, mutex);
-        }
-        Command::Health(mutex) => {
-            append(out, b"health ");
-            append_mutex(out, mutex);
-        }
-        Command::CondWord(cond) => {
-            append(out, b"condword ");
-            append_cond(out, cond);
-        }
-        Command::Prio(thread) => {
-            append(out, b"prio ");
-            append_thread(out, thread);
-        }
-        Command::Pick => append(out, b"pick"),
+        Command::Add(addition) => append_addition(out, addition),
+        Command::Event(event) => append_event(out, event),
+        Command::Run(thread, request) => append_run(out, thread, request),
+        Command::Ask(question) => append_question(out, question),
     }
 }
 
 /// Each command is read from the line that `command_text` writes for it, as that very command.
 pub fn command_reads_back()
     ensures { (command : Command) → IsWritten command → command_in (command_text command) ≡ Some command }
+{}
+
+/// Each command that a line asks for has numbers that `command_text` can write in a line.
+pub fn commands_of_lines_are_written()
+    ensures { (line : List ℕ) (command : Command) → command_in line ≡ Some command → IsWritten command }
 {}

@@ -4,6 +4,7 @@
 mod command_texts;
 mod commands;
 mod numbers;
+mod questions;
 mod reading;
 mod replies;
 #[cfg(test)]
@@ -13,14 +14,17 @@ mod traces;
 mod words;
 mod writing;
 
-pub use command_texts::{COMMAND_ROOM, command_reads_back, command_text, mutex_text};
-pub use commands::Command;
+pub use command_texts::{
+    COMMAND_ROOM, command_reads_back, command_text, commands_of_lines_are_written, mutex_text,
+};
+pub use commands::{Addition, Command};
 pub use numbers::number_reads_back;
+pub use questions::Question;
 pub use reading::command_of;
-pub use replies::{Cause, Reply};
+pub use replies::{Added, Cause, Fact, Reply};
 pub use text::{TEXT_ROOM, Text};
 pub use traces::{
-    HEADER, RECORDED_ROOM, VERDICT_ROOM, differs_text, header_text, recorded_text, same_text,
-    split_answer,
+    HEADER, RECORDED_ROOM, VERDICT_ROOM, differs_text, header_text, if_traced, recorded_text,
+    same_text, split_answer,
 };
 pub use writing::{REPLY_ROOM, fault_text, reply_text};

@@ -2,9 +2,11 @@ ghost use Rattle.std.specs.Prelude.{◌≡◌, ◌∷◌, []};
 ghost use Rattle.pif_text.specs.Words.{words};
 ghost use Rattle.pif_text.specs.Commands.{kind_in, request_in, request_in_three, command_of_one, command_of_two, command_of_three, command_of_four, command_of_five, command_of_words, command_in};
 
-use crate::Command;
 use crate::numbers::{cond_of, mutex_of, number_of, thread_of};
+use crate::questions::{question_of_one, question_of_two};
 use crate::words::split_first;
+use crate::{Addition, Command};
+use pif_model::Event;
 use pif_types::{Kind, Request};
 
 /// The type of a mutex that a word names.
@@ -64,11 +66,7 @@ fn request_of_three(call: &[u8], first: &[u8], second: &[u8]) -> Option<Request>
 fn of_one(name: &[u8]) -> Option<Command>
     ensures { result ≡ command_of_one name.now }
 {
-    if name == b"pick".as_slice() {
-        Some(Command::Pick)
-    } else {
-        None
-    }
+    Some(Command::Ask(question_of_one(name)?))
 }
 
 /// The command of two words.
@@ -77,27 +75,19 @@ fn of_two(name: &[u8], word: &[u8]) -> Option<Command>
     ensures { result ≡ command_of_two name.now word.now }
 {
     if name == b"go".as_slice() {
-        Some(Command::Go(thread_of(word)?))
-    } else if name == b"end".as_slice() {
-        Some(Command::End(thread_of(word)?))
-    } else if name == b"word".as_slice() {
-        Some(Command::Word(mutex_of(word)?))
-    } else if name == b"health".as_slice() {
-        Some(Command::Health(mutex_of(word)?))
-    } else if name == b"prio".as_slice() {
-        Some(Command::Prio(thread_of(word)?))
+        Some(Command::Event(Event::Go(thread_of(word)?)))
     } else if name == b"finish".as_slice() {
-        Some(Command::Finish(thread_of(word)?))
+        Some(Command::Run(thread_of(word)?, None))
+    } else if name == b"end".as_slice() {
+        Some(Command::Event(Event::End(thread_of(word)?)))
     } else if name == b"thread".as_slice() {
-        Some(Command::Thread(number_of(word)?))
+        Some(Command::Add(Addition::Thread(number_of(word)?)))
     } else if name == b"mutex".as_slice() {
-        Some(Command::Mutex(kind_of(word)?, false))
+        Some(Command::Add(Addition::Mutex(kind_of(word)?, false)))
     } else if name == b"cond".as_slice() {
-        Some(Command::Cond(mutex_of(word)?))
-    } else if name == b"condword".as_slice() {
-        Some(Command::CondWord(cond_of(word)?))
+        Some(Command::Add(Addition::Cond(mutex_of(word)?)))
     } else {
-        None
+        Some(Command::Ask(question_of_two(name, word)?))
     }
 }
 
@@ -107,7 +97,7 @@ fn of_three(name: &[u8], kind: &[u8], last: &[u8]) -> Option<Command>
     ensures { result ≡ command_of_three name.now kind.now last.now }
 {
     if name == b"mutex".as_slice() && last == b"robust".as_slice() {
-        Some(Command::Mutex(kind_of(kind)?, true))
+        Some(Command::Add(Addition::Mutex(kind_of(kind)?, true)))
     } else {
         None
     }
@@ -119,9 +109,9 @@ fn of_four(name: &[u8], thread: &[u8], call: &[u8], word: &[u8]) -> Option<Comma
     ensures { result ≡ command_of_four name.now thread.now call.now word.now }
 {
     if name == b"call".as_slice() {
-        Some(Command::Call(thread_of(thread)?, request_of(call, word)?))
+        Some(Command::Run(thread_of(thread)?, Some(request_of(call, word)?)))
     } else if name == b"begin".as_slice() {
-        Some(Command::Begin(thread_of(thread)?, request_of(call, word)?))
+        Some(Command::Event(Event::Begin(thread_of(thread)?, request_of(call, word)?)))
     } else {
         None
     }
@@ -133,9 +123,15 @@ fn of_five(name: &[u8], first: &[u8], second: &[u8], third: &[u8], fourth: &[u8]
     ensures { result ≡ command_of_five name.now first.now second.now third.now fourth.now }
 {
     if name == b"call".as_slice() {
-        Some(Command::Call(thread_of(first)?, request_of_three(second, third, fourth)?))
+        Some(Command::Run(
+            thread_of(first)?,
+            Some(request_of_three(second, third, fourth)?),
+        ))
     } else if name == b"begin".as_slice() {
-        Some(Command::Begin(thread_of(first)?, request_of_three(second, third, fourth)?))
+        Some(Command::Event(Event::Begin(
+            thread_of(first)?,
+            request_of_three(second, third, fourth)?,
+        )))
     } else if name == b"limits".as_slice() {
         Some(Command::Limits(
             number_of(first)?,

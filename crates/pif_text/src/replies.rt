@@ -1,10 +1,23 @@
-use pif_types::{AddFault, Answer, CondId, Health, MutexId, Prio, Refusal, Tid};
+use pif_model::Seen;
+use pif_types::{AddFault, CondId, Health, MutexId, Prio, Tid};
 
 /// What a command is answered.
 #[derive(Clone, Copy, PartialEq, Eq)]
 pub enum Reply {
     /// `ok`: the limits are taken.
     Done,
+    /// What an addition is answered.
+    Added(Added),
+    /// What an event is answered, or the last event of a thread that goes on: `begun`, `went`, `waits`, `answer A` or
+    /// `ended`; or `refused nosuch`, `refused dead`, `refused busy` or `refused idle`, where nothing has changed.
+    Seen(Seen),
+    /// What a question is answered.
+    Told(Fact),
+}
+
+/// What an addition is answered.
+#[derive(Clone, Copy, PartialEq, Eq)]
+pub enum Added {
     /// `tN`: the number of the thread that was added.
     Thread(Tid),
     /// `mN`: the number of the mutex that was added.
@@ -12,19 +25,14 @@ pub enum Reply {
     /// `cN`: the number of the condition variable that was added.
     Cond(CondId),
     /// `refused toomany`, `refused badprio` or `refused nosuch`: nothing was added.
-    NotAdded(AddFault),
-    /// `begun`: the call has begun.
-    Begun,
-    /// `went`: the thread took a step, and its call goes on.
-    Went,
-    /// `waits`: the thread waits in the kernel.
-    Waits,
-    /// `answer N`: the call is answered 0 or the number of an error.
-    Answer(Answer),
-    /// `ended`: the thread has ended now.
-    Ended,
-    /// `refused dead`, `refused busy`, `refused idle` or `refused nosuch`: nothing has changed.
-    Refused(Refusal),
+    Refused(AddFault),
+}
+
+/// What a question is answered.
+#[derive(Clone, Copy, PartialEq, Eq)]
+pub enum Fact {
+    /// `refused nosuch`: what was asked about was never added.
+    NoSuch,
     /// `0x` and eight hexadecimal digits in lower case: the value of a mutex's word.
     Word(u32),
     /// `fine`, `inconsistent` or `unusable`: what is known of the state that a mutex protects.
@@ -35,8 +43,8 @@ pub enum Reply {
     Priority(Prio),
     /// `dead`: the thread whose priority was asked for has ended.
     Dead,
-    /// `tN` or `none`: the thread that runs next.
-    Picked(Option<Tid>),
+    /// `tN` or `none`: a thread, if there is one.
+    Thread(Option<Tid>),
 }
 
 /// Why a line ends a script.

@@ -1,8 +1,9 @@
 use crate::{
-    Cause, Command, Reply, Text, command_of, command_reads_back, command_text, differs_text,
-    fault_text, header_text, mutex_text, number_reads_back, recorded_text, reply_text, same_text,
-    split_answer,
+    Added, Addition, Cause, Command, Fact, Question, Reply, Text, command_of, command_reads_back,
+    command_text, differs_text, fault_text, header_text, mutex_text, number_reads_back,
+    recorded_text, reply_text, same_text, split_answer,
 };
+use pif_model::{Event, Seen};
 use pif_types::{AddFault, CondId, Health, Kind, MutexId, Prio, Refusal, Request, Tid};
 use std::process::Abort;
 use std::test::Fail;
@@ -16,56 +17,74 @@ fn lines_of_each_command_are_read(rt: HostRuntime) -> Result<(), Fail> {
             b"limits 4 2 0 4294967295".as_slice(),
             Command::Limits(4, 2, 0, u32::MAX),
         ),
-        (b"thread 0", Command::Thread(0)),
-        (b"mutex normal", Command::Mutex(Kind::Normal, false)),
-        (b"mutex default", Command::Mutex(Kind::Normal, false)),
-        (b"mutex errorcheck", Command::Mutex(Kind::ErrorCheck, false)),
+        (b"thread 0", Command::Add(Addition::Thread(0))),
+        (
+            b"mutex normal",
+            Command::Add(Addition::Mutex(Kind::Normal, false)),
+        ),
+        (
+            b"mutex default",
+            Command::Add(Addition::Mutex(Kind::Normal, false)),
+        ),
+        (
+            b"mutex errorcheck",
+            Command::Add(Addition::Mutex(Kind::ErrorCheck, false)),
+        ),
         (
             b"begin t3 lock m10",
-            Command::Begin(thread, Request::Lock(mutex)),
+            Command::Event(Event::Begin(thread, Request::Lock(mutex))),
         ),
         (
             b"call t3 unlock m10",
-            Command::Call(thread, Request::Unlock(mutex)),
+            Command::Run(thread, Some(Request::Unlock(mutex))),
         ),
         (
             b"begin t3 setprio t3 0",
-            Command::Begin(thread, Request::SetPrio(thread, 0)),
+            Command::Event(Event::Begin(thread, Request::SetPrio(thread, 0))),
         ),
         (
             b"call t3 setprio t3 4294967295",
-            Command::Call(thread, Request::SetPrio(thread, u32::MAX)),
+            Command::Run(thread, Some(Request::SetPrio(thread, u32::MAX))),
         ),
-        (b"go t3", Command::Go(thread)),
-        (b"finish t3", Command::Finish(thread)),
-        (b"mutex recursive", Command::Mutex(Kind::Recursive, false)),
-        (b"mutex normal robust", Command::Mutex(Kind::Normal, true)),
-        (b"mutex default robust", Command::Mutex(Kind::Normal, true)),
+        (b"go t3", Command::Event(Event::Go(thread))),
+        (b"finish t3", Command::Run(thread, None)),
+        (
+            b"mutex recursive",
+            Command::Add(Addition::Mutex(Kind::Recursive, false)),
+        ),
+        (
+            b"mutex normal robust",
+            Command::Add(Addition::Mutex(Kind::Normal, true)),
+        ),
+        (
+            b"mutex default robust",
+            Command::Add(Addition::Mutex(Kind::Normal, true)),
+        ),
         (
             b"mutex errorcheck robust",
-            Command::Mutex(Kind::ErrorCheck, true),
+            Command::Add(Addition::Mutex(Kind::ErrorCheck, true)),
         ),
         (
             b"mutex recursive robust",
-            Command::Mutex(Kind::Recursive, true),
+            Command::Add(Addition::Mutex(Kind::Recursive, true)),
         ),
         (
             b"begin t3 consistent m10",
-            Command::Begin(thread, Request::Consistent(mutex)),
+            Command::Event(Event::Begin(thread, Request::Consistent(mutex))),
         ),
         (
             b"call t3 consistent m10",
-            Command::Call(thread, Request::Consistent(mutex)),
+            Command::Run(thread, Some(Request::Consistent(mutex))),
         ),
-        (b"end t3", Command::End(thread)),
-        (b"health m10", Command::Health(mutex)),
+        (b"end t3", Command::Event(Event::End(thread))),
+        (b"health m10", Command::Ask(Question::Health(mutex))),
         (
             b"call t3 trylock m10",
-            Command::Call(thread, Request::TryLock(mutex)),
+            Command::Run(thread, Some(Request::TryLock(mutex))),
         ),
-        (b"word m10", Command::Word(mutex)),
-        (b"prio t3", Command::Prio(thread)),
-        (b"pick", Command::Pick),
+        (b"word m10", Command::Ask(Question::Word(mutex))),
+        (b"prio t3", Command::Ask(Question::Prio(thread))),
+        (b"pick", Command::Ask(Question::Pick)),
     ];
     for (line, command) in lines {
         assert!(rt; command_of(line) == Some(command), "{line:?}");
@@ -81,32 +100,35 @@ fn lines_of_condition_variables_are_read(rt: HostRuntime) -> Result<(), Fail> {
     let cond = CondId::new(256).ok_or("cond")?;
     let last = CondId::new(u32::MAX).ok_or("last")?;
     let lines = [
-        (b"cond m10".as_slice(), Command::Cond(mutex)),
-        (b"condword c256", Command::CondWord(cond)),
-        (b"condword c4294967295", Command::CondWord(last)),
+        (b"cond m10".as_slice(), Command::Add(Addition::Cond(mutex))),
+        (b"condword c256", Command::Ask(Question::CondWord(cond))),
+        (
+            b"condword c4294967295",
+            Command::Ask(Question::CondWord(last)),
+        ),
         (
             b"begin t3 wait c256 m10",
-            Command::Begin(thread, Request::Wait(cond, mutex)),
+            Command::Event(Event::Begin(thread, Request::Wait(cond, mutex))),
         ),
         (
             b"call t3 wait c256 m10",
-            Command::Call(thread, Request::Wait(cond, mutex)),
+            Command::Run(thread, Some(Request::Wait(cond, mutex))),
         ),
         (
             b"begin t3 signal c256",
-            Command::Begin(thread, Request::Signal(cond)),
+            Command::Event(Event::Begin(thread, Request::Signal(cond))),
         ),
         (
             b"call t3 signal c256",
-            Command::Call(thread, Request::Signal(cond)),
+            Command::Run(thread, Some(Request::Signal(cond))),
         ),
         (
             b"begin t3 broadcast c256",
-            Command::Begin(thread, Request::Broadcast(cond)),
+            Command::Event(Event::Begin(thread, Request::Broadcast(cond))),
         ),
         (
             b"call t3 broadcast c256",
-            Command::Call(thread, Request::Broadcast(cond)),
+            Command::Run(thread, Some(Request::Broadcast(cond))),
         ),
     ];
     for (line, command) in lines {
@@ -217,32 +239,57 @@ fn check_replies(rt: &impl Abort, out: &mut Text) -> Result<(), Fail> {
     let thread = Tid::new(3).ok_or("thread")?;
     let replies = [
         (Reply::Done, b"ok".as_slice()),
-        (Reply::Thread(thread), b"t3"),
-        (Reply::Mutex(MutexId::new(1).ok_or("mutex")?), b"m1"),
-        (Reply::Cond(CondId::new(2).ok_or("cond")?), b"c2"),
-        (Reply::NotAdded(AddFault::BadPrio), b"refused badprio"),
-        (Reply::NotAdded(AddFault::TooMany), b"refused toomany"),
-        (Reply::NotAdded(AddFault::NoSuch), b"refused nosuch"),
-        (Reply::Begun, b"begun"),
-        (Reply::Went, b"went"),
-        (Reply::Waits, b"waits"),
-        (Reply::Answer(35), b"answer 35"),
-        (Reply::Ended, b"ended"),
-        (Reply::Refused(Refusal::Dead), b"refused dead"),
-        (Reply::Refused(Refusal::Busy), b"refused busy"),
-        (Reply::Refused(Refusal::Idle), b"refused idle"),
-        (Reply::Refused(Refusal::NoSuch), b"refused nosuch"),
-        (Reply::Word(0x8000_0001), b"0x80000001"),
-        (Reply::Word(0x0012_abef), b"0x0012abef"),
-        (Reply::Health(Health::Fine), b"fine"),
-        (Reply::Health(Health::Inconsistent), b"inconsistent"),
-        (Reply::Health(Health::Unusable), b"unusable"),
-        (Reply::Uses(0), b"0"),
-        (Reply::Uses(u32::MAX), b"4294967295"),
-        (Reply::Priority(Prio::new(99).ok_or("priority")?), b"99"),
-        (Reply::Dead, b"dead"),
-        (Reply::Picked(Some(thread)), b"t3"),
-        (Reply::Picked(None), b"none"),
+        (Reply::Added(Added::Thread(thread)), b"t3"),
+        (
+            Reply::Added(Added::Mutex(MutexId::new(1).ok_or("mutex")?)),
+            b"m1",
+        ),
+        (
+            Reply::Added(Added::Cond(CondId::new(2).ok_or("cond")?)),
+            b"c2",
+        ),
+        (
+            Reply::Added(Added::Refused(AddFault::BadPrio)),
+            b"refused badprio",
+        ),
+        (
+            Reply::Added(Added::Refused(AddFault::TooMany)),
+            b"refused toomany",
+        ),
+        (
+            Reply::Added(Added::Refused(AddFault::NoSuch)),
+            b"refused nosuch",
+        ),
+        (Reply::Seen(Seen::Begun), b"begun"),
+        (Reply::Seen(Seen::Went), b"went"),
+        (Reply::Seen(Seen::Waits), b"waits"),
+        (Reply::Seen(Seen::Answered(35)), b"answer 35"),
+        (Reply::Seen(Seen::Ended), b"ended"),
+        (Reply::Seen(Seen::Refused(Refusal::Dead)), b"refused dead"),
+        (Reply::Seen(Seen::Refused(Refusal::Busy)), b"refused busy"),
+        (Reply::Seen(Seen::Refused(Refusal::Idle)), b"refused idle"),
+        (
+            Reply::Seen(Seen::Refused(Refusal::NoSuch)),
+            b"refused nosuch",
+        ),
+        (Reply::Told(Fact::Word(0x8000_0001)), b"0x80000001"),
+        (Reply::Told(Fact::Word(0x0012_abef)), b"0x0012abef"),
+        (Reply::Told(Fact::Health(Health::Fine)), b"fine"),
+        (
+            Reply::Told(Fact::Health(Health::Inconsistent)),
+            b"inconsistent",
+        ),
+        (Reply::Told(Fact::Health(Health::Unusable)), b"unusable"),
+        (Reply::Told(Fact::Uses(0)), b"0"),
+        (Reply::Told(Fact::Uses(u32::MAX)), b"4294967295"),
+        (
+            Reply::Told(Fact::Priority(Prio::new(99).ok_or("priority")?)),
+            b"99",
+        ),
+        (Reply::Told(Fact::Dead), b"dead"),
+        (Reply::Told(Fact::NoSuch), b"refused nosuch"),
+        (Reply::Told(Fact::Thread(Some(thread))), b"t3"),
+        (Reply::Told(Fact::Thread(None)), b"none"),
     ];
     for (reply, text) in replies {
         out.clear();
@@ -352,9 +399,9 @@ fn check_verdicts(rt: &impl Abort, out: &mut Text) {
     header_text(out);
     assert_eq!(rt; out.as_slice(), b"pif-trace 1".as_slice());
     out.clear();
-    recorded_text(Reply::Went, out);
+    recorded_text(Reply::Seen(Seen::Went), out);
     assert_eq!(rt; out.as_slice(), b" = went".as_slice());
     out.clear();
-    differs_text(6, Reply::Answer(0), out);
+    differs_text(6, Reply::Seen(Seen::Answered(0)), out);
     assert_eq!(rt; out.as_slice(), b"differs 6 answer 0".as_slice());
 }

@@ -1,9 +1,9 @@
 ghost use Rattle.std.specs.Prelude.{◌≡◌, ℕ, ◌+◌, ◌≤◌, ◌<◌, ◌++◌, drop, get_or, length, option_map, None, Some, true, false};
 ghost use Rattle.arrayvec.specs.ArrayVec.{array_vec_len};
-ghost use Rattle.pif_text.specs.Traces.{parts_of, is_marked, header_text, recorded, same_of, differs_of};
+ghost use Rattle.pif_text.specs.Traces.{if_traced, parts_of, is_marked, header_text, recorded, same_of, differs_of};
 
 use crate::writing::{append, append_decimal, reply_text};
-use crate::{Reply, TEXT_ROOM, Text};
+use crate::{Command, Reply, TEXT_ROOM, Text};
 
 /// The first line of a trace.
 pub const HEADER: &[u8] = b"pif-trace 1";
@@ -25,6 +25,17 @@ pub fn split_answer(line: &[u8]) -> Option<(&[u8], &[u8])>
         }
     }
     None
+}
+
+/// The command, if it stands in traces: limits, additions and events do.
+pub fn if_traced(command: Command) -> Option<Command>
+    ensures { result ≡ if_traced command }
+{
+    match command {
+        Command::Run(..) => None,
+        Command::Ask(_) => None,
+        traced => Some(traced),
+    }
 }
 
 /// Appends the first line of a trace, with no line feed. What stands in `out` stays.

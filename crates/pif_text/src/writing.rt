@@ -2,10 +2,11 @@ ghost use Rattle.std.specs.Prelude.{◌≡◌, ◌+◌, ◌≤◌, ◌<◌, ◌+
 ghost use Rattle.arrayvec.specs.ArrayVec.{array_vec_len};
 ghost use Rattle.std.specs.Fmt.{digit_glyph};
 ghost use Rattle.pif_text.specs.Numbers.{hex_digits};
-ghost use Rattle.pif_text.specs.Replies.{text_of, fault_of, add_fault_word, refusal_word, health_word, thread_name, mutex_name, cond_name, picked_text, cause_word};
+ghost use Rattle.pif_text.specs.Replies.{text_of, fault_of, add_fault_word, refusal_word, health_word, added_text, seen_text, fact_text, thread_name, mutex_name, cond_name, thread_or_none, cause_word};
 
-use crate::{Cause, Reply, TEXT_ROOM, Text};
+use crate::{Added, Cause, Fact, Reply, TEXT_ROOM, Text};
 use itoa::Buffer;
+use pif_model::Seen;
 use pif_types::{AddFault, Answer, CondId, Health, MutexId, Refusal, Tid};
 
 /// How many bytes of room `reply_text` and `fault_text` ask for: no text is longer.
@@ -176,15 +177,65 @@ fn append_refused(out: &mut Text, why: &[u8])
     append(out, why);
 }
 
-/// Appends the thread that runs next, or that there is none.
-fn append_picked(out: &mut Text, thread: Option<Tid>)
+/// Appends a thread, or that there is none.
+fn append_thread_or_none(out: &mut Text, thread: Option<Tid>)
     requires { array_vec_len out.old + 21 ≤ TEXT_ROOM }
-    ensures items { out.new.items ≡ out.old.items ++ picked_text thread }
+    ensures items { out.new.items ≡ out.old.items ++ thread_or_none thread }
     ensures len { array_vec_len out.new ≤ array_vec_len out.old + 21 }
 {
     match thread {
         Some(thread) => append_thread(out, thread),
         None => append(out, b"none"),
+    }
+}
+
+/// Appends what an addition is answered.
+#[tactic(auto, unfolding(crate::specs::Replies::added_text))]
+fn append_added(out: &mut Text, added: Added)
+    requires { array_vec_len out.old + REPLY_ROOM ≤ TEXT_ROOM }
+    ensures items { out.new.items ≡ out.old.items ++ added_text added }
+    ensures len { array_vec_len out.new ≤ array_vec_len out.old + REPLY_ROOM }
+{
+    match added {
+        Added::Thread(thread) => append_thread(out, thread),
+        Added::Mutex(mutex) => append_mutex(out, mutex),
+        Added::Cond(cond) => append_cond(out, cond),
+        Added::Refused(fault) => append_refused(out, add_fault_of(fault)),
+    }
+}
+
+/// Appends what an event is answered.
+#[tactic(auto, unfolding(crate::specs::Replies::seen_text))]
+fn append_seen(out: &mut Text, seen: Seen)
+    requires { array_vec_len out.old + REPLY_ROOM ≤ TEXT_ROOM }
+    ensures items { out.new.items ≡ out.old.items ++ seen_text seen }
+    ensures len { array_vec_len out.new ≤ array_vec_len out.old + REPLY_ROOM }
+{
+    match seen {
+        Seen::Begun => append(out, b"begun"),
+        Seen::Went => append(out, b"went"),
+        Seen::Waits => append(out, b"waits"),
+        Seen::Answered(number) => append_answer(out, number),
+        Seen::Ended => append(out, b"ended"),
+        Seen::Refused(refusal) => append_refused(out, refusal_of(refusal)),
+    }
+}
+
+/// Appends what a question is answered.
+#[tactic(auto, unfolding(crate::specs::Replies::fact_text))]
+fn append_fact(out: &mut Text, fact: Fact)
+    requires { array_vec_len out.old + REPLY_ROOM ≤ TEXT_ROOM }
+    ensures items { out.new.items ≡ out.old.items ++ fact_text fact }
+    ensures len { array_vec_len out.new ≤ array_vec_len out.old + REPLY_ROOM }
+{
+    match fact {
+        Fact::NoSuch => append(out, b"refused nosuch"),
+        Fact::Word(value) => append_hex(out, value),
+        Fact::Health(health) => append(out, health_of(health)),
+        Fact::Uses(uses) => append_decimal(out, u64::from(uses)),
+        Fact::Priority(priority) => append_decimal(out, u64::from(priority.get())),
+        Fact::Dead => append(out, b"dead"),
+        Fact::Thread(thread) => append_thread_or_none(out, thread),
     }
 }
 
@@ -197,22 +248,9 @@ pub fn reply_text(reply: Reply, out: &mut Text)
 {
     match reply {
         Reply::Done => append(out, b"ok"),
-        Reply::Thread(thread) => append_thread(out, thread),
-        Reply::Mutex(mutex) => append_mutex(out, mutex),
-        Reply::Cond(cond) => append_cond(out, cond),
-        Reply::NotAdded(fault) => append_refused(out, add_fault_of(fault)),
-        Reply::Begun => append(out, b"begun"),
-        Reply::Went => append(out, b"went"),
-        Reply::Waits => append(out, b"waits"),
-        Reply::Answer(number) => append_answer(out, number),
-        Reply::Ended => append(out, b"ended"),
-        Reply::Refused(refusal) => append_refused(out, refusal_of(refusal)),
-        Reply::Word(value) => append_hex(out, value),
-        Reply::Health(health) => append(out, health_of(health)),
-        Reply::Uses(uses) => append_decimal(out, u64::from(uses)),
-        Reply::Priority(priority) => append_decimal(out, u64::from(priority.get())),
-        Reply::Dead => append(out, b"dead"),
-        Reply::Picked(thread) => append_picked(out, thread),
+        Reply::Added(added) => append_added(out, added),
+        Reply::Seen(seen) => append_seen(out, seen),
+        Reply::Told(fact) => append_fact(out, fact),
     }
 }
 

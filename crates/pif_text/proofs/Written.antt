@@ -1,88 +1,17 @@
 -- The commands that lines ask for have numbers that a line can write.
-use Rattle.std.proofs.Common.{◌≡◌, ℕ, ◌<◌, ◌≤◌, ◌==◌, ◌&&◌, Bool, true, false, nat_lt, List, [], ◌∷◌, Option, Some, None, codes, refl, subst, arith, if◌then◌else◌, bytes_eq}
-use Rattle.std.specs.Prelude.{option_map, option_and_then}
-use Rattle.std.specs.Str.Parse.{digits_value}
-use Rattle.std.proofs.lemmas.Bool.{and_parts}
-use Rattle.std.proofs.lemmas.Bool.Decides.{nat_tests}
+use Rattle.std.proofs.Common.{◌≡◌, ℕ, ◌&&◌, true, false, List, [], ◌∷◌, Some, None, codes, subst, bytes_eq}
 use Rattle.pif_types.specs.declared.requests.Request.TheVariants.{Lock, TryLock, Unlock, Consistent, Signal, Broadcast}
+use Rattle.pif_model.specs.declared.events.Event.TheVariants.{Go, End}
+use Rattle.pif_text.specs.declared.commands.Addition.TheVariants.{Thread, Mutex, Cond}
 use Rattle.pif_text.specs.declared.commands.Command.{Command}
-use Rattle.pif_text.specs.declared.commands.Command.TheVariants.{Thread, Mutex, Cond, Go, End, Finish, Word, Health, CondWord, Prio}
+use Rattle.pif_text.specs.declared.commands.Command.TheVariants as command
 use Rattle.pif_text.specs.Commands.{kind_in, request_in, request_in_three, command_of_one, command_of_two, command_of_three, command_of_four, command_of_five, command_of_words, command_in}
-use Rattle.pif_text.specs.CommandTexts.{IsName, IsNumber, IsRequestWritten, IsWritten}
-use Rattle.pif_text.specs.Numbers.{at_least_one, cond_in, is_numeral, mutex_in, name_in, number_in, thread_in}
+use Rattle.pif_text.specs.CommandTexts.{IsRequestWritten, IsWritten}
+use Rattle.pif_text.specs.Numbers.{IsName, IsNumber, cond_in, mutex_in, number_in, thread_in}
+use Rattle.pif_text.specs.Questions.{question_in_one, question_in_two}
 use Rattle.pif_text.specs.Words.{words}
-
--- what is found has this property, if anything is
-abbrev Yields : {A : Type 0} → (A → Type 0) → Option A → Type 0
-Yields P None = Unit {0}
-Yields P (Some x) = P x
-
--- by a test
-if_yields : {A : Type 0} (P : A → Type 0) (b : Bool) (x y : Option A) → Yields P x → Yields P y
-    → Yields P (if b then x else y)
-if_yields P true x y f g = f
-if_yields P false x y f g = g
-
--- where a test passes
-test_yields : {A : Type 0} (P : A → Type 0) (b : Bool) (x : A) → (b ≡ true → P x) → Yields P (if b then Some x else None)
-test_yields P true x f = f refl
-test_yields P false x f = tt
-
--- of what was found
-map_yields : {A B : Type 0} (P : B → Type 0) (f : A → B) (o : Option A) → Yields (λ x. P (f x)) o
-    → Yields P (option_map f o)
-map_yields P f (Some x) h = h
-map_yields P f None h = tt
-
--- by what was found, which has another property
-bind_yields : {A B : Type 0} (Q : A → Type 0) (P : B → Type 0) (o : Option A) (f : A → Option B) → Yields Q o
-    → ((x : A) → Q x → Yields P (f x)) → Yields P (option_and_then f o)
-bind_yields Q P (Some x) f h g = g x h
-bind_yields Q P None f h g = tt
-
--- nothing is asked
-anything : {A : Type 0} (o : Option A) → Yields (λ x. Unit {0}) o
-anything (Some x) = tt
-anything None = tt
-
--- ---- numbers and names
-
--- a number that a word writes
-number-small : (word : List ℕ) → Yields IsNumber (number_in word)
-unfolding number_in
-number-small word =
-    let n = digits_value 10 word in
-    test_yields IsNumber (is_numeral word && nat_lt n 4294967296) n
-    (λ e. below n (and_parts (is_numeral word) (nat_lt n 4294967296) e).1)
-  where
-    below : (n : ℕ) → nat_lt n 4294967296 ≡ true → n < 4294967296
-    below n e = grind (arith, nat_tests)
-
--- that is at least 1
-some-small : (n : ℕ) → IsNumber n → Yields IsName (at_least_one n)
-some-small n small = test_yields IsName (nat_lt 0 n) n (λ e. (above e, small))
-  where
-    above : nat_lt 0 n ≡ true → 1 ≤ n
-    above e = grind (arith, nat_tests)
-
--- a number of a name
-name-small : (letter : ℕ) (word : List ℕ) → Yields IsName (name_in letter word)
-name-small letter [] = tt
-name-small letter (first ∷ digits) =
-    if_yields IsName (first == letter) (option_and_then at_least_one (number_in digits)) None
-    (bind_yields IsNumber IsName (number_in digits) at_least_one (number-small digits) some-small) tt
-
-thread-small : (word : List ℕ) → Yields IsName (thread_in word)
-unfolding thread_in
-thread-small word = name-small 116 word
-
-mutex-small : (word : List ℕ) → Yields IsName (mutex_in word)
-unfolding mutex_in
-mutex-small word = name-small 109 word
-
-cond-small : (word : List ℕ) → Yields IsName (cond_in word)
-unfolding cond_in
-cond-small word = name-small 99 word
+use Rattle.pif_text.proofs.QuestionLemmas.{question_of_one-written, question_of_two-written}
+use Rattle.pif_text.proofs.Yields.{Yields, if_yields, map_yields, bind_yields, anything, number-small, thread-small, mutex-small, cond-small}
 
 -- ---- requests
 
@@ -115,32 +44,28 @@ request_of_three-small call first second =
 -- of one word
 one-small : (name : List ℕ) → Yields IsWritten (command_of_one name)
 unfolding command_of_one
-one-small name = if_yields IsWritten (bytes_eq name (codes "pick")) _ _ tt tt
+one-small name = map_yields IsWritten command.Ask (question_in_one name) (question_of_one-written name)
 
 -- of two words
 two-small : (name word : List ℕ) → Yields IsWritten (command_of_two name word)
 unfolding command_of_two
 two-small name word =
     let P = IsWritten in
-    if_yields P (bytes_eq name (codes "go")) _ _ (map_yields P Go (thread_in word) (thread-small word))
-    (if_yields P (bytes_eq name (codes "end")) _ _ (map_yields P End (thread_in word) (thread-small word))
-    (if_yields P (bytes_eq name (codes "word")) _ _ (map_yields P Word (mutex_in word) (mutex-small word))
-    (if_yields P (bytes_eq name (codes "health")) _ _ (map_yields P Health (mutex_in word) (mutex-small word))
-    (if_yields P (bytes_eq name (codes "prio")) _ _ (map_yields P Prio (thread_in word) (thread-small word))
-    (if_yields P (bytes_eq name (codes "finish")) _ _ (map_yields P Finish (thread_in word) (thread-small word))
-    (if_yields P (bytes_eq name (codes "thread")) _ _ (map_yields P Thread (number_in word) (number-small word))
+    if_yields P (bytes_eq name (codes "go")) _ _ (map_yields P (λ t. command.Event (Go t)) (thread_in word) (thread-small word))
+    (if_yields P (bytes_eq name (codes "finish")) _ _ (map_yields P (λ t. command.Run t None) (thread_in word) (thread-small word))
+    (if_yields P (bytes_eq name (codes "end")) _ _ (map_yields P (λ t. command.Event (End t)) (thread_in word) (thread-small word))
+    (if_yields P (bytes_eq name (codes "thread")) _ _ (map_yields P (λ p. command.Add (Thread p)) (number_in word) (number-small word))
     (if_yields P (bytes_eq name (codes "mutex")) _ _
-    (map_yields P (λ kind. Mutex kind false) (kind_in word) (anything (kind_in word)))
-    (if_yields P (bytes_eq name (codes "cond")) _ _ (map_yields P Cond (mutex_in word) (mutex-small word))
-    (if_yields P (bytes_eq name (codes "condword")) _ _ (map_yields P CondWord (cond_in word) (cond-small word))
-    tt)))))))))
+    (map_yields P (λ kind. command.Add (Mutex kind false)) (kind_in word) (anything (kind_in word)))
+    (if_yields P (bytes_eq name (codes "cond")) _ _ (map_yields P (λ m. command.Add (Cond m)) (mutex_in word) (mutex-small word))
+    (map_yields P command.Ask (question_in_two name word) (question_of_two-written name word)))))))
 
 -- of three words
 three-small : (name word last : List ℕ) → Yields IsWritten (command_of_three name word last)
 unfolding command_of_three
 three-small name word last =
     if_yields IsWritten (bytes_eq name (codes "mutex") && bytes_eq last (codes "robust")) _ _
-    (map_yields IsWritten (λ kind. Mutex kind true) (kind_in word) (anything (kind_in word))) tt
+    (map_yields IsWritten (λ kind. command.Add (Mutex kind true)) (kind_in word) (anything (kind_in word))) tt
 
 -- of four words
 four-small : (name thread call word : List ℕ) → Yields IsWritten (command_of_four name thread call word)

@@ -1,0 +1,81 @@
+ghost use Rattle.std.specs.Prelude.{◌≡◌, ◌+◌, ◌≤◌, ◌++◌};
+ghost use Rattle.arrayvec.specs.ArrayVec.{array_vec_len};
+ghost use Rattle.pif_text.specs.Questions.{question_in_one, question_in_two, question_text};
+
+use crate::numbers::{cond_of, mutex_of, thread_of};
+use crate::writing::{append, append_cond, append_mutex, append_thread};
+use crate::{TEXT_ROOM, Text};
+use pif_types::{CondId, MutexId, Tid};
+
+/// What is asked of a core, which changes nothing.
+#[derive(Clone, Copy, PartialEq, Eq)]
+pub enum Question {
+    /// `word mN`: the value of the mutex's word.
+    Word(MutexId),
+    /// `health mN`: what is known of the state that the mutex protects.
+    Health(MutexId),
+    /// `condword cN`: how often the condition variable was used, that is signalled or broadcast.
+    CondWord(CondId),
+    /// `prio tN`: the priority that the thread runs at.
+    Prio(Tid),
+    /// `pick`: the thread that runs next.
+    Pick,
+}
+
+/// The question of one word.
+#[tactic(auto, unfolding(crate::specs::Questions::question_in_one))]
+pub fn question_of_one(name: &[u8]) -> Option<Question>
+    ensures { result ≡ question_in_one name.now }
+{
+    if name == b"pick".as_slice() {
+        Some(Question::Pick)
+    } else {
+        None
+    }
+}
+
+/// The question of two words.
+#[tactic(auto, unfolding(crate::specs::Questions::question_in_two))]
+pub fn question_of_two(name: &[u8], word: &[u8]) -> Option<Question>
+    ensures { result ≡ question_in_two name.now word.now }
+{
+    if name == b"word".as_slice() {
+        Some(Question::Word(mutex_of(word)?))
+    } else if name == b"prio".as_slice() {
+        Some(Question::Prio(thread_of(word)?))
+    } else if name == b"health".as_slice() {
+        Some(Question::Health(mutex_of(word)?))
+    } else if name == b"condword".as_slice() {
+        Some(Question::CondWord(cond_of(word)?))
+    } else {
+        None
+    }
+}
+
+/// Appends a question.
+#[tactic(auto, unfolding(crate::specs::Questions::question_text))]
+pub fn append_question(out: &mut Text, question: Question)
+    requires { array_vec_len out.old + 30 ≤ TEXT_ROOM }
+    ensures items { out.new.items ≡ out.old.items ++ question_text question }
+    ensures len { array_vec_len out.new ≤ array_vec_len out.old + 30 }
+{
+    match question {
+        Question::Word(mutex) => {
+            append(out, b"word ");
+            append_mutex(out, mutex);
+        }
+        Question::Health(mutex) => {
+            append(out, b"health ");
+            append_mutex(out, mutex);
+        }
+        Question::CondWord(cond) => {
+            append(out, b"condword ");
+            append_cond(out, cond);
+        }
+        Question::Prio(thread) => {
+            append(out, b"prio ");
+            append_thread(out, thread);
+        }
+        Question::Pick => append(out, b"pick"),
+    }
+}
