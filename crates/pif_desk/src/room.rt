@@ -1,11 +1,11 @@
 //! A core with the journal of what was done with it.
-ghost use Rattle.std.specs.Prelude.{◌≡◌, ◌<◌, ◌≤◌, ◌++◌, List, [], ◌∷◌, length, vec_len, vec_capacity, true, Ok, IfOk, IfErr, OnOk, OnErr};
+ghost use Rattle.std.specs.Prelude.{◌≡◌, ◌<◌, ◌≤◌, ◌++◌, List, [], ◌∷◌, length, vec_len, vec_capacity, true, false, unwrap_or, Ok, IfOk, IfErr, OnOk, OnErr};
 ghost use Rattle.pif_model.specs.declared.events.Entry.{Entry};
 ghost use Rattle.pif_model.specs.Posix.{World};
 ghost use Rattle.pif_model.specs.Standing.{Stands};
 ghost use Rattle.pif_model.specs.Lines.{event_outcome};
 ghost use Rattle.pif_model.specs.Table.{thread_added, mutex_added, cond_added};
-ghost use Rattle.pif_model.specs.Calls.{add_thread_answer, add_mutex_answer, add_cond_answer};
+ghost use Rattle.pif_model.specs.Calls.{add_thread_answer, add_mutex_answer, add_cond_answer, waiting_answer};
 ghost use Rattle.pif_desk.specs.Logs.{act_of, event_of, begins, is_answer_to};
 ghost use Rattle.pif_desk.specs.Rooms.{StandsAfter, Turns, Adds, IsExact, IsWhyNotAdded, client_after};
 
@@ -25,7 +25,7 @@ pub struct Room {
     pub(crate) core: Core,
     pub(crate) journal: Vec<Entry>,
     /// How many entries more there shall be room for once the journal is full.
-    pub(crate) growth: usize,
+    growth: usize,
 }
 
 impl Model for Room {
@@ -231,9 +231,11 @@ impl Room {
         client: &mut Client,
         act: Act,
     ) -> Result<(Seen, usize), NoMemory>
+        ensures turned { IfOk result (λ r. Turns (event_of act client.old.thread) r.0 self.old self.new) }
+        ensures at { IfOk result (λ r. r.1 ≡ length self.old.journal) }
         ensures fits { IfOk result (λ r. is_answer_to act r.0 ≡ true) }
         ensures log { IfOk result (λ r. client.new ≡ client_after act r.0 r.1 client.old) }
-        ensures unchanged { OnErr result (client.new ≡ client.old) }
+        ensures unchanged { OnErr result ((self.new ≡ self.old) × (client.new ≡ client.old)) }
     {
         let at = self.entries();
         let seen = self.play(client, act)?;
@@ -247,8 +249,19 @@ impl Room {
         self.journal.len()
     }
 
-    /// Whether a thread rests.
-    pub(crate) fn is_resting(&self, t: Tid) -> bool {
-        self.core.waiting(t) == Some(true)
+    /// Whether a thread rests: false also where it has ended or no call open, or was never added.
+    pub(crate) fn is_resting(&self, t: Tid) -> bool
+        ensures { result ≡ unwrap_or (waiting_answer t self.now.core) false }
+    {
+        self.core.waiting(t).unwrap_or(false)
+    }
+
+    /// How many entries more there shall be room for once the journal is full. No list has room for `usize::MAX`, so
+    /// that a test can have its growth refused.
+    #[cfg(test)]
+    pub(crate) fn set_growth(&mut self, growth: usize)
+        requires { 1 ≤ growth }
+    {
+        self.growth = growth;
     }
 }
