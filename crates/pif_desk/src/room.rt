@@ -1,13 +1,14 @@
 //! A core with the journal of what was done with it.
-ghost use Rattle.std.specs.Prelude.{◌≡◌, ◌<◌, ◌≤◌, ◌++◌, List, [], ◌∷◌, length, vec_len, vec_capacity, true, false, unwrap_or, Ok, IfOk, IfErr, OnOk, OnErr};
+ghost use Rattle.std.specs.Prelude.{◌≡◌, ◌<◌, ◌≤◌, ◌++◌, List, [], ◌∷◌, length, vec_len, vec_capacity, true, Ok, IfOk, IfErr, OnOk, OnErr};
 ghost use Rattle.pif_model.specs.declared.events.Entry.{Entry};
 ghost use Rattle.pif_model.specs.Posix.{World};
 ghost use Rattle.pif_model.specs.Standing.{Stands};
 ghost use Rattle.pif_model.specs.Lines.{event_outcome};
 ghost use Rattle.pif_model.specs.Table.{thread_added, mutex_added, cond_added};
-ghost use Rattle.pif_model.specs.Calls.{add_thread_answer, add_mutex_answer, add_cond_answer, waiting_answer};
+ghost use Rattle.pif_model.specs.Calls.{add_thread_answer, add_mutex_answer, add_cond_answer};
 ghost use Rattle.pif_desk.specs.Logs.{act_of, event_of, begins, is_answer_to};
 ghost use Rattle.pif_desk.specs.Rooms.{StandsAfter, Turns, Adds, IsExact, IsWhyNotAdded, client_after};
+ghost use Rattle.pif_desk.specs.Sleeping.{rests_in};
 
 use crate::client::Client;
 use crate::faults::DeskFault;
@@ -251,7 +252,8 @@ impl Room {
 
     /// Whether a thread rests: false also where it has ended or no call open, or was never added.
     pub(crate) fn is_resting(&self, t: Tid) -> bool
-        ensures { result ≡ unwrap_or (waiting_answer t self.now.core) false }
+        ensures rests { result ≡ rests_in self.now.core t }
+        ensures number { result ≡ true → t ≤ 1024 }
     {
         self.core.waiting(t).unwrap_or(false)
     }
@@ -261,6 +263,7 @@ impl Room {
     #[cfg(test)]
     pub(crate) fn set_growth(&mut self, growth: usize)
         requires { 1 ≤ growth }
+        ensures { self.new ≡ self.old }
     {
         self.growth = growth;
     }

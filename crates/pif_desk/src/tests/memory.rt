@@ -12,14 +12,15 @@ use std::test::Fail;
 fn set_growth(rt: &impl Wait, desk: &Desk<NoPause>, growth: usize)
     requires { 1 ≤ growth }
 {
-    let mut room = desk.room.lock(rt);
-    room.set_growth(growth);
+    let mut shared = desk.shared.lock(rt);
+    shared.room.set_growth(growth);
 }
 
 /// How many entries there is room for.
 fn room_left(rt: &impl Wait, desk: &Desk<NoPause>) -> usize {
-    let room = desk.room.lock(rt);
-    room.journal.capacity().wrapping_sub(room.journal.len())
+    let shared = desk.shared.lock(rt);
+    let journal = &shared.room.journal;
+    journal.capacity().wrapping_sub(journal.len())
 }
 
 /// Makes mutexes until the journal has room for just so many entries, and refuses its growth from then on.

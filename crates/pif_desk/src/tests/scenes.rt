@@ -53,7 +53,7 @@ pub(crate) fn lock() -> Request {
 
 /// How many entries the journal has.
 pub(crate) fn entries<P: Pause + Drop>(rt: &impl Wait, desk: &Desk<P>) -> usize {
-    desk.room.lock(rt).entries()
+    desk.shared.lock(rt).room.entries()
 }
 
 /// How many calls were answered where the room settles with these clients, else why it doesn't.
