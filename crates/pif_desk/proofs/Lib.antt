@@ -6,3 +6,4 @@ pub mod Receipts
 pub mod Threads
 pub mod Pigeons
 pub mod Answering
+pub mod Sleeping

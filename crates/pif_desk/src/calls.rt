@@ -28,16 +28,16 @@ impl Client {
         ensures unchanged { OnErr result (self.new ≡ self.old) }
     {
         let t = self.t;
-        let mut room = desk.room.lock(rt);
+        let mut shared = desk.shared.lock(rt);
         if let Act::Go = &act {
-            room = desk.moved.wait_while(rt, room, |room| room.is_resting(t));
+            shared = desk.sleep(rt, shared, t);
         }
-        let made = room.play_at(self, act)?;
-        drop(room);
-        desk.moved.notify_all();
+        let made = shared.play(self, act, &desk.bells)?;
+        drop(shared);
         desk.pause.after(t, made.0);
         Ok(made)
     }
+
     /// Takes steps of the open call until it is answered: the answer, and the position of its entry. `NoMemory` where
     /// the journal can't grow, and refused as the core refuses a step; the call stays open then.
     fn finish<P: Pause + Drop, R: Wait>(

@@ -7,11 +7,13 @@ ghost use Rattle.pif_desk.specs.Rooms.{history_of, StandsAfter};
 use crate::client::Client;
 use crate::faults::DeskFault;
 use crate::room::Room;
+use crate::shared::Shared;
+use crate::sleepers::{Bells, Sleepers};
 use pif_core::Core;
 use pif_model::Seen;
 use pif_types::{CondId, Kind, Limits, MutexId, NoMemory, Tid};
 use std::alloc::Global;
-use std::sync::{Condvar, Mutex, Wait};
+use std::sync::{Mutex, MutexGuard, Wait};
 
 /// What a client does after each of its events, outside the lock.
 pub trait Pause {
@@ -31,19 +33,23 @@ impl Pause for NoPause {
 /// stands after the journal.
 #[derive(Drop)]
 pub struct Desk<P: Pause + Drop> {
-    pub(crate) room: Mutex<Room>,
-    pub(crate) moved: Condvar,
+    pub(crate) shared: Mutex<Shared>,
+    pub(crate) bells: Bells,
     pub(crate) pause: P,
     alloc: Global,
 }
 
 impl<P: Pause + Drop> Desk<P> {
-    /// A desk under these limits to which nothing was added. It fails where the core's memory is refused.
+    /// A desk under these limits to which nothing was added. It fails where memory is refused, that of the core or that
+    /// by which clients sleep.
     pub fn new(alloc: Global, limits: Limits, pause: P) -> Result<Desk<P>, NoMemory> {
         let core = Core::new(alloc, limits)?;
+        let bells = Bells::new(alloc, limits.threads())?;
+        let sleepers = Sleepers::new(alloc)?;
+        let room = Room::new(alloc, core);
         Ok(Desk {
-            room: Mutex::new(Room::new(alloc, core)),
-            moved: Condvar::new(),
+            shared: Mutex::new(Shared { room, sleepers }),
+            bells,
             pause,
             alloc,
         })
@@ -54,7 +60,7 @@ impl<P: Pause + Drop> Desk<P> {
     pub fn enter<R: Wait>(&self, rt: &R, prio: u32) -> Result<Client, DeskFault>
         ensures { IfOk result (λ c. c.log ≡ no_calls) }
     {
-        let t = self.room.lock(rt).add_thread(prio)?;
+        let t = self.shared.lock(rt).room.add_thread(prio)?;
         Ok(Client::new(self.alloc, t))
     }
 
@@ -66,13 +72,26 @@ impl<P: Pause + Drop> Desk<P> {
         kind: Kind,
         robust: bool,
     ) -> Result<MutexId, DeskFault> {
-        self.room.lock(rt).add_mutex(kind, robust)
+        self.shared.lock(rt).room.add_mutex(kind, robust)
     }
 
     /// Adds a condition variable that is bound to this mutex. Nothing has changed where the core refuses it, or by
     /// `NoMemory` where the journal can't grow.
     pub fn make_cond<R: Wait>(&self, rt: &R, mutex: MutexId) -> Result<CondId, DeskFault> {
-        self.room.lock(rt).add_cond(mutex)
+        self.shared.lock(rt).room.add_cond(mutex)
+    }
+
+    /// Sleeps while a thread rests.
+    pub(crate) fn sleep<'a, R: Wait>(
+        &'a self,
+        rt: &R,
+        shared: MutexGuard<'a, Shared>,
+        t: Tid,
+    ) -> MutexGuard<'a, Shared> {
+        match self.bells.of(t) {
+            Some(bell) => bell.wait_while(rt, shared, |shared| shared.is_to_sleep(t)),
+            None => shared,
+        }
     }
 
     /// Takes the room out of its lock.
@@ -80,7 +99,7 @@ impl<P: Pause + Drop> Desk<P> {
         ensures stands { StandsAfter result.core result.journal }
         ensures legal { IsLegal result.core.limits (history_of result.journal) }
     {
-        let room = self.room.into_inner();
+        let Shared { room, .. } = self.shared.into_inner();
         // This reads the journal, so that the proof has what the type of a room keeps.
         let _journal = &room.journal;
         room

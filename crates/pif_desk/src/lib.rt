@@ -35,6 +35,8 @@ mod faults;
 mod log;
 mod room;
 mod settle;
+mod shared;
+mod sleepers;
 mod walk;
 
 pub use book::{Book, Receipt, Unsettled, Why};

@@ -8,6 +8,7 @@ ghost use Rattle.pif_model.specs.Table.{thread_added, mutex_added, cond_added};
 ghost use Rattle.pif_model.specs.Calls.{add_thread_answer, add_mutex_answer, add_cond_answer};
 ghost use Rattle.pif_desk.specs.Logs.{act_of, event_of, begins, is_answer_to};
 ghost use Rattle.pif_desk.specs.Rooms.{StandsAfter, Turns, Adds, IsExact, IsWhyNotAdded, client_after};
+ghost use Rattle.pif_desk.specs.Sleeping.{rests_in};
 
 use crate::client::Client;
 use crate::faults::DeskFault;
@@ -25,7 +26,7 @@ pub struct Room {
     pub(crate) core: Core,
     pub(crate) journal: Vec<Entry>,
     /// How many entries more there shall be room for once the journal is full.
-    pub(crate) growth: usize,
+    growth: usize,
 }
 
 impl Model for Room {
@@ -231,9 +232,11 @@ impl Room {
         client: &mut Client,
         act: Act,
     ) -> Result<(Seen, usize), NoMemory>
+        ensures turned { IfOk result (λ r. Turns (event_of act client.old.thread) r.0 self.old self.new) }
+        ensures at { IfOk result (λ r. r.1 ≡ length self.old.journal) }
         ensures fits { IfOk result (λ r. is_answer_to act r.0 ≡ true) }
         ensures log { IfOk result (λ r. client.new ≡ client_after act r.0 r.1 client.old) }
-        ensures unchanged { OnErr result (client.new ≡ client.old) }
+        ensures unchanged { OnErr result ((self.new ≡ self.old) × (client.new ≡ client.old)) }
     {
         let at = self.entries();
         let seen = self.play(client, act)?;
@@ -247,8 +250,21 @@ impl Room {
         self.journal.len()
     }
 
-    /// Whether a thread rests.
-    pub(crate) fn is_resting(&self, t: Tid) -> bool {
-        self.core.waiting(t) == Some(true)
+    /// Whether a thread rests: false also where it has ended or no call open, or was never added.
+    pub(crate) fn is_resting(&self, t: Tid) -> bool
+        ensures rests { result ≡ rests_in self.now.core t }
+        ensures number { result ≡ true → t ≤ 1024 }
+    {
+        self.core.waiting(t).unwrap_or(false)
+    }
+
+    /// How many entries more there shall be room for once the journal is full. No list has room for `usize::MAX`, so
+    /// that a test can have its growth refused.
+    #[cfg(test)]
+    pub(crate) fn set_growth(&mut self, growth: usize)
+        requires { 1 ≤ growth }
+        ensures { self.new ≡ self.old }
+    {
+        self.growth = growth;
     }
 }

@@ -1,5 +1,6 @@
 mod memory;
 mod receipts;
 mod scenes;
+mod sleepers;
 mod stress;
 mod threads;

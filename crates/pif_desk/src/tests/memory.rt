@@ -1,9 +1,9 @@
-//! The journal's growth is refused between two events of a call.
+//! The journal's growth is refused before a call, and between two of its events.
 ghost use Rattle.std.specs.Prelude.{◌≤◌};
 
-use super::scenes::{desk_of, enter, settled};
+use super::scenes::{desk_of, enter, entries, lock, settled};
 use crate::{Client, Desk, DeskFault, NoPause};
-use pif_types::{Kind, MutexId, Refusal, Request};
+use pif_types::{Kind, Refusal};
 use std::process::Abort;
 use std::sync::Wait;
 use std::test::Fail;
@@ -12,20 +12,21 @@ use std::test::Fail;
 fn set_growth(rt: &impl Wait, desk: &Desk<NoPause>, growth: usize)
     requires { 1 ≤ growth }
 {
-    let mut room = desk.room.lock(rt);
-    room.growth = growth;
+    let mut shared = desk.shared.lock(rt);
+    shared.room.set_growth(growth);
 }
 
 /// How many entries there is room for.
 fn room_left(rt: &impl Wait, desk: &Desk<NoPause>) -> usize {
-    let room = desk.room.lock(rt);
-    room.journal.capacity().wrapping_sub(room.journal.len())
+    let shared = desk.shared.lock(rt);
+    let journal = &shared.room.journal;
+    journal.capacity().wrapping_sub(journal.len())
 }
 
-/// Makes mutexes until the journal has room for one entry alone, and refuses its growth from then on.
-fn refuse_growth(rt: &impl Wait, desk: &Desk<NoPause>) -> Result<(), DeskFault> {
+/// Makes mutexes until the journal has room for just so many entries, and refuses its growth from then on.
+fn refuse_growth(rt: &impl Wait, desk: &Desk<NoPause>, left: usize) -> Result<(), DeskFault> {
     for _ in 0..60 {
-        if room_left(rt, desk) == 1 {
+        if room_left(rt, desk) == left {
             break;
         }
         let _mutex = desk.make_mutex(rt, Kind::Normal, false)?;
@@ -34,9 +35,18 @@ fn refuse_growth(rt: &impl Wait, desk: &Desk<NoPause>) -> Result<(), DeskFault> 
     Ok(())
 }
 
-/// The request to lock mutex 1.
-fn lock() -> Request {
-    Request::Lock(MutexId::default())
+/// A call is refused memory at its beginning, and none is open.
+fn refuse_begin<R: Wait + Abort>(
+    rt: &R,
+    desk: &Desk<NoPause>,
+    client: &mut Client,
+) -> Result<(), Fail> {
+    refuse_growth(rt, desk, 0)?;
+    let before = entries(rt, desk);
+    assert!(rt; matches!(client.call(rt, desk, lock()), Err(DeskFault::NoMemory)));
+    assert!(rt; !client.is_open());
+    assert_eq!(rt; entries(rt, desk), before);
+    Ok(())
 }
 
 /// A call is refused memory at its second event, and stays open.
@@ -45,7 +55,7 @@ fn begin_call<R: Wait + Abort>(
     desk: &Desk<NoPause>,
     client: &mut Client,
 ) -> Result<(), Fail> {
-    refuse_growth(rt, desk)?;
+    refuse_growth(rt, desk, 1)?;
     assert!(rt; matches!(client.call(rt, desk, lock()), Err(DeskFault::NoMemory)));
     assert!(rt; client.is_open());
     set_growth(rt, desk, 1);
@@ -90,6 +100,28 @@ fn call_and_end<R: Wait + Abort>(
             quit(rt, desk, client)?;
         }
     }
+    Ok(())
+}
+
+/// A client's call is refused memory at its beginning.
+fn refuse_first<R: Wait + Abort>(
+    rt: &R,
+    desk: &Desk<NoPause>,
+    clients: &mut Vec<Client>,
+) -> Result<(), Fail> {
+    enter(rt, desk, 1, clients)?;
+    for client in clients.iter_mut() {
+        refuse_begin(rt, desk, client)?;
+    }
+    Ok(())
+}
+
+#[test]
+fn call_that_could_not_begin_is_not_open(rt: HostRuntime) -> Result<(), Fail> {
+    let mut clients = Vec::new(rt.alloc());
+    let desk = desk_of(&rt, rt.alloc(), Kind::Normal, false)?;
+    refuse_first(&rt, &desk, &mut clients)?;
+    assert_eq!(rt; settled(desk.into_room(), clients), Ok(0));
     Ok(())
 }
 

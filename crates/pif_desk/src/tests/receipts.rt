@@ -1,44 +1,63 @@
 //! Receipts, and what settling finds.
-use super::scenes::{desk_of, enter, limits, settled};
+use super::scenes::{book_of, desk_of, enter, entries, lock, mutex, settled, thread};
 use crate::{Act, Client, Desk, DeskFault, Entry, Event, NoPause, Room, Seen, Why};
-use pif_types::{AddFault, Kind, MutexId, Prio, Refusal, Request, Tid};
+use pif_types::{AddFault, CondId, Kind, Limits, MutexId, Prio, Refusal, Request};
 use std::alloc::Global;
 use std::process::Abort;
 use std::sync::Wait;
 use std::test::Fail;
 
-/// The request to lock mutex 1.
-fn lock() -> Request {
-    Request::Lock(MutexId::default())
+/// The first condition variable.
+fn cond() -> Result<CondId, Fail> {
+    Ok(CondId::new(1).ok_or("a variable")?)
 }
 
-/// The thread of this number.
-fn thread(number: u32) -> Result<Tid, Fail> {
-    Ok(Tid::new(number).ok_or("a thread")?)
-}
-
-/// The answer of a lock of mutex 1.
-fn locks<R: Wait>(rt: &R, desk: &Desk<NoPause>, client: &mut Client) -> Result<u32, DeskFault> {
-    match client.call(rt, desk, lock()) {
+/// What a call of a client is answered.
+fn answer<R: Wait>(
+    rt: &R,
+    desk: &Desk<NoPause>,
+    client: &mut Client,
+    request: Request,
+) -> Result<u32, DeskFault> {
+    match client.call(rt, desk, request) {
         Ok(receipt) => Ok(receipt.answer),
         Err(fault) => Err(fault),
     }
 }
 
-/// The first client locks the mutex and quits; the second gets it from an owner that has ended.
-fn lock_and_quit<R: Wait + Abort>(
+/// How many entries more the journal has than so many.
+fn more_than(rt: &impl Wait, desk: &Desk<NoPause>, before: usize) -> usize {
+    entries(rt, desk).wrapping_sub(before)
+}
+
+/// A client locks the mutex and quits, by one event. Then its call is refused, and it has none to go on with, which makes
+/// no event.
+fn lock_and_quit<R: Wait + Abort>(rt: &R, desk: &Desk<NoPause>, client: &mut Client) {
+    let dead = DeskFault::Refused(Refusal::Dead);
+    assert_eq!(rt; answer(rt, desk, client, lock()), Ok(0));
+    let before = entries(rt, desk);
+    assert_eq!(rt; client.quit(rt, desk), Ok(()));
+    assert_eq!(rt; more_than(rt, desk, before), 1);
+    assert_eq!(rt; answer(rt, desk, client, lock()), Err(dead));
+    assert_eq!(rt; client.resume(rt, desk).err(), Some(dead));
+    assert_eq!(rt; more_than(rt, desk, before), 2);
+}
+
+/// A client has no call to go on with, which makes no event. It gets the mutex from an owner that has ended, and signals
+/// the variable.
+fn lock_and_signal<R: Wait + Abort>(
     rt: &R,
     desk: &Desk<NoPause>,
-    one: &mut Client,
-    two: &mut Client,
-) {
-    let dead = Err(DeskFault::Refused(Refusal::Dead));
-    assert_eq!(rt; locks(rt, desk, one), Ok(0));
-    assert_eq!(rt; one.quit(rt, desk), Ok(()));
-    assert_eq!(rt; locks(rt, desk, one), dead);
-    let idle = two.resume(rt, desk).err();
-    assert_eq!(rt; idle, Some(DeskFault::Refused(Refusal::Idle)));
-    assert_eq!(rt; locks(rt, desk, two), Ok(130));
+    client: &mut Client,
+) -> Result<(), Fail> {
+    let idle = DeskFault::Refused(Refusal::Idle);
+    let signal = Request::Signal(cond()?);
+    let before = entries(rt, desk);
+    assert_eq!(rt; client.resume(rt, desk).err(), Some(idle));
+    assert_eq!(rt; more_than(rt, desk, before), 0);
+    assert_eq!(rt; answer(rt, desk, client, lock()), Ok(130));
+    assert_eq!(rt; answer(rt, desk, client, signal), Ok(0));
+    Ok(())
 }
 
 /// Two clients, of which the second gets the mutex from the first.
@@ -47,12 +66,15 @@ fn two_that_lock<R: Wait + Abort>(
     desk: &Desk<NoPause>,
     clients: &mut Vec<Client>,
 ) -> Result<(), Fail> {
+    assert_eq!(rt; desk.make_cond(rt, MutexId::default()), Ok(cond()?));
     enter(rt, desk, 2, clients)?;
     match clients.as_mut_slice() {
-        [one, two] => lock_and_quit(rt, desk, one, two),
+        [one, two] => {
+            lock_and_quit(rt, desk, one);
+            lock_and_signal(rt, desk, two)
+        }
         _ => panic!(rt; "there are not two clients"),
     }
-    Ok(())
 }
 
 #[test]
@@ -60,7 +82,7 @@ fn desk_keeps_receipts(rt: HostRuntime) -> Result<(), Fail> {
     let mut clients = Vec::new(rt.alloc());
     let desk = desk_of(&rt, rt.alloc(), Kind::Normal, true)?;
     two_that_lock(&rt, &desk, &mut clients)?;
-    assert_eq!(rt; settled(desk.into_room(), clients), Ok(2));
+    assert_eq!(rt; settled(desk.into_room(), clients), Ok(3));
     Ok(())
 }
 
@@ -151,39 +173,84 @@ fn settling_finds_what_clients_do_not_know(rt: HostRuntime) -> Result<(), Fail> 
     Ok(())
 }
 
-/// A client of priority 7, behind a mutex, and after one whose priority is refused.
-fn add_both<R: Wait + Abort>(
+/// An addition that the core refuses.
+fn not_added<T>(fault: AddFault) -> Result<T, DeskFault> {
+    Err(DeskFault::NotAdded(fault))
+}
+
+/// Two mutexes, a variable that is bound to the second, and a client, beside what the core refuses.
+fn add_some<R: Wait + Abort>(
     rt: &R,
     desk: &Desk<NoPause>,
     clients: &mut Vec<Client>,
 ) -> Result<(), Fail> {
-    let refused = desk.enter(rt, 0).err();
-    assert_eq!(rt; refused, Some(DeskFault::NotAdded(AddFault::BadPrio)));
+    let (first, second) = (mutex(1)?, mutex(2)?);
+    assert_eq!(rt; desk.make_mutex(rt, Kind::Recursive, true), Ok(first));
+    assert_eq!(rt; desk.make_mutex(rt, Kind::ErrorCheck, false), Ok(second));
+    assert_eq!(rt; desk.make_cond(rt, mutex(9)?), not_added(AddFault::NoSuch));
+    assert_eq!(rt; desk.make_cond(rt, second), Ok(cond()?));
     assert_eq!(rt;
-        desk.make_mutex(rt, Kind::Recursive, true),
-        Ok(MutexId::default())
+        desk.enter(rt, 0).err(),
+        not_added::<()>(AddFault::BadPrio).err()
     );
     clients.push(desk.enter(rt, 7)?)?;
     Ok(())
 }
 
-/// The room settles with these clients, and its journal has these entries.
-fn has_entries(rt: &impl Abort, room: Room, clients: Vec<Client>, entries: &[Entry]) {
-    match room.settle(clients) {
-        Ok(book) => assert!(rt; book.entries.as_slice() == entries),
-        Err(unsettled) => panic!(rt; "it doesn't settle: {:?}", unsettled.why),
-    }
+/// One more of each that the limits allow, and then one too many.
+fn add_past_limits<R: Wait + Abort>(
+    rt: &R,
+    desk: &Desk<NoPause>,
+    clients: &mut Vec<Client>,
+) -> Result<(), Fail> {
+    let third = mutex(3)?;
+    clients.push(desk.enter(rt, 8)?)?;
+    assert_eq!(rt;
+        desk.enter(rt, 9).err(),
+        not_added::<()>(AddFault::TooMany).err()
+    );
+    assert_eq!(rt; desk.make_mutex(rt, Kind::Normal, true), Ok(third));
+    assert_eq!(rt;
+        desk.make_mutex(rt, Kind::Normal, true),
+        not_added(AddFault::TooMany)
+    );
+    assert_eq!(rt; desk.make_cond(rt, third), not_added(AddFault::TooMany));
+    Ok(())
+}
+
+/// What is added to a desk of two threads, three mutexes and a variable.
+fn added() -> Result<[Entry; 6], Fail> {
+    Ok([
+        Entry::Mutex(mutex(1)?, Kind::Recursive, true),
+        Entry::Mutex(mutex(2)?, Kind::ErrorCheck, false),
+        Entry::Cond(cond()?, mutex(2)?),
+        Entry::Thread(thread(1)?, Prio::new(7).ok_or("a priority")?),
+        Entry::Thread(thread(2)?, Prio::new(8).ok_or("a priority")?),
+        Entry::Mutex(mutex(3)?, Kind::Normal, true),
+    ])
+}
+
+/// The room settles with these clients; its book has these limits and entries.
+fn has_entries(
+    rt: &impl Abort,
+    room: Room,
+    clients: Vec<Client>,
+    limits: Limits,
+    entries: &[Entry],
+) {
+    let book = book_of(rt, room, clients);
+    assert_eq!(rt; book.limits, limits);
+    assert!(rt; book.entries.as_slice() == entries);
 }
 
 #[test]
 fn desk_adds_what_it_is_asked_for(rt: HostRuntime) -> Result<(), Fail> {
-    let entries = [
-        Entry::Mutex(MutexId::default(), Kind::Recursive, true),
-        Entry::Thread(thread(1)?, Prio::new(7).ok_or("a priority")?),
-    ];
+    let limits = Limits::new(2, 3, 1, 9).ok_or("limits")?;
+    let entries = added()?;
     let mut clients = Vec::new(rt.alloc());
-    let desk = Desk::new(rt.alloc(), limits()?, NoPause)?;
-    add_both(&rt, &desk, &mut clients)?;
-    has_entries(&rt, desk.into_room(), clients, entries.as_slice());
+    let desk = Desk::new(rt.alloc(), limits, NoPause)?;
+    add_some(&rt, &desk, &mut clients)?;
+    add_past_limits(&rt, &desk, &mut clients)?;
+    has_entries(&rt, desk.into_room(), clients, limits, entries.as_slice());
     Ok(())
 }

@@ -107,10 +107,10 @@ fn make_calls<R: Wait>(
 
 /// Whether the threads from 1 that make calls have all ended.
 fn have_all_ended<R: Wait>(rt: &R, desk: &Desk<NoPause>) -> bool {
-    let room = desk.room.lock(rt);
+    let shared = desk.shared.lock(rt);
     for number in 1..=THREADS {
         if let Some(thread) = Tid::new(number) {
-            if room.core.effective(thread).is_some() {
+            if shared.room.core.effective(thread).is_some() {
                 return false;
             }
         }
