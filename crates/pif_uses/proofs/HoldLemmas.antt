@@ -19,10 +19,10 @@ use Rattle.pif_uses.specs.Calls.{StandsOn, call_outcome, called, finished, steps
 use Rattle.pif_uses.specs.declared.locking.Held.{Held}
 use Rattle.pif_uses.specs.declared.locking.Held.TheVariants.{InOrder, OwnerDied}
 use Rattle.pif_uses.specs.declared.waiting.Awaited.TheVariants.{Met}
-use Rattle.pif_uses.specs.Waiting.{awaited_by}
-use Rattle.pif_uses.specs.Holding.{HoldsOn, CountsOn, held_by}
+use Rattle.pif_uses.specs.Waiting.{awaited_by, if_resumed, if_waited}
+use Rattle.pif_uses.specs.Holding.{HoldsOn, CountsOn, found, held_by, if_died, locked}
 use Rattle.pif_uses.proofs.CallLemmas.{call_other, call_refused, called-other}
-use Rattle.pif_uses.proofs.StandingLemmas.{call_stands, finish_stands}
+use Rattle.pif_uses.proofs.StandingLemmas.{along, call_stands, finish_stands, next_stands}
 
 -- steps that went change no open call
 went_open : (n t u : ℕ) (h : List Entry) → open_call u (went n t h) ≡ open_call u h
@@ -135,16 +135,6 @@ holds_on t m n s h r w on idle count =
       owns = owner t held;
     }
 
--- a run that goes on from where another has gone on
-along : {s v : Table} {h k : List Entry} {r : List World} {w : World} (on : StandsOn s h r w)
-    → StandsOn v k (on.more ++ w ∷ r) on.last → StandsOn v k r w
-along {s} {v} {h} {k} {r} {w} on next = record {
-  more = next.more ++ on.last ∷ on.more;
-  last = next.last;
-  stands = subst (λ (states : List World). Stands v k states next.last)
-      (sym (append_assoc next.more (on.last ∷ on.more) (w ∷ r))) next.stands;
-}
-
 -- a call that is answered while a core stands on
 module _ (t a : ℕ) (q : Request) (s : Table) (h : List Entry) (r : List World) (w : World) (on : StandsOn s h r w)
     (e : (call_outcome t q s).seen ≡ Answered a) where
@@ -250,6 +240,18 @@ consistent_holds s v t m n h r w held e after =
     rw after (holds_on t m n (call_outcome t (Consistent m) s).after (called t (Consistent m) s h) r w next.on next.idle
     (next.count ∙ held.count))
 
+-- a core stands on after a lock that found that the last owner had ended, and the call consistent behind it
+pub died_stands : (s u v : Table) (t m : ℕ) → Ok OwnerDied ≡ found t m s
+    → ((h : List Entry) (r : List World) (w : World) → Stands s h r w → StandsOn u (called t (Lock m) s h) r w)
+    → u ≡ locked t m s → v ≡ (call_outcome t (Consistent m) u).after
+    → (h : List Entry) (r : List World) (w : World) → Stands s h r w
+    → StandsOn v (if_died (found t m s) (called t (Lock m) s h)
+    (called t (Consistent m) (locked t m s) (called t (Lock m) s h))) r w
+died_stands s u v t m died stands same after h r w st =
+    let k = called t (Lock m) s h in
+    subst (λ (f : Result Held Seen). StandsOn v (if_died f k (called t (Consistent m) (locked t m s) k)) r w) died
+    (next_stands u (locked t m s) v t (Consistent m) k r w (stands h r w st) same after)
+
 -- a wait that was answered 0 changes nothing that is counted
 wait_counts : (c m n : ℕ) → hold_count_after_answer m (Some (Wait c m)) 0 n ≡ n
 wait_counts c m n = rw (itself m) refl
@@ -267,3 +269,29 @@ wait_holds s v t c m n e after h r w st busy count =
 pub met_by : (b : Bool) (seen : Seen) → awaited_by b seen ≡ Met → b ≡ true
 met_by true seen e = refl
 met_by false seen e = absurd cc
+
+-- another wait comes only after one that was answered 0
+pub finished_only : {A : Type 0} (met : Bool) (seen : Seen) (f g : A) → (seen ≡ Answered 0 → ⊥)
+    → f ≡ if_resumed met seen f g
+finished_only met (Answered a) f g n = by_zero (a == 0) refl
+  where
+    by_zero : (b : Bool) → (a == 0) ≡ b → f ≡ (if b then if_waited met f g else f)
+    by_zero true z = absurd (n (ap Answered (eqb-true a 0 z)))
+    by_zero false z = refl
+finished_only met Begun f g n = refl
+finished_only met Went f g n = refl
+finished_only met Waits f g n = refl
+finished_only met Ended f g n = refl
+finished_only met (Refused r) f g n = refl
+
+-- a core stands on after a wait that was answered 0, and the other wait behind it where the test is not met
+pub resumed_stands : (s u v : Table) (t c m : ℕ) (met : Bool) (seen : Seen) (k : List Entry) (r : List World)
+    (w : World) → seen ≡ Answered 0 → StandsOn u k r w → u ≡ (goes_on 23 t s).after
+    → v ≡ if_waited met u (call_outcome t (Wait c m) u).after
+    → StandsOn v (if_resumed met seen k (called t (Wait c m) (goes_on 23 t s).after k)) r w
+resumed_stands s u v t c m true seen k r w e on same after =
+    subst (λ x. StandsOn v (if_resumed true x k (called t (Wait c m) (goes_on 23 t s).after k)) r w) (sym e)
+    (subst (λ x. StandsOn x k r w) (sym after) on)
+resumed_stands s u v t c m false seen k r w e on same after =
+    subst (λ x. StandsOn v (if_resumed false x k (called t (Wait c m) (goes_on 23 t s).after k)) r w) (sym e)
+    (next_stands u (goes_on 23 t s).after v t (Wait c m) k r w on same after)

@@ -23,6 +23,16 @@ later {s} {h} {r} {w} {v} on = record {
       (sym (append_assoc on.more (v ∷ []) (w ∷ r))) on.stands;
 }
 
+-- a run that goes on from where another has gone on
+pub along : {s v : Table} {h k : List Entry} {r : List World} {w : World} (on : StandsOn s h r w)
+    → StandsOn v k (on.more ++ w ∷ r) on.last → StandsOn v k r w
+along {s} {v} {h} {k} {r} {w} on next = record {
+  more = next.more ++ on.last ∷ on.more;
+  last = next.last;
+  stands = subst (λ (states : List World). Stands v k states next.last)
+      (sym (append_assoc next.more (on.last ∷ on.more) (w ∷ r))) next.stands;
+}
+
 -- a core that stands stands on after one event
 once : (s : Table) (e : Event) (h : List Entry) (r : List World) (w : World) → Stands s h r w
     → StandsOn (event_outcome e s).after (Happened e (event_outcome e s).seen ∷ h) r w
@@ -79,3 +89,10 @@ call_stands s v t q b h r w st =
           (subst (λ (x : Outcome). StandsOn x.after (finished t o.after k) r w) (sym (call_other t q s n))
           (later (going 23 t o.after k (w ∷ r) next.0 next.1)))
     ])
+
+-- and after another whole call, from a table that is known under another name
+pub next_stands : (s u v : Table) (t : ℕ) (q : Request) (k : List Entry) (r : List World) (w : World)
+    → StandsOn s k r w → s ≡ u → v ≡ (call_outcome t q s).after → StandsOn v (called t q u k) r w
+next_stands s u v t q k r w on same b =
+    subst (λ x. StandsOn v (called t q x k) r w) same
+    (along on (call_stands s v t q b k (on.more ++ w ∷ r) on.last on.stands))

@@ -34,19 +34,35 @@ pub record CountsOn (t m n : ℕ) (s : Table) (h : List Entry) (r : List World) 
   pub idle : open_call t h ≡ None
   pub count : hold_count t m h ≡ n
 
--- the table, and the history, after a lock of m that found it so, where t made it consistent if its owner had died
-abbrev pub repaired_table : Held → ℕ → ℕ → Table → Table
-repaired_table InOrder t m s = (call_outcome t (Lock m) s).after
-repaired_table OwnerDied t m s = (call_outcome t (Consistent m) (call_outcome t (Lock m) s).after).after
+-- how t's lock of m, a whole call, finds it, and the table after that call
+abbrev pub found : ℕ → ℕ → Table → Result Held Seen
+found t m s = held_by (call_outcome t (Lock m) s).seen
 
-abbrev pub repaired : Held → ℕ → ℕ → Table → List Entry → List Entry
-repaired InOrder t m s h = called t (Lock m) s h
-repaired OwnerDied t m s h = called t (Consistent m) (call_outcome t (Lock m) s).after (called t (Lock m) s h)
+abbrev pub locked : ℕ → ℕ → Table → Table
+locked t m s = (call_outcome t (Lock m) s).after
 
--- what is protected after such a lock: as it was, or, if its owner had died, what is in order
-abbrev pub repaired_value : Held → ℕ → ℕ → ℕ
-repaired_value InOrder fresh value = value
-repaired_value OwnerDied fresh value = fresh
+-- of two tables or histories that which there is after a lock: the second where it has taken the mutex
+abbrev pub if_taken : {A : Type 0} → Result Held Seen → (refused taken : A) → A
+if_taken (Ok x) refused taken = taken
+if_taken (Err seen) refused taken = refused
+
+-- what a lock and the unlock behind it were answered: the unlock where the lock has taken the mutex
+abbrev pub unlocked_by : Result Held Seen → Seen → Result Seen Seen
+unlocked_by (Ok x) unlocked = Ok unlocked
+unlocked_by (Err seen) unlocked = Err seen
+
+-- of two tables, histories or values that which there is after a lock: the second where the last owner has ended
+abbrev pub if_died : {A : Type 0} → Result Held Seen → (orderly died : A) → A
+if_died (Ok InOrder) orderly died = orderly
+if_died (Ok OwnerDied) orderly died = died
+if_died (Err seen) orderly died = orderly
+
+-- how a lock found the mutex; or what consistent is answered, where the last owner has ended and that is not 0
+abbrev pub repaired_by : Result Held Seen → Seen → Result Held Seen
+repaired_by (Ok InOrder) consistent = Ok InOrder
+repaired_by (Ok OwnerDied) (Answered a) = if a == 0 then Ok OwnerDied else Err (Answered a)
+repaired_by (Ok OwnerDied) consistent = Err consistent
+repaired_by (Err seen) consistent = Err seen
 
 -- what m protects is in order in each state of the POSIX machine in which a core with this table stands
 abbrev pub IsFineIn : ℕ → Table → Type 0

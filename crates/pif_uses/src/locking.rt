@@ -1,5 +1,5 @@
 ghost use Rattle.std.specs.Prelude.{ℕ, ◌≡◌, ◌≢◌, ◌+◌, ◌%◌, ◌^◌, List, Some, IfOk, IfErr};
-ghost use Rattle.pif_types.specs.declared.requests.Request.TheVariants.{Lock, Unlock};
+ghost use Rattle.pif_types.specs.declared.requests.Request.TheVariants.{Lock, Unlock, Consistent};
 ghost use Rattle.pif_model.specs.declared.events.Entry.{Entry};
 ghost use Rattle.pif_model.specs.declared.events.Seen.TheVariants.{Answered};
 ghost use Rattle.pif_model.specs.Posix.{World, mutex_at};
@@ -8,7 +8,7 @@ ghost use Rattle.pif_model.specs.Standing.{Stands};
 ghost use Rattle.pif_model.specs.Lines.{goes_on};
 ghost use Rattle.pif_uses.specs.Calls.{StandsOn, call_outcome, called, finished};
 ghost use Rattle.pif_uses.specs.declared.locking.Held.TheVariants.{InOrder};
-ghost use Rattle.pif_uses.specs.Holding.{CountsOn, HoldsOn, IsFineIn, held_by, repaired, repaired_table, repaired_value};
+ghost use Rattle.pif_uses.specs.Holding.{CountsOn, HoldsOn, IsFineIn, found, held_by, if_died, if_taken, locked, repaired_by, unlocked_by};
 
 use crate::calls::{call, finish};
 use pif_core::{Core, Event, Seen};
@@ -71,7 +71,8 @@ pub fn finish_lock(core: &mut Core, thread: Tid, mutex: MutexId) -> Result<Held,
 
 /// A thread locks a mutex, adds this amount to a sum that the mutex protects, modulo 2 to the power 64, and unlocks
 /// the mutex. `Ok` has what the unlock was answered: after 0 the thread holds the mutex as often as before. `Err` has
-/// what the lock was answered where it has not taken the mutex; the sum is unchanged then.
+/// what the lock was answered where it has not taken the mutex: nothing was done but that lock, and the sum is
+/// unchanged. After `Waits` the lock stays open, as that of `lock_and_hold`.
 pub fn add_under(
     core: &mut Core,
     thread: Tid,
@@ -79,12 +80,18 @@ pub fn add_under(
     sum: &mut u64,
     amount: u64,
 ) -> Result<Seen, Seen>
+    ensures answer { result ≡ unlocked_by (found thread mutex core.old)
+        (call_outcome thread (Unlock mutex) (locked thread mutex core.old)).seen }
+    ensures after { core.new ≡ if_taken (found thread mutex core.old) (locked thread mutex core.old)
+        (call_outcome thread (Unlock mutex) (locked thread mutex core.old)).after }
     ensures added { IfOk result (λ x. sum.new ≡ (sum.old + amount) % 2 ^ 64) }
     ensures refused { IfErr result (λ x. sum.new ≡ sum.old) }
+    ensures stands { (h : List Entry) (r : List World) (w : World) → Stands core.old h r w
+        → StandsOn core.new (if_taken (found thread mutex core.old) (called thread (Lock mutex) core.old h)
+        (called thread (Unlock mutex) (locked thread mutex core.old) (called thread (Lock mutex) core.old h))) r w }
     ensures left { IfOk result (λ x. (h : List Entry) (r : List World) (w : World) → Stands core.old h r w
         → x ≡ Answered 0 → CountsOn thread mutex (hold_count thread mutex h) core.new
-        (called thread (Unlock mutex) (call_outcome thread (Lock mutex) core.old).after
-        (called thread (Lock mutex) core.old h)) r w) }
+        (called thread (Unlock mutex) (locked thread mutex core.old) (called thread (Lock mutex) core.old h)) r w) }
 {
     lock_and_hold(core, thread, mutex)?;
     // Here the thread is the one holder of the mutex.
@@ -95,8 +102,10 @@ pub fn add_under(
 /// A thread locks a robust mutex that protects a value. Where its last owner has ended, the value is made this fresh
 /// one, and the mutex consistent (pthread_mutex_consistent of POSIX), so that it stays usable. Where this answers
 /// `Ok`, the thread holds the mutex once more than before, and no other thread does; the mutex is then fine, unless
-/// the thread was its owner before. `Err` has what the lock was answered otherwise: after ENOTRECOVERABLE nobody will
-/// hold the mutex again, and the thread gives up.
+/// the thread was its owner before. `Err` has what the lock was answered where it has not taken the mutex: nothing was
+/// done but that lock, and the value is unchanged. After `Waits` the lock stays open; after ENOTRECOVERABLE nobody will
+/// hold the mutex again, and the thread gives up. Where the mutex was taken after its owner and `consistent` is not
+/// answered 0, `Err` has that answer, and the value is the fresh one.
 pub fn lock_and_repair(
     core: &mut Core,
     thread: Tid,
@@ -104,10 +113,19 @@ pub fn lock_and_repair(
     value: &mut u64,
     fresh: u64,
 ) -> Result<Held, Seen>
-    ensures after { IfOk result (λ x. core.new ≡ repaired_table x thread mutex core.old) }
-    ensures value { IfOk result (λ x. value.new ≡ repaired_value x fresh value.old) }
+    ensures answer { result ≡ repaired_by (found thread mutex core.old)
+        (call_outcome thread (Consistent mutex) (locked thread mutex core.old)).seen }
+    ensures after { core.new ≡ if_died (found thread mutex core.old) (locked thread mutex core.old)
+        (call_outcome thread (Consistent mutex) (locked thread mutex core.old)).after }
+    ensures value { value.new ≡ if_died (found thread mutex core.old) value.old fresh }
+    ensures stands { (h : List Entry) (r : List World) (w : World) → Stands core.old h r w
+        → StandsOn core.new (if_died (found thread mutex core.old) (called thread (Lock mutex) core.old h)
+        (called thread (Consistent mutex) (locked thread mutex core.old) (called thread (Lock mutex) core.old h))) r w }
     ensures holds { IfOk result (λ x. (h : List Entry) (r : List World) (w : World) → Stands core.old h r w
-        → HoldsOn thread mutex (hold_count thread mutex h + 1) core.new (repaired x thread mutex core.old h) r w) }
+        → HoldsOn thread mutex (hold_count thread mutex h + 1) core.new
+        (if_died (found thread mutex core.old) (called thread (Lock mutex) core.old h)
+        (called thread (Consistent mutex) (locked thread mutex core.old)
+        (called thread (Lock mutex) core.old h))) r w) }
     ensures fine { IfOk result (λ x. (h : List Entry) (r : List World) (w : World) → Stands core.old h r w
         → (x ≡ InOrder → (mutex_at w mutex).owner ≢ thread) → IsFineIn mutex core.new) }
 {

@@ -1,3 +1,5 @@
+mod ways_out;
+
 use crate::{
     Awaited, Held, Next, add_under, call, finish, finish_lock, lock_and_hold, lock_and_repair,
     next_after, one_event, resume_wait, wait_unless,
@@ -22,15 +24,20 @@ struct Scene {
 
 /// A core with room for a scene.
 fn core_of(alloc: Global) -> Result<Core, Fail> {
-    let limits = Limits::new(2, 1, 1, 1).ok_or("limits")?;
+    let limits = Limits::new(2, 1, 1, 2).ok_or("limits")?;
     Ok(Core::new(alloc, limits)?)
 }
 
-/// Adds a scene to a core, whose mutex is robust or stalled.
+/// Adds a scene to a core, whose mutex is normal, and robust or stalled.
 fn fill(core: &mut Core, robust: bool) -> Result<Scene, AddFault> {
+    fill_with(core, Kind::Normal, robust)
+}
+
+/// Adds a scene to a core, whose mutex is of this kind, and robust or stalled.
+fn fill_with(core: &mut Core, kind: Kind, robust: bool) -> Result<Scene, AddFault> {
     let low = core.add_thread(10)?;
     let high = core.add_thread(50)?;
-    let mutex = core.add_mutex(Kind::Normal, robust)?;
+    let mutex = core.add_mutex(kind, robust)?;
     let cond = core.add_cond(mutex)?;
     Ok(Scene {
         low,

@@ -1,14 +1,14 @@
-ghost use Rattle.std.specs.Prelude.{ℕ, ◌≡◌, ◌+◌, true, List, Some};
+ghost use Rattle.std.specs.Prelude.{ℕ, ◌≡◌, ◌+◌, true, false, List, Some};
 ghost use Rattle.pif_types.specs.declared.requests.Request.TheVariants.{Wait};
 ghost use Rattle.pif_model.specs.declared.events.Entry.{Entry};
 ghost use Rattle.pif_model.specs.Posix.{World};
 ghost use Rattle.pif_model.specs.History.{hold_count, open_call};
 ghost use Rattle.pif_model.specs.Standing.{Stands};
 ghost use Rattle.pif_model.specs.Lines.{goes_on};
-ghost use Rattle.pif_uses.specs.Calls.{call_outcome, finished};
+ghost use Rattle.pif_uses.specs.Calls.{StandsOn, call_outcome, called, finished};
 ghost use Rattle.pif_uses.specs.Holding.{HoldsOn};
 ghost use Rattle.pif_uses.specs.declared.waiting.Awaited.TheVariants.{Met};
-ghost use Rattle.pif_uses.specs.Waiting.{awaited_by, waited_table};
+ghost use Rattle.pif_uses.specs.Waiting.{awaited_by, if_resumed, if_waited, resumed_by};
 
 use crate::calls::{call, finish};
 use pif_core::{Core, Event, Seen};
@@ -34,7 +34,9 @@ pub fn wait_unless(
     is_met: bool,
 ) -> Awaited
     ensures answer { result ≡ awaited_by is_met (call_outcome thread (Wait cond mutex) core.old).seen }
-    ensures after { core.new ≡ waited_table is_met core.old (call_outcome thread (Wait cond mutex) core.old).after }
+    ensures after { core.new ≡ if_waited is_met core.old (call_outcome thread (Wait cond mutex) core.old).after }
+    ensures stands { is_met ≡ false → (h : List Entry) (r : List World) (w : World) → Stands core.old h r w
+        → StandsOn core.new (called thread (Wait cond mutex) core.old h) r w }
 {
     if is_met {
         Awaited::Met
@@ -44,7 +46,9 @@ pub fn wait_unless(
 }
 
 /// A thread goes on with a wait that waited. Once the wait is answered 0, the thread holds the mutex again, and tests
-/// what it waits for again: it may have been woken for nothing, or another thread may have come between.
+/// what it waits for again: it may have been woken for nothing, or another thread may have come between. `Met` says
+/// that it is so now. `Not` has what the wait was answered otherwise, and then nothing more was done; or what another
+/// wait is answered, which was begun since the test failed.
 pub fn resume_wait(
     core: &mut Core,
     thread: Tid,
@@ -52,6 +56,13 @@ pub fn resume_wait(
     mutex: MutexId,
     is_met: bool,
 ) -> Awaited
+    ensures answer { result ≡ resumed_by is_met (goes_on 23 thread core.old).seen
+        (call_outcome thread (Wait cond mutex) (goes_on 23 thread core.old).after).seen }
+    ensures after { core.new ≡ if_resumed is_met (goes_on 23 thread core.old).seen (goes_on 23 thread core.old).after
+        (call_outcome thread (Wait cond mutex) (goes_on 23 thread core.old).after).after }
+    ensures stands { (h : List Entry) (r : List World) (w : World) → Stands core.old h r w
+        → StandsOn core.new (if_resumed is_met (goes_on 23 thread core.old).seen (finished thread core.old h)
+        (called thread (Wait cond mutex) (goes_on 23 thread core.old).after (finished thread core.old h))) r w }
     ensures holds { result ≡ Met → (is_met ≡ true) × ((h : List Entry) (r : List World) (w : World) (n : ℕ)
         → Stands core.old h r w → open_call thread h ≡ Some (Wait cond mutex) → hold_count thread mutex h ≡ n + 1
         → HoldsOn thread mutex (n + 1) core.new (finished thread core.old h) r w) }

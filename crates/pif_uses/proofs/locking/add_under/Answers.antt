@@ -1,12 +1,26 @@
 -- Who has locked and unlocked holds as often as before.
-use Rattle.std.proofs.Common.{sym, ◌∙◌, subst}
+use Rattle.std.proofs.Common.{Result, sym, ◌∙◌, subst}
 use Rattle.pif_types.specs.declared.requests.Request.TheVariants.{Lock, Unlock}
+use Rattle.pif_model.specs.declared.events.Seen.{Seen}
 use Rattle.pif_model.specs.History.{hold_count}
 use Rattle.pif_model.specs.Table.{Table}
-use Rattle.pif_uses.specs.Calls.{called}
-use Rattle.pif_uses.specs.Holding.{CountsOn}
+use Rattle.pif_uses.specs.declared.locking.Held.{Held}
+use Rattle.pif_uses.specs.Calls.{StandsOn, called}
+use Rattle.pif_uses.specs.Holding.{CountsOn, if_taken, locked}
 use Rattle.pif_uses.proofs.HoldLemmas.{unlock_leaves}
+use Rattle.pif_uses.proofs.StandingLemmas.{next_stands}
 use Rattle.pif_uses.proofs.locking.add_under.Goals as goal
+
+pub returns-clause-stands : goal.returns-clause-stands
+returns-clause-stands c = λ h r w st.
+    let t = c.args.thread in
+    let m = c.args.mutex in
+    let u = locked t m c.args.core.now in
+    let k = called t (Lock m) c.args.core.now h in
+    subst (λ (f : Result Held Seen). StandsOn c.call.new.core (if_taken f k (called t (Unlock m) u k)) r w)
+    (sym c.in_ok-lock_and_hold.was ∙ c.lock_and_hold.ensures.answer)
+    (next_stands c.lock_and_hold.new.core u c.call.new.core t (Unlock m) k r w
+    (c.lock_and_hold.ensures.stands h r w st) c.lock_and_hold.ensures.after c.call.ensures.after)
 
 pub returns-clause-left : goal.returns-clause-left
 returns-clause-left c = λ h r w st e.
