@@ -50,6 +50,12 @@ impl<T: Drop> Quick<T> {
         self.give_back(rt, place, SPACING * word, holder, value);
     }
 
+    /// Whether the pass with this number stands in the order of those that wait.
+    #[cfg(test)]
+    pub(crate) fn is_parked<R: Wait>(&self, rt: &R, number: u8) -> bool {
+        self.order.lock(rt).has(number)
+    }
+
     /// Takes the word with its value, and waits for it where it isn't free.
     fn wait_for<R: Wait>(&self, rt: &R, place: &mut Place<T>, word: usize, pass: u8) -> T
         requires { IsPlaceOf self.now.board.shared.table_id word pass place.old }
