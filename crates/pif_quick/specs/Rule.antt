@@ -122,6 +122,11 @@ module _ {T : Type 0} where
   abbrev pub with_record : Record T → View T → View T
   with_record r v = record v { known = r }
 
+-- the word that is handed to this pass, or freed if there is none
+abbrev pub handed_to : Option ℕ → Word
+handed_to None = free_word
+handed_to (Some u) = hand_word u
+
 -- The word part of a step: the word becomes what the function says, or stays where that fails
 abbrev pub IsWordStep : (Word → Option Word) → ℕ → ℕ → Type 0
 IsWordStep f found left = MatchOption (f (word_of found)) (left ≡ found) (λ w. word_of left ≡ w)
@@ -174,8 +179,7 @@ module _ {T : Type 0} where
   abbrev pub Handed : At T → Known T → ℕ → Known T → Type 0
   Handed st m found m' =
       (found ≡ st.first → (word_of found ≡ mark_word (held_by m.0.pass))
-      × ((word_of (exchanged_word st found) ≡ free_word)
-      ⊎ ((u : ℕ) × (word_of (exchanged_word st found) ≡ hand_word u))))
+      × ((next : Option ℕ) × (word_of (exchanged_word st found) ≡ handed_to next)))
       × (found ≢ st.first → exchanged_word st found ≡ found)
       × Left st m found m'
 

@@ -124,10 +124,8 @@ impl<T: Drop> Quick<T> {
                 Err(value) => value,
             };
             let mut order = self.order.lock(rt);
-            let next = order.first(word);
-            value = match place::hand_over(shelf, place, word, pass, next, value) {
-                Ok(()) => {
-                    order.leave_first(word);
+            value = match place::hand_over(shelf, place, word, pass, &mut order, value) {
+                Ok(_) => {
                     drop(order);
                     self.handed.notify_all();
                     return;
