@@ -55,7 +55,7 @@ module _ {T : Type 0} where
       ap (λ (k : ℕ). get_or (spread (x ∷ xs)) k None) e ∙ opening_at-spread xs m
 
   pub sound-fresh : (pass : ℕ) (o : Option T) → IsSound pass (fresh o)
-  sound-fresh pass o = record { chain = tt; open_turn = λ f e. absurd (not_open f e); own = refl }
+  sound-fresh pass o = record { chain = tt; open_turn = λ f e. absurd (not_open f e); own = refl; last = λ _. tt }
     where
       not_open : (f : T) → ◌≡◌ {A = Option T} None (Some f) → ⊥
       not_open f e = cc

@@ -10,7 +10,7 @@ use Rattle.pif_quick.specs.declared.rule.Turn.{Turn}
 use Rattle.pif_quick.specs.declared.rule.Record.{Record}
 use Rattle.pif_quick.specs.declared.rule.View.{View}
 use Rattle.pif_quick.specs.declared.rule.Role.TheVariants.{Dealer, Seated, Spent}
-use Rattle.pif_quick.specs.Turns.{left_by, IsChain, turns_by, IsOlder, IsOpen, IsSound, fresh, with_open, closed}
+use Rattle.pif_quick.specs.Turns.{left_by, IsChain, turns_by, EndsWithOwn, IsOlder, IsOpen, IsSound, fresh, with_open, closed}
 
 -- the number in a word's bits
 abbrev pub number_at : List ℕ → ℕ → ℕ
@@ -54,6 +54,8 @@ module _ {T : Type 0} where
     pub prefix : newer ++ v.known.turns ≡ log
     pub others : turns_by v.pass newer ≡ []
     pub made : turns_by v.pass v.known.turns ≡ v.known.made
+    -- with its open turn, they are none or end with its own
+    pub last : v.known.found ≡ None → EndsWithOwn v.pass v.known.turns
     pub holds : (f : T) → v.known.found ≡ Some f → Holds words homes log v f
 
   -- Who sits where. Seats are dealt by one dealer, in order, one for each pass and word
