@@ -7,7 +7,8 @@ mod value;
 mod waits;
 
 use crate::parking::Order;
-use crate::rule::{Board, Place};
+use crate::rule::{Board, Place, Shelf};
+use std::snapshot::Snapshot;
 use std::sync::{Condvar, Mutex};
 
 /// Words with a value each, of which a pass at a time has one.
@@ -27,13 +28,14 @@ pub struct Pass<T> {
     places: Vec<Place<T>>,
 }
 
-/// A value that a pass holds, with its word. A `Held` that is let go leaves its word locked for good: give it back by
-/// `unlock_quiet` or `unlock`.
+/// A value that a pass holds, with its word. It goes with the words that it was locked among: no other `Quick` takes it.
+/// A `Held` that is let go leaves its word locked for good: give it back by `unlock_quiet` or `unlock`.
 #[derive(Drop)]
 pub struct Held<T> {
     value: T,
     word: usize,
     pass: u8,
+    home: Snapshot<Shelf<T>>,
 }
 
 /// How many places of the table lie between two words.

@@ -8,6 +8,7 @@ use super::{Held, Pass, Quick, SPACING};
 use crate::place;
 use crate::rule::Place;
 use pif_word::number;
+use std::snapshot::Snapshot;
 use std::sync::Wait;
 use std::thread;
 
@@ -19,7 +20,7 @@ impl<T: Drop> Quick<T> {
         requires own { IsPassOf self.now pass.old }
         ensures own { IsPassOf self.now pass.new }
         ensures sound { AreSound pass.new }
-        ensures locked { Locks m pass.old pass.new result }
+        ensures locked { Locks self.now m pass.old pass.new result }
     {
         let holder = pass.number;
         let place = &mut pass.places[m];
@@ -28,6 +29,7 @@ impl<T: Drop> Quick<T> {
             value,
             word: m,
             pass: holder,
+            home: Snapshot::of(&self.board.shared),
         }
     }
 
@@ -35,7 +37,7 @@ impl<T: Drop> Quick<T> {
     /// waited longest for it, or frees it where none waits.
     pub fn unlock<R: Wait>(&self, rt: &R, pass: &mut Pass<T>, held: Held<T>)
         requires own { IsPassOf self.now pass.old }
-        requires turn { IsTurnOf pass.old held }
+        requires turn { IsTurnOf self.now pass.old held }
         ensures own { IsPassOf self.now pass.new }
         ensures sound { AreSound pass.new }
         ensures unlocked { Unlocks held pass.old pass.new }
@@ -44,6 +46,7 @@ impl<T: Drop> Quick<T> {
             value,
             word,
             pass: _,
+            home: _,
         } = held;
         let holder = pass.number;
         let place = &mut pass.places[word];

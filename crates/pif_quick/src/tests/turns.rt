@@ -18,7 +18,7 @@ const LOOKS: u32 = 10_000;
 pub(super) fn try_it(rt: &impl Abort, quick: &Quick<u64>, pass: &mut Pass<u64>) -> Held<u64>
     requires own { IsPassOf quick.now pass.old × IsIdle pass.old × (0 < word_count quick.now) }
     ensures own { IsPassOf quick.now pass.new }
-    ensures turn { IsTurnOf pass.new result × (held_word result ≡ 0) }
+    ensures turn { IsTurnOf quick.now pass.new result × (held_word result ≡ 0) }
 {
     match quick.try_lock(pass, 0) {
         Some(held) => held,
@@ -49,7 +49,7 @@ pub(super) fn hand_over<R: Wait + Clock + Abort>(
     held: Held<u64>,
 )
     requires own { IsPassOf quick.now pass.old × (0 < word_count quick.now) }
-    requires turn { IsTurnOf pass.old held }
+    requires turn { IsTurnOf quick.now pass.old held }
     ensures own { IsPassOf quick.now pass.new }
 {
     let marked = wait_for_mark(rt, quick, pass);
@@ -79,14 +79,14 @@ fn contend<R: Threads + Wait + Clock + Abort + Sync>(
     held: Held<u64>,
     two: Pass<u64>,
 ) -> (Pass<u64>, Pass<u64>, u64)
-    requires one { IsPassOf quick.now one × IsTurnOf one held × (0 < word_count quick.now) }
+    requires one { IsPassOf quick.now one × IsTurnOf quick.now one held × (0 < word_count quick.now) }
     requires two { IsPassOf quick.now two × IsIdle two }
     ensures { IsPassOf quick.now result.0 × IsPassOf quick.now result.1 × IsIdle result.1 }
 {
     let (one, (two, value)) = join(
         rt,
         move || -> Pass<u64>
-            requires { IsPassOf quick.now one × IsTurnOf one held × (0 < word_count quick.now) }
+            requires { IsPassOf quick.now one × IsTurnOf quick.now one held × (0 < word_count quick.now) }
             ensures { IsPassOf quick.entry.now result }
         {
             let mut one = one;

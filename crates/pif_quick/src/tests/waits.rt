@@ -80,7 +80,7 @@ fn hand_to_sleepers<R: Wait + Clock + Abort>(
     row: Row,
 )
     requires own { IsPassOf quick.now pass.old × (0 < word_count quick.now) }
-    requires turn { IsTurnOf pass.old held }
+    requires turn { IsTurnOf quick.now pass.old held }
     ensures own { IsPassOf quick.now pass.new }
 {
     wait_for_sleep(rt, quick, row.first);
@@ -104,7 +104,7 @@ fn signed<R: Threads + Wait + Clock + Abort + Sync>(
     let (mut one, done) = join(
         rt,
         move || -> Pass<u64>
-            requires { IsPassOf quick.now one × IsTurnOf one held × (0 < word_count quick.now) }
+            requires { IsPassOf quick.now one × IsTurnOf quick.now one held × (0 < word_count quick.now) }
             ensures { IsPassOf quick.entry.now result }
         {
             let mut one = one;

@@ -1,4 +1,4 @@
-use Rattle.std.proofs.Common.{arith}
+use Rattle.std.proofs.Common.{arith, refl}
 use Rattle.pif_quick.proofs.PassSteps.{seat_of, pass_after, sound_of, locks}
 use Rattle.pif_quick.proofs.quick.Quick.lock.Goals as goal
 
@@ -21,4 +21,4 @@ returns-clause-sound g c =
 pub returns-clause-locked : goal.returns-clause-locked
 returns-clause-locked g c =
     locks _ _ c.requires.own _ c.requires.word _ c.index_mut-place.ensures.value c.wait_for-value.new.place _
-    c.wait_for-value.ensures.taken
+    c.of.ensures refl refl c.wait_for-value.ensures.taken
