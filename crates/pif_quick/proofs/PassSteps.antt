@@ -118,6 +118,7 @@ module _ {T : Type 0} where
         pub pass_after : IsPlaceOf q.board.shared.table_id (8 * m) p.number s' → IsPassOf q after
         pass_after h = record {
           counted = own.counted;
+          numbered = own.numbered;
           place = λ k x e. ⊎_elim
               (λ (t : (k ≡ m) × (s' ≡ x)). subst (λ (y : ℕ × Place T). IsPlaceOf q.board.shared.table_id
               (8 * y.0) p.number y.1) (λ i. (sym t.0 i, t.1 i)) h)

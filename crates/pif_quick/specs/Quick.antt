@@ -39,6 +39,8 @@ module _ {T : Type 0} where
   pub record IsPassOf (q : Quick T) (p : Pass T) : Type 0 where
     -- it has a record for each word
     pub counted : vec_len p.places ≡ q.count
+    -- it has a place to sleep
+    pub numbered : p.number < vec_len q.handed
     -- its seats are the table's, one for each word
     pub place : (m : ℕ) (s : Seat (Option T) (View T)) → slice_get p.places.items m ≡ Some s
         → IsPlaceOf q.board.shared.table_id (8 * m) p.number s

@@ -51,6 +51,24 @@ pub(crate) fn take<T>(
     Ok(pick_up(shelf, place, word))
 }
 
+/// Takes the word with its value if a load finds that it is 0. `None`, with nothing changed, if it isn't, or is no more.
+pub(crate) fn take_free<T>(
+    shelf: &Shelf<T>,
+    place: &mut Place<T>,
+    word: usize,
+    pass: u8,
+) -> Option<T>
+    requires { IsPlaceOf shelf.now.table_id word pass place.old }
+    ensures place { IsPlaceOf shelf.now.table_id word pass place.new }
+    ensures taken { IfSome result (λ v. Opens pass v (record_of place.old) (record_of place.new)) }
+    ensures kept { IfNone result (record_of place.new ≡ record_of place.old) }
+{
+    if look(shelf, place, word) != 0 {
+        return None;
+    }
+    take(shelf, place, word, pass).ok()
+}
+
 /// Puts the value home and releases the word, where its bits are the pass's number alone. Otherwise gives the value
 /// back.
 pub(crate) fn release<T>(

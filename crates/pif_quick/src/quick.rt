@@ -11,12 +11,13 @@ use crate::rule::{Board, Place, Shelf};
 use std::snapshot::Snapshot;
 use std::sync::{Condvar, Mutex};
 
-/// Words with a value each, of which a pass at a time has one.
+/// Words with a value each, of which a pass at a time has one. Each pass that waits sleeps on a `Condvar` of its own, at
+/// the place of its number; the first is nobody's.
 #[derive(Drop)]
 pub struct Quick<T: Drop> {
     board: Board<T>,
     order: Mutex<Order>,
-    handed: Condvar,
+    handed: Vec<Condvar>,
     count: usize,
     ghost sized: { (board.shared.table_id.words ≡ 8 * count) × (board.shared.table_id.slots ≡ 8 * count) × (8 * count < 2 ^ 64) },
 }

@@ -5,8 +5,8 @@ use Rattle.pif_quick.proofs.quick.Quick.lock.Goals as goal
 pub overflow_mul-m : goal.overflow_mul-m
 overflow_mul-m g c = omega (arith, c.args.self.now.sized.2, c.requires.word)
 
-pub wait_for-value-requires : goal.wait_for-value-requires
-wait_for-value-requires g c = seat_of _ _ c.requires.own _ c.requires.word _ c.index_mut-place.ensures.value
+pub wait_for-value-requires-clause-place : goal.wait_for-value-requires-clause-place
+wait_for-value-requires-clause-place g c = seat_of _ _ c.requires.own _ c.requires.word _ c.index_mut-place.ensures.value
 
 pub returns-clause-own : goal.returns-clause-own
 returns-clause-own g c =
