@@ -12,7 +12,7 @@ use std::time::Instant;
 use std::{io, thread};
 
 /// How many turns each thread takes.
-const TURNS: u32 = 100_000;
+const TURNS: u32 = 500_000;
 
 /// How many words there are.
 const WORDS: usize = 4;
