@@ -105,6 +105,7 @@ module _ {T : Type 0} (starts : List (Option T)) where
           prefix = x.prefix;
           others = x.others;
           made = x.made;
+          last = x.last;
           holds = λ f e. let h = x.holds f e in record {
             owns = h.owns;
             out = h.out;
@@ -274,6 +275,7 @@ module _ {T : Type 0} (starts : List (Option T)) where
         prefix = append-nil (r.logs d.word);
         others = r.undealt id d at role d.pass d.word not_yet;
         made = refl;
+        last = λ _. tt;
         holds = λ f e. absurd (not_open f e);
       })
       (r.logs d.word, append-nil (r.logs d.word))

@@ -4,6 +4,7 @@ use mathlib.Core.Logic.{dite}
 use native.Mathlib.Decide.{dec_le}
 use Rattle.std.proofs.lemmas.List.{get_or_past}
 use Rattle.pif_quick.specs.declared.rule.Record.{Record}
+use Rattle.pif_quick.specs.declared.quick.Quick.{Quick}
 use Rattle.pif_quick.specs.declared.quick.Pass.{Pass}
 use Rattle.pif_quick.specs.declared.quick.Held.{Held}
 use Rattle.pif_quick.specs.Turns.{fresh}
@@ -35,6 +36,10 @@ module _ {T : Type 0} where
       fresh_idle values p (dealt_fresh starts z count number p values d e c)
 
   -- what is held stays the open turn where nothing changed
-  pub same_turn : (p p' : Pass T) (h h' : Held T) → h' ≡ h → IsUnchanged p p' → IsTurnOf p h → IsTurnOf p' h'
-  same_turn p p' h h' e u t = subst (λ (k : Held T). IsTurnOf p' k) (sym e)
-      (t.0 ∙ sym u.0, (t.1.0, ap (λ (l : List (Record T)). (get_or l (held_word h) (fresh None)).found) u.1 ∙ t.1.1))
+  pub same_turn : (q : Quick T) (p p' : Pass T) (h h' : Held T) → h' ≡ h → IsUnchanged p p' → IsTurnOf q p h
+      → IsTurnOf q p' h'
+  same_turn q p p' h h' e u t = subst (λ (k : Held T). IsTurnOf q p' k) (sym e) (
+    t.0,
+    t.1 ∙ sym u.0,
+    (t.2.0, ap (λ (l : List (Record T)). (get_or l (held_word h) (fresh None)).found) u.1 ∙ t.2.1),
+  )

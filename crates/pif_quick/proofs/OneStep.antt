@@ -35,6 +35,7 @@ module _ {T : Type 0} where
     prefix = x.prefix;
     others = x.others;
     made = x.made;
+    last = x.last;
     holds = λ f e. let h = x.holds f e in record {
       owns = ap (λ (b : ℕ). (word_of b).number) (get_or-set_other words i u.word n 0 other) ∙ h.owns;
       out = away ∙ h.out;
@@ -57,6 +58,7 @@ module _ {T : Type 0} where
         others = turns_by-append u.pass extra x.newer
             ∙ (ap (λ (l : List (T × T)). l ++ turns_by u.pass x.newer) by ∙ x.others);
         made = x.made;
+        last = x.last;
         holds = λ f e. absurd (quiet f e);
       }
 

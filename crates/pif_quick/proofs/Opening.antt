@@ -1,5 +1,5 @@
 -- What `open` makes: places for the values, and a seat for each pass and word.
-use Rattle.std.proofs.Common.{◌≡◌, ◌⊎◌, ℕ, zero, suc, ◌+◌, ◌*◌, ◌<◌, ◌≤◌, ◌^◌, ◌-◌, List, [], ◌∷◌, ◌++◌, length, get_or, replicate, Option, Some, None, sym, refl, ap, ◌∙◌, subst, ⊎_elim, inl, inr, arith, slice_get, append-nil}
+use Rattle.std.proofs.Common.{◌≡◌, ◌⊎◌, ℕ, zero, suc, ◌+◌, ◌*◌, ◌<◌, ◌≤◌, ◌^◌, ◌-◌, List, [], ◌∷◌, ◌++◌, length, get_or, replicate, Option, Some, None, sym, refl, ap, ◌∙◌, subst, ⊎_elim, inl, inr, arith, slice_get, append-nil, vec_len}
 use Rattle.std.proofs.lemmas.List.{append_assoc, length-map}
 use Rattle.std.proofs.lemmas.Option.{slice_get_within}
 use mathlib.Core.Option.{none}
@@ -55,7 +55,7 @@ module _ {T : Type 0} where
       ap (λ (k : ℕ). get_or (spread (x ∷ xs)) k None) e ∙ opening_at-spread xs m
 
   pub sound-fresh : (pass : ℕ) (o : Option T) → IsSound pass (fresh o)
-  sound-fresh pass o = record { chain = tt; open_turn = λ f e. absurd (not_open f e); own = refl }
+  sound-fresh pass o = record { chain = tt; open_turn = λ f e. absurd (not_open f e); own = refl; last = λ _. tt }
     where
       not_open : (f : T) → ◌≡◌ {A = Option T} None (Some f) → ⊥
       not_open f e = cc
@@ -120,9 +120,10 @@ module _ {T : Type 0} where
 
   -- a pass as it was dealt is the words' own, and fresh
   pub dealt_own : (q : Quick T) (starts : List (Option T)) (number : ℕ) (p : Pass T)
-      → IsDealtPass starts q.board.shared.table_id q.count number p → IsPassOf q p
-  dealt_own q starts number p d = record {
+      → number < vec_len q.handed → IsDealtPass starts q.board.shared.table_id q.count number p → IsPassOf q p
+  dealt_own q starts number p lt d = record {
     counted = d.counted;
+    numbered = subst (λ (n : ℕ). n < vec_len q.handed) (sym d.number_is) lt;
     place = λ m s e. subst (λ (n : ℕ). IsPlaceOf q.board.shared.table_id (8 * m) n s) (sym d.number_is)
         (d.place m s e).0;
   }

@@ -64,10 +64,10 @@ module _ {T : Type 0} where
     items_count = sym p.places.ok.0 ∙ own.counted
 
     -- what is held stands at one of the words
-    pub held_inside : (h : Held T) → IsTurnOf p h → h.word < q.count
+    pub held_inside : (h : Held T) → IsTurnOf q p h → h.word < q.count
     held_inside h t = dite (dec_le (length (records p)) h.word)
-        (λ past. absurd (not_open t.1.0 (ap (λ (r : Record T). r.found)
-        (sym (get_or_past (records p) h.word (fresh None) past)) ∙ t.1.1)))
+        (λ past. absurd (not_open t.2.0 (ap (λ (r : Record T). r.found)
+        (sym (get_or_past (records p) h.word (fresh None) past)) ∙ t.2.1)))
         (λ inside. omega (arith, items_count, length-map p.places.items record_of))
       where
         not_open : (f : T) → ◌≡◌ {A = Option T} None (Some f) → ⊥
@@ -118,6 +118,7 @@ module _ {T : Type 0} where
         pub pass_after : IsPlaceOf q.board.shared.table_id (8 * m) p.number s' → IsPassOf q after
         pass_after h = record {
           counted = own.counted;
+          numbered = own.numbered;
           place = λ k x e. ⊎_elim
               (λ (t : (k ≡ m) × (s' ≡ x)). subst (λ (y : ℕ × Place T). IsPlaceOf q.board.shared.table_id
               (8 * y.0) p.number y.1) (λ i. (sym t.0 i, t.1 i)) h)
@@ -150,12 +151,17 @@ module _ {T : Type 0} where
         unchanged_since p₀ u e = let v = unchanged e in (v.0 ∙ u.0, v.1 ∙ u.1)
 
         -- a turn was opened, and its value is held
-        pub locks : (x : T) → Opens p.number x (record_of s) (record_of s')
-            → Locks m p after (record { value = x; word = m; pass = p.number })
-        locks x o = (
-          refl,
-          (refl, (x, ap (λ (r : Record T). r.found) record_after ∙ ap (λ (r : Record T). r.found) o.2)),
-          changes (λ r r'. Opens p.number x r r') o,
+        pub locks : (h : Held T) → h.home.value ≡ q.board.shared → h.word ≡ m → h.pass ≡ p.number
+            → Opens p.number h.value (record_of s) (record_of s') → Locks q m p after h
+        locks h home word number o = (
+          word,
+          (
+            home,
+            number,
+            subst (λ (k : ℕ). IsOpen (record_at after k)) (sym word)
+                (h.value, ap (λ (r : Record T). r.found) record_after ∙ ap (λ (r : Record T). r.found) o.2),
+          ),
+          changes (λ r r'. Opens p.number h.value r r') o,
         )
 
   -- two passes have met at the words below m, and now at m

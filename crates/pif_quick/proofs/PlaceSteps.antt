@@ -5,13 +5,13 @@ use prog.Atomic.{either}
 use Rattle.atomic_table.specs.Seated.{TableId}
 use Rattle.atomic_table.specs.Table.{step, Allows, Splits, Joins}
 use Rattle.atomic_table.specs.declared.shared.Seat.{Seat}
-use Rattle.pif_model.specs.Word.{Word, word_of, held_by, free_word, mark_word, hand_word}
+use Rattle.pif_model.specs.Word.{Word, word_of, held_by, mark_word}
 use Rattle.pif_word.proofs.WordBits.{word_of-number}
 use Rattle.pif_quick.specs.declared.rule.Turn.{Turn}
 use Rattle.pif_quick.specs.declared.rule.Record.{Record}
 use Rattle.pif_quick.specs.declared.rule.View.{View}
 use Rattle.pif_quick.specs.Turns.{turns_by, IsOpen, IsSound, with_open, Opens, closed, closed_from}
-use Rattle.pif_quick.specs.Rule.{HasOneHolder, spent_view, note_of, Opened, Closed, Took, Released, Handed, Marked, Looked, Claimed, Compared}
+use Rattle.pif_quick.specs.Rule.{HasOneHolder, handed_to, spent_view, note_of, Opened, Closed, Took, Released, Handed, Marked, Looked, Claimed, Compared}
 use Rattle.pif_quick.specs.Places.{record_of, hand_if, IsPlaceOf}
 use Rattle.pif_quick.proofs.Dealing.{noting, showing}
 use Rattle.pif_quick.proofs.Steps.{Known, taking, claiming, looking, marking, releasing, handing, comparing}
@@ -146,7 +146,7 @@ module _ {T : Type 0} where
           (subst (λ (k : ℕ). k < 2 ^ 30) (sym h.pass_is) h.numbered.1)))
 
       pub hand_allowed : (old new : ℕ) → word_of old ≡ mark_word (held_by pass) → new < 2 ^ 32
-          → (word_of new ≡ free_word) ⊎ ((u : ℕ) × (word_of new ≡ hand_word u)) → (starts : List (Option T))
+          → (next : Option ℕ) × (word_of new ≡ handed_to next) → (starts : List (Option T))
           → Allows (HasOneHolder starts) z.slots q.id q.me word (λ n. either (eqb n old) new n)
           (Handed (step z.slots word old new none) q.me)
       hand_allowed old new marks narrow to starts =

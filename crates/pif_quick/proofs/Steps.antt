@@ -8,12 +8,12 @@ use prog.Atomic.{either}
 use Rattle.std.specs.Prelude.{MatchOption}
 use Rattle.atomic_table.specs.Table.{Me, step, Act, keeps, takes, gives, Valid, stepped, carried_after, Allows}
 use Rattle.atomic_table.proofs.Lists.{exchanged}
-use Rattle.pif_model.specs.Word.{Word, word_of, held_by, free_word, take_word, release_word, mark_word, hand_word}
+use Rattle.pif_model.specs.Word.{Word, word_of, held_by, take_word, release_word, mark_word}
 use Rattle.pif_word.proofs.WordBits.{word_of-number, take_word-hit, take_word-miss, release_word-hit, release_word-miss}
 use Rattle.pif_quick.specs.declared.rule.View.{View}
 use Rattle.pif_quick.specs.declared.rule.Role.TheVariants.{Seated}
 use Rattle.pif_quick.specs.Turns.{IsOpen, with_open, closed}
-use Rattle.pif_quick.specs.Rule.{number_at, IsWordStep, HasOneHolder, with_record, Opened, Closed, Took, Left, Released, Handed, Marked, Looked, Claimed, Compared}
+use Rattle.pif_quick.specs.Rule.{number_at, handed_to, IsWordStep, HasOneHolder, with_record, Opened, Closed, Took, Left, Released, Handed, Marked, Looked, Claimed, Compared}
 use Rattle.pif_quick.proofs.TurnLists.{older-either}
 use Rattle.pif_quick.proofs.OneStep.{Board}
 use Rattle.pif_quick.proofs.Turning.{Quiet, others_quiet, OpensSeat, opens, closes, closes-sound, rewords}
@@ -253,11 +253,11 @@ module _ {T : Type 0} where
 
     -- by a compare-exchange from one's marked word to the word of another, or to 0
     pub handing : (old new : ℕ) → word_of old ≡ mark_word (held_by v.pass) → new < 2 ^ 32
-        → (word_of new ≡ free_word) ⊎ ((u : ℕ) × (word_of new ≡ hand_word u))
+        → (next : Option ℕ) × (word_of new ≡ handed_to next)
         → Allows (HasOneHolder starts) slots id held v.word (λ k. either (eqb k old) new k)
         (Handed (step slots v.word old new none) held)
     handing old new marks narrow to = leaving old new (ap (λ (w : Word). w.number) marks) narrow
         (Handed (step slots v.word old new none) held)
         (λ k small m' l. let parts = exchange_cases k old new
-        (λ (j : ℕ). (word_of j ≡ free_word) ⊎ ((u : ℕ) × (word_of j ≡ hand_word u))) to in
+        (λ (j : ℕ). (next : Option ℕ) × (word_of j ≡ handed_to next)) to in
         ((λ e. (ap word_of e ∙ marks, parts.0 e)), parts.1, l))

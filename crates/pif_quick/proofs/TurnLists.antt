@@ -1,5 +1,5 @@
 -- Lists of turns: what a longer one has of a pass, and what it left.
-use Rattle.std.proofs.Common.{◌≡◌, ◌≢◌, ◌⊎◌, ℕ, ◌==◌, Bool, true, false, List, [], ◌∷◌, ◌++◌, if◌then◌else◌, Option, Some, sym, refl, ap, ◌∙◌, subst, inl, inr, ne_eqb, eq-eqb}
+use Rattle.std.proofs.Common.{◌≡◌, ◌≢◌, ◌⊎◌, ℕ, ◌==◌, Bool, true, false, List, [], ◌∷◌, ◌++◌, if◌then◌else◌, Option, Some, None, sym, refl, ap, ◌∙◌, subst, inl, inr, ne_eqb, eq-eqb}
 use Rattle.std.proofs.lemmas.List.{append_assoc}
 use Rattle.pif_quick.specs.declared.rule.Turn.{Turn}
 use Rattle.pif_quick.specs.declared.rule.Record.{Record}
@@ -41,6 +41,10 @@ module _ {T : Type 0} where
   left_by-some o x [] e = (x, e)
   left_by-some o x (t ∷ ts) e = (t.left, refl)
 
+  -- an open turn is no closed one
+  pub open-not_none : (f : T) → ◌≡◌ {A = Option T} (Some f) None → ⊥
+  open-not_none f e = cc
+
   -- an older part of a list is one of a longer list
   pub older-more : (extra xs ys : List (Turn T)) → IsOlder xs ys → IsOlder xs (extra ++ ys)
   older-more extra xs ys h = (extra ++ h.0, append_assoc extra h.0 xs ∙ ap (λ (l : List (Turn T)). extra ++ l) h.1)
@@ -64,6 +68,7 @@ module _ {T : Type 0} where
     chain = chain;
     open_turn = λ g e. left ∙ e;
     own = turns_by-others p newer r.turns others ∙ own;
+    last = λ e. absurd (open-not_none f e);
   }
 
   -- the record whose open turn, which found f, left v
@@ -77,4 +82,5 @@ module _ {T : Type 0} where
     open_turn = λ g h. cc;
     own = turns_by-one p (record { pass = p; found = f; left = v }) r.turns refl
         ∙ ap (λ (l : List (T × T)). (f, v) ∷ l) s.own;
+    last = λ _. refl;
   }

@@ -12,7 +12,7 @@ use Rattle.pif_quick.specs.declared.rule.View.{View}
 use Rattle.pif_quick.specs.declared.rule.Role.TheVariants.{Seated}
 use Rattle.pif_quick.specs.Turns.{left_by, IsChain, turns_by, IsOlder, IsSound, with_open, closed, closed_from}
 use Rattle.pif_quick.specs.Rule.{number_at, opening_at, IsOut, IsSeat, HasOneHolder, OneHolds, with_record}
-use Rattle.pif_quick.proofs.TurnLists.{turns_by-others, turns_by-one, turns_by-other, chain-older, left_by-some, older-more, sound-opened, sound-closed, closed-is}
+use Rattle.pif_quick.proofs.TurnLists.{turns_by-others, turns_by-one, turns_by-other, chain-older, left_by-some, open-not_none, older-more, sound-opened, sound-closed, closed-is}
 use Rattle.pif_quick.proofs.OneStep.{Homes, Board, seat_quiet, Keeps, one_step}
 
 pub set_there : {A : Type 0} (l : List A) (i : ℕ) (a b : A) → get_elem? l i ≡ some a → get_elem? (set l i b) i ≡ some b
@@ -36,6 +36,7 @@ module _ {T : Type 0} where
         prefix = x.prefix;
         others = x.others;
         made = x.made;
+        last = x.last;
         holds = λ f e. let h = x.holds f e in record {
           owns = ap (λ (z : ℕ). number_at (set words i n) z) is
               ∙ (ap (λ (b : ℕ). (word_of b).number) (get_or-set_same words i n 0 lt)
@@ -71,6 +72,7 @@ module _ {T : Type 0} where
           (r.chain v.word));
       open_turn = λ f e. let h = me.holds f e in ap (left_by v.known.opening) h.knows ∙ h.left;
       own = me.made;
+      last = me.last;
     }
 
     pub record OpensSeat (n : ℕ) : Type 0 where
@@ -103,6 +105,7 @@ module _ {T : Type 0} where
           prefix = me.prefix;
           others = refl;
           made = turns_by-others v.pass me.newer v.known.turns me.others ∙ me.made;
+          last = λ e. absurd (open-not_none f e);
           holds = λ g e. record {
             owns = let lt' : v.word < length s.words = omega (arith, r.sized) in
                 ap (λ (b : ℕ). (word_of b).number) (get_or-set_same s.words v.word n 0 lt') ∙ num;
@@ -177,6 +180,7 @@ module _ {T : Type 0} where
           prefix = ap (λ (l : List (Turn T)). turn ∷ l) held.knows;
           others = refl;
           made = turns_by-one v.pass turn v.known.turns refl ∙ ap (λ (l : List (T × T)). (f, x) ∷ l) me.made;
+          last = λ _. refl;
           holds = λ g e. absurd (not_open g e);
         };
         others = λ j u other e role is. seat_quiet starts s.words (set s.words v.word n) s.homes

@@ -39,6 +39,8 @@ module _ {T : Type 0} where
   pub record IsPassOf (q : Quick T) (p : Pass T) : Type 0 where
     -- it has a record for each word
     pub counted : vec_len p.places ≡ q.count
+    -- it has a place to sleep
+    pub numbered : p.number < vec_len q.handed
     -- its seats are the table's, one for each word
     pub place : (m : ℕ) (s : Seat (Option T) (View T)) → slice_get p.places.items m ≡ Some s
         → IsPlaceOf q.board.shared.table_id (8 * m) p.number s
@@ -72,14 +74,15 @@ module _ {T : Type 0} where
       (number_of p' ≡ number_of p) × (records p' ≡ slice_set (records p) m (record_at p' m))
       × change (record_at p m) (record_at p' m)
 
-  -- what is held is the pass's open turn at its word
-  abbrev pub IsTurnOf : Pass T → Held T → Type 0
-  IsTurnOf p h = (h.pass ≡ number_of p) × IsOpen (record_at p (held_word h))
+  -- what is held was locked among these words, and is the pass's open turn at its word
+  abbrev pub IsTurnOf : Quick T → Pass T → Held T → Type 0
+  IsTurnOf q p h =
+      (h.home.value ≡ q.board.shared) × (h.pass ≡ number_of p) × IsOpen (record_at p (held_word h))
 
   -- the pass opens a turn at the word m, and holds the value found: newer closed turns of others stand before it
-  abbrev pub Locks : ℕ → Pass T → Pass T → Held T → Type 0
-  Locks m p p' h =
-      (held_word h ≡ m) × IsTurnOf p' h × ChangesAt m (λ r r'. Opens (number_of p) (held_value h) r r') p p'
+  abbrev pub Locks : Quick T → ℕ → Pass T → Pass T → Held T → Type 0
+  Locks q m p p' h =
+      (held_word h ≡ m) × IsTurnOf q p' h × ChangesAt m (λ r r'. Opens (number_of p) (held_value h) r r') p p'
 
   -- the pass closes its turn with the value of what it held
   abbrev pub Unlocks : Held T → Pass T → Pass T → Type 0

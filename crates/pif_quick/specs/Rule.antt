@@ -10,7 +10,7 @@ use Rattle.pif_quick.specs.declared.rule.Turn.{Turn}
 use Rattle.pif_quick.specs.declared.rule.Record.{Record}
 use Rattle.pif_quick.specs.declared.rule.View.{View}
 use Rattle.pif_quick.specs.declared.rule.Role.TheVariants.{Dealer, Seated, Spent}
-use Rattle.pif_quick.specs.Turns.{left_by, IsChain, turns_by, IsOlder, IsOpen, IsSound, fresh, with_open, closed}
+use Rattle.pif_quick.specs.Turns.{left_by, IsChain, turns_by, EndsWithOwn, IsOlder, IsOpen, IsSound, fresh, with_open, closed}
 
 -- the number in a word's bits
 abbrev pub number_at : List ℕ → ℕ → ℕ
@@ -54,6 +54,8 @@ module _ {T : Type 0} where
     pub prefix : newer ++ v.known.turns ≡ log
     pub others : turns_by v.pass newer ≡ []
     pub made : turns_by v.pass v.known.turns ≡ v.known.made
+    -- with its open turn, they are none or end with its own
+    pub last : v.known.found ≡ None → EndsWithOwn v.pass v.known.turns
     pub holds : (f : T) → v.known.found ≡ Some f → Holds words homes log v f
 
   -- Who sits where. Seats are dealt by one dealer, in order, one for each pass and word
@@ -122,6 +124,11 @@ module _ {T : Type 0} where
   abbrev pub with_record : Record T → View T → View T
   with_record r v = record v { known = r }
 
+-- the word that is handed to this pass, or freed if there is none
+abbrev pub handed_to : Option ℕ → Word
+handed_to None = free_word
+handed_to (Some u) = hand_word u
+
 -- The word part of a step: the word becomes what the function says, or stays where that fails
 abbrev pub IsWordStep : (Word → Option Word) → ℕ → ℕ → Type 0
 IsWordStep f found left = MatchOption (f (word_of found)) (left ≡ found) (λ w. word_of left ≡ w)
@@ -174,8 +181,7 @@ module _ {T : Type 0} where
   abbrev pub Handed : At T → Known T → ℕ → Known T → Type 0
   Handed st m found m' =
       (found ≡ st.first → (word_of found ≡ mark_word (held_by m.0.pass))
-      × ((word_of (exchanged_word st found) ≡ free_word)
-      ⊎ ((u : ℕ) × (word_of (exchanged_word st found) ≡ hand_word u))))
+      × ((next : Option ℕ) × (word_of (exchanged_word st found) ≡ handed_to next)))
       × (found ≢ st.first → exchanged_word st found ≡ found)
       × Left st m found m'
 

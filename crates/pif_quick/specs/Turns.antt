@@ -24,6 +24,11 @@ module _ {T : Type 0} where
   abbrev pub IsOlder : List (Turn T) → List (Turn T) → Type 0
   IsOlder older all = (newer : List (Turn T)) × (newer ++ older ≡ all)
 
+  -- there are no turns, or the newest is the pass's own
+  abbrev pub EndsWithOwn : ℕ → List (Turn T) → Type 0
+  EndsWithOwn pass [] = Unit {0}
+  EndsWithOwn pass (t ∷ ts) = t.pass ≡ pass
+
   -- the pass has an open turn, which has left nothing yet
   abbrev pub IsOpen : Record T → Type 0
   IsOpen r = (f : T) × (r.found ≡ Some f)
@@ -36,6 +41,8 @@ module _ {T : Type 0} where
     pub open_turn : (f : T) → r.found ≡ Some f → left_by r.opening r.turns ≡ Some f
     -- the pass's own turns are those that it made, in order, each once
     pub own : turns_by pass r.turns ≡ r.made
+    -- it knows no turns that are newer than its own last one, but while its turn is open
+    pub last : r.found ≡ None → EndsWithOwn pass r.turns
 
   -- Of two records of one word, one list with its open turn is a prefix of the other
   abbrev pub Agree : Record T → Record T → Type 0

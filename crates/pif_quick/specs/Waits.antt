@@ -1,7 +1,20 @@
--- The passes that wait.
-use Rattle.std.specs.Prelude.{ℕ, ◌==◌, Bool}
+-- The passes that wait, in the order in which they came.
+use Rattle.std.specs.Prelude.{ℕ, ◌==◌, Bool, List, Option, Some, None, option_map}
+use Rattle.std.specs.List.{find, position, remove}
 use Rattle.pif_quick.specs.declared.parking.Parked.{Parked}
 
 -- whether a pass waits for this word
 abbrev pub waits_at : ℕ → Parked → Bool
 waits_at word p = p.word == word
+
+-- the pass that has waited longest for this word
+abbrev pub next_at : ℕ → List Parked → Option ℕ
+next_at word order = option_map (λ p. p.pass) (find (waits_at word) order)
+
+abbrev pub without : List Parked → Option ℕ → List Parked
+without order None = order
+without order (Some i) = remove order i
+
+-- the order once that pass has left it: the others keep their places
+abbrev pub without_next : ℕ → List Parked → List Parked
+without_next word order = without order (position (waits_at word) order)

@@ -1,7 +1,7 @@
 //! The order of the passes that wait.
-ghost use Rattle.std.specs.Prelude.{◌≡◌, ◌==◌, [], ◌∷◌, ◌++◌, ◌<◌, IsTrue, IsFalse, is_some, option_map, MatchOption};
-ghost use Rattle.std.specs.List.{find, position, remove};
-ghost use Rattle.pif_quick.specs.Waits.{waits_at};
+ghost use Rattle.std.specs.Prelude.{◌≡◌, ◌==◌, [], ◌∷◌, ◌++◌, ◌<◌, IsTrue, IsFalse, is_some};
+ghost use Rattle.std.specs.List.{position};
+ghost use Rattle.pif_quick.specs.Waits.{waits_at, next_at, without_next};
 
 use arrayvec::ArrayVec;
 
@@ -65,7 +65,7 @@ impl Order {
 
     /// The first that waits for the word.
     pub(crate) fn first(&self, word: usize) -> Option<u8>
-        ensures { result ≡ option_map (λ p. p.pass) (find (waits_at word) self.now.parked.items) }
+        ensures { result ≡ next_at word self.now.parked.items }
     {
         self.parked
             .as_slice()
@@ -76,7 +76,7 @@ impl Order {
 
     /// Takes the first that waits for the word out of the order. The others keep their places.
     pub(crate) fn leave_first(&mut self, word: usize)
-        ensures { MatchOption (position (waits_at word) self.old.parked.items) (self.new.parked.items ≡ self.old.parked.items) (λ i. self.new.parked.items ≡ remove self.old.parked.items i) }
+        ensures { self.new.parked.items ≡ without_next word self.old.parked.items }
     {
         if let Some(place) = self.first_place(word) {
             self.parked.remove(place);

@@ -1,10 +1,12 @@
 //! One pass at one word.
-ghost use Rattle.std.specs.Prelude.{◌≡◌, ◌⊎◌, ℕ, [], ◌∷◌, IfSome, IfNone, IfOk, IfErr, MatchResult};
-ghost use Rattle.pif_model.specs.Word as model;
-ghost use Rattle.pif_model.specs.Word.{word_of, free_word};
+ghost use Rattle.std.specs.Prelude.{◌≡◌, ◌⊎◌, [], ◌∷◌, IfSome, IfNone, IfOk, IfErr, MatchResult};
+ghost use Rattle.pif_model.specs.Word.{word_of};
 ghost use Rattle.pif_quick.specs.Turns.{IsOlder, IsOpen, Agree, Opens, closed};
+ghost use Rattle.pif_quick.specs.Rule.{handed_to};
+ghost use Rattle.pif_quick.specs.Waits.{next_at, without_next};
 ghost use Rattle.pif_quick.specs.Places.{record_of, pass_of, IsPlaceOf, IsPlace};
 
+use crate::parking::Order;
 use crate::rule::{Claim, Compare, HandOver, Look, Mark, Note, Place, Release, Shelf, Take};
 use pif_word::{hand_word, mark_word, number};
 
@@ -49,6 +51,24 @@ pub(crate) fn take<T>(
     Ok(pick_up(shelf, place, word))
 }
 
+/// Takes the word with its value if a load finds that it is 0. `None`, with nothing changed, if it isn't, or is no more.
+pub(crate) fn take_free<T>(
+    shelf: &Shelf<T>,
+    place: &mut Place<T>,
+    word: usize,
+    pass: u8,
+) -> Option<T>
+    requires { IsPlaceOf shelf.now.table_id word pass place.old }
+    ensures place { IsPlaceOf shelf.now.table_id word pass place.new }
+    ensures taken { IfSome result (λ v. Opens pass v (record_of place.old) (record_of place.new)) }
+    ensures kept { IfNone result (record_of place.new ≡ record_of place.old) }
+{
+    if look(shelf, place, word) != 0 {
+        return None;
+    }
+    take(shelf, place, word, pass).ok()
+}
+
 /// Puts the value home and releases the word, where its bits are the pass's number alone. Otherwise gives the value
 /// back.
 pub(crate) fn release<T>(
@@ -71,33 +91,38 @@ pub(crate) fn release<T>(
     Err(pick_up(shelf, place, word))
 }
 
-/// Puts the value home and hands the word, whose bits are the pass's number with `WAITERS`, to the pass `next`, or
-/// frees it where there is none. Where the bits are others, gives the value back.
+/// Puts the value home and hands the word, whose bits are the pass's number with `WAITERS`, to the first pass in the
+/// order that waits for it, or frees it if there is none. Answers that pass, which has left the order. If the bits are
+/// others, gives the value back and leaves the order.
 pub(crate) fn hand_over<T>(
     shelf: &Shelf<T>,
     place: &mut Place<T>,
     word: usize,
     pass: u8,
-    next: Option<u8>,
+    order: &mut Order,
     value: T,
-) -> Result<(), T>
+) -> Result<Option<u8>, T>
     requires place { IsPlaceOf shelf.now.table_id word pass place.old }
     requires open_turn { IsOpen (record_of place.old) }
     ensures place { IsPlaceOf shelf.now.table_id word pass place.new }
     ensures told { MatchResult result (λ _. record_of place.new ≡ closed pass value (record_of place.old)) (λ v. (v ≡ value) × (record_of place.new ≡ record_of place.old)) }
+    ensures next { IfOk result (λ next. next ≡ next_at word order.old.parked.items) }
+    ensures order { MatchResult result (λ _. order.new.parked.items ≡ without_next word order.old.parked.items) (λ _. order.new ≡ order.old) }
 {
     put_down(shelf, place, word, value);
     let marked = u64::from(mark_word(u32::from(pass)));
+    let next = order.first(word);
     let new = u64::from(handed_word(next));
     if shelf.compare_exchange::<HandOver>(place, word, marked, new) == marked {
-        return Ok(());
+        order.leave_first(word);
+        return Ok(next);
     }
     Err(pick_up(shelf, place, word))
 }
 
-/// The bits of a word that is handed to the pass `next`, or freed where there is none.
+/// The bits of a word that is handed to the pass `next`, or freed if there is none.
 fn handed_word(next: Option<u8>) -> u32
-    ensures { (word_of result ≡ free_word) ⊎ ((u : ℕ) × (word_of result ≡ model.hand_word u)) }
+    ensures { word_of result ≡ handed_to next }
 {
     match next {
         Some(pass) => hand_word(u32::from(pass)),

@@ -1,3 +1,5 @@
-//! What no clause says: that calls succeed, that a pass that waits is served, and that sums over many turns are exact.
+//! What no clause says: that calls succeed, that a pass that waits sleeps and is served in its turn, and that sums over
+//! many turns are exact.
 mod stress;
 mod turns;
+mod waits;

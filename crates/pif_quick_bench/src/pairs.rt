@@ -1,7 +1,8 @@
 //! Lock and unlock by one thread, with an addition on the value between.
-ghost use Rattle.std.specs.Prelude.{◌≡◌, ◌<◌, ◌≤◌, All, length};
+ghost use Rattle.std.specs.Prelude.{◌≡◌, ◌<◌, All};
 ghost use Rattle.pif_quick.specs.Quick.{word_count, IsPassOf};
 
+use crate::figures::{Figures, Hundredths, ROUNDS, ratio};
 use pif_quick::{Pass, Quick};
 use std::io;
 use std::rt::Clock;
@@ -11,9 +12,6 @@ use std::time::Instant;
 
 /// How many pairs a round takes.
 const PAIRS: u32 = 100_000;
-
-/// How many rounds are measured, of which the median is printed.
-const ROUNDS: usize = 21;
 
 /// Two bare compare-exchanges.
 fn bare_pairs(word: &AtomicU64, value: &mut u64) {
@@ -50,35 +48,56 @@ fn mutex_pairs<R: Wait>(rt: &R, mutex: &Mutex<u64>) {
     }
 }
 
-/// The figures of one way, in picoseconds a pair.
+/// How many picoseconds a pair took since `start`.
+fn picoseconds(rt: &impl Clock, start: Instant) -> io::Result<u64> {
+    let picoseconds = start.elapsed(rt)?.as_nanos() * 1000 / u128::from(PAIRS);
+    Ok(u64::try_from(picoseconds).unwrap_or(u64::MAX))
+}
+
+/// The figures of the three ways, and of each round the ratios of the quick path's to the others'.
 #[derive(Drop)]
-struct Figures {
-    each: [u64; ROUNDS],
+struct Sheet {
+    bare: Figures,
+    quick: Figures,
+    mutex: Figures,
+    to_bare: Figures,
+    to_mutex: Figures,
 }
 
-impl Figures {
-    /// No figure yet.
-    fn new() -> Figures {
-        Figures { each: [0; ROUNDS] }
+impl Sheet {
+    /// No figures yet.
+    fn new() -> Sheet {
+        Sheet {
+            bare: Figures::new(),
+            quick: Figures::new(),
+            mutex: Figures::new(),
+            to_bare: Figures::new(),
+            to_mutex: Figures::new(),
+        }
     }
 
-    /// Notes how long a round took since `start`.
-    fn note(&mut self, rt: &impl Clock, round: usize, start: Instant) -> io::Result<()>
-        requires { round < 21 }
+    /// Notes what a pair took in each way.
+    fn note(&mut self, round: usize, bare: u64, quick: u64, mutex: u64)
+        requires { round < 15 }
     {
-        let picoseconds = start.elapsed(rt)?.as_nanos() * 1000 / u128::from(PAIRS);
-        self.each[round] = u64::try_from(picoseconds).unwrap_or(u64::MAX);
-        Ok(())
+        self.bare.note(round, bare);
+        self.quick.note(round, quick);
+        self.mutex.note(round, mutex);
+        self.to_bare.note(round, ratio(quick, bare));
+        self.to_mutex.note(round, ratio(quick, mutex));
     }
 
-    /// The median.
-    fn median(&mut self) -> u64 {
-        self.each.sort_unstable();
-        self.each[ROUNDS / 2]
+    /// Prints the medians.
+    fn print(&mut self, rt: &impl Print, added: u64) -> io::Result<()> {
+        let (bare, quick, mutex) = (self.bare.median(), self.quick.median(), self.mutex.median());
+        let to_bare = Hundredths(self.to_bare.median());
+        let to_mutex = Hundredths(self.to_mutex.median());
+        println!(rt; "pairs: quick {quick} ps, bare {bare} ps, Mutex {mutex} ps, added {added}")?;
+        println!(rt; "pairs: quick to bare {to_bare}, quick to Mutex {to_mutex}")
     }
 }
 
-/// Measures the three ways in turn, and prints the median of each.
+/// Measures the three ways in turn, and prints the median of each and of the ratios.
 pub fn measure_pairs<R: Clock + Wait + AllocGlobal + Print>(rt: &R) -> io::Result<()> {
     let values = [0u64].to_vec(rt.alloc())?;
     let Ok((quick, passes)) = Quick::open(rt.alloc(), values, 1) else {
@@ -99,21 +118,20 @@ fn measure_by<R: Clock + Wait + Print>(
     let Some(mut pass) = passes.pop() else {
         return Ok(());
     };
-    let (mut bare, mut tried, mut locked) = (Figures::new(), Figures::new(), Figures::new());
+    let mut sheet = Sheet::new();
     let word = AtomicU64::new(0);
     let mut value = 0u64;
     let mutex = Mutex::new(0u64);
     for round in 0..ROUNDS {
         let start = Instant::now(rt)?;
         bare_pairs(&word, &mut value);
-        bare.note(rt, round, start)?;
+        let bare = picoseconds(rt, start)?;
         let start = Instant::now(rt)?;
         quick_pairs(quick, &mut pass);
-        tried.note(rt, round, start)?;
+        let tried = picoseconds(rt, start)?;
         let start = Instant::now(rt)?;
         mutex_pairs(rt, &mutex);
-        locked.note(rt, round, start)?;
+        sheet.note(round, bare, tried, picoseconds(rt, start)?);
     }
-    let (bare, tried, locked) = (bare.median(), tried.median(), locked.median());
-    println!(rt; "pairs: bare {bare} ps, quick {tried} ps, Mutex {locked} ps, added {value}")
+    sheet.print(rt, value)
 }

@@ -2,16 +2,17 @@
 ghost use Rattle.std.specs.Prelude.{◌≡◌, ◌<◌, ◌≤◌, All};
 ghost use Rattle.pif_quick.specs.Quick.{word_count, IsPassOf};
 
+use crate::figures::{Figures, Hundredths, ROUNDS, ratio};
 use pif_quick::{Pass, Quick};
 use std::alloc::{AllocError, Global};
 use std::rt::Clock;
 use std::sync::{Mutex, Wait};
 use std::thread::Threads;
-use std::time::{Duration, Instant};
+use std::time::Instant;
 use std::{io, thread};
 
 /// How many turns each thread takes.
-const TURNS: u32 = 1_000_000;
+const TURNS: u32 = 500_000;
 
 /// How many words there are.
 const WORDS: usize = 4;
@@ -33,6 +34,14 @@ impl Words {
         match self {
             Words::One => 0,
             Words::Own => thread % WORDS,
+        }
+    }
+
+    /// How the figures name them.
+    fn name(self) -> &'static str {
+        match self {
+            Words::One => "one word",
+            Words::Own => "words of their own",
         }
     }
 }
@@ -108,15 +117,16 @@ fn mutex_run<R: Threads + Wait + Sync>(
     Ok(())
 }
 
-/// How many thousand turns a second so many threads took together in this time.
-fn per_second(threads: u32, time: Duration) -> u128
-    requires { threads ≤ 4 }
+/// How many thousand turns a second so many threads took together since `start`.
+fn per_second(rt: &impl Clock, threads: u32, start: Instant) -> io::Result<u64>
+    requires { threads ≤ 64 }
 {
-    let microseconds = time.as_micros();
+    let microseconds = start.elapsed(rt)?.as_micros();
     if microseconds == 0 {
-        return 0;
+        return Ok(0);
     }
-    u128::from(threads) * u128::from(TURNS) * 1000 / microseconds
+    let thousands = u128::from(threads) * u128::from(TURNS) * 1000 / microseconds;
+    Ok(u64::try_from(thousands).unwrap_or(u64::MAX))
 }
 
 /// The mutexes, each 0.
@@ -131,28 +141,59 @@ fn mutexes(alloc: Global) -> Result<Vec<Apart>, AllocError> {
     Ok(mutexes)
 }
 
-/// Measures turns of so many threads by the quick path and by std's `Mutex`, and prints how many a second each took.
-pub fn measure_turns<R: Clock + Threads + Wait + Sync + AllocGlobal + Print>(
+/// The turns of so many threads by the quick path: how many thousand a second.
+fn quick_round<R: Clock + Threads + Wait + Sync + AllocGlobal>(
     rt: &R,
     words: Words,
     threads: u32,
-) -> io::Result<()>
-    requires { (1 ≤ threads) × (threads ≤ 4) }
+) -> io::Result<u64>
+    requires { (1 ≤ threads) × (threads ≤ 64) }
 {
     let values = [0u64; WORDS].to_vec(rt.alloc())?;
     let Ok((quick, passes)) = Quick::open(rt.alloc(), values, threads) else {
         return Err(io::Error::from(io::ErrorKind::OutOfMemory));
     };
-    let mutexes = mutexes(rt.alloc())?;
     let start = Instant::now(rt)?;
     quick_run(rt, &quick, passes, words)?;
-    let tried = per_second(threads, start.elapsed(rt)?);
+    per_second(rt, threads, start)
+}
+
+/// The turns of so many threads by std's `Mutex`: how many thousand a second.
+fn mutex_round<R: Clock + Threads + Wait + Sync + AllocGlobal>(
+    rt: &R,
+    words: Words,
+    threads: u32,
+) -> io::Result<u64>
+    requires { threads ≤ 64 }
+{
+    let mutexes = mutexes(rt.alloc())?;
     let start = Instant::now(rt)?;
     mutex_run(rt, rt.alloc(), mutexes.as_slice(), threads, words)?;
-    let locked = per_second(threads, start.elapsed(rt)?);
-    let name = match words {
-        Words::One => "one word",
-        Words::Own => "words of their own",
-    };
-    println!(rt; "{threads} threads, {name}: quick {tried}, Mutex {locked} thousand turns a second")
+    per_second(rt, threads, start)
+}
+
+/// Measures turns of so many threads by the quick path and by std's `Mutex`, in turn, and prints the medians, and the
+/// median and the least of the ratios of the rounds.
+pub fn measure_turns<R: Clock + Threads + Wait + Sync + AllocGlobal + Print>(
+    rt: &R,
+    words: Words,
+    threads: u32,
+) -> io::Result<()>
+    requires { (1 ≤ threads) × (threads ≤ 64) }
+{
+    let (mut quick, mut mutex, mut ratios) = (Figures::new(), Figures::new(), Figures::new());
+    for round in 0..ROUNDS {
+        let tried = quick_round(rt, words, threads)?;
+        let locked = mutex_round(rt, words, threads)?;
+        quick.note(round, tried);
+        mutex.note(round, locked);
+        ratios.note(round, ratio(tried, locked));
+    }
+    let (quick, mutex) = (quick.median(), mutex.median());
+    let (median, least) = (Hundredths(ratios.median()), Hundredths(ratios.least()));
+    let name = words.name();
+    println!(rt;
+        "{threads} threads, {name}: quick {quick}, Mutex {mutex} thousand turns a second"
+    )?;
+    println!(rt; "{threads} threads, {name}: quick to Mutex {median}, least {least}")
 }

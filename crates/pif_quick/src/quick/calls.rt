@@ -5,6 +5,7 @@ ghost use Rattle.pif_quick.specs.Quick.{word_count, number_of, record_at, IsPass
 
 use super::{Held, Pass, Quick, SPACING};
 use crate::place;
+use std::snapshot::Snapshot;
 
 impl<T: Drop> Quick<T> {
     /// Locks the word `m` if it is free, by one compare-exchange, and gives its value. `None`, with nothing changed,
@@ -14,7 +15,7 @@ impl<T: Drop> Quick<T> {
         requires own { IsPassOf self.now pass.old }
         ensures own { IsPassOf self.now pass.new }
         ensures sound { AreSound pass.new }
-        ensures locked { IfSome result (λ h. Locks m pass.old pass.new h) }
+        ensures locked { IfSome result (λ h. Locks self.now m pass.old pass.new h) }
         ensures busy { IfNone result (IsUnchanged pass.old pass.new) }
     {
         let number = pass.number;
@@ -24,6 +25,7 @@ impl<T: Drop> Quick<T> {
                 value,
                 word: m,
                 pass: number,
+                home: Snapshot::of(&self.board.shared),
             }),
             Err(_) => None,
         }
@@ -33,7 +35,7 @@ impl<T: Drop> Quick<T> {
     /// Gives `held` back, with nothing changed, where the word is marked for a pass that waits.
     pub fn unlock_quiet(&self, pass: &mut Pass<T>, held: Held<T>) -> Result<(), Held<T>>
         requires own { IsPassOf self.now pass.old }
-        requires turn { IsTurnOf pass.old held }
+        requires turn { IsTurnOf self.now pass.old held }
         ensures own { IsPassOf self.now pass.new }
         ensures sound { AreSound pass.new }
         ensures told { MatchResult result (λ _. Unlocks held pass.old pass.new) (λ h. (h ≡ held) × IsUnchanged pass.old pass.new) }
@@ -42,6 +44,7 @@ impl<T: Drop> Quick<T> {
             value,
             word,
             pass: holder,
+            home,
         } = held;
         let number = pass.number;
         let place = &mut pass.places[word];
@@ -51,6 +54,7 @@ impl<T: Drop> Quick<T> {
                 value,
                 word,
                 pass: holder,
+                home,
             }),
         }
     }

@@ -119,10 +119,22 @@ fn deal_all<T>(
     Ok(dealt)
 }
 
+/// A place to sleep for nobody, and one for each of so many passes.
+fn sleeping_places(alloc: Global, passes: u32) -> Result<Vec<Condvar>, NoMemory>
+    requires { passes ≤ 64 }
+    ensures { IfOk result (λ v. vec_len v ≡ passes + 1) }
+{
+    let mut places = with_room(alloc, passes as usize + 1)?;
+    for _ in 0..passes + 1 {
+        push_within(&mut places, Condvar::new());
+    }
+    Ok(places)
+}
+
 impl<T: Drop> Quick<T> {
     /// Words with these values, each free, and so many passes, with the numbers from 1. At least one value, and 1 to 64
-    /// passes. It alone takes memory, for the words and values, for each pass a seat at each word, and for the order of
-    /// those that wait, and answers `NoMemory` where that is refused: the values are then gone.
+    /// passes. It alone takes memory, for the words and values, and for each pass a seat at each word and a place to sleep,
+    /// and answers `NoMemory` if that is refused: the values are then gone.
     pub fn open(
         alloc: Global,
         values: Vec<T>,
@@ -139,9 +151,9 @@ impl<T: Drop> Quick<T> {
         ensures numbered { IfOk result (λ r. (k : ℕ) (d : Pass T) → k < passes → number_of (slice_index_or r.1.items k d) ≡ k + 1) }
     {
         let (board, mut dealer, count) = lay_out(alloc, values)?;
+        let handed = sleeping_places(alloc, passes)?;
         let passes = deal_all(alloc, &board.shared, &mut dealer, passes, count)?;
         let order = Mutex::new(Order::new());
-        let handed = Condvar::new();
         let quick = Quick {
             board,
             order,

@@ -1,5 +1,5 @@
 //! The calls that may wait.
-ghost use Rattle.std.specs.Prelude.{◌≡◌, ◌<◌};
+ghost use Rattle.std.specs.Prelude.{◌≡◌, ◌<◌, IfSome, IfNone, vec_len};
 ghost use Rattle.pif_quick.specs.Turns.{IsOpen, Opens, closed};
 ghost use Rattle.pif_quick.specs.Places.{record_of, pass_of, IsPlaceOf, IsPlace};
 ghost use Rattle.pif_quick.specs.Quick.{word_count, IsPassOf, AreSound, IsTurnOf, Locks, Unlocks};
@@ -8,18 +8,38 @@ use super::{Held, Pass, Quick, SPACING};
 use crate::place;
 use crate::rule::Place;
 use pif_word::number;
+use std::hint::spin_loop;
+use std::snapshot::Snapshot;
 use std::sync::Wait;
 use std::thread;
 
+/// How often a pass tries to take a word before it marks the word and sleeps.
+const TRIES: u32 = 24;
+
+/// How many of the tries have a pause of the processor behind them, each twice as long as the one before. Behind each of
+/// the others the thread yields.
+const SPINS: u32 = 7;
+
+/// The pause behind a try.
+fn pause(tries: u32) {
+    if tries >= SPINS {
+        thread::yield_now();
+        return;
+    }
+    for _ in 0..1u32 << tries {
+        spin_loop();
+    }
+}
+
 impl<T: Drop> Quick<T> {
-    /// Locks the word `m`, and gives its value. Where the word isn't free, marks it and waits until it is handed over.
-    /// A pass that holds the word itself waits for good.
+    /// Locks the word `m`, and gives its value. If the word isn't free, tries for a while; then marks it, and sleeps until
+    /// it is handed over. A pass that holds the word itself waits for good.
     pub fn lock<R: Wait>(&self, rt: &R, pass: &mut Pass<T>, m: usize) -> Held<T>
         requires word { m < word_count self.now }
         requires own { IsPassOf self.now pass.old }
         ensures own { IsPassOf self.now pass.new }
         ensures sound { AreSound pass.new }
-        ensures locked { Locks m pass.old pass.new result }
+        ensures locked { Locks self.now m pass.old pass.new result }
     {
         let holder = pass.number;
         let place = &mut pass.places[m];
@@ -28,6 +48,7 @@ impl<T: Drop> Quick<T> {
             value,
             word: m,
             pass: holder,
+            home: Snapshot::of(&self.board.shared),
         }
     }
 
@@ -35,7 +56,7 @@ impl<T: Drop> Quick<T> {
     /// waited longest for it, or frees it where none waits.
     pub fn unlock<R: Wait>(&self, rt: &R, pass: &mut Pass<T>, held: Held<T>)
         requires own { IsPassOf self.now pass.old }
-        requires turn { IsTurnOf pass.old held }
+        requires turn { IsTurnOf self.now pass.old held }
         ensures own { IsPassOf self.now pass.new }
         ensures sound { AreSound pass.new }
         ensures unlocked { Unlocks held pass.old pass.new }
@@ -44,49 +65,76 @@ impl<T: Drop> Quick<T> {
             value,
             word,
             pass: _,
+            home: _,
         } = held;
         let holder = pass.number;
         let place = &mut pass.places[word];
         self.give_back(rt, place, SPACING * word, holder, value);
     }
 
-    /// Takes the word with its value, and waits for it where it isn't free.
+    /// Whether the pass with this number stands in the order of those that wait.
+    #[cfg(test)]
+    pub(crate) fn is_parked<R: Wait>(&self, rt: &R, number: u8) -> bool {
+        self.order.lock(rt).has(number)
+    }
+
+    /// Takes the word with its value, and waits for it if it isn't free.
     fn wait_for<R: Wait>(&self, rt: &R, place: &mut Place<T>, word: usize, pass: u8) -> T
-        requires { IsPlaceOf self.now.board.shared.table_id word pass place.old }
+        requires place { IsPlaceOf self.now.board.shared.table_id word pass place.old }
+        requires numbered { pass < vec_len self.now.handed }
         ensures place { IsPlaceOf self.now.board.shared.table_id word pass place.new }
         ensures taken { Opens pass result (record_of place.old) (record_of place.new) }
     {
         let shelf = &self.board.shared;
         match place::take(shelf, place, word, pass) {
             Ok(value) => return value,
-            Err(bits) if number(bits) == u32::from(pass) => self.wait_for_good(rt),
+            Err(bits) if number(bits) == u32::from(pass) => self.wait_for_good(rt, pass),
             Err(_) => {}
         }
         for _ in rt.forever() {
+            if let Some(value) = self.take_soon(place, word, pass) {
+                return value;
+            }
             self.park(rt, place, word, pass);
             if let Some(value) = place::claim(shelf, place, word, pass) {
                 return value;
             }
-            if let Ok(value) = place::take(shelf, place, word, pass) {
-                return value;
-            }
         }
         unreachable!()
+    }
+
+    /// Tries to take the word with its value, `TRIES` times, with longer and longer pauses between.
+    fn take_soon(&self, place: &mut Place<T>, word: usize, pass: u8) -> Option<T>
+        requires { IsPlaceOf self.now.board.shared.table_id word pass place.old }
+        ensures place { IsPlaceOf self.now.board.shared.table_id word pass place.new }
+        ensures taken { IfSome result (λ v. Opens pass v (record_of place.old) (record_of place.new)) }
+        ensures kept { IfNone result (record_of place.new ≡ record_of place.old) }
+    {
+        for tries in 0..TRIES {
+            let taken = place::take_free(&self.board.shared, place, word, pass);
+            if taken.is_some() {
+                return taken;
+            }
+            pause(tries);
+        }
+        None
     }
 
     /// Never returns.
-    fn wait_for_good<R: Wait>(&self, rt: &R)
+    fn wait_for_good<R: Wait>(&self, rt: &R, pass: u8)
+        requires { pass < vec_len self.now.handed }
         ensures { ⊥ }
     {
         for _ in rt.forever() {
-            drop(self.handed.wait(rt, self.order.lock(rt)));
+            drop(self.handed[usize::from(pass)].wait(rt, self.order.lock(rt)));
         }
         unreachable!()
     }
 
-    /// Marks the word and waits until it is handed over. Returns at once where it is free, and where it has changed.
+    /// Marks the word and sleeps until it is handed over. Returns at once if it is free, and if it has changed.
     fn park<R: Wait>(&self, rt: &R, place: &mut Place<T>, word: usize, pass: u8)
-        requires { IsPlace self.now.board.shared.table_id word place.old }
+        requires place { IsPlace self.now.board.shared.table_id word place.old }
+        requires numbered { pass < vec_len self.now.handed }
         ensures { (place.new.table_id ≡ place.old.table_id) × (place.new.me ≡ place.old.me) }
     {
         let shelf = &self.board.shared;
@@ -96,10 +144,20 @@ impl<T: Drop> Quick<T> {
             return;
         }
         if order.park(word, pass) {
-            drop(self.handed.wait_while(rt, order, |order| order.has(pass)));
+            let handed = &self.handed[usize::from(pass)];
+            drop(handed.wait_while(rt, order, |order| order.has(pass)));
         } else {
             drop(order);
             thread::yield_now();
+        }
+    }
+
+    /// Wakes the pass to which a word was handed.
+    fn wake(&self, next: Option<u8>) {
+        if let Some(next) = next
+            && let Some(handed) = self.handed.get(usize::from(next))
+        {
+            handed.notify_one();
         }
     }
 
@@ -118,12 +176,10 @@ impl<T: Drop> Quick<T> {
                 Err(value) => value,
             };
             let mut order = self.order.lock(rt);
-            let next = order.first(word);
-            value = match place::hand_over(shelf, place, word, pass, next, value) {
-                Ok(()) => {
-                    order.leave_first(word);
+            value = match place::hand_over(shelf, place, word, pass, &mut order, value) {
+                Ok(next) => {
                     drop(order);
-                    self.handed.notify_all();
+                    self.wake(next);
                     return;
                 }
                 Err(value) => value,

@@ -46,7 +46,7 @@ fn turn_of(seed: u64) -> Turn {
 fn lock_by<R: Wait>(rt: &R, quick: &Quick<u64>, pass: &mut Pass<u64>, turn: Turn) -> Held<u64>
     requires own { IsPassOf quick.now pass.old × IsIdle pass.old × (turn.word < word_count quick.now) }
     ensures own { IsPassOf quick.now pass.new }
-    ensures held { IsTurnOf pass.new result × (held_word result ≡ turn.word) × IsIdleBut turn.word pass.new }
+    ensures held { IsTurnOf quick.now pass.new result × (held_word result ≡ turn.word) × IsIdleBut turn.word pass.new }
 {
     if turn.tries
         && let Some(held) = quick.try_lock(pass, turn.word)
@@ -59,7 +59,7 @@ fn lock_by<R: Wait>(rt: &R, quick: &Quick<u64>, pass: &mut Pass<u64>, turn: Turn
 /// Unlocks what is held, quietly first where that is asked.
 fn unlock_by<R: Wait>(rt: &R, quick: &Quick<u64>, pass: &mut Pass<u64>, held: Held<u64>, turn: Turn)
     requires own { IsPassOf quick.now pass.old }
-    requires held { IsTurnOf pass.old held × (held_word held ≡ turn.word) × IsIdleBut turn.word pass.old }
+    requires held { IsTurnOf quick.now pass.old held × (held_word held ≡ turn.word) × IsIdleBut turn.word pass.old }
     ensures { IsPassOf quick.now pass.new × IsIdle pass.new }
 {
     if !turn.quiet {

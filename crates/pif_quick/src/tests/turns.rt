@@ -12,13 +12,13 @@ use std::thread::{Threads, join};
 use std::time::Duration;
 
 /// How often the holder looks whether its word is marked, a millisecond each time.
-const TURNS: u32 = 10_000;
+const LOOKS: u32 = 10_000;
 
 /// Tries to lock the word 0, which has to succeed.
-fn try_it(rt: &impl Abort, quick: &Quick<u64>, pass: &mut Pass<u64>) -> Held<u64>
+pub(super) fn try_it(rt: &impl Abort, quick: &Quick<u64>, pass: &mut Pass<u64>) -> Held<u64>
     requires own { IsPassOf quick.now pass.old × IsIdle pass.old × (0 < word_count quick.now) }
     ensures own { IsPassOf quick.now pass.new }
-    ensures turn { IsTurnOf pass.new result × (held_word result ≡ 0) }
+    ensures turn { IsTurnOf quick.now pass.new result × (held_word result ≡ 0) }
 {
     match quick.try_lock(pass, 0) {
         Some(held) => held,
@@ -26,32 +26,34 @@ fn try_it(rt: &impl Abort, quick: &Quick<u64>, pass: &mut Pass<u64>) -> Held<u64
     }
 }
 
-/// Waits until the word 0 is marked.
-fn wait_for_mark(rt: &impl Clock, quick: &Quick<u64>, pass: &mut Pass<u64>)
+/// Waits until the word 0 is marked, and answers whether it was in time.
+fn wait_for_mark(rt: &impl Clock, quick: &Quick<u64>, pass: &mut Pass<u64>) -> bool
     requires { IsPassOf quick.now pass.old × (0 < word_count quick.now) }
     ensures own { IsPassOf quick.now pass.new }
     ensures kept { IsUnchanged pass.old pass.new }
 {
-    for _ in 0..TURNS {
+    for _ in 0..LOOKS {
         if quick.marked(pass, 0) {
-            break;
+            return true;
         }
         let _ = thread::sleep(rt, Duration::from_millis(1));
     }
+    false
 }
 
-/// Waits until the word is marked, and unlocks it: a quiet unlock gives it back.
-fn hand_over<R: Wait + Clock + Abort>(
+/// Waits until the word is marked, which has to come, and unlocks it: a quiet unlock gives it back.
+pub(super) fn hand_over<R: Wait + Clock + Abort>(
     rt: &R,
     quick: &Quick<u64>,
     pass: &mut Pass<u64>,
     held: Held<u64>,
 )
     requires own { IsPassOf quick.now pass.old × (0 < word_count quick.now) }
-    requires turn { IsTurnOf pass.old held }
+    requires turn { IsTurnOf quick.now pass.old held }
     ensures own { IsPassOf quick.now pass.new }
 {
-    wait_for_mark(rt, quick, pass);
+    let marked = wait_for_mark(rt, quick, pass);
+    assert!(rt; marked, "a pass waits, and the word is not marked");
     match quick.unlock_quiet(pass, held) {
         Ok(()) => panic!(rt; "a quiet unlock freed a word for which a pass waits"),
         Err(held) => quick.unlock(rt, pass, held),
@@ -77,14 +79,14 @@ fn contend<R: Threads + Wait + Clock + Abort + Sync>(
     held: Held<u64>,
     two: Pass<u64>,
 ) -> (Pass<u64>, Pass<u64>, u64)
-    requires one { IsPassOf quick.now one × IsTurnOf one held × (0 < word_count quick.now) }
+    requires one { IsPassOf quick.now one × IsTurnOf quick.now one held × (0 < word_count quick.now) }
     requires two { IsPassOf quick.now two × IsIdle two }
     ensures { IsPassOf quick.now result.0 × IsPassOf quick.now result.1 × IsIdle result.1 }
 {
     let (one, (two, value)) = join(
         rt,
         move || -> Pass<u64>
-            requires { IsPassOf quick.now one × IsTurnOf one held × (0 < word_count quick.now) }
+            requires { IsPassOf quick.now one × IsTurnOf quick.now one held × (0 < word_count quick.now) }
             ensures { IsPassOf quick.entry.now result }
         {
             let mut one = one;

@@ -1,5 +1,5 @@
-use Rattle.std.proofs.Common.{◌≡◌, ◌⊎◌, ℕ, ◌∙◌, ap, refl, sym, subst, arith}
-use Rattle.pif_model.specs.Word.{word_of, free_word, mark_word, hand_word}
+use Rattle.std.proofs.Common.{◌∙◌, ap, refl, arith}
+use Rattle.pif_model.specs.Word.{word_of, mark_word}
 use Rattle.pif_word.proofs.WordBits.{word_of-number}
 use Rattle.pif_quick.proofs.PlaceSteps.{hand_allowed, closed_place}
 use Rattle.pif_quick.proofs.place.hand_over.Goals as goal
@@ -9,13 +9,12 @@ compare_exchange-requires g c =
     let h = c.requires.place in
     let own = ap word_of c.from.ensures ∙ word_of-number c.args.pass h.numbered.1 in
     let marks = ap word_of c.from-marked.ensures ∙ (c.mark_word.ensures ∙ ap mark_word own) in
-    let to = subst (λ (b : ℕ). (word_of b ≡ free_word) ⊎ ((u : ℕ) × (word_of b ≡ hand_word u)))
-    (sym c.from-new.ensures) c.handed_word.ensures in (
+    let to = ap word_of c.from-new.ensures ∙ c.handed_word.ensures in (
       c.put_down.ensures.0
           ∙ h.table,
       h.inside.0,
       hand_allowed _ _ _ _ h c.put_down.new.place _ c.put_down.ensures.1
-          c.requires.open_turn _ _ marks (omega arith) to _,
+          c.requires.open_turn _ _ marks (omega arith) (c.first-next.result, to) _,
     )
 
 pub returns-then-compare_exchange-marked-clause-place : goal.returns-then-compare_exchange-marked-clause-place

@@ -11,7 +11,10 @@ deal_all-requires-clause-opened g c =
     (c.in_ok-board.ensures.count.0 ∙ c.args.values.ok.0)
 
 pub returns-clause-own : goal.returns-clause-own
-returns-clause-own g c = λ k d lt. dealt_own _ c.in_ok-board.board.shared.key.value.items _ _
+returns-clause-own g c = λ k d lt.
+    let o = c.in_ok-passes.passes.ok.0 in
+    dealt_own _ c.in_ok-board.board.shared.key.value.items _ _
+    (omega (arith, c.in_ok-passes.ensures.counted, c.in_ok-handed.ensures, o))
     (c.in_ok-passes.ensures.dealt k _ (slice_get-get_or _ k d lt))
 
 pub returns-clause-sound : goal.returns-clause-sound

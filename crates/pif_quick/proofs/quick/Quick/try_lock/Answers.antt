@@ -1,4 +1,4 @@
-use Rattle.std.proofs.Common.{arith}
+use Rattle.std.proofs.Common.{arith, refl}
 use Rattle.pif_quick.proofs.PassSteps.{seat_of, pass_after, sound_of, unchanged, locks}
 use Rattle.pif_quick.proofs.quick.Quick.try_lock.Goals as goal
 
@@ -31,7 +31,7 @@ returns-in-Err-clause-sound g c = sound_of _ _
 pub returns-in-Ok-clause-locked : goal.returns-in-Ok-clause-locked
 returns-in-Ok-clause-locked g c =
     locks _ _ c.requires.own _ c.requires.word _ c.index_mut-place.ensures.value c.take.new.place _
-    c.in-Ok.ensures.taken
+    c.of.ensures refl refl c.in-Ok.ensures.taken
 
 pub returns-in-Err-clause-busy : goal.returns-in-Err-clause-busy
 returns-in-Err-clause-busy g c =

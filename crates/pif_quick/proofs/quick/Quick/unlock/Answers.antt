@@ -16,7 +16,7 @@ give_back-requires-clause-place g c = seat_of _ _ c.requires.own _
 
 pub give_back-requires-clause-open_turn : goal.give_back-requires-clause-open_turn
 give_back-requires-clause-open_turn g c = seat_open _ _ c.requires.own _
-    (held_inside _ _ c.requires.own c.args.held c.requires.turn) _ c.index_mut-place.ensures.value c.requires.turn.1
+    (held_inside _ _ c.requires.own c.args.held c.requires.turn) _ c.index_mut-place.ensures.value c.requires.turn.2
 
 pub returns-clause-own : goal.returns-clause-own
 returns-clause-own g c = pass_after _ _ c.requires.own _

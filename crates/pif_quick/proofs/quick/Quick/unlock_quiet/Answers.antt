@@ -16,7 +16,7 @@ release-requires-clause-place g c = seat_of _ _ c.requires.own _
 
 pub release-requires-clause-open_turn : goal.release-requires-clause-open_turn
 release-requires-clause-open_turn g c = seat_open _ _ c.requires.own _
-    (held_inside _ _ c.requires.own c.args.held c.requires.turn) _ c.index_mut-place.ensures.value c.requires.turn.1
+    (held_inside _ _ c.requires.own c.args.held c.requires.turn) _ c.index_mut-place.ensures.value c.requires.turn.2
 
 pub returns-in-Ok-clause-own : goal.returns-in-Ok-clause-own
 returns-in-Ok-clause-own g c = pass_after _ _ c.requires.own _
