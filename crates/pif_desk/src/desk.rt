@@ -13,7 +13,11 @@ use pif_core::Core;
 use pif_model::Seen;
 use pif_types::{CondId, Kind, Limits, MutexId, NoMemory, Tid};
 use std::alloc::Global;
-use std::sync::{Mutex, MutexGuard, Wait};
+use std::sync::{Condvar, Mutex, MutexGuard, Wait};
+use std::thread::yield_now;
+
+/// How often a client whose thread rests looks whether its bell has rung, before it sleeps.
+const LOOKS: u32 = 20;
 
 /// What a client does after each of its events, outside the lock.
 pub trait Pause {
@@ -89,9 +93,34 @@ impl<P: Pause + Drop> Desk<P> {
         t: Tid,
     ) -> MutexGuard<'a, Shared> {
         match self.bells.of(t) {
-            Some(bell) => bell.wait_while(rt, shared, |shared| shared.is_to_sleep(t)),
+            Some(bell) => {
+                let shared = self.linger(rt, bell, shared, t);
+                bell.wait_while(rt, shared, |shared| shared.is_to_sleep(t))
+            }
             None => shared,
         }
+    }
+
+    /// Lets other threads run for a while, or until the bell of a thread rings that rests.
+    fn linger<'a, R: Wait>(
+        &'a self,
+        rt: &R,
+        bell: &Condvar,
+        mut shared: MutexGuard<'a, Shared>,
+        t: Tid,
+    ) -> MutexGuard<'a, Shared> {
+        if !shared.is_to_sleep(t) {
+            return shared;
+        }
+        let rung = bell.notifications();
+        drop(shared);
+        for _look in 0..LOOKS {
+            if bell.notifications() != rung {
+                break;
+            }
+            yield_now();
+        }
+        self.shared.lock(rt)
     }
 
     /// Takes the room out of its lock.
