@@ -1,6 +1,6 @@
 -- What a caller knows of a mutex that it has locked.
 use Rattle.std.specs.Prelude.{ℕ, ◌≡◌, ◌==◌, true, List, None, Result, Ok, Err, if◌then◌else◌}
-use Rattle.pif_types.specs.declared.requests.Request.TheVariants.{Lock, Consistent}
+use Rattle.pif_types.specs.declared.requests.Request.TheVariants.{Lock}
 use Rattle.pif_model.specs.declared.events.Entry.{Entry}
 use Rattle.pif_model.specs.declared.events.Seen.{Seen}
 use Rattle.pif_model.specs.declared.events.Seen.TheVariants.{Answered}
@@ -11,7 +11,7 @@ use Rattle.pif_model.specs.History.{hold_count, holds, open_call}
 use Rattle.pif_model.specs.Table.{Table}
 use Rattle.pif_uses.specs.declared.locking.Held.{Held}
 use Rattle.pif_uses.specs.declared.locking.Held.TheVariants.{InOrder, OwnerDied}
-use Rattle.pif_uses.specs.Calls.{StandsOn, call_outcome, called}
+use Rattle.pif_uses.specs.Calls.{StandsOn, call_outcome}
 
 -- whether a lock that was answered so has taken the mutex: 0, or EOWNERDEAD
 abbrev pub held_by : Seen → Result Held Seen
