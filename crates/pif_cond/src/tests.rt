@@ -5,8 +5,8 @@ ghost use Rattle.pif_model.specs.Lines.{is_open};
 ghost use Rattle.pif_model.specs.Posix.{names_known};
 
 use crate::advance;
-use pif_plain::PlainKernel;
 use pif_mutex::{Parts, Progress};
+use pif_plain::PlainKernel;
 use pif_types::{CondId, Kind, Limits, MutexId, Prio, Request, Tid};
 use std::alloc::Global;
 use std::process::Abort;

@@ -2,8 +2,8 @@ ghost use Rattle.std.specs.Prelude.{◌≡◌, ◌≤◌, ℕ, None};
 ghost use Rattle.pif_nodes.specs.Table.{holder};
 ghost use Rattle.pif_runq.specs.Levels.{Holds};
 
-use pif_runq::RunQueue;
 use pif_nodes::NodeTable;
+use pif_runq::RunQueue;
 use pif_types::{Prio, Tid};
 use std::process::Abort;
 use std::test::Fail;

@@ -1,8 +1,8 @@
 ghost use Rattle.std.specs.Prelude.{◌≡◌, ◌<◌, length, replicate, []};
 ghost use Rattle.pif_nodes.specs.Table.{no_key};
 
-use pif_plist::PList;
 use pif_nodes::{List, Node, NodeTable};
+use pif_plist::PList;
 use std::process::Abort;
 use std::test::Fail;
 

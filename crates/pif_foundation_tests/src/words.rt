@@ -1,10 +1,10 @@
 ghost use Rattle.std.specs.Prelude.{◌≤◌};
 
+use pif_types::{CondId, Limits, MutexId};
 use pif_word::{
     Cell, OWNER_DIED, Words, hand_word, has_waiters, mark_word, number, owner_died, release_word,
     take_word, taken_word,
 };
-use pif_types::{CondId, Limits, MutexId};
 use std::process::Abort;
 use std::test::Fail;
 

@@ -6,8 +6,8 @@ ghost use Rattle.pif_model.specs.Posix.{names_known};
 ghost use Rattle.pif_mutex.specs.Steppable.{is_of_mutexes};
 
 use crate::{Parts, Progress, State, advance};
-use pif_plain::PlainKernel;
 use pif_model::Status;
+use pif_plain::PlainKernel;
 use pif_types::{CondId, Errno, Health, Kind, Limits, MutexId, Prio, Request, Tid};
 use std::alloc::Global;
 use std::process::Abort;
