@@ -577,13 +577,10 @@ fn end_on_word(rt: &impl Abort, alloc: Global, before: u32, after: u32) -> Resul
     )
 }
 
+// And marks one of its own.
 #[test]
 fn exit_leaves_words_of_others(rt: HostRuntime) -> Result<(), Fail> {
-    end_on_word(&rt, rt.alloc(), 0x0000_0002, 0x0000_0002)
-}
-
-#[test]
-fn exit_marks_words_of_its_own(rt: HostRuntime) -> Result<(), Fail> {
+    end_on_word(&rt, rt.alloc(), 0x0000_0002, 0x0000_0002)?;
     end_on_word(&rt, rt.alloc(), 0xc000_0001, 0xc000_0000)
 }
 

@@ -6,6 +6,7 @@ mod limits;
 mod notices;
 mod reading;
 mod robust;
+mod shows;
 mod steps;
 mod streams;
 mod traces;

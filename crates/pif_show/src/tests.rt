@@ -1,3 +1,6 @@
+mod failures;
+mod two_of_a_kind;
+
 use crate::{Unwritten, write_state};
 use arrayvec::ArrayVec;
 use pif_core::{Core, Event, Seen};
@@ -13,9 +16,9 @@ type Kept = ArrayVec<u8, 4096>;
 /// The most steps of a call.
 const STEPS: u32 = 24;
 
-/// A core with threads of these priorities and mutexes of these kinds, robust or not, and c1 for m1.
+/// A core with threads of these priorities and mutexes of these kinds, robust or not.
 fn scene(alloc: Global, levels: &[u32], kinds: &[(Kind, bool)]) -> Result<Core, Fail> {
-    let limits = Limits::new(64, 4, 1, 9).ok_or("limits")?;
+    let limits = Limits::new(64, 8, 2, 9).ok_or("limits")?;
     let mut core = Core::new(alloc, limits)?;
     fill(&mut core, levels, kinds)?;
     Ok(core)

@@ -59,6 +59,18 @@ const STATES: [(Ask, Reply); 13] = [
     (Ask::Word(1), Reply::Bits(0x0000_03ff)),
 ];
 
+// After two uses: a requeue of two at first, and one that was told of one use.
+const LAST_USES: [(Ask, Reply); 3] = [
+    (Ask::StoreUses(1, 2), Reply::Done),
+    (Ask::Requeue(1, 2, 1, 2, 0), Reply::Refused(Errno::Invalid)),
+    (Ask::Requeue(1, 1, 1, 1, 0), Reply::Refused(Errno::Again)),
+];
+
+#[test]
+fn uses_of_a_variable_run_out(rt: HostRuntime) -> Result<(), Fail> {
+    play(&rt, rt.alloc(), &[10], 1, &[&LAST_USES])
+}
+
 #[test]
 fn set_prio_and_requeue_refusals(rt: HostRuntime) -> Result<(), Fail> {
     play(

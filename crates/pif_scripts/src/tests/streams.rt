@@ -116,6 +116,10 @@ impl Faltering {
         }
     }
 
+    pub fn text(&self) -> &[u8] {
+        self.kept.text()
+    }
+
     /// Checks that this text was taken.
     pub fn check(&self, rt: &impl Abort, text: &str) {
         self.kept.check(rt, text);
