@@ -1,5 +1,5 @@
 -- One client more was served.
-use Rattle.std.proofs.Common.{◌≡◌, ℕ, length, sym, ap, subst, arith}
+use Rattle.std.proofs.Common.{ℕ, length, sym, ap, subst, arith}
 use Rattle.std.specs.List.{All}
 use Rattle.std.proofs.lemmas.List.{length_push}
 use Rattle.std.proofs.lemmas.List.Elements.{All-push}

@@ -1,5 +1,5 @@
 -- The clients were served, and the book is theirs.
-use Rattle.std.proofs.Common.{◌≡◌, List, length, sym, subst}
+use Rattle.std.proofs.Common.{List, length, sym, subst}
 use Rattle.pif_model.specs.declared.events.Entry.{Entry}
 use Rattle.pif_cli.specs.Driving.{IsDriven}
 use Rattle.pif_cli.proofs.Driving.{driven}
