@@ -1,13 +1,14 @@
 //! `drive`: clients in threads of their own, at one desk.
-ghost use Rattle.std.specs.Prelude.{◌≡◌, ◌+◌, ◌*◌, ◌++◌, ◌∷◌, [], IfOk, OnOk, codes, decimal, length};
+ghost use Rattle.std.specs.Prelude.{◌≡◌, ◌+◌, ◌*◌, ◌++◌, ◌∷◌, [], ℕ, IfOk, OnOk, codes, decimal, length};
 ghost use Rattle.std.specs.List.{All};
+ghost use Rattle.pif_desk.specs.Logs.{no_calls};
 ghost use Rattle.pif_desk.specs.Settling.{answered_calls};
-ghost use Rattle.pif_cli.specs.Driving.{Drives, SaysSo, WritesLine};
+ghost use Rattle.pif_cli.specs.Driving.{Drives, IsDriven, IsServed, SaysSo, WritesLine, pairs, requests_of};
 
 use crate::statuses::JobFault;
 use arrayvec::ArrayVec;
 use itoa::Buffer;
-use pif_desk::{Client, Desk, DeskFault, NoPause, Room};
+use pif_desk::{Book, Client, Desk, DeskFault, NoPause, Pause, Room};
 use pif_scripts::{CliFault, write_whole};
 use pif_types::{Kind, Limits, MutexId, NoMemory, Request};
 use std::alloc::{AllocError, AllocFailed, Global};
@@ -25,9 +26,9 @@ const TRIES: u32 = 1_000;
 /// Room for the line of the calls that were answered.
 const LINE_ROOM: usize = 40;
 
-/// Why the calls of a drive are not counted.
+/// Why a drive has no book.
 #[derive(Clone, Copy, Debug, PartialEq, Eq)]
-enum DriveFault {
+pub(crate) enum DriveFault {
     /// A growth of memory was refused.
     NoMemory,
     /// A thread could not be started.
@@ -61,19 +62,20 @@ impl<T: Drop> From<AllocFailed<T>> for DriveFault {
 #[derive(Drop)]
 struct Fresh {
     client: Client,
-    ghost fresh: { answered_calls client.log ≡ 0 },
+    ghost fresh: { client.log ≡ no_calls },
 }
 
 /// A client that was answered each of its calls.
 #[derive(Drop)]
-struct Served {
+pub(crate) struct Served {
     client: Client,
-    ghost served: { answered_calls client.log ≡ 200 },
+    mutex: MutexId,
+    ghost served: { IsServed mutex client.log },
 }
 
 /// How a client's thread ends.
 #[derive(Drop)]
-enum Ending {
+pub(crate) enum Ending {
     /// The client was answered each of its calls.
     Served(Served),
     /// The client was not answered, and has ended where it could.
@@ -81,13 +83,14 @@ enum Ending {
 }
 
 /// A client locks and unlocks the mutex, so often as each does.
-fn make_calls<R: Wait>(
+fn make_calls<P: Pause + Drop, R: Wait>(
     rt: &R,
-    desk: &Desk<NoPause>,
+    desk: &Desk<P>,
     mutex: MutexId,
     client: &mut Client,
 ) -> Result<(), DeskFault>
-    ensures { OnOk result (answered_calls client.new.log ≡ answered_calls client.old.log + 200) }
+    ensures answered { OnOk result (answered_calls client.new.log ≡ answered_calls client.old.log + 200) }
+    ensures requests { OnOk result (requests_of client.new.log ≡ pairs 100 mutex ++ requests_of client.old.log) }
 {
     for _round in 0..ROUNDS {
         client.call(rt, desk, Request::Lock(mutex))?;
@@ -97,7 +100,7 @@ fn make_calls<R: Wait>(
 }
 
 /// A client ends, so that no other waits for it.
-fn leave<R: Wait>(rt: &R, desk: &Desk<NoPause>, client: &mut Client) {
+fn leave<P: Pause + Drop, R: Wait>(rt: &R, desk: &Desk<P>, client: &mut Client) {
     for _try in 0..TRIES {
         match client.quit(rt, desk) {
             Err(DeskFault::NoMemory) => {}
@@ -106,11 +109,19 @@ fn leave<R: Wait>(rt: &R, desk: &Desk<NoPause>, client: &mut Client) {
     }
 }
 
-/// What a client's thread does.
-fn serve<R: Wait>(rt: &R, desk: &Desk<NoPause>, mutex: MutexId, fresh: Fresh) -> Ending {
-    let Fresh { mut client } = fresh;
-    match make_calls(rt, desk, mutex, &mut client) {
-        Ok(()) => Ending::Served(Served { client }),
+/// How a client's thread ends that has come so far with its calls: at a fault the client ends, so that no other waits for
+/// it.
+pub(crate) fn end_of<P: Pause + Drop, R: Wait>(
+    rt: &R,
+    desk: &Desk<P>,
+    mutex: MutexId,
+    mut client: Client,
+    made: Result<(), DeskFault>,
+) -> Ending
+    requires { OnOk made (IsServed mutex client.log) }
+{
+    match made {
+        Ok(()) => Ending::Served(Served { client, mutex }),
         Err(fault) => {
             leave(rt, desk, &mut client);
             Ending::Fault(DriveFault::from(fault))
@@ -118,17 +129,28 @@ fn serve<R: Wait>(rt: &R, desk: &Desk<NoPause>, mutex: MutexId, fresh: Fresh) ->
     }
 }
 
+/// What a client's thread does.
+fn serve<P: Pause + Drop, R: Wait>(rt: &R, desk: &Desk<P>, mutex: MutexId, fresh: Fresh) -> Ending {
+    let Fresh { mut client } = fresh;
+    let made = make_calls(rt, desk, mutex, &mut client);
+    end_of(rt, desk, mutex, client, made)
+}
+
 /// A client of this priority.
-fn enter_one<R: Wait>(rt: &R, desk: &Desk<NoPause>, prio: u32) -> Result<Fresh, DriveFault> {
+fn enter_one<P: Pause + Drop, R: Wait>(
+    rt: &R,
+    desk: &Desk<P>,
+    prio: u32,
+) -> Result<Fresh, DriveFault> {
     let client = desk.enter(rt, prio)?;
     Ok(Fresh { client })
 }
 
 /// So many clients, of the priorities from 1.
-fn enter_all<R: Wait>(
+fn enter_all<P: Pause + Drop, R: Wait>(
     rt: &R,
     alloc: Global,
-    desk: &Desk<NoPause>,
+    desk: &Desk<P>,
     count: u32,
 ) -> Result<Vec<Fresh>, DriveFault>
     ensures { IfOk result (λ v. length v.items ≡ count) }
@@ -156,10 +178,10 @@ fn join_all<R: Threads>(
 }
 
 /// Each client runs in a thread of its own: how they ended. Where a thread can't be started, those that were end first.
-fn run_all<R: Threads + Wait + Sync>(
+fn run_all<P: Pause + Drop + Sync, R: Threads + Wait + Sync>(
     rt: &R,
     alloc: Global,
-    desk: &Desk<NoPause>,
+    desk: &Desk<P>,
     mutex: MutexId,
     clients: Vec<Fresh>,
 ) -> Result<Vec<Ending>, DriveFault>
@@ -186,56 +208,56 @@ fn run_all<R: Threads + Wait + Sync>(
 /// The clients, where each was answered all of its calls; else the fault of the first that was not.
 fn gather(alloc: Global, endings: Vec<Ending>) -> Result<Vec<Client>, DriveFault>
     ensures len { IfOk result (λ v. length v.items ≡ length endings.items) }
-    ensures served { IfOk result (λ v. All (λ c. answered_calls c.log ≡ 200) v.items) }
+    ensures served { IfOk result (λ v. All (λ c. (m : ℕ) × IsServed m c.log) v.items) }
 {
     let mut clients = Vec::new(alloc);
     for ending in endings {
         match ending {
-            Ending::Served(Served { client }) => clients.push(client)?,
+            Ending::Served(Served { client, .. }) => clients.push(client)?,
             Ending::Fault(fault) => return Err(fault),
         }
     }
     Ok(clients)
 }
 
-/// How many calls the room has answered, of these clients.
-fn count_answers(room: Room, clients: Vec<Client>) -> Result<u64, DriveFault>
-    requires { All (λ c. answered_calls c.log ≡ 200) clients.items }
-    ensures { IfOk result (λ a. a ≡ 200 * length clients.items) }
+/// The book of the room and these clients.
+fn settle(room: Room, clients: Vec<Client>) -> Result<Book, DriveFault>
+    requires { All (λ c. (m : ℕ) × IsServed m c.log) clients.items }
+    ensures { IfOk result (λ b. IsDriven (length clients.items) b.entries.items b.answered) }
 {
     match room.settle(clients) {
-        Ok(book) => Ok(book.answered),
+        Ok(book) => Ok(book),
         Err(_) => Err(DriveFault::Unsettled),
     }
 }
 
-/// So many clients make their calls at a desk, each in a thread of its own: how many calls were answered.
-fn drive_desk<R: Threads + Wait + Sync>(
+/// So many clients make their calls at this desk, each in a thread of its own: the book.
+fn drive_desk<P: Pause + Drop + Sync, R: Threads + Wait + Sync>(
     alloc: Global,
     rt: &R,
-    limits: Limits,
+    desk: Desk<P>,
     clients: u32,
-) -> Result<u64, DriveFault>
-    ensures { IfOk result (λ a. a ≡ 200 * clients) }
+) -> Result<Book, DriveFault>
+    ensures { IfOk result (λ b. IsDriven clients b.entries.items b.answered) }
 {
-    let desk = Desk::new(alloc, limits, NoPause)?;
     let mutex = desk.make_mutex(rt, Kind::ErrorCheck, true)?;
     let fresh = enter_all(rt, alloc, &desk, clients)?;
     let endings = run_all(rt, alloc, &desk, mutex, fresh)?;
     let served = gather(alloc, endings)?;
-    count_answers(desk.into_room(), served)
+    settle(desk.into_room(), served)
 }
 
-/// The same, at a desk with just the room that they need.
-fn drive_all<R: Threads + Wait + Sync>(
+/// The same, at a desk with just the room that they need, and with this pause.
+pub(crate) fn drive_book<P: Pause + Drop + Sync, R: Threads + Wait + Sync>(
     alloc: Global,
     rt: &R,
     clients: u32,
-) -> Result<u64, DriveFault>
-    ensures { IfOk result (λ a. a ≡ 200 * clients) }
+    pause: P,
+) -> Result<Book, DriveFault>
+    ensures { IfOk result (λ b. IsDriven clients b.entries.items b.answered) }
 {
     match Limits::new(clients, 1, 0, 1) {
-        Some(limits) => drive_desk(alloc, rt, limits, clients),
+        Some(limits) => drive_desk(alloc, rt, Desk::new(alloc, limits, pause)?, clients),
         None => Err(DriveFault::Unsettled),
     }
 }
@@ -279,8 +301,8 @@ pub fn drive<R: Threads + Wait + Sync, W: Write>(
 ) -> Result<(), JobFault>
     ensures { Drives clients (W.contents output.old) (W.contents output.new) result }
 {
-    match drive_all(alloc, rt, clients) {
-        Ok(answered) => write_count(output, answered),
+    match drive_book(alloc, rt, clients, NoPause) {
+        Ok(book) => write_count(output, book.answered),
         Err(DriveFault::NoMemory) => Err(JobFault::Cli(CliFault::NoMemory)),
         Err(DriveFault::Threads) => say(output, "fault threads\n", JobFault::Threads),
         Err(DriveFault::Unsettled) => say(output, "unsettled\n", JobFault::Unsettled),

@@ -1,7 +1,7 @@
 -- Threads whose clients sleep: each stands once among them, so that 1,024 places are enough.
-use Rattle.std.proofs.Common.{◌≡◌, ◌∙◌, ◌⊎◌, ℕ, ◌+◌, ◌<◌, ◌≤◌, Bool, true, false, ◌==◌, ◌||◌, eqb, List, [], ◌∷◌, ◌++◌, length, filter, Some, None, unwrap_or, refl, sym, ap, subst, arith, inl, inr, if◌then◌else◌, true≢false}
+use Rattle.std.proofs.Common.{◌≡◌, ◌∙◌, ◌⊎◌, ℕ, ◌+◌, ◌<◌, ◌≤◌, Bool, true, false, ◌==◌, ◌||◌, eqb, List, [], ◌∷◌, ◌++◌, length, filter, Some, None, unwrap_or, refl, sym, ap, arith, inl, inr, if◌then◌else◌, true≢false}
 use Rattle.std.specs.List.{list_any}
-use Rattle.std.proofs.lemmas.Bool.{cases_eq, false_from_ne_true, or_cases}
+use Rattle.std.proofs.lemmas.Bool.{false_from_ne_true, or_cases}
 use Rattle.std.proofs.lemmas.Bool.Decides.{nat_tests}
 use Rattle.std.proofs.lemmas.List.{length_push}
 use Rattle.std.proofs.lemmas.Map.Steps.{length-le_from_distinct_below}

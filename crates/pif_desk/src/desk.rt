@@ -17,7 +17,7 @@ use std::sync::{Condvar, Mutex, MutexGuard, Wait};
 use std::thread::yield_now;
 
 /// How often a client whose thread rests looks whether its bell has rung, before it sleeps.
-const LOOKS: u32 = 20;
+const LOOKS: u32 = 8;
 
 /// What a client does after each of its events, outside the lock.
 pub trait Pause {

@@ -23,8 +23,8 @@
 //! ```
 //!
 //! Each event is one acquisition of the lock. The entry's room is made before the step, and that of a log before a call
-//! begins, so that a refused growth of memory changes nothing. A thread that waits sleeps on a condition variable, and
-//! each event of others wakes it to look. That a call returns is not claimed.
+//! begins, so that a refused growth of memory changes nothing. A client whose thread rests sleeps; an event wakes those
+//! clients that sleep and whose threads rest no longer, and no others. That a call returns is not claimed.
 #![tactic(auto)]
 
 mod book;

@@ -1,13 +1,19 @@
 //! Clients in real threads.
 use super::{BOOSTED, Kept};
 use crate::command;
+use crate::drive::{DriveFault, Ending, drive_book, end_of};
 use arrayvec::ArrayVec;
+use pif_desk::{Book, Desk, DeskFault, Entry, Event, NoPause, Pause, Seen};
+use pif_types::{Kind, Limits, MutexId, Prio, Request, Tid};
 use std::alloc::Global;
 use std::process::Abort;
 use std::str::from_utf8;
 use std::sync::Wait;
+use std::sync::atomic::{AtomicBool, Ordering};
 use std::test::Fail;
+use std::thread;
 use std::thread::Threads;
+use std::time::Duration;
 
 /// Drives so many clients: the status, and whether all of the input is left.
 fn drive(
@@ -88,4 +94,134 @@ fn a_count_that_cannot_be_written_has_status_3(rt: HostRuntime) {
         &mut Kept::new(),
     );
     assert_eq!(rt; (status, output.as_slice()), (3, b"answ".as_slice()));
+}
+
+/// How often a held client looks whether another was answered, a millisecond each time.
+const TURNS: u32 = 10_000;
+
+/// Holds client 1 once its first call has begun, until a call of another client was answered.
+#[derive(Drop)]
+struct Overlap {
+    rt: HostRuntime,
+    held: AtomicBool,
+    answered: AtomicBool,
+}
+
+impl Overlap {
+    /// Waits until a call of another client was answered.
+    fn hold(&self) {
+        for _ in 0..TURNS {
+            if self.answered.load(Ordering::SeqCst) {
+                break;
+            }
+            let _ = thread::sleep(&self.rt, Duration::from_millis(1));
+        }
+    }
+}
+
+impl Pause for Overlap {
+    fn after(&self, t: Tid, seen: Seen) {
+        if t.get() == 1 {
+            if !self.held.swap(true, Ordering::SeqCst) {
+                self.hold();
+            }
+        } else if let Seen::Answered(_) = seen {
+            self.answered.store(true, Ordering::SeqCst);
+        }
+    }
+}
+
+/// What a drive of two clients adds: the mutex, and threads of the priorities 1 and 2.
+fn added() -> Result<[Entry; 3], Fail> {
+    Ok([
+        Entry::Mutex(MutexId::default(), Kind::ErrorCheck, true),
+        Entry::Thread(
+            Tid::new(1).ok_or("a thread")?,
+            Prio::new(1).ok_or("a priority")?,
+        ),
+        Entry::Thread(
+            Tid::new(2).ok_or("a thread")?,
+            Prio::new(2).ok_or("a priority")?,
+        ),
+    ])
+}
+
+/// A thread begins 200 calls in these entries: in turn a lock and an unlock of the mutex.
+fn check_requests(rt: &impl Abort, entries: &[Entry], thread: u32) {
+    let mutex = MutexId::default();
+    let mut begun = 0u32;
+    for entry in entries {
+        if let Entry::Step(Event::Begin(t, request), _) = entry {
+            if t.get() == thread {
+                let expected = if begun % 2 == 0 {
+                    Request::Lock(mutex)
+                } else {
+                    Request::Unlock(mutex)
+                };
+                assert_eq!(rt; *request, expected);
+                begun = begun.wrapping_add(1);
+            }
+        }
+    }
+    assert_eq!(rt; begun, 200);
+}
+
+/// Whether a call of another client was answered before client 1 took a step of its own.
+fn overlaps(entries: &[Entry]) -> bool {
+    let mut answered = false;
+    for entry in entries {
+        if let Entry::Step(Event::Go(t), seen) = entry {
+            if t.get() == 1 {
+                return answered;
+            }
+            if let Seen::Answered(_) = seen {
+                answered = true;
+            }
+        }
+    }
+    false
+}
+
+/// Checks the book of a drive of two clients, of which the first was held.
+fn check_book(rt: &impl Abort, book: &Book) -> Result<(), Fail> {
+    let entries = book.entries.as_slice();
+    let additions = added()?;
+    assert_eq!(rt; Some(book.limits), Limits::new(2, 1, 0, 1));
+    assert!(rt; entries.starts_with(additions.as_slice()));
+    check_requests(rt, entries, 1);
+    check_requests(rt, entries, 2);
+    assert!(rt; overlaps(entries));
+    Ok(())
+}
+
+#[test]
+fn drive_makes_the_mutex_clients_and_calls_of_its_help(rt: HostRuntime) -> Result<(), Fail> {
+    let pause = Overlap {
+        rt,
+        held: AtomicBool::new(false),
+        answered: AtomicBool::new(false),
+    };
+    match drive_book(rt.alloc(), &rt, 2, pause) {
+        Ok(book) => check_book(&rt, &book),
+        Err(fault) => panic!(&rt; "no book: {fault:?}"),
+    }
+}
+
+/// A client that holds the mutex is out of memory, and ends; what the next is answered that tries to lock it.
+fn leave_with_mutex<R: Wait + Abort>(rt: &R, desk: &Desk<NoPause>) -> Result<u32, Fail> {
+    let mutex = desk.make_mutex(rt, Kind::ErrorCheck, true)?;
+    let mut one = desk.enter(rt, 1)?;
+    let mut two = desk.enter(rt, 2)?;
+    one.call(rt, desk, Request::Lock(mutex))?;
+    let ended = end_of(rt, desk, mutex, one, Err(DeskFault::NoMemory));
+    assert!(rt; matches!(ended, Ending::Fault(DriveFault::NoMemory)));
+    Ok(two.call(rt, desk, Request::TryLock(mutex))?.answer)
+}
+
+#[test]
+fn client_out_of_memory_ends(rt: HostRuntime) -> Result<(), Fail> {
+    let limits = Limits::new(2, 1, 0, 1).ok_or("limits")?;
+    let desk = Desk::new(rt.alloc(), limits, NoPause)?;
+    assert_eq!(rt; leave_with_mutex(&rt, &desk)?, 130);
+    Ok(())
 }

@@ -1,6 +1,13 @@
-use Rattle.std.proofs.Common.{◌∙◌}
-use Rattle.pif_cli.proofs.Driving.{served_sum}
-use Rattle.pif_cli.proofs.drive.count_answers.Goals as goal
+-- The clients were served, and the book is theirs.
+use Rattle.std.proofs.Common.{List, length, sym, subst}
+use Rattle.pif_model.specs.declared.events.Entry.{Entry}
+use Rattle.pif_cli.specs.Driving.{IsDriven}
+use Rattle.pif_cli.proofs.Driving.{driven}
+use Rattle.pif_cli.proofs.drive.settle.Goals as goal
 
 pub returns-in-Ok : goal.returns-in-Ok
-returns-in-Ok c = c.in-Ok.ensures.sum ∙ served_sum c.args.clients.items c.requires
+returns-in-Ok c =
+    subst (λ (j : List Entry). IsDriven (length c.args.clients.items) j c.in-Ok.book.answered)
+    (sym c.in-Ok.ensures.entries)
+    (driven c.args.clients.items c.args.room.journal c.in-Ok.book.answered c.in-Ok.ensures.settled
+    c.in-Ok.ensures.sum c.requires)

@@ -1,5 +1,5 @@
 -- Who rests lives, and has a number that limits allow.
-use Rattle.std.proofs.Common.{◌≡◌, ◌∙◌, Bool, false, Option, unwrap_or, sym, ap}
+use Rattle.std.proofs.Common.{◌∙◌, Bool, false, Option, unwrap_or, sym, ap}
 use Rattle.pif_desk.proofs.Sleeping.{resting_number}
 use Rattle.pif_desk.proofs.room.Room.is_resting.Goals as goal
 

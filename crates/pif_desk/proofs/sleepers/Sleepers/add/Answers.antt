@@ -1,5 +1,5 @@
 -- There is a place for a thread that does not stand among them.
-use Rattle.std.proofs.Common.{◌≡◌, ◌∙◌, ◌≤◌, List, ℕ, length, false, sym, ap, subst, arith}
+use Rattle.std.proofs.Common.{◌≡◌, ◌∙◌, ◌≤◌, List, ℕ, length, sym, ap, subst, arith}
 use Rattle.pif_model.specs.PiKernel.{is_among}
 use Rattle.pif_desk.specs.Sleeping.{AreSleepers}
 use Rattle.pif_desk.proofs.Sleeping.{has_place, sleepers_more}

@@ -1,5 +1,5 @@
 -- Nobody sleeps at first.
-use Rattle.std.proofs.Common.{◌≡◌, sym, subst, arith}
+use Rattle.std.proofs.Common.{sym, subst, arith}
 use Rattle.pif_desk.specs.Sleeping.{AreSleepers}
 use Rattle.pif_desk.proofs.Sleeping.{no_sleepers}
 use Rattle.pif_desk.proofs.sleepers.Sleepers.new.Goals as goal
