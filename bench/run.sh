@@ -26,7 +26,7 @@ def calls():
 
 
 def trace():
-    head = b"pif-trace 1\nthread 10 = t1\nmutex normal = m1\n"
+    head = b"pif-trace 2\nthread 10 = t1\nmutex normal = m1\n"
     steps = b"go t1 = went\ngo t1 = answer 0\n"
     pair = b"begin t1 lock m1 = begun\n" + steps + b"begin t1 unlock m1 = begun\n" + steps
     return head + pair * ((LIMIT - len(head)) // len(pair))

@@ -11,7 +11,7 @@ use Rattle.pif_chains.proofs.Waiting.{pairs}
 use Rattle.pif_chains.proofs.KernelFacts.{next-queued, next-added}
 use Rattle.pif_chains.proofs.KernelKept.{hand_over_kept}
 use Rattle.pif_chains.proofs.KernelPlaces.{handed_limits, handed_length, handed_seat_other, handed_seat_same, handed_base, handed_state_other, handed_parked}
-use Rattle.pif_chains.proofs.KernelEnded.{leaving_kept, limits-left, parked-left, length-left_seats, has-left, base-left, status-left_same, living-left_same, living-left_other}
+use Rattle.pif_chains.proofs.KernelLeft.{kernel-left, limits-left, parked-left, length-left_seats, has-left, base-left, status-left_same, living-left_same, living-left_other}
 
 -- ONE MUTEX
 
@@ -108,7 +108,7 @@ deaths_kept t ms x h = deaths-keep (λ y. IsKernel y.kernel) t (λ m y. death_ke
 pub exit_kept : (t : ℕ) (ms : List ℕ) (ws : Words) (k : Kernel) → IsKernel k → has_seat k t ≡ true
     → IsKernel (after_exit t ms ws k).kernel
 exit_kept t ms ws k h added =
-    deaths_kept t ms (record { words = ws; kernel = kernel_after_leaving t k }) (leaving_kept t k h added)
+    deaths_kept t ms (record { words = ws; kernel = kernel_after_leaving t k }) (kernel-left Ended t k h added refl)
 
 -- WHAT STAYS
 
@@ -345,19 +345,19 @@ module _ (t : ℕ) (ms : List ℕ) (ws : Words) (k : Kernel) where
 
   -- the limits are what they were
   pub exit-limits : finish.kernel.limits ≡ k.limits
-  exit-limits = deaths-limits t ms start ∙ limits-left t k
+  exit-limits = deaths-limits t ms start ∙ limits-left Ended t k
 
   -- as many threads
   pub exit-length : length finish.kernel.seats ≡ length k.seats
-  exit-length = deaths-length t ms start ∙ length-left_seats t k
+  exit-length = deaths-length t ms start ∙ length-left_seats Ended t k
 
   -- the same threads were added
   pub exit-has : (u : ℕ) → has_seat finish.kernel u ≡ has_seat k u
-  exit-has u = deaths-has t ms start u ∙ has-left t k u
+  exit-has u = deaths-has t ms start u ∙ has-left Ended t k u
 
   -- each has the base priority that it had
   pub exit-base : (u : ℕ) → (seat_at finish.kernel u).base ≡ (seat_at k u).base
-  exit-base u = deaths-base t ms start u ∙ base-left t k u
+  exit-base u = deaths-base t ms start u ∙ base-left Ended t k u
 
   -- there are as many words
   pub exit-words : length finish.words.mutexes ≡ length ws.mutexes
@@ -373,19 +373,19 @@ module _ (t : ℕ) (ms : List ℕ) (ws : Words) (k : Kernel) where
 
   -- t is not among the parked, and the others are as they were
   pub exit-parked : finish.kernel.parked ≡ unparked k.parked t
-  exit-parked = deaths-parked t ms start ∙ parked-left t k
+  exit-parked = deaths-parked t ms start ∙ parked-left Ended t k
 
   module _ (h : IsKernel k) (added : has_seat k t ≡ true) where
     -- t has ended
     pub exit-ended_same : (seat_at finish.kernel t).status ≡ Ended
-    exit-ended_same = deaths-ended t ms start (leaving_kept t k h added) t (status-left_same t k added)
+    exit-ended_same = deaths-ended t ms start (kernel-left Ended t k h added refl) t (status-left_same Ended t k added)
 
     -- and lives no more
     pub exit-living_same : is_living finish.kernel t ≡ false
     exit-living_same =
-        deaths-living t ms start (leaving_kept t k h added) t ∙ living-left_same t k added
+        deaths-living t ms start (kernel-left Ended t k h added refl) t ∙ living-left_same Ended t k added
 
     -- the others live if they did
     pub exit-living_other : (u : ℕ) → u ≢ t → is_living finish.kernel u ≡ is_living k u
     exit-living_other u d =
-        deaths-living t ms start (leaving_kept t k h added) u ∙ living-left_other t k u d
+        deaths-living t ms start (kernel-left Ended t k h added refl) u ∙ living-left_other Ended t k u d

@@ -94,6 +94,12 @@ module _ (k : Kernel) (h : IsKernel k) where
   pub no_waiter-0 : has_waiter k.waiters 0 ≡ false
   no_waiter-0 = false_from_ne_true (has_waiter k.waiters 0) (λ e. state-from_waiter 0 e h.shape.no_mutex)
 
+  -- who is queued on nothing is queued on no mutex
+  pub not_queued : (u m : ℕ) → queued_on (seat_at k u).status ≡ 0 → (seat_at k u).status ≡ Queued m → ⊥
+  not_queued u m z q =
+      some_mutex m (state-from_waiter m (has_waiter-from_pair k.waiters u m (h.queued u m q)))
+      (ap queued_on (sym q) ∙ z)
+
   -- a mutex that has an owner state is one of those that can be
   pub mutex_below : (m : ℕ) → state_at k m ≢ 0 → m < 1025
   mutex_below m n = go (cases_lt m 1025)

@@ -3,7 +3,6 @@
 use Rattle.std.proofs.Common.{◌≡◌, ◌≢◌, ◌⊎◌, ℕ, zero, suc, ◌+◌, ◌<◌, ◌≤◌, true, false, cond, ◌==◌, nat_lt, List, [], ◌∷◌, ◌++◌, filter, get_or, set, length, refl, sym, ap, ◌∙◌, subst, arith, if◌then◌else◌, eq-eqb, inl, inr, length-set, get_or-set_same, get_or-set_other}
 use Rattle.std.proofs.lemmas.Bool.{cases_eq}
 use Rattle.std.proofs.lemmas.List.{set-set}
-use Rattle.pif_model.specs.declared.lines.Status.{Status}
 use Rattle.pif_model.specs.declared.lines.Status.TheVariants.{Ready, Queued, Parked}
 use Rattle.pif_model.specs.declared.lines.Woken.{Woken}
 use Rattle.pif_model.specs.declared.lines.Woken.TheVariants.{Again as WokenAgain}
@@ -17,16 +16,12 @@ use Rattle.pif_chains.proofs.Greatest.{effective_same, reaches_same}
 use Rattle.pif_chains.proofs.KernelNumbers.{is_other}
 use Rattle.pif_chains.proofs.KernelParks.{parks_left}
 use Rattle.pif_chains.proofs.KernelSettled.{IsUnsettled, effective_range, kernel-from_listed, listed-from_kernel}
-use Rattle.pif_chains.proofs.KernelFacts.{seat-unadded}
+use Rattle.pif_chains.proofs.KernelFacts.{seat-unadded, not_queued}
 use Rattle.pif_chains.proofs.KernelListed.{listed-joined, stands-unready}
 use Rattle.pif_chains.proofs.KernelLevels.{length-joined}
 use Rattle.pif_chains.proofs.KernelQueued.{kernel-queued}
 
 -- WHO IS PARKED
-
--- who is parked may not run
-pub parked-unready : (x : Status) (c : ℕ) → x ≡ Parked c → is_ready x ≡ false
-parked-unready x c e = ap is_ready e
 
 module _ (k : Kernel) (h : IsKernel k) where
   -- who is parked was added
@@ -109,25 +104,24 @@ module _ (u : ℕ) (w : Woken) (k : Kernel) where
   unfolding kernel_after_waking
   woken_levels = refl
 
-  module _ (h : IsKernel k) (c : ℕ) (was : (seat_at k u).status ≡ Parked c) where
-    -- u was added
-    added : has_seat k u ≡ true
-    added = added-from_parked k h u c was
-
+  module _ (unqueued : queued_on (seat_at k u).status ≡ 0) where
     -- each waits for whom it waited
     pub woken_waits : (v : ℕ) → waits_for now v ≡ waits_for k v
     unfolding kernel_after_waking
-    woken_waits v = ap (state_at k)
-        (kept_at (λ (y : Seat). queued_on y.status) k.seats u seat no_seat (sym (ap queued_on was)) v)
+    woken_waits v =
+        ap (state_at k) (kept_at (λ (y : Seat). queued_on y.status) k.seats u seat no_seat (sym unqueued) v)
 
     -- each has its effective priority
     pub woken_effective : (v : ℕ) → effective_in now v ≡ effective_in k v
     woken_effective v = effective_same _ _ _ _ _ _ v woken_length woken_waits woken_base
 
+  -- u neither ran nor was queued
+  module _ (h : IsKernel k) (added : has_seat k u ≡ true) (unready : is_ready (seat_at k u).status ≡ false)
+      (unqueued : queued_on (seat_at k u).status ≡ 0) where
     -- who was queued is
     is_queued : (v m : ℕ) → (v ≡ u) ⊎ (v ≢ u) → (seat_at k v).status ≡ Queued m → (seat_at now v).status ≡ Queued m
     is_queued v m (inl e) q =
-        let both : Parked c ≡ Queued m = sym was ∙ sym (ap (λ y. (seat_at k y).status) e) ∙ q in absurd (cc)
+        absurd (not_queued k h u m unqueued (ap (λ y. (seat_at k y).status) (sym e) ∙ q))
     is_queued v m (inr n) q = woken_status_other v n ∙ q
 
     -- and back
@@ -157,20 +151,24 @@ module _ (u : ℕ) (w : Woken) (k : Kernel) where
           (ap (λ (y : Seat). is_parked y.status) (woken_seat_same added));
       states = h.states;
       owners = λ m n. woken_has (state_at k m) ∙ h.owners m n;
-      acyclic = λ v n. reaches_same _ _ _ _ _ _ v woken_length woken_waits (woken_waits v)
-          ∙ h.acyclic v (λ z. n (woken_waits v ∙ z));
+      acyclic = λ v n. reaches_same _ _ _ _ _ _ v woken_length (woken_waits unqueued) (woken_waits unqueued v)
+          ∙ h.acyclic v (λ z. n (woken_waits unqueued v ∙ z));
     }
 
     -- u is ready, at the end of its level
-    pub kernel-woken : IsKernel now
-    kernel-woken = kernel-from_listed now unsettled-woken
+    pub kernel-roused : IsKernel now
+    kernel-roused = kernel-from_listed now unsettled-woken
         (listed-joined k now u (effective_in k) (effective_in now) (λ v d. woken_has v)
-        woken_status_other (λ v d. woken_effective v) (listed-from_kernel k h)
+        woken_status_other (λ v d. woken_effective unqueued v) (listed-from_kernel k h)
         (effective_in k u) h.shape.levels woken_levels
         (effective_range k h.shape u added).0 (effective_range k h.shape u added).1
-        (λ q. stands-unready k (effective_in k) u q (parked-unready (seat_at k u).status c was))
+        (λ q. stands-unready k (effective_in k) u q unready)
         (woken_has u ∙ added) (ap (λ (y : Seat). is_ready y.status) (woken_seat_same added))
-        (woken_effective u))
+        (woken_effective unqueued u))
+
+  -- the same of a thread that was parked
+  pub kernel-woken : IsKernel k → (c : ℕ) → (seat_at k u).status ≡ Parked c → IsKernel now
+  kernel-woken h c was = kernel-roused h (added-from_parked k h u c was) (ap is_ready was) (ap queued_on was)
 
 -- QUEUEING
 
@@ -244,7 +242,7 @@ module _ (u m n : ℕ) (k : Kernel) where
       (kernel-queued u m n (kernel_after_waking u WokenAgain k) (kernel-woken u _ k h c was) (woken_has u _ k u ∙ added)
       (ap (λ (y : Seat). is_ready y.status) (woken_seat_same u _ k added)) some few
       (woken_has u _ k n ∙ owner) (λ z. woken_state u _ k m ∙ agrees (λ y. z (woken_state u _ k m ∙ y)))
-      (reaches_same _ _ _ _ _ _ u (woken_length u _ k) (woken_waits u _ k h c was) refl ∙ free))
+      (reaches_same _ _ _ _ _ _ u (woken_length u _ k) (woken_waits u _ k (ap queued_on was)) refl ∙ free))
     where
       added : has_seat k u ≡ true
       added = added-from_parked k h u c was

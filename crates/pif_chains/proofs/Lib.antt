@@ -29,7 +29,8 @@ pub mod KernelAdded
 pub mod KernelCalls
 pub mod KernelPicks
 pub mod KernelPlaces
-pub mod KernelEnded
+pub mod KernelLeft
+pub mod KernelExpired
 pub mod KernelExit
 pub mod KernelTaken
 pub mod KernelRequeued

@@ -11,9 +11,10 @@ use Rattle.std.specs.declared.io.ErrorKind.{ErrorKind as IoErrorKind}
 use Rattle.std.specs.declared.io.ErrorKind.TheVariants.{OutOfMemory, InvalidData}
 use Rattle.pif_scripts.specs.declared.faults.CliFault.{CliFault}
 use Rattle.pif_cli.specs.declared.words.Job.{Job}
-use Rattle.pif_cli.specs.declared.words.Job.TheVariants.{Run, Replay, Trace, Show, Drive}
+use Rattle.pif_cli.specs.declared.words.Job.TheVariants.{Run, Replay, Trace, Migrate, Show, Drive}
 use Rattle.pif_cli.specs.declared.statuses.JobFault.{JobFault}
 use Rattle.pif_cli.specs.declared.statuses.JobFault.TheVariants.{Cli}
+use Rattle.pif_scripts.specs.Migrating.{MigratesTo}
 use Rattle.pif_scripts.specs.Running.{RunsTo}
 use Rattle.pif_scripts.specs.Showing.{ShowsTo}
 use Rattle.pif_scripts.specs.Traces.{ReplaysTo}
@@ -41,11 +42,17 @@ clients_rule = record (new_rule (codes "N")) { required = true; parser = Some (U
 abbrev pub drive_app : App
 drive_app = with_rule (new_app (codes "drive")) clients_rule
 
--- the program's commands: `run`, `show`, `replay`, `trace` and `drive`
+-- a program with the commands over scripts that show answers, `run` and `show`
+abbrev pub with_runs : App → App
+with_runs pif = with_job (with_job pif (codes "run")) (codes "show")
+
+-- a program with the commands over traces: `replay`, `trace` and `migrate`
+abbrev pub with_traces : App → App
+with_traces pif = with_job (with_job (with_job pif (codes "replay")) (codes "trace")) (codes "migrate")
+
+-- the program's commands: `run`, `show`, `replay`, `trace`, `migrate` and `drive`
 abbrev pub program : App
-program =
-    with_subcommand (with_job (with_job (with_job (with_job bare_program (codes "run")) (codes "show")) (codes "replay"))
-    (codes "trace")) drive_app.top
+program = with_subcommand (with_traces (with_runs bare_program)) drive_app.top
 
 -- why the words are refused, the program's name first; none where they ask for a job
 abbrev pub refusals_of : List (List ℕ) → Kinds
@@ -61,8 +68,9 @@ abbrev pub job_named : Text → Option Text → Job
 job_named name given =
     if bytes_eq name (codes "replay") then Replay
     else (if bytes_eq name (codes "trace") then Trace
+    else (if bytes_eq name (codes "migrate") then Migrate
     else (if bytes_eq name (codes "show") then Show
-    else (if bytes_eq name (codes "drive") then Drive (clients_in given) else Run)))
+    else (if bytes_eq name (codes "drive") then Drive (clients_in given) else Run))))
 
 -- the job of a command, by its name and what was given to it
 abbrev pub job_by : Option (Text × List Row) → Job
@@ -91,6 +99,7 @@ abbrev pub Does : Job → (before after held holds : Option (List ℕ)) → Resu
 Does Run before after held holds result = EndsAsCli (RunsTo before after held holds) result
 Does Replay before after held holds result = EndsAsCli (ReplaysTo before after held holds) result
 Does Trace before after held holds result = EndsAsCli (TracesTo before after held holds) result
+Does Migrate before after held holds result = EndsAsCli (MigratesTo before after held holds) result
 Does Show before after held holds result = EndsAsCli (ShowsTo before after held holds) result
 Does (Drive clients) before after held holds result = Keeps before after × Drives clients held holds result
 

@@ -75,7 +75,7 @@ fn cause_words(job: Job, number: u64, cause: Cause, notice: &Notice) -> &'static
             signals 1 to 4294967295)"
         }
         Cause::Command => match job {
-            Job::Replay => no_traced(number, notice),
+            Job::Replay | Job::Migrate => no_traced(number, notice),
             Job::Run | Job::Trace | Job::Show | Job::Drive(_) => no_command(number, notice.line()),
         },
     }
@@ -122,7 +122,7 @@ fn no_traced(number: u64, notice: &Notice) -> &'static str {
         return "the line ends in CR LF, and not in LF alone";
     }
     if number == 1 {
-        return "the first line of a trace is 'pif-trace 1'";
+        return "the first line of a trace is 'pif-trace 1' or 'pif-trace 2'";
     }
     let Some((command, _)) = notice.parts() else {
         return "no ' = ' with an answer behind it";

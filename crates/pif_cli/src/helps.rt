@@ -18,6 +18,10 @@ pub const ABOUT_REPLAY: &str =
 pub const ABOUT_TRACE: &str =
     "Reads a script from the standard input, and writes the trace that 'pif replay' takes";
 
+/// What `migrate` does.
+pub const ABOUT_MIGRATE: &str =
+    "Reads a trace from the standard input, and writes it as a trace of version 2";
+
 /// What `show` does.
 pub const ABOUT_SHOW: &str =
     "Reads a script from the standard input, and shows for each of its lines the answer and the state";
@@ -30,6 +34,9 @@ pub const USAGE_REPLAY: &str = "pif replay < FILE";
 
 /// How `trace` is called.
 pub const USAGE_TRACE: &str = "pif trace < FILE";
+
+/// How `migrate` is called.
+pub const USAGE_MIGRATE: &str = "pif migrate < FILE";
 
 /// How `show` is called.
 pub const USAGE_SHOW: &str = "pif show < FILE";
@@ -63,6 +70,7 @@ The commands of scripts:
   go tN             thread N takes one step of its call
   finish tN         thread N goes on until its call is answered or waits
   end tN            thread N ends, whatever it does
+  tick N            the time is N from now on; it is 0 at first
   word mN           shows the word of mutex N
   health mN         shows whether mutex N is fine, inconsistent or unusable
   condword cN       shows how often condition variable N was signalled or broadcast
@@ -70,7 +78,7 @@ The commands of scripts:
   pick              shows the thread that runs next
 
 The calls Q: lock mN, trylock mN, unlock mN, consistent mN, setprio tN P, wait cN mN, signal cN,
-broadcast cN
+broadcast cN, timedlock mN D, timedwait cN mN D, which wait until the time is D
 
 Status: 0 done, 1 wrong words, 2 a fault of the script, 3 a read or write failed,
 4 out of memory.
@@ -78,8 +86,9 @@ Standard error says what went wrong, and in which line.";
 
 /// The end of the help of `replay`.
 pub const MORE_REPLAY: &str =
-    "A trace comes by < FILE, or by a pipe. Its first line is 'pif-trace 1'; each line behind it is a
-command, ' = ' and the answer that was recorded, as in 'thread 10 = t1'.
+    "A trace comes by < FILE, or by a pipe. Its first line is 'pif-trace 2', or 'pif-trace 1' of an
+older one; each line behind it is a command, ' = ' and the answer that was recorded, as in
+'thread 10 = t1'.
 
 The commands of traces:
   limits T M C S    the most threads, mutexes, variables and signals; on the second line only
@@ -90,6 +99,7 @@ The commands of traces:
   begin tN Q        thread N begins the call Q
   go tN             thread N takes one step of its call
   end tN            thread N ends
+  tick N            the time is N from now on; in version 2 alone
 
 It prints 'same N', with the number of answers; or 'differs L X', with the first line that differs
 and what the core gives there; or 'fault L cause', with the first line that is no line of a trace.
@@ -102,12 +112,24 @@ Standard error says what went wrong, and in which line.";
 pub const MORE_TRACE: &str =
     "A script comes by < FILE, or by a pipe, as 'pif run' takes it; 'pif run --help' names its commands.
 
-Its trace begins with 'pif-trace 1' and the line of the limits. Behind them stand the threads,
-mutexes and variables that were added, and each begin, go and end, all with what the core
+Its trace begins with 'pif-trace 2' and the line of the limits. Behind them stand the threads,
+mutexes and variables that were added, and each begin, go, end and tick, all with what the core
 answered, as in 'go t1 = went'. 'call' and 'finish' stand there as the begin and the go of which
 they are made. What was not added, and what only asks, leaves no line; nor does a fault.
 
 Status: 0 done, 1 wrong words, 2 a fault of the script, 3 a read or write failed,
+4 out of memory.
+Standard error says what went wrong, and in which line.";
+
+/// The end of the help of `migrate`.
+pub const MORE_MIGRATE: &str =
+    "A trace comes by < FILE, or by a pipe, of version 1 or 2, as 'pif replay' takes it.
+
+It is read to its end. Then it is written with 'pif-trace 2' as its first line, and all behind that
+as it is. Nothing is run and no answer is compared: 'pif replay' prints the same of both. The form of
+each line is checked; of a fault 'fault L cause' is printed, and nothing of the trace.
+
+Status: 0 done, 1 wrong words, 2 a fault of the trace, 3 a read or write failed,
 4 out of memory.
 Standard error says what went wrong, and in which line.";
 
@@ -116,6 +138,7 @@ pub const MORE_SHOW: &str =
     "A script comes by < FILE, or by a pipe, as 'pif run' takes it; 'pif run --help' names its commands.
 
 For each line it prints the line behind '> ', what 'pif run' answers it, and what there is then:
+  time N         the time, once one was handed in
   tN             its effective priority, and its base priority where that differs; what it does;
                  the call that it has open; the mutexes that it holds
   mN             its kind, and whether it is robust; its health; its word; its owner;

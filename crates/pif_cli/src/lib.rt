@@ -12,8 +12,8 @@ mod statuses;
 mod words;
 
 pub use pif_scripts::{
-    Cause, CliFault, replay, run, script_trace_is_the_same, trace, write_trace,
-    written_trace_is_the_same,
+    Cause, CliFault, migrate, migrated_trace_has_its_verdict, replay, run,
+    script_trace_is_the_same, trace, write_trace, written_trace_is_the_same,
 };
 pub use process::command_of_process;
 pub use statuses::Status;

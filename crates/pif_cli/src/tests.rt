@@ -31,7 +31,7 @@ const LOCKED: &str =
     go t1 = answer 0\n";
 
 const TRACED: &str =
-    "pif-trace 1\nlimits 1024 1024 256 4294967295 = ok\nthread 10 = t1\ngo t2 = refused nosuch\n";
+    "pif-trace 2\nlimits 1024 1024 256 4294967295 = ok\nthread 10 = t1\ngo t2 = refused nosuch\n";
 
 /// Asks the program for a job with these words over an input. Answers the status, and what is written to the output and to
 /// the errors.
@@ -86,6 +86,9 @@ fn each_job_ends_with_its_status(rt: HostRuntime) {
         ("trace", "", 0, ""),
         ("trace", "thread 10\npick\ngo t2\nthread 2", 2, TRACED),
         ("trace", LOCKED, 2, ""),
+        ("migrate", TRACED, 0, TRACED),
+        ("migrate", "pif-trace 1\n", 0, "pif-trace 2\n"),
+        ("migrate", "pif-trace 3\n", 2, "fault 1 command\n"),
     ];
     for (job, text, status, answers) in jobs {
         check(&rt, rt.alloc(), job, text, status, answers);
@@ -105,7 +108,7 @@ impl Read for Broken {
 
 #[test]
 fn a_failed_read_or_write_has_status_3(rt: HostRuntime) {
-    for job in ["run", "show", "replay", "trace"] {
+    for job in ["run", "show", "replay", "trace", "migrate"] {
         let words = ["pif", job];
         let mut output = Kept::new();
         let mut errors = Kept::new();

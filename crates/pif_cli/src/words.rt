@@ -5,20 +5,21 @@ ghost use Rattle.clap.specs.declared.builder.command.Command.TheViews.{out-Comma
 ghost use Rattle.clap.specs.declared.error.kind.ErrorKind.TheVariants.{DisplayHelp, DisplayVersion, MissingRequiredArgument, MissingSubcommand, ValueValidation};
 ghost use Rattle.pif_cli.specs.Messages.{TellsAt, TellsLine};
 ghost use Rattle.pif_cli.specs.Statuses.{fault_status};
-ghost use Rattle.pif_cli.specs.Words.{program, refusals_of, job_of, job_named, clients_in, clients_rule, drive_app, Did, Does, as_job, EndsBy, HadNoMemory, RefusedFor, Shows, ShowsHelp, bare_program, with_job};
+ghost use Rattle.pif_cli.specs.Words.{program, refusals_of, job_of, job_named, clients_in, clients_rule, drive_app, Did, Does, as_job, EndsBy, HadNoMemory, RefusedFor, Shows, ShowsHelp, bare_program, with_job, with_runs, with_traces};
 
 use crate::causes::{message_of, plain_message};
 use crate::drive::drive;
 use crate::helps::{
-    ABOUT, ABOUT_CLIENTS, ABOUT_DRIVE, ABOUT_REPLAY, ABOUT_RUN, ABOUT_SHOW, ABOUT_TRACE, EXAMPLE,
-    MORE_DRIVE, MORE_REPLAY, MORE_RUN, MORE_SHOW, MORE_TRACE, USAGE_DRIVE, USAGE_REPLAY, USAGE_RUN,
-    USAGE_SHOW, USAGE_TRACE, VERSION,
+    ABOUT, ABOUT_CLIENTS, ABOUT_DRIVE, ABOUT_MIGRATE, ABOUT_REPLAY, ABOUT_RUN, ABOUT_SHOW,
+    ABOUT_TRACE, EXAMPLE, MORE_DRIVE, MORE_MIGRATE, MORE_REPLAY, MORE_RUN, MORE_SHOW, MORE_TRACE,
+    USAGE_DRIVE, USAGE_MIGRATE, USAGE_REPLAY, USAGE_RUN, USAGE_SHOW, USAGE_TRACE, VERSION,
 };
 use crate::statuses::{JobFault, fault_status, job_fault_status};
 use clap::builder::ValueParser;
 use clap::error::ErrorKind;
 use pif_scripts::{
-    CliFault, Notice, replay_noting, run_noting, show_noting, trace_noting, write_whole,
+    CliFault, Notice, migrate_noting, replay_noting, run_noting, show_noting, trace_noting,
+    write_whole,
 };
 use std::alloc::{AllocError, Global};
 use std::convert::AsStr;
@@ -35,6 +36,8 @@ pub enum Job {
     Replay,
     /// `trace`: write the trace of a script.
     Trace,
+    /// `migrate`: write a trace as one of version 2.
+    Migrate,
     /// `show`: run a script, and show it to a person.
     Show,
     /// `drive`: let so many clients make calls in threads of their own.
@@ -71,13 +74,18 @@ fn with_job<'a>(
     pif.subcommand(job)
 }
 
-/// The program's commands.
-fn program<'a>(alloc: Global) -> Result<clap::Command<'a>, AllocError>
-    ensures { IfOk result (λ c. app_of c ≡ program) }
+/// The program with the commands over scripts that show answers.
+fn with_runs<'a>(alloc: Global, pif: clap::Command<'a>) -> Result<clap::Command<'a>, AllocError>
+    ensures { IfOk result (λ c. app_of c ≡ with_runs (app_of pif.entry)) }
 {
-    let pif = bare_program(alloc);
     let pif = with_job(alloc, pif, "run", ABOUT_RUN, USAGE_RUN, MORE_RUN)?;
-    let pif = with_job(alloc, pif, "show", ABOUT_SHOW, USAGE_SHOW, MORE_SHOW)?;
+    with_job(alloc, pif, "show", ABOUT_SHOW, USAGE_SHOW, MORE_SHOW)
+}
+
+/// The program with the commands over traces.
+fn with_traces<'a>(alloc: Global, pif: clap::Command<'a>) -> Result<clap::Command<'a>, AllocError>
+    ensures { IfOk result (λ c. app_of c ≡ with_traces (app_of pif.entry)) }
+{
     let pif = with_job(
         alloc,
         pif,
@@ -87,6 +95,22 @@ fn program<'a>(alloc: Global) -> Result<clap::Command<'a>, AllocError>
         MORE_REPLAY,
     )?;
     let pif = with_job(alloc, pif, "trace", ABOUT_TRACE, USAGE_TRACE, MORE_TRACE)?;
+    with_job(
+        alloc,
+        pif,
+        "migrate",
+        ABOUT_MIGRATE,
+        USAGE_MIGRATE,
+        MORE_MIGRATE,
+    )
+}
+
+/// The program's commands.
+fn program<'a>(alloc: Global) -> Result<clap::Command<'a>, AllocError>
+    ensures { IfOk result (λ c. app_of c ≡ program) }
+{
+    let pif = with_runs(alloc, bare_program(alloc))?;
+    let pif = with_traces(alloc, pif)?;
     pif.subcommand(drive_command(alloc)?)
 }
 
@@ -133,6 +157,8 @@ fn job_named(name: &str, given: Option<&str>) -> Job
         Job::Replay
     } else if name == "trace" {
         Job::Trace
+    } else if name == "migrate" {
+        Job::Migrate
     } else if name == "show" {
         Job::Show
     } else if name == "drive" {
@@ -191,6 +217,7 @@ fn do_job<T: Threads + Wait + Sync, R: Read, W: Write>(
         Job::Run => as_job(run_noting(alloc, input, output, notice)),
         Job::Replay => as_job(replay_noting(alloc, input, output, notice)),
         Job::Trace => as_job(trace_noting(alloc, input, output, notice)),
+        Job::Migrate => as_job(migrate_noting(alloc, input, output, notice)),
         Job::Show => as_job(show_noting(alloc, input, output, notice)),
         Job::Drive(clients) => drive(alloc, rt, clients, output),
     }
@@ -277,7 +304,8 @@ fn refuse<W: Write, E: Write>(
 /// The program over its words, the program's name first. `pif run` reads a script from `input`, and writes what its
 /// lines are answered, and the line of a fault, to `output`. `pif replay` reads a trace from `input`, and writes to
 /// `output` what it comes to, as `replay` does. `pif trace` reads a script from `input`, and writes its trace to
-/// `output`, as `trace` does, without the line of a fault. `pif show` reads a script from `input`, and writes to `output`
+/// `output`, as `trace` does, without the line of a fault. `pif migrate` reads a trace from `input`, and writes it to
+/// `output` as one of version 2, or the line of its fault, as `migrate` does. `pif show` reads a script from `input`, and writes to `output`
 /// each line, its answer and the state behind it, as `show` does. `pif drive N` lets N clients, 1 to 64, make their calls in
 /// threads of their own, as `rt` starts them, reads nothing, and writes to `output` how many were answered, as `drive`
 /// does.
@@ -308,13 +336,15 @@ pub fn command<T: Threads + Wait + Sync, S: AsStr, R: Read, W: Write, E: Write>(
     }
 }
 
-/// Which words ask for which job: `run` alone, `replay` alone, `trace` alone, `show` alone, and `drive` with a number from 1 to 64 do;
+/// Which words ask for which job: `run` alone, `replay` alone, `trace` alone, `migrate` alone,
+/// `show` alone, and `drive` with a number from 1 to 64 do;
 /// no word, `--help` and `--version` don't.
 #[tactic(auto, unfolding(clap::proofs::OnLiterals::clap_on_literals))]
 pub fn words_of_the_program()
     ensures run { (name : List ℕ) → (refusals_of (name ∷ codes "run" ∷ []) ≡ []) × (job_of (name ∷ codes "run" ∷ []) ≡ Job.Run) }
     ensures replay { (name : List ℕ) → (refusals_of (name ∷ codes "replay" ∷ []) ≡ []) × (job_of (name ∷ codes "replay" ∷ []) ≡ Job.Replay) }
     ensures trace { (name : List ℕ) → (refusals_of (name ∷ codes "trace" ∷ []) ≡ []) × (job_of (name ∷ codes "trace" ∷ []) ≡ Job.Trace) }
+    ensures migrate { (name : List ℕ) → (refusals_of (name ∷ codes "migrate" ∷ []) ≡ []) × (job_of (name ∷ codes "migrate" ∷ []) ≡ Job.Migrate) }
     ensures show { (name : List ℕ) → (refusals_of (name ∷ codes "show" ∷ []) ≡ []) × (job_of (name ∷ codes "show" ∷ []) ≡ Job.Show) }
     ensures least { (name : List ℕ) → (refusals_of (name ∷ codes "drive" ∷ codes "1" ∷ []) ≡ []) × (job_of (name ∷ codes "drive" ∷ codes "1" ∷ []) ≡ Job.Drive 1) }
     ensures most { (name : List ℕ) → (refusals_of (name ∷ codes "drive" ∷ codes "64" ∷ []) ≡ []) × (job_of (name ∷ codes "drive" ∷ codes "64" ∷ []) ≡ Job.Drive 64) }

@@ -1,13 +1,15 @@
 -- What the soundness of a table gives to the next step of a call on a condition variable.
-use Rattle.std.proofs.Common.{◌≡◌, ℕ, ◌<◌, true, false, ap, ◌∙◌, sym, subst}
+use Rattle.std.proofs.Common.{◌≡◌, ℕ, ◌<◌, true, false, refl, ap, ◌∙◌, sym, subst}
 use Rattle.std.proofs.lemmas.Bool.{true≢false}
 use Rattle.pif_types.specs.declared.requests.Request.{Request}
-use Rattle.pif_types.specs.declared.requests.Request.TheVariants.{Wait, Signal, Broadcast}
+use Rattle.pif_types.specs.declared.requests.Request.TheVariants.{Lock, Wait, Signal, Broadcast}
 use Rattle.pif_model.specs.declared.lines.Line.TheVariants.{At}
 use Rattle.pif_model.specs.declared.lines.Place.{Place}
 use Rattle.pif_model.specs.declared.lines.Place.TheVariants.{WaitLoad, WaitUses, WaitPending, WaitHealth, WaitStore, WaitUnlink, WaitExchange, WaitKernel, WaitPark, WaitParked, UseExchange}
+use Rattle.pif_model.specs.declared.lines.Status.{Status}
 use Rattle.pif_model.specs.PiKernel.{is_living}
 use Rattle.pif_model.specs.Table.{Table, line_at}
+use Rattle.pif_model.specs.Lines.{counts_at}
 use Rattle.pif_model.specs.Standing.{belongs, is_locking, CallIsSound, LineIsSound, IsSound}
 use Rattle.pif_simulation.proofs.Hole.{each_thread}
 use Rattle.pif_mutex.specs.Steppable.{is_of_mutexes}
@@ -51,3 +53,10 @@ pub handed_on : (s : Table) (t : ℕ) (q : Request) (p : Place) → IsSound s �
     → is_of_mutexes (line_at s t) ≡ true
 handed_on s t q p h k e o other =
     rw e (of_mutexes q p (call_of s t q p h k e).belongs (rw e at o) other)
+
+-- of the calls whose next step is their own only a wait has a deadline that counts
+pub due_waits : (q : Request) (p : Place) (x : Status) → is_own q p ≡ true → counts_at q p x ≡ true
+    → (c : ℕ) × ((m : ℕ) × (q ≡ Wait c m))
+due_waits (Wait c m) p x o e = (c, (m, refl))
+due_waits (Lock m) p x o e = absurd (true≢false (sym o))
+due_waits _ p x o e = absurd (true≢false (sym e))

@@ -26,12 +26,16 @@
 //! | `WaitParked`, handed over, robust | loads the mutex's word | `TakeHealth` with whether OWNER_DIED is set |
 //! | `WaitParked`, handed over, stalled | no access | 0 |
 //! | `WaitParked`, woken to lock it | the step of `LockExchange` | as of `LockExchange` |
+//! | `WaitParked`, due | expire | `LockExchange`; from now on ETIMEDOUT in place of 0 |
 //! | `WaitParked`, else | no access | waits |
 //! | `UseLoad` | loads the condition word, `v` | used as often as it may be: EOVERFLOW; else `UseExchange` |
 //! | `UseExchange` | compare-exchange of the condition word from `v` to `v + 1` | done: `UseRequeue` with `v + 1` |
 //! | | | failed: as `UseLoad`, with what the word is |
 //! | `UseRequeue` | cmp_requeue_pi, which expects `v` | done: 0; EAGAIN: `UseReload`; any other error |
 //! | `UseReload` | loads the condition word, `v` | `UseRequeue` |
+//!
+//! A wait is due while it is parked and its deadline is reached. Its next step is then its expiry, and nothing else.
+//! Moved to the mutex, or woken, it is due no more, nor is the lock after an expiry.
 //!
 //! cmp_requeue_pi is for the mutex to which the variable is bound: a signal takes 1 thread, a broadcast up to 1,025.
 //!

@@ -1,28 +1,30 @@
 ghost use Rattle.std.specs.Prelude.{ℕ, ◌≡◌, ◌≢◌, ◌<◌, true};
 ghost use Rattle.pif_types.specs.declared.requests.Request;
+ghost use Rattle.pif_model.specs.declared.lines.Line;
 ghost use Rattle.pif_model.specs.declared.lines.Place;
 ghost use Rattle.pif_model.specs.PiKernel.{is_living};
-ghost use Rattle.pif_model.specs.Table.{line_at, cell_at, has_thread, has_cond};
-ghost use Rattle.pif_model.specs.Lines.{line_of, use_line, go_outcome};
+ghost use Rattle.pif_model.specs.Table.{line_at, cell_at, has_thread, has_cond, status_at};
+ghost use Rattle.pif_model.specs.Lines.{line_of, use_line, counts_at, expires_at, go_outcome};
 ghost use Rattle.pif_mutex.specs.Outcomes.{outcome_of};
 ghost use Rattle.pif_mutex.specs.Steppable.{CallMayStep};
 ghost use Rattle.pif_cond.specs.Conditions.{is_of_conditions, is_of_wait, is_own};
 
 use crate::uses::{use_exchange, use_load, use_reload, use_requeue};
 use crate::wait::{
-    wait_exchange, wait_health, wait_kernel, wait_load, wait_park, wait_parked, wait_store,
-    wait_unlink, wait_uses,
+    wait_exchange, wait_expire, wait_health, wait_kernel, wait_load, wait_park, wait_parked,
+    wait_store, wait_unlink, wait_uses,
 };
 use pif_kernel::PiKernel;
 use pif_model::{Line, Place};
-use pif_mutex::{Parts, Progress, State};
+use pif_mutex::{Parts, Progress, State, told};
 use pif_types::{CondId, Errno, MutexId, Request, Tid};
 
 /// The thread, which lives and has a wait, a signal or a broadcast open, takes one step of it: one access of one word,
 /// one write of its robust list, one kernel call, or the answer with no access where the variable is bound to another
-/// mutex, and after a stalled mutex was handed to it; or it waits, and nothing changes (POSIX, pthread_cond_wait,
-/// pthread_cond_signal and pthread_cond_broadcast; futex(2), FUTEX_WAIT_REQUEUE_PI and FUTEX_CMP_REQUEUE_PI). Whoever
-/// owns a mutex after the step and did not before holds it once: the thread, the next waiter, or a thread that was
+/// mutex, and after a stalled mutex was handed to it; or it waits, and nothing changes. A wait that is parked and
+/// whose deadline is reached expires, by the kernel call expire, and does nothing else; after that it is answered
+/// ETIMEDOUT in place of 0 (POSIX, pthread_cond_wait, pthread_cond_timedwait, pthread_cond_signal and
+/// pthread_cond_broadcast; futex(2), FUTEX_WAIT_REQUEUE_PI and FUTEX_CMP_REQUEUE_PI). Whoever owns a mutex after the step and did not before holds it once: the thread, the next waiter, or a thread that was
 /// parked.
 pub fn advance<K: PiKernel + Drop>(parts: &mut Parts<K>, t: Tid) -> Progress
     requires living { is_living parts.old.kernel t ≡ true }
@@ -34,7 +36,7 @@ pub fn advance<K: PiKernel + Drop>(parts: &mut Parts<K>, t: Tid) -> Progress
     match parts.state.line(t) {
         Line::At(request, place) => {
             if is_own(&request, &place) {
-                step(&mut parts.state, request, place, t)
+                go(&mut parts.state, request, place, t)
             } else {
                 pif_mutex::advance(parts, t)
             }
@@ -73,7 +75,47 @@ fn is_of_wait(place: &Place) -> bool
     }
 }
 
-/// One step of the open call of `t`, which is this request at this place, on a condition variable.
+/// One step of the open call of `t`, which is this request at this place, on a condition variable. A wait that is due
+/// expires, and does nothing else.
+#[tactic(auto, unfolding(pif_model::specs::Lines::go_outcome))]
+fn go<K: PiKernel + Drop>(state: &mut State<K>, request: Request, place: Place, t: Tid) -> Progress
+    requires living { is_living state.old.kernel t ≡ true }
+    requires line { line_at state.old t ≡ Line.At request place }
+    requires own { is_own request place ≡ true }
+    requires call { CallMayStep state.old t request place }
+    requires below { (v : ℕ) → place ≡ Place.UseExchange v → v < state.old.limits.signals }
+    ensures { outcome_of result state.new ≡ go_outcome (Line.At request place) t state.old }
+{
+    if state.is_due(t) {
+        expire_at(state, request, place, t)
+    } else {
+        let expired = state.timer(t).expired;
+        let progress = step(state, request, place, t);
+        told(&request, expired, progress)
+    }
+}
+
+/// The expiry of the open call of `t`, which is this request at this place, where its deadline counts: a wait.
+#[tactic(auto, unfolding(pif_model::specs::Lines::expires_at), using(crate::proofs::Stepping::due_waits))]
+fn expire_at<K: PiKernel + Drop>(
+    state: &mut State<K>,
+    request: Request,
+    place: Place,
+    t: Tid,
+) -> Progress
+    requires living { is_living state.old.kernel t ≡ true }
+    requires own { is_own request place ≡ true }
+    requires call { CallMayStep state.old t request place }
+    requires counts { counts_at request place (status_at state.old t) ≡ true }
+    ensures { outcome_of result state.new ≡ expires_at request place t state.old }
+{
+    match request {
+        Request::Wait(c, m) => wait_expire(state, c, m, t),
+        _ => unreachable!(),
+    }
+}
+
+/// The line of the open call of `t`, which is this request at this place, on a condition variable.
 #[tactic(auto, unfolding(pif_model::specs::Lines::line_of))]
 fn step<K: PiKernel + Drop>(
     state: &mut State<K>,

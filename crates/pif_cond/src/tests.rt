@@ -1,10 +1,11 @@
-ghost use Rattle.std.specs.Prelude.{◌≡◌, true, Some, None};
+ghost use Rattle.std.specs.Prelude.{◌≡◌, true, None};
 ghost use Rattle.pif_model.specs.PiKernel.{is_living};
 ghost use Rattle.pif_model.specs.Table.{has_thread, has_mutex, has_cond, line_at};
 ghost use Rattle.pif_model.specs.Lines.{is_open};
 ghost use Rattle.pif_model.specs.Posix.{names_known};
 
 use crate::advance;
+use pif_model::Line;
 use pif_mutex::{Parts, Progress};
 use pif_plain::PlainKernel;
 use pif_types::{CondId, Kind, Limits, MutexId, Prio, Request, Tid};
@@ -84,9 +85,14 @@ fn names_known(parts: &Parts<PlainKernel>, request: &Request) -> bool
     ensures { result ≡ true → names_known (has_mutex parts.now) (has_cond parts.now) request.now ≡ true }
 {
     match *request {
-        Request::Lock(m) | Request::TryLock(m) | Request::Unlock(m) | Request::Consistent(m) =>
-            m.get() <= parts.mutexes(),
-        Request::Wait(c, m) => c.get() <= parts.conds() && m.get() <= parts.mutexes(),
+        Request::Lock(m)
+        | Request::TryLock(m)
+        | Request::Unlock(m)
+        | Request::Consistent(m)
+        | Request::TimedLock(m, _) => m.get() <= parts.mutexes(),
+        Request::Wait(c, m) | Request::TimedWait(c, m, _) => {
+            c.get() <= parts.conds() && m.get() <= parts.mutexes()
+        }
         Request::Signal(c) | Request::Broadcast(c) => c.get() <= parts.conds(),
         Request::SetPrio(_, _) => true,
     }
@@ -107,8 +113,10 @@ fn go(parts: &mut Parts<PlainKernel>, t: Tid) -> Option<Progress> {
     if !may_act(parts, t, true) {
         return None;
     }
-    match parts.open_call(t)? {
-        Request::Wait(_, _) | Request::Signal(_) | Request::Broadcast(_) => Some(advance(parts, t)),
+    match parts.state.line(t) {
+        Line::At(Request::Wait(_, _) | Request::Signal(_) | Request::Broadcast(_), _) => {
+            Some(advance(parts, t))
+        }
         _ => Some(pif_mutex::advance(parts, t)),
     }
 }

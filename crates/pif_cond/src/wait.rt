@@ -1,14 +1,14 @@
-ghost use Rattle.std.specs.Prelude.{◌≡◌, true};
+ghost use Rattle.std.specs.Prelude.{◌≡◌, true, false};
 ghost use Rattle.pif_types.specs.declared.requests.Request;
 ghost use Rattle.pif_model.specs.declared.lines.Place;
-ghost use Rattle.pif_model.specs.Lines.{goes_to, gives_up, wait_load, wait_uses, wait_health, wait_exchange, wait_park, wait_parked};
-ghost use Rattle.pif_model.specs.PiKernel.{is_ready};
+ghost use Rattle.pif_model.specs.Lines.{goes_to, gives_up, wait_load, wait_uses, wait_health, wait_exchange, wait_park, wait_parked, expires_at};
+ghost use Rattle.pif_model.specs.PiKernel.{is_living, is_ready};
 ghost use Rattle.pif_model.specs.RobustList.{is_listed, without_listed};
 ghost use Rattle.pif_model.specs.Table.{has_thread, has_mutex, has_cond, status_at, with_health_word, with_lists};
 ghost use Rattle.pif_mutex.specs.Outcomes.{outcome_of};
 
 use pif_kernel::{PiKernel, Status, Woken};
-use pif_model::Place;
+use pif_model::{Place, Timer};
 use pif_mutex::{INCONSISTENT, Progress, State, UNUSABLE};
 use pif_types::{CondId, Errno, MutexId, Request, Tid};
 use pif_word::number;
@@ -198,4 +198,30 @@ pub(crate) fn wait_parked<K: PiKernel + Drop>(
         Status::Ready(Woken::Again) => state.own_exchange(request, Place::LockKernel, t, m),
         _ => state.lock_queued(request, t, m),
     }
+}
+
+/// The deadline of a wait that is parked is reached: the kernel call expire. The wait has expired, and locks its mutex
+/// again, for which no deadline counts (POSIX, pthread_cond_timedwait).
+#[tactic(auto, unfolding(pif_model::specs::Lines::expires_at, pif_model::specs::Lines::expired_in), using(pif_mutex::proofs::KernelLeaves::expire_keeps_threads))]
+pub(crate) fn wait_expire<K: PiKernel + Drop>(
+    state: &mut State<K>,
+    c: CondId,
+    m: MutexId,
+    t: Tid,
+) -> Progress
+    requires known { has_thread state.old t ≡ true }
+    requires living { is_living state.old.kernel t ≡ true }
+    requires unready { is_ready (status_at state.old t) ≡ false }
+    ensures { outcome_of result state.new ≡ expires_at (Request.Wait c m) Place.WaitParked t state.old }
+{
+    let deadline = state.timer(t).deadline;
+    state.expire(t);
+    state.set_timer(
+        t,
+        Timer {
+            deadline,
+            expired: true,
+        },
+    );
+    state.go_on(Request::Wait(c, m), Place::LockExchange, t)
 }

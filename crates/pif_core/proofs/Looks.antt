@@ -44,6 +44,10 @@ module _ (s : Table) (h : List Entry) (r : List World) (w : World) (st : Stands 
       said_by (λ x. IsDoing w t x) (has_thread s t) (status_at s t) o e
       (λ known. subst (λ u. IsDoing u t (status_at s t)) (sym st.shows) (doing_seen st.sound st.shadow t known))
 
+  -- the time is the machine's
+  pub time_answered : (n : ℕ) → n ≡ s.time → n ≡ w.time
+  time_answered n e = e ∙ sym (ap (λ (u : World). u.time) st.shows)
+
   -- the open call is the thread's
   pub open_answered : (t : ℕ) (o : Option Request) → o ≡ open_call_answer t s → o ≡ call_of w t
   open_answered t o e = e ∙ open_seen st.sound st.shadow t ∙ ap (λ u. call_of u t) (sym st.shows)

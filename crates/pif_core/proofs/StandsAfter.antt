@@ -11,7 +11,7 @@ use Rattle.pif_model.specs.declared.events.Event.{Event}
 use Rattle.pif_model.specs.declared.events.Seen.{Seen}
 use Rattle.pif_model.specs.declared.events.Entry.{Entry}
 use Rattle.pif_model.specs.declared.events.Entry.TheVariants.{Thread as AddThread, Mutex as AddMutex, Cond as AddCond, Step as Happened}
-use Rattle.pif_model.specs.Posix.{World, IsLegal, is_thread, is_mutex, is_variable, thread_at, mutex_at, rests, effective_of}
+use Rattle.pif_model.specs.Posix.{World, IsLegal, is_thread, is_mutex, is_variable, is_due, thread_at, mutex_at, rests, effective_of}
 use Rattle.pif_model.specs.Posix.Health.{Inconsistent as WasInconsistent}
 use Rattle.pif_model.specs.Posix.{is_living as lives}
 use Rattle.pif_model.specs.History.{AlwaysOneHolder}
@@ -19,11 +19,12 @@ use Rattle.pif_model.specs.PiKernel.{is_living, is_ready, effective_in, pick_in}
 use Rattle.pif_model.specs.Table.{Table, cell_at, line_at, status_at, has_thread, has_mutex, has_cond, uses_of, thread_added, mutex_added, cond_added}
 use Rattle.pif_model.specs.Calls.{effective_answer, word_answer, health_answer, cond_word_answer, pick_answer, waiting_answer}
 use Rattle.pif_model.specs.Word.{word_of, bits_of, health_in, health_word}
-use Rattle.pif_model.specs.Lines.{is_open, event_outcome}
+use Rattle.pif_model.specs.Lines.{is_open, is_due_in, event_outcome}
 use Rattle.pif_model.specs.Standing.{Stands, HasEffective, IsPick, IsPossible, IsPossibleHealth, IsPossibleUses, ArePossible}
 use Rattle.pif_simulation.proofs.StandingLaws.{event_stands, thread_added_stands, mutex_added_stands, cond_added_stands}
 use Rattle.pif_simulation.proofs.Holders.{one_holder}
 use Rattle.pif_simulation.proofs.Shown.{threads_shown, is_thread_seen, is_mutex_seen, is_variable_seen, living_seen, busy_seen}
+use Rattle.pif_simulation.proofs.Due.{due_seen}
 use Rattle.pif_simulation.proofs.Steps.{rests_ready, rests_not_ready}
 use Rattle.pif_simulation.proofs.Effective.{effective_seen}
 use Rattle.pif_simulation.proofs.Picks.{pick_runs, word_is_possible, health_is_possible, died_behind_inconsistent, uses_are_possible}
@@ -243,28 +244,50 @@ rests_said s t h r w st k =
     (λ e. sym (ap (λ (u : World). rests u t) st.shows ∙ rests_ready st.sound st.shadow t k e))
     (λ e. sym (ap (λ (u : World). rests u t) st.shows ∙ rests_not_ready st.sound st.shadow t k e))
 
+-- whether a thread rests on at its next step: it rests, and its call is not due
+abbrev rests_on : World → ℕ → Bool
+rests_on w t = if rests w t then (if is_due w t then false else true) else false
+
+-- a living thread rests on where it may not run and its call is not due
+rests_on_said : (s : Table) (t : ℕ) (h : List Entry) (r : List World) (w : World) → Stands s h r w
+    → is_living s.kernel t ≡ true
+    → (if is_ready (status_at s t) then false else (if is_due_in s t then false else true)) ≡ rests_on w t
+rests_on_said s t h r w st k =
+    both (is_ready (status_at s t)) (is_due_in s t) (rests w t) (is_due w t) (rests_said s t h r w st k)
+    (ap (λ (u : World). is_due u t) st.shows ∙ due_seen st.sound st.shadow t k)
+  where
+    both : (ready due resting now : Bool) → (if ready then false else true) ≡ resting → now ≡ due
+        → (if ready then false else (if due then false else true))
+        ≡ (if resting then (if now then false else true) else false)
+    both true due resting now e f = ap (λ b. if b then (if now then false else true) else false) e
+    both false due resting now e f =
+        ap (λ b. if b then false else true) (sym f)
+        ∙ ap (λ b. if b then (if now then false else true) else false) e
+
 -- the reader of who rests
 pub waiting_answered : (s : Table) (t : ℕ) (o : Option Bool) (h : List Entry) (r : List World) (w : World)
-    → Stands s h r w → o ≡ waiting_answer t s → IfSome o (λ b. b ≡ rests w t)
+    → Stands s h r w → o ≡ waiting_answer t s
+    → IfSome o (λ b. b ≡ (if rests w t then (if is_due w t then false else true) else false))
 waiting_answered s t o h r w st e =
-    subst (λ (x : Option Bool). IfSome x (λ b. b ≡ rests w t)) (sym e)
-    (by_tests (is_living s.kernel t) (is_open (line_at s t)) (rests_said s t h r w st))
+    subst (λ (x : Option Bool). IfSome x (λ b. b ≡ rests_on w t)) (sym e)
+    (by_tests (is_living s.kernel t) (is_open (line_at s t))
+    (if is_ready (status_at s t) then false else (if is_due_in s t then false else true))
+    (rests_on_said s t h r w st))
   where
-    by_tests : (living called : Bool) → (living ≡ true → (if is_ready (status_at s t) then false else true) ≡ rests w t)
-        → IfSome (if living then (if called then Some (if is_ready
-        (status_at s t) then false else true) else None) else None)
-        (λ b. b ≡ rests w t)
-    by_tests true true f = f refl
-    by_tests true false f = tt
-    by_tests false called f = tt
+    by_tests : (living called said : Bool) → (living ≡ true → said ≡ rests_on w t)
+        → IfSome (if living then (if called then Some said else None) else None) (λ b. b ≡ rests_on w t)
+    by_tests true true said f = f refl
+    by_tests true false said f = tt
+    by_tests false called said f = tt
 
 -- the reader of who rests answers for living threads with a call open
 pub waiting_is_some : (s : Table) (t : ℕ) (o : Option Bool) (h : List Entry) (r : List World) (w : World)
     → Stands s h r w → o ≡ waiting_answer t s
     → is_some o ≡ (if lives w t then is_some (thread_at w t).call else false)
 waiting_is_some s t o h r w st e =
-    ap is_some e ∙ there (is_living s.kernel t) (is_open (line_at s t)) (if is_ready
-    (status_at s t) then false else true)
+    ap is_some e
+    ∙ there (is_living s.kernel t) (is_open (line_at s t))
+    (if is_ready (status_at s t) then false else (if is_due_in s t then false else true))
     ∙ sym (ap₂ (λ a b. if a then b else false) living busy)
   where
     there : (living called said : Bool) → is_some (if living then (if called then Some said else None) else None)

@@ -2,7 +2,7 @@ ghost use Rattle.std.specs.Prelude.{ℕ, ◌≡◌, ◌+◌, length, true, false
 ghost use Rattle.pif_model.specs.declared.events.Entry.{Entry};
 ghost use Rattle.pif_model.specs.Word.{word_of, health_word};
 ghost use Rattle.pif_model.specs.PiKernel.{is_living};
-ghost use Rattle.pif_model.specs.Posix.{World, IsLegal, is_mutex, is_variable, names_known, thread_at, rests};
+ghost use Rattle.pif_model.specs.Posix.{World, IsLegal, is_mutex, is_variable, is_due, names_known, thread_at, rests};
 ghost use Rattle.pif_model.specs.Posix.{is_living as lives};
 ghost use Rattle.pif_model.specs.History.{AlwaysOneHolder};
 ghost use Rattle.pif_model.specs.Standing.{Stands, HasEffective, IsPick, IsPossible, IsPossibleHealth, IsPossibleUses, ArePossible};
@@ -11,7 +11,7 @@ ghost use Rattle.pif_model.specs.Lines.{table_refusal, accepted_outcome, event_o
 ghost use Rattle.pif_model.specs.Calls.{add_thread_answer, add_thread_after, add_mutex_answer, add_mutex_after, add_cond_answer, add_cond_after, effective_answer, word_answer, health_answer, cond_word_answer, pick_answer, threads_answer, waiting_answer};
 ghost use Rattle.pif_mutex.specs.Outcomes.{outcome_of};
 
-use pif_model::{Entry, Event, Seen};
+use pif_model::{Entry, Event, Line, Seen};
 use pif_mutex::{Parts, Progress};
 use pif_plain::PlainKernel;
 use pif_types::{
@@ -109,7 +109,8 @@ impl Core {
     /// One event: what it is answered. It is refused, and nothing changes, by the first of these that holds: `NoSuch`
     /// where the thread was never added, `Dead` where it has ended, `Busy` where a thread with a call open begins one,
     /// `Idle` where a thread goes on that has none, and `NoSuch` where the mutex or the condition variable of a call
-    /// was never added. A thread may end at any point, with a call open or not. A call that is open closes or waits
+    /// was never added. A tick, which belongs to no thread, is refused, by `Past`, where it would set the time back. A
+    /// thread may end at any point, with a call open or not. A call that is open closes or waits
     /// within 24 steps of its thread, where no other event comes between.
     pub fn step(&mut self, event: Event) -> Seen
         ensures seen { result ≡ (event_outcome event self.old).seen }
@@ -186,14 +187,14 @@ impl Core {
     }
 
     /// Whether a thread rests: true where it is among the waiters of a mutex, is blocked on a condition variable or
-    /// waits for good, false where it may take a step. `None` where no living thread has that number, or where that
-    /// thread has no call open.
+    /// waits for good, false where it may take a step, also where that step is an expiry, since its deadline is reached.
+    /// `None` where no living thread has that number, or where that thread has no call open.
     pub fn waiting(&self, thread: Tid) -> Option<bool>
         ensures value { result ≡ waiting_answer thread self.now }
         ensures open { (h : List Entry) (r : List World) (w : World) → Stands self.now h r w
             → is_some result ≡ (if lives w thread then is_some (thread_at w thread).call else false) }
         ensures rests { (h : List Entry) (r : List World) (w : World) → Stands self.now h r w
-            → IfSome result (λ b. b ≡ rests w thread) }
+            → IfSome result (λ b. b ≡ (if rests w thread then (if is_due w thread then false else true) else false)) }
     {
         self.resting(thread)
     }
@@ -214,7 +215,7 @@ impl Core {
         self.parts.threads()
     }
 
-    /// Whether a living thread with a call open rests.
+    /// Whether a living thread with a call open rests, and its next step is no expiry.
     fn resting(&self, thread: Tid) -> Option<bool>
         ensures { result ≡ waiting_answer thread self.now }
     {
@@ -222,7 +223,7 @@ impl Core {
             return None;
         }
         if self.parts.is_open(thread) {
-            Some(!self.parts.is_ready(thread))
+            Some(!self.parts.is_ready(thread) && !self.parts.is_due(thread))
         } else {
             None
         }
@@ -257,8 +258,11 @@ impl Core {
             Request::Lock(mutex)
             | Request::TryLock(mutex)
             | Request::Unlock(mutex)
-            | Request::Consistent(mutex) => self.has_mutex(mutex),
-            Request::Wait(cond, mutex) => self.has_cond(cond) && self.has_mutex(mutex),
+            | Request::Consistent(mutex)
+            | Request::TimedLock(mutex, _) => self.has_mutex(mutex),
+            Request::Wait(cond, mutex) | Request::TimedWait(cond, mutex, _) => {
+                self.has_cond(cond) && self.has_mutex(mutex)
+            }
             Request::Signal(cond) | Request::Broadcast(cond) => self.has_cond(cond),
             Request::SetPrio(_, _) => true,
         }
@@ -310,6 +314,17 @@ impl Core {
         }
     }
 
+    /// Why a tick is refused, if it is: it would set the time back.
+    fn tick_refusal(&self, time: u32) -> Option<Refusal>
+        ensures { result ≡ table_refusal self.now (Event.Tick time) }
+    {
+        if time < self.parts.time() {
+            Some(Refusal::Past)
+        } else {
+            None
+        }
+    }
+
     /// Why an event is refused, if it is.
     fn refusal(&self, event: &Event) -> Option<Refusal>
         ensures { result ≡ table_refusal self.now event.now }
@@ -318,6 +333,7 @@ impl Core {
             Event::Begin(thread, request) => self.begin_refusal(thread, request),
             Event::Go(thread) => self.go_refusal(thread),
             Event::End(thread) => self.thread_refusal(thread),
+            Event::Tick(time) => self.tick_refusal(time),
         }
     }
 
@@ -343,6 +359,7 @@ impl Core {
             Event::Begin(thread, request) => self.begin(thread, request),
             Event::Go(thread) => self.go(thread),
             Event::End(thread) => self.end(thread),
+            Event::Tick(time) => self.tick(time),
         }
     }
 
@@ -376,9 +393,10 @@ impl Core {
         requires { table_refusal self.old (Event.Go thread) ≡ None }
         ensures { outcome_of result self.new ≡ go_outcome (line_at self.old thread) thread self.old }
     {
-        match self.parts.open_call(thread) {
-            Some(Request::Wait(_, _) | Request::Signal(_) | Request::Broadcast(_)) =>
-                pif_cond::advance(&mut self.parts, thread),
+        match self.parts.state.line(thread) {
+            Line::At(Request::Wait(_, _) | Request::Signal(_) | Request::Broadcast(_), _) => {
+                pif_cond::advance(&mut self.parts, thread)
+            }
             _ => pif_mutex::advance(&mut self.parts, thread),
         }
     }
@@ -392,5 +410,16 @@ impl Core {
     {
         self.parts.end(thread);
         Seen::Ended
+    }
+
+    /// The time is this from now on, which is not refused.
+    #[tactic(auto, unfolding(pif_model::specs::Lines::accepted_outcome))]
+    fn tick(&mut self, time: u32) -> Seen
+        requires { table_refusal self.old (Event.Tick time) ≡ None }
+        ensures seen { result ≡ (accepted_outcome (Event.Tick time) self.old).seen }
+        ensures after { self.new ≡ (accepted_outcome (Event.Tick time) self.old).after }
+    {
+        self.parts.tick(time);
+        Seen::Ticked
     }
 }

@@ -14,6 +14,7 @@
 //! | | `Idle` | the thread has no call open |
 //! | `End` | `NoSuch` | the thread was never added |
 //! | | `Dead` | the thread has ended |
+//! | `Tick` | `Past` | the time is before the present one |
 //! | `add_thread` | `BadPrio` | the priority is outside 1 to 99 |
 //! | | `TooMany` | as many threads were added as the limits allow |
 //! | `add_mutex` | `TooMany` | as many mutexes were added as the limits allow |

@@ -29,6 +29,14 @@ impl Core {
         self.parts.conds()
     }
 
+    /// The time: that of the last tick that was not refused, 0 before the first. Its unit is the caller's.
+    pub fn time(&self) -> u32
+        ensures value { result ≡ self.now.time }
+        ensures time { (h : List Entry) (r : List World) (w : World) → Stands self.now h r w → result ≡ w.time }
+    {
+        self.parts.time()
+    }
+
     /// The base priority of a thread: the one with which it was added, or which a pthread_setschedprio gave it last.
     /// `None` where no living thread has that number.
     pub fn base(&self, thread: Tid) -> Option<Prio>
@@ -53,7 +61,7 @@ impl Core {
         self.doing(thread)
     }
 
-    /// The call that a thread has open. `None` where it has none, has ended, or was never added.
+    /// The call that a thread has open, as it was made. `None` where it has none, has ended, or was never added.
     pub fn open_call(&self, thread: Tid) -> Option<Request>
         ensures value { result ≡ open_call_answer thread self.now }
         ensures open { (h : List Entry) (r : List World) (w : World) → Stands self.now h r w

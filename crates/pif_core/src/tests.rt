@@ -1,3 +1,5 @@
+mod deadlines;
+
 use crate::Core;
 use pif_model::{Event, Seen, Status, Woken};
 use pif_types::{AddFault, CondId, Health, Kind, Limits, MutexId, Prio, Refusal, Request, Tid};

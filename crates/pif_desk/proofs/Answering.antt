@@ -9,14 +9,15 @@ use Rattle.pif_types.specs.Bounds.{Bounds}
 use Rattle.pif_types.specs.declared.errors.Refusal.{Refusal}
 use Rattle.pif_types.specs.declared.requests.Request.{Request}
 use Rattle.pif_model.specs.declared.events.Event.{Event}
-use Rattle.pif_model.specs.declared.events.Event.TheVariants.{Begin, Go, End}
+use Rattle.pif_model.specs.declared.events.Event.TheVariants.{Begin, Go, End, Tick}
 use Rattle.pif_model.specs.declared.events.Seen.TheVariants.{Begun, Answered, Ended, Refused}
 use Rattle.pif_model.specs.declared.events.Entry.{Entry}
 use Rattle.pif_model.specs.declared.events.Entry.TheVariants.{Thread as AddThread, Mutex as AddMutex, Cond as AddCond, Step as Happened}
+use Rattle.pif_model.specs.Deadlines.{plain, told}
 use Rattle.pif_model.specs.Refusals.{go_refused}
 use Rattle.pif_model.specs.History.{open_call, open_after}
 use Rattle.pif_model.specs.Posix.{Call as MachineCall, World, is_thread, is_living, thread_at, refusal_of, Step, IsRun}
-use Rattle.pif_model.specs.Posix.Step.{thread_added, mutex_added, cond_added, refused, begun, went, waits, answered as step_answered, ended}
+use Rattle.pif_model.specs.Posix.Step.{thread_added, mutex_added, cond_added, refused, begun, went, waits, answered as step_answered, ended, ticked}
 use Rattle.pif_model.specs.Posix.IsRun.{start, next}
 use Rattle.pif_simulation.proofs.Holding.{request_of}
 use Rattle.pif_simulation.proofs.Holders.{IsHeld-IsRun}
@@ -24,7 +25,7 @@ use Rattle.pif_desk.specs.declared.log.Mark.{Mark}
 use Rattle.pif_desk.specs.declared.log.Mark.TheVariants.{Begun as MarkBegun, Answered as MarkAnswered, Ended as MarkEnded, Nothing}
 use Rattle.pif_desk.specs.declared.log.Reply.{Reply}
 use Rattle.pif_desk.specs.declared.log.Call.{Call}
-use Rattle.pif_desk.specs.Logs.{Log, with_reply, open_call as new_call, answered, last_open, mark_in, thread_of, log_after, calls_of}
+use Rattle.pif_desk.specs.Logs.{Log, with_reply, open_call as new_call, answered, is_last_open, mark_in, log_after, calls_of}
 use Rattle.pif_desk.specs.Rooms.{ClientState, history_of}
 use Rattle.pif_desk.specs.Settling.{is_answer, adds, answered_calls, Settles}
 use Rattle.pif_desk.proofs.Receipts.{mark_answered}
@@ -38,38 +39,43 @@ quiet : (b : Bool) (at : ℕ) (l : Log) → log_after (if b then Nothing else No
 quiet true at l = refl
 quiet false at l = refl
 
--- a call that is open by a history is the last one in its thread's log, after one more entry
+-- where a call is open by a history, the last one in its thread's log is, after one more entry
 open_on : (t : ℕ) (e : Entry) (at : ℕ) (l : Log) (before : Option Request)
-    → ((q : Request) → before ≡ Some q → last_open l.calls ≡ Some q)
-    → (q : Request) → open_after t e before ≡ Some q → last_open (log_after (mark_in t e) at l).calls ≡ Some q
-open_on t (AddThread u p) at l before ih q o = ih q o
-open_on t (AddMutex m k r) at l before ih q o = ih q o
-open_on t (AddCond c m) at l before ih q o = ih q o
-open_on t (Happened (Begin u p) Begun) at l before ih q o = by_test (u == t) o
+    → (is_some before ≡ true → is_last_open l.calls ≡ true)
+    → is_some (open_after t e before) ≡ true → is_last_open (log_after (mark_in t e) at l).calls ≡ true
+open_on t (AddThread u p) at l before ih o = ih o
+open_on t (AddMutex m k r) at l before ih o = ih o
+open_on t (AddCond c m) at l before ih o = ih o
+open_on t (Happened (Begin u p) Begun) at l before ih o = by_test (u == t) o
   where
-    by_test : (b : Bool) → (if b then Some p else before) ≡ Some q
-        → last_open (log_after (if b then MarkBegun p else Nothing) at l).calls ≡ Some q
-    by_test true o = o
-    by_test false o = ih q o
-open_on t (Happened (Go u) (Answered a)) at l before ih q o = by_test (u == t) o
+    by_test : (b : Bool) → is_some (if b then Some (plain p) else before) ≡ true
+        → is_last_open (log_after (if b then MarkBegun p else Nothing) at l).calls ≡ true
+    by_test true o = refl
+    by_test false o = ih o
+open_on t (Happened (Go u) (Answered a)) at l before ih o = by_test (u == t) o
   where
-    by_test : (b : Bool) → (if b then None else before) ≡ Some q
-        → last_open (log_after (if b then MarkAnswered a else Nothing) at l).calls ≡ Some q
-    by_test true o = absurd (cc)
-    by_test false o = ih q o
-open_on t (Happened (End u) Ended) at l before ih q o = by_test (u == t) o
+    by_test : (b : Bool) → is_some (if b then None else before) ≡ true
+        → is_last_open (log_after (if b then MarkAnswered a else Nothing) at l).calls ≡ true
+    by_test true o = absurd (true≢false (sym o))
+    by_test false o = ih o
+open_on t (Happened (End u) Ended) at l before ih o = by_test (u == t) o
   where
-    by_test : (b : Bool) → (if b then None else before) ≡ Some q
-        → last_open (log_after (if b then MarkEnded else Nothing) at l).calls ≡ Some q
-    by_test true o = absurd (cc)
-    by_test false o = ih q o
-open_on t (Happened x seen) at l before ih q o =
-    ap (λ (k : Log). last_open k.calls) (quiet (thread_of x == t) at l) ∙ ih q o
+    by_test : (b : Bool) → is_some (if b then None else before) ≡ true
+        → is_last_open (log_after (if b then MarkEnded else Nothing) at l).calls ≡ true
+    by_test true o = absurd (true≢false (sym o))
+    by_test false o = ih o
+open_on t (Happened (Begin u p) seen) at l before ih o =
+    ap (λ (k : Log). is_last_open k.calls) (quiet (u == t) at l) ∙ ih o
+open_on t (Happened (Go u) seen) at l before ih o =
+    ap (λ (k : Log). is_last_open k.calls) (quiet (u == t) at l) ∙ ih o
+open_on t (Happened (End u) seen) at l before ih o =
+    ap (λ (k : Log). is_last_open k.calls) (quiet (u == t) at l) ∙ ih o
+open_on t (Happened (Tick n) seen) at l before ih o = ih o
 
--- a call that is open by a history is the last one in its thread's log
-open_in_log : (t : ℕ) (h : List Entry) (q : Request) → open_call t h ≡ Some q → last_open (calls_of t h).calls ≡ Some q
-open_in_log t [] q o = absurd (cc)
-open_in_log t (e ∷ h) q o = open_on t e (length h) (calls_of t h) (open_call t h) (open_in_log t h) q o
+-- where a call is open by a history, the last one in its thread's log is
+open_in_log : (t : ℕ) (h : List Entry) → is_some (open_call t h) ≡ true → is_last_open (calls_of t h).calls ≡ true
+open_in_log t [] o = absurd (true≢false (sym o))
+open_in_log t (e ∷ h) o = open_on t e (length h) (calls_of t h) (open_call t h) (open_in_log t h) o
 
 -- HOW MANY CALLS OF A LOG ARE ANSWERED
 
@@ -79,17 +85,17 @@ answers_told (MarkAnswered a) = 1
 answers_told _ = 0
 
 -- an answer answers the call that is open
-counted-answered : (a at : ℕ) (l : Log) (q : Request) → last_open l.calls ≡ Some q
+counted-answered : (a at : ℕ) (l : Log) → is_last_open l.calls ≡ true
     → answered_calls (answered a at l) ≡ answered_calls l + 1
-counted-answered a at l q o = by_calls l.calls o
+counted-answered a at l o = by_calls l.calls o
   where
-    by_reply : (r : Option Reply) (p : Request) (cs : List Call) → (if is_some r then None else Some p) ≡ Some q
+    by_reply : (r : Option Reply) (p : Request) (cs : List Call) → (if is_some r then false else true) ≡ true
         → count_by (λ (c : Call). is_some c.reply) (with_reply (record {
           answer = a;
           at = at;
         }) ((record { request = p; reply = r }) ∷ cs))
         ≡ count_by (λ (c : Call). is_some c.reply) ((record { request = p; reply = r }) ∷ cs) + 1
-    by_reply (Some r) p cs o = absurd (cc)
+    by_reply (Some r) p cs o = absurd (true≢false (sym o))
     by_reply None p cs o =
         let x = sum_by-cons (λ (c : Call). if is_some c.reply then 1 else 0)
         (record { request = p; reply = Some (record { answer = a; at = at }) }) cs in
@@ -99,10 +105,10 @@ counted-answered a at l q o = by_calls l.calls o
         }) cs in
         omega (arith, x, y)
 
-    by_calls : (cs : List Call) → last_open cs ≡ Some q
+    by_calls : (cs : List Call) → is_last_open cs ≡ true
         → count_by (λ (c : Call). is_some c.reply) (with_reply (record { answer = a; at = at }) cs)
         ≡ count_by (λ (c : Call). is_some c.reply) cs + 1
-    by_calls [] o = absurd (cc)
+    by_calls [] o = absurd (true≢false (sym o))
     by_calls (c ∷ cs) o = by_reply c.reply c.request cs o
 
 -- what is no answer answers none
@@ -158,10 +164,9 @@ total-quiet e h cs none =
     (λ k d in'. counted-quiet (mark_in _ e) (length h) (calls_of _ h) (no_answer _ e none))
 
 -- an answer of t, whose call is open, answers one call of each client of t
-total-answer : (t a : ℕ) (h : List Entry) (cs : List ClientState) (q : Request)
-    → last_open (calls_of t h).calls ≡ Some q
+total-answer : (t a : ℕ) (h : List Entry) (cs : List ClientState) → is_last_open (calls_of t h).calls ≡ true
     → total (Happened (Go t) (Answered a) ∷ h) cs ≡ total h cs + count_by (λ c. c.thread == t) cs
-total-answer t a h cs q o =
+total-answer t a h cs o =
     sum_of_sums (λ c. answered_calls (calls_of c.thread (Happened (Go t) (Answered a) ∷ h)))
     (λ c. answered_calls (calls_of c.thread h)) (λ c. if c.thread == t then 1 else 0) (λ c. each c.thread
     (cases_eq t c.thread)) cs
@@ -172,7 +177,7 @@ total-answer t a h cs q o =
     each u (inl e) =
         ap (λ b. answered_calls (log_after (if b then MarkAnswered a else Nothing) (length h) (calls_of u h)))
         (eq-eqb t u e)
-        ∙ counted-answered a (length h) (calls_of u h) q (subst (λ n. last_open (calls_of n h).calls ≡ Some q) e o)
+        ∙ counted-answered a (length h) (calls_of u h) (subst (λ n. is_last_open (calls_of n h).calls ≡ true) e o)
         ∙ ap (λ b. answered_calls (calls_of u h) + (if b then 1 else 0)) (sym (eq-eqb u t (sym e)))
     each u (inr d) =
         ap (λ b. answered_calls (log_after (if b then MarkAnswered a else Nothing) (length h) (calls_of u h)))
@@ -191,6 +196,7 @@ refused-no_answer : (x : Event) (r : Refusal) → is_answer (Happened x (Refused
 refused-no_answer (Begin t q) r = refl
 refused-no_answer (Go t) r = refl
 refused-no_answer (End t) r = refl
+refused-no_answer (Tick n) r = refl
 
 answer_or_not : (l : Bounds) (w : World) (e : Entry) (v : World) → Step l w e v → AnswerOrNot e w
 answer_or_not l w e v (thread_added t p is number few low high after) = inl (ap is_answer is)
@@ -200,8 +206,10 @@ answer_or_not l w e v (refused x r is why after) = inl (ap is_answer is ∙ refu
 answer_or_not l w e v (begun t q is may after) = inl (ap is_answer is)
 answer_or_not l w e v (went t is goes awake) = inl (ap is_answer is)
 answer_or_not l w e v (waits t u is goes after rests) = inl (ap is_answer is)
-answer_or_not l w e v (step_answered t a q u is goes has after awake) = inr (t, a, is, goes.allowed)
+answer_or_not l w e v (step_answered t a q u is goes has after awake) =
+    inr (t, told q (thread_at w t).timer.expired a, is, goes.allowed)
 answer_or_not l w e v (ended t is ends) = inl (ap is_answer is)
+answer_or_not l w e v (ticked n is may after) = inl (ap is_answer is)
 
 -- a thread that may go on was added, and has a call open
 go_allowed : (known living busy : Bool) → go_refused known living busy ≡ None → (known ≡ true) × (busy ≡ true)
@@ -239,10 +247,11 @@ answers_of_run l cs (next {h = h} {e = e} {w = w} {v = v} run step) once =
     by_answer ih (inr (t, a, is, may)) =
         let allowed = go_allowed (is_thread w t) (is_living w t) (is_some (thread_at w t).call) may in
         let asked = open_request (thread_at w t).call allowed.1 in
-        let last = open_in_log t h asked.0 (((IsHeld-IsRun l run).each t).request ∙ asked.1) in
+        let request = ((IsHeld-IsRun l run).each t).request ∙ asked.1 in
+        let last = open_in_log t h (ap (λ (o : Option Request). is_some o) request) in
         let alone = earlier t (run_adds l run t allowed.0) in
         let one = ap {B = ℕ} (λ (x : Entry). if is_answer x then 1 else 0) is in
-        let sum = ap (λ (x : Entry). total (x ∷ h) cs) is ∙ total-answer t a h cs asked.0 last in
+        let sum = ap (λ (x : Entry). total (x ∷ h) cs) is ∙ total-answer t a h cs last in
         omega (arith, more, one, sum, alone, ih)
 
 -- the answers of a journal with which clients settle are their answered calls

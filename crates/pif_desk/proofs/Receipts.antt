@@ -4,17 +4,19 @@ use Rattle.std.specs.Prelude.{slice_get, MatchOption}
 use Rattle.std.specs.List.{All}
 use Rattle.std.proofs.lemmas.List.{reverse-append, reverse-reverse, length-reverse}
 use Rattle.std.proofs.lemmas.List.Elements.{All-nil, All-cons, All-head, All-tail, All-weaker}
-use Rattle.pif_model.specs.declared.events.Event.{Event}
-use Rattle.pif_model.specs.declared.events.Event.TheVariants.{Begin, Go, End}
+use Rattle.pif_model.specs.declared.events.Event.TheVariants.{Begin, Go, End, Tick}
 use Rattle.pif_model.specs.declared.events.Seen.{Seen}
 use Rattle.pif_model.specs.declared.events.Seen.TheVariants.{Begun, Answered, Ended}
+use Rattle.pif_types.specs.declared.requests.Request.{Request}
 use Rattle.pif_model.specs.declared.events.Entry.{Entry}
 use Rattle.pif_model.specs.declared.events.Entry.TheVariants.{Thread as AddThread, Mutex as AddMutex, Cond as AddCond, Step as Happened}
+use Rattle.pif_desk.specs.declared.log.Act.{Act}
+use Rattle.pif_desk.specs.declared.log.Act.TheVariants.{Begin as ActBegin, Go as ActGo, End as ActEnd}
 use Rattle.pif_desk.specs.declared.log.Mark.{Mark}
 use Rattle.pif_desk.specs.declared.log.Mark.TheVariants.{Begun as MarkBegun, Answered as MarkAnswered, Ended as MarkEnded, Nothing}
 use Rattle.pif_desk.specs.declared.log.Reply.{Reply}
 use Rattle.pif_desk.specs.declared.log.Call.{Call}
-use Rattle.pif_desk.specs.Logs.{Log, with_reply, open_call, mark_of, mark_in, act_of, thread_of, log_after, calls_of}
+use Rattle.pif_desk.specs.Logs.{Log, with_reply, open_call, mark_of, mark_in, log_after, calls_of}
 use Rattle.pif_desk.specs.Rooms.{ClientState, history_of, IsExact}
 use Rattle.pif_desk.specs.Settling.{StandsIn, Fall, HasReceipts}
 
@@ -40,27 +42,37 @@ answer_told (MarkAnswered a) = Some a
 answer_told _ = None
 
 -- only a step of a call tells an answer
-answers_only : (x : Event) (seen : Seen) (a : ℕ) → answer_told (mark_of (act_of x) seen) ≡ Some a
-    → (x ≡ Go (thread_of x)) × (seen ≡ Answered a)
-answers_only (Begin t q) Begun a e = absurd (cc)
-answers_only (Go t) (Answered b) a e = (refl, ap (λ (o : Option ℕ). Answered (unwrap_or o b)) e)
-answers_only (End t) Ended a e = absurd (cc)
+answers_only : (act : Act) (seen : Seen) (a : ℕ) → answer_told (mark_of act seen) ≡ Some a
+    → (act ≡ ActGo) × (seen ≡ Answered a)
+answers_only (ActBegin q) Begun a e = absurd (cc)
+answers_only ActGo (Answered b) a e = (refl, ap (λ (o : Option ℕ). Answered (unwrap_or o b)) e)
+answers_only ActEnd Ended a e = absurd (cc)
 answers_only _ _ a e = absurd (cc)
+
+-- and only of its own thread
+own_answers : (own : Bool) (act : Act) (seen : Seen) (a : ℕ)
+    → (if own then mark_of act seen else Nothing) ≡ MarkAnswered a → (own ≡ true) × (act ≡ ActGo) × (seen ≡ Answered a)
+own_answers true act seen a e = let is = answers_only act seen a (ap answer_told e) in (refl, is.0, is.1)
+own_answers false act seen a e = absurd (cc)
+
+no_begin : (q : Request) → ActBegin q ≡ ActGo → ⊥
+no_begin q e = absurd (cc)
+
+no_end : ActEnd ≡ ActGo → ⊥
+no_end e = absurd (cc)
 
 -- an answer is told of a thread by its answer
 pub mark_answered : (t : ℕ) (e : Entry) (a : ℕ) → mark_in t e ≡ MarkAnswered a → e ≡ Happened (Go t) (Answered a)
 mark_answered t (AddThread u p) a told = absurd (cc)
 mark_answered t (AddMutex m k r) a told = absurd (cc)
 mark_answered t (AddCond c m) a told = absurd (cc)
-mark_answered t (Happened x seen) a told = by_test (thread_of x == t) refl told
-  where
-    by_test : (b : Bool) → (thread_of x == t) ≡ b → (if b then mark_of (act_of x) seen else Nothing) ≡ MarkAnswered a
-        → Happened x seen ≡ Happened (Go t) (Answered a)
-    by_test true same e =
-        let is = answers_only x seen a (ap answer_told e) in
-        ap (λ (y : Event). Happened y seen) is.0 ∙ ap (λ (n : ℕ). Happened (Go n) seen) (eqb-true (thread_of x) t same)
-        ∙ ap (λ (y : Seen). Happened (Go t) y) is.1
-    by_test false same e = absurd (cc)
+mark_answered t (Happened (Begin u q) seen) a told =
+    absurd (no_begin q (own_answers (u == t) (ActBegin q) seen a told).1)
+mark_answered t (Happened (Go u) seen) a told =
+    let is = own_answers (u == t) ActGo seen a told in
+    ap (λ (n : ℕ). Happened (Go n) seen) (eqb-true u t is.0) ∙ ap (λ (y : Seen). Happened (Go t) y) is.2
+mark_answered t (Happened (End u) seen) a told = absurd (no_end (own_answers (u == t) ActEnd seen a told).1)
+mark_answered t (Happened (Tick n) seen) a told = absurd (cc)
 
 -- REPLIES
 

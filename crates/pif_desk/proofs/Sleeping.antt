@@ -9,7 +9,7 @@ use Rattle.pif_types.specs.Bounds.{Bounds}
 use Rattle.pif_model.specs.declared.events.Entry.{Entry}
 use Rattle.pif_model.specs.PiKernel.{is_among, is_living, is_ready}
 use Rattle.pif_model.specs.Table.{Table, line_at, status_at}
-use Rattle.pif_model.specs.Lines.{is_open}
+use Rattle.pif_model.specs.Lines.{is_open, is_due_in}
 use Rattle.pif_chains.proofs.KernelFacts.{living-added}
 use Rattle.pif_chains.proofs.Numbers.{within}
 use Rattle.pif_chains.proofs.KernelNumbers.{among-filter, among-push, distinct-filter, distinct-none, distinct-push}
@@ -79,7 +79,8 @@ pub resting_number : (s : Table) (j : List Entry) → StandsAfter s j → (t : �
 resting_number s j st t h = by_test (is_living s.kernel t) refl h
   where
     by_test : (b : Bool) → is_living s.kernel t ≡ b
-        → unwrap_or (if b then (if is_open (line_at s t) then Some (if is_ready (status_at s t) then false else true) else None)
+        → unwrap_or (if b then (if is_open (line_at s t)
+        then Some (if is_ready (status_at s t) then false else (if is_due_in s t then false else true)) else None)
         else None) false ≡ true → t ≤ 1024
     by_test true lives k =
         let added = living-added s.kernel t lives in

@@ -7,7 +7,7 @@ use Rattle.pif_types.specs.Bounds.{Bounds}
 use Rattle.pif_types.specs.declared.requests.Request.{Request}
 use Rattle.pif_model.specs.declared.events.Entry.{Entry}
 use Rattle.pif_model.specs.declared.events.Entry.TheVariants.{Thread as AddThread}
-use Rattle.pif_model.specs.Posix.{World, is_thread, recalled, unblocked, after_use, all_unblocked, Passes, LocksAgain, Locks, TriesToLock, Unlocks, MakesConsistent, SetsPriority, ChecksWait, GivesUp, Uses, Chooses, Effect, Effects, Releases, Step, IsRun}
+use Rattle.pif_model.specs.Posix.{World, is_thread, recalled, unblocked, after_use, all_unblocked, Passes, LocksAgain, Locks, TriesToLock, Unlocks, MakesConsistent, SetsPriority, ChecksWait, GivesUp, Uses, Chooses, Effect, Effects, Expires, Moves, Releases, Step, IsRun}
 use Rattle.pif_model.specs.Posix.Passes.{to_nobody, to_next}
 use Rattle.pif_model.specs.Posix.LocksAgain.{rises, at_limit}
 use Rattle.pif_model.specs.Posix.Locks.{own_normal, own_errorcheck, own_recursive as lock_own_recursive, free as lock_free, lost, cycle, joins}
@@ -21,8 +21,10 @@ use Rattle.pif_model.specs.Posix.Uses.{at_limit as use_at_limit, counts}
 use Rattle.pif_model.specs.Posix.Chooses.{one as one_chosen, no_one as none_chosen, all as all_chosen}
 use Rattle.pif_model.specs.Posix.Effect.{lock, try_lock, unlock, consistent, set_prio, check_wait, enlist, give_up, lock_again, use_variable, choose, leave}
 use Rattle.pif_model.specs.Posix.Effects.{none as no_effect, then as effect_then, owed}
+use Rattle.pif_model.specs.Posix.Expires.{lock as lock_expires, wait as wait_expires}
+use Rattle.pif_model.specs.Posix.Moves.{expires, acts}
 use Rattle.pif_model.specs.Posix.Releases.{none_left, one_more}
-use Rattle.pif_model.specs.Posix.Step.{thread_added, mutex_added, cond_added, refused, begun, went, waits, answered, ended}
+use Rattle.pif_model.specs.Posix.Step.{thread_added, mutex_added, cond_added, refused, begun, went, waits, answered, ended, ticked}
 use Rattle.pif_model.specs.Posix.IsRun.{start, next}
 use Rattle.pif_chains.proofs.Numbers.{within, from_within}
 use Rattle.pif_desk.specs.Settling.{adds}
@@ -120,6 +122,14 @@ same_Effects (no_effect e) = by e refl
 same_Effects (effect_then e rest) = same_Effects rest ∙ same_Effect e
 same_Effects (owed b c m blocked call e rest) = same_Effects rest ∙ same_Locks e
 
+same_Expires : {t : ℕ} {w v : World} → Expires t w v → Same w v
+same_Expires {w = w} (lock_expires m p call e) = by e (length-set w.threads _ _)
+same_Expires {w = w} (wait_expires c m p call e) = by e (length-set _ _ _ ∙ length-set w.threads _ _)
+
+same_Moves : {t : ℕ} {w u : World} → Moves t w u → Same w u
+same_Moves (expires due e) = same_Expires e
+same_Moves (acts not_due e) = same_Effects e
+
 same_Releases : {t : ℕ} {w v : World} → Releases t w v → Same w v
 same_Releases (none_left none e) = by e refl
 same_Releases (one_more m own robust passes rest) = same_Releases rest ∙ same_Passes passes
@@ -164,13 +174,14 @@ step_adds l h e w v all (mutex_added m k r is number few after) = all_kept h e w
 step_adds l h e w v all (cond_added c m is known number few after) = all_kept h e w v (by after refl) all
 step_adds l h e w v all (refused x r is why after) = all_kept h e w v (by after refl) all
 step_adds l h e w v all (begun t q is may after) = all_kept h e w v (by after (length-set w.threads _ _)) all
-step_adds l h e w v all (went t is goes awake) = all_kept h e w v (same_Effects goes.effects) all
+step_adds l h e w v all (went t is goes awake) = all_kept h e w v (same_Moves goes.moves) all
 step_adds l h e w v all (waits t u is goes after rests) =
-    all_kept h e w v (by after (length-set u.threads _ _ ∙ same_Effects goes.effects)) all
+    all_kept h e w v (by after (length-set u.threads _ _ ∙ same_Moves goes.moves)) all
 step_adds l h e w v all (answered t a q u is goes has after awake) =
-    all_kept h e w v (by after (length-set u.threads _ _ ∙ same_Effects goes.effects)) all
+    all_kept h e w v (by after (length-set u.threads _ _ ∙ same_Moves goes.moves)) all
 step_adds l h e w v all (ended t is ends) =
     all_kept h e w v (same_Releases ends.releases ∙ length-set w.threads _ _) all
+step_adds l h e w v all (ticked n is may after) = all_kept h e w v (by after refl) all
 
 -- each thread of a run was added by an entry of its history
 pub run_adds : (l : Bounds) {h : List Entry} {r : List World} {w : World} → IsRun l h r w → AllAdded h w

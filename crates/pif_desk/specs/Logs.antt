@@ -1,10 +1,11 @@
 -- The calls of a thread in a history, and the log that a client keeps of its own.
 use Rattle.std.specs.Prelude.{ℕ, Bool, true, false, ◌==◌, List, [], ◌∷◌, length, reverse, Option, Some, None, is_some, unwrap_or, if◌then◌else◌}
+use Rattle.pif_types.specs.declared.errors.Refusal.TheVariants.{Past}
 use Rattle.pif_types.specs.declared.requests.Request.{Request}
 use Rattle.pif_model.specs.declared.events.Event.{Event}
-use Rattle.pif_model.specs.declared.events.Event.TheVariants.{Begin, Go as Goes, End as Ends}
+use Rattle.pif_model.specs.declared.events.Event.TheVariants.{Begin, Go as Goes, End as Ends, Tick}
 use Rattle.pif_model.specs.declared.events.Seen.{Seen}
-use Rattle.pif_model.specs.declared.events.Seen.TheVariants.{Begun, Went, Waits, Answered, Ended, Refused}
+use Rattle.pif_model.specs.declared.events.Seen.TheVariants.{Begun, Went, Waits, Answered, Ended, Ticked, Refused}
 use Rattle.pif_model.specs.declared.events.Entry.{Entry}
 use Rattle.pif_model.specs.declared.events.Entry.TheVariants.{Step as Happened}
 use Rattle.pif_desk.specs.declared.log.Act.{Act}
@@ -86,21 +87,11 @@ event_of (Begins q) t = Begin t q
 event_of Go t = Goes t
 event_of End t = Ends t
 
--- what a thread does by an event
-abbrev pub act_of : Event → Act
-act_of (Begin t q) = Begins q
-act_of (Goes t) = Go
-act_of (Ends t) = End
-
--- the thread of an event
-abbrev pub thread_of : Event → ℕ
-thread_of (Begin t q) = t
-thread_of (Goes t) = t
-thread_of (Ends t) = t
-
--- what an entry tells of the log of t
+-- what an entry tells of the log of t; an addition and a tick belong to no thread
 abbrev pub mark_in : ℕ → Entry → Mark
-mark_in t (Happened e x) = if thread_of e == t then mark_of (act_of e) x else Nothing
+mark_in t (Happened (Begin u q) x) = if u == t then mark_of (Begins q) x else Nothing
+mark_in t (Happened (Goes u) x) = if u == t then mark_of Go x else Nothing
+mark_in t (Happened (Ends u) x) = if u == t then mark_of End x else Nothing
 mark_in t _ = Nothing
 
 -- the calls of t in a history, newest entry first: those that it began, each with the next answer to t if there is one,
@@ -131,3 +122,12 @@ is_answer_to Go (Refused r) = true
 is_answer_to End Ended = true
 is_answer_to End (Refused r) = true
 is_answer_to _ _ = false
+
+-- whether an event can be answered so
+abbrev pub is_answer_of : Event → Seen → Bool
+is_answer_of (Begin t q) x = is_answer_to (Begins q) x
+is_answer_of (Goes t) x = is_answer_to Go x
+is_answer_of (Ends t) x = is_answer_to End x
+is_answer_of (Tick n) Ticked = true
+is_answer_of (Tick n) (Refused Past) = true
+is_answer_of (Tick n) _ = false

@@ -1,6 +1,7 @@
 -- What a room and its clients show.
 use Rattle.std.specs.Prelude.{ℕ, ◌≡◌, ⊤, List, [], ◌∷◌, ◌++◌, reverse, Result, Err}
 use Rattle.pif_types.specs.declared.errors.AddFault.{AddFault}
+use Rattle.pif_types.specs.declared.errors.Refusal.TheVariants.{Past}
 use Rattle.pif_model.specs.declared.events.Event.{Event}
 use Rattle.pif_model.specs.declared.events.Seen.{Seen}
 use Rattle.pif_model.specs.declared.events.Entry.{Entry}
@@ -74,6 +75,12 @@ abbrev pub IsEventFault : DeskFault → Type 0
 IsEventFault NoMemory = ⊤
 IsEventFault (Refused x) = ⊤
 IsEventFault (NotAdded f) = ⊥
+
+-- a tick was refused: its time is before the present one, or memory was refused
+abbrev pub IsTickFault : DeskFault → Type 0
+IsTickFault NoMemory = ⊤
+IsTickFault (Refused Past) = ⊤
+IsTickFault _ = ⊥
 
 -- a client's log is just the calls of its thread in the journal
 abbrev pub IsExact : ClientState → List Entry → Type 0

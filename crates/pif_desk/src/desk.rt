@@ -1,8 +1,8 @@
 //! A room behind a lock, which real threads share.
-ghost use Rattle.std.specs.Prelude.{◌≡◌, IfOk};
+ghost use Rattle.std.specs.Prelude.{◌≡◌, IfOk, IfErr};
 ghost use Rattle.pif_model.specs.Posix.{IsLegal};
 ghost use Rattle.pif_desk.specs.Logs.{no_calls};
-ghost use Rattle.pif_desk.specs.Rooms.{history_of, StandsAfter};
+ghost use Rattle.pif_desk.specs.Rooms.{history_of, IsTickFault, StandsAfter};
 
 use crate::client::Client;
 use crate::faults::DeskFault;
@@ -83,6 +83,22 @@ impl<P: Pause + Drop> Desk<P> {
     /// `NoMemory` where the journal can't grow.
     pub fn make_cond<R: Wait>(&self, rt: &R, mutex: MutexId) -> Result<CondId, DeskFault> {
         self.shared.lock(rt).room.add_cond(mutex)
+    }
+
+    /// Hands in the time, in one acquisition of the lock: the journal has one entry more, which is an event of no
+    /// thread. Time is 0 at first; its unit is the caller's, as that of deadlines. Those clients go on that sleep in a
+    /// timed lock or a timed wait whose deadline this time has reached (pthread_mutex_timedlock and
+    /// pthread_cond_timedwait of POSIX), and no others. `Refused(Past)` where it is below the present time: the time
+    /// has not changed, and the journal has that answer. `NoMemory` where the journal can't grow: nothing has changed.
+    pub fn tick<R: Wait>(&self, rt: &R, time: u32) -> Result<(), DeskFault>
+        ensures fault { IfErr result IsTickFault }
+    {
+        match self.shared.lock(rt).tick(time, &self.bells) {
+            Ok(Seen::Ticked) => Ok(()),
+            Ok(Seen::Refused(refusal)) => Err(DeskFault::Refused(refusal)),
+            Ok(_) => unreachable!(),
+            Err(NoMemory) => Err(DeskFault::NoMemory),
+        }
     }
 
     /// Sleeps while a thread rests.

@@ -1,6 +1,8 @@
 //! What a client keeps of its calls.
-ghost use Rattle.std.specs.Prelude.{◌≡◌, ◌<◌, true, reverse, vec_len, vec_capacity};
-ghost use Rattle.pif_desk.specs.Logs.{event_of, act_of, thread_of, mark_of, mark_in, is_begun, log_after, log_of, with_reply};
+ghost use Rattle.std.specs.Prelude.{◌≡◌, ◌<◌, true, reverse, vec_len, vec_capacity, if◌then◌else◌};
+ghost use Rattle.pif_model.specs.declared.events.Entry.{Entry};
+ghost use Rattle.pif_desk.specs.declared.log.Mark.TheVariants.{Nothing};
+ghost use Rattle.pif_desk.specs.Logs.{event_of, mark_of, mark_in, is_begun, log_after, log_of, with_reply};
 
 use pif_model::{Entry, Event, Seen};
 use pif_types::{Answer, Request, Tid, push_within};
@@ -56,37 +58,42 @@ impl Mark {
         }
     }
 
-    /// What an entry tells of the log of this thread.
+    /// What is told of a thread's log where a thread did this and was answered so: nothing, if it is another one's.
+    fn if_own(is_own: bool, act: &Act, seen: &Seen) -> Mark
+        ensures { result ≡ (if is_own then mark_of act.now seen.now else Nothing) }
+    {
+        if is_own {
+            Mark::of(act, seen)
+        } else {
+            Mark::Nothing
+        }
+    }
+
+    /// What an event that was answered so tells of the log of this thread.
+    fn of_event(event: &Event, seen: &Seen, thread: &Tid) -> Mark
+        ensures { result ≡ mark_in thread.now (Entry.Step event.now seen.now) }
+    {
+        let own = thread.get();
+        match *event {
+            Event::Begin(t, request) => Mark::if_own(t.get() == own, &Act::Begin(request), seen),
+            Event::Go(t) => Mark::if_own(t.get() == own, &Act::Go, seen),
+            Event::End(t) => Mark::if_own(t.get() == own, &Act::End, seen),
+            Event::Tick(_) => Mark::Nothing,
+        }
+    }
+
+    /// What an entry tells of the log of this thread. An addition and a tick belong to no thread.
     pub(crate) fn within(entry: &Entry, thread: &Tid) -> Mark
         ensures { result ≡ mark_in thread.now entry.now }
     {
         match entry {
-            Entry::Step(event, seen) => {
-                let (act, t) = Act::split(event);
-                if t.get() == thread.get() {
-                    Mark::of(&act, seen)
-                } else {
-                    Mark::Nothing
-                }
-            }
+            Entry::Step(event, seen) => Mark::of_event(event, seen, thread),
             _ => Mark::Nothing,
         }
     }
 }
 
 impl Act {
-    /// What a thread does by this event, and the thread.
-    fn split(event: &Event) -> (Act, Tid)
-        ensures act { result.0 ≡ act_of event.now }
-        ensures thread { result.1 ≡ thread_of event.now }
-    {
-        match *event {
-            Event::Begin(thread, request) => (Act::Begin(request), thread),
-            Event::Go(thread) => (Act::Go, thread),
-            Event::End(thread) => (Act::End, thread),
-        }
-    }
-
     /// The event by which this thread does it.
     pub(crate) fn event(&self, thread: Tid) -> Event
         ensures { result ≡ event_of self.now thread }

@@ -6,7 +6,7 @@ ghost use Rattle.pif_model.specs.Standing.{Stands};
 ghost use Rattle.pif_model.specs.Lines.{event_outcome};
 ghost use Rattle.pif_model.specs.Table.{thread_added, mutex_added, cond_added};
 ghost use Rattle.pif_model.specs.Calls.{add_thread_answer, add_mutex_answer, add_cond_answer};
-ghost use Rattle.pif_desk.specs.Logs.{act_of, event_of, begins, is_answer_to};
+ghost use Rattle.pif_desk.specs.Logs.{event_of, begins, is_answer_to, is_answer_of};
 ghost use Rattle.pif_desk.specs.Rooms.{StandsAfter, Turns, Adds, IsExact, IsWhyNotAdded, client_after};
 ghost use Rattle.pif_desk.specs.Sleeping.{rests_in};
 
@@ -137,7 +137,7 @@ impl Room {
     /// has one entry more. `NoMemory`, with nothing changed, where the journal can't grow.
     pub fn turn(&mut self, event: Event) -> Result<Seen, NoMemory>
         ensures turned { IfOk result (λ seen. Turns event seen self.old self.new) }
-        ensures fits { IfOk result (λ seen. is_answer_to (act_of event) seen ≡ true) }
+        ensures fits { IfOk result (λ seen. is_answer_of event seen ≡ true) }
         ensures unchanged { OnErr result (self.new ≡ self.old) }
     {
         make_room(&mut self.journal, self.growth)?;

@@ -4,3 +4,4 @@ mod scenes;
 mod sleepers;
 mod stress;
 mod threads;
+mod ticks;

@@ -85,6 +85,7 @@ fn other_errors_say_what_they_are(rt: HostRuntime) -> Result<(), Fail> {
         &Refusal::NoSuch,
         "no such thread, mutex or variable",
     )?;
+    check_printed(&rt, alloc, &Refusal::Past, "past")?;
     check_printed(&rt, alloc, &NoMemory, "out of memory")
 }
 

@@ -1,22 +1,23 @@
--- What is kept stays sound where a thread ends.
+-- What is kept stays sound where a thread leaves what it waits for and its level.
 use Rattle.std.proofs.Common.{◌≡◌, ◌≢◌, ◌⊎◌, ℕ, ◌<◌, ◌==◌, Bool, true, false, if◌then◌else◌, List, length, set, Option, Some, None, is_some, option_map, option_and_then, unwrap_or, refl, sym, ap, subst, ◌∙◌, inl, inr, arith, length-set, ne_eqb}
 use Rattle.std.specs.List.{filter}
 use Rattle.std.proofs.lemmas.Bool.{cases_eq, true≢false}
 use Rattle.std.proofs.lemmas.List.{get_or-set_same, get_or-set_other}
 use Rattle.pif_nodes.specs.declared.keys.Key.{Key}
 use Rattle.pif_model.specs.declared.lines.Status.{Status}
-use Rattle.pif_model.specs.declared.lines.Status.TheVariants.{Ready, Ended}
+use Rattle.pif_model.specs.declared.lines.Status.TheVariants.{Ready}
 use Rattle.pif_model.specs.declared.lines.Woken.TheVariants.{Fresh}
 use Rattle.pif_model.specs.Graph.{has_waiter, without}
-use Rattle.pif_model.specs.PiKernel.{Kernel, queued_on, is_ready, effective_in, has_seat, is_among, is_living, level_at, with_effective_levels, waits_for, kernel_after_leaving}
+use Rattle.pif_model.specs.PiKernel.{Kernel, queued_on, is_ready, effective_in, has_seat, is_among, is_living, level_at, with_effective_levels, waits_for, is_out, kernel_left_as}
 use Rattle.pif_model.specs.PiKernel.{state_at as kernel_state_at}
 use Rattle.pif_owners.specs.Owners.{Seat, Wait, seat_at, owner_at, waits_on, rank_of}
 use Rattle.pif_owners.specs.Owners.{waits_for as owners_wait_for}
 use Rattle.pif_boost.specs.Boosts.{IsRepairedBut}
 use Rattle.pif_chains.proofs.KernelFacts.{living-added, queued-from_number}
-use Rattle.pif_chains.proofs.KernelEnded.{kernel_with_leaving, left_is, state-left, waits-left_other, waits-left_same, leaving_kept}
+use Rattle.pif_chains.proofs.KernelLeft.{kernel_with_leaving, left_is, state-left, waits-left_other, waits-left_same, kernel-left}
 use Rattle.pif_chains.proofs.KernelLevels.{level-left}
 use Rattle.pif_chains.proofs.KernelNumbers.{is_other, among-left_same, among-left_other}
+use Rattle.pif_chains.proofs.Statuses.{out-queued_on_nothing}
 use Rattle.pif_chains.proofs.Waiting.{has_waiter-from_pair}
 use Rattle.pif_chains.proofs.Among.{is_among as is_waiter}
 use Rattle.pif_kernel.specs.Plain.{Plain, IsListed, IsPlaced, IsSound, kernel_of, status_at, key_at, state_at, ticket_of, parked_but}
@@ -29,8 +30,8 @@ use Rattle.pif_kernel.proofs.ChainLaws.{repaired_but}
 use Rattle.pif_kernel.proofs.WaitersWithout.{rise_without, waiter_kept}
 use Rattle.pif_kernel.proofs.WalkSound.{IsWalkable, owners_effective}
 
-module _ (p x : Plain) (t start : ℕ) (h : IsSound p) (lives : is_living (kernel_of p) t ≡ true)
-    (l : IsLeft p x t start) where
+module _ (p x : Plain) (next : Status) (t start : ℕ) (h : IsSound p) (lives : is_living (kernel_of p) t ≡ true)
+    (out : is_out next ≡ true) (l : IsLeft p x t start) where
   abbrev rest : List (ℕ × ℕ)
   rest = without p.arrivals t
 
@@ -38,7 +39,7 @@ module _ (p x : Plain) (t start : ℕ) (h : IsSound p) (lives : is_living (kerne
   abbrev pub mid : Plain
   mid =
       record p {
-        statuses = set p.statuses t Ended;
+        statuses = set p.statuses t next;
         keys = x.keys;
         owners = x.owners;
         queue = x.queue;
@@ -60,7 +61,7 @@ module _ (p x : Plain) (t start : ℕ) (h : IsSound p) (lives : is_living (kerne
   added = (added_seen p fit t known).1
 
   many : length mid.statuses ≡ length p.statuses
-  many = length-set p.statuses t Ended
+  many = length-set p.statuses t next
 
   base_same : (u : ℕ) → (seat_at mid.owners u).base ≡ (seat_at p.owners u).base
   base_same u = by_place (cases_eq u t)
@@ -81,10 +82,10 @@ module _ (p x : Plain) (t start : ℕ) (h : IsSound p) (lives : is_living (kerne
       by_place (inr n) = ap (λ (s : Seat). s.local) (l.others u n)
 
   status_other : (u : ℕ) → u ≢ t → status_at mid u ≡ status_at p u
-  status_other u n = get_or-set_other p.statuses t u Ended (Ready Fresh) n
+  status_other u n = get_or-set_other p.statuses t u next (Ready Fresh) n
 
-  status_here : (u : ℕ) → u ≡ t → status_at mid u ≡ Ended
-  status_here u e = ap (λ (v : ℕ). status_at mid v) e ∙ get_or-set_same p.statuses t Ended (Ready Fresh) added
+  status_here : (u : ℕ) → u ≡ t → status_at mid u ≡ next
+  status_here u e = ap (λ (v : ℕ). status_at mid v) e ∙ get_or-set_same p.statuses t next (Ready Fresh) added
 
   -- the owner state of a mutex on which others are queued is the one that it was
   owner_kept : (n : ℕ) → has_waiter rest n ≡ true → (k : Option ℕ) → key_at p n ≡ k
@@ -111,33 +112,33 @@ module _ (p x : Plain) (t start : ℕ) (h : IsSound p) (lives : is_living (kerne
 
   -- the same as in the kernel by itself
   state_placed : (n : ℕ) → kernel_state_at (kernel_of mid) n
-      ≡ kernel_state_at (kernel_after_leaving t (kernel_of p)) n
+      ≡ kernel_state_at (kernel_left_as next t (kernel_of p)) n
   state_placed n =
       states_seen mid n ∙ state_mid n
       ∙ ap (λ (s : ℕ). if has_waiter rest n then s else 0) (sym (states_seen p n))
       ∙ ap (λ (ws : List (ℕ × ℕ)). if has_waiter (without ws t) n then kernel_state_at (kernel_of p) n else 0)
       (sym (waiters_seen p))
-      ∙ sym (state-left t (kernel_of p) h.kernel n)
+      ∙ sym (state-left next t (kernel_of p) h.kernel n)
 
-  kernel_mid : kernel_of mid ≡ kernel_with_leaving t (kernel_of p)
-  unfolding kernel_of kernel_after_leaving
+  kernel_mid : kernel_of mid ≡ kernel_with_leaving next t (kernel_of p)
+  unfolding kernel_of kernel_left_as
   kernel_mid =
-      kernel_by_parts (kernel_of mid) (kernel_with_leaving t (kernel_of p)) refl
+      kernel_by_parts (kernel_of mid) (kernel_with_leaving next t (kernel_of p)) refl
       (seats_of-same_base mid.statuses p.owners.seats mid.owners.seats l.rows base_same
-      ∙ seats_of-set_status p.statuses p.owners.seats t Ended fit.few)
+      ∙ seats_of-set_status p.statuses p.owners.seats t next fit.few)
       (states_length mid ∙ l.places ∙ sym (states_length p) ∙ sym (length-set (kernel_of p).states _ _))
       state_placed refl (parked_but-seen p.parked t)
       (length-left p mid t) (levels_left p mid t l.levels)
 
-  waits_left : (u : ℕ) → waits_for (kernel_of mid) u ≡ waits_for (kernel_after_leaving t (kernel_of p)) u
-  unfolding kernel_after_leaving
+  waits_left : (u : ℕ) → waits_for (kernel_of mid) u ≡ waits_for (kernel_left_as next t (kernel_of p)) u
+  unfolding kernel_left_as
   waits_left u = ap (λ (k : Kernel). waits_for k u) kernel_mid
 
   waits_other : (u : ℕ) → u ≢ t → waits_for (kernel_of mid) u ≡ waits_for (kernel_of p) u
-  waits_other u n = waits_left u ∙ waits-left_other t (kernel_of p) h.kernel u n
+  waits_other u n = waits_left u ∙ waits-left_other next t (kernel_of p) h.kernel u n
 
   waits_here : waits_for (kernel_of mid) t ≡ 0
-  waits_here = waits_left t ∙ waits-left_same t (kernel_of p) h.kernel known
+  waits_here = waits_left t ∙ waits-left_same next t (kernel_of p) h.kernel known out
 
   no_mutex_mid : key_at mid 0 ≡ None
   no_mutex_mid = by_test (has_waiter rest 0) refl
@@ -164,7 +165,8 @@ module _ (p x : Plain) (t start : ℕ) (h : IsSound p) (lives : is_living (kerne
   waits_mid : (u : ℕ) → ((u ≡ t) ⊎ (u ≡ t → ⊥)) → waits_on mid.owners u ≡ key_at mid (queued_on (status_at mid u))
   waits_mid u (inl e) =
       ap (waits_on mid.owners) e ∙ ap (λ (s : Seat). option_map (λ (w : Wait). w.state) s.wait) l.free
-      ∙ sym no_mutex_mid ∙ ap (λ (y : Status). key_at mid (queued_on y)) (sym (status_here u e))
+      ∙ sym no_mutex_mid ∙ ap (key_at mid) (sym (out-queued_on_nothing next out))
+      ∙ ap (λ (y : Status). key_at mid (queued_on y)) (sym (status_here u e))
   waits_mid u (inr n) =
       ap (λ (s : Seat). option_map (λ (w : Wait). w.state) s.wait) (l.others u n) ∙ h.placed.waits u
       ∙ sym (key_kept u n) ∙ ap (λ (y : Status). key_at mid (queued_on y)) (sym (status_other u n))
@@ -277,21 +279,21 @@ module _ (p x : Plain) (t start : ℕ) (h : IsSound p) (lives : is_living (kerne
       (λ u. owners_effective p fit u ∙ sym (h.local u) ∙ sym (local_same u))
       (λ u r e. ranks u r (cases_eq u t) e ∙ sym (h.local u) ∙ sym (local_same u))
 
-  pub walkable : IsWalkable mid start (kernel_after_leaving t (kernel_of p))
+  pub walkable : IsWalkable mid start (kernel_left_as next t (kernel_of p))
   walkable = record {
     placed = placed;
     admitted = omega (arith, base_same start, h.placed.admitted start l.some l.added);
     repaired = repairs;
-    after = ap with_effective_levels kernel_mid ∙ sym (left_is t (kernel_of p));
-    kept = leaving_kept t (kernel_of p) h.kernel known;
+    after = ap with_effective_levels kernel_mid ∙ sym (left_is next t (kernel_of p));
+    kept = kernel-left next t (kernel_of p) h.kernel known out;
   }
 
 -- what is kept before the walk, as it is written
-pub before_walk : (p x y : Plain) (t start g : ℕ) → IsSound p → is_living (kernel_of p) t ≡ true → IsLeft p x t start
-    → y ≡ x → g ≡ t
-    → IsWalkable (record y { statuses = set y.statuses g Ended }) start (kernel_after_leaving t (kernel_of p))
-before_walk p x y t start g h lives l same here =
-    subst (λ (n : ℕ). IsWalkable (record y { statuses = set y.statuses n Ended }) start
-    (kernel_after_leaving t (kernel_of p))) (sym here)
-    (subst (λ (z : Plain). IsWalkable (record z { statuses = set z.statuses t Ended }) start
-    (kernel_after_leaving t (kernel_of p))) (sym (same ∙ l.frame)) (walkable p x t start h lives l))
+pub before_walk : (p x y : Plain) (next : Status) (t start g : ℕ) → IsSound p → is_living (kernel_of p) t ≡ true
+    → is_out next ≡ true → IsLeft p x t start → y ≡ x → g ≡ t
+    → IsWalkable (record y { statuses = set y.statuses g next }) start (kernel_left_as next t (kernel_of p))
+before_walk p x y next t start g h lives out l same here =
+    subst (λ (n : ℕ). IsWalkable (record y { statuses = set y.statuses n next }) start
+    (kernel_left_as next t (kernel_of p))) (sym here)
+    (subst (λ (z : Plain). IsWalkable (record z { statuses = set z.statuses t next }) start
+    (kernel_left_as next t (kernel_of p))) (sym (same ∙ l.frame)) (walkable p x next t start h lives out l))

@@ -6,13 +6,13 @@ use Rattle.pif_model.specs.declared.lines.Status.TheVariants.{Parked}
 use Rattle.pif_model.specs.declared.lines.Woken.TheVariants.{Again as WokenAgain}
 use Rattle.pif_model.specs.Graph.{reaches_within}
 use Rattle.pif_model.specs.Word.{Words, word_at}
-use Rattle.pif_model.specs.PiKernel.{Kernel, Seat as KernelSeat, System, Parking, IsKernel, seat_at as kernel_seat_at, has_seat, is_living, is_ready, state_at as kernel_state_at, waits_for, may_queue, unparked, parked_pairs, parked_count, has_parked, top_parked, without_parking, kernel_after_queueing, kernel_after_waking, after_taking, after_takings, after_requeue}
+use Rattle.pif_model.specs.PiKernel.{Kernel, Seat as KernelSeat, System, Parking, IsKernel, seat_at as kernel_seat_at, has_seat, is_living, is_ready, state_at as kernel_state_at, waits_for, may_queue, queued_on, unparked, parked_pairs, parked_count, has_parked, top_parked, without_parking, kernel_after_queueing, kernel_after_waking, after_taking, after_takings, after_requeue}
 use Rattle.pif_word.specs.declared.cells.Cell.TheVariants.{Mutex}
 use Rattle.pif_word.specs.WordMap.{WordMap, HasCell}
 use Rattle.pif_chains.proofs.Among.{is_among_cons}
 use Rattle.pif_chains.proofs.Greatest.{reaches_same}
 use Rattle.pif_chains.proofs.Waiting.{by_test, names, pairs, Once, once_head, once_tail, named-from_pair}
-use Rattle.pif_chains.proofs.KernelWoken.{woken_length, woken_has, woken_state, woken_waits, woken_seat_same, requeued_as_woken, top-parked}
+use Rattle.pif_chains.proofs.KernelWoken.{added-from_parked, woken_length, woken_has, woken_state, woken_waits, woken_seat_same, requeued_as_woken, top-parked}
 use Rattle.pif_chains.proofs.KernelTaken.{FitsState, owned, requeued, woken_again, woken_living, taking_fits}
 use Rattle.pif_chains.proofs.KernelRequeued.{taking-parked, taking-has_word}
 use Rattle.pif_chains.proofs.KernelAllTaken.{parked-few}
@@ -22,7 +22,6 @@ use Rattle.pif_kernel.specs.Takings.{FitsWord}
 use Rattle.pif_kernel.proofs.Seats.{states_seen, seats_length}
 use Rattle.pif_kernel.proofs.Standing.{fits}
 use Rattle.pif_kernel.proofs.Answering.{some_word, cell_of_word}
-use Rattle.pif_kernel.proofs.WakeSound.{parked_added}
 
 -- THE THREE CASES
 
@@ -59,7 +58,7 @@ module _ (s : WordMap) (p : Plain) (h : IsSound p) (u c m : ℕ)
   k = kernel_of p
 
   added : has_seat k u ≡ true
-  added = parked_added p u h c was
+  added = added-from_parked (kernel_of p) h.kernel u c was
 
   module _ (w : Plain) (e : kernel_of w ≡ kernel_after_waking u WokenAgain (kernel_of p)) where
     -- it was added
@@ -91,7 +90,7 @@ module _ (s : WordMap) (p : Plain) (h : IsSound p) (u c m : ℕ)
         → reaches_within (length (kernel_of w).seats) (waits_for (kernel_of w)) n u ≡ false
     again_unreached n r =
         ap (λ (y : Kernel). reaches_within (length y.seats) (waits_for y) n u) e
-        ∙ reaches_same _ _ _ _ _ _ u (woken_length u WokenAgain k) (woken_waits u WokenAgain k h.kernel c was) refl
+        ∙ reaches_same _ _ _ _ _ _ u (woken_length u WokenAgain k) (woken_waits u WokenAgain k (ap queued_on was)) refl
         ∙ r
 
     -- it is queued then as one that was only taken off its variable

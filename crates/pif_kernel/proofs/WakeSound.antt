@@ -1,4 +1,4 @@
--- What is kept stays sound where a parked thread is woken.
+-- What is kept stays sound where a thread that is parked or stopped is woken.
 use Rattle.std.proofs.Common.{◌≡◌, ◌≢◌, ℕ, ◌<◌, ◌≤◌, Bool, true, false, if◌then◌else◌, length, set, None, refl, sym, ap, ◌∙◌, subst, arith}
 use Rattle.std.proofs.lemmas.Bool.{true≢false}
 use Rattle.pif_nodes.specs.Table.{Table, holder}
@@ -10,7 +10,7 @@ use Rattle.pif_model.specs.declared.lines.Woken.{Woken}
 use Rattle.pif_model.specs.PiKernel.{IsKernel, queued_on, has_seat, is_ready, is_parked, level_at, effective_in, levels_with, kernel_after_waking}
 use Rattle.pif_model.specs.PiKernel.{seat_at as kernel_seat_at}
 use Rattle.pif_owners.specs.Owners.{seat_at}
-use Rattle.pif_chains.proofs.KernelWoken.{added-from_parked, kernel-woken}
+use Rattle.pif_chains.proofs.KernelWoken.{added-from_parked, kernel-roused}
 use Rattle.pif_kernel.specs.Plain.{Plain, IsSound, kernel_of, status_at, parked_but}
 use Rattle.pif_kernel.proofs.Seats.{status_seen, added_seen, kernel_by_parts, seats_of-set_status}
 use Rattle.pif_kernel.proofs.Parked.{parked_but-seen}
@@ -26,23 +26,28 @@ parked_somewhere (Queued m) e = absurd (true≢false (sym e))
 parked_somewhere Stopped e = absurd (true≢false (sym e))
 parked_somewhere Ended e = absurd (true≢false (sym e))
 
-module _ (p : Plain) (u : ℕ) (h : IsSound p) (c : ℕ) (was : (kernel_seat_at (kernel_of p) u).status ≡ Parked c) where
-  -- it was added
-  pub parked_added : has_seat (kernel_of p) u ≡ true
-  parked_added = added-from_parked (kernel_of p) h.kernel u c was
+-- and was added
+pub parked_added : (p : Plain) (u : ℕ) → IsSound p → is_parked (kernel_seat_at (kernel_of p) u).status ≡ true
+    → has_seat (kernel_of p) u ≡ true
+parked_added p u h e =
+    let d = parked_somewhere (kernel_seat_at (kernel_of p) u).status e in
+    added-from_parked (kernel_of p) h.kernel u d.0 d.1
 
+module _ (p : Plain) (u : ℕ) (h : IsSound p) (added : has_seat (kernel_of p) u ≡ true)
+    (unready : is_ready (kernel_seat_at (kernel_of p) u).status ≡ false)
+    (unqueued : queued_on (kernel_seat_at (kernel_of p) u).status ≡ 0) where
   -- it has a number, and stands within
-  pub parked_number : (u ≢ 0) × (u < length p.statuses)
-  parked_number = added_seen p (fits p h) u parked_added
+  pub rests_within : (u ≢ 0) × (u < length p.statuses)
+  rests_within = added_seen p (fits p h) u added
 
   -- its priority is a level
-  pub parked_level : 1 ≤ (seat_at p.owners u).local
-  parked_level = omega (arith, h.local u, (effective_level p h u parked_added).0)
+  pub rests_level : 1 ≤ (seat_at p.owners u).local
+  rests_level = omega (arith, h.local u, (effective_level p h u added).0)
 
   -- it is on no level
-  pub parked_free : holder p.table (node_for p.queue u) ≡ None
-  parked_free = unqueued_free p h u (omega (arith, some u parked_number.0))
-      (λ r. h.kernel.level u r ∙ rw (ap is_ready was) (both_false (has_seat (kernel_of p) u)))
+  pub rests_free : holder p.table (node_for p.queue u) ≡ None
+  rests_free = unqueued_free p h u (omega (arith, some u rests_within.0))
+      (λ r. h.kernel.level u r ∙ rw unready (both_false (has_seat (kernel_of p) u)))
     where
       some : (n : ℕ) → n ≢ 0 → 1 ≤ n
       some n z = grind (arith, z)
@@ -75,13 +80,13 @@ module _ (p : Plain) (u : ℕ) (h : IsSound p) (c : ℕ) (was : (kernel_seat_at 
         ∙ ap (λ (n : ℕ). level_at (levels_with u n (kernel_of p).levels) r) rank_is)
       where
         level : IsLevel prio
-        level = subst IsLevel (sym rank_is) (effective_level p h u parked_added)
+        level = subst IsLevel (sym rank_is) (effective_level p h u added)
 
     kept : IsKernel (kernel_of after)
-    kept = subst IsKernel (sym kernel_woken) (kernel-woken u w (kernel_of p) h.kernel c was)
+    kept = subst IsKernel (sym kernel_woken) (kernel-roused u w (kernel_of p) h.kernel added unready unqueued)
 
     idle : queued_on (status_at p u) ≡ 0
-    idle = ap queued_on (sym (status_seen p (fits p h) u) ∙ was)
+    idle = ap queued_on (sym (status_seen p (fits p h) u)) ∙ unqueued
 
     -- and all is sound
     pub sound_woken : IsSound after
@@ -89,15 +94,16 @@ module _ (p : Plain) (u : ℕ) (h : IsSound p) (c : ℕ) (was : (kernel_seat_at 
         sound_moved p (Ready w) (parked_but p.parked u) q tb u h idle refl place holds count kept
 
 -- the same, as it is written
-pub woken_ends : (p x : Plain) (u : ℕ) → IsSound p → (c : ℕ) → (kernel_seat_at (kernel_of p) u).status ≡ Parked c
-    → (w : Woken) (prio : ℕ) (q : Queue) (tb : Table) → x ≡ record p { parked = parked_but p.parked u }
+pub woken_ends : (p x : Plain) (u : ℕ) → IsSound p → has_seat (kernel_of p) u ≡ true
+    → is_ready (kernel_seat_at (kernel_of p) u).status ≡ false
+    → queued_on (kernel_seat_at (kernel_of p) u).status ≡ 0 → (w : Woken) (prio : ℕ) (q : Queue) (tb : Table) → x ≡ record p { parked = parked_but p.parked u }
     → prio ≡ (seat_at x.owners u).local → q ≡ record x.queue { mask = q.mask }
     → ((r : ℕ) → IsLevel r → level_of q tb r ≡ level_after_add u prio r (level_of x.queue x.table r)) → Holds q tb
     → length tb.lists ≡ length x.table.lists
     → (kernel_of (record x { statuses = set x.statuses u (Ready w); queue = q; table = tb })
     ≡ kernel_after_waking u w (kernel_of p))
     × IsSound (record x { statuses = set x.statuses u (Ready w); queue = q; table = tb })
-woken_ends p x u h c was w prio q tb e =
+woken_ends p x u h added unready unqueued w prio q tb e =
     subst (λ (y : Plain). prio ≡ (seat_at y.owners u).local → q ≡ record y.queue { mask = q.mask }
     → ((r : ℕ) → IsLevel r → level_of q tb r ≡ level_after_add u prio r (level_of y.queue y.table r)) → Holds q tb
     → length tb.lists ≡ length y.table.lists
@@ -105,6 +111,6 @@ woken_ends p x u h c was w prio q tb e =
     ≡ kernel_after_waking u w (kernel_of p))
     × IsSound (record y { statuses = set y.statuses u (Ready w); queue = q; table = tb })) (sym e)
     (λ rank place levels holds count. (
-      kernel_woken p u h c was w prio (rank ∙ h.local u) q tb place levels holds count,
-      sound_woken p u h c was w prio (rank ∙ h.local u) q tb place levels holds count,
+      kernel_woken p u h added unready unqueued w prio (rank ∙ h.local u) q tb place levels holds count,
+      sound_woken p u h added unready unqueued w prio (rank ∙ h.local u) q tb place levels holds count,
     ))

@@ -4,7 +4,7 @@ use Rattle.std.specs.Coded.{Coded, code_by, coded×, coded_ℕ, coded_list, code
 use Rattle.pif_types.specs.Bounds.{Bounds}
 use Rattle.pif_model.specs.declared.lines.Status.{Status}
 use Rattle.pif_model.specs.declared.lines.Status.TheVariants.{Ready, Queued, Parked, Stopped, Ended}
-use Rattle.pif_model.specs.declared.lines.Woken.TheVariants.{Fresh, Owns, Again}
+use Rattle.pif_model.specs.declared.lines.Woken.TheVariants.{Fresh, Owns, Again, Expired}
 use Rattle.pif_nodes.specs.declared.keys.Key.{Key}
 use Rattle.pif_nodes.specs.Table.{Table}
 use Rattle.pif_runq.specs.Levels.{Queue}
@@ -23,22 +23,25 @@ abbrev numbers_of : Status → ℕ × ℕ
 numbers_of (Ready Fresh) = (0, 0)
 numbers_of (Ready Owns) = (1, 0)
 numbers_of (Ready Again) = (2, 0)
-numbers_of (Queued m) = (3, m)
-numbers_of (Parked c) = (4, c)
-numbers_of Stopped = (5, 0)
-numbers_of Ended = (6, 0)
+numbers_of (Ready Expired) = (3, 0)
+numbers_of (Queued m) = (4, m)
+numbers_of (Parked c) = (5, c)
+numbers_of Stopped = (6, 0)
+numbers_of Ended = (7, 0)
 
 abbrev status_of : ℕ × ℕ → Status
 status_of p =
     if p.0 == 0 then Ready Fresh else
     (if p.0 == 1 then Ready Owns else
     (if p.0 == 2 then Ready Again else
-    (if p.0 == 3 then Queued p.1 else (if p.0 == 4 then Parked p.1 else (if p.0 == 5 then Stopped else Ended)))))
+    (if p.0 == 3 then Ready Expired else
+    (if p.0 == 4 then Queued p.1 else (if p.0 == 5 then Parked p.1 else (if p.0 == 6 then Stopped else Ended))))))
 
 pub status_of-numbers : (x : Status) → status_of (numbers_of x) ≡ x
 status_of-numbers (Ready Fresh) = refl
 status_of-numbers (Ready Owns) = refl
 status_of-numbers (Ready Again) = refl
+status_of-numbers (Ready Expired) = refl
 status_of-numbers (Queued m) = refl
 status_of-numbers (Parked c) = refl
 status_of-numbers Stopped = refl

@@ -1,6 +1,6 @@
-ghost use Rattle.std.specs.Prelude.{◌≡◌, ◌≤◌, ◌==◌, true, length, if◌then◌else◌, Some, None};
+ghost use Rattle.std.specs.Prelude.{◌≡◌, ◌≤◌, ◌==◌, true, false, length, if◌then◌else◌, Some, None};
 ghost use Rattle.std.specs.List.{slice_get};
-ghost use Rattle.pif_model.specs.PiKernel.{Kernel, IsKernel, seat_at, has_seat, is_living, is_ready, effective_in, pick_in, waiters_in, parked_in, ready_in, kernel_after_add, lock_answer, words_after_lock, kernel_after_lock, try_lock_answer, words_after_try_lock, unlock_answer, words_after_unlock, kernel_after_unlock, set_prio_answer, kernel_after_set_prio, kernel_after_stop, wait_requeue_answer, kernel_after_wait_requeue, requeue_answer, after_requeue, after_exit};
+ghost use Rattle.pif_model.specs.PiKernel.{Kernel, IsKernel, seat_at, has_seat, is_living, is_ready, effective_in, pick_in, waiters_in, parked_in, ready_in, kernel_after_add, lock_answer, words_after_lock, kernel_after_lock, try_lock_answer, words_after_try_lock, unlock_answer, words_after_unlock, kernel_after_unlock, set_prio_answer, kernel_after_set_prio, kernel_after_stop, kernel_after_expire, wait_requeue_answer, kernel_after_wait_requeue, requeue_answer, after_requeue, after_exit};
 ghost use Rattle.pif_model.specs.RobustList.{robust_at, walk_of, without_robust};
 ghost use Rattle.pif_word.specs.WordMap.{words_of};
 ghost use Rattle.pif_kernel.specs.Answers.{unit_answer};
@@ -166,6 +166,17 @@ pub trait PiKernel {
         requires added { has_seat (meaning self.old) t ≡ true }
         requires ready { is_ready (seat_at (meaning self.old) t).status ≡ true }
         ensures after { meaning self.new ≡ kernel_after_stop t (meaning self.old) }
+        ensures kept { IsKernel (meaning self.new) };
+
+    /// The deadline of the living thread `t`, which is queued, parked or stopped, is reached (the timeout of futex(2),
+    /// FUTEX_LOCK_PI and FUTEX_WAIT_REQUEUE_PI). It leaves the mutex on which it is queued, whose owner state goes where
+    /// nobody else waits, or the variable on which it is parked, and all for whom it waited get their new priorities.
+    /// Then it is ready, and joins the end of its level. No word is written: that of a mutex on which nobody is queued
+    /// any more may keep WAITERS.
+    fn expire(&mut self, t: Tid)
+        requires living { is_living (meaning self.old) t ≡ true }
+        requires unready { is_ready (seat_at (meaning self.old) t).status ≡ false }
+        ensures after { meaning self.new ≡ kernel_after_expire t (meaning self.old) }
         ensures kept { IsKernel (meaning self.new) };
 
     /// The living thread `t` ends, in whatever it does, and on any words and robust lists (robust futexes of Linux;

@@ -36,6 +36,7 @@
 //! unlock_pi, u is next     u and WAITERS     s is u, or none  all but u       u is ready   u joins; then t
 //! set_prio                                                                                 t and its chain
 //! stop                                                                        t is stopped t leaves
+//! expire                                     s, or none       all but t       t is ready   its chain; then t joins
 //! exit, t itself                             s, or none       all but t       t has ended  t leaves; then its chain
 //! exit, then m with no s   OWNER_DIED
 //! exit, u is next of m     u and both flags  s is u, or none  all but u       u is ready   u joins; then t
@@ -55,6 +56,10 @@
 //! whole before the next, by the word as it is then. Each time it takes that of greatest effective priority now, and of
 //! several the first that was parked. In the last row n lives not, is u, or waits for u through a chain: u is woken,
 //! and locks the mutex itself.
+//!
+//! expire refuses nothing, and writes no word. `t`, which lives and may not run, leaves the mutex on which it is queued, or
+//! the variable on which it is parked, and the chain above it has its priorities before it joins its level. The word of
+//! the mutex keeps WAITERS, also where nobody is queued on it any more.
 //!
 //! exit refuses nothing. `t` itself leaves the mutex on which it is queued, or the variable on which it is parked. Then
 //! it goes through the mutexes that its robust list and its pending field name, and touches each whose word has n = t,

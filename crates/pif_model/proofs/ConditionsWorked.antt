@@ -23,6 +23,8 @@ use Rattle.pif_model.specs.Posix.GivesUp.{released}
 use Rattle.pif_model.specs.Posix.Uses.{counts}
 use Rattle.pif_model.specs.Posix.Chooses.{all as wakes_all}
 use Rattle.pif_model.specs.Posix.Effect.{lock, unlock, check_wait, enlist, give_up, use_variable, choose}
+use Rattle.pif_model.specs.Posix.Moves.{acts}
+use Rattle.pif_model.specs.Deadlines.{no_timer}
 use Rattle.pif_model.specs.Posix.Effects.{none as no_effect, then as effect_then, owed}
 use Rattle.pif_model.specs.Posix.Step.{thread_added, mutex_added, cond_added, begun, waits, answered}
 use Rattle.pif_model.specs.Posix.IsRun.{start, next}
@@ -50,13 +52,14 @@ record Scene : Type 0 where
 abbrev world : Option Call → Memory → Option Call → Memory → Option Call → Memory → Scene → World
 world one m1 two m2 three m3 x = record {
   threads =
-      nobody ∷ record { base = 10; living = true; call = one; memory = m1 }
-      ∷ record { base = 10; living = true; call = two; memory = m2 }
-      ∷ record { base = 20; living = true; call = three; memory = m3 } ∷ [];
+      nobody ∷ record { base = 10; living = true; call = one; timer = no_timer; memory = m1 }
+      ∷ record { base = 10; living = true; call = two; timer = no_timer; memory = m2 }
+      ∷ record { base = 20; living = true; call = three; timer = no_timer; memory = m3 } ∷ [];
   mutexes = no_mutex ∷ record { kind = Normal; robust = false; owner = x.owner; count = 1; health = Fine } ∷ [];
   variables = no_variable ∷ record { mutex = 1; uses = x.uses } ∷ [];
   waiters = x.waiters;
   signals = 9;
+  time = 0;
 }
 
 abbrev scene : ℕ → ℕ → List (ℕ × ℕ) → Scene
@@ -103,14 +106,14 @@ broadcasts = answered 1 0 (Broadcast 1)
     refl
     (record {
       allowed = refl;
-      effects =
-          effect_then {u = used_then}
+      moves =
+          acts refl (effect_then {u = used_then}
           (use_variable (Broadcast 1) refl refl (counts (λ e. omega arith) refl))
           (effect_then {u = both (at (Broadcast 1) (Has 0)) found (waiting Owing) (waiting Owing) (scene 1 1 [])}
           (choose (Broadcast 1) refl (wakes_all 1 (3 ∷ 2 ∷ []) refl blocked_ones still_ones refl))
           (owed {u = both (at (Broadcast 1) (Has 0)) found (waiting Owing) (waiting Waiting) (scene 1 1 ((3, 1) ∷ []))}
           3 1 1 refl refl (joins (λ e. omega arith) (λ e. omega arith) refl refl refl)
-          (owed 2 1 1 refl refl (joins (λ e. omega arith) (λ e. omega arith) refl refl refl) (no_effect refl))));
+          (owed 2 1 1 refl refl (joins (λ e. omega arith) (λ e. omega arith) refl refl refl) (no_effect refl)))));
     })
     refl refl refl
   where
@@ -143,7 +146,7 @@ t2_takes : Step small (none_waited None (at (Lock 1) Fresh) None (scene 0 0 []))
 t2_takes = answered 2 0 (Lock 1) (none_waited None (at (Lock 1) (Has 0)) None (scene 2 0 [])) refl
     (record {
       allowed = refl;
-      effects = effect_then (lock 1 refl (free (λ e. omega arith) refl refl)) (no_effect refl);
+      moves = acts refl (effect_then (lock 1 refl (free (λ e. omega arith) refl refl)) (no_effect refl));
     })
     refl refl refl
 
@@ -154,12 +157,12 @@ unfolding reaches_within greatest_where effective_among first_greatest waited_by
 t2_waits = waits 2 (one_waited None (waiting (Blocked false)) None (scene 0 0 [])) refl
     (record {
       allowed = refl;
-      effects =
-          effect_then {u = one_waited None (waiting Checked) None (scene 2 0 [])}
+      moves =
+          acts refl (effect_then {u = one_waited None (waiting Checked) None (scene 2 0 [])}
           (check_wait 1 1 refl (checked refl refl refl refl))
           (effect_then {u = one_waited None (waiting (Enlisted true)) None (scene 2 0 [])} (enlist 1 1 refl refl)
           (effect_then (give_up 1 1 true refl (released refl (λ e. absurd (cc)) (to_nobody refl refl)))
-          (no_effect refl)));
+          (no_effect refl))));
     })
     refl refl
 
@@ -169,7 +172,7 @@ t3_takes : Step small (one_waited None (waiting (Blocked true)) (at (Lock 1) Fre
 t3_takes = answered 3 0 (Lock 1) (one_waited None (waiting (Blocked true)) (at (Lock 1) (Has 0)) (scene 3 0 [])) refl
     (record {
       allowed = refl;
-      effects = effect_then (lock 1 refl (free (λ e. omega arith) refl refl)) (no_effect refl);
+      moves = acts refl (effect_then (lock 1 refl (free (λ e. omega arith) refl refl)) (no_effect refl));
     })
     refl refl refl
 
@@ -180,13 +183,13 @@ unfolding reaches_within greatest_where effective_among first_greatest waited_by
 t3_waits = waits 3 (both None [] (waiting (Blocked true)) (waiting (Blocked false)) (scene 0 0 [])) refl
     (record {
       allowed = refl;
-      effects =
-          effect_then {u = both None [] (waiting (Blocked true)) (waiting Checked) (scene 3 0 [])}
+      moves =
+          acts refl (effect_then {u = both None [] (waiting (Blocked true)) (waiting Checked) (scene 3 0 [])}
           (check_wait 1 1 refl (checked refl refl refl refl))
           (effect_then {u = both None [] (waiting (Blocked true)) (waiting (Enlisted true)) (scene 3 0 [])}
           (enlist 1 1 refl refl)
           (effect_then (give_up 1 1 true refl (released refl (λ e. absurd (cc)) (to_nobody refl refl)))
-          (no_effect refl)));
+          (no_effect refl))));
     })
     refl refl
 
@@ -197,7 +200,7 @@ t1_takes = answered 1 0 (Lock 1)
     (both (at (Lock 1) (Has 0)) [] (waiting (Blocked true)) (waiting (Blocked true)) (scene 1 0 [])) refl
     (record {
       allowed = refl;
-      effects = effect_then (lock 1 refl (free (λ e. omega arith) refl refl)) (no_effect refl);
+      moves = acts refl (effect_then (lock 1 refl (free (λ e. omega arith) refl refl)) (no_effect refl));
     })
     refl refl refl
 
@@ -210,9 +213,9 @@ unlocks = answered 1 0 (Unlock 1)
     (both (at (Unlock 1) (Has 0)) found (waiting Waiting) (waiting (Has 0)) (scene 3 1 ((2, 1) ∷ []))) refl
     (record {
       allowed = refl;
-      effects =
-          effect_then (unlock 1 refl (unlock_released refl refl (λ e. absurd (cc)) (to_next 3 refl (λ e. omega arith)
-          refl))) (no_effect refl);
+      moves =
+          acts refl (effect_then (unlock 1 refl (unlock_released refl refl (λ e. absurd (cc))
+          (to_next 3 refl (λ e. omega arith) refl))) (no_effect refl));
     })
     refl refl refl
 
@@ -220,7 +223,7 @@ unlocks = answered 1 0 (Unlock 1)
 t3_answered : Step small (both None found (waiting Waiting) (waiting (Has 0)) (scene 3 1 ((2, 1) ∷ [])))
     (Happened (Go 3) (Answered 0)) (both None found (waiting Waiting) None (scene 3 1 ((2, 1) ∷ [])))
 t3_answered = answered 3 0 (Wait 1 1) (both None found (waiting Waiting) (waiting (Has 0)) (scene 3 1 ((2, 1) ∷ [])))
-    refl (record { allowed = refl; effects = no_effect refl }) refl refl refl
+    refl (record { allowed = refl; moves = acts refl (no_effect refl) }) refl refl refl
 
 -- the history, newest entry first
 abbrev history : List Entry

@@ -17,6 +17,8 @@ use Rattle.pif_model.specs.Posix.Locks.{free, joins}
 use Rattle.pif_model.specs.Posix.Passes.{to_nobody, to_next}
 use Rattle.pif_model.specs.Posix.Unlocks.{becomes_unusable, released}
 use Rattle.pif_model.specs.Posix.Effect.{lock, unlock, leave}
+use Rattle.pif_model.specs.Posix.Moves.{acts}
+use Rattle.pif_model.specs.Deadlines.{no_timer}
 use Rattle.pif_model.specs.Posix.Effects.{none as no_effect, then as effect_then}
 use Rattle.pif_model.specs.Posix.Releases.{none_left, one_more}
 use Rattle.pif_model.specs.Posix.Step.{thread_added, mutex_added, begun, waits, answered, ended}
@@ -29,12 +31,13 @@ small = record { threads = 9; mutexes = 9; conds = 0; signals = 1 }
 abbrev world : Bool → Option Call → Option Call → ℕ → Health → List (ℕ × ℕ) → World
 world living one two owner health ws = record {
   threads =
-      nobody ∷ record { base = 10; living = living; call = one; memory = no_memory }
-      ∷ record { base = 20; living = true; call = two; memory = no_memory } ∷ [];
+      nobody ∷ record { base = 10; living = living; call = one; timer = no_timer; memory = no_memory }
+      ∷ record { base = 20; living = true; call = two; timer = no_timer; memory = no_memory } ∷ [];
   mutexes = no_mutex ∷ record { kind = Normal; robust = true; owner = owner; count = 1; health = health } ∷ [];
   variables = no_variable ∷ [];
   waiters = ws;
   signals = 1;
+  time = 0;
 }
 
 -- a call of this request that has come this far
@@ -72,10 +75,10 @@ unfolding reaches_within greatest_where effective_among first_greatest waited_by
 unlocks = answered 2 0 (Unlock 1) (alone (at (Unlock 1) (Has 0)) 0 Unusable) refl
     (record {
       allowed = refl;
-      effects =
-          effect_then {u = alone (at (Unlock 1) Fresh) 2 Unusable}
+      moves =
+          acts refl (effect_then {u = alone (at (Unlock 1) Fresh) 2 Unusable}
           (unlock 1 refl (becomes_unusable refl refl refl refl))
-          (effect_then (unlock 1 refl (released refl refl (λ e. absurd (cc)) (to_nobody refl refl))) (no_effect refl));
+          (effect_then (unlock 1 refl (released refl refl (λ e. absurd (cc)) (to_nobody refl refl))) (no_effect refl)));
     })
     refl refl refl
 
@@ -86,9 +89,10 @@ unfolding reaches_within greatest_where effective_among first_greatest waited_by
 locks_in_vain = answered 2 131 (Lock 1) (alone (at (Lock 1) (Has 131)) 0 Unusable) refl
     (record {
       allowed = refl;
-      effects =
-          effect_then {u = alone (at (Lock 1) Leaving) 2 Unusable} (lock 1 refl (free (λ e. omega arith) refl refl))
-          (effect_then (leave (Lock 1) refl (to_nobody refl refl)) (no_effect refl));
+      moves =
+          acts refl (effect_then {u = alone (at (Lock 1) Leaving) 2 Unusable}
+          (lock 1 refl (free (λ e. omega arith) refl refl))
+          (effect_then (leave (Lock 1) refl (to_nobody refl refl)) (no_effect refl)));
     })
     refl refl refl
 
@@ -98,7 +102,7 @@ takes : Step small (world true (at (Lock 1) Fresh) None 0 Fine []) (Happened (Go
 takes = answered 1 0 (Lock 1) (world true (at (Lock 1) (Has 0)) None 1 Fine []) refl
     (record {
       allowed = refl;
-      effects = effect_then (lock 1 refl (free (λ e. omega arith) refl refl)) (no_effect refl);
+      moves = acts refl (effect_then (lock 1 refl (free (λ e. omega arith) refl refl)) (no_effect refl));
     })
     refl refl refl
 
@@ -108,7 +112,9 @@ unfolding reaches_within greatest_where effective_among first_greatest waited_by
 queues = waits 2 t2_waits refl
     (record {
       allowed = refl;
-      effects = effect_then (lock 1 refl (joins (λ e. omega arith) (λ e. omega arith) refl refl refl)) (no_effect refl);
+      moves =
+          acts refl (effect_then (lock 1 refl (joins (λ e. omega arith) (λ e. omega arith) refl refl refl))
+          (no_effect refl));
     })
     refl refl
 
@@ -133,7 +139,8 @@ legal = record {
       (mutex_added 1 Normal true refl refl (omega arith) refl))
       (begun 1 (Lock 1) refl refl refl)) takes)
       (begun 2 (Lock 1) refl refl refl)) queues) ends)
-      (answered 2 130 (Lock 1) handed_over refl (record { allowed = refl; effects = no_effect refl }) refl refl refl))
+      (answered 2 130 (Lock 1) handed_over refl (record { allowed = refl; moves = acts refl (no_effect refl) })
+      refl refl refl))
       (begun 2 (Unlock 1) refl refl refl)) unlocks)
       (begun 2 (Lock 1) refl refl refl)) locks_in_vain;
 }

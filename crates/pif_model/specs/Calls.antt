@@ -1,5 +1,5 @@
 -- What the public calls of a core answer, and the table that they leave, by the table before.
-use Rattle.std.specs.Prelude.{ℕ, ◌-◌, Bool, true, false, ◌==◌, length, Option, Some, None, Result, Ok, Err, if◌then◌else◌}
+use Rattle.std.specs.Prelude.{ℕ, ◌-◌, Bool, true, false, ◌==◌, length, Option, Some, None, option_map, Result, Ok, Err, if◌then◌else◌}
 use Rattle.std.specs.List.{slice_get}
 use Rattle.pif_types.specs.declared.errors.AddFault.{AddFault}
 use Rattle.pif_types.specs.declared.errors.AddFault.TheVariants.{TooMany, BadPrio, NoSuch}
@@ -12,8 +12,9 @@ use Rattle.pif_model.specs.declared.lines.Status.{Status}
 use Rattle.pif_model.specs.Graph.{is_priority}
 use Rattle.pif_model.specs.Word.{bits_of, health_in}
 use Rattle.pif_model.specs.PiKernel.{is_living, is_ready, seat_at, effective_in, pick_in, waiters_in, parked_in, ready_in}
-use Rattle.pif_model.specs.Table.{Table, cell_at, line_at, status_at, has_thread, has_mutex, has_cond, bound_to, uses_of, has_thread_room, has_mutex_room, has_cond_room, thread_added, mutex_added, cond_added}
-use Rattle.pif_model.specs.Lines.{is_open}
+use Rattle.pif_model.specs.Table.{Table, cell_at, line_at, timer_at, status_at, has_thread, has_mutex, has_cond, bound_to, uses_of, has_thread_room, has_mutex_room, has_cond_room, thread_added, mutex_added, cond_added}
+use Rattle.pif_model.specs.Lines.{is_open, is_due_in}
+use Rattle.pif_model.specs.Deadlines.{timed}
 
 -- adding a thread of priority p: BadPrio, then TooMany, else its number
 abbrev pub add_thread_answer : ℕ → Table → Result ℕ AddFault
@@ -65,11 +66,13 @@ pick_answer s = if pick_in s.kernel == 0 then None else Some (pick_in s.kernel)
 abbrev pub threads_answer : Table → ℕ
 threads_answer s = length s.lines - 1
 
--- whether a living thread with a call open rests: it may not run
+-- whether a living thread with a call open rests, and goes on resting at its next step: it may not run, and its call is
+-- not due
 abbrev pub waiting_answer : ℕ → Table → Option Bool
 waiting_answer t s =
     if is_living s.kernel t
-    then (if is_open (line_at s t) then Some (if is_ready (status_at s t) then false else true) else None)
+    then (if is_open (line_at s t)
+    then Some (if is_ready (status_at s t) then false else (if is_due_in s t then false else true)) else None)
     else None
 
 -- WHAT A PERSON LOOKS AT
@@ -87,9 +90,9 @@ abbrev pub request_at : Line → Option Request
 request_at Idle = None
 request_at (At q p) = Some q
 
--- the open call of a thread that was added
+-- the open call of a thread that was added, as it was made
 abbrev pub open_call_answer : ℕ → Table → Option Request
-open_call_answer t s = if has_thread s t then request_at (line_at s t) else None
+open_call_answer t s = if has_thread s t then option_map (timed (timer_at s t).deadline) (request_at (line_at s t)) else None
 
 -- the number in a word and how often its thread holds the mutex; none where the word has no number
 abbrev pub owner_by : ℕ → ℕ → Option (ℕ × ℕ)

@@ -1,15 +1,16 @@
 -- Who holds a mutex by the answers alone. It reads a history, newest entry first, and no machine.
 use Rattle.std.specs.Prelude.{ℕ, ◌≡◌, ◌+◌, ◌-◌, Bool, true, false, ◌==◌, nat_lt, List, [], ◌∷◌, Option, Some, None, if◌then◌else◌}
 use Rattle.pif_types.specs.declared.requests.Request.{Request}
-use Rattle.pif_types.specs.declared.requests.Request.TheVariants.{Lock, TryLock, Unlock, Consistent, Wait, Signal, Broadcast, SetPrio}
+use Rattle.pif_types.specs.declared.requests.Request.TheVariants.{Lock, TryLock, Unlock, Wait}
 use Rattle.pif_model.specs.declared.events.Event.TheVariants.{Begin, Go, End}
 use Rattle.pif_model.specs.declared.events.Seen.TheVariants.{Begun, Answered, Ended}
 use Rattle.pif_model.specs.declared.events.Entry.{Entry}
 use Rattle.pif_model.specs.declared.events.Entry.TheVariants.{Step as Happened}
+use Rattle.pif_model.specs.Deadlines.{plain}
 
--- t's open call after one more entry
+-- t's open call after one more entry; a timed one without its deadline, since ETIMEDOUT changes no hold count
 abbrev pub open_after : ℕ → Entry → Option Request → Option Request
-open_after t (Happened (Begin u q) Begun) before = if u == t then Some q else before
+open_after t (Happened (Begin u q) Begun) before = if u == t then Some (plain q) else before
 open_after t (Happened (Go u) (Answered a)) before = if u == t then None else before
 open_after t (Happened (End u) Ended) before = if u == t then None else before
 open_after t _ before = before
@@ -35,11 +36,8 @@ hold_count_after_answer m None a count = count
 hold_count_after_answer m (Some (Lock n)) a count = if n == m then hold_count_locked a count else count
 hold_count_after_answer m (Some (TryLock n)) a count = if n == m then hold_count_locked a count else count
 hold_count_after_answer m (Some (Unlock n)) a count = if n == m then (if a == 0 then count - 1 else count) else count
-hold_count_after_answer m (Some (Consistent n)) a count = count
 hold_count_after_answer m (Some (Wait c n)) a count = if n == m then hold_count_waited a count else count
-hold_count_after_answer m (Some (Signal c)) a count = count
-hold_count_after_answer m (Some (Broadcast c)) a count = count
-hold_count_after_answer m (Some (SetPrio u p)) a count = count
+hold_count_after_answer m (Some q) a count = count
 
 -- the hold count of t on m after one more entry: an end of t makes it 0
 abbrev pub hold_count_after : ℕ → ℕ → Option Request → Entry → ℕ → ℕ
@@ -56,26 +54,14 @@ hold_count t m (e ∷ h) = hold_count_after t m (open_call t h) e (hold_count t 
 -- 1 while an unlock of m is open
 abbrev pub unlocking : ℕ → Option Request → ℕ
 unlocking m None = 0
-unlocking m (Some (Lock n)) = 0
-unlocking m (Some (TryLock n)) = 0
 unlocking m (Some (Unlock n)) = if n == m then 1 else 0
-unlocking m (Some (Consistent n)) = 0
-unlocking m (Some (Wait c n)) = 0
-unlocking m (Some (Signal c)) = 0
-unlocking m (Some (Broadcast c)) = 0
-unlocking m (Some (SetPrio u p)) = 0
+unlocking m (Some q) = 0
 
 -- whether a wait on m is open
 abbrev pub waiting_with : ℕ → Option Request → Bool
 waiting_with m None = false
-waiting_with m (Some (Lock n)) = false
-waiting_with m (Some (TryLock n)) = false
-waiting_with m (Some (Unlock n)) = false
-waiting_with m (Some (Consistent n)) = false
 waiting_with m (Some (Wait c n)) = n == m
-waiting_with m (Some (Signal c)) = false
-waiting_with m (Some (Broadcast c)) = false
-waiting_with m (Some (SetPrio u p)) = false
+waiting_with m (Some q) = false
 
 -- whether t holds m by the answers: no wait of t on m is open, and its hold count, less 1 while an unlock of m by t is
 -- open, is above 0

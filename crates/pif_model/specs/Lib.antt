@@ -1,5 +1,6 @@
 pub mod Graph
 pub mod Refusals
+pub mod Deadlines
 pub mod Word
 pub mod PiKernel
 pub mod RobustList

@@ -6,23 +6,25 @@ use Rattle.pif_types.specs.declared.errors.Errno.TheVariants.{NoSuchThread, Agai
 use Rattle.pif_types.specs.declared.errors.Refusal.{Refusal}
 use Rattle.pif_types.specs.declared.requests.Kind.TheVariants.{Normal, ErrorCheck, Recursive}
 use Rattle.pif_types.specs.declared.requests.Request.{Request}
-use Rattle.pif_types.specs.declared.requests.Request.TheVariants.{Lock, TryLock, Unlock, Consistent, Wait, Signal, Broadcast, SetPrio}
+use Rattle.pif_types.specs.declared.requests.Request.TheVariants.{Lock, TryLock, Unlock, Consistent, Wait, Signal, Broadcast, SetPrio, TimedLock, TimedWait}
 use Rattle.pif_model.specs.declared.events.Event.{Event}
-use Rattle.pif_model.specs.declared.events.Event.TheVariants.{Begin, Go, End}
+use Rattle.pif_model.specs.declared.events.Event.TheVariants.{Begin, Go, End, Tick}
 use Rattle.pif_model.specs.declared.events.Seen.{Seen}
-use Rattle.pif_model.specs.declared.events.Seen.TheVariants.{Begun, Went, Waits, Answered, Ended, Refused}
+use Rattle.pif_model.specs.declared.events.Seen.TheVariants.{Begun, Went, Waits, Answered, Ended, Ticked, Refused}
 use Rattle.pif_model.specs.declared.lines.Line.{Line}
 use Rattle.pif_model.specs.declared.lines.Line.TheVariants.{Idle, At}
 use Rattle.pif_model.specs.declared.lines.Place.{Place}
-use Rattle.pif_model.specs.declared.lines.Place.TheVariants.{LockLoad, LockPending, LockExchange, LockKernel, LockQueued, LockStop, LockStopped, LockClear, TakeLoad, TakeHealth, TakeStore, TakeWord, LinkNext, LinkHead, LinkClear, LeaveExchange, LeaveKernel, LeaveClear, TryLoad, TryPending, TryExchange, TryKernel, TryClear, UnlockLoad, UnlockPending, UnlockHealth, UnlockStore, UnlockUnlink, UnlockExchange, UnlockKernel, UnlockClear, ConsistentLoad, ConsistentHealth, ConsistentStore, WaitLoad, WaitUses, WaitPending, WaitHealth, WaitStore, WaitUnlink, WaitExchange, WaitKernel, WaitPark, WaitParked, UseLoad, UseExchange, UseRequeue, UseReload, SetPriority}
+use Rattle.pif_model.specs.declared.lines.Place.TheVariants.{LockLoad, LockPending, LockExchange, LockKernel, LockQueued, LockStop, LockStopped, LockClear, QueueExpired, StopExpired, TakeLoad, TakeHealth, TakeStore, TakeWord, LinkNext, LinkHead, LinkClear, LeaveExchange, LeaveKernel, LeaveClear, TryLoad, TryPending, TryExchange, TryKernel, TryClear, UnlockLoad, UnlockPending, UnlockHealth, UnlockStore, UnlockUnlink, UnlockExchange, UnlockKernel, UnlockClear, ConsistentLoad, ConsistentHealth, ConsistentStore, WaitLoad, WaitUses, WaitPending, WaitHealth, WaitStore, WaitUnlink, WaitExchange, WaitKernel, WaitPark, WaitParked, UseLoad, UseExchange, UseRequeue, UseReload, SetPriority}
 use Rattle.pif_model.specs.declared.lines.Took.{Took}
 use Rattle.pif_model.specs.declared.lines.Took.TheVariants.{Owns as TookOwns, Queued as TookQueued}
+use Rattle.pif_model.specs.declared.lines.Status.{Status}
 use Rattle.pif_model.specs.Posix.{names_known}
-use Rattle.pif_model.specs.Refusals.{begin_refused, go_refused, end_refused}
+use Rattle.pif_model.specs.Refusals.{begin_refused, go_refused, end_refused, tick_refused}
+use Rattle.pif_model.specs.Deadlines.{plain, timer_of, ran_out, is_reached, told_seen}
 use Rattle.pif_model.specs.Word.{Word, Words, word_at, take_word, release_word}
-use Rattle.pif_model.specs.PiKernel.{is_ready, is_woken_again, is_living, lock_answer, words_after_lock, kernel_after_lock, try_lock_answer, words_after_try_lock, unlock_answer, words_after_unlock, kernel_after_unlock, set_prio_answer, kernel_after_set_prio, kernel_after_stop, wait_requeue_answer, kernel_after_wait_requeue, requeue_answer, after_requeue, after_exit}
+use Rattle.pif_model.specs.PiKernel.{is_ready, is_parked, is_woken_again, is_living, lock_answer, words_after_lock, kernel_after_lock, try_lock_answer, words_after_try_lock, unlock_answer, words_after_unlock, kernel_after_unlock, set_prio_answer, kernel_after_set_prio, kernel_after_stop, wait_requeue_answer, kernel_after_wait_requeue, requeue_answer, after_requeue, after_exit, kernel_after_expire}
 use Rattle.pif_model.specs.RobustList.{robust_at, walk_of, with_pending, without_pending, with_half_linked, with_listed, without_listed, without_robust}
-use Rattle.pif_model.specs.Table.{Table, LibraryMutex, new_mutex, status_at, line_at, cell_at, has_thread, has_mutex, has_cond, bound_to, uses_of, with_line, with_count, with_word, with_health_word, with_cond_word, with_lists, with_kernel}
+use Rattle.pif_model.specs.Table.{Table, LibraryMutex, new_mutex, status_at, line_at, timer_at, cell_at, has_thread, has_mutex, has_cond, bound_to, uses_of, with_line, with_timer, with_count, with_word, with_health_word, with_cond_word, with_lists, with_kernel}
 
 -- what a step is answered, and the state after it
 pub record Outcome : Type 0 where
@@ -350,6 +352,8 @@ use_line q _ c t s = answers t 22 s
 unfoldable pub line_of : Request → Place → ℕ → Table → Outcome
 line_of (Lock m) LockLoad t s = lock_load (Lock m) t m s
 line_of (Lock m) LockPending t s = goes_to t (Lock m) LockExchange (pending t m s)
+line_of (Lock m) QueueExpired t s = clears 110 t s
+line_of (Lock m) StopExpired t s = clears 110 t s
 line_of (Lock m) p t s = locking_line (Lock m) p t m s
 line_of (TryLock m) TryLoad t s = try_load t m s
 line_of (TryLock m) TryPending t s = goes_to t (TryLock m) TryExchange (pending t m s)
@@ -385,10 +389,54 @@ line_of (Broadcast c) p t s = use_line (Broadcast c) p c t s
 line_of (SetPrio u p) SetPriority t s = set_priority t u p s
 line_of _ _ t s = answers t 22 s
 
--- one step of the open call
+-- DEADLINES
+
+-- whether the deadline of a call counts at this place, where it has one, by its thread's status: that of a lock while
+-- it is queued or stopped, that of a wait while it is parked. Who was handed the mutex is ready; who was taken off its
+-- variable is parked no more
+abbrev pub counts_at : Request → Place → Status → Bool
+counts_at (Lock m) LockQueued x = if is_ready x then false else true
+counts_at (Lock m) LockStopped x = true
+counts_at (Wait c m) WaitParked x = is_parked x
+counts_at _ _ x = false
+
+-- whether t's call at this line is due: its deadline counts, and is reached
+abbrev pub is_line_due : Line → ℕ → Table → Bool
+is_line_due Idle t s = false
+is_line_due (At q p) t s =
+    if is_reached (timer_at s t).deadline s.time then counts_at q p (status_at s t) else false
+
+-- whether t's open call is due
+abbrev pub is_due_in : Table → ℕ → Bool
+is_due_in s t = is_line_due (line_at s t) t s
+
+-- where the lock of a robust mutex goes on that expires at this place
+abbrev pub expired_place : Place → Place
+expired_place LockQueued = QueueExpired
+expired_place _ = StopExpired
+
+-- the kernel call expire
+unfoldable pub expired_in : ℕ → Table → Table
+expired_in t s = with_kernel s.words (kernel_after_expire t s.kernel) s
+
+-- a call that is due at this place expires. A lock of a stalled mutex is answered ETIMEDOUT, that of a robust one
+-- clears its pending field first; a wait goes on to lock its mutex. Another request is never due: EINVAL
+unfoldable pub expires_at : Request → Place → ℕ → Table → Outcome
+expires_at (Lock m) p t s = ends_by t (Lock m) m (expired_place p) 110 (expired_in t s)
+expires_at (Wait c m) p t s =
+    goes_to t (Wait c m) LockExchange (with_timer t (ran_out (timer_at s t)) (expired_in t s))
+expires_at q p t s = answers t 22 s
+
+-- what a call that has run out of time, or has not, shows of a step
+abbrev pub told_outcome : Request → Bool → Outcome → Outcome
+told_outcome q expired x = record x { seen = told_seen q expired x.seen }
+
+-- one step of the open call: one that is due expires, and does nothing else
 unfoldable pub go_outcome : Line → ℕ → Table → Outcome
 go_outcome Idle t s = record { seen = Waits; after = s }
-go_outcome (At q p) t s = line_of q p t s
+go_outcome (At q p) t s =
+    if is_line_due (At q p) t s then expires_at q p t s
+    else told_outcome q (timer_at s t).expired (line_of q p t s)
 
 -- where a call begins
 abbrev pub first_place : Request → Place
@@ -400,6 +448,12 @@ first_place (Wait c m) = WaitLoad
 first_place (Signal c) = UseLoad
 first_place (Broadcast c) = UseLoad
 first_place (SetPrio u p) = SetPriority
+first_place (TimedLock m d) = LockLoad
+first_place (TimedWait c m d) = WaitLoad
+
+-- t begins this call: a timed one is its plain request, with a timer
+abbrev pub begun_table : ℕ → Request → Table → Table
+begun_table t q s = with_timer t (timer_of q) (with_line t (At (plain q) (first_place q)) s)
 
 -- whether a call is open
 abbrev pub is_open : Line → Bool
@@ -413,12 +467,14 @@ table_refusal s (Begin t q) =
     (names_known (has_mutex s) (has_cond s) q)
 table_refusal s (Go t) = go_refused (has_thread s t) (is_living s.kernel t) (is_open (line_at s t))
 table_refusal s (End t) = end_refused (has_thread s t) (is_living s.kernel t)
+table_refusal s (Tick n) = tick_refused s.time n
 
 -- an event that is not refused
 unfoldable pub accepted_outcome : Event → Table → Outcome
-accepted_outcome (Begin t q) s = record { seen = Begun; after = with_line t (At q (first_place q)) s }
+accepted_outcome (Begin t q) s = record { seen = Begun; after = begun_table t q s }
 accepted_outcome (Go t) s = go_outcome (line_at s t) t s
 accepted_outcome (End t) s = record { seen = Ended; after = ended_table t s }
+accepted_outcome (Tick n) s = record { seen = Ticked; after = record s { time = n } }
 
 -- an event by its refusal, if there is one
 abbrev pub by_refusal : Option Refusal → Event → Table → Outcome

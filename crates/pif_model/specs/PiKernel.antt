@@ -11,7 +11,7 @@ use Rattle.pif_types.specs.declared.errors.Errno.TheVariants.{NotPermitted, NoSu
 use Rattle.pif_model.specs.declared.lines.Status.{Status}
 use Rattle.pif_model.specs.declared.lines.Status.TheVariants.{Ready, Queued, Parked, Stopped, Ended}
 use Rattle.pif_model.specs.declared.lines.Woken.{Woken}
-use Rattle.pif_model.specs.declared.lines.Woken.TheVariants.{Fresh as WokenFresh, Owns as WokenOwns, Again as WokenAgain}
+use Rattle.pif_model.specs.declared.lines.Woken.TheVariants.{Fresh as WokenFresh, Owns as WokenOwns, Again as WokenAgain, Expired as WokenExpired}
 use Rattle.pif_model.specs.declared.lines.Took.{Took}
 use Rattle.pif_model.specs.declared.lines.Took.TheVariants.{Owns as TookOwns, Queued as TookQueued}
 use Rattle.pif_model.specs.Graph.{is_priority, reaches_within, effective_among, next_waiter, has_waiter, without, waiting_order}
@@ -89,6 +89,7 @@ abbrev pub is_woken_again : Status → Bool
 is_woken_again (Ready WokenFresh) = false
 is_woken_again (Ready WokenOwns) = false
 is_woken_again (Ready WokenAgain) = true
+is_woken_again (Ready WokenExpired) = false
 is_woken_again (Queued m) = false
 is_woken_again (Parked c) = false
 is_woken_again Stopped = false
@@ -101,6 +102,15 @@ is_ready (Queued m) = false
 is_ready (Parked c) = false
 is_ready Stopped = false
 is_ready Ended = false
+
+-- whether a thread of this status waits for nothing, and may not run: it is queued on no mutex, parked on no variable
+-- and of no level
+abbrev pub is_out : Status → Bool
+is_out (Ready w) = false
+is_out (Queued m) = false
+is_out (Parked c) = false
+is_out Stopped = true
+is_out Ended = true
 
 -- the owner that the owner state of m names; 0 where there is no owner state
 abbrev pub state_at : Kernel → ℕ → ℕ
@@ -435,20 +445,34 @@ unfoldable pub after_requeue : ℕ → ℕ → ℕ → Result ℕ Errno → Word
 after_requeue c m more (Ok n) ws k = after_takings (suc more) c m (record { words = ws; kernel = k })
 after_requeue c m more (Err e) ws k = record { words = ws; kernel = k }
 
--- THE END OF A THREAD
+-- LEAVING WHAT A THREAD WAITS FOR
 
--- t has ended: it has left the mutex on which it was queued, whose owner state goes where nobody else waits, or the
--- variable on which it was parked, and its level, and the chain above has its priorities. Of the owner states that it
--- still owns nothing is changed
-unfoldable pub kernel_after_leaving : ℕ → Kernel → Kernel
-kernel_after_leaving t k =
+-- t has this status, by which it waits for nothing: it has left the mutex on which it was queued, whose owner state
+-- goes where nobody else waits, or the variable on which it was parked, and its level, and the chain above has its
+-- priorities. Of the owner states that it still owns nothing is changed
+unfoldable pub kernel_left_as : Status → ℕ → Kernel → Kernel
+kernel_left_as x t k =
     let m = queued_on (seat_at k t).status in
     let rest = without k.waiters t in
-    with_effective_levels (record (with_status t Ended (with_state m (if has_waiter rest m then state_at k m else 0) k)) {
+    with_effective_levels (record (with_status t x (with_state m (if has_waiter rest m then state_at k m else 0) k)) {
       waiters = rest;
       parked = unparked k.parked t;
       levels = levels_without t k.levels;
     })
+
+-- the kernel after expire of t, which is queued, parked or stopped: it has left that, and the chain above has its
+-- priorities; then it is ready, and joins its level. WAITERS stays in the word of the mutex that it left, as all words
+-- do (futex(2), FUTEX_LOCK_PI and FUTEX_WAIT_REQUEUE_PI with a timeout, ETIMEDOUT)
+unfoldable pub kernel_after_expire : ℕ → Kernel → Kernel
+kernel_after_expire t k =
+    let left = kernel_left_as Stopped t k in
+    record (with_status t (Ready WokenExpired) left) { levels = levels_with t (effective_in left t) left.levels }
+
+-- THE END OF A THREAD
+
+-- t has ended, and left what it waited for
+abbrev pub kernel_after_leaving : ℕ → Kernel → Kernel
+kernel_after_leaving t k = kernel_left_as Ended t k
 
 -- m passes on where its word has the number of t, which has ended: with no owner state it has no owner; with one of t
 -- it is handed to its next waiter; with one of another owner nothing changes. OWNER_DIED is set

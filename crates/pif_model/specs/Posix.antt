@@ -1,7 +1,8 @@
 -- The POSIX machine of mutexes and condition variables: what pthread_mutex_lock, pthread_mutex_trylock,
--- pthread_mutex_unlock, pthread_mutex_consistent, pthread_cond_wait, pthread_cond_signal, pthread_cond_broadcast,
--- pthread_setschedprio and the end of a thread do, by POSIX.1-2017 (the pages pthread_mutex_lock,
--- pthread_mutex_trylock, pthread_mutex_consistent, pthread_cond_wait, pthread_cond_signal, pthread_mutexattr_settype,
+-- pthread_mutex_unlock, pthread_mutex_consistent, pthread_mutex_timedlock, pthread_cond_wait, pthread_cond_timedwait,
+-- pthread_cond_signal, pthread_cond_broadcast, pthread_setschedprio and the end of a thread do, by POSIX.1-2017 (the
+-- pages pthread_mutex_lock, pthread_mutex_trylock, pthread_mutex_timedlock, pthread_mutex_consistent,
+-- pthread_cond_wait, pthread_cond_timedwait, pthread_cond_signal, pthread_mutexattr_settype,
 -- pthread_mutexattr_setprotocol, pthread_mutexattr_setrobust and pthread_setschedprio).
 -- It knows no words, no kernel and no chain walks. A call has effects, each of which happens at one moment between its
 -- beginning and its answer. Threads, mutexes and variables are numbered from 1; place 0 of each list stands for nobody.
@@ -12,14 +13,16 @@ use Rattle.pif_types.specs.declared.errors.Refusal.{Refusal}
 use Rattle.pif_types.specs.declared.requests.Kind.{Kind}
 use Rattle.pif_types.specs.declared.requests.Kind.TheVariants.{Normal, ErrorCheck, Recursive}
 use Rattle.pif_types.specs.declared.requests.Request.{Request}
-use Rattle.pif_types.specs.declared.requests.Request.TheVariants.{Lock, TryLock, Unlock, Consistent, Wait, Signal, Broadcast, SetPrio}
+use Rattle.pif_types.specs.declared.requests.Request.TheVariants.{Lock, TryLock, Unlock, Consistent, Wait, Signal, Broadcast, SetPrio, TimedLock, TimedWait}
 use Rattle.pif_model.specs.declared.events.Event.{Event}
-use Rattle.pif_model.specs.declared.events.Event.TheVariants.{Begin, Go, End}
-use Rattle.pif_model.specs.declared.events.Seen.TheVariants.{Begun, Went, Waits, Answered, Ended, Refused}
+use Rattle.pif_model.specs.declared.events.Event.TheVariants.{Begin, Go, End, Tick}
+use Rattle.pif_model.specs.declared.events.Seen.TheVariants.{Begun, Went, Waits, Answered, Ended, Ticked, Refused}
 use Rattle.pif_model.specs.declared.events.Entry.{Entry}
 use Rattle.pif_model.specs.declared.events.Entry.TheVariants.{Thread as AddThread, Mutex as AddMutex, Cond as AddCond, Step as Happened}
 use Rattle.pif_model.specs.Graph.{is_priority, effective_among, next_waiter, reaches_within, waited_by, without}
-use Rattle.pif_model.specs.Refusals.{begin_refused, go_refused, end_refused}
+use Rattle.pif_model.specs.declared.lines.Timer.{Timer}
+use Rattle.pif_model.specs.Refusals.{begin_refused, go_refused, end_refused, tick_refused}
+use Rattle.pif_model.specs.Deadlines.{plain, no_timer, timer_of, ran_out, is_reached, told}
 
 -- what a robust mutex protects is in order, may be in disorder since an owner ended, or was given up for good
 pub data Health : Type 0 where
@@ -49,7 +52,7 @@ pub data Progress : Type 0 where
   -- a signal or broadcast that has used the variable, and has to choose whom it wakes
   Used : Progress
 
--- an open call
+-- an open call; its request is a plain one
 pub record Call : Type 0 where
   pub request : Request
   pub progress : Progress
@@ -69,6 +72,8 @@ pub record Thread : Type 0 where
   -- it has not ended
   pub living : Bool
   pub call : Option Call
+  -- what its last call has of its deadline
+  pub timer : Timer
   pub memory : Memory
 
 -- a mutex
@@ -97,6 +102,8 @@ pub record World : Type 0 where
   pub waiters : List (ℕ × ℕ)
   -- how often a variable may be signalled or broadcast
   pub signals : ℕ
+  -- the time that was handed in last, 0 at first
+  pub time : ℕ
 
 -- the memory of a thread that has begun no call
 abbrev pub no_memory : Memory
@@ -104,7 +111,7 @@ no_memory = record { waits = 0; found = [] }
 
 -- what stands at place 0 of the threads
 abbrev pub nobody : Thread
-nobody = record { base = 0; living = false; call = None; memory = no_memory }
+nobody = record { base = 0; living = false; call = None; timer = no_timer; memory = no_memory }
 
 -- what stands at place 0 of the mutexes
 abbrev pub no_mutex : Mutex
@@ -122,6 +129,7 @@ empty_world n = record {
   variables = no_variable ∷ [];
   waiters = [];
   signals = n;
+  time = 0;
 }
 
 abbrev pub thread_at : World → ℕ → Thread
@@ -240,6 +248,8 @@ variable_of (Wait c m) = c
 variable_of (Signal c) = c
 variable_of (Broadcast c) = c
 variable_of (SetPrio u p) = 0
+variable_of (TimedLock m d) = 0
+variable_of (TimedWait c m d) = c
 
 -- whether an open call is blocked on c
 abbrev pub is_call_blocked : ℕ → Option Call → Bool
@@ -303,6 +313,8 @@ named_by (Wait c m) = m
 named_by (Signal c) = 0
 named_by (Broadcast c) = 0
 named_by (SetPrio u p) = 0
+named_by (TimedLock m d) = m
+named_by (TimedWait c m d) = m
 
 -- whether a request signals or broadcasts a variable
 abbrev pub is_use : Request → Bool
@@ -507,6 +519,44 @@ pub data Effects (t : ℕ) (first : World) : World → World → Type 0 where
       → (thread_at w b).call ≡ Some (record { request = Wait c m; progress = Owing }) → Locks b m w u
       → Effects t first u v → Effects t first w v
 
+-- DEADLINES
+
+-- whether a call that has come this far has a deadline that counts, where it has one: a lock while its thread is among
+-- the waiters or waits for good, a wait while it is blocked, from when it was answered Waits on
+abbrev pub counts_now : Request → Progress → Bool
+counts_now (Lock m) Waiting = true
+counts_now (Lock m) Stuck = true
+counts_now (Wait c m) (Blocked noted) = noted
+counts_now _ _ = false
+
+-- whether the deadline of an open call counts
+abbrev pub is_counting : Option Call → Bool
+is_counting None = false
+is_counting (Some x) = counts_now x.request x.progress
+
+-- whether t's open call is due: its deadline counts, and is reached
+abbrev pub is_due : World → ℕ → Bool
+is_due w t = if is_reached (thread_at w t).timer.deadline w.time then is_counting (thread_at w t).call else false
+
+-- t's call has run out of time
+abbrev pub timed_out : ℕ → World → World
+timed_out t w = with_thread t (record (thread_at w t) { timer = ran_out (thread_at w t).timer }) w
+
+-- t's open call, which is due, expires
+pub data Expires (t : ℕ) (w v : World) : Type 0 where
+  -- a lock leaves the waiters, or waits for good no more, and its result is ETIMEDOUT (pthread_mutex_timedlock)
+  lock : (m : ℕ) (p : Progress) → (thread_at w t).call ≡ Some (record { request = Lock m; progress = p })
+      → v ≡ record (with_progress t (Has 110) w) { waiters = without w.waiters t } → Expires t w v
+  -- a wait is blocked no more, and owes the lock; it has run out of time (pthread_cond_timedwait)
+  wait : (c m : ℕ) (p : Progress) → (thread_at w t).call ≡ Some (record { request = Wait c m; progress = p })
+      → v ≡ with_progress t Owing (timed_out t w) → Expires t w v
+
+-- what t's open call does at a Go, from w to u: one that is due expires, and does nothing else; another has some effects
+-- in order, or none
+pub data Moves (t : ℕ) (w u : World) : Type 0 where
+  expires : is_due w t ≡ true → Expires t w u → Moves t w u
+  acts : is_due w t ≡ false → Effects t w w u → Moves t w u
+
 -- what is remembered of a thread once its call begins: a wait has the next number; a signal or broadcast finds those
 -- that are blocked on its variable
 abbrev pub begun_memory : World → Request → Memory → Memory
@@ -518,12 +568,15 @@ begun_memory w (Wait c m) x = record x { waits = x.waits + 1 }
 begun_memory w (Signal c) x = record x { found = blocked_below w c (length w.threads) }
 begun_memory w (Broadcast c) x = record x { found = blocked_below w c (length w.threads) }
 begun_memory w (SetPrio u p) x = x
+begun_memory w (TimedLock m d) x = x
+begun_memory w (TimedWait c m d) x = record x { waits = x.waits + 1 }
 
--- a thread that begins this call
+-- a thread that begins this call: a timed one is its plain request, with a timer
 abbrev pub begun_thread : World → Request → Thread → Thread
 begun_thread w q x = record x {
-  call = Some (record { request = q; progress = Fresh });
-  memory = begun_memory w q x.memory;
+  call = Some (record { request = plain q; progress = Fresh });
+  timer = timer_of q;
+  memory = begun_memory w (plain q) x.memory;
 }
 
 -- a call that was answered Waits: where it is blocked, it is noted
@@ -569,6 +622,8 @@ names_known mutex variable (Wait c m) = if variable c then mutex m else false
 names_known mutex variable (Signal c) = variable c
 names_known mutex variable (Broadcast c) = variable c
 names_known mutex variable (SetPrio u p) = true
+names_known mutex variable (TimedLock m d) = mutex m
+names_known mutex variable (TimedWait c m d) = if variable c then mutex m else false
 
 -- why an event is refused, if it is
 abbrev pub refusal_of : World → Event → Option Refusal
@@ -577,11 +632,12 @@ refusal_of w (Begin t q) =
     (names_known (is_mutex w) (is_variable w) q)
 refusal_of w (Go t) = go_refused (is_thread w t) (is_living w t) (is_some (thread_at w t).call)
 refusal_of w (End t) = end_refused (is_thread w t) (is_living w t)
+refusal_of w (Tick n) = tick_refused w.time n
 
--- a Go of t from w to u: it is not refused, and t's open call has some effects
+-- a Go of t from w to u: it is not refused, and t's open call expires or has some effects
 pub record Goes (t : ℕ) (w u : World) : Type 0 where
   pub allowed : refusal_of w (Go t) ≡ None
-  pub effects : Effects t w w u
+  pub moves : Moves t w u
 
 -- t ends: it leaves all, and then its robust mutexes pass on
 pub record Ends (t : ℕ) (w v : World) : Type 0 where
@@ -590,7 +646,7 @@ pub record Ends (t : ℕ) (w v : World) : Type 0 where
 
 -- a new thread of this base priority, with no call open
 abbrev pub new_thread : ℕ → Thread
-new_thread p = record { base = p; living = true; call = None; memory = no_memory }
+new_thread p = record { base = p; living = true; call = None; timer = no_timer; memory = no_memory }
 
 -- one entry of a history, from w to v, under the limits l
 pub data Step (l : Bounds) (w : World) (e : Entry) (v : World) : Type 0 where
@@ -613,12 +669,17 @@ pub data Step (l : Bounds) (w : World) (e : Entry) (v : World) : Type 0 where
   -- its thread rests
   waits : (t : ℕ) (u : World) → e ≡ Happened (Go t) Waits → Goes t w u → v ≡ recalled t noted u → rests v t ≡ true
       → Step l w e v
-  -- the call has this result and closes, and its thread doesn't rest
-  answered : (t a : ℕ) (q : Request) (u : World) → e ≡ Happened (Go t) (Answered a) → Goes t w u
+  -- the call has this result and closes, and its thread doesn't rest; a wait that ran out of time is answered ETIMEDOUT
+  -- in place of 0
+  answered : (t a : ℕ) (q : Request) (u : World)
+      → e ≡ Happened (Go t) (Answered (told q (thread_at w t).timer.expired a)) → Goes t w u
       → (thread_at u t).call ≡ Some (record { request = q; progress = Has a })
       → v ≡ recalled t closed u → rests v t ≡ false → Step l w e v
   -- its thread has ended
   ended : (t : ℕ) → e ≡ Happened (End t) Ended → Ends t w v → Step l w e v
+  -- the time is the one that was handed in
+  ticked : (n : ℕ) → e ≡ Happened (Tick n) Ticked → refusal_of w (Tick n) ≡ None → v ≡ record w { time = n }
+      → Step l w e v
 
 -- A run: the entries of a history, newest first, the states before each of them, newest first, and the last state.
 pub data IsRun (l : Bounds) : List Entry → List World → World → Type 0 where

@@ -5,15 +5,15 @@ use Rattle.pif_types.specs.Bounds.{IsWithin}
 use Rattle.pif_types.specs.declared.requests.Kind.{Kind}
 use Rattle.pif_types.specs.declared.requests.Kind.TheVariants.{Normal, Recursive}
 use Rattle.pif_types.specs.declared.requests.Request.{Request}
-use Rattle.pif_types.specs.declared.requests.Request.TheVariants.{Lock, TryLock, Unlock, Consistent, Wait, Signal, Broadcast, SetPrio}
+use Rattle.pif_types.specs.declared.requests.Request.TheVariants.{Lock, TryLock, Unlock, Consistent, Wait, Signal, Broadcast, SetPrio, TimedLock, TimedWait}
 use Rattle.pif_model.specs.declared.events.Entry.{Entry}
 use Rattle.pif_model.specs.declared.lines.Line.{Line}
 use Rattle.pif_model.specs.declared.lines.Line.TheVariants.{Idle, At}
 use Rattle.pif_model.specs.declared.lines.Place.{Place}
-use Rattle.pif_model.specs.declared.lines.Place.TheVariants.{LockLoad, LockPending, LockExchange, LockKernel, LockQueued, LockStop, LockStopped, LockClear, TakeLoad, TakeHealth, TakeStore, TakeWord, LinkNext, LinkHead, LinkClear, LeaveExchange, LeaveKernel, LeaveClear, TryLoad, TryPending, TryExchange, TryKernel, TryClear, UnlockLoad, UnlockPending, UnlockHealth, UnlockStore, UnlockUnlink, UnlockExchange, UnlockKernel, UnlockClear, ConsistentLoad, ConsistentHealth, ConsistentStore, WaitLoad, WaitUses, WaitPending, WaitHealth, WaitStore, WaitUnlink, WaitExchange, WaitKernel, WaitPark, WaitParked, UseLoad, UseExchange, UseRequeue, UseReload, SetPriority}
+use Rattle.pif_model.specs.declared.lines.Place.TheVariants.{LockLoad, LockPending, LockExchange, LockKernel, LockQueued, LockStop, LockStopped, LockClear, QueueExpired, StopExpired, TakeLoad, TakeHealth, TakeStore, TakeWord, LinkNext, LinkHead, LinkClear, LeaveExchange, LeaveKernel, LeaveClear, TryLoad, TryPending, TryExchange, TryKernel, TryClear, UnlockLoad, UnlockPending, UnlockHealth, UnlockStore, UnlockUnlink, UnlockExchange, UnlockKernel, UnlockClear, ConsistentLoad, ConsistentHealth, ConsistentStore, WaitLoad, WaitUses, WaitPending, WaitHealth, WaitStore, WaitUnlink, WaitExchange, WaitKernel, WaitPark, WaitParked, UseLoad, UseExchange, UseRequeue, UseReload, SetPriority}
 use Rattle.pif_model.specs.declared.lines.Status.{Status}
 use Rattle.pif_model.specs.declared.lines.Status.TheVariants.{Ready, Queued, Parked, Stopped, Ended}
-use Rattle.pif_model.specs.declared.lines.Woken.TheVariants.{Fresh as WokenFresh, Owns as WokenOwns, Again as WokenAgain}
+use Rattle.pif_model.specs.declared.lines.Woken.TheVariants.{Fresh as WokenFresh, Owns as WokenOwns, Again as WokenAgain, Expired as WokenExpired}
 use Rattle.pif_model.specs.Graph.{has_waiter, waiting_order, IsEffective}
 use Rattle.pif_model.specs.Word.{Word, free_word, word_at, health_word_at}
 use Rattle.pif_model.specs.PiKernel.{IsKernel, Parking, seat_at, is_ready, is_parked, is_woken_again, is_living}
@@ -21,8 +21,9 @@ use Rattle.pif_model.specs.Posix.{Health, Progress, Call, Memory, Thread, Mutex,
 use Rattle.pif_model.specs.Posix.{is_living as lives}
 use Rattle.pif_model.specs.Posix.Health.{Fine, Inconsistent, Unusable}
 use Rattle.pif_model.specs.Posix.Progress.{Fresh, Waiting, Stuck, Leaving, Has, Checked, Enlisted, Blocked, Owing, Used}
+use Rattle.pif_model.specs.Deadlines.{timed}
 use Rattle.pif_model.specs.RobustList.{no_robust_row, robust_at, is_listed}
-use Rattle.pif_model.specs.Table.{Table, Cell, new_mutex, has_thread, has_mutex, has_cond, bound_to, uses_of, status_at, line_at, library_at, cell_at}
+use Rattle.pif_model.specs.Table.{Table, Cell, new_mutex, has_thread, has_mutex, has_cond, bound_to, uses_of, status_at, line_at, timer_at, library_at, cell_at}
 
 -- THE PROJECTION: the state of the POSIX machine that a table shows
 
@@ -54,6 +55,7 @@ progress_parked (Queued m) h = Waiting
 progress_parked (Ready WokenFresh) h = on_taking h
 progress_parked (Ready WokenOwns) h = on_taking h
 progress_parked (Ready WokenAgain) h = Owing
+progress_parked (Ready WokenExpired) h = on_taking h
 progress_parked Stopped h = Stuck
 progress_parked Ended h = Stuck
 
@@ -70,6 +72,8 @@ progress_at q LockQueued Ended h n = Stuck
 progress_at q LockStop x h n = before_lock q
 progress_at q LockStopped x h n = Stuck
 progress_at q LockClear x h n = Has 35
+progress_at q QueueExpired x h n = Has 110
+progress_at q StopExpired x h n = Has 110
 progress_at q TakeLoad x h n = on_taking h
 progress_at q (TakeHealth died) x h n = on_taking h
 progress_at q TakeStore x h n = Has 130
@@ -115,6 +119,7 @@ thread_shown s x t = record {
   base = (seat_at s.kernel t).base;
   living = is_living s.kernel t;
   call = call_shown s t;
+  timer = timer_at s t;
   memory = memory_at x t;
 }
 
@@ -145,6 +150,7 @@ world_of s x = record {
   variables = map (variable_shown s) (places (length s.conds));
   waiters = s.kernel.waiters;
   signals = s.limits.signals;
+  time = s.time;
 }
 
 -- WHAT JOINS A SHADOW TO ITS TABLE
@@ -281,6 +287,8 @@ needs LockQueued = NotStopped ∷ OwnsOnceReady ∷ HoldsOnce ∷ DiedBehindDiso
 needs LockStop = MayRun ∷ MayStop ∷ []
 needs LockStopped = HasStopped ∷ []
 needs LockClear = MayRun ∷ OwnsNot ∷ OfRobust ∷ []
+needs QueueExpired = MayRun ∷ OwnsNot ∷ OfRobust ∷ []
+needs StopExpired = MayRun ∷ OfRobust ∷ []
 needs TakeLoad = MayRun ∷ Owns ∷ HoldsOnce ∷ OfRobust ∷ DiedBehindDisorder ∷ []
 needs (TakeHealth b) = MayRun ∷ Owns ∷ HoldsOnce ∷ OfRobust ∷ DiedBehindDisorder ∷ DiedIs b ∷ []
 needs TakeStore = MayRun ∷ Owns ∷ HoldsOnce ∷ OfRobust ∷ HealthIsNot 2 ∷ DiedIs true ∷ []
@@ -360,6 +368,8 @@ is_using _ = false
 abbrev pub belongs : Request → Place → Bool
 belongs (Lock m) LockLoad = true
 belongs (Lock m) LockPending = true
+belongs (Lock m) QueueExpired = true
+belongs (Lock m) StopExpired = true
 belongs (Lock m) p = is_locking p
 belongs (TryLock m) TryLoad = true
 belongs (TryLock m) TryPending = true
@@ -404,6 +414,8 @@ waited_in (Wait c m) = m
 waited_in (Signal c) = 0
 waited_in (Broadcast c) = 0
 waited_in (SetPrio u p) = 0
+waited_in (TimedLock m d) = 0
+waited_in (TimedWait c m d) = 0
 
 -- what an open call of t at a place knows: the mutex and the variable that it names exist, the place is one of the
 -- request's, and what the call rests on there holds
@@ -444,6 +456,7 @@ is_pending LockExchange = true
 is_pending LockKernel = true
 is_pending LockQueued = true
 is_pending LockClear = true
+is_pending QueueExpired = true
 is_pending TryExchange = true
 is_pending TryKernel = true
 is_pending TryClear = true
@@ -566,14 +579,15 @@ pub record CondIsSound (s : Table) (c : ℕ) : Type 0 where
   pub bound : has_mutex s (bound_to s c) ≡ true
   pub uses : uses_of s c ≤ s.limits.signals
 
--- the parts fit together: each thread of the kernel has a line, and each that can be a robust list, and nobody is at
--- place 0; there are a word and a health word for each mutex that the limits allow, and of those that were not added
--- they are free and fine, and nobody waits for them; there is a condition word for each variable that the limits allow,
--- and of those that were not added it is 0
+-- the parts fit together: each thread of the kernel has a line and a timer, and each that can be a robust list, and
+-- nobody is at place 0; there are a word and a health word for each mutex that the limits allow, and of those that were
+-- not added they are free and fine, and nobody waits for them; there is a condition word for each variable that the
+-- limits allow, and of those that were not added it is 0
 pub record IsShaped (s : Table) : Type 0 where
   pub limits : s.kernel.limits ≡ s.limits
   pub within : IsWithin s.limits
   pub lines : length s.lines ≡ length s.kernel.seats
+  pub timers : length s.timers ≡ length s.lines
   pub nobody : line_at s 0 ≡ Idle
   pub lists : length s.lists.threads ≡ s.limits.threads + 1
   pub some_mutex : 1 ≤ length s.mutexes
@@ -666,9 +680,9 @@ IsDoing w t (Parked c) = is_blocked_on w c t ≡ true
 IsDoing w t Stopped = option_map (λ (c : Call). c.progress) (thread_at w t).call ≡ Some Stuck
 IsDoing w t Ended = (is_thread w t ≡ true) × (lives w t ≡ false)
 
--- the request of t's open call
+-- the request of t's open call, as it was made
 abbrev pub call_of : World → ℕ → Option Request
-call_of w t = option_map (λ (c : Call). c.request) (thread_at w t).call
+call_of w t = option_map (λ (c : Call). timed (thread_at w t).timer.deadline c.request) (thread_at w t).call
 
 -- the owner of m, and how often it holds m
 abbrev pub owner_of : World → ℕ → Option (ℕ × ℕ)

@@ -8,6 +8,8 @@ use Rattle.pif_types.specs.declared.requests.Kind.TheVariants.{Normal}
 use Rattle.pif_model.specs.declared.lines.Line.{Line}
 use Rattle.pif_model.specs.declared.lines.Line.TheVariants.{Idle}
 use Rattle.pif_model.specs.declared.lines.Status.{Status}
+use Rattle.pif_model.specs.declared.lines.Timer.{Timer}
+use Rattle.pif_model.specs.Deadlines.{no_timer}
 use Rattle.pif_model.specs.Word.{Word, Words, free_words, word_at, health_word_at, cond_word_at, set_word, set_health_word, set_cond_word}
 use Rattle.pif_model.specs.RobustList.{Robust, no_robust}
 use Rattle.pif_model.specs.PiKernel.{Kernel, new_kernel, seat_at, has_seat, state_at, kernel_after_add}
@@ -28,10 +30,14 @@ pub record Table : Type 0 where
   pub lists : Robust
   -- the line of each thread: its open call and the place in it
   pub lines : List Line
+  -- what the last call of each thread has of its deadline
+  pub timers : List Timer
   -- what the library knows of each mutex
   pub mutexes : List LibraryMutex
   -- the mutex to which each condition variable is bound
   pub conds : List ℕ
+  -- the time that was handed in last, 0 at first
+  pub time : ℕ
 
 -- a new mutex of this kind: nobody holds it
 abbrev pub new_mutex : Kind → Bool → LibraryMutex
@@ -45,8 +51,10 @@ new_table l = record {
   kernel = new_kernel l;
   lists = no_robust l;
   lines = Idle ∷ [];
+  timers = no_timer ∷ [];
   mutexes = new_mutex Normal false ∷ [];
   conds = 0 ∷ [];
+  time = 0;
 }
 
 -- THREADS
@@ -66,6 +74,14 @@ line_at s t = get_or s.lines t Idle
 -- t at this line
 abbrev pub with_line : ℕ → Line → Table → Table
 with_line t l s = record s { lines = set s.lines t l }
+
+-- what t's last call has of its deadline
+abbrev pub timer_at : Table → ℕ → Timer
+timer_at s t = get_or s.timers t no_timer
+
+-- t with this timer
+abbrev pub with_timer : ℕ → Timer → Table → Table
+with_timer t x s = record s { timers = set s.timers t x }
 
 -- MUTEXES
 
@@ -141,7 +157,11 @@ with_cond_word c n s = record s { words = set_cond_word s.words c n }
 
 -- a new thread of base priority p, with no call open
 abbrev pub thread_added : ℕ → Table → Table
-thread_added p s = record s { kernel = kernel_after_add p s.kernel; lines = s.lines ++ Idle ∷ [] }
+thread_added p s = record s {
+  kernel = kernel_after_add p s.kernel;
+  lines = s.lines ++ Idle ∷ [];
+  timers = s.timers ++ no_timer ∷ [];
+}
 
 -- a new mutex, free
 abbrev pub mutex_added : Kind → Bool → Table → Table

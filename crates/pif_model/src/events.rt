@@ -9,6 +9,9 @@ pub enum Event {
     Go(Tid),
     /// The thread ends, with a call open or not. Its number is never used again.
     End(Tid),
+    /// The time is this from now on. It is 0 at first, it never goes back, and its unit is the caller's. It belongs to
+    /// no thread, and makes none ready: whose deadline is reached goes on at its own next step.
+    Tick(u32),
 }
 
 /// What a core answers to an event.
@@ -24,6 +27,8 @@ pub enum Seen {
     Answered(Answer),
     /// The thread has ended, and its open call is gone.
     Ended,
+    /// The time is the one that was handed in.
+    Ticked,
     /// The event was refused, and nothing has changed.
     Refused(Refusal),
 }

@@ -7,4 +7,4 @@ mod events;
 mod lines;
 
 pub use events::{Entry, Event, Seen};
-pub use lines::{Line, Place, Status, Took, Woken};
+pub use lines::{Line, Place, Status, Timer, Took, Woken};

@@ -21,6 +21,12 @@ pub enum Place {
     LockStopped,
     /// lock: clear the pending field, and answer EDEADLK.
     LockClear,
+    /// lock: the kernel has taken the caller off the queue since its deadline was reached; clear the pending field, and
+    /// answer ETIMEDOUT.
+    QueueExpired,
+    /// lock: the kernel has made the caller ready, which had stopped for good, since its deadline was reached; clear the
+    /// pending field, which names nothing, and answer ETIMEDOUT.
+    StopExpired,
     /// taking over: load the word, and see whether its last owner ended.
     TakeLoad,
     /// taking over: load the health word; true where the last owner was seen to have ended.
@@ -115,6 +121,16 @@ pub enum Line {
     At(Request, Place),
 }
 
+/// What an open call has of its deadline. It is set anew at each begin.
+#[derive(Clone, Copy, Debug, PartialEq, Eq, Hash)]
+pub struct Timer {
+    /// The time from which on the call waits no longer; `None` for a call that was begun without a deadline.
+    pub deadline: Option<u32>,
+    /// Whether a wait has expired: it gave up waiting for its variable since its deadline was reached, and has to lock
+    /// its mutex again.
+    pub expired: bool,
+}
+
 /// Why a thread is ready to run.
 #[derive(Clone, Copy, Debug, PartialEq, Eq, Hash)]
 pub enum Woken {
@@ -124,6 +140,8 @@ pub enum Woken {
     Owns,
     /// It was parked, and has to lock its mutex itself.
     Again,
+    /// It was queued, parked or stopped, and its deadline was reached.
+    Expired,
 }
 
 /// What the kernel knows of a thread.

@@ -6,7 +6,7 @@ use Rattle.pif_model.specs.declared.lines.Took.{Took}
 use Rattle.pif_model.specs.declared.lines.Took.TheVariants.{Owns as TookOwns, Queued as TookQueued}
 use Rattle.pif_model.specs.Word.{Word, Words, free_word, orphan_word, inherit_word, word_of, word_at, has_word, set_word, set_health_word, set_cond_word}
 use Rattle.pif_model.specs.Word.{free_words as words_free}
-use Rattle.pif_model.specs.PiKernel.{Kernel, System, IsKernel, has_seat, seat_at, has_ended, is_living, state_at, next_in, words_after_lock, kernel_after_lock, words_after_try_lock, words_after_unlock, kernel_after_hand_over, kernel_after_unlock, kernel_after_set_prio, kernel_after_stop, kernel_after_wait_requeue, after_requeue, kernel_after_leaving, after_death, after_deaths, after_exit}
+use Rattle.pif_model.specs.PiKernel.{Kernel, System, IsKernel, has_seat, seat_at, has_ended, is_living, state_at, next_in, words_after_lock, kernel_after_lock, words_after_try_lock, words_after_unlock, kernel_after_hand_over, kernel_after_unlock, kernel_after_set_prio, kernel_after_stop, kernel_after_expire, kernel_after_wait_requeue, after_requeue, kernel_after_leaving, after_death, after_deaths, after_exit}
 use Rattle.pif_model.specs.RobustList.{Robust, RobustRow, no_robust_row, with_robust, without_robust}
 use Rattle.pif_model.specs.Table.{Table, has_mutex, with_kernel, with_lists}
 use Rattle.pif_chains.proofs.Numbers.{below}
@@ -14,7 +14,7 @@ use Rattle.pif_chains.proofs.KernelRequeued.{takings-words, takings-healths, tak
 use Rattle.pif_word.specs.WordMap.{words_of, free_words}
 use Rattle.pif_word.proofs.WordBits.{word_of-number}
 use Rattle.pif_mutex.specs.Assembled.{IsAssembled}
-use Rattle.pif_mutex.proofs.KernelLeaves.{IsAlike, alike, alike_twice, alike_keeps_threads, lock_alike, hand_over_alike, unlock_alike, set_prio_alike, stop_alike, wait_requeue_alike, requeue_alike, leaving_alike}
+use Rattle.pif_mutex.proofs.KernelLeaves.{IsAlike, alike, alike_twice, alike_keeps_threads, lock_alike, hand_over_alike, unlock_alike, set_prio_alike, stop_alike, expire_alike, wait_requeue_alike, requeue_alike, leaving_alike}
 
 -- THE WORDS
 
@@ -167,6 +167,7 @@ module _ {s : Table} (h : IsAssembled s) where
     limits = h.limits;
     kernel = h.kernel;
     lines = h.lines;
+    timers = h.timers;
     some_mutex = h.some_mutex;
     few_mutexes = h.few_mutexes;
     words = long.mutexes ∙ h.words;
@@ -186,6 +187,7 @@ module _ {s : Table} (h : IsAssembled s) where
     limits = same.limits ∙ h.limits;
     kernel = kept;
     lines = h.lines ∙ sym same.seats;
+    timers = h.timers;
     some_mutex = h.some_mutex;
     few_mutexes = h.few_mutexes;
     words = long.mutexes ∙ h.words;
@@ -205,6 +207,7 @@ module _ {s : Table} (h : IsAssembled s) where
     limits = h.limits;
     kernel = h.kernel;
     lines = h.lines;
+    timers = h.timers;
     some_mutex = h.some_mutex;
     few_mutexes = h.few_mutexes;
     words = h.words;
@@ -278,6 +281,13 @@ module _ {s : Table} (h : IsAssembled s) where
   stop_assembled t k after =
       with_kernel_assembled s.words k (as_long s.words)
       (subst (IsAlike s.kernel) (sym after) (stop_alike t s.kernel))
+
+  -- after expire
+  pub expire_assembled : (t : ℕ) (k : Kernel) → k ≡ kernel_after_expire t s.kernel → IsKernel k
+      → IsAssembled (record s { kernel = k })
+  expire_assembled t k after =
+      with_kernel_assembled s.words k (as_long s.words)
+      (subst (IsAlike s.kernel) (sym after) (expire_alike t s.kernel))
 
   -- after wait_requeue_pi
   pub wait_requeue_assembled : (t c m : ℕ) (r : Result (record {}) Errno) (k : Kernel)

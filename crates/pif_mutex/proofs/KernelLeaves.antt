@@ -1,10 +1,13 @@
 -- What the kernel's calls leave: the limits, how many threads there are, and who may run.
 use Rattle.std.proofs.Common.{◌≡◌, ℕ, suc, true, false, ◌==◌, nat_lt, Bool, Result, Ok, Err, length, if◌then◌else◌, refl, ap, ◌∙◌, length-set}
 use Rattle.pif_types.specs.declared.errors.Errno.{Errno}
+use Rattle.pif_model.specs.declared.lines.Status.TheVariants.{Ended}
 use Rattle.pif_model.specs.declared.lines.Took.{Took}
 use Rattle.pif_model.specs.declared.lines.Took.TheVariants.{Owns as TookOwns, Queued as TookQueued}
 use Rattle.pif_model.specs.Word.{Words}
-use Rattle.pif_model.specs.PiKernel.{Kernel, has_seat, state_at, next_in, kernel_after_queueing, kernel_after_lock, kernel_after_hand_over, kernel_after_unlock, kernel_after_set_prio, kernel_after_stop, kernel_after_parking, kernel_after_wait_requeue, after_requeue, kernel_after_leaving}
+use Rattle.pif_model.specs.PiKernel.{Kernel, has_seat, state_at, next_in, kernel_after_queueing, kernel_after_lock, kernel_after_hand_over, kernel_after_unlock, kernel_after_set_prio, kernel_after_stop, kernel_after_expire, kernel_after_parking, kernel_after_wait_requeue, after_requeue, kernel_after_leaving}
+use Rattle.pif_chains.proofs.KernelLeft.{limits-left, length-left_seats}
+use Rattle.pif_chains.proofs.KernelExpired.{limits-expired, length-expired}
 use Rattle.pif_chains.proofs.KernelRequeued.{takings-limits, takings-length}
 
 -- a kernel under the same limits and of as many threads as another
@@ -59,6 +62,10 @@ pub stop_alike : (t : ℕ) (k : Kernel) → IsAlike k (kernel_after_stop t k)
 unfolding kernel_after_stop
 stop_alike t k = record { limits = refl; seats = length-set k.seats t _ }
 
+-- after expire
+pub expire_alike : (t : ℕ) (k : Kernel) → IsAlike k (kernel_after_expire t k)
+expire_alike t k = record { limits = limits-expired t k; seats = length-expired t k }
+
 -- after wait_requeue_pi
 pub wait_requeue_alike : (t c m : ℕ) (r : Result (record {}) Errno) (k : Kernel)
     → IsAlike k (kernel_after_wait_requeue t c m r k)
@@ -78,8 +85,7 @@ requeue_alike c m more (Err e) ws k = alike k
 
 -- and after a thread has left all that it waits for
 pub leaving_alike : (t : ℕ) (k : Kernel) → IsAlike k (kernel_after_leaving t k)
-unfolding kernel_after_leaving
-leaving_alike t k = record { limits = refl; seats = length-set k.seats t _ }
+leaving_alike t k = record { limits = limits-left Ended t k; seats = length-left_seats Ended t k }
 
 -- WHO WAS ADDED
 
@@ -101,6 +107,11 @@ set_prio_keeps_threads t p r k u = alike_keeps_threads k (kernel_after_set_prio 
 -- after stop
 pub stop_keeps_threads : (t : ℕ) (k : Kernel) (u : ℕ) → has_seat k u ≡ true → has_seat (kernel_after_stop t k) u ≡ true
 stop_keeps_threads t k u = alike_keeps_threads k (kernel_after_stop t k) u (stop_alike t k)
+
+-- after expire
+pub expire_keeps_threads : (t : ℕ) (k : Kernel) (u : ℕ) → has_seat k u ≡ true
+    → has_seat (kernel_after_expire t k) u ≡ true
+expire_keeps_threads t k u = alike_keeps_threads k (kernel_after_expire t k) u (expire_alike t k)
 
 -- after wait_requeue_pi
 pub wait_requeue_keeps_threads : (t c m : ℕ) (r : Result (record {}) Errno) (k : Kernel) (u : ℕ) → has_seat k u ≡ true

@@ -7,5 +7,4 @@ pub mod Counts
 pub mod Stepping
 pub mod Steps
 pub mod Locking
-pub mod OpenCalls
 pub mod SoundTables

@@ -4,15 +4,15 @@ use Rattle.std.proofs.lemmas.Bool.Decides.{nat_tests}
 use Rattle.pif_types.specs.declared.errors.Refusal.{Refusal}
 use Rattle.pif_types.specs.declared.requests.Request.{Request}
 use Rattle.pif_model.specs.declared.events.Event.{Event}
-use Rattle.pif_model.specs.declared.events.Event.TheVariants.{Begin, Go, End}
+use Rattle.pif_model.specs.declared.events.Event.TheVariants.{Begin, Go, End, Tick}
 use Rattle.pif_model.specs.declared.lines.Line.{Line}
 use Rattle.pif_model.specs.declared.lines.Line.TheVariants.{At}
 use Rattle.pif_model.specs.declared.lines.Place.{Place}
 use Rattle.pif_model.specs.Graph.{is_priority}
 use Rattle.pif_model.specs.Refusals.{go_refused, end_refused}
 use Rattle.pif_model.specs.PiKernel.{is_living}
-use Rattle.pif_model.specs.Table.{Table, line_at, with_line}
-use Rattle.pif_model.specs.Lines.{is_open, first_place, table_refusal, line_of, go_outcome, ended_table, accepted_outcome, by_refusal, event_outcome}
+use Rattle.pif_model.specs.Table.{Table, line_at}
+use Rattle.pif_model.specs.Lines.{is_open, begun_table, table_refusal, go_outcome, ended_table, accepted_outcome, by_refusal, event_outcome}
 use Rattle.pif_model.specs.Standing.{IsSound}
 use Rattle.pif_chains.proofs.KernelFacts.{living-added}
 use Rattle.pif_simulation.proofs.Simulation.{event_kept}
@@ -24,22 +24,22 @@ accepted_sound s e h r = subst (λ (x : Option Refusal). IsSound (by_refusal x e
 
 -- a call that begins
 pub begin_sound : (s : Table) (t : ℕ) (q : Request) → IsSound s → table_refusal s (Begin t q) ≡ None
-    → IsSound (with_line t (At q (first_place q)) s)
+    → IsSound (begun_table t q s)
 unfolding accepted_outcome
 begin_sound s t q h r = accepted_sound s (Begin t q) h r
 
--- a step is that of the thread's line
-pub line_outcome : (s : Table) (t : ℕ) (q : Request) (p : Place) → line_at s t ≡ At q p
-    → line_of q p t s ≡ go_outcome (line_at s t) t s
-unfolding go_outcome
-line_outcome s t q p e = ap (λ (l : Line). go_outcome l t s) (sym e)
+-- a tick
+pub tick_sound : (s : Table) (n : ℕ) → IsSound s → table_refusal s (Tick n) ≡ None → IsSound (record s { time = n })
+unfolding accepted_outcome
+tick_sound s n h r = accepted_sound s (Tick n) h r
 
 -- a step of a living thread
 pub step_sound : (s : Table) (t : ℕ) (q : Request) (p : Place) → IsSound s → is_living s.kernel t ≡ true
-    → line_at s t ≡ At q p → IsSound (line_of q p t s).after
+    → line_at s t ≡ At q p → IsSound (go_outcome (At q p) t s).after
 unfolding accepted_outcome
-step_sound s t q p h k e = rw (line_outcome s t q p e) (accepted_sound s (Go t) h
-    (λ i. go_refused (living-added s.kernel t k i) (k i) (ap is_open e i)))
+step_sound s t q p h k e =
+    subst (λ (l : Line). IsSound (go_outcome l t s).after) e
+    (accepted_sound s (Go t) h (λ i. go_refused (living-added s.kernel t k i) (k i) (ap is_open e i)))
 
 -- the end of a living thread
 pub end_sound : (s : Table) (t : ℕ) → IsSound s → is_living s.kernel t ≡ true → IsSound (ended_table t s)

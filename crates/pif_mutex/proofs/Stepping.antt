@@ -2,16 +2,18 @@
 use Rattle.std.proofs.Common.{◌≡◌, ◌≢◌, ◌⊎◌, inl, inr, ℕ, Bool, true, false, ◌==◌, length, if◌then◌else◌, refl, sym, ap, ◌∙◌, subst, eq-eqb, ne_eqb}
 use Rattle.std.proofs.lemmas.Bool.{true≢false, cases_eq}
 use Rattle.pif_types.specs.declared.requests.Request.{Request}
-use Rattle.pif_types.specs.declared.requests.Request.TheVariants.{Lock, TryLock, Unlock, Consistent, Wait, Signal, Broadcast, SetPrio}
+use Rattle.pif_types.specs.declared.requests.Request.TheVariants.{Lock, TryLock, Unlock, Consistent, Wait, Signal, Broadcast, SetPrio, TimedLock, TimedWait}
 use Rattle.pif_model.specs.declared.lines.Line.{Line}
 use Rattle.pif_model.specs.declared.lines.Line.TheVariants.{Idle, At}
 use Rattle.pif_model.specs.declared.lines.Place.{Place}
 use Rattle.pif_model.specs.declared.lines.Place.TheVariants.{LockQueued, LockStopped, LinkNext, LinkHead, UnlockUnlink, WaitUnlink, WaitParked}
 use Rattle.pif_model.specs.declared.lines.Status.{Status}
-use Rattle.pif_model.specs.PiKernel.{is_ready, is_living}
+use Rattle.pif_model.specs.declared.lines.Status.TheVariants.{Parked, Stopped}
+use Rattle.pif_model.specs.PiKernel.{is_ready, is_parked, is_living}
 use Rattle.pif_model.specs.Posix.{named_by, names_known}
 use Rattle.pif_model.specs.RobustList.{RobustRow, robust_at, has_entry, is_listed, IsUnlisted, IsHalfLinkedByNoOther}
 use Rattle.pif_model.specs.Table.{Table, Cell, LibraryMutex, has_mutex, has_cond, status_at, line_at, library_at, cell_at}
+use Rattle.pif_model.specs.Lines.{counts_at}
 use Rattle.pif_model.specs.Word.{word_at}
 use Rattle.pif_model.specs.Standing.{Use, MeetsAll, needs, CallIsSound, LineIsSound, ListIsSound, ThreadIsSound, IsSound, use_at, is_half_linked, is_unlinked, mutex_by, robust_by, holds_robust}
 use Rattle.pif_chains.proofs.Numbers.{above_0}
@@ -28,6 +30,22 @@ rests_on_ready living t x c z LockStopped h e = absurd (true≢false e)
 rests_on_ready living t x c z WaitParked h e = absurd (true≢false e)
 rests_on_ready living t x c z _ h e = h.0
 
+-- a thread whose deadline counts may not run: it is queued, or parked, or has stopped
+counts_at_rest : (q : Request) (p : Place) (x : Status) → (p ≡ LockStopped → x ≡ Stopped) → counts_at q p x ≡ true
+    → is_ready x ≡ false
+counts_at_rest (Lock m) LockQueued x h e = by_ready (is_ready x) e
+  where
+    by_ready : (b : Bool) → (if b then false else true) ≡ true → b ≡ false
+    by_ready true e = sym e
+    by_ready false e = refl
+counts_at_rest (Lock m) LockStopped x h e = ap is_ready (h refl)
+counts_at_rest (Wait c m) WaitParked x h e = by_status x e
+  where
+    by_status : (x : Status) → is_parked x ≡ true → is_ready x ≡ false
+    by_status (Parked c) e = refl
+    by_status _ e = absurd (true≢false (sym e))
+counts_at_rest _ _ x h e = absurd (true≢false (sym e))
+
 -- the mutex that a call names, if it names one, was added
 named_added : (mutex variable : ℕ → Bool) (q : Request) → names_known mutex variable q ≡ true → named_by q ≢ 0
     → mutex (named_by q) ≡ true
@@ -39,6 +57,8 @@ named_added mutex variable (Wait c m) h some = second (variable c) (mutex m) h
 named_added mutex variable (Signal c) h some = absurd (some refl)
 named_added mutex variable (Broadcast c) h some = absurd (some refl)
 named_added mutex variable (SetPrio u n) h some = absurd (some refl)
+named_added mutex variable (TimedLock m d) h some = h
+named_added mutex variable (TimedWait c m d) h some = second (variable c) (mutex m) h
 
 -- a robust mutex that a call names was added: at place 0 there is none
 robust_added : (s : Table) (q : Request) → IsSound s → names_known (has_mutex s) (has_cond s) q ≡ true
@@ -118,6 +138,7 @@ pub may_step : (s : Table) (t : ℕ) (q : Request) (p : Place) → IsSound s →
 may_step s t q p h k e = record {
   named = call.named;
   ready = rests_on_ready (is_living s.kernel) t (status_at s t) (cell_at s (named_by q)) (use_at s q) p call.needs;
+  unready = counts_at_rest q p (status_at s t) (λ is. (subst (CallIsSound s t q) is call).needs.0);
   unlisted = unlisted p e call;
   half = half p call;
   linked = linked p call list;

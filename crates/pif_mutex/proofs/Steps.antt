@@ -1,21 +1,22 @@
 -- A step of a thread, line by line: who owns a mutex after it and did not before holds it once.
-use Rattle.std.proofs.Common.{◌≡◌, ◌≢◌, ◌⊎◌, inl, inr, ℕ, true, false, Bool, Result, Ok, Err, refl, sym, ap, ◌∙◌, subst}
+use Rattle.std.proofs.Common.{◌≡◌, ◌≢◌, ◌⊎◌, inl, inr, ℕ, true, false, Bool, if◌then◌else◌, Result, Ok, Err, refl, sym, ap, ◌∙◌, subst}
 use Rattle.pif_types.specs.declared.errors.Errno.{Errno}
 use Rattle.pif_types.specs.declared.errors.Errno.TheVariants.{NoSuchThread, Again, Deadlock}
 use Rattle.pif_types.specs.declared.requests.Request.{Request}
 use Rattle.pif_types.specs.declared.requests.Request.TheVariants.{Lock, TryLock, Unlock, Consistent, Wait, Signal, Broadcast, SetPrio}
 use Rattle.pif_model.specs.declared.lines.Line.TheVariants.{At}
 use Rattle.pif_model.specs.declared.lines.Place.{Place}
-use Rattle.pif_model.specs.declared.lines.Place.TheVariants.{LockLoad, LockPending, LockExchange, LockKernel, LockQueued, LockStop, LockStopped, LockClear, TakeLoad, TakeHealth, TakeStore, TakeWord, LinkNext, LinkHead, LinkClear, LeaveExchange, LeaveKernel, LeaveClear, TryLoad, TryPending, TryExchange, TryKernel, TryClear, UnlockLoad, UnlockPending, UnlockHealth, UnlockStore, UnlockUnlink, UnlockExchange, UnlockKernel, UnlockClear, ConsistentLoad, ConsistentHealth, ConsistentStore, WaitLoad, WaitUses, WaitPending, WaitHealth, WaitStore, WaitUnlink, WaitExchange, WaitKernel, WaitPark, WaitParked, UseLoad, UseExchange, UseRequeue, UseReload, SetPriority}
+use Rattle.pif_model.specs.declared.lines.Place.TheVariants.{LockLoad, LockPending, LockExchange, LockKernel, LockQueued, LockStop, LockStopped, LockClear, QueueExpired, StopExpired, TakeLoad, TakeHealth, TakeStore, TakeWord, LinkNext, LinkHead, LinkClear, LeaveExchange, LeaveKernel, LeaveClear, TryLoad, TryPending, TryExchange, TryKernel, TryClear, UnlockLoad, UnlockPending, UnlockHealth, UnlockStore, UnlockUnlink, UnlockExchange, UnlockKernel, UnlockClear, ConsistentLoad, ConsistentHealth, ConsistentStore, WaitLoad, WaitUses, WaitPending, WaitHealth, WaitStore, WaitUnlink, WaitExchange, WaitKernel, WaitPark, WaitParked, UseLoad, UseExchange, UseRequeue, UseReload, SetPriority}
 use Rattle.pif_model.specs.declared.lines.Took.{Took}
 use Rattle.pif_model.specs.declared.lines.Took.TheVariants.{Owns as TookOwns, Queued as TookQueued}
 use Rattle.pif_model.specs.Word.{free_word, held_by, word_at, set_word}
 use Rattle.pif_model.specs.PiKernel.{is_living, lock_answer, words_after_lock, kernel_after_lock, try_lock_answer, words_after_try_lock, unlock_answer, words_after_unlock, kernel_after_unlock, set_prio_answer, kernel_after_set_prio, wait_requeue_answer, kernel_after_wait_requeue, requeue_answer, after_requeue}
 use Rattle.pif_model.specs.Posix.{named_by}
-use Rattle.pif_model.specs.Table.{Table, has_mutex, has_cond, bound_to, uses_of, line_at, library_at, cell_at, with_word, with_kernel}
-use Rattle.pif_model.specs.Lines.{Outcome, goes_to, ends_by, answers, own_exchange, locked_again, lock_load, lock_by, lock_kernel, lock_queued, lock_stop, take_load, take_health, take_store, take_word_back, link_next, link_head, clears, leave_exchange, given_up_by, gives_up, try_load, try_by, try_kernel, unlock_load, unlock_health, unlock_exchange, consistent_load, consistent_health, set_priority, wait_load, wait_uses, wait_health, wait_exchange, wait_by, wait_park, wait_parked, more_in, use_read, use_exchange, use_by, use_requeue, shared_line, locking_line, use_line, line_of}
+use Rattle.pif_model.specs.Table.{Table, has_mutex, has_cond, bound_to, uses_of, line_at, timer_at, library_at, cell_at, with_word, with_kernel}
+use Rattle.pif_model.specs.Lines.{Outcome, goes_to, ends_by, answers, own_exchange, locked_again, lock_load, lock_by, lock_kernel, lock_queued, lock_stop, take_load, take_health, take_store, take_word_back, link_next, link_head, clears, leave_exchange, given_up_by, gives_up, try_load, try_by, try_kernel, unlock_load, unlock_health, unlock_exchange, consistent_load, consistent_health, set_priority, wait_load, wait_uses, wait_health, wait_exchange, wait_by, wait_park, wait_parked, more_in, use_read, use_exchange, use_by, use_requeue, shared_line, locking_line, use_line, line_of, is_line_due, expired_place, expired_in, expires_at, told_outcome, go_outcome}
 use Rattle.pif_model.specs.Standing.{CallIsSound, LineIsSound, IsSound}
 use Rattle.pif_chains.proofs.LineCases.{ends_by_cases, locked_again_cases, own_exchange_cases, lock_load_cases, lock_queued_cases, take_health_cases, leave_exchange_cases, try_load_cases, unlock_load_cases, unlock_health_cases, unlock_exchange_cases, consistent_load_cases, consistent_health_cases, wait_load_cases, wait_uses_cases, wait_health_cases, wait_exchange_cases, wait_parked_cases, use_read_cases, use_exchange_cases, answered_by_cases}
+use Rattle.pif_chains.proofs.Waiting.{by_test}
 use Rattle.pif_simulation.proofs.Hole.{each_thread}
 use Rattle.pif_simulation.proofs.Kept.{second}
 use Rattle.pif_mutex.proofs.Counts.{GoesOnce, words_go, word_goes, lock_owns_free, try_takes_free, lock_goes, try_goes, unlock_goes, requeue_goes}
@@ -298,6 +299,8 @@ call_once : (s : Table) (t : ℕ) (q : Request) (p : Place) → IsSound s → Ca
 unfolding line_of clears
 call_once s t (Lock m) LockLoad h c = lock_load_once s t m h c.named (Lock m)
 call_once s t (Lock m) LockPending h c = λ k. inl refl
+call_once s t (Lock m) QueueExpired h c = λ k. inl refl
+call_once s t (Lock m) StopExpired h c = λ k. inl refl
 call_once s t (Lock m) p h c = locking_once s t (Lock m) p h c.named c
 call_once s t (TryLock m) TryLoad h c = try_load_once s t m h c.named
 call_once s t (TryLock m) TryPending h c = λ k. inl refl
@@ -335,13 +338,29 @@ call_once s t (Broadcast d) p h c = use_once s t d (Broadcast d) p h c.named
 call_once s t (SetPrio u p) SetPriority h c = set_priority_once s t 0 u p
 call_once s t _ _ h c = λ k. inl refl
 
+-- an expiry, which writes no word
+expires_once : (s : Table) (t : ℕ) (q : Request) (p : Place) → GoesOnce s (expires_at q p t s).after
+unfolding expires_at expired_in
+expires_once s t (Lock m) p =
+    ends_by_cases (λ o. GoesOnce s o.after) (Lock m) (expired_place p) 110 t m _ (λ r k. inl refl) (λ r k. inl refl)
+expires_once s t (Wait c m) p = λ k. inl refl
+expires_once s t _ p = λ k. inl refl
+
+-- and one step of an open call
+go_once : (s : Table) (t : ℕ) (q : Request) (p : Place) → IsSound s → CallIsSound s t q p
+    → GoesOnce s (go_outcome (At q p) t s).after
+unfolding go_outcome
+go_once s t q p h c = by_test (λ b. GoesOnce s (if b then expires_at q p t s
+    else told_outcome q (timer_at s t).expired (line_of q p t s)).after) (is_line_due (At q p) t s)
+    (λ e. expires_once s t q p) (λ e. call_once s t q p h c)
+
 -- who owns a mutex after a step of a living thread, and did not before, holds it once
 pub step_owns_once : (s old v : Table) (t : ℕ) (q : Request) (p : Place) → IsSound s → is_living s.kernel t ≡ true
-    → line_at s t ≡ At q p → s ≡ old → v ≡ (line_of q p t s).after
+    → line_at s t ≡ At q p → s ≡ old → v ≡ (go_outcome (At q p) t s).after
     → (m : ℕ) → (cell_at v m).word.number ≢ (cell_at old m).word.number → (cell_at v m).count ≡ 1
 step_owns_once s old v t q p h k e before after m new =
     by_owner (subst (GoesOnce s) (sym after)
-    (call_once s t q p h (subst (LineIsSound s t) e (each_thread h t k).line)) m)
+    (go_once s t q p h (subst (LineIsSound s t) e (each_thread h t k).line)) m)
   where
     by_owner : ((word_at v.words m).number ≡ (word_at s.words m).number) ⊎ ((library_at v m).count ≡ 1)
         → (library_at v m).count ≡ 1

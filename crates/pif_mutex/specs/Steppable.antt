@@ -1,7 +1,7 @@
 -- What one step of an open call rests on.
 use Rattle.std.specs.Prelude.{ℕ, ◌≡◌, Bool, true, false}
 use Rattle.pif_types.specs.declared.requests.Request.{Request}
-use Rattle.pif_types.specs.declared.requests.Request.TheVariants.{Lock, TryLock, Unlock, Consistent, Wait, Signal, Broadcast, SetPrio}
+use Rattle.pif_types.specs.declared.requests.Request.TheVariants.{Lock, TryLock, Unlock, Consistent, Wait, Signal, Broadcast, SetPrio, TimedLock, TimedWait}
 use Rattle.pif_model.specs.declared.lines.Line.{Line}
 use Rattle.pif_model.specs.declared.lines.Line.TheVariants.{Idle, At}
 use Rattle.pif_model.specs.declared.lines.Place.{Place}
@@ -9,11 +9,13 @@ use Rattle.pif_model.specs.declared.lines.Place.TheVariants.{LockQueued, LockSto
 use Rattle.pif_model.specs.PiKernel.{is_ready}
 use Rattle.pif_model.specs.Posix.{named_by, names_known}
 use Rattle.pif_model.specs.RobustList.{robust_at, is_listed, IsUnlisted, IsHalfLinkedByNoOther}
+use Rattle.pif_model.specs.Lines.{counts_at}
 use Rattle.pif_model.specs.Standing.{is_locking, is_half_linked}
 use Rattle.pif_model.specs.Table.{Table, has_mutex, has_cond, status_at}
 
 -- whether a call is open at this line whose next step is one on mutexes: a call on mutexes, a change of priority, or a
--- wait at a place of lock from the exchange on, of taking over or of leaving
+-- wait at a place of lock from the exchange on, of taking over or of leaving. A timed request is open nowhere, since a
+-- begin splits it; a step of one is that of any request at a place of another
 abbrev pub is_of_mutexes : Line → Bool
 is_of_mutexes Idle = false
 is_of_mutexes (At (Lock m) p) = true
@@ -24,6 +26,8 @@ is_of_mutexes (At (Wait c m) p) = is_locking p
 is_of_mutexes (At (Signal c) p) = false
 is_of_mutexes (At (Broadcast c) p) = false
 is_of_mutexes (At (SetPrio u n) p) = true
+is_of_mutexes (At (TimedLock m d) p) = true
+is_of_mutexes (At (TimedWait c m d) p) = true
 
 -- whether the thread of a call may wait at this place: queued, parked, or stopped for good
 abbrev pub waits_at : Place → Bool
@@ -47,8 +51,9 @@ is_unlink _ = false
 pub record CallMayStep (s : Table) (t : ℕ) (q : Request) (p : Place) : Type 0 where
   -- the mutex and the variable that it names were added
   pub named : names_known (has_mutex s) (has_cond s) q ≡ true
-  -- its thread may run, save where it may wait
+  -- its thread may run, save where it may wait, and may not where its deadline counts
   pub ready : waits_at p ≡ false → is_ready (status_at s t) ≡ true
+  pub unready : counts_at q p (status_at s t) ≡ true → is_ready (status_at s t) ≡ false
   -- a mutex that is linked is on no list, and half-linked by no other thread
   pub unlisted : is_link_next p ≡ true → IsUnlisted s.lists (named_by q)
   pub half : is_link_next p ≡ true → IsHalfLinkedByNoOther s.lists t (named_by q)

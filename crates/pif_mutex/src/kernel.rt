@@ -1,5 +1,5 @@
-ghost use Rattle.std.specs.Prelude.{◌≡◌, true};
-ghost use Rattle.pif_model.specs.PiKernel.{is_ready, lock_answer, words_after_lock, kernel_after_lock, try_lock_answer, words_after_try_lock, unlock_answer, words_after_unlock, kernel_after_unlock, set_prio_answer, kernel_after_set_prio, kernel_after_stop, wait_requeue_answer, kernel_after_wait_requeue, requeue_answer, after_requeue, is_living, after_exit};
+ghost use Rattle.std.specs.Prelude.{◌≡◌, true, false};
+ghost use Rattle.pif_model.specs.PiKernel.{is_ready, lock_answer, words_after_lock, kernel_after_lock, try_lock_answer, words_after_try_lock, unlock_answer, words_after_unlock, kernel_after_unlock, set_prio_answer, kernel_after_set_prio, kernel_after_stop, kernel_after_expire, wait_requeue_answer, kernel_after_wait_requeue, requeue_answer, after_requeue, is_living, after_exit};
 ghost use Rattle.pif_model.specs.RobustList.{robust_at, walk_of, without_robust};
 ghost use Rattle.pif_model.specs.Table.{has_thread, status_at, with_kernel, with_lists};
 ghost use Rattle.pif_kernel.specs.Answers.{unit_answer};
@@ -60,6 +60,15 @@ impl<K: PiKernel + Drop> State<K> {
         ensures { self.new ≡ with_kernel self.old.words (kernel_after_stop t self.old.kernel) self.old }
     {
         self.kernel.stop(t);
+    }
+
+    /// The kernel call expire, for a living thread that is queued, parked or stopped.
+    pub fn expire(&mut self, t: Tid)
+        requires living { is_living self.old.kernel t ≡ true }
+        requires unready { is_ready (status_at self.old t) ≡ false }
+        ensures { self.new ≡ with_kernel self.old.words (kernel_after_expire t self.old.kernel) self.old }
+    {
+        self.kernel.expire(t);
     }
 
     /// The kernel call wait_requeue_pi by a thread that was added and may run.

@@ -21,9 +21,13 @@
 //! | `LockExchange` | compare-exchange from 0 to the own number | done: `TakeHealth` with false, stalled 0; failed: `LockKernel` |
 //! | `LockKernel` | lock_pi | owns: `TakeLoad`, stalled 0; queued: waits at `LockQueued`; EDEADLK: `LockClear`, stalled EDEADLK; ESRCH: `LockStop`; any other error |
 //! | `LockQueued` | handed over and robust: loads the word; else no access | handed over: `TakeHealth` with whether OWNER_DIED is set, stalled 0; else waits |
+//! | `LockQueued`, due | expire | `QueueExpired`, stalled ETIMEDOUT |
 //! | `LockStop` | stop | waits at `LockStopped` |
 //! | `LockStopped` | no access | waits |
+//! | `LockStopped`, due | expire | `StopExpired`, stalled ETIMEDOUT |
 //! | `LockClear` | clears the pending field | EDEADLK |
+//! | `QueueExpired` | clears the pending field | ETIMEDOUT |
+//! | `StopExpired` | clears the pending field, which names nothing | ETIMEDOUT |
 //! | `TakeLoad` | loads the word | `TakeHealth` with whether OWNER_DIED is set |
 //! | `TakeHealth` | loads the health word | unusable: `LeaveExchange`; OWNER_DIED was set: `TakeStore`; else `LinkNext` with 0 |
 //! | `TakeStore` | stores in the health word that the mutex is inconsistent | `TakeWord` |
@@ -52,13 +56,20 @@
 //! | `ConsistentStore` | stores in the health word that the mutex is fine | 0 |
 //! | `SetPriority` | set_prio | 0, or its error |
 //!
+//! A call that is begun with a deadline is the call without one, and a timer of its thread, which has the deadline. Such a
+//! call is due where its deadline is reached and counts: that of a lock while it is queued or stopped, that of a wait
+//! while it is parked. Its next step is then its expiry, and nothing else: a row with 'due', or of a parked wait that of
+//! `pif_cond`. A thread that was handed its mutex, or taken off its variable, is due no more. A wait that expired is
+//! answered ETIMEDOUT where its lock would be answered 0; its timer says so, and no place does.
+//!
 //! `lock`, `try_lock`, `unlock`, `consistent` and `set_priority` have the lines of each call; `taking`, `linking` and
-//! `leaving` what lock, trylock and wait share; `lists` the robust lists; `kernel` the kernel calls; `end` the end of a
-//! thread; and `step` which line a step is. All are methods of `State`, which keeps only that the parts fit together;
+//! `leaving` what lock, trylock and wait share; `lists` the robust lists; `kernel` the kernel calls; `deadlines` what a
+//! request is without its deadline, and which calls are due; `end` the end of a thread; and `step` which line a step is. All are methods of `State`, which keeps only that the parts fit together;
 //! `Parts` keeps besides that they are sound, by which each open call may take its next step.
 #![tactic(auto)]
 
 mod consistent;
+mod deadlines;
 mod end;
 mod kernel;
 mod leaving;
@@ -76,6 +87,7 @@ mod taking;
 mod try_lock;
 mod unlock;
 
+pub use deadlines::told;
 pub use parts::{Parts, advance};
 pub use progress::Progress;
 pub use state::{INCONSISTENT, State, UNUSABLE};

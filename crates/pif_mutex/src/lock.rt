@@ -1,7 +1,7 @@
-ghost use Rattle.std.specs.Prelude.{◌≡◌, true};
-ghost use Rattle.pif_model.specs.PiKernel.{is_ready};
+ghost use Rattle.std.specs.Prelude.{◌≡◌, true, false};
+ghost use Rattle.pif_model.specs.PiKernel.{is_living, is_ready};
 ghost use Rattle.pif_model.specs.Table.{has_thread, has_mutex, status_at};
-ghost use Rattle.pif_model.specs.Lines.{lock_load, lock_kernel, lock_queued, lock_stop};
+ghost use Rattle.pif_model.specs.Lines.{lock_load, lock_kernel, lock_queued, lock_stop, expires_at};
 ghost use Rattle.pif_mutex.specs.Outcomes.{outcome_of};
 
 use crate::progress::Progress;
@@ -66,6 +66,24 @@ impl<K: PiKernel + Drop> State<K> {
                 Progress::Waits
             }
         }
+    }
+
+    /// The deadline of a lock that is queued or stopped is reached: the kernel call expire. A stalled mutex is answered
+    /// ETIMEDOUT, and of a robust one the pending field is cleared next.
+    #[tactic(auto, unfolding(pif_model::specs::Lines::expires_at, pif_model::specs::Lines::expired_in), using(crate::proofs::KernelLeaves::expire_keeps_threads))]
+    pub(crate) fn lock_expire(&mut self, place: Place, t: Tid, m: MutexId) -> Progress
+        requires known { has_thread self.old t ≡ true }
+        requires mutex { has_mutex self.old m ≡ true }
+        requires living { is_living self.old.kernel t ≡ true }
+        requires unready { is_ready (status_at self.old t) ≡ false }
+        ensures { outcome_of result self.new ≡ expires_at (Request.Lock m) place t self.old }
+    {
+        let expired = match place {
+            Place::LockQueued => Place::QueueExpired,
+            _ => Place::StopExpired,
+        };
+        self.expire(t);
+        self.end_by(Request::Lock(m), m, expired, Errno::TimedOut.number(), t)
     }
 
     /// Stops for good.

@@ -1,13 +1,15 @@
-ghost use Rattle.std.specs.Prelude.{ℕ, ◌≡◌, ◌≢◌, ◌+◌, true, false, length, IfOk, IfSome, None};
+ghost use Rattle.std.specs.Prelude.{ℕ, ◌≡◌, ◌≢◌, ◌+◌, true, false, length, option_map, IfOk, IfSome, None};
 ghost use Rattle.pif_types.specs.Bounds.{IsWithin};
 ghost use Rattle.pif_model.specs.Word.{word_of};
 ghost use Rattle.pif_model.specs.PiKernel.{IsKernel, new_kernel, is_living, is_ready};
-ghost use Rattle.pif_model.specs.Table.{new_table, line_at, cell_at, with_line, status_at, has_thread, has_mutex, has_thread_room, has_mutex_room, has_cond_room, thread_added, mutex_added, cond_added};
-ghost use Rattle.pif_model.specs.Lines.{go_outcome, is_open, first_place, table_refusal, ended_table};
+ghost use Rattle.pif_model.specs.Table.{new_table, line_at, timer_at, cell_at, status_at, has_thread, has_mutex, has_thread_room, has_mutex_room, has_cond_room, thread_added, mutex_added, cond_added};
+ghost use Rattle.pif_model.specs.Lines.{go_outcome, is_open, first_place, begun_table, is_due_in, table_refusal, ended_table};
+ghost use Rattle.pif_model.specs.Deadlines.{timed};
 ghost use Rattle.pif_model.specs.Calls.{request_at, effective_answer, base_answer, owner_answer, kind_answer, bound_answer, waiter_answer, parked_answer, ready_answer, word_answer, health_answer, cond_word_answer, pick_answer};
 ghost use Rattle.pif_mutex.specs.Outcomes.{outcome_of};
 ghost use Rattle.pif_mutex.specs.Steppable.{is_of_mutexes};
 
+use crate::deadlines::{plain, timed, timer_of};
 use crate::progress::Progress;
 use crate::state::State;
 use pif_kernel::PiKernel;
@@ -136,15 +138,24 @@ impl<K: PiKernel + Drop> Parts<K> {
         }
     }
 
-    /// The open call of a thread, which was added. `None` where it has none.
+    /// The open call of a thread, which was added, as it was made. `None` where it has none.
     pub fn open_call(&self, t: Tid) -> Option<Request>
         requires { has_thread self.now t ≡ true }
-        ensures { result ≡ request_at (line_at self.now t) }
+        ensures { result ≡ option_map (timed (timer_at self.now t).deadline) (request_at (line_at self.now t)) }
     {
         match self.state.line(t) {
             Line::Idle => None,
-            Line::At(request, _) => Some(request),
+            Line::At(request, _) => Some(timed(self.state.timer(t).deadline, request)),
         }
+    }
+
+    /// Whether the open call of a thread, which was added, is due: its deadline counts, and is reached. Its next step is
+    /// its expiry then. False where it has none.
+    pub fn is_due(&self, t: Tid) -> bool
+        requires { has_thread self.now t ≡ true }
+        ensures { result ≡ is_due_in self.now t }
+    {
+        self.state.is_due(t)
     }
 
     /// Whether a thread, which was added, may run: it is not queued, not parked, not stopped, and has not ended.
@@ -159,22 +170,29 @@ impl<K: PiKernel + Drop> Parts<K> {
     }
 
     /// A thread begins a call. It lives and has no call open, and the mutex and the variable that the call names were
-    /// added.
+    /// added. A call with a deadline is that without it, and a timer.
     pub fn begin(&mut self, t: Tid, request: Request)
         requires { table_refusal self.old (Event.Begin t request) ≡ None }
-        ensures { self.new ≡ with_line t (Line.At request (first_place request)) self.old }
+        ensures { self.new ≡ begun_table t request self.old }
     {
-        let place = match request {
-            Request::Lock(_) => Place::LockLoad,
-            Request::TryLock(_) => Place::TryLoad,
-            Request::Unlock(_) => Place::UnlockLoad,
-            Request::Consistent(_) => Place::ConsistentLoad,
-            Request::Wait(_, _) => Place::WaitLoad,
-            Request::Signal(_) => Place::UseLoad,
-            Request::Broadcast(_) => Place::UseLoad,
-            Request::SetPrio(_, _) => Place::SetPriority,
-        };
-        self.state.set_line(t, Line::At(request, place));
+        let line = Line::At(plain(request), first_place(&request));
+        self.state.set_line(t, line);
+        self.state.set_timer(t, timer_of(request));
+    }
+
+    /// The time that was handed in last, 0 at first.
+    pub fn time(&self) -> u32
+        ensures { result ≡ self.now.time }
+    {
+        self.state.time()
+    }
+
+    /// The time is this from now on. It may not be before the present one.
+    pub fn tick(&mut self, time: u32)
+        requires { table_refusal self.old (Event.Tick time) ≡ None }
+        ensures { self.new ≡ record self.old { time = time } }
+    {
+        self.state.set_time(time);
     }
 
     /// A living thread ends, at any point: its call is gone, and each robust mutex that it holds, or was taking or
@@ -317,9 +335,26 @@ impl<K: PiKernel + Drop> Parts<K> {
     }
 }
 
+/// The place at which a call of this request begins.
+fn first_place(request: &Request) -> Place
+    ensures { result ≡ first_place request.now }
+{
+    match request {
+        Request::Lock(_) | Request::TimedLock(_, _) => Place::LockLoad,
+        Request::TryLock(_) => Place::TryLoad,
+        Request::Unlock(_) => Place::UnlockLoad,
+        Request::Consistent(_) => Place::ConsistentLoad,
+        Request::Wait(_, _) | Request::TimedWait(_, _, _) => Place::WaitLoad,
+        Request::Signal(_) | Request::Broadcast(_) => Place::UseLoad,
+        Request::SetPrio(_, _) => Place::SetPriority,
+    }
+}
+
 /// The thread, which lives and has a call on mutexes open, or a wait that locks its mutex again, takes one step of it:
 /// one access of one word, one write of its robust list, one kernel call, or the answer after a stalled mutex was
-/// handed to it; or it waits, and nothing changes. Whoever owns a mutex after the step and did not before, the thread
+/// handed to it; or it waits, and nothing changes. A lock that is queued or stopped and whose deadline is reached
+/// expires, by the kernel call expire, and does nothing else; a wait that expired before is answered ETIMEDOUT in place
+/// of 0. Whoever owns a mutex after the step and did not before, the thread
 /// or the next waiter, holds it once.
 pub fn advance<K: PiKernel + Drop>(parts: &mut Parts<K>, t: Tid) -> Progress
     requires living { is_living parts.old.kernel t ≡ true }
@@ -329,7 +364,7 @@ pub fn advance<K: PiKernel + Drop>(parts: &mut Parts<K>, t: Tid) -> Progress
         → (cell_at parts.new m).word.number ≢ 0 → (cell_at parts.new m).count ≡ 1 }
 {
     match parts.state.line(t) {
-        Line::At(request, place) => parts.state.step(request, place, t),
+        Line::At(request, place) => parts.state.go(request, place, t),
         Line::Idle => unreachable!(),
     }
 }

@@ -2,18 +2,24 @@ ghost use Rattle.std.specs.Prelude.{◌≡◌, ◌<◌, ◌≤◌, ◌+◌, ◌^
 ghost use Rattle.pif_types.specs.Bounds.{IsWithin};
 ghost use Rattle.pif_model.specs.Word.{word_of, is_bare};
 ghost use Rattle.pif_model.specs.PiKernel.{IsKernel, new_kernel, seat_at, is_living, effective_in, pick_in};
-ghost use Rattle.pif_model.specs.Table.{new_table, line_at, status_at, cell_at, bound_to, uses_of, with_line, with_count, with_word, with_health_word, with_cond_word, has_thread, has_mutex, has_cond, has_thread_room, has_mutex_room, has_cond_room, thread_added, mutex_added, cond_added};
+ghost use Rattle.pif_model.specs.Table.{new_table, line_at, timer_at, status_at, cell_at, bound_to, uses_of, with_line, with_timer, with_count, with_word, with_health_word, with_cond_word, has_thread, has_mutex, has_cond, has_thread_room, has_mutex_room, has_cond_room, thread_added, mutex_added, cond_added};
 ghost use Rattle.pif_model.specs.Lines.{is_robust};
 ghost use Rattle.pif_mutex.specs.Assembled.{IsAssembled};
 
 use crate::mutex::Mutex;
 use pif_kernel::PiKernel;
-use pif_model::{Line, Status};
+use pif_model::{Line, Status, Timer};
 use pif_robust::RobustLists;
 use pif_types::{CondId, Kind, Limits, MutexId, NoMemory, Prio, Tid, push_within, with_room};
 use pif_word::{Cell, OWNER_DIED, Words};
 use std::alloc::Global;
 use std::marker::Model;
+
+/// The timer of a thread that has begun no call.
+const NO_TIMER: Timer = Timer {
+    deadline: None,
+    expired: false,
+};
 
 /// The health word of a robust mutex that is fine.
 pub(crate) const FINE: u32 = 0;
@@ -24,7 +30,7 @@ pub const INCONSISTENT: u32 = 1;
 /// The health word of a robust mutex that is unusable.
 pub const UNUSABLE: u32 = 2;
 
-/// The lines, what the library knows of mutexes and of condition variables, the words, the robust lists and the kernel,
+/// The lines and timers, the time, what the library knows of mutexes and of condition variables, the words, the robust lists and the kernel,
 /// between two accesses of an event.
 #[derive(Drop)]
 pub struct State<K: PiKernel + Drop> {
@@ -33,8 +39,10 @@ pub struct State<K: PiKernel + Drop> {
     pub(crate) kernel: K,
     pub(crate) lists: RobustLists,
     lines: Vec<Line>,
+    timers: Vec<Timer>,
     mutexes: Vec<Mutex>,
     conds: Vec<MutexId>,
+    time: u32,
 }
 
 impl<K: PiKernel + Drop> Model for State<K> {
@@ -44,13 +52,14 @@ impl<K: PiKernel + Drop> Model for State<K> {
 
     ghost Value = { Table };
 
-    ghost view = { λ s. table_of s.limits s.words (K.meaning s.kernel) s.lists s.lines.items s.mutexes.items
-        s.conds.items };
+    ghost view = { λ s. table_of s.limits s.words (K.meaning s.kernel) s.lists s.lines.items s.timers.items
+        s.mutexes.items s.conds.items s.time };
 
     ghost invariant = { λ s. record {
-      assembled : IsAssembled (table_of s.limits s.words (K.meaning s.kernel) s.lists s.lines.items s.mutexes.items
-          s.conds.items);
+      assembled : IsAssembled (table_of s.limits s.words (K.meaning s.kernel) s.lists s.lines.items s.timers.items
+          s.mutexes.items s.conds.items s.time);
       lines : s.limits.threads + 1 ≤ vec_capacity s.lines;
+      timers : s.limits.threads + 1 ≤ vec_capacity s.timers;
       mutexes : s.limits.mutexes + 1 ≤ vec_capacity s.mutexes;
       conds : s.limits.conds ≤ vec_capacity s.conds;
     } };
@@ -68,6 +77,8 @@ impl<K: PiKernel + Drop> State<K> {
         let lists = RobustLists::new(alloc, limits)?;
         let mut lines = with_room(alloc, limits.threads() as usize + 1)?;
         push_within(&mut lines, Line::Idle);
+        let mut timers = with_room(alloc, limits.threads() as usize + 1)?;
+        push_within(&mut timers, NO_TIMER);
         let mut mutexes = with_room(alloc, limits.mutexes() as usize + 1)?;
         push_within(&mut mutexes, Mutex::new(Kind::Normal, false));
         let conds = with_room(alloc, limits.conds() as usize)?;
@@ -77,8 +88,10 @@ impl<K: PiKernel + Drop> State<K> {
             kernel,
             lists,
             lines,
+            timers,
             mutexes,
             conds,
+            time: 0,
         })
     }
 
@@ -134,6 +147,36 @@ impl<K: PiKernel + Drop> State<K> {
         ensures assembled { IsAssembled self.old }
     {
         self.lines[t.get() as usize] = line;
+    }
+
+    /// What the last call of a thread that was added has of its deadline.
+    pub fn timer(&self, t: Tid) -> Timer
+        requires { has_thread self.now t ≡ true }
+        ensures { result ≡ timer_at self.now t }
+    {
+        self.timers[t.get() as usize]
+    }
+
+    /// Makes this the timer of a thread that was added.
+    pub fn set_timer(&mut self, t: Tid, timer: Timer)
+        requires { has_thread self.old t ≡ true }
+        ensures { self.new ≡ with_timer t timer self.old }
+    {
+        self.timers[t.get() as usize] = timer;
+    }
+
+    /// The time that was handed in last, 0 at first.
+    pub fn time(&self) -> u32
+        ensures { result ≡ self.now.time }
+    {
+        self.time
+    }
+
+    /// Makes this the time.
+    pub(crate) fn set_time(&mut self, time: u32)
+        ensures { self.new ≡ record self.old { time = time } }
+    {
+        self.time = time;
     }
 
     /// What the kernel knows of a thread that was added.
@@ -297,6 +340,7 @@ impl<K: PiKernel + Drop> State<K> {
         ensures after { self.new ≡ thread_added prio self.old }
     {
         push_within(&mut self.lines, Line::Idle);
+        push_within(&mut self.timers, NO_TIMER);
         self.kernel.add(prio)
     }
 
@@ -310,7 +354,8 @@ impl<K: PiKernel + Drop> State<K> {
 
     /// Adds a condition variable with the next number, bound to this mutex, which was added. It was never used.
     pub fn add_cond(&mut self, m: MutexId)
-        requires { has_cond_room self.old ≡ true }
+        requires named { has_mutex self.old m ≡ true }
+        requires room { has_cond_room self.old ≡ true }
         ensures { self.new ≡ cond_added m self.old }
     {
         push_within(&mut self.conds, m);

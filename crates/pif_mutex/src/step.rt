@@ -1,12 +1,13 @@
 ghost use Rattle.std.specs.Prelude.{◌≡◌, true, false};
-ghost use Rattle.pif_model.specs.PiKernel.{is_ready};
+ghost use Rattle.pif_model.specs.PiKernel.{is_living, is_ready};
 ghost use Rattle.pif_model.specs.RobustList.{robust_at, IsUnlisted, IsHalfLinkedByNoOther};
 ghost use Rattle.pif_model.specs.Standing.{is_half_linked};
-ghost use Rattle.pif_model.specs.Table.{has_thread, has_mutex, status_at};
-ghost use Rattle.pif_model.specs.Lines.{line_of, locking_line, shared_line};
+ghost use Rattle.pif_model.specs.Table.{has_thread, has_mutex, line_at, status_at};
+ghost use Rattle.pif_model.specs.Lines.{line_of, locking_line, shared_line, counts_at, expires_at, go_outcome};
 ghost use Rattle.pif_mutex.specs.Outcomes.{outcome_of};
 ghost use Rattle.pif_mutex.specs.Steppable.{CallMayStep, is_of_mutexes, waits_at, is_link_next};
 
+use crate::deadlines::told;
 use crate::progress::Progress;
 use crate::state::State;
 use pif_kernel::PiKernel;
@@ -15,9 +16,43 @@ use pif_types::{Errno, MutexId, Request, Tid};
 
 /// Which line a step is, by request and place.
 impl<K: PiKernel + Drop> State<K> {
-    /// One step of the open call of `t`, which is this request at this place: one on mutexes.
-    #[tactic(auto, using(crate::proofs::Locking::wait_locks))]
-    pub(crate) fn step(&mut self, request: Request, place: Place, t: Tid) -> Progress
+    /// One step of the open call of `t`, which is this request at this place: one on mutexes. A call that is due expires,
+    /// and does nothing else.
+    #[tactic(auto, unfolding(pif_model::specs::Lines::go_outcome))]
+    pub(crate) fn go(&mut self, request: Request, place: Place, t: Tid) -> Progress
+        requires living { is_living self.old.kernel t ≡ true }
+        requires line { line_at self.old t ≡ Line.At request place }
+        requires call { CallMayStep self.old t request place }
+        requires mutexes { is_of_mutexes (Line.At request place) ≡ true }
+        ensures { outcome_of result self.new ≡ go_outcome (Line.At request place) t self.old }
+    {
+        if self.is_due(t) {
+            self.expire_at(request, place, t)
+        } else {
+            let expired = self.timer(t).expired;
+            let progress = self.step(request, place, t);
+            told(&request, expired, progress)
+        }
+    }
+
+    /// The expiry of the open call of `t`, which is this request at this place, where its deadline counts: a lock.
+    #[tactic(auto, using(crate::proofs::Locking::due_locks))]
+    fn expire_at(&mut self, request: Request, place: Place, t: Tid) -> Progress
+        requires living { is_living self.old.kernel t ≡ true }
+        requires call { CallMayStep self.old t request place }
+        requires mutexes { is_of_mutexes (Line.At request place) ≡ true }
+        requires counts { counts_at request place (status_at self.old t) ≡ true }
+        ensures { outcome_of result self.new ≡ expires_at request place t self.old }
+    {
+        match request {
+            Request::Lock(m) => self.lock_expire(place, t, m),
+            _ => unreachable!(),
+        }
+    }
+
+    /// The line of the open call of `t`, which is this request at this place: one on mutexes.
+    #[tactic(auto, unfolding(pif_model::specs::Lines::line_of), using(crate::proofs::Locking::wait_locks))]
+    fn step(&mut self, request: Request, place: Place, t: Tid) -> Progress
         requires known { has_thread self.old t ≡ true }
         requires call { CallMayStep self.old t request place }
         requires mutexes { is_of_mutexes (Line.At request place) ≡ true }
@@ -31,6 +66,10 @@ impl<K: PiKernel + Drop> State<K> {
             Request::Wait(_, m) => self.locking_step(request, place, t, m),
             Request::Signal(_) | Request::Broadcast(_) => unreachable!(),
             Request::SetPrio(other, prio) => self.set_prio_step(place, t, other, prio),
+            // A begun call has no deadline in its request.
+            Request::TimedLock(_, _) | Request::TimedWait(_, _, _) => {
+                self.answer(t, Errno::Invalid.number())
+            }
         }
     }
 
@@ -45,6 +84,7 @@ impl<K: PiKernel + Drop> State<K> {
         match place {
             Place::LockLoad => self.lock_load(request, t, m),
             Place::LockPending => self.name_pending(request, Place::LockExchange, t, m),
+            Place::QueueExpired | Place::StopExpired => self.clear(t, Errno::TimedOut.number()),
             _ => self.locking_step(request, place, t, m),
         }
     }

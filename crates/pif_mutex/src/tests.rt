@@ -6,7 +6,7 @@ ghost use Rattle.pif_model.specs.Posix.{names_known};
 ghost use Rattle.pif_mutex.specs.Steppable.{is_of_mutexes};
 
 use crate::{Parts, Progress, State, advance};
-use pif_model::Status;
+use pif_model::{Line, Status};
 use pif_plain::PlainKernel;
 use pif_types::{CondId, Errno, Health, Kind, Limits, MutexId, Prio, Request, Tid};
 use std::alloc::Global;
@@ -78,17 +78,19 @@ fn may_act(parts: &Parts<PlainKernel>, t: Tid, calling: bool) -> bool
 }
 
 /// Whether the open call of a thread, which was added, is one on mutexes.
-#[tactic(auto, using(crate::proofs::OpenCalls::mutexes_at_request))]
 fn is_on_mutexes(parts: &Parts<PlainKernel>, t: Tid) -> bool
     requires { has_thread parts.now t ≡ true }
     ensures { result ≡ true → is_of_mutexes (line_at parts.now t) ≡ true }
 {
-    match parts.open_call(t) {
-        Some(Request::Lock(_)) => true,
-        Some(Request::TryLock(_)) => true,
-        Some(Request::Unlock(_)) => true,
-        Some(Request::Consistent(_)) => true,
-        Some(Request::SetPrio(_, _)) => true,
+    match parts.state.line(t) {
+        Line::At(
+            Request::Lock(_)
+            | Request::TryLock(_)
+            | Request::Unlock(_)
+            | Request::Consistent(_)
+            | Request::SetPrio(_, _),
+            _,
+        ) => true,
         _ => false,
     }
 }
@@ -98,9 +100,14 @@ fn names_known(parts: &Parts<PlainKernel>, request: &Request) -> bool
     ensures { result ≡ true → names_known (has_mutex parts.now) (has_cond parts.now) request.now ≡ true }
 {
     match *request {
-        Request::Lock(m) | Request::TryLock(m) | Request::Unlock(m) | Request::Consistent(m) =>
-            m.get() <= parts.mutexes(),
-        Request::Wait(c, m) => c.get() <= parts.conds() && m.get() <= parts.mutexes(),
+        Request::Lock(m)
+        | Request::TryLock(m)
+        | Request::Unlock(m)
+        | Request::Consistent(m)
+        | Request::TimedLock(m, _) => m.get() <= parts.mutexes(),
+        Request::Wait(c, m) | Request::TimedWait(c, m, _) => {
+            c.get() <= parts.conds() && m.get() <= parts.mutexes()
+        }
         Request::Signal(c) | Request::Broadcast(c) => c.get() <= parts.conds(),
         Request::SetPrio(_, _) => true,
     }
@@ -390,7 +397,7 @@ fn variable_is_used_and_its_waiter_taken(rt: HostRuntime) -> Result<(), Fail> {
 fn use_variable(rt: &impl Abort, state: &mut State<PlainKernel>) -> Result<(), Fail> {
     let m1 = MutexId::new(1).ok_or("a mutex")?;
     let c1 = CondId::new(1).ok_or("a variable")?;
-    let t1 = first_of_each(state, m1).ok_or("room")?;
+    let t1 = first_of_each(state).ok_or("room")?;
     assert_eq!(rt; exchange(state, c1), Some((m1, Ok(0), 1)));
     assert_eq!(rt; exchange(state, c1), Some((m1, Err(1), 1)));
     assert_eq!(rt; park(state, t1, c1, m1), Some(Ok(())));
@@ -399,8 +406,9 @@ fn use_variable(rt: &impl Abort, state: &mut State<PlainKernel>) -> Result<(), F
 }
 
 /// Adds a thread, a mutex, and a variable bound to that.
-fn first_of_each(state: &mut State<PlainKernel>, m: MutexId) -> Option<Tid> {
+fn first_of_each(state: &mut State<PlainKernel>) -> Option<Tid> {
     let limits = state.limits();
+    let m = MutexId::new(state.mutex_count())?;
     let rooms = (
         state.line_count() <= limits.threads(),
         state.mutex_count() <= limits.mutexes(),

@@ -1,26 +1,39 @@
 ghost use Rattle.std.specs.Prelude.{◌≡◌, true};
 ghost use Rattle.pif_model.specs.declared.lines.Status.TheVariants.{Queued};
-ghost use Rattle.pif_model.specs.PiKernel.{seat_at, is_living, kernel_after_leaving};
+ghost use Rattle.pif_model.specs.PiKernel.{seat_at, is_living, is_out, kernel_left_as, kernel_after_expire};
 ghost use Rattle.pif_kernel.specs.Plain.{IsSound, kernel_of};
 ghost use Rattle.pif_kernel.specs.Leaving.{IsLeft};
 
 use crate::chain_walk::walk;
 use crate::parts::Parts;
-use pif_model::Status;
+use pif_model::{Status, Woken};
 use pif_types::{MutexId, Tid};
 
 impl Parts {
-    /// A living thread ends: it leaves the mutex on which it is queued, whose owner state goes where nobody else waits,
-    /// or the variable on which it is parked, and the run queue, and all for whom it waited get their new priorities.
-    /// What it owns is not touched.
-    pub(crate) fn leave(&mut self, t: Tid)
+    /// The deadline of a living thread is reached: it leaves what it waits for, with all that follows, and then is ready
+    /// at the end of its level.
+    pub(crate) fn expire(&mut self, t: Tid)
         requires sound { IsSound self.old }
         requires living { is_living (kernel_of self.old) t ≡ true }
-        ensures after { kernel_of self.new ≡ kernel_after_leaving t (kernel_of self.old) }
+        ensures after { kernel_of self.new ≡ kernel_after_expire t (kernel_of self.old) }
+        ensures sound { IsSound self.new }
+    {
+        self.leave_as(t, Status::Stopped);
+        self.wake(t, Woken::Expired);
+    }
+
+    /// A living thread leaves the mutex on which it is queued, whose owner state goes where nobody else waits, or the
+    /// variable on which it is parked, and the run queue, and all for whom it waited get their new priorities. It has
+    /// this status then, in which it waits for nothing and may not run. What it owns is not touched.
+    pub(crate) fn leave_as(&mut self, t: Tid, status: Status)
+        requires sound { IsSound self.old }
+        requires living { is_living (kernel_of self.old) t ≡ true }
+        requires out { is_out status ≡ true }
+        ensures after { kernel_of self.new ≡ kernel_left_as status t (kernel_of self.old) }
         ensures sound { IsSound self.new }
     {
         let start = self.take_off(t);
-        self.statuses[t.get() as usize] = Status::Ended;
+        self.statuses[t.get() as usize] = status;
         walk(&mut self.owners, &mut self.queue, &mut self.table, start);
     }
 

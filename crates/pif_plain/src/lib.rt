@@ -4,7 +4,7 @@
 //! It makes a call of its steps, which stand in eight files over the same parts: `refusals` has the tests of
 //! the calls, `threads` adds and stops a thread and gives it another priority, `queueing` queues a thread and hands a
 //! mutex over, `parking` parks a thread, wakes it, and finds the next, `requeueing` takes parked threads for their
-//! mutex, `leaving` takes a thread that ends off what it waits for, `dying` passes its mutexes on, and `tickets`
+//! mutex, `leaving` takes a thread that ends or expires off what it waits for, `dying` passes its mutexes on, and `tickets`
 //! numbers the waiters in their order. `orders` reads who stands at which place. `parts` keeps what they touch.
 //! `rt_mutexes` has the owner states and the rows of the threads, `chain_walk` the walk over them and `cycles` the test
 //! whether a wait closes a cycle.

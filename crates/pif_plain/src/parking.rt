@@ -1,5 +1,5 @@
-ghost use Rattle.std.specs.Prelude.{◌≡◌, ◌==◌, true, if◌then◌else◌, Some, None};
-ghost use Rattle.pif_model.specs.PiKernel.{seat_at, has_seat, is_ready, is_parked, effective_in, has_parked, top_parked, kernel_after_parking, kernel_after_waking};
+ghost use Rattle.std.specs.Prelude.{◌≡◌, ◌==◌, true, false, if◌then◌else◌, Some, None};
+ghost use Rattle.pif_model.specs.PiKernel.{seat_at, has_seat, is_ready, queued_on, effective_in, has_parked, top_parked, kernel_after_parking, kernel_after_waking};
 ghost use Rattle.pif_kernel.specs.Plain.{IsSound, kernel_of, parked_but};
 ghost use Rattle.pif_kernel.specs.Takings.{goes_before};
 
@@ -37,10 +37,12 @@ impl Parts {
         self.parked.retain(|parking| parking.thread != t);
     }
 
-    /// Wakes a parked thread: it leaves its variable, and is ready at the end of its level.
+    /// Wakes a thread that is parked or stopped: it leaves its variable, and is ready at the end of its level.
     pub(crate) fn wake(&mut self, t: Tid, woken: Woken)
         requires sound { IsSound self.old }
-        requires parked { is_parked (seat_at (kernel_of self.old) t).status ≡ true }
+        requires added { has_seat (kernel_of self.old) t ≡ true }
+        requires unready { is_ready (seat_at (kernel_of self.old) t).status ≡ false }
+        requires unqueued { queued_on (seat_at (kernel_of self.old) t).status ≡ 0 }
         ensures after { kernel_of self.new ≡ kernel_after_waking t woken (kernel_of self.old) }
         ensures sound { IsSound self.new }
     {

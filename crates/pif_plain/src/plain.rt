@@ -160,9 +160,13 @@ impl PiKernel for PlainKernel {
         self.parts.stop(t);
     }
 
+    fn expire(&mut self, t: Tid) {
+        self.parts.expire(t);
+    }
+
     fn exit(&mut self, words: &mut Words, lists: &mut RobustLists, t: Tid) {
         let mutexes = lists.walk(t);
-        self.parts.leave(t);
+        self.parts.leave_as(t, Status::Ended);
         self.parts.pass_all_on(words, t, &mutexes);
         lists.forget(t);
     }

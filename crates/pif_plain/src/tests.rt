@@ -1,8 +1,9 @@
 mod conditions;
+mod expiries;
 mod owner_states;
 mod walks;
 
-ghost use Rattle.std.specs.Prelude.{◌≡◌, ◌<◌, ◌≤◌, ◌+◌, ℕ, true, length, OnOk};
+ghost use Rattle.std.specs.Prelude.{◌≡◌, ◌<◌, ◌≤◌, ◌+◌, ℕ, true, false, length, OnOk};
 ghost use Rattle.pif_model.specs.PiKernel.{has_seat, is_living, is_ready, seat_at};
 ghost use Rattle.pif_model.specs.RobustList.{robust_at};
 ghost use Rattle.pif_kernel.specs.Plain.{kernel_of};
@@ -36,6 +37,7 @@ enum Ask {
     Requeue(u32, u32, u32, u32, u32),
     SetPrio(u32, u32),
     Stop(u32),
+    Expire(u32),
     Status(u32),
     Effective(u32),
     Base(u32),
@@ -95,6 +97,7 @@ impl Scene {
             }
             Ask::SetPrio(t, p) => done(self.kernel.set_prio(thread(t)?, p)),
             Ask::Stop(t) => self.stop(thread(t)?)?,
+            Ask::Expire(t) => self.expire(thread(t)?)?,
             Ask::Word(m) => self.word(mutex(m)?)?,
             Ask::Store(m, bits) => self.store(mutex(m)?, bits)?,
             Ask::StoreUses(c, uses) => self.store_uses(variable(c)?, uses)?,
@@ -146,6 +149,12 @@ impl Scene {
     fn stop(&mut self, t: Tid) -> Result<Reply, Fail> {
         see_ready(&self.kernel, t)?;
         self.kernel.stop(t);
+        Ok(Reply::Done)
+    }
+
+    fn expire(&mut self, t: Tid) -> Result<Reply, Fail> {
+        see_waiting(&self.kernel, t)?;
+        self.kernel.expire(t);
         Ok(Reply::Done)
     }
 
@@ -259,6 +268,18 @@ fn see_ready(kernel: &PlainKernel, t: Tid) -> Result<(), Fail>
         Status::Parked(_) => Err("the thread is parked")?,
         Status::Stopped => Err("the thread is stopped")?,
         Status::Ended => Err("the thread has ended")?,
+    }
+}
+
+// Fails where the thread doesn't live, or may run.
+fn see_waiting(kernel: &PlainKernel, t: Tid) -> Result<(), Fail>
+    ensures living { OnOk result (is_living (kernel_of kernel.now) t ≡ true) }
+    ensures unready { OnOk result (is_ready (seat_at (kernel_of kernel.now) t).status ≡ false) }
+{
+    see_living(kernel, t)?;
+    match kernel.status(t) {
+        Status::Ready(_) => Err("the thread is ready")?,
+        Status::Queued(_) | Status::Parked(_) | Status::Stopped | Status::Ended => Ok(()),
     }
 }
 

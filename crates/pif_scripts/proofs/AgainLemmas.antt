@@ -160,7 +160,7 @@ heard-line : (s : Scan Table) (t : Table) (v : List ℕ × Option Table) → s.l
     → (x : Answer) × (v.1 ≡ Some x.1) × ((es : List Entry) → IsHistory x.1 es → IsHistory t (line_entries s ++ es))
 unfolding line_entries
 heard-line s t v e a =
-    let meant = subst (λ l. answered_by script l s.number s.line ≡ Ok v) e a in
+    let meant = subst (λ l. answered_by script l s.version s.line ≡ Ok v) e a in
     elim (by_option (command_in s.line)) [
       | inl n ↦ absurd (err≢ok (sym (ap answered_later (line-no_command t s.line n)) ∙ meant))
       | inr c ↦
@@ -181,7 +181,7 @@ first-line : (s : Scan Table) (v : List ℕ × Option Table) (c : Command) (b : 
     → (x : Answer) × (v.1 ≡ Some x.1)
     × ((es : List Entry) → IsHistory x.1 es → IsHistory (new_table b) (line_entries s ++ es))
 first-line s v c b e a f g =
-    let meant = subst (λ l. answered_by script l s.number s.line ≡ Ok v) e a in
+    let meant = subst (λ l. answered_by script l s.version s.line ≡ Ok v) e a in
     let m = first-meant (first_answer c) v (sym (ap answered_first (first_line-answered s.line c f)) ∙ meant) in
     let entries = opened-entries s c b e f g in
     elim (first_answer-is c b g) [
@@ -258,7 +258,7 @@ first-history (y ∷ bs) s b e f =
     elim (by_cases (byte_taken script s y)) [
       | inl r ↦ elim (by_option r.0.1.listener) [
         | inl n ↦ elim (byte-same s y r.0 r.1).1 [
-          | inl w ↦ absurd ((answered-same s.listener s.number s.line w.1 w.2).1 (sym w.3 ∙ n))
+          | inl w ↦ absurd ((answered-same s.listener s.version s.line w.1 w.2).1 (sym w.3 ∙ n))
           | inr w ↦
               let rest = first-history bs r.0.1 b n (sym (limits-ok s y bs r.0 None r.1 n) ∙ f) in (
                 subst (λ l. IsHistory (new_table b) l) (sym (entries-ok s y bs r.0 r.1))
@@ -269,7 +269,7 @@ first-history (y ∷ bs) s b e f =
         ]
         | inr u ↦ elim (byte-same s y r.0 r.1).1 [
           | inl w ↦
-              let meant = subst (λ l. answered_by script l s.number s.line ≡ Ok w.1) e w.2 in
+              let meant = subst (λ l. answered_by script l s.version s.line ≡ Ok w.1) e w.2 in
               let c = opened s.line w.1 meant in
               let named = sym (limits-ok s y bs r.0 (Some u.0) r.1 u.1) ∙ f in
               let same : c.1 ≡ b =

@@ -8,19 +8,22 @@ use Rattle.pif_types.specs.declared.errors.Refusal.{Refusal}
 use Rattle.pif_types.specs.declared.requests.Kind.{Kind}
 use Rattle.pif_types.specs.declared.requests.Kind.TheVariants.{Normal, ErrorCheck, Recursive}
 use Rattle.pif_types.specs.declared.requests.Request.{Request}
-use Rattle.pif_types.specs.declared.requests.Request.TheVariants.{Lock, TryLock, Unlock, Consistent, Wait, Signal, Broadcast, SetPrio}
+use Rattle.pif_types.specs.declared.requests.Request.TheVariants.{Lock, TryLock, Unlock, Consistent, Wait, Signal, Broadcast, SetPrio, TimedLock, TimedWait}
 use Rattle.pif_model.specs.declared.events.Event.{Event}
-use Rattle.pif_model.specs.declared.events.Event.TheVariants.{Begin, Go, End}
+use Rattle.pif_model.specs.declared.events.Event.TheVariants.{Begin, Go, End, Tick}
+use Rattle.pif_model.specs.declared.events.Seen.{Seen}
+use Rattle.pif_model.specs.declared.events.Seen.TheVariants as seen
 use Rattle.pif_model.specs.declared.lines.Line.{Line}
 use Rattle.pif_model.specs.declared.lines.Line.TheVariants.{Idle, At}
 use Rattle.pif_model.specs.declared.lines.Place.{Place}
-use Rattle.pif_model.specs.declared.lines.Place.TheVariants.{LockLoad, LockPending, LockExchange, LockKernel, LockQueued, LockStop, LockStopped, LockClear, TakeLoad, TakeHealth, TakeStore, TakeWord, LinkNext, LinkHead, LinkClear, LeaveExchange, LeaveKernel, LeaveClear, TryLoad, TryPending, TryExchange, TryKernel, TryClear, UnlockLoad, UnlockPending, UnlockHealth, UnlockStore, UnlockUnlink, UnlockExchange, UnlockKernel, UnlockClear, ConsistentLoad, ConsistentHealth, ConsistentStore, WaitLoad, WaitUses, WaitPending, WaitHealth, WaitStore, WaitUnlink, WaitExchange, WaitKernel, WaitPark, WaitParked, UseLoad, UseExchange, UseRequeue, UseReload, SetPriority}
+use Rattle.pif_model.specs.declared.lines.Place.TheVariants.{LockLoad, LockPending, LockExchange, LockKernel, LockQueued, LockStop, LockStopped, LockClear, QueueExpired, StopExpired, TakeLoad, TakeHealth, TakeStore, TakeWord, LinkNext, LinkHead, LinkClear, LeaveExchange, LeaveKernel, LeaveClear, TryLoad, TryPending, TryExchange, TryKernel, TryClear, UnlockLoad, UnlockPending, UnlockHealth, UnlockStore, UnlockUnlink, UnlockExchange, UnlockKernel, UnlockClear, ConsistentLoad, ConsistentHealth, ConsistentStore, WaitLoad, WaitUses, WaitPending, WaitHealth, WaitStore, WaitUnlink, WaitExchange, WaitKernel, WaitPark, WaitParked, UseLoad, UseExchange, UseRequeue, UseReload, SetPriority}
 use Rattle.pif_model.specs.declared.lines.Took.{Took}
 use Rattle.pif_model.specs.declared.lines.Took.TheVariants.{Owns as TookOwns, Queued as TookQueued}
 use Rattle.pif_model.specs.PiKernel.{is_ready, is_woken_again, lock_answer, try_lock_answer, unlock_answer, set_prio_answer, wait_requeue_answer, requeue_answer}
 use Rattle.pif_model.specs.Word.{Word, take_word, release_word}
-use Rattle.pif_model.specs.Table.{Table, cell_at, status_at, bound_to, uses_of, with_word, line_at}
-use Rattle.pif_model.specs.Lines.{Outcome, goes_to, waits_at, answers, is_robust, ends_by, locked_again, exchanged, own_exchange, lock_load, lock_by, lock_kernel, take_load, lock_queued, lock_stop, take_health, take_store, take_word_back, link_next, link_head, clears, leave_exchange, given_up_by, gives_up, try_load, try_by, try_kernel, unlock_load, unlock_health, unlock_exchange, consistent_load, consistent_health, answered_by, set_priority, wait_load, wait_uses, wait_health, wait_exchange, wait_by, wait_park, wait_parked, use_read, use_exchange, more_in, use_by, use_requeue, ended_table, shared_line, locking_line, use_line, line_of, go_outcome, first_place, table_refusal, accepted_outcome, by_refusal, event_outcome}
+use Rattle.pif_model.specs.Table.{Table, cell_at, status_at, bound_to, uses_of, with_word, line_at, timer_at}
+use Rattle.pif_model.specs.Lines.{Outcome, goes_to, waits_at, answers, is_robust, ends_by, locked_again, exchanged, own_exchange, lock_load, lock_by, lock_kernel, take_load, lock_queued, lock_stop, take_health, take_store, take_word_back, link_next, link_head, clears, leave_exchange, given_up_by, gives_up, try_load, try_by, try_kernel, unlock_load, unlock_health, unlock_exchange, consistent_load, consistent_health, answered_by, set_priority, wait_load, wait_uses, wait_health, wait_exchange, wait_by, wait_park, wait_parked, use_read, use_exchange, more_in, use_by, use_requeue, ended_table, shared_line, locking_line, use_line, line_of, is_line_due, expired_place, expired_in, expires_at, told_outcome, go_outcome, first_place, table_refusal, accepted_outcome, by_refusal, event_outcome}
+use Rattle.pif_model.specs.Deadlines.{plain, told, told_seen}
 use Rattle.pif_text.specs.Numbers.{IsNumber}
 use Rattle.pif_text.specs.Traces.{IsSeenTraced}
 
@@ -360,6 +363,8 @@ line-fits : (q : Request) (p : Place) (t : ℕ) (s : Table) → IsSmallPlace p �
 unfolding line_of
 line-fits (Lock m) LockLoad t s n h = lock_load-fits s h t m (Lock m)
 line-fits (Lock m) LockPending t s n h = goes _ h t (Lock m) LockExchange tt
+line-fits (Lock m) QueueExpired t s n h = clears-fit s h t 110 (omega arith)
+line-fits (Lock m) StopExpired t s n h = clears-fit s h t 110 (omega arith)
 line-fits (Lock m) p t s n h = locking-fits (Lock m) p t m s n h
 line-fits (TryLock m) TryLoad t s n h = try_load-fits s h t m
 line-fits (TryLock m) TryPending t s n h = goes _ h t (TryLock m) TryExchange tt
@@ -399,11 +404,41 @@ line-fits q p t s n h = closes s h t 22 (omega arith)
 
 -- ---- events
 
+-- where an expiry goes on
+expired-small : (p : Place) → IsSmallPlace (expired_place p)
+expired-small LockQueued = tt
+expired-small p = tt
+
+-- an expiry
+expires-fits : (q : Request) (p : Place) (t : ℕ) (s : Table) → AreSmall s.lines → Fits (expires_at q p t s)
+unfolding expires_at expired_in
+expires-fits (Lock m) p t s h = ends _ h t (Lock m) m (expired_place p) 110 (expired-small p) (omega arith)
+expires-fits (Wait c m) p t s h = goes _ h t (Wait c m) LockExchange tt
+expires-fits q p t s h = closes s h t 22 (omega arith)
+
+-- what a wait is answered that has expired
+either-small : (b : Bool) (m n : ℕ) → IsNumber m → IsNumber n → IsNumber (if b then m else n)
+either-small true m n h k = h
+either-small false m n h k = k
+
+told-small : (q : Request) (expired : Bool) (a : ℕ) → IsNumber a → IsNumber (told q expired a)
+told-small (Wait c m) true a n = either-small (a == 0) 110 a (omega arith) n
+told-small q expired a n = n
+
+told_seen-fits : (q : Request) (expired : Bool) (x : Seen) → IsSeenTraced x → IsSeenTraced (told_seen q expired x)
+told_seen-fits q expired (seen.Answered a) n = told-small q expired a n
+told_seen-fits q expired x n = n
+
+told-fits : (q : Request) (expired : Bool) (o : Outcome) → Fits o → Fits (told_outcome q expired o)
+told-fits q expired o f = record { seen = told_seen-fits q expired o.seen f.seen; lines = f.lines }
+
 -- a step of what is open
 go-fits : (l : Line) (t : ℕ) (s : Table) → IsSmallLine l → AreSmall s.lines → Fits (go_outcome l t s)
 unfolding go_outcome
 go-fits Idle t s n h = record { seen = tt; lines = h }
-go-fits (At q p) t s n h = line-fits q p t s n h
+go-fits (At q p) t s n h =
+    either (is_line_due (At q p) t s) _ _ (expires-fits q p t s h)
+    (told-fits q (timer_at s t).expired (line_of q p t s) (line-fits q p t s n h))
 
 -- where a call begins
 first-small : (q : Request) → IsSmallPlace (first_place q)
@@ -415,13 +450,17 @@ first-small (Wait c m) = tt
 first-small (Signal c) = tt
 first-small (Broadcast c) = tt
 first-small (SetPrio u p) = tt
+first-small (TimedLock m d) = tt
+first-small (TimedWait c m d) = tt
 
 -- an event that is not refused
 accepted-fits : (e : Event) (s : Table) → AreSmall s.lines → Fits (accepted_outcome e s)
 unfolding accepted_outcome ended_table
-accepted-fits (Begin t q) s h = record { seen = tt; lines = set-small s.lines t (At q (first_place q)) (first-small q) h }
+accepted-fits (Begin t q) s h =
+    record { seen = tt; lines = set-small s.lines t (At (plain q) (first_place q)) (first-small q) h }
 accepted-fits (Go t) s h = go-fits (line_at s t) t s (h t) h
 accepted-fits (End t) s h = record { seen = tt; lines = set-small s.lines t Idle tt h }
+accepted-fits (Tick n) s h = record { seen = tt; lines = h }
 
 -- each event is answered by a number that a line can write, if by one
 pub event-fits : (e : Event) (s : Table) → AreSmall s.lines → Fits (event_outcome e s)

@@ -5,6 +5,7 @@ use Rattle.pif_text.specs.declared.commands.Command.{Command}
 use Rattle.pif_text.specs.declared.replies.Cause.{Cause}
 use Rattle.pif_text.specs.declared.replies.Cause.TheVariants.{Command as NoCommand, Size, Long, Cut}
 use Rattle.pif_text.specs.declared.replies.Reply.{Reply}
+use Rattle.pif_text.specs.declared.traces.Version.{Version}
 use Rattle.pif_text.specs.Commands.{command_in}
 use Rattle.pif_scripts.specs.declared.faults.CliFault.{CliFault}
 use Rattle.pif_scripts.specs.declared.faults.CliFault.TheVariants as fault
@@ -20,11 +21,11 @@ use Rattle.pif_scripts.proofs.ScriptLemmas.{by_cases, reading_of-nil, reading_of
 abbrev pub IsFault : Ending → Type 0
 IsFault e = (r : Reply) → e ≡ Differs r → ⊥
 
-fault-is : (c : Cause) → IsFault (Fault c)
+pub fault-is : (c : Cause) → IsFault (Fault c)
 fault-is c r e = cc
 
 module _ {S : Type 0} (hearing : Hearing S)
-    (first : (number : ℕ) (line : List ℕ) (e : Ending) → hearing.first_meaning number line ≡ Err e → IsFault e)
+    (first : (version : Option Version) (line : List ℕ) (e : Ending) → hearing.first_meaning version line ≡ Err e → IsFault e)
     (later : (s : S) (line : List ℕ) (e : Ending) → hearing.meaning s line ≡ Err e → IsFault e) where
   first-fault : (m : FirstMeaning S) (e : Ending) → answered_first m ≡ Err e → m ≡ Err e
   first-fault (Ok (Some m)) e p = cc
@@ -35,10 +36,10 @@ module _ {S : Type 0} (hearing : Hearing S)
   later-fault (Ok m) e p = cc
   later-fault (Err x) e p = let q : x ≡ e = cc in ap Err q
 
-  answered-fault : (l : Option S) (number : ℕ) (line : List ℕ) (e : Ending) → answered_by hearing l number line ≡ Err e
+  answered-fault : (l : Option S) (version : Option Version) (line : List ℕ) (e : Ending) → answered_by hearing l version line ≡ Err e
       → IsFault e
-  answered-fault None number line e p = first number line e (first-fault (hearing.first_meaning number line) e p)
-  answered-fault (Some l) number line e p = later l line e (later-fault (hearing.meaning l line) e p)
+  answered-fault None version line e p = first version line e (first-fault (hearing.first_meaning version line) e p)
+  answered-fault (Some l) version line e p = later l line e (later-fault (hearing.meaning l line) e p)
 
   after_line-fault : (s : Scan S) (m : Answered S) (x : End) → ((e : Ending) → m ≡ Err e → IsFault e)
       → after_line s m ≡ Err x → IsFault x.ending
@@ -58,7 +59,7 @@ module _ {S : Type 0} (hearing : Hearing S)
 
   byte_taken-fault : (s : Scan S) (b : ℕ) (e : End) → byte_taken hearing s b ≡ Err e → IsFault e.ending
   unfolding byte_taken
-  byte_taken-fault s b e p = fault-by _ _ _ s b (line_answer hearing s) e (answered-fault s.listener s.number s.line) p
+  byte_taken-fault s b e p = fault-by _ _ _ s b (line_answer hearing s) e (answered-fault s.listener s.version s.line) p
 
   reading_of-fault : (bs : List ℕ) (s : Scan S) (e : End) → (reading_of hearing s bs).stands ≡ Err e → IsFault e.ending
   reading_of-fault [] s e p = let n = reading_of-nil hearing s in let bad : Ok s ≡ Err e = sym n.1 ∙ p in cc
@@ -129,7 +130,7 @@ line-fault s line e p = line-by (command_in line) s e p
 -- a script ends with no difference
 pub script_ends-with_fault : (bs : List ℕ) (line : ℕ) (r : Reply)
     → ended_by script (reading_of script start bs).stands ≡ Err (record { line = line; ending = Differs r }) → ⊥
-script_ends-with_fault bs line r p = ends-with_fault script (λ number. first_line-fault) line-fault bs start line r p
+script_ends-with_fault bs line r p = ends-with_fault script (λ version. first_line-fault) line-fault bs start line r p
 
 pub RunsTo-from : (a b h k : Option (List ℕ)) (result : Result (Unit {0}) CliFault)
     → RunsFrom script start a b h k result → RunsTo a b h k result

@@ -12,3 +12,4 @@ pub mod TracingLemmas
 pub mod TranscriptLemmas
 pub mod WrittenLemmas
 pub mod ShowingLemmas
+pub mod MigrateLemmas

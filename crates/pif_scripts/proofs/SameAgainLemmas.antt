@@ -1,5 +1,5 @@
 -- A trace that is written comes to `same`.
-use Rattle.std.proofs.Common.{suc, ◌≡◌, ℕ, ◌+◌, ◌-◌, ◌<◌, ◌≤◌, ◌==◌, not, Bool, cond, true, false, nat_lt, List, [], ◌∷◌, ◌++◌, Option, Some, None, Ok, Err, length, length-append, refl, sym, ap, ◌∙◌, subst, append_assoc, append-nil, arith, bytes_eq}
+use Rattle.std.proofs.Common.{suc, ◌≡◌, ℕ, ◌+◌, ◌-◌, ◌<◌, ◌≤◌, ◌==◌, not, Bool, cond, true, false, nat_lt, List, [], ◌∷◌, ◌++◌, Option, Some, None, Ok, Err, length, length-append, refl, sym, ap, ◌∙◌, subst, append_assoc, append-nil, arith, bytes_eq, if◌then◌else◌}
 use Rattle.std.specs.Prelude.{All, flat_map}
 use Rattle.std.proofs.lemmas.Bool.{and_parts, false≢true}
 use Rattle.std.proofs.lemmas.Bool.Decides.{nat_tests}
@@ -21,7 +21,9 @@ use Rattle.pif_text.specs.declared.replies.Reply.TheVariants as reply
 use Rattle.pif_text.specs.declared.replies.Added.TheVariants as added
 use Rattle.pif_text.specs.CommandTexts.{command_text, IsWritten}
 use Rattle.pif_text.specs.Replies.{text_of}
-use Rattle.pif_text.specs.Traces.{header_text, if_traced, recorded, same_of, IsTraced}
+use Rattle.pif_text.specs.declared.traces.Version.{Version}
+use Rattle.pif_text.specs.declared.traces.Version.TheVariants.{Two}
+use Rattle.pif_text.specs.Traces.{header_text, if_traced, recorded, same_of, IsTraced, version_in}
 use Rattle.pif_text.proofs.Plain.{lacks, IsLine, recorded-line, recorded-parts}
 use Rattle.pif_text.proofs.ReadBack.{command_back}
 use Rattle.pif_text.specs.declared.replies.Cause.TheVariants.{Command as NoCommand}
@@ -30,7 +32,7 @@ use Rattle.pif_scripts.specs.Scripts.{Hearing, FirstMeaning, Meaning, Scan, read
 use Rattle.pif_scripts.specs.Runs.{end_line, last_text}
 use Rattle.pif_types.specs.declared.requests.Kind.{Kind}
 use Rattle.pif_scripts.specs.Running.{Answer, answer_or_fault, command_answer, first_answer, limits_in, are_limits, made_by, addition_answer, addition_after}
-use Rattle.pif_scripts.specs.Traces.{traced_in, comparison, second_line_meaning, traced_meaning, trace_hearing, trace_end, verdict, entry_command, entry_reply, entry_text, entry_line, limits_text, front_lines, trace, IsEntryWritten, IsHistory}
+use Rattle.pif_scripts.specs.Traces.{Replay, traced_in, comparison, header_meaning, second_line_meaning, traced_meaning, trace_hearing, trace_end, verdict, entry_command, entry_reply, entry_text, entry_line, limits_text, front_lines, trace, IsEntryWritten, IsHistory}
 use Rattle.pif_scripts.proofs.ScriptLemmas.{byte_taken-byte, byte_taken-end, reading_of-ok, reading_of-nil}
 
 -- ---- whole lines
@@ -40,13 +42,13 @@ module _ {S : Type 0} (hearing : Hearing S) where
       → length s.line + length bytes ≤ 120
       → s.taken + length bytes ≤ 16777216 → line ≡ s.line ++ bytes → taken ≡ s.taken + length bytes
       → (reading_of hearing s (bytes ++ rest)).stands
-      ≡ (reading_of hearing (record { listener = s.listener; line = line; number = s.number; taken = taken })
+      ≡ (reading_of hearing (record s { line = line; taken = taken })
       rest).stands
   reading_of-bytes [] rest s line taken e short small p q =
       let same : s.line ≡ line = sym (p ∙ append-nil s.line) in
       let count : s.taken ≡ taken = omega arith in
       ap (λ (t : Scan S). (reading_of hearing t rest).stands)
-      (λ i. record { listener = s.listener; line = same i; number = s.number; taken = count i })
+      (λ i. record s { line = same i; taken = count i })
   reading_of-bytes (b ∷ bs) rest s line taken e short small p q =
       let t = and_parts (not (b == 10)) (lacks 10 bs) e in
       let other : b ≡ 10 → ⊥ = λ h. let unequal : not (b == 10) ≡ true = t.0 in grind (arith, nat_tests) in
@@ -57,25 +59,34 @@ module _ {S : Type 0} (hearing : Hearing S) where
       (p ∙ sym (append_assoc s.line (b ∷ []) bs)) (omega arith)
 
   -- a line with its LF, from its first byte on
-  reading_of-line : (bytes rest : List ℕ) (l : Option S) (number taken : ℕ) (m : List ℕ × Option S) → IsLine bytes
+  pub reading_of-line : (bytes rest : List ℕ) (l : Option S) (version next : Option Version) (number taken : ℕ)
+      (m : List ℕ × Option S) → IsLine bytes
       → taken + length bytes < 16777216
-      → answered_by hearing l number bytes ≡ Ok m
-      → (reading_of hearing (record { listener = l; line = []; number = number; taken = taken })
+      → answered_by hearing l version bytes ≡ Ok m → (if number == 1 then version_in bytes else version) ≡ next
+      → (reading_of hearing (record { listener = l; version = version; line = []; number = number; taken = taken })
       ((bytes ++ 10 ∷ []) ++ rest)).stands
       ≡ (reading_of hearing (record {
         listener = m.1;
+        version = next;
         line = [];
         number = number + 1;
         taken = taken + length bytes + 1;
       }) rest).stands
-  reading_of-line bytes rest l number taken m ok small e =
-      let s : Scan S = record { listener = l; line = []; number = number; taken = taken } in
-      let t : Scan S = record { listener = l; line = bytes; number = number; taken = taken + length bytes } in
+  reading_of-line bytes rest l version next number taken m ok small e f =
+      let s : Scan S = record { listener = l; version = version; line = []; number = number; taken = taken } in
+      let t : Scan S = record s { line = bytes; taken = taken + length bytes } in
       let bytes_read = reading_of-bytes bytes (10 ∷ rest) s bytes (taken + length bytes) ok.no_end
       (omega (arith, ok.short)) (omega arith) refl refl in
       let last = byte_taken-end hearing t 10 small refl ∙ ap (after_line t) e in
       let one = reading_of-ok hearing t 10 rest _ last in
-      ap (λ l. (reading_of hearing s l).stands) (append_assoc bytes (10 ∷ []) rest) ∙ bytes_read ∙ one.1
+      let named = ap (λ v. (reading_of hearing (record {
+        listener = m.1;
+        version = v;
+        line = [];
+        number = number + 1;
+        taken = taken + length bytes + 1;
+      }) rest).stands) f in
+      ap (λ l. (reading_of hearing s l).stands) (append_assoc bytes (10 ∷ []) rest) ∙ bytes_read ∙ one.1 ∙ named
 
 -- ---- the lines of a trace
 
@@ -83,64 +94,74 @@ same_bytes : (xs : List ℕ) → bytes_eq xs xs ≡ true
 same_bytes xs = (bytes_eq-Decides xs xs).1 refl
 
 -- a written line is read as what was written
-traced_back : (c : Command) (r : Reply) → IsWritten c → if_traced c ≡ Some c
-    → traced_in (command_text c ++ recorded r) ≡ Some (c, text_of r)
+traced_back : (c : Command) (r : Reply) → IsWritten c → if_traced Two c ≡ Some c
+    → traced_in Two (command_text c ++ recorded r) ≡ Some (c, text_of r)
 unfolding traced_in
 traced_back c r p e = rw (recorded-parts c r p e, command_back c p, e) refl
 
+-- a trace of version 2 that is held to this core
+abbrev held_to : Table → Replay
+held_to s = record { version = Two; core = s }
+
 -- the answer that was written is the one that is given
 comparison_back : (r : Reply) (after : Table)
-    → ◌≡◌ {A = Meaning Table} (comparison (text_of r) (Ok (r, after))) (Ok ([], after))
+    → ◌≡◌ {A = Meaning Replay} (comparison Two (text_of r) (Ok (r, after))) (Ok ([], held_to after))
 comparison_back r after = by-test (bytes_eq (text_of r) (text_of r)) (same_bytes (text_of r))
   where
     by-test : (b : Bool) → b ≡ true
-        → ◌≡◌ {A = Meaning Table} (cond b (Ok ([], after)) (Err (Differs r))) (Ok ([], after))
+        → ◌≡◌ {A = Meaning Replay} (cond b (Ok ([], held_to after)) (Err (Differs r))) (Ok ([], held_to after))
     by-test true e = refl
     by-test false e = absurd (false≢true e)
 
 given_back : (o : Option Answer) (r : Reply) (after : Table) → o ≡ Some (r, after)
-    → comparison (text_of r) (answer_or_fault o) ≡ Ok ([], after)
+    → comparison Two (text_of r) (answer_or_fault o) ≡ Ok ([], held_to after)
 given_back o r after e =
-    subst (λ x. comparison (text_of r) (answer_or_fault x) ≡ Ok ([], after)) (sym e) (comparison_back r after)
+    subst (λ x. comparison Two (text_of r) (answer_or_fault x) ≡ Ok ([], held_to after)) (sym e)
+    (comparison_back r after)
 
 later_by : (o : Option (Command × List ℕ)) (c : Command) (r : Reply) (s after : Table) → o ≡ Some (c, text_of r)
     → command_answer c s ≡ Some (r, after)
-    → ◌≡◌ {A = Meaning Table} (elim o
-    [ None ↦ Err (Fault NoCommand) | Some p ↦ comparison p.1 (answer_or_fault (command_answer p.0 s)) ])
-    (Ok ([], after))
+    → ◌≡◌ {A = Meaning Replay} (elim o
+    [ None ↦ Err (Fault NoCommand) | Some p ↦ comparison Two p.1 (answer_or_fault (command_answer p.0 s)) ])
+    (Ok ([], held_to after))
 later_by o c r s after e g =
-    subst (λ x. ◌≡◌ {A = Meaning Table}
-    (elim x [ None ↦ Err (Fault NoCommand) | Some p ↦ comparison p.1 (answer_or_fault (command_answer p.0 s)) ])
-    (Ok ([], after)))
+    subst (λ x. ◌≡◌ {A = Meaning Replay}
+    (elim x [ None ↦ Err (Fault NoCommand) | Some p ↦ comparison Two p.1 (answer_or_fault (command_answer p.0 s)) ])
+    (Ok ([], held_to after)))
     (sym e) (given_back (command_answer c s) r after g)
 
-heard_back : (c : Command) (r : Reply) (s after : Table) (number : ℕ) → IsWritten c → if_traced c ≡ Some c
-    → command_answer c s ≡ Some (r, after)
-    → answered_by trace_hearing (Some s) number (command_text c ++ recorded r) ≡ Ok ([], Some after)
+heard_back : (c : Command) (r : Reply) (s after : Table) (version : Option Version) → IsWritten c
+    → if_traced Two c ≡ Some c → command_answer c s ≡ Some (r, after)
+    → answered_by trace_hearing (Some (held_to s)) version (command_text c ++ recorded r)
+    ≡ Ok ([], Some (held_to after))
 unfolding traced_meaning
-heard_back c r s after number p e o =
-    ap answered_later (later_by (traced_in (command_text c ++ recorded r)) c r s after (traced_back c r p e) o)
+heard_back c r s after version p e o =
+    ap answered_later (later_by (traced_in Two (command_text c ++ recorded r)) c r s after (traced_back c r p e) o)
 
 first_by : (o : Option (Command × List ℕ)) (c : Command) (r : Reply) (after : Table) → o ≡ Some (c, text_of r)
     → first_answer c ≡ Ok (r, after)
-    → ◌≡◌ {A = FirstMeaning Table} (elim o
-    [ None ↦ Err (Fault NoCommand) | Some p ↦ made_by (comparison p.1 (first_answer p.0)) ]) (Ok (Some ([], after)))
+    → ◌≡◌ {A = FirstMeaning Replay} (elim o
+    [ None ↦ Err (Fault NoCommand) | Some p ↦ made_by (comparison Two p.1 (first_answer p.0)) ])
+    (Ok (Some ([], held_to after)))
 first_by o c r after e g =
-    subst (λ x. ◌≡◌ {A = FirstMeaning Table}
-    (elim x [ None ↦ Err (Fault NoCommand) | Some p ↦ made_by (comparison p.1 (first_answer p.0)) ])
-    (Ok (Some ([], after))))
-    (sym e) (ap made_by (subst (λ x. comparison (text_of r) x ≡ Ok ([], after)) (sym g) (comparison_back r after)))
+    subst (λ x. ◌≡◌ {A = FirstMeaning Replay}
+    (elim x [ None ↦ Err (Fault NoCommand) | Some p ↦ made_by (comparison Two p.1 (first_answer p.0)) ])
+    (Ok (Some ([], held_to after))))
+    (sym e)
+    (ap made_by (subst (λ x. comparison Two (text_of r) x ≡ Ok ([], held_to after)) (sym g) (comparison_back r after)))
 
 -- a line that is heard so, and what happened after it
 abbrev Heard : Table → List ℕ → List Entry → Type 0
 Heard s line es =
-    (after : Table) × ((number : ℕ) → answered_by trace_hearing (Some s) number line ≡ Ok ([], Some after))
+    (after : Table) × ((version : Option Version)
+    → answered_by trace_hearing (Some (held_to s)) version line ≡ Ok ([], Some (held_to after)))
     × IsLine line × IsHistory after es
 
 written_back : (c : Command) (r : Reply) (s after : Table) (es : List Entry) → IsWritten c → IsTraced r
-    → if_traced c ≡ Some c
+    → if_traced Two c ≡ Some c
     → command_answer c s ≡ Some (r, after) → IsHistory after es → Heard s (command_text c ++ recorded r) es
-written_back c r s after es p q e o h = (after, λ number. heard_back c r s after number p e o, recorded-line c r p e q, h)
+written_back c r s after es p q e o h =
+    (after, λ version. heard_back c r s after version p e o, recorded-line c r p e q, h)
 
 -- what an entry asks is answered as it records, and the core goes on behind it
 given : (e : Entry) (es : List Entry) (s : Table) → IsHistory s (e ∷ es)
@@ -153,7 +174,7 @@ given (Step e seen) es s h =
     ((event_outcome e s).after, ap (λ x. Some (reply.Seen x, (event_outcome e s).after)) h.0, h.1)
 
 -- and it stands in traces
-entry_traced : (e : Entry) → if_traced (entry_command e) ≡ Some (entry_command e)
+entry_traced : (e : Entry) → if_traced Two (entry_command e) ≡ Some (entry_command e)
 entry_traced (AddedThread t p) = refl
 entry_traced (AddedMutex m k robust) = refl
 entry_traced (AddedCond c m) = refl
@@ -166,18 +187,26 @@ entry_back e es s w h =
     let g = given e es s h in
     written_back (entry_command e) (entry_reply e) s g.0 es w.0 w.1 (entry_traced e) g.1 g.2
 
--- a trace stands so between two lines
-abbrev at_line : Option Table → (number taken : ℕ) → Scan Table
-at_line l number taken = record { listener = l; line = []; number = number; taken = taken }
+-- a trace of version 2 stands so between two lines
+abbrev at_line : Table → (number taken : ℕ) → Scan Replay
+at_line s number taken =
+    record { listener = Some (held_to s); version = Some Two; line = []; number = number; taken = taken }
+
+-- the version stays behind the first line
+pub version_kept : (number : ℕ) (line : List ℕ) (version : Option Version) → 1 < number
+    → (if number == 1 then version_in line else version) ≡ version
+version_kept number line version h =
+    let other : (number == 1) ≡ false = grind (arith, nat_tests) in
+    rw other refl
 
 -- the lines of entries are heard to their end
-entries_back : (es : List Entry) (s : Table) (number taken : ℕ) → All IsEntryWritten es → IsHistory s es
+entries_back : (es : List Entry) (s : Table) (number taken : ℕ) → All IsEntryWritten es → IsHistory s es → 1 < number
     → taken + length (flat_map entry_line es) ≤ 16777216
-    → (v : Scan Table) × ((reading_of trace_hearing (at_line (Some s) number taken) (flat_map entry_line es)).stands
+    → (v : Scan Replay) × ((reading_of trace_hearing (at_line s number taken) (flat_map entry_line es)).stands
     ≡ Ok v) × (v.line ≡ []) × (v.number ≡ number + length es)
-entries_back [] s number taken w h small =
-    (at_line (Some s) number taken, (reading_of-nil trace_hearing (at_line (Some s) number taken)).1, refl, omega arith)
-entries_back (e ∷ es) s number taken w h small =
+entries_back [] s number taken w h later small =
+    (at_line s number taken, (reading_of-nil trace_hearing (at_line s number taken)).1, refl, omega arith)
+entries_back (e ∷ es) s number taken w h later small =
     let one = entry_back e es s (w 0 e (omega arith)) h in
     let bound : taken + (length (entry_text e) + 1) + length (flat_map entry_line es) ≤ 16777216 =
     omega (
@@ -185,15 +214,16 @@ entries_back (e ∷ es) s number taken w h small =
       length-append (entry_text e ++ 10 ∷ []) (flat_map entry_line es),
       length-append (entry_text e) (10 ∷ []),
     ) in
-    let line = reading_of-line trace_hearing (entry_text e) (flat_map entry_line es) (Some s) number taken
-    ([], Some one.0) one.2 (omega arith) (one.1 number) in
+    let line = reading_of-line trace_hearing (entry_text e) (flat_map entry_line es) (Some (held_to s)) (Some Two)
+    (Some Two) number taken ([], Some (held_to one.0)) one.2 (omega arith) (one.1 (Some Two))
+    (version_kept number (entry_text e) (Some Two) later) in
     let rest = entries_back es one.0 (number + 1) (taken + length (entry_text e) + 1)
-    (λ k d below. w (suc k) d (omega arith)) one.3 (omega arith) in
+    (λ k d below. w (suc k) d (omega arith)) one.3 (omega arith) (omega arith) in
     (rest.0, line ∙ rest.1, rest.2, omega (arith, rest.3))
 
 -- ---- the first two lines
 
-header_line : IsLine header_text
+header_line : IsLine (header_text Two)
 header_line = record { no_end = refl; short = omega arith }
 
 limits_written : (b : Bounds) → IsWithin b → IsWritten (command.Limits b.threads b.mutexes b.conds b.signals)
@@ -218,14 +248,22 @@ first_limits : (b : Bounds) → IsWithin b
 unfolding first_answer limits_in
 first_limits b w = rw (are_limits_within b w) refl
 
-limits_back : (b : Bounds) → IsWithin b → answered_by trace_hearing None 2 (limits_text b) ≡ Ok ([], Some (new_table b))
+limits_back : (b : Bounds) → IsWithin b
+    → answered_by trace_hearing None (Some Two) (limits_text b) ≡ Ok ([], Some (held_to (new_table b)))
 unfolding second_line_meaning
 limits_back b w =
     let c = command.Limits b.threads b.mutexes b.conds b.signals in
-    ap answered_first (first_by (traced_in (limits_text b)) c reply.Done (new_table b)
+    ap answered_first (first_by (traced_in Two (limits_text b)) c reply.Done (new_table b)
     (traced_back c reply.Done (limits_written b w) refl) (first_limits b w))
 
-closed_back : (v : Scan Table) (n : ℕ) → v.line ≡ [] → v.number ≡ 3 + n
+header_named : version_in (header_text Two) ≡ Some Two
+unfolding version_in
+header_named = refl
+
+header_back : answered_by trace_hearing None None (header_text Two) ≡ Ok ([], None)
+header_back = ap (λ o. answered_first (header_meaning {S = Replay} o)) header_named
+
+closed_back : (v : Scan Replay) (n : ℕ) → v.line ≡ [] → v.number ≡ 3 + n
     → last_text end_line (closed_at trace_hearing v) ≡ same_of (1 + n) ++ 10 ∷ []
 closed_back v n e f =
     let some : nat_lt 1 v.number ≡ true = grind (arith, nat_tests) in
@@ -240,10 +278,10 @@ trace_back b es w a h small =
     let entries = flat_map entry_line es in
     let size : 12 + (length (limits_text b) + 1) + length entries ≤ 16777216 =
     omega (arith, small, length-append (limits_text b ++ 10 ∷ []) entries, length-append (limits_text b) (10 ∷ [])) in
-    let header = reading_of-line trace_hearing header_text ((limits_text b ++ 10 ∷ []) ++ entries) None 1 0 ([], None)
-    header_line (omega arith) refl in
-    let limits = reading_of-line trace_hearing (limits_text b) entries None 2 12 ([], Some (new_table b))
-    (limits_line b w) (omega arith) (limits_back b w) in
-    let rest = entries_back es (new_table b) 3 (12 + length (limits_text b) + 1) a h (omega arith) in
+    let header = reading_of-line trace_hearing (header_text Two) ((limits_text b ++ 10 ∷ []) ++ entries) None None
+    (Some Two) 1 0 ([], None) header_line (omega arith) header_back header_named in
+    let limits = reading_of-line trace_hearing (limits_text b) entries None (Some Two) (Some Two) 2 12
+    ([], Some (held_to (new_table b))) (limits_line b w) (omega arith) (limits_back b w) refl in
+    let rest = entries_back es (new_table b) 3 (12 + length (limits_text b) + 1) a h (omega arith) (omega arith) in
     ap (λ stands. last_text end_line (ended_by trace_hearing stands)) (header ∙ limits ∙ rest.1)
     ∙ closed_back rest.0 (length es) rest.2 rest.3

@@ -2,11 +2,12 @@
 use Rattle.std.proofs.Common.{◌≡◌, ℕ, ◌+◌, ◌<◌, ◌≤◌, Bool, true, false, cond, List, [], ◌∷◌, ◌++◌, length, Option, Some, None, Result, Ok, Err, ◌⊎◌, inl, inr, refl, sym, ap, ◌∙◌, subst, append_assoc, append-nil, arith}
 use Rattle.std.proofs.lemmas.Bool.Decides.{nat_tests}
 use Rattle.pif_text.specs.declared.replies.Cause.TheVariants.{Size, Long}
+use Rattle.pif_text.specs.declared.traces.Version.{Version}
 use Rattle.pif_scripts.specs.declared.reading.ending.Ending.TheVariants.{Fault}
 use Rattle.pif_scripts.specs.declared.reading.ending.End.{End}
 use Rattle.pif_scripts.specs.declared.reading.ending.Stop.{Stop}
 use Rattle.pif_scripts.specs.declared.reading.ending.Stop.TheVariants.{Ended, NoMemory}
-use Rattle.pif_scripts.specs.Scripts.{Hearing, FirstMeaning, Meaning, Answered, Scan, byte_taken, reading_of, line_answer, answered_by, answered_first, answered_later, after_line, end_at, with_byte, Opens, Hears, Takes, Answers}
+use Rattle.pif_scripts.specs.Scripts.{Hearing, FirstMeaning, Meaning, Answered, Scan, byte_taken, reading_of, line_answer, answered_by, answered_first, answered_later, after_line, version_after, end_at, with_byte, Opens, Hears, Takes, Answers}
 
 -- an outcome is one of the two
 pub by_cases : {A E : Type 0} (r : Result A E) → ((x : A) × (r ≡ Ok x)) ⊎ ((e : E) × (r ≡ Err e))
@@ -49,17 +50,17 @@ module _ {S : Type 0} (hearing : Hearing S) where
       cc
   later-heard (Err c) r e n = cc
 
-  answered-unheard : (l : Option S) (number : ℕ) (line : List ℕ) (r : List ℕ × Option S)
-      → answered_by hearing l number line ≡ Ok r → r.1 ≡ None
+  answered-unheard : (l : Option S) (version : Option Version) (line : List ℕ) (r : List ℕ × Option S)
+      → answered_by hearing l version line ≡ Ok r → r.1 ≡ None
       → (l ≡ None) × (r.0 ≡ [])
-  answered-unheard None number line r e n = (refl, first-unheard (hearing.first_meaning number line) r e n)
-  answered-unheard (Some l) number line r e n = absurd (later-heard (hearing.meaning l line) r e n)
+  answered-unheard None version line r e n = (refl, first-unheard (hearing.first_meaning version line) r e n)
+  answered-unheard (Some l) version line r e n = absurd (later-heard (hearing.meaning l line) r e n)
 
   after_line-unheard : (s : Scan S) (m : Answered S) (r : List ℕ × Scan S)
       → ((x : List ℕ × Option S) → m ≡ Ok x → x.1 ≡ None → (s.listener ≡ None) × (x.0 ≡ []))
       → after_line s m ≡ Ok r → r.1.listener ≡ None → (s.listener ≡ None) × (r.0 ≡ [])
   after_line-unheard s (Ok m) r u e n =
-      let p : (m.0, record { listener = m.1; line = []; number = s.number + 1; taken = s.taken + 1 }) ≡ r = cc in
+      let p : (m.0, record { listener = m.1; version = version_after s; line = []; number = s.number + 1; taken = s.taken + 1 }) ≡ r = cc in
       let q = u m refl (ap (λ (x : List ℕ × Scan S). x.1.listener) p ∙ n) in
       (q.0, sym (ap (λ (x : List ℕ × Scan S). x.0) p) ∙ q.1)
   after_line-unheard s (Err c) r u e n = (cc, cc)
@@ -80,39 +81,40 @@ module _ {S : Type 0} (hearing : Hearing S) where
       → r.1.listener ≡ None → (s.listener ≡ None) × (r.0 ≡ [])
   unfolding byte_taken
   byte_taken-unheard s b r e n =
-      unheard-by _ _ _ s b (line_answer hearing s) _ _ r (answered-unheard s.listener s.number s.line) e n
+      unheard-by _ _ _ s b (line_answer hearing s) _ _ r (answered-unheard s.listener s.version s.line) e n
 
   -- a line was passed over, or made a listener
-  opened-answers : (number : ℕ) (line old new : List ℕ) (o : Option S)
-      → Opens (hearing.first_meaning number line) old new (Ok o)
-      → (m : List ℕ × Option S) × (answered_by hearing None number line ≡ Ok m) × (new ≡ old ++ m.0) × (o ≡ m.1)
-  opened-answers number line old new (Some l) p = ((p.0, Some l), ap answered_first p.1, p.2, refl)
-  opened-answers number line old new None p = (([], None), ap answered_first p.0, p.1 ∙ sym (append-nil old), refl)
+  opened-answers : (version : Option Version) (line old new : List ℕ) (o : Option S)
+      → Opens (hearing.first_meaning version line) old new (Ok o)
+      → (m : List ℕ × Option S) × (answered_by hearing None version line ≡ Ok m) × (new ≡ old ++ m.0) × (o ≡ m.1)
+  opened-answers version line old new (Some l) p = ((p.0, Some l), ap answered_first p.1, p.2, refl)
+  opened-answers version line old new None p = (([], None), ap answered_first p.0, p.1 ∙ sym (append-nil old), refl)
 
   pub Answers-opened : (s : Scan S) (shown old new : List ℕ) (o : Option S) → s.listener ≡ None → shown ≡ s.line
-      → Opens (hearing.first_meaning s.number shown) old new (Ok o)
-      → Answers hearing s old new (record { listener = o; line = s.line; number = s.number; taken = s.taken }) (Ok tt)
+      → Opens (hearing.first_meaning s.version shown) old new (Ok o)
+      → Answers hearing s old new (record s { listener = o }) (Ok tt)
   Answers-opened s shown old new o e f p =
-      let a = opened-answers s.number s.line old new o
-      (subst (λ l. Opens (hearing.first_meaning s.number l) old new (Ok o)) f p) in
-      (a.0, rw e a.1, a.2, λ i. record { listener = a.3 i; line = s.line; number = s.number; taken = s.taken })
+      let a = opened-answers s.version s.line old new o
+      (subst (λ l. Opens (hearing.first_meaning s.version l) old new (Ok o)) f p) in
+      (a.0, rw e a.1, a.2, λ i. record s { listener = a.3 i })
 
   -- a listener heard a line
   pub Answers-heard : (s : Scan S) (shown old new : List ℕ) (l m : S) → s.listener ≡ Some l → shown ≡ s.line
       → Hears (hearing.meaning l shown) old new m (Ok tt)
-      → Answers hearing s old new (record { listener = Some m; line = s.line; number = s.number; taken = s.taken })
+      → Answers hearing s old new (record s { listener = Some m })
       (Ok tt)
   Answers-heard s shown old new l m e f p = ((p.0, Some m), rw (e, ← f) (ap answered_later p.1), p.2, refl)
 
   -- an LF whose line was answered
-  pub byte_taken-answered : (s : Scan S) (b : ℕ) (m : List ℕ × Option S) (t : Scan S) (l : List ℕ) → s.taken < 16777216
+  pub byte_taken-answered : (s : Scan S) (b : ℕ) (m : List ℕ × Option S) (t : Scan S) (v : Option Version) (l : List ℕ)
+      → s.taken < 16777216
       → b ≡ 10 → line_answer hearing s ≡ Ok m
-      → t ≡ record { listener = m.1; line = s.line; number = s.number; taken = s.taken } → l ≡ []
+      → t ≡ record s { listener = m.1 } → v ≡ version_after t → l ≡ []
       → byte_taken hearing s b ≡ Ok (
         m.0,
-        record { listener = t.listener; line = l; number = t.number + 1; taken = t.taken + 1 },
+        record { listener = t.listener; version = v; line = l; number = t.number + 1; taken = t.taken + 1 },
       )
-  byte_taken-answered s b m t l h e a u v = rw (u, v) (byte_taken-end s b h e ∙ ap (after_line s) a)
+  byte_taken-answered s b m t v l h e a u w n = rw (w, u, n) (byte_taken-end s b h e ∙ ap (after_line s) a)
 
   same-end : (f : End) (s : Scan S) → f.line ≡ s.number → ◌≡◌ {A = End} (end_at s f.ending) f
   same-end f s e = λ i. record { line = (sym e) i; ending = f.ending }

@@ -8,13 +8,14 @@ use Rattle.pif_model.specs.Table.{Table, new_table}
 use Rattle.pif_text.specs.declared.commands.Command.{Command}
 use Rattle.pif_text.specs.declared.replies.Reply.{Reply}
 use Rattle.pif_text.specs.declared.replies.Cause.TheVariants.{Command as NoCommand, Limits as LimitsCause, Cut}
+use Rattle.pif_text.specs.declared.traces.Version.{Version}
 use Rattle.pif_text.specs.Commands.{command_in}
 use Rattle.pif_scripts.specs.declared.faults.CliFault.{CliFault}
 use Rattle.pif_scripts.specs.declared.faults.CliFault.TheVariants as fault
 use Rattle.pif_scripts.specs.declared.reading.ending.Ending.{Ending}
 use Rattle.pif_scripts.specs.declared.reading.ending.Ending.TheVariants.{Fault, Differs}
 use Rattle.pif_scripts.specs.declared.reading.ending.End.{End}
-use Rattle.pif_scripts.specs.Scripts.{FirstMeaning, Meaning, Answered, Scan, start, byte_taken, reading_of, line_answer, answered_by, answered_first, answered_later, after_line, with_byte, end_at, ended_by, at_end, Opens, Hears, NeedsListener, NeedsIn}
+use Rattle.pif_scripts.specs.Scripts.{FirstMeaning, Meaning, Answered, Scan, start, byte_taken, reading_of, line_answer, answered_by, answered_first, answered_later, after_line, version_after, with_byte, end_at, ended_by, at_end, Opens, Hears, NeedsListener, NeedsIn}
 use Rattle.pif_scripts.specs.Runs.{RunsFrom, WritesPart, last_text}
 use Rattle.pif_scripts.specs.Running.{answer_line, answer_or_fault, command_answer, first_answer, first_line_meaning, line_meaning, made_by, script}
 use Rattle.pif_scripts.specs.Traces.{entry_line, front_lines, trace}
@@ -151,12 +152,12 @@ later-same text (Ok y) m e =
     (ap (λ o. Ok (text, o)) some, λ none. none≢some (sym (some ∙ none)))
 later-same text (Err x) m e = (cc, cc)
 
-pub answered-same : (l : Option Table) (number : ℕ) (line : List ℕ) (m : List ℕ × Option Table)
-    → answered_by script l number line ≡ Ok m
-    → (answered_by transcript l number line ≡ Ok (line_lines l line, m.1)) × (m.1 ≡ None → ⊥)
-answered-same None number line m e =
+pub answered-same : (l : Option Table) (version : Option Version) (line : List ℕ) (m : List ℕ × Option Table)
+    → answered_by script l version line ≡ Ok m
+    → (answered_by transcript l version line ≡ Ok (line_lines l line, m.1)) × (m.1 ≡ None → ⊥)
+answered-same None version line m e =
     first-same (first_line_lines line) (first_line_meaning line) m (first_line-heard line) e
-answered-same (Some s) number line m e = later-same (later_line_lines s line) (line_meaning s line) m e
+answered-same (Some s) version line m e = later-same (later_line_lines s line) (line_meaning s line) m e
 
 first-ends : (text : List ℕ) (x : FirstMeaning Table) (f : Ending) → answered_first x ≡ Err f
     → answered_first (first_retold text x) ≡ Err f
@@ -169,10 +170,10 @@ later-ends : (text : List ℕ) (x : Meaning Table) (f : Ending) → answered_lat
 later-ends text (Ok y) f e = cc
 later-ends text (Err x) f e = e
 
-answered-ends : (l : Option Table) (number : ℕ) (line : List ℕ) (f : Ending)
-    → answered_by script l number line ≡ Err f → answered_by transcript l number line ≡ Err f
-answered-ends None number line f e = first-ends (first_line_lines line) (first_line_meaning line) f e
-answered-ends (Some s) number line f e = later-ends (later_line_lines s line) (line_meaning s line) f e
+answered-ends : (l : Option Table) (version : Option Version) (line : List ℕ) (f : Ending)
+    → answered_by script l version line ≡ Err f → answered_by transcript l version line ≡ Err f
+answered-ends None version line f e = first-ends (first_line_lines line) (first_line_meaning line) f e
+answered-ends (Some s) version line f e = later-ends (later_line_lines s line) (line_meaning s line) f e
 
 -- a byte that did not end the script ended a line that was answered, or left who hears it
 abbrev Ends : Scan Table → ℕ → List ℕ × Scan Table → Type 0
@@ -188,7 +189,7 @@ after_line-same : (s : Scan Table) (x y : Answered Table) (r : List ℕ × Scan 
     → (after_line s y ≡ Ok (line_lines s.listener s.line, r.1))
     × ((m : List ℕ × Option Table) × (x ≡ Ok m) × (r.1.listener ≡ m.1))
 after_line-same s (Ok m) y r u e =
-    let q : (m.0, record { listener = m.1; line = []; number = s.number + 1; taken = s.taken + 1 }) ≡ r = cc in
+    let q : (m.0, record { listener = m.1; version = version_after s; line = []; number = s.number + 1; taken = s.taken + 1 }) ≡ r = cc in
     let w = u m refl in (
       ap (after_line s) w.0
           ∙ ap (λ (z : List ℕ × Scan Table). Ok (line_lines s.listener s.line, z.1)) q,
@@ -220,7 +221,7 @@ pub byte-same : (s : Scan Table) (b : ℕ) (r : List ℕ × Scan Table) → byte
 unfolding byte_taken
 byte-same s b r e =
     same-by _ (b == 10) _ s b (line_answer script s) (line_answer transcript s) _ _ r
-    (answered-same s.listener s.number s.line) e
+    (answered-same s.listener s.version s.line) e
 
 after_line-ends : (s : Scan Table) (x y : Answered Table) (f : End)
     → ((v : Ending) → x ≡ Err v → y ≡ Err v) → after_line s x ≡ Err f → after_line s y ≡ Err f
@@ -239,7 +240,7 @@ byte-ends : (s : Scan Table) (b : ℕ) (f : End) → byte_taken script s b ≡ E
 unfolding byte_taken
 byte-ends s b f e =
     ends-by _ (b == 10) _ s b (line_answer script s) (line_answer transcript s) _ _ f
-    (answered-ends s.listener s.number s.line) e
+    (answered-ends s.listener s.version s.line) e
 
 -- a script whose trace is written stands where it stands in a run
 pub stands-same : (bs : List ℕ) (s : Scan Table) → (reading_of transcript s bs).stands ≡ (reading_of script s bs).stands
@@ -402,7 +403,7 @@ unheard-made : (bs : List ℕ) (s : Scan Table) (b : ℕ) (r : List ℕ × Scan 
 unheard-made bs s b r e f n rest =
     let same = byte-same s b r e in
     elim same.1 [
-      | inl w ↦ absurd ((answered-same s.listener s.number s.line w.1 w.2).1 (sym w.3 ∙ n))
+      | inl w ↦ absurd ((answered-same s.listener s.version s.line w.1 w.2).1 (sym w.3 ∙ n))
       | inr w ↦
           let two = reading_of-ok transcript s b bs _ same.0 in
           let text = ap (λ y. cond y (line_lines s.listener s.line) [] ++ (reading_of transcript r.1 bs).text) w.0 in
@@ -421,7 +422,7 @@ heard-made bs s b r t e f n =
     elim same.1 [
       | inl w ↦
           let two = reading_of-ok transcript s b bs _ same.0 in
-          let meant = subst (λ l. answered_by script l s.number s.line ≡ Ok w.1) f w.2 in
+          let meant = subst (λ l. answered_by script l s.version s.line ≡ Ok w.1) f w.2 in
           let c = opened s.line w.1 meant in
           two.0 ∙ ap (λ l. cond (b == 10) (line_lines s.listener s.line) [] ++ l) (text-later bs r.1 t n)
           ∙ opened-text s c.0 c.1 (script_entries r.1 bs) (b == 10) w.0 f c.2 c.3

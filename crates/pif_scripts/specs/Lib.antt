@@ -1,3 +1,4 @@
+pub mod Migrating
 pub mod Running
 pub mod Runs
 pub mod Scanners

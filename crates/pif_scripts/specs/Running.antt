@@ -153,7 +153,7 @@ answer_line (Ok a) = Ok (text_of a.0 ++ 10 ∷ [], a.1)
 answer_line (Err c) = Err (Fault c)
 
 -- a line that makes a core makes a listener
-abbrev pub made_by : Meaning Table → FirstMeaning Table
+abbrev pub made_by : {S : Type 0} → Meaning S → FirstMeaning S
 made_by (Ok m) = Ok (Some m)
 made_by (Err e) = Err e
 
@@ -176,7 +176,7 @@ line_meaning s line =
 -- how a script is heard: its first line makes the core, and at its end nothing is said
 abbrev pub script : Hearing Table
 script = record {
-  first_meaning = λ number line. first_line_meaning line;
+  first_meaning = λ version line. first_line_meaning line;
   meaning = line_meaning;
   end_text = λ number. Ok [];
   said_of = end_line;

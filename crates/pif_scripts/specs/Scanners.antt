@@ -4,4 +4,10 @@ use Rattle.pif_scripts.specs.Scripts.{Scan}
 
 -- where the script stands that a scanner reads
 abbrev pub scan_of : {S : Type 0} → Scanner S → Scan S
-scan_of s = record { listener = s.listener; line = s.line.items; number = s.number; taken = s.taken }
+scan_of s = record {
+  listener = s.listener;
+  version = s.version;
+  line = s.line.items;
+  number = s.number;
+  taken = s.taken;
+}

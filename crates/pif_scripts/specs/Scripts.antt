@@ -2,6 +2,8 @@
 use Rattle.std.specs.Prelude.{ℕ, ◌≡◌, ◌<◌, ◌+◌, ◌==◌, nat_lt, List, [], ◌∷◌, ◌++◌, length, Option, Some, None, Result, Ok, Err, if◌then◌else◌}
 use Rattle.pif_text.specs.declared.replies.Cause.{Cause}
 use Rattle.pif_text.specs.declared.replies.Cause.TheVariants.{Size, Long, Cut}
+use Rattle.pif_text.specs.declared.traces.Version.{Version}
+use Rattle.pif_text.specs.Traces.{version_in}
 use Rattle.pif_scripts.specs.declared.reading.ending.Ending.{Ending}
 use Rattle.pif_scripts.specs.declared.reading.ending.Ending.TheVariants.{Fault, Differs}
 use Rattle.pif_scripts.specs.declared.reading.ending.End.{End}
@@ -20,8 +22,8 @@ FirstMeaning S = Result (Option (List ℕ × S)) Ending
 
 -- how a script is heard
 pub record Hearing (S : Type 0) : Type 0 where
-  -- what the line of this number, from 1, means while there is no listener
-  pub first_meaning : ℕ → List ℕ → FirstMeaning S
+  -- what a line means while there is no listener, by the version that the first line named, if it was passed over
+  pub first_meaning : Option Version → List ℕ → FirstMeaning S
   -- what a line means to a listener
   pub meaning : S → List ℕ → Meaning S
   -- what is said at the end, where the next line would have this number, or why the end is a fault
@@ -59,6 +61,8 @@ Tells told old new (Err e) = (told ≡ Err e) × (new ≡ old)
 pub record Scan (S : Type 0) : Type 0 where
   -- who answers its lines; nobody before a line makes one
   pub listener : Option S
+  -- the version that the first line named, as the header of a trace does; none before the end of that line
+  pub version : Option Version
   -- the bytes of the line so far
   pub line : List ℕ
   -- the number of that line, from 1
@@ -73,7 +77,7 @@ pub record Reading (S : Type 0) : Type 0 where
 
 -- where a script stands before its first byte
 abbrev pub start : {S : Type 0} → Scan S
-start = record { listener = None; line = []; number = 1; taken = 0 }
+start = record { listener = None; version = None; line = []; number = 1; taken = 0 }
 
 -- the line at which the script stands ends it so
 abbrev pub end_at : {S : Type 0} → Scan S → Ending → End
@@ -93,22 +97,29 @@ answered_later (Ok m) = Ok (m.0, Some m.1)
 answered_later (Err e) = Err e
 
 -- what the line so far is answered by this listener, or by nobody
-abbrev pub answered_by : {S : Type 0} → Hearing S → Option S → (number : ℕ) → (line : List ℕ) → Answered S
-answered_by h None number line = answered_first (h.first_meaning number line)
-answered_by h (Some l) number line = answered_later (h.meaning l line)
+abbrev pub answered_by : {S : Type 0} → Hearing S → Option S → Option Version → (line : List ℕ) → Answered S
+answered_by h None version line = answered_first (h.first_meaning version line)
+answered_by h (Some l) version line = answered_later (h.meaning l line)
 
 -- what the line is answered at which the script stands
 abbrev pub line_answer : {S : Type 0} → Hearing S → Scan S → Answered S
-line_answer h s = answered_by h s.listener s.number s.line
+line_answer h s = answered_by h s.listener s.version s.line
+
+-- the version that the first line names, once it has ended
+abbrev pub version_after : {S : Type 0} → Scan S → Option Version
+version_after s = if s.number == 1 then version_in s.line else s.version
 
 -- the byte LF ends the line, which is answered so
 abbrev pub after_line : {S : Type 0} → Scan S → Answered S → Result (List ℕ × Scan S) End
-after_line s (Ok m) = Ok (m.0, record { listener = m.1; line = []; number = s.number + 1; taken = s.taken + 1 })
+after_line s (Ok m) = Ok (
+  m.0,
+  record { listener = m.1; version = version_after s; line = []; number = s.number + 1; taken = s.taken + 1 },
+)
 after_line s (Err e) = Err (end_at s e)
 
 -- one more byte of the line
 abbrev pub with_byte : {S : Type 0} → Scan S → ℕ → Scan S
-with_byte s b = record { listener = s.listener; line = s.line ++ b ∷ []; number = s.number; taken = s.taken + 1 }
+with_byte s b = record s { line = s.line ++ b ∷ []; taken = s.taken + 1 }
 
 -- one byte: past 16,777,216 bytes it is `size`, else LF ends the line, else past 120 bytes of a line it is `long`
 unfoldable pub byte_taken : {S : Type 0} → Hearing S → Scan S → ℕ → Result (List ℕ × Scan S) End
@@ -145,14 +156,14 @@ ended_by h (Ok s) = closed_at h s
 abbrev pub Answers : {S : Type 0} → Hearing S → Scan S → (old new : List ℕ) → Scan S → Result (Unit {0}) Stop → Type 0
 Answers {S = S} h s old new t (Ok x) =
     (m : List ℕ × Option S) × (line_answer h s ≡ Ok m) × (new ≡ old ++ m.0)
-    × (t ≡ record { listener = m.1; line = s.line; number = s.number; taken = s.taken })
+    × (t ≡ record s { listener = m.1 })
 Answers h s old new t (Err (StopEnded e)) = (line_answer h s ≡ Err e.ending) × (e.line ≡ s.number) × (new ≡ old)
 Answers h s old new t (Err StopNoMemory) =
-    (s.listener ≡ None) × NeedsListener (h.first_meaning s.number s.line) × (new ≡ old)
+    (s.listener ≡ None) × NeedsListener (h.first_meaning s.version s.line) × (new ≡ old)
 
 -- this byte ends a line that needs a listener, where there is none
 abbrev pub NeedsAt : {S : Type 0} → Hearing S → Scan S → ℕ → Type 0
-NeedsAt h s b = (s.listener ≡ None) × NeedsListener (h.first_meaning s.number s.line) × (b ≡ 10) × (s.taken < 16777216)
+NeedsAt h s b = (s.listener ≡ None) × NeedsListener (h.first_meaning s.version s.line) × (b ≡ 10) × (s.taken < 16777216)
 
 -- one of these bytes does, and those before it have no fault
 abbrev pub NeedsIn : {S : Type 0} → Hearing S → Scan S → List ℕ → Type 0

@@ -18,7 +18,9 @@ use Rattle.pif_text.specs.declared.replies.Added.TheVariants as added
 use Rattle.pif_text.specs.Commands.{command_in}
 use Rattle.pif_text.specs.CommandTexts.{IsWritten, command_text}
 use Rattle.pif_text.specs.Replies.{text_of}
-use Rattle.pif_text.specs.Traces.{IsTraced, header_text, if_traced, parts_of, recorded, same_of}
+use Rattle.pif_text.specs.declared.traces.Version.{Version}
+use Rattle.pif_text.specs.declared.traces.Version.TheVariants.{Two}
+use Rattle.pif_text.specs.Traces.{IsTraced, header_text, if_traced, parts_of, recorded, same_of, version_in}
 use Rattle.pif_scripts.specs.declared.faults.CliFault.{CliFault}
 use Rattle.pif_scripts.specs.declared.faults.CliFault.TheVariants as fault
 use Rattle.pif_scripts.specs.declared.reading.ending.Ending.TheVariants.{Fault, Differs}
@@ -29,35 +31,47 @@ use Rattle.pif_scripts.specs.Running.{Answer, answer_or_fault, command_answer, f
 
 -- ---- reading
 
--- the command of a trace's line, and the answer that it records
-unfoldable pub traced_in : List ℕ → Option (Command × List ℕ)
-traced_in line =
-    option_and_then (λ parts. option_map (λ c. (c, parts.1)) (option_and_then if_traced (command_in parts.0)))
+-- the command of a line of a trace of a version, and the answer that it records
+unfoldable pub traced_in : Version → List ℕ → Option (Command × List ℕ)
+traced_in version line =
+    option_and_then (λ parts. option_map (λ c. (c, parts.1)) (option_and_then (if_traced version) (command_in parts.0)))
     (parts_of line)
 
--- a recorded answer beside the answer that is given: nothing is told, and another answer is a difference
-abbrev pub comparison : List ℕ → Result Answer Cause → Meaning Table
-comparison recorded (Ok a) = if bytes_eq (text_of a.0) recorded then Ok ([], a.1) else Err (Differs a.0)
-comparison recorded (Err c) = Err (Fault c)
+-- a trace of a version, and the core that is held to it
+pub record Replay : Type 0 where
+  pub version : Version
+  pub core : Table
 
--- the first line of a trace is the header, which makes no core
-abbrev pub header_meaning : List ℕ → FirstMeaning Table
-header_meaning line = if bytes_eq line header_text then Ok None else Err (Fault NoCommand)
+-- a recorded answer beside the answer that is given: nothing is told, and another answer is a difference
+abbrev pub comparison : Version → List ℕ → Result Answer Cause → Meaning Replay
+comparison version recorded (Ok a) =
+    if bytes_eq (text_of a.0) recorded then Ok ([], record { version = version; core = a.1 }) else Err (Differs a.0)
+comparison version recorded (Err c) = Err (Fault c)
+
+-- the first line of a trace is the header, which makes nobody who hears it
+abbrev pub header_meaning : {S : Type 0} → Option Version → FirstMeaning S
+header_meaning (Some version) = Ok None
+header_meaning None = Err (Fault NoCommand)
 
 -- what the second line of a trace means, whose command makes the core
-unfoldable pub second_line_meaning : List ℕ → FirstMeaning Table
-second_line_meaning line =
-    elim (traced_in line) [
+unfoldable pub second_line_meaning : Version → List ℕ → FirstMeaning Replay
+second_line_meaning version line =
+    elim (traced_in version line) [
       | None ↦ Err (Fault NoCommand)
-      | Some p ↦ made_by (comparison p.1 (first_answer p.0))
+      | Some p ↦ made_by (comparison version p.1 (first_answer p.0))
     ]
 
+-- what the first line of a trace means, and the second one, before which the first has named the version
+abbrev pub opening_meaning : Option Version → List ℕ → FirstMeaning Replay
+opening_meaning None line = header_meaning (version_in line)
+opening_meaning (Some version) line = second_line_meaning version line
+
 -- what a later line of a trace means to a core
-unfoldable pub traced_meaning : Table → List ℕ → Meaning Table
-traced_meaning s line =
-    elim (traced_in line) [
+unfoldable pub traced_meaning : Replay → List ℕ → Meaning Replay
+traced_meaning r line =
+    elim (traced_in r.version line) [
       | None ↦ Err (Fault NoCommand)
-      | Some p ↦ comparison p.1 (answer_or_fault (command_answer p.0 s))
+      | Some p ↦ comparison r.version p.1 (answer_or_fault (command_answer p.0 r.core))
     ]
 
 -- what is said at the end of a trace, where the next line would have this number: how many lines stand behind the
@@ -66,16 +80,16 @@ abbrev pub traced_end : ℕ → Result (List ℕ) Cause
 traced_end number = if nat_lt 1 number then Ok (same_of (number - 2) ++ 10 ∷ []) else Err NoCommand
 
 -- how a trace is heard
-abbrev pub trace_hearing : Hearing Table
+abbrev pub trace_hearing : Hearing Replay
 trace_hearing = record {
-  first_meaning = λ number line. if number == 1 then header_meaning line else second_line_meaning line;
+  first_meaning = opening_meaning;
   meaning = traced_meaning;
   end_text = traced_end;
   said_of = end_line;
 }
 
 -- where a trace of these bytes stands behind them
-abbrev pub trace_reading : List ℕ → Reading Table
+abbrev pub trace_reading : List ℕ → Reading Replay
 trace_reading bytes = reading_of trace_hearing start bytes
 
 -- how a trace of these bytes ends: with what is said at its end, or with the line of its first fault or difference
@@ -142,7 +156,7 @@ entry_line e = entry_text e ++ 10 ∷ []
 
 -- the first two lines of the trace of a history: the header and the limits
 unfoldable pub front_lines : Bounds → List ℕ
-front_lines b = header_text ++ 10 ∷ limits_text b ++ 10 ∷ []
+front_lines b = header_text Two ++ 10 ∷ limits_text b ++ 10 ∷ []
 
 -- the trace of a history under these limits, whose entries are given in order: the header, the limits, and each entry
 unfoldable pub trace : Bounds → List Entry → List ℕ

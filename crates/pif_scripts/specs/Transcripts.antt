@@ -22,6 +22,7 @@ use Rattle.pif_text.specs.declared.replies.Reply.{Reply}
 use Rattle.pif_text.specs.declared.replies.Reply.TheVariants as reply
 use Rattle.pif_text.specs.Commands.{command_in}
 use Rattle.pif_text.specs.CommandTexts.{command_text}
+use Rattle.pif_text.specs.declared.traces.Version.TheVariants.{Two}
 use Rattle.pif_text.specs.Traces.{if_traced, recorded, same_of}
 use Rattle.pif_scripts.specs.declared.faults.CliFault.{CliFault}
 use Rattle.pif_scripts.specs.declared.faults.CliFault.TheVariants as fault
@@ -185,7 +186,7 @@ was_made (reply.Told f) = true
 
 -- the line of a command that makes one entry at most, by what it was answered
 abbrev pub single_line : Command → Reply → List ℕ
-single_line c r = elim (if_traced c) [ None ↦ [] | Some d ↦ (if was_made r then row d r else []) ]
+single_line c r = elim (if_traced Two c) [ None ↦ [] | Some d ↦ (if was_made r then row d r else []) ]
 
 -- what a line means whose meaning is this one, but for what it is answered
 abbrev pub retold : List ℕ → Meaning Table → Meaning Table
@@ -213,7 +214,7 @@ later_line_lines s line = elim (command_in line) [ None ↦ [] | Some c ↦ entr
 -- line that ends it
 abbrev pub transcript : Hearing Table
 transcript = record {
-  first_meaning = λ number line. first_retold (first_line_lines line) (first_line_meaning line);
+  first_meaning = λ version line. first_retold (first_line_lines line) (first_line_meaning line);
   meaning = λ s line. retold (later_line_lines s line) (line_meaning s line);
   end_text = λ number. Ok [];
   said_of = λ e. [];

@@ -7,6 +7,7 @@
 #![tactic(auto)]
 
 mod faults;
+mod migrating;
 mod notices;
 mod reading;
 mod replaying;
@@ -18,6 +19,7 @@ mod transcribing;
 mod writing;
 
 pub use faults::CliFault;
+pub use migrating::{migrate, migrate_noting, migrated_trace_has_its_verdict};
 pub use notices::Notice;
 pub use pif_text::Cause;
 pub use runs::{

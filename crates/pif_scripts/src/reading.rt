@@ -7,5 +7,5 @@ pub use ending::{End, Ending, OpenFault, Stop};
 pub use listener::{
     ANSWER_ROOM, CHUNK, END_ROOM, Listener, OUTPUT_ROOM, Output, REPLY_ROOM, append, append_end,
 };
-pub use scanner::{MOST_LINE, Scanner};
+pub use scanner::{MOST_BYTES, MOST_LINE, Scanner};
 pub use script::{read_script, stop};

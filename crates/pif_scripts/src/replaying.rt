@@ -1,37 +1,54 @@
-ghost use Rattle.std.specs.Prelude.{◌≡◌, Option, Some, None, Ok, Err, option_map, bytes_eq, if◌then◌else◌};
+ghost use Rattle.std.specs.Prelude.{◌≡◌, Option, Some, None, Ok, Err, MatchOption, option_map, bytes_eq, if◌then◌else◌};
 ghost use Rattle.pif_text.specs.Replies.{text_of};
-ghost use Rattle.pif_model.specs.Table.{Table};
-ghost use Rattle.pif_scripts.specs.Traces.{traced_in, trace_hearing};
+ghost use Rattle.pif_text.specs.Traces.{version_in};
+ghost use Rattle.pif_scripts.specs.Traces.{Replay, traced_in, trace_hearing};
 
 use crate::reading::{End, Ending, Listener, OpenFault, Output, append, append_end};
 use crate::running::{obey, open_core};
 use pif_core::Core;
 use pif_text::{
-    Cause, Command, HEADER, Reply, Text, command_of, if_traced, reply_text, same_text, split_answer,
+    Cause, Command, Reply, Text, Version, command_of, if_traced, reply_text, same_text,
+    split_answer, version_of,
 };
 use std::alloc::Global;
 use std::marker::Model;
 
-/// A core that is given the commands of a trace, and whose answers are compared with the recorded ones.
+/// A core that is given the commands of a trace of a version, and whose answers are compared with the recorded ones.
 #[derive(Drop)]
 pub struct Replayed {
+    version: Version,
     core: Core,
 }
 
 impl Model for Replayed {
-    ghost Value = { Table };
+    ghost Value = { Replay };
 
-    ghost view = { λ r. r.core };
+    ghost view = { λ r. record { version = r.version; core = r.core } };
 }
 
-/// The command of a trace's line, and the answer that it records.
+/// The command of a line of a trace of a version, and the answer that it records.
 #[tactic(auto, unfolding(crate::specs::Traces::traced_in))]
-fn traced_of(line: &[u8]) -> Option<(Command, &[u8])>
-    ensures { option_map (λ traced. (traced.0, traced.1.now)) result ≡ traced_in line.now }
+pub fn traced_of(version: Version, line: &[u8]) -> Option<(Command, &[u8])>
+    ensures { option_map (λ traced. (traced.0, traced.1.now)) result ≡ traced_in version line.now }
 {
     let (text, recorded) = split_answer(line)?;
-    let command = if_traced(command_of(text)?)?;
+    let command = if_traced(version, command_of(text)?)?;
     Some((command, recorded))
+}
+
+/// Passes the first line of a trace over, which names its version and makes no listener.
+///
+/// # Errors
+///
+/// The fault `command`, where it names none.
+pub fn open_header<L>(line: &[u8]) -> Result<Option<L>, OpenFault>
+    ensures { MatchOption (version_in line.now) (result ≡ Err (OpenFault.Ended (Ending.Fault Cause.Command)))
+        (λ version. result ≡ Ok None) }
+{
+    match version_of(line) {
+        Some(_) => Ok(None),
+        None => Err(OpenFault::Ended(Ending::Fault(Cause::Command))),
+    }
 }
 
 /// Compares the recorded answer with the one that is given.
@@ -58,30 +75,26 @@ impl Listener for Replayed {
     #[tactic(auto, unfolding(crate::specs::Traces::second_line_meaning))]
     fn open(
         alloc: Global,
-        number: u64,
+        version: Option<Version>,
         line: &[u8],
         _output: &mut Output,
     ) -> Result<Option<Replayed>, OpenFault> {
-        if number == 1 {
-            return if line == HEADER {
-                Ok(None)
-            } else {
-                Err(OpenFault::Ended(Ending::Fault(Cause::Command)))
-            };
-        }
-        let Some((command, recorded)) = traced_of(line) else {
+        let Some(version) = version else {
+            return open_header(line);
+        };
+        let Some((command, recorded)) = traced_of(version, line) else {
             return Err(OpenFault::Ended(Ending::Fault(Cause::Command)));
         };
         let (core, reply) = open_core(alloc, command)?;
         match compare(reply, recorded) {
-            Ok(()) => Ok(Some(Replayed { core })),
+            Ok(()) => Ok(Some(Replayed { version, core })),
             Err(ending) => Err(OpenFault::Ended(ending)),
         }
     }
 
     #[tactic(auto, unfolding(crate::specs::Traces::traced_meaning))]
     fn hear(&mut self, line: &[u8], _output: &mut Output) -> Result<(), Ending> {
-        let Some((command, recorded)) = traced_of(line) else {
+        let Some((command, recorded)) = traced_of(self.version, line) else {
             return Err(Ending::Fault(Cause::Command));
         };
         let Some(reply) = obey(&mut self.core, command) else {

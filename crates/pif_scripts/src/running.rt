@@ -12,7 +12,7 @@ use crate::reading::{
 };
 use pif_core::{Core, Seen};
 use pif_text::{
-    Added, Addition, Cause, Command, Fact, Question, Reply, Text, command_of, reply_text,
+    Added, Addition, Cause, Command, Fact, Question, Reply, Text, Version, command_of, reply_text,
 };
 use pif_types::{AddFault, CondId, Health, Limits, MutexId, Prio, Request, Tid};
 use pif_uses::{call, finish};
@@ -211,7 +211,7 @@ impl Listener for Core {
     #[tactic(auto, unfolding(crate::specs::Running::first_line_meaning))]
     fn open(
         alloc: Global,
-        _number: u64,
+        _version: Option<Version>,
         line: &[u8],
         output: &mut Output,
     ) -> Result<Option<Core>, OpenFault> {

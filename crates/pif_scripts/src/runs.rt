@@ -41,7 +41,7 @@ pub fn run_noting<R: Read, W: Write>(
     read_script::<Core, R, W>(alloc, reader, writer, notice)
 }
 
-/// Replays a trace of version 1: gives its commands to a fresh core, and compares each answer with the recorded one. At
+/// Replays a trace of version 1 or 2: gives its commands to a fresh core, and compares each answer with the recorded one. At
 /// its end `same N` is written, with the number of lines after the first; at the first difference `differs L X`, with
 /// the number of the line and what the core gives there, and at the first fault the line of the fault. Nothing is read
 /// behind the chunk in which that is found.

@@ -1,8 +1,10 @@
 mod chains;
 mod conditions;
+mod deadlines;
 mod deaths;
 mod kinds;
 mod limits;
+mod migrations;
 mod notices;
 mod reading;
 mod robust;

@@ -7,8 +7,8 @@ use crate::CliFault;
 use crate::writing::write_whole;
 use pif_core::Entry;
 use pif_text::{
-    Added, Addition, COMMAND_ROOM, Command, RECORDED_ROOM, Reply, TEXT_ROOM, Text, command_text,
-    header_text, recorded_text,
+    Added, Addition, COMMAND_ROOM, Command, HEADER_ROOM, RECORDED_ROOM, Reply, TEXT_ROOM, Text,
+    command_text, header_text, recorded_text,
 };
 use pif_types::Limits;
 use std::io::Write;
@@ -17,7 +17,7 @@ use std::io::Write;
 pub const ROW_ROOM: usize = COMMAND_ROOM + RECORDED_ROOM;
 
 /// The most bytes of the first two lines of a trace.
-pub const FRONT_ROOM: usize = 13 + ROW_ROOM;
+pub const FRONT_ROOM: usize = HEADER_ROOM + 1 + ROW_ROOM + 1;
 
 /// The command that an entry asks for.
 fn entry_command(entry: Entry) -> Command
@@ -95,7 +95,7 @@ fn entry_line(entry: Entry) -> Text
     text
 }
 
-/// Writes the trace of a history, of version 1: the header, the line of the limits, and a line for each entry, in the
+/// Writes the trace of a history, of version 2: the header, the line of the limits, and a line for each entry, in the
 /// order given, which is that of the history. No memory is taken. Of a core's own history it is what `replay` finds the
 /// same, up to the size that a trace may have: `written_trace_is_the_same`.
 ///

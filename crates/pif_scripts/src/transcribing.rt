@@ -14,7 +14,7 @@ use crate::running::{default_limits, obey};
 use crate::tracing::{ROW_ROOM, front_lines};
 use pif_core::{Core, Event, Seen};
 use pif_text::{
-    Added, Cause, Command, Reply, Text, command_of, command_text, if_traced, recorded_text,
+    Added, Cause, Command, Reply, Text, Version, command_of, command_text, if_traced, recorded_text,
 };
 use pif_types::{Limits, Request, Tid};
 use pif_uses::MORE_STEPS;
@@ -142,7 +142,7 @@ fn append_single(command: Command, reply: Reply, output: &mut Output)
     ensures room { array_vec_len output.new ≤ array_vec_len output.old + LINE_ROOM }
 {
     let answered = reply;
-    if let Some(traced) = if_traced(command)
+    if let Some(traced) = if_traced(Version::Two, command)
         && was_made(reply)
     {
         append_row(traced, answered, output);
@@ -174,7 +174,7 @@ fn transcribe(core: &mut Core, command: Command, output: &mut Output) -> Option<
 
 /// The limits of the core that a first command makes; `None` where it names one that is out of its range.
 #[tactic(auto, unfolding(crate::specs::Transcripts::first_limits, crate::specs::Running::limits_in))]
-fn first_limits(command: Command) -> Option<Limits>
+pub fn first_limits(command: Command) -> Option<Limits>
     ensures { result ≡ first_limits command }
 {
     match command {
@@ -190,7 +190,7 @@ impl Listener for Transcribing {
 
     fn open(
         alloc: Global,
-        _number: u64,
+        _version: Option<Version>,
         line: &[u8],
         output: &mut Output,
     ) -> Result<Option<Transcribing>, OpenFault> {

@@ -17,6 +17,10 @@ pub fn show_call<W: Write>(request: Request, page: &mut Page, writer: &mut W)
         Request::Signal(cond) => page.cond("; in signal ", cond, writer),
         Request::Broadcast(cond) => page.cond("; in broadcast ", cond, writer),
         Request::SetPrio(thread, priority) => show_setting(thread, priority, page, writer),
+        Request::TimedLock(mutex, deadline) => show_timed_lock(mutex, deadline, page, writer),
+        Request::TimedWait(cond, mutex, deadline) => {
+            show_timed_wait(cond, mutex, deadline, page, writer);
+        }
     }
 }
 
@@ -26,6 +30,29 @@ fn show_cond_wait<W: Write>(cond: CondId, mutex: MutexId, page: &mut Page, write
 {
     page.cond("; in wait ", cond, writer);
     page.mutex(" ", mutex, writer);
+}
+
+/// Writes that a thread is in a lock with a deadline.
+fn show_timed_lock<W: Write>(mutex: MutexId, deadline: u32, page: &mut Page, writer: &mut W)
+    ensures { Stays (W.contents writer.old) (W.contents writer.new) }
+{
+    page.mutex("; in timedlock ", mutex, writer);
+    page.number(" ", deadline, writer);
+}
+
+/// Writes that a thread is in a wait with a deadline.
+fn show_timed_wait<W: Write>(
+    cond: CondId,
+    mutex: MutexId,
+    deadline: u32,
+    page: &mut Page,
+    writer: &mut W,
+)
+    ensures { Stays (W.contents writer.old) (W.contents writer.new) }
+{
+    page.cond("; in timedwait ", cond, writer);
+    page.mutex(" ", mutex, writer);
+    page.number(" ", deadline, writer);
 }
 
 /// Writes that a thread is about to set a priority.

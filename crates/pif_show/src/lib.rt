@@ -1,5 +1,5 @@
-//! What a core does, as text that a person reads at a glance: each thread, mutex and condition variable, the run queue,
-//! and who waits for whom.
+//! What a core does, as text that a person reads at a glance: the time, each thread, mutex and condition variable, the
+//! run queue, and who waits for whom.
 //!
 //! ```text
 //!   t1: priority 50 (base 10); ready; holds m1
@@ -11,7 +11,7 @@
 //!   chain: t3 -> m2 -> t2 -> m1 -> t1
 //! ```
 //!
-//! What is empty is left out. The text is written in parts, and takes no memory.
+//! What is empty is left out, and a time of 0. The text is written in parts, and takes no memory.
 #![tactic(auto)]
 
 mod calls;

@@ -9,8 +9,8 @@ use crate::threads::show_threads;
 use pif_core::Core;
 use std::io::Write;
 
-/// Writes what a core does: a line for each thread, mutex and condition variable, the run queue and the chains of
-/// waiting, and an empty line behind them. What the writer held stays in front.
+/// Writes what a core does: the time, if it is not 0, a line for each thread, mutex and condition variable, the run
+/// queue and the chains of waiting, and an empty line behind them. What the writer held stays in front.
 ///
 /// # Errors
 ///
@@ -19,6 +19,7 @@ pub fn write_state<W: Write>(core: &Core, writer: &mut W) -> Result<(), Unwritte
     ensures { Stays (W.contents writer.old) (W.contents writer.new) }
 {
     let mut page = Page::new();
+    show_time(core, &mut page, writer);
     show_threads(core, &mut page, writer);
     show_mutexes(core, &mut page, writer);
     show_conds(core, &mut page, writer);
@@ -26,4 +27,15 @@ pub fn write_state<W: Write>(core: &Core, writer: &mut W) -> Result<(), Unwritte
     show_chains(core, &mut page, writer);
     page.words("\n", writer);
     page.finish(writer)
+}
+
+/// Writes the line of the time; nothing where it is 0.
+fn show_time<W: Write>(core: &Core, page: &mut Page, writer: &mut W)
+    ensures { Stays (W.contents writer.old) (W.contents writer.new) }
+{
+    let time = core.time();
+    if time > 0 {
+        page.number("  time ", time, writer);
+        page.words("\n", writer);
+    }
 }

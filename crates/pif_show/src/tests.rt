@@ -224,6 +224,11 @@ fn open_calls(rt: &impl Abort, core: &mut Core) -> Result<(), Fail> {
         (Request::Signal(cond), "signal c1"),
         (Request::Broadcast(cond), "broadcast c1"),
         (Request::SetPrio(second, 30), "setprio t2 30"),
+        (Request::TimedLock(mutex, 5), "timedlock m1 5"),
+        (
+            Request::TimedWait(cond, mutex, 7),
+            "timedwait c1 m1 7; holds m1",
+        ),
     ];
     for (request, name) in calls {
         let _begun = core.step(Event::Begin(first, request));
@@ -238,6 +243,39 @@ fn open_calls(rt: &impl Abort, core: &mut Core) -> Result<(), Fail> {
         finish(core, first);
     }
     Ok(())
+}
+
+#[test]
+fn time_and_deadlines_are_shown(rt: HostRuntime) -> Result<(), Fail> {
+    let mut core = scene(rt.alloc(), &[10, 50], &[(Kind::Normal, false)])?;
+    deadlines(&rt, &mut core)
+}
+
+fn deadlines(rt: &impl Abort, core: &mut Core) -> Result<(), Fail> {
+    let mutex = MutexId::new(1).ok_or("a mutex")?;
+    let calls = [(1, Request::Lock(mutex)), (2, Request::TimedLock(mutex, 5))];
+    play(core, &calls)?;
+    let _ticked = core.step(Event::Tick(5));
+    check(
+        rt,
+        core,
+        "  time 5\n\
+        \x20 t1: priority 50 (base 10); ready; holds m1\n\
+        \x20 t2: priority 50; waits for m1, held by t1; in timedlock m1 5\n\
+        \x20 m1: normal, fine; word t1 + WAITERS; owner t1; waiters t2\n\
+        \x20 run queue: t1\n\
+        \x20 chain: t2 -> m1 -> t1\n\n",
+    )?;
+    finish(core, Tid::new(2).ok_or("a thread")?);
+    check(
+        rt,
+        core,
+        "  time 5\n\
+        \x20 t1: priority 10; ready; holds m1\n\
+        \x20 t2: priority 50; ready\n\
+        \x20 m1: normal, fine; word t1 + WAITERS; owner t1\n\
+        \x20 run queue: t2, t1\n\n",
+    )
 }
 
 #[test]

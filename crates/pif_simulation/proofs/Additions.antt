@@ -48,6 +48,7 @@ new_sound l within = record {
       limits = refl;
       within = within;
       lines = refl;
+      timers = refl;
       nobody = refl;
       lists = length-replicate (l.threads + 1) no_robust_row;
       some_mutex = omega arith;
@@ -80,7 +81,7 @@ pub new_seen : (l : Bounds) → IsWithin l → world_of (new_table l) no_shadow 
 unfolding places
 new_seen l within = same_world (world_of (new_table l) no_shadow) (empty_world l.signals)
     (threads_shown shape no_shadow) (λ t i. first_thread t i)
-    (mutexes_shown shape no_shadow) (λ m. mutex_seen shape no_shadow m ∙ first_mutex m) first_variable refl refl
+    (mutexes_shown shape no_shadow) (λ m. mutex_seen shape no_shadow m ∙ first_mutex m) first_variable refl refl refl
   where
     shape : IsShaped (new_table l)
     shape = (new_sound l within).all.shape

@@ -4,7 +4,7 @@ use Rattle.std.specs.List.{list_any}
 use Rattle.std.proofs.lemmas.Bool.{cases_eq, cases_lt, true≢false}
 use Rattle.std.proofs.lemmas.List.{length-set, get_or-set_same, get_or-set_other, get_or_past}
 use Rattle.pif_types.specs.declared.requests.Request.{Request}
-use Rattle.pif_types.specs.declared.requests.Request.TheVariants.{Lock, TryLock, Unlock, Consistent, Wait, Signal, Broadcast, SetPrio}
+use Rattle.pif_types.specs.declared.requests.Request.TheVariants.{Lock, TryLock, Unlock, Consistent, Wait, Signal, Broadcast, SetPrio, TimedLock, TimedWait}
 use Rattle.pif_model.specs.declared.events.Event.TheVariants.{Begin}
 use Rattle.pif_model.specs.declared.events.Seen.TheVariants.{Begun}
 use Rattle.pif_model.specs.declared.events.Entry.TheVariants.{Step as Happened}
@@ -12,19 +12,23 @@ use Rattle.pif_model.specs.declared.lines.Line.{Line}
 use Rattle.pif_model.specs.declared.lines.Line.TheVariants.{Idle, At}
 use Rattle.pif_model.specs.declared.lines.Place.TheVariants.{WaitLoad, WaitUses}
 use Rattle.pif_model.specs.declared.lines.Status.{Status}
+use Rattle.pif_model.specs.declared.lines.Timer.{Timer}
+use Rattle.pif_model.specs.Deadlines.{plain, timer_of}
 use Rattle.pif_model.specs.Posix.{Health, Memory, Thread, World, nobody, no_memory, thread_at, with_thread, begun_memory, begun_thread, blocked_below, is_blocked_on, is_call_blocked, names_known}
 use Rattle.pif_model.specs.Posix.Progress.{Fresh}
 use Rattle.pif_model.specs.Posix.Step.{begun}
 use Rattle.pif_model.specs.PiKernel.{is_ready, is_parked, is_living}
 use Rattle.pif_model.specs.Table.{Table, has_thread, has_mutex, has_cond, bound_to, uses_of, status_at, line_at, with_line}
-use Rattle.pif_model.specs.Lines.{is_open, first_place, table_refusal}
+use Rattle.pif_model.specs.Lines.{is_open, first_place, begun_table, table_refusal}
 use Rattle.pif_model.specs.Standing.{Shadow, Agrees, memory_at, remembered, may_enlist, chooses_on, call_at, call_shown, health_at, thread_shown, world_of, mutex_by, is_unsettled, LineIsSound, ListIsSound, IsSound}
 use Rattle.pif_chains.proofs.Waiting.{by_test}
 use Rattle.pif_simulation.proofs.Hole.{each_thread}
-use Rattle.pif_simulation.proofs.Shown.{threads_shown, thread_seen, call_seen_of, same_world, begin_allowed, refusal_seen}
+use Rattle.pif_simulation.proofs.Shown.{threads_shown, thread_seen, call_seen_of, same_world, begin_allowed, refusal_seen, thread_changed, thread_changed_twice}
 use Rattle.pif_simulation.proofs.Written.{no_call}
 use Rattle.pif_simulation.proofs.Steps.{Keeps}
 use Rattle.pif_simulation.proofs.Lined.{tl, lined_sound}
+use Rattle.pif_simulation.proofs.Timers.{timer_sound, timer_frames, timer_shown}
+use Rattle.pif_simulation.proofs.Agreement.{framed}
 
 -- a line with no call open
 pub idle_line : (l : Line) → is_open l ≡ false → l ≡ Idle
@@ -35,7 +39,7 @@ idle_line (At q p) e = absurd (true≢false e)
 
 -- where a call begins it rests on its thread alone
 begins_sound : (s : Table) (t : ℕ) (q : Request) → names_known (has_mutex s) (has_cond s) q ≡ true
-    → is_ready (status_at s t) ≡ true → LineIsSound s t (At q (first_place q))
+    → is_ready (status_at s t) ≡ true → LineIsSound s t (At (plain q) (first_place q))
 begins_sound s t (Lock m) named ready = record { named = named; belongs = refl; needs = (ready, tt) }
 begins_sound s t (TryLock m) named ready = record { named = named; belongs = refl; needs = (ready, tt) }
 begins_sound s t (Unlock m) named ready = record { named = named; belongs = refl; needs = (ready, tt) }
@@ -44,9 +48,11 @@ begins_sound s t (Wait c m) named ready = record { named = named; belongs = refl
 begins_sound s t (Signal c) named ready = record { named = named; belongs = refl; needs = (ready, tt) }
 begins_sound s t (Broadcast c) named ready = record { named = named; belongs = refl; needs = (ready, tt) }
 begins_sound s t (SetPrio u p) named ready = record { named = refl; belongs = refl; needs = (ready, tt) }
+begins_sound s t (TimedLock m d) named ready = record { named = named; belongs = refl; needs = (ready, tt) }
+begins_sound s t (TimedWait c m d) named ready = record { named = named; belongs = refl; needs = (ready, tt) }
 
 -- nothing is on its thread's robust list that was not there with no call open
-begins_listed : (s : Table) (t : ℕ) (q : Request) → ListIsSound s t Idle → ListIsSound s t (At q (first_place q))
+begins_listed : (s : Table) (t : ℕ) (q : Request) → ListIsSound s t Idle → ListIsSound s t (At (plain q) (first_place q))
 begins_listed s t (Lock m) b = record { pending = b.pending; half_linked = b.half_linked; listed = b.listed }
 begins_listed s t (TryLock m) b = record { pending = b.pending; half_linked = b.half_linked; listed = b.listed }
 begins_listed s t (Unlock m) b = record { pending = b.pending; half_linked = b.half_linked; listed = b.listed }
@@ -55,9 +61,12 @@ begins_listed s t (Wait c m) b = record { pending = b.pending; half_linked = b.h
 begins_listed s t (Signal c) b = record { pending = b.pending; half_linked = b.half_linked; listed = b.listed }
 begins_listed s t (Broadcast c) b = record { pending = b.pending; half_linked = b.half_linked; listed = b.listed }
 begins_listed s t (SetPrio u p) b = record { pending = b.pending; half_linked = b.half_linked; listed = b.listed }
+begins_listed s t (TimedLock m d) b = record { pending = b.pending; half_linked = b.half_linked; listed = b.listed }
+begins_listed s t (TimedWait c m d) b =
+    record { pending = b.pending; half_linked = b.half_linked; listed = b.listed }
 
 -- and what it owns is in order
-begins_settled : (q : Request) → mutex_by is_unsettled (At q (first_place q)) ≡ 0
+begins_settled : (q : Request) → mutex_by is_unsettled (At (plain q) (first_place q)) ≡ 0
 begins_settled (Lock m) = refl
 begins_settled (TryLock m) = refl
 begins_settled (Unlock m) = refl
@@ -66,10 +75,12 @@ begins_settled (Wait c m) = refl
 begins_settled (Signal c) = refl
 begins_settled (Broadcast c) = refl
 begins_settled (SetPrio u p) = refl
+begins_settled (TimedLock m d) = refl
+begins_settled (TimedWait c m d) = refl
 
 -- a call that begins has had no effect
 begins_fresh : (health : ℕ → Health) (uses : ℕ → ℕ) (q : Request) (x : Status)
-    → call_at health uses (At q (first_place q)) x ≡ Some (record { request = q; progress = Fresh })
+    → call_at health uses (At (plain q) (first_place q)) x ≡ Some (record { request = plain q; progress = Fresh })
 begins_fresh health uses (Lock m) x = refl
 begins_fresh health uses (TryLock m) x = refl
 begins_fresh health uses (Unlock m) x = refl
@@ -78,9 +89,11 @@ begins_fresh health uses (Wait c m) x = refl
 begins_fresh health uses (Signal c) x = refl
 begins_fresh health uses (Broadcast c) x = refl
 begins_fresh health uses (SetPrio u p) x = refl
+begins_fresh health uses (TimedLock m d) x = refl
+begins_fresh health uses (TimedWait c m d) x = refl
 
 -- it has used no variable yet
-begins_unused : (q : Request) → chooses_on (At q (first_place q)) ≡ 0
+begins_unused : (q : Request) → chooses_on (At (plain q) (first_place q)) ≡ 0
 begins_unused (Lock m) = refl
 begins_unused (TryLock m) = refl
 begins_unused (Unlock m) = refl
@@ -89,6 +102,8 @@ begins_unused (Wait c m) = refl
 begins_unused (Signal c) = refl
 begins_unused (Broadcast c) = refl
 begins_unused (SetPrio u p) = refl
+begins_unused (TimedLock m d) = refl
+begins_unused (TimedWait c m d) = refl
 
 -- WHAT IS REMEMBERED
 
@@ -126,12 +141,12 @@ finds_blocked w c (suc i) u n e = go (is_blocked_on w c i) refl e (finds_blocked
 -- what a call that begins leaves of what was remembered of its thread
 record Remembers (w : World) (q : Request) (m : Memory) : Type 0 where
   -- the waits are as many or more
-  waits : m.waits ≤ (begun_memory w q m).waits
+  waits : m.waits ≤ (begun_memory w (plain q) m).waits
   -- who is found then was found before, or is blocked now
-  found : (u n : ℕ) → finds u n (begun_memory w q m).found ≡ true
+  found : (u n : ℕ) → finds u n (begun_memory w (plain q) m).found ≡ true
       → (finds u n m.found ≡ true) ⊎ ((c : ℕ) × (is_blocked_on w c u ≡ true) × (n ≡ (thread_at w u).memory.waits))
   -- a wait has the next number
-  next : may_enlist (At q (first_place q)) ≡ true → (begun_memory w q m).waits ≡ m.waits + 1
+  next : may_enlist (At (plain q) (first_place q)) ≡ true → (begun_memory w (plain q) m).waits ≡ m.waits + 1
 
 remembers : (w : World) (q : Request) (m : Memory) → Remembers w q m
 remembers w (Lock j) m = record { waits = omega arith; found = λ u n e. inl e; next = λ e. absurd (true≢false (sym e)) }
@@ -154,6 +169,9 @@ remembers w (Broadcast c) m = record {
 }
 remembers w (SetPrio u p) m =
     record { waits = omega arith; found = λ u n e. inl e; next = λ e. absurd (true≢false (sym e)) }
+remembers w (TimedLock j d) m =
+    record { waits = omega arith; found = λ u n e. inl e; next = λ e. absurd (true≢false (sym e)) }
+remembers w (TimedWait c j d) m = record { waits = omega arith; found = λ u n e. inl e; next = λ e. refl }
 
 -- who is blocked has joined the blocked threads
 blocked_joined : (c : ℕ) (health : ℕ → Health) (uses : ℕ → ℕ) (l : Line) (x : Status)
@@ -166,17 +184,17 @@ blocked_joined c health uses (At q _) x e = refl
 module _ (s : Table) (t : ℕ) (q : Request) (h : IsSound s) (known : is_living s.kernel t ≡ true)
     (idle : line_at s t ≡ Idle) where
   abbrev v : Table
-  v = with_line t (At q (first_place q)) s
+  v = with_line t (At (plain q) (first_place q)) s
 
   lined : t < length s.lines
   lined = tl s t Idle h known
 
   -- lines then
-  line_here : line_at v t ≡ At q (first_place q)
-  line_here = get_or-set_same s.lines t (At q (first_place q)) Idle lined
+  line_here : line_at v t ≡ At (plain q) (first_place q)
+  line_here = get_or-set_same s.lines t (At (plain q) (first_place q)) Idle lined
 
   line_there : (u : ℕ) → u ≢ t → line_at v u ≡ line_at s u
-  line_there u d = get_or-set_other s.lines t u (At q (first_place q)) Idle d
+  line_there u d = get_or-set_other s.lines t u (At (plain q) (first_place q)) Idle d
 
   module _ (x : Shadow) (fits : Agrees s x) where
     abbrev w : World
@@ -184,7 +202,7 @@ module _ (s : Table) (t : ℕ) (q : Request) (h : IsSound s) (known : is_living 
 
     -- what is remembered of t then
     abbrev new : Memory
-    new = begun_memory w q (thread_at w t).memory
+    new = begun_memory w (plain q) (thread_at w t).memory
 
     abbrev y : Shadow
     y = record { memories = set x.memories t new }
@@ -247,8 +265,8 @@ module _ (s : Table) (t : ℕ) (q : Request) (h : IsSound s) (known : is_living 
 
     -- who was found has joined the blocked threads
     joined : (a u : ℕ) → remembered y a u ≡ true → (u ≡ t) ⊎ (u ≢ t) → may_enlist (line_at v u) ≡ false
-    joined a u e (inl d) = by_test (λ b. may_enlist (At q (first_place q)) ≡ b → may_enlist (line_at v u) ≡ false)
-        (may_enlist (At q (first_place q)))
+    joined a u e (inl d) = by_test (λ b. may_enlist (At (plain q) (first_place q)) ≡ b → may_enlist (line_at v u) ≡ false)
+        (may_enlist (At (plain q) (first_place q)))
         (λ f _. absurd (less (past a u (memory_at y u).waits (inl d) (was_found a u (memory_at y u).waits e))
         (ap (λ i. (memory_at y i).waits) d ∙ ap (λ m. m.waits) memory_here ∙ facts.next f
         ∙ ap (λ m. m.waits + 1) memory_was ∙ sym (ap (λ i. (memory_at x i).waits + 1) d))))
@@ -279,25 +297,26 @@ module _ (s : Table) (t : ℕ) (q : Request) (h : IsSound s) (known : is_living 
 
     begun_agrees : Agrees v y
     begun_agrees = record {
-      all = length-set x.memories t new ∙ fits.all ∙ sym (length-set s.lines t (At q (first_place q)));
+      all = length-set x.memories t new ∙ fits.all ∙ sym (length-set s.lines t (At (plain q) (first_place q)));
       past = λ a u n e. (let f = past a u n (cases_eq u t) (was_found a u n e) in
           let g = grown u in omega (arith, f, g));
       joined = λ a u e. joined a u e (cases_eq u t);
       parked = λ a u c chosen z r b. parked a u c chosen z r b (cases_eq a t) (cases_eq u t);
     }
 
-    -- it shows the world in which the call has begun
-    begun_shown : IsSound v → world_of v y ≡ with_thread t (begun_thread w q (thread_at w t)) w
+    -- it shows the world in which the call has begun, but for its timer
+    begun_shown : IsSound v → world_of v y
+        ≡ with_thread t (record (begun_thread w q (thread_at w t)) { timer = (thread_at w t).timer }) w
     begun_shown sound = same_world (world_of v y) (with_thread t z w)
-        (threads_shown sound.all.shape y ∙ length-set s.lines t (At q (first_place q))
+        (threads_shown sound.all.shape y ∙ length-set s.lines t (At (plain q) (first_place q))
         ∙ sym (length-set w.threads t z ∙ threads_shown h.all.shape x))
         (λ u i. let e : u < length v.lines = subst (λ n. u < n) (threads_shown sound.all.shape y) i in
         thread_seen sound.all.shape y u e
-        ∙ each u (subst (λ n. u < n) (length-set s.lines t (At q (first_place q))) e) (cases_eq u t))
-        refl (λ m. refl) refl refl refl
+        ∙ each u (subst (λ n. u < n) (length-set s.lines t (At (plain q) (first_place q))) e) (cases_eq u t))
+        refl (λ m. refl) refl refl refl refl
       where
         z : Thread
-        z = begun_thread w q (thread_at w t)
+        z = record (begun_thread w q (thread_at w t)) { timer = (thread_at w t).timer }
 
         here : thread_shown v y t ≡ get_or (set w.threads t z) t nobody
         here = (λ i. record (thread_shown s x t) {
@@ -307,7 +326,7 @@ module _ (s : Table) (t : ℕ) (q : Request) (h : IsSound s) (known : is_living 
         })
             ∙ sym (get_or-set_same w.threads t z nobody (subst (λ n. t < n) (sym (threads_shown h.all.shape x)) lined)
             ∙ (λ i. record (thread_seen h.all.shape x t lined i) {
-              call = Some (record { request = q; progress = Fresh });
+              call = Some (record { request = plain q; progress = Fresh });
               memory = new;
             }))
 
@@ -319,25 +338,43 @@ module _ (s : Table) (t : ℕ) (q : Request) (h : IsSound s) (known : is_living 
           memory = memory_there u d i;
         }) ∙ sym (get_or-set_other w.threads t u z nobody d ∙ thread_seen h.all.shape x u f)
 
+-- a thread that was written with another timer than this gets it
+retimed_twice : (w : World) (t : ℕ) (z : Thread) (x : Timer) → t < length w.threads
+    → let v : World = with_thread t (record z { timer = (thread_at w t).timer }) w in
+    with_thread t (record (thread_at v t) { timer = x }) v ≡ with_thread t (record z { timer = x }) w
+retimed_twice w t z x e =
+    let a : Thread = record z { timer = (thread_at w t).timer } in
+    (λ i. with_thread t (record (thread_changed w t a e i) { timer = x }) (with_thread t a w))
+    ∙ thread_changed_twice w t a (record z { timer = x })
+
 -- to begin a call is an entry of the POSIX machine, and keeps the invariant
 pub begin_kept : (s : Table) (t : ℕ) (q : Request) → IsSound s → table_refusal s (Begin t q) ≡ None
-    → Keeps s (Happened (Begin t q) Begun) (with_line t (At q (first_place q)) s)
+    → Keeps s (Happened (Begin t q) Begun) (begun_table t q s)
 begin_kept s t q h e =
     let a = begin_allowed (has_thread s t) (is_living s.kernel t) (is_open (line_at s t))
     (names_known (has_mutex s) (has_cond s) q) e in
     let idle = idle_line (line_at s t) a.1 in
     let b = each_thread h t a.0 in
     let ready : is_ready (status_at s t) ≡ true = subst (LineIsSound s t) idle b.line in
-    let sound = lined_sound s t (At q (first_place q)) h a.0 s.kernel h.kernel
+    let sound = lined_sound s t (At (plain q) (first_place q)) h a.0 s.kernel h.kernel
     (no_call (λ u. u ≡ t) (bound_to s) s.kernel 0) refl ready
     (begins_sound s t q a.2 ready) (begins_listed s t q (subst (ListIsSound s t) idle b.list))
     (λ m k o away. b.settled m k o (λ x. away (x ∙ ap (mutex_by is_unsettled) idle ∙ sym (begins_settled q)))) in
+    let there : t < length s.lines = tl s t Idle h a.0 in
+    let l : Line = At (plain q) (first_place q) in
     record {
-      sound = sound;
+      sound = timer_sound (with_line t l s) t (timer_of q) sound;
       limits = refl;
       shows = λ x f. (
         y s t q h a.0 idle x f,
-        begun_agrees s t q h a.0 idle x f,
-        begun t q refl (refusal_seen h.all.shape x (Begin t q) ∙ e) (begun_shown s t q h a.0 idle x f sound),
+        framed (timer_frames (with_line t l s) t (timer_of q) sound) (y s t q h a.0 idle x f)
+            (begun_agrees s t q h a.0 idle x f),
+        begun t q refl (refusal_seen h.all.shape x (Begin t q) ∙ e)
+            (timer_shown (with_line t l s) t (timer_of q) sound (y s t q h a.0 idle x f)
+            (subst (λ n. t < n) (sym (length-set s.lines t l)) there)
+            ∙ ap (λ z. with_thread t (record (thread_at z t) { timer = timer_of q }) z)
+            (begun_shown s t q h a.0 idle x f sound)
+            ∙ retimed_twice (world_of s x) t (begun_thread (world_of s x) q (thread_at (world_of s x) t))
+            (timer_of q) (subst (λ n. t < n) (sym (threads_shown h.all.shape x)) there)),
       );
     }

@@ -14,20 +14,22 @@ use Rattle.pif_model.specs.declared.events.Seen.TheVariants.{Went, Answered, Ref
 use Rattle.pif_model.specs.declared.lines.Line.{Line}
 use Rattle.pif_model.specs.declared.lines.Line.TheVariants.{Idle, At}
 use Rattle.pif_model.specs.declared.lines.Place.{Place}
-use Rattle.pif_model.specs.declared.lines.Place.TheVariants.{LockLoad, LockPending, LockExchange, LockKernel, LockQueued, LockStop, LockStopped, LockClear, TakeLoad, TakeHealth, TakeStore, TakeWord, LinkNext, LinkHead, LinkClear, LeaveExchange, LeaveKernel, LeaveClear, TryLoad, TryPending, TryExchange, TryKernel, TryClear, UnlockLoad, UnlockPending, UnlockHealth, UnlockStore, UnlockUnlink, UnlockExchange, UnlockKernel, UnlockClear, ConsistentLoad, ConsistentHealth, ConsistentStore, WaitLoad, WaitUses, WaitPending, WaitHealth, WaitStore, WaitUnlink, WaitExchange, WaitKernel, WaitPark, WaitParked, UseLoad, UseExchange, UseRequeue, UseReload, SetPriority}
+use Rattle.pif_model.specs.declared.lines.Place.TheVariants.{LockLoad, LockPending, LockExchange, LockKernel, LockQueued, LockStop, LockStopped, LockClear, QueueExpired, StopExpired, TakeLoad, TakeHealth, TakeStore, TakeWord, LinkNext, LinkHead, LinkClear, LeaveExchange, LeaveKernel, LeaveClear, TryLoad, TryPending, TryExchange, TryKernel, TryClear, UnlockLoad, UnlockPending, UnlockHealth, UnlockStore, UnlockUnlink, UnlockExchange, UnlockKernel, UnlockClear, ConsistentLoad, ConsistentHealth, ConsistentStore, WaitLoad, WaitUses, WaitPending, WaitHealth, WaitStore, WaitUnlink, WaitExchange, WaitKernel, WaitPark, WaitParked, UseLoad, UseExchange, UseRequeue, UseReload, SetPriority}
 use Rattle.pif_model.specs.declared.lines.Took.{Took}
 use Rattle.pif_model.specs.declared.lines.Took.TheVariants.{Owns as TookOwns, Queued as TookQueued}
 use Rattle.pif_model.specs.Refusals.{go_refused}
 use Rattle.pif_model.specs.Word.{free_word, held_by, word_at, has_word, has_cond_word}
 use Rattle.pif_model.specs.Posix.{variable_of}
 use Rattle.pif_model.specs.PiKernel.{Kernel, Seat, seat_at, has_seat, has_ended, state_at, next_in, is_living, lock_answer, words_after_lock, kernel_after_lock, try_lock_answer, words_after_try_lock, unlock_answer, words_after_unlock, kernel_after_unlock, kernel_after_hand_over, set_prio_answer, has_parked, parked_count, has_other_target, fits_state, wait_requeue_answer, kernel_after_wait_requeue, requeue_answer, after_requeue}
-use Rattle.pif_model.specs.Table.{Table, cell_at, line_at, has_thread, bound_to, uses_of, with_line, with_word, with_cond_word, with_count, with_kernel}
-use Rattle.pif_model.specs.Lines.{Outcome, goes_to, answers, ends_by, locked_again, own_exchange, lock_load, lock_by, lock_kernel, lock_queued, lock_stop, take_load, take_health, take_store, take_word_back, link_next, link_head, clears, leave_exchange, given_up_by, gives_up, try_load, try_by, try_kernel, unlock_load, unlock_health, unlock_exchange, consistent_load, consistent_health, answered_by, set_priority, wait_load, wait_uses, wait_health, wait_exchange, wait_by, wait_park, wait_parked, use_read, use_exchange, more_in, use_by, use_requeue, shared_line, locking_line, use_line, line_of, go_outcome, is_open, table_refusal, accepted_outcome, by_refusal, event_outcome, goes_on, ClosesOrWaits}
+use Rattle.pif_model.specs.Table.{Table, cell_at, line_at, has_thread, bound_to, uses_of, with_line, with_word, with_cond_word, with_count, with_kernel, status_at, timer_at, with_timer}
+use Rattle.pif_model.specs.Lines.{Outcome, goes_to, answers, ends_by, locked_again, own_exchange, lock_load, lock_by, lock_kernel, lock_queued, lock_stop, take_load, take_health, take_store, take_word_back, link_next, link_head, clears, leave_exchange, given_up_by, gives_up, try_load, try_by, try_kernel, unlock_load, unlock_health, unlock_exchange, consistent_load, consistent_health, answered_by, set_priority, wait_load, wait_uses, wait_health, wait_exchange, wait_by, wait_park, wait_parked, use_read, use_exchange, more_in, use_by, use_requeue, shared_line, locking_line, use_line, line_of, go_outcome, is_open, table_refusal, accepted_outcome, by_refusal, event_outcome, goes_on, ClosesOrWaits, counts_at, expired_in, expires_at, told_outcome}
+use Rattle.pif_model.specs.Deadlines.{ran_out, is_reached, told, told_seen}
 use Rattle.pif_chains.proofs.KernelFacts.{living-added}
 use Rattle.pif_chains.proofs.KernelPlaces.{handed_has, handed_seat_same, handed_seat_other}
 use Rattle.pif_chains.proofs.LineCases.{ends_by_cases, locked_again_cases, own_exchange_cases, lock_load_cases, lock_queued_cases, take_health_cases, leave_exchange_cases, try_load_cases, unlock_load_cases, unlock_health_cases, unlock_exchange_cases, consistent_load_cases, consistent_health_cases, wait_load_cases, wait_uses_cases, wait_health_cases, wait_exchange_cases, wait_parked_cases, use_read_cases, answered_by_cases}
 use Rattle.pif_chains.proofs.Waiting.{by_test}
 use Rattle.pif_simulation.proofs.Shown.{go_allowed}
+use Rattle.pif_chains.proofs.KernelExpired.{living-expired_same}
 
 -- how many steps at most a call at this place may still go on
 abbrev rank : Place → ℕ
@@ -36,6 +38,7 @@ rank LockPending = 9
 rank LockExchange = 8
 rank LockKernel = 7
 rank LockQueued = 6
+rank LockStopped = 1
 rank TakeLoad = 6
 rank (TakeHealth d) = 5
 rank TakeStore = 4
@@ -94,6 +97,7 @@ low_rank LockPending = omega arith
 low_rank LockExchange = omega arith
 low_rank LockKernel = omega arith
 low_rank LockQueued = omega arith
+low_rank LockStopped = omega arith
 low_rank TakeLoad = omega arith
 low_rank (TakeHealth d) = omega arith
 low_rank TakeStore = omega arith
@@ -473,6 +477,8 @@ line-turns : (q : Request) (p : Place) (t : ℕ) (s : Table) → is_living s.ker
 unfolding line_of clears set_priority
 line-turns (Lock m) LockLoad t s k l = lock_load-turns s t m k l
 line-turns (Lock m) LockPending t s k l = goes-turns _ t k l 9 (Lock m) LockExchange (omega arith)
+line-turns (Lock m) QueueExpired t s k l = ends (inr (110, refl))
+line-turns (Lock m) StopExpired t s k l = ends (inr (110, refl))
 line-turns (Lock m) p t s k l = locking-turns (Lock m) p t m s k l
 line-turns (TryLock m) TryLoad t s k l = try_load-turns s t m k l
 line-turns (TryLock m) TryPending t s k l = goes-turns _ t k l 9 (TryLock m) TryExchange (omega arith)
@@ -510,6 +516,32 @@ line-turns (Broadcast c) p t s k l = use-turns (Broadcast c) p t s k l
 line-turns (SetPrio u n) SetPriority t s k l = answered_by-turns 0 t (set_prio_answer u n s.kernel) _
 line-turns q p t s k l = answers-turns (rank_in s q p) t 22 s
 
+-- who lives, lives after its call has expired
+lives-expired : (s : Table) (t : ℕ) → is_living s.kernel t ≡ true → is_living (expired_in t s).kernel t ≡ true
+unfolding expired_in
+lives-expired s t known = living-expired_same t s.kernel (living-added s.kernel t known)
+
+-- a call that is due expires, and so ends or goes on at a place of lower rank
+expires-turns : (q : Request) (p : Place) (t : ℕ) (s : Table) → is_living s.kernel t ≡ true → t < length s.lines
+    → counts_at q p (status_at s t) ≡ true → Turns t (rank_in s q p) (expires_at q p t s)
+unfolding expires_at expired_in
+expires-turns (Lock m) LockQueued t s k l e =
+    ends_by-turns (expired_in t s) t m (lives-expired s t k) l 6 (Lock m) QueueExpired 110 (omega arith)
+expires-turns (Lock m) LockStopped t s k l e =
+    ends_by-turns (expired_in t s) t m (lives-expired s t k) l 1 (Lock m) StopExpired 110 (omega arith)
+expires-turns (Lock m) _ t s k l e = absurd (true≢false (sym e))
+expires-turns (Wait c m) WaitParked t s k l e =
+    goes-turns (with_timer t (ran_out (timer_at s t)) (expired_in t s)) t (lives-expired s t k) l 9 (Wait c m) LockExchange
+    (omega arith)
+expires-turns (Wait c m) _ t s k l e = absurd (true≢false (sym e))
+expires-turns q p t s k l e = answers-turns (rank_in s q p) t 22 s
+
+-- a step turns as it is told
+told-turns : (q : Request) (x : Bool) (t n : ℕ) (o : Outcome) → Turns t n o → Turns t n (told_outcome q x o)
+told-turns q x t n o (ends (inl e)) = ends (inl (ap (told_seen q x) e))
+told-turns q x t n o (ends (inr e)) = ends (inr (told q x e.0, ap (told_seen q x) e.1))
+told-turns q x t n o (goes e known busy less) = goes (ap (told_seen q x) e) known busy less
+
 -- a step of t is not refused where its call is open
 open_step : (s : Table) (t : ℕ) → is_living s.kernel t ≡ true → is_open (line_at s t) ≡ true
     → event_outcome (Go t) s ≡ go_outcome (line_at s t) t s
@@ -521,7 +553,17 @@ go_outcome-turns : (s : Table) (t : ℕ) (l : Line) → is_living s.kernel t ≡
     → is_open l ≡ true → Turns t (line_rank s l) (go_outcome l t s)
 unfolding go_outcome
 go_outcome-turns s t Idle known b e = absurd cc
-go_outcome-turns s t (At q p) known b e = line-turns q p t s known b
+go_outcome-turns s t (At q p) known b e = by_due (is_reached (timer_at s t).deadline s.time) (counts_at q p (status_at s t)) refl
+  where
+    undue : Turns t (rank_in s q p) (told_outcome q (timer_at s t).expired (line_of q p t s))
+    undue = told-turns q (timer_at s t).expired t (rank_in s q p) (line_of q p t s) (line-turns q p t s known b)
+
+    by_due : (x y : Bool) → counts_at q p (status_at s t) ≡ y
+        → Turns t (rank_in s q p) (if (if x then y else false) then expires_at q p t s
+        else told_outcome q (timer_at s t).expired (line_of q p t s))
+    by_due true true e = expires-turns q p t s known b e
+    by_due true false e = undue
+    by_due false y e = undue
 
 -- a step of an open call ends it, waits, or leaves it at a line of lower rank
 step-turns : (s : Table) (t : ℕ) → is_living s.kernel t ≡ true → is_open (line_at s t) ≡ true

@@ -80,6 +80,7 @@ module _ (s : Table) (m : ℕ) (h : IsSound s) (named : has_mutex s m ≡ true) 
         limits = b.limits;
         within = b.within;
         lines = b.lines;
+        timers = b.timers;
         nobody = b.nobody;
         lists = b.lists;
         some_mutex = b.some_mutex;

@@ -12,7 +12,7 @@ use Rattle.pif_model.specs.Posix.{Thread, Mutex, is_call_blocked, World, Passes,
 use Rattle.pif_model.specs.Posix.Passes.{to_nobody, to_next}
 use Rattle.pif_model.specs.PiKernel.{Kernel, IsKernel, seat_at, state_at, is_living, next_in, kernel_after_hand_over}
 use Rattle.pif_model.specs.RobustList.{no_robust_row, robust_at}
-use Rattle.pif_model.specs.Table.{Table, Cell, has_thread, has_mutex, bound_to, uses_of, status_at, line_at, library_at, cell_at}
+use Rattle.pif_model.specs.Table.{Table, Cell, has_thread, has_mutex, bound_to, uses_of, status_at, line_at, library_at, cell_at, timer_at}
 use Rattle.pif_model.specs.Standing.{Shadow, memory_at, call_shown, call_at, health_of, health_at, thread_shown, mutex_shown, world_of, CellIsSound, SoundBut}
 use Rattle.pif_chains.proofs.Greatest.{effective_same}
 use Rattle.pif_chains.proofs.KernelFacts.{next-some, next-added}
@@ -206,13 +206,14 @@ module _ (s : Table) (t m : ℕ) (h : IsDead s t) (named : has_mutex s m ≡ tru
           base = (seat_at s.kernel u).base;
           living = is_living s.kernel u;
           call = calls u d i;
+          timer = timer_at s u;
           memory = memory_at y u;
         })
         ∙ sym (thread_seen h.sound.shape y u f))
         (sym (get_or-set_same (w1 y).mutexes m z no_mutex (mw1 y)
         ∙ (λ i. record (behind_seen y i) { owner = 0; count = 1 })))
         (λ j d. sym (get_or-set_other (w1 y).mutexes m j z no_mutex d
-        ∙ get_or-set_other (world_of s y).mutexes m j (behind y) no_mutex d ∙ mutex_seen h.sound.shape y j)) refl refl
+        ∙ get_or-set_other (world_of s y).mutexes m j (behind y) no_mutex d ∙ mutex_seen h.sound.shape y j)) refl refl refl
 
     -- it passes on to nobody
     pub passes_to_nobody : HasPassed s (passed_table x s.kernel) t m
@@ -287,7 +288,7 @@ module _ (s : Table) (t m : ℕ) (h : IsDead s t) (named : has_mutex s m ≡ tru
         (λ j f d e. get_or-set_other (world_of s y).threads u j z nobody e ∙ thread_seen h.sound.shape y j f)
         (get_or-set_same (w1 y).mutexes m o no_mutex (mw1 y) ∙ (λ i. record (behind_seen y i) { owner = u; count = 1 }))
         (λ j d. get_or-set_other (w1 y).mutexes m j o no_mutex d
-        ∙ get_or-set_other (world_of s y).mutexes m j (behind y) no_mutex d ∙ mutex_seen h.sound.shape y j) refl refl
+        ∙ get_or-set_other (world_of s y).mutexes m j (behind y) no_mutex d ∙ mutex_seen h.sound.shape y j) refl refl refl
       where
         ul : u < length s.lines
         ul = subst (λ j. u < j) (sym h.sound.shape.lines)

@@ -5,7 +5,7 @@ use Rattle.std.proofs.lemmas.Bool.{cases_eq, cases_lt, true≢false}
 use Rattle.std.proofs.lemmas.List.{length-set, get_or_past, set-get_or}
 use Rattle.pif_types.specs.declared.requests.Kind.TheVariants.{Normal}
 use Rattle.pif_types.specs.declared.requests.Request.{Request}
-use Rattle.pif_types.specs.declared.requests.Request.TheVariants.{Lock, TryLock, Unlock, Consistent, Wait, Signal, Broadcast, SetPrio}
+use Rattle.pif_types.specs.declared.requests.Request.TheVariants.{Lock, TryLock, Unlock, Consistent, Wait, Signal, Broadcast, SetPrio, TimedLock, TimedWait}
 use Rattle.pif_model.specs.declared.events.Event.TheVariants.{End}
 use Rattle.pif_model.specs.declared.events.Seen.TheVariants.{Ended as SeenEnded}
 use Rattle.pif_model.specs.declared.events.Entry.TheVariants.{Step as Happened}
@@ -18,12 +18,13 @@ use Rattle.pif_model.specs.Word.{word_at, has_word}
 use Rattle.pif_model.specs.Posix.{Mutex, Releases, mutex_at, named_by, names_known}
 use Rattle.pif_model.specs.Posix.Releases.{none_left, one_more}
 use Rattle.pif_model.specs.Posix.Step.{ended as ended_rule}
+use Rattle.pif_model.specs.declared.lines.Status.TheVariants.{Ended}
 use Rattle.pif_model.specs.PiKernel.{System, state_at, is_living, kernel_after_leaving, after_death, after_deaths}
 use Rattle.pif_model.specs.RobustList.{RobustRow, no_robust_row, robust_at, has_entry, walk_of}
 use Rattle.pif_model.specs.Table.{Table, Cell, LibraryMutex, new_mutex, has_thread, has_mutex, has_cond, line_at, library_at, cell_at}
 use Rattle.pif_model.specs.Lines.{table_refusal, ended_table, library_after_end}
 use Rattle.pif_model.specs.Standing.{Shadow, Agrees, world_of, mutex_by, is_pending, is_unlinked, holds_robust, LineIsSound, ListIsSound, CellIsSound, IsShaped, IsSound}
-use Rattle.pif_chains.proofs.KernelEnded.{status-left_same, living-left_same}
+use Rattle.pif_chains.proofs.KernelLeft.{status-left_same, living-left_same}
 use Rattle.pif_chains.proofs.KernelExit.{death-other_number, death-orphaned, death-inherited, orphaned, inherited}
 use Rattle.pif_chains.proofs.KernelFacts.{living-added}
 use Rattle.pif_chains.proofs.Numbers.{above_0, below, from_within}
@@ -102,6 +103,8 @@ line_named s t (At q p) h test z = by_test (λ b. (if b then named_by q else 0) 
     go (Signal c) e n = absurd (n refl)
     go (Broadcast c) e n = absurd (n refl)
     go (SetPrio u p) e n = absurd (n refl)
+    go (TimedLock m d) e n = e
+    go (TimedWait c m d) e n = second (has_cond s c) (has_mutex s m) e
 
 module _ (s : Table) (t : ℕ) (h : IsSound s) (known : is_living s.kernel t ≡ true) where
   abbrev row : RobustRow
@@ -358,8 +361,8 @@ module _ (s : Table) (t : ℕ) (h : IsSound s) (known : is_living s.kernel t ≡
       row = subst (λ n. t < n) (sym (length-set s.lists.threads t no_robust_row)) (tr s t Idle h known);
       line = line_gone s t h known;
       list = list_gone s t h known;
-      status = status-left_same t s.kernel added;
-      gone = living-left_same t s.kernel added;
+      status = status-left_same Ended t s.kernel added;
+      gone = living-left_same Ended t s.kernel added;
     };
     entries = walk_robust;
     covers = walk_covers;

@@ -7,11 +7,12 @@ use Rattle.pif_model.specs.declared.lines.Line.TheVariants.{Idle}
 use Rattle.pif_model.specs.Graph.{has_waiter}
 use Rattle.pif_model.specs.Word.{word_at}
 use Rattle.pif_model.specs.Posix.{Thread, nobody, after_end, is_call_blocked, thread_at}
+use Rattle.pif_model.specs.declared.lines.Status.TheVariants.{Ended}
 use Rattle.pif_model.specs.PiKernel.{Kernel, IsKernel, state_at, is_living, kernel_after_leaving}
 use Rattle.pif_model.specs.RobustList.{no_robust_row, robust_at, without_robust}
-use Rattle.pif_model.specs.Table.{Table, has_thread, has_mutex, uses_of, status_at, line_at, cell_at}
+use Rattle.pif_model.specs.Table.{Table, has_thread, has_mutex, uses_of, status_at, line_at, timer_at, cell_at}
 use Rattle.pif_model.specs.Standing.{Shadow, memory_at, may_enlist, chooses_on, call_at, health_at, thread_shown, world_of, CellIsSound, IsShaped, SoundBut, IsSound}
-use Rattle.pif_chains.proofs.KernelEnded.{mutex_left, waiters_left, limits-left, length-left_seats, has-left, seat-left_other, base-left, status-left_other, living-left_other, living-left_same, waiters-left, state-left_other, waiter-left_other, waiter-left_before, state-left, parked-left, leaving_kept}
+use Rattle.pif_chains.proofs.KernelLeft.{mutex_left, waiters_left, limits-left, length-left_seats, has-left, seat-left_other, base-left, status-left_other, living-left_other, living-left_same, waiters-left, state-left_other, waiter-left_other, waiter-left_before, state-left, parked-left, kernel-left}
 use Rattle.pif_chains.proofs.KernelFacts.{living-added}
 use Rattle.pif_chains.proofs.Numbers.{above_0}
 use Rattle.pif_chains.proofs.Waiting.{by_test, has_waiter-without_none}
@@ -54,16 +55,17 @@ module _ (s : Table) (t : ℕ) (h : IsSound s) (known : is_living s.kernel t ≡
 
   -- who waits then
   waited : (j : ℕ) → has_waiter k.waiters j ≡ has_waiter (waiters_left t s.kernel) j
-  waited j = ap (λ ws. has_waiter ws j) (waiters-left t s.kernel)
+  waited j = ap (λ ws. has_waiter ws j) (waiters-left Ended t s.kernel)
 
   -- the parts still fit together
   shape_gone : IsShaped gone
   shape_gone =
       let b = h.all.shape in
       record {
-        limits = limits-left t s.kernel ∙ b.limits;
+        limits = limits-left Ended t s.kernel ∙ b.limits;
         within = b.within;
-        lines = length-set s.lines t Idle ∙ b.lines ∙ sym (length-left_seats t s.kernel);
+        timers = b.timers ∙ sym (length-set s.lines t Idle);
+        lines = length-set s.lines t Idle ∙ b.lines ∙ sym (length-left_seats Ended t s.kernel);
         nobody = line_else 0 (λ e. t_some (sym e)) ∙ b.nobody;
         lists = length-set s.lists.threads t no_robust_row ∙ b.lists;
         some_mutex = b.some_mutex;
@@ -95,13 +97,13 @@ module _ (s : Table) (t : ℕ) (h : IsSound s) (known : is_living s.kernel t ≡
     owner = c.owner;
     free = λ z. has_waiter-without_none s.kernel.waiters t m (c.free z);
     clean = c.clean;
-    state = state-left t s.kernel h.kernel m
+    state = state-left Ended t s.kernel h.kernel m
         ∙ by_test (λ b. has_waiter (waiters_left t s.kernel) m ≡ b
         → (if b then state_at s.kernel m else 0) ≡ (if b then (word_at s.words m).number else 0))
         (has_waiter (waiters_left t s.kernel) m)
         (λ w _. c.state ∙ ap (λ b. if b then (word_at s.words m).number else 0)
-        (waiter-left_before t s.kernel h.kernel m w)) (λ _ _. refl) refl;
-    contended = λ w. c.contended (waiter-left_before t s.kernel h.kernel m w);
+        (waiter-left_before Ended t s.kernel h.kernel m w)) (λ _ _. refl) refl;
+    contended = λ w. c.contended (waiter-left_before Ended t s.kernel h.kernel m w);
   })
     where
       c : CellIsSound (has_thread s) (has_waiter s.kernel.waiters m) (cell_at s m)
@@ -112,22 +114,22 @@ module _ (s : Table) (t : ℕ) (h : IsSound s) (known : is_living s.kernel t ≡
   still_ended u e = go (cases_eq u t)
     where
       go : (u ≡ t) ⊎ (u ≢ t) → is_living k u ≡ false
-      go (inl q) = ap (is_living k) q ∙ living-left_same t s.kernel added
-      go (inr d) = living-left_other t s.kernel u d ∙ e
+      go (inl q) = ap (is_living k) q ∙ living-left_same Ended t s.kernel added
+      go (inr d) = living-left_other Ended t s.kernel u d ∙ e
 
   -- the change
   change : Changes (λ u. u ≡ t) s gone m
   change = record {
     shape = shape_gone;
-    threads = has-left t s.kernel;
+    threads = has-left Ended t s.kernel;
     mutexes = λ j. refl;
     robust = λ j. refl;
-    cells = λ j d. (λ i. record (cell_at s j) { state_owner = state-left_other t s.kernel j d i });
-    waited = λ j d. waited j ∙ waiter-left_other t s.kernel h.kernel j d;
+    cells = λ j d. (λ i. record (cell_at s j) { state_owner = state-left_other Ended t s.kernel j d i });
+    waited = λ j d. waited j ∙ waiter-left_other Ended t s.kernel h.kernel j d;
     cell = cell_gone;
     alive = λ e r z out. h.all.alive m e r z (λ x. x);
-    living = living-left_other t s.kernel;
-    status = status-left_other t s.kernel;
+    living = living-left_other Ended t s.kernel;
+    status = status-left_other Ended t s.kernel;
     line = line_else;
     list = list_else;
     spares = λ u z out. record {
@@ -143,7 +145,7 @@ module _ (s : Table) (t : ℕ) (h : IsSound s) (known : is_living s.kernel t ≡
     used = unused s gone refl refl refl;
     few_uses = λ i e. e;
     targets = λ i j e. inl (aims-unparked s.kernel.parked t i j
-        (sym (ap (λ ps. aims (record k { parked = ps }) i j) (parked-left t s.kernel)) ∙ e));
+        (sym (ap (λ ps. aims (record k { parked = ps }) i j) (parked-left Ended t s.kernel)) ∙ e));
   }
 
   -- the table is sound, save for t
@@ -151,14 +153,14 @@ module _ (s : Table) (t : ℕ) (h : IsSound s) (known : is_living s.kernel t ≡
   gone_sound = change_kept (excuse_one h t) change
 
   pub gone_kernel : IsKernel k
-  gone_kernel = leaving_kept t s.kernel h.kernel added
+  gone_kernel = kernel-left Ended t s.kernel h.kernel added refl
 
   -- who was found blocked stays so
   pub gone_frames : Frames s gone
   gone_frames = frames_by s gone t (length-set s.lines t Idle) line_else
       (λ u d. was_same s gone u
-      (λ i. call_at (health_at s) (uses_of s) (line_else u d i) (status-left_other t s.kernel u d i))
-      (status-left_other t s.kernel u d))
+      (λ i. call_at (health_at s) (uses_of s) (line_else u d i) (status-left_other Ended t s.kernel u d i))
+      (status-left_other Ended t s.kernel u d))
       (quiet (ap may_enlist line_gone) (ap chooses_on line_gone))
       (λ e. was_not s gone t (λ c. ap (λ l. is_call_blocked c (call_at (health_at s) (uses_of s) l (status_at gone t)))
       line_gone))
@@ -172,7 +174,7 @@ module _ (s : Table) (t : ℕ) (h : IsSound s) (known : is_living s.kernel t ≡
       thread_seen shape_gone y u e ∙ each u (subst (λ n. u < n) (length-set s.lines t Idle) e) (cases_eq u t))
       (mutexes_shown shape_gone y ∙ sym (mutexes_shown h.all.shape y))
       (λ j. mutex_seen shape_gone y j ∙ sym (mutex_seen h.all.shape y j)) refl
-      (waiters-left t s.kernel) refl
+      (waiters-left Ended t s.kernel) refl refl
     where
       x : Thread
       x = record (thread_at (world_of s y) t) { living = false; call = None }
@@ -180,9 +182,10 @@ module _ (s : Table) (t : ℕ) (h : IsSound s) (known : is_living s.kernel t ≡
       here : thread_shown gone y t ≡ thread_at (after_end t (world_of s y)) t
       here =
           (λ i. record {
-            base = base-left t s.kernel t i;
-            living = living-left_same t s.kernel added i;
+            base = base-left Ended t s.kernel t i;
+            living = living-left_same Ended t s.kernel added i;
             call = call_at (health_at s) (uses_of s) (line_gone i) (status_at gone t);
+            timer = timer_at s t;
             memory = memory_at y t;
           })
           ∙ sym (get_or-set_same (world_of s y).threads t x nobody
@@ -194,9 +197,10 @@ module _ (s : Table) (t : ℕ) (h : IsSound s) (known : is_living s.kernel t ≡
       each u f (inl q) = subst (λ j. thread_shown gone y j ≡ thread_at (after_end t (world_of s y)) j) (sym q) here
       each u f (inr d) =
           (λ i. record {
-            base = (seat-left_other t s.kernel u d i).base;
-            living = living-left_other t s.kernel u d i;
-            call = call_at (health_at s) (uses_of s) (line_else u d i) (seat-left_other t s.kernel u d i).status;
+            base = (seat-left_other Ended t s.kernel u d i).base;
+            living = living-left_other Ended t s.kernel u d i;
+            call = call_at (health_at s) (uses_of s) (line_else u d i) (seat-left_other Ended t s.kernel u d i).status;
+            timer = timer_at s u;
             memory = memory_at y u;
           })
           ∙ sym (get_or-set_other (world_of s y).threads t u x nobody d ∙ thread_seen h.all.shape y u f)

@@ -4,10 +4,8 @@
 use Rattle.std.proofs.Common.{◌≡◌, ◌≢◌, ℕ, Bool, true, false, ◌==◌, Some, List, ◌∷◌, length, refl, sym, ap, ◌∙◌, subst, if◌then◌else◌}
 use Rattle.std.proofs.lemmas.Bool.{true≢false}
 use Rattle.pif_types.specs.declared.requests.Request.{Request}
-use Rattle.pif_model.specs.declared.events.Event.TheVariants.{Go}
 use Rattle.pif_model.specs.declared.events.Seen.{Seen}
 use Rattle.pif_model.specs.declared.events.Seen.TheVariants.{Went}
-use Rattle.pif_model.specs.declared.events.Entry.TheVariants.{Step as Happened}
 use Rattle.pif_model.specs.declared.lines.Line.{Line}
 use Rattle.pif_model.specs.declared.lines.Line.TheVariants.{Idle, At}
 use Rattle.pif_model.specs.declared.lines.Place.{Place}
@@ -26,7 +24,7 @@ use Rattle.pif_chains.proofs.Numbers.{above_0}
 use Rattle.pif_simulation.proofs.Shown.{mutex_seen}
 use Rattle.pif_simulation.proofs.Written.{mutex_of}
 use Rattle.pif_simulation.proofs.Agreement.{Follows}
-use Rattle.pif_simulation.proofs.Steps.{Keeps, GoKeeps, Going, progress_of, going_named, going_met, going_called}
+use Rattle.pif_simulation.proofs.Steps.{KeepsGo, GoKeeps, Going, progress_of, going_named, going_met, going_called}
 use Rattle.pif_simulation.proofs.Does.{Does}
 use Rattle.pif_simulation.proofs.Entries.{has_entry-without_other, has_entry-without_same}
 use Rattle.pif_simulation.proofs.Healths.{health-unusable, health-inconsistent, inconsistent-word}
@@ -166,7 +164,7 @@ module _ {s : Table} {t : ℕ} {q : Request} (r : GivesUpBy s t q) where
       let died : (word_at s.words m).number ≡ t → (word_at s.words m).died ≡ false =
       λ o. (settled_so_far g (known g) x.unsettled o).0 in
       let has = x.has (health_at s m) in
-      subst (Keeps s (Happened (Go t) Went)) (health_table g (known g) h.0 Went (At q r.unlinking) 2)
+      subst (KeepsGo s t Went) (health_table g (known g) h.0 Went (At q r.unlinking) 2)
       (states g (known g) h.0 Went (At q r.unlinking) (y.follows (At q r.storing)) d 2 r.before
       (λ j e. ap is_blocked has ∙ e) own h.1.1.1.0 (
         refl,
@@ -292,7 +290,7 @@ module _ {s : Table} {t : ℕ} {q : Request} (r : GivesUpBy s t q) where
     pub frees_kept : (seen : Seen) (l : Line) → GivesUpTo s t q p l
         → Shows s t m (health_of (health_word_at s.words m) false) q r.after seen l
         → has_waiter s.kernel.waiters m ≡ false
-        → Keeps s (Happened (Go t) seen) (with_line t l (with_word m free_word s))
+        → KeepsGo s t seen (with_line t l (with_word m free_word s))
     frees_kept seen l to shows none =
         frees g (known g) h.0 own once none order seen l r.after to.follows (λ j e. ap is_blocked has ∙ r.blocked e)
         (to.knows (record (cell_at s m) { word = free_word }) nobody refl) shows to.pending to.half_linked

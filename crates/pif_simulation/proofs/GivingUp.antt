@@ -3,9 +3,7 @@ use Rattle.std.proofs.Common.{set, ◌≡◌, ◌≢◌, ℕ, ◌<◌, true, fal
 use Rattle.std.proofs.lemmas.Bool.{eqb-false, true≢false}
 use Rattle.std.proofs.lemmas.List.{length-set, get_or-set_same, get_or-set_other, set-get_or}
 use Rattle.pif_types.specs.declared.requests.Request.{Request}
-use Rattle.pif_model.specs.declared.events.Event.TheVariants.{Go}
 use Rattle.pif_model.specs.declared.events.Seen.TheVariants.{Went, Answered}
-use Rattle.pif_model.specs.declared.events.Entry.TheVariants.{Step as Happened}
 use Rattle.pif_model.specs.declared.lines.Line.{Line}
 use Rattle.pif_model.specs.declared.lines.Line.TheVariants.{Idle, At}
 use Rattle.pif_model.specs.declared.lines.Place.{Place}
@@ -26,7 +24,7 @@ use Rattle.pif_chains.proofs.KernelFacts.{next-some, next-added}
 use Rattle.pif_simulation.proofs.Hole.{excuse_one, admit_last}
 use Rattle.pif_simulation.proofs.Shown.{threads_shown, mutexes_shown, thread_seen, mutex_seen}
 use Rattle.pif_simulation.proofs.Written.{written_is, same_health, same_list, same_library}
-use Rattle.pif_simulation.proofs.Steps.{Keeps, Going, progress_of, going_named, going_called, going_lined, going_below, goes_with, answers_with}
+use Rattle.pif_simulation.proofs.Steps.{KeepsGo, Going, progress_of, going_named, going_called, going_lined, going_below, goes_with, answers_with}
 use Rattle.pif_simulation.proofs.Agreement.{Frames, Follows, WasBlockedIn}
 use Rattle.pif_chains.proofs.Statuses.{ready-unparked}
 use Rattle.pif_simulation.proofs.Effective.{next_seen}
@@ -204,7 +202,7 @@ module _ {s : Table} {t : ℕ} {q : Request} {p : Place} (h : GivesUp s t q p) w
           (get_or-set_same w.mutexes m z no_mutex (subst (λ j. m < j) (sym (mutexes_shown h.going.sound.all.shape y))
           (below m (length s.mutexes) h.named))
           ∙ (λ i. record (mutex_seen h.going.sound.all.shape y m i) { owner = u; count = 1; health = health_m i }))
-          (λ j d. get_or-set_other w.mutexes m j z no_mutex d ∙ mutex_seen h.going.sound.all.shape y j) refl refl
+          (λ j d. get_or-set_other w.mutexes m j z no_mutex d ∙ mutex_seen h.going.sound.all.shape y j) refl refl refl
         where
           taker_before : thread_at (with_progress t a w) u ≡ thread_shown s y u
           taker_before = get_or-set_other w.threads t u given nobody (other hands)
@@ -268,8 +266,8 @@ module _ {s : Table} {t : ℕ} {q : Request} {p : Place} (h : GivesUp s t q p) w
         (record { request = q; progress = a }))
         → ((y : Shadow) (w' : World) → Passes m (with_progress t a (world_of s y)) w'
         → Effect t (world_of s y) w')
-        → Keeps s (Happened (Go t) Went) hands_on
-    handed_goes a blocked call effect = subst (Keeps s (Happened (Go t) Went)) is_handed
+        → KeepsGo s t Went hands_on
+    handed_goes a blocked call effect = subst (KeepsGo s t Went) is_handed
         (goes_with h.going v sound limits (living_kept hands t ∙ h.going.known) (ap is_ready (status_t hands) ∙ h.ready)
         (frames a blocked (λ c b. sym (ap (is_call_blocked c) (call_then ∙ call no_shadow)) ∙ b))
         (λ y. first (effect y (passed a y) (passes_next a y)) (none (passed_open a y (call y)))))
@@ -278,8 +276,8 @@ module _ {s : Table} {t : ℕ} {q : Request} {p : Place} (h : GivesUp s t q p) w
     pub handed_answers : (n : ℕ) → l ≡ Idle
         → ((y : Shadow) (w' : World) → Passes m (with_progress t (Has n) (world_of s y)) w'
         → Effect t (world_of s y) w')
-        → Keeps s (Happened (Go t) (Answered n)) hands_on
-    handed_answers n e effect = subst (Keeps s (Happened (Go t) (Answered n))) is_handed
+        → KeepsGo s t (Answered n) hands_on
+    handed_answers n e effect = subst (KeepsGo s t (Answered n)) is_handed
         (answers_with h.going v n (λ y. passed (Has n) y) sound limits (living_kept hands t ∙ h.going.known)
         (ap is_ready (status_t hands) ∙ h.ready)
         (frames (Has n) (λ j f. absurd (true≢false (sym f))) (λ c b. absurd (true≢false (sym b

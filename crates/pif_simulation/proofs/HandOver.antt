@@ -4,7 +4,7 @@ use Rattle.std.proofs.Common.{◌≡◌, ◌≢◌, ℕ, ◌<◌, Bool, true, fa
 use Rattle.std.proofs.lemmas.Bool.{cases_eq, true≢false}
 use Rattle.std.proofs.lemmas.List.{length-set}
 use Rattle.pif_types.specs.declared.requests.Request.{Request}
-use Rattle.pif_types.specs.declared.requests.Request.TheVariants.{Lock, TryLock, Unlock, Consistent, Wait, Signal, Broadcast, SetPrio}
+use Rattle.pif_types.specs.declared.requests.Request.TheVariants.{Lock, TryLock, Unlock, Consistent, Wait, Signal, Broadcast, SetPrio, TimedLock, TimedWait}
 use Rattle.pif_model.specs.declared.lines.Line.{Line}
 use Rattle.pif_model.specs.declared.lines.Line.TheVariants.{At}
 use Rattle.pif_model.specs.declared.lines.Place.{Place}
@@ -16,7 +16,7 @@ use Rattle.pif_model.specs.Word.{Word, word_at, health_word_at}
 use Rattle.pif_model.specs.Posix.{World, Health, is_call_blocked, named_by, variable_of, thread_at, mutex_at, progressed, on_taking}
 use Rattle.pif_model.specs.PiKernel.{Kernel, IsKernel, Seat, seat_at, state_at, is_living, has_ended, next_in, kernel_after_hand_over}
 use Rattle.pif_model.specs.RobustList.{RobustRow, robust_at}
-use Rattle.pif_model.specs.Table.{Table, Cell, has_thread, has_mutex, bound_to, uses_of, status_at, line_at, library_at, cell_at}
+use Rattle.pif_model.specs.Table.{Table, Cell, has_thread, has_mutex, bound_to, uses_of, status_at, line_at, timer_at, library_at, cell_at}
 use Rattle.pif_model.specs.Standing.{Shadow, Use, use_at, may_enlist, call_shown as shown_call, is_queued_place, is_unlinked, memory_at, progress_at, call_at, health_of, health_at, thread_shown, mutex_shown, world_of, MeetsAll, needs, waited_in, CallIsSound, mutex_by, is_unsettled, LineIsSound, IsQueuedLine, CellIsSound, ListIsSound, ThreadIsSound, SoundBut}
 use Rattle.pif_chains.proofs.Waiting.{by_test, has_waiter-without_other}
 use Rattle.pif_chains.proofs.Numbers.{above_0, below}
@@ -40,6 +40,8 @@ waits-named (Wait c j) m n e = e
 waits-named (Signal c) m n e = absurd (n (sym e))
 waits-named (Broadcast c) m n e = absurd (n (sym e))
 waits-named (SetPrio u p) m n e = absurd (n (sym e))
+waits-named (TimedLock j d) m n e = absurd (n (sym e))
+waits-named (TimedWait c j d) m n e = absurd (n (sym e))
 
 -- who is handed its mutex, at a place where it was queued, knows there what it has to
 handed_needs : (living living' : ℕ → Bool) (u m : ℕ) (c d : Cell) (z : Use) (b : Place) → is_queued_place b ≡ true
@@ -394,9 +396,9 @@ module _ {s : Table} {t m : ℕ} {l : Line} {r : RobustRow} {x : Word} (h : Hand
       → ((j : ℕ) → j < length s.lines → j ≢ t → j ≢ u → thread_at w j ≡ thread_shown s y j)
       → mutex_at w m ≡ record (mutex_shown s m) { owner = u; count = 1; health = health_of a x.died }
       → ((j : ℕ) → j ≢ m → mutex_at w j ≡ mutex_shown s j)
-      → (world_of s y).variables ≡ w.variables → s.limits.signals ≡ w.signals
+      → (world_of s y).variables ≡ w.variables → s.limits.signals ≡ w.signals → s.time ≡ w.time
       → world_of handed y ≡ w
-  handed_shown y w b d waiters giver taker others it rest variables signals =
+  handed_shown y w b d waiters giver taker others it rest variables signals time =
       shows s t m l r x a 1 k h.somebody h.lined h.row ml h.sound.shape y w handed_sound.shape b d
       (handed_waiters u m s.kernel ∙ sym waiters)
       (thread_here s t m l r x a 1 k h.somebody h.lined h.row ml h.sound.shape y
@@ -404,30 +406,34 @@ module _ {s : Table} {t m : ℕ} {l : Line} {r : RobustRow} {x : Word} (h : Hand
         base = (seat_kept t (λ e. other (sym e)) i).base;
         living = living_kept t i;
         call = call_at (health_at handed) (uses_of s) l (seat_kept t (λ e. other (sym e)) i).status;
+        timer = timer_at s t;
         memory = memory_at y t;
       })
       ∙ sym giver)
       (λ j f z. thread_there s t m l r x a 1 k h.somebody h.lined h.row ml h.sound.shape y j z
       ∙ another j f z (cases_eq j u))
       ((λ i. record (mutex_shown s m) { owner = h.number i; count = 1; health = health_of a x.died }) ∙ sym it)
-      (λ j z. sym (rest j z)) variables signals
+      (λ j z. sym (rest j z)) variables signals time
     where
       another : (j : ℕ) → j < length s.lines → j ≢ t → (j ≡ u) ⊎ (j ≢ u) → record {
         base = (seat_at k j).base;
         living = is_living k j;
         call = call_at (health_at handed) (uses_of s) (line_at s j) (seat_at k j).status;
+        timer = timer_at s j;
         memory = memory_at y j;
       } ≡ thread_at w j
       another j f z (inl e) = subst (λ i. record {
         base = (seat_at k i).base;
         living = is_living k i;
         call = call_at (health_at handed) (uses_of s) (line_at s i) (seat_at k i).status;
+        timer = timer_at s i;
         memory = memory_at y i;
       } ≡ thread_at w i) (sym e)
           ((λ i. record {
             base = (seat_woken i).base;
             living = living_kept u i;
             call = taken_call i;
+            timer = timer_at s u;
             memory = memory_at y u;
           }) ∙ sym taker)
       another j f z (inr e) = (λ i. record {
@@ -435,5 +441,6 @@ module _ {s : Table} {t m : ℕ} {l : Line} {r : RobustRow} {x : Word} (h : Hand
         living = living_kept j i;
         call = (ap (λ (q : Seat). call_at (health_at handed) (uses_of s) (line_at s j) q.status) (seat_kept j e)
             ∙ calls j z e) i;
+        timer = timer_at s j;
         memory = memory_at y j;
       }) ∙ sym (others j f z e)

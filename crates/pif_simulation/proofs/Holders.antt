@@ -9,14 +9,14 @@ use Rattle.pif_types.specs.Bounds.{Bounds}
 use Rattle.pif_types.specs.declared.errors.Refusal.{Refusal}
 use Rattle.pif_types.specs.declared.requests.Kind.{Kind}
 use Rattle.pif_types.specs.declared.requests.Request.{Request}
-use Rattle.pif_types.specs.declared.requests.Request.TheVariants.{Lock, TryLock, Unlock, Consistent, Wait, Signal, Broadcast, SetPrio}
+use Rattle.pif_types.specs.declared.requests.Request.TheVariants.{Lock, TryLock, Unlock, Consistent, Wait, Signal, Broadcast, SetPrio, TimedLock, TimedWait}
 use Rattle.pif_model.specs.declared.events.Event.{Event}
-use Rattle.pif_model.specs.declared.events.Event.TheVariants.{Begin, Go, End}
+use Rattle.pif_model.specs.declared.events.Event.TheVariants.{Begin, Go, End, Tick}
 use Rattle.pif_model.specs.declared.events.Seen.TheVariants.{Begun, Answered, Ended, Refused}
 use Rattle.pif_model.specs.declared.events.Entry.{Entry}
 use Rattle.pif_model.specs.declared.events.Entry.TheVariants.{Step as Happened}
 use Rattle.pif_model.specs.History.{open_call, hold_count, hold_count_after_answer, waiting_with, unlocking, holds, HasOneHolder, AlwaysOneHolder}
-use Rattle.pif_model.specs.Posix.{Progress, Call, Thread, Mutex, World, empty_world, nobody, no_mutex, thread_at, mutex_at, is_thread, is_living, is_mutex, with_thread, with_progress, with_base, variable_of, named_by, names_known, Memory, Variable, is_variable, begun_memory, begun_thread, recalled, noted, unblocked, on_unblocking, is_newly_blocked, after_use, used, all_unblocked, on_release, ChecksWait, GivesUp, Chooses, new_thread, LocksAgain, Locks, TriesToLock, Unlocks, MakesConsistent, Passes, SetsPriority, after_end, Ends, Effect, Effects, refusal_of, Step, IsRun}
+use Rattle.pif_model.specs.Posix.{Progress, Call, Thread, Mutex, World, empty_world, nobody, no_mutex, thread_at, mutex_at, is_thread, is_living, is_mutex, with_thread, with_progress, with_base, variable_of, named_by, names_known, Memory, Variable, is_variable, begun_memory, begun_thread, recalled, noted, unblocked, on_unblocking, is_newly_blocked, after_use, used, all_unblocked, on_release, ChecksWait, GivesUp, Chooses, new_thread, LocksAgain, Locks, TriesToLock, Unlocks, MakesConsistent, Passes, SetsPriority, after_end, Ends, Effect, Effects, refusal_of, Step, IsRun, counts_now, is_counting, is_due, Expires, Moves}
 use Rattle.pif_model.specs.Graph.{without}
 use Rattle.pif_model.specs.Posix.Health.{Fine, Unusable}
 use Rattle.pif_model.specs.Posix.Progress.{Fresh, Waiting, Stuck, Leaving, Has, Checked, Enlisted, Blocked, Owing, Used}
@@ -32,10 +32,14 @@ use Rattle.pif_model.specs.Posix.MakesConsistent.{not_robust, not_owner as consi
 use Rattle.pif_model.specs.Posix.SetsPriority.{no_priority, not_living, changed}
 use Rattle.pif_model.specs.Posix.Effect.{lock, try_lock, unlock, consistent, set_prio, check_wait, enlist, give_up, lock_again, use_variable, choose, leave}
 use Rattle.pif_model.specs.Posix.Effects.{none as no_effect, then as effect_then, owed as effect_owed}
-use Rattle.pif_model.specs.Posix.Step.{thread_added, mutex_added, cond_added, refused, begun, went, waits, answered, ended}
+use Rattle.pif_model.specs.Posix.Expires.{lock as lock_expires, wait as wait_expires}
+use Rattle.pif_model.specs.Posix.Moves.{expires, acts}
+use Rattle.pif_model.specs.declared.lines.Timer.{Timer}
+use Rattle.pif_model.specs.Deadlines.{plain, timer_of, ran_out, is_reached, told}
+use Rattle.pif_model.specs.Posix.Step.{ticked, thread_added, mutex_added, cond_added, refused, begun, went, waits, answered, ended}
 use Rattle.pif_model.specs.Posix.IsRun.{start, next}
 use Rattle.pif_model.specs.Standing.{waited_in}
-use Rattle.pif_chains.proofs.Among.{is_among-without}
+use Rattle.pif_chains.proofs.Among.{is_among-without, is_among}
 use Rattle.pif_chains.proofs.Numbers.{within, from_within}
 use Rattle.pif_chains.proofs.Places.{kept_at}
 use Rattle.pif_chains.proofs.Waiting.{by_test}
@@ -57,22 +61,16 @@ error_changes_nothing : (q : Request) (a : ℕ) → is_error a ≡ true → (n :
 error_changes_nothing (Lock m) a e n = grind (arith, nat_tests)
 error_changes_nothing (TryLock m) a e n = grind (arith, nat_tests)
 error_changes_nothing (Unlock m) a e n = grind (arith, nat_tests)
-error_changes_nothing (Consistent m) a e n = refl
 error_changes_nothing (Wait c m) a e n = grind (arith, nat_tests)
-error_changes_nothing (Signal c) a e n = refl
-error_changes_nothing (Broadcast c) a e n = refl
-error_changes_nothing (SetPrio u p) a e n = refl
+error_changes_nothing _ a e n = refl
 
 -- who leaves its mutex doesn't hold it by the answers then
 left_by : (q : Request) (n : ℕ) → n ≡ held_before q → hold_count_after_answer (named_by q) (Some q) 131 n ≡ 0
 left_by (Lock m) n e = grind (arith, nat_tests)
 left_by (TryLock m) n e = grind (arith, nat_tests)
 left_by (Unlock m) n e = grind (arith, nat_tests)
-left_by (Consistent m) n e = e
 left_by (Wait c m) n e = rw (eq-eqb m m refl) refl
-left_by (Signal c) n e = e
-left_by (Broadcast c) n e = e
-left_by (SetPrio u p) n e = e
+left_by _ n e = e
 
 -- a call that leaves its mutex holds it once by the machine, and has given it up where it has its result
 leaving_ends : (q : Request) (n k : ℕ) → Counted q Leaving n k → (k ≡ 1) × Counted q (Has 131) n 0
@@ -342,23 +340,38 @@ IsHeld-Chooses {f} {counts} {w} {v} {t} {q} h k e = by_case e
     by_case (no_one c s none e) = rw e (has_result (Signal c) s (λ n i x. x))
     by_case (all c us s blocked among e) = rw e (IsHeld-all_unblocked us (has_result (Broadcast c) s (λ n i x. x)))
 
--- a base priority changes neither calls nor owners
-IsHeld-with_base : {f : ℕ → Option Request} {counts : ℕ → ℕ → ℕ} {w : World} → IsHeld f counts w → (u p : ℕ)
-    → IsHeld f counts (with_base u p w)
-IsHeld-with_base {w = w} h u p =
+-- a thread that keeps its life and its call changes nothing, whatever its base priority and its timer are then
+IsHeld-with_thread : {f : ℕ → Option Request} {counts : ℕ → ℕ → ℕ} {w : World} → IsHeld f counts w → (u : ℕ)
+    (x : Thread) → x.living ≡ is_living w u → x.call ≡ call_of w u → IsHeld f counts (with_thread u x w)
+IsHeld-with_thread {w = w} h u x life call =
     IsHeld-stays h (IsOrderly-with_thread w u x h.orderly (lives 0)) (λ m y. y)
     (λ t. record {
-      call = kept_at (λ (y : Thread). y.call) w.threads u x nobody refl t;
+      call = kept_at (λ (y : Thread). y.call) w.threads u x nobody call t;
       living = λ e. sym (lives t) ∙ e;
       held = λ m. ap (λ l. times_held l t (mutex_at w m)) (lives t);
       fewer = λ m y. y;
     })
   where
-    x : Thread
-    x = record (thread_at w u) { base = p }
+    lives : (t : ℕ) → is_living (with_thread u x w) t ≡ is_living w t
+    lives = living-with_thread w u x life
 
-    lives : (t : ℕ) → is_living (with_base u p w) t ≡ is_living w t
-    lives = living-with_thread w u x refl
+-- nor do other waiters, of which none is new
+IsHeld-waiters : {f : ℕ → Option Request} {counts : ℕ → ℕ → ℕ} {w : World} → IsHeld f counts w → (ws : List (ℕ × ℕ))
+    → ((t m : ℕ) → is_among ws t m ≡ true → is_among w.waiters t m ≡ true) → IsHeld f counts (record w { waiters = ws })
+IsHeld-waiters {w = w} h ws fewer = IsHeld-stays h (IsOrderly-waiters w ws h.orderly) (λ m y. y)
+    (λ t. record { call = refl; living = λ e. e; held = λ m. refl; fewer = λ m y. fewer t m y })
+
+-- nor does the time
+IsHeld-time : {f : ℕ → Option Request} {counts : ℕ → ℕ → ℕ} {w : World} → IsHeld f counts w → (n : ℕ)
+    → IsHeld f counts (record w { time = n })
+IsHeld-time h n = IsHeld-stays h
+    (record {
+      room = h.orderly.room;
+      nobody = h.orderly.nobody;
+      no_mutex = h.orderly.no_mutex;
+      owners = h.orderly.owners;
+    })
+    (λ m y. y) (λ t. record { call = refl; living = λ e. e; held = λ m. refl; fewer = λ m y. y })
 
 -- a change of a base priority
 IsHeld-SetsPriority : {f : ℕ → Option Request} {counts : ℕ → ℕ → ℕ} {w v : World} → IsHeld f counts w → {t u p : ℕ}
@@ -366,7 +379,8 @@ IsHeld-SetsPriority : {f : ℕ → Option Request} {counts : ℕ → ℕ → ℕ
 IsHeld-SetsPriority h k (no_priority bad e) = rw e (IsHeld-fails h k 22 refl)
 IsHeld-SetsPriority h k (not_living good gone e) = rw e (IsHeld-fails h k 3 refl)
 IsHeld-SetsPriority {w = w} h {t} {u} {p} k (changed good lives e) =
-    rw e (IsHeld-progresses (IsHeld-with_base h u p) still (Has 0) (λ n i j. j))
+    rw e (IsHeld-progresses (IsHeld-with_thread h u (record (thread_at w u) { base = p }) refl refl) still (Has 0)
+    (λ n i j. j))
   where
     still : IsActing (with_base u p w) t (SetPrio u p) Fresh
     still = record {
@@ -425,6 +439,61 @@ IsHeld-Effects h (effect_owed b c m blocked before e more) =
     IsHeld-Effects (IsHeld-Locks h (acting h b (Wait c m) Owing before (λ k. absurd (cc))) ((h.each b).named _ before)
     (wait_may_lock c m) refl e) more
 
+-- DEADLINES
+
+-- a lock whose deadline counts holds its mutex as often by the answers as by the machine
+due_counted : (m : ℕ) (p : Progress) → counts_now (Lock m) p ≡ true → (n i : ℕ) → Counted (Lock m) p n i → n ≡ i
+due_counted m Waiting e n i c = c
+due_counted m Stuck e n i c = c
+due_counted m _ e n i c = absurd (true≢false (sym e))
+
+-- a wait whose deadline counts is blocked
+due_blocked : (c m : ℕ) (p : Progress) → counts_now (Wait c m) p ≡ true → p ≡ Blocked true
+due_blocked c m (Blocked b) e = ap Blocked e
+due_blocked c m _ e = absurd (true≢false (sym e))
+
+-- the deadline of a call that is due counts
+pub due_counts : (w : World) (t : ℕ) (q : Request) (p : Progress)
+    → (thread_at w t).call ≡ Some (record { request = q; progress = p }) → is_due w t ≡ true → counts_now q p ≡ true
+due_counts w t q p before due = go (is_reached (thread_at w t).timer.deadline w.time) due
+  where
+    go : (a : Bool) → (if a then is_counting (thread_at w t).call else false) ≡ true → counts_now q p ≡ true
+    go true e = sym (ap is_counting before) ∙ e
+    go false e = absurd (true≢false (sym e))
+
+-- an expiry
+IsHeld-Expires : {f : ℕ → Option Request} {counts : ℕ → ℕ → ℕ} {t : ℕ} {w v : World} → IsHeld f counts w
+    → is_due w t ≡ true → Expires t w v → IsHeld f counts v
+IsHeld-Expires {t = t} {w = w} h due (lock_expires m p before e) =
+    rw e (IsHeld-progresses (IsHeld-waiters h (without w.waiters t) (λ u i k. (is_among-without w.waiters t u i k).0))
+    (record { call = before; alone = λ i k. (is_among-without w.waiters t t i k).1 refl }) (Has 110)
+    (λ n i c. error_changes_nothing (Lock m) 110 refl n ∙ due_counted m p (due_counts w t (Lock m) p before due) n i c))
+IsHeld-Expires {f = f} {counts = counts} {t = t} {w = w} h due (wait_expires c m p before e) =
+    rw e (IsHeld-progresses late (acting late t (Wait c m) (Blocked true) (kept ∙ before ∙ shown) (λ k. absurd (cc)))
+    Owing (λ n i j. j))
+  where
+    x : Thread
+    x = record (thread_at w t) { timer = ran_out (thread_at w t).timer }
+
+    late : IsHeld f counts (with_thread t x w)
+    late = IsHeld-with_thread h t x refl refl
+
+    kept : call_of (with_thread t x w) t ≡ call_of w t
+    kept = kept_at (λ (y : Thread). y.call) w.threads t x nobody refl t
+
+    blocked : p ≡ Blocked true
+    blocked = due_blocked c m p (due_counts w t (Wait c m) p before due)
+
+    shown : ◌≡◌ {A = Option Call} (Some (record { request = Wait c m; progress = p }))
+        (Some (record { request = Wait c m; progress = Blocked true }))
+    shown = ap (λ y. Some (record { request = Wait c m; progress = y })) blocked
+
+-- what an open call does at a Go
+IsHeld-Moves : {f : ℕ → Option Request} {counts : ℕ → ℕ → ℕ} {t : ℕ} {w v : World} → IsHeld f counts w → Moves t w v
+    → IsHeld f counts v
+IsHeld-Moves h (expires due e) = IsHeld-Expires h due e
+IsHeld-Moves h (acts due e) = IsHeld-Effects h e
+
 -- ENTRIES
 
 -- the invariant over a history
@@ -433,13 +502,13 @@ IsHeldBy h w = IsHeld (λ t. open_call t h) (λ t m. hold_count t m h) w
 
 -- t's call is c from now on, which the history opens or closes: the others stay, and t lives and holds as it did
 IsHeld-calls : {f later_f : ℕ → Option Request} {counts later_counts : ℕ → ℕ → ℕ} {w : World} → IsHeld f counts w
-    → (t : ℕ) (c : Option Call) (y : Memory)
-    → let v : World = with_thread t (record (thread_at w t) { call = c; memory = y }) w in
+    → (t : ℕ) (c : Option Call) (i : Timer) (y : Memory)
+    → let v : World = with_thread t (record (thread_at w t) { call = c; timer = i; memory = y }) w in
     ((x : ℕ) → x ≢ t → (later_f x ≡ f x) × ((m : ℕ) → later_counts x m ≡ counts x m))
     → (is_living v t ≡ is_living w t → ((m : ℕ) → (view_of v t).held m ≡ (view_of w t).held m)
     → Holding (later_f t) (later_counts t) (is_mutex w) (view_of v t))
     → IsHeld later_f later_counts v
-IsHeld-calls {w = w} h t c y others mine =
+IsHeld-calls {w = w} h t c i y others mine =
     IsHeld-but t h (IsOrderly-with_thread w t x h.orderly (lives 0)) (λ m y. y)
     (λ u d. (
       (others u d).0,
@@ -454,7 +523,7 @@ IsHeld-calls {w = w} h t c y others mine =
     (mine (lives t) (held t))
   where
     x : Thread
-    x = record (thread_at w t) { call = c; memory = y }
+    x = record (thread_at w t) { call = c; timer = i; memory = y }
 
     lives : (u : ℕ) → is_living (with_thread t x w) u ≡ is_living w u
     lives = living-with_thread w t x refl
@@ -466,7 +535,7 @@ IsHeld-calls {w = w} h t c y others mine =
 IsHeld-begins : (h : List Entry) (w : World) (t : ℕ) (q : Request) → IsHeldBy h w → refusal_of w (Begin t q) ≡ None
     → IsHeldBy (Happened (Begin t q) Begun ∷ h) (with_thread t (begun_thread w q (thread_at w t)) w)
 IsHeld-begins h w t q held allowed =
-    IsHeld-calls held t (Some c) (begun_memory w q (thread_at w t).memory)
+    IsHeld-calls held t (Some c) (timer_of q) (begun_memory w (plain q) (thread_at w t).memory)
     (λ x d. (rw (ne_eqb t x (λ e. d (sym e))) refl, λ m. refl))
     (λ lives same. Holding-begins (held.each t) (rw (eq-eqb t t refl) refl) (record {
       before = let_in.2;
@@ -480,9 +549,10 @@ IsHeld-begins h w t q held allowed =
     }))
   where
     c : Call
-    c = record { request = q; progress = Fresh }
+    c = record { request = plain q; progress = Fresh }
 
-    names_only : (r : Request) → names_known (is_mutex w) (is_variable w) r ≡ true → names_mutex (is_mutex w) r ≡ true
+    names_only : (r : Request) → names_known (is_mutex w) (is_variable w) r ≡ true
+        → names_mutex (is_mutex w) (plain r) ≡ true
     names_only (Lock m) e = e
     names_only (TryLock m) e = e
     names_only (Unlock m) e = e
@@ -491,19 +561,21 @@ IsHeld-begins h w t q held allowed =
     names_only (Signal i) e = refl
     names_only (Broadcast i) e = refl
     names_only (SetPrio u p) e = refl
+    names_only (TimedLock m d) e = e
+    names_only (TimedWait i m d) e = second (is_variable w i) (is_mutex w m) e
 
     let_in : (is_thread w t ≡ true) × (is_living w t ≡ true) × (call_of w t ≡ None)
         × (names_known (is_mutex w) (is_variable w) q ≡ true)
     let_in = begin_allowed w t q allowed
 
--- a call is answered
-IsHeld-answers : (h : List Entry) (w : World) (t a : ℕ) (q : Request) → IsHeldBy h w
+-- a call is answered, as it is told
+IsHeld-answers : (h : List Entry) (w : World) (t a : ℕ) (x : Bool) (q : Request) → IsHeldBy h w
     → call_of w t ≡ Some (record { request = q; progress = Has a })
-    → IsHeldBy (Happened (Go t) (Answered a) ∷ h) (with_thread t (record (thread_at w t) { call = None }) w)
-IsHeld-answers h w t a q held before =
-    IsHeld-calls held t None (thread_at w t).memory
+    → IsHeldBy (Happened (Go t) (Answered (told q x a)) ∷ h) (with_thread t (record (thread_at w t) { call = None }) w)
+IsHeld-answers h w t a x q held before =
+    IsHeld-calls held t None (thread_at w t).timer (thread_at w t).memory
     (λ x d. (rw (ne_eqb t x (λ e. d (sym e))) refl, λ m. rw (ne_eqb t x (λ e. d (sym e))) refl))
-    (λ lives same. Holding-answers {q = q} {a = a} (held.each t) (rw (eq-eqb t t refl) refl)
+    (λ lives same. Holding-answers {q = q} {a = a} x (held.each t) (rw (eq-eqb t t refl) refl)
     (λ m. rw (eq-eqb t t refl) refl)
     (record {
       before = before;
@@ -646,6 +718,7 @@ IsHeld-refused : (h : List Entry) (w : World) (x : Event) (r : Refusal) → IsHe
 IsHeld-refused h w (Begin t q) r held = held
 IsHeld-refused h w (Go t) r held = held
 IsHeld-refused h w (End t) r held = held
+IsHeld-refused h w (Tick n) r held = held
 
 -- one entry keeps the invariant
 IsHeld-Step : (l : Bounds) (h : List Entry) (w : World) (e : Entry) (v : World) → IsHeldBy h w → Step l w e v
@@ -657,12 +730,13 @@ IsHeld-Step l h w e v held (cond_added c m same known is_next room after) =
     rw (same, after) (IsHeld-variables held _)
 IsHeld-Step l h w e v held (refused x r same why after) = rw (same, after) (IsHeld-refused h w x r held)
 IsHeld-Step l h w e v held (begun t q same allowed after) = rw (same, after) (IsHeld-begins h w t q held allowed)
-IsHeld-Step l h w e v held (went t same goes runs) = rw same (IsHeld-Effects held goes.effects)
+IsHeld-Step l h w e v held (went t same goes runs) = rw same (IsHeld-Moves held goes.moves)
 IsHeld-Step l h w e v held (waits t u same goes after resting) =
-    rw (same, after) (IsHeld-recalled (IsHeld-Effects held goes.effects) t noted refl eases_noted)
+    rw (same, after) (IsHeld-recalled (IsHeld-Moves held goes.moves) t noted refl eases_noted)
 IsHeld-Step l h w e v held (answered t a q u same goes before after runs) =
-    rw (same, after) (IsHeld-answers h u t a q (IsHeld-Effects held goes.effects) before)
+    rw (same, after) (IsHeld-answers h u t a (thread_at w t).timer.expired q (IsHeld-Moves held goes.moves) before)
 IsHeld-Step l h w e v held (ended t same ends) = rw same (IsHeld-ends h w v t held ends)
+IsHeld-Step l h w e v held (ticked n same allowed after) = rw (same, after) (IsHeld-time held n)
 
 -- RUNS
 

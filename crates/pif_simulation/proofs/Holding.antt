@@ -19,15 +19,17 @@
 -- * A new effect: its line in `Holders`, by the lemma in `AllHolding` for what it does. All of those ask one thing of
 --   the hold count: how `Counted` at the call's progress before gives `Counted` after.
 -- * A new entry: its line in `IsHeld-Step`; one that closes calls or resets hold counts goes by `IsHeld-but`.
-use Rattle.std.proofs.Common.{◌≡◌, ◌≢◌, ◌⊎◌, ◌<◌, ℕ, Bool, true, false, nat_lt, Option, Some, None, refl, sym, ap, ◌∙◌, subst, subst₂, inl, inr, arith}
+use Rattle.std.proofs.Common.{◌≡◌, ◌≢◌, ◌⊎◌, ◌<◌, ℕ, Bool, true, false, nat_lt, Option, Some, None, refl, sym, ap, ◌∙◌, subst, subst₂, inl, inr, arith, eqb-true, if◌then◌else◌, ◌==◌}
 use Rattle.std.proofs.lemmas.Bool.{ne_eqb, eq-eqb, cases_eq, true≢false}
 use Rattle.std.proofs.lemmas.Bool.Decides.{nat_tests}
 use Rattle.pif_types.specs.declared.requests.Request.{Request}
-use Rattle.pif_types.specs.declared.requests.Request.TheVariants.{Lock, TryLock, Unlock, Consistent, Wait, Signal, Broadcast, SetPrio}
-use Rattle.pif_model.specs.History.{hold_count_after_answer, unlocking, waiting_with}
+use Rattle.pif_types.specs.declared.requests.Request.TheVariants.{Lock, TryLock, Unlock, Consistent, Wait, Signal, Broadcast, SetPrio, TimedLock, TimedWait}
+use Rattle.pif_model.specs.History.{hold_count_after_answer, unlocking, waiting_with, hold_count_waited}
 use Rattle.pif_model.specs.Posix.{Progress, Call, named_by, names_known}
 use Rattle.pif_model.specs.Posix.Progress.{Fresh, Waiting, Stuck, Leaving, Has, Checked, Enlisted, Blocked, Owing, Used}
 use Rattle.pif_model.specs.Standing.{waited_in}
+use Rattle.pif_model.specs.Deadlines.{told}
+use Rattle.pif_chains.proofs.Waiting.{by_test}
 
 -- what a state of the POSIX machine has of one thread
 pub record View : Type 0 where
@@ -92,7 +94,7 @@ pub record Holding (f : Option Request) (counts : ℕ → ℕ) (known : ℕ → 
 -- CALLS
 
 -- one call is open at a time
-same_call : {o : Option Call} {c d : Call} → o ≡ Some c → o ≡ Some d → c ≡ d
+pub same_call : {o : Option Call} {c d : Call} → o ≡ Some c → o ≡ Some d → c ≡ d
 same_call e k = cc
 
 -- it is of this request
@@ -116,29 +118,31 @@ names_kept known more h (Wait c m) e = h m e
 names_kept known more h (Signal c) e = refl
 names_kept known more h (Broadcast c) e = refl
 names_kept known more h (SetPrio u p) e = refl
+names_kept known more h (TimedLock m d) e = h m e
+names_kept known more h (TimedWait c m d) e = h m e
 
 -- an answer changes the hold count of no other mutex
 elsewhere_answered : (m : ℕ) (q : Request) (a n : ℕ) → named_by q ≢ m → hold_count_after_answer m (Some q) a n ≡ n
 elsewhere_answered m (Lock k) a n d = rw (ne_eqb k m d) refl
 elsewhere_answered m (TryLock k) a n d = rw (ne_eqb k m d) refl
 elsewhere_answered m (Unlock k) a n d = rw (ne_eqb k m d) refl
-elsewhere_answered m (Consistent k) a n d = refl
 elsewhere_answered m (Wait c k) a n d = rw (ne_eqb k m d) refl
-elsewhere_answered m (Signal c) a n d = refl
-elsewhere_answered m (Broadcast c) a n d = refl
-elsewhere_answered m (SetPrio u p) a n d = refl
+elsewhere_answered m _ a n d = refl
+
+-- ETIMEDOUT in place of 0 changes a hold count as 0 does, where a wait is told it
+told_counted : (m : ℕ) (q : Request) (x : Bool) (a n : ℕ)
+    → hold_count_after_answer m (Some q) (told q x a) n ≡ hold_count_after_answer m (Some q) a n
+told_counted m (Wait c k) true a n = ap (λ i. if k == m then i else n) (by_test
+    (λ b. hold_count_waited (if b then 110 else a) n ≡ hold_count_waited a n) (a == 0)
+    (λ e. sym (ap (λ i. hold_count_waited i n) (eqb-true a 0 e))) (λ e. refl))
+told_counted m (Wait c k) false a n = refl
+told_counted m _ x a n = refl
 
 -- who waits for a mutex holds it by the machine, if by the answers and not in a wait
 apart_held : (q : Request) (n k : ℕ) → Apart q n k → waiting_with (named_by q) (Some q) ≡ false
     → unlocking (named_by q) (Some q) < n → k ≢ 0
-apart_held (Lock m) n k h w l = λ e. omega arith
-apart_held (TryLock m) n k h w l = λ e. omega arith
-apart_held (Unlock m) n k h w l = λ e. omega arith
-apart_held (Consistent m) n k h w l = λ e. omega arith
 apart_held (Wait c m) n k h w l = absurd (true≢false (sym (eq-eqb m m refl) ∙ w))
-apart_held (Signal c) n k h w l = λ e. omega arith
-apart_held (Broadcast c) n k h w l = λ e. omega arith
-apart_held (SetPrio u p) n k h w l = λ e. omega arith
+apart_held _ n k h w l = λ e. omega arith
 
 -- only an unlock takes a hold away: who holds a mutex by the answers, less 1 while its unlock is open, holds it by the
 -- machine
@@ -152,6 +156,8 @@ unlocked_once (Wait c m) (Has a) n k h w l = absurd (true≢false (sym (eq-eqb m
 unlocked_once (Signal c) (Has a) n k h w l = λ e. grind (arith, nat_tests)
 unlocked_once (Broadcast c) (Has a) n k h w l = λ e. grind (arith, nat_tests)
 unlocked_once (SetPrio u p) (Has a) n k h w l = λ e. grind (arith, nat_tests)
+unlocked_once (TimedLock m d) (Has a) n k h w l = λ e. grind (arith, nat_tests)
+unlocked_once (TimedWait c m d) (Has a) n k h w l = λ e. grind (arith, nat_tests)
 unlocked_once q Leaving n k h w l = λ e. omega arith
 unlocked_once q Checked n k h w l = λ e. omega arith
 unlocked_once q (Enlisted still) n k h w l = λ e. omega arith
@@ -315,7 +321,7 @@ Holding-begins {counts = counts} {known = known} {x = x} {y = y} {q = q} {p = p}
     as_before : (m : ℕ) → counts m ≡ y.held m
     as_before m = h.elsewhere m (λ c e. let none = s.before in absurd (cc)) ∙ sym (s.held m)
 
--- a call is answered
+-- a call is answered, as it is told
 pub record Answers (q : Request) (a : ℕ) (x y : View) : Type 0 where
   pub before : x.call ≡ Some (record { request = q; progress = Has a })
   pub after : y.call ≡ None
@@ -323,10 +329,10 @@ pub record Answers (q : Request) (a : ℕ) (x y : View) : Type 0 where
   pub fewer : (m : ℕ) → y.among m ≡ true → x.among m ≡ true
 
 pub Holding-answers : {f later_f : Option Request} {counts later_counts : ℕ → ℕ} {known : ℕ → Bool} {x y : View}
-    {q : Request} {a : ℕ} → Holding f counts known x → later_f ≡ None
-    → ((m : ℕ) → later_counts m ≡ hold_count_after_answer m f a (counts m)) → Answers q a x y
+    {q : Request} {a : ℕ} (expired : Bool) → Holding f counts known x → later_f ≡ None
+    → ((m : ℕ) → later_counts m ≡ hold_count_after_answer m f (told q expired a) (counts m)) → Answers q a x y
     → Holding later_f later_counts known y
-Holding-answers {counts = counts} {x = x} {y = y} {q = q} {a = a} h closed counted s =
+Holding-answers {counts = counts} {x = x} {y = y} {q = q} {a = a} expired h closed counted s =
     record {
       idle = λ e. s.after;
       request = closed ∙ sym (ap request_of s.after);
@@ -336,7 +342,8 @@ Holding-answers {counts = counts} {x = x} {y = y} {q = q} {a = a} h closed count
       own = λ c e. let none = s.after in absurd (cc);
       elsewhere = λ m apart.
           counted m
-          ∙ ap (λ g. hold_count_after_answer m g a (counts m)) (h.request ∙ ap request_of s.before)
+          ∙ ap (λ g. hold_count_after_answer m g (told q expired a) (counts m)) (h.request ∙ ap request_of s.before)
+          ∙ told_counted m q expired a (counts m)
           ∙ by_mutex m (cases_eq (named_by q) m);
     }
   where

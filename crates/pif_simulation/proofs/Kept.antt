@@ -3,7 +3,7 @@ use Rattle.std.proofs.Common.{◌≡◌, ◌≢◌, ◌⊎◌, inl, inr, ℕ, �
 use Rattle.std.proofs.lemmas.Bool.{cases_eq}
 use Rattle.pif_types.specs.declared.requests.Kind.{Kind}
 use Rattle.pif_types.specs.declared.requests.Request.{Request}
-use Rattle.pif_types.specs.declared.requests.Request.TheVariants.{Lock, TryLock, Unlock, Consistent, Wait, Signal, Broadcast, SetPrio}
+use Rattle.pif_types.specs.declared.requests.Request.TheVariants.{Lock, TryLock, Unlock, Consistent, Wait, Signal, Broadcast, SetPrio, TimedLock, TimedWait}
 use Rattle.pif_model.specs.declared.lines.Line.{Line}
 use Rattle.pif_model.specs.declared.lines.Line.TheVariants.{Idle, At}
 use Rattle.pif_model.specs.declared.lines.Place.{Place}
@@ -215,6 +215,8 @@ module _ (s v : Table) (u : ℕ) (status : status_at v u ≡ status_at s u) (use
         (unnamed_needs (is_living s.kernel) (is_living v.kernel) u t n (status_at s u) (cell_at s 0)
         (cell_at v 0) (use_at s (SetPrio t n)) (use_at v (SetPrio t n)) p h.belongs h.needs);
   }
+  call_spared (TimedLock m d) p h = absurd (true≢false (sym h.belongs))
+  call_spared (TimedWait c m d) p h = absurd (true≢false (sym h.belongs))
 
   -- what a line knows outlives what others change
   pub line_spared : (l : Line) → LineIsSound s u l → LineIsSound v u l

@@ -2,6 +2,7 @@ pub mod Shown
 pub mod Kept
 pub mod Hole
 pub mod Agreement
+pub mod Due
 pub mod Steps
 pub mod Written
 pub mod Owning
@@ -20,6 +21,7 @@ pub mod UnlockLines
 pub mod Called
 pub mod LockCalls
 pub mod Lined
+pub mod Timers
 pub mod SetPriorityLine
 pub mod Begun
 pub mod Additions
@@ -40,6 +42,8 @@ pub mod Taking
 pub mod Takings
 pub mod Choosing
 pub mod Requeueing
+pub mod Expired
+pub mod Expiring
 pub mod Simulation
 pub mod StandingLaws
 pub mod Healths
@@ -49,6 +53,8 @@ pub mod Effective
 pub mod Holding
 pub mod AllHolding
 pub mod Holders
+pub mod Timing
+pub mod Fated
 pub mod Priority
 pub mod Picks
 pub mod Bound

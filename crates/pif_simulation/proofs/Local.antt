@@ -4,10 +4,8 @@ use Rattle.std.proofs.Common.{◌≡◌, ◌≢◌, ℕ, ◌<◌, Bool, true, fa
 use Rattle.std.proofs.lemmas.Bool.{cases_eq}
 use Rattle.pif_types.specs.Bounds.{Bounds}
 use Rattle.pif_types.specs.declared.requests.Request.{Request}
-use Rattle.pif_model.specs.declared.events.Event.TheVariants.{Go}
 use Rattle.pif_model.specs.declared.events.Seen.{Seen}
-use Rattle.pif_model.specs.declared.events.Seen.TheVariants.{Begun, Went, Waits, Answered, Ended as SeenEnded, Refused}
-use Rattle.pif_model.specs.declared.events.Entry.TheVariants.{Step as Happened}
+use Rattle.pif_model.specs.declared.events.Seen.TheVariants.{Begun, Went, Waits, Answered, Ended as SeenEnded, Ticked, Refused}
 use Rattle.pif_model.specs.declared.lines.Line.{Line}
 use Rattle.pif_model.specs.declared.lines.Line.TheVariants.{Idle, At}
 use Rattle.pif_model.specs.declared.lines.Place.{Place}
@@ -31,7 +29,7 @@ use Rattle.pif_simulation.proofs.Written.{written, cell_written, mutex_of, no_ca
 use Rattle.pif_simulation.proofs.Agreement.{Frames, Follows, WasBlockedIn}
 use Rattle.pif_chains.proofs.Statuses.{ready-unparked}
 use Rattle.pif_simulation.proofs.Does.{Does, does_seen}
-use Rattle.pif_simulation.proofs.Steps.{Keeps, Going, progress_of, going_named as going_known, going_called, going_below, going_lined, goes_with, answers_with}
+use Rattle.pif_simulation.proofs.Steps.{KeepsGo, Going, progress_of, going_named as going_known, going_called, going_below, going_lined, goes_with, answers_with}
 
 -- WHAT A LINE DOES
 
@@ -69,6 +67,7 @@ Shows s t m h q a (Answered n) l = (a ≡ Has n) × (l ≡ Idle)
 Shows s t m h q a Begun l = ⊥
 Shows s t m h q a Waits l = ⊥
 Shows s t m h q a SeenEnded l = ⊥
+Shows s t m h q a Ticked l = ⊥
 Shows s t m h q a (Refused r) l = ⊥
 
 -- what is on the robust list of t after a line that goes to l and leaves m as the cell c: pending field and half-linked
@@ -361,6 +360,7 @@ module _ {s : Table} {t : ℕ} {q : Request} {p : Place} (g : Going s t q p)
         by_seen Begun e = absurd e
         by_seen Waits e = absurd e
         by_seen SeenEnded e = absurd e
+        by_seen Ticked e = absurd e
         by_seen (Refused r) e = absurd e
 
     -- who was found blocked stays so
@@ -372,7 +372,7 @@ module _ {s : Table} {t : ℕ} {q : Request} {p : Place} (g : Going s t q p)
     -- the move is an entry of the POSIX machine, by its answer
     by_answer : (seen : Seen) → Shows s t m (health_of o.health o.word.died) q a seen o.line
         → ((y : Shadow) → Effects t (world_of s y) (world_of s y) (with_progress t a (left y)))
-        → Keeps s (Happened (Go t) seen) v
+        → KeepsGo s t seen v
     by_answer Went e effects = goes_with g v move_sound refl g.known l.ready frames
         (λ y. subst (Effects t (world_of s y) (world_of s y))
         (sym (shown y (progressed a (thread_at (left y) t).call)
@@ -386,16 +386,17 @@ module _ {s : Table} {t : ℕ} {q : Request} {p : Place} (g : Going s t q p)
     by_answer Begun e effects = absurd e
     by_answer Waits e effects = absurd e
     by_answer SeenEnded e effects = absurd e
+    by_answer Ticked e effects = absurd e
     by_answer (Refused r) e effects = absurd e
 
     -- a local move with such effects is an entry of the POSIX machine, and keeps the invariant
     pub local_by : ((y : Shadow) → Effects t (world_of s y) (world_of s y) (with_progress t a (left y)))
-        → Keeps s (Happened (Go t) o.seen) v
+        → KeepsGo s t o.seen v
     local_by effects = by_answer o.seen l.shows effects
 
     -- and so is one with effects on the call and its mutex alone
     pub local_kept : Does t m (has_waiter s.kernel.waiters m) q (progress_of s t q p)
         (mutex_of (cell_at s m)) a (mutex_of (cell_left m o s))
-        → Keeps s (Happened (Go t) o.seen) v
+        → KeepsGo s t o.seen v
     local_kept does = local_by (λ y. does_seen (world_of s y) t m (going_called g y) (world_of s y)
         (mutex_seen g.sound.all.shape y m) does)

@@ -3,10 +3,8 @@
 use Rattle.std.proofs.Common.{◌≡◌, ◌≢◌, ℕ, Bool, true, false, ◌==◌, length, set, inl, refl, true≢false, sym, ap, ap₂, ◌∙◌, subst, arith, if◌then◌else◌, eq-eqb, ne_eqb}
 use Rattle.std.proofs.lemmas.List.{set-get_or}
 use Rattle.pif_types.specs.declared.requests.Request.{Request}
-use Rattle.pif_model.specs.declared.events.Event.TheVariants.{Go}
 use Rattle.pif_model.specs.declared.events.Seen.{Seen}
 use Rattle.pif_model.specs.declared.events.Seen.TheVariants.{Went, Answered}
-use Rattle.pif_model.specs.declared.events.Entry.TheVariants.{Step as Happened}
 use Rattle.pif_model.specs.declared.lines.Line.{Line}
 use Rattle.pif_model.specs.declared.lines.Line.TheVariants.{Idle, At}
 use Rattle.pif_model.specs.declared.lines.Place.{Place}
@@ -27,7 +25,7 @@ use Rattle.pif_simulation.proofs.Shown.{mutex_seen}
 use Rattle.pif_simulation.proofs.Written.{mutex_of, written_is, same_word, same_health, same_library, same_list}
 use Rattle.pif_simulation.proofs.Does.{Does}
 use Rattle.pif_simulation.proofs.Does.Does.{nothing}
-use Rattle.pif_simulation.proofs.Steps.{Keeps, GoKeeps, Going, progress_of}
+use Rattle.pif_simulation.proofs.Steps.{KeepsGo, GoKeeps, Going, progress_of}
 use Rattle.pif_simulation.proofs.Agreement.{Follows, quiet}
 use Rattle.pif_simulation.proofs.Local.{Move, moved, IsLocal, ListsAfter, NamesOnly, going_cell, going_list, going_settled, local_kept, local_by}
 
@@ -276,8 +274,8 @@ module _ {s : Table} {t : ℕ} {q : Request} {p : Place} (g : Going s t q p)
       → progress_of s t q b ≡ progress_of s t q p
       → MeetsAll (is_living s.kernel) t (status_at s t) (cell_at s m) (use_at s q) (needs b)
       → ListsAfter s t m (cell_at s m) (At q b) r
-      → Keeps s (Happened (Go t) Went) (record s { lists = with_robust t r s.lists; lines = set s.lines t (At q b) })
-  goes_listed b follows r ready ours same met lists = subst (Keeps s (Happened (Go t) Went)) (still_table Went (At q b) r)
+      → KeepsGo s t Went (record s { lists = with_robust t r s.lists; lines = set s.lines t (At q b) })
+  goes_listed b follows r ready ours same met lists = subst (KeepsGo s t Went) (still_table Went (At q b) r)
       (local_kept g named (progress_of s t q p) (still Went (At q b) r)
       (goes_is_local b follows r ready ours same met lists) (nothing refl refl))
 
@@ -287,7 +285,7 @@ module _ {s : Table} {t : ℕ} {q : Request} {p : Place} (g : Going s t q p)
       → MeetsAll (is_living s.kernel) t (status_at s t) (cell_at s m) (use_at s q) (needs b)
       → ((library_at s m).robust ≡ true → RowAfter s t m (cell_at s m) (At q b) (robust_at s.lists t))
       → GoKeeps s t (goes_to t q b s)
-  goes b follows ready ours same met row = subst (Keeps s (Happened (Go t) Went)) (still_line Went (At q b))
+  goes b follows ready ours same met row = subst (KeepsGo s t Went) (still_line Went (At q b))
       (local_kept g named (progress_of s t q p) (still Went (At q b) (robust_at s.lists t))
       (goes_is_local b follows (robust_at s.lists t) ready ours same met (lists_by refl refl (going_cell g named) row))
       (nothing refl refl))
@@ -314,9 +312,9 @@ module _ {s : Table} {t : ℕ} {q : Request} {p : Place} (g : Going s t q p)
       → Does t m (has_waiter s.kernel.waiters m) q (progress_of s t q p)
       (mutex_of (cell_at s m)) (Has n) (mutex_of (cell_at s m))
       → ListsAfter s t m (cell_at s m) Idle r
-      → Keeps s (Happened (Go t) (Answered n)) (record s
+      → KeepsGo s t (Answered n) (record s
       { lists = with_robust t r s.lists; lines = set s.lines t Idle })
-  answers_listed n r ready does lists = subst (Keeps s (Happened (Go t) (Answered n))) (still_table (Answered n) Idle r)
+  answers_listed n r ready does lists = subst (KeepsGo s t (Answered n)) (still_table (Answered n) Idle r)
       (local_kept g named (Has n) (still (Answered n) Idle r) (answer_is_local n r ready lists) does)
 
   -- and with the same one
@@ -325,7 +323,7 @@ module _ {s : Table} {t : ℕ} {q : Request} {p : Place} (g : Going s t q p)
       (mutex_of (cell_at s m)) (Has n) (mutex_of (cell_at s m))
       → ((library_at s m).robust ≡ true → RowAfter s t m (cell_at s m) Idle (robust_at s.lists t))
       → GoKeeps s t (answers t n s)
-  answers_local n ready does row = subst (Keeps s (Happened (Go t) (Answered n))) (still_line (Answered n) Idle)
+  answers_local n ready does row = subst (KeepsGo s t (Answered n)) (still_line (Answered n) Idle)
       (local_kept g named (Has n) (still (Answered n) Idle (robust_at s.lists t))
       (answer_is_local n (robust_at s.lists t) ready (lists_by tt refl (going_cell g named) row)) does)
 
@@ -340,7 +338,7 @@ module _ {s : Table} {t : ℕ} {q : Request} {p : Place} (g : Going s t q p)
       → ((y : Shadow) → Effect t (world_of s y) (with_progress t (Has n) (world_of s y)))
       → ((library_at s m).robust ≡ true → RowAfter s t m (cell_at s m) Idle (robust_at s.lists t))
       → GoKeeps s t (answers t n s)
-  answers_alone n ready effect row = subst (Keeps s (Happened (Go t) (Answered n))) (still_line (Answered n) Idle)
+  answers_alone n ready effect row = subst (KeepsGo s t (Answered n)) (still_line (Answered n) Idle)
       (local_by g named (Has n) (still (Answered n) Idle (robust_at s.lists t))
       (answer_is_local n (robust_at s.lists t) ready (lists_by tt refl (going_cell g named) row))
       (λ y. subst (λ x. Effects t (world_of s y) (world_of s y) (with_progress t (Has n) x)) (sym (mutex_stays y))
@@ -354,7 +352,7 @@ module _ {s : Table} {t : ℕ} {q : Request} {p : Place} (g : Going s t q p)
       → ((y : Shadow) → Effect t (world_of s y) (with_progress t a (world_of s y)))
       → ((library_at s m).robust ≡ true → RowAfter s t m (cell_at s m) (At q b) (robust_at s.lists t))
       → GoKeeps s t (goes_to t q b s)
-  goes_alone a b follows blocked ready ours has met effect row = subst (Keeps s (Happened (Go t) Went))
+  goes_alone a b follows blocked ready ours has met effect row = subst (KeepsGo s t Went)
       (still_line Went (At q b))
       (local_by g named a (still Went (At q b) (robust_at s.lists t))
       (record {

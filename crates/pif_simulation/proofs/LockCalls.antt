@@ -5,9 +5,7 @@ use Rattle.std.proofs.lemmas.List.{length-set, get_or-set_same, get_or-set_other
 use Rattle.pif_types.specs.declared.errors.Errno.{Errno}
 use Rattle.pif_types.specs.declared.errors.Errno.TheVariants.{NoSuchThread, Deadlock}
 use Rattle.pif_types.specs.declared.requests.Request.{Request}
-use Rattle.pif_model.specs.declared.events.Event.TheVariants.{Go}
 use Rattle.pif_model.specs.declared.events.Seen.TheVariants.{Waits}
-use Rattle.pif_model.specs.declared.events.Entry.TheVariants.{Step as Happened}
 use Rattle.pif_model.specs.declared.lines.Line.TheVariants.{At}
 use Rattle.pif_model.specs.declared.lines.Place.TheVariants.{LockKernel, LockQueued, LockStop, LockStopped, LockClear, TakeLoad}
 use Rattle.pif_model.specs.declared.lines.Status.TheVariants.{Queued, Parked, Stopped, Ended}
@@ -32,7 +30,7 @@ use Rattle.pif_chains.proofs.KernelKept.{stop_kept, queueing_kept}
 use Rattle.pif_chains.proofs.LineCases.{ends_by_cases}
 use Rattle.pif_simulation.proofs.Shown.{mutex_seen, living_seen}
 use Rattle.pif_simulation.proofs.Written.{written, written_is, same_word, same_health, same_list, same_library}
-use Rattle.pif_simulation.proofs.Steps.{Keeps, GoKeeps, Going, going_met, waits_with}
+use Rattle.pif_simulation.proofs.Steps.{KeepsGo, GoKeeps, Going, going_met, waits_with}
 use Rattle.pif_simulation.proofs.Agreement.{quiet}
 use Rattle.pif_simulation.proofs.Does.{MayQueue, locking}
 use Rattle.pif_simulation.proofs.Does.MayQueue.{in_lock, in_wait}
@@ -134,7 +132,7 @@ module _ (s : Table) (t : â„•) (q : Request) (named : has_mutex s (named_by q) â
   lock_stop_kept g =
       let c = stop_one g in
       let k = kernel_after_stop t s.kernel in
-      subst (Keeps s (Happened (Go t) Waits))
+      subst (KeepsGo s t Waits)
       (written_is t m (At q LockStopped) (robust_at s.lists t) (word_at s.words m) (health_word_at s.words m)
       (library_at s m).count k s (same_word s m) (same_health s m) (same_list s t) (same_library s m))
       (waits_with g (written t m (At q LockStopped) (robust_at s.lists t) (word_at s.words m)
@@ -352,7 +350,7 @@ module _ (s : Table) (t : â„•) (q : Request) (named : has_mutex s (named_by q) â
         let c = queue_one l e in
         let k = kernel_after_queueing t m (word_at s.words m).number s.kernel in
         let x = mark_word (word_at s.words m) in
-        subst (Keeps s (Happened (Go t) Waits))
+        subst (KeepsGo s t Waits)
         (written_is t m (At q LockQueued) (robust_at s.lists t) x (health_word_at s.words m)
         (library_at s m).count k s refl (same_health s m) (same_list s t) (same_library s m))
         (waits_with g (written t m (At q LockQueued) (robust_at s.lists t) x (health_word_at s.words m)

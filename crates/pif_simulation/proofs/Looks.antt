@@ -1,6 +1,6 @@
 -- What a sound table shows a person who looks at it: what each thread does, its open call, who owns a mutex, who waits
 -- for it in which order, who is parked on a variable, and who is ready.
-use Rattle.std.proofs.Common.{◌≡◌, ◌≢◌, ◌<◌, ◌≤◌, ◌⊎◌, ◌==◌, ◌||◌, ℕ, zero, suc, Bool, true, false, List, [], ◌∷◌, map, length, Some, None, option_map, refl, sym, ap, ◌∙◌, subst, inl, inr, eq-eqb, true≢false, if◌then◌else◌}
+use Rattle.std.proofs.Common.{◌≡◌, ◌≢◌, ◌<◌, ◌≤◌, ◌⊎◌, ◌==◌, ℕ, zero, suc, Bool, true, false, List, [], ◌∷◌, length, Some, None, option_map, refl, sym, ap, ◌∙◌, subst, inl, inr, eq-eqb, true≢false, if◌then◌else◌, Option}
 use Rattle.std.specs.List.{slice_get}
 use Rattle.std.proofs.lemmas.Bool.{or_cases, or_left, or_right, cases_eq, cases_lt}
 use Rattle.std.proofs.lemmas.List.Folds.{list_any-append}
@@ -15,18 +15,19 @@ use Rattle.pif_model.specs.declared.lines.Status.TheVariants.{Ready, Queued, Par
 use Rattle.pif_model.specs.Graph.{waiting_order}
 use Rattle.pif_model.specs.Word.{Word, word_at}
 use Rattle.pif_model.specs.PiKernel.{Seat, has_seat, has_ended, is_living, is_ready, is_among, parked_pairs, effective_in, level_at, levels_below, waiters_in, parked_in, ready_in}
-use Rattle.pif_model.specs.Table.{Table, Cell, cell_at, has_thread, has_mutex, uses_of, status_at, line_at}
+use Rattle.pif_model.specs.Table.{Table, Cell, cell_at, has_thread, has_mutex, uses_of, status_at, line_at, timer_at}
 use Rattle.pif_model.specs.Calls.{request_at, owner_by, open_call_answer, owner_answer}
 use Rattle.pif_model.specs.Posix.{Health, Call, Mutex, thread_at, variable_of, named_by, is_call_blocked, is_blocked_on, rests}
 use Rattle.pif_model.specs.Posix.{is_living as lives}
 use Rattle.pif_model.specs.Posix.Progress.{Stuck}
 use Rattle.pif_model.specs.Standing.{Shadow, Use, use_at, health_at, progress_at, call_at, world_of, needs, MeetsAll, LineIsSound, IsSound, IsDoing, call_of, owner_of, waiters_of}
+use Rattle.pif_model.specs.Deadlines.{timed}
 use Rattle.pif_chains.proofs.Numbers.{from_within}
 use Rattle.pif_chains.proofs.Waiting.{by_test, pairs}
 use Rattle.pif_chains.proofs.KernelFacts.{living-from_added, ready-not_ended, seat-unadded}
 use Rattle.pif_chains.proofs.Orders.{ordered-is_waiter}
 use Rattle.pif_simulation.proofs.Hole.{each_thread, each_absent}
-use Rattle.pif_simulation.proofs.Shown.{is_thread_seen, mutex_seen, call_seen, call_seen_of, living_seen}
+use Rattle.pif_simulation.proofs.Shown.{is_thread_seen, mutex_seen, timer_seen, call_seen, call_seen_of, living_seen}
 use Rattle.pif_simulation.proofs.Steps.{rests_ready}
 use Rattle.pif_simulation.proofs.Effective.{effective_seen}
 
@@ -135,20 +136,25 @@ module _ {s : Table} (h : IsSound s) (y : Shadow) where
   -- the open call is that of the thread's line
   pub open_seen : (t : ℕ) → open_call_answer t s ≡ call_of (world_of s y) t
   open_seen t = by_test
-      (λ b. has_thread s t ≡ b → (if b then request_at (line_at s t) else None) ≡ call_of (world_of s y) t)
+      (λ b. has_thread s t ≡ b → (if b then asked (request_at (line_at s t)) else None) ≡ call_of (world_of s y) t)
       (has_thread s t)
       (λ _ _. shown)
-      (λ e _. sym (ap request_at
+      (λ e _. sym (ap (λ l. asked (request_at l))
       (each_absent h t (λ i. if e i then (if has_ended (status_at s t) then false else true) else false)).line) ∙ shown)
       refl
     where
-      at_line : (l : Line) → request_at l
-          ≡ option_map (λ (c : Call). c.request) (call_at (health_at s) (uses_of s) l (status_at s t))
+      asked : Option Request → Option Request
+      asked o = option_map (timed (timer_at s t).deadline) o
+
+      at_line : (l : Line) → asked (request_at l)
+          ≡ option_map (λ (c : Call). timed (timer_at s t).deadline c.request)
+          (call_at (health_at s) (uses_of s) l (status_at s t))
       at_line Idle = refl
       at_line (At q p) = refl
 
-      shown : request_at (line_at s t) ≡ call_of (world_of s y) t
-      shown = at_line (line_at s t) ∙ sym (ap (option_map (λ (c : Call). c.request)) (call_seen_of h.all.shape y t))
+      shown : asked (request_at (line_at s t)) ≡ call_of (world_of s y) t
+      shown = at_line (line_at s t) ∙ sym (λ i. option_map
+          (λ (c : Call). timed (timer_seen h.all.shape y t i).deadline c.request) (call_seen_of h.all.shape y t i))
 
   -- WHO OWNS A MUTEX, AND WHO WAITS
 

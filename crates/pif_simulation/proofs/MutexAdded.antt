@@ -11,7 +11,7 @@ use Rattle.pif_model.specs.declared.lines.Line.{Line}
 use Rattle.pif_model.specs.declared.lines.Line.TheVariants.{Idle, At}
 use Rattle.pif_model.specs.declared.lines.Place.{Place}
 use Rattle.pif_types.specs.declared.requests.Request.{Request}
-use Rattle.pif_types.specs.declared.requests.Request.TheVariants.{Lock, TryLock, Unlock, Consistent, Wait, Signal, Broadcast, SetPrio}
+use Rattle.pif_types.specs.declared.requests.Request.TheVariants.{Lock, TryLock, Unlock, Consistent, Wait, Signal, Broadcast, SetPrio, TimedLock, TimedWait}
 use Rattle.pif_model.specs.Posix.{Mutex, no_mutex, named_by, names_known}
 use Rattle.pif_model.specs.Posix.Health.{Fine}
 use Rattle.pif_model.specs.Posix.Step.{mutex_added as mutex_rule}
@@ -119,6 +119,7 @@ module _ (s : Table) (kind : Kind) (r : Bool) (h : IsSound s) (free : has_mutex_
         limits = b.limits;
         within = b.within;
         lines = b.lines;
+        timers = b.timers;
         nobody = b.nobody;
         lists = b.lists;
         some_mutex = omega (arith, long);
@@ -152,6 +153,8 @@ module _ (s : Table) (kind : Kind) (r : Bool) (h : IsSound s) (free : has_mutex_
       named (Signal c) e f = absurd (less_not_same 0 k h.all.shape.some_mutex f)
       named (Broadcast c) e f = absurd (less_not_same 0 k h.all.shape.some_mutex f)
       named (SetPrio w p) e f = absurd (less_not_same 0 k h.all.shape.some_mutex f)
+      named (TimedLock j d) e f = absurd (less_not_same j k (below j k e) f)
+      named (TimedWait c j d) e f = absurd (less_not_same j k (below j k (second (has_cond s c) (has_mutex s j) e)) f)
 
   -- the kinds of the others stay
   robust_else : (j : ℕ) → j ≢ k → (library_at v j).robust ≡ (library_at s j).robust
@@ -233,7 +236,7 @@ module _ (s : Table) (kind : Kind) (r : Bool) (h : IsSound s) (free : has_mutex_
       (world_of s y) { mutexes = (world_of s y).mutexes ++ new_one ∷ [] }) refl (λ u i. refl)
       (mutexes_shown shape_more y ∙ length_push s.mutexes (new_mutex kind r)
       ∙ sym (length_push (world_of s y).mutexes new_one ∙ ap (λ j. j + 1) long))
-      (λ j. mutex_seen shape_more y j ∙ each j (cases_eq j k)) refl refl refl
+      (λ j. mutex_seen shape_more y j ∙ each j (cases_eq j k)) refl refl refl refl
     where
       long : length (world_of s y).mutexes ≡ k
       long = mutexes_shown h.all.shape y

@@ -23,6 +23,10 @@ use Rattle.pif_model.specs.PiKernel.{Parking, System, is_ready, is_parked, is_li
 use Rattle.pif_model.specs.Table.{Table, cell_at, has_thread, has_mutex, has_cond, bound_to, uses_of, status_at, line_at, with_line, with_kernel}
 use Rattle.pif_model.specs.Lines.{Outcome, answers, more_in, use_by, use_requeue}
 use Rattle.pif_model.specs.Standing.{Shadow, Agrees, CellIsSound, chooses_on, world_of, IsSound}
+use Rattle.pif_model.specs.declared.events.Event.TheVariants.{Go}
+use Rattle.pif_model.specs.declared.events.Seen.TheVariants.{Answered}
+use Rattle.pif_model.specs.declared.events.Entry.TheVariants.{Step as Happened}
+use Rattle.pif_model.specs.Posix.Moves.{acts}
 use Rattle.pif_chains.proofs.Numbers.{above_0, below, from_within}
 use Rattle.pif_chains.proofs.Waiting.{by_test}
 use Rattle.pif_chains.proofs.Statuses.{ready-unparked}
@@ -30,7 +34,7 @@ use Rattle.pif_chains.proofs.KernelTaken.{takings-none, takings-more, fits-from_
 use Rattle.pif_chains.proofs.KernelAllTaken.{parked-few, takings-all}
 use Rattle.pif_simulation.proofs.Shown.{call_progressed}
 use Rattle.pif_simulation.proofs.Agreement.{Frames, framed}
-use Rattle.pif_simulation.proofs.Steps.{GoKeeps, Going, rests_ready, going_met, going_allowed, going_called, going_below}
+use Rattle.pif_simulation.proofs.Steps.{GoKeeps, Going, rests_ready, going_met, going_allowed, going_called, going_below, going_undue, going_told}
 use Rattle.pif_simulation.proofs.UseLines.{use_known, use_goes, closed_sound, closed_frames, closed_shown}
 use Rattle.pif_simulation.proofs.Unblocking.{Owed, one_of, recalled-all_unblocked, owed_effects, owed_past}
 use Rattle.pif_simulation.proofs.Takings.{system_of, table_with, TakesAll, takes_none, takes_more, takings, takings-zero}
@@ -150,14 +154,14 @@ module _ (s : Table) (t : ℕ) (q : Request) (n : ℕ) (g : Going s t q (UseRequ
 
     -- these are woken
     pub wakes : GoKeeps s t (answers t 0 v)
-    wakes = record {
+    wakes undue = record {
       sound = last_sound;
       limits = refl;
       shows = λ y f. (
         y,
         framed last_frames y (a.agrees y f),
-        answered t 0 q (with_progress t (Has 0) (world_of v y)) refl
-            (record { allowed = going_allowed g y; effects = effects y f })
+        answered t 0 q (with_progress t (Has 0) (world_of v y)) (ap (λ i. Happened (Go t) (Answered i)) (going_told g y 0))
+            (record { allowed = going_allowed g y; moves = acts (going_undue g undue y) (effects y f) })
             (call_progressed (world_of v y) t (Has 0) _ (going_below going y) (going_called going y))
             (closed_shown v t q (UseRequeue n) going u refl ready_then 0 y)
             (rests_ready last_sound y t (a.living t ∙ g.known) ready_then),

@@ -16,7 +16,7 @@ use Rattle.pif_model.specs.Posix.Effects.{none, then as first}
 use Rattle.pif_model.specs.Posix.Progress.{Has}
 use Rattle.pif_model.specs.Posix.SetsPriority.{no_priority, not_living, changed}
 use Rattle.pif_model.specs.PiKernel.{Kernel, IsKernel, Seat, no_seat, seat_at, has_ended, is_ready, is_living, set_prio_answer, kernel_after_set_prio}
-use Rattle.pif_model.specs.Table.{Table, has_mutex, bound_to, uses_of, status_at, line_at, library_at, with_line, with_kernel}
+use Rattle.pif_model.specs.Table.{Table, has_mutex, bound_to, uses_of, status_at, line_at, library_at, with_line, with_kernel, timer_at}
 use Rattle.pif_model.specs.Lines.{Outcome, answers, answered_by, set_priority}
 use Rattle.pif_model.specs.Standing.{Shadow, memory_at, call_at, health_at, thread_shown, world_of, mutex_by, is_unsettled, ListIsSound, IsShaped, IsSound}
 use Rattle.pif_chains.proofs.Waiting.{by_test}
@@ -165,6 +165,7 @@ module _ (s : Table) (t u p : ℕ) (g : Going s t (SetPrio u p) SetPriority) whe
           base = (seat_at k t).base;
           living = living_same l t i;
           call = None;
+          timer = timer_at s t;
           memory = memory_at y t;
         })
         ∙ sym (get_or-set_same (with_base u p w).threads t r nobody (subst (λ j. t < j) (sym long) (going_below g y))
@@ -176,11 +177,12 @@ module _ (s : Table) (t u p : ℕ) (g : Going s t (SetPrio u p) SetPriority) whe
           living = living_same l j i;
           call = call_at (health_at (lined_same s t Idle g.sound g.known k i)) (uses_of s) (line_at s j)
               (status_same l j i);
+          timer = timer_at s j;
           memory = memory_at y j;
         })
         ∙ sym (get_or-set_other (with_base u p w).threads t j r nobody d ∙ rebased j f))
         (sym (mutex_seen g.sound.all.shape y 0))
-        (λ j d. sym (mutex_seen g.sound.all.shape y j)) refl refl
+        (λ j d. sym (mutex_seen g.sound.all.shape y j)) refl refl refl
       where
         t0' : t ≢ 0
         t0' = t0 s t Idle g.sound g.known

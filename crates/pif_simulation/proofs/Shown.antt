@@ -3,15 +3,16 @@ use Rattle.std.proofs.Common.{◌≡◌, ℕ, zero, suc, ◌<◌, ◌≤◌, Boo
 use Rattle.std.proofs.lemmas.Bool.{cases_lt}
 use Rattle.std.proofs.lemmas.List.{length-map, length_push, map-append, get_or_append_left, get_or_push, get_or_past, ext_get_or, get_or-set_same, set-set, set-get_or}
 use Rattle.pif_types.specs.declared.requests.Request.{Request}
-use Rattle.pif_types.specs.declared.requests.Request.TheVariants.{Lock, TryLock, Unlock, Consistent, Wait, Signal, Broadcast, SetPrio}
+use Rattle.pif_types.specs.declared.requests.Request.TheVariants.{Lock, TryLock, Unlock, Consistent, Wait, Signal, Broadcast, SetPrio, TimedLock, TimedWait}
 use Rattle.pif_model.specs.declared.events.Event.{Event}
-use Rattle.pif_model.specs.declared.events.Event.TheVariants.{Begin, Go, End}
+use Rattle.pif_model.specs.declared.events.Event.TheVariants.{Begin, Go, End, Tick}
 use Rattle.pif_model.specs.declared.lines.Line.{Line}
 use Rattle.pif_model.specs.declared.lines.Line.TheVariants.{Idle, At}
+use Rattle.pif_model.specs.Deadlines.{no_timer}
 use Rattle.pif_model.specs.Refusals.{begin_refused, go_refused, end_refused}
 use Rattle.pif_model.specs.Posix.{Progress, Call, Thread, World, nobody, no_mutex, no_variable, thread_at, mutex_at, variable_at, is_thread, is_mutex, is_variable, with_thread, with_progress, progressed, recalled, refusal_of, names_known, is_living as lives}
 use Rattle.pif_model.specs.PiKernel.{seat_at, is_living, has_ended}
-use Rattle.pif_model.specs.Table.{Table, has_thread, has_mutex, has_cond, uses_of, status_at, line_at}
+use Rattle.pif_model.specs.Table.{Table, has_thread, has_mutex, has_cond, uses_of, status_at, line_at, timer_at}
 use Rattle.pif_model.specs.Lines.{is_open, table_refusal}
 use Rattle.pif_model.specs.Standing.{Shadow, call_at, call_shown, health_at, thread_shown, mutex_shown, variable_shown, places, world_of, IsShaped}
 
@@ -47,23 +48,25 @@ by_places f n xs d e h = ext_get_or d (map f (places n)) xs (long ∙ sym e)
     long : length (map f (places n)) ≡ n
     long = length-map (places n) f ∙ length-places n
 
--- two worlds are one where they have the same threads and mutexes, place by place, and the same variables and waiters
+-- two worlds are one where they have the same threads and mutexes, place by place, and the same variables, waiters and
+-- time
 pub same_world : (v w : World) → length v.threads ≡ length w.threads
     → ((t : ℕ) → t < length v.threads → thread_at v t ≡ thread_at w t)
     → length v.mutexes ≡ length w.mutexes → ((m : ℕ) → mutex_at v m ≡ mutex_at w m) → v.variables ≡ w.variables
-    → v.waiters ≡ w.waiters → v.signals ≡ w.signals → v ≡ w
-same_world v w a threads b mutexes variables c d = λ i. record {
+    → v.waiters ≡ w.waiters → v.signals ≡ w.signals → v.time ≡ w.time → v ≡ w
+same_world v w a threads b mutexes variables c d e = λ i. record {
   threads = ext_get_or nobody v.threads w.threads a threads i;
   mutexes = ext_get_or no_mutex v.mutexes w.mutexes b (λ m k. mutexes m) i;
   variables = variables i;
   waiters = c i;
   signals = d i;
+  time = e i;
 }
 
 -- THREADS AND MUTEXES
 
 -- neither way
-either : (b : Bool) → (if b then false else false) ≡ false
+pub either : (b : Bool) → (if b then false else false) ≡ false
 either true = refl
 either false = refl
 
@@ -165,6 +168,11 @@ module _ {s : Table} (shape : IsShaped s) where
       → (thread_at (world_of s x) t).call ≡ call_at (health_at s) (uses_of s) l (status_at s t)
   call_seen x t l e = call_seen_of x t ∙ ap (λ k. call_at (health_at s) (uses_of s) k (status_at s t)) e
 
+  -- what the POSIX machine sees of its deadline is what the table has
+  pub timer_seen : (x : Shadow) (t : ℕ) → (thread_at (world_of s x) t).timer ≡ timer_at s t
+  timer_seen x t = part_seen (λ y. y.timer) x t
+      (λ l. sym (get_or_past s.timers t no_timer (subst (λ n. n ≤ t) (sym shape.timers) l)))
+
   -- REFUSALS
 
   -- both machines have t's call open, or neither
@@ -186,6 +194,8 @@ module _ {s : Table} (shape : IsShaped s) where
   named_seen x (Signal c) = is_variable_seen x c
   named_seen x (Broadcast c) = is_variable_seen x c
   named_seen x (SetPrio u p) = refl
+  named_seen x (TimedLock m d) = is_mutex_seen x m
+  named_seen x (TimedWait c m d) = λ i. if is_variable_seen x c i then is_mutex_seen x m i else false
 
   -- both machines refuse the same events
   pub refusal_seen : (x : Shadow) (e : Event) → refusal_of (world_of s x) e ≡ table_refusal s e
@@ -193,6 +203,7 @@ module _ {s : Table} (shape : IsShaped s) where
       (named_seen x q i)
   refusal_seen x (Go t) = λ i. go_refused (is_thread_seen x t i) (lives_seen x t i) (busy_seen x t i)
   refusal_seen x (End t) = λ i. end_refused (is_thread_seen x t i) (lives_seen x t i)
+  refusal_seen x (Tick n) = refl
 
 -- both machines have the same living threads
 pub living_seen : (s : Table) (y : Shadow) (n : ℕ) → IsShaped s → lives (world_of s y) n ≡ is_living s.kernel n

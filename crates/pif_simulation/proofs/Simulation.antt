@@ -1,25 +1,26 @@
 -- Each step of the table machine is one entry of the POSIX machine, and keeps the invariant.
-use Rattle.std.proofs.Common.{◌≡◌, ℕ, true, Option, Some, None, refl, sym, ◌∙◌}
+use Rattle.std.proofs.Common.{◌≡◌, ℕ, true, Option, Some, None, refl, sym, ◌∙◌, Bool, false, ap, subst, if◌then◌else◌}
 use Rattle.std.proofs.lemmas.Bool.{true≢false}
 use Rattle.pif_types.specs.declared.errors.Refusal.{Refusal}
 use Rattle.pif_types.specs.declared.requests.Request.{Request}
 use Rattle.pif_types.specs.declared.requests.Request.TheVariants.{Lock, TryLock, Unlock, Consistent, Wait, Signal, Broadcast, SetPrio}
 use Rattle.pif_model.specs.declared.events.Event.{Event}
-use Rattle.pif_model.specs.declared.events.Event.TheVariants.{Begin, Go, End}
+use Rattle.pif_model.specs.declared.events.Event.TheVariants.{Begin, Go, End, Tick}
 use Rattle.pif_model.specs.declared.events.Entry.TheVariants.{Step as Happened}
 use Rattle.pif_model.specs.declared.lines.Line.{Line}
 use Rattle.pif_model.specs.declared.lines.Line.TheVariants.{Idle, At}
 use Rattle.pif_model.specs.declared.lines.Place.{Place}
-use Rattle.pif_model.specs.declared.lines.Place.TheVariants.{LockLoad, LockPending, LockExchange, LockKernel, LockQueued, LockStop, LockStopped, LockClear, TakeLoad, TakeHealth, TakeStore, TakeWord, LinkNext, LinkHead, LinkClear, LeaveExchange, LeaveKernel, LeaveClear, TryLoad, TryPending, TryExchange, TryKernel, TryClear, UnlockLoad, UnlockPending, UnlockHealth, UnlockStore, UnlockUnlink, UnlockExchange, UnlockKernel, UnlockClear, ConsistentLoad, ConsistentHealth, ConsistentStore, WaitLoad, WaitUses, WaitPending, WaitHealth, WaitStore, WaitUnlink, WaitExchange, WaitKernel, WaitPark, WaitParked, UseLoad, UseExchange, UseRequeue, UseReload, SetPriority}
+use Rattle.pif_model.specs.declared.lines.Place.TheVariants.{LockLoad, LockPending, LockExchange, LockKernel, LockQueued, LockStop, LockStopped, LockClear, TakeLoad, TakeHealth, TakeStore, TakeWord, LinkNext, LinkHead, LinkClear, LeaveExchange, LeaveKernel, LeaveClear, TryLoad, TryPending, TryExchange, TryKernel, TryClear, UnlockLoad, UnlockPending, UnlockHealth, UnlockStore, UnlockUnlink, UnlockExchange, UnlockKernel, UnlockClear, ConsistentLoad, ConsistentHealth, ConsistentStore, WaitLoad, WaitUses, WaitPending, WaitHealth, WaitStore, WaitUnlink, WaitExchange, WaitKernel, WaitPark, WaitParked, UseLoad, UseExchange, UseRequeue, UseReload, SetPriority, QueueExpired, StopExpired}
 use Rattle.pif_model.specs.Posix.{named_by, variable_of, is_use}
-use Rattle.pif_model.specs.Posix.Step.{refused}
+use Rattle.pif_model.specs.Posix.Step.{refused, ticked}
 use Rattle.pif_model.specs.PiKernel.{is_living}
-use Rattle.pif_model.specs.Table.{Table, has_thread, has_mutex, has_cond, line_at}
-use Rattle.pif_model.specs.Lines.{is_open, table_refusal, shared_line, locking_line, use_line, line_of, go_outcome, accepted_outcome, by_refusal, event_outcome}
+use Rattle.pif_model.specs.Table.{Table, has_thread, has_mutex, has_cond, line_at, status_at, timer_at}
+use Rattle.pif_model.specs.Lines.{is_open, table_refusal, shared_line, locking_line, use_line, line_of, go_outcome, accepted_outcome, by_refusal, event_outcome, Outcome, counts_at, is_line_due, is_due_in, expires_at, told_outcome}
 use Rattle.pif_model.specs.Standing.{belongs, is_shared, is_locking, is_using, IsSound}
+use Rattle.pif_model.specs.Deadlines.{is_reached, told_seen}
 use Rattle.pif_simulation.proofs.Kept.{second}
 use Rattle.pif_simulation.proofs.Shown.{go_allowed, end_allowed, refusal_seen}
-use Rattle.pif_simulation.proofs.Steps.{Keeps, GoKeeps, Going, going_knows, going_named}
+use Rattle.pif_simulation.proofs.Steps.{Keeps, GoKeeps, Going, going_knows, going_named, asked_at}
 use Rattle.pif_simulation.proofs.Does.{IsLocking, MayQueue, locking}
 use Rattle.pif_simulation.proofs.Does.MayQueue.{in_lock, in_wait}
 use Rattle.pif_simulation.proofs.Does.IsLocking.{by_try_lock}
@@ -37,6 +38,10 @@ use Rattle.pif_simulation.proofs.Requeueing.{use_requeue_kept}
 use Rattle.pif_simulation.proofs.SetPriorityLine.{set_priority_kept}
 use Rattle.pif_simulation.proofs.TryLines.{try_load_kept, try_pending_kept, try_exchange_kept, try_kernel_kept, try_clear_kept}
 use Rattle.pif_simulation.proofs.UnlockLines.{unlock_load_kept, unlock_pending_kept, unlock_health_kept, unlock_store_kept, unlock_unlink_kept, unlock_exchange_kept, unlock_kernel_kept, unlock_clear_kept, consistent_load_kept, consistent_health_kept, consistent_store_kept}
+use Rattle.pif_chains.proofs.Waiting.{by_test}
+use Rattle.pif_simulation.proofs.Timers.{retimed_sound, retimed_frames}
+use Rattle.pif_simulation.proofs.Agreement.{framed}
+use Rattle.pif_simulation.proofs.Expiring.{queue_expired_kept, stop_expired_kept, due_kept}
 
 -- A CALL GOES ON
 
@@ -86,6 +91,8 @@ call_kept : (s : Table) (t : ℕ) (q : Request) (p : Place) → Going s t q p �
 unfolding line_of
 call_kept s t (Lock m) LockLoad g b = lock_load_kept g
 call_kept s t (Lock m) LockPending g b = lock_pending_kept g
+call_kept s t (Lock m) QueueExpired g b = queue_expired_kept g
+call_kept s t (Lock m) StopExpired g b = stop_expired_kept g
 call_kept s t (Lock m) p g b = locking_kept s t (Lock m) p g (going_named g) (in_lock refl) b
 call_kept s t (TryLock m) TryLoad g b = try_load_kept s t m g
 call_kept s t (TryLock m) TryPending g b = try_pending_kept s t m g
@@ -123,11 +130,36 @@ call_kept s t _ _ g b = absurd (true≢false (sym b))
 
 -- a step of what is open at a line
 go_kept : (s : Table) (t : ℕ) (l : Line) → IsSound s → is_living s.kernel t ≡ true → line_at s t ≡ l
-    → is_open l ≡ true → GoKeeps s t (go_outcome l t s)
+    → is_open l ≡ true → Keeps s (Happened (Go t) (go_outcome l t s).seen) (go_outcome l t s).after
 unfolding go_outcome
 go_kept s t Idle h k e o = absurd (true≢false (sym o))
-go_kept s t (At q p) h k e o = (let g : Going s t q p = record { sound = h; known = k; line = e } in call_kept s t q p
-    g (going_knows g).belongs)
+go_kept s t (At q p) h k e o = by_test
+    (λ b. is_line_due (At q p) t s ≡ b → Keeps s (Happened (Go t) (if b then expires_at q p t s else told).seen)
+    (if b then expires_at q p t s else told).after)
+    (is_line_due (At q p) t s)
+    (λ d _. due_kept q p g (at_line ∙ d) (counted d))
+    (λ d _. subst (λ l. Keeps s (Happened (Go t) (told_seen (asked_at l) (timer_at s t).expired (line_of q p t s).seen))
+    (line_of q p t s).after) e (call_kept s t q p g (going_knows g).belongs (at_line ∙ d)))
+    refl
+  where
+    g : Going s t q p
+    g = record { sound = h; known = k; line = e }
+
+    told : Outcome
+    told = told_outcome q (timer_at s t).expired (line_of q p t s)
+
+    -- the line is t's
+    at_line : is_due_in s t ≡ is_line_due (At q p) t s
+    at_line = ap (λ l. is_line_due l t s) e
+
+    -- where it is due its deadline counts
+    counted : is_line_due (At q p) t s ≡ true → counts_at q p (status_at s t) ≡ true
+    counted = go (is_reached (timer_at s t).deadline s.time)
+      where
+        go : (b : Bool) → (if b then counts_at q p (status_at s t) else false) ≡ true
+            → counts_at q p (status_at s t) ≡ true
+        go true d = d
+        go false d = absurd (true≢false (sym d))
 
 -- ANY EVENT
 
@@ -139,6 +171,11 @@ accepted_kept s (Begin t q) h r = begin_kept s t q h r
 accepted_kept s (Go t) h r =
     let a = go_allowed (has_thread s t) (is_living s.kernel t) (is_open (line_at s t)) r in
     go_kept s t (line_at s t) h a.0 refl a.1
+accepted_kept s (Tick n) h r = record {
+  sound = retimed_sound s s.timers n refl h;
+  limits = refl;
+  shows = λ x a. (x, framed (retimed_frames s s.timers n refl) x a, ticked n refl (refusal_seen h.all.shape x (Tick n) ∙ r) refl);
+}
 accepted_kept s (End t) h r = end_kept s t h (end_allowed (has_thread s t) (is_living s.kernel t) r) r
 
 -- an event by its refusal

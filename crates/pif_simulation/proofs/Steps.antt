@@ -1,8 +1,9 @@
 -- One step of the table machine as one entry of the POSIX machine: what every line has to show.
 use Rattle.std.proofs.Common.{◌≡◌, ℕ, ◌<◌, Bool, true, false, length, Some, None, refl, sym, ap, ap₂, ◌==◌, ◌∙◌, subst, if◌then◌else◌, true≢false}
 use Rattle.pif_types.specs.declared.requests.Request.{Request}
-use Rattle.pif_types.specs.declared.requests.Request.TheVariants.{Lock, TryLock, Unlock, Consistent, Wait, Signal, Broadcast, SetPrio}
+use Rattle.pif_types.specs.declared.requests.Request.TheVariants.{Lock, TryLock, Unlock, Consistent, Wait, Signal, Broadcast, SetPrio, TimedLock, TimedWait}
 use Rattle.pif_model.specs.declared.events.Event.TheVariants.{Go}
+use Rattle.pif_model.specs.declared.events.Seen.{Seen}
 use Rattle.pif_model.specs.declared.events.Seen.TheVariants.{Went, Waits, Answered}
 use Rattle.pif_model.specs.declared.events.Entry.{Entry}
 use Rattle.pif_model.specs.declared.events.Entry.TheVariants.{Step as Happened}
@@ -12,20 +13,23 @@ use Rattle.pif_model.specs.declared.lines.Place.{Place}
 use Rattle.pif_model.specs.declared.lines.Place.TheVariants.{LockExchange, LockKernel, LockQueued, LockStop, LockStopped, TakeLoad, TakeHealth, WaitPark, WaitParked}
 use Rattle.pif_model.specs.declared.lines.Status.{Status}
 use Rattle.pif_model.specs.declared.lines.Status.TheVariants.{Ready, Queued, Parked, Stopped, Ended}
-use Rattle.pif_model.specs.declared.lines.Woken.TheVariants.{Fresh as WokenFresh, Owns as WokenOwns, Again as WokenAgain}
+use Rattle.pif_model.specs.declared.lines.Woken.TheVariants.{Fresh as WokenFresh, Owns as WokenOwns, Again as WokenAgain, Expired as WokenExpired}
 use Rattle.pif_model.specs.Refusals.{go_refused}
-use Rattle.pif_model.specs.Posix.{Health, Progress, World, Step, Effects, thread_at, refusal_of, named_by, variable_of, names_known, recalled, closed, noted, on_taking, on_release, rests, sleeps, is_idle}
+use Rattle.pif_model.specs.Deadlines.{told, told_seen}
+use Rattle.pif_model.specs.Posix.{Health, Progress, World, Step, Effects, is_due, thread_at, refusal_of, named_by, variable_of, names_known, recalled, closed, noted, on_taking, on_release, rests, sleeps, is_idle}
 use Rattle.pif_model.specs.Posix.Progress.{Has}
+use Rattle.pif_model.specs.Posix.Moves.{acts}
 use Rattle.pif_model.specs.Posix.Step.{went, waits, answered}
 use Rattle.pif_model.specs.PiKernel.{is_ready, is_living}
-use Rattle.pif_model.specs.Table.{Table, Cell, cell_at, has_mutex, has_cond, uses_of, status_at, line_at}
-use Rattle.pif_model.specs.Lines.{Outcome, is_open}
+use Rattle.pif_model.specs.Table.{Table, Cell, cell_at, has_mutex, has_cond, uses_of, status_at, line_at, timer_at}
+use Rattle.pif_model.specs.Lines.{Outcome, is_open, is_due_in}
 use Rattle.pif_model.specs.Standing.{Shadow, Agrees, Use, use_at, before_lock, call_at, call_shown, progress_at, health_at, world_of, MeetsAll, needs, CallIsSound, LineIsSound, IsSound}
 use Rattle.pif_chains.proofs.Waiting.{by_test, names, named-from_pair}
 use Rattle.pif_chains.proofs.KernelFacts.{unnamed-from_ready, living-added}
 use Rattle.pif_chains.proofs.Numbers.{below}
 use Rattle.pif_simulation.proofs.Hole.{each_thread}
-use Rattle.pif_simulation.proofs.Shown.{threads_shown, call_seen, call_seen_of, refusal_seen, recalled_same}
+use Rattle.pif_simulation.proofs.Shown.{threads_shown, call_seen, call_seen_of, timer_seen, refusal_seen, recalled_same}
+use Rattle.pif_simulation.proofs.Due.{due_seen}
 use Rattle.pif_simulation.proofs.Agreement.{Frames, framed}
 
 -- v follows s by this entry: it is sound, both have the same limits, and what they show, with a shadow that agrees with
@@ -35,9 +39,19 @@ pub record Keeps (s : Table) (e : Entry) (v : Table) : Type 0 where
   pub limits : v.limits ≡ s.limits
   pub shows : (x : Shadow) → Agrees s x → (y : Shadow) × Agrees v y × Step s.limits (world_of s x) e (world_of v y)
 
--- what a step of t answers and leaves follows s
+-- the request of the call at a line; a lock where none is open, which never comes
+abbrev pub asked_at : Line → Request
+asked_at Idle = Lock 0
+asked_at (At q p) = q
+
+-- a step of t whose call is not due, and which shows this by its line, follows s with v: what is seen of it is told
+abbrev pub KeepsGo : Table → ℕ → Seen → Table → Type 0
+KeepsGo s t seen v = is_due_in s t ≡ false
+    → Keeps s (Happened (Go t) (told_seen (asked_at (line_at s t)) (timer_at s t).expired seen)) v
+
+-- what such a step answers and leaves follows s
 abbrev pub GoKeeps : Table → ℕ → Outcome → Type 0
-GoKeeps s t o = Keeps s (Happened (Go t) o.seen) o.after
+GoKeeps s t o = KeepsGo s t o.seen o.after
 
 -- how far the call q of t has come at a place
 abbrev pub progress_of : Table → ℕ → Request → Place → Progress
@@ -77,6 +91,8 @@ locking_awake (Wait c m) = refl
 locking_awake (Signal c) = refl
 locking_awake (Broadcast c) = refl
 locking_awake (SetPrio u p) = refl
+locking_awake (TimedLock m d) = refl
+locking_awake (TimedWait c m d) = refl
 
 -- nor a wait that has given its mutex up, and was not answered since
 released_awake : (b : Bool) → is_idle (on_release b) ≡ false
@@ -101,6 +117,7 @@ place_sleeps l t q x c z (WaitPark v) h n k = released_awake (v == n) ∙ sym (r
 place_sleeps l t q (Ready WokenFresh) c z WaitParked h n k = taking_awake h
 place_sleeps l t q (Ready WokenOwns) c z WaitParked h n k = taking_awake h
 place_sleeps l t q (Ready WokenAgain) c z WaitParked h n k = refl
+place_sleeps l t q (Ready WokenExpired) c z WaitParked h n k = taking_awake h
 place_sleeps l t q (Queued m) c z WaitParked h n k = refl
 place_sleeps l t q (Parked i) c z WaitParked h n k = refl
 place_sleeps l t q Stopped c z WaitParked h n k = refl
@@ -209,17 +226,26 @@ module _ {s : Table} {t : ℕ} {q : Request} {p : Place} (g : Going s t q p) whe
   pub going_below : (x : Shadow) → t < length (world_of s x).threads
   going_below x = subst (λ n. t < n) (sym (threads_shown g.sound.all.shape x)) going_lined
 
+  -- a call that is not due at its line is not due in the world
+  pub going_undue : is_due_in s t ≡ false → (x : Shadow) → is_due (world_of s x) t ≡ false
+  going_undue e x = due_seen g.sound x t g.known ∙ e
+
+  -- what a result is told as
+  pub going_told : (x : Shadow) (a : ℕ)
+      → told (asked_at (line_at s t)) (timer_at s t).expired a ≡ told q (thread_at (world_of s x) t).timer.expired a
+  going_told x a = λ i. told (asked_at (g.line i)) (sym (timer_seen g.sound.all.shape x t) i).expired a
+
   -- the step follows with these effects, after which t may run
   pub goes_with : (v : Table) → IsSound v → v.limits ≡ s.limits → is_living v.kernel t ≡ true
       → is_ready (status_at v t) ≡ true → Frames s v
-      → ((x : Shadow) → Effects t (world_of s x) (world_of s x) (world_of v x)) → Keeps s (Happened (Go t) Went) v
-  goes_with v sound limits known ready frames effects = record {
+      → ((x : Shadow) → Effects t (world_of s x) (world_of s x) (world_of v x)) → KeepsGo s t Went v
+  goes_with v sound limits known ready frames effects undue = record {
     sound = sound;
     limits = limits;
     shows = λ x a. (
       x,
       framed frames x a,
-      went t refl (record { allowed = going_allowed x; effects = effects x })
+      went t refl (record { allowed = going_allowed x; moves = acts (going_undue undue x) (effects x) })
           (rests_ready sound x t known ready),
     );
   }
@@ -228,14 +254,14 @@ module _ {s : Table} {t : ℕ} {q : Request} {p : Place} (g : Going s t q p) whe
   pub waits_noted : (v : Table) (u : Shadow → World) → IsSound v → v.limits ≡ s.limits → is_living v.kernel t ≡ true
       → is_ready (status_at v t) ≡ false → Frames s v
       → ((x : Shadow) → Effects t (world_of s x) (world_of s x) (u x))
-      → ((x : Shadow) → world_of v x ≡ recalled t noted (u x)) → Keeps s (Happened (Go t) Waits) v
-  waits_noted v u sound limits known ready frames effects shown = record {
+      → ((x : Shadow) → world_of v x ≡ recalled t noted (u x)) → KeepsGo s t Waits v
+  waits_noted v u sound limits known ready frames effects shown undue = record {
     sound = sound;
     limits = limits;
     shows = λ x a. (
       x,
       framed frames x a,
-      waits t (u x) refl (record { allowed = going_allowed x; effects = effects x }) (shown x)
+      waits t (u x) refl (record { allowed = going_allowed x; moves = acts (going_undue undue x) (effects x) }) (shown x)
           (rests_not_ready sound x t known ready),
     );
   }
@@ -243,7 +269,7 @@ module _ {s : Table} {t : ℕ} {q : Request} {p : Place} (g : Going s t q p) whe
   -- the step follows with these effects, after which t rests
   pub waits_with : (v : Table) → IsSound v → v.limits ≡ s.limits → is_living v.kernel t ≡ true
       → is_ready (status_at v t) ≡ false → Frames s v
-      → ((x : Shadow) → Effects t (world_of s x) (world_of s x) (world_of v x)) → Keeps s (Happened (Go t) Waits) v
+      → ((x : Shadow) → Effects t (world_of s x) (world_of s x) (world_of v x)) → KeepsGo s t Waits v
   waits_with v sound limits known ready frames effects =
       waits_noted v (world_of v) sound limits known ready frames effects (λ x.
       recalled_same (world_of v x) t noted (ap noted (call_seen_of sound.all.shape x t)
@@ -254,15 +280,15 @@ module _ {s : Table} {t : ℕ} {q : Request} {p : Place} (g : Going s t q p) whe
       → is_living v.kernel t ≡ true → is_ready (status_at v t) ≡ true → Frames s v
       → ((x : Shadow) → Effects t (world_of s x) (world_of s x) (u x))
       → ((x : Shadow) → (thread_at (u x) t).call ≡ Some (record { request = q; progress = Has a }))
-      → ((x : Shadow) → world_of v x ≡ recalled t closed (u x)) → Keeps s (Happened (Go t) (Answered a)) v
-  answers_with v a u sound limits known ready frames effects call shown = record {
+      → ((x : Shadow) → world_of v x ≡ recalled t closed (u x)) → KeepsGo s t (Answered a) v
+  answers_with v a u sound limits known ready frames effects call shown undue = record {
     sound = sound;
     limits = limits;
     shows = λ x b. (
       x,
       framed frames x b,
-      answered t a q (u x) refl
-          (record { allowed = going_allowed x; effects = effects x }) (call x) (shown x)
+      answered t a q (u x) (ap (λ n. Happened (Go t) (Answered n)) (going_told x a))
+          (record { allowed = going_allowed x; moves = acts (going_undue undue x) (effects x) }) (call x) (shown x)
           (rests_ready sound x t known ready),
     );
   }

@@ -5,10 +5,8 @@ use Rattle.std.proofs.lemmas.Bool.{true≢false}
 use Rattle.pif_types.specs.declared.requests.Kind.TheVariants.{Recursive}
 use Rattle.pif_types.specs.declared.requests.Request.{Request}
 use Rattle.pif_types.specs.declared.requests.Request.TheVariants.{Unlock}
-use Rattle.pif_model.specs.declared.events.Event.TheVariants.{Go}
 use Rattle.pif_model.specs.declared.events.Seen.{Seen}
 use Rattle.pif_model.specs.declared.events.Seen.TheVariants.{Went, Answered}
-use Rattle.pif_model.specs.declared.events.Entry.TheVariants.{Step as Happened}
 use Rattle.pif_model.specs.declared.lines.Line.{Line}
 use Rattle.pif_model.specs.declared.lines.Line.TheVariants.{Idle, At}
 use Rattle.pif_model.specs.declared.lines.Place.{Place}
@@ -26,7 +24,7 @@ use Rattle.pif_chains.proofs.LineCases.{locked_again_cases, own_exchange_cases}
 use Rattle.pif_chains.proofs.Numbers.{above_0}
 use Rattle.pif_simulation.proofs.Kept.{Spares}
 use Rattle.pif_simulation.proofs.Written.{mutex_of, written_is, same_word, same_health, same_library, same_list}
-use Rattle.pif_simulation.proofs.Steps.{Keeps, GoKeeps, Going, progress_of}
+use Rattle.pif_simulation.proofs.Steps.{KeepsGo, GoKeeps, Going, progress_of}
 use Rattle.pif_simulation.proofs.Agreement.{Follows, quiet, taking_unblocked}
 use Rattle.pif_simulation.proofs.Does.{Does, IsLocking}
 use Rattle.pif_simulation.proofs.Does.Does.{locks_free, locks_again, locks_at_limit, unlocks_one}
@@ -101,7 +99,7 @@ module _ {s : Table} {t : ℕ} {q : Request} {p : Place} (g : Going s t q p) (na
       → Does t m (has_waiter s.kernel.waiters m) q (progress_of s t q p)
       (mutex_of (cell_at s m)) a
       (mutex_of (record (cell_at s m) { word = record (word_at s.words m) { died = b }; health = h }))
-      → Keeps s (Happened (Go t) seen) (moved t m (writes seen l (record (word_at s.words m) { died = b }) h
+      → KeepsGo s t seen (moved t m (writes seen l (record (word_at s.words m) { died = b }) h
       (library_at s m).count) s)
   states seen l follows b h a blocked own robust knows shows row does =
       local_kept g named a (writes seen l (record (word_at s.words m) { died = b }) h (library_at s m).count)
@@ -165,7 +163,7 @@ module _ {s : Table} {t : ℕ} {q : Request} {p : Place} (g : Going s t q p) (na
 
     -- t takes a stalled mutex
     pub takes_stalled : IsLocking m q → (library_at s m).robust ≡ false → GoKeeps s t (answers t 0 (with_word m mine s))
-    takes_stalled l stalled = subst (Keeps s (Happened (Go t) (Answered 0))) (word_table (Answered 0) Idle mine)
+    takes_stalled l stalled = subst (KeepsGo s t (Answered 0)) (word_table (Answered 0) Idle mine)
         (local_kept g named (Has 0) (writes (Answered 0) Idle mine (health_word_at s.words m) (library_at s m).count)
         (record {
           ready = ready;
@@ -188,7 +186,7 @@ module _ {s : Table} {t : ℕ} {q : Request} {p : Place} (g : Going s t q p) (na
         → is_pending b ≡ true → is_half_linked b ≡ false → is_unlinked b ≡ true → is_unsettled b ≡ true
         → GoKeeps s t (goes_to t q b (with_word m mine s))
     takes_robust l robust b follows ours progress met pp ph bp bh bu bs =
-        subst (Keeps s (Happened (Go t) Went)) (word_table Went (At q b) mine)
+        subst (KeepsGo s t Went) (word_table Went (At q b) mine)
         (local_kept g named (on_taking (health_at s m))
         (writes Went (At q b) mine (health_word_at s.words m) (library_at s m).count)
         (record {
@@ -266,8 +264,8 @@ module _ {s : Table} {t : ℕ} {q : Request} {p : Place} (g : Going s t q p) (na
         → ((library_at s m).robust ≡ true → is_unlinked p ≡ true)
         → Does t m (has_waiter s.kernel.waiters m) q (progress_of s t q p)
         (mutex_of (cell_at s m)) a (mutex_of freed)
-        → Keeps s (Happened (Go t) seen) (with_line t l (with_word m free_word s))
-    frees seen l a follows blocked knows shows pending half unlinked does = subst (Keeps s (Happened (Go t) seen))
+        → KeepsGo s t seen (with_line t l (with_word m free_word s))
+    frees seen l a follows blocked knows shows pending half unlinked does = subst (KeepsGo s t seen)
         (word_table seen l free_word)
         (local_kept g named a (writes seen l free_word (health_word_at s.words m) (library_at s m).count)
         (record {
@@ -307,7 +305,7 @@ module _ {s : Table} {t : ℕ} {q : Request} {p : Place} (g : Going s t q p) (na
         → Does t m (has_waiter s.kernel.waiters m) q (before_lock q) (mutex_of (cell_at s m)) (Has 0)
         (record (mutex_of (cell_at s m)) { count = n })
         → GoKeeps s t (answers t 0 (with_count m n s))
-    counts n sound does = subst (Keeps s (Happened (Go t) (Answered 0))) (count_table (Answered 0) Idle n)
+    counts n sound does = subst (KeepsGo s t (Answered 0)) (count_table (Answered 0) Idle n)
         (local_kept g named (Has 0) (writes (Answered 0) Idle (word_at s.words m) (health_word_at s.words m) n)
         (record {
           ready = ready;

@@ -4,12 +4,10 @@ use Rattle.std.proofs.Common.{◌≡◌, ◌≢◌, ◌∷◌, ℕ, Bool, true, 
 use Rattle.std.proofs.lemmas.Bool.{true≢false}
 use Rattle.pif_types.specs.declared.requests.Request.{Request}
 use Rattle.pif_types.specs.declared.requests.Request.TheVariants.{Lock, TryLock, Wait}
-use Rattle.pif_model.specs.declared.events.Event.TheVariants.{Go}
 use Rattle.pif_model.specs.declared.events.Seen.TheVariants.{Went}
-use Rattle.pif_model.specs.declared.events.Entry.TheVariants.{Step as Happened}
 use Rattle.pif_model.specs.declared.lines.Line.TheVariants.{At}
 use Rattle.pif_model.specs.declared.lines.Place.{Place}
-use Rattle.pif_model.specs.declared.lines.Place.TheVariants.{LockLoad, LockPending, LockExchange, LockKernel, LockQueued, LockStop, LockStopped, LockClear, TakeLoad, TakeHealth, TakeStore, TakeWord, LinkNext, LinkHead, LinkClear, LeaveExchange, LeaveKernel, LeaveClear, TryLoad, TryPending, TryExchange, TryKernel, TryClear, WaitLoad, WaitUses, WaitPending, WaitHealth, WaitStore, WaitUnlink, WaitExchange, WaitKernel, WaitPark, WaitParked}
+use Rattle.pif_model.specs.declared.lines.Place.TheVariants.{LockLoad, LockPending, LockExchange, LockKernel, LockQueued, LockStop, LockStopped, LockClear, QueueExpired, StopExpired, TakeLoad, TakeHealth, TakeStore, TakeWord, LinkNext, LinkHead, LinkClear, LeaveExchange, LeaveKernel, LeaveClear, TryLoad, TryPending, TryExchange, TryKernel, TryClear, WaitLoad, WaitUses, WaitPending, WaitHealth, WaitStore, WaitUnlink, WaitExchange, WaitKernel, WaitPark, WaitParked}
 use Rattle.pif_model.specs.Graph.{has_waiter}
 use Rattle.pif_model.specs.Word.{free_word, word_at, health_word_at}
 use Rattle.pif_model.specs.Posix.{named_by, on_taking}
@@ -22,7 +20,7 @@ use Rattle.pif_model.specs.Standing.{use_at, MeetsAll, belongs, is_shared, is_lo
 use Rattle.pif_chains.proofs.LineCases.{take_health_cases, leave_exchange_cases}
 use Rattle.pif_chains.proofs.Numbers.{above_0}
 use Rattle.pif_simulation.proofs.Written.{mutex_of}
-use Rattle.pif_simulation.proofs.Steps.{Keeps, GoKeeps, Going, progress_of, going_met}
+use Rattle.pif_simulation.proofs.Steps.{KeepsGo, GoKeeps, Going, progress_of, going_met}
 use Rattle.pif_simulation.proofs.Agreement.{quiet}
 use Rattle.pif_simulation.proofs.Does.{IsLocking}
 use Rattle.pif_simulation.proofs.Does.IsLocking.{by_lock, by_try_lock, by_wait}
@@ -37,6 +35,8 @@ use Rattle.pif_simulation.proofs.TakingLines.{states, frees, word_table, health_
 pub lock_locking : (m : ℕ) (p : Place) → is_locking p ≡ true → belongs (Lock m) p ≡ true
 lock_locking m LockLoad e = refl
 lock_locking m LockPending e = refl
+lock_locking m QueueExpired e = refl
+lock_locking m StopExpired e = refl
 lock_locking m _ e = e
 
 -- and so does a wait
@@ -136,7 +136,7 @@ module _ (s : Table) (t : ℕ) (q : Request) (named : has_mutex s (named_by q) �
       let h = going_met g in
       let own : (word_at s.words m).number ≡ t = h.1.0 in
       let d : Bool = (word_at s.words m).died in
-      subst (Keeps s (Happened (Go t) Went)) (health_table g named h.0 Went (At q TakeWord) 1)
+      subst (KeepsGo s t Went) (health_table g named h.0 Went (At q TakeWord) 1)
       (states g named h.0 Went (At q TakeWord) (quiet refl refl) d 1 (Has 130) (λ j e. e) own h.1.1.1.0 (
         refl,
         shared_belongs l TakeWord refl,
@@ -161,7 +161,7 @@ module _ (s : Table) (t : ℕ) (q : Request) (named : has_mutex s (named_by q) �
       let h = going_met g in
       let own : (word_at s.words m).number ≡ t = h.1.0 in
       let one : health_word_at s.words m ≡ 1 = h.1.1.1.1.0 own in
-      subst (Keeps s (Happened (Go t) Went)) (word_table g named h.0 Went (At q (LinkNext 130))
+      subst (KeepsGo s t Went) (word_table g named h.0 Went (At q (LinkNext 130))
       (record (word_at s.words m) { died = false }))
       (states g named h.0 Went (At q (LinkNext 130)) (quiet refl refl) false (health_word_at s.words m) (Has 130)
       (λ j e. e) own h.1.1.1.0

@@ -15,8 +15,9 @@ use Rattle.pif_model.specs.Posix.Step.{thread_added as thread_rule}
 use Rattle.pif_model.specs.PiKernel.{IsKernel, Seat, no_seat, seat_at, has_ended, is_ready, is_parked, is_living}
 use Rattle.pif_model.specs.RobustList.{RobustRow, has_entry}
 use Rattle.pif_model.specs.Word.{word_at}
-use Rattle.pif_model.specs.Table.{Table, has_thread, has_mutex, uses_of, status_at, line_at, library_at, cell_at, has_thread_room, thread_added}
+use Rattle.pif_model.specs.Table.{Table, has_thread, has_mutex, uses_of, status_at, line_at, library_at, cell_at, has_thread_room, thread_added, timer_at}
 use Rattle.pif_model.specs.Standing.{Shadow, Agrees, remembered, may_enlist, chooses_on, memory_at, call_shown, call_at, health_at, thread_shown, world_of, LineIsSound, ListIsSound, mutex_by, is_unsettled, IsQueuedLine, IsParkedLine, ThreadIsSound, AbsentIsSound, IsShaped, IsSound}
+use Rattle.pif_model.specs.Deadlines.{no_timer}
 use Rattle.pif_chains.proofs.Numbers.{below, from_within}
 use Rattle.pif_chains.proofs.Waiting.{by_test}
 use Rattle.pif_chains.proofs.KernelSettled.{priority-range}
@@ -99,6 +100,9 @@ module _ (s : Table) (p : ℕ) (h : IsSound s) (free : has_thread_room s ≡ tru
   line_else : (u : ℕ) → u ≢ n → line_at v u ≡ line_at s u
   line_else u d = pushed_else s.lines Idle Idle u d
 
+  timer_else : (u : ℕ) → u ≢ n → timer_at v u ≡ timer_at s u
+  timer_else u d = pushed_else s.timers no_timer no_timer u (λ e. d (e ∙ h.all.shape.timers))
+
   line_new : line_at v n ≡ Idle
   line_new = get_or_push s.lines Idle Idle n refl
 
@@ -123,6 +127,7 @@ module _ (s : Table) (p : ℕ) (h : IsSound s) (free : has_thread_room s ≡ tru
         within = b.within;
         lines = length_push s.lines Idle ∙ (let e = length_push s.kernel.seats
             (record { base = p; status = Ready WokenFresh }) in omega (arith, e, seats));
+        timers = length_push s.timers no_timer ∙ ap (λ j. j + 1) b.timers ∙ sym (length_push s.lines Idle);
         nobody = line_else 0 (λ e. omega (arith, some, e)) ∙ b.nobody;
         lists = b.lists;
         some_mutex = b.some_mutex;
@@ -276,7 +281,7 @@ module _ (s : Table) (p : ℕ) (h : IsSound s) (free : has_thread_room s ≡ tru
         (threads_shown shape_more more ∙ length_push s.lines Idle
         ∙ sym (length_push (world_of s y).threads (new_thread p) ∙ ap (λ j. j + 1) long))
         (λ u i. let e : u < length v.lines = subst (λ j. u < j) (threads_shown shape_more more) i in
-        thread_seen shape_more more u e ∙ each u e (cases_eq u n)) refl (λ j. refl) refl refl refl
+        thread_seen shape_more more u e ∙ each u e (cases_eq u n)) refl (λ j. refl) refl refl refl refl
       where
         long : length (world_of s y).threads ≡ n
         long = threads_shown h.all.shape y
@@ -289,6 +294,7 @@ module _ (s : Table) (p : ℕ) (h : IsSound s) (free : has_thread_room s ≡ tru
               base = (seat_new i).base;
               living = living_new i;
               call = call_at (health_at s) (uses_of s) (line_new i) (seat_at v.kernel n).status;
+              timer = get_or_push s.timers no_timer no_timer n h.all.shape.timers i;
               memory = get_or_push y.memories no_memory no_memory n fits.all i;
             })
             ∙ sym (get_or_push (world_of s y).threads (new_thread p) nobody n long))
@@ -297,6 +303,7 @@ module _ (s : Table) (p : ℕ) (h : IsSound s) (free : has_thread_room s ≡ tru
               base = (seat_else u d i).base;
               living = living_else u d i;
               call = call_at (health_at s) (uses_of s) (line_else u d i) (seat_else u d i).status;
+              timer = timer_else u d i;
               memory = memory_same u i;
             })
             ∙ sym (pushed_else (world_of s y).threads (new_thread p) nobody u (λ e. d (e ∙ long))

@@ -3,9 +3,7 @@
 use Rattle.std.proofs.Common.{◌≡◌, ◌≢◌, ℕ, ◌≤◌, Bool, true, false, [], refl, sym, ap, ◌∙◌, subst, arith}
 use Rattle.std.proofs.lemmas.Bool.{true≢false}
 use Rattle.pif_types.specs.declared.requests.Request.TheVariants.{Unlock, Consistent}
-use Rattle.pif_model.specs.declared.events.Event.TheVariants.{Go}
 use Rattle.pif_model.specs.declared.events.Seen.TheVariants.{Went, Answered}
-use Rattle.pif_model.specs.declared.events.Entry.TheVariants.{Step as Happened}
 use Rattle.pif_model.specs.declared.lines.Line.TheVariants.{Idle, At}
 use Rattle.pif_model.specs.declared.lines.Place.{Place}
 use Rattle.pif_model.specs.declared.lines.Place.TheVariants.{UnlockLoad, UnlockPending, UnlockHealth, UnlockStore, UnlockUnlink, UnlockExchange, UnlockKernel, UnlockClear, ConsistentLoad, ConsistentHealth, ConsistentStore}
@@ -21,7 +19,7 @@ use Rattle.pif_model.specs.Lines.{goes_to, answers, ends_by, pending, clears, un
 use Rattle.pif_model.specs.Standing.{CellIsSound, use_at, MeetsAll, needs, health_of}
 use Rattle.pif_chains.proofs.LineCases.{unlock_load_cases, unlock_health_cases, unlock_exchange_cases, ends_by_cases, consistent_load_cases, consistent_health_cases}
 use Rattle.pif_simulation.proofs.Written.{mutex_of}
-use Rattle.pif_simulation.proofs.Steps.{Keeps, GoKeeps, Going, going_named, going_met}
+use Rattle.pif_simulation.proofs.Steps.{KeepsGo, GoKeeps, Going, going_named, going_met}
 use Rattle.pif_simulation.proofs.Agreement.{quiet}
 use Rattle.pif_simulation.proofs.Does.Does.{unlocks_not_own, unlocks_own, gives_up_inconsistent, consistent_stalled, consistent_other, consistent_in_order, consistent_made}
 use Rattle.pif_simulation.proofs.Healths.{health-inconsistent, inconsistent-word}
@@ -210,7 +208,7 @@ module _ (s : Table) (t m : ℕ) where
       let own : (word_at s.words m).number ≡ t = h.1.0 in
       let d : Bool = (word_at s.words m).died in
       let died : d ≡ false = (settled_so_far g (going_named g) refl own).0 in
-      subst (Keeps s (Happened (Go t) (Answered 0))) (health_table g (going_named g) h.0 (Answered 0) Idle 0)
+      subst (KeepsGo s t (Answered 0)) (health_table g (going_named g) h.0 (Answered 0) Idle 0)
       (states g (going_named g) h.0 (Answered 0) Idle (quiet refl refl) d 0 (Has 0)
       (λ j e. absurd (true≢false (sym e))) own h.1.1.0 h.0 (refl, refl)
       (row_stated g (going_named g) d 0 h.1.1.0 refl refl refl (λ o u. (died, zero_not_two 0 refl)))

@@ -5,14 +5,14 @@ use Rattle.std.proofs.lemmas.Bool.{cases_eq, true≢false}
 use Rattle.std.proofs.lemmas.List.{length-set, length-map, get_or-set_same, get_or-set_other, ext_get_or}
 use Rattle.std.proofs.Math.ListN.{get_or-map}
 use Rattle.pif_types.specs.declared.requests.Request.{Request}
-use Rattle.pif_types.specs.declared.requests.Request.TheVariants.{Lock, TryLock, Unlock, Consistent, Wait, Signal, Broadcast, SetPrio}
+use Rattle.pif_types.specs.declared.requests.Request.TheVariants.{Lock, TryLock, Unlock, Consistent, Wait, Signal, Broadcast, SetPrio, TimedLock, TimedWait}
 use Rattle.pif_model.specs.declared.lines.Line.{Line}
 use Rattle.pif_model.specs.declared.lines.Line.TheVariants.{Idle, At}
 use Rattle.pif_model.specs.declared.lines.Place.{Place}
 use Rattle.pif_model.specs.declared.lines.Place.TheVariants.{LockExchange, LockKernel, LockQueued, LockStop, TakeLoad, TakeHealth, WaitPending, WaitHealth, WaitStore, WaitUnlink, WaitExchange, WaitKernel, WaitPark, WaitParked, UseExchange, UseRequeue}
 use Rattle.pif_model.specs.declared.lines.Status.{Status}
 use Rattle.pif_model.specs.declared.lines.Status.TheVariants.{Ready, Queued, Parked, Stopped, Ended}
-use Rattle.pif_model.specs.declared.lines.Woken.TheVariants.{Fresh as WokenFresh, Owns as WokenOwns, Again as WokenAgain}
+use Rattle.pif_model.specs.declared.lines.Woken.TheVariants.{Fresh as WokenFresh, Owns as WokenOwns, Again as WokenAgain, Expired as WokenExpired}
 use Rattle.pif_model.specs.Word.{word_at, health_word_at}
 use Rattle.pif_model.specs.Posix.{Health, Progress, Call, Thread, Variable, World, Effect, nobody, no_variable, thread_at, variable_at, with_progress, progressed, is_blocked, is_idle, is_newly_blocked, is_call_blocked, unblocked, on_unblocking, on_taking, on_release, after_use, used, is_use, named_by, variable_of}
 use Rattle.pif_model.specs.Posix.Progress.{Enlisted, Used}
@@ -79,6 +79,8 @@ locking_unblocked (Wait c m) = refl
 locking_unblocked (Signal c) = refl
 locking_unblocked (Broadcast c) = refl
 locking_unblocked (SetPrio u p) = refl
+locking_unblocked (TimedLock m d) = refl
+locking_unblocked (TimedWait c m d) = refl
 
 module _ (c : ℕ) (q : Request) (here : (variable_of q == c) ≡ true) where
   -- who owns the mutex still, and is blocked where this was read, is not blocked then
@@ -121,6 +123,7 @@ module _ (c : ℕ) (q : Request) (here : (variable_of q == c) ≡ true) where
   place_used l t (Ready WokenFresh) d z WaitParked h k = sym (stays c q (on_taking h) (taking_unblocked h))
   place_used l t (Ready WokenOwns) d z WaitParked h k = sym (stays c q (on_taking h) (taking_unblocked h))
   place_used l t (Ready WokenAgain) d z WaitParked h k = refl
+  place_used l t (Ready WokenExpired) d z WaitParked h k = sym (stays c q (on_taking h) (taking_unblocked h))
   place_used l t (Queued m) d z WaitParked h k = refl
   place_used l t (Parked i) d z WaitParked h k = refl
   place_used l t Stopped d z WaitParked h k = refl
@@ -156,6 +159,7 @@ place_parked l t q x d z (WaitPark v) h k e = absurd (true≢false (sym e ∙ re
 place_parked l t q (Ready WokenFresh) d z WaitParked h k e = absurd (true≢false (sym e ∙ taking_unblocked h))
 place_parked l t q (Ready WokenOwns) d z WaitParked h k e = absurd (true≢false (sym e ∙ taking_unblocked h))
 place_parked l t q (Ready WokenAgain) d z WaitParked h k e = absurd (true≢false (sym e))
+place_parked l t q (Ready WokenExpired) d z WaitParked h k e = absurd (true≢false (sym e ∙ taking_unblocked h))
 place_parked l t q (Queued m) d z WaitParked h k e = absurd (true≢false (sym e))
 place_parked l t q (Parked i) d z WaitParked h k e = refl
 place_parked l t q Stopped d z WaitParked h k e = absurd (true≢false (sym e))
@@ -202,6 +206,7 @@ module _ (s : Table) (t : ℕ) (q : Request) (n : ℕ) (g : Going s t q (UseExch
         limits = b.limits;
         within = b.within;
         lines = length-set s.lines t (At q (UseRequeue (n + 1))) ∙ b.lines;
+        timers = b.timers ∙ sym (length-set s.lines t (At q (UseRequeue (n + 1))));
         nobody = line_there 0 (λ e. absurd (true≢false (sym g.known ∙ ap (is_living s.kernel) (sym e)))) ∙ b.nobody;
         lists = b.lists;
         some_mutex = b.some_mutex;
@@ -436,7 +441,7 @@ module _ (s : Table) (t : ℕ) (q : Request) (n : ℕ) (g : Going s t q (UseExch
         (λ i e. let f : i < length v.lines = subst (λ j. i < j) (threads_shown shape y) e in
         thread_seen shape y i f
         ∙ each i (subst (λ j. i < j) (length-set s.lines t (At q (UseRequeue (n + 1)))) f) (cases_eq i t))
-        refl (λ j. refl) variables refl refl
+        refl (λ j. refl) variables refl refl refl
       where
         here : thread_shown v y t ≡ thread_at (with_progress t Used (used c w)) t
         here = (λ i. record (thread_shown s y t) { call = call_t i })

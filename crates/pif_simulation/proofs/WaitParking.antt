@@ -5,14 +5,12 @@ use Rattle.std.proofs.lemmas.Bool.{cases_eq, eqb-false, true≢false}
 use Rattle.pif_types.specs.declared.errors.Errno.{Errno}
 use Rattle.pif_types.specs.declared.errors.Errno.TheVariants.{Again, Fault}
 use Rattle.pif_types.specs.declared.requests.Request.TheVariants.{Wait}
-use Rattle.pif_model.specs.declared.events.Event.TheVariants.{Go}
 use Rattle.pif_model.specs.declared.events.Seen.TheVariants.{Waits}
-use Rattle.pif_model.specs.declared.events.Entry.TheVariants.{Step as Happened}
 use Rattle.pif_model.specs.declared.lines.Line.TheVariants.{At}
 use Rattle.pif_model.specs.declared.lines.Place.TheVariants.{LockExchange, LockKernel, TakeHealth, WaitPark, WaitParked}
 use Rattle.pif_model.specs.declared.lines.Status.{Status}
 use Rattle.pif_model.specs.declared.lines.Status.TheVariants.{Ready, Queued, Parked, Stopped, Ended}
-use Rattle.pif_model.specs.declared.lines.Woken.TheVariants.{Fresh as WokenFresh, Owns as WokenOwns, Again as WokenAgain}
+use Rattle.pif_model.specs.declared.lines.Woken.TheVariants.{Fresh as WokenFresh, Owns as WokenOwns, Again as WokenAgain, Expired as WokenExpired}
 use Rattle.pif_model.specs.Graph.{has_waiter}
 use Rattle.pif_model.specs.Word.{word_at, health_word_at, has_word, has_cond_word}
 use Rattle.pif_model.specs.Posix.{Health, Call, World, thread_at, recalled, noted, progressed, on_taking, on_release, with_progress}
@@ -32,7 +30,7 @@ use Rattle.pif_simulation.proofs.Kept.{first, second}
 use Rattle.pif_simulation.proofs.Hole.{aims}
 use Rattle.pif_simulation.proofs.Agreement.{quiet, frames_same}
 use Rattle.pif_simulation.proofs.Written.{written, written_is, same_word, same_health, same_list, same_library}
-use Rattle.pif_simulation.proofs.Steps.{Keeps, GoKeeps, Going, going_named, going_met, going_called, waits_with, waits_noted}
+use Rattle.pif_simulation.proofs.Steps.{KeepsGo, GoKeeps, Going, going_named, going_met, going_called, waits_with, waits_noted}
 use Rattle.pif_simulation.proofs.Does.IsLocking.{by_wait}
 use Rattle.pif_simulation.proofs.Does.Does.{nothing}
 use Rattle.pif_simulation.proofs.Local.{going_cell, going_added}
@@ -148,7 +146,7 @@ module _ (s : Table) (t c m v : ℕ) (g : Going s t (Wait c m) (WaitPark v)) whe
     after = with_line t (At (Wait c m) WaitParked) (with_kernel s.words k s);
   })
   parks unused =
-      subst (Keeps s (Happened (Go t) Waits))
+      subst (KeepsGo s t Waits)
       (written_is t m (At (Wait c m) WaitParked) (robust_at s.lists t) (word_at s.words m) (health_word_at s.words m)
       (library_at s m).count k s (same_word s m) (same_health s m) (same_list s t) (same_library s m))
       (waits_noted g (written t m (At (Wait c m) WaitParked) (robust_at s.lists t) (word_at s.words m)
@@ -217,6 +215,7 @@ woken_owes : (x : Status) (y : Health) → is_woken_again x ≡ true → progres
 woken_owes (Ready WokenFresh) y e = absurd (true≢false (sym e))
 woken_owes (Ready WokenOwns) y e = absurd (true≢false (sym e))
 woken_owes (Ready WokenAgain) y e = refl
+woken_owes (Ready WokenExpired) y e = absurd (true≢false (sym e))
 woken_owes (Queued i) y e = absurd (true≢false (sym e))
 woken_owes (Parked i) y e = absurd (true≢false (sym e))
 woken_owes Stopped y e = absurd (true≢false (sym e))
@@ -227,6 +226,7 @@ handed_takes : (x : Status) (y : Health) → is_woken_again x ≡ false → is_r
 handed_takes (Ready WokenFresh) y e f = refl
 handed_takes (Ready WokenOwns) y e f = refl
 handed_takes (Ready WokenAgain) y e f = absurd (true≢false e)
+handed_takes (Ready WokenExpired) y e f = refl
 handed_takes (Queued i) y e f = absurd (true≢false (sym f))
 handed_takes (Parked i) y e f = absurd (true≢false (sym f))
 handed_takes Stopped y e f = absurd (true≢false (sym f))

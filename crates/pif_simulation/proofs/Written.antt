@@ -10,14 +10,14 @@ use Rattle.pif_model.specs.declared.lines.Place.{Place}
 use Rattle.pif_model.specs.declared.lines.Place.TheVariants.{LockQueued, TakeLoad, TakeHealth, WaitParked}
 use Rattle.pif_model.specs.declared.lines.Status.{Status}
 use Rattle.pif_model.specs.declared.lines.Status.TheVariants.{Ready, Queued, Parked, Stopped, Ended}
-use Rattle.pif_model.specs.declared.lines.Woken.TheVariants.{Fresh as WokenFresh, Owns as WokenOwns, Again as WokenAgain}
+use Rattle.pif_model.specs.declared.lines.Woken.TheVariants.{Fresh as WokenFresh, Owns as WokenOwns, Again as WokenAgain, Expired as WokenExpired}
 use Rattle.pif_model.specs.Graph.{has_waiter}
 use Rattle.pif_model.specs.Word.{Word, free_word, word_at, health_word_at}
 use Rattle.pif_types.specs.declared.requests.Request.{Request}
 use Rattle.pif_model.specs.Posix.{named_by, variable_of, Health, Thread, Mutex, World, Call, thread_at, mutex_at, with_thread, with_mutex, nobody, no_mutex}
 use Rattle.pif_model.specs.PiKernel.{Kernel, Seat, seat_at, state_at, is_living}
 use Rattle.pif_model.specs.RobustList.{RobustRow, no_robust_row, robust_at, with_robust}
-use Rattle.pif_model.specs.Table.{Table, Cell, LibraryMutex, new_mutex, has_thread, has_mutex, bound_to, uses_of, status_at, line_at, library_at, cell_at}
+use Rattle.pif_model.specs.Table.{Table, Cell, LibraryMutex, new_mutex, has_thread, has_mutex, bound_to, uses_of, status_at, line_at, timer_at, library_at, cell_at}
 use Rattle.pif_model.specs.Standing.{Shadow, Use, use_at, MeetsAll, LineIsSound, ThreadIsSound, needs, progress_at, call_at, call_shown, memory_at, may_enlist, health_of, health_at, thread_shown, mutex_shown, world_of, CellIsSound, IsShaped}
 use Rattle.pif_simulation.proofs.Kept.{Spares, unused}
 use Rattle.pif_simulation.proofs.Hole.{Changes, aims}
@@ -122,6 +122,7 @@ progress_other living u q x c z (TakeHealth b) h h' n d m = absurd (d m.1.0)
 progress_other living u q (Ready WokenFresh) c z WaitParked h h' n d m = absurd (d (m.1.0.0 refl))
 progress_other living u q (Ready WokenOwns) c z WaitParked h h' n d m = absurd (d (m.1.0.0 refl))
 progress_other living u q (Ready WokenAgain) c z WaitParked h h' n d m = refl
+progress_other living u q (Ready WokenExpired) c z WaitParked h h' n d m = absurd (d (m.1.0.0 refl))
 progress_other living u q (Queued i) c z WaitParked h h' n d m = refl
 progress_other living u q (Parked i) c z WaitParked h h' n d m = refl
 progress_other living u q Stopped c z WaitParked h h' n d m = refl
@@ -197,6 +198,7 @@ module _ (s : Table) (t m : ℕ) (l : Line) (r : RobustRow) (x : Word) (a n : �
     limits = c.limits ∙ shape.limits;
     within = shape.within;
     lines = length-set s.lines t l ∙ shape.lines ∙ sym c.seats;
+    timers = shape.timers ∙ sym (length-set s.lines t l);
     nobody = line_there 0 (λ e. t0 (sym e)) ∙ shape.nobody;
     lists = length-set s.lists.threads t r ∙ shape.lists;
     some_mutex = subst (λ j. 1 ≤ j) (sym long) shape.some_mutex;
@@ -325,12 +327,14 @@ module _ (s : Table) (t m : ℕ) (l : Line) (r : RobustRow) (x : Word) (a n : �
     base = (seat_at k t).base;
     living = is_living k t;
     call = call_at (health_at v) (uses_of s) l (seat_at k t).status;
+    timer = timer_at s t;
     memory = memory_at y t;
   }
   thread_here y = λ i. record {
     base = (seat_at k t).base;
     living = is_living k t;
     call = call_at (health_at v) (uses_of s) (line_here i) (seat_at k t).status;
+    timer = timer_at s t;
     memory = memory_at y t;
   }
 
@@ -339,12 +343,14 @@ module _ (s : Table) (t m : ℕ) (l : Line) (r : RobustRow) (x : Word) (a n : �
     base = (seat_at k u).base;
     living = is_living k u;
     call = call_at (health_at v) (uses_of s) (line_at s u) (seat_at k u).status;
+    timer = timer_at s u;
     memory = memory_at y u;
   }
   thread_there y u d = λ i. record {
     base = (seat_at k u).base;
     living = is_living k u;
     call = call_at (health_at v) (uses_of s) (line_there u d i) (seat_at k u).status;
+    timer = timer_at s u;
     memory = memory_at y u;
   }
 
@@ -365,20 +371,20 @@ module _ (s : Table) (t m : ℕ) (l : Line) (r : RobustRow) (x : Word) (a n : �
         health = health_there j d i;
       })
 
-  -- what is shown is w, where w has these threads, mutexes and waiters, and the variables that there were
+  -- what is shown is w, where w has these threads, mutexes and waiters, and the variables and the time that there were
   pub shows : (y : Shadow) (w : World) → IsShaped v → length w.threads ≡ length s.lines
       → length w.mutexes ≡ length s.mutexes → k.waiters ≡ w.waiters
       → (thread_shown v y t ≡ thread_at w t)
       → ((u : ℕ) → u < length s.lines → u ≢ t → thread_shown v y u ≡ thread_at w u)
       → (mutex_of (cell_written m x a n k s) ≡ mutex_at w m) → ((j : ℕ) → j ≢ m → mutex_shown s j ≡ mutex_at w j)
-      → (world_of s y).variables ≡ w.variables → s.limits.signals ≡ w.signals
+      → (world_of s y).variables ≡ w.variables → s.limits.signals ≡ w.signals → s.time ≡ w.time
       → world_of v y ≡ w
-  shows y w fits b c waiters here there it others variables signals = same_world (world_of v y) w
+  shows y w fits b c waiters here there it others variables signals time = same_world (world_of v y) w
       (threads_shown fits y ∙ length-set s.lines t l ∙ sym b)
       (λ u i. let e : u < length v.lines = subst (λ n. u < n) (threads_shown fits y) i in
       thread_seen fits y u e ∙ each u (subst (λ n. u < n) (length-set s.lines t l) e) (cases_eq u t))
       (mutexes_shown fits y ∙ length-set s.mutexes m (record (library_at s m) { count = n }) ∙ sym c)
-      (λ j. mutex_seen fits y j ∙ all j (cases_eq j m)) variables waiters signals
+      (λ j. mutex_seen fits y j ∙ all j (cases_eq j m)) variables waiters signals time
     where
       each : (u : ℕ) → u < length s.lines → (u ≡ t) ⊎ (u ≢ t) → thread_shown v y u ≡ thread_at w u
       each u i (inl q) = subst (λ i. thread_shown v y i ≡ thread_at w i) (sym q) here
@@ -409,24 +415,26 @@ module _ (s : Table) (t m : ℕ) (l : Line) (r : RobustRow) (x : Word) (a n : �
         shows y (with_thread t q w) fits (length-set w.threads t q ∙ threads_shown shape y)
         (length-set (world_of s y).mutexes m z ∙ mutexes_shown shape y) refl
         (thread_here y
-        ∙ (λ i. record { base = base i; living = living t i; call = call i; memory = memory_at y t })
+        ∙ (λ i. record { base = base i; living = living t i; call = call i; timer = timer_at s t; memory = memory_at y t })
         ∙ sym (get_or-set_same w.threads t q nobody tw ∙ (λ i. record (thread_seen shape y t tl i) { call = c })))
         (λ u e d. thread_there y u d
         ∙ (λ i. record {
           base = (others u d i).base;
           living = living u i;
           call = call_at (health_at v) (uses_of s) (line_at s u) (others u d i).status;
+          timer = timer_at s u;
           memory = memory_at y u;
         })
         ∙ (λ i. record {
           base = (seat_at s.kernel u).base;
           living = is_living s.kernel u;
           call = calls u d i;
+          timer = timer_at s u;
           memory = memory_at y u;
         })
         ∙ sym (get_or-set_other w.threads t u q nobody d ∙ thread_seen shape y u e))
         (sym (get_or-set_same (world_of s y).mutexes m z no_mutex mw))
-        (λ j d. sym (get_or-set_other (world_of s y).mutexes m j z no_mutex d ∙ mutex_seen shape y j)) refl refl
+        (λ j d. sym (get_or-set_other (world_of s y).mutexes m j z no_mutex d ∙ mutex_seen shape y j)) refl refl refl
 
     -- where t is blocked as it was, who was found blocked stays so
     pub frames_written : Follows (line_at s t) l → (may_enlist (line_at s t) ≡ false → WasBlockedIn s v t) → Frames s v

@@ -1,13 +1,18 @@
 ghost use Rattle.std.specs.Prelude.{◌≡◌, ◌≤◌, ℕ, List, [], ◌∷◌, map, eqb, true, false};
 ghost use Rattle.std.specs.List.{IsDistinct};
 ghost use Rattle.pif_types.specs.Bounds.{Bounds};
+ghost use Rattle.pif_model.specs.declared.events.Event.TheVariants.{Go};
+ghost use Rattle.pif_model.specs.declared.events.Seen.TheVariants.{Waits, Answered};
 ghost use Rattle.pif_model.specs.declared.events.Entry.{Entry};
+ghost use Rattle.pif_model.specs.declared.events.Entry.TheVariants.{Step as Happened};
 ghost use Rattle.pif_model.specs.Graph.{has_waiter, next_waiter, without, waiting_order, IsNextWaiter, Reaches};
-ghost use Rattle.pif_model.specs.Posix.{World, IsRun, WaitsFor, is_thread, effective_of, leads_to};
+ghost use Rattle.pif_model.specs.Posix.{World, IsRun, WaitsFor, Expires, is_thread, effective_of, leads_to, mutex_at, is_due};
 ghost use Rattle.pif_model.specs.Standing.{HasEffective};
 ghost use Rattle.pif_model.specs.History.{AlwaysOneHolder};
 ghost use Rattle.pif_model.specs.PiKernel.{is_living};
 ghost use Rattle.pif_model.specs.Table.{Table, line_at};
+ghost use Rattle.pif_simulation.specs.Fates.{fate};
+ghost use Rattle.pif_simulation.specs.Fates.Fate.{Expired};
 ghost use Rattle.pif_model.specs.Lines.{is_open, goes_on, ClosesOrWaits};
 
 /// A law: the next waiter of a mutex for which threads wait is, among those of greatest effective priority, the first
@@ -46,4 +51,25 @@ pub fn chain_is_found_where_there_is_one()
 /// A law: of 24 steps of one living thread with a call open, with nothing between them, one closes the call or waits.
 pub fn call_closes_or_waits_within_24_steps()
     ensures { (thread : ℕ) (table : Table) → is_living table.kernel thread ≡ true → is_open (line_at table thread) ≡ true → ClosesOrWaits (goes_on 23 thread table).seen }
+{}
+
+/// A law: time never goes back: what it is after an entry of a run is no less than what it was before.
+pub fn time_never_falls()
+    ensures { (limits : Bounds) (history : List Entry) (states : List World) (entry : Entry) (before last : World) → IsRun limits (entry ∷ history) (before ∷ states) last → before.time ≤ last.time }
+{}
+
+/// A law: who is told to wait was not due: the deadline of its call didn't count before that step, or was not reached.
+pub fn whoever_is_told_to_wait_was_not_due()
+    ensures { (limits : Bounds) (history : List Entry) (states : List World) (before last : World) (thread : ℕ) → IsRun limits (Happened (Go thread) Waits ∷ history) (before ∷ states) last → is_due before thread ≡ false }
+{}
+
+/// A law: an expiry leaves every mutex as it was: its owner, its count and its health.
+pub fn expiry_leaves_mutexes()
+    ensures { (thread : ℕ) (before after : World) → Expires thread before after → (m : ℕ) → mutex_at after m ≡ mutex_at before m }
+{}
+
+/// A law: ETIMEDOUT (110) is answered only to a call that expired while it was among the waiters of a mutex, was stuck or
+/// was parked: one that was handed its mutex, was unblocked or had a result before that is never answered so.
+pub fn timed_out_call_has_expired()
+    ensures { (limits : Bounds) (history : List Entry) (states : List World) (before last : World) (thread : ℕ) → IsRun limits (Happened (Go thread) (Answered 110) ∷ history) (before ∷ states) last → fate thread (Happened (Go thread) (Answered 110) ∷ history) (before ∷ states) ≡ Expired }
 {}

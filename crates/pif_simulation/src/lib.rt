@@ -7,6 +7,7 @@ mod laws;
 
 pub use laws::{
     call_closes_or_waits_within_24_steps, chain_is_found_where_there_is_one,
-    effective_priority_is_greatest_over_any_chain, next_waiter_is_first_of_greatest,
-    no_mutex_has_two_holders, waiters_get_a_mutex_in_order,
+    effective_priority_is_greatest_over_any_chain, expiry_leaves_mutexes,
+    next_waiter_is_first_of_greatest, no_mutex_has_two_holders, time_never_falls,
+    timed_out_call_has_expired, waiters_get_a_mutex_in_order, whoever_is_told_to_wait_was_not_due,
 };

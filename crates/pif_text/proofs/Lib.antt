@@ -7,3 +7,4 @@ pub mod QuestionLemmas
 pub mod Written
 pub mod ReadBack
 pub mod Plain
+pub mod Versions

@@ -9,15 +9,16 @@ use Rattle.pif_types.specs.declared.errors.AddFault.TheVariants as add_fault
 use Rattle.pif_types.specs.declared.errors.Refusal.TheVariants as refusal
 use Rattle.pif_types.specs.declared.requests.Kind.TheVariants.{Normal, ErrorCheck, Recursive}
 use Rattle.pif_types.specs.declared.requests.Request.{Request}
-use Rattle.pif_types.specs.declared.requests.Request.TheVariants.{Lock, TryLock, Unlock, Consistent, Wait, Signal, Broadcast, SetPrio}
+use Rattle.pif_types.specs.declared.requests.Request.TheVariants.{Lock, TryLock, Unlock, Consistent, Wait, Signal, Broadcast, SetPrio, TimedLock, TimedWait}
 use Rattle.pif_model.specs.declared.events.Event.{Event}
-use Rattle.pif_model.specs.declared.events.Event.TheVariants.{Begin, Go, End}
+use Rattle.pif_model.specs.declared.events.Event.TheVariants.{Begin, Go, End, Tick}
 use Rattle.pif_model.specs.declared.events.Seen.{Seen}
 use Rattle.pif_model.specs.declared.events.Seen.TheVariants as seen
 use Rattle.pif_text.specs.declared.commands.Addition.{Addition}
 use Rattle.pif_text.specs.declared.commands.Addition.TheVariants.{Thread, Mutex, Cond}
 use Rattle.pif_text.specs.declared.commands.Command.{Command}
 use Rattle.pif_text.specs.declared.commands.Command.TheVariants as command
+use Rattle.pif_text.specs.declared.traces.Version.TheVariants.{Two}
 use Rattle.pif_text.specs.declared.replies.Added.{Added}
 use Rattle.pif_text.specs.declared.replies.Added.TheVariants as added
 use Rattle.pif_text.specs.declared.replies.Reply.{Reply}
@@ -108,39 +109,47 @@ behind m n xs ys e f h p = plain-append m n xs ys (record { no_end = e; no_equal
 spaced : (m n : ℕ) (xs ys : List ℕ) → IsPlain m xs → IsPlain n ys → IsPlain (m + 1 + n) (xs ++ codes " " ++ ys)
 spaced m n xs ys p q = plain-append (m + 1) n (xs ++ codes " ") ys (plain-append m 1 xs (codes " ") p space-plain) q
 
-request-plain : (q : Request) → IsRequestWritten q → IsPlain 30 (request_text q)
+request-plain : (q : Request) → IsRequestWritten q → IsPlain 44 (request_text q)
 unfolding request_text
 request-plain (Lock m) r =
-    plain-more 16 30 _ (omega arith) (behind 5 11 (codes "lock ") _ refl refl (omega arith) (plain-mutex m r.1))
+    plain-more 16 44 _ (omega arith) (behind 5 11 (codes "lock ") _ refl refl (omega arith) (plain-mutex m r.1))
 request-plain (TryLock m) r =
-    plain-more 19 30 _ (omega arith) (behind 8 11 (codes "trylock ") _ refl refl (omega arith) (plain-mutex m r.1))
+    plain-more 19 44 _ (omega arith) (behind 8 11 (codes "trylock ") _ refl refl (omega arith) (plain-mutex m r.1))
 request-plain (Unlock m) r =
-    plain-more 18 30 _ (omega arith) (behind 7 11 (codes "unlock ") _ refl refl (omega arith) (plain-mutex m r.1))
+    plain-more 18 44 _ (omega arith) (behind 7 11 (codes "unlock ") _ refl refl (omega arith) (plain-mutex m r.1))
 request-plain (Consistent m) r =
-    plain-more 22 30 _ (omega arith) (behind 11 11 (codes "consistent ") _ refl refl (omega arith) (plain-mutex m r.1))
+    plain-more 22 44 _ (omega arith) (behind 11 11 (codes "consistent ") _ refl refl (omega arith) (plain-mutex m r.1))
 request-plain (Wait c m) r =
-    plain-more 28 30 _ (omega arith) (spaced 16 11 (codes "wait " ++ cond_name c) (mutex_name m)
+    plain-more 28 44 _ (omega arith) (spaced 16 11 (codes "wait " ++ cond_name c) (mutex_name m)
     (behind 5 11 (codes "wait ") _ refl refl (omega arith) (plain-cond c r.0.1)) (plain-mutex m r.1.1))
 request-plain (Signal c) r =
-    plain-more 18 30 _ (omega arith) (behind 7 11 (codes "signal ") _ refl refl (omega arith) (plain-cond c r.1))
+    plain-more 18 44 _ (omega arith) (behind 7 11 (codes "signal ") _ refl refl (omega arith) (plain-cond c r.1))
 request-plain (Broadcast c) r =
-    plain-more 21 30 _ (omega arith) (behind 10 11 (codes "broadcast ") _ refl refl (omega arith) (plain-cond c r.1))
+    plain-more 21 44 _ (omega arith) (behind 10 11 (codes "broadcast ") _ refl refl (omega arith) (plain-cond c r.1))
 request-plain (SetPrio t p) r =
-    spaced 19 10 (codes "setprio " ++ thread_name t) (decimal p)
-    (behind 8 11 (codes "setprio ") _ refl refl (omega arith) (plain-thread t r.0.1)) (plain-number p r.1)
+    plain-more 30 44 _ (omega arith) (spaced 19 10 (codes "setprio " ++ thread_name t) (decimal p)
+    (behind 8 11 (codes "setprio ") _ refl refl (omega arith) (plain-thread t r.0.1)) (plain-number p r.1))
+request-plain (TimedLock m d) r =
+    plain-more 32 44 _ (omega arith) (spaced 21 10 (codes "timedlock " ++ mutex_name m) (decimal d)
+    (behind 10 11 (codes "timedlock ") _ refl refl (omega arith) (plain-mutex m r.0.1)) (plain-number d r.1))
+request-plain (TimedWait c m d) r =
+    spaced 33 10 (codes "timedwait " ++ cond_name c ++ codes " " ++ mutex_name m) (decimal d)
+    (spaced 21 11 (codes "timedwait " ++ cond_name c) (mutex_name m)
+    (behind 10 11 (codes "timedwait ") _ refl refl (omega arith) (plain-cond c r.0.1)) (plain-mutex m r.1.1))
+    (plain-number d r.2)
 
-limits-plain : (t m c s : ℕ) → IsWritten (command.Limits t m c s) → IsPlain 60 (command_text (command.Limits t m c s))
+limits-plain : (t m c s : ℕ) → IsWritten (command.Limits t m c s) → IsPlain 62 (command_text (command.Limits t m c s))
 unfolding command_text
 limits-plain t m c s r =
     let first = behind 7 10 (codes "limits ") (decimal t) refl refl (omega arith) (plain-number t r.0) in
     let second = spaced 17 10 _ (decimal m) first (plain-number m r.1) in
     let third = spaced 28 10 _ (decimal c) second (plain-number c r.2) in
-    plain-more 50 60 _ (omega arith) (spaced 39 10 _ (decimal s) third (plain-number s r.3))
+    plain-more 50 62 _ (omega arith) (spaced 39 10 _ (decimal s) third (plain-number s r.3))
 
-addition-plain : (a : Addition) → IsAdditionWritten a → IsPlain 60 (addition_text a)
+addition-plain : (a : Addition) → IsAdditionWritten a → IsPlain 62 (addition_text a)
 unfolding addition_text
 addition-plain (Thread p) r =
-    plain-more 17 60 _ (omega arith) (behind 7 10 (codes "thread ") _ refl refl (omega arith) (plain-number p r))
+    plain-more 17 62 _ (omega arith) (behind 7 10 (codes "thread ") _ refl refl (omega arith) (plain-number p r))
 addition-plain (Mutex Normal false) r = record { no_end = refl; no_equals = refl; short = omega arith }
 addition-plain (Mutex Normal true) r = record { no_end = refl; no_equals = refl; short = omega arith }
 addition-plain (Mutex ErrorCheck false) r = record { no_end = refl; no_equals = refl; short = omega arith }
@@ -148,20 +157,22 @@ addition-plain (Mutex ErrorCheck true) r = record { no_end = refl; no_equals = r
 addition-plain (Mutex Recursive false) r = record { no_end = refl; no_equals = refl; short = omega arith }
 addition-plain (Mutex Recursive true) r = record { no_end = refl; no_equals = refl; short = omega arith }
 addition-plain (Cond m) r =
-    plain-more 16 60 _ (omega arith) (behind 5 11 (codes "cond ") _ refl refl (omega arith) (plain-mutex m r.1))
+    plain-more 16 62 _ (omega arith) (behind 5 11 (codes "cond ") _ refl refl (omega arith) (plain-mutex m r.1))
 
-event-plain : (e : Event) → IsEventWritten e → IsPlain 60 (event_text e)
+event-plain : (e : Event) → IsEventWritten e → IsPlain 62 (event_text e)
 unfolding event_text
 event-plain (Begin t q) r =
-    plain-more 48 60 _ (omega arith) (spaced 17 30 (codes "begin " ++ thread_name t) (request_text q)
-    (behind 6 11 (codes "begin ") _ refl refl (omega arith) (plain-thread t r.0.1)) (request-plain q r.1))
+    spaced 17 44 (codes "begin " ++ thread_name t) (request_text q)
+    (behind 6 11 (codes "begin ") _ refl refl (omega arith) (plain-thread t r.0.1)) (request-plain q r.1)
 event-plain (Go t) r =
-    plain-more 14 60 _ (omega arith) (behind 3 11 (codes "go ") _ refl refl (omega arith) (plain-thread t r.1))
+    plain-more 14 62 _ (omega arith) (behind 3 11 (codes "go ") _ refl refl (omega arith) (plain-thread t r.1))
 event-plain (End t) r =
-    plain-more 15 60 _ (omega arith) (behind 4 11 (codes "end ") _ refl refl (omega arith) (plain-thread t r.1))
+    plain-more 15 62 _ (omega arith) (behind 4 11 (codes "end ") _ refl refl (omega arith) (plain-thread t r.1))
+event-plain (Tick n) r =
+    plain-more 15 62 _ (omega arith) (behind 5 10 (codes "tick ") _ refl refl (omega arith) (plain-number n r))
 
 -- the text of a command that stands in traces
-command-plain : (c : Command) → IsWritten c → if_traced c ≡ Some c → IsPlain 60 (command_text c)
+command-plain : (c : Command) → IsWritten c → if_traced Two c ≡ Some c → IsPlain 62 (command_text c)
 unfolding command_text
 command-plain (command.Limits t m c s) r e = limits-plain t m c s r
 command-plain (command.Add a) r e = addition-plain a r
@@ -205,10 +216,12 @@ seen-plain seen.Waits r = record { no_end = refl; no_equals = refl; short = omeg
 seen-plain (seen.Answered n) r =
     plain-more 17 20 _ (omega arith) (behind 7 10 (codes "answer ") _ refl refl (omega arith) (plain-number n r))
 seen-plain seen.Ended r = record { no_end = refl; no_equals = refl; short = omega arith }
+seen-plain seen.Ticked r = record { no_end = refl; no_equals = refl; short = omega arith }
 seen-plain (seen.Refused refusal.Dead) r = record { no_end = refl; no_equals = refl; short = omega arith }
 seen-plain (seen.Refused refusal.Busy) r = record { no_end = refl; no_equals = refl; short = omega arith }
 seen-plain (seen.Refused refusal.Idle) r = record { no_end = refl; no_equals = refl; short = omega arith }
 seen-plain (seen.Refused refusal.NoSuch) r = record { no_end = refl; no_equals = refl; short = omega arith }
+seen-plain (seen.Refused refusal.Past) r = record { no_end = refl; no_equals = refl; short = omega arith }
 
 reply-plain : (r : Reply) → IsTraced r → IsPlain 20 (text_of r)
 unfolding text_of
@@ -222,7 +235,7 @@ pub record IsLine (bytes : List ℕ) : Type 0 where
   pub no_end : lacks 10 bytes ≡ true
   pub short : length bytes ≤ 120
 
-pub recorded-line : (c : Command) (r : Reply) → IsWritten c → if_traced c ≡ Some c → IsTraced r
+pub recorded-line : (c : Command) (r : Reply) → IsWritten c → if_traced Two c ≡ Some c → IsTraced r
     → IsLine (command_text c ++ recorded r)
 recorded-line c r p e q =
     let command = command-plain c p e in
@@ -234,6 +247,6 @@ recorded-line c r p e q =
     }
 
 -- the command and the answer in a line are those that were written
-pub recorded-parts : (c : Command) (r : Reply) → IsWritten c → if_traced c ≡ Some c
+pub recorded-parts : (c : Command) (r : Reply) → IsWritten c → if_traced Two c ≡ Some c
     → parts_of (command_text c ++ recorded r) ≡ Some (command_text c, text_of r)
 recorded-parts c r p e = parts_of-recorded (command_text c) (text_of r) (command-plain c p e).no_equals

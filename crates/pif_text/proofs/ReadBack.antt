@@ -3,20 +3,20 @@ use Rattle.std.proofs.Common.{◌≡◌, ℕ, ◌<◌, ◌≤◌, Bool, true, fa
 use Rattle.pif_types.specs.declared.requests.Kind.{Kind}
 use Rattle.pif_types.specs.declared.requests.Kind.TheVariants.{Normal, ErrorCheck, Recursive}
 use Rattle.pif_types.specs.declared.requests.Request.{Request}
-use Rattle.pif_types.specs.declared.requests.Request.TheVariants.{Lock, TryLock, Unlock, Consistent, Wait, Signal, Broadcast, SetPrio}
+use Rattle.pif_types.specs.declared.requests.Request.TheVariants.{Lock, TryLock, Unlock, Consistent, Wait, Signal, Broadcast, SetPrio, TimedLock, TimedWait}
 use Rattle.pif_model.specs.declared.events.Event.{Event}
-use Rattle.pif_model.specs.declared.events.Event.TheVariants.{Begin, Go, End}
+use Rattle.pif_model.specs.declared.events.Event.TheVariants.{Begin, Go, End, Tick}
 use Rattle.pif_text.specs.declared.commands.Addition.{Addition}
 use Rattle.pif_text.specs.declared.commands.Addition.TheVariants.{Thread, Mutex, Cond}
 use Rattle.pif_text.specs.declared.commands.Command.{Command}
 use Rattle.pif_text.specs.declared.commands.Command.TheVariants as command
-use Rattle.pif_text.specs.Commands.{kind_in, request_in, request_in_three, command_of_two, command_of_three, command_of_four, command_of_five, command_of_words, command_in}
+use Rattle.pif_text.specs.Commands.{kind_in, request_in, request_in_three, request_in_four, command_of_two, command_of_three, command_of_four, command_of_five, command_of_six, command_of_words, command_in}
 use Rattle.pif_text.specs.CommandTexts.{command_text, addition_text, event_text, run_text, request_text, IsWritten, IsAdditionWritten, IsEventWritten, IsRunWritten, IsRequestWritten}
 use Rattle.pif_text.specs.Numbers.{thread_in}
 use Rattle.pif_text.specs.Replies.{thread_name, mutex_name, cond_name}
 use Rattle.pif_text.specs.Words.{words}
 use Rattle.pif_text.proofs.Numerals.{number_decimal}
-use Rattle.pif_text.proofs.Names.{has_no_space, first_word, middle_word, two-words, three-words, number-no_space, thread-no_space, mutex-no_space, cond-no_space, thread_back, mutex_back, cond_back}
+use Rattle.pif_text.proofs.Names.{has_no_space, first_word, middle_word, two-words, three-words, four-words, number-no_space, thread-no_space, mutex-no_space, cond-no_space, thread_back, mutex_back, cond_back}
 use Rattle.pif_text.proofs.QuestionLemmas.{question_back}
 
 -- ---- requests
@@ -27,11 +27,12 @@ request_of_words [] = None
 request_of_words (a ∷ []) = None
 request_of_words (a ∷ b ∷ []) = request_in a b
 request_of_words (a ∷ b ∷ c ∷ []) = request_in_three a b c
-request_of_words (a ∷ b ∷ c ∷ d ∷ more) = None
+request_of_words (a ∷ b ∷ c ∷ d ∷ []) = request_in_four a b c d
+request_of_words (a ∷ b ∷ c ∷ d ∷ e ∷ more) = None
 
 -- the words of a request make that request
 request_back : (q : Request) → IsRequestWritten q → request_of_words (words (request_text q)) ≡ Some q
-unfolding request_text request_in request_in_three
+unfolding request_text request_in request_in_three request_in_four
 request_back (Lock m) r = rw (two-words (codes "lock") (mutex_name m) refl (mutex-no_space m r.1), mutex_back m r.0 r.1) refl
 request_back (TryLock m) r = rw (two-words (codes "trylock") (mutex_name m) refl (mutex-no_space m r.1), mutex_back m r.0 r.1) refl
 request_back (Unlock m) r = rw (two-words (codes "unlock") (mutex_name m) refl (mutex-no_space m r.1), mutex_back m r.0 r.1) refl
@@ -44,6 +45,20 @@ request_back (Broadcast c) r = rw (two-words (codes "broadcast") (cond_name c) r
 request_back (SetPrio t p) r =
     rw (three-words (codes "setprio") (thread_name t) (decimal p) refl (thread-no_space t r.0.1) (number-no_space p r.1), thread_back t r.0.0 r.0.1, number_decimal p r.1)
     refl
+request_back (TimedLock m d) r =
+    rw (
+      three-words (codes "timedlock") (mutex_name m) (decimal d) refl (mutex-no_space m r.0.1) (number-no_space d r.1),
+      mutex_back m r.0.0 r.0.1,
+      number_decimal d r.1,
+    ) refl
+request_back (TimedWait c m d) r =
+    rw (
+      four-words (codes "timedwait") (cond_name c) (mutex_name m) (decimal d) refl (cond-no_space c r.0.1)
+          (mutex-no_space m r.1.1) (number-no_space d r.2),
+      cond_back c r.0.0 r.0.1,
+      mutex_back m r.1.0 r.1.1,
+      number_decimal d r.2,
+    ) refl
 
 -- the words of a command that begins with a name and a thread
 called-words : (name : List ℕ) (t : ℕ) (request : List ℕ) → has_no_space name ≡ true → t < 4294967296
@@ -54,22 +69,24 @@ called-words name t request e small =
 -- words that make a request, behind `begin` and a thread
 begun : (t : ℕ) (q : Request) (ws : List (List ℕ)) → thread_in (thread_name t) ≡ Some t → request_of_words ws ≡ Some q
     → command_of_words (codes "begin" ∷ thread_name t ∷ ws) ≡ Some (command.Event (Begin t q))
-unfolding command_of_words command_of_four command_of_five
+unfolding command_of_words command_of_four command_of_five command_of_six
 begun t q [] e f = absurd (grind (arith, f))
 begun t q (a ∷ []) e f = absurd (grind (arith, f))
 begun t q (a ∷ b ∷ []) e f = rw (e, f) refl
 begun t q (a ∷ b ∷ c ∷ []) e f = rw (e, f) refl
-begun t q (a ∷ b ∷ c ∷ d ∷ more) e f = absurd (grind (arith, f))
+begun t q (a ∷ b ∷ c ∷ d ∷ []) e f = rw (e, f) refl
+begun t q (a ∷ b ∷ c ∷ d ∷ z ∷ more) e f = absurd (grind (arith, f))
 
 -- words that make a request, behind `call` and a thread
 called : (t : ℕ) (q : Request) (ws : List (List ℕ)) → thread_in (thread_name t) ≡ Some t → request_of_words ws ≡ Some q
     → command_of_words (codes "call" ∷ thread_name t ∷ ws) ≡ Some (command.Run t (Some q))
-unfolding command_of_words command_of_four command_of_five
+unfolding command_of_words command_of_four command_of_five command_of_six
 called t q [] e f = absurd (grind (arith, f))
 called t q (a ∷ []) e f = absurd (grind (arith, f))
 called t q (a ∷ b ∷ []) e f = rw (e, f) refl
 called t q (a ∷ b ∷ c ∷ []) e f = rw (e, f) refl
-called t q (a ∷ b ∷ c ∷ d ∷ more) e f = absurd (grind (arith, f))
+called t q (a ∷ b ∷ c ∷ d ∷ []) e f = rw (e, f) refl
+called t q (a ∷ b ∷ c ∷ d ∷ z ∷ more) e f = absurd (grind (arith, f))
 
 -- ---- events
 
@@ -85,6 +102,7 @@ unfolding command_in command_of_words command_of_two event_text
 event_back (Begin t q) r = begin_back t q r.0.0 r.0.1 r.1
 event_back (Go t) r = rw (two-words (codes "go") (thread_name t) refl (thread-no_space t r.1), thread_back t r.0 r.1) refl
 event_back (End t) r = rw (two-words (codes "end") (thread_name t) refl (thread-no_space t r.1), thread_back t r.0 r.1) refl
+event_back (Tick n) r = rw (two-words (codes "tick") (decimal n) refl (number-no_space n r), number_decimal n r) refl
 
 -- ---- threads that go on
 
@@ -117,9 +135,9 @@ addition_back (Cond m) r = rw (two-words (codes "cond") (mutex_name m) refl (mut
 -- ---- limits
 
 -- four numbers with one space between them
-four-words : (a b c d : ℕ) → a < 4294967296 → b < 4294967296 → c < 4294967296 → d < 4294967296
+four-numbers : (a b c d : ℕ) → a < 4294967296 → b < 4294967296 → c < 4294967296 → d < 4294967296
     → words (decimal a ++ (32 ∷ decimal b ++ (32 ∷ decimal c ++ (32 ∷ decimal d)))) ≡ decimal a ∷ decimal b ∷ decimal c ∷ decimal d ∷ []
-four-words a b c d e f g h =
+four-numbers a b c d e f g h =
     first_word (decimal a) _ (number-no_space a e)
     ∙ ap (λ l. decimal a ∷ l) (first_word (decimal b) _ (number-no_space b f)
     ∙ ap (λ l. decimal b ∷ l) (two-words (decimal c) (decimal d) (number-no_space c g) (number-no_space d h)))
@@ -135,7 +153,7 @@ limits-back t m c s e f g h =
     ap (λ line. command_of_words (words (codes "limits " ++ line))) (spaced (decimal t) (decimal m) (decimal c) (decimal s))
     ∙ rw (
       first_word (codes "limits") (decimal t ++ (32 ∷ decimal m ++ (32 ∷ decimal c ++ (32 ∷ decimal s)))) refl,
-      four-words t m c s e f g h,
+      four-numbers t m c s e f g h,
       number_decimal t e,
       number_decimal m f,
       number_decimal c g,

@@ -45,9 +45,9 @@ unfolding words
 some_word [] = ([], [], refl)
 some_word (x ∷ xs) = first_part x (x == 32) (slice_split (λ byte. byte == 32) xs)
 
--- more than five words are no command
-pub too_many : (a b c d e line : List ℕ) → command_of_words (a ∷ b ∷ c ∷ d ∷ e ∷ words line) ≡ None
+-- more than six words are no command
+pub too_many : (a b c d e f line : List ℕ) → command_of_words (a ∷ b ∷ c ∷ d ∷ e ∷ f ∷ words line) ≡ None
 unfolding command_of_words
-too_many a b c d e line =
+too_many a b c d e f line =
     let some = some_word line in
     rw some.2 refl

@@ -3,13 +3,13 @@ use Rattle.std.specs.Prelude.{ℕ, Bool, List, [], ◌++◌, Option, Some, None,
 use Rattle.pif_types.specs.declared.requests.Kind.{Kind}
 use Rattle.pif_types.specs.declared.requests.Kind.TheVariants.{Normal, ErrorCheck, Recursive}
 use Rattle.pif_types.specs.declared.requests.Request.{Request}
-use Rattle.pif_types.specs.declared.requests.Request.TheVariants.{Lock, TryLock, Unlock, Consistent, Wait, Signal, Broadcast, SetPrio}
+use Rattle.pif_types.specs.declared.requests.Request.TheVariants.{Lock, TryLock, Unlock, Consistent, Wait, Signal, Broadcast, SetPrio, TimedLock, TimedWait}
 use Rattle.pif_text.specs.declared.commands.Command.{Command}
 use Rattle.pif_text.specs.declared.commands.Command.TheVariants as command
 use Rattle.pif_text.specs.declared.commands.Addition.{Addition}
 use Rattle.pif_text.specs.declared.commands.Addition.TheVariants.{Thread, Mutex, Cond}
 use Rattle.pif_model.specs.declared.events.Event.{Event}
-use Rattle.pif_model.specs.declared.events.Event.TheVariants.{Begin, Go, End}
+use Rattle.pif_model.specs.declared.events.Event.TheVariants.{Begin, Go, End, Tick}
 use Rattle.pif_text.specs.Numbers.{IsName, IsNumber}
 use Rattle.pif_text.specs.Questions.{question_text, IsQuestionWritten}
 use Rattle.pif_text.specs.Replies.{thread_name, mutex_name, cond_name}
@@ -34,6 +34,8 @@ request_text (Wait c m) = codes "wait " ++ cond_name c ++ codes " " ++ mutex_nam
 request_text (Signal c) = codes "signal " ++ cond_name c
 request_text (Broadcast c) = codes "broadcast " ++ cond_name c
 request_text (SetPrio t p) = codes "setprio " ++ thread_name t ++ codes " " ++ decimal p
+request_text (TimedLock m d) = codes "timedlock " ++ mutex_name m ++ codes " " ++ decimal d
+request_text (TimedWait c m d) = codes "timedwait " ++ cond_name c ++ codes " " ++ mutex_name m ++ codes " " ++ decimal d
 
 -- The text of an addition.
 unfoldable pub addition_text : Addition → List ℕ
@@ -46,6 +48,7 @@ unfoldable pub event_text : Event → List ℕ
 event_text (Begin t q) = codes "begin " ++ thread_name t ++ codes " " ++ request_text q
 event_text (Go t) = codes "go " ++ thread_name t
 event_text (End t) = codes "end " ++ thread_name t
+event_text (Tick n) = codes "tick " ++ decimal n
 
 -- The text by which a thread goes on with a request or, with none, with what it has open.
 unfoldable pub run_text : ℕ → Option Request → List ℕ
@@ -71,6 +74,8 @@ IsRequestWritten (Wait c m) = IsName c × IsName m
 IsRequestWritten (Signal c) = IsName c
 IsRequestWritten (Broadcast c) = IsName c
 IsRequestWritten (SetPrio t p) = IsName t × IsNumber p
+IsRequestWritten (TimedLock m d) = IsName m × IsNumber d
+IsRequestWritten (TimedWait c m d) = IsName c × IsName m × IsNumber d
 
 -- An addition whose numbers a line can write.
 abbrev pub IsAdditionWritten : Addition → Type 0
@@ -83,6 +88,7 @@ abbrev pub IsEventWritten : Event → Type 0
 IsEventWritten (Begin t q) = IsName t × IsRequestWritten q
 IsEventWritten (Go t) = IsName t
 IsEventWritten (End t) = IsName t
+IsEventWritten (Tick n) = IsNumber n
 
 -- A thread, and a request if there is one, whose numbers a line can write.
 abbrev pub IsRunWritten : ℕ → Option Request → Type 0

@@ -30,6 +30,7 @@ refusal_word refusal.Dead = codes "dead"
 refusal_word refusal.Busy = codes "busy"
 refusal_word refusal.Idle = codes "idle"
 refusal_word refusal.NoSuch = codes "nosuch"
+refusal_word refusal.Past = codes "past"
 
 -- What is known of the state that a mutex protects, in one word.
 abbrev pub health_word : Health → List ℕ
@@ -68,6 +69,7 @@ seen_text seen.Went = codes "went"
 seen_text seen.Waits = codes "waits"
 seen_text (seen.Answered number) = codes "answer " ++ decimal number
 seen_text seen.Ended = codes "ended"
+seen_text seen.Ticked = codes "ticked"
 seen_text (seen.Refused why) = codes "refused " ++ refusal_word why
 
 -- The text of what a question is answered, without a line feed. The word of a mutex is written in eight hexadecimal

@@ -1,19 +1,33 @@
 -- The lines of traces.
-use Rattle.std.specs.Prelude.{ℕ, ◌==◌, ◌&&◌, Bool, List, [], ◌∷◌, ◌++◌, drop, take, Option, Some, None, option_map, if◌then◌else◌, bytes_eq, codes, decimal}
+use Rattle.std.specs.Prelude.{ℕ, ◌==◌, ◌&&◌, Bool, true, false, not, List, [], ◌∷◌, ◌++◌, drop, take, Option, Some, None, option_map, if◌then◌else◌, bytes_eq, codes, decimal}
 use Rattle.pif_text.specs.declared.commands.Command.{Command}
 use Rattle.pif_text.specs.declared.commands.Command.TheVariants as command
 use Rattle.pif_text.specs.declared.replies.Reply.{Reply}
 use Rattle.pif_text.specs.declared.replies.Reply.TheVariants as reply
 use Rattle.pif_text.specs.declared.replies.Added.{Added}
 use Rattle.pif_text.specs.declared.replies.Added.TheVariants as added
+use Rattle.pif_types.specs.declared.requests.Request.{Request}
+use Rattle.pif_types.specs.declared.requests.Request.TheVariants.{TimedLock, TimedWait}
+use Rattle.pif_model.specs.declared.events.Event.{Event}
+use Rattle.pif_model.specs.declared.events.Event.TheVariants.{Begin, Tick}
 use Rattle.pif_model.specs.declared.events.Seen.{Seen}
 use Rattle.pif_model.specs.declared.events.Seen.TheVariants as seen
+use Rattle.pif_text.specs.declared.traces.Version.{Version}
+use Rattle.pif_text.specs.declared.traces.Version.TheVariants.{One, Two}
 use Rattle.pif_text.specs.Numbers.{IsNumber}
 use Rattle.pif_text.specs.Replies.{text_of}
 
--- The first line of a trace.
-abbrev pub header_text : List ℕ
-header_text = codes "pif-trace 1"
+-- The first line of a trace of a version.
+abbrev pub header_text : Version → List ℕ
+header_text One = codes "pif-trace 1"
+header_text Two = codes "pif-trace 2"
+
+-- The version of a trace that begins with this line; none where no trace begins so.
+unfoldable pub version_in : List ℕ → Option Version
+version_in line =
+    if bytes_eq line (header_text One) then Some One
+    else if bytes_eq line (header_text Two) then Some Two
+    else None
 
 -- What stands between a command and the answer to it: a space, an equals sign and a space.
 abbrev pub answer_mark : List ℕ
@@ -30,13 +44,30 @@ parts_of (byte ∷ more) =
     if is_marked byte more then Some ([], drop 2 more)
     else option_map (λ parts. (byte ∷ parts.0, parts.1)) (parts_of more)
 
--- A command, if it stands in traces: limits, additions and events do.
-abbrev pub if_traced : Command → Option Command
-if_traced (command.Limits t m c s) = Some (command.Limits t m c s)
-if_traced (command.Add a) = Some (command.Add a)
-if_traced (command.Event e) = Some (command.Event e)
-if_traced (command.Run t q) = None
-if_traced (command.Ask q) = None
+-- Whether a request has a deadline.
+abbrev pub is_timed : Request → Bool
+is_timed (TimedLock m d) = true
+is_timed (TimedWait c m d) = true
+is_timed q = false
+
+-- Whether an event stands in traces of version 2 alone: a tick, and the begin of a timed request.
+abbrev pub is_of_two : Event → Bool
+is_of_two (Begin t q) = is_timed q
+is_of_two (Tick n) = true
+is_of_two e = false
+
+-- Whether an event stands in traces of a version.
+abbrev pub knows : Version → Event → Bool
+knows One e = not (is_of_two e)
+knows Two e = true
+
+-- A command, if it stands in traces of a version: limits, additions and events that the version knows do.
+abbrev pub if_traced : Version → Command → Option Command
+if_traced v (command.Limits t m c s) = Some (command.Limits t m c s)
+if_traced v (command.Add a) = Some (command.Add a)
+if_traced v (command.Event e) = if knows v e then Some (command.Event e) else None
+if_traced v (command.Run t q) = None
+if_traced v (command.Ask q) = None
 
 -- An answer as it stands behind its command in a line of a trace.
 abbrev pub recorded : Reply → List ℕ
@@ -65,6 +96,7 @@ IsSeenTraced seen.Went = Unit {0}
 IsSeenTraced seen.Waits = Unit {0}
 IsSeenTraced (seen.Answered n) = IsNumber n
 IsSeenTraced seen.Ended = Unit {0}
+IsSeenTraced seen.Ticked = Unit {0}
 IsSeenTraced (seen.Refused why) = Unit {0}
 
 -- An answer that stands in traces, with numbers that a line can write. That of a question doesn't.

@@ -6,13 +6,13 @@ ghost use Rattle.pif_text.specs.CommandTexts.{IsWritten, addition_text, command_
 ghost use Rattle.pif_text.specs.Replies.{thread_name, mutex_name};
 
 use crate::questions::append_question;
-use crate::writing::{append, append_cond, append_decimal, append_mutex, append_thread};
+use crate::writing::{append, append_cond, append_mutex, append_number, append_thread};
 use crate::{Addition, Command, TEXT_ROOM, Text};
 use pif_model::Event;
 use pif_types::{Kind, Request, Tid};
 
-/// How many bytes of room `command_text` asks for: no command is longer.
-pub const COMMAND_ROOM: usize = 90;
+/// How many bytes of room `command_text` asks for. The longest is `begin tN timedwait cN mN D`, each number of 10 digits.
+pub const COMMAND_ROOM: usize = 62;
 
 /// The type of a mutex, in one word.
 fn kind_word(kind: Kind) -> &'static [u8]
@@ -43,9 +43,9 @@ pub fn mutex_text(kind: Kind, robust: bool, out: &mut Text)
 /// Appends a request.
 #[tactic(auto, unfolding(crate::specs::CommandTexts::request_text))]
 fn append_request(out: &mut Text, request: Request)
-    requires { array_vec_len out.old + 50 ≤ TEXT_ROOM }
+    requires { array_vec_len out.old + 44 ≤ TEXT_ROOM }
     ensures items { out.new.items ≡ out.old.items ++ request_text request }
-    ensures len { array_vec_len out.new ≤ array_vec_len out.old + 50 }
+    ensures len { array_vec_len out.new ≤ array_vec_len out.old + 44 }
 {
     match request {
         Request::Lock(mutex) => {
@@ -82,16 +82,30 @@ fn append_request(out: &mut Text, request: Request)
             append(out, b"setprio ");
             append_thread(out, thread);
             append(out, b" ");
-            append_decimal(out, u64::from(priority));
+            append_number(out, priority);
+        }
+        Request::TimedLock(mutex, deadline) => {
+            append(out, b"timedlock ");
+            append_mutex(out, mutex);
+            append(out, b" ");
+            append_number(out, deadline);
+        }
+        Request::TimedWait(cond, mutex, deadline) => {
+            append(out, b"timedwait ");
+            append_cond(out, cond);
+            append(out, b" ");
+            append_mutex(out, mutex);
+            append(out, b" ");
+            append_number(out, deadline);
         }
     }
 }
 
 /// Appends a thread and its request.
 fn append_call(out: &mut Text, thread: Tid, request: Request)
-    requires { array_vec_len out.old + 72 ≤ TEXT_ROOM }
+    requires { array_vec_len out.old + 56 ≤ TEXT_ROOM }
     ensures items { out.new.items ≡ out.old.items ++ (thread_name thread ++ codes " " ++ request_text request) }
-    ensures len { array_vec_len out.new ≤ array_vec_len out.old + 72 }
+    ensures len { array_vec_len out.new ≤ array_vec_len out.old + 56 }
 {
     append_thread(out, thread);
     append(out, b" ");
@@ -100,18 +114,18 @@ fn append_call(out: &mut Text, thread: Tid, request: Request)
 
 /// Appends four numbers.
 fn append_numbers(out: &mut Text, first: u32, second: u32, third: u32, fourth: u32)
-    requires { array_vec_len out.old + 83 ≤ TEXT_ROOM }
+    requires { array_vec_len out.old + 43 ≤ TEXT_ROOM }
     ensures items { out.new.items ≡ out.old.items
         ++ (decimal first ++ codes " " ++ decimal second ++ codes " " ++ decimal third ++ codes " " ++ decimal fourth) }
-    ensures len { array_vec_len out.new ≤ array_vec_len out.old + 83 }
+    ensures len { array_vec_len out.new ≤ array_vec_len out.old + 43 }
 {
-    append_decimal(out, u64::from(first));
+    append_number(out, first);
     append(out, b" ");
-    append_decimal(out, u64::from(second));
+    append_number(out, second);
     append(out, b" ");
-    append_decimal(out, u64::from(third));
+    append_number(out, third);
     append(out, b" ");
-    append_decimal(out, u64::from(fourth));
+    append_number(out, fourth);
 }
 
 /// Appends an addition.
@@ -124,7 +138,7 @@ fn append_addition(out: &mut Text, addition: Addition)
     match addition {
         Addition::Thread(priority) => {
             append(out, b"thread ");
-            append_decimal(out, u64::from(priority));
+            append_number(out, priority);
         }
         Addition::Mutex(kind, robust) => mutex_text(kind, robust, out),
         Addition::Cond(mutex) => {
@@ -153,6 +167,10 @@ fn append_event(out: &mut Text, event: Event)
         Event::End(thread) => {
             append(out, b"end ");
             append_thread(out, thread);
+        }
+        Event::Tick(time) => {
+            append(out, b"tick ");
+            append_number(out, time);
         }
     }
 }

@@ -24,7 +24,7 @@ pub use reading::command_of;
 pub use replies::{Added, Cause, Fact, Reply};
 pub use text::{TEXT_ROOM, Text};
 pub use traces::{
-    HEADER, RECORDED_ROOM, VERDICT_ROOM, differs_text, header_text, if_traced, recorded_text,
-    same_text, split_answer,
+    HEADER_ROOM, RECORDED_ROOM, VERDICT_ROOM, Version, differs_text, header_text, if_traced,
+    recorded_text, same_text, split_answer, version_of,
 };
 pub use writing::{REPLY_ROOM, fault_text, reply_text};

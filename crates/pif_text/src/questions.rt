@@ -55,9 +55,9 @@ pub fn question_of_two(name: &[u8], word: &[u8]) -> Option<Question>
 /// Appends a question.
 #[tactic(auto, unfolding(crate::specs::Questions::question_text))]
 pub fn append_question(out: &mut Text, question: Question)
-    requires { array_vec_len out.old + 30 ≤ TEXT_ROOM }
+    requires { array_vec_len out.old + 20 ≤ TEXT_ROOM }
     ensures items { out.new.items ≡ out.old.items ++ question_text question }
-    ensures len { array_vec_len out.new ≤ array_vec_len out.old + 30 }
+    ensures len { array_vec_len out.new ≤ array_vec_len out.old + 20 }
 {
     match question {
         Question::Word(mutex) => {

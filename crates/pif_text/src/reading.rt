@@ -1,6 +1,6 @@
 ghost use Rattle.std.specs.Prelude.{◌≡◌, ◌∷◌, []};
 ghost use Rattle.pif_text.specs.Words.{words};
-ghost use Rattle.pif_text.specs.Commands.{kind_in, request_in, request_in_three, command_of_one, command_of_two, command_of_three, command_of_four, command_of_five, command_of_words, command_in};
+ghost use Rattle.pif_text.specs.Commands.{kind_in, request_in, request_in_three, request_in_four, command_of_one, command_of_two, command_of_three, command_of_four, command_of_five, command_of_six, command_of_words, command_in};
 
 use crate::numbers::{cond_of, mutex_of, number_of, thread_of};
 use crate::questions::{question_of_one, question_of_two};
@@ -56,6 +56,20 @@ fn request_of_three(call: &[u8], first: &[u8], second: &[u8]) -> Option<Request>
         Some(Request::SetPrio(thread_of(first)?, number_of(second)?))
     } else if call == b"wait".as_slice() {
         Some(Request::Wait(cond_of(first)?, mutex_of(second)?))
+    } else if call == b"timedlock".as_slice() {
+        Some(Request::TimedLock(mutex_of(first)?, number_of(second)?))
+    } else {
+        None
+    }
+}
+
+/// The request that four words write.
+#[tactic(auto, unfolding(crate::specs::Commands::request_in_four))]
+fn request_of_four(call: &[u8], first: &[u8], second: &[u8], third: &[u8]) -> Option<Request>
+    ensures { result ≡ request_in_four call.now first.now second.now third.now }
+{
+    if call == b"timedwait".as_slice() {
+        Some(Request::TimedWait(cond_of(first)?, mutex_of(second)?, number_of(third)?))
     } else {
         None
     }
@@ -80,6 +94,8 @@ fn of_two(name: &[u8], word: &[u8]) -> Option<Command>
         Some(Command::Run(thread_of(word)?, None))
     } else if name == b"end".as_slice() {
         Some(Command::Event(Event::End(thread_of(word)?)))
+    } else if name == b"tick".as_slice() {
+        Some(Command::Event(Event::Tick(number_of(word)?)))
     } else if name == b"thread".as_slice() {
         Some(Command::Add(Addition::Thread(number_of(word)?)))
     } else if name == b"mutex".as_slice() {
@@ -144,6 +160,33 @@ fn of_five(name: &[u8], first: &[u8], second: &[u8], third: &[u8], fourth: &[u8]
     }
 }
 
+/// The command of six words.
+#[tactic(auto, unfolding(crate::specs::Commands::command_of_six))]
+fn of_six(
+    name: &[u8],
+    thread: &[u8],
+    call: &[u8],
+    first: &[u8],
+    second: &[u8],
+    third: &[u8],
+) -> Option<Command>
+    ensures { result ≡ command_of_six name.now thread.now call.now first.now second.now third.now }
+{
+    if name == b"call".as_slice() {
+        Some(Command::Run(
+            thread_of(thread)?,
+            Some(request_of_four(call, first, second, third)?),
+        ))
+    } else if name == b"begin".as_slice() {
+        Some(Command::Event(Event::Begin(
+            thread_of(thread)?,
+            request_of_four(call, first, second, third)?,
+        )))
+    } else {
+        None
+    }
+}
+
 /// The command that begins with these three words, before `rest`.
 fn of_more(name: &[u8], first: &[u8], second: &[u8], rest: &[u8]) -> Option<Command>
     ensures { result ≡ command_of_words (name.now ∷ first.now ∷ second.now ∷ words rest.now) }
@@ -153,8 +196,12 @@ fn of_more(name: &[u8], first: &[u8], second: &[u8], rest: &[u8]) -> Option<Comm
         return of_four(name, first, second, third);
     };
     let (fourth, rest) = split_first(rest);
+    let Some(rest) = rest else {
+        return of_five(name, first, second, third, fourth);
+    };
+    let (fifth, rest) = split_first(rest);
     match rest {
-        None => of_five(name, first, second, third, fourth),
+        None => of_six(name, first, second, third, fourth, fifth),
         Some(_) => None,
     }
 }

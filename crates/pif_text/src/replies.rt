@@ -8,8 +8,9 @@ pub enum Reply {
     Done,
     /// What an addition is answered.
     Added(Added),
-    /// What an event is answered, or the last event of a thread that goes on: `begun`, `went`, `waits`, `answer A` or
-    /// `ended`; or `refused nosuch`, `refused dead`, `refused busy` or `refused idle`, where nothing has changed.
+    /// What an event is answered, or the last event of a thread that goes on: `begun`, `went`, `waits`, `answer A`,
+    /// `ended` or `ticked`; or `refused nosuch`, `refused dead`, `refused busy`, `refused idle` or `refused past`, where
+    /// nothing has changed.
     Seen(Seen),
     /// What a question is answered.
     Told(Fact),

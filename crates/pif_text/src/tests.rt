@@ -1,7 +1,7 @@
 use crate::{
-    Added, Addition, Cause, Command, Fact, Question, Reply, Text, command_of, command_reads_back,
-    command_text, differs_text, fault_text, header_text, mutex_text, number_reads_back,
-    recorded_text, reply_text, same_text, split_answer,
+    Added, Addition, Cause, Command, Fact, Question, Reply, Text, Version, command_of,
+    command_reads_back, command_text, differs_text, fault_text, header_text, if_traced, mutex_text,
+    number_reads_back, recorded_text, reply_text, same_text, split_answer, version_of,
 };
 use pif_model::{Event, Seen};
 use pif_types::{AddFault, CondId, Health, Kind, MutexId, Prio, Refusal, Request, Tid};
@@ -138,6 +138,63 @@ fn lines_of_condition_variables_are_read(rt: HostRuntime) -> Result<(), Fail> {
 }
 
 #[test]
+fn lines_of_deadlines_are_read(rt: HostRuntime) -> Result<(), Fail> {
+    let thread = Tid::new(3).ok_or("thread")?;
+    let mutex = MutexId::new(10).ok_or("mutex")?;
+    let cond = CondId::new(256).ok_or("cond")?;
+    let lines = [
+        (
+            b"begin t3 timedlock m10 0".as_slice(),
+            Command::Event(Event::Begin(thread, Request::TimedLock(mutex, 0))),
+        ),
+        (
+            b"call t3 timedlock m10 4294967295",
+            Command::Run(thread, Some(Request::TimedLock(mutex, u32::MAX))),
+        ),
+        (
+            b"begin t3 timedwait c256 m10 7",
+            Command::Event(Event::Begin(thread, Request::TimedWait(cond, mutex, 7))),
+        ),
+        (
+            b"call t3 timedwait c256 m10 7",
+            Command::Run(thread, Some(Request::TimedWait(cond, mutex, 7))),
+        ),
+        (b"tick 0", Command::Event(Event::Tick(0))),
+        (b"tick 4294967295", Command::Event(Event::Tick(u32::MAX))),
+    ];
+    for (line, command) in lines {
+        assert!(rt; command_of(line) == Some(command), "{line:?}");
+    }
+    Ok(())
+}
+
+/// Whether the command of a line stands in traces of a version.
+fn is_traced(version: Version, line: &[u8]) -> bool {
+    match command_of(line) {
+        Some(command) => if_traced(version, command).is_some(),
+        None => false,
+    }
+}
+
+#[test]
+fn version_1_has_no_deadlines(rt: HostRuntime) {
+    for (line, first, second) in [
+        (b"begin t3 lock m10".as_slice(), true, true),
+        (b"begin t3 wait c1 m1", true, true),
+        (b"end t3", true, true),
+        (b"thread 7", true, true),
+        (b"begin t3 timedlock m10 0", false, true),
+        (b"begin t3 timedwait c1 m10 7", false, true),
+        (b"tick 1", false, true),
+        (b"call t3 lock m10", false, false),
+        (b"pick", false, false),
+    ] {
+        let traced = (is_traced(Version::One, line), is_traced(Version::Two, line));
+        assert_eq!(rt; traced, (first, second), "{line:?}");
+    }
+}
+
+#[test]
 fn other_lines_are_no_command(rt: HostRuntime) -> Result<(), Fail> {
     let lines = [
         b"".as_slice(),
@@ -186,6 +243,22 @@ fn other_lines_are_no_command(rt: HostRuntime) -> Result<(), Fail> {
         b"limits 4 2 0",
         b"limits 4 2 0 1 1",
         b"unlock m1",
+        b"tick",
+        b"tick t1",
+        b"tick -1",
+        b"tick 1 2",
+        b"tick 4294967296",
+        b"timedlock m1 5",
+        b"call t1 timedlock m1",
+        b"call t1 timedlock c1 5",
+        b"call t1 timedlock m1 05",
+        b"call t1 timedlock m1 5 5",
+        b"call t1 lock m1 5",
+        b"begin t1 timedwait c1 m1",
+        b"begin t1 timedwait m1 c1 5",
+        b"begin t1 timedwait c1 m1 t5",
+        b"begin t1 timedwait c1 m1 5 5",
+        b"begin t1 wait c1 m1 5",
     ];
     for line in lines {
         assert!(rt; command_of(line).is_none(), "{line:?}");
@@ -287,6 +360,8 @@ fn check_replies(rt: &impl Abort, out: &mut Text) -> Result<(), Fail> {
             b"99",
         ),
         (Reply::Told(Fact::Dead), b"dead"),
+        (Reply::Seen(Seen::Ticked), b"ticked"),
+        (Reply::Seen(Seen::Refused(Refusal::Past)), b"refused past"),
         (Reply::Told(Fact::NoSuch), b"refused nosuch"),
         (Reply::Told(Fact::Thread(Some(thread))), b"t3"),
         (Reply::Told(Fact::Thread(None)), b"none"),
@@ -341,6 +416,10 @@ fn check_commands(rt: &impl Abort, out: &mut Text) -> Result<(), Fail> {
         b"begin t3 wait c256 m10",
         b"begin t3 signal c256",
         b"begin t3 broadcast c256",
+        b"begin t3 timedlock m10 5",
+        b"begin t4294967295 timedwait c4294967295 m4294967295 4294967295",
+        b"call t3 timedwait c256 m10 5",
+        b"tick 5",
         b"condword c256",
         b"go t3",
         b"end t3",
@@ -387,6 +466,22 @@ fn lines_of_traces_are_cut_at_the_first_mark(rt: HostRuntime) {
 }
 
 #[test]
+fn headers_name_a_version(rt: HostRuntime) {
+    let lines = [
+        (b"pif-trace 1".as_slice(), Some(Version::One)),
+        (b"pif-trace 2", Some(Version::Two)),
+        (b"pif-trace 3", None),
+        (b"pif-trace 12", None),
+        (b"pif-trace ", None),
+        (b"pif-trace 2\r", None),
+        (b"", None),
+    ];
+    for (line, version) in lines {
+        assert_eq!(rt; version_of(line), version);
+    }
+}
+
+#[test]
 fn verdicts_are_written(rt: HostRuntime) {
     check_verdicts(&rt, &mut Text::new());
 }
@@ -397,7 +492,7 @@ fn check_verdicts(rt: &impl Abort, out: &mut Text) {
     assert_eq!(rt; out.as_slice(), b"same 5".as_slice());
     out.clear();
     header_text(out);
-    assert_eq!(rt; out.as_slice(), b"pif-trace 1".as_slice());
+    assert_eq!(rt; out.as_slice(), b"pif-trace 2".as_slice());
     out.clear();
     recorded_text(Reply::Seen(Seen::Went), out);
     assert_eq!(rt; out.as_slice(), b" = went".as_slice());

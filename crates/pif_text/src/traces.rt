@@ -1,12 +1,24 @@
 ghost use Rattle.std.specs.Prelude.{◌≡◌, ℕ, ◌+◌, ◌≤◌, ◌<◌, ◌++◌, drop, get_or, length, option_map, None, Some, true, false};
 ghost use Rattle.arrayvec.specs.ArrayVec.{array_vec_len};
-ghost use Rattle.pif_text.specs.Traces.{if_traced, parts_of, is_marked, header_text, recorded, same_of, differs_of};
+ghost use Rattle.pif_text.specs.declared.traces.Version.TheVariants as version;
+ghost use Rattle.pif_text.specs.Traces.{if_traced, is_of_two, is_timed, knows, version_in, parts_of, is_marked, header_text, recorded, same_of, differs_of};
 
 use crate::writing::{append, append_decimal, reply_text};
 use crate::{Command, Reply, TEXT_ROOM, Text};
+use pif_model::Event;
+use pif_types::Request;
 
-/// The first line of a trace.
-pub const HEADER: &[u8] = b"pif-trace 1";
+/// A version of traces. The first line names it; commands were added in version 2.
+#[derive(Clone, Copy, Debug, PartialEq, Eq)]
+pub enum Version {
+    /// `pif-trace 1`
+    One,
+    /// `pif-trace 2`, which is written.
+    Two,
+}
+
+/// How many bytes the first line of a trace has before its line feed.
+pub const HEADER_ROOM: usize = 11;
 
 /// How many bytes of room `recorded_text` asks for: no answer is longer.
 pub const RECORDED_ROOM: usize = 43;
@@ -27,24 +39,80 @@ pub fn split_answer(line: &[u8]) -> Option<(&[u8], &[u8])>
     None
 }
 
-/// The command, if it stands in traces: limits, additions and events do.
-pub fn if_traced(command: Command) -> Option<Command>
-    ensures { result ≡ if_traced command }
+/// The version of a trace that begins with this line, given as its bytes without the line feed; `None` where no trace
+/// begins so. Any bytes and any length may be given.
+#[tactic(auto, unfolding(crate::specs::Traces::version_in))]
+pub fn version_of(line: &[u8]) -> Option<Version>
+    ensures { result ≡ version_in line.now }
+{
+    if line == b"pif-trace 1".as_slice() {
+        Some(Version::One)
+    } else if line == b"pif-trace 2".as_slice() {
+        Some(Version::Two)
+    } else {
+        None
+    }
+}
+
+/// Whether a request has a deadline.
+fn is_timed(request: Request) -> bool
+    ensures { result ≡ is_timed request }
+{
+    match request {
+        Request::TimedLock(..) => true,
+        Request::TimedWait(..) => true,
+        _ => false,
+    }
+}
+
+/// Whether an event stands in traces of version 2 alone: a tick, and the begin of a timed request.
+fn is_of_two(event: Event) -> bool
+    ensures { result ≡ is_of_two event }
+{
+    match event {
+        Event::Begin(_, request) => is_timed(request),
+        Event::Tick(_) => true,
+        _ => false,
+    }
+}
+
+/// Whether an event stands in traces of a version.
+fn knows(version: Version, event: Event) -> bool
+    ensures { result ≡ knows version event }
+{
+    match version {
+        Version::One => !is_of_two(event),
+        Version::Two => true,
+    }
+}
+
+/// The command, if it stands in traces of a version: limits, additions and events that the version knows do.
+pub fn if_traced(version: Version, command: Command) -> Option<Command>
+    ensures { result ≡ if_traced version command }
 {
     match command {
+        Command::Event(event) => {
+            let traced = event;
+            if knows(version, event) {
+                Some(Command::Event(traced))
+            } else {
+                None
+            }
+        }
         Command::Run(..) => None,
         Command::Ask(_) => None,
         traced => Some(traced),
     }
 }
 
-/// Appends the first line of a trace, with no line feed. What stands in `out` stays.
+/// Appends the first line of a trace of version 2, with no line feed, at most `HEADER_ROOM` bytes. What stands in `out`
+/// stays.
 pub fn header_text(out: &mut Text)
-    requires { array_vec_len out.old + 11 ≤ TEXT_ROOM }
-    ensures written { out.new.items ≡ out.old.items ++ header_text }
-    ensures within { array_vec_len out.new ≤ array_vec_len out.old + 11 }
+    requires { array_vec_len out.old + HEADER_ROOM ≤ TEXT_ROOM }
+    ensures written { out.new.items ≡ out.old.items ++ header_text version.Two }
+    ensures within { array_vec_len out.new ≤ array_vec_len out.old + HEADER_ROOM }
 {
-    append(out, HEADER);
+    append(out, b"pif-trace 2");
 }
 
 /// Appends ` = ` and an answer, as they stand behind the command in a line of a trace, with no line feed, at most

@@ -30,44 +30,54 @@ pub fn append_decimal(out: &mut Text, number: u64)
     append(out, buffer.format(number).as_bytes());
 }
 
+/// Appends a number below 2 ^ 32 in decimal digits.
+pub fn append_number(out: &mut Text, number: u32)
+    requires { array_vec_len out.old + 10 ≤ TEXT_ROOM }
+    ensures items { out.new.items ≡ out.old.items ++ decimal number }
+    ensures len { length (decimal number) ≤ 10 }
+{
+    let mut buffer = Buffer::new();
+    append(out, buffer.format(number).as_bytes());
+}
+
 /// Appends the name of a thread.
 pub fn append_thread(out: &mut Text, thread: Tid)
-    requires { array_vec_len out.old + 21 ≤ TEXT_ROOM }
+    requires { array_vec_len out.old + 11 ≤ TEXT_ROOM }
     ensures items { out.new.items ≡ out.old.items ++ thread_name thread }
-    ensures len { length (thread_name thread) ≤ 21 }
+    ensures len { length (thread_name thread) ≤ 11 }
 {
     append(out, b"t");
-    append_decimal(out, u64::from(thread.get()));
+    append_number(out, thread.get());
 }
 
 /// Appends the name of a mutex.
 pub fn append_mutex(out: &mut Text, mutex: MutexId)
-    requires { array_vec_len out.old + 21 ≤ TEXT_ROOM }
+    requires { array_vec_len out.old + 11 ≤ TEXT_ROOM }
     ensures items { out.new.items ≡ out.old.items ++ mutex_name mutex }
-    ensures len { length (mutex_name mutex) ≤ 21 }
+    ensures len { length (mutex_name mutex) ≤ 11 }
 {
     append(out, b"m");
-    append_decimal(out, u64::from(mutex.get()));
+    append_number(out, mutex.get());
 }
 
 /// Appends the name of a condition variable.
 pub fn append_cond(out: &mut Text, cond: CondId)
-    requires { array_vec_len out.old + 21 ≤ TEXT_ROOM }
+    requires { array_vec_len out.old + 11 ≤ TEXT_ROOM }
     ensures items { out.new.items ≡ out.old.items ++ cond_name cond }
-    ensures len { length (cond_name cond) ≤ 21 }
+    ensures len { length (cond_name cond) ≤ 11 }
 {
     append(out, b"c");
-    append_decimal(out, u64::from(cond.get()));
+    append_number(out, cond.get());
 }
 
 /// Appends what a call is answered.
 fn append_answer(out: &mut Text, number: Answer)
-    requires { array_vec_len out.old + 27 ≤ TEXT_ROOM }
+    requires { array_vec_len out.old + 17 ≤ TEXT_ROOM }
     ensures items { out.new.items ≡ out.old.items ++ (codes "answer " ++ decimal number) }
-    ensures len { array_vec_len out.new ≤ array_vec_len out.old + 27 }
+    ensures len { array_vec_len out.new ≤ array_vec_len out.old + 17 }
 {
     append(out, b"answer ");
-    append_decimal(out, u64::from(number));
+    append_number(out, number);
 }
 
 /// The hexadecimal digit of a value below 16, in lower case.
@@ -138,6 +148,7 @@ fn refusal_of(refusal: Refusal) -> &'static [u8]
         Refusal::Busy => b"busy",
         Refusal::Idle => b"idle",
         Refusal::NoSuch => b"nosuch",
+        Refusal::Past => b"past",
     }
 }
 
@@ -179,9 +190,9 @@ fn append_refused(out: &mut Text, why: &[u8])
 
 /// Appends a thread, or that there is none.
 fn append_thread_or_none(out: &mut Text, thread: Option<Tid>)
-    requires { array_vec_len out.old + 21 ≤ TEXT_ROOM }
+    requires { array_vec_len out.old + 11 ≤ TEXT_ROOM }
     ensures items { out.new.items ≡ out.old.items ++ thread_or_none thread }
-    ensures len { array_vec_len out.new ≤ array_vec_len out.old + 21 }
+    ensures len { array_vec_len out.new ≤ array_vec_len out.old + 11 }
 {
     match thread {
         Some(thread) => append_thread(out, thread),
@@ -217,6 +228,7 @@ fn append_seen(out: &mut Text, seen: Seen)
         Seen::Waits => append(out, b"waits"),
         Seen::Answered(number) => append_answer(out, number),
         Seen::Ended => append(out, b"ended"),
+        Seen::Ticked => append(out, b"ticked"),
         Seen::Refused(refusal) => append_refused(out, refusal_of(refusal)),
     }
 }
@@ -232,8 +244,8 @@ fn append_fact(out: &mut Text, fact: Fact)
         Fact::NoSuch => append(out, b"refused nosuch"),
         Fact::Word(value) => append_hex(out, value),
         Fact::Health(health) => append(out, health_of(health)),
-        Fact::Uses(uses) => append_decimal(out, u64::from(uses)),
-        Fact::Priority(priority) => append_decimal(out, u64::from(priority.get())),
+        Fact::Uses(uses) => append_number(out, uses),
+        Fact::Priority(priority) => append_number(out, priority.get()),
         Fact::Dead => append(out, b"dead"),
         Fact::Thread(thread) => append_thread_or_none(out, thread),
     }

@@ -99,4 +99,7 @@ pub enum Refusal {
     /// The thread was never added, or the request names a mutex or a variable that doesn't exist.
     #[error("no such thread, mutex or variable")]
     NoSuch,
+    /// The time that is handed in is before the present one.
+    #[error("past")]
+    Past,
 }

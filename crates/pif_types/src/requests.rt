@@ -51,4 +51,13 @@ pub enum Request {
     Broadcast(CondId),
     /// pthread_setschedprio: gives this thread this base priority, which may be out of range.
     SetPrio(Tid, u32),
+    /// pthread_mutex_timedlock: locks as `Lock` does, but waits only until the time is at least this deadline: then the
+    /// answer is ETIMEDOUT, and the caller doesn't get the mutex. A mutex that can be had at once is had whatever the
+    /// deadline is. One of `Kind::Normal` that the caller owns is waited for so, too.
+    TimedLock(MutexId, u32),
+    /// pthread_cond_timedwait: waits as `Wait` does, but once the time is at least this deadline it waits for the
+    /// variable no longer, locks the mutex again, for which no deadline counts, and is answered ETIMEDOUT in place of
+    /// 0. Another answer of that lock stays: EOWNERDEAD, or EDEADLK or ENOTRECOVERABLE, where the caller doesn't hold
+    /// the mutex.
+    TimedWait(CondId, MutexId, u32),
 }

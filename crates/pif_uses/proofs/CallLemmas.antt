@@ -4,7 +4,7 @@ use Rattle.pif_types.specs.declared.requests.Request.{Request}
 use Rattle.pif_types.specs.declared.errors.Refusal.{Refusal}
 use Rattle.pif_model.specs.declared.events.Event.TheVariants.{Begin, Go}
 use Rattle.pif_model.specs.declared.events.Seen.{Seen}
-use Rattle.pif_model.specs.declared.events.Seen.TheVariants.{Begun, Went, Waits, Answered, Ended, Refused}
+use Rattle.pif_model.specs.declared.events.Seen.TheVariants.{Begun, Went, Waits, Answered, Ended, Ticked, Refused}
 use Rattle.pif_model.specs.declared.events.Entry.{Entry}
 use Rattle.pif_model.specs.declared.events.Entry.TheVariants.{Step as Happened}
 use Rattle.pif_model.specs.Table.{Table}
@@ -21,6 +21,7 @@ went-seen Begun f g e = cc
 went-seen Waits f g e = cc
 went-seen (Answered a) f g e = cc
 went-seen Ended f g e = cc
+went-seen Ticked f g e = cc
 
 -- it did not
 still-seen : {A : Type 0} (x : Seen) (f g : A) → (x ≡ Went → ⊥) → ◌≡◌ {A = A} (elim x [ Went ↦ f | _ ↦ g ]) g
@@ -30,6 +31,7 @@ still-seen Begun f g n = refl
 still-seen Waits f g n = refl
 still-seen (Answered a) f g n = refl
 still-seen Ended f g n = refl
+still-seen Ticked f g n = refl
 
 -- it was refused
 refused-seen : {A : Type 0} (x : Seen) (f g : A) (r : Refusal) → x ≡ Refused r
@@ -40,6 +42,7 @@ refused-seen Went f g r e = cc
 refused-seen Waits f g r e = cc
 refused-seen (Answered a) f g r e = cc
 refused-seen Ended f g r e = cc
+refused-seen Ticked f g r e = cc
 
 -- it was not
 other-seen : {A : Type 0} (x : Seen) (f g : A) → ((r : Refusal) → x ≡ Refused r → ⊥)
@@ -50,6 +53,7 @@ other-seen Went f g n = refl
 other-seen Waits f g n = refl
 other-seen (Answered a) f g n = refl
 other-seen Ended f g n = refl
+other-seen Ticked f g n = refl
 
 -- whether an answer is Went
 pub is_went : (x : Seen) → (x ≡ Went) ⊎ (x ≡ Went → ⊥)
@@ -58,6 +62,7 @@ is_went Begun = inr (λ e. cc)
 is_went Waits = inr (λ e. cc)
 is_went (Answered a) = inr (λ e. cc)
 is_went Ended = inr (λ e. cc)
+is_went Ticked = inr (λ e. cc)
 is_went (Refused r) = inr (λ e. cc)
 
 -- whether it is a refusal
@@ -68,6 +73,7 @@ is_refused Went = inr (λ r e. cc)
 is_refused Waits = inr (λ r e. cc)
 is_refused (Answered a) = inr (λ r e. cc)
 is_refused Ended = inr (λ r e. cc)
+is_refused Ticked = inr (λ r e. cc)
 
 -- ---- going on
 

@@ -1,5 +1,6 @@
 -- A mutex that was made consistent is fine.
 use Rattle.std.proofs.Common.{◌≡◌, ◌≢◌, ℕ, ◌==◌, zero, suc, nat_lt, true, false, List, [], ◌∷◌, length, get_or, set, Option, Some, None, refl, sym, ap, ◌∙◌, subst, arith, if◌then◌else◌}
+use Rattle.std.proofs.lemmas.Bool.{true≢false}
 use Rattle.std.proofs.lemmas.List.{get_or-set_same}
 use Rattle.pif_types.specs.declared.errors.Refusal.{Refusal}
 use Rattle.pif_types.specs.declared.requests.Request.{Request}
@@ -9,6 +10,7 @@ use Rattle.pif_model.specs.declared.events.Seen.TheVariants.{Begun, Went, Answer
 use Rattle.pif_model.specs.declared.lines.Line.TheVariants.{At, Idle}
 use Rattle.pif_model.specs.declared.lines.Place.{Place}
 use Rattle.pif_model.specs.declared.lines.Place.TheVariants.{ConsistentLoad, ConsistentHealth, ConsistentStore}
+use Rattle.pif_model.specs.Deadlines.{plain}
 use Rattle.pif_model.specs.PiKernel.{is_living}
 use Rattle.pif_model.specs.Posix.{Mutex, World, mutex_at, names_known}
 use Rattle.pif_model.specs.Posix.Health.{Fine}
@@ -23,6 +25,7 @@ use Rattle.pif_simulation.proofs.Simulation.{event_kept}
 use Rattle.pif_uses.specs.Calls.{call_outcome}
 use Rattle.pif_uses.specs.Holding.{IsFineIn}
 use Rattle.pif_uses.proofs.CallLemmas.{call_other, goes_on-other, goes_on-went, goes_on-zero}
+use Rattle.pif_uses.proofs.GoCases.{go_cases}
 use Rattle.pif_uses.proofs.HoldLemmas.{allowed, begun, rest}
 
 -- a health word of 0 that was written
@@ -80,13 +83,15 @@ module _ (t m : ℕ) (s : Table) (k : IsSound s) (known : is_living s.kernel t �
 -- a step, refused or not
 event_leads : (t m : ℕ) (s : Table) (p : Place) → IsSound s → line_at s t ≡ At (Consistent m) p
     → Leads t m (event_outcome (Go t) s)
-unfolding event_outcome accepted_outcome go_outcome
+unfolding event_outcome accepted_outcome
 event_leads t m s p k e = by_refusal_of (table_refusal s (Go t)) refl
   where
     by_refusal_of : (r : Option Refusal) → table_refusal s (Go t) ≡ r → Leads t m (by_refusal r (Go t) s)
     by_refusal_of None f =
         let living = go_allowed (has_thread s t) (is_living s.kernel t) (is_open (line_at s t)) f in
-        subst (λ l. Leads t m (go_outcome l t s)) (sym e) (line_leads t m s k living.0 p e)
+        subst (λ l. Leads t m (go_outcome l t s)) (sym e)
+        (go_cases (Leads t m) (Consistent m) p t s (λ x a. refl) (λ due. absurd (true≢false (sym due)))
+        (line_leads t m s k living.0 p e))
     by_refusal_of (Some r) f = other (λ d. cc) (λ d. cc)
 
 -- one step is the last, and is answered 0
@@ -118,16 +123,16 @@ going_fine (suc n) t m s p k l e =
 
 -- where a call begins
 pub begin_line : (t : ℕ) (q : Request) (s : Table) → IsSound s → (event_outcome (Begin t q) s).seen ≡ Begun
-    → line_at (event_outcome (Begin t q) s).after t ≡ At q (first_place q)
+    → line_at (event_outcome (Begin t q) s).after t ≡ At (plain q) (first_place q)
 unfolding event_outcome accepted_outcome
 begin_line t q s k e = by_refusal_of (table_refusal s (Begin t q)) refl e
   where
     by_refusal_of : (r : Option Refusal) → table_refusal s (Begin t q) ≡ r → (by_refusal r (Begin t q) s).seen ≡ Begun
-        → line_at (by_refusal r (Begin t q) s).after t ≡ At q (first_place q)
+        → line_at (by_refusal r (Begin t q) s).after t ≡ At (plain q) (first_place q)
     by_refusal_of None f d =
         let living = begin_allowed (has_thread s t) (is_living s.kernel t) (is_open (line_at s t))
         (names_known (has_mutex s) (has_cond s) q) f in
-        get_or-set_same s.lines t (At q (first_place q)) Idle (tl s t Idle k living.0)
+        get_or-set_same s.lines t (At (plain q) (first_place q)) Idle (tl s t Idle k living.0)
     by_refusal_of (Some r) f d = absurd cc
 
 -- a whole call consistent that is answered 0

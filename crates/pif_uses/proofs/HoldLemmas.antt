@@ -6,9 +6,10 @@ use Rattle.pif_types.specs.declared.requests.Request.{Request}
 use Rattle.pif_types.specs.declared.requests.Request.TheVariants.{Lock, Unlock, Consistent, Wait}
 use Rattle.pif_model.specs.declared.events.Event.TheVariants.{Begin, Go}
 use Rattle.pif_model.specs.declared.events.Seen.{Seen}
-use Rattle.pif_model.specs.declared.events.Seen.TheVariants.{Begun, Went, Waits, Answered, Ended, Refused}
+use Rattle.pif_model.specs.declared.events.Seen.TheVariants.{Begun, Went, Waits, Answered, Ended, Ticked, Refused}
 use Rattle.pif_model.specs.declared.events.Entry.{Entry}
 use Rattle.pif_model.specs.declared.events.Entry.TheVariants.{Step as Happened}
+use Rattle.pif_model.specs.Deadlines.{plain}
 use Rattle.pif_model.specs.History.{open_call, hold_count, hold_count_after_answer, holds}
 use Rattle.pif_model.specs.Posix.{World, mutex_at}
 use Rattle.pif_model.specs.Standing.{Stands}
@@ -101,14 +102,14 @@ module _ (t a : ℕ) (q : Request) (s : Table) (h : List Entry) (e : (call_outco
   whole : called t q s h ≡ finished t o.after (Happened (Begin t q) Begun ∷ h)
   whole = called-other t q s h allowed ∙ ap (λ x. finished t o.after (Happened (Begin t q) x ∷ h)) begun
 
-  opened : open_call t (Happened (Begin t q) Begun ∷ h) ≡ Some q
+  opened : open_call t (Happened (Begin t q) Begun ∷ h) ≡ Some (plain q)
   opened = rw (itself t) refl
 
   pub called_closes : open_call t (called t q s h) ≡ None
   called_closes = ap (open_call t) whole ∙ finished_closes t a o.after (Happened (Begin t q) Begun ∷ h) rest
 
   pub called_counts : (m : ℕ)
-      → hold_count t m (called t q s h) ≡ hold_count_after_answer m (Some q) a (hold_count t m h)
+      → hold_count t m (called t q s h) ≡ hold_count_after_answer m (Some (plain q)) a (hold_count t m h)
   called_counts m =
       ap (hold_count t m) whole ∙ finished_counts t a o.after (Happened (Begin t q) Begun ∷ h) rest m
       ∙ ap (λ x. hold_count_after_answer m x a (hold_count t m h)) opened
@@ -139,7 +140,7 @@ holds_on t m n s h r w on idle count =
 module _ (t a : ℕ) (q : Request) (s : Table) (h : List Entry) (r : List World) (w : World) (on : StandsOn s h r w)
     (e : (call_outcome t q s).seen ≡ Answered a) where
   -- it stands on, and how often t holds m is counted
-  call_counts_on : (m : ℕ) → CountsOn t m (hold_count_after_answer m (Some q) a (hold_count t m h))
+  call_counts_on : (m : ℕ) → CountsOn t m (hold_count_after_answer m (Some (plain q)) a (hold_count t m h))
       (call_outcome t q s).after (called t q s h) r w
   call_counts_on m = record {
     on = along on (call_stands s (call_outcome t q s).after t q refl h (on.more ++ w ∷ r) on.last on.stands);
@@ -163,6 +164,7 @@ lock_taken Begun x e = absurd cc
 lock_taken Went x e = absurd cc
 lock_taken Waits x e = absurd cc
 lock_taken Ended x e = absurd cc
+lock_taken Ticked x e = absurd cc
 lock_taken (Refused r) x e = absurd cc
 
 -- a lock that found the mutex in order was answered 0
@@ -180,6 +182,7 @@ in_order Begun e = absurd cc
 in_order Went e = absurd cc
 in_order Waits e = absurd cc
 in_order Ended e = absurd cc
+in_order Ticked e = absurd cc
 in_order (Refused r) e = absurd cc
 
 -- it counts
@@ -282,6 +285,7 @@ finished_only met Begun f g n = refl
 finished_only met Went f g n = refl
 finished_only met Waits f g n = refl
 finished_only met Ended f g n = refl
+finished_only met Ticked f g n = refl
 finished_only met (Refused r) f g n = refl
 
 -- a core stands on after a wait that was answered 0, and the other wait behind it where the test is not met

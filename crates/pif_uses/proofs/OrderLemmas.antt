@@ -13,7 +13,7 @@ use Rattle.pif_model.specs.declared.events.Event.TheVariants.{Begin, Go}
 use Rattle.pif_model.specs.declared.events.Seen.TheVariants.{Went, Answered}
 use Rattle.pif_model.specs.declared.lines.Line.TheVariants.{At, Idle}
 use Rattle.pif_model.specs.declared.lines.Place.{Place}
-use Rattle.pif_model.specs.declared.lines.Place.TheVariants.{LockLoad, LockPending, LockExchange, LockKernel, LockQueued, LockStop, LockStopped, LockClear, TakeLoad, TakeHealth, TakeStore, TakeWord, LinkNext, LinkHead, LinkClear, LeaveExchange, LeaveKernel, LeaveClear}
+use Rattle.pif_model.specs.declared.lines.Place.TheVariants.{LockLoad, LockPending, LockExchange, LockKernel, LockQueued, LockStop, LockStopped, LockClear, TakeLoad, TakeHealth, TakeStore, TakeWord, LinkNext, LinkHead, LinkClear, LeaveExchange, LeaveKernel, LeaveClear, QueueExpired, StopExpired}
 use Rattle.pif_model.specs.declared.lines.Took.{Took}
 use Rattle.pif_model.specs.declared.lines.Took.TheVariants.{Owns as TookOwns, Queued as TookQueued}
 use Rattle.pif_model.specs.declared.events.Entry.{Entry}
@@ -22,7 +22,7 @@ use Rattle.pif_model.specs.Posix.Health.{Fine}
 use Rattle.pif_model.specs.PiKernel.{is_living, lock_answer, words_after_lock, kernel_after_lock, unlock_answer, words_after_unlock, kernel_after_unlock}
 use Rattle.pif_model.specs.Table.{Table, cell_at, has_mutex, has_thread, line_at, with_kernel, with_word}
 use Rattle.pif_model.specs.Word.{held_by, free_word, word_at}
-use Rattle.pif_model.specs.Lines.{Outcome, accepted_outcome, answers, by_refusal, clears, event_outcome, gives_up, given_up_by, go_outcome, goes_on, goes_to, is_open, line_of, link_head, link_next, lock_by, lock_kernel, lock_stop, locking_line, shared_line, table_refusal, take_load, take_store, take_word_back}
+use Rattle.pif_model.specs.Lines.{Outcome, accepted_outcome, answers, by_refusal, clears, event_outcome, expired_in, expired_place, expires_at, gives_up, given_up_by, go_outcome, goes_on, goes_to, is_open, line_of, link_head, link_next, lock_by, lock_kernel, lock_stop, locking_line, shared_line, table_refusal, take_load, take_store, take_word_back}
 use Rattle.pif_model.specs.Standing.{CallIsSound, IsSound, LineIsSound, Stands, health_at, health_of}
 use Rattle.pif_chains.proofs.LineCases.{ends_by_cases, leave_exchange_cases, lock_load_cases, lock_queued_cases, own_exchange_cases, take_health_cases}
 use Rattle.pif_simulation.proofs.Lined.{tl}
@@ -32,6 +32,7 @@ use Rattle.pif_uses.specs.Calls.{call_outcome}
 use Rattle.pif_uses.specs.Holding.{IsFineIn}
 use Rattle.pif_uses.proofs.CallLemmas.{call_other, goes_on-other, goes_on-went, goes_on-zero}
 use Rattle.pif_uses.proofs.FineLemmas.{begin_line, shown_fine}
+use Rattle.pif_uses.proofs.GoCases.{go_cases}
 use Rattle.pif_uses.proofs.HoldLemmas.{allowed, begun, rest}
 
 -- what holds at a place of t's lock of m: it isn't the owner at first, and once it is to be answered 0 m is fine
@@ -75,6 +76,11 @@ module _ (t m : ℕ) (v : Table) (l : t < length v.lines) where
 -- it is answered otherwise
 away : (t m a : ℕ) (v : Table) → a ≢ 0 → Takes t m (answers t a v)
 away t m a v n = other (λ e. cc) (λ e. n (number_same a 0 e))
+
+-- where an expired lock goes on nothing has to hold
+expired_on : (t m : ℕ) (v : Table) (p : Place) → OnWay t m v (expired_place p)
+expired_on t m v LockQueued = tt
+expired_on t m v _ = tt
 
 -- a mutex that nothing tells of is fine
 fine_of : (h : ℕ) (died : Bool) → h ≢ 2 → h ≢ 1 → died ≡ false → health_of h died ≡ Fine
@@ -139,6 +145,15 @@ module _ (t m : ℕ) (s : Table) (k : IsSound s) (known : is_living s.kernel t �
       (λ h. true≢false (sym (needs.1.1.1.1.0 owns h) ∙ needs.1.1.1.1.1.0 owns ∙ d))
       (needs.1.1.1.1.1.0 owns ∙ d)))
 
+  -- it expires
+  expires_takes : (p : Place) → Takes t m (expires_at (Lock m) p t s)
+  unfolding expires_at expired_in
+  expires_takes p =
+      let v = expired_in t s in
+      ends_by_cases (Takes t m) (Lock m) (expired_place p) 110 t m v
+      (λ r. goes_on_at t m v here (expired_place p) (expired_on t m v p))
+      (λ r. away t m 110 v (λ d. omega (arith, d)))
+
   -- each step
   step_takes : (p : Place) → line_at s t ≡ At (Lock m) p → OnWay t m s p → Takes t m (line_of (Lock m) p t s)
   unfolding line_of locking_line shared_line take_load take_store take_word_back link_next link_head clears lock_stop
@@ -160,6 +175,8 @@ module _ (t m : ℕ) (s : Table) (k : IsSound s) (known : is_living s.kernel t �
   step_takes LockStop e w = other (λ d. cc) (λ d. cc)
   step_takes LockStopped e w = other (λ d. cc) (λ d. cc)
   step_takes LockClear e w = away t m 35 _ (λ d. omega (arith, d))
+  step_takes QueueExpired e w = away t m 110 _ (λ d. omega (arith, d))
+  step_takes StopExpired e w = away t m 110 _ (λ d. omega (arith, d))
   step_takes TakeLoad e w = goes_on_at t m s here (TakeHealth (cell_at s m).word.died) tt
   step_takes (TakeHealth died) e w = health_takes died e
   step_takes TakeStore e w = goes_on_at t m _ here TakeWord tt
@@ -178,13 +195,15 @@ module _ (t m : ℕ) (s : Table) (k : IsSound s) (known : is_living s.kernel t �
 -- a step, refused or not
 event_takes : (t m : ℕ) (s : Table) (p : Place) → IsSound s → line_at s t ≡ At (Lock m) p → OnWay t m s p
     → Takes t m (event_outcome (Go t) s)
-unfolding event_outcome accepted_outcome go_outcome
+unfolding event_outcome accepted_outcome
 event_takes t m s p k e w = by_refusal_of (table_refusal s (Go t)) refl
   where
     by_refusal_of : (r : Option Refusal) → table_refusal s (Go t) ≡ r → Takes t m (by_refusal r (Go t) s)
     by_refusal_of None f =
         let living = go_allowed (has_thread s t) (is_living s.kernel t) (is_open (line_at s t)) f in
-        subst (λ l. Takes t m (go_outcome l t s)) (sym e) (step_takes t m s k living.0 p e w)
+        subst (λ l. Takes t m (go_outcome l t s)) (sym e)
+        (go_cases (Takes t m) (Lock m) p t s (λ x a. refl) (λ due. expires_takes t m s k living.0 p)
+        (step_takes t m s k living.0 p e w))
     by_refusal_of (Some r) f = other (λ d. cc) (λ d. cc)
 
 -- one step is the last, and is answered 0

@@ -19,6 +19,9 @@ pub enum Next {
     Closed(Answer),
     /// The thread has ended.
     Gone,
+    /// The time is the one that was handed in: threads that rest may go on whose deadline it has reached. No event of a
+    /// thread is answered so.
+    Ticked,
     /// Nothing has changed, for this reason.
     Refused(Refusal),
 }
@@ -32,6 +35,7 @@ pub fn next_after(seen: Seen) -> Next
         Seen::Waits => Next::LetOthersGo,
         Seen::Answered(answer) => Next::Closed(answer),
         Seen::Ended => Next::Gone,
+        Seen::Ticked => Next::Ticked,
         Seen::Refused(refusal) => Next::Refused(refusal),
     }
 }

@@ -53,9 +53,10 @@ pub fn lock_and_hold(core: &mut Core, thread: Tid, mutex: MutexId) -> Result<Hel
     held_by(call(core, thread, Request::Lock(mutex)))
 }
 
-/// A thread goes on with a lock of a mutex that waited. Where it answers `Ok`, the thread holds the mutex once more
-/// than before, and no other thread does. `Err` has what the lock was answered otherwise; after `Waits` it stays
-/// open, and this is called again once others have had their turns.
+/// A thread goes on with a lock of a mutex that waited, with a deadline or none. Where it answers `Ok`, the thread holds
+/// the mutex once more than before, and no other thread does. `Err` has what the lock was answered otherwise: ETIMEDOUT
+/// (110) where its deadline was reached. After `Waits` it stays open, and this is called again once others have had
+/// their turns.
 pub fn finish_lock(core: &mut Core, thread: Tid, mutex: MutexId) -> Result<Held, Seen>
     ensures answer { result ≡ held_by (goes_on 23 thread core.old).seen }
     ensures after { core.new ≡ (goes_on 23 thread core.old).after }

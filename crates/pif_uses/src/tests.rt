@@ -174,6 +174,56 @@ fn signal(rt: &impl Abort, core: &mut Core) -> Result<(), Fail> {
 }
 
 #[test]
+fn who_runs_out_of_time_gives_up(rt: HostRuntime) -> Result<(), Fail> {
+    let mut core = core_of(rt.alloc())?;
+    run_out_of_time(&rt, &mut core)
+}
+
+/// A thread waits for a mutex up to a time. A tick reaches it, and the thread gives up.
+fn give_up_lock(rt: &impl Abort, core: &mut Core, thread: Tid, mutex: MutexId) {
+    assert_eq!(rt;
+        call(core, thread, Request::TimedLock(mutex, 5)),
+        Seen::Waits
+    );
+    assert_eq!(rt;
+        (core.step(Event::Tick(4)), core.waiting(thread)),
+        (Seen::Ticked, Some(true))
+    );
+    assert_eq!(rt;
+        (core.step(Event::Tick(5)), core.waiting(thread)),
+        (Seen::Ticked, Some(false))
+    );
+    assert_eq!(rt; finish_lock(core, thread, mutex), Err(Seen::Answered(110)));
+}
+
+fn run_out_of_time(rt: &impl Abort, core: &mut Core) -> Result<(), Fail> {
+    let Scene {
+        low,
+        high,
+        mutex,
+        cond,
+    } = fill(core, false)?;
+    assert_eq!(rt; lock_and_hold(core, low, mutex), Ok(Held::InOrder));
+    give_up_lock(rt, core, high, mutex);
+    let waits = [
+        (1, Some(Request::TimedWait(cond, mutex, 7)), Seen::Waits),
+        (2, Some(Request::TimedLock(mutex, 0)), Seen::Answered(0)),
+        (2, Some(Request::Unlock(mutex)), Seen::Answered(0)),
+    ];
+    play(rt, core, &waits)?;
+    assert_eq!(rt; core.step(Event::Tick(4)), Seen::Refused(Refusal::Past));
+    assert_eq!(rt; next_after(core.step(Event::Tick(7))), Next::Ticked);
+    play(
+        rt,
+        core,
+        &[
+            (1, None, Seen::Answered(110)),
+            (1, Some(Request::Unlock(mutex)), Seen::Answered(0)),
+        ],
+    )
+}
+
+#[test]
 fn threads_take_turns_an_event_at_a_time(rt: HostRuntime) -> Result<(), Fail> {
     let mut core = core_of(rt.alloc())?;
     take_turns(&rt, &mut core)

@@ -3,7 +3,7 @@
 use super::Kept;
 use pif_desk::{Book, Client, Desk, DeskFault, NoPause};
 use pif_scripts::{CliFault, replay, write_trace};
-use pif_types::{CondId, Kind, Limits, MutexId, NoMemory, Request, with_room};
+use pif_types::{CondId, Kind, Limits, MutexId, NoMemory, Refusal, Request, with_room};
 use std::alloc::Global;
 use std::process::Abort;
 use std::sync::Wait;
@@ -97,10 +97,10 @@ fn pass_on<R: Wait + Abort>(
     check_calls(rt, desk, two, second.as_slice());
 }
 
-/// A robust mutex, and a variable that is bound to it.
-fn make_scene<R: Wait>(rt: &R, desk: &Desk<NoPause>) -> Result<Scene, DeskFault> {
-    let mutex = match desk.make_mutex(rt, Kind::Normal, true) {
-        Err(DeskFault::NoMemory) => desk.make_mutex(rt, Kind::Normal, true)?,
+/// A mutex, robust or stalled, and a variable that is bound to it.
+fn make_scene<R: Wait>(rt: &R, desk: &Desk<NoPause>, robust: bool) -> Result<Scene, DeskFault> {
+    let mutex = match desk.make_mutex(rt, Kind::Normal, robust) {
+        Err(DeskFault::NoMemory) => desk.make_mutex(rt, Kind::Normal, robust)?,
         made => made?,
     };
     let cond = match desk.make_cond(rt, mutex) {
@@ -124,7 +124,7 @@ fn make_calls<R: Wait + Abort>(
     desk: &Desk<NoPause>,
     clients: &mut Vec<Client>,
 ) -> Result<(), Fail> {
-    let scene = make_scene(rt, desk)?;
+    let scene = make_scene(rt, desk, true)?;
     clients.push(enter(rt, desk, 10)?)?;
     clients.push(enter(rt, desk, 20)?)?;
     match clients.as_mut_slice() {
@@ -134,8 +134,8 @@ fn make_calls<R: Wait + Abort>(
     Ok(())
 }
 
-/// The trace of a book is the same when it is replayed: 4 additions, 36 events, and the line of the limits.
-fn check_book(rt: &impl Abort, alloc: Global, book: &Book) {
+/// A book has so many answered calls, and its trace prints this when it is replayed.
+fn check_book(rt: &impl Abort, alloc: Global, book: &Book, answered: u64, verdict: &str) {
     let mut trace = Kept::new();
     let mut output = Kept::new();
     let written = write_trace(book.limits, book.entries.as_slice(), &mut trace);
@@ -143,8 +143,8 @@ fn check_book(rt: &impl Abort, alloc: Global, book: &Book) {
     if ended == Err(CliFault::NoMemory) {
         ended = replay(alloc, &mut trace.as_slice(), &mut output);
     }
-    assert_eq!(rt; (book.answered, written, ended), (5, Ok(()), Ok(())));
-    assert_eq!(rt; output.as_slice(), b"same 41\n".as_slice());
+    assert_eq!(rt; (book.answered, written, ended), (answered, Ok(()), Ok(())));
+    assert_eq!(rt; output.as_slice(), verdict.as_bytes());
 }
 
 /// A list with room for two clients.
@@ -163,12 +163,12 @@ fn desk_of(alloc: Global, limits: Limits) -> Result<Desk<NoPause>, NoMemory> {
     }
 }
 
-/// Two clients make their calls and settle, and the book is replayed.
+/// Two clients make their calls and settle, and the book is replayed: 4 additions, 36 events, and the line of the limits.
 fn settle<R: Wait + Abort>(rt: &R, alloc: Global, desk: Desk<NoPause>) -> Result<(), Fail> {
     let mut clients = room_for_two(alloc)?;
     make_calls(rt, &desk, &mut clients)?;
     match desk.into_room().settle(clients) {
-        Ok(book) => check_book(rt, alloc, &book),
+        Ok(book) => check_book(rt, alloc, &book, 5, "same 41\n"),
         Err(_) => panic!(rt; "the desk does not settle"),
     }
     Ok(())
@@ -178,4 +178,66 @@ fn settle<R: Wait + Abort>(rt: &R, alloc: Global, desk: Desk<NoPause>) -> Result
 fn desk_keeps_receipts(rt: HostRuntime) -> Result<(), Fail> {
     let limits = Limits::new(2, 1, 1, 9).ok_or("limits")?;
     settle(&rt, rt.alloc(), desk_of(rt.alloc(), limits)?)
+}
+
+/// The time is handed in.
+fn tick<R: Wait>(rt: &R, desk: &Desk<NoPause>, time: u32) -> Result<(), DeskFault> {
+    match desk.tick(rt, time) {
+        Err(DeskFault::NoMemory) => desk.tick(rt, time),
+        ticked => ticked,
+    }
+}
+
+/// A client waits for its own mutex and for a variable, each time up to a time that has come.
+fn run_out_of_time<R: Wait + Abort>(
+    rt: &R,
+    desk: &Desk<NoPause>,
+    client: &mut Client,
+    scene: Scene,
+) {
+    let Scene { mutex, cond } = scene;
+    let calls = [
+        (Request::TimedLock(mutex, 5), 110),
+        (Request::TimedWait(cond, mutex, 7), 110),
+        (Request::Unlock(mutex), 0),
+        (Request::TimedLock(mutex, 0), 0),
+    ];
+    check_calls(rt, desk, client, &[(Request::Lock(mutex), 0)]);
+    assert_eq!(rt; tick(rt, desk, 7), Ok(()));
+    assert_eq!(rt; tick(rt, desk, 6), Err(DeskFault::Refused(Refusal::Past)));
+    check_calls(rt, desk, client, calls.as_slice());
+}
+
+/// A client at this desk, with a stalled mutex and a condition variable, makes calls with deadlines.
+fn make_timed_calls<R: Wait + Abort>(
+    rt: &R,
+    desk: &Desk<NoPause>,
+    clients: &mut Vec<Client>,
+) -> Result<(), Fail> {
+    let scene = make_scene(rt, desk, false)?;
+    clients.push(enter(rt, desk, 10)?)?;
+    match clients.as_mut_slice() {
+        [client] => run_out_of_time(rt, desk, client, scene),
+        _ => panic!(rt; "there is not one client"),
+    }
+    Ok(())
+}
+
+/// A client makes calls with deadlines and settles, and the book is replayed: 3 additions, 2 ticks, and the calls, of 2
+/// steps to lock, 3 to wait for its own mutex and give up, 6 to wait for the variable, give up and lock again, 2 to unlock
+/// and 2 to lock, each behind its begin; and the line of the limits.
+fn settle_in_time<R: Wait + Abort>(rt: &R, alloc: Global, desk: Desk<NoPause>) -> Result<(), Fail> {
+    let mut clients = room_for_two(alloc)?;
+    make_timed_calls(rt, &desk, &mut clients)?;
+    match desk.into_room().settle(clients) {
+        Ok(book) => check_book(rt, alloc, &book, 5, "same 26\n"),
+        Err(_) => panic!(rt; "the desk does not settle"),
+    }
+    Ok(())
+}
+
+#[test]
+fn desk_keeps_ticks(rt: HostRuntime) -> Result<(), Fail> {
+    let limits = Limits::new(1, 1, 1, 9).ok_or("limits")?;
+    settle_in_time(&rt, rt.alloc(), desk_of(rt.alloc(), limits)?)
 }

@@ -126,11 +126,11 @@ fn a_faulty_trace_is_told_by_its_line(rt: HostRuntime) {
     let traces = [
         (
             b"thread 10\n".as_slice(),
-            "pif: line 1: the first line of a trace is 'pif-trace 1': thread 10\n",
+            "pif: line 1: the first line of a trace is 'pif-trace 1' or 'pif-trace 2': thread 10\n",
         ),
         (
             b"",
-            "pif: line 1: the first line of a trace is 'pif-trace 1'\n",
+            "pif: line 1: the first line of a trace is 'pif-trace 1' or 'pif-trace 2'\n",
         ),
         (
             b"pif-trace 1\r\n",
@@ -169,9 +169,15 @@ fn a_faulty_trace_is_told_by_its_line(rt: HostRuntime) {
             b"pif-trace 1\nthread 10 = t1",
             "pif: line 2: the input ends inside the line, with no LF behind it: thread 10 = t1\n",
         ),
+        (
+            b"pif-trace 1\ntick 1 = ticked\n",
+            "pif: line 2: no such command in a trace: tick 1 = ticked\n",
+        ),
     ];
     for (trace, message) in traces {
-        check_input(&rt, rt.alloc(), "replay", trace, (2, message));
+        for job in ["replay", "migrate"] {
+            check_input(&rt, rt.alloc(), job, trace, (2, message));
+        }
     }
 }
 

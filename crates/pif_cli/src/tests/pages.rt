@@ -421,3 +421,75 @@ finish t3               answer 0
 ",
     );
 }
+
+#[test]
+fn lock_gives_up_at_its_deadline(rt: HostRuntime) {
+    check_block(
+        &rt,
+        rt.alloc(),
+        "\
+thread 10                t1
+thread 50                t2
+mutex normal             m1
+call t1 lock m1          answer 0
+call t2 timedlock m1 5   waits
+prio t1                  50
+tick 4                   ticked
+finish t2                waits
+tick 5                   ticked
+pick                     t1
+finish t2                answer 110
+prio t1                  10
+word m1                  0x80000001
+tick 4                   refused past
+call t1 unlock m1        answer 0
+word m1                  0x00000000
+call t2 timedlock m1 0   answer 0
+",
+    );
+}
+
+#[test]
+fn wait_gives_up_at_its_deadline(rt: HostRuntime) {
+    check_block(
+        &rt,
+        rt.alloc(),
+        "\
+thread 10                   t1
+thread 10                   t2
+mutex normal                m1
+cond m1                     c1
+call t2 lock m1             answer 0
+call t2 timedwait c1 m1 3   waits
+call t1 lock m1             answer 0
+tick 3                      ticked
+finish t2                   waits
+call t1 unlock m1           answer 0
+finish t2                   answer 110
+word m1                     0x80000002
+call t1 signal c1           answer 0
+condword c1                 1
+",
+    );
+}
+
+#[test]
+fn handed_over_lock_ignores_its_deadline(rt: HostRuntime) {
+    check_block(
+        &rt,
+        rt.alloc(),
+        "\
+thread 10                t1
+thread 50                t2
+mutex normal             m1
+call t1 lock m1          answer 0
+call t2 timedlock m1 5   waits
+tick 4                   ticked
+finish t2                waits
+call t1 unlock m1        answer 0
+tick 5                   ticked
+finish t2                answer 0
+word m1                  0x80000002
+",
+    );
+}

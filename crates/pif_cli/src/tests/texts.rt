@@ -21,6 +21,9 @@ const REPLAY: &str =
 const TRACE: &str =
     "Reads a script from the standard input, and writes the trace that 'pif replay' takes";
 
+const MIGRATE: &str =
+    "Reads a trace from the standard input, and writes it as a trace of version 2";
+
 /// What is shown for `words`, which ask for no job: the status, and what is written to the output and to the errors.
 fn show(
     rt: &(impl Threads + Wait + Sync),
@@ -78,7 +81,7 @@ fn wrong_words_are_refused(rt: HostRuntime) -> Result<(), Fail> {
             ["pif"].as_slice(),
             [
                 "requires a subcommand",
-                "run, show, replay, trace, drive",
+                "run, show, replay, trace, migrate, drive",
                 USAGE,
                 MORE,
             ],
@@ -172,6 +175,8 @@ fn help_is_shown(rt: HostRuntime) -> Result<(), Fail> {
         REPLAY,
         "  trace ",
         TRACE,
+        "  migrate ",
+        MIGRATE,
         "-h, --help",
         "-V, --version",
         "Example:\n  printf 'thread 10\\nmutex normal\\ncall t1 lock m1\\nword m1\\n' | pif run",
@@ -194,13 +199,14 @@ fn help_is_shown(rt: HostRuntime) -> Result<(), Fail> {
         "\n  go tN             thread N takes one step",
         "\n  finish tN         thread N goes on",
         "\n  end tN            thread N ends",
+        "\n  tick N            the time is N from now on",
         "\n  word mN           shows the word",
         "\n  health mN         shows whether",
         "\n  condword cN       shows how often",
         "\n  prio tN           shows the effective priority",
         "\n  pick              shows the thread that runs next",
         "The calls Q: lock mN, trylock mN, unlock mN, consistent mN, setprio tN P, wait cN mN, signal cN,\n\
-        broadcast cN\n",
+        broadcast cN, timedlock mN D, timedwait cN mN D, which wait until the time is D\n",
         "Status: 0 done, 1 wrong words, 2 a fault of the script, 3 a read or write failed,\n4 out of memory.",
     ];
     check_helped(
@@ -226,6 +232,7 @@ fn help_of_replay_is_shown(rt: HostRuntime) -> Result<(), Fail> {
         "\n  begin tN Q        thread N begins",
         "\n  go tN             thread N takes one step",
         "\n  end tN            thread N ends",
+        "\n  tick N            the time is N from now on",
         "It prints 'same N'",
         "4 out of memory, 5 a difference.",
     ];
@@ -245,7 +252,7 @@ fn help_of_trace_is_shown(rt: HostRuntime) -> Result<(), Fail> {
         "-h, --help",
         "A script comes by < FILE, or by a pipe",
         "'pif run --help' names its commands.",
-        "Its trace begins with 'pif-trace 1'",
+        "Its trace begins with 'pif-trace 2'",
         "as in 'go t1 = went'",
         "Status: 0 done, 1 wrong words, 2 a fault of the script, 3 a read or write failed,\n4 out of memory.",
     ];
@@ -254,6 +261,24 @@ fn help_of_trace_is_shown(rt: HostRuntime) -> Result<(), Fail> {
         rt.alloc(),
         ["pif", "trace", "--help"].as_slice(),
         trace.as_slice(),
+    )
+}
+
+#[test]
+fn help_of_migrate_is_shown(rt: HostRuntime) -> Result<(), Fail> {
+    let migrate = [
+        MIGRATE,
+        "Usage: pif migrate < FILE\n",
+        "-h, --help",
+        "of version 1 or 2",
+        "with 'pif-trace 2' as its first line",
+        "Status: 0 done, 1 wrong words, 2 a fault of the trace, 3 a read or write failed,\n4 out of memory.",
+    ];
+    check_helped(
+        &rt,
+        rt.alloc(),
+        ["pif", "migrate", "--help"].as_slice(),
+        migrate.as_slice(),
     )
 }
 

@@ -116,6 +116,23 @@ fn refuse_first<R: Wait + Abort>(
     Ok(())
 }
 
+/// A tick is refused memory, and the time stays, so that a lesser one is none to the past.
+fn refuse_tick<R: Wait + Abort>(rt: &R, desk: &Desk<NoPause>) -> Result<(), Fail> {
+    refuse_growth(rt, desk, 0)?;
+    let before = entries(rt, desk);
+    assert_eq!(rt; desk.tick(rt, 5), Err(DeskFault::NoMemory));
+    assert_eq!(rt; entries(rt, desk), before);
+    set_growth(rt, desk, 1);
+    assert_eq!(rt; desk.tick(rt, 3), Ok(()));
+    Ok(())
+}
+
+#[test]
+fn refused_tick_changes_nothing(rt: HostRuntime) -> Result<(), Fail> {
+    let desk = desk_of(&rt, rt.alloc(), Kind::Normal, false)?;
+    refuse_tick(&rt, &desk)
+}
+
 #[test]
 fn call_that_could_not_begin_is_not_open(rt: HostRuntime) -> Result<(), Fail> {
     let mut clients = Vec::new(rt.alloc());

@@ -19,14 +19,14 @@ const REST: u64 = 20;
 
 /// Counts how often threads were answered that they wait.
 #[derive(Drop)]
-struct Waiters {
+pub(crate) struct Waiters {
     rt: HostRuntime,
     count: AtomicU64,
 }
 
 impl Waiters {
     /// Nobody has waited.
-    fn new(rt: HostRuntime) -> Waiters {
+    pub(crate) fn new(rt: HostRuntime) -> Waiters {
         Waiters {
             rt,
             count: AtomicU64::new(0),
@@ -34,7 +34,7 @@ impl Waiters {
     }
 
     /// Waits until so many wait, and then a while.
-    fn come_to(&self, count: u64) {
+    pub(crate) fn come_to(&self, count: u64) {
         for _ in 0..TURNS {
             if self.count.load(Ordering::SeqCst) >= count {
                 break;

@@ -5,7 +5,7 @@ ghost use Rattle.pif_scripts.specs.Runs.{end_line};
 
 use super::ending::{End, Ending, OpenFault};
 use arrayvec::ArrayVec;
-use pif_text::{Cause, Text, differs_text, fault_text};
+use pif_text::{Cause, Text, Version, differs_text, fault_text};
 use std::alloc::Global;
 
 /// The most bytes that a reply has, its LF included.
@@ -13,7 +13,7 @@ pub const REPLY_ROOM: usize = 41;
 
 /// The most bytes that the answer to a line has. The longest is what the first line of a script makes of a trace: the
 /// two lines in front, and those of 25 events.
-pub const ANSWER_ROOM: usize = 3_496;
+pub const ANSWER_ROOM: usize = 2_768;
 
 /// The most bytes that are said at an end, its LF included.
 pub const END_ROOM: usize = 71;
@@ -59,20 +59,20 @@ pub trait Listener: Sized {
     // How this listener hears a script.
     ghost hearing: { Hearing Self };
 
-    /// The listener that the line of this number, from 1, makes while there is none, or `None` where the line is passed
-    /// over. The answer to the line is appended to `output`.
+    /// The listener that a line makes while there is none, or `None` where the line is passed over. `version` is the one
+    /// that the first line named, if that line was passed over. The answer to the line is appended to `output`.
     ///
     /// # Errors
     ///
     /// `Ended` where the line ends the script, and `NoMemory`; `output` is then unchanged.
     fn open(
         alloc: Global,
-        number: u64,
+        version: Option<Version>,
         line: &[u8],
         output: &mut Output,
     ) -> Result<Option<Self>, OpenFault>
         requires { array_vec_len output.old + ANSWER_ROOM ≤ OUTPUT_ROOM }
-        ensures answer { Opens (hearing.first_meaning number line.now) output.old.items output.new.items result }
+        ensures answer { Opens (hearing.first_meaning version line.now) output.old.items output.new.items result }
         ensures room { array_vec_len output.new ≤ array_vec_len output.old + ANSWER_ROOM };
 
     /// Hears a later line. Its answer is appended to `output`.

@@ -4,11 +4,11 @@ ghost use Rattle.arrayvec.specs.ArrayVec.{array_vec_len};
 use super::ending::{End, Ending, OpenFault, Stop};
 use super::listener::{ANSWER_ROOM, END_ROOM, Listener, OUTPUT_ROOM, Output};
 use arrayvec::ArrayVec;
-use pif_text::Cause;
+use pif_text::{Cause, Version, version_of};
 use std::alloc::Global;
 
 /// The most bytes of a script or a trace.
-const MOST_BYTES: u32 = 16_777_216;
+pub const MOST_BYTES: u32 = 16_777_216;
 
 /// The most bytes of a line before its LF.
 pub const MOST_LINE: usize = 120;
@@ -17,6 +17,7 @@ pub const MOST_LINE: usize = 120;
 #[derive(Drop)]
 pub struct Scanner<L> {
     listener: Option<L>,
+    version: Option<Version>,
     line: ArrayVec<u8, MOST_LINE>,
     number: u64,
     taken: u32,
@@ -25,7 +26,7 @@ pub struct Scanner<L> {
 }
 
 impl<L: Listener + Drop> Scanner<L> {
-    ghost use Rattle.pif_scripts.specs.Scripts.{start, Takes, Answers, Tells, closed_at, end_at};
+    ghost use Rattle.pif_scripts.specs.Scripts.{start, Takes, Answers, Tells, closed_at, end_at, version_after};
     ghost use Rattle.pif_scripts.specs.Scanners.{scan_of};
 
     /// A scanner before the first byte.
@@ -34,6 +35,7 @@ impl<L: Listener + Drop> Scanner<L> {
     {
         Scanner {
             listener: None,
+            version: None,
             line: ArrayVec::new(),
             number: 1,
             taken: 0,
@@ -99,6 +101,7 @@ impl<L: Listener + Drop> Scanner<L> {
         }
         if byte == b'\n' {
             self.answer(alloc, output)?;
+            self.version = self.named();
             self.line.clear();
             self.taken += 1;
             self.number += 1;
@@ -112,6 +115,17 @@ impl<L: Listener + Drop> Scanner<L> {
         Ok(())
     }
 
+    /// The version that the first line names, where the line has ended in which the script stands.
+    fn named(&self) -> Option<Version>
+        ensures { result ≡ version_after (scan_of self.now) }
+    {
+        if self.number == 1 {
+            version_of(self.line.as_slice())
+        } else {
+            self.version
+        }
+    }
+
     /// Has the line answered.
     fn answer(&mut self, alloc: Global, output: &mut Output) -> Result<(), Stop>
         requires { array_vec_len output.old + ANSWER_ROOM ≤ OUTPUT_ROOM }
@@ -120,7 +134,7 @@ impl<L: Listener + Drop> Scanner<L> {
         ensures counts { (self.new.number ≡ self.old.number) × (self.new.taken ≡ self.old.taken) }
     {
         match &mut self.listener {
-            None => match L::open(alloc, self.number, self.line.as_slice(), output) {
+            None => match L::open(alloc, self.version, self.line.as_slice(), output) {
                 Ok(listener) => {
                     self.listener = listener;
                     Ok(())

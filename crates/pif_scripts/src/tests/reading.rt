@@ -88,7 +88,7 @@ fn nothing_is_read_behind_a_difference(rt: HostRuntime) {
             Err(CliFault::Differs(2)),
         ),
         (
-            "pif-trace 2\nthread 10 = t1\n",
+            "pif-trace 3\nthread 10 = t1\n",
             1,
             Err(CliFault::Script(1, Cause::Command)),
         ),

@@ -275,9 +275,12 @@ pub struct Failing {
 
 impl Failing {
     pub fn new(text: &'static str) -> Failing {
-        Failing {
-            text: text.as_bytes(),
-        }
+        Failing::behind(text.as_bytes())
+    }
+
+    /// Fails behind these bytes.
+    pub fn behind(text: &'static [u8]) -> Failing {
+        Failing { text }
     }
 }
 

@@ -60,7 +60,8 @@ fn header_alone_is_a_trace(rt: HostRuntime) {
             "fault 1 cut\n",
             Err(CliFault::Script(1, Cause::Cut)),
         ),
-        ("pif-trace 2\n", "fault 1 command\n", no_command(1)),
+        ("pif-trace 2\n", "same 0\n", Ok(())),
+        ("pif-trace 3\n", "fault 1 command\n", no_command(1)),
         (
             "thread 10 = t1\npif-trace 1\n",
             "fault 1 command\n",
@@ -252,7 +253,7 @@ fn history(alloc: Global) -> Result<(Limits, Vec<Entry>), Fail> {
 }
 
 const HISTORY: &str =
-    "pif-trace 1\nlimits 2 1 0 1 = ok\nthread 10 = t1\nthread 50 = t2\nmutex errorcheck = m1\n\
+    "pif-trace 2\nlimits 2 1 0 1 = ok\nthread 10 = t1\nthread 50 = t2\nmutex errorcheck = m1\n\
     begin t1 lock m1 = begun\ngo t1 = went\ngo t1 = answer 0\ngo t1 = refused idle\n\
     begin t2 lock m1 = begun\ngo t2 = went\ngo t2 = went\ngo t2 = waits\n\
     begin t1 setprio t2 60 = begun\ngo t1 = answer 0\n\
@@ -301,7 +302,7 @@ fn history_of_uses(alloc: Global) -> Result<(Limits, Vec<Entry>), Fail> {
 }
 
 const HISTORY_OF_USES: &str =
-    "pif-trace 1\nlimits 2 1 1 1 = ok\nthread 10 = t1\nthread 20 = t2\nmutex errorcheck = m1\ncond m1 = c1\n\
+    "pif-trace 2\nlimits 2 1 1 1 = ok\nthread 10 = t1\nthread 20 = t2\nmutex errorcheck = m1\ncond m1 = c1\n\
     begin t1 lock m1 = begun\ngo t1 = went\ngo t1 = answer 0\n\
     begin t1 wait c1 m1 = begun\ngo t1 = went\ngo t1 = went\ngo t1 = went\ngo t1 = waits\n\
     begin t2 signal c1 = begun\ngo t2 = went\ngo t2 = went\ngo t2 = answer 0\ngo t1 = answer 0\n\
@@ -392,7 +393,7 @@ fn trace_names_each_entry(rt: HostRuntime) -> Result<(), Fail> {
     let mut trace = Kept::new();
     assert_eq!(rt; write_trace(limits, entries.as_slice(), &mut trace), Ok(()));
     let lines =
-        "pif-trace 1\nlimits 1024 1024 256 4294967295 = ok\nthread 99 = t7\nmutex normal robust = m3\n\
+        "pif-trace 2\nlimits 1024 1024 256 4294967295 = ok\nthread 99 = t7\nmutex normal robust = m3\n\
         cond m3 = c256\n";
     trace.check(&rt, lines);
     Ok(())

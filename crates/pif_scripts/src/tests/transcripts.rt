@@ -6,7 +6,7 @@ use std::io::Read;
 use std::process::Abort;
 
 /// The two lines in front of a trace, where the script names no limits.
-const FRONT: &str = "pif-trace 1\nlimits 1024 1024 256 4294967295 = ok\n";
+const FRONT: &str = "pif-trace 2\nlimits 1024 1024 256 4294967295 = ok\n";
 
 /// Each command once, additions and events that are refused, and each question.
 const SCRIPT: &str =
@@ -18,7 +18,7 @@ const SCRIPT: &str =
 /// The trace of that script: of a robust lock the way is load, set_pending, take, and then load, health, link_next,
 /// link_head and clear_pending; of a refused trylock load, set_pending, take, the kernel's call and clear_pending.
 const TRACE: &str =
-    "pif-trace 1\nlimits 2 1 1 1 = ok\nthread 10 = t1\nthread 20 = t2\nmutex errorcheck robust = m1\ncond m1 = c1\n\
+    "pif-trace 2\nlimits 2 1 1 1 = ok\nthread 10 = t1\nthread 20 = t2\nmutex errorcheck robust = m1\ncond m1 = c1\n\
     begin t1 lock m1 = begun\ngo t1 = went\nbegin t1 lock m1 = refused busy\ngo t1 = went\ngo t1 = went\n\
     go t1 = went\ngo t1 = went\ngo t1 = went\ngo t1 = answer 0\n\
     begin t2 trylock m1 = begun\ngo t2 = went\ngo t2 = went\ngo t2 = went\ngo t2 = went\ngo t2 = answer 16\n\
@@ -61,7 +61,7 @@ fn trace_ends_where_the_script_does(rt: HostRuntime) {
         ("thread 10", "", Err(CliFault::Script(1, Cause::Cut))),
         (
             "limits 1 0 0 1\n",
-            "pif-trace 1\nlimits 1 0 0 1 = ok\n",
+            "pif-trace 2\nlimits 1 0 0 1 = ok\n",
             Ok(()),
         ),
     ];
@@ -86,7 +86,7 @@ fn fault_is_kept_and_not_written(rt: HostRuntime) {
 #[test]
 fn failing_reader_and_writer_of_a_trace(rt: HostRuntime) {
     let mut input = Failing::new("limits 1 1 1 1\nthread 10\nthr");
-    let written = "pif-trace 1\nlimits 1 1 1 1 = ok\nthread 10 = t1\n";
+    let written = "pif-trace 2\nlimits 1 1 1 1 = ok\nthread 10 = t1\n";
     check(&rt, rt.alloc(), &mut input, written, Err(CliFault::Read));
     let writers = [(1, 4096, Ok(())), (4096, 40, Err(CliFault::Write))];
     for (each_call, room, ended) in writers {

@@ -9,4 +9,4 @@ invariant-loop-turn l =
     (goes_on (23 - l._turn) l.thread l.core ≡ goes_on 23 l.thread l.initial.core)
     × (l.output.items ++ entry_lines (going_entries (23 - l._turn) l.thread l.core)
     ≡ l.initial.output.items ++ entry_lines (going_entries 23 l.thread l.initial.core))
-    × (array_vec_len l.output ≤ array_vec_len l.initial.output + 134 * l._turn)
+    × (array_vec_len l.output ≤ array_vec_len l.initial.output + 106 * l._turn)

@@ -2,10 +2,15 @@
 use Rattle.std.proofs.Common.{◌≡◌, ◌∙◌, ◌++◌, [], ◌∷◌, ap, sym, subst, length, rules, arith}
 use Rattle.pif_model.specs.declared.events.Event.{Event}
 use Rattle.pif_model.specs.declared.events.Entry.TheVariants.{Step as Happened}
-use Rattle.pif_desk.specs.Logs.{Log, log_of, log_after, mark_of}
+use Rattle.pif_desk.specs.Logs.{Log, log_of, log_after, mark_of, is_answer_of}
 use Rattle.pif_desk.specs.Rooms.{ClientState, IsExact}
-use Rattle.pif_desk.proofs.Journals.{exact_on}
+use Rattle.pif_desk.proofs.Journals.{act_fits, exact_on}
 use Rattle.pif_desk.proofs.room.Room.play.Goals as goal
+
+pub returns-clause-fits : goal.returns-clause-fits
+returns-clause-fits c =
+    act_fits c.args.act c.client.inside.t c.in_ok-seen.seen
+    (ap (λ (e : Event). is_answer_of e c.in_ok-seen.seen) (sym c.event.ensures) ∙ c.in_ok-seen.ensures.fits)
 
 pub returns-clause-exact : goal.returns-clause-exact
 returns-clause-exact c = λ exact.

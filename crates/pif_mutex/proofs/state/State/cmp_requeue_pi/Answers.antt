@@ -7,6 +7,7 @@ invariant_of-self g c = record {
   assembled = requeue_assembled c.self.invariant.assembled c.args.c c.args.m c.args.more c.cmp_requeue_pi.result _ _
       c.cmp_requeue_pi.ensures.words c.cmp_requeue_pi.ensures.after c.cmp_requeue_pi.ensures.kept;
   lines = c.self.invariant.lines;
+  timers = c.self.invariant.timers;
   mutexes = c.self.invariant.mutexes;
   conds = c.self.invariant.conds;
 }

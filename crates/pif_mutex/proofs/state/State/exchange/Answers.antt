@@ -18,6 +18,7 @@ invariant_of-self g c =
       assembled = exchanged_assembled c.self.invariant.assembled (is_ok c.compare_exchange.result) c.args.m
           (word_of c.args.new) (words_of c.compare_exchange.new.self) words;
       lines = c.self.invariant.lines;
+      timers = c.self.invariant.timers;
       mutexes = c.self.invariant.mutexes;
       conds = c.self.invariant.conds;
     }

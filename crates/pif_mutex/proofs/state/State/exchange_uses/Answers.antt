@@ -16,6 +16,7 @@ invariant_of-self g c =
       assembled = uses_assembled c.self.invariant.assembled hit c.args.c c.args.new
           (words_of c.compare_exchange.new.self) words;
       lines = c.self.invariant.lines;
+      timers = c.self.invariant.timers;
       mutexes = c.self.invariant.mutexes;
       conds = c.self.invariant.conds;
     }

@@ -9,6 +9,7 @@ invariant_of-self g c = record {
       (walk_of (robust_at c.self.inside.lists c.args.t)) _ _ _
       c.exit.ensures.words c.exit.ensures.after c.exit.ensures.lists c.exit.ensures.kept;
   lines = c.self.invariant.lines;
+  timers = c.self.invariant.timers;
   mutexes = c.self.invariant.mutexes;
   conds = c.self.invariant.conds;
 }

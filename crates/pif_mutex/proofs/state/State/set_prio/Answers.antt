@@ -8,6 +8,7 @@ invariant_of-self g c = record {
   assembled = set_prio_assembled c.self.invariant.assembled c.args.t c.args.p (unit_answer c.set_prio.result) _
       c.set_prio.ensures.after c.set_prio.ensures.kept;
   lines = c.self.invariant.lines;
+  timers = c.self.invariant.timers;
   mutexes = c.self.invariant.mutexes;
   conds = c.self.invariant.conds;
 }

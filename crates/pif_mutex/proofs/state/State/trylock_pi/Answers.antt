@@ -8,6 +8,7 @@ invariant_of-self g c = record {
   assembled = try_lock_assembled c.self.invariant.assembled c.args.t c.args.m (unit_answer c.trylock_pi.result) _
       c.trylock_pi.ensures.words;
   lines = c.self.invariant.lines;
+  timers = c.self.invariant.timers;
   mutexes = c.self.invariant.mutexes;
   conds = c.self.invariant.conds;
 }

@@ -8,6 +8,7 @@ invariant_of-self g c = record {
   assembled = unlock_assembled c.self.invariant.assembled c.args.m (unit_answer c.unlock_pi.result) _ _
       c.unlock_pi.ensures.words c.unlock_pi.ensures.after c.unlock_pi.ensures.kept;
   lines = c.self.invariant.lines;
+  timers = c.self.invariant.timers;
   mutexes = c.self.invariant.mutexes;
   conds = c.self.invariant.conds;
 }

@@ -8,6 +8,7 @@ invariant_of-self g c = record {
   assembled = wait_requeue_assembled c.self.invariant.assembled c.args.t c.args.c c.args.m
       (unit_answer c.wait_requeue_pi.result) _ c.wait_requeue_pi.ensures.after c.wait_requeue_pi.ensures.kept;
   lines = c.self.invariant.lines;
+  timers = c.self.invariant.timers;
   mutexes = c.self.invariant.mutexes;
   conds = c.self.invariant.conds;
 }

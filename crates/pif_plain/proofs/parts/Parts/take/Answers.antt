@@ -25,12 +25,11 @@ number c =
 
 pub taken_word-requires : goal.taken_word-requires
 taken_word-requires c =
-    let d = on (goal.at.taken_word-requires c).Start in
     omega (
       arith,
       c.get.ensures.value,
       number_below c.args.self.now c.requires.sound c.args.u
-          (parked_added c.args.self.now c.args.u c.requires.sound d.0 d.1),
+          (parked_added c.args.self.now c.args.u c.requires.sound c.requires.parked),
     )
 
 pub queue_on-requires-clause-added : goal.queue_on-requires-clause-added

@@ -1,45 +1,37 @@
-use Rattle.std.proofs.Common.{◌≡◌, ℕ, length, set, ◌∙◌, ap, arith}
+use Rattle.std.proofs.Common.{◌≡◌, length, set, ◌∙◌, ap, arith}
 use Rattle.pif_nodes.specs.Table.{holder}
 use Rattle.pif_runq.specs.Levels.{node_for}
-use Rattle.pif_model.specs.declared.lines.Status.TheVariants.{Ready, Parked}
-use Rattle.pif_model.specs.PiKernel.{seat_at as kernel_seat_at, kernel_after_waking}
+use Rattle.pif_model.specs.declared.lines.Status.TheVariants.{Ready}
+use Rattle.pif_model.specs.PiKernel.{kernel_after_waking}
 use Rattle.pif_owners.specs.Owners.{seat_at}
 use Rattle.pif_kernel.specs.Plain.{Plain, IsSound, kernel_of}
 use Rattle.pif_plain.specs.Fields.{plain_of}
-use Rattle.pif_kernel.proofs.WakeSound.{parked_somewhere, parked_number, parked_level, parked_free, woken_ends}
-use Rattle.pif_plain.proofs.parts.Parts.wake.Goals.{Start, After-add}
+use Rattle.pif_kernel.proofs.WakeSound.{rests_within, rests_level, rests_free, woken_ends}
+use Rattle.pif_plain.proofs.parts.Parts.wake.Goals.{After-add}
 use Rattle.pif_plain.proofs.parts.Parts.wake.Goals as goal
-
--- on which variable it was parked
-on : (c : Start) → (n : ℕ) × ((kernel_seat_at (kernel_of c.args.self.now) c.args.t).status ≡ Parked n)
-on c = parked_somewhere (kernel_seat_at (kernel_of c.args.self.now) c.args.t).status c.requires.parked
 
 pub index_mut-requires : goal.index_mut-requires
 index_mut-requires c =
     let p : Plain = c.args.self.now in
-    let d = on (goal.at.index_mut-requires c).Start in
     let same : length c.self.inside.statuses.items ≡ length p.statuses
     = ap (λ (x : Plain). length x.statuses) (c.self.view_is ∙ c.unpark.ensures) in
-    omega (arith, (parked_number p c.args.t c.requires.sound d.0 d.1).1, c.get.ensures.value, same)
+    omega (arith, (rests_within p c.args.t c.requires.sound c.requires.added c.requires.unready c.requires.unqueued).1, c.get.ensures.value, same)
 
 pub unwrap-level-requires : goal.unwrap-level-requires
 unwrap-level-requires c =
     let p : Plain = c.args.self.now in
-    let d = on (goal.at.unwrap-level-requires c).Start in
     let same : (seat_at c.self.inside.owners c.args.t).local ≡ (seat_at p.owners c.args.t).local
     = ap (λ (x : Plain). (seat_at x.owners c.args.t).local) (c.self.view_is ∙ c.unpark.ensures) in
-    c.local.ensures.given.1 (omega (arith, same, parked_level p c.args.t c.requires.sound d.0 d.1))
+    c.local.ensures.given.1 (omega (arith, same, rests_level p c.args.t c.requires.sound c.requires.added c.requires.unready c.requires.unqueued))
 
 pub add-requires-clause-free : goal.add-requires-clause-free
 add-requires-clause-free c =
     let p : Plain = c.args.self.now in
-    let d = on (goal.at.add-requires-clause-free c).Start in
     ap (λ (x : Plain). holder x.table (node_for x.queue c.args.t)) (c.self.view_is ∙ c.unpark.ensures)
-    ∙ parked_free p c.args.t c.requires.sound d.0 d.1
+    ∙ rests_free p c.args.t c.requires.sound c.requires.added c.requires.unready c.requires.unqueued
 
 -- what is kept then
 woken : (c : After-add)
-    → (n : ℕ) × ((kernel_seat_at (kernel_of c.args.self.now) c.args.t).status ≡ Parked n)
     → (kernel_of (record (plain_of c.self.inside) {
       statuses = set c.self.inside.statuses.items c.args.t (Ready c.args.woken);
       queue = c.add.new.self;
@@ -50,16 +42,17 @@ woken : (c : After-add)
       queue = c.add.new.self;
       table = c.add.new.table;
     })
-woken c d =
+woken c =
     let value = rw c.unwrap-level.ensures at c.local.ensures.value in
-    woken_ends c.args.self.now (plain_of c.self.inside) c.args.t c.requires.sound d.0 d.1 c.args.woken
+    woken_ends c.args.self.now (plain_of c.self.inside) c.args.t c.requires.sound
+    c.requires.added c.requires.unready c.requires.unqueued c.args.woken
     c.unwrap-level.result c.add.new.self c.add.new.table (c.self.view_is ∙ c.unpark.ensures) value c.add.ensures.place
     c.add.ensures.levels c.add.ensures.holds c.add.ensures.outside.count
 
 pub returns-clause-after : goal.returns-clause-after
 returns-clause-after c =
-    let a = goal.at.returns-clause-after c in rw c.get.ensures.value (woken a.After-add (on a.Start)).0
+    let a = goal.at.returns-clause-after c in rw c.get.ensures.value (woken a.After-add).0
 
 pub returns-clause-sound : goal.returns-clause-sound
 returns-clause-sound c =
-    let a = goal.at.returns-clause-sound c in rw c.get.ensures.value (woken a.After-add (on a.Start)).1
+    let a = goal.at.returns-clause-sound c in rw c.get.ensures.value (woken a.After-add).1

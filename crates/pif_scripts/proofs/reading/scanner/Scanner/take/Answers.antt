@@ -23,7 +23,7 @@ returns-then-byte-eq10-clause-answer g c =
     let a = c.in_ok-answer.ensures.answer in (
       a.0.0,
       byte_taken-answered g.L.Listener.hearing (scan_of c.args.self.now) c.args.byte a.0 (scan_of c.answer.new.self)
-          _ (omega arith) c.if-byte-eq10.true a.1 a.3 c.clear.ensures,
+          c.named-self.result _ (omega arith) c.if-byte-eq10.true a.1 a.3 c.named-self.ensures c.clear.ensures,
       a.2,
     )
 

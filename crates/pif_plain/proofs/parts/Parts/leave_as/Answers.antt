@@ -1,6 +1,5 @@
 use Rattle.std.proofs.Common.{set, arith, ap, ◌∙◌, ◌≡◌, length}
-use Rattle.pif_model.specs.declared.lines.Status.TheVariants.{Ended}
-use Rattle.pif_model.specs.PiKernel.{kernel_after_leaving}
+use Rattle.pif_model.specs.PiKernel.{kernel_left_as}
 use Rattle.pif_chains.proofs.KernelFacts.{living-added}
 use Rattle.pif_kernel.specs.Plain.{Plain, kernel_of}
 use Rattle.pif_plain.specs.Fields.{plain_of}
@@ -8,17 +7,17 @@ use Rattle.pif_kernel.proofs.Seats.{added_seen}
 use Rattle.pif_kernel.proofs.Standing.{fits}
 use Rattle.pif_kernel.proofs.WalkSound.{IsWalkable, on_levels, on_running, on_local, ended}
 use Rattle.pif_kernel.proofs.LeavingSound.{before_walk}
-use Rattle.pif_plain.proofs.parts.Parts.leave.Goals.{After-get}
-use Rattle.pif_plain.proofs.parts.Parts.leave.Goals as goal
+use Rattle.pif_plain.proofs.parts.Parts.leave_as.Goals.{After-get}
+use Rattle.pif_plain.proofs.parts.Parts.leave_as.Goals as goal
 
 -- what is kept before the walk
 left : (c : After-get)
     → IsWalkable (record (plain_of c.self.inside) {
-      statuses = set c.self.inside.statuses.items c.get.result Ended;
-    }) c.take_off-start.result (kernel_after_leaving c.args.t (kernel_of c.args.self.now))
+      statuses = set c.self.inside.statuses.items c.get.result c.args.status;
+    }) c.take_off-start.result (kernel_left_as c.args.status c.args.t (kernel_of c.args.self.now))
 left c =
-    before_walk c.args.self.now c.take_off-start.new.self (plain_of c.self.inside) c.args.t c.take_off-start.result
-    c.get.result c.requires.sound c.requires.living c.take_off-start.ensures c.self.view_is c.get.ensures.value
+    before_walk c.args.self.now c.take_off-start.new.self (plain_of c.self.inside) c.args.status c.args.t
+    c.take_off-start.result c.get.result c.requires.sound c.requires.living c.requires.out c.take_off-start.ensures c.self.view_is c.get.ensures.value
 
 pub index_mut-requires : goal.index_mut-requires
 index_mut-requires c =

@@ -1,0 +1,12 @@
+-- The parts fit together after the call.
+use Rattle.pif_mutex.proofs.Assembly.{expire_assembled}
+use Rattle.pif_mutex.proofs.state.State.expire.Goals as goal
+
+pub invariant_of-self : goal.invariant_of-self
+invariant_of-self g c = record {
+  assembled = expire_assembled c.self.invariant.assembled c.args.t _ c.expire.ensures.after c.expire.ensures.kept;
+  lines = c.self.invariant.lines;
+  timers = c.self.invariant.timers;
+  mutexes = c.self.invariant.mutexes;
+  conds = c.self.invariant.conds;
+}
