@@ -75,17 +75,5 @@ bench="$here/crates/pif_bench/out/pif_bench"
 for name in $("$bench"); do
   "$bench" "$name"
 done
-
-quick="$here/crates/pif_quick_bench/out/pif_quick_bench"
-[ -x "$quick" ] || (cd "$here/crates/pif_quick_bench" && rt run > /dev/null)
-for name in $("$quick"); do
-  "$quick" "$name"
-done
-
-desk="$here/crates/pif_desk_bench/out/pif_desk_bench"
-[ -x "$desk" ] || (cd "$here/crates/pif_desk_bench" && rt run > /dev/null)
-for name in $("$desk"); do
-  "$desk" "$name"
-done
 TIMEFORMAT='drive 64: %R s, of which %U s in the program and %S s in the system'
 time "$program" drive 64 > /dev/null

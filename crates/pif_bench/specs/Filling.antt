@@ -2,8 +2,8 @@
 use Rattle.std.specs.Prelude.{ℕ, ◌≡◌, ◌<◌, ◌≤◌, length, nat_eq, if◌then◌else◌, Option, Some, None}
 use Rattle.pif_nodes.specs.Table.{Table, holder, key_at}
 use Rattle.pif_plist.specs.Order.{IsSorted}
-use Rattle.pif_bench.specs.declared.lists.Priorities.{Priorities}
-use Rattle.pif_bench.specs.declared.lists.Priorities.TheVariants.{Equal, Distinct}
+use Rattle.pif_bench.specs.declared.layers.lists.Priorities.{Priorities}
+use Rattle.pif_bench.specs.declared.layers.lists.Priorities.TheVariants.{Equal, Distinct}
 
 -- the table of a benchmark between two of its calls
 pub record IsReady (t : Table) : Type 0 where

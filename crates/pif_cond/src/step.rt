@@ -24,8 +24,8 @@ use pif_types::{CondId, Errno, MutexId, Request, Tid};
 /// mutex, and after a stalled mutex was handed to it; or it waits, and nothing changes. A wait that is parked and
 /// whose deadline is reached expires, by the kernel call expire, and does nothing else; after that it is answered
 /// ETIMEDOUT in place of 0 (POSIX, pthread_cond_wait, pthread_cond_timedwait, pthread_cond_signal and
-/// pthread_cond_broadcast; futex(2), FUTEX_WAIT_REQUEUE_PI and FUTEX_CMP_REQUEUE_PI). Whoever owns a mutex after the step and did not before holds it once: the thread, the next waiter, or a thread that was
-/// parked.
+/// pthread_cond_broadcast; futex(2), FUTEX_WAIT_REQUEUE_PI and FUTEX_CMP_REQUEUE_PI). Whoever owns a mutex after the
+/// step and did not before holds it once: the thread, the next waiter, or a thread that was parked.
 pub fn advance<K: PiKernel + Drop>(parts: &mut Parts<K>, t: Tid) -> Progress
     requires living { is_living parts.old.kernel t ≡ true }
     requires call { is_of_conditions (line_at parts.old t) ≡ true }

@@ -110,8 +110,8 @@ impl Core {
     /// where the thread was never added, `Dead` where it has ended, `Busy` where a thread with a call open begins one,
     /// `Idle` where a thread goes on that has none, and `NoSuch` where the mutex or the condition variable of a call
     /// was never added. A tick, which belongs to no thread, is refused, by `Past`, where it would set the time back. A
-    /// thread may end at any point, with a call open or not. A call that is open closes or waits
-    /// within 24 steps of its thread, where no other event comes between.
+    /// thread may end at any point, with a call open or not. A call that is open closes or waits within 24 steps of its
+    /// thread, where no other event comes between.
     pub fn step(&mut self, event: Event) -> Seen
         ensures seen { result ≡ (event_outcome event self.old).seen }
         ensures after { self.new ≡ (event_outcome event self.old).after }

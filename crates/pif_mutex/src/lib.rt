@@ -64,8 +64,9 @@
 //!
 //! `lock`, `try_lock`, `unlock`, `consistent` and `set_priority` have the lines of each call; `taking`, `linking` and
 //! `leaving` what lock, trylock and wait share; `lists` the robust lists; `kernel` the kernel calls; `deadlines` what a
-//! request is without its deadline, and which calls are due; `end` the end of a thread; and `step` which line a step is. All are methods of `State`, which keeps only that the parts fit together;
-//! `Parts` keeps besides that they are sound, by which each open call may take its next step.
+//! request is without its deadline, and which calls are due; `end` the end of a thread; and `step` which line a step is.
+//! All are methods of `State`, which keeps only that the parts fit together; `Parts` keeps besides that they are sound,
+//! by which each open call may take its next step.
 #![tactic(auto)]
 
 mod consistent;

@@ -90,6 +90,7 @@ impl<K: PiKernel + Drop> State<K> {
             Err(error) => self.answer(t, error.number()),
         }
     }
+
     /// Names the mutex in the pending field of the thread, and goes on at this place.
     pub fn name_pending(&mut self, request: Request, place: Place, t: Tid, m: MutexId) -> Progress
         requires known { has_thread self.old t ≡ true }

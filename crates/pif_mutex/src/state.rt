@@ -30,8 +30,8 @@ pub const INCONSISTENT: u32 = 1;
 /// The health word of a robust mutex that is unusable.
 pub const UNUSABLE: u32 = 2;
 
-/// The lines and timers, the time, what the library knows of mutexes and of condition variables, the words, the robust lists and the kernel,
-/// between two accesses of an event.
+/// The lines and timers, the time, what the library knows of mutexes and of condition variables, the words, the robust
+/// lists and the kernel, between two accesses of an event.
 #[derive(Drop)]
 pub struct State<K: PiKernel + Drop> {
     limits: Limits,

@@ -2,7 +2,7 @@
 //! back, by one compare-exchange; a pass that finds it taken may wait for it. None of it goes through the core: there are
 //! no POSIX answers and no priorities, and nobody helps when a thread that holds a value ends.
 //!
-//! One caller, of two threads that add to one value. `pif_tally` is this program whole.
+//! One caller, of two threads that add to one value. The program `pif_demo` has it whole.
 //!
 //! ```text
 //! fn add_up<R: Wait>(rt: &R, quick: &Quick<u64>, pass: &mut Pass<u64>)

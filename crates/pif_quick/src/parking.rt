@@ -1,5 +1,5 @@
 //! The order of the passes that wait.
-ghost use Rattle.std.specs.Prelude.{◌≡◌, ◌==◌, [], ◌∷◌, ◌++◌, ◌<◌, IsTrue, IsFalse, is_some};
+ghost use Rattle.std.specs.Prelude.{◌≡◌, ◌==◌, [], ◌∷◌, ◌++◌, ◌<◌, IsTrue, IsFalse, is_some, length};
 ghost use Rattle.std.specs.List.{position};
 ghost use Rattle.pif_quick.specs.Waits.{waits_at, next_at, without_next};
 
@@ -58,7 +58,7 @@ impl Order {
     /// Puts the pass behind the others. Answers false, with nothing changed, where there is no room.
     pub(crate) fn park(&mut self, word: usize, pass: u8) -> bool
         ensures parked { IsTrue result → self.new.parked.items ≡ self.old.parked.items ++ (record { word = word; pass = pass }) ∷ [] }
-        ensures full { IsFalse result → self.new ≡ self.old }
+        ensures full { IsFalse result → (length self.old.parked.items ≡ 64) × (self.new ≡ self.old) }
     {
         self.parked.try_push(Parked { word, pass }).is_ok()
     }

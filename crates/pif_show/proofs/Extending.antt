@@ -2,7 +2,7 @@
 use Rattle.std.proofs.Common.{ℕ, List, ◌++◌, Option}
 use Rattle.std.proofs.KnownBytes.{Appends-kept, Appends-trans}
 use Rattle.std.specs.Io.KnownBytes.{Appends, Keeps}
-use Rattle.pif_show.specs.Extends.{Extends, Stays}
+use Rattle.pif_show.specs.Extends.{Stays}
 
 -- bytes were written behind what was there
 pub Stays-appended : (a b : Option (List ℕ)) (bytes : List ℕ) → Appends a b bytes → Stays a b

@@ -157,6 +157,18 @@ pub IsHeld-stays : {f : ℕ → Option Request} {counts : ℕ → ℕ → ℕ} {
 IsHeld-stays h orderly grows all =
     record { orderly = orderly; each = λ x. Holding-stays (h.each x) grows refl (λ m. refl) (all x) }
 
+-- the time changes nothing
+pub IsHeld-time : {f : ℕ → Option Request} {counts : ℕ → ℕ → ℕ} {w : World} → IsHeld f counts w → (n : ℕ)
+    → IsHeld f counts (record w { time = n })
+IsHeld-time h n = IsHeld-stays h
+    (record {
+      room = h.orderly.room;
+      nobody = h.orderly.nobody;
+      no_mutex = h.orderly.no_mutex;
+      owners = h.orderly.owners;
+    })
+    (λ m y. y) (λ t. record { call = refl; living = λ e. e; held = λ m. refl; fewer = λ m y. y })
+
 -- The mutexes ms and the waiters ws, where t's call of q goes on from a to b: t holds of its call's mutex what the call
 -- then says, and all else is held as before; of the waiters none is new but t.
 record MovesTo (w : World) (t : ℕ) (q : Request) (a b : Progress) (ms : List Mutex) (ws : List (ℕ × ℕ)) : Type 0 where

@@ -46,7 +46,7 @@ use Rattle.pif_chains.proofs.Waiting.{by_test}
 use Rattle.pif_simulation.proofs.Kept.{second}
 use Rattle.pif_simulation.proofs.Worlds.{call_of, owner_of, written_at, push_other, push_same, call-with_thread_other, living-with_thread, begin_allowed, end_allowed}
 use Rattle.pif_simulation.proofs.Holding.{Counted, held_before, same_progress, Eases, Holding-eases, names_mutex, Holding, Stays, request_of, held-from_holds, Holding-begins, Holding-answers, Holding-ends}
-use Rattle.pif_simulation.proofs.AllHolding.{IsHeld, IsActing, view_of, times_held, times-other, acting, MayTake, may_take, wait_may_take, IsOrderly-with_thread, IsHeld-but, IsHeld-stays, IsHeld-progresses, IsHeld-joins, IsHeld-takes, IsHeld-counts, IsHeld-owns, IsHeld-releases, IsHeld-with_health, IsHeld-Releases, IsOrderly-mutexes, IsOrderly-waiters, holder_is_owner}
+use Rattle.pif_simulation.proofs.AllHolding.{IsHeld, IsActing, view_of, times_held, times-other, acting, MayTake, may_take, wait_may_take, IsOrderly-with_thread, IsHeld-but, IsHeld-stays, IsHeld-time, IsHeld-progresses, IsHeld-joins, IsHeld-takes, IsHeld-counts, IsHeld-owns, IsHeld-releases, IsHeld-with_health, IsHeld-Releases, IsOrderly-mutexes, IsOrderly-waiters, holder_is_owner}
 
 -- CALLS
 
@@ -360,18 +360,6 @@ IsHeld-waiters : {f : ℕ → Option Request} {counts : ℕ → ℕ → ℕ} {w 
     → ((t m : ℕ) → is_among ws t m ≡ true → is_among w.waiters t m ≡ true) → IsHeld f counts (record w { waiters = ws })
 IsHeld-waiters {w = w} h ws fewer = IsHeld-stays h (IsOrderly-waiters w ws h.orderly) (λ m y. y)
     (λ t. record { call = refl; living = λ e. e; held = λ m. refl; fewer = λ m y. fewer t m y })
-
--- nor does the time
-IsHeld-time : {f : ℕ → Option Request} {counts : ℕ → ℕ → ℕ} {w : World} → IsHeld f counts w → (n : ℕ)
-    → IsHeld f counts (record w { time = n })
-IsHeld-time h n = IsHeld-stays h
-    (record {
-      room = h.orderly.room;
-      nobody = h.orderly.nobody;
-      no_mutex = h.orderly.no_mutex;
-      owners = h.orderly.owners;
-    })
-    (λ m y. y) (λ t. record { call = refl; living = λ e. e; held = λ m. refl; fewer = λ m y. y })
 
 -- a change of a base priority
 IsHeld-SetsPriority : {f : ℕ → Option Request} {counts : ℕ → ℕ → ℕ} {w v : World} → IsHeld f counts w → {t u p : ℕ}

@@ -1,5 +1,5 @@
 //! Deadlines of locks and waits: when one is reached, and when it counts no more. Mutex 1 is of kind NORMAL, robust or
-//! stalled; mutex 2 is stalled; variable 1 is bound to mutex 1.
+//! stalled; mutexes 2 and 3 are stalled; variable 1 is bound to mutex 1.
 use super::call;
 use crate::{Core, Event, Seen};
 use pif_types::{CondId, Kind, Limits, MutexId, Refusal, Request, Tid};
@@ -22,6 +22,7 @@ enum Ask {
     Effective(u32),
     Waiting(u32),
     OpenCall(u32),
+    Pick,
     Time,
 }
 
@@ -39,6 +40,7 @@ enum Reply {
 struct Names {
     first: MutexId,
     second: MutexId,
+    third: MutexId,
     cond: CondId,
 }
 
@@ -58,9 +60,14 @@ const TIMED_OUT: Reply = Reply::Is(Seen::Answered(110));
 
 const OWNER_DEAD: Reply = Reply::Is(Seen::Answered(130));
 
-/// A core with threads of these priorities, the two mutexes, of which the first is robust or stalled, and the variable.
+const UNUSABLE: Reply = Reply::Is(Seen::Answered(131));
+
+const DEADLOCK: Reply = Reply::Is(Seen::Answered(35));
+
+/// A core with threads of these priorities, the three mutexes, of which the first is robust or stalled, and the
+/// variable.
 fn scene(alloc: Global, robust: bool, levels: &[u32]) -> Result<Core, Fail> {
-    let limits = Limits::new(3, 2, 1, 9).ok_or("limits")?;
+    let limits = Limits::new(5, 3, 1, 9).ok_or("limits")?;
     let mut core = Core::new(alloc, limits)?;
     fill(&mut core, robust, levels)?;
     Ok(core)
@@ -69,6 +76,7 @@ fn scene(alloc: Global, robust: bool, levels: &[u32]) -> Result<Core, Fail> {
 fn fill(core: &mut Core, robust: bool, levels: &[u32]) -> Result<(), Fail> {
     let first = core.add_mutex(Kind::Normal, robust)?;
     core.add_mutex(Kind::Normal, false)?;
+    core.add_mutex(Kind::Normal, false)?;
     core.add_cond(first)?;
     for level in levels {
         core.add_thread(*level)?;
@@ -76,10 +84,11 @@ fn fill(core: &mut Core, robust: bool, levels: &[u32]) -> Result<(), Fail> {
     Ok(())
 }
 
-fn names() -> Result<Names, Fail> {
+fn named() -> Result<Names, Fail> {
     Ok(Names {
         first: MutexId::new(1).ok_or("a mutex")?,
         second: MutexId::new(2).ok_or("a mutex")?,
+        third: MutexId::new(3).ok_or("a mutex")?,
         cond: CondId::new(1).ok_or("a variable")?,
     })
 }
@@ -111,6 +120,7 @@ fn answer(core: &mut Core, ask: Ask) -> Result<Reply, Fail> {
         Ask::Effective(t) => Reply::Number(core.effective(thread(t)?).map(|prio| prio.get())),
         Ask::Waiting(t) => Reply::Rests(core.waiting(thread(t)?)),
         Ask::OpenCall(t) => Reply::Asked(core.open_call(thread(t)?)),
+        Ask::Pick => Reply::Number(core.pick().map(|t| t.get())),
         Ask::Time => Reply::Number(Some(core.time())),
     })
 }
@@ -135,20 +145,20 @@ fn play(
     check(rt, &mut core, steps)
 }
 
-fn bits(word: u32) -> Reply {
-    Reply::Number(Some(word))
+fn number(n: u32) -> Reply {
+    Reply::Number(Some(n))
 }
 
 #[test]
 fn timed_lock_expires(rt: HostRuntime) -> Result<(), Fail> {
-    let m = names()?.first;
+    let m = named()?.first;
     let steps = [
         (Ask::Call(1, Request::Lock(m)), DONE),
         (Ask::Begin(2, Request::TimedLock(m, 5)), BEGUN),
         (Ask::Go(2), WENT),
         (Ask::Go(2), WENT),
         (Ask::Go(2), WAITS),
-        (Ask::Effective(1), Reply::Number(Some(50))),
+        (Ask::Effective(1), number(50)),
         (
             Ask::OpenCall(2),
             Reply::Asked(Some(Request::TimedLock(m, 5))),
@@ -158,14 +168,16 @@ fn timed_lock_expires(rt: HostRuntime) -> Result<(), Fail> {
         (Ask::Go(2), WAITS),
         (Ask::Tick(5), TICKED),
         (Ask::Waiting(2), Reply::Rests(Some(false))),
+        (Ask::Pick, number(1)),
         (Ask::Go(2), TIMED_OUT),
-        (Ask::Effective(1), Reply::Number(Some(10))),
-        (Ask::Word(1), bits(0x8000_0001)),
+        (Ask::Pick, number(2)),
+        (Ask::Effective(1), number(10)),
+        (Ask::Word(1), number(0x8000_0001)),
         (Ask::Tick(4), Reply::Is(Seen::Refused(Refusal::Past))),
         (Ask::Tick(5), TICKED),
-        (Ask::Time, Reply::Number(Some(5))),
+        (Ask::Time, number(5)),
         (Ask::Call(1, Request::Unlock(m)), DONE),
-        (Ask::Word(1), bits(0)),
+        (Ask::Word(1), number(0)),
         (Ask::Call(2, Request::TimedLock(m, 0)), DONE),
     ];
     play(&rt, rt.alloc(), false, &[10, 50], &steps)
@@ -173,7 +185,7 @@ fn timed_lock_expires(rt: HostRuntime) -> Result<(), Fail> {
 
 #[test]
 fn hand_over_beats_expiry(rt: HostRuntime) -> Result<(), Fail> {
-    let m = names()?.first;
+    let m = named()?.first;
     let steps = [
         (Ask::Call(1, Request::Lock(m)), DONE),
         (Ask::Call(2, Request::TimedLock(m, 5)), WAITS),
@@ -182,14 +194,14 @@ fn hand_over_beats_expiry(rt: HostRuntime) -> Result<(), Fail> {
         (Ask::Call(1, Request::Unlock(m)), DONE),
         (Ask::Tick(5), TICKED),
         (Ask::Go(2), DONE),
-        (Ask::Word(1), bits(0x8000_0002)),
+        (Ask::Word(1), number(0x8000_0002)),
     ];
     play(&rt, rt.alloc(), false, &[10, 50], &steps)
 }
 
 #[test]
 fn timed_wait_expires(rt: HostRuntime) -> Result<(), Fail> {
-    let n = names()?;
+    let n = named()?;
     let steps = [
         (Ask::Call(2, Request::Lock(n.first)), DONE),
         (Ask::Call(2, Request::TimedWait(n.cond, n.first, 3)), WAITS),
@@ -205,7 +217,7 @@ fn timed_wait_expires(rt: HostRuntime) -> Result<(), Fail> {
         (Ask::Waiting(2), Reply::Rests(Some(true))),
         (Ask::Call(1, Request::Unlock(n.first)), DONE),
         (Ask::Go(2), TIMED_OUT),
-        (Ask::Word(1), bits(0x8000_0002)),
+        (Ask::Word(1), number(0x8000_0002)),
         (Ask::Call(1, Request::Signal(n.cond)), DONE),
     ];
     play(&rt, rt.alloc(), false, &[10, 10], &steps)
@@ -213,23 +225,41 @@ fn timed_wait_expires(rt: HostRuntime) -> Result<(), Fail> {
 
 #[test]
 fn timed_wait_meets_owner_death(rt: HostRuntime) -> Result<(), Fail> {
-    let n = names()?;
+    let n = named()?;
     let steps = [
         (Ask::Call(2, Request::Lock(n.first)), DONE),
         (Ask::Call(2, Request::TimedWait(n.cond, n.first, 3)), WAITS),
         (Ask::Call(1, Request::Lock(n.first)), DONE),
         (Ask::End(1), ENDED),
-        (Ask::Word(1), bits(0x4000_0000)),
+        (Ask::Word(1), number(0x4000_0000)),
         (Ask::Tick(3), TICKED),
         (Ask::Finish(2), OWNER_DEAD),
-        (Ask::Word(1), bits(0x0000_0002)),
+        (Ask::Word(1), number(0x0000_0002)),
     ];
     play(&rt, rt.alloc(), true, &[10, 10], &steps)
 }
 
+// Thread 3 takes the mutex over from who ended, and unlocks it as it is.
+#[test]
+fn timed_wait_meets_an_unusable_mutex(rt: HostRuntime) -> Result<(), Fail> {
+    let n = named()?;
+    let steps = [
+        (Ask::Call(2, Request::Lock(n.first)), DONE),
+        (Ask::Call(2, Request::TimedWait(n.cond, n.first, 3)), WAITS),
+        (Ask::Call(1, Request::Lock(n.first)), DONE),
+        (Ask::End(1), ENDED),
+        (Ask::Call(3, Request::Lock(n.first)), OWNER_DEAD),
+        (Ask::Call(3, Request::Unlock(n.first)), DONE),
+        (Ask::Tick(3), TICKED),
+        (Ask::Finish(2), UNUSABLE),
+        (Ask::Word(1), number(0)),
+    ];
+    play(&rt, rt.alloc(), true, &[10, 10, 10], &steps)
+}
+
 #[test]
 fn timed_relock_of_own_normal_mutex(rt: HostRuntime) -> Result<(), Fail> {
-    let m = names()?.first;
+    let m = named()?.first;
     let steps = [
         (Ask::Call(1, Request::Lock(m)), DONE),
         (Ask::Begin(1, Request::TimedLock(m, 2)), BEGUN),
@@ -245,7 +275,7 @@ fn timed_relock_of_own_normal_mutex(rt: HostRuntime) -> Result<(), Fail> {
 // The lock of a robust mutex of one's own leaves it on the own list: the end of the thread passes it on.
 #[test]
 fn timed_relock_of_own_robust_mutex(rt: HostRuntime) -> Result<(), Fail> {
-    let m = names()?.first;
+    let m = named()?.first;
     let steps = [
         (Ask::Call(1, Request::Lock(m)), DONE),
         (Ask::Call(1, Request::TimedLock(m, 2)), WAITS),
@@ -253,7 +283,7 @@ fn timed_relock_of_own_robust_mutex(rt: HostRuntime) -> Result<(), Fail> {
         (Ask::Go(1), WENT),
         (Ask::Go(1), TIMED_OUT),
         (Ask::End(1), ENDED),
-        (Ask::Word(1), bits(0x4000_0000)),
+        (Ask::Word(1), number(0x4000_0000)),
         (Ask::Call(2, Request::TimedLock(m, 2)), OWNER_DEAD),
     ];
     play(&rt, rt.alloc(), true, &[10, 10], &steps)
@@ -262,14 +292,14 @@ fn timed_relock_of_own_robust_mutex(rt: HostRuntime) -> Result<(), Fail> {
 // The deadline of who waits for a lost mutex counts, whether it is queued or comes when the owner has ended.
 #[test]
 fn timed_lock_of_a_lost_mutex_expires(rt: HostRuntime) -> Result<(), Fail> {
-    let m = names()?.first;
+    let m = named()?.first;
     let steps = [
         (Ask::Call(1, Request::Lock(m)), DONE),
         (Ask::Call(2, Request::TimedLock(m, 5)), WAITS),
         (Ask::Tick(5), TICKED),
         (Ask::End(1), ENDED),
         (Ask::Go(2), TIMED_OUT),
-        (Ask::Word(1), bits(0x8000_0001)),
+        (Ask::Word(1), number(0x8000_0001)),
         (Ask::Call(2, Request::TimedLock(m, 7)), WAITS),
         (Ask::Tick(6), TICKED),
         (Ask::Go(2), WAITS),
@@ -282,13 +312,13 @@ fn timed_lock_of_a_lost_mutex_expires(rt: HostRuntime) -> Result<(), Fail> {
 // A robust mutex is handed over by its owner's end, also to who is past its deadline.
 #[test]
 fn owner_death_beats_expiry(rt: HostRuntime) -> Result<(), Fail> {
-    let m = names()?.first;
+    let m = named()?.first;
     let steps = [
         (Ask::Call(1, Request::Lock(m)), DONE),
         (Ask::Call(2, Request::TimedLock(m, 5)), WAITS),
         (Ask::Tick(5), TICKED),
         (Ask::End(1), ENDED),
-        (Ask::Word(1), bits(0xc000_0002)),
+        (Ask::Word(1), number(0xc000_0002)),
         (Ask::Finish(2), OWNER_DEAD),
     ];
     play(&rt, rt.alloc(), true, &[10, 10], &steps)
@@ -298,50 +328,47 @@ fn owner_death_beats_expiry(rt: HostRuntime) -> Result<(), Fail> {
 // hands it over at once; or comes before thread 2 is parked.
 #[test]
 fn unblocked_wait_expires_no_more(rt: HostRuntime) -> Result<(), Fail> {
-    let n = names()?;
-    let wait = Request::TimedWait(n.cond, n.first, 3);
+    let Names { first, cond, .. } = named()?;
     let requeued = [
-        (Ask::Call(2, Request::Lock(n.first)), DONE),
-        (Ask::Call(2, wait), WAITS),
-        (Ask::Call(1, Request::Lock(n.first)), DONE),
-        (Ask::Call(1, Request::Signal(n.cond)), DONE),
+        (Ask::Call(2, Request::Lock(first)), DONE),
+        (Ask::Call(2, Request::TimedWait(cond, first, 3)), WAITS),
+        (Ask::Call(1, Request::Lock(first)), DONE),
+        (Ask::Call(1, Request::Signal(cond)), DONE),
         (Ask::Tick(3), TICKED),
         (Ask::Go(2), WAITS),
-        (Ask::Call(1, Request::Unlock(n.first)), DONE),
+        (Ask::Call(1, Request::Unlock(first)), DONE),
         (Ask::Go(2), DONE),
-        (Ask::Word(1), bits(0x8000_0002)),
+        (Ask::Word(1), number(0x8000_0002)),
     ];
     let signalled = [
-        (Ask::Call(2, Request::Lock(n.first)), DONE),
-        (Ask::Call(2, wait), WAITS),
-        (Ask::Call(1, Request::Signal(n.cond)), DONE),
+        (Ask::Call(2, Request::Lock(first)), DONE),
+        (Ask::Call(2, Request::TimedWait(cond, first, 3)), WAITS),
+        (Ask::Call(1, Request::Signal(cond)), DONE),
         (Ask::Tick(3), TICKED),
         (Ask::Go(2), DONE),
-        (Ask::Word(1), bits(0x0000_0002)),
+        (Ask::Word(1), number(0x0000_0002)),
     ];
     let passed_by = [
-        (Ask::Call(2, Request::Lock(n.first)), DONE),
-        (Ask::Begin(2, wait), BEGUN),
+        (Ask::Call(2, Request::Lock(first)), DONE),
+        (Ask::Begin(2, Request::TimedWait(cond, first, 3)), BEGUN),
         (Ask::Go(2), WENT),
         (Ask::Go(2), WENT),
         (Ask::Go(2), WENT),
-        (Ask::Call(1, Request::Signal(n.cond)), DONE),
+        (Ask::Call(1, Request::Signal(cond)), DONE),
         (Ask::Tick(3), TICKED),
         (Ask::Go(2), WENT),
         (Ask::Go(2), DONE),
-        (Ask::Word(1), bits(0x0000_0002)),
+        (Ask::Word(1), number(0x0000_0002)),
     ];
-    let tables: [&[(Ask, Reply)]; 3] = [&requeued, &signalled, &passed_by];
-    for steps in tables {
-        play(&rt, rt.alloc(), false, &[10, 10], steps)?;
-    }
-    Ok(())
+    play(&rt, rt.alloc(), false, &[10, 10], &requeued)?;
+    play(&rt, rt.alloc(), false, &[10, 10], &signalled)?;
+    play(&rt, rt.alloc(), false, &[10, 10], &passed_by)
 }
 
 // Thread 1 waits with mutex 1, and holds mutex 2, for which thread 2 waits with mutex 1.
 #[test]
 fn lock_after_an_expiry_can_answer_deadlock(rt: HostRuntime) -> Result<(), Fail> {
-    let n = names()?;
+    let n = named()?;
     let steps = [
         (Ask::Call(1, Request::Lock(n.first)), DONE),
         (Ask::Call(1, Request::Lock(n.second)), DONE),
@@ -349,87 +376,221 @@ fn lock_after_an_expiry_can_answer_deadlock(rt: HostRuntime) -> Result<(), Fail>
         (Ask::Call(2, Request::Lock(n.first)), DONE),
         (Ask::Call(2, Request::Lock(n.second)), WAITS),
         (Ask::Tick(3), TICKED),
-        (Ask::Finish(1), Reply::Is(Seen::Answered(35))),
-        (Ask::Word(1), bits(0x0000_0002)),
-        (Ask::Word(2), bits(0x8000_0001)),
+        (Ask::Finish(1), DEADLOCK),
+        (Ask::Word(1), number(0x0000_0002)),
+        (Ask::Word(2), number(0x8000_0001)),
     ];
     play(&rt, rt.alloc(), false, &[10, 10], &steps)
 }
 
-/// Thread 2 begins these calls, and is past its deadline of 3 in the last; it goes so many steps further and ends. Then
-/// mutex 1 has this word.
-fn end_behind(
+// Each of threads 2, 3 and 4 waits for the one before it, and the last one gives up first.
+#[test]
+fn boost_falls_with_each_expiry(rt: HostRuntime) -> Result<(), Fail> {
+    let n = named()?;
+    let steps = [
+        (Ask::Call(1, Request::Lock(n.first)), DONE),
+        (Ask::Call(2, Request::Lock(n.second)), DONE),
+        (Ask::Call(3, Request::Lock(n.third)), DONE),
+        (Ask::Call(2, Request::TimedLock(n.first, 5)), WAITS),
+        (Ask::Call(3, Request::TimedLock(n.second, 4)), WAITS),
+        (Ask::Call(4, Request::TimedLock(n.third, 3)), WAITS),
+        (Ask::Effective(1), number(40)),
+        (Ask::Tick(3), TICKED),
+        (Ask::Go(4), TIMED_OUT),
+        (Ask::Effective(1), number(30)),
+        (Ask::Effective(2), number(30)),
+        (Ask::Effective(3), number(30)),
+        (Ask::Tick(4), TICKED),
+        (Ask::Go(3), TIMED_OUT),
+        (Ask::Effective(1), number(20)),
+        (Ask::Effective(2), number(20)),
+        (Ask::Tick(5), TICKED),
+        (Ask::Go(2), TIMED_OUT),
+        (Ask::Effective(1), number(10)),
+    ];
+    play(&rt, rt.alloc(), false, &[10, 20, 30, 40], &steps)
+}
+
+// The same, and thread 3 gives up first, for which thread 4 waits on.
+#[test]
+fn boost_from_above_ends_with_the_middle(rt: HostRuntime) -> Result<(), Fail> {
+    let n = named()?;
+    let steps = [
+        (Ask::Call(1, Request::Lock(n.first)), DONE),
+        (Ask::Call(2, Request::Lock(n.second)), DONE),
+        (Ask::Call(3, Request::Lock(n.third)), DONE),
+        (Ask::Call(2, Request::TimedLock(n.first, 5)), WAITS),
+        (Ask::Call(3, Request::TimedLock(n.second, 3)), WAITS),
+        (Ask::Call(4, Request::TimedLock(n.third, 4)), WAITS),
+        (Ask::Tick(3), TICKED),
+        (Ask::Go(4), WAITS),
+        (Ask::Go(3), TIMED_OUT),
+        (Ask::Effective(1), number(20)),
+        (Ask::Effective(2), number(20)),
+        (Ask::Effective(3), number(40)),
+        (Ask::Tick(4), TICKED),
+        (Ask::Go(4), TIMED_OUT),
+        (Ask::Effective(3), number(30)),
+        (Ask::Tick(5), TICKED),
+        (Ask::Go(2), TIMED_OUT),
+        (Ask::Effective(1), number(10)),
+    ];
+    play(&rt, rt.alloc(), false, &[10, 20, 30, 40], &steps)
+}
+
+// Threads 2, 3 and 4 wait for thread 1, and are due at once.
+#[test]
+fn boost_falls_waiter_by_waiter(rt: HostRuntime) -> Result<(), Fail> {
+    let m = named()?.first;
+    let steps = [
+        (Ask::Call(1, Request::Lock(m)), DONE),
+        (Ask::Call(2, Request::TimedLock(m, 3)), WAITS),
+        (Ask::Call(3, Request::TimedLock(m, 3)), WAITS),
+        (Ask::Call(4, Request::TimedLock(m, 3)), WAITS),
+        (Ask::Effective(1), number(40)),
+        (Ask::Tick(3), TICKED),
+        (Ask::Go(4), TIMED_OUT),
+        (Ask::Effective(1), number(30)),
+        (Ask::Go(3), TIMED_OUT),
+        (Ask::Effective(1), number(20)),
+        (Ask::Go(2), TIMED_OUT),
+        (Ask::Effective(1), number(10)),
+        (Ask::Word(1), number(0x8000_0001)),
+    ];
+    play(&rt, rt.alloc(), false, &[10, 20, 30, 40], &steps)
+}
+
+/// What an end leaves: the word of mutex 1, what thread 2 is answered that locks it, and the word after that.
+type Left = (u32, Reply, u32);
+
+const FREE: Left = (0, DONE, 2);
+
+const DIED: Left = (0x4000_0000, OWNER_DEAD, 2);
+
+const DIED_WAITED: Left = (0xc000_0002, OWNER_DEAD, 0x8000_0002);
+
+const HELD: Left = (5, WAITS, 0x8000_0005);
+
+const HELD_MARKED: Left = (0x8000_0005, WAITS, 0x8000_0005);
+
+const LOST: Left = (1, WAITS, 1);
+
+const LOST_MARKED: Left = (0x8000_0001, WAITS, 0x8000_0001);
+
+const LOST_BEFORE: Left = (5, WAITS, 5);
+
+/// A row of the table of ends behind an expiry. Thread 1 ends after each number of steps behind its deadline, each time
+/// in a new core in which these calls were made. Then thread 2 locks mutex 1, or goes on if it has waited for it.
+fn see_ends(
     rt: &impl Abort,
     alloc: Global,
     robust: bool,
     calls: &[(Ask, Reply)],
-    steps: u32,
-    word: u32,
+    waited: bool,
+    ends: &[Left],
 ) -> Result<(), Fail> {
-    let mut core = scene(alloc, robust, &[10, 10])?;
-    end_after(rt, &mut core, calls, steps, word)
+    for steps in 0..ends.len() {
+        let mut core = scene(alloc, robust, &[20, 10, 10, 10, 10])?;
+        check(rt, &mut core, calls)?;
+        end_after(rt, &mut core, steps, waited, ends[steps])?;
+    }
+    Ok(())
 }
 
+/// Thread 1 is behind its deadline of 3, takes so many steps and ends, and thread 2 goes on.
 fn end_after(
     rt: &impl Abort,
     core: &mut Core,
-    calls: &[(Ask, Reply)],
-    steps: u32,
-    word: u32,
+    steps: usize,
+    waited: bool,
+    left: Left,
 ) -> Result<(), Fail> {
-    let t = thread(2)?;
-    check(rt, core, calls)?;
+    let t = thread(1)?;
+    let (word, reply, later) = left;
     core.step(Event::Tick(3));
     for _ in 0..steps {
         core.step(Event::Go(t));
     }
-    check(
-        rt,
-        core,
-        &[(Ask::End(2), ENDED), (Ask::Word(1), bits(word))],
-    )
+    let then = if waited {
+        Ask::Finish(2)
+    } else {
+        Ask::Call(2, Request::Lock(named()?.first))
+    };
+    let end = [
+        (Ask::End(1), ENDED),
+        (Ask::Word(1), number(word)),
+        (then, reply),
+        (Ask::Word(1), number(later)),
+    ];
+    check(rt, core, &end)
 }
 
-// Of a lock that waits for thread 1; of one of a mutex of its own; of a wait. The steps are those up to the answer.
+// Of a mutex of thread 5. Thread 2 comes behind the end, or waits before it.
 #[test]
-fn who_expires_may_end_at_any_step(rt: HostRuntime) -> Result<(), Fail> {
-    let n = names()?;
-    let other = [
-        (Ask::Call(1, Request::Lock(n.first)), DONE),
-        (Ask::Call(2, Request::TimedLock(n.first, 3)), WAITS),
+fn who_expires_at_a_lock_may_end_at_any_step(rt: HostRuntime) -> Result<(), Fail> {
+    let m = named()?.first;
+    let calls = [
+        (Ask::Call(5, Request::Lock(m)), DONE),
+        (Ask::Call(1, Request::TimedLock(m, 3)), WAITS),
+        (Ask::Call(2, Request::Lock(m)), WAITS),
     ];
+    let held = [HELD_MARKED; 3];
+    see_ends(&rt, rt.alloc(), false, &calls[..2], false, &held[..2])?;
+    see_ends(&rt, rt.alloc(), true, &calls[..2], false, &held)?;
+    see_ends(&rt, rt.alloc(), false, &calls, true, &held[..2])?;
+    see_ends(&rt, rt.alloc(), true, &calls, true, &held)
+}
+
+#[test]
+fn who_expires_at_an_own_mutex_may_end_at_any_step(rt: HostRuntime) -> Result<(), Fail> {
+    let m = named()?.first;
     let own = [
-        (Ask::Call(2, Request::Lock(n.first)), DONE),
-        (Ask::Call(2, Request::TimedLock(n.first, 3)), WAITS),
+        (Ask::Call(1, Request::Lock(m)), DONE),
+        (Ask::Call(1, Request::TimedLock(m, 3)), WAITS),
     ];
-    let wait = [
-        (Ask::Call(2, Request::Lock(n.first)), DONE),
-        (Ask::Call(2, Request::TimedWait(n.cond, n.first, 3)), WAITS),
+    let waited = [
+        (Ask::Call(1, Request::Lock(m)), DONE),
+        (Ask::Call(2, Request::Lock(m)), WAITS),
+        (Ask::Call(1, Request::TimedLock(m, 3)), WAITS),
     ];
-    let rows: [(bool, &[(Ask, Reply)], &[u32]); 6] = [
-        (false, &other, &[0x8000_0001, 0x8000_0001]),
-        (true, &other, &[0x8000_0001, 0x8000_0001, 0x8000_0001]),
-        (false, &own, &[0x0000_0002, 0x0000_0002]),
-        (true, &own, &[0x4000_0000, 0x4000_0000, 0x4000_0000]),
-        (false, &wait, &[0, 0, 0x0000_0002]),
-        (
-            true,
-            &wait,
-            &[
-                0,
-                0,
-                0x4000_0000,
-                0x4000_0000,
-                0x4000_0000,
-                0x4000_0000,
-                0x4000_0000,
-            ],
-        ),
+    see_ends(&rt, rt.alloc(), false, &own, false, &[LOST; 2])?;
+    see_ends(&rt, rt.alloc(), true, &own, false, &[DIED; 3])?;
+    see_ends(&rt, rt.alloc(), false, &waited, true, &[LOST_MARKED; 2])?;
+    see_ends(&rt, rt.alloc(), true, &waited, true, &[DIED_WAITED; 3])
+}
+
+// Nobody owns the mutex by then, or thread 5 owns it.
+#[test]
+fn who_expires_at_a_wait_may_end_at_any_step(rt: HostRuntime) -> Result<(), Fail> {
+    let Names { first, cond, .. } = named()?;
+    let calls = [
+        (Ask::Call(1, Request::Lock(first)), DONE),
+        (Ask::Call(1, Request::TimedWait(cond, first, 3)), WAITS),
+        (Ask::Call(5, Request::Lock(first)), DONE),
+        (Ask::Call(2, Request::Lock(first)), WAITS),
     ];
-    for (robust, calls, words) in rows {
-        for steps in 0..words.len() {
-            end_behind(&rt, rt.alloc(), robust, calls, steps as u32, words[steps])?;
-        }
-    }
-    Ok(())
+    let lost = [FREE, FREE, LOST];
+    let died = [FREE, FREE, DIED, DIED, DIED, DIED, DIED];
+    let held = [HELD, HELD, HELD, HELD_MARKED];
+    let marked = [HELD_MARKED; 4];
+    see_ends(&rt, rt.alloc(), false, &calls[..2], false, &lost)?;
+    see_ends(&rt, rt.alloc(), true, &calls[..2], false, &died)?;
+    see_ends(&rt, rt.alloc(), false, &calls[..3], false, &held)?;
+    see_ends(&rt, rt.alloc(), true, &calls[..3], false, &held)?;
+    see_ends(&rt, rt.alloc(), false, &calls, true, &marked)?;
+    see_ends(&rt, rt.alloc(), true, &calls, true, &marked)
+}
+
+// Thread 5 has ended as the owner of the mutex.
+#[test]
+fn who_expires_behind_an_end_may_end_at_any_step(rt: HostRuntime) -> Result<(), Fail> {
+    let Names { first, cond, .. } = named()?;
+    let calls = [
+        (Ask::Call(1, Request::Lock(first)), DONE),
+        (Ask::Call(1, Request::TimedWait(cond, first, 3)), WAITS),
+        (Ask::Call(5, Request::Lock(first)), DONE),
+        (Ask::End(5), ENDED),
+    ];
+    see_ends(&rt, rt.alloc(), false, &calls, false, &[LOST_BEFORE; 5])?;
+    see_ends(&rt, rt.alloc(), true, &calls, false, &[DIED; 11])
 }

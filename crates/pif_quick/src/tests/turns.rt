@@ -16,7 +16,7 @@ const LOOKS: u32 = 10_000;
 
 /// Tries to lock the word 0, which has to succeed.
 pub(super) fn try_it(rt: &impl Abort, quick: &Quick<u64>, pass: &mut Pass<u64>) -> Held<u64>
-    requires own { IsPassOf quick.now pass.old × IsIdle pass.old × (0 < word_count quick.now) }
+    requires own { IsPassOf quick.now pass.old × IsIdle pass.old × (1 < word_count quick.now) }
     ensures own { IsPassOf quick.now pass.new }
     ensures turn { IsTurnOf quick.now pass.new result × (held_word result ≡ 0) }
 {
@@ -26,15 +26,15 @@ pub(super) fn try_it(rt: &impl Abort, quick: &Quick<u64>, pass: &mut Pass<u64>) 
     }
 }
 
-/// Waits until the word 0 is marked, and answers whether it was in time.
+/// Waits until the word 0 is marked, and answers whether it was in time and the word 1 isn't marked.
 fn wait_for_mark(rt: &impl Clock, quick: &Quick<u64>, pass: &mut Pass<u64>) -> bool
-    requires { IsPassOf quick.now pass.old × (0 < word_count quick.now) }
+    requires { IsPassOf quick.now pass.old × (1 < word_count quick.now) }
     ensures own { IsPassOf quick.now pass.new }
     ensures kept { IsUnchanged pass.old pass.new }
 {
     for _ in 0..LOOKS {
         if quick.marked(pass, 0) {
-            return true;
+            return !quick.marked(pass, 1);
         }
         let _ = thread::sleep(rt, Duration::from_millis(1));
     }
@@ -48,12 +48,12 @@ pub(super) fn hand_over<R: Wait + Clock + Abort>(
     pass: &mut Pass<u64>,
     held: Held<u64>,
 )
-    requires own { IsPassOf quick.now pass.old × (0 < word_count quick.now) }
+    requires own { IsPassOf quick.now pass.old × (1 < word_count quick.now) }
     requires turn { IsTurnOf quick.now pass.old held }
     ensures own { IsPassOf quick.now pass.new }
 {
     let marked = wait_for_mark(rt, quick, pass);
-    assert!(rt; marked, "a pass waits, and the word is not marked");
+    assert!(rt; marked, "a pass waits for the word 0 alone, and the marks are others");
     match quick.unlock_quiet(pass, held) {
         Ok(()) => panic!(rt; "a quiet unlock freed a word for which a pass waits"),
         Err(held) => quick.unlock(rt, pass, held),
@@ -62,7 +62,7 @@ pub(super) fn hand_over<R: Wait + Clock + Abort>(
 
 /// Locks the word 0, which may take a while, and unlocks it. Answers its value.
 fn wait_and_read<R: Wait>(rt: &R, quick: &Quick<u64>, pass: &mut Pass<u64>) -> u64
-    requires own { IsPassOf quick.now pass.old × IsIdle pass.old × (0 < word_count quick.now) }
+    requires own { IsPassOf quick.now pass.old × IsIdle pass.old × (1 < word_count quick.now) }
     ensures own { IsPassOf quick.now pass.new × IsIdle pass.new }
 {
     let held = quick.lock(rt, pass, 0);
@@ -79,14 +79,14 @@ fn contend<R: Threads + Wait + Clock + Abort + Sync>(
     held: Held<u64>,
     two: Pass<u64>,
 ) -> (Pass<u64>, Pass<u64>, u64)
-    requires one { IsPassOf quick.now one × IsTurnOf quick.now one held × (0 < word_count quick.now) }
+    requires one { IsPassOf quick.now one × IsTurnOf quick.now one held × (1 < word_count quick.now) }
     requires two { IsPassOf quick.now two × IsIdle two }
     ensures { IsPassOf quick.now result.0 × IsPassOf quick.now result.1 × IsIdle result.1 }
 {
     let (one, (two, value)) = join(
         rt,
         move || -> Pass<u64>
-            requires { IsPassOf quick.now one × IsTurnOf quick.now one held × (0 < word_count quick.now) }
+            requires { IsPassOf quick.now one × IsTurnOf quick.now one held × (1 < word_count quick.now) }
             ensures { IsPassOf quick.entry.now result }
         {
             let mut one = one;
@@ -94,7 +94,7 @@ fn contend<R: Threads + Wait + Clock + Abort + Sync>(
             one
         },
         move || -> (Pass<u64>, u64)
-            requires { IsPassOf quick.now two × IsIdle two × (0 < word_count quick.now) }
+            requires { IsPassOf quick.now two × IsIdle two × (1 < word_count quick.now) }
             ensures { IsPassOf quick.entry.now result.0 × IsIdle result.0 }
         {
             let mut two = two;
@@ -112,7 +112,7 @@ fn try_to_meet<R: Threads + Wait + Clock + Abort + Sync>(
     one: Pass<u64>,
     two: Pass<u64>,
 )
-    requires own { IsPassOf quick.now one × IsPassOf quick.now two × (0 < word_count quick.now) }
+    requires own { IsPassOf quick.now one × IsPassOf quick.now two × (1 < word_count quick.now) }
     requires idle { IsIdle one × IsIdle two }
 {
     let mut one = one;
@@ -129,7 +129,7 @@ fn try_to_meet<R: Threads + Wait + Clock + Abort + Sync>(
 
 /// Locks the word 0, which has 7 now, and unlocks it quietly.
 fn find_seven(rt: &impl Abort, quick: &Quick<u64>, pass: &mut Pass<u64>)
-    requires own { IsPassOf quick.now pass.old × (0 < word_count quick.now) }
+    requires own { IsPassOf quick.now pass.old × (1 < word_count quick.now) }
     ensures own { IsPassOf quick.now pass.new }
 {
     match quick.try_lock(pass, 0) {
@@ -147,7 +147,7 @@ fn last_two<R: Threads + Wait + Clock + Abort + Sync>(
     quick: &Quick<u64>,
     mut passes: Vec<Pass<u64>>,
 )
-    requires own { All (IsPassOf quick.now) passes.items × (0 < word_count quick.now) }
+    requires own { All (IsPassOf quick.now) passes.items × (1 < word_count quick.now) }
     requires idle { All IsIdle passes.items }
 {
     match (passes.pop(), passes.pop()) {

@@ -36,7 +36,7 @@ fn wait_for_sleep<R: Wait + Clock + Abort>(rt: &R, quick: &Quick<u64>, number: u
 
 /// Locks the word 0, in its turn, and writes the pass's number behind the digits of the value.
 fn sign<R: Wait + Clock + Abort>(rt: &R, quick: &Quick<u64>, pass: &mut Pass<u64>, row: Row)
-    requires { IsPassOf quick.now pass.old × IsIdle pass.old × (0 < word_count quick.now) }
+    requires { IsPassOf quick.now pass.old × IsIdle pass.old × (1 < word_count quick.now) }
 {
     if pass.number() == row.second {
         wait_for_sleep(rt, quick, row.first);
@@ -56,13 +56,13 @@ fn sign_all<R: Threads + Wait + Clock + Abort + Sync>(
     passes: Vec<Pass<u64>>,
     row: Row,
 ) -> Result<(), AllocError>
-    requires { All (λ p. IsPassOf quick.now p × IsIdle p) passes.items × (0 < word_count quick.now) }
+    requires { All (λ p. IsPassOf quick.now p × IsIdle p) passes.items × (1 < word_count quick.now) }
 {
     thread::map_vec(
         rt,
         passes,
         &|pass|
-            requires { IsPassOf quick.now pass × IsIdle pass × (0 < word_count quick.now) }
+            requires { IsPassOf quick.now pass × IsIdle pass × (1 < word_count quick.now) }
         {
             let mut pass = pass;
             sign(rt, quick, &mut pass, row);
@@ -79,7 +79,7 @@ fn hand_to_sleepers<R: Wait + Clock + Abort>(
     held: Held<u64>,
     row: Row,
 )
-    requires own { IsPassOf quick.now pass.old × (0 < word_count quick.now) }
+    requires own { IsPassOf quick.now pass.old × (1 < word_count quick.now) }
     requires turn { IsTurnOf quick.now pass.old held }
     ensures own { IsPassOf quick.now pass.new }
 {
@@ -96,7 +96,7 @@ fn signed<R: Threads + Wait + Clock + Abort + Sync>(
     others: Vec<Pass<u64>>,
     row: Row,
 ) -> Result<u64, AllocError>
-    requires own { IsPassOf quick.now one × IsIdle one × (0 < word_count quick.now) }
+    requires own { IsPassOf quick.now one × IsIdle one × (1 < word_count quick.now) }
     requires others { All (λ p. IsPassOf quick.now p × IsIdle p) others.items }
 {
     let mut one = one;
@@ -104,7 +104,7 @@ fn signed<R: Threads + Wait + Clock + Abort + Sync>(
     let (mut one, done) = join(
         rt,
         move || -> Pass<u64>
-            requires { IsPassOf quick.now one × IsTurnOf quick.now one held × (0 < word_count quick.now) }
+            requires { IsPassOf quick.now one × IsTurnOf quick.now one held × (1 < word_count quick.now) }
             ensures { IsPassOf quick.entry.now result }
         {
             let mut one = one;
@@ -112,7 +112,7 @@ fn signed<R: Threads + Wait + Clock + Abort + Sync>(
             one
         },
         move || -> Result<(), AllocError>
-            requires { All (λ p. IsPassOf quick.now p × IsIdle p) others.items × (0 < word_count quick.now) }
+            requires { All (λ p. IsPassOf quick.now p × IsIdle p) others.items × (1 < word_count quick.now) }
         { sign_all(rt, quick, others, row) },
     );
     done?;
@@ -127,7 +127,7 @@ fn first_holds<R: Threads + Wait + Clock + Abort + Sync>(
     mut passes: Vec<Pass<u64>>,
     row: Row,
 ) -> Result<u64, AllocError>
-    requires { All (λ p. IsPassOf quick.now p × IsIdle p) passes.items × (0 < word_count quick.now) }
+    requires { All (λ p. IsPassOf quick.now p × IsIdle p) passes.items × (1 < word_count quick.now) }
 {
     match passes.pop() {
         Some(last) => signed(rt, quick, last, passes, row),
@@ -140,7 +140,7 @@ fn digits<R: Threads + Wait + Clock + Abort + AllocGlobal + Sync>(
     rt: &R,
     row: Row,
 ) -> Result<u64, Fail> {
-    let values = [0].to_vec(rt.alloc())?;
+    let values = [0, 0].to_vec(rt.alloc())?;
     let (quick, passes) = Quick::open(rt.alloc(), values, 3)?;
     Ok(first_holds(rt, &quick, passes, row)?)
 }

@@ -1,5 +1,5 @@
 //! A write that fails once, in each part of a text that is longer than a page, which is written in two parts: it is
-//! told, and nothing is written after it.
+//! told, and nothing is written after it. The text has a line of 120 bytes, which is whole.
 
 use super::{Kept, play, scene};
 use crate::{Unwritten, write_state};
@@ -8,7 +8,13 @@ use pif_types::{Kind, MutexId, Request};
 use std::io;
 use std::io::{ErrorKind, Write};
 use std::process::Abort;
+use std::str::from_utf8;
 use std::test::Fail;
+
+/// The line of the mutex, 120 bytes long.
+const LINE: &str =
+    "  m1: normal, robust, fine; word t1 + WAITERS; owner t1; waiters t2, t3, t4, t5, t6, t7, t8, \
+    t9, t10, t11, t12, t13, t14";
 
 /// Behind how many bytes a write fails: at the front, inside and at the end of each part.
 const PLACES: [usize; 8] = [0, 1, 511, 1_023, 1_024, 1_025, 1_100, 1_222];
@@ -76,6 +82,7 @@ fn fail_everywhere(rt: &impl Abort, core: &mut Core) -> Result<(), Fail> {
     write_state(core, &mut kept)?;
     let text = kept.as_slice();
     assert_eq!(rt; text.len(), 1_223);
+    assert_eq!(rt; from_utf8(text)?.lines().nth(14), Some(LINE));
     for left in PLACES {
         fail_at(rt, core, text, left, Some(ErrorKind::BrokenPipe));
         fail_at(rt, core, text, left, None);

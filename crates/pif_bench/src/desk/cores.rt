@@ -1,0 +1,49 @@
+//! Calls on a core without a desk.
+use super::Figure;
+use super::desks::PAIRS;
+use anyhow::{Context, Result};
+use pif_core::{Core, Event, Seen};
+use pif_types::{Kind, Limits, MutexId, Request, Tid};
+use std::rt::Clock;
+use std::time::Instant;
+
+/// The most steps of a call that nobody else hinders.
+const STEPS: usize = 24;
+
+/// Makes a call, and takes its steps until it is answered. Answers how many events that took.
+fn call(core: &mut Core, thread: Tid, request: Request) -> usize {
+    let _begun = core.step(Event::Begin(thread, request));
+    for step in 0..STEPS {
+        if let Seen::Answered(_) = core.step(Event::Go(thread)) {
+            return step + 2;
+        }
+    }
+    STEPS
+}
+
+/// Locks and unlocks a mutex so many times. Answers how many events that took.
+fn make_pairs(core: &mut Core, thread: Tid, mutex: MutexId) -> usize {
+    let mut events = 0usize;
+    for _pair in 0..PAIRS {
+        events = events.wrapping_add(call(core, thread, Request::Lock(mutex)));
+        events = events.wrapping_add(call(core, thread, Request::Unlock(mutex)));
+    }
+    events
+}
+
+/// Times the pairs of a thread and a mutex that are added to this core.
+fn time_pairs(rt: &impl Clock, core: &mut Core) -> Result<Figure> {
+    let thread = core.add_thread(10).ok().context("a thread")?;
+    let mutex = core.add_mutex(Kind::Normal, false).ok().context("a mutex")?;
+    let start = Instant::now(rt)?;
+    let events = make_pairs(core, thread, mutex);
+    let time = start.elapsed(rt)?;
+    Ok(Figure { events, time })
+}
+
+/// One thread locks and unlocks one normal mutex.
+pub fn measure_core<R: Clock + AllocGlobal>(rt: &R) -> Result<Figure> {
+    let limits = Limits::new(1, 1, 0, 1).context("limits")?;
+    let mut core = Core::new(rt.alloc(), limits)?;
+    time_pairs(rt, &mut core)
+}

@@ -1,5 +1,0 @@
-use Rattle.pif_quick.specs.Quick.{IsPassOf}
-use Rattle.pif_quick_bench.proofs.pairs.quick_pairs.Given as goal
-
-abbrev pub invariant-loop : goal.invariant-loop
-invariant-loop l = IsPassOf l.quick l.pass
