@@ -15,7 +15,7 @@ use Rattle.pif_model.specs.PiKernel.{Kernel, IsKernel, queued_on, effective_in, 
 use Rattle.pif_owners.specs.Owners.{Seat, Wait, seat_at, rank_of, no_seat, with_seat}
 use Rattle.pif_chains.proofs.KernelSettled.{priority-from_range}
 use Rattle.pif_chains.proofs.Places.{kept_at}
-use Rattle.pif_kernel.specs.Plain.{Plain, IsPlaced, IsSound, Rise, kernel_of, status_at, key_at, ticket_of}
+use Rattle.pif_kernel.specs.Inside.{Inside, IsPlaced, IsSound, Rise, kernel_of, status_at, key_at, ticket_of}
 use Rattle.pif_chains.proofs.KernelAdded.{effective-added_other, effective-added_same}
 use Rattle.pif_chains.proofs.KernelKept.{add_kept}
 use Rattle.pif_kernel.proofs.Seats.{IsFitted, seats_length, limits_seen, kernel_by_parts, seats_of-push}
@@ -28,16 +28,16 @@ pushed_status [] (suc u) = refl
 pushed_status (x ∷ xs) zero = refl
 pushed_status (x ∷ xs) (suc u) = pushed_status xs u
 
-module _ (p : Plain) (q : Queue) (tb : Table) (t prio : ℕ) (h : IsSound p) (is : t ≡ length p.statuses)
+module _ (p : Inside) (q : Queue) (tb : Table) (t prio : ℕ) (h : IsSound p) (is : t ≡ length p.statuses)
     (room : length p.statuses ≤ p.limits.threads) (some : 1 ≤ prio) (few : prio ≤ 99)
     (place : q ≡ record p.queue { mask = q.mask })
     (levels : (r : ℕ) → IsLevel r → level_of q tb r ≡ level_after_add t prio r (level_of p.queue p.table r))
-    (holds : Holds q tb) (count : length tb.lists ≡ length p.table.lists) where
+    (holds : Holds q tb) where
   abbrev row : Seat
   row = record { base = prio; local = prio; wait = None }
 
   -- what is kept then
-  abbrev pub after : Plain
+  abbrev pub after : Inside
   after =
       record p { statuses = p.statuses ++ Ready Fresh ∷ []; owners = with_seat t row p.owners; queue = q; table = tb }
 
@@ -143,8 +143,7 @@ module _ (p : Plain) (q : Queue) (tb : Table) (t prio : ℕ) (h : IsSound p) (is
     admitted = λ u nz l. admitted_after u (cases_eq u t) nz l;
     free = fit_after.free;
     most = λ u. most_after u (cases_eq u t);
-    lists = count ∙ h.placed.lists;
-    queue = place ∙ rw h.placed.queue refl;
+    threads = ap (λ (x : Queue). x.threads) place ∙ h.placed.threads;
     holds = holds;
     listed = listed_kept after fit_after kept (λ u. local_after u (cases_eq u t));
     waits = fit_after.waits;

@@ -13,20 +13,20 @@ use Rattle.pif_chains.proofs.KernelFacts.{living-added}
 use Rattle.pif_chains.proofs.KernelSettled.{priority-from_range}
 use Rattle.pif_chains.proofs.KernelKept.{set_prio_kept}
 use Rattle.pif_chains.proofs.Places.{kept_at}
-use Rattle.pif_kernel.specs.Plain.{Plain, IsListed, IsPlaced, IsSound, Rise, kernel_of, ticket_of}
+use Rattle.pif_kernel.specs.Inside.{Inside, IsListed, IsPlaced, IsSound, Rise, kernel_of, ticket_of}
 use Rattle.pif_kernel.proofs.Seats.{IsFitted, added_seen, kernel_by_parts, seats_of-set_base, same_seats}
 use Rattle.pif_kernel.proofs.Picked.{levels_seen}
 use Rattle.pif_kernel.proofs.Standing.{fits}
 use Rattle.pif_kernel.proofs.ChainLaws.{repaired_but}
 use Rattle.pif_kernel.proofs.WalkSound.{IsWalkable, owners_effective}
 
-module _ (p : Plain) (t prio : ℕ) (h : IsSound p) (lives : is_living (kernel_of p) t ≡ true) (some : 1 ≤ prio)
+module _ (p : Inside) (t prio : ℕ) (h : IsSound p) (lives : is_living (kernel_of p) t ≡ true) (some : 1 ≤ prio)
     (few : prio ≤ 99) where
   abbrev row : Seat
   row = record (seat_at p.owners t) { base = prio }
 
   -- what is kept before the walk
-  abbrev pub mid : Plain
+  abbrev pub mid : Inside
   mid = record p { owners = with_base t prio p.owners }
 
   fit : IsFitted p
@@ -113,8 +113,7 @@ module _ (p : Plain) (t prio : ℕ) (h : IsSound p) (lives : is_living (kernel_o
     admitted = λ u n l. admitted_mid u (cases_eq u t) n l;
     free = fit_mid.free;
     most = λ u. most_mid u (cases_eq u t);
-    lists = h.placed.lists;
-    queue = h.placed.queue;
+    threads = h.placed.threads;
     holds = h.placed.holds;
     waits = fit_mid.waits;
     no_mutex = h.placed.no_mutex;

@@ -29,7 +29,7 @@ use Rattle.pif_chains.proofs.KernelFacts.{queued-from_number}
 use Rattle.pif_chains.proofs.KernelKept.{hand_over_kept}
 use Rattle.pif_chains.proofs.KernelLevels.{level-joined_same, level-joined_other}
 use Rattle.pif_chains.proofs.KernelNumbers.{among-push_other}
-use Rattle.pif_kernel.specs.Plain.{Plain, IsListed, IsPlaced, IsSound, kernel_of, status_at, key_at, state_at, ticket_of, mutexes_of}
+use Rattle.pif_kernel.specs.Inside.{Inside, IsListed, IsPlaced, IsSound, kernel_of, status_at, key_at, state_at, ticket_of, mutexes_of}
 use Rattle.pif_kernel.proofs.WaitersWithout.{rise_without, waiter_kept, mutexes_without}
 use Rattle.pif_kernel.proofs.HandOverFacts.{IsHanded, IsGiven, IsHandable, IsHanding, IsHandedOn}
 use Rattle.pif_kernel.proofs.Seats.{IsFitted, same_seats, seats_length, status_seen, waits_seen, waits_below, owners_waits, added_back, waiters_seen, states_seen, states_length, kernel_by_parts, seats_of-set_status, seats_of-same_base}
@@ -40,7 +40,7 @@ use Rattle.pif_kernel.proofs.QueueLaws.{rise_once}
 use Rattle.pif_kernel.proofs.TopLaws.{waits_under, priority_below, top_is_next}
 use Rattle.pif_kernel.proofs.WalkSound.{IsWalkable, owners_effective}
 
-module _ (p : Plain) (t m key u : ℕ) (d : IsHandable p t m key) (top : IsTop p.owners key u) where
+module _ (p : Inside) (t m key u : ℕ) (d : IsHandable p t m key) (top : IsTop p.owners key u) where
   h : IsSound p
   h = d.sound
 
@@ -123,7 +123,7 @@ module _ (p : Plain) (t m key u : ℕ) (d : IsHandable p t m key) (top : IsTop p
       both_false false = refl
 
   pub node_free : holder p.table (node_for p.queue u) ≡ None
-  node_free = unqueued_free p h u (omega (arith, λ (z : u ≡ 0). next_some z)) next_off
+  node_free = unqueued_free p h u (omega (arith, λ (z : u ≡ 0). next_some z)) (omega (arith, next_added, h.placed.few)) next_off
 
   -- the owner states once the mutex was handed over
   abbrev pub given : Owners
@@ -189,12 +189,12 @@ module _ (p : Plain) (t m key u : ℕ) (d : IsHandable p t m key) (top : IsTop p
   ended v g same none e fewer =
       subst (λ (n : ℕ). IsHanded p (set p.keys n None) v u m key) (sym same) (ended_here v none e fewer)
 
-  pub ended_given : (x : Plain) (handed v : Owners) (g : ℕ) (ws : List (ℕ × ℕ)) (any : Bool)
+  pub ended_given : (x : Inside) (handed v : Owners) (g : ℕ) (ws : List (ℕ × ℕ)) (any : Bool)
       → x ≡ record p { keys = set p.keys g None; owners = v; arrivals = ws } → ws ≡ rest → any ≡ has_waiter ws m
       → any ≡ false → g ≡ m
       → handed ≡ given → v ≡ without_state key handed → count v + 1 ≡ count handed → IsGiven p x u m key
   ended_given x handed v g ws any is same test none here e over fewer =
-      subst (λ (y : Plain). IsGiven p y u m key)
+      subst (λ (y : Inside). IsGiven p y u m key)
       (sym (is ∙ ap (λ (l : List (ℕ × ℕ)). record p { keys = set p.keys g None; owners = v; arrivals = l }) same))
       (record {
         frame = refl;
@@ -203,26 +203,26 @@ module _ (p : Plain) (t m key u : ℕ) (d : IsHandable p t m key) (top : IsTop p
             (over ∙ ap (without_state key) e) (fewer ∙ ap count e);
       })
 
-  pub still_given : (x : Plain) (handed : Owners) (ws : List (ℕ × ℕ)) (any : Bool)
+  pub still_given : (x : Inside) (handed : Owners) (ws : List (ℕ × ℕ)) (any : Bool)
       → x ≡ record p { owners = handed; arrivals = ws } → ws ≡ rest → any ≡ has_waiter ws m → any ≡ true
       → handed ≡ given → IsGiven p x u m key
   still_given x handed ws any is same test some e =
-      subst (λ (y : Plain). IsGiven p y u m key)
+      subst (λ (y : Inside). IsGiven p y u m key)
       (sym (is ∙ ap (λ (l : List (ℕ × ℕ)). record p { owners = handed; arrivals = l }) same
       ∙ ap (λ (o : Owners). record p { owners = o; arrivals = rest }) e))
       (record { frame = refl; handed = still (sym (ap (λ (l : List (ℕ × ℕ)). has_waiter l m) same) ∙ sym test ∙ some) })
 
-  pub handing : (old x : Plain) → p ≡ old → IsGiven p x u m key → IsHandedOn old p x t m key u
+  pub handing : (old x : Inside) → p ≡ old → IsGiven p x u m key → IsHandedOn old p x t m key u
   handing old x before g =
       let back : record x { keys = p.keys; owners = p.owners; arrivals = p.arrivals } ≡ p
-      = ap (λ (y : Plain). record y { keys = p.keys; owners = p.owners; arrivals = p.arrivals }) g.frame in
-      subst (λ (y : Plain). IsHanding old y x t m key u) (sym back)
+      = ap (λ (y : Inside). record y { keys = p.keys; owners = p.owners; arrivals = p.arrivals }) g.frame in
+      subst (λ (y : Inside). IsHanding old y x t m key u) (sym back)
       (record {
         hands = d;
         top = top;
         handed = g.handed;
         rest = ap
-            (λ (y : Plain). y.arrivals) g.frame;
+            (λ (y : Inside). y.arrivals) g.frame;
         same = ap kernel_of before;
       })
 
@@ -230,9 +230,9 @@ module _ (p : Plain) (t m key u : ℕ) (d : IsHandable p t m key) (top : IsTop p
       (rank_is : prio ≡ effective_in (kernel_of p) u)
       (q : Queue) (tb : Table) (place : q ≡ record p.queue { mask = q.mask })
       (levels : (r : ℕ) → IsLevel r → level_of q tb r ≡ level_after_add u prio r (level_of p.queue p.table r))
-      (holds : Holds q tb) (lists : length tb.lists ≡ length p.table.lists) where
+      (holds : Holds q tb) where
     -- what is kept before the walk
-    abbrev pub mid : Plain
+    abbrev pub mid : Inside
     mid =
         record p {
           statuses = set p.statuses u
@@ -597,8 +597,7 @@ module _ (p : Plain) (t m key u : ℕ) (d : IsHandable p t m key) (top : IsTop p
       admitted = λ x n l. omega (arith, base_same x, h.placed.admitted x n (omega (arith, l, many)));
       free = fit_mid.free;
       most = λ x. omega (arith, base_same x, h.placed.most x);
-      lists = lists ∙ h.placed.lists;
-      queue = place ∙ rw h.placed.queue refl;
+      threads = ap (λ (x : Queue). x.threads) place ∙ h.placed.threads;
       holds = holds;
       listed = λ x r e. listed_mid x r (cases_eq x u) e;
       waits = fit_mid.waits;
@@ -667,7 +666,7 @@ module _ (p : Plain) (t m key u : ℕ) (d : IsHandable p t m key) (top : IsTop p
           (hand_over_kept m (kernel_of p) h.kernel (λ z. h.placed.owned m key at (sym (states_seen p m) ∙ z)));
     }
 
-module _ (old p x : Plain) (t m key u : ℕ) (i : IsHanding old p x t m key u) where
+module _ (old p x : Inside) (t m key u : ℕ) (i : IsHanding old p x t m key u) where
   -- the next waiter has the effective priority that it had
   pub local_is : (seat_at x.owners u).local ≡ effective_in (kernel_of p) u
   local_is =
@@ -686,7 +685,6 @@ module _ (old p x : Plain) (t m key u : ℕ) (i : IsHanding old p x t m key u) w
   pub before_walk : (level : ℕ) (q : Queue) (tb : Table) → level ≡ (seat_at x.owners u).local
       → q ≡ record p.queue { mask = q.mask }
       → ((r : ℕ) → IsLevel r → level_of q tb r ≡ level_after_add u level r (level_of p.queue p.table r)) → Holds q tb
-      → length tb.lists ≡ length p.table.lists
       → IsWalkable (record p {
         statuses = set p.statuses u
             (Ready Owns);
@@ -696,6 +694,6 @@ module _ (old p x : Plain) (t m key u : ℕ) (i : IsHanding old p x t m key u) w
         table = tb;
         arrivals = x.arrivals;
       }) t (kernel_after_hand_over u m (kernel_of old))
-  before_walk level q tb value place levels holds lists =
+  before_walk level q tb value place levels holds =
       rw (i.rest, ← i.same) (walkable p t m key u i.hands i.top x.keys x.owners level i.handed
-      (value ∙ local_is) q tb place levels holds lists)
+      (value ∙ local_is) q tb place levels holds)

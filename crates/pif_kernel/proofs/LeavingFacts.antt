@@ -9,14 +9,13 @@ use Rattle.pif_runq.specs.Levels.{Queue, Holds, IsLevel, level_of}
 use Rattle.pif_model.specs.declared.lines.Status.{Status}
 use Rattle.pif_model.specs.declared.lines.Status.TheVariants.{Queued}
 use Rattle.pif_model.specs.Graph.{has_waiter, without}
-use Rattle.pif_model.specs.PiKernel.{queued_on, is_ready, is_parked, has_seat, is_among, waits_for}
+use Rattle.pif_model.specs.PiKernel.{queued_on, is_ready, is_parked, has_seat, is_among, waits_for, Parking, unparked}
 use Rattle.pif_model.specs.PiKernel.{seat_at as kernel_seat_at}
 use Rattle.pif_owners.specs.Owners.{Owners, Seat, Wait, seat_at, owner_at, count, waits_on, no_seat, with_wait, without_state, HasNoWaiter}
 use Rattle.pif_owners.proofs.MapLemmas.{get-remove_other}
 use Rattle.pif_chains.proofs.Among.{is_among as is_waiter}
 use Rattle.pif_chains.proofs.Waiting.{names, Once, without-unnamed, has_waiter-from_pair, has_waiter-without_other, waited-from_pair}
-use Rattle.pif_kernel.specs.declared.parkings.Parking.{Parking}
-use Rattle.pif_kernel.specs.Plain.{Plain, IsSound, kernel_of, status_at, key_at, state_at, ticket_of, mutexes_of, parked_but}
+use Rattle.pif_kernel.specs.Inside.{Inside, IsSound, kernel_of, status_at, key_at, state_at, ticket_of, mutexes_of}
 use Rattle.pif_kernel.specs.Leaving.{IsLeft}
 use Rattle.pif_kernel.proofs.Seats.{status_seen, waits_seen, added_seen, waiters_seen}
 use Rattle.pif_kernel.proofs.ParkingFacts.{unparked_absent}
@@ -37,7 +36,7 @@ no_wait s e = by_wait s.wait refl e
     by_wait (Some w) is e = let none : Some w.state ≡ None = sym (ap (option_map (λ (w : Wait). w.state)) is) ∙ e in cc
 
 -- a mutex has a key only where it has a waiter
-keyed : (p : Plain) → IsSound p → (m : ℕ) → key_at p m ≡ (if has_waiter p.arrivals m then key_at p m else None)
+keyed : (p : Inside) → IsSound p → (m : ℕ) → key_at p m ≡ (if has_waiter p.arrivals m then key_at p m else None)
 keyed p h m = by_test (has_waiter p.arrivals m) refl (key_at p m) refl
   where
     by_test : (b : Bool) → has_waiter p.arrivals m ≡ b → (k : Option ℕ) → key_at p m ≡ k
@@ -47,7 +46,7 @@ keyed p h m = by_test (has_waiter p.arrivals m) refl (key_at p m) refl
     by_test false w (Some k) e = absurd (true≢false (sym (has_waiter-key p h m (h.placed.owned m k e)) ∙ w))
 
 -- one that may not run is on no level
-pub unready_off : (p : Plain) → IsSound p → (t : ℕ) → is_ready (kernel_seat_at (kernel_of p) t).status ≡ false → (r : ℕ)
+pub unready_off : (p : Inside) → IsSound p → (t : ℕ) → is_ready (kernel_seat_at (kernel_of p) t).status ≡ false → (r : ℕ)
     → IsLevel r → level_of p.queue p.table r ≡ list_without t (level_of p.queue p.table r)
 unready_off p h t unready r l =
     sym (without_absent t (level_of p.queue p.table r) (sym (among_has (level_of p.queue p.table r) t)
@@ -59,11 +58,11 @@ unready_off p h t unready r l =
     both_false false = refl
 
 -- who waits for nothing leaves its level alone, or the variable on which it is parked
-module _ (p : Plain) (t : ℕ) (h : IsSound p) (known : has_seat (kernel_of p) t ≡ true)
+module _ (p : Inside) (t : ℕ) (h : IsSound p) (known : has_seat (kernel_of p) t ≡ true)
     (idle : queued_on (status_at p t) ≡ 0) (q : Queue) (tb : Table)
     (levels : (r : ℕ) → IsLevel r → level_of q tb r ≡ list_without t (level_of p.queue p.table r))
     (place : q ≡ record p.queue { mask = q.mask }) (holds : Holds q tb)
-    (lists : length tb.lists ≡ length p.table.lists) (ps : List Parking) (but : ps ≡ parked_but p.parked t) where
+    (ps : List Parking) (but : ps ≡ unparked p.parked t) where
   free_here : waits_on p.owners t ≡ None
   free_here = h.placed.waits t ∙ ap (key_at p) idle ∙ h.placed.no_mutex
 
@@ -96,14 +95,13 @@ module _ (p : Plain) (t : ℕ) (h : IsSound p) (known : has_seat (kernel_of p) t
     levels = levels;
     place = place;
     holds = holds;
-    lists = lists;
     waited = λ u nz e. absurd (nz (sym e ∙ nobody));
     some = (added_seen p (fits p h) t known).0;
     added = (added_seen p (fits p h) t known).1;
   }
 
 -- who is queued leaves the owner state of its mutex
-module _ (p : Plain) (t m : ℕ) (h : IsSound p) (queued : (kernel_seat_at (kernel_of p) t).status ≡ Queued m) where
+module _ (p : Inside) (t m : ℕ) (h : IsSound p) (queued : (kernel_seat_at (kernel_of p) t).status ≡ Queued m) where
   abbrev rest : List (ℕ × ℕ)
   rest = without p.arrivals t
 
@@ -114,8 +112,8 @@ module _ (p : Plain) (t m : ℕ) (h : IsSound p) (queued : (kernel_seat_at (kern
   unready = ap is_ready queued
 
   -- it is not parked
-  unparked : p.parked ≡ parked_but p.parked t
-  unparked = unparked_absent p h t (ap is_parked queued)
+  parked_still : p.parked ≡ unparked p.parked t
+  parked_still = unparked_absent p h t (ap is_parked queued)
 
   among : is_waiter p.arrivals t m ≡ true
   among = subst (λ (ws : List (ℕ × ℕ)). is_waiter ws t m ≡ true) (waiters_seen p) (h.kernel.queued t m queued)
@@ -217,7 +215,7 @@ module _ (p : Plain) (t m : ℕ) (h : IsSound p) (queued : (kernel_seat_at (kern
       -- others wait for the mutex
       pub left_still : has_waiter rest m ≡ true → IsLeft p (record p { owners = freed; arrivals = rest }) t owner
       left_still some = record {
-        frame = λ i. record p { owners = freed; arrivals = rest; parked = unparked i };
+        frame = λ i. record p { owners = freed; arrivals = rest; parked = parked_still i };
         rows = length-set p.owners.seats t row;
         free = row_here;
         others = row_other;
@@ -228,7 +226,6 @@ module _ (p : Plain) (t m : ℕ) (h : IsSound p) (queued : (kernel_seat_at (kern
         levels = unready_off p h t unready;
         place = refl;
         holds = h.placed.holds;
-        lists = refl;
         waited = λ u nz e. sym e ∙ waits_owner;
         some = owner_nonzero;
         added = owner_below;
@@ -248,7 +245,7 @@ module _ (p : Plain) (t m : ℕ) (h : IsSound p) (queued : (kernel_seat_at (kern
           → count v + 1 ≡ count freed
           → IsLeft p (record p { keys = set p.keys m None; owners = v; arrivals = rest }) t owner
       left_ended v none is one = record {
-        frame = λ i. record p { keys = set p.keys m None; owners = v; arrivals = rest; parked = unparked i };
+        frame = λ i. record p { keys = set p.keys m None; owners = v; arrivals = rest; parked = parked_still i };
         rows = ap (λ (o : Owners). length o.seats) is ∙ length-set p.owners.seats t row;
         free = ap (λ (o : Owners). seat_at o t) is ∙ row_here;
         others = λ u n. ap (λ (o : Owners). seat_at o u) is ∙ row_other u n;
@@ -259,7 +256,6 @@ module _ (p : Plain) (t m : ℕ) (h : IsSound p) (queued : (kernel_seat_at (kern
         levels = unready_off p h t unready;
         place = refl;
         holds = h.placed.holds;
-        lists = refl;
         waited = λ u nz e. sym e ∙ waits_owner;
         some = owner_nonzero;
         added = owner_below;
@@ -288,22 +284,22 @@ module _ (p : Plain) (t m : ℕ) (h : IsSound p) (queued : (kernel_seat_at (kern
               omega (arith, f, g, h.placed.count)
 
 -- the same, as it is written
-pub still_at : (p x : Plain) (t m : ℕ) (h : IsSound p) (queued : (kernel_seat_at (kernel_of p) t).status ≡ Queued m)
+pub still_at : (p x : Inside) (t m : ℕ) (h : IsSound p) (queued : (kernel_seat_at (kernel_of p) t).status ≡ Queued m)
     (key : ℕ) (at : key_at p m ≡ Some key) (owner : ℕ) → owner_at p.owners key ≡ Some owner
     → (v : Owners) (ws : List (ℕ × ℕ)) → x ≡ record p { owners = v; arrivals = ws } → ws ≡ without p.arrivals t
     → has_waiter (without p.arrivals t) m ≡ true → v ≡ with_wait t None p.owners → IsLeft p x t owner
 still_at p x t m h queued key at owner owns v ws is same some e =
-    subst (λ (y : Plain). IsLeft p y t owner)
+    subst (λ (y : Inside). IsLeft p y t owner)
     (sym (is ∙ (λ i. record p { owners = e i; arrivals = same i })))
     (left_still p t m h queued key at owner owns some)
 
-pub ended_at : (p x : Plain) (t m : ℕ) (h : IsSound p) (queued : (kernel_seat_at (kernel_of p) t).status ≡ Queued m)
+pub ended_at : (p x : Inside) (t m : ℕ) (h : IsSound p) (queued : (kernel_seat_at (kernel_of p) t).status ≡ Queued m)
     (key : ℕ) (at : key_at p m ≡ Some key) (owner : ℕ) → owner_at p.owners key ≡ Some owner
     → (g : ℕ) (v given : Owners) (ws : List (ℕ × ℕ))
     → x ≡ record p { keys = set p.keys g None; owners = v; arrivals = ws }
     → g ≡ m → ws ≡ without p.arrivals t → has_waiter (without p.arrivals t) m ≡ false
     → given ≡ with_wait t None p.owners → v ≡ without_state key given → count v + 1 ≡ count given → IsLeft p x t owner
 ended_at p x t m h queued key at owner owns g v given ws is here same none e over one =
-    subst (λ (y : Plain). IsLeft p y t owner)
+    subst (λ (y : Inside). IsLeft p y t owner)
     (sym (is ∙ (λ i. record p { keys = set p.keys (here i) None; owners = v; arrivals = same i })))
     (left_ended p t m h queued key at owner owns v none (over ∙ ap (without_state key) e) (one ∙ ap count e))

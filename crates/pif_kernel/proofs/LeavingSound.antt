@@ -3,12 +3,13 @@ use Rattle.std.proofs.Common.{◌≡◌, ◌≢◌, ◌⊎◌, ℕ, ◌<◌, ◌
 use Rattle.std.specs.List.{filter}
 use Rattle.std.proofs.lemmas.Bool.{cases_eq, true≢false}
 use Rattle.std.proofs.lemmas.List.{get_or-set_same, get_or-set_other}
+use Rattle.pif_runq.specs.Levels.{Queue}
 use Rattle.pif_nodes.specs.declared.keys.Key.{Key}
 use Rattle.pif_model.specs.declared.lines.Status.{Status}
 use Rattle.pif_model.specs.declared.lines.Status.TheVariants.{Ready}
 use Rattle.pif_model.specs.declared.lines.Woken.TheVariants.{Fresh}
 use Rattle.pif_model.specs.Graph.{has_waiter, without}
-use Rattle.pif_model.specs.PiKernel.{Kernel, queued_on, is_ready, effective_in, has_seat, is_among, is_living, level_at, with_effective_levels, waits_for, is_out, kernel_left_as}
+use Rattle.pif_model.specs.PiKernel.{Kernel, queued_on, is_ready, effective_in, has_seat, is_among, is_living, level_at, with_effective_levels, waits_for, is_out, kernel_left_as, unparked}
 use Rattle.pif_model.specs.PiKernel.{state_at as kernel_state_at}
 use Rattle.pif_owners.specs.Owners.{Seat, Wait, seat_at, owner_at, waits_on, rank_of}
 use Rattle.pif_owners.specs.Owners.{waits_for as owners_wait_for}
@@ -20,23 +21,22 @@ use Rattle.pif_chains.proofs.KernelNumbers.{is_other, among-left_same, among-lef
 use Rattle.pif_chains.proofs.Statuses.{out-queued_on_nothing}
 use Rattle.pif_chains.proofs.Waiting.{has_waiter-from_pair}
 use Rattle.pif_chains.proofs.Among.{is_among as is_waiter}
-use Rattle.pif_kernel.specs.Plain.{Plain, IsListed, IsPlaced, IsSound, kernel_of, status_at, key_at, state_at, ticket_of, parked_but}
+use Rattle.pif_kernel.specs.Inside.{Inside, IsListed, IsPlaced, IsSound, kernel_of, status_at, key_at, state_at, ticket_of}
 use Rattle.pif_kernel.specs.Leaving.{IsLeft}
 use Rattle.pif_kernel.proofs.Seats.{IsFitted, same_seats, status_seen, owners_waits, added_seen, waiters_seen, states_seen, states_length, kernel_by_parts, seats_of-set_status, seats_of-same_base}
-use Rattle.pif_kernel.proofs.Parked.{parked_but-seen}
 use Rattle.pif_kernel.proofs.Picked.{levels_left, length-left}
 use Rattle.pif_kernel.proofs.Standing.{fits}
 use Rattle.pif_kernel.proofs.ChainLaws.{repaired_but}
 use Rattle.pif_kernel.proofs.WaitersWithout.{rise_without, waiter_kept}
 use Rattle.pif_kernel.proofs.WalkSound.{IsWalkable, owners_effective}
 
-module _ (p x : Plain) (next : Status) (t start : ℕ) (h : IsSound p) (lives : is_living (kernel_of p) t ≡ true)
+module _ (p x : Inside) (next : Status) (t start : ℕ) (h : IsSound p) (lives : is_living (kernel_of p) t ≡ true)
     (out : is_out next ≡ true) (l : IsLeft p x t start) where
   abbrev rest : List (ℕ × ℕ)
   rest = without p.arrivals t
 
   -- what is kept before the walk
-  abbrev pub mid : Plain
+  abbrev pub mid : Inside
   mid =
       record p {
         statuses = set p.statuses t next;
@@ -45,7 +45,7 @@ module _ (p x : Plain) (next : Status) (t start : ℕ) (h : IsSound p) (lives : 
         queue = x.queue;
         table = x.table;
         arrivals = rest;
-        parked = parked_but p.parked t;
+        parked = unparked p.parked t;
       }
 
   fit : IsFitted p
@@ -127,7 +127,7 @@ module _ (p x : Plain) (next : Status) (t start : ℕ) (h : IsSound p) (lives : 
       (seats_of-same_base mid.statuses p.owners.seats mid.owners.seats l.rows base_same
       ∙ seats_of-set_status p.statuses p.owners.seats t next fit.few)
       (states_length mid ∙ l.places ∙ sym (states_length p) ∙ sym (length-set (kernel_of p).states _ _))
-      state_placed refl (parked_but-seen p.parked t)
+      state_placed refl refl
       (length-left p mid t) (levels_left p mid t l.levels)
 
   waits_left : (u : ℕ) → waits_for (kernel_of mid) u ≡ waits_for (kernel_left_as next t (kernel_of p)) u
@@ -236,8 +236,7 @@ module _ (p x : Plain) (next : Status) (t start : ℕ) (h : IsSound p) (lives : 
     admitted = λ u n b. omega (arith, base_same u, h.placed.admitted u n (omega (arith, b, many)));
     free = fit_mid.free;
     most = λ u. omega (arith, base_same u, h.placed.most u);
-    lists = l.lists ∙ h.placed.lists;
-    queue = l.place ∙ rw h.placed.queue refl;
+    threads = ap (λ (x : Queue). x.threads) l.place ∙ h.placed.threads;
     holds = l.holds;
     listed = λ u r e. listed_mid u r (cases_eq u t) e;
     waits = fit_mid.waits;
@@ -289,11 +288,11 @@ module _ (p x : Plain) (next : Status) (t start : ℕ) (h : IsSound p) (lives : 
   }
 
 -- what is kept before the walk, as it is written
-pub before_walk : (p x y : Plain) (next : Status) (t start g : ℕ) → IsSound p → is_living (kernel_of p) t ≡ true
+pub before_walk : (p x y : Inside) (next : Status) (t start g : ℕ) → IsSound p → is_living (kernel_of p) t ≡ true
     → is_out next ≡ true → IsLeft p x t start → y ≡ x → g ≡ t
     → IsWalkable (record y { statuses = set y.statuses g next }) start (kernel_left_as next t (kernel_of p))
 before_walk p x y next t start g h lives out l same here =
     subst (λ (n : ℕ). IsWalkable (record y { statuses = set y.statuses n next }) start
     (kernel_left_as next t (kernel_of p))) (sym here)
-    (subst (λ (z : Plain). IsWalkable (record z { statuses = set z.statuses t next }) start
+    (subst (λ (z : Inside). IsWalkable (record z { statuses = set z.statuses t next }) start
     (kernel_left_as next t (kernel_of p))) (sym (same ∙ l.frame)) (walkable p x next t start h lives out l))

@@ -1,28 +1,26 @@
 -- What is kept stays sound where a thread that waits for nothing gets another status, by which it waits for nothing
 -- either, whatever becomes of its place in the run queue and among the parked threads.
-use Rattle.std.proofs.Common.{◌≡◌, ℕ, List, length, set, refl, sym, ap, ◌∙◌, arith, length-set}
+use Rattle.std.proofs.Common.{◌≡◌, ℕ, List, length, set, sym, ap, ◌∙◌, arith, length-set}
 use Rattle.pif_nodes.specs.Table.{Table}
 use Rattle.pif_runq.specs.Levels.{Queue, Holds}
 use Rattle.pif_model.specs.declared.lines.Status.{Status}
 use Rattle.pif_model.specs.declared.lines.Status.TheVariants.{Ready}
 use Rattle.pif_model.specs.declared.lines.Woken.TheVariants.{Fresh}
-use Rattle.pif_model.specs.PiKernel.{IsKernel, queued_on, effective_in, waits_for}
+use Rattle.pif_model.specs.PiKernel.{IsKernel, queued_on, effective_in, waits_for, Parking}
 use Rattle.pif_model.specs.PiKernel.{seat_at as kernel_seat_at}
 use Rattle.pif_owners.specs.Owners.{seat_at}
 use Rattle.pif_chains.proofs.Greatest.{effective_same}
 use Rattle.pif_chains.proofs.Places.{kept_at}
-use Rattle.pif_kernel.specs.declared.parkings.Parking.{Parking}
-use Rattle.pif_kernel.specs.Plain.{Plain, IsPlaced, IsSound, kernel_of, status_at, key_at, state_at}
+use Rattle.pif_kernel.specs.Inside.{Inside, IsPlaced, IsSound, kernel_of, status_at, key_at, state_at}
 use Rattle.pif_kernel.proofs.Seats.{IsFitted, base_seen, waits_seen, seats_length}
 use Rattle.pif_kernel.proofs.Standing.{fits, listed_kept}
 
 -- t has the status x then, and these threads are parked
-module _ (p : Plain) (x : Status) (ps : List Parking) (q : Queue) (tb : Table) (t : ℕ) (h : IsSound p)
+module _ (p : Inside) (x : Status) (ps : List Parking) (q : Queue) (tb : Table) (t : ℕ) (h : IsSound p)
     (idle : queued_on (status_at p t) ≡ 0) (nothing : queued_on x ≡ 0)
-    (place : q ≡ record p.queue { mask = q.mask }) (holds : Holds q tb)
-    (count : length tb.lists ≡ length p.table.lists) where
+    (place : q ≡ record p.queue { mask = q.mask }) (holds : Holds q tb) where
   -- what is kept then
-  abbrev after : Plain
+  abbrev after : Inside
   after = record p { statuses = set p.statuses t x; parked = ps; queue = q; table = tb }
 
   -- each is queued where it was
@@ -69,8 +67,7 @@ module _ (p : Plain) (x : Status) (ps : List Parking) (q : Queue) (tb : Table) (
       admitted = λ u n l. h.placed.admitted u n (omega (arith, l, long));
       free = fit_after.free;
       most = h.placed.most;
-      lists = count ∙ h.placed.lists;
-      queue = place ∙ rw h.placed.queue refl;
+      threads = ap (λ (x : Queue). x.threads) place ∙ h.placed.threads;
       holds = holds;
       listed = listed_kept after fit_after kept local_after;
       waits = fit_after.waits;

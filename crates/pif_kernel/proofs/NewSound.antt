@@ -16,7 +16,7 @@ use Rattle.pif_chains.proofs.Greatest.{effective_most}
 use Rattle.pif_chains.proofs.KernelKept.{new_kernel_kept}
 use Rattle.pif_chains.proofs.KernelLevels.{length-levels_by}
 use Rattle.pif_chains.proofs.KernelNew.{no_state, length-no_states, no_level}
-use Rattle.pif_kernel.specs.Plain.{Plain, IsPlaced, IsSound, kernel_of, new_plain, no_keys, key_at, state_at, status_at, owner_under, seats_of}
+use Rattle.pif_kernel.specs.Inside.{Inside, IsPlaced, IsSound, kernel_of, new_inside, no_keys, key_at, state_at, status_at, owner_under, seats_of}
 use Rattle.pif_kernel.proofs.Seats.{IsFitted, kernel_by_parts, states_seen, states_length}
 use Rattle.pif_kernel.proofs.Picked.{levels_of, levels_seen, levels_count}
 use Rattle.pif_kernel.proofs.Standing.{listed_kept}
@@ -45,6 +45,7 @@ new_room threads apart = record {
   lists = omega (arith, length-replicate 99 nothing);
   nodes = omega (arith, length-replicate threads no_key);
   empty = λ p l. empty_list (list_for (new_queue threads) p);
+  free = λ n mine. refl;
 }
 
 empty_level : (threads p : ℕ) → levels_of (new_queue threads) (new_table threads) p ≡ []
@@ -70,8 +71,8 @@ unfolding no_keys
 keys_made keys e = e
 
 module _ (l : Bounds) (first : ℕ) (within : IsWithin l) (some : 1 ≤ first) where
-  abbrev new : Plain
-  new = new_plain l first
+  abbrev new : Inside
+  new = new_inside l first
 
   no_key_at : (m : ℕ) → key_at new m ≡ None
   unfolding no_keys
@@ -124,8 +125,7 @@ module _ (l : Bounds) (first : ℕ) (within : IsWithin l) (some : 1 ≤ first) w
     admitted = λ t n less. absurd (omega arith);
     free = fit_new.free;
     most = λ t. omega (arith, ap (λ (x : Seat). x.base) (seat_zero l.threads t));
-    lists = refl;
-    queue = refl;
+    threads = refl;
     holds = holds;
     listed = listed_kept new fit_new kept local_new;
     waits = fit_new.waits;

@@ -6,12 +6,11 @@ use Rattle.std.proofs.lemmas.List.{map-append, append-nil, take_more, take_all}
 use Rattle.std.proofs.lemmas.List.Elements.{filter-append}
 use Rattle.pif_model.specs.Graph.{has_waiter, first_greatest, waiters_with, next_waiter}
 use Rattle.pif_chains.proofs.Waiting.{by_test, pairs, has_waiter-push, or_true, or_false}
-use Rattle.pif_model.specs.PiKernel.{Parking as KernelParking, parked_pairs, effective_in, has_parked, top_parked}
+use Rattle.pif_model.specs.PiKernel.{Parking, parked_pairs, effective_in, has_parked, top_parked}
 use Rattle.pif_chains.proofs.Among.{is_among_here, is_among_there}
 use Rattle.pif_chains.proofs.KernelParks.{parked_pairs-push}
 use Rattle.pif_chains.proofs.KernelWoken.{added-from_parked}
-use Rattle.pif_kernel.specs.declared.parkings.Parking.{Parking}
-use Rattle.pif_kernel.specs.Plain.{Plain, IsSound, kernel_of, parking_of, parkings_of}
+use Rattle.pif_kernel.specs.Inside.{Inside, IsSound, kernel_of}
 use Rattle.pif_kernel.proofs.Seats.{parked_seen}
 use Rattle.pif_kernel.proofs.Standing.{effective_level}
 use Rattle.pif_kernel.specs.Takings.{first_parked, goes_before}
@@ -131,7 +130,7 @@ module _ (f : ℕ → ℕ) where
 
 -- the pairs of some parked threads
 abbrev pub pairs_in : List Parking → List (ℕ × ℕ)
-pairs_in ps = parked_pairs (parkings_of ps)
+pairs_in ps = parked_pairs ps
 
 -- who is next, of one that was gone through later and the one that was next before
 abbrev next_with : (ℕ → ℕ) → ℕ → Parking → Option ℕ → Option ℕ
@@ -143,12 +142,11 @@ pub parked_more : (f : ℕ → ℕ) (ps : List Parking) (i c : ℕ) (x : Parking
     → first_parked f (pairs_in (take (i + 1) ps)) c ≡ next_with f c x (first_parked f (pairs_in (take i ps)) c)
 parked_more f ps i c x l is some =
     ap (λ (ws : List (ℕ × ℕ)). first_parked f ws c) (more
-    ∙ parked_pairs-push (parkings_of (take i ps)) (parking_of x))
+    ∙ parked_pairs-push (take i ps) x)
     ∙ go (cases_eq x.cond c)
   where
-    more : pairs_in (take (i + 1) ps) ≡ parked_pairs (parkings_of (take i ps) ++ parking_of x ∷ [])
+    more : pairs_in (take (i + 1) ps) ≡ parked_pairs (take i ps ++ x ∷ [])
     more = ap pairs_in (take_more ps i x l ∙ ap (λ (y : Parking). take i ps ++ y ∷ []) is)
-        ∙ ap parked_pairs (map-append parking_of (take i ps) (x ∷ []))
 
     go : (x.cond ≡ c) ⊎ (x.cond ≡ c → ⊥)
         → first_parked f (pairs_in (take i ps) ++ (x.thread, x.cond) ∷ []) c
@@ -175,19 +173,19 @@ paired_at (y ∷ ps) zero x l e =
 paired_at (y ∷ ps) (suc i) x l e =
     is_among_there (y.thread, y.cond) (pairs_in ps) x.thread x.cond (paired_at ps i x (omega (arith, l)) e)
 
-module _ (p : Plain) (h : IsSound p) where
+module _ (p : Inside) (h : IsSound p) where
   -- it has an effective priority
   pub parked_effective : (i : ℕ) (x : Parking) → i < length p.parked → get_or p.parked i x ≡ x
       → 1 ≤ effective_in (kernel_of p) x.thread
   parked_effective i x l e =
       (effective_level p h x.thread (added-from_parked (kernel_of p) h.kernel x.thread x.cond
       (h.kernel.parking.status x.thread x.cond
-      (ap (λ (ps : List KernelParking). pairs x.thread x.cond (parked_pairs ps)) (parked_seen p)
+      (ap (λ (ps : List Parking). pairs x.thread x.cond (parked_pairs ps)) (parked_seen p)
       ∙ paired_at p.parked i x l e)))).0
 
   -- the thread that is taken next, by those that are kept
   pub next_seen : (c : ℕ) → first_parked (effective_in (kernel_of p)) (pairs_in p.parked) c
       ≡ (if has_parked (kernel_of p) c then Some (top_parked (kernel_of p) c) else None)
   next_seen c =
-      ap (λ (ps : List KernelParking). first_parked (effective_in (kernel_of p)) (parked_pairs ps) c)
+      ap (λ (ps : List Parking). first_parked (effective_in (kernel_of p)) (parked_pairs ps) c)
       (sym (parked_seen p))

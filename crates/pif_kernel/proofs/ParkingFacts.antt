@@ -2,21 +2,21 @@
 -- there is room for one parked thread more.
 use Rattle.std.proofs.Common.{◌≡◌, ◌≢◌, ℕ, ◌+◌, ◌<◌, ◌≤◌, Bool, true, false, length, List, refl, ap, ◌∙◌, subst, arith}
 use Rattle.std.proofs.lemmas.List.{length-map}
-use Rattle.pif_model.specs.PiKernel.{Parking as KernelParking, seat_at as kernel_seat_at, has_seat, is_ready, is_parked, parked_pairs}
+use Rattle.pif_model.specs.PiKernel.{Parking, seat_at as kernel_seat_at, has_seat, is_ready, is_parked, parked_pairs, unparked}
 use Rattle.pif_chains.proofs.Statuses.{not_parked, ready-unparked}
 use Rattle.pif_chains.proofs.Waiting.{names, Once, pair-from_named}
 use Rattle.pif_chains.proofs.KernelWoken.{added-from_parked}
-use Rattle.pif_kernel.specs.Plain.{Plain, IsSound, kernel_of, parking_of, parkings_of, parked_but}
+use Rattle.pif_kernel.specs.Inside.{Inside, IsSound, kernel_of}
 use Rattle.pif_kernel.proofs.Seats.{added_seen, parked_seen}
 use Rattle.pif_kernel.proofs.Standing.{fits}
-use Rattle.pif_kernel.proofs.Parked.{parked_but-unnamed}
+use Rattle.pif_kernel.proofs.Parked.{unparked-unnamed}
 use Rattle.pif_kernel.proofs.QueueLaws.{few_waiters}
 
 -- pairs of a parked thread and its variable
-abbrev pub pairs_of : Plain → List (ℕ × ℕ)
-pairs_of p = parked_pairs (parkings_of p.parked)
+abbrev pub pairs_of : Inside → List (ℕ × ℕ)
+pairs_of p = parked_pairs p.parked
 
-module _ (p : Plain) (h : IsSound p) (t : ℕ) where
+module _ (p : Inside) (h : IsSound p) (t : ℕ) where
   -- the same in the kernel by itself
   pairs_seen : parked_pairs (kernel_of p).parked ≡ pairs_of p
   pairs_seen = ap parked_pairs (parked_seen p)
@@ -32,8 +32,8 @@ module _ (p : Plain) (h : IsSound p) (t : ℕ) where
           absurd (not_parked (kernel_seat_at (kernel_of p) t).status r.0 e (h.kernel.parking.status t r.0 r.1))
 
   -- taking it off changes nothing
-  pub unparked_absent : is_parked (kernel_seat_at (kernel_of p) t).status ≡ false → p.parked ≡ parked_but p.parked t
-  unparked_absent e = parked_but-unnamed p.parked t (unparked_unnamed e)
+  pub unparked_absent : is_parked (kernel_seat_at (kernel_of p) t).status ≡ false → p.parked ≡ unparked p.parked t
+  unparked_absent e = unparked-unnamed p.parked t (unparked_unnamed e)
 
   -- who is named among the parked was added
   named_added : (u : ℕ) → names u (pairs_of p) ≡ true → (u ≢ 0) × (u < length p.statuses)
@@ -56,6 +56,5 @@ module _ (p : Plain) (h : IsSound p) (t : ℕ) where
         arith,
         few,
         h.placed.few,
-        length-map {B = ℕ × ℕ} (parkings_of p.parked) (λ (x : KernelParking). (x.thread, x.cond)),
-        length-map p.parked parking_of,
+        length-map {B = ℕ × ℕ} p.parked (λ (x : Parking). (x.thread, x.cond)),
       )

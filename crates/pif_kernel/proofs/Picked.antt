@@ -11,7 +11,7 @@ use Rattle.pif_runq.specs.Levels.{level_after_add}
 use Rattle.pif_runq.proofs.LevelLemmas.{threads-some}
 use Rattle.pif_model.specs.Graph.{is_priority}
 use Rattle.pif_model.specs.PiKernel.{is_among, level_at, first_from, pick_in, levels_without, levels_with}
-use Rattle.pif_kernel.specs.Plain.{Plain, kernel_of}
+use Rattle.pif_kernel.specs.Inside.{Inside, kernel_of}
 use Rattle.pif_chains.proofs.KernelSettled.{priority-range, priority-from_range}
 use Rattle.pif_chains.proofs.KernelLevels.{length-levels_by, level-left}
 use Rattle.pif_kernel.proofs.Levels.{level-levels_by, level-joined}
@@ -21,11 +21,11 @@ abbrev pub levels_of : Queue → Table → ℕ → List ℕ
 levels_of q t = λ p. if is_priority p then level_of q t p else []
 
 -- a level of the kernel by itself
-pub levels_seen : (p : Plain) (r : ℕ) → level_at (kernel_of p).levels r ≡ levels_of p.queue p.table r
+pub levels_seen : (p : Inside) (r : ℕ) → level_at (kernel_of p).levels r ≡ levels_of p.queue p.table r
 unfolding kernel_of
 levels_seen p r = level-levels_by (level_of p.queue p.table) r
 
-pub levels_count : (p : Plain) → length (kernel_of p).levels ≡ 100
+pub levels_count : (p : Inside) → length (kernel_of p).levels ≡ 100
 unfolding kernel_of
 levels_count p = length-levels_by (level_of p.queue p.table)
 
@@ -81,7 +81,7 @@ first_has [] u e = cc
 first_has (x ∷ xs) u e = let same : x ≡ u = grind arith in grind (arith, nat_tests)
 
 -- who is picked, by the run queue
-pub pick_seen : (p : Plain) (r : Option ℕ) → IfNone r (IsEmpty p.queue p.table)
+pub pick_seen : (p : Inside) (r : Option ℕ) → IfNone r (IsEmpty p.queue p.table)
     → IfSome r (λ t. IsFirstOfGreatest p.queue p.table t)
     → r ≡ (if pick_in (kernel_of p) == 0 then None else Some (pick_in (kernel_of p)))
 pick_seen p None none some =
@@ -117,7 +117,7 @@ without_left (x ∷ xs) t =
     rw (same, ih) refl
 
 -- who is taken out of its level has left it
-pub levels_left : (p now : Plain) (t : ℕ)
+pub levels_left : (p now : Inside) (t : ℕ)
     → ((r : ℕ) → IsLevel r → level_of now.queue now.table r ≡ without t (level_of p.queue p.table r))
     → (r : ℕ) → level_at (kernel_of now).levels r ≡ level_at (levels_without t (kernel_of p).levels) r
 levels_left p now t h r =
@@ -130,14 +130,14 @@ levels_left p now t h r =
     by_test true e = rw e (h r (priority-range r e) ∙ without_left (level_of p.queue p.table r) t)
     by_test false e = rw e refl
 
-pub length-left : (p now : Plain) (t : ℕ)
+pub length-left : (p now : Inside) (t : ℕ)
     → length (kernel_of now).levels ≡ length (levels_without t (kernel_of p).levels)
 length-left p now t =
     levels_count now ∙ sym (levels_count p)
     ∙ sym (length-map (kernel_of p).levels (filter (λ (u : ℕ). if u == t then false else true)))
 
 -- who is added to a level has joined it
-pub levels_joined : (p now : Plain) (t prio : ℕ) → IsLevel prio
+pub levels_joined : (p now : Inside) (t prio : ℕ) → IsLevel prio
     → ((r : ℕ) → IsLevel r → level_of now.queue now.table r ≡ level_after_add t prio r (level_of p.queue p.table r))
     → (r : ℕ) → level_at (kernel_of now).levels r ≡ level_at (levels_with t prio (kernel_of p).levels) r
 levels_joined p now t prio l h r =
@@ -157,6 +157,6 @@ levels_joined p now t prio l h r =
     by_test false e (inl same) = absurd (false≢true (sym e ∙ ap is_priority same ∙ priority-from_range prio l.0 l.1))
     by_test false e (inr n) = let there : (r == prio) ≡ false = grind (arith, nat_tests) in rw (e, there) refl
 
-pub length-joined : (p now : Plain) (t prio : ℕ)
+pub length-joined : (p now : Inside) (t prio : ℕ)
     → length (kernel_of now).levels ≡ length (levels_with t prio (kernel_of p).levels)
 length-joined p now t prio = levels_count now ∙ sym (levels_count p) ∙ sym (length-set (kernel_of p).levels prio _)

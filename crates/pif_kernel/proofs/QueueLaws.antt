@@ -7,7 +7,7 @@ use Rattle.std.proofs.lemmas.List.{length-map}
 use Rattle.std.proofs.lemmas.Map.Steps.{length-le_from_distinct_below}
 use Rattle.pif_model.specs.Graph.{has_waiter}
 use Rattle.pif_chains.proofs.Waiting.{names, Once, once_cons, has_waiter-push}
-use Rattle.pif_kernel.specs.Plain.{Rise, mutexes_of}
+use Rattle.pif_kernel.specs.Inside.{Rise, mutexes_of}
 
 -- who is named has a ticket from `least` on, and below `next`
 pub rise_above : (f : ℕ → ℕ) (least : ℕ) (ws : List (ℕ × ℕ)) (next u : ℕ) → Rise f least ws next → names u ws ≡ true

@@ -13,14 +13,14 @@ use Rattle.pif_owners.specs.Owners.{Owners, Seat, Wait, no_seat, seat_at, owner_
 use Rattle.pif_owners.specs.Owners.{waits_for as owners_wait_for}
 use Rattle.pif_chains.proofs.KernelFacts.{living-added}
 use Rattle.pif_chains.proofs.Following.{Follows, within-from_reaches}
-use Rattle.pif_kernel.specs.Plain.{Plain, IsSound, IsOpened, Rise, kernel_of, status_at, key_at, state_at, ticket_of}
+use Rattle.pif_kernel.specs.Inside.{Inside, IsSound, IsOpened, Rise, kernel_of, status_at, key_at, state_at, ticket_of}
 use Rattle.pif_kernel.proofs.Seats.{seats_length, waits_below, owners_waits, added_seen, states_seen}
 use Rattle.pif_kernel.proofs.Standing.{fits, effective_level, ready_queued}
 use Rattle.pif_kernel.proofs.Waiters.{ready_free, room_for}
 use Rattle.pif_kernel.proofs.WalkSound.{IsWalkable}
 use Rattle.pif_kernel.proofs.QueueingSound.{IsOpen, opened, walkable}
 
-pub record IsEntry (now p x : Plain) (t m owner key ticket : ℕ) : Type 0 where
+pub record IsEntry (now p x : Inside) (t m owner key ticket : ℕ) : Type 0 where
   pub sound : IsSound p
   pub same : kernel_of p ≡ kernel_of now
   pub shape : x ≡ record p { keys = x.keys; owners = x.owners }
@@ -36,7 +36,7 @@ pub record IsEntry (now p x : Plain) (t m owner key ticket : ℕ) : Type 0 where
   pub later : ticket < p.next
 
 -- what is known before t is queued on m, whose owner state has this key, if there is one
-pub record IsQueueing (p : Plain) (t m owner : ℕ) : Type 0 where
+pub record IsQueueing (p : Inside) (t m owner : ℕ) : Type 0 where
   pub added : has_seat (kernel_of p) t ≡ true
   pub ready : is_ready (kernel_seat_at (kernel_of p) t).status ≡ true
   pub mutex : m < 1025
@@ -44,7 +44,7 @@ pub record IsQueueing (p : Plain) (t m owner : ℕ) : Type 0 where
   pub state : state_at p m ≢ 0 → state_at p m ≡ owner
   pub unreached : reaches_within (length (kernel_of p).seats) (waits_for (kernel_of p)) owner t ≡ false
 
-pub entry : (now p x : Plain) (t m owner key ticket : ℕ) → 1 ≤ m → IsQueueing now t m owner
+pub entry : (now p x : Inside) (t m owner key ticket : ℕ) → 1 ≤ m → IsQueueing now t m owner
     → p ≡ record now { owners = p.owners; next = p.next } → p.next ≡ ticket + 1
     → Rise (ticket_of p.owners) 1 p.arrivals ticket → kernel_of p ≡ kernel_of now → IsSound p
     → IsOpened p x m owner key → IsEntry now p x t m owner key ticket
@@ -71,18 +71,18 @@ entry now p x t m owner key ticket named w frame next rises same h o =
     }
 
 -- the same, where what is kept is written by the one with the owner state
-abbrev pub IsEntered : (now p x : Plain) (t m owner key ticket : ℕ) → Type 0
+abbrev pub IsEntered : (now p x : Inside) (t m owner key ticket : ℕ) → Type 0
 IsEntered now p x t m owner key ticket =
     IsEntry now (record x { keys = p.keys; owners = p.owners }) x t m owner key ticket
 
-pub folded : (now p x : Plain) (t m owner key ticket : ℕ) → IsEntry now p x t m owner key ticket
+pub folded : (now p x : Inside) (t m owner key ticket : ℕ) → IsEntry now p x t m owner key ticket
     → IsEntered now p x t m owner key ticket
 folded now p x t m owner key ticket i =
-    subst (λ (y : Plain). IsEntry now y x t m owner key ticket)
-    (sym (ap (λ (z : Plain). record z { keys = p.keys; owners = p.owners }) i.shape)) i
+    subst (λ (y : Inside). IsEntry now y x t m owner key ticket)
+    (sym (ap (λ (z : Inside). record z { keys = p.keys; owners = p.owners }) i.shape)) i
 
 -- for whom a thread waits, where there is an owner state
-waits_open : (now p x : Plain) (t m owner key ticket : ℕ) → IsEntry now p x t m owner key ticket → (u : ℕ)
+waits_open : (now p x : Inside) (t m owner key ticket : ℕ) → IsEntry now p x t m owner key ticket → (u : ℕ)
     → owners_wait_for x.owners u ≡ waits_for (kernel_of p) u
 waits_open now p x t m owner key ticket i u =
     ap (λ (l : List Seat). unwrap_or
@@ -109,7 +109,7 @@ waits_open now p x t m owner key ticket i u =
     by_key None e = rw e refl
     by_key (Some k) e = rw e (by_place k e (cases_eq k key))
 
-pub no_cycle : (now p x : Plain) (t m owner key ticket : ℕ) → IsEntry now p x t m owner key ticket → (n : ℕ)
+pub no_cycle : (now p x : Inside) (t m owner key ticket : ℕ) → IsEntry now p x t m owner key ticket → (n : ℕ)
     → owner_at x.owners key ≡ Some n → Reaches (WaitsFor x.owners) n t → ⊥
 no_cycle now p x t m owner key ticket i n e r =
     let both : Some owner ≡ Some n = sym i.opens.owned ∙ e in
@@ -126,7 +126,7 @@ no_cycle now p x t m owner key ticket i n e r =
     (subst (λ (y : ℕ). Reaches (WaitsFor x.owners) y t) at r)))
     ∙ i.unreached)
 
-module _ (now p x : Plain) (t m owner key ticket : ℕ) (i : IsEntry now p x t m owner key ticket) where
+module _ (now p x : Inside) (t m owner key ticket : ℕ) (i : IsEntry now p x t m owner key ticket) where
   -- the thread has its effective priority
   pub local_is : (seat_at x.owners t).local ≡ effective_in (kernel_of p) t
   local_is = ap (λ (l : List Seat). (get_or l t no_seat).local) i.opens.seats ∙ i.sound.local t
@@ -154,7 +154,6 @@ module _ (now p x : Plain) (t m owner key ticket : ℕ) (i : IsEntry now p x t m
       → v ≡ with_wait t (Some (record { state = key; rank = record { prio = level; ticket = ticket } })) x.owners
       → q ≡ record p.queue { mask = q.mask }
       → ((r : ℕ) → IsLevel r → level_of q tb r ≡ without t (level_of p.queue p.table r)) → Holds q tb
-      → length tb.lists ≡ length p.table.lists
       → IsWalkable (record p {
         statuses = set p.statuses t
             (Queued m);
@@ -165,7 +164,7 @@ module _ (now p x : Plain) (t m owner key ticket : ℕ) (i : IsEntry now p x t m
         arrivals = p.arrivals ++
             (t, m) ∷ [];
       }) owner (kernel_after_queueing t m owner (kernel_of now))
-  before_walk level v q tb value queued place levels holds lists =
+  before_walk level v q tb value queued place levels holds =
       rw (queued, ← i.same)
       (walkable p x.keys x.owners t m owner key level ticket p.next i.sound i.opens i.added i.ready i.named i.mutex
-      i.living i.state i.unreached (value ∙ local_is) i.rises i.later q tb place levels holds lists)
+      i.living i.state i.unreached (value ∙ local_is) i.rises i.later q tb place levels holds)

@@ -25,8 +25,8 @@ use Rattle.pif_chains.proofs.KernelNumbers.{is_other, among-left_same, among-lef
 use Rattle.pif_chains.proofs.Waiting.{has_waiter-from_pair}
 use Rattle.pif_chains.proofs.Places.{kept_at}
 use Rattle.pif_chains.proofs.Among.{is_among as is_waiter}
-use Rattle.pif_kernel.specs.Plain.{Plain, IsListed, IsPlaced, IsSound, Rise, IsOpened, kernel_of, status_at, key_at, state_at, ticket_of}
-use Rattle.pif_kernel.specs.Plain.IsOpened.{found, made}
+use Rattle.pif_kernel.specs.Inside.{Inside, IsListed, IsPlaced, IsSound, Rise, IsOpened, kernel_of, status_at, key_at, state_at, ticket_of}
+use Rattle.pif_kernel.specs.Inside.IsOpened.{found, made}
 use Rattle.pif_kernel.proofs.Seats.{IsFitted, same_seats, status_seen, waits_seen, owners_waits, added_seen, waiters_seen, states_seen, states_length, kernel_by_parts, seats_of-set_status, seats_of-same_base}
 use Rattle.pif_kernel.proofs.Picked.{levels_left, length-left}
 use Rattle.pif_kernel.proofs.Standing.{fits}
@@ -36,7 +36,7 @@ use Rattle.pif_kernel.proofs.Waiters.{has_waiter-key, no_key-no_waiter, ready_id
 use Rattle.pif_kernel.proofs.WalkSound.{IsWalkable, owners_effective}
 
 -- the keys and owner states in which m has an owner state of this owner under this key, and all others are as before
-pub record IsOpen (p : Plain) (keys : List (Option ℕ)) (owners : Owners) (m owner key : ℕ) : Type 0 where
+pub record IsOpen (p : Inside) (keys : List (Option ℕ)) (owners : Owners) (m owner key : ℕ) : Type 0 where
   pub seats : owners.seats ≡ p.owners.seats
   pub long : length keys ≡ length p.keys
   pub here : get_or keys m None ≡ Some key
@@ -51,15 +51,15 @@ some_owner : (o : Option ℕ) (n : ℕ) → unwrap_or o 0 ≡ n → n ≢ 0 → 
 some_owner None n e z = absurd (z (sym e))
 some_owner (Some x) n e z = ap Some e
 
-pub opened : (p now : Plain) (m owner key : ℕ) → IsSound p → m < length p.keys
+pub opened : (p now : Inside) (m owner key : ℕ) → IsSound p → m < length p.keys
     → (state_at p m ≢ 0 → state_at p m ≡ owner) → IsOpened p now m owner key
     → (now ≡ record p { keys = now.keys; owners = now.owners }) × IsOpen p now.keys now.owners m owner key
 opened p now m owner key h l state (found e same) =
     let some : state_at p m ≢ 0 = h.placed.owned m key e in
     let is : unwrap_or (owner_at p.owners key) 0 ≡ owner
     = sym (ap (λ (o : Option ℕ). unwrap_or (option_and_then (owner_at p.owners) o) 0) e) ∙ state some in (
-      same ∙ sym (ap (λ (x : Plain). record p { keys = x.keys; owners = x.owners }) same),
-      subst (λ (x : Plain). IsOpen p x.keys x.owners m owner key) (sym same) (record {
+      same ∙ sym (ap (λ (x : Inside). record p { keys = x.keys; owners = x.owners }) same),
+      subst (λ (x : Inside). IsOpen p x.keys x.owners m owner key) (sym same) (record {
         seats = refl;
         long = refl;
         here = e;
@@ -73,8 +73,8 @@ opened p now m owner key h l state (found e same) =
     )
 opened p now m owner key h l state (made e fresh same more) =
     let none : state_at p m ≡ 0 = ap (λ (o : Option ℕ). unwrap_or (option_and_then (owner_at p.owners) o) 0) e in (
-      same ∙ sym (ap (λ (x : Plain). record p { keys = x.keys; owners = x.owners }) same),
-      subst (λ (x : Plain). IsOpen p x.keys x.owners m owner key) (sym same) (record {
+      same ∙ sym (ap (λ (x : Inside). record p { keys = x.keys; owners = x.owners }) same),
+      subst (λ (x : Inside). IsOpen p x.keys x.owners m owner key) (sym same) (record {
         seats = refl;
         long = length-set p.keys m (Some key);
         here = get_or-set_same p.keys m (Some key) None l;
@@ -83,20 +83,20 @@ opened p now m owner key h l state (made e fresh same more) =
         kept = λ k x. let both : Some k ≡ None = sym x ∙ e in cc;
         owned = get-insert_same p.owners.owners key owner key refl;
         others = λ k ne. get-insert_other p.owners.owners key owner k ne;
-        counted = sym (ap (λ (x : Plain). count x.owners) same) ∙ more ∙ sym (rw (no_key-no_waiter p h m none) refl);
+        counted = sym (ap (λ (x : Inside). count x.owners) same) ∙ more ∙ sym (rw (no_key-no_waiter p h m none) refl);
       }),
     )
 
 -- a new owner state
-pub opened_made : (p₀ p : Plain) (v : Owners) (m owner key g : ℕ) → p ≡ p₀ → g ≡ m → key_at p m ≡ None
+pub opened_made : (p₀ p : Inside) (v : Owners) (m owner key g : ℕ) → p ≡ p₀ → g ≡ m → key_at p m ≡ None
     → owner_at p.owners key ≡ None → v ≡ with_owner key owner p.owners → count v ≡ count p.owners + 1
     → IsOpened p₀ (record p { keys = set p.keys g (Some key); owners = v }) m owner key
 opened_made p₀ p v m owner key g e at none fresh is more =
-    subst (λ (x : Plain). IsOpened x (record p { keys = set p.keys g (Some key); owners = v }) m owner key) e
+    subst (λ (x : Inside). IsOpened x (record p { keys = set p.keys g (Some key); owners = v }) m owner key) e
     (subst (λ (n : ℕ). IsOpened p (record p { keys = set p.keys n (Some key); owners = v }) m owner key) (sym at)
     (made none fresh (ap (λ (o : Owners). record p { keys = set p.keys m (Some key); owners = o }) is) more))
 
-module _ (p : Plain) (keys : List (Option ℕ)) (owners : Owners) (t m owner key prio ticket next : ℕ) (h : IsSound p)
+module _ (p : Inside) (keys : List (Option ℕ)) (owners : Owners) (t m owner key prio ticket next : ℕ) (h : IsSound p)
     (o : IsOpen p keys owners m owner key)
     (known : has_seat (kernel_of p) t ≡ true) (ready : is_ready (kernel_seat_at (kernel_of p) t).status ≡ true)
     (some : m ≢ 0) (mutex : m < 1025)
@@ -105,13 +105,12 @@ module _ (p : Plain) (keys : List (Option ℕ)) (owners : Owners) (t m owner key
     (rank_is : prio ≡ effective_in (kernel_of p) t) (rises : Rise (ticket_of p.owners) 1 p.arrivals ticket)
     (later : ticket < next)
     (q : Queue) (tb : Table) (place : q ≡ record p.queue { mask = q.mask })
-    (levels : (r : ℕ) → IsLevel r → level_of q tb r ≡ without t (level_of p.queue p.table r)) (holds : Holds q tb)
-    (lists : length tb.lists ≡ length p.table.lists) where
+    (levels : (r : ℕ) → IsLevel r → level_of q tb r ≡ without t (level_of p.queue p.table r)) (holds : Holds q tb) where
   abbrev wait : Option Wait
   wait = Some (record { state = key; rank = record { prio = prio; ticket = ticket } })
 
   -- what is kept before the walk
-  abbrev pub mid : Plain
+  abbrev pub mid : Inside
   mid =
       record p {
         statuses = set p.statuses t
@@ -341,8 +340,7 @@ module _ (p : Plain) (keys : List (Option ℕ)) (owners : Owners) (t m owner key
     admitted = λ u n l. omega (arith, base_same u, h.placed.admitted u n (omega (arith, l, many)));
     free = fit_mid.free;
     most = λ u. omega (arith, base_same u, h.placed.most u);
-    lists = lists ∙ h.placed.lists;
-    queue = place ∙ rw h.placed.queue refl;
+    threads = ap (λ (x : Queue). x.threads) place ∙ h.placed.threads;
     holds = holds;
     listed = λ u r e. listed_mid u r (cases_eq u t) e;
     waits = fit_mid.waits;

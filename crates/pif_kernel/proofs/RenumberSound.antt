@@ -8,7 +8,7 @@ use Rattle.pif_plist.specs.Order.{comes_before}
 use Rattle.pif_model.specs.PiKernel.{Kernel, IsKernel, effective_in}
 use Rattle.pif_owners.specs.Owners.{Owners, Seat, Wait, seat_at, owner_at, count, waits_on, rank_of, no_seat, KeepsOrder}
 use Rattle.pif_chains.proofs.Waiting.{names}
-use Rattle.pif_kernel.specs.Plain.{Plain, IsPlaced, IsSound, Rise, kernel_of, key_at, state_at, ticket_of}
+use Rattle.pif_kernel.specs.Inside.{Inside, IsPlaced, IsSound, Rise, kernel_of, key_at, state_at, ticket_of}
 use Rattle.pif_kernel.specs.Tickets.{renumbered_ticket, seat_with_ticket, IsRenumbered, IsRenumberable}
 use Rattle.pif_kernel.proofs.Seats.{IsFitted, states_seen, states_length, kernel_by_parts, seats_of-same_base}
 use Rattle.pif_kernel.proofs.Standing.{listed_kept, fits}
@@ -39,7 +39,7 @@ wait_ticket : (n : ℕ) (o : Option Wait) → is_some (option_map (λ (w : Wait)
 wait_ticket n None e = absurd (false≢true e)
 wait_ticket n (Some w) e = refl
 
-module _ (p : Plain) (now : Owners) (i : ℕ) (h : IsSound p) (g : IsRenumbered p.owners now p.arrivals i) where
+module _ (p : Inside) (now : Owners) (i : ℕ) (h : IsSound p) (g : IsRenumbered p.owners now p.arrivals i) where
   abbrev tag : ℕ → ℕ
   tag u = renumbered_ticket (ticket_of p.owners) 1 i p.arrivals u
 
@@ -99,7 +99,7 @@ module _ (p : Plain) (now : Owners) (i : ℕ) (h : IsSound p) (g : IsRenumbered 
           let y : nat_lt other.ticket mine.ticket ≡ false = grind (arith, nat_tests, s.1) in rw (x, y) refl
 
   module _ (next : ℕ) (all : i ≡ length p.arrivals) (next_is : next ≡ 1 + length p.arrivals) where
-    abbrev pub after : Plain
+    abbrev pub after : Inside
     after = record p { owners = now; next = next }
 
     owner_now : (k : ℕ) → owner_at now k ≡ owner_at p.owners k
@@ -158,8 +158,7 @@ module _ (p : Plain) (now : Owners) (i : ℕ) (h : IsSound p) (g : IsRenumbered 
       admitted = λ t n l. omega (arith, base_now t, h.placed.admitted t n l);
       free = fit_after.free;
       most = λ t. omega (arith, base_now t, h.placed.most t);
-      lists = h.placed.lists;
-      queue = h.placed.queue;
+      threads = h.placed.threads;
       holds = h.placed.holds;
       listed = listed_kept after fit_after kept local_after;
       waits = fit_after.waits;
@@ -183,7 +182,7 @@ module _ (p : Plain) (now : Owners) (i : ℕ) (h : IsSound p) (g : IsRenumbered 
       kernel = kept;
     }
 
-pub renumberable : (p : Plain) → IsSound p → IsRenumberable p.owners p.arrivals
+pub renumberable : (p : Inside) → IsSound p → IsRenumberable p.owners p.arrivals
 renumberable p h = record {
   few = arrivals_few p h;
   rows = λ t e. let k = named_known p h t e in omega (arith, k.1, h.placed.few, h.placed.rows);
@@ -206,11 +205,11 @@ rise_more : (f : ℕ → ℕ) (least : ℕ) (ws : List (ℕ × ℕ)) (next : ℕ
 rise_more f least [] next r = omega arith
 rise_more f least (w ∷ ws) next r = (r.0, rise_more f (f w.0 + 1) ws next r.1)
 
-pub kernel_next : (p : Plain) (n : ℕ) → kernel_of (record p { next = n }) ≡ kernel_of p
+pub kernel_next : (p : Inside) (n : ℕ) → kernel_of (record p { next = n }) ≡ kernel_of p
 unfolding kernel_of
 kernel_next p n = refl
 
-placed_next : (p : Plain) → IsPlaced p → IsPlaced (record p { next = p.next + 1 })
+placed_next : (p : Inside) → IsPlaced p → IsPlaced (record p { next = p.next + 1 })
 unfolding kernel_of
 placed_next p h = record {
   within = h.within;
@@ -222,8 +221,7 @@ placed_next p h = record {
   admitted = h.admitted;
   free = h.free;
   most = h.most;
-  lists = h.lists;
-  queue = h.queue;
+  threads = h.threads;
   holds = h.holds;
   listed = λ t r e. let l = h.listed t r e in record { added = l.added; ready = l.ready; local = l.local };
   waits = h.waits;
@@ -236,6 +234,6 @@ placed_next p h = record {
   tickets = rise_more (ticket_of p.owners) 1 p.arrivals p.next h.tickets;
 }
 
-pub sound_next : (p : Plain) → IsSound p → IsSound (record p { next = p.next + 1 })
+pub sound_next : (p : Inside) → IsSound p → IsSound (record p { next = p.next + 1 })
 unfolding kernel_of
 sound_next p h = record { placed = placed_next p h.placed; local = h.local; rank = h.rank; kernel = h.kernel }

@@ -1,38 +1,35 @@
 -- What is kept stays sound where a ready thread rests: it leaves its level for another status, and waits for nothing.
-use Rattle.std.proofs.Common.{◌≡◌, ℕ, true, ◌++◌, List, [], ◌∷◌, length, set, refl, sym, ap, ◌∙◌, subst}
-use Rattle.std.proofs.lemmas.List.{map-append}
+use Rattle.std.proofs.Common.{◌≡◌, ℕ, true, ◌++◌, List, [], ◌∷◌, set, refl, sym, ap, ◌∙◌, subst}
 use Rattle.pif_nodes.specs.Lists.{without}
 use Rattle.pif_nodes.specs.Table.{Table}
 use Rattle.pif_runq.specs.Levels.{Queue, Holds, IsLevel, level_of}
 use Rattle.pif_model.specs.declared.lines.Status.{Status}
 use Rattle.pif_model.specs.declared.lines.Status.TheVariants.{Parked, Stopped}
-use Rattle.pif_model.specs.PiKernel.{Kernel, IsKernel, queued_on, has_seat, is_ready, levels_without, with_status, kernel_after_stop, kernel_after_parking}
+use Rattle.pif_model.specs.PiKernel.{Kernel, IsKernel, queued_on, has_seat, is_ready, levels_without, with_status, kernel_after_stop, kernel_after_parking, Parking}
 use Rattle.pif_model.specs.PiKernel.{seat_at as kernel_seat_at}
 use Rattle.pif_chains.proofs.KernelKept.{stop_kept}
 use Rattle.pif_chains.proofs.KernelRested.{kernel-parked}
 use Rattle.pif_chains.proofs.Statuses.{ready-queued_on_nothing}
-use Rattle.pif_kernel.specs.declared.parkings.Parking.{Parking}
-use Rattle.pif_kernel.specs.Plain.{Plain, IsSound, kernel_of, status_at, parking_of, parkings_of}
+use Rattle.pif_kernel.specs.Inside.{Inside, IsSound, kernel_of, status_at}
 use Rattle.pif_kernel.proofs.Seats.{status_seen, kernel_by_parts, seats_of-set_status}
 use Rattle.pif_kernel.proofs.Picked.{levels_left, length-left}
 use Rattle.pif_kernel.proofs.Standing.{fits}
 use Rattle.pif_kernel.proofs.MovedSound.{sound_moved}
 
 -- t has the status x then, and these threads are parked
-module _ (p : Plain) (x : Status) (ps : List Parking) (q : Queue) (tb : Table) (t : ℕ) (h : IsSound p)
+module _ (p : Inside) (x : Status) (ps : List Parking) (q : Queue) (tb : Table) (t : ℕ) (h : IsSound p)
     (added : has_seat (kernel_of p) t ≡ true)
     (ready : is_ready (kernel_seat_at (kernel_of p) t).status ≡ true) (nothing : queued_on x ≡ 0)
     (place : q ≡ record p.queue { mask = q.mask })
-    (levels : (r : ℕ) → IsLevel r → level_of q tb r ≡ without t (level_of p.queue p.table r)) (holds : Holds q tb)
-    (count : length tb.lists ≡ length p.table.lists) where
+    (levels : (r : ℕ) → IsLevel r → level_of q tb r ≡ without t (level_of p.queue p.table r)) (holds : Holds q tb) where
   -- what is kept then
-  abbrev pub after : Plain
+  abbrev pub after : Inside
   after = record p { statuses = set p.statuses t x; parked = ps; queue = q; table = tb }
 
   -- the kernel by itself then
   abbrev pub rested : Kernel
   rested = record (with_status t x (kernel_of p)) {
-    parked = parkings_of ps;
+    parked = ps;
     levels = levels_without t (kernel_of p).levels;
   }
 
@@ -50,27 +47,26 @@ module _ (p : Plain) (x : Status) (ps : List Parking) (q : Queue) (tb : Table) (
   -- what is kept is sound where that one is a kernel
   pub sound_rested : IsKernel rested → IsSound after
   sound_rested kept =
-      sound_moved p x ps q tb t h idle nothing place holds count (subst IsKernel (sym kernel_rested) kept)
+      sound_moved p x ps q tb t h idle nothing place holds (subst IsKernel (sym kernel_rested) kept)
 
-module _ (p : Plain) (q : Queue) (tb : Table) (t : ℕ) (h : IsSound p) (added : has_seat (kernel_of p) t ≡ true)
+module _ (p : Inside) (q : Queue) (tb : Table) (t : ℕ) (h : IsSound p) (added : has_seat (kernel_of p) t ≡ true)
     (ready : is_ready (kernel_seat_at (kernel_of p) t).status ≡ true)
     (place : q ≡ record p.queue { mask = q.mask })
-    (levels : (r : ℕ) → IsLevel r → level_of q tb r ≡ without t (level_of p.queue p.table r)) (holds : Holds q tb)
-    (count : length tb.lists ≡ length p.table.lists) where
+    (levels : (r : ℕ) → IsLevel r → level_of q tb r ≡ without t (level_of p.queue p.table r)) (holds : Holds q tb) where
   -- t is stopped
-  abbrev stopped : Plain
+  abbrev stopped : Inside
   stopped = record p { statuses = set p.statuses t Stopped; queue = q; table = tb }
 
   -- the kernel by itself then
   pub kernel_stopped : kernel_of stopped ≡ kernel_after_stop t (kernel_of p)
   unfolding kernel_after_stop kernel_of
-  kernel_stopped = kernel_rested p Stopped p.parked q tb t h added ready refl place levels holds count
+  kernel_stopped = kernel_rested p Stopped p.parked q tb t h added ready refl place levels holds
 
   -- and all is sound
   pub sound_stopped : IsSound stopped
   unfolding kernel_after_stop kernel_of
   sound_stopped =
-      sound_rested p Stopped p.parked q tb t h added ready refl place levels holds count
+      sound_rested p Stopped p.parked q tb t h added ready refl place levels holds
       (stop_kept t (kernel_of p) h.kernel added ready)
 
   module _ (c m : ℕ) where
@@ -79,26 +75,22 @@ module _ (p : Plain) (q : Queue) (tb : Table) (t : ℕ) (h : IsSound p) (added :
     more = p.parked ++ record { thread = t; cond = c; target = m } ∷ []
 
     -- t is parked on c with the target m
-    abbrev parked : Plain
+    abbrev parked : Inside
     parked = record p { statuses = set p.statuses t (Parked c); parked = more; queue = q; table = tb }
 
     -- as the kernel by itself has it
-    parked_is : rested p (Parked c) more q tb t h added ready refl place levels holds count
+    parked_is : rested p (Parked c) more q tb t h added ready refl place levels holds
         ≡ kernel_after_parking t c m (kernel_of p)
     unfolding kernel_after_parking kernel_of
-    parked_is =
-        ap (λ ps. record (with_status t (Parked c) (kernel_of p)) {
-          parked = ps;
-          levels = levels_without t (kernel_of p).levels;
-        }) (map-append parking_of p.parked (record { thread = t; cond = c; target = m } ∷ []))
+    parked_is = refl
 
     -- the kernel by itself then
     pub kernel_parked : kernel_of parked ≡ kernel_after_parking t c m (kernel_of p)
     kernel_parked =
-        kernel_rested p (Parked c) more q tb t h added ready refl place levels holds count ∙ parked_is
+        kernel_rested p (Parked c) more q tb t h added ready refl place levels holds ∙ parked_is
 
     -- and all is sound
     pub sound_parked : IsSound parked
     sound_parked =
-        sound_rested p (Parked c) more q tb t h added ready refl place levels holds count
+        sound_rested p (Parked c) more q tb t h added ready refl place levels holds
         (subst IsKernel (sym parked_is) (kernel-parked t c m (kernel_of p) h.kernel added ready))

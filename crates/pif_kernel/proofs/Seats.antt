@@ -11,7 +11,7 @@ use Rattle.pif_chains.proofs.Numbers.{from_within, within}
 use Rattle.pif_chains.proofs.Places.{mapped_at}
 use Rattle.pif_owners.specs.Owners.{Seat, seat_at, owner_at, no_seat, waits_on}
 use Rattle.pif_owners.specs.Owners.{waits_for as owners_wait_for}
-use Rattle.pif_kernel.specs.Plain.{Plain, IsPlaced, kernel_of, parkings_of, owner_under, seat_of, seats_of, status_at, key_at, state_at}
+use Rattle.pif_kernel.specs.Inside.{Inside, IsPlaced, kernel_of, owner_under, seat_of, seats_of, status_at, key_at, state_at}
 
 pub length-seats_of : (xs : List Status) (rows : List Seat) → length xs ≤ length rows
     → length (seats_of xs rows) ≡ length xs
@@ -30,57 +30,57 @@ seats_of-at (x ∷ xs) (r ∷ rows) (suc t) le free =
     seats_of-at xs rows t (omega arith) (λ u l. free (suc u) (omega arith))
 
 -- statuses, rows and keys fit together
-pub record IsFitted (p : Plain) : Type 0 where
+pub record IsFitted (p : Inside) : Type 0 where
   pub few : length p.statuses ≤ length p.owners.seats
   pub free : (t : ℕ) → length p.statuses ≤ t → seat_at p.owners t ≡ no_seat
   pub waits : (t : ℕ) → waits_on p.owners t ≡ key_at p (queued_on (status_at p t))
   pub owners : (m : ℕ) → state_at p m < length p.statuses
 
-pub fitted : (p : Plain) → IsPlaced p → IsFitted p
+pub fitted : (p : Inside) → IsPlaced p → IsFitted p
 fitted p h = record { few = omega (arith, h.few, h.rows); free = h.free; waits = h.waits; owners = h.owners }
 
-pub seats_length : (p : Plain) → IsFitted p → length (kernel_of p).seats ≡ length p.statuses
+pub seats_length : (p : Inside) → IsFitted p → length (kernel_of p).seats ≡ length p.statuses
 unfolding kernel_of
 seats_length p h = length-seats_of p.statuses p.owners.seats h.few
 
-pub seat_seen : (p : Plain) → IsFitted p → (t : ℕ)
+pub seat_seen : (p : Inside) → IsFitted p → (t : ℕ)
     → kernel_seat_at (kernel_of p) t ≡ seat_of (status_at p t) (seat_at p.owners t)
 unfolding kernel_of
 seat_seen p h t = seats_of-at p.statuses p.owners.seats t h.few h.free
 
-pub status_seen : (p : Plain) → IsFitted p → (t : ℕ) → (kernel_seat_at (kernel_of p) t).status ≡ status_at p t
+pub status_seen : (p : Inside) → IsFitted p → (t : ℕ) → (kernel_seat_at (kernel_of p) t).status ≡ status_at p t
 status_seen p h t = ap (λ (x : KernelSeat). x.status) (seat_seen p h t)
 
-pub base_seen : (p : Plain) → IsFitted p → (t : ℕ) → (kernel_seat_at (kernel_of p) t).base ≡ (seat_at p.owners t).base
+pub base_seen : (p : Inside) → IsFitted p → (t : ℕ) → (kernel_seat_at (kernel_of p) t).base ≡ (seat_at p.owners t).base
 base_seen p h t = ap (λ (x : KernelSeat). x.base) (seat_seen p h t)
 
-pub added_seen : (p : Plain) → IsFitted p → (t : ℕ) → has_seat (kernel_of p) t ≡ true
+pub added_seen : (p : Inside) → IsFitted p → (t : ℕ) → has_seat (kernel_of p) t ≡ true
     → (t ≢ 0) × (t < length p.statuses)
 added_seen p h t e = let w = within t (length (kernel_of p).seats) e in (w.0, omega (arith, w.1, seats_length p h))
 
-pub added_back : (p : Plain) → IsFitted p → (t : ℕ) → t ≢ 0 → t < length p.statuses → has_seat (kernel_of p) t ≡ true
+pub added_back : (p : Inside) → IsFitted p → (t : ℕ) → t ≢ 0 → t < length p.statuses → has_seat (kernel_of p) t ≡ true
 added_back p h t n l = from_within t (length (kernel_of p).seats) n (omega (arith, seats_length p h))
 
-pub states_seen : (p : Plain) (m : ℕ) → kernel_state_at (kernel_of p) m ≡ state_at p m
+pub states_seen : (p : Inside) (m : ℕ) → kernel_state_at (kernel_of p) m ≡ state_at p m
 unfolding kernel_of
 states_seen p m = mapped_at (owner_under p.owners) p.keys m None
 
-pub states_length : (p : Plain) → length (kernel_of p).states ≡ length p.keys
+pub states_length : (p : Inside) → length (kernel_of p).states ≡ length p.keys
 unfolding kernel_of
 states_length p = length-map p.keys (owner_under p.owners)
 
-pub waits_seen : (p : Plain) → IsFitted p → (u : ℕ) → waits_for (kernel_of p) u ≡ state_at p (queued_on (status_at p u))
+pub waits_seen : (p : Inside) → IsFitted p → (u : ℕ) → waits_for (kernel_of p) u ≡ state_at p (queued_on (status_at p u))
 waits_seen p h u =
     states_seen p (queued_on (kernel_seat_at (kernel_of p) u).status)
     ∙ ap (λ (x : Status). state_at p (queued_on x)) (status_seen p h u)
 
 -- a thread waits in the owner states for whom it waits in the kernel by itself
-pub owners_waits : (p : Plain) → IsFitted p → (u : ℕ) → owners_wait_for p.owners u ≡ waits_for (kernel_of p) u
+pub owners_waits : (p : Inside) → IsFitted p → (u : ℕ) → owners_wait_for p.owners u ≡ waits_for (kernel_of p) u
 owners_waits p h u =
     ap (λ (k : Option ℕ). unwrap_or (option_and_then (owner_at p.owners) k) 0) (h.waits u) ∙ sym (waits_seen p h u)
 
 -- for whom a thread waits was added
-pub waits_below : (p : Plain) → IsFitted p → (u : ℕ) → waits_for (kernel_of p) u < length (kernel_of p).seats
+pub waits_below : (p : Inside) → IsFitted p → (u : ℕ) → waits_for (kernel_of p) u < length (kernel_of p).seats
 waits_below p h u = rw (waits_seen p h u, seats_length p h) (h.owners (queued_on (status_at p u)))
 
 -- two kernels of the same parts are one
@@ -130,15 +130,15 @@ seats_of-same_base (x ∷ xs) (r ∷ rows) [] l h = absurd (omega arith)
 seats_of-same_base (x ∷ xs) (r ∷ rows) (s ∷ rows') l h =
     λ i. record { base = h 0 i; status = x } ∷ seats_of-same_base xs rows rows' (omega arith) (λ u. h (suc u)) i
 
-pub limits_seen : (p : Plain) → (kernel_of p).limits ≡ p.limits
+pub limits_seen : (p : Inside) → (kernel_of p).limits ≡ p.limits
 unfolding kernel_of
 limits_seen p = refl
 
-pub waiters_seen : (p : Plain) → (kernel_of p).waiters ≡ p.arrivals
+pub waiters_seen : (p : Inside) → (kernel_of p).waiters ≡ p.arrivals
 unfolding kernel_of
 waiters_seen p = refl
 
-pub parked_seen : (p : Plain) → (kernel_of p).parked ≡ parkings_of p.parked
+pub parked_seen : (p : Inside) → (kernel_of p).parked ≡ p.parked
 unfolding kernel_of
 parked_seen p = refl
 
@@ -153,13 +153,13 @@ seats_of-set_base (x ∷ xs) (r ∷ rows) (suc t) b le =
     ap (λ (l : List KernelSeat). seat_of x r ∷ l) (seats_of-set_base xs rows t b (omega arith))
 
 -- a thread that was added lives if it has not ended
-pub living_seen : (p : Plain) → IsFitted p → (t : ℕ) → t ≢ 0 → t < length p.statuses
+pub living_seen : (p : Inside) → IsFitted p → (t : ℕ) → t ≢ 0 → t < length p.statuses
     → is_living (kernel_of p) t ≡ (if has_ended (status_at p t) then false else true)
 living_seen p h t some l =
     rw (added_back p h t some l, status_seen p h t) refl
 
 -- so that this answers it
-pub living_by : (p : Plain) → IsFitted p → (t : ℕ) → t ≢ 0 → t < length p.statuses → (x : Status) → status_at p t ≡ x
+pub living_by : (p : Inside) → IsFitted p → (t : ℕ) → t ≢ 0 → t < length p.statuses → (x : Status) → status_at p t ≡ x
     → (b : Bool) → ((x ≡ Ended) × (b ≡ false)) ⊎ ((x ≡ Ended → ⊥) × (b ≡ true)) → b ≡ is_living (kernel_of p) t
 living_by p h t some l x is b r =
     by_status x r
@@ -179,7 +179,7 @@ living_by p h t some l x is b r =
     by_status Stopped (inl e) = let both : Stopped ≡ Ended = e.0 in absurd (cc)
 
 -- and no other does
-pub unadded_dead : (p : Plain) → IsFitted p → (t : ℕ) → length p.statuses ≤ t → is_living (kernel_of p) t ≡ false
+pub unadded_dead : (p : Inside) → IsFitted p → (t : ℕ) → length p.statuses ≤ t → is_living (kernel_of p) t ≡ false
 unadded_dead p h t le = by_zero (t == 0) past
   where
     past : nat_lt t (length (kernel_of p).seats) ≡ false
@@ -192,7 +192,7 @@ unadded_dead p h t le = by_zero (t == 0) past
     by_zero false e = rw e refl
 
 -- as many threads, and so the same
-pub same_seats : (p now : Plain) → IsFitted p → IsFitted now → length now.statuses ≡ length p.statuses → (t : ℕ)
+pub same_seats : (p now : Inside) → IsFitted p → IsFitted now → length now.statuses ≡ length p.statuses → (t : ℕ)
     → has_seat (kernel_of now) t ≡ has_seat (kernel_of p) t
 same_seats p now fit fit' many t =
     ap (λ (n : ℕ). if t == 0 then false else nat_lt t n) (seats_length now fit' ∙ many ∙ sym (seats_length p fit))

@@ -1,42 +1,42 @@
 -- What follows from the soundness of what is kept: bounds of effective priorities, and who is on which level.
-use Rattle.std.proofs.Common.{◌≡◌, ◌↔◌, ℕ, ◌+◌, ◌<◌, ◌≤◌, ◌==◌, Bool, true, false, if◌then◌else◌, nat_lt, length, Option, Some, None, IsSome, IfSome, refl, sym, ap, ◌∙◌, eqb-true, arith}
+use Rattle.std.proofs.Common.{◌≡◌, ◌↔◌, ℕ, ◌+◌, ◌-◌, ◌≤◌, ◌==◌, Bool, true, false, if◌then◌else◌, nat_lt, length, Option, Some, None, IsSome, IfSome, refl, sym, ap, ◌∙◌, eqb-true, arith}
 use Rattle.std.proofs.lemmas.Bool.{true≢false}
 use Rattle.std.proofs.lemmas.Bool.Decides.{nat_tests}
 use Rattle.pif_nodes.specs.Lists.{has}
 use Rattle.pif_nodes.specs.Table.{holder, list_at}
-use Rattle.pif_runq.specs.Levels.{Queue, IsQueued, IsLevel, level_of, list_for, node_for}
+use Rattle.pif_runq.specs.Levels.{IsQueued, IsLevel, level_of, list_for, node_for, IsLevelList}
 use Rattle.pif_runq.proofs.LevelLemmas.{has-threads}
 use Rattle.pif_model.specs.PiKernel.{IsKernel, effective_in, is_among, is_living, is_ready, has_seat, level_at}
 use Rattle.pif_model.specs.PiKernel.{seat_at as kernel_seat_at}
 use Rattle.pif_owners.specs.Owners.{seat_at}
 use Rattle.pif_chains.proofs.KernelFacts.{living-added}
 use Rattle.pif_chains.proofs.KernelSettled.{effective_range}
-use Rattle.pif_kernel.specs.Plain.{Plain, IsListed, IsSound, kernel_of}
+use Rattle.pif_kernel.specs.Inside.{Inside, IsListed, IsSound, kernel_of}
 use Rattle.pif_kernel.proofs.Seats.{IsFitted, fitted, seats_length, status_seen}
 use Rattle.pif_kernel.proofs.Picked.{levels_seen, level_seen, among_has}
 
 -- statuses, rows and keys of what is sound fit together
-pub fits : (p : Plain) → IsSound p → IsFitted p
+pub fits : (p : Inside) → IsSound p → IsFitted p
 fits p h = fitted p h.placed
 
 -- the effective priority of a thread that was added is a level
-pub effective_level : (p : Plain) → IsSound p → (t : ℕ) → has_seat (kernel_of p) t ≡ true
+pub effective_level : (p : Inside) → IsSound p → (t : ℕ) → has_seat (kernel_of p) t ≡ true
     → IsLevel (effective_in (kernel_of p) t)
 effective_level p h t known = effective_range (kernel_of p) h.kernel.shape t known
 
 -- a level of the run queue, as the kernel by itself has it
-pub level_same : (p : Plain) (r : ℕ) → IsLevel r → level_at (kernel_of p).levels r ≡ level_of p.queue p.table r
+pub level_same : (p : Inside) (r : ℕ) → IsLevel r → level_at (kernel_of p).levels r ≡ level_of p.queue p.table r
 level_same p r l = levels_seen p r ∙ level_seen p.queue p.table r l
 
 -- a ready thread is on the level of its effective priority
-ready_among : (p : Plain) → IsSound p → (t : ℕ) → has_seat (kernel_of p) t ≡ true
+ready_among : (p : Inside) → IsSound p → (t : ℕ) → has_seat (kernel_of p) t ≡ true
     → is_ready (kernel_seat_at (kernel_of p) t).status ≡ true
     → is_among (level_at (kernel_of p).levels (effective_in (kernel_of p) t)) t ≡ true
 ready_among p h t known ready =
     let same : (effective_in (kernel_of p) t == effective_in (kernel_of p) t) ≡ true = grind (arith, nat_tests) in
     h.kernel.level t (effective_in (kernel_of p) t) ∙ rw (known, ready, same) refl
 
-pub ready_queued : (p : Plain) → IsSound p → (t : ℕ) → has_seat (kernel_of p) t ≡ true
+pub ready_queued : (p : Inside) → IsSound p → (t : ℕ) → has_seat (kernel_of p) t ≡ true
     → is_ready (kernel_seat_at (kernel_of p) t).status ≡ true
     → IsQueued p.queue p.table t
 ready_queued p h t known ready =
@@ -50,30 +50,30 @@ ready_queued p h t known ready =
     )
 
 -- a thread that is on no level has a node that is in no list
-pub unqueued_free : (p : Plain) → IsSound p → (t : ℕ) → 1 ≤ t
+pub unqueued_free : (p : Inside) → IsSound p → (t : ℕ) → 1 ≤ t → t ≤ p.limits.threads
     → ((r : ℕ) → is_among (level_at (kernel_of p).levels r) t ≡ false)
     → holder p.table (node_for p.queue t) ≡ None
-unqueued_free p h t some none = by_holder (holder p.table (node_for p.queue t)) refl
+unqueued_free p h t some few none = by_holder (holder p.table (node_for p.queue t)) refl
   where
     by_holder : (o : Option ℕ) → holder p.table (node_for p.queue t) ≡ o → holder p.table (node_for p.queue t) ≡ None
     by_holder None e = e
     by_holder (Some l) e =
-        let below : l < length p.table.lists = h.placed.holds.apart.lists l (node_for p.queue t) e in
-        let first : p.queue.first_list ≡ 0 = ap (λ (q : Queue). q.first_list) h.placed.queue in
-        let start : p.queue.first_node ≡ 0 = ap (λ (q : Queue). q.first_node) h.placed.queue in
-        let level : IsLevel (l + 1) = (omega arith, omega (arith, h.placed.lists)) in
-        let list : list_for p.queue (l + 1) ≡ l = omega (arith, first) in
-        let listed : has (node_for p.queue t) (list_at p.table (list_for p.queue (l + 1))) ≡ true
+        let stands : IsLevelList p.queue l =
+        h.placed.holds.alone (node_for p.queue t) l (omega arith, omega (arith, some, few, h.placed.threads)) e in
+        let r : ℕ = l - p.queue.first_list + 1 in
+        let level : IsLevel r = (omega arith, omega (arith, stands.0, stands.1)) in
+        let list : list_for p.queue r ≡ l = omega (arith, stands.0) in
+        let listed : has (node_for p.queue t) (list_at p.table (list_for p.queue r)) ≡ true
         = ap (λ (x : ℕ). has (node_for p.queue t) (list_at p.table x)) list
         ∙ h.placed.holds.apart.listed l (node_for p.queue t) e in
-        let on : has t (level_of p.queue p.table (l + 1)) ≡ true
-        = has-threads p.queue t (list_at p.table (list_for p.queue (l + 1))) some (λ n x. omega (arith, start))
-        ∙ listed in
-        absurd (true≢false (sym on ∙ ap (has t) (sym (level_same p (l + 1) level))
-        ∙ sym (among_has (level_at (kernel_of p).levels (l + 1)) t) ∙ none (l + 1)))
+        let on : has t (level_of p.queue p.table r) ≡ true
+        = has-threads p.queue t (list_at p.table (list_for p.queue r)) some
+        (λ n x. (h.placed.holds.threads r n level x).0) ∙ listed in
+        absurd (true≢false (sym on ∙ ap (has t) (sym (level_same p r level))
+        ∙ sym (among_has (level_at (kernel_of p).levels r) t) ∙ none r))
 
 -- what `effective` answers of a thread that lives, by its row
-pub effective_answer : (p : Plain) → IsSound p → (t : ℕ) (r : Option ℕ) → is_living (kernel_of p) t ≡ true
+pub effective_answer : (p : Inside) → IsSound p → (t : ℕ) (r : Option ℕ) → is_living (kernel_of p) t ≡ true
     → (IsSome r ↔ (1 ≤ (seat_at p.owners t).local)) → IfSome r (λ x. x ≡ (seat_at p.owners t).local)
     → r ≡ (if is_living (kernel_of p) t then Some (effective_in (kernel_of p) t) else None)
 effective_answer p h t None lives given value =
@@ -82,7 +82,7 @@ effective_answer p h t None lives given value =
 effective_answer p h t (Some x) lives given value = rw lives (ap Some (value ∙ h.local t))
 
 -- who was never added is on no level
-pub unadded_off : (p : Plain) → IsSound p → (t : ℕ) → length p.statuses ≤ t → (r : ℕ)
+pub unadded_off : (p : Inside) → IsSound p → (t : ℕ) → length p.statuses ≤ t → (r : ℕ)
     → is_among (level_at (kernel_of p).levels r) t ≡ false
 unadded_off p h t le r =
     let past : nat_lt t (length (kernel_of p).seats) ≡ false = grind (arith, nat_tests, seats_length p (fits p h)) in
@@ -96,7 +96,7 @@ unadded_off p h t le r =
     by_zero false past = rw past refl
 
 -- where threads stand with their effective priorities, who is on a level stands on its own
-pub listed_kept : (p : Plain) → IsFitted p → IsKernel (kernel_of p)
+pub listed_kept : (p : Inside) → IsFitted p → IsKernel (kernel_of p)
     → ((t : ℕ) → (seat_at p.owners t).local ≡ effective_in (kernel_of p) t)
     → (t r : ℕ) → is_among (level_at (kernel_of p).levels r) t ≡ true → IsListed p t r
 listed_kept p fit k local t r e =

@@ -16,7 +16,7 @@ use Rattle.pif_chains.proofs.KernelWoken.{added-from_parked, woken_length, woken
 use Rattle.pif_chains.proofs.KernelTaken.{FitsState, owned, requeued, woken_again, woken_living, taking_fits}
 use Rattle.pif_chains.proofs.KernelRequeued.{taking-parked, taking-has_word}
 use Rattle.pif_chains.proofs.KernelAllTaken.{parked-few}
-use Rattle.pif_kernel.specs.Plain.{Plain, IsSound, kernel_of, state_at}
+use Rattle.pif_kernel.specs.Inside.{Inside, IsSound, kernel_of, state_at}
 use Rattle.pif_kernel.specs.Systems.{system_of}
 use Rattle.pif_kernel.specs.Takings.{FitsWord}
 use Rattle.pif_kernel.proofs.Seats.{states_seen, seats_length}
@@ -51,7 +51,7 @@ module _ (u m : ℕ) (x : System) where
 
 -- THE THREAD IS READY BEFORE IT IS QUEUED
 
-module _ (s : WordMap) (p : Plain) (h : IsSound p) (u c m : ℕ)
+module _ (s : WordMap) (p : Inside) (h : IsSound p) (u c m : ℕ)
     (was : (kernel_seat_at (kernel_of p) u).status ≡ Parked c) where
   -- the kernel by itself before
   abbrev k : Kernel
@@ -60,7 +60,7 @@ module _ (s : WordMap) (p : Plain) (h : IsSound p) (u c m : ℕ)
   added : has_seat k u ≡ true
   added = added-from_parked (kernel_of p) h.kernel u c was
 
-  module _ (w : Plain) (e : kernel_of w ≡ kernel_after_waking u WokenAgain (kernel_of p)) where
+  module _ (w : Inside) (e : kernel_of w ≡ kernel_after_waking u WokenAgain (kernel_of p)) where
     -- it was added
     pub again_added : has_seat (kernel_of w) u ≡ true
     again_added = ap (λ (y : Kernel). has_seat y u) e ∙ woken_has u WokenAgain k u ∙ added
@@ -101,7 +101,7 @@ module _ (s : WordMap) (p : Plain) (h : IsSound p) (u c m : ℕ)
   -- WHAT IS KNOWN WHILE THREADS ARE TAKEN
 
   -- the mutex still has a word
-  pub taken_cell : (s' : WordMap) (p' : Plain) → HasCell s (Mutex m)
+  pub taken_cell : (s' : WordMap) (p' : Inside) → HasCell s (Mutex m)
       → system_of s' p' ≡ after_taking u m (system_of s p) → HasCell s' (Mutex m)
   taken_cell s' p' l e =
       cell_of_word s' m
@@ -111,7 +111,7 @@ module _ (s : WordMap) (p : Plain) (h : IsSound p) (u c m : ℕ)
       is_there y = if m == 0 then false else nat_lt m (length y.words.mutexes)
 
   -- and it still fits to the owner state
-  pub taken_fits : (s' : WordMap) (p' : Plain) → m ≢ 0 → m < 1025 → FitsWord m (system_of s p)
+  pub taken_fits : (s' : WordMap) (p' : Inside) → m ≢ 0 → m < 1025 → FitsWord m (system_of s p)
       → system_of s' p' ≡ after_taking u m (system_of s p) → FitsWord m (system_of s' p')
   taken_fits s' p' some few f e =
       let g : FitsState m (after_taking u m (system_of s p))
@@ -192,7 +192,7 @@ count_most (x ∷ ps) c =
     (λ y. omega (arith, count_most ps c)) (λ y. omega (arith, count_most ps c))
 
 -- there are not more than there can be threads
-pub count_few : (p : Plain) → IsSound p → (c : ℕ) → parked_count (kernel_of p) c ≤ 1025
+pub count_few : (p : Inside) → IsSound p → (c : ℕ) → parked_count (kernel_of p) c ≤ 1025
 count_few p h c =
     omega (
       arith,

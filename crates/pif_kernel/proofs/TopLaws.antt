@@ -13,7 +13,7 @@ use Rattle.pif_chains.proofs.Among.{is_among_cons, is_among_here, is_among_there
 use Rattle.pif_chains.proofs.Among.{is_among as is_waiter}
 use Rattle.pif_chains.proofs.Next.{next_is_next}
 use Rattle.pif_chains.proofs.Waiting.{names, named-from_pair}
-use Rattle.pif_kernel.specs.Plain.{Plain, IsSound, Rise, kernel_of, status_at, key_at, ticket_of}
+use Rattle.pif_kernel.specs.Inside.{Inside, IsSound, Rise, kernel_of, status_at, key_at, ticket_of}
 use Rattle.pif_kernel.proofs.Seats.{status_seen, waiters_seen}
 use Rattle.pif_kernel.proofs.Standing.{fits}
 use Rattle.pif_kernel.proofs.QueueLaws.{rise_above}
@@ -47,7 +47,7 @@ waiter_middle [] ys x m = is_among_here (x, m) ys x m refl refl
 waiter_middle (w ∷ xs) ys x m = is_among_there w (xs ++ (x, m) ∷ ys) x m (waiter_middle xs ys x m)
 
 -- who waits under the key of m is queued on m
-pub waits_under : (p : Plain) → IsSound p → (u m key : ℕ) → key_at p m ≡ Some key → waits_on p.owners u ≡ Some key
+pub waits_under : (p : Inside) → IsSound p → (u m key : ℕ) → key_at p m ≡ Some key → waits_on p.owners u ≡ Some key
     → is_waiter p.arrivals u m ≡ true
 waits_under p h u m key at waits =
     subst (λ (ws : List (ℕ × ℕ)). is_waiter ws u m ≡ true) (waiters_seen p)
@@ -67,7 +67,7 @@ waits_under p h u m key at waits =
     by_status Ended e = absurd (nobody (sym on ∙ ap queued_on e))
 
 -- who is queued on m waits under its key
-pub under_waits : (p : Plain) → IsSound p → (u m key : ℕ) → key_at p m ≡ Some key → is_waiter p.arrivals u m ≡ true
+pub under_waits : (p : Inside) → IsSound p → (u m key : ℕ) → key_at p m ≡ Some key → is_waiter p.arrivals u m ≡ true
     → waits_on p.owners u ≡ Some key
 under_waits p h u m key at e =
     let status : status_at p u ≡ Queued m
@@ -81,7 +81,7 @@ priority_below a b e = grind (arith, nat_tests)
 ticket_below : (a b : Key) → comes_before a b ≡ false → a.prio ≡ b.prio → b.ticket ≤ a.ticket
 ticket_below a b e same = grind (arith, nat_tests)
 
-top_by : (p : Plain) → IsSound p → (m key u x : ℕ) → key_at p m ≡ Some key → (top : IsTop p.owners key u)
+top_by : (p : Inside) → IsSound p → (m key u x : ℕ) → key_at p m ≡ Some key → (top : IsTop p.owners key u)
     → IsNextWaiter (effective_in (kernel_of p)) p.arrivals m x → u ≡ x
 top_by p h m key u x at top next =
     by_place (waiter_split next.earlier ((x, m) ∷ next.later) u m
@@ -122,7 +122,7 @@ top_by p h m key u x at top next =
             = ap (λ (o : Option Key). unwrap_or (option_map (λ (k : Key). k.ticket) o) 0) top.ranked in
             absurd (omega (arith, ticket_below r.0 top.rank (top.first x r.0 waits r.1) even, late, tx, tu))
 
-pub top_is_next : (p : Plain) → IsSound p → (m key u : ℕ) → key_at p m ≡ Some key → IsTop p.owners key u
+pub top_is_next : (p : Inside) → IsSound p → (m key u : ℕ) → key_at p m ≡ Some key → IsTop p.owners key u
     → u ≡ next_in (kernel_of p) m
 top_is_next p h m key u at top =
     let ws : (kernel_of p).waiters ≡ p.arrivals = waiters_seen p in
@@ -131,7 +131,7 @@ top_is_next p h m key u at top =
     ∙ ap (λ (l : List (ℕ × ℕ)). next_waiter (effective_in (kernel_of p)) l m) (sym ws)
 
 -- a mutex that has a key has a waiter
-pub some_waiter : (p : Plain) → IsSound p → (m key : ℕ) → key_at p m ≡ Some key
+pub some_waiter : (p : Inside) → IsSound p → (m key : ℕ) → key_at p m ≡ Some key
     → (u : ℕ) × (waits_on p.owners u ≡ Some key)
 some_waiter p h m key at =
     by_next (next_is_next (effective_in (kernel_of p)) p.arrivals m (has_waiter-key p h m (h.placed.owned m key at)))

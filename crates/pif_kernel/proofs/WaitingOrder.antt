@@ -2,11 +2,10 @@
 use Rattle.std.proofs.Common.{◌≡◌, ℕ, zero, suc, ◌+◌, ◌-◌, ◌<◌, ◌==◌, List, [], ◌∷◌, ◌++◌, length, map, filter, Some, refl, sym, ap, ◌∙◌, arith}
 use Rattle.std.specs.List.{slice_get}
 use Rattle.pif_model.specs.Graph.{by_greatest}
-use Rattle.pif_model.specs.PiKernel.{level_at, levels_below, parked_pairs}
+use Rattle.pif_model.specs.PiKernel.{level_at, levels_below, parked_pairs, Parking}
 use Rattle.pif_runq.specs.Levels.{all_below}
 use Rattle.pif_runq.proofs.Places.{slice_get-front, slice_get-behind, all_below-none, all_below-more}
-use Rattle.pif_kernel.specs.declared.parkings.Parking.{Parking}
-use Rattle.pif_kernel.specs.Plain.{Plain, kernel_of, parkings_of}
+use Rattle.pif_kernel.specs.Inside.{Inside, kernel_of}
 use Rattle.pif_kernel.proofs.Picked.{levels_seen}
 use Rattle.pif_kernel.proofs.Seats.{waiters_seen, parked_seen}
 use Rattle.pif_kernel.proofs.Standing.{level_same}
@@ -44,19 +43,14 @@ same_pairs [] = refl
 same_pairs (w ∷ ws) = ap (λ (vs : List (ℕ × ℕ)). w ∷ vs) (same_pairs ws)
 
 -- the waiters of the kernel by itself, by those that are gone through
-pub waiters_gone_through : (p : Plain) (ws : List (ℕ × ℕ)) → ws ≡ p.arrivals
+pub waiters_gone_through : (p : Inside) (ws : List (ℕ × ℕ)) → ws ≡ p.arrivals
     → map (λ w. w) ws ≡ (kernel_of p).waiters
 waiters_gone_through p ws e = same_pairs ws ∙ e ∙ sym (waiters_seen p)
 
--- the pairs of some parked threads
-pairs_of_parked : (ps : List Parking) → map (λ (x : Parking). (x.thread, x.cond)) ps ≡ parked_pairs (parkings_of ps)
-pairs_of_parked [] = refl
-pairs_of_parked (x ∷ ps) = ap (λ (ws : List (ℕ × ℕ)). (x.thread, x.cond) ∷ ws) (pairs_of_parked ps)
-
 -- the parked threads of the kernel by itself, by those that are gone through
-pub parked_gone_through : (p : Plain) (ps : List Parking) → ps ≡ p.parked
+pub parked_gone_through : (p : Inside) (ps : List Parking) → ps ≡ p.parked
     → map (λ (x : Parking). (x.thread, x.cond)) ps ≡ parked_pairs (kernel_of p).parked
-parked_gone_through p ps e = pairs_of_parked ps ∙ ap (λ (xs : List Parking). parked_pairs (parkings_of xs)) e ∙ ap parked_pairs (sym (parked_seen p))
+parked_gone_through p ps e = ap parked_pairs (e ∙ sym (parked_seen p))
 
 -- a level, and those below it
 levels_below-more : (levels : List (List ℕ)) (n : ℕ) → levels_below levels (suc n) ≡ level_at levels n ++ levels_below levels n
@@ -69,7 +63,7 @@ unfolding levels_below
 levels_below-none levels = refl
 
 -- the ready threads, by the run queue
-pub all_below-seen : (p : Plain) (n : ℕ) → n < 100
+pub all_below-seen : (p : Inside) (n : ℕ) → n < 100
     → all_below p.queue p.table (suc n) ≡ levels_below (kernel_of p).levels (suc n)
 all_below-seen p zero l =
     all_below-none p.queue p.table

@@ -7,13 +7,12 @@ use Rattle.pif_runq.specs.Levels.{level_after_add}
 use Rattle.pif_model.specs.declared.lines.Status.{Status}
 use Rattle.pif_model.specs.declared.lines.Status.TheVariants.{Ready, Queued, Parked, Stopped, Ended}
 use Rattle.pif_model.specs.declared.lines.Woken.{Woken}
-use Rattle.pif_model.specs.PiKernel.{IsKernel, queued_on, has_seat, is_ready, is_parked, level_at, effective_in, levels_with, kernel_after_waking}
+use Rattle.pif_model.specs.PiKernel.{IsKernel, queued_on, has_seat, is_ready, is_parked, level_at, effective_in, levels_with, kernel_after_waking, unparked}
 use Rattle.pif_model.specs.PiKernel.{seat_at as kernel_seat_at}
 use Rattle.pif_owners.specs.Owners.{seat_at}
 use Rattle.pif_chains.proofs.KernelWoken.{added-from_parked, kernel-roused}
-use Rattle.pif_kernel.specs.Plain.{Plain, IsSound, kernel_of, status_at, parked_but}
+use Rattle.pif_kernel.specs.Inside.{Inside, IsSound, kernel_of, status_at}
 use Rattle.pif_kernel.proofs.Seats.{status_seen, added_seen, kernel_by_parts, seats_of-set_status}
-use Rattle.pif_kernel.proofs.Parked.{parked_but-seen}
 use Rattle.pif_kernel.proofs.Picked.{levels_joined, length-joined}
 use Rattle.pif_kernel.proofs.Standing.{fits, effective_level, unqueued_free}
 use Rattle.pif_kernel.proofs.MovedSound.{sound_moved}
@@ -27,13 +26,13 @@ parked_somewhere Stopped e = absurd (true≢false (sym e))
 parked_somewhere Ended e = absurd (true≢false (sym e))
 
 -- and was added
-pub parked_added : (p : Plain) (u : ℕ) → IsSound p → is_parked (kernel_seat_at (kernel_of p) u).status ≡ true
+pub parked_added : (p : Inside) (u : ℕ) → IsSound p → is_parked (kernel_seat_at (kernel_of p) u).status ≡ true
     → has_seat (kernel_of p) u ≡ true
 parked_added p u h e =
     let d = parked_somewhere (kernel_seat_at (kernel_of p) u).status e in
     added-from_parked (kernel_of p) h.kernel u d.0 d.1
 
-module _ (p : Plain) (u : ℕ) (h : IsSound p) (added : has_seat (kernel_of p) u ≡ true)
+module _ (p : Inside) (u : ℕ) (h : IsSound p) (added : has_seat (kernel_of p) u ≡ true)
     (unready : is_ready (kernel_seat_at (kernel_of p) u).status ≡ false)
     (unqueued : queued_on (kernel_seat_at (kernel_of p) u).status ≡ 0) where
   -- it has a number, and stands within
@@ -46,7 +45,7 @@ module _ (p : Plain) (u : ℕ) (h : IsSound p) (added : has_seat (kernel_of p) u
 
   -- it is on no level
   pub rests_free : holder p.table (node_for p.queue u) ≡ None
-  rests_free = unqueued_free p h u (omega (arith, some u rests_within.0))
+  rests_free = unqueued_free p h u (omega (arith, some u rests_within.0)) (omega (arith, rests_within.1, h.placed.few))
       (λ r. h.kernel.level u r ∙ rw unready (both_false (has_seat (kernel_of p) u)))
     where
       some : (n : ℕ) → n ≢ 0 → 1 ≤ n
@@ -59,14 +58,14 @@ module _ (p : Plain) (u : ℕ) (h : IsSound p) (added : has_seat (kernel_of p) u
   module _ (w : Woken) (prio : ℕ) (rank_is : prio ≡ effective_in (kernel_of p) u) (q : Queue) (tb : Table)
       (place : q ≡ record p.queue { mask = q.mask })
       (levels : (r : ℕ) → IsLevel r → level_of q tb r ≡ level_after_add u prio r (level_of p.queue p.table r))
-      (holds : Holds q tb) (count : length tb.lists ≡ length p.table.lists) where
+      (holds : Holds q tb) where
     -- what is kept then
-    abbrev pub after : Plain
+    abbrev pub after : Inside
     after = record p {
       statuses = set p.statuses u (Ready w);
       queue = q;
       table = tb;
-      parked = parked_but p.parked u;
+      parked = unparked p.parked u;
     }
 
     -- the kernel by itself then
@@ -75,7 +74,7 @@ module _ (p : Plain) (u : ℕ) (h : IsSound p) (added : has_seat (kernel_of p) u
     kernel_woken =
         kernel_by_parts (kernel_of after) (kernel_after_waking u w (kernel_of p)) refl
         (seats_of-set_status p.statuses p.owners.seats u (Ready w) (fits p h).few) refl (λ m. refl) refl
-        (parked_but-seen p.parked u) (length-joined p after u (effective_in (kernel_of p) u))
+        refl (length-joined p after u (effective_in (kernel_of p) u))
         (λ r. levels_joined p after u prio level levels r
         ∙ ap (λ (n : ℕ). level_at (levels_with u n (kernel_of p).levels) r) rank_is)
       where
@@ -91,26 +90,25 @@ module _ (p : Plain) (u : ℕ) (h : IsSound p) (added : has_seat (kernel_of p) u
     -- and all is sound
     pub sound_woken : IsSound after
     sound_woken =
-        sound_moved p (Ready w) (parked_but p.parked u) q tb u h idle refl place holds count kept
+        sound_moved p (Ready w) (unparked p.parked u) q tb u h idle refl place holds kept
 
 -- the same, as it is written
-pub woken_ends : (p x : Plain) (u : ℕ) → IsSound p → has_seat (kernel_of p) u ≡ true
+pub woken_ends : (p x : Inside) (u : ℕ) → IsSound p → has_seat (kernel_of p) u ≡ true
     → is_ready (kernel_seat_at (kernel_of p) u).status ≡ false
-    → queued_on (kernel_seat_at (kernel_of p) u).status ≡ 0 → (w : Woken) (prio : ℕ) (q : Queue) (tb : Table) → x ≡ record p { parked = parked_but p.parked u }
+    → queued_on (kernel_seat_at (kernel_of p) u).status ≡ 0 → (w : Woken) (prio : ℕ) (q : Queue) (tb : Table)
+    → x ≡ record p { parked = unparked p.parked u }
     → prio ≡ (seat_at x.owners u).local → q ≡ record x.queue { mask = q.mask }
     → ((r : ℕ) → IsLevel r → level_of q tb r ≡ level_after_add u prio r (level_of x.queue x.table r)) → Holds q tb
-    → length tb.lists ≡ length x.table.lists
     → (kernel_of (record x { statuses = set x.statuses u (Ready w); queue = q; table = tb })
     ≡ kernel_after_waking u w (kernel_of p))
     × IsSound (record x { statuses = set x.statuses u (Ready w); queue = q; table = tb })
 woken_ends p x u h added unready unqueued w prio q tb e =
-    subst (λ (y : Plain). prio ≡ (seat_at y.owners u).local → q ≡ record y.queue { mask = q.mask }
+    subst (λ (y : Inside). prio ≡ (seat_at y.owners u).local → q ≡ record y.queue { mask = q.mask }
     → ((r : ℕ) → IsLevel r → level_of q tb r ≡ level_after_add u prio r (level_of y.queue y.table r)) → Holds q tb
-    → length tb.lists ≡ length y.table.lists
     → (kernel_of (record y { statuses = set y.statuses u (Ready w); queue = q; table = tb })
     ≡ kernel_after_waking u w (kernel_of p))
     × IsSound (record y { statuses = set y.statuses u (Ready w); queue = q; table = tb })) (sym e)
-    (λ rank place levels holds count. (
-      kernel_woken p u h added unready unqueued w prio (rank ∙ h.local u) q tb place levels holds count,
-      sound_woken p u h added unready unqueued w prio (rank ∙ h.local u) q tb place levels holds count,
+    (λ rank place levels holds. (
+      kernel_woken p u h added unready unqueued w prio (rank ∙ h.local u) q tb place levels holds,
+      sound_woken p u h added unready unqueued w prio (rank ∙ h.local u) q tb place levels holds,
     ))

@@ -19,7 +19,7 @@ use Rattle.pif_chains.proofs.Numbers.{within}
 use Rattle.pif_chains.proofs.Statuses.{ready-queued_on_nothing}
 use Rattle.pif_chains.proofs.Greatest.{effective_most, effective_wider, effective_same}
 use Rattle.pif_chains.proofs.KernelLevels.{length-levels_by}
-use Rattle.pif_kernel.specs.Plain.{Plain, IsPlaced, IsSound, Rise, kernel_of, key_at, state_at, ticket_of, IsListed, status_at}
+use Rattle.pif_kernel.specs.Inside.{Inside, IsPlaced, IsSound, Rise, kernel_of, key_at, state_at, ticket_of, IsListed, status_at}
 use Rattle.pif_kernel.proofs.Seats.{IsFitted, fitted, seats_length, base_seen, owners_waits, waits_below, kernel_by_parts, added_seen, states_seen, states_length, seats_of-same_base}
 use Rattle.pif_kernel.proofs.Picked.{levels_seen, levels_count, among_has}
 use Rattle.pif_kernel.proofs.Standing.{listed_kept, level_same}
@@ -43,7 +43,7 @@ wait_prio n (Some w) r e =
     let same : record { prio = n; ticket = w.rank.ticket } ≡ r = cc in sym (ap (λ (k : Key). k.prio) same)
 
 -- the owner states and the kernel by itself have the same effective priorities
-pub owners_effective : (p : Plain) → IsFitted p → (u : ℕ) → greatest_base p.owners u ≡ effective_in (kernel_of p) u
+pub owners_effective : (p : Inside) → IsFitted p → (u : ℕ) → greatest_base p.owners u ≡ effective_in (kernel_of p) u
 owners_effective p fit u =
     effective_same _ _ _ _ _ _ u refl (λ x. owners_waits p fit x) (λ x. sym (base_seen p fit x))
     ∙ effective_wider (length (kernel_of p).seats) (length p.owners.seats) (waits_for (kernel_of p))
@@ -51,11 +51,10 @@ owners_effective p fit u =
     (omega (arith, fit.few, seats_length p fit)) (λ x some. waits_below p fit x)
     (λ x le. base_seen p fit x ∙ ap (λ (s : Seat). s.base) (fit.free x (omega (arith, le, seats_length p fit))))
 
-module _ (p : Plain) (h : IsPlaced p) (now : Owners) (q : Queue) (tb : Table) (repaired : IsRepaired p.owners now)
+module _ (p : Inside) (h : IsPlaced p) (now : Owners) (q : Queue) (tb : Table) (repaired : IsRepaired p.owners now)
     (walks : (r : ℕ) → IsLevel r → level_of q tb r ≡ level_after_walk p.owners p.queue p.table r)
-    (place : q ≡ record p.queue { mask = q.mask }) (holds : Holds q tb)
-    (lists : length tb.lists ≡ length p.table.lists) where
-  abbrev pub after : Plain
+    (place : q ≡ record p.queue { mask = q.mask }) (holds : Holds q tb) where
+  abbrev pub after : Inside
   after = record p { owners = now; queue = q; table = tb }
 
   fit : IsFitted p
@@ -177,8 +176,7 @@ module _ (p : Plain) (h : IsPlaced p) (now : Owners) (q : Queue) (tb : Table) (r
     admitted = λ t n l. omega (arith, base_now t, h.admitted t n l);
     free = fit_after.free;
     most = λ t. omega (arith, base_now t, h.most t);
-    lists = lists ∙ h.lists;
-    queue = place ∙ rw h.queue refl;
+    threads = ap (λ (x : Queue). x.threads) place ∙ h.threads;
     holds = holds;
     listed = listed_kept after fit_after kept local_after;
     waits = fit_after.waits;
@@ -203,14 +201,14 @@ module _ (p : Plain) (h : IsPlaced p) (now : Owners) (q : Queue) (tb : Table) (r
       kept = subst IsKernel (sym kernel_after) settles
 
 -- what is kept before a walk from this thread, where the kernel by itself settles to this one
-pub record IsWalkable (p : Plain) (start : ℕ) (k : Kernel) : Type 0 where
+pub record IsWalkable (p : Inside) (start : ℕ) (k : Kernel) : Type 0 where
   pub placed : IsPlaced p
   pub admitted : 1 ≤ base_of p.owners start
   pub repaired : IsRepairedBut start p.owners
   pub after : with_effective_levels (kernel_of p) ≡ k
   pub kept : IsKernel k
 
-module _ (p : Plain) (start : ℕ) (k : Kernel) (w : IsWalkable p start k) where
+module _ (p : Inside) (start : ℕ) (k : Kernel) (w : IsWalkable p start k) where
   -- who is on a level stands on its own
   listed : (u r : ℕ) → IsLevel r → has u (level_of p.queue p.table r) ≡ true → IsListed p u r
   listed u r l on =
@@ -234,10 +232,10 @@ module _ (p : Plain) (start : ℕ) (k : Kernel) (w : IsWalkable p start k) where
   -- what is kept after the walk
   pub ended : (now : Owners) (q : Queue) (tb : Table) → IsRepaired p.owners now
       → ((r : ℕ) → IsLevel r → level_of q tb r ≡ level_after_walk p.owners p.queue p.table r)
-      → q ≡ record p.queue { mask = q.mask } → Holds q tb → length tb.lists ≡ length p.table.lists
+      → q ≡ record p.queue { mask = q.mask } → Holds q tb
       → (kernel_of (record p { owners = now; queue = q; table = tb }) ≡ k) × IsSound
       (record p { owners = now; queue = q; table = tb })
-  ended now q tb repaired walks place holds lists = (
-    kernel_after p w.placed now q tb repaired walks place holds lists ∙ w.after,
-    sound_after p w.placed now q tb repaired walks place holds lists (subst IsKernel (sym w.after) w.kept),
+  ended now q tb repaired walks place holds = (
+    kernel_after p w.placed now q tb repaired walks place holds ∙ w.after,
+    sound_after p w.placed now q tb repaired walks place holds (subst IsKernel (sym w.after) w.kept),
   )

@@ -9,8 +9,8 @@ use Rattle.pif_nodes.specs.declared.keys.Key.{Key}
 use Rattle.pif_nodes.specs.Table.{Table}
 use Rattle.pif_runq.specs.Levels.{Queue}
 use Rattle.pif_owners.specs.Owners.{Owners, owners_code, rank_code}
-use Rattle.pif_kernel.specs.declared.parkings.Parking.{Parking}
-use Rattle.pif_kernel.specs.Plain.{Plain}
+use Rattle.pif_model.specs.PiKernel.{Parking}
+use Rattle.pif_kernel.specs.Inside.{Inside}
 
 abbrev pub bounds_code : Coded Bounds
 bounds_code =
@@ -70,8 +70,8 @@ parking_code =
 abbrev Sides : Type 0
 Sides = List Status × (List (Option ℕ) × (List (ℕ × ℕ) × List Parking))
 
-abbrev pub plain_code : Coded Plain
-plain_code =
+abbrev pub inside_code : Coded Inside
+inside_code =
     code_by (Bounds × (Sides × (Owners × (Queue × (Table × ℕ)))))
     (coded× bounds_code (coded× (coded× (coded_list status_code)
     (coded× (coded_list (coded_option coded_ℕ))

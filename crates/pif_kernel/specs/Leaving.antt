@@ -3,20 +3,20 @@ use Rattle.std.specs.Prelude.{◌≡◌, ◌≢◌, ℕ, ◌<◌, true, if◌the
 use Rattle.pif_nodes.specs.Lists.{without as list_without}
 use Rattle.pif_runq.specs.Levels.{Holds, IsLevel, level_of}
 use Rattle.pif_model.specs.Graph.{has_waiter, without}
-use Rattle.pif_model.specs.PiKernel.{waits_for}
+use Rattle.pif_model.specs.PiKernel.{waits_for, unparked}
 use Rattle.pif_owners.specs.Owners.{seat_at, owner_at, count}
-use Rattle.pif_kernel.specs.Plain.{Plain, kernel_of, key_at, mutexes_of, parked_but}
+use Rattle.pif_kernel.specs.Inside.{Inside, kernel_of, key_at, mutexes_of}
 
 -- t has left: it waits for nothing, is not parked, and is on no level, and an owner state stays exactly where others
 -- are queued. Nobody but `start` had it as a waiter
-pub record IsLeft (old now : Plain) (t start : ℕ) : Type 0 where
+pub record IsLeft (old now : Inside) (t start : ℕ) : Type 0 where
   pub frame : now ≡ record old {
     keys = now.keys;
     owners = now.owners;
     queue = now.queue;
     table = now.table;
     arrivals = without old.arrivals t;
-    parked = parked_but old.parked t;
+    parked = unparked old.parked t;
   }
   pub rows : length now.owners.seats ≡ length old.owners.seats
   pub free : seat_at now.owners t ≡ record (seat_at old.owners t) { wait = None }
@@ -30,7 +30,6 @@ pub record IsLeft (old now : Plain) (t start : ℕ) : Type 0 where
       → level_of now.queue now.table r ≡ list_without t (level_of old.queue old.table r)
   pub place : now.queue ≡ record old.queue { mask = now.queue.mask }
   pub holds : Holds now.queue now.table
-  pub lists : length now.table.lists ≡ length old.table.lists
   pub waited : (u : ℕ) → u ≢ 0 → waits_for (kernel_of old) t ≡ u → u ≡ start
   pub some : start ≢ 0
   pub added : start < length old.statuses

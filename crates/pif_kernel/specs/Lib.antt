@@ -1,6 +1,6 @@
 pub use Rattle.pif_model.specs.PiKernel
 pub mod Answers
-pub mod Plain
+pub mod Inside
 pub mod Codes
 pub mod Leaving
 pub mod Tickets

@@ -2,7 +2,7 @@
 use Rattle.std.specs.Prelude.{◌≡◌, ℕ, zero, suc, ◌+◌, ◌<◌, ◌≤◌, ◌==◌, eqb, Bool, true, if◌then◌else◌, List, [], ◌∷◌, length, map, get_or, IsSome, option_map}
 use Rattle.std.specs.List.{list_any, IsDistinct}
 use Rattle.pif_owners.specs.Owners.{Owners, Seat, Wait, seat_at, waits_on, KeepsOrder}
-use Rattle.pif_kernel.specs.Plain.{ticket_of}
+use Rattle.pif_kernel.specs.Inside.{ticket_of}
 
 -- the tickets once those of the first `count` of these threads are the numbers from n on
 abbrev pub renumbered_ticket : (ℕ → ℕ) → ℕ → ℕ → List (ℕ × ℕ) → ℕ → ℕ

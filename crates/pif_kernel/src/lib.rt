@@ -71,12 +71,10 @@
 //! first of the ready threads.
 //!
 //! `PiKernel` is the trait that a kernel meets; `pif_plain` has one that does. What both it and any other are seen as is
-//! in `specs/Plain.antt`, and what follows of the calls from that in `proofs/`.
+//! in `specs/Inside.antt`, and what follows of the calls from that in `proofs/`.
 #![tactic(auto)]
 
 mod kernel;
-mod parkings;
 
 pub use kernel::PiKernel;
-pub use parkings::Parking;
 pub use pif_model::{Status, Took, Woken};

@@ -1,5 +1,5 @@
 -- What a begun call, a step and the end of a thread leave is sound, as each event keeps it.
-use Rattle.std.proofs.Common.{◌≡◌, ℕ, ◌≤◌, true, Option, None, sym, ap, subst, arith}
+use Rattle.std.proofs.Common.{◌≡◌, ℕ, ◌≤◌, true, Option, None, ap, subst, arith}
 use Rattle.std.proofs.lemmas.Bool.Decides.{nat_tests}
 use Rattle.pif_types.specs.declared.errors.Refusal.{Refusal}
 use Rattle.pif_types.specs.declared.requests.Request.{Request}

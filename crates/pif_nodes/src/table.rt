@@ -173,4 +173,12 @@ impl NodeTable {
     {
         write_key(&mut self.nodes, node.get(), prio, ticket);
     }
+
+    /// Does nothing: its contract says of any table that each node is in at most one list, and once.
+    #[tactic(auto, using(crate::proofs::ReadLemmas::reads))]
+    pub fn has_each_node_once(&self)
+        ensures { IsApart self.now }
+    {
+        let _nodes = &self.nodes;
+    }
 }

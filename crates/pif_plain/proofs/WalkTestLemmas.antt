@@ -6,7 +6,7 @@ use Rattle.std.proofs.lemmas.Bool.{cases_eq, cases_lt, cases_Bool, eqb-true, or_
 use Rattle.std.proofs.lemmas.List.{get_or-replicate, length-replicate}
 use Rattle.pif_nodes.specs.declared.keys.Key.{Key}
 use Rattle.pif_nodes.specs.Lists.{has}
-use Rattle.pif_nodes.specs.Table.{Table, IsApart, list_at, no_key}
+use Rattle.pif_nodes.specs.Table.{Table, IsApart, list_at, no_key, list_with}
 use Rattle.pif_chains.proofs.Places.{kept_at}
 use Rattle.pif_chains.proofs.Following.{IsGreatestAt, greatest_where_some}
 use Rattle.pif_runq.specs.Levels.{Queue, IsLevel, level_of, level_with, list_for, thread_for, HasRoom, Holds, IsQueued, level_after_add}
@@ -234,6 +234,7 @@ has_room t new apart =
       lists = omega (arith, ap length lists, length-replicate {A = List ℕ} 99 []);
       nodes = omega (arith, keys);
       empty = λ p lp. empty_list new_queue t p refl lists lp;
+      free = λ n mine. ap (λ (ls : List (List ℕ)). list_with ls n) lists;
     }
 
 -- thread 1 alone is on the queue

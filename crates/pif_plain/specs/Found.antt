@@ -10,7 +10,7 @@ use Rattle.pif_word.specs.declared.cells.Cell.TheVariants.{Mutex}
 use Rattle.pif_word.specs.WordMap.{WordMap, HasCell, bits_at}
 use Rattle.pif_plain.specs.declared.refusals.Found.{Found}
 use Rattle.pif_plain.specs.declared.refusals.Found.TheVariants.{Free, Held}
-use Rattle.pif_kernel.specs.Plain.{Plain, kernel_of, key_at, state_at}
+use Rattle.pif_kernel.specs.Inside.{Inside, kernel_of, key_at, state_at}
 
 -- the mutex m has this word
 pub record IsWord (m word : ℕ) (s : WordMap) : Type 0 where
@@ -18,7 +18,7 @@ pub record IsWord (m word : ℕ) (s : WordMap) : Type 0 where
   pub bits : word ≡ bits_at s (Mutex m)
 
 -- t may wait for the owner of m, which has this word, and whose owner state has this key if there is one
-pub record IsHeld (t m word owner : ℕ) (key : Option ℕ) (s : WordMap) (p : Plain) : Type 0 where
+pub record IsHeld (t m word owner : ℕ) (key : Option ℕ) (s : WordMap) (p : Inside) : Type 0 where
   pub stored : IsWord m word s
   pub mutex : m < 1025
   pub number : owner ≡ (word_of word).number
@@ -28,12 +28,12 @@ pub record IsHeld (t m word owner : ℕ) (key : Option ℕ) (s : WordMap) (p : P
   pub unreached : reaches_within (length (kernel_of p).seats) (waits_for (kernel_of p)) owner t ≡ false
 
 -- what lock_pi of t on m found
-abbrev pub IsFound : Found → ℕ → ℕ → WordMap → Plain → Type 0
+abbrev pub IsFound : Found → ℕ → ℕ → WordMap → Inside → Type 0
 IsFound (Free word) t m s p = IsWord m word s
 IsFound (Held word owner key) t m s p = IsHeld t m word owner key s p
 
 -- t may unlock m, whose owner state has this key if there is one
-pub record IsOwn (t m : ℕ) (key : Option ℕ) (s : WordMap) (p : Plain) : Type 0 where
+pub record IsOwn (t m : ℕ) (key : Option ℕ) (s : WordMap) (p : Inside) : Type 0 where
   pub cell : HasCell s (Mutex m)
   pub at : key ≡ key_at p m
   pub state : state_at p m ≢ 0 → state_at p m ≡ t

@@ -1,7 +1,7 @@
 ghost use Rattle.std.specs.Prelude.{◌≡◌};
 ghost use Rattle.pif_model.specs.declared.lines.Status.TheVariants.{Ended};
 ghost use Rattle.pif_model.specs.PiKernel.{seat_at, after_death, after_deaths};
-ghost use Rattle.pif_kernel.specs.Plain.{IsSound, kernel_of};
+ghost use Rattle.pif_kernel.specs.Inside.{IsSound, kernel_of};
 ghost use Rattle.pif_kernel.specs.Systems.{system_of};
 
 use crate::parts::Parts;

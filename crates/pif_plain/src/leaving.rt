@@ -1,7 +1,7 @@
 ghost use Rattle.std.specs.Prelude.{◌≡◌, true};
 ghost use Rattle.pif_model.specs.declared.lines.Status.TheVariants.{Queued};
 ghost use Rattle.pif_model.specs.PiKernel.{seat_at, is_living, is_out, kernel_left_as, kernel_after_expire};
-ghost use Rattle.pif_kernel.specs.Plain.{IsSound, kernel_of};
+ghost use Rattle.pif_kernel.specs.Inside.{IsSound, kernel_of};
 ghost use Rattle.pif_kernel.specs.Leaving.{IsLeft};
 
 use crate::chain_walk::walk;

@@ -2,11 +2,11 @@ ghost use Rattle.std.specs.Prelude.{◌≡◌, ℕ, ◌+◌, ◌<◌, ◌==◌, 
 ghost use Rattle.std.specs.List.{slice_get};
 ghost use Rattle.pif_model.specs.Graph.{waiting_order};
 ghost use Rattle.pif_model.specs.PiKernel.{seat_at, has_seat, effective_in, waiters_in, parked_in, ready_in};
-ghost use Rattle.pif_kernel.specs.Plain.{IsSound, kernel_of};
+ghost use Rattle.pif_kernel.specs.Inside.{IsSound, kernel_of};
 ghost use Rattle.pif_kernel.specs.Orders.{waiting_with};
 
+use crate::parking::Parking;
 use crate::parts::Parts;
-use pif_kernel::Parking;
 use pif_types::{CondId, MutexId, Prio, Tid};
 
 /// A thread in a list of those that wait for a mutex, or that are parked on a variable.

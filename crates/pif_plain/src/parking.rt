@@ -1,12 +1,36 @@
 ghost use Rattle.std.specs.Prelude.{◌≡◌, ◌==◌, true, false, if◌then◌else◌, Some, None};
-ghost use Rattle.pif_model.specs.PiKernel.{seat_at, has_seat, is_ready, queued_on, effective_in, has_parked, top_parked, kernel_after_parking, kernel_after_waking};
-ghost use Rattle.pif_kernel.specs.Plain.{IsSound, kernel_of, parked_but};
+ghost use Rattle.pif_model.specs.PiKernel.{seat_at, has_seat, is_ready, queued_on, effective_in, has_parked, top_parked, kernel_after_parking, kernel_after_waking, unparked};
+ghost use Rattle.pif_kernel.specs.Inside.{IsSound, kernel_of};
 ghost use Rattle.pif_kernel.specs.Takings.{goes_before};
 
 use crate::parts::Parts;
-use pif_kernel::Parking;
 use pif_model::{Status, Woken};
 use pif_types::{CondId, MutexId, Tid, push_within};
+use std::marker::Model;
+
+/// A thread that is parked on a condition variable.
+#[derive(Clone, Copy, Debug, PartialEq, Eq, Hash)]
+pub struct Parking {
+    /// The thread.
+    pub thread: Tid,
+    /// The variable.
+    pub cond: CondId,
+    /// The mutex that the thread is to get once it is taken from the variable.
+    pub target: MutexId,
+}
+
+impl Model for Parking {
+    ghost use Rattle.pif_model.specs.PiKernel.{Parking as ParkingSeen};
+    ghost use Rattle.pif_kernel.specs.Codes.{parking_code};
+
+    ghost Value = { ParkingSeen };
+
+    ghost coded = { parking_code };
+
+    ghost view = { λ x. record { thread = x.thread; cond = x.cond; target = x.target } };
+
+    ghost inverse = { λ x. record { thread = x.thread; cond = x.cond; target = x.target } };
+}
 
 impl Parts {
     /// Parks a ready thread on a variable, behind all that are parked, and out of the run queue. It is to get the mutex
@@ -32,7 +56,7 @@ impl Parts {
 
     /// Takes a thread off the variable on which it is parked.
     pub(crate) fn unpark(&mut self, t: Tid)
-        ensures { self.new ≡ record self.old { parked = parked_but self.old.parked t } }
+        ensures { self.new ≡ record self.old { parked = unparked self.old.parked t } }
     {
         self.parked.retain(|parking| parking.thread != t);
     }

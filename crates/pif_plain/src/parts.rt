@@ -2,11 +2,11 @@ ghost use Rattle.std.specs.Prelude.{◌≡◌, ◌<◌, ◌==◌, true, length, 
 ghost use Rattle.pif_types.specs.Bounds.{IsWithin};
 ghost use Rattle.pif_runq.specs.Levels.{Holds};
 ghost use Rattle.pif_model.specs.PiKernel.{seat_at, has_seat, is_living, effective_in, pick_in};
-ghost use Rattle.pif_kernel.specs.Plain.{IsSound, kernel_of, new_plain, key_at};
+ghost use Rattle.pif_kernel.specs.Inside.{IsSound, kernel_of, new_inside, key_at};
 
+use crate::parking::Parking;
 use crate::rows::Key;
 use crate::rt_mutexes::RtMutexes;
-use pif_kernel::Parking;
 use pif_model::{Status, Woken};
 use pif_nodes::NodeTable;
 use pif_runq::RunQueue;
@@ -36,16 +36,16 @@ pub struct Parts {
 }
 
 impl Model for Parts {
-    ghost use Rattle.pif_kernel.specs.Plain.{Plain};
-    ghost use Rattle.pif_kernel.specs.Codes.{plain_code};
+    ghost use Rattle.pif_kernel.specs.Inside.{Inside as InsideSeen};
+    ghost use Rattle.pif_kernel.specs.Codes.{inside_code};
 
-    ghost Value = { Plain };
+    ghost Value = { InsideSeen };
 
-    ghost coded = { plain_code };
+    ghost coded = { inside_code };
 
-    ghost use Rattle.pif_plain.specs.Fields.{plain_of, IsRoomy};
+    ghost use Rattle.pif_plain.specs.Fields.{inside_of, IsRoomy};
 
-    ghost view = { plain_of };
+    ghost view = { inside_of };
 
     ghost invariant = { IsRoomy };
 }
@@ -54,7 +54,7 @@ impl Parts {
     /// The parts of a kernel to which nothing was added, whose first ticket is `first_ticket`. It takes all the memory
     /// that it will ever need.
     pub(crate) fn new(alloc: Global, limits: Limits, first_ticket: u64) -> Result<Parts, NoMemory>
-        ensures made { IfOk result (λ p. p ≡ new_plain limits first_ticket) }
+        ensures made { IfOk result (λ p. p ≡ new_inside limits first_ticket) }
         ensures within { IfOk result (λ p. IsWithin p.limits) }
         ensures holds { IfOk result (λ p. Holds p.queue p.table) }
     {

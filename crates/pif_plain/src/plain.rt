@@ -1,6 +1,6 @@
 ghost use Rattle.std.specs.Prelude.{◌≡◌, ◌≤◌, IfOk};
 ghost use Rattle.pif_model.specs.PiKernel.{new_kernel, IsKernel};
-ghost use Rattle.pif_kernel.specs.Plain.{kernel_of, next_ticket};
+ghost use Rattle.pif_kernel.specs.Inside.{kernel_of, next_ticket};
 
 use crate::parts::Parts;
 use crate::refusals::Found;
@@ -20,12 +20,12 @@ pub struct PlainKernel {
 }
 
 impl Model for PlainKernel {
-    ghost use Rattle.pif_kernel.specs.Plain.{Plain, IsSound};
-    ghost use Rattle.pif_kernel.specs.Codes.{plain_code};
+    ghost use Rattle.pif_kernel.specs.Inside.{Inside as InsideSeen, IsSound};
+    ghost use Rattle.pif_kernel.specs.Codes.{inside_code};
 
-    ghost Value = { Plain };
+    ghost Value = { InsideSeen };
 
-    ghost coded = { plain_code };
+    ghost coded = { inside_code };
 
     ghost view = { λ k. k.parts };
 

@@ -2,7 +2,7 @@ ghost use Rattle.std.specs.Prelude.{◌≡◌, ◌≢◌, ◌<◌, ◌+◌, true
 ghost use Rattle.pif_owners.specs.Owners.{count};
 ghost use Rattle.pif_model.specs.Graph.{reaches_within};
 ghost use Rattle.pif_model.specs.PiKernel.{seat_at, has_seat, is_living, is_ready, queued_on, kernel_after_queueing, kernel_after_hand_over, next_in, waits_for};
-ghost use Rattle.pif_kernel.specs.Plain.{IsSound, kernel_of, key_at, state_at, IsOpened};
+ghost use Rattle.pif_kernel.specs.Inside.{IsSound, kernel_of, key_at, state_at, IsOpened};
 
 use crate::chain_walk::walk;
 use crate::parts::Parts;

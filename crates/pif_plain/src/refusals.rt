@@ -7,7 +7,7 @@ ghost use Rattle.pif_word.specs.declared.cells.Cell.TheVariants.{Mutex, Cond};
 ghost use Rattle.pif_word.specs.WordMap.{HasCell, words_of};
 ghost use Rattle.pif_kernel.specs.Answers.{unit_answer, test_answer, wait_test_answer};
 ghost use Rattle.pif_plain.specs.Found.{IsWord, IsFound, IsOwn, lock_test_answer};
-ghost use Rattle.pif_kernel.specs.Plain.{IsSound, kernel_of, owner_under};
+ghost use Rattle.pif_kernel.specs.Inside.{IsSound, kernel_of, owner_under};
 ghost use Rattle.pif_kernel.specs.Systems.{system_of};
 ghost use Rattle.pif_kernel.specs.Takings.{FitsWord, requeue_test_answer};
 

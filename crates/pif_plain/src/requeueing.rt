@@ -2,7 +2,7 @@ ghost use Rattle.std.specs.Prelude.{◌≡◌, true, min, ◌+◌, ◌<◌};
 ghost use Rattle.pif_model.specs.PiKernel.{seat_at, is_parked, has_parked, parked_count, may_queue, after_taking, after_takings};
 ghost use Rattle.pif_word.specs.declared.cells.Cell.TheVariants.{Mutex};
 ghost use Rattle.pif_word.specs.WordMap.{HasCell};
-ghost use Rattle.pif_kernel.specs.Plain.{IsSound, kernel_of};
+ghost use Rattle.pif_kernel.specs.Inside.{IsSound, kernel_of};
 ghost use Rattle.pif_kernel.specs.Systems.{system_of};
 ghost use Rattle.pif_kernel.specs.Takings.{FitsWord};
 

@@ -6,7 +6,7 @@ mod walks;
 ghost use Rattle.std.specs.Prelude.{◌≡◌, ◌<◌, ◌≤◌, ◌+◌, ℕ, true, false, length, OnOk};
 ghost use Rattle.pif_model.specs.PiKernel.{has_seat, is_living, is_ready, seat_at};
 ghost use Rattle.pif_model.specs.RobustList.{robust_at};
-ghost use Rattle.pif_kernel.specs.Plain.{kernel_of};
+ghost use Rattle.pif_kernel.specs.Inside.{kernel_of};
 
 use crate::PlainKernel;
 use pif_kernel::{PiKernel, Status, Took, Woken};

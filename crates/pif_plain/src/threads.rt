@@ -1,6 +1,6 @@
 ghost use Rattle.std.specs.Prelude.{◌≡◌, ◌≤◌, true, length, Ok};
 ghost use Rattle.pif_model.specs.PiKernel.{seat_at, has_seat, is_living, is_ready, kernel_after_add, kernel_after_set_prio, kernel_after_stop};
-ghost use Rattle.pif_kernel.specs.Plain.{IsSound, kernel_of};
+ghost use Rattle.pif_kernel.specs.Inside.{IsSound, kernel_of};
 
 use crate::chain_walk::walk;
 use crate::parts::Parts;

@@ -1,6 +1,6 @@
 ghost use Rattle.std.specs.Prelude.{◌≡◌, ◌<◌, ◌+◌, length};
 ghost use Rattle.pif_kernel.specs.Tickets.{IsRenumbered, IsRenumberable};
-ghost use Rattle.pif_kernel.specs.Plain.{IsSound, kernel_of, Rise, ticket_of};
+ghost use Rattle.pif_kernel.specs.Inside.{IsSound, kernel_of, Rise, ticket_of};
 
 use crate::parts::Parts;
 use crate::rt_mutexes::RtMutexes;

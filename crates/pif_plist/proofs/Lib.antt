@@ -1,3 +1,4 @@
 pub mod InsertLemmas
 pub mod OrderLemmas
 pub mod WalkLemmas
+pub mod RekeyLemmas

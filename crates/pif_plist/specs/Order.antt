@@ -2,7 +2,7 @@
 use Rattle.std.specs.Prelude.{◌≡◌, ℕ, Bool, true, false, ◌&&◌, ◌||◌, ◌==◌, nat_lt, if◌then◌else◌, List, [], ◌∷◌, ◌++◌, Option, Some, slice_index_or, ⊤}
 use Rattle.pif_nodes.specs.declared.keys.Key.{Key}
 use Rattle.pif_nodes.specs.Lists.{has, first_of, last_of, without}
-use Rattle.pif_nodes.specs.Table.{Table, no_key, list_at, key_at, with_list, with_key}
+use Rattle.pif_nodes.specs.Table.{Table, no_key, list_at, key_at, next_of, prev_of, with_list, with_key}
 
 -- whether a key comes before another: its priority is higher, or equal and its ticket lower
 abbrev pub comes_before : Key → Key → Bool
@@ -56,3 +56,8 @@ pub record IsPlace (keys : List Key) (k : Key) (xs : List ℕ) (place : Option �
   pub at : place ≡ last_of front
   pub before : (m : ℕ) → has m front ≡ true → comes_before k (key_in keys m) ≡ false
   pub behind : (m : ℕ) → first_of back ≡ Some m → comes_before k (key_in keys m) ≡ true
+
+-- a node with a key fits between its neighbours: the one before it comes no later, and the one behind it comes later
+pub record FitsBetween (t : Table) (n : ℕ) (k : Key) : Type 0 where
+  pub before : (m : ℕ) → prev_of t n ≡ Some m → comes_before k (key_at t m) ≡ false
+  pub behind : (m : ℕ) → next_of t n ≡ Some m → comes_before k (key_at t m) ≡ true

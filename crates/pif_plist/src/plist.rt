@@ -1,7 +1,7 @@
 ghost use Rattle.std.specs.Prelude.{◌≡◌, ℕ, ◌<◌, true, false, length, Some, None, nat_eq, if◌then◌else◌};
 ghost use Rattle.pif_nodes.specs.Lists.{has, first_of};
 ghost use Rattle.pif_nodes.specs.Table.{list_at, key_at, holder, with_key, IsApart};
-ghost use Rattle.pif_plist.specs.Order.{comes_before, IsSorted, IsPlace, OthersStaySorted, table_after_insert, table_after_remove, with_prio, with_ticket};
+ghost use Rattle.pif_plist.specs.Order.{comes_before, IsSorted, IsPlace, FitsBetween, OthersStaySorted, table_after_insert, table_after_remove, with_prio, with_ticket};
 
 use crate::order::precedes;
 use pif_nodes::{Key, List, Node, NodeTable};
@@ -63,7 +63,8 @@ impl PList {
     }
 
     /// Gives `node` the priority `prio`, and the place in this list that goes with it. Its ticket stays, and so does
-    /// its place among equals. All other lists, and the keys of all other nodes, stay as they were.
+    /// its place among equals. Takes constant time where it keeps its place, and where it goes to the head or the end.
+    /// All other lists, and the keys of all other nodes, stay as they were.
     pub fn rekey(&self, table: &mut NodeTable, node: Node, prio: u32)
         requires held { holder table.old node ≡ Some self.now }
         requires sorted { IsSorted table.old self.now }
@@ -73,9 +74,14 @@ impl PList {
         ensures others { OthersStaySorted table.old table.new self.now }
         ensures apart { IsApart table.new }
     {
-        self.remove(table, node);
+        table.has_each_node_once();
         let ticket = table.key(node).ticket;
-        self.insert(table, node, prio, ticket);
+        if keeps_place(table, node, Key { prio, ticket }) {
+            table.set_key(node, prio, ticket);
+        } else {
+            self.remove(table, node);
+            self.insert(table, node, prio, ticket);
+        }
     }
 
     /// Gives `node` the ticket `ticket`, with which this list has to be still sorted. All lists, the priority of `node`
@@ -135,4 +141,22 @@ impl PList {
         }
         place
     }
+}
+
+/// Whether `node` stands in its list where it would with this key: the node before it comes no later, and the one behind
+/// it comes later.
+fn keeps_place(table: &NodeTable, node: Node, key: Key) -> bool
+    requires { node < length table.now.keys }
+    ensures apart { IsApart table.now }
+    ensures place { result ≡ true → FitsBetween table.now node key }
+{
+    let fits_before = match table.prev(node) {
+        Some(before) => !precedes(key, table.key(before)),
+        None => true,
+    };
+    let fits_behind = match table.next(node) {
+        Some(behind) => precedes(key, table.key(behind)),
+        None => true,
+    };
+    fits_before && fits_behind
 }

@@ -100,6 +100,11 @@ Holds-masked q m t r bit xs holds lr change apart threads bits =
           threads n (subst (λ (zs : List ℕ). has n zs ≡ true) mine h))
           (λ ne. holds.threads p n lp (subst (λ (zs : List ℕ). has n zs ≡ true) (list_at-other q t r p xs lr lp ne) h))
           (cases_eq p r);
+      alone = λ n l mine held. ⊎_elim
+          (λ e. (omega (arith, e, lr.0), omega (arith, e, lr.0, lr.1)))
+          (λ ne. holds.alone n l mine (holds.apart.alone l n
+          (ap (has n) (sym (get_or-set_other t.lists (list_for q r) l xs [] ne)) ∙ apart.listed l n held)))
+          (cases_eq l (list_for q r));
       bits = λ p lp. ⊎_elim
           (λ e. subst (λ (k : ℕ). (bit_at m k ≡ 0) ↔ (list_at now (list_for q k) ≡ [])) (sym e)
           (rw (change.changed, list_at-changed q t r xs lr holds.lists) bits))

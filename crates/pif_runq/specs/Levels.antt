@@ -46,6 +46,10 @@ all_below q t zero = []
 all_below q t (suc zero) = []
 all_below q t (suc (suc p)) = level_of q t (suc p) ++ all_below q t (suc p)
 
+-- l is the list of a level
+abbrev pub IsLevelList : Queue → ℕ → Type 0
+IsLevelList q l = (q.first_list ≤ l) × (l < q.first_list + 99)
+
 -- a queue stands in a table, and its mask says which of its levels have a thread
 pub record Holds (q : Queue) (t : Table) : Type 0 where
   -- each node of the table is in at most one list, and once
@@ -56,17 +60,21 @@ pub record Holds (q : Queue) (t : Table) : Type 0 where
   pub nodes : q.first_node + q.threads ≤ length t.keys
   -- a node on a level is that of a thread
   pub threads : (p n : ℕ) → IsLevel p → has n (list_at t (list_for q p)) ≡ true → IsThreadNode q n
+  -- the node of a thread stands on a level, or in no list
+  pub alone : (n l : ℕ) → IsThreadNode q n → holder t n ≡ Some l → IsLevelList q l
   -- the bit of a level is 0 exactly where no thread is on it
   pub bits : (p : ℕ) → IsLevel p → (bit_at q.mask p ≡ 0) ↔ (list_at t (list_for q p) ≡ [])
   -- no other bit is set
   pub no_more : (p : ℕ) → bit_at q.mask p ≡ 1 → IsLevel p
 
--- a queue with no thread may stand in a table that has the lists of its levels, all empty, and the nodes of its threads
+-- a queue with no thread may stand in a table that has the lists of its levels, all empty, and the nodes of its threads,
+-- which are in no list
 pub record HasRoom (q : Queue) (t : Table) : Type 0 where
   pub apart : IsApart t
   pub lists : q.first_list + 99 ≤ length t.lists
   pub nodes : q.first_node + q.threads ≤ length t.keys
   pub empty : (p : ℕ) → IsLevel p → list_at t (list_for q p) ≡ []
+  pub free : (n : ℕ) → IsThreadNode q n → holder t n ≡ None
 
 -- u is on some level
 abbrev pub IsQueued : Queue → Table → ℕ → Type 0
@@ -114,3 +122,11 @@ pub record SameOutside (q : Queue) (was now : Table) : Type 0 where
   pub behind : (l : ℕ) → q.first_list + 99 ≤ l → list_at now l ≡ list_at was l
   pub count : length now.lists ≡ length was.lists
   pub keys : now.keys ≡ was.keys
+
+-- what a queue needs of what others change in its table: its lists stay, the counts too, and no node of a thread that
+-- was in no list is put into one
+pub record KeepsQueue (q : Queue) (was now : Table) : Type 0 where
+  pub lists : (l : ℕ) → IsLevelList q l → list_at now l ≡ list_at was l
+  pub count : length now.lists ≡ length was.lists
+  pub nodes : length now.keys ≡ length was.keys
+  pub free : (n : ℕ) → IsThreadNode q n → holder was n ≡ None → holder now n ≡ None

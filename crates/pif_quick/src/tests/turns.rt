@@ -53,7 +53,10 @@ pub(super) fn hand_over<R: Wait + Clock + Abort>(
     ensures own { IsPassOf quick.now pass.new }
 {
     let marked = wait_for_mark(rt, quick, pass);
-    assert!(rt; marked, "a pass waits for the word 0 alone, and the marks are others");
+    assert!(rt;
+        marked,
+        "a pass waits for the word 0 alone, and the marks are others"
+    );
     match quick.unlock_quiet(pass, held) {
         Ok(()) => panic!(rt; "a quiet unlock freed a word for which a pass waits"),
         Err(held) => quick.unlock(rt, pass, held),

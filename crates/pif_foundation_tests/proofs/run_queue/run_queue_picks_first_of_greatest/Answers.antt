@@ -1,7 +1,7 @@
 -- A new table has room for a new queue.
 use Rattle.std.proofs.Common.{◌≡◌, ℕ, List, [], length, replicate, ap, sym, subst, arith}
 use Rattle.std.proofs.lemmas.List.{get_or-replicate, length-replicate}
-use Rattle.pif_nodes.specs.Table.{Table, IsApart, no_key}
+use Rattle.pif_nodes.specs.Table.{Table, IsApart, no_key, list_with}
 use Rattle.pif_runq.specs.Levels.{Queue, list_for, HasRoom}
 use Rattle.pif_foundation_tests.proofs.run_queue.run_queue_picks_first_of_greatest.Goals as goal
 
@@ -18,6 +18,7 @@ has_room t made apart =
       lists = omega (arith, ap length lists, length-replicate {A = List ℕ} 99 []);
       nodes = omega (arith, ap (λ (x : Table). length x.keys) made, length-replicate 3 no_key);
       empty = λ p lp. rw lists (get_or-replicate 99 (list_for new_queue p) [] [] (omega arith));
+      free = λ n mine. ap (λ (ls : List (List ℕ)). list_with ls n) lists;
     }
 
 pub add_three-requires-clause-holds : goal.add_three-requires-clause-holds

@@ -1,5 +1,5 @@
 -- A call that begins leaves the parts sound.
-use Rattle.std.proofs.Common.{◌≡◌, sym, ap, ◌∙◌, None}
+use Rattle.std.proofs.Common.{◌≡◌, ap, ◌∙◌, None}
 use Rattle.pif_model.specs.declared.events.Event.TheVariants.{Begin}
 use Rattle.pif_model.specs.Table.{Table}
 use Rattle.pif_model.specs.Lines.{table_refusal}

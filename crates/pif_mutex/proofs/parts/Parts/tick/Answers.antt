@@ -1,5 +1,5 @@
 -- A tick leaves the parts sound.
-use Rattle.std.proofs.Common.{◌≡◌, ap, ◌∙◌, None}
+use Rattle.std.proofs.Common.{ap, ◌∙◌}
 use Rattle.pif_model.specs.declared.events.Event.TheVariants.{Tick}
 use Rattle.pif_model.specs.Table.{Table}
 use Rattle.pif_model.specs.Lines.{table_refusal}

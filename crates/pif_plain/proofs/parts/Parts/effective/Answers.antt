@@ -1,17 +1,17 @@
 use Rattle.std.proofs.Common.{◌≡◌, true, subst, sym, ap, ◌∙◌, Some, None, if◌then◌else◌}
 use Rattle.pif_model.specs.PiKernel.{effective_in, is_living}
-use Rattle.pif_kernel.specs.Plain.{Plain, IsSound, kernel_of}
-use Rattle.pif_plain.specs.Fields.{plain_of}
+use Rattle.pif_kernel.specs.Inside.{Inside, IsSound, kernel_of}
+use Rattle.pif_plain.specs.Fields.{inside_of}
 use Rattle.pif_kernel.proofs.Standing.{effective_answer}
 use Rattle.pif_plain.proofs.parts.Parts.effective.Goals as goal
 
 pub returns-then-lives : goal.returns-then-lives
 returns-then-lives c =
-    let P : Plain → Type 0
+    let P : Inside → Type 0
     = λ p. c.local.result ≡ (if is_living (kernel_of p) c.args.t then Some
     (effective_in (kernel_of p) c.args.t) else None) in
-    let lives : is_living (kernel_of (plain_of c.self.inside)) c.args.t ≡ true
-    = ap (λ (x : Plain). is_living (kernel_of x) c.args.t) c.self.view_is ∙ sym c.lives.ensures ∙ c.if-lives.true in
-    subst P c.self.view_is (effective_answer (plain_of c.self.inside)
+    let lives : is_living (kernel_of (inside_of c.self.inside)) c.args.t ≡ true
+    = ap (λ (x : Inside). is_living (kernel_of x) c.args.t) c.self.view_is ∙ sym c.lives.ensures ∙ c.if-lives.true in
+    subst P c.self.view_is (effective_answer (inside_of c.self.inside)
     (subst IsSound (sym c.self.view_is) c.requires) c.args.t c.local.result lives c.local.ensures.given
     c.local.ensures.value)

@@ -5,7 +5,7 @@ use Rattle.pif_model.specs.PiKernel.{Kernel, seat_at, has_seat, is_ready, queued
 use Rattle.pif_chains.proofs.KernelFacts.{living-added}
 use Rattle.pif_chains.proofs.KernelLeft.{has-left, status-left_same}
 use Rattle.pif_chains.proofs.KernelExpired.{expired-as_woken}
-use Rattle.pif_kernel.specs.Plain.{kernel_of}
+use Rattle.pif_kernel.specs.Inside.{kernel_of}
 use Rattle.pif_plain.proofs.parts.Parts.expire.Goals.{After-leave_as}
 use Rattle.pif_plain.proofs.parts.Parts.expire.Goals as goal
 

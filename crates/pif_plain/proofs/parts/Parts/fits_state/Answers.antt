@@ -1,8 +1,8 @@
 use Rattle.std.proofs.Common.{◌≡◌, ◌≢◌, true, Some, ◌==◌, sym, ap, ◌∙◌, arith}
 use Rattle.std.proofs.lemmas.Bool.Decides.{nat_tests}
 use Rattle.pif_model.specs.PiKernel.{state_at, is_living}
-use Rattle.pif_kernel.specs.Plain.{Plain, kernel_of, key_at}
-use Rattle.pif_plain.specs.Fields.{plain_of}
+use Rattle.pif_kernel.specs.Inside.{Inside, kernel_of, key_at}
+use Rattle.pif_plain.specs.Fields.{inside_of}
 use Rattle.pif_kernel.proofs.Answering.{none_zero, some_value}
 use Rattle.pif_kernel.proofs.CallFacts.{some_state, no_state, state_named}
 use Rattle.pif_kernel.proofs.RequeueAnswers.{fits_stateless, fits_numberless, fits_owner}
@@ -27,9 +27,9 @@ returns-else-not-lives c =
     = some_value c.new.result c.args.number c.in-Some-new.owner c.in-Some-new.is c.new.ensures.valid
     c.new.ensures.value in
     let s : state_at (kernel_of c.args.self.now) c.args.m ≡ c.owner.result
-    = sym (ap (λ (x : Plain). state_at (kernel_of x) c.args.m) c.self.view_is)
-    ∙ state_named (plain_of c.self.inside) c.args.m c.in-Some.key c.owner.result
-    (ap (λ (x : Plain). key_at x c.args.m) c.self.view_is ∙ at) c.owner.ensures.value in
+    = sym (ap (λ (x : Inside). state_at (kernel_of x) c.args.m) c.self.view_is)
+    ∙ state_named (inside_of c.self.inside) c.args.m c.in-Some.key c.owner.result
+    (ap (λ (x : Inside). key_at x c.args.m) c.self.view_is ∙ at) c.owner.ensures.value in
     let lives : is_living (kernel_of c.args.self.now) c.args.number ≡ true
     = ap (is_living (kernel_of c.args.self.now)) (sym v.0) ∙ sym c.lives.ensures ∙ c.if-not-lives.false in
     let number : c.args.number ≢ 0 = λ z. absurd (omega (arith, v.1, z)) in

@@ -6,8 +6,8 @@ use Rattle.pif_model.specs.declared.lines.Status.TheVariants.{Ready}
 use Rattle.pif_model.specs.declared.lines.Woken.TheVariants.{Owns}
 use Rattle.pif_model.specs.Graph.{has_waiter, without}
 use Rattle.pif_model.specs.PiKernel.{kernel_after_hand_over, next_in}
-use Rattle.pif_kernel.specs.Plain.{Plain, kernel_of}
-use Rattle.pif_plain.specs.Fields.{plain_of}
+use Rattle.pif_kernel.specs.Inside.{Inside, kernel_of}
+use Rattle.pif_plain.specs.Fields.{inside_of}
 use Rattle.pif_kernel.proofs.TopLaws.{top_is_next, some_waiter}
 use Rattle.pif_kernel.proofs.WalkSound.{IsWalkable, on_levels, on_running, on_local, ended}
 use Rattle.pif_kernel.proofs.HandOverFacts.{IsGiven, IsHandable, IsHandedOn}
@@ -16,9 +16,9 @@ use Rattle.pif_plain.proofs.parts.Parts.hand_over.Goals.{Start, After-any, Joine
 use Rattle.pif_plain.proofs.parts.Parts.hand_over.Goals as goal
 
 -- what is known before the mutex is handed over
-hands : (c : Start) (p : Plain) → p ≡ c.args.self.now → IsHandable p c.args.holder c.args.m c.args.key
+hands : (c : Start) (p : Inside) → p ≡ c.args.self.now → IsHandable p c.args.holder c.args.m c.args.key
 hands c p is =
-    subst (λ (x : Plain). IsHandable x c.args.holder c.args.m c.args.key) (sym is)
+    subst (λ (x : Inside). IsHandable x c.args.holder c.args.m c.args.key) (sym is)
     (record { sound = c.requires.sound; at = c.requires.key; owner = c.requires.owner; idle = c.requires.idle })
 
 -- the other waiters, and whether one of them waits for the mutex
@@ -34,21 +34,21 @@ others c = (
 )
 
 -- what is known once it is handed over
-handed : (c : Joined-not-any) → IsHandable (plain_of c.self.inside) c.args.holder c.args.m c.args.key
+handed : (c : Joined-not-any) → IsHandable (inside_of c.self.inside) c.args.holder c.args.m c.args.key
     → (c.deref.result.now ≡ without c.self.inside.arrivals.items c.hand_over-next.result) ×
     (c.any.result ≡ has_waiter c.deref.result.now c.args.m)
-    → IsHandedOn c.args.self.now (plain_of c.self.inside)
-    (plain_of c.if-not-any.self-inside) c.args.holder c.args.m c.args.key c.hand_over-next.result
+    → IsHandedOn c.args.self.now (inside_of c.self.inside)
+    (inside_of c.if-not-any.self-inside) c.args.holder c.args.m c.args.key c.hand_over-next.result
 handed c d r =
-    let p : Plain = plain_of c.self.inside in
-    let x : Plain = plain_of c.if-not-any.self-inside in
+    let p : Inside = inside_of c.self.inside in
+    let x : Inside = inside_of c.if-not-any.self-inside in
     let u : ℕ = c.hand_over-next.result in
     let top = c.hand_over-next.ensures.top in
     let given : IsGiven p x u c.args.m c.args.key = elim c.if-not-any.branch [
       | then-not-any w ↦
           ended_given p c.args.holder c.args.m c.args.key u d top x c.hand_over-next.new.self w.end.new.self
           w.get.result c.deref.result.now c.any.result
-          (ap plain_of w.self-inside-is
+          (ap inside_of w.self-inside-is
           ∙ ap (λ (l : List (ℕ × ℕ)). record p {
             keys = set p.keys w.get.result None;
             owners = w.end.new.self;
@@ -60,7 +60,7 @@ handed c d r =
       | else-not-any w ↦
           still_given p c.args.holder c.args.m c.args.key u d top x c.hand_over-next.new.self c.deref.result.now
           c.any.result
-          (ap plain_of w.self-inside-is
+          (ap inside_of w.self-inside-is
           ∙ ap (λ (l : List (ℕ × ℕ)). record p { owners = c.hand_over-next.new.self; arrivals = l })
           (sym c.deref.ensures.value))
           r.0 r.1 w.if-not-any.false c.hand_over-next.ensures.handed
@@ -70,7 +70,7 @@ handed c d r =
 pub hand_over-next-requires : goal.hand_over-next-requires
 hand_over-next-requires c =
     let d = hands (goal.at.hand_over-next-requires c).Start _ c.self.view_is in
-    record { waiter = some_waiter (plain_of c.self.inside) d.sound c.args.m c.args.key d.at }
+    record { waiter = some_waiter (inside_of c.self.inside) d.sound c.args.m c.args.key d.at }
 
 pub end-requires : goal.end-requires
 end-requires c =
@@ -79,10 +79,10 @@ end-requires c =
     let r = others a.After-any in
     rw c.hand_over-next.ensures.handed (record {
       state =
-          given_state (plain_of c.self.inside) c.args.holder c.args.m c.args.key c.hand_over-next.result d
+          given_state (inside_of c.self.inside) c.args.holder c.args.m c.args.key c.hand_over-next.result d
           c.hand_over-next.ensures.top;
       free =
-          given_idle (plain_of c.self.inside) c.args.holder c.args.m c.args.key c.hand_over-next.result d
+          given_idle (inside_of c.self.inside) c.args.holder c.args.m c.args.key c.hand_over-next.result d
           c.hand_over-next.ensures.top (sym (ap (λ (l : List (ℕ × ℕ)). has_waiter l c.args.m) r.0) ∙ sym r.1
           ∙ c.if-not-any.true);
     })
@@ -100,9 +100,9 @@ add-requires-clause-free c =
 
 -- what is kept before the walk
 added : (c : After-add)
-    → IsHandedOn c.args.self.now (plain_of c.self.inside)
-    (plain_of c.if-not-any.self-inside) c.args.holder c.args.m c.args.key c.hand_over-next.result
-    → IsWalkable (record (plain_of c.if-not-any.self-inside) {
+    → IsHandedOn c.args.self.now (inside_of c.self.inside)
+    (inside_of c.if-not-any.self-inside) c.args.holder c.args.m c.args.key c.hand_over-next.result
+    → IsWalkable (record (inside_of c.if-not-any.self-inside) {
       statuses = set c.if-not-any.self-inside.statuses.items
           c.hand_over-next.result (Ready Owns);
       queue = c.add.new.self;
@@ -112,7 +112,7 @@ added : (c : After-add)
 added c i =
     let value = rw c.unwrap-level.ensures at c.local.ensures.value in
     before_walk _ _ _ _ _ _ _ i c.unwrap-level.result c.add.new.self c.add.new.table value c.add.ensures.place
-    c.add.ensures.levels c.add.ensures.holds c.add.ensures.outside.count
+    c.add.ensures.levels c.add.ensures.holds
 
 pub walk-requires : goal.walk-requires
 walk-requires c =
@@ -135,13 +135,13 @@ returns c =
     let w = added a.After-add (handed a.Joined-not-any d (others a.After-any)) in
     let e
     = ended _ _ _ w c.walk.new.owners c.walk.new.queue c.walk.new.table c.walk.ensures.repaired c.walk.ensures.levels
-    c.walk.ensures.place c.walk.ensures.holds c.walk.ensures.outside.count in
+    c.walk.ensures.place c.walk.ensures.holds in
     let next
-    = top_is_next (plain_of c.self.inside) d.sound c.args.m c.args.key c.hand_over-next.result d.at
+    = top_is_next (inside_of c.self.inside) d.sound c.args.m c.args.key c.hand_over-next.result d.at
     c.hand_over-next.ensures.top in
     record {
       next = next
-          ∙ ap (λ (x : Plain). next_in (kernel_of x) c.args.m) c.self.view_is;
+          ∙ ap (λ (x : Inside). next_in (kernel_of x) c.args.m) c.self.view_is;
       after = rw c.get-2.ensures.value e.0;
       sound =
           rw c.get-2.ensures.value e.1;

@@ -5,8 +5,8 @@ use Rattle.pif_model.specs.declared.lines.Status.{Status}
 use Rattle.pif_model.specs.declared.lines.Status.TheVariants.{Ready}
 use Rattle.pif_model.specs.declared.lines.Woken.TheVariants.{Fresh}
 use Rattle.pif_model.specs.PiKernel.{is_living}
-use Rattle.pif_kernel.specs.Plain.{Plain, IsSound, kernel_of, status_at}
-use Rattle.pif_plain.specs.Fields.{plain_of}
+use Rattle.pif_kernel.specs.Inside.{Inside, IsSound, kernel_of, status_at}
+use Rattle.pif_plain.specs.Fields.{inside_of}
 use Rattle.pif_kernel.proofs.Seats.{living_by, unadded_dead}
 use Rattle.pif_kernel.proofs.Standing.{fits}
 use Rattle.pif_plain.proofs.parts.Parts.lives.Goals as goal
@@ -14,7 +14,7 @@ use Rattle.pif_plain.proofs.parts.Parts.lives.Goals.{in-Ended, in_default}
 
 pub returns-after-matches : goal.returns-after-matches
 returns-after-matches c =
-    let p : Plain = plain_of c.self.inside in
+    let p : Inside = inside_of c.self.inside in
     let h : IsSound p = subst IsSound (sym c.self.view_is) c.requires in
     let inside : nat_lt c.get.result (length p.statuses) ≡ true
     = ap (λ (l : List Status). nat_lt c.get.result (length l)) (sym c.deref.ensures.value)
@@ -26,7 +26,7 @@ returns-after-matches c =
     ∙ ap (λ (xs : List Status). get_or xs c.get.result c.in-Some.status.now) c.deref.ensures.value
     ∙ get_or_default p.statuses c.get.result c.in-Some.status.now (Ready Fresh) l) in
     let same : is_living (kernel_of p) c.get.result ≡ is_living (kernel_of c.args.self.now) c.args.t
-    = ap (λ (x : Plain). is_living (kernel_of x) c.get.result) c.self.view_is
+    = ap (λ (x : Inside). is_living (kernel_of x) c.get.result) c.self.view_is
     ∙ ap (is_living (kernel_of c.args.self.now)) c.get.ensures.value in
     living_by p (fits p h) c.get.result some l c.in-Some.status.now is (not c.match-matches.matches)
     (elim c.match-matches.branch [
@@ -37,12 +37,12 @@ returns-after-matches c =
 
 pub returns-in-None : goal.returns-in-None
 returns-in-None c =
-    let p : Plain = plain_of c.self.inside in
+    let p : Inside = inside_of c.self.inside in
     let h : IsSound p = subst IsSound (sym c.self.view_is) c.requires in
     let outside : nat_lt c.get.result (length p.statuses) ≡ false
     = ap (λ (l : List Status). nat_lt c.get.result (length l)) (sym c.deref.ensures.value)
     ∙ sym c.in-None.ensures.lookup.0 in
     let past : length p.statuses ≤ c.get.result = grind (arith, nat_tests) in
     sym (unadded_dead p (fits p h) c.get.result past)
-    ∙ ap (λ (x : Plain). is_living (kernel_of x) c.get.result) c.self.view_is
+    ∙ ap (λ (x : Inside). is_living (kernel_of x) c.get.result) c.self.view_is
     ∙ ap (is_living (kernel_of c.args.self.now)) c.get.ensures.value

@@ -3,7 +3,7 @@ use Rattle.pif_model.specs.declared.lines.Status.{Status}
 use Rattle.pif_model.specs.declared.lines.Status.TheVariants.{Ready}
 use Rattle.pif_model.specs.declared.lines.Woken.TheVariants.{Fresh}
 use Rattle.pif_owners.specs.Owners.{no_owners}
-use Rattle.pif_kernel.specs.Plain.{no_keys}
+use Rattle.pif_kernel.specs.Inside.{no_keys}
 use Rattle.pif_nodes.specs.Table.{Table, IsApart}
 use Rattle.pif_runq.specs.Levels.{Queue, HasRoom}
 use Rattle.pif_kernel.proofs.NewSound.{new_queue, new_table, new_room, keys_made}

@@ -1,7 +1,6 @@
 use Rattle.std.proofs.Common.{◌≡◌, ℕ, ◌<◌, ◌==◌, if◌then◌else◌, List, Option, Some, length, get_or, refl, subst, sym, ap, ◌∙◌}
-use Rattle.pif_model.specs.PiKernel.{effective_in}
-use Rattle.pif_kernel.specs.declared.parkings.Parking.{Parking}
-use Rattle.pif_kernel.specs.Plain.{Plain, kernel_of}
+use Rattle.pif_model.specs.PiKernel.{effective_in, Parking}
+use Rattle.pif_kernel.specs.Inside.{Inside, kernel_of}
 use Rattle.pif_kernel.specs.Takings.{first_parked, goes_before}
 use Rattle.pif_kernel.proofs.NextParked.{pairs_in, parked_more, parked_all, parked_effective, next_seen}
 use Rattle.pif_plain.proofs.parts.Parts.next_parked.Goals.{After-deref-parking-items}
@@ -9,14 +8,14 @@ use Rattle.pif_plain.proofs.parts.Parts.next_parked.Goals as goal
 
 -- what is gone through
 gone : (c : After-deref-parking-items) → c.deref-parking-items.result.now ≡ c.args.self.now.parked
-gone c = c.deref-parking-items.ensures.value ∙ ap (λ (x : Plain). x.parked) c.self.view_is
+gone c = c.deref-parking-items.ensures.value ∙ ap (λ (x : Inside). x.parked) c.self.view_is
 
 pub loop-parking-init : goal.loop-parking-init
 loop-parking-init c = record { next = refl }
 
 pub loop-parking-preserved : goal.loop-parking-preserved
 loop-parking-preserved c =
-    let p : Plain = c.args.self.now in
+    let p : Inside = c.args.self.now in
     let f : ℕ → ℕ = effective_in (kernel_of p) in
     let x : Parking = c.parking-item.result in
     let items : List Parking = c.deref-parking-items.result.now in
@@ -34,7 +33,7 @@ loop-parking-preserved c =
 
 pub returns : goal.returns
 returns c =
-    let p : Plain = c.args.self.now in
+    let p : Inside = c.args.self.now in
     let f : ℕ → ℕ = effective_in (kernel_of p) in
     let items : List Parking = c.deref-parking-items.result.now in
     record {

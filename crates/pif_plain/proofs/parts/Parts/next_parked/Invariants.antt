@@ -1,6 +1,6 @@
 use Rattle.std.proofs.Common.{◌≡◌, take}
 use Rattle.pif_model.specs.PiKernel.{effective_in}
-use Rattle.pif_kernel.specs.Plain.{kernel_of}
+use Rattle.pif_kernel.specs.Inside.{kernel_of}
 use Rattle.pif_kernel.specs.Takings.{first_parked}
 use Rattle.pif_kernel.proofs.NextParked.{pairs_in}
 use Rattle.pif_plain.proofs.parts.Parts.next_parked.Given as goal

@@ -2,7 +2,7 @@ use Rattle.std.proofs.Common.{ℕ, ◌==◌, List, map, filter, sym, ap, ◌∙�
 use Rattle.std.specs.List.{slice_get}
 use Rattle.pif_model.specs.Graph.{by_greatest}
 use Rattle.pif_model.specs.PiKernel.{effective_in}
-use Rattle.pif_kernel.specs.Plain.{kernel_of}
+use Rattle.pif_kernel.specs.Inside.{kernel_of}
 use Rattle.pif_kernel.proofs.WaitingOrder.{by_greatest-found, by_greatest-passed, by_greatest-none}
 use Rattle.pif_plain.proofs.parts.Parts.nth.Goals as goal
 

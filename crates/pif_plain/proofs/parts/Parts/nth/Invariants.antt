@@ -2,7 +2,7 @@ use Rattle.std.proofs.Common.{◌≡◌, ◌==◌, ◌-◌, map, filter}
 use Rattle.std.specs.List.{slice_get}
 use Rattle.pif_model.specs.Graph.{waiting_order, by_greatest}
 use Rattle.pif_model.specs.PiKernel.{effective_in}
-use Rattle.pif_kernel.specs.Plain.{kernel_of}
+use Rattle.pif_kernel.specs.Inside.{kernel_of}
 use Rattle.pif_plain.proofs.parts.Parts.nth.Given as goal
 
 -- so many stand before the thread among those of the levels that are left

@@ -1,7 +1,7 @@
 use Rattle.std.proofs.Common.{◌≡◌, ◌+◌, length, map, drop}
 use Rattle.std.specs.List.{slice_get}
 use Rattle.pif_model.specs.PiKernel.{effective_in}
-use Rattle.pif_kernel.specs.Plain.{kernel_of}
+use Rattle.pif_kernel.specs.Inside.{kernel_of}
 use Rattle.pif_kernel.specs.Orders.{waiting_with}
 use Rattle.pif_plain.proofs.parts.Parts.nth_of_level.Given as goal
 

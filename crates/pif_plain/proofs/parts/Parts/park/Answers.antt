@@ -1,7 +1,7 @@
 use Rattle.std.proofs.Common.{◌≡◌, true, subst, sym, ◌∙◌, ap, arith}
 use Rattle.pif_model.specs.PiKernel.{has_seat, is_ready, seat_at, kernel_after_parking}
-use Rattle.pif_kernel.specs.Plain.{Plain, IsSound, kernel_of}
-use Rattle.pif_plain.specs.Fields.{plain_of}
+use Rattle.pif_kernel.specs.Inside.{Inside, IsSound, kernel_of}
+use Rattle.pif_plain.specs.Fields.{inside_of}
 use Rattle.pif_kernel.proofs.Seats.{added_seen}
 use Rattle.pif_kernel.proofs.Standing.{fits, ready_queued}
 use Rattle.pif_kernel.proofs.ParkingFacts.{parked_room}
@@ -10,43 +10,43 @@ use Rattle.pif_plain.proofs.parts.Parts.park.Goals.{Start}
 use Rattle.pif_plain.proofs.parts.Parts.park.Goals as goal
 
 -- what is known before
-held : (c : Start) (p : Plain) → p ≡ c.args.self.now
+held : (c : Start) (p : Inside) → p ≡ c.args.self.now
     → IsSound p × (has_seat (kernel_of p) c.args.t ≡ true)
     × (is_ready (seat_at (kernel_of p) c.args.t).status ≡ true)
 held c p is = (
   subst IsSound (sym is) c.requires.sound,
-  subst (λ (x : Plain). has_seat (kernel_of x) c.args.t ≡ true) (sym is) c.requires.added,
-  subst (λ (x : Plain). is_ready (seat_at (kernel_of x) c.args.t).status ≡ true) (sym is) c.requires.ready,
+  subst (λ (x : Inside). has_seat (kernel_of x) c.args.t ≡ true) (sym is) c.requires.added,
+  subst (λ (x : Inside). is_ready (seat_at (kernel_of x) c.args.t).status ≡ true) (sym is) c.requires.ready,
 )
 
 pub index_mut-requires : goal.index_mut-requires
 index_mut-requires c =
-    let p : Plain = plain_of c.self.inside in
+    let p : Inside = inside_of c.self.inside in
     let d = held (goal.at.index_mut-requires c).Start p c.self.view_is in
     omega (arith, (added_seen p (fits p d.0) c.args.t d.1).1, c.get.ensures.value)
 
 pub push_within-requires : goal.push_within-requires
 push_within-requires c =
-    let p : Plain = plain_of c.self.inside in
+    let p : Inside = inside_of c.self.inside in
     let d = held (goal.at.push_within-requires c).Start p c.self.view_is in
     omega (arith, parked_room p d.0 c.args.t d.1 d.2, c.self.invariant.parked)
 
 pub take_out-requires-clause-queued : goal.take_out-requires-clause-queued
 take_out-requires-clause-queued c =
-    let p : Plain = plain_of c.self.inside in
+    let p : Inside = inside_of c.self.inside in
     let d = held (goal.at.take_out-requires-clause-queued c).Start p c.self.view_is in
     ready_queued p d.0 c.args.t d.1 d.2
 
 pub returns : goal.returns
 returns c =
-    let p : Plain = plain_of c.self.inside in
+    let p : Inside = inside_of c.self.inside in
     let d = held (goal.at.returns c).Start p c.self.view_is in
     record {
       after = rw (c.get.ensures.value, c.push_within.ensures.items)
           (kernel_parked p c.take_out.new.self c.take_out.new.table c.args.t d.0 d.1 d.2 c.take_out.ensures.place
-          c.take_out.ensures.levels c.take_out.ensures.holds c.take_out.ensures.outside.count c.args.c c.args.m
-          ∙ ap (λ (x : Plain). kernel_after_parking c.args.t c.args.c c.args.m (kernel_of x)) c.self.view_is);
+          c.take_out.ensures.levels c.take_out.ensures.holds c.args.c c.args.m
+          ∙ ap (λ (x : Inside). kernel_after_parking c.args.t c.args.c c.args.m (kernel_of x)) c.self.view_is);
       sound = rw (c.get.ensures.value, c.push_within.ensures.items)
           (sound_parked p c.take_out.new.self c.take_out.new.table c.args.t d.0 d.1 d.2 c.take_out.ensures.place
-          c.take_out.ensures.levels c.take_out.ensures.holds c.take_out.ensures.outside.count c.args.c c.args.m);
+          c.take_out.ensures.levels c.take_out.ensures.holds c.args.c c.args.m);
     }

@@ -1,7 +1,7 @@
 use Rattle.std.proofs.Common.{◌≡◌, drop}
 use Rattle.pif_model.specs.declared.lines.Status.TheVariants.{Ended}
 use Rattle.pif_model.specs.PiKernel.{seat_at, after_deaths}
-use Rattle.pif_kernel.specs.Plain.{IsSound, kernel_of}
+use Rattle.pif_kernel.specs.Inside.{IsSound, kernel_of}
 use Rattle.pif_kernel.specs.Systems.{system_of}
 use Rattle.pif_plain.proofs.parts.Parts.pass_all_on.Given as goal
 

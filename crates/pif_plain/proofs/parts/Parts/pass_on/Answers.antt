@@ -4,8 +4,8 @@ use Rattle.pif_model.specs.Word.{Words, word_at, set_word, orphan_word, inherit_
 use Rattle.pif_model.specs.PiKernel.{Kernel, System, seat_at, state_at, after_death, kernel_after_hand_over, next_in}
 use Rattle.pif_word.specs.WordMap.{words_of}
 use Rattle.pif_chains.proofs.KernelExit.{death-no_word, death-other_number, death-other_owner, death-orphaned, death-inherited, death-ended}
-use Rattle.pif_kernel.specs.Plain.{Plain, kernel_of, key_at}
-use Rattle.pif_plain.specs.Fields.{plain_of}
+use Rattle.pif_kernel.specs.Inside.{Inside, kernel_of, key_at}
+use Rattle.pif_plain.specs.Fields.{inside_of}
 use Rattle.pif_kernel.specs.Systems.{system_of}
 use Rattle.pif_kernel.proofs.Answering.{word_seen, number_seen, some_word, no_word, words_stored}
 use Rattle.pif_kernel.proofs.CallFacts.{some_state, no_state, state_named, next_below}
@@ -55,9 +55,9 @@ inherited c n =
     let same : c.owner.result ≡ c.args.t = grind (arith, nat_tests, c.eq.ensures, c.if-eq.true) in
     let at : key_at c.args.self.now c.args.m ≡ Some c.in-Some.key = sym c.key.ensures ∙ c.in-Some.is in
     let s : state_at (kernel_of c.args.self.now) c.args.m ≡ c.owner.result
-    = sym (ap (λ (x : Plain). state_at (kernel_of x) c.args.m) c.self.view_is)
-    ∙ state_named (plain_of c.self.inside) c.args.m c.in-Some.key c.owner.result
-    (ap (λ (x : Plain). key_at x c.args.m) c.self.view_is ∙ at) c.owner.ensures.value in
+    = sym (ap (λ (x : Inside). state_at (kernel_of x) c.args.m) c.self.view_is)
+    ∙ state_named (inside_of c.self.inside) c.args.m c.in-Some.key c.owner.result
+    (ap (λ (x : Inside). key_at x c.args.m) c.self.view_is ∙ at) c.owner.ensures.value in
     let ws : Words = words_of c.args.words.now in
     let k : Kernel = kernel_of c.args.self.now in
     let next : c.hand_over-next.result ≡ next_in k c.args.m = c.hand_over-next.ensures.next in
@@ -101,8 +101,8 @@ returns-else-eq-clause-after c =
     let other : c.owner.result ≢ c.args.t = λ z. absurd (grind (arith, nat_tests, c.eq.ensures, c.if-eq.false)) in
     let at : key_at c.args.self.now c.args.m ≡ Some c.in-Some.key = sym c.key.ensures ∙ c.in-Some.is in
     let s : state_at (kernel_of c.args.self.now) c.args.m ≡ c.owner.result
-    = sym (ap (λ (x : Plain). state_at (kernel_of x) c.args.m) c.self.view_is)
-    ∙ state_named (plain_of c.self.inside) c.args.m c.in-Some.key c.owner.result
-    (ap (λ (x : Plain). key_at x c.args.m) c.self.view_is ∙ at) c.owner.ensures.value in
+    = sym (ap (λ (x : Inside). state_at (kernel_of x) c.args.m) c.self.view_is)
+    ∙ state_named (inside_of c.self.inside) c.args.m c.in-Some.key c.owner.result
+    (ap (λ (x : Inside). key_at x c.args.m) c.self.view_is ∙ at) c.owner.ensures.value in
     sym (death-other_owner c.args.t c.args.m (system_of c.args.words.now c.args.self.now)
     (some_state c.args.self.now c.requires.sound c.args.m c.in-Some.key at) (λ z. other (sym s ∙ z)))

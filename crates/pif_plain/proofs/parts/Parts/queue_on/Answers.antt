@@ -2,8 +2,8 @@ use Rattle.std.proofs.Common.{[], ◌∷◌, ◌++◌, set, is_some, subst, sym,
 use Rattle.pif_model.specs.declared.lines.Status.TheVariants.{Queued}
 use Rattle.pif_model.specs.PiKernel.{Kernel, has_seat, is_ready, kernel_after_queueing}
 use Rattle.pif_model.specs.PiKernel.{seat_at as kernel_seat_at}
-use Rattle.pif_kernel.specs.Plain.{Plain, IsOpened, kernel_of, key_at}
-use Rattle.pif_plain.specs.Fields.{plain_of}
+use Rattle.pif_kernel.specs.Inside.{Inside, IsOpened, kernel_of, key_at}
+use Rattle.pif_plain.specs.Fields.{inside_of}
 use Rattle.pif_kernel.proofs.WalkSound.{IsWalkable, on_levels, on_running, on_local, ended}
 use Rattle.pif_kernel.proofs.QueueingFacts.{IsEntered, entry, folded, no_cycle, local_low, place, free, room, on_level, before_walk}
 use Rattle.pif_kernel.proofs.Waiters.{room_for}
@@ -13,7 +13,7 @@ use Rattle.pif_plain.proofs.parts.Parts.queue_on.Goals as goal
 pub state_of-key-requires : goal.state_of-key-requires
 state_of-key-requires c = record {
   mutex = omega (arith, c.take_ticket-ticket.ensures.sound.placed.keys, c.requires.mutex);
-  key = c.requires.key ∙ sym (ap (λ (x : Plain). key_at x c.args.m) c.take_ticket-ticket.ensures.frame);
+  key = c.requires.key ∙ sym (ap (λ (x : Inside). key_at x c.args.m) c.take_ticket-ticket.ensures.frame);
   room = λ none.
       (room_for c.take_ticket-ticket.new.self c.take_ticket-ticket.ensures.sound c.args.t
       (ap (λ (k : Kernel). has_seat k c.args.t) c.take_ticket-ticket.ensures.same ∙ c.requires.added)
@@ -24,10 +24,10 @@ state_of-key-requires c = record {
 -- what is known once a ticket was taken and there is an owner state
 entered : (c : After-local)
     → IsEntered c.args.self.now c.take_ticket-ticket.new.self
-    (plain_of c.self.inside) c.args.t c.args.m c.args.owner c.state_of-key.result c.take_ticket-ticket.result
+    (inside_of c.self.inside) c.args.t c.args.m c.args.owner c.state_of-key.result c.take_ticket-ticket.result
 entered c =
-    let x : Plain = plain_of c.self.inside in
-    let p : Plain = c.take_ticket-ticket.new.self in
+    let x : Inside = inside_of c.self.inside in
+    let p : Inside = c.take_ticket-ticket.new.self in
     folded c.args.self.now p x c.args.t c.args.m c.args.owner c.state_of-key.result c.take_ticket-ticket.result
     (entry c.args.self.now p x c.args.t c.args.m c.args.owner c.state_of-key.result c.take_ticket-ticket.result
     (omega (arith, c.get-number.ensures.value, c.get-number.ensures.range))
@@ -41,7 +41,7 @@ entered c =
     })
     c.take_ticket-ticket.ensures.frame c.take_ticket-ticket.ensures.next c.take_ticket-ticket.ensures.rises
     c.take_ticket-ticket.ensures.same c.take_ticket-ticket.ensures.sound
-    (subst (λ (z : Plain). IsOpened p z c.args.m c.args.owner c.state_of-key.result)
+    (subst (λ (z : Inside). IsOpened p z c.args.m c.args.owner c.state_of-key.result)
     (sym c.self.view_is) c.state_of-key.ensures))
 
 pub unwrap-prio-requires : goal.unwrap-prio-requires
@@ -79,8 +79,8 @@ take_out-requires-clause-queued c =
 -- what is kept before the walk
 queued : (c : After-take_out)
     → IsEntered c.args.self.now c.take_ticket-ticket.new.self
-    (plain_of c.self.inside) c.args.t c.args.m c.args.owner c.state_of-key.result c.take_ticket-ticket.result
-    → IsWalkable (record (plain_of c.self.inside) {
+    (inside_of c.self.inside) c.args.t c.args.m c.args.owner c.state_of-key.result c.take_ticket-ticket.result
+    → IsWalkable (record (inside_of c.self.inside) {
       statuses = set c.self.inside.statuses.items c.args.t
           (Queued c.args.m);
       owners = c.enqueue.new.self;
@@ -94,7 +94,7 @@ queued c i =
     let value = rw c.unwrap-prio.ensures at c.local.ensures.value in
     before_walk _ _ _ _ _ _ _ _ i c.unwrap-prio.result c.enqueue.new.self c.take_out.new.self c.take_out.new.table value
     c.enqueue.ensures.queued
-    c.take_out.ensures.place c.take_out.ensures.levels c.take_out.ensures.holds c.take_out.ensures.outside.count
+    c.take_out.ensures.place c.take_out.ensures.levels c.take_out.ensures.holds
 
 pub walk-requires : goal.walk-requires
 walk-requires c =
@@ -116,7 +116,7 @@ returns c =
     let w = queued a.After-take_out (entered a.After-local) in
     let e
     = ended _ _ _ w c.walk.new.owners c.walk.new.queue c.walk.new.table c.walk.ensures.repaired c.walk.ensures.levels
-    c.walk.ensures.place c.walk.ensures.holds c.walk.ensures.outside.count in
+    c.walk.ensures.place c.walk.ensures.holds in
     record {
       after = rw (c.get.ensures.value, c.push_within.ensures.items) e.0;
       sound = rw

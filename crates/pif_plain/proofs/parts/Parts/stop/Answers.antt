@@ -1,7 +1,7 @@
 use Rattle.std.proofs.Common.{◌≡◌, true, subst, sym, ◌∙◌, ap, arith}
 use Rattle.pif_model.specs.PiKernel.{has_seat, is_ready, seat_at, kernel_after_stop}
-use Rattle.pif_kernel.specs.Plain.{Plain, IsSound, kernel_of}
-use Rattle.pif_plain.specs.Fields.{plain_of}
+use Rattle.pif_kernel.specs.Inside.{Inside, IsSound, kernel_of}
+use Rattle.pif_plain.specs.Fields.{inside_of}
 use Rattle.pif_kernel.proofs.Seats.{added_seen}
 use Rattle.pif_kernel.proofs.Standing.{fits, ready_queued}
 use Rattle.pif_kernel.proofs.RestSound.{kernel_stopped, sound_stopped}
@@ -9,36 +9,36 @@ use Rattle.pif_plain.proofs.parts.Parts.stop.Goals as goal
 
 pub index_mut-requires : goal.index_mut-requires
 index_mut-requires c =
-    let p : Plain = plain_of c.self.inside in
+    let p : Inside = inside_of c.self.inside in
     let h : IsSound p = subst IsSound (sym c.self.view_is) c.requires.sound in
     let known : has_seat (kernel_of p) c.args.t ≡ true
-    = subst (λ (x : Plain). has_seat (kernel_of x) c.args.t ≡ true) (sym c.self.view_is) c.requires.added in
+    = subst (λ (x : Inside). has_seat (kernel_of x) c.args.t ≡ true) (sym c.self.view_is) c.requires.added in
     omega (arith, (added_seen p (fits p h) c.args.t known).1, c.get.ensures.value)
 
 pub take_out-requires-clause-queued : goal.take_out-requires-clause-queued
 take_out-requires-clause-queued c =
-    let p : Plain = plain_of c.self.inside in
+    let p : Inside = inside_of c.self.inside in
     let h : IsSound p = subst IsSound (sym c.self.view_is) c.requires.sound in
-    ready_queued p h c.args.t (subst (λ (x : Plain). has_seat (kernel_of x) c.args.t ≡ true)
+    ready_queued p h c.args.t (subst (λ (x : Inside). has_seat (kernel_of x) c.args.t ≡ true)
     (sym c.self.view_is) c.requires.added)
-    (subst (λ (x : Plain). is_ready (seat_at (kernel_of x) c.args.t).status ≡ true)
+    (subst (λ (x : Inside). is_ready (seat_at (kernel_of x) c.args.t).status ≡ true)
     (sym c.self.view_is) c.requires.ready)
 
 pub returns : goal.returns
 returns c =
-    let p : Plain = plain_of c.self.inside in
+    let p : Inside = inside_of c.self.inside in
     let h : IsSound p = subst IsSound (sym c.self.view_is) c.requires.sound in
     let known : has_seat (kernel_of p) c.args.t ≡ true
-    = subst (λ (x : Plain). has_seat (kernel_of x) c.args.t ≡ true) (sym c.self.view_is) c.requires.added in
+    = subst (λ (x : Inside). has_seat (kernel_of x) c.args.t ≡ true) (sym c.self.view_is) c.requires.added in
     let ready : is_ready (seat_at (kernel_of p) c.args.t).status ≡ true
-    = subst (λ (x : Plain). is_ready (seat_at (kernel_of x) c.args.t).status ≡ true)
+    = subst (λ (x : Inside). is_ready (seat_at (kernel_of x) c.args.t).status ≡ true)
     (sym c.self.view_is) c.requires.ready in
     record {
       after = rw c.get.ensures.value
           (kernel_stopped p c.take_out.new.self c.take_out.new.table c.args.t h known ready c.take_out.ensures.place
-          c.take_out.ensures.levels c.take_out.ensures.holds c.take_out.ensures.outside.count
-          ∙ ap (λ (x : Plain). kernel_after_stop c.args.t (kernel_of x)) c.self.view_is);
+          c.take_out.ensures.levels c.take_out.ensures.holds
+          ∙ ap (λ (x : Inside). kernel_after_stop c.args.t (kernel_of x)) c.self.view_is);
       sound = rw c.get.ensures.value
           (sound_stopped p c.take_out.new.self c.take_out.new.table c.args.t h known ready c.take_out.ensures.place
-          c.take_out.ensures.levels c.take_out.ensures.holds c.take_out.ensures.outside.count);
+          c.take_out.ensures.levels c.take_out.ensures.holds);
     }

@@ -4,7 +4,7 @@ use Rattle.pif_model.specs.Word.{Words, word_at, set_word, taken_word, mark_word
 use Rattle.pif_model.specs.PiKernel.{Kernel, System, seat_at, is_living, may_queue, without_parking, kernel_after_queueing}
 use Rattle.pif_chains.proofs.KernelTaken.{may_queue-facts}
 use Rattle.pif_word.specs.WordMap.{words_of}
-use Rattle.pif_kernel.specs.Plain.{kernel_of}
+use Rattle.pif_kernel.specs.Inside.{kernel_of}
 use Rattle.pif_kernel.specs.Systems.{system_of}
 use Rattle.pif_kernel.proofs.Answering.{word_seen, number_seen, none_zero, some_value, words_stored}
 use Rattle.pif_kernel.proofs.CallFacts.{number_below}

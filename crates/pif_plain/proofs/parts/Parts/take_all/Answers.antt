@@ -3,7 +3,7 @@ use Rattle.pif_model.specs.declared.lines.Status.TheVariants.{Parked}
 use Rattle.pif_model.specs.PiKernel.{System, seat_at, is_parked, has_parked, top_parked, parked_count, after_taking, after_takings}
 use Rattle.pif_chains.proofs.KernelWoken.{top-parked}
 use Rattle.pif_chains.proofs.KernelTaken.{takings-none, takings-more}
-use Rattle.pif_kernel.specs.Plain.{kernel_of}
+use Rattle.pif_kernel.specs.Inside.{kernel_of}
 use Rattle.pif_kernel.specs.Systems.{system_of}
 use Rattle.pif_kernel.proofs.RequeueAnswers.{count_none}
 use Rattle.pif_kernel.proofs.TakingSound.{taken_cell, taken_fits, taken_count, count_few, min_first, takings_zero, next_some, next_none}

@@ -2,7 +2,7 @@ use Rattle.std.proofs.Common.{◌≡◌, ℕ, ◌+◌, true}
 use Rattle.pif_model.specs.PiKernel.{has_parked, parked_count, after_takings}
 use Rattle.pif_word.specs.declared.cells.Cell.TheVariants.{Mutex}
 use Rattle.pif_word.specs.WordMap.{HasCell}
-use Rattle.pif_kernel.specs.Plain.{IsSound, kernel_of}
+use Rattle.pif_kernel.specs.Inside.{IsSound, kernel_of}
 use Rattle.pif_kernel.specs.Systems.{system_of}
 use Rattle.pif_kernel.specs.Takings.{FitsWord}
 use Rattle.pif_plain.proofs.parts.Parts.take_all.Given as goal

@@ -1,6 +1,6 @@
 use Rattle.std.proofs.Common.{◌≡◌, ◌<◌, subst, sym, ap, ◌∙◌, arith}
-use Rattle.pif_kernel.specs.Plain.{Plain, IsSound, kernel_of}
-use Rattle.pif_plain.specs.Fields.{plain_of}
+use Rattle.pif_kernel.specs.Inside.{Inside, IsSound, kernel_of}
+use Rattle.pif_plain.specs.Fields.{inside_of}
 use Rattle.pif_kernel.proofs.Waiters.{arrivals_few}
 use Rattle.pif_kernel.proofs.RenumberSound.{kernel_next, sound_next}
 use Rattle.pif_plain.proofs.parts.Parts.take_ticket.Goals as goal
@@ -14,7 +14,7 @@ returns-clause-same c =
           ∙ w.renumber.ensures.same
       | else-self w ↦ (let e : c.if-self.self ≡ c.args.self.now = cc in ap kernel_of e)
     ] in
-    kernel_next (plain_of c.self-2.inside) _ ∙ ap kernel_of c.self-2.view_is ∙ same
+    kernel_next (inside_of c.self-2.inside) _ ∙ ap kernel_of c.self-2.view_is ∙ same
 
 pub returns-clause-sound : goal.returns-clause-sound
 returns-clause-sound c =
@@ -24,7 +24,7 @@ returns-clause-sound c =
       | else-self w ↦
           (let e : c.if-self.self ≡ c.args.self.now = cc in subst IsSound (sym e) c.requires.sound)
     ] in
-    sound_next (plain_of c.self-2.inside) (subst IsSound (sym c.self-2.view_is) sound)
+    sound_next (inside_of c.self-2.inside) (subst IsSound (sym c.self-2.view_is) sound)
 
 pub overflow_add-self : goal.overflow_add-self
 overflow_add-self c =
@@ -33,17 +33,17 @@ overflow_add-self c =
       | then-self w ↦
           omega (
             arith,
-            ap (λ (x : Plain). x.next) w.self-is,
+            ap (λ (x : Inside). x.next) w.self-is,
             w.renumber.ensures.next,
             arrivals_few c.args.self.now c.requires.sound,
           )
       | else-self w ↦
           omega (
             arith,
-            ap (λ (x : Plain). x.next) w.self-is,
+            ap (λ (x : Inside). x.next) w.self-is,
             w.if-self.false,
             c.self.ranges,
-            ap (λ (x : Plain). x.next) c.self.view_is,
+            ap (λ (x : Inside). x.next) c.self.view_is,
           )
     ] in
-    omega (arith, below, ap (λ (x : Plain). x.next) c.self-2.view_is)
+    omega (arith, below, ap (λ (x : Inside). x.next) c.self-2.view_is)

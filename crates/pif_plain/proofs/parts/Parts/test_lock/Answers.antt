@@ -4,7 +4,7 @@ use Rattle.pif_model.specs.PiKernel.{state_at, wait_answer, lock_answer}
 use Rattle.pif_word.specs.WordMap.{words_of}
 use Rattle.pif_kernel.specs.Answers.{wait_test_answer}
 use Rattle.pif_plain.specs.Found.{lock_test_answer}
-use Rattle.pif_kernel.specs.Plain.{kernel_of, owner_under}
+use Rattle.pif_kernel.specs.Inside.{kernel_of, owner_under}
 use Rattle.pif_kernel.proofs.Seats.{states_seen}
 use Rattle.pif_kernel.proofs.Answering.{number_seen, some_word, no_word, none_zero, some_value, lock_fault, lock_own, lock_free, lock_disagrees, lock_waits}
 use Rattle.pif_kernel.proofs.CallFacts.{state_keyed, state_keyless}

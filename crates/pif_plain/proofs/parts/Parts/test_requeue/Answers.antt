@@ -2,7 +2,7 @@ use Rattle.std.proofs.Common.{◌≡◌, ℕ, Bool, true, false, true≢false, O
 use Rattle.pif_model.specs.Word.{word_at}
 use Rattle.pif_model.specs.PiKernel.{has_parked, top_parked, state_at, fits_state}
 use Rattle.pif_word.specs.WordMap.{words_of}
-use Rattle.pif_kernel.specs.Plain.{kernel_of}
+use Rattle.pif_kernel.specs.Inside.{kernel_of}
 use Rattle.pif_kernel.specs.Systems.{system_of}
 use Rattle.pif_kernel.proofs.Answering.{number_seen}
 use Rattle.pif_kernel.proofs.RequeueAnswers.{requeue_fault, requeue_many, requeue_changed, requeue_other, requeue_nobody, requeue_unfit, requeue_goes, none_counted, fits_word}

@@ -1,5 +1,5 @@
 use Rattle.std.proofs.Common.{◌≤◌, sym, ◌∙◌}
-use Rattle.pif_kernel.specs.Plain.{kernel_of}
+use Rattle.pif_kernel.specs.Inside.{kernel_of}
 use Rattle.pif_kernel.proofs.Answering.{none_out, some_in, set_prio_invalid, set_prio_dead, set_prio_done}
 use Rattle.pif_plain.proofs.parts.Parts.test_set_prio.Goals as goal
 

@@ -3,8 +3,8 @@ use Rattle.std.proofs.lemmas.Bool.Decides.{nat_tests}
 use Rattle.pif_model.specs.Word.{word_at}
 use Rattle.pif_model.specs.PiKernel.{state_at}
 use Rattle.pif_word.specs.WordMap.{words_of}
-use Rattle.pif_kernel.specs.Plain.{Plain, kernel_of, key_at}
-use Rattle.pif_plain.specs.Fields.{plain_of}
+use Rattle.pif_kernel.specs.Inside.{Inside, kernel_of, key_at}
+use Rattle.pif_plain.specs.Fields.{inside_of}
 use Rattle.pif_kernel.proofs.Answering.{number_seen, some_word, no_word, unlock_fault, unlock_other, unlock_done, unlock_disagrees}
 use Rattle.pif_kernel.proofs.CallFacts.{some_state, no_state, state_named, named_or_none, named_other}
 use Rattle.pif_plain.proofs.parts.Parts.test_unlock.Goals.{After-get}
@@ -40,11 +40,11 @@ returns-in-Some-clause-answer c =
     let e : c.has.result ≡ true = grind arith in
     let n = number (goal.at.returns-in-Some-clause-answer c).After-get in
     let same : c.owner.result ≡ c.args.t = grind (arith, nat_tests, c.eq.ensures, c.if-eq.true) in
-    let at : key_at (plain_of c.self.inside) c.args.m ≡ Some c.in-Some.key
-    = ap (λ (x : Plain). key_at x c.args.m) c.self.view_is ∙ sym c.key.ensures ∙ c.in-Some.is in
+    let at : key_at (inside_of c.self.inside) c.args.m ≡ Some c.in-Some.key
+    = ap (λ (x : Inside). key_at x c.args.m) c.self.view_is ∙ sym c.key.ensures ∙ c.in-Some.is in
     let s
-    = sym (ap (λ (x : Plain). state_at (kernel_of x) c.args.m) c.self.view_is)
-    ∙ state_named (plain_of c.self.inside) c.args.m c.in-Some.key c.owner.result at c.owner.ensures.value in
+    = sym (ap (λ (x : Inside). state_at (kernel_of x) c.args.m) c.self.view_is)
+    ∙ state_named (inside_of c.self.inside) c.args.m c.in-Some.key c.owner.result at c.owner.ensures.value in
     unlock_done _ _ _ _ (some_word c.args.words.now c.args.m (c.has.ensures.0 e))
     (n ∙ c.if-number-get.false ∙ c.get.ensures.value) (named_or_none _ _ (inr (s ∙ same)))
 
@@ -53,11 +53,11 @@ returns-in-Some-2-clause-answer c =
     let e : c.has.result ≡ true = grind arith in
     let n = number (goal.at.returns-in-Some-2-clause-answer c).After-get in
     let other : c.owner.result ≢ c.args.t = λ z. absurd (grind (arith, nat_tests, c.eq.ensures, c.if-eq.false)) in
-    let at : key_at (plain_of c.self.inside) c.args.m ≡ Some c.in-Some.key
-    = ap (λ (x : Plain). key_at x c.args.m) c.self.view_is ∙ sym c.key.ensures ∙ c.in-Some.is in
+    let at : key_at (inside_of c.self.inside) c.args.m ≡ Some c.in-Some.key
+    = ap (λ (x : Inside). key_at x c.args.m) c.self.view_is ∙ sym c.key.ensures ∙ c.in-Some.is in
     let s
-    = sym (ap (λ (x : Plain). state_at (kernel_of x) c.args.m) c.self.view_is)
-    ∙ state_named (plain_of c.self.inside) c.args.m c.in-Some.key c.owner.result at c.owner.ensures.value in
+    = sym (ap (λ (x : Inside). state_at (kernel_of x) c.args.m) c.self.view_is)
+    ∙ state_named (inside_of c.self.inside) c.args.m c.in-Some.key c.owner.result at c.owner.ensures.value in
     unlock_disagrees _ _ _ _ (some_word c.args.words.now c.args.m (c.has.ensures.0 e))
     (n ∙ c.if-number-get.false ∙ c.get.ensures.value)
     (named_other _ _ (some_state c.args.self.now c.requires c.args.m c.in-Some.key (sym c.key.ensures ∙ c.in-Some.is))

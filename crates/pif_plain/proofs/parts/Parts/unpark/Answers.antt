@@ -1,15 +1,15 @@
 use Rattle.std.proofs.Common.{◌≡◌, ◌==◌, true, false, if◌then◌else◌, List, ap, ◌∙◌, rules, tests}
 use Rattle.std.proofs.lemmas.Fn.{filter_same}
-use Rattle.pif_kernel.specs.declared.parkings.Parking.{Parking}
-use Rattle.pif_kernel.specs.Plain.{Plain, parked_but}
-use Rattle.pif_plain.specs.Fields.{plain_of}
+use Rattle.pif_model.specs.PiKernel.{Parking, unparked}
+use Rattle.pif_kernel.specs.Inside.{Inside}
+use Rattle.pif_plain.specs.Fields.{inside_of}
 use Rattle.pif_plain.proofs.parts.Parts.unpark.Goals as goal
 
 pub returns : goal.returns
 returns c =
-    let p : Plain = plain_of c.self.inside in
-    let others : c.retain.new.self.items ≡ parked_but p.parked c.args.t
+    let p : Inside = inside_of c.self.inside in
+    let others : c.retain.new.self.items ≡ unparked p.parked c.args.t
     = filter_same _ (λ (x : Parking). if x.thread == c.args.t then false else true) _
     (λ x b f' k. (search (rules, tests), search rules)) _ _ c.retain.ensures.filtered in
     ap (λ (ps : List Parking). record p { parked = ps }) others
-    ∙ ap (λ (x : Plain). record x { parked = parked_but x.parked c.args.t }) c.self.view_is
+    ∙ ap (λ (x : Inside). record x { parked = unparked x.parked c.args.t }) c.self.view_is

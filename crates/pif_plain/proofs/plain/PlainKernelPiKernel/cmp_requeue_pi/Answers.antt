@@ -1,7 +1,7 @@
 use Rattle.std.proofs.Common.{◌≡◌, Ok, ◌+◌, ap, ◌∙◌}
 use Rattle.pif_model.specs.PiKernel.{System, after_takings, after_requeue}
 use Rattle.pif_word.specs.WordMap.{words_of}
-use Rattle.pif_kernel.specs.Plain.{Plain, kernel_of}
+use Rattle.pif_kernel.specs.Inside.{Inside, kernel_of}
 use Rattle.pif_kernel.specs.Systems.{system_of}
 use Rattle.pif_kernel.proofs.TakingSound.{requeued_is}
 use Rattle.pif_plain.proofs.plain.PlainKernelPiKernel.cmp_requeue_pi.Goals.{After-take_all}
@@ -13,7 +13,7 @@ after : (c : After-take_all) → system_of c.take_all.new.words c.take_all.new.s
     (kernel_of c.args.self.now)
 after c =
     c.take_all.ensures.after
-    ∙ ap (λ (p : Plain). after_takings (c.args.more + 1) c.args.c c.args.m (system_of c.args.words.now p))
+    ∙ ap (λ (p : Inside). after_takings (c.args.more + 1) c.args.c c.args.m (system_of c.args.words.now p))
     c.self.view_is
     ∙ requeued_is c.args.c c.args.m c.args.more c.take_all.result (words_of c.args.words.now)
     (kernel_of c.args.self.now)

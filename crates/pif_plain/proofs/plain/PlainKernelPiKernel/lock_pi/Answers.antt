@@ -4,7 +4,7 @@ use Rattle.pif_model.specs.PiKernel.{has_seat, kernel_after_queueing}
 use Rattle.pif_word.specs.WordMap.{words_of}
 use Rattle.pif_plain.specs.declared.refusals.Found.{Found}
 use Rattle.pif_plain.specs.Found.{IsWord, IsHeld, IsFound}
-use Rattle.pif_kernel.specs.Plain.{Plain, kernel_of}
+use Rattle.pif_kernel.specs.Inside.{Inside, kernel_of}
 use Rattle.pif_kernel.proofs.Answering.{word_seen, words_stored}
 use Rattle.pif_kernel.proofs.CallFacts.{number_below, words_owns, words_queued, kernel_queued}
 use Rattle.pif_plain.proofs.plain.PlainKernelPiKernel.lock_pi.Goals as goal
@@ -12,7 +12,7 @@ use Rattle.pif_plain.proofs.plain.PlainKernelPiKernel.lock_pi.Goals as goal
 pub taken_word-requires : goal.taken_word-requires
 taken_word-requires c =
     let known : has_seat (kernel_of c.self.inside.parts) c.args.t ≡ true
-    = subst (λ (x : Plain). has_seat (kernel_of x) c.args.t ≡ true) (sym c.self.view_is) c.requires.added in
+    = subst (λ (x : Inside). has_seat (kernel_of x) c.args.t ≡ true) (sym c.self.view_is) c.requires.added in
     omega (arith, c.get.ensures.value, number_below c.self.inside.parts c.self.invariant c.args.t known)
 
 pub returns-in-Free-clause-words : goal.returns-in-Free-clause-words
@@ -47,7 +47,7 @@ returns-in-Held-clause-after c =
     let w : word_at ws c.args.m ≡ word_of c.in-Held.word
     = word_seen c.args.words.now c.args.m c.in-Held.word f.stored.bits in
     c.queue_on.ensures.after
-    ∙ ap (λ (x : Plain). kernel_after_queueing c.args.t c.args.m c.in-Held.owner (kernel_of x)) c.self.view_is
+    ∙ ap (λ (x : Inside). kernel_after_queueing c.args.t c.args.m c.in-Held.owner (kernel_of x)) c.self.view_is
     ∙ ap (λ (n : ℕ). kernel_after_queueing c.args.t c.args.m n (kernel_of c.args.self.now))
     (f.number ∙ ap (λ x. x.number) (sym w))
     ∙ sym (kernel_queued c.args.t c.args.m ws (kernel_of c.args.self.now))

@@ -1,4 +1,4 @@
-use Rattle.pif_kernel.specs.Plain.{kernel_of}
+use Rattle.pif_kernel.specs.Inside.{kernel_of}
 use Rattle.pif_kernel.proofs.Answering.{set_prio_lives}
 use Rattle.pif_plain.proofs.plain.PlainKernelPiKernel.set_prio.Goals as goal
 

@@ -2,7 +2,7 @@ use Rattle.std.proofs.Common.{◌≡◌, ℕ, true, subst, sym, ap, ◌∙◌, a
 use Rattle.pif_model.specs.Word.{Words, word_of, word_at, set_word, taken_word}
 use Rattle.pif_model.specs.PiKernel.{has_seat}
 use Rattle.pif_word.specs.WordMap.{words_of}
-use Rattle.pif_kernel.specs.Plain.{Plain, kernel_of}
+use Rattle.pif_kernel.specs.Inside.{Inside, kernel_of}
 use Rattle.pif_kernel.proofs.Answering.{word_seen, words_stored}
 use Rattle.pif_kernel.proofs.CallFacts.{number_below, words_tried}
 use Rattle.pif_plain.proofs.plain.PlainKernelPiKernel.trylock_pi.Goals as goal
@@ -10,7 +10,7 @@ use Rattle.pif_plain.proofs.plain.PlainKernelPiKernel.trylock_pi.Goals as goal
 pub taken_word-requires : goal.taken_word-requires
 taken_word-requires c =
     let known : has_seat (kernel_of c.self.inside.parts) c.args.t ≡ true
-    = subst (λ (x : Plain). has_seat (kernel_of x) c.args.t ≡ true) (sym c.self.view_is) c.requires.added in
+    = subst (λ (x : Inside). has_seat (kernel_of x) c.args.t ≡ true) (sym c.self.view_is) c.requires.added in
     omega (arith, c.get.ensures.value, number_below c.self.inside.parts c.self.invariant c.args.t known)
 
 pub returns-clause-words : goal.returns-clause-words

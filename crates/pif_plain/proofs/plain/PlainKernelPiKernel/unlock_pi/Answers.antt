@@ -2,7 +2,7 @@ use Rattle.std.proofs.Common.{◌≡◌, ℕ, Ok, Some, subst, sym, ap, ◌∙�
 use Rattle.pif_model.specs.Word.{Words, word_of, set_word, hand_word}
 use Rattle.pif_model.specs.PiKernel.{seat_at, queued_on, words_after_unlock, kernel_after_unlock, kernel_after_hand_over}
 use Rattle.pif_word.specs.WordMap.{words_of}
-use Rattle.pif_kernel.specs.Plain.{Plain, kernel_of, key_at}
+use Rattle.pif_kernel.specs.Inside.{Inside, kernel_of, key_at}
 use Rattle.pif_chains.proofs.Statuses.{ready-queued_on_nothing}
 use Rattle.pif_kernel.proofs.Seats.{states_seen}
 use Rattle.pif_kernel.proofs.Answering.{words_stored}
@@ -12,19 +12,19 @@ use Rattle.pif_plain.proofs.plain.PlainKernelPiKernel.unlock_pi.Goals.{in-Some, 
 
 pub hand_over-requires-clause-owner : goal.hand_over-requires-clause-owner
 hand_over-requires-clause-owner c =
-    let p : Plain = c.self.inside.parts in
+    let p : Inside = c.self.inside.parts in
     let at : key_at p c.args.m ≡ Some c.in-Some.key = sym c.in_ok-key.ensures.own.at ∙ c.in-Some.is in
     c.in_ok-key.ensures.own.state (λ z. some_state p c.self.invariant c.args.m c.in-Some.key at
     (states_seen p c.args.m ∙ z))
 
 pub hand_over-requires-clause-idle : goal.hand_over-requires-clause-idle
 hand_over-requires-clause-idle c =
-    subst (λ (x : Plain). queued_on (seat_at (kernel_of x) c.args.t).status ≡ 0) (sym c.self.view_is)
+    subst (λ (x : Inside). queued_on (seat_at (kernel_of x) c.args.t).status ≡ 0) (sym c.self.view_is)
     (ready-queued_on_nothing (seat_at (kernel_of c.args.self.now) c.args.t).status c.requires.ready)
 
 pub hand_word-bits-requires : goal.hand_word-bits-requires
 hand_word-bits-requires c =
-    let p : Plain = c.self.inside.parts in
+    let p : Inside = c.self.inside.parts in
     let at : key_at p c.args.m ≡ Some c.in-Some.key = sym c.in_ok-key.ensures.own.at ∙ c.in-Some.is in
     omega (
       arith,
@@ -36,7 +36,7 @@ hand_word-bits-requires c =
 
 pub returns-clause-words : goal.returns-clause-words
 returns-clause-words c =
-    let p : Plain = c.self.inside.parts in
+    let p : Inside = c.self.inside.parts in
     let ws : Words = words_of c.args.words.now in
     let bits : ℕ = c.match-branch-2.bits in
     words_stored c.args.words.now c.store.new.self c.args.m bits c.store.ensures.stored
@@ -52,11 +52,11 @@ returns-clause-words c =
           ∙ sym (words_freed c.args.m ws (kernel_of p)
           (no_state p c.args.m (sym c.in_ok-key.ensures.own.at ∙ w.in-None.is)))
     ]
-    ∙ ap (λ (x : Plain). words_after_unlock c.args.m (Ok (record {})) (kernel_of x) ws) c.self.view_is
+    ∙ ap (λ (x : Inside). words_after_unlock c.args.m (Ok (record {})) (kernel_of x) ws) c.self.view_is
 
 pub returns-clause-after : goal.returns-clause-after
 returns-clause-after c =
-    let p : Plain = c.self.inside.parts in
+    let p : Inside = c.self.inside.parts in
     elim c.match-branch-2.branch [
       | in-Some w ↦
           let at : key_at p c.args.m ≡ Some w.in-Some.key = sym c.in_ok-key.ensures.own.at ∙ w.in-Some.is in
@@ -68,4 +68,4 @@ returns-clause-after c =
           ∙ sym (kernel_freed c.args.m (kernel_of p)
           (no_state p c.args.m (sym c.in_ok-key.ensures.own.at ∙ w.in-None.is)))
     ]
-    ∙ ap (λ (x : Plain). kernel_after_unlock c.args.m (Ok (record {})) (kernel_of x)) c.self.view_is
+    ∙ ap (λ (x : Inside). kernel_after_unlock c.args.m (Ok (record {})) (kernel_of x)) c.self.view_is

@@ -1,21 +1,19 @@
--- What the kernel of this crate keeps, and the kernel by itself that it stands for.
-use Rattle.std.specs.Prelude.{◌==◌, false, ◌≡◌, ◌≢◌, ℕ, ◌+◌, ◌<◌, ◌≤◌, true, if◌then◌else◌, List, [], ◌∷◌, length, map, replicate, get_or, set, Option, Some, None, IsSome, option_map, option_and_then, unwrap_or}
-use Rattle.std.specs.List.{filter}
+-- What a kernel keeps, and the kernel by itself that it stands for.
+use Rattle.std.specs.Prelude.{◌≡◌, ◌≢◌, ℕ, ◌+◌, ◌<◌, ◌≤◌, true, if◌then◌else◌, List, [], ◌∷◌, length, map, replicate, get_or, set, Option, Some, None, IsSome, option_map, option_and_then, unwrap_or}
 use Rattle.pif_types.specs.Bounds.{Bounds, IsWithin}
 use Rattle.pif_model.specs.declared.lines.Status.{Status}
 use Rattle.pif_model.specs.declared.lines.Status.TheVariants.{Ready}
 use Rattle.pif_model.specs.declared.lines.Woken.TheVariants.{Fresh}
 use Rattle.pif_model.specs.Graph.{has_waiter}
 use Rattle.pif_model.specs.PiKernel.{Kernel, IsKernel, queued_on, is_ready, has_seat, is_among, level_at, levels_by, effective_in}
-use Rattle.pif_model.specs.PiKernel.{Seat as KernelSeat, Parking as KernelParking}
+use Rattle.pif_model.specs.PiKernel.{Seat as KernelSeat, Parking}
 use Rattle.pif_nodes.specs.declared.keys.Key.{Key}
 use Rattle.pif_nodes.specs.Table.{Table, no_key}
 use Rattle.pif_runq.specs.Levels.{Queue, Holds, level_of}
-use Rattle.pif_kernel.specs.declared.parkings.Parking.{Parking}
 use Rattle.pif_owners.specs.Owners.{Owners, Seat, seat_at, owner_at, count, waits_on, rank_of, no_seat, no_owners, with_owner}
 
--- what the kernel of this crate keeps
-pub record Plain : Type 0 where
+-- what a kernel keeps
+pub record Inside : Type 0 where
   pub limits : Bounds
   -- the status of each thread, by number; place 0 stands for nobody
   pub statuses : List Status
@@ -27,17 +25,17 @@ pub record Plain : Type 0 where
   pub table : Table
   -- pairs of a thread and the mutex on which it is queued, in order of their tickets
   pub arrivals : List (ℕ × ℕ)
-  -- the parked threads, in order of their tickets. Nothing but that order is asked of these, so they aren't stored
+  -- the parked threads, in order of their tickets. Nothing but that order is asked of these
   pub parked : List Parking
   -- the next ticket
   pub next : ℕ
 
 -- the status of a thread
-abbrev pub status_at : Plain → ℕ → Status
+abbrev pub status_at : Inside → ℕ → Status
 status_at p t = get_or p.statuses t (Ready Fresh)
 
 -- the key of the owner state of a mutex
-abbrev pub key_at : Plain → ℕ → Option ℕ
+abbrev pub key_at : Inside → ℕ → Option ℕ
 key_at p m = get_or p.keys m None
 
 -- the owner in the owner state under a key; 0 where there is no key
@@ -45,7 +43,7 @@ abbrev pub owner_under : Owners → Option ℕ → ℕ
 owner_under v key = unwrap_or (option_and_then (owner_at v) key) 0
 
 -- the owner in the owner state of a mutex; 0 where it has none
-abbrev pub state_at : Plain → ℕ → ℕ
+abbrev pub state_at : Inside → ℕ → ℕ
 state_at p m = owner_under p.owners (key_at p m)
 
 -- a thread, by its status and its row
@@ -58,31 +56,19 @@ seats_of [] rows = []
 seats_of (x ∷ xs) [] = []
 seats_of (x ∷ xs) (r ∷ rows) = seat_of x r ∷ seats_of xs rows
 
--- a parked thread
-abbrev pub parking_of : Parking → KernelParking
-parking_of x = record { thread = x.thread; cond = x.cond; target = x.target }
-
--- the parked threads
-abbrev pub parkings_of : List Parking → List KernelParking
-parkings_of ps = map parking_of ps
-
--- the parked threads but t
-abbrev pub parked_but : List Parking → ℕ → List Parking
-parked_but ps t = filter (λ (x : Parking). if x.thread == t then false else true) ps
-
 -- the kernel by itself
-unfoldable pub kernel_of : Plain → Kernel
+unfoldable pub kernel_of : Inside → Kernel
 kernel_of p = record {
   limits = p.limits;
   seats = seats_of p.statuses p.owners.seats;
   states = map (owner_under p.owners) p.keys;
   waiters = p.arrivals;
-  parked = parkings_of p.parked;
+  parked = p.parked;
   levels = levels_by (level_of p.queue p.table);
 }
 
 -- the next ticket of a kernel
-abbrev pub next_ticket : Plain → ℕ
+abbrev pub next_ticket : Inside → ℕ
 next_ticket p = p.next
 
 -- the ticket with which a thread waits; 0 where it waits for nothing
@@ -104,8 +90,8 @@ unfoldable pub no_keys : List (Option ℕ)
 no_keys = replicate 1025 None
 
 -- what is kept at first
-abbrev pub new_plain : Bounds → ℕ → Plain
-new_plain l first_ticket = record {
+abbrev pub new_inside : Bounds → ℕ → Inside
+new_inside l first_ticket = record {
   limits = l;
   statuses = Ready Fresh ∷ [];
   keys = no_keys;
@@ -118,13 +104,13 @@ new_plain l first_ticket = record {
 }
 
 -- a thread on a level of the run queue was added and may run, and the level is the effective priority that it has
-pub record IsListed (p : Plain) (t level : ℕ) : Type 0 where
+pub record IsListed (p : Inside) (t level : ℕ) : Type 0 where
   pub added : has_seat (kernel_of p) t ≡ true
   pub ready : is_ready (status_at p t) ≡ true
   pub local : (seat_at p.owners t).local ≡ level
 
 -- what holds of the parts at any time, between the steps of a call too
-pub record IsPlaced (p : Plain) : Type 0 where
+pub record IsPlaced (p : Inside) : Type 0 where
   pub within : IsWithin p.limits
   -- a row for each thread that the limits allow, and a place for the key of each mutex that can be
   pub rows : length p.owners.seats ≡ p.limits.threads + 1
@@ -136,9 +122,8 @@ pub record IsPlaced (p : Plain) : Type 0 where
   pub admitted : (t : ℕ) → t ≢ 0 → t < length p.statuses → 1 ≤ (seat_at p.owners t).base
   pub free : (t : ℕ) → length p.statuses ≤ t → seat_at p.owners t ≡ no_seat
   pub most : (t : ℕ) → (seat_at p.owners t).base ≤ 99
-  -- the run queue stands in its table, level 1 and thread 1 first, and the table has no other lists
-  pub lists : length p.table.lists ≡ 99
-  pub queue : p.queue ≡ record { first_list = 0; first_node = 0; threads = p.limits.threads; mask = p.queue.mask }
+  -- the run queue stands in its table, with a node for each thread that the limits allow
+  pub threads : p.queue.threads ≡ p.limits.threads
   pub holds : Holds p.queue p.table
   pub listed : (t level : ℕ) → is_among (level_at (kernel_of p).levels level) t ≡ true → IsListed p t level
   -- a thread waits on the owner state of the mutex on which it is queued
@@ -155,7 +140,7 @@ pub record IsPlaced (p : Plain) : Type 0 where
   pub tickets : Rise (ticket_of p.owners) 1 p.arrivals p.next
 
 -- what holds of the parts between two calls
-pub record IsSound (p : Plain) : Type 0 where
+pub record IsSound (p : Inside) : Type 0 where
   pub placed : IsPlaced p
   -- threads stand with their effective priorities
   pub local : (t : ℕ) → (seat_at p.owners t).local ≡ effective_in (kernel_of p) t
@@ -163,7 +148,7 @@ pub record IsSound (p : Plain) : Type 0 where
   pub kernel : IsKernel (kernel_of p)
 
 -- what is kept once there is an owner state of m, under this key: the one that there was, or a new one of this owner
-pub data IsOpened (old now : Plain) (m owner key : ℕ) : Type 0 where
+pub data IsOpened (old now : Inside) (m owner key : ℕ) : Type 0 where
   found : key_at old m ≡ Some key → now ≡ old → IsOpened old now m owner key
   made : key_at old m ≡ None → owner_at old.owners key ≡ None
       → now ≡ record old { keys = set old.keys m (Some key); owners = with_owner key owner old.owners }
