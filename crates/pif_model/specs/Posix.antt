@@ -6,6 +6,7 @@
 -- pthread_mutexattr_setprotocol, pthread_mutexattr_setrobust and pthread_setschedprio).
 -- It knows no words, no kernel and no chain walks. A call has effects, each of which happens at one moment between its
 -- beginning and its answer. Threads, mutexes and variables are numbered from 1; place 0 of each list stands for nobody.
+-- Each rule says whose it is: a page of POSIX with what it says, or 'this project's choice' where POSIX leaves it open.
 use Rattle.std.specs.Prelude.{ℕ, zero, suc, ◌≡◌, ◌≢◌, ◌≤◌, ◌<◌, ◌+◌, ◌-◌, Bool, true, false, ◌==◌, nat_lt, List, [], ◌∷◌, ◌++◌, length, get_or, set, map, Option, Some, None, is_some, if◌then◌else◌}
 use Rattle.std.specs.List.{list_any}
 use Rattle.pif_types.specs.Bounds.{Bounds}
@@ -201,6 +202,9 @@ abbrev pub effective_of : World → ℕ → ℕ
 effective_of w t = effective_among (length w.threads) (waits_for w) (λ u. (thread_at w u).base) t
 
 -- the waiter that gets m next: the first in arrival among those of greatest effective priority; 0 where none waits
+-- (pthread_mutex_unlock: the scheduling policy determines which thread acquires the mutex; under SCHED_FIFO that is one
+-- of greatest priority. Who comes first among equals, by arrival and also after a change of priority, is this project's
+-- choice)
 abbrev pub next_of : World → ℕ → ℕ
 next_of w m = next_waiter (effective_of w) w.waiters m
 
@@ -208,7 +212,8 @@ next_of w m = next_waiter (effective_of w) w.waiters m
 abbrev pub leads_to : World → ℕ → ℕ → Bool
 leads_to w u t = reaches_within (length w.threads) (waits_for w) u t
 
--- whether m is lost: stalled, and its owner has ended
+-- whether m is lost: stalled, and its owner has ended (pthread_mutexattr_setrobust, PTHREAD_MUTEX_STALLED: no special
+-- action is taken if the owner ends)
 abbrev pub is_lost : World → ℕ → Bool
 is_lost w m =
     if (mutex_at w m).robust then false
@@ -277,7 +282,8 @@ is_still_blocked w t c u = if is_blocked_on w c u then is_found w t u else false
 
 -- EFFECTS
 
--- what taking a mutex leads to, by its health: 0, EOWNERDEAD, or leaving
+-- what taking a mutex leads to, by its health: 0; EOWNERDEAD (pthread_mutex_lock: the lock is acquired, and it is up to
+-- the new owner to make the state consistent); or leaving, since nobody locks an Unusable mutex (ENOTRECOVERABLE)
 abbrev pub on_taking : Health → Progress
 on_taking Fine = Has 0
 on_taking Inconsistent = Has 130
@@ -298,9 +304,10 @@ counted m n w = with_mutex m (record (mutex_at w m) { count = n }) w
 
 -- the owner t of a RECURSIVE mutex m locks it again, by lock or trylock
 pub data LocksAgain (t m : ℕ) (w v : World) : Type 0 where
-  -- it holds m once more
+  -- it holds m once more (pthread_mutex_lock: the lock count is incremented by one)
   rises : (mutex_at w m).count < 255 → v ≡ with_progress t (Has 0) (counted m ((mutex_at w m).count + 1) w) → LocksAgain t m w v
-  -- it holds m as often as it may: EAGAIN
+  -- it holds m as often as it may: EAGAIN (pthread_mutex_lock: the maximum number of recursive locks has been exceeded;
+  -- that it is 255 is this project's choice)
   at_limit : (mutex_at w m).count ≡ 255 → v ≡ with_progress t (Has 11) w → LocksAgain t m w v
 
 -- the mutex that a request names; 0 where it names none
@@ -324,63 +331,67 @@ is_use _ = false
 
 -- pthread_mutex_lock by t on m, where no effect has happened yet; or the lock that a wait of t owes
 pub data Locks (t m : ℕ) (w v : World) : Type 0 where
-  -- the owner locks a NORMAL mutex again: it waits for good
+  -- the owner locks a NORMAL mutex again: it waits for good (pthread_mutex_lock, table of relocking: deadlock)
   own_normal : (mutex_at w m).owner ≡ t → (mutex_at w m).kind ≡ Normal → v ≡ with_progress t Stuck w → Locks t m w v
-  -- the owner locks an ERRORCHECK mutex again: EDEADLK
+  -- the owner locks an ERRORCHECK mutex again: EDEADLK (the same table: an error is returned)
   own_errorcheck : (mutex_at w m).owner ≡ t → (mutex_at w m).kind ≡ ErrorCheck → v ≡ with_progress t (Has 35) w → Locks t m w v
-  -- the owner locks a RECURSIVE mutex again
+  -- the owner locks a RECURSIVE mutex again (the same table: recursive)
   own_recursive : (mutex_at w m).owner ≡ t → (mutex_at w m).kind ≡ Recursive → LocksAgain t m w v → Locks t m w v
-  -- nobody owns it: t takes it
+  -- nobody owns it: t takes it (pthread_mutex_lock: it returns with the mutex locked and the caller as its owner)
   free : (mutex_at w m).owner ≢ t → (mutex_at w m).owner ≡ 0 → v ≡ taken t m w → Locks t m w v
-  -- it is lost: t waits for good
+  -- it is lost: t waits for good (pthread_mutexattr_setrobust, PTHREAD_MUTEX_STALLED: this can lead to deadlocks)
   lost : (mutex_at w m).owner ≢ t → (mutex_at w m).owner ≢ 0 → is_lost w m ≡ true → v ≡ with_progress t Stuck w → Locks t m w v
-  -- its owner waits for t through some chain: EDEADLK
+  -- its owner waits for t through some chain: EDEADLK (pthread_mutex_lock may report that a deadlock was detected; that
+  -- it always does, for every kind, is this project's choice)
   cycle : (mutex_at w m).owner ≢ t → (mutex_at w m).owner ≢ 0 → is_lost w m ≡ false
       → leads_to w (mutex_at w m).owner t ≡ true → v ≡ with_progress t (Has 35) w → Locks t m w v
-  -- else t joins the end of its waiters
+  -- else t joins the end of its waiters (pthread_mutex_lock: the caller blocks until the mutex becomes available)
   joins : (mutex_at w m).owner ≢ t → (mutex_at w m).owner ≢ 0 → is_lost w m ≡ false
       → leads_to w (mutex_at w m).owner t ≡ false
       → v ≡ record (with_progress t Waiting w) { waiters = w.waiters ++ (t, m) ∷ [] } → Locks t m w v
 
 -- pthread_mutex_trylock by t on m, where no effect has happened yet
 pub data TriesToLock (t m : ℕ) (w v : World) : Type 0 where
-  -- the owner locks a RECURSIVE mutex again
+  -- the owner locks a RECURSIVE mutex again (pthread_mutex_trylock: the lock count is incremented, and it succeeds)
   own_recursive : (mutex_at w m).owner ≡ t → (mutex_at w m).kind ≡ Recursive → LocksAgain t m w v → TriesToLock t m w v
-  -- it is owned otherwise, or lost: EBUSY
+  -- it is owned otherwise, or lost: EBUSY (pthread_mutex_trylock: it was already locked, by any thread)
   busy : (mutex_at w m).owner ≢ 0 → ((mutex_at w m).owner ≡ t → (mutex_at w m).kind ≢ Recursive) → v ≡ with_progress t (Has 16) w → TriesToLock t m w v
   -- nobody owns it: t takes it
   free : (mutex_at w m).owner ≡ 0 → v ≡ taken t m w → TriesToLock t m w v
 
--- m passes on: to nobody, which holds it once, or to its next waiter, which takes it
+-- m passes on: to nobody, which holds it once, or to its next waiter, which takes it (pthread_mutex_unlock: if threads
+-- are blocked on it, the scheduling policy determines which acquires it)
 pub data Passes (m : ℕ) (w v : World) : Type 0 where
   to_nobody : next_of w m ≡ 0 → v ≡ with_mutex m (record (mutex_at w m) { owner = 0; count = 1 }) w → Passes m w v
   to_next : (u : ℕ) → next_of w m ≡ u → u ≢ 0 → v ≡ taken u m (record w { waiters = without w.waiters u }) → Passes m w v
 
 -- pthread_mutex_unlock by t on m, where no effect has happened yet
 pub data Unlocks (t m : ℕ) (w v : World) : Type 0 where
-  -- t isn't the owner: EPERM
+  -- t isn't the owner: EPERM (pthread_mutex_unlock, for ERRORCHECK, RECURSIVE and robust mutexes; for a stalled NORMAL
+  -- one POSIX leaves it undefined, and this is this project's choice)
   not_owner : (mutex_at w m).owner ≢ t → v ≡ with_progress t (Has 1) w → Unlocks t m w v
-  -- the owner holds it more than once: it holds it once less, and the result is 0
+  -- the owner holds it more than once: it holds it once less, and the result is 0 (pthread_mutex_lock: each time a
+  -- RECURSIVE mutex is unlocked the lock count is decremented by one)
   falls : (mutex_at w m).owner ≡ t → 1 < (mutex_at w m).count → v ≡ with_progress t (Has 0) (counted m ((mutex_at w m).count - 1) w) → Unlocks t m w v
   -- the owner, who holds it once, gives it up Inconsistent: it becomes Unusable, and the unlock goes on from there
-  -- (pthread_mutex_unlock of a mutex that wasn't made consistent)
+  -- (pthread_mutex_consistent: unlocked without having been made consistent it is permanently unusable)
   becomes_unusable : (mutex_at w m).owner ≡ t → (mutex_at w m).count ≡ 1 → (mutex_at w m).health ≡ Inconsistent
       → v ≡ with_health m Unusable w → Unlocks t m w v
-  -- the owner, who holds it once, gives it up otherwise: it passes on, and the result is 0
+  -- the owner, who holds it once, gives it up otherwise: it passes on, and the result is 0 (pthread_mutex_unlock)
   released : (mutex_at w m).owner ≡ t → (mutex_at w m).count ≡ 1 → (mutex_at w m).health ≢ Inconsistent
       → Passes m (with_progress t (Has 0) w) v → Unlocks t m w v
 
 -- pthread_mutex_consistent by t on m, where no effect has happened yet
 pub data MakesConsistent (t m : ℕ) (w v : World) : Type 0 where
-  -- it isn't robust: EINVAL
+  -- it isn't robust: EINVAL (pthread_mutex_consistent: not robust, or doesn't protect an inconsistent state)
   not_robust : (mutex_at w m).robust ≡ false → v ≡ with_progress t (Has 22) w → MakesConsistent t m w v
-  -- t isn't the owner: EPERM
+  -- t isn't the owner: EPERM (this project's choice, as is its place between the two others; POSIX names no error)
   not_owner : (mutex_at w m).robust ≡ true → (mutex_at w m).owner ≢ t → v ≡ with_progress t (Has 1) w
       → MakesConsistent t m w v
-  -- it isn't Inconsistent: EINVAL
+  -- it isn't Inconsistent: EINVAL (the same sentence)
   not_inconsistent : (mutex_at w m).robust ≡ true → (mutex_at w m).owner ≡ t → (mutex_at w m).health ≢ Inconsistent
       → v ≡ with_progress t (Has 22) w → MakesConsistent t m w v
-  -- it is Fine from now on
+  -- it is Fine from now on (pthread_mutex_consistent: the state is marked consistent, and is used as before)
   made_fine : (mutex_at w m).robust ≡ true → (mutex_at w m).owner ≡ t → (mutex_at w m).health ≡ Inconsistent
       → v ≡ with_progress t (Has 0) (with_health m Fine w) → MakesConsistent t m w v
 
@@ -390,21 +401,27 @@ with_base t p w = with_thread t (record (thread_at w t) { base = p }) w
 
 -- pthread_setschedprio by t, of the priority p for u, where no effect has happened yet
 pub data SetsPriority (t u p : ℕ) (w v : World) : Type 0 where
-  -- p is no priority: EINVAL
+  -- p is no priority: EINVAL (pthread_setschedprio: invalid for the scheduling policy of the thread, here SCHED_FIFO's
+  -- 1 to 99)
   no_priority : is_priority p ≡ false → v ≡ with_progress t (Has 22) w → SetsPriority t u p w v
-  -- u is not living: ESRCH
+  -- u is not living: ESRCH (pthread_setschedprio recommends it for an ID after the end of its thread's lifetime; that
+  -- it comes behind EINVAL is this project's choice)
   not_living : is_priority p ≡ true → is_living w u ≡ false → v ≡ with_progress t (Has 3) w → SetsPriority t u p w v
-  -- u's base priority is p; who waits for what, and since when, stays
+  -- u's base priority is p; who waits for what, and since when, stays (pthread_setschedprio; the last is this project's
+  -- choice)
   changed : is_priority p ≡ true → is_living w u ≡ true → v ≡ with_progress t (Has 0) (with_base u p w) → SetsPriority t u p w v
 
 -- pthread_cond_wait by t on c with m, where no effect has happened yet
 pub data ChecksWait (t c m : ℕ) (w v : World) : Type 0 where
-  -- c is bound to another mutex: EINVAL
+  -- c is bound to another mutex: EINVAL (pthread_cond_wait leaves other mutexes than the bound one undefined; the
+  -- error, and that a variable is bound when it is added and stays so, are this project's choice)
   other_mutex : (variable_at w c).mutex ≢ m → v ≡ with_progress t (Has 22) w → ChecksWait t c m w v
-  -- t isn't the owner: EPERM
+  -- t isn't the owner: EPERM (pthread_cond_wait, for ERRORCHECK and robust mutexes; for the others this project's
+  -- choice)
   not_owner : (variable_at w c).mutex ≡ m → (mutex_at w m).owner ≢ t → v ≡ with_progress t (Has 1) w
       → ChecksWait t c m w v
-  -- the owner holds it more than once: EINVAL
+  -- the owner holds it more than once: EINVAL (this project's choice; POSIX advises against waiting with a RECURSIVE
+  -- one)
   held_more : (variable_at w c).mutex ≡ m → (mutex_at w m).owner ≡ t → 1 < (mutex_at w m).count
       → v ≡ with_progress t (Has 22) w → ChecksWait t c m w v
   -- the owner holds it once
@@ -415,7 +432,8 @@ pub data ChecksWait (t c m : ℕ) (w v : World) : Type 0 where
 abbrev pub on_release : Bool → Progress
 on_release still = if still then Blocked false else Owing
 
--- a wait of t, which has joined the blocked threads, gives m up
+-- a wait of t, which has joined the blocked threads, gives m up (pthread_cond_wait: it releases the mutex and blocks,
+-- atomically with respect to another thread that takes the mutex and then uses the variable)
 pub data GivesUp (t m : ℕ) (still : Bool) (w v : World) : Type 0 where
   -- an Inconsistent mutex becomes Unusable first, and the wait goes on from there
   becomes_unusable : (mutex_at w m).owner ≡ t → (mutex_at w m).health ≡ Inconsistent → v ≡ with_health m Unusable w
@@ -453,7 +471,7 @@ used c w = record w {
 
 -- pthread_cond_signal or pthread_cond_broadcast by t on c, where no effect has happened yet
 pub data Uses (t c : ℕ) (w v : World) : Type 0 where
-  -- c was used as often as it may be: EOVERFLOW
+  -- c was used as often as it may be: EOVERFLOW (this project's choice; POSIX knows no such limit)
   at_limit : (variable_at w c).uses ≡ w.signals → v ≡ with_progress t (Has 75) w → Uses t c w v
   -- it is used once more, and each thread that is blocked on it and was not answered Waits yet is unblocked
   counts : (variable_at w c).uses ≢ w.signals → v ≡ with_progress t Used (used c w) → Uses t c w v
@@ -466,8 +484,9 @@ all_unblocked (u ∷ us) w = all_unblocked us (recalled u unblocked w)
 -- a signal or a broadcast by t, which has used its variable, chooses whom it wakes, and the result is 0 (POSIX,
 -- pthread_cond_signal: at least one of the threads that are blocked; pthread_cond_broadcast: all of them)
 pub data Chooses (t : ℕ) (q : Request) (w v : World) : Type 0 where
-  -- a signal wakes one thread that is blocked, where none of those that were blocked when the signal began, and still
-  -- are by the same wait, has a greater effective priority
+  -- a signal wakes one thread that is blocked (POSIX allows for more; that it is just one, and one of greatest
+  -- effective priority, is this project's choice), where none of those that were blocked when the signal began, and
+  -- still are by the same wait, has a greater effective priority
   one : (c u : ℕ) → q ≡ Signal c → is_blocked_on w c u ≡ true
       → ((b : ℕ) → is_still_blocked w t c b ≡ true → effective_of w b ≤ effective_of w u)
       → v ≡ recalled u unblocked (with_progress t (Has 0) w) → Chooses t q w v
@@ -505,7 +524,8 @@ pub data Effect (t : ℕ) (w v : World) : Type 0 where
       → is_use q ≡ true → Uses t (variable_of q) w v → Effect t w v
   choose : (q : Request) → (thread_at w t).call ≡ Some (record { request = q; progress = Used }) → Chooses t q w v
       → Effect t w v
-  -- a call that took an Unusable mutex gives it up again: ENOTRECOVERABLE
+  -- a call that took an Unusable mutex gives it up again: ENOTRECOVERABLE (pthread_mutex_lock: the state is not
+  -- recoverable)
   leave : (q : Request) → (thread_at w t).call ≡ Some (record { request = q; progress = Leaving })
       → Passes (named_by q) (with_progress t (Has 131) w) v → Effect t w v
 
@@ -551,8 +571,8 @@ pub data Expires (t : ℕ) (w v : World) : Type 0 where
   wait : (c m : ℕ) (p : Progress) → (thread_at w t).call ≡ Some (record { request = Wait c m; progress = p })
       → v ≡ with_progress t Owing (timed_out t w) → Expires t w v
 
--- what t's open call does at a Go, from w to u: one that is due expires, and does nothing else; another has some effects
--- in order, or none
+-- what t's open call does at a Go, from w to u: one that is due expires, and does nothing else; another has some
+-- effects in order, or none
 pub data Moves (t : ℕ) (w u : World) : Type 0 where
   expires : is_due w t ≡ true → Expires t w u → Moves t w u
   acts : is_due w t ≡ false → Effects t w w u → Moves t w u
