@@ -9,6 +9,7 @@ mod notices;
 mod reading;
 mod robust;
 mod shows;
+mod states;
 mod steps;
 mod streams;
 mod traces;

@@ -21,8 +21,6 @@ mod mutexes;
 mod pages;
 mod queues;
 mod states;
-#[cfg(test)]
-mod tests;
 mod threads;
 
 pub use pages::Unwritten;

@@ -46,10 +46,10 @@ fn a_failed_write_is_not_tried_again(rt: HostRuntime) {
         Some(ErrorKind::TimedOut),
     ] {
         for (room, answers) in [(0, ""), (2, "t1"), (3, "t1\n")] {
-            let mut output = Faltering::new(room, kind);
+            let mut output = Faltering::new(Kept::new(), room, kind);
             let ended = run(rt.alloc(), &mut BOOSTED.as_bytes(), &mut output);
             assert_eq!(rt; ended, Err(CliFault::Write), "{kind:?}");
-            output.check(&rt, answers);
+            output.kept().check(&rt, answers);
         }
     }
 }

@@ -18,12 +18,12 @@ const SHOWN: &str =
 
 /// Checks what is shown of the script at a writer that fails once, behind so many bytes, and goes on.
 fn fail_at(rt: &impl Abort, alloc: Global, left: usize, failure: Option<ErrorKind>) {
-    let mut writer = Faltering::new(left, failure);
+    let mut writer = Faltering::new(Kept::new(), left, failure);
     let ended = show(alloc, &mut SCRIPT.as_bytes(), &mut writer);
     let shown = SHOWN.as_bytes();
     let front = &shown[..left.min(shown.len())];
     assert!(rt;
-        ended == Err(CliFault::Write) && writer.text() == front,
+        ended == Err(CliFault::Write) && writer.kept().text() == front,
         "{left}"
     );
 }

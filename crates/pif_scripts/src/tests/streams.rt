@@ -96,37 +96,80 @@ impl Write for Cautious {
     }
 }
 
+/// Keeps what is written since the last line that shows a command, up to 4,096 bytes, and counts all that is written.
+#[derive(Drop)]
+pub struct Last {
+    bytes: ArrayVec<u8, 4096>,
+    count: usize,
+}
+
+impl Last {
+    pub fn new() -> Last {
+        Last {
+            bytes: ArrayVec::new(),
+            count: 0,
+        }
+    }
+
+    pub fn text(&self) -> &[u8] {
+        self.bytes.as_slice()
+    }
+
+    /// How many bytes were written in all.
+    pub fn count(&self) -> usize {
+        self.count
+    }
+
+    /// Keeps these bytes too, if there is room for them.
+    pub fn append(&mut self, bytes: &[u8]) {
+        let _ = self.bytes.try_extend_from_slice(bytes);
+    }
+}
+
+impl Write for Last {
+    fn write(&mut self, buf: &[u8]) -> io::Result<usize> {
+        for byte in buf {
+            if *byte == b'>' && self.bytes.as_slice().last() == Some(&b'\n') {
+                self.bytes.clear();
+            }
+            let _ = self.bytes.try_push(*byte);
+            self.count = self.count.saturating_add(1);
+        }
+        Ok(buf.len())
+    }
+
+    fn flush(&mut self) -> io::Result<()> {
+        Ok(())
+    }
+}
+
 /// Takes so many bytes, fails once or takes no byte once, and goes on.
 #[derive(Drop)]
-pub struct Faltering {
-    kept: Kept,
+pub struct Faltering<W: Write> {
+    kept: W,
     left: usize,
     failure: Option<ErrorKind>,
     has_failed: bool,
 }
 
-impl Faltering {
+impl<W: Write> Faltering<W> {
     /// With no kind of error it takes no byte once.
-    pub fn new(left: usize, failure: Option<ErrorKind>) -> Faltering {
+    pub fn new(kept: W, left: usize, failure: Option<ErrorKind>) -> Faltering<W> {
         Faltering {
-            kept: Kept::new(),
+            kept,
             left,
             failure,
             has_failed: false,
         }
     }
 
-    pub fn text(&self) -> &[u8] {
-        self.kept.text()
-    }
-
-    /// Checks that this text was taken.
-    pub fn check(&self, rt: &impl Abort, text: &str) {
-        self.kept.check(rt, text);
+    /// What has taken the bytes.
+    pub fn kept(&self) -> &W {
+        &self.kept
     }
 }
 
-impl Write for Faltering {
+impl<W: Write> Write for Faltering<W> {
     fn write(&mut self, buf: &[u8]) -> io::Result<usize> {
         if self.has_failed {
             return self.kept.write(buf);
