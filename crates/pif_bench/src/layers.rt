@@ -7,12 +7,13 @@ mod scenes;
 
 use chains::{hand_over, last_lock, set_prio};
 use lists::{Priorities, nanoseconds_each};
+use scenes::new_core;
 use std::io;
 use std::rt::Clock;
 
 /// The names of these benchmarks, one a line.
 pub const NAMES: &str =
-    "plist_equal\nplist_distinct\nhand_over\nlast_lock_10\nlast_lock_100\nlast_lock_1000\n\
+    "plist_equal\nplist_distinct\nnew_core\nhand_over\nlast_lock_10\nlast_lock_100\nlast_lock_1000\n\
     setprio_10\nsetprio_100\nsetprio_1000\nstalled_pair\nrobust_pair\n\
     end_10\nend_100\nend_1000\nend_contended_10\nend_contended_100\nend_contended_1000\nwait_and_signal\n\
     broadcast_free_10\nbroadcast_free_100\nbroadcast_free_1000\n\
@@ -23,6 +24,8 @@ pub const NAMES: &str =
 pub enum Layer {
     /// A node is inserted into a sorted list, or removed.
     Lists(Priorities),
+    /// A core with the default limits is made.
+    NewCore,
     /// A mutex is handed over.
     HandOver,
     /// The last thread joins a chain of so many.
@@ -44,6 +47,7 @@ pub fn layer_of(name: &str) -> Option<Layer> {
     match name {
         "plist_equal" => Some(Layer::Lists(Priorities::Equal)),
         "plist_distinct" => Some(Layer::Lists(Priorities::Distinct)),
+        "new_core" => Some(Layer::NewCore),
         "hand_over" => Some(Layer::HandOver),
         "last_lock_10" => Some(Layer::LastLock(10)),
         "last_lock_100" => Some(Layer::LastLock(100)),
@@ -70,10 +74,19 @@ pub fn layer_of(name: &str) -> Option<Layer> {
     }
 }
 
+/// How many threads the chain has along which a benchmark goes.
+pub fn depth_of(layer: Layer) -> Option<u32> {
+    match layer {
+        Layer::LastLock(depth) | Layer::SetPrio(depth) => Some(depth),
+        _ => None,
+    }
+}
+
 /// Runs a benchmark. Answers how many nanoseconds what it measures took.
 pub fn nanoseconds_of(rt: &(impl Clock + AllocGlobal), layer: Layer) -> io::Result<u64> {
     match layer {
         Layer::Lists(priorities) => nanoseconds_each(rt, priorities),
+        Layer::NewCore => new_core(rt),
         Layer::HandOver => hand_over(rt),
         Layer::LastLock(depth) => last_lock(rt, depth),
         Layer::SetPrio(depth) => set_prio(rt, depth),

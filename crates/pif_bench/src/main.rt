@@ -51,6 +51,9 @@ fn measure<R: Clock + Threads + Wait + Sync + AllocGlobal + Print>(
         Benchmark::Layer(layer) => {
             let nanoseconds = layers::nanoseconds_of(rt, layer)?;
             println!(rt; "{name}: {nanoseconds} ns")?;
+            if let Some(depth) = layers::depth_of(layer) {
+                quick::compare_hop(rt, name, nanoseconds, depth)?;
+            }
         }
         Benchmark::Race(race) => quick::measure(rt, race)?,
         Benchmark::Crowd(crowd) => {

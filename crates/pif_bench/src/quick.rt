@@ -5,6 +5,7 @@ mod figures;
 mod pairs;
 mod turns;
 
+pub use pairs::compare_hop;
 use pairs::measure_pairs;
 use std::io;
 use std::rt::Clock;

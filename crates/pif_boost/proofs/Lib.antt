@@ -4,3 +4,8 @@ pub mod Repairs
 pub mod Settled
 pub mod Walks
 pub mod Joining
+pub mod Hops
+pub mod Ends
+pub mod FrameLemmas
+pub mod Walking
+pub mod Chaining

@@ -35,7 +35,7 @@ settled_local v all t th =
     (greatest_where_same (λ u. waits_for v u == t) (λ u. waits_for v u == t) (greatest_base v) (local_of v) (length v.seats) (λ u l. refl) (λ u l. sym (all u l)))
 
 -- who stands boosted stands with that priority
-ranked-prio : (p : ℕ) (o : Option Wait) (rank : Key)
+pub ranked-prio : (p : ℕ) (o : Option Wait) (rank : Key)
     → option_map (λ (w : Wait). w.rank) (option_map (with_rank_priority p) o) ≡ Some rank → rank.prio ≡ p
 ranked-prio p None rank e = absurd cc
 ranked-prio p (Some w) rank e = sym (ap (λ (o : Option Key). unwrap_or (option_map (λ (k : Key). k.prio) o) 0) e)

@@ -1,2 +1,4 @@
 pub mod Boosts
 pub mod Settled
+pub mod Frames
+pub mod Done

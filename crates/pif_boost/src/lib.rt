@@ -1,4 +1,9 @@
-//! Priority inheritance over chains of owner states: what a walk has to leave of the owner states and of the run queue,
-//! so that each thread has the greatest priority of it and of all that wait for it (`specs/Boosts.antt`), and lemmas on
-//! it in `proofs/`.
+//! Priority inheritance over chains of owner states: the walk that gives each thread the greatest priority of it and of
+//! all that wait for it (`specs/Boosts.antt`), and the cycle test.
 #![tactic(auto)]
+
+mod chain_walk;
+mod cycles;
+
+pub use chain_walk::{walk, walk_to};
+pub use cycles::would_close;

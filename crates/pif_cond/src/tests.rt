@@ -5,9 +5,9 @@ ghost use Rattle.pif_model.specs.Lines.{is_open};
 ghost use Rattle.pif_model.specs.Posix.{names_known};
 
 use crate::advance;
+use pif_kernel::LinkedKernel;
 use pif_model::Line;
 use pif_mutex::{Parts, Progress};
-use pif_plain::PlainKernel;
 use pif_types::{CondId, Kind, Limits, MutexId, Prio, Request, Tid};
 use std::alloc::Global;
 use std::process::Abort;
@@ -24,16 +24,16 @@ fn scene(
     kind: Kind,
     robust: bool,
     levels: &[u32],
-) -> Result<Parts<PlainKernel>, Fail> {
+) -> Result<Parts<LinkedKernel>, Fail> {
     let limits = Limits::new(4, 2, 1, 3).ok_or("limits")?;
-    let kernel = PlainKernel::new(alloc, limits, 1)?;
+    let kernel = LinkedKernel::new(alloc, limits, 1)?;
     let mut parts = Parts::new(alloc, limits, kernel)?;
     fill(&mut parts, kind, robust, levels).ok_or("room")?;
     Ok(parts)
 }
 
 /// Adds the mutexes, the variable and the threads.
-fn fill(parts: &mut Parts<PlainKernel>, kind: Kind, robust: bool, levels: &[u32]) -> Option<()> {
+fn fill(parts: &mut Parts<LinkedKernel>, kind: Kind, robust: bool, levels: &[u32]) -> Option<()> {
     mutex(parts, kind, robust)?;
     mutex(parts, Kind::Normal, false)?;
     variable(parts, MutexId::new(1)?)?;
@@ -44,7 +44,7 @@ fn fill(parts: &mut Parts<PlainKernel>, kind: Kind, robust: bool, levels: &[u32]
 }
 
 /// Adds a thread where there is room for it.
-fn thread(parts: &mut Parts<PlainKernel>, level: u32) -> Option<Tid> {
+fn thread(parts: &mut Parts<LinkedKernel>, level: u32) -> Option<Tid> {
     let prio = Prio::new(level)?;
     if parts.threads() < parts.limits().threads() {
         Some(parts.add_thread(prio))
@@ -54,7 +54,7 @@ fn thread(parts: &mut Parts<PlainKernel>, level: u32) -> Option<Tid> {
 }
 
 /// Adds a mutex, robust or not, where there is room for it.
-fn mutex(parts: &mut Parts<PlainKernel>, kind: Kind, robust: bool) -> Option<MutexId> {
+fn mutex(parts: &mut Parts<LinkedKernel>, kind: Kind, robust: bool) -> Option<MutexId> {
     if parts.mutexes() < parts.limits().mutexes() {
         Some(parts.add_mutex(kind, robust))
     } else {
@@ -63,7 +63,7 @@ fn mutex(parts: &mut Parts<PlainKernel>, kind: Kind, robust: bool) -> Option<Mut
 }
 
 /// Adds a variable that is bound to this mutex where there is room for it and the mutex was added.
-fn variable(parts: &mut Parts<PlainKernel>, m: MutexId) -> Option<CondId> {
+fn variable(parts: &mut Parts<LinkedKernel>, m: MutexId) -> Option<CondId> {
     if m.get() <= parts.mutexes() && parts.conds() < parts.limits().conds() {
         Some(parts.add_cond(m))
     } else {
@@ -72,7 +72,7 @@ fn variable(parts: &mut Parts<PlainKernel>, m: MutexId) -> Option<CondId> {
 }
 
 /// Whether a thread was added, lives, and has a call open or none, as asked.
-fn may_act(parts: &Parts<PlainKernel>, t: Tid, calling: bool) -> bool
+fn may_act(parts: &Parts<LinkedKernel>, t: Tid, calling: bool) -> bool
     ensures known { result ≡ true → has_thread parts.now t ≡ true }
     ensures living { result ≡ true → is_living parts.now.kernel t ≡ true }
     ensures open { result ≡ true → is_open (line_at parts.now t) ≡ calling }
@@ -81,7 +81,7 @@ fn may_act(parts: &Parts<PlainKernel>, t: Tid, calling: bool) -> bool
 }
 
 /// Whether the mutex and the variable that a call names were added.
-fn names_known(parts: &Parts<PlainKernel>, request: &Request) -> bool
+fn names_known(parts: &Parts<LinkedKernel>, request: &Request) -> bool
     ensures { result ≡ true → names_known (has_mutex parts.now) (has_cond parts.now) request.now ≡ true }
 {
     match *request {
@@ -99,7 +99,7 @@ fn names_known(parts: &Parts<PlainKernel>, request: &Request) -> bool
 }
 
 /// A thread begins a call, where that is not refused.
-fn begin(parts: &mut Parts<PlainKernel>, t: Tid, request: Request) -> Option<()> {
+fn begin(parts: &mut Parts<LinkedKernel>, t: Tid, request: Request) -> Option<()> {
     if may_act(parts, t, false) && names_known(parts, &request) {
         parts.begin(t, request);
         Some(())
@@ -109,7 +109,7 @@ fn begin(parts: &mut Parts<PlainKernel>, t: Tid, request: Request) -> Option<()>
 }
 
 /// A thread takes one step of its open call. `None` where it has none.
-fn go(parts: &mut Parts<PlainKernel>, t: Tid) -> Option<Progress> {
+fn go(parts: &mut Parts<LinkedKernel>, t: Tid) -> Option<Progress> {
     if !may_act(parts, t, true) {
         return None;
     }
@@ -122,7 +122,7 @@ fn go(parts: &mut Parts<PlainKernel>, t: Tid) -> Option<Progress> {
 }
 
 /// A thread goes on up to the first step that isn't `Went`: the number of that step, and what it came to.
-fn finish(parts: &mut Parts<PlainKernel>, t: Tid) -> Option<(u32, Progress)> {
+fn finish(parts: &mut Parts<LinkedKernel>, t: Tid) -> Option<(u32, Progress)> {
     for step in 1..=8 {
         match go(parts, t)? {
             Progress::Went => (),
@@ -133,7 +133,7 @@ fn finish(parts: &mut Parts<PlainKernel>, t: Tid) -> Option<(u32, Progress)> {
 }
 
 /// Threads make their calls, one after the other.
-fn play(rt: &impl Abort, parts: &mut Parts<PlainKernel>, rows: &[Row]) -> Result<(), Fail> {
+fn play(rt: &impl Abort, parts: &mut Parts<LinkedKernel>, rows: &[Row]) -> Result<(), Fail> {
     for row in rows {
         let (number, request, steps, progress, word, uses) = *row;
         let thread = Tid::new(number).ok_or("a thread")?;
@@ -150,7 +150,7 @@ fn play(rt: &impl Abort, parts: &mut Parts<PlainKernel>, rows: &[Row]) -> Result
 }
 
 /// The word of mutex 1 and the word of variable 1.
-fn words(parts: &Parts<PlainKernel>) -> Option<(u32, u32)> {
+fn words(parts: &Parts<LinkedKernel>) -> Option<(u32, u32)> {
     Some((
         parts.word(MutexId::new(1)?)?,
         parts.cond_word(CondId::new(1)?)?,
@@ -160,7 +160,7 @@ fn words(parts: &Parts<PlainKernel>) -> Option<(u32, u32)> {
 /// Threads go on with their calls, one after the other, each up to this step and what it came to.
 fn resume(
     rt: &impl Abort,
-    parts: &mut Parts<PlainKernel>,
+    parts: &mut Parts<LinkedKernel>,
     rows: &[(u32, u32, Progress)],
 ) -> Result<(), Fail> {
     for row in rows {
@@ -178,7 +178,7 @@ fn signal_hands_the_mutex_to_one_that_waits(rt: HostRuntime) -> Result<(), Fail>
     wait_and_signal(&rt, &mut parts)
 }
 
-fn wait_and_signal(rt: &impl Abort, parts: &mut Parts<PlainKernel>) -> Result<(), Fail> {
+fn wait_and_signal(rt: &impl Abort, parts: &mut Parts<LinkedKernel>) -> Result<(), Fail> {
     let m1 = MutexId::new(1).ok_or("a mutex")?;
     let c1 = CondId::new(1).ok_or("a variable")?;
     let rows = [
@@ -197,7 +197,7 @@ fn broadcast_wakes_all_that_wait_by_priority(rt: HostRuntime) -> Result<(), Fail
     wait_and_broadcast(&rt, &mut parts)
 }
 
-fn wait_and_broadcast(rt: &impl Abort, parts: &mut Parts<PlainKernel>) -> Result<(), Fail> {
+fn wait_and_broadcast(rt: &impl Abort, parts: &mut Parts<LinkedKernel>) -> Result<(), Fail> {
     let m1 = MutexId::new(1).ok_or("a mutex")?;
     let c1 = CondId::new(1).ok_or("a variable")?;
     for number in 1..=3 {
@@ -232,7 +232,7 @@ fn signal_before_the_park_is_not_lost(rt: HostRuntime) -> Result<(), Fail> {
     signal_in_between(&rt, &mut parts)
 }
 
-fn signal_in_between(rt: &impl Abort, parts: &mut Parts<PlainKernel>) -> Result<(), Fail> {
+fn signal_in_between(rt: &impl Abort, parts: &mut Parts<LinkedKernel>) -> Result<(), Fail> {
     let m1 = MutexId::new(1).ok_or("a mutex")?;
     let c1 = CondId::new(1).ok_or("a variable")?;
     let waiter = Tid::new(1).ok_or("a thread")?;
@@ -253,7 +253,7 @@ fn wait_takes_a_robust_mutex_over_again(rt: HostRuntime) -> Result<(), Fail> {
     wait_on_robust(&rt, &mut parts)
 }
 
-fn wait_on_robust(rt: &impl Abort, parts: &mut Parts<PlainKernel>) -> Result<(), Fail> {
+fn wait_on_robust(rt: &impl Abort, parts: &mut Parts<LinkedKernel>) -> Result<(), Fail> {
     let m1 = MutexId::new(1).ok_or("a mutex")?;
     let c1 = CondId::new(1).ok_or("a variable")?;
     let rows = [
@@ -271,7 +271,7 @@ fn wait_and_signal_name_their_errors(rt: HostRuntime) -> Result<(), Fail> {
     refuse_each(&rt, &mut parts)
 }
 
-fn refuse_each(rt: &impl Abort, parts: &mut Parts<PlainKernel>) -> Result<(), Fail> {
+fn refuse_each(rt: &impl Abort, parts: &mut Parts<LinkedKernel>) -> Result<(), Fail> {
     let m1 = MutexId::new(1).ok_or("a mutex")?;
     let m2 = MutexId::new(2).ok_or("a mutex")?;
     let c1 = CondId::new(1).ok_or("a variable")?;

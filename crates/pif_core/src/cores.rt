@@ -11,9 +11,9 @@ ghost use Rattle.pif_model.specs.Lines.{table_refusal, accepted_outcome, event_o
 ghost use Rattle.pif_model.specs.Calls.{add_thread_answer, add_thread_after, add_mutex_answer, add_mutex_after, add_cond_answer, add_cond_after, effective_answer, word_answer, health_answer, cond_word_answer, pick_answer, threads_answer, waiting_answer};
 ghost use Rattle.pif_mutex.specs.Outcomes.{outcome_of};
 
+use pif_kernel::LinkedKernel;
 use pif_model::{Entry, Event, Line, Seen};
 use pif_mutex::{Parts, Progress};
-use pif_plain::PlainKernel;
 use pif_types::{
     AddFault, CondId, Health, Kind, Limits, MutexId, NoMemory, Prio, Refusal, Request, Tid,
 };
@@ -27,7 +27,7 @@ const FIRST_TICKET: u64 = 1;
 /// takes memory.
 #[derive(Drop)]
 pub struct Core {
-    pub(crate) parts: Parts<PlainKernel>,
+    pub(crate) parts: Parts<LinkedKernel>,
 }
 
 impl Model for Core {
@@ -47,7 +47,7 @@ impl Core {
     {
         // This reads a limit, so that the proof has the ranges of all.
         let _threads = limits.threads();
-        let kernel = PlainKernel::new(alloc, limits, FIRST_TICKET)?;
+        let kernel = LinkedKernel::new(alloc, limits, FIRST_TICKET)?;
         let parts = Parts::new(alloc, limits, kernel)?;
         Ok(Core { parts })
     }

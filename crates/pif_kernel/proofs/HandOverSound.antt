@@ -6,8 +6,8 @@ use Rattle.std.proofs.lemmas.Bool.{cases_eq, cases_lt, true≢false}
 use Rattle.std.proofs.lemmas.Bool.Decides.{nat_tests}
 use Rattle.std.proofs.lemmas.List.{get_or-set_same, get_or-set_other, get_or_past}
 use Rattle.pif_nodes.specs.declared.keys.Key.{Key}
-use Rattle.pif_nodes.specs.Table.{Table, holder}
-use Rattle.pif_runq.specs.Levels.{Queue, Holds, IsLevel, level_of, node_for}
+use Rattle.pif_nodes.specs.Table.{Table}
+use Rattle.pif_runq.specs.Levels.{Queue, Holds, IsLevel, IsQueued, level_of}
 use Rattle.pif_runq.specs.Levels.{level_after_add}
 use Rattle.pif_model.specs.declared.lines.Status.{Status}
 use Rattle.pif_model.specs.declared.lines.Status.TheVariants.{Ready, Queued}
@@ -34,7 +34,7 @@ use Rattle.pif_kernel.proofs.WaitersWithout.{rise_without, waiter_kept, mutexes_
 use Rattle.pif_kernel.proofs.HandOverFacts.{IsHanded, IsGiven, IsHandable, IsHanding, IsHandedOn}
 use Rattle.pif_kernel.proofs.Seats.{IsFitted, same_seats, seats_length, status_seen, waits_seen, waits_below, owners_waits, added_back, waiters_seen, states_seen, states_length, kernel_by_parts, seats_of-set_status, seats_of-same_base}
 use Rattle.pif_kernel.proofs.Picked.{levels_count, levels_joined, length-joined}
-use Rattle.pif_kernel.proofs.Standing.{fits, effective_level, unqueued_free}
+use Rattle.pif_kernel.proofs.Standing.{fits, effective_level, off_queue}
 use Rattle.pif_kernel.proofs.ChainLaws.{repaired_but}
 use Rattle.pif_kernel.proofs.QueueLaws.{rise_once}
 use Rattle.pif_kernel.proofs.TopLaws.{waits_under, priority_below, top_is_next}
@@ -122,8 +122,8 @@ module _ (p : Inside) (t m key u : ℕ) (d : IsHandable p t m key) (top : IsTop 
       both_false true = refl
       both_false false = refl
 
-  pub node_free : holder p.table (node_for p.queue u) ≡ None
-  node_free = unqueued_free p h u (omega (arith, λ (z : u ≡ 0). next_some z)) (omega (arith, next_added, h.placed.few)) next_off
+  pub next_on_none : IsQueued p.queue p.table u → ⊥
+  next_on_none = off_queue p u next_off
 
   -- the owner states once the mutex was handed over
   abbrev pub given : Owners
@@ -212,7 +212,7 @@ module _ (p : Inside) (t m key u : ℕ) (d : IsHandable p t m key) (top : IsTop 
       ∙ ap (λ (o : Owners). record p { owners = o; arrivals = rest }) e))
       (record { frame = refl; handed = still (sym (ap (λ (l : List (ℕ × ℕ)). has_waiter l m) same) ∙ sym test ∙ some) })
 
-  pub handing : (old x : Inside) → p ≡ old → IsGiven p x u m key → IsHandedOn old p x t m key u
+  pub handing : (old x : Inside) → kernel_of p ≡ kernel_of old → IsGiven p x u m key → IsHandedOn old p x t m key u
   handing old x before g =
       let back : record x { keys = p.keys; owners = p.owners; arrivals = p.arrivals } ≡ p
       = ap (λ (y : Inside). record y { keys = p.keys; owners = p.owners; arrivals = p.arrivals }) g.frame in
@@ -223,7 +223,7 @@ module _ (p : Inside) (t m key u : ℕ) (d : IsHandable p t m key) (top : IsTop 
         handed = g.handed;
         rest = ap
             (λ (y : Inside). y.arrivals) g.frame;
-        same = ap kernel_of before;
+        same = before;
       })
 
   module _ (keys : List (Option ℕ)) (owners : Owners) (prio : ℕ) (o : IsHanded p keys owners u m key)
@@ -678,8 +678,13 @@ module _ (old p x : Inside) (t m key u : ℕ) (i : IsHanding old p x t m key u) 
   pub local_low : 1 ≤ (seat_at x.owners u).local
   local_low = omega (arith, local_is, level_some p t m key u i.hands i.top)
 
-  pub free : holder p.table (node_for p.queue u) ≡ None
-  free = node_free p t m key u i.hands i.top
+  pub seated : u ≤ p.queue.threads
+  seated =
+      omega (arith, next_added p t m key u i.hands i.top, i.hands.sound.placed.few, i.hands.sound.placed.threads)
+
+  -- and is on no level
+  pub off : IsQueued p.queue p.table u → ⊥
+  off = next_on_none p t m key u i.hands i.top
 
   -- what is kept before the walk
   pub before_walk : (level : ℕ) (q : Queue) (tb : Table) → level ≡ (seat_at x.owners u).local

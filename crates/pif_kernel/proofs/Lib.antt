@@ -31,3 +31,7 @@ pub mod HandOverSound
 pub mod LeavingFacts
 pub mod LeavingSound
 pub mod WaitingOrder
+pub mod TableMoved
+pub mod QueueLemmas
+pub mod EmptyTables
+pub mod TogetherLemmas

@@ -1,22 +1,25 @@
 -- What is kept at first is sound.
-use Rattle.std.proofs.Common.{◌≡◌, ℕ, zero, suc, ◌+◌, ◌≤◌, Bool, true, false, if◌then◌else◌, List, [], ◌∷◌, length, replicate, get_or, map, Option, Some, None, option_map, refl, sym, ap, subst, ◌∙◌, arith, add-one}
+use Rattle.std.proofs.Common.{◌≡◌, ℕ, zero, suc, ◌+◌, ◌≤◌, Bool, true, false, List, [], ◌∷◌, length, replicate, get_or, Option, Some, None, option_map, refl, sym, ap, subst, ◌∙◌, arith, add-one}
 use Rattle.std.proofs.lemmas.List.{length-replicate}
 use Rattle.std.specs.Ordering.{nat_cmp}
 use Rattle.std.specs.FinMap.{len-empty}
 use Rattle.pif_types.specs.Bounds.{Bounds, IsWithin}
-use Rattle.pif_nodes.specs.Table.{Table, IsApart, no_key}
-use Rattle.pif_runq.specs.Levels.{Queue, Holds, HasRoom, list_for, level_of, thread_for}
+use Rattle.pif_nodes.specs.Table.{Table}
+use Rattle.pif_runq.specs.Levels.{Queue, Holds, IsLevel, level_of}
 use Rattle.pif_model.specs.declared.lines.Status.TheVariants.{Ready}
 use Rattle.pif_model.specs.declared.lines.Woken.TheVariants.{Fresh}
 use Rattle.pif_model.specs.Graph.{is_priority}
 use Rattle.pif_model.specs.PiKernel.{IsKernel, queued_on, new_kernel, effective_in}
 use Rattle.pif_model.specs.PiKernel.{Seat as KernelSeat, no_seat as no_kernel_seat}
-use Rattle.pif_owners.specs.Owners.{Seat, Wait, seat_at, no_seat}
+use Rattle.pif_owners.specs.Owners.{Owners, Seat, Wait, seat_at, no_seat, no_owners}
 use Rattle.pif_chains.proofs.Greatest.{effective_most}
 use Rattle.pif_chains.proofs.KernelKept.{new_kernel_kept}
 use Rattle.pif_chains.proofs.KernelLevels.{length-levels_by}
+use Rattle.pif_chains.proofs.KernelSettled.{priority-range}
 use Rattle.pif_chains.proofs.KernelNew.{no_state, length-no_states, no_level}
-use Rattle.pif_kernel.specs.Inside.{Inside, IsPlaced, IsSound, kernel_of, new_inside, no_keys, key_at, state_at, status_at, owner_under, seats_of}
+use Rattle.pif_kernel.specs.Inside.{Inside, IsPlaced, IsSound, kernel_of, no_keys, key_at, state_at, status_at, owner_under, seats_of}
+use Rattle.pif_kernel.specs.Chained.{Chained, IsUnused}
+use Rattle.pif_kernel.specs.Fields.{inside_from}
 use Rattle.pif_kernel.proofs.Seats.{IsFitted, kernel_by_parts, states_seen, states_length}
 use Rattle.pif_kernel.proofs.Picked.{levels_of, levels_seen, levels_count}
 use Rattle.pif_kernel.proofs.Standing.{listed_kept}
@@ -26,34 +29,6 @@ alike : {A : Type 0} (n k : ℕ) (x : A) → get_or (replicate n x) k x ≡ x
 alike zero k x = refl
 alike (suc n) zero x = refl
 alike (suc n) (suc k) x = alike n k x
-
-abbrev nothing : List ℕ
-nothing = []
-
-empty_list : (k : ℕ) → get_or (replicate 99 nothing) k nothing ≡ nothing
-empty_list k = alike 99 k nothing
-
-abbrev pub new_queue : ℕ → Queue
-new_queue threads = record { first_list = 0; first_node = 0; threads = threads; mask = 0 }
-
-abbrev pub new_table : ℕ → Table
-new_table threads = record { lists = replicate 99 []; keys = replicate threads no_key }
-
-pub new_room : (threads : ℕ) → IsApart (new_table threads) → HasRoom (new_queue threads) (new_table threads)
-new_room threads apart = record {
-  apart = apart;
-  lists = omega (arith, length-replicate 99 nothing);
-  nodes = omega (arith, length-replicate threads no_key);
-  empty = λ p l. empty_list (list_for (new_queue threads) p);
-  free = λ n mine. refl;
-}
-
-empty_level : (threads p : ℕ) → levels_of (new_queue threads) (new_table threads) p ≡ []
-empty_level threads p = by_test (is_priority p)
-  where
-    by_test : (b : Bool) → (if b then level_of (new_queue threads) (new_table threads) p else []) ≡ []
-    by_test true = ap (map (thread_for (new_queue threads))) (empty_list (list_for (new_queue threads) p))
-    by_test false = refl
 
 seat_zero : (threads u : ℕ) → get_or (replicate (threads + 1) no_seat) u no_seat ≡ no_seat
 seat_zero threads u = alike (threads + 1) u no_seat
@@ -70,9 +45,17 @@ pub keys_made : (keys : List (Option ℕ)) → keys ≡ replicate 1025 None → 
 unfolding no_keys
 keys_made keys e = e
 
-module _ (l : Bounds) (first : ℕ) (within : IsWithin l) (some : 1 ≤ first) where
-  abbrev new : Inside
-  new = new_inside l first
+module _ (l : Bounds) (first : ℕ) (within : IsWithin l) (some : 1 ≤ first) (q : Queue) (tb : Table)
+    (threads : q.threads ≡ l.threads) (levels : (p : ℕ) → IsLevel p → level_of q tb p ≡ []) (holds : Holds q tb) where
+  abbrev pub new : Inside
+  new = inside_from l (Ready Fresh ∷ []) no_keys (record { owners = no_owners l.threads; queue = q; table = tb }) [] [] first
+
+  empty_level : (p : ℕ) → levels_of q tb p ≡ []
+  empty_level p = by_test (is_priority p) refl
+    where
+      by_test : (b : Bool) → is_priority p ≡ b → levels_of q tb p ≡ []
+      by_test true e = rw e (levels p (priority-range p e))
+      by_test false e = rw e refl
 
   no_key_at : (m : ℕ) → key_at new m ≡ None
   unfolding no_keys
@@ -92,7 +75,7 @@ module _ (l : Bounds) (first : ℕ) (within : IsWithin l) (some : 1 ≤ first) w
       (states_length new ∙ keys ∙ sym length-no_states) (λ m. states_seen new m ∙ none_at m ∙ sym (no_state m)) refl
       refl
       (levels_count new ∙ sym (length-levels_by (λ p. [])))
-      (λ r. levels_seen new r ∙ empty_level l.threads r ∙ sym (no_level r))
+      (λ r. levels_seen new r ∙ empty_level r ∙ sym (no_level r))
 
   kept : IsKernel (kernel_of new)
   kept = subst IsKernel (sym new_seen) (new_kernel_kept l)
@@ -114,8 +97,8 @@ module _ (l : Bounds) (first : ℕ) (within : IsWithin l) (some : 1 ≤ first) w
   local_new : (t : ℕ) → (seat_at new.owners t).local ≡ effective_in (kernel_of new) t
   local_new t = omega (arith, ap (λ (x : Seat). x.local) (seat_zero l.threads t), new_effective t)
 
-  new_placed : Holds (new_queue l.threads) (new_table l.threads) → IsPlaced new
-  new_placed holds = record {
+  new_placed : IsPlaced new
+  new_placed = record {
     within = within;
     rows = length-replicate (l.threads + 1) no_seat;
     keys = keys;
@@ -125,7 +108,7 @@ module _ (l : Bounds) (first : ℕ) (within : IsWithin l) (some : 1 ≤ first) w
     admitted = λ t n less. absurd (omega arith);
     free = fit_new.free;
     most = λ t. omega (arith, ap (λ (x : Seat). x.base) (seat_zero l.threads t));
-    threads = refl;
+    threads = threads;
     holds = holds;
     listed = listed_kept new fit_new kept local_new;
     waits = fit_new.waits;
@@ -138,9 +121,9 @@ module _ (l : Bounds) (first : ℕ) (within : IsWithin l) (some : 1 ≤ first) w
     tickets = some;
   }
 
-  pub new_sound : Holds (new_queue l.threads) (new_table l.threads) → IsSound new
-  new_sound holds = record {
-    placed = new_placed holds;
+  pub new_sound : IsSound new
+  new_sound = record {
+    placed = new_placed;
     local = local_new;
     rank =
         λ t r e. let both : None ≡ Some r = sym
@@ -148,3 +131,14 @@ module _ (l : Bounds) (first : ℕ) (within : IsWithin l) (some : 1 ≤ first) w
         cc;
     kernel = kept;
   }
+
+-- the same over chains of which nobody was admitted
+pub new_in_chains : (l : Bounds) (first : ℕ) (x : Chained) → IsWithin l → 1 ≤ first → IsUnused l.threads x
+    → (kernel_of (inside_from l (Ready Fresh ∷ []) no_keys x [] [] first) ≡ new_kernel l)
+    × IsSound (inside_from l (Ready Fresh ∷ []) no_keys x [] [] first)
+new_in_chains l first x within some unused =
+    subst (λ (v : Owners). (kernel_of (inside_from l (Ready Fresh ∷ []) no_keys (record x { owners = v }) [] [] first) ≡ new_kernel l)
+    × IsSound (inside_from l (Ready Fresh ∷ []) no_keys (record x { owners = v }) [] [] first)) (sym unused.owners) (
+      new_seen l first within some x.queue x.table unused.threads unused.levels unused.holds,
+      new_sound l first within some x.queue x.table unused.threads unused.levels unused.holds,
+    )

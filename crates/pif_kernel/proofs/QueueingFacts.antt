@@ -45,7 +45,7 @@ pub record IsQueueing (p : Inside) (t m owner : ℕ) : Type 0 where
   pub unreached : reaches_within (length (kernel_of p).seats) (waits_for (kernel_of p)) owner t ≡ false
 
 pub entry : (now p x : Inside) (t m owner key ticket : ℕ) → 1 ≤ m → IsQueueing now t m owner
-    → p ≡ record now { owners = p.owners; next = p.next } → p.next ≡ ticket + 1
+    → p ≡ record now { owners = p.owners; table = p.table; next = p.next } → p.next ≡ ticket + 1
     → Rise (ticket_of p.owners) 1 p.arrivals ticket → kernel_of p ≡ kernel_of now → IsSound p
     → IsOpened p x m owner key → IsEntry now p x t m owner key ticket
 entry now p x t m owner key ticket named w frame next rises same h o =

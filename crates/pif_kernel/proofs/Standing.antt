@@ -1,11 +1,9 @@
 -- What follows from the soundness of what is kept: bounds of effective priorities, and who is on which level.
-use Rattle.std.proofs.Common.{◌≡◌, ◌↔◌, ℕ, ◌+◌, ◌-◌, ◌≤◌, ◌==◌, Bool, true, false, if◌then◌else◌, nat_lt, length, Option, Some, None, IsSome, IfSome, refl, sym, ap, ◌∙◌, eqb-true, arith}
+use Rattle.std.proofs.Common.{◌≡◌, ◌↔◌, ℕ, ◌≤◌, ◌==◌, Bool, true, false, if◌then◌else◌, nat_lt, length, Option, Some, None, IsSome, IfSome, refl, sym, ap, ◌∙◌, eqb-true, arith}
 use Rattle.std.proofs.lemmas.Bool.{true≢false}
 use Rattle.std.proofs.lemmas.Bool.Decides.{nat_tests}
 use Rattle.pif_nodes.specs.Lists.{has}
-use Rattle.pif_nodes.specs.Table.{holder, list_at}
-use Rattle.pif_runq.specs.Levels.{IsQueued, IsLevel, level_of, list_for, node_for, IsLevelList}
-use Rattle.pif_runq.proofs.LevelLemmas.{has-threads}
+use Rattle.pif_runq.specs.Levels.{IsQueued, IsLevel, level_of}
 use Rattle.pif_model.specs.PiKernel.{IsKernel, effective_in, is_among, is_living, is_ready, has_seat, level_at}
 use Rattle.pif_model.specs.PiKernel.{seat_at as kernel_seat_at}
 use Rattle.pif_owners.specs.Owners.{seat_at}
@@ -49,28 +47,12 @@ ready_queued p h t known ready =
           ∙ ready_among p h t known ready,
     )
 
--- a thread that is on no level has a node that is in no list
-pub unqueued_free : (p : Inside) → IsSound p → (t : ℕ) → 1 ≤ t → t ≤ p.limits.threads
-    → ((r : ℕ) → is_among (level_at (kernel_of p).levels r) t ≡ false)
-    → holder p.table (node_for p.queue t) ≡ None
-unqueued_free p h t some few none = by_holder (holder p.table (node_for p.queue t)) refl
-  where
-    by_holder : (o : Option ℕ) → holder p.table (node_for p.queue t) ≡ o → holder p.table (node_for p.queue t) ≡ None
-    by_holder None e = e
-    by_holder (Some l) e =
-        let stands : IsLevelList p.queue l =
-        h.placed.holds.alone (node_for p.queue t) l (omega arith, omega (arith, some, few, h.placed.threads)) e in
-        let r : ℕ = l - p.queue.first_list + 1 in
-        let level : IsLevel r = (omega arith, omega (arith, stands.0, stands.1)) in
-        let list : list_for p.queue r ≡ l = omega (arith, stands.0) in
-        let listed : has (node_for p.queue t) (list_at p.table (list_for p.queue r)) ≡ true
-        = ap (λ (x : ℕ). has (node_for p.queue t) (list_at p.table x)) list
-        ∙ h.placed.holds.apart.listed l (node_for p.queue t) e in
-        let on : has t (level_of p.queue p.table r) ≡ true
-        = has-threads p.queue t (list_at p.table (list_for p.queue r)) some
-        (λ n x. (h.placed.holds.threads r n level x).0) ∙ listed in
-        absurd (true≢false (sym on ∙ ap (has t) (sym (level_same p r level))
-        ∙ sym (among_has (level_at (kernel_of p).levels r) t) ∙ none r))
+-- who is on no level of the kernel by itself is on none of the run queue
+pub off_queue : (p : Inside) (t : ℕ) → ((r : ℕ) → is_among (level_at (kernel_of p).levels r) t ≡ false)
+    → IsQueued p.queue p.table t → ⊥
+off_queue p t none on =
+    true≢false (sym on.2 ∙ ap (has t) (sym (level_same p on.0 on.1))
+    ∙ sym (among_has (level_at (kernel_of p).levels on.0) t) ∙ none on.0)
 
 -- what `effective` answers of a thread that lives, by its row
 pub effective_answer : (p : Inside) → IsSound p → (t : ℕ) (r : Option ℕ) → is_living (kernel_of p) t ≡ true

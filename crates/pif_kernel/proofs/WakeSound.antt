@@ -1,8 +1,8 @@
 -- What is kept stays sound where a thread that is parked or stopped is woken.
-use Rattle.std.proofs.Common.{◌≡◌, ◌≢◌, ℕ, ◌<◌, ◌≤◌, Bool, true, false, if◌then◌else◌, length, set, None, refl, sym, ap, ◌∙◌, subst, arith}
+use Rattle.std.proofs.Common.{◌≡◌, ◌≢◌, ℕ, ◌<◌, ◌≤◌, Bool, true, false, if◌then◌else◌, length, set, refl, sym, ap, ◌∙◌, subst, arith}
 use Rattle.std.proofs.lemmas.Bool.{true≢false}
-use Rattle.pif_nodes.specs.Table.{Table, holder}
-use Rattle.pif_runq.specs.Levels.{Queue, Holds, IsLevel, level_of, node_for}
+use Rattle.pif_nodes.specs.Table.{Table}
+use Rattle.pif_runq.specs.Levels.{Queue, Holds, IsLevel, IsQueued, level_of}
 use Rattle.pif_runq.specs.Levels.{level_after_add}
 use Rattle.pif_model.specs.declared.lines.Status.{Status}
 use Rattle.pif_model.specs.declared.lines.Status.TheVariants.{Ready, Queued, Parked, Stopped, Ended}
@@ -14,7 +14,7 @@ use Rattle.pif_chains.proofs.KernelWoken.{added-from_parked, kernel-roused}
 use Rattle.pif_kernel.specs.Inside.{Inside, IsSound, kernel_of, status_at}
 use Rattle.pif_kernel.proofs.Seats.{status_seen, added_seen, kernel_by_parts, seats_of-set_status}
 use Rattle.pif_kernel.proofs.Picked.{levels_joined, length-joined}
-use Rattle.pif_kernel.proofs.Standing.{fits, effective_level, unqueued_free}
+use Rattle.pif_kernel.proofs.Standing.{fits, effective_level, off_queue}
 use Rattle.pif_kernel.proofs.MovedSound.{sound_moved}
 
 -- who is parked is parked on a variable
@@ -44,13 +44,9 @@ module _ (p : Inside) (u : ℕ) (h : IsSound p) (added : has_seat (kernel_of p) 
   rests_level = omega (arith, h.local u, (effective_level p h u added).0)
 
   -- it is on no level
-  pub rests_free : holder p.table (node_for p.queue u) ≡ None
-  rests_free = unqueued_free p h u (omega (arith, some u rests_within.0)) (omega (arith, rests_within.1, h.placed.few))
-      (λ r. h.kernel.level u r ∙ rw unready (both_false (has_seat (kernel_of p) u)))
+  pub rests_off : IsQueued p.queue p.table u → ⊥
+  rests_off = off_queue p u (λ r. h.kernel.level u r ∙ rw unready (both_false (has_seat (kernel_of p) u)))
     where
-      some : (n : ℕ) → n ≢ 0 → 1 ≤ n
-      some n z = grind (arith, z)
-
       both_false : (b : Bool) → (if b then false else false) ≡ false
       both_false true = refl
       both_false false = refl

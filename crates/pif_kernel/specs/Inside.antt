@@ -8,9 +8,9 @@ use Rattle.pif_model.specs.Graph.{has_waiter}
 use Rattle.pif_model.specs.PiKernel.{Kernel, IsKernel, queued_on, is_ready, has_seat, is_among, level_at, levels_by, effective_in}
 use Rattle.pif_model.specs.PiKernel.{Seat as KernelSeat, Parking}
 use Rattle.pif_nodes.specs.declared.keys.Key.{Key}
-use Rattle.pif_nodes.specs.Table.{Table, no_key}
+use Rattle.pif_nodes.specs.Table.{Table}
 use Rattle.pif_runq.specs.Levels.{Queue, Holds, level_of}
-use Rattle.pif_owners.specs.Owners.{Owners, Seat, seat_at, owner_at, count, waits_on, rank_of, no_seat, no_owners, with_owner}
+use Rattle.pif_owners.specs.Owners.{Owners, Seat, seat_at, owner_at, count, waits_on, rank_of, no_seat, with_owner}
 
 -- what a kernel keeps
 pub record Inside : Type 0 where
@@ -88,20 +88,6 @@ mutexes_of (w ∷ ws) = if has_waiter ws w.1 then mutexes_of ws else mutexes_of 
 -- no key, for each of the 1,024 mutexes that can be
 unfoldable pub no_keys : List (Option ℕ)
 no_keys = replicate 1025 None
-
--- what is kept at first
-abbrev pub new_inside : Bounds → ℕ → Inside
-new_inside l first_ticket = record {
-  limits = l;
-  statuses = Ready Fresh ∷ [];
-  keys = no_keys;
-  owners = no_owners l.threads;
-  queue = record { first_list = 0; first_node = 0; threads = l.threads; mask = 0 };
-  table = record { lists = replicate 99 []; keys = replicate l.threads no_key };
-  arrivals = [];
-  parked = [];
-  next = first_ticket;
-}
 
 -- a thread on a level of the run queue was added and may run, and the level is the effective priority that it has
 pub record IsListed (p : Inside) (t level : ℕ) : Type 0 where

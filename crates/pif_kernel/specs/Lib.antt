@@ -7,3 +7,7 @@ pub mod Tickets
 pub mod Systems
 pub mod Takings
 pub mod Orders
+pub mod Chained
+pub mod Fields
+pub mod Found
+pub mod Together

@@ -57,9 +57,9 @@
 //! several the first that was parked. In the last row n lives not, is u, or waits for u through a chain: u is woken,
 //! and locks the mutex itself.
 //!
-//! expire refuses nothing, and writes no word. `t`, which lives and may not run, leaves the mutex on which it is queued, or
-//! the variable on which it is parked, and the chain above it has its priorities before it joins its level. The word of
-//! the mutex keeps WAITERS, also where nobody is queued on it any more.
+//! expire refuses nothing, and writes no word. `t`, which lives and may not run, leaves the mutex on which it is
+//! queued, or the variable on which it is parked, and the chain above it has its priorities before it joins its level.
+//! The word of the mutex keeps WAITERS, also where nobody is queued on it any more.
 //!
 //! exit refuses nothing. `t` itself leaves the mutex on which it is queued, or the variable on which it is parked. Then
 //! it goes through the mutexes that its robust list and its pending field name, and touches each whose word has n = t,
@@ -70,11 +70,39 @@
 //! now, equals in arrival, and the ready threads by their levels, those of one level in order of joining. `pick` is the
 //! first of the ready threads.
 //!
-//! `PiKernel` is the trait that a kernel meets; `pif_plain` has one that does. What both it and any other are seen as is
-//! in `specs/Inside.antt`, and what follows of the calls from that in `proofs/`.
+//! `PiKernel` is the trait that a kernel meets, and `KernelOn` meets it over any `Chains`: owner states and a run
+//! queue. `LinkedKernel` is the one over lists linked by index in one table of nodes, and `pif_plain` has another one.
+//! What each is seen as is in `specs/Inside.antt`, and what follows of the calls from that in `proofs/`.
+//!
+//! `KernelOn` makes a call of its steps, which stand in files over the same parts: `refusals` has the tests of the
+//! calls, `threads` adds and stops a thread and gives it another priority, `queueing` queues a thread and hands a mutex
+//! over, `parking` parks a thread, wakes it, and finds the next, `requeueing` takes parked threads for their mutex,
+//! `leaving` takes a thread that ends or expires off what it waits for, `dying` passes its mutexes on, and `tickets`
+//! numbers the waiters in their order. `orders` reads who stands at which place. `parts` keeps what they touch.
+//!
+//! A parked thread has no ticket of its own: all that a ticket says of it is its place among the parked, which stand in
+//! one list in that order, and once it is queued it gets a new one. So only tickets of waiters are ever numbered anew.
+//! Its effective priority is read where a thread is taken; set_prio and boosts change nothing in the list.
 #![tactic(auto)]
 
-mod kernel;
+mod chains;
+mod dying;
+mod kernel_on;
+mod leaving;
+mod linked;
+mod orders;
+mod parking;
+mod parts;
+mod pi_kernel;
+mod queueing;
+mod refusals;
+mod requeueing;
+mod threads;
+mod tickets;
 
-pub use kernel::PiKernel;
+pub use chains::Chains;
+pub use kernel_on::KernelOn;
+pub use linked::{LinkedChains, LinkedKernel};
+pub use pi_kernel::PiKernel;
 pub use pif_model::{Status, Took, Woken};
+pub use pif_owners::Key;

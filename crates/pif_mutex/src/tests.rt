@@ -6,8 +6,8 @@ ghost use Rattle.pif_model.specs.Posix.{names_known};
 ghost use Rattle.pif_mutex.specs.Steppable.{is_of_mutexes};
 
 use crate::{Parts, Progress, State, advance};
+use pif_kernel::LinkedKernel;
 use pif_model::{Line, Status};
-use pif_plain::PlainKernel;
 use pif_types::{CondId, Errno, Health, Kind, Limits, MutexId, Prio, Request, Tid};
 use std::alloc::Global;
 use std::process::Abort;
@@ -18,21 +18,21 @@ use std::test::Fail;
 type Row = (u32, Request, u32, Progress, u32);
 
 /// Parts for four threads, two mutexes and one condition variable, to which nothing was added.
-fn new_parts(alloc: Global) -> Result<Parts<PlainKernel>, Fail> {
+fn new_parts(alloc: Global) -> Result<Parts<LinkedKernel>, Fail> {
     let limits = Limits::new(4, 2, 1, 1).ok_or("limits")?;
-    let kernel = PlainKernel::new(alloc, limits, 1)?;
+    let kernel = LinkedKernel::new(alloc, limits, 1)?;
     Ok(Parts::new(alloc, limits, kernel)?)
 }
 
 /// The same with mutex 1 of this kind, and threads of these priorities.
-fn scene(alloc: Global, kind: Kind, levels: &[u32]) -> Result<Parts<PlainKernel>, Fail> {
+fn scene(alloc: Global, kind: Kind, levels: &[u32]) -> Result<Parts<LinkedKernel>, Fail> {
     let mut parts = new_parts(alloc)?;
     fill(&mut parts, kind, levels).ok_or("room")?;
     Ok(parts)
 }
 
 /// Adds a mutex of this kind, and threads of these priorities.
-fn fill(parts: &mut Parts<PlainKernel>, kind: Kind, levels: &[u32]) -> Option<()> {
+fn fill(parts: &mut Parts<LinkedKernel>, kind: Kind, levels: &[u32]) -> Option<()> {
     mutex(parts, kind, false)?;
     for level in levels {
         thread(parts, *level)?;
@@ -41,7 +41,7 @@ fn fill(parts: &mut Parts<PlainKernel>, kind: Kind, levels: &[u32]) -> Option<()
 }
 
 /// Adds a thread where there is room for it.
-fn thread(parts: &mut Parts<PlainKernel>, level: u32) -> Option<Tid> {
+fn thread(parts: &mut Parts<LinkedKernel>, level: u32) -> Option<Tid> {
     let prio = Prio::new(level)?;
     if parts.threads() < parts.limits().threads() {
         Some(parts.add_thread(prio))
@@ -51,7 +51,7 @@ fn thread(parts: &mut Parts<PlainKernel>, level: u32) -> Option<Tid> {
 }
 
 /// Adds a mutex, robust or not, where there is room for it.
-fn mutex(parts: &mut Parts<PlainKernel>, kind: Kind, robust: bool) -> Option<MutexId> {
+fn mutex(parts: &mut Parts<LinkedKernel>, kind: Kind, robust: bool) -> Option<MutexId> {
     if parts.mutexes() < parts.limits().mutexes() {
         Some(parts.add_mutex(kind, robust))
     } else {
@@ -60,7 +60,7 @@ fn mutex(parts: &mut Parts<PlainKernel>, kind: Kind, robust: bool) -> Option<Mut
 }
 
 /// Adds a condition variable bound to this mutex, where there is room for it.
-fn cond(parts: &mut Parts<PlainKernel>, m: MutexId) -> Option<CondId> {
+fn cond(parts: &mut Parts<LinkedKernel>, m: MutexId) -> Option<CondId> {
     if m.get() <= parts.mutexes() && parts.conds() < parts.limits().conds() {
         Some(parts.add_cond(m))
     } else {
@@ -69,7 +69,7 @@ fn cond(parts: &mut Parts<PlainKernel>, m: MutexId) -> Option<CondId> {
 }
 
 /// Whether a thread was added, lives, and has a call open or none, as asked.
-fn may_act(parts: &Parts<PlainKernel>, t: Tid, calling: bool) -> bool
+fn may_act(parts: &Parts<LinkedKernel>, t: Tid, calling: bool) -> bool
     ensures known { result ≡ true → has_thread parts.now t ≡ true }
     ensures living { result ≡ true → is_living parts.now.kernel t ≡ true }
     ensures open { result ≡ true → is_open (line_at parts.now t) ≡ calling }
@@ -78,7 +78,7 @@ fn may_act(parts: &Parts<PlainKernel>, t: Tid, calling: bool) -> bool
 }
 
 /// Whether the open call of a thread, which was added, is one on mutexes.
-fn is_on_mutexes(parts: &Parts<PlainKernel>, t: Tid) -> bool
+fn is_on_mutexes(parts: &Parts<LinkedKernel>, t: Tid) -> bool
     requires { has_thread parts.now t ≡ true }
     ensures { result ≡ true → is_of_mutexes (line_at parts.now t) ≡ true }
 {
@@ -96,7 +96,7 @@ fn is_on_mutexes(parts: &Parts<PlainKernel>, t: Tid) -> bool
 }
 
 /// Whether the mutex and the variable that a call names were added.
-fn names_known(parts: &Parts<PlainKernel>, request: &Request) -> bool
+fn names_known(parts: &Parts<LinkedKernel>, request: &Request) -> bool
     ensures { result ≡ true → names_known (has_mutex parts.now) (has_cond parts.now) request.now ≡ true }
 {
     match *request {
@@ -114,7 +114,7 @@ fn names_known(parts: &Parts<PlainKernel>, request: &Request) -> bool
 }
 
 /// A thread begins a call, where that is not refused.
-fn begin(parts: &mut Parts<PlainKernel>, t: Tid, request: Request) -> Option<()> {
+fn begin(parts: &mut Parts<LinkedKernel>, t: Tid, request: Request) -> Option<()> {
     if may_act(parts, t, false) && names_known(parts, &request) {
         parts.begin(t, request);
         Some(())
@@ -124,7 +124,7 @@ fn begin(parts: &mut Parts<PlainKernel>, t: Tid, request: Request) -> Option<()>
 }
 
 /// A thread takes one step of its open call on mutexes. `None` where it has none.
-fn go(parts: &mut Parts<PlainKernel>, t: Tid) -> Option<Progress> {
+fn go(parts: &mut Parts<LinkedKernel>, t: Tid) -> Option<Progress> {
     if may_act(parts, t, true) && is_on_mutexes(parts, t) {
         Some(advance(parts, t))
     } else {
@@ -134,7 +134,7 @@ fn go(parts: &mut Parts<PlainKernel>, t: Tid) -> Option<Progress> {
 
 /// A thread begins this call and goes on up to the first step that isn't `Went`: the number of that step, and what it
 /// came to.
-fn call(parts: &mut Parts<PlainKernel>, t: Tid, request: Request) -> Option<(u32, Progress)> {
+fn call(parts: &mut Parts<LinkedKernel>, t: Tid, request: Request) -> Option<(u32, Progress)> {
     begin(parts, t, request)?;
     for step in 1..=8 {
         match go(parts, t)? {
@@ -146,7 +146,7 @@ fn call(parts: &mut Parts<PlainKernel>, t: Tid, request: Request) -> Option<(u32
 }
 
 /// Threads make their calls, one after the other.
-fn play(rt: &impl Abort, parts: &mut Parts<PlainKernel>, rows: &[Row]) -> Result<(), Fail> {
+fn play(rt: &impl Abort, parts: &mut Parts<LinkedKernel>, rows: &[Row]) -> Result<(), Fail> {
     let mutex = MutexId::new(1).ok_or("a mutex")?;
     for row in rows {
         let (number, request, steps, progress, word) = *row;
@@ -168,7 +168,7 @@ fn parts_say_what_was_added(rt: HostRuntime) -> Result<(), Fail> {
     add_and_count(&rt, &mut parts)
 }
 
-fn add_and_count(rt: &impl Abort, parts: &mut Parts<PlainKernel>) -> Result<(), Fail> {
+fn add_and_count(rt: &impl Abort, parts: &mut Parts<LinkedKernel>) -> Result<(), Fail> {
     assert_eq!(rt; parts.pick(), None);
     let t1 = thread(parts, 10).ok_or("room")?;
     let t2 = thread(parts, 50).ok_or("room")?;
@@ -183,7 +183,7 @@ fn add_and_count(rt: &impl Abort, parts: &mut Parts<PlainKernel>) -> Result<(), 
     see_words(rt, parts)
 }
 
-fn see_words(rt: &impl Abort, parts: &Parts<PlainKernel>) -> Result<(), Fail> {
+fn see_words(rt: &impl Abort, parts: &Parts<LinkedKernel>) -> Result<(), Fail> {
     for (number, word) in [(1, Some(0)), (2, None)] {
         let mutex = MutexId::new(number).ok_or("a mutex")?;
         assert_eq!(rt; parts.word(mutex), word);
@@ -197,7 +197,7 @@ fn uncontended_calls_make_no_kernel_call(rt: HostRuntime) -> Result<(), Fail> {
     uncontended(&rt, &mut parts)
 }
 
-fn uncontended(rt: &impl Abort, parts: &mut Parts<PlainKernel>) -> Result<(), Fail> {
+fn uncontended(rt: &impl Abort, parts: &mut Parts<LinkedKernel>) -> Result<(), Fail> {
     let m1 = MutexId::new(1).ok_or("a mutex")?;
     let t1 = Tid::new(1).ok_or("a thread")?;
     let rows = [
@@ -216,7 +216,7 @@ fn mutex_is_handed_to_who_waits(rt: HostRuntime) -> Result<(), Fail> {
     hand_over(&rt, &mut parts)
 }
 
-fn hand_over(rt: &impl Abort, parts: &mut Parts<PlainKernel>) -> Result<(), Fail> {
+fn hand_over(rt: &impl Abort, parts: &mut Parts<LinkedKernel>) -> Result<(), Fail> {
     let m1 = MutexId::new(1).ok_or("a mutex")?;
     let low = Tid::new(1).ok_or("a thread")?;
     let high = Tid::new(2).ok_or("a thread")?;
@@ -241,7 +241,7 @@ fn recursive_mutex_is_unlocked_as_often_as_locked(rt: HostRuntime) -> Result<(),
     lock_and_unlock_thrice(&rt, &mut parts)
 }
 
-fn lock_and_unlock_thrice(rt: &impl Abort, parts: &mut Parts<PlainKernel>) -> Result<(), Fail> {
+fn lock_and_unlock_thrice(rt: &impl Abort, parts: &mut Parts<LinkedKernel>) -> Result<(), Fail> {
     let m1 = MutexId::new(1).ok_or("a mutex")?;
     let rows = [
         (1, Request::Lock(m1), 2, Progress::Done(0), 1),
@@ -260,7 +260,7 @@ fn recursive_mutex_is_held_255_times(rt: HostRuntime) -> Result<(), Fail> {
     lock_256_times(&rt, &mut parts)
 }
 
-fn lock_256_times(rt: &impl Abort, parts: &mut Parts<PlainKernel>) -> Result<(), Fail> {
+fn lock_256_times(rt: &impl Abort, parts: &mut Parts<LinkedKernel>) -> Result<(), Fail> {
     let lock = Request::Lock(MutexId::new(1).ok_or("a mutex")?);
     play(rt, parts, &[(1, lock, 2, Progress::Done(0), 1)])?;
     for _ in 0..254 {
@@ -275,7 +275,7 @@ fn trylock_never_waits(rt: HostRuntime) -> Result<(), Fail> {
     try_to_lock(&rt, &mut parts)
 }
 
-fn try_to_lock(rt: &impl Abort, parts: &mut Parts<PlainKernel>) -> Result<(), Fail> {
+fn try_to_lock(rt: &impl Abort, parts: &mut Parts<LinkedKernel>) -> Result<(), Fail> {
     let m1 = MutexId::new(1).ok_or("a mutex")?;
     let rows = [
         (1, Request::TryLock(m1), 2, Progress::Done(0), 1),
@@ -301,7 +301,7 @@ fn lock_of_an_own_mutex_goes_by_its_kind(rt: HostRuntime) -> Result<(), Fail> {
 /// A thread locks a mutex twice, the second time with this end.
 fn lock_twice(
     rt: &impl Abort,
-    parts: &mut Parts<PlainKernel>,
+    parts: &mut Parts<LinkedKernel>,
     steps: u32,
     progress: Progress,
 ) -> Result<(), Fail> {
@@ -319,7 +319,7 @@ fn priority_is_set_in_one_step(rt: HostRuntime) -> Result<(), Fail> {
     set_priorities(&rt, &mut parts)
 }
 
-fn set_priorities(rt: &impl Abort, parts: &mut Parts<PlainKernel>) -> Result<(), Fail> {
+fn set_priorities(rt: &impl Abort, parts: &mut Parts<LinkedKernel>) -> Result<(), Fail> {
     let t2 = Tid::new(2).ok_or("a thread")?;
     let nobody = Tid::new(3).ok_or("a thread")?;
     for (request, answer, effective) in [
@@ -342,7 +342,7 @@ fn end_of_a_holder_leaves_its_robust_mutex(rt: HostRuntime) -> Result<(), Fail> 
 }
 
 /// A thread locks a robust mutex and ends: the word, the health, and whether the thread lives.
-fn end_holder(parts: &mut Parts<PlainKernel>) -> Option<(Option<u32>, Option<Health>, bool)> {
+fn end_holder(parts: &mut Parts<LinkedKernel>) -> Option<(Option<u32>, Option<Health>, bool)> {
     let held = mutex(parts, Kind::Normal, true)?;
     let holder = thread(parts, 10)?;
     call(parts, holder, Request::Lock(held))?;
@@ -362,7 +362,7 @@ fn variable_is_added_unused(rt: HostRuntime) -> Result<(), Fail> {
     add_variable(&rt, &mut parts)
 }
 
-fn add_variable(rt: &impl Abort, parts: &mut Parts<PlainKernel>) -> Result<(), Fail> {
+fn add_variable(rt: &impl Abort, parts: &mut Parts<LinkedKernel>) -> Result<(), Fail> {
     let m1 = MutexId::new(1).ok_or("a mutex")?;
     let t1 = Tid::new(1).ok_or("a thread")?;
     let none = CondId::new(2).ok_or("a variable")?;
@@ -378,7 +378,7 @@ fn add_variable(rt: &impl Abort, parts: &mut Parts<PlainKernel>) -> Result<(), F
 }
 
 /// The open call of a thread. `None` where it has none.
-fn open_call(parts: &Parts<PlainKernel>, t: Tid) -> Option<Request> {
+fn open_call(parts: &Parts<LinkedKernel>, t: Tid) -> Option<Request> {
     if t.get() <= parts.threads() {
         parts.open_call(t)
     } else {
@@ -389,12 +389,12 @@ fn open_call(parts: &Parts<PlainKernel>, t: Tid) -> Option<Request> {
 #[test]
 fn variable_is_used_and_its_waiter_taken(rt: HostRuntime) -> Result<(), Fail> {
     let limits = Limits::new(1, 1, 1, 1).ok_or("limits")?;
-    let kernel = PlainKernel::new(rt.alloc(), limits, 1)?;
+    let kernel = LinkedKernel::new(rt.alloc(), limits, 1)?;
     let mut state = State::new(rt.alloc(), limits, kernel)?;
     use_variable(&rt, &mut state)
 }
 
-fn use_variable(rt: &impl Abort, state: &mut State<PlainKernel>) -> Result<(), Fail> {
+fn use_variable(rt: &impl Abort, state: &mut State<LinkedKernel>) -> Result<(), Fail> {
     let m1 = MutexId::new(1).ok_or("a mutex")?;
     let c1 = CondId::new(1).ok_or("a variable")?;
     let t1 = first_of_each(state).ok_or("room")?;
@@ -406,7 +406,7 @@ fn use_variable(rt: &impl Abort, state: &mut State<PlainKernel>) -> Result<(), F
 }
 
 /// Adds a thread, a mutex, and a variable bound to that.
-fn first_of_each(state: &mut State<PlainKernel>) -> Option<Tid> {
+fn first_of_each(state: &mut State<LinkedKernel>) -> Option<Tid> {
     let limits = state.limits();
     let m = MutexId::new(state.mutex_count())?;
     let rooms = (
@@ -424,7 +424,10 @@ fn first_of_each(state: &mut State<PlainKernel>) -> Option<Tid> {
 
 /// Makes the condition word of a variable 1 if it was 0: its mutex, what the exchange answers, and how often it was
 /// used then.
-fn exchange(state: &mut State<PlainKernel>, c: CondId) -> Option<(MutexId, Result<u32, u32>, u32)> {
+fn exchange(
+    state: &mut State<LinkedKernel>,
+    c: CondId,
+) -> Option<(MutexId, Result<u32, u32>, u32)> {
     if c.get() >= state.cond_count() {
         return None;
     }
@@ -438,7 +441,7 @@ fn exchange(state: &mut State<PlainKernel>, c: CondId) -> Option<(MutexId, Resul
 
 /// Parks a thread that may run on a variable that was used once.
 fn park(
-    state: &mut State<PlainKernel>,
+    state: &mut State<LinkedKernel>,
     t: Tid,
     c: CondId,
     m: MutexId,

@@ -1,2 +1,3 @@
 pub mod Owners
 pub mod OwnerMaps
+pub mod Examples

@@ -3,3 +3,6 @@ pub mod TopLemmas
 pub mod StateTestLemmas
 pub mod Propagation
 pub mod WalkTestLemmas
+pub mod KeptChains
+pub mod HopLemmas
+pub mod LinkedStateLemmas

@@ -19,6 +19,7 @@ use Rattle.pif_boost.proofs.Greatest.{waits_for-none, waits_for-owner}
 use Rattle.pif_boost.proofs.Settled.{rewaited, was_ready}
 use Rattle.pif_boost.proofs.Walks.{admitted_row}
 use Rattle.pif_boost.proofs.Repairs.{ranked-state}
+use Rattle.pif_plain.specs.ChainExamples.{IsIdle}
 use Rattle.pif_plain.specs.WalkExamples.{admitted, three_admitted, three_threads, new_queue, new_table}
 
 -- WAITS
@@ -128,13 +129,7 @@ module _ (v waited : Owners) (q : Queue) (t : Table) (u : ℕ) (w : Option Wait)
 
 -- THE START
 
--- nobody waits, and each thread has its base priority
-pub record IsIdle (n : ℕ) (v : Owners) : Type 0 where
-  pub long : length v.seats ≡ n + 1
-  pub free : (x : ℕ) → (seat_at v x).wait ≡ None
-  pub same : (x : ℕ) → local_of v x ≡ base_of v x
-
-idle-new : (n : ℕ) (v : Owners) → v ≡ no_owners n → IsIdle n v
+pub idle-new : (n : ℕ) (v : Owners) → v ≡ no_owners n → IsIdle n v
 idle-new n v e =
     subst (IsIdle n) (sym e)
     (record {
@@ -143,7 +138,7 @@ idle-new n v e =
       same = λ x. ap (λ (s : Seat). s.local) (seat_at-no_owners n x) ∙ sym (ap (λ (s : Seat). s.base) (seat_at-no_owners n x));
     })
 
-idle-admitted : (n t p : ℕ) (v now : Owners) → now ≡ with_seat t (admitted p) v → IsIdle n v → IsIdle n now
+pub idle-admitted : (n t p : ℕ) (v now : Owners) → now ≡ with_seat t (admitted p) v → IsIdle n v → IsIdle n now
 idle-admitted n t p v now e h =
     subst (IsIdle n) (sym e)
     (record {
@@ -181,7 +176,7 @@ idle-three k1 k2 = idle-made 3 k2 2 _ _ refl (idle-made 3 k1 1 _ _ refl
     (idle-admitted 3 1 1 _ _ refl (idle-new 3 (no_owners 3) refl)))))
 
 -- a state is there once it is made
-state_made : (v now : Owners) (k owner : ℕ) → now ≡ with_owner k owner v → IsSome (owner_at now k)
+pub state_made : (v now : Owners) (k owner : ℕ) → now ≡ with_owner k owner v → IsSome (owner_at now k)
 state_made v now k owner e = ap is_some (ap (λ (x : Owners). owner_at x k) e ∙ owner_at-with_owner_same k owner v)
 
 -- and stays there when another one is made
@@ -203,7 +198,7 @@ pub second_there : (k1 k2 : ℕ) → IsSome (owner_at (three_threads k1 k2) k2)
 second_there k1 k2 = state_made (with_owner k1 1 three_admitted) (three_threads k1 k2) k2 2 refl
 
 -- where nobody waits nothing is left to repair
-idle-repaired : (n : ℕ) (v : Owners) → IsIdle n v → (start : ℕ) → IsRepairedBut start v
+pub idle-repaired : (n : ℕ) (v : Owners) → IsIdle n v → (start : ℕ) → IsRepairedBut start v
 idle-repaired n v h start =
     record {
       locals = λ t th ne. h.same t ∙ omega (arith, nobody t th (cases_lt 0 (greatest_waiting v t)));

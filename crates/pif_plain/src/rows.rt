@@ -1,38 +1,9 @@
-ghost use Rattle.std.specs.Prelude.{◌≡◌, ◌≤◌, ℕ};
+ghost use Rattle.std.specs.Prelude.{◌≡◌, ◌≤◌};
 
 use pif_nodes::Key as Rank;
+use pif_owners::Key;
 use pif_types::Prio;
 use std::marker::Model;
-
-/// Names an owner state, from when it is made to its end.
-#[derive(Clone, Copy, Debug, PartialEq, Eq, Hash)]
-pub struct Key {
-    number: usize,
-}
-
-impl Model for Key {
-    ghost Value = { ℕ };
-
-    ghost view = { λ k. k.number };
-
-    ghost inverse = { λ n. record { number = n } };
-}
-
-impl Key {
-    /// The key of this number.
-    pub(crate) fn new(number: usize) -> Self
-        ensures { result ≡ number }
-    {
-        Key { number }
-    }
-
-    /// Its number.
-    pub(crate) fn get(self) -> usize
-        ensures { result ≡ self }
-    {
-        self.number
-    }
-}
 
 /// What a thread waits for: the owner state on which it is queued, the priority with which it stands there, and its
 /// ticket.

@@ -25,9 +25,10 @@ ghost use Rattle.pif_nodes.specs.declared.keys.Key.{Key as RankSeen};
 ghost use Rattle.pif_owners.specs.Owners.{no_owners, seat_at, owner_at, count, waits_on, rank_of, WaitsFor, IsAcyclic, IsSound, IsTop, HasNoWaiter, KeepsOrder, with_seat, with_base, with_local, with_wait, with_prio, with_ticket, with_owner, without_state};
 ghost use Rattle.pif_plain.specs.Standing.{standing};
 
-use crate::rows::{Key, NOBODY, Row, Wait};
+use crate::rows::{NOBODY, Row, Wait};
 use crate::standing::leads;
 use pif_nodes::Key as Rank;
+use pif_owners::Key;
 use pif_types::{NoMemory, Prio, Tid};
 use slab::Slab;
 use std::alloc::Global;

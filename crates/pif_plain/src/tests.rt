@@ -1,15 +1,18 @@
 mod conditions;
 mod expiries;
+mod hops;
+mod linked_states;
 mod owner_states;
+mod random_calls;
 mod walks;
 
-ghost use Rattle.std.specs.Prelude.{◌≡◌, ◌<◌, ◌≤◌, ◌+◌, ℕ, true, false, length, OnOk};
+ghost use Rattle.std.specs.Prelude.{◌≡◌, ◌<◌, ◌≤◌, ◌+◌, ℕ, true, false, length, OnSome};
 ghost use Rattle.pif_model.specs.PiKernel.{has_seat, is_living, is_ready, seat_at};
 ghost use Rattle.pif_model.specs.RobustList.{robust_at};
 ghost use Rattle.pif_kernel.specs.Inside.{kernel_of};
 
-use crate::PlainKernel;
-use pif_kernel::{PiKernel, Status, Took, Woken};
+use crate::{PlainChains, PlainKernel};
+use pif_kernel::{Chains, KernelOn, LinkedChains, PiKernel, Status, Took, Woken};
 use pif_robust::RobustLists;
 use pif_types::{CondId, Errno, Limits, MutexId, Prio, Tid};
 use pif_word::{Cell, Words};
@@ -17,10 +20,10 @@ use std::alloc::Global;
 use std::process::Abort;
 use std::test::Fail;
 
-// A kernel, and words beside it.
+// A kernel on chains of some form, and words beside it.
 #[derive(Drop)]
-struct Scene {
-    kernel: PlainKernel,
+struct Scene<C: Chains + Drop> {
+    kernel: KernelOn<C>,
     words: Words,
 }
 
@@ -71,69 +74,70 @@ enum Reply {
     Bits(u32),
 }
 
-impl Scene {
+impl<C: Chains + Drop> Scene<C> {
     // A thread of each of these priorities, this first ticket, so many mutexes, and two variables; all words are 0.
-    fn new(alloc: Global, levels: &[u32], mutexes: u32, first_ticket: u64) -> Result<Scene, Fail>
+    fn new(alloc: Global, levels: &[u32], mutexes: u32, first_ticket: u64) -> Result<Scene<C>, Fail>
         requires threads { length levels.now ≤ 1024 }
         requires ticket { 1 ≤ first_ticket }
     {
         let limits = Limits::new(levels.len() as u32, mutexes, 2, 1).ok_or("limits")?;
         let words = Words::new(alloc, limits)?;
-        let mut kernel = PlainKernel::new(alloc, limits, first_ticket)?;
+        let mut kernel: KernelOn<C> = KernelOn::new(alloc, limits, first_ticket)?;
         add_all(&mut kernel, levels)?;
         Ok(Scene { kernel, words })
     }
 
-    fn answer(&mut self, ask: Ask) -> Result<Reply, Fail> {
-        Ok(match ask {
-            Ask::Lock(t, m) => self.lock(thread(t)?, mutex(m)?)?,
-            Ask::TryLock(t, m) => self.trylock(thread(t)?, mutex(m)?)?,
-            Ask::Unlock(t, m) => self.unlock(thread(t)?, mutex(m)?)?,
+    // `None` if it can't be asked: a number is nobody's, or the thread of a call may not run.
+    fn answer(&mut self, ask: Ask) -> Option<Reply> {
+        Some(match ask {
+            Ask::Lock(t, m) => self.lock(Tid::new(t)?, MutexId::new(m)?)?,
+            Ask::TryLock(t, m) => self.trylock(Tid::new(t)?, MutexId::new(m)?)?,
+            Ask::Unlock(t, m) => self.unlock(Tid::new(t)?, MutexId::new(m)?)?,
             Ask::Park(t, c, expected, m) => {
-                self.park(thread(t)?, variable(c)?, expected, mutex(m)?)?
+                self.park(Tid::new(t)?, CondId::new(c)?, expected, MutexId::new(m)?)?
             }
             Ask::Requeue(c, expected, m, val, more) => {
-                self.requeue(variable(c)?, expected, mutex(m)?, val, more)
+                self.requeue(CondId::new(c)?, expected, MutexId::new(m)?, val, more)
             }
-            Ask::SetPrio(t, p) => done(self.kernel.set_prio(thread(t)?, p)),
-            Ask::Stop(t) => self.stop(thread(t)?)?,
-            Ask::Expire(t) => self.expire(thread(t)?)?,
-            Ask::Word(m) => self.word(mutex(m)?)?,
-            Ask::Store(m, bits) => self.store(mutex(m)?, bits)?,
-            Ask::StoreUses(c, uses) => self.store_uses(variable(c)?, uses)?,
-            Ask::Status(t) => self.status(thread(t)?)?,
-            Ask::Effective(t) => self.effective(thread(t)?),
-            Ask::Base(t) => self.base(thread(t)?)?,
-            Ask::Waiter(m, place) => who(self.kernel.waiter(mutex(m)?, place)),
-            Ask::Parked(c, place) => who(self.kernel.parked(variable(c)?, place)),
+            Ask::SetPrio(t, p) => done(self.kernel.set_prio(Tid::new(t)?, p)),
+            Ask::Stop(t) => self.stop(Tid::new(t)?)?,
+            Ask::Expire(t) => self.expire(Tid::new(t)?)?,
+            Ask::Word(m) => self.word(MutexId::new(m)?)?,
+            Ask::Store(m, bits) => self.store(MutexId::new(m)?, bits)?,
+            Ask::StoreUses(c, uses) => self.store_uses(CondId::new(c)?, uses)?,
+            Ask::Status(t) => self.status(Tid::new(t)?)?,
+            Ask::Effective(t) => self.effective(Tid::new(t)?),
+            Ask::Base(t) => self.base(Tid::new(t)?)?,
+            Ask::Waiter(m, place) => who(self.kernel.waiter(MutexId::new(m)?, place)),
+            Ask::Parked(c, place) => who(self.kernel.parked(CondId::new(c)?, place)),
             Ask::Ready(place) => who(self.kernel.ready(place)),
             Ask::Pick => self.pick(),
             Ask::NextTicket => Reply::Ticket(self.kernel.next_ticket()),
         })
     }
 
-    fn lock(&mut self, t: Tid, m: MutexId) -> Result<Reply, Fail> {
+    fn lock(&mut self, t: Tid, m: MutexId) -> Option<Reply> {
         see_ready(&self.kernel, t)?;
-        Ok(match self.kernel.lock_pi(&mut self.words, t, m) {
+        Some(match self.kernel.lock_pi(&mut self.words, t, m) {
             Ok(Took::Owns) => Reply::Owns,
             Ok(Took::Queued) => Reply::Queued,
             Err(errno) => Reply::Refused(errno),
         })
     }
 
-    fn trylock(&mut self, t: Tid, m: MutexId) -> Result<Reply, Fail> {
+    fn trylock(&mut self, t: Tid, m: MutexId) -> Option<Reply> {
         see_ready(&self.kernel, t)?;
-        Ok(done(self.kernel.trylock_pi(&mut self.words, t, m)))
+        Some(done(self.kernel.trylock_pi(&mut self.words, t, m)))
     }
 
-    fn unlock(&mut self, t: Tid, m: MutexId) -> Result<Reply, Fail> {
+    fn unlock(&mut self, t: Tid, m: MutexId) -> Option<Reply> {
         see_ready(&self.kernel, t)?;
-        Ok(done(self.kernel.unlock_pi(&mut self.words, t, m)))
+        Some(done(self.kernel.unlock_pi(&mut self.words, t, m)))
     }
 
-    fn park(&mut self, t: Tid, c: CondId, expected: u32, m: MutexId) -> Result<Reply, Fail> {
+    fn park(&mut self, t: Tid, c: CondId, expected: u32, m: MutexId) -> Option<Reply> {
         see_ready(&self.kernel, t)?;
-        Ok(done(self.kernel.wait_requeue_pi(&self.words, t, c, expected, m)))
+        Some(done(self.kernel.wait_requeue_pi(&self.words, t, c, expected, m)))
     }
 
     fn requeue(&mut self, c: CondId, expected: u32, m: MutexId, val: u32, more: u32) -> Reply {
@@ -146,21 +150,21 @@ impl Scene {
         }
     }
 
-    fn stop(&mut self, t: Tid) -> Result<Reply, Fail> {
+    fn stop(&mut self, t: Tid) -> Option<Reply> {
         see_ready(&self.kernel, t)?;
         self.kernel.stop(t);
-        Ok(Reply::Done)
+        Some(Reply::Done)
     }
 
-    fn expire(&mut self, t: Tid) -> Result<Reply, Fail> {
+    fn expire(&mut self, t: Tid) -> Option<Reply> {
         see_waiting(&self.kernel, t)?;
         self.kernel.expire(t);
-        Ok(Reply::Done)
+        Some(Reply::Done)
     }
 
-    fn status(&self, t: Tid) -> Result<Reply, Fail> {
+    fn status(&self, t: Tid) -> Option<Reply> {
         see_living(&self.kernel, t)?;
-        Ok(match self.kernel.status(t) {
+        Some(match self.kernel.status(t) {
             Status::Queued(m) => Reply::QueuedOn(m.get()),
             Status::Parked(c) => Reply::ParkedOn(c.get()),
             other => Reply::Is(other),
@@ -174,9 +178,9 @@ impl Scene {
         }
     }
 
-    fn base(&self, t: Tid) -> Result<Reply, Fail> {
+    fn base(&self, t: Tid) -> Option<Reply> {
         see_living(&self.kernel, t)?;
-        Ok(Reply::Prio(self.kernel.base(t).get()))
+        Some(Reply::Prio(self.kernel.base(t).get()))
     }
 
     fn pick(&self) -> Reply {
@@ -186,40 +190,28 @@ impl Scene {
         }
     }
 
-    fn word(&self, m: MutexId) -> Result<Reply, Fail> {
+    fn word(&self, m: MutexId) -> Option<Reply> {
         if !self.words.has(Cell::Mutex(m)) {
-            Err("a word")?
+            return None;
         }
-        Ok(Reply::Bits(self.words.load(Cell::Mutex(m))))
+        Some(Reply::Bits(self.words.load(Cell::Mutex(m))))
     }
 
-    fn store(&mut self, m: MutexId, bits: u32) -> Result<Reply, Fail> {
+    fn store(&mut self, m: MutexId, bits: u32) -> Option<Reply> {
         if !self.words.has(Cell::Mutex(m)) {
-            Err("a word")?
+            return None;
         }
         self.words.store(Cell::Mutex(m), bits);
-        Ok(Reply::Done)
+        Some(Reply::Done)
     }
 
-    fn store_uses(&mut self, c: CondId, uses: u32) -> Result<Reply, Fail> {
+    fn store_uses(&mut self, c: CondId, uses: u32) -> Option<Reply> {
         if !self.words.has(Cell::Cond(c)) {
-            Err("a condition word")?
+            return None;
         }
         self.words.store(Cell::Cond(c), uses);
-        Ok(Reply::Done)
+        Some(Reply::Done)
     }
-}
-
-fn thread(number: u32) -> Result<Tid, Fail> {
-    Ok(Tid::new(number).ok_or("a thread")?)
-}
-
-fn mutex(number: u32) -> Result<MutexId, Fail> {
-    Ok(MutexId::new(number).ok_or("a mutex")?)
-}
-
-fn variable(number: u32) -> Result<CondId, Fail> {
-    Ok(CondId::new(number).ok_or("a variable")?)
 }
 
 fn who(read: Option<Tid>) -> Reply {
@@ -237,7 +229,7 @@ fn done(answer: Result<(), Errno>) -> Reply {
 }
 
 // Adds a thread of each of these priorities, for whom there is room.
-fn add_all(kernel: &mut PlainKernel, levels: &[u32]) -> Result<(), Fail>
+fn add_all<C: Chains + Drop>(kernel: &mut KernelOn<C>, levels: &[u32]) -> Result<(), Fail>
     requires { length (kernel_of kernel.old).seats + length levels.now ≤ (kernel_of kernel.old).limits.threads + 1 }
 {
     for level in levels {
@@ -247,53 +239,49 @@ fn add_all(kernel: &mut PlainKernel, levels: &[u32]) -> Result<(), Fail>
     Ok(())
 }
 
-// Fails where the thread doesn't live.
-fn see_living(kernel: &PlainKernel, t: Tid) -> Result<(), Fail>
-    ensures living { OnOk result (is_living (kernel_of kernel.now) t ≡ true) }
-    ensures added { OnOk result (has_seat (kernel_of kernel.now) t ≡ true) }
+// `None` if the thread doesn't live.
+fn see_living<C: Chains + Drop>(kernel: &KernelOn<C>, t: Tid) -> Option<()>
+    ensures living { OnSome result (is_living (kernel_of kernel.now) t ≡ true) }
+    ensures added { OnSome result (has_seat (kernel_of kernel.now) t ≡ true) }
 {
-    let _prio = kernel.effective(t).ok_or("the thread doesn't live")?;
-    Ok(())
+    let _prio = kernel.effective(t)?;
+    Some(())
 }
 
-// Fails where the thread wasn't added or may not run.
-fn see_ready(kernel: &PlainKernel, t: Tid) -> Result<(), Fail>
-    ensures added { OnOk result (has_seat (kernel_of kernel.now) t ≡ true) }
-    ensures ready { OnOk result (is_ready (seat_at (kernel_of kernel.now) t).status ≡ true) }
+// `None` if the thread wasn't added or may not run.
+fn see_ready<C: Chains + Drop>(kernel: &KernelOn<C>, t: Tid) -> Option<()>
+    ensures added { OnSome result (has_seat (kernel_of kernel.now) t ≡ true) }
+    ensures ready { OnSome result (is_ready (seat_at (kernel_of kernel.now) t).status ≡ true) }
 {
     see_living(kernel, t)?;
     match kernel.status(t) {
-        Status::Ready(_) => Ok(()),
-        Status::Queued(_) => Err("the thread is queued")?,
-        Status::Parked(_) => Err("the thread is parked")?,
-        Status::Stopped => Err("the thread is stopped")?,
-        Status::Ended => Err("the thread has ended")?,
+        Status::Ready(_) => Some(()),
+        Status::Queued(_) | Status::Parked(_) | Status::Stopped | Status::Ended => None,
     }
 }
 
-// Fails where the thread doesn't live, or may run.
-fn see_waiting(kernel: &PlainKernel, t: Tid) -> Result<(), Fail>
-    ensures living { OnOk result (is_living (kernel_of kernel.now) t ≡ true) }
-    ensures unready { OnOk result (is_ready (seat_at (kernel_of kernel.now) t).status ≡ false) }
+// `None` if the thread doesn't live, or may run.
+fn see_waiting<C: Chains + Drop>(kernel: &KernelOn<C>, t: Tid) -> Option<()>
+    ensures living { OnSome result (is_living (kernel_of kernel.now) t ≡ true) }
+    ensures unready { OnSome result (is_ready (seat_at (kernel_of kernel.now) t).status ≡ false) }
 {
     see_living(kernel, t)?;
     match kernel.status(t) {
-        Status::Ready(_) => Err("the thread is ready")?,
-        Status::Queued(_) | Status::Parked(_) | Status::Stopped | Status::Ended => Ok(()),
+        Status::Ready(_) => None,
+        Status::Queued(_) | Status::Parked(_) | Status::Stopped | Status::Ended => Some(()),
     }
 }
 
 // Asks all this in turn, and sees that each answer is the one beside it.
-fn check(rt: &impl Abort, scene: &mut Scene, steps: &[(Ask, Reply)]) -> Result<(), Fail> {
+fn check<C: Chains + Drop>(rt: &impl Abort, scene: &mut Scene<C>, steps: &[(Ask, Reply)]) {
     for (ask, reply) in steps {
-        assert_eq!(rt; scene.answer(*ask)?, *reply, "at {ask:?}");
+        assert_eq!(rt; scene.answer(*ask), Some(*reply), "at {ask:?}");
     }
-    Ok(())
 }
 
-// The same with what stands in these tables, of a new scene of such threads and so many mutexes.
-fn play(
-    rt: &impl Abort,
+// The same with what stands in these tables, of a new scene of such threads and so many mutexes, on either kernel.
+fn play<R: Abort>(
+    rt: &R,
     alloc: Global,
     levels: &[u32],
     mutexes: u32,
@@ -301,13 +289,24 @@ fn play(
 ) -> Result<(), Fail>
     requires { length levels.now ≤ 1024 }
 {
-    let mut scene = Scene::new(alloc, levels, mutexes, 1)?;
-    check_all(rt, &mut scene, tables)
+    play_on::<PlainChains, R>(rt, alloc, levels, mutexes, 1, tables)?;
+    play_on::<LinkedChains, R>(rt, alloc, levels, mutexes, 1, tables)
 }
 
-fn check_all(rt: &impl Abort, scene: &mut Scene, tables: &[&[(Ask, Reply)]]) -> Result<(), Fail> {
+fn play_on<C: Chains + Drop, R: Abort>(
+    rt: &R,
+    alloc: Global,
+    levels: &[u32],
+    mutexes: u32,
+    first_ticket: u64,
+    tables: &[&[(Ask, Reply)]],
+) -> Result<(), Fail>
+    requires threads { length levels.now ≤ 1024 }
+    requires ticket { 1 ≤ first_ticket }
+{
+    let mut scene: Scene<C> = Scene::new(alloc, levels, mutexes, first_ticket)?;
     for steps in tables {
-        check(rt, scene, steps)?;
+        check(rt, &mut scene, steps);
     }
     Ok(())
 }
@@ -505,13 +504,15 @@ const HAND_OVERS: [(Ask, Reply); 12] = [
 ];
 
 // The same, between these two next tickets.
-fn hand_over_from(rt: &impl Abort, alloc: Global, first: u64, next: u64) -> Result<(), Fail>
+fn hand_over_from<R: Abort>(rt: &R, alloc: Global, first: u64, next: u64) -> Result<(), Fail>
     requires { 1 ≤ first }
 {
-    let mut scene = Scene::new(alloc, &[10, 10, 10, 10], 1, first)?;
+    let levels = [10, 10, 10, 10];
     let before = [(Ask::NextTicket, Reply::Ticket(first))];
     let after = [(Ask::NextTicket, Reply::Ticket(next))];
-    check_all(rt, &mut scene, &[&before, &HAND_OVERS, &after])
+    let tables: [&[(Ask, Reply)]; 3] = [&before, &HAND_OVERS, &after];
+    play_on::<PlainChains, R>(rt, alloc, &levels, 1, first, &tables)?;
+    play_on::<LinkedChains, R>(rt, alloc, &levels, 1, first, &tables)
 }
 
 #[test]
@@ -541,22 +542,24 @@ fn list(lists: &mut RobustLists, t: Tid, m: MutexId) -> Result<(), Fail>
     Ok(())
 }
 
-// Ends thread 1, whose robust list has mutex 1.
-fn end_first(scene: &mut Scene, alloc: Global) -> Result<(), Fail> {
-    let limits = Limits::new(3, 1, 0, 1).ok_or("limits")?;
-    let t = Tid::new(1).ok_or("a thread")?;
-    let m = MutexId::new(1).ok_or("a mutex")?;
+// Ends a thread, whose robust list has a mutex, if their numbers are below 100.
+fn end<C: Chains + Drop>(scene: &mut Scene<C>, alloc: Global, t: u32, m: u32) -> Result<(), Fail> {
+    let limits = Limits::new(99, 99, 0, 1).ok_or("limits")?;
+    let t = Tid::new(t).ok_or("a thread")?;
+    let m = MutexId::new(m).ok_or("a mutex")?;
+    see_living(&scene.kernel, t).ok_or("it doesn't live")?;
     let mut lists = RobustLists::new(alloc, limits)?;
-    list(&mut lists, t, m)?;
-    see_living(&scene.kernel, t)?;
+    if t.get() < 100 && m.get() < 100 {
+        list(&mut lists, t, m)?;
+    }
     scene.kernel.exit(&mut scene.words, &mut lists, t);
     Ok(())
 }
 
 // Asks of a new scene of such threads and so many mutexes what stands in the first table, ends thread 1, and asks what
-// stands in the second.
-fn play_end(
-    rt: &impl Abort,
+// stands in the second, on either kernel.
+fn play_end<R: Abort>(
+    rt: &R,
     alloc: Global,
     levels: &[u32],
     mutexes: u32,
@@ -565,24 +568,29 @@ fn play_end(
 ) -> Result<(), Fail>
     requires { length levels.now ≤ 1024 }
 {
-    let mut scene = Scene::new(alloc, levels, mutexes, 1)?;
-    end_between(rt, alloc, &mut scene, before, after)
+    play_end_on::<PlainChains, R>(rt, alloc, levels, mutexes, before, after)?;
+    play_end_on::<LinkedChains, R>(rt, alloc, levels, mutexes, before, after)
 }
 
-fn end_between(
-    rt: &impl Abort,
+fn play_end_on<C: Chains + Drop, R: Abort>(
+    rt: &R,
     alloc: Global,
-    scene: &mut Scene,
+    levels: &[u32],
+    mutexes: u32,
     before: &[(Ask, Reply)],
     after: &[(Ask, Reply)],
-) -> Result<(), Fail> {
-    check(rt, scene, before)?;
-    end_first(scene, alloc)?;
-    check(rt, scene, after)
+) -> Result<(), Fail>
+    requires { length levels.now ≤ 1024 }
+{
+    let mut scene: Scene<C> = Scene::new(alloc, levels, mutexes, 1)?;
+    check(rt, &mut scene, before);
+    end(&mut scene, alloc, 1, 1)?;
+    check(rt, &mut scene, after);
+    Ok(())
 }
 
 // Ends thread 1 of two, where the word of the mutex on its robust list is `before`. Then it is `after`.
-fn end_on_word(rt: &impl Abort, alloc: Global, before: u32, after: u32) -> Result<(), Fail> {
+fn end_on_word<R: Abort>(rt: &R, alloc: Global, before: u32, after: u32) -> Result<(), Fail> {
     play_end(
         rt,
         alloc,

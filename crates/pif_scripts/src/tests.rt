@@ -4,6 +4,7 @@ mod deadlines;
 mod deaths;
 mod kinds;
 mod limits;
+mod long_chains;
 mod migrations;
 mod notices;
 mod reading;

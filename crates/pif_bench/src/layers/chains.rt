@@ -10,7 +10,10 @@ use std::time::{Duration, Instant};
 const HAND_OVERS: u32 = 10_000;
 
 /// How many changes of priority are measured.
-const CHANGES: u32 = 10;
+const CHANGES: u32 = 100;
+
+/// How many threads join a chain, each of a greater priority than the one before.
+const JOINS: u32 = 24;
 
 /// Two threads pass one mutex on, again and again. Answers how many nanoseconds each hand-over took: the unlock of the
 /// owner, through the kernel, and the step of the other thread that finds out.
@@ -37,21 +40,45 @@ fn time_hand_overs(rt: &impl Clock, core: &mut Core) -> io::Result<u64> {
     Ok(each(spent, HAND_OVERS))
 }
 
-/// A chain of so many threads: each but the first holds a mutex and waits for that of the one before it. Answers how many
-/// nanoseconds the lock took by which the last thread, of the greatest priority, joined it.
+/// A chain of so many threads: each holds a mutex, and each but the first waits for that of the one before it. The last
+/// of them joins it by a lock, and so do others in its place, each of a greater priority than the one before, so that
+/// each boosts all threads before it. Answers how many nanoseconds such a lock took.
 pub fn last_lock(rt: &(impl Clock + AllocGlobal), depth: u32) -> io::Result<u64> {
-    let mut core = core_of(rt, depth, depth, 99, false)?;
-    time_last_lock(rt, &mut core, depth)
+    let before = depth.saturating_sub(1);
+    let mut core = core_of(rt, before.saturating_add(JOINS), before, 1, false)?;
+    time_last_lock(rt, &mut core, before)
 }
 
-/// The threads of a core make a chain, and the last one joins it.
-fn time_last_lock(rt: &impl Clock, core: &mut Core, depth: u32) -> io::Result<u64> {
-    make_chain(core, depth).ok_or(io::ErrorKind::InvalidInput)?;
-    let last = Tid::new(depth).ok_or(io::ErrorKind::InvalidInput)?;
-    let before = MutexId::new(depth.saturating_sub(1)).ok_or(io::ErrorKind::InvalidInput)?;
+/// So many threads of a core make a chain, and the others join it behind them.
+fn time_last_lock(rt: &impl Clock, core: &mut Core, before: u32) -> io::Result<u64> {
+    make_chain(core, before).ok_or(io::ErrorKind::InvalidInput)?;
+    join(core, before).ok_or(io::ErrorKind::InvalidInput)?;
+    raise_joiners(core, before).ok_or(io::ErrorKind::InvalidInput)?;
     let start = Instant::now(rt)?;
-    call(core, last, Request::Lock(before));
-    Ok(each(start.elapsed(rt)?, 1))
+    for joiner in 1..=JOINS {
+        join_behind(core, before, joiner).ok_or(io::ErrorKind::InvalidInput)?;
+    }
+    Ok(each(start.elapsed(rt)?, JOINS))
+}
+
+/// Gives those that are to join a chain of so many threads their priorities.
+fn raise_joiners(core: &mut Core, before: u32) -> Option<()> {
+    for joiner in 1..=JOINS {
+        let thread = Tid::new(before.saturating_add(joiner))?;
+        call(
+            core,
+            thread,
+            Request::SetPrio(thread, joiner.saturating_add(1)),
+        );
+    }
+    Some(())
+}
+
+/// One of those joins the chain.
+fn join_behind(core: &mut Core, before: u32, joiner: u32) -> Option<()> {
+    let thread = Tid::new(before.saturating_add(joiner))?;
+    call(core, thread, Request::Lock(MutexId::new(before)?));
+    Some(())
 }
 
 /// The same chain. Answers how many nanoseconds a change of the last thread's priority took, to 98 and to 99 in turn.

@@ -1,7 +1,11 @@
 use pif_core::Core;
 use pif_types::{Kind, Limits};
 use std::io;
-use std::time::Duration;
+use std::rt::Clock;
+use std::time::{Duration, Instant};
+
+/// How many cores are made.
+const CORES: u32 = 100;
 
 /// A core with so many threads, of priority 1 but the last, which has `last`, and so many normal mutexes, which are robust
 /// or stalled, and room for a condition variable.
@@ -28,6 +32,18 @@ pub fn core_of(
         }
     }
     Ok(core)
+}
+
+/// Makes cores with the default limits of scripts. Answers how many nanoseconds each took, with its end.
+pub fn new_core(rt: &(impl Clock + AllocGlobal)) -> io::Result<u64> {
+    let limits = Limits::new(1024, 1024, 256, u32::MAX).ok_or(io::ErrorKind::InvalidInput)?;
+    let start = Instant::now(rt)?;
+    for _core in 0..CORES {
+        if Core::new(rt.alloc(), limits).is_err() {
+            return Err(io::Error::from(io::ErrorKind::OutOfMemory));
+        }
+    }
+    Ok(each(start.elapsed(rt)?, CORES))
 }
 
 /// The nanoseconds of each of so many rounds.

@@ -97,6 +97,28 @@ impl Sheet {
     }
 }
 
+/// Measures pairs of bare compare-exchanges, and prints what each hop of a chain of so many threads took beside the median
+/// of a pair.
+pub fn compare_hop(
+    rt: &(impl Clock + Print),
+    name: &str,
+    nanoseconds: u64,
+    depth: u32,
+) -> io::Result<()> {
+    let hop = nanoseconds.saturating_mul(1000) / u64::from(depth.max(1));
+    let mut bare = Figures::new();
+    let word = AtomicU64::new(0);
+    let mut value = 0u64;
+    for round in 0..ROUNDS {
+        let start = Instant::now(rt)?;
+        bare_pairs(&word, &mut value);
+        bare.note(round, picoseconds(rt, start)?);
+    }
+    let pair = bare.median();
+    let pairs = Hundredths(ratio(hop, pair));
+    println!(rt; "{name}: {hop} ps a hop, {pairs} bare pairs of {pair} ps; added {value}")
+}
+
 /// Measures the three ways in turn, and prints the median of each and of the ratios.
 pub fn measure_pairs<R: Clock + Wait + AllocGlobal + Print>(rt: &R) -> io::Result<()> {
     let values = [0u64].to_vec(rt.alloc())?;

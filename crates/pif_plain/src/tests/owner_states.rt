@@ -1,9 +1,9 @@
 ghost use Rattle.std.specs.Prelude.{◌≡◌, ◌≤◌, IsSome};
 ghost use Rattle.pif_owners.specs.Owners.{no_owners, owner_at};
-ghost use Rattle.pif_plain.specs.StateExamples.{queued_two};
+ghost use Rattle.pif_owners.specs.Examples.{queued_two};
 
-use crate::rows::Key;
 use crate::rt_mutexes::RtMutexes;
+use pif_owners::Key;
 use pif_types::{Prio, Tid};
 use std::process::Abort;
 use std::test::Fail;

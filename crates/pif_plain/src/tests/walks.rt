@@ -6,22 +6,22 @@ ghost use Rattle.pif_plain.specs.WalkExamples.{three_threads, new_queue, new_tab
 
 use crate::chain_walk::walk;
 use crate::cycles::would_close;
-use crate::rows::Key;
 use crate::rt_mutexes::RtMutexes;
 use pif_nodes::NodeTable;
+use pif_owners::Key;
 use pif_runq::RunQueue;
 use pif_types::{Prio, Tid};
 use std::process::Abort;
 use std::test::Fail;
 
-fn thread(number: u32) -> Tid
+pub(super) fn thread(number: u32) -> Tid
     requires { 1 ≤ number }
     ensures { result ≡ number }
 {
     Tid::new(number).unwrap()
 }
 
-fn priority(level: u32) -> Prio
+pub(super) fn priority(level: u32) -> Prio
     requires least { 1 ≤ level }
     requires most { level ≤ 99 }
     ensures { result ≡ level }

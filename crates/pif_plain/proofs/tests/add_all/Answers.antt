@@ -5,7 +5,7 @@ use Rattle.pif_kernel.specs.Inside.{kernel_of}
 use Rattle.pif_plain.proofs.tests.add_all.Goals as goal
 
 pub loop-level-preserved : goal.loop-level-preserved
-loop-level-preserved c =
+loop-level-preserved g c =
     let seats : length (kernel_of c.add.new.self).seats ≡ length (kernel_of c.loop-level.kernel).seats + 1
     = ap (λ (k : Kernel). length k.seats) c.add.ensures.after ∙ length_push (kernel_of c.loop-level.kernel).seats _ in
     let threads : (kernel_of c.add.new.self).limits.threads ≡ (kernel_of c.loop-level.kernel).limits.threads

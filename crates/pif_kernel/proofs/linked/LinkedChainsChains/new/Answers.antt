@@ -1,0 +1,21 @@
+use Rattle.std.proofs.Common.{ap}
+use Rattle.pif_runq.specs.Levels.{Queue}
+use Rattle.pif_kernel.proofs.TogetherLemmas.{together_first, levels_first}
+use Rattle.pif_kernel.proofs.linked.LinkedChainsChains.new.Goals as goal
+
+pub invariant_of-result : goal.invariant_of-result
+invariant_of-result c =
+    together_first c.args.threads _ _ _ c.in_ok-owners.ensures.place c.new-queue.ensures.made c.in_ok-table.ensures.made
+    c.in_ok-table.ensures.apart c.in_ok-owners.ensures.holds c.new-queue.ensures.holds
+
+pub returns : goal.returns
+returns c =
+    let h = together_first c.args.threads _ _ _ c.in_ok-owners.ensures.place c.new-queue.ensures.made c.in_ok-table.ensures.made
+    c.in_ok-table.ensures.apart c.in_ok-owners.ensures.holds c.new-queue.ensures.holds in
+    record {
+      owners = c.in_ok-owners.ensures.made c.in_ok-table.table;
+      threads = ap (λ (x : Queue). x.threads) c.new-queue.ensures.made;
+      levels = λ p lp. levels_first c.args.threads _ _ _ c.in_ok-owners.ensures.place c.new-queue.ensures.made
+          c.in_ok-table.ensures.made c.in_ok-table.ensures.apart c.in_ok-owners.ensures.holds c.new-queue.ensures.holds p;
+      holds = h.queue;
+    }

@@ -1,0 +1,14 @@
+use Rattle.std.proofs.Common.{◌≡◌, map, ap, ◌∙◌}
+use Rattle.std.specs.List.{slice_get}
+use Rattle.pif_model.specs.Graph.{waiting_order}
+use Rattle.pif_model.specs.PiKernel.{effective_in}
+use Rattle.pif_kernel.specs.Inside.{Inside, kernel_of}
+use Rattle.pif_kernel.proofs.WaitingOrder.{waiters_gone_through}
+use Rattle.pif_kernel.proofs.parts.Parts.waiter.Goals as goal
+
+pub returns : goal.returns
+returns g c =
+    let p : Inside = c.args.self.now in
+    let same : map (λ w. w) c.deref.result.now ≡ (kernel_of p).waiters
+    = waiters_gone_through p c.deref.result.now (c.deref.ensures.value ∙ ap (λ (x : Inside). x.arrivals) c.self.view_is) in
+    c.nth.ensures ∙ (λ i. slice_get (waiting_order (effective_in (kernel_of p)) (same i) (c.get.ensures.value i)) c.args.place)

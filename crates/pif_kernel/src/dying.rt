@@ -1,0 +1,52 @@
+ghost use Rattle.std.specs.Prelude.{◌≡◌};
+ghost use Rattle.pif_model.specs.declared.lines.Status.TheVariants.{Ended};
+ghost use Rattle.pif_model.specs.PiKernel.{seat_at, after_death, after_deaths};
+ghost use Rattle.pif_kernel.specs.Inside.{IsSound, kernel_of};
+ghost use Rattle.pif_kernel.specs.Systems.{system_of};
+
+use crate::chains::Chains;
+use crate::parts::Parts;
+use pif_types::{MutexId, Tid};
+use pif_word::{Cell, Words, inherit_word, number, orphan_word};
+
+impl<C: Chains + Drop> Parts<C> {
+    /// A mutex passes on where its word has the number of this thread, which has ended. With no owner state the word
+    /// gets OWNER_DIED, keeps WAITERS, and loses the number. With one of the thread it is handed to its next waiter,
+    /// and the word gets that number and both flags. With one of another owner nothing changes. Without a word, and
+    /// where the word has another number, nothing changes either.
+    pub(crate) fn pass_on(&mut self, words: &mut Words, t: Tid, m: MutexId)
+        requires sound { IsSound self.old }
+        requires ended { (seat_at (kernel_of self.old) t).status ≡ Ended }
+        ensures after { system_of words.new self.new ≡ after_death t m (system_of words.old self.old) }
+        ensures sound { IsSound self.new }
+        ensures ended { (seat_at (kernel_of self.new) t).status ≡ Ended }
+    {
+        if !words.has(Cell::Mutex(m)) {
+            return;
+        }
+        let word = words.load(Cell::Mutex(m));
+        if number(word) != t.get() {
+            return;
+        }
+        match self.key(m) {
+            None => words.store(Cell::Mutex(m), orphan_word(word)),
+            Some(key) if self.chains.owner(key) == t => {
+                let next = self.hand_over(t, m, key);
+                words.store(Cell::Mutex(m), inherit_word(next.get()));
+            }
+            Some(_) => {}
+        }
+    }
+
+    /// Each of these mutexes passes on like that, in this order.
+    pub(crate) fn pass_all_on(&mut self, words: &mut Words, t: Tid, mutexes: &[MutexId])
+        requires sound { IsSound self.old }
+        requires ended { (seat_at (kernel_of self.old) t).status ≡ Ended }
+        ensures after { system_of words.new self.new ≡ after_deaths t mutexes.now (system_of words.old self.old) }
+        ensures sound { IsSound self.new }
+    {
+        for m in mutexes {
+            self.pass_on(words, t, *m);
+        }
+    }
+}

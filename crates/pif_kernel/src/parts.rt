@@ -1,0 +1,141 @@
+ghost use Rattle.std.specs.Prelude.{◌≡◌, ◌≤◌, ◌<◌, ◌==◌, true, length, if◌then◌else◌, Some, None, IfOk, replicate};
+ghost use Rattle.pif_model.specs.PiKernel.{seat_at, has_seat, is_living, effective_in, pick_in, new_kernel};
+ghost use Rattle.pif_kernel.specs.Inside.{IsSound, kernel_of, key_at};
+
+use crate::chains::Chains;
+use crate::parking::Parking;
+use pif_model::{Status, Woken};
+use pif_owners::Key;
+use pif_types::{Limits, MutexId, NoMemory, Prio, Tid, push_within, with_room};
+use std::alloc::Global;
+use std::marker::Model;
+
+/// The places for keys: one for each of the 1,024 mutexes that can be, and one for number 0.
+const KEYS: usize = 1025;
+
+/// What a kernel keeps: the status of each thread, the key of each mutex that has an owner state, the owner states and
+/// the run queue, and in order of tickets who is queued where and who is parked where.
+#[derive(Drop)]
+pub struct Parts<C: Chains + Drop> {
+    pub(crate) limits: Limits,
+    pub(crate) statuses: Vec<Status>,
+    pub(crate) keys: Vec<Option<Key>>,
+    pub(crate) chains: C,
+    pub(crate) arrivals: Vec<(Tid, MutexId)>,
+    pub(crate) parked: Vec<Parking>,
+    pub(crate) next: u64,
+}
+
+impl<C: Chains + Drop> Model for Parts<C> {
+    ghost use Rattle.std.specs.Prelude.{◌≤◌, ◌+◌, vec_capacity};
+    ghost use Rattle.pif_kernel.specs.Inside.{Inside as InsideSeen};
+    ghost use Rattle.pif_kernel.specs.Codes.{inside_code};
+    ghost use Rattle.pif_kernel.specs.Fields.{inside_from};
+
+    ghost Value = { InsideSeen };
+
+    ghost coded = { inside_code };
+
+    ghost view = { λ p. inside_from p.limits p.statuses.items p.keys.items (C.seen p.chains) p.arrivals.items p.parked.items
+        p.next };
+
+    ghost invariant = { λ p. record {
+      statuses : p.limits.threads + 1 ≤ vec_capacity p.statuses;
+      arrivals : p.limits.threads ≤ vec_capacity p.arrivals;
+      parked : p.limits.threads ≤ vec_capacity p.parked;
+    } };
+}
+
+impl<C: Chains + Drop> Parts<C> {
+    /// The parts of a kernel to which nothing was added, whose first ticket is `first_ticket`, at least 1. It takes all
+    /// the memory that it will ever need.
+    pub(crate) fn new(
+        alloc: Global,
+        limits: Limits,
+        first_ticket: u64,
+    ) -> Result<Parts<C>, NoMemory>
+        requires { 1 ≤ first_ticket }
+        ensures made { IfOk result (λ p. kernel_of p ≡ new_kernel limits) }
+        ensures ticket { IfOk result (λ p. p.next ≡ first_ticket) }
+        ensures sound { IfOk result (λ p. IsSound p) }
+    {
+        let threads = limits.threads();
+        let mut statuses = with_room(alloc, threads as usize + 1)?;
+        push_within(&mut statuses, Status::Ready(Woken::Fresh));
+        let keys = empty_places(alloc, KEYS)?;
+        let chains = C::new(alloc, threads)?;
+        let arrivals = with_room(alloc, threads as usize)?;
+        let parked = with_room(alloc, threads as usize)?;
+        Ok(Parts {
+            limits,
+            statuses,
+            keys,
+            chains,
+            arrivals,
+            parked,
+            next: first_ticket,
+        })
+    }
+
+    /// The status of a thread.
+    pub(crate) fn status(&self, t: Tid) -> Status
+        requires sound { IsSound self.now }
+        requires added { has_seat (kernel_of self.now) t ≡ true }
+        ensures { result ≡ (seat_at (kernel_of self.now) t).status }
+    {
+        self.statuses[t.get() as usize]
+    }
+
+    /// Whether a thread lives: it was added, and has not ended.
+    pub(crate) fn lives(&self, t: Tid) -> bool
+        requires { IsSound self.now }
+        ensures { result ≡ is_living (kernel_of self.now) t }
+    {
+        match self.statuses.get(t.get() as usize) {
+            Some(status) => !matches!(*status, Status::Ended),
+            None => false,
+        }
+    }
+
+    /// The effective priority of a thread. `None` where it doesn't live.
+    pub(crate) fn effective(&self, t: Tid) -> Option<Prio>
+        requires { IsSound self.now }
+        ensures { result ≡ (if is_living (kernel_of self.now) t then Some (effective_in (kernel_of self.now) t) else None) }
+    {
+        if self.lives(t) {
+            self.chains.local(t)
+        } else {
+            None
+        }
+    }
+
+    /// The first thread of the greatest level that has one. `None` where no level has a thread.
+    pub(crate) fn pick(&self) -> Option<Tid>
+        requires { IsSound self.now }
+        ensures { result ≡ (if pick_in (kernel_of self.now) == 0 then None else Some (pick_in (kernel_of self.now))) }
+    {
+        self.chains.pick()
+    }
+
+    /// The key of the owner state of a mutex. `None` where it has none.
+    pub(crate) fn key(&self, m: MutexId) -> Option<Key>
+        requires { m < length self.now.keys }
+        ensures { result ≡ key_at self.now m }
+    {
+        self.keys[m.get() as usize]
+    }
+
+    /// The next ticket.
+    pub(crate) fn next_ticket(&self) -> u64
+        ensures { result ≡ self.now.next }
+    {
+        self.next
+    }
+}
+
+/// Empty places for this many keys.
+fn empty_places(alloc: Global, count: usize) -> Result<Vec<Option<Key>>, NoMemory>
+    ensures { IfOk result (λ keys. keys.items ≡ replicate count None) }
+{
+    vec![in alloc; None; count].map_err(|_| NoMemory)
+}

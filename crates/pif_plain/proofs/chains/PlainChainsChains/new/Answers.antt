@@ -1,0 +1,31 @@
+use Rattle.std.proofs.Common.{◌≡◌, ℕ, [], subst, sym, ap, ◌∙◌, arith}
+use Rattle.pif_nodes.specs.Table.{Table, IsApart}
+use Rattle.pif_runq.specs.Levels.{Queue, HasRoom, level_of}
+use Rattle.pif_kernel.proofs.EmptyTables.{empty_table, queue_room, empty_level}
+use Rattle.pif_plain.proofs.chains.PlainChainsChains.new.Goals as goal
+
+room : (threads : ℕ) (q : Queue) (t : Table)
+    → q ≡ record { first_list = 0; first_node = 0; threads = threads; mask = 0 } → t ≡ empty_table 99 threads → IsApart t
+    → HasRoom q t × ((p : ℕ) → level_of q t p ≡ [])
+room threads q t is made apart = (
+  subst (λ (x : Queue). HasRoom x t) (sym is)
+      (subst (λ (y : Table). HasRoom (record { first_list = 0; first_node = 0; threads = threads; mask = 0 }) y) (sym made)
+      (queue_room (record { first_list = 0; first_node = 0; threads = threads; mask = 0 }) 99 threads (omega arith) (omega arith)
+      (subst IsApart made apart))),
+  λ p. ap (λ (y : Table). level_of q y p) made ∙ empty_level q 99 threads p,
+)
+
+pub invariant_of-result : goal.invariant_of-result
+invariant_of-result c =
+    c.new-queue.ensures.holds c.in_ok-table.table
+    (room c.args.threads _ _ c.new-queue.ensures.made c.in_ok-table.ensures.made c.in_ok-table.ensures.apart).0
+
+pub returns : goal.returns
+returns c =
+    let r = room c.args.threads _ _ c.new-queue.ensures.made c.in_ok-table.ensures.made c.in_ok-table.ensures.apart in
+    record {
+      owners = c.in_ok-owners.ensures.made;
+      threads = ap (λ (x : Queue). x.threads) c.new-queue.ensures.made;
+      levels = λ p lp. r.1 p;
+      holds = c.new-queue.ensures.holds c.in_ok-table.table r.0;
+    }

@@ -1,0 +1,13 @@
+use Rattle.std.proofs.Common.{ap, ◌∙◌}
+use Rattle.pif_owners.specs.Owners.{with_base}
+use Rattle.pif_kernel.specs.Chained.{Chained}
+use Rattle.pif_plain.proofs.chains.PlainChainsChains.set_base.Goals as goal
+
+pub returns : goal.returns
+returns c =
+    (λ i. record {
+      owners = c.set_base.ensures.changed i;
+      queue = c.self.inside.queue;
+      table = c.self.inside.table;
+    })
+    ∙ ap (λ (x : Chained). record x { owners = with_base c.args.t c.args.prio x.owners }) c.self.view_is

@@ -1,0 +1,124 @@
+ghost use Rattle.std.specs.Prelude.{◌≡◌};
+
+use crate::chain_walk::walk;
+use crate::cycles::would_close;
+use crate::rt_mutexes::RtMutexes;
+use pif_kernel::{Chains, KernelOn};
+use pif_nodes::NodeTable;
+use pif_owners::Key;
+use pif_runq::RunQueue;
+use pif_types::{NoMemory, Prio, Tid};
+use std::alloc::Global;
+use std::marker::Model;
+
+/// The lists of the run queue: one for each level.
+const LEVELS: u32 = 99;
+
+/// Chains whose calls look at every thread. Only the run queue stands in a table of nodes.
+#[derive(Drop)]
+pub struct PlainChains {
+    owners: RtMutexes,
+    queue: RunQueue,
+    table: NodeTable,
+}
+
+/// A kernel on plain chains.
+pub type PlainKernel = KernelOn<PlainChains>;
+
+impl Model for PlainChains {
+    ghost use Rattle.pif_runq.specs.Levels.{Holds};
+    ghost use Rattle.pif_kernel.specs.Chained.{Chained, chained_code};
+
+    ghost Value = { Chained };
+
+    ghost coded = { chained_code };
+
+    ghost view = { λ c. record { owners = c.owners; queue = c.queue; table = c.table } };
+
+    ghost invariant = { λ c. Holds c.queue c.table };
+}
+
+impl Chains for PlainChains {
+    ghost seen = { λ c. c };
+
+    fn new(alloc: Global, threads: u32) -> Result<Self, NoMemory> {
+        let owners = RtMutexes::new(alloc, threads)?;
+        let table = NodeTable::new(alloc, threads, LEVELS)?;
+        let queue = RunQueue::new(0, 0, threads);
+        Ok(PlainChains {
+            owners,
+            queue,
+            table,
+        })
+    }
+
+    fn admit(&mut self, t: Tid, prio: Prio) {
+        self.owners.admit(t, prio);
+    }
+
+    fn base(&self, t: Tid) -> Option<Prio> {
+        self.owners.base(t)
+    }
+
+    fn set_base(&mut self, t: Tid, prio: Prio) {
+        self.owners.set_base(t, prio);
+    }
+
+    fn local(&self, t: Tid) -> Option<Prio> {
+        self.owners.local(t)
+    }
+
+    fn make(&mut self, owner: Tid) -> Key {
+        self.owners.make(owner)
+    }
+
+    fn owner(&self, key: Key) -> Tid {
+        self.owners.owner(key)
+    }
+
+    fn enqueue(&mut self, key: Key, t: Tid, prio: Prio, ticket: u64) {
+        self.owners.enqueue(key, t, prio, ticket);
+    }
+
+    fn dequeue(&mut self, key: Key, t: Tid) {
+        self.owners.dequeue(key, t);
+    }
+
+    fn set_ticket(&mut self, t: Tid, ticket: u64) {
+        self.owners.set_ticket(t, ticket);
+    }
+
+    fn hand_over(&mut self, key: Key) -> Tid {
+        self.owners.hand_over(key)
+    }
+
+    fn end(&mut self, key: Key) {
+        self.owners.end(key);
+    }
+
+    fn add(&mut self, t: Tid, prio: Prio) {
+        // For the prover: a thread has a number from 1.
+        let _number = t.get();
+        self.queue.add(&mut self.table, t, prio);
+    }
+
+    fn take_out(&mut self, t: Tid) {
+        self.queue.take_out(&mut self.table, t);
+    }
+
+    fn pick(&self) -> Option<Tid> {
+        self.queue.pick(&self.table)
+    }
+
+    fn nth(&self, place: u32) -> Option<Tid> {
+        self.queue.nth(&self.table, place)
+    }
+
+    fn walk(&mut self, start: Tid) {
+        walk(&mut self.owners, &mut self.queue, &mut self.table, start);
+    }
+
+    fn would_close(&self, t: Tid, owner: Tid) -> bool {
+        would_close(&self.owners, t, owner)
+    }
+}

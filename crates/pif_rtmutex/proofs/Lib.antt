@@ -1,0 +1,13 @@
+pub mod ViewLemmas
+pub mod WaiterLemmas
+pub mod FrameLemmas
+pub mod FieldLemmas
+pub mod ListChanges
+pub mod ChangeLemmas
+pub mod TopLemmas
+pub mod RowLemmas
+pub mod ReadLemmas
+pub mod StateLemmas
+pub mod StepLemmas
+pub mod MakeLemmas
+pub mod CallLemmas

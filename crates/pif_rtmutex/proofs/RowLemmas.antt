@@ -1,0 +1,117 @@
+-- The row of a thread changes, but not for what it waits.
+use Rattle.std.proofs.Common.{◌≡◌, ◌⊎◌, ◌↔◌, ℕ, ◌<◌, ◌≤◌, length, set, get_or, Option, Some, None, IsSome, IfSome, option_map, unwrap_or, refl, sym, ◌∙◌, ap, subst, inl, inr, arith}
+use Rattle.std.proofs.lemmas.Bool.{false≢true, cases_eq, cases_lt}
+use Rattle.std.proofs.lemmas.List.{get_or-set_same, get_or-set_other, set_past, length-set}
+use Rattle.pif_nodes.specs.Table.{Table, key_at}
+use Rattle.pif_owners.specs.Owners.{Seat, IsPrio, no_seat, with_seat, IsSound}
+use Rattle.pif_owners.proofs.OwnersLemmas.{sound-priorities}
+use Rattle.pif_rtmutex.specs.States.{Row, States, no_row, row_at, wait_of, wait_node, seat_in, owners_in, with_row}
+use Rattle.pif_rtmutex.specs.Holds.{IsWaiterIn, IsTopNode, Holds}
+use Rattle.pif_rtmutex.proofs.ViewLemmas.{length-seats, seat_at-owners_in, owners_in-by_seat}
+
+-- what value and table say of a thread that has this row
+abbrev pub seat_of : States → Table → ℕ → Row → Seat
+seat_of m t u x =
+    record {
+      base = x.base;
+      local = x.local;
+      wait =
+          option_map (λ k. record { state = k; rank = key_at t (wait_node m u) }) x.wait;
+    }
+
+-- a row that is written stands there, or there is none
+row_at-with_row : (m : States) (u w : ℕ) (x : Row)
+    → ((w ≡ u) × (row_at (with_row u x m) w ≡ x)) ⊎ (row_at (with_row u x m) w ≡ row_at m w)
+row_at-with_row m u w x = by_place (cases_eq w u) (cases_lt u (length m.rows))
+  where
+    by_place : ((w ≡ u) ⊎ (w ≡ u → ⊥)) → ((u < length m.rows) ⊎ (length m.rows ≤ u))
+        → ((w ≡ u) × (row_at (with_row u x m) w ≡ x)) ⊎ (row_at (with_row u x m) w ≡ row_at m w)
+    by_place (inl e) (inl l) = inl (e, ap (row_at (with_row u x m)) e ∙ get_or-set_same m.rows u x no_row l)
+    by_place (inl e) (inr p) = inr (ap (λ xs. get_or xs w no_row) (set_past m.rows u x p))
+    by_place (inr n) l = inr (get_or-set_other m.rows u w x no_row n)
+
+-- the view has the seat of that row then
+pub view-row : (m : States) (t : Table) (u : ℕ) (x : Row) (y : Seat) → y ≡ seat_of m t u x
+    → owners_in (with_row u x m) t ≡ with_seat u y (owners_in m t)
+view-row m t u x y e =
+    owners_in-by_seat (with_row u x m) t (with_seat u y (owners_in m t)) refl
+    (length-set (owners_in m t).seats u y ∙ length-seats m t ∙ sym (length-set m.rows u x))
+    (λ w l. by_thread w (cases_eq w u) (omega (arith, length-set m.rows u x)))
+  where
+    by_thread : (w : ℕ) → ((w ≡ u) ⊎ (w ≡ u → ⊥)) → w < length m.rows
+        → get_or (set (owners_in m t).seats u y) w no_seat ≡ seat_in (with_row u x m) t w
+    by_thread w (inl same) l =
+        ap (λ p. get_or (set (owners_in m t).seats u y) p no_seat) same
+        ∙ get_or-set_same (owners_in m t).seats u y no_seat (omega (arith, length-seats m t, same)) ∙ e
+        ∙ ap (seat_of m t u) (sym (get_or-set_same m.rows u x no_row (omega (arith, same))))
+        ∙ ap (seat_in (with_row u x m) t) (sym same)
+    by_thread w (inr ne) l =
+        get_or-set_other (owners_in m t).seats u w y no_seat ne ∙ seat_at-owners_in m t w
+        ∙ ap (seat_of m t w) (sym (get_or-set_other m.rows u w x no_row ne))
+
+-- the owner states stand in the table as before
+pub holds-row : (m : States) (t : Table) (u : ℕ) (x : Row) → 1 ≤ u → x.base ≤ 99 → x.local ≤ 99 → x.wait ≡ wait_of m u
+    → Holds m t
+    → Holds (with_row u x m) t
+holds-row m t u x one base local same h =
+    record {
+      waiters = record {
+        apart = h.waiters.apart;
+        lists = h.waiters.lists;
+        nodes = h.waiters.nodes;
+        rows = length-set m.rows u x ∙ h.waiters.rows;
+        sound = subst IsSound (sym (view-row m t u x (seat_of m t u x) refl))
+            (sound-priorities u (seat_of m t u x) (owners_in m t) base local
+            (ap (λ (o : Option ℕ). option_map (λ k. record { state = k; rank = key_at t (wait_node m u) }) o) same
+            ∙ ap (λ (y : Seat). y.wait) (sym (seat_at-owners_in m t u))) one h.waiters.sound);
+        owned = h.waiters.owned;
+        placed = h.waiters.placed;
+        stated = h.waiters.stated;
+        alone = h.waiters.alone;
+        queued = λ w k r e p. h.waiters.queued w k r (sym (waits w) ∙ e) p;
+        waiters = λ r n l e.
+            let is : IsWaiterIn m r n = h.waiters.waiters r n l e in
+            record {
+              thread = is.thread;
+              state = is.state;
+              is_thread = is.is_thread;
+              node = is.node;
+              place =
+                  is.place;
+              waits = waits is.thread ∙ is.waits;
+            };
+        sorted = h.waiters.sorted;
+      };
+      tops = record {
+        topped = record {
+          stands = h.tops.topped.stands;
+          only = h.tops.topped.only;
+          nodes = λ o n i e.
+              let is : IsTopNode m n = h.tops.topped.nodes o n i e in
+              record { thread = is.thread; is_thread = is.is_thread; node = is.node };
+          sorted = h.tops.topped.sorted;
+        };
+        ranked = h.tops.ranked;
+      };
+    }
+  where
+    waits : (w : ℕ) → wait_of (with_row u x m) w ≡ wait_of m w
+    waits w = by_row (row_at-with_row m u w x)
+      where
+        by_row : ((w ≡ u) × (row_at (with_row u x m) w ≡ x)) ⊎ (row_at (with_row u x m) w ≡ row_at m w)
+            → wait_of (with_row u x m) w ≡ wait_of m w
+        by_row (inl p) = ap (λ (r : Row). r.wait) p.1 ∙ same ∙ ap (wait_of m) (sym p.0)
+        by_row (inr e) = ap (λ (r : Row). r.wait) e
+
+-- a priority, or none, by its number
+pub prio-given : (o : Option ℕ) (n : ℕ) → IsPrio o → unwrap_or o 0 ≡ n → IsSome o ↔ (1 ≤ n)
+prio-given None n h e = (λ f. absurd (false≢true f), λ l. absurd (omega (arith, e)))
+prio-given (Some p) n h e = (λ f. omega (arith, e, h.0), λ l. refl)
+
+pub prio-value : (o : Option ℕ) (n : ℕ) → unwrap_or o 0 ≡ n → IfSome o (λ p. p ≡ n)
+prio-value None n e = tt
+prio-value (Some p) n e = e
+
+pub prio-most : (o : Option ℕ) (n : ℕ) → IsPrio o → unwrap_or o 0 ≡ n → n ≤ 99
+prio-most None n h e = omega (arith, e)
+prio-most (Some p) n h e = omega (arith, e, h.1)

@@ -1,0 +1,91 @@
+use Rattle.std.proofs.Common.{◌≡◌, ◌∙◌, ap, sym, refl, subst, ℕ, Option, Some, arith}
+use Rattle.pif_nodes.specs.Table.{Table, holder}
+use Rattle.pif_owners.specs.Owners.{with_prio}
+use Rattle.pif_rtmutex.specs.States.{States, wait_of, owners_in}
+use Rattle.pif_rtmutex.specs.Holds.{IsToppedBut}
+use Rattle.pif_rtmutex.proofs.ViewLemmas.{waits_on-owners_in}
+use Rattle.pif_rtmutex.proofs.WaiterLemmas.{waits-thread}
+use Rattle.pif_rtmutex.proofs.StepLemmas.{row-list, WaitsAt, waits-at, IsStep, IsDone, done}
+use Rattle.pif_rtmutex.proofs.CallLemmas.{IsCall, rekeyed}
+use Rattle.pif_rtmutex.proofs.rt_mutexes.RtMutexes.rekey.Goals as goal
+use Rattle.pif_plist.specs.Order.{table_after_insert, table_after_remove, with_prio as key_with_prio}
+
+pub wait_node-node-requires : goal.wait_node-node-requires
+wait_node-node-requires c =
+    let on : wait_of c.args.self.now c.args.t ≡ Some c.args.key =
+    sym (waits_on-owners_in c.args.self.now c.args.table.now c.args.t) ∙ c.requires.queued in
+    (waits-thread c.args.self.now c.args.table.now c.args.t c.args.key c.requires.holds.waiters on).1
+
+pub rekey-requires-clause-held : goal.rekey-requires-clause-held
+rekey-requires-clause-held c =
+    let on : wait_of c.args.self.now c.args.t ≡ Some c.args.key =
+    sym (waits_on-owners_in c.args.self.now c.args.table.now c.args.t) ∙ c.requires.queued in
+    let m : States = c.args.self.now in
+    let t : Table = c.args.table.now in
+    let at : WaitsAt m t c.args.key c.args.t = waits-at m t c.args.key c.args.t c.requires.holds.waiters on in
+    ap (holder t) c.wait_node-node.ensures.node ∙ at.held
+    ∙ ap Some (sym (row-list m c.args.key at.row c.waiters.result at.place c.waiters.ensures))
+
+pub settle-requires : goal.settle-requires
+settle-requires c =
+    let m : States = c.args.self.now in
+    let t : Table = c.args.table.now in
+    let now : Table = c.rekey.new.table in
+    let k : ℕ = c.args.key in
+    let u : ℕ = c.args.t in
+    let o : ℕ = c.owner-owner.result in
+    let call : IsCall m t now k u o c.waiters.result c.wait_node-node.result = record {
+      holds = c.requires.holds;
+      owner = c.owner-owner.ensures.value;
+      list = c.waiters.ensures;
+      node = c.wait_node-node.ensures.node;
+      own = c.rekey.ensures.sorted;
+      others = c.rekey.ensures.others;
+      apart = c.rekey.ensures.apart;
+    } in
+    let moved =
+    c.rekey.ensures.moved
+    ∙ ap (λ p. table_after_insert
+    (table_after_remove t c.waiters.result c.wait_node-node.result) c.waiters.result c.wait_node-node.result
+    (key_with_prio t c.wait_node-node.result p)) c.get.ensures.value in
+    let step : IsStep m m.rows m.owners t now k o u (with_prio u c.args.prio (owners_in m t)) =
+    rekeyed m t now k u o c.waiters.result c.wait_node-node.result call c.args.prio
+    (omega (arith, c.get.ensures.low, c.get.ensures.value)) (omega (arith, c.get.ensures.high, c.get.ensures.value))
+    c.requires.queued moved c.rekey.ensures.holders in
+    record {
+      waiters = step.waiters;
+      owner = c.owner-owner.ensures.value;
+      but = subst (λ (x : Option ℕ). IsToppedBut m now k o x) (sym c.first-was.ensures) step.but;
+    }
+
+pub returns : goal.returns
+returns c =
+    let m : States = c.args.self.now in
+    let t : Table = c.args.table.now in
+    let now : Table = c.rekey.new.table in
+    let k : ℕ = c.args.key in
+    let u : ℕ = c.args.t in
+    let o : ℕ = c.owner-owner.result in
+    let call : IsCall m t now k u o c.waiters.result c.wait_node-node.result = record {
+      holds = c.requires.holds;
+      owner = c.owner-owner.ensures.value;
+      list = c.waiters.ensures;
+      node = c.wait_node-node.ensures.node;
+      own = c.rekey.ensures.sorted;
+      others = c.rekey.ensures.others;
+      apart = c.rekey.ensures.apart;
+    } in
+    let moved =
+    c.rekey.ensures.moved
+    ∙ ap (λ p. table_after_insert
+    (table_after_remove t c.waiters.result c.wait_node-node.result) c.waiters.result c.wait_node-node.result
+    (key_with_prio t c.wait_node-node.result p)) c.get.ensures.value in
+    let step : IsStep m m.rows m.owners t now k o u (with_prio u c.args.prio (owners_in m t)) =
+    rekeyed m t now k u o c.waiters.result c.wait_node-node.result call c.args.prio
+    (omega (arith, c.get.ensures.low, c.get.ensures.value)) (omega (arith, c.get.ensures.high, c.get.ensures.value))
+    c.requires.queued moved c.rekey.ensures.holders in
+    let last : Table = c.settle.new.table in
+    let end : IsDone m m.rows m.owners t last u (with_prio u c.args.prio (owners_in m t)) =
+    done m m.rows m.owners t now last k o u
+    (with_prio u c.args.prio (owners_in m t)) step c.settle.ensures.changes c.settle.ensures.tops in
+    record { changed = end.view; place = refl; outside = end.outside; nodes = end.nodes; holds = end.holds }

@@ -1,0 +1,41 @@
+use Rattle.std.proofs.Common.{◌≡◌, ◌∙◌, ◌≤◌, ap, sym, subst, arith}
+use Rattle.pif_nodes.specs.Table.{Table}
+use Rattle.pif_owners.specs.Owners.{Seat, seat_at}
+use Rattle.pif_rtmutex.specs.States.{Row, States, row_at, owners_in}
+use Rattle.pif_rtmutex.specs.Holds.{Holds}
+use Rattle.pif_rtmutex.proofs.ViewLemmas.{seat_at-owners_in}
+use Rattle.pif_rtmutex.proofs.RowLemmas.{seat_of, view-row, holds-row}
+use Rattle.pif_rtmutex.proofs.rt_mutexes.RtMutexes.set_base.Goals as goal
+
+pub returns-clause-changed : goal.returns-clause-changed
+returns-clause-changed c =
+    let m : States = c.args.self.now in
+    let t : Table = c.args.table.now in
+    let row : c.with_base.result ≡ record (row_at m c.args.t) { base = c.args.prio } =
+    c.with_base.ensures.row
+    ∙ ap (λ (x : Row). record x { base = c.args.prio }) (c.row_of-row.ensures
+    ∙ ap (row_at m) c.get.ensures.value) in
+    ap (λ (n : States). owners_in n t) c.put.ensures.row
+    ∙ view-row m t c.args.t c.with_base.result (record (seat_at (owners_in m t) c.args.t) { base = c.args.prio })
+    (ap (λ (x : Seat). record x { base = c.args.prio }) (seat_at-owners_in m t c.args.t)
+    ∙ ap (seat_of m t c.args.t) (sym row))
+
+pub returns-clause-holds : goal.returns-clause-holds
+returns-clause-holds c =
+    let m : States = c.args.self.now in
+    let t : Table = c.args.table.now in
+    let row : c.with_base.result ≡ record (row_at m c.args.t) { base = c.args.prio } =
+    c.with_base.ensures.row
+    ∙ ap (λ (x : Row). record x { base = c.args.prio }) (c.row_of-row.ensures
+    ∙ ap (row_at m) c.get.ensures.value) in
+    let other : c.with_base.result.local ≤ 99 =
+    omega (
+      arith,
+      (c.requires.holds.waiters.sound.seats c.args.t).local,
+      ap (λ (x : Seat). x.local)
+          (seat_at-owners_in m t c.args.t),
+      ap (λ (x : Row). x.local) row,
+    ) in
+    subst (λ (n : States). Holds n t) (sym c.put.ensures.row)
+    (holds-row m t c.args.t c.with_base.result c.put.ensures.thread c.with_base.ensures.most other
+    (ap (λ (x : Row). x.wait) row) c.requires.holds)

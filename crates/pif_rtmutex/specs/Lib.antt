@@ -1,0 +1,5 @@
+pub mod States
+pub mod Holds
+pub mod Frames
+pub mod Maximum
+pub mod Fields
