@@ -1,11 +1,13 @@
 ghost use Rattle.std.specs.Prelude.{◌≡◌};
 ghost use Rattle.pif_model.specs.declared.lines.Status.TheVariants.{Ended};
 ghost use Rattle.pif_model.specs.PiKernel.{seat_at, after_death, after_deaths};
+ghost use Rattle.pif_model.specs.RobustList.{robust_at, walk_of};
 ghost use Rattle.pif_kernel.specs.Inside.{IsSound, kernel_of};
 ghost use Rattle.pif_kernel.specs.Systems.{system_of};
 
 use crate::chains::Chains;
 use crate::parts::Parts;
+use pif_robust::RobustLists;
 use pif_types::{MutexId, Tid};
 use pif_word::{Cell, Words, inherit_word, number, orphan_word};
 
@@ -38,15 +40,19 @@ impl<C: Chains + Drop> Parts<C> {
         }
     }
 
-    /// Each of these mutexes passes on like that, in this order.
-    pub(crate) fn pass_all_on(&mut self, words: &mut Words, t: Tid, mutexes: &[MutexId])
+    /// Each mutex that the robust list and the pending field of this thread name passes on like that, one after the
+    /// other along the list, the last linked first and the pending one last.
+    pub(crate) fn pass_all_on(&mut self, words: &mut Words, lists: &RobustLists, t: Tid)
         requires sound { IsSound self.old }
         requires ended { (seat_at (kernel_of self.old) t).status ≡ Ended }
-        ensures after { system_of words.new self.new ≡ after_deaths t mutexes.now (system_of words.old self.old) }
+        ensures after { system_of words.new self.new
+            ≡ after_deaths t (walk_of (robust_at lists.now t)) (system_of words.old self.old) }
         ensures sound { IsSound self.new }
     {
-        for m in mutexes {
-            self.pass_on(words, t, *m);
+        let mut next = lists.walk_first(t);
+        while let Some(m) = next {
+            self.pass_on(words, t, m);
+            next = lists.walk_next(t, m);
         }
     }
 }

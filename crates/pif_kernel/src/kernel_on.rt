@@ -166,9 +166,8 @@ impl<C: Chains + Drop> PiKernel for KernelOn<C> {
     }
 
     fn exit(&mut self, words: &mut Words, lists: &mut RobustLists, t: Tid) {
-        let mutexes = lists.walk(t);
         self.parts.leave_as(t, Status::Ended);
-        self.parts.pass_all_on(words, t, &mutexes);
+        self.parts.pass_all_on(words, lists, t);
         lists.forget(t);
     }
 }

@@ -1,27 +1,20 @@
--- Lemmas on a walk along a list: what was found so far, and what is still ahead.
-use Rattle.std.proofs.Common.{◌≡◌, ℕ, zero, suc, ◌+◌, ◌≤◌, ◌<◌, true, false, cond, eqb, List, [], ◌∷◌, ◌++◌, Option, Some, None, refl, sym, ◌∙◌, ap, subst, ⊎_elim, arith, length, get_or, unwrap_or}
-use Rattle.std.proofs.lemmas.Bool.{or_parts, or_from, eqb-false, cases_Bool, cases_eq, eq-eqb, ne_eqb, eqb-true}
+-- Lemmas on a walk along a list: what is ahead of a mutex, and where the entries lead.
+use Rattle.std.proofs.Common.{◌≡◌, ℕ, zero, suc, ◌≤◌, ◌<◌, true, false, cond, eqb, List, [], ◌∷◌, ◌++◌, Option, Some, None, refl, sym, ◌∙◌, ap, subst, ⊎_elim, arith, length, get_or}
+use Rattle.std.proofs.lemmas.Bool.{or_parts, or_from, eqb-false, cases_Bool, cases_eq, eq-eqb, ne_eqb, eqb-true, both_ways}
 use Rattle.std.proofs.Math.Bool.{or-false}
-use Rattle.std.proofs.lemmas.List.{append_assoc, append-nil, length-append}
+use Rattle.std.proofs.lemmas.List.{append-nil}
+use Rattle.std.proofs.lemmas.Option.{same_Some}
 use Rattle.pif_model.specs.RobustList.{Robust, RobustRow, robust_at, has_entry, without_entry, walk_of, HasNoRepeats, IsRobust}
 use Rattle.pif_robust.specs.declared.links.Link.{Link}
 use Rattle.pif_robust.specs.declared.links.Head.{Head}
-use Rattle.pif_robust.specs.Links.{link_at, path, robust_from, first_or, IsChain, Ties}
+use Rattle.pif_robust.specs.Links.{link_at, robust_from, first_or, IsChain, Ties}
 use Rattle.pif_robust.specs.Robust.{named_mutex}
-use Rattle.pif_robust.proofs.ListLemmas.{has-append, length-mutexes, has-without_same, HasNoRepeats-without, has-with}
-use Rattle.pif_robust.proofs.ChainLemmas.{path-chain, held_within}
-use Rattle.pif_robust.proofs.TiesLemmas.{IsRobust-from_Ties, short, unwrap_or-named_mutex, named_mutex-some}
+use Rattle.pif_robust.specs.Walk.{walk_along, behind, ahead}
+use Rattle.pif_robust.proofs.ListLemmas.{Apart-from_once, has_split, has-append, has-head, has-tail, has-right, apart, length-mutexes, has-without_same, HasNoRepeats-without, has-with, first_or-has}
+use Rattle.pif_robust.proofs.ChainLemmas.{chain-back}
+use Rattle.pif_robust.proofs.TiesLemmas.{IsRobust-from_Ties, named_mutex-some}
 use Rattle.pif_robust.proofs.SeenLemmas.{link_read}
-use Rattle.pif_robust.proofs.CallLemmas.{ties_seen}
-
--- what was found and what is ahead, without the pending mutex, are the list without it
-pub record IsWalking (ns : List Link) (t : ℕ) (x : RobustRow) (found : List ℕ) (next : Option ℕ) : Type 0 where
-  pub before : Option ℕ
-  pub rest : List ℕ
-  pub chain : IsChain ns t before rest None
-  pub next_is : next ≡ first_or rest None
-  pub so_far : found ++ without_entry rest x.pending ≡ without_entry x.listed x.pending
-  pub enough : length rest ≤ length ns
+use Rattle.pif_robust.proofs.CallLemmas.{ties_seen, sound_seen}
 
 -- a list without a mutex is no longer than with it
 pub length-without : (xs : List ℕ) (p : ℕ) → length (without_entry xs p) ≤ length xs
@@ -31,157 +24,118 @@ length-without (x ∷ xs) p = ⊎_elim
     (λ e. rw e (omega (arith, length-without xs p)))
     (cases_Bool (eqb p x))
 
--- what is ahead of the mutex m, once the walk is there
-pub record IsAhead (ns : List Link) (t m : ℕ) (rest : List ℕ) : Type 0 where
-  pub behind : List ℕ
-  pub rest_is : rest ≡ m ∷ behind
-  pub next_is : (link_at ns m).next ≡ first_or behind None
-  pub held : (link_at ns m).holder ≡ Some t
-  pub chain : IsChain ns t (Some m) behind None
+-- what is behind a mutex is on the list
+pub has-behind : (k m : ℕ) (ms : List ℕ) → has_entry (behind m ms) k ≡ true → has_entry ms k ≡ true
+has-behind k m [] h = h
+has-behind k m (x ∷ xs) h = ⊎_elim
+    (λ e. let rest : has_entry xs k ≡ true = rw e at h in has-tail k x xs rest)
+    (λ e. let rest : has_entry (behind m xs) k ≡ true = rw e at h in has-tail k x xs (has-behind k m xs rest))
+    (cases_Bool (eqb m x))
 
-ahead : (ns : List Link) (t m : ℕ) (before : Option ℕ) (rest : List ℕ) → IsChain ns t before rest None →
-    Some m ≡ first_or rest None → IsAhead ns t m rest
-ahead ns t m before [] c h = absurd cc
-ahead ns t m before (k ∷ ks) c h =
-    let e : k ≡ m = cc in
-    subst (λ (j : ℕ). IsAhead ns t j (k ∷ ks)) e
-    (record {
-      behind = ks;
-      rest_is = refl;
-      next_is = ap (λ (l : Link). l.next) c.0;
-      held = ap (λ (l : Link). l.holder) c.0;
-      chain = c.1;
-    })
+-- ahead of a walk that begins is all of it
+pub ahead-first : (ms : List ℕ) → ahead (first_or ms None) ms ≡ ms
+ahead-first [] = refl
+ahead-first (x ∷ xs) = rw (eq-eqb x x refl) refl
 
-without-same : (m : ℕ) (ms : List ℕ) (p : ℕ) → m ≡ p → without_entry (m ∷ ms) p ≡ without_entry ms p
-without-same m ms p e = rw (eq-eqb p m (sym e)) refl
+-- one more mutex at the front, from which nothing is ahead
+ahead-front : (x : ℕ) (xs ys : List ℕ) → has_entry xs x ≡ false →
+    ((k : ℕ) → has_entry ys k ≡ true → has_entry xs k ≡ true) →
+    ahead (first_or ys None) (x ∷ xs) ≡ ahead (first_or ys None) xs
+ahead-front x xs [] lacks on = refl
+ahead-front x xs (y ∷ ys) lacks on = rw (ne_eqb y x (apart y x xs (on y (has-head y ys)) lacks)) refl
 
-without-other : (m : ℕ) (ms : List ℕ) (p : ℕ) → (m ≡ p → ⊥) → without_entry (m ∷ ms) p ≡ m ∷ without_entry ms p
-without-other m ms p ne = rw (ne_eqb p m (λ e. ne (sym e))) refl
+-- ahead of a walk that goes on is what was behind the mutex at which it stood
+pub ahead-next : (m : ℕ) (ms : List ℕ) → HasNoRepeats ms → ahead (first_or (behind m ms) None) ms ≡ behind m ms
+ahead-next m [] once = refl
+ahead-next m (x ∷ xs) once = ⊎_elim
+    (λ e. rw e (ahead-front x xs xs once.0 (λ k h. h) ∙ ahead-first xs))
+    (λ e. rw e (ahead-front x xs (behind m xs) once.0 (λ k h. has-behind k m xs h) ∙ ahead-next m xs once.1))
+    (cases_Bool (eqb m x))
 
-nothing_ahead : (xs : List ℕ) → None ≡ first_or xs None → xs ≡ []
-nothing_ahead [] h = refl
-nothing_ahead (x ∷ xs) h = absurd cc
+-- a walk that is over has found all
+pub ahead-none : (found ms : List ℕ) (next : Option ℕ) → next ≡ None → found ++ ahead next ms ≡ ms → found ≡ ms
+ahead-none found ms next over all = sym (append-nil found) ∙ ap (λ o. found ++ ahead o ms) (sym over) ∙ all
+
+-- the pending mutex at the end of a walk
+abbrev last_of : ℕ → List ℕ
+last_of p = cond (eqb p 0) [] (p ∷ [])
+
+last_lacks : (p m : ℕ) → (m ≡ p → ⊥) → has_entry (last_of p) m ≡ false
+last_lacks p m ne = ⊎_elim (λ e. rw e refl) (λ e. rw e (rw (ne_eqb m p ne) refl)) (cases_Bool (eqb p 0))
+
+-- another mutex than the pending one that a walk goes through is on the list
+along_listed : (xs : List ℕ) (p m : ℕ) → (m ≡ p → ⊥) → has_entry (walk_along xs p) m ≡ true → has_entry xs m ≡ true
+along_listed xs p m ne h = ⊎_elim
+    (λ e. has-with m p xs e)
+    (λ e. let both = sym (has-append m (without_entry xs p) (last_of p)) ∙ h in
+    let last : has_entry (last_of p) m ≡ true = rw e at both in
+    absurd (both_ways (has_entry (last_of p) m) (last_lacks p m ne) last))
+    (cases_Bool (has_entry (without_entry xs p) m))
+
+-- behind a mutex that isn't pending is a walk along what the list has behind it
+behind_along : (m : ℕ) (front back zs : List ℕ) (p : ℕ) → (m ≡ p → ⊥) → has_entry front m ≡ false →
+    behind m (without_entry (front ++ m ∷ back) p ++ zs) ≡ without_entry back p ++ zs
+behind_along m [] back zs p ne lacks = rw (ne_eqb p m (λ e. ne (sym e))) (rw (eq-eqb m m refl) refl)
+behind_along m (x ∷ xs) back zs p ne lacks =
+    let parts = or_parts (eqb m x) (has_entry xs m) lacks in
+    ⊎_elim
+    (λ e. rw e (behind_along m xs back zs p ne parts.1))
+    (λ e. rw e (rw parts.0 (behind_along m xs back zs p ne parts.1)))
+    (cases_Bool (eqb p x))
+
+-- behind the pending mutex is none
+behind_last : (p : ℕ) (xs : List ℕ) → has_entry xs p ≡ false → behind p (xs ++ p ∷ []) ≡ []
+behind_last p [] lacks = rw (eq-eqb p p refl) refl
+behind_last p (x ∷ xs) lacks =
+    let parts = or_parts (eqb p x) (has_entry xs p) lacks in rw parts.0 (behind_last p xs parts.1)
+
+behind_pending : (xs : List ℕ) (p : ℕ) → 1 ≤ p → behind p (walk_along xs p) ≡ []
+behind_pending xs p some =
+    rw (ne_eqb p 0 (λ e. omega arith)) (behind_last p (without_entry xs p) (has-without_same p xs))
+
+-- WHERE THE ENTRIES LEAD
+
+-- the entries behind a mutex of a walk that isn't pending
+pub record IsFollowed (ns : List Link) (t m : ℕ) (x : RobustRow) : Type 0 where
+  pub back : List ℕ
+  pub within : m < length ns
+  pub next_is : (link_at ns m).next ≡ first_or back None
+  pub chain : IsChain ns t (Some m) back None
+  pub once : HasNoRepeats back
+  pub some : (k : ℕ) → has_entry back k ≡ true → 1 ≤ k
+  pub inside : (k : ℕ) → has_entry back k ≡ true → k < length ns
+  pub rest : behind m (walk_of x) ≡ walk_along back x.pending
 
 module _ (ns : List Link) (hs : List Head) (v : Robust) (ties : Ties ns hs v) (t : ℕ) where
   abbrev x : RobustRow
   x = robust_at v t
 
-  pub walk-begin : (first : Option ℕ) → first ≡ first_or x.listed None → IsWalking ns t x [] first
-  walk-begin first is = record {
-    before = None;
-    rest = x.listed;
-    chain = ties.chain t;
-    next_is = is;
-    so_far = refl;
-    enough = omega (arith, short ns hs v ties t, ties.mutexes);
-  }
+  abbrev r : IsRobust v
+  r = IsRobust-from_Ties ns hs v ties
 
-  module _ (found : List ℕ) (m : ℕ) (w : IsWalking ns t x found (Some m)) where
-    a : IsAhead ns t m w.rest
-    a = ahead ns t m w.before w.rest w.chain w.next_is
+  pub listed_within : (k : ℕ) → has_entry x.listed k ≡ true → k < length ns
+  listed_within k h = omega (arith, r.most_listed t k h, ties.mutexes)
 
-    pub walk-within : m < length ns
-    walk-within = held_within ns m t a.held
-
-    pub walk-some : 1 ≤ m
-    walk-some = ⊎_elim
-        (λ e. let wrong : None ≡ Some t = sym (ap (λ (l : Link). l.holder) ties.no_mutex)
-        ∙ ap (λ k. (link_at ns k).holder) (sym e) ∙ a.held in absurd cc)
-        (λ ne. omega arith)
-        (cases_eq m 0)
-
-    shorter : length w.rest ≡ length a.behind + 1
-    shorter = let e = ap length a.rest_is in omega arith
-
-    pub walk-skip : m ≡ x.pending → IsWalking ns t x found (link_at ns m).next
-    walk-skip e = record {
-      before = Some m;
-      rest = a.behind;
-      chain = a.chain;
-      next_is = a.next_is;
-      so_far = ap (λ zs. found ++ zs) (sym (without-same m a.behind x.pending e))
-          ∙ ap (λ zs. found ++ without_entry zs x.pending) (sym a.rest_is) ∙ w.so_far;
-      enough = omega (arith, shorter, w.enough);
-    }
-
-    push_is : (m ≡ x.pending → ⊥) → (found ++ m ∷ []) ++ without_entry a.behind x.pending ≡ without_entry x.listed
-        x.pending
-    push_is ne = append_assoc found (m ∷ []) (without_entry a.behind x.pending)
-        ∙ ap (λ zs. found ++ zs) (sym (without-other m a.behind x.pending ne))
-        ∙ ap (λ zs. found ++ without_entry zs x.pending) (sym a.rest_is) ∙ w.so_far
-
-    pub walk-push : (m ≡ x.pending → ⊥) → IsWalking ns t x (found ++ m ∷ []) (link_at ns m).next
-    walk-push ne = record {
-      before = Some m;
-      rest = a.behind;
-      chain = a.chain;
-      next_is = a.next_is;
-      so_far = push_is ne;
-      enough = omega (arith, shorter, w.enough);
-    }
-
-    pub walk-room : (m ≡ x.pending → ⊥) → length found < 1024
-    walk-room ne =
-        let e : length (found ++ m ∷ []) + length (without_entry a.behind x.pending) ≡ length
-        (without_entry x.listed x.pending) =
-        sym (length-append (found ++ m ∷ []) (without_entry a.behind x.pending)) ∙ ap length (push_is ne) in
-        omega (
-          arith,
-          e,
-          length-append found (m ∷ []),
-          length-without x.listed x.pending,
-          short ns hs v ties t,
-          ties.most,
-        )
-
-    pub walk-smaller : length (path (length ns) ns (link_at ns m).next) < length (path (length ns) ns (Some m))
-    walk-smaller =
-        let here : path (length ns) ns (Some m) ≡ w.rest = ap (path (length ns) ns) w.next_is
-        ∙ path-chain ns t w.before w.rest (length ns) w.enough w.chain in
-        let then : path (length ns) ns (link_at ns m).next ≡ a.behind =
-        ap (path (length ns) ns) a.next_is ∙ path-chain ns t (Some m) a.behind (length ns)
-        (omega (arith, shorter, w.enough)) a.chain in
-        omega (arith, ap length here, ap length then, shorter)
-
-  module _ (found : List ℕ) (w : IsWalking ns t x found None) where
-    found_is : found ≡ without_entry x.listed x.pending
-    found_is = sym (append-nil found) ∙ ap (λ zs. found ++ without_entry zs x.pending)
-        (sym (nothing_ahead w.rest w.next_is)) ∙ w.so_far
-
-    pub walk-last_room : 1 ≤ x.pending → length found < 1024
-    walk-last_room some =
-        let r = IsRobust-from_Ties ns hs v ties in
-        let p = x.pending in
-        let all : List ℕ = p ∷ without_entry x.listed p in
-        let least : (m : ℕ) → has_entry all m ≡ true → 1 ≤ m = λ m h. ⊎_elim
-        (λ e. let same : m ≡ p = eqb-true m p e in omega arith)
-        (λ e. let rest : has_entry (without_entry x.listed p) m ≡ true = rw e at h in
-        r.some_listed t m (has-with m p x.listed rest))
-        (cases_Bool (eqb m p)) in
-        let most : (m : ℕ) → has_entry all m ≡ true → m ≤ v.mutexes = λ m h. ⊎_elim
-        (λ e. let same : m ≡ p = eqb-true m p e in omega (arith, ties.pending_in t))
-        (λ e. let rest : has_entry (without_entry x.listed p) m ≡ true = rw e at h in
-        r.most_listed t m (has-with m p x.listed rest))
-        (cases_Bool (eqb m p)) in
-        omega (
-          arith,
-          ap length found_is,
-          ties.most,
-          length-mutexes all v.mutexes (has-without_same p x.listed, HasNoRepeats-without p x.listed (ties.once t))
-              least most,
-        )
-
-    -- with a pending mutex
-    pub walk-end : (m : ℕ) → 1 ≤ m → m ≡ x.pending → found ++ m ∷ [] ≡ walk_of x
-    walk-end m some e = ap (λ zs. zs ++ m ∷ []) found_is ∙ ap (λ k. without_entry x.listed x.pending ++ k ∷ []) e
-        ∙ ap (λ b. without_entry x.listed x.pending ++ cond b [] (x.pending ∷ []))
-        (sym (ne_eqb x.pending 0 (λ z. omega arith)))
-
-    -- without one
-    pub walk-end_none : x.pending ≡ 0 → found ≡ walk_of x
-    walk-end_none e = found_is ∙ sym (append-nil (without_entry x.listed x.pending))
-        ∙ ap (λ b. without_entry x.listed x.pending ++ cond b [] (x.pending ∷ [])) (sym (eq-eqb x.pending 0 e))
+  pub followed : (m : ℕ) → has_entry (walk_of x) m ≡ true → (m ≡ x.pending → ⊥) → IsFollowed ns t m x
+  followed m on ne =
+      let listed : has_entry x.listed m ≡ true = along_listed x.listed x.pending m ne on in
+      let at = has_split m x.listed listed in
+      let apart = Apart-from_once at.0 at.1 m (subst HasNoRepeats at.2 (ties.once t)) in
+      let all = chain-back ns t None at.0 (m ∷ at.1) None
+      (subst (λ (zs : List ℕ). IsChain ns t None zs None) at.2 (ties.chain t)) in
+      let in' = λ (k : ℕ) (h : has_entry at.1 k ≡ true).
+      ap (λ (zs : List ℕ). has_entry zs k) at.2 ∙ has-right k at.0 (m ∷ at.1) (has-tail k m at.1 h) in
+      record {
+        back = at.1;
+        within = listed_within m listed;
+        next_is = ap (λ (l : Link). l.next) all.0;
+        chain = all.1;
+        once = apart.back_once;
+        some = λ k h. r.some_listed t k (in' k h);
+        inside = λ k h. listed_within k (in' k h);
+        rest = ap (λ (zs : List ℕ). behind m (walk_along zs x.pending)) at.2
+            ∙ behind_along m at.0 at.1 (last_of x.pending) x.pending ne apart.front_lacks;
+      }
 
 -- a list with one more mutex at its end, which it lacks
 HasNoRepeats-push : (xs : List ℕ) (m : ℕ) → HasNoRepeats xs → has_entry xs m ≡ false → HasNoRepeats (xs ++ m ∷ [])
@@ -214,91 +168,80 @@ module _ (v : Robust) (t : ℕ) (r : IsRobust v) where
       (λ some. HasNoRepeats-push others row.pending (HasNoRepeats-without row.pending row.listed (r.once t))
       (has-without_same row.pending row.listed))
 
-  in_others : (m : ℕ) → has_entry others m ≡ true → m ≤ v.mutexes
-  in_others m h = r.most_listed t m (has-with m row.pending row.listed h)
-
-  pub walk_of-within : (m : ℕ) → has_entry (walk_of row) m ≡ true → m ≤ v.mutexes
-  walk_of-within m = walk_is (λ xs. has_entry xs m ≡ true → m ≤ v.mutexes) (λ e. in_others m) (λ some h. ⊎_elim
-      (λ e. in_others m e)
+  -- what a walk goes through is on the list, or pending
+  in_walk : (P : ℕ → Type 0) → ((m : ℕ) → has_entry row.listed m ≡ true → P m) → (1 ≤ row.pending → P row.pending) →
+      (m : ℕ) → has_entry (walk_of row) m ≡ true → P m
+  in_walk P on last m = walk_is (λ xs. has_entry xs m ≡ true → P m)
+      (λ e h. on m (has-with m row.pending row.listed h))
+      (λ some h. ⊎_elim
+      (λ e. on m (has-with m row.pending row.listed e))
       (λ e. let both = sym (has-append m others (row.pending ∷ [])) ∙ h in
-      let last : has_entry (row.pending ∷ []) m ≡ true = rw e at both in
-      let same : m ≡ row.pending = eqb-true m row.pending (sym (or-false (eqb m row.pending)) ∙ last) in
-      omega (arith, r.pending t))
+      let here : has_entry (row.pending ∷ []) m ≡ true = rw e at both in
+      subst P (sym (eqb-true m row.pending (sym (or-false (eqb m row.pending)) ∙ here))) (last some))
       (cases_Bool (has_entry others m)))
 
+  pub walk_of-some : (m : ℕ) → has_entry (walk_of row) m ≡ true → 1 ≤ m
+  walk_of-some = in_walk (λ m. 1 ≤ m) (r.some_listed t) (λ some. some)
+
+  pub walk_of-within : (m : ℕ) → has_entry (walk_of row) m ≡ true → m ≤ v.mutexes
+  walk_of-within = in_walk (λ m. m ≤ v.mutexes) (r.most_listed t) (λ some. r.pending t)
+
+  pub walk_of-short : length (walk_of row) ≤ 1024
+  walk_of-short = omega (
+    arith,
+    length-mutexes (walk_of row) v.mutexes walk_of-once walk_of-some walk_of-within,
+    r.most,
+  )
+
+-- a loop along the walk of a thread, which is sound: where it stands at first, then next to a mutex, and at last
+module _ (v : Robust) (t : ℕ) (sound : IsRobust v) where
+  abbrev ms : List ℕ
+  ms = walk_of (robust_at v t)
+
+  pub first-ahead : {next : Option ℕ} → next ≡ first_or ms None → ahead next ms ≡ ms
+  first-ahead is = ap (λ o. ahead o ms) is ∙ ahead-first ms
+
+  pub first-on : {next : Option ℕ} → next ≡ first_or ms None → (m : ℕ) → next ≡ Some m → has_entry ms m ≡ true
+  first-on is m h = first_or-has ms m (sym is ∙ h)
+
+  module _ (m : ℕ) {next : Option ℕ} (is : next ≡ first_or (behind m ms) None) where
+    pub next-ahead : ahead next ms ≡ behind m ms
+    next-ahead = ap (λ o. ahead o ms) is ∙ ahead-next m ms (walk_of-once v t sound)
+
+    pub next-on : (k : ℕ) → next ≡ Some k → has_entry ms k ≡ true
+    next-on k h = has-behind k m ms (first_or-has (behind m ms) k (sym is ∙ h))
+
+    pub next-smaller : {was : Option ℕ} → was ≡ Some m → length (ahead next ms) < length (ahead was ms)
+    next-smaller at = omega (arith, ap length next-ahead, ap (λ o. length (ahead o ms)) at)
+
 -- the same as the code has it: with options for mutexes
+named_some : (p m : ℕ) → named_mutex p ≡ Some m → (1 ≤ p) × (m ≡ p)
+named_some zero m h = absurd cc
+named_some (suc p) m h = (omega arith, sym (same_Some (suc p) m h))
+
+-- a walk that stands at the pending mutex
+pub next-pending : {pending : Option ℕ} (x : RobustRow) (m : ℕ) → pending ≡ named_mutex x.pending → pending ≡ Some m →
+    None ≡ first_or (behind m (walk_of x)) None
+next-pending {pending} x m named is =
+    let e = named_some x.pending m (sym named ∙ is) in
+    ap (λ (ks : List ℕ). first_or ks None)
+    (sym (ap (λ (k : ℕ). behind k (walk_of x)) e.1 ∙ behind_pending x.listed x.pending e.0))
+
 module _ {ns : List Link} {hs : List Head} {v : Robust} (view : robust_from ns hs ≡ v)
     (invariant : Ties ns hs (robust_from ns hs)) (t : ℕ) where
-  ties : Ties ns hs v
-  ties = ties_seen view invariant
+  pub entry_within : {k : ℕ} {first : Option ℕ} → first ≡ first_or (robust_at v t).listed None → first ≡ Some k →
+      k < length ns
+  entry_within {k} {first} is named =
+      listed_within ns hs v (ties_seen view invariant) t k (first_or-has (robust_at v t).listed k (sym is ∙ named))
 
-  pub walking-begin : {found : List ℕ} {first : Option ℕ} → found ≡ [] → first ≡ first_or (robust_at v t).listed None →
-      IsWalking ns t (robust_at v t) found first
-  walking-begin {found} {first} empty is =
-      subst (λ (zs : List ℕ). IsWalking ns t (robust_at v t) zs first) (sym empty) (walk-begin ns hs v ties t first is)
+  -- a walk that stands at another one
+  module _ (m : ℕ) {pending : Option ℕ} (on : has_entry (walk_of (robust_at v t)) m ≡ true)
+      (named : pending ≡ named_mutex (robust_at v t).pending) (other : pending ≡ Some m → ⊥) where
+    pub follows : IsFollowed ns t m (robust_at v t)
+    follows = followed ns hs v (ties_seen view invariant) t m on
+        (λ e. other (named ∙ ap named_mutex (sym e)
+        ∙ named_mutex-some m (walk_of-some v t (sound_seen view invariant) m on)))
 
-  module _ {found : List ℕ} {next : Option ℕ} {m : ℕ} (w : IsWalking ns t (robust_at v t) found next)
-      (is : next ≡ Some m) where
-    here : IsWalking ns t (robust_at v t) found (Some m)
-    here = subst (λ (o : Option ℕ). IsWalking ns t (robust_at v t) found o) is w
-
-    pub walking-within : m < length ns
-    walking-within = walk-within ns hs v ties t found m here
-
-    pub walking-smaller : {i : ℕ} {l : Link} → i ≡ m → l ≡ get_or ns i l →
-        length (path (length ns) ns l.next) < length (path (length ns) ns next)
-    walking-smaller {i} {l} same read =
-        let e : l ≡ link_at ns m = link_read ns m i l same walking-within read in
-        subst (λ (o : Option ℕ). length (path (length ns) ns l.next) < length (path (length ns) ns o)) (sym is)
-        (subst (λ (k : Link). length (path (length ns) ns k.next) < length (path (length ns) ns (Some m))) (sym e)
-        (walk-smaller ns hs v ties t found m here))
-
-    module _ {pending : Option ℕ} (named : pending ≡ named_mutex (robust_at v t).pending) where
-      apart_by : (pending ≡ Some m → ⊥) → m ≡ (robust_at v t).pending → ⊥
-      apart_by ne e = ne (named ∙ ap named_mutex (sym e) ∙ named_mutex-some m (walk-some ns hs v ties t found m here))
-
-      same_by : pending ≡ Some m → m ≡ (robust_at v t).pending
-      same_by e = ap (λ o. unwrap_or o 0) (sym e ∙ named) ∙ unwrap_or-named_mutex (robust_at v t).pending
-
-      pub walking-room : (pending ≡ Some m → ⊥) → length found < 1024
-      walking-room ne = walk-room ns hs v ties t found m here (apart_by ne)
-
-      pub walking-push : {i : ℕ} {l : Link} → i ≡ m → l ≡ get_or ns i l → (pending ≡ Some m → ⊥) →
-          IsWalking ns t (robust_at v t) (found ++ m ∷ []) l.next
-      walking-push {i} {l} same read ne =
-          subst (λ (k : Link). IsWalking ns t (robust_at v t) (found ++ m ∷ []) k.next)
-          (sym (link_read ns m i l same walking-within read))
-          (walk-push ns hs v ties t found m here (apart_by ne))
-
-      pub walking-skip : {i : ℕ} {l : Link} → i ≡ m → l ≡ get_or ns i l → pending ≡ Some m →
-          IsWalking ns t (robust_at v t) found l.next
-      walking-skip {i} {l} same read e =
-          subst (λ (k : Link). IsWalking ns t (robust_at v t) found k.next)
-          (sym (link_read ns m i l same walking-within read))
-          (walk-skip ns hs v ties t found m here (same_by e))
-
-  module _ {found : List ℕ} {next : Option ℕ} {pending : Option ℕ} (w : IsWalking ns t (robust_at v t) found next)
-      (is : next ≡ None) (named : pending ≡ named_mutex (robust_at v t).pending) where
-    over : IsWalking ns t (robust_at v t) found None
-    over = subst (λ (o : Option ℕ). IsWalking ns t (robust_at v t) found o) is w
-
-    named_some : (p m : ℕ) → named_mutex p ≡ Some m → (1 ≤ m) × (m ≡ p)
-    named_some zero m h = absurd cc
-    named_some (suc p) m h = let e : suc p ≡ m = cc in (omega arith, sym e)
-
-    named_none : (p : ℕ) → named_mutex p ≡ None → p ≡ 0
-    named_none zero h = refl
-    named_none (suc p) h = absurd cc
-
-    pub walking-last_room : {m : ℕ} → pending ≡ Some m → length found < 1024
-    walking-last_room {m} e =
-        let r = named_some (robust_at v t).pending m (sym named ∙ e) in
-        walk-last_room ns hs v ties t found over (omega (arith, r.0, r.1))
-
-    pub walking-end : {m : ℕ} → pending ≡ Some m → found ++ m ∷ [] ≡ walk_of (robust_at v t)
-    walking-end {m} e =
-        let r = named_some (robust_at v t).pending m (sym named ∙ e) in
-        walk-end ns hs v ties t found over m r.0 r.1
-
-    pub walking-end_none : pending ≡ None → found ≡ walk_of (robust_at v t)
-    walking-end_none e = walk-end_none ns hs v ties t found over (named_none (robust_at v t).pending (sym named ∙ e))
+    pub follows-next : {i : ℕ} {l : Link} → i ≡ m → l ≡ get_or ns i l → l.next ≡ first_or follows.back None
+    follows-next {i} {l} same read =
+        ap (λ (k : Link). k.next) (link_read ns m i l same follows.within read) ∙ follows.next_is

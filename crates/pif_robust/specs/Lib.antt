@@ -1,2 +1,3 @@
 pub mod Links
 pub mod Robust
+pub mod Walk

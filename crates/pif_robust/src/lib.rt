@@ -17,9 +17,9 @@
 //! - `link_head` writes the head of the list, which names the new entry from then on;
 //! - `unlink` writes the one link, or the head, that led to the entry.
 //!
-//! The links back are the library's own, and let `unlink` find the entry before at once. The end of a thread reads what
-//! `walk` gives, and then calls `forget`. (The Linux documents 'robust futexes' and 'The robust futex ABI';
-//! get_robust_list(2), set_robust_list(2).)
+//! The links back are the library's own, and let `unlink` find the entry before at once. The end of a thread goes along
+//! its list by `walk_first` and `walk_next`, and then calls `forget`. (The Linux documents 'robust futexes' and 'The
+//! robust futex ABI'; get_robust_list(2), set_robust_list(2).)
 #![tactic(auto)]
 
 mod links;

@@ -1,6 +1,9 @@
-ghost use Rattle.std.specs.Prelude.{◌≡◌, ◌<◌, ◌↔◌, IsTrue, Some, length};
+ghost use Rattle.std.specs.Prelude.{ℕ, ◌≡◌, ◌<◌, ◌≤◌, ◌↔◌, IsTrue, true, List, Option, Some, None, length};
 ghost use Rattle.std.specs.Option.{ForSome};
-ghost use Rattle.pif_robust.specs.Links.{link_at, with_next, with_first, with_previous, links_joined, heads_joined, links_cut, heads_cut};
+ghost use Rattle.pif_model.specs.RobustList.{has_entry, HasNoRepeats};
+ghost use Rattle.pif_robust.specs.Links.{link_at, first_or, IsChain, with_next, with_first, with_previous, links_joined, heads_joined, links_cut, heads_cut};
+ghost use Rattle.pif_robust.specs.Robust.{named_mutex};
+ghost use Rattle.pif_robust.specs.Walk.{walk_along};
 
 use pif_types::{MutexId, Tid};
 
@@ -44,6 +47,24 @@ impl Head {
             Some(pending) => pending == m,
             None => false,
         }
+    }
+}
+
+/// Where a walk comes to whose next entry is `next`: the pending mutex of `head` is passed over there, and stands at the
+/// end.
+pub(crate) fn settle(links: &[Link], head: &Head, next: Option<MutexId>) -> Option<MutexId>
+    requires { ForSome next (λ p. p < length links.now) }
+    ensures { (t pending : ℕ) (before : Option ℕ) (ms : List ℕ) → head.now.pending ≡ named_mutex pending
+        → IsChain links.now t before ms None → HasNoRepeats ms → ((m : ℕ) → has_entry ms m ≡ true → 1 ≤ m)
+        → next ≡ first_or ms None → result ≡ first_or (walk_along ms pending) None }
+{
+    let open = match next {
+        Some(mutex) if head.is_pending(mutex) => links[mutex.get() as usize].next,
+        _ => next,
+    };
+    match open {
+        Some(_) => open,
+        None => head.pending,
     }
 }
 

@@ -1,9 +1,10 @@
-ghost use Rattle.std.specs.Prelude.{◌≡◌, ◌<◌, ◌≤◌, true, false, IfOk, IfSome, IfNone, ℕ, length};
+ghost use Rattle.std.specs.Prelude.{◌≡◌, ◌<◌, ◌≤◌, true, false, None, IfOk, IfSome, IfNone, ℕ, length};
 ghost use Rattle.pif_model.specs.RobustList.{no_robust, robust_at, walk_of, is_listed, with_pending, without_pending, with_half_linked, with_listed, without_listed, without_robust, IsUnlisted, IsHalfLinkedByNoOther, IsRobust, HasNoRepeats, has_entry};
 ghost use Rattle.pif_robust.specs.Links.{first_or};
 ghost use Rattle.pif_robust.specs.Robust.{named_mutex};
+ghost use Rattle.pif_robust.specs.Walk.{behind};
 
-use crate::links::{EMPTY, Head, Link, UNLINKED, cut, join};
+use crate::links::{EMPTY, Head, Link, UNLINKED, cut, join, settle};
 use arrayvec::ArrayVec;
 use pif_types::{Limits, MutexId, NoMemory, Tid};
 use std::alloc::Global;
@@ -111,26 +112,44 @@ impl RobustLists {
 
     /// What the end of `t` goes through: the mutexes on its list from the head, that is, the last linked first, without
     /// the one that its pending field names, and that one last, whether it was listed or not. Each comes once, so there
-    /// are at most 1,024. Empty where `t` lies outside the limits.
+    /// are at most 1,024. Empty where `t` lies outside the limits. It is what `walk_first` and then `walk_next` answer,
+    /// which need no room for a list.
     pub fn walk(&self, t: Tid) -> ArrayVec<MutexId, 1024>
         ensures walk { result.items ≡ walk_of (robust_at self.now t) }
         ensures once { HasNoRepeats result.items }
         ensures within { (m : ℕ) → has_entry result.items m ≡ true → m ≤ self.now.mutexes }
         ensures sound { IsRobust self.now }
     {
-        let head = self.head(t);
         let mut found = ArrayVec::new();
-        let mut next = head.first;
+        let mut next = self.walk_first(t);
         while let Some(m) = next {
-            if !head.is_pending(m) {
-                found.push(m);
-            }
-            next = self.links[m.get() as usize].next;
-        }
-        if let Some(m) = head.pending {
             found.push(m);
+            next = self.walk_next(t, m);
         }
         found
+    }
+
+    /// The first mutex that the end of `t` goes through. `None` where it goes through none, and where `t` lies outside
+    /// the limits.
+    pub fn walk_first(&self, t: Tid) -> Option<MutexId>
+        ensures first { result ≡ first_or (walk_of (robust_at self.now t)) None }
+        ensures sound { IsRobust self.now }
+    {
+        let head = self.head(t);
+        settle(&self.links, &head, head.first)
+    }
+
+    /// The mutex that the end of `t` goes through right after `m`, which is one of those. `None` where `m` is the last.
+    pub fn walk_next(&self, t: Tid, m: MutexId) -> Option<MutexId>
+        requires { has_entry (walk_of (robust_at self.now t)) m ≡ true }
+        ensures next { result ≡ first_or (behind m (walk_of (robust_at self.now t))) None }
+        ensures sound { IsRobust self.now }
+    {
+        let head = self.head(t);
+        if head.is_pending(m) {
+            return None;
+        }
+        settle(&self.links, &head, self.links[m.get() as usize].next)
     }
 
     /// Empties the list of `t` and its pending field, and ends what it has half-linked. All other threads' stay as they

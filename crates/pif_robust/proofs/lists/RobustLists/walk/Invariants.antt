@@ -1,11 +1,11 @@
-use Rattle.std.proofs.Common.{length}
-use Rattle.pif_model.specs.RobustList.{robust_at}
-use Rattle.pif_robust.specs.Links.{path}
-use Rattle.pif_robust.proofs.WalkLemmas.{IsWalking}
+use Rattle.std.proofs.Common.{◌≡◌, ◌++◌, length}
+use Rattle.pif_model.specs.RobustList.{robust_at, walk_of}
+use Rattle.pif_robust.specs.Walk.{ahead}
 use Rattle.pif_robust.proofs.lists.RobustLists.walk.Given as goal
 
+-- what was found and what is ahead are all
 abbrev pub invariant-loop-next : goal.invariant-loop-next
-invariant-loop-next l = IsWalking l.self-inside.links.items l.fn.t (robust_at l.self l.fn.t) l.found.items l.next
+invariant-loop-next l = l.found.items ++ ahead l.next (walk_of (robust_at l.self l.t)) ≡ walk_of (robust_at l.self l.t)
 
 abbrev pub decreases-loop-next : goal.decreases-loop-next
-decreases-loop-next l = length (path (length l.self-inside.links.items) l.self-inside.links.items l.next)
+decreases-loop-next l = length (ahead l.next (walk_of (robust_at l.self l.t)))
