@@ -1,0 +1,20 @@
+# t3 takes the unusable m1, to give it up again, and ends in between. host/each_instruction asks glibc the same.
+thread 10           = t1
+thread 10           = t2
+thread 10           = t3
+thread 10           = t4
+mutex normal robust = m1
+call t1 lock m1     = answer 0
+end t1              = ended
+call t2 lock m1     = answer 130
+call t2 unlock m1   = answer 0
+health m1           = unusable
+begin t3 lock m1    = begun
+go t3               = went
+go t3               = went
+go t3               = went
+word m1             = 0x00000003
+end t3              = ended
+word m1             = 0x40000000
+call t4 lock m1     = answer 131
+health m1           = unusable
