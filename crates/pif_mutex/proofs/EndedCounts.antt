@@ -1,7 +1,5 @@
 -- What a thread that ends held is held once, mutex by mutex.
-use Rattle.std.proofs.Common.{◌≡◌, ℕ, ◌+◌, ◌<◌, ◌≤◌, ◌==◌, false, List, ◌∷◌, length, get_or, set, drop, if◌then◌else◌, refl, sym, ap, ◌∙◌}
-use Rattle.std.proofs.Math.ListN.{drop_of_length-le}
-use Rattle.std.proofs.lemmas.List.{drop_more}
+use Rattle.std.proofs.Common.{◌≡◌, ℕ, ◌==◌, false, List, [], ◌∷◌, get_or, set, if◌then◌else◌, refl, sym, ap, ◌∙◌}
 use Rattle.pif_types.specs.declared.requests.Kind.TheVariants.{Normal}
 use Rattle.pif_model.specs.Word.{Words, word_at}
 use Rattle.pif_model.specs.Table.{Table, LibraryMutex, new_mutex}
@@ -12,37 +10,42 @@ abbrev pub held_once : ℕ → ℕ → Words → List LibraryMutex → List Libr
 held_once t m ws ls =
     if (word_at ws m).number == t then set ls m (record (get_or ls m (new_mutex Normal false)) { count = 1 }) else ls
 
--- the table v is s once t holds those of these mutexes once that stand before place n
-pub record AreHeldOnce (t : ℕ) (ms : List ℕ) (n : ℕ) (s v : Table) : Type 0 where
+-- the table v is s once t holds those of these mutexes once that aren't ahead any more
+pub record AreHeldOnce (t : ℕ) (ahead ms : List ℕ) (s v : Table) : Type 0 where
   pub others : v ≡ record s { mutexes = v.mutexes }
-  pub counts : library_after_end t (drop n ms) s.words v.mutexes ≡ library_after_end t ms s.words s.mutexes
+  pub counts : library_after_end t ahead s.words v.mutexes ≡ library_after_end t ms s.words s.mutexes
 
--- before the first
-pub held_once_first : (t : ℕ) (ms : List ℕ) (s : Table) → AreHeldOnce t ms 0 s s
-held_once_first t ms s = record { others = refl; counts = refl }
+-- at first all are ahead
+pub held_once_first : (t : ℕ) (ahead ms : List ℕ) (s : Table) → ahead ≡ ms → AreHeldOnce t ahead ms s s
+held_once_first t ahead ms s all = record {
+  others = refl;
+  counts = ap (λ (ks : List ℕ). library_after_end t ks s.words s.mutexes) all;
+}
 
 -- one more
-pub held_once_more : (t : ℕ) (ms : List ℕ) (n : ℕ) (s v u : Table) (m : ℕ) → n < length ms → m ≡ get_or ms n m
-    → AreHeldOnce t ms n s v
-    → u ≡ record v { mutexes = held_once t m v.words v.mutexes } → AreHeldOnce t ms (n + 1) s u
+pub held_once_more : (t m : ℕ) (was ahead ms : List ℕ) (s v u : Table) → was ≡ m ∷ ahead → AreHeldOnce t was ms s v
+    → u ≡ record v { mutexes = held_once t m v.words v.mutexes } → AreHeldOnce t ahead ms s u
 unfolding library_after_end
-held_once_more t ms n s v u m short is h after =
-    let rest : List ℕ = drop (n + 1) ms in
+held_once_more t m was ahead ms s v u is h after =
     let known : u.mutexes ≡ held_once t m v.words v.mutexes = ap (λ (w : Table). w.mutexes) after in
     record {
       others = after ∙ ap (λ (w : Table). record w { mutexes = held_once t m v.words v.mutexes }) h.others
           ∙ ap (λ (ls : List LibraryMutex). record s { mutexes = ls }) (sym known);
-      counts = ap (λ (ls : List LibraryMutex). library_after_end t rest s.words ls)
+      counts = ap (λ (ls : List LibraryMutex). library_after_end t ahead s.words ls)
           (known ∙ ap (λ (w : Table). held_once t m w.words v.mutexes) h.others)
-          ∙ ap (λ (k : ℕ). library_after_end t (k ∷ rest) s.words v.mutexes) is
-          ∙ ap (λ (ks : List ℕ). library_after_end t ks s.words v.mutexes) (sym (drop_more ms n m short))
+          ∙ ap (λ (ks : List ℕ). library_after_end t ks s.words v.mutexes) (sym is)
           ∙ h.counts;
     }
 
--- after the last
-pub held_once_last : (t : ℕ) (ms : List ℕ) (n : ℕ) (s v : Table) → length ms ≤ n → AreHeldOnce t ms n s v
+-- the robust lists stay as they were
+pub held_once_lists : (t m : ℕ) (was ms : List ℕ) (s v u : Table) → AreHeldOnce t was ms s v
+    → u ≡ record v { mutexes = held_once t m v.words v.mutexes } → u.lists ≡ s.lists
+held_once_lists t m was ms s v u h after = ap (λ (w : Table). w.lists) after ∙ ap (λ (w : Table). w.lists) h.others
+
+-- at last none is
+pub held_once_last : (t : ℕ) (ahead ms : List ℕ) (s v : Table) → ahead ≡ [] → AreHeldOnce t ahead ms s v
     → v ≡ record s { mutexes = library_after_end t ms s.words s.mutexes }
 unfolding library_after_end
-held_once_last t ms n s v last h = h.others
+held_once_last t ahead ms s v over h = h.others
     ∙ ap (λ (ls : List LibraryMutex). record s { mutexes = ls })
-    (ap (λ (ks : List ℕ). library_after_end t ks s.words v.mutexes) (sym (drop_of_length-le ms last)) ∙ h.counts)
+    (ap (λ (ks : List ℕ). library_after_end t ks s.words v.mutexes) (sym over) ∙ h.counts)

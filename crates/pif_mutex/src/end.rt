@@ -16,6 +16,8 @@ use pif_word::number;
 impl<K: PiKernel + Drop> State<K> {
     /// A living thread ends: its call is gone, and what its robust list and its pending field name passes on. What it
     /// held of those is held once from then on.
+    #[cold]
+    #[inline(never)]
     #[tactic(auto, unfolding(pif_model::specs::Lines::ended_table), using(crate::proofs::Assembly::exit_keeps_thread))]
     pub(crate) fn end(&mut self, t: Tid)
         requires living { is_living self.old.kernel t ≡ true }
@@ -33,9 +35,10 @@ impl<K: PiKernel + Drop> State<K> {
               self.old.words self.old.mutexes;
         } }
     {
-        let walk = self.lists.walk(t);
-        for place in 0..walk.len() {
-            self.reset_count(t, walk[place]);
+        let mut next = self.lists.walk_first(t);
+        while let Some(m) = next {
+            self.reset_count(t, m);
+            next = self.lists.walk_next(t, m);
         }
     }
 

@@ -13,6 +13,8 @@ use pif_types::{MutexId, Request, Tid};
 /// The lines by which a request that locks leaves a mutex that it took and found unusable.
 impl<K: PiKernel + Drop> State<K> {
     /// Compare-exchange of the word from the number of the thread to 0.
+    #[cold]
+    #[inline(never)]
     pub(crate) fn leave_exchange(&mut self, request: Request, t: Tid, m: MutexId) -> Progress
         requires known { has_thread self.old t ≡ true }
         requires mutex { has_mutex self.old m ≡ true }
@@ -27,6 +29,8 @@ impl<K: PiKernel + Drop> State<K> {
     }
 
     /// The kernel call unlock_pi.
+    #[cold]
+    #[inline(never)]
     #[tactic(auto, unfolding(pif_model::specs::Lines::gives_up, pif_model::specs::Lines::given_up_by), using(crate::proofs::KernelLeaves::unlock_keeps_threads))]
     pub(crate) fn leave_kernel(&mut self, request: Request, t: Tid, m: MutexId) -> Progress
         requires known { has_thread self.old t ≡ true }

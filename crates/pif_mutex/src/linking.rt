@@ -14,6 +14,7 @@ use pif_types::{Answer, MutexId, Request, Tid};
 /// answer `answer`.
 impl<K: PiKernel + Drop> State<K> {
     /// Writes the link of the mutex to the head of the list.
+    #[inline(always)]
     #[tactic(auto, unfolding(pif_model::specs::Lines::link_next))]
     pub(crate) fn link_next(
         &mut self,
@@ -33,6 +34,7 @@ impl<K: PiKernel + Drop> State<K> {
     }
 
     /// Makes the mutex, which the thread has half-linked, the head of the list.
+    #[inline(always)]
     #[tactic(auto, unfolding(pif_model::specs::Lines::link_head))]
     pub(crate) fn link_head(
         &mut self,

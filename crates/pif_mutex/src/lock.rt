@@ -15,6 +15,7 @@ use pif_word::number;
 impl<K: PiKernel + Drop> State<K> {
     /// Loads the word. The owner of a NORMAL mutex goes on to stop, that of an ERRORCHECK mutex is answered EDEADLK,
     /// and that of a RECURSIVE one holds it once more.
+    #[inline(always)]
     #[tactic(auto, unfolding(pif_model::specs::Lines::lock_load))]
     pub(crate) fn lock_load(&mut self, request: Request, t: Tid, m: MutexId) -> Progress
         requires known { has_thread self.old t ≡ true }
@@ -33,6 +34,8 @@ impl<K: PiKernel + Drop> State<K> {
 
     /// The kernel call lock_pi. A stalled mutex that it took is answered, and a robust one is taken over next. Where
     /// the owner has ended, the thread goes on to stop.
+    #[cold]
+    #[inline(never)]
     #[tactic(auto, unfolding(pif_model::specs::Lines::lock_kernel, pif_model::specs::Lines::lock_by), using(crate::proofs::KernelLeaves::lock_keeps_threads))]
     pub(crate) fn lock_kernel(&mut self, request: Request, t: Tid, m: MutexId) -> Progress
         requires known { has_thread self.old t ≡ true }
@@ -53,6 +56,7 @@ impl<K: PiKernel + Drop> State<K> {
 
     /// Queued or parked, and waits; or made the owner: a stalled mutex is answered with no access of the word, and a
     /// robust one is taken over from the load on.
+    #[inline(never)]
     #[tactic(auto, unfolding(pif_model::specs::Lines::lock_queued))]
     pub fn lock_queued(&mut self, request: Request, t: Tid, m: MutexId) -> Progress
         requires known { has_thread self.old t ≡ true }
@@ -70,6 +74,8 @@ impl<K: PiKernel + Drop> State<K> {
 
     /// The deadline of a lock that is queued or stopped is reached: the kernel call expire. A stalled mutex is answered
     /// ETIMEDOUT, and of a robust one the pending field is cleared next.
+    #[cold]
+    #[inline(never)]
     #[tactic(auto, unfolding(pif_model::specs::Lines::expires_at, pif_model::specs::Lines::expired_in), using(crate::proofs::KernelLeaves::expire_keeps_threads))]
     pub(crate) fn lock_expire(&mut self, place: Place, t: Tid, m: MutexId) -> Progress
         requires known { has_thread self.old t ≡ true }
@@ -87,6 +93,8 @@ impl<K: PiKernel + Drop> State<K> {
     }
 
     /// Stops for good.
+    #[cold]
+    #[inline(never)]
     #[tactic(auto, unfolding(pif_model::specs::Lines::lock_stop), using(crate::proofs::KernelLeaves::stop_keeps_threads))]
     pub(crate) fn lock_stop(&mut self, request: Request, t: Tid) -> Progress
         requires known { has_thread self.old t ≡ true }

@@ -355,6 +355,7 @@ fn first_place(request: &Request) -> Place
 /// handed to it; or it waits, and nothing changes. A lock that is queued or stopped and whose deadline is reached
 /// expires, by the kernel call expire, and does nothing else; a wait that expired before is answered ETIMEDOUT in place
 /// of 0. Whoever owns a mutex after the step and did not before, the thread or the next waiter, holds it once.
+#[inline(always)]
 pub fn advance<K: PiKernel + Drop>(parts: &mut Parts<K>, t: Tid) -> Progress
     requires living { is_living parts.old.kernel t ≡ true }
     requires call { is_of_mutexes (line_at parts.old t) ≡ true }

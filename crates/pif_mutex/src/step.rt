@@ -14,12 +14,42 @@ use pif_kernel::PiKernel;
 use pif_model::{Line, Place};
 use pif_types::{Errno, MutexId, Request, Tid};
 
-/// Which line a step is, by request and place.
+/// Whether a thread may wait at this place of its call: queued, parked, or stopped for good.
+#[inline(always)]
+fn waits_at(place: &Place) -> bool
+    ensures { result ≡ waits_at place.now }
+{
+    matches!(
+        place,
+        Place::LockQueued | Place::LockStopped | Place::WaitParked
+    )
+}
+
+/// Which line a step is, by request and place. The lines of a mutex that nobody waits for are inlined here. Each other
+/// line is a function of its own, so that its locals cost the common ones nothing.
 impl<K: PiKernel + Drop> State<K> {
     /// One step of the open call of `t`, which is this request at this place: one on mutexes. A call that is due expires,
-    /// and does nothing else.
-    #[tactic(auto, unfolding(pif_model::specs::Lines::go_outcome))]
+    /// and does nothing else. A lock that doesn't wait, and an unlock, are never due.
+    #[inline(always)]
+    #[tactic(auto, using(crate::proofs::Locking::lock_goes, crate::proofs::Locking::unlock_goes))]
     pub(crate) fn go(&mut self, request: Request, place: Place, t: Tid) -> Progress
+        requires living { is_living self.old.kernel t ≡ true }
+        requires line { line_at self.old t ≡ Line.At request place }
+        requires call { CallMayStep self.old t request place }
+        requires mutexes { is_of_mutexes (Line.At request place) ≡ true }
+        ensures { outcome_of result self.new ≡ go_outcome (Line.At request place) t self.old }
+    {
+        match request {
+            Request::Lock(m) if !waits_at(&place) => self.lock_step(place, t, m),
+            Request::Unlock(m) => self.unlock_step(place, t, m),
+            _ => self.go_timed(request, place, t),
+        }
+    }
+
+    /// The same for a call that may be due.
+    #[inline(never)]
+    #[tactic(auto, unfolding(pif_model::specs::Lines::go_outcome))]
+    fn go_timed(&mut self, request: Request, place: Place, t: Tid) -> Progress
         requires living { is_living self.old.kernel t ≡ true }
         requires line { line_at self.old t ≡ Line.At request place }
         requires call { CallMayStep self.old t request place }
@@ -36,6 +66,8 @@ impl<K: PiKernel + Drop> State<K> {
     }
 
     /// The expiry of the open call of `t`, which is this request at this place, where its deadline counts: a lock.
+    #[cold]
+    #[inline(never)]
     #[tactic(auto, using(crate::proofs::Locking::due_locks))]
     fn expire_at(&mut self, request: Request, place: Place, t: Tid) -> Progress
         requires living { is_living self.old.kernel t ≡ true }
@@ -74,6 +106,7 @@ impl<K: PiKernel + Drop> State<K> {
     }
 
     /// One step of a lock.
+    #[inline(always)]
     #[tactic(auto, unfolding(pif_model::specs::Lines::line_of))]
     fn lock_step(&mut self, place: Place, t: Tid, m: MutexId) -> Progress
         requires known { has_thread self.old t ≡ true }
@@ -90,6 +123,7 @@ impl<K: PiKernel + Drop> State<K> {
     }
 
     /// One step of a request that locks `m`, from the exchange on: of a lock, or of a wait that was unblocked.
+    #[inline(always)]
     #[tactic(auto, unfolding(pif_model::specs::Lines::locking_line))]
     fn locking_step(&mut self, request: Request, place: Place, t: Tid, m: MutexId) -> Progress
         requires known { has_thread self.old t ≡ true }
@@ -130,6 +164,7 @@ impl<K: PiKernel + Drop> State<K> {
     }
 
     /// One step of taking over or leaving in a request that locks `m`.
+    #[inline(always)]
     #[tactic(auto, unfolding(pif_model::specs::Lines::shared_line))]
     fn shared_step(&mut self, request: Request, place: Place, t: Tid, m: MutexId) -> Progress
         requires known { has_thread self.old t ≡ true }
@@ -156,6 +191,7 @@ impl<K: PiKernel + Drop> State<K> {
     }
 
     /// One step of an unlock.
+    #[inline(always)]
     #[tactic(auto, unfolding(pif_model::specs::Lines::line_of))]
     fn unlock_step(&mut self, place: Place, t: Tid, m: MutexId) -> Progress
         requires known { has_thread self.old t ≡ true }
@@ -177,6 +213,8 @@ impl<K: PiKernel + Drop> State<K> {
     }
 
     /// One step of a consistent.
+    #[cold]
+    #[inline(never)]
     #[tactic(auto, unfolding(pif_model::specs::Lines::line_of))]
     fn consistent_step(&mut self, place: Place, t: Tid, m: MutexId) -> Progress
         requires known { has_thread self.old t ≡ true }
@@ -192,6 +230,8 @@ impl<K: PiKernel + Drop> State<K> {
     }
 
     /// One step of a change of priority.
+    #[cold]
+    #[inline(never)]
     #[tactic(auto, unfolding(pif_model::specs::Lines::line_of))]
     fn set_prio_step(&mut self, place: Place, t: Tid, other: Tid, prio: u32) -> Progress
         requires known { has_thread self.old t ≡ true }

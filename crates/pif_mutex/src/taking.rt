@@ -34,6 +34,7 @@ impl<K: PiKernel + Drop> State<K> {
     /// Compare-exchange of the word from 0 to the number of the thread. Done, a stalled mutex is answered, and of a
     /// robust one the health word is next. Where it fails the request goes on with its kernel call, at the place
     /// `kernel`.
+    #[inline(always)]
     pub fn own_exchange(&mut self, request: Request, kernel: Place, t: Tid, m: MutexId) -> Progress
         requires known { has_thread self.old t ≡ true }
         requires mutex { has_mutex self.old m ≡ true }
@@ -48,6 +49,8 @@ impl<K: PiKernel + Drop> State<K> {
     }
 
     /// Loads the word, and sees whether its last owner has ended.
+    #[cold]
+    #[inline(never)]
     #[tactic(auto, unfolding(pif_model::specs::Lines::take_load))]
     pub(crate) fn take_load(&mut self, request: Request, t: Tid, m: MutexId) -> Progress
         requires known { has_thread self.old t ≡ true }
@@ -60,6 +63,7 @@ impl<K: PiKernel + Drop> State<K> {
 
     /// Loads the health word. An unusable mutex is left again, and one whose last owner has ended, which is `died`, is
     /// inconsistent.
+    #[inline(always)]
     #[tactic(auto, unfolding(pif_model::specs::Lines::take_health))]
     pub(crate) fn take_health(
         &mut self,
@@ -82,6 +86,8 @@ impl<K: PiKernel + Drop> State<K> {
     }
 
     /// Stores in the health word that the mutex is inconsistent.
+    #[cold]
+    #[inline(never)]
     #[tactic(auto, unfolding(pif_model::specs::Lines::take_store))]
     pub(crate) fn take_store(&mut self, request: Request, t: Tid, m: MutexId) -> Progress
         requires known { has_thread self.old t ≡ true }
@@ -93,6 +99,8 @@ impl<K: PiKernel + Drop> State<K> {
     }
 
     /// Takes OWNER_DIED out of the word. The call will answer EOWNERDEAD.
+    #[cold]
+    #[inline(never)]
     #[tactic(auto, unfolding(pif_model::specs::Lines::take_word_back))]
     pub(crate) fn take_word(&mut self, request: Request, t: Tid, m: MutexId) -> Progress
         requires known { has_thread self.old t ≡ true }

@@ -37,6 +37,8 @@ impl<K: PiKernel + Drop> State<K> {
 
     /// The kernel call trylock_pi. A stalled mutex that it took is answered, and a robust one is taken over next. Its
     /// EAGAIN, that the mutex is held, is answered as EBUSY.
+    #[cold]
+    #[inline(never)]
     #[tactic(auto, unfolding(pif_model::specs::Lines::try_kernel, pif_model::specs::Lines::try_by))]
     pub(crate) fn try_kernel(&mut self, t: Tid, m: MutexId) -> Progress
         requires known { has_thread self.old t ≡ true }

@@ -16,6 +16,7 @@ use pif_word::number;
 impl<K: PiKernel + Drop> State<K> {
     /// Loads the word. Who is not the owner is answered EPERM, and an owner who holds it more than once holds it once
     /// less.
+    #[inline(always)]
     #[tactic(auto, unfolding(pif_model::specs::Lines::unlock_load))]
     pub(crate) fn unlock_load(&mut self, t: Tid, m: MutexId) -> Progress
         requires known { has_thread self.old t ≡ true }
@@ -41,6 +42,7 @@ impl<K: PiKernel + Drop> State<K> {
     }
 
     /// Loads the health word. An inconsistent mutex becomes unusable next.
+    #[inline(always)]
     #[tactic(auto, unfolding(pif_model::specs::Lines::unlock_health))]
     pub(crate) fn unlock_health(&mut self, t: Tid, m: MutexId) -> Progress
         requires known { has_thread self.old t ≡ true }
@@ -55,6 +57,8 @@ impl<K: PiKernel + Drop> State<K> {
     }
 
     /// Stores in the health word that the mutex is unusable.
+    #[cold]
+    #[inline(never)]
     pub(crate) fn unlock_store(&mut self, t: Tid, m: MutexId) -> Progress
         requires known { has_thread self.old t ≡ true }
         requires mutex { has_mutex self.old m ≡ true }
@@ -66,6 +70,7 @@ impl<K: PiKernel + Drop> State<K> {
     }
 
     /// Takes the mutex off the list of the thread, on which it is.
+    #[inline(always)]
     pub(crate) fn unlock_unlink(&mut self, t: Tid, m: MutexId) -> Progress
         requires known { has_thread self.old t ≡ true }
         requires listed { is_listed self.old.lists t m ≡ true }
@@ -78,6 +83,7 @@ impl<K: PiKernel + Drop> State<K> {
     }
 
     /// Compare-exchange of the word from the number of the thread to 0.
+    #[inline(always)]
     pub(crate) fn unlock_exchange(&mut self, t: Tid, m: MutexId) -> Progress
         requires known { has_thread self.old t ≡ true }
         requires mutex { has_mutex self.old m ≡ true }
@@ -92,6 +98,8 @@ impl<K: PiKernel + Drop> State<K> {
     }
 
     /// The kernel call unlock_pi.
+    #[cold]
+    #[inline(never)]
     #[tactic(auto, unfolding(pif_model::specs::Lines::gives_up, pif_model::specs::Lines::given_up_by), using(crate::proofs::KernelLeaves::unlock_keeps_threads))]
     pub(crate) fn unlock_kernel(&mut self, t: Tid, m: MutexId) -> Progress
         requires known { has_thread self.old t ≡ true }
