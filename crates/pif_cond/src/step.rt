@@ -26,6 +26,7 @@ use pif_types::{CondId, Errno, MutexId, Request, Tid};
 /// ETIMEDOUT in place of 0 (POSIX, pthread_cond_wait, pthread_cond_timedwait, pthread_cond_signal and
 /// pthread_cond_broadcast; futex(2), FUTEX_WAIT_REQUEUE_PI and FUTEX_CMP_REQUEUE_PI). Whoever owns a mutex after the
 /// step and did not before holds it once: the thread, the next waiter, or a thread that was parked.
+#[inline(never)]
 pub fn advance<K: PiKernel + Drop>(parts: &mut Parts<K>, t: Tid) -> Progress
     requires living { is_living parts.old.kernel t ≡ true }
     requires call { is_of_conditions (line_at parts.old t) ≡ true }
