@@ -12,7 +12,7 @@ ghost use Rattle.pif_model.specs.Calls.{add_thread_answer, add_thread_after, add
 ghost use Rattle.pif_mutex.specs.Outcomes.{outcome_of};
 
 use pif_kernel::LinkedKernel;
-use pif_model::{Entry, Event, Line, Seen};
+use pif_model::{Entry, Event, Line, Seen, Status};
 use pif_mutex::{Parts, Progress};
 use pif_types::{
     AddFault, CondId, Health, Kind, Limits, MutexId, NoMemory, Prio, Refusal, Request, Tid,
@@ -275,17 +275,16 @@ impl Core {
         if !self.has_thread(thread) {
             return Some(Refusal::NoSuch);
         }
-        if self.parts.is_living(thread) {
-            None
-        } else {
-            Some(Refusal::Dead)
+        match self.parts.status(thread) {
+            Status::Ended => Some(Refusal::Dead),
+            Status::Ready(_) | Status::Queued(_) | Status::Parked(_) | Status::Stopped => None,
         }
     }
 
     /// Why a Begin is refused, if it is: the thread was never added, has ended, has a call open, or names a mutex or a
     /// condition variable that was never added.
-    fn begin_refusal(&self, thread: Tid, request: Request) -> Option<Refusal>
-        ensures { result ≡ table_refusal self.now (Event.Begin thread request) }
+    fn begin_refusal(&self, thread: Tid, request: &Request) -> Option<Refusal>
+        ensures { result ≡ table_refusal self.now (Event.Begin thread request.now) }
     {
         if let Some(refusal) = self.thread_refusal(thread) {
             return Some(refusal);
@@ -293,7 +292,7 @@ impl Core {
         if self.parts.is_open(thread) {
             return Some(Refusal::Busy);
         }
-        if self.knows_names(request) {
+        if self.knows_names(*request) {
             None
         } else {
             Some(Refusal::NoSuch)
@@ -325,41 +324,71 @@ impl Core {
         }
     }
 
-    /// Why an event is refused, if it is.
-    fn refusal(&self, event: &Event) -> Option<Refusal>
-        ensures { result ≡ table_refusal self.now event.now }
-    {
-        match *event {
-            Event::Begin(thread, request) => self.begin_refusal(thread, request),
-            Event::Go(thread) => self.go_refusal(thread),
-            Event::End(thread) => self.thread_refusal(thread),
-            Event::Tick(time) => self.tick_refusal(time),
-        }
-    }
-
     /// One event.
-    #[tactic(auto, unfolding(pif_model::specs::Lines::event_outcome))]
+    #[inline(always)]
     fn turn(&mut self, event: Event) -> Seen
         ensures seen { result ≡ (event_outcome event self.old).seen }
         ensures after { self.new ≡ (event_outcome event self.old).after }
     {
-        match self.refusal(&event) {
-            Some(refusal) => Seen::Refused(refusal),
-            None => self.accept(event),
+        match event {
+            Event::Begin(thread, request) => self.begin_turn(thread, request),
+            Event::Go(thread) => self.go_turn(thread),
+            Event::End(thread) => self.end_turn(thread),
+            Event::Tick(time) => self.tick_turn(time),
         }
     }
 
-    /// One event that is not refused.
-    fn accept(&mut self, event: Event) -> Seen
-        requires { table_refusal self.old event ≡ None }
-        ensures seen { result ≡ (accepted_outcome event self.old).seen }
-        ensures after { self.new ≡ (accepted_outcome event self.old).after }
+    /// A thread begins a call.
+    #[inline(always)]
+    #[tactic(auto, unfolding(pif_model::specs::Lines::event_outcome))]
+    fn begin_turn(&mut self, thread: Tid, request: Request) -> Seen
+        ensures seen { result ≡ (event_outcome (Event.Begin thread request) self.old).seen }
+        ensures after { self.new ≡ (event_outcome (Event.Begin thread request) self.old).after }
     {
-        match event {
-            Event::Begin(thread, request) => self.begin(thread, request),
-            Event::Go(thread) => self.go(thread),
-            Event::End(thread) => self.end(thread),
-            Event::Tick(time) => self.tick(time),
+        match self.begin_refusal(thread, &request) {
+            Some(refusal) => Seen::Refused(refusal),
+            None => self.begin(thread, request),
+        }
+    }
+
+    /// A thread takes one step of its open call.
+    #[inline(always)]
+    #[tactic(auto, unfolding(pif_model::specs::Lines::event_outcome))]
+    fn go_turn(&mut self, thread: Tid) -> Seen
+        ensures seen { result ≡ (event_outcome (Event.Go thread) self.old).seen }
+        ensures after { self.new ≡ (event_outcome (Event.Go thread) self.old).after }
+    {
+        match self.go_refusal(thread) {
+            Some(refusal) => Seen::Refused(refusal),
+            None => self.go(thread),
+        }
+    }
+
+    /// A thread ends.
+    #[cold]
+    #[inline(never)]
+    #[tactic(auto, unfolding(pif_model::specs::Lines::event_outcome))]
+    fn end_turn(&mut self, thread: Tid) -> Seen
+        ensures seen { result ≡ (event_outcome (Event.End thread) self.old).seen }
+        ensures after { self.new ≡ (event_outcome (Event.End thread) self.old).after }
+    {
+        match self.thread_refusal(thread) {
+            Some(refusal) => Seen::Refused(refusal),
+            None => self.end(thread),
+        }
+    }
+
+    /// A time is handed in.
+    #[cold]
+    #[inline(never)]
+    #[tactic(auto, unfolding(pif_model::specs::Lines::event_outcome))]
+    fn tick_turn(&mut self, time: u32) -> Seen
+        ensures seen { result ≡ (event_outcome (Event.Tick time) self.old).seen }
+        ensures after { self.new ≡ (event_outcome (Event.Tick time) self.old).after }
+    {
+        match self.tick_refusal(time) {
+            Some(refusal) => Seen::Refused(refusal),
+            None => self.tick(time),
         }
     }
 
