@@ -15,7 +15,7 @@ use std::rt::Clock;
 pub const NAMES: &str =
     "plist_equal\nplist_distinct\nnew_core\nhand_over\nlast_lock_10\nlast_lock_100\nlast_lock_1000\n\
     setprio_10\nsetprio_100\nsetprio_1000\nstalled_pair\nrobust_pair\n\
-    end_10\nend_100\nend_1000\nend_contended_10\nend_contended_100\nend_contended_1000\nwait_and_signal\n\
+    end_1\nend_10\nend_100\nend_1000\nend_contended_10\nend_contended_100\nend_contended_1000\nwait_and_signal\n\
     broadcast_free_10\nbroadcast_free_100\nbroadcast_free_1000\n\
     broadcast_held_10\nbroadcast_held_100\nbroadcast_held_1000\n";
 
@@ -57,6 +57,7 @@ pub fn layer_of(name: &str) -> Option<Layer> {
         "setprio_1000" => Some(Layer::SetPrio(1000)),
         "stalled_pair" => Some(Layer::Pair(false)),
         "robust_pair" => Some(Layer::Pair(true)),
+        "end_1" => Some(Layer::End(1, false)),
         "end_10" => Some(Layer::End(10, false)),
         "end_100" => Some(Layer::End(100, false)),
         "end_1000" => Some(Layer::End(1000, false)),

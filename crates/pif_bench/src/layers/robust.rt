@@ -28,18 +28,25 @@ fn time_pairs(rt: &impl Clock, core: &mut Core) -> io::Result<u64> {
     Ok(each(start.elapsed(rt)?, PAIRS))
 }
 
-/// A thread that holds so many robust mutexes, at most 1,000, ends; where they are contended another thread waits for each
-/// of them. Answers how many nanoseconds its end took.
+/// How many ends are measured where nobody waits.
+const ENDS: u32 = 100;
+
+/// A thread that holds so many robust mutexes, at most 1,000, ends. If they are contended another thread waits for each
+/// of them, and this answers how many nanoseconds that one end took. Else a hundred threads end, one after another, and
+/// it answers what each took.
 pub fn end(rt: &(impl Clock + AllocGlobal), held: u32, contended: bool) -> io::Result<u64> {
-    let threads = if contended { held.saturating_add(1) } else { 1 };
-    let mut core = core_of(rt, threads, held, 1, true)?;
-    time_end(rt, &mut core, held, contended)
+    if contended {
+        let mut core = core_of(rt, held.saturating_add(1), held, 1, true)?;
+        return time_end(rt, &mut core, held);
+    }
+    let mut core = core_of(rt, ENDS, held, 1, true)?;
+    time_ends(rt, &mut core, held)
 }
 
-/// Thread 1 of a core takes so many mutexes, and ends.
-fn time_end(rt: &impl Clock, core: &mut Core, held: u32, contended: bool) -> io::Result<u64> {
+/// Thread 1 of a core takes so many mutexes, for each of which another thread waits, and ends.
+fn time_end(rt: &impl Clock, core: &mut Core, held: u32) -> io::Result<u64> {
     for number in 1..=held {
-        take(core, number, contended).ok_or(io::ErrorKind::InvalidInput)?;
+        contend(core, number).ok_or(io::ErrorKind::InvalidInput)?;
     }
     let holder = Tid::new(1).ok_or(io::ErrorKind::InvalidInput)?;
     let start = Instant::now(rt)?;
@@ -47,17 +54,32 @@ fn time_end(rt: &impl Clock, core: &mut Core, held: u32, contended: bool) -> io:
     Ok(each(start.elapsed(rt)?, 1))
 }
 
-/// Thread 1 locks the mutex of this number, and where that is contended the thread behind that number waits for it.
-/// `None` where a number is 0.
-fn take(core: &mut Core, number: u32, contended: bool) -> Option<()> {
+/// Each thread of a core takes so many mutexes, which the one before it left behind, and ends.
+fn time_ends(rt: &impl Clock, core: &mut Core, held: u32) -> io::Result<u64> {
+    let mut spent = 0_u64;
+    for number in 1..=ENDS {
+        let holder = Tid::new(number).ok_or(io::ErrorKind::InvalidInput)?;
+        take_all(core, holder, held).ok_or(io::ErrorKind::InvalidInput)?;
+        let start = Instant::now(rt)?;
+        core.step(Event::End(holder));
+        spent = spent.saturating_add(each(start.elapsed(rt)?, 1));
+    }
+    Ok(spent / u64::from(ENDS))
+}
+
+/// A thread locks the mutexes from 1 to this number. `None` where a number is 0.
+fn take_all(core: &mut Core, holder: Tid, held: u32) -> Option<()> {
+    for number in 1..=held {
+        call(core, holder, Request::Lock(MutexId::new(number)?));
+    }
+    Some(())
+}
+
+/// Thread 1 locks the mutex of this number, and the thread behind that number waits for it. `None` where a number is 0.
+fn contend(core: &mut Core, number: u32) -> Option<()> {
     let mutex = MutexId::new(number)?;
     call(core, Tid::new(1)?, Request::Lock(mutex));
-    if contended {
-        call(
-            core,
-            Tid::new(number.saturating_add(1))?,
-            Request::Lock(mutex),
-        );
-    }
+    let waiter = Tid::new(number.saturating_add(1))?;
+    call(core, waiter, Request::Lock(mutex));
     Some(())
 }
