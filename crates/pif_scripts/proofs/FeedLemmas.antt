@@ -1,11 +1,11 @@
 -- Bytes that are read one after the other, of whose answers a front is written.
-use Rattle.std.proofs.Common.{◌≡◌, ℕ, List, [], ◌∷◌, ◌++◌, true, Option, Result, Ok, Err, refl, sym, ap, ◌∙◌, subst, append_assoc, append-nil}
+use Rattle.std.proofs.Common.{◌≡◌, ℕ, List, [], ◌∷◌, ◌++◌, true, Option, Result, Ok, Err, refl, sym, ap, ◌∙◌, subst, append_assoc, append-nil, drop, take, take-append-drop}
 use Rattle.std.proofs.KnownBytes.{Appends-nil, Appends-trans, Keeps-refl}
 use Rattle.std.specs.Io.KnownBytes.{Appends, Consumes}
 use Rattle.pif_scripts.specs.declared.faults.CliFault.{CliFault}
 use Rattle.pif_scripts.specs.declared.faults.CliFault.TheVariants.{Read, Write, NoMemory, Script, Differs}
 use Rattle.pif_scripts.specs.declared.reading.ending.End.{End}
-use Rattle.pif_scripts.specs.Scripts.{Hearing, Scan, reading_of, Takes}
+use Rattle.pif_scripts.specs.Scripts.{Hearing, Scan, reading_of, Takes, TakesSome}
 use Rattle.pif_scripts.specs.declared.reading.ending.Stop.TheVariants.{Ended, NoMemory as StopNoMemory}
 use Rattle.pif_scripts.specs.Runs.{EndsAfter, Feeds, Flushes, RunsFrom, Turns, Stops, Writes, WritesPart, output_of}
 use Rattle.pif_scripts.proofs.ScriptLemmas.{reading_of-append, reading_of-err, reading_of-nil, reading_of-ok, reading_of-unheard}
@@ -67,6 +67,23 @@ module _ {S : Type 0} (hearing : Hearing S) where
             ∙ ap (λ l. f.done ++ (out ++ l)) last ∙ ap (λ l. f.done ++ l) (sym k.2);
       }
 
+  -- some of the rest were read
+  pub Feeding-some : (s : Scan S) (bs : List ℕ) (held : Option (List ℕ)) (t : Scan S) (rest out new : List ℕ)
+      (holds : Option (List ℕ)) (u : Scan S) (n : ℕ) → Feeding s bs held t rest out holds
+      → TakesSome hearing t rest out new u (Ok n) → Feeding s bs held u (drop n rest) new holds
+  Feeding-some s bs held t rest out new holds u n f k =
+      let more = reading_of-append hearing f.front (take n rest) s t f.stands in
+      record {
+        front = f.front ++ take n rest;
+        split = f.split ∙ ap (λ l. f.front ++ l) (sym (take-append-drop n rest))
+            ∙ sym (append_assoc f.front (take n rest) (drop n rest));
+        stands = more.1 ∙ k.0;
+        done = f.done;
+        written = f.written;
+        told = more.0 ∙ ap (λ l. l ++ (reading_of hearing t (take n rest)).text) f.told
+            ∙ append_assoc f.done out (reading_of hearing t (take n rest)).text ∙ ap (λ l. f.done ++ l) (sym k.1);
+      }
+
   -- not all of the output was written
   pub Feeding-unwritten : (s : Scan S) (bs : List ℕ) (held : Option (List ℕ)) (t : Scan S) (rest out : List ℕ)
       (holds k after : Option (List ℕ)) (e : CliFault) → Feeding s bs held t rest out holds
@@ -123,6 +140,45 @@ module _ {S : Type 0} (hearing : Hearing S) where
       let none = front-nil f.done out (sym f.told ∙ quiet.1) in
       λ after. (
         (f.front, t, b, rest, f.split, f.stands, w.0),
+        Appends-kept_before held holds holds [] (subst (λ l. Appends held holds l) none f.written) (Keeps-refl holds),
+      )
+
+  -- one of the rest ended the script
+  pub Feeds-stopped : (s : Scan S) (bs : List ℕ) (held : Option (List ℕ)) (t : Scan S) (rest out new : List ℕ)
+      (holds k : Option (List ℕ)) (u v : Scan S) (x : End) (e : CliFault) → Feeding s bs held t rest out holds
+      → TakesSome hearing t rest out new u (Err (Ended x)) → Stops holds k new (hearing.said_of x) x e
+      → Feeds hearing s bs v held k (Err e)
+  Feeds-stopped s bs held t rest out new holds k u v x e f w stop =
+      let more = reading_of-append hearing f.front rest s t f.stands in
+      let text : (reading_of hearing s bs).text ≡ f.done ++ new =
+      ap (λ l. (reading_of hearing s l).text) f.split ∙ more.0
+      ∙ ap (λ l. l ++ (reading_of hearing t rest).text) f.told
+      ∙ append_assoc f.done out (reading_of hearing t rest).text ∙ ap (λ l. f.done ++ l) (sym w.1) in
+      λ after. EndsAfter-stopped hearing s bs after held k x e
+      (ap (λ l. (reading_of hearing s l).stands) f.split ∙ more.1 ∙ w.0)
+      (subst (λ l. Stops held k l (hearing.said_of x) x e) (sym text)
+      (Stops-after f.done new (hearing.said_of x) held holds k x e f.written stop))
+
+  -- one of the rest ends a line that needs a listener for which there is no memory
+  pub Feeds-unheard : (s : Scan S) (bs : List ℕ) (held : Option (List ℕ)) (t : Scan S) (rest out new : List ℕ)
+      (holds : Option (List ℕ)) (u v : Scan S) → Feeding s bs held t rest out holds
+      → TakesSome hearing t rest out new u (Err StopNoMemory) → Feeds hearing s bs v held holds (Err NoMemory)
+  Feeds-unheard s bs held t rest out new holds u v f w =
+      let n = w.0 in
+      let more = reading_of-append hearing f.front n.0 s t f.stands in
+      let before = reading_of-unheard hearing n.0 t n.1 n.5 n.6.0 in
+      let quiet = reading_of-unheard hearing f.front s t f.stands before.0 in
+      let none = front-nil f.done out (sym f.told ∙ quiet.1) in
+      λ after. (
+        (
+          f.front ++ n.0,
+          n.1,
+          n.2,
+          n.3,
+          f.split ∙ ap (λ l. f.front ++ l) n.4 ∙ sym (append_assoc f.front n.0 (n.2 ∷ n.3)),
+          more.1 ∙ n.5,
+          n.6,
+        ),
         Appends-kept_before held holds holds [] (subst (λ l. Appends held holds l) none f.written) (Keeps-refl holds),
       )
 

@@ -6,6 +6,7 @@ pub mod AgainLemmas
 pub mod EntryLemmas
 pub mod FeedLemmas
 pub mod RunLemmas
+pub mod LineLemmas
 pub mod ScriptLemmas
 pub mod SilenceLemmas
 pub mod TracingLemmas

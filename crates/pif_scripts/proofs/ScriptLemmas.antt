@@ -1,5 +1,5 @@
 -- What one byte does, and bytes one after the other.
-use Rattle.std.proofs.Common.{◌≡◌, ℕ, ◌+◌, ◌<◌, ◌≤◌, Bool, true, false, cond, List, [], ◌∷◌, ◌++◌, length, Option, Some, None, Result, Ok, Err, ◌⊎◌, inl, inr, refl, sym, ap, ◌∙◌, subst, append_assoc, append-nil, arith}
+use Rattle.std.proofs.Common.{◌≡◌, ℕ, ◌+◌, ◌<◌, ◌≤◌, Bool, true, false, cond, List, [], ◌∷◌, ◌++◌, length, Option, Some, None, Result, Ok, Err, ◌⊎◌, inl, inr, refl, sym, ap, ◌∙◌, append_assoc, arith}
 use Rattle.std.proofs.lemmas.Bool.Decides.{nat_tests}
 use Rattle.pif_text.specs.declared.replies.Cause.TheVariants.{Size, Long}
 use Rattle.pif_text.specs.declared.traces.Version.{Version}
@@ -7,7 +7,7 @@ use Rattle.pif_scripts.specs.declared.reading.ending.Ending.TheVariants.{Fault}
 use Rattle.pif_scripts.specs.declared.reading.ending.End.{End}
 use Rattle.pif_scripts.specs.declared.reading.ending.Stop.{Stop}
 use Rattle.pif_scripts.specs.declared.reading.ending.Stop.TheVariants.{Ended, NoMemory}
-use Rattle.pif_scripts.specs.Scripts.{Hearing, FirstMeaning, Meaning, Answered, Scan, byte_taken, reading_of, line_answer, answered_by, answered_first, answered_later, after_line, version_after, end_at, with_byte, Opens, Hears, Takes, Answers}
+use Rattle.pif_scripts.specs.Scripts.{Hearing, FirstMeaning, Meaning, Answered, Scan, byte_taken, reading_of, line_answer, answered_by, answered_first, answered_later, after_line, version_after, end_at, with_byte, Takes, Answers}
 
 -- an outcome is one of the two
 pub by_cases : {A E : Type 0} (r : Result A E) → ((x : A) × (r ≡ Ok x)) ⊎ ((e : E) × (r ≡ Err e))
@@ -83,48 +83,27 @@ module _ {S : Type 0} (hearing : Hearing S) where
   byte_taken-unheard s b r e n =
       unheard-by _ _ _ s b (line_answer hearing s) _ _ r (answered-unheard s.listener s.version s.line) e n
 
-  -- a line was passed over, or made a listener
-  opened-answers : (version : Option Version) (line old new : List ℕ) (o : Option S)
-      → Opens (hearing.first_meaning version line) old new (Ok o)
-      → (m : List ℕ × Option S) × (answered_by hearing None version line ≡ Ok m) × (new ≡ old ++ m.0) × (o ≡ m.1)
-  opened-answers version line old new (Some l) p = ((p.0, Some l), ap answered_first p.1, p.2, refl)
-  opened-answers version line old new None p = (([], None), ap answered_first p.0, p.1 ∙ sym (append-nil old), refl)
-
-  pub Answers-opened : (s : Scan S) (shown old new : List ℕ) (o : Option S) → s.listener ≡ None → shown ≡ s.line
-      → Opens (hearing.first_meaning s.version shown) old new (Ok o)
-      → Answers hearing s old new (record s { listener = o }) (Ok tt)
-  Answers-opened s shown old new o e f p =
-      let a = opened-answers s.version s.line old new o
-      (subst (λ l. Opens (hearing.first_meaning s.version l) old new (Ok o)) f p) in
-      (a.0, rw e a.1, a.2, λ i. record s { listener = a.3 i })
-
-  -- a listener heard a line
-  pub Answers-heard : (s : Scan S) (shown old new : List ℕ) (l m : S) → s.listener ≡ Some l → shown ≡ s.line
-      → Hears (hearing.meaning l shown) old new m (Ok tt)
-      → Answers hearing s old new (record s { listener = Some m })
-      (Ok tt)
-  Answers-heard s shown old new l m e f p = ((p.0, Some m), rw (e, ← f) (ap answered_later p.1), p.2, refl)
-
   -- an LF whose line was answered
-  pub byte_taken-answered : (s : Scan S) (b : ℕ) (m : List ℕ × Option S) (t : Scan S) (v : Option Version) (l : List ℕ)
+  pub byte_taken-answered : (s : Scan S) (b : ℕ) (text : List ℕ) (m : Option S) (v : Option Version) (l : List ℕ)
       → s.taken < 16777216
-      → b ≡ 10 → line_answer hearing s ≡ Ok m
-      → t ≡ record s { listener = m.1 } → v ≡ version_after t → l ≡ []
+      → b ≡ 10 → line_answer hearing s ≡ Ok (text, m)
+      → v ≡ version_after s → l ≡ []
       → byte_taken hearing s b ≡ Ok (
-        m.0,
-        record { listener = t.listener; version = v; line = l; number = t.number + 1; taken = t.taken + 1 },
+        text,
+        record { listener = m; version = v; line = l; number = s.number + 1; taken = s.taken + 1 },
       )
-  byte_taken-answered s b m t v l h e a u w n = rw (w, u, n) (byte_taken-end s b h e ∙ ap (after_line s) a)
+  byte_taken-answered s b text m v l h e a w n = rw (w, n) (byte_taken-end s b h e ∙ ap (after_line s) a)
 
   same-end : (f : End) (s : Scan S) → f.line ≡ s.number → ◌≡◌ {A = End} (end_at s f.ending) f
   same-end f s e = λ i. record { line = (sym e) i; ending = f.ending }
 
   -- an LF whose line was not
-  pub Takes-from_answer : (s : Scan S) (b : ℕ) (old new : List ℕ) (t : Scan S) (y : Stop) → s.taken < 16777216 → b ≡ 10
-      → Answers hearing s old new t (Err y) → Takes hearing s b old new t (Err y)
-  Takes-from_answer s b old new t (Ended f) h e a =
+  pub Takes-from_answer : (s : Scan S) (b : ℕ) (old new : List ℕ) (t : Scan S) (m : Option S) (y : Stop)
+      → s.taken < 16777216 → b ≡ 10
+      → Answers hearing s.listener s.version s.line s.number old new m (Err y) → Takes hearing s b old new t (Err y)
+  Takes-from_answer s b old new t m (Ended f) h e a =
       (byte_taken-end s b h e ∙ ap (after_line s) a.0 ∙ ap Err (same-end f s a.1), a.2)
-  Takes-from_answer s b old new t NoMemory h e a = ((a.0, a.1, e, h), a.2)
+  Takes-from_answer s b old new t m NoMemory h e a = ((a.0, a.1, e, h), a.2)
 
   pub reading_of-ok : (s : Scan S) (b : ℕ) (bs : List ℕ) (r : List ℕ × Scan S) → byte_taken hearing s b ≡ Ok r
       → ((reading_of hearing s (b ∷ bs)).text ≡ r.0 ++ (reading_of hearing r.1 bs).text)

@@ -1,5 +1,5 @@
 -- Scripts and traces as bytes: their lines, the answers to them, and how they end.
-use Rattle.std.specs.Prelude.{ℕ, ◌≡◌, ◌<◌, ◌+◌, ◌==◌, nat_lt, List, [], ◌∷◌, ◌++◌, length, Option, Some, None, Result, Ok, Err, if◌then◌else◌}
+use Rattle.std.specs.Prelude.{ℕ, ◌≡◌, ◌<◌, ◌+◌, ◌==◌, nat_lt, List, [], ◌∷◌, ◌++◌, length, take, Option, Some, None, Result, Ok, Err, if◌then◌else◌}
 use Rattle.pif_text.specs.declared.replies.Cause.{Cause}
 use Rattle.pif_text.specs.declared.replies.Cause.TheVariants.{Size, Long, Cut}
 use Rattle.pif_text.specs.declared.traces.Version.{Version}
@@ -152,14 +152,15 @@ abbrev pub ended_by : {S : Type 0} → Hearing S → Result (Scan S) End → Res
 ended_by h (Err e) = Err e
 ended_by h (Ok s) = closed_at h s
 
--- the line was answered so, and the script stands at t, with the line's bytes still there
-abbrev pub Answers : {S : Type 0} → Hearing S → Scan S → (old new : List ℕ) → Scan S → Result (Unit {0}) Stop → Type 0
-Answers {S = S} h s old new t (Ok x) =
-    (m : List ℕ × Option S) × (line_answer h s ≡ Ok m) × (new ≡ old ++ m.0)
-    × (t ≡ record s { listener = m.1 })
-Answers h s old new t (Err (StopEnded e)) = (line_answer h s ≡ Err e.ending) × (e.line ≡ s.number) × (new ≡ old)
-Answers h s old new t (Err StopNoMemory) =
-    (s.listener ≡ None) × NeedsListener (h.first_meaning s.version s.line) × (new ≡ old)
+-- a line of this number was answered so by this listener, or by nobody, and m answers the next
+abbrev pub Answers : {S : Type 0} → Hearing S → Option S → Option Version → (line : List ℕ) → ℕ → (old new : List ℕ)
+    → Option S → Result (Unit {0}) Stop → Type 0
+Answers h l version line number old new m (Ok x) =
+    (text : List ℕ) × (answered_by h l version line ≡ Ok (text, m)) × (new ≡ old ++ text)
+Answers h l version line number old new m (Err (StopEnded e)) =
+    (answered_by h l version line ≡ Err e.ending) × (e.line ≡ number) × (new ≡ old)
+Answers h l version line number old new m (Err StopNoMemory) =
+    (l ≡ None) × NeedsListener (h.first_meaning version line) × (new ≡ old)
 
 -- this byte ends a line that needs a listener, where there is none
 abbrev pub NeedsAt : {S : Type 0} → Hearing S → Scan S → ℕ → Type 0
@@ -176,3 +177,17 @@ abbrev pub Takes : {S : Type 0} → Hearing S → Scan S → ℕ → (old new : 
 Takes h s b old new t (Ok x) = (text : List ℕ) × (byte_taken h s b ≡ Ok (text, t)) × (new ≡ old ++ text)
 Takes h s b old new t (Err (StopEnded e)) = (byte_taken h s b ≡ Err e) × (new ≡ old)
 Takes h s b old new t (Err StopNoMemory) = NeedsAt h s b × (new ≡ old)
+
+-- bytes were answered so, all of them, and left the script at t
+abbrev pub TakesAll : {S : Type 0} → Hearing S → Scan S → List ℕ → (old new : List ℕ) → Scan S → Result (Unit {0}) Stop
+    → Type 0
+TakesAll h s bs old new t (Ok x) =
+    ((reading_of h s bs).stands ≡ Ok t) × (new ≡ old ++ (reading_of h s bs).text)
+TakesAll h s bs old new t (Err (StopEnded e)) =
+    ((reading_of h s bs).stands ≡ Err e) × (new ≡ old ++ (reading_of h s bs).text)
+TakesAll h s bs old new t (Err StopNoMemory) = NeedsIn h s bs × (new ≡ old)
+
+-- so many of these bytes were answered so, and left the script at t; or one of them ended it
+abbrev pub TakesSome : {S : Type 0} → Hearing S → Scan S → List ℕ → (old new : List ℕ) → Scan S → Result ℕ Stop → Type 0
+TakesSome h s bs old new t (Ok count) = TakesAll h s (take count bs) old new t (Ok tt)
+TakesSome h s bs old new t (Err e) = TakesAll h s bs old new t (Err e)

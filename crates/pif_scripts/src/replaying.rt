@@ -5,9 +5,10 @@ ghost use Rattle.pif_scripts.specs.Traces.{Replay, traced_in, trace_hearing};
 
 use crate::reading::{End, Ending, Listener, OpenFault, Output, append, append_end};
 use crate::running::{obey, open_core};
+use arrayvec::ArrayVec;
 use pif_core::Core;
 use pif_text::{
-    Cause, Command, Reply, Text, Version, command_of, if_traced, reply_text, same_text,
+    Cause, Command, REPLY_ROOM, Reply, Text, Version, command_of, if_traced, reply_text, same_text,
     split_answer, version_of,
 };
 use std::alloc::Global;
@@ -60,7 +61,7 @@ fn compare(reply: Reply, recorded: &[u8]) -> Result<(), Ending>
     ensures { result ≡ (if bytes_eq (text_of reply) recorded.now then Ok tt else Err (Ending.Differs reply)) }
 {
     let given = reply;
-    let mut text = Text::new();
+    let mut text = ArrayVec::<u8, REPLY_ROOM>::new();
     reply_text(reply, &mut text);
     if text.as_slice() == recorded {
         Ok(())

@@ -7,12 +7,11 @@ ghost use Rattle.pif_text.specs.Replies.{text_of};
 ghost use Rattle.pif_scripts.specs.Running.{added_thread, added_mutex, added_cond, addition_answer, addition_after, fact_or_none, was_added, priority_fact, question_answer, run_outcome, command_answer, default_limits, script, first_answer, limited_answer, answer_or_fault, IsAnswer, Makes};
 
 use crate::reading::{
-    ANSWER_ROOM, End, Ending, Listener, OUTPUT_ROOM, OpenFault, Output, REPLY_ROOM, append,
-    append_end,
+    ANSWER_ROOM, End, Ending, Listener, OUTPUT_ROOM, OpenFault, Output, REPLY_ROOM, append_end,
 };
 use pif_core::{Core, Seen};
 use pif_text::{
-    Added, Addition, Cause, Command, Fact, Question, Reply, Text, Version, command_of, reply_text,
+    Added, Addition, Cause, Command, Fact, Question, Reply, Version, command_of, reply_text,
 };
 use pif_types::{AddFault, CondId, Health, Limits, MutexId, Prio, Request, Tid};
 use pif_uses::{call, finish};
@@ -148,9 +147,7 @@ fn tell(reply: Reply, output: &mut Output)
     ensures told { output.new.items ≡ output.old.items ++ (text_of reply ++ 10 ∷ []) }
     ensures room { array_vec_len output.new ≤ array_vec_len output.old + REPLY_ROOM }
 {
-    let mut text = Text::new();
-    reply_text(reply, &mut text);
-    append(output, text.as_slice());
+    reply_text(reply, output);
     output.push(b'\n');
 }
 

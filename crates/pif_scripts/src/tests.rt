@@ -2,6 +2,7 @@ mod chains;
 mod conditions;
 mod deadlines;
 mod deaths;
+mod edges;
 mod kinds;
 mod limits;
 mod long_chains;

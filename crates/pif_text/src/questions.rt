@@ -3,6 +3,7 @@ ghost use Rattle.arrayvec.specs.ArrayVec.{array_vec_len};
 ghost use Rattle.pif_text.specs.Questions.{question_in_one, question_in_two, question_text};
 
 use crate::numbers::{cond_of, mutex_of, thread_of};
+use crate::words::is_word;
 use crate::writing::{append, append_cond, append_mutex, append_thread};
 use crate::{TEXT_ROOM, Text};
 use pif_types::{CondId, MutexId, Tid};
@@ -27,7 +28,7 @@ pub enum Question {
 pub fn question_of_one(name: &[u8]) -> Option<Question>
     ensures { result ≡ question_in_one name.now }
 {
-    if name == b"pick".as_slice() {
+    if is_word(name, b"pick") {
         Some(Question::Pick)
     } else {
         None
@@ -39,13 +40,13 @@ pub fn question_of_one(name: &[u8]) -> Option<Question>
 pub fn question_of_two(name: &[u8], word: &[u8]) -> Option<Question>
     ensures { result ≡ question_in_two name.now word.now }
 {
-    if name == b"word".as_slice() {
+    if is_word(name, b"word") {
         Some(Question::Word(mutex_of(word)?))
-    } else if name == b"prio".as_slice() {
+    } else if is_word(name, b"prio") {
         Some(Question::Prio(thread_of(word)?))
-    } else if name == b"health".as_slice() {
+    } else if is_word(name, b"health") {
         Some(Question::Health(mutex_of(word)?))
-    } else if name == b"condword".as_slice() {
+    } else if is_word(name, b"condword") {
         Some(Question::CondWord(cond_of(word)?))
     } else {
         None

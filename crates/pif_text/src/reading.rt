@@ -4,7 +4,7 @@ ghost use Rattle.pif_text.specs.Commands.{kind_in, request_in, request_in_three,
 
 use crate::numbers::{cond_of, mutex_of, number_of, thread_of};
 use crate::questions::{question_of_one, question_of_two};
-use crate::words::split_first;
+use crate::words::{is_word, split_first};
 use crate::{Addition, Command};
 use pif_model::Event;
 use pif_types::{Kind, Request};
@@ -14,11 +14,11 @@ use pif_types::{Kind, Request};
 fn kind_of(word: &[u8]) -> Option<Kind>
     ensures { result ≡ kind_in word.now }
 {
-    if word == b"normal".as_slice() || word == b"default".as_slice() {
+    if is_word(word, b"normal") || is_word(word, b"default") {
         Some(Kind::Normal)
-    } else if word == b"errorcheck".as_slice() {
+    } else if is_word(word, b"errorcheck") {
         Some(Kind::ErrorCheck)
-    } else if word == b"recursive".as_slice() {
+    } else if is_word(word, b"recursive") {
         Some(Kind::Recursive)
     } else {
         None
@@ -30,17 +30,17 @@ fn kind_of(word: &[u8]) -> Option<Kind>
 fn request_of(call: &[u8], word: &[u8]) -> Option<Request>
     ensures { result ≡ request_in call.now word.now }
 {
-    if call == b"lock".as_slice() {
+    if is_word(call, b"lock") {
         Some(Request::Lock(mutex_of(word)?))
-    } else if call == b"trylock".as_slice() {
+    } else if is_word(call, b"trylock") {
         Some(Request::TryLock(mutex_of(word)?))
-    } else if call == b"unlock".as_slice() {
+    } else if is_word(call, b"unlock") {
         Some(Request::Unlock(mutex_of(word)?))
-    } else if call == b"consistent".as_slice() {
+    } else if is_word(call, b"consistent") {
         Some(Request::Consistent(mutex_of(word)?))
-    } else if call == b"signal".as_slice() {
+    } else if is_word(call, b"signal") {
         Some(Request::Signal(cond_of(word)?))
-    } else if call == b"broadcast".as_slice() {
+    } else if is_word(call, b"broadcast") {
         Some(Request::Broadcast(cond_of(word)?))
     } else {
         None
@@ -52,11 +52,11 @@ fn request_of(call: &[u8], word: &[u8]) -> Option<Request>
 fn request_of_three(call: &[u8], first: &[u8], second: &[u8]) -> Option<Request>
     ensures { result ≡ request_in_three call.now first.now second.now }
 {
-    if call == b"setprio".as_slice() {
+    if is_word(call, b"setprio") {
         Some(Request::SetPrio(thread_of(first)?, number_of(second)?))
-    } else if call == b"wait".as_slice() {
+    } else if is_word(call, b"wait") {
         Some(Request::Wait(cond_of(first)?, mutex_of(second)?))
-    } else if call == b"timedlock".as_slice() {
+    } else if is_word(call, b"timedlock") {
         Some(Request::TimedLock(mutex_of(first)?, number_of(second)?))
     } else {
         None
@@ -68,7 +68,7 @@ fn request_of_three(call: &[u8], first: &[u8], second: &[u8]) -> Option<Request>
 fn request_of_four(call: &[u8], first: &[u8], second: &[u8], third: &[u8]) -> Option<Request>
     ensures { result ≡ request_in_four call.now first.now second.now third.now }
 {
-    if call == b"timedwait".as_slice() {
+    if is_word(call, b"timedwait") {
         Some(Request::TimedWait(cond_of(first)?, mutex_of(second)?, number_of(third)?))
     } else {
         None
@@ -88,19 +88,19 @@ fn of_one(name: &[u8]) -> Option<Command>
 fn of_two(name: &[u8], word: &[u8]) -> Option<Command>
     ensures { result ≡ command_of_two name.now word.now }
 {
-    if name == b"go".as_slice() {
+    if is_word(name, b"go") {
         Some(Command::Event(Event::Go(thread_of(word)?)))
-    } else if name == b"finish".as_slice() {
+    } else if is_word(name, b"finish") {
         Some(Command::Run(thread_of(word)?, None))
-    } else if name == b"end".as_slice() {
+    } else if is_word(name, b"end") {
         Some(Command::Event(Event::End(thread_of(word)?)))
-    } else if name == b"tick".as_slice() {
+    } else if is_word(name, b"tick") {
         Some(Command::Event(Event::Tick(number_of(word)?)))
-    } else if name == b"thread".as_slice() {
+    } else if is_word(name, b"thread") {
         Some(Command::Add(Addition::Thread(number_of(word)?)))
-    } else if name == b"mutex".as_slice() {
+    } else if is_word(name, b"mutex") {
         Some(Command::Add(Addition::Mutex(kind_of(word)?, false)))
-    } else if name == b"cond".as_slice() {
+    } else if is_word(name, b"cond") {
         Some(Command::Add(Addition::Cond(mutex_of(word)?)))
     } else {
         Some(Command::Ask(question_of_two(name, word)?))
@@ -112,7 +112,7 @@ fn of_two(name: &[u8], word: &[u8]) -> Option<Command>
 fn of_three(name: &[u8], kind: &[u8], last: &[u8]) -> Option<Command>
     ensures { result ≡ command_of_three name.now kind.now last.now }
 {
-    if name == b"mutex".as_slice() && last == b"robust".as_slice() {
+    if is_word(name, b"mutex") && is_word(last, b"robust") {
         Some(Command::Add(Addition::Mutex(kind_of(kind)?, true)))
     } else {
         None
@@ -124,9 +124,9 @@ fn of_three(name: &[u8], kind: &[u8], last: &[u8]) -> Option<Command>
 fn of_four(name: &[u8], thread: &[u8], call: &[u8], word: &[u8]) -> Option<Command>
     ensures { result ≡ command_of_four name.now thread.now call.now word.now }
 {
-    if name == b"call".as_slice() {
+    if is_word(name, b"call") {
         Some(Command::Run(thread_of(thread)?, Some(request_of(call, word)?)))
-    } else if name == b"begin".as_slice() {
+    } else if is_word(name, b"begin") {
         Some(Command::Event(Event::Begin(thread_of(thread)?, request_of(call, word)?)))
     } else {
         None
@@ -138,17 +138,17 @@ fn of_four(name: &[u8], thread: &[u8], call: &[u8], word: &[u8]) -> Option<Comma
 fn of_five(name: &[u8], first: &[u8], second: &[u8], third: &[u8], fourth: &[u8]) -> Option<Command>
     ensures { result ≡ command_of_five name.now first.now second.now third.now fourth.now }
 {
-    if name == b"call".as_slice() {
+    if is_word(name, b"call") {
         Some(Command::Run(
             thread_of(first)?,
             Some(request_of_three(second, third, fourth)?),
         ))
-    } else if name == b"begin".as_slice() {
+    } else if is_word(name, b"begin") {
         Some(Command::Event(Event::Begin(
             thread_of(first)?,
             request_of_three(second, third, fourth)?,
         )))
-    } else if name == b"limits".as_slice() {
+    } else if is_word(name, b"limits") {
         Some(Command::Limits(
             number_of(first)?,
             number_of(second)?,
@@ -172,12 +172,12 @@ fn of_six(
 ) -> Option<Command>
     ensures { result ≡ command_of_six name.now thread.now call.now first.now second.now third.now }
 {
-    if name == b"call".as_slice() {
+    if is_word(name, b"call") {
         Some(Command::Run(
             thread_of(thread)?,
             Some(request_of_four(call, first, second, third)?),
         ))
-    } else if name == b"begin".as_slice() {
+    } else if is_word(name, b"begin") {
         Some(Command::Event(Event::Begin(
             thread_of(thread)?,
             request_of_four(call, first, second, third)?,

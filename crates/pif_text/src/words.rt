@@ -1,4 +1,4 @@
-ghost use Rattle.std.specs.Prelude.{◌≡◌, ℕ, ◌<◌, ◌≤◌, ◌≢◌, ◌∷◌, length, slice_index, option_copied};
+ghost use Rattle.std.specs.Prelude.{◌≡◌, ℕ, ◌<◌, ◌≤◌, ◌≢◌, ◌∷◌, length, slice_index, option_copied, bytes_eq};
 ghost use Rattle.pif_text.specs.Words.{words, words_behind};
 
 /// The place of the first space of a line, or the line's length where it has none.
@@ -26,4 +26,20 @@ pub fn split_first(line: &[u8]) -> (&[u8], Option<&[u8]>)
     } else {
         (line, None)
     }
+}
+
+/// Whether a word is this one. It is inlined, so that the test is one of the length and of a few bytes.
+#[inline(always)]
+pub fn is_word<const N: usize>(word: &[u8], name: &[u8; N]) -> bool
+    ensures { result ≡ bytes_eq word.now name.now }
+{
+    if word.len() != N {
+        return false;
+    }
+    for (place, byte) in name.iter().enumerate() {
+        if word[place] != *byte {
+            return false;
+        }
+    }
+    true
 }

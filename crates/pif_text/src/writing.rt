@@ -5,6 +5,7 @@ ghost use Rattle.pif_text.specs.Numbers.{hex_digits};
 ghost use Rattle.pif_text.specs.Replies.{text_of, fault_of, add_fault_word, refusal_word, health_word, added_text, seen_text, fact_text, thread_name, mutex_name, cond_name, thread_or_none, cause_word};
 
 use crate::{Added, Cause, Fact, Reply, TEXT_ROOM, Text};
+use arrayvec::ArrayVec;
 use itoa::Buffer;
 use pif_model::Seen;
 use pif_types::{AddFault, Answer, CondId, Health, MutexId, Refusal, Tid};
@@ -13,16 +14,17 @@ use pif_types::{AddFault, Answer, CondId, Health, MutexId, Refusal, Tid};
 pub const REPLY_ROOM: usize = 40;
 
 /// Appends bytes.
-pub fn append(out: &mut Text, text: &[u8])
-    requires { array_vec_len out.old + length text.now ≤ TEXT_ROOM }
+#[inline(always)]
+pub fn append<const N: usize>(out: &mut ArrayVec<u8, N>, text: &[u8])
+    requires { array_vec_len out.old + length text.now ≤ N }
     ensures { out.new.items ≡ out.old.items ++ text.now }
 {
     let _ = out.try_extend_from_slice(text);
 }
 
 /// Appends a number in decimal digits.
-pub fn append_decimal(out: &mut Text, number: u64)
-    requires { array_vec_len out.old + 20 ≤ TEXT_ROOM }
+pub fn append_decimal<const N: usize>(out: &mut ArrayVec<u8, N>, number: u64)
+    requires { array_vec_len out.old + 20 ≤ N }
     ensures items { out.new.items ≡ out.old.items ++ decimal number }
     ensures len { length (decimal number) ≤ 20 }
 {
@@ -30,9 +32,25 @@ pub fn append_decimal(out: &mut Text, number: u64)
     append(out, buffer.format(number).as_bytes());
 }
 
-/// Appends a number below 2 ^ 32 in decimal digits.
-pub fn append_number(out: &mut Text, number: u32)
-    requires { array_vec_len out.old + 10 ≤ TEXT_ROOM }
+/// Appends a number below 2 ^ 32 in decimal digits. Most have one digit.
+#[inline(always)]
+#[tactic(auto, using(std::proofs::lemmas::Fmt::decimal_digit))]
+pub fn append_number<const N: usize>(out: &mut ArrayVec<u8, N>, number: u32)
+    requires { array_vec_len out.old + 10 ≤ N }
+    ensures items { out.new.items ≡ out.old.items ++ decimal number }
+    ensures len { length (decimal number) ≤ 10 }
+{
+    if number < 10 {
+        out.push(b'0' + number as u8);
+    } else {
+        append_digits(out, number);
+    }
+}
+
+/// Appends a number below 2 ^ 32 in however many decimal digits it has.
+#[inline(never)]
+fn append_digits<const N: usize>(out: &mut ArrayVec<u8, N>, number: u32)
+    requires { array_vec_len out.old + 10 ≤ N }
     ensures items { out.new.items ≡ out.old.items ++ decimal number }
     ensures len { length (decimal number) ≤ 10 }
 {
@@ -41,8 +59,8 @@ pub fn append_number(out: &mut Text, number: u32)
 }
 
 /// Appends the name of a thread.
-pub fn append_thread(out: &mut Text, thread: Tid)
-    requires { array_vec_len out.old + 11 ≤ TEXT_ROOM }
+pub fn append_thread<const N: usize>(out: &mut ArrayVec<u8, N>, thread: Tid)
+    requires { array_vec_len out.old + 11 ≤ N }
     ensures items { out.new.items ≡ out.old.items ++ thread_name thread }
     ensures len { length (thread_name thread) ≤ 11 }
 {
@@ -51,8 +69,8 @@ pub fn append_thread(out: &mut Text, thread: Tid)
 }
 
 /// Appends the name of a mutex.
-pub fn append_mutex(out: &mut Text, mutex: MutexId)
-    requires { array_vec_len out.old + 11 ≤ TEXT_ROOM }
+pub fn append_mutex<const N: usize>(out: &mut ArrayVec<u8, N>, mutex: MutexId)
+    requires { array_vec_len out.old + 11 ≤ N }
     ensures items { out.new.items ≡ out.old.items ++ mutex_name mutex }
     ensures len { length (mutex_name mutex) ≤ 11 }
 {
@@ -61,8 +79,8 @@ pub fn append_mutex(out: &mut Text, mutex: MutexId)
 }
 
 /// Appends the name of a condition variable.
-pub fn append_cond(out: &mut Text, cond: CondId)
-    requires { array_vec_len out.old + 11 ≤ TEXT_ROOM }
+pub fn append_cond<const N: usize>(out: &mut ArrayVec<u8, N>, cond: CondId)
+    requires { array_vec_len out.old + 11 ≤ N }
     ensures items { out.new.items ≡ out.old.items ++ cond_name cond }
     ensures len { length (cond_name cond) ≤ 11 }
 {
@@ -71,8 +89,8 @@ pub fn append_cond(out: &mut Text, cond: CondId)
 }
 
 /// Appends what a call is answered.
-fn append_answer(out: &mut Text, number: Answer)
-    requires { array_vec_len out.old + 17 ≤ TEXT_ROOM }
+fn append_answer<const N: usize>(out: &mut ArrayVec<u8, N>, number: Answer)
+    requires { array_vec_len out.old + 17 ≤ N }
     ensures items { out.new.items ≡ out.old.items ++ (codes "answer " ++ decimal number) }
     ensures len { array_vec_len out.new ≤ array_vec_len out.old + 17 }
 {
@@ -117,8 +135,8 @@ fn hex_text(value: u32) -> [u8; 8]
 }
 
 /// Appends the value of a word.
-fn append_hex(out: &mut Text, value: u32)
-    requires { array_vec_len out.old + 10 ≤ TEXT_ROOM }
+fn append_hex<const N: usize>(out: &mut ArrayVec<u8, N>, value: u32)
+    requires { array_vec_len out.old + 10 ≤ N }
     ensures items { out.new.items ≡ out.old.items ++ (codes "0x" ++ hex_digits 8 value) }
     ensures len { array_vec_len out.new ≡ array_vec_len out.old + 10 }
 {
@@ -179,8 +197,8 @@ fn cause_of(cause: Cause) -> &'static [u8]
 }
 
 /// Appends a refusal and its one word.
-fn append_refused(out: &mut Text, why: &[u8])
-    requires room { array_vec_len out.old + 20 ≤ TEXT_ROOM }
+fn append_refused<const N: usize>(out: &mut ArrayVec<u8, N>, why: &[u8])
+    requires room { array_vec_len out.old + 20 ≤ N }
     requires short { length why.now ≤ 10 }
     ensures items { out.new.items ≡ out.old.items ++ (codes "refused " ++ why.now) }
 {
@@ -189,8 +207,8 @@ fn append_refused(out: &mut Text, why: &[u8])
 }
 
 /// Appends a thread, or that there is none.
-fn append_thread_or_none(out: &mut Text, thread: Option<Tid>)
-    requires { array_vec_len out.old + 11 ≤ TEXT_ROOM }
+fn append_thread_or_none<const N: usize>(out: &mut ArrayVec<u8, N>, thread: Option<Tid>)
+    requires { array_vec_len out.old + 11 ≤ N }
     ensures items { out.new.items ≡ out.old.items ++ thread_or_none thread }
     ensures len { array_vec_len out.new ≤ array_vec_len out.old + 11 }
 {
@@ -202,8 +220,8 @@ fn append_thread_or_none(out: &mut Text, thread: Option<Tid>)
 
 /// Appends what an addition is answered.
 #[tactic(auto, unfolding(crate::specs::Replies::added_text))]
-fn append_added(out: &mut Text, added: Added)
-    requires { array_vec_len out.old + REPLY_ROOM ≤ TEXT_ROOM }
+fn append_added<const N: usize>(out: &mut ArrayVec<u8, N>, added: Added)
+    requires { array_vec_len out.old + REPLY_ROOM ≤ N }
     ensures items { out.new.items ≡ out.old.items ++ added_text added }
     ensures len { array_vec_len out.new ≤ array_vec_len out.old + REPLY_ROOM }
 {
@@ -217,8 +235,8 @@ fn append_added(out: &mut Text, added: Added)
 
 /// Appends what an event is answered.
 #[tactic(auto, unfolding(crate::specs::Replies::seen_text))]
-fn append_seen(out: &mut Text, seen: Seen)
-    requires { array_vec_len out.old + REPLY_ROOM ≤ TEXT_ROOM }
+fn append_seen<const N: usize>(out: &mut ArrayVec<u8, N>, seen: Seen)
+    requires { array_vec_len out.old + REPLY_ROOM ≤ N }
     ensures items { out.new.items ≡ out.old.items ++ seen_text seen }
     ensures len { array_vec_len out.new ≤ array_vec_len out.old + REPLY_ROOM }
 {
@@ -235,8 +253,8 @@ fn append_seen(out: &mut Text, seen: Seen)
 
 /// Appends what a question is answered.
 #[tactic(auto, unfolding(crate::specs::Replies::fact_text))]
-fn append_fact(out: &mut Text, fact: Fact)
-    requires { array_vec_len out.old + REPLY_ROOM ≤ TEXT_ROOM }
+fn append_fact<const N: usize>(out: &mut ArrayVec<u8, N>, fact: Fact)
+    requires { array_vec_len out.old + REPLY_ROOM ≤ N }
     ensures items { out.new.items ≡ out.old.items ++ fact_text fact }
     ensures len { array_vec_len out.new ≤ array_vec_len out.old + REPLY_ROOM }
 {
@@ -253,8 +271,8 @@ fn append_fact(out: &mut Text, fact: Fact)
 
 /// Appends the text of a reply, with no line feed, at most `REPLY_ROOM` bytes. What stands in `out` stays.
 #[tactic(auto, unfolding(crate::specs::Replies::text_of))]
-pub fn reply_text(reply: Reply, out: &mut Text)
-    requires { array_vec_len out.old + REPLY_ROOM ≤ TEXT_ROOM }
+pub fn reply_text<const N: usize>(reply: Reply, out: &mut ArrayVec<u8, N>)
+    requires { array_vec_len out.old + REPLY_ROOM ≤ N }
     ensures written { out.new.items ≡ out.old.items ++ text_of reply }
     ensures within { array_vec_len out.new ≤ array_vec_len out.old + REPLY_ROOM }
 {

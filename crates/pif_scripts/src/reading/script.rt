@@ -75,10 +75,11 @@ fn feed<L: Listener + Drop, W: Write>(
     ensures answer { Feeds L.hearing (scan_of scanner.old) bytes.now (scan_of scanner.new) (W.contents writer.old) (W.contents writer.new) result }
     ensures taken { OnOk result (scanner.new.taken ≡ scanner.old.taken + length bytes.now) }
 {
-    for byte in bytes {
+    let mut rest = bytes;
+    while !rest.is_empty() {
         make_room(output, writer)?;
-        match scanner.take(alloc, *byte, output) {
-            Ok(()) => {}
+        match scanner.take_some(alloc, rest, output) {
+            Ok(count) => rest = &rest[count..],
             Err(Stop::Ended(end)) => {
                 notice.keep(scanner.line(), &end.ending);
                 return Err(stop::<L, W>(end, output, writer));

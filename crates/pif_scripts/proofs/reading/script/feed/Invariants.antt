@@ -1,10 +1,13 @@
-use Rattle.std.proofs.Common.{◌≡◌, ◌+◌, drop}
+use Rattle.std.proofs.Common.{◌≡◌, ◌+◌, length}
 use Rattle.pif_scripts.specs.Scanners.{scan_of}
 use Rattle.pif_scripts.proofs.FeedLemmas.{Feeding}
 use Rattle.pif_scripts.proofs.reading.script.feed.Given as goal
 
-abbrev pub invariant-loop-byte : goal.invariant-loop-byte
-invariant-loop-byte g l =
+abbrev pub invariant-loop-rest : goal.invariant-loop-rest
+invariant-loop-rest g l =
     Feeding g.L.Listener.hearing (scan_of l.initial.scanner) l.bytes (g.W.Write.contents l.initial.writer)
-    (scan_of l.scanner) (drop l.byte-index l.bytes) l.output.items (g.W.Write.contents l.writer)
-    × (l.scanner.taken ≡ l.initial.scanner.taken + l.byte-index)
+    (scan_of l.scanner) l.rest l.output.items (g.W.Write.contents l.writer)
+    × (l.scanner.taken + length l.rest ≡ l.initial.scanner.taken + length l.bytes)
+
+abbrev pub decreases-loop-rest : goal.decreases-loop-rest
+decreases-loop-rest g l = length l.rest
