@@ -96,22 +96,24 @@ fn a_count_that_cannot_be_written_has_status_3(rt: HostRuntime) {
     assert_eq!(rt; (status, output.as_slice()), (3, b"answ".as_slice()));
 }
 
-/// How often a held client looks whether another was answered, a millisecond each time.
+/// How often a held client looks whether it may go on, a millisecond each time.
 const TURNS: u32 = 10_000;
 
-/// Holds client 1 once its first call has begun, until a call of another client was answered.
+/// Holds each client once its first call has begun: client 1 until a call of the other was answered, and the other until
+/// client 1 has begun.
 #[derive(Drop)]
 struct Overlap {
     rt: HostRuntime,
-    held: AtomicBool,
+    one_begun: AtomicBool,
+    other_begun: AtomicBool,
     answered: AtomicBool,
 }
 
 impl Overlap {
-    /// Waits until a call of another client was answered.
-    fn hold(&self) {
+    /// Waits until the flag is set.
+    fn hold(&self, flag: &AtomicBool) {
         for _ in 0..TURNS {
-            if self.answered.load(Ordering::SeqCst) {
+            if flag.load(Ordering::SeqCst) {
                 break;
             }
             let _ = thread::sleep(&self.rt, Duration::from_millis(1));
@@ -122,10 +124,15 @@ impl Overlap {
 impl Pause for Overlap {
     fn after(&self, t: Tid, seen: Seen) {
         if t.get() == 1 {
-            if !self.held.swap(true, Ordering::SeqCst) {
-                self.hold();
+            if !self.one_begun.swap(true, Ordering::SeqCst) {
+                self.hold(&self.answered);
             }
-        } else if let Seen::Answered(_) = seen {
+            return;
+        }
+        if !self.other_begun.swap(true, Ordering::SeqCst) {
+            self.hold(&self.one_begun);
+        }
+        if let Seen::Answered(_) = seen {
             self.answered.store(true, Ordering::SeqCst);
         }
     }
@@ -166,23 +173,26 @@ fn check_requests(rt: &impl Abort, entries: &[Entry], thread: u32) {
     assert_eq!(rt; begun, 200);
 }
 
-/// Whether a call of another client was answered before client 1 took a step of its own.
+/// Whether client 1 began a call, then one of the other client was answered, and only then client 1 took a step.
 fn overlaps(entries: &[Entry]) -> bool {
+    let mut begun = false;
     let mut answered = false;
     for entry in entries {
-        if let Entry::Step(Event::Go(t), seen) = entry {
-            if t.get() == 1 {
-                return answered;
+        if let Entry::Step(event, seen) = entry {
+            match event {
+                Event::Begin(t, _) if t.get() == 1 => begun = true,
+                Event::Go(t) if t.get() == 1 => return answered,
+                _ => {}
             }
             if let Seen::Answered(_) = seen {
-                answered = true;
+                answered = begun;
             }
         }
     }
     false
 }
 
-/// Checks the book of a drive of two clients, of which the first was held.
+/// Checks the book of a drive of two clients that were held.
 fn check_book(rt: &impl Abort, book: &Book) -> Result<(), Fail> {
     let entries = book.entries.as_slice();
     let additions = added()?;
@@ -198,7 +208,8 @@ fn check_book(rt: &impl Abort, book: &Book) -> Result<(), Fail> {
 fn drive_makes_the_mutex_clients_and_calls_of_its_help(rt: HostRuntime) -> Result<(), Fail> {
     let pause = Overlap {
         rt,
-        held: AtomicBool::new(false),
+        one_begun: AtomicBool::new(false),
+        other_begun: AtomicBool::new(false),
         answered: AtomicBool::new(false),
     };
     match drive_book(rt.alloc(), &rt, 2, pause) {
