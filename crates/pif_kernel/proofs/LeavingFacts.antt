@@ -83,7 +83,7 @@ module _ (p : Inside) (t : ℕ) (h : IsSound p) (known : has_seat (kernel_of p) 
 
   pub left_idle : IsLeft p (record p { queue = q; table = tb; parked = ps }) t t
   left_idle = record {
-    frame = λ i. record p { queue = q; table = tb; arrivals = sym same i; parked = but i };
+    frame = λ i. record p { queue = q; table = tb; parked = but i };
     rows = refl;
     free = no_wait (seat_at p.owners t) free_here;
     others = λ u n. refl;
@@ -303,3 +303,23 @@ ended_at p x t m h queued key at owner owns g v given ws is here same none e ove
     subst (λ (y : Inside). IsLeft p y t owner)
     (sym (is ∙ (λ i. record p { keys = set p.keys (here i) None; owners = v; arrivals = same i })))
     (left_ended p t m h queued key at owner owns v none (over ∙ ap (without_state key) e) (one ∙ ap count e))
+
+-- whatever waiters it names
+pub left_with : (p x : Inside) (t start : ℕ) (ws : List (ℕ × ℕ)) → IsLeft p x t start
+    → IsLeft p (record x { arrivals = ws }) t start
+left_with p x t start ws l = record {
+  frame = ap (λ (y : Inside). record y { arrivals = ws }) l.frame;
+  rows = l.rows;
+  free = l.free;
+  others = l.others;
+  places = l.places;
+  keys = l.keys;
+  states = l.states;
+  count = l.count;
+  levels = l.levels;
+  place = l.place;
+  holds = l.holds;
+  waited = l.waited;
+  some = l.some;
+  added = l.added;
+}

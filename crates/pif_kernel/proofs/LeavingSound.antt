@@ -290,9 +290,13 @@ module _ (p x : Inside) (next : Status) (t start : ℕ) (h : IsSound p) (lives :
 -- what is kept before the walk, as it is written
 pub before_walk : (p x y : Inside) (next : Status) (t start g : ℕ) → IsSound p → is_living (kernel_of p) t ≡ true
     → is_out next ≡ true → IsLeft p x t start → y ≡ x → g ≡ t
-    → IsWalkable (record y { statuses = set y.statuses g next }) start (kernel_left_as next t (kernel_of p))
+    → IsWalkable (record y { statuses = set y.statuses g next; arrivals = without p.arrivals t }) start
+    (kernel_left_as next t (kernel_of p))
 before_walk p x y next t start g h lives out l same here =
-    subst (λ (n : ℕ). IsWalkable (record y { statuses = set y.statuses n next }) start
+    subst (λ (n : ℕ). IsWalkable (record y { statuses = set y.statuses n next; arrivals = without p.arrivals t }) start
     (kernel_left_as next t (kernel_of p))) (sym here)
-    (subst (λ (z : Inside). IsWalkable (record z { statuses = set z.statuses t next }) start
+    (subst (λ (z : Inside). IsWalkable (record z {
+      statuses = set z.statuses t next;
+      arrivals = without p.arrivals t;
+    }) start
     (kernel_left_as next t (kernel_of p))) (sym (same ∙ l.frame)) (walkable p x next t start h lives out l))

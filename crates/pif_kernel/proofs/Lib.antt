@@ -26,6 +26,10 @@ pub mod QueueingFacts
 pub mod CallFacts
 pub mod TopLaws
 pub mod WaitersWithout
+pub mod StillWaits
+pub mod WaiterOrder
+pub mod TicketTurns
+pub mod InOrder
 pub mod HandOverFacts
 pub mod HandOverSound
 pub mod LeavingFacts

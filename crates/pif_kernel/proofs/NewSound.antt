@@ -17,6 +17,7 @@ use Rattle.pif_chains.proofs.KernelKept.{new_kernel_kept}
 use Rattle.pif_chains.proofs.KernelLevels.{length-levels_by}
 use Rattle.pif_chains.proofs.KernelSettled.{priority-range}
 use Rattle.pif_chains.proofs.KernelNew.{no_state, length-no_states, no_level}
+use Rattle.pif_kernel.proofs.InOrder.{found_so}
 use Rattle.pif_kernel.specs.Inside.{Inside, IsPlaced, IsSound, kernel_of, no_keys, key_at, state_at, status_at, owner_under, seats_of}
 use Rattle.pif_kernel.specs.Chained.{Chained, IsUnused}
 use Rattle.pif_kernel.specs.Fields.{inside_from}
@@ -48,7 +49,18 @@ keys_made keys e = e
 module _ (l : Bounds) (first : ℕ) (within : IsWithin l) (some : 1 ≤ first) (q : Queue) (tb : Table)
     (threads : q.threads ≡ l.threads) (levels : (p : ℕ) → IsLevel p → level_of q tb p ≡ []) (holds : Holds q tb) where
   abbrev pub new : Inside
-  new = inside_from l (Ready Fresh ∷ []) no_keys (record { owners = no_owners l.threads; queue = q; table = tb }) [] [] first
+  new =
+      record {
+        limits = l;
+        statuses = Ready Fresh ∷ [];
+        keys = no_keys;
+        owners = no_owners l.threads;
+        queue = q;
+        table = tb;
+        arrivals = [];
+        parked = [];
+        next = first;
+      }
 
   empty_level : (p : ℕ) → levels_of q tb p ≡ []
   empty_level p = by_test (is_priority p) refl
@@ -134,11 +146,12 @@ module _ (l : Bounds) (first : ℕ) (within : IsWithin l) (some : 1 ≤ first) (
 
 -- the same over chains of which nobody was admitted
 pub new_in_chains : (l : Bounds) (first : ℕ) (x : Chained) → IsWithin l → 1 ≤ first → IsUnused l.threads x
-    → (kernel_of (inside_from l (Ready Fresh ∷ []) no_keys x [] [] first) ≡ new_kernel l)
-    × IsSound (inside_from l (Ready Fresh ∷ []) no_keys x [] [] first)
+    → (kernel_of (inside_from l (Ready Fresh ∷ []) no_keys x [] first) ≡ new_kernel l)
+    × IsSound (inside_from l (Ready Fresh ∷ []) no_keys x [] first)
 new_in_chains l first x within some unused =
-    subst (λ (v : Owners). (kernel_of (inside_from l (Ready Fresh ∷ []) no_keys (record x { owners = v }) [] [] first) ≡ new_kernel l)
-    × IsSound (inside_from l (Ready Fresh ∷ []) no_keys (record x { owners = v }) [] [] first)) (sym unused.owners) (
+    subst (λ (v : Owners). (kernel_of (inside_from l (Ready Fresh ∷ []) no_keys (record x { owners = v }) [] first) ≡ new_kernel l)
+    × IsSound (inside_from l (Ready Fresh ∷ []) no_keys (record x { owners = v }) [] first)) (sym unused.owners)
+    (found_so _ (new_kernel l) (
       new_seen l first within some x.queue x.table unused.threads unused.levels unused.holds,
       new_sound l first within some x.queue x.table unused.threads unused.levels unused.holds,
-    )
+    ))

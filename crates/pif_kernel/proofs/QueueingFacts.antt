@@ -16,7 +16,7 @@ use Rattle.pif_chains.proofs.Following.{Follows, within-from_reaches}
 use Rattle.pif_kernel.specs.Inside.{Inside, IsSound, IsOpened, Rise, kernel_of, status_at, key_at, state_at, ticket_of}
 use Rattle.pif_kernel.proofs.Seats.{seats_length, waits_below, owners_waits, added_seen, states_seen}
 use Rattle.pif_kernel.proofs.Standing.{fits, effective_level, ready_queued}
-use Rattle.pif_kernel.proofs.Waiters.{ready_free, room_for}
+use Rattle.pif_kernel.proofs.Waiters.{ready_free}
 use Rattle.pif_kernel.proofs.WalkSound.{IsWalkable}
 use Rattle.pif_kernel.proofs.QueueingSound.{IsOpen, opened, walkable}
 
@@ -142,9 +142,6 @@ module _ (now p x : Inside) (t m owner key ticket : ℕ) (i : IsEntry now p x t 
   free =
       ap (λ (l : List Seat). option_map (λ (w : Wait). w.state) (get_or l t no_seat).wait) i.opens.seats
       ∙ ready_free p i.sound t i.ready
-
-  pub room : length p.arrivals < p.limits.threads
-  room = (room_for p i.sound t i.added i.ready).1
 
   pub on_level : IsQueued p.queue p.table t
   on_level = ready_queued p i.sound t i.added i.ready

@@ -52,7 +52,7 @@ ticket_other_than f n (suc i) (w ∷ ws) t u d l e ne =
     ap (λ (x : ℕ). if w.0 == u then n else x) (ticket_other_than f (n + 1) i ws t u d (omega arith) e ne)
 
 -- the ticket at a place is at least so far above the first
-at_least : (f : ℕ → ℕ) (i least : ℕ) (ws : List (ℕ × ℕ)) (next t : ℕ) (d : ℕ × ℕ) → Rise f least ws next → i < length ws
+pub at_least : (f : ℕ → ℕ) (i least : ℕ) (ws : List (ℕ × ℕ)) (next t : ℕ) (d : ℕ × ℕ) → Rise f least ws next → i < length ws
     → (get_or ws i d).0 ≡ t → least + i ≤ f t
 at_least f i least [] next t d r l e = absurd (omega arith)
 at_least f zero least (w ∷ ws) next t d r l e = let at : f w.0 ≡ f t = ap f e in omega (arith, r.0)

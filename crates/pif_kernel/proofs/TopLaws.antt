@@ -20,13 +20,13 @@ use Rattle.pif_kernel.proofs.QueueLaws.{rise_above}
 use Rattle.pif_kernel.proofs.Waiters.{has_waiter-key}
 
 -- who stands behind has the greater ticket
-rise_behind : (f : ℕ → ℕ) (least : ℕ) (xs ys : List (ℕ × ℕ)) (x m next u : ℕ) → Rise f least (xs ++ (x, m) ∷ ys) next
+pub rise_behind : (f : ℕ → ℕ) (least : ℕ) (xs ys : List (ℕ × ℕ)) (x m next u : ℕ) → Rise f least (xs ++ (x, m) ∷ ys) next
     → names u ys ≡ true → f x < f u
 rise_behind f least [] ys x m next u r e =
     let up : f x + 1 ≤ f u = rise_above f (f x + 1) ys next u r.1 e in omega arith
 rise_behind f least (w ∷ xs) ys x m next u r e = rise_behind f (f w.0 + 1) xs ys x m next u r.1 e
 
-waiter_split : (xs ys : List (ℕ × ℕ)) (u m : ℕ) → is_waiter (xs ++ ys) u m ≡ true
+pub waiter_split : (xs ys : List (ℕ × ℕ)) (u m : ℕ) → is_waiter (xs ++ ys) u m ≡ true
     → (is_waiter xs u m ≡ true) ⊎ (is_waiter ys u m ≡ true)
 waiter_split [] ys u m e = inr e
 waiter_split (w ∷ xs) ys u m e = by_place (is_among_cons w (xs ++ ys) u m e) (waiter_split xs ys u m)
@@ -42,7 +42,7 @@ waiter_split (w ∷ xs) ys u m e = by_place (is_among_cons w (xs ++ ys) u m e) (
     by_place (inl a) ih = inl (is_among_here w xs u m a.0 a.1)
     by_place (inr r) ih = by_rest (ih r)
 
-waiter_middle : (xs ys : List (ℕ × ℕ)) (x m : ℕ) → is_waiter (xs ++ (x, m) ∷ ys) x m ≡ true
+pub waiter_middle : (xs ys : List (ℕ × ℕ)) (x m : ℕ) → is_waiter (xs ++ (x, m) ∷ ys) x m ≡ true
 waiter_middle [] ys x m = is_among_here (x, m) ys x m refl refl
 waiter_middle (w ∷ xs) ys x m = is_among_there w (xs ++ (x, m) ∷ ys) x m (waiter_middle xs ys x m)
 

@@ -1,5 +1,5 @@
 -- Who stands at a place, of those that wait for one thing.
-use Rattle.std.proofs.Common.{◌≡◌, ℕ, zero, suc, ◌+◌, ◌-◌, ◌<◌, ◌==◌, List, [], ◌∷◌, ◌++◌, length, map, filter, Some, refl, sym, ap, ◌∙◌, arith}
+use Rattle.std.proofs.Common.{◌≡◌, ℕ, zero, suc, ◌+◌, ◌-◌, ◌<◌, ◌==◌, List, [], ◌++◌, length, filter, Some, refl, sym, ap, ◌∙◌, arith}
 use Rattle.std.specs.List.{slice_get}
 use Rattle.pif_model.specs.Graph.{by_greatest}
 use Rattle.pif_model.specs.PiKernel.{level_at, levels_below, parked_pairs, Parking}
@@ -7,7 +7,7 @@ use Rattle.pif_runq.specs.Levels.{all_below}
 use Rattle.pif_runq.proofs.Places.{slice_get-front, slice_get-behind, all_below-none, all_below-more}
 use Rattle.pif_kernel.specs.Inside.{Inside, kernel_of}
 use Rattle.pif_kernel.proofs.Picked.{levels_seen}
-use Rattle.pif_kernel.proofs.Seats.{waiters_seen, parked_seen}
+use Rattle.pif_kernel.proofs.Seats.{parked_seen}
 use Rattle.pif_kernel.proofs.Standing.{level_same}
 
 module _ (f : ℕ → ℕ) where
@@ -37,19 +37,9 @@ module _ (f : ℕ → ℕ) where
   unfolding by_greatest
   by_greatest-none us = refl
 
--- pairs as they are
-same_pairs : (ws : List (ℕ × ℕ)) → map (λ w. w) ws ≡ ws
-same_pairs [] = refl
-same_pairs (w ∷ ws) = ap (λ (vs : List (ℕ × ℕ)). w ∷ vs) (same_pairs ws)
-
--- the waiters of the kernel by itself, by those that are gone through
-pub waiters_gone_through : (p : Inside) (ws : List (ℕ × ℕ)) → ws ≡ p.arrivals
-    → map (λ w. w) ws ≡ (kernel_of p).waiters
-waiters_gone_through p ws e = same_pairs ws ∙ e ∙ sym (waiters_seen p)
-
 -- the parked threads of the kernel by itself, by those that are gone through
 pub parked_gone_through : (p : Inside) (ps : List Parking) → ps ≡ p.parked
-    → map (λ (x : Parking). (x.thread, x.cond)) ps ≡ parked_pairs (kernel_of p).parked
+    → parked_pairs ps ≡ parked_pairs (kernel_of p).parked
 parked_gone_through p ps e = ap parked_pairs (e ∙ sym (parked_seen p))
 
 -- a level, and those below it

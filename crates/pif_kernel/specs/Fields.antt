@@ -3,12 +3,12 @@ use Rattle.std.specs.Prelude.{ℕ, List, Option}
 use Rattle.pif_types.specs.Bounds.{Bounds}
 use Rattle.pif_model.specs.declared.lines.Status.{Status}
 use Rattle.pif_model.specs.PiKernel.{Parking}
-use Rattle.pif_kernel.specs.Inside.{Inside}
+use Rattle.pif_kernel.specs.Inside.{Inside, arrivals_in}
 use Rattle.pif_kernel.specs.Chained.{Chained}
 
 -- what is kept
-abbrev pub inside_from : Bounds → List Status → List (Option ℕ) → Chained → List (ℕ × ℕ) → List Parking → ℕ → Inside
-inside_from limits statuses keys chains arrivals parked next =
+abbrev pub inside_from : Bounds → List Status → List (Option ℕ) → Chained → List Parking → ℕ → Inside
+inside_from limits statuses keys chains parked next =
     record {
       limits = limits;
       statuses = statuses;
@@ -16,7 +16,7 @@ inside_from limits statuses keys chains arrivals parked next =
       owners = chains.owners;
       queue = chains.queue;
       table = chains.table;
-      arrivals = arrivals;
+      arrivals = arrivals_in statuses chains.owners;
       parked = parked;
       next = next;
     }

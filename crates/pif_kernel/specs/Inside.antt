@@ -10,6 +10,7 @@ use Rattle.pif_model.specs.PiKernel.{Seat as KernelSeat, Parking}
 use Rattle.pif_nodes.specs.declared.keys.Key.{Key}
 use Rattle.pif_nodes.specs.Table.{Table}
 use Rattle.pif_runq.specs.Levels.{Queue, Holds, level_of}
+use Rattle.pif_kernel.specs.InOrder.{in_order}
 use Rattle.pif_owners.specs.Owners.{Owners, Seat, seat_at, owner_at, count, waits_on, rank_of, no_seat, with_owner}
 
 -- what a kernel keeps
@@ -74,6 +75,11 @@ next_ticket p = p.next
 -- the ticket with which a thread waits; 0 where it waits for nothing
 abbrev pub ticket_of : Owners → ℕ → ℕ
 ticket_of v t = unwrap_or (option_map (λ (r : Key). r.ticket) (rank_of v t)) 0
+
+-- the threads that wait by their statuses, each with its mutex, in order of the tickets that they have in these states
+abbrev pub arrivals_in : List Status → Owners → List (ℕ × ℕ)
+arrivals_in statuses v =
+    in_order (ticket_of v) (λ t. queued_on (get_or statuses t (Ready Fresh))) (length statuses)
 
 -- the tickets of these threads rise, from `least` on, and are below `next`
 abbrev pub Rise : (ℕ → ℕ) → ℕ → List (ℕ × ℕ) → ℕ → Type 0

@@ -8,14 +8,14 @@ use Rattle.pif_owners.specs.Owners.{seat_at, owner_at, count}
 use Rattle.pif_kernel.specs.Inside.{Inside, kernel_of, key_at, mutexes_of}
 
 -- t has left: it waits for nothing, is not parked, and is on no level, and an owner state stays exactly where others
--- are queued. Nobody but `start` had it as a waiter
+-- are queued. Nobody but `start` had it as a waiter. Its status, by which the waiters are found, is still the old one
 pub record IsLeft (old now : Inside) (t start : ℕ) : Type 0 where
   pub frame : now ≡ record old {
     keys = now.keys;
     owners = now.owners;
     queue = now.queue;
     table = now.table;
-    arrivals = without old.arrivals t;
+    arrivals = now.arrivals;
     parked = unparked old.parked t;
   }
   pub rows : length now.owners.seats ≡ length old.owners.seats

@@ -1,5 +1,6 @@
 pub use Rattle.pif_model.specs.PiKernel
 pub mod Answers
+pub mod InOrder
 pub mod Inside
 pub mod Codes
 pub mod Leaving

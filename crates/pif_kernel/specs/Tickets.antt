@@ -1,8 +1,8 @@
 -- Tickets that are numbered anew in their order.
-use Rattle.std.specs.Prelude.{◌≡◌, ℕ, zero, suc, ◌+◌, ◌<◌, ◌≤◌, ◌==◌, eqb, Bool, true, if◌then◌else◌, List, [], ◌∷◌, length, map, get_or, IsSome, option_map}
+use Rattle.std.specs.Prelude.{◌≡◌, ◌≢◌, ℕ, zero, suc, ◌+◌, ◌<◌, ◌≤◌, ◌==◌, eqb, nat_lt, Bool, true, false, if◌then◌else◌, List, [], ◌∷◌, length, map, get_or, Option, Some, None, IsSome, option_map}
 use Rattle.std.specs.List.{list_any, IsDistinct}
 use Rattle.pif_owners.specs.Owners.{Owners, Seat, Wait, seat_at, waits_on, KeepsOrder}
-use Rattle.pif_kernel.specs.Inside.{ticket_of}
+use Rattle.pif_kernel.specs.Inside.{Rise, ticket_of}
 
 -- the tickets once those of the first `count` of these threads are the numbers from n on
 abbrev pub renumbered_ticket : (ℕ → ℕ) → ℕ → ℕ → List (ℕ × ℕ) → ℕ → ℕ
@@ -37,3 +37,24 @@ pub record IsRenumberable (v : Owners) (ws : List (ℕ × ℕ)) : Type 0 where
   pub keeps : (now : Owners) (i t : ℕ) (d : ℕ × ℕ) → IsRenumbered v now ws i → i < length ws → (get_or ws i d).0 ≡ t
       → KeepsOrder now t (i + 1)
   pub stays : (now : Owners) (i t : ℕ) → IsRenumbered v now ws i → waits_on now t ≡ waits_on v t
+
+-- these are the waiters, all among the threads below n, in order of their tickets
+pub record IsNumbered (v : Owners) (n : ℕ) (ws : List (ℕ × ℕ)) : Type 0 where
+  pub some : 1 ≤ n
+  pub few : n ≤ 1025
+  pub next : ℕ
+  pub rises : Rise (ticket_of v) 1 ws next
+  pub known : (t : ℕ) → is_named t ws ≡ true → (t ≢ 0) × (t < n)
+  pub others : (t : ℕ) → is_named t ws ≡ false → ticket_of v t ≡ 0
+
+-- whether t waits with a ticket from `least` on, and with a lower one than the first so far
+abbrev pub is_sooner : Owners → ℕ → Option ℕ → ℕ → Bool
+is_sooner v least None t = if nat_lt (ticket_of v t) least then false else true
+is_sooner v least (Some u) t = if nat_lt (ticket_of v t) least then false else nat_lt (ticket_of v t) (ticket_of v u)
+
+-- of the threads below n the first has the lowest ticket from `least` on, and is None where none has such a ticket
+abbrev pub IsFirstFrom : Owners → ℕ → ℕ → Option ℕ → Type 0
+IsFirstFrom v least n None = (u : ℕ) → u ≢ 0 → u < n → ticket_of v u < least
+IsFirstFrom v least n (Some t) =
+    (t < n) × (least ≤ ticket_of v t)
+    × ((u : ℕ) → u ≢ 0 → u < n → least ≤ ticket_of v u → ticket_of v t ≤ ticket_of v u)

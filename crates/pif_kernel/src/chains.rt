@@ -1,10 +1,11 @@
-ghost use Rattle.std.specs.Prelude.{◌≡◌, ℕ, ◌+◌, ◌<◌, ◌≤◌, ◌↔◌, true, length, IfOk, IfSome, IfNone, IsSome, IsTrue, Some, None};
+ghost use Rattle.std.specs.Prelude.{◌≡◌, ℕ, ◌+◌, ◌<◌, ◌≤◌, ◌↔◌, true, length, IfOk, IfSome, IfNone, IsSome, IsTrue, Some, None, option_map};
 ghost use Rattle.std.specs.List.{slice_get};
 ghost use Rattle.pif_model.specs.Graph.{Reaches};
 ghost use Rattle.pif_nodes.specs.Lists.{has, without};
 ghost use Rattle.pif_nodes.specs.declared.keys.Key.{Key as RankSeen};
 ghost use Rattle.pif_runq.specs.Levels.{Holds, IsLevel, IsQueued, IsEmpty, IsFirstOfGreatest, all_below, level_of, level_after_add};
-ghost use Rattle.pif_owners.specs.Owners.{seat_at, owner_at, count, waits_on, WaitsFor, IsTop, HasNoWaiter, KeepsOrder, with_seat, with_base, with_wait, with_ticket, with_owner, without_state};
+ghost use Rattle.pif_owners.specs.Owners.{seat_at, owner_at, count, waits_on, rank_of, WaitsFor, IsTop, HasNoWaiter, KeepsOrder, with_seat, with_base, with_wait, with_ticket, with_owner, without_state};
+ghost use Rattle.pif_rtmutex.specs.Behind.{IsLast, IsBehind};
 ghost use Rattle.pif_boost.specs.Boosts.{IsRepaired, IsRepairedBut, base_of, local_of, level_after_walk};
 ghost use Rattle.pif_kernel.specs.Chained.{Chained, IsUnused, KeepsLevels};
 
@@ -58,6 +59,23 @@ pub trait Chains {
     fn owner(&self, key: Key) -> Tid
         requires { IsSome (owner_at (seen self.now).owners key) }
         ensures value { owner_at (seen self.now).owners key ≡ Some result };
+
+    /// The top waiter of a state: of those that are queued on it the one with the highest priority, and of equal ones
+    /// the one with the lowest ticket. `None` if nobody is queued on it.
+    fn top(&self, key: Key) -> Option<Tid>
+        ensures none { IfNone result (HasNoWaiter (seen self.now).owners key) }
+        ensures top { IfSome result (λ t. IsTop (seen self.now).owners key t) };
+
+    /// The waiter that stands right behind the thread `t`, which is queued on a state, among those of that state.
+    /// `None` if `t` is the last of them.
+    fn behind(&self, t: Tid) -> Option<Tid>
+        requires { IsSome (waits_on (seen self.now).owners t) }
+        ensures last { IfNone result (IsLast (seen self.now).owners t) }
+        ensures behind { IfSome result (λ u. IsBehind (seen self.now).owners t u) };
+
+    /// The ticket with which the thread `t` is queued. `None` if it waits for nothing.
+    fn ticket(&self, t: Tid) -> Option<u64>
+        ensures { result ≡ option_map (λ (r : RankSeen). r.ticket) (rank_of (seen self.now).owners t) };
 
     /// Queues the thread `t`, which waits for nothing, on a state, with this priority and ticket. The owner of the
     /// state may not be `t`, nor wait for it through any chain.

@@ -68,8 +68,7 @@ impl<C: Chains + Drop> Parts<C> {
         let key = self.keys[m.get() as usize].unwrap();
         let owner = self.chains.owner(key);
         self.chains.dequeue(key, t);
-        self.arrivals.retain(|arrival| arrival.0 != t);
-        if !self.arrivals.iter().any(|arrival| arrival.1 == m) {
+        if self.chains.top(key).is_none() {
             self.chains.end(key);
             self.keys[m.get() as usize] = None;
         }

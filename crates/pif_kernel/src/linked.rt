@@ -80,6 +80,18 @@ impl Chains for LinkedChains {
         self.owners.owner(&self.table, key)
     }
 
+    fn top(&self, key: Key) -> Option<Tid> {
+        self.owners.top(&self.table, key)
+    }
+
+    fn behind(&self, t: Tid) -> Option<Tid> {
+        self.owners.behind(&self.table, t)
+    }
+
+    fn ticket(&self, t: Tid) -> Option<u64> {
+        self.owners.ticket(&self.table, t)
+    }
+
     fn enqueue(&mut self, key: Key, t: Tid, prio: Prio, ticket: u64) {
         // For the prover: a thread has a number from 1.
         let _number = t.get();

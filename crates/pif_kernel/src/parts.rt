@@ -14,14 +14,14 @@ use std::marker::Model;
 const KEYS: usize = 1025;
 
 /// What a kernel keeps: the status of each thread, the key of each mutex that has an owner state, the owner states and
-/// the run queue, and in order of tickets who is queued where and who is parked where.
+/// the run queue, and in order of tickets who is parked where. Who is queued where, in order of tickets, is what the
+/// statuses and the tickets in the owner states say; no list of that is kept.
 #[derive(Drop)]
 pub struct Parts<C: Chains + Drop> {
     pub(crate) limits: Limits,
     pub(crate) statuses: Vec<Status>,
     pub(crate) keys: Vec<Option<Key>>,
     pub(crate) chains: C,
-    pub(crate) arrivals: Vec<(Tid, MutexId)>,
     pub(crate) parked: Vec<Parking>,
     pub(crate) next: u64,
 }
@@ -36,12 +36,10 @@ impl<C: Chains + Drop> Model for Parts<C> {
 
     ghost coded = { inside_code };
 
-    ghost view = { λ p. inside_from p.limits p.statuses.items p.keys.items (C.seen p.chains) p.arrivals.items p.parked.items
-        p.next };
+    ghost view = { λ p. inside_from p.limits p.statuses.items p.keys.items (C.seen p.chains) p.parked.items p.next };
 
     ghost invariant = { λ p. record {
       statuses : p.limits.threads + 1 ≤ vec_capacity p.statuses;
-      arrivals : p.limits.threads ≤ vec_capacity p.arrivals;
       parked : p.limits.threads ≤ vec_capacity p.parked;
     } };
 }
@@ -64,14 +62,12 @@ impl<C: Chains + Drop> Parts<C> {
         push_within(&mut statuses, Status::Ready(Woken::Fresh));
         let keys = empty_places(alloc, KEYS)?;
         let chains = C::new(alloc, threads)?;
-        let arrivals = with_room(alloc, threads as usize)?;
         let parked = with_room(alloc, threads as usize)?;
         Ok(Parts {
             limits,
             statuses,
             keys,
             chains,
-            arrivals,
             parked,
             next: first_ticket,
         })
@@ -119,10 +115,14 @@ impl<C: Chains + Drop> Parts<C> {
 
     /// The key of the owner state of a mutex. `None` where it has none.
     pub(crate) fn key(&self, m: MutexId) -> Option<Key>
-        requires { m < length self.now.keys }
         ensures { result ≡ key_at self.now m }
     {
-        self.keys[m.get() as usize]
+        let place = m.get() as usize;
+        if place < self.keys.len() {
+            self.keys[place]
+        } else {
+            None
+        }
     }
 
     /// The next ticket.

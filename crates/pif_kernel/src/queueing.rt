@@ -8,7 +8,7 @@ use crate::chains::Chains;
 use crate::parts::Parts;
 use pif_model::{Status, Woken};
 use pif_owners::Key;
-use pif_types::{MutexId, Tid, push_within};
+use pif_types::{MutexId, Tid};
 
 impl<C: Chains + Drop> Parts<C> {
     /// Queues a ready thread on a mutex of this owner, whose owner state has this key, if there is one. Then there is
@@ -32,7 +32,6 @@ impl<C: Chains + Drop> Parts<C> {
         let prio = self.chains.local(t).unwrap();
         self.chains.enqueue(key, t, prio, ticket);
         self.statuses[t.get() as usize] = Status::Queued(m);
-        push_within(&mut self.arrivals, (t, m));
         self.chains.take_out(t);
         self.chains.walk(owner);
     }
@@ -68,8 +67,7 @@ impl<C: Chains + Drop> Parts<C> {
         ensures sound { IsSound self.new }
     {
         let next = self.chains.hand_over(key);
-        self.arrivals.retain(|arrival| arrival.0 != next);
-        if !self.arrivals.iter().any(|arrival| arrival.1 == m) {
+        if self.chains.top(key).is_none() {
             self.chains.end(key);
             self.keys[m.get() as usize] = None;
         }

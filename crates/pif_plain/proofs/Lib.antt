@@ -1,5 +1,6 @@
 pub mod StateFieldsLemmas
 pub mod TopLemmas
+pub mod BehindLemmas
 pub mod StateTestLemmas
 pub mod Propagation
 pub mod WalkTestLemmas

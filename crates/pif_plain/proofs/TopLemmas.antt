@@ -28,7 +28,7 @@ standing-waits v k t w = by_wait (seat_at v t).wait w
     by_wait (Some x) p = (x.rank, refl)
 
 -- and back
-standing-some : (v : Owners) (k t : ℕ) → IsSome (standing v k t) → (waits_on v t ≡ Some k) × ((rank : Key) × (rank_of v t ≡ Some rank))
+pub standing-some : (v : Owners) (k t : ℕ) → IsSome (standing v k t) → (waits_on v t ≡ Some k) × ((rank : Key) × (rank_of v t ≡ Some rank))
 standing-some v k t h = by_wait (seat_at v t).wait h
   where
     by_test : (x : Wait) → ((eqb x.state k ≡ true) ⊎ (eqb x.state k ≡ false)) → IsSome (rank_on k x) → x.state ≡ k

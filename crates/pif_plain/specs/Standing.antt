@@ -17,3 +17,12 @@ abbrev pub leads : Option Key → Option Key → Bool
 leads None other = false
 leads (Some mine) None = true
 leads (Some mine) (Some other) = comes_before mine other
+
+-- a rank that comes after another
+abbrev pub later : Key → Key → Option Key
+later mine other = if comes_before mine other then Some other else None
+
+-- the rank with which u stands behind t among the waiters of its state; None where it doesn't
+abbrev pub standing_behind : Owners → ℕ → ℕ → Option Key
+standing_behind v t u =
+    option_and_then (λ (w : Wait). option_and_then (later w.rank) (standing v w.state u)) (seat_at v t).wait

@@ -76,6 +76,18 @@ impl Chains for PlainChains {
         self.owners.owner(key)
     }
 
+    fn top(&self, key: Key) -> Option<Tid> {
+        self.owners.top(key)
+    }
+
+    fn behind(&self, t: Tid) -> Option<Tid> {
+        self.owners.behind(t)
+    }
+
+    fn ticket(&self, t: Tid) -> Option<u64> {
+        self.owners.ticket(t)
+    }
+
     fn enqueue(&mut self, key: Key, t: Tid, prio: Prio, ticket: u64) {
         self.owners.enqueue(key, t, prio, ticket);
     }

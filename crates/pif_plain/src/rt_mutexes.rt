@@ -23,12 +23,14 @@ ghost use Rattle.std.specs.Option.{ForSome};
 ghost use Rattle.pif_model.specs.Graph.{Reaches};
 ghost use Rattle.pif_nodes.specs.declared.keys.Key.{Key as RankSeen};
 ghost use Rattle.pif_owners.specs.Owners.{no_owners, seat_at, owner_at, count, waits_on, rank_of, WaitsFor, IsAcyclic, IsSound, IsTop, HasNoWaiter, KeepsOrder, with_seat, with_base, with_local, with_wait, with_prio, with_ticket, with_owner, without_state};
-ghost use Rattle.pif_plain.specs.Standing.{standing};
+ghost use Rattle.pif_rtmutex.specs.Behind.{IsLast, IsBehind};
+ghost use Rattle.pif_plain.specs.Standing.{standing, standing_behind};
 
 use crate::rows::{NOBODY, Row, Wait};
 use crate::standing::leads;
 use pif_nodes::Key as Rank;
 use pif_owners::Key;
+use pif_plist::precedes;
 use pif_types::{NoMemory, Prio, Tid};
 use slab::Slab;
 use std::alloc::Global;
@@ -160,6 +162,22 @@ impl RtMutexes {
         for t in 0..self.rows.len() as u32 {
             if leads(self.standing(key, t), self.standing(key, first)) {
                 first = t;
+            }
+        }
+        Tid::new(first)
+    }
+
+    /// The waiter that stands right behind the thread `t`, which is queued on a state, among those of that state. `None`
+    /// if `t` is the last of them.
+    pub fn behind(&self, t: Tid) -> Option<Tid>
+        requires { IsSome (waits_on self.now t) }
+        ensures last { IfNone result (IsLast self.now t) }
+        ensures behind { IfSome result (λ u. IsBehind self.now t u) }
+    {
+        let mut first = 0;
+        for u in 0..self.rows.len() as u32 {
+            if leads(self.standing_behind(t, u), self.standing_behind(t, first)) {
+                first = u;
             }
         }
         Tid::new(first)
@@ -330,6 +348,18 @@ impl RtMutexes {
     {
         match self.row(t).wait {
             Some(wait) if wait.state == key => Some(wait.rank),
+            _ => None,
+        }
+    }
+
+    /// The rank with which a thread stands behind the thread `t` among the waiters of its state. `None` where it doesn't
+    /// stand behind it.
+    fn standing_behind(&self, t: Tid, u: u32) -> Option<Rank>
+        ensures { result ≡ standing_behind self.now t u }
+    {
+        let wait = self.row(t.get()).wait?;
+        match self.standing(wait.state, u) {
+            Some(rank) if precedes(wait.rank, rank) => Some(rank),
             _ => None,
         }
     }

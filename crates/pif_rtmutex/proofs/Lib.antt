@@ -11,3 +11,4 @@ pub mod StateLemmas
 pub mod StepLemmas
 pub mod MakeLemmas
 pub mod CallLemmas
+pub mod BehindLemmas

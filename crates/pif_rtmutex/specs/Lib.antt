@@ -3,3 +3,4 @@ pub mod Holds
 pub mod Frames
 pub mod Maximum
 pub mod Fields
+pub mod Behind

@@ -4,10 +4,11 @@ ghost use Rattle.std.specs.Option.{ForSome};
 ghost use Rattle.std.specs.FinMap.{get, empty, insert, remove, len};
 ghost use Rattle.pif_model.specs.Graph.{Reaches};
 ghost use Rattle.pif_nodes.specs.declared.keys.Key.{Key as RankSeen};
-ghost use Rattle.pif_nodes.specs.Table.{Table, key_at, holder};
+ghost use Rattle.pif_nodes.specs.Table.{Table, key_at, holder, next_of};
 ghost use Rattle.pif_owners.specs.Owners.{no_owners, seat_at, owner_at, count, waits_on, rank_of, WaitsFor, IsTop, HasNoWaiter, KeepsOrder, with_seat, with_base, with_local, with_wait, with_prio, with_ticket, with_owner, without_state};
 ghost use Rattle.pif_rtmutex.specs.States.{IsThread, no_states, row_at, wait_node, top_node, wait_list, top_list, waiter_for, first_waiter, owners_in, with_row, with_wait_on, with_owner_of};
 ghost use Rattle.pif_rtmutex.specs.Holds.{HoldsWaiters, IsRankedTop, HoldsTops, IsToppedBut, Holds, HasRoom};
+ghost use Rattle.pif_rtmutex.specs.Behind.{IsLast, IsBehind};
 ghost use Rattle.pif_rtmutex.specs.Frames.{SameOutside, ChangesTops, KeepsWaiterNodes};
 ghost use Rattle.pif_rtmutex.specs.Maximum.{greatest_rank, maximum_of};
 ghost use Rattle.pif_rtmutex.specs.Fields.{State as StateSeen, IsSpare};
@@ -200,6 +201,17 @@ impl RtMutexes {
         self.first(table, key)
     }
 
+    /// The waiter that stands right behind the thread `t`, which is queued on a state, among those of that state. `None`
+    /// if `t` is the last of them.
+    pub fn behind(&self, table: &NodeTable, t: Tid) -> Option<Tid>
+        requires holds { Holds self.now table.now }
+        requires queued { IsSome (waits_on (owners_in self.now table.now) t) }
+        ensures last { IfNone result (IsLast (owners_in self.now table.now) t) }
+        ensures behind { IfSome result (λ u. IsBehind (owners_in self.now table.now) t u) }
+    {
+        self.next_to(table, t)
+    }
+
     /// The greater of the base priority of the thread `t` and of the priority of the first of its top waiters. `None`
     /// if it was given none, and nobody waits for it.
     pub fn maximum(&self, table: &NodeTable, t: Tid) -> Option<Prio>
@@ -357,6 +369,16 @@ impl RtMutexes {
     {
         let row = self.place(key)?;
         let node = self.list_of_row(row).top(table)?;
+        Tid::new(node.get() - self.first_node + 1)
+    }
+
+    /// The thread of the node behind that of the thread `t` among the waiters of its state. `None` if `t` is the last.
+    fn next_to(&self, table: &NodeTable, t: Tid) -> Option<Tid>
+        requires holds { HoldsWaiters self.now table.now }
+        requires queued { IsSome (waits_on (owners_in self.now table.now) t) }
+        ensures { result ≡ option_map (waiter_for self.now) (next_of table.now (wait_node self.now t)) }
+    {
+        let node = table.next(self.wait_node(t))?;
         Tid::new(node.get() - self.first_node + 1)
     }
 

@@ -5,6 +5,7 @@ use Rattle.pif_model.specs.PiKernel.{kernel_after_add}
 use Rattle.pif_kernel.specs.Chained.{Chained}
 use Rattle.pif_kernel.specs.Inside.{Inside, IsSound, kernel_of}
 use Rattle.pif_kernel.specs.declared.parts.Parts.TheView.{view}
+use Rattle.pif_kernel.proofs.InOrder.{found_so}
 use Rattle.pif_kernel.proofs.Seats.{seats_length, limits_seen}
 use Rattle.pif_kernel.proofs.Standing.{fits, off_queue, unadded_off}
 use Rattle.pif_kernel.proofs.AddSound.{kernel_after, sound_after}
@@ -75,11 +76,13 @@ returns g c =
     λ r lr. c.add.ensures.levels r lr
     ∙ ap (λ (y : Chained). level_after_add c.unwrap-t.result c.args.prio r (level_of y.queue y.table r)) admitted in
     let owners = c.add.ensures.owners ∙ ap (λ (y : Chained). y.owners) admitted in
+    let e = found_so _ (kernel_after_add c.args.prio (kernel_of c.args.self.now)) (
+      kernel_after p x.queue x.table c.unwrap-t.result c.args.prio h t few low high place levels c.add.ensures.holds
+          ∙ ap (λ (x : Inside). kernel_after_add c.args.prio (kernel_of x)) c.self.view_is,
+      sound_after p x.queue x.table c.unwrap-t.result c.args.prio h t few low high place levels c.add.ensures.holds,
+    ) in
     record {
       number = t ∙ sym (seats_length p (fits p h)) ∙ ap (λ (x : Inside). length (kernel_of x).seats) c.self.view_is;
-      after = rw (c.push_within.ensures.items, owners)
-          (kernel_after p x.queue x.table c.unwrap-t.result c.args.prio h t few low high place levels c.add.ensures.holds
-          ∙ ap (λ (x : Inside). kernel_after_add c.args.prio (kernel_of x)) c.self.view_is);
-      sound = rw (c.push_within.ensures.items, owners)
-          (sound_after p x.queue x.table c.unwrap-t.result c.args.prio h t few low high place levels c.add.ensures.holds);
+      after = rw (c.push_within.ensures.items, owners) e.0;
+      sound = rw (c.push_within.ensures.items, owners) e.1;
     }

@@ -1,22 +1,22 @@
-use Rattle.std.proofs.Common.{◌≡◌, ℕ, ◌+◌, ◌==◌, true, false, if◌then◌else◌, None, List, set, refl, subst, sym, ap, ◌∙◌, rules, tests}
-use Rattle.std.proofs.lemmas.Fn.{filter_same}
-use Rattle.std.proofs.lemmas.Iterator.{YieldsList-from_slice}
-use Rattle.std.proofs.lemmas.Iterator.Search.{any_from_yields_List}
+use Rattle.std.proofs.Common.{◌≡◌, ℕ, ◌+◌, Bool, true, false, not, None, List, set, refl, subst, sym, ap, ◌∙◌, arith}
+use Rattle.std.proofs.lemmas.Bool.{true≢false, false≢true}
 use Rattle.pif_model.specs.declared.lines.Status.TheVariants.{Ready}
 use Rattle.pif_model.specs.declared.lines.Woken.TheVariants.{Owns}
 use Rattle.pif_model.specs.Graph.{has_waiter, without}
 use Rattle.pif_model.specs.PiKernel.{kernel_after_hand_over, next_in}
-use Rattle.pif_owners.specs.Owners.{count, without_state}
+use Rattle.pif_owners.specs.Owners.{Owners, count, without_state}
 use Rattle.pif_kernel.specs.Chained.{Chained, KeepsLevels}
 use Rattle.pif_kernel.specs.Fields.{chains_of}
 use Rattle.pif_kernel.specs.Inside.{Inside, kernel_of}
 use Rattle.pif_kernel.specs.declared.parts.Parts.TheView.{view}
+use Rattle.pif_kernel.proofs.InOrder.{found_so}
+use Rattle.pif_kernel.proofs.StillWaits.{left_by}
 use Rattle.pif_kernel.proofs.TableMoved.{moved, kernel_moved, handable_moved}
 use Rattle.pif_kernel.proofs.TopLaws.{top_is_next, some_waiter}
 use Rattle.pif_kernel.proofs.WalkSound.{IsWalkable, on_levels, on_running, on_local, ended}
 use Rattle.pif_kernel.proofs.HandOverFacts.{IsGiven, IsHandable, IsHandedOn}
-use Rattle.pif_kernel.proofs.HandOverSound.{given_state, given_idle, ended_given, still_given, handing, local_low, off, seated, before_walk}
-use Rattle.pif_kernel.proofs.parts.Parts.hand_over.Goals.{Start, After-any, Joined-not-any, After-add, then-not-any, else-not-any}
+use Rattle.pif_kernel.proofs.HandOverSound.{given_state, given_idle, ended_given, still_given, handing, next_added, local_low, off, seated, before_walk}
+use Rattle.pif_kernel.proofs.parts.Parts.hand_over.Goals.{Start, After-is_none, Joined-is_none, After-add, then-is_none, else-is_none}
 use Rattle.pif_kernel.proofs.parts.Parts.hand_over.Goals as goal
 
 -- what is known before the mutex is handed over
@@ -25,54 +25,73 @@ hands g c p is =
     subst (λ (x : Inside). IsHandable x c.args.holder c.args.m c.args.key) (sym is)
     (record { sound = c.requires.sound; at = c.requires.key; owner = c.requires.owner; idle = c.requires.idle })
 
--- the other waiters, and whether one of them waits for the mutex
-others : (g : _) (c : After-any g)
-    → (c.deref.result.now ≡ without c.self.inside.arrivals.items c.hand_over-next.result) ×
-    (c.any.result ≡ has_waiter c.deref.result.now c.args.m)
-others g c = (
-  c.deref.ensures.value
-      ∙ filter_same _ (λ (w : ℕ × ℕ). if w.0 == c.hand_over-next.result then false else true) _
-      (λ x b f' k. (search (rules, tests), search rules)) _ _ c.retain.ensures.filtered,
-  any_from_yields_List (λ (w : ℕ × ℕ). w.1 == c.args.m) _ _ _ c.any.ensures.ran
-      (YieldsList-from_slice c.deref.result.now c.iter.ensures.rest) (λ x b q k. search (rules, tests)),
-)
+-- whether another waiter waits for the mutex
+others : (g : _) (c : After-is_none g) → IsHandable (view _ g.C.Chains c.self.inside) c.args.holder c.args.m c.args.key
+    → (not (has_waiter (without (view _ g.C.Chains c.self.inside).arrivals c.hand_over-next.result) c.args.m))
+    ≡ c.is_none.result
+others g c d =
+    let p : Inside = view _ g.C.Chains c.self.inside in
+    let v : Owners = (g.C.Chains.seen c.hand_over-next.new.self).owners in
+    ap not (left_by p d.sound c.args.m c.args.key d.at c.hand_over-next.result c.hand_over-next.ensures.top.waits v
+    (ap (λ (o : Owners). o.seats) c.hand_over-next.ensures.handed) c.top.result c.top.ensures.none c.top.ensures.top
+    ∙ c.is_none.ensures) ∙ not_not c.is_none.result
+  where
+    not_not : (b : Bool) → not (not b) ≡ b
+    not_not true = refl
+    not_not false = refl
 
--- what is known once it is handed over
-handed : (g : _) (c : Joined-not-any g) → IsHandable (view _ g.C.Chains c.self.inside) c.args.holder c.args.m c.args.key
-    → (c.deref.result.now ≡ without c.self.inside.arrivals.items c.hand_over-next.result) ×
-    (c.any.result ≡ has_waiter c.deref.result.now c.args.m)
+-- from a test of the opposite
+none_by : (b c : Bool) → not b ≡ c → c ≡ true → b ≡ false
+none_by true c e t = absurd (false≢true (e ∙ t))
+none_by false c e t = refl
+
+some_by : (b c : Bool) → not b ≡ c → c ≡ false → b ≡ true
+some_by true c e t = refl
+some_by false c e t = absurd (true≢false (e ∙ t))
+
+-- what is kept once it is handed over, with the other waiters
+abbrev after : (g : _) (c : Joined-is_none g) → Inside
+after g c =
+    record (view _ g.C.Chains c.if-is_none.self-inside) {
+      arrivals = without (view _ g.C.Chains c.self.inside).arrivals c.hand_over-next.result;
+    }
+
+-- what is known then
+handed : (g : _) (c : Joined-is_none g) → IsHandable (view _ g.C.Chains c.self.inside) c.args.holder c.args.m c.args.key
+    → (not (has_waiter (without (view _ g.C.Chains c.self.inside).arrivals c.hand_over-next.result) c.args.m))
+    ≡ c.is_none.result
     → IsHandedOn c.args.self.now (view _ g.C.Chains c.self.inside)
-    (view _ g.C.Chains c.if-not-any.self-inside) c.args.holder c.args.m c.args.key c.hand_over-next.result
+    (after g c) c.args.holder c.args.m c.args.key c.hand_over-next.result
 handed g c d r =
     let p : Inside = view _ g.C.Chains c.self.inside in
-    let x : Inside = view _ g.C.Chains c.if-not-any.self-inside in
+    let x : Inside = after g c in
     let y : Chained = g.C.Chains.seen c.hand_over-next.new.self in
     let kept : KeepsLevels (chains_of p) y = c.hand_over-next.ensures.kept in
     let there : Inside = moved p y kept in
     let u : ℕ = c.hand_over-next.result in
+    let rest : List (ℕ × ℕ) = without p.arrivals u in
     let top = c.hand_over-next.ensures.top in
     let able : IsHandable there c.args.holder c.args.m c.args.key = handable_moved p y kept _ _ _ d in
-    let given : IsGiven there x u c.args.m c.args.key = elim c.if-not-any.branch [
-      | then-not-any w ↦
+    let given : IsGiven there x u c.args.m c.args.key = elim c.if-is_none.branch [
+      | then-is_none w ↦
           ended_given there c.args.holder c.args.m c.args.key u able top x y.owners (without_state c.args.key y.owners)
-          w.get.result c.deref.result.now c.any.result
-          (ap (view _ g.C.Chains) w.self-inside-is
+          w.get.result rest (has_waiter rest c.args.m)
+          (ap (λ z. record (view _ g.C.Chains z) { arrivals = rest }) w.self-inside-is
           ∙ (λ i. record p {
             keys = set p.keys w.get.result None;
             owners = (w.end.ensures.ended i).owners;
             queue = (w.end.ensures.ended i).queue;
             table = (w.end.ensures.ended i).table;
-            arrivals = sym c.deref.ensures.value i;
+            arrivals = rest;
           }))
-          r.0 r.1 w.if-not-any.true w.get.ensures.value c.hand_over-next.ensures.handed refl
+          refl refl (none_by (has_waiter rest c.args.m) c.is_none.result r w.if-is_none.true) w.get.ensures.value
+          c.hand_over-next.ensures.handed refl
           (sym (ap (λ (z : Chained). count z.owners + 1) w.end.ensures.ended) ∙ w.end.ensures.count)
-      | else-not-any w ↦
-          still_given there c.args.holder c.args.m c.args.key u able top x y.owners c.deref.result.now
-          c.any.result
-          (ap (view _ g.C.Chains) w.self-inside-is
-          ∙ ap (λ (l : List (ℕ × ℕ)). record there { owners = y.owners; arrivals = l })
-          (sym c.deref.ensures.value))
-          r.0 r.1 w.if-not-any.false c.hand_over-next.ensures.handed
+      | else-is_none w ↦
+          still_given there c.args.holder c.args.m c.args.key u able top x y.owners rest (has_waiter rest c.args.m)
+          (ap (λ z. record (view _ g.C.Chains z) { arrivals = rest }) w.self-inside-is)
+          refl refl (some_by (has_waiter rest c.args.m) c.is_none.result r w.if-is_none.false)
+          c.hand_over-next.ensures.handed
     ] in
     handing there c.args.holder c.args.m c.args.key u able top c.args.self.now x
     (kernel_moved p y kept ∙ ap kernel_of c.self.view_is) given
@@ -85,40 +104,49 @@ hand_over-next-requires g c =
 pub end-requires : goal.end-requires
 end-requires g c =
     let a = goal.at.end-requires g c in
+    let p : Inside = view _ g.C.Chains c.self.inside in
     let d = hands g a.Start _ c.self.view_is in
-    let r = others g a.After-any in
+    let r = others g a.After-is_none d in
     rw c.hand_over-next.ensures.handed (record {
-      state =
-          given_state (view _ g.C.Chains c.self.inside) c.args.holder c.args.m c.args.key c.hand_over-next.result d
-          c.hand_over-next.ensures.top;
+      state = given_state p c.args.holder c.args.m c.args.key c.hand_over-next.result d c.hand_over-next.ensures.top;
       free =
-          given_idle (view _ g.C.Chains c.self.inside) c.args.holder c.args.m c.args.key c.hand_over-next.result d
-          c.hand_over-next.ensures.top (sym (ap (λ (l : List (ℕ × ℕ)). has_waiter l c.args.m) r.0) ∙ sym r.1
-          ∙ c.if-not-any.true);
+          given_idle p c.args.holder c.args.m c.args.key c.hand_over-next.result d c.hand_over-next.ensures.top
+          (none_by (has_waiter (without p.arrivals c.hand_over-next.result) c.args.m) c.is_none.result r
+          c.if-is_none.true);
     })
+
+pub index_mut-requires-2 : goal.index_mut-requires-2
+index_mut-requires-2 g c =
+    let a = goal.at.index_mut-requires-2 g c in
+    let d = hands g a.Start _ c.self.view_is in
+    let i = handed g a.Joined-is_none d (others g a.After-is_none d) in
+    omega (arith, next_added _ _ _ _ _ i.hands i.top, c.get-2.ensures.value)
 
 pub unwrap-level-requires : goal.unwrap-level-requires
 unwrap-level-requires g c =
     let a = goal.at.unwrap-level-requires g c in
-    let i = handed g a.Joined-not-any (hands g a.Start _ c.self.view_is) (others g a.After-any) in
+    let d = hands g a.Start _ c.self.view_is in
+    let i = handed g a.Joined-is_none d (others g a.After-is_none d) in
     c.local.ensures.given.1 (local_low _ _ _ _ _ _ _ i)
 
 pub add-requires-clause-thread : goal.add-requires-clause-thread
 add-requires-clause-thread g c =
     let a = goal.at.add-requires-clause-thread g c in
-    seated _ _ _ _ _ _ _ (handed g a.Joined-not-any (hands g a.Start _ c.self.view_is) (others g a.After-any))
+    seated _ _ _ _ _ _ _ (handed g a.Joined-is_none (hands g a.Start _ c.self.view_is)
+    (others g a.After-is_none (hands g a.Start _ c.self.view_is)))
 
 pub add-requires-clause-off : goal.add-requires-clause-off
 add-requires-clause-off g c =
     let a = goal.at.add-requires-clause-off g c in
-    off _ _ _ _ _ _ _ (handed g a.Joined-not-any (hands g a.Start _ c.self.view_is) (others g a.After-any))
+    off _ _ _ _ _ _ _ (handed g a.Joined-is_none (hands g a.Start _ c.self.view_is)
+    (others g a.After-is_none (hands g a.Start _ c.self.view_is)))
 
 -- what is kept before the walk
 added : (g : _) (c : After-add g)
     → IsHandedOn c.args.self.now (view _ g.C.Chains c.self.inside)
-    (view _ g.C.Chains c.if-not-any.self-inside) c.args.holder c.args.m c.args.key c.hand_over-next.result
-    → IsWalkable (record (view _ g.C.Chains c.if-not-any.self-inside) {
-      statuses = set c.if-not-any.self-inside.statuses.items
+    (after g (goal.at.After-add g c).Joined-is_none) c.args.holder c.args.m c.args.key c.hand_over-next.result
+    → IsWalkable (record (after g (goal.at.After-add g c).Joined-is_none) {
+      statuses = set c.if-is_none.self-inside.statuses.items
           c.hand_over-next.result (Ready Owns);
       owners = (g.C.Chains.seen c.add.new.self).owners;
       queue = (g.C.Chains.seen c.add.new.self).queue;
@@ -134,7 +162,8 @@ added g c i =
 pub walk-requires : goal.walk-requires
 walk-requires g c =
     let a = goal.at.walk-requires g c in
-    let w = added g a.After-add (handed g a.Joined-not-any (hands g a.Start _ c.self.view_is) (others g a.After-any)) in
+    let w = added g a.After-add (handed g a.Joined-is_none (hands g a.Start _ c.self.view_is)
+    (others g a.After-is_none (hands g a.Start _ c.self.view_is))) in
     record {
       admitted = w.admitted;
       repaired = w.repaired;
@@ -148,17 +177,18 @@ pub returns : goal.returns
 returns g c =
     let a = goal.at.returns g c in
     let d = hands g a.Start _ c.self.view_is in
-    let w = added g a.After-add (handed g a.Joined-not-any d (others g a.After-any)) in
+    let w = added g a.After-add (handed g a.Joined-is_none d (others g a.After-is_none d)) in
     let e
     = ended _ _ _ w (g.C.Chains.seen c.walk.new.self).owners (g.C.Chains.seen c.walk.new.self).queue (g.C.Chains.seen c.walk.new.self).table c.walk.ensures.repaired c.walk.ensures.levels
     c.walk.ensures.place c.walk.ensures.holds in
     let next
     = top_is_next (view _ g.C.Chains c.self.inside) d.sound c.args.m c.args.key c.hand_over-next.result d.at
     c.hand_over-next.ensures.top in
+    let f = found_so _ _ e in
     record {
       next = next
           ∙ ap (λ (x : Inside). next_in (kernel_of x) c.args.m) c.self.view_is;
-      after = rw c.get-2.ensures.value e.0;
+      after = rw c.get-2.ensures.value f.0;
       sound =
-          rw c.get-2.ensures.value e.1;
+          rw c.get-2.ensures.value f.1;
     }

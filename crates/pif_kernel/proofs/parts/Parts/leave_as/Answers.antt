@@ -1,8 +1,10 @@
 use Rattle.std.proofs.Common.{set, arith, ap, ◌∙◌, ◌≡◌, length}
+use Rattle.pif_model.specs.Graph.{without}
 use Rattle.pif_model.specs.PiKernel.{kernel_left_as}
 use Rattle.pif_chains.proofs.KernelFacts.{living-added}
 use Rattle.pif_kernel.specs.Inside.{Inside, kernel_of}
 use Rattle.pif_kernel.specs.declared.parts.Parts.TheView.{view}
+use Rattle.pif_kernel.proofs.InOrder.{found_so}
 use Rattle.pif_kernel.proofs.Seats.{added_seen}
 use Rattle.pif_kernel.proofs.Standing.{fits}
 use Rattle.pif_kernel.proofs.WalkSound.{IsWalkable, on_levels, on_running, on_local, ended}
@@ -14,6 +16,7 @@ use Rattle.pif_kernel.proofs.parts.Parts.leave_as.Goals as goal
 left : (g : _) (c : After-get g)
     → IsWalkable (record (view _ g.C.Chains c.self.inside) {
       statuses = set c.self.inside.statuses.items c.get.result c.args.status;
+      arrivals = without c.args.self.now.arrivals c.args.t;
     }) c.take_off-start.result (kernel_left_as c.args.status c.args.t (kernel_of c.args.self.now))
 left g c =
     before_walk c.args.self.now c.take_off-start.new.self (view _ g.C.Chains c.self.inside) c.args.status c.args.t
@@ -49,4 +52,4 @@ returns g c =
     = ended _ _ _ (left g (goal.at.returns g c).After-get) (g.C.Chains.seen c.walk.new.self).owners (g.C.Chains.seen c.walk.new.self).queue (g.C.Chains.seen c.walk.new.self).table
     c.walk.ensures.repaired c.walk.ensures.levels c.walk.ensures.place c.walk.ensures.holds
     in
-    record { after = e.0; sound = e.1 }
+    let f = found_so _ _ e in record { after = f.0; sound = f.1 }

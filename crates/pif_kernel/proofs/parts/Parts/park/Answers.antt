@@ -3,6 +3,7 @@ use Rattle.pif_model.specs.PiKernel.{has_seat, is_ready, seat_at, kernel_after_p
 use Rattle.pif_kernel.specs.Chained.{Chained}
 use Rattle.pif_kernel.specs.Inside.{Inside, IsSound, kernel_of}
 use Rattle.pif_kernel.specs.declared.parts.Parts.TheView.{view}
+use Rattle.pif_kernel.proofs.InOrder.{found_so}
 use Rattle.pif_kernel.proofs.Seats.{added_seen}
 use Rattle.pif_kernel.proofs.Standing.{fits, ready_queued}
 use Rattle.pif_kernel.proofs.ParkingFacts.{parked_room}
@@ -43,12 +44,14 @@ returns g c =
     let p : Inside = view _ g.C.Chains c.self.inside in
     let d = held g (goal.at.returns g c).Start p c.self.view_is in
     let x : Chained = g.C.Chains.seen c.take_out.new.self in
-    record {
-      after = rw (c.get.ensures.value, c.push_within.ensures.items, c.take_out.ensures.owners)
-          (kernel_parked p x.queue x.table c.args.t d.0 d.1 d.2 c.take_out.ensures.place
+    let e = found_so _ (kernel_after_parking c.args.t c.args.c c.args.m (kernel_of c.args.self.now)) (
+      kernel_parked p x.queue x.table c.args.t d.0 d.1 d.2 c.take_out.ensures.place
           c.take_out.ensures.levels c.take_out.ensures.holds c.args.c c.args.m
-          ∙ ap (λ (x : Inside). kernel_after_parking c.args.t c.args.c c.args.m (kernel_of x)) c.self.view_is);
-      sound = rw (c.get.ensures.value, c.push_within.ensures.items, c.take_out.ensures.owners)
-          (sound_parked p x.queue x.table c.args.t d.0 d.1 d.2 c.take_out.ensures.place
-          c.take_out.ensures.levels c.take_out.ensures.holds c.args.c c.args.m);
+          ∙ ap (λ (x : Inside). kernel_after_parking c.args.t c.args.c c.args.m (kernel_of x)) c.self.view_is,
+      sound_parked p x.queue x.table c.args.t d.0 d.1 d.2 c.take_out.ensures.place
+          c.take_out.ensures.levels c.take_out.ensures.holds c.args.c c.args.m,
+    ) in
+    record {
+      after = rw (c.get.ensures.value, c.push_within.ensures.items, c.take_out.ensures.owners) e.0;
+      sound = rw (c.get.ensures.value, c.push_within.ensures.items, c.take_out.ensures.owners) e.1;
     }

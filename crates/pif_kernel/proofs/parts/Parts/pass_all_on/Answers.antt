@@ -1,4 +1,4 @@
-use Rattle.std.proofs.Common.{◌≡◌, ℕ, List, sym, ap, ◌∙◌}
+use Rattle.std.proofs.Common.{ℕ, List, sym, ap, ◌∙◌}
 use Rattle.pif_model.specs.PiKernel.{System, after_deaths}
 use Rattle.pif_model.specs.RobustList.{robust_at, walk_of}
 use Rattle.pif_chains.proofs.KernelExit.{deaths-none, deaths-more}

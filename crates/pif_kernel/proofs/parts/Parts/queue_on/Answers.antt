@@ -8,8 +8,9 @@ use Rattle.pif_chains.proofs.KernelFacts.{living-added}
 use Rattle.pif_kernel.specs.Chained.{Chained}
 use Rattle.pif_kernel.specs.Inside.{Inside, IsOpened, kernel_of, key_at}
 use Rattle.pif_kernel.specs.declared.parts.Parts.TheView.{view}
+use Rattle.pif_kernel.proofs.InOrder.{found_so}
 use Rattle.pif_kernel.proofs.WalkSound.{IsWalkable, on_levels, on_running, on_local, ended}
-use Rattle.pif_kernel.proofs.QueueingFacts.{IsEntered, entry, folded, no_cycle, local_low, place, free, room, on_level, before_walk}
+use Rattle.pif_kernel.proofs.QueueingFacts.{IsEntered, entry, folded, no_cycle, local_low, place, free, on_level, before_walk}
 use Rattle.pif_kernel.proofs.Seats.{added_seen}
 use Rattle.pif_kernel.proofs.Standing.{fits}
 use Rattle.pif_kernel.proofs.Waiters.{room_for}
@@ -79,15 +80,6 @@ pub enqueue-requires-clause-no_cycle : goal.enqueue-requires-clause-no_cycle
 enqueue-requires-clause-no_cycle g c =
     no_cycle _ _ _ _ _ _ _ _ (entered g (goal.at.enqueue-requires-clause-no_cycle g c).After-local)
 
-pub push_within-requires : goal.push_within-requires
-push_within-requires g c =
-    omega (
-      arith,
-      room _ _ _ _ _ _ _ _
-          (entered g (goal.at.push_within-requires g c).After-local),
-      c.self.invariant.arrivals,
-    )
-
 pub take_out-requires : goal.take_out-requires
 take_out-requires g c =
     let on = on_level _ _ _ _ _ _ _ _ (entered g (goal.at.take_out-requires g c).After-local) in
@@ -103,8 +95,8 @@ queued : (g : _) (c : After-take_out g)
       owners = (g.C.Chains.seen c.take_out.new.self).owners;
       queue = (g.C.Chains.seen c.take_out.new.self).queue;
       table = (g.C.Chains.seen c.take_out.new.self).table;
-      arrivals
-          = c.self.inside.arrivals.items ++ (c.args.t, c.args.m) ∷ [];
+      arrivals =
+          (view _ g.C.Chains c.self.inside).arrivals ++ (c.args.t, c.args.m) ∷ [];
     })
     c.args.owner (kernel_after_queueing c.args.t c.args.m c.args.owner (kernel_of c.args.self.now))
 queued g c i =
@@ -137,8 +129,5 @@ returns g c =
     let e
     = ended _ _ _ w (g.C.Chains.seen c.walk.new.self).owners (g.C.Chains.seen c.walk.new.self).queue (g.C.Chains.seen c.walk.new.self).table c.walk.ensures.repaired c.walk.ensures.levels
     c.walk.ensures.place c.walk.ensures.holds in
-    record {
-      after = rw (c.get.ensures.value, c.push_within.ensures.items) e.0;
-      sound = rw
-          (c.get.ensures.value, c.push_within.ensures.items) e.1;
-    }
+    let f = found_so _ _ e in
+    record { after = rw c.get.ensures.value f.0; sound = rw c.get.ensures.value f.1 }

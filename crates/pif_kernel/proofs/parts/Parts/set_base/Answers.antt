@@ -2,6 +2,7 @@ use Rattle.std.proofs.Common.{◌≡◌, ◌≤◌, true, Ok, subst, sym, arith}
 use Rattle.pif_model.specs.PiKernel.{is_living, kernel_after_set_prio}
 use Rattle.pif_kernel.specs.Inside.{Inside, IsSound, kernel_of}
 use Rattle.pif_kernel.specs.declared.parts.Parts.TheView.{view}
+use Rattle.pif_kernel.proofs.InOrder.{found_so}
 use Rattle.pif_kernel.proofs.WalkSound.{IsWalkable, on_levels, on_running, on_local, ended}
 use Rattle.pif_kernel.proofs.BaseSound.{walkable}
 use Rattle.pif_kernel.proofs.parts.Parts.set_base.Goals.{After-set_base}
@@ -42,4 +43,4 @@ returns g c =
     = ended _ _ _ (before_walk g (goal.at.returns g c).After-set_base) (g.C.Chains.seen c.walk.new.self).owners (g.C.Chains.seen c.walk.new.self).queue (g.C.Chains.seen c.walk.new.self).table
     c.walk.ensures.repaired c.walk.ensures.levels c.walk.ensures.place c.walk.ensures.holds
     in
-    record { after = e.0; sound = e.1 }
+    let f = found_so _ _ e in record { after = f.0; sound = f.1 }

@@ -3,6 +3,7 @@ use Rattle.pif_model.specs.PiKernel.{has_seat, is_ready, seat_at, kernel_after_s
 use Rattle.pif_kernel.specs.Chained.{Chained}
 use Rattle.pif_kernel.specs.Inside.{Inside, IsSound, kernel_of}
 use Rattle.pif_kernel.specs.declared.parts.Parts.TheView.{view}
+use Rattle.pif_kernel.proofs.InOrder.{found_so}
 use Rattle.pif_kernel.proofs.Seats.{added_seen}
 use Rattle.pif_kernel.proofs.Standing.{fits, ready_queued}
 use Rattle.pif_kernel.proofs.RestSound.{kernel_stopped, sound_stopped}
@@ -35,12 +36,14 @@ returns g c =
     = subst (λ (x : Inside). is_ready (seat_at (kernel_of x) c.args.t).status ≡ true)
     (sym c.self.view_is) c.requires.ready in
     let x : Chained = g.C.Chains.seen c.take_out.new.self in
-    record {
-      after = rw (c.get.ensures.value, c.take_out.ensures.owners)
-          (kernel_stopped p x.queue x.table c.args.t h known ready c.take_out.ensures.place
+    let e = found_so _ (kernel_after_stop c.args.t (kernel_of c.args.self.now)) (
+      kernel_stopped p x.queue x.table c.args.t h known ready c.take_out.ensures.place
           c.take_out.ensures.levels c.take_out.ensures.holds
-          ∙ ap (λ (x : Inside). kernel_after_stop c.args.t (kernel_of x)) c.self.view_is);
-      sound = rw (c.get.ensures.value, c.take_out.ensures.owners)
-          (sound_stopped p x.queue x.table c.args.t h known ready c.take_out.ensures.place
-          c.take_out.ensures.levels c.take_out.ensures.holds);
+          ∙ ap (λ (x : Inside). kernel_after_stop c.args.t (kernel_of x)) c.self.view_is,
+      sound_stopped p x.queue x.table c.args.t h known ready c.take_out.ensures.place
+          c.take_out.ensures.levels c.take_out.ensures.holds,
+    ) in
+    record {
+      after = rw (c.get.ensures.value, c.take_out.ensures.owners) e.0;
+      sound = rw (c.get.ensures.value, c.take_out.ensures.owners) e.1;
     }

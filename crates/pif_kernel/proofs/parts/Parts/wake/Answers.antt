@@ -5,6 +5,7 @@ use Rattle.pif_model.specs.PiKernel.{kernel_after_waking}
 use Rattle.pif_owners.specs.Owners.{seat_at}
 use Rattle.pif_kernel.specs.Inside.{Inside, IsSound, kernel_of}
 use Rattle.pif_kernel.specs.declared.parts.Parts.TheView.{view}
+use Rattle.pif_kernel.proofs.InOrder.{found_so}
 use Rattle.pif_kernel.proofs.WakeSound.{rests_within, rests_level, rests_off, woken_ends}
 use Rattle.pif_kernel.proofs.parts.Parts.wake.Goals.{After-add}
 use Rattle.pif_kernel.proofs.parts.Parts.wake.Goals as goal
@@ -61,8 +62,8 @@ woken g c =
 
 pub returns-clause-after : goal.returns-clause-after
 returns-clause-after g c =
-    let a = goal.at.returns-clause-after g c in rw (c.get.ensures.value, c.add.ensures.owners) (woken g a.After-add).0
+    let a = goal.at.returns-clause-after g c in rw (c.get.ensures.value, c.add.ensures.owners) (found_so _ _ (woken g a.After-add)).0
 
 pub returns-clause-sound : goal.returns-clause-sound
 returns-clause-sound g c =
-    let a = goal.at.returns-clause-sound g c in rw (c.get.ensures.value, c.add.ensures.owners) (woken g a.After-add).1
+    let a = goal.at.returns-clause-sound g c in rw (c.get.ensures.value, c.add.ensures.owners) (found_so _ _ (woken g a.After-add)).1
