@@ -1,4 +1,4 @@
-ghost use Rattle.std.specs.Prelude.{ℕ, ◌≡◌, ◌+◌, true, false, length, List, IfSome, Some, None, option_map, is_some, unwrap_or};
+ghost use Rattle.std.specs.Prelude.{◌≡◌, ◌+◌, true, false, length, List, IfSome, Some, None, is_some, unwrap_or};
 ghost use Rattle.std.specs.List.{slice_get};
 ghost use Rattle.pif_model.specs.declared.events.Entry.{Entry};
 ghost use Rattle.pif_model.specs.Posix.{World, is_thread, is_mutex, is_variable, is_blocked_on, thread_at, mutex_at, variable_at, rests};
