@@ -14,3 +14,4 @@ pub mod TranscriptLemmas
 pub mod WrittenLemmas
 pub mod ShowingLemmas
 pub mod MigrateLemmas
+pub mod CommandLemmas

@@ -1,3 +1,4 @@
+pub mod CommandLines
 pub mod Migrating
 pub mod Running
 pub mod Runs

@@ -7,6 +7,7 @@
 #![tactic(auto)]
 
 mod faults;
+mod laws;
 mod migrating;
 mod notices;
 mod reading;
@@ -19,6 +20,7 @@ mod transcribing;
 mod writing;
 
 pub use faults::CliFault;
+pub use laws::commands_have_no_fault;
 pub use migrating::{migrate, migrate_noting, migrated_trace_has_its_verdict};
 pub use notices::Notice;
 pub use pif_text::Cause;

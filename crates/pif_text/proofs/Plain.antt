@@ -1,5 +1,5 @@
 -- The texts of commands and of the answers to them are short, and have neither LF nor an equals sign.
-use Rattle.std.proofs.Common.{◌≡◌, ℕ, ◌+◌, ◌<◌, ◌≤◌, ◌==◌, ◌&&◌, not, Bool, true, false, List, [], ◌∷◌, ◌++◌, Some, length, length-append, take, refl, ap, ◌∙◌, arith, decimal, codes, bytes_eq}
+use Rattle.std.proofs.Common.{◌≡◌, ℕ, ◌+◌, ◌<◌, ◌≤◌, ◌==◌, ◌&&◌, not, Bool, true, false, List, [], ◌∷◌, ◌++◌, Option, Some, None, length, length-append, take, refl, ap, ◌∙◌, arith, decimal, codes, bytes_eq}
 use Rattle.std.specs.Char.{is_ascii_digit}
 use Rattle.std.specs.Str.{all_ascii_digits}
 use Rattle.std.proofs.lemmas.Bool.{and_parts, and_from, and_right}
@@ -18,12 +18,15 @@ use Rattle.pif_text.specs.declared.commands.Addition.{Addition}
 use Rattle.pif_text.specs.declared.commands.Addition.TheVariants.{Thread, Mutex, Cond}
 use Rattle.pif_text.specs.declared.commands.Command.{Command}
 use Rattle.pif_text.specs.declared.commands.Command.TheVariants as command
+use Rattle.pif_text.specs.declared.questions.Question.{Question}
+use Rattle.pif_text.specs.declared.questions.Question.TheVariants as question
 use Rattle.pif_text.specs.declared.traces.Version.TheVariants.{Two}
 use Rattle.pif_text.specs.declared.replies.Added.{Added}
 use Rattle.pif_text.specs.declared.replies.Added.TheVariants as added
 use Rattle.pif_text.specs.declared.replies.Reply.{Reply}
 use Rattle.pif_text.specs.declared.replies.Reply.TheVariants as reply
-use Rattle.pif_text.specs.CommandTexts.{command_text, addition_text, event_text, request_text, IsWritten, IsAdditionWritten, IsEventWritten, IsRequestWritten}
+use Rattle.pif_text.specs.CommandTexts.{command_text, addition_text, event_text, request_text, IsWritten, IsAdditionWritten, IsEventWritten, IsRequestWritten, IsRunWritten, run_text}
+use Rattle.pif_text.specs.Questions.{question_text, IsQuestionWritten}
 use Rattle.pif_text.specs.Replies.{text_of, added_text, seen_text, thread_name, mutex_name, cond_name}
 use Rattle.pif_text.specs.Traces.{IsTraced, IsAddedTraced, IsSeenTraced, if_traced, parts_of, recorded}
 use Rattle.pif_text.proofs.Marks.{marked_here, unmarked_here, onto}
@@ -171,14 +174,33 @@ event-plain (End t) r =
 event-plain (Tick n) r =
     plain-more 15 62 _ (omega arith) (behind 5 10 (codes "tick ") _ refl refl (omega arith) (plain-number n r))
 
--- the text of a command that stands in traces
-command-plain : (c : Command) → IsWritten c → if_traced Two c ≡ Some c → IsPlain 62 (command_text c)
+run-plain : (t : ℕ) (q : Option Request) → IsRunWritten t q → IsPlain 62 (run_text t q)
+unfolding run_text
+run-plain t (Some q) r =
+    plain-more 61 62 _ (omega arith) (spaced 16 44 (codes "call " ++ thread_name t) (request_text q)
+    (behind 5 11 (codes "call ") _ refl refl (omega arith) (plain-thread t r.0.1)) (request-plain q r.1))
+run-plain t None r =
+    plain-more 18 62 _ (omega arith) (behind 7 11 (codes "finish ") _ refl refl (omega arith) (plain-thread t r.1))
+
+question-plain : (q : Question) → IsQuestionWritten q → IsPlain 62 (question_text q)
+unfolding question_text
+question-plain (question.Word m) r =
+    plain-more 16 62 _ (omega arith) (behind 5 11 (codes "word ") _ refl refl (omega arith) (plain-mutex m r.1))
+question-plain (question.Health m) r =
+    plain-more 18 62 _ (omega arith) (behind 7 11 (codes "health ") _ refl refl (omega arith) (plain-mutex m r.1))
+question-plain (question.CondWord c) r =
+    plain-more 20 62 _ (omega arith) (behind 9 11 (codes "condword ") _ refl refl (omega arith) (plain-cond c r.1))
+question-plain (question.Prio t) r =
+    plain-more 16 62 _ (omega arith) (behind 5 11 (codes "prio ") _ refl refl (omega arith) (plain-thread t r.1))
+question-plain question.Pick r = record { no_end = refl; no_equals = refl; short = omega arith }
+
+command-plain : (c : Command) → IsWritten c → IsPlain 62 (command_text c)
 unfolding command_text
-command-plain (command.Limits t m c s) r e = limits-plain t m c s r
-command-plain (command.Add a) r e = addition-plain a r
-command-plain (command.Event v) r e = event-plain v r
-command-plain (command.Run t q) r e = cc
-command-plain (command.Ask q) r e = cc
+command-plain (command.Limits t m c s) r = limits-plain t m c s r
+command-plain (command.Add a) r = addition-plain a r
+command-plain (command.Event v) r = event-plain v r
+command-plain (command.Run t q) r = run-plain t q r
+command-plain (command.Ask q) r = question-plain q r
 
 -- ---- a command and the answer to it
 
@@ -235,10 +257,16 @@ pub record IsLine (bytes : List ℕ) : Type 0 where
   pub no_end : lacks 10 bytes ≡ true
   pub short : length bytes ≤ 120
 
+pub command-line : (c : Command) → IsWritten c → IsLine (command_text c)
+command-line c r =
+    let text = command-plain c r in
+    let short : length (command_text c) ≤ 62 = text.short in
+    record { no_end = text.no_end; short = omega arith }
+
 pub recorded-line : (c : Command) (r : Reply) → IsWritten c → if_traced Two c ≡ Some c → IsTraced r
     → IsLine (command_text c ++ recorded r)
 recorded-line c r p e q =
-    let command = command-plain c p e in
+    let command = command-plain c p in
     let text = reply-plain r q in
     let mark : lacks 10 (32 ∷ 61 ∷ 32 ∷ text_of r) ≡ true = text.no_end in
     record {
@@ -249,4 +277,4 @@ recorded-line c r p e q =
 -- the command and the answer in a line are those that were written
 pub recorded-parts : (c : Command) (r : Reply) → IsWritten c → if_traced Two c ≡ Some c
     → parts_of (command_text c ++ recorded r) ≡ Some (command_text c, text_of r)
-recorded-parts c r p e = parts_of-recorded (command_text c) (text_of r) (command-plain c p e).no_equals
+recorded-parts c r p e = parts_of-recorded (command_text c) (text_of r) (command-plain c p).no_equals

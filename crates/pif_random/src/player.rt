@@ -1,0 +1,314 @@
+ghost use Rattle.std.specs.Prelude.{◌≤◌};
+ghost use Rattle.pif_scripts.specs.CommandLines.{IsNoLimits};
+
+use crate::Shape;
+use pif_core::{Core, Event, Seen};
+use pif_text::{Addition, Command, Question};
+use pif_types::{CondId, Kind, Limits, MutexId, NoMemory, Request, Tid};
+use pif_uses::{call, finish};
+use rand_core::Rng;
+use rand_pcg::Pcg32;
+use std::alloc::Global;
+
+/// The stream of the random words; only the seed differs from script to script.
+const STREAM: u64 = 54;
+
+/// A core that plays a script while it is made, and what is left to chance.
+#[derive(Drop)]
+pub struct Player {
+    core: Core,
+    random: Pcg32,
+    shape: Shape,
+    // How many threads are to be added: more than at first once some have ended.
+    threads: u32,
+}
+
+impl Player {
+    /// A core under the default limits to which nothing was added.
+    pub fn new(alloc: Global, seed: u64, shape: Shape) -> Result<Player, NoMemory> {
+        let limits = Limits::new(1024, 1024, 256, u32::MAX).unwrap();
+        Ok(Player {
+            core: Core::new(alloc, limits)?,
+            random: Pcg32::new(seed, STREAM),
+            shape,
+            threads: shape.threads,
+        })
+    }
+
+    /// A command for the next line: what is still to be added, and then what a thread may do.
+    pub fn next_command(&mut self) -> Command
+        ensures { IsNoLimits result }
+    {
+        match self.addition() {
+            Some(addition) => Command::Add(addition),
+            None => self.turn(),
+        }
+    }
+
+    /// Plays a command on the core.
+    pub fn play(&mut self, command: Command) {
+        match command {
+            Command::Add(addition) => self.add(addition),
+            Command::Event(event) => self.step(event),
+            Command::Run(thread, request) => self.run(thread, request),
+            Command::Limits(..) | Command::Ask(_) => {}
+        }
+    }
+
+    fn add(&mut self, addition: Addition) {
+        match addition {
+            Addition::Thread(priority) => {
+                let _added = self.core.add_thread(priority);
+            }
+            Addition::Mutex(kind, robust) => {
+                let _added = self.core.add_mutex(kind, robust);
+            }
+            Addition::Cond(mutex) => {
+                let _added = self.core.add_cond(mutex);
+            }
+        }
+    }
+
+    fn run(&mut self, thread: Tid, request: Option<Request>) {
+        let _seen = match request {
+            Some(request) => call(&mut self.core, thread, request),
+            None => finish(&mut self.core, thread),
+        };
+    }
+
+    // Another thread follows one that has ended.
+    fn step(&mut self, event: Event) {
+        if let Seen::Ended = self.core.step(event) {
+            self.threads = self.threads.saturating_add(1);
+        }
+    }
+
+    // What is still to be added, as far as the limits allow.
+    fn addition(&mut self) -> Option<Addition> {
+        if self.core.threads() < self.threads.min(1024) {
+            Some(Addition::Thread(self.priority()))
+        } else if self.core.mutexes() < self.shape.mutexes.min(1024) {
+            let robust = self.shape.robust && self.below(2) == 0;
+            Some(Addition::Mutex(self.kind(), robust))
+        } else if self.core.conds() < self.shape.conds.min(256) {
+            Some(Addition::Cond(self.mutex()?))
+        } else {
+            None
+        }
+    }
+
+    // What a thread does next, or a question.
+    fn turn(&mut self) -> Command
+        ensures { IsNoLimits result }
+    {
+        match self.thread() {
+            Some(thread) => self.turn_of(thread),
+            None => Command::Ask(Question::Pick),
+        }
+    }
+
+    fn turn_of(&mut self, thread: Tid) -> Command
+        ensures { IsNoLimits result }
+    {
+        let chance = self.below(32);
+        if chance == 0 && self.shape.ends {
+            Command::Event(Event::End(thread))
+        } else if chance == 1 && self.shape.times {
+            Command::Event(Event::Tick(self.deadline()))
+        } else if chance == 2 {
+            Command::Ask(self.question(thread))
+        } else if self.core.waiting(thread).is_some() {
+            go_on(thread, chance)
+        } else {
+            match self.request(thread) {
+                Some(request) => begin(thread, request, chance),
+                None => Command::Ask(Question::Pick),
+            }
+        }
+    }
+
+    // What a thread with no call open asks for; none if there is no mutex.
+    fn request(&mut self, thread: Tid) -> Option<Request> {
+        let chance = self.below(16);
+        if chance < 9 {
+            match self.owned(thread) {
+                Some(mutex) => Some(self.use_of(mutex, chance)),
+                None => self.lock(),
+            }
+        } else if chance == 9 {
+            Some(Request::SetPrio(thread, self.priority()))
+        } else if chance == 10 {
+            Some(Request::TryLock(self.mutex()?))
+        } else if chance <= 12 {
+            self.wake(chance)
+        } else {
+            self.lock()
+        }
+    }
+
+    // What the owner of a mutex asks for.
+    fn use_of(&mut self, mutex: MutexId, chance: u32) -> Request {
+        if chance < 5 {
+            Request::Unlock(mutex)
+        } else if chance == 5 {
+            Request::Consistent(mutex)
+        } else {
+            match self.bound_to(mutex) {
+                Some(cond) => self.wait(cond, mutex),
+                None => Request::Unlock(mutex),
+            }
+        }
+    }
+
+    fn wait(&mut self, cond: CondId, mutex: MutexId) -> Request {
+        if self.shape.times && self.below(2) == 0 {
+            Request::TimedWait(cond, mutex, self.deadline())
+        } else {
+            Request::Wait(cond, mutex)
+        }
+    }
+
+    fn lock(&mut self) -> Option<Request> {
+        let mutex = self.mutex()?;
+        if self.shape.times && self.below(4) == 0 {
+            Some(Request::TimedLock(mutex, self.deadline()))
+        } else {
+            Some(Request::Lock(mutex))
+        }
+    }
+
+    // A signal or a broadcast; a lock if there is no condition variable.
+    fn wake(&mut self, chance: u32) -> Option<Request> {
+        let conds = self.core.conds();
+        if conds == 0 {
+            return self.lock();
+        }
+        let cond = CondId::new(self.below(conds).saturating_add(1))?;
+        if chance % 2 == 0 {
+            Some(Request::Signal(cond))
+        } else {
+            Some(Request::Broadcast(cond))
+        }
+    }
+
+    fn question(&mut self, thread: Tid) -> Question {
+        match self.mutex() {
+            Some(mutex) if self.below(4) == 0 => Question::Word(mutex),
+            Some(mutex) if self.below(4) == 0 => Question::Health(mutex),
+            _ => Question::Prio(thread),
+        }
+    }
+
+    // A thread that lives and doesn't rest, or else another is added: then any.
+    fn thread(&mut self) -> Option<Tid> {
+        let threads = self.core.threads();
+        let start = self.below(threads);
+        for i in 0..threads {
+            let thread = Tid::new(turned(start, i, threads))?;
+            if self.core.effective(thread).is_some() && self.core.waiting(thread) != Some(true) {
+                return Some(thread);
+            }
+        }
+        self.threads = self.threads.saturating_add(1);
+        Tid::new(start.saturating_add(1))
+    }
+
+    // A mutex that the thread owns.
+    fn owned(&mut self, thread: Tid) -> Option<MutexId> {
+        let mutexes = self.core.mutexes();
+        let start = self.below(mutexes);
+        for i in 0..mutexes {
+            let mutex = MutexId::new(turned(start, i, mutexes))?;
+            if let Some((owner, _)) = self.core.owner(mutex) {
+                if owner == thread {
+                    return Some(mutex);
+                }
+            }
+        }
+        None
+    }
+
+    // A condition variable that is bound to the mutex.
+    fn bound_to(&mut self, mutex: MutexId) -> Option<CondId> {
+        let conds = self.core.conds();
+        let start = self.below(conds);
+        for i in 0..conds {
+            let cond = CondId::new(turned(start, i, conds))?;
+            if self.core.bound(cond) == Some(mutex) {
+                return Some(cond);
+            }
+        }
+        None
+    }
+
+    // Any mutex, and now and then one that was never added; none if there is none.
+    fn mutex(&mut self) -> Option<MutexId> {
+        let mutexes = self.core.mutexes();
+        if mutexes == 0 {
+            return None;
+        }
+        let stray = self.below(64) == 0;
+        let place = if stray { mutexes } else { self.below(mutexes) };
+        MutexId::new(place.saturating_add(1))
+    }
+
+    fn kind(&mut self) -> Kind {
+        match self.below(3) {
+            0 => Kind::Normal,
+            1 => Kind::ErrorCheck,
+            _ => Kind::Recursive,
+        }
+    }
+
+    fn priority(&mut self) -> u32 {
+        1 + self.below(99)
+    }
+
+    // A time that is soon reached.
+    fn deadline(&mut self) -> u32 {
+        let more = self.below(8);
+        self.core.time().saturating_add(more)
+    }
+
+    // A random number below `count`; 0 if that is 0.
+    fn below(&mut self, count: u32) -> u32
+        ensures { result ≤ count }
+    {
+        if count == 0 {
+            0
+        } else {
+            self.random.next_u32() % count
+        }
+    }
+}
+
+// The number, from 1, that is so many behind the start, of so many in a ring.
+fn turned(start: u32, more: u32, count: u32) -> u32 {
+    if count == 0 {
+        1
+    } else {
+        start.saturating_add(more) % count + 1
+    }
+}
+
+// A thread goes on with the call that it has open, by a step or up to its end.
+fn go_on(thread: Tid, chance: u32) -> Command
+    ensures { IsNoLimits result }
+{
+    if chance % 4 == 0 {
+        Command::Run(thread, None)
+    } else {
+        Command::Event(Event::Go(thread))
+    }
+}
+
+// A thread begins a call, or makes it whole.
+fn begin(thread: Tid, request: Request, chance: u32) -> Command
+    ensures { IsNoLimits result }
+{
+    if chance % 2 == 0 {
+        Command::Run(thread, Some(request))
+    } else {
+        Command::Event(Event::Begin(thread, request))
+    }
+}

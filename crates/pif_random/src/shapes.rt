@@ -1,0 +1,16 @@
+/// What a random script is made of.
+#[derive(Clone, Copy, Debug, PartialEq, Eq)]
+pub struct Shape {
+    /// How many threads are added at first. One that ends, or that can't go on since all rest, is followed by another.
+    pub threads: u32,
+    /// How many mutexes are added.
+    pub mutexes: u32,
+    /// How many condition variables are added, if there is a mutex.
+    pub conds: u32,
+    /// Whether half of the mutexes are robust; else none is.
+    pub robust: bool,
+    /// Whether threads end, between the steps of their calls too.
+    pub ends: bool,
+    /// Whether time goes on and calls have deadlines.
+    pub times: bool,
+}
