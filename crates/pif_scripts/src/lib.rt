@@ -21,9 +21,10 @@ mod writing;
 
 pub use faults::CliFault;
 pub use laws::commands_have_no_fault;
-pub use migrating::{migrate, migrate_noting, migrated_trace_has_its_verdict};
+pub use migrating::{migrate, migrate_noting, migrated_trace_has_its_verdict, read_all};
 pub use notices::Notice;
 pub use pif_text::Cause;
+pub use reading::MOST_BYTES;
 pub use runs::{
     replay, replay_noting, run, run_noting, script_trace_is_the_same, trace, trace_noting,
 };

@@ -93,8 +93,12 @@ fn read_more<R: Read>(
     }
 }
 
-/// Reads all bytes, or as far as the byte that is one too many for a trace.
-fn read_all<R: Read>(alloc: Global, reader: &mut R) -> Result<Vec<u8>, CliFault>
+/// Reads all bytes, or as far as the byte that is one too many for a script or a trace: at most 16,777,217.
+///
+/// # Errors
+///
+/// `Read`, where the reader fails, and `NoMemory`.
+pub fn read_all<R: Read>(alloc: Global, reader: &mut R) -> Result<Vec<u8>, CliFault>
     ensures read { IfOk result (λ bytes. ReadsTo (R.remaining reader.old) (R.remaining reader.new) bytes.items) }
     ensures failed { IfErr result (λ fault. FailsToRead (R.remaining reader.old) (R.remaining reader.new) fault) }
 {

@@ -1,0 +1,10 @@
+pub mod AnswerLines
+pub mod AnswerTexts
+pub mod ChecksLemmas
+pub mod ComparingLemmas
+pub mod FillingLemmas
+pub mod LinesLemmas
+pub mod OkLemmas
+pub mod OrderLemmas
+pub mod RowLemmas
+pub mod StoriesLemmas

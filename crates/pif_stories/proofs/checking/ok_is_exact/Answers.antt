@@ -1,0 +1,5 @@
+use Rattle.pif_stories.proofs.OkLemmas.{ok_exactly}
+use Rattle.pif_stories.proofs.checking.ok_is_exact.Goals as goal
+
+pub returns : goal.returns
+returns c = ok_exactly

@@ -1,0 +1,138 @@
+-- What checking a story, or filling one in, does over a reader and a writer.
+use Rattle.std.specs.Prelude.{ℕ, ◌≡◌, ◌⊎◌, ◌↔◌, ◌≤◌, nat_lt, true, is_ok, List, [], ◌∷◌, ◌++◌, length, take, Option, Some, None, Result, Ok, Err, if◌then◌else◌}
+use Rattle.std.specs.Io.KnownBytes.{Appends, Consumes, Keeps}
+use Rattle.pif_text.specs.declared.replies.Cause.TheVariants.{Size}
+use Rattle.pif_scripts.specs.declared.faults.CliFault.{CliFault}
+use Rattle.pif_scripts.specs.declared.faults.CliFault.TheVariants.{Differs, NoMemory, Read, Script, Write}
+use Rattle.pif_scripts.specs.declared.reading.ending.Ending.{Ending}
+use Rattle.pif_scripts.specs.declared.reading.ending.Ending.TheVariants as ending
+use Rattle.pif_scripts.specs.declared.reading.ending.End.{End}
+use Rattle.pif_scripts.specs.Migrating.{IsAllRead}
+use Rattle.pif_scripts.specs.Running.{script}
+use Rattle.pif_scripts.specs.Runs.{WritesPart, output_of}
+use Rattle.pif_scripts.specs.Transcripts.{script_end, script_reading}
+use Rattle.pif_stories.specs.Filling.{filled_text}
+use Rattle.pif_stories.specs.Lines.{lines}
+use Rattle.pif_stories.specs.Stories.{NumberedRow, rows_of, script_by, script_of, story_lines}
+use Rattle.pif_stories.specs.Verdicts.{Fault, Verdict, compared, differing, faulty, verdict_line}
+
+-- ---- the script of a story
+
+-- all that `run` prints for a script of these bytes
+unfoldable pub printed : List ℕ → List ℕ
+printed bytes = output_of script (script_reading bytes)
+
+-- the first fault, at a line that ends a script so
+abbrev pub fault_by : ℕ → Ending → Option Fault
+fault_by line (ending.Fault cause) = Some (line, cause)
+fault_by line (ending.Differs reply) = None
+
+-- the first fault of a script that ends so
+abbrev pub fault_in : Result (List ℕ) End → Option Fault
+fault_in (Ok text) = None
+fault_in (Err end) = fault_by end.line end.ending
+
+-- the first fault of a script of these bytes
+unfoldable pub script_fault : List ℕ → Option Fault
+script_fault bytes = fault_in (script_end bytes)
+
+-- ---- verdicts
+
+-- what a story comes to whose commands are compared with these lines; one of more than 16,777,216 bytes is the fault
+-- `size`, at the line in which the first byte stands that is too many
+unfoldable pub judged : List ℕ → (answers : List (List ℕ)) → Verdict
+judged story answers =
+    if nat_lt 16777216 (length story) then Err (faulty (length (lines (take 16777216 story))) [] Size)
+    else compared (length (story_lines story)) (script_fault (script_of story)) (rows_of story) answers
+
+-- what a story comes to: ok with the number of its commands, or its first flaw. Its commands are compared with the
+-- lines that `run` prints for its script
+unfoldable pub verdict : List ℕ → Verdict
+verdict story = judged story (lines (printed (script_of story)))
+
+-- how a check ends
+abbrev pub ended : Verdict → Result (Unit {0}) CliFault
+ended (Ok commands) = Ok tt
+ended (Err (faulty line command cause)) = Err (Script line cause)
+ended (Err (differing line command written given)) = Err (Differs line)
+
+-- ---- what is written
+
+-- what is written for a story, and how that ends
+abbrev pub Telling : Type 0
+Telling = List ℕ × Result (Unit {0}) CliFault
+
+-- a verdict, told by its line
+abbrev pub told : (name : List ℕ) → Verdict → Telling
+told name found = (verdict_line name found, ended found)
+
+-- a check of a story of this name
+unfoldable pub checked : (name : List ℕ) → List ℕ → Telling
+checked name story = told name (verdict story)
+
+-- a story of this name that is filled in: if it has a fault, what a check would tell of that alone
+unfoldable pub filled : (name : List ℕ) → List ℕ → Telling
+filled name story =
+    elim (judged story []) [
+      | Ok commands ↦ (filled_text story (lines (printed (script_of story))), Ok tt)
+      | Err flaw ↦ told name (Err flaw)
+    ]
+
+-- of these bytes of a story, what is to be told was:
+--   ended well, a fault or a difference: all was read, it ends so, and the text was written
+--   a read failed, or out of memory: nothing was written
+--   a write failed: a proper part of the text was, from its front
+abbrev pub Tells : (List ℕ → Telling) → List ℕ → (after held holds : Option (List ℕ)) → Result (Unit {0}) CliFault
+    → Type 0
+Tells telling read after held holds (Ok x) =
+    ((telling read).1 ≡ Ok x) × IsAllRead read after × Appends held holds (telling read).0
+Tells telling read after held holds (Err (Script line cause)) =
+    ((telling read).1 ≡ Err (Script line cause)) × IsAllRead read after × Appends held holds (telling read).0
+Tells telling read after held holds (Err (Differs line)) =
+    ((telling read).1 ≡ Err (Differs line)) × IsAllRead read after × Appends held holds (telling read).0
+Tells telling read after held holds (Err Read) = Keeps held holds
+Tells telling read after held holds (Err Write) = IsAllRead read after × WritesPart held holds (telling read).0
+Tells telling read after held holds (Err NoMemory) = Keeps held holds
+
+-- the same, by what the reader had and has left, and what the writer held and holds
+abbrev pub TellsTo : (List ℕ → Telling) → (before after held holds : Option (List ℕ)) → Result (Unit {0}) CliFault
+    → Type 0
+TellsTo telling before after held holds result =
+    (read : List ℕ) × Consumes before after read × (length read ≤ 16777217) × Tells telling read after held holds result
+
+-- what is to be told was written, and ends so; or a write failed after a proper part of it
+abbrev pub WritesTelling : (held holds : Option (List ℕ)) → (text : List ℕ) → (end result : Result (Unit {0}) CliFault)
+    → Type 0
+WritesTelling held holds text end result =
+    ((result ≡ end) × Appends held holds text) ⊎ ((result ≡ Err Write) × WritesPart held holds text)
+
+-- a story was not looked at to its end, since memory ran out
+abbrev pub IsUntold : CliFault → Type 0
+IsUntold Read = Unit {0}
+IsUntold NoMemory = Unit {0}
+IsUntold Write = ⊥
+IsUntold (Script line cause) = ⊥
+IsUntold (Differs line) = ⊥
+
+-- ---- the law
+
+-- what `run` answers the lines of the script of these commands
+abbrev pub answers_to : List NumberedRow → List ℕ
+answers_to rows = (script_reading (script_by rows)).text
+
+-- `run` answers a command behind these commands so
+abbrev pub IsAnswer : List NumberedRow → NumberedRow → List ℕ → Type 0
+IsAnswer before row answer = answers_to (before ++ row ∷ []) ≡ answers_to before ++ (answer ++ 10 ∷ [])
+
+-- each command of a story with an answer has the one that `run` prints for it
+abbrev pub HasItsAnswers : List ℕ → Type 0
+HasItsAnswers story =
+    (before behind : List NumberedRow) (row : NumberedRow) (written : List ℕ)
+    → rows_of story ≡ before ++ row ∷ behind → row.1.1 ≡ Some written → IsAnswer before row written
+
+-- a story that is not too large is ok exactly if its script has no fault and each command with an answer has the one
+-- that `run` prints for it
+abbrev pub OkExactly : Type 0
+OkExactly =
+    (story : List ℕ) → length story ≤ 16777216
+    → (is_ok (verdict story) ≡ true) ↔ ((is_ok (script_end (script_of story)) ≡ true) × HasItsAnswers story)
