@@ -31,6 +31,3 @@ pub use runs::{
 pub use showing::{show, show_noting};
 pub use tracing::{write_trace, written_trace_is_the_same};
 pub use writing::write_whole;
-
-#[cfg(test)]
-mod tests;

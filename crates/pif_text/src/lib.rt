@@ -7,8 +7,6 @@ mod numbers;
 mod questions;
 mod reading;
 mod replies;
-#[cfg(test)]
-mod tests;
 mod text;
 mod traces;
 mod words;

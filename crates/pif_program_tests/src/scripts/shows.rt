@@ -1,7 +1,7 @@
 //! What `show` writes of the longest line, and what it tells of a write that fails, wherever that is.
 
-use super::streams::{Faltering, Kept};
-use crate::{Cause, CliFault, show};
+use crate::streams::{Faltering, Kept};
+use pif_scripts::{Cause, CliFault, show};
 use std::alloc::Global;
 use std::io::ErrorKind;
 use std::process::Abort;

@@ -1,7 +1,6 @@
-use super::streams::{Cautious, Failing, Kept};
-use super::{Cause, CliFault};
-use crate::{replay, write_trace, written_trace_is_the_same};
+use crate::streams::{Cautious, Failing, Kept};
 use pif_core::{Core, Entry, Event};
+use pif_scripts::{Cause, CliFault, replay, write_trace, written_trace_is_the_same};
 use pif_types::{CondId, Kind, Limits, MutexId, Prio, Request, Tid};
 use std::alloc::Global;
 use std::io::Read;

@@ -1,8 +1,8 @@
 //! Condition variables: waits, signals and broadcasts.
 
-use super::streams::Kept;
-use super::{Cause, CliFault, check};
-use crate::{replay, run};
+use super::check;
+use crate::streams::Kept;
+use pif_scripts::{Cause, CliFault, replay, run};
 
 #[test]
 fn signal_between_release_and_parking(rt: HostRuntime) {

@@ -1,6 +1,5 @@
-use super::streams::{Failing, Kept};
-use super::{Cause, CliFault};
-use crate::{Notice, replay_noting, run_noting};
+use crate::streams::{Failing, Kept};
+use pif_scripts::{Cause, CliFault, Notice, replay_noting, run_noting};
 use std::alloc::Global;
 use std::process::Abort;
 

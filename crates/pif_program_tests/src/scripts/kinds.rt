@@ -1,6 +1,6 @@
 use super::check;
-use super::streams::Kept;
-use crate::run;
+use crate::streams::Kept;
+use pif_scripts::run;
 
 /// Lines, each so many times, and what each is answered every time.
 const RECURSION: [(&str, u32, &str); 7] = [

@@ -13,17 +13,16 @@ mod robust;
 mod shows;
 mod states;
 mod steps;
-mod streams;
 mod traces;
 mod transcripts;
 mod uses;
 mod waits;
 
-use crate::{Cause, CliFault, run};
+use crate::streams::Kept;
+use pif_scripts::{Cause, CliFault, run};
 use std::alloc::Global;
 use std::io::Read;
 use std::process::Abort;
-use streams::Kept;
 
 const BOOSTED: &str =
     "thread 10\nthread 50\nmutex normal\ncall t1 lock m1\ncall t2 lock m1\nword m1\nprio t1\n\

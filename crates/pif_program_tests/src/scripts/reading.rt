@@ -1,6 +1,6 @@
-use super::streams::{Cautious, Counting, Failing, Faltering, Kept, Patient, Stumbling};
-use super::{BOOSTED, BOOSTED_ANSWERS, Cause, CliFault, check_run};
-use crate::{replay, run};
+use super::{BOOSTED, BOOSTED_ANSWERS, check_run};
+use crate::streams::{Cautious, Counting, Failing, Faltering, Kept, Patient, Stumbling};
+use pif_scripts::{Cause, CliFault, replay, run};
 use std::cell::Cell;
 use std::io::ErrorKind;
 

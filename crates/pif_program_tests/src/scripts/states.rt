@@ -1,8 +1,8 @@
 //! What `show` writes of a core: each field of each line, of two objects that differ in it and of all places of a queue,
 //! and a write that fails in each part of a text that is longer than a page.
 
-use super::streams::{Faltering, Last};
-use crate::{CliFault, show};
+use crate::streams::{Faltering, Last};
+use pif_scripts::{CliFault, show};
 use std::alloc::Global;
 use std::io::ErrorKind;
 use std::process::Abort;

@@ -1,6 +1,6 @@
-use super::streams::{Endless, Kept, Tail};
-use super::{Cause, CliFault, check_run};
-use crate::run;
+use super::check_run;
+use crate::streams::{Endless, Kept, Tail};
+use pif_scripts::{Cause, CliFault, run};
 
 /// A line of so many bytes before its LF.
 fn fill(line: &mut Kept, length: u32) {

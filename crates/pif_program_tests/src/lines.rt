@@ -1,9 +1,9 @@
-use crate::{
+use pif_model::{Event, Seen};
+use pif_text::{
     Added, Addition, Cause, Command, Fact, Question, Reply, Text, Version, command_of,
     command_reads_back, command_text, differs_text, fault_text, header_text, if_traced, mutex_text,
     number_reads_back, recorded_text, reply_text, same_text, split_answer, version_of,
 };
-use pif_model::{Event, Seen};
 use pif_types::{AddFault, CondId, Health, Kind, MutexId, Prio, Refusal, Request, Tid};
 use std::process::Abort;
 use std::test::Fail;

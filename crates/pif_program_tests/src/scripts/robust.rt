@@ -1,8 +1,8 @@
 //! Robust mutexes, and threads that end.
 
-use super::streams::Kept;
-use super::{Cause, CliFault, check};
-use crate::replay;
+use super::check;
+use crate::streams::Kept;
+use pif_scripts::{Cause, CliFault, replay};
 
 #[test]
 fn owner_death_is_reported_once(rt: HostRuntime) {

@@ -1,6 +1,6 @@
-use super::streams::Kept;
-use super::{Cause, CliFault, check};
-use crate::{migrate, replay, trace};
+use super::check;
+use crate::streams::Kept;
+use pif_scripts::{Cause, CliFault, migrate, replay, trace};
 use std::process::Abort;
 
 #[test]

@@ -1,5 +1,5 @@
 //! The longest chain that a core can have.
-use crate::run;
+use pif_scripts::run;
 use std::alloc::{AllocError, Global};
 use std::process::Abort;
 use std::test::Fail;

@@ -1,6 +1,5 @@
-use super::streams::{Cautious, Failing, Kept};
-use super::{Cause, CliFault};
-use crate::{Notice, replay, trace, trace_noting};
+use crate::streams::{Cautious, Failing, Kept};
+use pif_scripts::{Cause, CliFault, Notice, replay, trace, trace_noting};
 use std::alloc::Global;
 use std::io::Read;
 use std::process::Abort;

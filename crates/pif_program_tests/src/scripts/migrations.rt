@@ -1,6 +1,5 @@
-use super::streams::{Cautious, Endless, Failing, Kept, Tail};
-use super::{Cause, CliFault};
-use crate::{migrate, migrated_trace_has_its_verdict, replay};
+use crate::streams::{Cautious, Endless, Failing, Kept, Tail};
+use pif_scripts::{Cause, CliFault, migrate, migrated_trace_has_its_verdict, replay};
 use std::alloc::Global;
 use std::io::Read;
 use std::process::Abort;

@@ -1,7 +1,7 @@
 //! Tables of calls that something befalls after each number of their steps.
 
-use super::streams::Kept;
-use crate::run;
+use crate::streams::Kept;
+use pif_scripts::run;
 use std::alloc::Global;
 use std::process::Abort;
 

@@ -1,8 +1,7 @@
 //! Faults at the bytes around the end of a chunk, and at those of a line.
 
-use super::streams::{Kept, Tail};
-use super::{Cause, CliFault};
-use crate::run;
+use crate::streams::{Kept, Tail};
+use pif_scripts::{Cause, CliFault, run};
 use std::alloc::Global;
 use std::io;
 use std::io::{Read, Write};

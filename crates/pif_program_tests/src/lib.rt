@@ -1,0 +1,22 @@
+//! Tests of the crates that a program of scripts and stories stands on, in a crate of their own: a crate with tests is
+//! proved twice by the gate, and these are proved once, all together. Beside tests there is nothing in it.
+//!
+//! | Module | Tests of |
+//! |---|---|
+//! | `lines` | `pif_text`: the commands of lines, and the texts of commands, replies and faults |
+//! | `scripts` | `pif_scripts`: scripts and traces, from worked examples to reads and writes that fail |
+//! | `stories` | `pif_stories`: stories that are checked, and filled in |
+//! | `random` | `pif_random`: scripts by a seed |
+//! | `streams` | none: the readers and writers that `scripts`, `stories` and `random` share |
+#![tactic(auto)]
+
+#[cfg(test)]
+mod lines;
+#[cfg(test)]
+mod random;
+#[cfg(test)]
+mod scripts;
+#[cfg(test)]
+mod stories;
+#[cfg(test)]
+mod streams;

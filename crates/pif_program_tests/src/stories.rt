@@ -1,0 +1,93 @@
+mod differences;
+mod failures;
+mod faults;
+mod fills;
+
+use crate::streams::Kept;
+use pif_scripts::{Cause, CliFault};
+use pif_stories::{check, fill};
+use std::alloc::Global;
+use std::process::Abort;
+
+const BOOSTED: &str =
+    "# A thread of priority 10 holds a mutex, and one of priority 50 waits for it.\n\
+    thread 10         = t1\n\
+    thread 50         = t2\n\
+    mutex normal      = m1\n\
+    \n\
+    call t1 lock m1   = answer 0\n\
+    call t2 lock m1   = waits\n\
+    word m1           = 0x80000001\n\
+    prio t1           = 50\n\
+    \n\
+    # The unlock hands the mutex over.\n\
+    call t1 unlock m1 = answer 0\n\
+    word m1           = 0x80000002\n\
+    prio t1           = 10\n\
+    finish t2         = answer 0\n\
+    call t2 unlock m1 = answer 0\n\
+    word m1           = 0x00000000\n";
+
+/// Checks `story`, and compares what is written and how it ends.
+fn check_story(
+    rt: &impl Abort,
+    alloc: Global,
+    story: &[u8],
+    line: &str,
+    ended: Result<(), CliFault>,
+) {
+    check_said(rt, alloc, story, line.as_bytes(), ended);
+}
+
+/// The same, with the line as bytes.
+fn check_said(
+    rt: &impl Abort,
+    alloc: Global,
+    story: &[u8],
+    line: &[u8],
+    ended: Result<(), CliFault>,
+) {
+    let mut output = Kept::new();
+    let mut input = story;
+    let result = check(alloc, b"story", &mut input, &mut output);
+    assert!(rt; output.text() == line, "{line:?} is not what is said");
+    assert_eq!(rt; result, ended, "{line:?}");
+}
+
+/// Fills `story` in, and compares what is written and how it ends.
+fn check_filled(
+    rt: &impl Abort,
+    alloc: Global,
+    story: &[u8],
+    text: &str,
+    ended: Result<(), CliFault>,
+) {
+    let mut output = Kept::new();
+    let mut input = story;
+    let result = fill(alloc, b"story", &mut input, &mut output);
+    output.check(rt, text);
+    assert_eq!(rt; result, ended, "{text:?}");
+}
+
+#[test]
+fn stories_are_ok(rt: HostRuntime) {
+    let stories: [(&[u8], &str); 11] = [
+        (BOOSTED.as_bytes(), "ok story 13\n"),
+        (b"", "ok story 0\n"),
+        (b"\n\n", "ok story 0\n"),
+        (b"# a comment", "ok story 0\n"),
+        (b"#\n\n# = t1\n", "ok story 0\n"),
+        (b"thread 10\nthread 50 = t2\n", "ok story 2\n"),
+        (b"thread 10\nthread 50", "ok story 2\n"),
+        (
+            b"thread 10 = t1\r\n\r\n# x\r\npick = t1\r\n",
+            "ok story 2\n",
+        ),
+        (b"\xef\xbb\xbfthread 10 = t1\npick = t1", "ok story 2\n"),
+        (b"\xef\xbb\xbf", "ok story 0\n"),
+        (b"thread 10 = t1\r\npick = t1\r", "ok story 2\n"),
+    ];
+    for (story, line) in stories {
+        check_story(&rt, rt.alloc(), story, line, Ok(()));
+    }
+}
