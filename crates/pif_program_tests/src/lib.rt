@@ -4,6 +4,7 @@
 //! | Module | Tests of |
 //! |---|---|
 //! | `lines` | `pif_text`: the commands of lines, and the texts of commands, replies and faults |
+//! | `slips` | `pif_slips`: why a line is no command |
 //! | `scripts` | `pif_scripts`: scripts and traces, from worked examples to reads and writes that fail |
 //! | `stories` | `pif_stories`: stories that are checked, and filled in |
 //! | `random` | `pif_random`: scripts by a seed |
@@ -16,6 +17,8 @@ mod lines;
 mod random;
 #[cfg(test)]
 mod scripts;
+#[cfg(test)]
+mod slips;
 #[cfg(test)]
 mod stories;
 #[cfg(test)]

@@ -1,0 +1,14 @@
+//! Why a line of a script is no command: what is wrong, where, with which word, and which word is near it.
+#![tactic(auto)]
+
+mod calls;
+mod forms;
+mod near;
+mod parts;
+mod slips;
+mod walk;
+mod wrongs;
+
+pub use slips::Slip;
+pub use walk::read_command;
+pub use wrongs::Wrong;
