@@ -1,39 +1,80 @@
 -- How words that are refused end the program.
-use Rattle.std.proofs.Common.{◌≡◌, ◌∙◌, ◌⊎◌, inl, inr, ℕ, ◌<◌, ◌≤◌, ◌^◌, Bool, true, false, List, [], ◌∷◌, Option, Some, None, option_map, codes, if◌then◌else◌, Box, arith, ap, refl, sym, subst}
+use Rattle.std.proofs.Common.{unwrap_or, ◌≡◌, ◌∙◌, ◌⊎◌, inl, inr, ℕ, ◌<◌, ◌≤◌, ◌^◌, Bool, true, false, List, [], ◌∷◌, Option, Some, None, option_map, codes, if◌then◌else◌, Box, arith, ap, refl, sym, subst}
 use Rattle.std.proofs.KnownBytes.{Keeps-refl}
 use Rattle.std.specs.Box.{box_value}
 use Rattle.std.specs.Str.Parse.{IsNumeral, digits_value, without_leading_plus}
 use Rattle.std.specs.declared.alloc.Global.{Global}
-use Rattle.clap.specs.Words.{App, IsAmong, Kinds, fault_of, is_simple_and_free, HasMatchesOf, Row, Text, IsUnsignedIn, first_value, rows_of, subcommand_name_of, subcommand_of, subcommand_rows}
+use Rattle.clap.specs.Words.{App, IsAmong, Kinds, fault_of, is_simple_and_free, HasMatchesOf, Row, Text, IsUnsignedIn, first_of, first_value, matched_of, raw_values, rows_of, subcommand_name_of, subcommand_of, subcommand_rows}
 use Rattle.clap.specs.ValueTests.{is_unsigned_in}
 use Rattle.clap.specs.declared.builder.value_parser.ValueParser.TheVariants.{Unsigned}
 use Rattle.clap.specs.declared.error.kind.ErrorKind.{ErrorKind}
-use Rattle.clap.specs.declared.error.kind.ErrorKind.TheVariants.{OutOfMemory}
+use Rattle.clap.specs.declared.error.kind.ErrorKind.TheVariants.{DisplayHelp, DisplayVersion, OutOfMemory}
 use Rattle.clap.specs.declared.parser.matches.ArgMatches.{ArgMatches}
 use Rattle.clap.specs.declared.parser.matches.ArgMatches.TheViews.{out-ArgMatches, out-SubCommand}
 use Rattle.clap.specs.declared.parser.matches.Found.{Found}
 use Rattle.clap.specs.declared.parser.matches.SubCommand.{SubCommand}
 use Rattle.clap.proofs.ValueTestLemmas.{Accepts-accepts, accepts-Accepts}
-use Rattle.clap.proofs.WalkLemmas.{first_value-rows}
+use Rattle.clap.proofs.WalkLemmas.{first_value-rows, raw_values-rows}
 use Rattle.pif_cli.specs.declared.words.Job.{Job}
-use Rattle.pif_cli.specs.Words.{EndsBy, HadNoMemory, RefusedFor, clients_in, job_by, job_named, job_of, program, refusals_of}
+use Rattle.pif_cli.specs.Messages.{TellsAt}
+use Rattle.pif_cli.specs.Words.{EndsIf, HadNoMemory, Refused, RefusedFor, ShowedHelp, clients_in, files_by, files_in, files_of, job_by, job_named, job_of, program, refusals_of}
 
-pub EndsBy-refused : (kinds : Kinds) (job : Job) (k : ErrorKind) (read held holds errors_held errors_hold : Option (List ℕ)) (status : ℕ)
+pub EndsIf-refused : (kinds : Kinds) (done : Type 0) (k : ErrorKind)
+    (read held holds errors_held errors_hold : Option (List ℕ)) (status : ℕ)
     → (k ≡ OutOfMemory) ⊎ IsAmong k kinds
     → HadNoMemory held holds errors_held errors_hold status ⊎ ((k ≡ OutOfMemory → ⊥) × RefusedFor k held holds errors_held errors_hold status)
-    → EndsBy kinds job read read held holds errors_held errors_hold status
-EndsBy-refused [] job k read held holds errors_held errors_hold status why shown =
+    → EndsIf kinds done read read held holds errors_held errors_hold status
+EndsIf-refused [] done k read held holds errors_held errors_hold status why shown =
     elim shown [
       | inl w ↦ inr (Keeps-refl read, w)
       | inr w ↦ elim why [ inl o ↦ absurd (w.0 o) | inr m ↦ absurd m ]
     ]
-EndsBy-refused (x ∷ xs) job k read held holds errors_held errors_hold status why shown = (
+EndsIf-refused (x ∷ xs) done k read held holds errors_held errors_hold status why shown = (
   Keeps-refl read,
   elim shown [
     | inl w ↦ inr w
     | inr w ↦ elim why [ inl o ↦ absurd (w.0 o) | inr m ↦ inl (k, m, w.1) ]
   ],
 )
+
+-- what help tells the errors
+help_tells : (held holds errors_held errors_hold : Option (List ℕ)) (status : ℕ)
+    → ShowedHelp held holds errors_held errors_hold status → TellsAt status errors_held errors_hold
+help_tells held holds errors_held errors_hold status shown =
+    elim shown.1 [
+      | inl s ↦ inl (s.0, s.2)
+      | inr s ↦ inr (inr (inl (omega (arith, s.0), omega (arith, s.0), s.2)))
+    ]
+
+-- what other refusals tell them
+reason_tells : (held holds errors_held errors_hold : Option (List ℕ)) (status : ℕ)
+    → Refused held holds errors_held errors_hold status → TellsAt status errors_held errors_hold
+reason_tells held holds errors_held errors_hold status shown =
+    elim shown.1.1 [
+      | inl s ↦ inr (inl (s.0, (shown.1.0, s.1)))
+      | inr s ↦ inr (inr (inr (s.0, (shown.1.0, s.1))))
+    ]
+
+-- a refusal is help or another one
+help_or_reason : (k : ErrorKind) (held holds errors_held errors_hold : Option (List ℕ)) (status : ℕ)
+    → RefusedFor k held holds errors_held errors_hold status
+    → ShowedHelp held holds errors_held errors_hold status ⊎ Refused held holds errors_held errors_hold status
+help_or_reason DisplayHelp held holds errors_held errors_hold status r = inl r
+help_or_reason DisplayVersion held holds errors_held errors_hold status r = inl r
+help_or_reason k held holds errors_held errors_hold status r = inr r
+
+-- what words that are refused tell the errors
+pub refusal_tells : (k : ErrorKind) (held holds errors_held errors_hold : Option (List ℕ)) (status : ℕ)
+    → HadNoMemory held holds errors_held errors_hold status ⊎ ((k ≡ OutOfMemory → ⊥) × RefusedFor k held holds errors_held errors_hold status)
+    → TellsAt status errors_held errors_hold
+refusal_tells k held holds errors_held errors_hold status shown =
+    elim shown [
+      | inl w ↦ inr (inr (inl (omega (arith, w.0), omega (arith, w.0), w.2)))
+      | inr w ↦ elim (help_or_reason k held holds errors_held errors_hold status w.1) [
+        | inl h ↦ help_tells held holds errors_held errors_hold status h
+        | inr r ↦ reason_tells held holds errors_held errors_hold status r
+      ]
+    ]
 
 -- words with which the program's commands were parsed have no refusal
 pub refusals-none : (pif : App) (words : List (List ℕ)) → pif ≡ program → (is_simple_and_free pif ≡ true → fault_of pif words ≡ []) → refusals_of words ≡ []
@@ -47,16 +88,33 @@ met : (o : Option (Box SubCommand Global)) (name : Text) (rows : List Row)
 met None name rows n r = cc
 met (Some b) name rows n r = cc
 
--- the job of a parse that met a subcommand, by its name and what was found for it
-pub job_read : (pif : App) (words : List (List ℕ)) (m : ArgMatches) (name : Text) (found : Found) (given : Option Text)
-    (job : Job) → pif ≡ program → HasMatchesOf pif words m → Some name ≡ subcommand_name_of m
-    → Some (rows_of found) ≡ option_map (λ (p : Text × List Row). p.1) (subcommand_rows (out-ArgMatches m).subcommand)
-    → given ≡ first_value found (codes "N") → job ≡ job_named name given → job ≡ job_of words
-job_read pif words m name found given job e has n r g j =
-    let shown = (subst (λ (a : App). HasMatchesOf a words m) e has refl).1 in
-    let there : subcommand_of program words ≡ Some (name, rows_of found) =
-    sym shown ∙ met (out-ArgMatches m).subcommand name (rows_of found) n r in
-    j ∙ ap (λ (t : Option Text). job_named name t) (g ∙ first_value-rows found (codes "N")) ∙ sym (ap job_by there)
+module _ (pif : App) (words : List (List ℕ)) (m : ArgMatches) (name : Text) (found : Found) (e : pif ≡ program)
+    (has : HasMatchesOf pif words m) (n : Some name ≡ subcommand_name_of m)
+    (r : Some (rows_of found)
+    ≡ option_map (λ (p : Text × List Row). p.1) (subcommand_rows (out-ArgMatches m).subcommand)) where
+  -- the subcommand of the words is the one that a parse met
+  there : subcommand_of program words ≡ Some (name, rows_of found)
+  there =
+      let shown = (subst (λ (a : App). HasMatchesOf a words m) e has refl).1 in
+      sym shown ∙ met (out-ArgMatches m).subcommand name (rows_of found) n r
+
+  -- the job of a parse that met a subcommand, by its name and what was found for it
+  pub job_read : (given printed : Option Text) (job : Job) → given ≡ first_value found (codes "N")
+      → printed ≡ first_value found (codes "print") → job ≡ job_named name given printed → job ≡ job_of words
+  job_read given printed job g p j =
+      j ∙ ap (λ (t : Option Text). job_named name t printed) (g ∙ first_value-rows found (codes "N"))
+      ∙ ap (λ (t : Option Text). job_named name (first_of (codes "N") (rows_of found)) t)
+      (p ∙ first_value-rows found (codes "print"))
+      ∙ sym (ap job_by there)
+
+  -- and its files
+  pub files_read : (files : List Text) → files ≡ files_in (rows_of found) → files ≡ files_of words
+  files_read files f = f ∙ sym (ap files_by there)
+
+-- the files that were found
+pub files_found : (o : Option (List Text)) (found : Found) → o ≡ option_map raw_values (matched_of found (codes "FILE"))
+    → unwrap_or o [] ≡ files_in (rows_of found)
+files_found o found e = ap (λ (l : Option (List Text)). unwrap_or l []) (e ∙ raw_values-rows found (codes "FILE"))
 
 -- a number where a test says so
 taken : (b : Bool) (v : ℕ) → b ≡ true → v ≡ (if b then v else 0)

@@ -1,16 +1,33 @@
 use crate::messages::Message;
 use crate::statuses::JobFault;
-use crate::words::Job;
+use crate::words::{Job, STANDARD_NAME};
 use pif_scripts::{Cause, CliFault, Notice};
+use pif_slips::{Slip, Wrong, read_command};
+use pif_text::Command;
 use std::fmt::Write;
 
-/// What a person is told of a job's fault.
-pub fn message_of(job: Job, fault: JobFault, notice: &Notice) -> Message {
+/// What a person is told of a fault of a job over an input of this name.
+pub fn message_of(job: Job, name: &str, fault: JobFault, notice: &Notice) -> Message {
     match fault {
-        JobFault::Cli(fault) => text_message(job, fault, notice),
+        JobFault::Cli(CliFault::Read) => unread(name),
+        JobFault::Cli(fault) => match job {
+            Job::Check | Job::Fill => story_message(name, fault),
+            _ => text_message(job, fault, notice),
+        },
         JobFault::Threads => said("a thread cannot be started"),
         JobFault::Unsettled => said("the desk does not settle with its clients"),
     }
+}
+
+/// What a person is told of an input of this name that cannot be read.
+pub fn unread(name: &str) -> Message {
+    if name == STANDARD_NAME {
+        return plain_message(CliFault::Read);
+    }
+    let mut message = Message::new();
+    message.show(name.as_bytes());
+    message.say(": cannot be read");
+    message
 }
 
 /// A message of these words.
@@ -23,16 +40,39 @@ fn said(words: &str) -> Message {
 /// What a person is told of a fault of a script or a trace: of a line its number, the cause, and its text.
 fn text_message(job: Job, fault: CliFault, notice: &Notice) -> Message {
     match fault {
-        CliFault::Script(number, cause) => {
-            let words = cause_words(job, number, cause, notice);
-            let mut message = Message::new();
-            let _ = write!(message, "line {number}: {words}");
-            show_line(notice.line(), &mut message);
-            message
-        }
+        CliFault::Script(number, Cause::Command) => match job {
+            Job::Replay | Job::Migrate => no_traced(number, notice),
+            _ => no_command(number, notice.line()),
+        },
+        CliFault::Script(number, cause) => told(number, plain_cause(cause), notice.line()),
         CliFault::Differs(number) => difference(number, notice),
         CliFault::Read | CliFault::Write | CliFault::NoMemory => plain_message(fault),
     }
+}
+
+/// What a person is told of the line of this number: these words, and its text.
+fn told(number: u64, words: &str, line: &[u8]) -> Message {
+    let mut message = Message::new();
+    let _ = write!(message, "line {number}: {words}");
+    show_line(line, &mut message);
+    message
+}
+
+/// What a person is told of a fault of a story of this name: of a line its number, and what is wrong with it. The line
+/// itself stands in the output.
+fn story_message(name: &str, fault: CliFault) -> Message {
+    let (number, words) = match fault {
+        CliFault::Script(number, cause) => (number, plain_cause(cause)),
+        CliFault::Differs(number) => (number, "the core gives another answer"),
+        CliFault::Read | CliFault::Write | CliFault::NoMemory => return plain_message(fault),
+    };
+    let mut message = Message::new();
+    if name != STANDARD_NAME {
+        message.show(name.as_bytes());
+        message.say(": ");
+    }
+    let _ = write!(message, "line {number}: {words}");
+    message
 }
 
 /// What a person is told of a fault by its own text alone.
@@ -64,8 +104,8 @@ fn difference(number: u64, notice: &Notice) -> Message {
     message
 }
 
-/// Why the line of this number is a fault.
-fn cause_words(job: Job, number: u64, cause: Cause, notice: &Notice) -> &'static str {
+/// The words of a cause, where it has just these.
+fn plain_cause(cause: Cause) -> &'static str {
     match cause {
         Cause::Size => "the input has more than 16777216 bytes",
         Cause::Long => "the line has more than 120 bytes",
@@ -74,64 +114,65 @@ fn cause_words(job: Job, number: u64, cause: Cause, notice: &Notice) -> &'static
             "a limit is out of range (threads 1 to 1024, mutexes 0 to 1024, variables 0 to 256, \
             signals 1 to 4294967295)"
         }
-        Cause::Command => match job {
-            Job::Replay | Job::Migrate => no_traced(number, notice),
-            Job::Run | Job::Trace | Job::Show | Job::Drive(_) => no_command(number, notice.line()),
-        },
+        Cause::Command => "no such command",
     }
 }
 
-/// What is wrong in the writing of a command, where that is plain.
-fn slip(line: &[u8]) -> Option<&'static str> {
-    if line.ends_with(b"\r") {
-        return Some("the line ends in CR LF, and not in LF alone");
+/// What a person is told of a slip in the line of this number: its column, what is wrong, the nearest word and the form
+/// of the command, if there are such, and the text of the line.
+fn slip_message(number: u64, slip: Slip, line: &[u8]) -> Message {
+    let mut message = Message::new();
+    let _ = write!(message, "line {number}");
+    if slip.wrong != Wrong::Empty {
+        let column = slip.column;
+        let _ = write!(message, ", column {column}");
     }
-    let spaces = line.windows(2).any(|pair| pair == b"  ".as_slice());
-    if spaces || line.starts_with(b" ") || line.ends_with(b" ") || line.contains(&b'\t') {
-        return Some("words are separated by one space, with none at either end");
+    message.say(": ");
+    message.say(slip.wrong.words());
+    say_hint(", perhaps '", slip.near, &mut message);
+    say_hint(", in '", slip.form, &mut message);
+    show_line(line, &mut message);
+    message
+}
+
+/// Appends words and a hint between quotes, if there is one.
+fn say_hint(words: &str, hint: Option<&'static str>, message: &mut Message) {
+    if let Some(text) = hint {
+        message.say(words);
+        message.say(text);
+        message.say("'");
     }
-    None
 }
 
 /// Why a line of a script is no command there.
-fn no_command(number: u64, line: &[u8]) -> &'static str {
-    if line.is_empty() {
-        return "an empty line is no command";
-    }
-    if line.contains(&b'#') {
-        return "no such command, and there are no comments";
-    }
-    if let Some(words) = slip(line) {
-        return words;
-    }
-    if number > 1 && line.starts_with(b"limits ") {
-        return "limits may stand on the first line only";
-    }
+fn no_command(number: u64, line: &[u8]) -> Message {
     if line.starts_with(b"pif-trace ") {
-        return "a trace is no script: 'pif replay' takes it";
+        return told(number, "a trace is no script: 'pif replay' takes it", line);
     }
-    if line.iter().any(|byte| byte.is_ascii_uppercase()) {
-        return "no such command, and none has capital letters";
+    match read_command(line) {
+        Ok(_) => told(number, "limits may stand on the first line only", line),
+        Err(slip) => slip_message(number, slip, line),
     }
-    "no such command"
 }
 
 /// Why a line of a trace is no command there.
-fn no_traced(number: u64, notice: &Notice) -> &'static str {
-    if notice.line().ends_with(b"\r") {
-        return "the line ends in CR LF, and not in LF alone";
+fn no_traced(number: u64, notice: &Notice) -> Message {
+    let line = notice.line();
+    if line.ends_with(b"\r") {
+        return told(number, Wrong::CarriageReturn.words(), line);
     }
     if number == 1 {
-        return "the first line of a trace is 'pif-trace 1' or 'pif-trace 2'";
+        let words = "the first line of a trace is 'pif-trace 1' or 'pif-trace 2'";
+        return told(number, words, line);
     }
     let Some((command, _)) = notice.parts() else {
-        return "no ' = ' with an answer behind it";
+        return told(number, "no ' = ' with an answer behind it", line);
     };
-    if let Some(words) = slip(command) {
-        return words;
+    match read_command(command) {
+        Ok(Command::Limits(_, _, _, _)) => {
+            told(number, "limits may stand on the second line only", line)
+        }
+        Ok(_) => told(number, "no such command in a trace", line),
+        Err(slip) => slip_message(number, slip, line),
     }
-    if number > 2 && command.starts_with(b"limits ") {
-        return "limits may stand on the second line only";
-    }
-    "no such command in a trace"
 }

@@ -7,39 +7,51 @@ pub const ABOUT: &str =
     priority inheritance";
 
 /// What `run` does.
-pub const ABOUT_RUN: &str =
-    "Reads a script from the standard input, and writes an answer for each of its lines";
+pub const ABOUT_RUN: &str = "Reads a script, and writes an answer for each of its lines";
 
 /// What `replay` does.
-pub const ABOUT_REPLAY: &str =
-    "Reads a trace from the standard input, and says whether each of its answers is given again";
+pub const ABOUT_REPLAY: &str = "Reads a trace, and says whether each of its answers is given again";
 
 /// What `trace` does.
-pub const ABOUT_TRACE: &str =
-    "Reads a script from the standard input, and writes the trace that 'pif replay' takes";
+pub const ABOUT_TRACE: &str = "Reads a script, and writes the trace that 'pif replay' takes";
 
 /// What `migrate` does.
-pub const ABOUT_MIGRATE: &str =
-    "Reads a trace from the standard input, and writes it as a trace of version 2";
+pub const ABOUT_MIGRATE: &str = "Reads a trace, and writes it as a trace of version 2";
 
 /// What `show` does.
 pub const ABOUT_SHOW: &str =
-    "Reads a script from the standard input, and shows for each of its lines the answer and the state";
+    "Reads a script, and shows for each of its lines the answer and the state";
+
+/// What `check` does.
+pub const ABOUT_CHECK: &str =
+    "Reads stories, and says whether each of their answers is the one that the core gives";
+
+/// What the file of a command is.
+pub const ABOUT_FILE: &str = "The file to read; '-' or none is the standard input";
+
+/// What the files of `check` are.
+pub const ABOUT_FILES: &str = "The files to read, each a story; '-' or none is the standard input";
+
+/// What the flag of `check` does.
+pub const ABOUT_PRINT: &str = "Writes each story with its answers, and checks none";
+
+/// How `check` is called.
+pub const USAGE_CHECK: &str = "pif check [--print] [FILE]...";
 
 /// How `run` is called.
-pub const USAGE_RUN: &str = "pif run < FILE";
+pub const USAGE_RUN: &str = "pif run [FILE]";
 
 /// How `replay` is called.
-pub const USAGE_REPLAY: &str = "pif replay < FILE";
+pub const USAGE_REPLAY: &str = "pif replay [FILE]";
 
 /// How `trace` is called.
-pub const USAGE_TRACE: &str = "pif trace < FILE";
+pub const USAGE_TRACE: &str = "pif trace [FILE]";
 
 /// How `migrate` is called.
-pub const USAGE_MIGRATE: &str = "pif migrate < FILE";
+pub const USAGE_MIGRATE: &str = "pif migrate [FILE]";
 
 /// How `show` is called.
-pub const USAGE_SHOW: &str = "pif show < FILE";
+pub const USAGE_SHOW: &str = "pif show [FILE]";
 
 /// What `drive` does.
 pub const ABOUT_DRIVE: &str =
@@ -57,7 +69,8 @@ pub const EXAMPLE: &str =
 
 /// The end of the help of `run`.
 pub const MORE_RUN: &str =
-    "A script comes by < FILE, or by a pipe: one command a line, each answered by one line.
+    "A script comes from FILE, or from the standard input: one command a line, each
+answered by one line.
 
 The commands of scripts:
   limits T M C S    the most threads, mutexes, variables and signals; on the first line only
@@ -86,9 +99,9 @@ Standard error says what went wrong, and in which line.";
 
 /// The end of the help of `replay`.
 pub const MORE_REPLAY: &str =
-    "A trace comes by < FILE, or by a pipe. Its first line is 'pif-trace 2', or 'pif-trace 1' of an
-older one; each line behind it is a command, ' = ' and the answer that was recorded, as in
-'thread 10 = t1'.
+    "A trace comes from FILE, or from the standard input. Its first line is
+'pif-trace 2', or 'pif-trace 1' of an older one; each line behind it is a
+command, ' = ' and the answer that was recorded, as in 'thread 10 = t1'.
 
 The commands of traces:
   limits T M C S    the most threads, mutexes, variables and signals; on the second line only
@@ -110,7 +123,8 @@ Standard error says what went wrong, and in which line.";
 
 /// The end of the help of `trace`.
 pub const MORE_TRACE: &str =
-    "A script comes by < FILE, or by a pipe, as 'pif run' takes it; 'pif run --help' names its commands.
+    "A script comes from FILE, or from the standard input, as 'pif run' takes it;
+'pif run --help' names its commands.
 
 Its trace begins with 'pif-trace 2' and the line of the limits. Behind them stand the threads,
 mutexes and variables that were added, and each begin, go, end and tick, all with what the core
@@ -123,7 +137,8 @@ Standard error says what went wrong, and in which line.";
 
 /// The end of the help of `migrate`.
 pub const MORE_MIGRATE: &str =
-    "A trace comes by < FILE, or by a pipe, of version 1 or 2, as 'pif replay' takes it.
+    "A trace comes from FILE, or from the standard input, of version 1 or 2, as
+'pif replay' takes it.
 
 It is read to its end. Then it is written with 'pif-trace 2' as its first line, and all behind that
 as it is. Nothing is run and no answer is compared: 'pif replay' prints the same of both. The form of
@@ -135,7 +150,8 @@ Standard error says what went wrong, and in which line.";
 
 /// The end of the help of `show`.
 pub const MORE_SHOW: &str =
-    "A script comes by < FILE, or by a pipe, as 'pif run' takes it; 'pif run --help' names its commands.
+    "A script comes from FILE, or from the standard input, as 'pif run' takes it;
+'pif run --help' names its commands.
 
 For each line it prints the line behind '> ', what 'pif run' answers it, and what there is then:
   time N         the time, once one was handed in
@@ -150,6 +166,27 @@ What is empty is left out. This text is for reading, and may change; 'pif run' p
 
 Status: 0 done, 1 wrong words, 2 a fault of the script, 3 a read or write failed,
 4 out of memory.
+Standard error says what went wrong, and in which line.";
+
+/// The end of the help of `check`.
+pub const MORE_CHECK: &str =
+    "A story is a script for people. A line of it is a command, as 'pif run' takes
+it, with ' = ' and its answer behind it or without, as in 'thread 10   = t1'; or
+it begins with '#'; or it is empty.
+
+For each story it prints one line:
+  ok NAME N
+    it has N commands, and each answer that stands in it is the core's
+  NAME: differs L: C = W, but the core gives G
+    line L is the first with another answer, behind the command C
+  NAME: fault L CAUSE: C
+    line L is the first that is a fault, with the command C
+
+With --print it prints each story with the answers of all its commands, in one
+column.
+
+Status, of the first story that is not ok: 0 ok, 1 wrong words, 2 a fault,
+3 a read or write failed, 4 out of memory, 5 a difference.
 Standard error says what went wrong, and in which line.";
 
 /// The end of the help of `drive`.

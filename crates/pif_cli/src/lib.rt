@@ -5,6 +5,7 @@
 
 mod causes;
 mod drive;
+mod files;
 mod helps;
 mod messages;
 mod process;

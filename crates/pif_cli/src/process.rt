@@ -2,27 +2,30 @@ ghost use Rattle.std.specs.Prelude.{◌≡◌, ℕ, List, Result};
 ghost use Rattle.std.specs.declared.io.ErrorKind.{ErrorKind as IoErrorKind};
 ghost use Rattle.pif_cli.specs.Words.{EndsOver, HadNoWords};
 
+use crate::files::command_over_files;
 use crate::messages::Message;
 use crate::statuses::Status;
-use crate::words::{command, fail, show};
+use crate::words::{fail, show};
 use pif_scripts::CliFault;
 use std::io::{ErrorKind, Read, Write};
-use std::rt::Env;
+use std::rt::{Env, Files};
 use std::sync::Wait;
 use std::thread::Threads;
 use std::{env, io};
 
-/// What is said where a word is no text.
+/// What is said if a word is no text.
 const NO_TEXT: &str = "error: a word is not UTF-8\n";
 
 /// The program over the words of a process, its name first, as `command` is over words at hand: `main` hands over the
-/// process and its streams, and ends with what it is answered. The process starts the threads.
+/// process and its streams, and ends with what it is answered. The process starts the threads, and opens the files that
+/// the words name: the job is done over each in turn, and over `input` for `-`, and if they name none. The status is
+/// the first that is not 0. Of a file that cannot be opened `errors` is told in one line, and its status is 3.
 ///
 /// Where the words cannot be had, nothing is read. The status is then 1 where one of them is not UTF-8, which `errors`
 /// is told; 4 for want of memory; and 3 where they cannot be read, or where `errors` cannot be told of such a word. At
 /// 4, and where the words cannot be read, `errors` is told so in one line, as by `command`.
 pub fn command_of_process<
-    P: Env + AllocGlobal + Threads + Wait + Sync,
+    P: Env + AllocGlobal + Files + Threads + Wait + Sync,
     R: Read,
     W: Write,
     E: Write,
@@ -31,8 +34,7 @@ pub fn command_of_process<
         (W.contents output.old) (W.contents output.new) (E.contents errors.old) (E.contents errors.new) result }
 {
     match words_of(process) {
-        Ok(words) => Status::new(command(
-            process.alloc(),
+        Ok(words) => Status::new(command_over_files(
             process,
             words.as_slice(),
             input,

@@ -1,7 +1,7 @@
 mod desks;
 mod drives;
+mod files;
 mod messages;
-mod pages;
 mod shows;
 mod texts;
 mod words_of_processes;
@@ -32,6 +32,8 @@ const LOCKED: &str =
 
 const TRACED: &str =
     "pif-trace 2\nlimits 1024 1024 256 4294967295 = ok\nthread 10 = t1\ngo t2 = refused nosuch\n";
+
+const STORY: &str = "# Two threads.\nthread 10 = t1\n\nthread 20 = t2\n";
 
 /// Asks the program for a job with these words over an input. Answers the status, and what is written to the output and to
 /// the errors.
@@ -86,6 +88,14 @@ fn each_job_ends_with_its_status(rt: HostRuntime) {
         ("trace", "", 0, ""),
         ("trace", "thread 10\npick\ngo t2\nthread 2", 2, TRACED),
         ("trace", LOCKED, 2, ""),
+        ("check", STORY, 0, "ok - 2\n"),
+        (
+            "check",
+            "#\nthread 10 = t2\n",
+            5,
+            "-: differs 2: thread 10 = t2, but the core gives t1\n",
+        ),
+        ("check", "\nlok\n", 2, "-: fault 2 command: lok\n"),
         ("migrate", TRACED, 0, TRACED),
         ("migrate", "pif-trace 1\n", 0, "pif-trace 2\n"),
         ("migrate", "pif-trace 3\n", 2, "fault 1 command\n"),
@@ -108,7 +118,7 @@ impl Read for Broken {
 
 #[test]
 fn a_failed_read_or_write_has_status_3(rt: HostRuntime) {
-    for job in ["run", "show", "replay", "trace", "migrate"] {
+    for job in ["run", "show", "check", "replay", "trace", "migrate"] {
         let words = ["pif", job];
         let mut output = Kept::new();
         let mut errors = Kept::new();

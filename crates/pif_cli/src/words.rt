@@ -1,31 +1,37 @@
 ghost use Rattle.std.specs.Prelude.{◌≡◌, ◌⊎◌, ℕ, List, [], ◌∷◌, IfOk, codes, map, false, option_map};
 ghost use Rattle.std.specs.Io.KnownBytes.{Keeps};
-ghost use Rattle.clap.specs.Words.{app_of, FailsBy, kind_of, rule_of};
+ghost use Rattle.clap.specs.Words.{app_of, FailsBy, found_of, kind_of, rows_of, rule_of};
 ghost use Rattle.clap.specs.declared.builder.command.Command.TheViews.{out-Command};
 ghost use Rattle.clap.specs.declared.error.kind.ErrorKind.TheVariants.{DisplayHelp, DisplayVersion, MissingRequiredArgument, MissingSubcommand, ValueValidation};
 ghost use Rattle.pif_cli.specs.Messages.{TellsAt, TellsLine};
 ghost use Rattle.pif_cli.specs.Statuses.{fault_status};
-ghost use Rattle.pif_cli.specs.Words.{program, refusals_of, job_of, job_named, clients_in, clients_rule, drive_app, Did, Does, as_job, EndsBy, HadNoMemory, RefusedFor, Shows, ShowsHelp, bare_program, with_job, with_runs, with_traces};
+ghost use Rattle.pif_cli.specs.Words.{program, refusals_of, job_of, job_named, files_in, files_of, file_app, file_rule, files_rule, check_app, print_rule, first_name, is_given, name_of, clients_in, clients_rule, drive_app, Did, Does, as_job, EndsBy, HadNoMemory, RefusedFor, Shows, ShowsHelp, bare_program, with_job, with_runs, with_traces};
 
 use crate::causes::{message_of, plain_message};
 use crate::drive::drive;
 use crate::helps::{
-    ABOUT, ABOUT_CLIENTS, ABOUT_DRIVE, ABOUT_MIGRATE, ABOUT_REPLAY, ABOUT_RUN, ABOUT_SHOW,
-    ABOUT_TRACE, EXAMPLE, MORE_DRIVE, MORE_MIGRATE, MORE_REPLAY, MORE_RUN, MORE_SHOW, MORE_TRACE,
-    USAGE_DRIVE, USAGE_MIGRATE, USAGE_REPLAY, USAGE_RUN, USAGE_SHOW, USAGE_TRACE, VERSION,
+    ABOUT, ABOUT_CHECK, ABOUT_CLIENTS, ABOUT_DRIVE, ABOUT_FILE, ABOUT_FILES, ABOUT_MIGRATE,
+    ABOUT_PRINT, ABOUT_REPLAY, ABOUT_RUN, ABOUT_SHOW, ABOUT_TRACE, EXAMPLE, MORE_CHECK, MORE_DRIVE,
+    MORE_MIGRATE, MORE_REPLAY, MORE_RUN, MORE_SHOW, MORE_TRACE, USAGE_CHECK, USAGE_DRIVE,
+    USAGE_MIGRATE, USAGE_REPLAY, USAGE_RUN, USAGE_SHOW, USAGE_TRACE, VERSION,
 };
 use crate::statuses::{JobFault, fault_status, job_fault_status};
+use clap::ArgAction;
 use clap::builder::ValueParser;
 use clap::error::ErrorKind;
 use pif_scripts::{
     CliFault, Notice, migrate_noting, replay_noting, run_noting, show_noting, trace_noting,
     write_whole,
 };
+use pif_stories::{check, fill};
 use std::alloc::{AllocError, Global};
 use std::convert::AsStr;
 use std::io::{Read, Write};
 use std::sync::Wait;
 use std::thread::Threads;
+
+/// The name of the standard input.
+pub const STANDARD_NAME: &str = "-";
 
 /// What the words ask the program to do.
 #[derive(Clone, Copy, Debug, PartialEq, Eq)]
@@ -40,6 +46,10 @@ pub enum Job {
     Migrate,
     /// `show`: run a script, and show it to a person.
     Show,
+    /// `check`: check a story.
+    Check,
+    /// `check --print`: fill a story in.
+    Fill,
     /// `drive`: let so many clients make calls in threads of their own.
     Drive(u32),
 }
@@ -56,7 +66,33 @@ fn bare_program<'a>(alloc: Global) -> clap::Command<'a>
         .subcommand_required(true)
 }
 
-/// The program with one more command, which has this name and these texts.
+/// The file of a command over one input.
+fn file_given<'a>(alloc: Global) -> clap::Arg<'a>
+    ensures rule { rule_of result ≡ file_rule }
+    ensures local { result.global ≡ false }
+{
+    clap::Arg::new(alloc, "FILE").help(ABOUT_FILE)
+}
+
+/// A command over one input, which has this name and these texts.
+fn file_command<'a>(
+    alloc: Global,
+    name: &'a str,
+    about: &'a str,
+    usage: &'a str,
+    more: &'a str,
+) -> Result<clap::Command<'a>, AllocError>
+    ensures app { IfOk result (λ c. app_of c ≡ file_app name.now) }
+    ensures local { IfOk result (λ c. (out-Command c).has_globals ≡ false) }
+{
+    clap::Command::new(alloc, name)
+        .about(about)
+        .override_usage(usage)
+        .after_help(more)
+        .arg(file_given(alloc))
+}
+
+/// The program with one more command over one input, which has this name and these texts.
 fn with_job<'a>(
     alloc: Global,
     pif: clap::Command<'a>,
@@ -67,19 +103,50 @@ fn with_job<'a>(
 ) -> Result<clap::Command<'a>, AllocError>
     ensures { IfOk result (λ c. app_of c ≡ with_job (app_of pif.entry) name.now) }
 {
-    let job = clap::Command::new(alloc, name)
-        .about(about)
-        .override_usage(usage)
-        .after_help(more);
-    pif.subcommand(job)
+    pif.subcommand(file_command(alloc, name, about, usage, more)?)
 }
 
-/// The program with the commands over scripts that show answers.
+/// Whether a story is to be filled in.
+fn print_given<'a>(alloc: Global) -> clap::Arg<'a>
+    ensures rule { rule_of result ≡ print_rule }
+    ensures local { result.global ≡ false }
+{
+    clap::Arg::new(alloc, "print")
+        .long("print")
+        .action(ArgAction::SetTrue)
+        .help(ABOUT_PRINT)
+}
+
+/// The files of a command over any number of inputs.
+fn files_given<'a>(alloc: Global) -> clap::Arg<'a>
+    ensures rule { rule_of result ≡ files_rule }
+    ensures local { result.global ≡ false }
+{
+    clap::Arg::new(alloc, "FILE")
+        .num_args(0..)
+        .help(ABOUT_FILES)
+}
+
+/// The command `check`.
+fn check_command<'a>(alloc: Global) -> Result<clap::Command<'a>, AllocError>
+    ensures app { IfOk result (λ c. app_of c ≡ check_app) }
+    ensures local { IfOk result (λ c. (out-Command c).has_globals ≡ false) }
+{
+    clap::Command::new(alloc, "check")
+        .about(ABOUT_CHECK)
+        .override_usage(USAGE_CHECK)
+        .after_help(MORE_CHECK)
+        .arg(print_given(alloc))?
+        .arg(files_given(alloc))
+}
+
+/// The program with the commands over scripts and stories that show answers.
 fn with_runs<'a>(alloc: Global, pif: clap::Command<'a>) -> Result<clap::Command<'a>, AllocError>
     ensures { IfOk result (λ c. app_of c ≡ with_runs (app_of pif.entry)) }
 {
     let pif = with_job(alloc, pif, "run", ABOUT_RUN, USAGE_RUN, MORE_RUN)?;
-    with_job(alloc, pif, "show", ABOUT_SHOW, USAGE_SHOW, MORE_SHOW)
+    let pif = with_job(alloc, pif, "show", ABOUT_SHOW, USAGE_SHOW, MORE_SHOW)?;
+    pif.subcommand(check_command(alloc)?)
 }
 
 /// The program with the commands over traces.
@@ -137,21 +204,58 @@ fn drive_command<'a>(alloc: Global) -> Result<clap::Command<'a>, AllocError>
         .arg(clients_given(alloc))
 }
 
-/// The job that the words ask for, the program's name first.
-fn read_words<S: AsStr>(alloc: Global, words: &[S]) -> Result<Job, clap::Error>
-    ensures refusals { FailsBy (refusals_of (map S.text words.now)) result }
-    ensures job { IfOk result (λ job. job ≡ job_of (map S.text words.now)) }
+/// What the words ask for.
+#[derive(Drop)]
+pub struct Asked<'a> {
+    /// The job.
+    pub job: Job,
+    /// The files over which it is to be done, in their order; none where it is the standard input.
+    pub files: Vec<&'a str>,
+}
+
+/// The files that are given to a command.
+fn files_in<'a>(alloc: Global, given: &clap::ArgMatches<'a>) -> Result<Vec<&'a str>, AllocError>
+    ensures { IfOk result (λ files. map (λ file. file.now) files.items ≡ files_in (rows_of (found_of given.now))) }
 {
-    let matches = program(alloc)?.try_get_matches_from(words)?;
-    match matches.subcommand() {
-        Some((name, given)) => Ok(job_named(name, given.get_str("N"))),
-        None => Ok(Job::Run),
+    match given.get_strs("FILE") {
+        Some(files) => Ok(Vec::from_slice(alloc, files)?),
+        None => Ok(Vec::new(alloc)),
     }
 }
 
-/// The job of a command's name, with what was given as its number.
-fn job_named(name: &str, given: Option<&str>) -> Job
-    ensures { result ≡ job_named name.now (option_map (λ s. s.now) given.entry) }
+/// The job that the words ask for, the program's name first, and the files over which it is to be done.
+pub fn read_words<'a, S: AsStr>(alloc: Global, words: &'a [S]) -> Result<Asked<'a>, clap::Error>
+    ensures refusals { FailsBy (refusals_of (map S.text words.now)) result }
+    ensures job { IfOk result (λ asked. asked.job ≡ job_of (map S.text words.now)) }
+    ensures files { IfOk result (λ asked. map (λ file. file.now) asked.files.items ≡ files_of (map S.text words.now)) }
+{
+    let matches = program(alloc)?.try_get_matches_from(words)?;
+    match matches.subcommand() {
+        Some((name, given)) => Ok(Asked {
+            job: job_named(name, given.get_str("N"), given.get_str("print")),
+            files: files_in(alloc, given)?,
+        }),
+        None => Ok(Asked {
+            job: Job::Run,
+            files: Vec::new(alloc),
+        }),
+    }
+}
+
+/// Whether a flag was given, by what was found of it.
+fn is_given(found: Option<&str>) -> bool
+    ensures { result ≡ is_given (option_map (λ s. s.now) found.entry) }
+{
+    match found {
+        Some(text) => text == "true",
+        None => false,
+    }
+}
+
+/// The job of a command's name, with what was given as its number, and as its flag.
+fn job_named(name: &str, given: Option<&str>, printed: Option<&str>) -> Job
+    ensures { result
+        ≡ job_named name.now (option_map (λ s. s.now) given.entry) (option_map (λ s. s.now) printed.entry) }
 {
     if name == "replay" {
         Job::Replay
@@ -161,6 +265,12 @@ fn job_named(name: &str, given: Option<&str>) -> Job
         Job::Migrate
     } else if name == "show" {
         Job::Show
+    } else if name == "check" {
+        if is_given(printed) {
+            Job::Fill
+        } else {
+            Job::Check
+        }
     } else if name == "drive" {
         Job::Drive(clients_in(given))
     } else {
@@ -202,16 +312,18 @@ fn as_job(done: Result<(), CliFault>) -> Result<(), JobFault>
     }
 }
 
-/// Does a job over these streams, and has `notice` keep the line that ends it.
+/// Does a job over these streams, of which the input has this name, and has `notice` keep the line that ends it.
 fn do_job<T: Threads + Wait + Sync, R: Read, W: Write>(
     job: Job,
+    name: &str,
     alloc: Global,
     rt: &T,
     input: &mut R,
     output: &mut W,
     notice: &mut Notice,
 ) -> Result<(), JobFault>
-    ensures { Does job (R.remaining input.old) (R.remaining input.new) (W.contents output.old) (W.contents output.new) result }
+    ensures { Does job name.now (R.remaining input.old) (R.remaining input.new)
+        (W.contents output.old) (W.contents output.new) result }
 {
     match job {
         Job::Run => as_job(run_noting(alloc, input, output, notice)),
@@ -219,28 +331,31 @@ fn do_job<T: Threads + Wait + Sync, R: Read, W: Write>(
         Job::Trace => as_job(trace_noting(alloc, input, output, notice)),
         Job::Migrate => as_job(migrate_noting(alloc, input, output, notice)),
         Job::Show => as_job(show_noting(alloc, input, output, notice)),
+        Job::Check => as_job(check(alloc, name.as_bytes(), input, output)),
+        Job::Fill => as_job(fill(alloc, name.as_bytes(), input, output)),
         Job::Drive(clients) => drive(alloc, rt, clients, output),
     }
 }
 
-/// Does a job over these streams, and tells `errors` of a fault. Answers the status, which is that of the job where
-/// `errors` fails, too.
-fn do_and_tell<T: Threads + Wait + Sync, R: Read, W: Write, E: Write>(
+/// Does a job over these streams, of which the input has this name, and tells `errors` of a fault. Answers the status,
+/// which is that of the job where `errors` fails, too.
+pub fn do_and_tell<T: Threads + Wait + Sync, R: Read, W: Write, E: Write>(
     job: Job,
+    name: &str,
     alloc: Global,
     rt: &T,
     input: &mut R,
     output: &mut W,
     errors: &mut E,
 ) -> u8
-    ensures { Did job (R.remaining input.old) (R.remaining input.new) (W.contents output.old) (W.contents output.new)
-        (E.contents errors.old) (E.contents errors.new) result }
+    ensures { Did job name.now (R.remaining input.old) (R.remaining input.new)
+        (W.contents output.old) (W.contents output.new) (E.contents errors.old) (E.contents errors.new) result }
 {
     let mut notice = Notice::new();
-    match do_job(job, alloc, rt, input, output, &mut notice) {
+    match do_job(job, name, alloc, rt, input, output, &mut notice) {
         Ok(()) => 0,
         Err(fault) => {
-            message_of(job, fault, &notice).tell(errors);
+            message_of(job, name, fault, &notice).tell(errors);
             job_fault_status(fault)
         }
     }
@@ -276,7 +391,7 @@ pub fn show<W: Write>(text: &str, shown: u8, writer: &mut W) -> u8
 }
 
 /// Shows why the words ask for no job.
-fn refuse<W: Write, E: Write>(
+pub fn refuse<W: Write, E: Write>(
     alloc: Global,
     error: clap::Error,
     output: &mut W,
@@ -301,19 +416,31 @@ fn refuse<W: Write, E: Write>(
     }
 }
 
+/// The name of the one input: that of the first file, if there is one.
+fn first_name<'a>(files: &[&'a str]) -> &'a str
+    ensures { result.now ≡ first_name (map (λ file. file.now) files.now) }
+{
+    match files {
+        [] => STANDARD_NAME,
+        [file, ..] => *file,
+    }
+}
+
 /// The program over its words, the program's name first. `pif run` reads a script from `input`, and writes what its
-/// lines are answered, and the line of a fault, to `output`. `pif replay` reads a trace from `input`, and writes to
-/// `output` what it comes to, as `replay` does. `pif trace` reads a script from `input`, and writes its trace to
-/// `output`, as `trace` does, without the line of a fault. `pif migrate` reads a trace from `input`, and writes it to
-/// `output` as one of version 2, or the line of its fault, as `migrate` does. `pif show` reads a script from `input`, and writes to `output`
-/// each line, its answer and the state behind it, as `show` does. `pif drive N` lets N clients, 1 to 64, make their calls in
-/// threads of their own, as `rt` starts them, reads nothing, and writes to `output` how many were answered, as `drive`
-/// does.
+/// lines are answered, and the line of a fault, to `output`. `pif show` reads a script from `input`, and writes to
+/// `output` each line, its answer and the state behind it, as `show` does. `pif check` reads a story from `input`, and
+/// writes to `output` a line that says whether it is ok, as `check` does; with `--print` it writes it with its answers,
+/// as `fill` does. `pif replay` reads a trace from `input`, and writes to `output` what it comes to, as `replay` does.
+/// `pif trace` reads a script from `input`, and writes its trace to `output`, as `trace` does, without the line of a
+/// fault. `pif migrate` reads a trace from `input`, and writes it to `output` as one of version 2, or the line of its
+/// fault, as `migrate` does. `pif drive N` lets N clients, 1 to 64, make their calls in threads of their own, as `rt`
+/// starts them. It reads nothing, and writes to `output` how many were answered, as `drive` does. A word behind all but
+/// `drive` names a file: no file is opened here, and `input` stands for the first.
 ///
-/// The status is 0 where the job was done, or help or the version was asked for, whose text goes to `output`; 1 where
-/// the words are refused, and the reason goes to `errors`; 2 for a fault of the script or trace; 3 where a read or a
-/// write fails; 4 for want of memory; 5 where a trace differs; and 6 where a thread can't be started, or the desk of the
-/// clients doesn't settle. Nothing is read where no job is asked for.
+/// The status is 0 if the job was done, or help or the version was asked for, whose text goes to `output`; 1 if the
+/// words are refused, and the reason goes to `errors`; 2 for a fault of the script, story or trace; 3 if a read or a
+/// write fails; 4 if it ran out of memory; 5 if a story or a trace differs; and 6 if a thread can't be started, or the
+/// desk of the clients doesn't settle. Nothing is read if no job is asked for.
 ///
 /// At status 0 nothing goes to `errors`, and at 2 to 6 one line of printable ASCII, which says what went wrong; where
 /// that line cannot be written, the status stays. At 3 it is a part of the reason why the words are refused, where that
@@ -327,18 +454,21 @@ pub fn command<T: Threads + Wait + Sync, S: AsStr, R: Read, W: Write, E: Write>(
     errors: &mut E,
 ) -> u8
     ensures errors { TellsAt result (E.contents errors.old) (E.contents errors.new) }
-    ensures ends { EndsBy (refusals_of (map S.text words.now)) (job_of (map S.text words.now)) (R.remaining input.old) (R.remaining input.new)
+    ensures ends { EndsBy (refusals_of (map S.text words.now)) (job_of (map S.text words.now))
+        (name_of (map S.text words.now)) (R.remaining input.old) (R.remaining input.new)
         (W.contents output.old) (W.contents output.new) (E.contents errors.old) (E.contents errors.new) result }
 {
     match read_words(alloc, words) {
-        Ok(job) => do_and_tell(job, alloc, rt, input, output, errors),
+        Ok(asked) => {
+            let name = first_name(asked.files.as_slice());
+            do_and_tell(asked.job, name, alloc, rt, input, output, errors)
+        }
         Err(error) => refuse(alloc, error, output, errors),
     }
 }
 
-/// Which words ask for which job: `run` alone, `replay` alone, `trace` alone, `migrate` alone,
-/// `show` alone, and `drive` with a number from 1 to 64 do;
-/// no word, `--help` and `--version` don't.
+/// Which words ask for which job: `run`, `show`, `replay`, `trace` and `migrate` alone, `run` with a file, `check` alone,
+/// with `--print` and with two files, and `drive` with a number from 1 to 64 do; no word, `--help` and `--version` don't.
 #[tactic(auto, unfolding(clap::proofs::OnLiterals::clap_on_literals))]
 pub fn words_of_the_program()
     ensures run { (name : List ℕ) → (refusals_of (name ∷ codes "run" ∷ []) ≡ []) × (job_of (name ∷ codes "run" ∷ []) ≡ Job.Run) }
@@ -346,6 +476,14 @@ pub fn words_of_the_program()
     ensures trace { (name : List ℕ) → (refusals_of (name ∷ codes "trace" ∷ []) ≡ []) × (job_of (name ∷ codes "trace" ∷ []) ≡ Job.Trace) }
     ensures migrate { (name : List ℕ) → (refusals_of (name ∷ codes "migrate" ∷ []) ≡ []) × (job_of (name ∷ codes "migrate" ∷ []) ≡ Job.Migrate) }
     ensures show { (name : List ℕ) → (refusals_of (name ∷ codes "show" ∷ []) ≡ []) × (job_of (name ∷ codes "show" ∷ []) ≡ Job.Show) }
+    ensures check { (name : List ℕ) → (refusals_of (name ∷ codes "check" ∷ []) ≡ [])
+        × (job_of (name ∷ codes "check" ∷ []) ≡ Job.Check) }
+    ensures fill { (name : List ℕ) → (refusals_of (name ∷ codes "check" ∷ codes "--print" ∷ []) ≡ [])
+        × (job_of (name ∷ codes "check" ∷ codes "--print" ∷ []) ≡ Job.Fill) }
+    ensures file { (name : List ℕ) → (refusals_of (name ∷ codes "run" ∷ codes "a" ∷ []) ≡ [])
+        × (files_of (name ∷ codes "run" ∷ codes "a" ∷ []) ≡ codes "a" ∷ []) }
+    ensures files { (name : List ℕ) → (refusals_of (name ∷ codes "check" ∷ codes "a" ∷ codes "b" ∷ []) ≡ [])
+        × (files_of (name ∷ codes "check" ∷ codes "a" ∷ codes "b" ∷ []) ≡ codes "a" ∷ codes "b" ∷ []) }
     ensures least { (name : List ℕ) → (refusals_of (name ∷ codes "drive" ∷ codes "1" ∷ []) ≡ []) × (job_of (name ∷ codes "drive" ∷ codes "1" ∷ []) ≡ Job.Drive 1) }
     ensures most { (name : List ℕ) → (refusals_of (name ∷ codes "drive" ∷ codes "64" ∷ []) ≡ []) × (job_of (name ∷ codes "drive" ∷ codes "64" ∷ []) ≡ Job.Drive 64) }
     ensures too_few { (name : List ℕ) → refusals_of (name ∷ codes "drive" ∷ codes "0" ∷ []) ≡ ValueValidation ∷ [] }

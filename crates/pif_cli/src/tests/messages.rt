@@ -53,19 +53,19 @@ fn a_faulty_script_is_told_by_its_line(rt: HostRuntime) {
     let scripts = [
         (
             b"thread 10\nmutex normal\ncall t1 lock m1\ncall t1 lok m1\n".as_slice(),
-            "pif: line 4: no such command: call t1 lok m1\n",
+            "pif: line 4, column 9: no such call, perhaps 'lock', in 'call tN CALL': call t1 lok m1\n",
         ),
         (
             b"Thread 10\n",
-            "pif: line 1: no such command, and none has capital letters: Thread 10\n",
+            "pif: line 1, column 1: no word has capital letters, perhaps 'thread': Thread 10\n",
         ),
         (
             b"# a comment\nthread 10\n",
-            "pif: line 1: no such command, and there are no comments: # a comment\n",
+            "pif: line 1, column 1: no such command, and there are no comments: # a comment\n",
         ),
         (
             b"thread 10 # low\n",
-            "pif: line 1: no such command, and there are no comments: thread 10 # low\n",
+            "pif: line 1, column 11: no such command, and there are no comments: thread 10 # low\n",
         ),
         (
             b"thread 10\n\npick\n",
@@ -73,29 +73,32 @@ fn a_faulty_script_is_told_by_its_line(rt: HostRuntime) {
         ),
         (
             b"thread 10\r\npick\r\n",
-            "pif: line 1: the line ends in CR LF, and not in LF alone: thread 10\\r\n",
+            "pif: line 1, column 10: the line ends in CR LF, and not in LF alone: thread 10\\r\n",
         ),
         (
             b"pick\nthread  10\n",
-            "pif: line 2: words are separated by one space, with none at either end: thread  10\n",
+            "pif: line 2, column 8: words are separated by one space, with none at either end: thread  10\n",
         ),
         (
             b" pick\n",
-            "pif: line 1: words are separated by one space, with none at either end:  pick\n",
+            "pif: line 1, column 1: words are separated by one space, with none at either end:  pick\n",
         ),
         (
             b"pick \n",
-            "pif: line 1: words are separated by one space, with none at either end: pick \n",
+            "pif: line 1, column 5: words are separated by one space, with none at either end: pick \n",
         ),
         (
             b"thread\t10\n",
-            "pif: line 1: words are separated by one space, with none at either end: thread\\t10\n",
+            "pif: line 1, column 7: words are separated by one space, with none at either end: thread\\t10\n",
         ),
         (
             b"thr\xc3\xa9ad 10\n",
-            "pif: line 1: no such command: thr\\xc3\\xa9ad 10\n",
+            "pif: line 1, column 1: no such command, perhaps 'thread': thr\\xc3\\xa9ad 10\n",
         ),
-        (b"\0\x7f\n", "pif: line 1: no such command: \\x00\\x7f\n"),
+        (
+            b"\0\x7f\n",
+            "pif: line 1, column 1: no such command: \\x00\\x7f\n",
+        ),
         (
             b"limits 0 1 1 1\n",
             "pif: line 1: a limit is out of range (threads 1 to 1024, mutexes 0 to 1024, variables 0 to 256, \
@@ -146,7 +149,7 @@ fn a_faulty_trace_is_told_by_its_line(rt: HostRuntime) {
         ),
         (
             b"pif-trace 1\nthread  10 = t1\n",
-            "pif: line 2: words are separated by one space, with none at either end: thread  10 = t1\n",
+            "pif: line 2, column 8: words are separated by one space, with none at either end: thread  10 = t1\n",
         ),
         (
             b"pif-trace 1\nthread 10 = t1\npick = t1\n",
@@ -154,7 +157,7 @@ fn a_faulty_trace_is_told_by_its_line(rt: HostRuntime) {
         ),
         (
             b"pif-trace 1\nmutex fair = m1\n",
-            "pif: line 2: no such command in a trace: mutex fair = m1\n",
+            "pif: line 2, column 7: no such kind of mutex, in 'mutex KIND [robust]': mutex fair = m1\n",
         ),
         (
             b"pif-trace 1\nlimits 1025 0 0 1 = ok\n",
@@ -203,6 +206,21 @@ fn a_difference_is_told_with_both_answers(rt: HostRuntime) {
     ];
     for (trace, message) in traces {
         check_input(&rt, rt.alloc(), "replay", trace, (5, message));
+    }
+}
+
+#[test]
+fn a_story_that_is_not_ok_is_told_by_its_line(rt: HostRuntime) {
+    let stories = [
+        (
+            b"#\nthread 10 = t2\n".as_slice(),
+            (5, "pif: line 2: the core gives another answer\n"),
+        ),
+        (b"\nlok m1\n", (2, "pif: line 2: no such command\n")),
+        (b"", (0, "")),
+    ];
+    for (story, told) in stories {
+        check_input(&rt, rt.alloc(), "check", story, told);
     }
 }
 
@@ -279,7 +297,7 @@ fn filled(text: &[u8], bytes: &[u8], times: u32, end: &[u8]) -> Kept {
 #[test]
 fn a_line_is_shown_in_120_bytes_at_most(rt: HostRuntime) -> Result<(), Fail> {
     let long = b"pif: line 2: the line has more than 120 bytes: ".as_slice();
-    let unknown = b"pif: line 2: no such command: ".as_slice();
+    let unknown = b"pif: line 2, column 1: no such command: ".as_slice();
     let lines = [
         (b"x".as_slice(), 121, long, b"x".as_slice(), 120),
         (b"x", 120, unknown, b"x", 120),
@@ -295,37 +313,75 @@ fn a_line_is_shown_in_120_bytes_at_most(rt: HostRuntime) -> Result<(), Fail> {
     Ok(())
 }
 
-/// Checks that the first line of a script is told of as no command.
+/// Checks what is told of the first line of a script, which is no command, before its text.
 fn check_no_command(
     rt: &(impl Abort + Threads + Wait + Sync),
     alloc: Global,
     line: &str,
+    said: &str,
 ) -> Result<(), Fail> {
-    let said = b"pif: line 1: no such command: ";
     let script = filled(line.as_bytes(), b"\n", 1, b"");
-    let message = filled(said.as_slice(), line.as_bytes(), 1, b"\n");
+    let mut message = filled(b"pif: line 1, column ", said.as_bytes(), 1, b": ");
+    let _ = message.try_extend_from_slice(line.as_bytes());
+    let _ = message.try_extend_from_slice(b"\n");
     let told = (2, from_utf8(message.as_slice())?);
     check_input(rt, alloc, "run", script.as_slice(), told);
     Ok(())
 }
 
+/// Lines that are no commands, and what is told of them.
+static SLIPS: [(&str, &str); 12] = [
+    (
+        "mutex fair",
+        "7: no such kind of mutex, in 'mutex KIND [robust]'",
+    ),
+    (
+        "mutex normal normal",
+        "14: another word is wanted here, in 'mutex KIND [robust]'",
+    ),
+    (
+        "thread",
+        "7: the line ends where a word is wanted, in 'thread P'",
+    ),
+    (
+        "thread -1",
+        "8: a number from 0 to 4294967295 is wanted, with no zero in front, in 'thread P'",
+    ),
+    (
+        "thread 010",
+        "8: a number from 0 to 4294967295 is wanted, with no zero in front, in 'thread P'",
+    ),
+    (
+        "thread 4294967296",
+        "8: a number from 0 to 4294967295 is wanted, with no zero in front, in 'thread P'",
+    ),
+    (
+        "call t0 lock m1",
+        "6: a name has a number from 1 to 4294967295, with no zero in front, in 'call tN CALL'",
+    ),
+    (
+        "call t1 lok m1",
+        "9: no such call, perhaps 'lock', in 'call tN CALL'",
+    ),
+    (
+        "begin t1 lock c1",
+        "15: a mutex is wanted here, as m1, in 'begin tN lock mN'",
+    ),
+    (
+        "limits 1 1 1",
+        "13: the line ends where a word is wanted, in 'limits THREADS MUTEXES VARIABLES SIGNALS'",
+    ),
+    (
+        "pick t1",
+        "6: there are words behind the end of the command, in 'pick'",
+    ),
+    ("pik", "1: no such command, perhaps 'pick'"),
+];
+
 #[test]
 fn words_that_a_command_does_not_take_make_it_none(rt: HostRuntime) -> Result<(), Fail> {
-    let lines = [
-        "mutex fair",
-        "mutex normal normal",
-        "thread",
-        "thread -1",
-        "thread 010",
-        "thread 4294967296",
-        "call t0 lock m1",
-        "call t1 lok m1",
-        "begin t1 lock c1",
-        "limits 1 1 1",
-        "pick t1",
-    ];
-    for line in lines {
-        check_no_command(&rt, rt.alloc(), line)?;
+    for (line, said) in SLIPS {
+        check_no_command(&rt, rt.alloc(), line, said)?;
     }
     Ok(())
 }
@@ -347,7 +403,7 @@ fn faults_without_a_line_are_told_by_their_words(rt: HostRuntime) {
     ];
     for (fault, message) in faults {
         let mut errors = Kept::new();
-        message_of(Job::Run, fault, &Notice::new()).tell(&mut errors);
+        message_of(Job::Run, "-", fault, &Notice::new()).tell(&mut errors);
         assert!(rt; errors.as_slice() == message.as_bytes(), "{message:?}");
     }
 }

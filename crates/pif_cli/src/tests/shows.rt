@@ -142,14 +142,14 @@ fn a_failed_write_has_status_3(rt: HostRuntime) {
 }
 
 #[test]
-fn a_file_is_no_word_of_show(rt: HostRuntime) -> Result<(), Fail> {
-    let words = ["pif", "show", "boosted.pif"];
+fn a_second_file_is_no_word_of_show(rt: HostRuntime) -> Result<(), Fail> {
+    let words = ["pif", "show", "first.pif", "boosted.pif"];
     let (ended, output, errors) = asked(&rt, rt.alloc(), words.as_slice(), b"pick\n".as_slice());
     assert_eq!(rt; (ended, output.len()), (1, 0));
     let told = from_utf8(errors.as_slice())?;
     assert!(rt;
         told.contains("unexpected argument 'boosted.pif'")
-            && told.contains("Usage: pif show < FILE\n")
+            && told.contains("Usage: pif show [FILE]\n")
     );
     Ok(())
 }

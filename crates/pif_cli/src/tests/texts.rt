@@ -12,17 +12,13 @@ const USAGE: &str = "Usage: pif <COMMAND>";
 
 const MORE: &str = "For more information, try '--help'.";
 
-const RUN: &str =
-    "Reads a script from the standard input, and writes an answer for each of its lines";
+const RUN: &str = "Reads a script, and writes an answer for each of its lines";
 
-const REPLAY: &str =
-    "Reads a trace from the standard input, and says whether each of its answers is given again";
+const REPLAY: &str = "Reads a trace, and says whether each of its answers is given again";
 
-const TRACE: &str =
-    "Reads a script from the standard input, and writes the trace that 'pif replay' takes";
+const TRACE: &str = "Reads a script, and writes the trace that 'pif replay' takes";
 
-const MIGRATE: &str =
-    "Reads a trace from the standard input, and writes it as a trace of version 2";
+const MIGRATE: &str = "Reads a trace, and writes it as a trace of version 2";
 
 /// What is shown for `words`, which ask for no job: the status, and what is written to the output and to the errors.
 fn show(
@@ -76,12 +72,12 @@ fn check_helped(
 
 #[test]
 fn wrong_words_are_refused(rt: HostRuntime) -> Result<(), Fail> {
-    let refused: [(&[&str], [&str; 4]); 11] = [
+    let refused: [(&[&str], [&str; 4]); 12] = [
         (
             ["pif"].as_slice(),
             [
                 "requires a subcommand",
-                "run, show, replay, trace, migrate, drive",
+                "run, show, check, replay, trace, migrate, drive",
                 USAGE,
                 MORE,
             ],
@@ -91,7 +87,7 @@ fn wrong_words_are_refused(rt: HostRuntime) -> Result<(), Fail> {
             ["error", "unrecognized subcommand 'walk'", USAGE, MORE],
         ),
         (
-            ["pif", "replay", "run"].as_slice(),
+            ["pif", "replay", "a", "run"].as_slice(),
             [
                 "error",
                 "unexpected argument 'run'",
@@ -100,38 +96,42 @@ fn wrong_words_are_refused(rt: HostRuntime) -> Result<(), Fail> {
             ],
         ),
         (
-            ["pif", "run", "fast"].as_slice(),
-            [
-                "error",
-                "unexpected argument 'fast'",
-                "Usage: pif run",
-                MORE,
-            ],
+            ["pif", "run", "-f"].as_slice(),
+            ["error", "unexpected argument '-f'", "Usage: pif run", MORE],
         ),
         (
-            ["pif", "run", "boosted.script"].as_slice(),
+            ["pif", "run", "a", "boosted.script"].as_slice(),
             [
                 "error",
                 "unexpected argument 'boosted.script'",
-                "Usage: pif run < FILE\n",
+                "Usage: pif run [FILE]\n",
                 MORE,
             ],
         ),
         (
-            ["pif", "replay", "boosted.trace"].as_slice(),
+            ["pif", "replay", "a", "boosted.trace"].as_slice(),
             [
                 "error",
                 "unexpected argument 'boosted.trace'",
-                "Usage: pif replay < FILE\n",
+                "Usage: pif replay [FILE]\n",
                 MORE,
             ],
         ),
         (
-            ["pif", "trace", "boosted.pif"].as_slice(),
+            ["pif", "trace", "a", "boosted.pif"].as_slice(),
             [
                 "error",
                 "unexpected argument 'boosted.pif'",
-                "Usage: pif trace < FILE\n",
+                "Usage: pif trace [FILE]\n",
+                MORE,
+            ],
+        ),
+        (
+            ["pif", "check", "--prints"].as_slice(),
+            [
+                "error",
+                "unexpected argument '--prints'",
+                "Usage: pif check [--print] [FILE]...\n",
                 MORE,
             ],
         ),
@@ -177,6 +177,7 @@ fn help_is_shown(rt: HostRuntime) -> Result<(), Fail> {
         TRACE,
         "  migrate ",
         MIGRATE,
+        "  check ",
         "-h, --help",
         "-V, --version",
         "Example:\n  printf 'thread 10\\nmutex normal\\ncall t1 lock m1\\nword m1\\n' | pif run",
@@ -186,9 +187,9 @@ fn help_is_shown(rt: HostRuntime) -> Result<(), Fail> {
     }
     let run = [
         RUN,
-        "Usage: pif run < FILE\n",
+        "Usage: pif run [FILE]\n",
         "-h, --help",
-        "A script comes by < FILE, or by a pipe",
+        "A script comes from FILE, or from the standard input",
         "\n  limits T M C S    the most threads",
         "\n  thread P          adds a thread",
         "\n  mutex K           adds a mutex",
@@ -221,9 +222,9 @@ fn help_is_shown(rt: HostRuntime) -> Result<(), Fail> {
 fn help_of_replay_is_shown(rt: HostRuntime) -> Result<(), Fail> {
     let replay = [
         REPLAY,
-        "Usage: pif replay < FILE\n",
+        "Usage: pif replay [FILE]\n",
         "-h, --help",
-        "A trace comes by < FILE, or by a pipe.",
+        "A trace comes from FILE, or from the standard input.",
         "\n  limits T M C S    the most threads",
         "\n  thread P          adds a thread",
         "\n  mutex K           adds a mutex",
@@ -248,9 +249,9 @@ fn help_of_replay_is_shown(rt: HostRuntime) -> Result<(), Fail> {
 fn help_of_trace_is_shown(rt: HostRuntime) -> Result<(), Fail> {
     let trace = [
         TRACE,
-        "Usage: pif trace < FILE\n",
+        "Usage: pif trace [FILE]\n",
         "-h, --help",
-        "A script comes by < FILE, or by a pipe",
+        "A script comes from FILE, or from the standard input",
         "'pif run --help' names its commands.",
         "Its trace begins with 'pif-trace 2'",
         "as in 'go t1 = went'",
@@ -268,7 +269,7 @@ fn help_of_trace_is_shown(rt: HostRuntime) -> Result<(), Fail> {
 fn help_of_migrate_is_shown(rt: HostRuntime) -> Result<(), Fail> {
     let migrate = [
         MIGRATE,
-        "Usage: pif migrate < FILE\n",
+        "Usage: pif migrate [FILE]\n",
         "-h, --help",
         "of version 1 or 2",
         "with 'pif-trace 2' as its first line",
@@ -279,6 +280,26 @@ fn help_of_migrate_is_shown(rt: HostRuntime) -> Result<(), Fail> {
         rt.alloc(),
         ["pif", "migrate", "--help"].as_slice(),
         migrate.as_slice(),
+    )
+}
+
+#[test]
+fn help_of_check_is_shown(rt: HostRuntime) -> Result<(), Fail> {
+    let check = [
+        "Reads stories, and says whether each of their answers is the one that the core gives",
+        "Usage: pif check [--print] [FILE]...\n",
+        "--print",
+        "Writes each story with its answers, and checks none",
+        "'-' or none is the standard input",
+        "as in 'thread 10   = t1'",
+        "  ok NAME N",
+        "3 a read or write failed, 4 out of memory, 5 a difference.",
+    ];
+    check_helped(
+        &rt,
+        rt.alloc(),
+        ["pif", "check", "--help"].as_slice(),
+        check.as_slice(),
     )
 }
 

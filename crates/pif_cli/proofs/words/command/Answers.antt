@@ -1,6 +1,10 @@
 use Rattle.clap.specs.Words.{kind_of}
-use Rattle.pif_cli.proofs.WordsLemmas.{EndsBy-refused}
+use Rattle.pif_cli.proofs.WordsLemmas.{EndsIf-refused, refusal_tells}
 use Rattle.pif_cli.proofs.words.command.Goals as goal
 
+pub returns-in-Err-clause-errors : goal.returns-in-Err-clause-errors
+returns-in-Err-clause-errors g c = refusal_tells (kind_of c.in-Err.error) _ _ _ _ _ c.refuse.ensures
+
 pub returns-in-Err-clause-ends : goal.returns-in-Err-clause-ends
-returns-in-Err-clause-ends g c = EndsBy-refused _ _ (kind_of c.in-Err.error) _ _ _ _ _ _ c.in-Err.ensures.refusals c.refuse.ensures
+returns-in-Err-clause-ends g c =
+    EndsIf-refused _ _ (kind_of c.in-Err.error) _ _ _ _ _ _ c.in-Err.ensures.refusals c.refuse.ensures

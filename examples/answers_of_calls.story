@@ -1,0 +1,11 @@
+thread 10              = t1
+thread 20              = t2
+mutex errorcheck       = m1
+call t1 lock m1        = answer 0
+call t1 lock m1        = answer 35
+call t2 unlock m1      = answer 1
+call t2 trylock m1     = answer 16
+call t2 setprio t9 30  = answer 3
+call t2 setprio t1 100 = answer 22
+prio t1                = 10
+word m1                = 0x00000001

@@ -1,0 +1,14 @@
+thread 1        = t1
+thread 2        = t2
+thread 99       = t3
+mutex normal    = m1
+mutex normal    = m2
+call t1 lock m1 = answer 0
+call t2 lock m2 = answer 0
+call t2 lock m1 = waits
+call t3 lock m2 = waits
+prio t1         = 99
+prio t2         = 99
+prio t3         = 99
+pick            = t1
+call t1 lock m2 = answer 35

@@ -1,0 +1,16 @@
+thread 10         = t1
+thread 20         = t2
+mutex normal      = m1
+mutex normal      = m2
+call t1 lock m1   = answer 0
+call t2 lock m2   = answer 0
+call t2 lock m1   = waits
+call t1 lock m2   = answer 35
+word m1           = 0x80000001
+word m2           = 0x00000002
+prio t1           = 20
+call t1 unlock m1 = answer 0
+finish t2         = answer 0
+call t2 unlock m1 = answer 0
+call t2 unlock m2 = answer 0
+call t1 lock m2   = answer 0

@@ -1,0 +1,13 @@
+thread 10           = t1
+thread 10           = t2
+mutex normal robust = m1
+begin t1 lock m1    = begun
+go t1               = went
+go t1               = went
+go t1               = went
+word m1             = 0x00000001
+end t1              = ended
+word m1             = 0x40000000
+call t2 lock m1     = answer 130
+word m1             = 0x00000002
+health m1           = inconsistent

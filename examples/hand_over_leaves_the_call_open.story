@@ -1,0 +1,13 @@
+thread 10         = t1
+thread 50         = t2
+mutex normal      = m1
+call t1 lock m1   = answer 0
+call t2 lock m1   = waits
+finish t2         = waits
+call t1 unlock m1 = answer 0
+word m1           = 0x80000002
+pick              = t2
+call t2 unlock m1 = refused busy
+finish t2         = answer 0
+finish t2         = refused idle
+call t2 unlock m1 = answer 0

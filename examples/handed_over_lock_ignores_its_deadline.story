@@ -1,0 +1,11 @@
+thread 10              = t1
+thread 50              = t2
+mutex normal           = m1
+call t1 lock m1        = answer 0
+call t2 timedlock m1 5 = waits
+tick 4                 = ticked
+finish t2              = waits
+call t1 unlock m1      = answer 0
+tick 5                 = ticked
+finish t2              = answer 0
+word m1                = 0x80000002

@@ -1,0 +1,13 @@
+thread 10         = t1
+thread 50         = t2
+mutex normal      = m1
+call t1 lock m1   = answer 0
+call t2 lock m1   = waits
+word m1           = 0x80000001
+prio t1           = 50
+call t1 unlock m1 = answer 0
+word m1           = 0x80000002
+prio t1           = 10
+finish t2         = answer 0
+call t2 unlock m1 = answer 0
+word m1           = 0x00000000

@@ -1,0 +1,17 @@
+thread 10              = t1
+thread 50              = t2
+mutex normal           = m1
+call t1 lock m1        = answer 0
+call t2 timedlock m1 5 = waits
+prio t1                = 50
+tick 4                 = ticked
+finish t2              = waits
+tick 5                 = ticked
+pick                   = t1
+finish t2              = answer 110
+prio t1                = 10
+word m1                = 0x80000001
+tick 4                 = refused past
+call t1 unlock m1      = answer 0
+word m1                = 0x00000000
+call t2 timedlock m1 0 = answer 0

@@ -1,0 +1,16 @@
+thread 10         = t1
+thread 10         = t2
+mutex normal      = m1
+begin t1 lock m1  = begun
+go t1             = went
+begin t2 lock m1  = begun
+go t2             = went
+go t2             = answer 0
+word m1           = 0x00000002
+go t1             = went
+go t1             = waits
+word m1           = 0x80000002
+go t1             = waits
+call t2 unlock m1 = answer 0
+go t1             = answer 0
+go t1             = refused idle

@@ -1,0 +1,13 @@
+thread 10         = t1
+mutex normal      = m1
+call t1 lock m1   = answer 0
+thread 20         = t2
+pick              = t2
+thread 30         = t3
+call t3 lock m1   = waits
+prio t1           = 30
+pick              = t1
+call t1 unlock m1 = answer 0
+prio t1           = 10
+pick              = t3
+finish t3         = answer 0

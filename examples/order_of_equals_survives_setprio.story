@@ -1,0 +1,15 @@
+thread 10             = t1
+thread 20             = t2
+thread 20             = t3
+mutex normal          = m1
+call t1 lock m1       = answer 0
+call t2 lock m1       = waits
+call t3 lock m1       = waits
+call t1 setprio t2 30 = answer 0
+prio t1               = 30
+call t1 setprio t2 20 = answer 0
+prio t1               = 20
+call t1 unlock m1     = answer 0
+word m1               = 0x80000002
+finish t3             = waits
+finish t2             = answer 0

@@ -1,0 +1,14 @@
+thread 10          = t1
+thread 50          = t2
+mutex recursive    = m1
+call t1 lock m1    = answer 0
+call t1 lock m1    = answer 0
+call t1 trylock m1 = answer 0
+call t2 lock m1    = waits
+prio t1            = 50
+call t1 unlock m1  = answer 0
+call t1 unlock m1  = answer 0
+word m1            = 0x80000001
+call t1 unlock m1  = answer 0
+word m1            = 0x80000002
+finish t2          = answer 0

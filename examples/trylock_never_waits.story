@@ -1,0 +1,12 @@
+thread 10          = t1
+thread 50          = t2
+mutex errorcheck   = m1
+call t1 trylock m1 = answer 0
+call t2 trylock m1 = answer 16
+call t1 trylock m1 = answer 16
+call t1 lock m1    = answer 35
+prio t1            = 10
+word m1            = 0x00000001
+call t1 unlock m1  = answer 0
+call t2 trylock m1 = answer 0
+word m1            = 0x00000002

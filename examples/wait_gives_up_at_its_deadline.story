@@ -1,0 +1,14 @@
+thread 10                 = t1
+thread 10                 = t2
+mutex normal              = m1
+cond m1                   = c1
+call t2 lock m1           = answer 0
+call t2 timedwait c1 m1 3 = waits
+call t1 lock m1           = answer 0
+tick 3                    = ticked
+finish t2                 = waits
+call t1 unlock m1         = answer 0
+finish t2                 = answer 110
+word m1                   = 0x80000002
+call t1 signal c1         = answer 0
+condword c1               = 1
