@@ -119,7 +119,7 @@ module _ (m : States) (t now : Table) (k u o l n : ℕ) (c : IsCall m t now k u 
       step
 
 -- a list of which each two nodes stand in their order with other keys is in order with these
-order-as : (was now : List Key) (xs : List ℕ)
+pub order-as : (was now : List Key) (xs : List ℕ)
     → ((y x : ℕ) → has y xs ≡ true → has x xs ≡ true
     → comes_before (key_in now y) (key_in now x) ≡ comes_before (key_in was y) (key_in was x))
     → IsInOrder was xs → IsInOrder now xs

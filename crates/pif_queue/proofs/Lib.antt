@@ -1,0 +1,12 @@
+pub mod Firsts
+pub mod EntryLemmas
+pub mod EntryChanges
+pub mod EntryFrames
+pub mod Passing
+pub mod Differing
+pub mod ParkedLemmas
+pub mod ParkedChanges
+pub mod ParkedCalls
+pub mod ParkedFrames
+pub mod BucketFrames
+pub mod Rooms

@@ -1,0 +1,5 @@
+pub mod Entries
+pub mod Frames
+pub mod Differences
+pub mod Parked
+pub mod Buckets
