@@ -1,0 +1,205 @@
+ghost use Rattle.std.specs.Prelude.{◌≡◌, ◌≤◌, ℕ, length, None};
+ghost use Rattle.pif_queue.specs.Buckets.{HoldsBuckets};
+ghost use Rattle.pif_queue.specs.Entries.{found_in};
+
+use pif_nodes::{Node, NodeTable};
+use pif_owners::Key;
+use pif_queue::Buckets;
+use pif_types::{CondId, MutexId, Prio, Tid};
+use std::process::Abort;
+use std::test::Fail;
+
+fn thread(number: u32) -> Tid
+    requires { 1 ≤ number }
+    ensures { result ≡ number }
+{
+    Tid::new(number).unwrap()
+}
+
+fn cond(number: u32) -> CondId
+    requires { 1 ≤ number }
+    ensures { result ≡ number }
+{
+    CondId::new(number).unwrap()
+}
+
+fn mutex(number: u32) -> MutexId
+    requires { 1 ≤ number }
+{
+    MutexId::new(number).unwrap()
+}
+
+fn priority(level: u32) -> Prio
+    requires least { 1 ≤ level }
+    requires most { level ≤ 99 }
+{
+    Prio::new(level).unwrap()
+}
+
+// The keys of the words 3, 67 and 131, which are of one bucket.
+fn keys(buckets: &Buckets, table: &NodeTable) -> [Option<usize>; 3]
+    requires { HoldsBuckets buckets.now table.now }
+{
+    let three = buckets.find(table, 3).map(|key| key.get());
+    let other = buckets.find(table, 67).map(|key| key.get());
+    let third = buckets.find(table, 131).map(|key| key.get());
+    [three, other, third]
+}
+
+// Gives the words 3 and 67 owner states, and takes that of 3 away.
+fn two_words(rt: &impl Abort, buckets: &mut Buckets, table: &mut NodeTable)
+    requires holds { HoldsBuckets buckets.old table.old }
+    requires rows { length buckets.old.entries.items ≡ 3 }
+    requires empty { (w : ℕ) → found_in buckets.old.entries table.old w ≡ None }
+{
+    buckets.put(table, 3, Key::new(7), 0);
+    assert_eq!(rt; keys(buckets, table), [Some(7), None, None]);
+    buckets.put(table, 67, Key::new(2), 1);
+    assert_eq!(rt; keys(buckets, table), [Some(7), Some(2), None]);
+    buckets.forget(table, 3);
+    assert_eq!(rt; keys(buckets, table), [None, Some(2), None]);
+}
+
+#[test]
+fn two_words_of_one_bucket(rt: HostRuntime) -> Result<(), Fail> {
+    let mut table = NodeTable::new(rt.alloc(), 6, 66)?;
+    let mut buckets = Buckets::new(rt.alloc(), 0, 3, 0, 3, 2)?;
+    two_words(&rt, &mut buckets, &mut table);
+    Ok(())
+}
+
+// Parks a thread, if its node is in no list. Answers whether it did.
+fn park(
+    buckets: &mut Buckets,
+    table: &mut NodeTable,
+    t: u32,
+    m: u32,
+    level: u32,
+    ticket: u64,
+) -> bool
+    requires holds { HoldsBuckets buckets.old table.old }
+    requires thread { 1 ≤ t }
+    requires threads { t ≤ buckets.old.parked.threads }
+    requires conds { 1 ≤ buckets.old.parked.conds }
+    requires node { buckets.old.parked.first_node ≡ 0 }
+    requires mutex { 1 ≤ m }
+    requires least { 1 ≤ level }
+    requires most { level ≤ 99 }
+    ensures holds { HoldsBuckets buckets.new table.new }
+    ensures threads { buckets.new.parked.threads ≡ buckets.old.parked.threads }
+    ensures conds { buckets.new.parked.conds ≡ buckets.old.parked.conds }
+    ensures node { buckets.new.parked.first_node ≡ buckets.old.parked.first_node }
+{
+    let parks = table.list_of(Node::new(t - 1)).is_none();
+    if parks {
+        buckets.park(table, thread(t), cond(1), mutex(m), priority(level), ticket);
+    }
+    parks
+}
+
+// Takes a thread off its variable, if it is parked. Answers whether it was.
+fn unpark(buckets: &mut Buckets, table: &mut NodeTable, t: u32) -> bool
+    requires holds { HoldsBuckets buckets.old table.old }
+    requires thread { 1 ≤ t }
+    ensures holds { HoldsBuckets buckets.new table.new }
+    ensures threads { buckets.new.parked.threads ≡ buckets.old.parked.threads }
+    ensures conds { buckets.new.parked.conds ≡ buckets.old.parked.conds }
+    ensures node { buckets.new.parked.first_node ≡ buckets.old.parked.first_node }
+{
+    let parked = buckets.ticket(table, thread(t)).is_some();
+    if parked {
+        buckets.unpark(table, thread(t));
+    }
+    parked
+}
+
+// Gives a thread another priority on its variable, if it is parked. Answers whether it was.
+fn rekey(buckets: &mut Buckets, table: &mut NodeTable, t: u32, level: u32) -> bool
+    requires holds { HoldsBuckets buckets.old table.old }
+    requires thread { 1 ≤ t }
+    requires least { 1 ≤ level }
+    requires most { level ≤ 99 }
+    ensures holds { HoldsBuckets buckets.new table.new }
+    ensures threads { buckets.new.parked.threads ≡ buckets.old.parked.threads }
+    ensures conds { buckets.new.parked.conds ≡ buckets.old.parked.conds }
+    ensures node { buckets.new.parked.first_node ≡ buckets.old.parked.first_node }
+{
+    let parked = buckets.ticket(table, thread(t)).is_some();
+    if parked {
+        buckets.rekey(table, thread(t), priority(level));
+    }
+    parked
+}
+
+// Three threads are parked: t1 and t2 with 10, and then t3 with 20. Each is to get m1, but for t3, which is to get m2.
+fn park_three(rt: &impl Abort, buckets: &mut Buckets, table: &mut NodeTable)
+    requires holds { HoldsBuckets buckets.old table.old }
+    requires threads { buckets.old.parked.threads ≡ 3 }
+    requires conds { buckets.old.parked.conds ≡ 2 }
+    requires node { buckets.old.parked.first_node ≡ 0 }
+    ensures holds { HoldsBuckets buckets.new table.new }
+    ensures threads { buckets.new.parked.threads ≡ 3 }
+    ensures conds { buckets.new.parked.conds ≡ 2 }
+    ensures node { buckets.new.parked.first_node ≡ 0 }
+{
+    assert_eq!(rt; buckets.top_parked(table, cond(1)), None);
+    assert!(rt; park(buckets, table, 1, 1, 10, 1) && park(buckets, table, 2, 1, 10, 2));
+    assert!(rt; park(buckets, table, 3, 2, 20, 3) && !park(buckets, table, 3, 2, 20, 3));
+}
+
+// Who is taken first stands behind equals that came earlier, also once its priority rose and fell.
+fn order_of_tickets(rt: &impl Abort, buckets: &mut Buckets, table: &mut NodeTable)
+    requires holds { HoldsBuckets buckets.old table.old }
+    ensures holds { HoldsBuckets buckets.new table.new }
+    ensures threads { buckets.new.parked.threads ≡ buckets.old.parked.threads }
+    ensures conds { buckets.new.parked.conds ≡ buckets.old.parked.conds }
+    ensures node { buckets.new.parked.first_node ≡ buckets.old.parked.first_node }
+{
+    assert_eq!(rt; buckets.top_parked(table, cond(1)), Some(thread(3)));
+    assert!(rt; rekey(buckets, table, 2, 30));
+    assert_eq!(rt; buckets.top_parked(table, cond(1)), Some(thread(2)));
+    assert!(rt; rekey(buckets, table, 2, 10) && unpark(buckets, table, 3));
+    assert_eq!(rt; buckets.top_parked(table, cond(1)), Some(thread(1)));
+    assert_eq!(rt; buckets.ticket(table, thread(2)), Some(2));
+}
+
+#[test]
+fn parked_thread_keeps_its_ticket(rt: HostRuntime) -> Result<(), Fail> {
+    let mut table = NodeTable::new(rt.alloc(), 6, 66)?;
+    let mut buckets = Buckets::new(rt.alloc(), 0, 3, 0, 3, 2)?;
+    park_three(&rt, &mut buckets, &mut table);
+    order_of_tickets(&rt, &mut buckets, &mut table);
+    Ok(())
+}
+
+// Whether all that are parked on variable 1 are to get m1, and m2.
+fn targets(buckets: &Buckets, table: &NodeTable) -> (bool, bool)
+    requires { HoldsBuckets buckets.now table.now }
+{
+    (
+        buckets.match_requeue(table, cond(1), mutex(1)),
+        buckets.match_requeue(table, cond(1), mutex(2)),
+    )
+}
+
+// Targets differ as long as threads with both are parked, whatever their order.
+fn leave_one_by_one(rt: &impl Abort, buckets: &mut Buckets, table: &mut NodeTable)
+    requires holds { HoldsBuckets buckets.old table.old }
+{
+    assert_eq!(rt; targets(buckets, table), (false, false));
+    assert!(rt; rekey(buckets, table, 3, 5) && unpark(buckets, table, 1));
+    assert_eq!(rt; targets(buckets, table), (false, false));
+    assert!(rt; unpark(buckets, table, 2));
+    assert_eq!(rt; targets(buckets, table), (false, true));
+    assert!(rt; unpark(buckets, table, 3) && !unpark(buckets, table, 3));
+    assert_eq!(rt; targets(buckets, table), (true, true));
+}
+
+#[test]
+fn targets_of_parked_threads_are_compared(rt: HostRuntime) -> Result<(), Fail> {
+    let mut table = NodeTable::new(rt.alloc(), 6, 66)?;
+    let mut buckets = Buckets::new(rt.alloc(), 0, 3, 0, 3, 2)?;
+    park_three(&rt, &mut buckets, &mut table);
+    leave_one_by_one(&rt, &mut buckets, &mut table);
+    Ok(())
+}
