@@ -1,3 +1,5 @@
 pub mod Driving
 pub mod FilesLemmas
+pub mod OptionsLemmas
+pub mod RandomLemmas
 pub mod WordsLemmas

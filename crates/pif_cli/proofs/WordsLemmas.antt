@@ -1,23 +1,20 @@
 -- How words that are refused end the program.
-use Rattle.std.proofs.Common.{unwrap_or, ◌≡◌, ◌∙◌, ◌⊎◌, inl, inr, ℕ, ◌<◌, ◌≤◌, ◌^◌, Bool, true, false, List, [], ◌∷◌, Option, Some, None, option_map, codes, if◌then◌else◌, Box, arith, ap, refl, sym, subst}
+use Rattle.std.proofs.Common.{unwrap_or, ◌≡◌, ◌∙◌, ◌⊎◌, inl, inr, ℕ, true, List, [], ◌∷◌, Option, Some, None, option_map, codes, Box, arith, ap, refl, sym, subst}
 use Rattle.std.proofs.KnownBytes.{Keeps-refl}
 use Rattle.std.specs.Box.{box_value}
-use Rattle.std.specs.Str.Parse.{IsNumeral, digits_value, without_leading_plus}
 use Rattle.std.specs.declared.alloc.Global.{Global}
-use Rattle.clap.specs.Words.{App, IsAmong, Kinds, fault_of, is_simple_and_free, HasMatchesOf, Row, Text, IsUnsignedIn, first_of, first_value, matched_of, raw_values, rows_of, subcommand_name_of, subcommand_of, subcommand_rows}
-use Rattle.clap.specs.ValueTests.{is_unsigned_in}
-use Rattle.clap.specs.declared.builder.value_parser.ValueParser.TheVariants.{Unsigned}
+use Rattle.clap.specs.Words.{App, HasKind, IsAmong, Kinds, fault_of, is_simple_and_free, HasMatchesOf, Row, Text, matched_of, raw_values, rows_of, subcommand_name_of, subcommand_of, subcommand_rows}
+use Rattle.clap.specs.declared.error.Error.{Error}
 use Rattle.clap.specs.declared.error.kind.ErrorKind.{ErrorKind}
 use Rattle.clap.specs.declared.error.kind.ErrorKind.TheVariants.{DisplayHelp, DisplayVersion, OutOfMemory}
 use Rattle.clap.specs.declared.parser.matches.ArgMatches.{ArgMatches}
 use Rattle.clap.specs.declared.parser.matches.ArgMatches.TheViews.{out-ArgMatches, out-SubCommand}
 use Rattle.clap.specs.declared.parser.matches.Found.{Found}
 use Rattle.clap.specs.declared.parser.matches.SubCommand.{SubCommand}
-use Rattle.clap.proofs.ValueTestLemmas.{Accepts-accepts, accepts-Accepts}
-use Rattle.clap.proofs.WalkLemmas.{first_value-rows, raw_values-rows}
+use Rattle.clap.proofs.WalkLemmas.{raw_values-rows}
 use Rattle.pif_cli.specs.declared.words.Job.{Job}
 use Rattle.pif_cli.specs.Messages.{TellsAt}
-use Rattle.pif_cli.specs.Words.{EndsIf, HadNoMemory, Refused, RefusedFor, ShowedHelp, clients_in, files_by, files_in, files_of, job_by, job_named, job_of, program, refusals_of}
+use Rattle.pif_cli.specs.Words.{EndsIf, HadNoMemory, Refused, RefusedFor, ShowedHelp, files_by, files_in, files_of, job_by, job_named, job_of, program, refusals_of}
 
 pub EndsIf-refused : (kinds : Kinds) (done : Type 0) (k : ErrorKind)
     (read held holds errors_held errors_hold : Option (List ℕ)) (status : ℕ)
@@ -80,6 +77,10 @@ refusal_tells k held holds errors_held errors_hold status shown =
 pub refusals-none : (pif : App) (words : List (List ℕ)) → pif ≡ program → (is_simple_and_free pif ≡ true → fault_of pif words ≡ []) → refusals_of words ≡ []
 refusals-none pif words e k = subst (λ a. (is_simple_and_free a ≡ true → fault_of a words ≡ []) → fault_of program words ≡ []) (sym e) (λ f. f refl) k
 
+-- words with which they were not parsed are refused for the reason that was given
+pub refusals-told : (pif : App) (words : List (List ℕ)) (e : Error) → pif ≡ program → (is_simple_and_free pif ≡ true → HasKind (fault_of pif words) e) → HasKind (refusals_of words) e
+refusals-told pif words e same k = subst (λ a. (is_simple_and_free a ≡ true → HasKind (fault_of a words) e) → HasKind (fault_of program words) e) (sym same) (λ f. f refl) k
+
 -- the subcommand that a parse met, by its name and its rows
 met : (o : Option (Box SubCommand Global)) (name : Text) (rows : List Row)
     → Some name ≡ option_map (λ b. (out-SubCommand (box_value b)).name.now) o
@@ -99,13 +100,8 @@ module _ (pif : App) (words : List (List ℕ)) (m : ArgMatches) (name : Text) (f
       sym shown ∙ met (out-ArgMatches m).subcommand name (rows_of found) n r
 
   -- the job of a parse that met a subcommand, by its name and what was found for it
-  pub job_read : (given printed : Option Text) (job : Job) → given ≡ first_value found (codes "N")
-      → printed ≡ first_value found (codes "print") → job ≡ job_named name given printed → job ≡ job_of words
-  job_read given printed job g p j =
-      j ∙ ap (λ (t : Option Text). job_named name t printed) (g ∙ first_value-rows found (codes "N"))
-      ∙ ap (λ (t : Option Text). job_named name (first_of (codes "N") (rows_of found)) t)
-      (p ∙ first_value-rows found (codes "print"))
-      ∙ sym (ap job_by there)
+  pub job_read : (job : Job) → job ≡ job_named name (rows_of found) → job ≡ job_of words
+  job_read job j = j ∙ sym (ap job_by there)
 
   -- and its files
   pub files_read : (files : List Text) → files ≡ files_in (rows_of found) → files ≡ files_of words
@@ -115,30 +111,3 @@ module _ (pif : App) (words : List (List ℕ)) (m : ArgMatches) (name : Text) (f
 pub files_found : (o : Option (List Text)) (found : Found) → o ≡ option_map raw_values (matched_of found (codes "FILE"))
     → unwrap_or o [] ≡ files_in (rows_of found)
 files_found o found e = ap (λ (l : Option (List Text)). unwrap_or l []) (e ∙ raw_values-rows found (codes "FILE"))
-
--- a number where a test says so
-taken : (b : Bool) (v : ℕ) → b ≡ true → v ≡ (if b then v else 0)
-taken true v e = refl
-taken false v e = cc
-
--- no number where a test says so
-left_out : (b : Bool) (v : ℕ) → (b ≡ true → ⊥) → 0 ≡ (if b then v else 0)
-left_out true v h = absurd (h refl)
-left_out false v h = refl
-
--- the number of clients that a text writes
-pub clients_read : (text : List ℕ) (n : ℕ) → IsNumeral 10 (without_leading_plus text)
-    → n ≡ digits_value 10 (without_leading_plus text) → 1 ≤ n → n ≤ 64 → n ≡ clients_in (Some text)
-clients_read text n digits e least most =
-    let within : IsUnsignedIn 1 64 text = (digits, omega (arith, e, most), omega (arith, e, least), omega (arith, e, most)) in
-    e ∙ taken (is_unsigned_in 1 64 text) _ (Accepts-accepts false (Unsigned 1 64) text within)
-
--- a text that writes no number of clients
-pub clients_refused : (text : List ℕ)
-    → (IsNumeral 10 (without_leading_plus text) × (digits_value 10 (without_leading_plus text) < 2 ^ 32) → ⊥)
-    → 0 ≡ clients_in (Some text)
-clients_refused text refused =
-    left_out (is_unsigned_in 1 64 text) _ (λ (e : is_unsigned_in 1 64 text ≡ true).
-    let within : IsUnsignedIn 1 64 text = accepts-Accepts false (Unsigned 1 64) text e in
-    let most = within.3 in
-    refused (within.0, omega (arith, most)))

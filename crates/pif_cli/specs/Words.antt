@@ -1,11 +1,8 @@
 -- The words of the program, and its status.
-use Rattle.std.specs.Prelude.{ℕ, ◌≡◌, ◌⊎◌, ◌==◌, Bool, true, false, MatchBool, List, [], ◌∷◌, Option, Some, None, unwrap_or, Result, Ok, Err, codes, bytes_eq, if◌then◌else◌}
+use Rattle.std.specs.Prelude.{ℕ, ◌≡◌, ◌⊎◌, ◌==◌, true, MatchBool, List, [], ◌∷◌, Option, Some, None, unwrap_or, Result, Ok, Err, codes, bytes_eq, if◌then◌else◌}
 use Rattle.std.specs.Io.KnownBytes.{Appends, Keeps}
-use Rattle.std.specs.Str.Parse.{digits_value, without_leading_plus}
 use Rattle.clap.specs.Lexer.{usize_max}
-use Rattle.clap.specs.declared.builder.action.ArgAction.TheVariants.{SetTrue}
 use Rattle.clap.specs.Words.{App, IsAmong, Kinds, Row, Rule, Text, all_of, fault_of, first_of, new_app, new_rule, subcommand_of, with_rule, with_subcommand}
-use Rattle.clap.specs.ValueTests.{is_unsigned_in}
 use Rattle.clap.specs.declared.builder.value_parser.ValueParser.TheVariants.{Unsigned}
 use Rattle.clap.specs.declared.error.kind.ErrorKind.{ErrorKind}
 use Rattle.clap.specs.declared.error.kind.ErrorKind.TheVariants.{DisplayHelp, DisplayVersion}
@@ -13,7 +10,7 @@ use Rattle.std.specs.declared.io.ErrorKind.{ErrorKind as IoErrorKind}
 use Rattle.std.specs.declared.io.ErrorKind.TheVariants.{OutOfMemory, InvalidData}
 use Rattle.pif_scripts.specs.declared.faults.CliFault.{CliFault}
 use Rattle.pif_cli.specs.declared.words.Job.{Job}
-use Rattle.pif_cli.specs.declared.words.Job.TheVariants.{Run, Replay, Trace, Migrate, Show, Check, Fill, Drive}
+use Rattle.pif_cli.specs.declared.words.Job.TheVariants.{Run, Replay, Trace, Migrate, Show, Check, Fill, Random, Drive}
 use Rattle.pif_cli.specs.declared.statuses.JobFault.{JobFault}
 use Rattle.pif_cli.specs.declared.statuses.JobFault.TheVariants.{Cli}
 use Rattle.pif_scripts.specs.Migrating.{MigratesTo}
@@ -24,6 +21,8 @@ use Rattle.pif_scripts.specs.Transcripts.{TracesTo}
 use Rattle.pif_scripts.specs.Runs.{WritesPart}
 use Rattle.pif_stories.specs.Checks.{TellsTo, checked, filled}
 use Rattle.pif_cli.specs.Messages.{TellsLine, TellsOf}
+use Rattle.pif_cli.specs.Options.{flag_in, flag_rule, number_in}
+use Rattle.pif_cli.specs.Random.{WritesRandom, random_app, recipe_in}
 use Rattle.pif_cli.specs.Statuses.{job_status}
 use Rattle.pif_cli.specs.Driving.{Drives}
 
@@ -55,7 +54,7 @@ drive_app = with_rule (new_app (codes "drive")) clients_rule
 
 -- whether a story is to be filled in, and not checked
 abbrev pub print_rule : Rule
-print_rule = record (new_rule (codes "print")) { long = Some (codes "print"); action = Some SetTrue }
+print_rule = flag_rule (codes "print")
 
 -- the files of a command over any number of inputs
 abbrev pub files_rule : Rule
@@ -74,38 +73,28 @@ with_runs pif = with_subcommand (with_job (with_job pif (codes "run")) (codes "s
 abbrev pub with_traces : App → App
 with_traces pif = with_job (with_job (with_job pif (codes "replay")) (codes "trace")) (codes "migrate")
 
--- the program's commands: `run`, `show`, `check`, `replay`, `trace`, `migrate` and `drive`
+-- the program's commands: `run`, `show`, `check`, `replay`, `trace`, `migrate`, `random` and `drive`
 abbrev pub program : App
-program = with_subcommand (with_traces (with_runs bare_program)) drive_app.top
+program = with_subcommand (with_subcommand (with_traces (with_runs bare_program)) random_app.top) drive_app.top
 
 -- why the words are refused, the program's name first; none where they ask for a job
 abbrev pub refusals_of : List (List ℕ) → Kinds
 refusals_of words = fault_of program words
 
--- the number of clients that a text writes, from 1 to 64; 0 where it writes none
-abbrev pub clients_in : Option Text → ℕ
-clients_in (Some text) = if is_unsigned_in 1 64 text then digits_value 10 (without_leading_plus text) else 0
-clients_in None = 0
-
--- whether a flag was given, by what was found of it
-abbrev pub is_given : Option Text → Bool
-is_given (Some text) = bytes_eq text (codes "true")
-is_given None = false
-
--- the job of this name, with what was given as its number, and as its flag
-abbrev pub job_named : Text → (given printed : Option Text) → Job
-job_named name given printed =
+-- the job of this name, with what was given to it
+abbrev pub job_named : Text → List Row → Job
+job_named name rows =
     if bytes_eq name (codes "replay") then Replay
     else (if bytes_eq name (codes "trace") then Trace
     else (if bytes_eq name (codes "migrate") then Migrate
     else (if bytes_eq name (codes "show") then Show
-    else (if bytes_eq name (codes "check") then (if is_given printed then Fill else Check)
-    else (if bytes_eq name (codes "drive") then Drive (clients_in given) else Run)))))
+    else (if bytes_eq name (codes "check") then (if flag_in (codes "print") rows then Fill else Check)
+    else (if bytes_eq name (codes "random") then Random (recipe_in rows)
+    else (if bytes_eq name (codes "drive") then Drive (number_in 1 64 (first_of (codes "N") rows)) else Run))))))
 
 -- the job of a command, by its name and what was given to it
 abbrev pub job_by : Option (Text × List Row) → Job
-job_by (Some command) =
-    job_named command.0 (first_of (codes "N") command.1) (first_of (codes "print") command.1)
+job_by (Some command) = job_named command.0 command.1
 job_by None = Run
 
 -- the job that the words ask for
@@ -150,7 +139,7 @@ as_job (Err e) = Err (Cli e)
 abbrev pub EndsAsCli : (Result (Unit {0}) CliFault → Type 0) → Result (Unit {0}) JobFault → Type 0
 EndsAsCli ends result = (done : Result (Unit {0}) CliFault) × ends done × (result ≡ as_job done)
 
--- a job over an input of this name, by the bytes that were read and written; `drive` reads nothing
+-- a job over an input of this name, by the bytes that were read and written; `random` and `drive` read nothing
 abbrev pub Does : Job → (name : Text) → (before after held holds : Option (List ℕ)) → Result (Unit {0}) JobFault
     → Type 0
 Does Run name before after held holds result = EndsAsCli (RunsTo before after held holds) result
@@ -160,6 +149,8 @@ Does Migrate name before after held holds result = EndsAsCli (MigratesTo before 
 Does Show name before after held holds result = EndsAsCli (ShowsTo before after held holds) result
 Does Check name before after held holds result = EndsAsCli (TellsTo (checked name) before after held holds) result
 Does Fill name before after held holds result = EndsAsCli (TellsTo (filled name) before after held holds) result
+Does (Random recipe) name before after held holds result =
+    Keeps before after × WritesRandom recipe.lines held holds result
 Does (Drive clients) name before after held holds result = Keeps before after × Drives clients held holds result
 
 -- the job was done, and the errors were told how it ended

@@ -3,8 +3,8 @@ pub const VERSION: &str = "0.1";
 
 /// What the program is for.
 pub const ABOUT: &str =
-    "Runs scripts and replays traces on a model of pthread mutexes and condition variables with \
-    priority inheritance";
+    "Runs scripts and replays traces on a model of pthread mutexes and condition\n\
+    variables with priority inheritance";
 
 /// What `run` does.
 pub const ABOUT_RUN: &str = "Reads a script, and writes an answer for each of its lines";
@@ -19,12 +19,10 @@ pub const ABOUT_TRACE: &str = "Reads a script, and writes the trace that 'pif re
 pub const ABOUT_MIGRATE: &str = "Reads a trace, and writes it as a trace of version 2";
 
 /// What `show` does.
-pub const ABOUT_SHOW: &str =
-    "Reads a script, and shows for each of its lines the answer and the state";
+pub const ABOUT_SHOW: &str = "Reads a script, and shows for each line the answer and the state";
 
 /// What `check` does.
-pub const ABOUT_CHECK: &str =
-    "Reads stories, and says whether each of their answers is the one that the core gives";
+pub const ABOUT_CHECK: &str = "Reads stories, and says whether the core gives their answers";
 
 /// What the file of a command is.
 pub const ABOUT_FILE: &str = "The file to read; '-' or none is the standard input";
@@ -53,9 +51,38 @@ pub const USAGE_MIGRATE: &str = "pif migrate [FILE]";
 /// How `show` is called.
 pub const USAGE_SHOW: &str = "pif show [FILE]";
 
+/// What `random` does.
+pub const ABOUT_RANDOM: &str = "Writes a random script, the same for the same seed";
+
+/// How `random` is called.
+pub const USAGE_RANDOM: &str = "pif random --seed N --lines L [OPTIONS]";
+
+/// What the seed of `random` is.
+pub const ABOUT_SEED: &str = "Which script, 0 to 18446744073709551615";
+
+/// What the lines of `random` are.
+pub const ABOUT_LINES: &str = "How many lines, 1 to 262144";
+
+/// What the threads of `random` are.
+pub const ABOUT_THREADS: &str = "How many threads at first, 1 to 1024";
+
+/// What the mutexes of `random` are.
+pub const ABOUT_MUTEXES: &str = "How many mutexes, 0 to 1024";
+
+/// What the condition variables of `random` are.
+pub const ABOUT_CONDS: &str = "How many condition variables, 0 to 256";
+
+/// What the robust mutexes of `random` are.
+pub const ABOUT_ROBUST: &str = "Makes about half of the mutexes robust";
+
+/// What the ends of `random` are.
+pub const ABOUT_ENDS: &str = "Lets threads end, in the middle of calls too";
+
+/// What the times of `random` are.
+pub const ABOUT_TIMES: &str = "Lets time go on, and calls have deadlines";
+
 /// What `drive` does.
-pub const ABOUT_DRIVE: &str =
-    "Lets clients in threads of their own lock and unlock one mutex, and counts the calls that were answered";
+pub const ABOUT_DRIVE: &str = "Lets clients in real threads lock a mutex, and counts the answers";
 
 /// How `drive` is called.
 pub const USAGE_DRIVE: &str = "pif drive N";
@@ -73,12 +100,15 @@ pub const MORE_RUN: &str =
 answered by one line.
 
 The commands of scripts:
-  limits T M C S    the most threads, mutexes, variables and signals; on the first line only
+  limits T M C S    the most threads, mutexes, variables and signals; on the
+                    first line only
   thread P          adds a thread of base priority P, 1 to 99; the first is t1
-  mutex K           adds a mutex, normal, default, errorcheck or recursive; the first is m1
+  mutex K           adds a mutex, normal, default, errorcheck or recursive; the
+                    first is m1
   mutex K robust    adds one that outlives its owner's end
   cond mN           adds a condition variable, bound to mutex N; the first is c1
-  call tN Q         thread N begins the call Q, and goes on until it is answered or waits
+  call tN Q         thread N begins the call Q, and goes on until it is answered
+                    or waits
   begin tN Q        thread N begins the call Q, and takes no step yet
   go tN             thread N takes one step of its call
   finish tN         thread N goes on until its call is answered or waits
@@ -86,15 +116,17 @@ The commands of scripts:
   tick N            the time is N from now on; it is 0 at first
   word mN           shows the word of mutex N
   health mN         shows whether mutex N is fine, inconsistent or unusable
-  condword cN       shows how often condition variable N was signalled or broadcast
+  condword cN       shows how often condition variable N was signalled or
+                    broadcast
   prio tN           shows the effective priority of thread N
   pick              shows the thread that runs next
 
-The calls Q: lock mN, trylock mN, unlock mN, consistent mN, setprio tN P, wait cN mN, signal cN,
-broadcast cN, timedlock mN D, timedwait cN mN D, which wait until the time is D
+The calls Q: lock mN, trylock mN, unlock mN, consistent mN, setprio tN P,
+wait cN mN, signal cN, broadcast cN, timedlock mN D, timedwait cN mN D, which
+wait until the time is D
 
-Status: 0 done, 1 wrong words, 2 a fault of the script, 3 a read or write failed,
-4 out of memory.
+Status: 0 done, 1 wrong words, 2 a fault of the script, 3 a read or write
+failed, 4 out of memory.
 Standard error says what went wrong, and in which line.";
 
 /// The end of the help of `replay`.
@@ -104,7 +136,8 @@ pub const MORE_REPLAY: &str =
 command, ' = ' and the answer that was recorded, as in 'thread 10 = t1'.
 
 The commands of traces:
-  limits T M C S    the most threads, mutexes, variables and signals; on the second line only
+  limits T M C S    the most threads, mutexes, variables and signals; on the
+                    second line only
   thread P          adds a thread of base priority P
   mutex K           adds a mutex, normal, default, errorcheck or recursive
   mutex K robust    adds one that outlives its owner's end
@@ -114,11 +147,12 @@ The commands of traces:
   end tN            thread N ends
   tick N            the time is N from now on; in version 2 alone
 
-It prints 'same N', with the number of answers; or 'differs L X', with the first line that differs
-and what the core gives there; or 'fault L cause', with the first line that is no line of a trace.
+It prints 'same N', with the number of answers; or 'differs L X', with the first
+line that differs and what the core gives there; or 'fault L cause', with the
+first line that is no line of a trace.
 
-Status: 0 the same, 1 wrong words, 2 a fault of the trace, 3 a read or write failed,
-4 out of memory, 5 a difference.
+Status: 0 the same, 1 wrong words, 2 a fault of the trace, 3 a read or write
+failed, 4 out of memory, 5 a difference.
 Standard error says what went wrong, and in which line.";
 
 /// The end of the help of `trace`.
@@ -126,13 +160,14 @@ pub const MORE_TRACE: &str =
     "A script comes from FILE, or from the standard input, as 'pif run' takes it;
 'pif run --help' names its commands.
 
-Its trace begins with 'pif-trace 2' and the line of the limits. Behind them stand the threads,
-mutexes and variables that were added, and each begin, go, end and tick, all with what the core
-answered, as in 'go t1 = went'. 'call' and 'finish' stand there as the begin and the go of which
-they are made. What was not added, and what only asks, leaves no line; nor does a fault.
+Its trace begins with 'pif-trace 2' and the line of the limits. Behind them
+stand the threads, mutexes and variables that were added, and each begin, go,
+end and tick, all with what the core answered, as in 'go t1 = went'. 'call' and
+'finish' stand there as the begin and the go of which they are made. What was
+not added, and what only asks, leaves no line; nor does a fault.
 
-Status: 0 done, 1 wrong words, 2 a fault of the script, 3 a read or write failed,
-4 out of memory.
+Status: 0 done, 1 wrong words, 2 a fault of the script, 3 a read or write
+failed, 4 out of memory.
 Standard error says what went wrong, and in which line.";
 
 /// The end of the help of `migrate`.
@@ -140,12 +175,13 @@ pub const MORE_MIGRATE: &str =
     "A trace comes from FILE, or from the standard input, of version 1 or 2, as
 'pif replay' takes it.
 
-It is read to its end. Then it is written with 'pif-trace 2' as its first line, and all behind that
-as it is. Nothing is run and no answer is compared: 'pif replay' prints the same of both. The form of
-each line is checked; of a fault 'fault L cause' is printed, and nothing of the trace.
+It is read to its end. Then it is written with 'pif-trace 2' as its first line,
+and all behind that as it is. Nothing is run and no answer is compared:
+'pif replay' prints the same of both. The form of each line is checked; of a
+fault 'fault L cause' is printed, and nothing of the trace.
 
-Status: 0 done, 1 wrong words, 2 a fault of the trace, 3 a read or write failed,
-4 out of memory.
+Status: 0 done, 1 wrong words, 2 a fault of the trace, 3 a read or write
+failed, 4 out of memory.
 Standard error says what went wrong, and in which line.";
 
 /// The end of the help of `show`.
@@ -153,19 +189,24 @@ pub const MORE_SHOW: &str =
     "A script comes from FILE, or from the standard input, as 'pif run' takes it;
 'pif run --help' names its commands.
 
-For each line it prints the line behind '> ', what 'pif run' answers it, and what there is then:
+For each line it prints the line behind '> ', what 'pif run' answers it, and
+what there is then:
   time N         the time, once one was handed in
-  tN             its effective priority, and its base priority where that differs; what it does;
-                 the call that it has open; the mutexes that it holds
-  mN             its kind, and whether it is robust; its health; its word; its owner;
-                 its waiters, the next one first
-  cN             its mutex; how often it was used; who is parked on it, the next one first
+  tN             its effective priority, and its base priority if that differs;
+                 what it does; the call that it has open; the mutexes that it
+                 holds
+  mN             its kind, and whether it is robust; its health; its word; its
+                 owner; its waiters, the next one first
+  cN             its mutex; how often it was used; who is parked on it, the next
+                 one first
   run queue      the threads that are ready, the one that runs next first
-  chain          who waits for which mutex, who holds it, and for which that one waits
-What is empty is left out. This text is for reading, and may change; 'pif run' prints for programs.
+  chain          who waits for which mutex, who holds it, and for which that one
+                 waits
+What is empty is left out. This text is for reading, and may change; 'pif run'
+prints for programs.
 
-Status: 0 done, 1 wrong words, 2 a fault of the script, 3 a read or write failed,
-4 out of memory.
+Status: 0 done, 1 wrong words, 2 a fault of the script, 3 a read or write
+failed, 4 out of memory.
 Standard error says what went wrong, and in which line.";
 
 /// The end of the help of `check`.
@@ -189,14 +230,28 @@ Status, of the first story that is not ok: 0 ok, 1 wrong words, 2 a fault,
 3 a read or write failed, 4 out of memory, 5 a difference.
 Standard error says what went wrong, and in which line.";
 
+/// The end of the help of `random`.
+pub const MORE_RANDOM: &str =
+    "Each line is a command, and a run of the script has no fault. The threads,
+mutexes and condition variables come first. Then threads begin calls and go on
+with them, a step at a time or up to the answer. Most calls are possible, and
+some are refused. If a thread has ended, or all rest, one more is added.
+
+Status: 0 done, 1 wrong words, 3 a write failed, 4 out of memory.
+Standard error says what went wrong.
+
+Example:
+  pif random --seed 1 --lines 30 --robust --ends | pif show";
+
 /// The end of the help of `drive`.
 pub const MORE_DRIVE: &str =
-    "The mutex is errorcheck and robust. Client i has priority i; each locks and unlocks the mutex 100 times.
-Then the journal of what was done is compared with what each client was answered.
+    "The mutex is errorcheck and robust. Client i has priority i; each locks and
+unlocks the mutex 100 times, in a thread of its own. Then the journal of what
+was done is compared with what each client was answered.
 
-It prints 'answered A', where A is 200 times N; or 'fault threads', where a thread cannot be started;
-or 'unsettled', where journal and clients don't agree.
+It prints 'answered A', where A is 200 times N; or 'fault threads', if a thread
+cannot be started; or 'unsettled', if journal and clients don't agree.
 
-Status: 0 done, 1 wrong words, 3 a write failed, 4 out of memory, 6 a thread cannot be started,
-or journal and clients don't agree.
+Status: 0 done, 1 wrong words, 3 a write failed, 4 out of memory, 6 a thread
+cannot be started, or journal and clients don't agree.
 Standard error says what went wrong.";

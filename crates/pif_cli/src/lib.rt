@@ -1,6 +1,6 @@
 //! The command line of the program `pif`: its words, the texts of help and refusals, and the status with which it ends.
-//! Scripts and traces themselves are `pif_scripts`', whose calls are handed on; `drive` lets clients make calls in real
-//! threads at a desk.
+//! Scripts and traces themselves are `pif_scripts`', whose calls are handed on; random scripts are `pif_random`'s; `drive`
+//! lets clients make calls in real threads at a desk.
 #![tactic(auto)]
 
 mod causes;
@@ -8,7 +8,9 @@ mod drive;
 mod files;
 mod helps;
 mod messages;
+mod options;
 mod process;
+mod random;
 mod statuses;
 mod words;
 
@@ -18,7 +20,7 @@ pub use pif_scripts::{
 };
 pub use process::command_of_process;
 pub use statuses::Status;
-pub use words::{command, words_of_the_program};
+pub use words::{command, random_lines_have_a_bound, words_of_the_program};
 
 #[cfg(test)]
 mod tests;

@@ -2,6 +2,7 @@ mod desks;
 mod drives;
 mod files;
 mod messages;
+mod randoms;
 mod shows;
 mod texts;
 mod words_of_processes;

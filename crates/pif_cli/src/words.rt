@@ -1,11 +1,12 @@
-ghost use Rattle.std.specs.Prelude.{◌≡◌, ◌⊎◌, ℕ, List, [], ◌∷◌, IfOk, codes, map, false, option_map};
+ghost use Rattle.std.specs.Prelude.{◌≡◌, ◌≤◌, ◌⊎◌, ℕ, List, [], ◌∷◌, IfOk, codes, map, false, option_map};
 ghost use Rattle.std.specs.Io.KnownBytes.{Keeps};
 ghost use Rattle.clap.specs.Words.{app_of, FailsBy, found_of, kind_of, rows_of, rule_of};
 ghost use Rattle.clap.specs.declared.builder.command.Command.TheViews.{out-Command};
 ghost use Rattle.clap.specs.declared.error.kind.ErrorKind.TheVariants.{DisplayHelp, DisplayVersion, MissingRequiredArgument, MissingSubcommand, ValueValidation};
 ghost use Rattle.pif_cli.specs.Messages.{TellsAt, TellsLine};
+ghost use Rattle.pif_cli.specs.Random.{plain_shape};
 ghost use Rattle.pif_cli.specs.Statuses.{fault_status};
-ghost use Rattle.pif_cli.specs.Words.{program, refusals_of, job_of, job_named, files_in, files_of, file_app, file_rule, files_rule, check_app, print_rule, first_name, is_given, name_of, clients_in, clients_rule, drive_app, Did, Does, as_job, EndsBy, HadNoMemory, RefusedFor, Shows, ShowsHelp, bare_program, with_job, with_runs, with_traces};
+ghost use Rattle.pif_cli.specs.Words.{program, refusals_of, job_of, job_named, files_in, files_of, file_app, file_rule, files_rule, check_app, print_rule, first_name, name_of, clients_rule, drive_app, Did, Does, as_job, EndsBy, HadNoMemory, RefusedFor, Shows, ShowsHelp, bare_program, with_job, with_runs, with_traces};
 
 use crate::causes::{message_of, plain_message};
 use crate::drive::drive;
@@ -15,8 +16,9 @@ use crate::helps::{
     MORE_MIGRATE, MORE_REPLAY, MORE_RUN, MORE_SHOW, MORE_TRACE, USAGE_CHECK, USAGE_DRIVE,
     USAGE_MIGRATE, USAGE_REPLAY, USAGE_RUN, USAGE_SHOW, USAGE_TRACE, VERSION,
 };
+use crate::options::{flag_given, is_given, small_number_in};
+use crate::random::{Recipe, random_command, recipe_in, write_random};
 use crate::statuses::{JobFault, fault_status, job_fault_status};
-use clap::ArgAction;
 use clap::builder::ValueParser;
 use clap::error::ErrorKind;
 use pif_scripts::{
@@ -50,6 +52,8 @@ pub enum Job {
     Check,
     /// `check --print`: fill a story in.
     Fill,
+    /// `random`: write a random script.
+    Random(Recipe),
     /// `drive`: let so many clients make calls in threads of their own.
     Drive(u32),
 }
@@ -106,17 +110,6 @@ fn with_job<'a>(
     pif.subcommand(file_command(alloc, name, about, usage, more)?)
 }
 
-/// Whether a story is to be filled in.
-fn print_given<'a>(alloc: Global) -> clap::Arg<'a>
-    ensures rule { rule_of result ≡ print_rule }
-    ensures local { result.global ≡ false }
-{
-    clap::Arg::new(alloc, "print")
-        .long("print")
-        .action(ArgAction::SetTrue)
-        .help(ABOUT_PRINT)
-}
-
 /// The files of a command over any number of inputs.
 fn files_given<'a>(alloc: Global) -> clap::Arg<'a>
     ensures rule { rule_of result ≡ files_rule }
@@ -136,7 +129,7 @@ fn check_command<'a>(alloc: Global) -> Result<clap::Command<'a>, AllocError>
         .about(ABOUT_CHECK)
         .override_usage(USAGE_CHECK)
         .after_help(MORE_CHECK)
-        .arg(print_given(alloc))?
+        .arg(flag_given(alloc, "print", ABOUT_PRINT))?
         .arg(files_given(alloc))
 }
 
@@ -178,6 +171,7 @@ fn program<'a>(alloc: Global) -> Result<clap::Command<'a>, AllocError>
 {
     let pif = with_runs(alloc, bare_program(alloc))?;
     let pif = with_traces(alloc, pif)?;
+    let pif = pif.subcommand(random_command(alloc)?)?;
     pif.subcommand(drive_command(alloc)?)
 }
 
@@ -232,7 +226,7 @@ pub fn read_words<'a, S: AsStr>(alloc: Global, words: &'a [S]) -> Result<Asked<'
     let matches = program(alloc)?.try_get_matches_from(words)?;
     match matches.subcommand() {
         Some((name, given)) => Ok(Asked {
-            job: job_named(name, given.get_str("N"), given.get_str("print")),
+            job: job_named(name, given),
             files: files_in(alloc, given)?,
         }),
         None => Ok(Asked {
@@ -242,20 +236,9 @@ pub fn read_words<'a, S: AsStr>(alloc: Global, words: &'a [S]) -> Result<Asked<'
     }
 }
 
-/// Whether a flag was given, by what was found of it.
-fn is_given(found: Option<&str>) -> bool
-    ensures { result ≡ is_given (option_map (λ s. s.now) found.entry) }
-{
-    match found {
-        Some(text) => text == "true",
-        None => false,
-    }
-}
-
-/// The job of a command's name, with what was given as its number, and as its flag.
-fn job_named(name: &str, given: Option<&str>, printed: Option<&str>) -> Job
-    ensures { result
-        ≡ job_named name.now (option_map (λ s. s.now) given.entry) (option_map (λ s. s.now) printed.entry) }
+/// The job of a command's name, with what was given to it.
+fn job_named(name: &str, given: &clap::ArgMatches) -> Job
+    ensures { result ≡ job_named name.now (rows_of (found_of given.now)) }
 {
     if name == "replay" {
         Job::Replay
@@ -266,39 +249,17 @@ fn job_named(name: &str, given: Option<&str>, printed: Option<&str>) -> Job
     } else if name == "show" {
         Job::Show
     } else if name == "check" {
-        if is_given(printed) {
+        if is_given(given, "print") {
             Job::Fill
         } else {
             Job::Check
         }
+    } else if name == "random" {
+        Job::Random(recipe_in(given))
     } else if name == "drive" {
-        Job::Drive(clients_in(given))
+        Job::Drive(small_number_in(given, "N", 1, 64))
     } else {
         Job::Run
-    }
-}
-
-/// The number of clients that a text writes, from 1 to 64; 0 where it writes none.
-fn clients_in(given: Option<&str>) -> u32
-    ensures { result ≡ clients_in (option_map (λ s. s.now) given.entry) }
-{
-    match given {
-        Some(text) => clients_of(text),
-        None => 0,
-    }
-}
-
-/// The same of a text.
-fn clients_of(text: &str) -> u32
-    ensures { result ≡ clients_in (Some text.now) }
-{
-    match text.parse::<u32>() {
-        Ok(clients) => if clients >= 1 && clients <= 64 {
-            clients
-        } else {
-            0
-        },
-        Err(_) => 0,
     }
 }
 
@@ -333,6 +294,7 @@ fn do_job<T: Threads + Wait + Sync, R: Read, W: Write>(
         Job::Show => as_job(show_noting(alloc, input, output, notice)),
         Job::Check => as_job(check(alloc, name.as_bytes(), input, output)),
         Job::Fill => as_job(fill(alloc, name.as_bytes(), input, output)),
+        Job::Random(recipe) => write_random(alloc, recipe, output),
         Job::Drive(clients) => drive(alloc, rt, clients, output),
     }
 }
@@ -433,9 +395,10 @@ fn first_name<'a>(files: &[&'a str]) -> &'a str
 /// as `fill` does. `pif replay` reads a trace from `input`, and writes to `output` what it comes to, as `replay` does.
 /// `pif trace` reads a script from `input`, and writes its trace to `output`, as `trace` does, without the line of a
 /// fault. `pif migrate` reads a trace from `input`, and writes it to `output` as one of version 2, or the line of its
-/// fault, as `migrate` does. `pif drive N` lets N clients, 1 to 64, make their calls in threads of their own, as `rt`
-/// starts them. It reads nothing, and writes to `output` how many were answered, as `drive` does. A word behind all but
-/// `drive` names a file: no file is opened here, and `input` stands for the first.
+/// fault, as `migrate` does. `pif random` reads nothing, and writes to `output` the random script that its options ask
+/// for. `pif drive N` lets N clients, 1 to 64, make their calls in threads of their own, as `rt` starts them. It reads
+/// nothing, and writes to `output` how many were answered, as `drive` does. A word behind all but `random` and `drive`
+/// names a file: no file is opened here, and `input` stands for the first.
 ///
 /// The status is 0 if the job was done, or help or the version was asked for, whose text goes to `output`; 1 if the
 /// words are refused, and the reason goes to `errors`; 2 for a fault of the script, story or trace; 3 if a read or a
@@ -468,7 +431,8 @@ pub fn command<T: Threads + Wait + Sync, S: AsStr, R: Read, W: Write, E: Write>(
 }
 
 /// Which words ask for which job: `run`, `show`, `replay`, `trace` and `migrate` alone, `run` with a file, `check` alone,
-/// with `--print` and with two files, and `drive` with a number from 1 to 64 do; no word, `--help` and `--version` don't.
+/// with `--print` and with two files, `random` with a seed and from 1 to 262,144 lines, and `drive` with a number from 1
+/// to 64 do; no word, `--help` and `--version` don't.
 #[tactic(auto, unfolding(clap::proofs::OnLiterals::clap_on_literals))]
 pub fn words_of_the_program()
     ensures run { (name : List ℕ) → (refusals_of (name ∷ codes "run" ∷ []) ≡ []) × (job_of (name ∷ codes "run" ∷ []) ≡ Job.Run) }
@@ -484,6 +448,13 @@ pub fn words_of_the_program()
         × (files_of (name ∷ codes "run" ∷ codes "a" ∷ []) ≡ codes "a" ∷ []) }
     ensures files { (name : List ℕ) → (refusals_of (name ∷ codes "check" ∷ codes "a" ∷ codes "b" ∷ []) ≡ [])
         × (files_of (name ∷ codes "check" ∷ codes "a" ∷ codes "b" ∷ []) ≡ codes "a" ∷ codes "b" ∷ []) }
+    ensures random { (name : List ℕ) → (refusals_of (name ∷ codes "random" ∷ codes "--seed=7" ∷ codes "--lines=1" ∷ []) ≡ [])
+        × (job_of (name ∷ codes "random" ∷ codes "--seed=7" ∷ codes "--lines=1" ∷ [])
+        ≡ Job.Random (record { seed = 7; lines = 1; shape = plain_shape })) }
+    ensures longest { (name : List ℕ) → refusals_of (name ∷ codes "random" ∷ codes "--seed=7" ∷ codes "--lines=262144" ∷ []) ≡ [] }
+    ensures no_lines { (name : List ℕ) → refusals_of (name ∷ codes "random" ∷ codes "--seed=7" ∷ codes "--lines=0" ∷ []) ≡ ValueValidation ∷ [] }
+    ensures too_long { (name : List ℕ) → refusals_of (name ∷ codes "random" ∷ codes "--seed=7" ∷ codes "--lines=262145" ∷ []) ≡ ValueValidation ∷ [] }
+    ensures no_seed { (name : List ℕ) → refusals_of (name ∷ codes "random" ∷ codes "--lines=1" ∷ []) ≡ MissingRequiredArgument ∷ [] }
     ensures least { (name : List ℕ) → (refusals_of (name ∷ codes "drive" ∷ codes "1" ∷ []) ≡ []) × (job_of (name ∷ codes "drive" ∷ codes "1" ∷ []) ≡ Job.Drive 1) }
     ensures most { (name : List ℕ) → (refusals_of (name ∷ codes "drive" ∷ codes "64" ∷ []) ≡ []) × (job_of (name ∷ codes "drive" ∷ codes "64" ∷ []) ≡ Job.Drive 64) }
     ensures too_few { (name : List ℕ) → refusals_of (name ∷ codes "drive" ∷ codes "0" ∷ []) ≡ ValueValidation ∷ [] }
@@ -492,4 +463,9 @@ pub fn words_of_the_program()
     ensures help { (name : List ℕ) → refusals_of (name ∷ codes "--help" ∷ []) ≡ DisplayHelp ∷ [] }
     ensures version { (name : List ℕ) → refusals_of (name ∷ codes "--version" ∷ []) ≡ DisplayVersion ∷ [] }
     ensures none { (name : List ℕ) → refusals_of (name ∷ []) ≡ MissingSubcommand ∷ [] }
+{}
+
+/// Whatever the words are, a random script that they ask for has 262,144 lines at most, so that a run of it has no fault.
+pub fn random_lines_have_a_bound()
+    ensures { (words : List (List ℕ)) (recipe : Recipe) → (job_of words ≡ Job.Random recipe) → recipe.lines ≤ 262144 }
 {}

@@ -252,6 +252,7 @@ fn a_failed_write_is_told(rt: HostRuntime) {
     let asked = [
         ["pif", "run"].as_slice(),
         ["pif", "trace"].as_slice(),
+        ["pif", "random", "--seed=1", "--lines=9"].as_slice(),
         ["pif", "--help"].as_slice(),
         ["pif", "--version"].as_slice(),
         ["pif", "replay", "--help"].as_slice(),

@@ -77,7 +77,7 @@ fn wrong_words_are_refused(rt: HostRuntime) -> Result<(), Fail> {
             ["pif"].as_slice(),
             [
                 "requires a subcommand",
-                "run, show, check, replay, trace, migrate, drive",
+                "run, show, check, replay, trace, migrate, random, drive",
                 USAGE,
                 MORE,
             ],
@@ -166,8 +166,8 @@ fn wrong_words_are_refused(rt: HostRuntime) -> Result<(), Fail> {
 #[test]
 fn help_is_shown(rt: HostRuntime) -> Result<(), Fail> {
     let whole = [
-        "Runs scripts and replays traces on a model of pthread mutexes and condition variables with priority \
-        inheritance\n",
+        "Runs scripts and replays traces on a model of pthread mutexes and condition\n\
+        variables with priority inheritance\n",
         USAGE,
         "  run ",
         RUN,
@@ -178,6 +178,7 @@ fn help_is_shown(rt: HostRuntime) -> Result<(), Fail> {
         "  migrate ",
         MIGRATE,
         "  check ",
+        "  random ",
         "-h, --help",
         "-V, --version",
         "Example:\n  printf 'thread 10\\nmutex normal\\ncall t1 lock m1\\nword m1\\n' | pif run",
@@ -206,9 +207,10 @@ fn help_is_shown(rt: HostRuntime) -> Result<(), Fail> {
         "\n  condword cN       shows how often",
         "\n  prio tN           shows the effective priority",
         "\n  pick              shows the thread that runs next",
-        "The calls Q: lock mN, trylock mN, unlock mN, consistent mN, setprio tN P, wait cN mN, signal cN,\n\
-        broadcast cN, timedlock mN D, timedwait cN mN D, which wait until the time is D\n",
-        "Status: 0 done, 1 wrong words, 2 a fault of the script, 3 a read or write failed,\n4 out of memory.",
+        "The calls Q: lock mN, trylock mN, unlock mN, consistent mN, setprio tN P,\n\
+        wait cN mN, signal cN, broadcast cN, timedlock mN D, timedwait cN mN D, which\n\
+        wait until the time is D\n",
+        "Status: 0 done, 1 wrong words, 2 a fault of the script, 3 a read or write\nfailed, 4 out of memory.",
     ];
     check_helped(
         &rt,
@@ -235,7 +237,7 @@ fn help_of_replay_is_shown(rt: HostRuntime) -> Result<(), Fail> {
         "\n  end tN            thread N ends",
         "\n  tick N            the time is N from now on",
         "It prints 'same N'",
-        "4 out of memory, 5 a difference.",
+        "failed, 4 out of memory, 5 a difference.",
     ];
     check_helped(
         &rt,
@@ -255,7 +257,7 @@ fn help_of_trace_is_shown(rt: HostRuntime) -> Result<(), Fail> {
         "'pif run --help' names its commands.",
         "Its trace begins with 'pif-trace 2'",
         "as in 'go t1 = went'",
-        "Status: 0 done, 1 wrong words, 2 a fault of the script, 3 a read or write failed,\n4 out of memory.",
+        "Status: 0 done, 1 wrong words, 2 a fault of the script, 3 a read or write\nfailed, 4 out of memory.",
     ];
     check_helped(
         &rt,
@@ -273,7 +275,7 @@ fn help_of_migrate_is_shown(rt: HostRuntime) -> Result<(), Fail> {
         "-h, --help",
         "of version 1 or 2",
         "with 'pif-trace 2' as its first line",
-        "Status: 0 done, 1 wrong words, 2 a fault of the trace, 3 a read or write failed,\n4 out of memory.",
+        "Status: 0 done, 1 wrong words, 2 a fault of the trace, 3 a read or write\nfailed, 4 out of memory.",
     ];
     check_helped(
         &rt,
@@ -286,7 +288,7 @@ fn help_of_migrate_is_shown(rt: HostRuntime) -> Result<(), Fail> {
 #[test]
 fn help_of_check_is_shown(rt: HostRuntime) -> Result<(), Fail> {
     let check = [
-        "Reads stories, and says whether each of their answers is the one that the core gives",
+        "Reads stories, and says whether the core gives their answers",
         "Usage: pif check [--print] [FILE]...\n",
         "--print",
         "Writes each story with its answers, and checks none",
@@ -306,12 +308,12 @@ fn help_of_check_is_shown(rt: HostRuntime) -> Result<(), Fail> {
 #[test]
 fn help_of_drive_is_shown(rt: HostRuntime) -> Result<(), Fail> {
     let drive = [
-        "Lets clients in threads of their own lock and unlock one mutex",
+        "Lets clients in real threads lock a mutex, and counts the answers",
         "Usage: pif drive N\n",
         "How many clients, 1 to 64",
         "-h, --help",
         "It prints 'answered A'",
-        "6 a thread cannot be started",
+        "6 a thread\ncannot be started",
     ];
     check_helped(
         &rt,

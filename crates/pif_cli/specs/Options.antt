@@ -1,0 +1,39 @@
+-- Options of the program's commands: flags and numbers.
+use Rattle.std.specs.Prelude.{ℕ, Bool, true, false, List, [], ◌∷◌, Option, Some, None, codes, bytes_eq, if◌then◌else◌}
+use Rattle.std.specs.Str.Parse.{digits_value, without_leading_plus}
+use Rattle.clap.specs.ValueTests.{is_unsigned_in}
+use Rattle.clap.specs.Words.{Row, Rule, Text, first_of, new_rule}
+use Rattle.clap.specs.declared.builder.action.ArgAction.TheVariants.{SetTrue}
+use Rattle.clap.specs.declared.builder.value_parser.ValueParser.TheVariants.{Unsigned}
+
+-- an option that is given or not
+abbrev pub flag_rule : Text → Rule
+flag_rule name = record (new_rule name) { long = Some name; action = Some SetTrue }
+
+-- an option with a number from low to high
+abbrev pub number_rule : Text → (low high : ℕ) → Rule
+number_rule name low high =
+    record (new_rule name) { long = Some name; value_names = 1; parser = Some (Unsigned low high) }
+
+-- an option with a number that must be given
+abbrev pub needed_rule : Text → (low high : ℕ) → Rule
+needed_rule name low high = record (number_rule name low high) { required = true }
+
+-- an option with a number that has a default
+abbrev pub chosen_rule : Text → (low high : ℕ) → (default : Text) → Rule
+chosen_rule name low high default = record (number_rule name low high) { defaults = default ∷ [] }
+
+-- the number from low to high that a text writes; 0 if it writes none
+abbrev pub number_in : (low high : ℕ) → Option Text → ℕ
+number_in low high (Some text) =
+    if is_unsigned_in low high text then digits_value 10 (without_leading_plus text) else 0
+number_in low high None = 0
+
+-- a flag's value says that it was given
+abbrev pub is_yes : Option Text → Bool
+is_yes (Some text) = bytes_eq text (codes "true")
+is_yes None = false
+
+-- whether the flag of this name was given
+abbrev pub flag_in : Text → List Row → Bool
+flag_in name rows = is_yes (first_of name rows)

@@ -1,0 +1,307 @@
+//! Random scripts.
+use super::{BOOSTED, Kept, asked};
+use crate::command;
+use arrayvec::ArrayVec;
+use std::alloc::Global;
+use std::process::Abort;
+use std::str::from_utf8;
+use std::sync::Wait;
+use std::test::Fail;
+use std::thread::Threads;
+
+/// The random script of these words; the program ends with status 0, and says nothing to the errors.
+fn script_of(rt: &(impl Abort + Threads + Wait + Sync), alloc: Global, words: &[&str]) -> Kept {
+    let (status, output, errors) = asked(rt, alloc, words, b"");
+    assert_eq!(rt; (status, errors.len()), (0, 0), "{words:?}");
+    output
+}
+
+/// How many lines of a script begin so.
+fn count(script: &Kept, word: &[u8]) -> usize {
+    script
+        .as_slice()
+        .split(|byte| *byte == b'\n')
+        .filter(|line| line.starts_with(word))
+        .count()
+}
+
+/// How many threads, mutexes and condition variables a script adds, and how many lines it has.
+fn counts(script: &Kept) -> [usize; 4] {
+    [b"thread ".as_slice(), b"mutex ", b"cond ", b""].map(|word| count(script, word))
+}
+
+#[test]
+fn the_counts_are_those_that_were_asked_for(rt: HostRuntime) {
+    let scripts = [
+        (
+            ["pif", "random", "--seed", "3", "--lines", "8"].as_slice(),
+            [4, 3, 1, 9],
+        ),
+        (
+            [
+                "pif",
+                "random",
+                "--lines=9",
+                "--conds=2",
+                "--mutexes",
+                "5",
+                "--threads",
+                "2",
+                "--seed=3",
+            ]
+            .as_slice(),
+            [2, 5, 2, 10],
+        ),
+        (
+            [
+                "pif",
+                "random",
+                "--seed",
+                "18446744073709551615",
+                "--lines",
+                "1",
+            ]
+            .as_slice(),
+            [1, 0, 0, 2],
+        ),
+        (
+            [
+                "pif",
+                "random",
+                "--seed",
+                "0",
+                "--lines",
+                "2",
+                "--threads",
+                "1",
+                "--mutexes",
+                "0",
+                "--conds",
+                "0",
+            ]
+            .as_slice(),
+            [1, 0, 0, 3],
+        ),
+        (
+            [
+                "pif",
+                "random",
+                "--seed",
+                "0",
+                "--lines",
+                "9",
+                "--threads",
+                "1024",
+                "--mutexes",
+                "1024",
+                "--conds",
+                "256",
+            ]
+            .as_slice(),
+            [9, 0, 0, 10],
+        ),
+    ];
+    for (words, wanted) in scripts {
+        let script = script_of(&rt, rt.alloc(), words);
+        assert_eq!(rt; counts(&script), wanted, "{words:?}");
+    }
+}
+
+/// Whether a script has a robust mutex, an end and a tick.
+fn has(script: &Kept) -> [bool; 3] {
+    let robust = script
+        .as_slice()
+        .split(|byte| *byte == b'\n')
+        .any(|line| line.ends_with(b" robust"));
+    [
+        robust,
+        count(script, b"end ") > 0,
+        count(script, b"tick ") > 0,
+    ]
+}
+
+#[test]
+fn only_what_was_asked_for_is_there(rt: HostRuntime) {
+    let scripts = [
+        (
+            ["--times", "--ends", "--robust"].as_slice(),
+            [true, true, true],
+        ),
+        (["--robust"].as_slice(), [true, false, false]),
+        (["--ends"].as_slice(), [false, true, false]),
+        (["--times"].as_slice(), [false, false, true]),
+        ([].as_slice(), [false, false, false]),
+    ];
+    for (options, wanted) in scripts {
+        let mut words = ArrayVec::<&str, 9>::new();
+        let _ = words.try_extend_from_slice(["pif", "random", "--seed=5", "--lines=90"].as_slice());
+        let _ = words.try_extend_from_slice(options);
+        let script = script_of(&rt, rt.alloc(), words.as_slice());
+        assert_eq!(rt; has(&script), wanted, "{options:?}");
+    }
+}
+
+#[test]
+fn a_seed_gives_one_script_that_has_no_fault(rt: HostRuntime) {
+    let words = [
+        "pif",
+        "random",
+        "--seed=7",
+        "--lines=90",
+        "--ends",
+        "--times",
+    ];
+    let other = [
+        "pif",
+        "random",
+        "--seed=8",
+        "--lines=90",
+        "--ends",
+        "--times",
+    ];
+    let script = script_of(&rt, rt.alloc(), words.as_slice());
+    for (asked_for, same) in [(words, true), (other, false)] {
+        let given = script_of(&rt, rt.alloc(), asked_for.as_slice());
+        assert_eq!(rt; given.as_slice() == script.as_slice(), same);
+    }
+    let (status, answers, _) = asked(
+        &rt,
+        rt.alloc(),
+        ["pif", "run"].as_slice(),
+        script.as_slice(),
+    );
+    assert_eq!(rt; (status, count(&answers, b"")), (0, 91));
+}
+
+/// Checks that `pif random` with these options is refused with status 1, that the errors say this, and that nothing is
+/// read or written.
+fn check_refused(
+    rt: &(impl Abort + Threads + Wait + Sync),
+    alloc: Global,
+    options: &[&str],
+    said: &str,
+) -> Result<(), Fail> {
+    let mut words = ArrayVec::<&str, 9>::new();
+    let _ = words.try_extend_from_slice(["pif", "random"].as_slice());
+    let _ = words.try_extend_from_slice(options);
+    let mut input = BOOSTED.as_bytes();
+    let (mut output, mut errors) = (Kept::new(), Kept::new());
+    let status = command(
+        alloc,
+        rt,
+        words.as_slice(),
+        &mut input,
+        &mut output,
+        &mut errors,
+    );
+    assert_eq!(rt;
+        (status, input.len(), output.len()),
+        (1, BOOSTED.len(), 0),
+        "{options:?}"
+    );
+    let text = from_utf8(errors.as_slice())?;
+    assert!(rt; text.contains(said), "{said:?} in {text:?}");
+    Ok(())
+}
+
+/// Numbers that are refused, and what the errors say.
+static NUMBERS: [(&str, &str); 12] = [
+    (
+        "--seed=one",
+        "invalid value 'one' for '--seed <N>': invalid digit found in string",
+    ),
+    (
+        "--seed=18446744073709551616",
+        "invalid value '18446744073709551616' for '--seed <N>': number too large to fit in target type",
+    ),
+    (
+        "--seed=-1",
+        "invalid value '-1' for '--seed <N>': invalid digit found in string",
+    ),
+    (
+        "--lines=0",
+        "invalid value '0' for '--lines <L>': 0 is not in 1..=262144",
+    ),
+    (
+        "--lines=262145",
+        "invalid value '262145' for '--lines <L>': 262145 is not in 1..=262144",
+    ),
+    (
+        "--threads=0",
+        "invalid value '0' for '--threads <T>': 0 is not in 1..=1024",
+    ),
+    (
+        "--threads=1025",
+        "invalid value '1025' for '--threads <T>': 1025 is not in 1..=1024",
+    ),
+    (
+        "--mutexes=1025",
+        "invalid value '1025' for '--mutexes <M>': 1025 is not in 0..=1024",
+    ),
+    (
+        "--conds=257",
+        "invalid value '257' for '--conds <C>': 257 is not in 0..=256",
+    ),
+    ("--fast", "unexpected argument '--fast' found"),
+    ("-s", "unexpected argument '-s' found"),
+    ("--seed", "a value is required for '--seed <N>'"),
+];
+
+#[test]
+fn numbers_out_of_range_are_refused(rt: HostRuntime) -> Result<(), Fail> {
+    for (option, said) in &NUMBERS {
+        check_refused(&rt, rt.alloc(), [*option].as_slice(), *said)?;
+    }
+    Ok(())
+}
+
+#[test]
+fn wrong_options_are_refused(rt: HostRuntime) -> Result<(), Fail> {
+    let refused = [
+        (
+            [].as_slice(),
+            "required arguments were not provided:\n  --seed <N>\n  --lines <L>\n",
+        ),
+        (
+            ["--seed=1"].as_slice(),
+            "required arguments were not provided:\n  --lines <L>\n",
+        ),
+        (
+            ["--lines", "1"].as_slice(),
+            "required arguments were not provided:\n  --seed <N>\n",
+        ),
+        (
+            ["--robust=yes"].as_slice(),
+            "unexpected value 'yes' for '--robust' found",
+        ),
+        (
+            ["--ends", "--ends"].as_slice(),
+            "'--ends' cannot be used multiple times",
+        ),
+        (
+            ["--seed=1", "--seed=2"].as_slice(),
+            "'--seed <N>' cannot be used multiple times",
+        ),
+        (
+            ["--seed=1", "--lines=2", "a"].as_slice(),
+            "unexpected argument 'a' found",
+        ),
+    ];
+    for (options, said) in refused {
+        check_refused(&rt, rt.alloc(), options, said)?;
+    }
+    Ok(())
+}
+
+/// Each allocation is refused in turn by `rt try --test --fail-alloc N`: then nothing is written but the message.
+#[test]
+fn out_of_memory_no_script_is_written(rt: HostRuntime) {
+    let words = ["pif", "random", "--seed=1", "--lines=9"];
+    let (ended, output, errors) = asked(&rt, rt.alloc(), words.as_slice(), b"");
+    let (lines, message) = match ended {
+        4 => (1, "pif: out of memory\n"),
+        _ => (10, ""),
+    };
+    assert!(rt; count(&output, b"") == lines && (ended == 4 || ended == 0));
+    assert!(rt; errors.as_slice() == message.as_bytes());
+}
