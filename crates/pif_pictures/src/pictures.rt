@@ -1,0 +1,125 @@
+ghost use Rattle.pif_pictures.specs.Pictures.{AnswersTo, PicturesTo, WritesText};
+
+use crate::drawing::drawing_of;
+use crate::graphs::graph_of;
+use crate::rows::places_of;
+use crate::states::states_of;
+use pif_scripts::{CliFault, write_whole};
+use pif_stories::fill;
+use pif_types::NoMemory;
+use std::alloc::Global;
+use std::io::{Read, Write};
+
+/// What is made of a story.
+#[derive(Clone, Copy)]
+enum Picture {
+    /// A drawing, as SVG.
+    Drawing,
+    /// The states after each command, as JSON.
+    States,
+    /// Who waits for whom at the end, in the language of Graphviz.
+    Graph,
+}
+
+/// Draws a story, or a script, as an SVG image: a lane for each thread over the commands, with what the thread does, the
+/// mutexes that it holds, and its effective priority above its base priority; and arrows, if a mutex is handed over or a
+/// thread is woken. The story is read to its end before anything is written, and it and its drawing are kept in memory.
+/// What is drawn is for reading, and may change.
+///
+/// # Errors
+///
+/// `Script` with the line of the first fault, as of `fill`; `Read`, if the reader fails; and `NoMemory`: nothing was
+/// written then. `Write`, if the writer fails or takes no byte.
+pub fn draw<R: Read, W: Write>(
+    alloc: Global,
+    reader: &mut R,
+    writer: &mut W,
+) -> Result<(), CliFault>
+    ensures { PicturesTo (R.remaining reader.old) (R.remaining reader.new) (W.contents writer.old) (W.contents writer.new) result }
+{
+    write_picture(alloc, Picture::Drawing, reader, writer)
+}
+
+/// Writes the states of a story, or a script: for each command a line with one JSON object, of the command, its answer,
+/// and then each thread, mutex and condition variable, the run queue, and the chains of waiting. The story is read to
+/// its end before anything is written, and it and the states are kept in memory.
+///
+/// # Errors
+///
+/// Those of `draw`.
+pub fn write_states<R: Read, W: Write>(
+    alloc: Global,
+    reader: &mut R,
+    writer: &mut W,
+) -> Result<(), CliFault>
+    ensures { PicturesTo (R.remaining reader.old) (R.remaining reader.new) (W.contents writer.old) (W.contents writer.new) result }
+{
+    write_picture(alloc, Picture::States, reader, writer)
+}
+
+/// Writes who waits for whom, through which mutex, at the end of a story, or a script: a graph in the language of
+/// Graphviz. The story is read to its end before anything is written, and it and the graph are kept in memory.
+///
+/// # Errors
+///
+/// Those of `draw`.
+pub fn write_graph<R: Read, W: Write>(
+    alloc: Global,
+    reader: &mut R,
+    writer: &mut W,
+) -> Result<(), CliFault>
+    ensures { PicturesTo (R.remaining reader.old) (R.remaining reader.new) (W.contents writer.old) (W.contents writer.new) result }
+{
+    write_picture(alloc, Picture::Graph, reader, writer)
+}
+
+/// Writes a picture of a story.
+fn write_picture<R: Read, W: Write>(
+    alloc: Global,
+    picture: Picture,
+    reader: &mut R,
+    writer: &mut W,
+) -> Result<(), CliFault>
+    ensures { PicturesTo (R.remaining reader.old) (R.remaining reader.new) (W.contents writer.old) (W.contents writer.new) result }
+{
+    let story = answered(alloc, reader)?;
+    write_text(picture_of(alloc, picture, story.as_slice()), writer)
+}
+
+/// Reads a story to its end, and has its answers filled in.
+///
+/// # Errors
+///
+/// Those of `fill`, but that no write fails.
+fn answered<R: Read>(alloc: Global, reader: &mut R) -> Result<Vec<u8>, CliFault>
+    ensures { AnswersTo (R.remaining reader.old) (R.remaining reader.new) result }
+{
+    let mut story = Vec::new(alloc);
+    match fill(alloc, b"", reader, &mut story) {
+        Ok(()) => Ok(story),
+        Err(CliFault::Write) => Err(CliFault::NoMemory),
+        Err(fault) => Err(fault),
+    }
+}
+
+/// A picture of a story that was filled in.
+fn picture_of(alloc: Global, picture: Picture, story: &[u8]) -> Result<String, NoMemory> {
+    let Ok(places) = places_of(alloc, story) else {
+        return Err(NoMemory);
+    };
+    match picture {
+        Picture::Drawing => drawing_of(alloc, story, places.as_slice()),
+        Picture::States => states_of(alloc, story, places.as_slice()),
+        Picture::Graph => graph_of(alloc, story, places.as_slice()),
+    }
+}
+
+/// Writes a text whole, if there was memory for it.
+fn write_text<W: Write>(text: Result<String, NoMemory>, writer: &mut W) -> Result<(), CliFault>
+    ensures { WritesText (W.contents writer.old) (W.contents writer.new) result }
+{
+    match text {
+        Ok(text) => write_whole(writer, text.as_bytes()),
+        Err(NoMemory) => Err(CliFault::NoMemory),
+    }
+}

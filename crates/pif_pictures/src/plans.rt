@@ -1,0 +1,227 @@
+use crate::plays::Play;
+use crate::rows::{Place, Row};
+use pif_core::Core;
+use pif_model::Event;
+use pif_text::{Addition, Command};
+use pif_types::{MutexId, NoMemory, Request, Tid};
+use std::alloc::{AllocError, Global};
+
+/// Where the first column begins.
+const LEFT: u32 = 48;
+/// Where the first lane begins.
+const TOP: u32 = 88;
+/// The width of a column.
+const COLUMN: u32 = 40;
+/// The most bars that one lane shows below each other.
+pub const MOST_SLOTS: u32 = 3;
+
+/// A place in a script: behind the command of a column, which stands in this line of the story.
+#[derive(Clone, Copy)]
+pub struct Moment {
+    /// The number of the column, from 0.
+    pub column: u32,
+    /// The number of the line, from 1.
+    pub line: u32,
+}
+
+/// Where things stand in a drawing, in pixels.
+#[derive(Clone, Copy)]
+pub struct Plan {
+    /// How many commands are drawn.
+    pub columns: u32,
+    /// How many threads are drawn.
+    pub threads: u32,
+    /// How many mutexes are drawn.
+    pub mutexes: u32,
+    // The most mutexes that one thread holds at once.
+    held: u32,
+    // The least and the greatest priority, and the length of the longest command with its answer.
+    least: u32,
+    greatest: u32,
+    letters: u32,
+}
+
+/// The plan of a drawing of a story.
+///
+/// # Errors
+///
+/// A growth of memory was refused.
+pub fn plan_of(alloc: Global, story: &[u8], places: &[Place]) -> Result<Plan, NoMemory> {
+    let mut play = Play::new(alloc, story, places)?;
+    let mut plan = Plan::new();
+    let mut held = Vec::new(alloc);
+    for place in places {
+        if let Some(row) = place.row(story) {
+            play.obey(&row);
+            plan.take(&row);
+            match most_held(play.core(), &mut held) {
+                Ok(most) => plan.held = plan.held.max(most),
+                Err(_) => return Err(NoMemory),
+            }
+        }
+    }
+    Ok(plan.with(play.core()))
+}
+
+/// The most mutexes that one thread holds; `held` counts those of each.
+fn most_held(core: &Core, held: &mut Vec<u32>) -> Result<u32, AllocError> {
+    held.clear();
+    for _thread in 0..core.threads() {
+        held.push(0)?;
+    }
+    let mut most = 0;
+    for number in 1..=core.mutexes() {
+        if let Some(count) = owner_place(core, number).and_then(|place| held.get_mut(place)) {
+            *count = count.saturating_add(1);
+            most = most.max(*count);
+        }
+    }
+    Ok(most)
+}
+
+/// The place, from 0, of the thread that holds the mutex of this number.
+fn owner_place(core: &Core, number: u32) -> Option<usize> {
+    let (owner, _) = core.owner(MutexId::new(number)?)?;
+    Some((owner.get() - 1) as usize)
+}
+
+impl Plan {
+    /// The plan of a drawing of nothing.
+    fn new() -> Plan {
+        Plan {
+            columns: 0,
+            threads: 0,
+            mutexes: 0,
+            held: 0,
+            least: 99,
+            greatest: 1,
+            letters: 0,
+        }
+    }
+
+    /// Makes room for a command.
+    fn take(&mut self, row: &Row<'_>) {
+        let letters = row.words.len().saturating_add(row.answer.len());
+        self.columns = self.columns.saturating_add(1);
+        self.letters = self.letters.max(u32::try_from(letters).unwrap_or(0));
+        if let Some(priority) = named_priority(row.command) {
+            self.least = self.least.min(priority);
+            self.greatest = self.greatest.max(priority);
+        }
+    }
+
+    /// The plan with room for what was added to a core.
+    fn with(self, core: &Core) -> Plan {
+        Plan {
+            columns: self.columns,
+            threads: core.threads(),
+            mutexes: core.mutexes(),
+            held: self.held,
+            least: self.least,
+            greatest: self.greatest,
+            letters: self.letters,
+        }
+    }
+
+    /// Where a column begins.
+    pub fn x(&self, column: u32) -> u32 {
+        column.saturating_mul(COLUMN).saturating_add(LEFT)
+    }
+
+    /// The length of so many columns.
+    pub fn length(&self, from: u32, to: u32) -> u32 {
+        to.saturating_sub(from).saturating_mul(COLUMN)
+    }
+
+    /// The end of all columns, where a lane ends.
+    pub fn lane_end(&self) -> u32 {
+        self.x(self.columns)
+    }
+
+    /// The height of a lane.
+    pub fn lane_height(&self) -> u32 {
+        64 + self.held.min(MOST_SLOTS) * 12
+    }
+
+    /// The top of the lane of a thread.
+    pub fn lane(&self, thread: Tid) -> u32 {
+        self.below(thread, 0)
+    }
+
+    /// So far below the top of the lane of a thread.
+    fn below(&self, thread: Tid, more: u32) -> u32 {
+        let lanes = (thread.get() - 1).saturating_mul(self.lane_height());
+        TOP.saturating_add(lanes).saturating_add(more)
+    }
+
+    /// The height at which a thread of this priority runs.
+    pub fn level(&self, thread: Tid, priority: u32) -> u32 {
+        let span = self.greatest.saturating_sub(self.least).max(1);
+        let more = priority.saturating_sub(self.least).min(span);
+        self.below(thread, 36 - (more.saturating_mul(22) / span).min(22))
+    }
+
+    /// The top of the band that shows what a thread does.
+    pub fn band(&self, thread: Tid) -> u32 {
+        self.below(thread, 41)
+    }
+
+    /// The top of a bar of a mutex that a thread holds.
+    pub fn bar(&self, thread: Tid, slot: u32) -> u32 {
+        self.below(thread, 60 + slot.min(MOST_SLOTS) * 12)
+    }
+
+    /// The top of all lanes.
+    pub fn top(&self) -> u32 {
+        TOP
+    }
+
+    /// Where the lanes end, and the commands begin.
+    pub fn axis(&self) -> u32 {
+        self.threads
+            .saturating_mul(self.lane_height())
+            .saturating_add(TOP)
+    }
+
+    /// The width of the drawing.
+    pub fn width(&self) -> u32 {
+        let words = self.letters.saturating_mul(9) / 2;
+        self.lane_end()
+            .saturating_add(words)
+            .saturating_add(24)
+            .max(700)
+    }
+
+    /// The height of the drawing.
+    pub fn height(&self) -> u32 {
+        let words = self.letters.saturating_mul(11) / 2;
+        self.axis().saturating_add(words).saturating_add(44)
+    }
+}
+
+/// The priority that a command gives to a thread, if it is one.
+fn named_priority(command: Command) -> Option<u32> {
+    let priority = match command {
+        Command::Add(Addition::Thread(priority)) => Some(priority),
+        Command::Run(_, Some(request)) => set_priority(request),
+        Command::Event(event) => event_priority(event),
+        _ => None,
+    };
+    priority.filter(|priority| 1 <= *priority && *priority <= 99)
+}
+
+/// The priority that a call is to give to a thread.
+fn set_priority(request: Request) -> Option<u32> {
+    match request {
+        Request::SetPrio(_, priority) => Some(priority),
+        _ => None,
+    }
+}
+
+/// The priority that a call which begins is to give to a thread.
+fn event_priority(event: Event) -> Option<u32> {
+    match event {
+        Event::Begin(_, request) => set_priority(request),
+        _ => None,
+    }
+}
