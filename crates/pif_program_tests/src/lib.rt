@@ -8,11 +8,14 @@
 //! | `scripts` | `pif_scripts`: scripts and traces, from worked examples to reads and writes that fail |
 //! | `stories` | `pif_stories`: stories that are checked, and filled in |
 //! | `random` | `pif_random`: scripts by a seed |
-//! | `streams` | none: the readers and writers that `scripts`, `stories` and `random` share |
+//! | `pictures` | `pif_pictures`: drawings, states and graphs of stories |
+//! | `streams` | none: the readers and writers that the others share |
 #![tactic(auto)]
 
 #[cfg(test)]
 mod lines;
+#[cfg(test)]
+mod pictures;
 #[cfg(test)]
 mod random;
 #[cfg(test)]
