@@ -10,7 +10,9 @@ use Rattle.std.specs.declared.io.ErrorKind.{ErrorKind as IoErrorKind}
 use Rattle.std.specs.declared.io.ErrorKind.TheVariants.{OutOfMemory, InvalidData}
 use Rattle.pif_scripts.specs.declared.faults.CliFault.{CliFault}
 use Rattle.pif_cli.specs.declared.words.Job.{Job}
-use Rattle.pif_cli.specs.declared.words.Job.TheVariants.{Run, Replay, Trace, Migrate, Show, Check, Fill, Random, Drive}
+use Rattle.pif_cli.specs.declared.words.Job.TheVariants.{Run, Replay, Trace, Migrate, Show, Picture, Check, Fill, Random, Drive}
+use Rattle.pif_cli.specs.declared.pictures.Picture.TheVariants.{Drawing, States, Graph}
+use Rattle.pif_pictures.specs.Pictures.{PicturesTo}
 use Rattle.pif_cli.specs.declared.statuses.JobFault.{JobFault}
 use Rattle.pif_cli.specs.declared.statuses.JobFault.TheVariants.{Cli}
 use Rattle.pif_scripts.specs.Migrating.{MigratesTo}
@@ -65,15 +67,22 @@ files_rule =
 abbrev pub check_app : App
 check_app = with_rule (with_rule (new_app (codes "check")) print_rule) files_rule
 
--- a program with the commands over scripts and stories that show answers: `run`, `show` and `check`
+-- the command `show`, for a person or, by a flag, for programs
+abbrev pub show_app : App
+show_app =
+    with_rule (with_rule (with_rule (new_app (codes "show")) (flag_rule (codes "json"))) (flag_rule (codes "dot")))
+    file_rule
+
+-- a program with the commands over scripts and stories that show answers: `run`, `show`, `draw` and `check`
 abbrev pub with_runs : App → App
-with_runs pif = with_subcommand (with_job (with_job pif (codes "run")) (codes "show")) check_app.top
+with_runs pif =
+    with_subcommand (with_job (with_subcommand (with_job pif (codes "run")) show_app.top) (codes "draw")) check_app.top
 
 -- a program with the commands over traces: `replay`, `trace` and `migrate`
 abbrev pub with_traces : App → App
 with_traces pif = with_job (with_job (with_job pif (codes "replay")) (codes "trace")) (codes "migrate")
 
--- the program's commands: `run`, `show`, `check`, `replay`, `trace`, `migrate`, `random` and `drive`
+-- the program's commands: `run`, `show`, `draw`, `check`, `replay`, `trace`, `migrate`, `random` and `drive`
 abbrev pub program : App
 program = with_subcommand (with_subcommand (with_traces (with_runs bare_program)) random_app.top) drive_app.top
 
@@ -81,16 +90,23 @@ program = with_subcommand (with_subcommand (with_traces (with_runs bare_program)
 abbrev pub refusals_of : List (List ℕ) → Kinds
 refusals_of words = fault_of program words
 
+-- how a script is shown: for a person, or as a picture that a flag names; of both flags the first counts
+abbrev pub shown_in : List Row → Job
+shown_in rows =
+    if flag_in (codes "json") rows then Picture States
+    else (if flag_in (codes "dot") rows then Picture Graph else Show)
+
 -- the job of this name, with what was given to it
 abbrev pub job_named : Text → List Row → Job
 job_named name rows =
     if bytes_eq name (codes "replay") then Replay
     else (if bytes_eq name (codes "trace") then Trace
     else (if bytes_eq name (codes "migrate") then Migrate
-    else (if bytes_eq name (codes "show") then Show
+    else (if bytes_eq name (codes "show") then shown_in rows
+    else (if bytes_eq name (codes "draw") then Picture Drawing
     else (if bytes_eq name (codes "check") then (if flag_in (codes "print") rows then Fill else Check)
     else (if bytes_eq name (codes "random") then Random (recipe_in rows)
-    else (if bytes_eq name (codes "drive") then Drive (number_in 1 64 (first_of (codes "N") rows)) else Run))))))
+    else (if bytes_eq name (codes "drive") then Drive (number_in 1 64 (first_of (codes "N") rows)) else Run)))))))
 
 -- the job of a command, by its name and what was given to it
 abbrev pub job_by : Option (Text × List Row) → Job
@@ -147,6 +163,7 @@ Does Replay name before after held holds result = EndsAsCli (ReplaysTo before af
 Does Trace name before after held holds result = EndsAsCli (TracesTo before after held holds) result
 Does Migrate name before after held holds result = EndsAsCli (MigratesTo before after held holds) result
 Does Show name before after held holds result = EndsAsCli (ShowsTo before after held holds) result
+Does (Picture picture) name before after held holds result = EndsAsCli (PicturesTo before after held holds) result
 Does Check name before after held holds result = EndsAsCli (TellsTo (checked name) before after held holds) result
 Does Fill name before after held holds result = EndsAsCli (TellsTo (filled name) before after held holds) result
 Does (Random recipe) name before after held holds result =

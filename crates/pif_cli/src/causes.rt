@@ -11,7 +11,7 @@ pub fn message_of(job: Job, name: &str, fault: JobFault, notice: &Notice) -> Mes
     match fault {
         JobFault::Cli(CliFault::Read) => unread(name),
         JobFault::Cli(fault) => match job {
-            Job::Check | Job::Fill => story_message(name, fault),
+            Job::Check | Job::Fill | Job::Picture(_) => story_message(name, fault),
             _ => text_message(job, fault, notice),
         },
         JobFault::Threads => said("a thread cannot be started"),

@@ -21,6 +21,15 @@ pub const ABOUT_MIGRATE: &str = "Reads a trace, and writes it as a trace of vers
 /// What `show` does.
 pub const ABOUT_SHOW: &str = "Reads a script, and shows for each line the answer and the state";
 
+/// What `draw` does.
+pub const ABOUT_DRAW: &str = "Reads a story or a script, and draws it as an SVG image";
+
+/// What the flag of `show` for JSON does.
+pub const ABOUT_JSON: &str = "Writes the state behind each command as a line of JSON";
+
+/// What the flag of `show` for Graphviz does.
+pub const ABOUT_DOT: &str = "Writes who waits for whom at the end, for Graphviz";
+
 /// What `check` does.
 pub const ABOUT_CHECK: &str = "Reads stories, and says whether the core gives their answers";
 
@@ -49,7 +58,10 @@ pub const USAGE_TRACE: &str = "pif trace [FILE]";
 pub const USAGE_MIGRATE: &str = "pif migrate [FILE]";
 
 /// How `show` is called.
-pub const USAGE_SHOW: &str = "pif show [FILE]";
+pub const USAGE_SHOW: &str = "pif show [--json | --dot] [FILE]";
+
+/// How `draw` is called.
+pub const USAGE_DRAW: &str = "pif draw [FILE]";
 
 /// What `random` does.
 pub const ABOUT_RANDOM: &str = "Writes a random script, the same for the same seed";
@@ -205,8 +217,28 @@ what there is then:
 What is empty is left out. This text is for reading, and may change; 'pif run'
 prints for programs.
 
+With --json or --dot it takes a story too, reads all of it first, and prints
+nothing of one with a fault. docs/FORMATS.md says what they print. With both
+flags, --json counts.
+
 Status: 0 done, 1 wrong words, 2 a fault of the script, 3 a read or write
 failed, 4 out of memory.
+Standard error says what went wrong, and in which line.";
+
+/// The end of the help of `draw`.
+pub const MORE_DRAW: &str =
+    "A story or a script comes from FILE, or from the standard input, as 'pif check'
+or 'pif run' takes it. Answers that stand in it are not compared.
+
+The image has a column for each command and a lane for each thread: whether it
+runs, is ready, waits or is parked; its priority, with a boost filled in; and
+the mutexes that it holds. Arrows are hand-overs and wakings. It has no scripts,
+and a browser shows what each part is under the pointer.
+
+All is read first, and nothing is printed of a story with a fault.
+
+Status: 0 done, 1 wrong words, 2 a fault of the story, 3 a read or write failed,
+4 out of memory.
 Standard error says what went wrong, and in which line.";
 
 /// The end of the help of `check`.

@@ -9,6 +9,7 @@ mod files;
 mod helps;
 mod messages;
 mod options;
+mod pictures;
 mod process;
 mod random;
 mod statuses;

@@ -2,6 +2,7 @@ mod desks;
 mod drives;
 mod files;
 mod messages;
+mod pictures;
 mod randoms;
 mod shows;
 mod texts;
@@ -119,7 +120,7 @@ impl Read for Broken {
 
 #[test]
 fn a_failed_read_or_write_has_status_3(rt: HostRuntime) {
-    for job in ["run", "show", "check", "replay", "trace", "migrate"] {
+    for job in ["run", "show", "draw", "check", "replay", "trace", "migrate"] {
         let words = ["pif", job];
         let mut output = Kept::new();
         let mut errors = Kept::new();

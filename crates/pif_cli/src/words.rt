@@ -6,17 +6,19 @@ ghost use Rattle.clap.specs.declared.error.kind.ErrorKind.TheVariants.{DisplayHe
 ghost use Rattle.pif_cli.specs.Messages.{TellsAt, TellsLine};
 ghost use Rattle.pif_cli.specs.Random.{plain_shape};
 ghost use Rattle.pif_cli.specs.Statuses.{fault_status};
-ghost use Rattle.pif_cli.specs.Words.{program, refusals_of, job_of, job_named, files_in, files_of, file_app, file_rule, files_rule, check_app, print_rule, first_name, name_of, clients_rule, drive_app, Did, Does, as_job, EndsBy, HadNoMemory, RefusedFor, Shows, ShowsHelp, bare_program, with_job, with_runs, with_traces};
+ghost use Rattle.pif_cli.specs.Words.{program, refusals_of, job_of, job_named, files_in, files_of, file_app, file_rule, files_rule, show_app, shown_in, check_app, first_name, name_of, clients_rule, drive_app, Did, Does, as_job, EndsBy, HadNoMemory, RefusedFor, Shows, ShowsHelp, bare_program, with_job, with_runs, with_traces};
 
 use crate::causes::{message_of, plain_message};
 use crate::drive::drive;
 use crate::helps::{
-    ABOUT, ABOUT_CHECK, ABOUT_CLIENTS, ABOUT_DRIVE, ABOUT_FILE, ABOUT_FILES, ABOUT_MIGRATE,
-    ABOUT_PRINT, ABOUT_REPLAY, ABOUT_RUN, ABOUT_SHOW, ABOUT_TRACE, EXAMPLE, MORE_CHECK, MORE_DRIVE,
-    MORE_MIGRATE, MORE_REPLAY, MORE_RUN, MORE_SHOW, MORE_TRACE, USAGE_CHECK, USAGE_DRIVE,
-    USAGE_MIGRATE, USAGE_REPLAY, USAGE_RUN, USAGE_SHOW, USAGE_TRACE, VERSION,
+    ABOUT, ABOUT_CHECK, ABOUT_CLIENTS, ABOUT_DOT, ABOUT_DRAW, ABOUT_DRIVE, ABOUT_FILE, ABOUT_FILES,
+    ABOUT_JSON, ABOUT_MIGRATE, ABOUT_PRINT, ABOUT_REPLAY, ABOUT_RUN, ABOUT_SHOW, ABOUT_TRACE,
+    EXAMPLE, MORE_CHECK, MORE_DRAW, MORE_DRIVE, MORE_MIGRATE, MORE_REPLAY, MORE_RUN, MORE_SHOW,
+    MORE_TRACE, USAGE_CHECK, USAGE_DRAW, USAGE_DRIVE, USAGE_MIGRATE, USAGE_REPLAY, USAGE_RUN,
+    USAGE_SHOW, USAGE_TRACE, VERSION,
 };
 use crate::options::{flag_given, is_given, small_number_in};
+use crate::pictures::{Picture, write_picture};
 use crate::random::{Recipe, random_command, recipe_in, write_random};
 use crate::statuses::{JobFault, fault_status, job_fault_status};
 use clap::builder::ValueParser;
@@ -48,6 +50,8 @@ pub enum Job {
     Migrate,
     /// `show`: run a script, and show it to a person.
     Show,
+    /// `draw`, `show --json` and `show --dot`: make a picture of a story.
+    Picture(Picture),
     /// `check`: check a story.
     Check,
     /// `check --print`: fill a story in.
@@ -120,6 +124,20 @@ fn files_given<'a>(alloc: Global) -> clap::Arg<'a>
         .help(ABOUT_FILES)
 }
 
+/// The command `show`.
+fn show_command<'a>(alloc: Global) -> Result<clap::Command<'a>, AllocError>
+    ensures app { IfOk result (λ c. app_of c ≡ show_app) }
+    ensures local { IfOk result (λ c. (out-Command c).has_globals ≡ false) }
+{
+    clap::Command::new(alloc, "show")
+        .about(ABOUT_SHOW)
+        .override_usage(USAGE_SHOW)
+        .after_help(MORE_SHOW)
+        .arg(flag_given(alloc, "json", ABOUT_JSON))?
+        .arg(flag_given(alloc, "dot", ABOUT_DOT))?
+        .arg(file_given(alloc))
+}
+
 /// The command `check`.
 fn check_command<'a>(alloc: Global) -> Result<clap::Command<'a>, AllocError>
     ensures app { IfOk result (λ c. app_of c ≡ check_app) }
@@ -138,7 +156,8 @@ fn with_runs<'a>(alloc: Global, pif: clap::Command<'a>) -> Result<clap::Command<
     ensures { IfOk result (λ c. app_of c ≡ with_runs (app_of pif.entry)) }
 {
     let pif = with_job(alloc, pif, "run", ABOUT_RUN, USAGE_RUN, MORE_RUN)?;
-    let pif = with_job(alloc, pif, "show", ABOUT_SHOW, USAGE_SHOW, MORE_SHOW)?;
+    let pif = pif.subcommand(show_command(alloc)?)?;
+    let pif = with_job(alloc, pif, "draw", ABOUT_DRAW, USAGE_DRAW, MORE_DRAW)?;
     pif.subcommand(check_command(alloc)?)
 }
 
@@ -236,6 +255,19 @@ pub fn read_words<'a, S: AsStr>(alloc: Global, words: &'a [S]) -> Result<Asked<'
     }
 }
 
+/// How `show` is to show a script: for a person, or as a picture that its flags name. Of both flags the first counts.
+fn shown_in(given: &clap::ArgMatches) -> Job
+    ensures { result ≡ shown_in (rows_of (found_of given.now)) }
+{
+    if is_given(given, "json") {
+        Job::Picture(Picture::States)
+    } else if is_given(given, "dot") {
+        Job::Picture(Picture::Graph)
+    } else {
+        Job::Show
+    }
+}
+
 /// The job of a command's name, with what was given to it.
 fn job_named(name: &str, given: &clap::ArgMatches) -> Job
     ensures { result ≡ job_named name.now (rows_of (found_of given.now)) }
@@ -247,7 +279,9 @@ fn job_named(name: &str, given: &clap::ArgMatches) -> Job
     } else if name == "migrate" {
         Job::Migrate
     } else if name == "show" {
-        Job::Show
+        shown_in(given)
+    } else if name == "draw" {
+        Job::Picture(Picture::Drawing)
     } else if name == "check" {
         if is_given(given, "print") {
             Job::Fill
@@ -292,6 +326,7 @@ fn do_job<T: Threads + Wait + Sync, R: Read, W: Write>(
         Job::Trace => as_job(trace_noting(alloc, input, output, notice)),
         Job::Migrate => as_job(migrate_noting(alloc, input, output, notice)),
         Job::Show => as_job(show_noting(alloc, input, output, notice)),
+        Job::Picture(picture) => as_job(write_picture(picture, alloc, input, output)),
         Job::Check => as_job(check(alloc, name.as_bytes(), input, output)),
         Job::Fill => as_job(fill(alloc, name.as_bytes(), input, output)),
         Job::Random(recipe) => write_random(alloc, recipe, output),
@@ -390,7 +425,8 @@ fn first_name<'a>(files: &[&'a str]) -> &'a str
 
 /// The program over its words, the program's name first. `pif run` reads a script from `input`, and writes what its
 /// lines are answered, and the line of a fault, to `output`. `pif show` reads a script from `input`, and writes to
-/// `output` each line, its answer and the state behind it, as `show` does. `pif check` reads a story from `input`, and
+/// `output` each line, its answer and the state behind it, as `show` does; with `--json` or `--dot` it reads a story, and
+/// writes a picture of it, as `pif draw` does. `pif check` reads a story from `input`, and
 /// writes to `output` a line that says whether it is ok, as `check` does; with `--print` it writes it with its answers,
 /// as `fill` does. `pif replay` reads a trace from `input`, and writes to `output` what it comes to, as `replay` does.
 /// `pif trace` reads a script from `input`, and writes its trace to `output`, as `trace` does, without the line of a
@@ -430,8 +466,8 @@ pub fn command<T: Threads + Wait + Sync, S: AsStr, R: Read, W: Write, E: Write>(
     }
 }
 
-/// Which words ask for which job: `run`, `show`, `replay`, `trace` and `migrate` alone, `run` with a file, `check` alone,
-/// with `--print` and with two files, `random` with a seed and from 1 to 262,144 lines, and `drive` with a number from 1
+/// Which words ask for which job: `run`, `show`, `draw`, `replay`, `trace` and `migrate` alone, `show` with each of its
+/// flags, `run` with a file, `check` alone, with `--print` and with two files, `random` with a seed and from 1 to 262,144 lines, and `drive` with a number from 1
 /// to 64 do; no word, `--help` and `--version` don't.
 #[tactic(auto, unfolding(clap::proofs::OnLiterals::clap_on_literals))]
 pub fn words_of_the_program()
@@ -440,6 +476,12 @@ pub fn words_of_the_program()
     ensures trace { (name : List ℕ) → (refusals_of (name ∷ codes "trace" ∷ []) ≡ []) × (job_of (name ∷ codes "trace" ∷ []) ≡ Job.Trace) }
     ensures migrate { (name : List ℕ) → (refusals_of (name ∷ codes "migrate" ∷ []) ≡ []) × (job_of (name ∷ codes "migrate" ∷ []) ≡ Job.Migrate) }
     ensures show { (name : List ℕ) → (refusals_of (name ∷ codes "show" ∷ []) ≡ []) × (job_of (name ∷ codes "show" ∷ []) ≡ Job.Show) }
+    ensures draw { (name : List ℕ) → (refusals_of (name ∷ codes "draw" ∷ []) ≡ [])
+        × (job_of (name ∷ codes "draw" ∷ []) ≡ Job.Picture Picture.Drawing) }
+    ensures json { (name : List ℕ) → (refusals_of (name ∷ codes "show" ∷ codes "--json" ∷ []) ≡ [])
+        × (job_of (name ∷ codes "show" ∷ codes "--json" ∷ []) ≡ Job.Picture Picture.States) }
+    ensures dot { (name : List ℕ) → (refusals_of (name ∷ codes "show" ∷ codes "--dot" ∷ []) ≡ [])
+        × (job_of (name ∷ codes "show" ∷ codes "--dot" ∷ []) ≡ Job.Picture Picture.Graph) }
     ensures check { (name : List ℕ) → (refusals_of (name ∷ codes "check" ∷ []) ≡ [])
         × (job_of (name ∷ codes "check" ∷ []) ≡ Job.Check) }
     ensures fill { (name : List ℕ) → (refusals_of (name ∷ codes "check" ∷ codes "--print" ∷ []) ≡ [])

@@ -149,7 +149,7 @@ fn a_second_file_is_no_word_of_show(rt: HostRuntime) -> Result<(), Fail> {
     let told = from_utf8(errors.as_slice())?;
     assert!(rt;
         told.contains("unexpected argument 'boosted.pif'")
-            && told.contains("Usage: pif show [FILE]\n")
+            && told.contains("Usage: pif show [--json | --dot] [FILE]\n")
     );
     Ok(())
 }

@@ -77,7 +77,7 @@ fn wrong_words_are_refused(rt: HostRuntime) -> Result<(), Fail> {
             ["pif"].as_slice(),
             [
                 "requires a subcommand",
-                "run, show, check, replay, trace, migrate, random, drive",
+                "run, show, draw, check, replay, trace, migrate, random, drive",
                 USAGE,
                 MORE,
             ],
