@@ -170,9 +170,9 @@ module _ (p : Inside) (t m key u : ℕ) (d : IsHandable p t m key) (top : IsTop 
     counted = rw some (omega (arith, given_count));
   }
 
-  ended_here : (v : Owners) → has_waiter rest m ≡ false → v ≡ without_state key given → count v + 1 ≡ count given
+  pub ended : (v : Owners) → has_waiter rest m ≡ false → v ≡ without_state key given → count v + 1 ≡ count given
       → IsHanded p (set p.keys m None) v u m key
-  ended_here v none e fewer = record {
+  ended v none e fewer = record {
     seats = ap (λ (x : Owners). x.seats) e;
     long = length-set p.keys m None;
     here = get_or-set_same p.keys m None None mutex_known ∙ sym (rw none refl);
@@ -184,22 +184,16 @@ module _ (p : Inside) (t m key u : ℕ) (d : IsHandable p t m key) (top : IsTop 
     counted = rw none (omega (arith, fewer, given_count));
   }
 
-  pub ended : (v : Owners) (g : ℕ) → g ≡ m → has_waiter rest m ≡ false → v ≡ without_state key given
-      → count v + 1 ≡ count given → IsHanded p (set p.keys g None) v u m key
-  ended v g same none e fewer =
-      subst (λ (n : ℕ). IsHanded p (set p.keys n None) v u m key) (sym same) (ended_here v none e fewer)
-
-  pub ended_given : (x : Inside) (handed v : Owners) (g : ℕ) (ws : List (ℕ × ℕ)) (any : Bool)
-      → x ≡ record p { keys = set p.keys g None; owners = v; arrivals = ws } → ws ≡ rest → any ≡ has_waiter ws m
-      → any ≡ false → g ≡ m
-      → handed ≡ given → v ≡ without_state key handed → count v + 1 ≡ count handed → IsGiven p x u m key
-  ended_given x handed v g ws any is same test none here e over fewer =
+  pub ended_given : (x : Inside) (handed v : Owners) (ws : List (ℕ × ℕ)) (any : Bool)
+      → x ≡ record p { keys = set p.keys m None; owners = v; arrivals = ws } → ws ≡ rest → any ≡ has_waiter ws m
+      → any ≡ false → handed ≡ given → v ≡ without_state key handed → count v + 1 ≡ count handed → IsGiven p x u m key
+  ended_given x handed v ws any is same test none e over fewer =
       subst (λ (y : Inside). IsGiven p y u m key)
-      (sym (is ∙ ap (λ (l : List (ℕ × ℕ)). record p { keys = set p.keys g None; owners = v; arrivals = l }) same))
+      (sym (is ∙ ap (λ (l : List (ℕ × ℕ)). record p { keys = set p.keys m None; owners = v; arrivals = l }) same))
       (record {
         frame = refl;
         handed =
-            ended v g here (sym (ap (λ (l : List (ℕ × ℕ)). has_waiter l m) same) ∙ sym test ∙ none)
+            ended v (sym (ap (λ (l : List (ℕ × ℕ)). has_waiter l m) same) ∙ sym test ∙ none)
             (over ∙ ap (without_state key) e) (fewer ∙ ap count e);
       })
 

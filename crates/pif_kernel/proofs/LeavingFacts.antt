@@ -295,13 +295,13 @@ still_at p x t m h queued key at owner owns v ws is same some e =
 
 pub ended_at : (p x : Inside) (t m : ℕ) (h : IsSound p) (queued : (kernel_seat_at (kernel_of p) t).status ≡ Queued m)
     (key : ℕ) (at : key_at p m ≡ Some key) (owner : ℕ) → owner_at p.owners key ≡ Some owner
-    → (g : ℕ) (v given : Owners) (ws : List (ℕ × ℕ))
-    → x ≡ record p { keys = set p.keys g None; owners = v; arrivals = ws }
-    → g ≡ m → ws ≡ without p.arrivals t → has_waiter (without p.arrivals t) m ≡ false
+    → (v given : Owners) (ws : List (ℕ × ℕ))
+    → x ≡ record p { keys = set p.keys m None; owners = v; arrivals = ws }
+    → ws ≡ without p.arrivals t → has_waiter (without p.arrivals t) m ≡ false
     → given ≡ with_wait t None p.owners → v ≡ without_state key given → count v + 1 ≡ count given → IsLeft p x t owner
-ended_at p x t m h queued key at owner owns g v given ws is here same none e over one =
+ended_at p x t m h queued key at owner owns v given ws is same none e over one =
     subst (λ (y : Inside). IsLeft p y t owner)
-    (sym (is ∙ (λ i. record p { keys = set p.keys (here i) None; owners = v; arrivals = same i })))
+    (sym (is ∙ (λ i. record p { keys = set p.keys m None; owners = v; arrivals = same i })))
     (left_ended p t m h queued key at owner owns v none (over ∙ ap (without_state key) e) (one ∙ ap count e))
 
 -- whatever waiters it names

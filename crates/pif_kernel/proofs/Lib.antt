@@ -39,3 +39,4 @@ pub mod TableMoved
 pub mod QueueLemmas
 pub mod EmptyTables
 pub mod TogetherLemmas
+pub mod RowLemmas

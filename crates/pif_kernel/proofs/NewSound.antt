@@ -11,7 +11,7 @@ use Rattle.pif_model.specs.declared.lines.Woken.TheVariants.{Fresh}
 use Rattle.pif_model.specs.Graph.{is_priority}
 use Rattle.pif_model.specs.PiKernel.{IsKernel, queued_on, new_kernel, effective_in}
 use Rattle.pif_model.specs.PiKernel.{Seat as KernelSeat, no_seat as no_kernel_seat}
-use Rattle.pif_owners.specs.Owners.{Owners, Seat, Wait, seat_at, no_seat, no_owners}
+use Rattle.pif_owners.specs.Owners.{Seat, Wait, seat_at, no_seat, no_owners}
 use Rattle.pif_chains.proofs.Greatest.{effective_most}
 use Rattle.pif_chains.proofs.KernelKept.{new_kernel_kept}
 use Rattle.pif_chains.proofs.KernelLevels.{length-levels_by}
@@ -146,11 +146,13 @@ module _ (l : Bounds) (first : ℕ) (within : IsWithin l) (some : 1 ≤ first) (
 
 -- the same over chains of which nobody was admitted
 pub new_in_chains : (l : Bounds) (first : ℕ) (x : Chained) → IsWithin l → 1 ≤ first → IsUnused l.threads x
-    → (kernel_of (inside_from l (Ready Fresh ∷ []) no_keys x [] first) ≡ new_kernel l)
-    × IsSound (inside_from l (Ready Fresh ∷ []) no_keys x [] first)
+    → (kernel_of (inside_from l (Ready Fresh ∷ []) x first) ≡ new_kernel l)
+    × IsSound (inside_from l (Ready Fresh ∷ []) x first)
 new_in_chains l first x within some unused =
-    subst (λ (v : Owners). (kernel_of (inside_from l (Ready Fresh ∷ []) no_keys (record x { owners = v }) [] first) ≡ new_kernel l)
-    × IsSound (inside_from l (Ready Fresh ∷ []) no_keys (record x { owners = v }) [] first)) (sym unused.owners)
+    let y : Chained = record x { owners = no_owners l.threads; keys = no_keys; parked = [] } in
+    let is : x ≡ y = λ i. record x { owners = unused.owners i; keys = unused.keys i; parked = unused.parked i } in
+    subst (λ (z : Chained). (kernel_of (inside_from l (Ready Fresh ∷ []) z first) ≡ new_kernel l)
+    × IsSound (inside_from l (Ready Fresh ∷ []) z first)) (sym is)
     (found_so _ (new_kernel l) (
       new_seen l first within some x.queue x.table unused.threads unused.levels unused.holds,
       new_sound l first within some x.queue x.table unused.threads unused.levels unused.holds,

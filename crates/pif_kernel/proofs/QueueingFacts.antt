@@ -13,12 +13,15 @@ use Rattle.pif_owners.specs.Owners.{Owners, Seat, Wait, no_seat, seat_at, owner_
 use Rattle.pif_owners.specs.Owners.{waits_for as owners_wait_for}
 use Rattle.pif_chains.proofs.KernelFacts.{living-added}
 use Rattle.pif_chains.proofs.Following.{Follows, within-from_reaches}
-use Rattle.pif_kernel.specs.Inside.{Inside, IsSound, IsOpened, Rise, kernel_of, status_at, key_at, state_at, ticket_of}
+use Rattle.pif_kernel.specs.Inside.{Inside, IsSound, Rise, kernel_of, status_at, key_at, state_at, ticket_of}
+use Rattle.pif_kernel.specs.Fields.{chains_of}
+use Rattle.pif_kernel.specs.Opened.{IsOpened}
 use Rattle.pif_kernel.proofs.Seats.{seats_length, waits_below, owners_waits, added_seen, states_seen}
 use Rattle.pif_kernel.proofs.Standing.{fits, effective_level, ready_queued}
 use Rattle.pif_kernel.proofs.Waiters.{ready_free}
 use Rattle.pif_kernel.proofs.WalkSound.{IsWalkable}
-use Rattle.pif_kernel.proofs.QueueingSound.{IsOpen, opened, walkable}
+use Rattle.pif_kernel.proofs.TableMoved.{kernel_moved, sound_in_table}
+use Rattle.pif_kernel.proofs.QueueingSound.{IsOpen, opened, opened_kept, walkable}
 
 pub record IsEntry (now p x : Inside) (t m owner key ticket : ℕ) : Type 0 where
   pub sound : IsSound p
@@ -44,21 +47,40 @@ pub record IsQueueing (p : Inside) (t m owner : ℕ) : Type 0 where
   pub state : state_at p m ≢ 0 → state_at p m ≡ owner
   pub unreached : reaches_within (length (kernel_of p).seats) (waits_for (kernel_of p)) owner t ≡ false
 
+-- the keys and owner states are open too where only the table became another one
+open_moved : (p x : Inside) (m owner key : ℕ) → IsOpen p x.keys x.owners m owner key
+    → IsOpen (record p { queue = x.queue; table = x.table }) x.keys x.owners m owner key
+open_moved p x m owner key o = record {
+  seats = o.seats;
+  long = o.long;
+  here = o.here;
+  there = o.there;
+  alone = o.alone;
+  kept = o.kept;
+  owned = o.owned;
+  others = o.others;
+  counted = o.counted;
+}
+
 pub entry : (now p x : Inside) (t m owner key ticket : ℕ) → 1 ≤ m → IsQueueing now t m owner
-    → p ≡ record now { owners = p.owners; table = p.table; next = p.next } → p.next ≡ ticket + 1
-    → Rise (ticket_of p.owners) 1 p.arrivals ticket → kernel_of p ≡ kernel_of now → IsSound p
-    → IsOpened p x m owner key → IsEntry now p x t m owner key ticket
-entry now p x t m owner key ticket named w frame next rises same h o =
+    → p.next ≡ ticket + 1 → Rise (ticket_of p.owners) 1 p.arrivals ticket → kernel_of p ≡ kernel_of now → IsSound p
+    → IsOpened p x m owner key
+    → IsEntry now (record p { queue = x.queue; table = x.table }) x t m owner key ticket
+entry now p x t m owner key ticket named w next rises before h o =
     let is : state_at p m ≡ state_at now m
-    = sym (states_seen p m) ∙ ap (λ (k : Kernel). kernel_state_at k m) same ∙ states_seen now m in
+    = sym (states_seen p m) ∙ ap (λ (k : Kernel). kernel_state_at k m) before ∙ states_seen now m in
     let within : m < length p.keys = omega (arith, w.mutex, h.placed.keys) in
     let state' : state_at p m ≢ 0 → state_at p m ≡ owner = λ n. is ∙ w.state (λ z. n (is ∙ z)) in
     let both = opened p x m owner key h within state' o in
+    let kept = opened_kept p x m owner key h o in
+    let same = kernel_moved p (record (chains_of x) { keys = p.keys; parked = p.parked }) kept ∙ before in
     record {
-      sound = h;
+      sound = sound_in_table p (record (chains_of x) { keys = p.keys; parked = p.parked }) kept h;
       same = same;
-      shape = both.0;
-      opens = both.1;
+      shape = both.0
+          ∙ ap (λ (q : Queue). record p { keys = x.keys; owners = x.owners; table = x.table; queue = q })
+          (sym (ap (λ (y : Inside). y.queue) both.0));
+      opens = open_moved p x m owner key both.1;
       added = ap (λ (k : Kernel). has_seat k t) same ∙ w.added;
       ready = ap (λ (k : Kernel). is_ready (kernel_seat_at k t).status) same ∙ w.ready;
       named = λ z. absurd (omega arith);

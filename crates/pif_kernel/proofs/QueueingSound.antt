@@ -8,6 +8,7 @@ use Rattle.pif_nodes.specs.declared.keys.Key.{Key}
 use Rattle.pif_nodes.specs.Lists.{without}
 use Rattle.pif_nodes.specs.Table.{Table}
 use Rattle.pif_runq.specs.Levels.{Queue, Holds, IsLevel, level_of}
+use Rattle.pif_types.specs.Bounds.{Bounds}
 use Rattle.pif_model.specs.declared.lines.Status.{Status}
 use Rattle.pif_model.specs.declared.lines.Status.TheVariants.{Ready, Queued}
 use Rattle.pif_model.specs.declared.lines.Woken.TheVariants.{Fresh}
@@ -25,14 +26,18 @@ use Rattle.pif_chains.proofs.KernelNumbers.{is_other, among-left_same, among-lef
 use Rattle.pif_chains.proofs.Waiting.{has_waiter-from_pair}
 use Rattle.pif_chains.proofs.Places.{kept_at}
 use Rattle.pif_chains.proofs.Among.{is_among as is_waiter}
-use Rattle.pif_kernel.specs.Inside.{Inside, IsListed, IsPlaced, IsSound, Rise, IsOpened, kernel_of, status_at, key_at, state_at, ticket_of}
-use Rattle.pif_kernel.specs.Inside.IsOpened.{found, made}
+use Rattle.pif_kernel.specs.Inside.{Inside, IsListed, IsPlaced, IsSound, Rise, kernel_of, status_at, key_at, state_at, ticket_of, arrivals_in}
+use Rattle.pif_kernel.specs.Chained.{Chained, KeepsLevels}
+use Rattle.pif_kernel.specs.Fields.{inside_from, chains_of}
+use Rattle.pif_kernel.specs.Opened.{IsOpened}
+use Rattle.pif_kernel.specs.Opened.IsOpened.{found, made}
 use Rattle.pif_kernel.proofs.Seats.{IsFitted, same_seats, status_seen, waits_seen, owners_waits, added_seen, waiters_seen, states_seen, states_length, kernel_by_parts, seats_of-set_status, seats_of-same_base}
 use Rattle.pif_kernel.proofs.Picked.{levels_left, length-left}
 use Rattle.pif_kernel.proofs.Standing.{fits}
 use Rattle.pif_kernel.proofs.ChainLaws.{repaired_but}
 use Rattle.pif_kernel.proofs.QueueLaws.{rise_push, mutexes_push}
 use Rattle.pif_kernel.proofs.Waiters.{has_waiter-key, no_key-no_waiter, ready_idle, ready_unnamed}
+use Rattle.pif_kernel.proofs.TableMoved.{levels_kept_beside}
 use Rattle.pif_kernel.proofs.WalkSound.{IsWalkable, owners_effective}
 
 -- the keys and owner states in which m has an owner state of this owner under this key, and all others are as before
@@ -53,12 +58,13 @@ some_owner (Some x) n e z = ap Some e
 
 pub opened : (p now : Inside) (m owner key : ℕ) → IsSound p → m < length p.keys
     → (state_at p m ≢ 0 → state_at p m ≡ owner) → IsOpened p now m owner key
-    → (now ≡ record p { keys = now.keys; owners = now.owners }) × IsOpen p now.keys now.owners m owner key
+    → (now ≡ record p { keys = now.keys; owners = now.owners; table = now.table })
+    × IsOpen p now.keys now.owners m owner key
 opened p now m owner key h l state (found e same) =
     let some : state_at p m ≢ 0 = h.placed.owned m key e in
     let is : unwrap_or (owner_at p.owners key) 0 ≡ owner
     = sym (ap (λ (o : Option ℕ). unwrap_or (option_and_then (owner_at p.owners) o) 0) e) ∙ state some in (
-      same ∙ sym (ap (λ (x : Inside). record p { keys = x.keys; owners = x.owners }) same),
+      same ∙ sym (ap (λ (x : Inside). record p { keys = x.keys; owners = x.owners; table = x.table }) same),
       subst (λ (x : Inside). IsOpen p x.keys x.owners m owner key) (sym same) (record {
         seats = refl;
         long = refl;
@@ -71,9 +77,9 @@ opened p now m owner key h l state (found e same) =
         counted = sym (rw (has_waiter-key p h m some) refl);
       }),
     )
-opened p now m owner key h l state (made e fresh same more) =
+opened p now m owner key h l state (made e fresh same levels more) =
     let none : state_at p m ≡ 0 = ap (λ (o : Option ℕ). unwrap_or (option_and_then (owner_at p.owners) o) 0) e in (
-      same ∙ sym (ap (λ (x : Inside). record p { keys = x.keys; owners = x.owners }) same),
+      same ∙ sym (ap (λ (x : Inside). record p { keys = x.keys; owners = x.owners; table = x.table }) same),
       subst (λ (x : Inside). IsOpen p x.keys x.owners m owner key) (sym same) (record {
         seats = refl;
         long = length-set p.keys m (Some key);
@@ -88,13 +94,33 @@ opened p now m owner key h l state (made e fresh same more) =
     )
 
 -- a new owner state
-pub opened_made : (p₀ p : Inside) (v : Owners) (m owner key g : ℕ) → p ≡ p₀ → g ≡ m → key_at p m ≡ None
-    → owner_at p.owners key ≡ None → v ≡ with_owner key owner p.owners → count v ≡ count p.owners + 1
-    → IsOpened p₀ (record p { keys = set p.keys g (Some key); owners = v }) m owner key
-opened_made p₀ p v m owner key g e at none fresh is more =
-    subst (λ (x : Inside). IsOpened x (record p { keys = set p.keys g (Some key); owners = v }) m owner key) e
-    (subst (λ (n : ℕ). IsOpened p (record p { keys = set p.keys n (Some key); owners = v }) m owner key) (sym at)
-    (made none fresh (ap (λ (o : Owners). record p { keys = set p.keys m (Some key); owners = o }) is) more))
+pub opened_made : (was : Inside) (l : Bounds) (xs : List Status) (x y : Chained) (next m owner key : ℕ)
+    → inside_from l xs x next ≡ was → key_at was m ≡ None → owner_at x.owners key ≡ None
+    → y.owners ≡ with_owner key owner x.owners → KeepsLevels (record x { keys = set x.keys m (Some key) }) y
+    → count y.owners ≡ count x.owners + 1 → IsOpened was (inside_from l xs y next) m owner key
+opened_made was l xs x y next m owner key e none fresh is kept more =
+    subst (λ (p : Inside). IsOpened p (inside_from l xs y next) m owner key) e
+    (made (ap (λ (p : Inside). key_at p m) e ∙ none) fresh
+    (λ i. record {
+      limits = l;
+      statuses = xs;
+      keys = kept.keys i;
+      owners = is i;
+      queue = kept.queue i;
+      table = y.table;
+      arrivals = arrivals_in xs (is i);
+      parked = kept.parked i;
+      next = next;
+    }) kept more)
+
+-- each level is as it was then
+pub opened_kept : (p now : Inside) (m owner key : ℕ) → IsSound p → IsOpened p now m owner key
+    → KeepsLevels (chains_of p) (record (chains_of now) { keys = p.keys; parked = p.parked })
+opened_kept p now m owner key h (found e same) =
+    subst (λ (x : Inside). KeepsLevels (chains_of p) (record (chains_of x) { keys = p.keys; parked = p.parked })) (sym same)
+    (record { levels = λ r lr. refl; queue = refl; holds = h.placed.holds; keys = refl; parked = refl })
+opened_kept p now m owner key h (made e fresh same levels more) =
+    levels_kept_beside (chains_of p) (chains_of now) (set p.keys m (Some key)) p.parked levels
 
 module _ (p : Inside) (keys : List (Option ℕ)) (owners : Owners) (t m owner key prio ticket next : ℕ) (h : IsSound p)
     (o : IsOpen p keys owners m owner key)

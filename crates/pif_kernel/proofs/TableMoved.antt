@@ -1,9 +1,9 @@
 -- What is kept is as sound, and stands for the same, where its table became another one with the same levels.
-use Rattle.std.proofs.Common.{◌≡◌, ℕ, Bool, true, false, refl, sym, ap, subst, ◌∙◌}
+use Rattle.std.proofs.Common.{◌≡◌, ℕ, Bool, true, false, List, Option, refl, sym, ap, subst, ◌∙◌}
 use Rattle.pif_nodes.specs.Lists.{without}
 use Rattle.pif_runq.specs.Levels.{Queue}
 use Rattle.pif_model.specs.Graph.{is_priority}
-use Rattle.pif_model.specs.PiKernel.{Kernel, IsKernel, has_seat, queued_on, effective_in, is_among, level_at, waits_for}
+use Rattle.pif_model.specs.PiKernel.{Kernel, IsKernel, Parking, has_seat, queued_on, effective_in, is_among, level_at, waits_for}
 use Rattle.pif_model.specs.PiKernel.{seat_at as kernel_seat_at}
 use Rattle.pif_chains.proofs.KernelSettled.{priority-range}
 use Rattle.pif_kernel.specs.Inside.{Inside, IsListed, IsPlaced, IsSound, kernel_of}
@@ -104,4 +104,18 @@ levels_kept_then was mid now a b = record {
   levels = λ r lr. b.levels r lr ∙ a.levels r lr;
   queue = b.queue ∙ a.queue;
   holds = b.holds;
+  keys = b.keys ∙ a.keys;
+  parked = b.parked ∙ a.parked;
+}
+
+-- a change of keys or of parked threads beside
+pub levels_kept_beside : (was now : Chained) (keys : List (Option ℕ)) (parked : List Parking)
+    → KeepsLevels (record was { keys = keys; parked = parked }) now
+    → KeepsLevels was (record now { keys = was.keys; parked = was.parked })
+levels_kept_beside was now keys parked k = record {
+  levels = k.levels;
+  queue = k.queue;
+  holds = k.holds;
+  keys = refl;
+  parked = refl;
 }

@@ -3,7 +3,7 @@ use Rattle.std.proofs.Common.{◌≡◌, ◌⊎◌, ℕ, ◌+◌, ◌-◌, ◌*�
 use Rattle.std.proofs.lemmas.Bool.{cases_lt}
 use Rattle.pif_nodes.specs.Lists.{has}
 use Rattle.pif_nodes.specs.Table.{Table, IsApart, holder, list_at}
-use Rattle.pif_runq.specs.Levels.{Queue, Holds, HasRoom, IsThreadNode, SameOutside, list_for, level_of}
+use Rattle.pif_runq.specs.Levels.{Queue, Holds, HasRoom, IsLevel, IsThreadNode, SameOutside, list_for, level_of}
 use Rattle.pif_runq.proofs.KeptLemmas.{levels-framed, queue-framed}
 use Rattle.pif_rtmutex.specs.States.{States, no_states, IsThread, wait_of, wait_node, top_node, wait_list, top_list, owners_in}
 use Rattle.pif_rtmutex.specs.Holds.{IsWaiterIn, IsTopNode}
@@ -14,6 +14,7 @@ use Rattle.pif_boost.specs.Frames.{StandsBefore}
 use Rattle.pif_boost.specs.Done.{IsDone}
 use Rattle.pif_boost.proofs.FrameLemmas.{states-leave, queue-leaves}
 use Rattle.pif_kernel.specs.Chained.{Chained, KeepsLevels}
+use Rattle.pif_kernel.specs.Rows.{PlainRows}
 use Rattle.pif_kernel.specs.Together.{StandTogether}
 use Rattle.pif_kernel.proofs.EmptyTables.{empty_table, empty_lists, empty_nodes, empty_list, empty_free, empty_level}
 
@@ -55,9 +56,13 @@ same_place_handed m now e = record {
   threads = ap (λ (x : States). x.threads) e;
 }
 
--- the owner states and the run queue that these are
-abbrev pub together : States → Queue → Table → Chained
-together m q t = record { owners = owners_in m t; queue = q; table = t }
+-- for as many threads there is room beside them
+pub room_kept : (m now : States) (room : ℕ) → SamePlace m now → m.threads ≤ room → now.threads ≤ room
+room_kept m now room place few = omega (arith, place.threads, few)
+
+-- the owner states and the run queue that these are, with these keys and these parked threads
+abbrev pub together : States → Queue → Table → PlainRows → Chained
+together m q t r = record { owners = owners_in m t; queue = q; table = t; keys = r.keys; parked = r.parked }
 
 module _ (m : States) (q : Queue) (t : Table) (h : StandTogether m q t) where
   pub stands_before : StandsBefore m q
@@ -118,11 +123,16 @@ module _ (m : States) (q : Queue) (t : Table) (h : StandTogether m q t) where
       nodes = omega (arith, place.node, place.threads, h.nodes);
     }
 
-    pub levels_kept : KeepsLevels (together m q t) (together m' q t')
-    levels_kept = record {
-      levels = levels-framed q t t' (states-leave m q t t' stands_before outside);
+    pub level_there : (p : ℕ) → IsLevel p → level_of q t' p ≡ level_of q t p
+    level_there = levels-framed q t t' (states-leave m q t t' stands_before outside)
+
+    pub levels_kept : (r : PlainRows) → KeepsLevels (together m q t r) (together m' q t' r)
+    levels_kept r = record {
+      levels = level_there;
       queue = refl;
       holds = queue_there;
+      keys = refl;
+      parked = refl;
     }
 
   -- a call changed the levels

@@ -1,11 +1,13 @@
 -- Who stands at a place, of those that wait for one thing.
 use Rattle.std.proofs.Common.{◌≡◌, ℕ, zero, suc, ◌+◌, ◌-◌, ◌<◌, ◌==◌, List, [], ◌++◌, length, filter, Some, refl, sym, ap, ◌∙◌, arith}
 use Rattle.std.specs.List.{slice_get}
-use Rattle.pif_model.specs.Graph.{by_greatest}
-use Rattle.pif_model.specs.PiKernel.{level_at, levels_below, parked_pairs, Parking}
+use Rattle.std.proofs.Math.Path.{fun_ext}
+use Rattle.pif_model.specs.Graph.{by_greatest, waiting_order}
+use Rattle.pif_model.specs.PiKernel.{level_at, levels_below, parked_pairs, parked_in}
 use Rattle.pif_runq.specs.Levels.{all_below}
 use Rattle.pif_runq.proofs.Places.{slice_get-front, slice_get-behind, all_below-none, all_below-more}
-use Rattle.pif_kernel.specs.Inside.{Inside, kernel_of}
+use Rattle.pif_boost.specs.Boosts.{local_of}
+use Rattle.pif_kernel.specs.Inside.{Inside, IsSound, kernel_of}
 use Rattle.pif_kernel.proofs.Picked.{levels_seen}
 use Rattle.pif_kernel.proofs.Seats.{parked_seen}
 use Rattle.pif_kernel.proofs.Standing.{level_same}
@@ -37,10 +39,11 @@ module _ (f : ℕ → ℕ) where
   unfolding by_greatest
   by_greatest-none us = refl
 
--- the parked threads of the kernel by itself, by those that are gone through
-pub parked_gone_through : (p : Inside) (ps : List Parking) → ps ≡ p.parked
-    → parked_pairs ps ≡ parked_pairs (kernel_of p).parked
-parked_gone_through p ps e = ap parked_pairs (e ∙ sym (parked_seen p))
+-- the parked threads of a variable in their order, by those that are kept
+pub parked_in_order : (p : Inside) → IsSound p → (c k : ℕ)
+    → slice_get (waiting_order (local_of p.owners) (parked_pairs p.parked) c) k
+    ≡ slice_get (parked_in (kernel_of p) c) k
+parked_in_order p h c k = λ i. slice_get (waiting_order (fun_ext h.local i) (parked_pairs (sym (parked_seen p) i)) c) k
 
 -- a level, and those below it
 levels_below-more : (levels : List (List ℕ)) (n : ℕ) → levels_below levels (suc n) ≡ level_at levels n ++ levels_below levels n

@@ -1,5 +1,5 @@
 -- What a kernel keeps, and the kernel by itself that it stands for.
-use Rattle.std.specs.Prelude.{◌≡◌, ◌≢◌, ℕ, ◌+◌, ◌<◌, ◌≤◌, true, if◌then◌else◌, List, [], ◌∷◌, length, map, replicate, get_or, set, Option, Some, None, IsSome, option_map, option_and_then, unwrap_or}
+use Rattle.std.specs.Prelude.{◌≡◌, ◌≢◌, ℕ, ◌+◌, ◌<◌, ◌≤◌, true, if◌then◌else◌, List, [], ◌∷◌, length, map, replicate, get_or, Option, Some, None, IsSome, option_map, option_and_then, unwrap_or}
 use Rattle.pif_types.specs.Bounds.{Bounds, IsWithin}
 use Rattle.pif_model.specs.declared.lines.Status.{Status}
 use Rattle.pif_model.specs.declared.lines.Status.TheVariants.{Ready}
@@ -11,7 +11,7 @@ use Rattle.pif_nodes.specs.declared.keys.Key.{Key}
 use Rattle.pif_nodes.specs.Table.{Table}
 use Rattle.pif_runq.specs.Levels.{Queue, Holds, level_of}
 use Rattle.pif_kernel.specs.InOrder.{in_order}
-use Rattle.pif_owners.specs.Owners.{Owners, Seat, seat_at, owner_at, count, waits_on, rank_of, no_seat, with_owner}
+use Rattle.pif_owners.specs.Owners.{Owners, Seat, seat_at, owner_at, count, waits_on, rank_of, no_seat}
 
 -- what a kernel keeps
 pub record Inside : Type 0 where
@@ -138,10 +138,3 @@ pub record IsSound (p : Inside) : Type 0 where
   pub local : (t : ℕ) → (seat_at p.owners t).local ≡ effective_in (kernel_of p) t
   pub rank : (t : ℕ) (r : Key) → rank_of p.owners t ≡ Some r → r.prio ≡ effective_in (kernel_of p) t
   pub kernel : IsKernel (kernel_of p)
-
--- what is kept once there is an owner state of m, under this key: the one that there was, or a new one of this owner
-pub data IsOpened (old now : Inside) (m owner key : ℕ) : Type 0 where
-  found : key_at old m ≡ Some key → now ≡ old → IsOpened old now m owner key
-  made : key_at old m ≡ None → owner_at old.owners key ≡ None
-      → now ≡ record old { keys = set old.keys m (Some key); owners = with_owner key owner old.owners }
-      → count now.owners ≡ count old.owners + 1 → IsOpened old now m owner key

@@ -10,5 +10,7 @@ pub mod Takings
 pub mod Orders
 pub mod Chained
 pub mod Fields
+pub mod Opened
+pub mod Rows
 pub mod Found
 pub mod Together

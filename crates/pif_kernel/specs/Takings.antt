@@ -1,9 +1,10 @@
 -- What is known of threads that are taken from a condition variable, and of the word of their mutex.
-use Rattle.std.specs.Prelude.{◌≡◌, ◌≢◌, ℕ, ◌+◌, Bool, true, nat_lt, if◌then◌else◌, List, Option, Some, None, Result, Ok, Err, min}
+use Rattle.std.specs.Prelude.{◌≡◌, ◌≢◌, ℕ, ◌+◌, ◌==◌, Bool, true, nat_lt, if◌then◌else◌, List, Option, Some, None, Result, Ok, Err, min}
+use Rattle.std.specs.List.{list_all}
 use Rattle.pif_types.specs.declared.errors.Errno.{Errno}
 use Rattle.pif_model.specs.Graph.{has_waiter, next_waiter}
 use Rattle.pif_model.specs.Word.{word_at}
-use Rattle.pif_model.specs.PiKernel.{Kernel, System, state_at, is_living, parked_count}
+use Rattle.pif_model.specs.PiKernel.{Kernel, System, Parking, state_at, is_living, parked_count}
 
 -- the first of greatest priority of those that are parked on c, in this order; None where none is
 abbrev pub first_parked : (ℕ → ℕ) → List (ℕ × ℕ) → ℕ → Option ℕ
@@ -13,6 +14,10 @@ first_parked effective ws c = if has_waiter ws c then Some (next_waiter effectiv
 abbrev pub goes_before : (ℕ → ℕ) → ℕ → Option ℕ → Bool
 goes_before effective t None = true
 goes_before effective t (Some u) = nat_lt (effective u) (effective t)
+
+-- whether each thread that is parked on c has the target m
+abbrev pub have_target : List Parking → ℕ → ℕ → Bool
+have_target ps c m = list_all (λ (p : Parking). if p.cond == c then p.target == m else true) ps
 
 -- word and owner state of m fit together: where there is an owner state, the word has a number, and where that is of a
 -- living thread, the owner state names it

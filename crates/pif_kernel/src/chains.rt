@@ -1,6 +1,7 @@
-ghost use Rattle.std.specs.Prelude.{◌≡◌, ℕ, ◌+◌, ◌<◌, ◌≤◌, ◌↔◌, true, length, IfOk, IfSome, IfNone, IsSome, IsTrue, Some, None, option_map};
+ghost use Rattle.std.specs.Prelude.{◌≡◌, ℕ, ◌+◌, ◌<◌, ◌≤◌, ◌↔◌, true, false, [], ◌∷◌, ◌++◌, length, get_or, set, IfOk, IfSome, IfNone, IsSome, IsTrue, Some, None, option_map};
 ghost use Rattle.std.specs.List.{slice_get};
-ghost use Rattle.pif_model.specs.Graph.{Reaches};
+ghost use Rattle.pif_model.specs.Graph.{Reaches, waiting_order};
+ghost use Rattle.pif_model.specs.PiKernel.{parked_pairs, unparked};
 ghost use Rattle.pif_nodes.specs.Lists.{has, without};
 ghost use Rattle.pif_nodes.specs.declared.keys.Key.{Key as RankSeen};
 ghost use Rattle.pif_runq.specs.Levels.{Holds, IsLevel, IsQueued, IsEmpty, IsFirstOfGreatest, all_below, level_of, level_after_add};
@@ -8,26 +9,32 @@ ghost use Rattle.pif_owners.specs.Owners.{seat_at, owner_at, count, waits_on, ra
 ghost use Rattle.pif_rtmutex.specs.Behind.{IsLast, IsBehind};
 ghost use Rattle.pif_boost.specs.Boosts.{IsRepaired, IsRepairedBut, base_of, local_of, level_after_walk};
 ghost use Rattle.pif_kernel.specs.Chained.{Chained, IsUnused, KeepsLevels};
+ghost use Rattle.pif_kernel.specs.Takings.{first_parked, have_target};
+ghost use Rattle.pif_kernel.specs.Tickets.{is_named};
 
 use pif_owners::Key;
-use pif_types::{NoMemory, Prio, Tid};
+use pif_types::{CondId, MutexId, NoMemory, Prio, Tid};
 use std::alloc::Global;
 
-/// The chains of a kernel's threads: the owner states, with who waits where and by which priority and ticket, and the
-/// run queue. Of what a call doesn't name, all stays as it was. Only `new` takes memory.
+/// The chains of a kernel's threads: the owner states of mutexes, with who waits where and by which priority and ticket,
+/// the threads that are parked on condition variables, and the run queue. Of what a call doesn't name, all stays as it
+/// was. Only `new` takes memory.
 pub trait Chains {
-    /// The owner states and the run queue that these are.
+    /// The owner states, the parked threads and the run queue that these are.
     ghost seen: { Self → Chained };
 
-    /// No owner state, and a place for each of `threads` threads, at most 1,024, of which none is admitted or ready.
+    /// No owner state, and a place for each of `threads` threads, at most 1,024, of which none is admitted, parked or
+    /// ready.
     fn new(alloc: Global, threads: u32) -> Result<Self, NoMemory>
         requires { threads ≤ 1024 }
         ensures { IfOk result (λ c. IsUnused threads (seen c)) };
 
-    /// Gives the thread `t`, which waits for nothing, this base priority, which is its effective priority at first.
+    /// Gives the thread `t`, which waits for nothing and is not parked, this base priority, which is its effective
+    /// priority at first.
     fn admit(&mut self, t: Tid, prio: Prio)
         requires row { t < length (seen self.old).owners.seats }
         requires free { waits_on (seen self.old).owners t ≡ None }
+        requires unparked { is_named t (parked_pairs (seen self.old).parked) ≡ false }
         ensures { seen self.new ≡ record (seen self.old) {
           owners = with_seat t (record { base = prio; local = prio; wait = None }) (seen self.old).owners;
         } };
@@ -46,14 +53,21 @@ pub trait Chains {
         ensures given { IsSome result ↔ (1 ≤ (seat_at (seen self.now).owners t).local) }
         ensures value { IfSome result (λ p. p ≡ (seat_at (seen self.now).owners t).local) };
 
-    /// An owner state of `owner`, which has a place, on which nobody is queued, under a key that no other state has.
-    /// There have to be fewer states than threads.
-    fn make(&mut self, owner: Tid) -> Key
+    /// The key of the owner state of a mutex. `None` if it has none.
+    fn find(&self, m: MutexId) -> Option<Key>
+        ensures { result ≡ get_or (seen self.now).keys m None };
+
+    /// Makes an owner state of `owner`, which has a place, for a mutex that has none. Nobody is queued on it, and no
+    /// other state has its key. There have to be fewer states than threads.
+    fn open(&mut self, m: MutexId, owner: Tid) -> Key
+        requires mutex { m < length (seen self.old).keys }
+        requires none { get_or (seen self.old).keys m None ≡ None }
         requires owner { owner < length (seen self.old).owners.seats }
         requires room { count (seen self.old).owners + 1 < length (seen self.old).owners.seats }
         ensures fresh { owner_at (seen self.old).owners result ≡ None }
-        ensures made { seen self.new ≡ record (seen self.old) { owners = with_owner result owner (seen self.old).owners } }
-        ensures count { count (seen self.new).owners ≡ count (seen self.old).owners + 1 };
+        ensures made { (seen self.new).owners ≡ with_owner result owner (seen self.old).owners }
+        ensures count { count (seen self.new).owners ≡ count (seen self.old).owners + 1 }
+        ensures kept { KeepsLevels (record (seen self.old) { keys = set (seen self.old).keys m (Some result) }) (seen self.new) };
 
     /// The owner of a state, which has to be there.
     fn owner(&self, key: Key) -> Tid
@@ -77,12 +91,13 @@ pub trait Chains {
     fn ticket(&self, t: Tid) -> Option<u64>
         ensures { result ≡ option_map (λ (r : RankSeen). r.ticket) (rank_of (seen self.now).owners t) };
 
-    /// Queues the thread `t`, which waits for nothing, on a state, with this priority and ticket. The owner of the
-    /// state may not be `t`, nor wait for it through any chain.
+    /// Queues the thread `t`, which waits for nothing and is not parked, on a state, with this priority and ticket. The
+    /// owner of the state may not be `t`, nor wait for it through any chain.
     fn enqueue(&mut self, key: Key, t: Tid, prio: Prio, ticket: u64)
         requires state { IsSome (owner_at (seen self.old).owners key) }
         requires row { t < length (seen self.old).owners.seats }
         requires free { waits_on (seen self.old).owners t ≡ None }
+        requires unparked { is_named t (parked_pairs (seen self.old).parked) ≡ false }
         requires no_cycle { (n : ℕ) → owner_at (seen self.old).owners key ≡ Some n
             → Reaches (WaitsFor (seen self.old).owners) n t → ⊥ }
         ensures queued { let rank : RankSeen = record { prio = prio; ticket = ticket } in
@@ -112,12 +127,46 @@ pub trait Chains {
             ≡ with_owner key result (with_wait result None (seen self.old).owners) }
         ensures kept { KeepsLevels (seen self.old) (seen self.new) };
 
-    /// Ends a state on which nobody is queued.
-    fn end(&mut self, key: Key)
+    /// Ends the owner state of a mutex, which has this key, and on which nobody is queued.
+    fn close(&mut self, m: MutexId, key: Key)
+        requires mutex { get_or (seen self.old).keys m None ≡ Some key }
         requires state { IsSome (owner_at (seen self.old).owners key) }
         requires free { HasNoWaiter (seen self.old).owners key }
-        ensures ended { seen self.new ≡ record (seen self.old) { owners = without_state key (seen self.old).owners } }
-        ensures count { count (seen self.new).owners + 1 ≡ count (seen self.old).owners };
+        ensures ended { (seen self.new).owners ≡ without_state key (seen self.old).owners }
+        ensures count { count (seen self.new).owners + 1 ≡ count (seen self.old).owners }
+        ensures kept { KeepsLevels (record (seen self.old) { keys = set (seen self.old).keys m None }) (seen self.new) };
+
+    /// Parks the thread `t`, which was admitted, waits for nothing and is not parked, on a variable, whose number is 256
+    /// at most, behind all that are parked. It is to get the mutex `m` once it is taken from there.
+    fn park(&mut self, t: Tid, c: CondId, m: MutexId)
+        requires row { t < length (seen self.old).owners.seats }
+        requires admitted { 1 ≤ local_of (seen self.old).owners t }
+        requires cond { c ≤ 256 }
+        requires free { waits_on (seen self.old).owners t ≡ None }
+        requires unparked { is_named t (parked_pairs (seen self.old).parked) ≡ false }
+        ensures owners { (seen self.new).owners ≡ (seen self.old).owners }
+        ensures kept { KeepsLevels (record (seen self.old) {
+          parked = (seen self.old).parked ++ record { thread = t; cond = c; target = m } ∷ [];
+        }) (seen self.new) };
+
+    /// Takes the thread `t` off the variable on which it is parked, if it is.
+    fn unpark(&mut self, t: Tid)
+        ensures owners { (seen self.new).owners ≡ (seen self.old).owners }
+        ensures kept { KeepsLevels (record (seen self.old) { parked = unparked (seen self.old).parked t }) (seen self.new) };
+
+    /// The first of those that are parked on a variable: of those with the highest effective priority the one that was
+    /// parked first. `None` if nobody is parked on it.
+    fn top_parked(&self, c: CondId) -> Option<Tid>
+        ensures { result ≡ first_parked (local_of (seen self.now).owners) (parked_pairs (seen self.now).parked) c };
+
+    /// The thread that is parked on a variable and before which `place` others stand: those with the highest effective
+    /// priority first, and equals in the order in which they were parked. `None` if so few are parked on it.
+    fn nth_parked(&self, c: CondId, place: u32) -> Option<Tid>
+        ensures { result ≡ slice_get (waiting_order (local_of (seen self.now).owners) (parked_pairs (seen self.now).parked) c) place };
+
+    /// Whether each thread that is parked on the variable is to get this mutex (futex(2), FUTEX_CMP_REQUEUE_PI).
+    fn match_requeue(&self, c: CondId, m: MutexId) -> bool
+        ensures { result ≡ have_target (seen self.now).parked c m };
 
     /// Puts the thread `t`, which is on no level, at the end of the level `prio`.
     fn add(&mut self, t: Tid, prio: Prio)
@@ -127,7 +176,9 @@ pub trait Chains {
         ensures levels { (p : ℕ) → IsLevel p → level_of (seen self.new).queue (seen self.new).table p
             ≡ level_after_add t prio p (level_of (seen self.old).queue (seen self.old).table p) }
         ensures place { (seen self.new).queue ≡ record (seen self.old).queue { mask = (seen self.new).queue.mask } }
-        ensures holds { Holds (seen self.new).queue (seen self.new).table };
+        ensures holds { Holds (seen self.new).queue (seen self.new).table }
+        ensures keys { (seen self.new).keys ≡ (seen self.old).keys }
+        ensures parked { (seen self.new).parked ≡ (seen self.old).parked };
 
     /// Takes the thread `t` out of the level on which it is.
     fn take_out(&mut self, t: Tid)
@@ -136,7 +187,9 @@ pub trait Chains {
         ensures levels { (p : ℕ) → IsLevel p → level_of (seen self.new).queue (seen self.new).table p
             ≡ without t (level_of (seen self.old).queue (seen self.old).table p) }
         ensures place { (seen self.new).queue ≡ record (seen self.old).queue { mask = (seen self.new).queue.mask } }
-        ensures holds { Holds (seen self.new).queue (seen self.new).table };
+        ensures holds { Holds (seen self.new).queue (seen self.new).table }
+        ensures keys { (seen self.new).keys ≡ (seen self.old).keys }
+        ensures parked { (seen self.new).parked ≡ (seen self.old).parked };
 
     /// The first thread of the greatest level that has one. `None` if no level has a thread.
     fn pick(&self) -> Option<Tid>
@@ -167,7 +220,9 @@ pub trait Chains {
         ensures levels { (p : ℕ) → IsLevel p → level_of (seen self.new).queue (seen self.new).table p
             ≡ level_after_walk (seen self.old).owners (seen self.old).queue (seen self.old).table p }
         ensures place { (seen self.new).queue ≡ record (seen self.old).queue { mask = (seen self.new).queue.mask } }
-        ensures holds { Holds (seen self.new).queue (seen self.new).table };
+        ensures holds { Holds (seen self.new).queue (seen self.new).table }
+        ensures keys { (seen self.new).keys ≡ (seen self.old).keys }
+        ensures parked { (seen self.new).parked ≡ (seen self.old).parked };
 
     /// Whether a wait of the thread `t` for the thread `owner` would close a cycle: whether `owner` is `t`, or waits
     /// for it through any chain (futex(2), EDEADLK). An owner without a place waits for nobody.

@@ -13,8 +13,7 @@ use pif_word::{Cell, Words, hand_word, mark_word, taken_word};
 use std::alloc::Global;
 use std::marker::Model;
 
-/// A kernel on these chains, whose waiters stand by the tickets of a counter, and whose parked threads stand in one
-/// list, in the order in which they came. Only `new` takes memory.
+/// A kernel on these chains, whose waiters stand by the tickets of a counter. Only `new` takes memory.
 #[derive(Drop)]
 pub struct KernelOn<C: Chains + Drop> {
     parts: Parts<C>,

@@ -51,7 +51,7 @@ impl<C: Chains + Drop> Parts<C> {
                 t
             }
             Status::Parked(_) => {
-                self.unpark(t);
+                self.chains.unpark(t);
                 t
             }
             Status::Stopped | Status::Ended => t,
@@ -65,12 +65,11 @@ impl<C: Chains + Drop> Parts<C> {
         requires queued { (seat_at (kernel_of self.old) t).status ≡ Queued m }
         ensures { IsLeft self.old self.new t result }
     {
-        let key = self.keys[m.get() as usize].unwrap();
+        let key = self.chains.find(m).unwrap();
         let owner = self.chains.owner(key);
         self.chains.dequeue(key, t);
         if self.chains.top(key).is_none() {
-            self.chains.end(key);
-            self.keys[m.get() as usize] = None;
+            self.chains.close(m, key);
         }
         owner
     }

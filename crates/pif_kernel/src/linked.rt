@@ -2,12 +2,13 @@ ghost use Rattle.std.specs.Prelude.{◌≡◌};
 
 use crate::chains::Chains;
 use crate::kernel_on::KernelOn;
+use crate::rows::{Priorities, Rows};
 use pif_boost::{walk, would_close};
 use pif_nodes::NodeTable;
 use pif_owners::Key;
 use pif_rtmutex::RtMutexes;
 use pif_runq::RunQueue;
-use pif_types::{NoMemory, Prio, Tid};
+use pif_types::{CondId, MutexId, NoMemory, Prio, Tid};
 use std::alloc::Global;
 use std::marker::Model;
 
@@ -16,12 +17,14 @@ const LEVELS: u32 = 99;
 
 /// Chains in one table of nodes, linked by index, with three nodes a thread: as a waiter, as a top waiter, and as a
 /// ready one. A list of waiters for each owner state comes first, then one of top waiters for each thread, and then the
-/// levels. No call but `new` looks at every thread: a walk goes up one chain.
+/// levels. No call on these but `new` looks at every thread: a walk goes up one chain. The keys of the mutexes and the
+/// parked threads stand in rows.
 #[derive(Drop)]
 pub struct LinkedChains {
     owners: RtMutexes,
     queue: RunQueue,
     table: NodeTable,
+    rows: Rows,
 }
 
 /// A kernel on linked chains.
@@ -34,12 +37,26 @@ impl Model for LinkedChains {
 
     ghost coded = { chained_code };
 
+    ghost use Rattle.std.specs.Prelude.{◌≤◌};
     ghost use Rattle.pif_rtmutex.specs.States.{owners_in};
     ghost use Rattle.pif_kernel.specs.Together.{StandTogether};
 
-    ghost view = { λ c. record { owners = owners_in c.owners c.table; queue = c.queue; table = c.table } };
+    ghost view = { λ c. record { owners = owners_in c.owners c.table; queue = c.queue; table = c.table; keys = c.rows.keys; parked = c.rows.parked } };
 
-    ghost invariant = { λ c. StandTogether c.owners c.queue c.table };
+    ghost invariant = { λ c. record { together : StandTogether c.owners c.queue c.table; room : c.owners.threads ≤ c.rows.room } };
+}
+
+impl Priorities for LinkedChains {
+    ghost use Rattle.pif_boost.specs.Boosts.{local_of};
+
+    ghost priority_of = { λ c. local_of c.owners };
+
+    fn priority(&self, t: Tid) -> u32 {
+        match self.owners.local(&self.table, t) {
+            Some(prio) => prio.get(),
+            None => 0,
+        }
+    }
 }
 
 impl Chains for LinkedChains {
@@ -49,10 +66,12 @@ impl Chains for LinkedChains {
         let owners = RtMutexes::new(alloc, 0, 0, threads)?;
         let table = NodeTable::new(alloc, 3 * threads, 2 * threads + LEVELS)?;
         let queue = RunQueue::new(2 * threads, 2 * threads, threads);
+        let rows = Rows::new(alloc, threads)?;
         Ok(LinkedChains {
             owners,
             queue,
             table,
+            rows,
         })
     }
 
@@ -72,8 +91,14 @@ impl Chains for LinkedChains {
         self.owners.local(&self.table, t)
     }
 
-    fn make(&mut self, owner: Tid) -> Key {
-        self.owners.make(&self.table, owner)
+    fn find(&self, m: MutexId) -> Option<Key> {
+        self.rows.key(m)
+    }
+
+    fn open(&mut self, m: MutexId, owner: Tid) -> Key {
+        let key = self.owners.make(&self.table, owner);
+        self.rows.set_key(m, Some(key));
+        key
     }
 
     fn owner(&self, key: Key) -> Tid {
@@ -110,8 +135,29 @@ impl Chains for LinkedChains {
         self.owners.hand_over(&mut self.table, key)
     }
 
-    fn end(&mut self, key: Key) {
+    fn close(&mut self, m: MutexId, key: Key) {
         self.owners.end(&self.table, key);
+        self.rows.set_key(m, None);
+    }
+
+    fn park(&mut self, t: Tid, c: CondId, m: MutexId) {
+        self.rows.park(t, c, m);
+    }
+
+    fn unpark(&mut self, t: Tid) {
+        self.rows.unpark(t);
+    }
+
+    fn top_parked(&self, c: CondId) -> Option<Tid> {
+        self.rows.top_parked(self, c)
+    }
+
+    fn nth_parked(&self, c: CondId, place: u32) -> Option<Tid> {
+        self.rows.nth_parked(self, c, place)
+    }
+
+    fn match_requeue(&self, c: CondId, m: MutexId) -> bool {
+        self.rows.match_requeue(c, m)
     }
 
     fn add(&mut self, t: Tid, prio: Prio) {

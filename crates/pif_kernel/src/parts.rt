@@ -1,28 +1,22 @@
-ghost use Rattle.std.specs.Prelude.{◌≡◌, ◌≤◌, ◌<◌, ◌==◌, true, length, if◌then◌else◌, Some, None, IfOk, replicate};
+ghost use Rattle.std.specs.Prelude.{◌≡◌, ◌≤◌, ◌<◌, ◌==◌, true, length, if◌then◌else◌, Some, None, IfOk};
 ghost use Rattle.pif_model.specs.PiKernel.{seat_at, has_seat, is_living, effective_in, pick_in, new_kernel};
 ghost use Rattle.pif_kernel.specs.Inside.{IsSound, kernel_of, key_at};
 
 use crate::chains::Chains;
-use crate::parking::Parking;
 use pif_model::{Status, Woken};
 use pif_owners::Key;
 use pif_types::{Limits, MutexId, NoMemory, Prio, Tid, push_within, with_room};
 use std::alloc::Global;
 use std::marker::Model;
 
-/// The places for keys: one for each of the 1,024 mutexes that can be, and one for number 0.
-const KEYS: usize = 1025;
-
-/// What a kernel keeps: the status of each thread, the key of each mutex that has an owner state, the owner states and
-/// the run queue, and in order of tickets who is parked where. Who is queued where, in order of tickets, is what the
-/// statuses and the tickets in the owner states say; no list of that is kept.
+/// What a kernel keeps: the status of each thread, and chains, with the owner states, the parked threads and the run
+/// queue. Who is queued where, in order of tickets, is what the statuses and the tickets in the owner states say; no
+/// list of that is kept.
 #[derive(Drop)]
 pub struct Parts<C: Chains + Drop> {
     pub(crate) limits: Limits,
     pub(crate) statuses: Vec<Status>,
-    pub(crate) keys: Vec<Option<Key>>,
     pub(crate) chains: C,
-    pub(crate) parked: Vec<Parking>,
     pub(crate) next: u64,
 }
 
@@ -36,12 +30,9 @@ impl<C: Chains + Drop> Model for Parts<C> {
 
     ghost coded = { inside_code };
 
-    ghost view = { λ p. inside_from p.limits p.statuses.items p.keys.items (C.seen p.chains) p.parked.items p.next };
+    ghost view = { λ p. inside_from p.limits p.statuses.items (C.seen p.chains) p.next };
 
-    ghost invariant = { λ p. record {
-      statuses : p.limits.threads + 1 ≤ vec_capacity p.statuses;
-      parked : p.limits.threads ≤ vec_capacity p.parked;
-    } };
+    ghost invariant = { λ p. p.limits.threads + 1 ≤ vec_capacity p.statuses };
 }
 
 impl<C: Chains + Drop> Parts<C> {
@@ -60,15 +51,11 @@ impl<C: Chains + Drop> Parts<C> {
         let threads = limits.threads();
         let mut statuses = with_room(alloc, threads as usize + 1)?;
         push_within(&mut statuses, Status::Ready(Woken::Fresh));
-        let keys = empty_places(alloc, KEYS)?;
         let chains = C::new(alloc, threads)?;
-        let parked = with_room(alloc, threads as usize)?;
         Ok(Parts {
             limits,
             statuses,
-            keys,
             chains,
-            parked,
             next: first_ticket,
         })
     }
@@ -117,12 +104,7 @@ impl<C: Chains + Drop> Parts<C> {
     pub(crate) fn key(&self, m: MutexId) -> Option<Key>
         ensures { result ≡ key_at self.now m }
     {
-        let place = m.get() as usize;
-        if place < self.keys.len() {
-            self.keys[place]
-        } else {
-            None
-        }
+        self.chains.find(m)
     }
 
     /// The next ticket.
@@ -131,11 +113,4 @@ impl<C: Chains + Drop> Parts<C> {
     {
         self.next
     }
-}
-
-/// Empty places for this many keys.
-fn empty_places(alloc: Global, count: usize) -> Result<Vec<Option<Key>>, NoMemory>
-    ensures { IfOk result (λ keys. keys.items ≡ replicate count None) }
-{
-    vec![in alloc; None; count].map_err(|_| NoMemory)
 }

@@ -2,7 +2,8 @@ ghost use Rattle.std.specs.Prelude.{◌≡◌, ◌≢◌, ◌<◌, ◌+◌, true
 ghost use Rattle.pif_owners.specs.Owners.{count};
 ghost use Rattle.pif_model.specs.Graph.{reaches_within};
 ghost use Rattle.pif_model.specs.PiKernel.{seat_at, has_seat, is_living, is_ready, queued_on, kernel_after_queueing, kernel_after_hand_over, next_in, waits_for};
-ghost use Rattle.pif_kernel.specs.Inside.{IsSound, kernel_of, key_at, state_at, IsOpened};
+ghost use Rattle.pif_kernel.specs.Inside.{IsSound, kernel_of, key_at, state_at};
+ghost use Rattle.pif_kernel.specs.Opened.{IsOpened};
 
 use crate::chains::Chains;
 use crate::parts::Parts;
@@ -46,11 +47,7 @@ impl<C: Chains + Drop> Parts<C> {
     {
         match key {
             Some(key) => key,
-            None => {
-                let key = self.chains.make(owner);
-                self.keys[m.get() as usize] = Some(key);
-                key
-            }
+            None => self.chains.open(m, owner),
         }
     }
 
@@ -68,8 +65,7 @@ impl<C: Chains + Drop> Parts<C> {
     {
         let next = self.chains.hand_over(key);
         if self.chains.top(key).is_none() {
-            self.chains.end(key);
-            self.keys[m.get() as usize] = None;
+            self.chains.close(m, key);
         }
         self.statuses[next.get() as usize] = Status::Ready(Woken::Owns);
         let level = self.chains.local(next).unwrap();

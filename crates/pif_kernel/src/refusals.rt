@@ -1,4 +1,4 @@
-ghost use Rattle.std.specs.Prelude.{ℕ, ◌≡◌, ◌==◌, ◌<◌, true, false, IsTrue, length, if◌then◌else◌, IfOk, OnOk, IsSome};
+ghost use Rattle.std.specs.Prelude.{ℕ, ◌≡◌, ◌==◌, ◌<◌, ◌≤◌, true, false, IsTrue, length, if◌then◌else◌, IfOk, OnOk, IsSome};
 ghost use Rattle.std.specs.Option.{ForSome};
 ghost use Rattle.pif_owners.specs.Owners.{owner_at};
 ghost use Rattle.pif_model.specs.Word.{has_word, has_cond_word};
@@ -143,7 +143,7 @@ impl<C: Chains + Drop> Parts<C> {
         }
     }
 
-    /// The tests of wait_requeue_pi: EFAULT or EAGAIN.
+    /// The tests of wait_requeue_pi: EFAULT or EAGAIN. Where none refuses the variable has a word, as 256 have at most.
     pub(crate) fn test_parking(
         &self,
         words: &Words,
@@ -151,7 +151,8 @@ impl<C: Chains + Drop> Parts<C> {
         expected: u32,
         m: MutexId,
     ) -> Result<(), Errno>
-        ensures { unit_answer result ≡ wait_requeue_answer c expected m (words_of words.now) }
+        ensures answer { unit_answer result ≡ wait_requeue_answer c expected m (words_of words.now) }
+        ensures cond { OnOk result (c ≤ 256) }
     {
         if !have_words(words, c, m) {
             return Err(Errno::Fault);
@@ -201,9 +202,7 @@ impl<C: Chains + Drop> Parts<C> {
     fn has_other_target(&self, c: CondId, m: MutexId) -> bool
         ensures { result ≡ has_other_target (kernel_of self.now) c m }
     {
-        self.parked
-            .iter()
-            .any(|parking| parking.cond == c && parking.target != m)
+        !self.chains.match_requeue(c, m)
     }
 
     /// Whether the number in a mutex's word and its owner state fit together: no number and no owner state, or that of

@@ -16,7 +16,7 @@ use Rattle.pif_boost.specs.Done.{IsDone}
 use Rattle.pif_boost.proofs.FrameLemmas.{outside-none}
 use Rattle.pif_model.specs.Graph.{greatest_where}
 use Rattle.pif_kernel.specs.Together.{StandTogether}
-use Rattle.pif_kernel.proofs.TogetherLemmas.{same_place, same_place_made, together_then, together_walked, together_first, levels_first, levels_kept}
+use Rattle.pif_kernel.proofs.TogetherLemmas.{same_place, same_place_made, together_then, together_walked, together_first, levels_first, level_there}
 use Rattle.pif_plain.specs.WalkExamples.{admitted}
 use Rattle.pif_plain.specs.ChainExamples.{IsIdle, IsAtRest, IsChain}
 use Rattle.pif_plain.proofs.WalkTestLemmas.{idle-new, idle-admitted, idle-repaired, walked}
@@ -110,7 +110,7 @@ module _ (m now : States) (q : Queue) (t then : Table) (c : IsChain m q t) (u : 
   chain_then = together_then m q t c.together now then (same_place m now place) outside holds
 
   level_then : (p : ℕ) → IsLevel p → level_of q then p ≡ level_of q t p
-  level_then = (levels_kept m q t c.together now then (same_place m now place) outside holds).levels
+  level_then = level_there m q t c.together now then (same_place m now place) outside holds
 
   was : (x : ℕ) → IsQueued q then x → IsQueued q t x
   was x on = (on.0, on.1, ap (has x) (sym (level_then on.0 on.1)) ∙ on.2)

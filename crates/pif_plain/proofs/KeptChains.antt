@@ -3,13 +3,16 @@ use Rattle.std.proofs.Common.{◌≡◌, ap}
 use Rattle.pif_nodes.specs.Table.{Table}
 use Rattle.pif_runq.specs.Levels.{Queue, Holds, level_of}
 use Rattle.pif_owners.specs.Owners.{Owners}
+use Rattle.pif_kernel.specs.Rows.{PlainRows}
 use Rattle.pif_kernel.specs.Chained.{Chained, KeepsLevels}
 
-pub kept_chains : (v w : Owners) (q : Queue) (t : Table) (was : Chained)
-    → record { owners = v; queue = q; table = t } ≡ was → Holds q t
-    → KeepsLevels was (record { owners = w; queue = q; table = t })
-kept_chains v w q t was is holds = record {
+pub kept_chains : (v w : Owners) (q : Queue) (t : Table) (r : PlainRows) (was : Chained)
+    → record { owners = v; queue = q; table = t; keys = r.keys; parked = r.parked } ≡ was → Holds q t
+    → KeepsLevels was (record { owners = w; queue = q; table = t; keys = r.keys; parked = r.parked })
+kept_chains v w q t r was is holds = record {
   levels = λ r lr. ap (λ (x : Chained). level_of x.queue x.table r) is;
   queue = ap (λ (x : Chained). x.queue) is;
   holds = holds;
+  keys = ap (λ (x : Chained). x.keys) is;
+  parked = ap (λ (x : Chained). x.parked) is;
 }

@@ -3,11 +3,11 @@ ghost use Rattle.std.specs.Prelude.{◌≡◌};
 use crate::chain_walk::walk;
 use crate::cycles::would_close;
 use crate::rt_mutexes::RtMutexes;
-use pif_kernel::{Chains, KernelOn};
+use pif_kernel::{Chains, KernelOn, Priorities, Rows};
 use pif_nodes::NodeTable;
 use pif_owners::Key;
 use pif_runq::RunQueue;
-use pif_types::{NoMemory, Prio, Tid};
+use pif_types::{CondId, MutexId, NoMemory, Prio, Tid};
 use std::alloc::Global;
 use std::marker::Model;
 
@@ -20,12 +20,14 @@ pub struct PlainChains {
     owners: RtMutexes,
     queue: RunQueue,
     table: NodeTable,
+    rows: Rows,
 }
 
 /// A kernel on plain chains.
 pub type PlainKernel = KernelOn<PlainChains>;
 
 impl Model for PlainChains {
+    ghost use Rattle.std.specs.Prelude.{◌≤◌, ◌+◌, length};
     ghost use Rattle.pif_runq.specs.Levels.{Holds};
     ghost use Rattle.pif_kernel.specs.Chained.{Chained, chained_code};
 
@@ -33,9 +35,22 @@ impl Model for PlainChains {
 
     ghost coded = { chained_code };
 
-    ghost view = { λ c. record { owners = c.owners; queue = c.queue; table = c.table } };
+    ghost view = { λ c. record { owners = c.owners; queue = c.queue; table = c.table; keys = c.rows.keys; parked = c.rows.parked } };
 
-    ghost invariant = { λ c. Holds c.queue c.table };
+    ghost invariant = { λ c. record { holds : Holds c.queue c.table; room : length c.owners.seats ≤ c.rows.room + 1 } };
+}
+
+impl Priorities for PlainChains {
+    ghost use Rattle.pif_boost.specs.Boosts.{local_of};
+
+    ghost priority_of = { λ c. local_of c.owners };
+
+    fn priority(&self, t: Tid) -> u32 {
+        match self.owners.local(t) {
+            Some(prio) => prio.get(),
+            None => 0,
+        }
+    }
 }
 
 impl Chains for PlainChains {
@@ -45,10 +60,12 @@ impl Chains for PlainChains {
         let owners = RtMutexes::new(alloc, threads)?;
         let table = NodeTable::new(alloc, threads, LEVELS)?;
         let queue = RunQueue::new(0, 0, threads);
+        let rows = Rows::new(alloc, threads)?;
         Ok(PlainChains {
             owners,
             queue,
             table,
+            rows,
         })
     }
 
@@ -68,8 +85,14 @@ impl Chains for PlainChains {
         self.owners.local(t)
     }
 
-    fn make(&mut self, owner: Tid) -> Key {
-        self.owners.make(owner)
+    fn find(&self, m: MutexId) -> Option<Key> {
+        self.rows.key(m)
+    }
+
+    fn open(&mut self, m: MutexId, owner: Tid) -> Key {
+        let key = self.owners.make(owner);
+        self.rows.set_key(m, Some(key));
+        key
     }
 
     fn owner(&self, key: Key) -> Tid {
@@ -104,8 +127,29 @@ impl Chains for PlainChains {
         self.owners.hand_over(key)
     }
 
-    fn end(&mut self, key: Key) {
+    fn close(&mut self, m: MutexId, key: Key) {
         self.owners.end(key);
+        self.rows.set_key(m, None);
+    }
+
+    fn park(&mut self, t: Tid, c: CondId, m: MutexId) {
+        self.rows.park(t, c, m);
+    }
+
+    fn unpark(&mut self, t: Tid) {
+        self.rows.unpark(t);
+    }
+
+    fn top_parked(&self, c: CondId) -> Option<Tid> {
+        self.rows.top_parked(self, c)
+    }
+
+    fn nth_parked(&self, c: CondId, place: u32) -> Option<Tid> {
+        self.rows.nth_parked(self, c, place)
+    }
+
+    fn match_requeue(&self, c: CondId, m: MutexId) -> bool {
+        self.rows.match_requeue(c, m)
     }
 
     fn add(&mut self, t: Tid, prio: Prio) {

@@ -2,11 +2,11 @@ use Rattle.std.proofs.Common.{◌≡◌, ◌<◌, None, length, subst, sym, ap, 
 use Rattle.pif_owners.specs.Owners.{waits_on, with_seat}
 use Rattle.pif_boost.proofs.FrameLemmas.{outside-none}
 use Rattle.pif_kernel.specs.Chained.{Chained}
-use Rattle.pif_kernel.proofs.TogetherLemmas.{same_place, together_then}
+use Rattle.pif_kernel.proofs.TogetherLemmas.{same_place, room_kept, together_then}
 use Rattle.pif_kernel.proofs.linked.LinkedChainsChains.admit.Goals as goal
 
 pub admit-requires-clause-holds : goal.admit-requires-clause-holds
-admit-requires-clause-holds c = c.self.invariant.owners
+admit-requires-clause-holds c = c.self.invariant.together.owners
 
 pub admit-requires-clause-row : goal.admit-requires-clause-row
 admit-requires-clause-row c = subst (λ (x : Chained). c.args.t < length x.owners.seats) (sym c.self.view_is) c.requires.row
@@ -15,9 +15,12 @@ pub admit-requires-clause-free : goal.admit-requires-clause-free
 admit-requires-clause-free c = subst (λ (x : Chained). waits_on x.owners c.args.t ≡ None) (sym c.self.view_is) c.requires.free
 
 pub invariant_of-self : goal.invariant_of-self
-invariant_of-self c =
-    together_then c.self.inside.owners c.self.inside.queue c.self.inside.table c.self.invariant c.admit.new.self c.self.inside.table
-    (same_place _ _ c.admit.ensures.place) (outside-none c.self.inside.owners c.self.inside.table) c.admit.ensures.holds
+invariant_of-self c = record {
+  together =
+      together_then c.self.inside.owners c.self.inside.queue c.self.inside.table c.self.invariant.together c.admit.new.self c.self.inside.table
+      (same_place _ _ c.admit.ensures.place) (outside-none c.self.inside.owners c.self.inside.table) c.admit.ensures.holds;
+  room = room_kept c.self.inside.owners c.admit.new.self c.self.inside.rows.room (same_place _ _ c.admit.ensures.place) c.self.invariant.room;
+}
 
 pub returns : goal.returns
 returns c =
@@ -25,5 +28,7 @@ returns c =
       owners = c.admit.ensures.admitted i;
       queue = c.self.inside.queue;
       table = c.self.inside.table;
+      keys = c.self.inside.rows.keys;
+      parked = c.self.inside.rows.parked;
     })
     ∙ ap (λ (x : Chained). record x { owners = with_seat c.args.t (record { base = c.args.prio; local = c.args.prio; wait = None }) x.owners }) c.self.view_is

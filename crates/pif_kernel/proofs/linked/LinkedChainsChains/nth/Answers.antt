@@ -5,7 +5,7 @@ use Rattle.pif_kernel.specs.Chained.{Chained}
 use Rattle.pif_kernel.proofs.linked.LinkedChainsChains.nth.Goals as goal
 
 pub nth-requires : goal.nth-requires
-nth-requires c = c.self.invariant.queue
+nth-requires c = c.self.invariant.together.queue
 
 pub returns : goal.returns
 returns c = c.nth.ensures ∙ ap (λ (x : Chained). slice_get (all_below x.queue x.table 100) c.args.place) c.self.view_is

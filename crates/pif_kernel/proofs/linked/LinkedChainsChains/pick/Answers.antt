@@ -4,7 +4,7 @@ use Rattle.pif_kernel.specs.Chained.{Chained}
 use Rattle.pif_kernel.proofs.linked.LinkedChainsChains.pick.Goals as goal
 
 pub pick-requires : goal.pick-requires
-pick-requires c = record { holds = c.self.invariant.queue }
+pick-requires c = record { holds = c.self.invariant.together.queue }
 
 pub returns : goal.returns
 returns c = record {

@@ -1,11 +1,11 @@
 use Rattle.std.proofs.Common.{IsSome, subst, sym, ap, ◌∙◌}
 use Rattle.pif_owners.specs.Owners.{waits_on, KeepsOrder, with_ticket}
 use Rattle.pif_kernel.specs.Chained.{Chained, KeepsLevels}
-use Rattle.pif_kernel.proofs.TogetherLemmas.{together, unmoved, together_then, levels_kept}
+use Rattle.pif_kernel.proofs.TogetherLemmas.{together, unmoved, room_kept, together_then, levels_kept}
 use Rattle.pif_kernel.proofs.linked.LinkedChainsChains.set_ticket.Goals as goal
 
 pub set_ticket-requires-clause-holds : goal.set_ticket-requires-clause-holds
-set_ticket-requires-clause-holds c = c.self.invariant.owners
+set_ticket-requires-clause-holds c = c.self.invariant.together.owners
 
 pub set_ticket-requires-clause-queued : goal.set_ticket-requires-clause-queued
 set_ticket-requires-clause-queued c = subst (λ (x : Chained). IsSome (waits_on x.owners c.args.t)) (sym c.self.view_is) c.requires.queued
@@ -14,15 +14,18 @@ pub set_ticket-requires-clause-order : goal.set_ticket-requires-clause-order
 set_ticket-requires-clause-order c = subst (λ (x : Chained). KeepsOrder x.owners c.args.t c.args.ticket) (sym c.self.view_is) c.requires.order
 
 pub invariant_of-self : goal.invariant_of-self
-invariant_of-self c =
-    together_then c.self.inside.owners c.self.inside.queue c.self.inside.table c.self.invariant c.set_ticket.new.self c.set_ticket.new.table
-    (unmoved _ _ c.set_ticket.ensures.place) c.set_ticket.ensures.outside c.set_ticket.ensures.holds
+invariant_of-self c = record {
+  together =
+      together_then c.self.inside.owners c.self.inside.queue c.self.inside.table c.self.invariant.together c.set_ticket.new.self c.set_ticket.new.table
+      (unmoved _ _ c.set_ticket.ensures.place) c.set_ticket.ensures.outside c.set_ticket.ensures.holds;
+  room = room_kept c.self.inside.owners c.set_ticket.new.self c.self.inside.rows.room (unmoved _ _ c.set_ticket.ensures.place) c.self.invariant.room;
+}
 
 pub returns : goal.returns
 returns c = record {
   changed = c.set_ticket.ensures.changed
       ∙ ap (λ (x : Chained). with_ticket c.args.t c.args.ticket x.owners) c.self.view_is;
-  kept = subst (λ (x : Chained). KeepsLevels x (together c.set_ticket.new.self c.self.inside.queue c.set_ticket.new.table)) c.self.view_is
-      (levels_kept c.self.inside.owners c.self.inside.queue c.self.inside.table c.self.invariant c.set_ticket.new.self c.set_ticket.new.table
-      (unmoved _ _ c.set_ticket.ensures.place) c.set_ticket.ensures.outside c.set_ticket.ensures.holds);
+  kept = subst (λ (x : Chained). KeepsLevels x (together c.set_ticket.new.self c.self.inside.queue c.set_ticket.new.table c.self.inside.rows)) c.self.view_is
+      (levels_kept c.self.inside.owners c.self.inside.queue c.self.inside.table c.self.invariant.together c.set_ticket.new.self c.set_ticket.new.table
+      (unmoved _ _ c.set_ticket.ensures.place) c.set_ticket.ensures.outside c.set_ticket.ensures.holds c.self.inside.rows);
 }

@@ -6,19 +6,22 @@ use Rattle.pif_kernel.proofs.TogetherLemmas.{together_still, owners_kept}
 use Rattle.pif_kernel.proofs.linked.LinkedChainsChains.take_out.Goals as goal
 
 pub take_out-requires-clause-holds : goal.take_out-requires-clause-holds
-take_out-requires-clause-holds c = c.self.invariant.queue
+take_out-requires-clause-holds c = c.self.invariant.together.queue
 
 pub take_out-requires-clause-queued : goal.take_out-requires-clause-queued
 take_out-requires-clause-queued c = subst (λ (x : Chained). IsQueued x.queue x.table c.args.t) (sym c.self.view_is) c.requires
 
 pub invariant_of-self : goal.invariant_of-self
-invariant_of-self c =
-    together_still c.self.inside.owners c.self.inside.queue c.self.inside.table c.self.invariant c.take_out.new.self
-    c.take_out.new.table c.take_out.ensures.place c.take_out.ensures.outside c.take_out.ensures.holds
+invariant_of-self c = record {
+  together =
+      together_still c.self.inside.owners c.self.inside.queue c.self.inside.table c.self.invariant.together c.take_out.new.self
+      c.take_out.new.table c.take_out.ensures.place c.take_out.ensures.outside c.take_out.ensures.holds;
+  room = c.self.invariant.room;
+}
 
 pub returns : goal.returns
 returns c = record {
-  owners = owners_kept c.self.inside.owners c.self.inside.queue c.self.inside.table c.self.invariant c.take_out.new.self
+  owners = owners_kept c.self.inside.owners c.self.inside.queue c.self.inside.table c.self.invariant.together c.take_out.new.self
       c.take_out.new.table c.take_out.ensures.place c.take_out.ensures.outside c.take_out.ensures.holds
       ∙ ap (λ (x : Chained). x.owners) c.self.view_is;
   levels = λ p lp. c.take_out.ensures.levels p lp
@@ -26,4 +29,6 @@ returns c = record {
   place = c.take_out.ensures.place
       ∙ ap (λ (x : Chained). record x.queue { mask = c.take_out.new.self.mask }) c.self.view_is;
   holds = c.take_out.ensures.holds;
+  keys = ap (λ (x : Chained). x.keys) c.self.view_is;
+  parked = ap (λ (x : Chained). x.parked) c.self.view_is;
 }

@@ -5,7 +5,7 @@ use Rattle.pif_kernel.specs.Chained.{Chained}
 use Rattle.pif_kernel.proofs.linked.LinkedChainsChains.would_close.Goals as goal
 
 pub would_close-requires : goal.would_close-requires
-would_close-requires c = c.self.invariant.owners
+would_close-requires c = c.self.invariant.together.owners
 
 pub returns : goal.returns
 returns c =

@@ -8,6 +8,7 @@ use Rattle.pif_kernel.specs.declared.parts.Parts.TheView.{view}
 use Rattle.pif_kernel.proofs.InOrder.{found_so}
 use Rattle.pif_kernel.proofs.Seats.{seats_length, limits_seen}
 use Rattle.pif_kernel.proofs.Standing.{fits, off_queue, unadded_off}
+use Rattle.pif_kernel.proofs.ParkingFacts.{unadded_unnamed}
 use Rattle.pif_kernel.proofs.AddSound.{kernel_after, sound_after}
 use Rattle.pif_kernel.proofs.parts.Parts.add.Goals as goal
 
@@ -23,7 +24,7 @@ push_within-requires g c =
     let few : length p.statuses ≤ p.limits.threads
     = room p h (subst (λ (x : Inside). length (kernel_of x).seats ≤ (kernel_of x).limits.threads)
     (sym c.self.view_is) c.requires.room) in
-    omega (arith, few, c.self.invariant.statuses)
+    omega (arith, few, c.self.invariant)
 
 pub admit-requires-clause-row : goal.admit-requires-clause-row
 admit-requires-clause-row g c =
@@ -34,6 +35,13 @@ admit-requires-clause-row g c =
     (sym c.self.view_is) c.requires.room) in
     let value : c.unwrap-t.result ≡ c.len.result = rw c.unwrap-t.ensures at c.new.ensures.value in
     omega (arith, value, c.len.ensures, few, h.placed.rows)
+
+pub admit-requires-clause-unparked : goal.admit-requires-clause-unparked
+admit-requires-clause-unparked g c =
+    let p : Inside = view _ g.C.Chains c.self.inside in
+    let h : IsSound p = subst IsSound (sym c.self.view_is) c.requires.sound in
+    let value : c.unwrap-t.result ≡ c.len.result = rw c.unwrap-t.ensures at c.new.ensures.value in
+    unadded_unnamed p h c.unwrap-t.result (omega (arith, value, c.len.ensures))
 
 pub add-requires-clause-thread : goal.add-requires-clause-thread
 add-requires-clause-thread g c =
@@ -76,6 +84,8 @@ returns g c =
     λ r lr. c.add.ensures.levels r lr
     ∙ ap (λ (y : Chained). level_after_add c.unwrap-t.result c.args.prio r (level_of y.queue y.table r)) admitted in
     let owners = c.add.ensures.owners ∙ ap (λ (y : Chained). y.owners) admitted in
+    let keys = c.add.ensures.keys ∙ ap (λ (y : Chained). y.keys) admitted in
+    let parked = c.add.ensures.parked ∙ ap (λ (y : Chained). y.parked) admitted in
     let e = found_so _ (kernel_after_add c.args.prio (kernel_of c.args.self.now)) (
       kernel_after p x.queue x.table c.unwrap-t.result c.args.prio h t few low high place levels c.add.ensures.holds
           ∙ ap (λ (x : Inside). kernel_after_add c.args.prio (kernel_of x)) c.self.view_is,
@@ -83,6 +93,6 @@ returns g c =
     ) in
     record {
       number = t ∙ sym (seats_length p (fits p h)) ∙ ap (λ (x : Inside). length (kernel_of x).seats) c.self.view_is;
-      after = rw (c.push_within.ensures.items, owners) e.0;
-      sound = rw (c.push_within.ensures.items, owners) e.1;
+      after = rw (c.push_within.ensures.items, owners, keys, parked) e.0;
+      sound = rw (c.push_within.ensures.items, owners, keys, parked) e.1;
     }

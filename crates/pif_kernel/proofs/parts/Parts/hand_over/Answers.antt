@@ -1,4 +1,4 @@
-use Rattle.std.proofs.Common.{◌≡◌, ℕ, ◌+◌, Bool, true, false, not, None, List, set, refl, subst, sym, ap, ◌∙◌, arith}
+use Rattle.std.proofs.Common.{◌≡◌, ℕ, ◌+◌, Bool, true, false, not, List, Option, None, get_or, set, refl, subst, sym, ap, ◌∙◌, arith}
 use Rattle.std.proofs.lemmas.Bool.{true≢false, false≢true}
 use Rattle.pif_model.specs.declared.lines.Status.TheVariants.{Ready}
 use Rattle.pif_model.specs.declared.lines.Woken.TheVariants.{Owns}
@@ -11,10 +11,10 @@ use Rattle.pif_kernel.specs.Inside.{Inside, kernel_of}
 use Rattle.pif_kernel.specs.declared.parts.Parts.TheView.{view}
 use Rattle.pif_kernel.proofs.InOrder.{found_so}
 use Rattle.pif_kernel.proofs.StillWaits.{left_by}
-use Rattle.pif_kernel.proofs.TableMoved.{moved, kernel_moved, handable_moved}
+use Rattle.pif_kernel.proofs.TableMoved.{moved, kernel_moved, handable_moved, levels_kept_then, levels_kept_beside}
 use Rattle.pif_kernel.proofs.TopLaws.{top_is_next, some_waiter}
 use Rattle.pif_kernel.proofs.WalkSound.{IsWalkable, on_levels, on_running, on_local, ended}
-use Rattle.pif_kernel.proofs.HandOverFacts.{IsGiven, IsHandable, IsHandedOn}
+use Rattle.pif_kernel.proofs.HandOverFacts.{IsHandable, IsHandedOn}
 use Rattle.pif_kernel.proofs.HandOverSound.{given_state, given_idle, ended_given, still_given, handing, next_added, local_low, off, seated, before_walk}
 use Rattle.pif_kernel.proofs.parts.Parts.hand_over.Goals.{Start, After-is_none, Joined-is_none, After-add, then-is_none, else-is_none}
 use Rattle.pif_kernel.proofs.parts.Parts.hand_over.Goals as goal
@@ -67,47 +67,64 @@ handed g c d r =
     let x : Inside = after g c in
     let y : Chained = g.C.Chains.seen c.hand_over-next.new.self in
     let kept : KeepsLevels (chains_of p) y = c.hand_over-next.ensures.kept in
-    let there : Inside = moved p y kept in
     let u : ℕ = c.hand_over-next.result in
     let rest : List (ℕ × ℕ) = without p.arrivals u in
     let top = c.hand_over-next.ensures.top in
-    let able : IsHandable there c.args.holder c.args.m c.args.key = handable_moved p y kept _ _ _ d in
-    let given : IsGiven there x u c.args.m c.args.key = elim c.if-is_none.branch [
-      | then-is_none w ↦
-          ended_given there c.args.holder c.args.m c.args.key u able top x y.owners (without_state c.args.key y.owners)
-          w.get.result rest (has_waiter rest c.args.m)
-          (ap (λ z. record (view _ g.C.Chains z) { arrivals = rest }) w.self-inside-is
+    elim c.if-is_none.branch [
+      | then-is_none w ↦ (let z : Chained = g.C.Chains.seen w.close.new.self in
+          let closed : Chained = record z { keys = y.keys; parked = y.parked } in
+          let over : KeepsLevels (chains_of p) closed
+          = levels_kept_then (chains_of p) y closed kept
+          (levels_kept_beside y z (set y.keys c.args.m None) y.parked w.close.ensures.kept) in
+          let there : Inside = moved p closed over in
+          let able : IsHandable there c.args.holder c.args.m c.args.key = handable_moved p closed over _ _ _ d in
+          handing there c.args.holder c.args.m c.args.key u able top c.args.self.now x
+          (kernel_moved p closed over ∙ ap kernel_of c.self.view_is)
+          (ended_given there c.args.holder c.args.m c.args.key u able top x y.owners (without_state c.args.key y.owners)
+          rest (has_waiter rest c.args.m)
+          (ap (λ q. record (view _ g.C.Chains q) { arrivals = rest }) w.self-inside-is
           ∙ (λ i. record p {
-            keys = set p.keys w.get.result None;
-            owners = (w.end.ensures.ended i).owners;
-            queue = (w.end.ensures.ended i).queue;
-            table = (w.end.ensures.ended i).table;
+            keys = (w.close.ensures.kept.keys ∙ ap (λ (ks : List (Option ℕ)). set ks c.args.m None) kept.keys) i;
+            owners = w.close.ensures.ended i;
+            queue = z.queue;
+            table = z.table;
             arrivals = rest;
+            parked = (w.close.ensures.kept.parked ∙ kept.parked) i;
           }))
-          refl refl (none_by (has_waiter rest c.args.m) c.is_none.result r w.if-is_none.true) w.get.ensures.value
+          refl refl (none_by (has_waiter rest c.args.m) c.is_none.result r w.if-is_none.true)
           c.hand_over-next.ensures.handed refl
-          (sym (ap (λ (z : Chained). count z.owners + 1) w.end.ensures.ended) ∙ w.end.ensures.count)
-      | else-is_none w ↦
-          still_given there c.args.holder c.args.m c.args.key u able top x y.owners rest (has_waiter rest c.args.m)
-          (ap (λ z. record (view _ g.C.Chains z) { arrivals = rest }) w.self-inside-is)
+          (sym (ap (λ (o : Owners). count o + 1) w.close.ensures.ended) ∙ w.close.ensures.count)))
+      | else-is_none w ↦ (let there : Inside = moved p y kept in
+          let able : IsHandable there c.args.holder c.args.m c.args.key = handable_moved p y kept _ _ _ d in
+          handing there c.args.holder c.args.m c.args.key u able top c.args.self.now x
+          (kernel_moved p y kept ∙ ap kernel_of c.self.view_is)
+          (still_given there c.args.holder c.args.m c.args.key u able top x y.owners rest (has_waiter rest c.args.m)
+          (ap (λ q. record (view _ g.C.Chains q) { arrivals = rest }) w.self-inside-is
+          ∙ (λ i. record p {
+            keys = kept.keys i;
+            owners = y.owners;
+            queue = y.queue;
+            table = y.table;
+            arrivals = rest;
+            parked = kept.parked i;
+          }))
           refl refl (some_by (has_waiter rest c.args.m) c.is_none.result r w.if-is_none.false)
-          c.hand_over-next.ensures.handed
-    ] in
-    handing there c.args.holder c.args.m c.args.key u able top c.args.self.now x
-    (kernel_moved p y kept ∙ ap kernel_of c.self.view_is) given
+          c.hand_over-next.ensures.handed))
+    ]
 
 pub hand_over-next-requires : goal.hand_over-next-requires
 hand_over-next-requires g c =
     let d = hands g (goal.at.hand_over-next-requires g c).Start _ c.self.view_is in
     record { waiter = some_waiter (view _ g.C.Chains c.self.inside) d.sound c.args.m c.args.key d.at }
 
-pub end-requires : goal.end-requires
-end-requires g c =
-    let a = goal.at.end-requires g c in
+pub close-requires : goal.close-requires
+close-requires g c =
+    let a = goal.at.close-requires g c in
     let p : Inside = view _ g.C.Chains c.self.inside in
     let d = hands g a.Start _ c.self.view_is in
     let r = others g a.After-is_none d in
     rw c.hand_over-next.ensures.handed (record {
+      mutex = ap (λ (ks : List (Option ℕ)). get_or ks c.args.m None) c.hand_over-next.ensures.kept.keys ∙ d.at;
       state = given_state p c.args.holder c.args.m c.args.key c.hand_over-next.result d c.hand_over-next.ensures.top;
       free =
           given_idle p c.args.holder c.args.m c.args.key c.hand_over-next.result d c.hand_over-next.ensures.top
@@ -115,12 +132,12 @@ end-requires g c =
           c.if-is_none.true);
     })
 
-pub index_mut-requires-2 : goal.index_mut-requires-2
-index_mut-requires-2 g c =
-    let a = goal.at.index_mut-requires-2 g c in
+pub index_mut-requires : goal.index_mut-requires
+index_mut-requires g c =
+    let a = goal.at.index_mut-requires g c in
     let d = hands g a.Start _ c.self.view_is in
     let i = handed g a.Joined-is_none d (others g a.After-is_none d) in
-    omega (arith, next_added _ _ _ _ _ i.hands i.top, c.get-2.ensures.value)
+    omega (arith, next_added _ _ _ _ _ i.hands i.top, c.get.ensures.value)
 
 pub unwrap-level-requires : goal.unwrap-level-requires
 unwrap-level-requires g c =
@@ -188,7 +205,18 @@ returns g c =
     record {
       next = next
           ∙ ap (λ (x : Inside). next_in (kernel_of x) c.args.m) c.self.view_is;
-      after = rw c.get-2.ensures.value f.0;
-      sound =
-          rw c.get-2.ensures.value f.1;
+      after = rw (
+        c.get.ensures.value,
+        c.walk.ensures.keys,
+        c.add.ensures.keys,
+        c.walk.ensures.parked,
+        c.add.ensures.parked,
+      ) f.0;
+      sound = rw (
+        c.get.ensures.value,
+        c.walk.ensures.keys,
+        c.add.ensures.keys,
+        c.walk.ensures.parked,
+        c.add.ensures.parked,
+      ) f.1;
     }

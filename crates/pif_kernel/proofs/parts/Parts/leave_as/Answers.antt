@@ -52,4 +52,8 @@ returns g c =
     = ended _ _ _ (left g (goal.at.returns g c).After-get) (g.C.Chains.seen c.walk.new.self).owners (g.C.Chains.seen c.walk.new.self).queue (g.C.Chains.seen c.walk.new.self).table
     c.walk.ensures.repaired c.walk.ensures.levels c.walk.ensures.place c.walk.ensures.holds
     in
-    let f = found_so _ _ e in record { after = f.0; sound = f.1 }
+    let f = found_so _ _ e in
+    record {
+      after = rw (c.walk.ensures.keys, c.walk.ensures.parked) f.0;
+      sound = rw (c.walk.ensures.keys, c.walk.ensures.parked) f.1;
+    }

@@ -5,12 +5,15 @@ use Rattle.pif_model.specs.PiKernel.{seat_at as kernel_seat_at}
 use Rattle.pif_nodes.specs.Lists.{has, without}
 use Rattle.pif_runq.specs.Levels.{Queue}
 use Rattle.pif_chains.proofs.KernelFacts.{living-added}
+use Rattle.pif_chains.proofs.Statuses.{ready-unparked}
 use Rattle.pif_kernel.specs.Chained.{Chained}
-use Rattle.pif_kernel.specs.Inside.{Inside, IsOpened, kernel_of, key_at}
+use Rattle.pif_kernel.specs.Inside.{Inside, kernel_of, key_at}
+use Rattle.pif_kernel.specs.Opened.{IsOpened}
 use Rattle.pif_kernel.specs.declared.parts.Parts.TheView.{view}
 use Rattle.pif_kernel.proofs.InOrder.{found_so}
 use Rattle.pif_kernel.proofs.WalkSound.{IsWalkable, on_levels, on_running, on_local, ended}
 use Rattle.pif_kernel.proofs.QueueingFacts.{IsEntered, entry, folded, no_cycle, local_low, place, free, on_level, before_walk}
+use Rattle.pif_kernel.proofs.ParkingFacts.{unparked_unnamed}
 use Rattle.pif_kernel.proofs.Seats.{added_seen}
 use Rattle.pif_kernel.proofs.Standing.{fits}
 use Rattle.pif_kernel.proofs.Waiters.{room_for}
@@ -45,7 +48,7 @@ entered : (g : _) (c : After-local g)
 entered g c =
     let x : Inside = view _ g.C.Chains c.self.inside in
     let p : Inside = c.take_ticket-ticket.new.self in
-    folded c.args.self.now p x c.args.t c.args.m c.args.owner c.state_of-key.result c.take_ticket-ticket.result
+    folded c.args.self.now (record p { queue = x.queue; table = x.table }) x c.args.t c.args.m c.args.owner c.state_of-key.result c.take_ticket-ticket.result
     (entry c.args.self.now p x c.args.t c.args.m c.args.owner c.state_of-key.result c.take_ticket-ticket.result
     (omega (arith, c.get-number.ensures.value, c.get-number.ensures.range))
     (record {
@@ -56,7 +59,7 @@ entered g c =
       state = c.requires.state;
       unreached = c.requires.unreached;
     })
-    c.take_ticket-ticket.ensures.frame c.take_ticket-ticket.ensures.next c.take_ticket-ticket.ensures.rises
+    c.take_ticket-ticket.ensures.next c.take_ticket-ticket.ensures.rises
     c.take_ticket-ticket.ensures.same c.take_ticket-ticket.ensures.sound
     (subst (λ (z : Inside). IsOpened p z c.args.m c.args.owner c.state_of-key.result)
     (sym c.self.view_is) c.state_of-key.ensures))
@@ -71,6 +74,11 @@ enqueue-requires-clause-state g c = ap is_some (entered g (goal.at.enqueue-requi
 
 pub enqueue-requires-clause-free : goal.enqueue-requires-clause-free
 enqueue-requires-clause-free g c = free _ _ _ _ _ _ _ _ (entered g (goal.at.enqueue-requires-clause-free g c).After-local)
+
+pub enqueue-requires-clause-unparked : goal.enqueue-requires-clause-unparked
+enqueue-requires-clause-unparked g c =
+    let i = entered g (goal.at.enqueue-requires-clause-unparked g c).After-local in
+    unparked_unnamed _ i.sound c.args.t (ready-unparked _ i.ready)
 
 pub index_mut-requires : goal.index_mut-requires
 index_mut-requires g c =
@@ -130,4 +138,23 @@ returns g c =
     = ended _ _ _ w (g.C.Chains.seen c.walk.new.self).owners (g.C.Chains.seen c.walk.new.self).queue (g.C.Chains.seen c.walk.new.self).table c.walk.ensures.repaired c.walk.ensures.levels
     c.walk.ensures.place c.walk.ensures.holds in
     let f = found_so _ _ e in
-    record { after = rw c.get.ensures.value f.0; sound = rw c.get.ensures.value f.1 }
+    record {
+      after = rw (
+        c.get.ensures.value,
+        c.walk.ensures.keys,
+        c.take_out.ensures.keys,
+        c.enqueue.ensures.kept.keys,
+        c.walk.ensures.parked,
+        c.take_out.ensures.parked,
+        c.enqueue.ensures.kept.parked,
+      ) f.0;
+      sound = rw (
+        c.get.ensures.value,
+        c.walk.ensures.keys,
+        c.take_out.ensures.keys,
+        c.enqueue.ensures.kept.keys,
+        c.walk.ensures.parked,
+        c.take_out.ensures.parked,
+        c.enqueue.ensures.kept.parked,
+      ) f.1;
+    }

@@ -58,10 +58,14 @@ anew g c =
     )
 
 pub returns-clause-same : goal.returns-clause-same
-returns-clause-same g c = (found_so _ _ (anew g (goal.at.returns-clause-same g c).After-number_anew-ticket)).0
+returns-clause-same g c =
+    rw (c.number_anew-ticket.ensures.kept.keys, c.number_anew-ticket.ensures.kept.parked)
+    (found_so _ _ (anew g (goal.at.returns-clause-same g c).After-number_anew-ticket)).0
 
 pub returns-clause-sound : goal.returns-clause-sound
-returns-clause-sound g c = (found_so _ _ (anew g (goal.at.returns-clause-sound g c).After-number_anew-ticket)).1
+returns-clause-sound g c =
+    rw (c.number_anew-ticket.ensures.kept.keys, c.number_anew-ticket.ensures.kept.parked)
+    (found_so _ _ (anew g (goal.at.returns-clause-sound g c).After-number_anew-ticket)).1
 
 pub returns-clause-next : goal.returns-clause-next
 returns-clause-next g c =
@@ -73,10 +77,11 @@ returns-clause-next g c =
 pub returns-clause-frame : goal.returns-clause-frame
 returns-clause-frame g c =
     let x : Chained = g.C.Chains.seen c.number_anew-ticket.new.chains in
-    renewed _ (anew g (goal.at.returns-clause-frame g c).After-number_anew-ticket).1
+    rw (c.number_anew-ticket.ensures.kept.keys, c.number_anew-ticket.ensures.kept.parked)
+    (renewed _ (anew g (goal.at.returns-clause-frame g c).After-number_anew-ticket).1
     ∙ (λ i. record (c.self.view_is i) {
       owners = x.owners;
       queue = (c.number_anew-ticket.ensures.kept.queue ∙ ap (λ (p : Inside). p.queue) c.self.view_is) i;
       table = x.table;
       next = c.number_anew-ticket.result;
-    })
+    }))

@@ -1,5 +1,6 @@
-use Rattle.std.proofs.Common.{◌≡◌, ◌≤◌, true, Ok, subst, sym, arith}
+use Rattle.std.proofs.Common.{◌≡◌, ◌≤◌, true, Ok, subst, sym, ap, ◌∙◌, arith}
 use Rattle.pif_model.specs.PiKernel.{is_living, kernel_after_set_prio}
+use Rattle.pif_kernel.specs.Chained.{Chained}
 use Rattle.pif_kernel.specs.Inside.{Inside, IsSound, kernel_of}
 use Rattle.pif_kernel.specs.declared.parts.Parts.TheView.{view}
 use Rattle.pif_kernel.proofs.InOrder.{found_so}
@@ -43,4 +44,7 @@ returns g c =
     = ended _ _ _ (before_walk g (goal.at.returns g c).After-set_base) (g.C.Chains.seen c.walk.new.self).owners (g.C.Chains.seen c.walk.new.self).queue (g.C.Chains.seen c.walk.new.self).table
     c.walk.ensures.repaired c.walk.ensures.levels c.walk.ensures.place c.walk.ensures.holds
     in
-    let f = found_so _ _ e in record { after = f.0; sound = f.1 }
+    let f = found_so _ _ e in
+    let keys = c.walk.ensures.keys ∙ ap (λ (x : Chained). x.keys) c.set_base.ensures in
+    let parked = c.walk.ensures.parked ∙ ap (λ (x : Chained). x.parked) c.set_base.ensures in
+    record { after = rw (keys, parked) f.0; sound = rw (keys, parked) f.1 }

@@ -44,6 +44,6 @@ returns g c =
           c.take_out.ensures.levels c.take_out.ensures.holds,
     ) in
     record {
-      after = rw (c.get.ensures.value, c.take_out.ensures.owners) e.0;
-      sound = rw (c.get.ensures.value, c.take_out.ensures.owners) e.1;
+      after = rw (c.get.ensures.value, c.take_out.ensures.owners, c.take_out.ensures.keys, c.take_out.ensures.parked) e.0;
+      sound = rw (c.get.ensures.value, c.take_out.ensures.owners, c.take_out.ensures.keys, c.take_out.ensures.parked) e.1;
     }

@@ -1,9 +1,10 @@
-use Rattle.std.proofs.Common.{◌≡◌, ◌⊎◌, true, false, subst, sym, ap, ◌∙◌, refl, inl, inr}
+use Rattle.std.proofs.Common.{◌≡◌, ◌⊎◌, ℕ, true, false, subst, sym, ap, ◌∙◌, refl, inl, inr}
 use Rattle.pif_model.specs.declared.lines.Status.{Status}
 use Rattle.pif_model.specs.declared.lines.Status.TheVariants.{Stopped, Ended}
 use Rattle.pif_model.specs.PiKernel.{is_ready, is_parked, queued_on, seat_at, is_living, unparked}
 use Rattle.pif_chains.proofs.KernelFacts.{living-added}
 use Rattle.pif_chains.proofs.Statuses.{ready-unparked}
+use Rattle.pif_runq.specs.Levels.{Queue}
 use Rattle.pif_kernel.specs.Chained.{Chained}
 use Rattle.pif_kernel.specs.Inside.{Inside, IsSound, kernel_of}
 use Rattle.pif_kernel.specs.Leaving.{IsLeft}
@@ -38,7 +39,7 @@ returns-in-Ready g c =
     = ap (λ (x : Inside). is_ready (seat_at (kernel_of x) c.args.t).status) c.self.view_is
     ∙ ap is_ready (sym c.status.ensures ∙ c.in-Ready.is) in
     let y : Chained = g.C.Chains.seen c.take_out.new.self in
-    rw c.take_out.ensures.owners
+    rw (c.take_out.ensures.owners, c.take_out.ensures.keys, c.take_out.ensures.parked)
     (subst (λ (x : Inside). IsLeft x (record p { queue = y.queue; table = y.table }) c.args.t c.args.t) c.self.view_is
     (left_idle p c.args.t h (living-added (kernel_of p) c.args.t lives) (ready_idle p h c.args.t ready)
     y.queue y.table c.take_out.ensures.levels c.take_out.ensures.place c.take_out.ensures.holds p.parked
@@ -46,14 +47,23 @@ returns-in-Ready g c =
 
 pub returns-in-Parked : goal.returns-in-Parked
 returns-in-Parked g c =
-    let p : Inside = c.args.self.now in
-    let h : IsSound p = c.requires.sound in
-    rw c.unpark.ensures
-    (left_idle p c.args.t h (living-added (kernel_of p) c.args.t c.requires.living)
-    (ap queued_on (sym (status_seen p (fits p h) c.args.t) ∙ sym c.status.ensures ∙ c.in-Parked.is))
-    p.queue p.table
-    (unready_off p h c.args.t (ap is_ready (sym c.status.ensures ∙ c.in-Parked.is))) refl
-    h.placed.holds (unparked p.parked c.args.t) refl)
+    let p : Inside = view _ g.C.Chains c.self.inside in
+    let h : IsSound p = subst IsSound (sym c.self.view_is) c.requires.sound in
+    let lives : is_living (kernel_of p) c.args.t ≡ true
+    = subst (λ (x : Inside). is_living (kernel_of x) c.args.t ≡ true) (sym c.self.view_is) c.requires.living in
+    let status : (seat_at (kernel_of p) c.args.t).status ≡ c.status.result
+    = ap (λ (x : Inside). (seat_at (kernel_of x) c.args.t).status) c.self.view_is ∙ sym c.status.ensures in
+    let y : Chained = g.C.Chains.seen c.unpark.new.self in
+    let kept = c.unpark.ensures.kept in
+    rw (c.unpark.ensures.owners, kept.keys, kept.parked)
+    (subst (λ (x : Inside). IsLeft x (record p { queue = y.queue; table = y.table; parked = unparked p.parked c.args.t })
+    c.args.t c.args.t) c.self.view_is
+    (left_idle p c.args.t h (living-added (kernel_of p) c.args.t lives)
+    (ap queued_on (sym (status_seen p (fits p h) c.args.t) ∙ status ∙ c.in-Parked.is))
+    y.queue y.table
+    (λ r lr. kept.levels r lr ∙ unready_off p h c.args.t (ap is_ready (status ∙ c.in-Parked.is)) r lr)
+    (kept.queue ∙ ap (λ (n : ℕ). record p.queue { mask = n }) (sym (ap (λ (q : Queue). q.mask) kept.queue)))
+    kept.holds (unparked p.parked c.args.t) refl))
 
 unready : (x : Status) → ((x ≡ Stopped) ⊎ (x ≡ Ended)) → is_ready x ≡ false
 unready x (inl e) = ap is_ready e

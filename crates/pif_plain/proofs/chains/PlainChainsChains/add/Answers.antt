@@ -10,7 +10,7 @@ add-requires-clause-thread c = subst (λ (x : Chained). c.args.t ≤ x.queue.thr
 pub add-requires-clause-free : goal.add-requires-clause-free
 add-requires-clause-free c =
     let few : c.args.t ≤ c.self.inside.queue.threads = subst (λ (x : Chained). c.args.t ≤ x.queue.threads) (sym c.self.view_is) c.requires.thread in
-    off_free c.self.inside.queue c.self.inside.table c.args.t c.self.invariant (omega (arith, c.get-number.ensures.value, c.get-number.ensures.range)) few
+    off_free c.self.inside.queue c.self.inside.table c.args.t c.self.invariant.holds (omega (arith, c.get-number.ensures.value, c.get-number.ensures.range)) few
     (λ on. c.requires.off (subst (λ (x : Chained). IsQueued x.queue x.table c.args.t) c.self.view_is on))
 
 pub returns : goal.returns
@@ -20,4 +20,6 @@ returns c = record {
       ∙ ap (λ (x : Chained). level_after_add c.args.t c.args.prio p (level_of x.queue x.table p)) c.self.view_is;
   place = c.add.ensures.place ∙ ap (λ (x : Chained). record x.queue { mask = c.add.new.self.mask }) c.self.view_is;
   holds = c.add.ensures.holds;
+  keys = ap (λ (x : Chained). x.keys) c.self.view_is;
+  parked = ap (λ (x : Chained). x.parked) c.self.view_is;
 }

@@ -15,6 +15,8 @@ returns c =
       owners = c.admit.ensures.admitted i;
       queue = c.self.inside.queue;
       table = c.self.inside.table;
+      keys = c.self.inside.rows.keys;
+      parked = c.self.inside.rows.parked;
     })
     ∙ ap (λ (x : Chained). record x {
       owners = with_seat c.args.t (record { base = c.args.prio; local = c.args.prio; wait = None }) x.owners;

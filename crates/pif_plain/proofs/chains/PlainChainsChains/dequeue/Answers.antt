@@ -10,5 +10,5 @@ dequeue-requires c = subst (λ (x : Chained). waits_on x.owners c.args.t ≡ Som
 pub returns : goal.returns
 returns c = record {
   free = c.dequeue.ensures.free ∙ ap (λ (x : Chained). with_wait c.args.t None x.owners) c.self.view_is;
-  kept = kept_chains _ _ _ _ _ c.self.view_is c.self.invariant;
+  kept = kept_chains _ _ _ _ c.self.inside.rows _ c.self.view_is c.self.invariant.holds;
 }

@@ -23,5 +23,5 @@ returns c = record {
   queued = c.enqueue.ensures.queued
       ∙ ap (λ (x : Chained). with_wait c.args.t
       (Some (record { state = c.args.key; rank = record { prio = c.args.prio; ticket = c.args.ticket } })) x.owners) c.self.view_is;
-  kept = kept_chains _ _ _ _ _ c.self.view_is c.self.invariant;
+  kept = kept_chains _ _ _ _ c.self.inside.rows _ c.self.view_is c.self.invariant.holds;
 }

@@ -14,5 +14,5 @@ returns c = record {
   top = subst (λ (x : Chained). IsTop x.owners c.args.key c.hand_over.result) c.self.view_is c.hand_over.ensures.top;
   handed = c.hand_over.ensures.handed
       ∙ ap (λ (x : Chained). with_owner c.args.key c.hand_over.result (with_wait c.hand_over.result None x.owners)) c.self.view_is;
-  kept = kept_chains _ _ _ _ _ c.self.view_is c.self.invariant;
+  kept = kept_chains _ _ _ _ c.self.inside.rows _ c.self.view_is c.self.invariant.holds;
 }

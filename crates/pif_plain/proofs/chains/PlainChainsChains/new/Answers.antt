@@ -1,6 +1,8 @@
-use Rattle.std.proofs.Common.{◌≡◌, ℕ, [], subst, sym, ap, ◌∙◌, arith}
+use Rattle.std.proofs.Common.{◌≡◌, ℕ, ◌+◌, [], length, subst, sym, ap, ◌∙◌, arith}
+use Rattle.std.proofs.lemmas.List.{length-replicate}
 use Rattle.pif_nodes.specs.Table.{Table, IsApart}
 use Rattle.pif_runq.specs.Levels.{Queue, HasRoom, level_of}
+use Rattle.pif_owners.specs.Owners.{Owners, no_seat}
 use Rattle.pif_kernel.proofs.EmptyTables.{empty_table, queue_room, empty_level}
 use Rattle.pif_plain.proofs.chains.PlainChainsChains.new.Goals as goal
 
@@ -16,9 +18,17 @@ room threads q t is made apart = (
 )
 
 pub invariant_of-result : goal.invariant_of-result
-invariant_of-result c =
-    c.new-queue.ensures.holds c.in_ok-table.table
-    (room c.args.threads _ _ c.new-queue.ensures.made c.in_ok-table.ensures.made c.in_ok-table.ensures.apart).0
+invariant_of-result c = record {
+  holds = c.new-queue.ensures.holds c.in_ok-table.table
+      (room c.args.threads _ _ c.new-queue.ensures.made c.in_ok-table.ensures.made c.in_ok-table.ensures.apart).0;
+  room =
+      omega (
+        arith,
+        ap (λ (v : Owners). length v.seats) c.in_ok-owners.ensures.made,
+        length-replicate (c.args.threads + 1) no_seat,
+        c.in_ok-rows.ensures.room,
+      );
+}
 
 pub returns : goal.returns
 returns c =
@@ -28,4 +38,6 @@ returns c =
       threads = ap (λ (x : Queue). x.threads) c.new-queue.ensures.made;
       levels = λ p lp. r.1 p;
       holds = c.new-queue.ensures.holds c.in_ok-table.table r.0;
+      keys = c.in_ok-rows.ensures.keys;
+      parked = c.in_ok-rows.ensures.parked;
     }

@@ -9,5 +9,7 @@ returns c =
       owners = c.set_base.ensures.changed i;
       queue = c.self.inside.queue;
       table = c.self.inside.table;
+      keys = c.self.inside.rows.keys;
+      parked = c.self.inside.rows.parked;
     })
     ∙ ap (λ (x : Chained). record x { owners = with_base c.args.t c.args.prio x.owners }) c.self.view_is

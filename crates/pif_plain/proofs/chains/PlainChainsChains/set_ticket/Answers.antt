@@ -14,5 +14,5 @@ pub returns : goal.returns
 returns c = record {
   changed = c.set_ticket.ensures.changed
       ∙ ap (λ (x : Chained). with_ticket c.args.t c.args.ticket x.owners) c.self.view_is;
-  kept = kept_chains _ _ _ _ _ c.self.view_is c.self.invariant;
+  kept = kept_chains _ _ _ _ c.self.inside.rows _ c.self.view_is c.self.invariant.holds;
 }

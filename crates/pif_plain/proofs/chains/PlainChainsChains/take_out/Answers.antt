@@ -15,4 +15,6 @@ returns c = record {
   place = c.take_out.ensures.place
       ∙ ap (λ (x : Chained). record x.queue { mask = c.take_out.new.self.mask }) c.self.view_is;
   holds = c.take_out.ensures.holds;
+  keys = ap (λ (x : Chained). x.keys) c.self.view_is;
+  parked = ap (λ (x : Chained). x.parked) c.self.view_is;
 }

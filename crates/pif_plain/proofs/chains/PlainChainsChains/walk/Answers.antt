@@ -10,7 +10,7 @@ pub walk-requires : goal.walk-requires
 walk-requires c = record {
   admitted = subst (λ (x : Chained). 1 ≤ base_of x.owners c.args.start) (sym c.self.view_is) c.requires.admitted;
   repaired = subst (λ (x : Chained). IsRepairedBut c.args.start x.owners) (sym c.self.view_is) c.requires.repaired;
-  holds = c.self.invariant;
+  holds = c.self.invariant.holds;
   ready = subst (λ (x : Chained). (u : ℕ) → IsQueued x.queue x.table u → 1 ≤ base_of x.owners u) (sym c.self.view_is) c.requires.ready;
   running = subst (λ (x : Chained). (u : ℕ) → IsQueued x.queue x.table u → waits_on x.owners u ≡ None) (sym c.self.view_is) c.requires.running;
   level = subst (λ (x : Chained). (u p : ℕ) → IsLevel p → has u (level_of x.queue x.table p) ≡ true → p ≡ local_of x.owners u) (sym c.self.view_is) c.requires.level;
@@ -23,4 +23,6 @@ returns c = record {
       ∙ ap (λ (x : Chained). level_after_walk x.owners x.queue x.table p) c.self.view_is;
   place = c.walk.ensures.place ∙ ap (λ (x : Chained). record x.queue { mask = c.walk.new.queue.mask }) c.self.view_is;
   holds = c.walk.ensures.holds;
+  keys = ap (λ (x : Chained). x.keys) c.self.view_is;
+  parked = ap (λ (x : Chained). x.parked) c.self.view_is;
 }
