@@ -49,6 +49,3 @@ mod uses;
 mod wait;
 
 pub use step::advance;
-
-#[cfg(test)]
-mod tests;

@@ -92,6 +92,3 @@ pub use deadlines::told;
 pub use parts::{Parts, advance};
 pub use progress::Progress;
 pub use state::{INCONSISTENT, State, UNUSABLE};
-
-#[cfg(test)]
-mod tests;
