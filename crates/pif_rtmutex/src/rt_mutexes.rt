@@ -153,7 +153,7 @@ impl RtMutexes {
 
     /// An owner state of `owner`, which has a row, on which nobody is queued, under a key that no other state has.
     /// There have to be fewer states than threads. It takes no memory, and all threads and all other states stay as
-    /// they were.
+    /// they were, each state in its row.
     pub fn make(&mut self, table: &NodeTable, owner: Tid) -> Key
         requires holds { Holds self.old table.now }
         requires owner { owner < length (owners_in self.old table.now).seats }
@@ -162,6 +162,7 @@ impl RtMutexes {
         ensures made { owners_in self.new table.now ≡ with_owner result owner (owners_in self.old table.now) }
         ensures count { count (owners_in self.new table.now) ≡ count (owners_in self.old table.now) + 1 }
         ensures free { HasNoWaiter (owners_in self.new table.now) result }
+        ensures rows { (k r : ℕ) → get self.old.places k ≡ Some r → get self.new.places k ≡ Some r }
         ensures place { self.new
             ≡ record self.old { free = self.new.free; owners = self.new.owners; places = self.new.places } }
         ensures holds { Holds self.new table.now }
@@ -338,13 +339,15 @@ impl RtMutexes {
         next
     }
 
-    /// Ends a state on which nobody is queued. All threads and all other states stay as they were.
+    /// Ends a state on which nobody is queued. All threads and all other states stay as they were, each state in its
+    /// row.
     pub fn end(&mut self, table: &NodeTable, key: Key)
         requires holds { Holds self.old table.now }
         requires state { IsSome (owner_at (owners_in self.old table.now) key) }
         requires free { HasNoWaiter (owners_in self.old table.now) key }
         ensures ended { owners_in self.new table.now ≡ without_state key (owners_in self.old table.now) }
         ensures count { count (owners_in self.new table.now) + 1 ≡ count (owners_in self.old table.now) }
+        ensures rows { (k r : ℕ) → k ≢ key → get self.old.places k ≡ Some r → get self.new.places k ≡ Some r }
         ensures place { self.new
             ≡ record self.old { free = self.new.free; owners = self.new.owners; places = self.new.places } }
         ensures holds { Holds self.new table.now }

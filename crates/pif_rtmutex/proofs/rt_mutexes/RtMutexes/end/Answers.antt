@@ -4,6 +4,7 @@ use Rattle.std.specs.Ordering.{nat_cmp}
 use Rattle.slab.specs.Slab.{Slab}
 use Rattle.slab.specs.Slab.{get as value_at}
 use Rattle.pif_owners.specs.OwnerMaps.{owners_of}
+use Rattle.pif_owners.proofs.MapLemmas.{get-remove_other}
 use Rattle.pif_owners.proofs.OwnersLemmas.{sound-ended}
 use Rattle.pif_rtmutex.specs.Fields.{State, slab_with, states_from}
 use Rattle.pif_rtmutex.specs.States.{States, owners_in}
@@ -127,6 +128,7 @@ returns c =
             c.remove-state.ensures.len,
             ap (λ (m : States). len m.owners) c.self.view_is,
           );
+      rows = λ i q ne e. ap (λ (n : States). get n.places i) now ∙ get-remove_other m.places k i ne ∙ e;
       place = now ∙ sym (ap (λ (n : States). record m { free = n.free; owners = n.owners; places = n.places }) now);
       holds =
           subst (λ (n : States). Holds n t) (sym now)

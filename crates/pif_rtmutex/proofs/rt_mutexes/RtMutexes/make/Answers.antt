@@ -7,6 +7,7 @@ use Rattle.pif_nodes.specs.Lists.{has}
 use Rattle.pif_nodes.proofs.ListLemmas.{has-right, has-head}
 use Rattle.pif_owners.specs.Owners.{waits_on}
 use Rattle.pif_owners.specs.OwnerMaps.{owners_of}
+use Rattle.pif_owners.proofs.MapLemmas.{get-insert_other}
 use Rattle.pif_owners.proofs.OwnersLemmas.{sound-made}
 use Rattle.pif_rtmutex.specs.Fields.{State, slab_with, states_from}
 use Rattle.pif_rtmutex.specs.States.{States, IsThread, wait_of, owners_in}
@@ -146,6 +147,8 @@ returns c =
           ∙ ap (λ (n : States). waits_on (owners_in n t) u) (sym now) ∙ e in
           let some : IsSome {T = ℕ} None = subst IsSome fresh (waits-state m t u k c.requires.holds.waiters waits) in
           false≢true some;
+      rows = λ i q e. ap (λ (n : States). get n.places i) now ∙ get-insert_other m.places k r i
+          (λ same. false≢true (subst IsSome (ap (get m.owners) same ∙ fresh) (c.requires.holds.waiters.stated i q e))) ∙ e;
       place = now ∙ sym (ap (λ (n : States). record m { free = n.free; owners = n.owners; places = n.places }) now);
       holds =
           subst (λ (n : States). Holds n t) (sym now)
