@@ -4,7 +4,9 @@ pub mod EntryChanges
 pub mod EntryFrames
 pub mod Passing
 pub mod Differing
+pub mod Places
 pub mod ParkedLemmas
+pub mod Numbering
 pub mod ParkedChanges
 pub mod ParkedCalls
 pub mod ParkedFrames

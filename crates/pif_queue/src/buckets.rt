@@ -1,9 +1,11 @@
 ghost use Rattle.std.specs.Prelude.{◌≡◌, ◌≢◌, ℕ, ◌+◌, ◌<◌, ◌≤◌, ◌^◌, ◌⊎◌, ◌==◌, ◌↔◌, if◌then◌else◌, length, IfOk, IfSome, IfNone, IsSome, IsTrue, Some, None, option_map};
+ghost use Rattle.std.specs.List.{slice_get};
 ghost use Rattle.pif_nodes.specs.declared.keys.Key.{Key as RankSeen};
 ghost use Rattle.pif_nodes.specs.Table.{Table, holder};
 ghost use Rattle.pif_queue.specs.Frames.{KeepsOthers};
 ghost use Rattle.pif_queue.specs.Entries.{Found, IsRow, no_entries, found_in};
-ghost use Rattle.pif_queue.specs.Parked.{Parked, no_parked, IsThread, IsCond, node_for, parked_at, with_prio, with_ticket, IsTopParked, HasNoParked, HasTarget, KeepsOrder, KeepsNodes};
+ghost use Rattle.pif_queue.specs.Parked.{Parked, no_parked, IsThread, IsCond, node_for, parked_at, parked_on, with_prio, with_ticket, IsTopParked, HasNoParked, HasTarget, KeepsOrder, KeepsNodes};
+ghost use Rattle.pif_queue.specs.Numbered.{HaveTickets, AreNumbered};
 ghost use Rattle.pif_queue.specs.Buckets.{HoldsBuckets, HasRoom};
 
 use crate::entries::Entries;
@@ -195,6 +197,23 @@ impl Buckets {
         self.parked.set_ticket(table, t, ticket);
     }
 
+    /// Numbers the tickets of all parked threads, of which no two may have the same, anew from 1, in their order. Answers
+    /// the ticket behind the last. All else stays as it was.
+    pub fn renumber(&mut self, table: &mut NodeTable) -> u64
+        requires holds { HoldsBuckets self.old table.old }
+        requires tickets { HaveTickets (parked_at self.old.parked table.old) }
+        ensures numbered { AreNumbered (parked_at self.old.parked table.old) (parked_at self.new.parked table.new) result }
+        ensures few { result ≤ self.old.parked.threads + 1 }
+        ensures words { (w : ℕ) → found_in self.new.entries table.new w ≡ found_in self.old.entries table.old w }
+        ensures place { self.new ≡ self.old }
+        ensures outside { KeepsOthers self.old.parked.first_list self.old.parked.conds self.old.parked.first_node self.old.parked.threads table.old table.new }
+        ensures nodes { (u : ℕ) → IsThread self.old.parked u
+            → holder table.new (node_for self.old.parked u) ≡ holder table.old (node_for self.old.parked u) }
+        ensures holds { HoldsBuckets self.new table.new }
+    {
+        self.parked.renumber(table)
+    }
+
     /// The thread that is taken first of those that are parked on a variable: that of the highest priority as last
     /// handed in, and of equal ones that of the lowest ticket. `None` if nobody is parked there.
     pub fn top_parked(&self, table: &NodeTable, c: CondId) -> Option<Tid>
@@ -203,6 +222,16 @@ impl Buckets {
         ensures top { IfSome result (λ t. IsTopParked self.now.parked table.now c t) }
     {
         self.parked.top_parked(table, c)
+    }
+
+    /// The thread that is parked on a variable and before which `place` others are taken. `None` if so few are parked
+    /// there. It walks the list of the variable from its head.
+    pub fn nth_parked(&self, table: &NodeTable, c: CondId, place: u32) -> Option<Tid>
+        requires { HoldsBuckets self.now table.now }
+        ensures on { IsCond self.now.parked c → result ≡ slice_get (parked_on self.now.parked table.now c) place }
+        ensures past { self.now.parked.conds < c → result ≡ None }
+    {
+        self.parked.nth_parked(table, c, place)
     }
 
     /// Whether each thread that is parked on a variable has this target (futex(2), FUTEX_CMP_REQUEUE_PI). It looks at

@@ -1,11 +1,13 @@
-ghost use Rattle.std.specs.Prelude.{◌≡◌, ℕ, ◌+◌, ◌<◌, ◌≤◌, ◌^◌, ◌==◌, ◌↔◌, true, false, if◌then◌else◌, IfOk, IfSome, IfNone, IsSome, IsTrue, Some, None, option_map};
+ghost use Rattle.std.specs.Prelude.{◌≡◌, ℕ, ◌+◌, ◌<◌, ◌≤◌, ◌^◌, ◌==◌, ◌↔◌, true, false, if◌then◌else◌, length, IfOk, IfSome, IfNone, IsSome, IsTrue, Some, None, option_map};
+ghost use Rattle.std.specs.List.{slice_get};
 ghost use Rattle.pif_nodes.specs.declared.keys.Key.{Key as RankSeen};
 ghost use Rattle.pif_nodes.specs.Lists.{has, first_of, without};
 ghost use Rattle.pif_nodes.specs.Table.{Table, list_at, key_at, holder};
 ghost use Rattle.pif_plist.specs.Order.{comes_before};
 ghost use Rattle.pif_queue.specs.Differences.{step_between, differences, around, across};
 ghost use Rattle.pif_queue.specs.Frames.{KeepsOthers};
-ghost use Rattle.pif_queue.specs.Parked.{Parked, no_parked, place_at, differing_at, IsThread, IsCond, list_for, node_for, thread_for, target_of, parked_at, with_place, with_differing, with_prio, with_ticket, StandParked, IsCounted, HoldsParked, HasRoomForParked, IsTopParked, HasNoParked, HasTarget, KeepsOrder, KeepsNodes, IsOwnNode};
+ghost use Rattle.pif_queue.specs.Parked.{Parked, no_parked, place_at, differing_at, IsThread, IsCond, list_for, node_for, thread_for, target_of, parked_at, parked_on, with_place, with_differing, with_prio, with_ticket, StandParked, IsCounted, HoldsParked, HasRoomForParked, IsTopParked, HasNoParked, HasTarget, KeepsOrder, KeepsNodes, IsOwnNode};
+ghost use Rattle.pif_queue.specs.Numbered.{ticket_by, HaveTickets, AreNumbered, IsFirstFrom, is_sooner};
 
 use pif_nodes::{List, Node, NodeTable};
 use pif_plist::PList;
@@ -196,6 +198,56 @@ impl ParkedLists {
         }
     }
 
+    /// Numbers the tickets of all parked threads anew from 1, in their order. Answers the ticket behind the last. All else
+    /// stays as it was.
+    pub fn renumber(&mut self, table: &mut NodeTable) -> u64
+        requires holds { HoldsParked self.old table.old }
+        requires tickets { HaveTickets (parked_at self.old table.old) }
+        ensures numbered { AreNumbered (parked_at self.old table.old) (parked_at self.new table.new) result }
+        ensures few { result ≤ self.old.threads + 1 }
+        ensures place { self.new ≡ self.old }
+        ensures outside { KeepsOthers self.old.first_list self.old.conds self.old.first_node self.old.threads table.old table.new }
+        ensures nodes { (u : ℕ) → IsThread self.old u → holder table.new (node_for self.old u) ≡ holder table.old (node_for self.old u) }
+        ensures holds { HoldsParked self.new table.new }
+    {
+        // For the prover: there are at most 1,024 threads.
+        let _threads = self.threads;
+        let mut ticket = 1;
+        while let Some(t) = self.first_from(table, ticket) {
+            self.set_ticket(table, t, ticket);
+            ticket += 1;
+        }
+        ticket
+    }
+
+    /// The parked thread of the lowest ticket from `least` on, which is at least 1. `None` if none has such a ticket.
+    fn first_from(&self, table: &NodeTable, least: u64) -> Option<Tid>
+        requires holds { HoldsParked self.now table.now }
+        requires least { 1 ≤ least }
+        ensures { IsFirstFrom (ticket_by (parked_at self.now table.now)) least (self.now.threads + 1) result }
+    {
+        let mut first = None;
+        for number in 1..self.threads + 1 {
+            first = self.sooner(table, least, first, Tid::new(number).unwrap());
+        }
+        first
+    }
+
+    /// The thread `t`, if it is parked with a ticket from `least` on, and with a lower one than the first so far; else
+    /// that one.
+    fn sooner(&self, table: &NodeTable, least: u64, first: Option<Tid>, t: Tid) -> Option<Tid>
+        requires holds { HoldsParked self.now table.now }
+        requires least { 1 ≤ least }
+        ensures { result ≡ (if is_sooner (ticket_by (parked_at self.now table.now)) least first t then Some t else first) }
+    {
+        let ticket = self.ticket(table, t).unwrap_or(0);
+        match first {
+            _ if ticket < least => first,
+            Some(u) if ticket >= self.ticket(table, u).unwrap_or(0) => first,
+            _ => Some(t),
+        }
+    }
+
     /// The thread that is taken first of those that are parked on a variable: that of the highest priority as last
     /// handed in, and of equal ones that of the lowest ticket. `None` if nobody is parked there.
     pub fn top_parked(&self, table: &NodeTable, c: CondId) -> Option<Tid>
@@ -204,6 +256,20 @@ impl ParkedLists {
         ensures top { IfSome result (λ t. IsTopParked self.now table.now c t) }
     {
         let node = self.first(table, c)?;
+        self.thread(node)
+    }
+
+    /// The thread that is parked on a variable and before which `place` others are taken. `None` if so few are parked
+    /// there. It walks the list of the variable from its head.
+    pub fn nth_parked(&self, table: &NodeTable, c: CondId, place: u32) -> Option<Tid>
+        requires { HoldsParked self.now table.now }
+        ensures on { IsCond self.now c → result ≡ slice_get (parked_on self.now table.now c) place }
+        ensures past { self.now.conds < c → result ≡ None }
+    {
+        if c.get() > self.conds {
+            return None;
+        }
+        let node = nth(table, self.list(c), place)?;
         self.thread(node)
     }
 
@@ -376,4 +442,16 @@ impl ParkedLists {
     {
         Tid::new(node.get() - self.first_node + 1)
     }
+}
+
+/// The node of a list before which `place` others stand. `None` if it has so few.
+fn nth(table: &NodeTable, list: PList, place: u32) -> Option<Node>
+    requires { list < length table.now.lists }
+    ensures { result ≡ slice_get (list_at table.now list) place }
+{
+    let mut node = list.top(table)?;
+    for _ in 0..place {
+        node = table.next(node)?;
+    }
+    Some(node)
 }
