@@ -1,0 +1,14 @@
+pub mod ParkingOrder
+pub mod ParkingLemmas
+pub mod ParkingKeys
+pub mod ParkingRows
+pub mod ParkingLists
+pub mod Keys
+pub mod Leaving
+pub mod Fits
+pub mod Standing
+pub mod Words
+pub mod Parks
+pub mod First
+pub mod ParkSteps
+pub mod Walked

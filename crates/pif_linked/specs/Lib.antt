@@ -1,0 +1,2 @@
+pub mod Parkings
+pub mod Linked

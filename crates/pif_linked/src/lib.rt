@@ -1,0 +1,6 @@
+//! The linked kernel.
+#![tactic(auto)]
+
+mod linked;
+
+pub use linked::{LinkedChains, LinkedKernel};
