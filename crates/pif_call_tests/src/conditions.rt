@@ -1,6 +1,7 @@
 //! Waits, signals and broadcasts.
 use super::driver::{Ask, Reply, Wish, new_parts, play};
-use pif_kernel::{Chains, LinkedChains, PiKernel};
+use pif_kernel::{Chains, PiKernel};
+use pif_linked::LinkedChains;
 use pif_mutex::{Parts, Progress};
 use pif_plain::PlainChains;
 use pif_types::{CondId, Kind, Limits, MutexId, Request, Tid};

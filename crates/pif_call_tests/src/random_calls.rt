@@ -2,7 +2,8 @@
 //! time that goes on. Each event has the same answer on both, and leaves the same words, statuses, priorities and
 //! orders.
 use super::driver::{Ask, Reply, Wish, answer, new_parts};
-use pif_kernel::{KernelOn, LinkedChains};
+use pif_kernel::KernelOn;
+use pif_linked::LinkedChains;
 use pif_mutex::Parts;
 use pif_plain::PlainChains;
 use pif_types::{Kind, Limits};

@@ -11,7 +11,7 @@ ghost use Rattle.pif_model.specs.Lines.{table_refusal, accepted_outcome, event_o
 ghost use Rattle.pif_model.specs.Calls.{add_thread_answer, add_thread_after, add_mutex_answer, add_mutex_after, add_cond_answer, add_cond_after, effective_answer, word_answer, health_answer, cond_word_answer, pick_answer, threads_answer, waiting_answer};
 ghost use Rattle.pif_mutex.specs.Outcomes.{outcome_of};
 
-use pif_kernel::LinkedKernel;
+use pif_linked::LinkedKernel;
 use pif_model::{Entry, Event, Line, Seen, Status};
 use pif_mutex::{Parts, Progress};
 use pif_types::{

@@ -38,5 +38,3 @@ pub mod WaitingOrder
 pub mod TableMoved
 pub mod QueueLemmas
 pub mod EmptyTables
-pub mod TogetherLemmas
-pub mod RowLemmas

@@ -11,6 +11,4 @@ pub mod Orders
 pub mod Chained
 pub mod Fields
 pub mod Opened
-pub mod Rows
 pub mod Found
-pub mod Together

@@ -71,9 +71,8 @@
 //! first of the ready threads.
 //!
 //! `PiKernel` is the trait that a kernel meets, and `KernelOn` meets it over any `Chains`: owner states, parked threads
-//! and a run queue. `LinkedKernel` is the one over lists linked by index in one table of nodes, and `pif_plain` has
-//! another one. Both have the keys of the mutexes and the parked threads in plain rows, those of `rows`. What each is
-//! seen as is in `specs/Inside.antt`, and what follows of the calls from that in `proofs/`.
+//! and a run queue. `pif_linked` has the one over lists linked by index in one table of nodes, and `pif_plain` another
+//! one. What each is seen as is in `specs/Inside.antt`, and what follows of the calls from that in `proofs/`.
 //!
 //! `KernelOn` makes a call of its steps, which stand in files over the same parts: `refusals` has the tests of the
 //! calls, `threads` adds and stops a thread and gives it another priority, `queueing` queues a thread and hands a mutex
@@ -81,16 +80,14 @@
 //! `leaving` takes a thread that ends or expires off what it waits for, `dying` passes its mutexes on, and `tickets`
 //! numbers the waiters in their order. `orders` reads who stands at which place. `parts` keeps what they touch.
 //!
-//! In `rows` a parked thread has no ticket of its own: all that a ticket says of it is its place among the parked, which
-//! stand in one list in that order, and once it is queued it gets a new one. So only tickets of waiters are ever numbered
-//! anew. Its effective priority is read where a thread is taken; set_prio and boosts change nothing in the list.
+//! A kernel's tickets are those of waiters. What chains say of parked threads is the order in which they were parked;
+//! how they keep it is their own affair.
 #![tactic(auto)]
 
 mod chains;
 mod dying;
 mod kernel_on;
 mod leaving;
-mod linked;
 mod orders;
 mod parking;
 mod parts;
@@ -98,14 +95,11 @@ mod pi_kernel;
 mod queueing;
 mod refusals;
 mod requeueing;
-mod rows;
 mod threads;
 mod tickets;
 
 pub use chains::Chains;
 pub use kernel_on::KernelOn;
-pub use linked::{LinkedChains, LinkedKernel};
 pub use pi_kernel::PiKernel;
 pub use pif_model::{Status, Took, Woken};
 pub use pif_owners::Key;
-pub use rows::{Priorities, Rows};

@@ -1,6 +1,6 @@
 -- The waiter right behind another, by a look at one thread after another.
-use Rattle.std.proofs.Common.{◌≡◌, ◌≢◌, ◌⊎◌, ℕ, ◌<◌, ◌≤◌, Bool, true, false, eqb, cond, if◌then◌else◌, length, Option, Some, None, IsSome, IfSome, IfNone, ◌+◌, ◌↔◌, option_map, option_and_then, refl, sym, ◌∙◌, ap, subst, inl, inr, arith}
-use Rattle.std.proofs.lemmas.Bool.{false≢true, true≢false, cases_lt, eq-eqb}
+use Rattle.std.proofs.Common.{◌≡◌, ◌⊎◌, ℕ, ◌<◌, ◌≤◌, Bool, true, false, if◌then◌else◌, length, Option, Some, None, IsSome, IfSome, IfNone, ◌+◌, ◌↔◌, option_map, option_and_then, refl, sym, ◌∙◌, ap, subst, inl, inr, arith}
+use Rattle.std.proofs.lemmas.Bool.{false≢true, true≢false, cases_lt}
 use Rattle.std.proofs.lemmas.Bool.Decides.{nat_tests}
 use Rattle.std.proofs.lemmas.List.{get_or_past}
 use Rattle.pif_nodes.specs.declared.keys.Key.{Key}

@@ -1,5 +1,5 @@
 -- A chain that grows thread by thread over owner states in one table: what a new state and a wait leave to a walk.
-use Rattle.std.proofs.Common.{◌≡◌, ◌≢◌, ◌⊎◌, ℕ, ◌+◌, ◌≤◌, true, ◌==◌, [], length, replicate, Option, Some, None, refl, sym, ap, ◌∙◌, subst, arith}
+use Rattle.std.proofs.Common.{◌≡◌, ℕ, true, ◌==◌, [], length, replicate, Option, Some, None, refl, sym, ap, ◌∙◌, subst}
 use Rattle.std.specs.Prelude.{max, option_and_then, unwrap_or}
 use Rattle.std.proofs.lemmas.Bool.{true≢false}
 use Rattle.pif_nodes.specs.Lists.{has}
@@ -10,15 +10,15 @@ use Rattle.pif_owners.proofs.OwnersLemmas.{count-no_owners, owner_at-with_owner_
 use Rattle.pif_rtmutex.specs.States.{States, no_states, owners_in}
 use Rattle.pif_rtmutex.specs.Holds.{Holds as HoldsStates, HasRoom as HasRoomForStates}
 use Rattle.pif_rtmutex.specs.Frames.{SameOutside as SameOutsideStates}
-use Rattle.pif_boost.specs.Boosts.{base_of, local_of, greatest_waiting, IsRepairedBut}
+use Rattle.pif_boost.specs.Boosts.{base_of, local_of, greatest_waiting}
 use Rattle.pif_boost.specs.Settled.{IsSettled}
 use Rattle.pif_boost.specs.Done.{IsDone}
 use Rattle.pif_boost.proofs.FrameLemmas.{outside-none}
 use Rattle.pif_model.specs.Graph.{greatest_where}
-use Rattle.pif_kernel.specs.Together.{StandTogether}
-use Rattle.pif_kernel.proofs.TogetherLemmas.{same_place, same_place_made, together_then, together_walked, together_first, levels_first, level_there}
+use Rattle.pif_plain.specs.Together.{StandTogether}
+use Rattle.pif_plain.proofs.TogetherLemmas.{same_place, same_place_made, together_then, together_walked, together_first, levels_first, level_there}
 use Rattle.pif_plain.specs.WalkExamples.{admitted}
-use Rattle.pif_plain.specs.ChainExamples.{IsIdle, IsAtRest, IsChain}
+use Rattle.pif_plain.specs.ChainExamples.{IsAtRest, IsChain}
 use Rattle.pif_plain.proofs.WalkTestLemmas.{idle-new, idle-admitted, idle-repaired, walked}
 
 -- a new table has room for 1,001 threads

@@ -3,7 +3,7 @@ use Rattle.std.proofs.Common.{◌≡◌, ap}
 use Rattle.pif_nodes.specs.Table.{Table}
 use Rattle.pif_runq.specs.Levels.{Queue, Holds, level_of}
 use Rattle.pif_owners.specs.Owners.{Owners}
-use Rattle.pif_kernel.specs.Rows.{PlainRows}
+use Rattle.pif_plain.specs.Rows.{PlainRows}
 use Rattle.pif_kernel.specs.Chained.{Chained, KeepsLevels}
 
 pub kept_chains : (v w : Owners) (q : Queue) (t : Table) (r : PlainRows) (was : Chained)

@@ -7,3 +7,5 @@ pub mod WalkTestLemmas
 pub mod KeptChains
 pub mod HopLemmas
 pub mod LinkedStateLemmas
+pub mod TogetherLemmas
+pub mod RowLemmas

@@ -1,5 +1,5 @@
 -- Owner states of three threads that were just made stand in a table that was just made.
-use Rattle.std.proofs.Common.{◌≡◌, ℕ, ◌≤◌, [], length, replicate, None, sym, ap, ◌∙◌, subst, arith}
+use Rattle.std.proofs.Common.{◌≡◌, ℕ, [], replicate, None, sym, ap, subst, arith}
 use Rattle.pif_nodes.specs.Table.{Table, IsApart, no_key, holder}
 use Rattle.pif_rtmutex.specs.States.{States, top_node}
 use Rattle.pif_rtmutex.specs.Holds.{HasRoom}

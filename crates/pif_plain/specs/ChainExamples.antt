@@ -8,7 +8,7 @@ use Rattle.pif_rtmutex.specs.States.{States, no_states, owners_in}
 use Rattle.pif_rtmutex.specs.Holds.{Holds, HasRoom}
 use Rattle.pif_boost.specs.Boosts.{base_of, local_of}
 use Rattle.pif_boost.specs.Settled.{IsSettled}
-use Rattle.pif_kernel.specs.Together.{StandTogether}
+use Rattle.pif_plain.specs.Together.{StandTogether}
 
 -- nobody waits, and each thread has its base priority
 pub record IsIdle (n : ℕ) (v : Owners) : Type 0 where

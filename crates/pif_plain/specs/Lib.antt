@@ -2,3 +2,5 @@ pub mod Standing
 pub mod StateFields
 pub mod WalkExamples
 pub mod ChainExamples
+pub mod Rows
+pub mod Together

@@ -2,8 +2,9 @@ ghost use Rattle.std.specs.Prelude.{◌≡◌};
 
 use crate::chain_walk::walk;
 use crate::cycles::would_close;
+use crate::plain_rows::{Priorities, Rows};
 use crate::rt_mutexes::RtMutexes;
-use pif_kernel::{Chains, KernelOn, Priorities, Rows};
+use pif_kernel::{Chains, KernelOn};
 use pif_nodes::NodeTable;
 use pif_owners::Key;
 use pif_runq::RunQueue;

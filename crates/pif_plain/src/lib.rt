@@ -2,12 +2,14 @@
 //! cycle test of its own. So it is the kernel to compare another one with.
 //!
 //! `rt_mutexes` has the owner states and the rows of the threads, `chain_walk` the walk over them and `cycles` the test
-//! whether a wait closes a cycle. `chains` is these together with the run queue, as `KernelOn` of `pif_kernel` takes them.
+//! whether a wait closes a cycle. `plain_rows` has the keys of the mutexes, and the parked threads in one list in the order
+//! in which they were parked: there a parked thread has no ticket, and its priority is read where one is taken. `chains` is these together with the run queue, as `KernelOn` of `pif_kernel` takes them.
 #![tactic(auto)]
 
 mod chain_walk;
 mod chains;
 mod cycles;
+mod plain_rows;
 mod propagate;
 mod rows;
 mod rt_mutexes;

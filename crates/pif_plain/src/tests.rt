@@ -12,7 +12,8 @@ ghost use Rattle.pif_model.specs.RobustList.{robust_at};
 ghost use Rattle.pif_kernel.specs.Inside.{kernel_of};
 
 use crate::{PlainChains, PlainKernel};
-use pif_kernel::{Chains, KernelOn, LinkedChains, PiKernel, Status, Took, Woken};
+use pif_kernel::{Chains, KernelOn, PiKernel, Status, Took, Woken};
+use pif_linked::LinkedChains;
 use pif_robust::RobustLists;
 use pif_types::{CondId, Errno, Limits, MutexId, Prio, Tid};
 use pif_word::{Cell, Words};

@@ -2,7 +2,7 @@
 //! both, and leaves the same words, statuses, priorities and pick.
 use super::{Ask, Reply, Scene, end};
 use crate::PlainChains;
-use pif_kernel::LinkedChains;
+use pif_linked::LinkedChains;
 use rand_core::{Rng, SeedableRng};
 use rand_xoshiro::SplitMix64;
 use std::alloc::Global;

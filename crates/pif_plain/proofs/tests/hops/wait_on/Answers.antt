@@ -1,7 +1,7 @@
 use Rattle.std.proofs.Common.{◌∙◌, sym, arith}
 use Rattle.pif_rtmutex.specs.States.{owners_in}
 use Rattle.pif_rtmutex.proofs.ViewLemmas.{length-seats, waits_on-owners_in}
-use Rattle.pif_kernel.proofs.TogetherLemmas.{idle}
+use Rattle.pif_plain.proofs.TogetherLemmas.{idle}
 use Rattle.pif_plain.proofs.WalkTestLemmas.{free_by_test, off_by_test, enqueued, still_ready, still_running, still_level}
 use Rattle.pif_plain.proofs.HopLemmas.{settled_then, off_then, chain_walked}
 use Rattle.pif_plain.proofs.tests.hops.wait_on.Goals as goal
