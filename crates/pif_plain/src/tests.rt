@@ -3,6 +3,7 @@ mod expiries;
 mod hops;
 mod linked_states;
 mod owner_states;
+mod parked;
 mod random_calls;
 mod walks;
 
