@@ -1,6 +1,8 @@
 ghost use Rattle.std.specs.Prelude.{◌≡◌, ◌≤◌, ℕ, length, None};
 ghost use Rattle.pif_queue.specs.Buckets.{HoldsBuckets};
 ghost use Rattle.pif_queue.specs.Entries.{found_in};
+ghost use Rattle.pif_queue.specs.Parked.{parked_at};
+ghost use Rattle.pif_queue.specs.Numbered.{HaveTickets};
 
 use pif_nodes::{Node, NodeTable};
 use pif_owners::Key;
@@ -201,5 +203,98 @@ fn targets_of_parked_threads_are_compared(rt: HostRuntime) -> Result<(), Fail> {
     let mut buckets = Buckets::new(rt.alloc(), 0, 3, 0, 3, 2)?;
     park_three(&rt, &mut buckets, &mut table);
     leave_one_by_one(&rt, &mut buckets, &mut table);
+    Ok(())
+}
+
+// The threads that are parked on variable 1, by place.
+fn by_place(buckets: &Buckets, table: &NodeTable) -> [Option<u32>; 4]
+    requires { HoldsBuckets buckets.now table.now }
+{
+    let first = buckets.nth_parked(table, cond(1), 0).map(|t| t.get());
+    let second = buckets.nth_parked(table, cond(1), 1).map(|t| t.get());
+    let third = buckets.nth_parked(table, cond(1), 2).map(|t| t.get());
+    let fourth = buckets.nth_parked(table, cond(1), 3).map(|t| t.get());
+    [first, second, third, fourth]
+}
+
+// Places follow the order in which threads are taken, and no variable but the first has any.
+fn places_follow_priorities(rt: &impl Abort, buckets: &mut Buckets, table: &mut NodeTable)
+    requires holds { HoldsBuckets buckets.old table.old }
+{
+    assert_eq!(rt; by_place(buckets, table), [Some(3), Some(1), Some(2), None]);
+    assert!(rt; rekey(buckets, table, 2, 15));
+    assert_eq!(rt; by_place(buckets, table), [Some(3), Some(2), Some(1), None]);
+    assert!(rt; unpark(buckets, table, 3));
+    assert_eq!(rt; by_place(buckets, table), [Some(2), Some(1), None, None]);
+    assert!(rt; buckets.nth_parked(table, cond(2), 0).is_none());
+    assert!(rt; buckets.nth_parked(table, cond(3), 0).is_none());
+}
+
+#[test]
+fn parked_threads_stand_by_place(rt: HostRuntime) -> Result<(), Fail> {
+    let mut table = NodeTable::new(rt.alloc(), 6, 66)?;
+    let mut buckets = Buckets::new(rt.alloc(), 0, 3, 0, 3, 2)?;
+    park_three(&rt, &mut buckets, &mut table);
+    places_follow_priorities(&rt, &mut buckets, &mut table);
+    Ok(())
+}
+
+// Parks t2 and then t1 with the last two tickets, if their nodes are free. Answers whether it did.
+fn park_with_last_tickets(buckets: &mut Buckets, table: &mut NodeTable) -> bool
+    requires holds { HoldsBuckets buckets.old table.old }
+    requires threads { buckets.old.parked.threads ≡ 3 }
+    requires conds { buckets.old.parked.conds ≡ 2 }
+    requires node { buckets.old.parked.first_node ≡ 0 }
+    requires nobody { (u : ℕ) → parked_at buckets.old.parked table.old u ≡ None }
+    ensures holds { HoldsBuckets buckets.new table.new }
+    ensures tickets { HaveTickets (parked_at buckets.new.parked table.new) }
+{
+    let parks = table.list_of(Node::new(0)).is_none() && table.list_of(Node::new(1)).is_none();
+    if parks {
+        buckets.park(
+            table,
+            thread(2),
+            cond(1),
+            mutex(1),
+            priority(10),
+            u64::MAX - 1,
+        );
+        buckets.park(table, thread(1), cond(1), mutex(1), priority(10), u64::MAX);
+    }
+    parks
+}
+
+// The tickets of t2 and t1 become 1 and 2, and both stay in their order.
+fn number_two(rt: &impl Abort, buckets: &mut Buckets, table: &mut NodeTable)
+    requires holds { HoldsBuckets buckets.old table.old }
+    requires tickets { HaveTickets (parked_at buckets.old.parked table.old) }
+    ensures holds { HoldsBuckets buckets.new table.new }
+{
+    assert_eq!(rt; by_place(buckets, table), [Some(2), Some(1), None, None]);
+    assert_eq!(rt; buckets.ticket(table, thread(1)), Some(u64::MAX));
+    assert_eq!(rt; buckets.renumber(table), 3);
+    assert_eq!(rt; by_place(buckets, table), [Some(2), Some(1), None, None]);
+}
+
+// Both have them, and nobody else has a ticket.
+fn number_last_two(rt: &impl Abort, buckets: &mut Buckets, table: &mut NodeTable)
+    requires holds { HoldsBuckets buckets.old table.old }
+    requires threads { buckets.old.parked.threads ≡ 3 }
+    requires conds { buckets.old.parked.conds ≡ 2 }
+    requires node { buckets.old.parked.first_node ≡ 0 }
+    requires nobody { (u : ℕ) → parked_at buckets.old.parked table.old u ≡ None }
+{
+    assert!(rt; park_with_last_tickets(buckets, table));
+    number_two(rt, buckets, table);
+    assert_eq!(rt; buckets.ticket(table, thread(2)), Some(1));
+    assert_eq!(rt; buckets.ticket(table, thread(1)), Some(2));
+    assert_eq!(rt; buckets.ticket(table, thread(3)), None);
+}
+
+#[test]
+fn parked_threads_are_numbered_anew(rt: HostRuntime) -> Result<(), Fail> {
+    let mut table = NodeTable::new(rt.alloc(), 6, 66)?;
+    let mut buckets = Buckets::new(rt.alloc(), 0, 3, 0, 3, 2)?;
+    number_last_two(&rt, &mut buckets, &mut table);
     Ok(())
 }

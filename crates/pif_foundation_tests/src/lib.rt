@@ -8,7 +8,7 @@
 //! | `nodes` | `pif_nodes`: lists and keys of the node table |
 //! | `sorted_lists` | `pif_plist`: the order of a list, and keys that change |
 //! | `run_queue` | `pif_runq`: who is picked |
-//! | `buckets` | `pif_queue`: words of one bucket, the order of parked threads and their targets |
+//! | `buckets` | `pif_queue`: words of one bucket, the order of parked threads, their targets and their tickets |
 //! | `robust_lists` | `pif_robust`: each write of a lock and an unlock, and the walk at an end |
 #![tactic(auto)]
 
