@@ -1,9 +1,8 @@
 use crate::looks::hue;
+use crate::pages::Page;
 use crate::plans::{Moment, Plan};
 use crate::rows::Row;
 use pif_types::{MutexId, Tid};
-use std::alloc::AllocError;
-use std::fmt::Write;
 
 /// Draws that a thread gave a mutex to another, from the bar of one at this height to that of the other.
 pub fn draw_hand_over(
@@ -12,10 +11,8 @@ pub fn draw_hand_over(
     to: (Tid, u32),
     moment: Moment,
     plan: &Plan,
-    out: &mut String,
-) -> Result<(), AllocError> {
-    let (hue, number, line) = (hue(mutex), mutex.get(), moment.line);
-    let (giver, taker) = (from.0.get(), to.0.get());
+    out: &mut Page,
+) {
     let x = plan.x(moment.column);
     let start = from.1.saturating_add(5);
     let end = if to.1 > from.1 {
@@ -23,106 +20,88 @@ pub fn draw_hand_over(
     } else {
         to.1.saturating_add(10)
     };
-    write!(out, "<g class=\"h{hue}\">")?;
-    write!(
-        out,
-        "<title>m{number} goes from t{giver} to t{taker}, line {line}</title>"
-    )?;
-    write!(out, "<path class=\"halo\" d=\"M{x} {start}V{end}\"/>")?;
-    draw_shaft("given", x, start, end, out)?;
-    write!(
-        out,
-        "<circle class=\"tail\" cx=\"{x}\" cy=\"{start}\" r=\"3\"/>"
-    )?;
-    out.push_str("</g>\n")
+    out.fill(
+        "<g class=\"h{}\"><title>m{} goes from t{} to t{}, line {}</title>",
+        &[
+            hue(mutex),
+            mutex.get(),
+            from.0.get(),
+            to.0.get(),
+            moment.line,
+        ],
+    );
+    out.fill("<path class=\"halo\" d=\"M{} {}V{}\"/>", &[x, start, end]);
+    draw_shaft("given", x, start, end, out);
+    out.fill(
+        "<circle class=\"tail\" cx=\"{}\" cy=\"{}\" r=\"3\"/></g>\n",
+        &[x, start],
+    );
 }
 
 /// Draws that the thread which acts by a command woke this one; nothing if it is the same, as behind a deadline.
-pub fn draw_waking(
-    row: &Row<'_>,
-    woken: Tid,
-    moment: Moment,
-    plan: &Plan,
-    out: &mut String,
-) -> Result<(), AllocError> {
-    match row.actor() {
-        Some(actor) if actor != woken => draw_wake(actor, woken, moment, plan, out),
-        _ => Ok(()),
+pub fn draw_waking(row: &Row<'_>, woken: Tid, moment: Moment, plan: &Plan, out: &mut Page) {
+    if let Some(actor) = row.actor() {
+        if actor.get() != woken.get() {
+            draw_wake(actor, woken, moment, plan, out);
+        }
     }
 }
 
 /// Draws that a thread woke another.
-fn draw_wake(
-    actor: Tid,
-    woken: Tid,
-    moment: Moment,
-    plan: &Plan,
-    out: &mut String,
-) -> Result<(), AllocError> {
+fn draw_wake(actor: Tid, woken: Tid, moment: Moment, plan: &Plan, out: &mut Page) {
     let x = plan.x(moment.column).saturating_add(7);
     let start = plan.band(actor).saturating_add(7);
     let end = plan.band(woken).saturating_add(7);
-    let (waker, sleeper) = (actor.get(), woken.get());
-    write!(
-        out,
-        "<g><title>t{waker} wakes t{sleeper}, line {}</title>",
-        moment.line
-    )?;
-    draw_shaft("woken", x, start, end, out)?;
-    out.push_str("</g>\n")
+    out.fill(
+        "<g><title>t{} wakes t{}, line {}</title>",
+        &[actor.get(), woken.get(), moment.line],
+    );
+    draw_shaft("woken", x, start, end, out);
+    out.words("</g>\n");
 }
 
 /// Draws an arrow upwards or downwards.
-fn draw_shaft(
-    class: &str,
-    x: u32,
-    start: u32,
-    end: u32,
-    out: &mut String,
-) -> Result<(), AllocError> {
+fn draw_shaft(class: &str, x: u32, start: u32, end: u32, out: &mut Page) {
     let back = if end > start {
         end.saturating_sub(6)
     } else {
         end.saturating_add(6)
     };
     let (left, right) = (x.saturating_sub(4), x.saturating_add(4));
-    write!(out, "<path class=\"{class}\" d=\"M{x} {start}V{back}\"/>")?;
-    write!(
-        out,
-        "<path class=\"{class}-head\" d=\"M{left} {back}H{right}L{x} {end}z\"/>"
-    )
+    out.words("<path class=\"");
+    out.words(class);
+    out.fill("\" d=\"M{} {}V{}\"/><path class=\"", &[x, start, back]);
+    out.words(class);
+    out.fill(
+        "-head\" d=\"M{} {}H{}L{} {}z\"/>",
+        &[left, back, right, x, end],
+    );
 }
 
 /// Draws which thread acts by a command; nothing if none does, or one that is never added.
-pub fn draw_actor(
-    row: &Row<'_>,
-    moment: Moment,
-    plan: &Plan,
-    out: &mut String,
-) -> Result<(), AllocError> {
-    match row.actor() {
-        Some(actor) if actor.get() <= plan.threads => draw_act(actor, row, moment, plan, out),
-        _ => Ok(()),
+pub fn draw_actor(row: &Row<'_>, moment: Moment, plan: &Plan, out: &mut Page) {
+    if let Some(actor) = row.actor() {
+        if actor.get() <= plan.threads {
+            draw_act(actor, row, moment, plan, out);
+        }
     }
 }
 
 /// Draws that this thread acts by a command.
-fn draw_act(
-    actor: Tid,
-    row: &Row<'_>,
-    moment: Moment,
-    plan: &Plan,
-    out: &mut String,
-) -> Result<(), AllocError> {
-    let x = plan.x(moment.column);
-    let y = plan.band(actor).saturating_add(7);
-    let (line, words, answer) = (row.line, row.words, row.answer);
-    write!(
-        out,
-        "<circle class=\"actor\" cx=\"{x}\" cy=\"{y}\" r=\"4\">"
-    )?;
-    writeln!(
-        out,
-        "<title>line {line}: {words} = {answer}</title></circle>"
-    )
+fn draw_act(actor: Tid, row: &Row<'_>, moment: Moment, plan: &Plan, out: &mut Page) {
+    out.fill(
+        "<circle class=\"actor\" cx=\"{}\" cy=\"{}\" r=\"4\">",
+        &[plan.x(moment.column), plan.band(actor).saturating_add(7)],
+    );
+    write_line(row, out);
+    out.words("</circle>\n");
+}
+
+/// Writes a command, its line and its answer, as they are shown on hover.
+pub fn write_line(row: &Row<'_>, out: &mut Page) {
+    out.fill("<title>line {}: ", &[row.line]);
+    out.words(row.words);
+    out.words(" = ");
+    out.words(row.answer);
+    out.words("</title>");
 }

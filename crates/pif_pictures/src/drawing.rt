@@ -1,16 +1,16 @@
-use crate::arrows::draw_actor;
+use crate::arrows::{draw_actor, write_line};
 use crate::bars::{Bar, close_bars, see_bars};
 use crate::heads::write_drawing;
 use crate::lanes::{Lane, close_lanes, see_lanes};
 use crate::looks::Look;
+use crate::pages::Page;
 use crate::plans::{Moment, Plan, plan_of};
-use crate::plays::Play;
+use crate::plays::{Watch, play};
 use crate::rows::{Place, Row};
 use crate::sheets::Sheet;
 use pif_core::Core;
 use pif_types::{MutexId, NoMemory, Tid};
 use std::alloc::{AllocError, Global};
-use std::fmt::Write;
 
 /// A drawing while it is made.
 #[derive(Drop)]
@@ -29,26 +29,11 @@ struct Drawing {
 /// A growth of memory was refused.
 pub fn drawing_of(alloc: Global, story: &[u8], places: &[Place]) -> Result<String, NoMemory> {
     let plan = plan_of(alloc, story, places)?;
-    let mut play = Play::new(alloc, story, places)?;
-    match finished(alloc, plan, story, places, &mut play) {
-        Ok(text) => Ok(text),
-        Err(_) => Err(NoMemory),
-    }
-}
-
-/// The drawing of a story by a plan; a core plays its commands.
-fn finished(
-    alloc: Global,
-    plan: Plan,
-    story: &[u8],
-    places: &[Place],
-    play: &mut Play,
-) -> Result<String, AllocError> {
-    let mut drawing = Drawing::new(alloc, plan)?;
-    drawing.play(story, places, play)?;
-    let mut text = String::new(alloc);
-    write_drawing(&drawing.plan, &drawing.sheet, &mut text)?;
-    Ok(text)
+    let Ok(mut drawing) = Drawing::new(alloc, plan) else {
+        return Err(NoMemory);
+    };
+    play(alloc, story, places, &mut drawing)?;
+    drawing.text(alloc)
 }
 
 impl Drawing {
@@ -64,22 +49,19 @@ impl Drawing {
         })
     }
 
-    /// Plays the commands of a story, and draws what happens.
-    fn play(&mut self, story: &[u8], places: &[Place], play: &mut Play) -> Result<(), AllocError> {
-        for place in places {
-            if let Some(row) = place.row(story) {
-                play.obey(&row);
-                self.now.line = row.line;
-                self.see(&row, play.core())?;
-                self.now.column = self.now.column.saturating_add(1);
-            }
-        }
-        self.close()
+    /// The drawing as it is written.
+    fn text(&self, alloc: Global) -> Result<String, NoMemory> {
+        let mut page = Page::new(alloc);
+        write_drawing(&self.plan, &self.sheet, &mut page);
+        page.text()
     }
+}
 
+impl Watch for Drawing {
     /// Draws what a command changed.
-    fn see(&mut self, row: &Row<'_>, core: &Core) -> Result<(), AllocError> {
-        draw_column(row, self.now, &self.plan, &mut self.sheet.columns)?;
+    fn see(&mut self, row: &Row<'_>, core: &Core) {
+        self.now.line = row.line;
+        draw_column(row, self.now, &self.plan, &mut self.sheet.columns);
         see_lanes(
             &mut self.lanes,
             row,
@@ -87,15 +69,16 @@ impl Drawing {
             self.now,
             &self.plan,
             &mut self.sheet,
-        )?;
-        see_bars(&mut self.bars, core, self.now, &self.plan, &mut self.sheet)?;
-        draw_actor(row, self.now, &self.plan, &mut self.sheet.arrows)
+        );
+        see_bars(&mut self.bars, core, self.now, &self.plan, &mut self.sheet);
+        draw_actor(row, self.now, &self.plan, &mut self.sheet.arrows);
+        self.now.column = self.now.column.saturating_add(1);
     }
 
     /// Draws what goes on at the end.
-    fn close(&mut self) -> Result<(), AllocError> {
-        close_lanes(&self.lanes, self.now, &self.plan, &mut self.sheet)?;
-        close_bars(&self.bars, self.now, &self.plan, &mut self.sheet)
+    fn end(&mut self, _core: &Core) {
+        close_lanes(&self.lanes, self.now, &self.plan, &mut self.sheet);
+        close_bars(&self.bars, self.now, &self.plan, &mut self.sheet);
     }
 }
 
@@ -122,29 +105,24 @@ fn bars_of(alloc: Global, mutexes: u32, now: Moment) -> Result<Vec<Bar>, AllocEr
 }
 
 /// Draws where a command stands, and writes it below.
-fn draw_column(
-    row: &Row<'_>,
-    now: Moment,
-    plan: &Plan,
-    out: &mut String,
-) -> Result<(), AllocError> {
-    let (top, axis) = (plan.top(), plan.axis());
-    let (line, words, answer) = (row.line, row.words, row.answer);
+fn draw_column(row: &Row<'_>, now: Moment, plan: &Plan, out: &mut Page) {
     let x = plan.x(now.column);
-    let head = top.saturating_sub(6);
-    let foot = axis.saturating_add(16);
-    write!(out, "<path class=\"grid\" d=\"M{x} {top}V{axis}v6\"/>")?;
-    write!(out, "<g><title>line {line}: {words} = {answer}</title>")?;
-    write!(
-        out,
-        "<text class=\"line\" x=\"{x}\" y=\"{head}\">{line}</text>"
-    )?;
-    write!(
-        out,
-        "<text class=\"words\" transform=\"translate({x} {foot}) rotate(50)\">"
-    )?;
-    writeln!(
-        out,
-        "{words}<tspan class=\"answer\"> = {answer}</tspan></text></g>"
-    )
+    let (top, axis) = (plan.top(), plan.axis());
+    out.fill(
+        "<path class=\"grid\" d=\"M{} {}V{}v6\"/><g>",
+        &[x, top, axis],
+    );
+    write_line(row, out);
+    out.fill(
+        "<text class=\"line\" x=\"{}\" y=\"{}\">{}</text>",
+        &[x, top.saturating_sub(6), row.line],
+    );
+    out.fill(
+        "<text class=\"words\" transform=\"translate({} {}) rotate(50)\">",
+        &[x, axis.saturating_add(16)],
+    );
+    out.words(row.words);
+    out.words("<tspan class=\"answer\"> = ");
+    out.words(row.answer);
+    out.words("</tspan></text></g>\n");
 }

@@ -1,10 +1,17 @@
 use crate::levels::{Level, level_of};
-use crate::plays::Play;
-use crate::rows::Place;
+use crate::owners::owner_of;
+use crate::pages::Page;
+use crate::plays::{Watch, play};
+use crate::rows::{Place, Row};
 use pif_core::{Core, Status};
 use pif_types::{CondId, MutexId, NoMemory, Tid};
-use std::alloc::{AllocError, Global};
-use std::fmt::Write;
+use std::alloc::Global;
+
+/// Who waits for whom behind the commands that were played.
+#[derive(Drop)]
+struct Graph {
+    page: Page,
+}
 
 /// Who waits for whom at the end of a story, as a graph.
 ///
@@ -12,120 +19,128 @@ use std::fmt::Write;
 ///
 /// A growth of memory was refused.
 pub fn graph_of(alloc: Global, story: &[u8], places: &[Place]) -> Result<String, NoMemory> {
-    let mut play = Play::new(alloc, story, places)?;
-    for place in places {
-        if let Some(row) = place.row(story) {
-            play.obey(&row);
-        }
-    }
-    let mut text = String::new(alloc);
-    match write_nodes(play.core(), &mut text) {
-        Ok(()) => Ok(text),
-        Err(_) => Err(NoMemory),
+    let mut graph = Graph {
+        page: Page::new(alloc),
+    };
+    play(alloc, story, places, &mut graph)?;
+    graph.page.text()
+}
+
+impl Watch for Graph {
+    fn see(&mut self, _row: &Row<'_>, _core: &Core) {}
+
+    fn end(&mut self, core: &Core) {
+        write_nodes(core, &mut self.page);
     }
 }
 
 /// Writes the graph of a core.
-fn write_nodes(core: &Core, out: &mut String) -> Result<(), AllocError> {
-    out.push_str("digraph waiting {\n  rankdir=LR\n  node [fontname=\"sans-serif\"]\n")?;
-    write_threads(core, out)?;
-    write_mutexes(core, out)?;
-    write_conds(core, out)?;
-    write_waits(core, out)?;
-    out.push_str("}\n")
+fn write_nodes(core: &Core, out: &mut Page) {
+    out.words("digraph waiting {\n  rankdir=LR\n  node [fontname=\"sans-serif\"]\n");
+    write_threads(core, out);
+    write_mutexes(core, out);
+    write_conds(core, out);
+    write_waits(core, out);
+    out.words("}\n");
 }
 
 /// Writes a node for each thread.
-fn write_threads(core: &Core, out: &mut String) -> Result<(), AllocError> {
+fn write_threads(core: &Core, out: &mut Page) {
     for number in 1..=core.threads() {
         if let Some(thread) = Tid::new(number) {
-            write_thread(core, thread, out)?;
+            write_thread(core, thread, out);
         }
     }
-    Ok(())
 }
 
 /// Writes the node of a thread: dashed if it has ended, and else with its priorities.
-fn write_thread(core: &Core, thread: Tid, out: &mut String) -> Result<(), AllocError> {
+fn write_thread(core: &Core, thread: Tid, out: &mut Page) {
     let number = thread.get();
     match level_of(core, thread) {
         Some(level) => write_level(number, level, out),
-        None => writeln!(
-            out,
-            "  t{number} [label=\"t{number}\\nended\" style=dashed]"
+        None => out.fill(
+            "  t{} [label=\"t{}\\nended\" style=dashed]\n",
+            &[number, number],
         ),
     }
 }
 
 /// Writes the node of a thread of this number with its priorities; one that is boosted is filled.
-fn write_level(number: u32, level: Level, out: &mut String) -> Result<(), AllocError> {
+fn write_level(number: u32, level: Level, out: &mut Page) {
     let (effective, base) = (level.effective, level.base);
-    write!(out, "  t{number} [label=\"t{number}\\npriority {effective}")?;
+    out.fill(
+        "  t{} [label=\"t{}\\npriority {}",
+        &[number, number, effective],
+    );
     if effective > base {
-        writeln!(out, " (base {base})\" style=filled fillcolor=\"#ffb08a\"]")
+        out.fill(
+            " (base {})\" style=filled fillcolor=\"#ffb08a\"]\n",
+            &[base],
+        );
     } else {
-        out.push_str("\"]\n")
+        out.words("\"]\n");
     }
 }
 
 /// Writes a node for each mutex that is held, and an edge from it to its owner.
-fn write_mutexes(core: &Core, out: &mut String) -> Result<(), AllocError> {
+fn write_mutexes(core: &Core, out: &mut Page) {
     for number in 1..=core.mutexes() {
         if let Some(mutex) = MutexId::new(number) {
-            if let Some((owner, _)) = core.owner(mutex) {
-                write_owner(number, owner, out)?;
-            }
+            write_mutex(core, mutex, out);
         }
     }
-    Ok(())
 }
 
-/// Writes the node of a mutex of this number, and an edge from it to its owner.
-fn write_owner(number: u32, owner: Tid, out: &mut String) -> Result<(), AllocError> {
-    let thread = owner.get();
-    writeln!(out, "  m{number} [shape=box]")?;
-    writeln!(out, "  m{number} -> t{thread} [label=\"held by\"]")
+/// Writes the node of a mutex, and an edge from it to its owner, if it is held.
+fn write_mutex(core: &Core, mutex: MutexId, out: &mut Page) {
+    if let Some(owner) = owner_of(core, mutex) {
+        let number = mutex.get();
+        out.fill(
+            "  m{} [shape=box]\n  m{} -> t{} [label=\"held by\"]\n",
+            &[number, number, owner.get()],
+        );
+    }
 }
 
 /// Writes a node for each condition variable on which a thread is parked.
-fn write_conds(core: &Core, out: &mut String) -> Result<(), AllocError> {
+fn write_conds(core: &Core, out: &mut Page) {
     for number in 1..=core.conds() {
         if let Some(cond) = CondId::new(number) {
-            if core.parked(cond, 0).is_some() {
-                writeln!(out, "  c{number} [shape=diamond]")?;
-            }
+            write_cond(core, cond, out);
         }
     }
-    Ok(())
+}
+
+/// Writes the node of a condition variable, if a thread is parked on it.
+fn write_cond(core: &Core, cond: CondId, out: &mut Page) {
+    if core.parked(cond, 0).is_some() {
+        out.fill("  c{} [shape=diamond]\n", &[cond.get()]);
+    }
 }
 
 /// Writes an edge for each thread that waits.
-fn write_waits(core: &Core, out: &mut String) -> Result<(), AllocError> {
+fn write_waits(core: &Core, out: &mut Page) {
     for number in 1..=core.threads() {
         if let Some(thread) = Tid::new(number) {
             if let Some(status) = core.status(thread) {
-                write_edge(number, status, out)?;
+                write_edge(number, status, out);
             }
         }
     }
-    Ok(())
 }
 
 /// Writes an edge from a thread of this number and status to the mutex for which it waits, or to the condition variable
 /// on which it is parked.
-fn write_edge(number: u32, status: Status, out: &mut String) -> Result<(), AllocError> {
+fn write_edge(number: u32, status: Status, out: &mut Page) {
     match status {
-        Status::Queued(mutex) => {
-            let mutex = mutex.get();
-            writeln!(out, "  t{number} -> m{mutex} [label=\"waits for\"]")
-        }
-        Status::Parked(cond) => {
-            let cond = cond.get();
-            writeln!(
-                out,
-                "  t{number} -> c{cond} [label=\"parked on\" style=dotted]"
-            )
-        }
-        _ => Ok(()),
+        Status::Queued(mutex) => out.fill(
+            "  t{} -> m{} [label=\"waits for\"]\n",
+            &[number, mutex.get()],
+        ),
+        Status::Parked(cond) => out.fill(
+            "  t{} -> c{} [label=\"parked on\" style=dotted]\n",
+            &[number, cond.get()],
+        ),
+        _ => {}
     }
 }

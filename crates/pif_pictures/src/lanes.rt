@@ -1,13 +1,12 @@
 use crate::arrows::draw_waking;
 use crate::levels::{Level, draw_change, draw_level, level_of};
 use crate::looks::{Look, hue, look_of};
+use crate::pages::Page;
 use crate::plans::{Moment, Plan};
 use crate::rows::Row;
 use crate::sheets::Sheet;
 use pif_core::Core;
 use pif_types::Tid;
-use std::alloc::AllocError;
-use std::fmt::Write;
 
 /// What was last seen of a thread, and since when.
 #[derive(Clone, Copy)]
@@ -39,32 +38,31 @@ impl Lane {
         moment: Moment,
         plan: &Plan,
         sheet: &mut Sheet,
-    ) -> Result<(), AllocError> {
+    ) {
         let look = look_of(core, self.thread);
         if look != self.look {
-            self.end_look(moment, plan, sheet)?;
-            self.draw_turn(&look, row, moment, plan, sheet)?;
+            self.end_look(moment, plan, sheet);
+            self.draw_turn(&look, row, moment, plan, sheet);
             self.look = look;
             self.look_since = moment;
         }
         let level = level_of(core, self.thread);
         if level != self.level {
-            self.end_level(moment, plan, sheet)?;
-            self.draw_step(level, moment, plan, sheet)?;
+            self.end_level(moment, plan, sheet);
+            self.draw_step(level, moment, plan, sheet);
             self.level = level;
             self.level_since = moment;
         }
-        Ok(())
     }
 
     /// Draws what the thread did up to a moment.
-    pub fn close(&self, moment: Moment, plan: &Plan, sheet: &mut Sheet) -> Result<(), AllocError> {
-        self.end_look(moment, plan, sheet)?;
-        self.end_level(moment, plan, sheet)
+    pub fn close(&self, moment: Moment, plan: &Plan, sheet: &mut Sheet) {
+        self.end_look(moment, plan, sheet);
+        self.end_level(moment, plan, sheet);
     }
 
     /// Draws what the thread did up to a moment, its priorities aside.
-    fn end_look(&self, moment: Moment, plan: &Plan, sheet: &mut Sheet) -> Result<(), AllocError> {
+    fn end_look(&self, moment: Moment, plan: &Plan, sheet: &mut Sheet) {
         if self.look.has_band() {
             draw_band(
                 self.thread,
@@ -73,24 +71,21 @@ impl Lane {
                 moment,
                 plan,
                 &mut sheet.bands,
-            )
-        } else {
-            Ok(())
+            );
         }
     }
 
     /// Draws the priorities of the thread up to a moment.
-    fn end_level(&self, moment: Moment, plan: &Plan, sheet: &mut Sheet) -> Result<(), AllocError> {
-        match self.level {
-            Some(level) => draw_level(
+    fn end_level(&self, moment: Moment, plan: &Plan, sheet: &mut Sheet) {
+        if let Some(level) = self.level {
+            draw_level(
                 self.thread,
                 level,
                 self.level_since,
                 moment,
                 plan,
                 &mut sheet.levels,
-            ),
-            None => Ok(()),
+            );
         }
     }
 
@@ -102,29 +97,18 @@ impl Lane {
         moment: Moment,
         plan: &Plan,
         sheet: &mut Sheet,
-    ) -> Result<(), AllocError> {
+    ) {
         if self.look.is_woken(look) {
-            draw_waking(row, self.thread, moment, plan, &mut sheet.arrows)
+            draw_waking(row, self.thread, moment, plan, &mut sheet.arrows);
         } else if *look == Look::Ended {
-            draw_end(self.thread, moment, plan, &mut sheet.bands)
-        } else {
-            Ok(())
+            draw_end(self.thread, moment, plan, &mut sheet.bands);
         }
     }
 
     /// Draws that the priority at which the thread runs changed.
-    fn draw_step(
-        &self,
-        level: Option<Level>,
-        moment: Moment,
-        plan: &Plan,
-        sheet: &mut Sheet,
-    ) -> Result<(), AllocError> {
-        match (self.level, level) {
-            (Some(before), Some(after)) => {
-                draw_change(self.thread, before, after, moment, plan, &mut sheet.levels)
-            }
-            _ => Ok(()),
+    fn draw_step(&self, level: Option<Level>, moment: Moment, plan: &Plan, sheet: &mut Sheet) {
+        if let (Some(before), Some(after)) = (self.level, level) {
+            draw_change(self.thread, before, after, moment, plan, &mut sheet.levels);
         }
     }
 }
@@ -137,74 +121,56 @@ pub fn see_lanes(
     moment: Moment,
     plan: &Plan,
     sheet: &mut Sheet,
-) -> Result<(), AllocError> {
+) {
     for place in 0..lanes.len() {
-        lanes[place].see(row, core, moment, plan, sheet)?;
+        lanes[place].see(row, core, moment, plan, sheet);
     }
-    Ok(())
 }
 
 /// Draws what threads do at the end.
-pub fn close_lanes(
-    lanes: &[Lane],
-    moment: Moment,
-    plan: &Plan,
-    sheet: &mut Sheet,
-) -> Result<(), AllocError> {
+pub fn close_lanes(lanes: &[Lane], moment: Moment, plan: &Plan, sheet: &mut Sheet) {
     for lane in lanes {
-        lane.close(moment, plan, sheet)?;
+        lane.close(moment, plan, sheet);
     }
-    Ok(())
 }
 
 /// Draws what a thread did from one moment to another.
-fn draw_band(
-    thread: Tid,
-    look: Look,
-    since: Moment,
-    until: Moment,
-    plan: &Plan,
-    out: &mut String,
-) -> Result<(), AllocError> {
-    let x = plan.x(since.column);
-    let y = plan.band(thread);
+fn draw_band(thread: Tid, look: Look, since: Moment, until: Moment, plan: &Plan, out: &mut Page) {
     let width = plan.length(since.column, until.column);
-    open_band(&look, x, y, out)?;
-    write!(out, "<title>t{}: ", thread.get())?;
-    look.write(true, out)?;
-    write!(out, ", lines {} to {}</title>", since.line, until.line)?;
-    let class = look.class();
-    write!(
-        out,
-        "<rect class=\"{class}\" width=\"{width}\" height=\"15\"/>"
-    )?;
-    write!(out, "<text class=\"on-{class}\" x=\"8\" y=\"11\">")?;
-    look.write(width >= 80, out)?;
-    out.push_str("</text></g>\n")
+    open_band(&look, out);
+    out.fill(
+        " transform=\"translate({} {})\"><title>t{}: ",
+        &[plan.x(since.column), plan.band(thread), thread.get()],
+    );
+    look.write(true, out);
+    out.fill(", lines {} to {}</title>", &[since.line, until.line]);
+    out.words("<rect class=\"");
+    out.words(look.class());
+    out.fill("\" width=\"{}\" height=\"15\"/><text class=\"on-", &[width]);
+    out.words(look.class());
+    out.words("\" x=\"8\" y=\"11\">");
+    look.write(width >= 80, out);
+    out.words("</text></g>\n");
 }
 
 /// Begins a band, in the hue of the mutex for which a thread waits.
-fn open_band(look: &Look, x: u32, y: u32, out: &mut String) -> Result<(), AllocError> {
+fn open_band(look: &Look, out: &mut Page) {
     match look {
-        Look::Waits(mutex) => {
-            let hue = hue(*mutex);
-            write!(out, "<g class=\"h{hue}\" transform=\"translate({x} {y})\">")
-        }
-        _ => write!(out, "<g transform=\"translate({x} {y})\">"),
+        Look::Waits(mutex) => out.fill("<g class=\"h{}\"", &[hue(*mutex)]),
+        _ => out.words("<g"),
     }
 }
 
 /// Draws that a thread ended.
-fn draw_end(thread: Tid, moment: Moment, plan: &Plan, out: &mut String) -> Result<(), AllocError> {
-    let x = plan.x(moment.column);
-    let y = plan.band(thread);
-    write!(out, "<g transform=\"translate({x} {y})\">")?;
-    write!(
-        out,
+fn draw_end(thread: Tid, moment: Moment, plan: &Plan, out: &mut Page) {
+    out.fill(
+        "<g transform=\"translate({} {})\">",
+        &[plan.x(moment.column), plan.band(thread)],
+    );
+    out.fill(
         "<title>t{} ended, line {}</title>",
-        thread.get(),
-        moment.line
-    )?;
-    out.push_str("<path class=\"end\" d=\"M-8 -1l17 17m0 -17l-17 17\"/>")?;
-    out.push_str("<text class=\"on-ended\" x=\"14\" y=\"11\">ended</text></g>\n")
+        &[thread.get(), moment.line],
+    );
+    out.words("<path class=\"end\" d=\"M-8 -1l17 17m0 -17l-17 17\"/>");
+    out.words("<text class=\"on-ended\" x=\"14\" y=\"11\">ended</text></g>\n");
 }

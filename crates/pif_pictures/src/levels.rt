@@ -1,8 +1,7 @@
+use crate::pages::Page;
 use crate::plans::{Moment, Plan};
 use pif_core::Core;
 use pif_types::Tid;
-use std::alloc::AllocError;
-use std::fmt::Write;
 
 /// The priorities of a thread.
 #[derive(Clone, Copy, PartialEq, Eq)]
@@ -26,13 +25,13 @@ impl Level {
         self.effective > self.base
     }
 
-    /// The class of the line that shows the priority at which the thread runs.
-    fn class(self) -> &'static str {
-        if self.is_boosted() {
-            "level boosted"
+    /// Begins the line that shows the priority at which the thread runs.
+    fn open(self, out: &mut Page) {
+        out.words(if self.is_boosted() {
+            "<path class=\"level boosted\""
         } else {
-            "level"
-        }
+            "<path class=\"level\""
+        });
     }
 }
 
@@ -43,75 +42,55 @@ pub fn draw_level(
     since: Moment,
     until: Moment,
     plan: &Plan,
-    out: &mut String,
-) -> Result<(), AllocError> {
-    let number = thread.get();
-    let (effective, base) = (level.effective, level.base);
-    let (first, last) = (since.line, until.line);
-    write!(
-        out,
-        "<g><title>t{number}: effective priority {effective}, base {base}, lines {first} to {last}</title>"
-    )?;
-    if level.is_boosted() {
-        draw_boost(thread, level, since, until, plan, out)?;
-    }
+    out: &mut Page,
+) {
     let x = plan.x(since.column);
-    let end = plan.x(until.column);
-    let y = plan.level(thread, effective);
-    let class = level.class();
-    write!(out, "<path class=\"{class}\" d=\"M{x} {y}H{end}\"/>")?;
-    draw_number(level, x, y, plan.length(since.column, until.column), out)?;
-    out.push_str("</g>\n")
+    let y = plan.level(thread, level.effective);
+    let width = plan.length(since.column, until.column);
+    out.fill(
+        "<g><title>t{}: effective priority {}, base {}, lines {} to {}</title>",
+        &[
+            thread.get(),
+            level.effective,
+            level.base,
+            since.line,
+            until.line,
+        ],
+    );
+    if level.is_boosted() {
+        draw_boost(x, y, width, plan.level(thread, level.base), out);
+    }
+    level.open(out);
+    out.fill(" d=\"M{} {}H{}\"/>", &[x, y, plan.x(until.column)]);
+    draw_number(level, x, y, width, out);
+    out.words("</g>\n");
 }
 
-/// Draws how far a thread runs above its own priority, and that one.
-fn draw_boost(
-    thread: Tid,
-    level: Level,
-    since: Moment,
-    until: Moment,
-    plan: &Plan,
-    out: &mut String,
-) -> Result<(), AllocError> {
-    let x = plan.x(since.column);
-    let width = plan.length(since.column, until.column);
-    let y = plan.level(thread, level.effective);
-    let base = plan.level(thread, level.base);
-    let height = base.saturating_sub(y);
-    write!(
-        out,
-        "<rect class=\"boost\" x=\"{x}\" y=\"{y}\" width=\"{width}\" height=\"{height}\"/>"
-    )?;
-    write!(out, "<path class=\"base\" d=\"M{x} {base}h{width}\"/>")
+/// Draws how far a thread runs above its own priority, and that one, at the height `base`.
+fn draw_boost(x: u32, y: u32, width: u32, base: u32, out: &mut Page) {
+    out.fill(
+        "<rect class=\"boost\" x=\"{}\" y=\"{}\" width=\"{}\" height=\"{}\"/>",
+        &[x, y, width, base.saturating_sub(y)],
+    );
+    out.fill("<path class=\"base\" d=\"M{} {}h{}\"/>", &[x, base, width]);
 }
 
 /// Writes the priority at which a thread runs above its line, and if there is room also its own.
-fn draw_number(
-    level: Level,
-    x: u32,
-    y: u32,
-    width: u32,
-    out: &mut String,
-) -> Result<(), AllocError> {
-    let x = x.saturating_add(3);
-    let y = y.saturating_sub(3);
-    let (effective, base) = (level.effective, level.base);
-    if !level.is_boosted() {
-        write!(
-            out,
-            "<text class=\"number\" x=\"{x}\" y=\"{y}\">{effective}</text>"
-        )
-    } else if width < 80 {
-        write!(
-            out,
-            "<text class=\"number hot\" x=\"{x}\" y=\"{y}\">{effective}</text>"
-        )
+fn draw_number(level: Level, x: u32, y: u32, width: u32, out: &mut Page) {
+    let is_boosted = level.is_boosted();
+    out.words(if is_boosted {
+        "<text class=\"number hot\""
     } else {
-        write!(
-            out,
-            "<text class=\"number hot\" x=\"{x}\" y=\"{y}\">{effective} (base {base})</text>"
-        )
+        "<text class=\"number\""
+    });
+    out.fill(
+        " x=\"{}\" y=\"{}\">{}",
+        &[x.saturating_add(3), y.saturating_sub(3), level.effective],
+    );
+    if is_boosted && width >= 80 {
+        out.fill(" (base {})", &[level.base]);
     }
+    out.words("</text>");
 }
 
 /// Draws that the priority at which a thread runs changed.
@@ -121,15 +100,11 @@ pub fn draw_change(
     after: Level,
     moment: Moment,
     plan: &Plan,
-    out: &mut String,
-) -> Result<(), AllocError> {
-    let x = plan.x(moment.column);
+    out: &mut Page,
+) {
     let from = plan.level(thread, before.effective);
     let to = plan.level(thread, after.effective);
-    let class = if before.is_boosted() {
-        before.class()
-    } else {
-        after.class()
-    };
-    writeln!(out, "<path class=\"{class}\" d=\"M{x} {from}V{to}\"/>")
+    let shown = if before.is_boosted() { before } else { after };
+    shown.open(out);
+    out.fill(" d=\"M{} {}V{}\"/>\n", &[plan.x(moment.column), from, to]);
 }

@@ -16,6 +16,8 @@ mod lanes;
 mod levels;
 mod looks;
 mod objects;
+mod owners;
+mod pages;
 mod pictures;
 mod plans;
 mod plays;

@@ -1,7 +1,6 @@
+use crate::pages::Page;
 use pif_core::{Core, Status};
 use pif_types::{CondId, MutexId, Tid};
-use std::alloc::AllocError;
-use std::fmt::Write;
 
 /// What a thread does, as it is drawn.
 #[derive(Clone, Copy, PartialEq, Eq)]
@@ -69,18 +68,18 @@ impl Look {
     }
 
     /// Writes it in words, or if there is little room only the name of what the thread waits for.
-    pub fn write(&self, is_wide: bool, out: &mut String) -> Result<(), AllocError> {
+    pub fn write(&self, is_wide: bool, out: &mut Page) {
         match self {
             Look::Waits(mutex) => {
-                let before = if is_wide { "waits for " } else { "" };
-                write!(out, "{before}m{}", mutex.get())
+                out.words(if is_wide { "waits for " } else { "" });
+                out.fill("m{}", &[mutex.get()]);
             }
             Look::Parked(cond) => {
-                let before = if is_wide { "parked on " } else { "" };
-                write!(out, "{before}c{}", cond.get())
+                out.words(if is_wide { "parked on " } else { "" });
+                out.fill("c{}", &[cond.get()]);
             }
-            Look::Stopped => out.push_str(if is_wide { "stopped" } else { "stop" }),
-            other => out.push_str(other.class()),
+            Look::Stopped => out.words(if is_wide { "stopped" } else { "stop" }),
+            other => out.words(other.class()),
         }
     }
 

@@ -1,47 +1,36 @@
+use crate::levels::level_of;
+use crate::owners::holds;
+use crate::pages::Page;
 use pif_core::{Core, Status};
 use pif_types::{CondId, Health, Kind, MutexId, Request, Tid};
-use std::alloc::AllocError;
-use std::fmt::Write;
 
 /// Writes a thread as an object.
-pub fn write_thread(core: &Core, thread: Tid, out: &mut String) -> Result<(), AllocError> {
-    write!(out, "{{\"name\":\"t{}\",", thread.get())?;
+pub fn write_thread(core: &Core, thread: Tid, out: &mut Page) {
+    out.fill("{\"name\":\"t{}\",", &[thread.get()]);
     if let Some(status) = core.status(thread) {
-        write_doing(status, out)?;
+        write_doing(status, out);
     }
-    match (core.effective(thread), core.base(thread)) {
-        (Some(effective), Some(base)) => {
-            let (effective, base) = (effective.get(), base.get());
-            write!(out, ",\"priority\":{effective},\"base\":{base}")?;
-        }
-        _ => out.push_str(",\"priority\":null,\"base\":null")?,
-    }
+    write_priorities(core, thread, out);
     match core.open_call(thread) {
-        Some(request) => write_call(request, out)?,
-        None => out.push_str(",\"call\":null")?,
+        Some(request) => write_call(request, out),
+        None => out.words(",\"call\":null"),
     }
-    out.push_str(",\"holds\":[")?;
-    write_held(core, thread, out)?;
-    out.push_str("]}")
+    out.words(",\"holds\":[");
+    write_held(core, thread, out);
+    out.words("]}");
 }
 
 /// Writes what a thread does, and for what it waits.
-fn write_doing(status: Status, out: &mut String) -> Result<(), AllocError> {
+fn write_doing(status: Status, out: &mut Page) {
     match status {
-        Status::Queued(mutex) => {
-            let mutex = mutex.get();
-            write!(
-                out,
-                "\"state\":\"waits\",\"waits_for\":\"m{mutex}\",\"parked_on\":null"
-            )
-        }
-        Status::Parked(cond) => {
-            let cond = cond.get();
-            write!(
-                out,
-                "\"state\":\"parked\",\"waits_for\":null,\"parked_on\":\"c{cond}\""
-            )
-        }
+        Status::Queued(mutex) => out.fill(
+            "\"state\":\"waits\",\"waits_for\":\"m{}\",\"parked_on\":null",
+            &[mutex.get()],
+        ),
+        Status::Parked(cond) => out.fill(
+            "\"state\":\"parked\",\"waits_for\":null,\"parked_on\":\"c{}\"",
+            &[cond.get()],
+        ),
         Status::Ready(_) => write_alone("ready", out),
         Status::Stopped => write_alone("stopped", out),
         Status::Ended => write_alone("ended", out),
@@ -49,85 +38,90 @@ fn write_doing(status: Status, out: &mut String) -> Result<(), AllocError> {
 }
 
 /// Writes what a thread does that waits for nothing.
-fn write_alone(state: &str, out: &mut String) -> Result<(), AllocError> {
-    write!(
-        out,
-        "\"state\":\"{state}\",\"waits_for\":null,\"parked_on\":null"
-    )
+fn write_alone(state: &str, out: &mut Page) {
+    out.words("\"state\":\"");
+    out.words(state);
+    out.words("\",\"waits_for\":null,\"parked_on\":null");
+}
+
+/// Writes the priorities of a thread.
+fn write_priorities(core: &Core, thread: Tid, out: &mut Page) {
+    match level_of(core, thread) {
+        Some(level) => out.fill(
+            ",\"priority\":{},\"base\":{}",
+            &[level.effective, level.base],
+        ),
+        None => out.words(",\"priority\":null,\"base\":null"),
+    }
 }
 
 /// Writes the call that a thread has open, as it stands in a script.
-fn write_call(request: Request, out: &mut String) -> Result<(), AllocError> {
-    out.push_str(",\"call\":\"")?;
-    write_request(request, out)?;
-    out.push_str("\"")
+fn write_call(request: Request, out: &mut Page) {
+    out.words(",\"call\":\"");
+    write_request(request, out);
+    out.words("\"");
 }
 
 /// Writes a call as it stands in a script.
-fn write_request(request: Request, out: &mut String) -> Result<(), AllocError> {
+fn write_request(request: Request, out: &mut Page) {
     match request {
-        Request::Lock(mutex) => write!(out, "lock m{}", mutex.get()),
-        Request::TryLock(mutex) => write!(out, "trylock m{}", mutex.get()),
-        Request::Unlock(mutex) => write!(out, "unlock m{}", mutex.get()),
-        Request::Consistent(mutex) => write!(out, "consistent m{}", mutex.get()),
-        Request::Wait(cond, mutex) => write!(out, "wait c{} m{}", cond.get(), mutex.get()),
-        Request::Signal(cond) => write!(out, "signal c{}", cond.get()),
-        Request::Broadcast(cond) => write!(out, "broadcast c{}", cond.get()),
-        Request::SetPrio(thread, priority) => write!(out, "setprio t{} {priority}", thread.get()),
-        Request::TimedLock(mutex, time) => write!(out, "timedlock m{} {time}", mutex.get()),
+        Request::Lock(mutex) => out.fill("lock m{}", &[mutex.get()]),
+        Request::TryLock(mutex) => out.fill("trylock m{}", &[mutex.get()]),
+        Request::Unlock(mutex) => out.fill("unlock m{}", &[mutex.get()]),
+        Request::Consistent(mutex) => out.fill("consistent m{}", &[mutex.get()]),
+        Request::Wait(cond, mutex) => out.fill("wait c{} m{}", &[cond.get(), mutex.get()]),
+        Request::Signal(cond) => out.fill("signal c{}", &[cond.get()]),
+        Request::Broadcast(cond) => out.fill("broadcast c{}", &[cond.get()]),
+        Request::SetPrio(thread, priority) => {
+            out.fill("setprio t{} {}", &[thread.get(), priority]);
+        }
+        Request::TimedLock(mutex, time) => out.fill("timedlock m{} {}", &[mutex.get(), time]),
         Request::TimedWait(cond, mutex, time) => {
-            write!(out, "timedwait c{} m{} {time}", cond.get(), mutex.get())
+            out.fill("timedwait c{} m{} {}", &[cond.get(), mutex.get(), time]);
         }
     }
 }
 
 /// Writes the names of the mutexes that a thread holds.
-fn write_held(core: &Core, thread: Tid, out: &mut String) -> Result<(), AllocError> {
+fn write_held(core: &Core, thread: Tid, out: &mut Page) {
     let mut comma = "";
     for number in 1..=core.mutexes() {
         if holds(core, thread, number) {
-            write!(out, "{comma}\"m{number}\"")?;
+            out.words(comma);
+            out.fill("\"m{}\"", &[number]);
             comma = ",";
         }
-    }
-    Ok(())
-}
-
-/// Whether a thread holds the mutex of this number.
-fn holds(core: &Core, thread: Tid, number: u32) -> bool {
-    match MutexId::new(number) {
-        Some(mutex) => match core.owner(mutex) {
-            Some((owner, _)) => owner.get() == thread.get(),
-            None => false,
-        },
-        None => false,
     }
 }
 
 /// Writes a mutex as an object.
-pub fn write_mutex(core: &Core, mutex: MutexId, out: &mut String) -> Result<(), AllocError> {
-    write!(out, "{{\"name\":\"m{}\",", mutex.get())?;
-    write_kind(core, mutex, out)?;
-    write!(out, ",\"word\":{}", core.word(mutex).unwrap_or(0))?;
+pub fn write_mutex(core: &Core, mutex: MutexId, out: &mut Page) {
+    out.fill("{\"name\":\"m{}\",", &[mutex.get()]);
+    write_kind(core, mutex, out);
+    out.fill(",\"word\":{}", &[core.word(mutex).unwrap_or(0)]);
     match core.owner(mutex) {
         Some((owner, count)) => {
-            write!(out, ",\"owner\":\"t{}\",\"count\":{count}", owner.get())?;
+            out.fill(",\"owner\":\"t{}\",\"count\":{}", &[owner.get(), count]);
         }
-        None => out.push_str(",\"owner\":null,\"count\":0")?,
+        None => out.words(",\"owner\":null,\"count\":0"),
     }
-    out.push_str(",\"waiters\":[")?;
-    write_queue(core, &Queue::Waiters(mutex), out)?;
-    out.push_str("]}")
+    out.words(",\"waiters\":[");
+    write_queue(core, &Queue::Waiters(mutex), out);
+    out.words("]}");
 }
 
 /// Writes the kind of a mutex, whether it is robust, and its health.
-fn write_kind(core: &Core, mutex: MutexId, out: &mut String) -> Result<(), AllocError> {
+fn write_kind(core: &Core, mutex: MutexId, out: &mut Page) {
     let (kind, is_robust) = core.kind(mutex).unwrap_or((Kind::Normal, false));
-    let (kind, health) = (kind_word(kind), health_word(core.health(mutex)));
-    write!(
-        out,
-        "\"kind\":\"{kind}\",\"robust\":{is_robust},\"health\":\"{health}\""
-    )
+    out.words("\"kind\":\"");
+    out.words(kind_word(kind));
+    out.words(if is_robust {
+        "\",\"robust\":true,\"health\":\""
+    } else {
+        "\",\"robust\":false,\"health\":\""
+    });
+    out.words(health_word(core.health(mutex)));
+    out.words("\"");
 }
 
 /// The type of a mutex.
@@ -149,19 +143,18 @@ fn health_word(health: Option<Health>) -> &'static str {
 }
 
 /// Writes a condition variable as an object.
-pub fn write_cond(core: &Core, cond: CondId, out: &mut String) -> Result<(), AllocError> {
-    write!(out, "{{\"name\":\"c{}\",", cond.get())?;
+pub fn write_cond(core: &Core, cond: CondId, out: &mut Page) {
+    out.fill("{\"name\":\"c{}\",", &[cond.get()]);
     match core.bound(cond) {
-        Some(mutex) => write!(out, "\"mutex\":\"m{}\"", mutex.get())?,
-        None => out.push_str("\"mutex\":null")?,
+        Some(mutex) => out.fill("\"mutex\":\"m{}\"", &[mutex.get()]),
+        None => out.words("\"mutex\":null"),
     }
-    write!(
-        out,
+    out.fill(
         ",\"uses\":{},\"parked\":[",
-        core.cond_word(cond).unwrap_or(0)
-    )?;
-    write_queue(core, &Queue::Parked(cond), out)?;
-    out.push_str("]}")
+        &[core.cond_word(cond).unwrap_or(0)],
+    );
+    write_queue(core, &Queue::Parked(cond), out);
+    out.words("]}");
 }
 
 /// Threads in an order.
@@ -185,14 +178,14 @@ fn nth(core: &Core, queue: &Queue, place: u32) -> Option<Tid> {
 }
 
 /// Writes the names of the threads of a queue.
-pub fn write_queue(core: &Core, queue: &Queue, out: &mut String) -> Result<(), AllocError> {
+pub fn write_queue(core: &Core, queue: &Queue, out: &mut Page) {
     let mut comma = "";
     for place in 0..core.threads() {
         let Some(thread) = nth(core, queue, place) else {
-            return Ok(());
+            return;
         };
-        write!(out, "{comma}\"t{}\"", thread.get())?;
+        out.words(comma);
+        out.fill("\"t{}\"", &[thread.get()]);
         comma = ",";
     }
-    Ok(())
 }

@@ -1,4 +1,5 @@
-use crate::plays::Play;
+use crate::owners::owner_of;
+use crate::plays::{Watch, play};
 use crate::rows::{Place, Row};
 use pif_core::Core;
 use pif_model::Event;
@@ -47,41 +48,70 @@ pub struct Plan {
 ///
 /// A growth of memory was refused.
 pub fn plan_of(alloc: Global, story: &[u8], places: &[Place]) -> Result<Plan, NoMemory> {
-    let mut play = Play::new(alloc, story, places)?;
-    let mut plan = Plan::new();
-    let mut held = Vec::new(alloc);
-    for place in places {
-        if let Some(row) = place.row(story) {
-            play.obey(&row);
-            plan.take(&row);
-            match most_held(play.core(), &mut held) {
-                Ok(most) => plan.held = plan.held.max(most),
-                Err(_) => return Err(NoMemory),
+    let mut planner = Planner {
+        plan: Plan::new(),
+        counts: Vec::new(alloc),
+        failed: false,
+    };
+    play(alloc, story, places, &mut planner)?;
+    if planner.failed {
+        Err(NoMemory)
+    } else {
+        Ok(planner.plan)
+    }
+}
+
+/// Makes a plan while the commands of a story are played.
+#[derive(Drop)]
+struct Planner {
+    plan: Plan,
+    // How many mutexes each thread holds.
+    counts: Vec<u32>,
+    // Whether memory was refused.
+    failed: bool,
+}
+
+impl Watch for Planner {
+    fn see(&mut self, row: &Row<'_>, core: &Core) {
+        self.plan.take(row);
+        match count_held(core, &mut self.counts) {
+            Ok(most) => self.plan.held = self.plan.held.max(most),
+            Err(_) => self.failed = true,
+        }
+    }
+
+    fn end(&mut self, core: &Core) {
+        self.plan.threads = core.threads();
+        self.plan.mutexes = core.mutexes();
+    }
+}
+
+/// Counts the mutexes that each thread holds, and answers the most that one holds.
+fn count_held(core: &Core, counts: &mut Vec<u32>) -> Result<u32, AllocError> {
+    counts.clear();
+    for _thread in 0..core.threads() {
+        counts.push(0)?;
+    }
+    Ok(most_held(core, counts))
+}
+
+/// The most mutexes that one thread holds; adds those of each to `counts`, which are 0.
+fn most_held(core: &Core, counts: &mut [u32]) -> u32 {
+    let mut most = 0;
+    for number in 1..=core.mutexes() {
+        if let Some(place) = owner_place(core, number) {
+            if place < counts.len() {
+                counts[place] = counts[place].saturating_add(1);
+                most = most.max(counts[place]);
             }
         }
     }
-    Ok(plan.with(play.core()))
-}
-
-/// The most mutexes that one thread holds; `held` counts those of each.
-fn most_held(core: &Core, held: &mut Vec<u32>) -> Result<u32, AllocError> {
-    held.clear();
-    for _thread in 0..core.threads() {
-        held.push(0)?;
-    }
-    let mut most = 0;
-    for number in 1..=core.mutexes() {
-        if let Some(count) = owner_place(core, number).and_then(|place| held.get_mut(place)) {
-            *count = count.saturating_add(1);
-            most = most.max(*count);
-        }
-    }
-    Ok(most)
+    most
 }
 
 /// The place, from 0, of the thread that holds the mutex of this number.
 fn owner_place(core: &Core, number: u32) -> Option<usize> {
-    let (owner, _) = core.owner(MutexId::new(number)?)?;
+    let owner = owner_of(core, MutexId::new(number)?)?;
     Some((owner.get() - 1) as usize)
 }
 
@@ -107,19 +137,6 @@ impl Plan {
         if let Some(priority) = named_priority(row.command) {
             self.least = self.least.min(priority);
             self.greatest = self.greatest.max(priority);
-        }
-    }
-
-    /// The plan with room for what was added to a core.
-    fn with(self, core: &Core) -> Plan {
-        Plan {
-            columns: self.columns,
-            threads: core.threads(),
-            mutexes: core.mutexes(),
-            held: self.held,
-            least: self.least,
-            greatest: self.greatest,
-            letters: self.letters,
         }
     }
 
@@ -202,26 +219,14 @@ impl Plan {
 /// The priority that a command gives to a thread, if it is one.
 fn named_priority(command: Command) -> Option<u32> {
     let priority = match command {
-        Command::Add(Addition::Thread(priority)) => Some(priority),
-        Command::Run(_, Some(request)) => set_priority(request),
-        Command::Event(event) => event_priority(event),
-        _ => None,
+        Command::Add(Addition::Thread(priority)) => priority,
+        Command::Run(_, Some(Request::SetPrio(_, priority))) => priority,
+        Command::Event(Event::Begin(_, Request::SetPrio(_, priority))) => priority,
+        _ => return None,
     };
-    priority.filter(|priority| 1 <= *priority && *priority <= 99)
-}
-
-/// The priority that a call is to give to a thread.
-fn set_priority(request: Request) -> Option<u32> {
-    match request {
-        Request::SetPrio(_, priority) => Some(priority),
-        _ => None,
-    }
-}
-
-/// The priority that a call which begins is to give to a thread.
-fn event_priority(event: Event) -> Option<u32> {
-    match event {
-        Event::Begin(_, request) => set_priority(request),
-        _ => None,
+    if 1 <= priority && priority <= 99 {
+        Some(priority)
+    } else {
+        None
     }
 }

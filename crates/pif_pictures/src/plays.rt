@@ -6,81 +6,94 @@ use pif_types::{Limits, NoMemory, Request, Tid};
 use pif_uses::{call, finish};
 use std::alloc::Global;
 
-/// A core that plays the commands of a story.
-#[derive(Drop)]
-pub struct Play {
-    core: Core,
+/// What looks on while the commands of a story are played.
+pub trait Watch {
+    /// Looks at the core behind a command.
+    fn see(&mut self, row: &Row<'_>, core: &Core);
+
+    /// Looks at the core behind all commands.
+    fn end(&mut self, core: &Core);
 }
 
-impl Play {
-    /// A core to which nothing was added, under the limits that a story begins with, or else those of scripts.
-    ///
-    /// # Errors
-    ///
-    /// A growth of memory was refused.
-    pub fn new(alloc: Global, story: &[u8], places: &[Place]) -> Result<Play, NoMemory> {
-        Ok(Play {
-            core: Core::new(alloc, limits_of(story, places))?,
-        })
-    }
+/// Plays the commands of a story, by a core to which nothing was added, under the limits that the story begins with, or
+/// else those of scripts.
+///
+/// # Errors
+///
+/// A growth of memory was refused, and nothing was played.
+pub fn play<W: Watch>(
+    alloc: Global,
+    story: &[u8],
+    places: &[Place],
+    watch: &mut W,
+) -> Result<(), NoMemory> {
+    let mut core = Core::new(alloc, limits_of(story, places))?;
+    play_rows(&mut core, story, places, watch);
+    Ok(())
+}
 
-    /// The core as it stands behind the commands that were played.
-    pub fn core(&self) -> &Core {
-        &self.core
-    }
-
-    /// Plays a command.
-    pub fn obey(&mut self, row: &Row<'_>) {
-        match row.command {
-            Command::Add(addition) => self.add(addition),
-            Command::Event(event) => self.step(event),
-            Command::Run(thread, request) => self.run(thread, request),
-            Command::Limits(..) | Command::Ask(_) => {}
+/// Plays the commands of a story.
+fn play_rows<W: Watch>(core: &mut Core, story: &[u8], places: &[Place], watch: &mut W) {
+    for place in places {
+        if let Some(row) = place.row(story) {
+            obey(core, row.command);
+            watch.see(&row, core);
         }
     }
+    watch.end(core);
+}
 
-    /// Plays an addition.
-    fn add(&mut self, addition: Addition) {
-        match addition {
-            Addition::Thread(priority) => {
-                let _added = self.core.add_thread(priority);
-            }
-            Addition::Mutex(kind, is_robust) => {
-                let _added = self.core.add_mutex(kind, is_robust);
-            }
-            Addition::Cond(mutex) => {
-                let _added = self.core.add_cond(mutex);
-            }
+/// Plays a command.
+fn obey(core: &mut Core, command: Command) {
+    match command {
+        Command::Add(addition) => add(core, addition),
+        Command::Event(event) => step(core, event),
+        Command::Run(thread, request) => run(core, thread, request),
+        Command::Limits(..) | Command::Ask(_) => {}
+    }
+}
+
+/// Plays an addition.
+fn add(core: &mut Core, addition: Addition) {
+    match addition {
+        Addition::Thread(priority) => {
+            let _added = core.add_thread(priority);
+        }
+        Addition::Mutex(kind, is_robust) => {
+            let _added = core.add_mutex(kind, is_robust);
+        }
+        Addition::Cond(mutex) => {
+            let _added = core.add_cond(mutex);
         }
     }
+}
 
-    /// Plays an event.
-    fn step(&mut self, event: Event) {
-        let _seen = self.core.step(event);
-    }
+/// Plays an event.
+fn step(core: &mut Core, event: Event) {
+    let _seen = core.step(event);
+}
 
-    /// Plays a call, or what is left of one.
-    fn run(&mut self, thread: Tid, request: Option<Request>) {
-        let _seen = match request {
-            Some(request) => call(&mut self.core, thread, request),
-            None => finish(&mut self.core, thread),
-        };
-    }
+/// Plays a call, or what is left of one.
+fn run(core: &mut Core, thread: Tid, request: Option<Request>) {
+    let _seen = match request {
+        Some(request) => call(core, thread, request),
+        None => finish(core, thread),
+    };
 }
 
 /// The limits that a story begins with, or else those of scripts.
 fn limits_of(story: &[u8], places: &[Place]) -> Limits {
     for place in places {
         if let Some(row) = place.row(story) {
-            return first_limits(&row);
+            return first_limits(row.command);
         }
     }
     default_limits()
 }
 
 /// The limits that a first command names, or else those of scripts.
-fn first_limits(row: &Row<'_>) -> Limits {
-    match row.command {
+fn first_limits(command: Command) -> Limits {
+    match command {
         Command::Limits(threads, mutexes, conds, signals) => {
             Limits::new(threads, mutexes, conds, signals).unwrap_or(default_limits())
         }

@@ -59,6 +59,12 @@ impl Place {
 /// A growth of memory was refused.
 pub fn places_of(alloc: Global, story: &[u8]) -> Result<Vec<Place>, AllocError> {
     let mut places = Vec::new(alloc);
+    add_places(story, &mut places)?;
+    Ok(places)
+}
+
+/// Appends where the lines of a story stand.
+fn add_places(story: &[u8], places: &mut Vec<Place>) -> Result<(), AllocError> {
     let mut line = 1u32;
     let mut start = 0;
     for (end, byte) in story.iter().enumerate() {
@@ -70,7 +76,7 @@ pub fn places_of(alloc: Global, story: &[u8]) -> Result<Vec<Place>, AllocError> 
     }
     let end = story.len();
     places.push(Place { line, start, end })?;
-    Ok(places)
+    Ok(())
 }
 
 /// The command of a line with its answer, if it has one. A byte order mark is passed over.

@@ -1,29 +1,30 @@
+use crate::pages::Page;
 use std::alloc::Global;
 
 /// What was drawn, by layers: what comes later stands above.
 #[derive(Drop)]
 pub struct Sheet {
     /// The columns with their commands.
-    pub columns: String,
+    pub columns: Page,
     /// What threads do.
-    pub bands: String,
+    pub bands: Page,
     /// Which mutexes they hold.
-    pub bars: String,
+    pub bars: Page,
     /// Their priorities.
-    pub levels: String,
+    pub levels: Page,
     /// Who acts, and what is handed over.
-    pub arrows: String,
+    pub arrows: Page,
 }
 
 impl Sheet {
     /// A sheet on which nothing was drawn.
     pub fn new(alloc: Global) -> Sheet {
         Sheet {
-            columns: String::new(alloc),
-            bands: String::new(alloc),
-            bars: String::new(alloc),
-            levels: String::new(alloc),
-            arrows: String::new(alloc),
+            columns: Page::new(alloc),
+            bands: Page::new(alloc),
+            bars: Page::new(alloc),
+            levels: Page::new(alloc),
+            arrows: Page::new(alloc),
         }
     }
 }

@@ -1,11 +1,17 @@
 use crate::chains::write_chains;
 use crate::objects::{Queue, write_cond, write_mutex, write_queue, write_thread};
-use crate::plays::Play;
+use crate::pages::Page;
+use crate::plays::{Watch, play};
 use crate::rows::{Place, Row};
 use pif_core::Core;
 use pif_types::{CondId, MutexId, NoMemory, Tid};
-use std::alloc::{AllocError, Global};
-use std::fmt::Write;
+use std::alloc::Global;
+
+/// The states behind the commands that were played.
+#[derive(Drop)]
+struct States {
+    page: Page,
+}
 
 /// The states behind each command of a story: a line with an object for each.
 ///
@@ -13,85 +19,72 @@ use std::fmt::Write;
 ///
 /// A growth of memory was refused.
 pub fn states_of(alloc: Global, story: &[u8], places: &[Place]) -> Result<String, NoMemory> {
-    let mut play = Play::new(alloc, story, places)?;
-    let mut text = String::new(alloc);
-    match write_rows(story, places, &mut play, &mut text) {
-        Ok(()) => Ok(text),
-        Err(_) => Err(NoMemory),
-    }
+    let mut states = States {
+        page: Page::new(alloc),
+    };
+    play(alloc, story, places, &mut states)?;
+    states.page.text()
 }
 
-/// Plays the commands of a story, and writes what there is behind each.
-fn write_rows(
-    story: &[u8],
-    places: &[Place],
-    play: &mut Play,
-    out: &mut String,
-) -> Result<(), AllocError> {
-    for place in places {
-        if let Some(row) = place.row(story) {
-            play.obey(&row);
-            write_state(&row, play.core(), out)?;
-        }
+impl Watch for States {
+    fn see(&mut self, row: &Row<'_>, core: &Core) {
+        write_state(row, core, &mut self.page);
     }
-    Ok(())
+
+    fn end(&mut self, _core: &Core) {}
 }
 
 /// Writes a command, its answer, and what there is behind it, as an object on a line.
-fn write_state(row: &Row<'_>, core: &Core, out: &mut String) -> Result<(), AllocError> {
-    let (line, words, answer) = (row.line, row.words, row.answer);
-    write!(
-        out,
-        "{{\"line\":{line},\"command\":\"{words}\",\"answer\":\"{answer}\""
-    )?;
-    write!(out, ",\"time\":{},\"threads\":[", core.time())?;
-    write_threads(core, out)?;
-    out.push_str("],\"mutexes\":[")?;
-    write_mutexes(core, out)?;
-    out.push_str("],\"conds\":[")?;
-    write_conds(core, out)?;
-    out.push_str("],\"run_queue\":[")?;
-    write_queue(core, &Queue::Ready, out)?;
-    out.push_str("],\"chains\":[")?;
-    write_chains(core, out)?;
-    out.push_str("]}\n")
+fn write_state(row: &Row<'_>, core: &Core, out: &mut Page) {
+    out.fill("{\"line\":{},\"command\":\"", &[row.line]);
+    out.words(row.words);
+    out.words("\",\"answer\":\"");
+    out.words(row.answer);
+    out.fill("\",\"time\":{},\"threads\":[", &[core.time()]);
+    write_threads(core, out);
+    out.words("],\"mutexes\":[");
+    write_mutexes(core, out);
+    out.words("],\"conds\":[");
+    write_conds(core, out);
+    out.words("],\"run_queue\":[");
+    write_queue(core, &Queue::Ready, out);
+    out.words("],\"chains\":[");
+    write_chains(core, out);
+    out.words("]}\n");
 }
 
 /// Writes each thread.
-fn write_threads(core: &Core, out: &mut String) -> Result<(), AllocError> {
+fn write_threads(core: &Core, out: &mut Page) {
     let mut comma = "";
     for number in 1..=core.threads() {
         if let Some(thread) = Tid::new(number) {
-            out.push_str(comma)?;
-            write_thread(core, thread, out)?;
+            out.words(comma);
+            write_thread(core, thread, out);
             comma = ",";
         }
     }
-    Ok(())
 }
 
 /// Writes each mutex.
-fn write_mutexes(core: &Core, out: &mut String) -> Result<(), AllocError> {
+fn write_mutexes(core: &Core, out: &mut Page) {
     let mut comma = "";
     for number in 1..=core.mutexes() {
         if let Some(mutex) = MutexId::new(number) {
-            out.push_str(comma)?;
-            write_mutex(core, mutex, out)?;
+            out.words(comma);
+            write_mutex(core, mutex, out);
             comma = ",";
         }
     }
-    Ok(())
 }
 
 /// Writes each condition variable.
-fn write_conds(core: &Core, out: &mut String) -> Result<(), AllocError> {
+fn write_conds(core: &Core, out: &mut Page) {
     let mut comma = "";
     for number in 1..=core.conds() {
         if let Some(cond) = CondId::new(number) {
-            out.push_str(comma)?;
-            write_cond(core, cond, out)?;
+            out.words(comma);
+            write_cond(core, cond, out);
             comma = ",";
         }
     }
-    Ok(())
 }
