@@ -29,31 +29,52 @@ struct Drawing {
 /// A growth of memory was refused.
 pub fn drawing_of(alloc: Global, story: &[u8], places: &[Place]) -> Result<String, NoMemory> {
     let plan = plan_of(alloc, story, places)?;
-    let Ok(mut drawing) = Drawing::new(alloc, plan) else {
-        return Err(NoMemory);
-    };
-    play(alloc, story, places, &mut drawing)?;
-    drawing.text(alloc)
+    let mut drawing = Drawing::new(alloc, plan);
+    drawing.draw(alloc, story, places)
 }
 
 impl Drawing {
     /// A drawing of nothing yet.
-    fn new(alloc: Global, plan: Plan) -> Result<Drawing, AllocError> {
-        let now = Moment { column: 0, line: 1 };
-        Ok(Drawing {
+    fn new(alloc: Global, plan: Plan) -> Drawing {
+        Drawing {
             plan,
-            lanes: lanes_of(alloc, plan.threads, now)?,
-            bars: bars_of(alloc, plan.mutexes, now)?,
+            lanes: Vec::new(alloc),
+            bars: Vec::new(alloc),
             sheet: Sheet::new(alloc),
-            now,
-        })
+            now: Moment { column: 0, line: 1 },
+        }
     }
 
-    /// The drawing as it is written.
-    fn text(&self, alloc: Global) -> Result<String, NoMemory> {
+    /// Plays the commands of a story, and draws them.
+    fn draw(&mut self, alloc: Global, story: &[u8], places: &[Place]) -> Result<String, NoMemory> {
+        if self.add_lanes().is_err() || self.add_bars().is_err() {
+            return Err(NoMemory);
+        }
+        play(alloc, story, places, self)?;
         let mut page = Page::new(alloc);
         write_drawing(&self.plan, &self.sheet, &mut page);
         page.text()
+    }
+
+    /// Adds the lanes of the threads, of which none was added yet.
+    fn add_lanes(&mut self) -> Result<(), AllocError> {
+        for number in 1..=self.plan.threads {
+            if let Some(thread) = Tid::new(number) {
+                let lane = Lane::new(thread, Look::Absent, None, self.now);
+                self.lanes.push(lane)?;
+            }
+        }
+        Ok(())
+    }
+
+    /// Adds the bars of the mutexes, which nobody holds yet.
+    fn add_bars(&mut self) -> Result<(), AllocError> {
+        for number in 1..=self.plan.mutexes {
+            if let Some(mutex) = MutexId::new(number) {
+                self.bars.push(Bar::new(mutex, None, self.now))?;
+            }
+        }
+        Ok(())
     }
 }
 
@@ -80,28 +101,6 @@ impl Watch for Drawing {
         close_lanes(&self.lanes, self.now, &self.plan, &mut self.sheet);
         close_bars(&self.bars, self.now, &self.plan, &mut self.sheet);
     }
-}
-
-/// The lanes of so many threads, of which none was added yet.
-fn lanes_of(alloc: Global, threads: u32, now: Moment) -> Result<Vec<Lane>, AllocError> {
-    let mut lanes = Vec::new(alloc);
-    for number in 1..=threads {
-        if let Some(thread) = Tid::new(number) {
-            lanes.push(Lane::new(thread, Look::Absent, None, now))?;
-        }
-    }
-    Ok(lanes)
-}
-
-/// The bars of so many mutexes, which nobody holds yet.
-fn bars_of(alloc: Global, mutexes: u32, now: Moment) -> Result<Vec<Bar>, AllocError> {
-    let mut bars = Vec::new(alloc);
-    for number in 1..=mutexes {
-        if let Some(mutex) = MutexId::new(number) {
-            bars.push(Bar::new(mutex, None, now))?;
-        }
-    }
-    Ok(bars)
 }
 
 /// Draws where a command stands, and writes it below.

@@ -53,12 +53,7 @@ pub fn plan_of(alloc: Global, story: &[u8], places: &[Place]) -> Result<Plan, No
         counts: Vec::new(alloc),
         failed: false,
     };
-    play(alloc, story, places, &mut planner)?;
-    if planner.failed {
-        Err(NoMemory)
-    } else {
-        Ok(planner.plan)
-    }
+    planner.make(alloc, story, places)
 }
 
 /// Makes a plan while the commands of a story are played.
@@ -69,6 +64,18 @@ struct Planner {
     counts: Vec<u32>,
     // Whether memory was refused.
     failed: bool,
+}
+
+impl Planner {
+    /// Plays the commands of a story, and makes the plan.
+    fn make(&mut self, alloc: Global, story: &[u8], places: &[Place]) -> Result<Plan, NoMemory> {
+        play(alloc, story, places, self)?;
+        if self.failed {
+            Err(NoMemory)
+        } else {
+            Ok(self.plan)
+        }
+    }
 }
 
 impl Watch for Planner {

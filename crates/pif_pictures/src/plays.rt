@@ -27,9 +27,13 @@ pub fn play<W: Watch>(
     places: &[Place],
     watch: &mut W,
 ) -> Result<(), NoMemory> {
-    let mut core = Core::new(alloc, limits_of(story, places))?;
-    play_rows(&mut core, story, places, watch);
-    Ok(())
+    match Core::new(alloc, limits_of(story, places)) {
+        Ok(mut core) => {
+            play_rows(&mut core, story, places, watch);
+            Ok(())
+        }
+        Err(_) => Err(NoMemory),
+    }
 }
 
 /// Plays the commands of a story.
