@@ -14,7 +14,7 @@ use Rattle.pif_model.specs.declared.lines.Place.TheVariants.{LockPending, LockEx
 use Rattle.pif_model.specs.Word.{Word, free_word, held_by, is_bare}
 use Rattle.pif_model.specs.PiKernel.{is_ready, is_woken_again}
 use Rattle.pif_model.specs.Table.{Table, status_at, cell_at, bound_to, uses_of, with_count, with_word, with_cond_word}
-use Rattle.pif_model.specs.Lines.{Outcome, goes_to, answers, is_robust, goes_by, ends_by, locked_again, exchanged, own_exchange, lock_load, lock_queued, take_load, take_health, leave_exchange, try_load, unlock_load, unlock_health, unlock_exchange, consistent_load, consistent_health, wait_load, wait_uses, wait_health, wait_exchange, wait_parked, use_read, use_exchange, answered_by}
+use Rattle.pif_model.specs.Lines.{Outcome, goes_to, answers, is_robust, goes_by, ends_by, relocks, after_exchange, own_exchange, lock_load, lock_queued, take_load, take_health, leave_exchange, try_load, unlock_load, unlock_health, unlock_exchange, consistent_load, consistent_health, wait_load, wait_uses, wait_health, wait_exchange, wait_parked, use_read, use_exchange, answered_by}
 use Rattle.pif_chains.proofs.Waiting.{by_test}
 
 -- a word that is exchanged has no flag, and the number from which it is exchanged
@@ -46,8 +46,8 @@ ends_by_cases P q robust a t m s =
 pub locked_again_cases : (P : Outcome → Type 0) (t m : ℕ) (s : Table)
     → ((cell_at s m).count < 255 → P (answers t 0 (with_count m ((cell_at s m).count + 1) s)))
     → (255 ≤ (cell_at s m).count → P (answers t 11 s))
-    → P (locked_again t m s)
-unfolding locked_again
+    → P (relocks t m s)
+unfolding relocks
 locked_again_cases P t m s rises full =
     by_test (λ b. P (if b then answers t 0 (with_count m ((cell_at s m).count + 1) s) else answers t 11 s))
     (nat_lt (cell_at s m).count 255)
@@ -56,10 +56,10 @@ locked_again_cases P t m s rises full =
 -- an exchange of a word from a bare number n
 pub exchanged_cases : (P : Outcome → Type 0) (x w : Word) (n m : ℕ) (done failed : Table → Outcome) (s : Table)
     → (w.waiters ≡ false → w.died ≡ false → w.number ≡ n → P (done (with_word m x s))) → P (failed s)
-    → P (exchanged (if is_bare w n then Some x else None) m done failed s)
-unfolding exchanged
+    → P (after_exchange (if is_bare w n then Some x else None) m done failed s)
+unfolding after_exchange
 exchanged_cases P x w n m done failed s ok fails =
-    by_test (λ b. P (exchanged (if b then Some x else None) m done failed s)) (is_bare w n)
+    by_test (λ b. P (after_exchange (if b then Some x else None) m done failed s)) (is_bare w n)
     (λ e. let b = bare w.waiters w.died w.number n e in ok b.0 b.1 b.2) (λ e. fails)
 
 -- compare-exchange from 0 to t
@@ -82,14 +82,14 @@ own_exchange_cases P q p t m s robust stalled fails =
 pub lock_load_cases : (P : Outcome → Type 0) (q : Request) (t m : ℕ) (s : Table)
     → ((cell_at s m).word.number ≡ t → (cell_at s m).kind ≡ Normal → P (goes_to t q LockStop s))
     → ((cell_at s m).word.number ≡ t → (cell_at s m).kind ≡ ErrorCheck → P (answers t 35 s))
-    → ((cell_at s m).word.number ≡ t → (cell_at s m).kind ≡ Recursive → P (locked_again t m s))
+    → ((cell_at s m).word.number ≡ t → (cell_at s m).kind ≡ Recursive → P (relocks t m s))
     → ((cell_at s m).word.number ≢ t → (cell_at s m).robust ≡ true → P (goes_to t q LockPending s))
     → ((cell_at s m).word.number ≢ t → (cell_at s m).robust ≡ false → P (goes_to t q LockExchange s))
     → P (lock_load q t m s)
 unfolding lock_load
 lock_load_cases P q t m s normal errorcheck recursive robust stalled =
     by_test (λ b. P (if b then elim (cell_at s m).kind
-    [ Normal ↦ goes_to t q LockStop s | ErrorCheck ↦ answers t 35 s | Recursive ↦ locked_again t m s ] else goes_by
+    [ Normal ↦ goes_to t q LockStop s | ErrorCheck ↦ answers t 35 s | Recursive ↦ relocks t m s ] else goes_by
     t q m LockPending LockExchange s))
     ((cell_at s m).word.number == t)
     (λ e. by_kind (cell_at s m).kind (normal (eqb-true (cell_at s m).word.number t e))
@@ -98,8 +98,8 @@ lock_load_cases P q t m s normal errorcheck recursive robust stalled =
     (stalled (eqb-false (cell_at s m).word.number t e)))
   where
     by_kind : (k : Kind) → (k ≡ Normal → P (goes_to t q LockStop s)) → (k ≡ ErrorCheck → P (answers t 35 s))
-        → (k ≡ Recursive → P (locked_again t m s))
-        → P (elim k [ Normal ↦ goes_to t q LockStop s | ErrorCheck ↦ answers t 35 s | Recursive ↦ locked_again t m s ])
+        → (k ≡ Recursive → P (relocks t m s))
+        → P (elim k [ Normal ↦ goes_to t q LockStop s | ErrorCheck ↦ answers t 35 s | Recursive ↦ relocks t m s ])
     by_kind Normal a b c = a refl
     by_kind ErrorCheck a b c = b refl
     by_kind Recursive a b c = c refl
@@ -151,14 +151,14 @@ leave_exchange_cases P q t m s =
 
 -- load the word
 pub try_load_cases : (P : Outcome → Type 0) (t m : ℕ) (s : Table)
-    → ((cell_at s m).word.number ≡ t → (cell_at s m).kind ≡ Recursive → P (locked_again t m s))
+    → ((cell_at s m).word.number ≡ t → (cell_at s m).kind ≡ Recursive → P (relocks t m s))
     → ((cell_at s m).word.number ≡ t → (cell_at s m).kind ≢ Recursive → P (answers t 16 s))
     → ((cell_at s m).word.number ≢ t → (cell_at s m).robust ≡ true → P (goes_to t (TryLock m) TryPending s))
     → ((cell_at s m).word.number ≢ t → (cell_at s m).robust ≡ false → P (goes_to t (TryLock m) TryExchange s))
     → P (try_load t m s)
 unfolding try_load
 try_load_cases P t m s recursive busy robust stalled =
-    by_test (λ b. P (if b then elim (cell_at s m).kind [ Recursive ↦ locked_again t m s | _ ↦ answers t 16 s ] else
+    by_test (λ b. P (if b then elim (cell_at s m).kind [ Recursive ↦ relocks t m s | _ ↦ answers t 16 s ] else
     goes_by t (TryLock m) m TryPending TryExchange s))
     ((cell_at s m).word.number == t)
     (λ e. by_kind (cell_at s m).kind (recursive (eqb-true (cell_at s m).word.number t e))
@@ -166,8 +166,8 @@ try_load_cases P t m s recursive busy robust stalled =
     (λ e. goes_by_cases P (TryLock m) TryPending TryExchange t m s
     (robust (eqb-false (cell_at s m).word.number t e)) (stalled (eqb-false (cell_at s m).word.number t e)))
   where
-    by_kind : (k : Kind) → (k ≡ Recursive → P (locked_again t m s)) → (k ≢ Recursive → P (answers t 16 s))
-        → P (elim k [ Recursive ↦ locked_again t m s | _ ↦ answers t 16 s ])
+    by_kind : (k : Kind) → (k ≡ Recursive → P (relocks t m s)) → (k ≢ Recursive → P (answers t 16 s))
+        → P (elim k [ Recursive ↦ relocks t m s | _ ↦ answers t 16 s ])
     by_kind Normal a b = b (λ e. cc)
     by_kind ErrorCheck a b = b (λ e. cc)
     by_kind Recursive a b = a refl

@@ -10,7 +10,7 @@ use Rattle.pif_model.specs.declared.lines.Status.{Status}
 use Rattle.pif_model.specs.PiKernel.{is_living}
 use Rattle.pif_model.specs.Table.{Table, line_at}
 use Rattle.pif_model.specs.Lines.{counts_at}
-use Rattle.pif_model.specs.Standing.{belongs, is_locking, CallIsSound, LineIsSound, IsSound}
+use Rattle.pif_model.specs.Soundness.{belongs, is_locking, CallIsSound, LineIsSound, IsSound}
 use Rattle.pif_simulation.proofs.Hole.{each_thread}
 use Rattle.pif_mutex.specs.Steppable.{is_of_mutexes}
 use Rattle.pif_cond.specs.Conditions.{is_of_conditions, is_of_wait, is_own}

@@ -1,11 +1,11 @@
-ghost use Rattle.std.specs.Prelude.{ℕ, ◌≡◌, ◌+◌, length, true, false, List, [], ◌∷◌, None, IfOk, IfSome, is_some, unwrap_or, if◌then◌else◌};
+ghost use Rattle.std.specs.Prelude.{ℕ, ◌≡◌, ◌+◌, length, true, false, [], ◌∷◌, None, IfOk, IfSome, is_some, unwrap_or, if◌then◌else◌};
 ghost use Rattle.pif_model.specs.declared.events.Entry.{Entry};
 ghost use Rattle.pif_model.specs.Word.{word_of, health_word};
 ghost use Rattle.pif_model.specs.PiKernel.{is_living};
 ghost use Rattle.pif_model.specs.Posix.{World, IsLegal, is_mutex, is_variable, is_due, names_known, thread_at, rests};
 ghost use Rattle.pif_model.specs.Posix.{is_living as lives};
 ghost use Rattle.pif_model.specs.History.{AlwaysOneHolder};
-ghost use Rattle.pif_model.specs.Standing.{Stands, HasEffective, IsPick, IsPossible, IsPossibleHealth, IsPossibleUses, ArePossible};
+ghost use Rattle.pif_model.specs.Standing.{Stands, HasEffective, IsPick, IsPossible, IsPossibleHealth, IsPossibleUses, ArePossible, WhereStands};
 ghost use Rattle.pif_model.specs.Table.{new_table, line_at, cell_at, has_thread, has_mutex, has_cond};
 ghost use Rattle.pif_model.specs.Lines.{table_refusal, accepted_outcome, event_outcome, go_outcome, is_open, goes_on, ClosesOrWaits};
 ghost use Rattle.pif_model.specs.Calls.{add_thread_answer, add_thread_after, add_mutex_answer, add_mutex_after, add_cond_answer, add_cond_after, effective_answer, word_answer, health_answer, cond_word_answer, pick_answer, threads_answer, waiting_answer};
@@ -57,8 +57,8 @@ impl Core {
     pub fn add_thread(&mut self, prio: u32) -> Result<Tid, AddFault>
         ensures answer { result ≡ add_thread_answer prio self.old }
         ensures after { self.new ≡ add_thread_after prio result self.old }
-        ensures stands { IfOk result (λ t. (h : List Entry) (r : List World) (w : World) → Stands self.old h r w
-            → (v : World) × Stands self.new (Entry.Thread t prio ∷ h) (w ∷ r) v) }
+        ensures stands { IfOk result (λ t. WhereStands self.old (λ h r w.
+            (v : World) × Stands self.new (Entry.Thread t prio ∷ h) (w ∷ r) v)) }
     {
         let prio = Prio::new(prio).ok_or(AddFault::BadPrio)?;
         // This reads the priority, so that the proof has its range.
@@ -76,8 +76,8 @@ impl Core {
     pub fn add_mutex(&mut self, kind: Kind, robust: bool) -> Result<MutexId, AddFault>
         ensures answer { result ≡ add_mutex_answer self.old }
         ensures after { self.new ≡ add_mutex_after kind robust result self.old }
-        ensures stands { IfOk result (λ m. (h : List Entry) (r : List World) (w : World) → Stands self.old h r w
-            → (v : World) × Stands self.new (Entry.Mutex m kind robust ∷ h) (w ∷ r) v) }
+        ensures stands { IfOk result (λ m. WhereStands self.old (λ h r w.
+            (v : World) × Stands self.new (Entry.Mutex m kind robust ∷ h) (w ∷ r) v)) }
     {
         if self.parts.mutexes() < self.parts.limits().mutexes() {
             Ok(self.parts.add_mutex(kind, robust))
@@ -93,8 +93,8 @@ impl Core {
     pub fn add_cond(&mut self, mutex: MutexId) -> Result<CondId, AddFault>
         ensures answer { result ≡ add_cond_answer mutex self.old }
         ensures after { self.new ≡ add_cond_after mutex result self.old }
-        ensures stands { IfOk result (λ c. (h : List Entry) (r : List World) (w : World) → Stands self.old h r w
-            → (v : World) × Stands self.new (Entry.Cond c mutex ∷ h) (w ∷ r) v) }
+        ensures stands { IfOk result (λ c. WhereStands self.old (λ h r w.
+            (v : World) × Stands self.new (Entry.Cond c mutex ∷ h) (w ∷ r) v)) }
     {
         if !self.has_mutex(mutex) {
             return Err(AddFault::NoSuch);
@@ -115,12 +115,10 @@ impl Core {
     pub fn step(&mut self, event: Event) -> Seen
         ensures seen { result ≡ (event_outcome event self.old).seen }
         ensures after { self.new ≡ (event_outcome event self.old).after }
-        ensures stands { (h : List Entry) (r : List World) (w : World) → Stands self.old h r w
-            → (v : World) × Stands self.new (Entry.Step event result ∷ h) (w ∷ r) v }
-        ensures legal { (h : List Entry) (r : List World) (w : World) → Stands self.old h r w
-            → IsLegal self.new.limits (Entry.Step event result ∷ h) }
-        ensures holders { (h : List Entry) (r : List World) (w : World) → Stands self.old h r w
-            → AlwaysOneHolder (Entry.Step event result ∷ h) }
+        ensures stands { WhereStands self.old (λ h r w.
+            (v : World) × Stands self.new (Entry.Step event result ∷ h) (w ∷ r) v) }
+        ensures legal { WhereStands self.old (λ h r w. IsLegal self.new.limits (Entry.Step event result ∷ h)) }
+        ensures holders { WhereStands self.old (λ h r w. AlwaysOneHolder (Entry.Step event result ∷ h)) }
         ensures ends { (t : ℕ) → is_living self.new.kernel t ≡ true → is_open (line_at self.new t) ≡ true
             → ClosesOrWaits (goes_on 23 t self.new).seen }
     {
@@ -131,10 +129,8 @@ impl Core {
     /// chain. `None` where no living thread has that number.
     pub fn effective(&self, thread: Tid) -> Option<Prio>
         ensures value { result ≡ effective_answer thread self.now }
-        ensures added { (h : List Entry) (r : List World) (w : World) → Stands self.now h r w
-            → is_some result ≡ lives w thread }
-        ensures priority { (h : List Entry) (r : List World) (w : World) → Stands self.now h r w
-            → IfSome result (λ p. HasEffective w thread p) }
+        ensures added { WhereStands self.now (λ h r w. is_some result ≡ lives w thread) }
+        ensures priority { WhereStands self.now (λ h r w. IfSome result (λ p. HasEffective w thread p)) }
     {
         self.parts.effective(thread)
     }
@@ -142,10 +138,8 @@ impl Core {
     /// The 32 bits of the word of a mutex. `None` where it was never added.
     pub fn word(&self, mutex: MutexId) -> Option<u32>
         ensures value { result ≡ word_answer mutex self.now }
-        ensures added { (h : List Entry) (r : List World) (w : World) → Stands self.now h r w
-            → is_some result ≡ is_mutex w mutex }
-        ensures possible { (h : List Entry) (r : List World) (w : World) → Stands self.now h r w
-            → IfSome result (λ bits. IsPossible w mutex (word_of bits)) }
+        ensures added { WhereStands self.now (λ h r w. is_some result ≡ is_mutex w mutex) }
+        ensures possible { WhereStands self.now (λ h r w. IfSome result (λ bits. IsPossible w mutex (word_of bits))) }
     {
         self.parts.word(mutex)
     }
@@ -154,12 +148,11 @@ impl Core {
     /// the mutex next writes it. That of a stalled mutex is `Fine`. `None` where the mutex was never added.
     pub fn health(&self, mutex: MutexId) -> Option<Health>
         ensures value { result ≡ health_answer mutex self.now }
-        ensures added { (h : List Entry) (r : List World) (w : World) → Stands self.now h r w
-            → is_some result ≡ is_mutex w mutex }
-        ensures possible { (h : List Entry) (r : List World) (w : World) → Stands self.now h r w
-            → IfSome result (λ x. IsPossibleHealth w mutex (health_word x)) }
-        ensures both { (h : List Entry) (r : List World) (w : World) → Stands self.now h r w
-            → IfSome result (λ x. ArePossible w mutex (cell_at self.now mutex).word (health_word x)) }
+        ensures added { WhereStands self.now (λ h r w. is_some result ≡ is_mutex w mutex) }
+        ensures possible { WhereStands self.now (λ h r w.
+            IfSome result (λ x. IsPossibleHealth w mutex (health_word x))) }
+        ensures both { WhereStands self.now (λ h r w.
+            IfSome result (λ x. ArePossible w mutex (cell_at self.now mutex).word (health_word x))) }
     {
         self.parts.health(mutex)
     }
@@ -168,10 +161,8 @@ impl Core {
     /// together, 0 up to the limit of signals. `None` where the variable was never added.
     pub fn cond_word(&self, cond: CondId) -> Option<u32>
         ensures value { result ≡ cond_word_answer cond self.now }
-        ensures added { (h : List Entry) (r : List World) (w : World) → Stands self.now h r w
-            → is_some result ≡ is_variable w cond }
-        ensures possible { (h : List Entry) (r : List World) (w : World) → Stands self.now h r w
-            → IfSome result (λ n. IsPossibleUses w cond n) }
+        ensures added { WhereStands self.now (λ h r w. is_some result ≡ is_variable w cond) }
+        ensures possible { WhereStands self.now (λ h r w. IfSome result (λ n. IsPossibleUses w cond n)) }
     {
         self.parts.cond_word(cond)
     }
@@ -180,8 +171,7 @@ impl Core {
     /// `None` where no thread is ready.
     pub fn pick(&self) -> Option<Tid>
         ensures value { result ≡ pick_answer self.now }
-        ensures next { (h : List Entry) (r : List World) (w : World) → Stands self.now h r w
-            → IsPick w (unwrap_or result 0) }
+        ensures next { WhereStands self.now (λ h r w. IsPick w (unwrap_or result 0)) }
     {
         self.parts.pick()
     }
@@ -191,10 +181,10 @@ impl Core {
     /// `None` where no living thread has that number, or where that thread has no call open.
     pub fn waiting(&self, thread: Tid) -> Option<bool>
         ensures value { result ≡ waiting_answer thread self.now }
-        ensures open { (h : List Entry) (r : List World) (w : World) → Stands self.now h r w
-            → is_some result ≡ (if lives w thread then is_some (thread_at w thread).call else false) }
-        ensures rests { (h : List Entry) (r : List World) (w : World) → Stands self.now h r w
-            → IfSome result (λ b. b ≡ (if rests w thread then (if is_due w thread then false else true) else false)) }
+        ensures open { WhereStands self.now (λ h r w.
+            is_some result ≡ (if lives w thread then is_some (thread_at w thread).call else false)) }
+        ensures rests { WhereStands self.now (λ h r w.
+            IfSome result (λ b. b ≡ (if rests w thread then (if is_due w thread then false else true) else false))) }
     {
         self.resting(thread)
     }
@@ -209,8 +199,7 @@ impl Core {
     /// How many threads were ever added.
     pub fn threads(&self) -> u32
         ensures value { result ≡ threads_answer self.now }
-        ensures added { (h : List Entry) (r : List World) (w : World) → Stands self.now h r w
-            → result + 1 ≡ length w.threads }
+        ensures added { WhereStands self.now (λ h r w. result + 1 ≡ length w.threads) }
     {
         self.parts.threads()
     }

@@ -1,9 +1,8 @@
-ghost use Rattle.std.specs.Prelude.{◌≡◌, ◌+◌, true, false, length, List, IfSome, Some, None, is_some, unwrap_or};
+ghost use Rattle.std.specs.Prelude.{◌≡◌, ◌+◌, true, false, length, IfSome, Some, None, is_some, unwrap_or};
 ghost use Rattle.std.specs.List.{slice_get};
-ghost use Rattle.pif_model.specs.declared.events.Entry.{Entry};
-ghost use Rattle.pif_model.specs.Posix.{World, is_thread, is_mutex, is_variable, is_blocked_on, thread_at, mutex_at, variable_at, rests};
+ghost use Rattle.pif_model.specs.Posix.{is_thread, is_mutex, is_variable, is_blocked_on, thread_at, mutex_at, variable_at, rests};
 ghost use Rattle.pif_model.specs.Posix.{is_living as lives};
-ghost use Rattle.pif_model.specs.Standing.{Stands, IsDoing, IsPick, call_of, owner_of, waiters_of};
+ghost use Rattle.pif_model.specs.Standing.{WhereStands, IsDoing, IsPick, call_of, owner_of, waiters_of};
 ghost use Rattle.pif_model.specs.Calls.{base_answer, status_answer, open_call_answer, owner_answer, kind_answer, bound_answer, waiter_answer, parked_answer, ready_answer};
 
 use crate::cores::Core;
@@ -14,8 +13,7 @@ impl Core {
     /// How many mutexes were ever added.
     pub fn mutexes(&self) -> u32
         ensures value { result + 1 ≡ length self.now.mutexes }
-        ensures added { (h : List Entry) (r : List World) (w : World) → Stands self.now h r w
-            → result + 1 ≡ length w.mutexes }
+        ensures added { WhereStands self.now (λ h r w. result + 1 ≡ length w.mutexes) }
     {
         self.parts.mutexes()
     }
@@ -23,8 +21,7 @@ impl Core {
     /// How many condition variables were ever added.
     pub fn conds(&self) -> u32
         ensures value { result + 1 ≡ length self.now.conds }
-        ensures added { (h : List Entry) (r : List World) (w : World) → Stands self.now h r w
-            → result + 1 ≡ length w.variables }
+        ensures added { WhereStands self.now (λ h r w. result + 1 ≡ length w.variables) }
     {
         self.parts.conds()
     }
@@ -32,7 +29,7 @@ impl Core {
     /// The time: that of the last tick that was not refused, 0 before the first. Its unit is the caller's.
     pub fn time(&self) -> u32
         ensures value { result ≡ self.now.time }
-        ensures time { (h : List Entry) (r : List World) (w : World) → Stands self.now h r w → result ≡ w.time }
+        ensures time { WhereStands self.now (λ h r w. result ≡ w.time) }
     {
         self.parts.time()
     }
@@ -41,10 +38,8 @@ impl Core {
     /// `None` where no living thread has that number.
     pub fn base(&self, thread: Tid) -> Option<Prio>
         ensures value { result ≡ base_answer thread self.now }
-        ensures added { (h : List Entry) (r : List World) (w : World) → Stands self.now h r w
-            → is_some result ≡ lives w thread }
-        ensures base { (h : List Entry) (r : List World) (w : World) → Stands self.now h r w
-            → IfSome result (λ p. p ≡ (thread_at w thread).base) }
+        ensures added { WhereStands self.now (λ h r w. is_some result ≡ lives w thread) }
+        ensures base { WhereStands self.now (λ h r w. IfSome result (λ p. p ≡ (thread_at w thread).base)) }
     {
         self.parts.base(thread)
     }
@@ -53,10 +48,8 @@ impl Core {
     /// good, or has ended. `None` where it was never added.
     pub fn status(&self, thread: Tid) -> Option<Status>
         ensures value { result ≡ status_answer thread self.now }
-        ensures added { (h : List Entry) (r : List World) (w : World) → Stands self.now h r w
-            → is_some result ≡ is_thread w thread }
-        ensures doing { (h : List Entry) (r : List World) (w : World) → Stands self.now h r w
-            → IfSome result (λ x. IsDoing w thread x) }
+        ensures added { WhereStands self.now (λ h r w. is_some result ≡ is_thread w thread) }
+        ensures doing { WhereStands self.now (λ h r w. IfSome result (λ x. IsDoing w thread x)) }
     {
         self.doing(thread)
     }
@@ -64,8 +57,7 @@ impl Core {
     /// The call that a thread has open, as it was made. `None` where it has none, has ended, or was never added.
     pub fn open_call(&self, thread: Tid) -> Option<Request>
         ensures value { result ≡ open_call_answer thread self.now }
-        ensures open { (h : List Entry) (r : List World) (w : World) → Stands self.now h r w
-            → result ≡ call_of w thread }
+        ensures open { WhereStands self.now (λ h r w. result ≡ call_of w thread) }
     {
         self.asked(thread)
     }
@@ -74,8 +66,7 @@ impl Core {
     /// owns it, or where it was never added.
     pub fn owner(&self, mutex: MutexId) -> Option<(Tid, u32)>
         ensures value { result ≡ owner_answer mutex self.now }
-        ensures owner { (h : List Entry) (r : List World) (w : World) → Stands self.now h r w
-            → result ≡ owner_of w mutex }
+        ensures owner { WhereStands self.now (λ h r w. result ≡ owner_of w mutex) }
     {
         self.parts.owner(mutex)
     }
@@ -83,10 +74,9 @@ impl Core {
     /// The kind of a mutex, and whether it is robust. `None` where it was never added.
     pub fn kind(&self, mutex: MutexId) -> Option<(Kind, bool)>
         ensures value { result ≡ kind_answer mutex self.now }
-        ensures added { (h : List Entry) (r : List World) (w : World) → Stands self.now h r w
-            → is_some result ≡ is_mutex w mutex }
-        ensures kind { (h : List Entry) (r : List World) (w : World) → Stands self.now h r w
-            → IfSome result (λ x. x ≡ ((mutex_at w mutex).kind, (mutex_at w mutex).robust)) }
+        ensures added { WhereStands self.now (λ h r w. is_some result ≡ is_mutex w mutex) }
+        ensures kind { WhereStands self.now (λ h r w.
+            IfSome result (λ x. x ≡ ((mutex_at w mutex).kind, (mutex_at w mutex).robust))) }
     {
         self.parts.kind(mutex)
     }
@@ -94,10 +84,8 @@ impl Core {
     /// The mutex to which a condition variable is bound. `None` where the variable was never added.
     pub fn bound(&self, cond: CondId) -> Option<MutexId>
         ensures value { result ≡ bound_answer cond self.now }
-        ensures added { (h : List Entry) (r : List World) (w : World) → Stands self.now h r w
-            → is_some result ≡ is_variable w cond }
-        ensures bound { (h : List Entry) (r : List World) (w : World) → Stands self.now h r w
-            → IfSome result (λ m. m ≡ (variable_at w cond).mutex) }
+        ensures added { WhereStands self.now (λ h r w. is_some result ≡ is_variable w cond) }
+        ensures bound { WhereStands self.now (λ h r w. IfSome result (λ m. m ≡ (variable_at w cond).mutex)) }
     {
         self.parts.bound(cond)
     }
@@ -107,8 +95,7 @@ impl Core {
     /// `None` where so few wait for it.
     pub fn waiter(&self, mutex: MutexId, place: u32) -> Option<Tid>
         ensures value { result ≡ waiter_answer mutex place self.now }
-        ensures order { (h : List Entry) (r : List World) (w : World) → Stands self.now h r w
-            → result ≡ slice_get (waiters_of w mutex) place }
+        ensures order { WhereStands self.now (λ h r w. result ≡ slice_get (waiters_of w mutex) place) }
     {
         self.parts.waiter(mutex, place)
     }
@@ -118,8 +105,7 @@ impl Core {
     /// equals the first that was parked. `None` where so few are parked on it.
     pub fn parked(&self, cond: CondId, place: u32) -> Option<Tid>
         ensures value { result ≡ parked_answer cond place self.now }
-        ensures blocked { (h : List Entry) (r : List World) (w : World) → Stands self.now h r w
-            → IfSome result (λ t. is_blocked_on w cond t ≡ true) }
+        ensures blocked { WhereStands self.now (λ h r w. IfSome result (λ t. is_blocked_on w cond t ≡ true)) }
     {
         self.parts.parked(cond, place)
     }
@@ -129,10 +115,9 @@ impl Core {
     /// sched(7)). `None` where so few are ready.
     pub fn ready(&self, place: u32) -> Option<Tid>
         ensures value { result ≡ ready_answer place self.now }
-        ensures runs { (h : List Entry) (r : List World) (w : World) → Stands self.now h r w
-            → IfSome result (λ t. (lives w t ≡ true) × (rests w t ≡ false)) }
-        ensures next { (h : List Entry) (r : List World) (w : World) → Stands self.now h r w → place ≡ 0
-            → IsPick w (unwrap_or result 0) }
+        ensures runs { WhereStands self.now (λ h r w. IfSome result (λ t. (lives w t ≡ true) × (rests w t ≡ false))) }
+        ensures next { WhereStands self.now (λ h r w. place ≡ 0
+            → IsPick w (unwrap_or result 0)) }
     {
         self.parts.ready(place)
     }

@@ -7,7 +7,7 @@ use Rattle.pif_types.specs.Bounds.{Bounds}
 use Rattle.pif_types.specs.declared.requests.Request.{Request}
 use Rattle.pif_model.specs.declared.events.Entry.{Entry}
 use Rattle.pif_model.specs.declared.events.Entry.TheVariants.{Thread as AddThread}
-use Rattle.pif_model.specs.Posix.{World, is_thread, recalled, unblocked, after_use, all_unblocked, Passes, LocksAgain, Locks, TriesToLock, Unlocks, MakesConsistent, SetsPriority, ChecksWait, GivesUp, Uses, Chooses, Effect, Effects, Expires, Moves, Releases, Step, IsRun}
+use Rattle.pif_model.specs.Posix.{World, is_thread, with_call_by, after_unblocking, after_use, all_unblocked, Passes, LocksAgain, Locks, TriesToLock, Unlocks, MakesConsistent, SetsPriority, ChecksWait, GivesUp, Uses, Chooses, Effect, Effects, Expires, Moves, Releases, Step, IsRun}
 use Rattle.pif_model.specs.Posix.Passes.{to_nobody, to_next}
 use Rattle.pif_model.specs.Posix.LocksAgain.{rises, at_limit}
 use Rattle.pif_model.specs.Posix.Locks.{own_normal, own_errorcheck, own_recursive as lock_own_recursive, free as lock_free, lost, cycle, joins}
@@ -52,9 +52,9 @@ same_Locks {w = w} (own_normal own kind e) = by e (length-set w.threads _ _)
 same_Locks {w = w} (own_errorcheck own kind e) = by e (length-set w.threads _ _)
 same_Locks (lock_own_recursive own kind again) = same_LocksAgain again
 same_Locks {w = w} (lock_free other free e) = by e (length-set w.threads _ _)
-same_Locks {w = w} (lost other owned is_lost e) = by e (length-set w.threads _ _)
-same_Locks {w = w} (cycle other owned not_lost leads e) = by e (length-set w.threads _ _)
-same_Locks {w = w} (joins other owned not_lost leads e) = by e (length-set w.threads _ _)
+same_Locks {w = w} (lost by_another e) = by e (length-set w.threads _ _)
+same_Locks {w = w} (cycle owned leads e) = by e (length-set w.threads _ _)
+same_Locks {w = w} (joins owned leads e) = by e (length-set w.threads _ _)
 
 same_TriesToLock : {t m : ℕ} {w v : World} → TriesToLock t m w v → Same w v
 same_TriesToLock (try_own_recursive own kind again) = same_LocksAgain again
@@ -69,9 +69,9 @@ same_Unlocks {w = w} (released own one good passes) = same_Passes passes ∙ len
 
 same_MakesConsistent : {t m : ℕ} {w v : World} → MakesConsistent t m w v → Same w v
 same_MakesConsistent {w = w} (not_robust stalled e) = by e (length-set w.threads _ _)
-same_MakesConsistent {w = w} (consistent_not_owner robust other e) = by e (length-set w.threads _ _)
-same_MakesConsistent {w = w} (not_inconsistent robust own good e) = by e (length-set w.threads _ _)
-same_MakesConsistent {w = w} (made_fine robust own bad e) = by e (length-set w.threads _ _)
+same_MakesConsistent {w = w} (consistent_not_owner other e) = by e (length-set w.threads _ _)
+same_MakesConsistent {w = w} (not_inconsistent own good e) = by e (length-set w.threads _ _)
+same_MakesConsistent {w = w} (made_fine own bad e) = by e (length-set w.threads _ _)
 
 same_SetsPriority : {t u p : ℕ} {w v : World} → SetsPriority t u p w v → Same w v
 same_SetsPriority {w = w} (no_priority out e) = by e (length-set w.threads _ _)
@@ -95,7 +95,7 @@ same_Uses {c = c} {w = w} (counts few e) = by e (length-set _ _ _ ∙ length-map
 same_all_unblocked : (us : List ℕ) (w : World) → Same w (all_unblocked us w)
 unfolding all_unblocked
 same_all_unblocked [] w = refl
-same_all_unblocked (u ∷ us) w = same_all_unblocked us (recalled u unblocked w) ∙ length-set w.threads _ _
+same_all_unblocked (u ∷ us) w = same_all_unblocked us (with_call_by u after_unblocking w) ∙ length-set w.threads _ _
 
 same_Chooses : {t : ℕ} {q : Request} {w v : World} → Chooses t q w v → Same w v
 same_Chooses {w = w} (one_chosen c u is blocked greatest e) = by e (length-set _ _ _ ∙ length-set w.threads _ _)

@@ -1,8 +1,8 @@
 //! A core with the journal of what was done with it.
-ghost use Rattle.std.specs.Prelude.{◌≡◌, ◌<◌, ◌≤◌, ◌++◌, List, [], ◌∷◌, length, vec_len, vec_capacity, true, Ok, IfOk, IfErr, OnOk, OnErr};
+ghost use Rattle.std.specs.Prelude.{◌≡◌, ◌<◌, ◌≤◌, ◌++◌, [], ◌∷◌, length, vec_len, vec_capacity, true, Ok, IfOk, IfErr, OnOk, OnErr};
 ghost use Rattle.pif_model.specs.declared.events.Entry.{Entry};
 ghost use Rattle.pif_model.specs.Posix.{World};
-ghost use Rattle.pif_model.specs.Standing.{Stands};
+ghost use Rattle.pif_model.specs.Standing.{Stands, WhereStands};
 ghost use Rattle.pif_model.specs.Lines.{event_outcome};
 ghost use Rattle.pif_model.specs.Table.{thread_added, mutex_added, cond_added};
 ghost use Rattle.pif_model.specs.Calls.{add_thread_answer, add_mutex_answer, add_cond_answer};
@@ -111,8 +111,8 @@ fn step(core: &mut Core, journal: &mut Vec<Entry>, event: Event) -> Seen
     ensures answer { result ≡ (event_outcome event core.old).seen }
     ensures core { core.new ≡ (event_outcome event core.old).after }
     ensures journal { journal.new.items ≡ journal.old.items ++ Entry.Step event result ∷ [] }
-    ensures stands { (h : List Entry) (r : List World) (w : World) → Stands core.old h r w
-        → (v : World) × Stands core.new (Entry.Step event result ∷ h) (w ∷ r) v }
+    ensures stands { WhereStands core.old (λ h r w.
+        (v : World) × Stands core.new (Entry.Step event result ∷ h) (w ∷ r) v) }
 {
     let seen = core.step(event);
     write(journal, step_entry(&event, &seen));

@@ -28,7 +28,7 @@ use Rattle.pif_model.specs.Deadlines.{no_timer}
 use Rattle.pif_model.specs.Posix.Effects.{none as no_effect, then as effect_then, owed}
 use Rattle.pif_model.specs.Posix.Step.{thread_added, mutex_added, cond_added, begun, waits, answered}
 use Rattle.pif_model.specs.Posix.IsRun.{start, next}
-use Rattle.pif_model.specs.Standing.{Shadow, world_of, places}
+use Rattle.pif_model.specs.Projection.{Shadow, world_of, places}
 use Rattle.pif_model.specs.Table.{Table, new_table, thread_added as with_thread_added, mutex_added as with_mutex_added, cond_added as with_cond_added}
 use Rattle.pif_model.specs.Lines.{goes_on}
 use Rattle.pif_model.proofs.Asked.{next as table_after, finished}
@@ -112,8 +112,8 @@ broadcasts = answered 1 0 (Broadcast 1)
           (effect_then {u = both (at (Broadcast 1) (Has 0)) found (waiting Owing) (waiting Owing) (scene 1 1 [])}
           (choose (Broadcast 1) refl (wakes_all 1 (3 ∷ 2 ∷ []) refl blocked_ones still_ones refl))
           (owed {u = both (at (Broadcast 1) (Has 0)) found (waiting Owing) (waiting Waiting) (scene 1 1 ((3, 1) ∷ []))}
-          3 1 1 refl refl (joins (λ e. omega arith) (λ e. omega arith) refl refl refl)
-          (owed 2 1 1 refl refl (joins (λ e. omega arith) (λ e. omega arith) refl refl refl) (no_effect refl)))));
+          3 1 1 refl refl (joins ((λ e. omega arith), (λ e. omega arith), refl) refl refl)
+          (owed 2 1 1 refl refl (joins ((λ e. omega arith), (λ e. omega arith), refl) refl refl) (no_effect refl)))));
     })
     refl refl refl
   where

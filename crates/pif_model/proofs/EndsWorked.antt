@@ -113,7 +113,7 @@ queues = waits 2 t2_waits refl
     (record {
       allowed = refl;
       moves =
-          acts refl (effect_then (lock 1 refl (joins (λ e. omega arith) (λ e. omega arith) refl refl refl))
+          acts refl (effect_then (lock 1 refl (joins ((λ e. omega arith), (λ e. omega arith), refl) refl refl))
           (no_effect refl));
     })
     refl refl

@@ -6,6 +6,7 @@
 use Rattle.std.specs.Prelude.{ℕ, Bool, true, false, ◌==◌, nat_lt, Option, Some, None, if◌then◌else◌}
 use Rattle.pif_types.specs.declared.requests.Request.{Request}
 use Rattle.pif_types.specs.declared.requests.Request.TheVariants.{Lock, Wait, TimedLock, TimedWait}
+use Rattle.pif_model.specs.NamedNumbers.{ETIMEDOUT}
 use Rattle.pif_model.specs.declared.events.Seen.{Seen}
 use Rattle.pif_model.specs.declared.events.Seen.TheVariants.{Answered}
 use Rattle.pif_model.specs.declared.lines.Timer.{Timer}
@@ -58,7 +59,7 @@ is_reached (Some d) now = if nat_lt now d then false else true
 
 -- what a call with this result is answered: a wait that has expired ETIMEDOUT in place of 0; else the result
 abbrev pub told : Request → Bool → ℕ → ℕ
-told (Wait c m) true a = if a == 0 then 110 else a
+told (Wait c m) true a = if a == 0 then ETIMEDOUT else a
 told q expired a = a
 
 -- what a step shows, where it would show this of a call with no deadline

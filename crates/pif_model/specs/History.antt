@@ -2,6 +2,7 @@
 use Rattle.std.specs.Prelude.{ℕ, ◌≡◌, ◌+◌, ◌-◌, Bool, true, false, ◌==◌, nat_lt, List, [], ◌∷◌, Option, Some, None, if◌then◌else◌}
 use Rattle.pif_types.specs.declared.requests.Request.{Request}
 use Rattle.pif_types.specs.declared.requests.Request.TheVariants.{Lock, TryLock, Unlock, Wait}
+use Rattle.pif_model.specs.NamedNumbers.{EDEADLK, EOWNERDEAD, ENOTRECOVERABLE}
 use Rattle.pif_model.specs.declared.events.Event.TheVariants.{Begin, Go, End}
 use Rattle.pif_model.specs.declared.events.Seen.TheVariants.{Begun, Answered, Ended}
 use Rattle.pif_model.specs.declared.events.Entry.{Entry}
@@ -22,12 +23,12 @@ open_call t (e ∷ h) = open_after t e (open_call t h)
 
 -- the hold count after an answer to a lock or a trylock: 0 and EOWNERDEAD add 1
 abbrev pub hold_count_locked : ℕ → ℕ → ℕ
-hold_count_locked a count = if a == 0 then count + 1 else (if a == 130 then count + 1 else count)
+hold_count_locked a count = if a == 0 then count + 1 else (if a == EOWNERDEAD then count + 1 else count)
 
 -- the hold count after an answer to a wait: ENOTRECOVERABLE and EDEADLK make it 0, since the thread doesn't hold the
 -- mutex then
 abbrev pub hold_count_waited : ℕ → ℕ → ℕ
-hold_count_waited a count = if a == 131 then 0 else (if a == 35 then 0 else count)
+hold_count_waited a count = if a == ENOTRECOVERABLE then 0 else (if a == EDEADLK then 0 else count)
 
 -- the hold count on m after an answer to this request: lock and trylock may add 1, unlock takes 1 away where it is
 -- answered 0, and wait may make it 0

@@ -1,3 +1,4 @@
+pub mod NamedNumbers
 pub mod Graph
 pub mod Refusals
 pub mod Deadlines
@@ -9,4 +10,6 @@ pub mod History
 pub mod Table
 pub mod Lines
 pub mod Calls
+pub mod Projection
+pub mod Soundness
 pub mod Standing

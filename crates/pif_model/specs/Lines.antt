@@ -7,6 +7,7 @@ use Rattle.pif_types.specs.declared.errors.Refusal.{Refusal}
 use Rattle.pif_types.specs.declared.requests.Kind.TheVariants.{Normal, ErrorCheck, Recursive}
 use Rattle.pif_types.specs.declared.requests.Request.{Request}
 use Rattle.pif_types.specs.declared.requests.Request.TheVariants.{Lock, TryLock, Unlock, Consistent, Wait, Signal, Broadcast, SetPrio, TimedLock, TimedWait}
+use Rattle.pif_model.specs.NamedNumbers.{EPERM, EAGAIN, EBUSY, EINVAL, EDEADLK, EOVERFLOW, ETIMEDOUT, EOWNERDEAD, ENOTRECOVERABLE, most_holds}
 use Rattle.pif_model.specs.declared.events.Event.{Event}
 use Rattle.pif_model.specs.declared.events.Event.TheVariants.{Begin, Go, End, Tick}
 use Rattle.pif_model.specs.declared.events.Seen.{Seen}
@@ -51,8 +52,8 @@ is_robust m s = (cell_at s m).robust
 abbrev pub pending : ℕ → ℕ → Table → Table
 pending t m s = with_lists (with_pending t m s.lists) s
 
-abbrev pub cleared : ℕ → Table → Table
-cleared t s = with_lists (without_pending t s.lists) s
+abbrev pub nothing_pending : ℕ → Table → Table
+nothing_pending t s = with_lists (without_pending t s.lists) s
 
 -- the call goes on at this place for a robust mutex, and at that place for a stalled one
 abbrev pub goes_by : ℕ → Request → ℕ → Place → Place → Table → Outcome
@@ -63,35 +64,35 @@ abbrev pub ends_by : ℕ → Request → ℕ → Place → ℕ → Table → Out
 ends_by t q m robust a s = if is_robust m s then goes_to t q robust s else answers t a s
 
 -- lock and trylock: the owner of a RECURSIVE mutex holds it once more, or if it holds it 255 times is answered EAGAIN
-unfoldable pub locked_again : ℕ → ℕ → Table → Outcome
-locked_again t m s =
-    if nat_lt (cell_at s m).count 255
+unfoldable pub relocks : ℕ → ℕ → Table → Outcome
+relocks t m s =
+    if nat_lt (cell_at s m).count most_holds
     then answers t 0 (with_count m ((cell_at s m).count + 1) s)
-    else answers t 11 s
+    else answers t EAGAIN s
 
 -- by the word that an exchange has written, if it has
-unfoldable pub exchanged : Option Word → ℕ → (Table → Outcome) → (Table → Outcome) → Table → Outcome
-exchanged (Some w) m done failed s = done (with_word m w s)
-exchanged None m done failed s = failed s
+unfoldable pub after_exchange : Option Word → ℕ → (Table → Outcome) → (Table → Outcome) → Table → Outcome
+after_exchange (Some w) m done failed s = done (with_word m w s)
+after_exchange None m done failed s = failed s
 
 -- lock and trylock: compare-exchange from 0 to t. Done, a stalled mutex is taken, and of a robust one the health is
 -- next; where it fails the call goes on at this place, its kernel call
 unfoldable pub own_exchange : Request → Place → ℕ → ℕ → Table → Outcome
-own_exchange q p t m s = exchanged (take_word (cell_at s m).word t) m (ends_by t q m (TakeHealth false) 0) (goes_to t q p) s
+own_exchange q p t m s = after_exchange (take_word (cell_at s m).word t) m (ends_by t q m (TakeHealth false) 0) (goes_to t q p) s
 
 -- a request that locks: load the word. The owner of a NORMAL mutex goes on to stop, that of an ERRORCHECK mutex is
 -- answered EDEADLK, that of a RECURSIVE mutex holds it once more
 unfoldable pub lock_load : Request → ℕ → ℕ → Table → Outcome
 lock_load q t m s =
     if (cell_at s m).word.number == t
-    then elim (cell_at s m).kind [ Normal ↦ goes_to t q LockStop s | ErrorCheck ↦ answers t 35 s | Recursive ↦ locked_again t m s ]
+    then elim (cell_at s m).kind [ Normal ↦ goes_to t q LockStop s | ErrorCheck ↦ answers t EDEADLK s | Recursive ↦ relocks t m s ]
     else goes_by t q m LockPending LockExchange s
 
 -- a request that locks, by what its kernel call answered. ESRCH: the owner has ended, and the thread goes on to stop
 unfoldable pub lock_by : Result Took Errno → Request → ℕ → ℕ → Table → Outcome
 lock_by (Ok TookOwns) q t m s = ends_by t q m TakeLoad 0 s
 lock_by (Ok TookQueued) q t m s = waits_at t q LockQueued s
-lock_by (Err Deadlock) q t m s = ends_by t q m LockClear 35 s
+lock_by (Err Deadlock) q t m s = ends_by t q m LockClear EDEADLK s
 lock_by (Err NoSuchThread) q t m s = goes_to t q LockStop s
 lock_by (Err e) q t m s = answers t (number_of e) s
 
@@ -129,7 +130,7 @@ unfoldable pub take_store : Request → ℕ → ℕ → Table → Outcome
 take_store q t m s = goes_to t q TakeWord (with_health_word m 1 s)
 
 unfoldable pub take_word_back : Request → ℕ → ℕ → Table → Outcome
-take_word_back q t m s = goes_to t q (LinkNext 130) (with_word m (record (cell_at s m).word { died = false }) s)
+take_word_back q t m s = goes_to t q (LinkNext EOWNERDEAD) (with_word m (record (cell_at s m).word { died = false }) s)
 
 -- taking over: the mutex becomes the head of the caller's list in two writes, and the pending field is cleared
 unfoldable pub link_next : Request → ℕ → ℕ → ℕ → Table → Outcome
@@ -140,11 +141,11 @@ link_head q a t m s = goes_to t q (LinkClear a) (with_lists (with_listed t m s.l
 
 -- the pending field is cleared, and the call answered
 unfoldable pub clears : ℕ → ℕ → Table → Outcome
-clears a t s = answers t a (cleared t s)
+clears a t s = answers t a (nothing_pending t s)
 
 -- leaving: compare-exchange from t to 0
 unfoldable pub leave_exchange : Request → ℕ → ℕ → Table → Outcome
-leave_exchange q t m s = exchanged (release_word (cell_at s m).word t) m (goes_to t q LeaveClear) (goes_to t q LeaveKernel) s
+leave_exchange q t m s = after_exchange (release_word (cell_at s m).word t) m (goes_to t q LeaveClear) (goes_to t q LeaveKernel) s
 
 -- a kernel call that gave a mutex up leads to this outcome; an error is answered
 unfoldable pub given_up_by : Result (record {}) Errno → ℕ → (Table → Outcome) → Table → Outcome
@@ -161,13 +162,13 @@ gives_up t m done s =
 unfoldable pub try_load : ℕ → ℕ → Table → Outcome
 try_load t m s =
     if (cell_at s m).word.number == t
-    then elim (cell_at s m).kind [ Recursive ↦ locked_again t m s | _ ↦ answers t 16 s ]
+    then elim (cell_at s m).kind [ Recursive ↦ relocks t m s | _ ↦ answers t EBUSY s ]
     else goes_by t (TryLock m) m TryPending TryExchange s
 
 -- trylock, by what its kernel call answered: EAGAIN, that the mutex is held, becomes EBUSY
 unfoldable pub try_by : Result (record {}) Errno → ℕ → ℕ → Table → Outcome
 try_by (Ok x) t m s = ends_by t (TryLock m) m TakeLoad 0 s
-try_by (Err Again) t m s = ends_by t (TryLock m) m TryClear 16 s
+try_by (Err Again) t m s = ends_by t (TryLock m) m TryClear EBUSY s
 try_by (Err e) t m s = answers t (number_of e) s
 
 -- trylock: the kernel call trylock_pi
@@ -181,7 +182,7 @@ unfoldable pub unlock_load : ℕ → ℕ → Table → Outcome
 unlock_load t m s =
     if (cell_at s m).word.number == t
     then (if nat_lt 1 (cell_at s m).count then answers t 0 (with_count m ((cell_at s m).count - 1) s) else goes_by t (Unlock m) m UnlockPending UnlockExchange s)
-    else answers t 1 s
+    else answers t EPERM s
 
 -- unlock: load the health word. An inconsistent mutex becomes unusable
 unfoldable pub unlock_health : ℕ → ℕ → Table → Outcome
@@ -191,20 +192,20 @@ unlock_health t m s =
 -- unlock: compare-exchange from t to 0
 unfoldable pub unlock_exchange : ℕ → ℕ → Table → Outcome
 unlock_exchange t m s =
-    exchanged (release_word (cell_at s m).word t) m (ends_by t (Unlock m) m UnlockClear 0) (goes_to t (Unlock m) UnlockKernel) s
+    after_exchange (release_word (cell_at s m).word t) m (ends_by t (Unlock m) m UnlockClear 0) (goes_to t (Unlock m) UnlockKernel) s
 
 -- consistent: a stalled mutex is answered EINVAL with no access. Else load the word; who isn't the owner is answered
 -- EPERM
 unfoldable pub consistent_load : ℕ → ℕ → Table → Outcome
 consistent_load t m s =
     if is_robust m s
-    then (if (cell_at s m).word.number == t then goes_to t (Consistent m) ConsistentHealth s else answers t 1 s)
-    else answers t 22 s
+    then (if (cell_at s m).word.number == t then goes_to t (Consistent m) ConsistentHealth s else answers t EPERM s)
+    else answers t EINVAL s
 
 -- consistent: load the health word. A mutex that isn't inconsistent is answered EINVAL
 unfoldable pub consistent_health : ℕ → ℕ → Table → Outcome
 consistent_health t m s =
-    if (cell_at s m).health == 1 then goes_to t (Consistent m) ConsistentStore s else answers t 22 s
+    if (cell_at s m).health == 1 then goes_to t (Consistent m) ConsistentStore s else answers t EINVAL s
 
 -- the call is closed by what its kernel call answered: 0, or the number of the error
 unfoldable pub answered_by : Result (record {}) Errno → ℕ → Table → Outcome
@@ -225,9 +226,9 @@ unfoldable pub wait_load : ℕ → ℕ → ℕ → Table → Outcome
 wait_load c m t s =
     if bound_to s c == m
     then (if (cell_at s m).word.number == t
-    then (if nat_lt 1 (cell_at s m).count then answers t 22 s else goes_to t (Wait c m) WaitUses s)
-    else answers t 1 s)
-    else answers t 22 s
+    then (if nat_lt 1 (cell_at s m).count then answers t EINVAL s else goes_to t (Wait c m) WaitUses s)
+    else answers t EPERM s)
+    else answers t EINVAL s
 
 -- wait: load the condition word
 unfoldable pub wait_uses : ℕ → ℕ → ℕ → Table → Outcome
@@ -241,7 +242,7 @@ wait_health v c m t s =
 -- wait: compare-exchange from t to 0
 unfoldable pub wait_exchange : ℕ → ℕ → ℕ → ℕ → Table → Outcome
 wait_exchange v c m t s =
-    exchanged (release_word (cell_at s m).word t) m (goes_to t (Wait c m) (WaitPark v))
+    after_exchange (release_word (cell_at s m).word t) m (goes_to t (Wait c m) (WaitPark v))
     (goes_to t (Wait c m) (WaitKernel v)) s
 
 -- wait, by what its kernel call answered. EAGAIN: the variable was used since, and the thread locks the mutex again
@@ -264,7 +265,7 @@ wait_parked c m t s =
 
 -- signal and broadcast: the variable was used this often, as it was read. At its limit EOVERFLOW
 unfoldable pub use_read : Request → ℕ → ℕ → Table → Outcome
-use_read q n t s = if n == s.limits.signals then answers t 75 s else goes_to t q (UseExchange n) s
+use_read q n t s = if n == s.limits.signals then answers t EOVERFLOW s else goes_to t q (UseExchange n) s
 
 -- signal and broadcast: compare-exchange the condition word from v to one more. Where it fails it goes on with what the
 -- word is
@@ -327,8 +328,8 @@ shared_line q (LinkHead a) t m s = link_head q a t m s
 shared_line q (LinkClear a) t m s = clears a t s
 shared_line q LeaveExchange t m s = leave_exchange q t m s
 shared_line q LeaveKernel t m s = gives_up t m (goes_to t q LeaveClear) s
-shared_line q LeaveClear t m s = clears 131 t s
-shared_line q _ t m s = answers t 22 s
+shared_line q LeaveClear t m s = clears ENOTRECOVERABLE t s
+shared_line q _ t m s = answers t EINVAL s
 
 -- one step of a request that locks m, from the exchange on
 unfoldable pub locking_line : Request → Place → ℕ → ℕ → Table → Outcome
@@ -337,7 +338,7 @@ locking_line q LockKernel t m s = lock_kernel q t m s
 locking_line q LockQueued t m s = lock_queued q t m s
 locking_line q LockStop t m s = lock_stop q t s
 locking_line q LockStopped t m s = record { seen = Waits; after = s }
-locking_line q LockClear t m s = clears 35 t s
+locking_line q LockClear t m s = clears EDEADLK t s
 locking_line q p t m s = shared_line q p t m s
 
 -- one step of a signal or a broadcast of c; at another place, which never comes, EINVAL
@@ -346,20 +347,20 @@ use_line q UseLoad c t s = use_read q (uses_of s c) t s
 use_line q (UseExchange v) c t s = use_exchange q v c t s
 use_line q (UseRequeue v) c t s = use_requeue q v c t s
 use_line q UseReload c t s = goes_to t q (UseRequeue (uses_of s c)) s
-use_line q _ c t s = answers t 22 s
+use_line q _ c t s = answers t EINVAL s
 
 -- one step of a call at a place of its own; at a place of another, which never comes, EINVAL
 unfoldable pub line_of : Request → Place → ℕ → Table → Outcome
 line_of (Lock m) LockLoad t s = lock_load (Lock m) t m s
 line_of (Lock m) LockPending t s = goes_to t (Lock m) LockExchange (pending t m s)
-line_of (Lock m) QueueExpired t s = clears 110 t s
-line_of (Lock m) StopExpired t s = clears 110 t s
+line_of (Lock m) QueueExpired t s = clears ETIMEDOUT t s
+line_of (Lock m) StopExpired t s = clears ETIMEDOUT t s
 line_of (Lock m) p t s = locking_line (Lock m) p t m s
 line_of (TryLock m) TryLoad t s = try_load t m s
 line_of (TryLock m) TryPending t s = goes_to t (TryLock m) TryExchange (pending t m s)
 line_of (TryLock m) TryExchange t s = own_exchange (TryLock m) TryKernel t m s
 line_of (TryLock m) TryKernel t s = try_kernel t m s
-line_of (TryLock m) TryClear t s = clears 16 t s
+line_of (TryLock m) TryClear t s = clears EBUSY t s
 line_of (TryLock m) p t s = shared_line (TryLock m) p t m s
 line_of (Unlock m) UnlockLoad t s = unlock_load t m s
 line_of (Unlock m) UnlockPending t s = goes_to t (Unlock m) UnlockHealth (pending t m s)
@@ -387,7 +388,7 @@ line_of (Wait c m) p t s = locking_line (Wait c m) p t m s
 line_of (Signal c) p t s = use_line (Signal c) p c t s
 line_of (Broadcast c) p t s = use_line (Broadcast c) p c t s
 line_of (SetPrio u p) SetPriority t s = set_priority t u p s
-line_of _ _ t s = answers t 22 s
+line_of _ _ t s = answers t EINVAL s
 
 -- DEADLINES
 
@@ -422,10 +423,10 @@ expired_in t s = with_kernel s.words (kernel_after_expire t s.kernel) s
 -- a call that is due at this place expires. A lock of a stalled mutex is answered ETIMEDOUT, that of a robust one
 -- clears its pending field first; a wait goes on to lock its mutex. Another request is never due: EINVAL
 unfoldable pub expires_at : Request → Place → ℕ → Table → Outcome
-expires_at (Lock m) p t s = ends_by t (Lock m) m (expired_place p) 110 (expired_in t s)
+expires_at (Lock m) p t s = ends_by t (Lock m) m (expired_place p) ETIMEDOUT (expired_in t s)
 expires_at (Wait c m) p t s =
     goes_to t (Wait c m) LockExchange (with_timer t (ran_out (timer_at s t)) (expired_in t s))
-expires_at q p t s = answers t 22 s
+expires_at q p t s = answers t EINVAL s
 
 -- what a call that has run out of time, or has not, shows of a step
 abbrev pub told_outcome : Request → Bool → Outcome → Outcome

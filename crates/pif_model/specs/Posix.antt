@@ -15,6 +15,7 @@ use Rattle.pif_types.specs.declared.requests.Kind.{Kind}
 use Rattle.pif_types.specs.declared.requests.Kind.TheVariants.{Normal, ErrorCheck, Recursive}
 use Rattle.pif_types.specs.declared.requests.Request.{Request}
 use Rattle.pif_types.specs.declared.requests.Request.TheVariants.{Lock, TryLock, Unlock, Consistent, Wait, Signal, Broadcast, SetPrio, TimedLock, TimedWait}
+use Rattle.pif_model.specs.NamedNumbers.{EPERM, ESRCH, EAGAIN, EBUSY, EINVAL, EDEADLK, EOVERFLOW, ETIMEDOUT, EOWNERDEAD, ENOTRECOVERABLE, most_holds}
 use Rattle.pif_model.specs.declared.events.Event.{Event}
 use Rattle.pif_model.specs.declared.events.Event.TheVariants.{Begin, Go, End, Tick}
 use Rattle.pif_model.specs.declared.events.Seen.TheVariants.{Begun, Went, Waits, Answered, Ended, Ticked, Refused}
@@ -171,17 +172,17 @@ abbrev pub with_variable : ℕ → Variable → World → World
 with_variable c x w = record w { variables = set w.variables c x }
 
 -- t's call as this makes it
-abbrev pub recalled : ℕ → (Option Call → Option Call) → World → World
-recalled t f w = with_thread t (record (thread_at w t) { call = f (thread_at w t).call }) w
+abbrev pub with_call_by : ℕ → (Option Call → Option Call) → World → World
+with_call_by t f w = with_thread t (record (thread_at w t) { call = f (thread_at w t).call }) w
 
 -- an open call that has come this far
-abbrev pub progressed : Progress → Option Call → Option Call
-progressed p None = None
-progressed p (Some c) = Some (record c { progress = p })
+abbrev pub at_progress : Progress → Option Call → Option Call
+at_progress p None = None
+at_progress p (Some c) = Some (record c { progress = p })
 
 -- t's call has come this far
 abbrev pub with_progress : ℕ → Progress → World → World
-with_progress t p w = recalled t (progressed p) w
+with_progress t p w = with_call_by t (at_progress p) w
 
 -- WAITING AND PRIORITY
 
@@ -280,13 +281,117 @@ is_found w t u =
 abbrev pub is_still_blocked : World → ℕ → ℕ → ℕ → Bool
 is_still_blocked w t c u = if is_blocked_on w c u then is_found w t u else false
 
+-- THE PREMISES AND RESULTS OF RULES
+
+-- t's open call is q, and has come this far
+abbrev pub HasCome : World → ℕ → Request → Progress → Type 0
+HasCome w t q p = (thread_at w t).call ≡ Some (record { request = q; progress = p })
+
+-- t's open call is q, and has had no effect yet
+abbrev pub IsCalling : World → ℕ → Request → Type 0
+IsCalling w t q = HasCome w t q Fresh
+
+-- t is the owner of m, or isn't
+abbrev pub IsOwner : World → ℕ → ℕ → Type 0
+IsOwner w t m = (mutex_at w m).owner ≡ t
+
+abbrev pub IsNotOwner : World → ℕ → ℕ → Type 0
+IsNotOwner w t m = (mutex_at w m).owner ≢ t
+
+-- m has no owner; or it has one, which may have ended
+abbrev pub IsFree : World → ℕ → Type 0
+IsFree w m = (mutex_at w m).owner ≡ 0
+
+abbrev pub IsOwned : World → ℕ → Type 0
+IsOwned w m = (mutex_at w m).owner ≢ 0
+
+-- another thread than t owns m, and m is lost; or another thread owns it, and it isn't lost
+abbrev pub IsLostByAnother : World → ℕ → ℕ → Type 0
+IsLostByAnother w t m = IsNotOwner w t m × IsOwned w m × (is_lost w m ≡ true)
+
+abbrev pub IsHeldByAnother : World → ℕ → ℕ → Type 0
+IsHeldByAnother w t m = IsNotOwner w t m × IsOwned w m × (is_lost w m ≡ false)
+
+-- to wait for m would close a cycle: m's owner waits for t through some chain; or it would close none
+abbrev pub ClosesCycle : World → ℕ → ℕ → Type 0
+ClosesCycle w t m = leads_to w (mutex_at w m).owner t ≡ true
+
+abbrev pub ClosesNoCycle : World → ℕ → ℕ → Type 0
+ClosesNoCycle w t m = leads_to w (mutex_at w m).owner t ≡ false
+
+-- m is of this kind
+abbrev pub IsOfKind : World → ℕ → Kind → Type 0
+IsOfKind w m k = (mutex_at w m).kind ≡ k
+
+-- m is held once by its owner, or more than once
+abbrev pub IsHeldOnce : World → ℕ → Type 0
+IsHeldOnce w m = (mutex_at w m).count ≡ 1
+
+abbrev pub IsHeldMore : World → ℕ → Type 0
+IsHeldMore w m = 1 < (mutex_at w m).count
+
+-- m is stalled, or robust and owned by t, or robust and not owned by t
+abbrev pub IsStalled : World → ℕ → Type 0
+IsStalled w m = (mutex_at w m).robust ≡ false
+
+abbrev pub OwnsRobust : World → ℕ → ℕ → Type 0
+OwnsRobust w t m = ((mutex_at w m).robust ≡ true) × IsOwner w t m
+
+abbrev pub OwnsNotRobust : World → ℕ → ℕ → Type 0
+OwnsNotRobust w t m = ((mutex_at w m).robust ≡ true) × IsNotOwner w t m
+
+-- m is Inconsistent, or Fine or Unusable
+abbrev pub IsInconsistent : World → ℕ → Type 0
+IsInconsistent w m = (mutex_at w m).health ≡ Inconsistent
+
+abbrev pub IsNotInconsistent : World → ℕ → Type 0
+IsNotInconsistent w m = (mutex_at w m).health ≢ Inconsistent
+
+-- t doesn't own m, or m isn't RECURSIVE
+abbrev pub MayNotRelock : World → ℕ → ℕ → Type 0
+MayNotRelock w t m = IsOwner w t m → (mutex_at w m).kind ≢ Recursive
+
+-- c was used as often as it may be, or less often
+abbrev pub IsUsedUp : World → ℕ → Type 0
+IsUsedUp w c = (variable_at w c).uses ≡ w.signals
+
+abbrev pub IsNotUsedUp : World → ℕ → Type 0
+IsNotUsedUp w c = (variable_at w c).uses ≢ w.signals
+
+-- c is bound to m, or to another mutex
+abbrev pub IsBoundTo : World → ℕ → ℕ → Type 0
+IsBoundTo w c m = (variable_at w c).mutex ≡ m
+
+abbrev pub IsBoundElsewhere : World → ℕ → ℕ → Type 0
+IsBoundElsewhere w c m = (variable_at w c).mutex ≢ m
+
+-- from w to v t's call has come this far, and nothing else has changed
+abbrev pub Comes : ℕ → Progress → World → World → Type 0
+Comes t p w v = v ≡ with_progress t p w
+
+-- from w to v t's call has come to this result, and nothing else has changed
+abbrev pub HasResult : ℕ → ℕ → World → World → Type 0
+HasResult t a w v = Comes t (Has a) w v
+
+-- t at the end of the waiters, for m
+abbrev pub with_waiter : ℕ → ℕ → World → World
+with_waiter t m w = record w { waiters = w.waiters ++ (t, m) ∷ [] }
+
+-- t not among the waiters
+abbrev pub without_waiter : ℕ → World → World
+without_waiter t w = record w { waiters = without w.waiters t }
+
+-- m owned by nobody, which holds it once
+abbrev pub with_no_owner : ℕ → World → World
+with_no_owner m w = with_mutex m (record (mutex_at w m) { owner = 0; count = 1 }) w
+
 -- EFFECTS
 
 -- what taking a mutex leads to, by its health: 0; EOWNERDEAD (pthread_mutex_lock: the lock is acquired, and it is up to
 -- the new owner to make the state consistent); or leaving, since nobody locks an Unusable mutex (ENOTRECOVERABLE)
 abbrev pub on_taking : Health → Progress
 on_taking Fine = Has 0
-on_taking Inconsistent = Has 130
+on_taking Inconsistent = Has EOWNERDEAD
 on_taking Unusable = Leaving
 
 -- t takes m: it owns m with count 1
@@ -299,16 +404,16 @@ abbrev pub with_health : ℕ → Health → World → World
 with_health m x w = with_mutex m (record (mutex_at w m) { health = x }) w
 
 -- m is held this often by its owner
-abbrev pub counted : ℕ → ℕ → World → World
-counted m n w = with_mutex m (record (mutex_at w m) { count = n }) w
+abbrev pub with_hold_count : ℕ → ℕ → World → World
+with_hold_count m n w = with_mutex m (record (mutex_at w m) { count = n }) w
 
 -- the owner t of a RECURSIVE mutex m locks it again, by lock or trylock
 pub data LocksAgain (t m : ℕ) (w v : World) : Type 0 where
   -- it holds m once more (pthread_mutex_lock: the lock count is incremented by one)
-  rises : (mutex_at w m).count < 255 → v ≡ with_progress t (Has 0) (counted m ((mutex_at w m).count + 1) w) → LocksAgain t m w v
+  rises : (mutex_at w m).count < most_holds → HasResult t 0 (with_hold_count m ((mutex_at w m).count + 1) w) v → LocksAgain t m w v
   -- it holds m as often as it may: EAGAIN (pthread_mutex_lock: the maximum number of recursive locks has been exceeded;
   -- that it is 255 is this project's choice)
-  at_limit : (mutex_at w m).count ≡ 255 → v ≡ with_progress t (Has 11) w → LocksAgain t m w v
+  at_limit : (mutex_at w m).count ≡ most_holds → HasResult t EAGAIN w v → LocksAgain t m w v
 
 -- the mutex that a request names; 0 where it names none
 abbrev pub named_by : Request → ℕ
@@ -332,68 +437,62 @@ is_use _ = false
 -- pthread_mutex_lock by t on m, where no effect has happened yet; or the lock that a wait of t owes
 pub data Locks (t m : ℕ) (w v : World) : Type 0 where
   -- the owner locks a NORMAL mutex again: it waits for good (pthread_mutex_lock, table of relocking: deadlock)
-  own_normal : (mutex_at w m).owner ≡ t → (mutex_at w m).kind ≡ Normal → v ≡ with_progress t Stuck w → Locks t m w v
+  own_normal : IsOwner w t m → IsOfKind w m Normal → Comes t Stuck w v → Locks t m w v
   -- the owner locks an ERRORCHECK mutex again: EDEADLK (the same table: an error is returned)
-  own_errorcheck : (mutex_at w m).owner ≡ t → (mutex_at w m).kind ≡ ErrorCheck → v ≡ with_progress t (Has 35) w → Locks t m w v
+  own_errorcheck : IsOwner w t m → IsOfKind w m ErrorCheck → HasResult t EDEADLK w v → Locks t m w v
   -- the owner locks a RECURSIVE mutex again (the same table: recursive)
-  own_recursive : (mutex_at w m).owner ≡ t → (mutex_at w m).kind ≡ Recursive → LocksAgain t m w v → Locks t m w v
+  own_recursive : IsOwner w t m → IsOfKind w m Recursive → LocksAgain t m w v → Locks t m w v
   -- nobody owns it: t takes it (pthread_mutex_lock: it returns with the mutex locked and the caller as its owner)
-  free : (mutex_at w m).owner ≢ t → (mutex_at w m).owner ≡ 0 → v ≡ taken t m w → Locks t m w v
+  free : IsNotOwner w t m → IsFree w m → v ≡ taken t m w → Locks t m w v
   -- it is lost: t waits for good (pthread_mutexattr_setrobust, PTHREAD_MUTEX_STALLED: this can lead to deadlocks)
-  lost : (mutex_at w m).owner ≢ t → (mutex_at w m).owner ≢ 0 → is_lost w m ≡ true → v ≡ with_progress t Stuck w → Locks t m w v
+  lost : IsLostByAnother w t m → Comes t Stuck w v → Locks t m w v
   -- its owner waits for t through some chain: EDEADLK (pthread_mutex_lock may report that a deadlock was detected; that
   -- it always does, for every kind, is this project's choice)
-  cycle : (mutex_at w m).owner ≢ t → (mutex_at w m).owner ≢ 0 → is_lost w m ≡ false
-      → leads_to w (mutex_at w m).owner t ≡ true → v ≡ with_progress t (Has 35) w → Locks t m w v
+  cycle : IsHeldByAnother w t m → ClosesCycle w t m → HasResult t EDEADLK w v → Locks t m w v
   -- else t joins the end of its waiters (pthread_mutex_lock: the caller blocks until the mutex becomes available)
-  joins : (mutex_at w m).owner ≢ t → (mutex_at w m).owner ≢ 0 → is_lost w m ≡ false
-      → leads_to w (mutex_at w m).owner t ≡ false
-      → v ≡ record (with_progress t Waiting w) { waiters = w.waiters ++ (t, m) ∷ [] } → Locks t m w v
+  joins : IsHeldByAnother w t m → ClosesNoCycle w t m → Comes t Waiting (with_waiter t m w) v → Locks t m w v
 
 -- pthread_mutex_trylock by t on m, where no effect has happened yet
 pub data TriesToLock (t m : ℕ) (w v : World) : Type 0 where
   -- the owner locks a RECURSIVE mutex again (pthread_mutex_trylock: the lock count is incremented, and it succeeds)
-  own_recursive : (mutex_at w m).owner ≡ t → (mutex_at w m).kind ≡ Recursive → LocksAgain t m w v → TriesToLock t m w v
+  own_recursive : IsOwner w t m → IsOfKind w m Recursive → LocksAgain t m w v → TriesToLock t m w v
   -- it is owned otherwise, or lost: EBUSY (pthread_mutex_trylock: it was already locked, by any thread)
-  busy : (mutex_at w m).owner ≢ 0 → ((mutex_at w m).owner ≡ t → (mutex_at w m).kind ≢ Recursive) → v ≡ with_progress t (Has 16) w → TriesToLock t m w v
-  -- nobody owns it: t takes it
-  free : (mutex_at w m).owner ≡ 0 → v ≡ taken t m w → TriesToLock t m w v
+  busy : IsOwned w m → MayNotRelock w t m → HasResult t EBUSY w v → TriesToLock t m w v
+  -- nobody owns it: t takes it (pthread_mutex_trylock: as pthread_mutex_lock, but for a mutex that is locked)
+  free : IsFree w m → v ≡ taken t m w → TriesToLock t m w v
 
 -- m passes on: to nobody, which holds it once, or to its next waiter, which takes it (pthread_mutex_unlock: if threads
 -- are blocked on it, the scheduling policy determines which acquires it)
 pub data Passes (m : ℕ) (w v : World) : Type 0 where
-  to_nobody : next_of w m ≡ 0 → v ≡ with_mutex m (record (mutex_at w m) { owner = 0; count = 1 }) w → Passes m w v
-  to_next : (u : ℕ) → next_of w m ≡ u → u ≢ 0 → v ≡ taken u m (record w { waiters = without w.waiters u }) → Passes m w v
+  to_nobody : next_of w m ≡ 0 → v ≡ with_no_owner m w → Passes m w v
+  to_next : (u : ℕ) → next_of w m ≡ u → u ≢ 0 → v ≡ taken u m (without_waiter u w) → Passes m w v
 
 -- pthread_mutex_unlock by t on m, where no effect has happened yet
 pub data Unlocks (t m : ℕ) (w v : World) : Type 0 where
   -- t isn't the owner: EPERM (pthread_mutex_unlock, for ERRORCHECK, RECURSIVE and robust mutexes; for a stalled NORMAL
   -- one POSIX leaves it undefined, and this is this project's choice)
-  not_owner : (mutex_at w m).owner ≢ t → v ≡ with_progress t (Has 1) w → Unlocks t m w v
+  not_owner : IsNotOwner w t m → HasResult t EPERM w v → Unlocks t m w v
   -- the owner holds it more than once: it holds it once less, and the result is 0 (pthread_mutex_lock: each time a
   -- RECURSIVE mutex is unlocked the lock count is decremented by one)
-  falls : (mutex_at w m).owner ≡ t → 1 < (mutex_at w m).count → v ≡ with_progress t (Has 0) (counted m ((mutex_at w m).count - 1) w) → Unlocks t m w v
+  falls : IsOwner w t m → IsHeldMore w m → HasResult t 0 (with_hold_count m ((mutex_at w m).count - 1) w) v → Unlocks t m w v
   -- the owner, who holds it once, gives it up Inconsistent: it becomes Unusable, and the unlock goes on from there
   -- (pthread_mutex_consistent: unlocked without having been made consistent it is permanently unusable)
-  becomes_unusable : (mutex_at w m).owner ≡ t → (mutex_at w m).count ≡ 1 → (mutex_at w m).health ≡ Inconsistent
+  becomes_unusable : IsOwner w t m → IsHeldOnce w m → IsInconsistent w m
       → v ≡ with_health m Unusable w → Unlocks t m w v
   -- the owner, who holds it once, gives it up otherwise: it passes on, and the result is 0 (pthread_mutex_unlock)
-  released : (mutex_at w m).owner ≡ t → (mutex_at w m).count ≡ 1 → (mutex_at w m).health ≢ Inconsistent
+  released : IsOwner w t m → IsHeldOnce w m → IsNotInconsistent w m
       → Passes m (with_progress t (Has 0) w) v → Unlocks t m w v
 
 -- pthread_mutex_consistent by t on m, where no effect has happened yet
 pub data MakesConsistent (t m : ℕ) (w v : World) : Type 0 where
   -- it isn't robust: EINVAL (pthread_mutex_consistent: not robust, or doesn't protect an inconsistent state)
-  not_robust : (mutex_at w m).robust ≡ false → v ≡ with_progress t (Has 22) w → MakesConsistent t m w v
+  not_robust : IsStalled w m → HasResult t EINVAL w v → MakesConsistent t m w v
   -- t isn't the owner: EPERM (this project's choice, as is its place between the two others; POSIX names no error)
-  not_owner : (mutex_at w m).robust ≡ true → (mutex_at w m).owner ≢ t → v ≡ with_progress t (Has 1) w
-      → MakesConsistent t m w v
+  not_owner : OwnsNotRobust w t m → HasResult t EPERM w v → MakesConsistent t m w v
   -- it isn't Inconsistent: EINVAL (the same sentence)
-  not_inconsistent : (mutex_at w m).robust ≡ true → (mutex_at w m).owner ≡ t → (mutex_at w m).health ≢ Inconsistent
-      → v ≡ with_progress t (Has 22) w → MakesConsistent t m w v
+  not_inconsistent : OwnsRobust w t m → IsNotInconsistent w m → HasResult t EINVAL w v → MakesConsistent t m w v
   -- it is Fine from now on (pthread_mutex_consistent: the state is marked consistent, and is used as before)
-  made_fine : (mutex_at w m).robust ≡ true → (mutex_at w m).owner ≡ t → (mutex_at w m).health ≡ Inconsistent
-      → v ≡ with_progress t (Has 0) (with_health m Fine w) → MakesConsistent t m w v
+  made_fine : OwnsRobust w t m → IsInconsistent w m → HasResult t 0 (with_health m Fine w) v → MakesConsistent t m w v
 
 -- t with this base priority
 abbrev pub with_base : ℕ → ℕ → World → World
@@ -403,30 +502,27 @@ with_base t p w = with_thread t (record (thread_at w t) { base = p }) w
 pub data SetsPriority (t u p : ℕ) (w v : World) : Type 0 where
   -- p is no priority: EINVAL (pthread_setschedprio: invalid for the scheduling policy of the thread, here SCHED_FIFO's
   -- 1 to 99)
-  no_priority : is_priority p ≡ false → v ≡ with_progress t (Has 22) w → SetsPriority t u p w v
+  no_priority : is_priority p ≡ false → HasResult t EINVAL w v → SetsPriority t u p w v
   -- u is not living: ESRCH (pthread_setschedprio recommends it for an ID after the end of its thread's lifetime; that
   -- it comes behind EINVAL is this project's choice)
-  not_living : is_priority p ≡ true → is_living w u ≡ false → v ≡ with_progress t (Has 3) w → SetsPriority t u p w v
+  not_living : is_priority p ≡ true → is_living w u ≡ false → HasResult t ESRCH w v → SetsPriority t u p w v
   -- u's base priority is p; who waits for what, and since when, stays (pthread_setschedprio; the last is this project's
   -- choice)
-  changed : is_priority p ≡ true → is_living w u ≡ true → v ≡ with_progress t (Has 0) (with_base u p w) → SetsPriority t u p w v
+  changed : is_priority p ≡ true → is_living w u ≡ true → HasResult t 0 (with_base u p w) v → SetsPriority t u p w v
 
 -- pthread_cond_wait by t on c with m, where no effect has happened yet
 pub data ChecksWait (t c m : ℕ) (w v : World) : Type 0 where
   -- c is bound to another mutex: EINVAL (pthread_cond_wait leaves other mutexes than the bound one undefined; the
   -- error, and that a variable is bound when it is added and stays so, are this project's choice)
-  other_mutex : (variable_at w c).mutex ≢ m → v ≡ with_progress t (Has 22) w → ChecksWait t c m w v
+  other_mutex : IsBoundElsewhere w c m → HasResult t EINVAL w v → ChecksWait t c m w v
   -- t isn't the owner: EPERM (pthread_cond_wait, for ERRORCHECK and robust mutexes; for the others this project's
   -- choice)
-  not_owner : (variable_at w c).mutex ≡ m → (mutex_at w m).owner ≢ t → v ≡ with_progress t (Has 1) w
-      → ChecksWait t c m w v
+  not_owner : IsBoundTo w c m → IsNotOwner w t m → HasResult t EPERM w v → ChecksWait t c m w v
   -- the owner holds it more than once: EINVAL (this project's choice; POSIX advises against waiting with a RECURSIVE
   -- one)
-  held_more : (variable_at w c).mutex ≡ m → (mutex_at w m).owner ≡ t → 1 < (mutex_at w m).count
-      → v ≡ with_progress t (Has 22) w → ChecksWait t c m w v
-  -- the owner holds it once
-  checked : (variable_at w c).mutex ≡ m → (mutex_at w m).owner ≡ t → (mutex_at w m).count ≡ 1
-      → v ≡ with_progress t Checked w → ChecksWait t c m w v
+  held_more : IsBoundTo w c m → IsOwner w t m → IsHeldMore w m → HasResult t EINVAL w v → ChecksWait t c m w v
+  -- the owner holds it once (pthread_cond_wait: it is called with the mutex locked by the calling thread)
+  checked : IsBoundTo w c m → IsOwner w t m → IsHeldOnce w m → Comes t Checked w v → ChecksWait t c m w v
 
 -- how far a wait has come once it has given the mutex up, where it is blocked still, or is not
 abbrev pub on_release : Bool → Progress
@@ -435,11 +531,11 @@ on_release still = if still then Blocked false else Owing
 -- a wait of t, which has joined the blocked threads, gives m up (pthread_cond_wait: it releases the mutex and blocks,
 -- atomically with respect to another thread that takes the mutex and then uses the variable)
 pub data GivesUp (t m : ℕ) (still : Bool) (w v : World) : Type 0 where
-  -- an Inconsistent mutex becomes Unusable first, and the wait goes on from there
-  becomes_unusable : (mutex_at w m).owner ≡ t → (mutex_at w m).health ≡ Inconsistent → v ≡ with_health m Unusable w
-      → GivesUp t m still w v
+  -- an Inconsistent mutex becomes Unusable first, and the wait goes on from there (pthread_mutex_consistent, as for an
+  -- unlock)
+  becomes_unusable : IsOwner w t m → IsInconsistent w m → v ≡ with_health m Unusable w → GivesUp t m still w v
   -- another passes on
-  released : (mutex_at w m).owner ≡ t → (mutex_at w m).health ≢ Inconsistent
+  released : IsOwner w t m → IsNotInconsistent w m
       → Passes m (with_progress t (on_release still) w) v → GivesUp t m still w v
 
 -- how far a blocked call has come once it is unblocked
@@ -449,9 +545,9 @@ on_unblocking (Blocked noted) = Owing
 on_unblocking p = p
 
 -- an open call once it is unblocked
-abbrev pub unblocked : Option Call → Option Call
-unblocked None = None
-unblocked (Some x) = Some (record x { progress = on_unblocking x.progress })
+abbrev pub after_unblocking : Option Call → Option Call
+after_unblocking None = None
+after_unblocking (Some x) = Some (record x { progress = on_unblocking x.progress })
 
 -- whether an open call is blocked on c and was not answered Waits yet
 abbrev pub is_newly_blocked : ℕ → Option Call → Bool
@@ -460,7 +556,7 @@ is_newly_blocked c (Some x) = if is_idle x.progress then false else is_call_bloc
 
 -- a thread once c is used: a wait on c that was not answered Waits yet is unblocked
 abbrev pub after_use : ℕ → Thread → Thread
-after_use c x = if is_newly_blocked c x.call then record x { call = unblocked x.call } else x
+after_use c x = if is_newly_blocked c x.call then record x { call = after_unblocking x.call } else x
 
 -- c is used once more
 abbrev pub used : ℕ → World → World
@@ -472,14 +568,15 @@ used c w = record w {
 -- pthread_cond_signal or pthread_cond_broadcast by t on c, where no effect has happened yet
 pub data Uses (t c : ℕ) (w v : World) : Type 0 where
   -- c was used as often as it may be: EOVERFLOW (this project's choice; POSIX knows no such limit)
-  at_limit : (variable_at w c).uses ≡ w.signals → v ≡ with_progress t (Has 75) w → Uses t c w v
+  at_limit : IsUsedUp w c → HasResult t EOVERFLOW w v → Uses t c w v
   -- it is used once more, and each thread that is blocked on it and was not answered Waits yet is unblocked
-  counts : (variable_at w c).uses ≢ w.signals → v ≡ with_progress t Used (used c w) → Uses t c w v
+  -- (pthread_cond_wait: spurious wakeups may occur; that a use wakes all of these is this project's choice)
+  counts : IsNotUsedUp w c → Comes t Used (used c w) v → Uses t c w v
 
 -- each of these threads is unblocked
 unfoldable pub all_unblocked : List ℕ → World → World
 all_unblocked [] w = w
-all_unblocked (u ∷ us) w = all_unblocked us (recalled u unblocked w)
+all_unblocked (u ∷ us) w = all_unblocked us (with_call_by u after_unblocking w)
 
 -- a signal or a broadcast by t, which has used its variable, chooses whom it wakes, and the result is 0 (POSIX,
 -- pthread_cond_signal: at least one of the threads that are blocked; pthread_cond_broadcast: all of them)
@@ -489,10 +586,9 @@ pub data Chooses (t : ℕ) (q : Request) (w v : World) : Type 0 where
   -- still are by the same wait, has a greater effective priority
   one : (c u : ℕ) → q ≡ Signal c → is_blocked_on w c u ≡ true
       → ((b : ℕ) → is_still_blocked w t c b ≡ true → effective_of w b ≤ effective_of w u)
-      → v ≡ recalled u unblocked (with_progress t (Has 0) w) → Chooses t q w v
+      → v ≡ with_call_by u after_unblocking (with_progress t (Has 0) w) → Chooses t q w v
   -- or nobody, where none of those is left
-  no_one : (c : ℕ) → q ≡ Signal c → ((b : ℕ) → is_still_blocked w t c b ≡ false) → v ≡ with_progress t (Has 0) w
-      → Chooses t q w v
+  no_one : (c : ℕ) → q ≡ Signal c → ((b : ℕ) → is_still_blocked w t c b ≡ false) → HasResult t 0 w v → Chooses t q w v
   -- a broadcast wakes some threads that are blocked, among which are all that were blocked when the broadcast began and
   -- still are by the same wait
   all : (c : ℕ) (us : List ℕ) → q ≡ Broadcast c
@@ -502,32 +598,25 @@ pub data Chooses (t : ℕ) (q : Request) (w v : World) : Type 0 where
 
 -- one effect of t's open call
 pub data Effect (t : ℕ) (w v : World) : Type 0 where
-  lock : (m : ℕ) → (thread_at w t).call ≡ Some (record { request = Lock m; progress = Fresh }) → Locks t m w v → Effect t w v
-  try_lock : (m : ℕ) → (thread_at w t).call ≡ Some (record { request = TryLock m; progress = Fresh }) → TriesToLock t m w v → Effect t w v
-  unlock : (m : ℕ) → (thread_at w t).call ≡ Some (record { request = Unlock m; progress = Fresh }) → Unlocks t m w v → Effect t w v
-  consistent : (m : ℕ) → (thread_at w t).call ≡ Some (record { request = Consistent m; progress = Fresh })
-      → MakesConsistent t m w v → Effect t w v
-  set_prio : (u p : ℕ) → (thread_at w t).call ≡ Some (record { request = SetPrio u p; progress = Fresh }) → SetsPriority t u p w v → Effect t w v
-  check_wait : (c m : ℕ) → (thread_at w t).call ≡ Some (record { request = Wait c m; progress = Fresh })
-      → ChecksWait t c m w v → Effect t w v
-  -- a wait joins the blocked threads of its variable; it still owns the mutex
-  enlist : (c m : ℕ) → (thread_at w t).call ≡ Some (record { request = Wait c m; progress = Checked })
-      → v ≡ with_progress t (Enlisted true) w → Effect t w v
-  give_up : (c m : ℕ) (still : Bool)
-      → (thread_at w t).call ≡ Some (record { request = Wait c m; progress = Enlisted still }) → GivesUp t m still w v
-      → Effect t w v
-  -- a wait that was unblocked locks its mutex
-  lock_again : (c m : ℕ) → (thread_at w t).call ≡ Some (record { request = Wait c m; progress = Owing })
-      → Locks t m w v → Effect t w v
+  lock : (m : ℕ) → IsCalling w t (Lock m) → Locks t m w v → Effect t w v
+  try_lock : (m : ℕ) → IsCalling w t (TryLock m) → TriesToLock t m w v → Effect t w v
+  unlock : (m : ℕ) → IsCalling w t (Unlock m) → Unlocks t m w v → Effect t w v
+  consistent : (m : ℕ) → IsCalling w t (Consistent m) → MakesConsistent t m w v → Effect t w v
+  set_prio : (u p : ℕ) → IsCalling w t (SetPrio u p) → SetsPriority t u p w v → Effect t w v
+  check_wait : (c m : ℕ) → IsCalling w t (Wait c m) → ChecksWait t c m w v → Effect t w v
+  -- a wait joins the blocked threads of its variable; it still owns the mutex (pthread_cond_wait: who takes the mutex
+  -- after the wait released it finds the thread blocked; that it is so before it releases is this project's choice)
+  enlist : (c m : ℕ) → HasCome w t (Wait c m) Checked → Comes t (Enlisted true) w v → Effect t w v
+  give_up : (c m : ℕ) (still : Bool) → HasCome w t (Wait c m) (Enlisted still) → GivesUp t m still w v → Effect t w v
+  -- a wait that was unblocked locks its mutex (pthread_cond_wait: on return the calling thread has locked it)
+  lock_again : (c m : ℕ) → HasCome w t (Wait c m) Owing → Locks t m w v → Effect t w v
   -- a signal or a broadcast uses its variable, and then chooses whom it wakes
-  use_variable : (q : Request) → (thread_at w t).call ≡ Some (record { request = q; progress = Fresh })
-      → is_use q ≡ true → Uses t (variable_of q) w v → Effect t w v
-  choose : (q : Request) → (thread_at w t).call ≡ Some (record { request = q; progress = Used }) → Chooses t q w v
-      → Effect t w v
+  use_variable : (q : Request) → IsCalling w t q → is_use q ≡ true → Uses t (variable_of q) w v → Effect t w v
+  choose : (q : Request) → HasCome w t q Used → Chooses t q w v → Effect t w v
   -- a call that took an Unusable mutex gives it up again: ENOTRECOVERABLE (pthread_mutex_lock: the state is not
   -- recoverable)
-  leave : (q : Request) → (thread_at w t).call ≡ Some (record { request = q; progress = Leaving })
-      → Passes (named_by q) (with_progress t (Has 131) w) v → Effect t w v
+  leave : (q : Request) → HasCome w t q Leaving
+      → Passes (named_by q) (with_progress t (Has ENOTRECOVERABLE) w) v → Effect t w v
 
 -- some effects of t's open call in order, or none, from the state `first` on. A thread that one of them unblocks may
 -- also do the lock that it owes
@@ -535,8 +624,7 @@ pub data Effects (t : ℕ) (first : World) : World → World → Type 0 where
   none : {w v : World} → v ≡ w → Effects t first w v
   then : {w u v : World} → Effect t w u → Effects t first u v → Effects t first w v
   -- b, which was blocked in the first state and owes its lock now, locks its mutex
-  owed : {w u v : World} (b c m : ℕ) → is_blocked_on first c b ≡ true
-      → (thread_at w b).call ≡ Some (record { request = Wait c m; progress = Owing }) → Locks b m w u
+  owed : {w u v : World} (b c m : ℕ) → is_blocked_on first c b ≡ true → HasCome w b (Wait c m) Owing → Locks b m w u
       → Effects t first u v → Effects t first w v
 
 -- DEADLINES
@@ -559,17 +647,15 @@ abbrev pub is_due : World → ℕ → Bool
 is_due w t = if is_reached (thread_at w t).timer.deadline w.time then is_counting (thread_at w t).call else false
 
 -- t's call has run out of time
-abbrev pub timed_out : ℕ → World → World
-timed_out t w = with_thread t (record (thread_at w t) { timer = ran_out (thread_at w t).timer }) w
+abbrev pub after_timeout : ℕ → World → World
+after_timeout t w = with_thread t (record (thread_at w t) { timer = ran_out (thread_at w t).timer }) w
 
 -- t's open call, which is due, expires
 pub data Expires (t : ℕ) (w v : World) : Type 0 where
   -- a lock leaves the waiters, or waits for good no more, and its result is ETIMEDOUT (pthread_mutex_timedlock)
-  lock : (m : ℕ) (p : Progress) → (thread_at w t).call ≡ Some (record { request = Lock m; progress = p })
-      → v ≡ record (with_progress t (Has 110) w) { waiters = without w.waiters t } → Expires t w v
+  lock : (m : ℕ) (p : Progress) → HasCome w t (Lock m) p → HasResult t ETIMEDOUT (without_waiter t w) v → Expires t w v
   -- a wait is blocked no more, and owes the lock; it has run out of time (pthread_cond_timedwait)
-  wait : (c m : ℕ) (p : Progress) → (thread_at w t).call ≡ Some (record { request = Wait c m; progress = p })
-      → v ≡ with_progress t Owing (timed_out t w) → Expires t w v
+  wait : (c m : ℕ) (p : Progress) → HasCome w t (Wait c m) p → Comes t Owing (after_timeout t w) v → Expires t w v
 
 -- what t's open call does at a Go, from w to u: one that is due expires, and does nothing else; another has some
 -- effects in order, or none
@@ -600,13 +686,13 @@ begun_thread w q x = record x {
 }
 
 -- a call that was answered Waits: where it is blocked, it is noted
-abbrev pub noted : Option Call → Option Call
-noted None = None
-noted (Some x) = Some (record x { progress = elim x.progress [ Blocked b ↦ Blocked true | p ↦ p ] })
+abbrev pub after_waits : Option Call → Option Call
+after_waits None = None
+after_waits (Some x) = Some (record x { progress = elim x.progress [ Blocked b ↦ Blocked true | p ↦ p ] })
 
 -- no open call any more
-abbrev pub closed : Option Call → Option Call
-closed x = None
+abbrev pub without_call : Option Call → Option Call
+without_call x = None
 
 -- THE END OF A THREAD
 
@@ -668,7 +754,8 @@ pub record Ends (t : ℕ) (w v : World) : Type 0 where
 abbrev pub new_thread : ℕ → Thread
 new_thread p = record { base = p; living = true; call = None; timer = no_timer; memory = no_memory }
 
--- one entry of a history, from w to v, under the limits l
+-- one entry of a history, from w to v, under the limits l (that threads, mutexes and variables are numbered and limited,
+-- and which events are refused, is this project's choice)
 pub data Step (l : Bounds) (w : World) (e : Entry) (v : World) : Type 0 where
   -- the next number, within the limit, and a priority within 1 to 99
   thread_added : (t p : ℕ) → e ≡ AddThread t p → t ≡ length w.threads → t ≤ l.threads → 1 ≤ p → p ≤ 99
@@ -687,14 +774,13 @@ pub data Step (l : Bounds) (w : World) (e : Entry) (v : World) : Type 0 where
   -- the call goes on, and its thread doesn't rest
   went : (t : ℕ) → e ≡ Happened (Go t) Went → Goes t w v → rests v t ≡ false → Step l w e v
   -- its thread rests
-  waits : (t : ℕ) (u : World) → e ≡ Happened (Go t) Waits → Goes t w u → v ≡ recalled t noted u → rests v t ≡ true
+  waits : (t : ℕ) (u : World) → e ≡ Happened (Go t) Waits → Goes t w u → v ≡ with_call_by t after_waits u → rests v t ≡ true
       → Step l w e v
   -- the call has this result and closes, and its thread doesn't rest; a wait that ran out of time is answered ETIMEDOUT
   -- in place of 0
   answered : (t a : ℕ) (q : Request) (u : World)
-      → e ≡ Happened (Go t) (Answered (told q (thread_at w t).timer.expired a)) → Goes t w u
-      → (thread_at u t).call ≡ Some (record { request = q; progress = Has a })
-      → v ≡ recalled t closed u → rests v t ≡ false → Step l w e v
+      → e ≡ Happened (Go t) (Answered (told q (thread_at w t).timer.expired a)) → Goes t w u → HasCome u t q (Has a)
+      → v ≡ with_call_by t without_call u → rests v t ≡ false → Step l w e v
   -- its thread has ended
   ended : (t : ℕ) → e ≡ Happened (End t) Ended → Ends t w v → Step l w e v
   -- the time is the one that was handed in

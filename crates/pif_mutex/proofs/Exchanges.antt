@@ -8,7 +8,7 @@ use Rattle.pif_model.specs.declared.lines.Place.{Place}
 use Rattle.pif_model.specs.declared.lines.Place.TheVariants.{TakeHealth, LeaveClear, LeaveKernel, UnlockKernel, UnlockClear}
 use Rattle.pif_model.specs.Word.{Word, Words, free_word, held_by, is_bare, word_of, word_at, set_word, set_cond_word}
 use Rattle.pif_model.specs.Table.{Table, cell_at, with_word}
-use Rattle.pif_model.specs.Lines.{Outcome, goes_to, ends_by, exchanged, own_exchange, leave_exchange, unlock_exchange}
+use Rattle.pif_model.specs.Lines.{Outcome, goes_to, ends_by, after_exchange, own_exchange, leave_exchange, unlock_exchange}
 use Rattle.pif_word.specs.declared.cells.Cell.TheVariants.{Mutex, Cond}
 use Rattle.pif_word.specs.WordMap.{WordMap, words_of, bits_at, with_bits}
 use Rattle.pif_word.proofs.WordBits.{word_of-without_died}
@@ -62,21 +62,21 @@ exchanged_table false s us ws e = ap (λ (v : Words). record s { words = v }) e
 exchanged_done : (done failed : Table → Outcome) (m n : ℕ) (x y : Word) (s v : Table) (b : Bool) → y ≡ x → b ≡ true
     → b ≡ is_bare (cell_at s m).word n
     → v ≡ (if b then with_word m y s else s)
-    → done v ≡ exchanged (if is_bare (cell_at s m).word n then Some x else None) m done failed s
-unfolding exchanged
+    → done v ≡ after_exchange (if is_bare (cell_at s m).word n then Some x else None) m done failed s
+unfolding after_exchange
 exchanged_done done failed m n x y s v b is hit bare after =
     ap done (after ∙ ap (λ (c : Bool). if c then with_word m y s else s) hit ∙ ap (λ (w : Word). with_word m w s) is)
-    ∙ ap (λ (c : Bool). exchanged (if c then Some x else None) m done failed s) (sym hit ∙ bare)
+    ∙ ap (λ (c : Bool). after_exchange (if c then Some x else None) m done failed s) (sym hit ∙ bare)
 
 -- and which failed
 exchanged_failed : (done failed : Table → Outcome) (m n : ℕ) (x y : Word) (s v : Table) (b : Bool) → b ≡ false
     → b ≡ is_bare (cell_at s m).word n
     → v ≡ (if b then with_word m y s else s)
-    → failed v ≡ exchanged (if is_bare (cell_at s m).word n then Some x else None) m done failed s
-unfolding exchanged
+    → failed v ≡ after_exchange (if is_bare (cell_at s m).word n then Some x else None) m done failed s
+unfolding after_exchange
 exchanged_failed done failed m n x y s v b miss bare after =
     ap failed (after ∙ ap (λ (c : Bool). if c then with_word m y s else s) miss)
-    ∙ ap (λ (c : Bool). exchanged (if c then Some x else None) m done failed s) (sym miss ∙ bare)
+    ∙ ap (λ (c : Bool). after_exchange (if c then Some x else None) m done failed s) (sym miss ∙ bare)
 
 -- lock and trylock, done
 pub own_exchange_done : (q : Request) (p : Place) (t m : ℕ) (x : Word) (s v : Table) (b : Bool) → x ≡ held_by t

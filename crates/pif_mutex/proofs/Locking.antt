@@ -12,7 +12,7 @@ use Rattle.pif_model.specs.declared.lines.Place.TheVariants.{LockQueued, LockSto
 use Rattle.pif_model.specs.Deadlines.{is_reached, told, told_seen}
 use Rattle.pif_model.specs.Table.{Table, status_at, timer_at}
 use Rattle.pif_model.specs.Lines.{locking_line, line_of, counts_at, is_line_due, expires_at, told_outcome, go_outcome}
-use Rattle.pif_model.specs.Standing.{is_locking}
+use Rattle.pif_model.specs.Soundness.{is_locking}
 use Rattle.pif_mutex.specs.Steppable.{is_of_mutexes, waits_at}
 
 -- from the exchange on its line is that of lock

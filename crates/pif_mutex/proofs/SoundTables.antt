@@ -13,7 +13,7 @@ use Rattle.pif_model.specs.Refusals.{go_refused, end_refused}
 use Rattle.pif_model.specs.PiKernel.{is_living}
 use Rattle.pif_model.specs.Table.{Table, line_at}
 use Rattle.pif_model.specs.Lines.{is_open, begun_table, table_refusal, go_outcome, ended_table, accepted_outcome, by_refusal, event_outcome}
-use Rattle.pif_model.specs.Standing.{IsSound}
+use Rattle.pif_model.specs.Soundness.{IsSound}
 use Rattle.pif_chains.proofs.KernelFacts.{living-added}
 use Rattle.pif_simulation.proofs.Simulation.{event_kept}
 

@@ -15,7 +15,7 @@ use Rattle.pif_model.specs.RobustList.{RobustRow, robust_at, has_entry, is_liste
 use Rattle.pif_model.specs.Table.{Table, Cell, LibraryMutex, has_mutex, has_cond, status_at, line_at, library_at, cell_at}
 use Rattle.pif_model.specs.Lines.{counts_at}
 use Rattle.pif_model.specs.Word.{word_at}
-use Rattle.pif_model.specs.Standing.{Use, MeetsAll, needs, CallIsSound, LineIsSound, ListIsSound, ThreadIsSound, IsSound, use_at, is_half_linked, is_unlinked, mutex_by, robust_by, holds_robust}
+use Rattle.pif_model.specs.Soundness.{Use, MeetsAll, needs, CallIsSound, LineIsSound, ListIsSound, ThreadIsSound, IsSound, use_at, is_half_linked, is_unlinked, mutex_by, robust_by, holds_robust}
 use Rattle.pif_chains.proofs.Numbers.{above_0}
 use Rattle.pif_chains.proofs.Waiting.{by_test}
 use Rattle.pif_simulation.proofs.Hole.{each_thread, each_absent}

@@ -13,8 +13,8 @@ use Rattle.pif_model.specs.Word.{free_word, held_by, word_at, set_word}
 use Rattle.pif_model.specs.PiKernel.{is_living, lock_answer, words_after_lock, kernel_after_lock, try_lock_answer, words_after_try_lock, unlock_answer, words_after_unlock, kernel_after_unlock, set_prio_answer, kernel_after_set_prio, wait_requeue_answer, kernel_after_wait_requeue, requeue_answer, after_requeue}
 use Rattle.pif_model.specs.Posix.{named_by}
 use Rattle.pif_model.specs.Table.{Table, has_mutex, has_cond, bound_to, uses_of, line_at, timer_at, library_at, cell_at, with_word, with_kernel}
-use Rattle.pif_model.specs.Lines.{Outcome, goes_to, ends_by, answers, own_exchange, locked_again, lock_load, lock_by, lock_kernel, lock_queued, lock_stop, take_load, take_health, take_store, take_word_back, link_next, link_head, clears, leave_exchange, given_up_by, gives_up, try_load, try_by, try_kernel, unlock_load, unlock_health, unlock_exchange, consistent_load, consistent_health, set_priority, wait_load, wait_uses, wait_health, wait_exchange, wait_by, wait_park, wait_parked, more_in, use_read, use_exchange, use_by, use_requeue, shared_line, locking_line, use_line, line_of, is_line_due, expired_place, expired_in, expires_at, told_outcome, go_outcome}
-use Rattle.pif_model.specs.Standing.{CallIsSound, LineIsSound, IsSound}
+use Rattle.pif_model.specs.Lines.{Outcome, goes_to, ends_by, answers, own_exchange, relocks, lock_load, lock_by, lock_kernel, lock_queued, lock_stop, take_load, take_health, take_store, take_word_back, link_next, link_head, clears, leave_exchange, given_up_by, gives_up, try_load, try_by, try_kernel, unlock_load, unlock_health, unlock_exchange, consistent_load, consistent_health, set_priority, wait_load, wait_uses, wait_health, wait_exchange, wait_by, wait_park, wait_parked, more_in, use_read, use_exchange, use_by, use_requeue, shared_line, locking_line, use_line, line_of, is_line_due, expired_place, expired_in, expires_at, told_outcome, go_outcome}
+use Rattle.pif_model.specs.Soundness.{CallIsSound, LineIsSound, IsSound}
 use Rattle.pif_chains.proofs.LineCases.{ends_by_cases, locked_again_cases, own_exchange_cases, lock_load_cases, lock_queued_cases, take_health_cases, leave_exchange_cases, try_load_cases, unlock_load_cases, unlock_health_cases, unlock_exchange_cases, consistent_load_cases, consistent_health_cases, wait_load_cases, wait_uses_cases, wait_health_cases, wait_exchange_cases, wait_parked_cases, use_read_cases, use_exchange_cases, answered_by_cases}
 use Rattle.pif_chains.proofs.Waiting.{by_test}
 use Rattle.pif_simulation.proofs.Hole.{each_thread}
@@ -75,7 +75,7 @@ module _ (s : Table) (t m : ℕ) (h : IsSound s) (known : has_mutex s m ≡ true
   free_once e = (h.all.mutexes m known).count.unowned e
 
   -- the owner of a RECURSIVE mutex holds it once more
-  locked_again_once : GoesOnce s (locked_again t m s).after
+  locked_again_once : GoesOnce s (relocks t m s).after
   locked_again_once =
       locked_again_cases (λ o. GoesOnce s o.after) t m s (λ few k. inl refl) (λ full k. inl refl)
 

@@ -10,7 +10,7 @@ use Rattle.pif_model.specs.PiKernel.{is_ready}
 use Rattle.pif_model.specs.Posix.{named_by, names_known}
 use Rattle.pif_model.specs.RobustList.{robust_at, is_listed, IsUnlisted, IsHalfLinkedByNoOther}
 use Rattle.pif_model.specs.Lines.{counts_at}
-use Rattle.pif_model.specs.Standing.{is_locking, is_half_linked}
+use Rattle.pif_model.specs.Soundness.{is_locking, is_half_linked}
 use Rattle.pif_model.specs.Table.{Table, has_mutex, has_cond, status_at}
 
 -- whether a call is open at this line whose next step is one on mutexes: a call on mutexes, a change of priority, or a

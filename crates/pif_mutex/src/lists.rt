@@ -1,5 +1,5 @@
 ghost use Rattle.std.specs.Prelude.{◌≡◌, true};
-ghost use Rattle.pif_model.specs.Lines.{pending, cleared};
+ghost use Rattle.pif_model.specs.Lines.{pending, nothing_pending};
 ghost use Rattle.pif_model.specs.RobustList.{robust_at, is_listed, with_half_linked, with_listed, without_listed, IsUnlisted, IsHalfLinkedByNoOther};
 ghost use Rattle.pif_model.specs.Table.{has_thread, has_mutex, with_lists};
 
@@ -20,7 +20,7 @@ impl<K: PiKernel + Drop> State<K> {
 
     /// The pending field of a thread names no mutex.
     pub(crate) fn clear_pending(&mut self, t: Tid)
-        ensures { self.new ≡ cleared t self.old }
+        ensures { self.new ≡ nothing_pending t self.old }
     {
         self.lists.clear_pending(t);
     }

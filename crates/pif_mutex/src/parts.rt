@@ -31,7 +31,7 @@ pub struct Parts<K: PiKernel + Drop> {
 
 impl<K: PiKernel + Drop> Model for Parts<K> {
     ghost use Rattle.pif_model.specs.Table.{Table};
-    ghost use Rattle.pif_model.specs.Standing.{IsSound};
+    ghost use Rattle.pif_model.specs.Soundness.{IsSound};
 
     ghost Value = { Table };
 

@@ -1,7 +1,7 @@
 ghost use Rattle.std.specs.Prelude.{◌≡◌, true, false};
 ghost use Rattle.pif_model.specs.PiKernel.{is_living, is_ready};
 ghost use Rattle.pif_model.specs.RobustList.{robust_at, IsUnlisted, IsHalfLinkedByNoOther};
-ghost use Rattle.pif_model.specs.Standing.{is_half_linked};
+ghost use Rattle.pif_model.specs.Soundness.{is_half_linked};
 ghost use Rattle.pif_model.specs.Table.{has_thread, has_mutex, line_at, status_at};
 ghost use Rattle.pif_model.specs.Lines.{line_of, locking_line, shared_line, counts_at, expires_at, go_outcome};
 ghost use Rattle.pif_mutex.specs.Outcomes.{outcome_of};

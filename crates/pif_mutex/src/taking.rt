@@ -1,6 +1,6 @@
 ghost use Rattle.std.specs.Prelude.{◌≡◌, true};
 ghost use Rattle.pif_model.specs.Table.{has_thread, has_mutex};
-ghost use Rattle.pif_model.specs.Lines.{locked_again, own_exchange, take_load, take_health, take_store, take_word_back};
+ghost use Rattle.pif_model.specs.Lines.{relocks, own_exchange, take_load, take_health, take_store, take_word_back};
 ghost use Rattle.pif_mutex.specs.Outcomes.{outcome_of};
 
 use crate::progress::Progress;
@@ -16,11 +16,11 @@ const MOST: u32 = 255;
 /// What lock, trylock and wait have in common: the exchange, and taking over a robust mutex up to its links.
 impl<K: PiKernel + Drop> State<K> {
     /// The owner of a recursive mutex holds it once more, or is answered EAGAIN where it holds it as often as it may.
-    #[tactic(auto, unfolding(pif_model::specs::Lines::locked_again))]
+    #[tactic(auto, unfolding(pif_model::specs::Lines::relocks))]
     pub(crate) fn lock_again(&mut self, t: Tid, m: MutexId) -> Progress
         requires known { has_thread self.old t ≡ true }
         requires mutex { has_mutex self.old m ≡ true }
-        ensures { outcome_of result self.new ≡ locked_again t m self.old }
+        ensures { outcome_of result self.new ≡ relocks t m self.old }
     {
         let count = self.count(m);
         if count < MOST {

@@ -22,7 +22,7 @@ use Rattle.pif_model.specs.declared.lines.Took.TheVariants.{Owns as TookOwns, Qu
 use Rattle.pif_model.specs.PiKernel.{is_ready, is_woken_again, lock_answer, try_lock_answer, unlock_answer, set_prio_answer, wait_requeue_answer, requeue_answer}
 use Rattle.pif_model.specs.Word.{Word, take_word, release_word}
 use Rattle.pif_model.specs.Table.{Table, cell_at, status_at, bound_to, uses_of, with_word, line_at, timer_at}
-use Rattle.pif_model.specs.Lines.{Outcome, goes_to, waits_at, answers, is_robust, ends_by, locked_again, exchanged, own_exchange, lock_load, lock_by, lock_kernel, take_load, lock_queued, lock_stop, take_health, take_store, take_word_back, link_next, link_head, clears, leave_exchange, given_up_by, gives_up, try_load, try_by, try_kernel, unlock_load, unlock_health, unlock_exchange, consistent_load, consistent_health, answered_by, set_priority, wait_load, wait_uses, wait_health, wait_exchange, wait_by, wait_park, wait_parked, use_read, use_exchange, more_in, use_by, use_requeue, ended_table, shared_line, locking_line, use_line, line_of, is_line_due, expired_place, expired_in, expires_at, told_outcome, go_outcome, first_place, table_refusal, accepted_outcome, by_refusal, event_outcome}
+use Rattle.pif_model.specs.Lines.{Outcome, goes_to, waits_at, answers, is_robust, ends_by, relocks, after_exchange, own_exchange, lock_load, lock_by, lock_kernel, take_load, lock_queued, lock_stop, take_health, take_store, take_word_back, link_next, link_head, clears, leave_exchange, given_up_by, gives_up, try_load, try_by, try_kernel, unlock_load, unlock_health, unlock_exchange, consistent_load, consistent_health, answered_by, set_priority, wait_load, wait_uses, wait_health, wait_exchange, wait_by, wait_park, wait_parked, use_read, use_exchange, more_in, use_by, use_requeue, ended_table, shared_line, locking_line, use_line, line_of, is_line_due, expired_place, expired_in, expires_at, told_outcome, go_outcome, first_place, table_refusal, accepted_outcome, by_refusal, event_outcome}
 use Rattle.pif_model.specs.Deadlines.{plain, told, told_seen}
 use Rattle.pif_text.specs.Numbers.{IsNumber}
 use Rattle.pif_text.specs.Traces.{IsSeenTraced}
@@ -106,8 +106,8 @@ either false x y f g = g
 
 -- by an exchange
 by_exchange : (o : Option Word) (m : ℕ) (done failed : Table → Outcome) (s : Table)
-    → ((w : Word) → Fits (done (with_word m w s))) → Fits (failed s) → Fits (exchanged o m done failed s)
-unfolding exchanged
+    → ((w : Word) → Fits (done (with_word m w s))) → Fits (failed s) → Fits (after_exchange o m done failed s)
+unfolding after_exchange
 by_exchange (Some w) m done failed s f g = f w
 by_exchange None m done failed s f g = g
 
@@ -123,8 +123,8 @@ clears-fit s h t a n = closes _ h t a n
 
 -- the steps that look at a mutex
 module _ (s : Table) (h : AreSmall s.lines) (t m : ℕ) where
-  locked_again-fits : Fits (locked_again t m s)
-  unfolding locked_again
+  locked_again-fits : Fits (relocks t m s)
+  unfolding relocks
   locked_again-fits =
       either (nat_lt (cell_at s m).count 255) _ _ (closes _ h t 0 (omega arith)) (closes s h t 11 (omega arith))
 
@@ -141,7 +141,7 @@ module _ (s : Table) (h : AreSmall s.lines) (t m : ℕ) where
       (either (is_robust m s) _ _ (goes s h t q LockPending tt) (goes s h t q LockExchange tt))
     where
       by_kind : (k : Kind) → Fits (elim k as (λ _. Outcome)
-          [ Normal ↦ goes_to t q LockStop s | ErrorCheck ↦ answers t 35 s | Recursive ↦ locked_again t m s ])
+          [ Normal ↦ goes_to t q LockStop s | ErrorCheck ↦ answers t 35 s | Recursive ↦ relocks t m s ])
       by_kind Normal = goes s h t q LockStop tt
       by_kind ErrorCheck = closes s h t 35 (omega arith)
       by_kind Recursive = locked_again-fits
@@ -185,7 +185,7 @@ module _ (s : Table) (h : AreSmall s.lines) (t m : ℕ) where
       either ((cell_at s m).word.number == t) _ _ (by_kind (cell_at s m).kind)
       (either (is_robust m s) _ _ (goes s h t (TryLock m) TryPending tt) (goes s h t (TryLock m) TryExchange tt))
     where
-      by_kind : (k : Kind) → Fits (elim k as (λ _. Outcome) [ Recursive ↦ locked_again t m s | _ ↦ answers t 16 s ])
+      by_kind : (k : Kind) → Fits (elim k as (λ _. Outcome) [ Recursive ↦ relocks t m s | _ ↦ answers t 16 s ])
       by_kind Normal = closes s h t 16 (omega arith)
       by_kind ErrorCheck = closes s h t 16 (omega arith)
       by_kind Recursive = locked_again-fits

@@ -14,12 +14,12 @@ use Rattle.pif_model.specs.declared.events.Event.TheVariants.{Begin as BeginEven
 use Rattle.pif_model.specs.Calls.{add_thread_answer, add_mutex_answer, add_cond_answer}
 use Rattle.pif_model.specs.Graph.{is_priority}
 use Rattle.pif_model.specs.Lines.{event_outcome}
-use Rattle.pif_model.specs.Standing.{IsSound}
+use Rattle.pif_model.specs.Soundness.{IsSound}
 use Rattle.pif_model.specs.Table.{Table, new_table, has_thread_room, has_mutex_room, has_cond_room, has_mutex, thread_added, mutex_added, cond_added}
-use Rattle.pif_simulation.proofs.Additions.{new_sound}
-use Rattle.pif_simulation.proofs.ThreadAdded.{thread_added_kept}
-use Rattle.pif_simulation.proofs.MutexAdded.{mutex_added_kept}
-use Rattle.pif_simulation.proofs.CondAdded.{cond_added_kept}
+use Rattle.pif_simulation.proofs.additions.Additions.{new_sound}
+use Rattle.pif_simulation.proofs.additions.ThreadAdded.{thread_added_kept}
+use Rattle.pif_simulation.proofs.additions.MutexAdded.{mutex_added_kept}
+use Rattle.pif_simulation.proofs.additions.CondAdded.{cond_added_kept}
 use Rattle.pif_simulation.proofs.Simulation.{event_kept}
 use Rattle.pif_uses.proofs.CallLemmas.{is_refused, is_went}
 use Rattle.pif_text.specs.declared.commands.Addition.{Addition}

@@ -11,7 +11,7 @@ use Rattle.pif_model.specs.declared.events.Event.{Event}
 use Rattle.pif_model.specs.Table.{Table, new_table}
 use Rattle.pif_model.specs.Lines.{event_outcome}
 use Rattle.pif_model.specs.Calls.{add_thread_answer, add_mutex_answer, add_cond_answer}
-use Rattle.pif_uses.specs.Calls.{called, gone}
+use Rattle.pif_uses.specs.Calls.{after_call, gone}
 use Rattle.pif_text.specs.declared.commands.Command.{Command}
 use Rattle.pif_text.specs.declared.commands.Command.TheVariants.{Limits, Add, Event as EventOf, Run, Ask}
 use Rattle.pif_text.specs.declared.commands.Addition.{Addition}
@@ -46,7 +46,7 @@ going_entries more t s = reverse (gone more t s [])
 
 -- the entries of a whole call, in their order
 unfoldable pub call_entries : ℕ → Request → Table → List Entry
-call_entries t q s = reverse (called t q s [])
+call_entries t q s = reverse (after_call t q s [])
 
 -- the entries of a thread that goes on, with a request after it has begun that call
 abbrev pub run_entries : ℕ → Option Request → Table → List Entry

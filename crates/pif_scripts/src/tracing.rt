@@ -16,8 +16,11 @@ use std::io::Write;
 /// Room for a command and the answer to it.
 pub const ROW_ROOM: usize = COMMAND_ROOM + RECORDED_ROOM;
 
-/// The most bytes of the first two lines of a trace.
-pub const FRONT_ROOM: usize = HEADER_ROOM + 1 + ROW_ROOM + 1;
+/// The most bytes that the line of an entry has, its LF included.
+pub const LINE_ROOM: usize = ROW_ROOM + 1;
+
+/// The most bytes of the first two lines of a trace: the header, and the line of the limits.
+pub const FRONT_ROOM: usize = HEADER_ROOM + 1 + LINE_ROOM;
 
 /// The command that an entry asks for.
 fn entry_command(entry: Entry) -> Command

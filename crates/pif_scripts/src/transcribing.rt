@@ -11,7 +11,7 @@ ghost use Rattle.pif_scripts.specs.Transcripts.{Transcribed, call_entries, entry
 
 use crate::reading::{End, Ending, Listener, OUTPUT_ROOM, OpenFault, Output, append};
 use crate::running::{default_limits, obey};
-use crate::tracing::{ROW_ROOM, front_lines};
+use crate::tracing::{LINE_ROOM, front_lines};
 use pif_core::{Core, Event, Seen};
 use pif_text::{
     Added, Cause, Command, Reply, Text, Version, command_of, command_text, if_traced, recorded_text,
@@ -21,10 +21,7 @@ use pif_uses::MORE_STEPS;
 use std::alloc::Global;
 use std::marker::Model;
 
-/// The most bytes that the line of an entry has, its LF included.
-const LINE_ROOM: usize = ROW_ROOM + 1;
-
-/// The most bytes that a thread's going on makes.
+/// The most bytes that a thread's going on makes: 24 steps (`MORE_STEPS`, and the first).
 const FINISH_ROOM: usize = 24 * LINE_ROOM;
 
 /// The most bytes that the lines have that a command makes.

@@ -7,7 +7,7 @@ use Rattle.pif_model.specs.Posix.{Health, Progress, is_blocked, is_call_blocked,
 use Rattle.pif_model.specs.Posix.Health.{Fine, Inconsistent, Unusable}
 use Rattle.pif_model.specs.PiKernel.{is_parked}
 use Rattle.pif_model.specs.Table.{Table, status_at, line_at}
-use Rattle.pif_model.specs.Standing.{Shadow, Agrees, call_shown, may_enlist, chooses_on, remembered}
+use Rattle.pif_model.specs.Projection.{Shadow, Agrees, call_shown, may_enlist, chooses_on, remembered}
 use Rattle.pif_chains.proofs.Waiting.{by_test}
 
 -- a call that is blocked on c after a step, and not parked, was so before

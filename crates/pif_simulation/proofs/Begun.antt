@@ -20,14 +20,15 @@ use Rattle.pif_model.specs.Posix.Step.{begun}
 use Rattle.pif_model.specs.PiKernel.{is_ready, is_parked, is_living}
 use Rattle.pif_model.specs.Table.{Table, has_thread, has_mutex, has_cond, bound_to, uses_of, status_at, line_at, with_line}
 use Rattle.pif_model.specs.Lines.{is_open, first_place, begun_table, table_refusal}
-use Rattle.pif_model.specs.Standing.{Shadow, Agrees, memory_at, remembered, may_enlist, chooses_on, call_at, call_shown, health_at, thread_shown, world_of, mutex_by, is_unsettled, LineIsSound, ListIsSound, IsSound}
+use Rattle.pif_model.specs.Projection.{Shadow, Agrees, memory_at, remembered, may_enlist, chooses_on, call_at, call_shown, health_at, thread_shown, world_of}
+use Rattle.pif_model.specs.Soundness.{mutex_by, is_unsettled, LineIsSound, ListIsSound, IsSound}
 use Rattle.pif_chains.proofs.Waiting.{by_test}
 use Rattle.pif_simulation.proofs.Hole.{each_thread}
 use Rattle.pif_simulation.proofs.Shown.{threads_shown, thread_seen, call_seen_of, same_world, begin_allowed, refusal_seen, thread_changed, thread_changed_twice}
 use Rattle.pif_simulation.proofs.Written.{no_call}
 use Rattle.pif_simulation.proofs.Steps.{Keeps}
 use Rattle.pif_simulation.proofs.Lined.{tl, lined_sound}
-use Rattle.pif_simulation.proofs.Timers.{timer_sound, timer_frames, timer_shown}
+use Rattle.pif_simulation.proofs.deadlines.Timers.{timer_sound, timer_frames, timer_shown}
 use Rattle.pif_simulation.proofs.Agreement.{framed}
 
 -- a line with no call open

@@ -22,7 +22,7 @@ use Rattle.pif_model.specs.Word.{free_word, held_by, word_at, has_word, has_cond
 use Rattle.pif_model.specs.Posix.{variable_of}
 use Rattle.pif_model.specs.PiKernel.{Kernel, Seat, seat_at, has_seat, has_ended, state_at, next_in, is_living, lock_answer, words_after_lock, kernel_after_lock, try_lock_answer, words_after_try_lock, unlock_answer, words_after_unlock, kernel_after_unlock, kernel_after_hand_over, set_prio_answer, has_parked, parked_count, has_other_target, fits_state, wait_requeue_answer, kernel_after_wait_requeue, requeue_answer, after_requeue}
 use Rattle.pif_model.specs.Table.{Table, cell_at, line_at, has_thread, bound_to, uses_of, with_line, with_word, with_cond_word, with_count, with_kernel, status_at, timer_at, with_timer}
-use Rattle.pif_model.specs.Lines.{Outcome, goes_to, answers, ends_by, locked_again, own_exchange, lock_load, lock_by, lock_kernel, lock_queued, lock_stop, take_load, take_health, take_store, take_word_back, link_next, link_head, clears, leave_exchange, given_up_by, gives_up, try_load, try_by, try_kernel, unlock_load, unlock_health, unlock_exchange, consistent_load, consistent_health, answered_by, set_priority, wait_load, wait_uses, wait_health, wait_exchange, wait_by, wait_park, wait_parked, use_read, use_exchange, more_in, use_by, use_requeue, shared_line, locking_line, use_line, line_of, go_outcome, is_open, table_refusal, accepted_outcome, by_refusal, event_outcome, goes_on, ClosesOrWaits, counts_at, expired_in, expires_at, told_outcome}
+use Rattle.pif_model.specs.Lines.{Outcome, goes_to, answers, ends_by, relocks, own_exchange, lock_load, lock_by, lock_kernel, lock_queued, lock_stop, take_load, take_health, take_store, take_word_back, link_next, link_head, clears, leave_exchange, given_up_by, gives_up, try_load, try_by, try_kernel, unlock_load, unlock_health, unlock_exchange, consistent_load, consistent_health, answered_by, set_priority, wait_load, wait_uses, wait_health, wait_exchange, wait_by, wait_park, wait_parked, use_read, use_exchange, more_in, use_by, use_requeue, shared_line, locking_line, use_line, line_of, go_outcome, is_open, table_refusal, accepted_outcome, by_refusal, event_outcome, goes_on, ClosesOrWaits, counts_at, expired_in, expires_at, told_outcome}
 use Rattle.pif_model.specs.Deadlines.{ran_out, is_reached, told, told_seen}
 use Rattle.pif_chains.proofs.KernelFacts.{living-added}
 use Rattle.pif_chains.proofs.KernelPlaces.{handed_has, handed_seat_same, handed_seat_other}
@@ -187,7 +187,7 @@ answered_by-turns : (n t : ℕ) (r : Result (record {}) Errno) (s : Table) → T
 answered_by-turns n t r s = answered_by_cases (Turns t n) r t s (λ a. answers-turns n t a s)
 
 -- a lock or a trylock by the owner of a RECURSIVE mutex ends
-locked_again-turns : (n t m : ℕ) (s : Table) → Turns t n (locked_again t m s)
+locked_again-turns : (n t m : ℕ) (s : Table) → Turns t n (relocks t m s)
 locked_again-turns n t m s = locked_again_cases (Turns t n) t m s
     (λ e. answers-turns n t 0 (with_count m ((cell_at s m).count + 1) s)) (λ e. answers-turns n t 11 s)
 

@@ -8,11 +8,12 @@ use Rattle.pif_model.specs.declared.lines.Place.{Place}
 use Rattle.pif_model.specs.declared.lines.Status.TheVariants.{Queued, Parked, Stopped}
 use Rattle.pif_model.specs.Graph.{has_waiter}
 use Rattle.pif_model.specs.Word.{Word, word_at, health_word_at}
-use Rattle.pif_model.specs.Posix.{Progress, is_blocked, is_call_blocked, no_mutex, variable_of, named_by, thread_at, mutex_at, with_mutex, with_progress, progressed}
+use Rattle.pif_model.specs.Posix.{Progress, is_blocked, is_call_blocked, no_mutex, variable_of, named_by, thread_at, mutex_at, with_mutex, with_progress, at_progress}
 use Rattle.pif_model.specs.PiKernel.{Kernel, IsKernel, no_seat, seat_at, is_parked, is_living, kernel_after_queueing, kernel_after_stop}
 use Rattle.pif_model.specs.RobustList.{robust_at}
 use Rattle.pif_model.specs.Table.{Table, Cell, has_thread, has_mutex, bound_to, uses_of, library_at, status_at, line_at, cell_at}
-use Rattle.pif_model.specs.Standing.{Shadow, use_at, may_enlist, call_shown as shown_call, IsParkedLine, MeetsAll, needs, belongs, progress_at, call_at, health_of, health_at, world_of, IsQueuedLine, LineIsSound, ListIsSound, CellIsSound, IsSound, mutex_by, is_unsettled}
+use Rattle.pif_model.specs.Projection.{Shadow, may_enlist, call_shown as shown_call, progress_at, call_at, health_of, health_at, world_of}
+use Rattle.pif_model.specs.Soundness.{use_at, IsParkedLine, MeetsAll, needs, belongs, IsQueuedLine, LineIsSound, ListIsSound, CellIsSound, IsSound, mutex_by, is_unsettled}
 use Rattle.pif_chains.proofs.Numbers.{above_0, below}
 use Rattle.pif_chains.proofs.Waiting.{by_test, has_waiter-push, or_false}
 use Rattle.pif_simulation.proofs.Kept.{Spares}
@@ -256,7 +257,7 @@ module _ {s : Table} {t : ℕ} {q : Request} {p : Place} (g : Going s t q p) (na
       (call_then ∙ ap (λ d. Some (record { request = q; progress = d })) e)
       ∙ (λ i. record (with_mutex m (mutex_of cell) (world_of s y)) {
         threads = set (world_of s y).threads t (record (thread_at (world_of s y) t)
-            { call = sym (ap (progressed o) (going_called g y)) i });
+            { call = sym (ap (at_progress o) (going_called g y)) i });
         waiters = k.waiters;
       })
 

@@ -5,7 +5,7 @@ use Rattle.pif_types.specs.declared.requests.Kind.TheVariants.{ErrorCheck, Recur
 use Rattle.pif_types.specs.declared.requests.Request.{Request}
 use Rattle.pif_types.specs.declared.requests.Request.TheVariants.{Lock, TryLock, Unlock, Consistent, Wait}
 use Rattle.pif_model.specs.Graph.{has_waiter}
-use Rattle.pif_model.specs.Posix.{Locks, Passes, on_release, named_by, with_health, Progress, Mutex, World, Effect, Effects, LocksAgain, no_mutex, nobody, thread_at, mutex_at, with_thread, with_mutex, with_progress, progressed, on_taking, taken, effective_of}
+use Rattle.pif_model.specs.Posix.{Locks, Passes, on_release, named_by, with_health, Progress, Mutex, World, Effect, Effects, LocksAgain, no_mutex, nobody, thread_at, mutex_at, with_thread, with_mutex, with_progress, at_progress, on_taking, taken, effective_of}
 use Rattle.pif_model.specs.Posix.Health.{Fine, Inconsistent, Unusable}
 use Rattle.pif_model.specs.Posix.Progress.{Fresh, Leaving, Has, Enlisted}
 use Rattle.pif_model.specs.Posix.Effect.{lock, try_lock, unlock, consistent, lock_again, give_up, leave}
@@ -14,7 +14,7 @@ use Rattle.pif_model.specs.Posix.LocksAgain.{rises, at_limit}
 use Rattle.pif_model.specs.Posix.TriesToLock.{own_recursive as try_own_recursive, busy, free as try_free}
 use Rattle.pif_model.specs.Posix.Unlocks.{not_owner, falls, becomes_unusable, released}
 use Rattle.pif_model.specs.Posix.GivesUp.{becomes_unusable as wait_unusable, released as wait_released}
-use Rattle.pif_model.specs.Standing.{before_lock}
+use Rattle.pif_model.specs.Projection.{before_lock}
 use Rattle.pif_model.specs.Posix.MakesConsistent.{not_robust, not_owner as consistent_not_owner, not_inconsistent, made_fine}
 use Rattle.pif_model.specs.Posix.Passes.{to_nobody}
 use Rattle.pif_model.specs.Posix.Effects.{none, then as first}
@@ -91,7 +91,7 @@ module _ (w : World) (t : ℕ) {q : Request} {a : Progress}
   -- the call is what it was
   unmoved : with_progress t a w ≡ w
   unmoved =
-      ap (λ c. with_thread t (record (thread_at w t) { call = c }) w) (ap (progressed a) call ∙ sym call)
+      ap (λ c. with_thread t (record (thread_at w t) { call = c }) w) (ap (at_progress a) call ∙ sym call)
       ∙ (λ i. record w { threads = set-get_or w.threads t nobody i })
 
   -- a lock or a trylock by the owner of a RECURSIVE mutex
@@ -153,11 +153,11 @@ module _ (w : World) (t m : ℕ) {q : Request} {a b : Progress} {z : Mutex}
   does_here w0 (consistent_stalled r n o e f) = first (consistent m (called w t call (Consistent m) r n)
       (not_robust o (alone (Has 22) e f))) (none refl)
   does_here w0 (consistent_other r n o k e f) = first (consistent m (called w t call (Consistent m) r n)
-      (consistent_not_owner o k (alone (Has 1) e f))) (none refl)
+      (consistent_not_owner (o, k) (alone (Has 1) e f))) (none refl)
   does_here w0 (consistent_in_order r n o k l e f) = first
-      (consistent m (called w t call (Consistent m) r n) (not_inconsistent o k l (alone (Has 22) e f))) (none refl)
+      (consistent m (called w t call (Consistent m) r n) (not_inconsistent (o, k) l (alone (Has 22) e f))) (none refl)
   does_here w0 (consistent_made r n o k l e f) = first (consistent m (called w t call (Consistent m) r n)
-      (made_fine o k l (both (Has 0) (record (mutex_at w m) { health = Fine }) e f))) (none refl)
+      (made_fine (o, k) l (both (Has 0) (record (mutex_at w m) { health = Fine }) e f))) (none refl)
   does_here w0 (unlocks_own r n o c k u e f) = first (unlock m (called w t call (Unlock m) r n) (released o c k
       (to_nobody (next_none (effective_of (with_progress t (Has 0) w)) w.waiters m u)
       (both (Has 0) (record (mutex_at w m) { owner = 0; count = 1 }) e f)))) (none refl)

@@ -7,7 +7,8 @@ use Rattle.pif_model.specs.Posix.{Mutex, waits_for, effective_of, next_of, leads
 use Rattle.pif_model.specs.PiKernel.{IsKernel, state_at, effective_in, next_in, waits_for as kernel_waits_for}
 use Rattle.pif_model.specs.Word.{Word, word_at}
 use Rattle.pif_model.specs.Table.{Table}
-use Rattle.pif_model.specs.Standing.{Shadow, world_of, SoundBut, IsSound}
+use Rattle.pif_model.specs.Projection.{Shadow, world_of}
+use Rattle.pif_model.specs.Soundness.{SoundBut, IsSound}
 use Rattle.pif_chains.proofs.Waiting.{paired-from_waited, has_waiter-from_pair}
 use Rattle.pif_chains.proofs.Numbers.{from_within}
 use Rattle.pif_chains.proofs.Greatest.{effective_same}

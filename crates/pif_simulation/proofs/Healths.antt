@@ -3,7 +3,7 @@ use Rattle.std.proofs.Common.{arith, ◌≡◌, ◌≢◌, ℕ, Bool, true, fals
 use Rattle.std.proofs.lemmas.Bool.{true≢false, eqb-false}
 use Rattle.pif_model.specs.Posix.{Health}
 use Rattle.pif_model.specs.Posix.Health.{Fine, Inconsistent, Unusable}
-use Rattle.pif_model.specs.Standing.{health_of}
+use Rattle.pif_model.specs.Projection.{health_of}
 use Rattle.pif_chains.proofs.Waiting.{by_test}
 
 -- a fact on a health, by the health word and OWNER_DIED

@@ -8,7 +8,7 @@ use Rattle.pif_model.specs.Word.{word_at, health_word_at}
 use Rattle.pif_model.specs.PiKernel.{Kernel, Parking, is_living}
 use Rattle.pif_model.specs.RobustList.{RobustRow, robust_at, has_entry}
 use Rattle.pif_model.specs.Table.{Table, Cell, has_thread, has_mutex, has_cond, bound_to, uses_of, status_at, line_at, library_at, cell_at}
-use Rattle.pif_model.specs.Standing.{LineIsSound, IsQueuedLine, IsParkedLine, CellIsSound, CondIsSound, ListIsSound, ThreadIsSound, AbsentIsSound, IsShaped, SoundBut, IsSound, mutex_by, is_pending, is_half_linked, is_unlinked, is_unsettled, holds_robust}
+use Rattle.pif_model.specs.Soundness.{LineIsSound, IsQueuedLine, IsParkedLine, CellIsSound, CondIsSound, ListIsSound, ThreadIsSound, AbsentIsSound, IsShaped, SoundBut, IsSound, mutex_by, is_pending, is_half_linked, is_unlinked, is_unsettled, holds_robust}
 use Rattle.pif_chains.proofs.Waiting.{by_test}
 use Rattle.pif_simulation.proofs.Kept.{Spares, Uses, unwritten, line_spared}
 

@@ -12,9 +12,9 @@ use Rattle.pif_model.specs.declared.lines.Status.{Status}
 use Rattle.pif_model.specs.Posix.{named_by, variable_of}
 use Rattle.pif_model.specs.PiKernel.{is_ready, is_living}
 use Rattle.pif_model.specs.Table.{Table, Cell, has_mutex, has_cond, bound_to, uses_of, status_at, cell_at}
-use Rattle.pif_model.specs.Standing.{Need, Use, Meets, MeetsAll, needs, belongs, is_using, use_at, CallIsSound, LineIsSound, CountIsSound}
-use Rattle.pif_model.specs.Standing.Need.{MayRun, HasStopped, NotStopped, Owns, OwnsNot, OwnsOnceReady, OwnsOnceHanded, HoldsOnce, MayStop, OfRobust, HealthIs, HealthIsNot, DiedIs, DiedBehindDisorder, IsBound, UsedAtLeast, BelowLimit}
-use Rattle.pif_model.specs.Standing.MayStopFor.{own_normal, lost}
+use Rattle.pif_model.specs.Soundness.{Need, Use, Meets, MeetsAll, needs, belongs, is_using, use_at, CallIsSound, LineIsSound, CountIsSound}
+use Rattle.pif_model.specs.Soundness.Need.{MayRun, HasStopped, NotStopped, Owns, OwnsNot, OwnsOnceReady, OwnsOnceHanded, HoldsOnce, MayStop, OfRobust, HealthIs, HealthIsNot, DiedIs, DiedBehindDisorder, IsBound, UsedAtLeast, BelowLimit}
+use Rattle.pif_model.specs.Soundness.MayStopFor.{own_normal, lost}
 
 -- what a change of a mutex from c to d, and of who lives, leaves to u, who doesn't make it
 pub record Spares (living living' : ℕ → Bool) (u : ℕ) (c d : Cell) : Type 0 where

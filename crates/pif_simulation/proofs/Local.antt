@@ -13,12 +13,13 @@ use Rattle.pif_model.specs.declared.lines.Status.{Status}
 use Rattle.pif_model.specs.declared.lines.Status.TheVariants.{Queued, Parked}
 use Rattle.pif_model.specs.Graph.{has_waiter}
 use Rattle.pif_model.specs.Word.{Word, word_at, health_word_at}
-use Rattle.pif_model.specs.Posix.{Health, Progress, Call, World, Effects, is_blocked, is_call_blocked, named_by, variable_of, names_known, thread_at, with_thread, with_mutex, with_progress, progressed}
+use Rattle.pif_model.specs.Posix.{Health, Progress, Call, World, Effects, is_blocked, is_call_blocked, named_by, variable_of, names_known, thread_at, with_thread, with_mutex, with_progress, at_progress}
 use Rattle.pif_model.specs.Posix.Progress.{Has}
 use Rattle.pif_model.specs.PiKernel.{is_ready, is_living}
 use Rattle.pif_model.specs.RobustList.{RobustRow, has_entry, robust_at, is_listed}
 use Rattle.pif_model.specs.Table.{Table, Cell, has_thread, has_mutex, bound_to, uses_of, status_at, line_at, library_at, cell_at}
-use Rattle.pif_model.specs.Standing.{Shadow, use_at, may_enlist, call_shown as shown_call, MeetsAll, needs, belongs, call_at, progress_at, health_of, health_at, world_of, LineIsSound, CellIsSound, ListIsSound, ThreadIsSound, IsSound, mutex_by, robust_by, is_pending, is_half_linked, is_unlinked, is_unsettled, holds_robust}
+use Rattle.pif_model.specs.Projection.{Shadow, may_enlist, call_shown as shown_call, call_at, progress_at, health_of, health_at, world_of}
+use Rattle.pif_model.specs.Soundness.{use_at, MeetsAll, needs, belongs, LineIsSound, CellIsSound, ListIsSound, ThreadIsSound, IsSound, mutex_by, robust_by, is_pending, is_half_linked, is_unlinked, is_unsettled, holds_robust}
 use Rattle.pif_chains.proofs.Numbers.{above_0, below}
 use Rattle.pif_chains.proofs.KernelFacts.{living-added}
 use Rattle.pif_chains.proofs.Waiting.{by_test}
@@ -375,8 +376,8 @@ module _ {s : Table} {t : ℕ} {q : Request} {p : Place} (g : Going s t q p)
         → KeepsGo s t seen v
     by_answer Went e effects = goes_with g v move_sound refl g.known l.ready frames
         (λ y. subst (Effects t (world_of s y) (world_of s y))
-        (sym (shown y (progressed a (thread_at (left y) t).call)
-        (at_place e.0 e.1 e.2 ∙ sym (ap (progressed a) (going_called g y))))) (effects y))
+        (sym (shown y (at_progress a (thread_at (left y) t).call)
+        (at_place e.0 e.1 e.2 ∙ sym (ap (at_progress a) (going_called g y))))) (effects y))
     by_answer (Answered n) e effects = answers_with g v n
         (λ y. with_progress t a (left y)) move_sound refl g.known l.ready frames effects
         (λ y. call_progressed (left y) t a _ (going_below g y) (going_called g y)

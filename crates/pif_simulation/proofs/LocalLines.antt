@@ -17,7 +17,8 @@ use Rattle.pif_model.specs.PiKernel.{is_ready, is_living}
 use Rattle.pif_model.specs.RobustList.{RobustRow, has_entry, robust_at, is_listed, with_robust}
 use Rattle.pif_model.specs.Table.{Table, Cell, has_mutex, status_at, library_at, cell_at}
 use Rattle.pif_model.specs.Lines.{goes_to, answers, pending, clears}
-use Rattle.pif_model.specs.Standing.{Shadow, use_at, MeetsAll, needs, belongs, world_of, may_enlist, CellIsSound, mutex_by, robust_by, is_pending, is_half_linked, is_unlinked, is_unsettled}
+use Rattle.pif_model.specs.Projection.{Shadow, world_of, may_enlist}
+use Rattle.pif_model.specs.Soundness.{use_at, MeetsAll, needs, belongs, CellIsSound, mutex_by, robust_by, is_pending, is_half_linked, is_unlinked, is_unsettled}
 use Rattle.pif_chains.proofs.Numbers.{above_0}
 use Rattle.pif_chains.proofs.Waiting.{by_test}
 use Rattle.pif_simulation.proofs.Kept.{Spares, unwritten}

@@ -20,7 +20,9 @@ use Rattle.pif_model.specs.Calls.{request_at, owner_by, open_call_answer, owner_
 use Rattle.pif_model.specs.Posix.{Health, Call, Mutex, thread_at, variable_of, named_by, is_call_blocked, is_blocked_on, rests}
 use Rattle.pif_model.specs.Posix.{is_living as lives}
 use Rattle.pif_model.specs.Posix.Progress.{Stuck}
-use Rattle.pif_model.specs.Standing.{Shadow, Use, use_at, health_at, progress_at, call_at, world_of, needs, MeetsAll, LineIsSound, IsSound, IsDoing, call_of, owner_of, waiters_of}
+use Rattle.pif_model.specs.Projection.{Shadow, health_at, progress_at, call_at, world_of}
+use Rattle.pif_model.specs.Soundness.{Use, use_at, needs, MeetsAll, LineIsSound, IsSound}
+use Rattle.pif_model.specs.Standing.{IsDoing, call_of, owner_of, waiters_of}
 use Rattle.pif_model.specs.Deadlines.{timed}
 use Rattle.pif_chains.proofs.Numbers.{from_within}
 use Rattle.pif_chains.proofs.Waiting.{by_test, pairs}

@@ -5,7 +5,8 @@ use Rattle.pif_model.specs.Graph.{has_waiter, first_greatest, next_waiter}
 use Rattle.pif_model.specs.Word.{Word, is_bare}
 use Rattle.pif_model.specs.Posix.Health.{Fine}
 use Rattle.pif_model.specs.Table.{Cell}
-use Rattle.pif_model.specs.Standing.{health_of, CountIsSound, CellIsSound}
+use Rattle.pif_model.specs.Projection.{health_of}
+use Rattle.pif_model.specs.Soundness.{CountIsSound, CellIsSound}
 use Rattle.pif_chains.proofs.Waiting.{by_test}
 use Rattle.pif_simulation.proofs.Kept.{held_once}
 

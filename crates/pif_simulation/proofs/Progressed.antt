@@ -3,7 +3,7 @@ use Rattle.std.proofs.Common.{◌≡◌, ℕ, Option, refl, ap}
 use Rattle.std.proofs.Math.Path.{fun_ext}
 use Rattle.std.proofs.lemmas.List.{length-set}
 use Rattle.pif_model.specs.Graph.{next_waiter}
-use Rattle.pif_model.specs.Posix.{Progress, Call, World, nobody, thread_at, with_thread, with_progress, progressed, effective_of, next_of}
+use Rattle.pif_model.specs.Posix.{Progress, Call, World, nobody, thread_at, with_thread, with_progress, at_progress, effective_of, next_of}
 use Rattle.pif_chains.proofs.Places.{kept_at}
 use Rattle.pif_chains.proofs.Greatest.{effective_same}
 
@@ -18,4 +18,4 @@ effective-with_call w t c =
 -- how far a call has come changes no next waiter
 pub next-with_progress : (w : World) (t : ℕ) (p : Progress) (m : ℕ) → next_of (with_progress t p w) m ≡ next_of w m
 next-with_progress w t p m = ap (λ f. next_waiter f w.waiters m)
-    (effective-with_call w t (progressed p (thread_at w t).call))
+    (effective-with_call w t (at_progress p (thread_at w t).call))

@@ -10,7 +10,7 @@ use Rattle.pif_model.specs.declared.lines.Place.TheVariants.{SetPriority}
 use Rattle.pif_model.specs.Graph.{is_priority}
 use Rattle.pif_model.specs.Word.{word_at, health_word_at}
 use Rattle.pif_model.specs.RobustList.{robust_at}
-use Rattle.pif_model.specs.Posix.{Thread, World, SetsPriority, closed, recalled, is_call_blocked, nobody, thread_at, with_base, with_progress}
+use Rattle.pif_model.specs.Posix.{Thread, World, SetsPriority, without_call, with_call_by, is_call_blocked, nobody, thread_at, with_base, with_progress}
 use Rattle.pif_model.specs.Posix.Effect.{set_prio}
 use Rattle.pif_model.specs.Posix.Effects.{none, then as first}
 use Rattle.pif_model.specs.Posix.Progress.{Has}
@@ -18,7 +18,8 @@ use Rattle.pif_model.specs.Posix.SetsPriority.{no_priority, not_living, changed}
 use Rattle.pif_model.specs.PiKernel.{Kernel, IsKernel, Seat, no_seat, seat_at, has_ended, is_ready, is_living, set_prio_answer, kernel_after_set_prio}
 use Rattle.pif_model.specs.Table.{Table, has_mutex, bound_to, uses_of, status_at, line_at, library_at, with_line, with_kernel, timer_at}
 use Rattle.pif_model.specs.Lines.{Outcome, answers, answered_by, set_priority}
-use Rattle.pif_model.specs.Standing.{Shadow, memory_at, call_at, health_at, thread_shown, world_of, mutex_by, is_unsettled, ListIsSound, IsShaped, IsSound}
+use Rattle.pif_model.specs.Projection.{Shadow, memory_at, call_at, health_at, thread_shown, world_of}
+use Rattle.pif_model.specs.Soundness.{mutex_by, is_unsettled, ListIsSound, IsShaped, IsSound}
 use Rattle.pif_chains.proofs.Waiting.{by_test}
 use Rattle.pif_chains.proofs.Numbers.{below}
 use Rattle.pif_chains.proofs.KernelFacts.{living-added}
@@ -149,13 +150,13 @@ module _ (s : Table) (t u p : ℕ) (g : Going s t (SetPrio u p) SetPriority) whe
             ∙ (λ i. record (thread_shown s y j) { base = (sym (seat_else j d) i).base })
 
     -- the world that the table shows
-    rebased_shown : IsSound (v k) → world_of (v k) y ≡ recalled t closed (with_base u p w)
+    rebased_shown : IsSound (v k) → world_of (v k) y ≡ with_call_by t without_call (with_base u p w)
     rebased_shown sound =
         let r : Thread = record (thread_at (with_base u p w) t) { call = None } in
         let long = length-set w.threads u (record (thread_at w u) { base = p }) in
         ap (λ x. world_of x y) (sym (lined_same s t Idle g.sound g.known k))
         ∙ shows s t 0 Idle (robust_at s.lists t) (word_at s.words 0) (health_word_at s.words 0)
-        (library_at s 0).count k t0' tl' tr' ml' g.sound.all.shape y (recalled t closed (with_base u p w))
+        (library_at s 0).count k t0' tl' tr' ml' g.sound.all.shape y (with_call_by t without_call (with_base u p w))
         (subst IsShaped (sym (lined_same s t Idle g.sound g.known k)) sound.all.shape)
         (length-set (with_base u p w).threads t r ∙ long ∙ threads_shown g.sound.all.shape y)
         (mutexes_shown g.sound.all.shape y) waiters_same

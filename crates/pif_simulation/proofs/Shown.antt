@@ -10,11 +10,12 @@ use Rattle.pif_model.specs.declared.lines.Line.{Line}
 use Rattle.pif_model.specs.declared.lines.Line.TheVariants.{Idle, At}
 use Rattle.pif_model.specs.Deadlines.{no_timer}
 use Rattle.pif_model.specs.Refusals.{begin_refused, go_refused, end_refused}
-use Rattle.pif_model.specs.Posix.{Progress, Call, Thread, World, nobody, no_mutex, no_variable, thread_at, mutex_at, variable_at, is_thread, is_mutex, is_variable, with_thread, with_progress, progressed, recalled, refusal_of, names_known, is_living as lives}
+use Rattle.pif_model.specs.Posix.{Progress, Call, Thread, World, nobody, no_mutex, no_variable, thread_at, mutex_at, variable_at, is_thread, is_mutex, is_variable, with_thread, with_progress, at_progress, with_call_by, refusal_of, names_known, is_living as lives}
 use Rattle.pif_model.specs.PiKernel.{seat_at, is_living, has_ended}
 use Rattle.pif_model.specs.Table.{Table, has_thread, has_mutex, has_cond, uses_of, status_at, line_at, timer_at}
 use Rattle.pif_model.specs.Lines.{is_open, table_refusal}
-use Rattle.pif_model.specs.Standing.{Shadow, call_at, call_shown, health_at, thread_shown, mutex_shown, variable_shown, places, world_of, IsShaped}
+use Rattle.pif_model.specs.Projection.{Shadow, call_at, call_shown, health_at, thread_shown, mutex_shown, variable_shown, places, world_of}
+use Rattle.pif_model.specs.Soundness.{IsShaped}
 
 -- PLACES
 
@@ -247,7 +248,7 @@ closed t u = with_thread t (record (thread_at u t) { call = None }) u
 
 -- a call that stays as it is
 pub recalled_same : (w : World) (t : ℕ) (f : Option Call → Option Call) → f (thread_at w t).call ≡ (thread_at w t).call
-    → w ≡ recalled t f w
+    → w ≡ with_call_by t f w
 recalled_same w t f e =
     sym (ap (λ c. with_thread t (record (thread_at w t) { call = c }) w) e
     ∙ (λ i. record w { threads = set-get_or w.threads t nobody i }))
@@ -256,7 +257,7 @@ recalled_same w t f e =
 pub closed_progressed : (w : World) (t : ℕ) (p : Progress) → t < length w.threads
     → closed t (with_progress t p w) ≡ closed t w
 closed_progressed w t p h =
-    let x : Thread = record (thread_at w t) { call = progressed p (thread_at w t).call } in
+    let x : Thread = record (thread_at w t) { call = at_progress p (thread_at w t).call } in
     ap (λ (y : Thread). with_thread t (record y { call = None }) (with_thread t x w)) (thread_changed w t x h)
     ∙ thread_changed_twice w t x (record (thread_at w t) { call = None })
 
@@ -265,5 +266,5 @@ pub call_progressed : (w : World) (t : ℕ) (p : Progress) (c : Call) → t < le
     → (thread_at w t).call ≡ Some c → (thread_at (with_progress t p w) t).call ≡ Some (record c { progress = p })
 call_progressed w t p c h e =
     ap (λ (y : Thread). y.call) (thread_changed w t (record
-    (thread_at w t) { call = progressed p (thread_at w t).call }) h)
-    ∙ ap (progressed p) e
+    (thread_at w t) { call = at_progress p (thread_at w t).call }) h)
+    ∙ ap (at_progress p) e

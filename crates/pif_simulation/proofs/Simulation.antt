@@ -16,7 +16,7 @@ use Rattle.pif_model.specs.Posix.Step.{refused, ticked}
 use Rattle.pif_model.specs.PiKernel.{is_living}
 use Rattle.pif_model.specs.Table.{Table, has_thread, has_mutex, has_cond, line_at, status_at, timer_at}
 use Rattle.pif_model.specs.Lines.{is_open, table_refusal, shared_line, locking_line, use_line, line_of, go_outcome, accepted_outcome, by_refusal, event_outcome, Outcome, counts_at, is_line_due, is_due_in, expires_at, told_outcome}
-use Rattle.pif_model.specs.Standing.{belongs, is_shared, is_locking, is_using, IsSound}
+use Rattle.pif_model.specs.Soundness.{belongs, is_shared, is_locking, is_using, IsSound}
 use Rattle.pif_model.specs.Deadlines.{is_reached, told_seen}
 use Rattle.pif_simulation.proofs.Kept.{second}
 use Rattle.pif_simulation.proofs.Shown.{go_allowed, end_allowed, refusal_seen}
@@ -24,24 +24,24 @@ use Rattle.pif_simulation.proofs.Steps.{Keeps, GoKeeps, Going, going_knows, goin
 use Rattle.pif_simulation.proofs.Does.{IsLocking, MayQueue, locking}
 use Rattle.pif_simulation.proofs.Does.MayQueue.{in_lock, in_wait}
 use Rattle.pif_simulation.proofs.Does.IsLocking.{by_try_lock}
-use Rattle.pif_simulation.proofs.EndLine.{end_kept}
+use Rattle.pif_simulation.proofs.ends.EndLine.{end_kept}
 use Rattle.pif_simulation.proofs.Begun.{begin_kept}
-use Rattle.pif_simulation.proofs.LockLines.{lock_load_kept, lock_pending_kept, lock_exchange_kept, lock_queued_kept, lock_stopped_kept, lock_clear_kept, link_clear_kept, leave_kernel_kept, leave_clear_kept}
-use Rattle.pif_simulation.proofs.TakingOver.{take_load_kept, take_health_kept, take_store_kept, take_word_kept, link_next_kept, link_head_kept, leave_exchange_kept}
-use Rattle.pif_simulation.proofs.LockCalls.{lock_kernel_kept, lock_stop_kept}
-use Rattle.pif_simulation.proofs.WaitLines.{wait_load_kept, wait_uses_kept}
-use Rattle.pif_simulation.proofs.WaitGivingUp.{wait_pending_kept, wait_health_kept, wait_store_kept, wait_unlink_kept, wait_exchange_kept, wait_kernel_kept}
-use Rattle.pif_simulation.proofs.WaitParking.{wait_park_kept, wait_parked_kept}
-use Rattle.pif_simulation.proofs.UseLines.{use_load_kept, use_reload_kept}
-use Rattle.pif_simulation.proofs.UseCounting.{use_exchange_kept}
-use Rattle.pif_simulation.proofs.Requeueing.{use_requeue_kept}
+use Rattle.pif_simulation.proofs.mutexes.LockLines.{lock_load_kept, lock_pending_kept, lock_exchange_kept, lock_queued_kept, lock_stopped_kept, lock_clear_kept, link_clear_kept, leave_kernel_kept, leave_clear_kept}
+use Rattle.pif_simulation.proofs.mutexes.TakingOver.{take_load_kept, take_health_kept, take_store_kept, take_word_kept, link_next_kept, link_head_kept, leave_exchange_kept}
+use Rattle.pif_simulation.proofs.mutexes.LockCalls.{lock_kernel_kept, lock_stop_kept}
+use Rattle.pif_simulation.proofs.conditions.WaitLines.{wait_load_kept, wait_uses_kept}
+use Rattle.pif_simulation.proofs.conditions.WaitGivingUp.{wait_pending_kept, wait_health_kept, wait_store_kept, wait_unlink_kept, wait_exchange_kept, wait_kernel_kept}
+use Rattle.pif_simulation.proofs.conditions.WaitParking.{wait_park_kept, wait_parked_kept}
+use Rattle.pif_simulation.proofs.conditions.UseLines.{use_load_kept, use_reload_kept}
+use Rattle.pif_simulation.proofs.conditions.UseCounting.{use_exchange_kept}
+use Rattle.pif_simulation.proofs.conditions.Requeueing.{use_requeue_kept}
 use Rattle.pif_simulation.proofs.SetPriorityLine.{set_priority_kept}
-use Rattle.pif_simulation.proofs.TryLines.{try_load_kept, try_pending_kept, try_exchange_kept, try_kernel_kept, try_clear_kept}
-use Rattle.pif_simulation.proofs.UnlockLines.{unlock_load_kept, unlock_pending_kept, unlock_health_kept, unlock_store_kept, unlock_unlink_kept, unlock_exchange_kept, unlock_kernel_kept, unlock_clear_kept, consistent_load_kept, consistent_health_kept, consistent_store_kept}
+use Rattle.pif_simulation.proofs.mutexes.TryLines.{try_load_kept, try_pending_kept, try_exchange_kept, try_kernel_kept, try_clear_kept}
+use Rattle.pif_simulation.proofs.mutexes.UnlockLines.{unlock_load_kept, unlock_pending_kept, unlock_health_kept, unlock_store_kept, unlock_unlink_kept, unlock_exchange_kept, unlock_kernel_kept, unlock_clear_kept, consistent_load_kept, consistent_health_kept, consistent_store_kept}
 use Rattle.pif_chains.proofs.Waiting.{by_test}
-use Rattle.pif_simulation.proofs.Timers.{retimed_sound, retimed_frames}
+use Rattle.pif_simulation.proofs.deadlines.Timers.{retimed_sound, retimed_frames}
 use Rattle.pif_simulation.proofs.Agreement.{framed}
-use Rattle.pif_simulation.proofs.Expiring.{queue_expired_kept, stop_expired_kept, due_kept}
+use Rattle.pif_simulation.proofs.deadlines.Expiring.{queue_expired_kept, stop_expired_kept, due_kept}
 
 -- A CALL GOES ON
 

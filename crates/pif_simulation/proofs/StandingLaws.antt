@@ -12,11 +12,12 @@ use Rattle.pif_model.specs.Posix.{World, Step, IsRun, empty_world}
 use Rattle.pif_model.specs.Posix.IsRun.{start, next}
 use Rattle.pif_model.specs.Table.{Table, new_table, has_thread_room, has_mutex_room, has_cond_room, has_mutex, thread_added, mutex_added, cond_added}
 use Rattle.pif_model.specs.Lines.{event_outcome}
-use Rattle.pif_model.specs.Standing.{Agrees, no_shadow, memory_at, world_of, Stands}
-use Rattle.pif_simulation.proofs.Additions.{new_sound, new_seen}
-use Rattle.pif_simulation.proofs.ThreadAdded.{thread_added_kept}
-use Rattle.pif_simulation.proofs.MutexAdded.{mutex_added_kept}
-use Rattle.pif_simulation.proofs.CondAdded.{cond_added_kept}
+use Rattle.pif_model.specs.Projection.{Agrees, no_shadow, memory_at, world_of}
+use Rattle.pif_model.specs.Standing.{Stands}
+use Rattle.pif_simulation.proofs.additions.Additions.{new_sound, new_seen}
+use Rattle.pif_simulation.proofs.additions.ThreadAdded.{thread_added_kept}
+use Rattle.pif_simulation.proofs.additions.MutexAdded.{mutex_added_kept}
+use Rattle.pif_simulation.proofs.additions.CondAdded.{cond_added_kept}
 use Rattle.pif_simulation.proofs.Simulation.{event_kept}
 use Rattle.pif_simulation.proofs.Steps.{Keeps}
 

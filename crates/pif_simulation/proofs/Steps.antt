@@ -16,20 +16,21 @@ use Rattle.pif_model.specs.declared.lines.Status.TheVariants.{Ready, Queued, Par
 use Rattle.pif_model.specs.declared.lines.Woken.TheVariants.{Fresh as WokenFresh, Owns as WokenOwns, Again as WokenAgain, Expired as WokenExpired}
 use Rattle.pif_model.specs.Refusals.{go_refused}
 use Rattle.pif_model.specs.Deadlines.{told, told_seen}
-use Rattle.pif_model.specs.Posix.{Health, Progress, World, Step, Effects, is_due, thread_at, refusal_of, named_by, variable_of, names_known, recalled, closed, noted, on_taking, on_release, rests, sleeps, is_idle}
+use Rattle.pif_model.specs.Posix.{Health, Progress, World, Step, Effects, is_due, thread_at, refusal_of, named_by, variable_of, names_known, with_call_by, without_call, after_waits, on_taking, on_release, rests, sleeps, is_idle}
 use Rattle.pif_model.specs.Posix.Progress.{Has}
 use Rattle.pif_model.specs.Posix.Moves.{acts}
 use Rattle.pif_model.specs.Posix.Step.{went, waits, answered}
 use Rattle.pif_model.specs.PiKernel.{is_ready, is_living}
 use Rattle.pif_model.specs.Table.{Table, Cell, cell_at, has_mutex, has_cond, uses_of, status_at, line_at, timer_at}
 use Rattle.pif_model.specs.Lines.{Outcome, is_open, is_due_in}
-use Rattle.pif_model.specs.Standing.{Shadow, Agrees, Use, use_at, before_lock, call_at, call_shown, progress_at, health_at, world_of, MeetsAll, needs, CallIsSound, LineIsSound, IsSound}
+use Rattle.pif_model.specs.Projection.{Shadow, Agrees, before_lock, call_at, call_shown, progress_at, health_at, world_of}
+use Rattle.pif_model.specs.Soundness.{Use, use_at, MeetsAll, needs, CallIsSound, LineIsSound, IsSound}
 use Rattle.pif_chains.proofs.Waiting.{by_test, names, named-from_pair}
 use Rattle.pif_chains.proofs.KernelFacts.{unnamed-from_ready, living-added}
 use Rattle.pif_chains.proofs.Numbers.{below}
 use Rattle.pif_simulation.proofs.Hole.{each_thread}
 use Rattle.pif_simulation.proofs.Shown.{threads_shown, call_seen, call_seen_of, timer_seen, refusal_seen, recalled_same}
-use Rattle.pif_simulation.proofs.Due.{due_seen}
+use Rattle.pif_simulation.proofs.deadlines.Due.{due_seen}
 use Rattle.pif_simulation.proofs.Agreement.{Frames, framed}
 
 -- v follows s by this entry: it is sound, both have the same limits, and what they show, with a shadow that agrees with
@@ -134,7 +135,7 @@ line_sleeps s t (At q p) h = place_sleeps (is_living s.kernel) t q (status_at s 
 -- a call whose thread may not run has been noted, where it is blocked
 place_noted : (l : ℕ → Bool) (t : ℕ) (q : Request) (x : Status) (c : Cell) (z : Use) (p : Place) (h : Health) (n : ℕ)
     → MeetsAll l t x c z (needs p) → is_ready x ≡ false
-    → noted (Some (record { request = q; progress = progress_at q p x h n }))
+    → after_waits (Some (record { request = q; progress = progress_at q p x h n }))
     ≡ Some (record { request = q; progress = progress_at q p x h n })
 place_noted l t q (Ready w) c z p h n k e = absurd (true≢false e)
 place_noted l t q (Queued m) c z LockQueued h n k e = refl
@@ -149,7 +150,7 @@ place_noted l t q Ended c z WaitParked h n k e = refl
 place_noted l t q x c z _ h n k e = absurd (true≢false (sym k.0 ∙ e))
 
 line_noted : (s : Table) (t : ℕ) (l : Line) → LineIsSound s t l → is_ready (status_at s t) ≡ false
-    → noted (call_at (health_at s) (uses_of s) l (status_at s t)) ≡ call_at (health_at s) (uses_of s) l (status_at s t)
+    → after_waits (call_at (health_at s) (uses_of s) l (status_at s t)) ≡ call_at (health_at s) (uses_of s) l (status_at s t)
 line_noted s t Idle h e = absurd (true≢false (sym h ∙ e))
 line_noted s t (At q p) h e = place_noted (is_living s.kernel) t q (status_at s t) (cell_at s (named_by q)) (use_at s q)
     p (health_at s (named_by q)) (uses_of s (variable_of q)) h.needs e
@@ -254,7 +255,7 @@ module _ {s : Table} {t : ℕ} {q : Request} {p : Place} (g : Going s t q p) whe
   pub waits_noted : (v : Table) (u : Shadow → World) → IsSound v → v.limits ≡ s.limits → is_living v.kernel t ≡ true
       → is_ready (status_at v t) ≡ false → Frames s v
       → ((x : Shadow) → Effects t (world_of s x) (world_of s x) (u x))
-      → ((x : Shadow) → world_of v x ≡ recalled t noted (u x)) → KeepsGo s t Waits v
+      → ((x : Shadow) → world_of v x ≡ with_call_by t after_waits (u x)) → KeepsGo s t Waits v
   waits_noted v u sound limits known ready frames effects shown undue = record {
     sound = sound;
     limits = limits;
@@ -272,7 +273,7 @@ module _ {s : Table} {t : ℕ} {q : Request} {p : Place} (g : Going s t q p) whe
       → ((x : Shadow) → Effects t (world_of s x) (world_of s x) (world_of v x)) → KeepsGo s t Waits v
   waits_with v sound limits known ready frames effects =
       waits_noted v (world_of v) sound limits known ready frames effects (λ x.
-      recalled_same (world_of v x) t noted (ap noted (call_seen_of sound.all.shape x t)
+      recalled_same (world_of v x) t after_waits (ap after_waits (call_seen_of sound.all.shape x t)
       ∙ line_noted v t (line_at v t) (each_thread sound t known).line ready ∙ sym (call_seen_of sound.all.shape x t)))
 
   -- the step follows with these effects, after which the call has this result and closes
@@ -280,7 +281,7 @@ module _ {s : Table} {t : ℕ} {q : Request} {p : Place} (g : Going s t q p) whe
       → is_living v.kernel t ≡ true → is_ready (status_at v t) ≡ true → Frames s v
       → ((x : Shadow) → Effects t (world_of s x) (world_of s x) (u x))
       → ((x : Shadow) → (thread_at (u x) t).call ≡ Some (record { request = q; progress = Has a }))
-      → ((x : Shadow) → world_of v x ≡ recalled t closed (u x)) → KeepsGo s t (Answered a) v
+      → ((x : Shadow) → world_of v x ≡ with_call_by t without_call (u x)) → KeepsGo s t (Answered a) v
   answers_with v a u sound limits known ready frames effects call shown undue = record {
     sound = sound;
     limits = limits;

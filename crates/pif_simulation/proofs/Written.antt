@@ -18,7 +18,8 @@ use Rattle.pif_model.specs.Posix.{named_by, variable_of, Health, Thread, Mutex, 
 use Rattle.pif_model.specs.PiKernel.{Kernel, Seat, seat_at, state_at, is_living}
 use Rattle.pif_model.specs.RobustList.{RobustRow, no_robust_row, robust_at, with_robust}
 use Rattle.pif_model.specs.Table.{Table, Cell, LibraryMutex, new_mutex, has_thread, has_mutex, bound_to, uses_of, status_at, line_at, timer_at, library_at, cell_at}
-use Rattle.pif_model.specs.Standing.{Shadow, Use, use_at, MeetsAll, LineIsSound, ThreadIsSound, needs, progress_at, call_at, call_shown, memory_at, may_enlist, health_of, health_at, thread_shown, mutex_shown, world_of, CellIsSound, IsShaped}
+use Rattle.pif_model.specs.Projection.{Shadow, progress_at, call_at, call_shown, memory_at, may_enlist, health_of, health_at, thread_shown, mutex_shown, world_of}
+use Rattle.pif_model.specs.Soundness.{Use, use_at, MeetsAll, LineIsSound, ThreadIsSound, needs, CellIsSound, IsShaped}
 use Rattle.pif_simulation.proofs.Kept.{Spares, unused}
 use Rattle.pif_simulation.proofs.Hole.{Changes, aims}
 use Rattle.pif_simulation.proofs.Shown.{threads_shown, mutexes_shown, thread_seen, mutex_seen, same_world}

@@ -1,6 +1,7 @@
 ghost use Rattle.std.specs.Prelude.{◌≡◌, ◌≤◌, ℕ, List, [], ◌∷◌, map, eqb, true, false};
 ghost use Rattle.std.specs.List.{IsDistinct};
 ghost use Rattle.pif_types.specs.Bounds.{Bounds};
+ghost use Rattle.pif_model.specs.NamedNumbers.{ETIMEDOUT};
 ghost use Rattle.pif_model.specs.declared.events.Event.TheVariants.{Go};
 ghost use Rattle.pif_model.specs.declared.events.Seen.TheVariants.{Waits, Answered};
 ghost use Rattle.pif_model.specs.declared.events.Entry.{Entry};
@@ -71,5 +72,5 @@ pub fn expiry_leaves_mutexes()
 /// A law: ETIMEDOUT (110) is answered only to a call that expired while it was among the waiters of a mutex, was stuck or
 /// was parked: one that was handed its mutex, was unblocked or had a result before that is never answered so.
 pub fn timed_out_call_has_expired()
-    ensures { (limits : Bounds) (history : List Entry) (states : List World) (before last : World) (thread : ℕ) → IsRun limits (Happened (Go thread) (Answered 110) ∷ history) (before ∷ states) last → fate thread (Happened (Go thread) (Answered 110) ∷ history) (before ∷ states) ≡ Expired }
+    ensures { (limits : Bounds) (history : List Entry) (states : List World) (before last : World) (thread : ℕ) → IsRun limits (Happened (Go thread) (Answered ETIMEDOUT) ∷ history) (before ∷ states) last → fate thread (Happened (Go thread) (Answered ETIMEDOUT) ∷ history) (before ∷ states) ≡ Expired }
 {}

@@ -9,7 +9,7 @@ use Rattle.pif_model.specs.declared.events.Entry.{Entry}
 use Rattle.pif_model.specs.declared.events.Entry.TheVariants.{Step as Happened}
 use Rattle.pif_model.specs.Table.{Table}
 use Rattle.pif_model.specs.Lines.{Outcome, event_outcome, goes_on}
-use Rattle.pif_uses.specs.Calls.{call_outcome, called, finished, gone, steps_before, went}
+use Rattle.pif_uses.specs.Calls.{call_outcome, after_call, after_finish, gone, steps_before, went}
 
 -- ---- what is chosen by an answer
 
@@ -165,8 +165,8 @@ call_refused t q s r e = refused-seen (event_outcome (Begin t q) s).seen _ _ r e
 -- and that is its one entry
 pub called-refused : (t : ℕ) (q : Request) (s : Table) (h : List Entry) (r : Refusal)
     → (event_outcome (Begin t q) s).seen ≡ Refused r
-    → called t q s h ≡ Happened (Begin t q) (event_outcome (Begin t q) s).seen ∷ h
-unfolding called
+    → after_call t q s h ≡ Happened (Begin t q) (event_outcome (Begin t q) s).seen ∷ h
+unfolding after_call
 called-refused t q s h r e = refused-seen (event_outcome (Begin t q) s).seen _ _ r e
 
 -- another goes on
@@ -179,7 +179,7 @@ call_other t q s e = other-seen (event_outcome (Begin t q) s).seen _ _ e
 -- and its entries follow that of its begin
 pub called-other : (t : ℕ) (q : Request) (s : Table) (h : List Entry)
     → ((r : Refusal) → (event_outcome (Begin t q) s).seen ≡ Refused r → ⊥)
-    → called t q s h ≡ finished t (event_outcome (Begin t q) s).after
+    → after_call t q s h ≡ after_finish t (event_outcome (Begin t q) s).after
     (Happened (Begin t q) (event_outcome (Begin t q) s).seen ∷ h)
-unfolding called
+unfolding after_call
 called-other t q s h e = other-seen (event_outcome (Begin t q) s).seen _ _ e

@@ -15,8 +15,8 @@ use Rattle.pif_model.specs.Posix.{World, mutex_at}
 use Rattle.pif_model.specs.Standing.{Stands}
 use Rattle.pif_model.specs.Table.{Table}
 use Rattle.pif_model.specs.Lines.{Outcome, event_outcome, accepted_outcome, table_refusal, by_refusal, goes_on}
-use Rattle.pif_simulation.proofs.Holders.{holder_owns}
-use Rattle.pif_uses.specs.Calls.{StandsOn, call_outcome, called, finished, steps_before, went}
+use Rattle.pif_simulation.proofs.runs.Holders.{holder_owns}
+use Rattle.pif_uses.specs.Calls.{StandsOn, call_outcome, after_call, after_finish, steps_before, went}
 use Rattle.pif_uses.specs.declared.locking.Held.{Held}
 use Rattle.pif_uses.specs.declared.locking.Held.TheVariants.{InOrder, OwnerDied}
 use Rattle.pif_uses.specs.declared.waiting.Awaited.TheVariants.{Met}
@@ -52,13 +52,13 @@ answer_counts t m a h = rw (itself t) refl
 
 -- once an open call has finished with an answer, none is open, and the answer is counted
 module _ (t a : ℕ) (s : Table) (h : List Entry) (e : (goes_on 23 t s).seen ≡ Answered a) where
-  pub finished_closes : open_call t (finished t s h) ≡ None
+  pub finished_closes : open_call t (after_finish t s h) ≡ None
   finished_closes =
       let P : Seen → Type 0 = λ x. open_call t (Happened (Go t) x ∷ went (steps_before 23 t s) t h) ≡ None in
       subst P (sym e) (answer_closes t a (went (steps_before 23 t s) t h))
 
   pub finished_counts : (m : ℕ)
-      → hold_count t m (finished t s h) ≡ hold_count_after_answer m (open_call t h) a (hold_count t m h)
+      → hold_count t m (after_finish t s h) ≡ hold_count_after_answer m (open_call t h) a (hold_count t m h)
   finished_counts m =
       let n = steps_before 23 t s in
       let P : Seen → Type 0 = λ x.
@@ -99,17 +99,17 @@ module _ (t a : ℕ) (q : Request) (s : Table) (h : List Entry) (e : (call_outco
   pub rest : (goes_on 23 t o.after).seen ≡ Answered a
   rest = ap (λ (x : Outcome). x.seen) (sym (call_other t q s allowed)) ∙ e
 
-  whole : called t q s h ≡ finished t o.after (Happened (Begin t q) Begun ∷ h)
-  whole = called-other t q s h allowed ∙ ap (λ x. finished t o.after (Happened (Begin t q) x ∷ h)) begun
+  whole : after_call t q s h ≡ after_finish t o.after (Happened (Begin t q) Begun ∷ h)
+  whole = called-other t q s h allowed ∙ ap (λ x. after_finish t o.after (Happened (Begin t q) x ∷ h)) begun
 
   opened : open_call t (Happened (Begin t q) Begun ∷ h) ≡ Some (plain q)
   opened = rw (itself t) refl
 
-  pub called_closes : open_call t (called t q s h) ≡ None
+  pub called_closes : open_call t (after_call t q s h) ≡ None
   called_closes = ap (open_call t) whole ∙ finished_closes t a o.after (Happened (Begin t q) Begun ∷ h) rest
 
   pub called_counts : (m : ℕ)
-      → hold_count t m (called t q s h) ≡ hold_count_after_answer m (Some (plain q)) a (hold_count t m h)
+      → hold_count t m (after_call t q s h) ≡ hold_count_after_answer m (Some (plain q)) a (hold_count t m h)
   called_counts m =
       ap (hold_count t m) whole ∙ finished_counts t a o.after (Happened (Begin t q) Begun ∷ h) rest m
       ∙ ap (λ x. hold_count_after_answer m x a (hold_count t m h)) opened
@@ -141,7 +141,7 @@ module _ (t a : ℕ) (q : Request) (s : Table) (h : List Entry) (r : List World)
     (e : (call_outcome t q s).seen ≡ Answered a) where
   -- it stands on, and how often t holds m is counted
   call_counts_on : (m : ℕ) → CountsOn t m (hold_count_after_answer m (Some (plain q)) a (hold_count t m h))
-      (call_outcome t q s).after (called t q s h) r w
+      (call_outcome t q s).after (after_call t q s h) r w
   call_counts_on m = record {
     on = along on (call_stands s (call_outcome t q s).after t q refl h (on.more ++ w ∷ r) on.last on.stands);
     idle = called_closes t a q s h e;
@@ -194,11 +194,11 @@ lock_counts m a n (inr z) = rw (itself m, z) refl
 pub lock_holds : (s v : Table) (t m : ℕ) (o : Result Held Seen) → o ≡ held_by (call_outcome t (Lock m) s).seen
     → v ≡ (call_outcome t (Lock m) s).after
     → IfOk o (λ x. (h : List Entry) (r : List World) (w : World) → Stands s h r w
-    → HoldsOn t m (hold_count t m h + 1) v (called t (Lock m) s h) r w)
+    → HoldsOn t m (hold_count t m h + 1) v (after_call t (Lock m) s h) r w)
 lock_holds s v t m (Err x) e after = tt
 lock_holds s v t m (Ok x) e after = λ h r w st.
     let taken = lock_taken (call_outcome t (Lock m) s).seen x e in
-    holds_on t m (hold_count t m h) v (called t (Lock m) s h) r w (call_stands s v t (Lock m) after h r w st)
+    holds_on t m (hold_count t m h) v (after_call t (Lock m) s h) r w (call_stands s v t (Lock m) after h r w st)
     (called_closes t taken.0 (Lock m) s h taken.1)
     (called_counts t taken.0 (Lock m) s h taken.1 m ∙ lock_counts m taken.0 (hold_count t m h) taken.2)
 
@@ -206,11 +206,11 @@ lock_holds s v t m (Ok x) e after = λ h r w st.
 pub finish_holds : (s v : Table) (t m : ℕ) (o : Result Held Seen) → o ≡ held_by (goes_on 23 t s).seen
     → v ≡ (goes_on 23 t s).after
     → IfOk o (λ x. (h : List Entry) (r : List World) (w : World) → Stands s h r w
-    → open_call t h ≡ Some (Lock m) → HoldsOn t m (hold_count t m h + 1) v (finished t s h) r w)
+    → open_call t h ≡ Some (Lock m) → HoldsOn t m (hold_count t m h + 1) v (after_finish t s h) r w)
 finish_holds s v t m (Err x) e after = tt
 finish_holds s v t m (Ok x) e after = λ h r w st busy.
     let taken = lock_taken (goes_on 23 t s).seen x e in
-    holds_on t m (hold_count t m h) v (finished t s h) r w (finish_stands s v t after h r w st)
+    holds_on t m (hold_count t m h) v (after_finish t s h) r w (finish_stands s v t after h r w st)
     (finished_closes t taken.0 s h taken.1)
     (finished_counts t taken.0 s h taken.1 m
     ∙ ap (λ q. hold_count_after_answer m q taken.0 (hold_count t m h)) busy
@@ -225,7 +225,7 @@ unlock_counts m n = rw (itself m) (omega arith)
 -- a thread that has locked and unlocked holds the mutex as often as before
 pub unlock_leaves : (s v : Table) (t m n : ℕ) (h : List Entry) (r : List World) (w : World) → HoldsOn t m (n + 1) s h r w
     → (call_outcome t (Unlock m) s).seen ≡ Answered 0 → v ≡ (call_outcome t (Unlock m) s).after
-    → CountsOn t m n v (called t (Unlock m) s h) r w
+    → CountsOn t m n v (after_call t (Unlock m) s h) r w
 unlock_leaves s v t m n h r w held e after =
     let next = call_counts_on t 0 (Unlock m) s h r w held.on e m in
     rw after (record {
@@ -237,22 +237,22 @@ unlock_leaves s v t m n h r w held e after =
 -- a holder that has made the mutex consistent holds it still
 pub consistent_holds : (s v : Table) (t m n : ℕ) (h : List Entry) (r : List World) (w : World)
     → HoldsOn t m (n + 1) s h r w → (call_outcome t (Consistent m) s).seen ≡ Answered 0
-    → v ≡ (call_outcome t (Consistent m) s).after → HoldsOn t m (n + 1) v (called t (Consistent m) s h) r w
+    → v ≡ (call_outcome t (Consistent m) s).after → HoldsOn t m (n + 1) v (after_call t (Consistent m) s h) r w
 consistent_holds s v t m n h r w held e after =
     let next = call_counts_on t 0 (Consistent m) s h r w held.on e m in
-    rw after (holds_on t m n (call_outcome t (Consistent m) s).after (called t (Consistent m) s h) r w next.on next.idle
+    rw after (holds_on t m n (call_outcome t (Consistent m) s).after (after_call t (Consistent m) s h) r w next.on next.idle
     (next.count ∙ held.count))
 
 -- a core stands on after a lock that found that the last owner had ended, and the call consistent behind it
 pub died_stands : (s u v : Table) (t m : ℕ) → Ok OwnerDied ≡ found t m s
-    → ((h : List Entry) (r : List World) (w : World) → Stands s h r w → StandsOn u (called t (Lock m) s h) r w)
+    → ((h : List Entry) (r : List World) (w : World) → Stands s h r w → StandsOn u (after_call t (Lock m) s h) r w)
     → u ≡ locked t m s → v ≡ (call_outcome t (Consistent m) u).after
     → (h : List Entry) (r : List World) (w : World) → Stands s h r w
-    → StandsOn v (if_died (found t m s) (called t (Lock m) s h)
-    (called t (Consistent m) (locked t m s) (called t (Lock m) s h))) r w
+    → StandsOn v (if_died (found t m s) (after_call t (Lock m) s h)
+    (after_call t (Consistent m) (locked t m s) (after_call t (Lock m) s h))) r w
 died_stands s u v t m died stands same after h r w st =
-    let k = called t (Lock m) s h in
-    subst (λ (f : Result Held Seen). StandsOn v (if_died f k (called t (Consistent m) (locked t m s) k)) r w) died
+    let k = after_call t (Lock m) s h in
+    subst (λ (f : Result Held Seen). StandsOn v (if_died f k (after_call t (Consistent m) (locked t m s) k)) r w) died
     (next_stands u (locked t m s) v t (Consistent m) k r w (stands h r w st) same after)
 
 -- a wait that was answered 0 changes nothing that is counted
@@ -262,9 +262,9 @@ wait_counts c m n = rw (itself m) refl
 -- a holder whose open wait has finished holds the mutex again
 pub wait_holds : (s v : Table) (t c m n : ℕ) → (goes_on 23 t s).seen ≡ Answered 0 → v ≡ (goes_on 23 t s).after
     → (h : List Entry) (r : List World) (w : World) → Stands s h r w → open_call t h ≡ Some (Wait c m)
-    → hold_count t m h ≡ n + 1 → HoldsOn t m (n + 1) v (finished t s h) r w
+    → hold_count t m h ≡ n + 1 → HoldsOn t m (n + 1) v (after_finish t s h) r w
 wait_holds s v t c m n e after h r w st busy count =
-    holds_on t m n v (finished t s h) r w (finish_stands s v t after h r w st) (finished_closes t 0 s h e)
+    holds_on t m n v (after_finish t s h) r w (finish_stands s v t after h r w st) (finished_closes t 0 s h e)
     (finished_counts t 0 s h e m ∙ ap (λ q. hold_count_after_answer m q 0 (hold_count t m h)) busy
     ∙ wait_counts c m (hold_count t m h) ∙ count)
 
@@ -292,10 +292,10 @@ finished_only met (Refused r) f g n = refl
 pub resumed_stands : (s u v : Table) (t c m : ℕ) (met : Bool) (seen : Seen) (k : List Entry) (r : List World)
     (w : World) → seen ≡ Answered 0 → StandsOn u k r w → u ≡ (goes_on 23 t s).after
     → v ≡ if_waited met u (call_outcome t (Wait c m) u).after
-    → StandsOn v (if_resumed met seen k (called t (Wait c m) (goes_on 23 t s).after k)) r w
+    → StandsOn v (if_resumed met seen k (after_call t (Wait c m) (goes_on 23 t s).after k)) r w
 resumed_stands s u v t c m true seen k r w e on same after =
-    subst (λ x. StandsOn v (if_resumed true x k (called t (Wait c m) (goes_on 23 t s).after k)) r w) (sym e)
+    subst (λ x. StandsOn v (if_resumed true x k (after_call t (Wait c m) (goes_on 23 t s).after k)) r w) (sym e)
     (subst (λ x. StandsOn x k r w) (sym after) on)
 resumed_stands s u v t c m false seen k r w e on same after =
-    subst (λ x. StandsOn v (if_resumed false x k (called t (Wait c m) (goes_on 23 t s).after k)) r w) (sym e)
+    subst (λ x. StandsOn v (if_resumed false x k (after_call t (Wait c m) (goes_on 23 t s).after k)) r w) (sym e)
     (next_stands u (goes_on 23 t s).after v t (Wait c m) k r w on same after)

@@ -23,7 +23,9 @@ use Rattle.pif_model.specs.PiKernel.{is_living, lock_answer, words_after_lock, k
 use Rattle.pif_model.specs.Table.{Table, cell_at, has_mutex, has_thread, line_at, with_kernel, with_word}
 use Rattle.pif_model.specs.Word.{held_by, free_word, word_at}
 use Rattle.pif_model.specs.Lines.{Outcome, accepted_outcome, answers, by_refusal, clears, event_outcome, expired_in, expired_place, expires_at, gives_up, given_up_by, go_outcome, goes_on, goes_to, is_open, line_of, link_head, link_next, lock_by, lock_kernel, lock_stop, locking_line, shared_line, table_refusal, take_load, take_store, take_word_back}
-use Rattle.pif_model.specs.Standing.{CallIsSound, IsSound, LineIsSound, Stands, health_at, health_of}
+use Rattle.pif_model.specs.Projection.{health_at, health_of}
+use Rattle.pif_model.specs.Soundness.{CallIsSound, IsSound, LineIsSound}
+use Rattle.pif_model.specs.Standing.{Stands}
 use Rattle.pif_chains.proofs.LineCases.{ends_by_cases, leave_exchange_cases, lock_load_cases, lock_queued_cases, own_exchange_cases, take_health_cases}
 use Rattle.pif_simulation.proofs.Lined.{tl}
 use Rattle.pif_simulation.proofs.Shown.{go_allowed, mutex_seen}

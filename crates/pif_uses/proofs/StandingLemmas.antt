@@ -11,7 +11,7 @@ use Rattle.pif_model.specs.Standing.{Stands}
 use Rattle.pif_model.specs.Table.{Table}
 use Rattle.pif_model.specs.Lines.{Outcome, event_outcome, goes_on}
 use Rattle.pif_simulation.proofs.StandingLaws.{event_stands}
-use Rattle.pif_uses.specs.Calls.{StandsOn, call_outcome, called, finished, gone, steps_before, went}
+use Rattle.pif_uses.specs.Calls.{StandsOn, call_outcome, after_call, after_finish, gone, steps_before, went}
 use Rattle.pif_uses.proofs.CallLemmas.{call_other, call_refused, called-other, called-refused, goes_on-other, goes_on-went, gone-other, gone-went, is_refused, is_went}
 
 -- a run that goes on from a state that itself was reached by one step more
@@ -69,12 +69,12 @@ going (suc more) t s h r w st =
 
 -- a core that stands stands on once a thread has finished
 pub finish_stands : (s v : Table) (t : ℕ) → v ≡ (goes_on 23 t s).after
-    → (h : List Entry) (r : List World) (w : World) → Stands s h r w → StandsOn v (finished t s h) r w
+    → (h : List Entry) (r : List World) (w : World) → Stands s h r w → StandsOn v (after_finish t s h) r w
 finish_stands s v t b h r w st = rw b (going 23 t s h r w st)
 
 -- and after a whole call
 pub call_stands : (s v : Table) (t : ℕ) (q : Request) → v ≡ (call_outcome t q s).after
-    → (h : List Entry) (r : List World) (w : World) → Stands s h r w → StandsOn v (called t q s h) r w
+    → (h : List Entry) (r : List World) (w : World) → Stands s h r w → StandsOn v (after_call t q s h) r w
 call_stands s v t q b h r w st =
     let o : Outcome = event_outcome (Begin t q) s in
     let k = Happened (Begin t q) o.seen ∷ h in
@@ -86,13 +86,13 @@ call_stands s v t q b h r w st =
       | inr n ↦
           let next = event_stands s (Begin t q) h r w st in
           subst (λ l. StandsOn (call_outcome t q s).after l r w) (sym (called-other t q s h n))
-          (subst (λ (x : Outcome). StandsOn x.after (finished t o.after k) r w) (sym (call_other t q s n))
+          (subst (λ (x : Outcome). StandsOn x.after (after_finish t o.after k) r w) (sym (call_other t q s n))
           (later (going 23 t o.after k (w ∷ r) next.0 next.1)))
     ])
 
 -- and after another whole call, from a table that is known under another name
 pub next_stands : (s u v : Table) (t : ℕ) (q : Request) (k : List Entry) (r : List World) (w : World)
-    → StandsOn s k r w → s ≡ u → v ≡ (call_outcome t q s).after → StandsOn v (called t q u k) r w
+    → StandsOn s k r w → s ≡ u → v ≡ (call_outcome t q s).after → StandsOn v (after_call t q u k) r w
 next_stands s u v t q k r w on same b =
-    subst (λ x. StandsOn v (called t q x k) r w) same
+    subst (λ x. StandsOn v (after_call t q x k) r w) same
     (along on (call_stands s v t q b k (on.more ++ w ∷ r) on.last on.stands))

@@ -30,8 +30,8 @@ abbrev pub gone : ℕ → ℕ → Table → List Entry → List Entry
 gone more t s h = Happened (Go t) (goes_on more t s).seen ∷ went (steps_before more t s) t h
 
 -- at most 24 times
-abbrev pub finished : ℕ → Table → List Entry → List Entry
-finished t s h = gone 23 t s h
+abbrev pub after_finish : ℕ → Table → List Entry → List Entry
+after_finish t s h = gone 23 t s h
 
 -- a whole call: t begins it, and if that is not refused goes on, at most 24 times, up to the first answer that isn't
 -- Went
@@ -43,11 +43,11 @@ call_outcome t q s =
     ]
 
 -- a history with the entries more of a whole call
-unfoldable pub called : ℕ → Request → Table → List Entry → List Entry
-called t q s h =
+unfoldable pub after_call : ℕ → Request → Table → List Entry → List Entry
+after_call t q s h =
     elim (event_outcome (Begin t q) s).seen [
       | Refused r ↦ Happened (Begin t q) (event_outcome (Begin t q) s).seen ∷ h
-      | _ ↦ finished t (event_outcome (Begin t q) s).after (Happened (Begin t q) (event_outcome (Begin t q) s).seen ∷ h)
+      | _ ↦ after_finish t (event_outcome (Begin t q) s).after (Happened (Begin t q) (event_outcome (Begin t q) s).seen ∷ h)
     ]
 
 -- a core with this table stands after the history h, by a run that goes on from the state w, which it reached through

@@ -1,6 +1,7 @@
 -- What a caller knows of a mutex that it has locked.
 use Rattle.std.specs.Prelude.{ℕ, ◌≡◌, ◌==◌, true, List, None, Result, Ok, Err, if◌then◌else◌}
 use Rattle.pif_types.specs.declared.requests.Request.TheVariants.{Lock}
+use Rattle.pif_model.specs.NamedNumbers.{EOWNERDEAD}
 use Rattle.pif_model.specs.declared.events.Entry.{Entry}
 use Rattle.pif_model.specs.declared.events.Seen.{Seen}
 use Rattle.pif_model.specs.declared.events.Seen.TheVariants.{Answered}
@@ -15,7 +16,7 @@ use Rattle.pif_uses.specs.Calls.{StandsOn, call_outcome}
 
 -- whether a lock that was answered so has taken the mutex: 0, or EOWNERDEAD
 abbrev pub held_by : Seen → Result Held Seen
-held_by (Answered a) = if a == 0 then Ok InOrder else (if a == 130 then Ok OwnerDied else Err (Answered a))
+held_by (Answered a) = if a == 0 then Ok InOrder else (if a == EOWNERDEAD then Ok OwnerDied else Err (Answered a))
 held_by x = Err x
 
 -- a core stands on after a history in which t has no call open and holds m this often, as nobody else does: by the

@@ -1,15 +1,14 @@
-ghost use Rattle.std.specs.Prelude.{ℕ, ◌≡◌, ◌≢◌, List};
-ghost use Rattle.pif_model.specs.declared.events.Entry.{Entry};
+ghost use Rattle.std.specs.Prelude.{ℕ, ◌≡◌, ◌≢◌};
 ghost use Rattle.pif_model.specs.declared.events.Seen.TheVariants.{Went};
-ghost use Rattle.pif_model.specs.Posix.{World};
-ghost use Rattle.pif_model.specs.Standing.{Stands};
+ghost use Rattle.pif_model.specs.Standing.{WhereStands};
 ghost use Rattle.pif_model.specs.Lines.{goes_on};
-ghost use Rattle.pif_uses.specs.Calls.{StandsOn, call_outcome, called, finished};
+ghost use Rattle.pif_uses.specs.Calls.{StandsOn, call_outcome, after_call, after_finish};
 
 use pif_core::{Core, Event, Seen};
 use pif_types::{Request, Tid};
 
-/// How often `finish` goes on at most, after the first time.
+/// How often `finish` goes on at most, after the first time: one less than the 24 steps within which an open call is
+/// answered or waits (`Core::step`, `ends`).
 pub const MORE_STEPS: u32 = 23;
 
 /// A thread goes on with its open call up to the first answer that isn't `Went`, at most 24 times; that is enough for
@@ -21,8 +20,7 @@ pub fn finish(core: &mut Core, thread: Tid) -> Seen
     ensures seen { result ≡ (goes_on 23 thread core.old).seen }
     ensures after { core.new ≡ (goes_on 23 thread core.old).after }
     ensures ends { result ≢ Went }
-    ensures stands { (h : List Entry) (r : List World) (w : World) → Stands core.old h r w
-        → StandsOn core.new (finished thread core.old h) r w }
+    ensures stands { WhereStands core.old (λ h r w. StandsOn core.new (after_finish thread core.old h) r w) }
 {
     for _turn in 0..MORE_STEPS {
         match core.step(Event::Go(thread)) {
@@ -41,8 +39,7 @@ pub fn call(core: &mut Core, thread: Tid, request: Request) -> Seen
     ensures seen { result ≡ (call_outcome thread request core.old).seen }
     ensures after { core.new ≡ (call_outcome thread request core.old).after }
     ensures ends { result ≢ Went }
-    ensures stands { (h : List Entry) (r : List World) (w : World) → Stands core.old h r w
-        → StandsOn core.new (called thread request core.old h) r w }
+    ensures stands { WhereStands core.old (λ h r w. StandsOn core.new (after_call thread request core.old h) r w) }
 {
     match core.step(Event::Begin(thread, request)) {
         Seen::Refused(refusal) => Seen::Refused(refusal),

@@ -1,7 +1,7 @@
-ghost use Rattle.std.specs.Prelude.{ℕ, ◌≡◌, ◌∷◌, List};
+ghost use Rattle.std.specs.Prelude.{ℕ, ◌≡◌, ◌∷◌};
 ghost use Rattle.pif_model.specs.declared.events.Entry.{Entry};
 ghost use Rattle.pif_model.specs.Posix.{World};
-ghost use Rattle.pif_model.specs.Standing.{Stands};
+ghost use Rattle.pif_model.specs.Standing.{Stands, WhereStands};
 ghost use Rattle.pif_model.specs.Lines.{event_outcome};
 ghost use Rattle.pif_uses.specs.Events.{event_for, next_after};
 
@@ -57,8 +57,8 @@ fn event_for(core: &Core, thread: Tid, request: Request) -> Event
 pub fn one_event(core: &mut Core, thread: Tid, request: Request) -> Seen
     ensures seen { result ≡ (event_outcome (event_for thread request core.old) core.old).seen }
     ensures after { core.new ≡ (event_outcome (event_for thread request core.old) core.old).after }
-    ensures stands { (h : List Entry) (r : List World) (w : World) → Stands core.old h r w
-        → (v : World) × Stands core.new (Entry.Step (event_for thread request core.old) result ∷ h) (w ∷ r) v }
+    ensures stands { WhereStands core.old (λ h r w.
+        (v : World) × Stands core.new (Entry.Step (event_for thread request core.old) result ∷ h) (w ∷ r) v) }
 {
     let event = event_for(core, thread, request);
     core.step(event)

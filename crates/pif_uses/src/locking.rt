@@ -1,12 +1,11 @@
-ghost use Rattle.std.specs.Prelude.{ℕ, ◌≡◌, ◌≢◌, ◌+◌, ◌%◌, ◌^◌, List, Some, IfOk, IfErr};
+ghost use Rattle.std.specs.Prelude.{ℕ, ◌≡◌, ◌≢◌, ◌+◌, ◌%◌, ◌^◌, Some, IfOk, IfErr};
 ghost use Rattle.pif_types.specs.declared.requests.Request.TheVariants.{Lock, Unlock, Consistent};
-ghost use Rattle.pif_model.specs.declared.events.Entry.{Entry};
 ghost use Rattle.pif_model.specs.declared.events.Seen.TheVariants.{Answered};
-ghost use Rattle.pif_model.specs.Posix.{World, mutex_at};
+ghost use Rattle.pif_model.specs.Posix.{mutex_at};
 ghost use Rattle.pif_model.specs.History.{hold_count, open_call};
-ghost use Rattle.pif_model.specs.Standing.{Stands};
+ghost use Rattle.pif_model.specs.Standing.{WhereStands};
 ghost use Rattle.pif_model.specs.Lines.{goes_on};
-ghost use Rattle.pif_uses.specs.Calls.{StandsOn, call_outcome, called, finished};
+ghost use Rattle.pif_uses.specs.Calls.{StandsOn, call_outcome, after_call, after_finish};
 ghost use Rattle.pif_uses.specs.declared.locking.Held.TheVariants.{InOrder};
 ghost use Rattle.pif_uses.specs.Holding.{CountsOn, HoldsOn, IsFineIn, found, held_by, if_died, if_taken, locked, repaired_by, unlocked_by};
 
@@ -45,10 +44,10 @@ fn held_by(seen: Seen) -> Result<Held, Seen>
 pub fn lock_and_hold(core: &mut Core, thread: Tid, mutex: MutexId) -> Result<Held, Seen>
     ensures answer { result ≡ held_by (call_outcome thread (Lock mutex) core.old).seen }
     ensures after { core.new ≡ (call_outcome thread (Lock mutex) core.old).after }
-    ensures stands { (h : List Entry) (r : List World) (w : World) → Stands core.old h r w
-        → StandsOn core.new (called thread (Lock mutex) core.old h) r w }
-    ensures holds { IfOk result (λ x. (h : List Entry) (r : List World) (w : World) → Stands core.old h r w
-        → HoldsOn thread mutex (hold_count thread mutex h + 1) core.new (called thread (Lock mutex) core.old h) r w) }
+    ensures stands { WhereStands core.old (λ h r w. StandsOn core.new (after_call thread (Lock mutex) core.old h) r w) }
+    ensures holds { IfOk result (λ x. WhereStands core.old (λ h r w.
+        HoldsOn thread mutex (hold_count thread mutex h + 1) core.new
+        (after_call thread (Lock mutex) core.old h) r w)) }
 {
     held_by(call(core, thread, Request::Lock(mutex)))
 }
@@ -60,11 +59,9 @@ pub fn lock_and_hold(core: &mut Core, thread: Tid, mutex: MutexId) -> Result<Hel
 pub fn finish_lock(core: &mut Core, thread: Tid, mutex: MutexId) -> Result<Held, Seen>
     ensures answer { result ≡ held_by (goes_on 23 thread core.old).seen }
     ensures after { core.new ≡ (goes_on 23 thread core.old).after }
-    ensures stands { (h : List Entry) (r : List World) (w : World) → Stands core.old h r w
-        → StandsOn core.new (finished thread core.old h) r w }
-    ensures holds { IfOk result (λ x. (h : List Entry) (r : List World) (w : World) → Stands core.old h r w
-        → open_call thread h ≡ Some (Lock mutex)
-        → HoldsOn thread mutex (hold_count thread mutex h + 1) core.new (finished thread core.old h) r w) }
+    ensures stands { WhereStands core.old (λ h r w. StandsOn core.new (after_finish thread core.old h) r w) }
+    ensures holds { IfOk result (λ x. WhereStands core.old (λ h r w. open_call thread h ≡ Some (Lock mutex)
+        → HoldsOn thread mutex (hold_count thread mutex h + 1) core.new (after_finish thread core.old h) r w)) }
 {
     let _lock = Request::Lock(mutex);
     held_by(finish(core, thread))
@@ -87,12 +84,14 @@ pub fn add_under(
         (call_outcome thread (Unlock mutex) (locked thread mutex core.old)).after }
     ensures added { IfOk result (λ x. sum.new ≡ (sum.old + amount) % 2 ^ 64) }
     ensures refused { IfErr result (λ x. sum.new ≡ sum.old) }
-    ensures stands { (h : List Entry) (r : List World) (w : World) → Stands core.old h r w
-        → StandsOn core.new (if_taken (found thread mutex core.old) (called thread (Lock mutex) core.old h)
-        (called thread (Unlock mutex) (locked thread mutex core.old) (called thread (Lock mutex) core.old h))) r w }
-    ensures left { IfOk result (λ x. (h : List Entry) (r : List World) (w : World) → Stands core.old h r w
-        → x ≡ Answered 0 → CountsOn thread mutex (hold_count thread mutex h) core.new
-        (called thread (Unlock mutex) (locked thread mutex core.old) (called thread (Lock mutex) core.old h)) r w) }
+    ensures stands { WhereStands core.old (λ h r w.
+        StandsOn core.new (if_taken (found thread mutex core.old) (after_call thread (Lock mutex) core.old h)
+        (after_call thread (Unlock mutex) (locked thread mutex core.old)
+        (after_call thread (Lock mutex) core.old h))) r w) }
+    ensures left { IfOk result (λ x. WhereStands core.old (λ h r w.
+        x ≡ Answered 0 → CountsOn thread mutex (hold_count thread mutex h) core.new
+        (after_call thread (Unlock mutex) (locked thread mutex core.old)
+        (after_call thread (Lock mutex) core.old h)) r w)) }
 {
     lock_and_hold(core, thread, mutex)?;
     // Here the thread is the one holder of the mutex.
@@ -119,16 +118,17 @@ pub fn lock_and_repair(
     ensures after { core.new ≡ if_died (found thread mutex core.old) (locked thread mutex core.old)
         (call_outcome thread (Consistent mutex) (locked thread mutex core.old)).after }
     ensures value { value.new ≡ if_died (found thread mutex core.old) value.old fresh }
-    ensures stands { (h : List Entry) (r : List World) (w : World) → Stands core.old h r w
-        → StandsOn core.new (if_died (found thread mutex core.old) (called thread (Lock mutex) core.old h)
-        (called thread (Consistent mutex) (locked thread mutex core.old) (called thread (Lock mutex) core.old h))) r w }
-    ensures holds { IfOk result (λ x. (h : List Entry) (r : List World) (w : World) → Stands core.old h r w
-        → HoldsOn thread mutex (hold_count thread mutex h + 1) core.new
-        (if_died (found thread mutex core.old) (called thread (Lock mutex) core.old h)
-        (called thread (Consistent mutex) (locked thread mutex core.old)
-        (called thread (Lock mutex) core.old h))) r w) }
-    ensures fine { IfOk result (λ x. (h : List Entry) (r : List World) (w : World) → Stands core.old h r w
-        → (x ≡ InOrder → (mutex_at w mutex).owner ≢ thread) → IsFineIn mutex core.new) }
+    ensures stands { WhereStands core.old (λ h r w.
+        StandsOn core.new (if_died (found thread mutex core.old) (after_call thread (Lock mutex) core.old h)
+        (after_call thread (Consistent mutex) (locked thread mutex core.old)
+        (after_call thread (Lock mutex) core.old h))) r w) }
+    ensures holds { IfOk result (λ x. WhereStands core.old (λ h r w.
+        HoldsOn thread mutex (hold_count thread mutex h + 1) core.new
+        (if_died (found thread mutex core.old) (after_call thread (Lock mutex) core.old h)
+        (after_call thread (Consistent mutex) (locked thread mutex core.old)
+        (after_call thread (Lock mutex) core.old h))) r w)) }
+    ensures fine { IfOk result (λ x. WhereStands core.old (λ h r w.
+        (x ≡ InOrder → (mutex_at w mutex).owner ≢ thread) → IsFineIn mutex core.new)) }
 {
     match lock_and_hold(core, thread, mutex) {
         Ok(Held::OwnerDied) => {

@@ -3,9 +3,9 @@ ghost use Rattle.pif_types.specs.declared.requests.Request.TheVariants.{Wait};
 ghost use Rattle.pif_model.specs.declared.events.Entry.{Entry};
 ghost use Rattle.pif_model.specs.Posix.{World};
 ghost use Rattle.pif_model.specs.History.{hold_count, open_call};
-ghost use Rattle.pif_model.specs.Standing.{Stands};
+ghost use Rattle.pif_model.specs.Standing.{Stands, WhereStands};
 ghost use Rattle.pif_model.specs.Lines.{goes_on};
-ghost use Rattle.pif_uses.specs.Calls.{StandsOn, call_outcome, called, finished};
+ghost use Rattle.pif_uses.specs.Calls.{StandsOn, call_outcome, after_call, after_finish};
 ghost use Rattle.pif_uses.specs.Holding.{HoldsOn};
 ghost use Rattle.pif_uses.specs.declared.waiting.Awaited.TheVariants.{Met};
 ghost use Rattle.pif_uses.specs.Waiting.{awaited_by, if_resumed, if_waited, resumed_by};
@@ -35,8 +35,8 @@ pub fn wait_unless(
 ) -> Awaited
     ensures answer { result ≡ awaited_by is_met (call_outcome thread (Wait cond mutex) core.old).seen }
     ensures after { core.new ≡ if_waited is_met core.old (call_outcome thread (Wait cond mutex) core.old).after }
-    ensures stands { is_met ≡ false → (h : List Entry) (r : List World) (w : World) → Stands core.old h r w
-        → StandsOn core.new (called thread (Wait cond mutex) core.old h) r w }
+    ensures stands { is_met ≡ false → WhereStands core.old (λ h r w.
+        StandsOn core.new (after_call thread (Wait cond mutex) core.old h) r w) }
 {
     if is_met {
         Awaited::Met
@@ -60,12 +60,12 @@ pub fn resume_wait(
         (call_outcome thread (Wait cond mutex) (goes_on 23 thread core.old).after).seen }
     ensures after { core.new ≡ if_resumed is_met (goes_on 23 thread core.old).seen (goes_on 23 thread core.old).after
         (call_outcome thread (Wait cond mutex) (goes_on 23 thread core.old).after).after }
-    ensures stands { (h : List Entry) (r : List World) (w : World) → Stands core.old h r w
-        → StandsOn core.new (if_resumed is_met (goes_on 23 thread core.old).seen (finished thread core.old h)
-        (called thread (Wait cond mutex) (goes_on 23 thread core.old).after (finished thread core.old h))) r w }
+    ensures stands { WhereStands core.old (λ h r w.
+        StandsOn core.new (if_resumed is_met (goes_on 23 thread core.old).seen (after_finish thread core.old h)
+        (after_call thread (Wait cond mutex) (goes_on 23 thread core.old).after (after_finish thread core.old h))) r w) }
     ensures holds { result ≡ Met → (is_met ≡ true) × ((h : List Entry) (r : List World) (w : World) (n : ℕ)
         → Stands core.old h r w → open_call thread h ≡ Some (Wait cond mutex) → hold_count thread mutex h ≡ n + 1
-        → HoldsOn thread mutex (n + 1) core.new (finished thread core.old h) r w) }
+        → HoldsOn thread mutex (n + 1) core.new (after_finish thread core.old h) r w) }
 {
     match finish(core, thread) {
         Seen::Answered(0) => wait_unless(core, thread, cond, mutex, is_met),

@@ -4,19 +4,21 @@ ghost use Rattle.pif_scripts.specs.Scripts.{Hearing, Opens, Hears, Tells};
 ghost use Rattle.pif_scripts.specs.Runs.{end_line};
 
 use super::ending::{End, Ending, OpenFault};
+use crate::tracing::{FRONT_ROOM, LINE_ROOM};
 use arrayvec::ArrayVec;
-use pif_text::{Cause, Text, Version, differs_text, fault_text};
+use pif_text::{Cause, Text, VERDICT_ROOM, Version, differs_text, fault_text};
 use std::alloc::Global;
 
 /// The most bytes that a reply has, its LF included.
-pub const REPLY_ROOM: usize = 41;
+pub const REPLY_ROOM: usize = pif_text::REPLY_ROOM + 1;
 
 /// The most bytes that the answer to a line has. The longest is what the first line of a script makes of a trace: the
-/// two lines in front, and those of 25 events.
-pub const ANSWER_ROOM: usize = 2_768;
+/// two lines in front, and those of 25 events, of a `call` its beginning and the 24 steps within which it is answered or
+/// waits.
+pub const ANSWER_ROOM: usize = FRONT_ROOM + 25 * LINE_ROOM;
 
-/// The most bytes that are said at an end, its LF included.
-pub const END_ROOM: usize = 71;
+/// The most bytes that are said at an end, its LF included. The longest is the verdict on a trace.
+pub const END_ROOM: usize = VERDICT_ROOM + 1;
 
 /// The most bytes that are read at once.
 pub const CHUNK: usize = 4096;

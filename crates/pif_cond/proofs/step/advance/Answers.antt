@@ -4,7 +4,7 @@ use Rattle.pif_model.specs.declared.lines.Line.{Line}
 use Rattle.pif_model.specs.PiKernel.{is_living}
 use Rattle.pif_model.specs.Table.{Table, line_at}
 use Rattle.pif_model.specs.Lines.{Outcome, go_outcome}
-use Rattle.pif_model.specs.Standing.{IsSound}
+use Rattle.pif_model.specs.Soundness.{IsSound}
 use Rattle.pif_mutex.proofs.SoundTables.{step_sound}
 use Rattle.pif_mutex.proofs.Stepping.{may_step}
 use Rattle.pif_mutex.proofs.Steps.{step_owns_once}

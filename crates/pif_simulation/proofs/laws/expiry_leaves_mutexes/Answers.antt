@@ -1,4 +1,4 @@
-use Rattle.pif_simulation.proofs.Fated.{expiry_mutexes}
+use Rattle.pif_simulation.proofs.runs.Fated.{expiry_mutexes}
 use Rattle.pif_simulation.proofs.laws.expiry_leaves_mutexes.Goals as goal
 
 pub returns : goal.returns

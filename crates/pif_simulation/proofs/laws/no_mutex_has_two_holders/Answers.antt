@@ -1,4 +1,4 @@
-use Rattle.pif_simulation.proofs.Holders.{one_holder}
+use Rattle.pif_simulation.proofs.runs.Holders.{one_holder}
 use Rattle.pif_simulation.proofs.laws.no_mutex_has_two_holders.Goals as goal
 
 pub returns : goal.returns

@@ -1,4 +1,4 @@
-use Rattle.pif_simulation.proofs.Fated.{time_never_falls}
+use Rattle.pif_simulation.proofs.runs.Fated.{time_never_falls}
 use Rattle.pif_simulation.proofs.laws.time_never_falls.Goals as goal
 
 pub returns : goal.returns

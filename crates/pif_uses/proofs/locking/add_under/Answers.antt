@@ -5,7 +5,7 @@ use Rattle.pif_model.specs.declared.events.Seen.{Seen}
 use Rattle.pif_model.specs.History.{hold_count}
 use Rattle.pif_model.specs.Table.{Table}
 use Rattle.pif_uses.specs.declared.locking.Held.{Held}
-use Rattle.pif_uses.specs.Calls.{StandsOn, called}
+use Rattle.pif_uses.specs.Calls.{StandsOn, after_call}
 use Rattle.pif_uses.specs.Holding.{CountsOn, if_taken, locked}
 use Rattle.pif_uses.proofs.HoldLemmas.{unlock_leaves}
 use Rattle.pif_uses.proofs.StandingLemmas.{next_stands}
@@ -16,8 +16,8 @@ returns-clause-stands c = λ h r w st.
     let t = c.args.thread in
     let m = c.args.mutex in
     let u = locked t m c.args.core.now in
-    let k = called t (Lock m) c.args.core.now h in
-    subst (λ (f : Result Held Seen). StandsOn c.call.new.core (if_taken f k (called t (Unlock m) u k)) r w)
+    let k = after_call t (Lock m) c.args.core.now h in
+    subst (λ (f : Result Held Seen). StandsOn c.call.new.core (if_taken f k (after_call t (Unlock m) u k)) r w)
     (sym c.in_ok-lock_and_hold.was ∙ c.lock_and_hold.ensures.answer)
     (next_stands c.lock_and_hold.new.core u c.call.new.core t (Unlock m) k r w
     (c.lock_and_hold.ensures.stands h r w st) c.lock_and_hold.ensures.after c.call.ensures.after)
@@ -26,8 +26,8 @@ pub returns-clause-left : goal.returns-clause-left
 returns-clause-left c = λ h r w st e.
     let t = c.args.thread in
     let m = c.args.mutex in
-    let k = called t (Lock m) c.args.core.now h in
-    subst (λ (s : Table). CountsOn t m (hold_count t m h) c.call.new.core (called t (Unlock m) s k) r w)
+    let k = after_call t (Lock m) c.args.core.now h in
+    subst (λ (s : Table). CountsOn t m (hold_count t m h) c.call.new.core (after_call t (Unlock m) s k) r w)
     c.lock_and_hold.ensures.after
     (unlock_leaves c.lock_and_hold.new.core c.call.new.core t m (hold_count t m h) k r w
     (c.in_ok-lock_and_hold.ensures.holds h r w st) (sym c.call.ensures.seen ∙ e) c.call.ensures.after)

@@ -5,7 +5,7 @@ use Rattle.pif_model.specs.declared.events.Seen.{Seen}
 use Rattle.pif_model.specs.declared.events.Seen.TheVariants.{Answered}
 use Rattle.pif_model.specs.History.{hold_count}
 use Rattle.pif_model.specs.Table.{Table}
-use Rattle.pif_uses.specs.Calls.{call_outcome, called}
+use Rattle.pif_uses.specs.Calls.{call_outcome, after_call}
 use Rattle.pif_uses.specs.declared.locking.Held.{Held}
 use Rattle.pif_uses.specs.Holding.{HoldsOn, if_died, locked}
 use Rattle.pif_uses.proofs.FineLemmas.{consistent_fine}
@@ -18,11 +18,11 @@ returns-in-Answered-eq0-clause-holds c = λ h r w st.
     let t = c.args.thread in
     let m = c.args.mutex in
     let u = locked t m c.args.core.now in
-    let k = called t (Lock m) c.args.core.now h in
+    let k = after_call t (Lock m) c.args.core.now h in
     let n = hold_count t m h + 1 in
-    subst (λ (f : Result Held Seen). HoldsOn t m n c.call.new.core (if_died f k (called t (Consistent m) u k)) r w)
+    subst (λ (f : Result Held Seen). HoldsOn t m n c.call.new.core (if_died f k (after_call t (Consistent m) u k)) r w)
     (ap Ok (sym c.in-Ok-OwnerDied.field-0-is) ∙ sym c.in-Ok-OwnerDied.is ∙ c.lock_and_hold.ensures.answer)
-    (subst (λ (s : Table). HoldsOn t m n c.call.new.core (called t (Consistent m) s k) r w)
+    (subst (λ (s : Table). HoldsOn t m n c.call.new.core (after_call t (Consistent m) s k) r w)
     c.lock_and_hold.ensures.after
     (consistent_holds c.lock_and_hold.new.core c.call.new.core t m (hold_count t m h) k r w
     (c.in-Ok-OwnerDied.ensures.holds h r w st)
@@ -44,9 +44,9 @@ pub returns-in-Ok-InOrder-clause-holds : goal.returns-in-Ok-InOrder-clause-holds
 returns-in-Ok-InOrder-clause-holds c = λ h r w st.
     let t = c.args.thread in
     let m = c.args.mutex in
-    let k = called t (Lock m) c.args.core.now h in
+    let k = after_call t (Lock m) c.args.core.now h in
     subst (λ (f : Result Held Seen). HoldsOn t m (hold_count t m h + 1) c.lock_and_hold.new.core
-    (if_died f k (called t (Consistent m) (locked t m c.args.core.now) k)) r w)
+    (if_died f k (after_call t (Consistent m) (locked t m c.args.core.now) k)) r w)
     (ap Ok (sym c.in-Ok-InOrder.field-0-is) ∙ sym c.in-Ok-InOrder.is ∙ c.lock_and_hold.ensures.answer)
     (c.in-Ok-InOrder.ensures.holds h r w st)
 

@@ -4,7 +4,7 @@ use Rattle.pif_types.specs.declared.requests.Request.TheVariants.{Wait}
 use Rattle.pif_model.specs.declared.events.Seen.TheVariants.{Answered}
 use Rattle.pif_model.specs.Lines.{goes_on}
 use Rattle.pif_model.specs.Table.{Table}
-use Rattle.pif_uses.specs.Calls.{StandsOn, call_outcome, finished}
+use Rattle.pif_uses.specs.Calls.{StandsOn, call_outcome, after_finish}
 use Rattle.pif_uses.specs.Holding.{HoldsOn}
 use Rattle.pif_uses.specs.Waiting.{if_waited}
 use Rattle.pif_uses.proofs.HoldLemmas.{finished_only, met_by, resumed_stands, wait_holds}
@@ -13,7 +13,7 @@ use Rattle.pif_uses.proofs.waiting.resume_wait.Goals as goal
 pub returns-in-Answered-eq0-clause-stands : goal.returns-in-Answered-eq0-clause-stands
 returns-in-Answered-eq0-clause-stands c = λ h r w st.
     resumed_stands c.args.core.now c.finish.new.core c.wait_unless.new.core c.args.thread c.args.cond c.args.mutex
-    c.args.is_met (goes_on 23 c.args.thread c.args.core.now).seen (finished c.args.thread c.args.core.now h) r w
+    c.args.is_met (goes_on 23 c.args.thread c.args.core.now).seen (after_finish c.args.thread c.args.core.now h) r w
     (sym c.finish.ensures.seen ∙ c.in-Answered-eq0.is ∙ ap Answered c.in-Answered-eq0.field-0-test)
     (c.finish.ensures.stands h r w st) c.finish.ensures.after c.wait_unless.ensures.after
 
@@ -26,7 +26,7 @@ returns-in-Answered-eq0-clause-holds c = λ met.
     let same = c.wait_unless.ensures.after ∙ ap (λ b. if_waited b c.finish.new.core again.after) is in (
       is,
       λ h r w n st busy count.
-          subst (λ (v : Table). HoldsOn t m (n + 1) v (finished t c.args.core.now h) r w) (sym same)
+          subst (λ (v : Table). HoldsOn t m (n + 1) v (after_finish t c.args.core.now h) r w) (sym same)
           (wait_holds c.args.core.now c.finish.new.core t c.args.cond m n
           (sym c.finish.ensures.seen ∙ c.in-Answered-eq0.is ∙ ap Answered c.in-Answered-eq0.field-0-test)
           c.finish.ensures.after h r w st busy count),

@@ -1,0 +1,179 @@
+-- What a table shows of the POSIX machine: the state that it stands for, with a shadow of what no table can tell.
+use Rattle.std.specs.Prelude.{ℕ, zero, suc, ◌≡◌, ◌≢◌, ◌≤◌, Bool, true, false, ◌==◌, List, [], ◌∷◌, ◌++◌, length, get_or, map, Option, Some, None, if◌then◌else◌}
+use Rattle.std.specs.List.{list_any}
+use Rattle.pif_types.specs.declared.requests.Request.{Request}
+use Rattle.pif_types.specs.declared.requests.Request.TheVariants.{Wait}
+use Rattle.pif_model.specs.NamedNumbers.{EBUSY, EDEADLK, ETIMEDOUT, EOWNERDEAD, ENOTRECOVERABLE}
+use Rattle.pif_model.specs.declared.lines.Line.{Line}
+use Rattle.pif_model.specs.declared.lines.Line.TheVariants.{Idle, At}
+use Rattle.pif_model.specs.declared.lines.Place.{Place}
+use Rattle.pif_model.specs.declared.lines.Place.TheVariants.{LockExchange, LockKernel, LockQueued, LockStop, LockStopped, LockClear, QueueExpired, StopExpired, TakeLoad, TakeHealth, TakeStore, TakeWord, LinkNext, LinkHead, LinkClear, LeaveExchange, LeaveKernel, LeaveClear, TryClear, UnlockClear, WaitLoad, WaitUses, WaitPending, WaitHealth, WaitStore, WaitUnlink, WaitExchange, WaitKernel, WaitPark, WaitParked, UseRequeue, UseReload}
+use Rattle.pif_model.specs.declared.lines.Status.{Status}
+use Rattle.pif_model.specs.declared.lines.Status.TheVariants.{Ready, Queued, Parked, Stopped, Ended}
+use Rattle.pif_model.specs.declared.lines.Woken.TheVariants.{Fresh as WokenFresh, Owns as WokenOwns, Again as WokenAgain, Expired as WokenExpired}
+use Rattle.pif_model.specs.Word.{word_at, health_word_at}
+use Rattle.pif_model.specs.PiKernel.{seat_at, is_parked, is_living}
+use Rattle.pif_model.specs.Posix.{Health, Progress, Call, Memory, Thread, Mutex, Variable, World, no_memory, named_by, variable_of, is_call_blocked, on_taking, on_release}
+use Rattle.pif_model.specs.Posix.Health.{Fine, Inconsistent, Unusable}
+use Rattle.pif_model.specs.Posix.Progress.{Fresh, Waiting, Stuck, Leaving, Has, Checked, Enlisted, Blocked, Owing, Used}
+use Rattle.pif_model.specs.Table.{Table, bound_to, uses_of, status_at, line_at, timer_at, library_at}
+
+-- THE PROJECTION: the state of the POSIX machine that a table shows
+
+-- what the POSIX machine knows and the table doesn't: what it remembers of each thread
+pub record Shadow : Type 0 where
+  pub memories : List Memory
+
+-- the shadow of a table to which nothing was added
+abbrev pub no_shadow : Shadow
+no_shadow = record { memories = no_memory ∷ [] }
+
+-- what is remembered of t
+abbrev pub memory_at : Shadow → ℕ → Memory
+memory_at x t = get_or x.memories t no_memory
+
+-- the health that a health word and OWNER_DIED show
+abbrev pub health_of : ℕ → Bool → Health
+health_of h died = if h == 2 then Unusable else (if h == 1 then Inconsistent else (if died then Inconsistent else Fine))
+
+-- how far a call of a request has come before it has locked: a wait owes the lock
+abbrev pub before_lock : Request → Progress
+before_lock (Wait c m) = Owing
+before_lock _ = Fresh
+
+-- how far a wait that is parked, or was, has come, by its thread's status and by the health of its mutex
+abbrev pub progress_parked : Status → Health → Progress
+progress_parked (Parked c) h = Blocked true
+progress_parked (Queued m) h = Waiting
+progress_parked (Ready WokenFresh) h = on_taking h
+progress_parked (Ready WokenOwns) h = on_taking h
+progress_parked (Ready WokenAgain) h = Owing
+progress_parked (Ready WokenExpired) h = on_taking h
+progress_parked Stopped h = Stuck
+progress_parked Ended h = Stuck
+
+-- how far a call of a request at this place has come, by its thread's status, by the health of the mutex that it names,
+-- and by how often the variable that it names was used: until it is parked, a wait is blocked while that is as it read
+abbrev pub progress_at : Request → Place → Status → Health → ℕ → Progress
+progress_at q LockExchange x h n = before_lock q
+progress_at q LockKernel x h n = before_lock q
+progress_at q LockQueued (Queued m) h n = Waiting
+progress_at q LockQueued (Ready w) h n = on_taking h
+progress_at q LockQueued (Parked c) h n = Stuck
+progress_at q LockQueued Stopped h n = Stuck
+progress_at q LockQueued Ended h n = Stuck
+progress_at q LockStop x h n = before_lock q
+progress_at q LockStopped x h n = Stuck
+progress_at q LockClear x h n = Has EDEADLK
+progress_at q QueueExpired x h n = Has ETIMEDOUT
+progress_at q StopExpired x h n = Has ETIMEDOUT
+progress_at q TakeLoad x h n = on_taking h
+progress_at q (TakeHealth died) x h n = on_taking h
+progress_at q TakeStore x h n = Has EOWNERDEAD
+progress_at q TakeWord x h n = Has EOWNERDEAD
+progress_at q (LinkNext a) x h n = Has a
+progress_at q (LinkHead a) x h n = Has a
+progress_at q (LinkClear a) x h n = Has a
+progress_at q LeaveExchange x h n = Leaving
+progress_at q LeaveKernel x h n = Leaving
+progress_at q LeaveClear x h n = Has ENOTRECOVERABLE
+progress_at q TryClear x h n = Has EBUSY
+progress_at q UnlockClear x h n = Has 0
+progress_at q WaitUses x h n = Checked
+progress_at q (WaitPending v) x h n = Enlisted (v == n)
+progress_at q (WaitHealth v) x h n = Enlisted (v == n)
+progress_at q (WaitStore v) x h n = Enlisted (v == n)
+progress_at q (WaitUnlink v) x h n = Enlisted (v == n)
+progress_at q (WaitExchange v) x h n = Enlisted (v == n)
+progress_at q (WaitKernel v) x h n = Enlisted (v == n)
+progress_at q (WaitPark v) x h n = on_release (v == n)
+progress_at q WaitParked x h n = progress_parked x h
+progress_at q (UseRequeue v) x h n = Used
+progress_at q UseReload x h n = Used
+progress_at q _ x h n = Fresh
+
+-- the open call at a line, by the health of each mutex and the uses of each variable
+abbrev pub call_at : (ℕ → Health) → (ℕ → ℕ) → Line → Status → Option Call
+call_at health uses Idle x = None
+call_at health uses (At q p) x =
+    Some (record { request = q; progress = progress_at q p x (health (named_by q)) (uses (variable_of q)) })
+
+-- the health of m
+abbrev pub health_at : Table → ℕ → Health
+health_at s m = health_of (health_word_at s.words m) (word_at s.words m).died
+
+-- the open call of t
+abbrev pub call_shown : Table → ℕ → Option Call
+call_shown s t = call_at (health_at s) (uses_of s) (line_at s t) (status_at s t)
+
+-- the thread t
+abbrev pub thread_shown : Table → Shadow → ℕ → Thread
+thread_shown s x t = record {
+  base = (seat_at s.kernel t).base;
+  living = is_living s.kernel t;
+  call = call_shown s t;
+  timer = timer_at s t;
+  memory = memory_at x t;
+}
+
+-- the mutex m
+abbrev pub mutex_shown : Table → ℕ → Mutex
+mutex_shown s m = record {
+  kind = (library_at s m).kind;
+  robust = (library_at s m).robust;
+  owner = (word_at s.words m).number;
+  count = (library_at s m).count;
+  health = health_at s m;
+}
+
+-- the variable c
+abbrev pub variable_shown : Table → ℕ → Variable
+variable_shown s c = record { mutex = bound_to s c; uses = uses_of s c }
+
+-- the numbers below n
+unfoldable pub places : ℕ → List ℕ
+places zero = []
+places (suc n) = places n ++ n ∷ []
+
+-- the state of the POSIX machine that a table shows with its shadow
+abbrev pub world_of : Table → Shadow → World
+world_of s x = record {
+  threads = map (thread_shown s x) (places (length s.lines));
+  mutexes = map (mutex_shown s) (places (length s.mutexes));
+  variables = map (variable_shown s) (places (length s.conds));
+  waiters = s.kernel.waiters;
+  signals = s.limits.signals;
+  time = s.time;
+}
+
+-- WHAT JOINS A SHADOW TO ITS TABLE
+
+-- whether the signal or broadcast of t found u blocked when it began, by the wait that is u's last
+abbrev pub remembered : Shadow → ℕ → ℕ → Bool
+remembered x t u =
+    list_any (λ p. if p.0 == u then p.1 == (memory_at x u).waits else false) (memory_at x t).found
+
+-- whether a wait at this line has not joined the blocked threads of its variable yet
+abbrev pub may_enlist : Line → Bool
+may_enlist (At q WaitLoad) = true
+may_enlist (At q WaitUses) = true
+may_enlist _ = false
+
+-- the variable of a signal or a broadcast at this line that has used it, and has to choose whom it wakes; 0 else
+abbrev pub chooses_on : Line → ℕ
+chooses_on (At q (UseRequeue v)) = variable_of q
+chooses_on (At q UseReload) = variable_of q
+chooses_on _ = 0
+
+-- a shadow fits its table
+pub record Agrees (s : Table) (x : Shadow) : Type 0 where
+  -- something is remembered of each thread
+  pub all : length x.memories ≡ length s.lines
+  -- no wait was found that has not begun yet
+  pub past : (t u n : ℕ) → list_any (λ p. if p.0 == u then p.1 == n else false) (memory_at x t).found ≡ true
+      → n ≤ (memory_at x u).waits
+  -- who was found blocked had joined the blocked threads
+  pub joined : (t u : ℕ) → remembered x t u ≡ true → may_enlist (line_at s u) ≡ false
+  -- whom a signal or broadcast that has used its variable found blocked, and who still is by the same wait, is parked
+  pub parked : (t u c : ℕ) → chooses_on (line_at s t) ≡ c → c ≢ 0 → remembered x t u ≡ true
+      → is_call_blocked c (call_shown s u) ≡ true → is_parked (status_at s u) ≡ true

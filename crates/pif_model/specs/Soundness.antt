@@ -1,0 +1,462 @@
+-- The invariant of the table: what each open call rests on at its place, and what holds of threads, mutexes, variables
+-- and robust lists.
+use Rattle.std.specs.Prelude.{ℕ, ◌≡◌, ◌≢◌, ◌<◌, ◌≤◌, ◌+◌, ⊤, Bool, true, false, ◌==◌, List, [], ◌∷◌, length, if◌then◌else◌}
+use Rattle.std.specs.List.{list_any}
+use Rattle.pif_types.specs.Bounds.{IsWithin}
+use Rattle.pif_types.specs.declared.requests.Kind.{Kind}
+use Rattle.pif_types.specs.declared.requests.Kind.TheVariants.{Normal, Recursive}
+use Rattle.pif_types.specs.declared.requests.Request.{Request}
+use Rattle.pif_types.specs.declared.requests.Request.TheVariants.{Lock, TryLock, Unlock, Consistent, Wait, Signal, Broadcast, SetPrio, TimedLock, TimedWait}
+use Rattle.pif_model.specs.NamedNumbers.{most_holds}
+use Rattle.pif_model.specs.declared.lines.Line.{Line}
+use Rattle.pif_model.specs.declared.lines.Line.TheVariants.{Idle, At}
+use Rattle.pif_model.specs.declared.lines.Place.{Place}
+use Rattle.pif_model.specs.declared.lines.Place.TheVariants.{LockLoad, LockPending, LockExchange, LockKernel, LockQueued, LockStop, LockStopped, LockClear, QueueExpired, StopExpired, TakeLoad, TakeHealth, TakeStore, TakeWord, LinkNext, LinkHead, LinkClear, LeaveExchange, LeaveKernel, LeaveClear, TryLoad, TryPending, TryExchange, TryKernel, TryClear, UnlockLoad, UnlockPending, UnlockHealth, UnlockStore, UnlockUnlink, UnlockExchange, UnlockKernel, UnlockClear, ConsistentLoad, ConsistentHealth, ConsistentStore, WaitLoad, WaitUses, WaitPending, WaitHealth, WaitStore, WaitUnlink, WaitExchange, WaitKernel, WaitPark, WaitParked, UseLoad, UseExchange, UseRequeue, UseReload, SetPriority}
+use Rattle.pif_model.specs.declared.lines.Status.{Status}
+use Rattle.pif_model.specs.declared.lines.Status.TheVariants.{Queued, Parked, Stopped, Ended}
+use Rattle.pif_model.specs.Graph.{has_waiter}
+use Rattle.pif_model.specs.Word.{free_word, word_at, health_word_at}
+use Rattle.pif_model.specs.PiKernel.{IsKernel, Parking, is_ready, is_woken_again, is_living}
+use Rattle.pif_model.specs.Posix.{named_by, variable_of, names_known}
+use Rattle.pif_model.specs.RobustList.{no_robust_row, robust_at, is_listed}
+use Rattle.pif_model.specs.Table.{Table, Cell, new_mutex, has_thread, has_mutex, has_cond, bound_to, uses_of, status_at, line_at, library_at, cell_at}
+
+-- THE INVARIANT
+
+-- why t may stop for good in a lock of a mutex
+pub data MayStopFor (living : ℕ → Bool) (t : ℕ) (c : Cell) : Type 0 where
+  -- t locks its own NORMAL mutex
+  own_normal : c.word.number ≡ t → c.kind ≡ Normal → MayStopFor living t c
+  -- the mutex is lost: it is stalled, and its owner has ended
+  lost : c.robust ≡ false → c.word.number ≢ 0 → living c.word.number ≡ false → MayStopFor living t c
+
+-- what a call has of the variable that it names
+pub record Use : Type 0 where
+  -- it is bound to the mutex that the call names
+  pub bound : Bool
+  -- how often it was used
+  pub uses : ℕ
+  -- how often it may be
+  pub signals : ℕ
+
+-- what a call of this request has of its variable
+abbrev pub use_at : Table → Request → Use
+use_at s q = record {
+  bound = bound_to s (variable_of q) == named_by q;
+  uses = uses_of s (variable_of q);
+  signals = s.limits.signals;
+}
+
+-- a fact on which a call rests at a place: of its thread's status, of its mutex and its variable, and of who lives. No
+-- step of another thread ends it, but for one that hands the mutex to this thread, or takes it off its variable
+pub data Need : Type 0 where
+  -- the thread may run
+  MayRun : Need
+  -- the thread is stopped for good
+  HasStopped : Need
+  -- the thread is not stopped, and has not ended
+  NotStopped : Need
+  -- the thread owns the mutex
+  Owns : Need
+  -- the thread doesn't own the mutex
+  OwnsNot : Need
+  -- the thread owns the mutex as soon as it may run: it was handed over
+  OwnsOnceReady : Need
+  -- the thread owns the mutex exactly where it may run and wasn't woken to lock it again: it was handed over
+  OwnsOnceHanded : Need
+  -- the thread holds the mutex once, where it owns it
+  HoldsOnce : Need
+  -- the thread may stop for good
+  MayStop : Need
+  -- the mutex is robust
+  OfRobust : Need
+  -- where the thread owns the mutex: its health word is this, or is not; OWNER_DIED is set, or is not; its health word
+  -- says that it is inconsistent only where OWNER_DIED is set
+  HealthIs : ℕ → Need
+  HealthIsNot : ℕ → Need
+  DiedIs : Bool → Need
+  DiedBehindDisorder : Need
+  -- the variable is bound to the mutex
+  IsBound : Need
+  -- the variable was used at least this often
+  UsedAtLeast : ℕ → Need
+  -- this is less often than the variable may be used
+  BelowLimit : ℕ → Need
+
+-- whether a thread of this status may run, and wasn't woken to lock its mutex itself
+abbrev pub is_handed : Status → Bool
+is_handed x = if is_woken_again x then false else is_ready x
+
+-- whether a thread of this status and its call's mutex and variable meet a need
+abbrev pub Meets : (ℕ → Bool) → ℕ → Status → Cell → Use → Need → Type 0
+Meets living t x c z MayRun = is_ready x ≡ true
+Meets living t x c z HasStopped = x ≡ Stopped
+Meets living t x c z NotStopped = (x ≢ Stopped) × (x ≢ Ended)
+Meets living t x c z Owns = c.word.number ≡ t
+Meets living t x c z OwnsNot = c.word.number ≢ t
+Meets living t x c z OwnsOnceReady = is_ready x ≡ true → c.word.number ≡ t
+Meets living t x c z OwnsOnceHanded =
+    (is_handed x ≡ true → c.word.number ≡ t) × (is_handed x ≡ false → c.word.number ≢ t)
+Meets living t x c z HoldsOnce = c.word.number ≡ t → c.count ≡ 1
+Meets living t x c z MayStop = MayStopFor living t c
+Meets living t x c z OfRobust = c.robust ≡ true
+Meets living t x c z (HealthIs h) = c.word.number ≡ t → c.health ≡ h
+Meets living t x c z (HealthIsNot h) = c.word.number ≡ t → c.health ≢ h
+Meets living t x c z (DiedIs b) = c.word.number ≡ t → c.word.died ≡ b
+Meets living t x c z DiedBehindDisorder = c.word.number ≡ t → c.health ≡ 1 → c.word.died ≡ true
+Meets living t x c z IsBound = z.bound ≡ true
+Meets living t x c z (UsedAtLeast v) = v ≤ z.uses
+Meets living t x c z (BelowLimit v) = v < z.signals
+
+-- they meet all of some needs
+abbrev pub MeetsAll : (ℕ → Bool) → ℕ → Status → Cell → Use → List Need → Type 0
+MeetsAll living t x c z [] = ⊤
+MeetsAll living t x c z (n ∷ ns) = Meets living t x c z n × MeetsAll living t x c z ns
+
+-- what a call rests on at each place
+abbrev pub needs : Place → List Need
+needs LockLoad = MayRun ∷ []
+needs LockPending = MayRun ∷ OwnsNot ∷ OfRobust ∷ []
+needs LockExchange = MayRun ∷ OwnsNot ∷ []
+needs LockKernel = MayRun ∷ OwnsNot ∷ []
+needs LockQueued = NotStopped ∷ OwnsOnceReady ∷ HoldsOnce ∷ DiedBehindDisorder ∷ []
+needs LockStop = MayRun ∷ MayStop ∷ []
+needs LockStopped = HasStopped ∷ []
+needs LockClear = MayRun ∷ OwnsNot ∷ OfRobust ∷ []
+needs QueueExpired = MayRun ∷ OwnsNot ∷ OfRobust ∷ []
+needs StopExpired = MayRun ∷ OfRobust ∷ []
+needs TakeLoad = MayRun ∷ Owns ∷ HoldsOnce ∷ OfRobust ∷ DiedBehindDisorder ∷ []
+needs (TakeHealth b) = MayRun ∷ Owns ∷ HoldsOnce ∷ OfRobust ∷ DiedBehindDisorder ∷ DiedIs b ∷ []
+needs TakeStore = MayRun ∷ Owns ∷ HoldsOnce ∷ OfRobust ∷ HealthIsNot 2 ∷ DiedIs true ∷ []
+needs TakeWord = MayRun ∷ Owns ∷ HoldsOnce ∷ OfRobust ∷ HealthIs 1 ∷ DiedIs true ∷ []
+needs (LinkNext a) = MayRun ∷ Owns ∷ HoldsOnce ∷ OfRobust ∷ []
+needs (LinkHead a) = MayRun ∷ Owns ∷ HoldsOnce ∷ OfRobust ∷ []
+needs (LinkClear a) = MayRun ∷ Owns ∷ HoldsOnce ∷ OfRobust ∷ []
+needs LeaveExchange = MayRun ∷ Owns ∷ HoldsOnce ∷ OfRobust ∷ HealthIs 2 ∷ []
+needs LeaveKernel = MayRun ∷ Owns ∷ HoldsOnce ∷ OfRobust ∷ HealthIs 2 ∷ []
+needs LeaveClear = MayRun ∷ OwnsNot ∷ OfRobust ∷ []
+needs TryLoad = MayRun ∷ []
+needs TryPending = MayRun ∷ OwnsNot ∷ OfRobust ∷ []
+needs TryExchange = MayRun ∷ OwnsNot ∷ []
+needs TryKernel = MayRun ∷ OwnsNot ∷ []
+needs TryClear = MayRun ∷ OwnsNot ∷ OfRobust ∷ []
+needs UnlockLoad = MayRun ∷ []
+needs UnlockPending = MayRun ∷ Owns ∷ HoldsOnce ∷ OfRobust ∷ []
+needs UnlockHealth = MayRun ∷ Owns ∷ HoldsOnce ∷ OfRobust ∷ []
+needs UnlockStore = MayRun ∷ Owns ∷ HoldsOnce ∷ OfRobust ∷ HealthIs 1 ∷ []
+needs UnlockUnlink = MayRun ∷ Owns ∷ HoldsOnce ∷ OfRobust ∷ HealthIsNot 1 ∷ DiedIs false ∷ []
+needs UnlockExchange = MayRun ∷ Owns ∷ HoldsOnce ∷ HealthIsNot 1 ∷ DiedIs false ∷ []
+needs UnlockKernel = MayRun ∷ Owns ∷ HoldsOnce ∷ HealthIsNot 1 ∷ DiedIs false ∷ []
+needs UnlockClear = MayRun ∷ OwnsNot ∷ OfRobust ∷ []
+needs ConsistentLoad = MayRun ∷ []
+needs ConsistentHealth = MayRun ∷ Owns ∷ OfRobust ∷ []
+needs ConsistentStore = MayRun ∷ Owns ∷ OfRobust ∷ HealthIs 1 ∷ []
+needs WaitLoad = MayRun ∷ []
+needs WaitUses = MayRun ∷ Owns ∷ HoldsOnce ∷ IsBound ∷ []
+needs (WaitPending v) = MayRun ∷ Owns ∷ HoldsOnce ∷ OfRobust ∷ IsBound ∷ UsedAtLeast v ∷ []
+needs (WaitHealth v) = MayRun ∷ Owns ∷ HoldsOnce ∷ OfRobust ∷ IsBound ∷ UsedAtLeast v ∷ []
+needs (WaitStore v) = MayRun ∷ Owns ∷ HoldsOnce ∷ OfRobust ∷ HealthIs 1 ∷ IsBound ∷ UsedAtLeast v ∷ []
+needs (WaitUnlink v) =
+    MayRun ∷ Owns ∷ HoldsOnce ∷ OfRobust ∷ HealthIsNot 1 ∷ DiedIs false ∷ IsBound ∷ UsedAtLeast v ∷ []
+needs (WaitExchange v) = MayRun ∷ Owns ∷ HoldsOnce ∷ HealthIsNot 1 ∷ DiedIs false ∷ IsBound ∷ UsedAtLeast v ∷ []
+needs (WaitKernel v) = MayRun ∷ Owns ∷ HoldsOnce ∷ HealthIsNot 1 ∷ DiedIs false ∷ IsBound ∷ UsedAtLeast v ∷ []
+needs (WaitPark v) = MayRun ∷ OwnsNot ∷ IsBound ∷ UsedAtLeast v ∷ []
+needs WaitParked = NotStopped ∷ OwnsOnceHanded ∷ HoldsOnce ∷ DiedBehindDisorder ∷ IsBound ∷ []
+needs UseLoad = MayRun ∷ []
+needs (UseExchange v) = MayRun ∷ BelowLimit v ∷ []
+needs (UseRequeue v) = MayRun ∷ []
+needs UseReload = MayRun ∷ []
+needs SetPriority = MayRun ∷ []
+
+-- whether a call that locks comes to this place, which all such calls share: taking over, and leaving
+abbrev pub is_shared : Place → Bool
+is_shared TakeLoad = true
+is_shared (TakeHealth b) = true
+is_shared TakeStore = true
+is_shared TakeWord = true
+is_shared (LinkNext a) = true
+is_shared (LinkHead a) = true
+is_shared (LinkClear a) = true
+is_shared LeaveExchange = true
+is_shared LeaveKernel = true
+is_shared LeaveClear = true
+is_shared _ = false
+
+-- whether lock and wait come to this place: the steps of lock from the exchange on
+abbrev pub is_locking : Place → Bool
+is_locking LockExchange = true
+is_locking LockKernel = true
+is_locking LockQueued = true
+is_locking LockStop = true
+is_locking LockStopped = true
+is_locking LockClear = true
+is_locking p = is_shared p
+
+-- whether signal and broadcast come to this place
+abbrev pub is_using : Place → Bool
+is_using UseLoad = true
+is_using (UseExchange v) = true
+is_using (UseRequeue v) = true
+is_using UseReload = true
+is_using _ = false
+
+-- whether a call of this request comes to this place
+abbrev pub belongs : Request → Place → Bool
+belongs (Lock m) LockLoad = true
+belongs (Lock m) LockPending = true
+belongs (Lock m) QueueExpired = true
+belongs (Lock m) StopExpired = true
+belongs (Lock m) p = is_locking p
+belongs (TryLock m) TryLoad = true
+belongs (TryLock m) TryPending = true
+belongs (TryLock m) TryExchange = true
+belongs (TryLock m) TryKernel = true
+belongs (TryLock m) TryClear = true
+belongs (TryLock m) p = is_shared p
+belongs (Unlock m) UnlockLoad = true
+belongs (Unlock m) UnlockPending = true
+belongs (Unlock m) UnlockHealth = true
+belongs (Unlock m) UnlockStore = true
+belongs (Unlock m) UnlockUnlink = true
+belongs (Unlock m) UnlockExchange = true
+belongs (Unlock m) UnlockKernel = true
+belongs (Unlock m) UnlockClear = true
+belongs (Consistent m) ConsistentLoad = true
+belongs (Consistent m) ConsistentHealth = true
+belongs (Consistent m) ConsistentStore = true
+belongs (Wait c m) WaitLoad = true
+belongs (Wait c m) WaitUses = true
+belongs (Wait c m) (WaitPending v) = true
+belongs (Wait c m) (WaitHealth v) = true
+belongs (Wait c m) (WaitStore v) = true
+belongs (Wait c m) (WaitUnlink v) = true
+belongs (Wait c m) (WaitExchange v) = true
+belongs (Wait c m) (WaitKernel v) = true
+belongs (Wait c m) (WaitPark v) = true
+belongs (Wait c m) WaitParked = true
+belongs (Wait c m) p = is_locking p
+belongs (Signal c) p = is_using p
+belongs (Broadcast c) p = is_using p
+belongs (SetPrio u p) SetPriority = true
+belongs _ _ = false
+
+-- the mutex for which a call of this request may wait; 0 where it waits for none
+abbrev pub waited_in : Request → ℕ
+waited_in (Lock m) = m
+waited_in (TryLock m) = 0
+waited_in (Unlock m) = 0
+waited_in (Consistent m) = 0
+waited_in (Wait c m) = m
+waited_in (Signal c) = 0
+waited_in (Broadcast c) = 0
+waited_in (SetPrio u p) = 0
+waited_in (TimedLock m d) = 0
+waited_in (TimedWait c m d) = 0
+
+-- what an open call of t at a place knows: the mutex and the variable that it names exist, the place is one of the
+-- request's, and what the call rests on there holds
+pub record CallIsSound (s : Table) (t : ℕ) (q : Request) (p : Place) : Type 0 where
+  pub named : names_known (has_mutex s) (has_cond s) q ≡ true
+  pub belongs : belongs q p ≡ true
+  pub needs : MeetsAll (is_living s.kernel) t (status_at s t) (cell_at s (named_by q)) (use_at s q) (needs p)
+
+-- what a thread at this line knows: with no call open it may run
+abbrev pub LineIsSound : Table → ℕ → Line → Type 0
+LineIsSound s t Idle = is_ready (status_at s t) ≡ true
+LineIsSound s t (At q p) = CallIsSound s t q p
+
+-- whether a thread may be queued at this place: by lock_pi, or since it was taken from its variable
+abbrev pub is_queued_place : Place → Bool
+is_queued_place LockQueued = true
+is_queued_place WaitParked = true
+is_queued_place _ = false
+
+-- a thread that is queued on m is in a call that waits for m, at a place where it may be queued
+pub record IsQueuedLine (m : ℕ) (l : Line) : Type 0 where
+  pub request : Request
+  pub place : Place
+  pub line : l ≡ At request place
+  pub queued : is_queued_place place ≡ true
+  pub waits : waited_in request ≡ m
+
+-- a thread that is parked on c is in a wait on c, at the place where it is parked
+pub record IsParkedLine (c : ℕ) (l : Line) : Type 0 where
+  pub mutex : ℕ
+  pub line : l ≡ At (Wait c mutex) WaitParked
+
+-- ROBUST LISTS
+
+-- whether the pending field names the call's mutex at this place, where that is robust
+abbrev pub is_pending : Place → Bool
+is_pending LockExchange = true
+is_pending LockKernel = true
+is_pending LockQueued = true
+is_pending LockClear = true
+is_pending QueueExpired = true
+is_pending TryExchange = true
+is_pending TryKernel = true
+is_pending TryClear = true
+is_pending UnlockHealth = true
+is_pending UnlockStore = true
+is_pending UnlockUnlink = true
+is_pending UnlockExchange = true
+is_pending UnlockKernel = true
+is_pending UnlockClear = true
+is_pending (WaitHealth v) = true
+is_pending (WaitStore v) = true
+is_pending (WaitUnlink v) = true
+is_pending (WaitExchange v) = true
+is_pending (WaitKernel v) = true
+is_pending (WaitPark v) = true
+is_pending WaitParked = true
+is_pending p = is_shared p
+
+-- whether the call's mutex, where its thread owns it, is not on the list at this place: handed over and not noticed,
+-- while it is taken over, left, or given up by an unlock or a wait
+abbrev pub is_unlinked : Place → Bool
+is_unlinked LockQueued = true
+is_unlinked TakeLoad = true
+is_unlinked (TakeHealth b) = true
+is_unlinked TakeStore = true
+is_unlinked TakeWord = true
+is_unlinked (LinkNext a) = true
+is_unlinked (LinkHead a) = true
+is_unlinked LeaveExchange = true
+is_unlinked LeaveKernel = true
+is_unlinked UnlockExchange = true
+is_unlinked UnlockKernel = true
+is_unlinked (WaitExchange v) = true
+is_unlinked (WaitKernel v) = true
+is_unlinked WaitParked = true
+is_unlinked _ = false
+
+-- whether only the link of the call's mutex is written at this place
+abbrev pub is_half_linked : Place → Bool
+is_half_linked (LinkHead a) = true
+is_half_linked _ = false
+
+-- whether at this place the call's mutex, where its thread owns it, may have OWNER_DIED or be unusable
+abbrev pub is_unsettled : Place → Bool
+is_unsettled LockQueued = true
+is_unsettled TakeLoad = true
+is_unsettled (TakeHealth b) = true
+is_unsettled TakeStore = true
+is_unsettled TakeWord = true
+is_unsettled LeaveExchange = true
+is_unsettled LeaveKernel = true
+is_unsettled UnlockUnlink = true
+is_unsettled UnlockExchange = true
+is_unsettled UnlockKernel = true
+is_unsettled (WaitUnlink v) = true
+is_unsettled (WaitExchange v) = true
+is_unsettled (WaitKernel v) = true
+is_unsettled WaitParked = true
+is_unsettled _ = false
+
+-- the mutex of the call at a line, where its place passes this test; 0 else
+abbrev pub mutex_by : (Place → Bool) → Line → ℕ
+mutex_by test Idle = 0
+mutex_by test (At q p) = if test p then named_by q else 0
+
+-- the mutex that the pending field, or the half-linked one, is at a line: such a mutex, where it is robust
+abbrev pub robust_by : (Place → Bool) → Table → Line → ℕ
+robust_by test s l = if (library_at s (mutex_by test l)).robust then mutex_by test l else 0
+
+-- whether t owns m, which was added and is robust
+abbrev pub holds_robust : Table → ℕ → ℕ → Bool
+holds_robust s t m = if has_mutex s m then (if (library_at s m).robust then (word_at s.words m).number == t else false) else false
+
+-- the robust list of a thread, by its line: what it owns of robust mutexes is on it, save for the mutex of an unlinked
+-- place; and its pending field and its half-linked mutex are as the place has them
+pub record ListIsSound (s : Table) (t : ℕ) (l : Line) : Type 0 where
+  pub pending : (robust_at s.lists t).pending ≡ robust_by is_pending s l
+  pub half_linked : (robust_at s.lists t).half_linked ≡ robust_by is_half_linked s l
+  pub listed : (m : ℕ) → is_listed s.lists t m ≡ (if holds_robust s t m then (if m == mutex_by is_unlinked l then false else true) else false)
+
+-- what holds of a living thread
+pub record ThreadIsSound (s : Table) (t : ℕ) : Type 0 where
+  pub line : LineIsSound s t (line_at s t)
+  pub queue : (m : ℕ) → status_at s t ≡ Queued m → IsQueuedLine m (line_at s t)
+  pub parked : (c : ℕ) → status_at s t ≡ Parked c → IsParkedLine c (line_at s t)
+  pub list : ListIsSound s t (line_at s t)
+  -- what it owns is in order, save for the mutex of an unsettled place
+  pub settled : (m : ℕ) → has_mutex s m ≡ true → (word_at s.words m).number ≡ t → m ≢ mutex_by is_unsettled (line_at s t)
+      → ((word_at s.words m).died ≡ false) × (health_word_at s.words m ≢ 2)
+
+-- what holds of a number that is no living thread's: it has no call, and nothing on a list
+pub record AbsentIsSound (s : Table) (t : ℕ) : Type 0 where
+  pub line : line_at s t ≡ Idle
+  pub list : robust_at s.lists t ≡ no_robust_row
+
+-- how often its owner, 0 for none, holds a mutex of this kind: once to 255 times, and once where it has no owner or is
+-- not RECURSIVE
+pub record CountIsSound (kind : Kind) (owner count : ℕ) : Type 0 where
+  pub some : 1 ≤ count
+  pub few : count ≤ most_holds
+  pub unowned : owner ≡ 0 → count ≡ 1
+  pub single : kind ≢ Recursive → count ≡ 1
+
+-- a mutex that was added, by which threads were added and whether one waits for it
+pub record CellIsSound (added : ℕ → Bool) (waited : Bool) (c : Cell) : Type 0 where
+  pub count : CountIsSound c.kind c.word.number c.count
+  -- of a stalled mutex nothing tells that an owner has ended
+  pub stalled : c.robust ≡ false → (c.word.died ≡ false) × (c.health ≡ 0)
+  -- who owns it was added
+  pub owner : c.word.number ≢ 0 → added c.word.number ≡ true
+  -- nobody waits for a free mutex; without OWNER_DIED its word has no flag, and its health word says no disorder
+  pub free : c.word.number ≡ 0 → waited ≡ false
+  pub clean : c.word.number ≡ 0 → c.word.died ≡ false → (c.word.waiters ≡ false) × (c.health ≢ 1)
+  -- there is an owner state exactly while threads are queued, and it names the word's owner; WAITERS is set then
+  pub state : c.state_owner ≡ (if waited then c.word.number else 0)
+  pub contended : waited ≡ true → c.word.waiters ≡ true
+
+-- a variable that was added: it is bound to a mutex that was, and was used as often as it may be at most
+pub record CondIsSound (s : Table) (c : ℕ) : Type 0 where
+  pub bound : has_mutex s (bound_to s c) ≡ true
+  pub uses : uses_of s c ≤ s.limits.signals
+
+-- the parts fit together: each thread of the kernel has a line and a timer, and each that can be a robust list, and
+-- nobody is at place 0; there are a word and a health word for each mutex that the limits allow, and of those that were
+-- not added they are free and fine, and nobody waits for them; there is a condition word for each variable that the
+-- limits allow, and of those that were not added it is 0
+pub record IsShaped (s : Table) : Type 0 where
+  pub limits : s.kernel.limits ≡ s.limits
+  pub within : IsWithin s.limits
+  pub lines : length s.lines ≡ length s.kernel.seats
+  pub timers : length s.timers ≡ length s.lines
+  pub nobody : line_at s 0 ≡ Idle
+  pub lists : length s.lists.threads ≡ s.limits.threads + 1
+  pub some_mutex : 1 ≤ length s.mutexes
+  pub few_mutexes : length s.mutexes ≤ s.limits.mutexes + 1
+  pub no_mutex : library_at s 0 ≡ new_mutex Normal false
+  pub words : length s.words.mutexes ≡ s.limits.mutexes + 1
+  pub healths : length s.words.healths ≡ s.limits.mutexes + 1
+  pub no_word : word_at s.words 0 ≡ free_word
+  pub no_health : health_word_at s.words 0 ≡ 0
+  pub unmade : (m : ℕ) → length s.mutexes ≤ m → (word_at s.words m ≡ free_word) × (health_word_at s.words m ≡ 0) × (has_waiter s.kernel.waiters m ≡ false)
+  pub some_cond : 1 ≤ length s.conds
+  pub few_conds : length s.conds ≤ s.limits.conds + 1
+  pub no_cond : bound_to s 0 ≡ 0
+  pub cond_words : length s.words.conds ≡ s.limits.conds + 1
+  pub no_cond_word : uses_of s 0 ≡ 0
+  pub unmade_conds : (c : ℕ) → length s.conds ≤ c → uses_of s c ≡ 0
+
+-- the invariant of the table, save for what holds of excused threads and for what its kernel keeps
+pub record SoundBut (Excused : ℕ → Type 0) (s : Table) : Type 0 where
+  pub shape : IsShaped s
+  pub mutexes : (m : ℕ) → has_mutex s m ≡ true → CellIsSound (has_thread s) (has_waiter s.kernel.waiters m) (cell_at s m)
+  pub conds : (c : ℕ) → has_cond s c ≡ true → CondIsSound s c
+  -- who is parked is to get the mutex to which the variable is bound
+  pub targets : (c m : ℕ)
+      → list_any (λ (p : Parking). if p.cond == c then p.target == m else false) s.kernel.parked ≡ true
+      → bound_to s c ≡ m
+  -- who owns a robust mutex lives
+  pub alive : (m : ℕ) → has_mutex s m ≡ true → (library_at s m).robust ≡ true → (word_at s.words m).number ≢ 0
+      → (Excused (word_at s.words m).number → ⊥) → is_living s.kernel (word_at s.words m).number ≡ true
+  pub threads : (t : ℕ) → is_living s.kernel t ≡ true → (Excused t → ⊥) → ThreadIsSound s t
+  pub absent : (t : ℕ) → is_living s.kernel t ≡ false → (Excused t → ⊥) → AbsentIsSound s t
+
+-- the invariant of the table: nobody is excused, and its kernel is one
+pub record IsSound (s : Table) : Type 0 where
+  pub all : SoundBut (λ t. ⊥) s
+  pub kernel : IsKernel s.kernel

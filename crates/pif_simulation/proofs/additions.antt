@@ -1,0 +1,4 @@
+pub mod Additions
+pub mod ThreadAdded
+pub mod MutexAdded
+pub mod CondAdded

@@ -1,0 +1,11 @@
+pub mod Aims
+pub mod WaitLines
+pub mod WaitGivingUp
+pub mod WaitParking
+pub mod UseLines
+pub mod UseCounting
+pub mod Unblocking
+pub mod Taking
+pub mod Takings
+pub mod Choosing
+pub mod Requeueing

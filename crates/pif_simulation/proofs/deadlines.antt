@@ -1,0 +1,4 @@
+pub mod Due
+pub mod Timers
+pub mod Expired
+pub mod Expiring

@@ -1,0 +1,9 @@
+pub mod TakingLines
+pub mod TakingOver
+pub mod HandOver
+pub mod GivingUp
+pub mod GivingSteps
+pub mod LockLines
+pub mod TryLines
+pub mod UnlockLines
+pub mod LockCalls

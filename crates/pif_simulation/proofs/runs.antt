@@ -1,0 +1,7 @@
+pub mod Worlds
+pub mod Holding
+pub mod AllHolding
+pub mod Holders
+pub mod Timing
+pub mod Fated
+pub mod Priority
