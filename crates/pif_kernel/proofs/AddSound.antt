@@ -15,7 +15,8 @@ use Rattle.pif_model.specs.PiKernel.{Kernel, IsKernel, queued_on, effective_in, 
 use Rattle.pif_owners.specs.Owners.{Seat, Wait, seat_at, rank_of, no_seat, with_seat}
 use Rattle.pif_chains.proofs.KernelSettled.{priority-from_range}
 use Rattle.pif_chains.proofs.Places.{kept_at}
-use Rattle.pif_kernel.specs.Inside.{Inside, IsPlaced, IsSound, Rise, kernel_of, status_at, key_at, ticket_of}
+use Rattle.pif_kernel.specs.Inside.{Inside, IsPlaced, IsSound, kernel_of, status_at, key_at, ticket_of}
+use Rattle.pif_owners.specs.Arrivals.{Rise}
 use Rattle.pif_chains.proofs.KernelAdded.{effective-added_other, effective-added_same}
 use Rattle.pif_chains.proofs.KernelKept.{add_kept}
 use Rattle.pif_kernel.proofs.Seats.{IsFitted, seats_length, limits_seen, kernel_by_parts, seats_of-push}

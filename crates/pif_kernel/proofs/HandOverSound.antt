@@ -29,14 +29,15 @@ use Rattle.pif_chains.proofs.KernelFacts.{queued-from_number}
 use Rattle.pif_chains.proofs.KernelKept.{hand_over_kept}
 use Rattle.pif_chains.proofs.KernelLevels.{level-joined_same, level-joined_other}
 use Rattle.pif_chains.proofs.KernelNumbers.{among-push_other}
-use Rattle.pif_kernel.specs.Inside.{Inside, IsListed, IsPlaced, IsSound, kernel_of, status_at, key_at, state_at, ticket_of, mutexes_of}
-use Rattle.pif_kernel.proofs.WaitersWithout.{rise_without, waiter_kept, mutexes_without}
+use Rattle.pif_kernel.specs.Inside.{Inside, IsListed, IsPlaced, IsSound, kernel_of, status_at, key_at, state_at, ticket_of}
+use Rattle.pif_owners.specs.Arrivals.{mutexes_of}
+use Rattle.pif_owners.proofs.WaitersWithout.{rise_without, waiter_kept, mutexes_without}
 use Rattle.pif_kernel.proofs.HandOverFacts.{IsHanded, IsGiven, IsHandable, IsHanding, IsHandedOn}
 use Rattle.pif_kernel.proofs.Seats.{IsFitted, same_seats, seats_length, status_seen, waits_seen, waits_below, owners_waits, added_back, waiters_seen, states_seen, states_length, kernel_by_parts, seats_of-set_status, seats_of-same_base}
 use Rattle.pif_kernel.proofs.Picked.{levels_count, levels_joined, length-joined}
 use Rattle.pif_kernel.proofs.Standing.{fits, effective_level, off_queue}
 use Rattle.pif_kernel.proofs.ChainLaws.{repaired_but}
-use Rattle.pif_kernel.proofs.QueueLaws.{rise_once}
+use Rattle.pif_owners.proofs.ArrivalLaws.{rise_once}
 use Rattle.pif_kernel.proofs.TopLaws.{waits_under, priority_below, top_is_next}
 use Rattle.pif_kernel.proofs.WalkSound.{IsWalkable, owners_effective}
 

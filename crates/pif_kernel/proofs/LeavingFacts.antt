@@ -15,16 +15,17 @@ use Rattle.pif_owners.specs.Owners.{Owners, Seat, Wait, seat_at, owner_at, count
 use Rattle.pif_owners.proofs.MapLemmas.{get-remove_other}
 use Rattle.pif_chains.proofs.Among.{is_among as is_waiter}
 use Rattle.pif_chains.proofs.Waiting.{names, Once, without-unnamed, has_waiter-from_pair, has_waiter-without_other, waited-from_pair}
-use Rattle.pif_kernel.specs.Inside.{Inside, IsSound, kernel_of, status_at, key_at, state_at, ticket_of, mutexes_of}
+use Rattle.pif_kernel.specs.Inside.{Inside, IsSound, kernel_of, status_at, key_at, state_at, ticket_of}
+use Rattle.pif_owners.specs.Arrivals.{mutexes_of}
 use Rattle.pif_kernel.specs.Leaving.{IsLeft}
 use Rattle.pif_kernel.proofs.Seats.{status_seen, waits_seen, added_seen, waiters_seen}
 use Rattle.pif_kernel.proofs.ParkingFacts.{unparked_absent}
 use Rattle.pif_kernel.proofs.Picked.{among_has}
 use Rattle.pif_kernel.proofs.Standing.{fits, level_same}
-use Rattle.pif_kernel.proofs.QueueLaws.{rise_once}
+use Rattle.pif_owners.proofs.ArrivalLaws.{rise_once}
 use Rattle.pif_kernel.proofs.TopLaws.{waits_under}
 use Rattle.pif_kernel.proofs.Waiters.{has_waiter-key, no_key-no_waiter, waits_some}
-use Rattle.pif_kernel.proofs.WaitersWithout.{waiter_kept, mutexes_without}
+use Rattle.pif_owners.proofs.WaitersWithout.{waiter_kept, mutexes_without}
 
 -- a seat that waits for nothing
 no_wait : (s : Seat) → option_map (λ (w : Wait). w.state) s.wait ≡ None → s ≡ record s { wait = None }

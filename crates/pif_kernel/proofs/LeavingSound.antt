@@ -27,7 +27,7 @@ use Rattle.pif_kernel.proofs.Seats.{IsFitted, same_seats, status_seen, owners_wa
 use Rattle.pif_kernel.proofs.Picked.{levels_left, length-left}
 use Rattle.pif_kernel.proofs.Standing.{fits}
 use Rattle.pif_kernel.proofs.ChainLaws.{repaired_but}
-use Rattle.pif_kernel.proofs.WaitersWithout.{rise_without, waiter_kept}
+use Rattle.pif_owners.proofs.WaitersWithout.{rise_without, waiter_kept}
 use Rattle.pif_kernel.proofs.WalkSound.{IsWalkable, owners_effective}
 
 module _ (p x : Inside) (next : Status) (t start : ℕ) (h : IsSound p) (lives : is_living (kernel_of p) t ≡ true)

@@ -17,7 +17,6 @@ pub mod ChainLaws
 pub mod LevelLaws
 pub mod WalkSound
 pub mod BaseSound
-pub mod QueueLaws
 pub mod Waiters
 pub mod QueueingSound
 pub mod TicketLaws
@@ -25,16 +24,13 @@ pub mod RenumberSound
 pub mod QueueingFacts
 pub mod CallFacts
 pub mod TopLaws
-pub mod WaitersWithout
 pub mod StillWaits
 pub mod WaiterOrder
 pub mod TicketTurns
-pub mod InOrder
 pub mod HandOverFacts
 pub mod HandOverSound
 pub mod LeavingFacts
 pub mod LeavingSound
 pub mod WaitingOrder
 pub mod TableMoved
-pub mod QueueLemmas
-pub mod EmptyTables
+pub mod Found

@@ -17,7 +17,7 @@ use Rattle.pif_chains.proofs.KernelKept.{new_kernel_kept}
 use Rattle.pif_chains.proofs.KernelLevels.{length-levels_by}
 use Rattle.pif_chains.proofs.KernelSettled.{priority-range}
 use Rattle.pif_chains.proofs.KernelNew.{no_state, length-no_states, no_level}
-use Rattle.pif_kernel.proofs.InOrder.{found_so}
+use Rattle.pif_kernel.proofs.Found.{found_so}
 use Rattle.pif_kernel.specs.Inside.{Inside, IsPlaced, IsSound, kernel_of, no_keys, key_at, state_at, status_at, owner_under, seats_of}
 use Rattle.pif_kernel.specs.Chained.{Chained, IsUnused}
 use Rattle.pif_kernel.specs.Fields.{inside_from}

@@ -13,7 +13,8 @@ use Rattle.pif_owners.specs.Owners.{Owners, Seat, Wait, no_seat, seat_at, owner_
 use Rattle.pif_owners.specs.Owners.{waits_for as owners_wait_for}
 use Rattle.pif_chains.proofs.KernelFacts.{living-added}
 use Rattle.pif_chains.proofs.Following.{Follows, within-from_reaches}
-use Rattle.pif_kernel.specs.Inside.{Inside, IsSound, Rise, kernel_of, status_at, key_at, state_at, ticket_of}
+use Rattle.pif_kernel.specs.Inside.{Inside, IsSound, kernel_of, status_at, key_at, state_at, ticket_of}
+use Rattle.pif_owners.specs.Arrivals.{Rise}
 use Rattle.pif_kernel.specs.Fields.{chains_of}
 use Rattle.pif_kernel.specs.Opened.{IsOpened}
 use Rattle.pif_kernel.proofs.Seats.{seats_length, waits_below, owners_waits, added_seen, states_seen}

@@ -26,7 +26,8 @@ use Rattle.pif_chains.proofs.KernelNumbers.{is_other, among-left_same, among-lef
 use Rattle.pif_chains.proofs.Waiting.{has_waiter-from_pair}
 use Rattle.pif_chains.proofs.Places.{kept_at}
 use Rattle.pif_chains.proofs.Among.{is_among as is_waiter}
-use Rattle.pif_kernel.specs.Inside.{Inside, IsListed, IsPlaced, IsSound, Rise, kernel_of, status_at, key_at, state_at, ticket_of, arrivals_in}
+use Rattle.pif_kernel.specs.Inside.{Inside, IsListed, IsPlaced, IsSound, kernel_of, status_at, key_at, state_at, ticket_of, arrivals_in}
+use Rattle.pif_owners.specs.Arrivals.{Rise}
 use Rattle.pif_kernel.specs.Chained.{Chained, KeepsLevels}
 use Rattle.pif_kernel.specs.Fields.{inside_from, chains_of}
 use Rattle.pif_kernel.specs.Opened.{IsOpened}
@@ -35,7 +36,7 @@ use Rattle.pif_kernel.proofs.Seats.{IsFitted, same_seats, status_seen, waits_see
 use Rattle.pif_kernel.proofs.Picked.{levels_left, length-left}
 use Rattle.pif_kernel.proofs.Standing.{fits}
 use Rattle.pif_kernel.proofs.ChainLaws.{repaired_but}
-use Rattle.pif_kernel.proofs.QueueLaws.{rise_push, mutexes_push}
+use Rattle.pif_owners.proofs.ArrivalLaws.{rise_push, mutexes_push}
 use Rattle.pif_kernel.proofs.Waiters.{has_waiter-key, no_key-no_waiter, ready_idle, ready_unnamed}
 use Rattle.pif_kernel.proofs.TableMoved.{levels_kept_beside}
 use Rattle.pif_kernel.proofs.WalkSound.{IsWalkable, owners_effective}

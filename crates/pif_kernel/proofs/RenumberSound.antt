@@ -8,11 +8,12 @@ use Rattle.pif_plist.specs.Order.{comes_before}
 use Rattle.pif_model.specs.PiKernel.{Kernel, IsKernel, effective_in}
 use Rattle.pif_owners.specs.Owners.{Owners, Seat, Wait, seat_at, owner_at, count, waits_on, rank_of, no_seat, KeepsOrder}
 use Rattle.pif_chains.proofs.Waiting.{names}
-use Rattle.pif_kernel.specs.Inside.{Inside, IsPlaced, IsSound, Rise, kernel_of, key_at, state_at, ticket_of}
+use Rattle.pif_kernel.specs.Inside.{Inside, IsPlaced, IsSound, kernel_of, key_at, state_at, ticket_of}
+use Rattle.pif_owners.specs.Arrivals.{Rise}
 use Rattle.pif_kernel.specs.Tickets.{renumbered_ticket, seat_with_ticket, IsRenumbered, IsRenumberable}
 use Rattle.pif_kernel.proofs.Seats.{IsFitted, states_seen, states_length, kernel_by_parts, seats_of-same_base}
 use Rattle.pif_kernel.proofs.Standing.{listed_kept, fits}
-use Rattle.pif_kernel.proofs.QueueLaws.{rise_once}
+use Rattle.pif_owners.proofs.ArrivalLaws.{rise_once}
 use Rattle.pif_kernel.proofs.TicketLaws.{order, ticket_before, rise_renumbered, named_at}
 use Rattle.pif_kernel.proofs.Waiters.{waits_some, waits_named, named_known, arrivals_few}
 

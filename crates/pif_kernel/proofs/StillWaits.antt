@@ -9,8 +9,9 @@ use Rattle.pif_chains.proofs.Among.{is_among as is_waiter}
 use Rattle.pif_chains.proofs.Next.{next_is_next}
 use Rattle.pif_chains.proofs.Waiting.{has_waiter-from_pair}
 use Rattle.pif_kernel.specs.Inside.{Inside, IsSound, key_at}
-use Rattle.pif_kernel.proofs.TopLaws.{waiter_middle, waits_under, under_waits}
-use Rattle.pif_kernel.proofs.WaitersWithout.{waiter_kept}
+use Rattle.pif_owners.proofs.ArrivalLaws.{waiter_middle}
+use Rattle.pif_kernel.proofs.TopLaws.{waits_under, under_waits}
+use Rattle.pif_owners.proofs.WaitersWithout.{waiter_kept}
 
 -- a mutex that has a waiter has one by name
 waiter_named : (ws : List (ℕ × ℕ)) (m : ℕ) → has_waiter ws m ≡ true → (u : ℕ) × (is_waiter ws u m ≡ true)

@@ -6,9 +6,10 @@ use Rattle.std.proofs.lemmas.List.{get_or-set_same, get_or-set_other}
 use Rattle.pif_nodes.specs.declared.keys.Key.{Key}
 use Rattle.pif_owners.specs.Owners.{Owners, Seat, Wait, seat_at, no_seat, with_ticket}
 use Rattle.pif_chains.proofs.Waiting.{names, Once, once_head, once_tail}
-use Rattle.pif_kernel.specs.Inside.{Rise, ticket_of}
+use Rattle.pif_owners.specs.Arrivals.{Rise}
+use Rattle.pif_kernel.specs.Inside.{ticket_of}
 use Rattle.pif_kernel.specs.Tickets.{renumbered_ticket, seat_with_ticket, IsRenumbered}
-use Rattle.pif_kernel.proofs.QueueLaws.{rise_above}
+use Rattle.pif_owners.proofs.ArrivalLaws.{rise_above}
 
 pub named_at : (ws : List (ℕ × ℕ)) (i t : ℕ) (d : ℕ × ℕ) → i < length ws → (get_or ws i d).0 ≡ t → names t ws ≡ true
 named_at [] i t d l e = absurd (omega arith)

@@ -5,9 +5,10 @@ use Rattle.std.proofs.lemmas.Bool.Decides.{nat_tests}
 use Rattle.pif_nodes.specs.declared.keys.Key.{Key}
 use Rattle.pif_owners.specs.Owners.{Owners, Seat, Wait, seat_at}
 use Rattle.pif_chains.proofs.Waiting.{names}
-use Rattle.pif_kernel.specs.Inside.{Inside, IsSound, Rise, ticket_of}
+use Rattle.pif_kernel.specs.Inside.{Inside, IsSound, ticket_of}
+use Rattle.pif_owners.specs.Arrivals.{Rise}
 use Rattle.pif_kernel.specs.Tickets.{renumbered_ticket, seat_with_ticket, IsRenumbered, IsRenumberable, IsNumbered, IsFirstFrom, is_sooner}
-use Rattle.pif_kernel.proofs.QueueLaws.{rise_once}
+use Rattle.pif_owners.proofs.ArrivalLaws.{rise_once}
 use Rattle.pif_kernel.proofs.TicketLaws.{named_at, ticket_before, at_least, order, rise_renumbered}
 use Rattle.pif_kernel.proofs.Waiters.{waits_named, named_known}
 

@@ -1,5 +1,5 @@
 -- The top waiter by priority and ticket is the next waiter: the first in arrival among those of greatest priority.
-use Rattle.std.proofs.Common.{◌≡◌, ◌⊎◌, ℕ, ◌+◌, ◌<◌, ◌≤◌, true, false, List, [], ◌∷◌, ◌++◌, Option, Some, None, option_map, unwrap_or, refl, sym, ap, subst, ◌∙◌, inl, inr, arith}
+use Rattle.std.proofs.Common.{◌≡◌, ◌⊎◌, ℕ, ◌<◌, ◌≤◌, true, false, List, ◌∷◌, Option, Some, None, option_map, unwrap_or, refl, sym, ap, subst, ◌∙◌, inl, inr, arith}
 use Rattle.std.proofs.lemmas.Bool.Decides.{nat_tests}
 use Rattle.pif_nodes.specs.declared.keys.Key.{Key}
 use Rattle.pif_plist.specs.Order.{comes_before}
@@ -9,42 +9,16 @@ use Rattle.pif_model.specs.Graph.{next_waiter, IsNextWaiter}
 use Rattle.pif_model.specs.PiKernel.{queued_on, effective_in, next_in}
 use Rattle.pif_owners.specs.Owners.{seat_at, waits_on, rank_of, IsTop}
 use Rattle.pif_owners.proofs.OwnersLemmas.{some_rank}
-use Rattle.pif_chains.proofs.Among.{is_among_cons, is_among_here, is_among_there}
+use Rattle.pif_chains.proofs.Among.{is_among_cons}
 use Rattle.pif_chains.proofs.Among.{is_among as is_waiter}
 use Rattle.pif_chains.proofs.Next.{next_is_next}
-use Rattle.pif_chains.proofs.Waiting.{names, named-from_pair}
-use Rattle.pif_kernel.specs.Inside.{Inside, IsSound, Rise, kernel_of, status_at, key_at, ticket_of}
+use Rattle.pif_chains.proofs.Waiting.{named-from_pair}
+use Rattle.pif_kernel.specs.Inside.{Inside, IsSound, kernel_of, status_at, key_at, ticket_of}
+use Rattle.pif_owners.specs.Arrivals.{Rise}
 use Rattle.pif_kernel.proofs.Seats.{status_seen, waiters_seen}
 use Rattle.pif_kernel.proofs.Standing.{fits}
-use Rattle.pif_kernel.proofs.QueueLaws.{rise_above}
 use Rattle.pif_kernel.proofs.Waiters.{has_waiter-key}
-
--- who stands behind has the greater ticket
-pub rise_behind : (f : ℕ → ℕ) (least : ℕ) (xs ys : List (ℕ × ℕ)) (x m next u : ℕ) → Rise f least (xs ++ (x, m) ∷ ys) next
-    → names u ys ≡ true → f x < f u
-rise_behind f least [] ys x m next u r e =
-    let up : f x + 1 ≤ f u = rise_above f (f x + 1) ys next u r.1 e in omega arith
-rise_behind f least (w ∷ xs) ys x m next u r e = rise_behind f (f w.0 + 1) xs ys x m next u r.1 e
-
-pub waiter_split : (xs ys : List (ℕ × ℕ)) (u m : ℕ) → is_waiter (xs ++ ys) u m ≡ true
-    → (is_waiter xs u m ≡ true) ⊎ (is_waiter ys u m ≡ true)
-waiter_split [] ys u m e = inr e
-waiter_split (w ∷ xs) ys u m e = by_place (is_among_cons w (xs ++ ys) u m e) (waiter_split xs ys u m)
-  where
-    by_rest : (is_waiter xs u m ≡ true) ⊎ (is_waiter ys u m ≡ true)
-        → (is_waiter (w ∷ xs) u m ≡ true) ⊎ (is_waiter ys u m ≡ true)
-    by_rest (inl r) = inl (is_among_there w xs u m r)
-    by_rest (inr r) = inr r
-
-    by_place : ((w.0 ≡ u) × (w.1 ≡ m)) ⊎ (is_waiter (xs ++ ys) u m ≡ true)
-        → (is_waiter (xs ++ ys) u m ≡ true → (is_waiter xs u m ≡ true) ⊎ (is_waiter ys u m ≡ true))
-        → (is_waiter (w ∷ xs) u m ≡ true) ⊎ (is_waiter ys u m ≡ true)
-    by_place (inl a) ih = inl (is_among_here w xs u m a.0 a.1)
-    by_place (inr r) ih = by_rest (ih r)
-
-pub waiter_middle : (xs ys : List (ℕ × ℕ)) (x m : ℕ) → is_waiter (xs ++ (x, m) ∷ ys) x m ≡ true
-waiter_middle [] ys x m = is_among_here (x, m) ys x m refl refl
-waiter_middle (w ∷ xs) ys x m = is_among_there w (xs ++ (x, m) ∷ ys) x m (waiter_middle xs ys x m)
+use Rattle.pif_owners.proofs.ArrivalLaws.{rise_behind, waiter_middle, waiter_split}
 
 -- who waits under the key of m is queued on m
 pub waits_under : (p : Inside) → IsSound p → (u m key : ℕ) → key_at p m ≡ Some key → waits_on p.owners u ≡ Some key

@@ -15,7 +15,7 @@ use Rattle.pif_chains.proofs.Among.{is_among as is_waiter}
 use Rattle.pif_kernel.specs.Inside.{Inside, IsSound, kernel_of, status_at, key_at, state_at, ticket_of}
 use Rattle.pif_kernel.proofs.Seats.{added_seen, status_seen, waiters_seen, states_seen}
 use Rattle.pif_kernel.proofs.Standing.{fits}
-use Rattle.pif_kernel.proofs.QueueLaws.{rise_once, few_waiters, few_named, mutexes_few}
+use Rattle.pif_owners.proofs.ArrivalLaws.{rise_once, few_waiters, few_named, mutexes_few}
 
 -- a mutex has a key exactly where it has a waiter
 pub has_waiter-key : (p : Inside) → IsSound p → (m : ℕ) → state_at p m ≢ 0 → has_waiter p.arrivals m ≡ true

@@ -19,7 +19,8 @@ use Rattle.pif_chains.proofs.Numbers.{within}
 use Rattle.pif_chains.proofs.Statuses.{ready-queued_on_nothing}
 use Rattle.pif_chains.proofs.Greatest.{effective_most, effective_wider, effective_same}
 use Rattle.pif_chains.proofs.KernelLevels.{length-levels_by}
-use Rattle.pif_kernel.specs.Inside.{Inside, IsPlaced, IsSound, Rise, kernel_of, key_at, state_at, ticket_of, IsListed, status_at}
+use Rattle.pif_kernel.specs.Inside.{Inside, IsPlaced, IsSound, kernel_of, key_at, state_at, ticket_of, IsListed, status_at}
+use Rattle.pif_owners.specs.Arrivals.{Rise}
 use Rattle.pif_kernel.proofs.Seats.{IsFitted, fitted, seats_length, base_seen, owners_waits, waits_below, kernel_by_parts, added_seen, states_seen, states_length, seats_of-same_base}
 use Rattle.pif_kernel.proofs.Picked.{levels_seen, levels_count, among_has}
 use Rattle.pif_kernel.proofs.Standing.{listed_kept, level_same}

@@ -1,17 +1,17 @@
 -- What a kernel keeps, and the kernel by itself that it stands for.
-use Rattle.std.specs.Prelude.{◌≡◌, ◌≢◌, ℕ, ◌+◌, ◌<◌, ◌≤◌, true, if◌then◌else◌, List, [], ◌∷◌, length, map, replicate, get_or, Option, Some, None, IsSome, option_map, option_and_then, unwrap_or}
+use Rattle.std.specs.Prelude.{◌≡◌, ◌≢◌, ℕ, ◌+◌, ◌<◌, ◌≤◌, true, List, [], ◌∷◌, length, map, replicate, get_or, Option, Some, None, IsSome, option_map, option_and_then, unwrap_or}
 use Rattle.pif_types.specs.Bounds.{Bounds, IsWithin}
 use Rattle.pif_model.specs.declared.lines.Status.{Status}
 use Rattle.pif_model.specs.declared.lines.Status.TheVariants.{Ready}
 use Rattle.pif_model.specs.declared.lines.Woken.TheVariants.{Fresh}
-use Rattle.pif_model.specs.Graph.{has_waiter}
 use Rattle.pif_model.specs.PiKernel.{Kernel, IsKernel, queued_on, is_ready, has_seat, is_among, level_at, levels_by, effective_in}
 use Rattle.pif_model.specs.PiKernel.{Seat as KernelSeat, Parking}
 use Rattle.pif_nodes.specs.declared.keys.Key.{Key}
 use Rattle.pif_nodes.specs.Table.{Table}
 use Rattle.pif_runq.specs.Levels.{Queue, Holds, level_of}
-use Rattle.pif_kernel.specs.InOrder.{in_order}
+use Rattle.pif_owners.specs.Arrivals.{in_order}
 use Rattle.pif_owners.specs.Owners.{Owners, Seat, seat_at, owner_at, count, waits_on, rank_of, no_seat}
+use Rattle.pif_owners.specs.Arrivals.{Rise, mutexes_of}
 
 -- what a kernel keeps
 pub record Inside : Type 0 where
@@ -80,16 +80,6 @@ ticket_of v t = unwrap_or (option_map (λ (r : Key). r.ticket) (rank_of v t)) 0
 abbrev pub arrivals_in : List Status → Owners → List (ℕ × ℕ)
 arrivals_in statuses v =
     in_order (ticket_of v) (λ t. queued_on (get_or statuses t (Ready Fresh))) (length statuses)
-
--- the tickets of these threads rise, from `least` on, and are below `next`
-abbrev pub Rise : (ℕ → ℕ) → ℕ → List (ℕ × ℕ) → ℕ → Type 0
-Rise ticket least [] next = least ≤ next
-Rise ticket least (w ∷ ws) next = (least ≤ ticket w.0) × Rise ticket (ticket w.0 + 1) ws next
-
--- how many mutexes have a waiter
-abbrev pub mutexes_of : List (ℕ × ℕ) → ℕ
-mutexes_of [] = 0
-mutexes_of (w ∷ ws) = if has_waiter ws w.1 then mutexes_of ws else mutexes_of ws + 1
 
 -- no key, for each of the 1,024 mutexes that can be
 unfoldable pub no_keys : List (Option ℕ)

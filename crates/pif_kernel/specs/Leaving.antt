@@ -5,7 +5,8 @@ use Rattle.pif_runq.specs.Levels.{Holds, IsLevel, level_of}
 use Rattle.pif_model.specs.Graph.{has_waiter, without}
 use Rattle.pif_model.specs.PiKernel.{waits_for, unparked}
 use Rattle.pif_owners.specs.Owners.{seat_at, owner_at, count}
-use Rattle.pif_kernel.specs.Inside.{Inside, kernel_of, key_at, mutexes_of}
+use Rattle.pif_kernel.specs.Inside.{Inside, kernel_of, key_at}
+use Rattle.pif_owners.specs.Arrivals.{mutexes_of}
 
 -- t has left: it waits for nothing, is not parked, and is on no level, and an owner state stays exactly where others
 -- are queued. Nobody but `start` had it as a waiter. Its status, by which the waiters are found, is still the old one

@@ -1,6 +1,5 @@
 pub use Rattle.pif_model.specs.PiKernel
 pub mod Answers
-pub mod InOrder
 pub mod Inside
 pub mod Codes
 pub mod Leaving

@@ -2,7 +2,8 @@
 use Rattle.std.specs.Prelude.{◌≡◌, ◌≢◌, ℕ, zero, suc, ◌+◌, ◌<◌, ◌≤◌, ◌==◌, eqb, nat_lt, Bool, true, false, if◌then◌else◌, List, [], ◌∷◌, length, map, get_or, Option, Some, None, IsSome, option_map}
 use Rattle.std.specs.List.{list_any, IsDistinct}
 use Rattle.pif_owners.specs.Owners.{Owners, Seat, Wait, seat_at, waits_on, KeepsOrder}
-use Rattle.pif_kernel.specs.Inside.{Rise, ticket_of}
+use Rattle.pif_owners.specs.Arrivals.{Rise}
+use Rattle.pif_kernel.specs.Inside.{ticket_of}
 
 -- the tickets once those of the first `count` of these threads are the numbers from n on
 abbrev pub renumbered_ticket : (ℕ → ℕ) → ℕ → ℕ → List (ℕ × ℕ) → ℕ → ℕ

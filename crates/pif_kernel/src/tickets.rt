@@ -2,7 +2,8 @@ ghost use Rattle.std.specs.Prelude.{◌≡◌, ◌<◌, ◌≤◌, ◌+◌, if�
 ghost use Rattle.pif_runq.specs.Levels.{Holds};
 ghost use Rattle.pif_kernel.specs.Tickets.{IsRenumbered, IsRenumberable, IsNumbered, IsFirstFrom, is_sooner};
 ghost use Rattle.pif_kernel.specs.Chained.{KeepsLevels};
-ghost use Rattle.pif_kernel.specs.Inside.{IsSound, kernel_of, Rise, ticket_of, arrivals_in};
+ghost use Rattle.pif_kernel.specs.Inside.{IsSound, kernel_of, ticket_of, arrivals_in};
+ghost use Rattle.pif_owners.specs.Arrivals.{Rise};
 
 use crate::chains::Chains;
 use crate::parts::Parts;

@@ -13,7 +13,7 @@ use Rattle.pif_queue.specs.Buckets.{Buckets, HoldsBuckets}
 use Rattle.pif_queue.specs.Buckets.{HasRoom as HasRoomForBuckets}
 use Rattle.pif_queue.proofs.Rooms.{no_buckets, room-made}
 use Rattle.pif_kernel.specs.Inside.{no_keys}
-use Rattle.pif_kernel.proofs.EmptyTables.{empty_table, empty_lists, empty_nodes, empty_list, empty_free, empty_level}
+use Rattle.pif_runq.proofs.EmptyTables.{empty_table, empty_lists, empty_nodes, empty_list, empty_free, empty_level}
 use Rattle.pif_linked.specs.Parkings.{parkings_in}
 use Rattle.pif_linked.specs.Linked.{key_count, key_of, keys_in, StandLinked, IsLinked}
 use Rattle.pif_linked.proofs.ParkingLemmas.{nobody_parked, are_parked-nobody}

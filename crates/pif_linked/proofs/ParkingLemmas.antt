@@ -11,12 +11,12 @@ use Rattle.pif_chains.proofs.Among.{is_among as is_waiter}
 use Rattle.pif_chains.proofs.Waiting.{by_test, names, named-from_pair, pair-from_named}
 use Rattle.pif_queue.specs.Parked.{Parked}
 use Rattle.pif_queue.specs.Numbered.{ticket_in}
-use Rattle.pif_kernel.specs.Inside.{Rise}
-use Rattle.pif_kernel.specs.InOrder.{in_order}
+use Rattle.pif_owners.specs.Arrivals.{Rise}
+use Rattle.pif_owners.specs.Arrivals.{in_order}
 use Rattle.pif_kernel.specs.Tickets.{is_named}
-use Rattle.pif_kernel.proofs.InOrder.{in_order-is}
-use Rattle.pif_kernel.proofs.QueueLaws.{rise_push}
-use Rattle.pif_kernel.proofs.WaitersWithout.{rise_without, waiter_kept}
+use Rattle.pif_owners.proofs.InOrder.{in_order-is}
+use Rattle.pif_owners.proofs.ArrivalLaws.{rise_push}
+use Rattle.pif_owners.proofs.WaitersWithout.{rise_without, waiter_kept}
 use Rattle.pif_linked.specs.Parkings.{parked_cond, parked_target, parking_of, pairs_by, parkings_by, AreParked, ByPriority}
 use Rattle.pif_linked.proofs.ParkingOrder.{order_within, order_all, order_rises}
 

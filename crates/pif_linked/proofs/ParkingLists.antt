@@ -17,8 +17,8 @@ use Rattle.pif_chains.proofs.Waiting.{by_test, names, has_waiter-from_pair, next
 use Rattle.pif_queue.specs.Parked.{Place, Parked, ParkedLists, place_at, IsThread, IsCond, list_for, node_for, thread_for, parked_with, parked_at, parked_on, IsParkedNode, StandsIn, StandParked, IsTopParked, HasNoParked, HasTarget}
 use Rattle.pif_queue.specs.Numbered.{ticket_in}
 use Rattle.pif_kernel.specs.Takings.{first_parked, have_target}
-use Rattle.pif_kernel.proofs.QueueLaws.{rise_once}
-use Rattle.pif_kernel.proofs.WaiterOrder.{InRow, in_row, all_ordered, row_first}
+use Rattle.pif_owners.proofs.ArrivalLaws.{rise_once}
+use Rattle.pif_owners.proofs.WaiterRows.{InRow, in_row, all_ordered, row_first}
 use Rattle.pif_linked.specs.Parkings.{parked_target, parked_prio, parking_of, pairs_by, parkings_in, AreParked, ByPriority}
 use Rattle.pif_linked.proofs.ParkingLemmas.{pairs_seen, pairs_rise, paired_parked, parked_paired}
 use Rattle.pif_linked.proofs.ParkingRows.{row_is, one_before, never_both, order_agrees, next_agrees}

@@ -5,8 +5,8 @@ use Rattle.std.proofs.lemmas.Bool.Decides.{nat_tests}
 use Rattle.pif_chains.proofs.Among.{is_among_here, is_among_there, is_among_cons}
 use Rattle.pif_chains.proofs.Among.{is_among as is_waiter}
 use Rattle.pif_chains.proofs.Waiting.{by_test}
-use Rattle.pif_kernel.specs.Inside.{Rise}
-use Rattle.pif_kernel.specs.InOrder.{put_in, in_order}
+use Rattle.pif_owners.specs.Arrivals.{Rise}
+use Rattle.pif_owners.specs.Arrivals.{put_in, in_order}
 
 -- ONE MORE, PUT WHERE IT BELONGS
 

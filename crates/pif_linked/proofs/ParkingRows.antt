@@ -7,7 +7,7 @@ use Rattle.pif_plist.specs.Order.{comes_before}
 use Rattle.pif_model.specs.Graph.{by_greatest, waiting_order, waiters_with, next_waiter, first_greatest}
 use Rattle.pif_model.specs.PiKernel.{is_among}
 use Rattle.pif_chains.proofs.Waiting.{by_test, names}
-use Rattle.pif_kernel.proofs.WaiterOrder.{InRow}
+use Rattle.pif_owners.proofs.WaiterRows.{InRow}
 
 -- LISTS IN WHICH EACH STANDS BEFORE ALL THAT COME LATER
 

@@ -21,7 +21,8 @@ use Rattle.pif_linked.specs.Linked.{keys_in, StandLinked, FitsWords, FitsParked,
 use Rattle.pif_linked.proofs.Leaving.{KeepsBuckets, beyond_keeps, parked_there, buckets_there, keys_there, parkings_there, words_there, fits_there}
 use Rattle.pif_linked.proofs.ParkingKeys.{rekey_parkings}
 use Rattle.pif_linked.proofs.Parks.{placed_rekeyed, parked_threads, parked_owners, parked_levels, parked_queue, parked_keys, linked_parked, fits_ranked}
-use Rattle.pif_linked.proofs.Standing.{SamePlace, laid_moved, laid_masked}
+use Rattle.pif_rtmutex.proofs.SamePlace.{SamePlace}
+use Rattle.pif_linked.proofs.Standing.{laid_moved, laid_masked}
 
 module _ (m : States) (q : Queue) (b : Buckets) (t : Table) (next : ℕ) (h : IsLinked m q b t next) (start : ℕ)
     (admitted : 1 ≤ base_of (owners_in m t) start) (repaired : IsRepairedBut start (owners_in m t)) (hops last : ℕ)

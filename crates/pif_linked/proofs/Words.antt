@@ -20,7 +20,8 @@ use Rattle.pif_linked.specs.Linked.{key_count, key_of, keys_in, IsWordOf, IsLaid
 use Rattle.pif_linked.proofs.Keys.{at_same, at_other, keys_changed, keys_found, found_some, row_word}
 use Rattle.pif_linked.proofs.Fits.{fits_owned, fits_moved}
 use Rattle.pif_linked.proofs.Leaving.{words_leave_owners, words_leave_queue}
-use Rattle.pif_linked.proofs.Standing.{SamePlace, linked, stand_made, owners_same, queue_same, levels_same, stand_same, laid_words}
+use Rattle.pif_rtmutex.proofs.SamePlace.{SamePlace}
+use Rattle.pif_linked.proofs.Standing.{linked, stand_made, owners_same, queue_same, levels_same, stand_same, laid_words}
 
 module _ (m : States) (q : Queue) (b : Buckets) (t : Table) (next : ℕ) (h : IsLinked m q b t next) where
   -- no word has the row of a state that is made

@@ -4,7 +4,7 @@ use Rattle.pif_nodes.specs.Table.{Table}
 use Rattle.pif_queue.specs.Parked.{Parked, ParkedLists, parked_at}
 use Rattle.pif_queue.specs.Numbered.{ticket_by}
 use Rattle.pif_model.specs.PiKernel.{Parking}
-use Rattle.pif_kernel.specs.InOrder.{in_order}
+use Rattle.pif_owners.specs.Arrivals.{in_order}
 
 -- the variable, the target and the priority of a thread, if it is parked; else 0
 abbrev pub parked_cond : Option Parked → ℕ

@@ -1,3 +1,4 @@
 pub mod Owners
 pub mod OwnerMaps
 pub mod Examples
+pub mod Arrivals

@@ -16,7 +16,8 @@ use Rattle.pif_boost.specs.Done.{IsDone}
 use Rattle.pif_boost.proofs.FrameLemmas.{outside-none}
 use Rattle.pif_model.specs.Graph.{greatest_where}
 use Rattle.pif_plain.specs.Together.{StandTogether}
-use Rattle.pif_plain.proofs.TogetherLemmas.{same_place, same_place_made, together_then, together_walked, together_first, levels_first, level_there}
+use Rattle.pif_rtmutex.proofs.SamePlace.{same_place, same_place_made}
+use Rattle.pif_plain.proofs.TogetherLemmas.{together_then, together_walked, together_first, levels_first, level_there}
 use Rattle.pif_plain.specs.WalkExamples.{admitted}
 use Rattle.pif_plain.specs.ChainExamples.{IsAtRest, IsChain}
 use Rattle.pif_plain.proofs.WalkTestLemmas.{idle-new, idle-admitted, idle-repaired, walked}

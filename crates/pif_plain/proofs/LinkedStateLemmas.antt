@@ -3,7 +3,7 @@ use Rattle.std.proofs.Common.{◌≡◌, ℕ, [], replicate, None, sym, ap, subs
 use Rattle.pif_nodes.specs.Table.{Table, IsApart, no_key, holder}
 use Rattle.pif_rtmutex.specs.States.{States, top_node}
 use Rattle.pif_rtmutex.specs.Holds.{HasRoom}
-use Rattle.pif_kernel.proofs.EmptyTables.{empty_table, empty_lists, empty_nodes, empty_list, empty_free}
+use Rattle.pif_runq.proofs.EmptyTables.{empty_table, empty_lists, empty_nodes, empty_list, empty_free}
 use Rattle.pif_plain.specs.ChainExamples.{IsFirst, IsAtFirst}
 
 pub at_first : (m : States) (t : Table) → IsFirst 3 m

@@ -8,7 +8,7 @@ use Rattle.pif_chains.proofs.Waiting.{Once, names, once_push, once_without, name
 use Rattle.pif_chains.proofs.KernelNumbers.{distinct-none}
 use Rattle.pif_chains.proofs.KernelParks.{parked_pairs-push, parked_pairs-without}
 use Rattle.pif_plain.specs.Rows.{AreParked}
-use Rattle.pif_kernel.proofs.QueueLaws.{few_waiters}
+use Rattle.pif_owners.proofs.ArrivalLaws.{few_waiters}
 
 -- nobody is parked
 pub none_parked : (most : ℕ) (ps : List Parking) → ps ≡ [] → AreParked most ps

@@ -6,8 +6,7 @@ use Rattle.pif_nodes.specs.Table.{Table, IsApart, holder, list_at}
 use Rattle.pif_runq.specs.Levels.{Queue, Holds, HasRoom, IsLevel, IsThreadNode, SameOutside, list_for, level_of}
 use Rattle.pif_runq.proofs.KeptLemmas.{levels-framed, queue-framed}
 use Rattle.pif_rtmutex.specs.States.{States, no_states, IsThread, wait_of, wait_node, top_node, wait_list, top_list, owners_in}
-use Rattle.pif_rtmutex.specs.Holds.{IsWaiterIn, IsTopNode}
-use Rattle.pif_rtmutex.specs.Holds.{Holds as HoldsStates, HasRoom as HasRoomForStates}
+use Rattle.pif_rtmutex.specs.Holds.{IsWaiterIn, IsTopNode, Holds as HoldsStates, HasRoom as HasRoomForStates}
 use Rattle.pif_rtmutex.specs.Frames.{SameOutside as SameOutsideStates}
 use Rattle.pif_rtmutex.proofs.FrameLemmas.{holds-framed, owners-framed}
 use Rattle.pif_boost.specs.Frames.{StandsBefore}
@@ -16,49 +15,8 @@ use Rattle.pif_boost.proofs.FrameLemmas.{states-leave, queue-leaves}
 use Rattle.pif_kernel.specs.Chained.{Chained, KeepsLevels}
 use Rattle.pif_plain.specs.Rows.{PlainRows}
 use Rattle.pif_plain.specs.Together.{StandTogether}
-use Rattle.pif_kernel.proofs.EmptyTables.{empty_table, empty_lists, empty_nodes, empty_list, empty_free, empty_level}
-
--- the lists and nodes of these owner states are where those of the others were
-pub record SamePlace (m now : States) : Type 0 where
-  pub list : now.first_list ≡ m.first_list
-  pub node : now.first_node ≡ m.first_node
-  pub threads : now.threads ≡ m.threads
-
-pub unmoved : (m now : States) → now ≡ m → SamePlace m now
-unmoved m now e = record {
-  list = ap (λ (x : States). x.first_list) e;
-  node = ap (λ (x : States). x.first_node) e;
-  threads = ap (λ (x : States). x.threads) e;
-}
-
--- where a call gave threads other rows
-pub same_place : (m now : States) → now ≡ record m { rows = now.rows } → SamePlace m now
-same_place m now e = record {
-  list = ap (λ (x : States). x.first_list) e;
-  node = ap (λ (x : States). x.first_node) e;
-  threads = ap (λ (x : States). x.threads) e;
-}
-
--- where it made a state, or ended one
-pub same_place_made : (m now : States) → now ≡ record m { free = now.free; owners = now.owners; places = now.places }
-    → SamePlace m now
-same_place_made m now e = record {
-  list = ap (λ (x : States). x.first_list) e;
-  node = ap (λ (x : States). x.first_node) e;
-  threads = ap (λ (x : States). x.threads) e;
-}
-
--- and where it handed one over
-pub same_place_handed : (m now : States) → now ≡ record m { rows = now.rows; owners = now.owners } → SamePlace m now
-same_place_handed m now e = record {
-  list = ap (λ (x : States). x.first_list) e;
-  node = ap (λ (x : States). x.first_node) e;
-  threads = ap (λ (x : States). x.threads) e;
-}
-
--- for as many threads there is room beside them
-pub room_kept : (m now : States) (room : ℕ) → SamePlace m now → m.threads ≤ room → now.threads ≤ room
-room_kept m now room place few = omega (arith, place.threads, few)
+use Rattle.pif_runq.proofs.EmptyTables.{empty_table, empty_lists, empty_nodes, empty_list, empty_free, empty_level}
+use Rattle.pif_rtmutex.proofs.SamePlace.{SamePlace}
 
 -- the owner states and the run queue that these are, with these keys and these parked threads
 abbrev pub together : States → Queue → Table → PlainRows → Chained

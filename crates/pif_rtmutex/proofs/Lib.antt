@@ -12,3 +12,4 @@ pub mod StepLemmas
 pub mod MakeLemmas
 pub mod CallLemmas
 pub mod BehindLemmas
+pub mod SamePlace

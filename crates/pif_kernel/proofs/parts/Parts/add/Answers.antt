@@ -5,7 +5,7 @@ use Rattle.pif_model.specs.PiKernel.{kernel_after_add}
 use Rattle.pif_kernel.specs.Chained.{Chained}
 use Rattle.pif_kernel.specs.Inside.{Inside, IsSound, kernel_of}
 use Rattle.pif_kernel.specs.declared.parts.Parts.TheView.{view}
-use Rattle.pif_kernel.proofs.InOrder.{found_so}
+use Rattle.pif_kernel.proofs.Found.{found_so}
 use Rattle.pif_kernel.proofs.Seats.{seats_length, limits_seen}
 use Rattle.pif_kernel.proofs.Standing.{fits, off_queue, unadded_off}
 use Rattle.pif_kernel.proofs.ParkingFacts.{unadded_unnamed}

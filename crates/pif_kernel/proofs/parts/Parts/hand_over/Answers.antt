@@ -9,7 +9,7 @@ use Rattle.pif_kernel.specs.Chained.{Chained, KeepsLevels}
 use Rattle.pif_kernel.specs.Fields.{chains_of}
 use Rattle.pif_kernel.specs.Inside.{Inside, kernel_of}
 use Rattle.pif_kernel.specs.declared.parts.Parts.TheView.{view}
-use Rattle.pif_kernel.proofs.InOrder.{found_so}
+use Rattle.pif_kernel.proofs.Found.{found_so}
 use Rattle.pif_kernel.proofs.StillWaits.{left_by}
 use Rattle.pif_kernel.proofs.TableMoved.{moved, kernel_moved, handable_moved, levels_kept_then, levels_kept_beside}
 use Rattle.pif_kernel.proofs.TopLaws.{top_is_next, some_waiter}

@@ -10,7 +10,7 @@ use Rattle.pif_kernel.specs.Chained.{Chained}
 use Rattle.pif_kernel.specs.Inside.{Inside, kernel_of, key_at}
 use Rattle.pif_kernel.specs.Opened.{IsOpened}
 use Rattle.pif_kernel.specs.declared.parts.Parts.TheView.{view}
-use Rattle.pif_kernel.proofs.InOrder.{found_so}
+use Rattle.pif_kernel.proofs.Found.{found_so}
 use Rattle.pif_kernel.proofs.WalkSound.{IsWalkable, on_levels, on_running, on_local, ended}
 use Rattle.pif_kernel.proofs.QueueingFacts.{IsEntered, entry, folded, no_cycle, local_low, place, free, on_level, before_walk}
 use Rattle.pif_kernel.proofs.ParkingFacts.{unparked_unnamed}

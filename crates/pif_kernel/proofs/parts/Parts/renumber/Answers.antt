@@ -5,7 +5,7 @@ use Rattle.pif_kernel.specs.Chained.{Chained}
 use Rattle.pif_kernel.specs.Inside.{Inside, IsSound, kernel_of, arrivals_in}
 use Rattle.pif_kernel.specs.Tickets.{IsRenumbered}
 use Rattle.pif_kernel.specs.declared.parts.Parts.TheView.{view}
-use Rattle.pif_kernel.proofs.InOrder.{found_so, renewed}
+use Rattle.pif_kernel.proofs.Found.{found_so, renewed}
 use Rattle.pif_kernel.proofs.RenumberSound.{renumberable, kernel_after, sound_after}
 use Rattle.pif_kernel.proofs.TableMoved.{moved, kernel_moved, sound_in_table}
 use Rattle.pif_kernel.proofs.TicketTurns.{numbered}

@@ -3,7 +3,7 @@ use Rattle.pif_model.specs.PiKernel.{is_living, kernel_after_set_prio}
 use Rattle.pif_kernel.specs.Chained.{Chained}
 use Rattle.pif_kernel.specs.Inside.{Inside, IsSound, kernel_of}
 use Rattle.pif_kernel.specs.declared.parts.Parts.TheView.{view}
-use Rattle.pif_kernel.proofs.InOrder.{found_so}
+use Rattle.pif_kernel.proofs.Found.{found_so}
 use Rattle.pif_kernel.proofs.WalkSound.{IsWalkable, on_levels, on_running, on_local, ended}
 use Rattle.pif_kernel.proofs.BaseSound.{walkable}
 use Rattle.pif_kernel.proofs.parts.Parts.set_base.Goals.{After-set_base}

@@ -3,7 +3,7 @@ use Rattle.pif_model.specs.PiKernel.{has_seat, is_ready, seat_at, kernel_after_s
 use Rattle.pif_kernel.specs.Chained.{Chained}
 use Rattle.pif_kernel.specs.Inside.{Inside, IsSound, kernel_of}
 use Rattle.pif_kernel.specs.declared.parts.Parts.TheView.{view}
-use Rattle.pif_kernel.proofs.InOrder.{found_so}
+use Rattle.pif_kernel.proofs.Found.{found_so}
 use Rattle.pif_kernel.proofs.Seats.{added_seen}
 use Rattle.pif_kernel.proofs.Standing.{fits, ready_queued}
 use Rattle.pif_kernel.proofs.RestSound.{kernel_stopped, sound_stopped}

@@ -4,7 +4,8 @@ use Rattle.pif_model.specs.PiKernel.{waiters_in}
 use Rattle.pif_owners.specs.Owners.{waits_on, IsTop, HasNoWaiter}
 use Rattle.pif_rtmutex.specs.Behind.{IsLast, IsBehind}
 use Rattle.pif_kernel.specs.Inside.{Inside, kernel_of}
-use Rattle.pif_kernel.proofs.WaiterOrder.{keyless, waits_at, top_at, last_at, next_at, nobody_at, none_later}
+use Rattle.pif_kernel.proofs.WaiterOrder.{keyless, waits_at, top_at, last_at, next_at, nobody_at}
+use Rattle.pif_owners.proofs.WaiterRows.{none_later}
 use Rattle.pif_kernel.proofs.parts.Parts.waiter.Goals as goal
 
 pub returns-in_err-key : goal.returns-in_err-key

@@ -8,7 +8,7 @@ use Rattle.pif_kernel.specs.Chained.{Chained, KeepsLevels}
 use Rattle.pif_kernel.specs.Fields.{chains_of}
 use Rattle.pif_kernel.specs.Inside.{Inside, IsSound, kernel_of}
 use Rattle.pif_kernel.specs.declared.parts.Parts.TheView.{view}
-use Rattle.pif_kernel.proofs.InOrder.{found_so}
+use Rattle.pif_kernel.proofs.Found.{found_so}
 use Rattle.pif_kernel.proofs.TableMoved.{moved, kernel_moved, sound_in_table, levels_kept_beside}
 use Rattle.pif_kernel.proofs.WakeSound.{rests_within, rests_level, rests_off, woken_ends}
 use Rattle.pif_kernel.proofs.parts.Parts.wake.Goals.{Start, After-unpark, After-add}

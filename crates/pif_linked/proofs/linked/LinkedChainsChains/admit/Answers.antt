@@ -7,7 +7,8 @@ use Rattle.pif_model.specs.PiKernel.{parked_pairs}
 use Rattle.pif_kernel.specs.Tickets.{is_named}
 use Rattle.pif_linked.specs.Parkings.{parkings_in}
 use Rattle.pif_linked.specs.Linked.{keys_in}
-use Rattle.pif_linked.proofs.Standing.{same_place, unparked, linked_seated}
+use Rattle.pif_rtmutex.proofs.SamePlace.{same_place}
+use Rattle.pif_linked.proofs.Standing.{unparked, linked_seated}
 use Rattle.pif_linked.proofs.linked.LinkedChainsChains.admit.Goals as goal
 
 pub admit-requires-clause-holds : goal.admit-requires-clause-holds

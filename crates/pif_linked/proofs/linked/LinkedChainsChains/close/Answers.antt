@@ -6,7 +6,8 @@ use Rattle.pif_queue.specs.Entries.{Found, found_in}
 use Rattle.pif_queue.specs.Buckets.{Buckets}
 use Rattle.pif_kernel.specs.Chained.{Chained, KeepsLevels}
 use Rattle.pif_linked.specs.Linked.{key_count}
-use Rattle.pif_linked.proofs.Standing.{linked, same_place_made}
+use Rattle.pif_linked.proofs.Standing.{linked}
+use Rattle.pif_rtmutex.proofs.SamePlace.{same_place_made}
 use Rattle.pif_linked.proofs.Words.{mutex_word, one_word, worded_owners, linked_worded, worded_kept}
 use Rattle.pif_linked.proofs.linked.LinkedChainsChains.close.Goals as goal
 

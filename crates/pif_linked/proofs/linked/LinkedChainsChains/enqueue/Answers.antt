@@ -7,7 +7,8 @@ use Rattle.pif_kernel.specs.Chained.{Chained, KeepsLevels}
 use Rattle.pif_rtmutex.specs.States.{States}
 use Rattle.pif_model.specs.PiKernel.{parked_pairs}
 use Rattle.pif_kernel.specs.Tickets.{is_named}
-use Rattle.pif_linked.proofs.Standing.{linked, same_place, idle_node, unparked, linked_seated, owners_kept}
+use Rattle.pif_linked.proofs.Standing.{linked, idle_node, unparked, linked_seated, owners_kept}
+use Rattle.pif_rtmutex.proofs.SamePlace.{same_place}
 use Rattle.pif_linked.proofs.linked.LinkedChainsChains.enqueue.Goals as goal
 
 pub enqueue-requires-clause-holds : goal.enqueue-requires-clause-holds

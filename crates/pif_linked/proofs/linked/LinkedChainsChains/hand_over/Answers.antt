@@ -7,7 +7,8 @@ use Rattle.pif_rtmutex.specs.States.{States, owners_in}
 use Rattle.pif_queue.specs.Parked.{parked_at}
 use Rattle.pif_linked.specs.Linked.{FitsParked}
 use Rattle.pif_linked.proofs.Fits.{fits_but, fits_owned}
-use Rattle.pif_linked.proofs.Standing.{linked, same_place_handed, waits_off, linked_owners, owners_kept}
+use Rattle.pif_linked.proofs.Standing.{linked, waits_off, linked_owners, owners_kept}
+use Rattle.pif_rtmutex.proofs.SamePlace.{same_place_handed}
 use Rattle.pif_linked.proofs.linked.LinkedChainsChains.hand_over.Goals as goal
 
 pub hand_over-requires-clause-holds : goal.hand_over-requires-clause-holds

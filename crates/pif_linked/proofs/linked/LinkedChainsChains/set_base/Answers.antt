@@ -8,7 +8,8 @@ use Rattle.pif_queue.specs.Parked.{parked_at}
 use Rattle.pif_linked.specs.Parkings.{parkings_in}
 use Rattle.pif_linked.specs.Linked.{keys_in, FitsParked}
 use Rattle.pif_linked.proofs.Fits.{fits_based}
-use Rattle.pif_linked.proofs.Standing.{same_place, linked_owners}
+use Rattle.pif_rtmutex.proofs.SamePlace.{same_place}
+use Rattle.pif_linked.proofs.Standing.{linked_owners}
 use Rattle.pif_linked.proofs.linked.LinkedChainsChains.set_base.Goals as goal
 
 pub set_base-requires : goal.set_base-requires

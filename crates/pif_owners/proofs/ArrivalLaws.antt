@@ -7,7 +7,9 @@ use Rattle.std.proofs.lemmas.List.{length-map}
 use Rattle.std.proofs.lemmas.Map.Steps.{length-le_from_distinct_below}
 use Rattle.pif_model.specs.Graph.{has_waiter}
 use Rattle.pif_chains.proofs.Waiting.{names, Once, once_cons, has_waiter-push}
-use Rattle.pif_kernel.specs.Inside.{Rise, mutexes_of}
+use Rattle.pif_chains.proofs.Among.{is_among_cons, is_among_here, is_among_there}
+use Rattle.pif_chains.proofs.Among.{is_among as is_waiter}
+use Rattle.pif_owners.specs.Arrivals.{Rise, mutexes_of}
 
 -- who is named has a ticket from `least` on, and below `next`
 pub rise_above : (f : ℕ → ℕ) (least : ℕ) (ws : List (ℕ × ℕ)) (next u : ℕ) → Rise f least ws next → names u ws ≡ true
@@ -162,3 +164,30 @@ few_named ws n some once within =
             let a : (0 == q) ≡ false = grind (arith, nat_tests) in
             let named : names q ws ≡ true = rw a at e in
             (within q named).1
+
+-- who stands behind has the greater ticket
+pub rise_behind : (f : ℕ → ℕ) (least : ℕ) (xs ys : List (ℕ × ℕ)) (x m next u : ℕ) → Rise f least (xs ++ (x, m) ∷ ys) next
+    → names u ys ≡ true → f x < f u
+rise_behind f least [] ys x m next u r e =
+    let up : f x + 1 ≤ f u = rise_above f (f x + 1) ys next u r.1 e in omega arith
+rise_behind f least (w ∷ xs) ys x m next u r e = rise_behind f (f w.0 + 1) xs ys x m next u r.1 e
+
+pub waiter_split : (xs ys : List (ℕ × ℕ)) (u m : ℕ) → is_waiter (xs ++ ys) u m ≡ true
+    → (is_waiter xs u m ≡ true) ⊎ (is_waiter ys u m ≡ true)
+waiter_split [] ys u m e = inr e
+waiter_split (w ∷ xs) ys u m e = by_place (is_among_cons w (xs ++ ys) u m e) (waiter_split xs ys u m)
+  where
+    by_rest : (is_waiter xs u m ≡ true) ⊎ (is_waiter ys u m ≡ true)
+        → (is_waiter (w ∷ xs) u m ≡ true) ⊎ (is_waiter ys u m ≡ true)
+    by_rest (inl r) = inl (is_among_there w xs u m r)
+    by_rest (inr r) = inr r
+
+    by_place : ((w.0 ≡ u) × (w.1 ≡ m)) ⊎ (is_waiter (xs ++ ys) u m ≡ true)
+        → (is_waiter (xs ++ ys) u m ≡ true → (is_waiter xs u m ≡ true) ⊎ (is_waiter ys u m ≡ true))
+        → (is_waiter (w ∷ xs) u m ≡ true) ⊎ (is_waiter ys u m ≡ true)
+    by_place (inl a) ih = inl (is_among_here w xs u m a.0 a.1)
+    by_place (inr r) ih = by_rest (ih r)
+
+pub waiter_middle : (xs ys : List (ℕ × ℕ)) (x m : ℕ) → is_waiter (xs ++ (x, m) ∷ ys) x m ≡ true
+waiter_middle [] ys x m = is_among_here (x, m) ys x m refl refl
+waiter_middle (w ∷ xs) ys x m = is_among_there w (xs ++ (x, m) ∷ ys) x m (waiter_middle xs ys x m)

@@ -6,7 +6,7 @@ use Rattle.pif_model.specs.Graph.{has_waiter, without}
 use Rattle.pif_chains.proofs.Among.{is_among_here, is_among_there, is_among_cons}
 use Rattle.pif_chains.proofs.Among.{is_among as is_waiter}
 use Rattle.pif_chains.proofs.Waiting.{names, Once, once_head, once_tail, without-unnamed, named-from_pair, has_waiter-from_pair, has_waiter-without_other, waited-from_pair}
-use Rattle.pif_kernel.specs.Inside.{Rise, mutexes_of}
+use Rattle.pif_owners.specs.Arrivals.{Rise, mutexes_of}
 
 rise_lower : (f : ℕ → ℕ) (a b : ℕ) (ws : List (ℕ × ℕ)) (next : ℕ) → b ≤ a → Rise f a ws next → Rise f b ws next
 rise_lower f a b [] next le r = let up : a ≤ next = r in omega (arith, le, up)

@@ -1,21 +1,14 @@
--- The waiters in order of tickets are those that are found by going through all threads.
-use Rattle.std.proofs.Common.{◌≡◌, ◌≢◌, ◌⊎◌, ℕ, zero, suc, ◌+◌, ◌<◌, ◌≤◌, ◌==◌, nat_lt, Bool, true, false, List, [], ◌∷◌, length, refl, sym, ap, subst, ◌∙◌, inl, inr, arith}
+-- Threads in order of tickets are those that are found by going through all threads.
+use Rattle.std.proofs.Common.{◌≡◌, ◌≢◌, ◌⊎◌, ℕ, zero, suc, ◌+◌, ◌<◌, ◌≤◌, ◌==◌, nat_lt, Bool, true, false, List, [], ◌∷◌, refl, sym, ap, subst, ◌∙◌, inl, inr, arith}
 use Rattle.std.proofs.lemmas.Bool.{cases_eq, true≢false, false≢true}
 use Rattle.std.proofs.lemmas.Bool.Decides.{nat_tests}
-use Rattle.pif_model.specs.declared.lines.Status.TheVariants.{Queued}
-use Rattle.pif_model.specs.Graph.{has_waiter, without}
-use Rattle.pif_model.specs.PiKernel.{Kernel, queued_on}
+use Rattle.pif_model.specs.Graph.{without}
 use Rattle.pif_chains.proofs.Among.{is_among_here, is_among_cons, is_among-without}
 use Rattle.pif_chains.proofs.Among.{is_among as is_waiter}
-use Rattle.pif_chains.proofs.Waiting.{names, without-unnamed, named-from_pair, has_waiter-from_pair}
-use Rattle.pif_chains.proofs.KernelFacts.{queued-from_number}
-use Rattle.pif_kernel.specs.InOrder.{put_in, in_order}
-use Rattle.pif_kernel.specs.Inside.{Inside, IsSound, Rise, kernel_of, status_at, state_at, owner_under, ticket_of, arrivals_in}
-use Rattle.pif_kernel.proofs.QueueLaws.{rise_above}
-use Rattle.pif_kernel.proofs.Seats.{status_seen, waiters_seen}
-use Rattle.pif_kernel.proofs.Standing.{fits}
-use Rattle.pif_kernel.proofs.Waiters.{named_known, no_key-no_waiter}
-use Rattle.pif_kernel.proofs.WaitersWithout.{rise_without, waiter_kept}
+use Rattle.pif_chains.proofs.Waiting.{names, without-unnamed, named-from_pair}
+use Rattle.pif_owners.specs.Arrivals.{put_in, in_order, Rise}
+use Rattle.pif_owners.proofs.ArrivalLaws.{rise_above}
+use Rattle.pif_owners.proofs.WaitersWithout.{rise_without, waiter_kept}
 
 -- one who stands at the head before tickets that rise stays there
 put_first : (f : ℕ → ℕ) (w : ℕ × ℕ) (ws : List (ℕ × ℕ)) (next : ℕ) → Rise f (f w.0 + 1) ws next
@@ -91,43 +84,3 @@ module _ (f on : ℕ → ℕ) where
           (λ u m e. let b = is_among-without ws n u m e in let a = within u m b.0 in (below u a.0 b.1, a.1))
           (λ u l s. waiter_kept ws n u (on u) (apart u l) (all u (omega (arith, l)) s)))
           ∙ put_back f least ws next n (on n) r there)
-
--- what is kept soundly has the waiters that are found
-pub waiters_found : (p : Inside) → IsSound p → arrivals_in p.statuses p.owners ≡ p.arrivals
-waiters_found p h =
-    in_order-is (ticket_of p.owners) (λ (t : ℕ). queued_on (status_at p t)) (length p.statuses) 1 p.arrivals p.next
-    h.placed.tickets within all
-  where
-    seen : (u m : ℕ) → is_waiter p.arrivals u m ≡ true → status_at p u ≡ Queued m
-    seen u m e =
-        sym (status_seen p (fits p h) u)
-        ∙ h.kernel.queue u m (subst (λ (ws : List (ℕ × ℕ)). is_waiter ws u m ≡ true) (sym (waiters_seen p)) e)
-
-    within : (u m : ℕ) → is_waiter p.arrivals u m ≡ true
-        → (u < length p.statuses) × ((m ≢ 0) × (queued_on (status_at p u) ≡ m))
-    within u m e = (
-      (named_known p h u (named-from_pair p.arrivals u m e)).1,
-      ((λ z. nobody m z (has_waiter-from_pair p.arrivals u m e)), ap queued_on (seen u m e)),
-    )
-      where
-        nobody : (m : ℕ) → m ≡ 0 → has_waiter p.arrivals m ≡ true → ⊥
-        nobody m z w =
-            true≢false (sym w ∙ no_key-no_waiter p h m
-            (ap (λ (n : ℕ). state_at p n) z ∙ ap (owner_under p.owners) h.placed.no_mutex))
-
-    all : (u : ℕ) → u < length p.statuses → queued_on (status_at p u) ≢ 0
-        → is_waiter p.arrivals u (queued_on (status_at p u)) ≡ true
-    all u l some =
-        subst (λ (ws : List (ℕ × ℕ)). is_waiter ws u (queued_on (status_at p u)) ≡ true) (waiters_seen p)
-        (h.kernel.queued u (queued_on (status_at p u)) (status_seen p (fits p h) u
-        ∙ queued-from_number (status_at p u) (queued_on (status_at p u)) some refl))
-
--- so it is the same with these in the place of those that it names
-pub renewed : (p : Inside) → IsSound p → record p { arrivals = arrivals_in p.statuses p.owners } ≡ p
-renewed p h = ap (λ (ws : List (ℕ × ℕ)). record p { arrivals = ws }) (waiters_found p h)
-
--- and what holds of it with any list of waiters holds of it as it is found
-pub found_so : (p : Inside) (k : Kernel) → (kernel_of p ≡ k) × IsSound p
-    → (kernel_of (record p { arrivals = arrivals_in p.statuses p.owners }) ≡ k)
-    × IsSound (record p { arrivals = arrivals_in p.statuses p.owners })
-found_so p k h = (ap kernel_of (renewed p h.1) ∙ h.0, subst IsSound (sym (renewed p h.1)) h.1)
