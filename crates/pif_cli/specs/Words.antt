@@ -10,8 +10,9 @@ use Rattle.std.specs.declared.io.ErrorKind.{ErrorKind as IoErrorKind}
 use Rattle.std.specs.declared.io.ErrorKind.TheVariants.{OutOfMemory, InvalidData}
 use Rattle.pif_scripts.specs.declared.faults.CliFault.{CliFault}
 use Rattle.pif_cli.specs.declared.words.Job.{Job}
-use Rattle.pif_cli.specs.declared.words.Job.TheVariants.{Run, Replay, Trace, Migrate, Show, Picture, Check, Fill, Random, Drive}
+use Rattle.pif_cli.specs.declared.words.Job.TheVariants.{Run, Replay, Trace, Migrate, Show, Picture, Shell, Check, Fill, Random, Drive}
 use Rattle.pif_cli.specs.declared.pictures.Picture.TheVariants.{Drawing, States, Graph}
+use Rattle.pif_scripts.specs.declared.showing.Detail.TheVariants.{Changes, All}
 use Rattle.pif_pictures.specs.Pictures.{PicturesTo}
 use Rattle.pif_cli.specs.declared.statuses.JobFault.{JobFault}
 use Rattle.pif_cli.specs.declared.statuses.JobFault.TheVariants.{Cli}
@@ -21,6 +22,7 @@ use Rattle.pif_scripts.specs.Showing.{ShowsTo}
 use Rattle.pif_scripts.specs.Traces.{ReplaysTo}
 use Rattle.pif_scripts.specs.Transcripts.{TracesTo}
 use Rattle.pif_scripts.specs.Runs.{WritesPart}
+use Rattle.pif_shell.specs.Talks.{TalksTo}
 use Rattle.pif_stories.specs.Checks.{TellsTo, checked, filled}
 use Rattle.pif_cli.specs.Messages.{TellsLine, TellsOf}
 use Rattle.pif_cli.specs.Options.{flag_in, flag_rule, number_in}
@@ -44,7 +46,7 @@ with_job pif name = with_subcommand pif (file_app name).top
 abbrev pub bare_program : App
 bare_program =
     let pif : App = new_app (codes "pif") in
-    record pif { top = record pif.top { disable_help_subcommand = true; has_version = true; subcommand_required = true } }
+    record pif { top = record pif.top { has_version = true; subcommand_required = true } }
 
 -- how many clients `drive` has: a number from 1 to 64, which must be given
 abbrev pub clients_rule : Rule
@@ -67,22 +69,31 @@ files_rule =
 abbrev pub check_app : App
 check_app = with_rule (with_rule (new_app (codes "check")) print_rule) files_rule
 
+-- the command `show` for a person, with its flag for all there is
+abbrev pub shown_app : App
+shown_app = with_rule (new_app (codes "show")) (flag_rule (codes "all"))
+
 -- the command `show`, for a person or, by a flag, for programs
 abbrev pub show_app : App
-show_app =
-    with_rule (with_rule (with_rule (new_app (codes "show")) (flag_rule (codes "json"))) (flag_rule (codes "dot")))
-    file_rule
+show_app = with_rule (with_rule (with_rule shown_app (flag_rule (codes "json"))) (flag_rule (codes "dot"))) file_rule
 
--- a program with the commands over scripts and stories that show answers: `run`, `show`, `draw` and `check`
+-- the command `shell`, which takes no words
+abbrev pub shell_app : App
+shell_app = new_app (codes "shell")
+
+-- a program with the commands that run a script and show its states: `run`, `show` and `draw`
+abbrev pub with_states : App → App
+with_states pif = with_job (with_subcommand (with_job pif (codes "run")) show_app.top) (codes "draw")
+
+-- a program with the commands over scripts and stories that show answers: these, `shell` and `check`
 abbrev pub with_runs : App → App
-with_runs pif =
-    with_subcommand (with_job (with_subcommand (with_job pif (codes "run")) show_app.top) (codes "draw")) check_app.top
+with_runs pif = with_subcommand (with_subcommand (with_states pif) shell_app.top) check_app.top
 
 -- a program with the commands over traces: `replay`, `trace` and `migrate`
 abbrev pub with_traces : App → App
 with_traces pif = with_job (with_job (with_job pif (codes "replay")) (codes "trace")) (codes "migrate")
 
--- the program's commands: `run`, `show`, `draw`, `check`, `replay`, `trace`, `migrate`, `random` and `drive`
+-- the program's commands: `run`, `show`, `draw`, `shell`, `check`, `replay`, `trace`, `migrate`, `random` and `drive`
 abbrev pub program : App
 program = with_subcommand (with_subcommand (with_traces (with_runs bare_program)) random_app.top) drive_app.top
 
@@ -90,11 +101,13 @@ program = with_subcommand (with_subcommand (with_traces (with_runs bare_program)
 abbrev pub refusals_of : List (List ℕ) → Kinds
 refusals_of words = fault_of program words
 
--- how a script is shown: for a person, or as a picture that a flag names; of both flags the first counts
+-- how a script is shown: for a person, with what changes or with all there is, or as a picture that a flag names; of
+-- several flags the first of `--json`, `--dot` and `--all` counts
 abbrev pub shown_in : List Row → Job
 shown_in rows =
     if flag_in (codes "json") rows then Picture States
-    else (if flag_in (codes "dot") rows then Picture Graph else Show)
+    else (if flag_in (codes "dot") rows then Picture Graph
+    else (if flag_in (codes "all") rows then Show All else Show Changes))
 
 -- the job of this name, with what was given to it
 abbrev pub job_named : Text → List Row → Job
@@ -104,9 +117,10 @@ job_named name rows =
     else (if bytes_eq name (codes "migrate") then Migrate
     else (if bytes_eq name (codes "show") then shown_in rows
     else (if bytes_eq name (codes "draw") then Picture Drawing
+    else (if bytes_eq name (codes "shell") then Shell
     else (if bytes_eq name (codes "check") then (if flag_in (codes "print") rows then Fill else Check)
     else (if bytes_eq name (codes "random") then Random (recipe_in rows)
-    else (if bytes_eq name (codes "drive") then Drive (number_in 1 64 (first_of (codes "N") rows)) else Run)))))))
+    else (if bytes_eq name (codes "drive") then Drive (number_in 1 64 (first_of (codes "N") rows)) else Run))))))))
 
 -- the job of a command, by its name and what was given to it
 abbrev pub job_by : Option (Text × List Row) → Job
@@ -162,8 +176,9 @@ Does Run name before after held holds result = EndsAsCli (RunsTo before after he
 Does Replay name before after held holds result = EndsAsCli (ReplaysTo before after held holds) result
 Does Trace name before after held holds result = EndsAsCli (TracesTo before after held holds) result
 Does Migrate name before after held holds result = EndsAsCli (MigratesTo before after held holds) result
-Does Show name before after held holds result = EndsAsCli (ShowsTo before after held holds) result
+Does (Show detail) name before after held holds result = EndsAsCli (ShowsTo before after held holds) result
 Does (Picture picture) name before after held holds result = EndsAsCli (PicturesTo before after held holds) result
+Does Shell name before after held holds result = EndsAsCli (TalksTo before after held holds) result
 Does Check name before after held holds result = EndsAsCli (TellsTo (checked name) before after held holds) result
 Does Fill name before after held holds result = EndsAsCli (TellsTo (filled name) before after held holds) result
 Does (Random recipe) name before after held holds result =

@@ -2,16 +2,19 @@ use crate::messages::Message;
 use crate::statuses::JobFault;
 use crate::words::{Job, STANDARD_NAME};
 use pif_scripts::{Cause, CliFault, Notice};
+use pif_show::{errno_name, errno_of};
 use pif_slips::{Slip, Wrong, read_command};
-use pif_text::Command;
+use pif_text::{Command, split_answer};
+use pif_types::Errno;
 use std::fmt::Write;
+use std::str::from_utf8;
 
 /// What a person is told of a fault of a job over an input of this name.
 pub fn message_of(job: Job, name: &str, fault: JobFault, notice: &Notice) -> Message {
     match fault {
         JobFault::Cli(CliFault::Read) => unread(name),
         JobFault::Cli(fault) => match job {
-            Job::Check | Job::Fill | Job::Picture(_) => story_message(name, fault),
+            Job::Check | Job::Fill | Job::Picture(_) => story_message(name, fault, notice),
             _ => text_message(job, fault, notice),
         },
         JobFault::Threads => said("a thread cannot be started"),
@@ -39,40 +42,50 @@ fn said(words: &str) -> Message {
 
 /// What a person is told of a fault of a script or a trace: of a line its number, the cause, and its text.
 fn text_message(job: Job, fault: CliFault, notice: &Notice) -> Message {
+    let message = Message::new();
     match fault {
         CliFault::Script(number, Cause::Command) => match job {
-            Job::Replay | Job::Migrate => no_traced(number, notice),
-            _ => no_command(number, notice.line()),
+            Job::Replay | Job::Migrate => no_traced(message, number, notice),
+            _ => no_command(message, number, notice.line()),
         },
-        CliFault::Script(number, cause) => told(number, plain_cause(cause), notice.line()),
+        CliFault::Script(number, cause) => {
+            told(message, number, plain_cause(cause), notice.line())
+        }
         CliFault::Differs(number) => difference(number, notice),
         CliFault::Read | CliFault::Write | CliFault::NoMemory => plain_message(fault),
     }
 }
 
 /// What a person is told of the line of this number: these words, and its text.
-fn told(number: u64, words: &str, line: &[u8]) -> Message {
-    let mut message = Message::new();
+fn told(message: Message, number: u64, words: &str, line: &[u8]) -> Message {
+    let mut message = message;
     let _ = write!(message, "line {number}: {words}");
     show_line(line, &mut message);
     message
 }
 
-/// What a person is told of a fault of a story of this name: of a line its number, and what is wrong with it. The line
-/// itself stands in the output.
-fn story_message(name: &str, fault: CliFault) -> Message {
-    let (number, words) = match fault {
-        CliFault::Script(number, cause) => (number, plain_cause(cause)),
-        CliFault::Differs(number) => (number, "the core gives another answer"),
-        CliFault::Read | CliFault::Write | CliFault::NoMemory => return plain_message(fault),
-    };
+/// The front of what a person is told of an input of this name: its name, unless it is the standard input.
+fn message_on(name: &str) -> Message {
     let mut message = Message::new();
     if name != STANDARD_NAME {
         message.show(name.as_bytes());
         message.say(": ");
     }
-    let _ = write!(message, "line {number}: {words}");
     message
+}
+
+/// What a person is told of a fault of a story of this name: of a line its number, what is wrong with it, and the text of
+/// one that is no command. The line of another fault, and of a difference, stands in the output of `check`.
+fn story_message(name: &str, fault: CliFault, notice: &Notice) -> Message {
+    let (number, words) = match fault {
+        CliFault::Script(number, Cause::Command) => {
+            return no_command(message_on(name), number, notice.line());
+        }
+        CliFault::Script(number, cause) => (number, plain_cause(cause)),
+        CliFault::Differs(number) => (number, "the core gives another answer"),
+        CliFault::Read | CliFault::Write | CliFault::NoMemory => return plain_message(fault),
+    };
+    told(message_on(name), number, words, b"")
 }
 
 /// What a person is told of a fault by its own text alone.
@@ -95,13 +108,28 @@ fn difference(number: u64, notice: &Notice) -> Message {
     let mut message = Message::new();
     let _ = write!(message, "line {number}: recorded '");
     if let Some((_, recorded)) = notice.parts() {
-        message.show(recorded);
+        show_answer(recorded, &mut message);
     }
     message.say("', but the core gives '");
-    message.show(notice.given());
+    show_answer(notice.given(), &mut message);
     message.say("'");
     show_line(notice.line(), &mut message);
     message
+}
+
+/// Appends what a line is answered, with the name of an error behind its number.
+fn show_answer(answer: &[u8], message: &mut Message) {
+    message.show(answer);
+    if let Some(error) = error_in(answer) {
+        message.say(" ");
+        message.say(errno_name(error));
+    }
+}
+
+/// The error that an answer has, if it is that of a call that failed.
+fn error_in(answer: &[u8]) -> Option<Errno> {
+    let text = from_utf8(answer).ok()?;
+    errno_of(text.strip_prefix("answer ")?.parse::<u32>().ok()?)
 }
 
 /// The words of a cause, where it has just these.
@@ -118,10 +146,10 @@ fn plain_cause(cause: Cause) -> &'static str {
     }
 }
 
-/// What a person is told of a slip in the line of this number: its column, what is wrong, the nearest word and the form
-/// of the command, if there are such, and the text of the line.
-fn slip_message(number: u64, slip: Slip, line: &[u8]) -> Message {
-    let mut message = Message::new();
+/// What a person is told of a slip in the line of this number, behind the front of the message: its column, what is
+/// wrong, the nearest word and the form of the command, if there are such, and the text of the line.
+fn slip_message(message: Message, number: u64, slip: Slip, line: &[u8]) -> Message {
+    let mut message = message;
     let _ = write!(message, "line {number}");
     if slip.wrong != Wrong::Empty {
         let column = slip.column;
@@ -144,35 +172,83 @@ fn say_hint(words: &str, hint: Option<&'static str>, message: &mut Message) {
     }
 }
 
-/// Why a line of a script is no command there.
-fn no_command(number: u64, line: &[u8]) -> Message {
+/// Why a line of a script is no command there, behind the front of the message.
+fn no_command(message: Message, number: u64, line: &[u8]) -> Message {
     if line.starts_with(b"pif-trace ") {
-        return told(number, "a trace is no script: 'pif replay' takes it", line);
+        let words = "a trace is no script: 'pif replay' takes it";
+        return told(message, number, words, line);
+    }
+    if is_answered(line) {
+        let words = "a story is no script: 'pif check' takes it";
+        return told(message, number, words, line);
     }
     match read_command(line) {
-        Ok(_) => told(number, "limits may stand on the first line only", line),
-        Err(slip) => slip_message(number, slip, line),
+        Ok(_) => {
+            let words = "limits may stand on the first line only";
+            told(message, number, words, line)
+        }
+        Err(slip) => slip_message(message, number, slip, line),
     }
 }
 
-/// Why a line of a trace is no command there.
-fn no_traced(number: u64, notice: &Notice) -> Message {
+/// Whether a line is a command with an answer behind it, as in a story.
+fn is_answered(line: &[u8]) -> bool {
+    match split_answer(line) {
+        Some((command, _)) => read_command(without_blanks(command)).is_ok(),
+        None => false,
+    }
+}
+
+/// A text without the blanks at its end.
+fn without_blanks(text: &[u8]) -> &[u8] {
+    let mut front = text;
+    for _ in 0..text.len() {
+        match front {
+            [shorter @ .., b' '] => front = shorter,
+            _ => return front,
+        }
+    }
+    front
+}
+
+/// Why a line of a trace is no command there, behind the front of the message.
+fn no_traced(message: Message, number: u64, notice: &Notice) -> Message {
     let line = notice.line();
     if line.ends_with(b"\r") {
-        return told(number, Wrong::CarriageReturn.words(), line);
+        return told(message, number, Wrong::CarriageReturn.words(), line);
     }
     if number == 1 {
-        let words = "the first line of a trace is 'pif-trace 1' or 'pif-trace 2'";
-        return told(number, words, line);
+        return told(message, number, no_header(line), line);
     }
     let Some((command, _)) = notice.parts() else {
-        return told(number, "no ' = ' with an answer behind it", line);
+        return told(message, number, "no ' = ' with an answer behind it", line);
     };
     match read_command(command) {
-        Ok(Command::Limits(_, _, _, _)) => {
-            told(number, "limits may stand on the second line only", line)
-        }
-        Ok(_) => told(number, "no such command in a trace", line),
-        Err(slip) => slip_message(number, slip, line),
+        Ok(command) => told(message, number, not_traced(command), line),
+        Err(slip) => slip_message(message, number, slip, line),
+    }
+}
+
+/// Why a first line is none of a trace.
+fn no_header(line: &[u8]) -> &'static str {
+    if line.starts_with(b"pif-trace ") {
+        "there are traces of version 1 and of version 2 only"
+    } else if read_command(line).is_ok() {
+        "a script is no trace: 'pif run' takes it"
+    } else if is_answered(line) {
+        "a story is no trace: 'pif check' takes it"
+    } else {
+        "the first line of a trace is 'pif-trace 1' or 'pif-trace 2'"
+    }
+}
+
+/// Why a command has no place in a trace.
+fn not_traced(command: Command) -> &'static str {
+    match command {
+        Command::Limits(_, _, _, _) => "limits may stand on the second line only",
+        Command::Ask(_) => "a question has no place in a trace",
+        Command::Run(_, _) => "a trace has 'begin' and 'go' in place of 'call' and 'finish'",
+        Command::Add(_) | Command::Event(_) =>
+            "a trace of version 1 has no deadlines and no 'tick'",
     }
 }

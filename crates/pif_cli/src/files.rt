@@ -1,9 +1,13 @@
-ghost use Rattle.std.specs.Prelude.{◌≡◌, map};
-ghost use Rattle.pif_cli.specs.Messages.{TellsLine};
-ghost use Rattle.pif_cli.specs.Words.{DidAll, DidFile, DidOver, EndsIf, files_of, first_status, inputs_of, job_of, refusals_of};
+ghost use Rattle.std.specs.Prelude.{◌≡◌, ℕ, List, map};
+ghost use Rattle.pif_cli.specs.Messages.{TellsLine, TellsOf};
+ghost use Rattle.pif_cli.specs.Statuses.{job_status};
+ghost use Rattle.pif_cli.specs.Words.{Did, DidAll, DidFile, DidOver, EndsIf, as_job, files_of, first_status, inputs_of, job_of, refusals_of};
 
 use crate::causes::unread;
-use crate::words::{Job, STANDARD_NAME, do_and_tell, read_words, refuse};
+use crate::shelves::FileShelf;
+use crate::words::{Job, STANDARD_NAME, do_and_tell, fail, near_command, read_words, refuse};
+use pif_scripts::CliFault;
+use pif_shell::shell;
 use std::convert::AsStr;
 use std::fs;
 use std::io::{Read, Write};
@@ -38,11 +42,58 @@ fn do_file<P: AllocGlobal + Files + Threads + Wait + Sync, W: Write, E: Write>(
     }
 }
 
+/// Tells `errors` how a job over a script or a trace has ended. Answers the status.
+fn tell_end<E: Write>(done: Result<(), CliFault>, errors: &mut E) -> u8
+    ensures status { result ≡ job_status (as_job done) }
+    ensures told { TellsOf (as_job done) (E.contents errors.old) (E.contents errors.new) }
+{
+    match done {
+        Ok(()) => 0,
+        Err(fault) => fail(fault, errors),
+    }
+}
+
+/// Lets a person talk with a shell that saves its stories in the files of the process. Answers the status.
+fn talk<P: AllocGlobal + Files, R: Read, W: Write, E: Write>(
+    process: &P,
+    is_terminal: bool,
+    input: &mut R,
+    output: &mut W,
+    errors: &mut E,
+) -> u8
+    ensures { (name : List ℕ) → Did Job.Shell name (R.remaining input.old) (R.remaining input.new)
+        (W.contents output.old) (W.contents output.new) (E.contents errors.old) (E.contents errors.new) result }
+{
+    let shelf = FileShelf::new(process);
+    let done = shell(process.alloc(), &shelf, is_terminal, input, output);
+    tell_end(done, errors)
+}
+
+/// Does a job over the standard input, which has this name. Answers the status.
+fn do_input<P: AllocGlobal + Files + Threads + Wait + Sync, R: Read, W: Write, E: Write>(
+    job: Job,
+    name: &str,
+    process: &P,
+    is_terminal: bool,
+    input: &mut R,
+    output: &mut W,
+    errors: &mut E,
+) -> u8
+    ensures { Did job name.now (R.remaining input.old) (R.remaining input.new)
+        (W.contents output.old) (W.contents output.new) (E.contents errors.old) (E.contents errors.new) result }
+{
+    match job {
+        Job::Shell => talk(process, is_terminal, input, output, errors),
+        _ => do_and_tell(job, name, process.alloc(), process, input, output, errors),
+    }
+}
+
 /// Does a job over the file of this name, or over `input` if it is that of the standard input. Answers the status.
 fn do_over<P: AllocGlobal + Files + Threads + Wait + Sync, R: Read, W: Write, E: Write>(
     job: Job,
     name: &str,
     process: &P,
+    is_terminal: bool,
     input: &mut R,
     output: &mut W,
     errors: &mut E,
@@ -51,7 +102,7 @@ fn do_over<P: AllocGlobal + Files + Threads + Wait + Sync, R: Read, W: Write, E:
         (W.contents output.old) (W.contents output.new) (E.contents errors.old) (E.contents errors.new) result }
 {
     if name == STANDARD_NAME {
-        do_and_tell(job, name, process.alloc(), process, input, output, errors)
+        do_input(job, name, process, is_terminal, input, output, errors)
     } else {
         do_file(job, name, process, output, errors)
     }
@@ -69,6 +120,7 @@ fn do_all<P: AllocGlobal + Files + Threads + Wait + Sync, R: Read, W: Write, E: 
     job: Job,
     names: &[&str],
     process: &P,
+    is_terminal: bool,
     input: &mut R,
     output: &mut W,
     errors: &mut E,
@@ -78,7 +130,7 @@ fn do_all<P: AllocGlobal + Files + Threads + Wait + Sync, R: Read, W: Write, E: 
 {
     let mut status = 0;
     for name in names {
-        let ended = do_over(job, *name, process, input, output, errors);
+        let ended = do_over(job, *name, process, is_terminal, input, output, errors);
         status = first_status(status, ended);
     }
     status
@@ -90,6 +142,7 @@ fn do_inputs<P: AllocGlobal + Files + Threads + Wait + Sync, R: Read, W: Write, 
     job: Job,
     files: &[&str],
     process: &P,
+    is_terminal: bool,
     input: &mut R,
     output: &mut W,
     errors: &mut E,
@@ -102,24 +155,26 @@ fn do_inputs<P: AllocGlobal + Files + Threads + Wait + Sync, R: Read, W: Write, 
             job,
             [STANDARD_NAME].as_slice(),
             process,
+            is_terminal,
             input,
             output,
             errors,
         ),
-        [_, ..] => do_all(job, files, process, input, output, errors),
+        [_, ..] => do_all(job, files, process, is_terminal, input, output, errors),
     }
 }
 
 /// The program over its words, as `command` is, but for the files that they name, which are opened as the process opens
 /// them: the job is done over each in turn, and over `input` for `-`, and if they name none. The status is the first
-/// that is not 0. Of a file that cannot be opened `errors` is told in one line, and its status is 3.
+/// that is not 0. Of a file that cannot be opened `errors` is told in one line, and its status is 3. `is_terminal` says
+/// whether `input` is a terminal, where `pif shell` writes a prompt.
 pub fn command_over_files<
     P: AllocGlobal + Files + Threads + Wait + Sync,
     S: AsStr,
     R: Read,
     W: Write,
     E: Write,
->(process: &P, words: &[S], input: &mut R, output: &mut W, errors: &mut E) -> u8
+>(process: &P, is_terminal: bool, words: &[S], input: &mut R, output: &mut W, errors: &mut E) -> u8
     ensures { EndsIf (refusals_of (map S.text words.now))
         (DidAll (job_of (map S.text words.now)) (inputs_of (files_of (map S.text words.now)))
         (R.remaining input.old) (R.remaining input.new)
@@ -132,10 +187,11 @@ pub fn command_over_files<
             asked.job,
             asked.files.as_slice(),
             process,
+            is_terminal,
             input,
             output,
             errors,
         ),
-        Err(error) => refuse(process.alloc(), error, output, errors),
+        Err(error) => refuse(process.alloc(), error, near_command(words), output, errors),
     }
 }

@@ -19,10 +19,16 @@ pub const ABOUT_TRACE: &str = "Reads a script, and writes the trace that 'pif re
 pub const ABOUT_MIGRATE: &str = "Reads a trace, and writes it as a trace of version 2";
 
 /// What `show` does.
-pub const ABOUT_SHOW: &str = "Reads a script, and shows for each line the answer and the state";
+pub const ABOUT_SHOW: &str = "Reads a script, and shows for each line the answer and what changes";
 
 /// What `draw` does.
 pub const ABOUT_DRAW: &str = "Reads a story or a script, and draws it as an SVG image";
+
+/// What the flag of `show` for all there is does.
+pub const ABOUT_ALL: &str = "Prints all there is behind each line, not just what has changed";
+
+/// What `shell` does.
+pub const ABOUT_SHELL: &str = "Answers a script line by line while a person types it";
 
 /// What the flag of `show` for JSON does.
 pub const ABOUT_JSON: &str = "Writes the state behind each command as a line of JSON";
@@ -58,10 +64,13 @@ pub const USAGE_TRACE: &str = "pif trace [FILE]";
 pub const USAGE_MIGRATE: &str = "pif migrate [FILE]";
 
 /// How `show` is called.
-pub const USAGE_SHOW: &str = "pif show [--json | --dot] [FILE]";
+pub const USAGE_SHOW: &str = "pif show [--all | --json | --dot] [FILE]";
 
 /// How `draw` is called.
 pub const USAGE_DRAW: &str = "pif draw [FILE]";
+
+/// How `shell` is called.
+pub const USAGE_SHELL: &str = "pif shell";
 
 /// What `random` does.
 pub const ABOUT_RANDOM: &str = "Writes a random script, the same for the same seed";
@@ -201,25 +210,28 @@ pub const MORE_SHOW: &str =
     "A script comes from FILE, or from the standard input, as 'pif run' takes it;
 'pif run --help' names its commands.
 
-For each line it prints the line behind '> ', what 'pif run' answers it, and
-what there is then:
+For each line it prints the line behind '> ', what 'pif run' answers it, with
+the name of an error behind its number, and those of these lines that it has
+changed; with --all, all of them:
   time N         the time, once one was handed in
   tN             its effective priority, and its base priority if that differs;
                  what it does; the call that it has open; the mutexes that it
                  holds
-  mN             its kind, and whether it is robust; its health; its word; its
-                 owner; its waiters, the next one first
+  mN             its kind; of a robust one its state by POSIX, and its health
+                 word if that still says something else; its word; its owner;
+                 its waiters, the next one first
   cN             its mutex; how often it was used; who is parked on it, the next
                  one first
   run queue      the threads that are ready, the one that runs next first
   chain          who waits for which mutex, who holds it, and for which that one
                  waits
-What is empty is left out. This text is for reading, and may change; 'pif run'
-prints for programs.
+What is empty is left out; if a line has emptied the run queue, or ended the
+last chain, 'none' stands there. This text is for reading, and may change; 'pif
+run' prints for programs.
 
 With --json or --dot it takes a story too, reads all of it first, and prints
-nothing of one with a fault. docs/FORMATS.md says what they print. With both
-flags, --json counts.
+nothing of one with a fault. docs/FORMATS.md says what they print. Of several
+flags the first of --json, --dot and --all counts.
 
 Status: 0 done, 1 wrong words, 2 a fault of the script, 3 a read or write
 failed, 4 out of memory.
@@ -240,6 +252,24 @@ All is read first, and nothing is printed of a story with a fault.
 Status: 0 done, 1 wrong words, 2 a fault of the story, 3 a read or write failed,
 4 out of memory.
 Standard error says what went wrong, and in which line.";
+
+/// The end of the help of `shell`.
+pub const MORE_SHELL: &str =
+    "It reads one command a line, as 'pif run --help' names them, and answers each at
+once, with the name of an error behind its number. A line that begins with '#',
+and an empty one, are passed over. A line that is no command is told so, and
+changes nothing.
+
+Besides, it knows
+  help          names the commands; 'help WORD' tells of one, or of a call
+  state         shows what there is, as 'pif show' does
+  undo          takes the last command back
+  save FILE     saves the commands with their answers as a story, in a new file
+
+At a terminal each line has '> ' before it. The end of input, Ctrl-D, ends.
+
+Status: 0 at the end of input, 1 wrong words, 3 a read or write failed.
+Standard error says what went wrong.";
 
 /// The end of the help of `check`.
 pub const MORE_CHECK: &str =

@@ -12,6 +12,7 @@ mod options;
 mod pictures;
 mod process;
 mod random;
+mod shelves;
 mod statuses;
 mod words;
 
@@ -19,7 +20,7 @@ pub use pif_scripts::{
     Cause, CliFault, migrate, migrated_trace_has_its_verdict, replay, run,
     script_trace_is_the_same, trace, write_trace, written_trace_is_the_same,
 };
-pub use process::command_of_process;
+pub use process::{command_at_terminal, command_of_process};
 pub use statuses::Status;
 pub use words::{command, random_lines_have_a_bound, words_of_the_program};
 

@@ -2,7 +2,7 @@
 ghost use Rattle.pif_pictures.specs.Pictures.{PicturesTo};
 
 use pif_pictures::{draw, write_graph, write_states};
-use pif_scripts::CliFault;
+use pif_scripts::{CliFault, Notice};
 use std::alloc::Global;
 use std::io::{Read, Write};
 
@@ -17,7 +17,7 @@ pub enum Picture {
     Graph,
 }
 
-/// Reads a story or a script, and writes this picture of it.
+/// Reads a story or a script, and writes this picture of it; `notice` keeps the command that is a fault.
 ///
 /// # Errors
 ///
@@ -28,12 +28,13 @@ pub fn write_picture<R: Read, W: Write>(
     alloc: Global,
     input: &mut R,
     output: &mut W,
+    notice: &mut Notice,
 ) -> Result<(), CliFault>
     ensures { PicturesTo (R.remaining input.old) (R.remaining input.new) (W.contents output.old) (W.contents output.new) result }
 {
     match picture {
-        Picture::Drawing => draw(alloc, input, output),
-        Picture::States => write_states(alloc, input, output),
-        Picture::Graph => write_graph(alloc, input, output),
+        Picture::Drawing => draw(alloc, input, output, notice),
+        Picture::States => write_states(alloc, input, output, notice),
+        Picture::Graph => write_graph(alloc, input, output, notice),
     }
 }

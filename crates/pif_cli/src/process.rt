@@ -16,10 +16,36 @@ use std::{env, io};
 /// What is said if a word is no text.
 const NO_TEXT: &str = "error: a word is not UTF-8\n";
 
+/// The program over the words of a process, as `command_of_process` has it; if `is_terminal`, `input` is a terminal, and
+/// `pif shell` writes a prompt before each line that it reads.
+pub fn command_at_terminal<
+    P: Env + AllocGlobal + Files + Threads + Wait + Sync,
+    R: Read,
+    W: Write,
+    E: Write,
+>(process: &P, is_terminal: bool, input: &mut R, output: &mut W, errors: &mut E) -> Status
+    ensures { (words : Result (List (List ℕ)) IoErrorKind) × EndsOver words (R.remaining input.old) (R.remaining input.new)
+        (W.contents output.old) (W.contents output.new) (E.contents errors.old) (E.contents errors.new) result }
+{
+    match words_of(process) {
+        Ok(words) => Status::new(command_over_files(
+            process,
+            is_terminal,
+            words.as_slice(),
+            input,
+            output,
+            errors,
+        )),
+        Err(error) => Status::new(refuse(error.kind(), errors)),
+    }
+}
+
 /// The program over the words of a process, its name first, as `command` is over words at hand: `main` hands over the
 /// process and its streams, and ends with what it is answered. The process starts the threads, and opens the files that
 /// the words name: the job is done over each in turn, and over `input` for `-`, and if they name none. The status is
 /// the first that is not 0. Of a file that cannot be opened `errors` is told in one line, and its status is 3.
+///
+/// A story that `pif shell` saves is a new file of the process; it writes no prompt.
 ///
 /// Where the words cannot be had, nothing is read. The status is then 1 where one of them is not UTF-8, which `errors`
 /// is told; 4 for want of memory; and 3 where they cannot be read, or where `errors` cannot be told of such a word. At
@@ -33,16 +59,7 @@ pub fn command_of_process<
     ensures { (words : Result (List (List ℕ)) IoErrorKind) × EndsOver words (R.remaining input.old) (R.remaining input.new)
         (W.contents output.old) (W.contents output.new) (E.contents errors.old) (E.contents errors.new) result }
 {
-    match words_of(process) {
-        Ok(words) => Status::new(command_over_files(
-            process,
-            words.as_slice(),
-            input,
-            output,
-            errors,
-        )),
-        Err(error) => Status::new(refuse(error.kind(), errors)),
-    }
+    command_at_terminal(process, false, input, output, errors)
 }
 
 /// The words of a process, its name first.

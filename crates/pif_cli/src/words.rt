@@ -2,20 +2,20 @@ ghost use Rattle.std.specs.Prelude.{◌≡◌, ◌≤◌, ◌⊎◌, ℕ, List, 
 ghost use Rattle.std.specs.Io.KnownBytes.{Keeps};
 ghost use Rattle.clap.specs.Words.{app_of, FailsBy, found_of, kind_of, rows_of, rule_of};
 ghost use Rattle.clap.specs.declared.builder.command.Command.TheViews.{out-Command};
-ghost use Rattle.clap.specs.declared.error.kind.ErrorKind.TheVariants.{DisplayHelp, DisplayVersion, MissingRequiredArgument, MissingSubcommand, ValueValidation};
+ghost use Rattle.clap.specs.declared.error.kind.ErrorKind.TheVariants.{DisplayHelp, DisplayVersion, InvalidSubcommand, MissingRequiredArgument, MissingSubcommand, ValueValidation};
 ghost use Rattle.pif_cli.specs.Messages.{TellsAt, TellsLine};
 ghost use Rattle.pif_cli.specs.Random.{plain_shape};
 ghost use Rattle.pif_cli.specs.Statuses.{fault_status};
-ghost use Rattle.pif_cli.specs.Words.{program, refusals_of, job_of, job_named, files_in, files_of, file_app, file_rule, files_rule, show_app, shown_in, check_app, first_name, name_of, clients_rule, drive_app, Did, Does, as_job, EndsBy, HadNoMemory, RefusedFor, Shows, ShowsHelp, bare_program, with_job, with_runs, with_traces};
+ghost use Rattle.pif_cli.specs.Words.{program, refusals_of, job_of, job_named, files_in, files_of, file_app, file_rule, files_rule, shell_app, show_app, shown_app, shown_in, check_app, first_name, name_of, clients_rule, drive_app, Did, Does, as_job, EndsBy, HadNoMemory, RefusedFor, Shows, ShowsHelp, bare_program, with_job, with_runs, with_states, with_traces};
 
 use crate::causes::{message_of, plain_message};
 use crate::drive::drive;
 use crate::helps::{
-    ABOUT, ABOUT_CHECK, ABOUT_CLIENTS, ABOUT_DOT, ABOUT_DRAW, ABOUT_DRIVE, ABOUT_FILE, ABOUT_FILES,
-    ABOUT_JSON, ABOUT_MIGRATE, ABOUT_PRINT, ABOUT_REPLAY, ABOUT_RUN, ABOUT_SHOW, ABOUT_TRACE,
-    EXAMPLE, MORE_CHECK, MORE_DRAW, MORE_DRIVE, MORE_MIGRATE, MORE_REPLAY, MORE_RUN, MORE_SHOW,
-    MORE_TRACE, USAGE_CHECK, USAGE_DRAW, USAGE_DRIVE, USAGE_MIGRATE, USAGE_REPLAY, USAGE_RUN,
-    USAGE_SHOW, USAGE_TRACE, VERSION,
+    ABOUT, ABOUT_ALL, ABOUT_CHECK, ABOUT_CLIENTS, ABOUT_DOT, ABOUT_DRAW, ABOUT_DRIVE, ABOUT_FILE,
+    ABOUT_FILES, ABOUT_JSON, ABOUT_MIGRATE, ABOUT_PRINT, ABOUT_REPLAY, ABOUT_RUN, ABOUT_SHELL,
+    ABOUT_SHOW, ABOUT_TRACE, EXAMPLE, MORE_CHECK, MORE_DRAW, MORE_DRIVE, MORE_MIGRATE, MORE_REPLAY,
+    MORE_RUN, MORE_SHELL, MORE_SHOW, MORE_TRACE, USAGE_CHECK, USAGE_DRAW, USAGE_DRIVE,
+    USAGE_MIGRATE, USAGE_REPLAY, USAGE_RUN, USAGE_SHELL, USAGE_SHOW, USAGE_TRACE, VERSION,
 };
 use crate::options::{flag_given, is_given, small_number_in};
 use crate::pictures::{Picture, write_picture};
@@ -24,10 +24,12 @@ use crate::statuses::{JobFault, fault_status, job_fault_status};
 use clap::builder::ValueParser;
 use clap::error::ErrorKind;
 use pif_scripts::{
-    CliFault, Notice, migrate_noting, replay_noting, run_noting, show_noting, trace_noting,
+    CliFault, Detail, Notice, migrate_noting, replay_noting, run_noting, show_noting, trace_noting,
     write_whole,
 };
-use pif_stories::{check, fill};
+use pif_shell::{NoShelf, shell};
+use pif_slips::nearest_name;
+use pif_stories::{check_noting, fill_noting};
 use std::alloc::{AllocError, Global};
 use std::convert::AsStr;
 use std::io::{Read, Write};
@@ -48,10 +50,12 @@ pub enum Job {
     Trace,
     /// `migrate`: write a trace as one of version 2.
     Migrate,
-    /// `show`: run a script, and show it to a person.
-    Show,
+    /// `show`: run a script, and show it to a person, with what changes by each line, or by `--all` with all there is.
+    Show(Detail),
     /// `draw`, `show --json` and `show --dot`: make a picture of a story.
     Picture(Picture),
+    /// `shell`: answer a script while a person types it.
+    Shell,
     /// `check`: check a story.
     Check,
     /// `check --print`: fill a story in.
@@ -70,7 +74,6 @@ fn bare_program<'a>(alloc: Global) -> clap::Command<'a>
         .version(VERSION)
         .about(ABOUT)
         .after_help(EXAMPLE)
-        .disable_help_subcommand(true)
         .subcommand_required(true)
 }
 
@@ -124,18 +127,38 @@ fn files_given<'a>(alloc: Global) -> clap::Arg<'a>
         .help(ABOUT_FILES)
 }
 
-/// The command `show`.
-fn show_command<'a>(alloc: Global) -> Result<clap::Command<'a>, AllocError>
-    ensures app { IfOk result (λ c. app_of c ≡ show_app) }
+/// The command `show` for a person, with its flag for all there is.
+fn shown_command<'a>(alloc: Global) -> Result<clap::Command<'a>, AllocError>
+    ensures app { IfOk result (λ c. app_of c ≡ shown_app) }
     ensures local { IfOk result (λ c. (out-Command c).has_globals ≡ false) }
 {
     clap::Command::new(alloc, "show")
         .about(ABOUT_SHOW)
         .override_usage(USAGE_SHOW)
         .after_help(MORE_SHOW)
+        .arg(flag_given(alloc, "all", ABOUT_ALL))
+}
+
+/// The command `show`.
+fn show_command<'a>(alloc: Global) -> Result<clap::Command<'a>, AllocError>
+    ensures app { IfOk result (λ c. app_of c ≡ show_app) }
+    ensures local { IfOk result (λ c. (out-Command c).has_globals ≡ false) }
+{
+    shown_command(alloc)?
         .arg(flag_given(alloc, "json", ABOUT_JSON))?
         .arg(flag_given(alloc, "dot", ABOUT_DOT))?
         .arg(file_given(alloc))
+}
+
+/// The command `shell`.
+fn shell_command<'a>(alloc: Global) -> clap::Command<'a>
+    ensures app { app_of result ≡ shell_app }
+    ensures local { (out-Command result).has_globals ≡ false }
+{
+    clap::Command::new(alloc, "shell")
+        .about(ABOUT_SHELL)
+        .override_usage(USAGE_SHELL)
+        .after_help(MORE_SHELL)
 }
 
 /// The command `check`.
@@ -151,13 +174,21 @@ fn check_command<'a>(alloc: Global) -> Result<clap::Command<'a>, AllocError>
         .arg(files_given(alloc))
 }
 
+/// The program with the commands that run a script and show its states.
+fn with_states<'a>(alloc: Global, pif: clap::Command<'a>) -> Result<clap::Command<'a>, AllocError>
+    ensures { IfOk result (λ c. app_of c ≡ with_states (app_of pif.entry)) }
+{
+    let pif = with_job(alloc, pif, "run", ABOUT_RUN, USAGE_RUN, MORE_RUN)?;
+    let pif = pif.subcommand(show_command(alloc)?)?;
+    with_job(alloc, pif, "draw", ABOUT_DRAW, USAGE_DRAW, MORE_DRAW)
+}
+
 /// The program with the commands over scripts and stories that show answers.
 fn with_runs<'a>(alloc: Global, pif: clap::Command<'a>) -> Result<clap::Command<'a>, AllocError>
     ensures { IfOk result (λ c. app_of c ≡ with_runs (app_of pif.entry)) }
 {
-    let pif = with_job(alloc, pif, "run", ABOUT_RUN, USAGE_RUN, MORE_RUN)?;
-    let pif = pif.subcommand(show_command(alloc)?)?;
-    let pif = with_job(alloc, pif, "draw", ABOUT_DRAW, USAGE_DRAW, MORE_DRAW)?;
+    let pif = with_states(alloc, pif)?;
+    let pif = pif.subcommand(shell_command(alloc))?;
     pif.subcommand(check_command(alloc)?)
 }
 
@@ -255,7 +286,8 @@ pub fn read_words<'a, S: AsStr>(alloc: Global, words: &'a [S]) -> Result<Asked<'
     }
 }
 
-/// How `show` is to show a script: for a person, or as a picture that its flags name. Of both flags the first counts.
+/// How `show` is to show a script: for a person, or as a picture that its flags name. Of several flags the first of `--json`,
+/// `--dot` and `--all` counts.
 fn shown_in(given: &clap::ArgMatches) -> Job
     ensures { result ≡ shown_in (rows_of (found_of given.now)) }
 {
@@ -263,8 +295,10 @@ fn shown_in(given: &clap::ArgMatches) -> Job
         Job::Picture(Picture::States)
     } else if is_given(given, "dot") {
         Job::Picture(Picture::Graph)
+    } else if is_given(given, "all") {
+        Job::Show(Detail::All)
     } else {
-        Job::Show
+        Job::Show(Detail::Changes)
     }
 }
 
@@ -282,6 +316,8 @@ fn job_named(name: &str, given: &clap::ArgMatches) -> Job
         shown_in(given)
     } else if name == "draw" {
         Job::Picture(Picture::Drawing)
+    } else if name == "shell" {
+        Job::Shell
     } else if name == "check" {
         if is_given(given, "print") {
             Job::Fill
@@ -325,10 +361,11 @@ fn do_job<T: Threads + Wait + Sync, R: Read, W: Write>(
         Job::Replay => as_job(replay_noting(alloc, input, output, notice)),
         Job::Trace => as_job(trace_noting(alloc, input, output, notice)),
         Job::Migrate => as_job(migrate_noting(alloc, input, output, notice)),
-        Job::Show => as_job(show_noting(alloc, input, output, notice)),
-        Job::Picture(picture) => as_job(write_picture(picture, alloc, input, output)),
-        Job::Check => as_job(check(alloc, name.as_bytes(), input, output)),
-        Job::Fill => as_job(fill(alloc, name.as_bytes(), input, output)),
+        Job::Show(detail) => as_job(show_noting(detail, alloc, input, output, notice)),
+        Job::Picture(picture) => as_job(write_picture(picture, alloc, input, output, notice)),
+        Job::Shell => as_job(shell(alloc, &NoShelf, false, input, output)),
+        Job::Check => as_job(check_noting(alloc, name.as_bytes(), input, output, notice)),
+        Job::Fill => as_job(fill_noting(alloc, name.as_bytes(), input, output, notice)),
         Job::Random(recipe) => write_random(alloc, recipe, output),
         Job::Drive(clients) => drive(alloc, rt, clients, output),
     }
@@ -387,10 +424,51 @@ pub fn show<W: Write>(text: &str, shown: u8, writer: &mut W) -> u8
     }
 }
 
-/// Shows why the words ask for no job.
+/// The commands of the program.
+const COMMANDS: [&str; 11] = [
+    "run", "show", "draw", "shell", "check", "replay", "trace", "migrate", "random", "drive",
+    "help",
+];
+
+/// The command that is near to the one that the words name, behind the program's name or behind `help`, if that is none.
+pub fn near_command<S: AsStr>(words: &[S]) -> Option<&'static str> {
+    match words {
+        [_, help, word, ..] if help.as_str() == "help" => near_name(word.as_str()),
+        [_, word, ..] => near_name(word.as_str()),
+        _ => None,
+    }
+}
+
+/// The command that is near to this one, if this one is none.
+fn near_name(word: &str) -> Option<&'static str> {
+    let near = nearest_name(word.as_bytes(), COMMANDS.as_slice())?;
+    if near == word { None } else { Some(near) }
+}
+
+/// Why the words ask for no job. Behind a command that there is not stands the nearest one, if there is one, and `clap`
+/// names none.
+fn refusal_text(
+    alloc: Global,
+    error: clap::Error,
+    near: Option<&'static str>,
+) -> Result<String, AllocError> {
+    let kind = error.kind();
+    let mut text = error.to_string(alloc)?;
+    if let (ErrorKind::InvalidSubcommand, Some(name)) = (kind, near) {
+        if !text.as_str().contains("tip:") {
+            text.push_str("Perhaps '")?;
+            text.push_str(name)?;
+            text.push_str("' is meant.\n")?;
+        }
+    }
+    Ok(text)
+}
+
+/// Shows why the words ask for no job, with the command that is near, if there is one.
 pub fn refuse<W: Write, E: Write>(
     alloc: Global,
     error: clap::Error,
+    near: Option<&'static str>,
     output: &mut W,
     errors: &mut E,
 ) -> u8
@@ -402,7 +480,7 @@ pub fn refuse<W: Write, E: Write>(
     if let ErrorKind::OutOfMemory = kind {
         return fail(CliFault::NoMemory, errors);
     }
-    match error.to_string(alloc) {
+    match refusal_text(alloc, error, near) {
         Ok(text) => match kind {
             ErrorKind::DisplayHelp | ErrorKind::DisplayVersion => {
                 show_help(text.as_str(), output, errors)
@@ -425,10 +503,12 @@ fn first_name<'a>(files: &[&'a str]) -> &'a str
 
 /// The program over its words, the program's name first. `pif run` reads a script from `input`, and writes what its
 /// lines are answered, and the line of a fault, to `output`. `pif show` reads a script from `input`, and writes to
-/// `output` each line, its answer and the state behind it, as `show` does; with `--json` or `--dot` it reads a story, and
+/// `output` each line, its answer and what it has changed, as `show` does; with `--all` the state behind it, as `show_all`
+/// does; with `--json` or `--dot` it reads a story, and
 /// writes a picture of it, as `pif draw` does. `pif check` reads a story from `input`, and
 /// writes to `output` a line that says whether it is ok, as `check` does; with `--print` it writes it with its answers,
-/// as `fill` does. `pif replay` reads a trace from `input`, and writes to `output` what it comes to, as `replay` does.
+/// as `fill` does. `pif shell` reads the lines of a person from `input`, and answers each to `output`, as `shell` does
+/// without a prompt; it saves no story, since no file is opened here. `pif replay` reads a trace from `input`, and writes to `output` what it comes to, as `replay` does.
 /// `pif trace` reads a script from `input`, and writes its trace to `output`, as `trace` does, without the line of a
 /// fault. `pif migrate` reads a trace from `input`, and writes it to `output` as one of version 2, or the line of its
 /// fault, as `migrate` does. `pif random` reads nothing, and writes to `output` the random script that its options ask
@@ -462,11 +542,11 @@ pub fn command<T: Threads + Wait + Sync, S: AsStr, R: Read, W: Write, E: Write>(
             let name = first_name(asked.files.as_slice());
             do_and_tell(asked.job, name, alloc, rt, input, output, errors)
         }
-        Err(error) => refuse(alloc, error, output, errors),
+        Err(error) => refuse(alloc, error, near_command(words), output, errors),
     }
 }
 
-/// Which words ask for which job: `run`, `show`, `draw`, `replay`, `trace` and `migrate` alone, `show` with each of its
+/// Which words ask for which job: `run`, `show`, `draw`, `shell`, `replay`, `trace` and `migrate` alone, `show` with each of its
 /// flags, `run` with a file, `check` alone, with `--print` and with two files, `random` with a seed and from 1 to 262,144 lines, and `drive` with a number from 1
 /// to 64 do; no word, `--help` and `--version` don't.
 #[tactic(auto, unfolding(clap::proofs::OnLiterals::clap_on_literals))]
@@ -475,13 +555,16 @@ pub fn words_of_the_program()
     ensures replay { (name : List ℕ) → (refusals_of (name ∷ codes "replay" ∷ []) ≡ []) × (job_of (name ∷ codes "replay" ∷ []) ≡ Job.Replay) }
     ensures trace { (name : List ℕ) → (refusals_of (name ∷ codes "trace" ∷ []) ≡ []) × (job_of (name ∷ codes "trace" ∷ []) ≡ Job.Trace) }
     ensures migrate { (name : List ℕ) → (refusals_of (name ∷ codes "migrate" ∷ []) ≡ []) × (job_of (name ∷ codes "migrate" ∷ []) ≡ Job.Migrate) }
-    ensures show { (name : List ℕ) → (refusals_of (name ∷ codes "show" ∷ []) ≡ []) × (job_of (name ∷ codes "show" ∷ []) ≡ Job.Show) }
+    ensures show { (name : List ℕ) → (refusals_of (name ∷ codes "show" ∷ []) ≡ []) × (job_of (name ∷ codes "show" ∷ []) ≡ Job.Show Detail.Changes) }
+    ensures all { (name : List ℕ) → (refusals_of (name ∷ codes "show" ∷ codes "--all" ∷ []) ≡ [])
+        × (job_of (name ∷ codes "show" ∷ codes "--all" ∷ []) ≡ Job.Show Detail.All) }
     ensures draw { (name : List ℕ) → (refusals_of (name ∷ codes "draw" ∷ []) ≡ [])
         × (job_of (name ∷ codes "draw" ∷ []) ≡ Job.Picture Picture.Drawing) }
     ensures json { (name : List ℕ) → (refusals_of (name ∷ codes "show" ∷ codes "--json" ∷ []) ≡ [])
         × (job_of (name ∷ codes "show" ∷ codes "--json" ∷ []) ≡ Job.Picture Picture.States) }
     ensures dot { (name : List ℕ) → (refusals_of (name ∷ codes "show" ∷ codes "--dot" ∷ []) ≡ [])
         × (job_of (name ∷ codes "show" ∷ codes "--dot" ∷ []) ≡ Job.Picture Picture.Graph) }
+    ensures shell { (name : List ℕ) → (refusals_of (name ∷ codes "shell" ∷ []) ≡ []) × (job_of (name ∷ codes "shell" ∷ []) ≡ Job.Shell) }
     ensures check { (name : List ℕ) → (refusals_of (name ∷ codes "check" ∷ []) ≡ [])
         × (job_of (name ∷ codes "check" ∷ []) ≡ Job.Check) }
     ensures fill { (name : List ℕ) → (refusals_of (name ∷ codes "check" ∷ codes "--print" ∷ []) ≡ [])
@@ -503,6 +586,7 @@ pub fn words_of_the_program()
     ensures too_many { (name : List ℕ) → refusals_of (name ∷ codes "drive" ∷ codes "65" ∷ []) ≡ ValueValidation ∷ [] }
     ensures no_number { (name : List ℕ) → refusals_of (name ∷ codes "drive" ∷ []) ≡ MissingRequiredArgument ∷ [] }
     ensures help { (name : List ℕ) → refusals_of (name ∷ codes "--help" ∷ []) ≡ DisplayHelp ∷ [] }
+    ensures help_command { (name : List ℕ) → refusals_of (name ∷ codes "help" ∷ []) ≡ DisplayHelp ∷ InvalidSubcommand ∷ [] }
     ensures version { (name : List ℕ) → refusals_of (name ∷ codes "--version" ∷ []) ≡ DisplayVersion ∷ [] }
     ensures none { (name : List ℕ) → refusals_of (name ∷ []) ≡ MissingSubcommand ∷ [] }
 {}

@@ -4,8 +4,8 @@ use crate::drawing::drawing_of;
 use crate::graphs::graph_of;
 use crate::rows::places_of;
 use crate::states::states_of;
-use pif_scripts::{CliFault, write_whole};
-use pif_stories::fill;
+use pif_scripts::{CliFault, Notice, write_whole};
+use pif_stories::fill_noting;
 use pif_types::NoMemory;
 use std::alloc::Global;
 use std::io::{Read, Write};
@@ -24,7 +24,8 @@ enum Picture {
 /// Draws a story, or a script, as an SVG image: a lane for each thread over the commands, with what the thread does, the
 /// mutexes that it holds, and its effective priority above its base priority; and arrows, if a mutex is handed over or a
 /// thread is woken. The story is read to its end before anything is written, and it and its drawing are kept in memory.
-/// What is drawn is for reading, and may change.
+/// What is drawn is for reading, and may change. `notice` keeps the command that is a fault; if there is none, it is left
+/// as it is.
 ///
 /// # Errors
 ///
@@ -34,15 +35,16 @@ pub fn draw<R: Read, W: Write>(
     alloc: Global,
     reader: &mut R,
     writer: &mut W,
+    notice: &mut Notice,
 ) -> Result<(), CliFault>
     ensures { PicturesTo (R.remaining reader.old) (R.remaining reader.new) (W.contents writer.old) (W.contents writer.new) result }
 {
-    write_picture(alloc, Picture::Drawing, reader, writer)
+    write_picture(alloc, Picture::Drawing, reader, writer, notice)
 }
 
 /// Writes the states of a story, or a script: for each command a line with one JSON object, of the command, its answer,
 /// and then each thread, mutex and condition variable, the run queue, and the chains of waiting. The story is read to
-/// its end before anything is written, and it and the states are kept in memory.
+/// its end before anything is written, and it and the states are kept in memory. `notice` is as of `draw`.
 ///
 /// # Errors
 ///
@@ -51,14 +53,16 @@ pub fn write_states<R: Read, W: Write>(
     alloc: Global,
     reader: &mut R,
     writer: &mut W,
+    notice: &mut Notice,
 ) -> Result<(), CliFault>
     ensures { PicturesTo (R.remaining reader.old) (R.remaining reader.new) (W.contents writer.old) (W.contents writer.new) result }
 {
-    write_picture(alloc, Picture::States, reader, writer)
+    write_picture(alloc, Picture::States, reader, writer, notice)
 }
 
 /// Writes who waits for whom, through which mutex, at the end of a story, or a script: a graph in the language of
-/// Graphviz. The story is read to its end before anything is written, and it and the graph are kept in memory.
+/// Graphviz. The story is read to its end before anything is written, and it and the graph are kept in memory. `notice`
+/// is as of `draw`.
 ///
 /// # Errors
 ///
@@ -67,10 +71,11 @@ pub fn write_graph<R: Read, W: Write>(
     alloc: Global,
     reader: &mut R,
     writer: &mut W,
+    notice: &mut Notice,
 ) -> Result<(), CliFault>
     ensures { PicturesTo (R.remaining reader.old) (R.remaining reader.new) (W.contents writer.old) (W.contents writer.new) result }
 {
-    write_picture(alloc, Picture::Graph, reader, writer)
+    write_picture(alloc, Picture::Graph, reader, writer, notice)
 }
 
 /// Writes a picture of a story.
@@ -79,23 +84,28 @@ fn write_picture<R: Read, W: Write>(
     picture: Picture,
     reader: &mut R,
     writer: &mut W,
+    notice: &mut Notice,
 ) -> Result<(), CliFault>
     ensures { PicturesTo (R.remaining reader.old) (R.remaining reader.new) (W.contents writer.old) (W.contents writer.new) result }
 {
-    let story = answered(alloc, reader)?;
+    let story = answered(alloc, reader, notice)?;
     write_text(picture_of(alloc, picture, story.as_slice()), writer)
 }
 
-/// Reads a story to its end, and has its answers filled in.
+/// Reads a story to its end, and has its answers filled in; `notice` keeps the command that is a fault.
 ///
 /// # Errors
 ///
 /// Those of `fill`, but that no write fails.
-fn answered<R: Read>(alloc: Global, reader: &mut R) -> Result<Vec<u8>, CliFault>
+fn answered<R: Read>(
+    alloc: Global,
+    reader: &mut R,
+    notice: &mut Notice,
+) -> Result<Vec<u8>, CliFault>
     ensures { AnswersTo (R.remaining reader.old) (R.remaining reader.new) result }
 {
     let mut story = Vec::new(alloc);
-    match fill(alloc, b"", reader, &mut story) {
+    match fill_noting(alloc, b"", reader, &mut story, notice) {
         Ok(()) => Ok(story),
         Err(CliFault::Write) => Err(CliFault::NoMemory),
         Err(fault) => Err(fault),

@@ -7,6 +7,7 @@
 //! | `slips` | `pif_slips`: why a line is no command |
 //! | `scripts` | `pif_scripts`: scripts and traces, from worked examples to reads and writes that fail |
 //! | `stories` | `pif_stories`: stories that are checked, and filled in |
+//! | `shells` | `pif_shell`: conversations, stories that are saved, and sessions |
 //! | `random` | `pif_random`: scripts by a seed |
 //! | `pictures` | `pif_pictures`: drawings, states and graphs of stories |
 //! | `streams` | none: the readers and writers that the others share |
@@ -20,6 +21,8 @@ mod pictures;
 mod random;
 #[cfg(test)]
 mod scripts;
+#[cfg(test)]
+mod shells;
 #[cfg(test)]
 mod slips;
 #[cfg(test)]

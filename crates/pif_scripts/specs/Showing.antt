@@ -1,11 +1,28 @@
 -- What a run does that shows itself to a person.
-use Rattle.std.specs.Prelude.{ℕ, ◌≡◌, List, Option, None, Result, Ok, Err}
+use Rattle.std.specs.Prelude.{ℕ, ◌≡◌, List, Option, Some, None, Result, Ok, Err}
 use Rattle.std.specs.Io.KnownBytes.{Keeps}
+use Rattle.pif_model.specs.Table.{Table}
+use Rattle.pif_text.specs.declared.commands.Command.{Command}
 use Rattle.pif_show.specs.Extends.{Stays}
 use Rattle.pif_scripts.specs.declared.faults.CliFault.{CliFault}
 use Rattle.pif_scripts.specs.declared.faults.CliFault.TheVariants.{Read, Write, NoMemory, Script, Differs}
-use Rattle.pif_scripts.specs.Running.{RunsTo}
+use Rattle.pif_scripts.specs.Running.{Answer, RunsTo, command_answer}
 use Rattle.pif_scripts.specs.Scripts.{Scan}
+
+-- a core behind an answer, or as it was if there is none
+abbrev pub state_of : Option Answer → Table → Table
+state_of (Some answer) s = answer.1
+state_of None s = s
+
+-- a core behind a command, if there is one
+abbrev pub state_behind : Option Command → Table → Table
+state_behind (Some command) s = state_of (command_answer command s) s
+state_behind None s = s
+
+-- how something ended, whatever it answers
+abbrev pub as_done : {A E : Type 0} → Result A E → Result (Unit {0}) E
+as_done (Ok x) = Ok tt
+as_done (Err e) = Err e
 
 -- it ends so, or a write failed
 abbrev pub OrUnwritten : {A : Type 0} → (Result A CliFault → Type 0) → Result A CliFault → Type 0

@@ -15,6 +15,7 @@ mod replaying;
 mod running;
 mod runs;
 mod showing;
+mod shown;
 mod tracing;
 mod transcribing;
 mod writing;
@@ -24,10 +25,11 @@ pub use laws::commands_have_no_fault;
 pub use migrating::{migrate, migrate_noting, migrated_trace_has_its_verdict, read_all};
 pub use notices::Notice;
 pub use pif_text::Cause;
-pub use reading::MOST_BYTES;
+pub use reading::{Ending, MOST_BYTES, OpenFault};
+pub use running::{obey, open_core};
 pub use runs::{
     replay, replay_noting, run, run_noting, script_trace_is_the_same, trace, trace_noting,
 };
-pub use showing::{show, show_noting};
+pub use showing::{Detail, show, show_all, show_noting};
 pub use tracing::{write_trace, written_trace_is_the_same};
 pub use writing::write_whole;

@@ -33,6 +33,14 @@ impl Notice {
         self.given.as_slice()
     }
 
+    /// Keeps the command of a story that is a fault, in place of what was kept: its first 120 bytes, if it has more.
+    pub fn keep_command(&mut self, command: &[u8]) {
+        let end = command.len().min(MOST_LINE);
+        self.line.clear();
+        let _ = self.line.try_extend_from_slice(&command[..end]);
+        self.given.clear();
+    }
+
     /// Keeps a line that ends its script or trace so, in place of what was kept.
     pub(crate) fn keep(&mut self, line: &[u8], ending: &Ending) {
         self.line.clear();

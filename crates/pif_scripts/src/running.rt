@@ -142,7 +142,7 @@ pub fn obey(core: &mut Core, command: Command) -> Option<Reply>
 }
 
 /// Appends a reply and LF.
-fn tell(reply: Reply, output: &mut Output)
+pub fn tell(reply: Reply, output: &mut Output)
     requires { array_vec_len output.old + REPLY_ROOM ≤ OUTPUT_ROOM }
     ensures told { output.new.items ≡ output.old.items ++ (text_of reply ++ 10 ∷ []) }
     ensures room { array_vec_len output.new ≤ array_vec_len output.old + REPLY_ROOM }

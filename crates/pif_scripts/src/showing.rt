@@ -11,19 +11,30 @@ ghost use Rattle.pif_scripts.specs.Showing.{OrUnwritten, ShowsTo, Silent};
 use crate::reading::{
     CHUNK, END_ROOM, End, MOST_LINE, OUTPUT_ROOM, Output, Scanner, Stop, append, stop,
 };
+use crate::shown::Shown;
 use crate::writing::write_whole;
 use crate::{CliFault, Notice};
-use pif_core::Core;
-use pif_show::{Unwritten, write_state};
+use pif_show::{Unwritten, errno_name, write_changes, write_state};
+use pif_types::Errno;
 use std::alloc::Global;
 use std::io::{Read, Write};
 
 /// The most bytes in which a line is told, with what stands before it and its LF.
 const LINE_ROOM: usize = MOST_LINE + 3;
 
+/// How much `show` tells of the core behind each line.
+#[derive(Clone, Copy, Debug, PartialEq, Eq)]
+pub enum Detail {
+    /// What has changed by the line.
+    Changes,
+    /// All of it.
+    All,
+}
+
 /// Runs a script as `run` does, and shows it to a person: for each line the line itself behind `> `, what it is
-/// answered, the state of the core as `pif_show` writes it, and an empty line. The line of a fault is told so, too, and
-/// no state behind it. This text is for reading, and may change; what is proved of it is that it stands behind what the
+/// answered, with the name of an error behind its number, what has changed in the core by it, as `pif_show` writes it,
+/// and an empty line. Behind the first line all of the core is told. The line of a fault is told so, too, and nothing of
+/// the core behind it. This text is for reading, and may change; what is proved of it is that it stands behind what the
 /// writer held.
 ///
 /// # Errors
@@ -36,16 +47,32 @@ pub fn show<R: Read, W: Write>(
 ) -> Result<(), CliFault>
     ensures { ShowsTo (R.remaining reader.old) (R.remaining reader.new) (W.contents writer.old) (W.contents writer.new) result }
 {
-    show_noting(alloc, reader, writer, &mut Notice::new())
+    show_noting(Detail::Changes, alloc, reader, writer, &mut Notice::new())
 }
 
-/// Shows a script as `show` does, and has `notice` keep the line of the fault; where there is none, `notice` is left as
+/// Shows a script as `show` does, but tells all of the core behind each line.
+///
+/// # Errors
+///
+/// Those of `show`.
+pub fn show_all<R: Read, W: Write>(
+    alloc: Global,
+    reader: &mut R,
+    writer: &mut W,
+) -> Result<(), CliFault>
+    ensures { ShowsTo (R.remaining reader.old) (R.remaining reader.new) (W.contents writer.old) (W.contents writer.new) result }
+{
+    show_noting(Detail::All, alloc, reader, writer, &mut Notice::new())
+}
+
+/// Shows a script in this detail, as `show` or `show_all` does, and has `notice` keep the line of the fault; where there is none, `notice` is left as
 /// it is.
 ///
 /// # Errors
 ///
 /// Those of `show`.
 pub fn show_noting<R: Read, W: Write>(
+    detail: Detail,
     alloc: Global,
     reader: &mut R,
     writer: &mut W,
@@ -53,10 +80,18 @@ pub fn show_noting<R: Read, W: Write>(
 ) -> Result<(), CliFault>
     ensures { ShowsTo (R.remaining reader.old) (R.remaining reader.new) (W.contents writer.old) (W.contents writer.new) result }
 {
-    let mut scanner = Scanner::<Core>::new();
+    let mut scanner = Scanner::<Shown>::new();
     let mut output = Output::new();
     loop {
-        if !turn(alloc, &mut scanner, &mut output, reader, writer, notice)? {
+        if !turn(
+            detail,
+            alloc,
+            &mut scanner,
+            &mut output,
+            reader,
+            writer,
+            notice,
+        )? {
             return Ok(());
         }
     }
@@ -64,8 +99,9 @@ pub fn show_noting<R: Read, W: Write>(
 
 /// Reads a chunk, and shows its lines. Answers whether the input goes on.
 fn turn<R: Read, W: Write>(
+    detail: Detail,
     alloc: Global,
-    scanner: &mut Scanner<Core>,
+    scanner: &mut Scanner<Shown>,
     output: &mut Output,
     reader: &mut R,
     writer: &mut W,
@@ -84,14 +120,23 @@ fn turn<R: Read, W: Write>(
     if count == 0 {
         return close(scanner, output, writer, notice);
     }
-    feed(alloc, scanner, &chunk[..count], output, writer, notice)?;
+    feed(
+        detail,
+        alloc,
+        scanner,
+        &chunk[..count],
+        output,
+        writer,
+        notice,
+    )?;
     Ok(true)
 }
 
 /// Reads bytes, and shows their lines.
 fn feed<W: Write>(
+    detail: Detail,
     alloc: Global,
-    scanner: &mut Scanner<Core>,
+    scanner: &mut Scanner<Shown>,
     bytes: &[u8],
     output: &mut Output,
     writer: &mut W,
@@ -109,7 +154,7 @@ fn feed<W: Write>(
             Err(Stop::Ended(end)) => return Err(stop_showing(end, scanner, output, writer, notice)),
             Err(Stop::NoMemory) => return Err(CliFault::NoMemory),
         }
-        if end_line(*byte, scanner, output, writer).is_err() {
+        if end_line(*byte, detail, scanner, output, writer).is_err() {
             return Err(CliFault::Write);
         }
     }
@@ -117,7 +162,7 @@ fn feed<W: Write>(
 }
 
 /// Tells the line that this byte ends, if it ends one, in place of what was told.
-fn begin_line(byte: u8, scanner: &Scanner<Core>, output: &mut Output)
+fn begin_line(byte: u8, scanner: &Scanner<Shown>, output: &mut Output)
     ensures { array_vec_len output.new ≤ LINE_ROOM }
 {
     if byte == b'\n' {
@@ -149,28 +194,62 @@ fn printable(byte: u8) -> u8 {
     }
 }
 
-/// Writes what was told of the line that this byte ended, if it ended one, and the state behind it.
+/// Writes what was told of the line that this byte ended, if it ended one, and what is told of the core behind it.
 fn end_line<W: Write>(
     byte: u8,
-    scanner: &Scanner<Core>,
-    output: &Output,
+    detail: Detail,
+    scanner: &Scanner<Shown>,
+    output: &mut Output,
     writer: &mut W,
 ) -> Result<(), Unwritten>
     ensures stays { Stays (W.contents writer.old) (W.contents writer.new) }
     ensures silent { (scan_of scanner.now).listener ≡ None → Keeps (W.contents writer.old) (W.contents writer.new) }
 {
     match scanner.listener() {
-        Some(core) if byte == b'\n' => match write_whole(writer, output.as_slice()) {
-            Ok(()) => write_state(core, writer),
-            Err(_) => Err(Unwritten),
-        },
+        Some(shown) if byte == b'\n' => write_line(detail, shown, output, writer),
         _ => Ok(()),
+    }
+}
+
+/// Writes what was told of a line, and what is told of the core behind it.
+fn write_line<W: Write>(
+    detail: Detail,
+    shown: &Shown,
+    output: &mut Output,
+    writer: &mut W,
+) -> Result<(), Unwritten>
+    ensures { Stays (W.contents writer.old) (W.contents writer.new) }
+{
+    if let Some(error) = shown.error() {
+        name_error(error, output);
+    }
+    match write_whole(writer, output.as_slice()) {
+        Ok(()) => write_core(detail, shown, writer),
+        Err(_) => Err(Unwritten),
+    }
+}
+
+/// Puts the name of an error behind an answer, before the LF.
+fn name_error(error: Errno, output: &mut Output) {
+    let _lf = output.pop();
+    let _ = output.try_extend_from_slice(b" ");
+    let _ = output.try_extend_from_slice(errno_name(error).as_bytes());
+    let _ = output.try_push(b'\n');
+}
+
+/// Writes what has changed in a core, or all of it if that is asked for, or if there is nothing from before.
+fn write_core<W: Write>(detail: Detail, shown: &Shown, writer: &mut W) -> Result<(), Unwritten>
+    ensures { Stays (W.contents writer.old) (W.contents writer.new) }
+{
+    match shown.before() {
+        Some(before) if detail == Detail::Changes => write_changes(before, shown.core(), writer),
+        _ => write_state(shown.core(), writer),
     }
 }
 
 /// Ends where the input does. It does not go on.
 fn close<W: Write>(
-    scanner: &Scanner<Core>,
+    scanner: &Scanner<Shown>,
     output: &mut Output,
     writer: &mut W,
     notice: &mut Notice,
@@ -189,7 +268,7 @@ fn close<W: Write>(
 /// Writes the line that ends the script so, and what is said of it.
 fn stop_showing<W: Write>(
     end: End,
-    scanner: &Scanner<Core>,
+    scanner: &Scanner<Shown>,
     output: &mut Output,
     writer: &mut W,
     notice: &mut Notice,
@@ -201,5 +280,5 @@ fn stop_showing<W: Write>(
     if output.is_empty() {
         tell_line(scanner.line(), output);
     }
-    stop::<Core, W>(end, output, writer)
+    stop::<Shown, W>(end, output, writer)
 }

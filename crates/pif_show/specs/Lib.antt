@@ -1,1 +1,2 @@
 pub mod Extends
+pub mod Names

@@ -1,22 +1,90 @@
 ghost use Rattle.pif_show.specs.Extends.{Stays};
 
+use crate::changes::{Holder, awaited, holder_of};
 use crate::pages::Page;
-use crate::threads::{held_as, show_owner};
-use pif_core::{Core, Status};
+use crate::threads::{held_as, mutex_of, show_holder};
+use pif_core::Core;
 use pif_types::{MutexId, Tid};
 use std::io::Write;
 
-/// Writes a line for each chain of waiting, from a thread that waits and for which nobody waits.
-pub fn show_chains<W: Write>(core: &Core, page: &mut Page, writer: &mut W)
+/// Writes a line for each chain of waiting, from a thread that waits and for which nobody waits. If there is a core from
+/// before, only chains are written that weren't there, and that there are none if the last ones are gone.
+pub fn show_chains<W: Write>(before: Option<&Core>, core: &Core, page: &mut Page, writer: &mut W)
     ensures { Stays (W.contents writer.old) (W.contents writer.new) }
 {
     for number in 1..=core.threads() {
         if let Some(thread) = Tid::new(number) {
-            if waited_for(core, thread).is_some() && !has_waiter(core, thread) {
+            if begins_chain(core, thread) && has_chain_changed(before, core, thread) {
                 show_chain(core, thread, page, writer);
             }
         }
     }
+    if has_chain(before) && !has_chain(Some(core)) {
+        page.words("  chain: none\n", writer);
+    }
+}
+
+/// Whether a chain begins with this thread: it waits for a mutex, and nobody waits for it.
+fn begins_chain(core: &Core, thread: Tid) -> bool {
+    awaited(core, thread).is_some() && !has_waiter(core, thread)
+}
+
+/// Whether there is a chain in a core, if there is a core.
+fn has_chain(core: Option<&Core>) -> bool {
+    match core {
+        Some(core) => has_waiting(core),
+        None => false,
+    }
+}
+
+/// Whether a thread waits for a mutex.
+fn has_waiting(core: &Core) -> bool {
+    for number in 1..=core.threads() {
+        if let Some(thread) = Tid::new(number) {
+            if awaited(core, thread).is_some() {
+                return true;
+            }
+        }
+    }
+    false
+}
+
+/// Whether the chain that begins with this thread wasn't there before.
+fn has_chain_changed(before: Option<&Core>, core: &Core, thread: Tid) -> bool {
+    match before {
+        Some(before) => { !(begins_chain(before, thread) && has_same_links(before, core, thread)) }
+        None => true,
+    }
+}
+
+/// Whether the chain from this thread has the same links in both cores.
+fn has_same_links(before: &Core, core: &Core, first: Tid) -> bool {
+    let mut thread = first;
+    for _link in 0..core.threads() {
+        let link = link_of(core, thread);
+        if link_of(before, thread) != link {
+            return false;
+        }
+        match link {
+            Some(link) => thread = link.holder.owner,
+            None => return true,
+        }
+    }
+    true
+}
+
+/// A link of a chain: a mutex for which a thread waits, and who holds it.
+#[derive(Clone, Copy, PartialEq, Eq)]
+struct Link {
+    mutex: MutexId,
+    holder: Holder,
+}
+
+/// The mutex for which a thread waits, and who holds it. `None` if it waits for none.
+fn link_of(core: &Core, thread: Tid) -> Option<Link> {
+    let mutex = mutex_of(core.status(thread)?)?;
+    let holder = holder_of(core, mutex)?;
+    Some(Link { mutex, holder })
 }
 
 /// Writes the chain that begins with this thread.
@@ -34,29 +102,14 @@ fn show_links<W: Write>(core: &Core, first: Tid, page: &mut Page, writer: &mut W
 {
     let mut thread = first;
     for _link in 0..core.threads() {
-        match waited_for(core, thread) {
-            Some((mutex, owner)) => {
-                page.mutex(" -> ", mutex, writer);
-                show_owner(core, " -> ", owner, page, writer);
-                thread = owner;
+        match link_of(core, thread) {
+            Some(link) => {
+                page.mutex(" -> ", link.mutex, writer);
+                show_holder(" -> ", link.holder, page, writer);
+                thread = link.holder.owner;
             }
             None => return,
         }
-    }
-}
-
-/// The mutex for which a thread waits, and who holds it. `None` where it waits for none.
-fn waited_for(core: &Core, thread: Tid) -> Option<(MutexId, Tid)> {
-    let mutex = mutex_of(core.status(thread)?)?;
-    let (owner, _) = core.owner(mutex)?;
-    Some((mutex, owner))
-}
-
-/// The mutex on which a thread of this status is queued.
-fn mutex_of(status: Status) -> Option<MutexId> {
-    match status {
-        Status::Queued(mutex) => Some(mutex),
-        _ => None,
     }
 }
 

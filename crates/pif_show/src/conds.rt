@@ -1,18 +1,21 @@
 ghost use Rattle.pif_show.specs.Extends.{Stays};
 
+use crate::changes::has_cond_changed;
 use crate::pages::Page;
 use crate::queues::{Queue, show_queue};
 use pif_core::Core;
 use pif_types::CondId;
 use std::io::Write;
 
-/// Writes a line for each condition variable.
-pub fn show_conds<W: Write>(core: &Core, page: &mut Page, writer: &mut W)
+/// Writes a line for each condition variable, or if there is a core from before, for each of which the line has changed.
+pub fn show_conds<W: Write>(before: Option<&Core>, core: &Core, page: &mut Page, writer: &mut W)
     ensures { Stays (W.contents writer.old) (W.contents writer.new) }
 {
     for number in 1..=core.conds() {
         if let Some(cond) = CondId::new(number) {
-            show_cond(core, cond, page, writer);
+            if has_cond_changed(before, core, cond) {
+                show_cond(core, cond, page, writer);
+            }
         }
     }
 }

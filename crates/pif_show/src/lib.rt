@@ -1,27 +1,31 @@
 //! What a core does, as text that a person reads at a glance: the time, each thread, mutex and condition variable, the
-//! run queue, and who waits for whom.
+//! run queue, and who waits for whom; or only what of it has changed. And the names of errors.
 //!
 //! ```text
 //!   t1: priority 50 (base 10); ready; holds m1
 //!   t2: priority 50 (base 20); waits for m1, held by t1; in lock m1; holds m2
 //!   t3: priority 50; waits for m2, held by t2; in lock m2
-//!   m1: normal, fine; word t1 + WAITERS; owner t1; waiters t2
-//!   m2: normal, fine; word t2 + WAITERS; owner t2; waiters t3
+//!   m1: normal; word t1 + WAITERS; owner t1; waiters t2
+//!   m2: normal; word t2 + WAITERS; owner t2; waiters t3
 //!   run queue: t1
 //!   chain: t3 -> m2 -> t2 -> m1 -> t1
 //! ```
 //!
-//! What is empty is left out, and a time of 0. The text is written in parts, and takes no memory.
+//! What is empty is left out, and a time of 0. Of changes the lines are written that weren't there before, and `none` for
+//! a run queue, or for chains, of which nothing is left. The text is written in parts, and takes no memory.
 #![tactic(auto)]
 
 mod calls;
 mod chains;
+mod changes;
 mod conds;
 mod mutexes;
+mod names;
 mod pages;
 mod queues;
 mod states;
 mod threads;
 
+pub use names::{errno_name, errno_of};
 pub use pages::Unwritten;
-pub use states::write_state;
+pub use states::{write_changes, write_state};

@@ -1,20 +1,26 @@
+ghost use Rattle.std.specs.Prelude.{◌≡◌, false};
+ghost use Rattle.pif_model.specs.Projection.{health_of};
+ghost use Rattle.pif_model.specs.Word.{health_word, word_of};
 ghost use Rattle.pif_show.specs.Extends.{Stays};
 
+use crate::changes::{has_mutex_changed, holder_of};
 use crate::pages::Page;
 use crate::queues::{Queue, show_queue};
-use crate::threads::show_owner;
+use crate::threads::show_holder;
 use pif_core::Core;
 use pif_types::{Health, Kind, MutexId, Tid};
 use pif_word::{has_waiters, number, owner_died};
 use std::io::Write;
 
-/// Writes a line for each mutex.
-pub fn show_mutexes<W: Write>(core: &Core, page: &mut Page, writer: &mut W)
+/// Writes a line for each mutex, or if there is a core from before, for each of which the line has changed.
+pub fn show_mutexes<W: Write>(before: Option<&Core>, core: &Core, page: &mut Page, writer: &mut W)
     ensures { Stays (W.contents writer.old) (W.contents writer.new) }
 {
     for number in 1..=core.mutexes() {
         if let Some(mutex) = MutexId::new(number) {
-            show_mutex(core, mutex, page, writer);
+            if has_mutex_changed(before, core, mutex) {
+                show_mutex(core, mutex, page, writer);
+            }
         }
     }
 }
@@ -23,24 +29,54 @@ pub fn show_mutexes<W: Write>(core: &Core, page: &mut Page, writer: &mut W)
 fn show_mutex<W: Write>(core: &Core, mutex: MutexId, page: &mut Page, writer: &mut W)
     ensures { Stays (W.contents writer.old) (W.contents writer.new) }
 {
+    let word = core.word(mutex).unwrap_or(0);
     page.mutex("  ", mutex, writer);
-    show_kind(core, mutex, page, writer);
-    show_word(core.word(mutex).unwrap_or(0), page, writer);
+    show_kind(core, mutex, word, page, writer);
+    show_word(word, page, writer);
     show_ownership(core, mutex, page, writer);
     show_queue(core, &Queue::Waiters(mutex), "; waiters ", page, writer);
     page.words("\n", writer);
 }
 
-/// Writes the kind of a mutex, whether it is robust, and its health.
-fn show_kind<W: Write>(core: &Core, mutex: MutexId, page: &mut Page, writer: &mut W)
+/// Writes the kind of a mutex, whether it is robust, and its state.
+fn show_kind<W: Write>(core: &Core, mutex: MutexId, word: u32, page: &mut Page, writer: &mut W)
     ensures { Stays (W.contents writer.old) (W.contents writer.new) }
 {
     if let Some((kind, is_robust)) = core.kind(mutex) {
         page.words(kind_words(kind), writer);
         if is_robust {
-            page.words(", robust", writer);
+            show_state(
+                core.health(mutex).unwrap_or(Health::Fine),
+                word,
+                page,
+                writer,
+            );
         }
-        page.words(health_words(core.health(mutex)), writer);
+    }
+}
+
+/// Writes the state of a robust mutex by POSIX, and what the health word says if that is something else.
+fn show_state<W: Write>(health: Health, word: u32, page: &mut Page, writer: &mut W)
+    ensures { Stays (W.contents writer.old) (W.contents writer.new) }
+{
+    let state = state_of(health, word);
+    page.words(", robust, ", writer);
+    page.words(health_words(state), writer);
+    if state != health {
+        page.words("; health word still ", writer);
+        page.words(health_words(health), writer);
+    }
+}
+
+/// The state of a robust mutex by POSIX, of which this is the health word and this the word. Once its owner has ended it
+/// is inconsistent, though the health word is written only when a thread takes the mutex over.
+fn state_of(health: Health, word: u32) -> Health
+    ensures { health_of (health_word result) false ≡ health_of (health_word health) (word_of word).died }
+{
+    if health == Health::Fine && owner_died(word) {
+        Health::Inconsistent
+    } else {
+        health
     }
 }
 
@@ -53,12 +89,12 @@ fn kind_words(kind: Kind) -> &'static str {
     }
 }
 
-/// The health of a mutex.
-fn health_words(health: Option<Health>) -> &'static str {
+/// The state of a robust mutex in a word.
+fn health_words(health: Health) -> &'static str {
     match health {
-        Some(Health::Inconsistent) => ", inconsistent",
-        Some(Health::Unusable) => ", unusable",
-        Some(Health::Fine) | None => ", fine",
+        Health::Fine => "fine",
+        Health::Inconsistent => "inconsistent",
+        Health::Unusable => "unusable",
     }
 }
 
@@ -82,8 +118,10 @@ fn show_word<W: Write>(word: u32, page: &mut Page, writer: &mut W)
 fn show_ownership<W: Write>(core: &Core, mutex: MutexId, page: &mut Page, writer: &mut W)
     ensures { Stays (W.contents writer.old) (W.contents writer.new) }
 {
-    if let Some((owner, count)) = core.owner(mutex) {
-        show_owner(core, "; owner ", owner, page, writer);
+    if let Some(holder) = holder_of(core, mutex) {
+        show_holder("; owner ", holder, page, writer);
+    }
+    if let Some((_, count)) = core.owner(mutex) {
         if count > 1 {
             page.number(", ", count, writer);
             page.words(" times", writer);

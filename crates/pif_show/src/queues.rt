@@ -48,12 +48,43 @@ fn show_place<W: Write>(place: u32, thread: Tid, head: &str, page: &mut Page, wr
     }
 }
 
-/// Writes the line of the run queue; nothing where no thread is ready.
-pub fn show_run_queue<W: Write>(core: &Core, page: &mut Page, writer: &mut W)
+/// Whether a queue has the same threads in the same order in both cores.
+pub fn is_same_queue(before: &Core, core: &Core, queue: &Queue) -> bool {
+    for place in 0..core.threads() {
+        let now = nth(core, queue, place);
+        if nth(before, queue, place) != now {
+            return false;
+        }
+        if now.is_none() {
+            return true;
+        }
+    }
+    true
+}
+
+/// Writes the line of the run queue; nothing if no thread is ready. If there is a core from before, it is written only if
+/// it has changed, and then also if no thread is ready.
+pub fn show_run_queue<W: Write>(before: Option<&Core>, core: &Core, page: &mut Page, writer: &mut W)
+    ensures { Stays (W.contents writer.old) (W.contents writer.new) }
+{
+    match before {
+        Some(before) => {
+            if !is_same_queue(before, core, &Queue::Ready) {
+                show_ready(core, "  run queue: none\n", page, writer);
+            }
+        }
+        None => show_ready(core, "", page, writer),
+    }
+}
+
+/// Writes the line of the run queue, or these words if no thread is ready.
+fn show_ready<W: Write>(core: &Core, empty: &str, page: &mut Page, writer: &mut W)
     ensures { Stays (W.contents writer.old) (W.contents writer.new) }
 {
     if core.pick().is_some() {
         show_queue(core, &Queue::Ready, "  run queue: ", page, writer);
         page.words("\n", writer);
+    } else {
+        page.words(empty, writer);
     }
 }

@@ -18,24 +18,56 @@ use std::io::Write;
 pub fn write_state<W: Write>(core: &Core, writer: &mut W) -> Result<(), Unwritten>
     ensures { Stays (W.contents writer.old) (W.contents writer.new) }
 {
+    write_lines(None, core, writer)
+}
+
+/// Writes what has changed since a core did what `before` does, which has the same limits: of the lines of `write_state`
+/// those that weren't there, `none` for a run queue or for chains of which nothing is left, and an empty line behind
+/// them. What the writer held stays in front.
+///
+/// # Errors
+///
+/// `Unwritten`, if the writer fails or takes no byte; a part of the text may be written then.
+pub fn write_changes<W: Write>(before: &Core, core: &Core, writer: &mut W) -> Result<(), Unwritten>
+    ensures { Stays (W.contents writer.old) (W.contents writer.new) }
+{
+    write_lines(Some(before), core, writer)
+}
+
+/// Writes what a core does, or if there is a core from before, what has changed; and an empty line.
+fn write_lines<W: Write>(
+    before: Option<&Core>,
+    core: &Core,
+    writer: &mut W,
+) -> Result<(), Unwritten>
+    ensures { Stays (W.contents writer.old) (W.contents writer.new) }
+{
     let mut page = Page::new();
-    show_time(core, &mut page, writer);
-    show_threads(core, &mut page, writer);
-    show_mutexes(core, &mut page, writer);
-    show_conds(core, &mut page, writer);
-    show_run_queue(core, &mut page, writer);
-    show_chains(core, &mut page, writer);
+    show_time(before, core, &mut page, writer);
+    show_threads(before, core, &mut page, writer);
+    show_mutexes(before, core, &mut page, writer);
+    show_conds(before, core, &mut page, writer);
+    show_run_queue(before, core, &mut page, writer);
+    show_chains(before, core, &mut page, writer);
     page.words("\n", writer);
     page.finish(writer)
 }
 
-/// Writes the line of the time; nothing where it is 0.
-fn show_time<W: Write>(core: &Core, page: &mut Page, writer: &mut W)
+/// Writes the line of the time; nothing if it is 0, or if it is what it was before.
+fn show_time<W: Write>(before: Option<&Core>, core: &Core, page: &mut Page, writer: &mut W)
     ensures { Stays (W.contents writer.old) (W.contents writer.new) }
 {
     let time = core.time();
-    if time > 0 {
+    if time > time_of(before) {
         page.number("  time ", time, writer);
         page.words("\n", writer);
+    }
+}
+
+/// The time of a core, or 0 if there is none.
+fn time_of(before: Option<&Core>) -> u32 {
+    match before {
+        Some(core) => core.time(),
+        None => 0,
     }
 }

@@ -1,18 +1,21 @@
 ghost use Rattle.pif_show.specs.Extends.{Stays};
 
 use crate::calls::show_call;
+use crate::changes::{Holder, has_thread_changed, holder_of};
 use crate::pages::Page;
 use pif_core::{Core, Status};
 use pif_types::{CondId, MutexId, Tid};
 use std::io::Write;
 
-/// Writes a line for each thread.
-pub fn show_threads<W: Write>(core: &Core, page: &mut Page, writer: &mut W)
+/// Writes a line for each thread, or if there is a core from before, for each of which the line has changed.
+pub fn show_threads<W: Write>(before: Option<&Core>, core: &Core, page: &mut Page, writer: &mut W)
     ensures { Stays (W.contents writer.old) (W.contents writer.new) }
 {
     for number in 1..=core.threads() {
         if let Some(thread) = Tid::new(number) {
-            show_thread(core, thread, page, writer);
+            if has_thread_changed(before, core, thread) {
+                show_thread(core, thread, page, writer);
+            }
         }
     }
 }
@@ -69,7 +72,7 @@ fn show_status<W: Write>(core: &Core, status: Status, page: &mut Page, writer: &
 {
     match status {
         Status::Ready(_) => page.words("ready", writer),
-        Status::Queued(mutex) => show_wait(core, mutex, page, writer),
+        Status::Queued(mutex) => show_wait(mutex, holder_of(core, mutex), page, writer),
         Status::Parked(cond) => show_parking(core, cond, page, writer),
         Status::Stopped => page.words("stopped for good", writer),
         Status::Ended => page.words("ended", writer),
@@ -77,12 +80,12 @@ fn show_status<W: Write>(core: &Core, status: Status, page: &mut Page, writer: &
 }
 
 /// Writes that a thread waits for a mutex, and who holds it.
-fn show_wait<W: Write>(core: &Core, mutex: MutexId, page: &mut Page, writer: &mut W)
+fn show_wait<W: Write>(mutex: MutexId, holder: Option<Holder>, page: &mut Page, writer: &mut W)
     ensures { Stays (W.contents writer.old) (W.contents writer.new) }
 {
     page.mutex("waits for ", mutex, writer);
-    if let Some((owner, _)) = core.owner(mutex) {
-        show_owner(core, ", held by ", owner, page, writer);
+    if let Some(held) = holder {
+        show_holder(", held by ", held, page, writer);
     }
 }
 
@@ -96,12 +99,12 @@ fn show_parking<W: Write>(core: &Core, cond: CondId, page: &mut Page, writer: &m
     }
 }
 
-/// Writes the owner of a mutex, and marks it where it has ended.
-pub fn show_owner<W: Write>(core: &Core, before: &str, owner: Tid, page: &mut Page, writer: &mut W)
+/// Writes the owner of a mutex, and marks it if it has ended.
+pub fn show_holder<W: Write>(words: &str, holder: Holder, page: &mut Page, writer: &mut W)
     ensures { Stays (W.contents writer.old) (W.contents writer.new) }
 {
-    page.thread(before, owner, writer);
-    if core.base(owner).is_none() {
+    page.thread(words, holder.owner, writer);
+    if holder.has_ended {
         page.words(" (ended)", writer);
     }
 }
@@ -137,6 +140,14 @@ fn show_holding<W: Write>(
     if count > 1 {
         page.number(" (", count, writer);
         page.words(" times)", writer);
+    }
+}
+
+/// The mutex on which a thread of this status is queued.
+pub fn mutex_of(status: Status) -> Option<MutexId> {
+    match status {
+        Status::Queued(mutex) => Some(mutex),
+        _ => None,
     }
 }
 

@@ -9,6 +9,7 @@ mod slips;
 mod walk;
 mod wrongs;
 
+pub use near::nearest_name;
 pub use slips::Slip;
 pub use walk::read_command;
 pub use wrongs::Wrong;

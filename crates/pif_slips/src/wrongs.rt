@@ -7,7 +7,7 @@ pub enum Wrong {
     CarriageReturn,
     /// A blank stands at an end of the line or behind another blank, or there is a tab.
     Spaces,
-    /// There is a `#`: stories have comments, and scripts have none.
+    /// There is a `#`: scripts have no comments, and those of stories are whole lines.
     Comment,
     /// The word would be right in small letters.
     Capitals,
@@ -42,7 +42,7 @@ impl Wrong {
             Wrong::Empty => "an empty line is no command",
             Wrong::CarriageReturn => "the line ends in CR LF, and not in LF alone",
             Wrong::Spaces => "words are separated by one space, with none at either end",
-            Wrong::Comment => "no such command, and there are no comments",
+            Wrong::Comment => "scripts have no comments; a story's are lines that begin with '#'",
             Wrong::Capitals => "no word has capital letters",
             Wrong::NoCommand => "no such command",
             Wrong::NoCall => "no such call",

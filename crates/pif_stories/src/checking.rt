@@ -8,7 +8,7 @@ use crate::comparing::{Flaw, compare};
 use crate::filling::filled_text;
 use crate::scripts::script_of;
 use crate::verdicts::verdict_line;
-use pif_scripts::{Cause, CliFault, MOST_BYTES, read_all, run, write_whole};
+use pif_scripts::{Cause, CliFault, MOST_BYTES, Notice, read_all, run, write_whole};
 use std::alloc::Global;
 use std::io::{Read, Write};
 
@@ -69,12 +69,25 @@ fn ended(verdict: Result<u64, Flaw<'_>>) -> Result<(), CliFault>
     }
 }
 
-/// What is told of a story of this name that comes to this.
-fn tell(alloc: Global, name: &[u8], verdict: Result<u64, Flaw<'_>>) -> Result<Telling, CliFault>
+/// Has `notice` keep the command that is a fault, if one is.
+fn note(verdict: Result<u64, Flaw<'_>>, notice: &mut Notice) {
+    if let Err(Flaw::Fault(_, command, _)) = verdict {
+        notice.keep_command(command);
+    }
+}
+
+/// What is told of a story of this name that comes to this; `notice` keeps the command that is a fault, if one is.
+fn tell(
+    alloc: Global,
+    name: &[u8],
+    verdict: Result<u64, Flaw<'_>>,
+    notice: &mut Notice,
+) -> Result<Telling, CliFault>
     ensures told { IfOk result (λ telling. (telling.0.items, telling.1) ≡ told name.now (verdict_of verdict.entry)) }
     ensures failed { IfErr result IsUntold }
 {
     let end = ended(verdict);
+    note(verdict, notice);
     match verdict_line(alloc, name, verdict) {
         Ok(line) => Ok((line, end)),
         Err(_) => Err(CliFault::NoMemory),
@@ -99,17 +112,32 @@ fn judge<'a>(
 
 /// What a check tells of a story of this name.
 #[tactic(auto, unfolding(crate::specs::Checks::checked, crate::specs::Checks::verdict))]
-fn check_text(alloc: Global, name: &[u8], story: &[u8]) -> Result<Telling, CliFault>
+fn check_text(
+    alloc: Global,
+    name: &[u8],
+    story: &[u8],
+    notice: &mut Notice,
+) -> Result<Telling, CliFault>
     ensures told { IfOk result (λ telling. (telling.0.items, telling.1) ≡ checked name.now story.now) }
     ensures failed { IfErr result IsUntold }
 {
     let (output, fault) = run_story(alloc, story)?;
-    tell(alloc, name, judge(story, Some(output.as_slice()), fault))
+    tell(
+        alloc,
+        name,
+        judge(story, Some(output.as_slice()), fault),
+        notice,
+    )
 }
 
 /// What is told of a story of this name that is filled in.
 #[tactic(auto, unfolding(crate::specs::Checks::filled))]
-fn fill_text(alloc: Global, name: &[u8], story: &[u8]) -> Result<Telling, CliFault>
+fn fill_text(
+    alloc: Global,
+    name: &[u8],
+    story: &[u8],
+    notice: &mut Notice,
+) -> Result<Telling, CliFault>
     ensures told { IfOk result (λ telling. (telling.0.items, telling.1) ≡ filled name.now story.now) }
     ensures failed { IfErr result IsUntold }
 {
@@ -119,7 +147,7 @@ fn fill_text(alloc: Global, name: &[u8], story: &[u8]) -> Result<Telling, CliFau
             Ok(text) => Ok((text, Ok(()))),
             Err(_) => Err(CliFault::NoMemory),
         },
-        Err(flaw) => tell(alloc, name, Err(flaw)),
+        Err(flaw) => tell(alloc, name, Err(flaw), notice),
     }
 }
 
@@ -152,8 +180,27 @@ pub fn check<R: Read, W: Write>(
     ensures { TellsTo (checked name.now) (R.remaining reader.old) (R.remaining reader.new)
         (W.contents writer.old) (W.contents writer.new) result }
 {
+    check_noting(alloc, name, reader, writer, &mut Notice::new())
+}
+
+/// Checks a story as `check` does, and has `notice` keep the command that is a fault; if there is none, `notice` is left
+/// as it is.
+///
+/// # Errors
+///
+/// Those of `check`.
+pub fn check_noting<R: Read, W: Write>(
+    alloc: Global,
+    name: &[u8],
+    reader: &mut R,
+    writer: &mut W,
+    notice: &mut Notice,
+) -> Result<(), CliFault>
+    ensures { TellsTo (checked name.now) (R.remaining reader.old) (R.remaining reader.new)
+        (W.contents writer.old) (W.contents writer.new) result }
+{
     let story = read_all(alloc, reader)?;
-    let telling = check_text(alloc, name, story.as_slice())?;
+    let telling = check_text(alloc, name, story.as_slice(), notice)?;
     write_telling(telling, writer)
 }
 
@@ -174,8 +221,27 @@ pub fn fill<R: Read, W: Write>(
     ensures { TellsTo (filled name.now) (R.remaining reader.old) (R.remaining reader.new)
         (W.contents writer.old) (W.contents writer.new) result }
 {
+    fill_noting(alloc, name, reader, writer, &mut Notice::new())
+}
+
+/// Fills in a story as `fill` does, and has `notice` keep the command that is a fault; if there is none, `notice` is left
+/// as it is.
+///
+/// # Errors
+///
+/// Those of `fill`.
+pub fn fill_noting<R: Read, W: Write>(
+    alloc: Global,
+    name: &[u8],
+    reader: &mut R,
+    writer: &mut W,
+    notice: &mut Notice,
+) -> Result<(), CliFault>
+    ensures { TellsTo (filled name.now) (R.remaining reader.old) (R.remaining reader.new)
+        (W.contents writer.old) (W.contents writer.new) result }
+{
     let story = read_all(alloc, reader)?;
-    let telling = fill_text(alloc, name, story.as_slice())?;
+    let telling = fill_text(alloc, name, story.as_slice(), notice)?;
     write_telling(telling, writer)
 }
 

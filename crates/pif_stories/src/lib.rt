@@ -12,4 +12,4 @@ mod lines;
 mod scripts;
 mod verdicts;
 
-pub use checking::{check, fill, ok_is_exact};
+pub use checking::{check, check_noting, fill, fill_noting, ok_is_exact};

@@ -18,7 +18,7 @@ fn check_files<P: Abort + AllocGlobal + Files + Threads + Wait + Sync>(
     let mut output = Kept::new();
     let mut errors = Kept::new();
     let mut input = STORY;
-    let ended = command_over_files(rt, words, &mut input, &mut output, &mut errors);
+    let ended = command_over_files(rt, false, words, &mut input, &mut output, &mut errors);
     assert_eq!(rt; ended, status, "{words:?}");
     assert!(rt; output.as_slice() == written.0.as_bytes(), "{words:?}");
     assert!(rt; errors.as_slice() == written.1.as_bytes(), "{words:?}");

@@ -61,11 +61,11 @@ fn a_faulty_script_is_told_by_its_line(rt: HostRuntime) {
         ),
         (
             b"# a comment\nthread 10\n",
-            "pif: line 1, column 1: no such command, and there are no comments: # a comment\n",
+            "pif: line 1, column 1: scripts have no comments; a story's are lines that begin with '#': # a comment\n",
         ),
         (
             b"thread 10 # low\n",
-            "pif: line 1, column 11: no such command, and there are no comments: thread 10 # low\n",
+            "pif: line 1, column 11: scripts have no comments; a story's are lines that begin with '#': thread 10 # low\n",
         ),
         (
             b"thread 10\n\npick\n",
@@ -116,6 +116,10 @@ fn a_faulty_script_is_told_by_its_line(rt: HostRuntime) {
             b"pif-trace 1\nthread 10 = t1\n",
             "pif: line 1: a trace is no script: 'pif replay' takes it: pif-trace 1\n",
         ),
+        (
+            b"thread 10       = t1\n",
+            "pif: line 1: a story is no script: 'pif check' takes it: thread 10       = t1\n",
+        ),
     ];
     for (script, message) in scripts {
         for job in ["run", "trace"] {
@@ -129,7 +133,19 @@ fn a_faulty_trace_is_told_by_its_line(rt: HostRuntime) {
     let traces = [
         (
             b"thread 10\n".as_slice(),
-            "pif: line 1: the first line of a trace is 'pif-trace 1' or 'pif-trace 2': thread 10\n",
+            "pif: line 1: a script is no trace: 'pif run' takes it: thread 10\n",
+        ),
+        (
+            b"thread 10   = t1\n",
+            "pif: line 1: a story is no trace: 'pif check' takes it: thread 10   = t1\n",
+        ),
+        (
+            b"pif-trace 3\n",
+            "pif: line 1: there are traces of version 1 and of version 2 only: pif-trace 3\n",
+        ),
+        (
+            b"hello\n",
+            "pif: line 1: the first line of a trace is 'pif-trace 1' or 'pif-trace 2': hello\n",
         ),
         (
             b"",
@@ -153,7 +169,11 @@ fn a_faulty_trace_is_told_by_its_line(rt: HostRuntime) {
         ),
         (
             b"pif-trace 1\nthread 10 = t1\npick = t1\n",
-            "pif: line 3: no such command in a trace: pick = t1\n",
+            "pif: line 3: a question has no place in a trace: pick = t1\n",
+        ),
+        (
+            b"pif-trace 2\nfinish t1 = answer 0\n",
+            "pif: line 2: a trace has 'begin' and 'go' in place of 'call' and 'finish': finish t1 = answer 0\n",
         ),
         (
             b"pif-trace 1\nmutex fair = m1\n",
@@ -174,7 +194,7 @@ fn a_faulty_trace_is_told_by_its_line(rt: HostRuntime) {
         ),
         (
             b"pif-trace 1\ntick 1 = ticked\n",
-            "pif: line 2: no such command in a trace: tick 1 = ticked\n",
+            "pif: line 2: a trace of version 1 has no deadlines and no 'tick': tick 1 = ticked\n",
         ),
     ];
     for (trace, message) in traces {
@@ -203,6 +223,10 @@ fn a_difference_is_told_with_both_answers(rt: HostRuntime) {
             b"pif-trace 1\nthread 10 = t1\r\n",
             "pif: line 2: recorded 't1\\r', but the core gives 't1': thread 10 = t1\\r\n",
         ),
+        (
+            b"pif-trace 1\nthread 10 = t1\nmutex normal = m1\nbegin t1 unlock m1 = begun\ngo t1 = answer 35\n",
+            "pif: line 5: recorded 'answer 35 EDEADLK', but the core gives 'answer 1 EPERM': go t1 = answer 35\n",
+        ),
     ];
     for (trace, message) in traces {
         check_input(&rt, rt.alloc(), "replay", trace, (5, message));
@@ -216,7 +240,28 @@ fn a_story_that_is_not_ok_is_told_by_its_line(rt: HostRuntime) {
             b"#\nthread 10 = t2\n".as_slice(),
             (5, "pif: line 2: the core gives another answer\n"),
         ),
-        (b"\nlok m1\n", (2, "pif: line 2: no such command\n")),
+        (
+            b"\ncall t1 lok m1 = waits\n",
+            (
+                2,
+                "pif: line 2, column 9: no such call, perhaps 'lock', in 'call tN CALL': call t1 lok m1\n",
+            ),
+        ),
+        (
+            b"pif-trace 1\nthread 10 = t1\n",
+            (
+                2,
+                "pif: line 1: a trace is no script: 'pif replay' takes it: pif-trace 1\n",
+            ),
+        ),
+        (
+            b"limits 0 0 0 1\n",
+            (
+                2,
+                "pif: line 1: a limit is out of range (threads 1 to 1024, mutexes 0 to 1024, variables 0 to 256, \
+                signals 1 to 4294967295)\n",
+            ),
+        ),
         (b"", (0, "")),
     ];
     for (story, told) in stories {

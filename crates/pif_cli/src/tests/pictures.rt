@@ -41,11 +41,13 @@ fn each_picture_is_written(rt: HostRuntime) -> Result<(), Fail> {
         "\"chains\":[[\"t2\",\"m1\",\"t1\"]]}\n",
     );
     let graph = ("digraph waiting {\n", "}\n");
-    let pictures: [(&[&str], (&str, &str)); 4] = [
+    let pictures: [(&[&str], (&str, &str)); 6] = [
         (["pif", "draw"].as_slice(), ("<svg ", "</svg>\n")),
         (["pif", "show", "--json"].as_slice(), states),
         (["pif", "show", "--dot"].as_slice(), graph),
         (["pif", "show", "--dot", "--json"].as_slice(), states),
+        (["pif", "show", "--all", "--dot"].as_slice(), graph),
+        (["pif", "show", "--all", "--json"].as_slice(), states),
     ];
     for (words, ends) in pictures {
         check(&rt, rt.alloc(), words, ends)?;
@@ -64,6 +66,8 @@ fn no_picture_is_written_of_a_story_with_a_fault(rt: HostRuntime) {
     for words in words {
         let (ended, output, errors) = asked(&rt, rt.alloc(), words, story);
         assert!(rt; (ended, output.len()) == (2, 0));
-        assert!(rt; errors.as_slice() == "pif: line 3: no such command\n".as_bytes());
+        assert!(rt;
+            errors.as_slice() == "pif: line 3, column 1: no such command: lok\n".as_bytes()
+        );
     }
 }

@@ -8,17 +8,17 @@ use std::sync::Wait;
 use std::test::Fail;
 use std::thread::Threads;
 
-/// Shows a script, and checks the status, the first lines and the last lines of what is written; the errors are told of
-/// each status but 0.
+/// Shows a script by these words, and checks the status, the first lines and the last lines of what is written; the errors
+/// are told of each status but 0.
 fn check(
     rt: &(impl Abort + Threads + Wait + Sync),
     alloc: Global,
+    words: &[&str],
     text: &str,
     status: u8,
     ends: (&str, &str),
 ) -> Result<(), Fail> {
-    let words = ["pif", "show"];
-    let (ended, output, errors) = asked(rt, alloc, words.as_slice(), text.as_bytes());
+    let (ended, output, errors) = asked(rt, alloc, words, text.as_bytes());
     assert_eq!(rt;
         (ended, errors.is_empty()),
         (status, status == 0),
@@ -33,22 +33,46 @@ fn check(
     Ok(())
 }
 
+/// What asks for the changes behind each line.
+const SHOW: [&str; 2] = ["pif", "show"];
+
+/// What asks for all there is.
+const SHOW_ALL: [&str; 3] = ["pif", "show", "--all"];
+
+/// Three threads, each of which waits for the next.
+const CHAIN: &str =
+    "thread 10\nthread 20\nthread 50\nmutex normal\nmutex normal\ncall t1 lock m1\ncall t2 lock m2\n\
+    call t2 lock m1\ncall t3 lock m2\n";
+
 #[test]
 fn a_chain_of_three_is_shown(rt: HostRuntime) -> Result<(), Fail> {
-    let text =
-        "thread 10\nthread 20\nthread 50\nmutex normal\nmutex normal\ncall t1 lock m1\ncall t2 lock m2\n\
-        call t2 lock m1\ncall t3 lock m2\n";
     let first = "> thread 10\nt1\n  t1: priority 10; ready\n  run queue: t1\n\n\
         > thread 20\nt2\n  t1: priority 10; ready\n  t2: priority 20; ready\n  run queue: t2, t1\n\n";
     let last = "\n\n> call t3 lock m2\nwaits\n\
         \x20 t1: priority 50 (base 10); ready; holds m1\n\
         \x20 t2: priority 50 (base 20); waits for m1, held by t1; in lock m1; holds m2\n\
         \x20 t3: priority 50; waits for m2, held by t2; in lock m2\n\
-        \x20 m1: normal, fine; word t1 + WAITERS; owner t1; waiters t2\n\
-        \x20 m2: normal, fine; word t2 + WAITERS; owner t2; waiters t3\n\
+        \x20 m1: normal; word t1 + WAITERS; owner t1; waiters t2\n\
+        \x20 m2: normal; word t2 + WAITERS; owner t2; waiters t3\n\
         \x20 run queue: t1\n\
         \x20 chain: t3 -> m2 -> t2 -> m1 -> t1\n\n";
-    check(&rt, rt.alloc(), text, 0, (first, last))
+    let ends = (first, last);
+    check(&rt, rt.alloc(), SHOW_ALL.as_slice(), CHAIN, 0, ends)
+}
+
+#[test]
+fn what_a_chain_of_three_changes_is_shown(rt: HostRuntime) -> Result<(), Fail> {
+    let first = "> thread 10\nt1\n  t1: priority 10; ready\n  run queue: t1\n\n\
+        > thread 20\nt2\n  t2: priority 20; ready\n  run queue: t2, t1\n\n";
+    let last = "\n\n> call t3 lock m2\nwaits\n\
+        \x20 t1: priority 50 (base 10); ready; holds m1\n\
+        \x20 t2: priority 50 (base 20); waits for m1, held by t1; in lock m1; holds m2\n\
+        \x20 t3: priority 50; waits for m2, held by t2; in lock m2\n\
+        \x20 m2: normal; word t2 + WAITERS; owner t2; waiters t3\n\
+        \x20 run queue: t1\n\
+        \x20 chain: t3 -> m2 -> t2 -> m1 -> t1\n\n";
+    let ends = (first, last);
+    check(&rt, rt.alloc(), SHOW.as_slice(), CHAIN, 0, ends)
 }
 
 #[test]
@@ -58,10 +82,11 @@ fn a_robust_mutex_is_shown_whose_owner_ended(rt: HostRuntime) -> Result<(), Fail
     let last = "> end t1\nended\n\
         \x20 t1: ended\n\
         \x20 t2: priority 20; ready; in lock m1; holds m1\n\
-        \x20 m1: normal, robust, fine; word t2 + WAITERS + OWNER_DIED; owner t2\n\
-        \x20 run queue: t2\n\n";
+        \x20 m1: normal, robust, inconsistent; health word still fine; word t2 + WAITERS + OWNER_DIED; owner t2\n\
+        \x20 run queue: t2\n\
+        \x20 chain: none\n\n";
     let first = "> mutex normal robust\nm1\n  m1: normal, robust, fine; word 0\n\n";
-    check(&rt, rt.alloc(), text, 0, (first, last))
+    check(&rt, rt.alloc(), SHOW.as_slice(), text, 0, (first, last))
 }
 
 #[test]
@@ -70,11 +95,12 @@ fn a_variable_is_shown_with_two_parked(rt: HostRuntime) -> Result<(), Fail> {
         "thread 10\nthread 20\nmutex normal\ncond m1\ncall t1 lock m1\ncall t1 wait c1 m1\ncall t2 lock m1\n\
         call t2 wait c1 m1\n";
     let last = "> call t2 wait c1 m1\nwaits\n\
-        \x20 t1: priority 10; parked on c1 for m1; in wait c1 m1\n\
         \x20 t2: priority 20; parked on c1 for m1; in wait c1 m1\n\
-        \x20 m1: normal, fine; word 0\n\
-        \x20 c1: for m1; uses 0; parked t2, t1\n\n";
-    check(&rt, rt.alloc(), text, 0, ("> thread 10\nt1\n", last))
+        \x20 m1: normal; word 0\n\
+        \x20 c1: for m1; uses 0; parked t2, t1\n\
+        \x20 run queue: none\n\n";
+    let ends = ("> thread 10\nt1\n", last);
+    check(&rt, rt.alloc(), SHOW.as_slice(), text, 0, ends)
 }
 
 #[test]
@@ -93,24 +119,18 @@ fn the_line_of_a_fault_is_shown_behind_the_state_before_it(rt: HostRuntime) -> R
             "> ?pick\nfault 3 command\n",
         ),
     ];
+    let first = "> limits 1 0 0 1\nok\n\n> thread 10\nt1\n  t1: priority 10; ready\n";
     for (text, fault) in scripts {
-        check(
-            &rt,
-            rt.alloc(),
-            text,
-            2,
-            (
-                "> limits 1 0 0 1\nok\n\n> thread 10\nt1\n  t1: priority 10; ready\n",
-                fault,
-            ),
-        )?;
+        check(&rt, rt.alloc(), SHOW.as_slice(), text, 2, (first, fault))?;
     }
+    let ends = ("> limits 0 0 0 1\nfault 1 limits\n", "");
     check(
         &rt,
         rt.alloc(),
+        SHOW.as_slice(),
         "limits 0 0 0 1\n",
         2,
-        ("> limits 0 0 0 1\nfault 1 limits\n", ""),
+        ends,
     )
 }
 
@@ -149,7 +169,7 @@ fn a_second_file_is_no_word_of_show(rt: HostRuntime) -> Result<(), Fail> {
     let told = from_utf8(errors.as_slice())?;
     assert!(rt;
         told.contains("unexpected argument 'boosted.pif'")
-            && told.contains("Usage: pif show [--json | --dot] [FILE]\n")
+            && told.contains("Usage: pif show [--all | --json | --dot] [FILE]\n")
     );
     Ok(())
 }

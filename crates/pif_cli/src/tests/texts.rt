@@ -72,12 +72,12 @@ fn check_helped(
 
 #[test]
 fn wrong_words_are_refused(rt: HostRuntime) -> Result<(), Fail> {
-    let refused: [(&[&str], [&str; 4]); 12] = [
+    let refused: [(&[&str], [&str; 4]); 15] = [
         (
             ["pif"].as_slice(),
             [
                 "requires a subcommand",
-                "run, show, draw, check, replay, trace, migrate, random, drive",
+                "run, show, draw, shell, check, replay, trace, migrate, random, drive",
                 USAGE,
                 MORE,
             ],
@@ -140,8 +140,40 @@ fn wrong_words_are_refused(rt: HostRuntime) -> Result<(), Fail> {
             ["error", "unexpected argument '--fast'", USAGE, MORE],
         ),
         (
-            ["pif", "help"].as_slice(),
-            ["error", "unrecognized subcommand 'help'", USAGE, MORE],
+            ["pif", "rnu"].as_slice(),
+            [
+                "unrecognized subcommand 'rnu'",
+                "Perhaps 'run' is meant.\n",
+                USAGE,
+                MORE,
+            ],
+        ),
+        (
+            ["pif", "help", "shwo"].as_slice(),
+            [
+                "unrecognized subcommand 'shwo'",
+                "Perhaps 'show' is meant.\n",
+                USAGE,
+                MORE,
+            ],
+        ),
+        (
+            ["pif", "MIGRATE"].as_slice(),
+            [
+                "unrecognized subcommand 'MIGRATE'",
+                "Perhaps 'migrate' is meant.\n",
+                USAGE,
+                MORE,
+            ],
+        ),
+        (
+            ["pif", "chekc"].as_slice(),
+            [
+                "unrecognized subcommand 'chekc'",
+                "a similar subcommand exists: 'check'",
+                USAGE,
+                MORE,
+            ],
         ),
         (
             ["pif", "drive"].as_slice(),
@@ -183,7 +215,7 @@ fn help_is_shown(rt: HostRuntime) -> Result<(), Fail> {
         "-V, --version",
         "Example:\n  printf 'thread 10\\nmutex normal\\ncall t1 lock m1\\nword m1\\n' | pif run",
     ];
-    for word in ["--help", "-h"] {
+    for word in ["--help", "-h", "help"] {
         check_helped(&rt, rt.alloc(), ["pif", word].as_slice(), whole.as_slice())?;
     }
     let run = [

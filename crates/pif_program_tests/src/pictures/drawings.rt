@@ -1,6 +1,7 @@
 use super::BOOSTED;
 use crate::streams::Kept;
 use pif_pictures::draw;
+use pif_scripts::Notice;
 use std::alloc::Global;
 use std::process::Abort;
 use std::str::from_utf8;
@@ -8,7 +9,12 @@ use std::str::from_utf8;
 /// Draws a story, and looks for parts of the drawing.
 fn check_parts(rt: &impl Abort, alloc: Global, story: &str, parts: &[&str]) {
     let mut output = Kept::new();
-    let ended = draw(alloc, &mut story.as_bytes(), &mut output);
+    let ended = draw(
+        alloc,
+        &mut story.as_bytes(),
+        &mut output,
+        &mut Notice::new(),
+    );
     assert_eq!(rt; ended, Ok(()));
     let text = from_utf8(output.text()).unwrap_or("");
     for part in parts {

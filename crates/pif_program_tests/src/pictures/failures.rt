@@ -3,7 +3,7 @@
 use super::BOOSTED;
 use crate::streams::{Cautious, Failing, Kept};
 use pif_pictures::{draw, write_graph, write_states};
-use pif_scripts::{Cause, CliFault};
+use pif_scripts::{Cause, CliFault, Notice};
 use std::alloc::Global;
 use std::io::{Read, Write};
 use std::process::Abort;
@@ -20,10 +20,11 @@ fn pictured<R: Read, W: Write>(
     reader: &mut R,
     writer: &mut W,
 ) -> Result<(), CliFault> {
+    let mut notice = Notice::new();
     match number {
-        0 => draw(alloc, reader, writer),
-        1 => write_states(alloc, reader, writer),
-        _ => write_graph(alloc, reader, writer),
+        0 => draw(alloc, reader, writer, &mut notice),
+        1 => write_states(alloc, reader, writer, &mut notice),
+        _ => write_graph(alloc, reader, writer, &mut notice),
     }
 }
 
@@ -69,7 +70,12 @@ fn where_a_read_fails_nothing_is_written(rt: HostRuntime) {
 /// Writes so many bytes of a graph, behind which a write fails.
 fn write_so_far(rt: &impl Abort, alloc: Global, left: usize) {
     let mut output = Cautious::new(7, left);
-    let ended = write_graph(alloc, &mut BOOSTED.as_bytes(), &mut output);
+    let ended = write_graph(
+        alloc,
+        &mut BOOSTED.as_bytes(),
+        &mut output,
+        &mut Notice::new(),
+    );
     assert_eq!(rt; ended, Err(CliFault::Write), "{left}");
     assert!(rt;
         GRAPH.as_bytes().get(..left) == Some(output.text()),

@@ -1,12 +1,18 @@
 use crate::streams::Kept;
 use pif_pictures::write_graph;
+use pif_scripts::Notice;
 use std::alloc::Global;
 use std::process::Abort;
 
 /// Compares the graph of a story.
 fn check_graph(rt: &impl Abort, alloc: Global, story: &str, graph: &str) {
     let mut output = Kept::new();
-    let ended = write_graph(alloc, &mut story.as_bytes(), &mut output);
+    let ended = write_graph(
+        alloc,
+        &mut story.as_bytes(),
+        &mut output,
+        &mut Notice::new(),
+    );
     assert_eq!(rt; ended, Ok(()));
     output.check(rt, graph);
 }

@@ -1,12 +1,18 @@
 use crate::streams::Kept;
 use pif_pictures::write_states;
+use pif_scripts::Notice;
 use std::alloc::Global;
 use std::process::Abort;
 
 /// Compares the last of the lines that are written for a story.
 fn check_last(rt: &impl Abort, alloc: Global, story: &str, object: &str) {
     let mut output = Kept::new();
-    let ended = write_states(alloc, &mut story.as_bytes(), &mut output);
+    let ended = write_states(
+        alloc,
+        &mut story.as_bytes(),
+        &mut output,
+        &mut Notice::new(),
+    );
     assert_eq!(rt; ended, Ok(()));
     assert!(rt; output.text().ends_with(object.as_bytes()), "{object:?}");
 }
@@ -15,7 +21,7 @@ fn check_last(rt: &impl Abort, alloc: Global, story: &str, object: &str) {
 fn each_command_has_an_object(rt: HostRuntime) {
     let mut output = Kept::new();
     let mut input = b"# first\nthread 10\n\nmutex normal robust = m7\n".as_slice();
-    let ended = write_states(rt.alloc(), &mut input, &mut output);
+    let ended = write_states(rt.alloc(), &mut input, &mut output, &mut Notice::new());
     assert_eq!(rt; ended, Ok(()));
     output.check(
         &rt,

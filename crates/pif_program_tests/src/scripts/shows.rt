@@ -1,10 +1,13 @@
-//! What `show` writes of the longest line, and what it tells of a write that fails, wherever that is.
+//! What `show` writes of the longest line, what it tells of a write that fails, wherever that is, and the errors' names.
 
 use crate::streams::{Faltering, Kept};
 use pif_scripts::{Cause, CliFault, show};
+use pif_show::{errno_name, errno_of};
+use pif_types::Errno;
 use std::alloc::Global;
 use std::io::ErrorKind;
 use std::process::Abort;
+use std::test::Fail;
 
 /// A script that ends at a fault.
 const SCRIPT: &str = "limits 1 1 0 1\nthread 10\nmutex normal\ncall t1 lock m1\nthreat\n";
@@ -12,9 +15,9 @@ const SCRIPT: &str = "limits 1 1 0 1\nthread 10\nmutex normal\ncall t1 lock m1\n
 /// What is shown of it.
 const SHOWN: &str =
     "> limits 1 1 0 1\nok\n\n> thread 10\nt1\n  t1: priority 10; ready\n  run queue: t1\n\n\
-    > mutex normal\nm1\n  t1: priority 10; ready\n  m1: normal, fine; word 0\n  run queue: t1\n\n\
-    > call t1 lock m1\nanswer 0\n  t1: priority 10; ready; holds m1\n  m1: normal, fine; word t1; owner t1\n\
-    \x20 run queue: t1\n\n> threat\nfault 5 command\n";
+    > mutex normal\nm1\n  m1: normal; word 0\n\n\
+    > call t1 lock m1\nanswer 0\n  t1: priority 10; ready; holds m1\n  m1: normal; word t1; owner t1\n\n\
+    > threat\nfault 5 command\n";
 
 /// Checks what is shown of the script at a writer that fails once, behind so many bytes, and goes on.
 fn fail_at(rt: &impl Abort, alloc: Global, left: usize, failure: Option<ErrorKind>) {
@@ -73,4 +76,38 @@ fn a_line_of_120_bytes_is_shown_to_its_last(rt: HostRuntime) {
         Cause::Command,
     );
     show_long(&rt, rt.alloc(), b"d\n", b"\nfault 1 long\n", Cause::Long);
+}
+
+/// Each error.
+const ERRORS: [Errno; 11] = [
+    Errno::NotPermitted,
+    Errno::NoSuchThread,
+    Errno::Again,
+    Errno::Fault,
+    Errno::Busy,
+    Errno::Invalid,
+    Errno::Deadlock,
+    Errno::Overflow,
+    Errno::TimedOut,
+    Errno::OwnerDead,
+    Errno::NotRecoverable,
+];
+
+/// Checks that an error is found by its number, and has the name that its own text is.
+fn check_error(rt: &impl Abort, alloc: Global, error: Errno) -> Result<(), Fail> {
+    let text = format!(in alloc; "{error}")?;
+    assert_eq!(rt;
+        (errno_of(error.number()), errno_name(error)),
+        (Some(error), text.as_str())
+    );
+    Ok(())
+}
+
+#[test]
+fn errors_are_found_and_named(rt: HostRuntime) -> Result<(), Fail> {
+    for error in ERRORS {
+        check_error(&rt, rt.alloc(), error)?;
+    }
+    assert_eq!(rt; (errno_of(0), errno_of(2)), (None, None));
+    Ok(())
 }

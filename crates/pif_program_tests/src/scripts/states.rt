@@ -1,21 +1,122 @@
-//! What `show` writes of a core: each field of each line, of two objects that differ in it and of all places of a queue,
-//! and a write that fails in each part of a text that is longer than a page.
+//! What `show` writes of a core: each field of each line, of two objects that differ in it and of all places of a queue;
+//! what it writes of changes; and a write that fails in each part of a text that is longer than a page.
 
 use crate::streams::{Faltering, Last};
-use pif_scripts::{CliFault, show};
+use pif_scripts::{CliFault, show, show_all};
 use std::alloc::Global;
 use std::io::ErrorKind;
 use std::process::Abort;
 use std::str::from_utf8;
 use std::test::Fail;
 
-/// Checks what is shown of the last line of a script.
+/// Checks what is shown of the last line of a script, of all there is.
 fn check(rt: &impl Abort, alloc: Global, script: &str, shown: &str) {
+    let mut last = Last::new();
+    let ended = show_all(alloc, &mut script.as_bytes(), &mut last);
+    assert!(rt; last.text() == shown.as_bytes(), "{shown:?}");
+    assert_eq!(rt; ended, Ok(()));
+}
+
+/// Checks what is shown of the last line of a script, of what it changes.
+fn check_changes(rt: &impl Abort, alloc: Global, script: &str, shown: &str) {
     let mut last = Last::new();
     let ended = show(alloc, &mut script.as_bytes(), &mut last);
     assert!(rt; last.text() == shown.as_bytes(), "{shown:?}");
     assert_eq!(rt; ended, Ok(()));
 }
+
+#[test]
+fn changes_are_shown(rt: HostRuntime) {
+    for (script, shown) in CHANGES {
+        check_changes(&rt, rt.alloc(), script, shown);
+    }
+}
+
+/// No core before; nothing that changes; an addition; a step alone; a boost that ends; a chain that grows, that is left
+/// with one of two, and the last one that ends; an owner that ends, in the line of who waits for its mutex; counts; the
+/// health word; uses; two that are parked, of whom one is taken; time; and an error.
+const CHANGES: [(&str, &str); 15] = [
+    ("limits 1 1 1 1\n", "> limits 1 1 1 1\nok\n\n"),
+    ("limits 1 1 1 1\nthread 7\npick\n", "> pick\nt1\n\n"),
+    (
+        "thread 7\nmutex errorcheck\n",
+        "> mutex errorcheck\nm1\n  m1: errorcheck; word 0\n\n",
+    ),
+    (
+        "thread 7\nmutex normal\nbegin t1 lock m1\n",
+        "> begin t1 lock m1\nbegun\n  t1: priority 7; ready; in lock m1\n\n",
+    ),
+    (
+        "thread 7\nthread 8\nmutex normal\ncall t1 lock m1\ncall t2 lock m1\ncall t1 unlock m1\n",
+        "> call t1 unlock m1\nanswer 0\n\
+        \x20 t1: priority 7; ready\n\
+        \x20 t2: priority 8; ready; in lock m1; holds m1\n\
+        \x20 m1: normal; word t2 + WAITERS; owner t2\n\
+        \x20 run queue: t2, t1\n\
+        \x20 chain: none\n\n",
+    ),
+    (
+        "thread 9\nthread 8\nthread 7\nthread 7\nmutex normal\nmutex normal\ncall t1 lock m1\ncall t2 lock m2\n\
+        call t2 lock m1\ncall t4 lock m1\ncall t3 lock m2\n",
+        "> call t3 lock m2\nwaits\n\
+        \x20 t3: priority 7; waits for m2, held by t2; in lock m2\n\
+        \x20 m2: normal; word t2 + WAITERS; owner t2; waiters t3\n\
+        \x20 run queue: t1\n\
+        \x20 chain: t3 -> m2 -> t2 -> m1 -> t1\n\n",
+    ),
+    (
+        "thread 9\nthread 8\nthread 7\nmutex normal\nmutex normal\ncall t1 lock m1\ncall t1 lock m2\n\
+        call t2 lock m1\ncall t3 lock m2\ncall t1 unlock m1\n",
+        "> call t1 unlock m1\nanswer 0\n\
+        \x20 t1: priority 9; ready; holds m2\n\
+        \x20 t2: priority 8; ready; in lock m1; holds m1\n\
+        \x20 m1: normal; word t2 + WAITERS; owner t2\n\
+        \x20 run queue: t1, t2\n\n",
+    ),
+    (
+        "thread 9\nthread 8\nmutex normal\ncall t1 lock m1\ncall t2 lock m1\nend t1\n",
+        "> end t1\nended\n\
+        \x20 t1: ended; holds m1\n\
+        \x20 t2: priority 8; waits for m1, held by t1 (ended); in lock m1\n\
+        \x20 m1: normal; word t1 + WAITERS; owner t1 (ended); waiters t2\n\
+        \x20 run queue: none\n\
+        \x20 chain: t2 -> m1 -> t1 (ended)\n\n",
+    ),
+    (
+        "thread 9\nmutex recursive\ncall t1 lock m1\ncall t1 lock m1\n",
+        "> call t1 lock m1\nanswer 0\n\
+        \x20 t1: priority 9; ready; holds m1 (2 times)\n\
+        \x20 m1: recursive; word t1; owner t1, 2 times\n\n",
+    ),
+    (
+        "thread 9\nthread 8\nmutex normal robust\ncall t1 lock m1\nend t1\ncall t2 lock m1\n",
+        "> call t2 lock m1\nanswer 130 EOWNERDEAD\n\
+        \x20 t2: priority 8; ready; holds m1\n\
+        \x20 m1: normal, robust, inconsistent; word t2; owner t2\n\n",
+    ),
+    (
+        "thread 9\nthread 8\nmutex normal robust\ncall t1 lock m1\nend t1\ncall t2 lock m1\ncall t2 consistent m1\n",
+        "> call t2 consistent m1\nanswer 0\n  m1: normal, robust, fine; word t2; owner t2\n\n",
+    ),
+    (
+        "thread 9\nmutex normal\ncond m1\ncall t1 signal c1\n",
+        "> call t1 signal c1\nanswer 0\n  c1: for m1; uses 1\n\n",
+    ),
+    (
+        "thread 9\nthread 8\nthread 7\nmutex normal\ncond m1\ncall t1 lock m1\ncall t1 wait c1 m1\ncall t2 lock m1\n\
+        call t2 wait c1 m1\ncall t3 signal c1\n",
+        "> call t3 signal c1\nanswer 0\n\
+        \x20 t1: priority 9; ready; in wait c1 m1; holds m1\n\
+        \x20 m1: normal; word t1; owner t1\n\
+        \x20 c1: for m1; uses 1; parked t2\n\
+        \x20 run queue: t1, t3\n\n",
+    ),
+    ("thread 9\ntick 5\n", "> tick 5\nticked\n  time 5\n\n"),
+    (
+        "thread 9\nmutex errorcheck\ncall t1 lock m1\ncall t1 lock m1\n",
+        "> call t1 lock m1\nanswer 35 EDEADLK\n\n",
+    ),
+];
 
 #[test]
 fn chains_of_waiting_are_shown(rt: HostRuntime) {
@@ -34,8 +135,8 @@ const CHAINS: [(&str, &str); 3] = [
         \x20 t1: priority 50 (base 10); ready; holds m1\n\
         \x20 t2: priority 50 (base 20); waits for m1, held by t1; in lock m1; holds m2\n\
         \x20 t3: priority 50; waits for m2, held by t2; in lock m2\n\
-        \x20 m1: normal, fine; word t1 + WAITERS; owner t1; waiters t2\n\
-        \x20 m2: normal, fine; word t2 + WAITERS; owner t2; waiters t3\n\
+        \x20 m1: normal; word t1 + WAITERS; owner t1; waiters t2\n\
+        \x20 m2: normal; word t2 + WAITERS; owner t2; waiters t3\n\
         \x20 run queue: t1\n\
         \x20 chain: t3 -> m2 -> t2 -> m1 -> t1\n\n",
     ),
@@ -52,9 +153,9 @@ const CHAINS: [(&str, &str); 3] = [
         \x20 t5: priority 40; waits for m1, held by t1; in lock m1\n\
         \x20 t6: priority 50; waits for m3, held by t2; in lock m3\n\
         \x20 t7: priority 60; waits for m3, held by t2; in lock m3\n\
-        \x20 m1: recursive, fine; word t1 + WAITERS; owner t1, 2 times; waiters t5, t4, t3\n\
+        \x20 m1: recursive; word t1 + WAITERS; owner t1, 2 times; waiters t5, t4, t3\n\
         \x20 m2: recursive, robust, fine; word t1; owner t1, 3 times\n\
-        \x20 m3: recursive, fine; word t2 + WAITERS; owner t2, 2 times; waiters t7, t6\n\
+        \x20 m3: recursive; word t2 + WAITERS; owner t2, 2 times; waiters t7, t6\n\
         \x20 m4: normal, robust, fine; word t2; owner t2\n\
         \x20 run queue: t2, t1\n\
         \x20 chain: t3 -> m1 -> t1\n\
@@ -88,11 +189,11 @@ const ENDS: [(&str, &str); 5] = [
     (
         "thread 10\nthread 20\nmutex recursive robust\nmutex errorcheck robust\ncall t1 lock m1\ncall t1 lock m1\n\
         call t1 trylock m1\ncall t1 lock m2\nend t1\ncall t2 lock m1\n",
-        "> call t2 lock m1\nanswer 130\n\
+        "> call t2 lock m1\nanswer 130 EOWNERDEAD\n\
         \x20 t1: ended\n\
         \x20 t2: priority 20; ready; holds m1\n\
         \x20 m1: recursive, robust, inconsistent; word t2; owner t2\n\
-        \x20 m2: errorcheck, robust, fine; word 0 + OWNER_DIED\n\
+        \x20 m2: errorcheck, robust, inconsistent; health word still fine; word 0 + OWNER_DIED\n\
         \x20 run queue: t2\n\n",
     ),
     (
@@ -102,7 +203,7 @@ const ENDS: [(&str, &str); 5] = [
         \x20 t1: ended\n\
         \x20 t2: priority 20; ready\n\
         \x20 m1: recursive, robust, unusable; word 0\n\
-        \x20 m2: errorcheck, robust, fine; word 0 + OWNER_DIED\n\
+        \x20 m2: errorcheck, robust, inconsistent; health word still fine; word 0 + OWNER_DIED\n\
         \x20 run queue: t2\n\n",
     ),
     (
@@ -110,7 +211,7 @@ const ENDS: [(&str, &str); 5] = [
         "> end t1\nended\n\
         \x20 t1: ended; holds m1\n\
         \x20 t2: priority 20; waits for m1, held by t1 (ended); in lock m1\n\
-        \x20 m1: normal, fine; word t1 + WAITERS; owner t1 (ended); waiters t2\n\
+        \x20 m1: normal; word t1 + WAITERS; owner t1 (ended); waiters t2\n\
         \x20 chain: t2 -> m1 -> t1 (ended)\n\n",
     ),
     (
@@ -124,9 +225,9 @@ const ENDS: [(&str, &str); 5] = [
         \x20 t3: priority 30; waits for m1, held by t1 (ended); in lock m1\n\
         \x20 t4: priority 40; waits for m2, held by t2 (ended); in lock m2\n\
         \x20 t5: priority 50; ready; holds m4\n\
-        \x20 m1: normal, fine; word t1 + WAITERS; owner t1 (ended); waiters t3\n\
-        \x20 m2: errorcheck, fine; word t2 + WAITERS; owner t2 (ended); waiters t4\n\
-        \x20 m3: normal, robust, fine; word 0 + OWNER_DIED\n\
+        \x20 m1: normal; word t1 + WAITERS; owner t1 (ended); waiters t3\n\
+        \x20 m2: errorcheck; word t2 + WAITERS; owner t2 (ended); waiters t4\n\
+        \x20 m3: normal, robust, inconsistent; health word still fine; word 0 + OWNER_DIED\n\
         \x20 m4: errorcheck, robust, inconsistent; word t5; owner t5\n\
         \x20 m5: recursive, robust, unusable; word 0\n\
         \x20 run queue: t5\n\
@@ -152,7 +253,7 @@ const RESTING: [(&str, &str); 6] = [
         \x20 t1: priority 10; parked on c1 for m1; in wait c1 m1\n\
         \x20 t2: priority 20; parked on c1 for m1; in wait c1 m1\n\
         \x20 t3: priority 30; ready\n\
-        \x20 m1: normal, fine; word 0\n\
+        \x20 m1: normal; word 0\n\
         \x20 c1: for m1; uses 1; parked t2, t1\n\
         \x20 run queue: t3\n\n",
     ),
@@ -168,8 +269,8 @@ const RESTING: [(&str, &str); 6] = [
         \x20 t4: priority 40; parked on c2 for m1; in wait c2 m1\n\
         \x20 t5: priority 50; parked on c2 for m1; in wait c2 m1\n\
         \x20 t6: priority 60; ready\n\
-        \x20 m1: errorcheck, fine; word 0\n\
-        \x20 m2: normal, fine; word 0\n\
+        \x20 m1: errorcheck; word 0\n\
+        \x20 m2: normal; word 0\n\
         \x20 c1: for m2; uses 1; parked t3, t2, t1\n\
         \x20 c2: for m1; uses 2; parked t5, t4\n\
         \x20 run queue: t6\n\n",
@@ -178,7 +279,7 @@ const RESTING: [(&str, &str); 6] = [
         "thread 10\nmutex normal\ncall t1 lock m1\ncall t1 lock m1\n",
         "> call t1 lock m1\nwaits\n\
         \x20 t1: priority 10; stopped for good; in lock m1; holds m1\n\
-        \x20 m1: normal, fine; word t1; owner t1\n\n",
+        \x20 m1: normal; word t1; owner t1\n\n",
     ),
     (
         "thread 10\nthread 20\nmutex normal\nmutex normal\ncall t1 lock m2\ncall t1 lock m2\ncall t2 lock m1\n\
@@ -186,8 +287,8 @@ const RESTING: [(&str, &str); 6] = [
         "> call t2 lock m1\nwaits\n\
         \x20 t1: priority 10; stopped for good; in lock m2; holds m2\n\
         \x20 t2: priority 20; stopped for good; in lock m1; holds m1\n\
-        \x20 m1: normal, fine; word t2; owner t2\n\
-        \x20 m2: normal, fine; word t1; owner t1\n\n",
+        \x20 m1: normal; word t2; owner t2\n\
+        \x20 m2: normal; word t1; owner t1\n\n",
     ),
     (
         "thread 10\nthread 50\nmutex normal\ncall t1 lock m1\ncall t2 timedlock m1 5\ntick 5\n",
@@ -195,17 +296,17 @@ const RESTING: [(&str, &str); 6] = [
         \x20 time 5\n\
         \x20 t1: priority 50 (base 10); ready; holds m1\n\
         \x20 t2: priority 50; waits for m1, held by t1; in timedlock m1 5\n\
-        \x20 m1: normal, fine; word t1 + WAITERS; owner t1; waiters t2\n\
+        \x20 m1: normal; word t1 + WAITERS; owner t1; waiters t2\n\
         \x20 run queue: t1\n\
         \x20 chain: t2 -> m1 -> t1\n\n",
     ),
     (
         "thread 10\nthread 50\nmutex normal\ncall t1 lock m1\ncall t2 timedlock m1 5\ntick 5\nfinish t2\n",
-        "> finish t2\nanswer 110\n\
+        "> finish t2\nanswer 110 ETIMEDOUT\n\
         \x20 time 5\n\
         \x20 t1: priority 10; ready; holds m1\n\
         \x20 t2: priority 50; ready\n\
-        \x20 m1: normal, fine; word t1 + WAITERS; owner t1\n\
+        \x20 m1: normal; word t1 + WAITERS; owner t1\n\
         \x20 run queue: t2, t1\n\n",
     ),
 ];
@@ -225,7 +326,7 @@ fn check_thread(
     script.append(PAIRS.as_bytes());
     script.append(lines.as_bytes());
     let mut last = Last::new();
-    let ended = show(alloc, &mut script.text(), &mut last);
+    let ended = show_all(alloc, &mut script.text(), &mut last);
     assert_eq!(rt;
         (ended, from_utf8(last.text())?.lines().nth(place)),
         (Ok(()), Some(shown))
@@ -372,7 +473,7 @@ fn fail_at(
     failure: Option<ErrorKind>,
 ) {
     let mut writer = Faltering::new(Last::new(), start.saturating_add(left), failure);
-    let ended = show(alloc, &mut CROWD.as_bytes(), &mut writer);
+    let ended = show_all(alloc, &mut CROWD.as_bytes(), &mut writer);
     let front = &text[..text.len().min(LAST_CALL.len().saturating_add(left))];
     assert!(rt;
         ended == Err(CliFault::Write) && writer.kept().text() == front,
@@ -383,7 +484,7 @@ fn fail_at(
 #[test]
 fn a_write_that_fails_in_any_part_is_told(rt: HostRuntime) -> Result<(), Fail> {
     let mut last = Last::new();
-    let ended = show(rt.alloc(), &mut CROWD.as_bytes(), &mut last);
+    let ended = show_all(rt.alloc(), &mut CROWD.as_bytes(), &mut last);
     assert!(rt; ended == Ok(()) && last.text().len() == LAST_CALL.len() + LENGTH);
     assert_eq!(rt; from_utf8(last.text())?.lines().nth(16), Some(LINE));
     let start = last.count().saturating_sub(LENGTH);
@@ -414,7 +515,7 @@ fn a_text_longer_than_a_page_is_whole(rt: HostRuntime) -> Result<(), Fail> {
         script.append(b"thread 7\n");
     }
     let mut last = Last::new();
-    let ended = show(rt.alloc(), &mut script.text(), &mut last);
+    let ended = show_all(rt.alloc(), &mut script.text(), &mut last);
     let shown = from_utf8(last.text())?
         .strip_prefix("> thread 7\nt50\n")
         .ok_or("a state")?;

@@ -1,5 +1,5 @@
 use Rattle.pif_stories.proofs.ChecksLemmas.{filled_told}
-use Rattle.pif_stories.proofs.checking.fill.Goals as goal
+use Rattle.pif_stories.proofs.checking.fill_noting.Goals as goal
 
 pub returns : goal.returns
 returns g c =

@@ -1,5 +1,5 @@
 use Rattle.pif_stories.proofs.ChecksLemmas.{checked_told}
-use Rattle.pif_stories.proofs.checking.check.Goals as goal
+use Rattle.pif_stories.proofs.checking.check_noting.Goals as goal
 
 pub returns : goal.returns
 returns g c =

@@ -1,0 +1,96 @@
+//! Stories that are saved.
+
+use crate::streams::Kept;
+use pif_shell::{SaveFault, Shelf, shell};
+use std::alloc::Global;
+use std::process::Abort;
+
+/// A shelf that wants this story, and then answers so.
+#[derive(Drop)]
+struct Wanting<'a, A> {
+    rt: &'a A,
+    story: &'static str,
+    answer: Result<(), SaveFault>,
+}
+
+impl<'a, A: Abort> Shelf for Wanting<'a, A> {
+    fn save(&self, name: &str, text: &[u8]) -> Result<(), SaveFault> {
+        assert!(self.rt; name == "a story", "{name:?}");
+        assert!(self.rt; text == self.story.as_bytes(), "{name:?}");
+        self.answer
+    }
+}
+
+/// Talks with a shell whose stories are kept by this shelf, and compares what it writes.
+fn check_saved(rt: &impl Abort, alloc: Global, shelf: &impl Shelf, lines: &str, text: &str) {
+    let mut output = Kept::new();
+    let mut input = lines.as_bytes();
+    let ended = shell(alloc, shelf, false, &mut input, &mut output);
+    output.check(rt, text);
+    assert!(rt; ended.is_ok(), "{text:?}");
+}
+
+const LINES: &str =
+    "thread 10\nmutex errorcheck\n# twice\ncall t1 lock m1\nlok\ncall t1 lock m1\nsave a story\npick\n";
+
+const STORY: &str =
+    "thread 10        = t1\nmutex errorcheck = m1\ncall t1 lock m1  = answer 0\ncall t1 lock m1  = answer 35\n";
+
+/// The story has the commands that were accepted, with what `run` prints for them.
+#[test]
+fn stories_are_saved(rt: HostRuntime) {
+    let answers: [(Result<(), SaveFault>, &str); 4] = [
+        (
+            Ok(()),
+            "t1\nm1\nanswer 0\ncolumn 1: no such command; 'help' names them all\nanswer 35 EDEADLK\nsaved a story\nt1\n",
+        ),
+        (
+            Err(SaveFault::Taken),
+            "t1\nm1\nanswer 0\ncolumn 1: no such command; 'help' names them all\nanswer 35 EDEADLK\na story is there already, and is left as it is\nt1\n",
+        ),
+        (
+            Err(SaveFault::Refused),
+            "t1\nm1\nanswer 0\ncolumn 1: no such command; 'help' names them all\nanswer 35 EDEADLK\na story cannot be made\nt1\n",
+        ),
+        (
+            Err(SaveFault::Cut),
+            "t1\nm1\nanswer 0\ncolumn 1: no such command; 'help' names them all\nanswer 35 EDEADLK\na story cannot be written whole\nt1\n",
+        ),
+    ];
+    for (answer, text) in answers {
+        let shelf = Wanting {
+            rt: &rt,
+            story: STORY,
+            answer,
+        };
+        check_saved(&rt, rt.alloc(), &shelf, LINES, text);
+    }
+}
+
+/// What was taken back is no part of the story.
+#[test]
+fn what_was_taken_back_is_not_saved(rt: HostRuntime) {
+    let shelf = Wanting {
+        rt: &rt,
+        story: "thread 10 = t1\n",
+        answer: Ok(()),
+    };
+    let lines = "thread 10\npick\nundo\nsave a story\n";
+    let text = "t1\nt1\nundone: pick\nsaved a story\n";
+    check_saved(&rt, rt.alloc(), &shelf, lines, text);
+}
+
+/// Nothing is saved without a command, or a name that is text and has no blank at an end.
+#[test]
+fn some_is_not_saved(rt: HostRuntime) {
+    let shelf = Wanting {
+        rt: &rt,
+        story: "",
+        answer: Ok(()),
+    };
+    let lines = "save a story\nsave\nsave \nsave  a story\nsave a story \nundo\n";
+    let text = "there is nothing to save\nthe name of a file is wanted, in 'save FILE'\n\
+        the name of a file is wanted, in 'save FILE'\nthe name of a file is wanted, in 'save FILE'\n\
+        the name of a file is wanted, in 'save FILE'\nthere is nothing to undo\n";
+    check_saved(&rt, rt.alloc(), &shelf, lines, text);
+}

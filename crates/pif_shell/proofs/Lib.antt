@@ -1,0 +1,3 @@
+pub mod RunLemmas
+pub mod SessionLemmas
+pub mod TalkLemmas

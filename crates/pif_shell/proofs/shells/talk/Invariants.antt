@@ -1,0 +1,8 @@
+use Rattle.pif_show.specs.Extends.{Stays}
+use Rattle.pif_shell.specs.Talks.{Reads}
+use Rattle.pif_shell.proofs.shells.talk.Given as goal
+
+abbrev pub invariant-loop-turn : goal.invariant-loop-turn
+invariant-loop-turn g l =
+    Reads (g.R.Read.remaining l.fn.reader) (g.R.Read.remaining l.reader)
+    × Stays (g.W.Write.contents l.fn.writer) (g.W.Write.contents l.writer)

@@ -1,0 +1,3 @@
+pub mod Replies
+pub mod Sessions
+pub mod Talks

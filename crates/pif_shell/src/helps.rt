@@ -1,0 +1,281 @@
+/// A word and the help on it.
+struct Help {
+    word: &'static str,
+    text: &'static str,
+}
+
+/// The help on the shell.
+const ALL: &str = "\
+Commands of scripts:
+  thread P              adds a thread of base priority P, 1 to 99: t1, t2, ..
+  mutex KIND [robust]   adds a mutex: m1, m2, ..
+  cond mN               adds a condition variable, bound to that mutex: c1, ..
+  call tN CALL          the thread begins the call, and goes on until it is
+                        answered or waits
+  begin tN CALL         the thread begins the call, and takes no step yet
+  go tN                 the thread takes one step of its call
+  finish tN             the thread goes on until its call is answered or waits
+  end tN                the thread ends, whatever it does
+  tick N                the time is N from now on
+  word mN, health mN, condword cN, prio tN, pick     ask something
+  limits T M C S        the most of each, as the first command only
+Calls: lock mN, trylock mN, unlock mN, consistent mN, wait cN mN, signal cN,
+  broadcast cN, setprio tN P, timedlock mN D, timedwait cN mN D
+Commands of the shell:
+  help WORD             tells of a command or a call
+  state                 shows what there is
+  undo                  takes the last command back
+  save FILE             saves the commands as a story, in a new file
+A line that begins with # is a comment. The end of input (Ctrl-D) ends.
+";
+
+/// The help on each word.
+static WORDS: [Help; 29] = [
+    Help {
+        word: "thread",
+        text: "\
+thread P
+  Adds a thread of base priority P, 1 to 99, 99 the greatest. Prints its name.
+",
+    },
+    Help {
+        word: "mutex",
+        text: "\
+mutex KIND [robust]
+  Adds a mutex: normal, default (the same), errorcheck or recursive. If the
+  owner of a robust one ends, the next gets EOWNERDEAD. Prints its name.
+",
+    },
+    Help {
+        word: "cond",
+        text: "\
+cond mN
+  Adds a condition variable that is bound to this mutex. Prints its name.
+",
+    },
+    Help {
+        word: "limits",
+        text: "\
+limits THREADS MUTEXES VARIABLES SIGNALS
+  The most of each, and the most signals and broadcasts of one variable. As the
+  first command only; without it they are 1024 1024 256 4294967295.
+",
+    },
+    Help {
+        word: "call",
+        text: "\
+call tN CALL
+  The thread begins the call, and goes on until it is answered, or waits. Prints
+  'answer' and 0 or the number of an error, or 'waits', or why it is refused.
+",
+    },
+    Help {
+        word: "begin",
+        text: "\
+begin tN CALL
+  The thread begins the call, and takes no step yet: 'go' takes the first.
+",
+    },
+    Help {
+        word: "go",
+        text: "\
+go tN
+  The thread takes one step of its open call: an access to a word, or a kernel
+  call. Prints 'went', 'waits', or 'answer' and a number.
+",
+    },
+    Help {
+        word: "finish",
+        text: "\
+finish tN
+  The thread goes on with its open call until it is answered, or waits.
+",
+    },
+    Help {
+        word: "end",
+        text: "\
+end tN
+  The thread ends, whatever it does, in the middle of a call too.
+",
+    },
+    Help {
+        word: "tick",
+        text: "\
+tick N
+  The time is N from now on. It never goes back, and wakes nobody.
+",
+    },
+    Help {
+        word: "word",
+        text: "\
+word mN
+  Prints the word of the mutex in user memory: the number of its owner, with the
+  bits WAITERS (0x80000000) and OWNER_DIED (0x40000000).
+",
+    },
+    Help {
+        word: "health",
+        text: "\
+health mN
+  Prints what the health word of the mutex says: fine, inconsistent or unusable.
+",
+    },
+    Help {
+        word: "condword",
+        text: "\
+condword cN
+  Prints how often the condition variable was signalled or broadcast.
+",
+    },
+    Help {
+        word: "prio",
+        text: "\
+prio tN
+  Prints the effective priority: the greatest base priority of the thread and of
+  all that wait for it.
+",
+    },
+    Help {
+        word: "pick",
+        text: "\
+pick
+  Prints the thread that runs next, or 'none'.
+",
+    },
+    Help {
+        word: "lock",
+        text: "\
+lock mN
+  Locks the mutex; waits while another thread owns it. Errors:
+  EAGAIN           the caller holds a recursive mutex 255 times
+  EDEADLK          the caller holds an errorcheck mutex, or the wait would close
+                   a cycle
+  EOWNERDEAD       the caller owns it now, and its last owner ended
+  ENOTRECOVERABLE  it was given up while it was inconsistent
+",
+    },
+    Help {
+        word: "trylock",
+        text: "\
+trylock mN
+  Locks the mutex if it is free. Errors:
+  EBUSY            it is not free
+  and EAGAIN, EOWNERDEAD and ENOTRECOVERABLE, as of 'lock'
+",
+    },
+    Help {
+        word: "unlock",
+        text: "\
+unlock mN
+  Unlocks the mutex; the next waiter gets it. Errors:
+  EPERM            the caller is not the owner
+",
+    },
+    Help {
+        word: "consistent",
+        text: "\
+consistent mN
+  Says that what a robust mutex protects is right again. Errors:
+  EINVAL           it is not robust, or not inconsistent
+  EPERM            the caller is not the owner
+",
+    },
+    Help {
+        word: "wait",
+        text: "\
+wait cN mN
+  Gives the mutex up, waits for a signal or a broadcast, and locks the mutex
+  again. Errors:
+  EINVAL           another mutex is bound, or this one is held more than once
+  EPERM            the caller is not the owner
+  and those of 'lock'
+",
+    },
+    Help {
+        word: "signal",
+        text: "\
+signal cN
+  Wakes the blocked thread of greatest priority, if there is one. Errors:
+  EOVERFLOW        the limit of signals is reached
+",
+    },
+    Help {
+        word: "broadcast",
+        text: "\
+broadcast cN
+  Wakes all blocked threads. Errors:
+  EOVERFLOW        the limit of signals is reached
+",
+    },
+    Help {
+        word: "setprio",
+        text: "\
+setprio tN P
+  Gives that thread the base priority P. Errors:
+  EINVAL           P is not 1 to 99
+  ESRCH            there is no such thread, or it has ended
+",
+    },
+    Help {
+        word: "timedlock",
+        text: "\
+timedlock mN D
+  As 'lock', until the time is D. Errors:
+  ETIMEDOUT        the time is D, and the caller does not own it
+  and those of 'lock'
+",
+    },
+    Help {
+        word: "timedwait",
+        text: "\
+timedwait cN mN D
+  As 'wait', until the time is D; then it locks the mutex again. Errors:
+  ETIMEDOUT        the time was D before a signal or a broadcast came
+  and those of 'wait'
+",
+    },
+    Help {
+        word: "help",
+        text: "\
+help [WORD]
+  Names the commands, or tells of one, or of a call.
+",
+    },
+    Help {
+        word: "state",
+        text: "\
+state
+  Shows each thread, mutex and condition variable, the run queue, and the chains
+  of waiting, as 'pif show' does.
+",
+    },
+    Help {
+        word: "undo",
+        text: "\
+undo
+  Takes the last command back: the others are played again from the start.
+",
+    },
+    Help {
+        word: "save",
+        text: "\
+save FILE
+  Saves the commands with their answers as a story, for 'pif check FILE'. A file
+  that is there already is left as it is.
+",
+    },
+];
+
+/// The help on a word, or on the shell if there is no word; `None` if there is no help on the word. It is printable
+/// ASCII, in lines of at most 80 bytes that end in LF.
+pub fn help_of(word: &[u8]) -> Option<&'static str> {
+    if word.is_empty() {
+        return Some(ALL);
+    }
+    for help in &WORDS {
+        if word == help.word.as_bytes() {
+            return Some(help.text);
+        }
+    }
+    None
+}

@@ -1,0 +1,18 @@
+-- The names of errors, as <errno.h> has them.
+use Rattle.std.specs.Prelude.{ℕ, List, codes}
+use Rattle.pif_types.specs.declared.errors.Errno.{Errno}
+use Rattle.pif_types.specs.declared.errors.Errno.TheVariants.{NotPermitted, NoSuchThread, Again, Fault, Busy, Invalid, Deadlock, Overflow, TimedOut, OwnerDead, NotRecoverable}
+
+-- the name of an error
+abbrev pub errno_name : Errno → List ℕ
+errno_name NotPermitted = codes "EPERM"
+errno_name NoSuchThread = codes "ESRCH"
+errno_name Again = codes "EAGAIN"
+errno_name Fault = codes "EFAULT"
+errno_name Busy = codes "EBUSY"
+errno_name Invalid = codes "EINVAL"
+errno_name Deadlock = codes "EDEADLK"
+errno_name Overflow = codes "EOVERFLOW"
+errno_name TimedOut = codes "ETIMEDOUT"
+errno_name OwnerDead = codes "EOWNERDEAD"
+errno_name NotRecoverable = codes "ENOTRECOVERABLE"
