@@ -2,7 +2,6 @@
 mod cores;
 mod desks;
 
-use anyhow::Result;
 use cores::measure_core;
 use desks::{Mutexes, measure_desk};
 use std::rt::Clock;
@@ -56,11 +55,12 @@ pub fn crowd_of(name: &str) -> Option<Crowd> {
     }
 }
 
-/// Runs a benchmark.
+/// Runs a benchmark. `None` where memory is refused, a thread can't be started, the clock has a fault, or the desk doesn't
+/// settle.
 pub fn measure<R: Clock + Threads + Wait + Sync + AllocGlobal>(
     rt: &R,
     crowd: Crowd,
-) -> Result<Figure> {
+) -> Option<Figure> {
     match crowd {
         Crowd::Core => measure_core(rt),
         Crowd::Desk(mutexes, threads) => measure_desk(rt, mutexes, threads),

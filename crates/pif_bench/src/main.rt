@@ -6,15 +6,15 @@ mod desk;
 mod layers;
 mod quick;
 
-use anyhow::Result;
+use anyhow::{Context, Result};
 use desk::Crowd;
 use layers::Layer;
 use quick::Race;
-use std::env;
 use std::process::ExitCode;
 use std::rt::Clock;
 use std::sync::Wait;
 use std::thread::Threads;
+use std::{env, io};
 
 /// A benchmark.
 #[derive(Clone, Copy)]
@@ -41,6 +41,20 @@ fn benchmark_of(name: &str) -> Option<Benchmark> {
     desk::crowd_of(name).map(Benchmark::Crowd)
 }
 
+/// Prints what a layer took, and beside a chain what a hop took.
+fn print_layer(
+    rt: &(impl Clock + Print),
+    name: &str,
+    layer: Layer,
+    nanoseconds: u64,
+) -> io::Result<()> {
+    println!(rt; "{name}: {nanoseconds} ns")?;
+    match layers::depth_of(layer) {
+        Some(depth) => quick::compare_hop(rt, name, nanoseconds, depth),
+        None => Ok(()),
+    }
+}
+
 /// Runs a benchmark, and prints its figures under its name.
 fn measure<R: Clock + Threads + Wait + Sync + AllocGlobal + Print>(
     rt: &R,
@@ -49,16 +63,13 @@ fn measure<R: Clock + Threads + Wait + Sync + AllocGlobal + Print>(
 ) -> Result<()> {
     match benchmark {
         Benchmark::Layer(layer) => {
-            let nanoseconds = layers::nanoseconds_of(rt, layer)?;
-            println!(rt; "{name}: {nanoseconds} ns")?;
-            if let Some(depth) = layers::depth_of(layer) {
-                quick::compare_hop(rt, name, nanoseconds, depth)?;
-            }
+            let nanoseconds = layers::nanoseconds_of(rt, layer).context("nothing was measured")?;
+            print_layer(rt, name, layer, nanoseconds)?;
         }
         Benchmark::Race(race) => quick::measure(rt, race)?,
         Benchmark::Crowd(crowd) => {
-            let thousands = desk::measure(rt, crowd)?.thousands();
-            println!(rt; "{name}: {thousands} thousand events a second")?;
+            let figure = desk::measure(rt, crowd).context("nothing was measured")?;
+            println!(rt; "{name}: {} thousand events a second", figure.thousands())?;
         }
     }
     Ok(())

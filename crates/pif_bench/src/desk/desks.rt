@@ -1,6 +1,5 @@
 //! Calls of real threads at a desk.
 use super::Figure;
-use anyhow::{Context, Result, bail};
 use pif_desk::{Client, Desk, DeskFault, NoPause};
 use pif_types::{Kind, Limits, MutexId, Request};
 use std::alloc::{AllocError, Global};
@@ -8,7 +7,7 @@ use std::rt::Clock;
 use std::sync::Wait;
 use std::thread;
 use std::thread::Threads;
-use std::time::Instant;
+use std::time::{Duration, Instant};
 
 /// How many pairs of a lock and an unlock all threads make together where none contends.
 pub const PAIRS: u32 = 48_000;
@@ -79,25 +78,24 @@ fn enter_one<R: Wait>(
     })
 }
 
-/// So many players.
+/// Adds so many players.
 fn enter_all<R: Wait>(
     rt: &R,
-    alloc: Global,
     desk: &Desk<NoPause>,
     mutexes: Mutexes,
     threads: u32,
-) -> Result<Vec<Player>> {
+    players: &mut Vec<Player>,
+) -> Option<()> {
     let pairs = match mutexes {
         Mutexes::Own => PAIRS / threads.max(1),
         Mutexes::One => CONTENDED_PAIRS / threads.max(1),
     };
-    let mut players = Vec::new(alloc);
-    let shared = desk.make_mutex(rt, Kind::Normal, false)?;
+    let shared = desk.make_mutex(rt, Kind::Normal, false).ok()?;
     for _thread in 0..threads {
-        let player = enter_one(rt, desk, mutexes, shared, pairs)?;
-        players.push(player).map_err(AllocError::from)?;
+        let player = enter_one(rt, desk, mutexes, shared, pairs).ok()?;
+        players.push(player).ok()?;
     }
-    Ok(players)
+    Some(())
 }
 
 /// Each player runs in a thread of its own, and gives its client back.
@@ -109,24 +107,35 @@ fn play_all<R: Threads + Wait + Sync>(
     thread::map_vec(rt, players, &|player| play(rt, desk, player))
 }
 
+/// Players enter a desk and run. Answers their clients, and the time in which the threads ran.
+fn run_at<R: Clock + Threads + Wait + Sync>(
+    rt: &R,
+    alloc: Global,
+    desk: &Desk<NoPause>,
+    mutexes: Mutexes,
+    threads: u32,
+) -> Option<(Duration, Vec<Client>)> {
+    let mut players = Vec::new(alloc);
+    enter_all(rt, desk, mutexes, threads, &mut players)?;
+    let start = Instant::now(rt).ok()?;
+    let clients = play_all(rt, desk, players).ok()?;
+    let time = start.elapsed(rt).ok()?;
+    Some((time, clients))
+}
+
 /// So many threads lock and unlock mutexes at a desk, which then settles: the entries of its journal, and the time in
 /// which the threads ran.
 pub fn measure_desk<R: Clock + Threads + Wait + Sync + AllocGlobal>(
     rt: &R,
     mutexes: Mutexes,
     threads: u32,
-) -> Result<Figure> {
-    let limits = Limits::new(threads, threads.saturating_add(1), 0, 1).context("limits")?;
-    let desk = Desk::new(rt.alloc(), limits, NoPause)?;
-    let players = enter_all(rt, rt.alloc(), &desk, mutexes, threads)?;
-    let start = Instant::now(rt)?;
-    let clients = play_all(rt, &desk, players)?;
-    let time = start.elapsed(rt)?;
-    match desk.into_room().settle(clients) {
-        Ok(book) => Ok(Figure {
-            events: book.entries.len(),
-            time,
-        }),
-        Err(_) => bail!("the desk does not settle"),
-    }
+) -> Option<Figure> {
+    let limits = Limits::new(threads, threads.saturating_add(1), 0, 1)?;
+    let desk = Desk::new(rt.alloc(), limits, NoPause).ok()?;
+    let (time, clients) = run_at(rt, rt.alloc(), &desk, mutexes, threads)?;
+    let book = desk.into_room().settle(clients).ok()?;
+    Some(Figure {
+        events: book.entries.len(),
+        time,
+    })
 }

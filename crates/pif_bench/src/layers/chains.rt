@@ -1,13 +1,14 @@
-use super::scenes::{core_of, each};
+use super::scenes::{Room, core_of, each_since, now};
 use pif_core::{Core, Event};
 use pif_types::{MutexId, Request, Tid};
 use pif_uses::call;
-use std::io;
 use std::rt::Clock;
-use std::time::{Duration, Instant};
 
-/// How many hand-overs are measured.
-const HAND_OVERS: u32 = 10_000;
+/// How many times two threads pass a mutex on.
+const ROUNDS: u32 = 10_000;
+
+/// How many threads wait for one mutex.
+const WAITING: u32 = 1000;
 
 /// How many changes of priority are measured.
 const CHANGES: u32 = 100;
@@ -15,50 +16,121 @@ const CHANGES: u32 = 100;
 /// How many threads join a chain, each of a greater priority than the one before.
 const JOINS: u32 = 24;
 
-/// Two threads pass one mutex on, again and again. Answers how many nanoseconds each hand-over took: the unlock of the
-/// owner, through the kernel, and the step of the other thread that finds out.
-pub fn hand_over(rt: &(impl Clock + AllocGlobal)) -> io::Result<u64> {
-    let mut core = core_of(rt, 2, 1, 99, false)?;
+/// Threads wait for one mutex, and each passes it on to the next. Answers how many nanoseconds each hand-over took: the
+/// unlock of the owner, through the kernel, and the step of the other thread that finds out.
+pub fn hand_over(rt: &(impl Clock + AllocGlobal)) -> Option<u64> {
+    let mut core = core_of(rt, Room::Tight, WAITING + 1, 1, 1, false)?;
     time_hand_overs(rt, &mut core)
 }
 
+/// The first thread of a core locks its mutex, the others wait for it, and each passes it on.
+fn time_hand_overs(rt: &impl Clock, core: &mut Core) -> Option<u64> {
+    let mutex = MutexId::new(1)?;
+    lock_by_all(core, mutex)?;
+    let start = now(rt)?;
+    for number in 1..=WAITING {
+        pass_on(core, mutex, number)?;
+    }
+    each_since(rt, start, WAITING)
+}
+
+/// One thread after another locks a mutex.
+fn lock_by_all(core: &mut Core, mutex: MutexId) -> Option<()> {
+    for number in 1..=WAITING + 1 {
+        call(core, Tid::new(number)?, Request::Lock(mutex));
+    }
+    Some(())
+}
+
+/// The thread of this number unlocks a mutex, and the one behind it finds that it owns it.
+fn pass_on(core: &mut Core, mutex: MutexId, number: u32) -> Option<()> {
+    call(core, Tid::new(number)?, Request::Unlock(mutex));
+    core.step(Event::Go(Tid::new(number.saturating_add(1))?));
+    Some(())
+}
+
+/// Two threads pass one mutex on, again and again. Answers how many nanoseconds each round took: the lock of one, which
+/// waits, the unlock of the other, and the step in which the first finds out.
+pub fn contended_round(rt: &(impl Clock + AllocGlobal), room: Room) -> Option<u64> {
+    let mut core = core_of(rt, room, 2, 1, 99, false)?;
+    time_rounds(rt, &mut core)
+}
+
 /// Threads 1 and 2 of a core pass its mutex on.
-fn time_hand_overs(rt: &impl Clock, core: &mut Core) -> io::Result<u64> {
-    let mutex = MutexId::new(1).ok_or(io::ErrorKind::InvalidInput)?;
-    let mut owner = Tid::new(1).ok_or(io::ErrorKind::InvalidInput)?;
-    let mut other = Tid::new(2).ok_or(io::ErrorKind::InvalidInput)?;
-    let mut spent = Duration::ZERO;
+fn time_rounds(rt: &impl Clock, core: &mut Core) -> Option<u64> {
+    let mutex = MutexId::new(1)?;
+    let mut owner = Tid::new(1)?;
+    let mut other = Tid::new(2)?;
     call(core, owner, Request::Lock(mutex));
-    for _round in 0..HAND_OVERS {
+    let start = now(rt)?;
+    for _round in 0..ROUNDS {
         call(core, other, Request::Lock(mutex));
-        let start = Instant::now(rt)?;
         call(core, owner, Request::Unlock(mutex));
         core.step(Event::Go(other));
-        spent = spent.saturating_add(start.elapsed(rt)?);
         (owner, other) = (other, owner);
     }
-    Ok(each(spent, HAND_OVERS))
+    each_since(rt, start, ROUNDS)
+}
+
+/// Threads of many priorities lock one mutex, one after another, and wait for it. Answers how many nanoseconds each such
+/// lock took, with the search for its place among those that wait.
+pub fn queue_random(rt: &(impl Clock + AllocGlobal)) -> Option<u64> {
+    let mut core = core_of(rt, Room::Tight, WAITING + 1, 1, 1, false)?;
+    time_queueing(rt, &mut core)
+}
+
+/// The first thread of a core gets the greatest priority and locks its mutex, and the others wait for it.
+fn time_queueing(rt: &impl Clock, core: &mut Core) -> Option<u64> {
+    let mutex = MutexId::new(1)?;
+    let first = Tid::new(1)?;
+    scatter(core, first)?;
+    call(core, first, Request::Lock(mutex));
+    let start = now(rt)?;
+    for number in 2..=WAITING + 1 {
+        let thread = Tid::new(number)?;
+        call(core, thread, Request::Lock(mutex));
+    }
+    each_since(rt, start, WAITING)
+}
+
+/// Gives thread 1 the priority 99, and the others priorities below it in no order.
+fn scatter(core: &mut Core, first: Tid) -> Option<()> {
+    call(core, first, Request::SetPrio(first, 99));
+    let mut mixed = 1_u32;
+    for number in 2..=WAITING + 1 {
+        mixed = mixed.wrapping_mul(1_664_525).wrapping_add(1_013_904_223);
+        let level = 1 + (mixed >> 16) % 98;
+        call(core, first, Request::SetPrio(Tid::new(number)?, level));
+    }
+    Some(())
 }
 
 /// A chain of so many threads: each holds a mutex, and each but the first waits for that of the one before it. The last
 /// of them joins it by a lock, and so do others in its place, each of a greater priority than the one before, so that
 /// each boosts all threads before it. Answers how many nanoseconds such a lock took.
-pub fn last_lock(rt: &(impl Clock + AllocGlobal), depth: u32) -> io::Result<u64> {
+pub fn last_lock(rt: &(impl Clock + AllocGlobal), depth: u32) -> Option<u64> {
     let before = depth.saturating_sub(1);
-    let mut core = core_of(rt, before.saturating_add(JOINS), before, 1, false)?;
+    let mut core = core_of(
+        rt,
+        Room::Tight,
+        before.saturating_add(JOINS),
+        before,
+        1,
+        false,
+    )?;
     time_last_lock(rt, &mut core, before)
 }
 
 /// So many threads of a core make a chain, and the others join it behind them.
-fn time_last_lock(rt: &impl Clock, core: &mut Core, before: u32) -> io::Result<u64> {
-    make_chain(core, before).ok_or(io::ErrorKind::InvalidInput)?;
-    join(core, before).ok_or(io::ErrorKind::InvalidInput)?;
-    raise_joiners(core, before).ok_or(io::ErrorKind::InvalidInput)?;
-    let start = Instant::now(rt)?;
+fn time_last_lock(rt: &impl Clock, core: &mut Core, before: u32) -> Option<u64> {
+    make_chain(core, before)?;
+    join(core, before)?;
+    raise_joiners(core, before)?;
+    let start = now(rt)?;
     for joiner in 1..=JOINS {
-        join_behind(core, before, joiner).ok_or(io::ErrorKind::InvalidInput)?;
+        join_behind(core, before, joiner)?;
     }
-    Ok(each(start.elapsed(rt)?, JOINS))
+    each_since(rt, start, JOINS)
 }
 
 /// Gives those that are to join a chain of so many threads their priorities.
@@ -82,22 +154,22 @@ fn join_behind(core: &mut Core, before: u32, joiner: u32) -> Option<()> {
 }
 
 /// The same chain. Answers how many nanoseconds a change of the last thread's priority took, to 98 and to 99 in turn.
-pub fn set_prio(rt: &(impl Clock + AllocGlobal), depth: u32) -> io::Result<u64> {
-    let mut core = core_of(rt, depth, depth, 99, false)?;
+pub fn set_prio(rt: &(impl Clock + AllocGlobal), depth: u32) -> Option<u64> {
+    let mut core = core_of(rt, Room::Tight, depth, depth, 99, false)?;
     time_set_prio(rt, &mut core, depth)
 }
 
 /// The threads of a core make a chain, and the priority of the last one changes.
-fn time_set_prio(rt: &impl Clock, core: &mut Core, depth: u32) -> io::Result<u64> {
-    make_chain(core, depth).ok_or(io::ErrorKind::InvalidInput)?;
-    join(core, depth).ok_or(io::ErrorKind::InvalidInput)?;
-    let first = Tid::new(1).ok_or(io::ErrorKind::InvalidInput)?;
-    let last = Tid::new(depth).ok_or(io::ErrorKind::InvalidInput)?;
-    let start = Instant::now(rt)?;
+fn time_set_prio(rt: &impl Clock, core: &mut Core, depth: u32) -> Option<u64> {
+    make_chain(core, depth)?;
+    join(core, depth)?;
+    let first = Tid::new(1)?;
+    let last = Tid::new(depth)?;
+    let start = now(rt)?;
     for round in 0..CHANGES {
         call(core, first, Request::SetPrio(last, 98 + round % 2));
     }
-    Ok(each(start.elapsed(rt)?, CHANGES))
+    each_since(rt, start, CHANGES)
 }
 
 /// The threads of a core make a chain, which the last one has not joined yet. `None` where a number is 0.

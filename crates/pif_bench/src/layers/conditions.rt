@@ -1,13 +1,14 @@
-use super::scenes::{core_of, each};
+use super::scenes::{Room, core_of, each_since, nanoseconds_since, now};
 use pif_core::{Core, Event};
 use pif_types::{CondId, MutexId, Request, Tid};
 use pif_uses::call;
-use std::io;
 use std::rt::Clock;
-use std::time::{Duration, Instant};
 
 /// How many waits are measured.
 const WAITS: u32 = 10_000;
+
+/// How many broadcasts are measured.
+const BROADCASTS: u32 = 10;
 
 /// A condition variable, and the mutex to which it is bound.
 #[derive(Clone, Copy)]
@@ -16,51 +17,76 @@ struct Scene {
     variable: CondId,
 }
 
-/// One thread waits on a variable, and another signals it. Answers how many nanoseconds both calls took, up to the answer
-/// of the wait, which finds its mutex free.
-pub fn wait_and_signal(rt: &(impl Clock + AllocGlobal)) -> io::Result<u64> {
-    let mut core = core_of(rt, 2, 1, 99, false)?;
-    time_waits(rt, &mut core)
+/// So many threads, at most 1,000, wait on a variable; again and again another one signals it, and the one that is woken
+/// waits anew. Answers how many nanoseconds a wait and its signal took, up to the answer of the wait, which finds its
+/// mutex free.
+pub fn wait_and_signal(rt: &(impl Clock + AllocGlobal), parked: u32) -> Option<u64> {
+    let mut core = core_of(rt, Room::Tight, parked.saturating_add(1), 1, 1, false)?;
+    time_waits(rt, &mut core, parked)
 }
 
-/// Thread 1 of a core waits, and thread 2 signals.
-fn time_waits(rt: &impl Clock, core: &mut Core) -> io::Result<u64> {
-    let scene = bind(core).ok_or(io::ErrorKind::InvalidInput)?;
-    let waiter = Tid::new(1).ok_or(io::ErrorKind::InvalidInput)?;
-    let caller = Tid::new(2).ok_or(io::ErrorKind::InvalidInput)?;
-    let mut spent = Duration::ZERO;
-    for _round in 0..WAITS {
-        call(core, waiter, Request::Lock(scene.mutex));
-        let start = Instant::now(rt)?;
-        call(core, waiter, Request::Wait(scene.variable, scene.mutex));
-        call(core, caller, Request::Signal(scene.variable));
-        core.step(Event::Go(waiter));
-        spent = spent.saturating_add(start.elapsed(rt)?);
-        call(core, waiter, Request::Unlock(scene.mutex));
+/// All threads of a core but the last wait, and the last one signals.
+fn time_waits(rt: &impl Clock, core: &mut Core, parked: u32) -> Option<u64> {
+    let Scene { mutex, variable } = bind(core)?;
+    park_all(core, parked, Scene { mutex, variable })?;
+    let caller = Tid::new(parked.saturating_add(1))?;
+    let start = now(rt)?;
+    for round in 0..WAITS {
+        let woken = Tid::new(1 + round % parked.max(1))?;
+        signal_one(core, caller, woken, mutex, variable);
     }
-    Ok(each(spent, WAITS))
+    each_since(rt, start, WAITS)
 }
 
-/// A broadcast to so many parked threads, at most 1,000, where its caller holds the mutex or nobody does. Answers how many
+/// A caller signals, and the thread that is woken answers its wait, and waits anew.
+fn signal_one(core: &mut Core, caller: Tid, woken: Tid, mutex: MutexId, variable: CondId) {
+    call(core, caller, Request::Signal(variable));
+    core.step(Event::Go(woken));
+    call(core, woken, Request::Wait(variable, mutex));
+}
+
+/// A broadcast to so many parked threads, at most 1,000, whose caller holds the mutex or nobody does. Answers how many
 /// nanoseconds it took for each of them.
-pub fn broadcast(rt: &(impl Clock + AllocGlobal), parked: u32, held: bool) -> io::Result<u64> {
-    let mut core = core_of(rt, parked.saturating_add(1), 1, 99, false)?;
-    time_broadcast(rt, &mut core, parked, held)
+pub fn broadcast(
+    rt: &(impl Clock + AllocGlobal),
+    parked: u32,
+    held: bool,
+    room: Room,
+) -> Option<u64> {
+    let mut core = core_of(rt, room, parked.saturating_add(1), 1, 1, false)?;
+    time_broadcasts(rt, &mut core, parked, held)
 }
 
-/// The first threads of a core are parked, and the one behind them broadcasts.
-fn time_broadcast(rt: &impl Clock, core: &mut Core, parked: u32, held: bool) -> io::Result<u64> {
-    let scene = bind(core).ok_or(io::ErrorKind::InvalidInput)?;
+/// The first threads of a core are parked, and the one behind them broadcasts, again and again.
+fn time_broadcasts(rt: &impl Clock, core: &mut Core, parked: u32, held: bool) -> Option<u64> {
+    let scene = bind(core)?;
+    park_all(core, parked, scene)?;
+    let caller = Tid::new(parked.saturating_add(1))?;
+    let mut spent = 0_u64;
+    for _round in 0..BROADCASTS {
+        if held {
+            call(core, caller, Request::Lock(scene.mutex));
+        }
+        let start = now(rt)?;
+        call(core, caller, Request::Broadcast(scene.variable));
+        spent = spent.saturating_add(nanoseconds_since(rt, start)?);
+        if held {
+            call(core, caller, Request::Unlock(scene.mutex));
+        }
+        wait_anew(core, parked, scene)?;
+    }
+    let woken = parked.saturating_mul(BROADCASTS).max(1);
+    Some(spent / u64::from(woken))
+}
+
+/// Each thread that was woken, one after another, finds that it owns the mutex, and waits again.
+fn wait_anew(core: &mut Core, parked: u32, scene: Scene) -> Option<()> {
     for number in 1..=parked {
-        park(core, number, scene).ok_or(io::ErrorKind::InvalidInput)?;
+        let thread = Tid::new(number)?;
+        core.step(Event::Go(thread));
+        call(core, thread, Request::Wait(scene.variable, scene.mutex));
     }
-    let caller = Tid::new(parked.saturating_add(1)).ok_or(io::ErrorKind::InvalidInput)?;
-    if held {
-        call(core, caller, Request::Lock(scene.mutex));
-    }
-    let start = Instant::now(rt)?;
-    call(core, caller, Request::Broadcast(scene.variable));
-    Ok(each(start.elapsed(rt)?, parked))
+    Some(())
 }
 
 /// Adds a variable to a core, bound to mutex 1. `None` where the core refuses it.
@@ -70,10 +96,12 @@ fn bind(core: &mut Core) -> Option<Scene> {
     Some(Scene { mutex, variable })
 }
 
-/// The thread of this number locks the mutex and waits on the variable. `None` where the number is 0.
-fn park(core: &mut Core, number: u32, scene: Scene) -> Option<()> {
-    let thread = Tid::new(number)?;
-    call(core, thread, Request::Lock(scene.mutex));
-    call(core, thread, Request::Wait(scene.variable, scene.mutex));
+/// One thread after another locks the mutex and waits on the variable.
+fn park_all(core: &mut Core, parked: u32, scene: Scene) -> Option<()> {
+    for number in 1..=parked {
+        let thread = Tid::new(number)?;
+        call(core, thread, Request::Lock(scene.mutex));
+        call(core, thread, Request::Wait(scene.variable, scene.mutex));
+    }
     Some(())
 }

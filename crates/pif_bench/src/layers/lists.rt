@@ -2,13 +2,12 @@ ghost use Rattle.std.specs.Prelude.{◌≡◌, ◌<◌, IfOk, Some, None, slice_
 ghost use Rattle.pif_nodes.specs.Table.{holder};
 ghost use Rattle.pif_bench.specs.Filling.{IsReady, IsFilled, IsEmptied, ChangesHolder, priority_of};
 
+use super::scenes::{each_since, now};
 use pif_nodes::{List, Node, NodeTable};
 use pif_plist::PList;
 use pif_types::NoMemory;
 use std::alloc::Global;
-use std::io;
 use std::rt::Clock;
-use std::time::Instant;
 
 /// How many nodes a round inserts and removes.
 const NODES: u32 = 1000;
@@ -36,18 +35,22 @@ fn priority_of(priorities: Priorities, node: u32) -> u32
 }
 
 /// Inserts and removes the nodes in one sorted list, again and again. Answers how many nanoseconds each took.
-pub fn nanoseconds_each(
-    rt: &(impl Clock + AllocGlobal),
-    priorities: Priorities,
-) -> io::Result<u64> {
-    let mut table = new_table(rt.alloc()).map_err(|_| io::Error::from(io::ErrorKind::OutOfMemory))?;
-    let start = Instant::now(rt)?;
+pub fn nanoseconds_each(rt: &(impl Clock + AllocGlobal), priorities: Priorities) -> Option<u64> {
+    let mut table = new_table(rt.alloc()).ok()?;
+    time_rounds(rt, &mut table, priorities)
+}
+
+/// Does so with the list of this table.
+fn time_rounds(rt: &impl Clock, table: &mut NodeTable, priorities: Priorities) -> Option<u64>
+    requires ready { IsReady table.old }
+    requires empty { IsEmptied 1000 table.old }
+{
+    let start = now(rt)?;
     for _round in 0..ROUNDS {
-        insert_all(&mut table, priorities);
-        remove_all(&mut table);
+        insert_all(table, priorities);
+        remove_all(table);
     }
-    let nanoseconds = start.elapsed(rt)?.as_nanos() / u128::from(2 * ROUNDS * NODES);
-    Ok(u64::try_from(nanoseconds).unwrap_or(u64::MAX))
+    each_since(rt, start, 2 * ROUNDS * NODES)
 }
 
 /// A table of one list, which is empty.

@@ -1,52 +1,84 @@
 use pif_core::Core;
 use pif_types::{Kind, Limits};
-use std::io;
 use std::rt::Clock;
-use std::time::{Duration, Instant};
+use std::time::Instant;
 
 /// How many cores are made.
 const CORES: u32 = 100;
 
-/// A core with so many threads, of priority 1 but the last, which has `last`, and so many normal mutexes, which are robust
-/// or stalled, and room for a condition variable.
+/// The limits of a core.
+#[derive(Clone, Copy)]
+pub enum Room {
+    /// As many threads and mutexes as are added, and one condition variable.
+    Tight,
+    /// The default limits of scripts.
+    Default,
+}
+
+impl Room {
+    fn limits(self, threads: u32, mutexes: u32) -> Option<Limits> {
+        match self {
+            Room::Tight => Limits::new(threads, mutexes, 1, u32::MAX),
+            Room::Default => Limits::new(1024, 1024, 256, u32::MAX),
+        }
+    }
+}
+
+/// A core with such limits and so many threads, of priority 1 but the last, which has `last`, and so many normal mutexes,
+/// which are robust or stalled, and room for a condition variable. `None` where memory or an addition is refused.
 pub fn core_of(
     rt: &impl AllocGlobal,
+    room: Room,
     threads: u32,
     mutexes: u32,
     last: u32,
     robust: bool,
-) -> io::Result<Core> {
-    let limits = Limits::new(threads, mutexes, 1, u32::MAX).ok_or(io::ErrorKind::InvalidInput)?;
-    let Ok(mut core) = Core::new(rt.alloc(), limits) else {
-        return Err(io::Error::from(io::ErrorKind::OutOfMemory));
-    };
+) -> Option<Core> {
+    let mut core = Core::new(rt.alloc(), room.limits(threads, mutexes)?).ok()?;
+    add_threads(&mut core, threads, last)?;
+    add_mutexes(&mut core, mutexes, robust)?;
+    Some(core)
+}
+
+/// Adds so many threads to a core.
+fn add_threads(core: &mut Core, threads: u32, last: u32) -> Option<()> {
     for number in 1..=threads {
         let prio = if number == threads { last } else { 1 };
-        if core.add_thread(prio).is_err() {
-            return Err(io::Error::from(io::ErrorKind::InvalidInput));
-        }
+        core.add_thread(prio).ok()?;
     }
+    Some(())
+}
+
+/// Adds so many normal mutexes to a core.
+fn add_mutexes(core: &mut Core, mutexes: u32, robust: bool) -> Option<()> {
     for _number in 0..mutexes {
-        if core.add_mutex(Kind::Normal, robust).is_err() {
-            return Err(io::Error::from(io::ErrorKind::InvalidInput));
-        }
+        core.add_mutex(Kind::Normal, robust).ok()?;
     }
-    Ok(core)
+    Some(())
 }
 
 /// Makes cores with the default limits of scripts. Answers how many nanoseconds each took, with its end.
-pub fn new_core(rt: &(impl Clock + AllocGlobal)) -> io::Result<u64> {
-    let limits = Limits::new(1024, 1024, 256, u32::MAX).ok_or(io::ErrorKind::InvalidInput)?;
-    let start = Instant::now(rt)?;
+pub fn new_core(rt: &(impl Clock + AllocGlobal)) -> Option<u64> {
+    let limits = Room::Default.limits(0, 0)?;
+    let start = now(rt)?;
     for _core in 0..CORES {
-        if Core::new(rt.alloc(), limits).is_err() {
-            return Err(io::Error::from(io::ErrorKind::OutOfMemory));
-        }
+        Core::new(rt.alloc(), limits).ok()?;
     }
-    Ok(each(start.elapsed(rt)?, CORES))
+    each_since(rt, start, CORES)
 }
 
-/// The nanoseconds of each of so many rounds.
-pub fn each(spent: Duration, rounds: u32) -> u64 {
-    u64::try_from(spent.as_nanos() / u128::from(rounds.max(1))).unwrap_or(u64::MAX)
+/// The present moment. `None` where the clock has a fault.
+pub fn now(rt: &impl Clock) -> Option<Instant> {
+    Instant::now(rt).ok()
+}
+
+/// How many nanoseconds have passed since a moment. `None` where the clock has a fault.
+pub fn nanoseconds_since(rt: &impl Clock, start: Instant) -> Option<u64> {
+    let spent = start.elapsed(rt).ok()?;
+    Some(u64::try_from(spent.as_nanos()).unwrap_or(u64::MAX))
+}
+
+/// How many nanoseconds each of so many rounds took since a moment. `None` where the clock has a fault.
+pub fn each_since(rt: &impl Clock, start: Instant, rounds: u32) -> Option<u64> {
+    Some(nanoseconds_since(rt, start)? / u64::from(rounds.max(1)))
 }

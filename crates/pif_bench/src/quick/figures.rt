@@ -7,7 +7,7 @@ use std::fmt;
 pub const ROUNDS: usize = 15;
 
 /// A figure of each round.
-#[derive(Drop)]
+#[derive(Clone, Copy)]
 pub struct Figures {
     each: [u64; ROUNDS],
 }
@@ -25,16 +25,15 @@ impl Figures {
         self.each[round] = figure;
     }
 
-    /// The median.
-    pub fn median(&mut self) -> u64 {
+    /// The median and the least.
+    pub fn median_and_least(&mut self) -> (u64, u64) {
         self.each.sort_unstable();
-        self.each[ROUNDS / 2]
+        (self.each[ROUNDS / 2], self.each[0])
     }
 
-    /// The least.
-    pub fn least(&mut self) -> u64 {
-        self.each.sort_unstable();
-        self.each[0]
+    /// The median.
+    pub fn median(&mut self) -> u64 {
+        self.median_and_least().0
     }
 }
 

@@ -49,13 +49,73 @@ fn mutex_pairs<R: Wait>(rt: &R, mutex: &Mutex<u64>) {
 }
 
 /// How many picoseconds a pair took since `start`.
-fn picoseconds(rt: &impl Clock, start: Instant) -> io::Result<u64> {
-    let picoseconds = start.elapsed(rt)?.as_nanos() * 1000 / u128::from(PAIRS);
-    Ok(u64::try_from(picoseconds).unwrap_or(u64::MAX))
+fn picoseconds(rt: &impl Clock, start: Instant) -> Option<u64> {
+    let picoseconds = start.elapsed(rt).ok()?.as_nanos() * 1000 / u128::from(PAIRS);
+    Some(u64::try_from(picoseconds).unwrap_or(u64::MAX))
+}
+
+/// What each of the three ways works on, but the quick path.
+#[derive(Drop)]
+struct Ways {
+    word: AtomicU64,
+    value: u64,
+    mutex: Mutex<u64>,
+}
+
+/// How many picoseconds a pair takes in each way.
+#[derive(Clone, Copy)]
+struct Round {
+    bare: u64,
+    quick: u64,
+    mutex: u64,
+}
+
+/// How many picoseconds a bare pair takes.
+fn time_bare(rt: &impl Clock, word: &AtomicU64, value: &mut u64) -> Option<u64> {
+    let start = Instant::now(rt).ok()?;
+    bare_pairs(word, value);
+    picoseconds(rt, start)
+}
+
+/// How many picoseconds a pair of the quick path takes.
+fn time_quick(rt: &impl Clock, quick: &Quick<u64>, pass: &mut Pass<u64>) -> Option<u64>
+    requires { IsPassOf quick.now pass.old × (0 < word_count quick.now) }
+    ensures { IsPassOf quick.now pass.new }
+{
+    let start = Instant::now(rt).ok()?;
+    quick_pairs(quick, pass);
+    picoseconds(rt, start)
+}
+
+/// How many picoseconds a pair of std's `Mutex` takes.
+fn time_mutex<R: Clock + Wait>(rt: &R, mutex: &Mutex<u64>) -> Option<u64> {
+    let start = Instant::now(rt).ok()?;
+    mutex_pairs(rt, mutex);
+    picoseconds(rt, start)
+}
+
+/// Measures the three ways in turn.
+fn time_ways<R: Clock + Wait>(
+    rt: &R,
+    quick: &Quick<u64>,
+    pass: &mut Pass<u64>,
+    ways: &mut Ways,
+) -> Option<Round>
+    requires { IsPassOf quick.now pass.old × (0 < word_count quick.now) }
+    ensures { IsPassOf quick.now pass.new }
+{
+    let bare = time_bare(rt, &ways.word, &mut ways.value)?;
+    let tried = time_quick(rt, quick, pass)?;
+    let mutex = time_mutex(rt, &ways.mutex)?;
+    Some(Round {
+        bare,
+        quick: tried,
+        mutex,
+    })
 }
 
 /// The figures of the three ways, and of each round the ratios of the quick path's to the others'.
-#[derive(Drop)]
+#[derive(Clone, Copy)]
 struct Sheet {
     bare: Figures,
     quick: Figures,
@@ -67,34 +127,51 @@ struct Sheet {
 impl Sheet {
     /// No figures yet.
     fn new() -> Sheet {
+        let none = Figures::new();
         Sheet {
-            bare: Figures::new(),
-            quick: Figures::new(),
-            mutex: Figures::new(),
-            to_bare: Figures::new(),
-            to_mutex: Figures::new(),
+            bare: none,
+            quick: none,
+            mutex: none,
+            to_bare: none,
+            to_mutex: none,
         }
     }
 
     /// Notes what a pair took in each way.
-    fn note(&mut self, round: usize, bare: u64, quick: u64, mutex: u64)
-        requires { round < 15 }
+    fn note(&mut self, number: usize, round: Round)
+        requires { number < 15 }
     {
-        self.bare.note(round, bare);
-        self.quick.note(round, quick);
-        self.mutex.note(round, mutex);
-        self.to_bare.note(round, ratio(quick, bare));
-        self.to_mutex.note(round, ratio(quick, mutex));
+        self.bare.note(number, round.bare);
+        self.quick.note(number, round.quick);
+        self.mutex.note(number, round.mutex);
+        self.to_bare.note(number, ratio(round.quick, round.bare));
+        self.to_mutex.note(number, ratio(round.quick, round.mutex));
     }
 
-    /// Prints the medians.
+    /// Prints the medians, and what the bare pairs have added.
     fn print(&mut self, rt: &impl Print, added: u64) -> io::Result<()> {
         let (bare, quick, mutex) = (self.bare.median(), self.quick.median(), self.mutex.median());
+        println!(rt; "pairs: quick {quick} ps, bare {bare} ps, Mutex {mutex} ps, added {added}")?;
+        self.print_ratios(rt)
+    }
+
+    /// Prints the medians of the ratios.
+    fn print_ratios(&mut self, rt: &impl Print) -> io::Result<()> {
         let to_bare = Hundredths(self.to_bare.median());
         let to_mutex = Hundredths(self.to_mutex.median());
-        println!(rt; "pairs: quick {quick} ps, bare {bare} ps, Mutex {mutex} ps, added {added}")?;
         println!(rt; "pairs: quick to bare {to_bare}, quick to Mutex {to_mutex}")
     }
+}
+
+/// The median of what a bare pair takes in picoseconds, and what all of them added.
+fn median_bare(rt: &impl Clock) -> Option<(u64, u64)> {
+    let mut bare = Figures::new();
+    let word = AtomicU64::new(0);
+    let mut value = 0u64;
+    for round in 0..ROUNDS {
+        bare.note(round, time_bare(rt, &word, &mut value)?);
+    }
+    Some((bare.median(), value))
 }
 
 /// Measures pairs of bare compare-exchanges, and prints what each hop of a chain of so many threads took beside the median
@@ -106,54 +183,55 @@ pub fn compare_hop(
     depth: u32,
 ) -> io::Result<()> {
     let hop = nanoseconds.saturating_mul(1000) / u64::from(depth.max(1));
-    let mut bare = Figures::new();
-    let word = AtomicU64::new(0);
-    let mut value = 0u64;
-    for round in 0..ROUNDS {
-        let start = Instant::now(rt)?;
-        bare_pairs(&word, &mut value);
-        bare.note(round, picoseconds(rt, start)?);
-    }
-    let pair = bare.median();
+    let (pair, value) = median_bare(rt).ok_or(io::ErrorKind::Other)?;
     let pairs = Hundredths(ratio(hop, pair));
     println!(rt; "{name}: {hop} ps a hop, {pairs} bare pairs of {pair} ps; added {value}")
 }
 
 /// Measures the three ways in turn, and prints the median of each and of the ratios.
 pub fn measure_pairs<R: Clock + Wait + AllocGlobal + Print>(rt: &R) -> io::Result<()> {
-    let values = [0u64].to_vec(rt.alloc())?;
+    let (mut sheet, added) = sheet_of(rt).ok_or(io::ErrorKind::Other)?;
+    sheet.print(rt, added)
+}
+
+/// The figures of all rounds, and what the bare pairs have added. `None` where memory is refused or the clock has a fault.
+fn sheet_of<R: Clock + Wait + AllocGlobal>(rt: &R) -> Option<(Sheet, u64)> {
+    let values = [0u64].to_vec(rt.alloc()).ok()?;
     let Ok((quick, passes)) = Quick::open(rt.alloc(), values, 1) else {
-        return Err(io::Error::from(io::ErrorKind::OutOfMemory));
+        return None;
     };
-    measure_by(rt, &quick, passes)
+    measure_last(rt, &quick, passes)
 }
 
 /// Measures with the last of these passes.
-fn measure_by<R: Clock + Wait + Print>(
+fn measure_last<R: Clock + Wait>(
     rt: &R,
     quick: &Quick<u64>,
     passes: Vec<Pass<u64>>,
-) -> io::Result<()>
+) -> Option<(Sheet, u64)>
     requires { All (IsPassOf quick.now) passes.items × (0 < word_count quick.now) }
 {
     let mut passes = passes;
-    let Some(mut pass) = passes.pop() else {
-        return Ok(());
-    };
+    let mut pass = passes.pop()?;
+    measure_by(rt, quick, &mut pass)
+}
+
+/// Measures with this pass.
+fn measure_by<R: Clock + Wait>(
+    rt: &R,
+    quick: &Quick<u64>,
+    pass: &mut Pass<u64>,
+) -> Option<(Sheet, u64)>
+    requires { IsPassOf quick.now pass.old × (0 < word_count quick.now) }
+{
     let mut sheet = Sheet::new();
-    let word = AtomicU64::new(0);
-    let mut value = 0u64;
-    let mutex = Mutex::new(0u64);
+    let mut ways = Ways {
+        word: AtomicU64::new(0),
+        value: 0,
+        mutex: Mutex::new(0),
+    };
     for round in 0..ROUNDS {
-        let start = Instant::now(rt)?;
-        bare_pairs(&word, &mut value);
-        let bare = picoseconds(rt, start)?;
-        let start = Instant::now(rt)?;
-        quick_pairs(quick, &mut pass);
-        let tried = picoseconds(rt, start)?;
-        let start = Instant::now(rt)?;
-        mutex_pairs(rt, &mutex);
-        sheet.note(round, bare, tried, picoseconds(rt, start)?);
+        sheet.note(round, time_ways(rt, quick, pass, &mut ways)?);
     }
-    sheet.print(rt, value)
+    Some((sheet, ways.value))
 }

@@ -126,15 +126,15 @@ fn mutex_run<R: Threads + Wait + Sync>(
 }
 
 /// How many thousand turns a second so many threads took together since `start`.
-fn per_second(rt: &impl Clock, threads: u32, start: Instant) -> io::Result<u64>
+fn per_second(rt: &impl Clock, threads: u32, start: Instant) -> Option<u64>
     requires { threads ≤ 64 }
 {
-    let microseconds = start.elapsed(rt)?.as_micros();
+    let microseconds = start.elapsed(rt).ok()?.as_micros();
     if microseconds == 0 {
-        return Ok(0);
+        return Some(0);
     }
     let thousands = u128::from(threads) * u128::from(TURNS) * 1000 / microseconds;
-    Ok(u64::try_from(thousands).unwrap_or(u64::MAX))
+    Some(u64::try_from(thousands).unwrap_or(u64::MAX))
 }
 
 /// The mutexes, each 0.
@@ -149,35 +149,92 @@ fn mutexes(alloc: Global) -> Result<Vec<Apart>, AllocError> {
     Ok(mutexes)
 }
 
-/// The turns of so many threads by the quick path: how many thousand a second.
-fn quick_round<R: Clock + Threads + Wait + Sync + AllocGlobal>(
+/// The turns of these passes, in so many threads, by the quick path: how many thousand a second.
+fn time_quick<R: Clock + Threads + Wait + Sync>(
     rt: &R,
-    words: Words,
-    threads: u32,
-) -> io::Result<u64>
-    requires { (1 ≤ threads) × (threads ≤ 64) }
+    quick: &Quick<u64>,
+    passes: Vec<Pass<u64>>,
+    crew: Crew,
+) -> Option<u64>
+    requires { All (IsPassOf quick.now) passes.items × (4 ≤ word_count quick.now) }
 {
-    let values = [0u64; WORDS].to_vec(rt.alloc())?;
-    let Ok((quick, passes)) = Quick::open(rt.alloc(), values, threads) else {
-        return Err(io::Error::from(io::ErrorKind::OutOfMemory));
-    };
-    let start = Instant::now(rt)?;
-    quick_run(rt, &quick, passes, words)?;
+    let Crew { words, threads } = crew;
+    let start = Instant::now(rt).ok()?;
+    quick_run(rt, quick, passes, words).ok()?;
     per_second(rt, threads, start)
 }
 
-/// The turns of so many threads by std's `Mutex`: how many thousand a second.
-fn mutex_round<R: Clock + Threads + Wait + Sync + AllocGlobal>(
+/// The turns of a crew by the quick path: how many thousand a second.
+fn quick_round<R: Clock + Threads + Wait + Sync + AllocGlobal>(rt: &R, crew: Crew) -> Option<u64> {
+    let Crew { threads, .. } = crew;
+    let values = [0u64; WORDS].to_vec(rt.alloc()).ok()?;
+    let Ok((quick, passes)) = Quick::open(rt.alloc(), values, threads) else {
+        return None;
+    };
+    time_quick(rt, &quick, passes, crew)
+}
+
+/// The turns of a crew by these mutexes: how many thousand a second.
+fn time_mutexes<R: Clock + Threads + Wait + Sync + AllocGlobal>(
     rt: &R,
-    words: Words,
-    threads: u32,
-) -> io::Result<u64>
-    requires { threads ≤ 64 }
-{
-    let mutexes = mutexes(rt.alloc())?;
-    let start = Instant::now(rt)?;
-    mutex_run(rt, rt.alloc(), mutexes.as_slice(), threads, words)?;
+    mutexes: &[Apart],
+    crew: Crew,
+) -> Option<u64> {
+    let Crew { words, threads } = crew;
+    let start = Instant::now(rt).ok()?;
+    mutex_run(rt, rt.alloc(), mutexes, threads, words).ok()?;
     per_second(rt, threads, start)
+}
+
+/// The turns of a crew by std's `Mutex`: how many thousand a second.
+fn mutex_round<R: Clock + Threads + Wait + Sync + AllocGlobal>(rt: &R, crew: Crew) -> Option<u64> {
+    let mutexes = mutexes(rt.alloc()).ok()?;
+    time_mutexes(rt, mutexes.as_slice(), crew)
+}
+
+/// The figures of the quick path and of std's `Mutex`, and the ratios of each round.
+#[derive(Clone, Copy)]
+struct Sheet {
+    quick: Figures,
+    mutex: Figures,
+    ratios: Figures,
+}
+
+impl Sheet {
+    /// Prints the medians, and the median and the least of the ratios.
+    fn print(&mut self, rt: &impl Print, threads: u32, name: &str) -> io::Result<()> {
+        let (quick, mutex) = (self.quick.median(), self.mutex.median());
+        println!(rt;
+            "{threads} threads, {name}: quick {quick}, Mutex {mutex} thousand turns a second"
+        )?;
+        self.print_ratios(rt, threads, name)
+    }
+
+    /// Prints the median and the least of the ratios.
+    fn print_ratios(&mut self, rt: &impl Print, threads: u32, name: &str) -> io::Result<()> {
+        let (median, least) = self.ratios.median_and_least();
+        let (median, least) = (Hundredths(median), Hundredths(least));
+        println!(rt; "{threads} threads, {name}: quick to Mutex {median}, least {least}")
+    }
+}
+
+/// Measures the turns of a crew by the quick path and by std's `Mutex`, in turn. `None` where memory is refused, a thread
+/// can't be started, or the clock has a fault.
+fn sheet_of<R: Clock + Threads + Wait + Sync + AllocGlobal>(rt: &R, crew: Crew) -> Option<Sheet> {
+    let none = Figures::new();
+    let mut sheet = Sheet {
+        quick: none,
+        mutex: none,
+        ratios: none,
+    };
+    for round in 0..ROUNDS {
+        let tried = quick_round(rt, crew)?;
+        let locked = mutex_round(rt, crew)?;
+        sheet.quick.note(round, tried);
+        sheet.mutex.note(round, locked);
+        sheet.ratios.note(round, ratio(tried, locked));
+    }
+    Some(sheet)
 }
 
 /// Measures the turns of some threads by the quick path and by std's `Mutex`, in turn, and prints the medians, and the
@@ -186,20 +243,7 @@ pub fn measure_turns<R: Clock + Threads + Wait + Sync + AllocGlobal + Print>(
     rt: &R,
     crew: Crew,
 ) -> io::Result<()> {
+    let mut sheet = sheet_of(rt, crew).ok_or(io::ErrorKind::Other)?;
     let Crew { words, threads } = crew;
-    let (mut quick, mut mutex, mut ratios) = (Figures::new(), Figures::new(), Figures::new());
-    for round in 0..ROUNDS {
-        let tried = quick_round(rt, words, threads)?;
-        let locked = mutex_round(rt, words, threads)?;
-        quick.note(round, tried);
-        mutex.note(round, locked);
-        ratios.note(round, ratio(tried, locked));
-    }
-    let (quick, mutex) = (quick.median(), mutex.median());
-    let (median, least) = (Hundredths(ratios.median()), Hundredths(ratios.least()));
-    let name = words.name();
-    println!(rt;
-        "{threads} threads, {name}: quick {quick}, Mutex {mutex} thousand turns a second"
-    )?;
-    println!(rt; "{threads} threads, {name}: quick to Mutex {median}, least {least}")
+    sheet.print(rt, threads, words.name())
 }
