@@ -3,7 +3,6 @@
 
 use pif_core::Core;
 use pif_types::{AddFault, Kind, Limits, Prio, Request};
-use pif_uses::call;
 use std::io;
 
 /// At which priority the holder runs while the other waits.
@@ -11,8 +10,8 @@ fn boosted(core: &mut Core) -> Result<Option<Prio>, AddFault> {
     let low = core.add_thread(10)?;
     let high = core.add_thread(50)?;
     let mutex = core.add_mutex(Kind::Normal, false)?;
-    call(core, low, Request::Lock(mutex));
-    call(core, high, Request::Lock(mutex));
+    core.call(low, Request::Lock(mutex));
+    core.call(high, Request::Lock(mutex));
     Ok(core.effective(low))
 }
 

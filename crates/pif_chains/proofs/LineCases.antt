@@ -4,17 +4,26 @@ use Rattle.std.proofs.Common.{◌≡◌, ◌≢◌, ℕ, ◌+◌, ◌-◌, ◌<�
 use Rattle.std.proofs.lemmas.Bool.{true≢false, eqb-false}
 use Rattle.pif_types.specs.Numbers.{number_of}
 use Rattle.pif_types.specs.declared.errors.Errno.{Errno}
-use Rattle.pif_types.specs.declared.requests.Kind.{Kind}
-use Rattle.pif_types.specs.declared.requests.Kind.TheVariants.{Normal, ErrorCheck, Recursive}
+use Rattle.pif_model.specs.declared.lines.Relock.{Relock}
+use Rattle.pif_model.specs.declared.lines.Relock.TheVariants.{Stops, Answers, Counts}
+use Rattle.pif_model.specs.Kinds.{relock_of}
 use Rattle.pif_types.specs.declared.requests.Request.{Request}
 use Rattle.pif_types.specs.declared.requests.Request.TheVariants.{TryLock, Unlock, Consistent, Wait}
 use Rattle.pif_model.specs.declared.events.Seen.TheVariants.{Waits}
 use Rattle.pif_model.specs.declared.lines.Place.{Place}
-use Rattle.pif_model.specs.declared.lines.Place.TheVariants.{LockPending, LockExchange, LockKernel, LockStop, TakeHealth, TakeStore, LinkNext, LeaveExchange, LeaveKernel, LeaveClear, TryPending, TryExchange, UnlockPending, UnlockStore, UnlockUnlink, UnlockExchange, UnlockKernel, UnlockClear, ConsistentHealth, ConsistentStore, WaitUses, WaitPending, WaitStore, WaitUnlink, WaitExchange, WaitKernel, WaitPark, UseExchange, UseRequeue}
+use Rattle.pif_model.specs.declared.lines.Place.TheVariants.{NamePending, Exchange, CallKernel, Stop, Take, Link, Give, Clear, LoadUses, Park, Repair, Wake}
+use Rattle.pif_model.specs.declared.lines.TakeStep.TheVariants.{LoadHealth, StoreInconsistent}
+use Rattle.pif_model.specs.declared.lines.LinkStep.TheVariants.{WriteNext}
+use Rattle.pif_model.specs.declared.lines.GiveStep.TheVariants.{SetPending, StoreUnusable, Unlink, Release, CallUnlock}
+use Rattle.pif_model.specs.declared.lines.Purpose.{Purpose}
+use Rattle.pif_model.specs.declared.lines.Purpose.TheVariants.{ToUnlock, ToPark, ToLeave}
+use Rattle.pif_model.specs.declared.lines.Footing.TheVariants.{Unowned}
+use Rattle.pif_model.specs.declared.lines.RepairStep.TheVariants.{CheckHealth, StoreFine}
+use Rattle.pif_model.specs.declared.lines.WakeStep.TheVariants.{CountUse, Requeue}
 use Rattle.pif_model.specs.Word.{Word, free_word, held_by, is_bare}
 use Rattle.pif_model.specs.PiKernel.{is_ready, is_woken_again}
 use Rattle.pif_model.specs.Table.{Table, status_at, cell_at, bound_to, uses_of, with_count, with_word, with_cond_word}
-use Rattle.pif_model.specs.Lines.{Outcome, goes_to, answers, is_robust, goes_by, ends_by, relocks, after_exchange, own_exchange, lock_load, lock_queued, take_load, take_health, leave_exchange, try_load, unlock_load, unlock_health, unlock_exchange, consistent_load, consistent_health, wait_load, wait_uses, wait_health, wait_exchange, wait_parked, use_read, use_exchange, answered_by}
+use Rattle.pif_model.specs.Lines.{Outcome, goes_to, answers, is_robust, goes_by, ends_by, relocks, after_exchange, own_exchange, lock_load, lock_queued, take_load, take_health, give_health, given_up, give_exchange, try_load, unlock_load, consistent_load, consistent_health, wait_load, wait_uses, wait_parked, use_read, use_exchange, answered_by}
 use Rattle.pif_chains.proofs.Waiting.{by_test}
 
 -- a word that is exchanged has no flag, and the number from which it is exchanged
@@ -63,60 +72,61 @@ exchanged_cases P x w n m done failed s ok fails =
     (λ e. let b = bare w.waiters w.died w.number n e in ok b.0 b.1 b.2) (λ e. fails)
 
 -- compare-exchange from 0 to t
-pub own_exchange_cases : (P : Outcome → Type 0) (q : Request) (p : Place) (t m : ℕ) (s : Table)
+pub own_exchange_cases : (P : Outcome → Type 0) (q : Request) (t m : ℕ) (s : Table)
     → ((cell_at s m).word.died ≡ false → (cell_at s m).word.number ≡ 0 → (cell_at s m).robust ≡ true
-    → P (goes_to t q (TakeHealth false) (with_word m (held_by t) s)))
+    → P (goes_to t q (Take (LoadHealth false)) (with_word m (held_by t) s)))
     → ((cell_at s m).word.died ≡ false → (cell_at s m).word.number ≡ 0 → (cell_at s m).robust ≡ false
     → P (answers t 0 (with_word m (held_by t) s)))
-    → P (goes_to t q p s)
-    → P (own_exchange q p t m s)
+    → P (goes_to t q CallKernel s)
+    → P (own_exchange q t m s)
 unfolding own_exchange
-own_exchange_cases P q p t m s robust stalled fails =
-    exchanged_cases P (held_by t) (cell_at s m).word 0 m (ends_by t q m (TakeHealth false) 0) (goes_to t q p) s
-    (λ w d n. ends_by_cases P q (TakeHealth false) 0 t m (with_word m (held_by t) s) (λ r. robust d n r)
+own_exchange_cases P q t m s robust stalled fails =
+    exchanged_cases P (held_by t) (cell_at s m).word 0 m (ends_by t q m (Take (LoadHealth false)) 0)
+    (goes_to t q CallKernel) s
+    (λ w d n. ends_by_cases P q (Take (LoadHealth false)) 0 t m (with_word m (held_by t) s) (λ r. robust d n r)
     (λ r. stalled d n r)) fails
 
 -- LOCK
 
 -- load the word
 pub lock_load_cases : (P : Outcome → Type 0) (q : Request) (t m : ℕ) (s : Table)
-    → ((cell_at s m).word.number ≡ t → (cell_at s m).kind ≡ Normal → P (goes_to t q LockStop s))
-    → ((cell_at s m).word.number ≡ t → (cell_at s m).kind ≡ ErrorCheck → P (answers t 35 s))
-    → ((cell_at s m).word.number ≡ t → (cell_at s m).kind ≡ Recursive → P (relocks t m s))
-    → ((cell_at s m).word.number ≢ t → (cell_at s m).robust ≡ true → P (goes_to t q LockPending s))
-    → ((cell_at s m).word.number ≢ t → (cell_at s m).robust ≡ false → P (goes_to t q LockExchange s))
+    → ((cell_at s m).word.number ≡ t → relock_of (cell_at s m).kind ≡ Stops → P (goes_to t q Stop s))
+    → ((cell_at s m).word.number ≡ t → relock_of (cell_at s m).kind ≡ Answers → P (answers t 35 s))
+    → ((cell_at s m).word.number ≡ t → relock_of (cell_at s m).kind ≡ Counts → P (relocks t m s))
+    → ((cell_at s m).word.number ≢ t → (cell_at s m).robust ≡ true → P (goes_to t q NamePending s))
+    → ((cell_at s m).word.number ≢ t → (cell_at s m).robust ≡ false → P (goes_to t q Exchange s))
     → P (lock_load q t m s)
 unfolding lock_load
 lock_load_cases P q t m s normal errorcheck recursive robust stalled =
-    by_test (λ b. P (if b then elim (cell_at s m).kind
-    [ Normal ↦ goes_to t q LockStop s | ErrorCheck ↦ answers t 35 s | Recursive ↦ relocks t m s ] else goes_by
-    t q m LockPending LockExchange s))
+    by_test (λ b. P (if b then elim (relock_of (cell_at s m).kind)
+    [ Stops ↦ goes_to t q Stop s | Answers ↦ answers t 35 s | Counts ↦ relocks t m s ] else goes_by
+    t q m NamePending Exchange s))
     ((cell_at s m).word.number == t)
-    (λ e. by_kind (cell_at s m).kind (normal (eqb-true (cell_at s m).word.number t e))
+    (λ e. by_relock (relock_of (cell_at s m).kind) (normal (eqb-true (cell_at s m).word.number t e))
     (errorcheck (eqb-true (cell_at s m).word.number t e)) (recursive (eqb-true (cell_at s m).word.number t e)))
-    (λ e. goes_by_cases P q LockPending LockExchange t m s (robust (eqb-false (cell_at s m).word.number t e))
+    (λ e. goes_by_cases P q NamePending Exchange t m s (robust (eqb-false (cell_at s m).word.number t e))
     (stalled (eqb-false (cell_at s m).word.number t e)))
   where
-    by_kind : (k : Kind) → (k ≡ Normal → P (goes_to t q LockStop s)) → (k ≡ ErrorCheck → P (answers t 35 s))
-        → (k ≡ Recursive → P (relocks t m s))
-        → P (elim k [ Normal ↦ goes_to t q LockStop s | ErrorCheck ↦ answers t 35 s | Recursive ↦ relocks t m s ])
-    by_kind Normal a b c = a refl
-    by_kind ErrorCheck a b c = b refl
-    by_kind Recursive a b c = c refl
+    by_relock : (x : Relock) → (x ≡ Stops → P (goes_to t q Stop s)) → (x ≡ Answers → P (answers t 35 s))
+        → (x ≡ Counts → P (relocks t m s))
+        → P (elim x [ Stops ↦ goes_to t q Stop s | Answers ↦ answers t 35 s | Counts ↦ relocks t m s ])
+    by_relock Stops a b c = a refl
+    by_relock Answers a b c = b refl
+    by_relock Counts a b c = c refl
 
 -- queued, or made the owner
 pub lock_queued_cases : (P : Outcome → Type 0) (q : Request) (t m : ℕ) (s : Table)
     → (is_ready (status_at s t) ≡ true → (cell_at s m).robust ≡ true
-    → P (goes_to t q (TakeHealth (cell_at s m).word.died) s))
+    → P (goes_to t q (Take (LoadHealth (cell_at s m).word.died)) s))
     → (is_ready (status_at s t) ≡ true → (cell_at s m).robust ≡ false → P (answers t 0 s))
     → (is_ready (status_at s t) ≡ false → P (record { seen = Waits; after = s }))
     → P (lock_queued q t m s)
 unfolding lock_queued take_load
 lock_queued_cases P q t m s robust stalled waits =
-    by_test (λ b. P (if b then (if is_robust m s then goes_to t q (TakeHealth (cell_at s m).word.died) s else
+    by_test (λ b. P (if b then (if is_robust m s then goes_to t q (Take (LoadHealth (cell_at s m).word.died)) s else
     answers t 0 s) else record { seen = Waits; after = s }))
     (is_ready (status_at s t))
-    (λ e. by_test (λ b. P (if b then goes_to t q (TakeHealth (cell_at s m).word.died) s else answers t 0 s))
+    (λ e. by_test (λ b. P (if b then goes_to t q (Take (LoadHealth (cell_at s m).word.died)) s else answers t 0 s))
     (is_robust m s) (robust e) (stalled e))
     waits
 
@@ -124,53 +134,78 @@ lock_queued_cases P q t m s robust stalled waits =
 
 -- load the health word
 pub take_health_cases : (P : Outcome → Type 0) (q : Request) (died : Bool) (t m : ℕ) (s : Table)
-    → ((cell_at s m).health ≡ 2 → P (goes_to t q LeaveExchange s))
-    → ((cell_at s m).health ≢ 2 → died ≡ true → P (goes_to t q TakeStore s))
-    → ((cell_at s m).health ≢ 2 → died ≡ false → P (goes_to t q (LinkNext 0) s))
+    → ((cell_at s m).health ≡ 2 → P (goes_to t q (Give Release ToLeave) s))
+    → ((cell_at s m).health ≢ 2 → died ≡ true → P (goes_to t q (Take StoreInconsistent) s))
+    → ((cell_at s m).health ≢ 2 → died ≡ false → P (goes_to t q (Link WriteNext 0) s))
     → P (take_health q died t m s)
 unfolding take_health
 take_health_cases P q died t m s unusable behind fine =
-    by_test (λ b. P (if b then goes_to t q LeaveExchange s else (if died then goes_to t q TakeStore s else
-    goes_to t q (LinkNext 0) s)))
+    by_test (λ b. P (if b then goes_to t q (Give Release ToLeave) s else (if died then goes_to t q (Take StoreInconsistent) s else
+    goes_to t q (Link WriteNext 0) s)))
     ((cell_at s m).health == 2)
     (λ e. unusable (eqb-true (cell_at s m).health 2 e))
-    (λ e. by_test (λ b. P (if b then goes_to t q TakeStore s else goes_to t q (LinkNext 0) s)) died
+    (λ e. by_test (λ b. P (if b then goes_to t q (Take StoreInconsistent) s else goes_to t q (Link WriteNext 0) s)) died
     (behind (eqb-false (cell_at s m).health 2 e)) (fine (eqb-false (cell_at s m).health 2 e)))
 
--- leaving: compare-exchange from t to 0
-pub leave_exchange_cases : (P : Outcome → Type 0) (q : Request) (t m : ℕ) (s : Table)
-    → ((cell_at s m).word.waiters ≡ false → (cell_at s m).word.died ≡ false → (cell_at s m).word.number ≡ t
-    → P (goes_to t q LeaveClear (with_word m free_word s)))
-    → P (goes_to t q LeaveKernel s)
-    → P (leave_exchange q t m s)
-unfolding leave_exchange
-leave_exchange_cases P q t m s =
-    exchanged_cases P free_word (cell_at s m).word t m (goes_to t q LeaveClear) (goes_to t q LeaveKernel) s
+-- GIVING UP
+
+-- load the health word
+pub give_health_cases : (P : Outcome → Type 0) (q : Request) (y : Purpose) (t m : ℕ) (s : Table)
+    → ((cell_at s m).health ≡ 1 → P (goes_to t q (Give StoreUnusable y) s))
+    → ((cell_at s m).health ≢ 1 → P (goes_to t q (Give Unlink y) s))
+    → P (give_health q y t m s)
+unfolding give_health
+give_health_cases P q y t m s disorder order =
+    by_test (λ b. P (if b then goes_to t q (Give StoreUnusable y) s else goes_to t q (Give Unlink y) s))
+    ((cell_at s m).health == 1)
+    (λ e. disorder (eqb-true (cell_at s m).health 1 e)) (λ e. order (eqb-false (cell_at s m).health 1 e))
+
+-- compare-exchange from t to 0
+pub give_exchange_cases : (P : Outcome → Type 0) (q : Request) (y : Purpose) (t m : ℕ) (s : Table)
+    → ((cell_at s m).word.waiters ≡ false → P (given_up q y t m (with_word m free_word s)))
+    → P (goes_to t q (Give CallUnlock y) s)
+    → P (give_exchange q y t m s)
+unfolding give_exchange
+give_exchange_cases P q y t m s done fails =
+    exchanged_cases P free_word (cell_at s m).word t m (given_up q y t m) (goes_to t q (Give CallUnlock y)) s
+    (λ w d n. done w) fails
+
+-- what comes after, by why it was given up
+pub given_up_cases : (P : Outcome → Type 0) (q : Request) (y : Purpose) (t m : ℕ) (s : Table)
+    → (y ≡ ToUnlock → (cell_at s m).robust ≡ true → P (goes_to t q (Clear Unowned 0) s))
+    → (y ≡ ToUnlock → (cell_at s m).robust ≡ false → P (answers t 0 s))
+    → ((v : ℕ) → y ≡ ToPark v → P (goes_to t q (Park v) s))
+    → (y ≡ ToLeave → P (goes_to t q (Clear Unowned 131) s))
+    → P (given_up q y t m s)
+given_up_cases P q ToUnlock t m s robust stalled parks leaves =
+    ends_by_cases P q (Clear Unowned 0) 0 t m s (robust refl) (stalled refl)
+given_up_cases P q (ToPark v) t m s robust stalled parks leaves = parks v refl
+given_up_cases P q ToLeave t m s robust stalled parks leaves = leaves refl
 
 -- TRYLOCK
 
 -- load the word
 pub try_load_cases : (P : Outcome → Type 0) (t m : ℕ) (s : Table)
-    → ((cell_at s m).word.number ≡ t → (cell_at s m).kind ≡ Recursive → P (relocks t m s))
-    → ((cell_at s m).word.number ≡ t → (cell_at s m).kind ≢ Recursive → P (answers t 16 s))
-    → ((cell_at s m).word.number ≢ t → (cell_at s m).robust ≡ true → P (goes_to t (TryLock m) TryPending s))
-    → ((cell_at s m).word.number ≢ t → (cell_at s m).robust ≡ false → P (goes_to t (TryLock m) TryExchange s))
+    → ((cell_at s m).word.number ≡ t → relock_of (cell_at s m).kind ≡ Counts → P (relocks t m s))
+    → ((cell_at s m).word.number ≡ t → relock_of (cell_at s m).kind ≢ Counts → P (answers t 16 s))
+    → ((cell_at s m).word.number ≢ t → (cell_at s m).robust ≡ true → P (goes_to t (TryLock m) NamePending s))
+    → ((cell_at s m).word.number ≢ t → (cell_at s m).robust ≡ false → P (goes_to t (TryLock m) Exchange s))
     → P (try_load t m s)
 unfolding try_load
 try_load_cases P t m s recursive busy robust stalled =
-    by_test (λ b. P (if b then elim (cell_at s m).kind [ Recursive ↦ relocks t m s | _ ↦ answers t 16 s ] else
-    goes_by t (TryLock m) m TryPending TryExchange s))
+    by_test (λ b. P (if b then elim (relock_of (cell_at s m).kind) [ Counts ↦ relocks t m s | _ ↦ answers t 16 s ] else
+    goes_by t (TryLock m) m NamePending Exchange s))
     ((cell_at s m).word.number == t)
-    (λ e. by_kind (cell_at s m).kind (recursive (eqb-true (cell_at s m).word.number t e))
+    (λ e. by_relock (relock_of (cell_at s m).kind) (recursive (eqb-true (cell_at s m).word.number t e))
     (busy (eqb-true (cell_at s m).word.number t e)))
-    (λ e. goes_by_cases P (TryLock m) TryPending TryExchange t m s
+    (λ e. goes_by_cases P (TryLock m) NamePending Exchange t m s
     (robust (eqb-false (cell_at s m).word.number t e)) (stalled (eqb-false (cell_at s m).word.number t e)))
   where
-    by_kind : (k : Kind) → (k ≡ Recursive → P (relocks t m s)) → (k ≢ Recursive → P (answers t 16 s))
-        → P (elim k [ Recursive ↦ relocks t m s | _ ↦ answers t 16 s ])
-    by_kind Normal a b = b (λ e. cc)
-    by_kind ErrorCheck a b = b (λ e. cc)
-    by_kind Recursive a b = a refl
+    by_relock : (x : Relock) → (x ≡ Counts → P (relocks t m s)) → (x ≢ Counts → P (answers t 16 s))
+        → P (elim x [ Counts ↦ relocks t m s | _ ↦ answers t 16 s ])
+    by_relock Stops a b = b (λ e. cc)
+    by_relock Answers a b = b (λ e. cc)
+    by_relock Counts a b = a refl
 
 -- UNLOCK
 
@@ -179,79 +214,53 @@ pub unlock_load_cases : (P : Outcome → Type 0) (t m : ℕ) (s : Table)
     → ((cell_at s m).word.number ≡ t → 1 < (cell_at s m).count
     → P (answers t 0 (with_count m ((cell_at s m).count - 1) s)))
     → ((cell_at s m).word.number ≡ t → (cell_at s m).count ≤ 1 → (cell_at s m).robust ≡ true
-    → P (goes_to t (Unlock m) UnlockPending s))
+    → P (goes_to t (Unlock m) (Give SetPending ToUnlock) s))
     → ((cell_at s m).word.number ≡ t → (cell_at s m).count ≤ 1 → (cell_at s m).robust ≡ false
-    → P (goes_to t (Unlock m) UnlockExchange s))
+    → P (goes_to t (Unlock m) (Give Release ToUnlock) s))
     → ((cell_at s m).word.number ≢ t → P (answers t 1 s))
     → P (unlock_load t m s)
 unfolding unlock_load
 unlock_load_cases P t m s falls robust stalled other =
     by_test (λ b. P (if b then (if nat_lt 1 (cell_at s m).count then answers t 0
-    (with_count m ((cell_at s m).count - 1) s) else goes_by t (Unlock m) m UnlockPending UnlockExchange s) else
+    (with_count m ((cell_at s m).count - 1) s) else goes_by t (Unlock m) m (Give SetPending ToUnlock) (Give Release ToUnlock) s) else
     answers t 1 s))
     ((cell_at s m).word.number == t)
     (λ e. by_test (λ b. P (if b then answers t 0 (with_count m ((cell_at s m).count - 1) s) else
-    goes_by t (Unlock m) m UnlockPending UnlockExchange s))
+    goes_by t (Unlock m) m (Give SetPending ToUnlock) (Give Release ToUnlock) s))
     (nat_lt 1 (cell_at s m).count)
     (λ f. falls (eqb-true (cell_at s m).word.number t e) (ltb-true 1 (cell_at s m).count f))
-    (λ f. goes_by_cases P (Unlock m) UnlockPending UnlockExchange t m s
+    (λ f. goes_by_cases P (Unlock m) (Give SetPending ToUnlock) (Give Release ToUnlock) t m s
     (robust (eqb-true (cell_at s m).word.number t e) (ltb-false 1 (cell_at s m).count f))
     (stalled (eqb-true (cell_at s m).word.number t e) (ltb-false 1 (cell_at s m).count f))))
     (λ e. other (eqb-false (cell_at s m).word.number t e))
-
--- load the health word
-pub unlock_health_cases : (P : Outcome → Type 0) (t m : ℕ) (s : Table)
-    → ((cell_at s m).health ≡ 1 → P (goes_to t (Unlock m) UnlockStore s))
-    → ((cell_at s m).health ≢ 1 → P (goes_to t (Unlock m) UnlockUnlink s))
-    → P (unlock_health t m s)
-unfolding unlock_health
-unlock_health_cases P t m s disorder order =
-    by_test (λ b. P (if b then goes_to t (Unlock m) UnlockStore s else goes_to t (Unlock m) UnlockUnlink s))
-    ((cell_at s m).health == 1)
-    (λ e. disorder (eqb-true (cell_at s m).health 1 e)) (λ e. order (eqb-false (cell_at s m).health 1 e))
-
--- compare-exchange from t to 0
-pub unlock_exchange_cases : (P : Outcome → Type 0) (t m : ℕ) (s : Table)
-    → ((cell_at s m).word.waiters ≡ false → (cell_at s m).word.number ≡ t → (cell_at s m).robust ≡ true
-    → P (goes_to t (Unlock m) UnlockClear (with_word m free_word s)))
-    → ((cell_at s m).word.waiters ≡ false → (cell_at s m).word.number ≡ t → (cell_at s m).robust ≡ false
-    → P (answers t 0 (with_word m free_word s)))
-    → P (goes_to t (Unlock m) UnlockKernel s)
-    → P (unlock_exchange t m s)
-unfolding unlock_exchange
-unlock_exchange_cases P t m s robust stalled fails =
-    exchanged_cases P free_word (cell_at s m).word t m (ends_by t (Unlock m) m UnlockClear 0)
-    (goes_to t (Unlock m) UnlockKernel) s
-    (λ w d n. ends_by_cases P (Unlock m) UnlockClear 0 t m (with_word m free_word s) (λ r. robust w n r)
-    (λ r. stalled w n r)) fails
 
 -- CONSISTENT
 
 -- load the word
 pub consistent_load_cases : (P : Outcome → Type 0) (t m : ℕ) (s : Table)
     → ((cell_at s m).robust ≡ true → (cell_at s m).word.number ≡ t
-    → P (goes_to t (Consistent m) ConsistentHealth s))
+    → P (goes_to t (Consistent m) (Repair CheckHealth) s))
     → ((cell_at s m).robust ≡ true → (cell_at s m).word.number ≢ t → P (answers t 1 s))
     → ((cell_at s m).robust ≡ false → P (answers t 22 s))
     → P (consistent_load t m s)
 unfolding consistent_load
 consistent_load_cases P t m s own other stalled =
-    by_test (λ b. P (if b then (if (cell_at s m).word.number == t then goes_to t (Consistent m) ConsistentHealth s
+    by_test (λ b. P (if b then (if (cell_at s m).word.number == t then goes_to t (Consistent m) (Repair CheckHealth) s
     else answers t 1 s) else answers t 22 s))
     (is_robust m s)
-    (λ r. by_test (λ b. P (if b then goes_to t (Consistent m) ConsistentHealth s else answers t 1 s))
+    (λ r. by_test (λ b. P (if b then goes_to t (Consistent m) (Repair CheckHealth) s else answers t 1 s))
     ((cell_at s m).word.number == t)
     (λ e. own r (eqb-true (cell_at s m).word.number t e)) (λ e. other r (eqb-false (cell_at s m).word.number t e)))
     stalled
 
 -- load the health word
 pub consistent_health_cases : (P : Outcome → Type 0) (t m : ℕ) (s : Table)
-    → ((cell_at s m).health ≡ 1 → P (goes_to t (Consistent m) ConsistentStore s))
+    → ((cell_at s m).health ≡ 1 → P (goes_to t (Consistent m) (Repair StoreFine) s))
     → ((cell_at s m).health ≢ 1 → P (answers t 22 s))
     → P (consistent_health t m s)
 unfolding consistent_health
 consistent_health_cases P t m s disorder order =
-    by_test (λ b. P (if b then goes_to t (Consistent m) ConsistentStore s else answers t 22 s))
+    by_test (λ b. P (if b then goes_to t (Consistent m) (Repair StoreFine) s else answers t 22 s))
     ((cell_at s m).health == 1)
     (λ e. disorder (eqb-true (cell_at s m).health 1 e)) (λ e. order (eqb-false (cell_at s m).health 1 e))
 
@@ -260,19 +269,19 @@ consistent_health_cases P t m s disorder order =
 -- load the word
 pub wait_load_cases : (P : Outcome → Type 0) (c m t : ℕ) (s : Table)
     → (bound_to s c ≡ m → (cell_at s m).word.number ≡ t → 1 < (cell_at s m).count → P (answers t 22 s))
-    → (bound_to s c ≡ m → (cell_at s m).word.number ≡ t → (cell_at s m).count ≤ 1 → P (goes_to t (Wait c m) WaitUses s))
+    → (bound_to s c ≡ m → (cell_at s m).word.number ≡ t → (cell_at s m).count ≤ 1 → P (goes_to t (Wait c m) LoadUses s))
     → (bound_to s c ≡ m → (cell_at s m).word.number ≢ t → P (answers t 1 s))
     → (bound_to s c ≢ m → P (answers t 22 s))
     → P (wait_load c m t s)
 unfolding wait_load
 wait_load_cases P c m t s more once other apart =
     by_test (λ b. P (if b then (if (cell_at s m).word.number == t then (if nat_lt 1 (cell_at s m).count then
-    answers t 22 s else goes_to t (Wait c m) WaitUses s) else answers t 1 s) else answers t 22 s))
+    answers t 22 s else goes_to t (Wait c m) LoadUses s) else answers t 1 s) else answers t 22 s))
     (bound_to s c == m)
     (λ d. by_test (λ b. P (if b then (if nat_lt 1 (cell_at s m).count then answers t 22 s else
-    goes_to t (Wait c m) WaitUses s) else answers t 1 s))
+    goes_to t (Wait c m) LoadUses s) else answers t 1 s))
     ((cell_at s m).word.number == t)
-    (λ e. by_test (λ b. P (if b then answers t 22 s else goes_to t (Wait c m) WaitUses s))
+    (λ e. by_test (λ b. P (if b then answers t 22 s else goes_to t (Wait c m) LoadUses s))
     (nat_lt 1 (cell_at s m).count)
     (λ f. more (eqb-true (bound_to s c) m d) (eqb-true (cell_at s m).word.number t e)
     (ltb-true 1 (cell_at s m).count f))
@@ -283,65 +292,43 @@ wait_load_cases P c m t s more once other apart =
 
 -- load the condition word
 pub wait_uses_cases : (P : Outcome → Type 0) (c m t : ℕ) (s : Table)
-    → ((cell_at s m).robust ≡ true → P (goes_to t (Wait c m) (WaitPending (uses_of s c)) s))
-    → ((cell_at s m).robust ≡ false → P (goes_to t (Wait c m) (WaitExchange (uses_of s c)) s))
+    → ((cell_at s m).robust ≡ true → P (goes_to t (Wait c m) (Give SetPending (ToPark (uses_of s c))) s))
+    → ((cell_at s m).robust ≡ false → P (goes_to t (Wait c m) (Give Release (ToPark (uses_of s c))) s))
     → P (wait_uses c m t s)
 unfolding wait_uses
 wait_uses_cases P c m t s =
-    goes_by_cases P (Wait c m) (WaitPending (uses_of s c)) (WaitExchange (uses_of s c)) t m s
-
--- load the health word
-pub wait_health_cases : (P : Outcome → Type 0) (v c m t : ℕ) (s : Table)
-    → ((cell_at s m).health ≡ 1 → P (goes_to t (Wait c m) (WaitStore v) s))
-    → ((cell_at s m).health ≢ 1 → P (goes_to t (Wait c m) (WaitUnlink v) s))
-    → P (wait_health v c m t s)
-unfolding wait_health
-wait_health_cases P v c m t s disorder order =
-    by_test (λ b. P (if b then goes_to t (Wait c m) (WaitStore v) s else goes_to t (Wait c m) (WaitUnlink v) s))
-    ((cell_at s m).health == 1)
-    (λ e. disorder (eqb-true (cell_at s m).health 1 e)) (λ e. order (eqb-false (cell_at s m).health 1 e))
-
--- compare-exchange from t to 0
-pub wait_exchange_cases : (P : Outcome → Type 0) (v c m t : ℕ) (s : Table)
-    → ((cell_at s m).word.waiters ≡ false → (cell_at s m).word.died ≡ false → (cell_at s m).word.number ≡ t
-    → P (goes_to t (Wait c m) (WaitPark v) (with_word m free_word s)))
-    → P (goes_to t (Wait c m) (WaitKernel v) s)
-    → P (wait_exchange v c m t s)
-unfolding wait_exchange
-wait_exchange_cases P v c m t s =
-    exchanged_cases P free_word (cell_at s m).word t m (goes_to t (Wait c m) (WaitPark v))
-    (goes_to t (Wait c m) (WaitKernel v)) s
+    goes_by_cases P (Wait c m) (Give SetPending (ToPark (uses_of s c))) (Give Release (ToPark (uses_of s c))) t m s
 
 -- woken to lock the mutex; or queued, parked or made the owner
 pub wait_parked_cases : (P : Outcome → Type 0) (c m t : ℕ) (s : Table)
-    → (is_woken_again (status_at s t) ≡ true → P (own_exchange (Wait c m) LockKernel t m s))
+    → (is_woken_again (status_at s t) ≡ true → P (own_exchange (Wait c m) t m s))
     → (is_woken_again (status_at s t) ≡ false → P (lock_queued (Wait c m) t m s))
     → P (wait_parked c m t s)
 unfolding wait_parked
 wait_parked_cases P c m t s =
-    by_test (λ b. P (if b then own_exchange (Wait c m) LockKernel t m s else lock_queued (Wait c m) t m s))
+    by_test (λ b. P (if b then own_exchange (Wait c m) t m s else lock_queued (Wait c m) t m s))
     (is_woken_again (status_at s t))
 
 -- SIGNAL AND BROADCAST
 
 -- the condition word was read
 pub use_read_cases : (P : Outcome → Type 0) (q : Request) (n t : ℕ) (s : Table)
-    → (n ≡ s.limits.signals → P (answers t 75 s)) → (n ≢ s.limits.signals → P (goes_to t q (UseExchange n) s))
+    → (n ≡ s.limits.signals → P (answers t 75 s)) → (n ≢ s.limits.signals → P (goes_to t q (Wake (CountUse n)) s))
     → P (use_read q n t s)
 unfolding use_read
 use_read_cases P q n t s full some =
-    by_test (λ b. P (if b then answers t 75 s else goes_to t q (UseExchange n) s)) (n == s.limits.signals)
+    by_test (λ b. P (if b then answers t 75 s else goes_to t q (Wake (CountUse n)) s)) (n == s.limits.signals)
     (λ e. full (eqb-true n s.limits.signals e)) (λ e. some (eqb-false n s.limits.signals e))
 
 -- compare-exchange of the condition word from v to one more
 pub use_exchange_cases : (P : Outcome → Type 0) (q : Request) (v c t : ℕ) (s : Table)
-    → (uses_of s c ≡ v → P (goes_to t q (UseRequeue (v + 1)) (with_cond_word c (v + 1) s)))
+    → (uses_of s c ≡ v → P (goes_to t q (Wake (Requeue (v + 1))) (with_cond_word c (v + 1) s)))
     → (uses_of s c ≢ v → uses_of s c ≡ s.limits.signals → P (answers t 75 s))
-    → (uses_of s c ≢ v → uses_of s c ≢ s.limits.signals → P (goes_to t q (UseExchange (uses_of s c)) s))
+    → (uses_of s c ≢ v → uses_of s c ≢ s.limits.signals → P (goes_to t q (Wake (CountUse (uses_of s c))) s))
     → P (use_exchange q v c t s)
 unfolding use_exchange
 use_exchange_cases P q v c t s done full again =
-    by_test (λ b. P (if b then goes_to t q (UseRequeue (v + 1)) (with_cond_word c (v + 1) s) else
+    by_test (λ b. P (if b then goes_to t q (Wake (Requeue (v + 1))) (with_cond_word c (v + 1) s) else
     use_read q (uses_of s c) t s))
     (uses_of s c == v)
     (λ e. done (eqb-true (uses_of s c) v e))

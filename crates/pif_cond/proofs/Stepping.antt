@@ -5,14 +5,16 @@ use Rattle.pif_types.specs.declared.requests.Request.{Request}
 use Rattle.pif_types.specs.declared.requests.Request.TheVariants.{Lock, Wait, Signal, Broadcast}
 use Rattle.pif_model.specs.declared.lines.Line.TheVariants.{At}
 use Rattle.pif_model.specs.declared.lines.Place.{Place}
-use Rattle.pif_model.specs.declared.lines.Place.TheVariants.{WaitLoad, WaitUses, WaitPending, WaitHealth, WaitStore, WaitUnlink, WaitExchange, WaitKernel, WaitPark, WaitParked, UseExchange}
+use Rattle.pif_model.specs.declared.lines.Place.TheVariants.{Load, Give, LoadUses, Park, StayParked, Wake}
+use Rattle.pif_model.specs.declared.lines.WakeStep.TheVariants.{CountUse}
 use Rattle.pif_model.specs.declared.lines.Status.{Status}
 use Rattle.pif_model.specs.PiKernel.{is_living}
 use Rattle.pif_model.specs.Table.{Table, line_at}
 use Rattle.pif_model.specs.Lines.{counts_at}
-use Rattle.pif_model.specs.Soundness.{belongs, is_locking, CallIsSound, LineIsSound, IsSound}
+use Rattle.pif_model.specs.Soundness.{belongs, CallIsSound, LineIsSound, IsSound}
+use Rattle.pif_simulation.proofs.Facts.{call_limited}
 use Rattle.pif_simulation.proofs.Hole.{each_thread}
-use Rattle.pif_mutex.specs.Steppable.{is_of_mutexes}
+use Rattle.pif_mutex.specs.Steppable.{is_on_mutex, is_of_mutexes}
 use Rattle.pif_cond.specs.Conditions.{is_of_conditions, is_of_wait, is_own}
 
 -- the call of a living thread is sound
@@ -22,21 +24,16 @@ call_of s t q p h k e = subst (LineIsSound s t) e (each_thread h t k).line
 
 -- the exchange of a signal or a broadcast expects less than the variable may be used
 pub below_limit : (s : Table) (t : ℕ) (q : Request) (p : Place) → IsSound s → is_living s.kernel t ≡ true
-    → line_at s t ≡ At q p → (v : ℕ) → p ≡ UseExchange v → v < s.limits.signals
-below_limit s t q p h k e v at = (call_of s t q (UseExchange v) h k (e ∙ ap (At q) at)).needs.1.0
+    → line_at s t ≡ At q p → (v : ℕ) → p ≡ Wake (CountUse v) → v < s.limits.signals
+below_limit s t q p h k e v at = call_limited (call_of s t q (Wake (CountUse v)) h k (e ∙ ap (At q) at))
 
--- a wait at a place that isn't its own is at one of lock
-locking_else : (p : Place) (c m : ℕ) → belongs (Wait c m) p ≡ true → is_of_wait p ≡ false → is_locking p ≡ true
-locking_else WaitLoad c m b e = absurd (true≢false e)
-locking_else WaitUses c m b e = absurd (true≢false e)
-locking_else (WaitPending v) c m b e = absurd (true≢false e)
-locking_else (WaitHealth v) c m b e = absurd (true≢false e)
-locking_else (WaitStore v) c m b e = absurd (true≢false e)
-locking_else (WaitUnlink v) c m b e = absurd (true≢false e)
-locking_else (WaitExchange v) c m b e = absurd (true≢false e)
-locking_else (WaitKernel v) c m b e = absurd (true≢false e)
-locking_else (WaitPark v) c m b e = absurd (true≢false e)
-locking_else WaitParked c m b e = absurd (true≢false e)
+-- a wait at a place that isn't its own is at one on its mutex
+locking_else : (p : Place) (c m : ℕ) → belongs (Wait c m) p ≡ true → is_of_wait p ≡ false → is_on_mutex p ≡ true
+locking_else Load c m b e = absurd (true≢false e)
+locking_else LoadUses c m b e = absurd (true≢false e)
+locking_else (Give x y) c m b e = refl
+locking_else (Park v) c m b e = absurd (true≢false e)
+locking_else StayParked c m b e = absurd (true≢false e)
 locking_else p c m b e = b
 
 -- a step of a call on a condition variable that isn't its own is one on mutexes

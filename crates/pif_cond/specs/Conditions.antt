@@ -5,7 +5,7 @@ use Rattle.pif_types.specs.declared.requests.Request.TheVariants.{Wait, Signal, 
 use Rattle.pif_model.specs.declared.lines.Line.{Line}
 use Rattle.pif_model.specs.declared.lines.Line.TheVariants.{At}
 use Rattle.pif_model.specs.declared.lines.Place.{Place}
-use Rattle.pif_model.specs.declared.lines.Place.TheVariants.{WaitLoad, WaitUses, WaitPending, WaitHealth, WaitStore, WaitUnlink, WaitExchange, WaitKernel, WaitPark, WaitParked}
+use Rattle.pif_model.specs.declared.lines.Place.TheVariants.{Load, LoadUses, Park, StayParked}
 
 -- whether a wait, a signal or a broadcast is open at this line
 abbrev pub is_of_conditions : Line → Bool
@@ -14,18 +14,12 @@ is_of_conditions (At (Signal c) p) = true
 is_of_conditions (At (Broadcast c) p) = true
 is_of_conditions _ = false
 
--- whether a wait takes a step of its own at this place; at any other it takes one of lock
+-- whether a wait takes a step of its own at this place; at any other it takes one on its mutex
 abbrev pub is_of_wait : Place → Bool
-is_of_wait WaitLoad = true
-is_of_wait WaitUses = true
-is_of_wait (WaitPending v) = true
-is_of_wait (WaitHealth v) = true
-is_of_wait (WaitStore v) = true
-is_of_wait (WaitUnlink v) = true
-is_of_wait (WaitExchange v) = true
-is_of_wait (WaitKernel v) = true
-is_of_wait (WaitPark v) = true
-is_of_wait WaitParked = true
+is_of_wait Load = true
+is_of_wait LoadUses = true
+is_of_wait (Park v) = true
+is_of_wait StayParked = true
 is_of_wait _ = false
 
 -- whether a call of this request takes a step of its own on a condition variable at this place

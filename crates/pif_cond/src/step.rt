@@ -2,6 +2,7 @@ ghost use Rattle.std.specs.Prelude.{ℕ, ◌≡◌, ◌≢◌, ◌<◌, true};
 ghost use Rattle.pif_types.specs.declared.requests.Request;
 ghost use Rattle.pif_model.specs.declared.lines.Line;
 ghost use Rattle.pif_model.specs.declared.lines.Place;
+ghost use Rattle.pif_model.specs.declared.lines.WakeStep;
 ghost use Rattle.pif_model.specs.PiKernel.{is_living};
 ghost use Rattle.pif_model.specs.Table.{line_at, cell_at, has_thread, has_cond, status_at};
 ghost use Rattle.pif_model.specs.Lines.{line_of, use_line, counts_at, expires_at, go_outcome};
@@ -10,12 +11,9 @@ ghost use Rattle.pif_mutex.specs.Steppable.{CallMayStep};
 ghost use Rattle.pif_cond.specs.Conditions.{is_of_conditions, is_of_wait, is_own};
 
 use crate::uses::{use_exchange, use_load, use_reload, use_requeue};
-use crate::wait::{
-    wait_exchange, wait_expire, wait_health, wait_kernel, wait_load, wait_park, wait_parked,
-    wait_store, wait_unlink, wait_uses,
-};
+use crate::wait::{wait_expire, wait_load, wait_park, wait_parked, wait_uses};
 use pif_kernel::PiKernel;
-use pif_model::{Line, Place};
+use pif_model::{Line, Place, WakeStep};
 use pif_mutex::{Parts, Progress, State, told};
 use pif_types::{CondId, Errno, MutexId, Request, Tid};
 
@@ -62,16 +60,7 @@ fn is_of_wait(place: &Place) -> bool
     ensures { result ≡ is_of_wait place.now }
 {
     match place {
-        Place::WaitLoad
-        | Place::WaitUses
-        | Place::WaitPending(_)
-        | Place::WaitHealth(_)
-        | Place::WaitStore(_)
-        | Place::WaitUnlink(_)
-        | Place::WaitExchange(_)
-        | Place::WaitKernel(_)
-        | Place::WaitPark(_)
-        | Place::WaitParked => true,
+        Place::Load | Place::LoadUses | Place::Park(_) | Place::StayParked => true,
         _ => false,
     }
 }
@@ -84,7 +73,7 @@ fn go<K: PiKernel + Drop>(state: &mut State<K>, request: Request, place: Place, 
     requires line { line_at state.old t ≡ Line.At request place }
     requires own { is_own request place ≡ true }
     requires call { CallMayStep state.old t request place }
-    requires below { (v : ℕ) → place ≡ Place.UseExchange v → v < state.old.limits.signals }
+    requires below { (v : ℕ) → place ≡ Place.Wake (WakeStep.CountUse v) → v < state.old.limits.signals }
     ensures { outcome_of result state.new ≡ go_outcome (Line.At request place) t state.old }
 {
     if state.is_due(t) {
@@ -127,18 +116,20 @@ fn step<K: PiKernel + Drop>(
     requires known { has_thread state.old t ≡ true }
     requires own { is_own request place ≡ true }
     requires call { CallMayStep state.old t request place }
-    requires below { (v : ℕ) → place ≡ Place.UseExchange v → v < state.old.limits.signals }
+    requires below { (v : ℕ) → place ≡ Place.Wake (WakeStep.CountUse v) → v < state.old.limits.signals }
     ensures { outcome_of result state.new ≡ line_of request place t state.old }
 {
     match request {
         Request::Wait(c, m) => wait_step(state, place, c, m, t),
-        Request::Signal(c) => use_step(state, Request::Signal(c), place, c, t),
-        Request::Broadcast(c) => use_step(state, Request::Broadcast(c), place, c, t),
+        Request::Signal(c) | Request::Broadcast(c) => match place {
+            Place::Wake(step) => use_step(state, request, step, c, t),
+            _ => state.answer(t, Errno::Invalid.number()),
+        },
         _ => unreachable!(),
     }
 }
 
-/// One step of a wait, which is not one of lock.
+/// One step of a wait, which is not one on its mutex.
 #[tactic(auto, unfolding(pif_model::specs::Lines::line_of))]
 fn wait_step<K: PiKernel + Drop>(
     state: &mut State<K>,
@@ -152,41 +143,33 @@ fn wait_step<K: PiKernel + Drop>(
     requires call { CallMayStep state.old t (Request.Wait c m) place }
     ensures { outcome_of result state.new ≡ line_of (Request.Wait c m) place t state.old }
 {
-    let request = Request::Wait(c, m);
     match place {
-        Place::WaitLoad => wait_load(state, c, m, t),
-        Place::WaitUses => wait_uses(state, c, m, t),
-        Place::WaitPending(uses) => state.name_pending(request, Place::WaitHealth(uses), t, m),
-        Place::WaitHealth(uses) => wait_health(state, uses, c, m, t),
-        Place::WaitStore(uses) => wait_store(state, uses, c, m, t),
-        Place::WaitUnlink(uses) => wait_unlink(state, uses, c, m, t),
-        Place::WaitExchange(uses) => wait_exchange(state, uses, c, m, t),
-        Place::WaitKernel(uses) => wait_kernel(state, uses, c, m, t),
-        Place::WaitPark(uses) => wait_park(state, uses, c, m, t),
-        Place::WaitParked => wait_parked(state, c, m, t),
+        Place::Load => wait_load(state, c, m, t),
+        Place::LoadUses => wait_uses(state, c, m, t),
+        Place::Park(uses) => wait_park(state, uses, c, m, t),
+        Place::StayParked => wait_parked(state, c, m, t),
         _ => unreachable!(),
     }
 }
 
 /// One step of a signal or a broadcast.
-#[tactic(auto, unfolding(pif_model::specs::Lines::use_line))]
+#[tactic(auto, unfolding(pif_model::specs::Lines::line_of, pif_model::specs::Lines::use_line))]
 fn use_step<K: PiKernel + Drop>(
     state: &mut State<K>,
     request: Request,
-    place: Place,
+    step: WakeStep,
     c: CondId,
     t: Tid,
 ) -> Progress
     requires known { has_thread state.old t ≡ true }
     requires cond { has_cond state.old c ≡ true }
-    requires below { (v : ℕ) → place ≡ Place.UseExchange v → v < state.old.limits.signals }
-    ensures { outcome_of result state.new ≡ use_line request place c t state.old }
+    requires below { (v : ℕ) → step ≡ WakeStep.CountUse v → v < state.old.limits.signals }
+    ensures { outcome_of result state.new ≡ use_line request step c t state.old }
 {
-    match place {
-        Place::UseLoad => use_load(state, request, c, t),
-        Place::UseExchange(read) => use_exchange(state, request, read, c, t),
-        Place::UseRequeue(read) => use_requeue(state, request, read, c, t),
-        Place::UseReload => use_reload(state, request, c, t),
-        _ => state.answer(t, Errno::Invalid.number()),
+    match step {
+        WakeStep::ReadUses => use_load(state, request, c, t),
+        WakeStep::CountUse(read) => use_exchange(state, request, read, c, t),
+        WakeStep::Requeue(read) => use_requeue(state, request, read, c, t),
+        WakeStep::ReadAgain => use_reload(state, request, c, t),
     }
 }

@@ -1,11 +1,12 @@
 ghost use Rattle.std.specs.Prelude.{◌≡◌, ◌<◌, true};
+ghost use Rattle.pif_model.specs.declared.lines.WakeStep;
 ghost use Rattle.pif_model.specs.declared.lines.Place;
 ghost use Rattle.pif_model.specs.Lines.{goes_to, more_in, use_read, use_exchange, use_requeue};
 ghost use Rattle.pif_model.specs.Table.{has_thread, has_cond, uses_of};
 ghost use Rattle.pif_mutex.specs.Outcomes.{outcome_of};
 
 use pif_kernel::PiKernel;
-use pif_model::Place;
+use pif_model::{Place, WakeStep};
 use pif_mutex::{Progress, State};
 use pif_types::{CondId, Errno, Request, Tid};
 
@@ -52,7 +53,7 @@ fn use_read<K: PiKernel + Drop>(
     if uses == state.limits().signals() {
         state.answer(t, Errno::Overflow.number())
     } else {
-        state.go_on(request, Place::UseExchange(uses), t)
+        state.go_on(request, Place::Wake(WakeStep::CountUse(uses)), t)
     }
 }
 
@@ -74,7 +75,7 @@ pub(crate) fn use_exchange<K: PiKernel + Drop>(
     // This reads the limits, so that the proof has their ranges: one use more fits a word.
     let _limits = state.limits();
     match state.exchange_uses(c, uses, uses + 1) {
-        Ok(_) => state.go_on(request, Place::UseRequeue(uses + 1), t),
+        Ok(_) => state.go_on(request, Place::Wake(WakeStep::Requeue(uses + 1)), t),
         Err(now) => use_read(state, request, now, t),
     }
 }
@@ -96,7 +97,7 @@ pub(crate) fn use_requeue<K: PiKernel + Drop>(
     let m = state.bound(c);
     match state.cmp_requeue_pi(c, m, 1, more(&request), uses) {
         Ok(_) => state.answer(t, 0),
-        Err(Errno::Again) => state.go_on(request, Place::UseReload, t),
+        Err(Errno::Again) => state.go_on(request, Place::Wake(WakeStep::ReadAgain), t),
         Err(error) => state.answer(t, error.number()),
     }
 }
@@ -111,8 +112,8 @@ pub(crate) fn use_reload<K: PiKernel + Drop>(
     requires known { has_thread state.old t ≡ true }
     requires cond { has_cond state.old c ≡ true }
     ensures { outcome_of result state.new
-        ≡ goes_to t request (Place.UseRequeue (uses_of state.old c)) state.old }
+        ≡ goes_to t request (Place.Wake (WakeStep.Requeue (uses_of state.old c))) state.old }
 {
     let uses = state.uses(c);
-    state.go_on(request, Place::UseRequeue(uses), t)
+    state.go_on(request, Place::Wake(WakeStep::Requeue(uses)), t)
 }

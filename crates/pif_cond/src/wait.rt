@@ -1,15 +1,14 @@
 ghost use Rattle.std.specs.Prelude.{◌≡◌, true, false};
 ghost use Rattle.pif_types.specs.declared.requests.Request;
 ghost use Rattle.pif_model.specs.declared.lines.Place;
-ghost use Rattle.pif_model.specs.Lines.{goes_to, gives_up, wait_load, wait_uses, wait_health, wait_exchange, wait_park, wait_parked, expires_at};
+ghost use Rattle.pif_model.specs.Lines.{wait_load, wait_uses, wait_park, wait_parked, expires_at};
 ghost use Rattle.pif_model.specs.PiKernel.{is_living, is_ready};
-ghost use Rattle.pif_model.specs.RobustList.{is_listed, without_listed};
-ghost use Rattle.pif_model.specs.Table.{has_thread, has_mutex, has_cond, status_at, with_health_word, with_lists};
+ghost use Rattle.pif_model.specs.Table.{has_thread, has_mutex, has_cond, status_at};
 ghost use Rattle.pif_mutex.specs.Outcomes.{outcome_of};
 
 use pif_kernel::{PiKernel, Status, Woken};
-use pif_model::{Place, Timer};
-use pif_mutex::{INCONSISTENT, Progress, State, UNUSABLE};
+use pif_model::{GiveStep, Place, Purpose, Timer};
+use pif_mutex::{Progress, State};
 use pif_types::{CondId, Errno, MutexId, Request, Tid};
 use pif_word::number;
 
@@ -35,7 +34,7 @@ pub(crate) fn wait_load<K: PiKernel + Drop>(
     } else if state.count(m) > 1 {
         state.answer(t, Errno::Invalid.number())
     } else {
-        state.go_on(Request::Wait(c, m), Place::WaitUses, t)
+        state.go_on(Request::Wait(c, m), Place::LoadUses, t)
     }
 }
 
@@ -56,105 +55,10 @@ pub(crate) fn wait_uses<K: PiKernel + Drop>(
     state.go_by(
         Request::Wait(c, m),
         m,
-        Place::WaitPending(uses),
-        Place::WaitExchange(uses),
+        Place::Give(GiveStep::SetPending, Purpose::ToPark(uses)),
+        Place::Give(GiveStep::Release, Purpose::ToPark(uses)),
         t,
     )
-}
-
-/// Loads the health word. An inconsistent mutex becomes unusable next.
-#[tactic(auto, unfolding(pif_model::specs::Lines::wait_health))]
-pub(crate) fn wait_health<K: PiKernel + Drop>(
-    state: &mut State<K>,
-    uses: u32,
-    c: CondId,
-    m: MutexId,
-    t: Tid,
-) -> Progress
-    requires known { has_thread state.old t ≡ true }
-    requires mutex { has_mutex state.old m ≡ true }
-    ensures { outcome_of result state.new ≡ wait_health uses c m t state.old }
-{
-    if state.health(m) == INCONSISTENT {
-        state.go_on(Request::Wait(c, m), Place::WaitStore(uses), t)
-    } else {
-        state.go_on(Request::Wait(c, m), Place::WaitUnlink(uses), t)
-    }
-}
-
-/// Stores in the health word that the mutex is unusable.
-pub(crate) fn wait_store<K: PiKernel + Drop>(
-    state: &mut State<K>,
-    uses: u32,
-    c: CondId,
-    m: MutexId,
-    t: Tid,
-) -> Progress
-    requires known { has_thread state.old t ≡ true }
-    requires mutex { has_mutex state.old m ≡ true }
-    ensures { outcome_of result state.new
-        ≡ goes_to t (Request.Wait c m) (Place.WaitUnlink uses) (with_health_word m 2 state.old) }
-{
-    state.set_health(m, UNUSABLE);
-    state.go_on(Request::Wait(c, m), Place::WaitUnlink(uses), t)
-}
-
-/// Takes the mutex off the list of the thread, on which it is.
-pub(crate) fn wait_unlink<K: PiKernel + Drop>(
-    state: &mut State<K>,
-    uses: u32,
-    c: CondId,
-    m: MutexId,
-    t: Tid,
-) -> Progress
-    requires known { has_thread state.old t ≡ true }
-    requires listed { is_listed state.old.lists t m ≡ true }
-    ensures { outcome_of result state.new
-        ≡ goes_to t (Request.Wait c m) (Place.WaitExchange uses)
-        (with_lists (without_listed t m state.old.lists) state.old) }
-{
-    state.unlist(t, m);
-    state.go_on(Request::Wait(c, m), Place::WaitExchange(uses), t)
-}
-
-/// Compare-exchange of the mutex's word from the number of the thread to 0.
-pub(crate) fn wait_exchange<K: PiKernel + Drop>(
-    state: &mut State<K>,
-    uses: u32,
-    c: CondId,
-    m: MutexId,
-    t: Tid,
-) -> Progress
-    requires known { has_thread state.old t ≡ true }
-    requires mutex { has_mutex state.old m ≡ true }
-    ensures { outcome_of result state.new ≡ wait_exchange uses c m t state.old }
-{
-    let number = state.number_of(t);
-    if state.exchange(m, number, 0) {
-        state.go_on(Request::Wait(c, m), Place::WaitPark(uses), t)
-    } else {
-        state.go_on(Request::Wait(c, m), Place::WaitKernel(uses), t)
-    }
-}
-
-/// The kernel call unlock_pi.
-#[tactic(auto, unfolding(pif_model::specs::Lines::gives_up, pif_model::specs::Lines::given_up_by), using(pif_mutex::proofs::KernelLeaves::unlock_keeps_threads))]
-pub(crate) fn wait_kernel<K: PiKernel + Drop>(
-    state: &mut State<K>,
-    uses: u32,
-    c: CondId,
-    m: MutexId,
-    t: Tid,
-) -> Progress
-    requires known { has_thread state.old t ≡ true }
-    requires ready { is_ready (status_at state.old t) ≡ true }
-    ensures { outcome_of result state.new
-        ≡ gives_up t m (goes_to t (Request.Wait c m) (Place.WaitPark uses)) state.old }
-{
-    match state.unlock_pi(t, m) {
-        Ok(()) => state.go_on(Request::Wait(c, m), Place::WaitPark(uses), t),
-        Err(error) => state.answer(t, error.number()),
-    }
 }
 
 /// The kernel call wait_requeue_pi (FUTEX_WAIT_REQUEUE_PI of futex(2)), which expects the condition word that was read
@@ -174,8 +78,8 @@ pub(crate) fn wait_park<K: PiKernel + Drop>(
 {
     let request = Request::Wait(c, m);
     match state.wait_requeue_pi(t, c, uses, m) {
-        Ok(()) => state.wait(request, Place::WaitParked, t),
-        Err(Errno::Again) => state.go_on(request, Place::LockExchange, t),
+        Ok(()) => state.wait(request, Place::StayParked, t),
+        Err(Errno::Again) => state.go_on(request, Place::Exchange, t),
         Err(error) => state.answer(t, error.number()),
     }
 }
@@ -195,7 +99,7 @@ pub(crate) fn wait_parked<K: PiKernel + Drop>(
 {
     let request = Request::Wait(c, m);
     match state.status(t) {
-        Status::Ready(Woken::Again) => state.own_exchange(request, Place::LockKernel, t, m),
+        Status::Ready(Woken::Again) => state.own_exchange(request, t, m),
         _ => state.lock_queued(request, t, m),
     }
 }
@@ -212,7 +116,7 @@ pub(crate) fn wait_expire<K: PiKernel + Drop>(
     requires known { has_thread state.old t ≡ true }
     requires living { is_living state.old.kernel t ≡ true }
     requires unready { is_ready (status_at state.old t) ≡ false }
-    ensures { outcome_of result state.new ≡ expires_at (Request.Wait c m) Place.WaitParked t state.old }
+    ensures { outcome_of result state.new ≡ expires_at (Request.Wait c m) Place.StayParked t state.old }
 {
     let deadline = state.timer(t).deadline;
     state.expire(t);
@@ -223,5 +127,5 @@ pub(crate) fn wait_expire<K: PiKernel + Drop>(
             expired: true,
         },
     );
-    state.go_on(Request::Wait(c, m), Place::LockExchange, t)
+    state.go_on(Request::Wait(c, m), Place::Exchange, t)
 }

@@ -24,16 +24,19 @@
 //! What is not refused is an entry of the core's history. The contracts say what a core shows after a history: that the
 //! history is one that POSIX allows, and what each reader answers then.
 //!
-//! `cores` has the events, the additions and the readers of words, health and priorities. `readers` has those of what a
-//! person looks at: what each thread does, its open call and its base priority, the kind and the owner of a mutex, and
-//! who comes next, and next but one, at a mutex, at a condition variable and on the processor. Each has a clause
-//! `value`, over what the core keeps, and clauses in the words of POSIX over each state in which it may stand.
+//! `cores` has the events, the additions and the readers of words, health and priorities. `calls` has whole calls: a
+//! thread begins one and goes on until it is answered or waits. `readers` has those of what a person looks at: what each
+//! thread does, its open call and its base priority, the kind and the owner of a mutex, and who comes next, and next but
+//! one, at a mutex, at a condition variable and on the processor. Each of these readers has a clause `value`, over what
+//! the core keeps, and clauses in the words of POSIX over each state in which it may stand.
 #![tactic(auto)]
 
+mod calls;
 mod cores;
 mod readers;
 #[cfg(test)]
 mod tests;
 
+pub use calls::MORE_STEPS;
 pub use cores::Core;
 pub use pif_model::{Entry, Event, Seen, Status, Woken};

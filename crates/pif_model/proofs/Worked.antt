@@ -11,11 +11,11 @@ use Rattle.pif_model.specs.Graph.{reaches_within, greatest_where, effective_amon
 use Rattle.pif_model.specs.Word.{bits_of, word_of}
 use Rattle.pif_model.specs.Table.{Table, new_table, thread_added, mutex_added, cell_at}
 use Rattle.pif_model.specs.PiKernel.{effective_in, pick_in, numbers, levels_by, no_states, first_from, lock_answer, words_after_lock, kernel_after_lock, try_lock_answer, words_after_try_lock, kernel_after_queueing, unlock_answer, words_after_unlock, kernel_after_unlock, kernel_after_hand_over, set_prio_answer, kernel_after_set_prio, kernel_after_stop, wait_requeue_answer, kernel_after_parking, kernel_after_wait_requeue, kernel_after_waking, after_taking, after_takings, requeue_answer, after_requeue, kernel_left_as, kernel_after_expire, after_death, after_deaths}
-use Rattle.pif_model.specs.Lines.{relocks, after_exchange, own_exchange, lock_load, lock_by, lock_kernel, take_load, lock_queued, lock_stop, take_health, take_store, take_word_back, link_next, link_head, clears, leave_exchange, given_up_by, gives_up, try_load, try_by, try_kernel, unlock_load, unlock_health, unlock_exchange, consistent_load, consistent_health, answered_by, set_priority, wait_load, wait_uses, wait_health, wait_exchange, wait_by, wait_park, wait_parked, use_read, use_exchange, use_by, use_requeue, library_after_end, ended_table, shared_line, locking_line, use_line, line_of, expired_in, expires_at, go_outcome, accepted_outcome, event_outcome}
+use Rattle.pif_model.specs.Lines.{relocks, after_exchange, own_exchange, lock_load, lock_by, lock_kernel, take_load, lock_queued, lock_stop, take_health, take_line, link_line, clears, give_health, give_exchange, given_up_by, gives_up, give_line, try_load, try_by, try_kernel, unlock_load, consistent_load, consistent_health, repair_line, answered_by, set_priority, wait_load, wait_uses, wait_by, wait_park, wait_parked, use_read, use_exchange, use_by, use_requeue, library_after_end, ended_table, giving_line, shared_line, locking_line, use_line, line_of, expired_in, expires_at, go_outcome, accepted_outcome, event_outcome}
 
 -- opens every definition of the table machine
 unfoldable pub machine : ℕ
-unfolding reaches_within greatest_where effective_among first_greatest waited_by next_waiter bits_of word_of numbers levels_by no_states first_from lock_answer words_after_lock kernel_after_lock try_lock_answer words_after_try_lock kernel_after_queueing unlock_answer words_after_unlock kernel_after_unlock kernel_after_hand_over set_prio_answer kernel_after_set_prio kernel_after_stop wait_requeue_answer kernel_after_parking kernel_after_wait_requeue kernel_after_waking after_taking after_takings requeue_answer after_requeue kernel_left_as kernel_after_expire after_death after_deaths relocks after_exchange own_exchange lock_load lock_by lock_kernel take_load lock_queued lock_stop take_health take_store take_word_back link_next link_head clears leave_exchange given_up_by gives_up try_load try_by try_kernel unlock_load unlock_health unlock_exchange consistent_load consistent_health answered_by set_priority wait_load wait_uses wait_health wait_exchange wait_by wait_park wait_parked use_read use_exchange use_by use_requeue library_after_end ended_table shared_line locking_line use_line line_of expired_in expires_at go_outcome accepted_outcome event_outcome
+unfolding reaches_within greatest_where effective_among first_greatest waited_by next_waiter bits_of word_of numbers levels_by no_states first_from lock_answer words_after_lock kernel_after_lock try_lock_answer words_after_try_lock kernel_after_queueing unlock_answer words_after_unlock kernel_after_unlock kernel_after_hand_over set_prio_answer kernel_after_set_prio kernel_after_stop wait_requeue_answer kernel_after_parking kernel_after_wait_requeue kernel_after_waking after_taking after_takings requeue_answer after_requeue kernel_left_as kernel_after_expire after_death after_deaths relocks after_exchange own_exchange lock_load lock_by lock_kernel take_load lock_queued lock_stop take_health take_line link_line clears give_health give_exchange given_up_by gives_up give_line try_load try_by try_kernel unlock_load consistent_load consistent_health repair_line answered_by set_priority wait_load wait_uses wait_by wait_park wait_parked use_read use_exchange use_by use_requeue library_after_end ended_table giving_line shared_line locking_line use_line line_of expired_in expires_at go_outcome accepted_outcome event_outcome
 machine = 0
 
 -- a core for examples

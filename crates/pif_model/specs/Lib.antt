@@ -1,4 +1,5 @@
 pub mod NamedNumbers
+pub mod Kinds
 pub mod Graph
 pub mod Refusals
 pub mod Deadlines

@@ -4,7 +4,9 @@ use Rattle.pif_types.specs.Numbers.{number_of}
 use Rattle.pif_types.specs.declared.errors.Errno.{Errno}
 use Rattle.pif_types.specs.declared.errors.Errno.TheVariants.{NoSuchThread, Again, Deadlock}
 use Rattle.pif_types.specs.declared.errors.Refusal.{Refusal}
-use Rattle.pif_types.specs.declared.requests.Kind.TheVariants.{Normal, ErrorCheck, Recursive}
+use Rattle.pif_types.specs.declared.requests.Kind.TheVariants.{Normal}
+use Rattle.pif_model.specs.declared.lines.Relock.TheVariants.{Stops, Answers, Counts}
+use Rattle.pif_model.specs.Kinds.{relock_of}
 use Rattle.pif_types.specs.declared.requests.Request.{Request}
 use Rattle.pif_types.specs.declared.requests.Request.TheVariants.{Lock, TryLock, Unlock, Consistent, Wait, Signal, Broadcast, SetPrio, TimedLock, TimedWait}
 use Rattle.pif_model.specs.NamedNumbers.{EPERM, EAGAIN, EBUSY, EINVAL, EDEADLK, EOVERFLOW, ETIMEDOUT, EOWNERDEAD, ENOTRECOVERABLE, most_holds}
@@ -15,7 +17,20 @@ use Rattle.pif_model.specs.declared.events.Seen.TheVariants.{Begun, Went, Waits,
 use Rattle.pif_model.specs.declared.lines.Line.{Line}
 use Rattle.pif_model.specs.declared.lines.Line.TheVariants.{Idle, At}
 use Rattle.pif_model.specs.declared.lines.Place.{Place}
-use Rattle.pif_model.specs.declared.lines.Place.TheVariants.{LockLoad, LockPending, LockExchange, LockKernel, LockQueued, LockStop, LockStopped, LockClear, QueueExpired, StopExpired, TakeLoad, TakeHealth, TakeStore, TakeWord, LinkNext, LinkHead, LinkClear, LeaveExchange, LeaveKernel, LeaveClear, TryLoad, TryPending, TryExchange, TryKernel, TryClear, UnlockLoad, UnlockPending, UnlockHealth, UnlockStore, UnlockUnlink, UnlockExchange, UnlockKernel, UnlockClear, ConsistentLoad, ConsistentHealth, ConsistentStore, WaitLoad, WaitUses, WaitPending, WaitHealth, WaitStore, WaitUnlink, WaitExchange, WaitKernel, WaitPark, WaitParked, UseLoad, UseExchange, UseRequeue, UseReload, SetPriority}
+use Rattle.pif_model.specs.declared.lines.Place.TheVariants.{Load, NamePending, Exchange, CallKernel, StayQueued, Stop, StayStopped, Take, Link, Give, Clear, LoadUses, Park, StayParked, Repair, Wake, SetPriority}
+use Rattle.pif_model.specs.declared.lines.TakeStep.{TakeStep}
+use Rattle.pif_model.specs.declared.lines.TakeStep.TheVariants.{LoadWord, LoadHealth, StoreInconsistent, ClearDied}
+use Rattle.pif_model.specs.declared.lines.LinkStep.{LinkStep}
+use Rattle.pif_model.specs.declared.lines.LinkStep.TheVariants.{WriteNext, WriteHead}
+use Rattle.pif_model.specs.declared.lines.GiveStep.{GiveStep}
+use Rattle.pif_model.specs.declared.lines.GiveStep.TheVariants.{SetPending, SeeHealth, StoreUnusable, Unlink, Release, CallUnlock}
+use Rattle.pif_model.specs.declared.lines.Purpose.{Purpose}
+use Rattle.pif_model.specs.declared.lines.Purpose.TheVariants.{ToUnlock, ToPark, ToLeave}
+use Rattle.pif_model.specs.declared.lines.Footing.TheVariants.{Linked, Unowned, HadStopped}
+use Rattle.pif_model.specs.declared.lines.RepairStep.{RepairStep}
+use Rattle.pif_model.specs.declared.lines.RepairStep.TheVariants.{CheckHealth, StoreFine}
+use Rattle.pif_model.specs.declared.lines.WakeStep.{WakeStep}
+use Rattle.pif_model.specs.declared.lines.WakeStep.TheVariants.{ReadUses, CountUse, Requeue, ReadAgain}
 use Rattle.pif_model.specs.declared.lines.Took.{Took}
 use Rattle.pif_model.specs.declared.lines.Took.TheVariants.{Owns as TookOwns, Queued as TookQueued}
 use Rattle.pif_model.specs.declared.lines.Status.{Status}
@@ -76,24 +91,26 @@ after_exchange (Some w) m done failed s = done (with_word m w s)
 after_exchange None m done failed s = failed s
 
 -- lock and trylock: compare-exchange from 0 to t. Done, a stalled mutex is taken, and of a robust one the health is
--- next; where it fails the call goes on at this place, its kernel call
-unfoldable pub own_exchange : Request → Place → ℕ → ℕ → Table → Outcome
-own_exchange q p t m s = after_exchange (take_word (cell_at s m).word t) m (ends_by t q m (TakeHealth false) 0) (goes_to t q p) s
+-- next; where it fails its kernel call is next
+unfoldable pub own_exchange : Request → ℕ → ℕ → Table → Outcome
+own_exchange q t m s =
+    after_exchange (take_word (cell_at s m).word t) m (ends_by t q m (Take (LoadHealth false)) 0) (goes_to t q CallKernel) s
 
--- a request that locks: load the word. The owner of a NORMAL mutex goes on to stop, that of an ERRORCHECK mutex is
--- answered EDEADLK, that of a RECURSIVE mutex holds it once more
+-- a request that locks: load the word. By the mutex's kind its owner goes on to stop, is answered EDEADLK, or holds it
+-- once more
 unfoldable pub lock_load : Request → ℕ → ℕ → Table → Outcome
 lock_load q t m s =
     if (cell_at s m).word.number == t
-    then elim (cell_at s m).kind [ Normal ↦ goes_to t q LockStop s | ErrorCheck ↦ answers t EDEADLK s | Recursive ↦ relocks t m s ]
-    else goes_by t q m LockPending LockExchange s
+    then elim (relock_of (cell_at s m).kind)
+    [ Stops ↦ goes_to t q Stop s | Answers ↦ answers t EDEADLK s | Counts ↦ relocks t m s ]
+    else goes_by t q m NamePending Exchange s
 
 -- a request that locks, by what its kernel call answered. ESRCH: the owner has ended, and the thread goes on to stop
 unfoldable pub lock_by : Result Took Errno → Request → ℕ → ℕ → Table → Outcome
-lock_by (Ok TookOwns) q t m s = ends_by t q m TakeLoad 0 s
-lock_by (Ok TookQueued) q t m s = waits_at t q LockQueued s
-lock_by (Err Deadlock) q t m s = ends_by t q m LockClear EDEADLK s
-lock_by (Err NoSuchThread) q t m s = goes_to t q LockStop s
+lock_by (Ok TookOwns) q t m s = ends_by t q m (Take LoadWord) 0 s
+lock_by (Ok TookQueued) q t m s = waits_at t q StayQueued s
+lock_by (Err Deadlock) q t m s = ends_by t q m (Clear Unowned EDEADLK) EDEADLK s
+lock_by (Err NoSuchThread) q t m s = goes_to t q Stop s
 lock_by (Err e) q t m s = answers t (number_of e) s
 
 -- a request that locks: the kernel call lock_pi
@@ -104,7 +121,7 @@ lock_kernel q t m s =
 
 -- taking over: load the word
 unfoldable pub take_load : Request → ℕ → ℕ → Table → Outcome
-take_load q t m s = goes_to t q (TakeHealth (cell_at s m).word.died) s
+take_load q t m s = goes_to t q (Take (LoadHealth (cell_at s m).word.died)) s
 
 -- a request that locks: queued; or made the owner, which is answered with no access for a stalled mutex, and is the
 -- load of taking over for a robust one
@@ -116,36 +133,50 @@ lock_queued q t m s =
 
 -- a request that locks: stop for good
 unfoldable pub lock_stop : Request → ℕ → Table → Outcome
-lock_stop q t s = waits_at t q LockStopped (with_kernel s.words (kernel_after_stop t s.kernel) s)
+lock_stop q t s = waits_at t q StayStopped (with_kernel s.words (kernel_after_stop t s.kernel) s)
 
 -- taking over: load the health word. An unusable mutex is left again; one whose last owner was seen to have ended is
 -- inconsistent
 unfoldable pub take_health : Request → Bool → ℕ → ℕ → Table → Outcome
 take_health q died t m s =
-    if (cell_at s m).health == 2 then goes_to t q LeaveExchange s else
-    (if died then goes_to t q TakeStore s else goes_to t q (LinkNext 0) s)
+    if (cell_at s m).health == 2 then goes_to t q (Give Release ToLeave) s else
+    (if died then goes_to t q (Take StoreInconsistent) s else goes_to t q (Link WriteNext 0) s)
 
 -- taking over: the mutex is inconsistent, by its health word and then without OWNER_DIED
-unfoldable pub take_store : Request → ℕ → ℕ → Table → Outcome
-take_store q t m s = goes_to t q TakeWord (with_health_word m 1 s)
+unfoldable pub take_line : Request → TakeStep → ℕ → ℕ → Table → Outcome
+take_line q LoadWord t m s = take_load q t m s
+take_line q (LoadHealth died) t m s = take_health q died t m s
+take_line q StoreInconsistent t m s = goes_to t q (Take ClearDied) (with_health_word m 1 s)
+take_line q ClearDied t m s =
+    goes_to t q (Link WriteNext EOWNERDEAD) (with_word m (record (cell_at s m).word { died = false }) s)
 
-unfoldable pub take_word_back : Request → ℕ → ℕ → Table → Outcome
-take_word_back q t m s = goes_to t q (LinkNext EOWNERDEAD) (with_word m (record (cell_at s m).word { died = false }) s)
-
--- taking over: the mutex becomes the head of the caller's list in two writes, and the pending field is cleared
-unfoldable pub link_next : Request → ℕ → ℕ → ℕ → Table → Outcome
-link_next q a t m s = goes_to t q (LinkHead a) (with_lists (with_half_linked t m s.lists) s)
-
-unfoldable pub link_head : Request → ℕ → ℕ → ℕ → Table → Outcome
-link_head q a t m s = goes_to t q (LinkClear a) (with_lists (with_listed t m s.lists) s)
+-- the mutex becomes the head of the caller's list in two writes, and the pending field is cleared next
+unfoldable pub link_line : Request → LinkStep → ℕ → ℕ → ℕ → Table → Outcome
+link_line q WriteNext a t m s = goes_to t q (Link WriteHead a) (with_lists (with_half_linked t m s.lists) s)
+link_line q WriteHead a t m s = goes_to t q (Clear Linked a) (with_lists (with_listed t m s.lists) s)
 
 -- the pending field is cleared, and the call answered
 unfoldable pub clears : ℕ → ℕ → Table → Outcome
 clears a t s = answers t a (nothing_pending t s)
 
--- leaving: compare-exchange from t to 0
-unfoldable pub leave_exchange : Request → ℕ → ℕ → Table → Outcome
-leave_exchange q t m s = after_exchange (release_word (cell_at s m).word t) m (goes_to t q LeaveClear) (goes_to t q LeaveKernel) s
+-- GIVING A MUTEX UP
+
+-- a mutex was given up: an unlock is answered 0, a wait parks, and who left an unusable mutex is answered
+-- ENOTRECOVERABLE. Of a robust one the pending field is cleared first
+abbrev pub given_up : Request → Purpose → ℕ → ℕ → Table → Outcome
+given_up q ToUnlock t m s = ends_by t q m (Clear Unowned 0) 0 s
+given_up q (ToPark v) t m s = goes_to t q (Park v) s
+given_up q ToLeave t m s = goes_to t q (Clear Unowned ENOTRECOVERABLE) s
+
+-- load the health word. An inconsistent mutex becomes unusable
+unfoldable pub give_health : Request → Purpose → ℕ → ℕ → Table → Outcome
+give_health q x t m s =
+    if (cell_at s m).health == 1 then goes_to t q (Give StoreUnusable x) s else goes_to t q (Give Unlink x) s
+
+-- compare-exchange from t to 0
+unfoldable pub give_exchange : Request → Purpose → ℕ → ℕ → Table → Outcome
+give_exchange q x t m s =
+    after_exchange (release_word (cell_at s m).word t) m (given_up q x t m) (goes_to t q (Give CallUnlock x)) s
 
 -- a kernel call that gave a mutex up leads to this outcome; an error is answered
 unfoldable pub given_up_by : Result (record {}) Errno → ℕ → (Table → Outcome) → Table → Outcome
@@ -158,17 +189,28 @@ gives_up t m done s =
     let r = unlock_answer t m s.words s.kernel in
     given_up_by r t done (with_kernel (words_after_unlock m r s.kernel s.words) (kernel_after_unlock m r s.kernel) s)
 
--- trylock: load the word. The owner of a RECURSIVE mutex holds it once more, that of another is answered EBUSY
+-- one step of giving a mutex up
+unfoldable pub give_line : Request → GiveStep → Purpose → ℕ → ℕ → Table → Outcome
+give_line q SetPending x t m s = goes_to t q (Give SeeHealth x) (pending t m s)
+give_line q SeeHealth x t m s = give_health q x t m s
+give_line q StoreUnusable x t m s = goes_to t q (Give Unlink x) (with_health_word m 2 s)
+give_line q Unlink x t m s = goes_to t q (Give Release x) (with_lists (without_listed t m s.lists) s)
+give_line q Release x t m s = give_exchange q x t m s
+give_line q CallUnlock x t m s = gives_up t m (given_up q x t m) s
+
+-- TRYLOCK, UNLOCK AND CONSISTENT
+
+-- trylock: load the word. The owner holds the mutex once more, if a lock by it counts, and else is answered EBUSY
 unfoldable pub try_load : ℕ → ℕ → Table → Outcome
 try_load t m s =
     if (cell_at s m).word.number == t
-    then elim (cell_at s m).kind [ Recursive ↦ relocks t m s | _ ↦ answers t EBUSY s ]
-    else goes_by t (TryLock m) m TryPending TryExchange s
+    then elim (relock_of (cell_at s m).kind) [ Counts ↦ relocks t m s | _ ↦ answers t EBUSY s ]
+    else goes_by t (TryLock m) m NamePending Exchange s
 
 -- trylock, by what its kernel call answered: EAGAIN, that the mutex is held, becomes EBUSY
 unfoldable pub try_by : Result (record {}) Errno → ℕ → ℕ → Table → Outcome
-try_by (Ok x) t m s = ends_by t (TryLock m) m TakeLoad 0 s
-try_by (Err Again) t m s = ends_by t (TryLock m) m TryClear EBUSY s
+try_by (Ok x) t m s = ends_by t (TryLock m) m (Take LoadWord) 0 s
+try_by (Err Again) t m s = ends_by t (TryLock m) m (Clear Unowned EBUSY) EBUSY s
 try_by (Err e) t m s = answers t (number_of e) s
 
 -- trylock: the kernel call trylock_pi
@@ -181,31 +223,27 @@ try_kernel t m s =
 unfoldable pub unlock_load : ℕ → ℕ → Table → Outcome
 unlock_load t m s =
     if (cell_at s m).word.number == t
-    then (if nat_lt 1 (cell_at s m).count then answers t 0 (with_count m ((cell_at s m).count - 1) s) else goes_by t (Unlock m) m UnlockPending UnlockExchange s)
+    then (if nat_lt 1 (cell_at s m).count then answers t 0 (with_count m ((cell_at s m).count - 1) s) else
+    goes_by t (Unlock m) m (Give SetPending ToUnlock) (Give Release ToUnlock) s)
     else answers t EPERM s
-
--- unlock: load the health word. An inconsistent mutex becomes unusable
-unfoldable pub unlock_health : ℕ → ℕ → Table → Outcome
-unlock_health t m s =
-    if (cell_at s m).health == 1 then goes_to t (Unlock m) UnlockStore s else goes_to t (Unlock m) UnlockUnlink s
-
--- unlock: compare-exchange from t to 0
-unfoldable pub unlock_exchange : ℕ → ℕ → Table → Outcome
-unlock_exchange t m s =
-    after_exchange (release_word (cell_at s m).word t) m (ends_by t (Unlock m) m UnlockClear 0) (goes_to t (Unlock m) UnlockKernel) s
 
 -- consistent: a stalled mutex is answered EINVAL with no access. Else load the word; who isn't the owner is answered
 -- EPERM
 unfoldable pub consistent_load : ℕ → ℕ → Table → Outcome
 consistent_load t m s =
     if is_robust m s
-    then (if (cell_at s m).word.number == t then goes_to t (Consistent m) ConsistentHealth s else answers t EPERM s)
+    then (if (cell_at s m).word.number == t then goes_to t (Consistent m) (Repair CheckHealth) s else answers t EPERM s)
     else answers t EINVAL s
 
 -- consistent: load the health word. A mutex that isn't inconsistent is answered EINVAL
 unfoldable pub consistent_health : ℕ → ℕ → Table → Outcome
 consistent_health t m s =
-    if (cell_at s m).health == 1 then goes_to t (Consistent m) ConsistentStore s else answers t EINVAL s
+    if (cell_at s m).health == 1 then goes_to t (Consistent m) (Repair StoreFine) s else answers t EINVAL s
+
+-- one step of consistent after the load
+unfoldable pub repair_line : RepairStep → ℕ → ℕ → Table → Outcome
+repair_line CheckHealth t m s = consistent_health t m s
+repair_line StoreFine t m s = answers t 0 (with_health_word m 0 s)
 
 -- the call is closed by what its kernel call answered: 0, or the number of the error
 unfoldable pub answered_by : Result (record {}) Errno → ℕ → Table → Outcome
@@ -226,29 +264,19 @@ unfoldable pub wait_load : ℕ → ℕ → ℕ → Table → Outcome
 wait_load c m t s =
     if bound_to s c == m
     then (if (cell_at s m).word.number == t
-    then (if nat_lt 1 (cell_at s m).count then answers t EINVAL s else goes_to t (Wait c m) WaitUses s)
+    then (if nat_lt 1 (cell_at s m).count then answers t EINVAL s else goes_to t (Wait c m) LoadUses s)
     else answers t EPERM s)
     else answers t EINVAL s
 
 -- wait: load the condition word
 unfoldable pub wait_uses : ℕ → ℕ → ℕ → Table → Outcome
-wait_uses c m t s = goes_by t (Wait c m) m (WaitPending (uses_of s c)) (WaitExchange (uses_of s c)) s
-
--- wait: load the health word. An inconsistent mutex becomes unusable
-unfoldable pub wait_health : ℕ → ℕ → ℕ → ℕ → Table → Outcome
-wait_health v c m t s =
-    if (cell_at s m).health == 1 then goes_to t (Wait c m) (WaitStore v) s else goes_to t (Wait c m) (WaitUnlink v) s
-
--- wait: compare-exchange from t to 0
-unfoldable pub wait_exchange : ℕ → ℕ → ℕ → ℕ → Table → Outcome
-wait_exchange v c m t s =
-    after_exchange (release_word (cell_at s m).word t) m (goes_to t (Wait c m) (WaitPark v))
-    (goes_to t (Wait c m) (WaitKernel v)) s
+wait_uses c m t s =
+    goes_by t (Wait c m) m (Give SetPending (ToPark (uses_of s c))) (Give Release (ToPark (uses_of s c))) s
 
 -- wait, by what its kernel call answered. EAGAIN: the variable was used since, and the thread locks the mutex again
 unfoldable pub wait_by : Result (record {}) Errno → ℕ → ℕ → ℕ → Table → Outcome
-wait_by (Ok x) c m t s = waits_at t (Wait c m) WaitParked s
-wait_by (Err Again) c m t s = goes_to t (Wait c m) LockExchange s
+wait_by (Ok x) c m t s = waits_at t (Wait c m) StayParked s
+wait_by (Err Again) c m t s = goes_to t (Wait c m) Exchange s
 wait_by (Err e) c m t s = answers t (number_of e) s
 
 -- wait: the kernel call wait_requeue_pi
@@ -261,18 +289,18 @@ wait_park v c m t s =
 -- answered or is the load of taking over, as in lock
 unfoldable pub wait_parked : ℕ → ℕ → ℕ → Table → Outcome
 wait_parked c m t s =
-    if is_woken_again (status_at s t) then own_exchange (Wait c m) LockKernel t m s else lock_queued (Wait c m) t m s
+    if is_woken_again (status_at s t) then own_exchange (Wait c m) t m s else lock_queued (Wait c m) t m s
 
 -- signal and broadcast: the variable was used this often, as it was read. At its limit EOVERFLOW
 unfoldable pub use_read : Request → ℕ → ℕ → Table → Outcome
-use_read q n t s = if n == s.limits.signals then answers t EOVERFLOW s else goes_to t q (UseExchange n) s
+use_read q n t s = if n == s.limits.signals then answers t EOVERFLOW s else goes_to t q (Wake (CountUse n)) s
 
 -- signal and broadcast: compare-exchange the condition word from v to one more. Where it fails it goes on with what the
 -- word is
 unfoldable pub use_exchange : Request → ℕ → ℕ → ℕ → Table → Outcome
 use_exchange q v c t s =
     if uses_of s c == v
-    then goes_to t q (UseRequeue (v + 1)) (with_cond_word c (v + 1) s)
+    then goes_to t q (Wake (Requeue (v + 1))) (with_cond_word c (v + 1) s)
     else use_read q (uses_of s c) t s
 
 -- how many threads a signal or a broadcast takes besides the first
@@ -283,7 +311,7 @@ more_in _ = 0
 -- signal and broadcast, by what their kernel call answered. EAGAIN: the variable was used since
 unfoldable pub use_by : Result ℕ Errno → Request → ℕ → Table → Outcome
 use_by (Ok n) q t s = answers t 0 s
-use_by (Err Again) q t s = goes_to t q UseReload s
+use_by (Err Again) q t s = goes_to t q (Wake ReadAgain) s
 use_by (Err e) q t s = answers t (number_of e) s
 
 -- signal and broadcast: the kernel call cmp_requeue_pi, for the mutex to which the variable is bound
@@ -317,76 +345,54 @@ ended_table t s =
 
 -- ONE STEP
 
--- one step of taking over or leaving in a request that locks m; at another place, which never comes, EINVAL
-unfoldable pub shared_line : Request → Place → ℕ → ℕ → Table → Outcome
-shared_line q TakeLoad t m s = take_load q t m s
-shared_line q (TakeHealth died) t m s = take_health q died t m s
-shared_line q TakeStore t m s = take_store q t m s
-shared_line q TakeWord t m s = take_word_back q t m s
-shared_line q (LinkNext a) t m s = link_next q a t m s
-shared_line q (LinkHead a) t m s = link_head q a t m s
-shared_line q (LinkClear a) t m s = clears a t s
-shared_line q LeaveExchange t m s = leave_exchange q t m s
-shared_line q LeaveKernel t m s = gives_up t m (goes_to t q LeaveClear) s
-shared_line q LeaveClear t m s = clears ENOTRECOVERABLE t s
-shared_line q _ t m s = answers t EINVAL s
+-- one step of giving m up, and of clearing the pending field; at another place, which never comes, EINVAL
+unfoldable pub giving_line : Request → Place → ℕ → ℕ → Table → Outcome
+giving_line q (Give x y) t m s = give_line q x y t m s
+giving_line q (Clear f a) t m s = clears a t s
+giving_line q _ t m s = answers t EINVAL s
 
--- one step of a request that locks m, from the exchange on
+-- one step that all requests share which lock m: the exchange, taking over and leaving
+unfoldable pub shared_line : Request → Place → ℕ → ℕ → Table → Outcome
+shared_line q Exchange t m s = own_exchange q t m s
+shared_line q (Take x) t m s = take_line q x t m s
+shared_line q (Link x a) t m s = link_line q x a t m s
+shared_line q p t m s = giving_line q p t m s
+
+-- one step of a request that may queue for m, from the exchange on
 unfoldable pub locking_line : Request → Place → ℕ → ℕ → Table → Outcome
-locking_line q LockExchange t m s = own_exchange q LockKernel t m s
-locking_line q LockKernel t m s = lock_kernel q t m s
-locking_line q LockQueued t m s = lock_queued q t m s
-locking_line q LockStop t m s = lock_stop q t s
-locking_line q LockStopped t m s = record { seen = Waits; after = s }
-locking_line q LockClear t m s = clears EDEADLK t s
+locking_line q CallKernel t m s = lock_kernel q t m s
+locking_line q StayQueued t m s = lock_queued q t m s
+locking_line q Stop t m s = lock_stop q t s
+locking_line q StayStopped t m s = record { seen = Waits; after = s }
 locking_line q p t m s = shared_line q p t m s
 
--- one step of a signal or a broadcast of c; at another place, which never comes, EINVAL
-unfoldable pub use_line : Request → Place → ℕ → ℕ → Table → Outcome
-use_line q UseLoad c t s = use_read q (uses_of s c) t s
-use_line q (UseExchange v) c t s = use_exchange q v c t s
-use_line q (UseRequeue v) c t s = use_requeue q v c t s
-use_line q UseReload c t s = goes_to t q (UseRequeue (uses_of s c)) s
-use_line q _ c t s = answers t EINVAL s
+-- one step of a signal or a broadcast of c
+unfoldable pub use_line : Request → WakeStep → ℕ → ℕ → Table → Outcome
+use_line q ReadUses c t s = use_read q (uses_of s c) t s
+use_line q (CountUse v) c t s = use_exchange q v c t s
+use_line q (Requeue v) c t s = use_requeue q v c t s
+use_line q ReadAgain c t s = goes_to t q (Wake (Requeue (uses_of s c))) s
 
--- one step of a call at a place of its own; at a place of another, which never comes, EINVAL
+-- one step of the open call; at a place of another request, which never comes, EINVAL
 unfoldable pub line_of : Request → Place → ℕ → Table → Outcome
-line_of (Lock m) LockLoad t s = lock_load (Lock m) t m s
-line_of (Lock m) LockPending t s = goes_to t (Lock m) LockExchange (pending t m s)
-line_of (Lock m) QueueExpired t s = clears ETIMEDOUT t s
-line_of (Lock m) StopExpired t s = clears ETIMEDOUT t s
+line_of (Lock m) Load t s = lock_load (Lock m) t m s
+line_of (Lock m) NamePending t s = goes_to t (Lock m) Exchange (pending t m s)
 line_of (Lock m) p t s = locking_line (Lock m) p t m s
-line_of (TryLock m) TryLoad t s = try_load t m s
-line_of (TryLock m) TryPending t s = goes_to t (TryLock m) TryExchange (pending t m s)
-line_of (TryLock m) TryExchange t s = own_exchange (TryLock m) TryKernel t m s
-line_of (TryLock m) TryKernel t s = try_kernel t m s
-line_of (TryLock m) TryClear t s = clears EBUSY t s
+line_of (TryLock m) Load t s = try_load t m s
+line_of (TryLock m) NamePending t s = goes_to t (TryLock m) Exchange (pending t m s)
+line_of (TryLock m) CallKernel t s = try_kernel t m s
 line_of (TryLock m) p t s = shared_line (TryLock m) p t m s
-line_of (Unlock m) UnlockLoad t s = unlock_load t m s
-line_of (Unlock m) UnlockPending t s = goes_to t (Unlock m) UnlockHealth (pending t m s)
-line_of (Unlock m) UnlockHealth t s = unlock_health t m s
-line_of (Unlock m) UnlockStore t s = goes_to t (Unlock m) UnlockUnlink (with_health_word m 2 s)
-line_of (Unlock m) UnlockUnlink t s = goes_to t (Unlock m) UnlockExchange (with_lists (without_listed t m s.lists) s)
-line_of (Unlock m) UnlockExchange t s = unlock_exchange t m s
-line_of (Unlock m) UnlockKernel t s = gives_up t m (ends_by t (Unlock m) m UnlockClear 0) s
-line_of (Unlock m) UnlockClear t s = clears 0 t s
-line_of (Consistent m) ConsistentLoad t s = consistent_load t m s
-line_of (Consistent m) ConsistentHealth t s = consistent_health t m s
-line_of (Consistent m) ConsistentStore t s = answers t 0 (with_health_word m 0 s)
-line_of (Wait c m) WaitLoad t s = wait_load c m t s
-line_of (Wait c m) WaitUses t s = wait_uses c m t s
-line_of (Wait c m) (WaitPending v) t s = goes_to t (Wait c m) (WaitHealth v) (pending t m s)
-line_of (Wait c m) (WaitHealth v) t s = wait_health v c m t s
-line_of (Wait c m) (WaitStore v) t s = goes_to t (Wait c m) (WaitUnlink v) (with_health_word m 2 s)
-line_of (Wait c m) (WaitUnlink v) t s =
-    goes_to t (Wait c m) (WaitExchange v) (with_lists (without_listed t m s.lists) s)
-line_of (Wait c m) (WaitExchange v) t s = wait_exchange v c m t s
-line_of (Wait c m) (WaitKernel v) t s = gives_up t m (goes_to t (Wait c m) (WaitPark v)) s
-line_of (Wait c m) (WaitPark v) t s = wait_park v c m t s
-line_of (Wait c m) WaitParked t s = wait_parked c m t s
+line_of (Unlock m) Load t s = unlock_load t m s
+line_of (Unlock m) p t s = giving_line (Unlock m) p t m s
+line_of (Consistent m) Load t s = consistent_load t m s
+line_of (Consistent m) (Repair x) t s = repair_line x t m s
+line_of (Wait c m) Load t s = wait_load c m t s
+line_of (Wait c m) LoadUses t s = wait_uses c m t s
+line_of (Wait c m) (Park v) t s = wait_park v c m t s
+line_of (Wait c m) StayParked t s = wait_parked c m t s
 line_of (Wait c m) p t s = locking_line (Wait c m) p t m s
-line_of (Signal c) p t s = use_line (Signal c) p c t s
-line_of (Broadcast c) p t s = use_line (Broadcast c) p c t s
+line_of (Signal c) (Wake x) t s = use_line (Signal c) x c t s
+line_of (Broadcast c) (Wake x) t s = use_line (Broadcast c) x c t s
 line_of (SetPrio u p) SetPriority t s = set_priority t u p s
 line_of _ _ t s = answers t EINVAL s
 
@@ -396,9 +402,9 @@ line_of _ _ t s = answers t EINVAL s
 -- it is queued or stopped, that of a wait while it is parked. Who was handed the mutex is ready; who was taken off its
 -- variable is parked no more
 abbrev pub counts_at : Request → Place → Status → Bool
-counts_at (Lock m) LockQueued x = if is_ready x then false else true
-counts_at (Lock m) LockStopped x = true
-counts_at (Wait c m) WaitParked x = is_parked x
+counts_at (Lock m) StayQueued x = if is_ready x then false else true
+counts_at (Lock m) StayStopped x = true
+counts_at (Wait c m) StayParked x = is_parked x
 counts_at _ _ x = false
 
 -- whether t's call at this line is due: its deadline counts, and is reached
@@ -413,8 +419,8 @@ is_due_in s t = is_line_due (line_at s t) t s
 
 -- where the lock of a robust mutex goes on that expires at this place
 abbrev pub expired_place : Place → Place
-expired_place LockQueued = QueueExpired
-expired_place _ = StopExpired
+expired_place StayQueued = Clear Unowned ETIMEDOUT
+expired_place _ = Clear HadStopped ETIMEDOUT
 
 -- the kernel call expire
 unfoldable pub expired_in : ℕ → Table → Table
@@ -425,7 +431,7 @@ expired_in t s = with_kernel s.words (kernel_after_expire t s.kernel) s
 unfoldable pub expires_at : Request → Place → ℕ → Table → Outcome
 expires_at (Lock m) p t s = ends_by t (Lock m) m (expired_place p) ETIMEDOUT (expired_in t s)
 expires_at (Wait c m) p t s =
-    goes_to t (Wait c m) LockExchange (with_timer t (ran_out (timer_at s t)) (expired_in t s))
+    goes_to t (Wait c m) Exchange (with_timer t (ran_out (timer_at s t)) (expired_in t s))
 expires_at q p t s = answers t EINVAL s
 
 -- what a call that has run out of time, or has not, shows of a step
@@ -441,16 +447,10 @@ go_outcome (At q p) t s =
 
 -- where a call begins
 abbrev pub first_place : Request → Place
-first_place (Lock m) = LockLoad
-first_place (TryLock m) = TryLoad
-first_place (Unlock m) = UnlockLoad
-first_place (Consistent m) = ConsistentLoad
-first_place (Wait c m) = WaitLoad
-first_place (Signal c) = UseLoad
-first_place (Broadcast c) = UseLoad
+first_place (Signal c) = Wake ReadUses
+first_place (Broadcast c) = Wake ReadUses
 first_place (SetPrio u p) = SetPriority
-first_place (TimedLock m d) = LockLoad
-first_place (TimedWait c m d) = WaitLoad
+first_place _ = Load
 
 -- t begins this call: a timed one is its plain request, with a timer
 abbrev pub begun_table : ℕ → Request → Table → Table

@@ -1,8 +1,6 @@
--- The POSIX machine of mutexes and condition variables: what pthread_mutex_lock, pthread_mutex_trylock,
--- pthread_mutex_unlock, pthread_mutex_consistent, pthread_mutex_timedlock, pthread_cond_wait, pthread_cond_timedwait,
--- pthread_cond_signal, pthread_cond_broadcast, pthread_setschedprio and the end of a thread do, by POSIX.1-2017 (the
--- pages pthread_mutex_lock, pthread_mutex_trylock, pthread_mutex_timedlock, pthread_mutex_consistent,
--- pthread_cond_wait, pthread_cond_timedwait, pthread_cond_signal, pthread_mutexattr_settype,
+-- The POSIX machine of mutexes and condition variables: what the calls on them, pthread_setschedprio and the end of a
+-- thread do, by POSIX.1-2017 (the pages pthread_mutex_lock, pthread_mutex_trylock, pthread_mutex_timedlock,
+-- pthread_mutex_consistent, pthread_cond_wait, pthread_cond_timedwait, pthread_cond_signal, pthread_mutexattr_settype,
 -- pthread_mutexattr_setprotocol, pthread_mutexattr_setrobust and pthread_setschedprio).
 -- It knows no words, no kernel and no chain walks. A call has effects, each of which happens at one moment between its
 -- beginning and its answer. Threads, mutexes and variables are numbered from 1; place 0 of each list stands for nobody.
@@ -12,7 +10,10 @@ use Rattle.std.specs.List.{list_any}
 use Rattle.pif_types.specs.Bounds.{Bounds}
 use Rattle.pif_types.specs.declared.errors.Refusal.{Refusal}
 use Rattle.pif_types.specs.declared.requests.Kind.{Kind}
-use Rattle.pif_types.specs.declared.requests.Kind.TheVariants.{Normal, ErrorCheck, Recursive}
+use Rattle.pif_types.specs.declared.requests.Kind.TheVariants.{Normal}
+use Rattle.pif_model.specs.declared.lines.Relock.{Relock}
+use Rattle.pif_model.specs.declared.lines.Relock.TheVariants.{Stops, Answers, Counts}
+use Rattle.pif_model.specs.Kinds.{relock_of}
 use Rattle.pif_types.specs.declared.requests.Request.{Request}
 use Rattle.pif_types.specs.declared.requests.Request.TheVariants.{Lock, TryLock, Unlock, Consistent, Wait, Signal, Broadcast, SetPrio, TimedLock, TimedWait}
 use Rattle.pif_model.specs.NamedNumbers.{EPERM, ESRCH, EAGAIN, EBUSY, EINVAL, EDEADLK, EOVERFLOW, ETIMEDOUT, EOWNERDEAD, ENOTRECOVERABLE, most_holds}
@@ -44,8 +45,7 @@ pub data Progress : Type 0 where
   Has : ℕ → Progress
   -- a wait whose thread owns the mutex and holds it once
   Checked : Progress
-  -- a wait that has joined the blocked threads of the variable, and whose thread still owns the mutex. Is it blocked
-  -- still?
+  -- a wait that has joined the variable's blocked threads, whose thread owns the mutex yet. Is it blocked still?
   Enlisted : Bool → Progress
   -- a wait that has given the mutex up and is blocked. Was it answered Waits?
   Blocked : Bool → Progress
@@ -63,8 +63,7 @@ pub record Call : Type 0 where
 pub record Memory : Type 0 where
   -- how many waits it has begun
   pub waits : ℕ
-  -- the threads that were blocked on the variable when its last signal or broadcast began, each with the number of the
-  -- wait by which it was
+  -- who was blocked on the variable when its last signal or broadcast began, each with the number of that wait
   pub found : List (ℕ × ℕ)
 
 -- a thread
@@ -319,9 +318,9 @@ ClosesCycle w t m = leads_to w (mutex_at w m).owner t ≡ true
 abbrev pub ClosesNoCycle : World → ℕ → ℕ → Type 0
 ClosesNoCycle w t m = leads_to w (mutex_at w m).owner t ≡ false
 
--- m is of this kind
-abbrev pub IsOfKind : World → ℕ → Kind → Type 0
-IsOfKind w m k = (mutex_at w m).kind ≡ k
+-- a lock of m by its owner does this
+abbrev pub Relocks : World → ℕ → Relock → Type 0
+Relocks w m x = relock_of (mutex_at w m).kind ≡ x
 
 -- m is held once by its owner, or more than once
 abbrev pub IsHeldOnce : World → ℕ → Type 0
@@ -347,9 +346,9 @@ IsInconsistent w m = (mutex_at w m).health ≡ Inconsistent
 abbrev pub IsNotInconsistent : World → ℕ → Type 0
 IsNotInconsistent w m = (mutex_at w m).health ≢ Inconsistent
 
--- t doesn't own m, or m isn't RECURSIVE
+-- t doesn't own m, or no lock by the owner counts
 abbrev pub MayNotRelock : World → ℕ → ℕ → Type 0
-MayNotRelock w t m = IsOwner w t m → (mutex_at w m).kind ≢ Recursive
+MayNotRelock w t m = IsOwner w t m → relock_of (mutex_at w m).kind ≢ Counts
 
 -- c was used as often as it may be, or less often
 abbrev pub IsUsedUp : World → ℕ → Type 0
@@ -436,12 +435,12 @@ is_use _ = false
 
 -- pthread_mutex_lock by t on m, where no effect has happened yet; or the lock that a wait of t owes
 pub data Locks (t m : ℕ) (w v : World) : Type 0 where
-  -- the owner locks a NORMAL mutex again: it waits for good (pthread_mutex_lock, table of relocking: deadlock)
-  own_normal : IsOwner w t m → IsOfKind w m Normal → Comes t Stuck w v → Locks t m w v
-  -- the owner locks an ERRORCHECK mutex again: EDEADLK (the same table: an error is returned)
-  own_errorcheck : IsOwner w t m → IsOfKind w m ErrorCheck → HasResult t EDEADLK w v → Locks t m w v
-  -- the owner locks a RECURSIVE mutex again (the same table: recursive)
-  own_recursive : IsOwner w t m → IsOfKind w m Recursive → LocksAgain t m w v → Locks t m w v
+  -- the owner locks it again, and stops (NORMAL): it waits for good (pthread_mutex_lock, table of relocking: deadlock)
+  own_normal : IsOwner w t m → Relocks w m Stops → Comes t Stuck w v → Locks t m w v
+  -- the owner locks it again, and is answered (ERRORCHECK): EDEADLK (the same table: an error is returned)
+  own_errorcheck : IsOwner w t m → Relocks w m Answers → HasResult t EDEADLK w v → Locks t m w v
+  -- the owner locks it again, and that counts (RECURSIVE; the same table: recursive)
+  own_recursive : IsOwner w t m → Relocks w m Counts → LocksAgain t m w v → Locks t m w v
   -- nobody owns it: t takes it (pthread_mutex_lock: it returns with the mutex locked and the caller as its owner)
   free : IsNotOwner w t m → IsFree w m → v ≡ taken t m w → Locks t m w v
   -- it is lost: t waits for good (pthread_mutexattr_setrobust, PTHREAD_MUTEX_STALLED: this can lead to deadlocks)
@@ -454,8 +453,8 @@ pub data Locks (t m : ℕ) (w v : World) : Type 0 where
 
 -- pthread_mutex_trylock by t on m, where no effect has happened yet
 pub data TriesToLock (t m : ℕ) (w v : World) : Type 0 where
-  -- the owner locks a RECURSIVE mutex again (pthread_mutex_trylock: the lock count is incremented, and it succeeds)
-  own_recursive : IsOwner w t m → IsOfKind w m Recursive → LocksAgain t m w v → TriesToLock t m w v
+  -- the owner locks it again, and that counts (pthread_mutex_trylock: the lock count is incremented, and it succeeds)
+  own_recursive : IsOwner w t m → Relocks w m Counts → LocksAgain t m w v → TriesToLock t m w v
   -- it is owned otherwise, or lost: EBUSY (pthread_mutex_trylock: it was already locked, by any thread)
   busy : IsOwned w m → MayNotRelock w t m → HasResult t EBUSY w v → TriesToLock t m w v
   -- nobody owns it: t takes it (pthread_mutex_trylock: as pthread_mutex_lock, but for a mutex that is locked)

@@ -3,11 +3,17 @@ use Rattle.std.specs.Prelude.{ℕ, zero, suc, ◌≡◌, ◌≢◌, ◌≤◌, B
 use Rattle.std.specs.List.{list_any}
 use Rattle.pif_types.specs.declared.requests.Request.{Request}
 use Rattle.pif_types.specs.declared.requests.Request.TheVariants.{Wait}
-use Rattle.pif_model.specs.NamedNumbers.{EBUSY, EDEADLK, ETIMEDOUT, EOWNERDEAD, ENOTRECOVERABLE}
+use Rattle.pif_model.specs.NamedNumbers.{EOWNERDEAD}
 use Rattle.pif_model.specs.declared.lines.Line.{Line}
 use Rattle.pif_model.specs.declared.lines.Line.TheVariants.{Idle, At}
 use Rattle.pif_model.specs.declared.lines.Place.{Place}
-use Rattle.pif_model.specs.declared.lines.Place.TheVariants.{LockExchange, LockKernel, LockQueued, LockStop, LockStopped, LockClear, QueueExpired, StopExpired, TakeLoad, TakeHealth, TakeStore, TakeWord, LinkNext, LinkHead, LinkClear, LeaveExchange, LeaveKernel, LeaveClear, TryClear, UnlockClear, WaitLoad, WaitUses, WaitPending, WaitHealth, WaitStore, WaitUnlink, WaitExchange, WaitKernel, WaitPark, WaitParked, UseRequeue, UseReload}
+use Rattle.pif_model.specs.declared.lines.Place.TheVariants.{Load, Exchange, CallKernel, StayQueued, Stop, StayStopped, Take, Link, Give, Clear, LoadUses, Park, StayParked, Wake}
+use Rattle.pif_model.specs.declared.lines.TakeStep.{TakeStep}
+use Rattle.pif_model.specs.declared.lines.TakeStep.TheVariants.{LoadWord, LoadHealth, StoreInconsistent, ClearDied}
+use Rattle.pif_model.specs.declared.lines.Purpose.{Purpose}
+use Rattle.pif_model.specs.declared.lines.Purpose.TheVariants.{ToUnlock, ToPark, ToLeave}
+use Rattle.pif_model.specs.declared.lines.WakeStep.{WakeStep}
+use Rattle.pif_model.specs.declared.lines.WakeStep.TheVariants.{ReadUses, CountUse, Requeue, ReadAgain}
 use Rattle.pif_model.specs.declared.lines.Status.{Status}
 use Rattle.pif_model.specs.declared.lines.Status.TheVariants.{Ready, Queued, Parked, Stopped, Ended}
 use Rattle.pif_model.specs.declared.lines.Woken.TheVariants.{Fresh as WokenFresh, Owns as WokenOwns, Again as WokenAgain, Expired as WokenExpired}
@@ -52,44 +58,47 @@ progress_parked (Ready WokenExpired) h = on_taking h
 progress_parked Stopped h = Stuck
 progress_parked Ended h = Stuck
 
+-- how far a call has come that takes its mutex over, by the mutex's health
+abbrev pub progress_taking : TakeStep → Health → Progress
+progress_taking LoadWord h = on_taking h
+progress_taking (LoadHealth died) h = on_taking h
+progress_taking StoreInconsistent h = Has EOWNERDEAD
+progress_taking ClearDied h = Has EOWNERDEAD
+
+-- how far a call has come that gives its mutex up, by how often the variable that it names was used: until it is
+-- parked, a wait is blocked while that is as it read
+abbrev pub progress_giving : Purpose → ℕ → Progress
+progress_giving ToUnlock n = Fresh
+progress_giving (ToPark v) n = Enlisted (v == n)
+progress_giving ToLeave n = Leaving
+
+-- how far a signal or a broadcast has come
+abbrev pub progress_waking : WakeStep → Progress
+progress_waking ReadUses = Fresh
+progress_waking (CountUse v) = Fresh
+progress_waking (Requeue v) = Used
+progress_waking ReadAgain = Used
+
 -- how far a call of a request at this place has come, by its thread's status, by the health of the mutex that it names,
--- and by how often the variable that it names was used: until it is parked, a wait is blocked while that is as it read
+-- and by how often the variable that it names was used
 abbrev pub progress_at : Request → Place → Status → Health → ℕ → Progress
-progress_at q LockExchange x h n = before_lock q
-progress_at q LockKernel x h n = before_lock q
-progress_at q LockQueued (Queued m) h n = Waiting
-progress_at q LockQueued (Ready w) h n = on_taking h
-progress_at q LockQueued (Parked c) h n = Stuck
-progress_at q LockQueued Stopped h n = Stuck
-progress_at q LockQueued Ended h n = Stuck
-progress_at q LockStop x h n = before_lock q
-progress_at q LockStopped x h n = Stuck
-progress_at q LockClear x h n = Has EDEADLK
-progress_at q QueueExpired x h n = Has ETIMEDOUT
-progress_at q StopExpired x h n = Has ETIMEDOUT
-progress_at q TakeLoad x h n = on_taking h
-progress_at q (TakeHealth died) x h n = on_taking h
-progress_at q TakeStore x h n = Has EOWNERDEAD
-progress_at q TakeWord x h n = Has EOWNERDEAD
-progress_at q (LinkNext a) x h n = Has a
-progress_at q (LinkHead a) x h n = Has a
-progress_at q (LinkClear a) x h n = Has a
-progress_at q LeaveExchange x h n = Leaving
-progress_at q LeaveKernel x h n = Leaving
-progress_at q LeaveClear x h n = Has ENOTRECOVERABLE
-progress_at q TryClear x h n = Has EBUSY
-progress_at q UnlockClear x h n = Has 0
-progress_at q WaitUses x h n = Checked
-progress_at q (WaitPending v) x h n = Enlisted (v == n)
-progress_at q (WaitHealth v) x h n = Enlisted (v == n)
-progress_at q (WaitStore v) x h n = Enlisted (v == n)
-progress_at q (WaitUnlink v) x h n = Enlisted (v == n)
-progress_at q (WaitExchange v) x h n = Enlisted (v == n)
-progress_at q (WaitKernel v) x h n = Enlisted (v == n)
-progress_at q (WaitPark v) x h n = on_release (v == n)
-progress_at q WaitParked x h n = progress_parked x h
-progress_at q (UseRequeue v) x h n = Used
-progress_at q UseReload x h n = Used
+progress_at q Exchange x h n = before_lock q
+progress_at q CallKernel x h n = before_lock q
+progress_at q StayQueued (Queued m) h n = Waiting
+progress_at q StayQueued (Ready w) h n = on_taking h
+progress_at q StayQueued (Parked c) h n = Stuck
+progress_at q StayQueued Stopped h n = Stuck
+progress_at q StayQueued Ended h n = Stuck
+progress_at q Stop x h n = before_lock q
+progress_at q StayStopped x h n = Stuck
+progress_at q (Take y) x h n = progress_taking y h
+progress_at q (Link y a) x h n = Has a
+progress_at q (Give y z) x h n = progress_giving z n
+progress_at q (Clear f a) x h n = Has a
+progress_at q LoadUses x h n = Checked
+progress_at q (Park v) x h n = on_release (v == n)
+progress_at q StayParked x h n = progress_parked x h
+progress_at q (Wake y) x h n = progress_waking y
 progress_at q _ x h n = Fresh
 
 -- the open call at a line, by the health of each mutex and the uses of each variable
@@ -153,16 +162,21 @@ abbrev pub remembered : Shadow → ℕ → ℕ → Bool
 remembered x t u =
     list_any (λ p. if p.0 == u then p.1 == (memory_at x u).waits else false) (memory_at x t).found
 
+-- whether this is a wait
+abbrev pub is_wait : Request → Bool
+is_wait (Wait c m) = true
+is_wait _ = false
+
 -- whether a wait at this line has not joined the blocked threads of its variable yet
 abbrev pub may_enlist : Line → Bool
-may_enlist (At q WaitLoad) = true
-may_enlist (At q WaitUses) = true
+may_enlist (At q Load) = is_wait q
+may_enlist (At q LoadUses) = true
 may_enlist _ = false
 
 -- the variable of a signal or a broadcast at this line that has used it, and has to choose whom it wakes; 0 else
 abbrev pub chooses_on : Line → ℕ
-chooses_on (At q (UseRequeue v)) = variable_of q
-chooses_on (At q UseReload) = variable_of q
+chooses_on (At q (Wake (Requeue v))) = variable_of q
+chooses_on (At q (Wake ReadAgain)) = variable_of q
 chooses_on _ = 0
 
 -- a shadow fits its table

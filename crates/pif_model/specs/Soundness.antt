@@ -4,14 +4,29 @@ use Rattle.std.specs.Prelude.{ℕ, ◌≡◌, ◌≢◌, ◌<◌, ◌≤◌, ◌
 use Rattle.std.specs.List.{list_any}
 use Rattle.pif_types.specs.Bounds.{IsWithin}
 use Rattle.pif_types.specs.declared.requests.Kind.{Kind}
-use Rattle.pif_types.specs.declared.requests.Kind.TheVariants.{Normal, Recursive}
+use Rattle.pif_types.specs.declared.requests.Kind.TheVariants.{Normal}
+use Rattle.pif_model.specs.declared.lines.Relock.TheVariants.{Stops, Counts}
+use Rattle.pif_model.specs.Kinds.{relock_of}
 use Rattle.pif_types.specs.declared.requests.Request.{Request}
 use Rattle.pif_types.specs.declared.requests.Request.TheVariants.{Lock, TryLock, Unlock, Consistent, Wait, Signal, Broadcast, SetPrio, TimedLock, TimedWait}
 use Rattle.pif_model.specs.NamedNumbers.{most_holds}
 use Rattle.pif_model.specs.declared.lines.Line.{Line}
 use Rattle.pif_model.specs.declared.lines.Line.TheVariants.{Idle, At}
 use Rattle.pif_model.specs.declared.lines.Place.{Place}
-use Rattle.pif_model.specs.declared.lines.Place.TheVariants.{LockLoad, LockPending, LockExchange, LockKernel, LockQueued, LockStop, LockStopped, LockClear, QueueExpired, StopExpired, TakeLoad, TakeHealth, TakeStore, TakeWord, LinkNext, LinkHead, LinkClear, LeaveExchange, LeaveKernel, LeaveClear, TryLoad, TryPending, TryExchange, TryKernel, TryClear, UnlockLoad, UnlockPending, UnlockHealth, UnlockStore, UnlockUnlink, UnlockExchange, UnlockKernel, UnlockClear, ConsistentLoad, ConsistentHealth, ConsistentStore, WaitLoad, WaitUses, WaitPending, WaitHealth, WaitStore, WaitUnlink, WaitExchange, WaitKernel, WaitPark, WaitParked, UseLoad, UseExchange, UseRequeue, UseReload, SetPriority}
+use Rattle.pif_model.specs.declared.lines.Place.TheVariants.{Load, NamePending, Exchange, CallKernel, StayQueued, Stop, StayStopped, Take, Link, Give, Clear, LoadUses, Park, StayParked, Repair, Wake, SetPriority}
+use Rattle.pif_model.specs.declared.lines.TakeStep.{TakeStep}
+use Rattle.pif_model.specs.declared.lines.TakeStep.TheVariants.{LoadWord, LoadHealth, StoreInconsistent, ClearDied}
+use Rattle.pif_model.specs.declared.lines.LinkStep.TheVariants.{WriteHead}
+use Rattle.pif_model.specs.declared.lines.GiveStep.{GiveStep}
+use Rattle.pif_model.specs.declared.lines.GiveStep.TheVariants.{SetPending, SeeHealth, StoreUnusable, Unlink, Release, CallUnlock}
+use Rattle.pif_model.specs.declared.lines.Purpose.{Purpose}
+use Rattle.pif_model.specs.declared.lines.Purpose.TheVariants.{ToUnlock, ToPark, ToLeave}
+use Rattle.pif_model.specs.declared.lines.Footing.{Footing}
+use Rattle.pif_model.specs.declared.lines.Footing.TheVariants.{Linked, Unowned, HadStopped}
+use Rattle.pif_model.specs.declared.lines.RepairStep.{RepairStep}
+use Rattle.pif_model.specs.declared.lines.RepairStep.TheVariants.{CheckHealth, StoreFine}
+use Rattle.pif_model.specs.declared.lines.WakeStep.{WakeStep}
+use Rattle.pif_model.specs.declared.lines.WakeStep.TheVariants.{CountUse}
 use Rattle.pif_model.specs.declared.lines.Status.{Status}
 use Rattle.pif_model.specs.declared.lines.Status.TheVariants.{Queued, Parked, Stopped, Ended}
 use Rattle.pif_model.specs.Graph.{has_waiter}
@@ -25,8 +40,8 @@ use Rattle.pif_model.specs.Table.{Table, Cell, new_mutex, has_thread, has_mutex,
 
 -- why t may stop for good in a lock of a mutex
 pub data MayStopFor (living : ℕ → Bool) (t : ℕ) (c : Cell) : Type 0 where
-  -- t locks its own NORMAL mutex
-  own_normal : c.word.number ≡ t → c.kind ≡ Normal → MayStopFor living t c
+  -- t locks a mutex of its own that stops it, a NORMAL one
+  own_normal : c.word.number ≡ t → relock_of c.kind ≡ Stops → MayStopFor living t c
   -- the mutex is lost: it is stalled, and its owner has ended
   lost : c.robust ≡ false → c.word.number ≢ 0 → living c.word.number ≡ false → MayStopFor living t c
 
@@ -113,127 +128,117 @@ abbrev pub MeetsAll : (ℕ → Bool) → ℕ → Status → Cell → Use → Lis
 MeetsAll living t x c z [] = ⊤
 MeetsAll living t x c z (n ∷ ns) = Meets living t x c z n × MeetsAll living t x c z ns
 
+-- what a call rests on at a step of taking over, besides that it owns a robust mutex, and holds it once
+abbrev pub take_needs : TakeStep → List Need
+take_needs LoadWord = DiedBehindDisorder ∷ []
+take_needs (LoadHealth b) = DiedBehindDisorder ∷ DiedIs b ∷ []
+take_needs StoreInconsistent = HealthIsNot 2 ∷ DiedIs true ∷ []
+take_needs ClearDied = HealthIs 1 ∷ DiedIs true ∷ []
+
+-- what an unlock or a wait rests on at a step of giving up, besides that it owns the mutex, and holds it once
+abbrev pub give_needs : GiveStep → List Need
+give_needs SetPending = OfRobust ∷ []
+give_needs SeeHealth = OfRobust ∷ []
+give_needs StoreUnusable = OfRobust ∷ HealthIs 1 ∷ []
+give_needs Unlink = OfRobust ∷ HealthIsNot 1 ∷ DiedIs false ∷ []
+give_needs Release = HealthIsNot 1 ∷ DiedIs false ∷ []
+give_needs CallUnlock = HealthIsNot 1 ∷ DiedIs false ∷ []
+
+-- the same by why it is given up: a wait knows of its variable, and who leaves knows that the mutex is unusable, while
+-- OWNER_DIED may be set
+abbrev pub purpose_needs : GiveStep → Purpose → List Need
+purpose_needs x ToUnlock = give_needs x
+purpose_needs x (ToPark v) = IsBound ∷ UsedAtLeast v ∷ give_needs x
+purpose_needs x ToLeave = OfRobust ∷ HealthIs 2 ∷ []
+
+-- what a call rests on that clears its pending field
+abbrev pub clear_needs : Footing → List Need
+clear_needs Linked = Owns ∷ HoldsOnce ∷ OfRobust ∷ []
+clear_needs Unowned = OwnsNot ∷ OfRobust ∷ []
+clear_needs HadStopped = OfRobust ∷ []
+
+-- what a consistent rests on after its load, besides that it owns a robust mutex
+abbrev pub repair_needs : RepairStep → List Need
+repair_needs CheckHealth = []
+repair_needs StoreFine = HealthIs 1 ∷ []
+
+-- what a signal or a broadcast rests on
+abbrev pub wake_needs : WakeStep → List Need
+wake_needs (CountUse v) = BelowLimit v ∷ []
+wake_needs _ = []
+
 -- what a call rests on at each place
 abbrev pub needs : Place → List Need
-needs LockLoad = MayRun ∷ []
-needs LockPending = MayRun ∷ OwnsNot ∷ OfRobust ∷ []
-needs LockExchange = MayRun ∷ OwnsNot ∷ []
-needs LockKernel = MayRun ∷ OwnsNot ∷ []
-needs LockQueued = NotStopped ∷ OwnsOnceReady ∷ HoldsOnce ∷ DiedBehindDisorder ∷ []
-needs LockStop = MayRun ∷ MayStop ∷ []
-needs LockStopped = HasStopped ∷ []
-needs LockClear = MayRun ∷ OwnsNot ∷ OfRobust ∷ []
-needs QueueExpired = MayRun ∷ OwnsNot ∷ OfRobust ∷ []
-needs StopExpired = MayRun ∷ OfRobust ∷ []
-needs TakeLoad = MayRun ∷ Owns ∷ HoldsOnce ∷ OfRobust ∷ DiedBehindDisorder ∷ []
-needs (TakeHealth b) = MayRun ∷ Owns ∷ HoldsOnce ∷ OfRobust ∷ DiedBehindDisorder ∷ DiedIs b ∷ []
-needs TakeStore = MayRun ∷ Owns ∷ HoldsOnce ∷ OfRobust ∷ HealthIsNot 2 ∷ DiedIs true ∷ []
-needs TakeWord = MayRun ∷ Owns ∷ HoldsOnce ∷ OfRobust ∷ HealthIs 1 ∷ DiedIs true ∷ []
-needs (LinkNext a) = MayRun ∷ Owns ∷ HoldsOnce ∷ OfRobust ∷ []
-needs (LinkHead a) = MayRun ∷ Owns ∷ HoldsOnce ∷ OfRobust ∷ []
-needs (LinkClear a) = MayRun ∷ Owns ∷ HoldsOnce ∷ OfRobust ∷ []
-needs LeaveExchange = MayRun ∷ Owns ∷ HoldsOnce ∷ OfRobust ∷ HealthIs 2 ∷ []
-needs LeaveKernel = MayRun ∷ Owns ∷ HoldsOnce ∷ OfRobust ∷ HealthIs 2 ∷ []
-needs LeaveClear = MayRun ∷ OwnsNot ∷ OfRobust ∷ []
-needs TryLoad = MayRun ∷ []
-needs TryPending = MayRun ∷ OwnsNot ∷ OfRobust ∷ []
-needs TryExchange = MayRun ∷ OwnsNot ∷ []
-needs TryKernel = MayRun ∷ OwnsNot ∷ []
-needs TryClear = MayRun ∷ OwnsNot ∷ OfRobust ∷ []
-needs UnlockLoad = MayRun ∷ []
-needs UnlockPending = MayRun ∷ Owns ∷ HoldsOnce ∷ OfRobust ∷ []
-needs UnlockHealth = MayRun ∷ Owns ∷ HoldsOnce ∷ OfRobust ∷ []
-needs UnlockStore = MayRun ∷ Owns ∷ HoldsOnce ∷ OfRobust ∷ HealthIs 1 ∷ []
-needs UnlockUnlink = MayRun ∷ Owns ∷ HoldsOnce ∷ OfRobust ∷ HealthIsNot 1 ∷ DiedIs false ∷ []
-needs UnlockExchange = MayRun ∷ Owns ∷ HoldsOnce ∷ HealthIsNot 1 ∷ DiedIs false ∷ []
-needs UnlockKernel = MayRun ∷ Owns ∷ HoldsOnce ∷ HealthIsNot 1 ∷ DiedIs false ∷ []
-needs UnlockClear = MayRun ∷ OwnsNot ∷ OfRobust ∷ []
-needs ConsistentLoad = MayRun ∷ []
-needs ConsistentHealth = MayRun ∷ Owns ∷ OfRobust ∷ []
-needs ConsistentStore = MayRun ∷ Owns ∷ OfRobust ∷ HealthIs 1 ∷ []
-needs WaitLoad = MayRun ∷ []
-needs WaitUses = MayRun ∷ Owns ∷ HoldsOnce ∷ IsBound ∷ []
-needs (WaitPending v) = MayRun ∷ Owns ∷ HoldsOnce ∷ OfRobust ∷ IsBound ∷ UsedAtLeast v ∷ []
-needs (WaitHealth v) = MayRun ∷ Owns ∷ HoldsOnce ∷ OfRobust ∷ IsBound ∷ UsedAtLeast v ∷ []
-needs (WaitStore v) = MayRun ∷ Owns ∷ HoldsOnce ∷ OfRobust ∷ HealthIs 1 ∷ IsBound ∷ UsedAtLeast v ∷ []
-needs (WaitUnlink v) =
-    MayRun ∷ Owns ∷ HoldsOnce ∷ OfRobust ∷ HealthIsNot 1 ∷ DiedIs false ∷ IsBound ∷ UsedAtLeast v ∷ []
-needs (WaitExchange v) = MayRun ∷ Owns ∷ HoldsOnce ∷ HealthIsNot 1 ∷ DiedIs false ∷ IsBound ∷ UsedAtLeast v ∷ []
-needs (WaitKernel v) = MayRun ∷ Owns ∷ HoldsOnce ∷ HealthIsNot 1 ∷ DiedIs false ∷ IsBound ∷ UsedAtLeast v ∷ []
-needs (WaitPark v) = MayRun ∷ OwnsNot ∷ IsBound ∷ UsedAtLeast v ∷ []
-needs WaitParked = NotStopped ∷ OwnsOnceHanded ∷ HoldsOnce ∷ DiedBehindDisorder ∷ IsBound ∷ []
-needs UseLoad = MayRun ∷ []
-needs (UseExchange v) = MayRun ∷ BelowLimit v ∷ []
-needs (UseRequeue v) = MayRun ∷ []
-needs UseReload = MayRun ∷ []
+needs Load = MayRun ∷ []
+needs NamePending = MayRun ∷ OwnsNot ∷ OfRobust ∷ []
+needs Exchange = MayRun ∷ OwnsNot ∷ []
+needs CallKernel = MayRun ∷ OwnsNot ∷ []
+needs StayQueued = NotStopped ∷ OwnsOnceReady ∷ HoldsOnce ∷ DiedBehindDisorder ∷ []
+needs Stop = MayRun ∷ MayStop ∷ []
+needs StayStopped = HasStopped ∷ []
+needs (Take x) = MayRun ∷ Owns ∷ HoldsOnce ∷ OfRobust ∷ take_needs x
+needs (Link x a) = MayRun ∷ Owns ∷ HoldsOnce ∷ OfRobust ∷ []
+needs (Give x y) = MayRun ∷ Owns ∷ HoldsOnce ∷ purpose_needs x y
+needs (Clear f a) = MayRun ∷ clear_needs f
+needs LoadUses = MayRun ∷ Owns ∷ HoldsOnce ∷ IsBound ∷ []
+needs (Park v) = MayRun ∷ OwnsNot ∷ IsBound ∷ UsedAtLeast v ∷ []
+needs StayParked = NotStopped ∷ OwnsOnceHanded ∷ HoldsOnce ∷ DiedBehindDisorder ∷ IsBound ∷ []
+needs (Repair x) = MayRun ∷ Owns ∷ OfRobust ∷ repair_needs x
+needs (Wake x) = MayRun ∷ wake_needs x
 needs SetPriority = MayRun ∷ []
 
--- whether a call that locks comes to this place, which all such calls share: taking over, and leaving
+-- whether a mutex that is given up is off its list at this step: the exchange, and the kernel call
+abbrev pub is_last : GiveStep → Bool
+is_last Release = true
+is_last CallUnlock = true
+is_last _ = false
+
+-- whether a call that locks comes to this step of giving its mutex up: it leaves it
+abbrev pub leaves_by : GiveStep → Purpose → Bool
+leaves_by x ToLeave = is_last x
+leaves_by x _ = false
+
+-- whether every call that locks comes to this place: the exchange, taking over, leaving, and clearing the pending field
 abbrev pub is_shared : Place → Bool
-is_shared TakeLoad = true
-is_shared (TakeHealth b) = true
-is_shared TakeStore = true
-is_shared TakeWord = true
-is_shared (LinkNext a) = true
-is_shared (LinkHead a) = true
-is_shared (LinkClear a) = true
-is_shared LeaveExchange = true
-is_shared LeaveKernel = true
-is_shared LeaveClear = true
+is_shared Exchange = true
+is_shared (Take x) = true
+is_shared (Link x a) = true
+is_shared (Give x y) = leaves_by x y
+is_shared (Clear f a) = true
 is_shared _ = false
 
 -- whether lock and wait come to this place: the steps of lock from the exchange on
 abbrev pub is_locking : Place → Bool
-is_locking LockExchange = true
-is_locking LockKernel = true
-is_locking LockQueued = true
-is_locking LockStop = true
-is_locking LockStopped = true
-is_locking LockClear = true
+is_locking CallKernel = true
+is_locking StayQueued = true
+is_locking Stop = true
+is_locking StayStopped = true
 is_locking p = is_shared p
 
 -- whether signal and broadcast come to this place
 abbrev pub is_using : Place → Bool
-is_using UseLoad = true
-is_using (UseExchange v) = true
-is_using (UseRequeue v) = true
-is_using UseReload = true
+is_using (Wake x) = true
 is_using _ = false
 
 -- whether a call of this request comes to this place
 abbrev pub belongs : Request → Place → Bool
-belongs (Lock m) LockLoad = true
-belongs (Lock m) LockPending = true
-belongs (Lock m) QueueExpired = true
-belongs (Lock m) StopExpired = true
+belongs (Lock m) Load = true
+belongs (Lock m) NamePending = true
 belongs (Lock m) p = is_locking p
-belongs (TryLock m) TryLoad = true
-belongs (TryLock m) TryPending = true
-belongs (TryLock m) TryExchange = true
-belongs (TryLock m) TryKernel = true
-belongs (TryLock m) TryClear = true
+belongs (TryLock m) Load = true
+belongs (TryLock m) NamePending = true
+belongs (TryLock m) CallKernel = true
 belongs (TryLock m) p = is_shared p
-belongs (Unlock m) UnlockLoad = true
-belongs (Unlock m) UnlockPending = true
-belongs (Unlock m) UnlockHealth = true
-belongs (Unlock m) UnlockStore = true
-belongs (Unlock m) UnlockUnlink = true
-belongs (Unlock m) UnlockExchange = true
-belongs (Unlock m) UnlockKernel = true
-belongs (Unlock m) UnlockClear = true
-belongs (Consistent m) ConsistentLoad = true
-belongs (Consistent m) ConsistentHealth = true
-belongs (Consistent m) ConsistentStore = true
-belongs (Wait c m) WaitLoad = true
-belongs (Wait c m) WaitUses = true
-belongs (Wait c m) (WaitPending v) = true
-belongs (Wait c m) (WaitHealth v) = true
-belongs (Wait c m) (WaitStore v) = true
-belongs (Wait c m) (WaitUnlink v) = true
-belongs (Wait c m) (WaitExchange v) = true
-belongs (Wait c m) (WaitKernel v) = true
-belongs (Wait c m) (WaitPark v) = true
-belongs (Wait c m) WaitParked = true
+belongs (Unlock m) Load = true
+belongs (Unlock m) (Give x ToUnlock) = true
+belongs (Unlock m) (Clear f a) = true
+belongs (Consistent m) Load = true
+belongs (Consistent m) (Repair x) = true
+belongs (Wait c m) Load = true
+belongs (Wait c m) LoadUses = true
+belongs (Wait c m) (Give x (ToPark v)) = true
+belongs (Wait c m) (Park v) = true
+belongs (Wait c m) StayParked = true
 belongs (Wait c m) p = is_locking p
 belongs (Signal c) p = is_using p
 belongs (Broadcast c) p = is_using p
@@ -267,8 +272,8 @@ LineIsSound s t (At q p) = CallIsSound s t q p
 
 -- whether a thread may be queued at this place: by lock_pi, or since it was taken from its variable
 abbrev pub is_queued_place : Place → Bool
-is_queued_place LockQueued = true
-is_queued_place WaitParked = true
+is_queued_place StayQueued = true
+is_queued_place StayParked = true
 is_queued_place _ = false
 
 -- a thread that is queued on m is in a call that waits for m, at a place where it may be queued
@@ -282,75 +287,61 @@ pub record IsQueuedLine (m : ℕ) (l : Line) : Type 0 where
 -- a thread that is parked on c is in a wait on c, at the place where it is parked
 pub record IsParkedLine (c : ℕ) (l : Line) : Type 0 where
   pub mutex : ℕ
-  pub line : l ≡ At (Wait c mutex) WaitParked
+  pub line : l ≡ At (Wait c mutex) StayParked
 
 -- ROBUST LISTS
 
+-- whether the pending field names a mutex that is given up at this step
+abbrev pub is_named_giving : GiveStep → Bool
+is_named_giving SetPending = false
+is_named_giving _ = true
+
+-- whether a mutex that is given up may be unusable at this step
+abbrev pub is_loose_giving : GiveStep → Bool
+is_loose_giving Unlink = true
+is_loose_giving Release = true
+is_loose_giving CallUnlock = true
+is_loose_giving _ = false
+
+-- whether the pending field names the mutex of a call that clears it
+abbrev pub is_named_clearing : Footing → Bool
+is_named_clearing HadStopped = false
+is_named_clearing _ = true
+
 -- whether the pending field names the call's mutex at this place, where that is robust
 abbrev pub is_pending : Place → Bool
-is_pending LockExchange = true
-is_pending LockKernel = true
-is_pending LockQueued = true
-is_pending LockClear = true
-is_pending QueueExpired = true
-is_pending TryExchange = true
-is_pending TryKernel = true
-is_pending TryClear = true
-is_pending UnlockHealth = true
-is_pending UnlockStore = true
-is_pending UnlockUnlink = true
-is_pending UnlockExchange = true
-is_pending UnlockKernel = true
-is_pending UnlockClear = true
-is_pending (WaitHealth v) = true
-is_pending (WaitStore v) = true
-is_pending (WaitUnlink v) = true
-is_pending (WaitExchange v) = true
-is_pending (WaitKernel v) = true
-is_pending (WaitPark v) = true
-is_pending WaitParked = true
-is_pending p = is_shared p
+is_pending Exchange = true
+is_pending CallKernel = true
+is_pending StayQueued = true
+is_pending (Take x) = true
+is_pending (Link x a) = true
+is_pending (Give x y) = is_named_giving x
+is_pending (Clear f a) = is_named_clearing f
+is_pending (Park v) = true
+is_pending StayParked = true
+is_pending _ = false
 
 -- whether the call's mutex, where its thread owns it, is not on the list at this place: handed over and not noticed,
 -- while it is taken over, left, or given up by an unlock or a wait
 abbrev pub is_unlinked : Place → Bool
-is_unlinked LockQueued = true
-is_unlinked TakeLoad = true
-is_unlinked (TakeHealth b) = true
-is_unlinked TakeStore = true
-is_unlinked TakeWord = true
-is_unlinked (LinkNext a) = true
-is_unlinked (LinkHead a) = true
-is_unlinked LeaveExchange = true
-is_unlinked LeaveKernel = true
-is_unlinked UnlockExchange = true
-is_unlinked UnlockKernel = true
-is_unlinked (WaitExchange v) = true
-is_unlinked (WaitKernel v) = true
-is_unlinked WaitParked = true
+is_unlinked StayQueued = true
+is_unlinked (Take x) = true
+is_unlinked (Link x a) = true
+is_unlinked (Give x y) = is_last x
+is_unlinked StayParked = true
 is_unlinked _ = false
 
 -- whether only the link of the call's mutex is written at this place
 abbrev pub is_half_linked : Place → Bool
-is_half_linked (LinkHead a) = true
+is_half_linked (Link WriteHead a) = true
 is_half_linked _ = false
 
 -- whether at this place the call's mutex, where its thread owns it, may have OWNER_DIED or be unusable
 abbrev pub is_unsettled : Place → Bool
-is_unsettled LockQueued = true
-is_unsettled TakeLoad = true
-is_unsettled (TakeHealth b) = true
-is_unsettled TakeStore = true
-is_unsettled TakeWord = true
-is_unsettled LeaveExchange = true
-is_unsettled LeaveKernel = true
-is_unsettled UnlockUnlink = true
-is_unsettled UnlockExchange = true
-is_unsettled UnlockKernel = true
-is_unsettled (WaitUnlink v) = true
-is_unsettled (WaitExchange v) = true
-is_unsettled (WaitKernel v) = true
-is_unsettled WaitParked = true
+is_unsettled StayQueued = true
+is_unsettled (Take x) = true
+is_unsettled (Give x y) = is_loose_giving x
+is_unsettled StayParked = true
 is_unsettled _ = false
 
 -- the mutex of the call at a line, where its place passes this test; 0 else
@@ -388,13 +379,13 @@ pub record AbsentIsSound (s : Table) (t : ℕ) : Type 0 where
   pub line : line_at s t ≡ Idle
   pub list : robust_at s.lists t ≡ no_robust_row
 
--- how often its owner, 0 for none, holds a mutex of this kind: once to 255 times, and once where it has no owner or is
--- not RECURSIVE
+-- how often its owner, 0 for none, holds a mutex of this kind: once to 255 times, and once where it has no owner or
+-- no lock by the owner counts
 pub record CountIsSound (kind : Kind) (owner count : ℕ) : Type 0 where
   pub some : 1 ≤ count
   pub few : count ≤ most_holds
   pub unowned : owner ≡ 0 → count ≡ 1
-  pub single : kind ≢ Recursive → count ≡ 1
+  pub single : relock_of kind ≢ Counts → count ≡ 1
 
 -- a mutex that was added, by which threads were added and whether one waits for it
 pub record CellIsSound (added : ℕ → Bool) (waited : Bool) (c : Cell) : Type 0 where

@@ -7,4 +7,7 @@ mod events;
 mod lines;
 
 pub use events::{Entry, Event, Seen};
-pub use lines::{Line, Place, Status, Timer, Took, Woken};
+pub use lines::{
+    Footing, GiveStep, Line, LinkStep, Place, Purpose, Relock, RepairStep, Status, TakeStep, Timer,
+    Took, WakeStep, Woken,
+};

@@ -1,115 +1,140 @@
 use pif_types::{Answer, CondId, MutexId, Request};
 
-/// Where in its call a thread stands: the step that its next Go takes. It is named by what that step does. Taking over
-/// and leaving are steps that lock, trylock and wait share; a wait that was unblocked goes on with the steps of lock,
-/// from the exchange on; signal and broadcast share their steps. Steps on robust lists are for robust mutexes alone.
+/// A step of taking over a robust mutex that the caller was found to own.
+#[derive(Clone, Copy, Debug, PartialEq, Eq, Hash)]
+pub enum TakeStep {
+    /// Load the word, and see whether its last owner ended.
+    LoadWord,
+    /// Load the health word; true where the last owner was seen to have ended.
+    LoadHealth(bool),
+    /// Store in the health word that the mutex is inconsistent.
+    StoreInconsistent,
+    /// Take OWNER_DIED out of the word.
+    ClearDied,
+}
+
+/// A step of putting a robust mutex on the caller's list.
+#[derive(Clone, Copy, Debug, PartialEq, Eq, Hash)]
+pub enum LinkStep {
+    /// Write the mutex's link to the head of the list.
+    WriteNext,
+    /// Make the mutex the head of the list.
+    WriteHead,
+}
+
+/// A step of giving up a mutex that the caller holds once. Those before the exchange are for robust mutexes alone.
+#[derive(Clone, Copy, Debug, PartialEq, Eq, Hash)]
+pub enum GiveStep {
+    /// Name the mutex in the pending field.
+    SetPending,
+    /// Load the health word.
+    SeeHealth,
+    /// Store in the health word that the mutex is unusable.
+    StoreUnusable,
+    /// Take the mutex off the caller's list.
+    Unlink,
+    /// Compare-exchange the word from the caller's number to 0.
+    Release,
+    /// The kernel call unlock_pi.
+    CallUnlock,
+}
+
+/// Why a mutex is given up, which says what comes after.
+#[derive(Clone, Copy, Debug, PartialEq, Eq, Hash)]
+pub enum Purpose {
+    /// An unlock, which is answered 0.
+    ToUnlock,
+    /// A wait, which parks; the condition word was this.
+    ToPark(u32),
+    /// A lock, a trylock or a wait that has found the mutex unusable, and is answered ENOTRECOVERABLE. It has only the
+    /// steps from the exchange on.
+    ToLeave,
+}
+
+/// What a caller rests on that clears its pending field.
+#[derive(Clone, Copy, Debug, PartialEq, Eq, Hash)]
+pub enum Footing {
+    /// It has taken the mutex, which is on its list.
+    Linked,
+    /// It does not own the mutex.
+    Unowned,
+    /// It had stopped for good, and its deadline was reached; the field names nothing.
+    HadStopped,
+}
+
+/// A step of consistent, after the load of the word.
+#[derive(Clone, Copy, Debug, PartialEq, Eq, Hash)]
+pub enum RepairStep {
+    /// Load the health word.
+    CheckHealth,
+    /// Store in the health word that the mutex is fine, and answer 0.
+    StoreFine,
+}
+
+/// A step of signal and broadcast.
+#[derive(Clone, Copy, Debug, PartialEq, Eq, Hash)]
+pub enum WakeStep {
+    /// Load the condition word.
+    ReadUses,
+    /// Compare-exchange the condition word from what it was to one more.
+    CountUse(u32),
+    /// The kernel call cmp_requeue_pi, where the condition word is what this call wrote or read.
+    Requeue(u32),
+    /// Load the condition word, which another has changed since.
+    ReadAgain,
+}
+
+/// Where in its call a thread stands: the step that its next Go takes. It is named by what that step does; the open
+/// call's request says the rest. Steps on robust lists and on the pending field are for robust mutexes alone. A wait
+/// that was unblocked goes on with the steps of lock, from the exchange on.
 #[derive(Clone, Copy, Debug, PartialEq, Eq, Hash)]
 pub enum Place {
-    /// lock: load the word, and see whether the caller owns the mutex.
-    LockLoad,
-    /// lock: name the mutex in the pending field.
-    LockPending,
-    /// lock: compare-exchange the word from 0 to the caller's number.
-    LockExchange,
-    /// lock: the kernel call lock_pi.
-    LockKernel,
-    /// lock: the kernel has queued the caller; it goes on once it was made the owner.
-    LockQueued,
-    /// lock: stop for good.
-    LockStop,
-    /// lock: stopped for good.
-    LockStopped,
-    /// lock: clear the pending field, and answer EDEADLK.
-    LockClear,
-    /// lock: the kernel has taken the caller off the queue since its deadline was reached; clear the pending field, and
-    /// answer ETIMEDOUT.
-    QueueExpired,
-    /// lock: the kernel has made the caller ready, which had stopped for good, since its deadline was reached; clear the
-    /// pending field, which names nothing, and answer ETIMEDOUT.
-    StopExpired,
-    /// taking over: load the word, and see whether its last owner ended.
-    TakeLoad,
-    /// taking over: load the health word; true where the last owner was seen to have ended.
-    TakeHealth(bool),
-    /// taking over: store in the health word that the mutex is inconsistent.
-    TakeStore,
-    /// taking over: take OWNER_DIED out of the word.
-    TakeWord,
-    /// taking over: write the mutex's link to the head of the caller's list. The answer comes at the end.
-    LinkNext(Answer),
-    /// taking over: make the mutex the head of the list.
-    LinkHead(Answer),
-    /// taking over: clear the pending field, and answer.
-    LinkClear(Answer),
-    /// leaving an unusable mutex: compare-exchange the word from the caller's number to 0.
-    LeaveExchange,
-    /// leaving: the kernel call unlock_pi.
-    LeaveKernel,
-    /// leaving: clear the pending field, and answer ENOTRECOVERABLE.
-    LeaveClear,
-    /// trylock: load the word, and see whether the caller owns the mutex.
-    TryLoad,
-    /// trylock: name the mutex in the pending field.
-    TryPending,
-    /// trylock: compare-exchange the word from 0 to the caller's number.
-    TryExchange,
-    /// trylock: the kernel call trylock_pi.
-    TryKernel,
-    /// trylock: clear the pending field, and answer EBUSY.
-    TryClear,
-    /// unlock: load the word, and see whether the caller owns the mutex.
-    UnlockLoad,
-    /// unlock: name the mutex in the pending field.
-    UnlockPending,
-    /// unlock: load the health word.
-    UnlockHealth,
-    /// unlock: store in the health word that the mutex is unusable.
-    UnlockStore,
-    /// unlock: take the mutex off the caller's list.
-    UnlockUnlink,
-    /// unlock: compare-exchange the word from the caller's number to 0.
-    UnlockExchange,
-    /// unlock: the kernel call unlock_pi.
-    UnlockKernel,
-    /// unlock: clear the pending field, and answer 0.
-    UnlockClear,
-    /// consistent: load the word, and see whether the caller owns the mutex.
-    ConsistentLoad,
-    /// consistent: load the health word.
-    ConsistentHealth,
-    /// consistent: store in the health word that the mutex is fine, and answer 0.
-    ConsistentStore,
-    /// wait: load the mutex's word, and see whether the caller owns the mutex and holds it once.
-    WaitLoad,
+    /// Every call that names a mutex: load the word, and see whether the caller owns the mutex.
+    Load,
+    /// lock and trylock: name the mutex in the pending field.
+    NamePending,
+    /// lock, trylock and wait: compare-exchange the word from 0 to the caller's number.
+    Exchange,
+    /// lock and wait: the kernel call lock_pi; trylock: the kernel call trylock_pi.
+    CallKernel,
+    /// lock and wait: the kernel has queued the caller; it goes on once it was made the owner.
+    StayQueued,
+    /// lock and wait: stop for good.
+    Stop,
+    /// lock and wait: stopped for good.
+    StayStopped,
+    /// lock, trylock and wait: take the mutex over.
+    Take(TakeStep),
+    /// lock, trylock and wait: put the mutex on the caller's list. The answer comes at the end.
+    Link(LinkStep, Answer),
+    /// unlock and wait, and who leaves an unusable mutex: give the mutex up.
+    Give(GiveStep, Purpose),
+    /// Clear the pending field, and answer.
+    Clear(Footing, Answer),
     /// wait: load the condition word. What it was goes along from here on.
-    WaitUses,
-    /// wait: name the mutex in the pending field.
-    WaitPending(u32),
-    /// wait: load the health word.
-    WaitHealth(u32),
-    /// wait: store in the health word that the mutex is unusable.
-    WaitStore(u32),
-    /// wait: take the mutex off the caller's list.
-    WaitUnlink(u32),
-    /// wait: compare-exchange the word from the caller's number to 0.
-    WaitExchange(u32),
-    /// wait: the kernel call unlock_pi.
-    WaitKernel(u32),
+    LoadUses,
     /// wait: the kernel call wait_requeue_pi, which parks the caller where the condition word is what it was.
-    WaitPark(u32),
+    Park(u32),
     /// wait: the kernel has parked the caller. Once it was made the owner it takes the mutex over; once it was woken to
     /// lock the mutex again, this is the exchange of lock.
-    WaitParked,
-    /// signal and broadcast: load the condition word.
-    UseLoad,
-    /// signal and broadcast: compare-exchange the condition word from what it was to one more.
-    UseExchange(u32),
-    /// signal and broadcast: the kernel call cmp_requeue_pi, where the condition word is what this call wrote or read.
-    UseRequeue(u32),
-    /// signal and broadcast: load the condition word, which another has changed since.
-    UseReload,
+    StayParked,
+    /// consistent: see the mutex's health, and repair it.
+    Repair(RepairStep),
+    /// signal and broadcast: count a use of the variable, and requeue.
+    Wake(WakeStep),
     /// setprio: the kernel call set_prio.
     SetPriority,
+}
+
+/// What a lock by the owner of a mutex does.
+#[derive(Clone, Copy, Debug, PartialEq, Eq, Hash)]
+pub enum Relock {
+    /// The owner stops for good.
+    Stops,
+    /// The owner is answered EDEADLK, and by trylock EBUSY.
+    Answers,
+    /// The owner holds the mutex once more.
+    Counts,
 }
 
 /// A thread's line: no call is open, or the open call's request and the place in it.

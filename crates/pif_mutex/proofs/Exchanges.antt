@@ -3,12 +3,13 @@ use Rattle.std.proofs.Common.{◌≡◌, ℕ, ◌<◌, Bool, true, false, Some, 
 use Rattle.std.specs.Result.{is_ok}
 use Rattle.std.proofs.lemmas.List.{get_or-map, map-set}
 use Rattle.pif_types.specs.declared.requests.Request.{Request}
-use Rattle.pif_types.specs.declared.requests.Request.TheVariants.{Unlock}
-use Rattle.pif_model.specs.declared.lines.Place.{Place}
-use Rattle.pif_model.specs.declared.lines.Place.TheVariants.{TakeHealth, LeaveClear, LeaveKernel, UnlockKernel, UnlockClear}
+use Rattle.pif_model.specs.declared.lines.Place.TheVariants.{CallKernel, Take, Give}
+use Rattle.pif_model.specs.declared.lines.TakeStep.TheVariants.{LoadHealth}
+use Rattle.pif_model.specs.declared.lines.GiveStep.TheVariants.{CallUnlock}
+use Rattle.pif_model.specs.declared.lines.Purpose.{Purpose}
 use Rattle.pif_model.specs.Word.{Word, Words, free_word, held_by, is_bare, word_of, word_at, set_word, set_cond_word}
 use Rattle.pif_model.specs.Table.{Table, cell_at, with_word}
-use Rattle.pif_model.specs.Lines.{Outcome, goes_to, ends_by, after_exchange, own_exchange, leave_exchange, unlock_exchange}
+use Rattle.pif_model.specs.Lines.{Outcome, goes_to, ends_by, after_exchange, own_exchange, given_up, give_exchange}
 use Rattle.pif_word.specs.declared.cells.Cell.TheVariants.{Mutex, Cond}
 use Rattle.pif_word.specs.WordMap.{WordMap, words_of, bits_at, with_bits}
 use Rattle.pif_word.proofs.WordBits.{word_of-without_died}
@@ -79,49 +80,33 @@ exchanged_failed done failed m n x y s v b miss bare after =
     ∙ ap (λ (c : Bool). after_exchange (if c then Some x else None) m done failed s) (sym miss ∙ bare)
 
 -- lock and trylock, done
-pub own_exchange_done : (q : Request) (p : Place) (t m : ℕ) (x : Word) (s v : Table) (b : Bool) → x ≡ held_by t
+pub own_exchange_done : (q : Request) (t m : ℕ) (x : Word) (s v : Table) (b : Bool) → x ≡ held_by t
     → b ≡ true → b ≡ is_bare (cell_at s m).word 0
-    → v ≡ (if b then with_word m x s else s) → ends_by t q m (TakeHealth false) 0 v ≡ own_exchange q p t m s
+    → v ≡ (if b then with_word m x s else s) → ends_by t q m (Take (LoadHealth false)) 0 v ≡ own_exchange q t m s
 unfolding own_exchange
-own_exchange_done q p t m x s v b =
-    exchanged_done (ends_by t q m (TakeHealth false) 0) (goes_to t q p) m 0 (held_by t) x s v b
+own_exchange_done q t m x s v b =
+    exchanged_done (ends_by t q m (Take (LoadHealth false)) 0) (goes_to t q CallKernel) m 0 (held_by t) x s v b
 
 -- and failed
-pub own_exchange_failed : (q : Request) (p : Place) (t m : ℕ) (x : Word) (s v : Table) (b : Bool) → b ≡ false
+pub own_exchange_failed : (q : Request) (t m : ℕ) (x : Word) (s v : Table) (b : Bool) → b ≡ false
     → b ≡ is_bare (cell_at s m).word 0
-    → v ≡ (if b then with_word m x s else s) → goes_to t q p v ≡ own_exchange q p t m s
+    → v ≡ (if b then with_word m x s else s) → goes_to t q CallKernel v ≡ own_exchange q t m s
 unfolding own_exchange
-own_exchange_failed q p t m x s v b =
-    exchanged_failed (ends_by t q m (TakeHealth false) 0) (goes_to t q p) m 0 (held_by t) x s v b
+own_exchange_failed q t m x s v b =
+    exchanged_failed (ends_by t q m (Take (LoadHealth false)) 0) (goes_to t q CallKernel) m 0 (held_by t) x s v b
 
--- leaving, done
-pub leave_exchange_done : (q : Request) (t m : ℕ) (x : Word) (s v : Table) (b : Bool) → x ≡ free_word → b ≡ true
-    → b ≡ is_bare (cell_at s m).word t
-    → v ≡ (if b then with_word m x s else s) → goes_to t q LeaveClear v ≡ leave_exchange q t m s
-unfolding leave_exchange
-leave_exchange_done q t m x s v b =
-    exchanged_done (goes_to t q LeaveClear) (goes_to t q LeaveKernel) m t free_word x s v b
-
--- and failed
-pub leave_exchange_failed : (q : Request) (t m : ℕ) (x : Word) (s v : Table) (b : Bool) → b ≡ false
-    → b ≡ is_bare (cell_at s m).word t
-    → v ≡ (if b then with_word m x s else s) → goes_to t q LeaveKernel v ≡ leave_exchange q t m s
-unfolding leave_exchange
-leave_exchange_failed q t m x s v b =
-    exchanged_failed (goes_to t q LeaveClear) (goes_to t q LeaveKernel) m t free_word x s v b
-
--- unlock, done
-pub unlock_exchange_done : (t m : ℕ) (x : Word) (s v : Table) (b : Bool) → x ≡ free_word → b ≡ true
-    → b ≡ is_bare (cell_at s m).word t
-    → v ≡ (if b then with_word m x s else s) → ends_by t (Unlock m) m UnlockClear 0 v ≡ unlock_exchange t m s
-unfolding unlock_exchange
-unlock_exchange_done t m x s v b =
-    exchanged_done (ends_by t (Unlock m) m UnlockClear 0) (goes_to t (Unlock m) UnlockKernel) m t free_word x s v b
+-- giving up, done
+pub give_exchange_done : (q : Request) (y : Purpose) (t m : ℕ) (x : Word) (s v : Table) (b : Bool) → x ≡ free_word
+    → b ≡ true → b ≡ is_bare (cell_at s m).word t
+    → v ≡ (if b then with_word m x s else s) → given_up q y t m v ≡ give_exchange q y t m s
+unfolding give_exchange
+give_exchange_done q y t m x s v b =
+    exchanged_done (given_up q y t m) (goes_to t q (Give CallUnlock y)) m t free_word x s v b
 
 -- and failed
-pub unlock_exchange_failed : (t m : ℕ) (x : Word) (s v : Table) (b : Bool) → b ≡ false
+pub give_exchange_failed : (q : Request) (y : Purpose) (t m : ℕ) (x : Word) (s v : Table) (b : Bool) → b ≡ false
     → b ≡ is_bare (cell_at s m).word t
-    → v ≡ (if b then with_word m x s else s) → goes_to t (Unlock m) UnlockKernel v ≡ unlock_exchange t m s
-unfolding unlock_exchange
-unlock_exchange_failed t m x s v b =
-    exchanged_failed (ends_by t (Unlock m) m UnlockClear 0) (goes_to t (Unlock m) UnlockKernel) m t free_word x s v b
+    → v ≡ (if b then with_word m x s else s) → goes_to t q (Give CallUnlock y) v ≡ give_exchange q y t m s
+unfolding give_exchange
+give_exchange_failed q y t m x s v b =
+    exchanged_failed (given_up q y t m) (goes_to t q (Give CallUnlock y)) m t free_word x s v b

@@ -8,34 +8,27 @@ use Rattle.pif_model.specs.declared.events.Seen.TheVariants.{Answered}
 use Rattle.pif_model.specs.declared.lines.Line.TheVariants.{At}
 use Rattle.pif_model.specs.declared.lines.Status.{Status}
 use Rattle.pif_model.specs.declared.lines.Place.{Place}
-use Rattle.pif_model.specs.declared.lines.Place.TheVariants.{LockQueued, LockStopped, WaitLoad, WaitUses, WaitPending, WaitHealth, WaitStore, WaitUnlink, WaitExchange, WaitKernel, WaitPark, WaitParked}
+use Rattle.pif_model.specs.declared.lines.Place.TheVariants.{Load, StayQueued, StayStopped, LoadUses, Park, StayParked}
 use Rattle.pif_model.specs.Deadlines.{is_reached, told, told_seen}
 use Rattle.pif_model.specs.Table.{Table, status_at, timer_at}
 use Rattle.pif_model.specs.Lines.{locking_line, line_of, counts_at, is_line_due, expires_at, told_outcome, go_outcome}
-use Rattle.pif_model.specs.Soundness.{is_locking}
-use Rattle.pif_mutex.specs.Steppable.{is_of_mutexes, waits_at}
+use Rattle.pif_mutex.specs.Steppable.{is_on_mutex, is_of_mutexes, waits_at}
 
--- from the exchange on its line is that of lock
-pub wait_locks : (c m : ℕ) (p : Place) (t : ℕ) (s : Table) → is_locking p ≡ true
+-- at a place where it takes a step on its mutex its line is that of who may queue
+pub wait_locks : (c m : ℕ) (p : Place) (t : ℕ) (s : Table) → is_on_mutex p ≡ true
     → locking_line (Wait c m) p t m s ≡ line_of (Wait c m) p t s
 unfolding line_of
-wait_locks c m WaitLoad t s h = absurd (true≢false (sym h))
-wait_locks c m WaitUses t s h = absurd (true≢false (sym h))
-wait_locks c m (WaitPending v) t s h = absurd (true≢false (sym h))
-wait_locks c m (WaitHealth v) t s h = absurd (true≢false (sym h))
-wait_locks c m (WaitStore v) t s h = absurd (true≢false (sym h))
-wait_locks c m (WaitUnlink v) t s h = absurd (true≢false (sym h))
-wait_locks c m (WaitExchange v) t s h = absurd (true≢false (sym h))
-wait_locks c m (WaitKernel v) t s h = absurd (true≢false (sym h))
-wait_locks c m (WaitPark v) t s h = absurd (true≢false (sym h))
-wait_locks c m WaitParked t s h = absurd (true≢false (sym h))
+wait_locks c m Load t s h = absurd (true≢false (sym h))
+wait_locks c m LoadUses t s h = absurd (true≢false (sym h))
+wait_locks c m (Park v) t s h = absurd (true≢false (sym h))
+wait_locks c m StayParked t s h = absurd (true≢false (sym h))
 wait_locks c m p t s h = refl
 
 -- of the calls whose next step is one on mutexes only a lock has a deadline that counts
 pub due_locks : (q : Request) (p : Place) (x : Status) → is_of_mutexes (At q p) ≡ true → counts_at q p x ≡ true
     → (m : ℕ) × (q ≡ Lock m)
 due_locks (Lock m) p x o e = (m, refl)
-due_locks (Wait c m) WaitParked x o e = absurd (true≢false (sym o))
+due_locks (Wait c m) StayParked x o e = absurd (true≢false (sym o))
 due_locks _ p x o e = absurd (true≢false (sym e))
 
 -- a result that is told as it is
@@ -66,8 +59,8 @@ pub lock_goes : (m : ℕ) (p : Place) (t : ℕ) (s : Table) → waits_at p ≡ f
 lock_goes m p t s h = goes_by_line (Lock m) p t s (counts m p (status_at s t) h) (λ expired a. refl)
   where
     counts : (m : ℕ) (p : Place) (x : Status) → waits_at p ≡ false → counts_at (Lock m) p x ≡ false
-    counts m LockQueued x h = absurd (true≢false h)
-    counts m LockStopped x h = absurd (true≢false h)
+    counts m StayQueued x h = absurd (true≢false h)
+    counts m StayStopped x h = absurd (true≢false h)
     counts m p x h = refl
 
 -- and that of an unlock

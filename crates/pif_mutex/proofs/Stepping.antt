@@ -6,7 +6,10 @@ use Rattle.pif_types.specs.declared.requests.Request.TheVariants.{Lock, TryLock,
 use Rattle.pif_model.specs.declared.lines.Line.{Line}
 use Rattle.pif_model.specs.declared.lines.Line.TheVariants.{Idle, At}
 use Rattle.pif_model.specs.declared.lines.Place.{Place}
-use Rattle.pif_model.specs.declared.lines.Place.TheVariants.{LockQueued, LockStopped, LinkNext, LinkHead, UnlockUnlink, WaitUnlink, WaitParked}
+use Rattle.pif_model.specs.declared.lines.Place.TheVariants.{StayQueued, StayStopped, Link, Give, StayParked}
+use Rattle.pif_model.specs.declared.lines.LinkStep.TheVariants.{WriteNext, WriteHead}
+use Rattle.pif_model.specs.declared.lines.GiveStep.TheVariants.{Unlink}
+use Rattle.pif_model.specs.declared.lines.Purpose.TheVariants.{ToUnlock, ToPark, ToLeave}
 use Rattle.pif_model.specs.declared.lines.Status.{Status}
 use Rattle.pif_model.specs.declared.lines.Status.TheVariants.{Parked, Stopped}
 use Rattle.pif_model.specs.PiKernel.{is_ready, is_parked, is_living}
@@ -18,6 +21,7 @@ use Rattle.pif_model.specs.Word.{word_at}
 use Rattle.pif_model.specs.Soundness.{Use, MeetsAll, needs, CallIsSound, LineIsSound, ListIsSound, ThreadIsSound, IsSound, use_at, is_half_linked, is_unlinked, mutex_by, robust_by, holds_robust}
 use Rattle.pif_chains.proofs.Numbers.{above_0}
 use Rattle.pif_chains.proofs.Waiting.{by_test}
+use Rattle.pif_simulation.proofs.Facts.{call_own, call_robust, call_stopped}
 use Rattle.pif_simulation.proofs.Hole.{each_thread, each_absent}
 use Rattle.pif_simulation.proofs.Kept.{second}
 use Rattle.pif_mutex.specs.Steppable.{waits_at, is_link_next, is_unlink, CallMayStep}
@@ -25,21 +29,21 @@ use Rattle.pif_mutex.specs.Steppable.{waits_at, is_link_next, is_unlink, CallMay
 -- at each place where its thread doesn't wait, a call rests on that the thread may run
 rests_on_ready : (living : ℕ → Bool) (t : ℕ) (x : Status) (c : Cell) (z : Use) (p : Place)
     → MeetsAll living t x c z (needs p) → waits_at p ≡ false → is_ready x ≡ true
-rests_on_ready living t x c z LockQueued h e = absurd (true≢false e)
-rests_on_ready living t x c z LockStopped h e = absurd (true≢false e)
-rests_on_ready living t x c z WaitParked h e = absurd (true≢false e)
+rests_on_ready living t x c z StayQueued h e = absurd (true≢false e)
+rests_on_ready living t x c z StayStopped h e = absurd (true≢false e)
+rests_on_ready living t x c z StayParked h e = absurd (true≢false e)
 rests_on_ready living t x c z _ h e = h.0
 
 -- a thread whose deadline counts may not run: it is queued, or parked, or has stopped
-counts_at_rest : (q : Request) (p : Place) (x : Status) → (p ≡ LockStopped → x ≡ Stopped) → counts_at q p x ≡ true
+counts_at_rest : (q : Request) (p : Place) (x : Status) → (p ≡ StayStopped → x ≡ Stopped) → counts_at q p x ≡ true
     → is_ready x ≡ false
-counts_at_rest (Lock m) LockQueued x h e = by_ready (is_ready x) e
+counts_at_rest (Lock m) StayQueued x h e = by_ready (is_ready x) e
   where
     by_ready : (b : Bool) → (if b then false else true) ≡ true → b ≡ false
     by_ready true e = sym e
     by_ready false e = refl
-counts_at_rest (Lock m) LockStopped x h e = ap is_ready (h refl)
-counts_at_rest (Wait c m) WaitParked x h e = by_status x e
+counts_at_rest (Lock m) StayStopped x h e = ap is_ready (h refl)
+counts_at_rest (Wait c m) StayParked x h e = by_status x e
   where
     by_status : (x : Status) → is_parked x ≡ true → is_ready x ≡ false
     by_status (Parked c) e = refl
@@ -100,7 +104,7 @@ half_linked_owned s u m l some h e = by_robust (library_at s (mutex_by is_half_l
   where
     by_line : (l : Line) → LineIsSound s u l → mutex_by is_half_linked l ≡ m → (word_at s.words m).number ≡ u
     by_line Idle h e = absurd (some (sym e))
-    by_line (At q (LinkHead a)) h e = ap (λ n. (word_at s.words n).number) (sym e) ∙ h.needs.1.0
+    by_line (At q (Link WriteHead a)) h e = ap (λ n. (word_at s.words n).number) (sym e) ∙ call_own h
     by_line (At q _) h e = absurd (some (sym e))
 
     by_robust : (b : Bool) → (library_at s (mutex_by is_half_linked l)).robust ≡ b → (word_at s.words m).number ≡ u
@@ -138,7 +142,7 @@ pub may_step : (s : Table) (t : ℕ) (q : Request) (p : Place) → IsSound s →
 may_step s t q p h k e = record {
   named = call.named;
   ready = rests_on_ready (is_living s.kernel) t (status_at s t) (cell_at s (named_by q)) (use_at s q) p call.needs;
-  unready = counts_at_rest q p (status_at s t) (λ is. (subst (CallIsSound s t q) is call).needs.0);
+  unready = counts_at_rest q p (status_at s t) (λ is. call_stopped (subst (CallIsSound s t q) is call));
   unlisted = unlisted p e call;
   half = half p call;
   linked = linked p call list;
@@ -156,17 +160,17 @@ may_step s t q p h k e = record {
 
     unlisted : (p : Place) → line_at s t ≡ At q p → CallIsSound s t q p → is_link_next p ≡ true
         → IsUnlisted s.lists (named_by q)
-    unlisted (LinkNext a) e c i = unlisted_at h t q (LinkNext a) e refl c.needs.1.0
+    unlisted (Link WriteNext a) e c i = unlisted_at h t q (Link WriteNext a) e refl (call_own c)
     unlisted _ e c i = absurd (true≢false (sym i))
 
     half : (p : Place) → CallIsSound s t q p → is_link_next p ≡ true → IsHalfLinkedByNoOther s.lists t (named_by q)
-    half (LinkNext a) c i = half_linked_by h t (named_by q)
-        (above_0 (named_by q) (length s.mutexes) (robust_added s q h c.named c.needs.1.1.1.0)) c.needs.1.0
+    half (Link WriteNext a) c i = half_linked_by h t (named_by q)
+        (above_0 (named_by q) (length s.mutexes) (robust_added s q h c.named (call_robust c))) (call_own c)
     half _ c i = absurd (true≢false (sym i))
 
     linked : (p : Place) → CallIsSound s t q p → ListIsSound s t (At q p) → is_half_linked p ≡ true
         → (robust_at s.lists t).half_linked ≡ named_by q
-    linked (LinkHead a) c l i = l.half_linked ∙ ap (λ b. if b then named_by q else 0) c.needs.1.1.1.0
+    linked (Link WriteHead a) c l i = l.half_linked ∙ ap (λ b. if b then named_by q else 0) (call_robust c)
     linked _ c l i = absurd (true≢false (sym i))
 
     on_list : (word_at s.words (named_by q)).number ≡ t → (cell_at s (named_by q)).robust ≡ true
@@ -184,6 +188,7 @@ may_step s t q p h k e = record {
 
     listed : (p : Place) → CallIsSound s t q p → line_at s t ≡ At q p → is_unlink p ≡ true
         → is_listed s.lists t (named_by q) ≡ true
-    listed UnlockUnlink c e i = on_list c.needs.1.0 c.needs.1.1.1.0 (ap (mutex_by is_unlinked) e)
-    listed (WaitUnlink v) c e i = on_list c.needs.1.0 c.needs.1.1.1.0 (ap (mutex_by is_unlinked) e)
+    listed (Give Unlink ToUnlock) c e i = on_list (call_own c) (call_robust c) (ap (mutex_by is_unlinked) e)
+    listed (Give Unlink (ToPark v)) c e i = on_list (call_own c) (call_robust c) (ap (mutex_by is_unlinked) e)
+    listed (Give Unlink ToLeave) c e i = on_list (call_own c) (call_robust c) (ap (mutex_by is_unlinked) e)
     listed _ c e i = absurd (true≢false (sym i))

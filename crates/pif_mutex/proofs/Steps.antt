@@ -6,17 +6,30 @@ use Rattle.pif_types.specs.declared.requests.Request.{Request}
 use Rattle.pif_types.specs.declared.requests.Request.TheVariants.{Lock, TryLock, Unlock, Consistent, Wait, Signal, Broadcast, SetPrio}
 use Rattle.pif_model.specs.declared.lines.Line.TheVariants.{At}
 use Rattle.pif_model.specs.declared.lines.Place.{Place}
-use Rattle.pif_model.specs.declared.lines.Place.TheVariants.{LockLoad, LockPending, LockExchange, LockKernel, LockQueued, LockStop, LockStopped, LockClear, QueueExpired, StopExpired, TakeLoad, TakeHealth, TakeStore, TakeWord, LinkNext, LinkHead, LinkClear, LeaveExchange, LeaveKernel, LeaveClear, TryLoad, TryPending, TryExchange, TryKernel, TryClear, UnlockLoad, UnlockPending, UnlockHealth, UnlockStore, UnlockUnlink, UnlockExchange, UnlockKernel, UnlockClear, ConsistentLoad, ConsistentHealth, ConsistentStore, WaitLoad, WaitUses, WaitPending, WaitHealth, WaitStore, WaitUnlink, WaitExchange, WaitKernel, WaitPark, WaitParked, UseLoad, UseExchange, UseRequeue, UseReload, SetPriority}
+use Rattle.pif_model.specs.declared.lines.Place.TheVariants.{Load, NamePending, Exchange, CallKernel, StayQueued, Stop, StayStopped, Take, Link, Give, Clear, LoadUses, Park, StayParked, Repair, Wake, SetPriority}
+use Rattle.pif_model.specs.declared.lines.TakeStep.{TakeStep}
+use Rattle.pif_model.specs.declared.lines.TakeStep.TheVariants.{LoadWord, LoadHealth, StoreInconsistent, ClearDied}
+use Rattle.pif_model.specs.declared.lines.LinkStep.{LinkStep}
+use Rattle.pif_model.specs.declared.lines.LinkStep.TheVariants.{WriteNext, WriteHead}
+use Rattle.pif_model.specs.declared.lines.GiveStep.{GiveStep}
+use Rattle.pif_model.specs.declared.lines.GiveStep.TheVariants.{SetPending, SeeHealth, StoreUnusable, Unlink, Release, CallUnlock}
+use Rattle.pif_model.specs.declared.lines.Purpose.{Purpose}
+use Rattle.pif_model.specs.declared.lines.Purpose.TheVariants.{ToUnlock, ToPark, ToLeave}
+use Rattle.pif_model.specs.declared.lines.Footing.TheVariants.{Unowned}
+use Rattle.pif_model.specs.declared.lines.RepairStep.TheVariants.{CheckHealth, StoreFine}
+use Rattle.pif_model.specs.declared.lines.WakeStep.{WakeStep}
+use Rattle.pif_model.specs.declared.lines.WakeStep.TheVariants.{ReadUses, CountUse, Requeue, ReadAgain}
 use Rattle.pif_model.specs.declared.lines.Took.{Took}
 use Rattle.pif_model.specs.declared.lines.Took.TheVariants.{Owns as TookOwns, Queued as TookQueued}
 use Rattle.pif_model.specs.Word.{free_word, held_by, word_at, set_word}
 use Rattle.pif_model.specs.PiKernel.{is_living, lock_answer, words_after_lock, kernel_after_lock, try_lock_answer, words_after_try_lock, unlock_answer, words_after_unlock, kernel_after_unlock, set_prio_answer, kernel_after_set_prio, wait_requeue_answer, kernel_after_wait_requeue, requeue_answer, after_requeue}
 use Rattle.pif_model.specs.Posix.{named_by}
 use Rattle.pif_model.specs.Table.{Table, has_mutex, has_cond, bound_to, uses_of, line_at, timer_at, library_at, cell_at, with_word, with_kernel}
-use Rattle.pif_model.specs.Lines.{Outcome, goes_to, ends_by, answers, own_exchange, relocks, lock_load, lock_by, lock_kernel, lock_queued, lock_stop, take_load, take_health, take_store, take_word_back, link_next, link_head, clears, leave_exchange, given_up_by, gives_up, try_load, try_by, try_kernel, unlock_load, unlock_health, unlock_exchange, consistent_load, consistent_health, set_priority, wait_load, wait_uses, wait_health, wait_exchange, wait_by, wait_park, wait_parked, more_in, use_read, use_exchange, use_by, use_requeue, shared_line, locking_line, use_line, line_of, is_line_due, expired_place, expired_in, expires_at, told_outcome, go_outcome}
+use Rattle.pif_model.specs.Lines.{Outcome, goes_to, ends_by, answers, own_exchange, relocks, lock_load, lock_by, lock_kernel, lock_queued, lock_stop, take_load, take_health, take_line, link_line, clears, given_up, give_exchange, given_up_by, gives_up, give_line, try_load, try_by, try_kernel, unlock_load, consistent_load, consistent_health, repair_line, set_priority, wait_load, wait_uses, wait_by, wait_park, wait_parked, more_in, use_read, use_exchange, use_by, use_requeue, giving_line, shared_line, locking_line, use_line, line_of, is_line_due, expired_place, expired_in, expires_at, told_outcome, go_outcome}
 use Rattle.pif_model.specs.Soundness.{CallIsSound, LineIsSound, IsSound}
-use Rattle.pif_chains.proofs.LineCases.{ends_by_cases, locked_again_cases, own_exchange_cases, lock_load_cases, lock_queued_cases, take_health_cases, leave_exchange_cases, try_load_cases, unlock_load_cases, unlock_health_cases, unlock_exchange_cases, consistent_load_cases, consistent_health_cases, wait_load_cases, wait_uses_cases, wait_health_cases, wait_exchange_cases, wait_parked_cases, use_read_cases, use_exchange_cases, answered_by_cases}
+use Rattle.pif_chains.proofs.LineCases.{ends_by_cases, locked_again_cases, own_exchange_cases, lock_load_cases, lock_queued_cases, take_health_cases, give_health_cases, give_exchange_cases, try_load_cases, unlock_load_cases, consistent_load_cases, consistent_health_cases, wait_load_cases, wait_uses_cases, wait_parked_cases, use_read_cases, use_exchange_cases, answered_by_cases}
 use Rattle.pif_chains.proofs.Waiting.{by_test}
+use Rattle.pif_simulation.proofs.Facts.{call_once, call_own}
 use Rattle.pif_simulation.proofs.Hole.{each_thread}
 use Rattle.pif_simulation.proofs.Kept.{second}
 use Rattle.pif_mutex.proofs.Counts.{GoesOnce, words_go, word_goes, lock_owns_free, try_takes_free, lock_goes, try_goes, unlock_goes, requeue_goes}
@@ -32,17 +45,17 @@ ends_has q p a t m v = ends_by_cases (Has v) q p a t m v (λ r. (refl, refl)) (�
 -- after the answer of lock_pi
 lock_has : (r : Result Took Errno) (q : Request) (t m : ℕ) (v : Table) → Has v (lock_by r q t m v)
 unfolding lock_by
-lock_has (Ok TookOwns) q t m v = ends_has q TakeLoad 0 t m v
+lock_has (Ok TookOwns) q t m v = ends_has q (Take LoadWord) 0 t m v
 lock_has (Ok TookQueued) q t m v = (refl, refl)
-lock_has (Err Deadlock) q t m v = ends_has q LockClear 35 t m v
+lock_has (Err Deadlock) q t m v = ends_has q (Clear Unowned 35) 35 t m v
 lock_has (Err NoSuchThread) q t m v = (refl, refl)
 lock_has (Err _) q t m v = (refl, refl)
 
 -- after that of trylock_pi
 try_has : (r : Result (record {}) Errno) (t m : ℕ) (v : Table) → Has v (try_by r t m v)
 unfolding try_by
-try_has (Ok x) t m v = ends_has (TryLock m) TakeLoad 0 t m v
-try_has (Err Again) t m v = ends_has (TryLock m) TryClear 16 t m v
+try_has (Ok x) t m v = ends_has (TryLock m) (Take LoadWord) 0 t m v
+try_has (Err Again) t m v = ends_has (TryLock m) (Clear Unowned 16) 16 t m v
 try_has (Err _) t m v = (refl, refl)
 
 -- after that of unlock_pi
@@ -51,6 +64,12 @@ give_has : (r : Result (record {}) Errno) (t : ℕ) (done : Table → Outcome) (
 unfolding given_up_by
 give_has (Ok x) t done v h = h
 give_has (Err e) t done v h = (refl, refl)
+
+-- after a mutex was given up
+given_has : (q : Request) (y : Purpose) (t m : ℕ) (v : Table) → Has v (given_up q y t m v)
+given_has q ToUnlock t m v = ends_has q (Clear Unowned 0) 0 t m v
+given_has q (ToPark u) t m v = (refl, refl)
+given_has q ToLeave t m v = (refl, refl)
 
 -- after that of wait_requeue_pi
 park_has : (r : Result (record {}) Errno) (c m t : ℕ) (v : Table) → Has v (wait_by r c m t v)
@@ -80,9 +99,9 @@ module _ (s : Table) (t m : ℕ) (h : IsSound s) (known : has_mutex s m ≡ true
       locked_again_cases (λ o. GoesOnce s o.after) t m s (λ few k. inl refl) (λ full k. inl refl)
 
   -- compare-exchange from 0
-  own_exchange_once : (q : Request) (p : Place) → GoesOnce s (own_exchange q p t m s).after
-  own_exchange_once q p = own_exchange_cases (λ o. GoesOnce s o.after) q p t m s
-      (λ died free robust. taken (goes_to t q (TakeHealth false) (with_word m (held_by t) s)).after free refl refl)
+  own_exchange_once : (q : Request) → GoesOnce s (own_exchange q t m s).after
+  own_exchange_once q = own_exchange_cases (λ o. GoesOnce s o.after) q t m s
+      (λ died free robust. taken (goes_to t q (Take (LoadHealth false)) (with_word m (held_by t) s)).after free refl refl)
       (λ died free stalled. taken (answers t 0 (with_word m (held_by t) s)).after free refl refl) (λ k. inl refl)
     where
       taken : (v : Table) → (word_at s.words m).number ≡ 0 → v.words ≡ set_word s.words m (held_by t)
@@ -128,16 +147,10 @@ module _ (s : Table) (t m : ℕ) (once : (library_at s m).count ≡ 1) where
   given_once : (v : Table) → v.words ≡ set_word s.words m free_word → v.mutexes ≡ s.mutexes → GoesOnce s v
   given_once v e f = words_go s v (set_word s.words m free_word) (word_goes m s free_word (inr once)) e f
 
-  -- leaving
-  leave_exchange_once : (q : Request) → GoesOnce s (leave_exchange q t m s).after
-  leave_exchange_once q = leave_exchange_cases (λ o. GoesOnce s o.after) q t m s
-      (λ flag died own. given_once (goes_to t q LeaveClear (with_word m free_word s)).after refl refl) (λ k. inl refl)
-
-  -- unlock
-  unlock_exchange_once : GoesOnce s (unlock_exchange t m s).after
-  unlock_exchange_once = unlock_exchange_cases (λ o. GoesOnce s o.after) t m s
-      (λ flag own robust. given_once (goes_to t (Unlock m) UnlockClear (with_word m free_word s)).after refl refl)
-      (λ flag own stalled. given_once (answers t 0 (with_word m free_word s)).after refl refl) (λ k. inl refl)
+  give_exchange_once : (q : Request) (y : Purpose) → GoesOnce s (give_exchange q y t m s).after
+  give_exchange_once q y = give_exchange_cases (λ o. GoesOnce s o.after) q y t m s
+      (λ flag. let has = given_has q y t m (with_word m free_word s) in
+      given_once (given_up q y t m (with_word m free_word s)).after has.0 has.1) (λ k. inl refl)
 
   -- the kernel call unlock_pi
   gives_up_once : (done : Table → Outcome) → ((v : Table) → Has v (done v)) → GoesOnce s (gives_up t m done s).after
@@ -149,11 +162,16 @@ module _ (s : Table) (t m : ℕ) (once : (library_at s m).count ≡ 1) where
       let has = give_has r t done v (h v) in
       words_go s (given_up_by r t done v).after ws (unlock_goes m r s once) has.0 has.1
 
-  -- wait
-  wait_exchange_once : (v c : ℕ) → GoesOnce s (wait_exchange v c m t s).after
-  wait_exchange_once v c = wait_exchange_cases (λ o. GoesOnce s o.after) v c m t s
-      (λ flag died own. given_once (goes_to t (Wait c m) (WaitPark v) (with_word m free_word s)).after refl refl)
-      (λ k. inl refl)
+  -- each step of giving it up
+  give_once : (q : Request) (x : GiveStep) (y : Purpose) → GoesOnce s (give_line q x y t m s).after
+  unfolding give_line
+  give_once q SetPending y = λ k. inl refl
+  give_once q SeeHealth y =
+      give_health_cases (λ o. GoesOnce s o.after) q y t m s (λ disorder k. inl refl) (λ order k. inl refl)
+  give_once q StoreUnusable y = λ k. inl refl
+  give_once q Unlink y = λ k. inl refl
+  give_once q Release y = give_exchange_once q y
+  give_once q CallUnlock y = gives_up_once (given_up q y t m) (given_has q y t m)
 
 -- OTHER LINES, WHICH CHANGE NO OWNER
 
@@ -169,20 +187,31 @@ module _ (s : Table) (t m : ℕ) where
       (λ usable died k. inl refl) (λ usable lives k. inl refl)
 
   -- taking over: OWNER_DIED is taken off the word
-  take_word_once : (q : Request) → GoesOnce s (take_word_back q t m s).after
-  unfolding take_word_back
+  take_word_once : (q : Request) → GoesOnce s (take_line q ClearDied t m s).after
+  unfolding take_line
   take_word_once q =
       let x = record (cell_at s m).word { died = false } in
-      words_go s (goes_to t q (LinkNext 130) (with_word m x s)).after (set_word s.words m x)
+      words_go s (goes_to t q (Link WriteNext 130) (with_word m x s)).after (set_word s.words m x)
       (word_goes m s x (inl refl)) refl refl
 
-  -- unlock: load the word, and the health word
+  -- each step of taking over
+  take_once : (q : Request) (x : TakeStep) → GoesOnce s (take_line q x t m s).after
+  unfolding take_line take_load
+  take_once q LoadWord = λ k. inl refl
+  take_once q (LoadHealth d) = take_health_once q d
+  take_once q StoreInconsistent = λ k. inl refl
+  take_once q ClearDied = take_word_once q
+
+  -- and of putting the mutex on the list
+  link_once : (q : Request) (x : LinkStep) (a : ℕ) → GoesOnce s (link_line q x a t m s).after
+  unfolding link_line
+  link_once q WriteNext a = λ k. inl refl
+  link_once q WriteHead a = λ k. inl refl
+
+  -- unlock: load the word
   unlock_load_once : GoesOnce s (unlock_load t m s).after
   unlock_load_once = unlock_load_cases (λ o. GoesOnce s o.after) t m s (λ own more k. inl refl)
       (λ own few robust k. inl refl) (λ own few stalled k. inl refl) (λ other k. inl refl)
-
-  unlock_health_once : GoesOnce s (unlock_health t m s).after
-  unlock_health_once = unlock_health_cases (λ o. GoesOnce s o.after) t m s (λ disorder k. inl refl) (λ order k. inl refl)
 
   -- consistent: load the word, and the health word
   consistent_load_once : GoesOnce s (consistent_load t m s).after
@@ -204,7 +233,7 @@ module _ (s : Table) (t m : ℕ) where
 -- WAIT, SIGNAL AND BROADCAST
 
 module _ (s : Table) (t c : ℕ) where
-  -- wait: load the word, the condition word, and the health word
+  -- wait: load the word, and the condition word
   wait_load_once : (m : ℕ) → GoesOnce s (wait_load c m t s).after
   wait_load_once m = wait_load_cases (λ o. GoesOnce s o.after) c m t s (λ bound own more k. inl refl)
       (λ bound own once k. inl refl) (λ bound other k. inl refl) (λ apart k. inl refl)
@@ -212,10 +241,6 @@ module _ (s : Table) (t c : ℕ) where
   wait_uses_once : (m : ℕ) → GoesOnce s (wait_uses c m t s).after
   wait_uses_once m =
       wait_uses_cases (λ o. GoesOnce s o.after) c m t s (λ robust k. inl refl) (λ stalled k. inl refl)
-
-  wait_health_once : (v m : ℕ) → GoesOnce s (wait_health v c m t s).after
-  wait_health_once v m =
-      wait_health_cases (λ o. GoesOnce s o.after) v c m t s (λ disorder k. inl refl) (λ order k. inl refl)
 
   -- wait: the kernel call wait_requeue_pi
   wait_park_once : (v m : ℕ) → GoesOnce s (wait_park v c m t s).after
@@ -249,94 +274,72 @@ use_requeue_once s t c q v h known =
 
 -- ANY LINE
 
--- a step of taking over or leaving
-shared_once : (s : Table) (t : ℕ) (q : Request) (p : Place) → CallIsSound s t q p
-    → GoesOnce s (shared_line q p t (named_by q) s).after
-unfolding shared_line take_load take_store link_next link_head clears
-shared_once s t q TakeLoad c = λ k. inl refl
-shared_once s t q (TakeHealth d) c = take_health_once s t (named_by q) q d
-shared_once s t q TakeStore c = λ k. inl refl
-shared_once s t q TakeWord c = take_word_once s t (named_by q) q
-shared_once s t q (LinkNext a) c = λ k. inl refl
-shared_once s t q (LinkHead a) c = λ k. inl refl
-shared_once s t q (LinkClear a) c = λ k. inl refl
-shared_once s t q LeaveExchange c = leave_exchange_once s t (named_by q) (c.needs.1.1.0 c.needs.1.0) q
-shared_once s t q LeaveKernel c =
-    gives_up_once s t (named_by q) (c.needs.1.1.0 c.needs.1.0) (goes_to t q LeaveClear) (λ v. (refl, refl))
-shared_once s t q LeaveClear c = λ k. inl refl
-shared_once s t q _ c = λ k. inl refl
+-- a step of giving a mutex up, or of clearing the pending field
+giving_once : (s : Table) (t : ℕ) (q : Request) (p : Place) → CallIsSound s t q p
+    → GoesOnce s (giving_line q p t (named_by q) s).after
+unfolding giving_line clears
+giving_once s t q (Give x y) c = give_once s t (named_by q) (call_once c (call_own c)) q x y
+giving_once s t q (Clear f a) c = λ k. inl refl
+giving_once s t q _ c = λ k. inl refl
+
+-- a step that all calls share which lock a mutex that was added
+shared_once : (s : Table) (t : ℕ) (q : Request) (p : Place) → IsSound s → has_mutex s (named_by q) ≡ true
+    → CallIsSound s t q p → GoesOnce s (shared_line q p t (named_by q) s).after
+unfolding shared_line
+shared_once s t q Exchange h k c = own_exchange_once s t (named_by q) h k q
+shared_once s t q (Take x) h k c = take_once s t (named_by q) q x
+shared_once s t q (Link x a) h k c = link_once s t (named_by q) q x a
+shared_once s t q p h k c = giving_once s t q p c
 
 -- a step of a call that locks a mutex that was added, from the exchange on
 locking_once : (s : Table) (t : ℕ) (q : Request) (p : Place) → IsSound s → has_mutex s (named_by q) ≡ true
     → CallIsSound s t q p → GoesOnce s (locking_line q p t (named_by q) s).after
-unfolding locking_line lock_stop clears
-locking_once s t q LockExchange h k c = own_exchange_once s t (named_by q) h k q LockKernel
-locking_once s t q LockKernel h k c = lock_kernel_once s t (named_by q) h k q
-locking_once s t q LockQueued h k c = lock_queued_once s t (named_by q) q
-locking_once s t q LockStop h k c = λ i. inl refl
-locking_once s t q LockStopped h k c = λ i. inl refl
-locking_once s t q LockClear h k c = λ i. inl refl
-locking_once s t q p h k c = shared_once s t q p c
+unfolding locking_line lock_stop
+locking_once s t q CallKernel h k c = lock_kernel_once s t (named_by q) h k q
+locking_once s t q StayQueued h k c = lock_queued_once s t (named_by q) q
+locking_once s t q Stop h k c = λ i. inl refl
+locking_once s t q StayStopped h k c = λ i. inl refl
+locking_once s t q p h k c = shared_once s t q p h k c
 
 -- a step of a wait that is parked, or was
 parked_once : (s : Table) (t c m : ℕ) → IsSound s → has_mutex s m ≡ true → GoesOnce s (wait_parked c m t s).after
 parked_once s t c m h k = wait_parked_cases (λ o. GoesOnce s o.after) c m t s
-    (λ again. own_exchange_once s t m h k (Wait c m) LockKernel) (λ rests. lock_queued_once s t m (Wait c m))
+    (λ again. own_exchange_once s t m h k (Wait c m)) (λ rests. lock_queued_once s t m (Wait c m))
 
 -- a step of a signal or a broadcast of a variable that was added
-use_once : (s : Table) (t c : ℕ) (q : Request) (p : Place) → IsSound s → has_cond s c ≡ true
-    → GoesOnce s (use_line q p c t s).after
+use_once : (s : Table) (t c : ℕ) (q : Request) (x : WakeStep) → IsSound s → has_cond s c ≡ true
+    → GoesOnce s (use_line q x c t s).after
 unfolding use_line
-use_once s t c q UseLoad h k = use_read_once s t c q (uses_of s c)
-use_once s t c q (UseExchange v) h k = use_exchange_once s t c q v
-use_once s t c q (UseRequeue v) h k = use_requeue_once s t c q v h k
-use_once s t c q UseReload h k = λ i. inl refl
-use_once s t c q _ h k = λ i. inl refl
+use_once s t c q ReadUses h k = use_read_once s t c q (uses_of s c)
+use_once s t c q (CountUse v) h k = use_exchange_once s t c q v
+use_once s t c q (Requeue v) h k = use_requeue_once s t c q v h k
+use_once s t c q ReadAgain h k = λ i. inl refl
 
 -- a step of a call
-call_once : (s : Table) (t : ℕ) (q : Request) (p : Place) → IsSound s → CallIsSound s t q p
+line_once : (s : Table) (t : ℕ) (q : Request) (p : Place) → IsSound s → CallIsSound s t q p
     → GoesOnce s (line_of q p t s).after
-unfolding line_of clears
-call_once s t (Lock m) LockLoad h c = lock_load_once s t m h c.named (Lock m)
-call_once s t (Lock m) LockPending h c = λ k. inl refl
-call_once s t (Lock m) QueueExpired h c = λ k. inl refl
-call_once s t (Lock m) StopExpired h c = λ k. inl refl
-call_once s t (Lock m) p h c = locking_once s t (Lock m) p h c.named c
-call_once s t (TryLock m) TryLoad h c = try_load_once s t m h c.named
-call_once s t (TryLock m) TryPending h c = λ k. inl refl
-call_once s t (TryLock m) TryExchange h c = own_exchange_once s t m h c.named (TryLock m) TryKernel
-call_once s t (TryLock m) TryKernel h c = try_kernel_once s t m h c.named
-call_once s t (TryLock m) TryClear h c = λ k. inl refl
-call_once s t (TryLock m) p h c = shared_once s t (TryLock m) p c
-call_once s t (Unlock m) UnlockLoad h c = unlock_load_once s t m
-call_once s t (Unlock m) UnlockPending h c = λ k. inl refl
-call_once s t (Unlock m) UnlockHealth h c = unlock_health_once s t m
-call_once s t (Unlock m) UnlockStore h c = λ k. inl refl
-call_once s t (Unlock m) UnlockUnlink h c = λ k. inl refl
-call_once s t (Unlock m) UnlockExchange h c = unlock_exchange_once s t m (c.needs.1.1.0 c.needs.1.0)
-call_once s t (Unlock m) UnlockKernel h c =
-    gives_up_once s t m (c.needs.1.1.0 c.needs.1.0) (ends_by t (Unlock m) m UnlockClear 0)
-    (ends_has (Unlock m) UnlockClear 0 t m)
-call_once s t (Unlock m) UnlockClear h c = λ k. inl refl
-call_once s t (Consistent m) ConsistentLoad h c = consistent_load_once s t m
-call_once s t (Consistent m) ConsistentHealth h c = consistent_health_once s t m
-call_once s t (Consistent m) ConsistentStore h c = λ k. inl refl
-call_once s t (Wait d m) WaitLoad h c = wait_load_once s t d m
-call_once s t (Wait d m) WaitUses h c = wait_uses_once s t d m
-call_once s t (Wait d m) (WaitPending v) h c = λ k. inl refl
-call_once s t (Wait d m) (WaitHealth v) h c = wait_health_once s t d v m
-call_once s t (Wait d m) (WaitStore v) h c = λ k. inl refl
-call_once s t (Wait d m) (WaitUnlink v) h c = λ k. inl refl
-call_once s t (Wait d m) (WaitExchange v) h c = wait_exchange_once s t m (c.needs.1.1.0 c.needs.1.0) v d
-call_once s t (Wait d m) (WaitKernel v) h c =
-    gives_up_once s t m (c.needs.1.1.0 c.needs.1.0) (goes_to t (Wait d m) (WaitPark v)) (λ v. (refl, refl))
-call_once s t (Wait d m) (WaitPark v) h c = wait_park_once s t d v m
-call_once s t (Wait d m) WaitParked h c = parked_once s t d m h (second (has_cond s d) (has_mutex s m) c.named)
-call_once s t (Wait d m) p h c = locking_once s t (Wait d m) p h (second (has_cond s d) (has_mutex s m) c.named) c
-call_once s t (Signal d) p h c = use_once s t d (Signal d) p h c.named
-call_once s t (Broadcast d) p h c = use_once s t d (Broadcast d) p h c.named
-call_once s t (SetPrio u p) SetPriority h c = set_priority_once s t 0 u p
-call_once s t _ _ h c = λ k. inl refl
+unfolding line_of repair_line
+line_once s t (Lock m) Load h c = lock_load_once s t m h c.named (Lock m)
+line_once s t (Lock m) NamePending h c = λ k. inl refl
+line_once s t (Lock m) p h c = locking_once s t (Lock m) p h c.named c
+line_once s t (TryLock m) Load h c = try_load_once s t m h c.named
+line_once s t (TryLock m) NamePending h c = λ k. inl refl
+line_once s t (TryLock m) CallKernel h c = try_kernel_once s t m h c.named
+line_once s t (TryLock m) p h c = shared_once s t (TryLock m) p h c.named c
+line_once s t (Unlock m) Load h c = unlock_load_once s t m
+line_once s t (Unlock m) p h c = giving_once s t (Unlock m) p c
+line_once s t (Consistent m) Load h c = consistent_load_once s t m
+line_once s t (Consistent m) (Repair CheckHealth) h c = consistent_health_once s t m
+line_once s t (Consistent m) (Repair StoreFine) h c = λ k. inl refl
+line_once s t (Wait d m) Load h c = wait_load_once s t d m
+line_once s t (Wait d m) LoadUses h c = wait_uses_once s t d m
+line_once s t (Wait d m) (Park v) h c = wait_park_once s t d v m
+line_once s t (Wait d m) StayParked h c = parked_once s t d m h (second (has_cond s d) (has_mutex s m) c.named)
+line_once s t (Wait d m) p h c = locking_once s t (Wait d m) p h (second (has_cond s d) (has_mutex s m) c.named) c
+line_once s t (Signal d) (Wake x) h c = use_once s t d (Signal d) x h c.named
+line_once s t (Broadcast d) (Wake x) h c = use_once s t d (Broadcast d) x h c.named
+line_once s t (SetPrio u p) SetPriority h c = set_priority_once s t 0 u p
+line_once s t _ _ h c = λ k. inl refl
 
 -- an expiry, which writes no word
 expires_once : (s : Table) (t : ℕ) (q : Request) (p : Place) → GoesOnce s (expires_at q p t s).after
@@ -352,7 +355,7 @@ go_once : (s : Table) (t : ℕ) (q : Request) (p : Place) → IsSound s → Call
 unfolding go_outcome
 go_once s t q p h c = by_test (λ b. GoesOnce s (if b then expires_at q p t s
     else told_outcome q (timer_at s t).expired (line_of q p t s)).after) (is_line_due (At q p) t s)
-    (λ e. expires_once s t q p) (λ e. call_once s t q p h c)
+    (λ e. expires_once s t q p) (λ e. line_once s t q p h c)
 
 -- who owns a mutex after a step of a living thread, and did not before, holds it once
 pub step_owns_once : (s old v : Table) (t : ℕ) (q : Request) (p : Place) → IsSound s → is_living s.kernel t ≡ true

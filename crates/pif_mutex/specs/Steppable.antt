@@ -5,7 +5,10 @@ use Rattle.pif_types.specs.declared.requests.Request.TheVariants.{Lock, TryLock,
 use Rattle.pif_model.specs.declared.lines.Line.{Line}
 use Rattle.pif_model.specs.declared.lines.Line.TheVariants.{Idle, At}
 use Rattle.pif_model.specs.declared.lines.Place.{Place}
-use Rattle.pif_model.specs.declared.lines.Place.TheVariants.{LockQueued, LockStopped, LinkNext, UnlockUnlink, WaitUnlink, WaitParked}
+use Rattle.pif_model.specs.declared.lines.Place.TheVariants.{StayQueued, StayStopped, Link, Give, StayParked}
+use Rattle.pif_model.specs.declared.lines.LinkStep.TheVariants.{WriteNext}
+use Rattle.pif_model.specs.declared.lines.GiveStep.{GiveStep}
+use Rattle.pif_model.specs.declared.lines.GiveStep.TheVariants.{Unlink}
 use Rattle.pif_model.specs.PiKernel.{is_ready}
 use Rattle.pif_model.specs.Posix.{named_by, names_known}
 use Rattle.pif_model.specs.RobustList.{robust_at, is_listed, IsUnlisted, IsHalfLinkedByNoOther}
@@ -13,8 +16,13 @@ use Rattle.pif_model.specs.Lines.{counts_at}
 use Rattle.pif_model.specs.Soundness.{is_locking, is_half_linked}
 use Rattle.pif_model.specs.Table.{Table, has_mutex, has_cond, status_at}
 
+-- whether a wait takes a step on its mutex at this place: it gives the mutex up, or locks it again
+abbrev pub is_on_mutex : Place → Bool
+is_on_mutex (Give x y) = true
+is_on_mutex p = is_locking p
+
 -- whether a call is open at this line whose next step is one on mutexes: a call on mutexes, a change of priority, or a
--- wait at a place of lock from the exchange on, of taking over or of leaving. A timed request is open nowhere, since a
+-- wait at a place where it gives its mutex up, or of lock from the exchange on. A timed request is open nowhere, since a
 -- begin splits it; a step of one is that of any request at a place of another
 abbrev pub is_of_mutexes : Line → Bool
 is_of_mutexes Idle = false
@@ -22,7 +30,7 @@ is_of_mutexes (At (Lock m) p) = true
 is_of_mutexes (At (TryLock m) p) = true
 is_of_mutexes (At (Unlock m) p) = true
 is_of_mutexes (At (Consistent m) p) = true
-is_of_mutexes (At (Wait c m) p) = is_locking p
+is_of_mutexes (At (Wait c m) p) = is_on_mutex p
 is_of_mutexes (At (Signal c) p) = false
 is_of_mutexes (At (Broadcast c) p) = false
 is_of_mutexes (At (SetPrio u n) p) = true
@@ -31,20 +39,23 @@ is_of_mutexes (At (TimedWait c m d) p) = true
 
 -- whether the thread of a call may wait at this place: queued, parked, or stopped for good
 abbrev pub waits_at : Place → Bool
-waits_at LockQueued = true
-waits_at LockStopped = true
-waits_at WaitParked = true
+waits_at StayQueued = true
+waits_at StayStopped = true
+waits_at StayParked = true
 waits_at _ = false
 
 -- whether the link of the call's mutex to the head of the list is written at this place
 abbrev pub is_link_next : Place → Bool
-is_link_next (LinkNext a) = true
+is_link_next (Link WriteNext a) = true
 is_link_next _ = false
 
--- whether the call's mutex is taken off the list at this place
+-- whether a mutex that is given up is taken off the list at this step, and the call's mutex at this place
+abbrev pub is_unlink_step : GiveStep → Bool
+is_unlink_step Unlink = true
+is_unlink_step _ = false
+
 abbrev pub is_unlink : Place → Bool
-is_unlink UnlockUnlink = true
-is_unlink (WaitUnlink v) = true
+is_unlink (Give x y) = is_unlink_step x
 is_unlink _ = false
 
 -- what a step of a call of t at a place rests on

@@ -6,7 +6,7 @@ ghost use Rattle.pif_mutex.specs.Outcomes.{outcome_of};
 use crate::progress::Progress;
 use crate::state::{FINE, INCONSISTENT, State};
 use pif_kernel::PiKernel;
-use pif_model::Place;
+use pif_model::{Place, RepairStep};
 use pif_types::{Errno, MutexId, Request, Tid};
 use pif_word::number;
 
@@ -23,7 +23,11 @@ impl<K: PiKernel + Drop> State<K> {
         if !self.is_robust(m) {
             self.answer(t, Errno::Invalid.number())
         } else if number(self.word(m)) == t.get() {
-            self.go_on(Request::Consistent(m), Place::ConsistentHealth, t)
+            self.go_on(
+                Request::Consistent(m),
+                Place::Repair(RepairStep::CheckHealth),
+                t,
+            )
         } else {
             self.answer(t, Errno::NotPermitted.number())
         }
@@ -37,7 +41,11 @@ impl<K: PiKernel + Drop> State<K> {
         ensures { outcome_of result self.new ≡ consistent_health t m self.old }
     {
         if self.health(m) == INCONSISTENT {
-            self.go_on(Request::Consistent(m), Place::ConsistentStore, t)
+            self.go_on(
+                Request::Consistent(m),
+                Place::Repair(RepairStep::StoreFine),
+                t,
+            )
         } else {
             self.answer(t, Errno::Invalid.number())
         }

@@ -33,7 +33,7 @@ impl<K: PiKernel + Drop> State<K> {
     }
 
     /// The kernel call unlock_pi by a thread that was added and may run.
-    pub fn unlock_pi(&mut self, t: Tid, m: MutexId) -> Result<(), Errno>
+    pub(crate) fn unlock_pi(&mut self, t: Tid, m: MutexId) -> Result<(), Errno>
         requires known { has_thread self.old t ≡ true }
         requires ready { is_ready (status_at self.old t) ≡ true }
         ensures answer { unit_answer result ≡ unlock_answer t m self.old.words self.old.kernel }

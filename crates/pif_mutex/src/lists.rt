@@ -46,7 +46,7 @@ impl<K: PiKernel + Drop> State<K> {
     }
 
     /// Takes a mutex off the list of the thread, on which it is.
-    pub fn unlist(&mut self, t: Tid, m: MutexId)
+    pub(crate) fn unlist(&mut self, t: Tid, m: MutexId)
         requires { is_listed self.old.lists t m ≡ true }
         ensures { self.new ≡ with_lists (without_listed t m self.old.lists) self.old }
     {

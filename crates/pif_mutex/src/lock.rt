@@ -4,17 +4,17 @@ ghost use Rattle.pif_model.specs.Table.{has_thread, has_mutex, status_at};
 ghost use Rattle.pif_model.specs.Lines.{lock_load, lock_kernel, lock_queued, lock_stop, expires_at};
 ghost use Rattle.pif_mutex.specs.Outcomes.{outcome_of};
 
+use crate::kinds::relock_of;
 use crate::progress::Progress;
 use crate::state::State;
 use pif_kernel::PiKernel;
-use pif_model::{Place, Status, Took};
-use pif_types::{Errno, Kind, MutexId, Request, Tid};
+use pif_model::{Footing, Place, Relock, Status, TakeStep, Took};
+use pif_types::{Errno, MutexId, Request, Tid};
 use pif_word::number;
 
 /// The lines of a request that locks a mutex, but for its exchange.
 impl<K: PiKernel + Drop> State<K> {
-    /// Loads the word. The owner of a NORMAL mutex goes on to stop, that of an ERRORCHECK mutex is answered EDEADLK,
-    /// and that of a RECURSIVE one holds it once more.
+    /// Loads the word. By the mutex's kind its owner goes on to stop, is answered EDEADLK, or holds it once more.
     #[inline(always)]
     #[tactic(auto, unfolding(pif_model::specs::Lines::lock_load))]
     pub(crate) fn lock_load(&mut self, request: Request, t: Tid, m: MutexId) -> Progress
@@ -23,12 +23,12 @@ impl<K: PiKernel + Drop> State<K> {
         ensures { outcome_of result self.new ≡ lock_load request t m self.old }
     {
         if number(self.word(m)) != t.get() {
-            return self.go_by(request, m, Place::LockPending, Place::LockExchange, t);
+            return self.go_by(request, m, Place::NamePending, Place::Exchange, t);
         }
-        match self.kind(m) {
-            Kind::Normal => self.go_on(request, Place::LockStop, t),
-            Kind::ErrorCheck => self.answer(t, Errno::Deadlock.number()),
-            Kind::Recursive => self.lock_again(t, m),
+        match relock_of(self.kind(m)) {
+            Relock::Stops => self.go_on(request, Place::Stop, t),
+            Relock::Answers => self.answer(t, Errno::Deadlock.number()),
+            Relock::Counts => self.lock_again(t, m),
         }
     }
 
@@ -44,12 +44,19 @@ impl<K: PiKernel + Drop> State<K> {
         ensures { outcome_of result self.new ≡ lock_kernel request t m self.old }
     {
         match self.lock_pi(t, m) {
-            Ok(Took::Owns) => self.end_by(request, m, Place::TakeLoad, 0, t),
-            Ok(Took::Queued) => self.wait(request, Place::LockQueued, t),
+            Ok(Took::Owns) => self.end_by(request, m, Place::Take(TakeStep::LoadWord), 0, t),
+            Ok(Took::Queued) => self.wait(request, Place::StayQueued, t),
             Err(Errno::Deadlock) => {
-                self.end_by(request, m, Place::LockClear, Errno::Deadlock.number(), t)
+                let answer = Errno::Deadlock.number();
+                self.end_by(
+                    request,
+                    m,
+                    Place::Clear(Footing::Unowned, answer),
+                    answer,
+                    t,
+                )
             }
-            Err(Errno::NoSuchThread) => self.go_on(request, Place::LockStop, t),
+            Err(Errno::NoSuchThread) => self.go_on(request, Place::Stop, t),
             Err(error) => self.answer(t, error.number()),
         }
     }
@@ -84,12 +91,13 @@ impl<K: PiKernel + Drop> State<K> {
         requires unready { is_ready (status_at self.old t) ≡ false }
         ensures { outcome_of result self.new ≡ expires_at (Request.Lock m) place t self.old }
     {
+        let answer = Errno::TimedOut.number();
         let expired = match place {
-            Place::LockQueued => Place::QueueExpired,
-            _ => Place::StopExpired,
+            Place::StayQueued => Place::Clear(Footing::Unowned, answer),
+            _ => Place::Clear(Footing::HadStopped, answer),
         };
         self.expire(t);
-        self.end_by(Request::Lock(m), m, expired, Errno::TimedOut.number(), t)
+        self.end_by(Request::Lock(m), m, expired, answer, t)
     }
 
     /// Stops for good.
@@ -102,6 +110,6 @@ impl<K: PiKernel + Drop> State<K> {
         ensures { outcome_of result self.new ≡ lock_stop request t self.old }
     {
         self.stop(t);
-        self.wait(request, Place::LockStopped, t)
+        self.wait(request, Place::StayStopped, t)
     }
 }

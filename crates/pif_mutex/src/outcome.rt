@@ -92,7 +92,13 @@ impl<K: PiKernel + Drop> State<K> {
     }
 
     /// Names the mutex in the pending field of the thread, and goes on at this place.
-    pub fn name_pending(&mut self, request: Request, place: Place, t: Tid, m: MutexId) -> Progress
+    pub(crate) fn name_pending(
+        &mut self,
+        request: Request,
+        place: Place,
+        t: Tid,
+        m: MutexId,
+    ) -> Progress
         requires known { has_thread self.old t ≡ true }
         requires mutex { has_mutex self.old m ≡ true }
         ensures { outcome_of result self.new ≡ goes_to t request place (pending t m self.old) }

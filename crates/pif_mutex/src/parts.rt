@@ -13,7 +13,7 @@ use crate::deadlines::{plain, timed, timer_of};
 use crate::progress::Progress;
 use crate::state::State;
 use pif_kernel::PiKernel;
-use pif_model::{Event, Line, Place, Status};
+use pif_model::{Event, Line, Place, Status, WakeStep};
 use pif_types::{CondId, Health, Kind, Limits, MutexId, NoMemory, Prio, Request, Tid};
 use pif_word::{health_in, number};
 use std::alloc::Global;
@@ -340,13 +340,9 @@ fn first_place(request: &Request) -> Place
     ensures { result ≡ first_place request.now }
 {
     match request {
-        Request::Lock(_) | Request::TimedLock(_, _) => Place::LockLoad,
-        Request::TryLock(_) => Place::TryLoad,
-        Request::Unlock(_) => Place::UnlockLoad,
-        Request::Consistent(_) => Place::ConsistentLoad,
-        Request::Wait(_, _) | Request::TimedWait(_, _, _) => Place::WaitLoad,
-        Request::Signal(_) | Request::Broadcast(_) => Place::UseLoad,
+        Request::Signal(_) | Request::Broadcast(_) => Place::Wake(WakeStep::ReadUses),
         Request::SetPrio(_, _) => Place::SetPriority,
+        _ => Place::Load,
     }
 }
 

@@ -25,10 +25,10 @@ const NO_TIMER: Timer = Timer {
 pub(crate) const FINE: u32 = 0;
 
 /// The health word of a robust mutex that is inconsistent.
-pub const INCONSISTENT: u32 = 1;
+pub(crate) const INCONSISTENT: u32 = 1;
 
 /// The health word of a robust mutex that is unusable.
-pub const UNUSABLE: u32 = 2;
+pub(crate) const UNUSABLE: u32 = 2;
 
 /// The lines and timers, the time, what the library knows of mutexes and of condition variables, the words, the robust
 /// lists and the kernel, between two accesses of an event.
@@ -259,7 +259,7 @@ impl<K: PiKernel + Drop> State<K> {
 
     /// Makes `new` the word of a mutex that was added if it was `expected`, a bare number below 2^30, and answers
     /// whether it was.
-    pub fn exchange(&mut self, m: MutexId, expected: u32, new: u32) -> bool
+    pub(crate) fn exchange(&mut self, m: MutexId, expected: u32, new: u32) -> bool
         requires mutex { has_mutex self.old m ≡ true }
         requires bare { expected < 2 ^ 30 }
         ensures value { result ≡ is_bare (cell_at self.old m).word expected }
@@ -279,7 +279,7 @@ impl<K: PiKernel + Drop> State<K> {
     }
 
     /// The health word of a mutex that was added: 0 fine, 1 inconsistent, 2 unusable.
-    pub fn health(&self, m: MutexId) -> u32
+    pub(crate) fn health(&self, m: MutexId) -> u32
         requires { has_mutex self.now m ≡ true }
         ensures { result ≡ (cell_at self.now m).health }
     {
@@ -287,7 +287,7 @@ impl<K: PiKernel + Drop> State<K> {
     }
 
     /// Makes `health` the health word of a mutex that was added.
-    pub fn set_health(&mut self, m: MutexId, health: u32)
+    pub(crate) fn set_health(&mut self, m: MutexId, health: u32)
         requires { has_mutex self.old m ≡ true }
         ensures { self.new ≡ with_health_word m health self.old }
     {
@@ -323,7 +323,7 @@ impl<K: PiKernel + Drop> State<K> {
     }
 
     /// The number of a thread that was added, which a word has room for: it is below 2^30.
-    pub fn number_of(&self, t: Tid) -> u32
+    pub(crate) fn number_of(&self, t: Tid) -> u32
         requires { has_thread self.now t ≡ true }
         ensures value { result ≡ t }
         ensures bare { result < 2 ^ 30 }

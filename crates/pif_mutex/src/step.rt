@@ -1,17 +1,17 @@
 ghost use Rattle.std.specs.Prelude.{◌≡◌, true, false};
 ghost use Rattle.pif_model.specs.PiKernel.{is_living, is_ready};
-ghost use Rattle.pif_model.specs.RobustList.{robust_at, IsUnlisted, IsHalfLinkedByNoOther};
+ghost use Rattle.pif_model.specs.RobustList.{robust_at, is_listed, IsUnlisted, IsHalfLinkedByNoOther};
 ghost use Rattle.pif_model.specs.Soundness.{is_half_linked};
 ghost use Rattle.pif_model.specs.Table.{has_thread, has_mutex, line_at, status_at};
-ghost use Rattle.pif_model.specs.Lines.{line_of, locking_line, shared_line, counts_at, expires_at, go_outcome};
+ghost use Rattle.pif_model.specs.Lines.{line_of, locking_line, shared_line, giving_line, take_line, give_line, counts_at, expires_at, go_outcome};
 ghost use Rattle.pif_mutex.specs.Outcomes.{outcome_of};
-ghost use Rattle.pif_mutex.specs.Steppable.{CallMayStep, is_of_mutexes, waits_at, is_link_next};
+ghost use Rattle.pif_mutex.specs.Steppable.{CallMayStep, is_of_mutexes, waits_at, is_link_next, is_unlink_step, is_unlink};
 
 use crate::deadlines::told;
 use crate::progress::Progress;
 use crate::state::State;
 use pif_kernel::PiKernel;
-use pif_model::{Line, Place};
+use pif_model::{GiveStep, Line, LinkStep, Place, Purpose, RepairStep, TakeStep};
 use pif_types::{Errno, MutexId, Request, Tid};
 
 /// Whether a thread may wait at this place of its call: queued, parked, or stopped for good.
@@ -21,7 +21,7 @@ fn waits_at(place: &Place) -> bool
 {
     matches!(
         place,
-        Place::LockQueued | Place::LockStopped | Place::WaitParked
+        Place::StayQueued | Place::StayStopped | Place::StayParked
     )
 }
 
@@ -115,14 +115,13 @@ impl<K: PiKernel + Drop> State<K> {
     {
         let request = Request::Lock(m);
         match place {
-            Place::LockLoad => self.lock_load(request, t, m),
-            Place::LockPending => self.name_pending(request, Place::LockExchange, t, m),
-            Place::QueueExpired | Place::StopExpired => self.clear(t, Errno::TimedOut.number()),
+            Place::Load => self.lock_load(request, t, m),
+            Place::NamePending => self.name_pending(request, Place::Exchange, t, m),
             _ => self.locking_step(request, place, t, m),
         }
     }
 
-    /// One step of a request that locks `m`, from the exchange on: of a lock, or of a wait that was unblocked.
+    /// One step of a request that may queue for `m`: of a lock from the exchange on, or of a wait.
     #[inline(always)]
     #[tactic(auto, unfolding(pif_model::specs::Lines::locking_line))]
     fn locking_step(&mut self, request: Request, place: Place, t: Tid, m: MutexId) -> Progress
@@ -132,15 +131,14 @@ impl<K: PiKernel + Drop> State<K> {
         requires unlisted { is_link_next place ≡ true → IsUnlisted self.old.lists m }
         requires half { is_link_next place ≡ true → IsHalfLinkedByNoOther self.old.lists t m }
         requires linked { is_half_linked place ≡ true → (robust_at self.old.lists t).half_linked ≡ m }
+        requires listed { is_unlink place ≡ true → is_listed self.old.lists t m ≡ true }
         ensures { outcome_of result self.new ≡ locking_line request place t m self.old }
     {
         match place {
-            Place::LockExchange => self.own_exchange(request, Place::LockKernel, t, m),
-            Place::LockKernel => self.lock_kernel(request, t, m),
-            Place::LockQueued => self.lock_queued(request, t, m),
-            Place::LockStop => self.lock_stop(request, t),
-            Place::LockStopped => Progress::Waits,
-            Place::LockClear => self.clear(t, Errno::Deadlock.number()),
+            Place::CallKernel => self.lock_kernel(request, t, m),
+            Place::StayQueued => self.lock_queued(request, t, m),
+            Place::Stop => self.lock_stop(request, t),
+            Place::StayStopped => Progress::Waits,
             _ => self.shared_step(request, place, t, m),
         }
     }
@@ -154,18 +152,16 @@ impl<K: PiKernel + Drop> State<K> {
     {
         let request = Request::TryLock(m);
         match place {
-            Place::TryLoad => self.try_load(t, m),
-            Place::TryPending => self.name_pending(request, Place::TryExchange, t, m),
-            Place::TryExchange => self.own_exchange(request, Place::TryKernel, t, m),
-            Place::TryKernel => self.try_kernel(t, m),
-            Place::TryClear => self.clear(t, Errno::Busy.number()),
+            Place::Load => self.try_load(t, m),
+            Place::NamePending => self.name_pending(request, Place::Exchange, t, m),
+            Place::CallKernel => self.try_kernel(t, m),
             _ => self.shared_step(request, place, t, m),
         }
     }
 
-    /// One step of taking over or leaving in a request that locks `m`.
+    /// One step that all requests share which lock `m`: the exchange, taking over and leaving.
     #[inline(always)]
-    #[tactic(auto, unfolding(pif_model::specs::Lines::shared_line))]
+    #[tactic(auto, unfolding(pif_model::specs::Lines::shared_line, pif_model::specs::Lines::giving_line))]
     fn shared_step(&mut self, request: Request, place: Place, t: Tid, m: MutexId) -> Progress
         requires known { has_thread self.old t ≡ true }
         requires mutex { has_mutex self.old m ≡ true }
@@ -173,20 +169,91 @@ impl<K: PiKernel + Drop> State<K> {
         requires unlisted { is_link_next place ≡ true → IsUnlisted self.old.lists m }
         requires half { is_link_next place ≡ true → IsHalfLinkedByNoOther self.old.lists t m }
         requires linked { is_half_linked place ≡ true → (robust_at self.old.lists t).half_linked ≡ m }
+        requires listed { is_unlink place ≡ true → is_listed self.old.lists t m ≡ true }
         ensures { outcome_of result self.new ≡ shared_line request place t m self.old }
     {
         match place {
-            Place::TakeLoad => self.take_load(request, t, m),
-            Place::TakeHealth(died) => self.take_health(request, died, t, m),
-            Place::TakeStore => self.take_store(request, t, m),
-            Place::TakeWord => self.take_word(request, t, m),
-            Place::LinkNext(answer) => self.link_next(request, answer, t, m),
-            Place::LinkHead(answer) => self.link_head(request, answer, t, m),
-            Place::LinkClear(answer) => self.clear(t, answer),
-            Place::LeaveExchange => self.leave_exchange(request, t, m),
-            Place::LeaveKernel => self.leave_kernel(request, t, m),
-            Place::LeaveClear => self.clear(t, Errno::NotRecoverable.number()),
+            Place::Exchange => self.own_exchange(request, t, m),
+            Place::Take(step) => self.take_step(request, step, t, m),
+            Place::Link(LinkStep::WriteNext, answer) => self.link_next(request, answer, t, m),
+            Place::Link(LinkStep::WriteHead, answer) => self.link_head(request, answer, t, m),
+            Place::Clear(_, answer) => self.clear(t, answer),
+            _ => self.giving_step_apart(request, place, t, m),
+        }
+    }
+
+    /// One step of taking `m` over.
+    #[inline(always)]
+    #[tactic(auto, unfolding(pif_model::specs::Lines::take_line))]
+    fn take_step(&mut self, request: Request, step: TakeStep, t: Tid, m: MutexId) -> Progress
+        requires known { has_thread self.old t ≡ true }
+        requires mutex { has_mutex self.old m ≡ true }
+        ensures { outcome_of result self.new ≡ take_line request step t m self.old }
+    {
+        match step {
+            TakeStep::LoadWord => self.take_load(request, t, m),
+            TakeStep::LoadHealth(died) => self.take_health(request, died, t, m),
+            TakeStep::StoreInconsistent => self.take_store(request, t, m),
+            TakeStep::ClearDied => self.take_word(request, t, m),
+        }
+    }
+
+    /// One step of giving `m` up, or of clearing the pending field.
+    #[inline(always)]
+    #[tactic(auto, unfolding(pif_model::specs::Lines::giving_line))]
+    fn giving_step(&mut self, request: Request, place: Place, t: Tid, m: MutexId) -> Progress
+        requires known { has_thread self.old t ≡ true }
+        requires mutex { has_mutex self.old m ≡ true }
+        requires ready { waits_at place ≡ false → is_ready (status_at self.old t) ≡ true }
+        requires listed { is_unlink place ≡ true → is_listed self.old.lists t m ≡ true }
+        ensures { outcome_of result self.new ≡ giving_line request place t m self.old }
+    {
+        match place {
+            Place::Give(step, purpose) => self.give_step(request, step, purpose, t, m),
+            Place::Clear(_, answer) => self.clear(t, answer),
             _ => self.answer(t, Errno::Invalid.number()),
+        }
+    }
+
+    /// The same in a function of its own, for calls other than an unlock.
+    #[inline(never)]
+    fn giving_step_apart(&mut self, request: Request, place: Place, t: Tid, m: MutexId) -> Progress
+        requires known { has_thread self.old t ≡ true }
+        requires mutex { has_mutex self.old m ≡ true }
+        requires ready { waits_at place ≡ false → is_ready (status_at self.old t) ≡ true }
+        requires listed { is_unlink place ≡ true → is_listed self.old.lists t m ≡ true }
+        ensures { outcome_of result self.new ≡ giving_line request place t m self.old }
+    {
+        self.giving_step(request, place, t, m)
+    }
+
+    /// One step of giving `m` up.
+    #[inline(always)]
+    #[tactic(auto, unfolding(pif_model::specs::Lines::give_line))]
+    fn give_step(
+        &mut self,
+        request: Request,
+        step: GiveStep,
+        purpose: Purpose,
+        t: Tid,
+        m: MutexId,
+    ) -> Progress
+        requires known { has_thread self.old t ≡ true }
+        requires mutex { has_mutex self.old m ≡ true }
+        requires ready { is_ready (status_at self.old t) ≡ true }
+        requires listed { is_unlink_step step ≡ true → is_listed self.old.lists t m ≡ true }
+        ensures { outcome_of result self.new ≡ give_line request step purpose t m self.old }
+    {
+        match step {
+            GiveStep::SetPending => {
+                let next = Place::Give(GiveStep::SeeHealth, purpose);
+                self.name_pending(request, next, t, m)
+            }
+            GiveStep::SeeHealth => self.give_health(request, purpose, t, m),
+            GiveStep::StoreUnusable => self.give_store(request, purpose, t, m),
+            GiveStep::Unlink => self.give_unlink(request, purpose, t, m),
+            GiveStep::Release => self.give_exchange(request, purpose, t, m),
+            GiveStep::CallUnlock => self.give_kernel(request, purpose, t, m),
         }
     }
 
@@ -198,33 +265,25 @@ impl<K: PiKernel + Drop> State<K> {
         requires call { CallMayStep self.old t (Request.Unlock m) place }
         ensures { outcome_of result self.new ≡ line_of (Request.Unlock m) place t self.old }
     {
-        let request = Request::Unlock(m);
         match place {
-            Place::UnlockLoad => self.unlock_load(t, m),
-            Place::UnlockPending => self.name_pending(request, Place::UnlockHealth, t, m),
-            Place::UnlockHealth => self.unlock_health(t, m),
-            Place::UnlockStore => self.unlock_store(t, m),
-            Place::UnlockUnlink => self.unlock_unlink(t, m),
-            Place::UnlockExchange => self.unlock_exchange(t, m),
-            Place::UnlockKernel => self.unlock_kernel(t, m),
-            Place::UnlockClear => self.clear(t, 0),
-            _ => self.answer(t, Errno::Invalid.number()),
+            Place::Load => self.unlock_load(t, m),
+            _ => self.giving_step(Request::Unlock(m), place, t, m),
         }
     }
 
     /// One step of a consistent.
     #[cold]
     #[inline(never)]
-    #[tactic(auto, unfolding(pif_model::specs::Lines::line_of))]
+    #[tactic(auto, unfolding(pif_model::specs::Lines::line_of, pif_model::specs::Lines::repair_line))]
     fn consistent_step(&mut self, place: Place, t: Tid, m: MutexId) -> Progress
         requires known { has_thread self.old t ≡ true }
         requires call { CallMayStep self.old t (Request.Consistent m) place }
         ensures { outcome_of result self.new ≡ line_of (Request.Consistent m) place t self.old }
     {
         match place {
-            Place::ConsistentLoad => self.consistent_load(t, m),
-            Place::ConsistentHealth => self.consistent_health(t, m),
-            Place::ConsistentStore => self.consistent_store(t, m),
+            Place::Load => self.consistent_load(t, m),
+            Place::Repair(RepairStep::CheckHealth) => self.consistent_health(t, m),
+            Place::Repair(RepairStep::StoreFine) => self.consistent_store(t, m),
             _ => self.answer(t, Errno::Invalid.number()),
         }
     }

@@ -1,12 +1,13 @@
 ghost use Rattle.std.specs.Prelude.{◌≡◌, true};
 ghost use Rattle.pif_model.specs.Table.{has_thread, has_mutex};
-ghost use Rattle.pif_model.specs.Lines.{relocks, own_exchange, take_load, take_health, take_store, take_word_back};
+ghost use Rattle.pif_model.specs.Lines.{relocks, own_exchange, take_load, take_health, take_line};
+ghost use Rattle.pif_model.specs.declared.lines.TakeStep;
 ghost use Rattle.pif_mutex.specs.Outcomes.{outcome_of};
 
 use crate::progress::Progress;
 use crate::state::{INCONSISTENT, State, UNUSABLE};
 use pif_kernel::PiKernel;
-use pif_model::Place;
+use pif_model::{GiveStep, LinkStep, Place, Purpose, TakeStep};
 use pif_types::{Errno, MutexId, Request, Tid};
 use pif_word::owner_died;
 
@@ -32,19 +33,18 @@ impl<K: PiKernel + Drop> State<K> {
     }
 
     /// Compare-exchange of the word from 0 to the number of the thread. Done, a stalled mutex is answered, and of a
-    /// robust one the health word is next. Where it fails the request goes on with its kernel call, at the place
-    /// `kernel`.
+    /// robust one the health word is next. Where it fails the request goes on with its kernel call.
     #[inline(always)]
-    pub fn own_exchange(&mut self, request: Request, kernel: Place, t: Tid, m: MutexId) -> Progress
+    pub fn own_exchange(&mut self, request: Request, t: Tid, m: MutexId) -> Progress
         requires known { has_thread self.old t ≡ true }
         requires mutex { has_mutex self.old m ≡ true }
-        ensures { outcome_of result self.new ≡ own_exchange request kernel t m self.old }
+        ensures { outcome_of result self.new ≡ own_exchange request t m self.old }
     {
         let number = self.number_of(t);
         if self.exchange(m, 0, number) {
-            self.end_by(request, m, Place::TakeHealth(false), 0, t)
+            self.end_by(request, m, Place::Take(TakeStep::LoadHealth(false)), 0, t)
         } else {
-            self.go_on(request, kernel, t)
+            self.go_on(request, Place::CallKernel, t)
         }
     }
 
@@ -58,7 +58,7 @@ impl<K: PiKernel + Drop> State<K> {
         ensures { outcome_of result self.new ≡ take_load request t m self.old }
     {
         let died = owner_died(self.word(m));
-        self.go_on(request, Place::TakeHealth(died), t)
+        self.go_on(request, Place::Take(TakeStep::LoadHealth(died)), t)
     }
 
     /// Loads the health word. An unusable mutex is left again, and one whose last owner has ended, which is `died`, is
@@ -77,37 +77,41 @@ impl<K: PiKernel + Drop> State<K> {
         ensures { outcome_of result self.new ≡ take_health request died t m self.old }
     {
         if self.health(m) == UNUSABLE {
-            self.go_on(request, Place::LeaveExchange, t)
+            self.go_on(request, Place::Give(GiveStep::Release, Purpose::ToLeave), t)
         } else if died {
-            self.go_on(request, Place::TakeStore, t)
+            self.go_on(request, Place::Take(TakeStep::StoreInconsistent), t)
         } else {
-            self.go_on(request, Place::LinkNext(0), t)
+            self.go_on(request, Place::Link(LinkStep::WriteNext, 0), t)
         }
     }
 
     /// Stores in the health word that the mutex is inconsistent.
     #[cold]
     #[inline(never)]
-    #[tactic(auto, unfolding(pif_model::specs::Lines::take_store))]
+    #[tactic(auto, unfolding(pif_model::specs::Lines::take_line))]
     pub(crate) fn take_store(&mut self, request: Request, t: Tid, m: MutexId) -> Progress
         requires known { has_thread self.old t ≡ true }
         requires mutex { has_mutex self.old m ≡ true }
-        ensures { outcome_of result self.new ≡ take_store request t m self.old }
+        ensures { outcome_of result self.new ≡ take_line request TakeStep.StoreInconsistent t m self.old }
     {
         self.set_health(m, INCONSISTENT);
-        self.go_on(request, Place::TakeWord, t)
+        self.go_on(request, Place::Take(TakeStep::ClearDied), t)
     }
 
     /// Takes OWNER_DIED out of the word. The call will answer EOWNERDEAD.
     #[cold]
     #[inline(never)]
-    #[tactic(auto, unfolding(pif_model::specs::Lines::take_word_back))]
+    #[tactic(auto, unfolding(pif_model::specs::Lines::take_line))]
     pub(crate) fn take_word(&mut self, request: Request, t: Tid, m: MutexId) -> Progress
         requires known { has_thread self.old t ≡ true }
         requires mutex { has_mutex self.old m ≡ true }
-        ensures { outcome_of result self.new ≡ take_word_back request t m self.old }
+        ensures { outcome_of result self.new ≡ take_line request TakeStep.ClearDied t m self.old }
     {
         self.settle_word(m);
-        self.go_on(request, Place::LinkNext(Errno::OwnerDead.number()), t)
+        self.go_on(
+            request,
+            Place::Link(LinkStep::WriteNext, Errno::OwnerDead.number()),
+            t,
+        )
     }
 }

@@ -4,16 +4,17 @@ ghost use Rattle.pif_model.specs.Table.{has_thread, has_mutex, status_at};
 ghost use Rattle.pif_model.specs.Lines.{try_load, try_kernel};
 ghost use Rattle.pif_mutex.specs.Outcomes.{outcome_of};
 
+use crate::kinds::relock_of;
 use crate::progress::Progress;
 use crate::state::State;
 use pif_kernel::PiKernel;
-use pif_model::Place;
-use pif_types::{Errno, Kind, MutexId, Request, Tid};
+use pif_model::{Footing, Place, Relock, TakeStep};
+use pif_types::{Errno, MutexId, Request, Tid};
 use pif_word::number;
 
 /// The lines of a trylock, but for its exchange.
 impl<K: PiKernel + Drop> State<K> {
-    /// Loads the word. The owner of a RECURSIVE mutex holds it once more, that of another is answered EBUSY.
+    /// Loads the word. The owner holds the mutex once more, if a lock by it counts, and else is answered EBUSY.
     #[tactic(auto, unfolding(pif_model::specs::Lines::try_load))]
     pub(crate) fn try_load(&mut self, t: Tid, m: MutexId) -> Progress
         requires known { has_thread self.old t ≡ true }
@@ -24,14 +25,14 @@ impl<K: PiKernel + Drop> State<K> {
             return self.go_by(
                 Request::TryLock(m),
                 m,
-                Place::TryPending,
-                Place::TryExchange,
+                Place::NamePending,
+                Place::Exchange,
                 t,
             );
         }
-        match self.kind(m) {
-            Kind::Recursive => self.lock_again(t, m),
-            Kind::Normal | Kind::ErrorCheck => self.answer(t, Errno::Busy.number()),
+        match relock_of(self.kind(m)) {
+            Relock::Counts => self.lock_again(t, m),
+            Relock::Stops | Relock::Answers => self.answer(t, Errno::Busy.number()),
         }
     }
 
@@ -48,9 +49,16 @@ impl<K: PiKernel + Drop> State<K> {
     {
         let request = Request::TryLock(m);
         match self.trylock_pi(t, m) {
-            Ok(()) => self.end_by(request, m, Place::TakeLoad, 0, t),
+            Ok(()) => self.end_by(request, m, Place::Take(TakeStep::LoadWord), 0, t),
             Err(Errno::Again) => {
-                self.end_by(request, m, Place::TryClear, Errno::Busy.number(), t)
+                let answer = Errno::Busy.number();
+                self.end_by(
+                    request,
+                    m,
+                    Place::Clear(Footing::Unowned, answer),
+                    answer,
+                    t,
+                )
             }
             Err(error) => self.answer(t, error.number()),
         }

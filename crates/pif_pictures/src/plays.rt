@@ -3,7 +3,6 @@ use pif_core::Core;
 use pif_model::Event;
 use pif_text::{Addition, Command};
 use pif_types::{Limits, NoMemory, Request, Tid};
-use pif_uses::{call, finish};
 use std::alloc::Global;
 
 /// What looks on while the commands of a story are played.
@@ -80,8 +79,8 @@ fn step(core: &mut Core, event: Event) {
 /// Plays a call, or what is left of one.
 fn run(core: &mut Core, thread: Tid, request: Option<Request>) {
     let _seen = match request {
-        Some(request) => call(core, thread, request),
-        None => finish(core, thread),
+        Some(request) => core.call(thread, request),
+        None => core.finish(thread),
     };
 }
 

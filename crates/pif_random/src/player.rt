@@ -5,7 +5,6 @@ use crate::Shape;
 use pif_core::{Core, Event, Seen};
 use pif_text::{Addition, Command, Question};
 use pif_types::{CondId, Kind, Limits, MutexId, NoMemory, Request, Tid};
-use pif_uses::{call, finish};
 use rand_core::Rng;
 use rand_pcg::Pcg32;
 use std::alloc::Global;
@@ -71,8 +70,8 @@ impl Player {
 
     fn run(&mut self, thread: Tid, request: Option<Request>) {
         let _seen = match request {
-            Some(request) => call(&mut self.core, thread, request),
-            None => finish(&mut self.core, thread),
+            Some(request) => self.core.call(thread, request),
+            None => self.core.finish(thread),
         };
     }
 

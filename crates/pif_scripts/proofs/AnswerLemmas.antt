@@ -5,8 +5,9 @@ use Rattle.pif_types.specs.Numbers.{number_of}
 use Rattle.pif_types.specs.declared.errors.Errno.{Errno}
 use Rattle.pif_types.specs.declared.errors.Errno.TheVariants.{NotPermitted, NoSuchThread, Again, Fault, Busy, Invalid, Deadlock, Overflow, TimedOut, OwnerDead, NotRecoverable}
 use Rattle.pif_types.specs.declared.errors.Refusal.{Refusal}
-use Rattle.pif_types.specs.declared.requests.Kind.{Kind}
-use Rattle.pif_types.specs.declared.requests.Kind.TheVariants.{Normal, ErrorCheck, Recursive}
+use Rattle.pif_model.specs.declared.lines.Relock.{Relock}
+use Rattle.pif_model.specs.declared.lines.Relock.TheVariants.{Stops, Answers, Counts}
+use Rattle.pif_model.specs.Kinds.{relock_of}
 use Rattle.pif_types.specs.declared.requests.Request.{Request}
 use Rattle.pif_types.specs.declared.requests.Request.TheVariants.{Lock, TryLock, Unlock, Consistent, Wait, Signal, Broadcast, SetPrio, TimedLock, TimedWait}
 use Rattle.pif_model.specs.declared.events.Event.{Event}
@@ -16,22 +17,33 @@ use Rattle.pif_model.specs.declared.events.Seen.TheVariants as seen
 use Rattle.pif_model.specs.declared.lines.Line.{Line}
 use Rattle.pif_model.specs.declared.lines.Line.TheVariants.{Idle, At}
 use Rattle.pif_model.specs.declared.lines.Place.{Place}
-use Rattle.pif_model.specs.declared.lines.Place.TheVariants.{LockLoad, LockPending, LockExchange, LockKernel, LockQueued, LockStop, LockStopped, LockClear, QueueExpired, StopExpired, TakeLoad, TakeHealth, TakeStore, TakeWord, LinkNext, LinkHead, LinkClear, LeaveExchange, LeaveKernel, LeaveClear, TryLoad, TryPending, TryExchange, TryKernel, TryClear, UnlockLoad, UnlockPending, UnlockHealth, UnlockStore, UnlockUnlink, UnlockExchange, UnlockKernel, UnlockClear, ConsistentLoad, ConsistentHealth, ConsistentStore, WaitLoad, WaitUses, WaitPending, WaitHealth, WaitStore, WaitUnlink, WaitExchange, WaitKernel, WaitPark, WaitParked, UseLoad, UseExchange, UseRequeue, UseReload, SetPriority}
+use Rattle.pif_model.specs.declared.lines.Place.TheVariants.{Load, NamePending, Exchange, CallKernel, StayQueued, Stop, StayStopped, Take, Link, Give, Clear, LoadUses, Park, StayParked, Repair, Wake, SetPriority}
+use Rattle.pif_model.specs.declared.lines.TakeStep.{TakeStep}
+use Rattle.pif_model.specs.declared.lines.TakeStep.TheVariants.{LoadWord, LoadHealth, StoreInconsistent, ClearDied}
+use Rattle.pif_model.specs.declared.lines.LinkStep.{LinkStep}
+use Rattle.pif_model.specs.declared.lines.LinkStep.TheVariants.{WriteNext, WriteHead}
+use Rattle.pif_model.specs.declared.lines.GiveStep.{GiveStep}
+use Rattle.pif_model.specs.declared.lines.GiveStep.TheVariants.{SetPending, SeeHealth, StoreUnusable, Unlink, Release, CallUnlock}
+use Rattle.pif_model.specs.declared.lines.Purpose.{Purpose}
+use Rattle.pif_model.specs.declared.lines.Purpose.TheVariants.{ToUnlock, ToPark, ToLeave}
+use Rattle.pif_model.specs.declared.lines.Footing.TheVariants.{Linked, Unowned}
+use Rattle.pif_model.specs.declared.lines.RepairStep.TheVariants.{CheckHealth, StoreFine}
+use Rattle.pif_model.specs.declared.lines.WakeStep.{WakeStep}
+use Rattle.pif_model.specs.declared.lines.WakeStep.TheVariants.{ReadUses, CountUse, Requeue, ReadAgain}
 use Rattle.pif_model.specs.declared.lines.Took.{Took}
 use Rattle.pif_model.specs.declared.lines.Took.TheVariants.{Owns as TookOwns, Queued as TookQueued}
 use Rattle.pif_model.specs.PiKernel.{is_ready, is_woken_again, lock_answer, try_lock_answer, unlock_answer, set_prio_answer, wait_requeue_answer, requeue_answer}
 use Rattle.pif_model.specs.Word.{Word, take_word, release_word}
 use Rattle.pif_model.specs.Table.{Table, cell_at, status_at, bound_to, uses_of, with_word, line_at, timer_at}
-use Rattle.pif_model.specs.Lines.{Outcome, goes_to, waits_at, answers, is_robust, ends_by, relocks, after_exchange, own_exchange, lock_load, lock_by, lock_kernel, take_load, lock_queued, lock_stop, take_health, take_store, take_word_back, link_next, link_head, clears, leave_exchange, given_up_by, gives_up, try_load, try_by, try_kernel, unlock_load, unlock_health, unlock_exchange, consistent_load, consistent_health, answered_by, set_priority, wait_load, wait_uses, wait_health, wait_exchange, wait_by, wait_park, wait_parked, use_read, use_exchange, more_in, use_by, use_requeue, ended_table, shared_line, locking_line, use_line, line_of, is_line_due, expired_place, expired_in, expires_at, told_outcome, go_outcome, first_place, table_refusal, accepted_outcome, by_refusal, event_outcome}
+use Rattle.pif_model.specs.Lines.{Outcome, goes_to, waits_at, answers, is_robust, ends_by, relocks, after_exchange, own_exchange, lock_load, lock_by, lock_kernel, take_load, lock_queued, lock_stop, take_health, take_line, link_line, clears, given_up, give_health, give_exchange, given_up_by, gives_up, give_line, try_load, try_by, try_kernel, unlock_load, consistent_load, consistent_health, repair_line, answered_by, set_priority, wait_load, wait_uses, wait_by, wait_park, wait_parked, use_read, use_exchange, more_in, use_by, use_requeue, ended_table, giving_line, shared_line, locking_line, use_line, line_of, is_line_due, expired_place, expired_in, expires_at, told_outcome, go_outcome, first_place, table_refusal, accepted_outcome, by_refusal, event_outcome}
 use Rattle.pif_model.specs.Deadlines.{plain, told, told_seen}
 use Rattle.pif_text.specs.Numbers.{IsNumber}
 use Rattle.pif_text.specs.Traces.{IsSeenTraced}
 
 -- an answer that a place keeps is a number that a line can write
 abbrev pub IsSmallPlace : Place → Type 0
-IsSmallPlace (LinkNext a) = IsNumber a
-IsSmallPlace (LinkHead a) = IsNumber a
-IsSmallPlace (LinkClear a) = IsNumber a
+IsSmallPlace (Link x a) = IsNumber a
+IsSmallPlace (Clear f a) = IsNumber a
 IsSmallPlace _ = Unit {0}
 
 -- so is what a line keeps
@@ -128,50 +140,54 @@ module _ (s : Table) (h : AreSmall s.lines) (t m : ℕ) where
   locked_again-fits =
       either (nat_lt (cell_at s m).count 255) _ _ (closes _ h t 0 (omega arith)) (closes s h t 11 (omega arith))
 
-  own_exchange-fits : (q : Request) (p : Place) → IsSmallPlace p → Fits (own_exchange q p t m s)
+  own_exchange-fits : (q : Request) → Fits (own_exchange q t m s)
   unfolding own_exchange
-  own_exchange-fits q p n =
+  own_exchange-fits q =
       by_exchange (take_word (cell_at s m).word t) m _ _ s
-      (λ w. ends (with_word m w s) h t q m (TakeHealth false) 0 tt (omega arith)) (goes s h t q p n)
+      (λ w. ends (with_word m w s) h t q m (Take (LoadHealth false)) 0 tt (omega arith)) (goes s h t q CallKernel tt)
 
   lock_load-fits : (q : Request) → Fits (lock_load q t m s)
   unfolding lock_load
   lock_load-fits q =
-      either ((cell_at s m).word.number == t) _ _ (by_kind (cell_at s m).kind)
-      (either (is_robust m s) _ _ (goes s h t q LockPending tt) (goes s h t q LockExchange tt))
+      either ((cell_at s m).word.number == t) _ _ (by_relock (relock_of (cell_at s m).kind))
+      (either (is_robust m s) _ _ (goes s h t q NamePending tt) (goes s h t q Exchange tt))
     where
-      by_kind : (k : Kind) → Fits (elim k as (λ _. Outcome)
-          [ Normal ↦ goes_to t q LockStop s | ErrorCheck ↦ answers t 35 s | Recursive ↦ relocks t m s ])
-      by_kind Normal = goes s h t q LockStop tt
-      by_kind ErrorCheck = closes s h t 35 (omega arith)
-      by_kind Recursive = locked_again-fits
+      by_relock : (x : Relock) → Fits (elim x as (λ _. Outcome)
+          [ Stops ↦ goes_to t q Stop s | Answers ↦ answers t 35 s | Counts ↦ relocks t m s ])
+      by_relock Stops = goes s h t q Stop tt
+      by_relock Answers = closes s h t 35 (omega arith)
+      by_relock Counts = locked_again-fits
 
   lock_by-fits : (r : Result Took Errno) (q : Request) → Fits (lock_by r q t m s)
   unfolding lock_by
-  lock_by-fits (Ok TookOwns) q = ends s h t q m TakeLoad 0 tt (omega arith)
-  lock_by-fits (Ok TookQueued) q = rests s h t q LockQueued tt
-  lock_by-fits (Err Deadlock) q = ends s h t q m LockClear 35 tt (omega arith)
-  lock_by-fits (Err NoSuchThread) q = goes s h t q LockStop tt
+  lock_by-fits (Ok TookOwns) q = ends s h t q m (Take LoadWord) 0 tt (omega arith)
+  lock_by-fits (Ok TookQueued) q = rests s h t q StayQueued tt
+  lock_by-fits (Err Deadlock) q = ends s h t q m (Clear Unowned 35) 35 (omega arith) (omega arith)
+  lock_by-fits (Err NoSuchThread) q = goes s h t q Stop tt
   lock_by-fits (Err e) q = fails s h t e
 
   lock_queued-fits : (q : Request) → Fits (lock_queued q t m s)
   unfolding lock_queued take_load
   lock_queued-fits q =
       either (is_ready (status_at s t)) _ _
-      (either (is_robust m s) _ _ (goes s h t q (TakeHealth (cell_at s m).word.died) tt) (closes s h t 0 (omega arith)))
+      (either (is_robust m s) _ _ (goes s h t q (Take (LoadHealth (cell_at s m).word.died)) tt) (closes s h t 0 (omega arith)))
       (record { seen = tt; lines = h })
 
   take_health-fits : (q : Request) (died : Bool) → Fits (take_health q died t m s)
   unfolding take_health
   take_health-fits q died =
-      either ((cell_at s m).health == 2) _ _ (goes s h t q LeaveExchange tt)
-      (either died _ _ (goes s h t q TakeStore tt) (goes s h t q (LinkNext 0) (omega arith)))
+      either ((cell_at s m).health == 2) _ _ (goes s h t q (Give Release ToLeave) tt)
+      (either died _ _ (goes s h t q (Take StoreInconsistent) tt) (goes s h t q (Link WriteNext 0) (omega arith)))
 
-  leave_exchange-fits : (q : Request) → Fits (leave_exchange q t m s)
-  unfolding leave_exchange
-  leave_exchange-fits q =
-      by_exchange (release_word (cell_at s m).word t) m _ _ s (λ w. goes (with_word m w s) h t q LeaveClear tt)
-      (goes s h t q LeaveKernel tt)
+  given_up-fits : (q : Request) (y : Purpose) → Fits (given_up q y t m s)
+  given_up-fits q ToUnlock = ends s h t q m (Clear Unowned 0) 0 (omega arith) (omega arith)
+  given_up-fits q (ToPark v) = goes s h t q (Park v) tt
+  given_up-fits q ToLeave = goes s h t q (Clear Unowned 131) (omega arith)
+
+  give_health-fits : (q : Request) (y : Purpose) → Fits (give_health q y t m s)
+  unfolding give_health
+  give_health-fits q y =
+      either ((cell_at s m).health == 1) _ _ (goes s h t q (Give StoreUnusable y) tt) (goes s h t q (Give Unlink y) tt)
 
   given_up_by-fits : (r : Result (record {}) Errno) (done : Table → Outcome) → Fits (done s)
       → Fits (given_up_by r t done s)
@@ -182,18 +198,18 @@ module _ (s : Table) (h : AreSmall s.lines) (t m : ℕ) where
   try_load-fits : Fits (try_load t m s)
   unfolding try_load
   try_load-fits =
-      either ((cell_at s m).word.number == t) _ _ (by_kind (cell_at s m).kind)
-      (either (is_robust m s) _ _ (goes s h t (TryLock m) TryPending tt) (goes s h t (TryLock m) TryExchange tt))
+      either ((cell_at s m).word.number == t) _ _ (by_relock (relock_of (cell_at s m).kind))
+      (either (is_robust m s) _ _ (goes s h t (TryLock m) NamePending tt) (goes s h t (TryLock m) Exchange tt))
     where
-      by_kind : (k : Kind) → Fits (elim k as (λ _. Outcome) [ Recursive ↦ relocks t m s | _ ↦ answers t 16 s ])
-      by_kind Normal = closes s h t 16 (omega arith)
-      by_kind ErrorCheck = closes s h t 16 (omega arith)
-      by_kind Recursive = locked_again-fits
+      by_relock : (x : Relock) → Fits (elim x as (λ _. Outcome) [ Counts ↦ relocks t m s | _ ↦ answers t 16 s ])
+      by_relock Stops = closes s h t 16 (omega arith)
+      by_relock Answers = closes s h t 16 (omega arith)
+      by_relock Counts = locked_again-fits
 
   try_by-fits : (r : Result (record {}) Errno) → Fits (try_by r t m s)
   unfolding try_by
-  try_by-fits (Ok x) = ends s h t (TryLock m) m TakeLoad 0 tt (omega arith)
-  try_by-fits (Err Again) = ends s h t (TryLock m) m TryClear 16 tt (omega arith)
+  try_by-fits (Ok x) = ends s h t (TryLock m) m (Take LoadWord) 0 tt (omega arith)
+  try_by-fits (Err Again) = ends s h t (TryLock m) m (Clear Unowned 16) 16 (omega arith) (omega arith)
   try_by-fits (Err e) = fails s h t e
 
   unlock_load-fits : Fits (unlock_load t m s)
@@ -201,69 +217,47 @@ module _ (s : Table) (h : AreSmall s.lines) (t m : ℕ) where
   unlock_load-fits =
       either ((cell_at s m).word.number == t) _ _
       (either (nat_lt 1 (cell_at s m).count) _ _ (closes _ h t 0 (omega arith))
-      (either (is_robust m s) _ _ (goes s h t (Unlock m) UnlockPending tt) (goes s h t (Unlock m) UnlockExchange tt)))
+      (either (is_robust m s) _ _ (goes s h t (Unlock m) (Give SetPending ToUnlock) tt) (goes s h t (Unlock m) (Give Release ToUnlock) tt)))
       (closes s h t 1 (omega arith))
-
-  unlock_health-fits : Fits (unlock_health t m s)
-  unfolding unlock_health
-  unlock_health-fits =
-      either ((cell_at s m).health == 1) _ _ (goes s h t (Unlock m) UnlockStore tt) (goes s h t (Unlock m) UnlockUnlink tt)
-
-  unlock_exchange-fits : Fits (unlock_exchange t m s)
-  unfolding unlock_exchange
-  unlock_exchange-fits =
-      by_exchange (release_word (cell_at s m).word t) m _ _ s
-      (λ w. ends (with_word m w s) h t (Unlock m) m UnlockClear 0 tt (omega arith)) (goes s h t (Unlock m) UnlockKernel tt)
 
   consistent_load-fits : Fits (consistent_load t m s)
   unfolding consistent_load
   consistent_load-fits =
       either (is_robust m s) _ _
-      (either ((cell_at s m).word.number == t) _ _ (goes s h t (Consistent m) ConsistentHealth tt)
+      (either ((cell_at s m).word.number == t) _ _ (goes s h t (Consistent m) (Repair CheckHealth) tt)
       (closes s h t 1 (omega arith)))
       (closes s h t 22 (omega arith))
 
   consistent_health-fits : Fits (consistent_health t m s)
   unfolding consistent_health
   consistent_health-fits =
-      either ((cell_at s m).health == 1) _ _ (goes s h t (Consistent m) ConsistentStore tt) (closes s h t 22 (omega arith))
+      either ((cell_at s m).health == 1) _ _ (goes s h t (Consistent m) (Repair StoreFine) tt) (closes s h t 22 (omega arith))
 
   wait_load-fits : (c : ℕ) → Fits (wait_load c m t s)
   unfolding wait_load
   wait_load-fits c =
       either (bound_to s c == m) _ _
       (either ((cell_at s m).word.number == t) _ _
-      (either (nat_lt 1 (cell_at s m).count) _ _ (closes s h t 22 (omega arith)) (goes s h t (Wait c m) WaitUses tt))
+      (either (nat_lt 1 (cell_at s m).count) _ _ (closes s h t 22 (omega arith)) (goes s h t (Wait c m) LoadUses tt))
       (closes s h t 1 (omega arith)))
       (closes s h t 22 (omega arith))
 
   wait_uses-fits : (c : ℕ) → Fits (wait_uses c m t s)
   unfolding wait_uses
   wait_uses-fits c =
-      either (is_robust m s) _ _ (goes s h t (Wait c m) (WaitPending (uses_of s c)) tt)
-      (goes s h t (Wait c m) (WaitExchange (uses_of s c)) tt)
-
-  wait_health-fits : (v c : ℕ) → Fits (wait_health v c m t s)
-  unfolding wait_health
-  wait_health-fits v c =
-      either ((cell_at s m).health == 1) _ _ (goes s h t (Wait c m) (WaitStore v) tt) (goes s h t (Wait c m) (WaitUnlink v) tt)
-
-  wait_exchange-fits : (v c : ℕ) → Fits (wait_exchange v c m t s)
-  unfolding wait_exchange
-  wait_exchange-fits v c =
-      by_exchange (release_word (cell_at s m).word t) m _ _ s (λ w. goes (with_word m w s) h t (Wait c m) (WaitPark v) tt)
-      (goes s h t (Wait c m) (WaitKernel v) tt)
+      either (is_robust m s) _ _ (goes s h t (Wait c m) (Give SetPending (ToPark (uses_of s c))) tt)
+      (goes s h t (Wait c m) (Give Release (ToPark (uses_of s c))) tt)
 
   wait_by-fits : (r : Result (record {}) Errno) (c : ℕ) → Fits (wait_by r c m t s)
   unfolding wait_by
-  wait_by-fits (Ok x) c = rests s h t (Wait c m) WaitParked tt
-  wait_by-fits (Err Again) c = goes s h t (Wait c m) LockExchange tt
+  wait_by-fits (Ok x) c = rests s h t (Wait c m) StayParked tt
+  wait_by-fits (Err Again) c = goes s h t (Wait c m) Exchange tt
   wait_by-fits (Err e) c = fails s h t e
 
   wait_parked-fits : (c : ℕ) → Fits (wait_parked c m t s)
   unfolding wait_parked
   wait_parked-fits c =
-      either (is_woken_again (status_at s t)) _ _ (own_exchange-fits (Wait c m) LockKernel tt) (lock_queued-fits (Wait c m))
+      either (is_woken_again (status_at s t)) _ _ (own_exchange-fits (Wait c m)) (lock_queued-fits (Wait c m))
 
 -- the other steps
 module _ (s : Table) (h : AreSmall s.lines) (t : ℕ) where
@@ -274,17 +268,17 @@ module _ (s : Table) (h : AreSmall s.lines) (t : ℕ) where
 
   use_read-fits : (q : Request) (n : ℕ) → Fits (use_read q n t s)
   unfolding use_read
-  use_read-fits q n = either (n == s.limits.signals) _ _ (closes s h t 75 (omega arith)) (goes s h t q (UseExchange n) tt)
+  use_read-fits q n = either (n == s.limits.signals) _ _ (closes s h t 75 (omega arith)) (goes s h t q (Wake (CountUse n)) tt)
 
   use_exchange-fits : (q : Request) (v c : ℕ) → Fits (use_exchange q v c t s)
   unfolding use_exchange
   use_exchange-fits q v c =
-      either (uses_of s c == v) _ _ (goes _ h t q (UseRequeue (v + 1)) tt) (use_read-fits q (uses_of s c))
+      either (uses_of s c == v) _ _ (goes _ h t q (Wake (Requeue (v + 1))) tt) (use_read-fits q (uses_of s c))
 
   use_by-fits : (r : Result ℕ Errno) (q : Request) → Fits (use_by r q t s)
   unfolding use_by
   use_by-fits (Ok n) q = closes s h t 0 (omega arith)
-  use_by-fits (Err Again) q = goes s h t q UseReload tt
+  use_by-fits (Err Again) q = goes s h t q (Wake ReadAgain) tt
   use_by-fits (Err e) q = fails s h t e
 
 -- ---- kernel calls
@@ -296,7 +290,7 @@ module _ (s : Table) (h : AreSmall s.lines) (t : ℕ) where
 
   lock_stop-fits : (q : Request) → Fits (lock_stop q t s)
   unfolding lock_stop
-  lock_stop-fits q = rests _ h t q LockStopped tt
+  lock_stop-fits q = rests _ h t q StayStopped tt
 
   gives_up-fits : (m : ℕ) (done : Table → Outcome) → ((v : Table) → AreSmall v.lines → Fits (done v))
       → Fits (gives_up t m done s)
@@ -321,84 +315,89 @@ module _ (s : Table) (h : AreSmall s.lines) (t : ℕ) where
 
 -- ---- lines
 
--- taking over and leaving
+-- taking over
+take-fits : (q : Request) (x : TakeStep) (t m : ℕ) (s : Table) → AreSmall s.lines → Fits (take_line q x t m s)
+unfolding take_line take_load
+take-fits q LoadWord t m s h = goes s h t q (Take (LoadHealth (cell_at s m).word.died)) tt
+take-fits q (LoadHealth died) t m s h = take_health-fits s h t m q died
+take-fits q StoreInconsistent t m s h = goes _ h t q (Take ClearDied) tt
+take-fits q ClearDied t m s h = goes _ h t q (Link WriteNext 130) (omega arith)
+
+link-fits : (q : Request) (x : LinkStep) (a t m : ℕ) (s : Table) → IsNumber a → AreSmall s.lines
+    → Fits (link_line q x a t m s)
+unfolding link_line
+link-fits q WriteNext a t m s n h = goes _ h t q (Link WriteHead a) n
+link-fits q WriteHead a t m s n h = goes _ h t q (Clear Linked a) n
+
+-- giving up
+give-fits : (q : Request) (x : GiveStep) (y : Purpose) (t m : ℕ) (s : Table) → AreSmall s.lines
+    → Fits (give_line q x y t m s)
+unfolding give_line give_exchange
+give-fits q SetPending y t m s h = goes _ h t q (Give SeeHealth y) tt
+give-fits q SeeHealth y t m s h = give_health-fits s h t m q y
+give-fits q StoreUnusable y t m s h = goes _ h t q (Give Unlink y) tt
+give-fits q Unlink y t m s h = goes _ h t q (Give Release y) tt
+give-fits q Release y t m s h =
+    by_exchange (release_word (cell_at s m).word t) m _ _ s (λ w. given_up-fits (with_word m w s) h t m q y)
+    (goes s h t q (Give CallUnlock y) tt)
+give-fits q CallUnlock y t m s h = gives_up-fits s h t m (given_up q y t m) (λ v k. given_up-fits v k t m q y)
+
+giving-fits : (q : Request) (p : Place) (t m : ℕ) (s : Table) → IsSmallPlace p → AreSmall s.lines
+    → Fits (giving_line q p t m s)
+unfolding giving_line
+giving-fits q (Give x y) t m s n h = give-fits q x y t m s h
+giving-fits q (Clear f a) t m s n h = clears-fit s h t a n
+giving-fits q p t m s n h = closes s h t 22 (omega arith)
+
+-- what all requests share which lock
 shared-fits : (q : Request) (p : Place) (t m : ℕ) (s : Table) → IsSmallPlace p → AreSmall s.lines
     → Fits (shared_line q p t m s)
-unfolding shared_line take_load take_store take_word_back link_next link_head
-shared-fits q TakeLoad t m s n h = goes s h t q (TakeHealth (cell_at s m).word.died) tt
-shared-fits q (TakeHealth died) t m s n h = take_health-fits s h t m q died
-shared-fits q TakeStore t m s n h = goes _ h t q TakeWord tt
-shared-fits q TakeWord t m s n h = goes _ h t q (LinkNext 130) (omega arith)
-shared-fits q (LinkNext a) t m s n h = goes _ h t q (LinkHead a) n
-shared-fits q (LinkHead a) t m s n h = goes _ h t q (LinkClear a) n
-shared-fits q (LinkClear a) t m s n h = clears-fit s h t a n
-shared-fits q LeaveExchange t m s n h = leave_exchange-fits s h t m q
-shared-fits q LeaveKernel t m s n h = gives_up-fits s h t m (goes_to t q LeaveClear) (λ v k. goes v k t q LeaveClear tt)
-shared-fits q LeaveClear t m s n h = clears-fit s h t 131 (omega arith)
-shared-fits q p t m s n h = closes s h t 22 (omega arith)
+unfolding shared_line
+shared-fits q Exchange t m s n h = own_exchange-fits s h t m q
+shared-fits q (Take x) t m s n h = take-fits q x t m s h
+shared-fits q (Link x a) t m s n h = link-fits q x a t m s n h
+shared-fits q p t m s n h = giving-fits q p t m s n h
 
 -- what locks, from the exchange on
 locking-fits : (q : Request) (p : Place) (t m : ℕ) (s : Table) → IsSmallPlace p → AreSmall s.lines
     → Fits (locking_line q p t m s)
 unfolding locking_line
-locking-fits q LockExchange t m s n h = own_exchange-fits s h t m q LockKernel tt
-locking-fits q LockKernel t m s n h = lock_kernel-fits s h t q m
-locking-fits q LockQueued t m s n h = lock_queued-fits s h t m q
-locking-fits q LockStop t m s n h = lock_stop-fits s h t q
-locking-fits q LockStopped t m s n h = record { seen = tt; lines = h }
-locking-fits q LockClear t m s n h = clears-fit s h t 35 (omega arith)
+locking-fits q CallKernel t m s n h = lock_kernel-fits s h t q m
+locking-fits q StayQueued t m s n h = lock_queued-fits s h t m q
+locking-fits q Stop t m s n h = lock_stop-fits s h t q
+locking-fits q StayStopped t m s n h = record { seen = tt; lines = h }
 locking-fits q p t m s n h = shared-fits q p t m s n h
 
 -- signal and broadcast
-use-fits : (q : Request) (p : Place) (c t : ℕ) (s : Table) → AreSmall s.lines → Fits (use_line q p c t s)
+use-fits : (q : Request) (x : WakeStep) (c t : ℕ) (s : Table) → AreSmall s.lines → Fits (use_line q x c t s)
 unfolding use_line
-use-fits q UseLoad c t s h = use_read-fits s h t q (uses_of s c)
-use-fits q (UseExchange v) c t s h = use_exchange-fits s h t q v c
-use-fits q (UseRequeue v) c t s h = use_requeue-fits s h t q v c
-use-fits q UseReload c t s h = goes s h t q (UseRequeue (uses_of s c)) tt
-use-fits q p c t s h = closes s h t 22 (omega arith)
+use-fits q ReadUses c t s h = use_read-fits s h t q (uses_of s c)
+use-fits q (CountUse v) c t s h = use_exchange-fits s h t q v c
+use-fits q (Requeue v) c t s h = use_requeue-fits s h t q v c
+use-fits q ReadAgain c t s h = goes s h t q (Wake (Requeue (uses_of s c))) tt
 
 -- each place of each request
 line-fits : (q : Request) (p : Place) (t : ℕ) (s : Table) → IsSmallPlace p → AreSmall s.lines → Fits (line_of q p t s)
-unfolding line_of
-line-fits (Lock m) LockLoad t s n h = lock_load-fits s h t m (Lock m)
-line-fits (Lock m) LockPending t s n h = goes _ h t (Lock m) LockExchange tt
-line-fits (Lock m) QueueExpired t s n h = clears-fit s h t 110 (omega arith)
-line-fits (Lock m) StopExpired t s n h = clears-fit s h t 110 (omega arith)
+unfolding line_of repair_line
+line-fits (Lock m) Load t s n h = lock_load-fits s h t m (Lock m)
+line-fits (Lock m) NamePending t s n h = goes _ h t (Lock m) Exchange tt
 line-fits (Lock m) p t s n h = locking-fits (Lock m) p t m s n h
-line-fits (TryLock m) TryLoad t s n h = try_load-fits s h t m
-line-fits (TryLock m) TryPending t s n h = goes _ h t (TryLock m) TryExchange tt
-line-fits (TryLock m) TryExchange t s n h = own_exchange-fits s h t m (TryLock m) TryKernel tt
-line-fits (TryLock m) TryKernel t s n h = try_kernel-fits s h t m
-line-fits (TryLock m) TryClear t s n h = clears-fit s h t 16 (omega arith)
+line-fits (TryLock m) Load t s n h = try_load-fits s h t m
+line-fits (TryLock m) NamePending t s n h = goes _ h t (TryLock m) Exchange tt
+line-fits (TryLock m) CallKernel t s n h = try_kernel-fits s h t m
 line-fits (TryLock m) p t s n h = shared-fits (TryLock m) p t m s n h
-line-fits (Unlock m) UnlockLoad t s n h = unlock_load-fits s h t m
-line-fits (Unlock m) UnlockPending t s n h = goes _ h t (Unlock m) UnlockHealth tt
-line-fits (Unlock m) UnlockHealth t s n h = unlock_health-fits s h t m
-line-fits (Unlock m) UnlockStore t s n h = goes _ h t (Unlock m) UnlockUnlink tt
-line-fits (Unlock m) UnlockUnlink t s n h = goes _ h t (Unlock m) UnlockExchange tt
-line-fits (Unlock m) UnlockExchange t s n h = unlock_exchange-fits s h t m
-line-fits (Unlock m) UnlockKernel t s n h =
-    gives_up-fits s h t m (ends_by t (Unlock m) m UnlockClear 0)
-    (λ v k. ends v k t (Unlock m) m UnlockClear 0 tt (omega arith))
-line-fits (Unlock m) UnlockClear t s n h = clears-fit s h t 0 (omega arith)
-line-fits (Consistent m) ConsistentLoad t s n h = consistent_load-fits s h t m
-line-fits (Consistent m) ConsistentHealth t s n h = consistent_health-fits s h t m
-line-fits (Consistent m) ConsistentStore t s n h = closes _ h t 0 (omega arith)
-line-fits (Wait c m) WaitLoad t s n h = wait_load-fits s h t m c
-line-fits (Wait c m) WaitUses t s n h = wait_uses-fits s h t m c
-line-fits (Wait c m) (WaitPending v) t s n h = goes _ h t (Wait c m) (WaitHealth v) tt
-line-fits (Wait c m) (WaitHealth v) t s n h = wait_health-fits s h t m v c
-line-fits (Wait c m) (WaitStore v) t s n h = goes _ h t (Wait c m) (WaitUnlink v) tt
-line-fits (Wait c m) (WaitUnlink v) t s n h = goes _ h t (Wait c m) (WaitExchange v) tt
-line-fits (Wait c m) (WaitExchange v) t s n h = wait_exchange-fits s h t m v c
-line-fits (Wait c m) (WaitKernel v) t s n h =
-    gives_up-fits s h t m (goes_to t (Wait c m) (WaitPark v)) (λ x k. goes x k t (Wait c m) (WaitPark v) tt)
-line-fits (Wait c m) (WaitPark v) t s n h = wait_park-fits s h t v c m
-line-fits (Wait c m) WaitParked t s n h = wait_parked-fits s h t m c
+line-fits (Unlock m) Load t s n h = unlock_load-fits s h t m
+line-fits (Unlock m) p t s n h = giving-fits (Unlock m) p t m s n h
+line-fits (Consistent m) Load t s n h = consistent_load-fits s h t m
+line-fits (Consistent m) (Repair CheckHealth) t s n h = consistent_health-fits s h t m
+line-fits (Consistent m) (Repair StoreFine) t s n h = closes _ h t 0 (omega arith)
+line-fits (Wait c m) Load t s n h = wait_load-fits s h t m c
+line-fits (Wait c m) LoadUses t s n h = wait_uses-fits s h t m c
+line-fits (Wait c m) (Park v) t s n h = wait_park-fits s h t v c m
+line-fits (Wait c m) StayParked t s n h = wait_parked-fits s h t m c
 line-fits (Wait c m) p t s n h = locking-fits (Wait c m) p t m s n h
-line-fits (Signal c) p t s n h = use-fits (Signal c) p c t s h
-line-fits (Broadcast c) p t s n h = use-fits (Broadcast c) p c t s h
+line-fits (Signal c) (Wake x) t s n h = use-fits (Signal c) x c t s h
+line-fits (Broadcast c) (Wake x) t s n h = use-fits (Broadcast c) x c t s h
 line-fits (SetPrio u p) SetPriority t s n h = set_priority-fits s h t u p
 line-fits q p t s n h = closes s h t 22 (omega arith)
 
@@ -406,14 +405,14 @@ line-fits q p t s n h = closes s h t 22 (omega arith)
 
 -- where an expiry goes on
 expired-small : (p : Place) → IsSmallPlace (expired_place p)
-expired-small LockQueued = tt
-expired-small p = tt
+expired-small StayQueued = omega arith
+expired-small p = omega arith
 
 -- an expiry
 expires-fits : (q : Request) (p : Place) (t : ℕ) (s : Table) → AreSmall s.lines → Fits (expires_at q p t s)
 unfolding expires_at expired_in
 expires-fits (Lock m) p t s h = ends _ h t (Lock m) m (expired_place p) 110 (expired-small p) (omega arith)
-expires-fits (Wait c m) p t s h = goes _ h t (Wait c m) LockExchange tt
+expires-fits (Wait c m) p t s h = goes _ h t (Wait c m) Exchange tt
 expires-fits q p t s h = closes s h t 22 (omega arith)
 
 -- what a wait is answered that has expired

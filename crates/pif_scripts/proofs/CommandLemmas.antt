@@ -10,7 +10,7 @@ use Rattle.pif_text.specs.Commands.{command_in}
 use Rattle.pif_text.specs.CommandTexts.{command_text, IsWritten}
 use Rattle.pif_text.specs.Replies.{text_of}
 use Rattle.pif_text.specs.Traces.{version_in}
-use Rattle.pif_text.proofs.Plain.{command-line}
+use Rattle.pif_text.proofs.PlainTexts.{command-line}
 use Rattle.pif_text.proofs.ReadBack.{command_back}
 use Rattle.pif_scripts.specs.declared.reading.ending.Ending.TheVariants.{Fault}
 use Rattle.pif_scripts.specs.Scripts.{FirstMeaning, Meaning, Scan, answered_by, answered_first, answered_later, closed_at, ended_by, reading_of, start}

@@ -19,7 +19,7 @@ use Rattle.pif_text.specs.declared.traces.Version.TheVariants.{One, Two}
 use Rattle.pif_text.specs.Commands.{command_in}
 use Rattle.pif_text.specs.Replies.{text_of}
 use Rattle.pif_text.specs.Traces.{header_text, if_traced, parts_of, version_in}
-use Rattle.pif_text.proofs.Plain.{IsLine}
+use Rattle.pif_text.proofs.PlainTexts.{IsLine}
 use Rattle.pif_text.proofs.Versions.{header_is, later_version}
 use Rattle.pif_scripts.specs.declared.faults.CliFault.{CliFault}
 use Rattle.pif_scripts.specs.declared.faults.CliFault.TheVariants as fault

@@ -24,7 +24,8 @@ use Rattle.pif_text.specs.Replies.{text_of}
 use Rattle.pif_text.specs.declared.traces.Version.{Version}
 use Rattle.pif_text.specs.declared.traces.Version.TheVariants.{Two}
 use Rattle.pif_text.specs.Traces.{header_text, if_traced, recorded, same_of, IsTraced, version_in}
-use Rattle.pif_text.proofs.Plain.{lacks, IsLine, recorded-line, recorded-parts}
+use Rattle.pif_text.proofs.Plain.{lacks}
+use Rattle.pif_text.proofs.PlainTexts.{IsLine, recorded-line, recorded-parts}
 use Rattle.pif_text.proofs.ReadBack.{command_back}
 use Rattle.pif_text.specs.declared.replies.Cause.TheVariants.{Command as NoCommand}
 use Rattle.pif_scripts.specs.declared.reading.ending.Ending.TheVariants.{Fault, Differs}

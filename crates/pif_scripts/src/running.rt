@@ -14,7 +14,6 @@ use pif_text::{
     Added, Addition, Cause, Command, Fact, Question, Reply, Version, command_of, reply_text,
 };
 use pif_types::{AddFault, CondId, Health, Limits, MutexId, Prio, Request, Tid};
-use pif_uses::{call, finish};
 use std::alloc::Global;
 
 fn added_thread(added: Result<Tid, AddFault>) -> Added
@@ -121,8 +120,8 @@ fn run(core: &mut Core, thread: Tid, request: Option<Request>) -> Seen
     ensures after { core.new ≡ (run_outcome thread request core.old).after }
 {
     match request {
-        Some(request) => call(core, thread, request),
-        None => finish(core, thread),
+        Some(request) => core.call(thread, request),
+        None => core.finish(thread),
     }
 }
 

@@ -4,7 +4,7 @@ ghost use Rattle.pif_types.specs.Bounds.{Bounds};
 ghost use Rattle.pif_model.specs.Table.{Table};
 ghost use Rattle.pif_model.specs.declared.events.Event.TheVariants as event;
 ghost use Rattle.pif_model.specs.Lines.{event_outcome, goes_on};
-ghost use Rattle.pif_uses.specs.Calls.{call_outcome};
+ghost use Rattle.pif_calls.specs.Calls.{call_outcome};
 ghost use Rattle.pif_scripts.specs.Running.{run_outcome};
 ghost use Rattle.pif_scripts.specs.Traces.{entry_line};
 ghost use Rattle.pif_scripts.specs.Transcripts.{Transcribed, call_entries, entry_lines, event_entry, first_limits, going_entries, is_added, row, run_entries, single_line, transcript, was_made};
@@ -12,12 +12,11 @@ ghost use Rattle.pif_scripts.specs.Transcripts.{Transcribed, call_entries, entry
 use crate::reading::{End, Ending, Listener, OUTPUT_ROOM, OpenFault, Output, append};
 use crate::running::{default_limits, obey};
 use crate::tracing::{LINE_ROOM, front_lines};
-use pif_core::{Core, Event, Seen};
+use pif_core::{Core, Event, MORE_STEPS, Seen};
 use pif_text::{
     Added, Cause, Command, Reply, Text, Version, command_of, command_text, if_traced, recorded_text,
 };
 use pif_types::{Limits, Request, Tid};
-use pif_uses::MORE_STEPS;
 use std::alloc::Global;
 use std::marker::Model;
 
@@ -67,7 +66,7 @@ fn step(core: &mut Core, event: Event, output: &mut Output) -> Seen
     answered
 }
 
-/// The thread goes on as in `pif_uses::finish`, with a line for each time.
+/// The thread goes on as in `Core::finish`, with a line for each time.
 fn finish(core: &mut Core, thread: Tid, output: &mut Output) -> Seen
     requires { array_vec_len output.old + FINISH_ROOM ≤ OUTPUT_ROOM }
     ensures seen { result ≡ (goes_on 23 thread core.old).seen }
@@ -84,7 +83,7 @@ fn finish(core: &mut Core, thread: Tid, output: &mut Output) -> Seen
     step(core, Event::Go(thread), output)
 }
 
-/// A whole call, as in `pif_uses::call`, with a line for each event.
+/// A whole call, as in `Core::call`, with a line for each event.
 fn call(core: &mut Core, thread: Tid, request: Request, output: &mut Output) -> Seen
     requires { array_vec_len output.old + LINES_ROOM ≤ OUTPUT_ROOM }
     ensures seen { result ≡ (call_outcome thread request core.old).seen }

@@ -14,7 +14,8 @@ use Rattle.pif_text.specs.Commands.{command_in}
 use Rattle.pif_text.specs.CommandTexts.{command_text, IsWritten}
 use Rattle.pif_text.specs.Replies.{text_of}
 use Rattle.pif_text.specs.Traces.{version_in}
-use Rattle.pif_text.proofs.Plain.{command-line, lacks}
+use Rattle.pif_text.proofs.Plain.{lacks}
+use Rattle.pif_text.proofs.PlainTexts.{command-line}
 use Rattle.pif_text.proofs.ReadBack.{command_back}
 use Rattle.pif_scripts.specs.declared.reading.ending.Ending.TheVariants.{Fault}
 use Rattle.pif_scripts.specs.CommandLines.{command_line, script_lines}

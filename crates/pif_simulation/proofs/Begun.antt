@@ -10,7 +10,7 @@ use Rattle.pif_model.specs.declared.events.Seen.TheVariants.{Begun}
 use Rattle.pif_model.specs.declared.events.Entry.TheVariants.{Step as Happened}
 use Rattle.pif_model.specs.declared.lines.Line.{Line}
 use Rattle.pif_model.specs.declared.lines.Line.TheVariants.{Idle, At}
-use Rattle.pif_model.specs.declared.lines.Place.TheVariants.{WaitLoad, WaitUses}
+use Rattle.pif_model.specs.declared.lines.Place.TheVariants.{Load, LoadUses}
 use Rattle.pif_model.specs.declared.lines.Status.{Status}
 use Rattle.pif_model.specs.declared.lines.Timer.{Timer}
 use Rattle.pif_model.specs.Deadlines.{plain, timer_of}
@@ -178,8 +178,8 @@ remembers w (TimedWait c j d) m = record { waits = omega arith; found = λ u n e
 blocked_joined : (c : ℕ) (health : ℕ → Health) (uses : ℕ → ℕ) (l : Line) (x : Status)
     → is_call_blocked c (call_at health uses l x) ≡ true → may_enlist l ≡ false
 blocked_joined c health uses Idle x e = refl
-blocked_joined c health uses (At q WaitLoad) x e = absurd (true≢false (sym e))
-blocked_joined c health uses (At q WaitUses) x e = absurd (true≢false (sym e))
+blocked_joined c health uses (At q Load) x e = absurd (true≢false (sym e))
+blocked_joined c health uses (At q LoadUses) x e = absurd (true≢false (sym e))
 blocked_joined c health uses (At q _) x e = refl
 
 module _ (s : Table) (t : ℕ) (q : Request) (h : IsSound s) (known : is_living s.kernel t ≡ true)

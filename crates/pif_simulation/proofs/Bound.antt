@@ -14,7 +14,20 @@ use Rattle.pif_model.specs.declared.events.Seen.TheVariants.{Went, Answered, Ref
 use Rattle.pif_model.specs.declared.lines.Line.{Line}
 use Rattle.pif_model.specs.declared.lines.Line.TheVariants.{Idle, At}
 use Rattle.pif_model.specs.declared.lines.Place.{Place}
-use Rattle.pif_model.specs.declared.lines.Place.TheVariants.{LockLoad, LockPending, LockExchange, LockKernel, LockQueued, LockStop, LockStopped, LockClear, QueueExpired, StopExpired, TakeLoad, TakeHealth, TakeStore, TakeWord, LinkNext, LinkHead, LinkClear, LeaveExchange, LeaveKernel, LeaveClear, TryLoad, TryPending, TryExchange, TryKernel, TryClear, UnlockLoad, UnlockPending, UnlockHealth, UnlockStore, UnlockUnlink, UnlockExchange, UnlockKernel, UnlockClear, ConsistentLoad, ConsistentHealth, ConsistentStore, WaitLoad, WaitUses, WaitPending, WaitHealth, WaitStore, WaitUnlink, WaitExchange, WaitKernel, WaitPark, WaitParked, UseLoad, UseExchange, UseRequeue, UseReload, SetPriority}
+use Rattle.pif_model.specs.declared.lines.Place.TheVariants.{Load, NamePending, Exchange, CallKernel, StayQueued, Stop, StayStopped, Take, Link, Give, Clear, LoadUses, Park, StayParked, Repair, Wake, SetPriority}
+use Rattle.pif_model.specs.declared.lines.TakeStep.{TakeStep}
+use Rattle.pif_model.specs.declared.lines.TakeStep.TheVariants.{LoadWord, LoadHealth, StoreInconsistent, ClearDied}
+use Rattle.pif_model.specs.declared.lines.LinkStep.{LinkStep}
+use Rattle.pif_model.specs.declared.lines.LinkStep.TheVariants.{WriteNext, WriteHead}
+use Rattle.pif_model.specs.declared.lines.GiveStep.{GiveStep}
+use Rattle.pif_model.specs.declared.lines.GiveStep.TheVariants.{SetPending, SeeHealth, StoreUnusable, Unlink, Release, CallUnlock}
+use Rattle.pif_model.specs.declared.lines.Purpose.{Purpose}
+use Rattle.pif_model.specs.declared.lines.Purpose.TheVariants.{ToUnlock, ToPark, ToLeave}
+use Rattle.pif_model.specs.declared.lines.Footing.TheVariants.{Linked, Unowned, HadStopped}
+use Rattle.pif_model.specs.declared.lines.RepairStep.{RepairStep}
+use Rattle.pif_model.specs.declared.lines.RepairStep.TheVariants.{CheckHealth, StoreFine}
+use Rattle.pif_model.specs.declared.lines.WakeStep.{WakeStep}
+use Rattle.pif_model.specs.declared.lines.WakeStep.TheVariants.{ReadUses, CountUse, Requeue, ReadAgain}
 use Rattle.pif_model.specs.declared.lines.Took.{Took}
 use Rattle.pif_model.specs.declared.lines.Took.TheVariants.{Owns as TookOwns, Queued as TookQueued}
 use Rattle.pif_model.specs.Refusals.{go_refused}
@@ -22,62 +35,70 @@ use Rattle.pif_model.specs.Word.{free_word, held_by, word_at, has_word, has_cond
 use Rattle.pif_model.specs.Posix.{variable_of}
 use Rattle.pif_model.specs.PiKernel.{Kernel, Seat, seat_at, has_seat, has_ended, state_at, next_in, is_living, lock_answer, words_after_lock, kernel_after_lock, try_lock_answer, words_after_try_lock, unlock_answer, words_after_unlock, kernel_after_unlock, kernel_after_hand_over, set_prio_answer, has_parked, parked_count, has_other_target, fits_state, wait_requeue_answer, kernel_after_wait_requeue, requeue_answer, after_requeue}
 use Rattle.pif_model.specs.Table.{Table, cell_at, line_at, has_thread, bound_to, uses_of, with_line, with_word, with_cond_word, with_count, with_kernel, status_at, timer_at, with_timer}
-use Rattle.pif_model.specs.Lines.{Outcome, goes_to, answers, ends_by, relocks, own_exchange, lock_load, lock_by, lock_kernel, lock_queued, lock_stop, take_load, take_health, take_store, take_word_back, link_next, link_head, clears, leave_exchange, given_up_by, gives_up, try_load, try_by, try_kernel, unlock_load, unlock_health, unlock_exchange, consistent_load, consistent_health, answered_by, set_priority, wait_load, wait_uses, wait_health, wait_exchange, wait_by, wait_park, wait_parked, use_read, use_exchange, more_in, use_by, use_requeue, shared_line, locking_line, use_line, line_of, go_outcome, is_open, table_refusal, accepted_outcome, by_refusal, event_outcome, goes_on, ClosesOrWaits, counts_at, expired_in, expires_at, told_outcome}
+use Rattle.pif_model.specs.Lines.{Outcome, goes_to, answers, ends_by, relocks, own_exchange, lock_load, lock_by, lock_kernel, lock_queued, lock_stop, take_load, take_health, take_line, link_line, clears, given_up, give_health, give_exchange, given_up_by, gives_up, give_line, try_load, try_by, try_kernel, unlock_load, consistent_load, consistent_health, repair_line, answered_by, set_priority, wait_load, wait_uses, wait_by, wait_park, wait_parked, use_read, use_exchange, more_in, use_by, use_requeue, giving_line, shared_line, locking_line, use_line, line_of, go_outcome, is_open, table_refusal, accepted_outcome, by_refusal, event_outcome, goes_on, ClosesOrWaits, counts_at, expired_in, expires_at, told_outcome}
 use Rattle.pif_model.specs.Deadlines.{ran_out, is_reached, told, told_seen}
 use Rattle.pif_chains.proofs.KernelFacts.{living-added}
 use Rattle.pif_chains.proofs.KernelPlaces.{handed_has, handed_seat_same, handed_seat_other}
-use Rattle.pif_chains.proofs.LineCases.{ends_by_cases, locked_again_cases, own_exchange_cases, lock_load_cases, lock_queued_cases, take_health_cases, leave_exchange_cases, try_load_cases, unlock_load_cases, unlock_health_cases, unlock_exchange_cases, consistent_load_cases, consistent_health_cases, wait_load_cases, wait_uses_cases, wait_health_cases, wait_exchange_cases, wait_parked_cases, use_read_cases, answered_by_cases}
+use Rattle.pif_chains.proofs.LineCases.{ends_by_cases, locked_again_cases, own_exchange_cases, lock_load_cases, lock_queued_cases, take_health_cases, give_health_cases, give_exchange_cases, try_load_cases, unlock_load_cases, consistent_load_cases, consistent_health_cases, wait_load_cases, wait_uses_cases, wait_parked_cases, use_read_cases, answered_by_cases}
 use Rattle.pif_chains.proofs.Waiting.{by_test}
 use Rattle.pif_simulation.proofs.Shown.{go_allowed}
 use Rattle.pif_chains.proofs.KernelExpired.{living-expired_same}
 
+-- how many steps at most a call may still go on, by its step
+abbrev take_rank : TakeStep → ℕ
+take_rank LoadWord = 6
+take_rank (LoadHealth d) = 5
+take_rank StoreInconsistent = 4
+take_rank ClearDied = 3
+
+abbrev link_rank : LinkStep → ℕ
+link_rank WriteNext = 2
+link_rank WriteHead = 1
+
+abbrev give_rank : GiveStep → ℕ
+give_rank SetPending = 6
+give_rank SeeHealth = 5
+give_rank StoreUnusable = 4
+give_rank Unlink = 3
+give_rank Release = 2
+give_rank CallUnlock = 1
+
+-- and after it has given its mutex up
+abbrev rank_after : Purpose → ℕ
+rank_after (ToPark v) = 9
+rank_after _ = 0
+
+abbrev repair_rank : RepairStep → ℕ
+repair_rank CheckHealth = 1
+repair_rank StoreFine = 0
+
+abbrev wake_rank : WakeStep → ℕ
+wake_rank ReadUses = 5
+wake_rank ReadAgain = 2
+wake_rank _ = 0
+
 -- how many steps at most a call at this place may still go on
 abbrev rank : Place → ℕ
-rank LockLoad = 10
-rank LockPending = 9
-rank LockExchange = 8
-rank LockKernel = 7
-rank LockQueued = 6
-rank LockStopped = 1
-rank TakeLoad = 6
-rank (TakeHealth d) = 5
-rank TakeStore = 4
-rank TakeWord = 3
-rank (LinkNext a) = 2
-rank (LinkHead a) = 1
-rank LeaveExchange = 2
-rank LeaveKernel = 1
-rank TryLoad = 10
-rank TryPending = 9
-rank TryExchange = 8
-rank TryKernel = 7
-rank UnlockLoad = 7
-rank UnlockPending = 6
-rank UnlockHealth = 5
-rank UnlockStore = 4
-rank UnlockUnlink = 3
-rank UnlockExchange = 2
-rank UnlockKernel = 1
-rank ConsistentLoad = 2
-rank ConsistentHealth = 1
-rank WaitLoad = 17
-rank WaitUses = 16
-rank (WaitPending v) = 15
-rank (WaitHealth v) = 14
-rank (WaitStore v) = 13
-rank (WaitUnlink v) = 12
-rank (WaitExchange v) = 11
-rank (WaitKernel v) = 10
-rank (WaitPark v) = 9
-rank WaitParked = 9
-rank UseLoad = 5
-rank UseReload = 2
+rank Load = 17
+rank NamePending = 9
+rank Exchange = 8
+rank CallKernel = 7
+rank StayQueued = 6
+rank StayStopped = 1
+rank (Take x) = take_rank x
+rank (Link x a) = link_rank x
+rank (Give x y) = give_rank x + rank_after y
+rank LoadUses = 16
+rank (Park v) = 9
+rank StayParked = 9
+rank (Repair x) = repair_rank x
+rank (Wake x) = wake_rank x
 rank _ = 0
 
 -- where it has read a condition word, by whether that is still what it was
 abbrev rank_in : Table → Request → Place → ℕ
-rank_in s q (UseExchange v) = if uses_of s (variable_of q) == v then 4 else 5
-rank_in s q (UseRequeue v) = if uses_of s (variable_of q) == v then 1 else 3
+rank_in s q (Wake (CountUse v)) = if uses_of s (variable_of q) == v then 4 else 5
+rank_in s q (Wake (Requeue v)) = if uses_of s (variable_of q) == v then 1 else 3
 rank_in s q p = rank p
 
 -- and at this line
@@ -91,51 +112,53 @@ of_two true i j n a b = a
 of_two false i j n a b = b
 
 -- no rank is above 23
+low_take : (x : TakeStep) → take_rank x ≤ 23
+low_take LoadWord = omega arith
+low_take (LoadHealth d) = omega arith
+low_take StoreInconsistent = omega arith
+low_take ClearDied = omega arith
+
+low_give : (x : GiveStep) → give_rank x ≤ 6
+low_give SetPending = omega arith
+low_give SeeHealth = omega arith
+low_give StoreUnusable = omega arith
+low_give Unlink = omega arith
+low_give Release = omega arith
+low_give CallUnlock = omega arith
+
+low_after : (y : Purpose) → rank_after y ≤ 9
+low_after ToUnlock = omega arith
+low_after (ToPark v) = omega arith
+low_after ToLeave = omega arith
+
+low_wake : (x : WakeStep) → wake_rank x ≤ 23
+low_wake ReadUses = omega arith
+low_wake (CountUse v) = omega arith
+low_wake (Requeue v) = omega arith
+low_wake ReadAgain = omega arith
+
 low_rank : (p : Place) → rank p ≤ 23
-low_rank LockLoad = omega arith
-low_rank LockPending = omega arith
-low_rank LockExchange = omega arith
-low_rank LockKernel = omega arith
-low_rank LockQueued = omega arith
-low_rank LockStopped = omega arith
-low_rank TakeLoad = omega arith
-low_rank (TakeHealth d) = omega arith
-low_rank TakeStore = omega arith
-low_rank TakeWord = omega arith
-low_rank (LinkNext a) = omega arith
-low_rank (LinkHead a) = omega arith
-low_rank LeaveExchange = omega arith
-low_rank LeaveKernel = omega arith
-low_rank TryLoad = omega arith
-low_rank TryPending = omega arith
-low_rank TryExchange = omega arith
-low_rank TryKernel = omega arith
-low_rank UnlockLoad = omega arith
-low_rank UnlockPending = omega arith
-low_rank UnlockHealth = omega arith
-low_rank UnlockStore = omega arith
-low_rank UnlockUnlink = omega arith
-low_rank UnlockExchange = omega arith
-low_rank UnlockKernel = omega arith
-low_rank ConsistentLoad = omega arith
-low_rank ConsistentHealth = omega arith
-low_rank WaitLoad = omega arith
-low_rank WaitUses = omega arith
-low_rank (WaitPending v) = omega arith
-low_rank (WaitHealth v) = omega arith
-low_rank (WaitStore v) = omega arith
-low_rank (WaitUnlink v) = omega arith
-low_rank (WaitExchange v) = omega arith
-low_rank (WaitKernel v) = omega arith
-low_rank (WaitPark v) = omega arith
-low_rank WaitParked = omega arith
-low_rank UseLoad = omega arith
-low_rank UseReload = omega arith
+low_rank Load = omega arith
+low_rank NamePending = omega arith
+low_rank Exchange = omega arith
+low_rank CallKernel = omega arith
+low_rank StayQueued = omega arith
+low_rank StayStopped = omega arith
+low_rank (Take x) = low_take x
+low_rank (Link WriteNext a) = omega arith
+low_rank (Link WriteHead a) = omega arith
+low_rank (Give x y) = omega (arith, low_give x, low_after y)
+low_rank LoadUses = omega arith
+low_rank (Park v) = omega arith
+low_rank StayParked = omega arith
+low_rank (Repair CheckHealth) = omega arith
+low_rank (Repair StoreFine) = omega arith
+low_rank (Wake x) = low_wake x
 low_rank _ = omega arith
 
 low_rank_in : (s : Table) (q : Request) (p : Place) → rank_in s q p ≤ 23
-low_rank_in s q (UseExchange v) = of_two (uses_of s (variable_of q) == v) 4 5 23 (omega arith) (omega arith)
-low_rank_in s q (UseRequeue v) = of_two (uses_of s (variable_of q) == v) 1 3 23 (omega arith) (omega arith)
+low_rank_in s q (Wake (CountUse v)) = of_two (uses_of s (variable_of q) == v) 4 5 23 (omega arith) (omega arith)
+low_rank_in s q (Wake (Requeue v)) = of_two (uses_of s (variable_of q) == v) 1 3 23 (omega arith) (omega arith)
 low_rank_in s q p = low_rank p
 
 -- and none at a line
@@ -217,20 +240,26 @@ module _ (s : Table) (t m : ℕ) (known : is_living s.kernel t ≡ true) (l : t 
   ends_by-turns n q p a less = ends_by_cases (Turns t n) q p a t m s (λ r. goes-turns s t known l n q p less)
       (λ r. answers-turns n t a s)
 
+  -- a mutex was given up
+  given_up-turns : (n : ℕ) (q : Request) (y : Purpose) → rank_after y < n → Turns t n (given_up q y t m s)
+  given_up-turns n q ToUnlock less = ends_by-turns n q (Clear Unowned 0) 0 less
+  given_up-turns n q (ToPark v) less = goes-turns s t known l n q (Park v) less
+  given_up-turns n q ToLeave less = goes-turns s t known l n q (Clear Unowned 131) less
+
 module _ (s : Table) (t m : ℕ) (known : is_living s.kernel t ≡ true) (l : t < length s.lines) where
   -- lock and trylock: compare-exchange from 0 to t
-  own_exchange-turns : (n : ℕ) (q : Request) (p : Place) → rank_in s q p < n → 5 < n → Turns t n (own_exchange q p t m s)
-  own_exchange-turns n q p less more = own_exchange_cases (Turns t n) q p t m s
-      (λ d free r. goes-turns (with_word m (held_by t) s) t known l n q (TakeHealth false) more)
-      (λ d free r. answers-turns n t 0 (with_word m (held_by t) s)) (goes-turns s t known l n q p less)
+  own_exchange-turns : (n : ℕ) (q : Request) → 7 < n → Turns t n (own_exchange q t m s)
+  own_exchange-turns n q more = own_exchange_cases (Turns t n) q t m s
+      (λ d free r. goes-turns (with_word m (held_by t) s) t known l n q (Take (LoadHealth false)) (omega arith))
+      (λ d free r. answers-turns n t 0 (with_word m (held_by t) s)) (goes-turns s t known l n q CallKernel more)
 
   -- lock: load the word
-  lock_load-turns : Turns t 10 (lock_load (Lock m) t m s)
-  lock_load-turns = lock_load_cases (Turns t 10) (Lock m) t m s
-      (λ own kind. goes-turns s t known l 10 (Lock m) LockStop (omega arith)) (λ own kind. answers-turns 10 t 35 s)
-      (λ own kind. locked_again-turns 10 t m s) (λ other r. goes-turns s t known l 10 (Lock m) LockPending
+  lock_load-turns : Turns t 17 (lock_load (Lock m) t m s)
+  lock_load-turns = lock_load_cases (Turns t 17) (Lock m) t m s
+      (λ own kind. goes-turns s t known l 17 (Lock m) Stop (omega arith)) (λ own kind. answers-turns 17 t 35 s)
+      (λ own kind. locked_again-turns 17 t m s) (λ other r. goes-turns s t known l 17 (Lock m) NamePending
       (omega arith))
-      (λ other r. goes-turns s t known l 10 (Lock m) LockExchange (omega arith))
+      (λ other r. goes-turns s t known l 17 (Lock m) Exchange (omega arith))
 
   -- lock: the kernel call lock_pi
   lock_kernel-turns : (q : Request) → Turns t 7 (lock_kernel q t m s)
@@ -240,18 +269,18 @@ module _ (s : Table) (t m : ℕ) (known : is_living s.kernel t ≡ true) (l : t 
       by_answer : (a : Result Took Errno) → Turns t 7 (lock_by a q t m
           (with_kernel (words_after_lock t m a s.words) (kernel_after_lock t m a s.words s.kernel) s))
       by_answer (Ok TookOwns) = ends_by-turns (with_kernel (words_after_lock t m (Ok TookOwns) s.words) s.kernel s) t
-          m known l 7 q TakeLoad 0 (omega arith)
+          m known l 7 q (Take LoadWord) 0 (omega arith)
       by_answer (Ok TookQueued) = ends (inl refl)
       by_answer (Err Deadlock) = ends_by-turns (with_kernel (words_after_lock t m (Err Deadlock) s.words) s.kernel s)
-          t m known l 7 q LockClear 35 (omega arith)
+          t m known l 7 q (Clear Unowned 35) 35 (omega arith)
       by_answer (Err NoSuchThread) = goes-turns (with_kernel
-          (words_after_lock t m (Err NoSuchThread) s.words) s.kernel s) t known l 7 q LockStop (omega arith)
+          (words_after_lock t m (Err NoSuchThread) s.words) s.kernel s) t known l 7 q Stop (omega arith)
       by_answer (Err _) = ends (inr (_, refl))
 
   -- lock: queued, or made the owner
   lock_queued-turns : (n : ℕ) (q : Request) → 5 < n → Turns t n (lock_queued q t m s)
   lock_queued-turns n q more = lock_queued_cases (Turns t n) q t m s
-      (λ e r. goes-turns s t known l n q (TakeHealth (cell_at s m).word.died) more)
+      (λ e r. goes-turns s t known l n q (Take (LoadHealth (cell_at s m).word.died)) more)
       (λ e r. answers-turns n t 0 s) (λ e. ends (inl refl))
 
   -- lock: stop for good
@@ -262,15 +291,9 @@ module _ (s : Table) (t m : ℕ) (known : is_living s.kernel t ≡ true) (l : t 
   -- taking over: load the health word
   take_health-turns : (q : Request) (d : Bool) → Turns t 5 (take_health q d t m s)
   take_health-turns q d = take_health_cases (Turns t 5) q d t m s
-      (λ e. goes-turns s t known l 5 q LeaveExchange (omega arith))
-      (λ n e. goes-turns s t known l 5 q TakeStore (omega arith))
-      (λ n e. goes-turns s t known l 5 q (LinkNext 0) (omega arith))
-
-  -- leaving: compare-exchange from t to 0
-  leave_exchange-turns : (q : Request) → Turns t 2 (leave_exchange q t m s)
-  leave_exchange-turns q = leave_exchange_cases (Turns t 2) q t m s
-      (λ w d n. goes-turns (with_word m free_word s) t known l 2 q LeaveClear (omega arith))
-      (goes-turns s t known l 2 q LeaveKernel (omega arith))
+      (λ e. goes-turns s t known l 5 q (Give Release ToLeave) (omega arith))
+      (λ n e. goes-turns s t known l 5 q (Take StoreInconsistent) (omega arith))
+      (λ n e. goes-turns s t known l 5 q (Link WriteNext 0) (omega arith))
 
   -- the kernel call unlock_pi
   gives_up-turns : (n : ℕ) (done : Table → Outcome) → ((v : Table) → is_living v.kernel t ≡ true → t < length v.lines
@@ -291,26 +314,26 @@ module _ (s : Table) (t m : ℕ) (known : is_living s.kernel t ≡ true) (l : t 
   -- wait: load the word
   wait_load-turns : (c : ℕ) → Turns t 17 (wait_load c m t s)
   wait_load-turns c = wait_load_cases (Turns t 17) c m t s (λ b own more. answers-turns 17 t 22 s)
-      (λ b own few. goes-turns s t known l 17 (Wait c m) WaitUses (omega arith)) (λ b other. answers-turns 17 t 1 s)
+      (λ b own few. goes-turns s t known l 17 (Wait c m) LoadUses (omega arith)) (λ b other. answers-turns 17 t 1 s)
       (λ apart. answers-turns 17 t 22 s)
 
   -- wait: load the condition word
   wait_uses-turns : (c : ℕ) → Turns t 16 (wait_uses c m t s)
   wait_uses-turns c = wait_uses_cases (Turns t 16) c m t s
-      (λ r. goes-turns s t known l 16 (Wait c m) (WaitPending (uses_of s c)) (omega arith))
-      (λ r. goes-turns s t known l 16 (Wait c m) (WaitExchange (uses_of s c)) (omega arith))
+      (λ r. goes-turns s t known l 16 (Wait c m) (Give SetPending (ToPark (uses_of s c))) (omega arith))
+      (λ r. goes-turns s t known l 16 (Wait c m) (Give Release (ToPark (uses_of s c))) (omega arith))
 
-  -- wait: load the health word
-  wait_health-turns : (v c : ℕ) → Turns t 14 (wait_health v c m t s)
-  wait_health-turns v c = wait_health_cases (Turns t 14) v c m t s
-      (λ e. goes-turns s t known l 14 (Wait c m) (WaitStore v) (omega arith))
-      (λ e. goes-turns s t known l 14 (Wait c m) (WaitUnlink v) (omega arith))
+  -- giving up: load the health word
+  give_health-turns : (q : Request) (y : Purpose) → Turns t (5 + rank_after y) (give_health q y t m s)
+  give_health-turns q y = give_health_cases (Turns t (5 + rank_after y)) q y t m s
+      (λ e. goes-turns s t known l (5 + rank_after y) q (Give StoreUnusable y) (omega arith))
+      (λ e. goes-turns s t known l (5 + rank_after y) q (Give Unlink y) (omega arith))
 
-  -- wait: compare-exchange from t to 0
-  wait_exchange-turns : (v c : ℕ) → Turns t 11 (wait_exchange v c m t s)
-  wait_exchange-turns v c = wait_exchange_cases (Turns t 11) v c m t s
-      (λ w d n. goes-turns (with_word m free_word s) t known l 11 (Wait c m) (WaitPark v) (omega arith))
-      (goes-turns s t known l 11 (Wait c m) (WaitKernel v) (omega arith))
+  -- giving up: compare-exchange from t to 0
+  give_exchange-turns : (q : Request) (y : Purpose) → Turns t (2 + rank_after y) (give_exchange q y t m s)
+  give_exchange-turns q y = give_exchange_cases (Turns t (2 + rank_after y)) q y t m s
+      (λ w. given_up-turns (with_word m free_word s) t m known l (2 + rank_after y) q y (omega arith))
+      (goes-turns s t known l (2 + rank_after y) q (Give CallUnlock y) (omega arith))
 
   -- wait: the kernel call wait_requeue_pi
   wait_park-turns : (v c : ℕ) → Turns t 9 (wait_park v c m t s)
@@ -320,21 +343,21 @@ module _ (s : Table) (t m : ℕ) (known : is_living s.kernel t ≡ true) (l : t 
       by_answer : (a : Result (record {}) Errno) → Turns t 9
           (wait_by a c m t (with_kernel s.words (kernel_after_wait_requeue t c m a s.kernel) s))
       by_answer (Ok x) = ends (inl refl)
-      by_answer (Err Again) = goes-turns s t known l 9 (Wait c m) LockExchange (omega arith)
+      by_answer (Err Again) = goes-turns s t known l 9 (Wait c m) Exchange (omega arith)
       by_answer (Err _) = ends (inr (_, refl))
 
   -- wait: parked, or woken since
   wait_parked-turns : (c : ℕ) → Turns t 9 (wait_parked c m t s)
   wait_parked-turns c = wait_parked_cases (Turns t 9) c m t s
-      (λ e. own_exchange-turns 9 (Wait c m) LockKernel (omega arith) (omega arith))
+      (λ e. own_exchange-turns 9 (Wait c m) (omega arith))
       (λ e. lock_queued-turns 9 (Wait c m) (omega arith))
 
   -- trylock: load the word
-  try_load-turns : Turns t 10 (try_load t m s)
-  try_load-turns = try_load_cases (Turns t 10) t m s
-      (λ own kind. locked_again-turns 10 t m s) (λ own kind. answers-turns 10 t 16 s)
-      (λ other r. goes-turns s t known l 10 (TryLock m) TryPending (omega arith))
-      (λ other r. goes-turns s t known l 10 (TryLock m) TryExchange (omega arith))
+  try_load-turns : Turns t 17 (try_load t m s)
+  try_load-turns = try_load_cases (Turns t 17) t m s
+      (λ own kind. locked_again-turns 17 t m s) (λ own kind. answers-turns 17 t 16 s)
+      (λ other r. goes-turns s t known l 17 (TryLock m) NamePending (omega arith))
+      (λ other r. goes-turns s t known l 17 (TryLock m) Exchange (omega arith))
 
   -- trylock: the kernel call trylock_pi
   try_kernel-turns : Turns t 7 (try_kernel t m s)
@@ -344,59 +367,74 @@ module _ (s : Table) (t m : ℕ) (known : is_living s.kernel t ≡ true) (l : t 
       by_answer : (a : Result (record {}) Errno) → Turns t 7
           (try_by a t m (with_kernel (words_after_try_lock t m a s.words) s.kernel s))
       by_answer (Ok x) = ends_by-turns (with_kernel (words_after_try_lock t m (Ok x) s.words) s.kernel s) t m known l
-          7 (TryLock m) TakeLoad 0 (omega arith)
+          7 (TryLock m) (Take LoadWord) 0 (omega arith)
       by_answer (Err Again) = ends_by-turns (with_kernel (words_after_try_lock t m (Err Again) s.words) s.kernel s) t
-          m known l 7 (TryLock m) TryClear 16 (omega arith)
+          m known l 7 (TryLock m) (Clear Unowned 16) 16 (omega arith)
       by_answer (Err _) = ends (inr (_, refl))
 
   -- unlock: load the word
-  unlock_load-turns : Turns t 7 (unlock_load t m s)
-  unlock_load-turns = unlock_load_cases (Turns t 7) t m s
-      (λ own more. answers-turns 7 t 0 (with_count m ((cell_at s m).count - 1) s))
-      (λ own few r. goes-turns s t known l 7 (Unlock m) UnlockPending (omega arith))
-      (λ own few r. goes-turns s t known l 7 (Unlock m) UnlockExchange (omega arith))
-      (λ other. answers-turns 7 t 1 s)
-
-  -- unlock: load the health word
-  unlock_health-turns : Turns t 5 (unlock_health t m s)
-  unlock_health-turns = unlock_health_cases (Turns t 5) t m s
-      (λ e. goes-turns s t known l 5 (Unlock m) UnlockStore (omega arith))
-      (λ e. goes-turns s t known l 5 (Unlock m) UnlockUnlink (omega arith))
-
-  -- unlock: compare-exchange from t to 0
-  unlock_exchange-turns : Turns t 2 (unlock_exchange t m s)
-  unlock_exchange-turns = unlock_exchange_cases (Turns t 2) t m s
-      (λ w own r. goes-turns (with_word m free_word s) t known l 2 (Unlock m) UnlockClear (omega arith))
-      (λ w own r. answers-turns 2 t 0 (with_word m free_word s))
-      (goes-turns s t known l 2 (Unlock m) UnlockKernel (omega arith))
+  unlock_load-turns : Turns t 17 (unlock_load t m s)
+  unlock_load-turns = unlock_load_cases (Turns t 17) t m s
+      (λ own more. answers-turns 17 t 0 (with_count m ((cell_at s m).count - 1) s))
+      (λ own few r. goes-turns s t known l 17 (Unlock m) (Give SetPending ToUnlock) (omega arith))
+      (λ own few r. goes-turns s t known l 17 (Unlock m) (Give Release ToUnlock) (omega arith))
+      (λ other. answers-turns 17 t 1 s)
 
   -- consistent: load the word
-  consistent_load-turns : Turns t 2 (consistent_load t m s)
-  consistent_load-turns = consistent_load_cases (Turns t 2) t m s
-      (λ r own. goes-turns s t known l 2 (Consistent m) ConsistentHealth (omega arith))
-      (λ r other. answers-turns 2 t 1 s) (λ r. answers-turns 2 t 22 s)
+  consistent_load-turns : Turns t 17 (consistent_load t m s)
+  consistent_load-turns = consistent_load_cases (Turns t 17) t m s
+      (λ r own. goes-turns s t known l 17 (Consistent m) (Repair CheckHealth) (omega arith))
+      (λ r other. answers-turns 17 t 1 s) (λ r. answers-turns 17 t 22 s)
 
   -- consistent: load the health word
   consistent_health-turns : Turns t 1 (consistent_health t m s)
   consistent_health-turns = consistent_health_cases (Turns t 1) t m s
-      (λ e. goes-turns s t known l 1 (Consistent m) ConsistentStore (omega arith)) (λ e. answers-turns 1 t 22 s)
+      (λ e. goes-turns s t known l 1 (Consistent m) (Repair StoreFine) (omega arith)) (λ e. answers-turns 1 t 22 s)
 
--- each step of taking over or leaving ends the call, or leaves it at a place of lower rank
+-- each step of taking over ends the call, or leaves it at a place of lower rank
+take-turns : (q : Request) (x : TakeStep) (t m : ℕ) (s : Table) → is_living s.kernel t ≡ true → t < length s.lines
+    → Turns t (take_rank x) (take_line q x t m s)
+unfolding take_line take_load
+take-turns q LoadWord t m s k l = goes-turns s t k l 6 q (Take (LoadHealth (cell_at s m).word.died)) (omega arith)
+take-turns q (LoadHealth d) t m s k l = take_health-turns s t m k l q d
+take-turns q StoreInconsistent t m s k l = goes-turns _ t k l 4 q (Take ClearDied) (omega arith)
+take-turns q ClearDied t m s k l = goes-turns _ t k l 3 q (Link WriteNext 130) (omega arith)
+
+-- and each of putting the mutex on the list
+link-turns : (q : Request) (x : LinkStep) (a t m : ℕ) (s : Table) → is_living s.kernel t ≡ true → t < length s.lines
+    → Turns t (link_rank x) (link_line q x a t m s)
+unfolding link_line
+link-turns q WriteNext a t m s k l = goes-turns _ t k l 2 q (Link WriteHead a) (omega arith)
+link-turns q WriteHead a t m s k l = goes-turns _ t k l 1 q (Clear Linked a) (omega arith)
+
+-- and each of giving it up
+give-turns : (q : Request) (x : GiveStep) (y : Purpose) (t m : ℕ) (s : Table) → is_living s.kernel t ≡ true
+    → t < length s.lines → Turns t (give_rank x + rank_after y) (give_line q x y t m s)
+unfolding give_line
+give-turns q SetPending y t m s k l = goes-turns _ t k l (6 + rank_after y) q (Give SeeHealth y) (omega arith)
+give-turns q SeeHealth y t m s k l = give_health-turns s t m k l q y
+give-turns q StoreUnusable y t m s k l = goes-turns _ t k l (4 + rank_after y) q (Give Unlink y) (omega arith)
+give-turns q Unlink y t m s k l = goes-turns _ t k l (3 + rank_after y) q (Give Release y) (omega arith)
+give-turns q Release y t m s k l = give_exchange-turns s t m k l q y
+give-turns q CallUnlock y t m s k l = gives_up-turns s t m k l (1 + rank_after y) (given_up q y t m)
+    (λ v e b. given_up-turns v t m e b (1 + rank_after y) q y (omega arith))
+
+-- each step of giving a mutex up, or of clearing the pending field
+giving-turns : (q : Request) (p : Place) (t m : ℕ) (s : Table) → is_living s.kernel t ≡ true → t < length s.lines
+    → Turns t (rank_in s q p) (giving_line q p t m s)
+unfolding giving_line clears
+giving-turns q (Give x y) t m s k l = give-turns q x y t m s k l
+giving-turns q (Clear f a) t m s k l = ends (inr (a, refl))
+giving-turns q p t m s k l = answers-turns (rank_in s q p) t 22 s
+
+-- each step that all requests share which lock
 shared-turns : (q : Request) (p : Place) (t m : ℕ) (s : Table) → is_living s.kernel t ≡ true → t < length s.lines
     → Turns t (rank_in s q p) (shared_line q p t m s)
-unfolding shared_line take_load take_store take_word_back link_next link_head clears
-shared-turns q TakeLoad t m s k l = goes-turns s t k l 6 q (TakeHealth (cell_at s m).word.died) (omega arith)
-shared-turns q (TakeHealth d) t m s k l = take_health-turns s t m k l q d
-shared-turns q TakeStore t m s k l = goes-turns _ t k l 4 q TakeWord (omega arith)
-shared-turns q TakeWord t m s k l = goes-turns _ t k l 3 q (LinkNext 130) (omega arith)
-shared-turns q (LinkNext a) t m s k l = goes-turns _ t k l 2 q (LinkHead a) (omega arith)
-shared-turns q (LinkHead a) t m s k l = goes-turns _ t k l 1 q (LinkClear a) (omega arith)
-shared-turns q (LinkClear a) t m s k l = ends (inr (a, refl))
-shared-turns q LeaveExchange t m s k l = leave_exchange-turns s t m k l q
-shared-turns q LeaveKernel t m s k l = gives_up-turns s t m k l 1 (goes_to t q LeaveClear)
-    (λ v e b. goes-turns v t e b 1 q LeaveClear (omega arith))
-shared-turns q LeaveClear t m s k l = ends (inr (131, refl))
-shared-turns q p t m s k l = answers-turns (rank_in s q p) t 22 s
+unfolding shared_line
+shared-turns q Exchange t m s k l = own_exchange-turns s t m k l 8 q (omega arith)
+shared-turns q (Take x) t m s k l = take-turns q x t m s k l
+shared-turns q (Link x a) t m s k l = link-turns q x a t m s k l
+shared-turns q p t m s k l = giving-turns q p t m s k l
 
 -- cmp_requeue_pi answers EAGAIN only where the condition word is another
 changed_since : (c m more v : ℕ) (s : Table) → requeue_answer c m 1 more v s.words s.kernel ≡ Err Again
@@ -420,13 +458,11 @@ changed_since c m more v s e = go (if has_cond_word s.words c then has_word s.wo
 -- each step of a request that may queue, from the exchange on
 locking-turns : (q : Request) (p : Place) (t m : ℕ) (s : Table) → is_living s.kernel t ≡ true → t < length s.lines
     → Turns t (rank_in s q p) (locking_line q p t m s)
-unfolding locking_line clears
-locking-turns q LockExchange t m s k l = own_exchange-turns s t m k l 8 q LockKernel (omega arith) (omega arith)
-locking-turns q LockKernel t m s k l = lock_kernel-turns s t m k l q
-locking-turns q LockQueued t m s k l = lock_queued-turns s t m k l 6 q (omega arith)
-locking-turns q LockStop t m s k l = lock_stop-turns s t m k l q
-locking-turns q LockStopped t m s k l = ends (inl refl)
-locking-turns q LockClear t m s k l = ends (inr (35, refl))
+unfolding locking_line
+locking-turns q CallKernel t m s k l = lock_kernel-turns s t m k l q
+locking-turns q StayQueued t m s k l = lock_queued-turns s t m k l 6 q (omega arith)
+locking-turns q Stop t m s k l = lock_stop-turns s t m k l q
+locking-turns q StayStopped t m s k l = ends (inl refl)
 locking-turns q p t m s k l = shared-turns q p t m s k l
 
 -- how often a variable was used is read, before the exchange
@@ -434,26 +470,26 @@ use_read-turns : (s : Table) (t : ℕ) → is_living s.kernel t ≡ true → t <
     → Turns t n (use_read q (uses_of s (variable_of q)) t s)
 use_read-turns s t known l n q more = use_read_cases (Turns t n) q (uses_of s (variable_of q)) t s
     (λ e. answers-turns n t 75 s)
-    (λ e. goes-turns s t known l n q (UseExchange (uses_of s (variable_of q)))
+    (λ e. goes-turns s t known l n q (Wake (CountUse (uses_of s (variable_of q))))
     (subst (λ b. (if b then 4 else 5) < n) (sym (eq-eqb (uses_of s (variable_of q)) (uses_of s (variable_of q)) refl))
     more))
 
 -- each step of a signal or a broadcast
-use-turns : (q : Request) (p : Place) (t : ℕ) (s : Table) → is_living s.kernel t ≡ true → t < length s.lines
-    → Turns t (rank_in s q p) (use_line q p (variable_of q) t s)
+use-turns : (q : Request) (x : WakeStep) (t : ℕ) (s : Table) → is_living s.kernel t ≡ true → t < length s.lines
+    → Turns t (rank_in s q (Wake x)) (use_line q x (variable_of q) t s)
 unfolding use_line use_exchange use_requeue use_by after_requeue
-use-turns q UseLoad t s k l = use_read-turns s t k l 5 q (omega arith)
-use-turns q (UseExchange v) t s k l = by_test (λ b. Turns t (if b then 4 else 5) (if b
-    then goes_to t q (UseRequeue (v + 1)) (with_cond_word (variable_of q) (v + 1) s)
+use-turns q ReadUses t s k l = use_read-turns s t k l 5 q (omega arith)
+use-turns q (CountUse v) t s k l = by_test (λ b. Turns t (if b then 4 else 5) (if b
+    then goes_to t q (Wake (Requeue (v + 1))) (with_cond_word (variable_of q) (v + 1) s)
     else use_read q (uses_of s (variable_of q)) t s)) (uses_of s (variable_of q) == v)
-    (λ e. goes-turns (with_cond_word (variable_of q) (v + 1) s) t k l 4 q (UseRequeue (v + 1))
+    (λ e. goes-turns (with_cond_word (variable_of q) (v + 1) s) t k l 4 q (Wake (Requeue (v + 1)))
     (below_4 (uses_of (with_cond_word (variable_of q) (v + 1) s) (variable_of q) == v + 1)))
     (λ e. use_read-turns s t k l 5 q (omega arith))
   where
     below_4 : (b : Bool) → (if b then 1 else 3) < 4
     below_4 true = omega arith
     below_4 false = omega arith
-use-turns q (UseRequeue v) t s k l = by_answer (requeue_answer (variable_of q) (bound_to s (variable_of q)) 1 (more_in q) v
+use-turns q (Requeue v) t s k l = by_answer (requeue_answer (variable_of q) (bound_to s (variable_of q)) 1 (more_in q) v
     s.words s.kernel) refl
   where
     by_answer : (a : Result ℕ Errno)
@@ -462,57 +498,37 @@ use-turns q (UseRequeue v) t s k l = by_answer (requeue_answer (variable_of q) (
         (after_requeue (variable_of q) (bound_to s (variable_of q)) (more_in q) a s.words s.kernel).words
         (after_requeue (variable_of q) (bound_to s (variable_of q)) (more_in q) a s.words s.kernel).kernel s))
     by_answer (Ok n) e = ends (inr (0, refl))
-    by_answer (Err Again) e = goes-turns s t k l _ q UseReload
+    by_answer (Err Again) e = goes-turns s t k l _ q (Wake ReadAgain)
         (subst (λ b. 2 < (if b then 1 else 3)) (sym (changed_since (variable_of q) (bound_to s (variable_of q)) (more_in q)
         v s e)) (omega arith))
     by_answer (Err x) e = ends (inr (_, refl))
-use-turns q UseReload t s k l = goes-turns s t k l 2 q (UseRequeue (uses_of s (variable_of q)))
+use-turns q ReadAgain t s k l = goes-turns s t k l 2 q (Wake (Requeue (uses_of s (variable_of q))))
     (subst (λ b. (if b then 1 else 3) < 2) (sym (eq-eqb (uses_of s (variable_of q)) (uses_of s (variable_of q)) refl))
     (omega arith))
-use-turns q p t s k l = answers-turns (rank_in s q p) t 22 s
 
 -- each step of a call ends it, waits, or leaves it at a place of lower rank
 line-turns : (q : Request) (p : Place) (t : ℕ) (s : Table) → is_living s.kernel t ≡ true → t < length s.lines
     → Turns t (rank_in s q p) (line_of q p t s)
-unfolding line_of clears set_priority
-line-turns (Lock m) LockLoad t s k l = lock_load-turns s t m k l
-line-turns (Lock m) LockPending t s k l = goes-turns _ t k l 9 (Lock m) LockExchange (omega arith)
-line-turns (Lock m) QueueExpired t s k l = ends (inr (110, refl))
-line-turns (Lock m) StopExpired t s k l = ends (inr (110, refl))
+unfolding line_of set_priority repair_line
+line-turns (Lock m) Load t s k l = lock_load-turns s t m k l
+line-turns (Lock m) NamePending t s k l = goes-turns _ t k l 9 (Lock m) Exchange (omega arith)
 line-turns (Lock m) p t s k l = locking-turns (Lock m) p t m s k l
-line-turns (TryLock m) TryLoad t s k l = try_load-turns s t m k l
-line-turns (TryLock m) TryPending t s k l = goes-turns _ t k l 9 (TryLock m) TryExchange (omega arith)
-line-turns (TryLock m) TryExchange t s k l = own_exchange-turns s t m k l 8 (TryLock m) TryKernel (omega arith)
-    (omega arith)
-line-turns (TryLock m) TryKernel t s k l = try_kernel-turns s t m k l
-line-turns (TryLock m) TryClear t s k l = ends (inr (16, refl))
+line-turns (TryLock m) Load t s k l = try_load-turns s t m k l
+line-turns (TryLock m) NamePending t s k l = goes-turns _ t k l 9 (TryLock m) Exchange (omega arith)
+line-turns (TryLock m) CallKernel t s k l = try_kernel-turns s t m k l
 line-turns (TryLock m) p t s k l = shared-turns (TryLock m) p t m s k l
-line-turns (Unlock m) UnlockLoad t s k l = unlock_load-turns s t m k l
-line-turns (Unlock m) UnlockPending t s k l = goes-turns _ t k l 6 (Unlock m) UnlockHealth (omega arith)
-line-turns (Unlock m) UnlockHealth t s k l = unlock_health-turns s t m k l
-line-turns (Unlock m) UnlockStore t s k l = goes-turns _ t k l 4 (Unlock m) UnlockUnlink (omega arith)
-line-turns (Unlock m) UnlockUnlink t s k l = goes-turns _ t k l 3 (Unlock m) UnlockExchange (omega arith)
-line-turns (Unlock m) UnlockExchange t s k l = unlock_exchange-turns s t m k l
-line-turns (Unlock m) UnlockKernel t s k l = gives_up-turns s t m k l 1 (ends_by t (Unlock m) m UnlockClear 0)
-    (λ v e b. ends_by-turns v t m e b 1 (Unlock m) UnlockClear 0 (omega arith))
-line-turns (Unlock m) UnlockClear t s k l = ends (inr (0, refl))
-line-turns (Consistent m) ConsistentLoad t s k l = consistent_load-turns s t m k l
-line-turns (Consistent m) ConsistentHealth t s k l = consistent_health-turns s t m k l
-line-turns (Consistent m) ConsistentStore t s k l = ends (inr (0, refl))
-line-turns (Wait c m) WaitLoad t s k l = wait_load-turns s t m k l c
-line-turns (Wait c m) WaitUses t s k l = wait_uses-turns s t m k l c
-line-turns (Wait c m) (WaitPending v) t s k l = goes-turns _ t k l 15 (Wait c m) (WaitHealth v) (omega arith)
-line-turns (Wait c m) (WaitHealth v) t s k l = wait_health-turns s t m k l v c
-line-turns (Wait c m) (WaitStore v) t s k l = goes-turns _ t k l 13 (Wait c m) (WaitUnlink v) (omega arith)
-line-turns (Wait c m) (WaitUnlink v) t s k l = goes-turns _ t k l 12 (Wait c m) (WaitExchange v) (omega arith)
-line-turns (Wait c m) (WaitExchange v) t s k l = wait_exchange-turns s t m k l v c
-line-turns (Wait c m) (WaitKernel v) t s k l = gives_up-turns s t m k l 10 (goes_to t (Wait c m) (WaitPark v))
-    (λ x e b. goes-turns x t e b 10 (Wait c m) (WaitPark v) (omega arith))
-line-turns (Wait c m) (WaitPark v) t s k l = wait_park-turns s t m k l v c
-line-turns (Wait c m) WaitParked t s k l = wait_parked-turns s t m k l c
+line-turns (Unlock m) Load t s k l = unlock_load-turns s t m k l
+line-turns (Unlock m) p t s k l = giving-turns (Unlock m) p t m s k l
+line-turns (Consistent m) Load t s k l = consistent_load-turns s t m k l
+line-turns (Consistent m) (Repair CheckHealth) t s k l = consistent_health-turns s t m k l
+line-turns (Consistent m) (Repair StoreFine) t s k l = ends (inr (0, refl))
+line-turns (Wait c m) Load t s k l = wait_load-turns s t m k l c
+line-turns (Wait c m) LoadUses t s k l = wait_uses-turns s t m k l c
+line-turns (Wait c m) (Park v) t s k l = wait_park-turns s t m k l v c
+line-turns (Wait c m) StayParked t s k l = wait_parked-turns s t m k l c
 line-turns (Wait c m) p t s k l = locking-turns (Wait c m) p t m s k l
-line-turns (Signal c) p t s k l = use-turns (Signal c) p t s k l
-line-turns (Broadcast c) p t s k l = use-turns (Broadcast c) p t s k l
+line-turns (Signal c) (Wake x) t s k l = use-turns (Signal c) x t s k l
+line-turns (Broadcast c) (Wake x) t s k l = use-turns (Broadcast c) x t s k l
 line-turns (SetPrio u n) SetPriority t s k l = answered_by-turns 0 t (set_prio_answer u n s.kernel) _
 line-turns q p t s k l = answers-turns (rank_in s q p) t 22 s
 
@@ -525,13 +541,13 @@ lives-expired s t known = living-expired_same t s.kernel (living-added s.kernel 
 expires-turns : (q : Request) (p : Place) (t : ℕ) (s : Table) → is_living s.kernel t ≡ true → t < length s.lines
     → counts_at q p (status_at s t) ≡ true → Turns t (rank_in s q p) (expires_at q p t s)
 unfolding expires_at expired_in
-expires-turns (Lock m) LockQueued t s k l e =
-    ends_by-turns (expired_in t s) t m (lives-expired s t k) l 6 (Lock m) QueueExpired 110 (omega arith)
-expires-turns (Lock m) LockStopped t s k l e =
-    ends_by-turns (expired_in t s) t m (lives-expired s t k) l 1 (Lock m) StopExpired 110 (omega arith)
+expires-turns (Lock m) StayQueued t s k l e =
+    ends_by-turns (expired_in t s) t m (lives-expired s t k) l 6 (Lock m) (Clear Unowned 110) 110 (omega arith)
+expires-turns (Lock m) StayStopped t s k l e =
+    ends_by-turns (expired_in t s) t m (lives-expired s t k) l 1 (Lock m) (Clear HadStopped 110) 110 (omega arith)
 expires-turns (Lock m) _ t s k l e = absurd (true≢false (sym e))
-expires-turns (Wait c m) WaitParked t s k l e =
-    goes-turns (with_timer t (ran_out (timer_at s t)) (expired_in t s)) t (lives-expired s t k) l 9 (Wait c m) LockExchange
+expires-turns (Wait c m) StayParked t s k l e =
+    goes-turns (with_timer t (ran_out (timer_at s t)) (expired_in t s)) t (lives-expired s t k) l 9 (Wait c m) Exchange
     (omega arith)
 expires-turns (Wait c m) _ t s k l e = absurd (true≢false (sym e))
 expires-turns q p t s k l e = answers-turns (rank_in s q p) t 22 s

@@ -1,7 +1,8 @@
 -- Effects on one call and its mutex, with no list and no world in them; that they are effects of the POSIX machine.
 use Rattle.std.proofs.Common.{◌≡◌, ◌≢◌, ℕ, ◌<◌, ◌+◌, ◌-◌, Bool, false, Some, refl, sym, ap, ap₂, ◌∙◌, subst, true}
 use Rattle.std.proofs.lemmas.List.{set-get_or}
-use Rattle.pif_types.specs.declared.requests.Kind.TheVariants.{ErrorCheck, Recursive}
+use Rattle.pif_model.specs.declared.lines.Relock.TheVariants.{Answers, Counts}
+use Rattle.pif_model.specs.Kinds.{relock_of}
 use Rattle.pif_types.specs.declared.requests.Request.{Request}
 use Rattle.pif_types.specs.declared.requests.Request.TheVariants.{Lock, TryLock, Unlock, Consistent, Wait}
 use Rattle.pif_model.specs.Graph.{has_waiter}
@@ -41,15 +42,15 @@ locking (in_wait c e) = by_wait c e
 pub data Does (t m : ℕ) (waited : Bool) (q : Request) (a : Progress) (y : Mutex) (b : Progress)
     (z : Mutex) : Type 0 where
   nothing : b ≡ a → z ≡ y → Does t m waited q a y b z
-  locks_own_errorcheck : q ≡ Lock m → a ≡ Fresh → y.owner ≡ t → y.kind ≡ ErrorCheck → b ≡ Has 35 → z ≡ y
+  locks_own_errorcheck : q ≡ Lock m → a ≡ Fresh → y.owner ≡ t → relock_of y.kind ≡ Answers → b ≡ Has 35 → z ≡ y
       → Does t m waited q a y b z
-  locks_again : IsLocking m q → a ≡ before_lock q → y.owner ≡ t → y.kind ≡ Recursive → y.count < 255 → b ≡ Has 0
+  locks_again : IsLocking m q → a ≡ before_lock q → y.owner ≡ t → relock_of y.kind ≡ Counts → y.count < 255 → b ≡ Has 0
       → z ≡ record y { count = y.count + 1 } → Does t m waited q a y b z
-  locks_at_limit : IsLocking m q → a ≡ before_lock q → y.owner ≡ t → y.kind ≡ Recursive → y.count ≡ 255 → b ≡ Has 11 → z ≡ y
+  locks_at_limit : IsLocking m q → a ≡ before_lock q → y.owner ≡ t → relock_of y.kind ≡ Counts → y.count ≡ 255 → b ≡ Has 11 → z ≡ y
       → Does t m waited q a y b z
   locks_free : IsLocking m q → a ≡ before_lock q → y.owner ≢ t → y.owner ≡ 0 → b ≡ on_taking y.health
       → z ≡ record y { owner = t; count = 1 } → Does t m waited q a y b z
-  tries_owned : q ≡ TryLock m → a ≡ Fresh → y.owner ≢ 0 → (y.owner ≡ t → y.kind ≢ Recursive) → b ≡ Has 16 → z ≡ y
+  tries_owned : q ≡ TryLock m → a ≡ Fresh → y.owner ≢ 0 → (y.owner ≡ t → relock_of y.kind ≢ Counts) → b ≡ Has 16 → z ≡ y
       → Does t m waited q a y b z
   unlocks_not_own : q ≡ Unlock m → a ≡ Fresh → y.owner ≢ t → b ≡ Has 1 → z ≡ y → Does t m waited q a y b z
   unlocks_one : q ≡ Unlock m → a ≡ Fresh → y.owner ≡ t → 1 < y.count → b ≡ Has 0
@@ -94,8 +95,8 @@ module _ (w : World) (t : ℕ) {q : Request} {a : Progress}
       ap (λ c. with_thread t (record (thread_at w t) { call = c }) w) (ap (at_progress a) call ∙ sym call)
       ∙ (λ i. record w { threads = set-get_or w.threads t nobody i })
 
-  -- a lock or a trylock by the owner of a RECURSIVE mutex
-  again : (m : ℕ) {v : World} → IsLocking m q → a ≡ before_lock q → (mutex_at w m).owner ≡ t → (mutex_at w m).kind ≡ Recursive
+  -- a lock or a trylock by the owner, which counts
+  again : (m : ℕ) {v : World} → IsLocking m q → a ≡ before_lock q → (mutex_at w m).owner ≡ t → relock_of (mutex_at w m).kind ≡ Counts
       → LocksAgain t m w v → Effect t w v
   again m (by_lock r) n o k e = lock m (asked (Lock m) r n) (lock_own_recursive o k e)
   again m (by_try_lock r) n o k e = try_lock m (asked (TryLock m) r n) (try_own_recursive o k e)

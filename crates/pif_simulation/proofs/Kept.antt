@@ -7,8 +7,10 @@ use Rattle.pif_types.specs.declared.requests.Request.TheVariants.{Lock, TryLock,
 use Rattle.pif_model.specs.declared.lines.Line.{Line}
 use Rattle.pif_model.specs.declared.lines.Line.TheVariants.{Idle, At}
 use Rattle.pif_model.specs.declared.lines.Place.{Place}
-use Rattle.pif_model.specs.declared.lines.Place.TheVariants.{UseLoad, UseExchange, UseRequeue, UseReload, SetPriority}
+use Rattle.pif_model.specs.declared.lines.Place.TheVariants.{Wake, SetPriority}
+use Rattle.pif_model.specs.declared.lines.WakeStep.TheVariants.{CountUse}
 use Rattle.pif_model.specs.declared.lines.Status.{Status}
+use Rattle.pif_model.specs.Kinds.{relock_of}
 use Rattle.pif_model.specs.Posix.{named_by, variable_of}
 use Rattle.pif_model.specs.PiKernel.{is_ready, is_living}
 use Rattle.pif_model.specs.Table.{Table, Cell, has_mutex, has_cond, bound_to, uses_of, status_at, cell_at}
@@ -66,7 +68,7 @@ meets_outlives l l' u x c d z z' OwnsNot k o h = k.other h
 meets_outlives l l' u x c d z z' OwnsOnceReady k o h = λ e. k.owner (h e)
 meets_outlives l l' u x c d z z' OwnsOnceHanded k o h = ((λ e. k.owner (h.0 e)), λ e. k.other (h.1 e))
 meets_outlives l l' u x c d z z' HoldsOnce k o h = owner_knows (λ n b a. n ≡ 1) l l' u c d k h
-meets_outlives l l' u x c d z z' MayStop k o (own_normal e n) = own_normal (k.owner e) (k.kind ∙ n)
+meets_outlives l l' u x c d z z' MayStop k o (own_normal e n) = own_normal (k.owner e) (ap relock_of k.kind ∙ n)
 meets_outlives l l' u x c d z z' MayStop k o (lost r n e) =
     let s = k.ended r n e in
     lost (k.robust ∙ r) (λ z. n (sym s.0 ∙ z)) (ap l' s.0 ∙ s.1)
@@ -95,10 +97,8 @@ unnamed_needs l l' u v n x c d z z' _ b h = absurd (true≢false (sym b))
 -- at a place of signal and broadcast it need only be ready, and know what it has read
 using_needs : (l l' : ℕ → Bool) (u : ℕ) (x : Status) (c d : Cell) (z z' : Use) (p : Place) → is_using p ≡ true
     → Grows z z' → MeetsAll l u x c z (needs p) → MeetsAll l' u x d z' (needs p)
-using_needs l l' u x c d z z' UseLoad b o h = h
-using_needs l l' u x c d z z' (UseExchange v) b o h = (h.0, (subst (λ n. v < n) (sym o.signals) h.1.0, tt))
-using_needs l l' u x c d z z' (UseRequeue v) b o h = h
-using_needs l l' u x c d z z' UseReload b o h = h
+using_needs l l' u x c d z z' (Wake (CountUse v)) b o h = (h.0, (subst (λ n. v < n) (sym o.signals) h.1.0, tt))
+using_needs l l' u x c d z z' (Wake _) b o h = h
 using_needs l l' u x c d z z' _ b o h = absurd (true≢false (sym b))
 
 -- two conditions both hold, and so they do of others that hold where these do

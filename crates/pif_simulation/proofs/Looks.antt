@@ -9,7 +9,7 @@ use Rattle.pif_types.specs.declared.requests.Request.TheVariants.{Wait}
 use Rattle.pif_model.specs.declared.lines.Line.{Line}
 use Rattle.pif_model.specs.declared.lines.Line.TheVariants.{Idle, At}
 use Rattle.pif_model.specs.declared.lines.Place.{Place}
-use Rattle.pif_model.specs.declared.lines.Place.TheVariants.{LockQueued, LockStopped, WaitParked}
+use Rattle.pif_model.specs.declared.lines.Place.TheVariants.{StayQueued, StayStopped, StayParked}
 use Rattle.pif_model.specs.declared.lines.Status.{Status}
 use Rattle.pif_model.specs.declared.lines.Status.TheVariants.{Ready, Queued, Parked, Stopped, Ended}
 use Rattle.pif_model.specs.Graph.{waiting_order}
@@ -72,9 +72,9 @@ on_level levels (suc n) t e =
 -- a call of a thread that is stopped waits for good: that is so at the places where it need not be able to run
 place_stuck : (l : ℕ → Bool) (t : ℕ) (q : Request) (c : Cell) (z : Use) (p : Place) (h : Health) (n : ℕ)
     → MeetsAll l t Stopped c z (needs p) → progress_at q p Stopped h n ≡ Stuck
-place_stuck l t q c z LockQueued h n k = refl
-place_stuck l t q c z LockStopped h n k = refl
-place_stuck l t q c z WaitParked h n k = refl
+place_stuck l t q c z StayQueued h n k = refl
+place_stuck l t q c z StayStopped h n k = refl
+place_stuck l t q c z StayParked h n k = refl
 place_stuck l t q c z _ h n k = absurd (true≢false (sym k.0))
 
 line_stuck : (s : Table) (t : ℕ) (l : Line) → status_at s t ≡ Stopped → LineIsSound s t l
@@ -108,8 +108,8 @@ module _ {s : Table} (h : IsSound s) (y : Shadow) where
   blocked_parked t c e =
       let living = living-from_added s.kernel t (added_parked t c e) (ap has_ended e) in
       let at = (each_thread h t living).parked c e in
-      ap (is_call_blocked c) (call_seen h.all.shape y t (At (Wait c at.mutex) WaitParked) at.line)
-      ∙ ap (λ x. is_call_blocked c (call_at (health_at s) (uses_of s) (At (Wait c at.mutex) WaitParked) x)) e
+      ap (is_call_blocked c) (call_seen h.all.shape y t (At (Wait c at.mutex) StayParked) at.line)
+      ∙ ap (λ x. is_call_blocked c (call_at (health_at s) (uses_of s) (At (Wait c at.mutex) StayParked) x)) e
       ∙ eq-eqb c c refl
 
   -- who is stopped waits for good

@@ -28,12 +28,12 @@ use Rattle.pif_simulation.proofs.Hole.{each_thread}
 use Rattle.pif_simulation.proofs.Shown.{threads_shown, mutexes_shown, thread_seen, mutex_seen, living_seen, closed_progressed, call_progressed}
 use Rattle.pif_simulation.proofs.Agreement.{Frames, quiet, was_not}
 use Rattle.pif_simulation.proofs.Written.{IsCallOn, no_call, thread_here, thread_there, shows}
-use Rattle.pif_simulation.proofs.Steps.{GoKeeps, Going, going_met, going_called, going_below, answers_with}
+use Rattle.pif_simulation.proofs.Steps.{GoKeeps, Going, going_called, going_below, answers_with, going_ready}
 use Rattle.pif_simulation.proofs.Lined.{t0, tl, tr, ml, lined_same, lined_sound, lined_frames, lined_call, lined_shown}
 
 module _ (s : Table) (t u p : ℕ) (g : Going s t (SetPrio u p) SetPriority) where
   ready : is_ready (status_at s t) ≡ true
-  ready = (going_met g).0
+  ready = going_ready g
 
   -- t's robust list is that of a thread with no call open
   list : ListIsSound s t Idle

@@ -10,13 +10,17 @@ use Rattle.pif_model.specs.declared.events.Entry.TheVariants.{Step as Happened}
 use Rattle.pif_model.specs.declared.lines.Line.{Line}
 use Rattle.pif_model.specs.declared.lines.Line.TheVariants.{Idle, At}
 use Rattle.pif_model.specs.declared.lines.Place.{Place}
-use Rattle.pif_model.specs.declared.lines.Place.TheVariants.{LockLoad, LockPending, LockExchange, LockKernel, LockQueued, LockStop, LockStopped, LockClear, TakeLoad, TakeHealth, TakeStore, TakeWord, LinkNext, LinkHead, LinkClear, LeaveExchange, LeaveKernel, LeaveClear, TryLoad, TryPending, TryExchange, TryKernel, TryClear, UnlockLoad, UnlockPending, UnlockHealth, UnlockStore, UnlockUnlink, UnlockExchange, UnlockKernel, UnlockClear, ConsistentLoad, ConsistentHealth, ConsistentStore, WaitLoad, WaitUses, WaitPending, WaitHealth, WaitStore, WaitUnlink, WaitExchange, WaitKernel, WaitPark, WaitParked, UseLoad, UseExchange, UseRequeue, UseReload, SetPriority, QueueExpired, StopExpired}
+use Rattle.pif_model.specs.declared.lines.Place.TheVariants.{Load, NamePending, Exchange, CallKernel, StayQueued, Stop, StayStopped, Take, Link, Give, Clear, LoadUses, Park, StayParked, Repair, Wake, SetPriority}
+use Rattle.pif_model.specs.declared.lines.Purpose.TheVariants.{ToUnlock, ToPark, ToLeave}
+use Rattle.pif_model.specs.declared.lines.RepairStep.TheVariants.{CheckHealth, StoreFine}
+use Rattle.pif_model.specs.declared.lines.WakeStep.{WakeStep}
+use Rattle.pif_model.specs.declared.lines.WakeStep.TheVariants.{ReadUses, CountUse, Requeue, ReadAgain}
 use Rattle.pif_model.specs.Posix.{named_by, variable_of, is_use}
 use Rattle.pif_model.specs.Posix.Step.{refused, ticked}
 use Rattle.pif_model.specs.PiKernel.{is_living}
 use Rattle.pif_model.specs.Table.{Table, has_thread, has_mutex, has_cond, line_at, status_at, timer_at}
-use Rattle.pif_model.specs.Lines.{is_open, table_refusal, shared_line, locking_line, use_line, line_of, go_outcome, accepted_outcome, by_refusal, event_outcome, Outcome, counts_at, is_line_due, is_due_in, expires_at, told_outcome}
-use Rattle.pif_model.specs.Soundness.{belongs, is_shared, is_locking, is_using, IsSound}
+use Rattle.pif_model.specs.Lines.{is_open, table_refusal, repair_line, giving_line, shared_line, locking_line, use_line, line_of, go_outcome, accepted_outcome, by_refusal, event_outcome, Outcome, counts_at, is_line_due, is_due_in, expires_at, told_outcome}
+use Rattle.pif_model.specs.Soundness.{belongs, is_shared, is_locking, IsSound}
 use Rattle.pif_model.specs.Deadlines.{is_reached, told_seen}
 use Rattle.pif_simulation.proofs.Kept.{second}
 use Rattle.pif_simulation.proofs.Shown.{go_allowed, end_allowed, refusal_seen}
@@ -26,40 +30,34 @@ use Rattle.pif_simulation.proofs.Does.MayQueue.{in_lock, in_wait}
 use Rattle.pif_simulation.proofs.Does.IsLocking.{by_try_lock}
 use Rattle.pif_simulation.proofs.ends.EndLine.{end_kept}
 use Rattle.pif_simulation.proofs.Begun.{begin_kept}
-use Rattle.pif_simulation.proofs.mutexes.LockLines.{lock_load_kept, lock_pending_kept, lock_exchange_kept, lock_queued_kept, lock_stopped_kept, lock_clear_kept, link_clear_kept, leave_kernel_kept, leave_clear_kept}
-use Rattle.pif_simulation.proofs.mutexes.TakingOver.{take_load_kept, take_health_kept, take_store_kept, take_word_kept, link_next_kept, link_head_kept, leave_exchange_kept}
+use Rattle.pif_simulation.proofs.mutexes.LockLines.{lock_load_kept, lock_pending_kept, exchange_kept, lock_queued_kept, lock_stopped_kept, leave_gives_kept}
+use Rattle.pif_simulation.proofs.mutexes.TakingOver.{take_kept, link_kept, clear_kept}
 use Rattle.pif_simulation.proofs.mutexes.LockCalls.{lock_kernel_kept, lock_stop_kept}
 use Rattle.pif_simulation.proofs.conditions.WaitLines.{wait_load_kept, wait_uses_kept}
-use Rattle.pif_simulation.proofs.conditions.WaitGivingUp.{wait_pending_kept, wait_health_kept, wait_store_kept, wait_unlink_kept, wait_exchange_kept, wait_kernel_kept}
+use Rattle.pif_simulation.proofs.conditions.WaitGivingUp.{wait_gives_kept}
 use Rattle.pif_simulation.proofs.conditions.WaitParking.{wait_park_kept, wait_parked_kept}
 use Rattle.pif_simulation.proofs.conditions.UseLines.{use_load_kept, use_reload_kept}
 use Rattle.pif_simulation.proofs.conditions.UseCounting.{use_exchange_kept}
 use Rattle.pif_simulation.proofs.conditions.Requeueing.{use_requeue_kept}
 use Rattle.pif_simulation.proofs.SetPriorityLine.{set_priority_kept}
-use Rattle.pif_simulation.proofs.mutexes.TryLines.{try_load_kept, try_pending_kept, try_exchange_kept, try_kernel_kept, try_clear_kept}
-use Rattle.pif_simulation.proofs.mutexes.UnlockLines.{unlock_load_kept, unlock_pending_kept, unlock_health_kept, unlock_store_kept, unlock_unlink_kept, unlock_exchange_kept, unlock_kernel_kept, unlock_clear_kept, consistent_load_kept, consistent_health_kept, consistent_store_kept}
+use Rattle.pif_simulation.proofs.mutexes.TryLines.{try_load_kept, try_pending_kept, try_kernel_kept}
+use Rattle.pif_simulation.proofs.mutexes.UnlockLines.{unlock_load_kept, unlock_gives_kept, consistent_load_kept, consistent_health_kept, consistent_store_kept}
 use Rattle.pif_chains.proofs.Waiting.{by_test}
 use Rattle.pif_simulation.proofs.deadlines.Timers.{retimed_sound, retimed_frames}
 use Rattle.pif_simulation.proofs.Agreement.{framed}
-use Rattle.pif_simulation.proofs.deadlines.Expiring.{queue_expired_kept, stop_expired_kept, due_kept}
+use Rattle.pif_simulation.proofs.deadlines.Expiring.{due_kept}
 
 -- A CALL GOES ON
 
--- a step of taking over or leaving
+-- a step that all calls share which lock
 shared_kept : (s : Table) (t : ℕ) (q : Request) (p : Place) → Going s t q p → has_mutex s (named_by q) ≡ true
-    → IsLocking (named_by q) q → is_shared p ≡ true
-    → GoKeeps s t (shared_line q p t (named_by q) s)
-unfolding shared_line
-shared_kept s t q TakeLoad g k l b = take_load_kept s t q k l g
-shared_kept s t q (TakeHealth d) g k l b = take_health_kept s t q k l d g
-shared_kept s t q TakeStore g k l b = take_store_kept s t q k l g
-shared_kept s t q TakeWord g k l b = take_word_kept s t q k l g
-shared_kept s t q (LinkNext a) g k l b = link_next_kept s t q k l a g
-shared_kept s t q (LinkHead a) g k l b = link_head_kept s t q k l a g
-shared_kept s t q (LinkClear a) g k l b = link_clear_kept s t q k l a g
-shared_kept s t q LeaveExchange g k l b = leave_exchange_kept s t q k l g
-shared_kept s t q LeaveKernel g k l b = leave_kernel_kept s t q k l g
-shared_kept s t q LeaveClear g k l b = leave_clear_kept s t q k l g
+    → IsLocking (named_by q) q → is_shared p ≡ true → GoKeeps s t (shared_line q p t (named_by q) s)
+unfolding shared_line giving_line
+shared_kept s t q Exchange g k l b = exchange_kept s t q k l g
+shared_kept s t q (Take x) g k l b = take_kept s t q k l x g
+shared_kept s t q (Link x a) g k l b = link_kept s t q k l x a g
+shared_kept s t q (Give x ToLeave) g k l b = leave_gives_kept s t q k l x b g
+shared_kept s t q (Clear f a) g k l b = clear_kept s t q k f a g
 shared_kept s t q _ g k l b = absurd (true≢false (sym b))
 
 -- a step of a request that may queue, from the exchange on
@@ -67,64 +65,47 @@ locking_kept : (s : Table) (t : ℕ) (q : Request) (p : Place) → Going s t q p
     → MayQueue (named_by q) q → is_locking p ≡ true
     → GoKeeps s t (locking_line q p t (named_by q) s)
 unfolding locking_line
-locking_kept s t q LockExchange g k l b = lock_exchange_kept s t q k l g
-locking_kept s t q LockKernel g k l b = lock_kernel_kept s t q k l g
-locking_kept s t q LockQueued g k l b = lock_queued_kept s t q k l g
-locking_kept s t q LockStop g k l b = lock_stop_kept s t q k l g
-locking_kept s t q LockStopped g k l b = lock_stopped_kept s t q k l g
-locking_kept s t q LockClear g k l b = lock_clear_kept s t q k l g
+locking_kept s t q CallKernel g k l b = lock_kernel_kept s t q k l g
+locking_kept s t q StayQueued g k l b = lock_queued_kept s t q k l g
+locking_kept s t q Stop g k l b = lock_stop_kept s t q k l g
+locking_kept s t q StayStopped g k l b = lock_stopped_kept s t q k l g
 locking_kept s t q p g k l b = shared_kept s t q p g k (locking l) b
 
 -- a step of a signal or a broadcast
-use_kept : (s : Table) (t : ℕ) (q : Request) (p : Place) → Going s t q p → is_use q ≡ true → is_using p ≡ true
-    → GoKeeps s t (use_line q p (variable_of q) t s)
+use_kept : (s : Table) (t : ℕ) (q : Request) (x : WakeStep) → Going s t q (Wake x) → is_use q ≡ true
+    → GoKeeps s t (use_line q x (variable_of q) t s)
 unfolding use_line
-use_kept s t q UseLoad g u b = use_load_kept s t q u g
-use_kept s t q (UseExchange n) g u b = use_exchange_kept s t q n u g
-use_kept s t q (UseRequeue n) g u b = use_requeue_kept s t q n u g
-use_kept s t q UseReload g u b = use_reload_kept s t q u g
-use_kept s t q _ g u b = absurd (true≢false (sym b))
+use_kept s t q ReadUses g u = use_load_kept s t q u g
+use_kept s t q (CountUse n) g u = use_exchange_kept s t q n u g
+use_kept s t q (Requeue n) g u = use_requeue_kept s t q n u g
+use_kept s t q ReadAgain g u = use_reload_kept s t q u g
 
 -- a step of a call; a place of another request never comes
 call_kept : (s : Table) (t : ℕ) (q : Request) (p : Place) → Going s t q p → belongs q p ≡ true
     → GoKeeps s t (line_of q p t s)
-unfolding line_of
-call_kept s t (Lock m) LockLoad g b = lock_load_kept g
-call_kept s t (Lock m) LockPending g b = lock_pending_kept g
-call_kept s t (Lock m) QueueExpired g b = queue_expired_kept g
-call_kept s t (Lock m) StopExpired g b = stop_expired_kept g
+unfolding line_of giving_line locking_line shared_line repair_line
+call_kept s t (Lock m) Load g b = lock_load_kept g
+call_kept s t (Lock m) NamePending g b = lock_pending_kept g
 call_kept s t (Lock m) p g b = locking_kept s t (Lock m) p g (going_named g) (in_lock refl) b
-call_kept s t (TryLock m) TryLoad g b = try_load_kept s t m g
-call_kept s t (TryLock m) TryPending g b = try_pending_kept s t m g
-call_kept s t (TryLock m) TryExchange g b = try_exchange_kept s t m g
-call_kept s t (TryLock m) TryKernel g b = try_kernel_kept s t m g
-call_kept s t (TryLock m) TryClear g b = try_clear_kept s t m g
+call_kept s t (TryLock m) Load g b = try_load_kept s t m g
+call_kept s t (TryLock m) NamePending g b = try_pending_kept s t m g
+call_kept s t (TryLock m) CallKernel g b = try_kernel_kept s t m g
 call_kept s t (TryLock m) p g b = shared_kept s t (TryLock m) p g (going_named g) (by_try_lock refl) b
-call_kept s t (Unlock m) UnlockLoad g b = unlock_load_kept s t m g
-call_kept s t (Unlock m) UnlockPending g b = unlock_pending_kept s t m g
-call_kept s t (Unlock m) UnlockHealth g b = unlock_health_kept s t m g
-call_kept s t (Unlock m) UnlockStore g b = unlock_store_kept s t m g
-call_kept s t (Unlock m) UnlockUnlink g b = unlock_unlink_kept s t m g
-call_kept s t (Unlock m) UnlockExchange g b = unlock_exchange_kept s t m g
-call_kept s t (Unlock m) UnlockKernel g b = unlock_kernel_kept s t m g
-call_kept s t (Unlock m) UnlockClear g b = unlock_clear_kept s t m g
-call_kept s t (Consistent m) ConsistentLoad g b = consistent_load_kept s t m g
-call_kept s t (Consistent m) ConsistentHealth g b = consistent_health_kept s t m g
-call_kept s t (Consistent m) ConsistentStore g b = consistent_store_kept s t m g
-call_kept s t (Wait c m) WaitLoad g b = wait_load_kept s t c m g
-call_kept s t (Wait c m) WaitUses g b = wait_uses_kept s t c m g
-call_kept s t (Wait c m) (WaitPending v) g b = wait_pending_kept s t c m v g
-call_kept s t (Wait c m) (WaitHealth v) g b = wait_health_kept s t c m v g
-call_kept s t (Wait c m) (WaitStore v) g b = wait_store_kept s t c m v g
-call_kept s t (Wait c m) (WaitUnlink v) g b = wait_unlink_kept s t c m v g
-call_kept s t (Wait c m) (WaitExchange v) g b = wait_exchange_kept s t c m v g
-call_kept s t (Wait c m) (WaitKernel v) g b = wait_kernel_kept s t c m v g
-call_kept s t (Wait c m) (WaitPark v) g b = wait_park_kept s t c m v g
-call_kept s t (Wait c m) WaitParked g b = wait_parked_kept s t c m g
+call_kept s t (Unlock m) Load g b = unlock_load_kept s t m g
+call_kept s t (Unlock m) (Give x ToUnlock) g b = unlock_gives_kept s t m x g
+call_kept s t (Unlock m) (Clear f a) g b = clear_kept s t (Unlock m) (going_named g) f a g
+call_kept s t (Consistent m) Load g b = consistent_load_kept s t m g
+call_kept s t (Consistent m) (Repair CheckHealth) g b = consistent_health_kept s t m g
+call_kept s t (Consistent m) (Repair StoreFine) g b = consistent_store_kept s t m g
+call_kept s t (Wait c m) Load g b = wait_load_kept s t c m g
+call_kept s t (Wait c m) LoadUses g b = wait_uses_kept s t c m g
+call_kept s t (Wait c m) (Give x (ToPark v)) g b = wait_gives_kept s t c m v x g
+call_kept s t (Wait c m) (Park v) g b = wait_park_kept s t c m v g
+call_kept s t (Wait c m) StayParked g b = wait_parked_kept s t c m g
 call_kept s t (Wait c m) p g b =
     locking_kept s t (Wait c m) p g (second (has_cond s c) (has_mutex s m) (going_named g)) (in_wait c refl) b
-call_kept s t (Signal c) p g b = use_kept s t (Signal c) p g refl b
-call_kept s t (Broadcast c) p g b = use_kept s t (Broadcast c) p g refl b
+call_kept s t (Signal c) (Wake x) g b = use_kept s t (Signal c) x g refl
+call_kept s t (Broadcast c) (Wake x) g b = use_kept s t (Broadcast c) x g refl
 call_kept s t (SetPrio u p) SetPriority g b = set_priority_kept s t u p g
 call_kept s t _ _ g b = absurd (true≢false (sym b))
 

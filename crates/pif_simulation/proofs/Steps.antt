@@ -10,7 +10,13 @@ use Rattle.pif_model.specs.declared.events.Entry.TheVariants.{Step as Happened}
 use Rattle.pif_model.specs.declared.lines.Line.{Line}
 use Rattle.pif_model.specs.declared.lines.Line.TheVariants.{Idle, At}
 use Rattle.pif_model.specs.declared.lines.Place.{Place}
-use Rattle.pif_model.specs.declared.lines.Place.TheVariants.{LockExchange, LockKernel, LockQueued, LockStop, LockStopped, TakeLoad, TakeHealth, WaitPark, WaitParked}
+use Rattle.pif_model.specs.declared.lines.Place.TheVariants.{Exchange, CallKernel, StayQueued, Stop, StayStopped, Take, Give, Park, StayParked, Wake}
+use Rattle.pif_model.specs.declared.lines.TakeStep.{TakeStep}
+use Rattle.pif_model.specs.declared.lines.TakeStep.TheVariants.{LoadWord, LoadHealth, StoreInconsistent, ClearDied}
+use Rattle.pif_model.specs.declared.lines.Purpose.{Purpose}
+use Rattle.pif_model.specs.declared.lines.Purpose.TheVariants.{ToUnlock, ToPark, ToLeave}
+use Rattle.pif_model.specs.declared.lines.WakeStep.{WakeStep}
+use Rattle.pif_model.specs.declared.lines.WakeStep.TheVariants.{ReadUses, CountUse, Requeue, ReadAgain}
 use Rattle.pif_model.specs.declared.lines.Status.{Status}
 use Rattle.pif_model.specs.declared.lines.Status.TheVariants.{Ready, Queued, Parked, Stopped, Ended}
 use Rattle.pif_model.specs.declared.lines.Woken.TheVariants.{Fresh as WokenFresh, Owns as WokenOwns, Again as WokenAgain, Expired as WokenExpired}
@@ -23,11 +29,12 @@ use Rattle.pif_model.specs.Posix.Step.{went, waits, answered}
 use Rattle.pif_model.specs.PiKernel.{is_ready, is_living}
 use Rattle.pif_model.specs.Table.{Table, Cell, cell_at, has_mutex, has_cond, uses_of, status_at, line_at, timer_at}
 use Rattle.pif_model.specs.Lines.{Outcome, is_open, is_due_in}
-use Rattle.pif_model.specs.Projection.{Shadow, Agrees, before_lock, call_at, call_shown, progress_at, health_at, world_of}
-use Rattle.pif_model.specs.Soundness.{Use, use_at, MeetsAll, needs, CallIsSound, LineIsSound, IsSound}
+use Rattle.pif_model.specs.Projection.{Shadow, Agrees, before_lock, progress_taking, progress_giving, progress_waking, call_at, call_shown, progress_at, health_at, world_of}
+use Rattle.pif_model.specs.Soundness.{Need, Use, use_at, MeetsAll, needs, CallIsSound, LineIsSound, IsSound}
 use Rattle.pif_chains.proofs.Waiting.{by_test, names, named-from_pair}
 use Rattle.pif_chains.proofs.KernelFacts.{unnamed-from_ready, living-added}
 use Rattle.pif_chains.proofs.Numbers.{below}
+use Rattle.pif_simulation.proofs.Facts.{Known, is_ready_need, is_stopped_need, is_unstopped_need, is_own_need, is_other_need, is_own_ready_need, is_own_handed_need, is_once_need, is_stop_need, is_robust_need, is_health_need, is_died_need, is_behind_need, is_bound_need, is_used_need, is_below_need, call_ready, call_stopped, call_unstopped, call_own, call_other, call_own_ready, call_own_handed, call_once, call_stop, call_robust, call_health, call_died, call_behind, call_bound, call_used, call_limited}
 use Rattle.pif_simulation.proofs.Hole.{each_thread}
 use Rattle.pif_simulation.proofs.Shown.{threads_shown, call_seen, call_seen_of, timer_seen, refusal_seen, recalled_same}
 use Rattle.pif_simulation.proofs.deadlines.Due.{due_seen}
@@ -100,29 +107,48 @@ released_awake : (b : Bool) → is_idle (on_release b) ≡ false
 released_awake true = refl
 released_awake false = refl
 
+-- nor one that takes over, gives a mutex up, or wakes others
+step_awake : (y : TakeStep) (h : Health) → is_idle (progress_taking y h) ≡ false
+step_awake LoadWord h = taking_awake h
+step_awake (LoadHealth d) h = taking_awake h
+step_awake StoreInconsistent h = refl
+step_awake ClearDied h = refl
+
+giving_awake : (y : Purpose) (n : ℕ) → is_idle (progress_giving y n) ≡ false
+giving_awake ToUnlock n = refl
+giving_awake (ToPark v) n = refl
+giving_awake ToLeave n = refl
+
+waking_awake : (y : WakeStep) → is_idle (progress_waking y) ≡ false
+waking_awake ReadUses = refl
+waking_awake (CountUse v) = refl
+waking_awake (Requeue v) = refl
+waking_awake ReadAgain = refl
+
 -- an open call sleeps where its thread is parked or stopped
 place_sleeps : (l : ℕ → Bool) (t : ℕ) (q : Request) (x : Status) (c : Cell) (z : Use) (p : Place) (h : Health) (n : ℕ)
     → MeetsAll l t x c z (needs p) → is_idle (progress_at q p x h n) ≡ is_still x
-place_sleeps l t q x c z LockExchange h n k = locking_awake q ∙ sym (ready_not_still x k.0)
-place_sleeps l t q x c z LockKernel h n k = locking_awake q ∙ sym (ready_not_still x k.0)
-place_sleeps l t q x c z LockStop h n k = locking_awake q ∙ sym (ready_not_still x k.0)
-place_sleeps l t q (Ready w) c z LockQueued h n k = taking_awake h
-place_sleeps l t q (Queued m) c z LockQueued h n k = refl
-place_sleeps l t q (Parked i) c z LockQueued h n k = refl
-place_sleeps l t q Stopped c z LockQueued h n k = refl
-place_sleeps l t q Ended c z LockQueued h n k = refl
-place_sleeps l t q x c z LockStopped h n k = ap is_still (sym k.0)
-place_sleeps l t q x c z TakeLoad h n k = taking_awake h ∙ sym (ready_not_still x k.0)
-place_sleeps l t q x c z (TakeHealth b) h n k = taking_awake h ∙ sym (ready_not_still x k.0)
-place_sleeps l t q x c z (WaitPark v) h n k = released_awake (v == n) ∙ sym (ready_not_still x k.0)
-place_sleeps l t q (Ready WokenFresh) c z WaitParked h n k = taking_awake h
-place_sleeps l t q (Ready WokenOwns) c z WaitParked h n k = taking_awake h
-place_sleeps l t q (Ready WokenAgain) c z WaitParked h n k = refl
-place_sleeps l t q (Ready WokenExpired) c z WaitParked h n k = taking_awake h
-place_sleeps l t q (Queued m) c z WaitParked h n k = refl
-place_sleeps l t q (Parked i) c z WaitParked h n k = refl
-place_sleeps l t q Stopped c z WaitParked h n k = refl
-place_sleeps l t q Ended c z WaitParked h n k = refl
+place_sleeps l t q x c z Exchange h n k = locking_awake q ∙ sym (ready_not_still x k.0)
+place_sleeps l t q x c z CallKernel h n k = locking_awake q ∙ sym (ready_not_still x k.0)
+place_sleeps l t q x c z Stop h n k = locking_awake q ∙ sym (ready_not_still x k.0)
+place_sleeps l t q (Ready w) c z StayQueued h n k = taking_awake h
+place_sleeps l t q (Queued m) c z StayQueued h n k = refl
+place_sleeps l t q (Parked i) c z StayQueued h n k = refl
+place_sleeps l t q Stopped c z StayQueued h n k = refl
+place_sleeps l t q Ended c z StayQueued h n k = refl
+place_sleeps l t q x c z StayStopped h n k = ap is_still (sym k.0)
+place_sleeps l t q x c z (Take y) h n k = step_awake y h ∙ sym (ready_not_still x k.0)
+place_sleeps l t q x c z (Give y a) h n k = giving_awake a n ∙ sym (ready_not_still x k.0)
+place_sleeps l t q x c z (Park v) h n k = released_awake (v == n) ∙ sym (ready_not_still x k.0)
+place_sleeps l t q (Ready WokenFresh) c z StayParked h n k = taking_awake h
+place_sleeps l t q (Ready WokenOwns) c z StayParked h n k = taking_awake h
+place_sleeps l t q (Ready WokenAgain) c z StayParked h n k = refl
+place_sleeps l t q (Ready WokenExpired) c z StayParked h n k = taking_awake h
+place_sleeps l t q (Queued m) c z StayParked h n k = refl
+place_sleeps l t q (Parked i) c z StayParked h n k = refl
+place_sleeps l t q Stopped c z StayParked h n k = refl
+place_sleeps l t q Ended c z StayParked h n k = refl
+place_sleeps l t q x c z (Wake y) h n k = waking_awake y ∙ sym (ready_not_still x k.0)
 place_sleeps l t q x c z _ h n k = sym (ready_not_still x k.0)
 
 -- a call sleeps where its thread is parked or stopped
@@ -138,15 +164,15 @@ place_noted : (l : ℕ → Bool) (t : ℕ) (q : Request) (x : Status) (c : Cell)
     → after_waits (Some (record { request = q; progress = progress_at q p x h n }))
     ≡ Some (record { request = q; progress = progress_at q p x h n })
 place_noted l t q (Ready w) c z p h n k e = absurd (true≢false e)
-place_noted l t q (Queued m) c z LockQueued h n k e = refl
-place_noted l t q (Parked i) c z LockQueued h n k e = refl
-place_noted l t q Stopped c z LockQueued h n k e = refl
-place_noted l t q Ended c z LockQueued h n k e = refl
-place_noted l t q x c z LockStopped h n k e = refl
-place_noted l t q (Queued m) c z WaitParked h n k e = refl
-place_noted l t q (Parked i) c z WaitParked h n k e = refl
-place_noted l t q Stopped c z WaitParked h n k e = refl
-place_noted l t q Ended c z WaitParked h n k e = refl
+place_noted l t q (Queued m) c z StayQueued h n k e = refl
+place_noted l t q (Parked i) c z StayQueued h n k e = refl
+place_noted l t q Stopped c z StayQueued h n k e = refl
+place_noted l t q Ended c z StayQueued h n k e = refl
+place_noted l t q x c z StayStopped h n k e = refl
+place_noted l t q (Queued m) c z StayParked h n k e = refl
+place_noted l t q (Parked i) c z StayParked h n k e = refl
+place_noted l t q Stopped c z StayParked h n k e = refl
+place_noted l t q Ended c z StayParked h n k e = refl
 place_noted l t q x c z _ h n k e = absurd (true≢false (sym k.0 ∙ e))
 
 line_noted : (s : Table) (t : ℕ) (l : Line) → LineIsSound s t l → is_ready (status_at s t) ≡ false
@@ -207,6 +233,74 @@ module _ {s : Table} {t : ℕ} {q : Request} {p : Place} (g : Going s t q p) whe
   -- what the call rests on is met
   pub going_met : MeetsAll (is_living s.kernel) t (status_at s t) (cell_at s (named_by q)) (use_at s q) (needs p)
   going_met = going_knows.needs
+
+  -- and each of it by its name
+  abbrev pub KnownHere : (Need → Bool) → Type 0
+  KnownHere test = Known test s t q p
+
+  -- t may run
+  pub going_ready : KnownHere is_ready_need
+  going_ready = call_ready going_knows
+
+  -- t has stopped for good
+  pub going_stopped : KnownHere is_stopped_need
+  going_stopped = call_stopped going_knows
+
+  -- t has not stopped, nor ended
+  pub going_unstopped : KnownHere is_unstopped_need
+  going_unstopped = call_unstopped going_knows
+
+  -- t owns the mutex
+  pub going_own : KnownHere is_own_need
+  going_own = call_own going_knows
+
+  -- t doesn't own the mutex
+  pub going_other : KnownHere is_other_need
+  going_other = call_other going_knows
+
+  -- t owns the mutex once it may run
+  pub going_own_ready : KnownHere is_own_ready_need
+  going_own_ready = call_own_ready going_knows
+
+  -- t owns the mutex exactly where it was handed over
+  pub going_own_handed : KnownHere is_own_handed_need
+  going_own_handed = call_own_handed going_knows
+
+  -- t holds the mutex once
+  pub going_once : KnownHere is_once_need
+  going_once = call_once going_knows
+
+  -- t may stop for good
+  pub going_stop : KnownHere is_stop_need
+  going_stop = call_stop going_knows
+
+  -- the mutex is robust
+  pub going_robust : KnownHere is_robust_need
+  going_robust = call_robust going_knows
+
+  -- what the health word is, or is not
+  pub going_health : KnownHere is_health_need
+  going_health = call_health going_knows
+
+  -- whether OWNER_DIED is set
+  pub going_died : KnownHere is_died_need
+  going_died = call_died going_knows
+
+  -- the health word says that the mutex is inconsistent only where OWNER_DIED is set
+  pub going_behind : KnownHere is_behind_need
+  going_behind = call_behind going_knows
+
+  -- the variable is bound to the mutex
+  pub going_bound : KnownHere is_bound_need
+  going_bound = call_bound going_knows
+
+  -- the variable was used so often
+  pub going_used : KnownHere is_used_need
+  going_used = call_used going_knows
+
+  -- that is less often than it may be
+  pub going_limited : KnownHere is_below_need
+  going_limited = call_limited going_knows
 
   -- the step is not refused
   pub going_allowed : (x : Shadow) → refusal_of (world_of s x) (Go t) ≡ None

@@ -7,7 +7,7 @@ use Rattle.pif_types.specs.declared.requests.Kind.TheVariants.{Normal}
 use Rattle.pif_model.specs.declared.lines.Line.{Line}
 use Rattle.pif_model.specs.declared.lines.Line.TheVariants.{Idle, At}
 use Rattle.pif_model.specs.declared.lines.Place.{Place}
-use Rattle.pif_model.specs.declared.lines.Place.TheVariants.{LockQueued, TakeLoad, TakeHealth, WaitParked}
+use Rattle.pif_model.specs.declared.lines.Place.TheVariants.{StayQueued, Take, StayParked}
 use Rattle.pif_model.specs.declared.lines.Status.{Status}
 use Rattle.pif_model.specs.declared.lines.Status.TheVariants.{Ready, Queued, Parked, Stopped, Ended}
 use Rattle.pif_model.specs.declared.lines.Woken.TheVariants.{Fresh as WokenFresh, Owns as WokenOwns, Again as WokenAgain, Expired as WokenExpired}
@@ -113,21 +113,20 @@ no_call Excused bound k m = record {
 -- how far a call of a thread that doesn't own its mutex has come does not depend on the mutex's health
 progress_other : (living : ℕ → Bool) (u : ℕ) (q : Request) (x : Status) (c : Cell) (z : Use) (p : Place) (h h' : Health)
     (n : ℕ) → c.word.number ≢ u → MeetsAll living u x c z (needs p) → progress_at q p x h n ≡ progress_at q p x h' n
-progress_other living u q (Ready w) c z LockQueued h h' n d m = absurd (d (m.1.0 refl))
-progress_other living u q (Queued i) c z LockQueued h h' n d m = refl
-progress_other living u q (Parked i) c z LockQueued h h' n d m = refl
-progress_other living u q Stopped c z LockQueued h h' n d m = refl
-progress_other living u q Ended c z LockQueued h h' n d m = refl
-progress_other living u q x c z TakeLoad h h' n d m = absurd (d m.1.0)
-progress_other living u q x c z (TakeHealth b) h h' n d m = absurd (d m.1.0)
-progress_other living u q (Ready WokenFresh) c z WaitParked h h' n d m = absurd (d (m.1.0.0 refl))
-progress_other living u q (Ready WokenOwns) c z WaitParked h h' n d m = absurd (d (m.1.0.0 refl))
-progress_other living u q (Ready WokenAgain) c z WaitParked h h' n d m = refl
-progress_other living u q (Ready WokenExpired) c z WaitParked h h' n d m = absurd (d (m.1.0.0 refl))
-progress_other living u q (Queued i) c z WaitParked h h' n d m = refl
-progress_other living u q (Parked i) c z WaitParked h h' n d m = refl
-progress_other living u q Stopped c z WaitParked h h' n d m = refl
-progress_other living u q Ended c z WaitParked h h' n d m = refl
+progress_other living u q (Ready w) c z StayQueued h h' n d m = absurd (d (m.1.0 refl))
+progress_other living u q (Queued i) c z StayQueued h h' n d m = refl
+progress_other living u q (Parked i) c z StayQueued h h' n d m = refl
+progress_other living u q Stopped c z StayQueued h h' n d m = refl
+progress_other living u q Ended c z StayQueued h h' n d m = refl
+progress_other living u q x c z (Take y) h h' n d m = absurd (d m.1.0)
+progress_other living u q (Ready WokenFresh) c z StayParked h h' n d m = absurd (d (m.1.0.0 refl))
+progress_other living u q (Ready WokenOwns) c z StayParked h h' n d m = absurd (d (m.1.0.0 refl))
+progress_other living u q (Ready WokenAgain) c z StayParked h h' n d m = refl
+progress_other living u q (Ready WokenExpired) c z StayParked h h' n d m = absurd (d (m.1.0.0 refl))
+progress_other living u q (Queued i) c z StayParked h h' n d m = refl
+progress_other living u q (Parked i) c z StayParked h h' n d m = refl
+progress_other living u q Stopped c z StayParked h h' n d m = refl
+progress_other living u q Ended c z StayParked h h' n d m = refl
 progress_other living u q x c z _ h h' n d m = refl
 
 module _ (s : Table) (t m : ℕ) (l : Line) (r : RobustRow) (x : Word) (a n : ℕ) (k : Kernel) (t0 : t ≢ 0)

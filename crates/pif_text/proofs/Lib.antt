@@ -3,8 +3,9 @@ pub mod Numerals
 pub mod Marks
 pub mod Names
 pub mod Yields
+pub mod Plain
 pub mod QuestionLemmas
 pub mod Written
 pub mod ReadBack
-pub mod Plain
+pub mod PlainTexts
 pub mod Versions

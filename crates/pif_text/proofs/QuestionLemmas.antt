@@ -1,5 +1,5 @@
--- Questions: their numbers are such that a line can write, and their texts are read as them.
-use Rattle.std.proofs.Common.{◌≡◌, List, ℕ, Some, refl, codes, bytes_eq}
+-- Questions: their numbers are such that a line can write, and their texts are read as them and are plain.
+use Rattle.std.proofs.Common.{◌≡◌, List, ℕ, Some, refl, arith, codes, bytes_eq}
 use Rattle.pif_text.specs.declared.commands.Command.TheVariants.{Ask}
 use Rattle.pif_text.specs.declared.questions.Question.{Question}
 use Rattle.pif_text.specs.declared.questions.Question.TheVariants.{Word, Health, CondWord, Prio, Pick}
@@ -9,6 +9,7 @@ use Rattle.pif_text.specs.Questions.{IsQuestionWritten, question_in_one, questio
 use Rattle.pif_text.specs.Replies.{thread_name, mutex_name, cond_name}
 use Rattle.pif_text.specs.Words.{words}
 use Rattle.pif_text.proofs.Names.{two-words, thread-no_space, mutex-no_space, cond-no_space, thread_back, mutex_back, cond_back}
+use Rattle.pif_text.proofs.Plain.{IsPlain, behind, plain-cond, plain-more, plain-mutex, plain-thread}
 use Rattle.pif_text.proofs.Yields.{Yields, if_yields, map_yields, thread-small, mutex-small, cond-small}
 
 -- of one word
@@ -38,3 +39,16 @@ question_back (CondWord c) r =
 question_back (Prio t) r =
     rw (two-words (codes "prio") (thread_name t) refl (thread-no_space t r.1), thread_back t r.0 r.1) refl
 question_back Pick r = refl
+
+-- its text is short, and has neither LF nor an equals sign
+pub question-plain : (q : Question) → IsQuestionWritten q → IsPlain 62 (question_text q)
+unfolding question_text
+question-plain (Word m) r =
+    plain-more 16 62 _ (omega arith) (behind 5 11 (codes "word ") _ refl refl (omega arith) (plain-mutex m r.1))
+question-plain (Health m) r =
+    plain-more 18 62 _ (omega arith) (behind 7 11 (codes "health ") _ refl refl (omega arith) (plain-mutex m r.1))
+question-plain (CondWord c) r =
+    plain-more 20 62 _ (omega arith) (behind 9 11 (codes "condword ") _ refl refl (omega arith) (plain-cond c r.1))
+question-plain (Prio t) r =
+    plain-more 16 62 _ (omega arith) (behind 5 11 (codes "prio ") _ refl refl (omega arith) (plain-thread t r.1))
+question-plain Pick r = record { no_end = refl; no_equals = refl; short = omega arith }

@@ -9,23 +9,25 @@ use Rattle.pif_model.specs.declared.events.Event.TheVariants.{Begin, Go}
 use Rattle.pif_model.specs.declared.events.Seen.TheVariants.{Begun, Went, Answered}
 use Rattle.pif_model.specs.declared.lines.Line.TheVariants.{At, Idle}
 use Rattle.pif_model.specs.declared.lines.Place.{Place}
-use Rattle.pif_model.specs.declared.lines.Place.TheVariants.{ConsistentLoad, ConsistentHealth, ConsistentStore}
+use Rattle.pif_model.specs.declared.lines.Place.TheVariants.{Load, Repair}
+use Rattle.pif_model.specs.declared.lines.RepairStep.TheVariants.{CheckHealth, StoreFine}
 use Rattle.pif_model.specs.Deadlines.{plain}
 use Rattle.pif_model.specs.PiKernel.{is_living}
 use Rattle.pif_model.specs.Posix.{Mutex, World, mutex_at, names_known}
 use Rattle.pif_model.specs.Posix.Health.{Fine}
 use Rattle.pif_model.specs.Table.{Table, has_cond, has_mutex, has_thread, line_at}
 use Rattle.pif_model.specs.Word.{word_at}
-use Rattle.pif_model.specs.Lines.{Outcome, accepted_outcome, answers, by_refusal, event_outcome, first_place, go_outcome, goes_on, goes_to, is_open, line_of, table_refusal}
+use Rattle.pif_model.specs.Lines.{Outcome, accepted_outcome, answers, by_refusal, event_outcome, first_place, go_outcome, goes_on, goes_to, is_open, line_of, repair_line, table_refusal}
 use Rattle.pif_model.specs.Projection.{health_at, health_of}
 use Rattle.pif_model.specs.Soundness.{CallIsSound, IsSound, LineIsSound, ThreadIsSound, is_unsettled, mutex_by}
 use Rattle.pif_chains.proofs.LineCases.{consistent_load_cases, consistent_health_cases}
+use Rattle.pif_simulation.proofs.Facts.{call_own}
 use Rattle.pif_simulation.proofs.Lined.{tl}
 use Rattle.pif_simulation.proofs.Shown.{begin_allowed, go_allowed, mutex_seen}
 use Rattle.pif_simulation.proofs.Simulation.{event_kept}
-use Rattle.pif_uses.specs.Calls.{call_outcome}
+use Rattle.pif_calls.specs.Calls.{call_outcome}
 use Rattle.pif_uses.specs.Holding.{IsFineIn}
-use Rattle.pif_uses.proofs.CallLemmas.{call_other, goes_on-other, goes_on-went, goes_on-zero}
+use Rattle.pif_calls.proofs.CallLemmas.{call_other, goes_on-other, goes_on-went, goes_on-zero}
 use Rattle.pif_uses.proofs.GoCases.{go_cases}
 use Rattle.pif_uses.proofs.HoldLemmas.{allowed, begun, rest}
 
@@ -59,26 +61,26 @@ module _ (t m : ℕ) (s : Table) (k : IsSound s) (known : is_living s.kernel t �
       number_same a b e = cc
 
   -- the last step: the thread owns the mutex, and what it owns is in order, save for the health word, which is written
-  store_fine : (line_at s t ≡ At (Consistent m) ConsistentStore) → Leads t m (line_of (Consistent m) ConsistentStore t s)
-  unfolding line_of
+  store_fine : (line_at s t ≡ At (Consistent m) (Repair StoreFine)) → Leads t m (line_of (Consistent m) (Repair StoreFine) t s)
+  unfolding line_of repair_line
   store_fine e =
       let sound : ThreadIsSound s t = k.all.threads t known (λ x. x) in
-      let call : CallIsSound s t (Consistent m) ConsistentStore = subst (LineIsSound s t) e sound.line in
+      let call : CallIsSound s t (Consistent m) (Repair StoreFine) = subst (LineIsSound s t) e sound.line in
       let apart : m ≢ mutex_by is_unsettled (line_at s t) =
       subst (λ l. m ≢ mutex_by is_unsettled l) (sym e) (some_mutex m (length s.mutexes) call.named) in
-      let order = sound.settled m call.named call.needs.1.0 apart in
+      let order = sound.settled m call.named (call_own call) apart in
       fine (λ d. cc) (ap (λ h. health_of h (word_at s.words m).died) (zero_set s.words.healths m)
       ∙ ap (health_of 0) order.0)
 
   -- each step
   line_leads : (p : Place) → line_at s t ≡ At (Consistent m) p → Leads t m (line_of (Consistent m) p t s)
-  unfolding line_of
-  line_leads ConsistentLoad e =
-      consistent_load_cases (Leads t m) t m s (λ r own. leads_on ConsistentHealth)
+  unfolding line_of repair_line
+  line_leads Load e =
+      consistent_load_cases (Leads t m) t m s (λ r own. leads_on (Repair CheckHealth))
       (λ r away. leads_away 1 (λ d. omega (arith, d))) (λ r. leads_away 22 (λ d. omega (arith, d)))
-  line_leads ConsistentHealth e =
-      consistent_health_cases (Leads t m) t m s (λ h. leads_on ConsistentStore) (λ h. leads_away 22 (λ d. omega (arith, d)))
-  line_leads ConsistentStore e = store_fine e
+  line_leads (Repair CheckHealth) e =
+      consistent_health_cases (Leads t m) t m s (λ h. leads_on (Repair StoreFine)) (λ h. leads_away 22 (λ d. omega (arith, d)))
+  line_leads (Repair StoreFine) e = store_fine e
   line_leads p e = leads_away 22 (λ d. omega (arith, d))
 
 -- a step, refused or not
@@ -142,7 +144,7 @@ call_fine : (s : Table) (t m : ℕ) → IsSound s → (call_outcome t (Consisten
 call_fine s t m k e =
     let q = Consistent m in
     let o = event_outcome (Begin t q) s in
-    let fine = going_fine 23 t m o.after ConsistentLoad (event_kept s (Begin t q) k).sound
+    let fine = going_fine 23 t m o.after Load (event_kept s (Begin t q) k).sound
     (begin_line t q s k (begun t 0 q s [] e)) (rest t 0 q s [] e) in
     subst (λ (x : Outcome). health_at x.after m ≡ Fine) (sym (call_other t q s (allowed t 0 q s [] e))) fine
 

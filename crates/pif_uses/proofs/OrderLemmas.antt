@@ -13,7 +13,12 @@ use Rattle.pif_model.specs.declared.events.Event.TheVariants.{Begin, Go}
 use Rattle.pif_model.specs.declared.events.Seen.TheVariants.{Went, Answered}
 use Rattle.pif_model.specs.declared.lines.Line.TheVariants.{At, Idle}
 use Rattle.pif_model.specs.declared.lines.Place.{Place}
-use Rattle.pif_model.specs.declared.lines.Place.TheVariants.{LockLoad, LockPending, LockExchange, LockKernel, LockQueued, LockStop, LockStopped, LockClear, TakeLoad, TakeHealth, TakeStore, TakeWord, LinkNext, LinkHead, LinkClear, LeaveExchange, LeaveKernel, LeaveClear, QueueExpired, StopExpired}
+use Rattle.pif_model.specs.declared.lines.Place.TheVariants.{Load, NamePending, Exchange, CallKernel, StayQueued, Stop, StayStopped, Take, Link, Give, Clear}
+use Rattle.pif_model.specs.declared.lines.TakeStep.TheVariants.{LoadWord, LoadHealth, StoreInconsistent, ClearDied}
+use Rattle.pif_model.specs.declared.lines.LinkStep.TheVariants.{WriteNext, WriteHead}
+use Rattle.pif_model.specs.declared.lines.GiveStep.TheVariants.{Release, CallUnlock}
+use Rattle.pif_model.specs.declared.lines.Purpose.TheVariants.{ToUnlock, ToPark, ToLeave}
+use Rattle.pif_model.specs.declared.lines.Footing.TheVariants.{Linked, Unowned}
 use Rattle.pif_model.specs.declared.lines.Took.{Took}
 use Rattle.pif_model.specs.declared.lines.Took.TheVariants.{Owns as TookOwns, Queued as TookQueued}
 use Rattle.pif_model.specs.declared.events.Entry.{Entry}
@@ -22,27 +27,27 @@ use Rattle.pif_model.specs.Posix.Health.{Fine}
 use Rattle.pif_model.specs.PiKernel.{is_living, lock_answer, words_after_lock, kernel_after_lock, unlock_answer, words_after_unlock, kernel_after_unlock}
 use Rattle.pif_model.specs.Table.{Table, cell_at, has_mutex, has_thread, line_at, with_kernel, with_word}
 use Rattle.pif_model.specs.Word.{held_by, free_word, word_at}
-use Rattle.pif_model.specs.Lines.{Outcome, accepted_outcome, answers, by_refusal, clears, event_outcome, expired_in, expired_place, expires_at, gives_up, given_up_by, go_outcome, goes_on, goes_to, is_open, line_of, link_head, link_next, lock_by, lock_kernel, lock_stop, locking_line, shared_line, table_refusal, take_load, take_store, take_word_back}
+use Rattle.pif_model.specs.Lines.{Outcome, accepted_outcome, answers, by_refusal, clears, event_outcome, expired_in, expired_place, expires_at, gives_up, given_up_by, go_outcome, goes_on, goes_to, is_open, give_line, given_up, giving_line, line_of, link_line, lock_by, lock_kernel, lock_stop, locking_line, shared_line, table_refusal, take_line, take_load}
 use Rattle.pif_model.specs.Projection.{health_at, health_of}
 use Rattle.pif_model.specs.Soundness.{CallIsSound, IsSound, LineIsSound}
 use Rattle.pif_model.specs.Standing.{Stands}
-use Rattle.pif_chains.proofs.LineCases.{ends_by_cases, leave_exchange_cases, lock_load_cases, lock_queued_cases, own_exchange_cases, take_health_cases}
+use Rattle.pif_chains.proofs.LineCases.{ends_by_cases, give_exchange_cases, lock_load_cases, lock_queued_cases, own_exchange_cases, take_health_cases}
+use Rattle.pif_simulation.proofs.Facts.{call_own, call_behind, call_died}
 use Rattle.pif_simulation.proofs.Lined.{tl}
 use Rattle.pif_simulation.proofs.Shown.{go_allowed, mutex_seen}
 use Rattle.pif_simulation.proofs.Simulation.{event_kept}
-use Rattle.pif_uses.specs.Calls.{call_outcome}
+use Rattle.pif_calls.specs.Calls.{call_outcome}
 use Rattle.pif_uses.specs.Holding.{IsFineIn}
-use Rattle.pif_uses.proofs.CallLemmas.{call_other, goes_on-other, goes_on-went, goes_on-zero}
+use Rattle.pif_calls.proofs.CallLemmas.{call_other, goes_on-other, goes_on-went, goes_on-zero}
 use Rattle.pif_uses.proofs.FineLemmas.{begin_line, shown_fine}
 use Rattle.pif_uses.proofs.GoCases.{go_cases}
 use Rattle.pif_uses.proofs.HoldLemmas.{allowed, begun, rest}
 
 -- what holds at a place of t's lock of m: it isn't the owner at first, and once it is to be answered 0 m is fine
 abbrev OnWay : ℕ → ℕ → Table → Place → Type 0
-OnWay t m s LockLoad = (word_at s.words m).number ≢ t
-OnWay t m s (LinkNext a) = a ≡ 0 → health_at s m ≡ Fine
-OnWay t m s (LinkHead a) = a ≡ 0 → health_at s m ≡ Fine
-OnWay t m s (LinkClear a) = a ≡ 0 → health_at s m ≡ Fine
+OnWay t m s Load = (word_at s.words m).number ≢ t
+OnWay t m s (Link x a) = a ≡ 0 → health_at s m ≡ Fine
+OnWay t m s (Clear f a) = a ≡ 0 → health_at s m ≡ Fine
 OnWay t m s _ = Unit {0}
 
 -- what a step leaves: the call is open still, is answered otherwise than 0, or m is fine, or is stalled, and so fine
@@ -79,10 +84,10 @@ module _ (t m : ℕ) (v : Table) (l : t < length v.lines) where
 away : (t m a : ℕ) (v : Table) → a ≢ 0 → Takes t m (answers t a v)
 away t m a v n = other (λ e. cc) (λ e. n (number_same a 0 e))
 
--- where an expired lock goes on nothing has to hold
+-- where an expired lock goes on its answer is not 0
 expired_on : (t m : ℕ) (v : Table) (p : Place) → OnWay t m v (expired_place p)
-expired_on t m v LockQueued = tt
-expired_on t m v _ = tt
+expired_on t m v StayQueued = λ d. absurd (omega (arith, d))
+expired_on t m v _ = λ d. absurd (omega (arith, d))
 
 -- a mutex that nothing tells of is fine
 fine_of : (h : ℕ) (died : Bool) → h ≢ 2 → h ≢ 1 → died ≡ false → health_of h died ≡ Fine
@@ -113,39 +118,43 @@ module _ (t m : ℕ) (s : Table) (k : IsSound s) (known : is_living s.kernel t �
           (with_kernel (words_after_lock t m a s.words) (kernel_after_lock t m a s.words s.kernel) s))
       by_answer (Ok TookOwns) =
           let v = with_kernel (words_after_lock t m (Ok TookOwns) s.words) s.kernel s in
-          ends_by_cases (Takes t m) (Lock m) TakeLoad 0 t m v (λ r. goes_on_at t m v here TakeLoad tt)
+          ends_by_cases (Takes t m) (Lock m) (Take LoadWord) 0 t m v (λ r. goes_on_at t m v here (Take LoadWord) tt)
           (λ r. stalled p v e refl r)
       by_answer (Ok TookQueued) = other (λ d. cc) (λ d. cc)
       by_answer (Err Deadlock) =
           let v = with_kernel (words_after_lock t m (Err Deadlock) s.words) s.kernel s in
-          ends_by_cases (Takes t m) (Lock m) LockClear 35 t m v (λ r. goes_on_at t m v here LockClear tt)
+          ends_by_cases (Takes t m) (Lock m) (Clear Unowned 35) 35 t m v (λ r. goes_on_at t m v here (Clear Unowned 35) (λ d. absurd (omega (arith, d))))
           (λ r. away t m 35 v (λ d. omega (arith, d)))
-      by_answer (Err NoSuchThread) = goes_on_at t m _ here LockStop tt
+      by_answer (Err NoSuchThread) = goes_on_at t m _ here Stop tt
       by_answer (Err x) = away t m (number_of x) _ (some_error x)
 
+  -- who left an unusable mutex isn't answered 0
+  leaves_on : (v : Table) → t < length v.lines → Takes t m (given_up (Lock m) ToLeave t m v)
+  leaves_on v l = goes_on_at t m v l (Clear Unowned 131) (λ d. absurd (omega (arith, d)))
+
   -- the kernel call of leaving
-  leave_takes : Takes t m (gives_up t m (goes_to t (Lock m) LeaveClear) s)
+  leave_takes : Takes t m (gives_up t m (given_up (Lock m) ToLeave t m) s)
   unfolding gives_up given_up_by
   leave_takes = by_answer (unlock_answer t m s.words s.kernel)
     where
-      by_answer : (a : Result (record {}) Errno) → Takes t m (given_up_by a t (goes_to t (Lock m) LeaveClear)
+      by_answer : (a : Result (record {}) Errno) → Takes t m (given_up_by a t (given_up (Lock m) ToLeave t m)
           (with_kernel (words_after_unlock m a s.kernel s.words) (kernel_after_unlock m a s.kernel) s))
-      by_answer (Ok x) = goes_on_at t m _ here LeaveClear tt
+      by_answer (Ok x) = leaves_on _ here
       by_answer (Err x) = away t m (number_of x) _ (some_error x)
 
   -- the health word is read: without OWNER_DIED the mutex is fine
-  health_takes : (died : Bool) → line_at s t ≡ At (Lock m) (TakeHealth died)
-      → Takes t m (line_of (Lock m) (TakeHealth died) t s)
-  unfolding line_of locking_line shared_line
+  health_takes : (died : Bool) → line_at s t ≡ At (Lock m) (Take (LoadHealth died))
+      → Takes t m (line_of (Lock m) (Take (LoadHealth died)) t s)
+  unfolding line_of locking_line shared_line take_line
   health_takes died e =
-      let needs = (knows (TakeHealth died) e).needs in
-      let owns = needs.1.0 in
-      take_health_cases (Takes t m) (Lock m) died t m s (λ h. goes_on_at t m s here LeaveExchange tt)
-      (λ n d. goes_on_at t m s here TakeStore tt)
-      (λ n d. goes_on_at t m s here (LinkNext 0)
+      let call = knows (Take (LoadHealth died)) e in
+      let owns = call_own call in
+      take_health_cases (Takes t m) (Lock m) died t m s (λ h. goes_on_at t m s here (Give Release ToLeave) tt)
+      (λ n d. goes_on_at t m s here (Take StoreInconsistent) tt)
+      (λ n d. goes_on_at t m s here (Link WriteNext 0)
       (λ z. fine_of (cell_at s m).health (cell_at s m).word.died n
-      (λ h. true≢false (sym (needs.1.1.1.1.0 owns h) ∙ needs.1.1.1.1.1.0 owns ∙ d))
-      (needs.1.1.1.1.1.0 owns ∙ d)))
+      (λ h. true≢false (sym (call_behind call owns h) ∙ call_died call owns ∙ d))
+      (call_died call owns ∙ d)))
 
   -- it expires
   expires_takes : (p : Place) → Takes t m (expires_at (Lock m) p t s)
@@ -158,40 +167,39 @@ module _ (t m : ℕ) (s : Table) (k : IsSound s) (known : is_living s.kernel t �
 
   -- each step
   step_takes : (p : Place) → line_at s t ≡ At (Lock m) p → OnWay t m s p → Takes t m (line_of (Lock m) p t s)
-  unfolding line_of locking_line shared_line take_load take_store take_word_back link_next link_head clears lock_stop
-  step_takes LockLoad e w =
+  unfolding line_of locking_line shared_line giving_line take_line link_line give_line take_load clears lock_stop
+  step_takes Load e w =
       lock_load_cases (Takes t m) (Lock m) t m s (λ own kind. absurd (w own)) (λ own kind. absurd (w own))
-      (λ own kind. absurd (w own)) (λ apart r. goes_on_at t m s here LockPending tt)
-      (λ apart r. goes_on_at t m s here LockExchange tt)
-  step_takes LockPending e w = goes_on_at t m _ here LockExchange tt
-  step_takes LockExchange e w =
-      own_exchange_cases (Takes t m) (Lock m) LockKernel t m s
-      (λ d free r. goes_on_at t m (with_word m (held_by t) s) here (TakeHealth false) tt)
-      (λ d free r. stalled LockExchange (with_word m (held_by t) s) e refl r)
-      (goes_on_at t m s here LockKernel tt)
-  step_takes LockKernel e w = kernel_takes LockKernel e
-  step_takes LockQueued e w =
+      (λ own kind. absurd (w own)) (λ apart r. goes_on_at t m s here NamePending tt)
+      (λ apart r. goes_on_at t m s here Exchange tt)
+  step_takes NamePending e w = goes_on_at t m _ here Exchange tt
+  step_takes Exchange e w =
+      own_exchange_cases (Takes t m) (Lock m) t m s
+      (λ d free r. goes_on_at t m (with_word m (held_by t) s) here (Take (LoadHealth false)) tt)
+      (λ d free r. stalled Exchange (with_word m (held_by t) s) e refl r)
+      (goes_on_at t m s here CallKernel tt)
+  step_takes CallKernel e w = kernel_takes CallKernel e
+  step_takes StayQueued e w =
       lock_queued_cases (Takes t m) (Lock m) t m s
-      (λ ready r. goes_on_at t m s here (TakeHealth (cell_at s m).word.died) tt)
-      (λ ready r. stalled LockQueued s e refl r) (λ rests. other (λ d. cc) (λ d. cc))
-  step_takes LockStop e w = other (λ d. cc) (λ d. cc)
-  step_takes LockStopped e w = other (λ d. cc) (λ d. cc)
-  step_takes LockClear e w = away t m 35 _ (λ d. omega (arith, d))
-  step_takes QueueExpired e w = away t m 110 _ (λ d. omega (arith, d))
-  step_takes StopExpired e w = away t m 110 _ (λ d. omega (arith, d))
-  step_takes TakeLoad e w = goes_on_at t m s here (TakeHealth (cell_at s m).word.died) tt
-  step_takes (TakeHealth died) e w = health_takes died e
-  step_takes TakeStore e w = goes_on_at t m _ here TakeWord tt
-  step_takes TakeWord e w = goes_on_at t m _ here (LinkNext 130) (λ d. absurd (omega (arith, d)))
-  step_takes (LinkNext a) e w = goes_on_at t m _ here (LinkHead a) w
-  step_takes (LinkHead a) e w = goes_on_at t m _ here (LinkClear a) w
-  step_takes (LinkClear zero) e w = orderly (λ d. cc) (w refl)
-  step_takes (LinkClear (suc a)) e w = away t m (suc a) _ (λ d. omega (arith, d))
-  step_takes LeaveExchange e w =
-      leave_exchange_cases (Takes t m) (Lock m) t m s
-      (λ f d n. goes_on_at t m (with_word m free_word s) here LeaveClear tt) (goes_on_at t m s here LeaveKernel tt)
-  step_takes LeaveKernel e w = leave_takes
-  step_takes LeaveClear e w = away t m 131 _ (λ d. omega (arith, d))
+      (λ ready r. goes_on_at t m s here (Take (LoadHealth (cell_at s m).word.died)) tt)
+      (λ ready r. stalled StayQueued s e refl r) (λ rests. other (λ d. cc) (λ d. cc))
+  step_takes Stop e w = other (λ d. cc) (λ d. cc)
+  step_takes StayStopped e w = other (λ d. cc) (λ d. cc)
+  step_takes (Take LoadWord) e w = goes_on_at t m s here (Take (LoadHealth (cell_at s m).word.died)) tt
+  step_takes (Take (LoadHealth died)) e w = health_takes died e
+  step_takes (Take StoreInconsistent) e w = goes_on_at t m _ here (Take ClearDied) tt
+  step_takes (Take ClearDied) e w = goes_on_at t m _ here (Link WriteNext 130) (λ d. absurd (omega (arith, d)))
+  step_takes (Link WriteNext a) e w = goes_on_at t m _ here (Link WriteHead a) w
+  step_takes (Link WriteHead a) e w = goes_on_at t m _ here (Clear Linked a) w
+  step_takes (Clear f zero) e w = orderly (λ d. cc) (w refl)
+  step_takes (Clear f (suc a)) e w = away t m (suc a) _ (λ d. omega (arith, d))
+  step_takes (Give Release ToLeave) e w =
+      give_exchange_cases (Takes t m) (Lock m) ToLeave t m s (λ f. leaves_on (with_word m free_word s) here)
+      (goes_on_at t m s here (Give CallUnlock ToLeave) tt)
+  step_takes (Give CallUnlock ToLeave) e w = leave_takes
+  step_takes (Give x ToUnlock) e w = absurd (true≢false (sym (knows (Give x ToUnlock) e).belongs))
+  step_takes (Give x (ToPark v)) e w = absurd (true≢false (sym (knows (Give x (ToPark v)) e).belongs))
+  step_takes (Give x ToLeave) e w = absurd (true≢false (sym (knows (Give x ToLeave) e).belongs))
   step_takes p e w = away t m 22 s (λ d. omega (arith, d))
 
 -- a step, refused or not
@@ -257,7 +265,7 @@ call_orderly : (s : Table) (t m : ℕ) → IsSound s → (word_at s.words m).num
 call_orderly s t m k apart e =
     let q = Lock m in
     let o = event_outcome (Begin t q) s in
-    let fine = going_orderly 23 t m o.after LockLoad (event_kept s (Begin t q) k).sound
+    let fine = going_orderly 23 t m o.after Load (event_kept s (Begin t q) k).sound
     (begin_line t q s k (begun t 0 q s [] e))
     (λ own. apart (ap (λ ws. (word_at ws m).number) (sym (begin_words t q s)) ∙ own)) (rest t 0 q s [] e) in
     subst (λ (x : Outcome). health_at x.after m ≡ Fine) (sym (call_other t q s (allowed t 0 q s [] e))) fine

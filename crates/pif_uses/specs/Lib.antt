@@ -1,4 +1,3 @@
-pub mod Calls
 pub mod Holding
 pub mod Waiting
 pub mod Events

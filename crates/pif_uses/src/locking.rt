@@ -5,11 +5,10 @@ ghost use Rattle.pif_model.specs.Posix.{mutex_at};
 ghost use Rattle.pif_model.specs.History.{hold_count, open_call};
 ghost use Rattle.pif_model.specs.Standing.{WhereStands};
 ghost use Rattle.pif_model.specs.Lines.{goes_on};
-ghost use Rattle.pif_uses.specs.Calls.{StandsOn, call_outcome, after_call, after_finish};
+ghost use Rattle.pif_calls.specs.Calls.{StandsOn, call_outcome, after_call, after_finish};
 ghost use Rattle.pif_uses.specs.declared.locking.Held.TheVariants.{InOrder};
 ghost use Rattle.pif_uses.specs.Holding.{CountsOn, HoldsOn, IsFineIn, found, held_by, if_died, if_taken, locked, repaired_by, unlocked_by};
 
-use crate::calls::{call, finish};
 use pif_core::{Core, Event, Seen};
 use pif_types::{Errno, MutexId, Request, Tid};
 
@@ -49,7 +48,7 @@ pub fn lock_and_hold(core: &mut Core, thread: Tid, mutex: MutexId) -> Result<Hel
         HoldsOn thread mutex (hold_count thread mutex h + 1) core.new
         (after_call thread (Lock mutex) core.old h) r w)) }
 {
-    held_by(call(core, thread, Request::Lock(mutex)))
+    held_by(core.call(thread, Request::Lock(mutex)))
 }
 
 /// A thread goes on with a lock of a mutex that waited, with a deadline or none. Where it answers `Ok`, the thread holds
@@ -64,7 +63,7 @@ pub fn finish_lock(core: &mut Core, thread: Tid, mutex: MutexId) -> Result<Held,
         → HoldsOn thread mutex (hold_count thread mutex h + 1) core.new (after_finish thread core.old h) r w)) }
 {
     let _lock = Request::Lock(mutex);
-    held_by(finish(core, thread))
+    held_by(core.finish(thread))
 }
 
 /// A thread locks a mutex, adds this amount to a sum that the mutex protects, modulo 2 to the power 64, and unlocks
@@ -96,7 +95,7 @@ pub fn add_under(
     lock_and_hold(core, thread, mutex)?;
     // Here the thread is the one holder of the mutex.
     *sum = sum.wrapping_add(amount);
-    Ok(call(core, thread, Request::Unlock(mutex)))
+    Ok(core.call(thread, Request::Unlock(mutex)))
 }
 
 /// A thread locks a robust mutex that protects a value. Where its last owner has ended, the value is made this fresh
@@ -134,7 +133,7 @@ pub fn lock_and_repair(
         Ok(Held::OwnerDied) => {
             // Here the thread is the one holder of the mutex, and what the mutex protects may be in disorder.
             *value = fresh;
-            match call(core, thread, Request::Consistent(mutex)) {
+            match core.call(thread, Request::Consistent(mutex)) {
                 Seen::Answered(0) => Ok(Held::OwnerDied),
                 seen => Err(seen),
             }

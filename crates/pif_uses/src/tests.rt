@@ -1,8 +1,8 @@
 mod ways_out;
 
 use crate::{
-    Awaited, Held, Next, add_under, call, finish, finish_lock, lock_and_hold, lock_and_repair,
-    next_after, one_event, resume_wait, wait_unless,
+    Awaited, Held, Next, add_under, finish_lock, lock_and_hold, lock_and_repair, next_after,
+    one_event, resume_wait, wait_unless,
 };
 use pif_core::{Core, Event, Seen};
 use pif_types::{AddFault, CondId, Health, Kind, Limits, MutexId, Refusal, Request, Tid};
@@ -50,8 +50,8 @@ fn fill_with(core: &mut Core, kind: Kind, robust: bool) -> Result<Scene, AddFaul
 /// A thread makes this call, or goes on with the one that it has open.
 fn turn(core: &mut Core, thread: Tid, request: Option<Request>) -> Seen {
     match request {
-        Some(request) => call(core, thread, request),
-        None => finish(core, thread),
+        Some(request) => core.call(thread, request),
+        None => core.finish(thread),
     }
 }
 
@@ -113,7 +113,7 @@ fn lock_and_add(rt: &impl Abort, core: &mut Core) -> Result<(), Fail> {
         Err(Seen::Waits)
     );
     assert_eq!(rt;
-        call(core, scene.low, Request::Unlock(scene.mutex)),
+        core.call(scene.low, Request::Unlock(scene.mutex)),
         Seen::Answered(0)
     );
     assert_eq!(rt;
@@ -182,7 +182,7 @@ fn who_runs_out_of_time_gives_up(rt: HostRuntime) -> Result<(), Fail> {
 /// A thread waits for a mutex up to a time. A tick reaches it, and the thread gives up.
 fn give_up_lock(rt: &impl Abort, core: &mut Core, thread: Tid, mutex: MutexId) {
     assert_eq!(rt;
-        call(core, thread, Request::TimedLock(mutex, 5)),
+        core.call(thread, Request::TimedLock(mutex, 5)),
         Seen::Waits
     );
     assert_eq!(rt;

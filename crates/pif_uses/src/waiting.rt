@@ -5,12 +5,11 @@ ghost use Rattle.pif_model.specs.Posix.{World};
 ghost use Rattle.pif_model.specs.History.{hold_count, open_call};
 ghost use Rattle.pif_model.specs.Standing.{Stands, WhereStands};
 ghost use Rattle.pif_model.specs.Lines.{goes_on};
-ghost use Rattle.pif_uses.specs.Calls.{StandsOn, call_outcome, after_call, after_finish};
+ghost use Rattle.pif_calls.specs.Calls.{StandsOn, call_outcome, after_call, after_finish};
 ghost use Rattle.pif_uses.specs.Holding.{HoldsOn};
 ghost use Rattle.pif_uses.specs.declared.waiting.Awaited.TheVariants.{Met};
 ghost use Rattle.pif_uses.specs.Waiting.{awaited_by, if_resumed, if_waited, resumed_by};
 
-use crate::calls::{call, finish};
 use pif_core::{Core, Event, Seen};
 use pif_types::{CondId, MutexId, Request, Tid};
 
@@ -41,7 +40,7 @@ pub fn wait_unless(
     if is_met {
         Awaited::Met
     } else {
-        Awaited::Not(call(core, thread, Request::Wait(cond, mutex)))
+        Awaited::Not(core.call(thread, Request::Wait(cond, mutex)))
     }
 }
 
@@ -67,7 +66,7 @@ pub fn resume_wait(
         → Stands core.old h r w → open_call thread h ≡ Some (Wait cond mutex) → hold_count thread mutex h ≡ n + 1
         → HoldsOn thread mutex (n + 1) core.new (after_finish thread core.old h) r w) }
 {
-    match finish(core, thread) {
+    match core.finish(thread) {
         Seen::Answered(0) => wait_unless(core, thread, cond, mutex, is_met),
         seen => Awaited::Not(seen),
     }

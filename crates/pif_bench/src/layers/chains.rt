@@ -1,7 +1,6 @@
 use super::scenes::{Room, core_of, each_since, now};
 use pif_core::{Core, Event};
 use pif_types::{MutexId, Request, Tid};
-use pif_uses::call;
 use std::rt::Clock;
 
 /// How many times two threads pass a mutex on.
@@ -37,14 +36,14 @@ fn time_hand_overs(rt: &impl Clock, core: &mut Core) -> Option<u64> {
 /// One thread after another locks a mutex.
 fn lock_by_all(core: &mut Core, mutex: MutexId) -> Option<()> {
     for number in 1..=WAITING + 1 {
-        call(core, Tid::new(number)?, Request::Lock(mutex));
+        core.call(Tid::new(number)?, Request::Lock(mutex));
     }
     Some(())
 }
 
 /// The thread of this number unlocks a mutex, and the one behind it finds that it owns it.
 fn pass_on(core: &mut Core, mutex: MutexId, number: u32) -> Option<()> {
-    call(core, Tid::new(number)?, Request::Unlock(mutex));
+    core.call(Tid::new(number)?, Request::Unlock(mutex));
     core.step(Event::Go(Tid::new(number.saturating_add(1))?));
     Some(())
 }
@@ -61,11 +60,11 @@ fn time_rounds(rt: &impl Clock, core: &mut Core) -> Option<u64> {
     let mutex = MutexId::new(1)?;
     let mut owner = Tid::new(1)?;
     let mut other = Tid::new(2)?;
-    call(core, owner, Request::Lock(mutex));
+    core.call(owner, Request::Lock(mutex));
     let start = now(rt)?;
     for _round in 0..ROUNDS {
-        call(core, other, Request::Lock(mutex));
-        call(core, owner, Request::Unlock(mutex));
+        core.call(other, Request::Lock(mutex));
+        core.call(owner, Request::Unlock(mutex));
         core.step(Event::Go(other));
         (owner, other) = (other, owner);
     }
@@ -84,23 +83,23 @@ fn time_queueing(rt: &impl Clock, core: &mut Core) -> Option<u64> {
     let mutex = MutexId::new(1)?;
     let first = Tid::new(1)?;
     scatter(core, first)?;
-    call(core, first, Request::Lock(mutex));
+    core.call(first, Request::Lock(mutex));
     let start = now(rt)?;
     for number in 2..=WAITING + 1 {
         let thread = Tid::new(number)?;
-        call(core, thread, Request::Lock(mutex));
+        core.call(thread, Request::Lock(mutex));
     }
     each_since(rt, start, WAITING)
 }
 
 /// Gives thread 1 the priority 99, and the others priorities below it in no order.
 fn scatter(core: &mut Core, first: Tid) -> Option<()> {
-    call(core, first, Request::SetPrio(first, 99));
+    core.call(first, Request::SetPrio(first, 99));
     let mut mixed = 1_u32;
     for number in 2..=WAITING + 1 {
         mixed = mixed.wrapping_mul(1_664_525).wrapping_add(1_013_904_223);
         let level = 1 + (mixed >> 16) % 98;
-        call(core, first, Request::SetPrio(Tid::new(number)?, level));
+        core.call(first, Request::SetPrio(Tid::new(number)?, level));
     }
     Some(())
 }
@@ -137,11 +136,7 @@ fn time_last_lock(rt: &impl Clock, core: &mut Core, before: u32) -> Option<u64> 
 fn raise_joiners(core: &mut Core, before: u32) -> Option<()> {
     for joiner in 1..=JOINS {
         let thread = Tid::new(before.saturating_add(joiner))?;
-        call(
-            core,
-            thread,
-            Request::SetPrio(thread, joiner.saturating_add(1)),
-        );
+        core.call(thread, Request::SetPrio(thread, joiner.saturating_add(1)));
     }
     Some(())
 }
@@ -149,7 +144,7 @@ fn raise_joiners(core: &mut Core, before: u32) -> Option<()> {
 /// One of those joins the chain.
 fn join_behind(core: &mut Core, before: u32, joiner: u32) -> Option<()> {
     let thread = Tid::new(before.saturating_add(joiner))?;
-    call(core, thread, Request::Lock(MutexId::new(before)?));
+    core.call(thread, Request::Lock(MutexId::new(before)?));
     Some(())
 }
 
@@ -167,7 +162,7 @@ fn time_set_prio(rt: &impl Clock, core: &mut Core, depth: u32) -> Option<u64> {
     let last = Tid::new(depth)?;
     let start = now(rt)?;
     for round in 0..CHANGES {
-        call(core, first, Request::SetPrio(last, 98 + round % 2));
+        core.call(first, Request::SetPrio(last, 98 + round % 2));
     }
     each_since(rt, start, CHANGES)
 }
@@ -186,13 +181,13 @@ fn make_chain(core: &mut Core, depth: u32) -> Option<()> {
 /// The thread of this number locks the mutex of this number.
 fn lock_own(core: &mut Core, number: u32) -> Option<()> {
     let own = MutexId::new(number)?;
-    call(core, Tid::new(number)?, Request::Lock(own));
+    core.call(Tid::new(number)?, Request::Lock(own));
     Some(())
 }
 
 /// The thread of this number waits for the mutex of the one before it.
 fn join(core: &mut Core, number: u32) -> Option<()> {
     let before = MutexId::new(number.saturating_sub(1))?;
-    call(core, Tid::new(number)?, Request::Lock(before));
+    core.call(Tid::new(number)?, Request::Lock(before));
     Some(())
 }

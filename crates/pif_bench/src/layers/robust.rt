@@ -1,7 +1,6 @@
 use super::scenes::{Room, core_of, each_since, now};
 use pif_core::{Core, Event};
 use pif_types::{MutexId, Request, Tid};
-use pif_uses::call;
 use std::rt::Clock;
 
 /// How many pairs of a lock and an unlock are measured.
@@ -20,8 +19,8 @@ fn time_pairs(rt: &impl Clock, core: &mut Core) -> Option<u64> {
     let thread = Tid::new(1)?;
     let start = now(rt)?;
     for _pair in 0..PAIRS {
-        call(core, thread, Request::Lock(mutex));
-        call(core, thread, Request::Unlock(mutex));
+        core.call(thread, Request::Lock(mutex));
+        core.call(thread, Request::Unlock(mutex));
     }
     each_since(rt, start, PAIRS)
 }
@@ -70,7 +69,7 @@ fn time_ends(rt: &impl Clock, core: &mut Core, held: u32) -> Option<u64> {
 /// A thread locks the mutexes from 1 to this number. `None` where a number is 0.
 fn take_all(core: &mut Core, holder: Tid, held: u32) -> Option<()> {
     for number in 1..=held {
-        call(core, holder, Request::Lock(MutexId::new(number)?));
+        core.call(holder, Request::Lock(MutexId::new(number)?));
     }
     Some(())
 }
@@ -78,8 +77,8 @@ fn take_all(core: &mut Core, holder: Tid, held: u32) -> Option<()> {
 /// Thread 1 locks the mutex of this number, and the thread behind that number waits for it. `None` where a number is 0.
 fn contend(core: &mut Core, number: u32) -> Option<()> {
     let mutex = MutexId::new(number)?;
-    call(core, Tid::new(1)?, Request::Lock(mutex));
+    core.call(Tid::new(1)?, Request::Lock(mutex));
     let waiter = Tid::new(number.saturating_add(1))?;
-    call(core, waiter, Request::Lock(mutex));
+    core.call(waiter, Request::Lock(mutex));
     Some(())
 }

@@ -2,7 +2,7 @@
 use Rattle.std.proofs.Common.{◌≡◌, ◌⊎◌, inl, inr, eqb-true, ◌++◌, ℕ, Bool, true, false, ◌==◌, ◌||◌, cond, List, [], ◌∷◌, refl, sym, ap, ◌∙◌, subst, if◌then◌else◌, true≢false}
 use Rattle.std.specs.List.{list_any}
 use Rattle.pif_types.specs.declared.requests.Request.TheVariants.{Wait}
-use Rattle.pif_model.specs.declared.lines.Place.TheVariants.{WaitParked}
+use Rattle.pif_model.specs.declared.lines.Place.TheVariants.{StayParked}
 use Rattle.pif_model.specs.declared.lines.Status.TheVariants.{Parked}
 use Rattle.pif_model.specs.Graph.{has_waiter}
 use Rattle.pif_model.specs.PiKernel.{Parking, is_living, has_ended, has_parked, top_parked, parked_pairs, unparked}
@@ -68,5 +68,5 @@ cond-from_parked {s} h c e = first (has_cond s c) (has_mutex s l.mutex) call.nam
     l : IsParkedLine c (line_at s u)
     l = (each_thread h u lives).parked c was
 
-    call : CallIsSound s u (Wait c l.mutex) WaitParked
+    call : CallIsSound s u (Wait c l.mutex) StayParked
     call = subst (LineIsSound s u) l.line (each_thread h u lives).line

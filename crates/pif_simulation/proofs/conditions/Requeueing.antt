@@ -9,7 +9,8 @@ use Rattle.pif_types.specs.declared.errors.Errno.TheVariants.{Again}
 use Rattle.pif_types.specs.declared.requests.Request.{Request}
 use Rattle.pif_types.specs.declared.requests.Request.TheVariants.{Signal, Broadcast}
 use Rattle.pif_model.specs.declared.lines.Line.TheVariants.{Idle}
-use Rattle.pif_model.specs.declared.lines.Place.TheVariants.{UseRequeue, UseReload}
+use Rattle.pif_model.specs.declared.lines.Place.TheVariants.{Wake}
+use Rattle.pif_model.specs.declared.lines.WakeStep.TheVariants.{Requeue, ReadAgain}
 use Rattle.pif_model.specs.declared.lines.Status.TheVariants.{Parked}
 use Rattle.pif_model.specs.Graph.{has_waiter}
 use Rattle.pif_model.specs.Word.{word_at, has_word, has_cond_word}
@@ -35,7 +36,7 @@ use Rattle.pif_chains.proofs.KernelTaken.{takings-none, takings-more, fits-from_
 use Rattle.pif_chains.proofs.KernelAllTaken.{parked-few, takings-all}
 use Rattle.pif_simulation.proofs.Shown.{call_progressed}
 use Rattle.pif_simulation.proofs.Agreement.{Frames, framed}
-use Rattle.pif_simulation.proofs.Steps.{GoKeeps, Going, rests_ready, going_met, going_allowed, going_called, going_below, going_undue, going_told}
+use Rattle.pif_simulation.proofs.Steps.{GoKeeps, Going, rests_ready, going_allowed, going_called, going_below, going_undue, going_told, going_ready}
 use Rattle.pif_simulation.proofs.conditions.UseLines.{use_known, use_goes, closed_sound, closed_frames, closed_shown}
 use Rattle.pif_simulation.proofs.conditions.Unblocking.{Owed, one_of, recalled-all_unblocked, owed_effects, owed_past}
 use Rattle.pif_simulation.proofs.conditions.Takings.{system_of, table_with, TakesAll, takes_none, takes_more, takings, takings-zero}
@@ -82,7 +83,7 @@ sound_fits s m d = by_test (λ b. has_waiter s.kernel.waiters m ≡ b
     else (if is_living s.kernel (word_at s.words m).number then state_at s.kernel m == (word_at s.words m).number
     else true))) (eq-eqb (state_at s.kernel m) 0 e)) refl d.state
 
-module _ (s : Table) (t : ℕ) (q : Request) (n : ℕ) (g : Going s t q (UseRequeue n)) (u : is_use q ≡ true) where
+module _ (s : Table) (t : ℕ) (q : Request) (n : ℕ) (g : Going s t q (Wake (Requeue n))) (u : is_use q ≡ true) where
   abbrev c : ℕ
   c = variable_of q
 
@@ -90,10 +91,10 @@ module _ (s : Table) (t : ℕ) (q : Request) (n : ℕ) (g : Going s t q (UseRequ
   m = bound_to s c
 
   ready : is_ready (status_at s t) ≡ true
-  ready = (going_met g).0
+  ready = going_ready g
 
   known : has_cond s c ≡ true
-  known = use_known s t q (UseRequeue n) g u refl
+  known = use_known s t q (Wake (Requeue n)) g u refl
 
   c0 : c ≢ 0
   c0 = above_0 c (length s.conds) known
@@ -121,7 +122,7 @@ module _ (s : Table) (t : ℕ) (q : Request) (n : ℕ) (g : Going s t q (UseRequ
         (λ _ _. refl) refl
 
     -- it goes on as it did
-    going : Going v t q (UseRequeue n)
+    going : Going v t q (Wake (Requeue n))
     going = record { sound = a.sound; known = a.living t ∙ g.known; line = g.line }
 
     ready_then : is_ready (status_at v t) ≡ true
@@ -131,10 +132,10 @@ module _ (s : Table) (t : ℕ) (q : Request) (n : ℕ) (g : Going s t q (UseRequ
     last = with_line t Idle v
 
     last_sound : IsSound last
-    last_sound = closed_sound v t q (UseRequeue n) going u refl ready_then
+    last_sound = closed_sound v t q (Wake (Requeue n)) going u refl ready_then
 
     last_frames : Frames v last
-    last_frames = closed_frames v t q (UseRequeue n) going u refl ready_then
+    last_frames = closed_frames v t q (Wake (Requeue n)) going u refl ready_then
 
     module _ (y : Shadow) (fits : Agrees s y) where
       abbrev w : World
@@ -164,7 +165,7 @@ module _ (s : Table) (t : ℕ) (q : Request) (n : ℕ) (g : Going s t q (UseRequ
         answered t 0 q (with_progress t (Has 0) (world_of v y)) (ap (λ i. Happened (Go t) (Answered i)) (going_told g y 0))
             (record { allowed = going_allowed g y; moves = acts (going_undue g undue y) (effects y f) })
             (call_progressed (world_of v y) t (Has 0) _ (going_below going y) (going_called going y))
-            (closed_shown v t q (UseRequeue n) going u refl ready_then 0 y)
+            (closed_shown v t q (Wake (Requeue n)) going u refl ready_then 0 y)
             (rests_ready last_sound y t (a.living t ∙ g.known) ready_then),
       );
     }
@@ -260,12 +261,12 @@ module _ (s : Table) (t : ℕ) (q : Request) (n : ℕ) (g : Going s t q (UseRequ
   ) refl
     where
       cond_there : has_cond_word s.words c ≡ true
-      cond_there = let e = use_known s t q (UseRequeue n) g u refl in
+      cond_there = let e = use_known s t q (Wake (Requeue n)) g u refl in
           from_within c (length s.words.conds) (above_0 c (length s.conds) e)
           (omega (arith, below c (length s.conds) e, g.sound.all.shape.cond_words, g.sound.all.shape.few_conds))
 
       word_there : has_word s.words m ≡ true
-      word_there = let e = (g.sound.all.conds c (use_known s t q (UseRequeue n) g u refl)).bound in
+      word_there = let e = (g.sound.all.conds c (use_known s t q (Wake (Requeue n)) g u refl)).bound in
           from_within m (length s.words.mutexes) (above_0 m (length s.mutexes) e)
           (omega (arith, below m (length s.mutexes) e, g.sound.all.shape.words, g.sound.all.shape.few_mutexes))
 
@@ -282,7 +283,7 @@ module _ (s : Table) (t : ℕ) (q : Request) (n : ℕ) (g : Going s t q (UseRequ
   -- the variable was used since
   goes_again : GoKeeps s t (by_call (Err Again))
   unfolding use_by after_requeue
-  goes_again = use_goes s t q (UseRequeue n) g u refl ready UseReload refl (ready, tt)
+  goes_again = use_goes s t q (Wake (Requeue n)) g u refl ready (Wake ReadAgain) refl (ready, tt)
       (record { joins = λ e. e; chooses = λ i z e. e }) refl refl
 
   -- the kernel call cmp_requeue_pi
@@ -297,6 +298,6 @@ module _ (s : Table) (t : ℕ) (q : Request) (n : ℕ) (g : Going s t q (UseRequ
       (λ _. goes_again))
 
 -- the kernel call cmp_requeue_pi
-pub use_requeue_kept : (s : Table) (t : ℕ) (q : Request) (n : ℕ) → is_use q ≡ true → Going s t q (UseRequeue n)
+pub use_requeue_kept : (s : Table) (t : ℕ) (q : Request) (n : ℕ) → is_use q ≡ true → Going s t q (Wake (Requeue n))
     → GoKeeps s t (use_requeue q n (variable_of q) t s)
 use_requeue_kept s t q n u g = requeues s t q n g u

@@ -5,7 +5,7 @@ use Rattle.std.proofs.lemmas.Bool.{cases_eq, true≢false}
 use Rattle.std.proofs.lemmas.List.{set-get_or, set-set, get_or-set_same}
 use Rattle.pif_types.specs.declared.requests.Request.TheVariants.{Wait}
 use Rattle.pif_model.specs.declared.lines.Line.TheVariants.{Idle, At}
-use Rattle.pif_model.specs.declared.lines.Place.TheVariants.{WaitParked}
+use Rattle.pif_model.specs.declared.lines.Place.TheVariants.{StayParked}
 use Rattle.pif_model.specs.declared.lines.Status.TheVariants.{Ready, Queued, Parked}
 use Rattle.pif_model.specs.declared.lines.Woken.{Woken}
 use Rattle.pif_model.specs.declared.lines.Woken.TheVariants.{Owns as WokenOwns, Again as WokenAgain}
@@ -25,11 +25,12 @@ use Rattle.pif_chains.proofs.KernelFacts.{living-from_added, living-added}
 use Rattle.pif_chains.proofs.KernelPlaces.{queued_limits, queued_length, queued_has, queued_seat_same, queued_seat_other, queued_base, queued_state_other, queued_waiters}
 use Rattle.pif_chains.proofs.KernelWoken.{top-parked, top-added, woken_limits, woken_length, woken_seat_other, woken_seat_same, woken_base, woken_state, woken_waiters, woken_parked, kernel-woken, requeued_state_same, requeued_parked, kernel-requeued}
 use Rattle.pif_chains.proofs.KernelTaken.{taking-cases, may_queue-facts, woken_living}
+use Rattle.pif_simulation.proofs.Facts.{call_bound}
 use Rattle.pif_simulation.proofs.Hole.{aims, each_thread}
 use Rattle.pif_simulation.proofs.Shown.{mutex_seen, living_seen}
 use Rattle.pif_simulation.proofs.Agreement.{Frames, quiet, taking_unblocked}
 use Rattle.pif_simulation.proofs.Written.{IsCallOn, written, written_is, same_word, same_health, same_list, same_library}
-use Rattle.pif_simulation.proofs.Steps.{Going, going_named, going_met, going_called, going_below}
+use Rattle.pif_simulation.proofs.Steps.{Going, going_named, going_called, going_below, going_bound, going_own_handed, going_once, going_behind}
 use Rattle.pif_simulation.proofs.Local.{going_cell, ready-not_queued, ready-not_parked}
 use Rattle.pif_simulation.proofs.LocalLines.{lists_by, row_other, row_pending, row_half_linked, row_unowned}
 use Rattle.pif_simulation.proofs.Owning.{reworded}
@@ -94,32 +95,29 @@ module _ (s : Table) (h : IsSound s) (c : ℕ) (some : has_parked s.kernel c ≡
   at_line : IsParkedLine c (line_at s u)
   at_line = (each_thread h u lives).parked c was
 
-  first_knows : CallIsSound s u (Wait c at_line.mutex) WaitParked
+  first_knows : CallIsSound s u (Wait c at_line.mutex) StayParked
   first_knows = subst (LineIsSound s u) at_line.line (each_thread h u lives).line
 
   -- its wait is on that mutex
   waits_on : at_line.mutex ≡ m
-  waits_on = sym (eqb-true (bound_to s c) at_line.mutex first_knows.needs.1.1.1.1.0)
+  waits_on = sym (eqb-true (bound_to s c) at_line.mutex (call_bound first_knows))
 
-  pub line_u : line_at s u ≡ At (Wait c m) WaitParked
-  line_u = at_line.line ∙ ap (λ i. At (Wait c i) WaitParked) waits_on
+  pub line_u : line_at s u ≡ At (Wait c m) StayParked
+  line_u = at_line.line ∙ ap (λ i. At (Wait c i) StayParked) waits_on
 
   -- its call, at the place where it is parked
-  pub parked_going : Going s u (Wait c m) WaitParked
+  pub parked_going : Going s u (Wait c m) StayParked
   parked_going = record { sound = h; known = lives; line = line_u }
 
   named : has_mutex s m ≡ true
   named = wait_mutex s u c m (going_named parked_going)
 
-  met : MeetsAll (is_living s.kernel) u (status_at s u) (cell_at s m) (use_at s (Wait c m)) (needs WaitParked)
-  met = going_met parked_going
-
   bound : (bound_to s c == m) ≡ true
-  bound = met.1.1.1.1.0
+  bound = going_bound parked_going
 
   -- it doesn't own it
   other : (word_at s.words m).number ≢ u
-  other = met.1.0.1 (ap (λ x. if is_woken_again x then false else is_ready x) was)
+  other = (going_own_handed parked_going).1 (ap (λ x. if is_woken_again x then false else is_ready x) was)
 
   sound_m : CellIsSound (has_thread s) (has_waiter s.kernel.waiters m) (cell_at s m)
   sound_m = going_cell parked_going named
@@ -138,13 +136,13 @@ module _ (s : Table) (h : IsSound s) (c : ℕ) (some : has_parked s.kernel c ≡
 
   -- a word, a kernel and u's line as it was
   as_written : (x : Word) (k : Kernel)
-      → written u m (At (Wait c m) WaitParked) (robust_at s.lists u) x (health_word_at s.words m)
+      → written u m (At (Wait c m) StayParked) (robust_at s.lists u) x (health_word_at s.words m)
       (library_at s m).count k s ≡ with_kernel (set_word s.words m x) k s
-  as_written x k = written_is u m (At (Wait c m) WaitParked) (robust_at s.lists u) x (health_word_at s.words m)
+  as_written x k = written_is u m (At (Wait c m) StayParked) (robust_at s.lists u) x (health_word_at s.words m)
       (library_at s m).count k s refl (same_health s m) (same_list s u) (same_library s m)
       ∙ (λ i. record (with_kernel (set_word s.words m x) k s) { lines = lines i })
     where
-      lines : set s.lines u (At (Wait c m) WaitParked) ≡ s.lines
+      lines : set s.lines u (At (Wait c m) StayParked) ≡ s.lines
       lines = subst (λ l. set s.lines u l ≡ s.lines) line_u (set-get_or s.lines u Idle)
 
   -- WOKEN
@@ -200,7 +198,7 @@ module _ (s : Table) (h : IsSound s) (c : ℕ) (some : has_parked s.kernel c ≡
         go true d = d
         go false d = absurd ((sound_m.clean zero d).1 e)
 
-    owns : IsOneCall s u (Wait c m) WaitParked WaitParked mine (woken WokenOwns)
+    owns : IsOneCall s u (Wait c m) StayParked StayParked mine (woken WokenOwns)
     owns = record {
       kernel = kernel-woken u WokenOwns s.kernel h.kernel c was;
       call = woken_call WokenOwns;
@@ -212,7 +210,7 @@ module _ (s : Table) (h : IsSound s) (c : ℕ) (some : has_parked s.kernel c ≡
       belongs = refl;
       needs = subst (λ x. MeetsAll (is_living s.kernel) u x
           (record (cell_at s m) { word = mine; state_owner = state_at (woken WokenOwns) m }) (use_at s (Wait c m))
-          (needs WaitParked)) (sym status) (
+          (needs StayParked)) (sym status) (
             ((λ z. cc), λ z. cc),
             (((λ z. refl), λ z. absurd (true≢false z)), ((λ o. sound_m.count.unowned zero), ((λ o. behind), (bound, tt)))),
           );
@@ -237,16 +235,16 @@ module _ (s : Table) (h : IsSound s) (c : ℕ) (some : has_parked s.kernel c ≡
     takes_owning : TakesOne s u m (record { words = set_word s.words m mine; kernel = woken WokenOwns })
     takes_owning = record {
       sound = subst IsSound (as_written mine (woken WokenOwns))
-          (called_sound parked_going named WaitParked mine (woken WokenOwns) owns);
+          (called_sound parked_going named StayParked mine (woken WokenOwns) owns);
       frames = subst (Frames s) (as_written mine (woken WokenOwns))
-          (called_frames parked_going named WaitParked mine (woken WokenOwns) owns);
+          (called_frames parked_going named StayParked mine (woken WokenOwns) owns);
       living = owns.call.living;
       unparked = ap (λ (y : Seat). is_parked y.status) (woken_here WokenOwns);
       world = λ y. inr (free
           (λ e. other (sym (ap (λ (x : Mutex). x.owner) (mutex_seen h.all.shape y m)) ∙ e))
           (ap (λ (x : Mutex). x.owner) (mutex_seen h.all.shape y m) ∙ zero)
           (ap (λ v. world_of v y) (sym (as_written mine (woken WokenOwns)))
-          ∙ called_taken parked_going named WaitParked mine (woken WokenOwns) owns y
+          ∙ called_taken parked_going named StayParked mine (woken WokenOwns) owns y
           (on_taking (mutex_at (world_of s y) m).health) refl (sound_m.count.unowned zero)
           (ap (λ (x : Seat). progress_parked x.status (health_at s m)) (woken_here WokenOwns)
           ∙ ap on_taking (sym (ap (λ (x : Mutex). x.health) (mutex_seen h.all.shape y m))))
@@ -260,7 +258,7 @@ module _ (s : Table) (h : IsSound s) (c : ℕ) (some : has_parked s.kernel c ≡
 
   -- U IS WOKEN TO LOCK IT
 
-  again : IsOneCall s u (Wait c m) WaitParked WaitParked (word_at s.words m) (woken WokenAgain)
+  again : IsOneCall s u (Wait c m) StayParked StayParked (word_at s.words m) (woken WokenAgain)
   again = record {
     kernel = kernel-woken u WokenAgain s.kernel h.kernel c was;
     call = woken_call WokenAgain;
@@ -272,9 +270,9 @@ module _ (s : Table) (h : IsSound s) (c : ℕ) (some : has_parked s.kernel c ≡
     belongs = refl;
     needs = subst (λ x. MeetsAll (is_living s.kernel) u x
         (record (cell_at s m) { state_owner = state_at (woken WokenAgain) m }) (use_at s (Wait c m))
-        (needs WaitParked)) (sym status) (
+        (needs StayParked)) (sym status) (
           ((λ z. cc), λ z. cc),
-          (((λ z. absurd (true≢false (sym z))), λ z. other), (met.1.1.0, (met.1.1.1.0, (bound, tt)))),
+          (((λ z. absurd (true≢false (sym z))), λ z. other), (going_once parked_going, (going_behind parked_going, (bound, tt)))),
         );
     queue = λ j e. absurd (ready-not_queued (Ready WokenAgain) j refl (sym status ∙ e));
     parked = λ j e. absurd (ready-not_parked (Ready WokenAgain) j refl (sym status ∙ e));
@@ -288,7 +286,7 @@ module _ (s : Table) (h : IsSound s) (c : ℕ) (some : has_parked s.kernel c ≡
       status = ap (λ (y : Seat). y.status) (woken_seat_same u WokenAgain s.kernel (top-added s.kernel h.kernel c some))
 
   -- the words are what they were
-  as_woken : written u m (At (Wait c m) WaitParked) (robust_at s.lists u) (word_at s.words m) (health_word_at s.words m)
+  as_woken : written u m (At (Wait c m) StayParked) (robust_at s.lists u) (word_at s.words m) (health_word_at s.words m)
       (library_at s m).count (woken WokenAgain) s ≡ with_kernel s.words (woken WokenAgain) s
   as_woken = as_written (word_at s.words m) (woken WokenAgain)
       ∙ (λ i. with_kernel (record s.words { mutexes = same_word s m i }) (woken WokenAgain) s)
@@ -296,13 +294,13 @@ module _ (s : Table) (h : IsSound s) (c : ℕ) (some : has_parked s.kernel c ≡
   takes_waking : TakesOne s u m (record { words = s.words; kernel = woken WokenAgain })
   takes_waking = record {
     sound = subst IsSound as_woken
-        (called_sound parked_going named WaitParked (word_at s.words m) (woken WokenAgain) again);
+        (called_sound parked_going named StayParked (word_at s.words m) (woken WokenAgain) again);
     frames = subst (Frames s) as_woken
-        (called_frames parked_going named WaitParked (word_at s.words m) (woken WokenAgain) again);
+        (called_frames parked_going named StayParked (word_at s.words m) (woken WokenAgain) again);
     living = again.call.living;
     unparked = ap (λ (y : Seat). is_parked y.status) (woken_here WokenAgain);
     world = λ y. inl (ap (λ v. world_of v y) (sym as_woken)
-        ∙ called_shown parked_going named WaitParked (word_at s.words m) (woken WokenAgain) again y Owing refl
+        ∙ called_shown parked_going named StayParked (word_at s.words m) (woken WokenAgain) again y Owing refl
         (ap (λ (x : Seat). progress_parked x.status (health_at s m)) (woken_here WokenAgain))
         ∙ (λ i. record (with_progress u Owing (world_of s y)) { waiters = woken_waiters u WokenAgain s.kernel i })
         ∙ ap (λ k. with_thread u (record (thread_at (world_of s y) u) { call = k }) (world_of s y))
@@ -345,7 +343,7 @@ module _ (s : Table) (h : IsSound s) (c : ℕ) (some : has_parked s.kernel c ≡
       contended = λ z. refl;
     }
 
-    queues : IsOneCall s u (Wait c m) WaitParked WaitParked (mark_word (word_at s.words m)) queued
+    queues : IsOneCall s u (Wait c m) StayParked StayParked (mark_word (word_at s.words m)) queued
     queues = record {
       kernel = kernel-requeued u m (word_at s.words m).number s.kernel h.kernel c was
           (above_0 m (length s.mutexes) named) few (living-added s.kernel (word_at s.words m).number alive) agrees
@@ -373,7 +371,7 @@ module _ (s : Table) (h : IsSound s) (c : ℕ) (some : has_parked s.kernel c ≡
       belongs = refl;
       needs = subst (λ x. MeetsAll (is_living s.kernel) u x
           (record (cell_at s m) { word = mark_word (word_at s.words m); state_owner = state_at queued m })
-          (use_at s (Wait c m)) (needs WaitParked)) (sym status) (
+          (use_at s (Wait c m)) (needs StayParked)) (sym status) (
             ((λ z. cc), λ z. cc),
             (
               ((λ z. absurd (true≢false (sym z))), λ z. other),
@@ -382,7 +380,7 @@ module _ (s : Table) (h : IsSound s) (c : ℕ) (some : has_parked s.kernel c ≡
           );
       queue = λ j e. record {
         request = Wait c m;
-        place = WaitParked;
+        place = StayParked;
         line = refl;
         queued = refl;
         waits = same j (sym status ∙ e);
@@ -422,9 +420,9 @@ module _ (s : Table) (h : IsSound s) (c : ℕ) (some : has_parked s.kernel c ≡
     takes_queueing : TakesOne s u m (record { words = set_word s.words m (mark_word (word_at s.words m)); kernel = queued })
     takes_queueing = record {
       sound = subst IsSound (as_written (mark_word (word_at s.words m)) queued)
-          (called_sound parked_going named WaitParked (mark_word (word_at s.words m)) queued queues);
+          (called_sound parked_going named StayParked (mark_word (word_at s.words m)) queued queues);
       frames = subst (Frames s) (as_written (mark_word (word_at s.words m)) queued)
-          (called_frames parked_going named WaitParked (mark_word (word_at s.words m)) queued queues);
+          (called_frames parked_going named StayParked (mark_word (word_at s.words m)) queued queues);
       living = queues.call.living;
       unparked = ap (λ (y : Seat). is_parked y.status) queued_here;
       world = λ y. inr (joins (
@@ -434,7 +432,7 @@ module _ (s : Table) (h : IsSound s) (c : ℕ) (some : has_parked s.kernel c ≡
       )
           (chain_same (world_of s y) u after_unblocking (mutex_at (world_of s y) m).owner u ∙ no_chain y)
           (ap (λ v. world_of v y) (sym (as_written (mark_word (word_at s.words m)) queued))
-          ∙ called_shown parked_going named WaitParked (mark_word (word_at s.words m)) queued queues y Waiting refl
+          ∙ called_shown parked_going named StayParked (mark_word (word_at s.words m)) queued queues y Waiting refl
           (ap (λ (x : Seat). progress_parked x.status (health_at s m)) queued_here)
           ∙ (λ i. record (progress_unblocked (world_of s y) u Waiting
           (record { request = Wait c m; progress = Blocked true }) (going_below parked_going y) (called_u y) i)

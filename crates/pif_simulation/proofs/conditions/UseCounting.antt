@@ -9,7 +9,12 @@ use Rattle.pif_types.specs.declared.requests.Request.TheVariants.{Lock, TryLock,
 use Rattle.pif_model.specs.declared.lines.Line.{Line}
 use Rattle.pif_model.specs.declared.lines.Line.TheVariants.{Idle, At}
 use Rattle.pif_model.specs.declared.lines.Place.{Place}
-use Rattle.pif_model.specs.declared.lines.Place.TheVariants.{LockExchange, LockKernel, LockQueued, LockStop, TakeLoad, TakeHealth, WaitPending, WaitHealth, WaitStore, WaitUnlink, WaitExchange, WaitKernel, WaitPark, WaitParked, UseExchange, UseRequeue}
+use Rattle.pif_model.specs.declared.lines.Place.TheVariants.{Exchange, CallKernel, StayQueued, Stop, Take, Give, Park, StayParked, Wake}
+use Rattle.pif_model.specs.declared.lines.TakeStep.{TakeStep}
+use Rattle.pif_model.specs.declared.lines.TakeStep.TheVariants.{LoadWord, LoadHealth, StoreInconsistent, ClearDied}
+use Rattle.pif_model.specs.declared.lines.Purpose.TheVariants.{ToUnlock, ToPark, ToLeave}
+use Rattle.pif_model.specs.declared.lines.WakeStep.{WakeStep}
+use Rattle.pif_model.specs.declared.lines.WakeStep.TheVariants.{ReadUses, CountUse, Requeue, ReadAgain}
 use Rattle.pif_model.specs.declared.lines.Status.{Status}
 use Rattle.pif_model.specs.declared.lines.Status.TheVariants.{Ready, Queued, Parked, Stopped, Ended}
 use Rattle.pif_model.specs.declared.lines.Woken.TheVariants.{Fresh as WokenFresh, Owns as WokenOwns, Again as WokenAgain, Expired as WokenExpired}
@@ -22,16 +27,17 @@ use Rattle.pif_model.specs.Posix.Effects.{none, then as first}
 use Rattle.pif_model.specs.PiKernel.{is_parked, is_living}
 use Rattle.pif_model.specs.Table.{Table, Cell, cell_at, has_mutex, has_cond, uses_of, status_at, line_at, with_line, with_cond_word}
 use Rattle.pif_model.specs.Lines.{goes_to, use_read, use_exchange}
-use Rattle.pif_model.specs.Projection.{Shadow, before_lock, progress_at, call_at, call_shown, health_at, thread_shown, variable_shown, world_of, chooses_on, may_enlist}
+use Rattle.pif_model.specs.Projection.{Shadow, before_lock, progress_taking, progress_waking, progress_at, call_at, call_shown, health_at, thread_shown, variable_shown, world_of, chooses_on, may_enlist}
 use Rattle.pif_model.specs.Soundness.{Use, use_at, MeetsAll, needs, mutex_by, is_unsettled, LineIsSound, ListIsSound, IsShaped, IsSound}
 use Rattle.pif_chains.proofs.Waiting.{by_test}
 use Rattle.pif_chains.proofs.Numbers.{above_0, below}
+use Rattle.pif_simulation.proofs.Facts.{fact, is_used_need}
 use Rattle.pif_simulation.proofs.Kept.{unwritten, same_conds}
 use Rattle.pif_simulation.proofs.Hole.{Changes, change_kept, excuse_one, admit_last, each_thread, each_absent}
 use Rattle.pif_simulation.proofs.Shown.{threads_shown, variables_shown, thread_seen, variable_seen, same_world}
 use Rattle.pif_simulation.proofs.Agreement.{Frames, AllParked, WasBlockedIn, taking_unblocked, quiet}
 use Rattle.pif_simulation.proofs.Local.{ready-not_queued, ready-not_parked}
-use Rattle.pif_simulation.proofs.Steps.{GoKeeps, Going, going_named, going_met, going_called, going_lined, goes_with}
+use Rattle.pif_simulation.proofs.Steps.{GoKeeps, Going, going_named, going_called, going_lined, goes_with, going_limited, going_ready}
 use Rattle.pif_simulation.proofs.conditions.UseLines.{use_known, use_belongs, use_list, use_order, use_read_kept}
 
 -- ONE CALL
@@ -83,6 +89,20 @@ locking_unblocked (SetPrio u p) = refl
 locking_unblocked (TimedLock m d) = refl
 locking_unblocked (TimedWait c m d) = refl
 
+-- nor one that takes over
+step_unblocked : (y : TakeStep) (h : Health) → is_blocked (progress_taking y h) ≡ false
+step_unblocked LoadWord h = taking_unblocked h
+step_unblocked (LoadHealth d) h = taking_unblocked h
+step_unblocked StoreInconsistent h = refl
+step_unblocked ClearDied h = refl
+
+-- nor one that wakes others
+waking_unblocked : (y : WakeStep) → is_blocked (progress_waking y) ≡ false
+waking_unblocked ReadUses = refl
+waking_unblocked (CountUse v) = refl
+waking_unblocked (Requeue v) = refl
+waking_unblocked ReadAgain = refl
+
 module _ (c : ℕ) (q : Request) (here : (variable_of q == c) ≡ true) where
   -- who owns the mutex still, and is blocked where this was read, is not blocked then
   enlisted : (v n : ℕ) → v ≤ n → call_of q (Enlisted (v == n + 1)) ≡ after_use_of c (call_of q (Enlisted (v == n)))
@@ -104,31 +124,28 @@ module _ (c : ℕ) (q : Request) (here : (variable_of q == c) ≡ true) where
   place_used : (l : ℕ → Bool) (t : ℕ) (x : Status) (d : Cell) (z : Use) (p : Place) (h : Health)
       → MeetsAll l t x d z (needs p)
       → call_of q (progress_at q p x h (z.uses + 1)) ≡ after_use_of c (call_of q (progress_at q p x h z.uses))
-  place_used l t x d z LockExchange h k = sym (stays c q (before_lock q) (locking_unblocked q))
-  place_used l t x d z LockKernel h k = sym (stays c q (before_lock q) (locking_unblocked q))
-  place_used l t x d z LockStop h k = sym (stays c q (before_lock q) (locking_unblocked q))
-  place_used l t (Ready w) d z LockQueued h k = sym (stays c q (on_taking h) (taking_unblocked h))
-  place_used l t (Queued m) d z LockQueued h k = refl
-  place_used l t (Parked i) d z LockQueued h k = refl
-  place_used l t Stopped d z LockQueued h k = refl
-  place_used l t Ended d z LockQueued h k = refl
-  place_used l t x d z TakeLoad h k = sym (stays c q (on_taking h) (taking_unblocked h))
-  place_used l t x d z (TakeHealth b) h k = sym (stays c q (on_taking h) (taking_unblocked h))
-  place_used l t x d z (WaitPending v) h k = enlisted v z.uses k.1.1.1.1.1.0
-  place_used l t x d z (WaitHealth v) h k = enlisted v z.uses k.1.1.1.1.1.0
-  place_used l t x d z (WaitStore v) h k = enlisted v z.uses k.1.1.1.1.1.1.0
-  place_used l t x d z (WaitUnlink v) h k = enlisted v z.uses k.1.1.1.1.1.1.1.0
-  place_used l t x d z (WaitExchange v) h k = enlisted v z.uses k.1.1.1.1.1.1.0
-  place_used l t x d z (WaitKernel v) h k = enlisted v z.uses k.1.1.1.1.1.1.0
-  place_used l t x d z (WaitPark v) h k = released v z.uses k.1.1.1.0
-  place_used l t (Ready WokenFresh) d z WaitParked h k = sym (stays c q (on_taking h) (taking_unblocked h))
-  place_used l t (Ready WokenOwns) d z WaitParked h k = sym (stays c q (on_taking h) (taking_unblocked h))
-  place_used l t (Ready WokenAgain) d z WaitParked h k = refl
-  place_used l t (Ready WokenExpired) d z WaitParked h k = sym (stays c q (on_taking h) (taking_unblocked h))
-  place_used l t (Queued m) d z WaitParked h k = refl
-  place_used l t (Parked i) d z WaitParked h k = refl
-  place_used l t Stopped d z WaitParked h k = refl
-  place_used l t Ended d z WaitParked h k = refl
+  place_used l t x d z Exchange h k = sym (stays c q (before_lock q) (locking_unblocked q))
+  place_used l t x d z CallKernel h k = sym (stays c q (before_lock q) (locking_unblocked q))
+  place_used l t x d z Stop h k = sym (stays c q (before_lock q) (locking_unblocked q))
+  place_used l t (Ready w) d z StayQueued h k = sym (stays c q (on_taking h) (taking_unblocked h))
+  place_used l t (Queued m) d z StayQueued h k = refl
+  place_used l t (Parked i) d z StayQueued h k = refl
+  place_used l t Stopped d z StayQueued h k = refl
+  place_used l t Ended d z StayQueued h k = refl
+  place_used l t x d z (Take y) h k = sym (stays c q (progress_taking y h) (step_unblocked y h))
+  place_used l t x d z (Give y (ToPark v)) h k = enlisted v z.uses (fact is_used_need l t x d z (needs (Give y (ToPark v))) k)
+  place_used l t x d z (Park v) h k = released v z.uses (fact is_used_need l t x d z (needs (Park v)) k)
+  place_used l t (Ready WokenFresh) d z StayParked h k = sym (stays c q (on_taking h) (taking_unblocked h))
+  place_used l t (Ready WokenOwns) d z StayParked h k = sym (stays c q (on_taking h) (taking_unblocked h))
+  place_used l t (Ready WokenAgain) d z StayParked h k = refl
+  place_used l t (Ready WokenExpired) d z StayParked h k = sym (stays c q (on_taking h) (taking_unblocked h))
+  place_used l t (Queued m) d z StayParked h k = refl
+  place_used l t (Parked i) d z StayParked h k = refl
+  place_used l t Stopped d z StayParked h k = refl
+  place_used l t Ended d z StayParked h k = refl
+  place_used l t x d z (Give y ToUnlock) h k = refl
+  place_used l t x d z (Give y ToLeave) h k = refl
+  place_used l t x d z (Wake y) h k = sym (stays c q (progress_waking y) (waking_unblocked y))
   place_used l t x d z _ h k = refl
 
 -- who is blocked then is parked
@@ -140,46 +157,45 @@ released_not v n l = ap (λ b. is_blocked (on_release b)) (past_read v n l)
 
 place_parked : (l : ℕ → Bool) (t : ℕ) (q : Request) (x : Status) (d : Cell) (z : Use) (p : Place) (h : Health)
     → MeetsAll l t x d z (needs p) → is_blocked (progress_at q p x h (z.uses + 1)) ≡ true → is_parked x ≡ true
-place_parked l t q x d z LockExchange h k e = absurd (true≢false (sym e ∙ locking_unblocked q))
-place_parked l t q x d z LockKernel h k e = absurd (true≢false (sym e ∙ locking_unblocked q))
-place_parked l t q x d z LockStop h k e = absurd (true≢false (sym e ∙ locking_unblocked q))
-place_parked l t q (Ready w) d z LockQueued h k e = absurd (true≢false (sym e ∙ taking_unblocked h))
-place_parked l t q (Queued m) d z LockQueued h k e = absurd (true≢false (sym e))
-place_parked l t q (Parked i) d z LockQueued h k e = refl
-place_parked l t q Stopped d z LockQueued h k e = absurd (true≢false (sym e))
-place_parked l t q Ended d z LockQueued h k e = absurd (true≢false (sym e))
-place_parked l t q x d z TakeLoad h k e = absurd (true≢false (sym e ∙ taking_unblocked h))
-place_parked l t q x d z (TakeHealth b) h k e = absurd (true≢false (sym e ∙ taking_unblocked h))
-place_parked l t q x d z (WaitPending v) h k e = absurd (true≢false (sym e ∙ enlisted_not v z.uses k.1.1.1.1.1.0))
-place_parked l t q x d z (WaitHealth v) h k e = absurd (true≢false (sym e ∙ enlisted_not v z.uses k.1.1.1.1.1.0))
-place_parked l t q x d z (WaitStore v) h k e = absurd (true≢false (sym e ∙ enlisted_not v z.uses k.1.1.1.1.1.1.0))
-place_parked l t q x d z (WaitUnlink v) h k e = absurd (true≢false (sym e ∙ enlisted_not v z.uses k.1.1.1.1.1.1.1.0))
-place_parked l t q x d z (WaitExchange v) h k e = absurd (true≢false (sym e ∙ enlisted_not v z.uses k.1.1.1.1.1.1.0))
-place_parked l t q x d z (WaitKernel v) h k e = absurd (true≢false (sym e ∙ enlisted_not v z.uses k.1.1.1.1.1.1.0))
-place_parked l t q x d z (WaitPark v) h k e = absurd (true≢false (sym e ∙ released_not v z.uses k.1.1.1.0))
-place_parked l t q (Ready WokenFresh) d z WaitParked h k e = absurd (true≢false (sym e ∙ taking_unblocked h))
-place_parked l t q (Ready WokenOwns) d z WaitParked h k e = absurd (true≢false (sym e ∙ taking_unblocked h))
-place_parked l t q (Ready WokenAgain) d z WaitParked h k e = absurd (true≢false (sym e))
-place_parked l t q (Ready WokenExpired) d z WaitParked h k e = absurd (true≢false (sym e ∙ taking_unblocked h))
-place_parked l t q (Queued m) d z WaitParked h k e = absurd (true≢false (sym e))
-place_parked l t q (Parked i) d z WaitParked h k e = refl
-place_parked l t q Stopped d z WaitParked h k e = absurd (true≢false (sym e))
-place_parked l t q Ended d z WaitParked h k e = absurd (true≢false (sym e))
+place_parked l t q x d z Exchange h k e = absurd (true≢false (sym e ∙ locking_unblocked q))
+place_parked l t q x d z CallKernel h k e = absurd (true≢false (sym e ∙ locking_unblocked q))
+place_parked l t q x d z Stop h k e = absurd (true≢false (sym e ∙ locking_unblocked q))
+place_parked l t q (Ready w) d z StayQueued h k e = absurd (true≢false (sym e ∙ taking_unblocked h))
+place_parked l t q (Queued m) d z StayQueued h k e = absurd (true≢false (sym e))
+place_parked l t q (Parked i) d z StayQueued h k e = refl
+place_parked l t q Stopped d z StayQueued h k e = absurd (true≢false (sym e))
+place_parked l t q Ended d z StayQueued h k e = absurd (true≢false (sym e))
+place_parked l t q x d z (Take y) h k e = absurd (true≢false (sym e ∙ step_unblocked y h))
+place_parked l t q x d z (Give y (ToPark v)) h k e = absurd (true≢false (sym e
+    ∙ enlisted_not v z.uses (fact is_used_need l t x d z (needs (Give y (ToPark v))) k)))
+place_parked l t q x d z (Park v) h k e = absurd (true≢false (sym e
+    ∙ released_not v z.uses (fact is_used_need l t x d z (needs (Park v)) k)))
+place_parked l t q (Ready WokenFresh) d z StayParked h k e = absurd (true≢false (sym e ∙ taking_unblocked h))
+place_parked l t q (Ready WokenOwns) d z StayParked h k e = absurd (true≢false (sym e ∙ taking_unblocked h))
+place_parked l t q (Ready WokenAgain) d z StayParked h k e = absurd (true≢false (sym e))
+place_parked l t q (Ready WokenExpired) d z StayParked h k e = absurd (true≢false (sym e ∙ taking_unblocked h))
+place_parked l t q (Queued m) d z StayParked h k e = absurd (true≢false (sym e))
+place_parked l t q (Parked i) d z StayParked h k e = refl
+place_parked l t q Stopped d z StayParked h k e = absurd (true≢false (sym e))
+place_parked l t q Ended d z StayParked h k e = absurd (true≢false (sym e))
+place_parked l t q x d z (Give y ToUnlock) h k e = absurd (true≢false (sym e))
+place_parked l t q x d z (Give y ToLeave) h k e = absurd (true≢false (sym e))
+place_parked l t q x d z (Wake y) h k e = absurd (true≢false (sym e ∙ waking_unblocked y))
 place_parked l t q x d z _ h k e = absurd (true≢false (sym e))
 
 -- ALL CALLS
 
-module _ (s : Table) (t : ℕ) (q : Request) (n : ℕ) (g : Going s t q (UseExchange n)) (u : is_use q ≡ true)
+module _ (s : Table) (t : ℕ) (q : Request) (n : ℕ) (g : Going s t q (Wake (CountUse n))) (u : is_use q ≡ true)
     (as_read : uses_of s (variable_of q) ≡ n) where
   abbrev c : ℕ
   c = variable_of q
 
   -- the table then
   abbrev v : Table
-  v = with_line t (At q (UseRequeue (n + 1))) (with_cond_word c (n + 1) s)
+  v = with_line t (At q (Wake (Requeue (n + 1)))) (with_cond_word c (n + 1) s)
 
   known : has_cond s c ≡ true
-  known = use_known s t q (UseExchange n) g u refl
+  known = use_known s t q (Wake (CountUse n)) g u refl
 
   worded : c < length s.words.conds
   worded = let e = below c (length s.conds) known in
@@ -193,11 +209,11 @@ module _ (s : Table) (t : ℕ) (q : Request) (n : ℕ) (g : Going s t q (UseExch
   uses_there i d = get_or-set_other s.words.conds c i (n + 1) 0 d
 
   -- lines
-  line_here : line_at v t ≡ At q (UseRequeue (n + 1))
-  line_here = get_or-set_same s.lines t (At q (UseRequeue (n + 1))) Idle (going_lined g)
+  line_here : line_at v t ≡ At q (Wake (Requeue (n + 1)))
+  line_here = get_or-set_same s.lines t (At q (Wake (Requeue (n + 1)))) Idle (going_lined g)
 
   line_there : (i : ℕ) → i ≢ t → line_at v i ≡ line_at s i
-  line_there i d = get_or-set_other s.lines t i (At q (UseRequeue (n + 1))) Idle d
+  line_there i d = get_or-set_other s.lines t i (At q (Wake (Requeue (n + 1)))) Idle d
 
   -- the parts still fit together
   shape : IsShaped v
@@ -206,8 +222,8 @@ module _ (s : Table) (t : ℕ) (q : Request) (n : ℕ) (g : Going s t q (UseExch
       record {
         limits = b.limits;
         within = b.within;
-        lines = length-set s.lines t (At q (UseRequeue (n + 1))) ∙ b.lines;
-        timers = b.timers ∙ sym (length-set s.lines t (At q (UseRequeue (n + 1))));
+        lines = length-set s.lines t (At q (Wake (Requeue (n + 1)))) ∙ b.lines;
+        timers = b.timers ∙ sym (length-set s.lines t (At q (Wake (Requeue (n + 1)))));
         nobody = line_there 0 (λ e. absurd (true≢false (sym g.known ∙ ap (is_living s.kernel) (sym e)))) ∙ b.nobody;
         lists = b.lists;
         some_mutex = b.some_mutex;
@@ -234,7 +250,7 @@ module _ (s : Table) (t : ℕ) (q : Request) (n : ℕ) (g : Going s t q (UseExch
 
   few : (i : ℕ) → (i ≡ c) ⊎ (i ≢ c) → uses_of s i ≤ s.limits.signals → uses_of v i ≤ s.limits.signals
   few i (inl e) l = subst (λ j. uses_of v j ≤ s.limits.signals) (sym e)
-      (let b = (going_met g).1.0 in omega (arith, uses_here, b))
+      (let b = going_limited g in omega (arith, uses_here, b))
   few i (inr d) l = omega (arith, uses_there i d, l)
 
   -- the change that it is
@@ -266,17 +282,17 @@ module _ (s : Table) (t : ℕ) (q : Request) (n : ℕ) (g : Going s t q (UseExch
     all = admit_last (change_kept (excuse_one g.sound t) change) g.known (record {
       line = subst (LineIsSound v t) (sym line_here) (record {
         named = going_named g;
-        belongs = use_belongs q (UseRequeue (n + 1)) u refl;
-        needs = ((going_met g).0, tt);
+        belongs = use_belongs q (Wake (Requeue (n + 1))) u refl;
+        needs = (going_ready g, tt);
       });
-      queue = λ j e. absurd (ready-not_queued (status_at s t) j (going_met g).0 e);
-      parked = λ j e. absurd (ready-not_parked (status_at s t) j (going_met g).0 e);
+      queue = λ j e. absurd (ready-not_queued (status_at s t) j (going_ready g) e);
+      parked = λ j e. absurd (ready-not_parked (status_at s t) j (going_ready g) e);
       list = subst (ListIsSound v t) (sym line_here)
-          (let b = use_list s t q (UseExchange n) g u refl (UseRequeue (n + 1)) refl in
+          (let b = use_list s t q (Wake (CountUse n)) g u refl (Wake (Requeue (n + 1))) refl in
           record { pending = b.pending; half_linked = b.half_linked; listed = b.listed });
       settled = subst (λ l. (m : ℕ) → has_mutex s m ≡ true → (word_at s.words m).number ≡ t
           → m ≢ mutex_by is_unsettled l → ((word_at s.words m).died ≡ false) × (health_word_at s.words m ≢ 2))
-          (sym line_here) (λ m e o away. use_order s t q (UseExchange n) g u refl m e o away);
+          (sym line_here) (λ m e o away. use_order s t q (Wake (CountUse n)) g u refl m e o away);
     });
     kernel = g.sound.kernel;
   }
@@ -396,7 +412,7 @@ module _ (s : Table) (t : ℕ) (q : Request) (n : ℕ) (g : Going s t q (UseExch
 
   frames : Frames s v
   frames = record {
-    lines = length-set s.lines t (At q (UseRequeue (n + 1)));
+    lines = length-set s.lines t (At q (Wake (Requeue (n + 1))));
     joins = λ i e. joins i e (cases_eq i t);
     chooses = λ i j z e. chooses i j e (cases_eq i t);
     blocked = λ i e. was_blocked i;
@@ -437,11 +453,11 @@ module _ (s : Table) (t : ℕ) (q : Request) (n : ℕ) (g : Going s t q (UseExch
     -- the step shows that world
     used_shown : world_of v y ≡ with_progress t Used (used c w)
     used_shown = same_world (world_of v y) (with_progress t Used (used c w))
-        (threads_shown shape y ∙ length-set s.lines t (At q (UseRequeue (n + 1)))
+        (threads_shown shape y ∙ length-set s.lines t (At q (Wake (Requeue (n + 1))))
         ∙ sym (length-set (used c w).threads t mine ∙ long))
         (λ i e. let f : i < length v.lines = subst (λ j. i < j) (threads_shown shape y) e in
         thread_seen shape y i f
-        ∙ each i (subst (λ j. i < j) (length-set s.lines t (At q (UseRequeue (n + 1)))) f) (cases_eq i t))
+        ∙ each i (subst (λ j. i < j) (length-set s.lines t (At q (Wake (Requeue (n + 1))))) f) (cases_eq i t))
         refl (λ j. refl) variables refl refl refl
       where
         here : thread_shown v y t ≡ thread_at (with_progress t Used (used c w)) t
@@ -486,21 +502,21 @@ module _ (s : Table) (t : ℕ) (q : Request) (n : ℕ) (g : Going s t q (UseExch
         (sym (variable_seen g.sound.all.shape y c)) ∙ e)) refl)
       where
         more : uses_of s c ≢ s.limits.signals
-        more e = absurd (let b = (going_met g).1.0 in omega (arith, b, as_read, e))
+        more e = absurd (let b = going_limited g in omega (arith, b, as_read, e))
 
   -- the variable is used
-  pub use_counts : GoKeeps s t (goes_to t q (UseRequeue (n + 1)) (with_cond_word c (n + 1) s))
-  use_counts = goes_with g v sound refl g.known (going_met g).0 frames
+  pub use_counts : GoKeeps s t (goes_to t q (Wake (Requeue (n + 1))) (with_cond_word c (n + 1) s))
+  use_counts = goes_with g v sound refl g.known (going_ready g) frames
       (λ y. first (used_effect y) (none (used_shown y)))
 
 -- compare-exchange of the condition word
-pub use_exchange_kept : (s : Table) (t : ℕ) (q : Request) (n : ℕ) → is_use q ≡ true → Going s t q (UseExchange n)
+pub use_exchange_kept : (s : Table) (t : ℕ) (q : Request) (n : ℕ) → is_use q ≡ true → Going s t q (Wake (CountUse n))
     → GoKeeps s t (use_exchange q n (variable_of q) t s)
 unfolding use_exchange
 use_exchange_kept s t q n u g =
     by_test (λ b. GoKeeps s t (if b
-    then goes_to t q (UseRequeue (n + 1)) (with_cond_word (variable_of q) (n + 1) s)
+    then goes_to t q (Wake (Requeue (n + 1))) (with_cond_word (variable_of q) (n + 1) s)
     else use_read q (uses_of s (variable_of q)) t s))
     (uses_of s (variable_of q) == n)
     (λ e. use_counts s t q n g u (eqb-true (uses_of s (variable_of q)) n e))
-    (λ e. use_read_kept s t q (UseExchange n) g u refl (going_met g).0 refl (quiet refl refl))
+    (λ e. use_read_kept s t q (Wake (CountUse n)) g u refl (going_ready g) refl (quiet refl refl))

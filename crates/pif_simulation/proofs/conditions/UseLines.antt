@@ -7,7 +7,8 @@ use Rattle.pif_types.specs.declared.requests.Request.{Request}
 use Rattle.pif_types.specs.declared.requests.Request.TheVariants.{Signal, Broadcast}
 use Rattle.pif_model.specs.declared.lines.Line.TheVariants.{Idle, At}
 use Rattle.pif_model.specs.declared.lines.Place.{Place}
-use Rattle.pif_model.specs.declared.lines.Place.TheVariants.{UseLoad, UseExchange, UseRequeue, UseReload}
+use Rattle.pif_model.specs.declared.lines.Place.TheVariants.{Wake}
+use Rattle.pif_model.specs.declared.lines.WakeStep.TheVariants.{ReadUses, CountUse, Requeue, ReadAgain}
 use Rattle.pif_model.specs.Word.{word_at, health_word_at}
 use Rattle.pif_model.specs.Posix.{Variable, Effect, nobody, thread_at, with_progress, with_call_by, without_call, is_blocked, is_call_blocked, is_use, named_by, variable_of, names_known}
 use Rattle.pif_model.specs.Posix.Progress.{Fresh, Has}
@@ -24,7 +25,7 @@ use Rattle.pif_simulation.proofs.Hole.{each_thread}
 use Rattle.pif_simulation.proofs.Shown.{variable_seen, closed_progressed, call_progressed}
 use Rattle.pif_simulation.proofs.Written.{no_call}
 use Rattle.pif_simulation.proofs.Agreement.{Frames, Follows, quiet, was_not, call_unblocked}
-use Rattle.pif_simulation.proofs.Steps.{GoKeeps, Going, progress_of, going_named, going_met, going_called, going_below, goes_with, answers_with}
+use Rattle.pif_simulation.proofs.Steps.{GoKeeps, Going, progress_of, going_named, going_called, going_below, goes_with, answers_with, going_ready}
 use Rattle.pif_simulation.proofs.Lined.{lined_sound, lined_frames, lined_call, lined_shown}
 
 -- the variable of a signal or broadcast exists
@@ -43,26 +44,20 @@ use_belongs _ p u e = absurd (true≢false (sym u))
 -- the same robust list is right at each of their places, and with no call open
 use_listed : (s : Table) (t : ℕ) (q : Request) (p : Place) → is_using p ≡ true → ListIsSound s t (At q p)
     → ListIsSound s t Idle
-use_listed s t q UseLoad e b = record { pending = b.pending; half_linked = b.half_linked; listed = b.listed }
-use_listed s t q (UseExchange v) e b = record { pending = b.pending; half_linked = b.half_linked; listed = b.listed }
-use_listed s t q (UseRequeue v) e b = record { pending = b.pending; half_linked = b.half_linked; listed = b.listed }
-use_listed s t q UseReload e b = record { pending = b.pending; half_linked = b.half_linked; listed = b.listed }
+use_listed s t q (Wake ReadUses) e b = record { pending = b.pending; half_linked = b.half_linked; listed = b.listed }
+use_listed s t q (Wake (CountUse v)) e b = record { pending = b.pending; half_linked = b.half_linked; listed = b.listed }
+use_listed s t q (Wake (Requeue v)) e b = record { pending = b.pending; half_linked = b.half_linked; listed = b.listed }
+use_listed s t q (Wake ReadAgain) e b = record { pending = b.pending; half_linked = b.half_linked; listed = b.listed }
 use_listed s t q _ e b = absurd (true≢false (sym e))
 
 listed_use : (s : Table) (t : ℕ) (q : Request) (p : Place) → is_using p ≡ true → ListIsSound s t Idle
     → ListIsSound s t (At q p)
-listed_use s t q UseLoad e b = record { pending = b.pending; half_linked = b.half_linked; listed = b.listed }
-listed_use s t q (UseExchange v) e b = record { pending = b.pending; half_linked = b.half_linked; listed = b.listed }
-listed_use s t q (UseRequeue v) e b = record { pending = b.pending; half_linked = b.half_linked; listed = b.listed }
-listed_use s t q UseReload e b = record { pending = b.pending; half_linked = b.half_linked; listed = b.listed }
+listed_use s t q (Wake x) e b = record { pending = b.pending; half_linked = b.half_linked; listed = b.listed }
 listed_use s t q _ e b = absurd (true≢false (sym e))
 
 -- what a thread owns is in order there
 pub use_settled : (q : Request) (p : Place) → is_using p ≡ true → mutex_by is_unsettled (At q p) ≡ 0
-use_settled q UseLoad e = refl
-use_settled q (UseExchange v) e = refl
-use_settled q (UseRequeue v) e = refl
-use_settled q UseReload e = refl
+use_settled q (Wake x) e = refl
 use_settled q _ e = absurd (true≢false (sym e))
 
 module _ (s : Table) (t : ℕ) (q : Request) (p : Place) (g : Going s t q p) (u : is_use q ≡ true)
@@ -142,13 +137,13 @@ module _ (s : Table) (t : ℕ) (q : Request) (p : Place) (g : Going s t q p) (u 
     -- LOADING
 
     -- where the call has had no effect, how often the variable was used is read
-    pub use_read_kept : progress_of s t q p ≡ Fresh → Follows (At q p) (At q (UseExchange (uses_of s (variable_of q))))
+    pub use_read_kept : progress_of s t q p ≡ Fresh → Follows (At q p) (At q (Wake (CountUse (uses_of s (variable_of q)))))
         → GoKeeps s t (use_read q (uses_of s (variable_of q)) t s)
     use_read_kept fresh follows = use_read_cases (GoKeeps s t) q (uses_of s (variable_of q)) t s
         (λ e. use_answers 75 (λ y. use_variable q
         (going_called g y ∙ ap (λ a. Some (record { request = q; progress = a })) fresh) u
         (at_limit (ap (λ (x : Variable). x.uses) (variable_seen g.sound.all.shape y (variable_of q)) ∙ e) refl)))
-        (λ d. use_goes (UseExchange (uses_of s (variable_of q))) refl
+        (λ d. use_goes (Wake (CountUse (uses_of s (variable_of q)))) refl
         (ready, (below d (g.sound.all.conds (variable_of q) use_known).uses, tt)) follows (sym fresh) refl)
       where
         below : uses_of s (variable_of q) ≢ s.limits.signals → uses_of s (variable_of q) ≤ s.limits.signals
@@ -157,10 +152,10 @@ module _ (s : Table) (t : ℕ) (q : Request) (p : Place) (g : Going s t q p) (u 
 
 module _ (s : Table) (t : ℕ) (q : Request) (u : is_use q ≡ true) where
   -- load the condition word
-  pub use_load_kept : Going s t q UseLoad → GoKeeps s t (use_read q (uses_of s (variable_of q)) t s)
-  use_load_kept g = use_read_kept s t q UseLoad g u refl (going_met g).0 refl (quiet refl refl)
+  pub use_load_kept : Going s t q (Wake ReadUses) → GoKeeps s t (use_read q (uses_of s (variable_of q)) t s)
+  use_load_kept g = use_read_kept s t q (Wake ReadUses) g u refl (going_ready g) refl (quiet refl refl)
 
   -- load it again
-  pub use_reload_kept : Going s t q UseReload → GoKeeps s t (goes_to t q (UseRequeue (uses_of s (variable_of q))) s)
-  use_reload_kept g = use_goes s t q UseReload g u refl (going_met g).0 (UseRequeue (uses_of s (variable_of q))) refl
-      ((going_met g).0, tt) (record { joins = λ e. e; chooses = λ c z e. e }) refl refl
+  pub use_reload_kept : Going s t q (Wake ReadAgain) → GoKeeps s t (goes_to t q (Wake (Requeue (uses_of s (variable_of q)))) s)
+  use_reload_kept g = use_goes s t q (Wake ReadAgain) g u refl (going_ready g) (Wake (Requeue (uses_of s (variable_of q)))) refl
+      (going_ready g, tt) (record { joins = λ e. e; chooses = λ c z e. e }) refl refl

@@ -1,28 +1,28 @@
 -- A wait gives its mutex up, from naming it in the pending field on: each step is an entry of the POSIX machine and
 -- keeps the invariant.
-use Rattle.std.proofs.Common.{◌≡◌, ℕ, Bool, true, false, ◌==◌, [], ◌∷◌, refl, sym}
+use Rattle.std.proofs.Common.{◌≡◌, ◌≢◌, ℕ, Bool, true, false, ◌==◌, refl, sym, ap}
+use Rattle.std.proofs.lemmas.Bool.{true≢false}
 use Rattle.pif_types.specs.declared.requests.Request.TheVariants.{Wait}
 use Rattle.pif_model.specs.declared.events.Seen.TheVariants.{Went}
 use Rattle.pif_model.specs.declared.lines.Line.TheVariants.{At}
-use Rattle.pif_model.specs.declared.lines.Place.{Place}
-use Rattle.pif_model.specs.declared.lines.Place.TheVariants.{WaitPending, WaitHealth, WaitStore, WaitUnlink, WaitExchange, WaitKernel, WaitPark}
-use Rattle.pif_model.specs.Graph.{has_waiter}
-use Rattle.pif_model.specs.Word.{free_word}
+use Rattle.pif_model.specs.declared.lines.Place.TheVariants.{Give, Park}
+use Rattle.pif_model.specs.declared.lines.GiveStep.{GiveStep}
+use Rattle.pif_model.specs.declared.lines.GiveStep.TheVariants.{Release, CallUnlock}
+use Rattle.pif_model.specs.declared.lines.Purpose.TheVariants.{ToPark}
+use Rattle.pif_model.specs.Word.{health_word_at}
 use Rattle.pif_model.specs.Posix.{is_blocked, on_release}
 use Rattle.pif_model.specs.Posix.Progress.{Enlisted}
 use Rattle.pif_model.specs.Posix.Effect.{give_up}
 use Rattle.pif_model.specs.Posix.GivesUp.{released}
-use Rattle.pif_model.specs.RobustList.{without_listed}
-use Rattle.pif_model.specs.Table.{Table, has_mutex, has_cond, uses_of, with_word, with_health_word, with_lists}
-use Rattle.pif_model.specs.Lines.{goes_to, pending, wait_health, wait_exchange, gives_up}
-use Rattle.pif_model.specs.Soundness.Need.{IsBound, UsedAtLeast}
-use Rattle.pif_chains.proofs.LineCases.{wait_health_cases, wait_exchange_cases}
+use Rattle.pif_model.specs.Table.{Table, has_mutex, has_cond, uses_of}
+use Rattle.pif_model.specs.Lines.{give_line}
+use Rattle.pif_model.specs.Projection.{health_of, health_at}
+use Rattle.pif_model.specs.Soundness.{is_last}
 use Rattle.pif_simulation.proofs.Kept.{second}
-use Rattle.pif_simulation.proofs.Agreement.{quiet}
-use Rattle.pif_simulation.proofs.Steps.{GoKeeps, Going}
+use Rattle.pif_simulation.proofs.Steps.{GoKeeps, Going, going_own, going_health, going_died, going_ready, going_bound, going_used}
 use Rattle.pif_simulation.proofs.Does.Does.{waits_inconsistent, waits_own}
-use Rattle.pif_simulation.proofs.mutexes.GivingUp.{GivesUpTo, gives_up_cases}
-use Rattle.pif_simulation.proofs.mutexes.GivingSteps.{is_at, GivesUpBy, IsLast, names_kept, loads_disorder, loads_order, stores_kept, unlinks_kept, exchange_fails, alone, given, gives_to, rests_besides, frees_kept, hands_kept}
+use Rattle.pif_simulation.proofs.mutexes.GivingUp.{GivesUpTo}
+use Rattle.pif_simulation.proofs.mutexes.GivingSteps.{GivesLast, GivesUpBy, gives_to, frees_kept, hands_kept, gives_kept}
 
 -- a wait that gave its mutex up is blocked where it was
 release_blocked : (b : Bool) → is_blocked (on_release b) ≡ true → is_blocked (Enlisted b) ≡ true
@@ -34,72 +34,47 @@ module _ (s : Table) (t c m v : ℕ) where
   abbrev still : Bool
   still = v == uses_of s c
 
-  -- it gives the mutex up by these steps
-  abbrev by_wait : GivesUpBy s t (Wait c m)
-  by_wait = record {
-    before = Enlisted still;
+  -- at the last steps it knows that the mutex isn't inconsistent, and that its health word says its health
+  in_order : (x : GiveStep) → is_last x ≡ true → Going s t (Wait c m) (Give x (ToPark v))
+      → (health_word_at s.words m ≢ 1) × (health_of (health_word_at s.words m) false ≡ health_at s m)
+  in_order Release e g = let own = going_own g in
+      (going_health g own, ap (health_of (health_word_at s.words m)) (sym (going_died g own)))
+  in_order CallUnlock e g = let own = going_own g in
+      (going_health g own, ap (health_of (health_word_at s.words m)) (sym (going_died g own)))
+  in_order _ e g = absurd (true≢false (sym e))
+
+  -- it gives the mutex up
+  abbrev last_wait : GivesLast s t (Wait c m) (ToPark v)
+  last_wait = record {
     after = on_release still;
-    besides = IsBound ∷ UsedAtLeast v ∷ [];
-    stays = λ c d h. h;
-    naming = WaitPending v;
-    loading = WaitHealth v;
-    storing = WaitStore v;
-    unlinking = WaitUnlink v;
-    exchanging = WaitExchange v;
-    calling = WaitKernel v;
-    at_naming = is_at refl (λ y. refl) refl refl refl refl refl (λ l. quiet refl refl);
-    at_loading = is_at refl (λ y. refl) refl refl refl refl refl (λ l. quiet refl refl);
-    at_storing = is_at refl (λ y. refl) refl refl refl refl refl (λ l. quiet refl refl);
-    at_unlinking = is_at refl (λ y. refl) refl refl refl refl refl (λ l. quiet refl refl);
-    at_exchanging = is_at refl (λ y. refl) refl refl refl refl refl (λ l. quiet refl refl);
-    at_calling = is_at refl (λ y. refl) refl refl refl refl refl (λ l. quiet refl refl);
     named = second (has_cond s c) (has_mutex s m);
+    calls = refl;
+    rests = refl;
     blocked = release_blocked still;
-    spoils = λ waited a y z f o n i e. waits_inconsistent c still refl f o i (sym f) e;
-    releases = λ waited a y z f o n i u e. waits_own c still refl f o i u refl e;
+    order = in_order;
+    releases = λ waited w z o n i u e. waits_own c still refl refl o i u refl e;
     passes = λ w u call o n i p. give_up c m still call (released o i p);
   }
 
-  -- name the mutex in the pending field
-  pub wait_pending_kept : Going s t (Wait c m) (WaitPending v)
-      → GoKeeps s t (goes_to t (Wait c m) (WaitHealth v) (pending t m s))
-  wait_pending_kept = names_kept by_wait
+  abbrev by_wait : GivesUpBy s t (Wait c m) (ToPark v)
+  by_wait = record {
+    ours = λ x. refl;
+    last = last_wait;
+    step = λ x d h. h.1.1.1.1.1;
+    whole = λ x z d e h o n k. (h.0, (o, ((λ i. n), (h.1.1.1.0, (h.1.1.1.1.0, k)))));
+    spoils = λ waited w z o n i e. waits_inconsistent c still refl refl o i refl e;
+  }
 
-  -- load the health word
-  pub wait_health_kept : Going s t (Wait c m) (WaitHealth v) → GoKeeps s t (wait_health v c m t s)
-  wait_health_kept g =
-      wait_health_cases (GoKeeps s t) v c m t s (loads_disorder by_wait g) (loads_order by_wait g)
-
-  -- the mutex is given up inconsistent: it is unusable
-  pub wait_store_kept : Going s t (Wait c m) (WaitStore v)
-      → GoKeeps s t (goes_to t (Wait c m) (WaitUnlink v) (with_health_word m 2 s))
-  wait_store_kept = stores_kept by_wait
-
-  -- take the mutex off the list
-  pub wait_unlink_kept : Going s t (Wait c m) (WaitUnlink v)
-      → GoKeeps s t (goes_to t (Wait c m) (WaitExchange v) (with_lists (without_listed t m s.lists) s))
-  wait_unlink_kept = unlinks_kept by_wait
-
-  module _ {p : Place} (x : IsLast by_wait p) (g : Going s t (Wait c m) p) where
+  module _ {x : GiveStep} (last : is_last x ≡ true) (g : Going s t (Wait c m) (Give x (ToPark v))) where
     -- once the mutex is given up, the wait parks
-    to_park : GivesUpTo s t (Wait c m) p (At (Wait c m) (WaitPark v))
-    to_park = gives_to by_wait x g (WaitPark v) refl refl refl (λ l. quiet refl refl)
-        (λ d other e. ((given by_wait x g).ready, (other, rests_besides by_wait x g d)))
+    to_park : GivesUpTo s t (Wait c m) (Give x (ToPark v)) (At (Wait c m) (Park v))
+    to_park = gives_to last_wait last g (Park v) refl refl refl refl refl
+        (λ d other e. (going_ready g, (other, (going_bound g, (going_used g, tt)))))
 
-    -- nobody waits for it
-    frees : has_waiter s.kernel.waiters m ≡ false
-        → GoKeeps s t (goes_to t (Wait c m) (WaitPark v) (with_word m free_word s))
-    frees = frees_kept by_wait x g Went (At (Wait c m) (WaitPark v)) to_park (WaitPark v, refl, refl)
-
-  -- compare-exchange from t to 0
-  pub wait_exchange_kept : Going s t (Wait c m) (WaitExchange v) → GoKeeps s t (wait_exchange v c m t s)
-  wait_exchange_kept g = wait_exchange_cases (GoKeeps s t) v c m t s
-      (λ w d n. frees by_wait.at_exchanging g (alone by_wait by_wait.at_exchanging g w)) (exchange_fails by_wait g)
-
-  -- the kernel call unlock_pi
-  pub wait_kernel_kept : Going s t (Wait c m) (WaitKernel v)
-      → GoKeeps s t (gives_up t m (goes_to t (Wait c m) (WaitPark v)) s)
-  wait_kernel_kept g =
-      gives_up_cases (given by_wait by_wait.at_calling g) (GoKeeps s t) (goes_to t (Wait c m) (WaitPark v))
-      (frees by_wait.at_calling g)
-      (hands_kept by_wait by_wait.at_calling g (WaitPark v) (to_park by_wait.at_calling g) (λ y. refl))
+  -- each step of giving it up
+  pub wait_gives_kept : (x : GiveStep) → Going s t (Wait c m) (Give x (ToPark v))
+      → GoKeeps s t (give_line (Wait c m) x (ToPark v) t m s)
+  wait_gives_kept = gives_kept by_wait (record {
+    freed = λ x last g. frees_kept last_wait last g Went (At (Wait c m) (Park v)) (to_park last g) (Park v, refl, refl);
+    handed = λ x last g. hands_kept last_wait last g (Park v) (to_park last g) (λ h. refl);
+  })

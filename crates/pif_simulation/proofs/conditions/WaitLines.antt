@@ -4,7 +4,9 @@ use Rattle.std.proofs.Common.{◌≡◌, ◌≢◌, ℕ, ◌<◌, ◌≤◌, tru
 use Rattle.std.proofs.lemmas.Bool.{true≢false}
 use Rattle.pif_types.specs.declared.requests.Request.TheVariants.{Wait}
 use Rattle.pif_model.specs.declared.lines.Line.TheVariants.{Idle}
-use Rattle.pif_model.specs.declared.lines.Place.TheVariants.{WaitLoad, WaitUses, WaitPending, WaitExchange}
+use Rattle.pif_model.specs.declared.lines.Place.TheVariants.{Load, Give, LoadUses}
+use Rattle.pif_model.specs.declared.lines.GiveStep.TheVariants.{SetPending, Release}
+use Rattle.pif_model.specs.declared.lines.Purpose.TheVariants.{ToPark}
 use Rattle.pif_model.specs.Word.{health_word_at}
 use Rattle.pif_model.specs.Posix.{Mutex, Variable, mutex_at, variable_at, names_known}
 use Rattle.pif_model.specs.Posix.Progress.{Checked, Enlisted}
@@ -20,7 +22,7 @@ use Rattle.pif_chains.proofs.LineCases.{wait_load_cases, wait_uses_cases}
 use Rattle.pif_simulation.proofs.Kept.{second}
 use Rattle.pif_simulation.proofs.Shown.{mutex_seen, variable_seen}
 use Rattle.pif_simulation.proofs.Agreement.{quiet}
-use Rattle.pif_simulation.proofs.Steps.{GoKeeps, Going, going_named, going_met, going_called}
+use Rattle.pif_simulation.proofs.Steps.{GoKeeps, Going, going_named, going_met, going_called, going_bound, going_once, going_own, going_ready}
 use Rattle.pif_simulation.proofs.Local.{going_cell}
 use Rattle.pif_simulation.proofs.LocalLines.{RowAfter, goes_alone, answers_alone, row_same, settled_so_far}
 
@@ -34,25 +36,25 @@ module _ (s : Table) (t c m : ℕ) where
   wait_mutex e = second (has_cond s c) (has_mutex s m) e
 
   -- load the word
-  pub wait_load_kept : Going s t (Wait c m) WaitLoad → GoKeeps s t (wait_load c m t s)
+  pub wait_load_kept : Going s t (Wait c m) Load → GoKeeps s t (wait_load c m t s)
   wait_load_kept g = wait_load_cases (GoKeeps s t) c m t s
-      (λ b own more. answers_alone g named 22 h.0 (λ y. check_wait c m (going_called g y)
+      (λ b own more. answers_alone g named 22 (going_ready g) (λ y. check_wait c m (going_called g y)
       (held_more (bound y ∙ b) (owner y ∙ own) (subst (λ n. 1 < n) (sym (count y)) more) refl)) row)
-      (λ b own few. goes_alone g named Checked WaitUses
+      (λ b own few. goes_alone g named Checked LoadUses
       (record { joins = λ e. absurd (true≢false e); chooses = λ i z e. absurd (z (sym e)) })
-      (λ j e. absurd (true≢false (sym e))) h.0 refl refl
-      (h.0, (own, ((λ o. once few), (eq-eqb (bound_to s c) m b, tt))))
+      (λ j e. absurd (true≢false (sym e))) (going_ready g) refl refl
+      (going_ready g, (own, ((λ o. once few), (eq-eqb (bound_to s c) m b, tt))))
       (λ y. check_wait c m (going_called g y) (checked (bound y ∙ b) (owner y ∙ own) (count y ∙ once few) refl))
       (λ r. row_same g named r refl refl refl (λ o u. settled_so_far g named refl o)))
-      (λ b other. answers_alone g named 1 h.0 (λ y. check_wait c m (going_called g y)
+      (λ b other. answers_alone g named 1 (going_ready g) (λ y. check_wait c m (going_called g y)
       (not_owner (bound y ∙ b) (λ o. other (sym (owner y) ∙ o)) refl)) row)
-      (λ apart. answers_alone g named 22 h.0 (λ y. check_wait c m (going_called g y)
+      (λ apart. answers_alone g named 22 (going_ready g) (λ y. check_wait c m (going_called g y)
       (other_mutex (λ e. apart (sym (bound y) ∙ e)) refl)) row)
     where
       named : has_mutex s m ≡ true
       named = second (has_cond s c) (has_mutex s m) (going_named g)
 
-      h : MeetsAll (is_living s.kernel) t (status_at s t) (cell_at s m) (use_at s (Wait c m)) (needs WaitLoad)
+      h : MeetsAll (is_living s.kernel) t (status_at s t) (cell_at s m) (use_at s (Wait c m)) (needs Load)
       h = going_met g
 
       bound : (y : Shadow) → (variable_at (world_of s y) c).mutex ≡ bound_to s c
@@ -73,23 +75,29 @@ module _ (s : Table) (t c m : ℕ) where
           row_same g n r refl refl refl (λ o u. settled_so_far g n refl o)
 
   -- load the condition word
-  pub wait_uses_kept : Going s t (Wait c m) WaitUses → GoKeeps s t (wait_uses c m t s)
+  pub wait_uses_kept : Going s t (Wait c m) LoadUses → GoKeeps s t (wait_uses c m t s)
   wait_uses_kept g = wait_uses_cases (GoKeeps s t) c m t s
-      (λ robust. goes_alone g named (Enlisted true) (WaitPending (uses_of s c)) (quiet refl refl)
-      (λ j. absurd (true≢false j)) h.0 refl same
-      (h.0, (h.1.0, (h.1.1.0, (robust, (h.1.1.1.0, (least, tt))))))
+      (λ robust. goes_alone g named (Enlisted true) (Give SetPending (ToPark (uses_of s c))) (quiet refl refl)
+      (λ j. absurd (true≢false j)) (going_ready g) refl same
+      (going_ready g, (going_own g, (going_once g, (going_bound g, (least, (robust, tt))))))
       (λ y. enlist c m (going_called g y) refl)
       (λ r. row_same g named r refl refl refl (λ o u. settled_so_far g named refl o)))
-      (λ stalled. goes_alone g named (Enlisted true) (WaitExchange (uses_of s c)) (quiet refl refl)
-      (λ j. absurd (true≢false j)) h.0 refl same (
-        h.0,
+      (λ stalled. goes_alone g named (Enlisted true) (Give Release (ToPark (uses_of s c))) (quiet refl refl)
+      (λ j. absurd (true≢false j)) (going_ready g) refl same (
+        going_ready g,
         (
-          h.1.0,
+          going_own g,
           (
-            h.1.1.0,
+            going_once g,
             (
-              (λ z. zero_not_one (health_word_at s.words m) ((going_cell g named).stalled stalled).1),
-              ((λ z. ((going_cell g named).stalled stalled).0), (h.1.1.1.0, (least, tt))),
+              going_bound g,
+              (
+                least,
+                (
+                  (λ z. zero_not_one (health_word_at s.words m) ((going_cell g named).stalled stalled).1),
+                  ((λ z. ((going_cell g named).stalled stalled).0), tt),
+                ),
+              ),
             ),
           ),
         ),
@@ -100,7 +108,7 @@ module _ (s : Table) (t c m : ℕ) where
       named : has_mutex s m ≡ true
       named = second (has_cond s c) (has_mutex s m) (going_named g)
 
-      h : MeetsAll (is_living s.kernel) t (status_at s t) (cell_at s m) (use_at s (Wait c m)) (needs WaitUses)
+      h : MeetsAll (is_living s.kernel) t (status_at s t) (cell_at s m) (use_at s (Wait c m)) (needs LoadUses)
       h = going_met g
 
       same : Enlisted (uses_of s c == uses_of s c) ≡ Enlisted true

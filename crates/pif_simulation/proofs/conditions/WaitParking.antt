@@ -7,7 +7,8 @@ use Rattle.pif_types.specs.declared.errors.Errno.TheVariants.{Again, Fault}
 use Rattle.pif_types.specs.declared.requests.Request.TheVariants.{Wait}
 use Rattle.pif_model.specs.declared.events.Seen.TheVariants.{Waits}
 use Rattle.pif_model.specs.declared.lines.Line.TheVariants.{At}
-use Rattle.pif_model.specs.declared.lines.Place.TheVariants.{LockExchange, LockKernel, TakeHealth, WaitPark, WaitParked}
+use Rattle.pif_model.specs.declared.lines.Place.TheVariants.{Exchange, CallKernel, Take, Park, StayParked}
+use Rattle.pif_model.specs.declared.lines.TakeStep.TheVariants.{LoadHealth}
 use Rattle.pif_model.specs.declared.lines.Status.{Status}
 use Rattle.pif_model.specs.declared.lines.Status.TheVariants.{Ready, Queued, Parked, Stopped, Ended}
 use Rattle.pif_model.specs.declared.lines.Woken.TheVariants.{Fresh as WokenFresh, Owns as WokenOwns, Again as WokenAgain, Expired as WokenExpired}
@@ -31,7 +32,7 @@ use Rattle.pif_simulation.proofs.Kept.{first, second}
 use Rattle.pif_simulation.proofs.Hole.{aims}
 use Rattle.pif_simulation.proofs.Agreement.{quiet, frames_same}
 use Rattle.pif_simulation.proofs.Written.{written, written_is, same_word, same_health, same_list, same_library}
-use Rattle.pif_simulation.proofs.Steps.{KeepsGo, GoKeeps, Going, going_named, going_met, going_called, waits_with, waits_noted}
+use Rattle.pif_simulation.proofs.Steps.{KeepsGo, GoKeeps, Going, going_named, going_met, going_called, waits_with, waits_noted, going_bound, going_other, going_ready, going_behind, going_once, going_own_handed}
 use Rattle.pif_simulation.proofs.Does.IsLocking.{by_wait}
 use Rattle.pif_simulation.proofs.Does.Does.{nothing}
 use Rattle.pif_simulation.proofs.Local.{going_cell, going_added}
@@ -49,14 +50,14 @@ recalled_alike : (w : World) (t : ℕ) (f g : Option Call → Option Call) → f
     → with_call_by t f w ≡ with_call_by t g w
 recalled_alike w t f g e = λ i. record w { threads = set w.threads t (record (thread_at w t) { call = e i }) }
 
-module _ (s : Table) (t c m v : ℕ) (g : Going s t (Wait c m) (WaitPark v)) where
+module _ (s : Table) (t c m v : ℕ) (g : Going s t (Wait c m) (Park v)) where
   named : has_mutex s m ≡ true
   named = second (has_cond s c) (has_mutex s m) (going_named g)
 
   known : has_cond s c ≡ true
   known = first (has_cond s c) (has_mutex s m) (going_named g)
 
-  h : MeetsAll (is_living s.kernel) t (status_at s t) (cell_at s m) (use_at s (Wait c m)) (needs (WaitPark v))
+  h : MeetsAll (is_living s.kernel) t (status_at s t) (cell_at s m) (use_at s (Wait c m)) (needs (Park v))
   h = going_met g
 
   added : has_thread s t ≡ true
@@ -80,7 +81,7 @@ module _ (s : Table) (t c m v : ℕ) (g : Going s t (Wait c m) (WaitPark v)) whe
     where
       ended : (u ≡ t) ⊎ (u ≢ t) → has_ended (seat_at k u).status ≡ has_ended (seat_at s.kernel u).status
       ended (inl e) = subst (λ j. has_ended (seat_at k j).status ≡ has_ended (seat_at s.kernel j).status) (sym e)
-          (ap (λ (x : Seat). has_ended x.status) here ∙ sym (ready-not_ended (status_at s t) h.0))
+          (ap (λ (x : Seat). has_ended x.status) here ∙ sym (ready-not_ended (status_at s t) (going_ready g)))
       ended (inr d) = ap (λ (x : Seat). has_ended x.status) (parked_seat_other t c m s.kernel u d)
 
   -- who is parked is to get the mutex to which the variable is bound
@@ -90,12 +91,12 @@ module _ (s : Table) (t c m v : ℕ) (g : Going s t (Wait c m) (WaitPark v)) whe
     where
       by_case : (aims s.kernel i n ≡ true) ⊎ ((c ≡ i) × (m ≡ n)) → (aims s.kernel i n ≡ true) ⊎ (bound_to s i ≡ n)
       by_case (inl x) = inl x
-      by_case (inr x) = inr (ap (bound_to s) (sym x.0) ∙ eqb-true (bound_to s c) m h.1.1.0 ∙ x.1)
+      by_case (inr x) = inr (ap (bound_to s) (sym x.0) ∙ eqb-true (bound_to s c) m (going_bound g) ∙ x.1)
 
   -- to park t is a call in which t goes to where it is parked
-  park_one : IsOneCall s t (Wait c m) (WaitPark v) WaitParked (word_at s.words m) k
+  park_one : IsOneCall s t (Wait c m) (Park v) StayParked (word_at s.words m) k
   park_one = record {
-    kernel = kernel-parked t c m s.kernel g.sound.kernel added h.0;
+    kernel = kernel-parked t c m s.kernel g.sound.kernel added (going_ready g);
     call = record {
       limits = parked_limits t c m s.kernel;
       seats = parked_length t c m s.kernel;
@@ -111,18 +112,18 @@ module _ (s : Table) (t c m v : ℕ) (g : Going s t (Wait c m) (WaitPark v)) whe
     died = refl;
     cell = sound;
     belongs = refl;
-    needs = subst (λ x. MeetsAll (is_living s.kernel) t x left (use_at s (Wait c m)) (needs WaitParked)) (sym status) (
+    needs = subst (λ x. MeetsAll (is_living s.kernel) t x left (use_at s (Wait c m)) (needs StayParked)) (sym status) (
       ((λ z. cc), λ z. cc),
       (
-        ((λ z. absurd (true≢false (sym z))), λ z. h.1.0),
-        ((λ o. absurd (h.1.0 o)), ((λ o. absurd (h.1.0 o)), (h.1.1.0, tt))),
+        ((λ z. absurd (true≢false (sym z))), λ z. going_other g),
+        ((λ o. absurd (going_other g o)), ((λ o. absurd (going_other g o)), (going_bound g, tt))),
       ),
     );
     queue = λ j e. absurd (not_queued j (sym status ∙ e));
-    parked = λ j e. record { mutex = m; line = ap (λ i. At (Wait i m) WaitParked) (same j (sym status ∙ e)) };
+    parked = λ j e. record { mutex = m; line = ap (λ i. At (Wait i m) StayParked) (same j (sym status ∙ e)) };
     follows = quiet refl refl;
     blocked = λ j e. absurd (true≢false (sym (ap is_parked status) ∙ e));
-    lists = lists_by g named refl refl sound (λ r. row_other g named r refl refl h.1.0 h.1.0);
+    lists = lists_by g named refl refl sound (λ r. row_other g named r refl refl (going_other g) (going_other g));
   }
     where
       status : (seat_at k t).status ≡ Parked c
@@ -144,20 +145,20 @@ module _ (s : Table) (t c m v : ℕ) (g : Going s t (Wait c m) (WaitPark v)) whe
   -- t is parked
   parks : uses_of s c ≡ v → GoKeeps s t (record {
     seen = Waits;
-    after = with_line t (At (Wait c m) WaitParked) (with_kernel s.words k s);
+    after = with_line t (At (Wait c m) StayParked) (with_kernel s.words k s);
   })
   parks unused =
       subst (KeepsGo s t Waits)
-      (written_is t m (At (Wait c m) WaitParked) (robust_at s.lists t) (word_at s.words m) (health_word_at s.words m)
+      (written_is t m (At (Wait c m) StayParked) (robust_at s.lists t) (word_at s.words m) (health_word_at s.words m)
       (library_at s m).count k s (same_word s m) (same_health s m) (same_list s t) (same_library s m))
-      (waits_noted g (written t m (At (Wait c m) WaitParked) (robust_at s.lists t) (word_at s.words m)
+      (waits_noted g (written t m (At (Wait c m) StayParked) (robust_at s.lists t) (word_at s.words m)
       (health_word_at s.words m) (library_at s m).count k s) (world_of s)
-      (called_sound g named WaitParked (word_at s.words m) k park_one) refl
-      (called_known g named WaitParked (word_at s.words m) k park_one)
+      (called_sound g named StayParked (word_at s.words m) k park_one) refl
+      (called_known g named StayParked (word_at s.words m) k park_one)
       (ap (λ (x : Seat). is_ready x.status) here)
-      (called_frames g named WaitParked (word_at s.words m) k park_one)
+      (called_frames g named StayParked (word_at s.words m) k park_one)
       (λ y. none refl)
-      (λ y. called_shown g named WaitParked (word_at s.words m) k park_one y (Blocked true) refl
+      (λ y. called_shown g named StayParked (word_at s.words m) k park_one y (Blocked true) refl
       (ap (λ (x : Seat). progress_parked x.status (health_at s m)) here)
       ∙ (λ i. record (with_progress t (Blocked true) (world_of s y)) { waiters = parked_waiters t c m s.kernel i })
       ∙ recalled_alike (world_of s y) t (at_progress (Blocked true)) after_waits (alike y)))
@@ -172,10 +173,10 @@ module _ (s : Table) (t c m v : ℕ) (g : Going s t (Wait c m) (WaitPark v)) whe
               (eq-eqb v (uses_of s c) (sym unused))
 
   -- t was unblocked since, and is to lock
-  unblocked_since : uses_of s c ≢ v → GoKeeps s t (goes_to t (Wait c m) LockExchange s)
-  unblocked_since used = goes g named LockExchange (quiet refl refl) h.0 refl
-      (sym (ap on_release (ne_eqb v (uses_of s c) (λ e. used (sym e))))) (h.0, (h.1.0, tt))
-      (λ r. row_other g named r refl refl h.1.0 h.1.0)
+  unblocked_since : uses_of s c ≢ v → GoKeeps s t (goes_to t (Wait c m) Exchange s)
+  unblocked_since used = goes g named Exchange (quiet refl refl) (going_ready g) refl
+      (sym (ap on_release (ne_eqb v (uses_of s c) (λ e. used (sym e))))) (going_ready g, (going_other g, tt))
+      (λ r. row_other g named r refl refl (going_other g) (going_other g))
 
   -- the line, by its kernel call's answer
   abbrev by_call : Result (record {}) Errno → Outcome
@@ -233,34 +234,33 @@ handed_takes (Parked i) y e f = absurd (true≢false (sym f))
 handed_takes Stopped y e f = absurd (true≢false (sym f))
 handed_takes Ended y e f = absurd (true≢false (sym f))
 
-module _ (s : Table) (t c m : ℕ) (g : Going s t (Wait c m) WaitParked) where
+module _ (s : Table) (t c m : ℕ) (g : Going s t (Wait c m) StayParked) where
   mutex : has_mutex s m ≡ true
   mutex = second (has_cond s c) (has_mutex s m) (going_named g)
 
-  met : MeetsAll (is_living s.kernel) t (status_at s t) (cell_at s m) (use_at s (Wait c m)) (needs WaitParked)
+  met : MeetsAll (is_living s.kernel) t (status_at s t) (cell_at s m) (use_at s (Wait c m)) (needs StayParked)
   met = going_met g
 
   -- it was woken to lock the mutex, as it does here
-  locks_again : is_woken_again (status_at s t) ≡ true → GoKeeps s t (own_exchange (Wait c m) LockKernel t m s)
+  locks_again : is_woken_again (status_at s t) ≡ true → GoKeeps s t (own_exchange (Wait c m) t m s)
   locks_again again =
       own_exchange_kept g mutex ready (woken_owes (status_at s t) (health_at s m) again) (by_wait c refl) refl refl refl
-      LockKernel
-      (goes g mutex LockKernel (quiet refl refl) ready refl (sym (woken_owes (status_at s t) (health_at s m) again))
+      (goes g mutex CallKernel (quiet refl refl) ready refl (sym (woken_owes (status_at s t) (health_at s m) again))
       (ready, (other, tt)) (λ r. row_other g mutex r refl refl other other))
     where
       ready : is_ready (status_at s t) ≡ true
       ready = woken_ready (status_at s t) again
 
       other : (word_at s.words m).number ≢ t
-      other = (going_met g).1.0.1 (ap (λ b. if b then false else is_ready (status_at s t)) again)
+      other = (going_own_handed g).1 (ap (λ b. if b then false else is_ready (status_at s t)) again)
 
   -- it is parked or queued, or was made the owner
   pub wait_parked_kept : GoKeeps s t (wait_parked c m t s)
   wait_parked_kept = wait_parked_cases (GoKeeps s t) c m t s locks_again
       (λ e. lock_queued_cases (GoKeeps s t) (Wait c m) t m s
-      (λ f robust. goes g mutex (TakeHealth (word_at s.words m).died) (quiet refl refl) f refl
+      (λ f robust. goes g mutex (Take (LoadHealth (word_at s.words m).died)) (quiet refl refl) f refl
       (sym (handed_takes (status_at s t) (health_at s m) e f))
-      (f, (met.1.0.0 (handed e f), (met.1.1.0, (robust, (met.1.1.1.0, ((λ o. refl), tt))))))
+      (f, ((going_own_handed g).0 (handed e f), (going_once g, (robust, (going_behind g, ((λ o. refl), tt))))))
       (λ r. row_same g mutex r refl refl refl (λ o u. absurd (true≢false u))))
       (λ f stalled. answers_local g mutex 0 f
       (nothing (sym (handed_takes (status_at s t) (health_at s m) e f

@@ -9,7 +9,8 @@ use Rattle.pif_model.specs.declared.events.Seen.TheVariants.{Went, Answered}
 use Rattle.pif_model.specs.declared.events.Entry.TheVariants.{Step as Happened}
 use Rattle.pif_model.specs.declared.lines.Line.TheVariants.{Idle, At}
 use Rattle.pif_model.specs.declared.lines.Place.{Place}
-use Rattle.pif_model.specs.declared.lines.Place.TheVariants.{LockLoad, LockExchange, LockQueued, LockStopped, QueueExpired, StopExpired, WaitParked}
+use Rattle.pif_model.specs.declared.lines.Place.TheVariants.{Load, Exchange, StayQueued, StayStopped, Clear, StayParked}
+use Rattle.pif_model.specs.declared.lines.Footing.TheVariants.{Unowned, HadStopped}
 use Rattle.pif_model.specs.declared.lines.Status.{Status}
 use Rattle.pif_model.specs.declared.lines.Status.TheVariants.{Ready, Queued, Parked, Stopped, Ended}
 use Rattle.pif_model.specs.declared.lines.Timer.{Timer}
@@ -24,7 +25,7 @@ use Rattle.pif_model.specs.Posix.Step.{went, answered}
 use Rattle.pif_model.specs.PiKernel.{Kernel, seat_at, state_at, is_ready, is_parked, is_living, queued_on, waits_for, IsKernel, kernel_after_expire}
 use Rattle.pif_model.specs.RobustList.{robust_at}
 use Rattle.pif_model.specs.Table.{Table, has_mutex, bound_to, uses_of, status_at, timer_at, library_at, with_line, with_timer, has_cond, new_mutex}
-use Rattle.pif_model.specs.Lines.{clears, counts_at, is_due_in, expired_in, expires_at, Outcome}
+use Rattle.pif_model.specs.Lines.{counts_at, is_due_in, expired_in, expires_at, Outcome}
 use Rattle.pif_model.specs.Projection.{Shadow, Agrees, health_at, progress_at, world_of}
 use Rattle.pif_model.specs.Soundness.{is_unsettled, IsSound, ThreadIsSound, waited_in, is_handed}
 use Rattle.pif_types.specs.declared.requests.Kind.TheVariants.{Normal}
@@ -41,24 +42,12 @@ use Rattle.pif_simulation.proofs.Hole.{each_thread}
 use Rattle.pif_simulation.proofs.Kept.{second}
 use Rattle.pif_simulation.proofs.Lined.{lined_sound, lined_frames, lined_call, lined_shown}
 use Rattle.pif_simulation.proofs.Local.{lists_after, going_cell, going_list, going_settled}
-use Rattle.pif_simulation.proofs.LocalLines.{stalled_lists, clears_kept, row_same, row_other, settled_so_far}
+use Rattle.pif_simulation.proofs.LocalLines.{stalled_lists, row_same, row_other, settled_so_far}
 use Rattle.pif_simulation.proofs.Shown.{timer_seen, thread_changed, thread_changed_twice, closed_progressed, call_progressed}
-use Rattle.pif_simulation.proofs.Steps.{Keeps, GoKeeps, Going, going_named, going_met, going_allowed, going_called, going_lined, going_below, progress_of, rests_ready, asked_at}
+use Rattle.pif_simulation.proofs.Steps.{Keeps, Going, going_named, going_allowed, going_called, going_lined, going_below, progress_of, rests_ready, asked_at, going_own_handed, going_stopped, going_unstopped}
 use Rattle.pif_simulation.proofs.deadlines.Timers.{timer_sound, timer_frames, timer_shown}
 use Rattle.pif_simulation.proofs.Written.{no_call, written, same_library}
 use Rattle.pif_chains.proofs.Numbers.{above_0}
-
--- AFTER AN EXPIRY
-
-module _ {s : Table} {t m : ℕ} where
-  -- clear the pending field, and answer ETIMEDOUT
-  pub queue_expired_kept : Going s t (Lock m) QueueExpired → GoKeeps s t (clears 110 t s)
-  queue_expired_kept g =
-      let h = going_met g in clears_kept g (going_named g) 110 h.0 h.1.1.0 refl refl refl refl
-
-  pub stop_expired_kept : Going s t (Lock m) StopExpired → GoKeeps s t (clears 110 t s)
-  stop_expired_kept g =
-      let h = going_met g in clears_kept g (going_named g) 110 h.0 h.1.0 refl refl refl refl
 
 -- A STEP THAT EXPIRES
 
@@ -70,7 +59,7 @@ GoExpires s t o = Keeps s (Happened (Go t) o.seen) o.after
 line_request : {q r : Request} {p b : Place} → At q p ≡ At r b → r ≡ q
 line_request e = ap (λ l. asked_at l) (sym e)
 
-other_place : {m c n : ℕ} → At (Lock m) LockQueued ≡ At (Wait c n) WaitParked → ⊥
+other_place : {m c n : ℕ} → At (Lock m) StayQueued ≡ At (Wait c n) StayParked → ⊥
 other_place e = cc
 
 -- what passes a test turned round doesn't pass it
@@ -226,7 +215,7 @@ module _ {s : Table} {t m : ℕ} {p : Place} (g : Going s t (Lock m) p) (due : i
 
 -- A LOCK THAT IS QUEUED
 
-module _ {s : Table} {t m : ℕ} (g : Going s t (Lock m) LockQueued) (due : is_due_in s t ≡ true)
+module _ {s : Table} {t m : ℕ} (g : Going s t (Lock m) StayQueued) (due : is_due_in s t ≡ true)
     (unready : is_ready (status_at s t) ≡ false) where
   -- it is queued on its mutex
   on_mutex : mutex_left t s.kernel ≡ m
@@ -240,8 +229,8 @@ module _ {s : Table} {t m : ℕ} (g : Going s t (Lock m) LockQueued) (due : is_d
       go (Queued j) e = (let on = thread.queue j e in
           sym on.waits ∙ ap waited_in (line_request (sym g.line ∙ on.line)))
       go (Parked c) e = absurd (other_place (sym g.line ∙ (thread.parked c e).line))
-      go Stopped e = absurd ((going_met g).0.0 e)
-      go Ended e = absurd ((going_met g).0.1 e)
+      go Stopped e = absurd ((going_unstopped g).0 e)
+      go Ended e = absurd ((going_unstopped g).1 e)
 
   -- somebody waits for it, and so its owner is another
   other : (word_at s.words m).number ≢ t
@@ -260,31 +249,31 @@ module _ {s : Table} {t m : ℕ} (g : Going s t (Lock m) LockQueued) (due : is_d
       some z = has_state (sym (ap (state_at s.kernel) on_mutex) ∙ z)
 
   -- a stalled one is answered, and a robust one clears its pending field
-  pub queued_expires : GoExpires s t (expires_at (Lock m) LockQueued t s)
+  pub queued_expires : GoExpires s t (expires_at (Lock m) StayQueued t s)
   unfolding expires_at expired_in
-  queued_expires = ends_by_cases (GoExpires s t) (Lock m) QueueExpired 110 t m (expired_in t s)
-      (λ robust. expires_robust g due (inl on_mutex) QueueExpired
-      (expired_one g (going_named g) (inl on_mutex) QueueExpired refl (quiet refl refl) (refl, (other, (robust, tt))) refl
+  queued_expires = ends_by_cases (GoExpires s t) (Lock m) (Clear Unowned 110) 110 t m (expired_in t s)
+      (λ robust. expires_robust g due (inl on_mutex) (Clear Unowned 110)
+      (expired_one g (going_named g) (inl on_mutex) (Clear Unowned 110) refl (quiet refl refl) (refl, (other, (robust, tt))) refl
       (λ r. row_other g (going_named g) r refl refl other other)) refl)
-      (λ stalled. expires_stalled g due (inl on_mutex) LockExchange
-      (expired_one g (going_named g) (inl on_mutex) LockExchange refl (quiet refl refl) (refl, (other, tt)) refl
+      (λ stalled. expires_stalled g due (inl on_mutex) Exchange
+      (expired_one g (going_named g) (inl on_mutex) Exchange refl (quiet refl refl) (refl, (other, tt)) refl
       (λ r. absurd (true≢false (sym r ∙ stalled)))) refl stalled)
 
 -- A LOCK THAT IS STOPPED
 
-module _ {s : Table} {t m : ℕ} (g : Going s t (Lock m) LockStopped) (due : is_due_in s t ≡ true) where
+module _ {s : Table} {t m : ℕ} (g : Going s t (Lock m) StayStopped) (due : is_due_in s t ≡ true) where
   -- it is queued on nothing
   on_nothing : mutex_left t s.kernel ≡ 0
-  on_nothing = ap queued_on (going_met g).0
+  on_nothing = ap queued_on (going_stopped g)
 
-  pub stopped_expires : GoExpires s t (expires_at (Lock m) LockStopped t s)
+  pub stopped_expires : GoExpires s t (expires_at (Lock m) StayStopped t s)
   unfolding expires_at expired_in
-  stopped_expires = ends_by_cases (GoExpires s t) (Lock m) StopExpired 110 t m (expired_in t s)
-      (λ robust. expires_robust g due (inr on_nothing) StopExpired
-      (expired_one g (going_named g) (inr on_nothing) StopExpired refl (quiet refl refl) (refl, (robust, tt)) refl
+  stopped_expires = ends_by_cases (GoExpires s t) (Lock m) (Clear HadStopped 110) 110 t m (expired_in t s)
+      (λ robust. expires_robust g due (inr on_nothing) (Clear HadStopped 110)
+      (expired_one g (going_named g) (inr on_nothing) (Clear HadStopped 110) refl (quiet refl refl) (refl, (robust, tt)) refl
       (λ r. row_same g (going_named g) r refl refl refl (λ o u. settled_so_far g (going_named g) refl o))) refl)
-      (λ stalled. expires_stalled g due (inr on_nothing) LockLoad
-      (expired_one g (going_named g) (inr on_nothing) LockLoad refl (quiet refl refl) (refl, tt) refl
+      (λ stalled. expires_stalled g due (inr on_nothing) Load
+      (expired_one g (going_named g) (inr on_nothing) Load refl (quiet refl refl) (refl, tt) refl
       (λ r. absurd (true≢false (sym r ∙ stalled)))) refl stalled)
 
 -- A WAIT THAT IS PARKED
@@ -324,7 +313,7 @@ late_alike w t a x e =
     z : Thread
     z = record (thread_at w t) { call = at_progress a (thread_at w t).call; timer = x }
 
-module _ {s : Table} {t c m : ℕ} (g : Going s t (Wait c m) WaitParked) (due : is_due_in s t ≡ true)
+module _ {s : Table} {t c m : ℕ} (g : Going s t (Wait c m) StayParked) (due : is_due_in s t ≡ true)
     (parked : is_parked (status_at s t) ≡ true) where
   wait_named : has_mutex s m ≡ true
   wait_named = second (has_cond s c) (has_mutex s m) (going_named g)
@@ -334,29 +323,29 @@ module _ {s : Table} {t c m : ℕ} (g : Going s t (Wait c m) WaitParked) (due : 
 
   -- its mutex is another's
   wait_other : (word_at s.words m).number ≢ t
-  wait_other = (going_met g).1.0.1 (parked_not_handed (status_at s t) parked)
+  wait_other = (going_own_handed g).1 (parked_not_handed (status_at s t) parked)
 
   abbrev late : Kernel
   late = kernel_after_expire t s.kernel
 
   -- it goes on to lock its mutex
-  one : IsOneCall s t (Wait c m) WaitParked LockExchange (word_at s.words m) late
-  one = expired_one g wait_named (inr unqueued) LockExchange refl (quiet refl refl) (refl, (wait_other, tt)) refl
+  one : IsOneCall s t (Wait c m) StayParked Exchange (word_at s.words m) late
+  one = expired_one g wait_named (inr unqueued) Exchange refl (quiet refl refl) (refl, (wait_other, tt)) refl
       (λ r. row_other g wait_named r refl refl wait_other wait_other)
 
   abbrev between : Table
-  between = written t m (At (Wait c m) LockExchange) (robust_at s.lists t) (word_at s.words m)
+  between = written t m (At (Wait c m) Exchange) (robust_at s.lists t) (word_at s.words m)
       (health_word_at s.words m) (library_at s m).count late s
 
   between_sound : IsSound between
-  between_sound = called_sound g wait_named LockExchange (word_at s.words m) late one
+  between_sound = called_sound g wait_named Exchange (word_at s.words m) late one
 
   -- it was not among the waiters
   not_among : without s.kernel.waiters t ≡ s.kernel.waiters
   not_among = without-unnamed s.kernel.waiters t (unnamed-from_unqueued s.kernel g.sound.kernel t unqueued)
 
   between_shown : (y : Shadow) → world_of between y ≡ with_progress t Owing (world_of s y)
-  between_shown y = called_shown g wait_named LockExchange (word_at s.words m) late one y Owing refl refl
+  between_shown y = called_shown g wait_named Exchange (word_at s.words m) late one y Owing refl refl
       ∙ (λ i. record (with_progress t Owing (world_of s y)) { waiters = (waiters-expired t s.kernel ∙ not_among) i })
 
   abbrev x : Timer
@@ -366,31 +355,31 @@ module _ {s : Table} {t c m : ℕ} (g : Going s t (Wait c m) WaitParked) (due : 
       → world_of (with_timer t x between) y ≡ with_progress t Owing (after_timeout t (world_of s y))
   expired_shown y =
       timer_shown between t x between_sound y
-      (subst (λ n. t < n) (sym (length-set s.lines t (At (Wait c m) LockExchange))) (going_lined g))
+      (subst (λ n. t < n) (sym (length-set s.lines t (At (Wait c m) Exchange))) (going_lined g))
       ∙ ap (λ w. with_thread t (record (thread_at w t) { timer = x }) w) (between_shown y)
       ∙ late_alike (world_of s y) t Owing x (going_below g y)
       ∙ ap (λ z. with_progress t Owing (with_thread t (record (thread_at (world_of s y) t) { timer = ran_out z })
       (world_of s y))) (sym (timer_seen g.sound.all.shape y t))
 
-  pub parked_expires : GoExpires s t (expires_at (Wait c m) WaitParked t s)
+  pub parked_expires : GoExpires s t (expires_at (Wait c m) StayParked t s)
   unfolding expires_at expired_in
   parked_expires = subst (Keeps s (Happened (Go t) Went))
-      (ap (with_timer t x) (expired_table g wait_named (inr unqueued) LockExchange))
+      (ap (with_timer t x) (expired_table g wait_named (inr unqueued) Exchange))
       (expires_with g due (with_timer t x between) (timer_sound between t x between_sound) refl
-      (called_known g wait_named LockExchange (word_at s.words m) late one)
+      (called_known g wait_named Exchange (word_at s.words m) late one)
       (ap is_ready (status_then g wait_named (inr unqueued)))
       (λ y a. framed (timer_frames between t x between_sound) y
-      (framed (called_frames g wait_named LockExchange (word_at s.words m) late one) y a))
-      (λ y. wait_expires c m (progress_of s t (Wait c m) WaitParked) (going_called g y) (expired_shown y)))
+      (framed (called_frames g wait_named Exchange (word_at s.words m) late one) y a))
+      (λ y. wait_expires c m (progress_of s t (Wait c m) StayParked) (going_called g y) (expired_shown y)))
 
 -- A CALL THAT IS DUE
 
 -- a call that is due at its place expires
 pub due_kept : {s : Table} {t : ℕ} (q : Request) (p : Place) → Going s t q p → is_due_in s t ≡ true
     → counts_at q p (status_at s t) ≡ true → GoExpires s t (expires_at q p t s)
-due_kept (Lock m) LockQueued g due e = queued_expires g due (not_ready (is_ready _) e)
-due_kept (Lock m) LockStopped g due e = stopped_expires g due
+due_kept (Lock m) StayQueued g due e = queued_expires g due (not_ready (is_ready _) e)
+due_kept (Lock m) StayStopped g due e = stopped_expires g due
 due_kept (Lock m) _ g due e = absurd (true≢false (sym e))
-due_kept (Wait c m) WaitParked g due e = parked_expires g due e
+due_kept (Wait c m) StayParked g due e = parked_expires g due e
 due_kept (Wait c m) _ g due e = absurd (true≢false (sym e))
 due_kept _ _ g due e = absurd (true≢false (sym e))

@@ -12,7 +12,9 @@ use Rattle.pif_model.specs.declared.events.Entry.TheVariants.{Step as Happened}
 use Rattle.pif_model.specs.declared.lines.Line.{Line}
 use Rattle.pif_model.specs.declared.lines.Line.TheVariants.{Idle, At}
 use Rattle.pif_model.specs.declared.lines.Place.{Place}
-use Rattle.pif_model.specs.declared.lines.Place.TheVariants.{LockQueued, TakeLoad, TakeHealth, TakeStore, TakeWord, LinkNext, LinkHead, LeaveExchange, LeaveKernel, UnlockExchange, UnlockKernel, WaitExchange, WaitKernel, WaitParked}
+use Rattle.pif_model.specs.declared.lines.Place.TheVariants.{StayQueued, Take, Link, Give, StayParked}
+use Rattle.pif_model.specs.declared.lines.GiveStep.{GiveStep}
+use Rattle.pif_model.specs.declared.lines.GiveStep.TheVariants.{Release, CallUnlock}
 use Rattle.pif_model.specs.Graph.{has_waiter}
 use Rattle.pif_model.specs.Word.{word_at, has_word}
 use Rattle.pif_model.specs.Posix.{Mutex, Releases, mutex_at, named_by, names_known}
@@ -24,7 +26,7 @@ use Rattle.pif_model.specs.RobustList.{RobustRow, no_robust_row, robust_at, has_
 use Rattle.pif_model.specs.Table.{Table, Cell, LibraryMutex, new_mutex, has_thread, has_mutex, has_cond, line_at, library_at, cell_at}
 use Rattle.pif_model.specs.Lines.{table_refusal, ended_table, library_after_end}
 use Rattle.pif_model.specs.Projection.{Shadow, Agrees, world_of}
-use Rattle.pif_model.specs.Soundness.{mutex_by, is_pending, is_unlinked, holds_robust, LineIsSound, ListIsSound, CellIsSound, IsShaped, IsSound}
+use Rattle.pif_model.specs.Soundness.{mutex_by, is_pending, is_unlinked, is_last, is_named_giving, holds_robust, LineIsSound, ListIsSound, CellIsSound, IsShaped, IsSound}
 use Rattle.pif_chains.proofs.KernelLeft.{status-left_same, living-left_same}
 use Rattle.pif_chains.proofs.KernelExit.{death-other_number, death-orphaned, death-inherited, orphaned, inherited}
 use Rattle.pif_chains.proofs.KernelFacts.{living-added}
@@ -62,22 +64,19 @@ robust-added {s} shape m r = go (cases_eq m 0) (cases_lt m (length s.mutexes))
     go (inr z) (inr k) = absurd (true≢false (sym r ∙ ap (λ (x : LibraryMutex). x.robust)
         (get_or_past s.mutexes m (new_mutex Normal false) k)))
 
+-- at the last steps of giving a mutex up the pending field names it
+last-named : (x : GiveStep) → is_last x ≡ true → is_named_giving x ≡ true
+last-named Release e = refl
+last-named CallUnlock e = refl
+last-named _ e = absurd (true≢false (sym e))
+
 -- at an unlinked place the pending field names the mutex
 unlinked-pending : (p : Place) → is_unlinked p ≡ true → is_pending p ≡ true
-unlinked-pending LockQueued e = refl
-unlinked-pending TakeLoad e = refl
-unlinked-pending (TakeHealth b) e = refl
-unlinked-pending TakeStore e = refl
-unlinked-pending TakeWord e = refl
-unlinked-pending (LinkNext a) e = refl
-unlinked-pending (LinkHead a) e = refl
-unlinked-pending LeaveExchange e = refl
-unlinked-pending LeaveKernel e = refl
-unlinked-pending UnlockExchange e = refl
-unlinked-pending UnlockKernel e = refl
-unlinked-pending (WaitExchange v) e = refl
-unlinked-pending (WaitKernel v) e = refl
-unlinked-pending WaitParked e = refl
+unlinked-pending StayQueued e = refl
+unlinked-pending (Take x) e = refl
+unlinked-pending (Link x a) e = refl
+unlinked-pending (Give x y) e = last-named x e
+unlinked-pending StayParked e = refl
 unlinked-pending _ e = absurd (true≢false (sym e))
 
 pending_line : (l : Line) → mutex_by is_unlinked l ≢ 0 → mutex_by is_pending l ≡ mutex_by is_unlinked l

@@ -8,7 +8,7 @@ use Rattle.pif_types.specs.declared.requests.Request.TheVariants.{Lock, TryLock,
 use Rattle.pif_model.specs.declared.lines.Line.{Line}
 use Rattle.pif_model.specs.declared.lines.Line.TheVariants.{At}
 use Rattle.pif_model.specs.declared.lines.Place.{Place}
-use Rattle.pif_model.specs.declared.lines.Place.TheVariants.{LockQueued, WaitParked}
+use Rattle.pif_model.specs.declared.lines.Place.TheVariants.{StayQueued, StayParked}
 use Rattle.pif_model.specs.declared.lines.Status.TheVariants.{Ready, Queued}
 use Rattle.pif_model.specs.declared.lines.Woken.TheVariants.{Owns as WokenOwns}
 use Rattle.pif_model.specs.Graph.{has_waiter, without}
@@ -48,28 +48,28 @@ waits-named (TimedWait c j d) m n e = absurd (n (sym e))
 handed_needs : (living living' : ℕ → Bool) (u m : ℕ) (c d : Cell) (z : Use) (b : Place) → is_queued_place b ≡ true
     → MeetsAll living u (Queued m) c z (needs b) → d.word.number ≡ u → d.count ≡ 1
     → (d.health ≡ 1 → d.word.died ≡ true) → MeetsAll living' u (Ready WokenOwns) d z (needs b)
-handed_needs living living' u m c d z LockQueued e k own once behind =
+handed_needs living living' u m c d z StayQueued e k own once behind =
     (((λ x. cc), λ x. cc), ((λ x. own), ((λ x. once), ((λ x. behind), tt))))
-handed_needs living living' u m c d z WaitParked e k own once behind =
+handed_needs living living' u m c d z StayParked e k own once behind =
     (((λ x. cc), λ x. cc), (((λ x. own), λ x. absurd (true≢false x)), ((λ x. once), ((λ x. behind), k.1.1.1.1))))
 handed_needs living living' u m c d z _ e k own once behind = absurd (true≢false (sym e))
 
 -- its mutex is unlinked and unsettled there
 queued_unlinked : (b : Place) → is_queued_place b ≡ true → is_unlinked b ≡ true
-queued_unlinked LockQueued e = refl
-queued_unlinked WaitParked e = refl
+queued_unlinked StayQueued e = refl
+queued_unlinked StayParked e = refl
 queued_unlinked _ e = absurd (true≢false (sym e))
 
 queued_unsettled : (b : Place) → is_queued_place b ≡ true → is_unsettled b ≡ true
-queued_unsettled LockQueued e = refl
-queued_unsettled WaitParked e = refl
+queued_unsettled StayQueued e = refl
+queued_unsettled StayParked e = refl
 queued_unsettled _ e = absurd (true≢false (sym e))
 
 -- its call takes the mutex
 queued_takes : (q : Request) (b : Place) (h : Health) (n : ℕ) → is_queued_place b ≡ true
     → progress_at q b (Ready WokenOwns) h n ≡ on_taking h
-queued_takes q LockQueued h n e = refl
-queued_takes q WaitParked h n e = refl
+queued_takes q StayQueued h n e = refl
+queued_takes q StayParked h n e = refl
 queued_takes q _ h n e = absurd (true≢false (sym e))
 
 -- t, which alone is excused, owns m, for which threads wait, and m is handed on: it gets this word and is held once,

@@ -7,11 +7,14 @@ use Rattle.pif_types.specs.declared.errors.Errno.TheVariants.{NoSuchThread, Dead
 use Rattle.pif_types.specs.declared.requests.Request.{Request}
 use Rattle.pif_model.specs.declared.events.Seen.TheVariants.{Waits}
 use Rattle.pif_model.specs.declared.lines.Line.TheVariants.{At}
-use Rattle.pif_model.specs.declared.lines.Place.TheVariants.{LockKernel, LockQueued, LockStop, LockStopped, LockClear, TakeLoad}
+use Rattle.pif_model.specs.declared.lines.Place.TheVariants.{CallKernel, StayQueued, Stop, StayStopped, Take, Clear}
+use Rattle.pif_model.specs.declared.lines.TakeStep.TheVariants.{LoadWord}
+use Rattle.pif_model.specs.declared.lines.Footing.TheVariants.{Unowned}
 use Rattle.pif_model.specs.declared.lines.Status.TheVariants.{Queued, Parked, Stopped, Ended}
 use Rattle.pif_model.specs.declared.lines.Took.{Took}
 use Rattle.pif_model.specs.declared.lines.Took.TheVariants.{Owns as TookOwns, Queued as TookQueued}
 use Rattle.pif_model.specs.Graph.{has_waiter, reaches_within}
+use Rattle.pif_model.specs.Kinds.{relock_of}
 use Rattle.pif_model.specs.Word.{mark_word, taken_word, word_at, health_word_at, has_word, set_word}
 use Rattle.pif_model.specs.Posix.{named_by, variable_of, is_blocked, Mutex, Effect, Locks, mutex_at, is_lost, leads_to, with_progress}
 use Rattle.pif_model.specs.Posix.Progress.{Waiting, Stuck, Has}
@@ -31,7 +34,7 @@ use Rattle.pif_chains.proofs.KernelKept.{stop_kept, queueing_kept}
 use Rattle.pif_chains.proofs.LineCases.{ends_by_cases}
 use Rattle.pif_simulation.proofs.Shown.{mutex_seen, living_seen}
 use Rattle.pif_simulation.proofs.Written.{written, written_is, same_word, same_health, same_list, same_library}
-use Rattle.pif_simulation.proofs.Steps.{KeepsGo, GoKeeps, Going, going_met, waits_with}
+use Rattle.pif_simulation.proofs.Steps.{KeepsGo, GoKeeps, Going, waits_with, going_other, going_ready, going_stop}
 use Rattle.pif_simulation.proofs.Agreement.{quiet}
 use Rattle.pif_simulation.proofs.Does.{MayQueue, locking}
 use Rattle.pif_simulation.proofs.Does.MayQueue.{in_lock, in_wait}
@@ -73,18 +76,18 @@ module _ (s : Table) (t : ℕ) (q : Request) (named : has_mutex s (named_by q) �
   -- STOP
 
   -- to stop is a call in which t goes to where it has stopped
-  stop_one : (g : Going s t q LockStop) → IsOneCall s t q LockStop LockStopped (word_at s.words m)
+  stop_one : (g : Going s t q Stop) → IsOneCall s t q Stop StayStopped (word_at s.words m)
       (kernel_after_stop t s.kernel)
   unfolding kernel_after_stop
   stop_one g = record {
-    kernel = stop_kept t s.kernel g.sound.kernel (going_added g named) (going_met g).0;
+    kernel = stop_kept t s.kernel g.sound.kernel (going_added g named) (going_ready g);
     call = stop_on (bound_to s) t m s.kernel living;
     others = λ u d. get_or-set_other s.kernel.seats t u (record (seat_at s.kernel t) { status = Stopped }) no_seat d;
     base = ap (λ x. x.base) here;
     number = kept refl;
     died = refl;
     cell = going_cell g named;
-    belongs = locking_belongs may LockStopped refl;
+    belongs = locking_belongs may StayStopped refl;
     needs = (ap (λ x. x.status) here, tt);
     queue = λ j e. absurd (not_queued j (sym (ap (λ x. x.status) here) ∙ e));
     parked = λ j e. absurd (not_parked j (sym (ap (λ x. x.status) here) ∙ e));
@@ -99,7 +102,7 @@ module _ (s : Table) (t : ℕ) (q : Request) (named : has_mutex s (named_by q) �
 
       living : (u : ℕ) → is_living (kernel_after_stop t s.kernel) u ≡ is_living s.kernel u
       living u = living_same s.kernel (kernel_after_stop t s.kernel) t
-          (record (seat_at s.kernel t) { status = Stopped }) known (going_met g).0 refl refl u
+          (record (seat_at s.kernel t) { status = Stopped }) known (going_ready g) refl refl u
 
       here : seat_at (kernel_after_stop t s.kernel) t ≡ record (seat_at s.kernel t) { status = Stopped }
       here = get_or-set_same s.kernel.seats t (record (seat_at s.kernel t) { status = Stopped }) no_seat
@@ -112,17 +115,17 @@ module _ (s : Table) (t : ℕ) (q : Request) (named : has_mutex s (named_by q) �
       not_queued j e = cc
 
   -- the owner, as the POSIX machine sees it, has ended
-  lost_seen : (g : Going s t q LockStop) (y : Shadow) → (cell_at s m).robust ≡ false
+  lost_seen : (g : Going s t q Stop) (y : Shadow) → (cell_at s m).robust ≡ false
       → (cell_at s m).word.number ≢ 0 → is_living s.kernel (cell_at s m).word.number ≡ false
       → is_lost (world_of s y) m ≡ true
   lost_seen g y r n e = rw (mutex_seen g.sound.all.shape y m, r, ne_eqb (cell_at s m).word.number 0 n)
       (ap (λ b. if b then false else true) (living_seen s y (cell_at s m).word.number g.sound.all.shape ∙ e))
 
   -- why it may stop is a rule of locking
-  stops : (g : Going s t q LockStop) (y : Shadow) → MayStopFor (is_living s.kernel) t (cell_at s m)
+  stops : (g : Going s t q Stop) (y : Shadow) → MayStopFor (is_living s.kernel) t (cell_at s m)
       → Locks t m (world_of s y) (with_progress t Stuck (world_of s y))
   stops g y (stops_own own normal) = own_normal (owner_seen s t q named may g y ∙ own)
-      (ap (λ (x : Mutex). x.kind) (mutex_seen g.sound.all.shape y m) ∙ normal) refl
+      (ap (λ (x : Mutex). relock_of x.kind) (mutex_seen g.sound.all.shape y m) ∙ normal) refl
   stops g y (stops_lost r n e) = lost (
     (λ z. true≢false (sym g.known ∙ ap (is_living s.kernel) (sym (sym (owner_seen s t q named may g y) ∙ z)) ∙ e)),
     (λ z. n (sym (owner_seen s t q named may g y) ∙ z)),
@@ -130,26 +133,26 @@ module _ (s : Table) (t : ℕ) (q : Request) (named : has_mutex s (named_by q) �
   ) refl
 
   -- lock: stop for good
-  pub lock_stop_kept : Going s t q LockStop → GoKeeps s t (lock_stop q t s)
+  pub lock_stop_kept : Going s t q Stop → GoKeeps s t (lock_stop q t s)
   unfolding lock_stop kernel_after_stop
   lock_stop_kept g =
       let c = stop_one g in
       let k = kernel_after_stop t s.kernel in
       subst (KeepsGo s t Waits)
-      (written_is t m (At q LockStopped) (robust_at s.lists t) (word_at s.words m) (health_word_at s.words m)
+      (written_is t m (At q StayStopped) (robust_at s.lists t) (word_at s.words m) (health_word_at s.words m)
       (library_at s m).count k s (same_word s m) (same_health s m) (same_list s t) (same_library s m))
-      (waits_with g (written t m (At q LockStopped) (robust_at s.lists t) (word_at s.words m)
+      (waits_with g (written t m (At q StayStopped) (robust_at s.lists t) (word_at s.words m)
       (health_word_at s.words m) (library_at s m).count k s)
-      (called_sound g named LockStopped (word_at s.words m) k c) refl
-      (called_known g named LockStopped (word_at s.words m) k c) (ap is_ready c.needs.0)
-      (called_frames g named LockStopped (word_at s.words m) k c)
-      (λ y. first (locks s t q named may g refl y (with_progress t Stuck (world_of s y)) (stops g y (going_met g).1.0))
-      (none (called_shown g named LockStopped (word_at s.words m) k c y Stuck refl refl))))
+      (called_sound g named StayStopped (word_at s.words m) k c) refl
+      (called_known g named StayStopped (word_at s.words m) k c) (ap is_ready c.needs.0)
+      (called_frames g named StayStopped (word_at s.words m) k c)
+      (λ y. first (locks s t q named may g refl y (with_progress t Stuck (world_of s y)) (stops g y (going_stop g)))
+      (none (called_shown g named StayStopped (word_at s.words m) k c y Stuck refl refl))))
 
   -- LOCK_PI
 
   -- m is there, and has a word
-  word_there : (g : Going s t q LockKernel) → has_word s.words m ≡ true
+  word_there : (g : Going s t q CallKernel) → has_word s.words m ≡ true
   word_there g = from_within m (length s.words.mutexes) (above_0 m (length s.mutexes) named)
       (omega (
         arith,
@@ -159,12 +162,12 @@ module _ (s : Table) (t : ℕ) (q : Request) (named : has_mutex s (named_by q) �
       ))
 
   -- what lock_pi answers where nobody owns m
-  answer_free : (g : Going s t q LockKernel) → (cell_at s m).word.number ≡ 0
+  answer_free : (g : Going s t q CallKernel) → (cell_at s m).word.number ≡ 0
       → lock_answer t m s.words s.kernel ≡ Ok TookOwns
   unfolding lock_answer
   answer_free g zero = rw (
     word_there g,
-    ne_eqb (cell_at s m).word.number t (going_met g).1.0,
+    ne_eqb (cell_at s m).word.number t (going_other g),
     eq-eqb (cell_at s m).word.number 0 zero,
     eq-eqb (cell_at s m).state_owner 0 (state_from_none c (c.free zero)),
   ) refl
@@ -180,22 +183,22 @@ module _ (s : Table) (t : ℕ) (q : Request) (named : has_mutex s (named_by q) �
   closes = reaches_within (length s.kernel.seats) (waits_for s.kernel) (cell_at s m).word.number t
 
   -- what it answers where somebody owns m
-  answer_owned : (g : Going s t q LockKernel) → (cell_at s m).word.number ≢ 0
+  answer_owned : (g : Going s t q CallKernel) → (cell_at s m).word.number ≢ 0
       → lock_answer t m s.words s.kernel ≡ (if lives_owner then (if closes then Err Deadlock else Ok TookQueued)
       else Err NoSuchThread)
   unfolding lock_answer
   answer_owned g owned = rw (
     word_there g,
-    ne_eqb (cell_at s m).word.number t (going_met g).1.0,
+    ne_eqb (cell_at s m).word.number t (going_other g),
     ne_eqb
         (cell_at s m).word.number 0 owned,
     state_agrees (going_cell g named),
   ) refl
 
-  module _ (g : Going s t q LockKernel) (owned : (cell_at s m).word.number ≢ 0) where
+  module _ (g : Going s t q CallKernel) (owned : (cell_at s m).word.number ≢ 0) where
     -- the owner is another, and there is one, as the POSIX machine sees it
     other_seen : (y : Shadow) → (mutex_at (world_of s y) m).owner ≢ t
-    other_seen y z = (going_met g).1.0 (sym (owner_seen s t q named may g y) ∙ z)
+    other_seen y z = going_other g (sym (owner_seen s t q named may g y) ∙ z)
 
     owned_seen : (y : Shadow) → (mutex_at (world_of s y) m).owner ≢ 0
     owned_seen y z = owned (sym (owner_seen s t q named may g y) ∙ z)
@@ -219,13 +222,13 @@ module _ (s : Table) (t : ℕ) (q : Request) (named : has_mutex s (named_by q) �
         ∙ leads_seen g.sound y (cell_at s m).word.number t
 
     -- where a chain leads back, the lock is refused
-    refused : lives_owner ≡ true → closes ≡ true → GoKeeps s t (ends_by t q m LockClear 35 s)
-    refused l e = ends_by_cases (GoKeeps s t) q LockClear 35 t m s
-        (λ robust. goes_alone g named (Has 35) LockClear (quiet refl refl)
-        (λ j u. absurd (true≢false (sym u))) (going_met g).0 (locking_belongs may LockClear refl) refl
-        ((going_met g).0, ((going_met g).1.0, (robust, tt))) effect
-        (λ r. row_other g named r refl refl (going_met g).1.0 (going_met g).1.0))
-        (λ stalled. answers_alone g named 35 (going_met g).0 effect
+    refused : lives_owner ≡ true → closes ≡ true → GoKeeps s t (ends_by t q m (Clear Unowned 35) 35 s)
+    refused l e = ends_by_cases (GoKeeps s t) q (Clear Unowned 35) 35 t m s
+        (λ robust. goes_alone g named (Has 35) (Clear Unowned 35) (quiet refl refl)
+        (λ j u. absurd (true≢false (sym u))) (going_ready g) (locking_belongs may (Clear Unowned 35) refl) refl
+        (going_ready g, (going_other g, (robust, tt))) effect
+        (λ r. row_other g named r refl refl (going_other g) (going_other g)))
+        (λ stalled. answers_alone g named 35 (going_ready g) effect
         (λ r. absurd (true≢false (sym r ∙ stalled))))
       where
         effect : (y : Shadow) → Effect t (world_of s y) (with_progress t (Has 35) (world_of s y))
@@ -234,12 +237,12 @@ module _ (s : Table) (t : ℕ) (q : Request) (named : has_mutex s (named_by q) �
 
     -- to queue t is a call in which t goes to where it is queued
     queue_one : lives_owner ≡ true → closes ≡ false
-        → IsOneCall s t q LockKernel LockQueued (mark_word (word_at s.words m))
+        → IsOneCall s t q CallKernel StayQueued (mark_word (word_at s.words m))
         (kernel_after_queueing t m (word_at s.words m).number s.kernel)
     unfolding kernel_after_queueing
     queue_one l e = record {
       kernel = queueing_kept t m (word_at s.words m).number s.kernel g.sound.kernel known
-          (going_met g).0 m0 few l agrees e;
+          (going_ready g) m0 few l agrees e;
       call = queueing_on (bound_to s) t m (word_at s.words m).number s.kernel living;
       others = λ u d. get_or-set_other s.kernel.seats t u (record (seat_at s.kernel t) { status = Queued m }) no_seat d;
       base = ap (λ x. x.base) here;
@@ -254,7 +257,7 @@ module _ (s : Table) (t : ℕ) (q : Request) (named : has_mutex s (named_by q) �
         state = owner_state ∙ ap (λ b. if b then (word_at s.words m).number else 0) (sym waited);
         contended = λ z. refl;
       };
-      belongs = locking_belongs may LockQueued refl;
+      belongs = locking_belongs may StayQueued refl;
       needs = (
         (
           (λ z. absurd (not_stopped (sym (ap (λ x. x.status) here) ∙ z))),
@@ -263,19 +266,19 @@ module _ (s : Table) (t : ℕ) (q : Request) (named : has_mutex s (named_by q) �
         ),
         (
           (λ r. absurd (true≢false (sym r ∙ ap (λ x. is_ready x.status) here))),
-          ((λ o. absurd ((going_met g).1.0 o)), ((λ o. absurd ((going_met g).1.0 o)), tt)),
+          ((λ o. absurd (going_other g o)), ((λ o. absurd (going_other g o)), tt)),
         ),
       );
       queue = λ j z. record {
         request = q;
-        place = LockQueued;
+        place = StayQueued;
         line = refl;
         queued = refl;
         waits = waits may ∙ same j (sym (ap (λ x. x.status) here) ∙ z);
       };
       parked = λ j z. absurd (not_parked j (sym (ap (λ x. x.status) here) ∙ z));
       follows = quiet refl refl;
-      blocked = λ j u e. absurd (true≢false (sym e ∙ ap (λ (x : Seat). is_blocked (progress_at q LockQueued x.status
+      blocked = λ j u e. absurd (true≢false (sym e ∙ ap (λ (x : Seat). is_blocked (progress_at q StayQueued x.status
           (health_at s m) (uses_of s (variable_of q)))) here));
       lists = lists_by g named {added = has_thread s} {waited = true} refl refl (record {
         count = c.count;
@@ -285,7 +288,7 @@ module _ (s : Table) (t : ℕ) (q : Request) (named : has_mutex s (named_by q) �
         clean = λ z. absurd (owned z);
         state = owner_state;
         contended = λ z. refl;
-      }) (λ r. row_other g named r refl refl (going_met g).1.0 (going_met g).1.0);
+      }) (λ r. row_other g named r refl refl (going_other g) (going_other g));
     }
       where
         known : has_thread s t ≡ true
@@ -294,7 +297,7 @@ module _ (s : Table) (t : ℕ) (q : Request) (named : has_mutex s (named_by q) �
         living : (u : ℕ) → is_living (kernel_after_queueing t m (word_at s.words m).number s.kernel) u ≡ is_living
             s.kernel u
         living u = living_same s.kernel (kernel_after_queueing t m (word_at s.words m).number s.kernel) t
-            (record (seat_at s.kernel t) { status = Queued m }) known (going_met g).0 refl refl u
+            (record (seat_at s.kernel t) { status = Queued m }) known (going_ready g) refl refl u
 
         not_ended : Queued m ≡ Ended → ⊥
         not_ended z = cc
@@ -344,7 +347,7 @@ module _ (s : Table) (t : ℕ) (q : Request) (named : has_mutex s (named_by q) �
     queues : lives_owner ≡ true → closes ≡ false
         → GoKeeps s t (record {
           seen = Waits;
-          after = with_line t (At q LockQueued) (with_kernel
+          after = with_line t (At q StayQueued) (with_kernel
               (set_word s.words m (mark_word (word_at s.words m)))
               (kernel_after_queueing t m (word_at s.words m).number s.kernel) s);
         })
@@ -354,24 +357,24 @@ module _ (s : Table) (t : ℕ) (q : Request) (named : has_mutex s (named_by q) �
         let k = kernel_after_queueing t m (word_at s.words m).number s.kernel in
         let x = mark_word (word_at s.words m) in
         subst (KeepsGo s t Waits)
-        (written_is t m (At q LockQueued) (robust_at s.lists t) x (health_word_at s.words m)
+        (written_is t m (At q StayQueued) (robust_at s.lists t) x (health_word_at s.words m)
         (library_at s m).count k s refl (same_health s m) (same_list s t) (same_library s m))
-        (waits_with g (written t m (At q LockQueued) (robust_at s.lists t) x (health_word_at s.words m)
+        (waits_with g (written t m (At q StayQueued) (robust_at s.lists t) x (health_word_at s.words m)
         (library_at s m).count k s)
-        (called_sound g named LockQueued x k c) refl (called_known g named LockQueued x k c)
-        (unready c) (called_frames g named LockQueued x k c)
+        (called_sound g named StayQueued x k c) refl (called_known g named StayQueued x k c)
+        (unready c) (called_frames g named StayQueued x k c)
         (λ y. first (locks s t q named may g refl y (record (with_progress t Waiting (world_of s y))
         { waiters = s.kernel.waiters ++ (t, m) ∷ [] })
         (joins (other_seen y, owned_seen y, not_lost y l) (chain_seen y ∙ e) refl))
-        (none (called_shown g named LockQueued x k c y Waiting refl
-        (ap (λ z. progress_at q LockQueued z (health_at s m) (uses_of s (variable_of q))) (status_here))))))
+        (none (called_shown g named StayQueued x k c y Waiting refl
+        (ap (λ z. progress_at q StayQueued z (health_at s m) (uses_of s (variable_of q))) (status_here))))))
       where
         status_here : (seat_at (kernel_after_queueing t m (word_at s.words m).number s.kernel) t).status ≡ Queued m
         status_here = ap (λ x. x.status) (get_or-set_same s.kernel.seats t
             (record (seat_at s.kernel t) { status = Queued m }) no_seat
             (below t (length s.kernel.seats) (going_added g named)))
 
-        unready : IsOneCall s t q LockKernel LockQueued (mark_word (word_at s.words m))
+        unready : IsOneCall s t q CallKernel StayQueued (mark_word (word_at s.words m))
             (kernel_after_queueing t m (word_at s.words m).number s.kernel)
             → is_ready (seat_at (kernel_after_queueing t m (word_at s.words m).number s.kernel) t).status ≡ false
         unready c = ap is_ready status_here
@@ -382,7 +385,7 @@ module _ (s : Table) (t : ℕ) (q : Request) (named : has_mutex s (named_by q) �
       (kernel_after_lock t m r s.words s.kernel) s)
 
   -- lock: the kernel call lock_pi
-  pub lock_kernel_kept : Going s t q LockKernel → GoKeeps s t (lock_kernel q t m s)
+  pub lock_kernel_kept : Going s t q CallKernel → GoKeeps s t (lock_kernel q t m s)
   unfolding lock_kernel lock_by words_after_lock kernel_after_lock
   lock_kernel_kept g = go (cases_eq (cell_at s m).word.number 0)
     where
@@ -399,15 +402,15 @@ module _ (s : Table) (t : ℕ) (q : Request) (named : has_mutex s (named_by q) �
           (if b then (if closes then Err Deadlock else Ok TookQueued) else Err NoSuchThread))) lives_owner
           (λ l. by_test (λ b. GoKeeps s t (by_call (if b then Err Deadlock else Ok TookQueued))) closes
           (λ e. refused g owned l e) (λ e. queues g owned l e))
-          (λ l. goes g named LockStop (quiet refl refl) (going_met g).0
-          (locking_belongs may LockStop refl) refl
-          ((going_met g).0, (stops_lost (stalled owned l) owned l, tt))
+          (λ l. goes g named Stop (quiet refl refl) (going_ready g)
+          (locking_belongs may Stop refl) refl
+          (going_ready g, (stops_lost (stalled owned l) owned l, tt))
           (λ r. absurd (true≢false (sym r ∙ stalled owned l))))
 
       go : ((cell_at s m).word.number ≡ 0) ⊎ ((cell_at s m).word.number ≢ 0) → GoKeeps s t (lock_kernel q t m s)
       go (inl zero) = subst (λ r. GoKeeps s t (by_call r)) (sym (answer_free g zero))
-          (ends_by_cases (GoKeeps s t) q TakeLoad 0 t m (with_word m (taken_word t (word_at s.words m)) s)
-          (λ robust. takes_to_load g named (going_met g).0 refl zero (locking may) robust
-          (locking_belongs may TakeLoad refl) refl refl)
-          (λ stalled. takes_stalled g named (going_met g).0 refl zero (locking may) stalled))
+          (ends_by_cases (GoKeeps s t) q (Take LoadWord) 0 t m (with_word m (taken_word t (word_at s.words m)) s)
+          (λ robust. takes_to_load g named (going_ready g) refl zero (locking may) robust
+          (locking_belongs may (Take LoadWord) refl) refl refl)
+          (λ stalled. takes_stalled g named (going_ready g) refl zero (locking may) stalled))
       go (inr owned) = subst (λ r. GoKeeps s t (by_call r)) (sym (answer_owned g owned)) (by_owner owned)

@@ -3,10 +3,15 @@
 use Rattle.std.proofs.Common.{◌≡◌, ℕ, true, false, refl, sym, ap, ◌∙◌, subst, true≢false}
 use Rattle.pif_types.specs.declared.requests.Request.{Request}
 use Rattle.pif_types.specs.declared.requests.Request.TheVariants.{Lock}
-use Rattle.pif_model.specs.declared.events.Seen.TheVariants.{Waits}
+use Rattle.pif_model.specs.declared.events.Seen.TheVariants.{Went, Waits}
 use Rattle.pif_model.specs.declared.lines.Line.TheVariants.{At}
 use Rattle.pif_model.specs.declared.lines.Place.{Place}
-use Rattle.pif_model.specs.declared.lines.Place.TheVariants.{LockLoad, LockPending, LockExchange, LockKernel, LockQueued, LockStop, LockStopped, LockClear, TakeHealth, LinkClear, LeaveKernel, LeaveClear}
+use Rattle.pif_model.specs.declared.lines.Place.TheVariants.{Load, NamePending, Exchange, CallKernel, StayQueued, Stop, StayStopped, Take, Give, Clear}
+use Rattle.pif_model.specs.declared.lines.TakeStep.TheVariants.{LoadHealth}
+use Rattle.pif_model.specs.declared.lines.GiveStep.{GiveStep}
+use Rattle.pif_model.specs.declared.lines.GiveStep.TheVariants.{CallUnlock}
+use Rattle.pif_model.specs.declared.lines.Purpose.TheVariants.{ToLeave}
+use Rattle.pif_model.specs.declared.lines.Footing.TheVariants.{Unowned}
 use Rattle.pif_model.specs.declared.lines.Status.{Status}
 use Rattle.pif_model.specs.declared.lines.Status.TheVariants.{Ready, Queued, Parked, Stopped, Ended}
 use Rattle.pif_model.specs.Word.{word_at, health_word_at}
@@ -16,29 +21,30 @@ use Rattle.pif_model.specs.Posix.Effect.{leave}
 use Rattle.pif_model.specs.Posix.Effects.{none}
 use Rattle.pif_model.specs.PiKernel.{is_ready, is_living}
 use Rattle.pif_model.specs.Table.{Table, cell_at, has_mutex, uses_of, status_at}
-use Rattle.pif_model.specs.Lines.{goes_to, own_exchange, lock_load, lock_queued, pending, clears, gives_up}
+use Rattle.pif_model.specs.Lines.{goes_to, own_exchange, lock_load, lock_queued, pending, give_line}
 use Rattle.pif_model.specs.Projection.{Shadow, before_lock, progress_at, health_at, world_of}
-use Rattle.pif_model.specs.Soundness.{use_at, MeetsAll, needs, belongs, is_locking}
+use Rattle.pif_model.specs.Soundness.{use_at, MeetsAll, needs, belongs, is_last, is_locking}
 use Rattle.pif_model.specs.Soundness.MayStopFor.{own_normal as stops_own}
 use Rattle.pif_chains.proofs.LineCases.{lock_load_cases, lock_queued_cases}
 use Rattle.pif_simulation.proofs.Shown.{mutex_seen}
-use Rattle.pif_simulation.proofs.Steps.{GoKeeps, Going, progress_of, going_named, going_met, going_called, waits_with}
+use Rattle.pif_simulation.proofs.Steps.{GoKeeps, Going, progress_of, going_named, going_met, going_called, waits_with, going_behind, going_once, going_other, going_own_ready, going_ready, going_robust, going_stopped, going_own, going_health}
 use Rattle.pif_simulation.proofs.Agreement.{quiet, frames_same}
-use Rattle.pif_simulation.proofs.Does.{IsLocking, MayQueue, locking, locks_by}
+use Rattle.pif_simulation.proofs.Does.{IsLocking, MayQueue, locks_by}
 use Rattle.pif_simulation.proofs.Does.MayQueue.{in_lock, in_wait}
-use Rattle.pif_simulation.proofs.Does.IsLocking.{by_lock}
-use Rattle.pif_simulation.proofs.Does.Does.{nothing, locks_own_errorcheck}
+use Rattle.pif_simulation.proofs.Does.IsLocking.{by_lock, by_try_lock, by_wait}
+use Rattle.pif_simulation.proofs.Does.Does.{nothing, leaves, locks_own_errorcheck}
 use Rattle.pif_simulation.proofs.Healths.{health-unusable}
 use Rattle.pif_simulation.proofs.Local.{going_cell}
-use Rattle.pif_simulation.proofs.LocalLines.{goes, answers_local, pending_kept, clears_kept, row_same, row_other, settled_so_far}
+use Rattle.pif_simulation.proofs.LocalLines.{goes, answers_local, pending_kept, row_same, row_other, settled_so_far}
 use Rattle.pif_simulation.proofs.Owning.{stalled_in_order}
 use Rattle.pif_simulation.proofs.mutexes.TakingLines.{own_exchange_kept, locked_again_kept}
-use Rattle.pif_simulation.proofs.mutexes.TakingOver.{lock_locking, wait_locking, shared_belongs, leaves_by_word, two_not_one}
-use Rattle.pif_simulation.proofs.mutexes.GivingUp.{GivesUp, gives_up_cases, handed_goes}
+use Rattle.pif_simulation.proofs.mutexes.TakingOver.{lock_locking, wait_locking, shared_belongs, two_not_one}
+use Rattle.pif_simulation.proofs.mutexes.GivingUp.{GivesUpTo}
+use Rattle.pif_simulation.proofs.mutexes.GivingSteps.{GivesLast, gives_to, frees_kept, hands_kept, leaves_kept}
 
 -- a thread that was queued and may run was handed its mutex
 pub progress_handed : (q : Request) (x : Status) (h : Health) (n : ℕ) → is_ready x ≡ true
-    → progress_at q LockQueued x h n ≡ on_taking h
+    → progress_at q StayQueued x h n ≡ on_taking h
 progress_handed q (Ready w) h n e = refl
 progress_handed q (Queued m) h n e = absurd (true≢false (sym e))
 progress_handed q (Parked c) h n e = absurd (true≢false (sym e))
@@ -49,34 +55,40 @@ module _ {s : Table} {t m : ℕ} where
   -- LOCK ALONE
 
   -- lock: load the word
-  pub lock_load_kept : Going s t (Lock m) LockLoad → GoKeeps s t (lock_load (Lock m) t m s)
+  pub lock_load_kept : Going s t (Lock m) Load → GoKeeps s t (lock_load (Lock m) t m s)
   lock_load_kept g = lock_load_cases (GoKeeps s t) (Lock m) t m s
-      (λ own kind. goes g (going_named g) LockStop (quiet refl refl) h.0 refl refl (h.0, (stops_own own kind, tt))
+      (λ own kind. goes g (going_named g) Stop (quiet refl refl) (going_ready g) refl refl (going_ready g, (stops_own own kind, tt))
       (λ r. row_same g (going_named g) r refl refl refl (λ o u. settled_so_far g (going_named g) refl o)))
-      (λ own kind. answers_local g (going_named g) 35 h.0 (locks_own_errorcheck refl refl own kind refl refl)
+      (λ own kind. answers_local g (going_named g) 35 (going_ready g) (locks_own_errorcheck refl refl own kind refl refl)
       (λ r. row_same g (going_named g) r refl refl refl (λ o u. settled_so_far g (going_named g) refl o)))
-      (λ own kind. locked_again_kept g (going_named g) h.0 refl own
+      (λ own kind. locked_again_kept g (going_named g) (going_ready g) refl own
       (λ r. row_same g (going_named g) r refl refl refl (λ o u. settled_so_far g (going_named g) refl o))
       (by_lock refl) kind)
-      (λ other robust. goes g (going_named g) LockPending (quiet refl refl) h.0 refl refl (h.0, (other, (robust, tt)))
+      (λ other robust. goes g (going_named g) NamePending (quiet refl refl) (going_ready g) refl refl (going_ready g, (other, (robust, tt)))
       (λ r. row_other g (going_named g) r refl refl other other))
-      (λ other stalled. goes g (going_named g) LockExchange (quiet refl refl) h.0 refl refl (h.0, (other, tt))
+      (λ other stalled. goes g (going_named g) Exchange (quiet refl refl) (going_ready g) refl refl (going_ready g, (other, tt))
       (λ r. absurd (true≢false (sym r ∙ stalled))))
     where
-      h : MeetsAll (is_living s.kernel) t (status_at s t) (cell_at s m) (use_at s (Lock m)) (needs LockLoad)
+      h : MeetsAll (is_living s.kernel) t (status_at s t) (cell_at s m) (use_at s (Lock m)) (needs Load)
       h = going_met g
 
   -- lock: name the mutex in the pending field
-  pub lock_pending_kept : Going s t (Lock m) LockPending → GoKeeps s t (goes_to t (Lock m) LockExchange (pending t m s))
+  pub lock_pending_kept : Going s t (Lock m) NamePending → GoKeeps s t (goes_to t (Lock m) Exchange (pending t m s))
   lock_pending_kept g =
       let h = going_met g in
-      pending_kept g (going_named g) LockExchange (quiet refl refl) h.0 h.1.1.0 refl refl (h.0, (h.1.0, tt)) refl refl
+      pending_kept g (going_named g) Exchange (quiet refl refl) (going_ready g) (going_robust g) refl refl (going_ready g, (going_other g, tt)) refl refl
       refl refl refl
 
 -- a request that may queue comes to each place of locking
 pub locking_belongs : {m : ℕ} {q : Request} → MayQueue m q → (p : Place) → is_locking p ≡ true → belongs q p ≡ true
 locking_belongs {m} {q} (in_lock r) p e = subst (λ x. belongs x p ≡ true) (sym r) (lock_locking m p e)
 locking_belongs {m} {q} (in_wait c r) p e = subst (λ x. belongs x p ≡ true) (sym r) (wait_locking c m p e)
+
+-- a request that locks comes to its kernel call
+kernel_belongs : {m : ℕ} {q : Request} → IsLocking m q → belongs q CallKernel ≡ true
+kernel_belongs (by_lock r) = ap (λ x. belongs x CallKernel) r
+kernel_belongs (by_try_lock r) = ap (λ x. belongs x CallKernel) r
+kernel_belongs (by_wait c r) = ap (λ x. belongs x CallKernel) r
 
 -- LOCK, AND THE LOCK THAT A WAIT OWES
 
@@ -94,40 +106,28 @@ module _ (s : Table) (t : ℕ) (q : Request) (named : has_mutex s (named_by q) �
       → (mutex_at (world_of s y) mutex).owner ≡ (cell_at s mutex).word.number
   owner_seen g y = ap (λ (x : Mutex). x.owner) (mutex_seen g.sound.all.shape y mutex)
 
-  -- compare-exchange from 0 to t
-  pub lock_exchange_kept : Going s t q LockExchange → GoKeeps s t (own_exchange q LockKernel t mutex s)
-  lock_exchange_kept g =
-      let h = going_met g in
-      own_exchange_kept g named h.0 refl (locking l) (locking_belongs l (TakeHealth false) refl) refl refl LockKernel
-      (goes g named LockKernel (quiet refl refl) h.0 (locking_belongs l LockKernel refl) refl h
-      (λ r. row_other g named r refl refl h.1.0 h.1.0))
-
   -- queued, or made the owner
-  pub lock_queued_kept : Going s t q LockQueued → GoKeeps s t (lock_queued q t mutex s)
+  pub lock_queued_kept : Going s t q StayQueued → GoKeeps s t (lock_queued q t mutex s)
   lock_queued_kept g = lock_queued_cases (GoKeeps s t) q t mutex s
-      (λ e robust. goes g named (TakeHealth (word_at s.words mutex).died) (quiet refl refl) e
-      (locking_belongs l (TakeHealth (word_at s.words mutex).died) refl) (sym (handed e))
-      (e, (h.1.0 e, (h.1.1.0, (robust, (h.1.1.1.0, ((λ o. refl), tt))))))
+      (λ e robust. goes g named (Take (LoadHealth (word_at s.words mutex).died)) (quiet refl refl) e
+      (locking_belongs l (Take (LoadHealth (word_at s.words mutex).died)) refl) (sym (handed e))
+      (e, (going_own_ready g e, (going_once g, (robust, (going_behind g, ((λ o. refl), tt))))))
       (λ r. row_same g named r refl refl refl (λ o u. absurd (true≢false u))))
       (λ e stalled. answers_local g named 0 e
       (nothing (sym (handed e ∙ ap on_taking (stalled_in_order (going_cell g named) stalled))) refl)
       (λ r. absurd (true≢false (sym r ∙ stalled))))
       (λ e. waits_with g s g.sound refl g.known e (frames_same s) (λ y. none refl))
     where
-      h : MeetsAll (is_living s.kernel) t (status_at s t) (cell_at s mutex) (use_at s q) (needs LockQueued)
+      h : MeetsAll (is_living s.kernel) t (status_at s t) (cell_at s mutex) (use_at s q) (needs StayQueued)
       h = going_met g
 
-      handed : is_ready (status_at s t) ≡ true → progress_of s t q LockQueued ≡ on_taking (health_at s mutex)
+      handed : is_ready (status_at s t) ≡ true → progress_of s t q StayQueued ≡ on_taking (health_at s mutex)
       handed e = progress_handed q (status_at s t) (health_at s mutex) (uses_of s (variable_of q)) e
 
   -- stopped for good
-  pub lock_stopped_kept : Going s t q LockStopped → GoKeeps s t (record { seen = Waits; after = s })
+  pub lock_stopped_kept : Going s t q StayStopped → GoKeeps s t (record { seen = Waits; after = s })
   lock_stopped_kept g =
-      waits_with g s g.sound refl g.known (ap is_ready (going_met g).0) (frames_same s) (λ y. none refl)
-
-  -- clear the pending field, and answer EDEADLK
-  pub lock_clear_kept : Going s t q LockClear → GoKeeps s t (clears 35 t s)
-  lock_clear_kept g = let h = going_met g in clears_kept g named 35 h.0 h.1.1.0 refl refl refl refl
+      waits_with g s g.sound refl g.known (ap is_ready (going_stopped g)) (frames_same s) (λ y. none refl)
 
 -- WHAT ALL CALLS THAT LOCK SHARE
 
@@ -136,45 +136,44 @@ module _ (s : Table) (t : ℕ) (q : Request) (named : has_mutex s (named_by q) �
   abbrev m : ℕ
   m = named_by q
 
-  -- taking over: clear the pending field, and answer
-  pub link_clear_kept : (a : ℕ) → Going s t q (LinkClear a) → GoKeeps s t (clears a t s)
-  link_clear_kept a g = let h = going_met g in clears_kept g named a h.0 h.1.1.1.0 refl refl refl refl
+  -- compare-exchange from 0 to t
+  pub exchange_kept : Going s t q Exchange → GoKeeps s t (own_exchange q t m s)
+  exchange_kept g =
+      let h = going_met g in
+      own_exchange_kept g named (going_ready g) refl l (shared_belongs l (Take (LoadHealth false)) refl) refl refl
+      (goes g named CallKernel (quiet refl refl) (going_ready g) (kernel_belongs l) refl h
+      (λ r. row_other g named r refl refl (going_other g) (going_other g)))
 
-  -- leaving: the kernel call unlock_pi
-  pub leave_kernel_kept : Going s t q LeaveKernel → GoKeeps s t (gives_up t m (goes_to t q LeaveClear) s)
-  leave_kernel_kept g = gives_up_cases given (GoKeeps s t) (goes_to t q LeaveClear)
-      (λ alone. leaves_by_word s t q named l g h.0 refl own (h.1.1.0 own) alone h.1.1.1.0 unusable refl refl refl)
-      (λ state. handed_goes given (At q LeaveClear) (record {
-        names = refl;
-        pending = λ r. refl;
-        half_linked = λ r. refl;
-        follows = quiet refl refl;
-        knows = λ c other r. (refl, shared_belongs l LeaveClear refl, (h.0, (other, (r ∙ h.1.1.1.0, tt))));
-      }) state (Has 131) (λ j e. absurd (true≢false (sym e))) (λ y. refl)
-      (λ y w passes. leave q (going_called g y) passes))
-    where
-      h : MeetsAll (is_living s.kernel) t (status_at s t) (cell_at s m) (use_at s q) (needs LeaveKernel)
-      h = going_met g
+  -- leaving an unusable mutex
+  abbrev last_leave : GivesLast s t q ToLeave
+  last_leave = record {
+    after = Has 131;
+    named = λ e. named;
+    calls = shared_belongs l (Give CallUnlock ToLeave) refl;
+    rests = refl;
+    blocked = λ e. absurd (true≢false (sym e));
+    order = λ x e g. (
+        let unusable : health_word_at s.words m ≡ 2 = going_health g (going_own g) in (
+          two_not_one (health_word_at s.words m) unusable,
+          health-unusable (health_word_at s.words m) false unusable
+              ∙ sym (health-unusable (health_word_at s.words m) (word_at s.words m).died unusable),
+        )
+        );
+    releases = λ waited w z o n i u e. leaves refl refl u refl e;
+    passes = λ w v call o n i p. leave q call p;
+  }
 
-      own : (word_at s.words m).number ≡ t
-      own = h.1.0
+  module _ {x : GiveStep} (last : is_last x ≡ true) (g : Going s t q (Give x ToLeave)) where
+    -- its name goes from the pending field
+    to_clear : GivesUpTo s t q (Give x ToLeave) (At q (Clear Unowned 131))
+    to_clear = gives_to last_leave last g (Clear Unowned 131) (shared_belongs l (Clear Unowned 131) refl) refl refl refl
+        refl (λ c other e. (going_ready g, (other, (e ∙ going_robust g, tt))))
 
-      unusable : health_word_at s.words m ≡ 2
-      unusable = h.1.1.1.1.0 own
-
-      given : GivesUp s t q LeaveKernel
-      given = record {
-        going = g;
-        named = named;
-        ready = h.0;
-        own = own;
-        once = h.1.1.0 own;
-        order = two_not_one (health_word_at s.words m) unusable;
-        health = health-unusable (health_word_at s.words m) false unusable
-            ∙ sym (health-unusable (health_word_at s.words m) (word_at s.words m).died unusable);
-        unlinked = λ r. refl;
-      }
-
-  -- leaving: clear the pending field, and answer ENOTRECOVERABLE
-  pub leave_clear_kept : Going s t q LeaveClear → GoKeeps s t (clears 131 t s)
-  leave_clear_kept g = let h = going_met g in clears_kept g named 131 h.0 h.1.1.0 refl refl refl refl
+  -- each step of leaving
+  pub leave_gives_kept : (x : GiveStep) → is_last x ≡ true → Going s t q (Give x ToLeave)
+      → GoKeeps s t (give_line q x ToLeave t m s)
+  leave_gives_kept = leaves_kept last_leave (record {
+    freed = λ x last g.
+        frees_kept last_leave last g Went (At q (Clear Unowned 131)) (to_clear last g) (Clear Unowned 131, refl, refl);
+    handed = λ x last g. hands_kept last_leave last g (Clear Unowned 131) (to_clear last g) (λ h. refl);
+  })

@@ -2,7 +2,8 @@
 -- given up, and the owner of a RECURSIVE mutex holds it more or less often.
 use Rattle.std.proofs.Common.{◌≡◌, ◌≢◌, ◌<◌, ◌≤◌, ℕ, ◌+◌, ◌-◌, Bool, true, false, length, inl, inr, refl, sym, ap, ◌∙◌, subst, if◌then◌else◌, arith, eq-eqb, ne_eqb}
 use Rattle.std.proofs.lemmas.Bool.{true≢false}
-use Rattle.pif_types.specs.declared.requests.Kind.TheVariants.{Recursive}
+use Rattle.pif_model.specs.declared.lines.Relock.TheVariants.{Counts}
+use Rattle.pif_model.specs.Kinds.{relock_of}
 use Rattle.pif_types.specs.declared.requests.Request.{Request}
 use Rattle.pif_types.specs.declared.requests.Request.TheVariants.{Unlock}
 use Rattle.pif_model.specs.declared.events.Seen.{Seen}
@@ -10,7 +11,8 @@ use Rattle.pif_model.specs.declared.events.Seen.TheVariants.{Went, Answered}
 use Rattle.pif_model.specs.declared.lines.Line.{Line}
 use Rattle.pif_model.specs.declared.lines.Line.TheVariants.{Idle, At}
 use Rattle.pif_model.specs.declared.lines.Place.{Place}
-use Rattle.pif_model.specs.declared.lines.Place.TheVariants.{TakeLoad, TakeHealth}
+use Rattle.pif_model.specs.declared.lines.Place.TheVariants.{CallKernel, Take}
+use Rattle.pif_model.specs.declared.lines.TakeStep.TheVariants.{LoadWord, LoadHealth}
 use Rattle.pif_model.specs.Graph.{has_waiter}
 use Rattle.pif_model.specs.Word.{Word, held_by, free_word, taken_word, word_at, health_word_at}
 use Rattle.pif_model.specs.Posix.{Progress, is_blocked, named_by, on_taking}
@@ -212,16 +214,16 @@ module _ {s : Table} {t : ℕ} {q : Request} {p : Place} (g : Going s t q p) (na
         }) (taken_does l (on_taking (health_at s m)) refl))
 
     -- where t goes to load the word
-    pub takes_to_load : IsLocking m q → (library_at s m).robust ≡ true → belongs q TakeLoad ≡ true
-        → is_pending p ≡ true → is_half_linked p ≡ false → GoKeeps s t (goes_to t q TakeLoad (with_word m mine s))
-    takes_to_load l robust ours pp ph = takes_robust l robust TakeLoad (quiet refl refl) ours refl
+    pub takes_to_load : IsLocking m q → (library_at s m).robust ≡ true → belongs q (Take LoadWord) ≡ true
+        → is_pending p ≡ true → is_half_linked p ≡ false → GoKeeps s t (goes_to t q (Take LoadWord) (with_word m mine s))
+    takes_to_load l robust ours pp ph = takes_robust l robust (Take LoadWord) (quiet refl refl) ours refl
         (ready, (refl, ((λ e. c.count.unowned zero), (robust, ((λ e. behind), tt))))) pp ph refl refl refl refl
 
     -- where t goes to load the health word, since it has seen no OWNER_DIED
-    pub takes_to_health : IsLocking m q → (library_at s m).robust ≡ true → belongs q (TakeHealth false) ≡ true
+    pub takes_to_health : IsLocking m q → (library_at s m).robust ≡ true → belongs q (Take (LoadHealth false)) ≡ true
         → (word_at s.words m).died ≡ false → is_pending p ≡ true → is_half_linked p ≡ false
-        → GoKeeps s t (goes_to t q (TakeHealth false) (with_word m mine s))
-    takes_to_health l robust ours d pp ph = takes_robust l robust (TakeHealth false) (quiet refl refl) ours refl
+        → GoKeeps s t (goes_to t q (Take (LoadHealth false)) (with_word m mine s))
+    takes_to_health l robust ours d pp ph = takes_robust l robust (Take (LoadHealth false)) (quiet refl refl) ours refl
         (ready, (refl, ((λ e. c.count.unowned zero), (robust, ((λ e. behind), ((λ e. d), tt)))))) pp ph refl refl refl
         refl
 
@@ -229,13 +231,13 @@ module _ {s : Table} {t : ℕ} {q : Request} {p : Place} (g : Going s t q p) (na
     bare_word : (word_at s.words m).died ≡ false → mine ≡ held_by t
     bare_word d = λ i. record { number = t; waiters = false; died = d i }
 
-  -- compare-exchange from 0 to t; where it fails the call goes on where all that it rests on is met
+  -- compare-exchange from 0 to t; where it fails the kernel call is next
   pub own_exchange_kept : progress_of s t q p ≡ before_lock q → IsLocking m q
-      → belongs q (TakeHealth false) ≡ true
-      → is_pending p ≡ true → is_half_linked p ≡ false → (b : Place) → GoKeeps s t (goes_to t q b s)
-      → GoKeeps s t (own_exchange q b t m s)
-  own_exchange_kept fresh l ours pp ph b fails = own_exchange_cases (GoKeeps s t) q b t m s
-      (λ d zero r. subst (λ w. GoKeeps s t (goes_to t q (TakeHealth false) (with_word m w s))) (bare_word fresh zero d)
+      → belongs q (Take (LoadHealth false)) ≡ true
+      → is_pending p ≡ true → is_half_linked p ≡ false → GoKeeps s t (goes_to t q CallKernel s)
+      → GoKeeps s t (own_exchange q t m s)
+  own_exchange_kept fresh l ours pp ph fails = own_exchange_cases (GoKeeps s t) q t m s
+      (λ d zero r. subst (λ w. GoKeeps s t (goes_to t q (Take (LoadHealth false)) (with_word m w s))) (bare_word fresh zero d)
       (takes_to_health fresh zero l r ours d pp ph))
       (λ d zero r. subst (λ w. GoKeeps s t (answers t 0 (with_word m w s))) (bare_word fresh zero d)
       (takes_stalled fresh zero l r))
@@ -330,7 +332,7 @@ module _ {s : Table} {t : ℕ} {q : Request} {p : Place} (g : Going s t q p) (na
         (record (mutex_of (cell_at s m)) { count = n })) (sym fresh) does))
 
     -- by a lock or a trylock the owner of a RECURSIVE mutex holds it once more, or the result is EAGAIN
-    pub locked_again_kept : IsLocking m q → (cell_at s m).kind ≡ Recursive → GoKeeps s t (relocks t m s)
+    pub locked_again_kept : IsLocking m q → relock_of (cell_at s m).kind ≡ Counts → GoKeeps s t (relocks t m s)
     locked_again_kept l kind = locked_again_cases (GoKeeps s t) t m s
         (λ e. counts ((cell_at s m).count + 1) (more e) (locks_again l refl own kind e refl refl))
         (λ e. answers_local g named 11 ready

@@ -4,15 +4,17 @@ use Rattle.std.proofs.lemmas.Bool.{cases_eq}
 use Rattle.pif_types.specs.declared.errors.Errno.{Errno}
 use Rattle.pif_types.specs.declared.errors.Errno.TheVariants.{Again}
 use Rattle.pif_types.specs.declared.requests.Request.TheVariants.{TryLock}
-use Rattle.pif_model.specs.declared.lines.Place.TheVariants.{TryLoad, TryPending, TryExchange, TryKernel, TryClear, TakeLoad}
+use Rattle.pif_model.specs.declared.lines.Place.TheVariants.{Load, NamePending, Exchange, CallKernel, Take, Clear}
+use Rattle.pif_model.specs.declared.lines.TakeStep.TheVariants.{LoadWord}
+use Rattle.pif_model.specs.declared.lines.Footing.TheVariants.{Unowned}
 use Rattle.pif_model.specs.Word.{has_word, word_at, taken_word}
 use Rattle.pif_model.specs.PiKernel.{is_living, try_lock_answer, words_after_try_lock}
 use Rattle.pif_model.specs.Table.{Table, cell_at, status_at, with_kernel, with_word}
-use Rattle.pif_model.specs.Lines.{Outcome, goes_to, own_exchange, try_load, try_by, try_kernel, pending, clears}
+use Rattle.pif_model.specs.Lines.{Outcome, goes_to, try_load, try_by, try_kernel, pending}
 use Rattle.pif_model.specs.Soundness.{use_at, MeetsAll, needs}
 use Rattle.pif_chains.proofs.LineCases.{try_load_cases, ends_by_cases}
 use Rattle.pif_chains.proofs.Numbers.{above_0, below, from_within}
-use Rattle.pif_simulation.proofs.Steps.{GoKeeps, Going, going_named, going_met, going_called}
+use Rattle.pif_simulation.proofs.Steps.{GoKeeps, Going, going_named, going_met, going_called, going_other, going_ready, going_robust}
 use Rattle.pif_simulation.proofs.Agreement.{quiet}
 use Rattle.pif_model.specs.Posix.{Mutex}
 use Rattle.pif_model.specs.Posix.Progress.{Has}
@@ -20,47 +22,40 @@ use Rattle.pif_model.specs.Posix.Effect.{try_lock}
 use Rattle.pif_model.specs.Posix.TriesToLock.{busy}
 use Rattle.pif_simulation.proofs.Shown.{mutex_seen}
 use Rattle.pif_simulation.proofs.Local.{going_cell, going_added}
-use Rattle.pif_simulation.proofs.LocalLines.{goes, goes_alone, answers_local, pending_kept, clears_kept, row_same, row_other, settled_so_far}
+use Rattle.pif_simulation.proofs.LocalLines.{goes, goes_alone, answers_local, pending_kept, row_same, row_other, settled_so_far}
 use Rattle.pif_simulation.proofs.Does.IsLocking.{by_try_lock}
 use Rattle.pif_simulation.proofs.Does.Does.{tries_owned}
 use Rattle.pif_simulation.proofs.Owning.{state_from_none}
-use Rattle.pif_simulation.proofs.mutexes.TakingLines.{takes_stalled, takes_to_load, own_exchange_kept, locked_again_kept}
+use Rattle.pif_simulation.proofs.mutexes.TakingLines.{takes_stalled, takes_to_load, locked_again_kept}
 
 module _ (s : Table) (t m : ℕ) where
   -- trylock: load the word
-  pub try_load_kept : Going s t (TryLock m) TryLoad → GoKeeps s t (try_load t m s)
+  pub try_load_kept : Going s t (TryLock m) Load → GoKeeps s t (try_load t m s)
   try_load_kept g = try_load_cases (GoKeeps s t) t m s
-      (λ own kind. locked_again_kept g (going_named g) h.0 refl own
+      (λ own kind. locked_again_kept g (going_named g) (going_ready g) refl own
       (λ r. row_same g (going_named g) r refl refl refl (λ o u. settled_so_far g (going_named g) refl o))
       (by_try_lock refl) kind)
-      (λ own kind. answers_local g (going_named g) 16 h.0
+      (λ own kind. answers_local g (going_named g) 16 (going_ready g)
       (tries_owned refl refl (λ z. above_0 t (length s.kernel.seats) (going_added g (going_named g)) (sym own ∙ z))
       (λ e. kind) refl refl)
       (λ r. row_same g (going_named g) r refl refl refl (λ o u. settled_so_far g (going_named g) refl o)))
-      (λ other robust. goes g (going_named g) TryPending (quiet refl refl) h.0 refl refl (h.0, (other, (robust, tt)))
+      (λ other robust. goes g (going_named g) NamePending (quiet refl refl) (going_ready g) refl refl (going_ready g, (other, (robust, tt)))
       (λ r. row_other g (going_named g) r refl refl other other))
-      (λ other stalled. goes g (going_named g) TryExchange (quiet refl refl) h.0 refl refl (h.0, (other, tt))
+      (λ other stalled. goes g (going_named g) Exchange (quiet refl refl) (going_ready g) refl refl (going_ready g, (other, tt))
       (λ r. absurd (true≢false (sym r ∙ stalled))))
     where
-      h : MeetsAll (is_living s.kernel) t (status_at s t) (cell_at s m) (use_at s (TryLock m)) (needs TryLoad)
+      h : MeetsAll (is_living s.kernel) t (status_at s t) (cell_at s m) (use_at s (TryLock m)) (needs Load)
       h = going_met g
 
   -- trylock: name the mutex in the pending field
-  pub try_pending_kept : Going s t (TryLock m) TryPending
-      → GoKeeps s t (goes_to t (TryLock m) TryExchange (pending t m s))
+  pub try_pending_kept : Going s t (TryLock m) NamePending
+      → GoKeeps s t (goes_to t (TryLock m) Exchange (pending t m s))
   try_pending_kept g =
       let h = going_met g in
-      pending_kept g (going_named g) TryExchange (quiet refl refl) h.0 h.1.1.0 refl refl (h.0, (h.1.0, tt)) refl refl refl refl refl
-
-  -- trylock: compare-exchange from 0 to t
-  pub try_exchange_kept : Going s t (TryLock m) TryExchange → GoKeeps s t (own_exchange (TryLock m) TryKernel t m s)
-  try_exchange_kept g =
-      let h = going_met g in
-      own_exchange_kept g (going_named g) h.0 refl (by_try_lock refl) refl refl refl TryKernel
-      (goes g (going_named g) TryKernel (quiet refl refl) h.0 refl refl h (λ r. row_other g (going_named g) r refl refl h.1.0 h.1.0))
+      pending_kept g (going_named g) Exchange (quiet refl refl) (going_ready g) (going_robust g) refl refl (going_ready g, (going_other g, tt)) refl refl refl refl refl
 
   -- m is there, and has a word
-  word_there : (g : Going s t (TryLock m) TryKernel) → has_word s.words m ≡ true
+  word_there : (g : Going s t (TryLock m) CallKernel) → has_word s.words m ≡ true
   word_there g = from_within m (length s.words.mutexes) (above_0 m (length s.mutexes) (going_named g))
       (omega (
         arith,
@@ -70,24 +65,24 @@ module _ (s : Table) (t m : ℕ) where
       ))
 
   -- what trylock_pi answers where nobody owns m
-  answer_free : (g : Going s t (TryLock m) TryKernel) → (cell_at s m).word.number ≡ 0
+  answer_free : (g : Going s t (TryLock m) CallKernel) → (cell_at s m).word.number ≡ 0
       → try_lock_answer t m s.words s.kernel ≡ Ok (record {})
   unfolding try_lock_answer
   answer_free g zero = rw (
     word_there g,
-    ne_eqb (cell_at s m).word.number t (going_met g).1.0,
+    ne_eqb (cell_at s m).word.number t (going_other g),
     eq-eqb (cell_at s m).word.number 0 zero,
     eq-eqb (cell_at s m).state_owner 0 (state_from_none (going_cell g (going_named g))
         ((going_cell g (going_named g)).free zero)),
   ) refl
 
   -- what it answers where another thread owns m
-  answer_owned : (g : Going s t (TryLock m) TryKernel) → (cell_at s m).word.number ≢ 0
+  answer_owned : (g : Going s t (TryLock m) CallKernel) → (cell_at s m).word.number ≢ 0
       → try_lock_answer t m s.words s.kernel ≡ Err Again
   unfolding try_lock_answer
   answer_owned g owned = rw (
     word_there g,
-    ne_eqb (cell_at s m).word.number t (going_met g).1.0,
+    ne_eqb (cell_at s m).word.number t (going_other g),
     ne_eqb
         (cell_at s m).word.number 0 owned,
   ) refl
@@ -97,31 +92,27 @@ module _ (s : Table) (t m : ℕ) where
   by_call r = try_by r t m (with_kernel (words_after_try_lock t m r s.words) s.kernel s)
 
   -- trylock: the kernel call trylock_pi
-  pub try_kernel_kept : Going s t (TryLock m) TryKernel → GoKeeps s t (try_kernel t m s)
+  pub try_kernel_kept : Going s t (TryLock m) CallKernel → GoKeeps s t (try_kernel t m s)
   unfolding try_kernel try_by words_after_try_lock
   try_kernel_kept g = go (cases_eq (cell_at s m).word.number 0)
     where
-      h : MeetsAll (is_living s.kernel) t (status_at s t) (cell_at s m) (use_at s (TryLock m)) (needs TryKernel)
+      h : MeetsAll (is_living s.kernel) t (status_at s t) (cell_at s m) (use_at s (TryLock m)) (needs CallKernel)
       h = going_met g
 
       go : ((cell_at s m).word.number ≡ 0) ⊎ ((cell_at s m).word.number ≢ 0)
           → GoKeeps s t (by_call (try_lock_answer t m s.words s.kernel))
       go (inl zero) = subst (λ r. GoKeeps s t (by_call r)) (sym (answer_free g zero))
-          (ends_by_cases (GoKeeps s t) (TryLock m) TakeLoad 0 t m (with_word m (taken_word t (word_at s.words m)) s)
-          (λ robust. takes_to_load g (going_named g) h.0 refl zero (by_try_lock refl) robust refl refl refl)
-          (λ stalled. takes_stalled g (going_named g) h.0 refl zero (by_try_lock refl) stalled))
+          (ends_by_cases (GoKeeps s t) (TryLock m) (Take LoadWord) 0 t m (with_word m (taken_word t (word_at s.words m)) s)
+          (λ robust. takes_to_load g (going_named g) (going_ready g) refl zero (by_try_lock refl) robust refl refl refl)
+          (λ stalled. takes_stalled g (going_named g) (going_ready g) refl zero (by_try_lock refl) stalled))
       go (inr owned) = subst (λ r. GoKeeps s t (by_call r)) (sym (answer_owned g owned))
-          (ends_by_cases (GoKeeps s t) (TryLock m) TryClear 16 t m s
-          (λ robust. goes_alone g (going_named g) (Has 16) TryClear (quiet refl refl)
-          (λ j e. absurd (true≢false (sym e))) h.0 refl refl (h.0, (h.1.0, (robust, tt)))
+          (ends_by_cases (GoKeeps s t) (TryLock m) (Clear Unowned 16) 16 t m s
+          (λ robust. goes_alone g (going_named g) (Has 16) (Clear Unowned 16) (quiet refl refl)
+          (λ j e. absurd (true≢false (sym e))) (going_ready g) refl refl (going_ready g, (going_other g, (robust, tt)))
           (λ y. try_lock m (going_called g y)
           (busy (λ z. owned (sym (ap (λ (x : Mutex). x.owner) (mutex_seen g.sound.all.shape y m)) ∙ z))
-          (λ e. absurd (h.1.0 (sym (ap (λ (x : Mutex). x.owner) (mutex_seen g.sound.all.shape y m)) ∙ e))) refl))
-          (λ r. row_other g (going_named g) r refl refl h.1.0 h.1.0))
-          (λ stalled. answers_local g (going_named g) 16 h.0
-          (tries_owned refl refl owned (λ e. absurd (h.1.0 e)) refl refl)
+          (λ e. absurd (going_other g (sym (ap (λ (x : Mutex). x.owner) (mutex_seen g.sound.all.shape y m)) ∙ e))) refl))
+          (λ r. row_other g (going_named g) r refl refl (going_other g) (going_other g)))
+          (λ stalled. answers_local g (going_named g) 16 (going_ready g)
+          (tries_owned refl refl owned (λ e. absurd (going_other g e)) refl refl)
           (λ r. absurd (true≢false (sym r ∙ stalled)))))
-
-  -- trylock: clear the pending field, and answer EBUSY
-  pub try_clear_kept : Going s t (TryLock m) TryClear → GoKeeps s t (clears 16 t s)
-  try_clear_kept g = let h = going_met g in clears_kept g (going_named g) 16 h.0 h.1.1.0 refl refl refl refl

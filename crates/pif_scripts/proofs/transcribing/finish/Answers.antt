@@ -1,6 +1,6 @@
 use Rattle.std.proofs.Common.{◌-◌, sym, ap, ◌∙◌, arith}
 use Rattle.pif_model.specs.Lines.{Outcome}
-use Rattle.pif_uses.proofs.CallLemmas.{goes_on-other, goes_on-turn, goes_on-last}
+use Rattle.pif_calls.proofs.CallLemmas.{goes_on-other, goes_on-turn, goes_on-last}
 use Rattle.pif_scripts.proofs.EntryLemmas.{going-turn, going-stops, going-last}
 use Rattle.pif_scripts.proofs.transcribing.finish.Goals as goal
 

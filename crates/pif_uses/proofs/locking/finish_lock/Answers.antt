@@ -6,5 +6,5 @@ use Rattle.pif_uses.proofs.locking.finish_lock.Goals as goal
 
 pub returns-clause-holds : goal.returns-clause-holds
 returns-clause-holds c =
-    finish_holds c.args.core.now c.finish.new.core c.args.thread c.args.mutex c.held_by.result
+    finish_holds c.args.core.now c.finish.new.self c.args.thread c.args.mutex c.held_by.result
     (c.held_by.ensures ∙ ap held_by c.finish.ensures.seen) c.finish.ensures.after

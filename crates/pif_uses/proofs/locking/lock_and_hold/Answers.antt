@@ -6,5 +6,5 @@ use Rattle.pif_uses.proofs.locking.lock_and_hold.Goals as goal
 
 pub returns-clause-holds : goal.returns-clause-holds
 returns-clause-holds c =
-    lock_holds c.args.core.now c.call.new.core c.args.thread c.args.mutex c.held_by.result
+    lock_holds c.args.core.now c.call.new.self c.args.thread c.args.mutex c.held_by.result
     (c.held_by.ensures ∙ ap held_by c.call.ensures.seen) c.call.ensures.after

@@ -5,7 +5,7 @@ use Rattle.pif_model.specs.declared.events.Seen.{Seen}
 use Rattle.pif_model.specs.declared.events.Seen.TheVariants.{Answered}
 use Rattle.pif_model.specs.History.{hold_count}
 use Rattle.pif_model.specs.Table.{Table}
-use Rattle.pif_uses.specs.Calls.{call_outcome, after_call}
+use Rattle.pif_calls.specs.Calls.{call_outcome, after_call}
 use Rattle.pif_uses.specs.declared.locking.Held.{Held}
 use Rattle.pif_uses.specs.Holding.{HoldsOn, if_died, locked}
 use Rattle.pif_uses.proofs.FineLemmas.{consistent_fine}
@@ -20,23 +20,23 @@ returns-in-Answered-eq0-clause-holds c = λ h r w st.
     let u = locked t m c.args.core.now in
     let k = after_call t (Lock m) c.args.core.now h in
     let n = hold_count t m h + 1 in
-    subst (λ (f : Result Held Seen). HoldsOn t m n c.call.new.core (if_died f k (after_call t (Consistent m) u k)) r w)
+    subst (λ (f : Result Held Seen). HoldsOn t m n c.call.new.self (if_died f k (after_call t (Consistent m) u k)) r w)
     (ap Ok (sym c.in-Ok-OwnerDied.field-0-is) ∙ sym c.in-Ok-OwnerDied.is ∙ c.lock_and_hold.ensures.answer)
-    (subst (λ (s : Table). HoldsOn t m n c.call.new.core (after_call t (Consistent m) s k) r w)
+    (subst (λ (s : Table). HoldsOn t m n c.call.new.self (after_call t (Consistent m) s k) r w)
     c.lock_and_hold.ensures.after
-    (consistent_holds c.lock_and_hold.new.core c.call.new.core t m (hold_count t m h) k r w
+    (consistent_holds c.lock_and_hold.new.core c.call.new.self t m (hold_count t m h) k r w
     (c.in-Ok-OwnerDied.ensures.holds h r w st)
     (sym c.call.ensures.seen ∙ c.in-Answered-eq0.is ∙ ap Answered c.in-Answered-eq0.field-0-test) c.call.ensures.after))
 
 pub returns-in-Answered-eq0-clause-stands : goal.returns-in-Answered-eq0-clause-stands
 returns-in-Answered-eq0-clause-stands c =
-    died_stands c.args.core.now c.lock_and_hold.new.core c.call.new.core c.args.thread c.args.mutex
+    died_stands c.args.core.now c.lock_and_hold.new.core c.call.new.self c.args.thread c.args.mutex
     (ap Ok (sym c.in-Ok-OwnerDied.field-0-is) ∙ sym c.in-Ok-OwnerDied.is ∙ c.lock_and_hold.ensures.answer)
     c.lock_and_hold.ensures.stands c.lock_and_hold.ensures.after c.call.ensures.after
 
 pub returns-in_default-clause-stands : goal.returns-in_default-clause-stands
 returns-in_default-clause-stands c =
-    died_stands c.args.core.now c.lock_and_hold.new.core c.call.new.core c.args.thread c.args.mutex
+    died_stands c.args.core.now c.lock_and_hold.new.core c.call.new.self c.args.thread c.args.mutex
     (ap Ok (sym c.in-Ok-OwnerDied.field-0-is) ∙ sym c.in-Ok-OwnerDied.is ∙ c.lock_and_hold.ensures.answer)
     c.lock_and_hold.ensures.stands c.lock_and_hold.ensures.after c.call.ensures.after
 
@@ -52,13 +52,13 @@ returns-in-Ok-InOrder-clause-holds c = λ h r w st.
 
 pub returns-in_default-2-clause-stands : goal.returns-in_default-2-clause-stands
 returns-in_default-2-clause-stands c =
-    died_stands c.args.core.now c.lock_and_hold.new.core c.call.new.core c.args.thread c.args.mutex
+    died_stands c.args.core.now c.lock_and_hold.new.core c.call.new.self c.args.thread c.args.mutex
     (ap Ok (sym c.in-Ok-OwnerDied.field-0-is) ∙ sym c.in-Ok-OwnerDied.is ∙ c.lock_and_hold.ensures.answer)
     c.lock_and_hold.ensures.stands c.lock_and_hold.ensures.after c.call.ensures.after
 
 pub returns-in-Answered-eq0-clause-fine : goal.returns-in-Answered-eq0-clause-fine
 returns-in-Answered-eq0-clause-fine c = λ h r w st apart.
-    consistent_fine c.lock_and_hold.new.core c.call.new.core c.args.thread c.args.mutex
+    consistent_fine c.lock_and_hold.new.core c.call.new.self c.args.thread c.args.mutex
     (c.lock_and_hold.ensures.stands h r w st).stands.sound
     (sym c.call.ensures.seen ∙ c.in-Answered-eq0.is ∙ ap Answered c.in-Answered-eq0.field-0-test) c.call.ensures.after
 

@@ -11,8 +11,8 @@ use Rattle.pif_model.specs.Standing.{Stands}
 use Rattle.pif_model.specs.Table.{Table}
 use Rattle.pif_model.specs.Lines.{Outcome, event_outcome, goes_on}
 use Rattle.pif_simulation.proofs.StandingLaws.{event_stands}
-use Rattle.pif_uses.specs.Calls.{StandsOn, call_outcome, after_call, after_finish, gone, steps_before, went}
-use Rattle.pif_uses.proofs.CallLemmas.{call_other, call_refused, called-other, called-refused, goes_on-other, goes_on-went, gone-other, gone-went, is_refused, is_went}
+use Rattle.pif_calls.specs.Calls.{StandsOn, call_outcome, after_call, after_finish, gone, steps_before, went}
+use Rattle.pif_calls.proofs.CallLemmas.{call_other, call_refused, called-other, called-refused, goes_on-other, goes_on-went, gone-other, gone-went, is_refused, is_went}
 
 -- a run that goes on from a state that itself was reached by one step more
 later : {s : Table} {h : List Entry} {r : List World} {w v : World} → StandsOn s h (w ∷ r) v → StandsOn s h r w

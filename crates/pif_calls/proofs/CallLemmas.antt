@@ -9,7 +9,7 @@ use Rattle.pif_model.specs.declared.events.Entry.{Entry}
 use Rattle.pif_model.specs.declared.events.Entry.TheVariants.{Step as Happened}
 use Rattle.pif_model.specs.Table.{Table}
 use Rattle.pif_model.specs.Lines.{Outcome, event_outcome, goes_on}
-use Rattle.pif_uses.specs.Calls.{call_outcome, after_call, after_finish, gone, steps_before, went}
+use Rattle.pif_calls.specs.Calls.{call_outcome, after_call, after_finish, gone, steps_before, went}
 
 -- ---- what is chosen by an answer
 

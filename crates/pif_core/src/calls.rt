@@ -1,0 +1,51 @@
+ghost use Rattle.std.specs.Prelude.{ℕ, ◌≡◌, ◌≢◌};
+ghost use Rattle.pif_model.specs.declared.events.Seen.TheVariants.{Went};
+ghost use Rattle.pif_model.specs.Standing.{WhereStands};
+ghost use Rattle.pif_model.specs.Lines.{goes_on};
+ghost use Rattle.pif_calls.specs.Calls.{StandsOn, call_outcome, after_call, after_finish};
+
+use crate::Core;
+use pif_model::{Event, Seen};
+use pif_types::{Request, Tid};
+
+/// How often `Core::finish` goes on at most, after the first time: one less than the 24 steps within which an open call
+/// is answered or waits (`Core::step`, `ends`).
+pub const MORE_STEPS: u32 = 23;
+
+impl Core {
+    /// A whole call: the thread begins it, and goes on as in `finish`. `Refused` says that nothing has changed: the
+    /// thread was never added or the call names what was never added (`NoSuch`), the thread has ended (`Dead`), or it
+    /// has a call open already (`Busy`).
+    #[tactic(auto, unfolding(pif_calls::specs::Calls::call_outcome))]
+    pub fn call(&mut self, thread: Tid, request: Request) -> Seen
+        ensures seen { result ≡ (call_outcome thread request self.old).seen }
+        ensures after { self.new ≡ (call_outcome thread request self.old).after }
+        ensures ends { result ≢ Went }
+        ensures stands { WhereStands self.old (λ h r w. StandsOn self.new (after_call thread request self.old h) r w) }
+    {
+        match self.step(Event::Begin(thread, request)) {
+            Seen::Refused(refusal) => Seen::Refused(refusal),
+            _ => self.finish(thread),
+        }
+    }
+
+    /// A thread goes on with its open call up to the first answer that isn't `Went`, at most 24 times; that is enough
+    /// for each call of POSIX here, so the answer is never `Went`. `Answered` closes the call, with 0 or the number of
+    /// an error. `Waits` leaves it open: the thread waits for others, and once they have had their turns this is called
+    /// again. `Refused` says that nothing has changed: the thread was never added (`NoSuch`), has ended (`Dead`), or
+    /// has no call open (`Idle`).
+    pub fn finish(&mut self, thread: Tid) -> Seen
+        ensures seen { result ≡ (goes_on 23 thread self.old).seen }
+        ensures after { self.new ≡ (goes_on 23 thread self.old).after }
+        ensures ends { result ≢ Went }
+        ensures stands { WhereStands self.old (λ h r w. StandsOn self.new (after_finish thread self.old h) r w) }
+    {
+        for _turn in 0..MORE_STEPS {
+            match self.step(Event::Go(thread)) {
+                Seen::Went => {}
+                seen => return seen,
+            }
+        }
+        self.step(Event::Go(thread))
+    }
+}
