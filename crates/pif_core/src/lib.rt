@@ -34,8 +34,6 @@
 mod calls;
 mod cores;
 mod readers;
-#[cfg(test)]
-mod tests;
 
 pub use calls::MORE_STEPS;
 pub use cores::Core;

@@ -16,6 +16,3 @@ pub use events::{Next, next_after, one_event};
 pub use locking::{Held, add_under, finish_lock, lock_and_hold, lock_and_repair};
 pub use pif_core::{Core, Entry, Event, Seen};
 pub use waiting::{Awaited, resume_wait, wait_unless};
-
-#[cfg(test)]
-mod tests;

@@ -1,6 +1,6 @@
 mod deadlines;
 
-use crate::Core;
+use pif_core::Core;
 use pif_model::{Event, Seen, Status, Woken};
 use pif_types::{AddFault, CondId, Health, Kind, Limits, MutexId, Prio, Refusal, Request, Tid};
 use std::alloc::Global;

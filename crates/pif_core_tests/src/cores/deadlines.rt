@@ -1,7 +1,7 @@
 //! Deadlines of locks and waits: when one is reached, and when it counts no more. Mutex 1 is of kind NORMAL, robust or
 //! stalled; mutexes 2 and 3 are stalled; variable 1 is bound to mutex 1.
 use super::call;
-use crate::{Core, Event, Seen};
+use pif_core::{Core, Event, Seen};
 use pif_types::{CondId, Kind, Limits, MutexId, Refusal, Request, Tid};
 use std::alloc::Global;
 use std::process::Abort;

@@ -1,9 +1,9 @@
 //! Each way out of the callers that do more than one call: what is answered, what is protected, and who owns the mutex.
 
 use super::{Scene, core_of, fill_with, play};
-use crate::{Awaited, Held, add_under, lock_and_repair, resume_wait, wait_unless};
 use pif_core::{Core, Event, Seen};
 use pif_types::{CondId, Health, Kind, MutexId, Refusal, Request, Tid};
+use pif_uses::{Awaited, Held, add_under, lock_and_repair, resume_wait, wait_unless};
 use std::process::Abort;
 use std::test::Fail;
 

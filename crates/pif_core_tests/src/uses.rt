@@ -1,11 +1,11 @@
 mod ways_out;
 
-use crate::{
+use pif_core::{Core, Event, Seen};
+use pif_types::{AddFault, CondId, Health, Kind, Limits, MutexId, Refusal, Request, Tid};
+use pif_uses::{
     Awaited, Held, Next, add_under, finish_lock, lock_and_hold, lock_and_repair, next_after,
     one_event, resume_wait, wait_unless,
 };
-use pif_core::{Core, Event, Seen};
-use pif_types::{AddFault, CondId, Health, Kind, Limits, MutexId, Refusal, Request, Tid};
 use std::alloc::Global;
 use std::process::Abort;
 use std::test::Fail;

@@ -1,0 +1,12 @@
+//! Tests of a core and of the callers that rest on it. Beside tests there is nothing in it.
+//!
+//! | Module | Tests of |
+//! |---|---|
+//! | `cores` | `pif_core`: events, additions, whole calls and readers; below it `deadlines` |
+//! | `uses` | `pif_uses`: the callers to copy from; below it each of their ways out |
+#![tactic(auto)]
+
+#[cfg(test)]
+mod cores;
+#[cfg(test)]
+mod uses;
