@@ -3,15 +3,12 @@ ghost use Rattle.arrayvec.specs.ArrayVec.{array_vec_len};
 ghost use Rattle.pif_cli.specs.Messages.{is_shown};
 
 use arrayvec::ArrayVec;
-use pif_scripts::write_whole;
+use pif_scripts::{MOST_LINE, write_whole};
 use std::fmt::Write;
 use std::{fmt, io};
 
 /// The most bytes of a message, its LF included.
 const MESSAGE_ROOM: usize = 512;
-
-/// The most bytes in which a line is shown.
-const MOST_SHOWN: usize = 120;
 
 /// A line for the standard error while it is made, of printable ASCII. It stands on the stack; what has no room is left
 /// out.
@@ -60,9 +57,9 @@ impl Message {
         }
     }
 
-    /// Appends the bytes of a line so that each can be seen, cut at 120 bytes.
+    /// Appends the bytes of a line so that each can be seen, cut where what is shown is as long as a line may be.
     pub fn show(&mut self, line: &[u8]) {
-        let end = self.bytes.len() + MOST_SHOWN;
+        let end = self.bytes.len() + MOST_LINE;
         for byte in line {
             if self.bytes.len() + shown_length(*byte) > end {
                 return;

@@ -3,11 +3,9 @@ ghost use Rattle.pif_stories.specs.Verdicts.{differing_line, faulty_line, ok_lin
 
 use crate::comparing::Flaw;
 use itoa::Buffer;
+use pif_scripts::MOST_LINE;
 use pif_text::{Cause, Text, fault_text};
 use std::alloc::{AllocError, Global};
-
-/// The most bytes of a command or an answer that are shown.
-const MOST_SHOWN: usize = 120;
 
 /// The byte, or what stands for it if it is not printable.
 fn printable(byte: u8) -> u8
@@ -19,12 +17,12 @@ fn printable(byte: u8) -> u8
     }
 }
 
-/// Appends a text as it is shown.
+/// Appends a text as it is shown: as many of its bytes as a line may have.
 #[tactic(auto, using(std::proofs::lemmas::List::take_min))]
 fn append_shown(line: &mut Vec<u8>, text: &[u8]) -> Result<(), AllocError>
     ensures { OnOk result (line.new.items ≡ line.old.items ++ shown text.now) }
 {
-    for byte in &text[..MOST_SHOWN.min(text.len())] {
+    for byte in &text[..MOST_LINE.min(text.len())] {
         line.push(printable(*byte))?;
     }
     Ok(())
