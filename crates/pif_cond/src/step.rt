@@ -12,7 +12,7 @@ ghost use Rattle.pif_cond.specs.Conditions.{is_of_conditions, is_of_wait, is_own
 
 use crate::uses::{use_exchange, use_load, use_reload, use_requeue};
 use crate::wait::{wait_expire, wait_load, wait_park, wait_parked, wait_uses};
-use pif_kernel::PiKernel;
+use pif_kernel_calls::PiKernel;
 use pif_model::{Line, Place, WakeStep};
 use pif_mutex::{Parts, Progress, State, told};
 use pif_types::{CondId, Errno, MutexId, Request, Tid};

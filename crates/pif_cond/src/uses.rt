@@ -5,7 +5,7 @@ ghost use Rattle.pif_model.specs.Lines.{goes_to, more_in, use_read, use_exchange
 ghost use Rattle.pif_model.specs.Table.{has_thread, has_cond, uses_of};
 ghost use Rattle.pif_mutex.specs.Outcomes.{outcome_of};
 
-use pif_kernel::PiKernel;
+use pif_kernel_calls::PiKernel;
 use pif_model::{Place, WakeStep};
 use pif_mutex::{Progress, State};
 use pif_types::{CondId, Errno, Request, Tid};

@@ -6,7 +6,7 @@ ghost use Rattle.pif_model.specs.PiKernel.{is_living, is_ready};
 ghost use Rattle.pif_model.specs.Table.{has_thread, has_mutex, has_cond, status_at};
 ghost use Rattle.pif_mutex.specs.Outcomes.{outcome_of};
 
-use pif_kernel::{PiKernel, Status, Woken};
+use pif_kernel_calls::{PiKernel, Status, Woken};
 use pif_model::{GiveStep, Place, Purpose, Timer};
 use pif_mutex::{Progress, State};
 use pif_types::{CondId, Errno, MutexId, Request, Tid};

@@ -1,15 +1,10 @@
--- How the answers of the code read as those of the kernel by itself.
+-- How the answers of the tests of a call read as those of the call.
 use Rattle.std.specs.Prelude.{Result, Ok, Err}
 use Rattle.pif_types.specs.declared.errors.Errno.{Errno}
 use Rattle.pif_model.specs.declared.lines.Took.{Took}
 use Rattle.pif_model.specs.declared.lines.Took.TheVariants.{Queued}
 
--- a call's answer, where success says no more
-abbrev pub unit_answer : Result (Unit {0}) Errno → Result (record {}) Errno
-unit_answer (Ok x) = Ok (record {})
-unit_answer (Err e) = Err e
-
--- the same, by a test that says on success what it found
+-- a call's answer, by a test that says on success what it found
 abbrev pub test_answer : {A : Type 0} → Result A Errno → Result (record {}) Errno
 test_answer (Ok x) = Ok (record {})
 test_answer (Err e) = Err e

@@ -4,8 +4,8 @@ ghost use Rattle.pif_kernel.specs.Inside.{kernel_of, next_ticket};
 
 use crate::chains::Chains;
 use crate::parts::Parts;
-use crate::pi_kernel::PiKernel;
 use crate::refusals::Found;
+use pif_kernel_calls::PiKernel;
 use pif_model::{Status, Took};
 use pif_robust::RobustLists;
 use pif_types::{CondId, Errno, Limits, MutexId, NoMemory, Prio, Tid};

@@ -5,7 +5,7 @@ ghost use Rattle.pif_mutex.specs.Outcomes.{outcome_of};
 
 use crate::progress::Progress;
 use crate::state::{FINE, INCONSISTENT, State};
-use pif_kernel::PiKernel;
+use pif_kernel_calls::PiKernel;
 use pif_model::{Place, RepairStep};
 use pif_types::{Errno, MutexId, Request, Tid};
 use pif_word::number;

@@ -7,7 +7,7 @@ ghost use Rattle.pif_model.specs.Table.{new_mutex};
 ghost use Rattle.pif_model.specs.Word.{word_at};
 
 use crate::state::State;
-use pif_kernel::PiKernel;
+use pif_kernel_calls::PiKernel;
 use pif_model::Line;
 use pif_types::{MutexId, Tid};
 use pif_word::number;

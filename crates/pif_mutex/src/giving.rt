@@ -8,7 +8,7 @@ ghost use Rattle.pif_mutex.specs.Outcomes.{outcome_of};
 
 use crate::progress::Progress;
 use crate::state::{INCONSISTENT, State, UNUSABLE};
-use pif_kernel::PiKernel;
+use pif_kernel_calls::PiKernel;
 use pif_model::{Footing, GiveStep, Place, Purpose};
 use pif_types::{Errno, MutexId, Request, Tid};
 

@@ -2,10 +2,10 @@ ghost use Rattle.std.specs.Prelude.{◌≡◌, true, false};
 ghost use Rattle.pif_model.specs.PiKernel.{is_ready, lock_answer, words_after_lock, kernel_after_lock, try_lock_answer, words_after_try_lock, unlock_answer, words_after_unlock, kernel_after_unlock, set_prio_answer, kernel_after_set_prio, kernel_after_stop, kernel_after_expire, wait_requeue_answer, kernel_after_wait_requeue, requeue_answer, after_requeue, is_living, after_exit};
 ghost use Rattle.pif_model.specs.RobustList.{robust_at, walk_of, without_robust};
 ghost use Rattle.pif_model.specs.Table.{has_thread, status_at, with_kernel, with_lists};
-ghost use Rattle.pif_kernel.specs.Answers.{unit_answer};
+ghost use Rattle.pif_kernel_calls.specs.Answers.{unit_answer};
 
 use crate::state::State;
-use pif_kernel::PiKernel;
+use pif_kernel_calls::PiKernel;
 use pif_model::Took;
 use pif_types::{CondId, Errno, MutexId, Tid};
 

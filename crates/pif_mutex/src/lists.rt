@@ -4,7 +4,7 @@ ghost use Rattle.pif_model.specs.RobustList.{robust_at, is_listed, with_half_lin
 ghost use Rattle.pif_model.specs.Table.{has_thread, has_mutex, with_lists};
 
 use crate::state::State;
-use pif_kernel::PiKernel;
+use pif_kernel_calls::PiKernel;
 use pif_types::{MutexId, Tid};
 
 /// The accesses of the robust lists, one word each.

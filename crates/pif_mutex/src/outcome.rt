@@ -1,12 +1,12 @@
 ghost use Rattle.std.specs.Prelude.{◌≡◌, true};
 ghost use Rattle.pif_model.specs.Table.{has_thread, has_mutex};
 ghost use Rattle.pif_model.specs.Lines.{goes_to, goes_by, ends_by, waits_at, answers, answered_by, clears, pending};
-ghost use Rattle.pif_kernel.specs.Answers.{unit_answer};
+ghost use Rattle.pif_kernel_calls.specs.Answers.{unit_answer};
 ghost use Rattle.pif_mutex.specs.Outcomes.{outcome_of};
 
 use crate::progress::Progress;
 use crate::state::State;
-use pif_kernel::PiKernel;
+use pif_kernel_calls::PiKernel;
 use pif_model::{Line, Place};
 use pif_types::{Answer, Errno, MutexId, Request, Tid};
 

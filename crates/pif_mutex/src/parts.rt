@@ -12,7 +12,7 @@ ghost use Rattle.pif_mutex.specs.Steppable.{is_of_mutexes};
 use crate::deadlines::{plain, timed, timer_of};
 use crate::progress::Progress;
 use crate::state::State;
-use pif_kernel::PiKernel;
+use pif_kernel_calls::PiKernel;
 use pif_model::{Event, Line, Place, Status, WakeStep};
 use pif_types::{CondId, Health, Kind, Limits, MutexId, NoMemory, Prio, Request, Tid};
 use pif_word::{health_in, number};

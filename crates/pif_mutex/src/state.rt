@@ -7,7 +7,7 @@ ghost use Rattle.pif_model.specs.Lines.{is_robust};
 ghost use Rattle.pif_mutex.specs.Assembled.{IsAssembled};
 
 use crate::mutex::Mutex;
-use pif_kernel::PiKernel;
+use pif_kernel_calls::PiKernel;
 use pif_model::{Line, Status, Timer};
 use pif_robust::RobustLists;
 use pif_types::{CondId, Kind, Limits, MutexId, NoMemory, Prio, Tid, push_within, with_room};

@@ -10,7 +10,7 @@ ghost use Rattle.pif_mutex.specs.Steppable.{CallMayStep, is_of_mutexes, waits_at
 use crate::deadlines::told;
 use crate::progress::Progress;
 use crate::state::State;
-use pif_kernel::PiKernel;
+use pif_kernel_calls::PiKernel;
 use pif_model::{GiveStep, Line, LinkStep, Place, Purpose, RepairStep, TakeStep};
 use pif_types::{Errno, MutexId, Request, Tid};
 

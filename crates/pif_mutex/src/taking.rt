@@ -6,7 +6,7 @@ ghost use Rattle.pif_mutex.specs.Outcomes.{outcome_of};
 
 use crate::progress::Progress;
 use crate::state::{INCONSISTENT, State, UNUSABLE};
-use pif_kernel::PiKernel;
+use pif_kernel_calls::PiKernel;
 use pif_model::{GiveStep, LinkStep, Place, Purpose, TakeStep};
 use pif_types::{Errno, MutexId, Request, Tid};
 use pif_word::owner_died;

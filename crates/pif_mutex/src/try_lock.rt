@@ -7,7 +7,7 @@ ghost use Rattle.pif_mutex.specs.Outcomes.{outcome_of};
 use crate::kinds::relock_of;
 use crate::progress::Progress;
 use crate::state::State;
-use pif_kernel::PiKernel;
+use pif_kernel_calls::PiKernel;
 use pif_model::{Footing, Place, Relock, TakeStep};
 use pif_types::{Errno, MutexId, Request, Tid};
 use pif_word::number;

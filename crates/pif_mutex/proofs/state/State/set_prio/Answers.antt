@@ -1,5 +1,5 @@
 -- The parts fit together after the call.
-use Rattle.pif_kernel.specs.Answers.{unit_answer}
+use Rattle.pif_kernel_calls.specs.Answers.{unit_answer}
 use Rattle.pif_mutex.proofs.Assembly.{set_prio_assembled}
 use Rattle.pif_mutex.proofs.state.State.set_prio.Goals as goal
 

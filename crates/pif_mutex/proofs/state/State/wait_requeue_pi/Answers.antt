@@ -1,5 +1,5 @@
 -- The parts fit together after the call.
-use Rattle.pif_kernel.specs.Answers.{unit_answer}
+use Rattle.pif_kernel_calls.specs.Answers.{unit_answer}
 use Rattle.pif_mutex.proofs.Assembly.{wait_requeue_assembled}
 use Rattle.pif_mutex.proofs.state.State.wait_requeue_pi.Goals as goal
 

@@ -1,0 +1,2 @@
+pub use Rattle.pif_model.specs.PiKernel
+pub mod Answers
