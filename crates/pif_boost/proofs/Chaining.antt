@@ -4,14 +4,14 @@ use Rattle.std.specs.List.{list_any}
 use Rattle.std.proofs.lemmas.Bool.{cases_eq, cases_lt, eqb-true, or_cases}
 use Rattle.std.proofs.lemmas.Bool.Decides.{nat_tests}
 use Rattle.pif_nodes.specs.Lists.{has}
-use Rattle.pif_nodes.specs.Table.{Table}
+use Rattle.pif_nodes.specs.Table.{NodeLists}
 use Rattle.pif_nodes.proofs.ListLemmas.{has-append, has-left, has-right, has-head}
 use Rattle.pif_model.specs.Graph.{Reaches}
 use Rattle.pif_model.specs.Graph.Reaches.{here, hop}
 use Rattle.pif_chains.proofs.Hops.{Reaches-then, alone}
-use Rattle.pif_owners.specs.Owners.{Owners, owner_at, waits_on, waits_for, WaitsFor, IsSound}
+use Rattle.pif_owners.specs.Owners.{Owners, owner_at, waits_on, waits_for, WaitsFor, AreSoundOwners}
 use Rattle.pif_rtmutex.specs.States.{States, owners_in}
-use Rattle.pif_rtmutex.specs.Holds.{Holds}
+use Rattle.pif_rtmutex.specs.Holds.{HoldsStates}
 use Rattle.pif_rtmutex.proofs.ViewLemmas.{length-seats}
 use Rattle.pif_boost.specs.Boosts.{IsThread}
 use Rattle.pif_boost.proofs.Greatest.{nobody_waits, out_waits, waits_for-none, waits_for-owner}
@@ -38,12 +38,12 @@ chaining-start v owner =
     no_member : false ≡ true → ⊥
     no_member h = cc
 
-module _ (m : States) (t : Table) (holds : Holds m t) (owner hops at : ℕ) (chain : List ℕ)
+module _ (m : States) (t : NodeLists) (holds : HoldsStates m t) (owner hops at : ℕ) (chain : List ℕ)
     (c : IsChaining (owners_in m t) owner hops at chain) where
   abbrev v : Owners
   v = owners_in m t
 
-  sound : IsSound v
+  sound : AreSoundOwners v
   sound = holds.waiters.sound
 
   -- there are at most as many hops as threads, so there is room for one more

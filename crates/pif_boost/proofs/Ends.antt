@@ -5,8 +5,8 @@ use Rattle.std.specs.List.{filter, range_with_len}
 use Rattle.std.specs.Option.{is_some}
 use Rattle.std.proofs.lemmas.Bool.{cases_eq, eq-eqb, ne_eqb, or_right, false_from_ne_true, true≢false}
 use Rattle.std.proofs.lemmas.Option.{same_Some}
-use Rattle.pif_nodes.specs.Lists.{has, without}
-use Rattle.pif_nodes.specs.Table.{Table}
+use Rattle.pif_nodes.specs.Lists.{has, list_without}
+use Rattle.pif_nodes.specs.Table.{NodeLists}
 use Rattle.pif_nodes.proofs.ListLemmas.{has-head}
 use Rattle.pif_runq.specs.Levels.{Queue, IsLevel, level_of, level_with, Holds, level_after_move}
 use Rattle.pif_runq.proofs.LevelLemmas.{queued_on}
@@ -41,7 +41,7 @@ filter_alone f a (suc n) u low high passes fails =
         (λ x h. fails x (λ s. (let r = has-range (a + 1) n x h in absurd (omega (arith, r.0, s, e))))) i))
     by_place ih (inr ne) = rw (fails a ne) (ih ne)
 
-module _ (v : Owners) (q : Queue) (t : Table) (holds : Holds q t) where
+module _ (v : Owners) (q : Queue) (t : NodeLists) (holds : Holds q t) where
   -- each thread of the run queue but one has the level that it is to have
   abbrev pub AllBut : ℕ → Type 0
   AllBut e = (u p : ℕ) → u ≢ e → IsLevel p → has u (level_of q t p) ≡ true → greatest_base v u ≡ p
@@ -157,10 +157,10 @@ module _ (v : Owners) (q : Queue) (t : Table) (holds : Holds q t) where
           let other : (p == to) ≡ false = ne_eqb p to a in
           let fails : joins v q t p e ≡ false =
           join_here p ∙ ap (λ (c : Bool). c && not (l == p)) (ne_eqb to p (λ s. a (sym s))) in
-          let kept : filter (λ u. greatest_base v u == p) (level_of q t p) ≡ without e (level_of q t p) =
+          let kept : filter (λ u. greatest_base v u == p) (level_of q t p) ≡ list_without e (level_of q t p) =
           filter_on (λ u. greatest_base v u == p) (λ u. not (eqb e u)) (level_of q t p)
           (λ x h. by_number x h (cases_eq e x)) in
-          (λ i. kept i ++ none_joins p fails i) ∙ append-nil (without e (level_of q t p)) ∙ sym (rw other refl)
+          (λ i. kept i ++ none_joins p fails i) ∙ append-nil (list_without e (level_of q t p)) ∙ sym (rw other refl)
         where
           by_number : (x : ℕ) → has x (level_of q t p) ≡ true → ((e ≡ x) ⊎ (e ≡ x → ⊥))
               → (greatest_base v x == p) ≡ not (eqb e x)

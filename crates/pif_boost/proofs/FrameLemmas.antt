@@ -3,15 +3,15 @@ use Rattle.std.proofs.Common.{◌≡◌, ◌⊎◌, ℕ, ◌+◌, ◌-◌, ◌<�
 use Rattle.std.proofs.lemmas.Bool.{cases_lt}
 use Rattle.pif_nodes.specs.declared.keys.Key.{Key}
 use Rattle.pif_nodes.specs.Lists.{has}
-use Rattle.pif_nodes.specs.Table.{Table, list_at, key_at, holder, no_key}
+use Rattle.pif_nodes.specs.Table.{NodeLists, list_at, key_at, holder, no_key}
 use Rattle.pif_runq.specs.Levels.{Queue, IsLevel, IsLevelList, IsThreadNode, list_for, Holds, SameOutside, KeepsQueue}
 use Rattle.pif_rtmutex.specs.States.{States, Row, top_node}
 use Rattle.pif_rtmutex.specs.Frames.{IsBeyond, KeepsOwn}
-use Rattle.pif_rtmutex.specs.Frames.{SameOutside as SameOutsideStates}
+use Rattle.pif_rtmutex.specs.Frames.{SameOutsideStates}
 use Rattle.pif_boost.specs.Frames.{StandsBefore, SameBeyond}
 
 -- what a change of the owner states leaves to the run queue
-pub states-leave : (m : States) (q : Queue) (was now : Table) → StandsBefore m q → SameOutsideStates m was now → KeepsQueue q was now
+pub states-leave : (m : States) (q : Queue) (was now : NodeLists) → StandsBefore m q → SameOutsideStates m was now → KeepsQueue q was now
 states-leave m q was now before same =
     record {
       lists = λ l mine. same.lists l (inr (omega (arith, before.lists, mine.0)));
@@ -30,14 +30,14 @@ level_or_not q l = by_place (cases_lt l q.first_list) (cases_lt l (q.first_list 
     by_place (inr a) (inl b) = inl (a, b)
     by_place (inr a) (inr b) = inr (inr b)
 
-module _ (q after : Queue) (was now : Table) (place : after ≡ record q { mask = after.mask }) (before : Holds q was)
+module _ (q after : Queue) (was now : NodeLists) (place : after ≡ record q { mask = after.mask }) (before : Holds q was)
     (holds : Holds after now) (same : SameOutside q was now) where
   list_same : (l : ℕ) → IsBeyond q.first_list 99 l → list_at now l ≡ list_at was l
   list_same l (inl a) = same.before l a
   list_same l (inr a) = same.behind l a
 
   -- a node on a level is that of a thread, before and after
-  on_level : (x : Queue) (t : Table) → x.first_list ≡ q.first_list → x.first_node ≡ q.first_node → x.threads ≡ q.threads
+  on_level : (x : Queue) (t : NodeLists) → x.first_list ≡ q.first_list → x.first_node ≡ q.first_node → x.threads ≡ q.threads
       → Holds x t → (l n : ℕ) → IsLevelList q l → has n (list_at t l) ≡ true → IsThreadNode q n
   on_level x t list node threads h l n level e =
       let p : ℕ = l - q.first_list + 1 in
@@ -113,7 +113,7 @@ module _ (q after : Queue) (was now : Table) (place : after ≡ record q { mask 
         node_count = ap length same.keys;
       }
 
-pub beyond-states : (m : States) (q : Queue) (was now : Table) → SameOutsideStates m was now → SameBeyond m q was now
+pub beyond-states : (m : States) (q : Queue) (was now : NodeLists) → SameOutsideStates m was now → SameBeyond m q was now
 beyond-states m q was now same =
     record {
       lists = λ l a b. same.lists l a;
@@ -124,7 +124,7 @@ beyond-states m q was now same =
     }
 
 -- two changes after one another
-pub beyond-both : (m : States) (q : Queue) (was then now : Table) → SameBeyond m q was then → SameBeyond m q then now → SameBeyond m q was now
+pub beyond-both : (m : States) (q : Queue) (was then now : NodeLists) → SameBeyond m q was then → SameBeyond m q then now → SameBeyond m q was now
 beyond-both m q was then now a b =
     record {
       lists = λ l x y. b.lists l x y ∙ a.lists l x y;
@@ -135,11 +135,11 @@ beyond-both m q was then now a b =
     }
 
 -- the same of the owner states alone
-pub outside-none : (m : States) (t : Table) → SameOutsideStates m t t
+pub outside-none : (m : States) (t : NodeLists) → SameOutsideStates m t t
 outside-none m t =
     record { lists = λ l a. refl; keys = λ l n a h. refl; holders = λ n a. refl; list_count = refl; node_count = refl }
 
-pub outside-both : (m : States) (was then now : Table) → SameOutsideStates m was then → SameOutsideStates m then now → SameOutsideStates m was now
+pub outside-both : (m : States) (was then now : NodeLists) → SameOutsideStates m was then → SameOutsideStates m then now → SameOutsideStates m was now
 outside-both m was then now a b =
     record {
       lists = λ l x. b.lists l x ∙ a.lists l x;
@@ -150,7 +150,7 @@ outside-both m was then now a b =
     }
 
 -- which rows they have doesn't matter
-pub outside-rows : (m m0 : States) (rows : List Row) (was now : Table) → m ≡ record m0 { rows = rows } → SameOutsideStates m was now
+pub outside-rows : (m m0 : States) (rows : List Row) (was now : NodeLists) → m ≡ record m0 { rows = rows } → SameOutsideStates m was now
     → SameOutsideStates m0 was now
 outside-rows m m0 rows was now e same =
     let s : SameOutsideStates (record m0 { rows = rows }) was now = subst (λ (x : States). SameOutsideStates x was now) e same in

@@ -11,7 +11,7 @@ use Rattle.pif_model.specs.Graph.Reaches.{here, hop}
 use Rattle.pif_chains.proofs.Following.{IsGreatestAt, reaches-from_within, all_apart, no_repeats, greatest_where_above, greatest_where_some}
 use Rattle.pif_chains.proofs.Greatest.{effective_above, effective_attained, effective_own, effective_same}
 use Rattle.pif_chains.proofs.Hops.{Reaches-then, alone, nobody, found, found_below}
-use Rattle.pif_owners.specs.Owners.{Owners, Seat, Wait, no_seat, seat_at, owner_at, waits_on, waits_for, WaitsFor, IsSound}
+use Rattle.pif_owners.specs.Owners.{Owners, Seat, Wait, no_seat, seat_at, owner_at, waits_on, waits_for, WaitsFor, AreSoundOwners}
 use Rattle.pif_boost.specs.Boosts.{IsThread, base_of, local_of, greatest_base, greatest_waiting, with_rank_priority, with_effective, IsRepairedBut}
 
 -- for whom a thread with this wait waits
@@ -23,10 +23,10 @@ pub out_waits : (v : Owners) (x : ℕ) → length v.seats ≤ x → waits_for v 
 out_waits v x l = ap (λ (s : Seat). waits_by v s.wait) (get_or_past v.seats x no_seat l)
 
 -- nor does nobody
-pub nobody_waits : (v : Owners) → IsSound v → waits_for v 0 ≡ 0
+pub nobody_waits : (v : Owners) → AreSoundOwners v → waits_for v 0 ≡ 0
 nobody_waits v s = ap (λ (x : Seat). waits_by v x.wait) s.nobody
 
-pub nobody_base : (v : Owners) → IsSound v → base_of v 0 ≡ 0
+pub nobody_base : (v : Owners) → AreSoundOwners v → base_of v 0 ≡ 0
 nobody_base v s = ap (λ (x : Seat). x.base) s.nobody
 
 -- who waits on no state waits for nobody
@@ -56,7 +56,7 @@ greatest_base-attained v t lt =
     (best.0, best.1, reaches-from_within (length v.seats) (waits_for v) best.0 t best.2, best.3)
 
 -- the same in the subject's words
-pub greatest_base-IsEffective : (v : Owners) → IsSound v → (t : ℕ) → IsThread v t → IsEffective (IsThread v) (WaitsFor v) (base_of v) t (greatest_base v t)
+pub greatest_base-IsEffective : (v : Owners) → AreSoundOwners v → (t : ℕ) → IsThread v t → IsEffective (IsThread v) (WaitsFor v) (base_of v) t (greatest_base v t)
 greatest_base-IsEffective v s t th =
     record {
       attained = (best.0, (some (cases_eq best.0 0), best.1), best.2, best.3);
@@ -74,7 +74,7 @@ greatest_base-IsEffective v s t th =
     some (inr ne) = omega arith
 
 -- nobody is to have no priority
-pub greatest_base-nobody : (v : Owners) → IsSound v → greatest_base v 0 ≡ 0
+pub greatest_base-nobody : (v : Owners) → AreSoundOwners v → greatest_base v 0 ≡ 0
 greatest_base-nobody v s =
     let best : (u : ℕ) × (u < length v.seats) × Reaches (WaitsFor v) u 0 × (base_of v u ≡ greatest_base v 0) = greatest_base-attained v 0 s.least in
     sym best.3 ∙ ap (base_of v) (nobody (waits_for v) refl best.2) ∙ nobody_base v s
@@ -84,7 +84,7 @@ pub greatest_base-least : (v : Owners) (t : ℕ) → t < length v.seats → base
 greatest_base-least v t lt = effective_own (length v.seats) (waits_for v) (base_of v) t lt
 
 -- nor more than 99
-pub greatest_base-most : (v : Owners) (t : ℕ) → IsSound v → t < length v.seats → greatest_base v t ≤ 99
+pub greatest_base-most : (v : Owners) (t : ℕ) → AreSoundOwners v → t < length v.seats → greatest_base v t ≤ 99
 greatest_base-most v t s lt = let best = greatest_base-attained v t lt in omega (arith, best.3, (s.seats best.0).base)
 
 -- what a thread is to have depends on base priorities and waits alone
@@ -96,7 +96,7 @@ greatest_base-same old new threads waits bases t =
 -- ONE THREAD MORE
 
 -- nobody yet
-pub greatest_start : (v : Owners) (t : ℕ) → IsSound v → 0 ≡ greatest_where (λ u. reaches_within (length v.seats) (waits_for v) u t) (base_of v) 1
+pub greatest_start : (v : Owners) (t : ℕ) → AreSoundOwners v → 0 ≡ greatest_where (λ u. reaches_within (length v.seats) (waits_for v) u t) (base_of v) 1
 unfolding greatest_where
 greatest_start v t s = by_test (reaches_within (length v.seats) (waits_for v) 0 t)
   where
@@ -143,7 +143,7 @@ record IsBack (v : Owners) (start k : ℕ) (xs : List ℕ) (t : ℕ) : Type 0 wh
 abbrev IsBacked : Owners → ℕ → Type 0
 IsBacked v t = (u : ℕ) × IsThread v u × Reaches (WaitsFor v) u t × (local_of v t ≤ base_of v u)
 
-module _ (v : Owners) (start : ℕ) (sound : IsSound v) (repaired : IsRepairedBut start v) where
+module _ (v : Owners) (start : ℕ) (sound : AreSoundOwners v) (repaired : IsRepairedBut start v) where
   -- who waits for somebody is a thread
   waiter : (u t : ℕ) → WaitsFor v u t → IsThread v u
   waiter u t a = (some (cases_eq u 0), below (cases_lt u (length v.seats)))

@@ -14,7 +14,7 @@ use Rattle.pif_model.specs.Graph.Reaches.{here}
 use Rattle.pif_chains.proofs.Following.{all_apart, no_repeats, greatest_where_above}
 use Rattle.pif_chains.proofs.Greatest.{greatest_where_most}
 use Rattle.pif_chains.proofs.Hops.{Reaches-then, alone}
-use Rattle.pif_owners.specs.Owners.{Owners, Seat, Wait, no_seat, seat_at, owner_at, waits_on, waits_for, rank_of, WaitsFor, with_seat, IsSound}
+use Rattle.pif_owners.specs.Owners.{Owners, Seat, Wait, no_seat, seat_at, owner_at, waits_on, waits_for, rank_of, WaitsFor, with_seat, AreSoundOwners}
 use Rattle.pif_boost.specs.Boosts.{IsThread, base_of, local_of, greatest_base, greatest_waiting, with_rank_priority, with_effective, IsRepaired, IsRepairedBut}
 use Rattle.pif_boost.proofs.Repairs.{ranked-state}
 use Rattle.pif_boost.proofs.Settled.{ranked-prio}
@@ -108,7 +108,7 @@ module _ (v now : Owners) (at : ℕ) (w : IsWalked v now at) where
       by_place t th (inr ne) = w.repaired.locals t th ne
 
   -- one hop: the thread gets what it is to have, and the walk stands at the one for which it waits
-  module _ (p : ℕ) (then : Owners) (sound : IsSound now) (row : at < length now.seats)
+  module _ (p : ℕ) (then : Owners) (sound : AreSoundOwners now) (row : at < length now.seats)
       (own : p ≡ max (base_of now at) (greatest_waiting now at))
       (is : then ≡ with_seat at (with_effective p (seat_at now at)) now) where
     abbrev next : Owners
@@ -220,7 +220,7 @@ module _ (v now : Owners) (at : ℕ) (w : IsWalked v now at) where
         omega (arith, above, local_here))
 
 -- at the end each thread has what it is to have
-module _ (v now : Owners) (old : IsSound v) (sound : IsSound now) (w : IsWalked v now 0) where
+module _ (v now : Owners) (old : AreSoundOwners v) (sound : AreSoundOwners now) (w : IsWalked v now 0) where
   from_nobody : (t : ℕ) → IsThread now t → Reaches (WaitsFor now) 0 t → ⊥
   from_nobody t th r =
       let e : 0 ≡ t = alone (waits_for now) (nobody_waits now sound) r in
@@ -276,7 +276,7 @@ onway-start v at th =
     no_member : false ≡ true → ⊥
     no_member h = cc
 
-module _ (v : Owners) (sound : IsSound v) (passed : List ℕ) (at : ℕ) (o : IsOnWay v passed at) where
+module _ (v : Owners) (sound : AreSoundOwners v) (passed : List ℕ) (at : ℕ) (o : IsOnWay v passed at) where
   new_there : list_any (eqb at) passed ≡ false
   new_there = false_from_ne_true (list_any (eqb at) passed) (λ h. let c = o.ahead at h in sound.acyclic at c.0 c.1 c.2)
 

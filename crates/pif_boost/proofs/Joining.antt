@@ -3,7 +3,7 @@
 use Rattle.std.proofs.Common.{◌≡◌, ◌≢◌, ◌⊎◌, ◌≤◌, ℕ, suc, true, false, ◌==◌, not, Option, Some, None, length, refl, sym, ap, ◌∙◌, subst, inl, inr}
 use Rattle.std.proofs.lemmas.Bool.{cases_Bool, and_parts, eqb-true, eq-eqb, true≢false}
 use Rattle.pif_nodes.specs.Lists.{has}
-use Rattle.pif_nodes.specs.Table.{Table}
+use Rattle.pif_nodes.specs.Table.{NodeLists}
 use Rattle.pif_model.specs.Graph.{reaches_within, Reaches}
 use Rattle.pif_model.specs.Graph.Reaches.{here, hop}
 use Rattle.pif_chains.proofs.Following.{Follows}
@@ -11,7 +11,7 @@ use Rattle.pif_chains.proofs.Hops.{alone}
 use Rattle.pif_runq.specs.Levels.{Queue, IsLevel, level_of, level_with, Holds, IsQueued}
 use Rattle.pif_runq.proofs.LevelLemmas.{queued_on}
 use Rattle.pif_runq.proofs.LevelWithLemmas.{listed-from_level_with}
-use Rattle.pif_owners.specs.Owners.{Owners, waits_on, waits_for, WaitsFor, IsSound}
+use Rattle.pif_owners.specs.Owners.{Owners, waits_on, waits_for, WaitsFor, AreSoundOwners}
 use Rattle.pif_boost.specs.Boosts.{IsThread, base_of, local_of, greatest_base, is_other, joins, IsRepairedBut}
 use Rattle.pif_boost.proofs.Greatest.{closes, waits_for-none, local_is_greatest}
 use Rattle.pif_boost.proofs.Walks.{admitted_row}
@@ -28,7 +28,7 @@ other_level : (p : ℕ) (o : Option ℕ) → is_other p o ≡ true → (l : ℕ)
 other_level p None e = absurd cc
 other_level p (Some l) e = (l, refl, λ s. true≢false (sym e ∙ ap not (eq-eqb l p s)))
 
-module _ (v : Owners) (q : Queue) (t : Table) (start : ℕ) (sound : IsSound v) (repaired : IsRepairedBut start v)
+module _ (v : Owners) (q : Queue) (t : NodeLists) (start : ℕ) (sound : AreSoundOwners v) (repaired : IsRepairedBut start v)
     (holds : Holds q t)
     (ready : (u : ℕ) → IsQueued q t u → 1 ≤ base_of v u) (running : (u : ℕ) → IsQueued q t u → waits_on v u ≡ None)
     (level : (u p : ℕ) → IsLevel p → has u (level_of q t p) ≡ true → p ≡ local_of v u) where

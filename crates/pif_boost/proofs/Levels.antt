@@ -5,8 +5,8 @@ use Rattle.std.specs.Option.{is_some}
 use Rattle.std.proofs.lemmas.Bool.{cases_eq, cases_Bool, eq-eqb, ne_eqb, eqb-true, or_left, or_right, or_cases, and_left, and_right, false_from_ne_true, true≢false}
 use Rattle.std.proofs.lemmas.Bool.Decides.{nat_tests}
 use Rattle.std.proofs.lemmas.List.Elements.{filter-append}
-use Rattle.pif_nodes.specs.Lists.{has, without}
-use Rattle.pif_nodes.specs.Table.{Table}
+use Rattle.pif_nodes.specs.Lists.{has, list_without}
+use Rattle.pif_nodes.specs.Table.{NodeLists}
 use Rattle.pif_nodes.proofs.ListLemmas.{has-head, has-append, without_absent}
 use Rattle.pif_runq.specs.Levels.{Queue, IsLevel, level_of, level_with, Holds, level_after_move}
 use Rattle.std.proofs.lemmas.Option.{same_Some}
@@ -188,19 +188,19 @@ stage-joined k u f p joining xs e joins into =
 
 -- a thread that goes to another level
 stage-left : (k u : ℕ) (f : ℕ → ℕ) (p : ℕ) (joining : ℕ → Bool) (xs : List ℕ) → u ≡ k + 1 → f u ≢ p → joining u ≡ false
-    → without u (stage k f p joining xs) ≡ stage (k + 1) f p joining xs
+    → list_without u (stage k f p joining xs) ≡ stage (k + 1) f p joining xs
 stage-left k u f p joining xs e leaves out =
-    let kept : without u (filter (stays k f p) xs) ≡ filter (stays (k + 1) f p) xs =
+    let kept : list_without u (filter (stays k f p) xs) ≡ filter (stays (k + 1) f p) xs =
     filter_twice (λ x. not (nat_eq u x)) (stays k f p) xs
     ∙ filter_on (λ x. stays k f p x && not (nat_eq u x)) (stays (k + 1) f p) xs (λ x h. stays_left k u f p x e leaves) in
-    let new : without u (filter joining (range_with_len 1 k)) ≡ filter joining (range_with_len 1 (k + 1)) =
+    let new : list_without u (filter joining (range_with_len 1 k)) ≡ filter joining (range_with_len 1 (k + 1)) =
     without_absent u (filter joining (range_with_len 1 k)) (not_joined k u joining e) ∙ joined_none k u joining e out in
     filter-append (λ x. not (nat_eq u x)) (filter (stays k f p) xs) (filter joining (range_with_len 1 k)) ∙ (λ i. kept i ++ new i)
 
 -- THE RUN QUEUE
 
 -- level p of a run queue once the threads up to k were moved
-abbrev pub leveled_to : ℕ → Owners → Queue → Table → ℕ → List ℕ
+abbrev pub leveled_to : ℕ → Owners → Queue → NodeLists → ℕ → List ℕ
 leveled_to k v q t p = stage k (greatest_base v) p (joins v q t p) (level_of q t p)
 
 -- two levels that are the same wherever one of them is some
@@ -210,7 +210,7 @@ same_levels None (Some y) f g = g y refl
 same_levels (Some x) b f g = sym (f x refl)
 
 -- a thread that two queues have on the same levels is on the same level
-pub level_with-same : (q now : Queue) (t table : Table) (u : ℕ) → Holds q t → Holds now table
+pub level_with-same : (q now : Queue) (t table : NodeLists) (u : ℕ) → Holds q t → Holds now table
     → ((p : ℕ) → IsLevel p → has u (level_of now table p) ≡ has u (level_of q t p)) → level_with now table u ≡ level_with q t u
 level_with-same q now t table u old new same =
     same_levels (level_with now table u) (level_with q t u)
@@ -218,13 +218,13 @@ level_with-same q now t table u old new same =
     (λ p e. let r = listed-from_level_with q t u p old e in level_with-from_listed now table u p new r.0 (same p r.0 ∙ r.1))
 
 -- the next thread is on the level on which it was
-pub next_level : (k u : ℕ) (v : Owners) (q now : Queue) (t table : Table) → u ≡ k + 1 → Holds q t → Holds now table
+pub next_level : (k u : ℕ) (v : Owners) (q now : Queue) (t table : NodeLists) → u ≡ k + 1 → Holds q t → Holds now table
     → ((p : ℕ) → IsLevel p → level_of now table p ≡ leveled_to k v q t p) → level_with now table u ≡ level_with q t u
 next_level k u v q now t table e old new levels =
     level_with-same q now t table u old new (λ p lp. ap (has u) (levels p lp) ∙ stage-has k u (greatest_base v) p (joins v q t p) (level_of q t p) e)
 
 -- one thread more, on some level or none
-pub leveled-more : (k u : ℕ) (v : Owners) (q : Queue) (t : Table) (p : ℕ) → u ≡ k + 1 → Holds q t → IsLevel p
+pub leveled-more : (k u : ℕ) (v : Owners) (q : Queue) (t : NodeLists) (p : ℕ) → u ≡ k + 1 → Holds q t → IsLevel p
     → (if is_some (level_with q t u) then level_after_move u (greatest_base v u) p (leveled_to k v q t p)
     else leveled_to k v q t p) ≡ leveled_to (k + 1) v q t p
 leveled-more k u v q t p e holds lp = by_level (level_with q t u) refl
@@ -241,7 +241,7 @@ leveled-more k u v q t p e holds lp = by_level (level_with q t u) refl
     left level is ne =
         let other : nat_eq p (greatest_base v u) ≡ false = ne_eqb p (greatest_base v u) (λ z. ne (sym z)) in
         let out : joins v q t p u ≡ false = and_left (greatest_base v u == p) (is_other p (level_with q t u)) (ne_eqb (greatest_base v u) p ne) in
-        ap (λ b. if b then (if has u (leveled_to k v q t p) then leveled_to k v q t p else leveled_to k v q t p ++ u ∷ []) else without u (leveled_to k v q t p)) other
+        ap (λ b. if b then (if has u (leveled_to k v q t p) then leveled_to k v q t p else leveled_to k v q t p ++ u ∷ []) else list_without u (leveled_to k v q t p)) other
         ∙ stage-left k u (greatest_base v) p (joins v q t p) (level_of q t p) e ne out
 
     here : (level : ℕ) → level_with q t u ≡ Some level → greatest_base v u ≡ p → ((level ≡ p) ⊎ (level ≡ p → ⊥)) → Goal (Some level)
@@ -251,7 +251,7 @@ leveled-more k u v q t p e holds lp = by_level (level_with q t u) refl
         stage-has k u (greatest_base v) p (joins v q t p) (level_of q t p) e
         ∙ ap (λ (l : ℕ). has u (level_of q t l)) (sym same) ∙ (listed-from_level_with q t u level holds is).1 in
         let out : joins v q t p u ≡ false = ap joining is ∙ and_right (greatest_base v u == p) (not (level == p)) (ap not (eq-eqb level p same)) in
-        ap (λ b. if b then (if has u (leveled_to k v q t p) then leveled_to k v q t p else leveled_to k v q t p ++ u ∷ []) else without u (leveled_to k v q t p)) this
+        ap (λ b. if b then (if has u (leveled_to k v q t p) then leveled_to k v q t p else leveled_to k v q t p ++ u ∷ []) else list_without u (leveled_to k v q t p)) this
         ∙ ap (λ b. if b then leveled_to k v q t p else leveled_to k v q t p ++ u ∷ []) listed
         ∙ stage-kept k u (greatest_base v) p (joins v q t p) (level_of q t p) e eq out
     here level is eq (inr other) =
@@ -261,7 +261,7 @@ leveled-more k u v q t p e holds lp = by_level (level_with q t u) refl
         ∙ false_from_ne_true (has u (level_of q t p)) (λ h. other (same_Some level p (sym is ∙ level_with-from_listed q t u p holds lp h))) in
         let into : joins v q t p u ≡ true =
         ap joining is ∙ (λ i. eq-eqb (greatest_base v u) p eq i && not (ne_eqb level p other i)) in
-        ap (λ b. if b then (if has u (leveled_to k v q t p) then leveled_to k v q t p else leveled_to k v q t p ++ u ∷ []) else without u (leveled_to k v q t p)) this
+        ap (λ b. if b then (if has u (leveled_to k v q t p) then leveled_to k v q t p else leveled_to k v q t p ++ u ∷ []) else list_without u (leveled_to k v q t p)) this
         ∙ ap (λ b. if b then leveled_to k v q t p else leveled_to k v q t p ++ u ∷ []) absent
         ∙ stage-joined k u (greatest_base v) p (joins v q t p) (level_of q t p) e eq into
 
@@ -281,7 +281,7 @@ leveled-more k u v q t p e holds lp = by_level (level_with q t u) refl
     by_level (Some level) is = subst Goal (sym is) (by_priority level is (cases_eq (greatest_base v u) p))
 
 -- nobody was moved at the start
-pub leveled-start : (v : Owners) (q : Queue) (t : Table) (p : ℕ) → ((u : ℕ) → has u (level_of q t p) ≡ true → 1 ≤ u) → level_of q t p ≡ leveled_to 0 v q t p
+pub leveled-start : (v : Owners) (q : Queue) (t : NodeLists) (p : ℕ) → ((u : ℕ) → has u (level_of q t p) ≡ true → 1 ≤ u) → level_of q t p ≡ leveled_to 0 v q t p
 leveled-start v q t p some =
     sym (append-nil (filter (stays 0 (greatest_base v) p) (level_of q t p))
     ∙ filter_on (stays 0 (greatest_base v) p) (λ x. true) (level_of q t p)
@@ -293,7 +293,7 @@ leveled-start v q t p some =
     all_kept (x ∷ xs) = ap (λ (r : List ℕ). x ∷ r) (all_kept xs)
 
 -- all were at the end
-pub leveled-all : (k : ℕ) (v : Owners) (q : Queue) (t : Table) (p : ℕ) → k + 1 ≡ length v.seats → ((u : ℕ) → has u (level_of q t p) ≡ true → u < length v.seats)
+pub leveled-all : (k : ℕ) (v : Owners) (q : Queue) (t : NodeLists) (p : ℕ) → k + 1 ≡ length v.seats → ((u : ℕ) → has u (level_of q t p) ≡ true → u < length v.seats)
     → leveled_to k v q t p ≡ level_after_walk v q t p
 leveled-all k v q t p e row =
     let kept : filter (stays k (greatest_base v) p) (level_of q t p) ≡ filter (λ x. greatest_base v x == p) (level_of q t p) =

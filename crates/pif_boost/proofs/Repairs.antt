@@ -3,7 +3,7 @@ use Rattle.std.proofs.Common.{◌≡◌, ◌⊎◌, ℕ, zero, suc, ◌<◌, ◌
 use Rattle.std.specs.Prelude.{option_map, option_and_then, unwrap_or, set}
 use Rattle.std.proofs.lemmas.Bool.{cases_eq, cases_lt}
 use Rattle.std.proofs.lemmas.List.{get_or_past, get_or-set_same, get_or-set_other}
-use Rattle.pif_owners.specs.Owners.{Owners, Seat, Wait, no_seat, seat_at, owner_at, waits_on, with_seat, with_local, with_prio, IsSound}
+use Rattle.pif_owners.specs.Owners.{Owners, Seat, Wait, no_seat, seat_at, owner_at, waits_on, with_seat, with_local, with_prio, AreSoundOwners}
 use Rattle.pif_boost.specs.Boosts.{greatest_base, with_rank_priority, with_effective, IsRepaired}
 use Rattle.pif_boost.proofs.Greatest.{greatest_base-same, greatest_base-nobody}
 
@@ -50,7 +50,7 @@ greatest-kept k old new r t =
     (λ x. (alike k old new r x).base) t
 
 -- nobody is repaired from the start
-pub repaired-start : (v : Owners) → IsSound v → IsRepairedTo 0 v v
+pub repaired-start : (v : Owners) → AreSoundOwners v → IsRepairedTo 0 v v
 repaired-start v s =
     record {
       threads = refl;

@@ -9,7 +9,7 @@ use Rattle.std.proofs.lemmas.Bool.Decides.{nat_tests}
 use Rattle.std.proofs.lemmas.List.{get_or_past}
 use Rattle.pif_nodes.specs.declared.keys.Key.{Key}
 use Rattle.pif_nodes.specs.Lists.{has}
-use Rattle.pif_nodes.specs.Table.{Table}
+use Rattle.pif_nodes.specs.Table.{NodeLists}
 use Rattle.pif_nodes.proofs.ListLemmas.{has-append}
 use Rattle.pif_plist.specs.Order.{comes_before}
 use Rattle.pif_model.specs.Graph.{greatest_where}
@@ -130,7 +130,7 @@ rewaited v t start w repaired was now rank =
 
 -- THE RUN QUEUE
 
-module _ (v : Owners) (q now : Queue) (t table : Table)
+module _ (v : Owners) (q now : Queue) (t table : NodeLists)
     (levels : (p : ℕ) → IsLevel p → level_of now table p ≡ level_after_walk v q t p) where
   -- the threads of a level that were on it, and those that joined it
   kept : ℕ → List ℕ
@@ -180,7 +180,7 @@ module _ (v : Owners) (q now : Queue) (t table : Table)
           queued_found q t u holds (some queued.0 (level_with q t u) other)
 
 -- so it is on the level of the effective priority that it has then
-pub walked-level : (v new : Owners) (q now : Queue) (t table : Table) → Holds q t
+pub walked-level : (v new : Owners) (q now : Queue) (t table : NodeLists) → Holds q t
     → ((u : ℕ) → IsQueued q t u → 1 ≤ base_of v u) → IsRepaired v new
     → ((p : ℕ) → IsLevel p → level_of now table p ≡ level_after_walk v q t p)
     → (u p : ℕ) → IsLevel p → has u (level_of now table p) ≡ true → p ≡ local_of new u

@@ -5,15 +5,15 @@ use Rattle.std.specs.Option.{is_some}
 use Rattle.std.proofs.lemmas.Bool.{eqb-true, cases_eq}
 use Rattle.pif_nodes.specs.declared.keys.Key.{Key}
 use Rattle.pif_nodes.specs.Lists.{has}
-use Rattle.pif_nodes.specs.Table.{Table, holder}
+use Rattle.pif_nodes.specs.Table.{NodeLists, holder}
 use Rattle.pif_runq.specs.Levels.{Queue, IsLevel, level_of, level_with, level_for, node_for, level_after_move, Holds, IsQueued, SameOutside}
 use Rattle.pif_runq.proofs.KeptLemmas.{levels-framed, queue-framed}
-use Rattle.pif_owners.specs.Owners.{Owners, Seat, Wait, seat_at, owner_at, waits_on, waits_for, with_seat, IsSound}
+use Rattle.pif_owners.specs.Owners.{Owners, Seat, Wait, seat_at, owner_at, waits_on, waits_for, with_seat, AreSoundOwners}
 use Rattle.pif_owners.proofs.OwnersLemmas.{seat_at-with_seat_same}
 use Rattle.pif_rtmutex.specs.States.{States, owners_in}
-use Rattle.pif_rtmutex.specs.Holds.{Holds as HoldsStates}
+use Rattle.pif_rtmutex.specs.Holds.{HoldsStates}
 use Rattle.pif_rtmutex.specs.Frames.{KeepsOwn}
-use Rattle.pif_rtmutex.specs.Frames.{SameOutside as SameOutsideStates}
+use Rattle.pif_rtmutex.specs.Frames.{SameOutsideStates}
 use Rattle.pif_rtmutex.specs.Maximum.{rank_priority, maximum_of}
 use Rattle.pif_rtmutex.proofs.ViewLemmas.{length-seats}
 use Rattle.pif_rtmutex.proofs.FrameLemmas.{holds-framed, owners-framed}
@@ -45,7 +45,7 @@ maximum_is v start t repaired one =
         ∙ repaired.ranks u w.rank (ap (option_map (λ (y : Wait). y.rank)) e)
 
 -- so many hops of a walk are behind it, and it stands at a thread
-pub record IsWalkingTo (m0 : States) (t0 : Table) (hops at : ℕ) (m : States) (t : Table) : Type 0 where
+pub record IsWalkingTo (m0 : States) (t0 : NodeLists) (hops at : ℕ) (m : States) (t : NodeLists) : Type 0 where
   pub passed : List ℕ
   pub count : length passed ≡ hops
   pub way : IsOnWay (owners_in m0 t0) passed at
@@ -57,12 +57,12 @@ pub record IsWalkingTo (m0 : States) (t0 : Table) (hops at : ℕ) (m : States) (
   pub place : m ≡ record m0 { rows = m.rows }
   pub outside : SameOutsideStates m0 t0 t
 
-module _ (m0 : States) (t0 : Table) (start : ℕ) (states : HoldsStates m0 t0) (repaired : IsRepairedBut start (owners_in m0 t0))
+module _ (m0 : States) (t0 : NodeLists) (start : ℕ) (states : HoldsStates m0 t0) (repaired : IsRepairedBut start (owners_in m0 t0))
     (admitted : 1 ≤ base_of (owners_in m0 t0) start) where
   abbrev v : Owners
   v = owners_in m0 t0
 
-  sound0 : IsSound v
+  sound0 : AreSoundOwners v
   sound0 = states.waiters.sound
 
   pub walking-start : IsWalkingTo m0 t0 0 start m0 t0
@@ -83,7 +83,7 @@ module _ (m0 : States) (t0 : Table) (start : ℕ) (states : HoldsStates m0 t0) (
       some (inl z) = let none : base_of v start ≡ 0 = ap (base_of v) z ∙ nobody_base v sound0 in absurd (omega (arith, none, admitted))
       some (inr ne) = omega (arith, ne)
 
-  module _ (hops at : ℕ) (m : States) (t : Table) (w : IsWalkingTo m0 t0 hops at m t) where
+  module _ (hops at : ℕ) (m : States) (t : NodeLists) (w : IsWalkingTo m0 t0 hops at m t) where
     abbrev now : Owners
     now = owners_in m t
 
@@ -101,7 +101,7 @@ module _ (m0 : States) (t0 : Table) (start : ℕ) (states : HoldsStates m0 t0) (
     walking-some None e = absurd (omega (arith, e, walking-maximum, w.some))
     walking-some (Some p) e = refl
 
-    module _ (p : ℕ) (own : p ≡ maximum_of now at) (m1 : States) (t1 : Table)
+    module _ (p : ℕ) (own : p ≡ maximum_of now at) (m1 : States) (t1 : NodeLists)
         (boosted : owners_in m1 t1 ≡ with_seat at (with_effective p (seat_at now at)) now)
         (place : m1 ≡ record m { rows = m1.rows }) (outside : SameOutsideStates m t t1) (holds : HoldsStates m1 t1) where
       abbrev after : Owners
@@ -169,14 +169,14 @@ module _ (m0 : States) (t0 : Table) (start : ℕ) (states : HoldsStates m0 t0) (
         (ready : (u : ℕ) → IsQueued q0 t0 u → 1 ≤ base_of v u) (running : (u : ℕ) → IsQueued q0 t0 u → waits_on v u ≡ None)
         (level : (u p : ℕ) → IsLevel p → has u (level_of q0 t0 p) ≡ true → p ≡ local_of v u) where
       -- what follows of the owner states once nothing is left
-      all_but : (final : Owners) (e : ℕ) → IsSound final → IsWalked v final 0
+      all_but : (final : Owners) (e : ℕ) → AreSoundOwners final → IsWalked v final 0
           → ((u : ℕ) → u ≢ e → waits_for v u ≡ 0 → local_of final u ≡ local_of v u) → AllBut v q0 t0 queue e
       all_but final e sound done ends u p ne lp on =
           let queued : IsQueued q0 t0 u = (p, lp, on) in
           sym (walked-local v final sound0 sound done u (admitted_row v u (ready u queued)))
           ∙ ends u ne (waits_for-none v u (running u queued)) ∙ sym (level u p lp on)
 
-      done : (m1 : States) (t1 : Table) (q1 : Queue) → HoldsStates m1 t1 → IsWalked v (owners_in m1 t1) 0
+      done : (m1 : States) (t1 : NodeLists) (q1 : Queue) → HoldsStates m1 t1 → IsWalked v (owners_in m1 t1) 0
           → ((p : ℕ) → IsLevel p → level_of q1 t1 p ≡ level_after_walk v q0 t0 p) → SameBeyond m0 q0 t0 t1
           → q1 ≡ record q0 { mask = q1.mask } → m1 ≡ record m0 { rows = m1.rows } → Holds q1 t1
           → IsDone m0 t0 q0 (hops + 1) m1 t1 q1
@@ -212,7 +212,7 @@ module _ (m0 : States) (t0 : Table) (start : ℕ) (states : HoldsStates m0 t0) (
           (queue-framed q0 t0 t keeps queue w.holds.waiters.apart)
 
       -- it ends at a thread that waits for nobody
-      module _ (p : ℕ) (own : p ≡ maximum_of now at) (m1 : States) (t1 : Table)
+      module _ (p : ℕ) (own : p ≡ maximum_of now at) (m1 : States) (t1 : NodeLists)
           (boosted : owners_in m1 t1 ≡ with_seat at (with_effective p (seat_at now at)) now)
           (place : m1 ≡ record m { rows = m1.rows }) (outside : SameOutsideStates m t t1) (holds : HoldsStates m1 t1) where
         whole : SameOutsideStates m0 t0 t1
@@ -221,7 +221,7 @@ module _ (m0 : States) (t0 : Table) (start : ℕ) (states : HoldsStates m0 t0) (
         pub ended_holds : Holds q0 t1
         ended_holds = queue-framed q0 t0 t1 (states-leave m0 q0 t0 t1 apart whole) queue holds.waiters.apart
 
-        pub walking-ended : (q2 : Queue) (t2 : Table) → waits_on (owners_in m1 t1) at ≡ None
+        pub walking-ended : (q2 : Queue) (t2 : NodeLists) → waits_on (owners_in m1 t1) at ≡ None
             → ((r : ℕ) → IsLevel r → level_of q2 t2 r ≡ level_after_move_if_queued q0 t1 at p r) → SameOutside q0 t1 t2
             → q2 ≡ record q0 { mask = q2.mask } → Holds q2 t2 → IsDone m0 t0 q0 (hops + 1) m1 t2 q2
         walking-ended q2 t2 none moved same queue_place queue_holds =
@@ -287,7 +287,7 @@ module _ (m0 : States) (t0 : Table) (start : ℕ) (states : HoldsStates m0 t0) (
                 (beyond-queue q0 q2 t1 t2 queue_place ended_holds queue_holds same m0)
 
         -- all others that wait for nobody keep their effective priority
-        pub ended_ends : (q2 : Queue) (t2 : Table) → SameOutside q0 t1 t2 → q2 ≡ record q0 { mask = q2.mask } → Holds q2 t2
+        pub ended_ends : (q2 : Queue) (t2 : NodeLists) → SameOutside q0 t1 t2 → q2 ≡ record q0 { mask = q2.mask } → Holds q2 t2
             → (u : ℕ) → u ≢ at → waits_for v u ≡ 0 → local_of (owners_in m1 t2) u ≡ local_of v u
         ended_ends q2 t2 same queue_place queue_holds u ne z =
             let rows : m1 ≡ record m0 { rows = m1.rows } = rows_then p own m1 t1 boosted place outside holds in

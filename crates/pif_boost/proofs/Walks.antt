@@ -4,12 +4,12 @@ use Rattle.std.specs.Option.{is_some}
 use Rattle.std.proofs.lemmas.Bool.{cases_lt, false_from_ne_true}
 use Rattle.std.proofs.lemmas.List.{get_or_past}
 use Rattle.pif_nodes.specs.Lists.{has}
-use Rattle.pif_nodes.specs.Table.{Table}
+use Rattle.pif_nodes.specs.Table.{NodeLists}
 use Rattle.pif_model.specs.Graph.{IsEffective}
 use Rattle.pif_runq.specs.Levels.{Queue, IsLevel, level_of, level_with, Holds, IsQueued, level_after_move, SameOutside}
 use Rattle.pif_runq.proofs.LevelLemmas.{queued_on}
 use Rattle.pif_runq.proofs.LevelWithLemmas.{queued_found}
-use Rattle.pif_owners.specs.Owners.{Owners, Seat, no_seat, seat_at, WaitsFor, with_seat, IsSound}
+use Rattle.pif_owners.specs.Owners.{Owners, Seat, no_seat, seat_at, WaitsFor, with_seat, AreSoundOwners}
 use Rattle.pif_boost.specs.Boosts.{IsThread, base_of, local_of, greatest_base, with_effective, IsRepaired, IsRepairedBut, level_after_move_if_queued, level_after_walk}
 use Rattle.pif_boost.proofs.Greatest.{greatest_base-least, greatest_base-IsEffective, idle}
 use Rattle.pif_boost.proofs.Levels.{leveled_to, leveled-start, leveled-more, leveled-all, next_level, stage-has}
@@ -28,12 +28,12 @@ admitted_row v u one = by_place (cases_lt u (length v.seats))
     by_place (inr l) = let none : base_of v u ≡ 0 = ap (λ (x : Seat). x.base) (get_or_past v.seats u no_seat l) in absurd (omega arith)
 
 -- a thread that is given no priority is on no level
-pub not_queued : (q : Queue) (t : Table) (u priority : ℕ) → Holds q t → (IsQueued q t u → 1 ≤ priority) → priority ≡ 0 → is_some (level_with q t u) ≡ false
+pub not_queued : (q : Queue) (t : NodeLists) (u priority : ℕ) → Holds q t → (IsQueued q t u → 1 ≤ priority) → priority ≡ 0 → is_some (level_with q t u) ≡ false
 not_queued q t u priority holds ready none =
     false_from_ne_true (is_some (level_with q t u)) (λ e. let l : 1 ≤ priority = ready (queued_found q t u holds e) in absurd (omega arith))
 
 -- what stays outside of a queue over two changes
-outside-both : (q now : Queue) (was table after : Table) → now ≡ record q { mask = now.mask } → SameOutside q was table → SameOutside now table after → SameOutside q was after
+outside-both : (q now : Queue) (was table after : NodeLists) → now ≡ record q { mask = now.mask } → SameOutside q was table → SameOutside now table after → SameOutside q was after
 outside-both q now was table after place first second =
     let at : now.first_list ≡ q.first_list = ap (λ (x : Queue). x.first_list) place in
     record {
@@ -44,7 +44,7 @@ outside-both q now was table after place first second =
     }
 
 -- the threads up to k are repaired, and where they should be in the run queue
-pub record IsWalkedTo (k : ℕ) (v : Owners) (q : Queue) (t : Table) (new : Owners) (now : Queue) (table : Table) : Type 0 where
+pub record IsWalkedTo (k : ℕ) (v : Owners) (q : Queue) (t : NodeLists) (new : Owners) (now : Queue) (table : NodeLists) : Type 0 where
   pub repaired : IsRepairedTo k v new
   pub levels : (p : ℕ) → IsLevel p → level_of now table p ≡ leveled_to k v q t p
   pub outside : SameOutside q t table
@@ -52,7 +52,7 @@ pub record IsWalkedTo (k : ℕ) (v : Owners) (q : Queue) (t : Table) (new : Owne
   pub holds : Holds now table
 
 -- before the first thread
-pub walked-start : (v : Owners) (q : Queue) (t : Table) → IsSound v → Holds q t → IsWalkedTo 0 v q t v q t
+pub walked-start : (v : Owners) (q : Queue) (t : NodeLists) → AreSoundOwners v → Holds q t → IsWalkedTo 0 v q t v q t
 walked-start v q t sound holds =
     record {
       repaired = repaired-start v sound;
@@ -63,7 +63,7 @@ walked-start v q t sound holds =
     }
 
 -- the next thread was queued if it is
-was_queued : (k u : ℕ) (v new : Owners) (q now : Queue) (t table : Table) → u ≡ k + 1 → IsWalkedTo k v q t new now table → IsQueued now table u → IsQueued q t u
+was_queued : (k u : ℕ) (v new : Owners) (q now : Queue) (t table : NodeLists) → u ≡ k + 1 → IsWalkedTo k v q t new now table → IsQueued now table u → IsQueued q t u
 was_queued k u v new q now t table e w queued = (
   queued.0,
   queued.1,
@@ -71,15 +71,15 @@ was_queued k u v new q now t table e w queued = (
 )
 
 -- so it is to have a priority
-pub next_ready : (k u p : ℕ) (v new : Owners) (q now : Queue) (t table : Table) → u ≡ k + 1 → u < length v.seats → p ≡ greatest_base v u
+pub next_ready : (k u p : ℕ) (v new : Owners) (q now : Queue) (t table : NodeLists) → u ≡ k + 1 → u < length v.seats → p ≡ greatest_base v u
     → IsWalkedTo k v q t new now table → ((x : ℕ) → IsQueued q t x → 1 ≤ base_of v x) → IsQueued now table u → 1 ≤ p
 next_ready k u p v new q now t table e row priority w ready queued =
     let one : 1 ≤ base_of v u = ready u (was_queued k u v new q now t table e w queued) in
     omega (arith, greatest_base-least v u row, priority)
 
 -- and where it is to have none, it stays as it is
-pub next_idle : (k u p start : ℕ) (v new : Owners) (q now : Queue) (t table : Table) → u ≡ k + 1 → u < length v.seats → p ≡ greatest_base v u
-    → IsWalkedTo k v q t new now table → IsSound v → IsRepairedBut start v → 1 ≤ base_of v start → p ≡ 0
+pub next_idle : (k u p start : ℕ) (v new : Owners) (q now : Queue) (t table : NodeLists) → u ≡ k + 1 → u < length v.seats → p ≡ greatest_base v u
+    → IsWalkedTo k v q t new now table → AreSoundOwners v → IsRepairedBut start v → 1 ≤ base_of v start → p ≡ 0
     → seat_at new u ≡ with_effective 0 (seat_at new u)
 next_idle k u p start v new q now t table e row priority w sound but admitted none =
     let left : seat_at new u ≡ seat_at v u = w.repaired.left u (omega arith) in
@@ -88,7 +88,7 @@ next_idle k u p start v new q now t table e row priority w sound but admitted no
     ∙ sym (ap (with_effective 0) left)
 
 -- one thread more
-pub walked-more : (k u p : ℕ) (v new after : Owners) (q now then_queue : Queue) (t table then_table : Table) → u ≡ k + 1 → u < length v.seats → p ≡ greatest_base v u
+pub walked-more : (k u p : ℕ) (v new after : Owners) (q now then_queue : Queue) (t table then_table : NodeLists) → u ≡ k + 1 → u < length v.seats → p ≡ greatest_base v u
     → Holds q t → IsWalkedTo k v q t new now table
     → after ≡ with_seat u (with_effective p (seat_at new u)) new
     → ((x : ℕ) → IsLevel x → level_of then_queue then_table x ≡ level_after_move_if_queued now table u p x)
@@ -113,10 +113,10 @@ walked-more k u p v new after q now then_queue t table then_table e row priority
 
 -- AT THE END
 
-pub walked-repaired : (k : ℕ) (v new : Owners) (q now : Queue) (t table : Table) → k + 1 ≡ length v.seats → IsWalkedTo k v q t new now table → IsRepaired v new
+pub walked-repaired : (k : ℕ) (v new : Owners) (q now : Queue) (t table : NodeLists) → k + 1 ≡ length v.seats → IsWalkedTo k v q t new now table → IsRepaired v new
 walked-repaired k v new q now t table e w = repaired-all k v new e w.repaired
 
-pub walked-levels : (k : ℕ) (v new : Owners) (q now : Queue) (t table : Table) → k + 1 ≡ length v.seats → IsWalkedTo k v q t new now table
+pub walked-levels : (k : ℕ) (v new : Owners) (q now : Queue) (t table : NodeLists) → k + 1 ≡ length v.seats → IsWalkedTo k v q t new now table
     → ((x : ℕ) → IsQueued q t x → 1 ≤ base_of v x) → (p : ℕ) → IsLevel p
     → level_of now table p ≡ level_after_walk v q t p
 walked-levels k v new q now t table e w ready p lp =
@@ -127,6 +127,6 @@ pub repaired-local : (v new : Owners) → IsRepaired v new → (t : ℕ) → t <
 repaired-local v new r t l = ap (λ (x : Seat). x.local) (r.seats t l)
 
 -- which is the greatest over any chain
-pub repaired-greatest : (v new : Owners) → IsSound v → IsRepaired v new → (t : ℕ) → IsThread v t → IsEffective (IsThread v) (WaitsFor v) (base_of v) t (local_of new t)
+pub repaired-greatest : (v new : Owners) → AreSoundOwners v → IsRepaired v new → (t : ℕ) → IsThread v t → IsEffective (IsThread v) (WaitsFor v) (base_of v) t (local_of new t)
 repaired-greatest v new s r t th =
     subst (λ (p : ℕ). IsEffective (IsThread v) (WaitsFor v) (base_of v) t p) (sym (repaired-local v new r t th.1)) (greatest_base-IsEffective v s t th)

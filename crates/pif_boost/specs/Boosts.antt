@@ -3,7 +3,7 @@
 use Rattle.std.specs.Prelude.{◌≡◌, ◌≢◌, ℕ, ◌-◌, ◌<◌, ◌≤◌, max, Bool, false, ◌==◌, not, ◌&&◌, List, ◌++◌, length, get_or, if◌then◌else◌, Option, Some, None, option_map, unwrap_or, is_some}
 use Rattle.std.specs.List.{filter, range_with_len}
 use Rattle.pif_nodes.specs.declared.keys.Key.{Key}
-use Rattle.pif_nodes.specs.Table.{Table}
+use Rattle.pif_nodes.specs.Table.{NodeLists}
 use Rattle.pif_runq.specs.Levels.{Queue, level_of, level_with, level_after_move}
 use Rattle.pif_model.specs.Graph.{reaches_within, effective_among, greatest_where}
 use Rattle.pif_owners.specs.Owners.{Owners, Seat, Wait, seat_at, waits_on, rank_of, waits_for}
@@ -66,7 +66,7 @@ pub record IsRepairedBut (start : ℕ) (v : Owners) : Type 0 where
   pub ranks : (t : ℕ) (rank : Key) → rank_of v t ≡ Some rank → rank.prio ≡ local_of v t
 
 -- the threads of level p of a run queue once u, if it is on some level, was moved to level `to`
-abbrev pub level_after_move_if_queued : Queue → Table → ℕ → ℕ → ℕ → List ℕ
+abbrev pub level_after_move_if_queued : Queue → NodeLists → ℕ → ℕ → ℕ → List ℕ
 level_after_move_if_queued q t u to p = if is_some (level_with q t u) then level_after_move u to p (level_of q t p)
     else level_of q t p
 
@@ -76,13 +76,13 @@ is_other p None = false
 is_other p (Some level) = not (level == p)
 
 -- whether u joins level p: it is on another level, and p is the effective priority that it is to have
-abbrev pub joins : Owners → Queue → Table → ℕ → ℕ → Bool
+abbrev pub joins : Owners → Queue → NodeLists → ℕ → ℕ → Bool
 joins v q t p u = (greatest_base v u == p) && is_other p (level_with q t u)
 
 -- level p of a run queue once each of its threads is at the level of the effective priority that it is to have: those
 -- that keep their level in their order, then those that join it in order of their numbers. (sched(7): a thread whose
 -- priority changes joins the end of its new level.)
-abbrev pub level_after_walk : Owners → Queue → Table → ℕ → List ℕ
+abbrev pub level_after_walk : Owners → Queue → NodeLists → ℕ → List ℕ
 level_after_walk v q t p = filter (λ u. greatest_base v u == p) (level_of q t p) ++ filter (joins v q t p)
     (threads_of v)
 

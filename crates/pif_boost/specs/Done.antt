@@ -2,16 +2,16 @@
 use Rattle.std.specs.Prelude.{◌≡◌, ℕ, ◌<◌, true, length}
 use Rattle.pif_model.specs.Graph.{IsEffective}
 use Rattle.pif_nodes.specs.Lists.{has}
-use Rattle.pif_nodes.specs.Table.{Table}
+use Rattle.pif_nodes.specs.Table.{NodeLists}
 use Rattle.pif_runq.specs.Levels.{Queue, IsLevel, level_of, Holds}
 use Rattle.pif_owners.specs.Owners.{WaitsFor, IsTop}
 use Rattle.pif_rtmutex.specs.States.{States, owners_in}
-use Rattle.pif_rtmutex.specs.Holds.{Holds as HoldsStates}
+use Rattle.pif_rtmutex.specs.Holds.{HoldsStates}
 use Rattle.pif_boost.specs.Boosts.{IsThread, base_of, local_of, IsRepaired, IsRepairedBut, IsNext, joins, level_after_walk}
 use Rattle.pif_boost.specs.Frames.{SameBeyond}
 
 -- so many hops of a walk led from the owner states m0 and the run queue q0 in the table t0 to these
-pub record IsDone (m0 : States) (t0 : Table) (q0 : Queue) (hops : ℕ) (m : States) (t : Table) (q : Queue) : Type 0 where
+pub record IsDone (m0 : States) (t0 : NodeLists) (q0 : Queue) (hops : ℕ) (m : States) (t : NodeLists) (q : Queue) : Type 0 where
   -- each thread has the effective priority that it is to have, also where it waits, and all else of the owner states is as
   -- it was
   pub repaired : IsRepaired (owners_in m0 t0) (owners_in m t)

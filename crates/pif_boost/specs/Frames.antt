@@ -1,7 +1,7 @@
 -- Owner states and a run queue that stand in one table, and what a walk leaves of all others there.
 use Rattle.std.specs.Prelude.{◌≡◌, ℕ, ◌+◌, ◌*◌, ◌≤◌, true, length}
 use Rattle.pif_nodes.specs.Lists.{has}
-use Rattle.pif_nodes.specs.Table.{Table, list_at, key_at, holder}
+use Rattle.pif_nodes.specs.Table.{NodeLists, list_at, key_at, holder}
 use Rattle.pif_runq.specs.Levels.{Queue}
 use Rattle.pif_rtmutex.specs.States.{States}
 use Rattle.pif_rtmutex.specs.Frames.{IsBeyond}
@@ -13,7 +13,7 @@ pub record StandsBefore (m : States) (q : Queue) : Type 0 where
 
 -- a change of the owner states and of the run queue left all else in the table: the other lists, with the keys of the
 -- nodes there, in which list each node of others is, and how many lists and nodes there are
-pub record SameBeyond (m : States) (q : Queue) (was now : Table) : Type 0 where
+pub record SameBeyond (m : States) (q : Queue) (was now : NodeLists) : Type 0 where
   pub lists : (l : ℕ) → IsBeyond m.first_list (2 * m.threads) l → IsBeyond q.first_list 99 l → list_at now l ≡ list_at was l
   pub keys : (l n : ℕ) → IsBeyond m.first_list (2 * m.threads) l → IsBeyond q.first_list 99 l
       → has n (list_at was l) ≡ true → key_at now n ≡ key_at was n

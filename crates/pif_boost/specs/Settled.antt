@@ -1,14 +1,14 @@
 -- What holds of owner states and a run queue between two walks.
 use Rattle.std.specs.Prelude.{◌≡◌, ℕ, ◌≤◌, true, None}
 use Rattle.pif_nodes.specs.Lists.{has}
-use Rattle.pif_nodes.specs.Table.{Table}
+use Rattle.pif_nodes.specs.Table.{NodeLists}
 use Rattle.pif_runq.specs.Levels.{Queue, IsLevel, level_of, Holds, IsQueued}
 use Rattle.pif_owners.specs.Owners.{Owners, waits_on}
 use Rattle.pif_boost.specs.Boosts.{base_of, local_of, IsRepairedBut}
 
 -- nothing is left to repair, the queue stands in its table, and who is on it was admitted, waits for nobody and is on
 -- the level of its effective priority
-pub record IsSettled (v : Owners) (q : Queue) (t : Table) : Type 0 where
+pub record IsSettled (v : Owners) (q : Queue) (t : NodeLists) : Type 0 where
   pub repaired : (start : ℕ) → IsRepairedBut start v
   pub holds : Holds q t
   pub ready : (u : ℕ) → IsQueued q t u → 1 ≤ base_of v u

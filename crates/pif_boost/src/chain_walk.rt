@@ -22,8 +22,8 @@ ghost use Rattle.pif_runq.specs.Levels.{IsLevel, level_of, Holds, IsQueued, Same
 ghost use Rattle.pif_model.specs.Graph.{IsEffective};
 ghost use Rattle.pif_owners.specs.Owners.{seat_at, waits_on, waits_for, WaitsFor, with_seat, IsTop};
 ghost use Rattle.pif_rtmutex.specs.States.{owners_in};
-ghost use Rattle.pif_rtmutex.specs.Holds.{Holds as HoldsStates};
-ghost use Rattle.pif_rtmutex.specs.Frames.{SameOutside as SameOutsideStates};
+ghost use Rattle.pif_rtmutex.specs.Holds.{HoldsStates};
+ghost use Rattle.pif_rtmutex.specs.Frames.{SameOutsideStates};
 ghost use Rattle.pif_boost.specs.Boosts.{IsThread, base_of, local_of, greatest_base, greatest_waiting, with_effective, IsRepaired, IsRepairedBut, IsNext, joins, level_after_move_if_queued, level_after_walk};
 ghost use Rattle.pif_boost.specs.Frames.{StandsBefore};
 ghost use Rattle.pif_boost.specs.Done.{IsDone};

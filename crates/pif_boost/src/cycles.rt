@@ -3,7 +3,7 @@ ghost use Rattle.pif_nodes.specs.Lists.{has};
 ghost use Rattle.pif_model.specs.Graph.{Reaches};
 ghost use Rattle.pif_owners.specs.Owners.{WaitsFor};
 ghost use Rattle.pif_rtmutex.specs.States.{owners_in};
-ghost use Rattle.pif_rtmutex.specs.Holds.{Holds};
+ghost use Rattle.pif_rtmutex.specs.Holds.{HoldsStates};
 
 use arrayvec::ArrayVec;
 use pif_nodes::NodeTable;
@@ -13,7 +13,7 @@ use pif_types::Tid;
 /// Whether a wait of the thread `t` for the thread `owner` would close a cycle: whether `owner` is `t`, or waits for it
 /// through any chain (futex(2), EDEADLK). An owner without a row waits for nobody.
 pub fn would_close(owners: &RtMutexes, table: &NodeTable, t: Tid, owner: Tid) -> bool
-    requires { Holds owners.now table.now }
+    requires { HoldsStates owners.now table.now }
     ensures { IsTrue result ↔ Reaches (WaitsFor (owners_in owners.now table.now)) owner t }
 {
     chain_from(owners, table, owner)
@@ -23,7 +23,7 @@ pub fn would_close(owners: &RtMutexes, table: &NodeTable, t: Tid, owner: Tid) ->
 
 /// The numbers of the thread `owner` and of all for whom it waits through a chain.
 fn chain_from(owners: &RtMutexes, table: &NodeTable, owner: Tid) -> ArrayVec<u32, 1024>
-    requires { Holds owners.now table.now }
+    requires { HoldsStates owners.now table.now }
     ensures { (x : ℕ) → (has x result.items ≡ true) ↔ Reaches (WaitsFor (owners_in owners.now table.now)) owner x }
 {
     let mut chain = ArrayVec::new();

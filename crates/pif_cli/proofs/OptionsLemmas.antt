@@ -8,7 +8,7 @@ use Rattle.clap.specs.declared.builder.command.Command.{Command}
 use Rattle.clap.specs.declared.builder.command.Command.TheViews.{out-Command}
 use Rattle.clap.specs.declared.builder.value_parser.ValueParser.TheVariants.{Unsigned}
 use Rattle.clap.proofs.ValueTestLemmas.{Accepts-accepts, accepts-Accepts}
-use Rattle.pif_cli.specs.Options.{number_in}
+use Rattle.pif_cli.specs.Options.{number_between}
 
 -- a number where a test says so
 taken : (b : Bool) (v : ℕ) → b ≡ true → v ≡ (if b then v else 0)
@@ -24,21 +24,21 @@ module _ (low high : ℕ) (text : List ℕ) where
   -- the number that a text writes
   pub number_read : (n : ℕ) → IsNumeral 10 (without_leading_plus text)
       → digits_value 10 (without_leading_plus text) < 2 ^ 64
-      → n ≡ digits_value 10 (without_leading_plus text) → low ≤ n → n ≤ high → n ≡ number_in low high (Some text)
+      → n ≡ digits_value 10 (without_leading_plus text) → low ≤ n → n ≤ high → n ≡ number_between low high (Some text)
   number_read n digits small e least most =
       let within : IsUnsignedIn low high text = (digits, small, omega (arith, e, least), omega (arith, e, most)) in
       e ∙ taken (is_unsigned_in low high text) _ (Accepts-accepts false (Unsigned low high) text within)
 
   -- a text that writes no number
   pub number_refused : (IsNumeral 10 (without_leading_plus text) × (digits_value 10 (without_leading_plus text) < 2 ^ 64) → ⊥)
-      → 0 ≡ number_in low high (Some text)
+      → 0 ≡ number_between low high (Some text)
   number_refused refused =
       left_out (is_unsigned_in low high text) _ (λ (t : is_unsigned_in low high text ≡ true).
       let within : IsUnsignedIn low high text = accepts-Accepts false (Unsigned low high) text t in
       refused (within.0, within.1))
 
 -- a number that is given is within
-pub number_within : (low high : ℕ) (given : Option (List ℕ)) → number_in low high given ≤ high
+pub number_within : (low high : ℕ) (given : Option (List ℕ)) → number_between low high given ≤ high
 number_within low high None = omega arith
 number_within low high (Some text) = by_test (is_unsigned_in low high text) refl
   where

@@ -6,7 +6,7 @@ use Rattle.pif_cli.specs.declared.random.Recipe.{Recipe}
 use Rattle.pif_cli.specs.declared.words.Job.TheVariants.{Run, Replay, Trace, Migrate, Show, Picture, Shell, Check, Fill, Random, Drive}
 use Rattle.pif_cli.specs.declared.pictures.Picture.TheVariants.{Drawing, States, Graph}
 use Rattle.pif_scripts.specs.declared.showing.Detail.TheVariants.{Changes, All}
-use Rattle.pif_cli.specs.Options.{flag_in, number_in}
+use Rattle.pif_cli.specs.Options.{flag_in, number_between}
 use Rattle.pif_cli.specs.Random.{recipe_in}
 use Rattle.pif_cli.specs.Words.{job_by}
 use Rattle.pif_cli.proofs.OptionsLemmas.{number_within}
@@ -51,5 +51,5 @@ lines_within (Some command) recipe e =
     (flag_in (codes "dot") command.1) (flag_in (codes "all") command.1) (bytes_eq command.0 (codes "draw"))
     (bytes_eq command.0 (codes "shell")) (bytes_eq command.0 (codes "check")) (flag_in (codes "print") command.1)
     (bytes_eq command.0 (codes "random")) (bytes_eq command.0 (codes "drive")) (recipe_in command.1) recipe
-    (number_in 1 64 (first_of (codes "N") command.1))
+    (number_between 1 64 (first_of (codes "N") command.1))
     (number_within 1 262144 (first_of (codes "lines") command.1)) e

@@ -24,10 +24,10 @@ abbrev pub chosen_rule : Text → (low high : ℕ) → (default : Text) → Rule
 chosen_rule name low high default = record (number_rule name low high) { defaults = default ∷ [] }
 
 -- the number from low to high that a text writes; 0 if it writes none
-abbrev pub number_in : (low high : ℕ) → Option Text → ℕ
-number_in low high (Some text) =
+abbrev pub number_between : (low high : ℕ) → Option Text → ℕ
+number_between low high (Some text) =
     if is_unsigned_in low high text then digits_value 10 (without_leading_plus text) else 0
-number_in low high None = 0
+number_between low high None = 0
 
 -- a flag's value says that it was given
 abbrev pub is_yes : Option Text → Bool

@@ -6,7 +6,7 @@ use Rattle.pif_random.specs.declared.shapes.Shape.{Shape}
 use Rattle.pif_scripts.specs.CommandLines.{HasNoFault, IsOfCommands}
 use Rattle.pif_scripts.specs.Runs.{WritesPart}
 use Rattle.pif_scripts.specs.declared.faults.CliFault.TheVariants.{Read, Write, NoMemory, Script, Differs}
-use Rattle.pif_cli.specs.Options.{chosen_rule, flag_in, flag_rule, needed_rule, number_in}
+use Rattle.pif_cli.specs.Options.{chosen_rule, flag_in, flag_rule, needed_rule, number_between}
 use Rattle.pif_cli.specs.declared.random.Recipe.{Recipe}
 use Rattle.pif_cli.specs.declared.statuses.JobFault.{JobFault}
 use Rattle.pif_cli.specs.declared.statuses.JobFault.TheVariants.{Cli, Threads, Unsettled}
@@ -36,9 +36,9 @@ random_app = with_flags (with_counts (with_size (new_app (codes "random"))))
 -- what a script is made of, by what was given
 abbrev pub shape_in : List Row → Shape
 shape_in rows = record {
-  threads = number_in 1 1024 (first_of (codes "threads") rows);
-  mutexes = number_in 0 1024 (first_of (codes "mutexes") rows);
-  conds = number_in 0 256 (first_of (codes "conds") rows);
+  threads = number_between 1 1024 (first_of (codes "threads") rows);
+  mutexes = number_between 0 1024 (first_of (codes "mutexes") rows);
+  conds = number_between 0 256 (first_of (codes "conds") rows);
   robust = flag_in (codes "robust") rows;
   ends = flag_in (codes "ends") rows;
   times = flag_in (codes "times") rows;
@@ -51,8 +51,8 @@ plain_shape = record { threads = 4; mutexes = 3; conds = 1; robust = false; ends
 -- the script that is asked for, by what was given
 abbrev pub recipe_in : List Row → Recipe
 recipe_in rows = record {
-  seed = number_in 0 18446744073709551615 (first_of (codes "seed") rows);
-  lines = number_in 1 262144 (first_of (codes "lines") rows);
+  seed = number_between 0 18446744073709551615 (first_of (codes "seed") rows);
+  lines = number_between 1 262144 (first_of (codes "lines") rows);
   shape = shape_in rows;
 }
 

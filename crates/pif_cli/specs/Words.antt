@@ -25,7 +25,7 @@ use Rattle.pif_scripts.specs.Runs.{WritesPart}
 use Rattle.pif_shell.specs.Talks.{TalksTo}
 use Rattle.pif_stories.specs.Checks.{TellsTo, checked, filled}
 use Rattle.pif_cli.specs.Messages.{TellsLine, TellsOf}
-use Rattle.pif_cli.specs.Options.{flag_in, flag_rule, number_in}
+use Rattle.pif_cli.specs.Options.{flag_in, flag_rule, number_between}
 use Rattle.pif_cli.specs.Random.{WritesRandom, random_app, recipe_in}
 use Rattle.pif_cli.specs.Statuses.{job_status}
 use Rattle.pif_cli.specs.Driving.{Drives}
@@ -120,7 +120,7 @@ job_named name rows =
     else (if bytes_eq name (codes "shell") then Shell
     else (if bytes_eq name (codes "check") then (if flag_in (codes "print") rows then Fill else Check)
     else (if bytes_eq name (codes "random") then Random (recipe_in rows)
-    else (if bytes_eq name (codes "drive") then Drive (number_in 1 64 (first_of (codes "N") rows)) else Run))))))))
+    else (if bytes_eq name (codes "drive") then Drive (number_between 1 64 (first_of (codes "N") rows)) else Run))))))))
 
 -- the job of a command, by its name and what was given to it
 abbrev pub job_by : Option (Text × List Row) → Job

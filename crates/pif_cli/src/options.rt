@@ -1,6 +1,6 @@
 ghost use Rattle.std.specs.Prelude.{◌≡◌, ◌≤◌, false, option_map};
 ghost use Rattle.clap.specs.Words.{first_of, found_of, rows_of, rule_of};
-ghost use Rattle.pif_cli.specs.Options.{flag_in, flag_rule, number_in, number_rule};
+ghost use Rattle.pif_cli.specs.Options.{flag_in, flag_rule, number_between, number_rule};
 
 use clap::ArgAction;
 use clap::builder::ValueParser;
@@ -54,8 +54,8 @@ pub fn is_given(given: &clap::ArgMatches, name: &str) -> bool
 }
 
 /// The number that was given to the option of this name, from `low` to `high`; 0 if it has no such number.
-pub fn number_in(given: &clap::ArgMatches, name: &str, low: u64, high: u64) -> u64
-    ensures value { result ≡ number_in low high (first_of name.now (rows_of (found_of given.now))) }
+pub fn number_between(given: &clap::ArgMatches, name: &str, low: u64, high: u64) -> u64
+    ensures value { result ≡ number_between low high (first_of name.now (rows_of (found_of given.now))) }
     ensures within { result ≤ high }
 {
     match value_in(given, name) {
@@ -66,7 +66,7 @@ pub fn number_in(given: &clap::ArgMatches, name: &str, low: u64, high: u64) -> u
 
 /// The number from `low` to `high` that a text writes; 0 if it writes none.
 fn number_of(text: &str, low: u64, high: u64) -> u64
-    ensures value { result ≡ number_in low high (Some text.now) }
+    ensures value { result ≡ number_between low high (Some text.now) }
     ensures within { result ≤ high }
 {
     match text.parse::<u64>() {
@@ -80,8 +80,8 @@ fn number_of(text: &str, low: u64, high: u64) -> u64
 }
 
 /// The same of smaller numbers.
-pub fn small_number_in(given: &clap::ArgMatches, name: &str, low: u32, high: u32) -> u32
-    ensures { result ≡ number_in low high (first_of name.now (rows_of (found_of given.now))) }
+pub fn small_number_between(given: &clap::ArgMatches, name: &str, low: u32, high: u32) -> u32
+    ensures { result ≡ number_between low high (first_of name.now (rows_of (found_of given.now))) }
 {
-    number_in(given, name, u64::from(low), u64::from(high)) as u32
+    number_between(given, name, u64::from(low), u64::from(high)) as u32
 }

@@ -8,7 +8,7 @@ use crate::helps::{
     ABOUT_CONDS, ABOUT_ENDS, ABOUT_LINES, ABOUT_MUTEXES, ABOUT_RANDOM, ABOUT_ROBUST, ABOUT_SEED,
     ABOUT_THREADS, ABOUT_TIMES, MORE_RANDOM, USAGE_RANDOM,
 };
-use crate::options::{flag_given, is_given, number_given, number_in, small_number_in};
+use crate::options::{flag_given, is_given, number_between, number_given, small_number_between};
 use crate::statuses::JobFault;
 use pif_random::{Shape, random_script};
 use pif_scripts::{CliFault, write_whole};
@@ -88,9 +88,9 @@ fn shape_in(given: &clap::ArgMatches) -> Shape
     ensures { result ≡ shape_in (rows_of (found_of given.now)) }
 {
     Shape {
-        threads: small_number_in(given, "threads", 1, 1_024),
-        mutexes: small_number_in(given, "mutexes", 0, 1_024),
-        conds: small_number_in(given, "conds", 0, 256),
+        threads: small_number_between(given, "threads", 1, 1_024),
+        mutexes: small_number_between(given, "mutexes", 0, 1_024),
+        conds: small_number_between(given, "conds", 0, 256),
         robust: is_given(given, "robust"),
         ends: is_given(given, "ends"),
         times: is_given(given, "times"),
@@ -102,8 +102,8 @@ pub fn recipe_in(given: &clap::ArgMatches) -> Recipe
     ensures { result ≡ recipe_in (rows_of (found_of given.now)) }
 {
     Recipe {
-        seed: number_in(given, "seed", 0, 18_446_744_073_709_551_615),
-        lines: small_number_in(given, "lines", 1, 262_144),
+        seed: number_between(given, "seed", 0, 18_446_744_073_709_551_615),
+        lines: small_number_between(given, "lines", 1, 262_144),
         shape: shape_in(given),
     }
 }

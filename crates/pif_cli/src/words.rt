@@ -17,7 +17,7 @@ use crate::helps::{
     MORE_RUN, MORE_SHELL, MORE_SHOW, MORE_TRACE, USAGE_CHECK, USAGE_DRAW, USAGE_DRIVE,
     USAGE_MIGRATE, USAGE_REPLAY, USAGE_RUN, USAGE_SHELL, USAGE_SHOW, USAGE_TRACE, VERSION,
 };
-use crate::options::{flag_given, is_given, small_number_in};
+use crate::options::{flag_given, is_given, small_number_between};
 use crate::pictures::{Picture, write_picture};
 use crate::random::{Recipe, random_command, recipe_in, write_random};
 use crate::statuses::{JobFault, fault_status, job_fault_status};
@@ -327,7 +327,7 @@ fn job_named(name: &str, given: &clap::ArgMatches) -> Job
     } else if name == "random" {
         Job::Random(recipe_in(given))
     } else if name == "drive" {
-        Job::Drive(small_number_in(given, "N", 1, 64))
+        Job::Drive(small_number_between(given, "N", 1, 64))
     } else {
         Job::Run
     }

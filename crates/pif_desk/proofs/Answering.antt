@@ -25,7 +25,7 @@ use Rattle.pif_desk.specs.declared.log.Mark.{Mark}
 use Rattle.pif_desk.specs.declared.log.Mark.TheVariants.{Begun as MarkBegun, Answered as MarkAnswered, Ended as MarkEnded, Nothing}
 use Rattle.pif_desk.specs.declared.log.Reply.{Reply}
 use Rattle.pif_desk.specs.declared.log.Call.{Call}
-use Rattle.pif_desk.specs.Logs.{Log, with_reply, open_call as new_call, answered, is_last_open, mark_in, log_after, calls_of}
+use Rattle.pif_desk.specs.Logs.{Log, with_reply, new_call, answered, is_last_open, mark_in, log_after, calls_of}
 use Rattle.pif_desk.specs.Rooms.{ClientState, history_of}
 use Rattle.pif_desk.specs.Settling.{is_answer, adds, answered_calls, Settles}
 use Rattle.pif_desk.proofs.Receipts.{mark_answered}

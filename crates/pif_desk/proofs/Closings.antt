@@ -3,7 +3,7 @@ use Rattle.std.proofs.Common.{◌≡◌, ℕ, Bool, List, [], ◌∷◌, Option,
 use Rattle.pif_types.specs.declared.requests.Request.{Request}
 use Rattle.pif_desk.specs.declared.log.Reply.{Reply}
 use Rattle.pif_desk.specs.declared.log.Call.{Call}
-use Rattle.pif_desk.specs.Logs.{last_open, open_call, closed_call, answered}
+use Rattle.pif_desk.specs.Logs.{last_open, new_call, closed_call, answered}
 use Rattle.pif_desk.specs.Rooms.{ClientState, Closes}
 
 module _ (t thread a at : ℕ) (q : Request) (over : Bool) where
@@ -47,7 +47,7 @@ module _ (t thread a at : ℕ) (q : Request) (over : Bool) where
             was = ap (λ (p : Request). record {
               thread = thread;
               log = record {
-                calls = open_call p ∷ cs;
+                calls = new_call p ∷ cs;
                 ended = over;
               };
             }) same;

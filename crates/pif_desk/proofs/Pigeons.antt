@@ -9,7 +9,7 @@ use Rattle.std.proofs.lemmas.List.Sums.{sum_by-cons}
 use Rattle.pif_model.specs.declared.events.Entry.{Entry}
 use Rattle.pif_model.specs.declared.events.Entry.TheVariants.{Thread as AddThread, Mutex as AddMutex, Cond as AddCond, Step as Happened}
 use Rattle.pif_desk.specs.Rooms.{ClientState}
-use Rattle.pif_desk.specs.Settling.{adds_thread, adds, is_stranger, IsCounted, AreKnown}
+use Rattle.pif_desk.specs.Settling.{adds_thread, adds, is_stranger, AreAsManyAsThreads, AreKnown}
 
 -- HOW OFTEN A NUMBER STANDS IN A LIST
 
@@ -139,7 +139,7 @@ no_stranger cs j c e = by_test (list_any (adds c.thread) j) e
     by_test false f = absurd (true≢false f)
 
 -- each thread that was added has just one client
-pub one_client : (cs : List ClientState) (j : List Entry) → IsCounted cs j → AreKnown cs j → (t : ℕ)
+pub one_client : (cs : List ClientState) (j : List Entry) → AreAsManyAsThreads cs j → AreKnown cs j → (t : ℕ)
     → list_any (adds t) j ≡ true → count_by (λ c. c.thread == t) cs ≡ 1
 one_client cs j counted known t here = times-threads_of t cs ∙ by_count (cases_eq (times t (threads_of cs)) 0)
   where

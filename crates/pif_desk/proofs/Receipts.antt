@@ -16,9 +16,9 @@ use Rattle.pif_desk.specs.declared.log.Mark.{Mark}
 use Rattle.pif_desk.specs.declared.log.Mark.TheVariants.{Begun as MarkBegun, Answered as MarkAnswered, Ended as MarkEnded, Nothing}
 use Rattle.pif_desk.specs.declared.log.Reply.{Reply}
 use Rattle.pif_desk.specs.declared.log.Call.{Call}
-use Rattle.pif_desk.specs.Logs.{Log, with_reply, open_call, mark_of, mark_in, log_after, calls_of}
+use Rattle.pif_desk.specs.Logs.{Log, with_reply, new_call, mark_of, mark_in, log_after, calls_of}
 use Rattle.pif_desk.specs.Rooms.{ClientState, history_of, IsExact}
-use Rattle.pif_desk.specs.Settling.{StandsIn, Fall, HasReceipts}
+use Rattle.pif_desk.specs.Settling.{ReplyStandsIn, Fall, HasReceipts}
 
 -- LISTS
 
@@ -77,8 +77,8 @@ mark_answered t (Happened (Tick n) seen) a told = absurd (cc)
 -- REPLIES
 
 -- a call's reply stands in a longer history
-StandsIn-longer : (t : ℕ) (j : List Entry) (e : Entry) (c : Call) → StandsIn t j c → StandsIn t (j ++ e ∷ []) c
-StandsIn-longer t j e c h = by_reply c.reply h
+ReplyStandsIn-longer : (t : ℕ) (j : List Entry) (e : Entry) (c : Call) → ReplyStandsIn t j c → ReplyStandsIn t (j ++ e ∷ []) c
+ReplyStandsIn-longer t j e c h = by_reply c.reply h
   where
     by_reply : (o : Option Reply) → IfSome o (λ r. slice_get j r.at ≡ Some (Happened (Go t) (Answered r.answer)))
         → IfSome o (λ r. slice_get (j ++ e ∷ []) r.at ≡ Some (Happened (Go t) (Answered r.answer)))
@@ -86,15 +86,15 @@ StandsIn-longer t j e c h = by_reply c.reply h
     by_reply (Some r) h = slice_get-longer j (e ∷ []) r.at (Happened (Go t) (Answered r.answer)) h
 
 -- replies stand after one more entry
-stand_on : (t : ℕ) (j : List Entry) (e : Entry) (n : ℕ) (l : Log) → n ≡ length j → All (StandsIn t j) l.calls
-    → All (StandsIn t (j ++ e ∷ [])) (log_after (mark_in t e) n l).calls
+stand_on : (t : ℕ) (j : List Entry) (e : Entry) (n : ℕ) (l : Log) → n ≡ length j → All (ReplyStandsIn t j) l.calls
+    → All (ReplyStandsIn t (j ++ e ∷ [])) (log_after (mark_in t e) n l).calls
 stand_on t j e n l place h = by_mark (mark_in t e) refl
   where
     P : Call → Type 0
-    P = StandsIn t (j ++ e ∷ [])
+    P = ReplyStandsIn t (j ++ e ∷ [])
 
     old : All P l.calls
-    old = All-weaker (StandsIn t j) P (StandsIn-longer t j e) l.calls h
+    old = All-weaker (ReplyStandsIn t j) P (ReplyStandsIn-longer t j e) l.calls h
 
     replied : (r : Reply) → IfSome (Some r) (λ x. slice_get (j ++ e ∷ []) x.at
         ≡ Some (Happened (Go t) (Answered x.answer)))
@@ -110,7 +110,7 @@ stand_on t j e n l place h = by_mark (mark_in t e) refl
         by_reply (Some x) y = y
 
     by_mark : (m : Mark) → mark_in t e ≡ m → All P (log_after m n l).calls
-    by_mark (MarkBegun q) told = All-cons P (open_call q) l.calls tt old
+    by_mark (MarkBegun q) told = All-cons P (new_call q) l.calls tt old
     by_mark (MarkAnswered a) told =
         let is : e ≡ Happened (Go t) (Answered a) = mark_answered t e a told in
         replied (record { answer = a; at = n })
@@ -119,10 +119,10 @@ stand_on t j e n l place h = by_mark (mark_in t e) refl
     by_mark Nothing told = old
 
 -- the replies of a thread's calls stand in its history
-pub replies_stand : (t : ℕ) (h : List Entry) → All (StandsIn t (reverse h)) (calls_of t h).calls
-replies_stand t [] = All-nil (StandsIn t [])
+pub replies_stand : (t : ℕ) (h : List Entry) → All (ReplyStandsIn t (reverse h)) (calls_of t h).calls
+replies_stand t [] = All-nil (ReplyStandsIn t [])
 replies_stand t (e ∷ h) =
-    subst (λ (j : List Entry). All (StandsIn t j) (calls_of t (e ∷ h)).calls) (sym (reverse-append (e ∷ []) h))
+    subst (λ (j : List Entry). All (ReplyStandsIn t j) (calls_of t (e ∷ h)).calls) (sym (reverse-append (e ∷ []) h))
     (stand_on t (reverse h) e (length h) (calls_of t h) (sym (length-reverse h)) (replies_stand t h))
 
 -- POSITIONS
@@ -164,8 +164,8 @@ positions_fall t (e ∷ h) =
 -- a client whose log is just the calls of its thread has its receipts
 pub receipts_held : (journal : List Entry) (c : ClientState) → IsExact c journal → HasReceipts c journal
 receipts_held journal c exact = record {
-  stand = subst (λ (l : Log). All (StandsIn c.thread journal) l.calls) (sym exact)
-      (subst (λ (j : List Entry). All (StandsIn c.thread j) (calls_of c.thread (history_of journal)).calls)
+  stand = subst (λ (l : Log). All (ReplyStandsIn c.thread journal) l.calls) (sym exact)
+      (subst (λ (j : List Entry). All (ReplyStandsIn c.thread j) (calls_of c.thread (history_of journal)).calls)
       (reverse-reverse journal) (replies_stand c.thread (history_of journal)));
   rise = subst (λ (l : Log). Fall (length journal) l.calls) (sym exact)
       (subst (λ (n : ℕ). Fall n (calls_of c.thread (history_of journal)).calls) (length-reverse journal)

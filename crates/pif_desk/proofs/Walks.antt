@@ -7,9 +7,9 @@ use Rattle.pif_model.specs.declared.events.Entry.{Entry}
 use Rattle.pif_desk.specs.declared.log.Reply.{Reply}
 use Rattle.pif_desk.specs.declared.log.Call.{Call}
 use Rattle.pif_desk.specs.declared.log.Mark.{Mark}
-use Rattle.pif_desk.specs.Logs.{Log, log_of, with_reply, open_call, begun, answered, ended, mark_in, log_after, no_calls, calls_of}
+use Rattle.pif_desk.specs.Logs.{Log, log_of, with_reply, new_call, begun, answered, log_after_end, mark_in, log_after, no_calls, calls_of}
 use Rattle.pif_desk.specs.Rooms.{history_of}
-use Rattle.pif_desk.specs.Settling.{with_pending, IsLeft}
+use Rattle.pif_desk.specs.Settling.{with_reply_if_any, IsRestOfLog}
 
 -- LISTS
 
@@ -36,17 +36,17 @@ not_empty {A} {x} {xs} e = let n = ap (λ (l : List A). length l) e in omega (ar
 
 -- a reply that was seen closes a call that begins
 pending-open : (q : Request) (r : Option Reply) (cs : List Call)
-    → with_pending r (open_call q ∷ cs) ≡ (record { request = q; reply = r }) ∷ cs
+    → with_reply_if_any r (new_call q ∷ cs) ≡ (record { request = q; reply = r }) ∷ cs
 pending-open q None cs = refl
 pending-open q (Some r) cs = refl
 
 -- of two replies the earlier one closes the call
-pending-reply : (p : Option Reply) (r : Reply) (cs : List Call) → with_pending p (with_reply r cs) ≡ with_reply r cs
+pending-reply : (p : Option Reply) (r : Reply) (cs : List Call) → with_reply_if_any p (with_reply r cs) ≡ with_reply r cs
 pending-reply None r cs = refl
 pending-reply (Some p) r [] = refl
 pending-reply (Some p) r (c ∷ cs) = refl
 
-pub pending-none : (p : Option Reply) → with_pending p [] ≡ []
+pub pending-none : (p : Option Reply) → with_reply_if_any p [] ≡ []
 pending-none None = refl
 pending-none (Some r) = refl
 
@@ -55,7 +55,7 @@ pending-none (Some r) = refl
 module _ (calls : List Call) (e : Bool) (left : ℕ) (reply : Option Reply) (seen : Bool) where
   -- an answer
   pub back_over_answer : (a at : ℕ) (l : Log)
-      → IsLeft calls e left reply seen (answered a at l) ↔ IsLeft calls e left (Some (record {
+      → IsRestOfLog calls e left reply seen (answered a at l) ↔ IsRestOfLog calls e left (Some (record {
         answer = a;
         at = at;
       })) seen l
@@ -73,7 +73,7 @@ module _ (calls : List Call) (e : Bool) (left : ℕ) (reply : Option Reply) (see
   )
 
   -- an end
-  pub back_over_end : (l : Log) → IsLeft calls e left reply seen (ended l) ↔ IsLeft calls e left reply true l
+  pub back_over_end : (l : Log) → IsRestOfLog calls e left reply seen (log_after_end l) ↔ IsRestOfLog calls e left reply true l
   back_over_end l = (
     (λ h. record { calls_left = h.calls_left; ended_left = sym (either seen) ∙ h.ended_left }),
     (λ h. record { calls_left = h.calls_left; ended_left = either seen ∙ h.ended_left }),
@@ -84,7 +84,7 @@ module _ (calls : List Call) (e : Bool) (left : ℕ) (reply : Option Reply) (see
       either false = refl
 
   -- a call where none is left
-  pub no_call_left : left ≡ 0 → (q : Request) (l : Log) → IsLeft calls e left reply seen (begun q l) → ⊥
+  pub no_call_left : left ≡ 0 → (q : Request) (l : Log) → IsRestOfLog calls e left reply seen (begun q l) → ⊥
   no_call_left z q l h =
       not_empty (sym (pending-open q reply l.calls) ∙ h.calls_left ∙ ap (λ n. reverse (take n calls)) z)
 
@@ -94,7 +94,7 @@ module _ (calls : List Call) (e : Bool) (left : ℕ) (reply : Option Reply) (see
 
     -- the call that is left
     pub back_over_same : (q : Request) → get_or calls n d ≡ record { request = q; reply = reply } → (l : Log)
-        → IsLeft calls e left reply seen (begun q l) ↔ IsLeft calls e n None seen l
+        → IsRestOfLog calls e left reply seen (begun q l) ↔ IsRestOfLog calls e n None seen l
     back_over_same q same l = (
       (λ h. record {
         calls_left = behind (sym (pending-open q reply l.calls) ∙ h.calls_left ∙ split);
@@ -109,14 +109,14 @@ module _ (calls : List Call) (e : Bool) (left : ℕ) (reply : Option Reply) (see
 
     -- another call is left
     pub no_such_call : (q : Request) → (get_or calls n d ≡ record { request = q; reply = reply } → ⊥) → (l : Log)
-        → IsLeft calls e left reply seen (begun q l) → ⊥
+        → IsRestOfLog calls e left reply seen (begun q l) → ⊥
     no_such_call q other l h = other (sym (first_of (sym (pending-open q reply l.calls) ∙ h.calls_left ∙ split)))
 
 -- THE WHOLE WALK
 
 -- before the walk all is left
 pub all_left : (calls : List Call) (e : Bool) (l : Log)
-    → (log_of calls e ≡ l) ↔ IsLeft calls e (length calls) None false l
+    → (log_of calls e ≡ l) ↔ IsRestOfLog calls e (length calls) None false l
 all_left calls e l = (
   (λ h. record {
     calls_left = ap (λ (x : Log). x.calls) (sym h)
@@ -131,7 +131,7 @@ all_left calls e l = (
 
 -- after the walk none is
 pub none_left : (calls : List Call) (e : Bool) (left : ℕ) (reply : Option Reply) (seen : Bool) → left ≤ length calls
-    → IsLeft calls e left reply seen no_calls ↔ ((left ≡ 0) × (seen ≡ e))
+    → IsRestOfLog calls e left reply seen no_calls ↔ ((left ≡ 0) × (seen ≡ e))
 none_left calls e left reply seen within = (
   (λ h. (
     sym (length-take-le left calls within) ∙ sym (length-reverse (take left calls))
@@ -187,5 +187,5 @@ neither p q = (λ x. absurd (p x), λ y. absurd (q y))
 
 -- no log is left where calls are left
 pub some_left : (calls : List Call) (e : Bool) (left : ℕ) (reply : Option Reply) (seen : Bool) → left ≤ length calls
-    → left ≢ 0 → IsLeft calls e left reply seen no_calls → ⊥
+    → left ≢ 0 → IsRestOfLog calls e left reply seen no_calls → ⊥
 some_left calls e left reply seen within some h = some ((none_left calls e left reply seen within).0 h).0

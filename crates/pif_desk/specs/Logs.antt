@@ -29,8 +29,8 @@ abbrev pub no_calls : Log
 no_calls = record { calls = []; ended = false }
 
 -- a call that is open
-abbrev pub open_call : Request → Call
-open_call q = record { request = q; reply = None }
+abbrev pub new_call : Request → Call
+new_call q = record { request = q; reply = None }
 
 -- a call with its reply
 abbrev pub closed_call : Request → Reply → Call
@@ -43,15 +43,15 @@ with_reply r (c ∷ cs) = closed_call c.request (unwrap_or c.reply r) ∷ cs
 
 -- one call more, which is open
 abbrev pub begun : Request → Log → Log
-begun q l = record l { calls = open_call q ∷ l.calls }
+begun q l = record l { calls = new_call q ∷ l.calls }
 
 -- the last call has this answer, which stands at this position, if it was open
 abbrev pub answered : ℕ → ℕ → Log → Log
 answered a at l = record l { calls = with_reply (record { answer = a; at = at }) l.calls }
 
 -- the thread has ended
-abbrev pub ended : Log → Log
-ended l = record l { ended = true }
+abbrev pub log_after_end : Log → Log
+log_after_end l = record l { ended = true }
 
 -- whether the last of these calls is open
 abbrev pub is_last_open : List Call → Bool
@@ -78,7 +78,7 @@ mark_of _ _ = Nothing
 abbrev pub log_after : Mark → ℕ → Log → Log
 log_after (MarkBegun q) at l = begun q l
 log_after (MarkAnswered a) at l = answered a at l
-log_after MarkEnded at l = ended l
+log_after MarkEnded at l = log_after_end l
 log_after Nothing at l = l
 
 -- the event by which t does this

@@ -15,7 +15,7 @@ use Rattle.pif_desk.specs.declared.faults.DeskFault.TheVariants.{NoMemory, Refus
 use Rattle.pif_desk.specs.declared.book.Receipt.{Receipt}
 use Rattle.pif_desk.specs.declared.log.Act.{Act}
 use Rattle.pif_desk.specs.declared.log.Call.{Call}
-use Rattle.pif_desk.specs.Logs.{Log, open_call, closed_call, ended, mark_of, log_after, calls_of}
+use Rattle.pif_desk.specs.Logs.{Log, new_call, closed_call, log_after_end, mark_of, log_after, calls_of}
 
 -- a core and the journal of what was done with it, the oldest entry first
 pub record RoomState : Type 0 where
@@ -58,7 +58,7 @@ with_call call c = record c { log = record c.log { calls = call ∷ c.log.calls 
 
 -- a client whose thread has ended
 abbrev pub with_end : ClientState → ClientState
-with_end c = record c { log = ended c.log }
+with_end c = record c { log = log_after_end c.log }
 
 -- the call for which a receipt was given, as a log has it
 abbrev pub receipt_call : Receipt → Call
@@ -67,7 +67,7 @@ receipt_call r = closed_call r.request (record { answer = r.answer; at = r.at })
 -- a receipt closes the open call of a client: it has the call's request, and the log is as before but for that call
 pub record Closes (r : Receipt) (old new : ClientState) : Type 0 where
   pub before : ClientState
-  pub was : old ≡ with_call (open_call r.request) before
+  pub was : old ≡ with_call (new_call r.request) before
   pub now : new ≡ with_call (receipt_call r) before
 
 -- an event was refused, by the core or for want of memory

@@ -41,8 +41,8 @@ pub record IsFirst {A : Type 0} (P : A → Type 0) (xs : List A) (x : A) : Type 
   pub not_before : All (λ y. P y → ⊥) (take place xs)
 
 -- there are as many clients as threads were added
-abbrev pub IsCounted : List ClientState → List Entry → Type 0
-IsCounted clients journal = length clients ≡ count_by adds_thread journal
+abbrev pub AreAsManyAsThreads : List ClientState → List Entry → Type 0
+AreAsManyAsThreads clients journal = length clients ≡ count_by adds_thread journal
 
 -- no client is a stranger
 abbrev pub AreKnown : List ClientState → List Entry → Type 0
@@ -50,26 +50,26 @@ AreKnown clients journal = All (λ c. is_stranger clients journal c ≡ false) c
 
 -- why a room doesn't settle: the first of these that holds, of the first client of which it holds
 abbrev pub IsFault : List ClientState → List Entry → Why → Type 0
-IsFault clients journal Count = IsCounted clients journal → ⊥
+IsFault clients journal Count = AreAsManyAsThreads clients journal → ⊥
 IsFault clients journal (Stranger t) =
-    IsCounted clients journal
+    AreAsManyAsThreads clients journal
     × ((c : ClientState) × (c.thread ≡ t) × IsFirst (λ d. is_stranger clients journal d ≡ true) clients c)
 IsFault clients journal (Differs t) =
-    IsCounted clients journal × AreKnown clients journal
+    AreAsManyAsThreads clients journal × AreKnown clients journal
     × ((c : ClientState) × (c.thread ≡ t) × IsFirst (λ d. IsExact d journal → ⊥) clients c)
 
 -- a room settles: there are as many clients as threads, no client is a stranger, and each log is just the calls of its
 -- client's thread in the journal, each once, in their order
 pub record Settles (clients : List ClientState) (journal : List Entry) : Type 0 where
-  pub counted : IsCounted clients journal
+  pub counted : AreAsManyAsThreads clients journal
   pub known : AreKnown clients journal
   pub exact : All (λ c. IsExact c journal) clients
 
 -- RECEIPTS
 
 -- the reply of a call of t, if there is one, is that of the entry at its position
-abbrev pub StandsIn : ℕ → List Entry → Call → Type 0
-StandsIn t journal c = IfSome c.reply (λ r. slice_get journal r.at ≡ Some (Happened (Go t) (Answered r.answer)))
+abbrev pub ReplyStandsIn : ℕ → List Entry → Call → Type 0
+ReplyStandsIn t journal c = IfSome c.reply (λ r. slice_get journal r.at ≡ Some (Happened (Go t) (Answered r.answer)))
 
 -- the positions of the replies are below n and fall, from the newest call on
 abbrev pub Fall : ℕ → List Call → Type 0
@@ -78,7 +78,7 @@ Fall n (c ∷ cs) = MatchOption c.reply (Fall n cs) (λ r. (r.at < n) × Fall r.
 
 -- each reply of a client stands in the journal at its position, and the positions rise from call to call
 pub record HasReceipts (c : ClientState) (journal : List Entry) : Type 0 where
-  pub stand : All (StandsIn c.thread journal) c.log.calls
+  pub stand : All (ReplyStandsIn c.thread journal) c.log.calls
   pub rise : Fall (length journal) c.log.calls
 
 -- how many calls of a log were answered
@@ -88,17 +88,17 @@ answered_calls l = count_by (λ c. is_some c.reply) l.calls
 -- A WALK OVER THE JOURNAL, FROM ITS END
 
 -- calls of which the last has this reply where it is open, if a reply is there
-abbrev pub with_pending : Option Reply → List Call → List Call
-with_pending None cs = cs
-with_pending (Some r) cs = with_reply r cs
+abbrev pub with_reply_if_any : Option Reply → List Call → List Call
+with_reply_if_any None cs = cs
+with_reply_if_any (Some r) cs = with_reply r cs
 
 -- a log is what is left of one with these calls, the oldest first: so many of them are left, this reply was seen and
 -- belongs to the last of them, and the end of the thread was seen or not
-pub record IsLeft (calls : List Call) (ended : Bool) (left : ℕ) (reply : Option Reply) (end_seen : Bool)
+pub record IsRestOfLog (calls : List Call) (ended : Bool) (left : ℕ) (reply : Option Reply) (end_seen : Bool)
     (l : Log) : Type 0 where
-  pub calls_left : with_pending reply l.calls ≡ reverse (take left calls)
+  pub calls_left : with_reply_if_any reply l.calls ≡ reverse (take left calls)
   pub ended_left : (if end_seen then true else l.ended) ≡ ended
 
 -- the same at a point of the walk
-abbrev pub IsLeftAt : List Call → Bool → Walk → Log → Type 0
-IsLeftAt calls e w l = IsLeft calls e w.left w.reply w.end_seen l
+abbrev pub IsRestOfLogAt : List Call → Bool → Walk → Log → Type 0
+IsRestOfLogAt calls e w l = IsRestOfLog calls e w.left w.reply w.end_seen l

@@ -2,7 +2,7 @@
 ghost use Rattle.std.specs.Prelude.{◌≡◌, true, false, Err, IfOk, IfErr, OnOk, OnErr, ◌⊎◌, if◌then◌else◌};
 ghost use Rattle.pif_types.specs.declared.errors.Refusal.{Refusal};
 ghost use Rattle.pif_desk.specs.declared.faults.DeskFault.{DeskFault};
-ghost use Rattle.pif_desk.specs.Logs.{is_answer_to, has_open_call, open_call, answered};
+ghost use Rattle.pif_desk.specs.Logs.{is_answer_to, has_open_call, new_call, answered};
 ghost use Rattle.pif_desk.specs.Rooms.{client_after, with_call, with_end, receipt_call, Closes, IsEventFault};
 
 use crate::book::Receipt;
@@ -76,7 +76,7 @@ impl Client {
         ensures thread { IfOk result (λ r. r.t ≡ self.old.thread) }
         ensures request { IfOk result (λ r. r.request ≡ request) }
         ensures log { IfOk result (λ r. self.new ≡ with_call (receipt_call r) self.old) }
-        ensures left { OnErr result ((self.new ≡ self.old) ⊎ (self.new ≡ with_call (open_call request) self.old)) }
+        ensures left { OnErr result ((self.new ≡ self.old) ⊎ (self.new ≡ with_call (new_call request) self.old)) }
         ensures fault { IfErr result IsEventFault }
     {
         self.begin(rt, desk, &request)?;
@@ -96,7 +96,7 @@ impl Client {
         desk: &Desk<P>,
         request: &Request,
     ) -> Result<(), DeskFault>
-        ensures begun { OnOk result (self.new ≡ with_call (open_call request.now) self.old) }
+        ensures begun { OnOk result (self.new ≡ with_call (new_call request.now) self.old) }
         ensures unchanged { OnErr result (self.new ≡ self.old) }
         ensures fault { IfErr result IsEventFault }
     {

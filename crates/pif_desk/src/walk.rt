@@ -2,7 +2,7 @@
 ghost use Rattle.std.specs.Prelude.{◌≡◌, ◌≤◌, ◌↔◌, length, Bool, IsTrue, IsFalse};
 ghost use Rattle.pif_desk.specs.Logs.{Log, log_of, log_after, begun, calls_of};
 ghost use Rattle.pif_desk.specs.Rooms.{history_of};
-ghost use Rattle.pif_desk.specs.Settling.{IsLeftAt};
+ghost use Rattle.pif_desk.specs.Settling.{IsRestOfLogAt};
 
 use crate::log::{Call, Mark, Reply};
 use pif_model::Entry;
@@ -30,9 +30,9 @@ impl Walk {
         requires { self.old.left ≤ length calls.now }
         ensures within { self.new.left ≤ length calls.now }
         ensures goes_on { IsTrue result → (ended : Bool) (l : Log)
-            → IsLeftAt calls.now ended self.old (log_after mark.now at l) ↔ IsLeftAt calls.now ended self.new l }
+            → IsRestOfLogAt calls.now ended self.old (log_after mark.now at l) ↔ IsRestOfLogAt calls.now ended self.new l }
         ensures stops { IsFalse result → (ended : Bool) (l : Log)
-            → IsLeftAt calls.now ended self.old (log_after mark.now at l) → ⊥ }
+            → IsRestOfLogAt calls.now ended self.old (log_after mark.now at l) → ⊥ }
     {
         match mark {
             Mark::Begun(request) => self.back_over_call(request, calls),
@@ -56,9 +56,9 @@ impl Walk {
         requires { self.old.left ≤ length calls.now }
         ensures within { self.new.left ≤ length calls.now }
         ensures goes_on { IsTrue result → (ended : Bool) (l : Log)
-            → IsLeftAt calls.now ended self.old (begun request.now l) ↔ IsLeftAt calls.now ended self.new l }
+            → IsRestOfLogAt calls.now ended self.old (begun request.now l) ↔ IsRestOfLogAt calls.now ended self.new l }
         ensures stops { IsFalse result → (ended : Bool) (l : Log)
-            → IsLeftAt calls.now ended self.old (begun request.now l) → ⊥ }
+            → IsRestOfLogAt calls.now ended self.old (begun request.now l) → ⊥ }
     {
         if self.left == 0 {
             return false;

@@ -5,7 +5,7 @@ use Rattle.std.proofs.lemmas.Bool.{cases_eq}
 use Rattle.std.proofs.lemmas.List.{get_or-set_same, get_or-set_other, length_push}
 use Rattle.pif_types.specs.Bounds.{Bounds}
 use Rattle.pif_nodes.specs.declared.keys.Key.{Key}
-use Rattle.pif_nodes.specs.Table.{Table}
+use Rattle.pif_nodes.specs.Table.{NodeLists}
 use Rattle.pif_runq.specs.Levels.{Queue, Holds, IsLevel, level_of}
 use Rattle.pif_runq.specs.Levels.{level_after_add}
 use Rattle.pif_model.specs.declared.lines.Status.{Status}
@@ -15,7 +15,7 @@ use Rattle.pif_model.specs.PiKernel.{Kernel, IsKernel, queued_on, effective_in, 
 use Rattle.pif_owners.specs.Owners.{Seat, Wait, seat_at, rank_of, no_seat, with_seat}
 use Rattle.pif_chains.proofs.KernelSettled.{priority-from_range}
 use Rattle.pif_chains.proofs.Places.{kept_at}
-use Rattle.pif_kernel.specs.Inside.{Inside, IsPlaced, IsSound, kernel_of, status_at, key_at, ticket_of}
+use Rattle.pif_kernel.specs.Inside.{Inside, IsPlaced, IsSoundInside, kernel_of, status_at, state_key_at, ticket_of}
 use Rattle.pif_owners.specs.Arrivals.{Rise}
 use Rattle.pif_chains.proofs.KernelAdded.{effective-added_other, effective-added_same}
 use Rattle.pif_chains.proofs.KernelKept.{add_kept}
@@ -29,7 +29,7 @@ pushed_status [] (suc u) = refl
 pushed_status (x ∷ xs) zero = refl
 pushed_status (x ∷ xs) (suc u) = pushed_status xs u
 
-module _ (p : Inside) (q : Queue) (tb : Table) (t prio : ℕ) (h : IsSound p) (is : t ≡ length p.statuses)
+module _ (p : Inside) (q : Queue) (tb : NodeLists) (t prio : ℕ) (h : IsSoundInside p) (is : t ≡ length p.statuses)
     (room : length p.statuses ≤ p.limits.threads) (some : 1 ≤ prio) (few : prio ≤ 99)
     (place : q ≡ record p.queue { mask = q.mask })
     (levels : (r : ℕ) → IsLevel r → level_of q tb r ≡ level_after_add t prio r (level_of p.queue p.table r))
@@ -129,7 +129,7 @@ module _ (p : Inside) (q : Queue) (tb : Table) (t prio : ℕ) (h : IsSound p) (i
     free = λ u l. other u (λ e. absurd (omega (arith, is, long))) ∙ h.placed.free u (omega (arith, long));
     waits =
         λ u. ap (option_map (λ (w : Wait). w.state)) (waits_same u) ∙ h.placed.waits u
-        ∙ ap (λ (x : Status). key_at p (queued_on x)) (sym (status_same u));
+        ∙ ap (λ (x : Status). state_key_at p (queued_on x)) (sym (status_same u));
     owners = λ m. omega (arith, h.placed.owners m, long);
   }
 
@@ -157,7 +157,7 @@ module _ (p : Inside) (q : Queue) (tb : Table) (t prio : ℕ) (h : IsSound p) (i
     tickets = subst (λ (f : ℕ → ℕ). Rise f 1 p.arrivals p.next) (fun_ext ticket_same) h.placed.tickets;
   }
 
-  pub sound_after : IsSound after
+  pub sound_after : IsSoundInside after
   sound_after = record {
     placed = placed_after;
     local = λ u. local_after u (cases_eq u t);

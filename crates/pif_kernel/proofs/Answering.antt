@@ -18,7 +18,7 @@ use Rattle.pif_chains.proofs.KernelSettled.{priority-from_range}
 use Rattle.pif_chains.proofs.Places.{mapped_at}
 use Rattle.pif_chains.proofs.Numbers.{from_within, within}
 use Rattle.pif_chains.proofs.Following.{Follows, reaches-from_within, within-from_reaches}
-use Rattle.pif_kernel.specs.Inside.{Inside, IsSound, kernel_of}
+use Rattle.pif_kernel.specs.Inside.{Inside, IsSoundInside, kernel_of}
 use Rattle.pif_kernel.proofs.Seats.{added_seen, seats_length, owners_waits, waits_below}
 use Rattle.pif_kernel.proofs.Standing.{fits}
 
@@ -84,7 +84,7 @@ words_stored s s' m bits e =
 -- CYCLES
 
 -- whether a wait would close a cycle, by the owner states
-pub closes_seen : (p : Inside) → IsSound p → (t owner : ℕ) (r : Bool) → is_living (kernel_of p) owner ≡ true
+pub closes_seen : (p : Inside) → IsSoundInside p → (t owner : ℕ) (r : Bool) → is_living (kernel_of p) owner ≡ true
     → (IsTrue r ↔ Reaches (WaitsFor p.owners) owner t)
     → reaches_within (length (kernel_of p).seats) (waits_for (kernel_of p)) owner t ≡ r
 closes_seen p h t owner r l closes =

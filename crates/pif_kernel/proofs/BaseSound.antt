@@ -13,7 +13,7 @@ use Rattle.pif_chains.proofs.KernelFacts.{living-added}
 use Rattle.pif_chains.proofs.KernelSettled.{priority-from_range}
 use Rattle.pif_chains.proofs.KernelKept.{set_prio_kept}
 use Rattle.pif_chains.proofs.Places.{kept_at}
-use Rattle.pif_kernel.specs.Inside.{Inside, IsListed, IsPlaced, IsSound, kernel_of, ticket_of}
+use Rattle.pif_kernel.specs.Inside.{Inside, IsListed, IsPlaced, IsSoundInside, kernel_of, ticket_of}
 use Rattle.pif_owners.specs.Arrivals.{Rise}
 use Rattle.pif_kernel.proofs.Seats.{IsFitted, added_seen, kernel_by_parts, seats_of-set_base, same_seats}
 use Rattle.pif_kernel.proofs.Picked.{levels_seen}
@@ -21,7 +21,7 @@ use Rattle.pif_kernel.proofs.Standing.{fits}
 use Rattle.pif_kernel.proofs.ChainLaws.{repaired_but}
 use Rattle.pif_kernel.proofs.WalkSound.{IsWalkable, owners_effective}
 
-module _ (p : Inside) (t prio : ℕ) (h : IsSound p) (lives : is_living (kernel_of p) t ≡ true) (some : 1 ≤ prio)
+module _ (p : Inside) (t prio : ℕ) (h : IsSoundInside p) (lives : is_living (kernel_of p) t ≡ true) (some : 1 ≤ prio)
     (few : prio ≤ 99) where
   abbrev row : Seat
   row = record (seat_at p.owners t) { base = prio }

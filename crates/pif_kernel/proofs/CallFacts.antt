@@ -9,7 +9,7 @@ use Rattle.pif_model.specs.Word.{Words, word_of, word_at, set_word, free_word, t
 use Rattle.pif_model.specs.PiKernel.{Kernel, has_seat, state_at as kernel_state_at, effective_in, next_in, words_after_lock, kernel_after_lock, kernel_after_queueing, words_after_try_lock, words_after_unlock, kernel_after_unlock, kernel_after_hand_over}
 use Rattle.pif_owners.specs.Owners.{owner_at}
 use Rattle.pif_chains.proofs.Waiting.{names, named-from_pair, next-is_waiter}
-use Rattle.pif_kernel.specs.Inside.{Inside, IsSound, kernel_of, key_at, owner_under}
+use Rattle.pif_kernel.specs.Inside.{Inside, IsSoundInside, kernel_of, state_key_at, owner_under}
 use Rattle.pif_kernel.proofs.Seats.{added_seen, states_seen, waiters_seen}
 use Rattle.pif_kernel.proofs.Standing.{fits}
 use Rattle.pif_kernel.proofs.Waiters.{has_waiter-key, named_known}
@@ -40,20 +40,20 @@ unfolding words_after_try_lock
 words_tried t m ws = refl
 
 -- a thread that was added has a number that a word can say
-pub number_below : (p : Inside) → IsSound p → (t : ℕ) → has_seat (kernel_of p) t ≡ true → t < 1073741824
+pub number_below : (p : Inside) → IsSoundInside p → (t : ℕ) → has_seat (kernel_of p) t ≡ true → t < 1073741824
 number_below p h t known = omega (arith, (added_seen p (fits p h) t known).1, h.placed.few, h.placed.within.threads)
 
 -- THE MUTEX IS FREED OR HANDED OVER
 
 -- the owner state of a mutex, by its key
-pub some_state : (p : Inside) → IsSound p → (m key : ℕ) → key_at p m ≡ Some key → kernel_state_at (kernel_of p) m ≢ 0
+pub some_state : (p : Inside) → IsSoundInside p → (m key : ℕ) → state_key_at p m ≡ Some key → kernel_state_at (kernel_of p) m ≢ 0
 some_state p h m key at z = h.placed.owned m key at (sym (states_seen p m) ∙ z)
 
-pub no_state : (p : Inside) (m : ℕ) → key_at p m ≡ None → kernel_state_at (kernel_of p) m ≡ 0
+pub no_state : (p : Inside) (m : ℕ) → state_key_at p m ≡ None → kernel_state_at (kernel_of p) m ≡ 0
 no_state p m at = states_seen p m ∙ ap (owner_under p.owners) at
 
 -- the next waiter has a number that a word can say
-pub next_below : (p : Inside) → IsSound p → (m key : ℕ) → key_at p m ≡ Some key → next_in (kernel_of p) m < 1073741824
+pub next_below : (p : Inside) → IsSoundInside p → (m key : ℕ) → state_key_at p m ≡ Some key → next_in (kernel_of p) m < 1073741824
 next_below p h m key at =
     let who : ℕ = next_waiter (effective_in (kernel_of p)) p.arrivals m in
     let is : next_in (kernel_of p) m ≡ who
@@ -88,18 +88,18 @@ unfolding kernel_after_unlock
 kernel_handed m k s = let some : (kernel_state_at k m == 0) ≡ false = grind (arith, nat_tests) in rw some refl
 
 -- where a mutex has a key, it has an owner state, and else it has none
-pub state_keyed : (p : Inside) → IsSound p → (m : ℕ) (key : Option ℕ) → key ≡ key_at p m → is_some key ≡ true
+pub state_keyed : (p : Inside) → IsSoundInside p → (m : ℕ) (key : Option ℕ) → key ≡ state_key_at p m → is_some key ≡ true
     → kernel_state_at (kernel_of p) m ≢ 0
 state_keyed p h m None at some = absurd (false≢true some)
 state_keyed p h m (Some key) at some = some_state p h m key (sym at)
 
-pub state_keyless : (p : Inside) (m : ℕ) (key : Option ℕ) → key ≡ key_at p m → is_some key ≡ false
+pub state_keyless : (p : Inside) (m : ℕ) (key : Option ℕ) → key ≡ state_key_at p m → is_some key ≡ false
     → kernel_state_at (kernel_of p) m ≡ 0
 state_keyless p m None at none = no_state p m (sym at)
 state_keyless p m (Some key) at none = absurd (true≢false none)
 
 -- the owner in the owner state of a mutex, by its key
-pub state_named : (p : Inside) (m key r : ℕ) → key_at p m ≡ Some key → owner_at p.owners key ≡ Some r
+pub state_named : (p : Inside) (m key r : ℕ) → state_key_at p m ≡ Some key → owner_at p.owners key ≡ Some r
     → kernel_state_at (kernel_of p) m ≡ r
 state_named p m key r at named =
     states_seen p m ∙ ap (owner_under p.owners) at ∙ ap (λ (o : Option ℕ). unwrap_or o 0) named

@@ -7,14 +7,14 @@ use Rattle.pif_model.specs.PiKernel.{Kernel, queued_on}
 use Rattle.pif_chains.proofs.Among.{is_among as is_waiter}
 use Rattle.pif_chains.proofs.Waiting.{named-from_pair, has_waiter-from_pair}
 use Rattle.pif_chains.proofs.KernelFacts.{queued-from_number}
-use Rattle.pif_kernel.specs.Inside.{Inside, IsSound, kernel_of, status_at, state_at, owner_under, ticket_of, arrivals_in}
+use Rattle.pif_kernel.specs.Inside.{Inside, IsSoundInside, kernel_of, status_at, state_at, owner_under, ticket_of, arrivals_in}
 use Rattle.pif_kernel.proofs.Seats.{status_seen, waiters_seen}
 use Rattle.pif_kernel.proofs.Standing.{fits}
 use Rattle.pif_kernel.proofs.Waiters.{named_known, no_key-no_waiter}
 use Rattle.pif_owners.proofs.InOrder.{in_order-is}
 
 -- what is kept soundly has the waiters that are found
-pub waiters_found : (p : Inside) → IsSound p → arrivals_in p.statuses p.owners ≡ p.arrivals
+pub waiters_found : (p : Inside) → IsSoundInside p → arrivals_in p.statuses p.owners ≡ p.arrivals
 waiters_found p h =
     in_order-is (ticket_of p.owners) (λ (t : ℕ). queued_on (status_at p t)) (length p.statuses) 1 p.arrivals p.next
     h.placed.tickets within all
@@ -44,11 +44,11 @@ waiters_found p h =
         ∙ queued-from_number (status_at p u) (queued_on (status_at p u)) some refl))
 
 -- so it is the same with these in the place of those that it names
-pub renewed : (p : Inside) → IsSound p → record p { arrivals = arrivals_in p.statuses p.owners } ≡ p
+pub renewed : (p : Inside) → IsSoundInside p → record p { arrivals = arrivals_in p.statuses p.owners } ≡ p
 renewed p h = ap (λ (ws : List (ℕ × ℕ)). record p { arrivals = ws }) (waiters_found p h)
 
 -- and what holds of it with any list of waiters holds of it as it is found
-pub found_so : (p : Inside) (k : Kernel) → (kernel_of p ≡ k) × IsSound p
+pub found_so : (p : Inside) (k : Kernel) → (kernel_of p ≡ k) × IsSoundInside p
     → (kernel_of (record p { arrivals = arrivals_in p.statuses p.owners }) ≡ k)
-    × IsSound (record p { arrivals = arrivals_in p.statuses p.owners })
-found_so p k h = (ap kernel_of (renewed p h.1) ∙ h.0, subst IsSound (sym (renewed p h.1)) h.1)
+    × IsSoundInside (record p { arrivals = arrivals_in p.statuses p.owners })
+found_so p k h = (ap kernel_of (renewed p h.1) ∙ h.0, subst IsSoundInside (sym (renewed p h.1)) h.1)

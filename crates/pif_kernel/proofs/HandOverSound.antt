@@ -6,7 +6,7 @@ use Rattle.std.proofs.lemmas.Bool.{cases_eq, cases_lt, true≢false}
 use Rattle.std.proofs.lemmas.Bool.Decides.{nat_tests}
 use Rattle.std.proofs.lemmas.List.{get_or-set_same, get_or-set_other, get_or_past}
 use Rattle.pif_nodes.specs.declared.keys.Key.{Key}
-use Rattle.pif_nodes.specs.Table.{Table}
+use Rattle.pif_nodes.specs.Table.{NodeLists}
 use Rattle.pif_runq.specs.Levels.{Queue, Holds, IsLevel, IsQueued, level_of}
 use Rattle.pif_runq.specs.Levels.{level_after_add}
 use Rattle.pif_model.specs.declared.lines.Status.{Status}
@@ -29,7 +29,7 @@ use Rattle.pif_chains.proofs.KernelFacts.{queued-from_number}
 use Rattle.pif_chains.proofs.KernelKept.{hand_over_kept}
 use Rattle.pif_chains.proofs.KernelLevels.{level-joined_same, level-joined_other}
 use Rattle.pif_chains.proofs.KernelNumbers.{among-push_other}
-use Rattle.pif_kernel.specs.Inside.{Inside, IsListed, IsPlaced, IsSound, kernel_of, status_at, key_at, state_at, ticket_of}
+use Rattle.pif_kernel.specs.Inside.{Inside, IsListed, IsPlaced, IsSoundInside, kernel_of, status_at, state_key_at, state_at, ticket_of}
 use Rattle.pif_owners.specs.Arrivals.{mutexes_of}
 use Rattle.pif_owners.proofs.WaitersWithout.{rise_without, waiter_kept, mutexes_without}
 use Rattle.pif_kernel.proofs.HandOverFacts.{IsHanded, IsGiven, IsHandable, IsHanding, IsHandedOn}
@@ -42,10 +42,10 @@ use Rattle.pif_kernel.proofs.TopLaws.{waits_under, priority_below, top_is_next}
 use Rattle.pif_kernel.proofs.WalkSound.{IsWalkable, owners_effective}
 
 module _ (p : Inside) (t m key u : ℕ) (d : IsHandable p t m key) (top : IsTop p.owners key u) where
-  h : IsSound p
+  h : IsSoundInside p
   h = d.sound
 
-  at : key_at p m ≡ Some key
+  at : state_key_at p m ≡ Some key
   at = d.at
 
   abbrev rest : List (ℕ × ℕ)
@@ -89,7 +89,7 @@ module _ (p : Inside) (t m key u : ℕ) (d : IsHandable p t m key) (top : IsTop 
   next_known = added_back p fit u next_some next_added
 
   mutex_some : m ≢ 0
-  mutex_some z = let none : None ≡ Some key = sym h.placed.no_mutex ∙ ap (key_at p) (sym z) ∙ at in cc
+  mutex_some z = let none : None ≡ Some key = sym h.placed.no_mutex ∙ ap (state_key_at p) (sym z) ∙ at in cc
 
   pub mutex_known : m < length p.keys
   mutex_known = by_place (cases_lt m (length p.keys))
@@ -223,7 +223,7 @@ module _ (p : Inside) (t m key u : ℕ) (d : IsHandable p t m key) (top : IsTop 
 
   module _ (keys : List (Option ℕ)) (owners : Owners) (prio : ℕ) (o : IsHanded p keys owners u m key)
       (rank_is : prio ≡ effective_in (kernel_of p) u)
-      (q : Queue) (tb : Table) (place : q ≡ record p.queue { mask = q.mask })
+      (q : Queue) (tb : NodeLists) (place : q ≡ record p.queue { mask = q.mask })
       (levels : (r : ℕ) → IsLevel r → level_of q tb r ≡ level_after_add u prio r (level_of p.queue p.table r))
       (holds : Holds q tb) where
     -- what is kept before the walk
@@ -277,13 +277,13 @@ module _ (p : Inside) (t m key u : ℕ) (d : IsHandable p t m key) (top : IsTop 
         ap (λ (v : ℕ). status_at mid v) e ∙ get_or-set_same p.statuses u (Ready Owns) (Ready Fresh) next_added
 
     -- the owner state of m, where others wait for it or not
-    here_some : has_waiter rest m ≡ true → key_at mid m ≡ Some key
+    here_some : has_waiter rest m ≡ true → state_key_at mid m ≡ Some key
     here_some e = o.here ∙ rw e refl
 
-    here_none : has_waiter rest m ≡ false → key_at mid m ≡ None
+    here_none : has_waiter rest m ≡ false → state_key_at mid m ≡ None
     here_none e = o.here ∙ rw e refl
 
-    alone : (n : ℕ) → n ≢ m → key_at p n ≡ Some key → ⊥
+    alone : (n : ℕ) → n ≢ m → state_key_at p n ≡ Some key → ⊥
     alone n ne e = ne (h.placed.apart n m key e at)
 
     state_some : has_waiter rest m ≡ true → state_at mid m ≡ u
@@ -304,9 +304,9 @@ module _ (p : Inside) (t m key u : ℕ) (d : IsHandable p t m key) (top : IsTop 
     state_other : (n : ℕ) → n ≢ m → state_at mid n ≡ state_at p n
     state_other n ne =
         ap (λ (k : Option ℕ). unwrap_or (option_and_then (owner_at owners) k) 0) (o.there n ne)
-        ∙ by_key (key_at p n) refl
+        ∙ by_key (state_key_at p n) refl
       where
-        by_key : (k : Option ℕ) → key_at p n ≡ k
+        by_key : (k : Option ℕ) → state_key_at p n ≡ k
             → unwrap_or (option_and_then (owner_at owners) k) 0 ≡ unwrap_or (option_and_then (owner_at p.owners) k) 0
         by_key None e = refl
         by_key (Some k) e = ap (λ (x : Option ℕ). unwrap_or x 0) (o.others k (λ z. alone n ne (e ∙ ap Some z)))
@@ -322,21 +322,21 @@ module _ (p : Inside) (t m key u : ℕ) (d : IsHandable p t m key) (top : IsTop 
         has_waiter-from_pair rest x m (waiter_kept p.arrivals u x m ne
         (waiter_was x m (queued-from_number (status_at p x) m mutex_some e)))
 
-    no_mutex_mid : key_at mid 0 ≡ None
+    no_mutex_mid : state_key_at mid 0 ≡ None
     no_mutex_mid = o.there 0 (λ e. mutex_some (sym e)) ∙ h.placed.no_mutex
 
-    waits_mid : (x : ℕ) → ((x ≡ u) ⊎ (x ≡ u → ⊥)) → waits_on mid.owners x ≡ key_at mid (queued_on (status_at mid x))
+    waits_mid : (x : ℕ) → ((x ≡ u) ⊎ (x ≡ u → ⊥)) → waits_on mid.owners x ≡ state_key_at mid (queued_on (status_at mid x))
     waits_mid x (inl e) =
         ap (λ (s : Seat). option_map (λ (w : Wait). w.state) s.wait) (same x e) ∙ sym no_mutex_mid
-        ∙ ap (λ (y : Status). key_at mid (queued_on y)) (sym (status_here x e))
+        ∙ ap (λ (y : Status). state_key_at mid (queued_on y)) (sym (status_here x e))
     waits_mid x (inr n) =
         ap (λ (s : Seat). option_map (λ (w : Wait). w.state) s.wait) (other x n) ∙ h.placed.waits x
         ∙ sym (by_place (cases_eq (queued_on (status_at p x)) m))
-        ∙ ap (λ (y : Status). key_at mid (queued_on y)) (sym (status_other x n))
+        ∙ ap (λ (y : Status). state_key_at mid (queued_on y)) (sym (status_other x n))
       where
         by_place : ((queued_on (status_at p x) ≡ m) ⊎ (queued_on (status_at p x) ≡ m → ⊥))
-            → key_at mid (queued_on (status_at p x)) ≡ key_at p (queued_on (status_at p x))
-        by_place (inl e) = ap (key_at mid) e ∙ here_some (left_one x n e) ∙ sym at ∙ ap (key_at p) (sym e)
+            → state_key_at mid (queued_on (status_at p x)) ≡ state_key_at p (queued_on (status_at p x))
+        by_place (inl e) = ap (state_key_at mid) e ∙ here_some (left_one x n e) ∙ sym at ∙ ap (state_key_at p) (sym e)
         by_place (inr ne) = o.there (queued_on (status_at p x)) ne
 
     owners_mid : (n : ℕ) → ((n ≡ m) ⊎ (n ≡ m → ⊥)) → state_at mid n < length mid.statuses
@@ -414,7 +414,7 @@ module _ (p : Inside) (t m key u : ℕ) (d : IsHandable p t m key) (top : IsTop 
     highest x e = by_rank (some_rank (seat_at p.owners x).wait key waits)
       where
         waits : waits_on p.owners x ≡ Some key
-        waits = h.placed.waits x ∙ ap (key_at p) (on_is x e) ∙ at
+        waits = h.placed.waits x ∙ ap (state_key_at p) (on_is x e) ∙ at
 
         by_rank : (r : Key) × (rank_of p.owners x ≡ Some r) → greatest_base p.owners x ≤ greatest_base p.owners u
         by_rank r =
@@ -538,31 +538,31 @@ module _ (p : Inside) (t m key u : ℕ) (d : IsHandable p t m key) (top : IsTop 
             ∙ ap (λ (j : ℕ). is_among (level_at (levels_with u prio (kernel_of p).levels) j) x) (sym same) ∙ on_new)
 
     -- a key of m is the one that it had, and others wait for m
-    kept_some : (a k : ℕ) → a ≡ m → key_at mid a ≡ Some k → has_waiter rest m ≡ true
+    kept_some : (a k : ℕ) → a ≡ m → state_key_at mid a ≡ Some k → has_waiter rest m ≡ true
     kept_some a k x e = by_test (has_waiter rest m) refl
       where
         by_test : (b : Bool) → has_waiter rest m ≡ b → has_waiter rest m ≡ true
         by_test true y = y
-        by_test false y = let none : None ≡ Some k = sym (here_none y) ∙ ap (key_at mid) (sym x) ∙ e in cc
+        by_test false y = let none : None ≡ Some k = sym (here_none y) ∙ ap (state_key_at mid) (sym x) ∙ e in cc
 
-    held : (a k : ℕ) → a ≡ m → key_at mid a ≡ Some k → k ≡ key
-    held a k x e = let both : Some k ≡ Some key = sym e ∙ ap (key_at mid) x ∙ here_some (kept_some a k x e) in cc
+    held : (a k : ℕ) → a ≡ m → state_key_at mid a ≡ Some k → k ≡ key
+    held a k x e = let both : Some k ≡ Some key = sym e ∙ ap (state_key_at mid) x ∙ here_some (kept_some a k x e) in cc
 
-    apart_mid : (a b k : ℕ) → ((a ≡ m) ⊎ (a ≡ m → ⊥)) → ((b ≡ m) ⊎ (b ≡ m → ⊥)) → key_at mid a ≡ Some k
-        → key_at mid b ≡ Some k → a ≡ b
+    apart_mid : (a b k : ℕ) → ((a ≡ m) ⊎ (a ≡ m → ⊥)) → ((b ≡ m) ⊎ (b ≡ m → ⊥)) → state_key_at mid a ≡ Some k
+        → state_key_at mid b ≡ Some k → a ≡ b
     apart_mid a b k (inl x) (inl y) e f = x ∙ sym y
     apart_mid a b k (inl x) (inr y) e f = absurd (alone b y (sym (o.there b y) ∙ f ∙ ap Some (held a k x e)))
     apart_mid a b k (inr x) (inl y) e f = absurd (alone a x (sym (o.there a x) ∙ e ∙ ap Some (held b k y f)))
     apart_mid a b k (inr x) (inr y) e f = h.placed.apart a b k (sym (o.there a x) ∙ e) (sym (o.there b y) ∙ f)
 
-    made_mid : (a k : ℕ) → ((a ≡ m) ⊎ (a ≡ m → ⊥)) → key_at mid a ≡ Some k → IsSome (owner_at owners k)
+    made_mid : (a k : ℕ) → ((a ≡ m) ⊎ (a ≡ m → ⊥)) → state_key_at mid a ≡ Some k → IsSome (owner_at owners k)
     made_mid a k (inl x) e =
         ap (λ (n : ℕ). is_some (owner_at owners n)) (held a k x e) ∙ ap is_some (o.owned (kept_some a k x e))
     made_mid a k (inr x) e =
-        let old : key_at p a ≡ Some k = sym (o.there a x) ∙ e in
+        let old : state_key_at p a ≡ Some k = sym (o.there a x) ∙ e in
         ap is_some (o.others k (λ z. alone a x (old ∙ ap Some z))) ∙ h.placed.made a k old
 
-    owned_mid : (a k : ℕ) → ((a ≡ m) ⊎ (a ≡ m → ⊥)) → key_at mid a ≡ Some k → state_at mid a ≢ 0
+    owned_mid : (a k : ℕ) → ((a ≡ m) ⊎ (a ≡ m → ⊥)) → state_key_at mid a ≡ Some k → state_at mid a ≢ 0
     owned_mid a k (inl x) e z = next_some (sym (ap (state_at mid) x ∙ state_some (kept_some a k x e)) ∙ z)
     owned_mid a k (inr x) e z = h.placed.owned a k (sym (o.there a x) ∙ e) (sym (state_other a x) ∙ z)
 
@@ -682,7 +682,7 @@ module _ (old p x : Inside) (t m key u : ℕ) (i : IsHanding old p x t m key u) 
   off = next_on_none p t m key u i.hands i.top
 
   -- what is kept before the walk
-  pub before_walk : (level : ℕ) (q : Queue) (tb : Table) → level ≡ (seat_at x.owners u).local
+  pub before_walk : (level : ℕ) (q : Queue) (tb : NodeLists) → level ≡ (seat_at x.owners u).local
       → q ≡ record p.queue { mask = q.mask }
       → ((r : ℕ) → IsLevel r → level_of q tb r ≡ level_after_add u level r (level_of p.queue p.table r)) → Holds q tb
       → IsWalkable (record p {

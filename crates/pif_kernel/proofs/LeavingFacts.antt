@@ -2,8 +2,8 @@
 use Rattle.std.proofs.Common.{◌≡◌, ◌≢◌, ◌⊎◌, ℕ, ◌+◌, ◌<◌, ◌≤◌, Bool, true, false, if◌then◌else◌, List, length, set, Option, Some, None, IsSome, is_some, option_map, option_and_then, unwrap_or, refl, sym, ap, subst, ◌∙◌, inl, inr, arith, length-set}
 use Rattle.std.proofs.lemmas.Bool.{cases_eq, cases_lt, true≢false, false≢true}
 use Rattle.std.proofs.lemmas.List.{get_or-set_same, get_or-set_other, get_or_past}
-use Rattle.pif_nodes.specs.Lists.{without as list_without}
-use Rattle.pif_nodes.specs.Table.{Table}
+use Rattle.pif_nodes.specs.Lists.{list_without}
+use Rattle.pif_nodes.specs.Table.{NodeLists}
 use Rattle.pif_nodes.proofs.ListLemmas.{without_absent}
 use Rattle.pif_runq.specs.Levels.{Queue, Holds, IsLevel, level_of}
 use Rattle.pif_model.specs.declared.lines.Status.{Status}
@@ -15,7 +15,7 @@ use Rattle.pif_owners.specs.Owners.{Owners, Seat, Wait, seat_at, owner_at, count
 use Rattle.pif_owners.proofs.MapLemmas.{get-remove_other}
 use Rattle.pif_chains.proofs.Among.{is_among as is_waiter}
 use Rattle.pif_chains.proofs.Waiting.{names, Once, without-unnamed, has_waiter-from_pair, has_waiter-without_other, waited-from_pair}
-use Rattle.pif_kernel.specs.Inside.{Inside, IsSound, kernel_of, status_at, key_at, state_at, ticket_of}
+use Rattle.pif_kernel.specs.Inside.{Inside, IsSoundInside, kernel_of, status_at, state_key_at, state_at, ticket_of}
 use Rattle.pif_owners.specs.Arrivals.{mutexes_of}
 use Rattle.pif_kernel.specs.Leaving.{IsLeft}
 use Rattle.pif_kernel.proofs.Seats.{status_seen, waits_seen, added_seen, waiters_seen}
@@ -37,17 +37,17 @@ no_wait s e = by_wait s.wait refl e
     by_wait (Some w) is e = let none : Some w.state ≡ None = sym (ap (option_map (λ (w : Wait). w.state)) is) ∙ e in cc
 
 -- a mutex has a key only where it has a waiter
-keyed : (p : Inside) → IsSound p → (m : ℕ) → key_at p m ≡ (if has_waiter p.arrivals m then key_at p m else None)
-keyed p h m = by_test (has_waiter p.arrivals m) refl (key_at p m) refl
+keyed : (p : Inside) → IsSoundInside p → (m : ℕ) → state_key_at p m ≡ (if has_waiter p.arrivals m then state_key_at p m else None)
+keyed p h m = by_test (has_waiter p.arrivals m) refl (state_key_at p m) refl
   where
-    by_test : (b : Bool) → has_waiter p.arrivals m ≡ b → (k : Option ℕ) → key_at p m ≡ k
-        → key_at p m ≡ (if has_waiter p.arrivals m then key_at p m else None)
+    by_test : (b : Bool) → has_waiter p.arrivals m ≡ b → (k : Option ℕ) → state_key_at p m ≡ k
+        → state_key_at p m ≡ (if has_waiter p.arrivals m then state_key_at p m else None)
     by_test true w k e = sym (rw w refl)
     by_test false w None e = e ∙ sym (rw w refl)
     by_test false w (Some k) e = absurd (true≢false (sym (has_waiter-key p h m (h.placed.owned m k e)) ∙ w))
 
 -- one that may not run is on no level
-pub unready_off : (p : Inside) → IsSound p → (t : ℕ) → is_ready (kernel_seat_at (kernel_of p) t).status ≡ false → (r : ℕ)
+pub unready_off : (p : Inside) → IsSoundInside p → (t : ℕ) → is_ready (kernel_seat_at (kernel_of p) t).status ≡ false → (r : ℕ)
     → IsLevel r → level_of p.queue p.table r ≡ list_without t (level_of p.queue p.table r)
 unready_off p h t unready r l =
     sym (without_absent t (level_of p.queue p.table r) (sym (among_has (level_of p.queue p.table r) t)
@@ -59,13 +59,13 @@ unready_off p h t unready r l =
     both_false false = refl
 
 -- who waits for nothing leaves its level alone, or the variable on which it is parked
-module _ (p : Inside) (t : ℕ) (h : IsSound p) (known : has_seat (kernel_of p) t ≡ true)
-    (idle : queued_on (status_at p t) ≡ 0) (q : Queue) (tb : Table)
+module _ (p : Inside) (t : ℕ) (h : IsSoundInside p) (known : has_seat (kernel_of p) t ≡ true)
+    (idle : queued_on (status_at p t) ≡ 0) (q : Queue) (tb : NodeLists)
     (levels : (r : ℕ) → IsLevel r → level_of q tb r ≡ list_without t (level_of p.queue p.table r))
     (place : q ≡ record p.queue { mask = q.mask }) (holds : Holds q tb)
     (ps : List Parking) (but : ps ≡ unparked p.parked t) where
   free_here : waits_on p.owners t ≡ None
-  free_here = h.placed.waits t ∙ ap (key_at p) idle ∙ h.placed.no_mutex
+  free_here = h.placed.waits t ∙ ap (state_key_at p) idle ∙ h.placed.no_mutex
 
   unnamed : names t p.arrivals ≡ false
   unnamed = by_test (names t p.arrivals) refl
@@ -90,7 +90,7 @@ module _ (p : Inside) (t : ℕ) (h : IsSound p) (known : has_seat (kernel_of p) 
     others = λ u n. refl;
     places = refl;
     keys = λ m. keyed p h m
-        ∙ ap (λ (ws : List (ℕ × ℕ)). if has_waiter ws m then key_at p m else None) (sym same);
+        ∙ ap (λ (ws : List (ℕ × ℕ)). if has_waiter ws m then state_key_at p m else None) (sym same);
     states = λ m k w e. refl;
     count = h.placed.count ∙ ap mutexes_of (sym same);
     levels = levels;
@@ -102,7 +102,7 @@ module _ (p : Inside) (t : ℕ) (h : IsSound p) (known : has_seat (kernel_of p) 
   }
 
 -- who is queued leaves the owner state of its mutex
-module _ (p : Inside) (t m : ℕ) (h : IsSound p) (queued : (kernel_seat_at (kernel_of p) t).status ≡ Queued m) where
+module _ (p : Inside) (t m : ℕ) (h : IsSoundInside p) (queued : (kernel_seat_at (kernel_of p) t).status ≡ Queued m) where
   abbrev rest : List (ℕ × ℕ)
   rest = without p.arrivals t
 
@@ -124,10 +124,10 @@ module _ (p : Inside) (t m : ℕ) (h : IsSound p) (queued : (kernel_seat_at (ker
       true≢false (sym (has_waiter-from_pair p.arrivals t m among) ∙ no_key-no_waiter p h m z)
 
   -- its mutex has a key
-  pub key_there : IsSome (key_at p m)
-  key_there = by_key (key_at p m) refl
+  pub key_there : IsSome (state_key_at p m)
+  key_there = by_key (state_key_at p m) refl
     where
-      by_key : (k : Option ℕ) → key_at p m ≡ k → is_some (key_at p m) ≡ true
+      by_key : (k : Option ℕ) → state_key_at p m ≡ k → is_some (state_key_at p m) ≡ true
       by_key None e =
           absurd (owned_some (ap (λ (x : Option ℕ). unwrap_or (option_and_then (owner_at p.owners) x) 0) e))
       by_key (Some k) e = ap is_some e
@@ -147,12 +147,12 @@ module _ (p : Inside) (t m : ℕ) (h : IsSound p) (queued : (kernel_seat_at (ker
       by_place (inr g) =
           absurd (false≢true (sym (ap (λ (s : Seat). is_some (option_map (λ (w : Wait). w.state) s.wait))
           (get_or_past p.owners.seats t no_seat g))
-          ∙ ap is_some (h.placed.waits t ∙ ap (λ (x : Status). key_at p (queued_on x)) status) ∙ key_there))
+          ∙ ap is_some (h.placed.waits t ∙ ap (λ (x : Status). state_key_at p (queued_on x)) status) ∙ key_there))
 
-  module _ (key : ℕ) (at : key_at p m ≡ Some key) where
+  module _ (key : ℕ) (at : state_key_at p m ≡ Some key) where
     -- it waits under that key
     pub waits_here : waits_on p.owners t ≡ Some key
-    waits_here = h.placed.waits t ∙ ap (λ (x : Status). key_at p (queued_on x)) status ∙ at
+    waits_here = h.placed.waits t ∙ ap (λ (x : Status). state_key_at p (queued_on x)) status ∙ at
 
     -- the owner states without it
     abbrev pub freed : Owners
@@ -190,9 +190,9 @@ module _ (p : Inside) (t m : ℕ) (h : IsSound p) (queued : (kernel_seat_at (ker
         once : Once p.arrivals
         once = rise_once (ticket_of p.owners) 1 p.arrivals p.next h.placed.tickets
 
-    keys_other : (n : ℕ) → n ≢ m → key_at p n ≡ (if has_waiter rest n then key_at p n else None)
+    keys_other : (n : ℕ) → n ≢ m → state_key_at p n ≡ (if has_waiter rest n then state_key_at p n else None)
     keys_other n ne =
-        keyed p h n ∙ ap (λ (b : Bool). if b then key_at p n else None) (sym (others_kept n ne))
+        keyed p h n ∙ ap (λ (b : Bool). if b then state_key_at p n else None) (sym (others_kept n ne))
 
     fewer : mutexes_of rest + (if has_waiter rest m then 0 else 1) ≡ mutexes_of p.arrivals
     fewer = mutexes_without p.arrivals t m (rise_once (ticket_of p.owners) 1 p.arrivals p.next h.placed.tickets) among
@@ -232,7 +232,7 @@ module _ (p : Inside) (t m : ℕ) (h : IsSound p) (queued : (kernel_seat_at (ker
         added = owner_below;
       }
         where
-          by_place : (n : ℕ) → ((n ≡ m) ⊎ (n ≡ m → ⊥)) → key_at p n ≡ (if has_waiter rest n then key_at p n else None)
+          by_place : (n : ℕ) → ((n ≡ m) ⊎ (n ≡ m → ⊥)) → state_key_at p n ≡ (if has_waiter rest n then state_key_at p n else None)
           by_place n (inl e) = sym (rw (ap (has_waiter rest) e ∙ some) refl)
           by_place n (inr ne) = keys_other n ne
 
@@ -263,13 +263,13 @@ module _ (p : Inside) (t m : ℕ) (h : IsSound p) (queued : (kernel_seat_at (ker
       }
         where
           by_place : (n : ℕ) → ((n ≡ m) ⊎ (n ≡ m → ⊥))
-              → key_at (record p { keys = set p.keys m None }) n ≡ (if has_waiter rest n then key_at p n else None)
+              → state_key_at (record p { keys = set p.keys m None }) n ≡ (if has_waiter rest n then state_key_at p n else None)
           by_place n (inl e) =
-              ap (key_at (record p { keys = set p.keys m None })) e ∙ get_or-set_same p.keys m None None mutex_below
+              ap (state_key_at (record p { keys = set p.keys m None })) e ∙ get_or-set_same p.keys m None None mutex_below
               ∙ sym (rw (ap (has_waiter rest) e ∙ none) refl)
           by_place n (inr ne) = get_or-set_other p.keys m n None None ne ∙ keys_other n ne
 
-          by_owner : (n k : ℕ) → has_waiter rest n ≡ true → key_at p n ≡ Some k → ((k ≡ key) ⊎ (k ≡ key → ⊥))
+          by_owner : (n k : ℕ) → has_waiter rest n ≡ true → state_key_at p n ≡ Some k → ((k ≡ key) ⊎ (k ≡ key → ⊥))
               → owner_at v k ≡ owner_at p.owners k
           by_owner n k w e (inl same) =
               let at_m : n ≡ m = h.placed.apart n m key (e ∙ ap Some same) at in
@@ -285,8 +285,8 @@ module _ (p : Inside) (t m : ℕ) (h : IsSound p) (queued : (kernel_seat_at (ker
               omega (arith, f, g, h.placed.count)
 
 -- the same, as it is written
-pub still_at : (p x : Inside) (t m : ℕ) (h : IsSound p) (queued : (kernel_seat_at (kernel_of p) t).status ≡ Queued m)
-    (key : ℕ) (at : key_at p m ≡ Some key) (owner : ℕ) → owner_at p.owners key ≡ Some owner
+pub still_at : (p x : Inside) (t m : ℕ) (h : IsSoundInside p) (queued : (kernel_seat_at (kernel_of p) t).status ≡ Queued m)
+    (key : ℕ) (at : state_key_at p m ≡ Some key) (owner : ℕ) → owner_at p.owners key ≡ Some owner
     → (v : Owners) (ws : List (ℕ × ℕ)) → x ≡ record p { owners = v; arrivals = ws } → ws ≡ without p.arrivals t
     → has_waiter (without p.arrivals t) m ≡ true → v ≡ with_wait t None p.owners → IsLeft p x t owner
 still_at p x t m h queued key at owner owns v ws is same some e =
@@ -294,8 +294,8 @@ still_at p x t m h queued key at owner owns v ws is same some e =
     (sym (is ∙ (λ i. record p { owners = e i; arrivals = same i })))
     (left_still p t m h queued key at owner owns some)
 
-pub ended_at : (p x : Inside) (t m : ℕ) (h : IsSound p) (queued : (kernel_seat_at (kernel_of p) t).status ≡ Queued m)
-    (key : ℕ) (at : key_at p m ≡ Some key) (owner : ℕ) → owner_at p.owners key ≡ Some owner
+pub ended_at : (p x : Inside) (t m : ℕ) (h : IsSoundInside p) (queued : (kernel_seat_at (kernel_of p) t).status ≡ Queued m)
+    (key : ℕ) (at : state_key_at p m ≡ Some key) (owner : ℕ) → owner_at p.owners key ≡ Some owner
     → (v given : Owners) (ws : List (ℕ × ℕ))
     → x ≡ record p { keys = set p.keys m None; owners = v; arrivals = ws }
     → ws ≡ without p.arrivals t → has_waiter (without p.arrivals t) m ≡ false

@@ -21,7 +21,7 @@ use Rattle.pif_chains.proofs.KernelNumbers.{is_other, among-left_same, among-lef
 use Rattle.pif_chains.proofs.Statuses.{out-queued_on_nothing}
 use Rattle.pif_chains.proofs.Waiting.{has_waiter-from_pair}
 use Rattle.pif_chains.proofs.Among.{is_among as is_waiter}
-use Rattle.pif_kernel.specs.Inside.{Inside, IsListed, IsPlaced, IsSound, kernel_of, status_at, key_at, state_at, ticket_of}
+use Rattle.pif_kernel.specs.Inside.{Inside, IsListed, IsPlaced, IsSoundInside, kernel_of, status_at, state_key_at, state_at, ticket_of}
 use Rattle.pif_kernel.specs.Leaving.{IsLeft}
 use Rattle.pif_kernel.proofs.Seats.{IsFitted, same_seats, status_seen, owners_waits, added_seen, waiters_seen, states_seen, states_length, kernel_by_parts, seats_of-set_status, seats_of-same_base}
 use Rattle.pif_kernel.proofs.Picked.{levels_left, length-left}
@@ -30,7 +30,7 @@ use Rattle.pif_kernel.proofs.ChainLaws.{repaired_but}
 use Rattle.pif_owners.proofs.WaitersWithout.{rise_without, waiter_kept}
 use Rattle.pif_kernel.proofs.WalkSound.{IsWalkable, owners_effective}
 
-module _ (p x : Inside) (next : Status) (t start : ℕ) (h : IsSound p) (lives : is_living (kernel_of p) t ≡ true)
+module _ (p x : Inside) (next : Status) (t start : ℕ) (h : IsSoundInside p) (lives : is_living (kernel_of p) t ≡ true)
     (out : is_out next ≡ true) (l : IsLeft p x t start) where
   abbrev rest : List (ℕ × ℕ)
   rest = without p.arrivals t
@@ -88,15 +88,15 @@ module _ (p x : Inside) (next : Status) (t start : ℕ) (h : IsSound p) (lives :
   status_here u e = ap (λ (v : ℕ). status_at mid v) e ∙ get_or-set_same p.statuses t next (Ready Fresh) added
 
   -- the owner state of a mutex on which others are queued is the one that it was
-  owner_kept : (n : ℕ) → has_waiter rest n ≡ true → (k : Option ℕ) → key_at p n ≡ k
+  owner_kept : (n : ℕ) → has_waiter rest n ≡ true → (k : Option ℕ) → state_key_at p n ≡ k
       → unwrap_or (option_and_then (owner_at x.owners) k) 0 ≡ unwrap_or (option_and_then (owner_at p.owners) k) 0
   owner_kept n w None e = refl
   owner_kept n w (Some k) e = ap (λ (o : Option ℕ). unwrap_or o 0) (l.states n k w e)
 
-  key_some : (n : ℕ) → has_waiter rest n ≡ true → key_at mid n ≡ key_at p n
+  key_some : (n : ℕ) → has_waiter rest n ≡ true → state_key_at mid n ≡ state_key_at p n
   key_some n w = l.keys n ∙ rw w refl
 
-  key_none : (n : ℕ) → has_waiter rest n ≡ false → key_at mid n ≡ None
+  key_none : (n : ℕ) → has_waiter rest n ≡ false → state_key_at mid n ≡ None
   key_none n w = l.keys n ∙ rw w refl
 
   state_mid : (n : ℕ) → state_at mid n ≡ (if has_waiter rest n then state_at p n else 0)
@@ -105,7 +105,7 @@ module _ (p x : Inside) (next : Status) (t start : ℕ) (h : IsSound p) (lives :
       by_test : (b : Bool) → has_waiter rest n ≡ b → state_at mid n ≡ (if has_waiter rest n then state_at p n else 0)
       by_test true w =
           ap (λ (k : Option ℕ). unwrap_or (option_and_then (owner_at x.owners) k) 0) (key_some n w)
-          ∙ owner_kept n w (key_at p n) refl ∙ sym (rw w refl)
+          ∙ owner_kept n w (state_key_at p n) refl ∙ sym (rw w refl)
       by_test false w =
           ap (λ (k : Option ℕ). unwrap_or (option_and_then (owner_at x.owners) k) 0) (key_none n w)
           ∙ sym (rw w refl)
@@ -140,10 +140,10 @@ module _ (p x : Inside) (next : Status) (t start : ℕ) (h : IsSound p) (lives :
   waits_here : waits_for (kernel_of mid) t ≡ 0
   waits_here = waits_left t ∙ waits-left_same next t (kernel_of p) h.kernel known out
 
-  no_mutex_mid : key_at mid 0 ≡ None
+  no_mutex_mid : state_key_at mid 0 ≡ None
   no_mutex_mid = by_test (has_waiter rest 0) refl
     where
-      by_test : (b : Bool) → has_waiter rest 0 ≡ b → key_at mid 0 ≡ None
+      by_test : (b : Bool) → has_waiter rest 0 ≡ b → state_key_at mid 0 ≡ None
       by_test true w = key_some 0 w ∙ h.placed.no_mutex
       by_test false w = key_none 0 w
 
@@ -154,22 +154,22 @@ module _ (p x : Inside) (next : Status) (t start : ℕ) (h : IsSound p) (lives :
       (subst (λ (ws : List (ℕ × ℕ)). is_waiter ws u m ≡ true) (waiters_seen p)
       (h.kernel.queued u m (status_seen p fit u ∙ queued-from_number (status_at p u) m z e))))
 
-  key_kept : (u : ℕ) → u ≢ t → key_at mid (queued_on (status_at p u)) ≡ key_at p (queued_on (status_at p u))
+  key_kept : (u : ℕ) → u ≢ t → state_key_at mid (queued_on (status_at p u)) ≡ state_key_at p (queued_on (status_at p u))
   key_kept u n = by_place (cases_eq (queued_on (status_at p u)) 0)
     where
       by_place : ((queued_on (status_at p u) ≡ 0) ⊎ (queued_on (status_at p u) ≡ 0 → ⊥))
-          → key_at mid (queued_on (status_at p u)) ≡ key_at p (queued_on (status_at p u))
-      by_place (inl z) = ap (key_at mid) z ∙ no_mutex_mid ∙ sym h.placed.no_mutex ∙ ap (key_at p) (sym z)
+          → state_key_at mid (queued_on (status_at p u)) ≡ state_key_at p (queued_on (status_at p u))
+      by_place (inl z) = ap (state_key_at mid) z ∙ no_mutex_mid ∙ sym h.placed.no_mutex ∙ ap (state_key_at p) (sym z)
       by_place (inr z) = key_some (queued_on (status_at p u)) (left_one u (queued_on (status_at p u)) n z refl)
 
-  waits_mid : (u : ℕ) → ((u ≡ t) ⊎ (u ≡ t → ⊥)) → waits_on mid.owners u ≡ key_at mid (queued_on (status_at mid u))
+  waits_mid : (u : ℕ) → ((u ≡ t) ⊎ (u ≡ t → ⊥)) → waits_on mid.owners u ≡ state_key_at mid (queued_on (status_at mid u))
   waits_mid u (inl e) =
       ap (waits_on mid.owners) e ∙ ap (λ (s : Seat). option_map (λ (w : Wait). w.state) s.wait) l.free
-      ∙ sym no_mutex_mid ∙ ap (key_at mid) (sym (out-queued_on_nothing next out))
-      ∙ ap (λ (y : Status). key_at mid (queued_on y)) (sym (status_here u e))
+      ∙ sym no_mutex_mid ∙ ap (state_key_at mid) (sym (out-queued_on_nothing next out))
+      ∙ ap (λ (y : Status). state_key_at mid (queued_on y)) (sym (status_here u e))
   waits_mid u (inr n) =
       ap (λ (s : Seat). option_map (λ (w : Wait). w.state) s.wait) (l.others u n) ∙ h.placed.waits u
-      ∙ sym (key_kept u n) ∙ ap (λ (y : Status). key_at mid (queued_on y)) (sym (status_other u n))
+      ∙ sym (key_kept u n) ∙ ap (λ (y : Status). state_key_at mid (queued_on y)) (sym (status_other u n))
 
   owners_mid : (n : ℕ) → state_at mid n < length mid.statuses
   owners_mid n = by_test (has_waiter rest n) refl
@@ -213,10 +213,10 @@ module _ (p x : Inside) (next : Status) (t start : ℕ) (h : IsSound p) (lives :
           }
 
   -- a key that is there was there, and others are queued on its mutex
-  was : (a k : ℕ) → key_at mid a ≡ Some k → (has_waiter rest a ≡ true) × (key_at p a ≡ Some k)
+  was : (a k : ℕ) → state_key_at mid a ≡ Some k → (has_waiter rest a ≡ true) × (state_key_at p a ≡ Some k)
   was a k e = by_test (has_waiter rest a) refl
     where
-      by_test : (b : Bool) → has_waiter rest a ≡ b → (has_waiter rest a ≡ true) × (key_at p a ≡ Some k)
+      by_test : (b : Bool) → has_waiter rest a ≡ b → (has_waiter rest a ≡ true) × (state_key_at p a ≡ Some k)
       by_test true w = (w, sym (key_some a w) ∙ e)
       by_test false w = let none : None ≡ Some k = sym (key_none a w) ∙ e in cc
 
@@ -288,7 +288,7 @@ module _ (p x : Inside) (next : Status) (t start : ℕ) (h : IsSound p) (lives :
   }
 
 -- what is kept before the walk, as it is written
-pub before_walk : (p x y : Inside) (next : Status) (t start g : ℕ) → IsSound p → is_living (kernel_of p) t ≡ true
+pub before_walk : (p x y : Inside) (next : Status) (t start g : ℕ) → IsSoundInside p → is_living (kernel_of p) t ≡ true
     → is_out next ≡ true → IsLeft p x t start → y ≡ x → g ≡ t
     → IsWalkable (record y { statuses = set y.statuses g next; arrivals = without p.arrivals t }) start
     (kernel_left_as next t (kernel_of p))

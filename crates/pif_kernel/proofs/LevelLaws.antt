@@ -6,7 +6,7 @@ use Rattle.std.proofs.lemmas.Bool.{cases_eq, true≢false}
 use Rattle.std.proofs.lemmas.Bool.Decides.{nat_tests}
 use Rattle.std.proofs.lemmas.List.Elements.{filter-append}
 use Rattle.pif_nodes.specs.Lists.{has}
-use Rattle.pif_nodes.specs.Table.{Table}
+use Rattle.pif_nodes.specs.Table.{NodeLists}
 use Rattle.pif_runq.specs.Levels.{Queue, Holds, IsLevel, level_of, level_with}
 use Rattle.pif_runq.proofs.LevelWithLemmas.{level_with-from_listed, listed-from_level_with}
 use Rattle.pif_owners.specs.Owners.{Owners}
@@ -33,7 +33,7 @@ filter_fewer f n (suc more) le h = by_place (cases_eq n (suc more)) (λ less. fi
         ap (filter f) (numbers-more more) ∙ filter-append f (numbers more) (suc more ∷ [])
         ∙ rw out (append-nil (filter f (numbers more))) ∙ ih (omega arith)
 
-module _ (v : Owners) (q : Queue) (tb : Table) (levels : List (List ℕ)) (n : ℕ) (effective : ℕ → ℕ) (holds : Holds q tb)
+module _ (v : Owners) (q : Queue) (tb : NodeLists) (levels : List (List ℕ)) (n : ℕ) (effective : ℕ → ℕ) (holds : Holds q tb)
     (seen : (r : ℕ) → level_at levels r ≡ levels_of q tb r)
     (same : (u : ℕ) → greatest_base v u ≡ effective u) (few : n ≤ length v.seats - 1)
     (off : (u r : ℕ) → n < u → is_among (level_at levels r) u ≡ false) where
@@ -120,7 +120,7 @@ module _ (v : Owners) (q : Queue) (tb : Table) (levels : List (List ℕ)) (n : �
       (ap₂ (λ (f : ℕ → Bool) (xs : List ℕ). filter f xs) (fun_ext (joins_moves p)) (range_numbers (length v.seats - 1))
       ∙ filter_fewer (moves_to effective levels p) n (length v.seats - 1) few (λ u less. still p u (λ r. off u r less)))
 
-  pub levels_settled : (q' : Queue) (tb' : Table)
+  pub levels_settled : (q' : Queue) (tb' : NodeLists)
       → ((p : ℕ) → IsLevel p → level_of q' tb' p ≡ level_after_walk v q tb p) → (p : ℕ)
       → levels_of q' tb' p ≡ level_at (effective_levels n effective levels) p
   levels_settled q' tb' walks p = by_test (is_priority p) refl

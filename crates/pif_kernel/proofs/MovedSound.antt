@@ -1,7 +1,7 @@
 -- What is kept stays sound where a thread that waits for nothing gets another status, by which it waits for nothing
 -- either, whatever becomes of its place in the run queue and among the parked threads.
 use Rattle.std.proofs.Common.{◌≡◌, ℕ, List, length, set, sym, ap, ◌∙◌, arith, length-set}
-use Rattle.pif_nodes.specs.Table.{Table}
+use Rattle.pif_nodes.specs.Table.{NodeLists}
 use Rattle.pif_runq.specs.Levels.{Queue, Holds}
 use Rattle.pif_model.specs.declared.lines.Status.{Status}
 use Rattle.pif_model.specs.declared.lines.Status.TheVariants.{Ready}
@@ -11,12 +11,12 @@ use Rattle.pif_model.specs.PiKernel.{seat_at as kernel_seat_at}
 use Rattle.pif_owners.specs.Owners.{seat_at}
 use Rattle.pif_chains.proofs.Greatest.{effective_same}
 use Rattle.pif_chains.proofs.Places.{kept_at}
-use Rattle.pif_kernel.specs.Inside.{Inside, IsPlaced, IsSound, kernel_of, status_at, key_at, state_at}
+use Rattle.pif_kernel.specs.Inside.{Inside, IsPlaced, IsSoundInside, kernel_of, status_at, state_key_at, state_at}
 use Rattle.pif_kernel.proofs.Seats.{IsFitted, base_seen, waits_seen, seats_length}
 use Rattle.pif_kernel.proofs.Standing.{fits, listed_kept}
 
 -- t has the status x then, and these threads are parked
-module _ (p : Inside) (x : Status) (ps : List Parking) (q : Queue) (tb : Table) (t : ℕ) (h : IsSound p)
+module _ (p : Inside) (x : Status) (ps : List Parking) (q : Queue) (tb : NodeLists) (t : ℕ) (h : IsSoundInside p)
     (idle : queued_on (status_at p t) ≡ 0) (nothing : queued_on x ≡ 0)
     (place : q ≡ record p.queue { mask = q.mask }) (holds : Holds q tb) where
   -- what is kept then
@@ -34,7 +34,7 @@ module _ (p : Inside) (x : Status) (ps : List Parking) (q : Queue) (tb : Table) 
   fit_after = record {
     few = omega (arith, (fits p h).few, long);
     free = λ u l. h.placed.free u (omega (arith, l, long));
-    waits = λ u. h.placed.waits u ∙ ap (key_at p) (sym (queued_same u));
+    waits = λ u. h.placed.waits u ∙ ap (state_key_at p) (sym (queued_same u));
     owners = λ m. omega (arith, h.placed.owners m, long);
   }
 
@@ -81,7 +81,7 @@ module _ (p : Inside) (x : Status) (ps : List Parking) (q : Queue) (tb : Table) 
     }
 
     -- all of it is sound
-    pub sound_moved : IsSound after
+    pub sound_moved : IsSoundInside after
     sound_moved = record {
       placed = placed_after;
       local = local_after;

@@ -4,7 +4,7 @@ use Rattle.std.proofs.lemmas.List.{length-replicate}
 use Rattle.std.specs.Ordering.{nat_cmp}
 use Rattle.std.specs.FinMap.{len-empty}
 use Rattle.pif_types.specs.Bounds.{Bounds, IsWithin}
-use Rattle.pif_nodes.specs.Table.{Table}
+use Rattle.pif_nodes.specs.Table.{NodeLists}
 use Rattle.pif_runq.specs.Levels.{Queue, Holds, IsLevel, level_of}
 use Rattle.pif_model.specs.declared.lines.Status.TheVariants.{Ready}
 use Rattle.pif_model.specs.declared.lines.Woken.TheVariants.{Fresh}
@@ -18,7 +18,7 @@ use Rattle.pif_chains.proofs.KernelLevels.{length-levels_by}
 use Rattle.pif_chains.proofs.KernelSettled.{priority-range}
 use Rattle.pif_chains.proofs.KernelNew.{no_state, length-no_states, no_level}
 use Rattle.pif_kernel.proofs.Found.{found_so}
-use Rattle.pif_kernel.specs.Inside.{Inside, IsPlaced, IsSound, kernel_of, no_keys, key_at, state_at, status_at, owner_under, seats_of}
+use Rattle.pif_kernel.specs.Inside.{Inside, IsPlaced, IsSoundInside, kernel_of, no_keys, state_key_at, state_at, status_at, owner_under, seats_of}
 use Rattle.pif_kernel.specs.Chained.{Chained, IsUnused}
 use Rattle.pif_kernel.specs.Fields.{inside_from}
 use Rattle.pif_kernel.proofs.Seats.{IsFitted, kernel_by_parts, states_seen, states_length}
@@ -46,7 +46,7 @@ pub keys_made : (keys : List (Option ℕ)) → keys ≡ replicate 1025 None → 
 unfolding no_keys
 keys_made keys e = e
 
-module _ (l : Bounds) (first : ℕ) (within : IsWithin l) (some : 1 ≤ first) (q : Queue) (tb : Table)
+module _ (l : Bounds) (first : ℕ) (within : IsWithin l) (some : 1 ≤ first) (q : Queue) (tb : NodeLists)
     (threads : q.threads ≡ l.threads) (levels : (p : ℕ) → IsLevel p → level_of q tb p ≡ []) (holds : Holds q tb) where
   abbrev pub new : Inside
   new =
@@ -69,7 +69,7 @@ module _ (l : Bounds) (first : ℕ) (within : IsWithin l) (some : 1 ≤ first) (
       by_test true e = rw e (levels p (priority-range p e))
       by_test false e = rw e refl
 
-  no_key_at : (m : ℕ) → key_at new m ≡ None
+  no_key_at : (m : ℕ) → state_key_at new m ≡ None
   unfolding no_keys
   no_key_at m = alike 1025 m None
 
@@ -133,7 +133,7 @@ module _ (l : Bounds) (first : ℕ) (within : IsWithin l) (some : 1 ≤ first) (
     tickets = some;
   }
 
-  pub new_sound : IsSound new
+  pub new_sound : IsSoundInside new
   new_sound = record {
     placed = new_placed;
     local = local_new;
@@ -147,12 +147,12 @@ module _ (l : Bounds) (first : ℕ) (within : IsWithin l) (some : 1 ≤ first) (
 -- the same over chains of which nobody was admitted
 pub new_in_chains : (l : Bounds) (first : ℕ) (x : Chained) → IsWithin l → 1 ≤ first → IsUnused l.threads x
     → (kernel_of (inside_from l (Ready Fresh ∷ []) x first) ≡ new_kernel l)
-    × IsSound (inside_from l (Ready Fresh ∷ []) x first)
+    × IsSoundInside (inside_from l (Ready Fresh ∷ []) x first)
 new_in_chains l first x within some unused =
     let y : Chained = record x { owners = no_owners l.threads; keys = no_keys; parked = [] } in
     let is : x ≡ y = λ i. record x { owners = unused.owners i; keys = unused.keys i; parked = unused.parked i } in
     subst (λ (z : Chained). (kernel_of (inside_from l (Ready Fresh ∷ []) z first) ≡ new_kernel l)
-    × IsSound (inside_from l (Ready Fresh ∷ []) z first)) (sym is)
+    × IsSoundInside (inside_from l (Ready Fresh ∷ []) z first)) (sym is)
     (found_so _ (new_kernel l) (
       new_seen l first within some x.queue x.table unused.threads unused.levels unused.holds,
       new_sound l first within some x.queue x.table unused.threads unused.levels unused.holds,

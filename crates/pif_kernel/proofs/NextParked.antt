@@ -11,7 +11,7 @@ use Rattle.pif_chains.proofs.Waiting.{by_test, has_waiter-push, or_true, or_fals
 use Rattle.pif_model.specs.PiKernel.{Parking, parked_pairs, has_parked, top_parked, has_other_target}
 use Rattle.pif_boost.specs.Boosts.{local_of}
 use Rattle.pif_chains.proofs.KernelParks.{parked_pairs-push}
-use Rattle.pif_kernel.specs.Inside.{Inside, IsSound, kernel_of}
+use Rattle.pif_kernel.specs.Inside.{Inside, IsSoundInside, kernel_of}
 use Rattle.pif_kernel.specs.Takings.{first_parked, goes_before, have_target}
 use Rattle.pif_kernel.proofs.Seats.{parked_seen}
 
@@ -172,7 +172,7 @@ pub parked_all : (f : ℕ → ℕ) (ps : List Parking) (i c : ℕ) → length ps
 parked_all f ps i c l = ap (λ (xs : List Parking). first_parked f (pairs_in xs) c) (take_all i ps l)
 
 -- the thread that is taken next from a variable, by those that are kept
-pub next_seen : (p : Inside) → IsSound p → (c : ℕ) → first_parked (local_of p.owners) (parked_pairs p.parked) c
+pub next_seen : (p : Inside) → IsSoundInside p → (c : ℕ) → first_parked (local_of p.owners) (parked_pairs p.parked) c
     ≡ (if has_parked (kernel_of p) c then Some (top_parked (kernel_of p) c) else None)
 next_seen p h c = λ i. first_parked (fun_ext h.local i) (parked_pairs (sym (parked_seen p) i)) c
 

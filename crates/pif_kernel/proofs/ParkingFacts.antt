@@ -6,7 +6,7 @@ use Rattle.pif_model.specs.declared.lines.Woken.TheVariants.{Fresh}
 use Rattle.pif_model.specs.PiKernel.{seat_at as kernel_seat_at, is_parked, parked_pairs, unparked}
 use Rattle.pif_chains.proofs.Statuses.{not_parked}
 use Rattle.pif_chains.proofs.Waiting.{names, pair-from_named}
-use Rattle.pif_kernel.specs.Inside.{Inside, IsSound, kernel_of}
+use Rattle.pif_kernel.specs.Inside.{Inside, IsSoundInside, kernel_of}
 use Rattle.pif_kernel.proofs.Seats.{parked_seen, status_seen}
 use Rattle.pif_kernel.proofs.Standing.{fits}
 use Rattle.pif_kernel.proofs.Parked.{unparked-unnamed}
@@ -15,7 +15,7 @@ use Rattle.pif_kernel.proofs.Parked.{unparked-unnamed}
 abbrev pub pairs_of : Inside → List (ℕ × ℕ)
 pairs_of p = parked_pairs p.parked
 
-module _ (p : Inside) (h : IsSound p) (t : ℕ) where
+module _ (p : Inside) (h : IsSoundInside p) (t : ℕ) where
   -- the same in the kernel by itself
   pairs_seen : parked_pairs (kernel_of p).parked ≡ pairs_of p
   pairs_seen = ap parked_pairs (parked_seen p)

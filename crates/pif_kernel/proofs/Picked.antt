@@ -4,8 +4,8 @@ use Rattle.std.proofs.lemmas.List.{length-map}
 use Rattle.std.specs.List.{filter}
 use Rattle.std.proofs.lemmas.Bool.{cases_eq, false≢true}
 use Rattle.std.proofs.lemmas.Bool.Decides.{nat_tests}
-use Rattle.pif_nodes.specs.Lists.{has, first_of, without}
-use Rattle.pif_nodes.specs.Table.{Table, list_at}
+use Rattle.pif_nodes.specs.Lists.{has, first_of, list_without}
+use Rattle.pif_nodes.specs.Table.{NodeLists, list_at}
 use Rattle.pif_runq.specs.Levels.{Queue, IsLevel, level_of, list_for, IsFirstOfGreatest, IsEmpty}
 use Rattle.pif_runq.specs.Levels.{level_after_add}
 use Rattle.pif_runq.proofs.LevelLemmas.{threads-some}
@@ -17,7 +17,7 @@ use Rattle.pif_chains.proofs.KernelLevels.{length-levels_by, level-left}
 use Rattle.pif_kernel.proofs.Levels.{level-levels_by, level-joined}
 
 -- the levels of a run queue
-abbrev pub levels_of : Queue → Table → ℕ → List ℕ
+abbrev pub levels_of : Queue → NodeLists → ℕ → List ℕ
 levels_of q t = λ p. if is_priority p then level_of q t p else []
 
 -- a level of the kernel by itself
@@ -30,7 +30,7 @@ unfolding kernel_of
 levels_count p = length-levels_by (level_of p.queue p.table)
 
 -- a level that there is
-pub level_seen : (q : Queue) (t : Table) (p : ℕ) → IsLevel p → levels_of q t p ≡ level_of q t p
+pub level_seen : (q : Queue) (t : NodeLists) (p : ℕ) → IsLevel p → levels_of q t p ≡ level_of q t p
 level_seen q t p l = rw (priority-from_range p l.0 l.1) refl
 
 from_head : (xs : List ℕ) (d u : ℕ) → first_of xs ≡ Some u → elim xs [ [] ↦ d | (t ∷ ts) ↦ t ] ≡ u
@@ -109,16 +109,16 @@ among_has (x ∷ xs) t =
     let ih : is_among xs t ≡ has t xs = among_has xs t in
     let same : (x == t) ≡ nat_eq t x = grind (arith, nat_tests) in rw (same, ih) refl
 
-pub without_left : (xs : List ℕ) (t : ℕ) → without t xs ≡ filter (λ u. if u == t then false else true) xs
+pub without_left : (xs : List ℕ) (t : ℕ) → list_without t xs ≡ filter (λ u. if u == t then false else true) xs
 without_left [] t = refl
 without_left (x ∷ xs) t =
     let same : not (nat_eq t x) ≡ (if x == t then false else true) = grind (arith, nat_tests) in
-    let ih : without t xs ≡ filter (λ (u : ℕ). if u == t then false else true) xs = without_left xs t in
+    let ih : list_without t xs ≡ filter (λ (u : ℕ). if u == t then false else true) xs = without_left xs t in
     rw (same, ih) refl
 
 -- who is taken out of its level has left it
 pub levels_left : (p now : Inside) (t : ℕ)
-    → ((r : ℕ) → IsLevel r → level_of now.queue now.table r ≡ without t (level_of p.queue p.table r))
+    → ((r : ℕ) → IsLevel r → level_of now.queue now.table r ≡ list_without t (level_of p.queue p.table r))
     → (r : ℕ) → level_at (kernel_of now).levels r ≡ level_at (levels_without t (kernel_of p).levels) r
 levels_left p now t h r =
     levels_seen now r ∙ by_test (is_priority r) refl

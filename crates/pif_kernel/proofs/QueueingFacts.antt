@@ -2,8 +2,8 @@
 use Rattle.std.proofs.Common.{◌≡◌, ◌≢◌, ◌⊎◌, ℕ, ◌+◌, ◌<◌, ◌≤◌, true, false, List, [], ◌∷◌, ◌++◌, length, set, Option, Some, None, get_or, option_map, option_and_then, unwrap_or, refl, sym, ap, subst, ◌∙◌, inl, inr, arith}
 use Rattle.std.proofs.Math.Path.{fun_ext}
 use Rattle.std.proofs.lemmas.Bool.{cases_eq, true≢false}
-use Rattle.pif_nodes.specs.Lists.{without}
-use Rattle.pif_nodes.specs.Table.{Table}
+use Rattle.pif_nodes.specs.Lists.{list_without}
+use Rattle.pif_nodes.specs.Table.{NodeLists}
 use Rattle.pif_runq.specs.Levels.{Queue, Holds, IsLevel, IsQueued, level_of}
 use Rattle.pif_model.specs.declared.lines.Status.TheVariants.{Queued}
 use Rattle.pif_model.specs.Graph.{reaches_within, Reaches}
@@ -13,7 +13,7 @@ use Rattle.pif_owners.specs.Owners.{Owners, Seat, Wait, no_seat, seat_at, owner_
 use Rattle.pif_owners.specs.Owners.{waits_for as owners_wait_for}
 use Rattle.pif_chains.proofs.KernelFacts.{living-added}
 use Rattle.pif_chains.proofs.Following.{Follows, within-from_reaches}
-use Rattle.pif_kernel.specs.Inside.{Inside, IsSound, kernel_of, status_at, key_at, state_at, ticket_of}
+use Rattle.pif_kernel.specs.Inside.{Inside, IsSoundInside, kernel_of, status_at, state_key_at, state_at, ticket_of}
 use Rattle.pif_owners.specs.Arrivals.{Rise}
 use Rattle.pif_kernel.specs.Fields.{chains_of}
 use Rattle.pif_kernel.specs.Opened.{IsOpened}
@@ -25,7 +25,7 @@ use Rattle.pif_kernel.proofs.TableMoved.{kernel_moved, sound_in_table}
 use Rattle.pif_kernel.proofs.QueueingSound.{IsOpen, opened, opened_kept, walkable}
 
 pub record IsEntry (now p x : Inside) (t m owner key ticket : ℕ) : Type 0 where
-  pub sound : IsSound p
+  pub sound : IsSoundInside p
   pub same : kernel_of p ≡ kernel_of now
   pub shape : x ≡ record p { keys = x.keys; owners = x.owners }
   pub opens : IsOpen p x.keys x.owners m owner key
@@ -64,7 +64,7 @@ open_moved p x m owner key o = record {
 }
 
 pub entry : (now p x : Inside) (t m owner key ticket : ℕ) → 1 ≤ m → IsQueueing now t m owner
-    → p.next ≡ ticket + 1 → Rise (ticket_of p.owners) 1 p.arrivals ticket → kernel_of p ≡ kernel_of now → IsSound p
+    → p.next ≡ ticket + 1 → Rise (ticket_of p.owners) 1 p.arrivals ticket → kernel_of p ≡ kernel_of now → IsSoundInside p
     → IsOpened p x m owner key
     → IsEntry now (record p { queue = x.queue; table = x.table }) x t m owner key ticket
 entry now p x t m owner key ticket named w next rises before h o =
@@ -117,9 +117,9 @@ waits_open now p x t m owner key ticket i u =
         → unwrap_or (owner_at x.owners k) 0 ≡ unwrap_or (owner_at p.owners k) 0
     by_place k e (inr ne) = ap (λ (o : Option ℕ). unwrap_or o 0) (i.opens.others k ne)
     by_place k e (inl same) =
-        let on : key_at p (queued_on (status_at p u)) ≡ Some key = sym (i.sound.placed.waits u) ∙ e ∙ ap Some same in
+        let on : state_key_at p (queued_on (status_at p u)) ≡ Some key = sym (i.sound.placed.waits u) ∙ e ∙ ap Some same in
         let at : queued_on (status_at p u) ≡ m = i.opens.alone (queued_on (status_at p u)) on in
-        let here : key_at p m ≡ Some key = ap (key_at p) (sym at) ∙ on in
+        let here : state_key_at p m ≡ Some key = ap (state_key_at p) (sym at) ∙ on in
         let was : state_at p m ≡ unwrap_or (owner_at p.owners key) 0
         = ap (λ (o : Option ℕ). unwrap_or (option_and_then (owner_at p.owners) o) 0) here in
         ap (λ (n : ℕ). unwrap_or (owner_at x.owners n) 0) same ∙ ap (λ (o : Option ℕ). unwrap_or o 0) i.opens.owned
@@ -170,10 +170,10 @@ module _ (now p x : Inside) (t m owner key ticket : ℕ) (i : IsEntry now p x t 
   on_level = ready_queued p i.sound t i.added i.ready
 
   -- what is kept before the walk
-  pub before_walk : (level : ℕ) (v : Owners) (q : Queue) (tb : Table) → level ≡ (seat_at x.owners t).local
+  pub before_walk : (level : ℕ) (v : Owners) (q : Queue) (tb : NodeLists) → level ≡ (seat_at x.owners t).local
       → v ≡ with_wait t (Some (record { state = key; rank = record { prio = level; ticket = ticket } })) x.owners
       → q ≡ record p.queue { mask = q.mask }
-      → ((r : ℕ) → IsLevel r → level_of q tb r ≡ without t (level_of p.queue p.table r)) → Holds q tb
+      → ((r : ℕ) → IsLevel r → level_of q tb r ≡ list_without t (level_of p.queue p.table r)) → Holds q tb
       → IsWalkable (record p {
         statuses = set p.statuses t
             (Queued m);

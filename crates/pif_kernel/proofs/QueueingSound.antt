@@ -5,8 +5,8 @@ use Rattle.std.proofs.lemmas.Bool.{cases_eq, true≢false, false≢true}
 use Rattle.std.proofs.lemmas.Bool.Decides.{nat_tests}
 use Rattle.std.proofs.lemmas.List.{get_or-set_same, get_or-set_other}
 use Rattle.pif_nodes.specs.declared.keys.Key.{Key}
-use Rattle.pif_nodes.specs.Lists.{without}
-use Rattle.pif_nodes.specs.Table.{Table}
+use Rattle.pif_nodes.specs.Lists.{list_without}
+use Rattle.pif_nodes.specs.Table.{NodeLists}
 use Rattle.pif_runq.specs.Levels.{Queue, Holds, IsLevel, level_of}
 use Rattle.pif_types.specs.Bounds.{Bounds}
 use Rattle.pif_model.specs.declared.lines.Status.{Status}
@@ -26,7 +26,7 @@ use Rattle.pif_chains.proofs.KernelNumbers.{is_other, among-left_same, among-lef
 use Rattle.pif_chains.proofs.Waiting.{has_waiter-from_pair}
 use Rattle.pif_chains.proofs.Places.{kept_at}
 use Rattle.pif_chains.proofs.Among.{is_among as is_waiter}
-use Rattle.pif_kernel.specs.Inside.{Inside, IsListed, IsPlaced, IsSound, kernel_of, status_at, key_at, state_at, ticket_of, arrivals_in}
+use Rattle.pif_kernel.specs.Inside.{Inside, IsListed, IsPlaced, IsSoundInside, kernel_of, status_at, state_key_at, state_at, ticket_of, arrivals_in}
 use Rattle.pif_owners.specs.Arrivals.{Rise}
 use Rattle.pif_kernel.specs.Chained.{Chained, KeepsLevels}
 use Rattle.pif_kernel.specs.Fields.{inside_from, chains_of}
@@ -46,9 +46,9 @@ pub record IsOpen (p : Inside) (keys : List (Option ℕ)) (owners : Owners) (m o
   pub seats : owners.seats ≡ p.owners.seats
   pub long : length keys ≡ length p.keys
   pub here : get_or keys m None ≡ Some key
-  pub there : (n : ℕ) → n ≢ m → get_or keys n None ≡ key_at p n
-  pub alone : (n : ℕ) → key_at p n ≡ Some key → n ≡ m
-  pub kept : (k : ℕ) → key_at p m ≡ Some k → k ≡ key
+  pub there : (n : ℕ) → n ≢ m → get_or keys n None ≡ state_key_at p n
+  pub alone : (n : ℕ) → state_key_at p n ≡ Some key → n ≡ m
+  pub kept : (k : ℕ) → state_key_at p m ≡ Some k → k ≡ key
   pub owned : owner_at owners key ≡ Some owner
   pub others : (k : ℕ) → k ≢ key → owner_at owners k ≡ owner_at p.owners k
   pub counted : count owners ≡ (if has_waiter p.arrivals m then count p.owners else count p.owners + 1)
@@ -57,7 +57,7 @@ some_owner : (o : Option ℕ) (n : ℕ) → unwrap_or o 0 ≡ n → n ≢ 0 → 
 some_owner None n e z = absurd (z (sym e))
 some_owner (Some x) n e z = ap Some e
 
-pub opened : (p now : Inside) (m owner key : ℕ) → IsSound p → m < length p.keys
+pub opened : (p now : Inside) (m owner key : ℕ) → IsSoundInside p → m < length p.keys
     → (state_at p m ≢ 0 → state_at p m ≡ owner) → IsOpened p now m owner key
     → (now ≡ record p { keys = now.keys; owners = now.owners; table = now.table })
     × IsOpen p now.keys now.owners m owner key
@@ -96,12 +96,12 @@ opened p now m owner key h l state (made e fresh same levels more) =
 
 -- a new owner state
 pub opened_made : (was : Inside) (l : Bounds) (xs : List Status) (x y : Chained) (next m owner key : ℕ)
-    → inside_from l xs x next ≡ was → key_at was m ≡ None → owner_at x.owners key ≡ None
+    → inside_from l xs x next ≡ was → state_key_at was m ≡ None → owner_at x.owners key ≡ None
     → y.owners ≡ with_owner key owner x.owners → KeepsLevels (record x { keys = set x.keys m (Some key) }) y
     → count y.owners ≡ count x.owners + 1 → IsOpened was (inside_from l xs y next) m owner key
 opened_made was l xs x y next m owner key e none fresh is kept more =
     subst (λ (p : Inside). IsOpened p (inside_from l xs y next) m owner key) e
-    (made (ap (λ (p : Inside). key_at p m) e ∙ none) fresh
+    (made (ap (λ (p : Inside). state_key_at p m) e ∙ none) fresh
     (λ i. record {
       limits = l;
       statuses = xs;
@@ -115,7 +115,7 @@ opened_made was l xs x y next m owner key e none fresh is kept more =
     }) kept more)
 
 -- each level is as it was then
-pub opened_kept : (p now : Inside) (m owner key : ℕ) → IsSound p → IsOpened p now m owner key
+pub opened_kept : (p now : Inside) (m owner key : ℕ) → IsSoundInside p → IsOpened p now m owner key
     → KeepsLevels (chains_of p) (record (chains_of now) { keys = p.keys; parked = p.parked })
 opened_kept p now m owner key h (found e same) =
     subst (λ (x : Inside). KeepsLevels (chains_of p) (record (chains_of x) { keys = p.keys; parked = p.parked })) (sym same)
@@ -123,7 +123,7 @@ opened_kept p now m owner key h (found e same) =
 opened_kept p now m owner key h (made e fresh same levels more) =
     levels_kept_beside (chains_of p) (chains_of now) (set p.keys m (Some key)) p.parked levels
 
-module _ (p : Inside) (keys : List (Option ℕ)) (owners : Owners) (t m owner key prio ticket next : ℕ) (h : IsSound p)
+module _ (p : Inside) (keys : List (Option ℕ)) (owners : Owners) (t m owner key prio ticket next : ℕ) (h : IsSoundInside p)
     (o : IsOpen p keys owners m owner key)
     (known : has_seat (kernel_of p) t ≡ true) (ready : is_ready (kernel_seat_at (kernel_of p) t).status ≡ true)
     (some : m ≢ 0) (mutex : m < 1025)
@@ -131,8 +131,8 @@ module _ (p : Inside) (keys : List (Option ℕ)) (owners : Owners) (t m owner ke
     (unreached : reaches_within (length (kernel_of p).seats) (waits_for (kernel_of p)) owner t ≡ false)
     (rank_is : prio ≡ effective_in (kernel_of p) t) (rises : Rise (ticket_of p.owners) 1 p.arrivals ticket)
     (later : ticket < next)
-    (q : Queue) (tb : Table) (place : q ≡ record p.queue { mask = q.mask })
-    (levels : (r : ℕ) → IsLevel r → level_of q tb r ≡ without t (level_of p.queue p.table r)) (holds : Holds q tb) where
+    (q : Queue) (tb : NodeLists) (place : q ≡ record p.queue { mask = q.mask })
+    (levels : (r : ℕ) → IsLevel r → level_of q tb r ≡ list_without t (level_of p.queue p.table r)) (holds : Holds q tb) where
   abbrev wait : Option Wait
   wait = Some (record { state = key; rank = record { prio = prio; ticket = ticket } })
 
@@ -205,7 +205,7 @@ module _ (p : Inside) (keys : List (Option ℕ)) (owners : Owners) (t m owner ke
   state_mid : (n : ℕ) → state_at mid n ≡ (if n == m then owner else state_at p n)
   state_mid n = by_place (cases_eq n m)
     where
-      by_key : (n ≡ m → ⊥) → (k : Option ℕ) → key_at p n ≡ k
+      by_key : (n ≡ m → ⊥) → (k : Option ℕ) → state_key_at p n ≡ k
           → unwrap_or (option_and_then (owner_at owners) k) 0 ≡ unwrap_or (option_and_then (owner_at p.owners) k) 0
       by_key ne None e = refl
       by_key ne (Some k) e = ap (λ (x : Option ℕ). unwrap_or x 0) (o.others k (λ z. ne (o.alone n (e ∙ ap Some z))))
@@ -219,7 +219,7 @@ module _ (p : Inside) (keys : List (Option ℕ)) (owners : Owners) (t m owner ke
       by_place (inr ne) =
           let no : (n == m) ≡ false = grind (arith, nat_tests) in
           rw no (ap (λ (k : Option ℕ). unwrap_or (option_and_then (owner_at owners) k) 0) (o.there n ne)
-          ∙ by_key ne (key_at p n) refl)
+          ∙ by_key ne (state_key_at p n) refl)
 
   state_here : state_at mid m ≡ owner
   state_here = let yes : (m == m) ≡ true = grind (arith, nat_tests) in state_mid m ∙ rw yes refl
@@ -247,26 +247,26 @@ module _ (p : Inside) (keys : List (Option ℕ)) (owners : Owners) (t m owner ke
       = subst (λ (ws : List (ℕ × ℕ)). is_waiter ws u m ≡ true) (waiters_seen p) (h.kernel.queued u m status) in
       true≢false (sym (has_waiter-from_pair p.arrivals u m among) ∙ no_key-no_waiter p h m z)
 
-  key_kept : (u : ℕ) → get_or keys (queued_on (status_at p u)) None ≡ key_at p (queued_on (status_at p u))
+  key_kept : (u : ℕ) → get_or keys (queued_on (status_at p u)) None ≡ state_key_at p (queued_on (status_at p u))
   key_kept u = by_place (cases_eq (queued_on (status_at p u)) m)
     where
-      by_key : (k : Option ℕ) → key_at p m ≡ k → queued_on (status_at p u) ≡ m → get_or keys m None ≡ key_at p m
+      by_key : (k : Option ℕ) → state_key_at p m ≡ k → queued_on (status_at p u) ≡ m → get_or keys m None ≡ state_key_at p m
       by_key None x e =
           absurd (waited u e (ap (λ (k : Option ℕ). unwrap_or (option_and_then (owner_at p.owners) k) 0) x))
       by_key (Some k) x e = o.here ∙ ap Some (sym (o.kept k x)) ∙ sym x
 
       by_place : ((queued_on (status_at p u) ≡ m) ⊎ (queued_on (status_at p u) ≡ m → ⊥))
-          → get_or keys (queued_on (status_at p u)) None ≡ key_at p (queued_on (status_at p u))
-      by_place (inl e) = ap (λ (n : ℕ). get_or keys n None) e ∙ by_key (key_at p m) refl e ∙ ap (key_at p) (sym e)
+          → get_or keys (queued_on (status_at p u)) None ≡ state_key_at p (queued_on (status_at p u))
+      by_place (inl e) = ap (λ (n : ℕ). get_or keys n None) e ∙ by_key (state_key_at p m) refl e ∙ ap (state_key_at p) (sym e)
       by_place (inr ne) = o.there (queued_on (status_at p u)) ne
 
-  waits_mid : (u : ℕ) → ((u ≡ t) ⊎ (u ≡ t → ⊥)) → waits_on mid.owners u ≡ key_at mid (queued_on (status_at mid u))
+  waits_mid : (u : ℕ) → ((u ≡ t) ⊎ (u ≡ t → ⊥)) → waits_on mid.owners u ≡ state_key_at mid (queued_on (status_at mid u))
   waits_mid u (inl e) =
       ap (λ (x : Seat). option_map (λ (w : Wait). w.state) x.wait) (same u e) ∙ sym o.here
-      ∙ ap (λ (x : Status). key_at mid (queued_on x)) (sym (status_here u e))
+      ∙ ap (λ (x : Status). state_key_at mid (queued_on x)) (sym (status_here u e))
   waits_mid u (inr n) =
       ap (λ (x : Seat). option_map (λ (w : Wait). w.state) x.wait) (other u n) ∙ h.placed.waits u ∙ sym (key_kept u)
-      ∙ ap (λ (x : Status). key_at mid (queued_on x)) (sym (status_other u n))
+      ∙ ap (λ (x : Status). state_key_at mid (queued_on x)) (sym (status_other u n))
 
   owners_mid : (n : ℕ) → ((n ≡ m) ⊎ (n ≡ m → ⊥)) → state_at mid n < length mid.statuses
   owners_mid n (inl e) = omega (arith, ap (state_at mid) e, state_here, owner_added, many)
@@ -324,8 +324,8 @@ module _ (p : Inside) (keys : List (Option ℕ)) (owners : Owners) (t m owner ke
                 ∙ l.local;
           }
 
-  apart_mid : (a b k : ℕ) → ((a ≡ m) ⊎ (a ≡ m → ⊥)) → ((b ≡ m) ⊎ (b ≡ m → ⊥)) → key_at mid a ≡ Some k
-      → key_at mid b ≡ Some k → a ≡ b
+  apart_mid : (a b k : ℕ) → ((a ≡ m) ⊎ (a ≡ m → ⊥)) → ((b ≡ m) ⊎ (b ≡ m → ⊥)) → state_key_at mid a ≡ Some k
+      → state_key_at mid b ≡ Some k → a ≡ b
   apart_mid a b k (inl x) (inl y) e f = x ∙ sym y
   apart_mid a b k (inl x) (inr y) e f =
       absurd (y (o.alone b (sym (o.there b y) ∙ f ∙ sym e ∙ ap (λ (n : ℕ). get_or keys n None) x ∙ o.here)))
@@ -333,16 +333,16 @@ module _ (p : Inside) (keys : List (Option ℕ)) (owners : Owners) (t m owner ke
       absurd (x (o.alone a (sym (o.there a x) ∙ e ∙ sym f ∙ ap (λ (n : ℕ). get_or keys n None) y ∙ o.here)))
   apart_mid a b k (inr x) (inr y) e f = h.placed.apart a b k (sym (o.there a x) ∙ e) (sym (o.there b y) ∙ f)
 
-  made_mid : (a k : ℕ) → ((a ≡ m) ⊎ (a ≡ m → ⊥)) → key_at mid a ≡ Some k → IsSome (owner_at owners k)
+  made_mid : (a k : ℕ) → ((a ≡ m) ⊎ (a ≡ m → ⊥)) → state_key_at mid a ≡ Some k → IsSome (owner_at owners k)
   made_mid a k (inl x) e =
       let both : Some k ≡ Some key = sym e ∙ ap (λ (n : ℕ). get_or keys n None) x ∙ o.here in
       let at : k ≡ key = cc in
       ap (λ (n : ℕ). is_some (owner_at owners n)) at ∙ ap is_some o.owned
   made_mid a k (inr x) e =
-      let was : key_at p a ≡ Some k = sym (o.there a x) ∙ e in
+      let was : state_key_at p a ≡ Some k = sym (o.there a x) ∙ e in
       ap is_some (o.others k (λ z. x (o.alone a (was ∙ ap Some z)))) ∙ h.placed.made a k was
 
-  owned_mid : (a k : ℕ) → ((a ≡ m) ⊎ (a ≡ m → ⊥)) → key_at mid a ≡ Some k → state_at mid a ≢ 0
+  owned_mid : (a k : ℕ) → ((a ≡ m) ⊎ (a ≡ m → ⊥)) → state_key_at mid a ≡ Some k → state_at mid a ≢ 0
   owned_mid a k (inl x) e z = owner_some (sym (ap (state_at mid) x ∙ state_here) ∙ z)
   owned_mid a k (inr x) e z = h.placed.owned a k (sym (o.there a x) ∙ e) (sym (state_other a x) ∙ z)
 

@@ -8,7 +8,7 @@ use Rattle.pif_plist.specs.Order.{comes_before}
 use Rattle.pif_model.specs.PiKernel.{Kernel, IsKernel, effective_in}
 use Rattle.pif_owners.specs.Owners.{Owners, Seat, Wait, seat_at, owner_at, count, waits_on, rank_of, no_seat, KeepsOrder}
 use Rattle.pif_chains.proofs.Waiting.{names}
-use Rattle.pif_kernel.specs.Inside.{Inside, IsPlaced, IsSound, kernel_of, key_at, state_at, ticket_of}
+use Rattle.pif_kernel.specs.Inside.{Inside, IsPlaced, IsSoundInside, kernel_of, state_key_at, state_at, ticket_of}
 use Rattle.pif_owners.specs.Arrivals.{Rise}
 use Rattle.pif_kernel.specs.Tickets.{renumbered_ticket, seat_with_ticket, IsRenumbered, IsRenumberable}
 use Rattle.pif_kernel.proofs.Seats.{IsFitted, states_seen, states_length, kernel_by_parts, seats_of-same_base}
@@ -40,7 +40,7 @@ wait_ticket : (n : ℕ) (o : Option Wait) → is_some (option_map (λ (w : Wait)
 wait_ticket n None e = absurd (false≢true e)
 wait_ticket n (Some w) e = refl
 
-module _ (p : Inside) (now : Owners) (i : ℕ) (h : IsSound p) (g : IsRenumbered p.owners now p.arrivals i) where
+module _ (p : Inside) (now : Owners) (i : ℕ) (h : IsSoundInside p) (g : IsRenumbered p.owners now p.arrivals i) where
   abbrev tag : ℕ → ℕ
   tag u = renumbered_ticket (ticket_of p.owners) 1 i p.arrivals u
 
@@ -107,7 +107,7 @@ module _ (p : Inside) (now : Owners) (i : ℕ) (h : IsSound p) (g : IsRenumbered
     owner_now k = ap (λ m. owner_at (record { seats = now.seats; owners = m }) k) g.owners
 
     state_now : (m : ℕ) → state_at after m ≡ state_at p m
-    state_now m = ap (λ (f : ℕ → Option ℕ). unwrap_or (option_and_then f (key_at p m)) 0) (fun_ext owner_now)
+    state_now m = ap (λ (f : ℕ → Option ℕ). unwrap_or (option_and_then f (state_key_at p m)) 0) (fun_ext owner_now)
 
     base_now : (u : ℕ) → (seat_at now u).base ≡ (seat_at p.owners u).base
     base_now u = ap (λ (x : Seat). x.base) (g.seat u)
@@ -175,7 +175,7 @@ module _ (p : Inside) (now : Owners) (i : ℕ) (h : IsSound p) (g : IsRenumbered
           (rise_once (ticket_of p.owners) 1 p.arrivals p.next h.placed.tickets) ticket_now);
     }
 
-    pub sound_after : IsSound after
+    pub sound_after : IsSoundInside after
     sound_after = record {
       placed = placed_after;
       local = local_after;
@@ -183,7 +183,7 @@ module _ (p : Inside) (now : Owners) (i : ℕ) (h : IsSound p) (g : IsRenumbered
       kernel = kept;
     }
 
-pub renumberable : (p : Inside) → IsSound p → IsRenumberable p.owners p.arrivals
+pub renumberable : (p : Inside) → IsSoundInside p → IsRenumberable p.owners p.arrivals
 renumberable p h = record {
   few = arrivals_few p h;
   rows = λ t e. let k = named_known p h t e in omega (arith, k.1, h.placed.few, h.placed.rows);
@@ -235,6 +235,6 @@ placed_next p h = record {
   tickets = rise_more (ticket_of p.owners) 1 p.arrivals p.next h.tickets;
 }
 
-pub sound_next : (p : Inside) → IsSound p → IsSound (record p { next = p.next + 1 })
+pub sound_next : (p : Inside) → IsSoundInside p → IsSoundInside (record p { next = p.next + 1 })
 unfolding kernel_of
 sound_next p h = record { placed = placed_next p h.placed; local = h.local; rank = h.rank; kernel = h.kernel }

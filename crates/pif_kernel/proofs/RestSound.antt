@@ -1,7 +1,7 @@
 -- What is kept stays sound where a ready thread rests: it leaves its level for another status, and waits for nothing.
 use Rattle.std.proofs.Common.{◌≡◌, ℕ, true, ◌++◌, List, [], ◌∷◌, set, refl, sym, ap, ◌∙◌, subst}
-use Rattle.pif_nodes.specs.Lists.{without}
-use Rattle.pif_nodes.specs.Table.{Table}
+use Rattle.pif_nodes.specs.Lists.{list_without}
+use Rattle.pif_nodes.specs.Table.{NodeLists}
 use Rattle.pif_runq.specs.Levels.{Queue, Holds, IsLevel, level_of}
 use Rattle.pif_model.specs.declared.lines.Status.{Status}
 use Rattle.pif_model.specs.declared.lines.Status.TheVariants.{Parked, Stopped}
@@ -10,18 +10,18 @@ use Rattle.pif_model.specs.PiKernel.{seat_at as kernel_seat_at}
 use Rattle.pif_chains.proofs.KernelKept.{stop_kept}
 use Rattle.pif_chains.proofs.KernelRested.{kernel-parked}
 use Rattle.pif_chains.proofs.Statuses.{ready-queued_on_nothing}
-use Rattle.pif_kernel.specs.Inside.{Inside, IsSound, kernel_of, status_at}
+use Rattle.pif_kernel.specs.Inside.{Inside, IsSoundInside, kernel_of, status_at}
 use Rattle.pif_kernel.proofs.Seats.{status_seen, kernel_by_parts, seats_of-set_status}
 use Rattle.pif_kernel.proofs.Picked.{levels_left, length-left}
 use Rattle.pif_kernel.proofs.Standing.{fits}
 use Rattle.pif_kernel.proofs.MovedSound.{sound_moved}
 
 -- t has the status x then, and these threads are parked
-module _ (p : Inside) (x : Status) (ps : List Parking) (q : Queue) (tb : Table) (t : ℕ) (h : IsSound p)
+module _ (p : Inside) (x : Status) (ps : List Parking) (q : Queue) (tb : NodeLists) (t : ℕ) (h : IsSoundInside p)
     (added : has_seat (kernel_of p) t ≡ true)
     (ready : is_ready (kernel_seat_at (kernel_of p) t).status ≡ true) (nothing : queued_on x ≡ 0)
     (place : q ≡ record p.queue { mask = q.mask })
-    (levels : (r : ℕ) → IsLevel r → level_of q tb r ≡ without t (level_of p.queue p.table r)) (holds : Holds q tb) where
+    (levels : (r : ℕ) → IsLevel r → level_of q tb r ≡ list_without t (level_of p.queue p.table r)) (holds : Holds q tb) where
   -- what is kept then
   abbrev pub after : Inside
   after = record p { statuses = set p.statuses t x; parked = ps; queue = q; table = tb }
@@ -45,14 +45,14 @@ module _ (p : Inside) (x : Status) (ps : List Parking) (q : Queue) (tb : Table) 
       (length-left p after t) (levels_left p after t levels)
 
   -- what is kept is sound where that one is a kernel
-  pub sound_rested : IsKernel rested → IsSound after
+  pub sound_rested : IsKernel rested → IsSoundInside after
   sound_rested kept =
       sound_moved p x ps q tb t h idle nothing place holds (subst IsKernel (sym kernel_rested) kept)
 
-module _ (p : Inside) (q : Queue) (tb : Table) (t : ℕ) (h : IsSound p) (added : has_seat (kernel_of p) t ≡ true)
+module _ (p : Inside) (q : Queue) (tb : NodeLists) (t : ℕ) (h : IsSoundInside p) (added : has_seat (kernel_of p) t ≡ true)
     (ready : is_ready (kernel_seat_at (kernel_of p) t).status ≡ true)
     (place : q ≡ record p.queue { mask = q.mask })
-    (levels : (r : ℕ) → IsLevel r → level_of q tb r ≡ without t (level_of p.queue p.table r)) (holds : Holds q tb) where
+    (levels : (r : ℕ) → IsLevel r → level_of q tb r ≡ list_without t (level_of p.queue p.table r)) (holds : Holds q tb) where
   -- t is stopped
   abbrev stopped : Inside
   stopped = record p { statuses = set p.statuses t Stopped; queue = q; table = tb }
@@ -63,7 +63,7 @@ module _ (p : Inside) (q : Queue) (tb : Table) (t : ℕ) (h : IsSound p) (added 
   kernel_stopped = kernel_rested p Stopped p.parked q tb t h added ready refl place levels holds
 
   -- and all is sound
-  pub sound_stopped : IsSound stopped
+  pub sound_stopped : IsSoundInside stopped
   unfolding kernel_after_stop kernel_of
   sound_stopped =
       sound_rested p Stopped p.parked q tb t h added ready refl place levels holds
@@ -90,7 +90,7 @@ module _ (p : Inside) (q : Queue) (tb : Table) (t : ℕ) (h : IsSound p) (added 
         kernel_rested p (Parked c) more q tb t h added ready refl place levels holds ∙ parked_is
 
     -- and all is sound
-    pub sound_parked : IsSound parked
+    pub sound_parked : IsSoundInside parked
     sound_parked =
         sound_rested p (Parked c) more q tb t h added ready refl place levels holds
         (subst IsKernel (sym parked_is) (kernel-parked t c m (kernel_of p) h.kernel added ready))

@@ -11,7 +11,7 @@ use Rattle.pif_chains.proofs.Numbers.{from_within, within}
 use Rattle.pif_chains.proofs.Places.{mapped_at}
 use Rattle.pif_owners.specs.Owners.{Seat, seat_at, owner_at, no_seat, waits_on}
 use Rattle.pif_owners.specs.Owners.{waits_for as owners_wait_for}
-use Rattle.pif_kernel.specs.Inside.{Inside, IsPlaced, kernel_of, owner_under, seat_of, seats_of, status_at, key_at, state_at}
+use Rattle.pif_kernel.specs.Inside.{Inside, IsPlaced, kernel_of, owner_under, seat_of, seats_of, status_at, state_key_at, state_at}
 
 pub length-seats_of : (xs : List Status) (rows : List Seat) → length xs ≤ length rows
     → length (seats_of xs rows) ≡ length xs
@@ -33,7 +33,7 @@ seats_of-at (x ∷ xs) (r ∷ rows) (suc t) le free =
 pub record IsFitted (p : Inside) : Type 0 where
   pub few : length p.statuses ≤ length p.owners.seats
   pub free : (t : ℕ) → length p.statuses ≤ t → seat_at p.owners t ≡ no_seat
-  pub waits : (t : ℕ) → waits_on p.owners t ≡ key_at p (queued_on (status_at p t))
+  pub waits : (t : ℕ) → waits_on p.owners t ≡ state_key_at p (queued_on (status_at p t))
   pub owners : (m : ℕ) → state_at p m < length p.statuses
 
 pub fitted : (p : Inside) → IsPlaced p → IsFitted p

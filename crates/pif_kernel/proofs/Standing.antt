@@ -9,16 +9,16 @@ use Rattle.pif_model.specs.PiKernel.{seat_at as kernel_seat_at}
 use Rattle.pif_owners.specs.Owners.{seat_at}
 use Rattle.pif_chains.proofs.KernelFacts.{living-added}
 use Rattle.pif_chains.proofs.KernelSettled.{effective_range}
-use Rattle.pif_kernel.specs.Inside.{Inside, IsListed, IsSound, kernel_of}
+use Rattle.pif_kernel.specs.Inside.{Inside, IsListed, IsSoundInside, kernel_of}
 use Rattle.pif_kernel.proofs.Seats.{IsFitted, fitted, seats_length, status_seen}
 use Rattle.pif_kernel.proofs.Picked.{levels_seen, level_seen, among_has}
 
 -- statuses, rows and keys of what is sound fit together
-pub fits : (p : Inside) → IsSound p → IsFitted p
+pub fits : (p : Inside) → IsSoundInside p → IsFitted p
 fits p h = fitted p h.placed
 
 -- the effective priority of a thread that was added is a level
-pub effective_level : (p : Inside) → IsSound p → (t : ℕ) → has_seat (kernel_of p) t ≡ true
+pub effective_level : (p : Inside) → IsSoundInside p → (t : ℕ) → has_seat (kernel_of p) t ≡ true
     → IsLevel (effective_in (kernel_of p) t)
 effective_level p h t known = effective_range (kernel_of p) h.kernel.shape t known
 
@@ -27,14 +27,14 @@ pub level_same : (p : Inside) (r : ℕ) → IsLevel r → level_at (kernel_of p)
 level_same p r l = levels_seen p r ∙ level_seen p.queue p.table r l
 
 -- a ready thread is on the level of its effective priority
-ready_among : (p : Inside) → IsSound p → (t : ℕ) → has_seat (kernel_of p) t ≡ true
+ready_among : (p : Inside) → IsSoundInside p → (t : ℕ) → has_seat (kernel_of p) t ≡ true
     → is_ready (kernel_seat_at (kernel_of p) t).status ≡ true
     → is_among (level_at (kernel_of p).levels (effective_in (kernel_of p) t)) t ≡ true
 ready_among p h t known ready =
     let same : (effective_in (kernel_of p) t == effective_in (kernel_of p) t) ≡ true = grind (arith, nat_tests) in
     h.kernel.level t (effective_in (kernel_of p) t) ∙ rw (known, ready, same) refl
 
-pub ready_queued : (p : Inside) → IsSound p → (t : ℕ) → has_seat (kernel_of p) t ≡ true
+pub ready_queued : (p : Inside) → IsSoundInside p → (t : ℕ) → has_seat (kernel_of p) t ≡ true
     → is_ready (kernel_seat_at (kernel_of p) t).status ≡ true
     → IsQueued p.queue p.table t
 ready_queued p h t known ready =
@@ -55,7 +55,7 @@ off_queue p t none on =
     ∙ sym (among_has (level_at (kernel_of p).levels on.0) t) ∙ none on.0)
 
 -- what `effective` answers of a thread that lives, by its row
-pub effective_answer : (p : Inside) → IsSound p → (t : ℕ) (r : Option ℕ) → is_living (kernel_of p) t ≡ true
+pub effective_answer : (p : Inside) → IsSoundInside p → (t : ℕ) (r : Option ℕ) → is_living (kernel_of p) t ≡ true
     → (IsSome r ↔ (1 ≤ (seat_at p.owners t).local)) → IfSome r (λ x. x ≡ (seat_at p.owners t).local)
     → r ≡ (if is_living (kernel_of p) t then Some (effective_in (kernel_of p) t) else None)
 effective_answer p h t None lives given value =
@@ -64,7 +64,7 @@ effective_answer p h t None lives given value =
 effective_answer p h t (Some x) lives given value = rw lives (ap Some (value ∙ h.local t))
 
 -- who was never added is on no level
-pub unadded_off : (p : Inside) → IsSound p → (t : ℕ) → length p.statuses ≤ t → (r : ℕ)
+pub unadded_off : (p : Inside) → IsSoundInside p → (t : ℕ) → length p.statuses ≤ t → (r : ℕ)
     → is_among (level_at (kernel_of p).levels r) t ≡ false
 unadded_off p h t le r =
     let past : nat_lt t (length (kernel_of p).seats) ≡ false = grind (arith, nat_tests, seats_length p (fits p h)) in

@@ -8,7 +8,7 @@ use Rattle.pif_chains.proofs.Among.{is_among-without}
 use Rattle.pif_chains.proofs.Among.{is_among as is_waiter}
 use Rattle.pif_chains.proofs.Next.{next_is_next}
 use Rattle.pif_chains.proofs.Waiting.{has_waiter-from_pair}
-use Rattle.pif_kernel.specs.Inside.{Inside, IsSound, key_at}
+use Rattle.pif_kernel.specs.Inside.{Inside, IsSoundInside, state_key_at}
 use Rattle.pif_owners.proofs.ArrivalLaws.{waiter_middle}
 use Rattle.pif_kernel.proofs.TopLaws.{waits_under, under_waits}
 use Rattle.pif_owners.proofs.WaitersWithout.{waiter_kept}
@@ -22,7 +22,7 @@ waiter_named ws m e =
           (waiter_middle n.earlier n.later (next_waiter (λ (u : ℕ). 0) ws m) m),
     )
 
-module _ (p : Inside) (h : IsSound p) (m key : ℕ) (at : key_at p m ≡ Some key) (u : ℕ)
+module _ (p : Inside) (h : IsSoundInside p) (m key : ℕ) (at : state_key_at p m ≡ Some key) (u : ℕ)
     (waits : waits_on p.owners u ≡ Some key) (v : Owners)
     (is : v.seats ≡ set p.owners.seats u (record (seat_at p.owners u) { wait = None })) where
   abbrev rest : List (ℕ × ℕ)

@@ -1,12 +1,12 @@
 -- What is kept is as sound, and stands for the same, where its table became another one with the same levels.
 use Rattle.std.proofs.Common.{◌≡◌, ℕ, Bool, true, false, List, Option, refl, sym, ap, subst, ◌∙◌}
-use Rattle.pif_nodes.specs.Lists.{without}
+use Rattle.pif_nodes.specs.Lists.{list_without}
 use Rattle.pif_runq.specs.Levels.{Queue}
 use Rattle.pif_model.specs.Graph.{is_priority}
 use Rattle.pif_model.specs.PiKernel.{Kernel, IsKernel, Parking, has_seat, queued_on, effective_in, is_among, level_at, waits_for}
 use Rattle.pif_model.specs.PiKernel.{seat_at as kernel_seat_at}
 use Rattle.pif_chains.proofs.KernelSettled.{priority-range}
-use Rattle.pif_kernel.specs.Inside.{Inside, IsListed, IsPlaced, IsSound, kernel_of}
+use Rattle.pif_kernel.specs.Inside.{Inside, IsListed, IsPlaced, IsSoundInside, kernel_of}
 use Rattle.pif_kernel.specs.Chained.{Chained, KeepsLevels}
 use Rattle.pif_kernel.specs.Fields.{chains_of}
 use Rattle.pif_kernel.specs.Leaving.{IsLeft}
@@ -41,7 +41,7 @@ module _ (p : Inside) (now : Chained) (kept : KeepsLevels (chains_of p) now) whe
         local = a.local;
       }
 
-  pub sound_in_table : IsSound p → IsSound moved
+  pub sound_in_table : IsSoundInside p → IsSoundInside moved
   sound_in_table h = record {
     placed = record {
       within = h.placed.within;
@@ -81,7 +81,7 @@ module _ (p : Inside) (now : Chained) (kept : KeepsLevels (chains_of p) now) whe
     keys = l.keys;
     states = l.states;
     count = l.count;
-    levels = λ r lr. l.levels r lr ∙ ap (without t) (kept.levels r lr);
+    levels = λ r lr. l.levels r lr ∙ ap (list_without t) (kept.levels r lr);
     place = l.place ∙ ap (λ (q : Queue). record q { mask = x.queue.mask }) kept.queue;
     holds = l.holds;
     waited = λ u nz e. l.waited u nz (ap (λ (k : Kernel). waits_for k t) kernel_moved ∙ e);

@@ -16,7 +16,7 @@ use Rattle.pif_chains.proofs.KernelWoken.{added-from_parked, woken_length, woken
 use Rattle.pif_chains.proofs.KernelTaken.{FitsState, owned, requeued, woken_again, woken_living, taking_fits}
 use Rattle.pif_chains.proofs.KernelRequeued.{taking-parked, taking-has_word}
 use Rattle.pif_chains.proofs.KernelAllTaken.{parked-few}
-use Rattle.pif_kernel.specs.Inside.{Inside, IsSound, kernel_of, state_at}
+use Rattle.pif_kernel.specs.Inside.{Inside, IsSoundInside, kernel_of, state_at}
 use Rattle.pif_kernel.specs.Systems.{system_of}
 use Rattle.pif_kernel.specs.Takings.{FitsWord}
 use Rattle.pif_kernel.proofs.Seats.{states_seen, seats_length}
@@ -51,7 +51,7 @@ module _ (u m : ℕ) (x : System) where
 
 -- THE THREAD IS READY BEFORE IT IS QUEUED
 
-module _ (s : WordMap) (p : Inside) (h : IsSound p) (u c m : ℕ)
+module _ (s : WordMap) (p : Inside) (h : IsSoundInside p) (u c m : ℕ)
     (was : (kernel_seat_at (kernel_of p) u).status ≡ Parked c) where
   -- the kernel by itself before
   abbrev k : Kernel
@@ -192,7 +192,7 @@ count_most (x ∷ ps) c =
     (λ y. omega (arith, count_most ps c)) (λ y. omega (arith, count_most ps c))
 
 -- there are not more than there can be threads
-pub count_few : (p : Inside) → IsSound p → (c : ℕ) → parked_count (kernel_of p) c ≤ 1025
+pub count_few : (p : Inside) → IsSoundInside p → (c : ℕ) → parked_count (kernel_of p) c ≤ 1025
 count_few p h c =
     omega (
       arith,

@@ -5,7 +5,7 @@ use Rattle.std.proofs.lemmas.Bool.Decides.{nat_tests}
 use Rattle.pif_nodes.specs.declared.keys.Key.{Key}
 use Rattle.pif_owners.specs.Owners.{Owners, Seat, Wait, seat_at}
 use Rattle.pif_chains.proofs.Waiting.{names}
-use Rattle.pif_kernel.specs.Inside.{Inside, IsSound, ticket_of}
+use Rattle.pif_kernel.specs.Inside.{Inside, IsSoundInside, ticket_of}
 use Rattle.pif_owners.specs.Arrivals.{Rise}
 use Rattle.pif_kernel.specs.Tickets.{renumbered_ticket, seat_with_ticket, IsRenumbered, IsRenumberable, IsNumbered, IsFirstFrom, is_sooner}
 use Rattle.pif_owners.proofs.ArrivalLaws.{rise_once}
@@ -213,7 +213,7 @@ module _ (v now : Owners) (n i : ℕ) (ws : List (ℕ × ℕ)) (d : IsNumbered v
           absurd (omega (arith, (rise_below (ticket_of now) 1 ws (1 + length ws) t up named).1, f.1, all))
 
 -- what is kept soundly is numbered so
-pub numbered : (p : Inside) → IsSound p → IsNumbered p.owners (length p.statuses) p.arrivals
+pub numbered : (p : Inside) → IsSoundInside p → IsNumbered p.owners (length p.statuses) p.arrivals
 numbered p h = record {
   some = h.placed.some;
   few = omega (arith, h.placed.few, h.placed.within.threads);

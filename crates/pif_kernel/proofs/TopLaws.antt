@@ -13,7 +13,7 @@ use Rattle.pif_chains.proofs.Among.{is_among_cons}
 use Rattle.pif_chains.proofs.Among.{is_among as is_waiter}
 use Rattle.pif_chains.proofs.Next.{next_is_next}
 use Rattle.pif_chains.proofs.Waiting.{named-from_pair}
-use Rattle.pif_kernel.specs.Inside.{Inside, IsSound, kernel_of, status_at, key_at, ticket_of}
+use Rattle.pif_kernel.specs.Inside.{Inside, IsSoundInside, kernel_of, status_at, state_key_at, ticket_of}
 use Rattle.pif_owners.specs.Arrivals.{Rise}
 use Rattle.pif_kernel.proofs.Seats.{status_seen, waiters_seen}
 use Rattle.pif_kernel.proofs.Standing.{fits}
@@ -21,7 +21,7 @@ use Rattle.pif_kernel.proofs.Waiters.{has_waiter-key}
 use Rattle.pif_owners.proofs.ArrivalLaws.{rise_behind, waiter_middle, waiter_split}
 
 -- who waits under the key of m is queued on m
-pub waits_under : (p : Inside) → IsSound p → (u m key : ℕ) → key_at p m ≡ Some key → waits_on p.owners u ≡ Some key
+pub waits_under : (p : Inside) → IsSoundInside p → (u m key : ℕ) → state_key_at p m ≡ Some key → waits_on p.owners u ≡ Some key
     → is_waiter p.arrivals u m ≡ true
 waits_under p h u m key at waits =
     subst (λ (ws : List (ℕ × ℕ)). is_waiter ws u m ≡ true) (waiters_seen p)
@@ -31,7 +31,7 @@ waits_under p h u m key at waits =
     on = h.placed.apart (queued_on (status_at p u)) m key (sym (h.placed.waits u) ∙ waits) at
 
     nobody : m ≡ 0 → ⊥
-    nobody z = let both : None ≡ Some key = sym h.placed.no_mutex ∙ ap (key_at p) (sym z) ∙ at in cc
+    nobody z = let both : None ≡ Some key = sym h.placed.no_mutex ∙ ap (state_key_at p) (sym z) ∙ at in cc
 
     by_status : (x : Status) → status_at p u ≡ x → status_at p u ≡ Queued m
     by_status (Queued n) e = e ∙ ap Queued (sym (ap queued_on e) ∙ on)
@@ -41,13 +41,13 @@ waits_under p h u m key at waits =
     by_status Ended e = absurd (nobody (sym on ∙ ap queued_on e))
 
 -- who is queued on m waits under its key
-pub under_waits : (p : Inside) → IsSound p → (u m key : ℕ) → key_at p m ≡ Some key → is_waiter p.arrivals u m ≡ true
+pub under_waits : (p : Inside) → IsSoundInside p → (u m key : ℕ) → state_key_at p m ≡ Some key → is_waiter p.arrivals u m ≡ true
     → waits_on p.owners u ≡ Some key
 under_waits p h u m key at e =
     let status : status_at p u ≡ Queued m
     = sym (status_seen p (fits p h) u)
     ∙ h.kernel.queue u m (subst (λ (ws : List (ℕ × ℕ)). is_waiter ws u m ≡ true) (sym (waiters_seen p)) e) in
-    h.placed.waits u ∙ ap (λ (x : Status). key_at p (queued_on x)) status ∙ at
+    h.placed.waits u ∙ ap (λ (x : Status). state_key_at p (queued_on x)) status ∙ at
 
 pub priority_below : (a b : Key) → comes_before a b ≡ false → a.prio ≤ b.prio
 priority_below a b e = grind (arith, nat_tests)
@@ -55,7 +55,7 @@ priority_below a b e = grind (arith, nat_tests)
 ticket_below : (a b : Key) → comes_before a b ≡ false → a.prio ≡ b.prio → b.ticket ≤ a.ticket
 ticket_below a b e same = grind (arith, nat_tests)
 
-top_by : (p : Inside) → IsSound p → (m key u x : ℕ) → key_at p m ≡ Some key → (top : IsTop p.owners key u)
+top_by : (p : Inside) → IsSoundInside p → (m key u x : ℕ) → state_key_at p m ≡ Some key → (top : IsTop p.owners key u)
     → IsNextWaiter (effective_in (kernel_of p)) p.arrivals m x → u ≡ x
 top_by p h m key u x at top next =
     by_place (waiter_split next.earlier ((x, m) ∷ next.later) u m
@@ -96,7 +96,7 @@ top_by p h m key u x at top next =
             = ap (λ (o : Option Key). unwrap_or (option_map (λ (k : Key). k.ticket) o) 0) top.ranked in
             absurd (omega (arith, ticket_below r.0 top.rank (top.first x r.0 waits r.1) even, late, tx, tu))
 
-pub top_is_next : (p : Inside) → IsSound p → (m key u : ℕ) → key_at p m ≡ Some key → IsTop p.owners key u
+pub top_is_next : (p : Inside) → IsSoundInside p → (m key u : ℕ) → state_key_at p m ≡ Some key → IsTop p.owners key u
     → u ≡ next_in (kernel_of p) m
 top_is_next p h m key u at top =
     let ws : (kernel_of p).waiters ≡ p.arrivals = waiters_seen p in
@@ -105,7 +105,7 @@ top_is_next p h m key u at top =
     ∙ ap (λ (l : List (ℕ × ℕ)). next_waiter (effective_in (kernel_of p)) l m) (sym ws)
 
 -- a mutex that has a key has a waiter
-pub some_waiter : (p : Inside) → IsSound p → (m key : ℕ) → key_at p m ≡ Some key
+pub some_waiter : (p : Inside) → IsSoundInside p → (m key : ℕ) → state_key_at p m ≡ Some key
     → (u : ℕ) × (waits_on p.owners u ≡ Some key)
 some_waiter p h m key at =
     by_next (next_is_next (effective_in (kernel_of p)) p.arrivals m (has_waiter-key p h m (h.placed.owned m key at)))

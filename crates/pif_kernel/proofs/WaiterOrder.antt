@@ -10,14 +10,14 @@ use Rattle.pif_owners.specs.Owners.{Seat, no_seat, seat_at, waits_on, rank_of, I
 use Rattle.pif_owners.proofs.OwnersLemmas.{some_rank}
 use Rattle.pif_rtmutex.specs.Behind.{IsLast, IsBehind}
 use Rattle.pif_chains.proofs.Orders.{order-none, ordered-is_waiter}
-use Rattle.pif_kernel.specs.Inside.{Inside, IsSound, kernel_of, key_at, owner_under, ticket_of}
+use Rattle.pif_kernel.specs.Inside.{Inside, IsSoundInside, kernel_of, state_key_at, owner_under, ticket_of}
 use Rattle.pif_owners.proofs.WaiterRows.{InRow, key_by, among_at, row_first, row_last, row_next, in_row, all_ordered}
 use Rattle.pif_kernel.proofs.Seats.{waiters_seen, added_back}
 use Rattle.pif_kernel.proofs.Standing.{fits, effective_level}
 use Rattle.pif_kernel.proofs.TopLaws.{waits_under, under_waits, some_waiter}
 use Rattle.pif_kernel.proofs.Waiters.{no_key-no_waiter}
 
-module _ (p : Inside) (h : IsSound p) (m : ℕ) where
+module _ (p : Inside) (h : IsSoundInside p) (m : ℕ) where
   few_levels : (u : ℕ) → effective_in (kernel_of p) u ≤ 99
   few_levels u = by_zero (cases_eq u 0) (cases_lt u (length p.statuses))
     where
@@ -37,12 +37,12 @@ module _ (p : Inside) (h : IsSound p) (m : ℕ) where
   ordered = ap (λ (ws : List (ℕ × ℕ)). waiting_order (effective_in (kernel_of p)) ws m) (waiters_seen p)
 
   -- who has no key has no waiter
-  pub keyless : key_at p m ≡ None → (k : ℕ) → slice_get order k ≡ None
+  pub keyless : state_key_at p m ≡ None → (k : ℕ) → slice_get order k ≡ None
   keyless e k =
       ap (λ (l : List ℕ). slice_get l k) (ordered ∙ order-none (effective_in (kernel_of p)) p.arrivals m
       (no_key-no_waiter p h m (ap (λ (o : Option ℕ). owner_under p.owners o) e)))
 
-  module _ (key : ℕ) (at : key_at p m ≡ Some key) where
+  module _ (key : ℕ) (at : state_key_at p m ≡ Some key) where
     abbrev ahead : ℕ → ℕ → Bool
     ahead u v =
         comes_before (key_by (effective_in (kernel_of p)) (ticket_of p.owners) u)

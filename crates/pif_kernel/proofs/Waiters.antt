@@ -12,13 +12,13 @@ use Rattle.pif_chains.proofs.Statuses.{ready-queued_on_nothing}
 use Rattle.pif_chains.proofs.Waiting.{names, named-from_pair, has_waiter-from_pair}
 use Rattle.pif_chains.proofs.Among.{is_among_here, is_among_there}
 use Rattle.pif_chains.proofs.Among.{is_among as is_waiter}
-use Rattle.pif_kernel.specs.Inside.{Inside, IsSound, kernel_of, status_at, key_at, state_at, ticket_of}
+use Rattle.pif_kernel.specs.Inside.{Inside, IsSoundInside, kernel_of, status_at, state_key_at, state_at, ticket_of}
 use Rattle.pif_kernel.proofs.Seats.{added_seen, status_seen, waiters_seen, states_seen}
 use Rattle.pif_kernel.proofs.Standing.{fits}
 use Rattle.pif_owners.proofs.ArrivalLaws.{rise_once, few_waiters, few_named, mutexes_few}
 
 -- a mutex has a key exactly where it has a waiter
-pub has_waiter-key : (p : Inside) → IsSound p → (m : ℕ) → state_at p m ≢ 0 → has_waiter p.arrivals m ≡ true
+pub has_waiter-key : (p : Inside) → IsSoundInside p → (m : ℕ) → state_at p m ≢ 0 → has_waiter p.arrivals m ≡ true
 has_waiter-key p h m some = by_test (has_waiter p.arrivals m) refl
   where
     by_test : (b : Bool) → has_waiter p.arrivals m ≡ b → has_waiter p.arrivals m ≡ true
@@ -30,7 +30,7 @@ has_waiter-key p h m some = by_test (has_waiter p.arrivals m) refl
         let zero : kernel_state_at (kernel_of p) m ≡ 0 = grind (arith, nat_tests) in
         absurd (some (sym (states_seen p m) ∙ zero))
 
-pub no_key-no_waiter : (p : Inside) → IsSound p → (m : ℕ) → state_at p m ≡ 0 → has_waiter p.arrivals m ≡ false
+pub no_key-no_waiter : (p : Inside) → IsSoundInside p → (m : ℕ) → state_at p m ≡ 0 → has_waiter p.arrivals m ≡ false
 no_key-no_waiter p h m none = by_test (has_waiter p.arrivals m) refl
   where
     by_test : (b : Bool) → has_waiter p.arrivals m ≡ b → has_waiter p.arrivals m ≡ false
@@ -55,15 +55,15 @@ names_pair (w ∷ ws) t e = by_head (cases_eq w.0 t) e (names_pair ws t)
         let apart : (w.0 == t) ≡ false = grind (arith, nat_tests) in
         let r = ih (rw apart at e) in (r.0, is_among_there w ws t r.0 r.1)
 
-key_some : (p : Inside) (n : ℕ) → state_at p n ≢ 0 → IsSome (key_at p n)
-key_some p n some = by_key (key_at p n) refl
+key_some : (p : Inside) (n : ℕ) → state_at p n ≢ 0 → IsSome (state_key_at p n)
+key_some p n some = by_key (state_key_at p n) refl
   where
-    by_key : (k : Option ℕ) → key_at p n ≡ k → is_some (key_at p n) ≡ true
+    by_key : (k : Option ℕ) → state_key_at p n ≡ k → is_some (state_key_at p n) ≡ true
     by_key None e = absurd (some (ap (λ (x : Option ℕ). unwrap_or (option_and_then (owner_at p.owners) x) 0) e))
     by_key (Some k) e = ap is_some e
 
 -- who is among the arrivals waits
-pub waits_some : (p : Inside) → IsSound p → (t : ℕ) → names t p.arrivals ≡ true → IsSome (waits_on p.owners t)
+pub waits_some : (p : Inside) → IsSoundInside p → (t : ℕ) → names t p.arrivals ≡ true → IsSome (waits_on p.owners t)
 waits_some p h t e =
     let r = names_pair p.arrivals t e in
     let status : status_at p t ≡ Queued r.0
@@ -71,16 +71,16 @@ waits_some p h t e =
     ∙ h.kernel.queue t r.0 (subst (λ (ws : List (ℕ × ℕ)). is_waiter ws t r.0 ≡ true) (sym (waiters_seen p)) r.1) in
     let some : state_at p r.0 ≢ 0
     = λ z. true≢false (sym (has_waiter-from_pair p.arrivals t r.0 r.1) ∙ no_key-no_waiter p h r.0 z) in
-    ap is_some (h.placed.waits t ∙ ap (λ (x : Status). key_at p (queued_on x)) status) ∙ key_some p r.0 some
+    ap is_some (h.placed.waits t ∙ ap (λ (x : Status). state_key_at p (queued_on x)) status) ∙ key_some p r.0 some
 
 -- and who waits is among them
-pub waits_named : (p : Inside) → IsSound p → (u k : ℕ) → waits_on p.owners u ≡ Some k → names u p.arrivals ≡ true
+pub waits_named : (p : Inside) → IsSoundInside p → (u k : ℕ) → waits_on p.owners u ≡ Some k → names u p.arrivals ≡ true
 waits_named p h u k e = by_status (status_at p u) refl (sym (h.placed.waits u) ∙ e)
   where
-    none : (x : Status) → queued_on x ≡ 0 → key_at p (queued_on x) ≡ Some k → names u p.arrivals ≡ true
-    none x z f = let both : None ≡ Some k = sym h.placed.no_mutex ∙ ap (key_at p) (sym z) ∙ f in cc
+    none : (x : Status) → queued_on x ≡ 0 → state_key_at p (queued_on x) ≡ Some k → names u p.arrivals ≡ true
+    none x z f = let both : None ≡ Some k = sym h.placed.no_mutex ∙ ap (state_key_at p) (sym z) ∙ f in cc
 
-    by_status : (x : Status) → status_at p u ≡ x → key_at p (queued_on (status_at p u)) ≡ Some k
+    by_status : (x : Status) → status_at p u ≡ x → state_key_at p (queued_on (status_at p u)) ≡ Some k
         → names u p.arrivals ≡ true
     by_status (Ready w) s f = none (status_at p u) (ap queued_on s) f
     by_status (Parked c) s f = none (status_at p u) (ap queued_on s) f
@@ -91,7 +91,7 @@ waits_named p h u k e = by_status (status_at p u) refl (sym (h.placed.waits u) �
         (h.kernel.queued u n (status_seen p (fits p h) u ∙ s)))
 
 -- who is among the arrivals was added
-pub named_known : (p : Inside) → IsSound p → (u : ℕ) → names u p.arrivals ≡ true → (u ≢ 0) × (u < length p.statuses)
+pub named_known : (p : Inside) → IsSoundInside p → (u : ℕ) → names u p.arrivals ≡ true → (u ≢ 0) × (u < length p.statuses)
 named_known p h u e =
     (λ z. nobody z (waits_some p h u e), by_place (cases_lt u (length p.statuses)) (waits_some p h u e))
   where
@@ -107,7 +107,7 @@ named_known p h u e =
         absurd (false≢true (sym (ap (λ (x : Seat). is_some (option_map (λ (w : Wait). w.state) x.wait))
         (h.placed.free u g)) ∙ s))
 
-pub arrivals_few : (p : Inside) → IsSound p → length p.arrivals ≤ 1024
+pub arrivals_few : (p : Inside) → IsSoundInside p → length p.arrivals ≤ 1024
 arrivals_few p h =
     omega (
       arith,
@@ -119,17 +119,17 @@ arrivals_few p h =
     )
 
 -- a ready thread is queued on nothing
-pub ready_idle : (p : Inside) → IsSound p → (t : ℕ) → is_ready (kernel_seat_at (kernel_of p) t).status ≡ true
+pub ready_idle : (p : Inside) → IsSoundInside p → (t : ℕ) → is_ready (kernel_seat_at (kernel_of p) t).status ≡ true
     → queued_on (status_at p t) ≡ 0
 ready_idle p h t ready =
     ready-queued_on_nothing (status_at p t) (ap is_ready (sym (status_seen p (fits p h) t)) ∙ ready)
 
 -- and so waits for nothing
-pub ready_free : (p : Inside) → IsSound p → (t : ℕ) → is_ready (kernel_seat_at (kernel_of p) t).status ≡ true
+pub ready_free : (p : Inside) → IsSoundInside p → (t : ℕ) → is_ready (kernel_seat_at (kernel_of p) t).status ≡ true
     → waits_on p.owners t ≡ None
-ready_free p h t ready = h.placed.waits t ∙ ap (key_at p) (ready_idle p h t ready) ∙ h.placed.no_mutex
+ready_free p h t ready = h.placed.waits t ∙ ap (state_key_at p) (ready_idle p h t ready) ∙ h.placed.no_mutex
 
-pub ready_unnamed : (p : Inside) → IsSound p → (t : ℕ) → is_ready (kernel_seat_at (kernel_of p) t).status ≡ true
+pub ready_unnamed : (p : Inside) → IsSoundInside p → (t : ℕ) → is_ready (kernel_seat_at (kernel_of p) t).status ≡ true
     → names t p.arrivals ≡ false
 ready_unnamed p h t ready = by_test (names t p.arrivals) refl
   where
@@ -138,7 +138,7 @@ ready_unnamed p h t ready = by_test (names t p.arrivals) refl
     by_test true e = absurd (false≢true (sym (ap is_some (ready_free p h t ready)) ∙ waits_some p h t e))
 
 -- while a thread is ready, there is room for one more owner state, and for one more waiter
-pub room_for : (p : Inside) → IsSound p → (t : ℕ) → has_seat (kernel_of p) t ≡ true
+pub room_for : (p : Inside) → IsSoundInside p → (t : ℕ) → has_seat (kernel_of p) t ≡ true
     → is_ready (kernel_seat_at (kernel_of p) t).status ≡ true
     → (count p.owners + 1 < length p.owners.seats) × (length p.arrivals < p.limits.threads)
 room_for p h t added ready =

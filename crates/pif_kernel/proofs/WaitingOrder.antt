@@ -7,7 +7,7 @@ use Rattle.pif_model.specs.PiKernel.{level_at, levels_below, parked_pairs, parke
 use Rattle.pif_runq.specs.Levels.{all_below}
 use Rattle.pif_runq.proofs.Places.{slice_get-front, slice_get-behind, all_below-none, all_below-more}
 use Rattle.pif_boost.specs.Boosts.{local_of}
-use Rattle.pif_kernel.specs.Inside.{Inside, IsSound, kernel_of}
+use Rattle.pif_kernel.specs.Inside.{Inside, IsSoundInside, kernel_of}
 use Rattle.pif_kernel.proofs.Picked.{levels_seen}
 use Rattle.pif_kernel.proofs.Seats.{parked_seen}
 use Rattle.pif_kernel.proofs.Standing.{level_same}
@@ -40,7 +40,7 @@ module _ (f : ℕ → ℕ) where
   by_greatest-none us = refl
 
 -- the parked threads of a variable in their order, by those that are kept
-pub parked_in_order : (p : Inside) → IsSound p → (c k : ℕ)
+pub parked_in_order : (p : Inside) → IsSoundInside p → (c k : ℕ)
     → slice_get (waiting_order (local_of p.owners) (parked_pairs p.parked) c) k
     ≡ slice_get (parked_in (kernel_of p) c) k
 parked_in_order p h c k = λ i. slice_get (waiting_order (fun_ext h.local i) (parked_pairs (sym (parked_seen p) i)) c) k

@@ -1,7 +1,7 @@
 -- What is kept stays sound where a thread that is parked or stopped is woken.
 use Rattle.std.proofs.Common.{◌≡◌, ◌≢◌, ℕ, ◌<◌, ◌≤◌, Bool, true, false, if◌then◌else◌, length, set, refl, sym, ap, ◌∙◌, subst, arith}
 use Rattle.std.proofs.lemmas.Bool.{true≢false}
-use Rattle.pif_nodes.specs.Table.{Table}
+use Rattle.pif_nodes.specs.Table.{NodeLists}
 use Rattle.pif_runq.specs.Levels.{Queue, Holds, IsLevel, IsQueued, level_of}
 use Rattle.pif_runq.specs.Levels.{level_after_add}
 use Rattle.pif_model.specs.declared.lines.Status.{Status}
@@ -11,7 +11,7 @@ use Rattle.pif_model.specs.PiKernel.{IsKernel, queued_on, has_seat, is_ready, is
 use Rattle.pif_model.specs.PiKernel.{seat_at as kernel_seat_at}
 use Rattle.pif_owners.specs.Owners.{seat_at}
 use Rattle.pif_chains.proofs.KernelWoken.{added-from_parked, kernel-roused}
-use Rattle.pif_kernel.specs.Inside.{Inside, IsSound, kernel_of, status_at}
+use Rattle.pif_kernel.specs.Inside.{Inside, IsSoundInside, kernel_of, status_at}
 use Rattle.pif_kernel.proofs.Seats.{status_seen, added_seen, kernel_by_parts, seats_of-set_status}
 use Rattle.pif_kernel.proofs.Picked.{levels_joined, length-joined}
 use Rattle.pif_kernel.proofs.Standing.{fits, effective_level, off_queue}
@@ -26,13 +26,13 @@ parked_somewhere Stopped e = absurd (true≢false (sym e))
 parked_somewhere Ended e = absurd (true≢false (sym e))
 
 -- and was added
-pub parked_added : (p : Inside) (u : ℕ) → IsSound p → is_parked (kernel_seat_at (kernel_of p) u).status ≡ true
+pub parked_added : (p : Inside) (u : ℕ) → IsSoundInside p → is_parked (kernel_seat_at (kernel_of p) u).status ≡ true
     → has_seat (kernel_of p) u ≡ true
 parked_added p u h e =
     let d = parked_somewhere (kernel_seat_at (kernel_of p) u).status e in
     added-from_parked (kernel_of p) h.kernel u d.0 d.1
 
-module _ (p : Inside) (u : ℕ) (h : IsSound p) (added : has_seat (kernel_of p) u ≡ true)
+module _ (p : Inside) (u : ℕ) (h : IsSoundInside p) (added : has_seat (kernel_of p) u ≡ true)
     (unready : is_ready (kernel_seat_at (kernel_of p) u).status ≡ false)
     (unqueued : queued_on (kernel_seat_at (kernel_of p) u).status ≡ 0) where
   -- it has a number, and stands within
@@ -51,7 +51,7 @@ module _ (p : Inside) (u : ℕ) (h : IsSound p) (added : has_seat (kernel_of p) 
       both_false true = refl
       both_false false = refl
 
-  module _ (w : Woken) (prio : ℕ) (rank_is : prio ≡ effective_in (kernel_of p) u) (q : Queue) (tb : Table)
+  module _ (w : Woken) (prio : ℕ) (rank_is : prio ≡ effective_in (kernel_of p) u) (q : Queue) (tb : NodeLists)
       (place : q ≡ record p.queue { mask = q.mask })
       (levels : (r : ℕ) → IsLevel r → level_of q tb r ≡ level_after_add u prio r (level_of p.queue p.table r))
       (holds : Holds q tb) where
@@ -84,26 +84,26 @@ module _ (p : Inside) (u : ℕ) (h : IsSound p) (added : has_seat (kernel_of p) 
     idle = ap queued_on (sym (status_seen p (fits p h) u)) ∙ unqueued
 
     -- and all is sound
-    pub sound_woken : IsSound after
+    pub sound_woken : IsSoundInside after
     sound_woken =
         sound_moved p (Ready w) (unparked p.parked u) q tb u h idle refl place holds kept
 
 -- the same, as it is written
-pub woken_ends : (p x : Inside) (u : ℕ) → IsSound p → has_seat (kernel_of p) u ≡ true
+pub woken_ends : (p x : Inside) (u : ℕ) → IsSoundInside p → has_seat (kernel_of p) u ≡ true
     → is_ready (kernel_seat_at (kernel_of p) u).status ≡ false
-    → queued_on (kernel_seat_at (kernel_of p) u).status ≡ 0 → (w : Woken) (prio : ℕ) (q : Queue) (tb : Table)
+    → queued_on (kernel_seat_at (kernel_of p) u).status ≡ 0 → (w : Woken) (prio : ℕ) (q : Queue) (tb : NodeLists)
     → x ≡ record p { parked = unparked p.parked u }
     → prio ≡ (seat_at x.owners u).local → q ≡ record x.queue { mask = q.mask }
     → ((r : ℕ) → IsLevel r → level_of q tb r ≡ level_after_add u prio r (level_of x.queue x.table r)) → Holds q tb
     → (kernel_of (record x { statuses = set x.statuses u (Ready w); queue = q; table = tb })
     ≡ kernel_after_waking u w (kernel_of p))
-    × IsSound (record x { statuses = set x.statuses u (Ready w); queue = q; table = tb })
+    × IsSoundInside (record x { statuses = set x.statuses u (Ready w); queue = q; table = tb })
 woken_ends p x u h added unready unqueued w prio q tb e =
     subst (λ (y : Inside). prio ≡ (seat_at y.owners u).local → q ≡ record y.queue { mask = q.mask }
     → ((r : ℕ) → IsLevel r → level_of q tb r ≡ level_after_add u prio r (level_of y.queue y.table r)) → Holds q tb
     → (kernel_of (record y { statuses = set y.statuses u (Ready w); queue = q; table = tb })
     ≡ kernel_after_waking u w (kernel_of p))
-    × IsSound (record y { statuses = set y.statuses u (Ready w); queue = q; table = tb })) (sym e)
+    × IsSoundInside (record y { statuses = set y.statuses u (Ready w); queue = q; table = tb })) (sym e)
     (λ rank place levels holds. (
       kernel_woken p u h added unready unqueued w prio (rank ∙ h.local u) q tb place levels holds,
       sound_woken p u h added unready unqueued w prio (rank ∙ h.local u) q tb place levels holds,

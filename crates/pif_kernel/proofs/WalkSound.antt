@@ -5,7 +5,7 @@ use Rattle.std.proofs.lemmas.Bool.{cases_lt}
 use Rattle.std.proofs.lemmas.List.{get_or_past}
 use Rattle.pif_nodes.specs.declared.keys.Key.{Key}
 use Rattle.pif_nodes.specs.Lists.{has}
-use Rattle.pif_nodes.specs.Table.{Table}
+use Rattle.pif_nodes.specs.Table.{NodeLists}
 use Rattle.pif_runq.specs.Levels.{Queue, Holds, IsLevel, IsQueued, level_of}
 use Rattle.pif_model.specs.PiKernel.{Kernel, IsKernel, effective_in, is_among, level_at, with_effective_levels, waits_for}
 use Rattle.pif_model.specs.PiKernel.{seat_at as kernel_seat_at}
@@ -19,7 +19,7 @@ use Rattle.pif_chains.proofs.Numbers.{within}
 use Rattle.pif_chains.proofs.Statuses.{ready-queued_on_nothing}
 use Rattle.pif_chains.proofs.Greatest.{effective_most, effective_wider, effective_same}
 use Rattle.pif_chains.proofs.KernelLevels.{length-levels_by}
-use Rattle.pif_kernel.specs.Inside.{Inside, IsPlaced, IsSound, kernel_of, key_at, state_at, ticket_of, IsListed, status_at}
+use Rattle.pif_kernel.specs.Inside.{Inside, IsPlaced, IsSoundInside, kernel_of, state_key_at, state_at, ticket_of, IsListed, status_at}
 use Rattle.pif_owners.specs.Arrivals.{Rise}
 use Rattle.pif_kernel.proofs.Seats.{IsFitted, fitted, seats_length, base_seen, owners_waits, waits_below, kernel_by_parts, added_seen, states_seen, states_length, seats_of-same_base}
 use Rattle.pif_kernel.proofs.Picked.{levels_seen, levels_count, among_has}
@@ -52,7 +52,7 @@ owners_effective p fit u =
     (omega (arith, fit.few, seats_length p fit)) (λ x some. waits_below p fit x)
     (λ x le. base_seen p fit x ∙ ap (λ (s : Seat). s.base) (fit.free x (omega (arith, le, seats_length p fit))))
 
-module _ (p : Inside) (h : IsPlaced p) (now : Owners) (q : Queue) (tb : Table) (repaired : IsRepaired p.owners now)
+module _ (p : Inside) (h : IsPlaced p) (now : Owners) (q : Queue) (tb : NodeLists) (repaired : IsRepaired p.owners now)
     (walks : (r : ℕ) → IsLevel r → level_of q tb r ≡ level_after_walk p.owners p.queue p.table r)
     (place : q ≡ record p.queue { mask = q.mask }) (holds : Holds q tb) where
   abbrev pub after : Inside
@@ -131,7 +131,7 @@ module _ (p : Inside) (h : IsPlaced p) (now : Owners) (q : Queue) (tb : Table) (
   owner_now k = ap (λ m. owner_at (record { seats = now.seats; owners = m }) k) repaired.owners
 
   state_now : (m : ℕ) → state_at after m ≡ state_at p m
-  state_now m = ap (λ (f : ℕ → Option ℕ). unwrap_or (option_and_then f (key_at p m)) 0) (fun_ext owner_now)
+  state_now m = ap (λ (f : ℕ → Option ℕ). unwrap_or (option_and_then f (state_key_at p m)) 0) (fun_ext owner_now)
 
   off : (u r : ℕ) → length (kernel_of p).seats - 1 < u → is_among (level_at (kernel_of p).levels r) u ≡ false
   off u r l = by_test (is_among (level_at (kernel_of p).levels r) u) refl
@@ -190,7 +190,7 @@ module _ (p : Inside) (h : IsPlaced p) (now : Owners) (q : Queue) (tb : Table) (
     tickets = subst (λ (f : ℕ → ℕ). Rise f 1 p.arrivals p.next) (fun_ext ticket_now) h.tickets;
   }
 
-  pub sound_after : IsKernel (with_effective_levels (kernel_of p)) → IsSound after
+  pub sound_after : IsKernel (with_effective_levels (kernel_of p)) → IsSoundInside after
   sound_after settles = record {
     placed = placed_after kept;
     local = local_after;
@@ -223,7 +223,7 @@ module _ (p : Inside) (start : ℕ) (k : Kernel) (w : IsWalkable p start k) wher
   -- waits for nobody
   pub on_running : (u : ℕ) → IsQueued p.queue p.table u → waits_on p.owners u ≡ None
   on_running u on =
-      w.placed.waits u ∙ ap (key_at p) (ready-queued_on_nothing (status_at p u) (listed u on.0 on.1 on.2).ready)
+      w.placed.waits u ∙ ap (state_key_at p) (ready-queued_on_nothing (status_at p u) (listed u on.0 on.1 on.2).ready)
       ∙ w.placed.no_mutex
 
   -- and is on the level of its effective priority
@@ -231,10 +231,10 @@ module _ (p : Inside) (start : ℕ) (k : Kernel) (w : IsWalkable p start k) wher
   on_local u r l on = sym (listed u r l on).local
 
   -- what is kept after the walk
-  pub ended : (now : Owners) (q : Queue) (tb : Table) → IsRepaired p.owners now
+  pub ended : (now : Owners) (q : Queue) (tb : NodeLists) → IsRepaired p.owners now
       → ((r : ℕ) → IsLevel r → level_of q tb r ≡ level_after_walk p.owners p.queue p.table r)
       → q ≡ record p.queue { mask = q.mask } → Holds q tb
-      → (kernel_of (record p { owners = now; queue = q; table = tb }) ≡ k) × IsSound
+      → (kernel_of (record p { owners = now; queue = q; table = tb }) ≡ k) × IsSoundInside
       (record p { owners = now; queue = q; table = tb })
   ended now q tb repaired walks place holds = (
     kernel_after p w.placed now q tb repaired walks place holds ∙ w.after,

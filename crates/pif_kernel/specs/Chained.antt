@@ -2,7 +2,7 @@
 -- keys of the mutexes, and who is parked.
 use Rattle.std.specs.Prelude.{◌≡◌, ℕ, List, [], Option, refl}
 use Rattle.std.specs.Coded.{Coded, code_by, coded×, coded_ℕ, coded_list, coded_option}
-use Rattle.pif_nodes.specs.Table.{Table}
+use Rattle.pif_nodes.specs.Table.{NodeLists}
 use Rattle.pif_runq.specs.Levels.{Queue, IsLevel, level_of, Holds}
 use Rattle.pif_model.specs.PiKernel.{Parking}
 use Rattle.pif_owners.specs.Owners.{Owners, owners_code, no_owners}
@@ -12,7 +12,7 @@ use Rattle.pif_kernel.specs.Inside.{no_keys}
 pub record Chained : Type 0 where
   pub owners : Owners
   pub queue : Queue
-  pub table : Table
+  pub table : NodeLists
   -- the key of the owner state of each mutex, by number; None where there is no owner state
   pub keys : List (Option ℕ)
   -- the parked threads, in the order in which they were parked
@@ -20,7 +20,7 @@ pub record Chained : Type 0 where
 
 abbrev pub chained_code : Coded Chained
 chained_code =
-    code_by (Owners × (Queue × (Table × (List (Option ℕ) × List Parking))))
+    code_by (Owners × (Queue × (NodeLists × (List (Option ℕ) × List Parking))))
     (coded× owners_code (coded× queue_code (coded× table_code
     (coded× (coded_list (coded_option coded_ℕ)) (coded_list parking_code)))))
     (λ x. (x.owners, (x.queue, (x.table, (x.keys, x.parked)))))

@@ -6,7 +6,7 @@ use Rattle.pif_model.specs.declared.lines.Status.{Status}
 use Rattle.pif_model.specs.declared.lines.Status.TheVariants.{Ready, Queued, Parked, Stopped, Ended}
 use Rattle.pif_model.specs.declared.lines.Woken.TheVariants.{Fresh, Owns, Again, Expired}
 use Rattle.pif_nodes.specs.declared.keys.Key.{Key}
-use Rattle.pif_nodes.specs.Table.{Table}
+use Rattle.pif_nodes.specs.Table.{NodeLists}
 use Rattle.pif_runq.specs.Levels.{Queue}
 use Rattle.pif_owners.specs.Owners.{Owners, owners_code, rank_code}
 use Rattle.pif_model.specs.PiKernel.{Parking}
@@ -56,7 +56,7 @@ queue_code =
     (λ q. (q.first_list, (q.first_node, (q.threads, q.mask))))
     (λ p. record { first_list = p.0; first_node = p.1.0; threads = p.1.1.0; mask = p.1.1.1 }) (λ _. refl)
 
-abbrev pub table_code : Coded Table
+abbrev pub table_code : Coded NodeLists
 table_code =
     code_by (List (List ℕ) × List Key) (coded× (coded_list (coded_list coded_ℕ)) (coded_list rank_code))
     (λ t. (t.lists, t.keys)) (λ p. record { lists = p.0; keys = p.1 }) (λ _. refl)
@@ -72,7 +72,7 @@ Sides = List Status × (List (Option ℕ) × (List (ℕ × ℕ) × List Parking)
 
 abbrev pub inside_code : Coded Inside
 inside_code =
-    code_by (Bounds × (Sides × (Owners × (Queue × (Table × ℕ)))))
+    code_by (Bounds × (Sides × (Owners × (Queue × (NodeLists × ℕ)))))
     (coded× bounds_code (coded× (coded× (coded_list status_code)
     (coded× (coded_list (coded_option coded_ℕ))
     (coded× (coded_list (coded× coded_ℕ coded_ℕ)) (coded_list parking_code)))) (coded× owners_code

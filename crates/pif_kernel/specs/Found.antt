@@ -10,7 +10,7 @@ use Rattle.pif_word.specs.declared.cells.Cell.TheVariants.{Mutex}
 use Rattle.pif_word.specs.WordMap.{WordMap, HasCell, bits_at}
 use Rattle.pif_kernel.specs.declared.refusals.Found.{Found}
 use Rattle.pif_kernel.specs.declared.refusals.Found.TheVariants.{Free, Held}
-use Rattle.pif_kernel.specs.Inside.{Inside, kernel_of, key_at, state_at}
+use Rattle.pif_kernel.specs.Inside.{Inside, kernel_of, state_key_at, state_at}
 
 -- the mutex m has this word
 pub record IsWord (m word : ℕ) (s : WordMap) : Type 0 where
@@ -22,7 +22,7 @@ pub record IsHeld (t m word owner : ℕ) (key : Option ℕ) (s : WordMap) (p : I
   pub stored : IsWord m word s
   pub mutex : m < 1025
   pub number : owner ≡ (word_of word).number
-  pub at : key ≡ key_at p m
+  pub at : key ≡ state_key_at p m
   pub state : state_at p m ≢ 0 → state_at p m ≡ owner
   pub living : is_living (kernel_of p) owner ≡ true
   pub unreached : reaches_within (length (kernel_of p).seats) (waits_for (kernel_of p)) owner t ≡ false
@@ -35,7 +35,7 @@ IsFound (Held word owner key) t m s p = IsHeld t m word owner key s p
 -- t may unlock m, whose owner state has this key if there is one
 pub record IsOwn (t m : ℕ) (key : Option ℕ) (s : WordMap) (p : Inside) : Type 0 where
   pub cell : HasCell s (Mutex m)
-  pub at : key ≡ key_at p m
+  pub at : key ≡ state_key_at p m
   pub state : state_at p m ≢ 0 → state_at p m ≡ t
 
 -- what lock_pi answers, by what it found

@@ -7,7 +7,7 @@ use Rattle.pif_model.specs.declared.lines.Woken.TheVariants.{Fresh}
 use Rattle.pif_model.specs.PiKernel.{Kernel, IsKernel, queued_on, is_ready, has_seat, is_among, level_at, levels_by, effective_in}
 use Rattle.pif_model.specs.PiKernel.{Seat as KernelSeat, Parking}
 use Rattle.pif_nodes.specs.declared.keys.Key.{Key}
-use Rattle.pif_nodes.specs.Table.{Table}
+use Rattle.pif_nodes.specs.Table.{NodeLists}
 use Rattle.pif_runq.specs.Levels.{Queue, Holds, level_of}
 use Rattle.pif_owners.specs.Arrivals.{in_order}
 use Rattle.pif_owners.specs.Owners.{Owners, Seat, seat_at, owner_at, count, waits_on, rank_of, no_seat}
@@ -23,7 +23,7 @@ pub record Inside : Type 0 where
   pub owners : Owners
   -- the run queue, in its table
   pub queue : Queue
-  pub table : Table
+  pub table : NodeLists
   -- pairs of a thread and the mutex on which it is queued, in order of their tickets
   pub arrivals : List (ℕ × ℕ)
   -- the parked threads, in order of their tickets. Nothing but that order is asked of these
@@ -36,8 +36,8 @@ abbrev pub status_at : Inside → ℕ → Status
 status_at p t = get_or p.statuses t (Ready Fresh)
 
 -- the key of the owner state of a mutex
-abbrev pub key_at : Inside → ℕ → Option ℕ
-key_at p m = get_or p.keys m None
+abbrev pub state_key_at : Inside → ℕ → Option ℕ
+state_key_at p m = get_or p.keys m None
 
 -- the owner in the owner state under a key; 0 where there is no key
 abbrev pub owner_under : Owners → Option ℕ → ℕ
@@ -45,7 +45,7 @@ owner_under v key = unwrap_or (option_and_then (owner_at v) key) 0
 
 -- the owner in the owner state of a mutex; 0 where it has none
 abbrev pub state_at : Inside → ℕ → ℕ
-state_at p m = owner_under p.owners (key_at p m)
+state_at p m = owner_under p.owners (state_key_at p m)
 
 -- a thread, by its status and its row
 abbrev pub seat_of : Status → Seat → KernelSeat
@@ -109,12 +109,12 @@ pub record IsPlaced (p : Inside) : Type 0 where
   pub holds : Holds p.queue p.table
   pub listed : (t level : ℕ) → is_among (level_at (kernel_of p).levels level) t ≡ true → IsListed p t level
   -- a thread waits on the owner state of the mutex on which it is queued
-  pub waits : (t : ℕ) → waits_on p.owners t ≡ key_at p (queued_on (status_at p t))
+  pub waits : (t : ℕ) → waits_on p.owners t ≡ state_key_at p (queued_on (status_at p t))
   -- each key is that of one mutex, and names an owner state; there are no others
-  pub no_mutex : key_at p 0 ≡ None
-  pub apart : (m n k : ℕ) → key_at p m ≡ Some k → key_at p n ≡ Some k → m ≡ n
-  pub made : (m k : ℕ) → key_at p m ≡ Some k → IsSome (owner_at p.owners k)
-  pub owned : (m k : ℕ) → key_at p m ≡ Some k → state_at p m ≢ 0
+  pub no_mutex : state_key_at p 0 ≡ None
+  pub apart : (m n k : ℕ) → state_key_at p m ≡ Some k → state_key_at p n ≡ Some k → m ≡ n
+  pub made : (m k : ℕ) → state_key_at p m ≡ Some k → IsSome (owner_at p.owners k)
+  pub owned : (m k : ℕ) → state_key_at p m ≡ Some k → state_at p m ≢ 0
   pub count : count p.owners ≡ mutexes_of p.arrivals
   -- the owner in an owner state was added
   pub owners : (m : ℕ) → state_at p m < length p.statuses
@@ -122,7 +122,7 @@ pub record IsPlaced (p : Inside) : Type 0 where
   pub tickets : Rise (ticket_of p.owners) 1 p.arrivals p.next
 
 -- what holds of the parts between two calls
-pub record IsSound (p : Inside) : Type 0 where
+pub record IsSoundInside (p : Inside) : Type 0 where
   pub placed : IsPlaced p
   -- threads stand with their effective priorities
   pub local : (t : ℕ) → (seat_at p.owners t).local ≡ effective_in (kernel_of p) t

@@ -1,11 +1,11 @@
 -- What is kept once a thread has left what it waited for and its level, before the others have their priorities.
 use Rattle.std.specs.Prelude.{◌≡◌, ◌≢◌, ℕ, ◌<◌, true, if◌then◌else◌, length, Some, None}
-use Rattle.pif_nodes.specs.Lists.{without as list_without}
+use Rattle.pif_nodes.specs.Lists.{list_without}
 use Rattle.pif_runq.specs.Levels.{Holds, IsLevel, level_of}
 use Rattle.pif_model.specs.Graph.{has_waiter, without}
 use Rattle.pif_model.specs.PiKernel.{waits_for, unparked}
 use Rattle.pif_owners.specs.Owners.{seat_at, owner_at, count}
-use Rattle.pif_kernel.specs.Inside.{Inside, kernel_of, key_at}
+use Rattle.pif_kernel.specs.Inside.{Inside, kernel_of, state_key_at}
 use Rattle.pif_owners.specs.Arrivals.{mutexes_of}
 
 -- t has left: it waits for nothing, is not parked, and is on no level, and an owner state stays exactly where others
@@ -23,8 +23,8 @@ pub record IsLeft (old now : Inside) (t start : ℕ) : Type 0 where
   pub free : seat_at now.owners t ≡ record (seat_at old.owners t) { wait = None }
   pub others : (u : ℕ) → u ≢ t → seat_at now.owners u ≡ seat_at old.owners u
   pub places : length now.keys ≡ length old.keys
-  pub keys : (m : ℕ) → key_at now m ≡ (if has_waiter (without old.arrivals t) m then key_at old m else None)
-  pub states : (m k : ℕ) → has_waiter (without old.arrivals t) m ≡ true → key_at old m ≡ Some k
+  pub keys : (m : ℕ) → state_key_at now m ≡ (if has_waiter (without old.arrivals t) m then state_key_at old m else None)
+  pub states : (m k : ℕ) → has_waiter (without old.arrivals t) m ≡ true → state_key_at old m ≡ Some k
       → owner_at now.owners k ≡ owner_at old.owners k
   pub count : count now.owners ≡ mutexes_of (without old.arrivals t)
   pub levels : (r : ℕ) → IsLevel r

@@ -3,5 +3,5 @@ use Rattle.std.specs.Prelude.{ℕ, ◌==◌, List, map}
 use Rattle.std.specs.List.{filter}
 
 -- the threads among these that wait for m with this effective priority, in their order
-abbrev pub waiting_with : (ℕ → ℕ) → ℕ → List (ℕ × ℕ) → ℕ → List ℕ
-waiting_with effective level ws m = filter (λ u. effective u == level) (map (λ w. w.0) (filter (λ w. w.1 == m) ws))
+abbrev pub waiters_at_level : (ℕ → ℕ) → ℕ → List (ℕ × ℕ) → ℕ → List ℕ
+waiters_at_level effective level ws m = filter (λ u. effective u == level) (map (λ w. w.0) (filter (λ w. w.1 == m) ws))

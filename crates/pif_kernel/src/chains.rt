@@ -2,7 +2,7 @@ ghost use Rattle.std.specs.Prelude.{◌≡◌, ℕ, ◌+◌, ◌<◌, ◌≤◌,
 ghost use Rattle.std.specs.List.{slice_get};
 ghost use Rattle.pif_model.specs.Graph.{Reaches, waiting_order};
 ghost use Rattle.pif_model.specs.PiKernel.{parked_pairs, unparked};
-ghost use Rattle.pif_nodes.specs.Lists.{has, without};
+ghost use Rattle.pif_nodes.specs.Lists.{has, list_without};
 ghost use Rattle.pif_nodes.specs.declared.keys.Key.{Key as RankSeen};
 ghost use Rattle.pif_runq.specs.Levels.{Holds, IsLevel, IsQueued, IsEmpty, IsFirstOfGreatest, all_below, level_of, level_after_add};
 ghost use Rattle.pif_owners.specs.Owners.{seat_at, owner_at, count, waits_on, rank_of, WaitsFor, IsTop, HasNoWaiter, KeepsOrder, with_seat, with_base, with_wait, with_ticket, with_owner, without_state};
@@ -185,7 +185,7 @@ pub trait Chains {
         requires { IsQueued (seen self.old).queue (seen self.old).table t }
         ensures owners { (seen self.new).owners ≡ (seen self.old).owners }
         ensures levels { (p : ℕ) → IsLevel p → level_of (seen self.new).queue (seen self.new).table p
-            ≡ without t (level_of (seen self.old).queue (seen self.old).table p) }
+            ≡ list_without t (level_of (seen self.old).queue (seen self.old).table p) }
         ensures place { (seen self.new).queue ≡ record (seen self.old).queue { mask = (seen self.new).queue.mask } }
         ensures holds { Holds (seen self.new).queue (seen self.new).table }
         ensures keys { (seen self.new).keys ≡ (seen self.old).keys }

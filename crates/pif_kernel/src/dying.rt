@@ -2,7 +2,7 @@ ghost use Rattle.std.specs.Prelude.{◌≡◌};
 ghost use Rattle.pif_model.specs.declared.lines.Status.TheVariants.{Ended};
 ghost use Rattle.pif_model.specs.PiKernel.{seat_at, after_death, after_deaths};
 ghost use Rattle.pif_model.specs.RobustList.{robust_at, walk_of};
-ghost use Rattle.pif_kernel.specs.Inside.{IsSound, kernel_of};
+ghost use Rattle.pif_kernel.specs.Inside.{IsSoundInside, kernel_of};
 ghost use Rattle.pif_kernel.specs.Systems.{system_of};
 
 use crate::chains::Chains;
@@ -17,10 +17,10 @@ impl<C: Chains + Drop> Parts<C> {
     /// and the word gets that number and both flags. With one of another owner nothing changes. Without a word, and
     /// where the word has another number, nothing changes either.
     pub(crate) fn pass_on(&mut self, words: &mut Words, t: Tid, m: MutexId)
-        requires sound { IsSound self.old }
+        requires sound { IsSoundInside self.old }
         requires ended { (seat_at (kernel_of self.old) t).status ≡ Ended }
         ensures after { system_of words.new self.new ≡ after_death t m (system_of words.old self.old) }
-        ensures sound { IsSound self.new }
+        ensures sound { IsSoundInside self.new }
         ensures ended { (seat_at (kernel_of self.new) t).status ≡ Ended }
     {
         if !words.has(Cell::Mutex(m)) {
@@ -43,11 +43,11 @@ impl<C: Chains + Drop> Parts<C> {
     /// Each mutex that the robust list and the pending field of this thread name passes on like that, one after the
     /// other along the list, the last linked first and the pending one last.
     pub(crate) fn pass_all_on(&mut self, words: &mut Words, lists: &RobustLists, t: Tid)
-        requires sound { IsSound self.old }
+        requires sound { IsSoundInside self.old }
         requires ended { (seat_at (kernel_of self.old) t).status ≡ Ended }
         ensures after { system_of words.new self.new
             ≡ after_deaths t (walk_of (robust_at lists.now t)) (system_of words.old self.old) }
-        ensures sound { IsSound self.new }
+        ensures sound { IsSoundInside self.new }
     {
         let mut next = lists.walk_first(t);
         while let Some(m) = next {

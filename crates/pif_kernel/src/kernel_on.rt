@@ -20,7 +20,7 @@ pub struct KernelOn<C: Chains + Drop> {
 }
 
 impl<C: Chains + Drop> Model for KernelOn<C> {
-    ghost use Rattle.pif_kernel.specs.Inside.{Inside as InsideSeen, IsSound};
+    ghost use Rattle.pif_kernel.specs.Inside.{Inside as InsideSeen, IsSoundInside};
     ghost use Rattle.pif_kernel.specs.Codes.{inside_code};
 
     ghost Value = { InsideSeen };
@@ -29,7 +29,7 @@ impl<C: Chains + Drop> Model for KernelOn<C> {
 
     ghost view = { λ k. k.parts };
 
-    ghost invariant = { λ k. IsSound k.parts };
+    ghost invariant = { λ k. IsSoundInside k.parts };
 }
 
 impl<C: Chains + Drop> KernelOn<C> {

@@ -1,7 +1,7 @@
 ghost use Rattle.std.specs.Prelude.{◌≡◌, true};
 ghost use Rattle.pif_model.specs.declared.lines.Status.TheVariants.{Queued};
 ghost use Rattle.pif_model.specs.PiKernel.{seat_at, is_living, is_out, kernel_left_as, kernel_after_expire};
-ghost use Rattle.pif_kernel.specs.Inside.{IsSound, kernel_of};
+ghost use Rattle.pif_kernel.specs.Inside.{IsSoundInside, kernel_of};
 ghost use Rattle.pif_kernel.specs.Leaving.{IsLeft};
 
 use crate::chains::Chains;
@@ -13,10 +13,10 @@ impl<C: Chains + Drop> Parts<C> {
     /// The deadline of a living thread is reached: it leaves what it waits for, with all that follows, and then is
     /// ready at the end of its level.
     pub(crate) fn expire(&mut self, t: Tid)
-        requires sound { IsSound self.old }
+        requires sound { IsSoundInside self.old }
         requires living { is_living (kernel_of self.old) t ≡ true }
         ensures after { kernel_of self.new ≡ kernel_after_expire t (kernel_of self.old) }
-        ensures sound { IsSound self.new }
+        ensures sound { IsSoundInside self.new }
     {
         self.leave_as(t, Status::Stopped);
         self.wake(t, Woken::Expired);
@@ -26,11 +26,11 @@ impl<C: Chains + Drop> Parts<C> {
     /// variable on which it is parked, and the run queue, and all for whom it waited get their new priorities. It has
     /// this status then, in which it waits for nothing and may not run. What it owns is not touched.
     pub(crate) fn leave_as(&mut self, t: Tid, status: Status)
-        requires sound { IsSound self.old }
+        requires sound { IsSoundInside self.old }
         requires living { is_living (kernel_of self.old) t ≡ true }
         requires out { is_out status ≡ true }
         ensures after { kernel_of self.new ≡ kernel_left_as status t (kernel_of self.old) }
-        ensures sound { IsSound self.new }
+        ensures sound { IsSoundInside self.new }
     {
         let start = self.take_off(t);
         self.statuses[t.get() as usize] = status;
@@ -40,7 +40,7 @@ impl<C: Chains + Drop> Parts<C> {
     /// Takes a living thread off the mutex on which it is queued or the variable on which it is parked, or out of the
     /// run queue. Answers for whom it waited, and itself where it waited for nobody.
     fn take_off(&mut self, t: Tid) -> Tid
-        requires sound { IsSound self.old }
+        requires sound { IsSoundInside self.old }
         requires living { is_living (kernel_of self.old) t ≡ true }
         ensures { IsLeft self.old self.new t result }
     {
@@ -61,7 +61,7 @@ impl<C: Chains + Drop> Parts<C> {
     /// Takes a thread off the mutex on which it is queued. The owner state ends where nobody else is queued on it.
     /// Answers the owner in it.
     fn dequeue(&mut self, t: Tid, m: MutexId) -> Tid
-        requires sound { IsSound self.old }
+        requires sound { IsSoundInside self.old }
         requires queued { (seat_at (kernel_of self.old) t).status ≡ Queued m }
         ensures { IsLeft self.old self.new t result }
     {

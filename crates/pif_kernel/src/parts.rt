@@ -1,6 +1,6 @@
 ghost use Rattle.std.specs.Prelude.{◌≡◌, ◌≤◌, ◌<◌, ◌==◌, true, length, if◌then◌else◌, Some, None, IfOk};
 ghost use Rattle.pif_model.specs.PiKernel.{seat_at, has_seat, is_living, effective_in, pick_in, new_kernel};
-ghost use Rattle.pif_kernel.specs.Inside.{IsSound, kernel_of, key_at};
+ghost use Rattle.pif_kernel.specs.Inside.{IsSoundInside, kernel_of, state_key_at};
 
 use crate::chains::Chains;
 use pif_model::{Status, Woken};
@@ -46,7 +46,7 @@ impl<C: Chains + Drop> Parts<C> {
         requires { 1 ≤ first_ticket }
         ensures made { IfOk result (λ p. kernel_of p ≡ new_kernel limits) }
         ensures ticket { IfOk result (λ p. p.next ≡ first_ticket) }
-        ensures sound { IfOk result (λ p. IsSound p) }
+        ensures sound { IfOk result (λ p. IsSoundInside p) }
     {
         let threads = limits.threads();
         let mut statuses = with_room(alloc, threads as usize + 1)?;
@@ -62,7 +62,7 @@ impl<C: Chains + Drop> Parts<C> {
 
     /// The status of a thread.
     pub(crate) fn status(&self, t: Tid) -> Status
-        requires sound { IsSound self.now }
+        requires sound { IsSoundInside self.now }
         requires added { has_seat (kernel_of self.now) t ≡ true }
         ensures { result ≡ (seat_at (kernel_of self.now) t).status }
     {
@@ -71,7 +71,7 @@ impl<C: Chains + Drop> Parts<C> {
 
     /// Whether a thread lives: it was added, and has not ended.
     pub(crate) fn lives(&self, t: Tid) -> bool
-        requires { IsSound self.now }
+        requires { IsSoundInside self.now }
         ensures { result ≡ is_living (kernel_of self.now) t }
     {
         match self.statuses.get(t.get() as usize) {
@@ -82,7 +82,7 @@ impl<C: Chains + Drop> Parts<C> {
 
     /// The effective priority of a thread. `None` where it doesn't live.
     pub(crate) fn effective(&self, t: Tid) -> Option<Prio>
-        requires { IsSound self.now }
+        requires { IsSoundInside self.now }
         ensures { result ≡ (if is_living (kernel_of self.now) t then Some (effective_in (kernel_of self.now) t) else None) }
     {
         if self.lives(t) {
@@ -94,7 +94,7 @@ impl<C: Chains + Drop> Parts<C> {
 
     /// The first thread of the greatest level that has one. `None` where no level has a thread.
     pub(crate) fn pick(&self) -> Option<Tid>
-        requires { IsSound self.now }
+        requires { IsSoundInside self.now }
         ensures { result ≡ (if pick_in (kernel_of self.now) == 0 then None else Some (pick_in (kernel_of self.now))) }
     {
         self.chains.pick()
@@ -102,7 +102,7 @@ impl<C: Chains + Drop> Parts<C> {
 
     /// The key of the owner state of a mutex. `None` where it has none.
     pub(crate) fn key(&self, m: MutexId) -> Option<Key>
-        ensures { result ≡ key_at self.now m }
+        ensures { result ≡ state_key_at self.now m }
     {
         self.chains.find(m)
     }

@@ -8,7 +8,7 @@ ghost use Rattle.pif_word.specs.WordMap.{HasCell, words_of};
 ghost use Rattle.pif_kernel.specs.Answers.{test_answer, wait_test_answer};
 ghost use Rattle.pif_kernel_calls.specs.Answers.{unit_answer};
 ghost use Rattle.pif_kernel.specs.Found.{IsWord, IsFound, IsOwn, lock_test_answer};
-ghost use Rattle.pif_kernel.specs.Inside.{IsSound, kernel_of, owner_under};
+ghost use Rattle.pif_kernel.specs.Inside.{IsSoundInside, kernel_of, owner_under};
 ghost use Rattle.pif_kernel.specs.Systems.{system_of};
 ghost use Rattle.pif_kernel.specs.Takings.{FitsWord, requeue_test_answer};
 
@@ -31,7 +31,7 @@ pub enum Found {
 impl<C: Chains + Drop> Parts<C> {
     /// The tests of lock_pi: EFAULT, EDEADLK, EINVAL or ESRCH, or else what it found.
     pub(crate) fn test_lock(&self, words: &Words, t: Tid, m: MutexId) -> Result<Found, Errno>
-        requires { IsSound self.now }
+        requires { IsSoundInside self.now }
         ensures answer { lock_test_answer result ≡ lock_answer t m (words_of words.now) (kernel_of self.now) }
         ensures found { IfOk result (λ found. IsFound found t m words.now self.now) }
     {
@@ -56,7 +56,7 @@ impl<C: Chains + Drop> Parts<C> {
     /// The tests of a wait for this owner of a mutex, whose owner state has this key, if there is one: ESRCH, EINVAL or
     /// EDEADLK.
     fn test_wait(&self, t: Tid, owner: Tid, key: Option<Key>) -> Result<(), Errno>
-        requires sound { IsSound self.now }
+        requires sound { IsSoundInside self.now }
         requires state { ForSome key (λ k. IsSome (owner_at self.now.owners k)) }
         ensures { wait_test_answer result ≡ wait_answer t owner (owner_under self.now.owners key) (kernel_of self.now) }
     {
@@ -85,7 +85,7 @@ impl<C: Chains + Drop> Parts<C> {
 
     /// The tests of trylock_pi: EFAULT, EDEADLK, EAGAIN or EINVAL, or else the word of the mutex.
     pub(crate) fn test_try_lock(&self, words: &Words, t: Tid, m: MutexId) -> Result<u32, Errno>
-        requires { IsSound self.now }
+        requires { IsSoundInside self.now }
         ensures answer { test_answer result ≡ try_lock_answer t m (words_of words.now) (kernel_of self.now) }
         ensures word { IfOk result (λ word. IsWord m word words.now) }
     {
@@ -114,7 +114,7 @@ impl<C: Chains + Drop> Parts<C> {
         t: Tid,
         m: MutexId,
     ) -> Result<Option<Key>, Errno>
-        requires { IsSound self.now }
+        requires { IsSoundInside self.now }
         ensures answer { test_answer result ≡ unlock_answer t m (words_of words.now) (kernel_of self.now) }
         ensures own { IfOk result (λ key. IsOwn t m key words.now self.now) }
     {
@@ -133,7 +133,7 @@ impl<C: Chains + Drop> Parts<C> {
 
     /// The tests of set_prio: EINVAL or ESRCH, or else the priority.
     pub(crate) fn test_set_prio(&self, t: Tid, p: u32) -> Result<Prio, Errno>
-        requires { IsSound self.now }
+        requires { IsSoundInside self.now }
         ensures answer { test_answer result ≡ set_prio_answer t p (kernel_of self.now) }
         ensures value { IfOk result (λ prio. prio ≡ p) }
     {
@@ -173,7 +173,7 @@ impl<C: Chains + Drop> Parts<C> {
         val: u32,
         expected: u32,
     ) -> Result<(), Errno>
-        requires { IsSound self.now }
+        requires { IsSoundInside self.now }
         ensures answer { (more : ℕ) → requeue_answer c m val more expected (words_of words.now) (kernel_of self.now) ≡ requeue_test_answer result c more (kernel_of self.now) }
         ensures word { OnOk result (HasCell words.now (Mutex m)) }
         ensures fits { OnOk result (has_parked (kernel_of self.now) c ≡ true → FitsWord m (system_of words.now self.now)) }
@@ -209,7 +209,7 @@ impl<C: Chains + Drop> Parts<C> {
     /// Whether the number in a mutex's word and its owner state fit together: no number and no owner state, or that of
     /// a living thread and no owner state of another. The number of no living thread fits with any.
     fn fits_state(&self, number: u32, m: MutexId) -> bool
-        requires sound { IsSound self.now }
+        requires sound { IsSoundInside self.now }
         requires place { m < length self.now.keys }
         ensures { result ≡ fits_state number (state_at (kernel_of self.now) m) (kernel_of self.now) }
     {

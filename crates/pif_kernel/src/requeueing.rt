@@ -2,7 +2,7 @@ ghost use Rattle.std.specs.Prelude.{◌≡◌, true, min, ◌+◌, ◌<◌};
 ghost use Rattle.pif_model.specs.PiKernel.{seat_at, is_parked, has_parked, parked_count, may_queue, after_taking, after_takings};
 ghost use Rattle.pif_word.specs.declared.cells.Cell.TheVariants.{Mutex};
 ghost use Rattle.pif_word.specs.WordMap.{HasCell};
-ghost use Rattle.pif_kernel.specs.Inside.{IsSound, kernel_of};
+ghost use Rattle.pif_kernel.specs.Inside.{IsSoundInside, kernel_of};
 ghost use Rattle.pif_kernel.specs.Systems.{system_of};
 ghost use Rattle.pif_kernel.specs.Takings.{FitsWord};
 
@@ -16,12 +16,12 @@ impl<C: Chains + Drop> Parts<C> {
     /// Takes at most 1 + `more` of the threads that are parked on a variable for its mutex, one after another, each
     /// time the one that is next then. Answers how many.
     pub(crate) fn take_all(&mut self, words: &mut Words, c: CondId, m: MutexId, more: u32) -> u32
-        requires sound { IsSound self.old }
+        requires sound { IsSoundInside self.old }
         requires word { HasCell words.old (Mutex m) }
         requires fits { has_parked (kernel_of self.old) c ≡ true → FitsWord m (system_of words.old self.old) }
         ensures count { result ≡ min (parked_count (kernel_of self.old) c) (more + 1) }
         ensures after { system_of words.new self.new ≡ after_takings (more + 1) c m (system_of words.old self.old) }
-        ensures sound { IsSound self.new }
+        ensures sound { IsSoundInside self.new }
     {
         for taken in 0..u64::from(more) + 1 {
             match self.next_parked(c) {
@@ -36,12 +36,12 @@ impl<C: Chains + Drop> Parts<C> {
     /// thread owns the mutex. The number of a living thread, for which it can wait without a cycle: it is queued on the
     /// mutex. Else it is woken to lock the mutex itself.
     fn take(&mut self, words: &mut Words, u: Tid, m: MutexId)
-        requires sound { IsSound self.old }
+        requires sound { IsSoundInside self.old }
         requires parked { is_parked (seat_at (kernel_of self.old) u).status ≡ true }
         requires word { HasCell words.old (Mutex m) }
         requires fits { FitsWord m (system_of words.old self.old) }
         ensures after { system_of words.new self.new ≡ after_taking u m (system_of words.old self.old) }
-        ensures sound { IsSound self.new }
+        ensures sound { IsSoundInside self.new }
         ensures mutex { m < 1025 }
     {
         let word = words.load(Cell::Mutex(m));
@@ -63,7 +63,7 @@ impl<C: Chains + Drop> Parts<C> {
     /// Whether a thread may queue behind this owner: the owner lives, isn't the thread, and doesn't wait for it through
     /// any chain.
     fn may_queue(&self, u: Tid, owner: Tid) -> bool
-        requires { IsSound self.now }
+        requires { IsSoundInside self.now }
         ensures { result ≡ may_queue u owner (kernel_of self.now) }
     {
         self.lives(owner) && !self.chains.would_close(u, owner)

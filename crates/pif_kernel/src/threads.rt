@@ -1,6 +1,6 @@
 ghost use Rattle.std.specs.Prelude.{◌≡◌, ◌≤◌, true, length, Ok};
 ghost use Rattle.pif_model.specs.PiKernel.{seat_at, has_seat, is_living, is_ready, kernel_after_add, kernel_after_set_prio, kernel_after_stop};
-ghost use Rattle.pif_kernel.specs.Inside.{IsSound, kernel_of};
+ghost use Rattle.pif_kernel.specs.Inside.{IsSoundInside, kernel_of};
 
 use crate::chains::Chains;
 use crate::parts::Parts;
@@ -10,11 +10,11 @@ use pif_types::{Prio, Tid, push_within};
 impl<C: Chains + Drop> Parts<C> {
     /// Adds a thread of this base priority.
     pub(crate) fn add(&mut self, prio: Prio) -> Tid
-        requires sound { IsSound self.old }
+        requires sound { IsSoundInside self.old }
         requires room { length (kernel_of self.old).seats ≤ (kernel_of self.old).limits.threads }
         ensures number { result ≡ length (kernel_of self.old).seats }
         ensures after { kernel_of self.new ≡ kernel_after_add prio (kernel_of self.old) }
-        ensures sound { IsSound self.new }
+        ensures sound { IsSoundInside self.new }
     {
         // For the prover: a priority is 1 to 99.
         let _level = prio.get();
@@ -27,10 +27,10 @@ impl<C: Chains + Drop> Parts<C> {
 
     /// Gives a thread another base priority, and it and its chain their effective priorities.
     pub(crate) fn set_base(&mut self, t: Tid, prio: Prio)
-        requires sound { IsSound self.old }
+        requires sound { IsSoundInside self.old }
         requires living { is_living (kernel_of self.old) t ≡ true }
         ensures after { kernel_of self.new ≡ kernel_after_set_prio t prio (Ok (record {})) (kernel_of self.old) }
-        ensures sound { IsSound self.new }
+        ensures sound { IsSoundInside self.new }
     {
         // For the prover: a priority is 1 to 99.
         let _level = prio.get();
@@ -40,11 +40,11 @@ impl<C: Chains + Drop> Parts<C> {
 
     /// Stops a ready thread for good.
     pub(crate) fn stop(&mut self, t: Tid)
-        requires sound { IsSound self.old }
+        requires sound { IsSoundInside self.old }
         requires added { has_seat (kernel_of self.old) t ≡ true }
         requires ready { is_ready (seat_at (kernel_of self.old) t).status ≡ true }
         ensures after { kernel_of self.new ≡ kernel_after_stop t (kernel_of self.old) }
-        ensures sound { IsSound self.new }
+        ensures sound { IsSoundInside self.new }
     {
         self.statuses[t.get() as usize] = Status::Stopped;
         self.chains.take_out(t);

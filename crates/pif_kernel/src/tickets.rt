@@ -2,7 +2,7 @@ ghost use Rattle.std.specs.Prelude.{◌≡◌, ◌<◌, ◌≤◌, ◌+◌, if�
 ghost use Rattle.pif_runq.specs.Levels.{Holds};
 ghost use Rattle.pif_kernel.specs.Tickets.{IsRenumbered, IsRenumberable, IsNumbered, IsFirstFrom, is_sooner};
 ghost use Rattle.pif_kernel.specs.Chained.{KeepsLevels};
-ghost use Rattle.pif_kernel.specs.Inside.{IsSound, kernel_of, ticket_of, arrivals_in};
+ghost use Rattle.pif_kernel.specs.Inside.{IsSoundInside, kernel_of, ticket_of, arrivals_in};
 ghost use Rattle.pif_owners.specs.Arrivals.{Rise};
 
 use crate::chains::Chains;
@@ -13,13 +13,13 @@ use pif_types::Tid;
 impl<C: Chains + Drop> Parts<C> {
     /// Takes the next ticket. At the last one the tickets that are held are numbered anew from 1, in their order.
     pub(crate) fn take_ticket(&mut self) -> u64
-        requires sound { IsSound self.old }
+        requires sound { IsSoundInside self.old }
         ensures frame { self.new ≡ record self.old { owners = self.new.owners; table = self.new.table; next = self.new.next } }
         ensures taken { self.old.next < 18446744073709551615 → result ≡ self.old.next }
         ensures next { self.new.next ≡ result + 1 }
         ensures rises { Rise (ticket_of self.new.owners) 1 self.new.arrivals result }
         ensures same { kernel_of self.new ≡ kernel_of self.old }
-        ensures sound { IsSound self.new }
+        ensures sound { IsSoundInside self.new }
     {
         if self.next == u64::MAX {
             self.renumber();
@@ -31,11 +31,11 @@ impl<C: Chains + Drop> Parts<C> {
 
     /// Numbers the tickets that are held anew from 1, in their order.
     fn renumber(&mut self)
-        requires sound { IsSound self.old }
+        requires sound { IsSoundInside self.old }
         ensures frame { self.new ≡ record self.old { owners = self.new.owners; table = self.new.table; next = self.new.next } }
         ensures next { self.new.next ≡ length self.old.arrivals + 1 }
         ensures same { kernel_of self.new ≡ kernel_of self.old }
-        ensures sound { IsSound self.new }
+        ensures sound { IsSoundInside self.new }
     {
         let ticket = number_anew(&mut self.chains, &self.statuses);
         self.next = ticket;

@@ -3,14 +3,14 @@ use Rattle.std.proofs.Common.{◌≡◌, ℕ, ◌+◌, ◌*◌, [], length, repl
 use Rattle.std.proofs.lemmas.List.{length-replicate}
 use Rattle.std.proofs.lemmas.List.FromFn.{fill_by_all}
 use Rattle.std.proofs.lemmas.List.{get_or-replicate}
-use Rattle.pif_nodes.specs.Table.{Table, IsApart, holder, list_at}
+use Rattle.pif_nodes.specs.Table.{NodeLists, IsApart, holder, list_at}
 use Rattle.pif_runq.specs.Levels.{Queue, Holds, HasRoom, level_of, list_for}
-use Rattle.pif_rtmutex.specs.States.{States, no_states, top_node}
-use Rattle.pif_rtmutex.specs.Holds.{Holds as HoldsStates, HasRoom as HasRoomForStates}
+use Rattle.pif_rtmutex.specs.States.{States, empty_states, top_node}
+use Rattle.pif_rtmutex.specs.Holds.{HoldsStates, HasRoomForStates}
 use Rattle.pif_queue.specs.Entries.{no_entry, found_in}
 use Rattle.pif_queue.specs.Parked.{parked_at}
 use Rattle.pif_queue.specs.Buckets.{Buckets, HoldsBuckets}
-use Rattle.pif_queue.specs.Buckets.{HasRoom as HasRoomForBuckets}
+use Rattle.pif_queue.specs.Buckets.{HasRoomForBuckets}
 use Rattle.pif_queue.proofs.Rooms.{no_buckets, room-made}
 use Rattle.pif_kernel.specs.Inside.{no_keys}
 use Rattle.pif_runq.proofs.EmptyTables.{empty_table, empty_lists, empty_nodes, empty_list, empty_free, empty_level}
@@ -18,16 +18,16 @@ use Rattle.pif_linked.specs.Parkings.{parkings_in}
 use Rattle.pif_linked.specs.Linked.{key_count, key_of, keys_in, StandLinked, IsLinked}
 use Rattle.pif_linked.proofs.ParkingLemmas.{nobody_parked, are_parked-nobody}
 
-module _ (threads lists : ℕ) (m : States) (q : Queue) (b : Buckets) (t : Table) (count : lists ≡ 2 * threads + 419)
-    (states : m ≡ no_states 0 0 threads)
+module _ (threads lists : ℕ) (m : States) (q : Queue) (b : Buckets) (t : NodeLists) (count : lists ≡ 2 * threads + 419)
+    (states : m ≡ empty_states 0 0 threads)
     (made : q ≡ record { first_list = 2 * threads; first_node = 2 * threads; threads = threads; mask = 0 })
     (bucketed : b ≡ no_buckets (2 * threads + 99) (3 * threads) 0 threads 256)
     (empty : t ≡ empty_table lists (4 * threads)) (apart : IsApart t)
-    (may_hold : (x : Table) → HasRoomForStates m x → HoldsStates m x)
-    (may_queue : (x : Table) → HasRoom q x → Holds q x)
-    (may_stand : (x : Table) → HasRoomForBuckets b x → HoldsBuckets b x)
-    (no_word : (x : Table) → HasRoomForBuckets b x → (w : ℕ) → found_in b.entries x w ≡ None)
-    (nobody : (x : Table) (u : ℕ) → parked_at b.parked x u ≡ None) where
+    (may_hold : (x : NodeLists) → HasRoomForStates m x → HoldsStates m x)
+    (may_queue : (x : NodeLists) → HasRoom q x → Holds q x)
+    (may_stand : (x : NodeLists) → HasRoomForBuckets b x → HoldsBuckets b x)
+    (no_word : (x : NodeLists) → HasRoomForBuckets b x → (w : ℕ) → found_in b.entries x w ≡ None)
+    (nobody : (x : NodeLists) (u : ℕ) → parked_at b.parked x u ≡ None) where
   list : m.first_list ≡ 0
   list = ap (λ (x : States). x.first_list) states
 
@@ -47,20 +47,20 @@ module _ (threads lists : ℕ) (m : States) (q : Queue) (b : Buckets) (t : Table
   queued = ap (λ (x : Queue). x.threads) made
 
   all : length t.lists ≡ lists
-  all = ap (λ (x : Table). length x.lists) empty ∙ empty_lists lists (4 * threads)
+  all = ap (λ (x : NodeLists). length x.lists) empty ∙ empty_lists lists (4 * threads)
 
   nodes : length t.keys ≡ 4 * threads
-  nodes = ap (λ (x : Table). length x.keys) empty ∙ empty_nodes lists (4 * threads)
+  nodes = ap (λ (x : NodeLists). length x.keys) empty ∙ empty_nodes lists (4 * threads)
 
   free : (n : ℕ) → holder t n ≡ None
-  free n = ap (λ (x : Table). holder x n) empty ∙ empty_free lists (4 * threads) n (subst IsApart empty apart)
+  free n = ap (λ (x : NodeLists). holder x n) empty ∙ empty_free lists (4 * threads) n (subst IsApart empty apart)
 
   states_room : HasRoomForStates m t
   states_room = record {
     apart = apart;
     lists = omega (arith, list, many, all, count);
     nodes = omega (arith, node, many, nodes);
-    empty = λ l own. ap (λ (x : Table). list_at x l) empty ∙ empty_list lists (4 * threads) l;
+    empty = λ l own. ap (λ (x : NodeLists). list_at x l) empty ∙ empty_list lists (4 * threads) l;
     free = λ u i. free (top_node m u);
   }
 
@@ -69,7 +69,7 @@ module _ (threads lists : ℕ) (m : States) (q : Queue) (b : Buckets) (t : Table
     apart = apart;
     lists = omega (arith, level, all, count);
     nodes = omega (arith, ready, queued, nodes);
-    empty = λ p lp. ap (λ (x : Table). list_at x (list_for q p)) empty ∙ empty_list lists (4 * threads) (list_for q p);
+    empty = λ p lp. ap (λ (x : NodeLists). list_at x (list_for q p)) empty ∙ empty_list lists (4 * threads) (list_for q p);
     free = λ n mine. free n;
   }
 
@@ -115,7 +115,7 @@ module _ (threads lists : ℕ) (m : States) (q : Queue) (b : Buckets) (t : Table
   }
 
   pub levels_first : (p : ℕ) → level_of q t p ≡ []
-  levels_first p = ap (λ (x : Table). level_of q x p) empty ∙ empty_level q lists (4 * threads) p
+  levels_first p = ap (λ (x : NodeLists). level_of q x p) empty ∙ empty_level q lists (4 * threads) p
 
   pub keys_first : keys_in b.entries t ≡ no_keys
   unfolding no_keys

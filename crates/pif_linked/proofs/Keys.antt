@@ -5,7 +5,7 @@ use Rattle.std.proofs.lemmas.Bool.Decides.{nat_tests}
 use Rattle.std.proofs.lemmas.Option.{same_Some}
 use Rattle.std.proofs.lemmas.List.{get_or_past, get_or-set_same, get_or-set_other, length-set}
 use Rattle.std.proofs.lemmas.List.FromFn.{fill_by_all, length-map-range_with_len, get_or-map-range_with_len}
-use Rattle.pif_nodes.specs.Table.{Table}
+use Rattle.pif_nodes.specs.Table.{NodeLists}
 use Rattle.pif_queue.specs.Entries.{Entries, Found, entry_at, found_at, found_in, node_with, HoldsEntries}
 use Rattle.pif_queue.proofs.EntryLemmas.{with-stands}
 use Rattle.pif_linked.specs.Linked.{key_count, key_of, keys_in}
@@ -17,7 +17,7 @@ at_same u t x y e = let here : (u == t) ≡ true = grind (arith, nat_tests) in r
 pub at_other : {A : Type 0} → (u t : ℕ) (x y : A) → u ≢ t → (if u == t then x else y) ≡ y
 at_other u t x y ne = let there : (u == t) ≡ false = grind (arith, nat_tests) in rw there refl
 
-module _ (e : Entries) (t : Table) where
+module _ (e : Entries) (t : NodeLists) where
   pub keys_length : length (keys_in e t) ≡ key_count
   keys_length = length-map-range_with_len (λ w. key_of (found_in e t w)) 0 key_count
 
@@ -67,7 +67,7 @@ module _ (e : Entries) (t : Table) where
           ap (λ r. (entry_at e r).word) (sym (same_Some (found_at e n).row f.row rows)) ∙ (with-stands e t h w n at).1
 
 -- a word has another key, or none
-pub keys_changed : (e e' : Entries) (t t' : Table) (w : ℕ) (x : Option Found) → w < key_count
+pub keys_changed : (e e' : Entries) (t t' : NodeLists) (w : ℕ) (x : Option Found) → w < key_count
     → ((v : ℕ) → found_in e' t' v ≡ (if v == w then x else found_in e t v))
     → keys_in e' t' ≡ set (keys_in e t) w (key_of x)
 keys_changed e e' t t' w x few change =

@@ -2,7 +2,7 @@
 use Rattle.std.proofs.Common.{◌≡◌, ℕ, length, Option, sym, subst, ap, ◌∙◌, inl, inr, arith}
 use Rattle.std.specs.Prelude.{map}
 use Rattle.std.specs.List.{range_with_len}
-use Rattle.pif_nodes.specs.Table.{Table, IsApart}
+use Rattle.pif_nodes.specs.Table.{NodeLists, IsApart}
 use Rattle.pif_runq.specs.Levels.{Queue, KeepsQueue}
 use Rattle.pif_owners.specs.Owners.{Owners}
 use Rattle.pif_rtmutex.specs.States.{States, top_node}
@@ -18,11 +18,11 @@ use Rattle.pif_linked.specs.Parkings.{parkings_by, parkings_in}
 use Rattle.pif_linked.specs.Linked.{key_count, key_of, keys_in, IsLaidOut, FitsWords, FitsParked}
 
 -- a change by others left what words and parked threads have in the table
-pub record KeepsBuckets (b : Buckets) (was now : Table) : Type 0 where
+pub record KeepsBuckets (b : Buckets) (was now : NodeLists) : Type 0 where
   pub words : KeepsUser b.entries.first_list 64 b.entries.first_node (length b.entries.items) was now
   pub parked : KeepsLists b.parked.first_list b.parked.conds was now
 
-module _ (m : States) (q : Queue) (b : Buckets) (was now : Table) (l : IsLaidOut m q b) where
+module _ (m : States) (q : Queue) (b : Buckets) (was now : NodeLists) (l : IsLaidOut m q b) where
   -- owner states and run queue leave all that the buckets have
   pub beyond_keeps : SameBeyond m q was now → KeepsBuckets b was now
   beyond_keeps same = record {
@@ -91,7 +91,7 @@ module _ (m : States) (q : Queue) (b : Buckets) (was now : Table) (l : IsLaidOut
     }
 
 -- words and parked threads are what they were where their lists and nodes were left
-module _ (b : Buckets) (was now : Table) (keeps : KeepsBuckets b was now) (h : HoldsBuckets b was) where
+module _ (b : Buckets) (was now : NodeLists) (keeps : KeepsBuckets b was now) (h : HoldsBuckets b was) where
   pub found_there : (w : ℕ) → found_in b.entries now w ≡ found_in b.entries was w
   found_there = found-framed b.entries was now keeps.words
 

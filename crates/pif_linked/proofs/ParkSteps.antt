@@ -1,6 +1,6 @@
 -- A thread is parked: its ticket is taken first.
 use Rattle.std.proofs.Common.{◌≡◌, ℕ, ◌+◌, ◌-◌, ◌<◌, ◌≤◌, ◌==◌, ◌++◌, false, List, [], ◌∷◌, length, if◌then◌else◌, Some, None, refl, sym, ap, ◌∙◌, subst, arith}
-use Rattle.pif_nodes.specs.Table.{Table, holder}
+use Rattle.pif_nodes.specs.Table.{NodeLists, holder}
 use Rattle.pif_runq.specs.Levels.{Queue}
 use Rattle.pif_model.specs.PiKernel.{Parking, parked_pairs}
 use Rattle.pif_owners.specs.Owners.{waits_on}
@@ -9,7 +9,7 @@ use Rattle.pif_rtmutex.proofs.ViewLemmas.{length-seats, waits_on-owners_in}
 use Rattle.pif_boost.specs.Boosts.{local_of}
 use Rattle.pif_queue.specs.Entries.{found_in}
 use Rattle.pif_queue.specs.Frames.{KeepsOthers}
-use Rattle.pif_queue.specs.Parked.{Parked, parked_at, node_for, with_ticket}
+use Rattle.pif_queue.specs.Parked.{Parked, parked_at, parking_node, parked_with_ticket}
 use Rattle.pif_queue.specs.Buckets.{Buckets, HoldsBuckets}
 use Rattle.pif_kernel.specs.Chained.{KeepsLevels}
 use Rattle.pif_kernel.specs.Tickets.{is_named}
@@ -19,12 +19,12 @@ use Rattle.pif_linked.proofs.ParkingLemmas.{park_parkings}
 use Rattle.pif_linked.proofs.Standing.{linked, idle_node, unparked}
 use Rattle.pif_linked.proofs.Parks.{placed_same, parked_threads, parked_owners, parked_levels, parked_queue, parked_keys, linked_parked, fits_numbered, unnumbered, fits_park}
 
-module _ (m : States) (q : Queue) (b : Buckets) (t : Table) (next : ℕ) (h : IsLinked m q b t next) (u : ℕ) (number : 1 ≤ u)
+module _ (m : States) (q : Queue) (b : Buckets) (t : NodeLists) (next : ℕ) (h : IsLinked m q b t next) (u : ℕ) (number : 1 ≤ u)
     (row : u < length (owners_in m t).seats) (free : waits_on (owners_in m t) u ≡ None)
     (named : is_named u (parked_pairs (parkings_in b.parked t)) ≡ false) (admitted : 1 ≤ local_of (owners_in m t) u)
-    (b1 : Buckets) (t1 : Table) (ticket : ℕ) (numbered : AreParked (parked_at b1.parked t1) b.parked.threads ticket)
+    (b1 : Buckets) (t1 : NodeLists) (ticket : ℕ) (numbered : AreParked (parked_at b1.parked t1) b.parked.threads ticket)
     (order : parkings_in b1.parked t1 ≡ parkings_in b.parked t)
-    (kept : (v : ℕ) → with_ticket 0 (parked_at b1.parked t1 v) ≡ with_ticket 0 (parked_at b.parked t v))
+    (kept : (v : ℕ) → parked_with_ticket 0 (parked_at b1.parked t1 v) ≡ parked_with_ticket 0 (parked_at b.parked t v))
     (words : (w : ℕ) → found_in b1.entries t1 w ≡ found_in b.entries t w) (place : b1 ≡ b)
     (outside : KeepsOthers b.parked.first_list b.parked.conds b.parked.first_node b.parked.threads t t1)
     (held : HoldsBuckets b1 t1) where
@@ -49,7 +49,7 @@ module _ (m : States) (q : Queue) (b : Buckets) (t : Table) (next : ℕ) (h : Is
       unnumbered (owners_in m t) (parked_at b.parked t) (parked_at b1.parked t1) b.parked.threads next ticket h.parked
       kept numbered u (unparked m q b t next h u named)
 
-  pub ticket_node : holder t1 (node_for b1.parked u) ≡ None
+  pub ticket_node : holder t1 (parking_node b1.parked u) ≡ None
   ticket_node =
       ap (λ n. holder t1 (n + (u - 1))) (linked_ticket.stand.laid.parked_nodes ∙ sym linked_ticket.stand.laid.wait_nodes)
       ∙ idle_node m q b1 t1 linked_ticket.stand u is_thread (sym (waits_on-owners_in m t u) ∙ free) ticket_off
@@ -59,7 +59,7 @@ module _ (m : States) (q : Queue) (b : Buckets) (t : Table) (next : ℕ) (h : Is
 
   -- and is parked
   module _ (c target prio : ℕ) (some : 1 ≤ c) (most : prio ≤ 99) (ranked : prio ≡ local_of (owners_in m t1) u) (b2 : Buckets)
-      (t2 : Table)
+      (t2 : NodeLists)
       (change : (v : ℕ) → parked_at b2.parked t2 v
       ≡ (if v == u then Some (record { cond = c; target = target; rank = record { prio = prio; ticket = ticket } })
       else parked_at b1.parked t1 v))

@@ -4,7 +4,7 @@ use Rattle.std.proofs.Math.Path.{fun_ext}
 use Rattle.std.proofs.lemmas.Bool.{cases_eq}
 use Rattle.std.proofs.lemmas.Bool.Decides.{nat_tests}
 use Rattle.pif_chains.proofs.Waiting.{by_test}
-use Rattle.pif_queue.specs.Parked.{Parked, with_prio, with_ticket}
+use Rattle.pif_queue.specs.Parked.{Parked, parked_with_prio, parked_with_ticket}
 use Rattle.pif_queue.specs.Numbered.{ticket_in, ticket_by, HaveTickets, AreNumbered}
 use Rattle.pif_owners.specs.Arrivals.{in_order}
 use Rattle.pif_linked.specs.Parkings.{parked_cond, parked_target, parked_prio, parking_of, pairs_by, parkings_by, AreParked, ByPriority}
@@ -12,37 +12,37 @@ use Rattle.pif_linked.proofs.ParkingLemmas.{parkings_alike}
 use Rattle.pif_linked.proofs.ParkingOrder.{order_alike}
 
 -- a thread with another priority has its variable, its target and its ticket
-cond_with_prio : (prio : ℕ) (o : Option Parked) → parked_cond (with_prio prio o) ≡ parked_cond o
+cond_with_prio : (prio : ℕ) (o : Option Parked) → parked_cond (parked_with_prio prio o) ≡ parked_cond o
 cond_with_prio prio None = refl
 cond_with_prio prio (Some x) = refl
 
-target_with_prio : (prio : ℕ) (o : Option Parked) → parked_target (with_prio prio o) ≡ parked_target o
+target_with_prio : (prio : ℕ) (o : Option Parked) → parked_target (parked_with_prio prio o) ≡ parked_target o
 target_with_prio prio None = refl
 target_with_prio prio (Some x) = refl
 
-ticket_with_prio : (prio : ℕ) (o : Option Parked) → ticket_in (with_prio prio o) ≡ ticket_in o
+ticket_with_prio : (prio : ℕ) (o : Option Parked) → ticket_in (parked_with_prio prio o) ≡ ticket_in o
 ticket_with_prio prio None = refl
 ticket_with_prio prio (Some x) = refl
 
-some_with_prio : (prio : ℕ) (o : Option Parked) (y : Parked) → with_prio prio o ≡ Some y
+some_with_prio : (prio : ℕ) (o : Option Parked) (y : Parked) → parked_with_prio prio o ≡ Some y
     → (x : Parked) × (o ≡ Some x) × (y.cond ≡ x.cond) × (y.rank.ticket ≡ x.rank.ticket) × (y.rank.prio ≡ prio)
 some_with_prio prio None y e = absurd cc
 some_with_prio prio (Some x) y e =
     (x, refl, sym (ap parked_cond e), sym (ap ticket_in e), sym (ap parked_prio e))
 
 module _ (at now : ℕ → Option Parked) (n next t prio : ℕ) (h : AreParked at n next) (few : prio ≤ 99)
-    (change : (u : ℕ) → now u ≡ (if u == t then with_prio prio (at u) else at u)) where
+    (change : (u : ℕ) → now u ≡ (if u == t then parked_with_prio prio (at u) else at u)) where
   -- what is the same of one thread with another priority is the same of all
-  same_of : (f : Option Parked → ℕ) → ((o : Option Parked) → f (with_prio prio o) ≡ f o) → (u : ℕ)
+  same_of : (f : Option Parked → ℕ) → ((o : Option Parked) → f (parked_with_prio prio o) ≡ f o) → (u : ℕ)
       → f (now u) ≡ f (at u)
   same_of f same u =
       ap f (change u)
-      ∙ by_test (λ b. f (if b then with_prio prio (at u) else at u) ≡ f (at u)) (u == t) (λ e. same (at u)) (λ e. refl)
+      ∙ by_test (λ b. f (if b then parked_with_prio prio (at u) else at u) ≡ f (at u)) (u == t) (λ e. same (at u)) (λ e. refl)
 
   was_some : (u : ℕ) (y : Parked) → now u ≡ Some y
       → (x : Parked) × (at u ≡ Some x) × (y.cond ≡ x.cond) × (y.rank.ticket ≡ x.rank.ticket) × (y.rank.prio ≤ 99)
   was_some u y e =
-      by_test (λ b. (if b then with_prio prio (at u) else at u) ≡ Some y
+      by_test (λ b. (if b then parked_with_prio prio (at u) else at u) ≡ Some y
       → (x : Parked) × (at u ≡ Some x) × (y.cond ≡ x.cond) × (y.rank.ticket ≡ x.rank.ticket) × (y.rank.prio ≤ 99))
       (u == t)
       (λ k is. let x = some_with_prio prio (at u) y is in (x.0, x.1, x.2, x.3, omega (arith, x.4)))
@@ -69,7 +69,7 @@ module _ (at now : ℕ → Option Parked) (n next t prio : ℕ) (h : AreParked a
       by_thread : ((u ≡ t) ⊎ (u ≡ t → ⊥)) → y.rank.prio ≡ local u
       by_thread (inl same) =
           let here : (u == t) ≡ true = grind (arith, nat_tests) in
-          let is : with_prio prio (at u) ≡ Some y = sym (change u ∙ rw here refl) ∙ e in
+          let is : parked_with_prio prio (at u) ≡ Some y = sym (change u ∙ rw here refl) ∙ e in
           (some_with_prio prio (at u) y is).4 ∙ there ∙ ap local (sym same)
       by_thread (inr ne) =
           let other : (u == t) ≡ false = grind (arith, nat_tests) in
@@ -85,23 +85,23 @@ module _ (at now : ℕ → Option Parked) (n next t prio : ℕ) (h : AreParked a
 -- OTHER TICKETS OF THE SAME ORDER
 
 -- what doesn't see tickets says the same of two threads that differ in nothing else
-same_but_ticket : (f : Option Parked → ℕ) → ((o : Option Parked) → f (with_ticket 0 o) ≡ f o) → (o p : Option Parked)
-    → with_ticket 0 o ≡ with_ticket 0 p → f o ≡ f p
+same_but_ticket : (f : Option Parked → ℕ) → ((o : Option Parked) → f (parked_with_ticket 0 o) ≡ f o) → (o p : Option Parked)
+    → parked_with_ticket 0 o ≡ parked_with_ticket 0 p → f o ≡ f p
 same_but_ticket f blind o p e = sym (blind o) ∙ ap f e ∙ blind p
 
-cond_with_ticket : (o : Option Parked) → parked_cond (with_ticket 0 o) ≡ parked_cond o
+cond_with_ticket : (o : Option Parked) → parked_cond (parked_with_ticket 0 o) ≡ parked_cond o
 cond_with_ticket None = refl
 cond_with_ticket (Some x) = refl
 
-target_with_ticket : (o : Option Parked) → parked_target (with_ticket 0 o) ≡ parked_target o
+target_with_ticket : (o : Option Parked) → parked_target (parked_with_ticket 0 o) ≡ parked_target o
 target_with_ticket None = refl
 target_with_ticket (Some x) = refl
 
-prio_with_ticket : (o : Option Parked) → parked_prio (with_ticket 0 o) ≡ parked_prio o
+prio_with_ticket : (o : Option Parked) → parked_prio (parked_with_ticket 0 o) ≡ parked_prio o
 prio_with_ticket None = refl
 prio_with_ticket (Some x) = refl
 
-some_with_ticket : (o : Option Parked) (y : Parked) → with_ticket 0 (Some y) ≡ with_ticket 0 o → (x : Parked) × (o ≡ Some x)
+some_with_ticket : (o : Option Parked) (y : Parked) → parked_with_ticket 0 (Some y) ≡ parked_with_ticket 0 o → (x : Parked) × (o ≡ Some x)
 some_with_ticket None y e = absurd cc
 some_with_ticket (Some x) y e = (x, refl)
 
@@ -113,7 +113,7 @@ module _ (at now : ℕ → Option Parked) (n next end : ℕ) (h : AreParked at n
   was_kept : (u : ℕ) (y : Parked) → now u ≡ Some y
       → (x : Parked) × (at u ≡ Some x) × (y.cond ≡ x.cond) × (y.rank.prio ≡ x.rank.prio)
   was_kept u y e =
-      let x = some_with_ticket (at u) y (ap (with_ticket 0) (sym e) ∙ r.kept u) in (
+      let x = some_with_ticket (at u) y (ap (parked_with_ticket 0) (sym e) ∙ r.kept u) in (
         x.0,
         x.1,
         sym (ap parked_cond e) ∙ same_but_ticket parked_cond cond_with_ticket (now u) (at u) (r.kept u) ∙ ap parked_cond x.1,

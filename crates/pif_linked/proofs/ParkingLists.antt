@@ -6,7 +6,7 @@ use Rattle.std.proofs.lemmas.Bool.Decides.{nat_tests}
 use Rattle.std.proofs.lemmas.Option.{same_Some}
 use Rattle.pif_nodes.specs.declared.keys.Key.{Key}
 use Rattle.pif_nodes.specs.Lists.{has, HasNoRepeats}
-use Rattle.pif_nodes.specs.Table.{Table, list_at, key_at}
+use Rattle.pif_nodes.specs.Table.{NodeLists, list_at, key_at}
 use Rattle.pif_plist.specs.Order.{comes_before, IsInOrder}
 use Rattle.pif_model.specs.Graph.{has_waiter, waiting_order, next_waiter}
 use Rattle.pif_model.specs.PiKernel.{parked_pairs, is_among}
@@ -14,7 +14,7 @@ use Rattle.pif_chains.proofs.Among.{is_among_here, is_among_there, is_among_cons
 use Rattle.pif_chains.proofs.Among.{is_among as is_waiter}
 use Rattle.pif_chains.proofs.Orders.{order-none, order-next, ordered-is_waiter}
 use Rattle.pif_chains.proofs.Waiting.{by_test, names, has_waiter-from_pair, next-is_waiter, pair-from_named}
-use Rattle.pif_queue.specs.Parked.{Place, Parked, ParkedLists, place_at, IsThread, IsCond, list_for, node_for, thread_for, parked_with, parked_at, parked_on, IsParkedNode, StandsIn, StandParked, IsTopParked, HasNoParked, HasTarget}
+use Rattle.pif_queue.specs.Parked.{Place, Parked, ParkedLists, place_at, IsThread, IsCond, variable_list, parking_node, thread_of_node, parked_with, parked_at, parked_on, IsParkedNode, StandsIn, StandParked, IsTopParked, HasNoParked, HasTarget}
 use Rattle.pif_queue.specs.Numbered.{ticket_in}
 use Rattle.pif_kernel.specs.Takings.{first_parked, have_target}
 use Rattle.pif_owners.proofs.ArrivalLaws.{rise_once}
@@ -43,7 +43,7 @@ among_thread f (x ∷ xs) u e =
     let same : f x ≡ u = grind (arith, nat_tests, k) in (x, here, same))
     (λ k y z. let n = among_thread f xs u z in (n.0, or_right (nat_eq n.0 x) (has n.0 xs) n.1, n.2)) refl e
 
-module _ (p : ParkedLists) (t : Table) (next : ℕ) (h : StandParked p t) (a : AreParked (parked_at p t) p.threads next) where
+module _ (p : ParkedLists) (t : NodeLists) (next : ℕ) (h : StandParked p t) (a : AreParked (parked_at p t) p.threads next) where
   abbrev at : ℕ → Option Parked
   at u = parked_at p t u
 
@@ -68,25 +68,25 @@ module _ (p : ParkedLists) (t : Table) (next : ℕ) (h : StandParked p t) (a : A
 
   -- a thread by where it is parked
   placed : (u : ℕ) (x : Parked) → at u ≡ Some x
-      → (y : Place) × (place_at p u ≡ Some y) × (x ≡ parked_with (key_at t (node_for p u)) y)
+      → (y : Place) × (place_at p u ≡ Some y) × (x ≡ parked_with (key_at t (parking_node p u)) y)
   placed u x e = by_place (place_at p u) e refl
     where
-      by_place : (o : Option Place) → option_map (parked_with (key_at t (node_for p u))) o ≡ Some x → place_at p u ≡ o
-          → (y : Place) × (place_at p u ≡ Some y) × (x ≡ parked_with (key_at t (node_for p u)) y)
+      by_place : (o : Option Place) → option_map (parked_with (key_at t (parking_node p u))) o ≡ Some x → place_at p u ≡ o
+          → (y : Place) × (place_at p u ≡ Some y) × (x ≡ parked_with (key_at t (parking_node p u)) y)
       by_place None e k = absurd cc
-      by_place (Some y) e k = (y, k, same_Some x (parked_with (key_at t (node_for p u)) y) (sym e))
+      by_place (Some y) e k = (y, k, same_Some x (parked_with (key_at t (parking_node p u)) y) (sym e))
 
   -- who is parked on a variable stands in its list
   in_list : (u : ℕ) (x : Parked) → at u ≡ Some x
-      → IsThread p u × IsCond p x.cond × (has (node_for p u) (list_at t (list_for p x.cond)) ≡ true)
+      → IsThread p u × IsCond p x.cond × (has (parking_node p u) (list_at t (variable_list p x.cond)) ≡ true)
   in_list u x e =
       let y = placed u x e in
       let stands : StandsIn p t u y.0 = h.parked u y.0 y.1 in
       let same : y.0.cond ≡ x.cond = sym (ap (λ (z : Parked). z.cond) y.2) in (
         stands.is_thread,
         subst (IsCond p) same stands.is_cond,
-        subst (λ (c : ℕ). has (node_for p u) (list_at t (list_for p c)) ≡ true) same
-            (h.apart.listed (list_for p y.0.cond) (node_for p u) stands.held),
+        subst (λ (c : ℕ). has (parking_node p u) (list_at t (variable_list p c)) ≡ true) same
+            (h.apart.listed (variable_list p y.0.cond) (parking_node p u) stands.held),
       )
 
   module _ (c : ℕ) where
@@ -104,50 +104,50 @@ module _ (p : ParkedLists) (t : Table) (next : ℕ) (h : StandParked p t) (a : A
 
     module _ (is : IsCond p c) where
       abbrev nodes : List ℕ
-      nodes = list_at t (list_for p c)
+      nodes = list_at t (variable_list p c)
 
       -- who stands in the list of a variable is parked on it, by the key of its node
       of_node : (n : ℕ) → has n nodes ≡ true
-          → (x : Parked) × (at (thread_for p n) ≡ Some x) × (x.cond ≡ c) × (x.rank ≡ key_at t n)
-          × (node_for p (thread_for p n) ≡ n)
+          → (x : Parked) × (at (thread_of_node p n) ≡ Some x) × (x.cond ≡ c) × (x.rank ≡ key_at t n)
+          × (parking_node p (thread_of_node p n) ≡ n)
       of_node n there =
           let node : IsParkedNode p c n = h.others c n is there in
-          let thread : thread_for p n ≡ node.thread = omega (arith, node.node, node.is_thread) in
-          let own : node_for p (thread_for p n) ≡ n = ap (node_for p) thread ∙ sym node.node in
-          let place : place_at p (thread_for p n) ≡ Some node.place = ap (place_at p) thread ∙ node.at in (
-            parked_with (key_at t (node_for p (thread_for p n))) node.place,
-            ap (option_map (parked_with (key_at t (node_for p (thread_for p n))))) place,
+          let thread : thread_of_node p n ≡ node.thread = omega (arith, node.node, node.is_thread) in
+          let own : parking_node p (thread_of_node p n) ≡ n = ap (parking_node p) thread ∙ sym node.node in
+          let place : place_at p (thread_of_node p n) ≡ Some node.place = ap (place_at p) thread ∙ node.at in (
+            parked_with (key_at t (parking_node p (thread_of_node p n))) node.place,
+            ap (option_map (parked_with (key_at t (parking_node p (thread_of_node p n))))) place,
             node.cond,
             ap (key_at t) own,
             own,
           )
 
       key_of : (n : ℕ) → has n nodes ≡ true
-          → record { prio = prio (thread_for p n); ticket = ticket (thread_for p n) } ≡ key_at t n
+          → record { prio = prio (thread_of_node p n); ticket = ticket (thread_of_node p n) } ≡ key_at t n
       key_of n there =
           let x = of_node n there in
           (λ i. record { prio = parked_prio (x.1 i); ticket = ticket_in (x.1 i) }) ∙ x.3
 
       -- the threads of some of its nodes, in the order of their keys
       row_of : (xs : List ℕ) → IsInOrder t.keys xs → HasNoRepeats xs
-          → ((n : ℕ) → has n xs ≡ true → has n nodes ≡ true) → InRow before (map (thread_for p) xs)
+          → ((n : ℕ) → has n xs ≡ true → has n nodes ≡ true) → InRow before (map (thread_of_node p) xs)
       row_of [] o r within = tt
       row_of (x ∷ xs) o r within = (
-        (λ y k. let n = among_thread (thread_for p) xs y k in
-            subst (λ (z : ℕ). before (thread_for p x) z ≡ true) n.2 (ahead n.0 n.1)),
+        (λ y k. let n = among_thread (thread_of_node p) xs y k in
+            subst (λ (z : ℕ). before (thread_of_node p x) z ≡ true) n.2 (ahead n.0 n.1)),
         row_of xs o.1 r.1 (λ n k. within n (or_right (nat_eq n x) (has n xs) k)),
       )
         where
           here : has x (x ∷ xs) ≡ true
           here = grind (arith, nat_tests)
 
-          ahead : (n : ℕ) → has n xs ≡ true → before (thread_for p x) (thread_for p n) ≡ true
+          ahead : (n : ℕ) → has n xs ≡ true → before (thread_of_node p x) (thread_of_node p n) ≡ true
           ahead n k =
               let one = of_node x (within x here) in
               let other = of_node n (within n (or_right (nat_eq n x) (has n xs) k)) in
               let differ : (key_at t x).ticket ≢ (key_at t n).ticket
-              = λ same. true≢false (sym k ∙ ap (λ (z : ℕ). has z xs) (sym other.4 ∙ ap (node_for p)
-              (sym (a.once (thread_for p x) (thread_for p n) one.0 other.0 one.1 other.1
+              = λ same. true≢false (sym k ∙ ap (λ (z : ℕ). has z xs) (sym other.4 ∙ ap (parking_node p)
+              (sym (a.once (thread_of_node p x) (thread_of_node p n) one.0 other.0 one.1 other.1
               (ap (λ (z : Key). z.ticket) one.3 ∙ same ∙ ap (λ (z : Key). z.ticket) (sym other.3)))) ∙ one.4) ∙ r.0) in
               (λ i. comes_before (key_of x (within x here) i)
               (key_of n (within n (or_right (nat_eq n x) (has n xs) k)) i))
@@ -159,13 +159,13 @@ module _ (p : ParkedLists) (t : Table) (next : ℕ) (h : StandParked p t) (a : A
           row_is before
           (λ x y. never_both (record { prio = prio x; ticket = ticket x }) (record { prio = prio y; ticket = ticket y }))
           (parked_on p t c) (waiting_order prio pairs_now c)
-          (row_of nodes (h.sorted c is) (h.apart.once (list_for p c)) (λ n k. k))
+          (row_of nodes (h.sorted c is) (h.apart.once (variable_list p c)) (λ n k. k))
           (in_row prio ticket few c (length pairs_now) pairs_now 1 next (omega arith) (pairs_rise at p.threads next a))
           to from
         where
           to : (u : ℕ) → is_among (parked_on p t c) u ≡ true → is_among (waiting_order prio pairs_now c) u ≡ true
           to u k =
-              let n = among_thread (thread_for p) nodes u k in
+              let n = among_thread (thread_of_node p) nodes u k in
               let x = of_node n.0 n.1 in
               all_ordered prio ticket few c (length pairs_now) pairs_now 1 next u (omega arith)
               (pairs_rise at p.threads next a)
@@ -176,10 +176,10 @@ module _ (p : ParkedLists) (t : Table) (next : ℕ) (h : StandParked p t) (a : A
           from u k =
               let x = paired_parked at p.threads next a u c (ordered-is_waiter prio pairs_now u c k) in
               let l = in_list u x.0 x.1 in
-              let own : thread_for p (node_for p u) ≡ u = omega (arith, l.0) in
+              let own : thread_of_node p (parking_node p u) ≡ u = omega (arith, l.0) in
               subst (λ (z : ℕ). is_among (parked_on p t c) z ≡ true) own
-              (thread_among (thread_for p) nodes (node_for p u)
-              (subst (λ (d : ℕ). has (node_for p u) (list_at t (list_for p d)) ≡ true) x.2 l.2))
+              (thread_among (thread_of_node p) nodes (parking_node p u)
+              (subst (λ (d : ℕ). has (parking_node p u) (list_at t (variable_list p d)) ≡ true) x.2 l.2))
 
   -- BY PRIORITIES THAT ARE THOSE OF THE THREADS
 

@@ -4,7 +4,7 @@ use Rattle.std.specs.Prelude.{map}
 use Rattle.std.specs.List.{range_with_len}
 use Rattle.std.proofs.lemmas.Bool.{cases_eq}
 use Rattle.std.proofs.lemmas.Option.{same_Some}
-use Rattle.pif_nodes.specs.Table.{Table}
+use Rattle.pif_nodes.specs.Table.{NodeLists}
 use Rattle.pif_runq.specs.Levels.{Queue, Holds, IsLevel, KeepsQueue, level_of}
 use Rattle.pif_model.specs.PiKernel.{Parking}
 use Rattle.pif_owners.specs.Owners.{Owners, waits_on}
@@ -13,7 +13,7 @@ use Rattle.pif_rtmutex.specs.Frames.{KeepsOwn}
 use Rattle.pif_boost.specs.Boosts.{local_of}
 use Rattle.pif_queue.specs.Entries.{Found, found_in}
 use Rattle.pif_queue.specs.Frames.{KeepsOthers}
-use Rattle.pif_queue.specs.Parked.{Parked, parked_at, with_prio, with_ticket}
+use Rattle.pif_queue.specs.Parked.{Parked, parked_at, parked_with_prio, parked_with_ticket}
 use Rattle.pif_queue.specs.Buckets.{Buckets, HoldsBuckets}
 use Rattle.pif_kernel.specs.Chained.{KeepsLevels}
 use Rattle.pif_linked.specs.Parkings.{AreParked, parkings_in}
@@ -46,7 +46,7 @@ placed_same b b' e =
       };
     })
 
-module _ (m : States) (q : Queue) (b : Buckets) (t : Table) (s : StandLinked m q b t) (b' : Buckets) (t' : Table)
+module _ (m : States) (q : Queue) (b : Buckets) (t : NodeLists) (s : StandLinked m q b t) (b' : Buckets) (t' : NodeLists)
     (placed : b' ≡ record b { parked = record b.parked { places = b'.parked.places; differing = b'.parked.differing } })
     (words : (w : ℕ) → found_in b'.entries t' w ≡ found_in b.entries t w)
     (outside : KeepsOthers b.parked.first_list b.parked.conds b.parked.first_node b.parked.threads t t')
@@ -155,7 +155,7 @@ module _ (v : Owners) (at now : ℕ → Option Parked) (n next t : ℕ) (h : Fit
 -- one is given the effective priority that it has in other owner states, in which no other parked thread has another
 module _ (v v' : Owners) (at now : ℕ → Option Parked) (n next t : ℕ) (h : FitsParked v at n next)
     (few : local_of v' t ≤ 99)
-    (change : (u : ℕ) → now u ≡ (if u == t then with_prio (local_of v' t) (at u) else at u))
+    (change : (u : ℕ) → now u ≡ (if u == t then parked_with_prio (local_of v' t) (at u) else at u))
     (same : (u : ℕ) (x : Parked) → u ≢ t → at u ≡ Some x → local_of v' u ≡ local_of v u)
     (waits : (u : ℕ) (x : Parked) → at u ≡ Some x → waits_on v' u ≡ None)
     (admitted : (u : ℕ) (x : Parked) → at u ≡ Some x → 1 ≤ local_of v' u) where
@@ -171,18 +171,18 @@ module _ (v v' : Owners) (at now : ℕ → Option Parked) (n next t : ℕ) (h : 
       by_at : (o : Option Parked) → at u ≡ o → WasParked u y
       by_at None f =
           let wrong : None ≡ Some y
-          = ap (with_prio (local_of v' t)) (sym f) ∙ sym (change u ∙ at_same u t (with_prio (local_of v' t) (at u)) (at u) it) ∙ e in
+          = ap (parked_with_prio (local_of v' t)) (sym f) ∙ sym (change u ∙ at_same u t (parked_with_prio (local_of v' t) (at u)) (at u) it) ∙ e in
           absurd cc
       by_at (Some x) f = record {
         before = x;
         at_before = f;
         ranked =
             ap (λ (z : Parked). z.rank.prio) (same_Some y (record x { rank = record x.rank { prio = local_of v' t } })
-            (sym e ∙ change u ∙ at_same u t (with_prio (local_of v' t) (at u)) (at u) it
-            ∙ ap (with_prio (local_of v' t)) f)) ∙ ap (local_of v') (sym it);
+            (sym e ∙ change u ∙ at_same u t (parked_with_prio (local_of v' t) (at u)) (at u) it
+            ∙ ap (parked_with_prio (local_of v' t)) f)) ∙ ap (local_of v') (sym it);
       }
   was_parked u y e (inr ne) =
-      let f : at u ≡ Some y = sym (change u ∙ at_other u t (with_prio (local_of v' t) (at u)) (at u) ne) ∙ e in
+      let f : at u ≡ Some y = sym (change u ∙ at_other u t (parked_with_prio (local_of v' t) (at u)) (at u) ne) ∙ e in
       record { before = y; at_before = f; ranked = h.ranked u y f ∙ sym (same u y ne f) }
 
   pub fits_ranked : FitsParked v' now n next
@@ -195,16 +195,16 @@ module _ (v v' : Owners) (at now : ℕ → Option Parked) (n next t : ℕ) (h : 
 
 -- all got other tickets
 module _ (v : Owners) (at now : ℕ → Option Parked) (n next next' : ℕ) (h : FitsParked v at n next)
-    (kept : (u : ℕ) → with_ticket 0 (now u) ≡ with_ticket 0 (at u)) (parked : AreParked now n next') where
+    (kept : (u : ℕ) → parked_with_ticket 0 (now u) ≡ parked_with_ticket 0 (at u)) (parked : AreParked now n next') where
   ticketed : (u : ℕ) (y : Parked) → now u ≡ Some y → (o : Option Parked) → at u ≡ o
       → (x : Parked) × (at u ≡ Some x) × (y.rank.prio ≡ x.rank.prio)
   ticketed u y e None f =
       let wrong : Some (record y { rank = record y.rank { ticket = 0 } }) ≡ None
-      = ap (with_ticket 0) (sym e) ∙ kept u ∙ ap (with_ticket 0) f in
+      = ap (parked_with_ticket 0) (sym e) ∙ kept u ∙ ap (parked_with_ticket 0) f in
       absurd cc
   ticketed u y e (Some x) f =
       let same : Some (record y { rank = record y.rank { ticket = 0 } }) ≡ Some (record x { rank = record x.rank { ticket = 0 } })
-      = ap (with_ticket 0) (sym e) ∙ kept u ∙ ap (with_ticket 0) f in (
+      = ap (parked_with_ticket 0) (sym e) ∙ kept u ∙ ap (parked_with_ticket 0) f in (
         x,
         f,
         ap (λ (z : Parked). z.rank.prio) (same_Some (record y { rank = record y.rank { ticket = 0 } })

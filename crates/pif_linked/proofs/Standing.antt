@@ -3,21 +3,21 @@ use Rattle.std.proofs.Common.{◌≡◌, ◌⊎◌, ℕ, ◌+◌, ◌-◌, ◌*�
 use Rattle.std.proofs.lemmas.Bool.{cases_lt}
 use Rattle.std.specs.FinMap.{get}
 use Rattle.pif_nodes.specs.Lists.{has}
-use Rattle.pif_nodes.specs.Table.{Table, holder, list_at, key_at}
+use Rattle.pif_nodes.specs.Table.{NodeLists, holder, list_at, key_at}
 use Rattle.pif_runq.specs.Levels.{Queue, Holds, IsLevel, IsThreadNode, KeepsQueue, SameOutside, list_for, level_of}
 use Rattle.pif_runq.proofs.KeptLemmas.{levels-framed, queue-framed}
 use Rattle.pif_owners.specs.Owners.{Seat, waits_on, with_seat}
 use Rattle.pif_rtmutex.specs.States.{States, IsThread, wait_of, wait_node, wait_list, top_list, owners_in}
 use Rattle.pif_rtmutex.specs.Holds.{IsWaiterIn, IsTopNode}
-use Rattle.pif_rtmutex.specs.Holds.{Holds as HoldsStates}
+use Rattle.pif_rtmutex.specs.Holds.{HoldsStates}
 use Rattle.pif_rtmutex.specs.Frames.{KeepsOwn}
-use Rattle.pif_rtmutex.specs.Frames.{SameOutside as SameOutsideStates}
+use Rattle.pif_rtmutex.specs.Frames.{SameOutsideStates}
 use Rattle.pif_rtmutex.proofs.FrameLemmas.{holds-framed, owners-framed}
 use Rattle.pif_boost.specs.Frames.{StandsBefore}
 use Rattle.pif_boost.proofs.FrameLemmas.{states-leave, queue-leaves, beyond-states, beyond-queue}
 use Rattle.pif_queue.specs.Entries.{IsEntered}
-use Rattle.pif_queue.specs.Parked.{Place, IsParkedNode, place_at, parked_at, parked_with, node_for}
-use Rattle.pif_queue.specs.Parked.{list_for as variable_list}
+use Rattle.pif_queue.specs.Parked.{Place, IsParkedNode, place_at, parked_at, parked_with, parking_node}
+use Rattle.pif_queue.specs.Parked.{variable_list}
 use Rattle.pif_queue.specs.Buckets.{Buckets, HoldsBuckets}
 use Rattle.pif_model.specs.PiKernel.{parked_pairs}
 use Rattle.pif_kernel.specs.Tickets.{is_named}
@@ -30,7 +30,7 @@ use Rattle.pif_linked.proofs.Leaving.{KeepsBuckets, beyond_keeps, buckets_there,
 use Rattle.pif_rtmutex.proofs.SamePlace.{SamePlace}
 
 -- what linked chains of these parts are seen as
-abbrev pub linked : States → Queue → Buckets → Table → Chained
+abbrev pub linked : States → Queue → Buckets → NodeLists → Chained
 linked m q b t = record {
   owners = owners_in m t;
   queue = q;
@@ -78,7 +78,7 @@ stands_before m q b l = record {
   nodes = omega (arith, l.wait_nodes, l.ready_nodes);
 }
 
-module _ (m : States) (q : Queue) (b : Buckets) (t : Table) (s : StandLinked m q b t) where
+module _ (m : States) (q : Queue) (b : Buckets) (t : NodeLists) (s : StandLinked m q b t) where
   -- who is not parked has no place
   unplaced : (u : ℕ) → parked_at b.parked t u ≡ None → place_at b.parked u ≡ None
   unplaced u none = by_place (place_at b.parked u) refl
@@ -86,8 +86,8 @@ module _ (m : States) (q : Queue) (b : Buckets) (t : Table) (s : StandLinked m q
       by_place : (o : Option Place) → place_at b.parked u ≡ o → place_at b.parked u ≡ None
       by_place None e = e
       by_place (Some x) e =
-          let wrong : Some (parked_with (key_at t (node_for b.parked u)) x) ≡ None
-          = ap (option_map (parked_with (key_at t (node_for b.parked u)))) (sym e) ∙ none in
+          let wrong : Some (parked_with (key_at t (parking_node b.parked u)) x) ≡ None
+          = ap (option_map (parked_with (key_at t (parking_node b.parked u)))) (sym e) ∙ none in
           absurd cc
 
   -- the node of a thread that waits for nothing and is not parked is in no list
@@ -157,7 +157,7 @@ module _ (m : States) (q : Queue) (b : Buckets) (t : Table) (s : StandLinked m q
           (cases_lt l m.threads) (cases_lt l (2 * m.threads)) (cases_lt l (2 * m.threads + 99))
           (cases_lt l (2 * m.threads + 163)))
 
-module _ (m : States) (q : Queue) (b : Buckets) (t : Table) (next : ℕ) (h : IsLinked m q b t next) where
+module _ (m : States) (q : Queue) (b : Buckets) (t : NodeLists) (next : ℕ) (h : IsLinked m q b t next) where
   -- who is not named among the parked threads is not parked
   pub unparked : (u : ℕ) → is_named u (parked_pairs (parkings_in b.parked t)) ≡ false → parked_at b.parked t u ≡ None
   unparked u = unnamed_parked (parked_at b.parked t) b.parked.threads next h.parked.parked u
@@ -170,7 +170,7 @@ module _ (m : States) (q : Queue) (b : Buckets) (t : Table) (next : ℕ) (h : Is
   waiting_off u = waiting_unparked (owners_in m t) (parked_at b.parked t) b.parked.threads next h.parked u
 
   -- A CALL CHANGED THE OWNER STATES, AND NO ROW OF ONE
-  module _ (m' : States) (t' : Table) (place : SamePlace m m') (rows : m'.places ≡ m.places)
+  module _ (m' : States) (t' : NodeLists) (place : SamePlace m m') (rows : m'.places ≡ m.places)
       (outside : SameOutsideStates m t t') (holds : HoldsStates m' t') where
     keeps_queue : KeepsQueue q t t'
     keeps_queue = states-leave m q t t' (stands_before m q b h.stand.laid) outside
@@ -206,7 +206,7 @@ module _ (m : States) (q : Queue) (b : Buckets) (t : Table) (next : ℕ) (h : Is
     }
 
   -- where the seat of one thread that is not parked was changed
-  module _ (m' : States) (t' : Table) (place : SamePlace m m') (rows : m'.places ≡ m.places)
+  module _ (m' : States) (t' : NodeLists) (place : SamePlace m m') (rows : m'.places ≡ m.places)
       (outside : SameOutsideStates m t t') (holds : HoldsStates m' t') (u : ℕ) (x : Seat)
       (off : parked_at b.parked t u ≡ None) (seated : owners_in m' t' ≡ with_seat u x (owners_in m t)) where
     pub linked_seated : IsLinked m' q b t' next
@@ -215,7 +215,7 @@ module _ (m : States) (q : Queue) (b : Buckets) (t : Table) (next : ℕ) (h : Is
         (fits_but (owners_in m t) (parked_at b.parked t) b.parked.threads next h.parked u x off))
 
   -- A CALL CHANGED THE LEVELS
-  module _ (q' : Queue) (t' : Table) (place : q' ≡ record q { mask = q'.mask }) (outside : SameOutside q t t')
+  module _ (q' : Queue) (t' : NodeLists) (place : q' ≡ record q { mask = q'.mask }) (outside : SameOutside q t t')
       (holds : Holds q' t') where
     keeps_owners : KeepsOwn m t t'
     keeps_owners =
@@ -250,7 +250,7 @@ module _ (m : States) (q : Queue) (b : Buckets) (t : Table) (next : ℕ) (h : Is
     }
 
 -- A CALL CHANGED THE BUCKETS
-module _ (m : States) (q : Queue) (b : Buckets) (t : Table) (s : StandLinked m q b t) where
+module _ (m : States) (q : Queue) (b : Buckets) (t : NodeLists) (s : StandLinked m q b t) where
   -- a state was made, or ended, in its rows alone
   pub stand_made : (m' : States) → SamePlace m m' → HoldsStates m' t → StandLinked m' q b t
   stand_made m' place holds = record {
@@ -261,7 +261,7 @@ module _ (m : States) (q : Queue) (b : Buckets) (t : Table) (s : StandLinked m q
     lists = omega (arith, s.lists, place.threads);
   }
 
-  module _ (b' : Buckets) (t' : Table) (laid : IsLaidOut m q b') (holds : HoldsBuckets b' t') (owners : KeepsOwn m t t')
+  module _ (b' : Buckets) (t' : NodeLists) (laid : IsLaidOut m q b') (holds : HoldsBuckets b' t') (owners : KeepsOwn m t t')
       (queue : KeepsQueue q t t') where
     pub owners_same : owners_in m t' ≡ owners_in m t
     owners_same = owners-framed m t t' owners holds.entries.apart s.owners

@@ -3,7 +3,7 @@ use Rattle.std.proofs.Common.{◌≡◌, ◌≢◌, ◌⊎◌, ℕ, ◌<◌, ◌
 use Rattle.std.proofs.lemmas.Bool.{cases_eq, cases_lt, false≢true}
 use Rattle.std.proofs.lemmas.List.{get_or_past}
 use Rattle.std.specs.FinMap.{get}
-use Rattle.pif_nodes.specs.Table.{Table}
+use Rattle.pif_nodes.specs.Table.{NodeLists}
 use Rattle.pif_runq.specs.Levels.{Queue, Holds, IsLevel, level_of}
 use Rattle.pif_owners.specs.Owners.{Seat, Wait, no_seat, state_of, waits_on, waits_for}
 use Rattle.pif_owners.proofs.OwnersLemmas.{free-wait}
@@ -14,7 +14,7 @@ use Rattle.pif_boost.specs.Done.{IsDone}
 use Rattle.pif_boost.proofs.Greatest.{idle, waits_for-none}
 use Rattle.pif_queue.specs.Entries.{found_in}
 use Rattle.pif_queue.specs.Frames.{KeepsOthers}
-use Rattle.pif_queue.specs.Parked.{Parked, parked_at, with_prio}
+use Rattle.pif_queue.specs.Parked.{Parked, parked_at, parked_with_prio}
 use Rattle.pif_queue.specs.Buckets.{Buckets, HoldsBuckets}
 use Rattle.pif_linked.specs.Parkings.{parkings_by, parkings_in}
 use Rattle.pif_linked.specs.Linked.{keys_in, StandLinked, FitsWords, FitsParked, IsLinked}
@@ -24,9 +24,9 @@ use Rattle.pif_linked.proofs.Parks.{placed_rekeyed, parked_threads, parked_owner
 use Rattle.pif_rtmutex.proofs.SamePlace.{SamePlace}
 use Rattle.pif_linked.proofs.Standing.{laid_moved, laid_masked}
 
-module _ (m : States) (q : Queue) (b : Buckets) (t : Table) (next : ℕ) (h : IsLinked m q b t next) (start : ℕ)
+module _ (m : States) (q : Queue) (b : Buckets) (t : NodeLists) (next : ℕ) (h : IsLinked m q b t next) (start : ℕ)
     (admitted : 1 ≤ base_of (owners_in m t) start) (repaired : IsRepairedBut start (owners_in m t)) (hops last : ℕ)
-    (m' : States) (t' : Table) (q' : Queue) (done : IsDone m t q hops m' t' q')
+    (m' : States) (t' : NodeLists) (q' : Queue) (done : IsDone m t q hops m' t' q')
     (ends : (u : ℕ) → u ≢ last → waits_for (owners_in m t) u ≡ 0 → local_of (owners_in m' t') u ≡ local_of (owners_in m t) u) where
   keeps : KeepsBuckets b t t'
   keeps = beyond_keeps m q b t t' h.stand.laid done.outside
@@ -114,9 +114,9 @@ module _ (m : States) (q : Queue) (b : Buckets) (t : Table) (next : ℕ) (h : Is
   few : local_of (owners_in m' t') last ≤ 99
   few = (done.states.waiters.sound.seats last).local
 
-  module _ (b2 : Buckets) (t2 : Table)
+  module _ (b2 : Buckets) (t2 : NodeLists)
       (change : (u : ℕ) → parked_at b2.parked t2 u
-      ≡ (if u == last then with_prio (local_of (owners_in m' t') last) (parked_at b.parked t' u) else parked_at b.parked t' u))
+      ≡ (if u == last then parked_with_prio (local_of (owners_in m' t') last) (parked_at b.parked t' u) else parked_at b.parked t' u))
       (words : (w : ℕ) → found_in b2.entries t2 w ≡ found_in b.entries t' w)
       (placed : b2 ≡ record b { parked = record b.parked { differing = b2.parked.differing } })
       (outside : KeepsOthers b.parked.first_list b.parked.conds b.parked.first_node b.parked.threads t' t2)

@@ -4,11 +4,11 @@ use Rattle.std.proofs.lemmas.Bool.{cases_eq, false≢true}
 use Rattle.std.proofs.lemmas.Option.{same_Some}
 use Rattle.std.specs.FinMap.{FinMap, get}
 use Rattle.std.specs.Ordering.{nat_cmp}
-use Rattle.pif_nodes.specs.Table.{Table}
+use Rattle.pif_nodes.specs.Table.{NodeLists}
 use Rattle.pif_runq.specs.Levels.{Queue, KeepsQueue}
 use Rattle.pif_owners.specs.Owners.{owner_at}
 use Rattle.pif_rtmutex.specs.States.{States, owners_in}
-use Rattle.pif_rtmutex.specs.Holds.{Holds as HoldsStates}
+use Rattle.pif_rtmutex.specs.Holds.{HoldsStates}
 use Rattle.pif_rtmutex.specs.Frames.{KeepsOwn}
 use Rattle.pif_queue.specs.Entries.{Found, entry_at, found_in}
 use Rattle.pif_queue.specs.Frames.{KeepsOthers}
@@ -23,7 +23,7 @@ use Rattle.pif_linked.proofs.Leaving.{words_leave_owners, words_leave_queue}
 use Rattle.pif_rtmutex.proofs.SamePlace.{SamePlace}
 use Rattle.pif_linked.proofs.Standing.{linked, stand_made, owners_same, queue_same, levels_same, stand_same, laid_words}
 
-module _ (m : States) (q : Queue) (b : Buckets) (t : Table) (next : ℕ) (h : IsLinked m q b t next) where
+module _ (m : States) (q : Queue) (b : Buckets) (t : NodeLists) (next : ℕ) (h : IsLinked m q b t next) where
   -- no word has the row of a state that is made
   pub row_free : (m' : States) (key row : ℕ) → owner_at (owners_in m t) key ≡ None
       → ((k r : ℕ) → get m.places k ≡ Some r → get m'.places k ≡ Some r)
@@ -57,7 +57,7 @@ module _ (m : States) (q : Queue) (b : Buckets) (t : Table) (next : ℕ) (h : Is
       (made : owners_in m' t ≡ record (owners_in m t) { owners = owners }) (w : ℕ) (few : w < key_count)
       (x : Option Found) (own : (f : Found) → x ≡ Some f → get m'.places f.key ≡ Some f.row)
       (others : (v : ℕ) (f : Found) → v ≢ w → found_in b.entries t v ≡ Some f → get m'.places f.key ≡ Some f.row)
-      (b' : Buckets) (t' : Table)
+      (b' : Buckets) (t' : NodeLists)
       (change : (v : ℕ) → found_in b'.entries t' v ≡ (if v == w then x else found_in b.entries t v))
       (parked : (u : ℕ) → parked_at b'.parked t' u ≡ parked_at b.parked t u)
       (placed : b' ≡ record b { entries = record b.entries { items = b'.entries.items } })

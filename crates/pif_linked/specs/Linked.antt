@@ -2,11 +2,11 @@
 use Rattle.std.specs.Prelude.{◌≡◌, ℕ, ◌+◌, ◌*◌, ◌<◌, ◌≤◌, List, length, map, Option, Some, None, option_map}
 use Rattle.std.specs.List.{range_with_len}
 use Rattle.std.specs.FinMap.{get}
-use Rattle.pif_nodes.specs.Table.{Table}
+use Rattle.pif_nodes.specs.Table.{NodeLists}
 use Rattle.pif_runq.specs.Levels.{Queue, Holds}
 use Rattle.pif_owners.specs.Owners.{Owners, waits_on}
 use Rattle.pif_rtmutex.specs.States.{States, owners_in}
-use Rattle.pif_rtmutex.specs.Holds.{Holds as HoldsStates}
+use Rattle.pif_rtmutex.specs.Holds.{HoldsStates}
 use Rattle.pif_boost.specs.Boosts.{local_of}
 use Rattle.pif_queue.specs.Entries.{Entries, Found, found_in}
 use Rattle.pif_queue.specs.Parked.{Parked, parked_at}
@@ -22,7 +22,7 @@ abbrev pub key_of : Option Found → Option ℕ
 key_of o = option_map (λ (f : Found). f.key) o
 
 -- the key of the owner state of each mutex, by number; the word of a mutex has its number
-abbrev pub keys_in : Entries → Table → List (Option ℕ)
+abbrev pub keys_in : Entries → NodeLists → List (Option ℕ)
 keys_in e t = map (λ w. key_of (found_in e t w)) (range_with_len 0 key_count)
 
 -- where the lists and nodes of each user begin: waiters, top waiters, levels, buckets and variables, one after another;
@@ -42,7 +42,7 @@ pub record IsLaidOut (m : States) (q : Queue) (b : Buckets) : Type 0 where
   pub conds : b.parked.conds ≡ 256
 
 -- all stand in one table, which has no other lists
-pub record StandLinked (m : States) (q : Queue) (b : Buckets) (t : Table) : Type 0 where
+pub record StandLinked (m : States) (q : Queue) (b : Buckets) (t : NodeLists) : Type 0 where
   pub owners : HoldsStates m t
   pub queue : Holds q t
   pub buckets : HoldsBuckets b t
@@ -54,7 +54,7 @@ pub record IsWordOf (m : States) (w : ℕ) (f : Found) : Type 0 where
   pub mutex : w < key_count
   pub row : get m.places f.key ≡ Some f.row
 
-abbrev pub FitsWords : States → Entries → Table → Type 0
+abbrev pub FitsWords : States → Entries → NodeLists → Type 0
 FitsWords m e t = (w : ℕ) (f : Found) → found_in e t w ≡ Some f → IsWordOf m w f
 
 -- a parked thread waits for nothing, was admitted, and stands among the others with its effective priority and with a
@@ -66,7 +66,7 @@ pub record FitsParked (v : Owners) (at : ℕ → Option Parked) (threads next : 
   pub admitted : (u : ℕ) (x : Parked) → at u ≡ Some x → 1 ≤ local_of v u
 
 -- what holds of linked chains between two calls; `next` is the next ticket of a parked thread
-pub record IsLinked (m : States) (q : Queue) (b : Buckets) (t : Table) (next : ℕ) : Type 0 where
+pub record IsLinked (m : States) (q : Queue) (b : Buckets) (t : NodeLists) (next : ℕ) : Type 0 where
   pub stand : StandLinked m q b t
   pub words : FitsWords m b.entries t
   pub parked : FitsParked (owners_in m t) (parked_at b.parked t) b.parked.threads next

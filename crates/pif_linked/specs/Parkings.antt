@@ -1,6 +1,6 @@
 -- The threads that are parked in sorted lists, one for each variable, as a kernel has them: in order of their tickets.
 use Rattle.std.specs.Prelude.{◌≡◌, ℕ, ◌+◌, ◌<◌, ◌≤◌, List, map, Option, Some, None}
-use Rattle.pif_nodes.specs.Table.{Table}
+use Rattle.pif_nodes.specs.Table.{NodeLists}
 use Rattle.pif_queue.specs.Parked.{Parked, ParkedLists, parked_at}
 use Rattle.pif_queue.specs.Numbered.{ticket_by}
 use Rattle.pif_model.specs.PiKernel.{Parking}
@@ -32,7 +32,7 @@ abbrev pub parkings_by : (ℕ → Option Parked) → ℕ → List Parking
 parkings_by at n = map (parking_of at) (pairs_by at n)
 
 -- the parked threads of some lists in a table
-abbrev pub parkings_in : ParkedLists → Table → List Parking
+abbrev pub parkings_in : ParkedLists → NodeLists → List Parking
 parkings_in p t = parkings_by (parked_at p t) p.threads
 
 -- what holds of the parked ones of the threads from 1 to n: each is parked on a variable, with a priority of 99 at most

@@ -3,7 +3,7 @@ ghost use Rattle.pif_boost.specs.Boosts.{local_of};
 ghost use Rattle.pif_rtmutex.specs.States.{owners_in};
 ghost use Rattle.pif_queue.specs.Entries.{found_in};
 ghost use Rattle.pif_queue.specs.Frames.{KeepsOthers};
-ghost use Rattle.pif_queue.specs.Parked.{parked_at, with_prio, with_ticket};
+ghost use Rattle.pif_queue.specs.Parked.{parked_at, parked_with_prio, parked_with_ticket};
 ghost use Rattle.pif_queue.specs.Buckets.{HoldsBuckets};
 ghost use Rattle.pif_linked.specs.Parkings.{AreParked, parkings_in};
 
@@ -213,8 +213,8 @@ fn take_ticket(buckets: &mut Buckets, table: &mut NodeTable, next: &mut u64) -> 
     ensures next { next.new ≡ result + 1 }
     ensures numbered { AreParked (parked_at buckets.new.parked table.new) buckets.old.parked.threads result }
     ensures order { parkings_in buckets.new.parked table.new ≡ parkings_in buckets.old.parked table.old }
-    ensures same { (u : ℕ) → with_ticket 0 (parked_at buckets.new.parked table.new u)
-        ≡ with_ticket 0 (parked_at buckets.old.parked table.old u) }
+    ensures same { (u : ℕ) → parked_with_ticket 0 (parked_at buckets.new.parked table.new u)
+        ≡ parked_with_ticket 0 (parked_at buckets.old.parked table.old u) }
     ensures words { (w : ℕ) → found_in buckets.new.entries table.new w ≡ found_in buckets.old.entries table.old w }
     ensures place { buckets.new ≡ buckets.old }
     ensures outside { KeepsOthers buckets.old.parked.first_list buckets.old.parked.conds buckets.old.parked.first_node
@@ -235,8 +235,8 @@ fn free_ticket(buckets: &mut Buckets, table: &mut NodeTable, next: u64) -> u64
     ensures last { result < 18446744073709551615 }
     ensures numbered { AreParked (parked_at buckets.new.parked table.new) buckets.old.parked.threads result }
     ensures order { parkings_in buckets.new.parked table.new ≡ parkings_in buckets.old.parked table.old }
-    ensures same { (u : ℕ) → with_ticket 0 (parked_at buckets.new.parked table.new u)
-        ≡ with_ticket 0 (parked_at buckets.old.parked table.old u) }
+    ensures same { (u : ℕ) → parked_with_ticket 0 (parked_at buckets.new.parked table.new u)
+        ≡ parked_with_ticket 0 (parked_at buckets.old.parked table.old u) }
     ensures words { (w : ℕ) → found_in buckets.new.entries table.new w ≡ found_in buckets.old.entries table.old w }
     ensures place { buckets.new ≡ buckets.old }
     ensures outside { KeepsOthers buckets.old.parked.first_list buckets.old.parked.conds buckets.old.parked.first_node
@@ -256,7 +256,7 @@ fn rerank(owners: &RtMutexes, buckets: &mut Buckets, table: &mut NodeTable, t: T
     requires holds { HoldsBuckets buckets.old table.old }
     requires admitted { IsSome (parked_at buckets.old.parked table.old t) → 1 ≤ local_of (owners_in owners.now table.old) t }
     ensures changed { (u : ℕ) → parked_at buckets.new.parked table.new u
-        ≡ (if u == t then with_prio (local_of (owners_in owners.now table.old) t) (parked_at buckets.old.parked table.old u)
+        ≡ (if u == t then parked_with_prio (local_of (owners_in owners.now table.old) t) (parked_at buckets.old.parked table.old u)
         else parked_at buckets.old.parked table.old u) }
     ensures words { (w : ℕ) → found_in buckets.new.entries table.new w ≡ found_in buckets.old.entries table.old w }
     ensures place { buckets.new ≡ record buckets.old {

@@ -12,7 +12,7 @@ use Rattle.pif_model.specs.declared.lines.Place.TheVariants.{Load, StayQueued, S
 use Rattle.pif_model.specs.Deadlines.{is_reached, told, told_seen}
 use Rattle.pif_model.specs.Table.{Table, status_at, timer_at}
 use Rattle.pif_model.specs.Lines.{locking_line, line_of, counts_at, is_line_due, expires_at, told_outcome, go_outcome}
-use Rattle.pif_mutex.specs.Steppable.{is_on_mutex, is_of_mutexes, waits_at}
+use Rattle.pif_mutex.specs.Steppable.{is_on_mutex, is_of_mutexes, may_wait_at}
 
 -- at a place where it takes a step on its mutex its line is that of who may queue
 pub wait_locks : (c m : ℕ) (p : Place) (t : ℕ) (s : Table) → is_on_mutex p ≡ true
@@ -54,11 +54,11 @@ goes_by_line q p t s lasts same =
     (told_same q expired (same expired) (line_of q p t s).seen)
 
 -- that of a lock whose thread can't wait at its place
-pub lock_goes : (m : ℕ) (p : Place) (t : ℕ) (s : Table) → waits_at p ≡ false
+pub lock_goes : (m : ℕ) (p : Place) (t : ℕ) (s : Table) → may_wait_at p ≡ false
     → go_outcome (At (Lock m) p) t s ≡ line_of (Lock m) p t s
 lock_goes m p t s h = goes_by_line (Lock m) p t s (counts m p (status_at s t) h) (λ expired a. refl)
   where
-    counts : (m : ℕ) (p : Place) (x : Status) → waits_at p ≡ false → counts_at (Lock m) p x ≡ false
+    counts : (m : ℕ) (p : Place) (x : Status) → may_wait_at p ≡ false → counts_at (Lock m) p x ≡ false
     counts m StayQueued x h = absurd (true≢false h)
     counts m StayStopped x h = absurd (true≢false h)
     counts m p x h = refl

@@ -24,11 +24,11 @@ use Rattle.pif_chains.proofs.Waiting.{by_test}
 use Rattle.pif_simulation.proofs.Facts.{call_own, call_robust, call_stopped}
 use Rattle.pif_simulation.proofs.Hole.{each_thread, each_absent}
 use Rattle.pif_simulation.proofs.Kept.{second}
-use Rattle.pif_mutex.specs.Steppable.{waits_at, is_link_next, is_unlink, CallMayStep}
+use Rattle.pif_mutex.specs.Steppable.{may_wait_at, is_link_next, is_unlink, CallMayStep}
 
 -- at each place where its thread doesn't wait, a call rests on that the thread may run
 rests_on_ready : (living : ℕ → Bool) (t : ℕ) (x : Status) (c : Cell) (z : Use) (p : Place)
-    → MeetsAll living t x c z (needs p) → waits_at p ≡ false → is_ready x ≡ true
+    → MeetsAll living t x c z (needs p) → may_wait_at p ≡ false → is_ready x ≡ true
 rests_on_ready living t x c z StayQueued h e = absurd (true≢false e)
 rests_on_ready living t x c z StayStopped h e = absurd (true≢false e)
 rests_on_ready living t x c z StayParked h e = absurd (true≢false e)

@@ -38,11 +38,11 @@ is_of_mutexes (At (TimedLock m d) p) = true
 is_of_mutexes (At (TimedWait c m d) p) = true
 
 -- whether the thread of a call may wait at this place: queued, parked, or stopped for good
-abbrev pub waits_at : Place → Bool
-waits_at StayQueued = true
-waits_at StayStopped = true
-waits_at StayParked = true
-waits_at _ = false
+abbrev pub may_wait_at : Place → Bool
+may_wait_at StayQueued = true
+may_wait_at StayStopped = true
+may_wait_at StayParked = true
+may_wait_at _ = false
 
 -- whether the link of the call's mutex to the head of the list is written at this place
 abbrev pub is_link_next : Place → Bool
@@ -63,7 +63,7 @@ pub record CallMayStep (s : Table) (t : ℕ) (q : Request) (p : Place) : Type 0 
   -- the mutex and the variable that it names were added
   pub named : names_known (has_mutex s) (has_cond s) q ≡ true
   -- its thread may run, save where it may wait, and may not where its deadline counts
-  pub ready : waits_at p ≡ false → is_ready (status_at s t) ≡ true
+  pub ready : may_wait_at p ≡ false → is_ready (status_at s t) ≡ true
   pub unready : counts_at q p (status_at s t) ≡ true → is_ready (status_at s t) ≡ false
   -- a mutex that is linked is on no list, and half-linked by no other thread
   pub unlisted : is_link_next p ≡ true → IsUnlisted s.lists (named_by q)

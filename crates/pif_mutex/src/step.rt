@@ -5,7 +5,7 @@ ghost use Rattle.pif_model.specs.Soundness.{is_half_linked};
 ghost use Rattle.pif_model.specs.Table.{has_thread, has_mutex, line_at, status_at};
 ghost use Rattle.pif_model.specs.Lines.{line_of, locking_line, shared_line, giving_line, take_line, give_line, counts_at, expires_at, go_outcome};
 ghost use Rattle.pif_mutex.specs.Outcomes.{outcome_of};
-ghost use Rattle.pif_mutex.specs.Steppable.{CallMayStep, is_of_mutexes, waits_at, is_link_next, is_unlink_step, is_unlink};
+ghost use Rattle.pif_mutex.specs.Steppable.{CallMayStep, is_of_mutexes, may_wait_at, is_link_next, is_unlink_step, is_unlink};
 
 use crate::deadlines::told;
 use crate::progress::Progress;
@@ -16,8 +16,8 @@ use pif_types::{Errno, MutexId, Request, Tid};
 
 /// Whether a thread may wait at this place of its call: queued, parked, or stopped for good.
 #[inline(always)]
-fn waits_at(place: &Place) -> bool
-    ensures { result ≡ waits_at place.now }
+fn may_wait_at(place: &Place) -> bool
+    ensures { result ≡ may_wait_at place.now }
 {
     matches!(
         place,
@@ -40,7 +40,7 @@ impl<K: PiKernel + Drop> State<K> {
         ensures { outcome_of result self.new ≡ go_outcome (Line.At request place) t self.old }
     {
         match request {
-            Request::Lock(m) if !waits_at(&place) => self.lock_step(place, t, m),
+            Request::Lock(m) if !may_wait_at(&place) => self.lock_step(place, t, m),
             Request::Unlock(m) => self.unlock_step(place, t, m),
             _ => self.go_timed(request, place, t),
         }
@@ -127,7 +127,7 @@ impl<K: PiKernel + Drop> State<K> {
     fn locking_step(&mut self, request: Request, place: Place, t: Tid, m: MutexId) -> Progress
         requires known { has_thread self.old t ≡ true }
         requires mutex { has_mutex self.old m ≡ true }
-        requires ready { waits_at place ≡ false → is_ready (status_at self.old t) ≡ true }
+        requires ready { may_wait_at place ≡ false → is_ready (status_at self.old t) ≡ true }
         requires unlisted { is_link_next place ≡ true → IsUnlisted self.old.lists m }
         requires half { is_link_next place ≡ true → IsHalfLinkedByNoOther self.old.lists t m }
         requires linked { is_half_linked place ≡ true → (robust_at self.old.lists t).half_linked ≡ m }
@@ -165,7 +165,7 @@ impl<K: PiKernel + Drop> State<K> {
     fn shared_step(&mut self, request: Request, place: Place, t: Tid, m: MutexId) -> Progress
         requires known { has_thread self.old t ≡ true }
         requires mutex { has_mutex self.old m ≡ true }
-        requires ready { waits_at place ≡ false → is_ready (status_at self.old t) ≡ true }
+        requires ready { may_wait_at place ≡ false → is_ready (status_at self.old t) ≡ true }
         requires unlisted { is_link_next place ≡ true → IsUnlisted self.old.lists m }
         requires half { is_link_next place ≡ true → IsHalfLinkedByNoOther self.old.lists t m }
         requires linked { is_half_linked place ≡ true → (robust_at self.old.lists t).half_linked ≡ m }
@@ -204,7 +204,7 @@ impl<K: PiKernel + Drop> State<K> {
     fn giving_step(&mut self, request: Request, place: Place, t: Tid, m: MutexId) -> Progress
         requires known { has_thread self.old t ≡ true }
         requires mutex { has_mutex self.old m ≡ true }
-        requires ready { waits_at place ≡ false → is_ready (status_at self.old t) ≡ true }
+        requires ready { may_wait_at place ≡ false → is_ready (status_at self.old t) ≡ true }
         requires listed { is_unlink place ≡ true → is_listed self.old.lists t m ≡ true }
         ensures { outcome_of result self.new ≡ giving_line request place t m self.old }
     {
@@ -220,7 +220,7 @@ impl<K: PiKernel + Drop> State<K> {
     fn giving_step_apart(&mut self, request: Request, place: Place, t: Tid, m: MutexId) -> Progress
         requires known { has_thread self.old t ≡ true }
         requires mutex { has_mutex self.old m ≡ true }
-        requires ready { waits_at place ≡ false → is_ready (status_at self.old t) ≡ true }
+        requires ready { may_wait_at place ≡ false → is_ready (status_at self.old t) ≡ true }
         requires listed { is_unlink place ≡ true → is_listed self.old.lists t m ≡ true }
         ensures { outcome_of result self.new ≡ giving_line request place t m self.old }
     {

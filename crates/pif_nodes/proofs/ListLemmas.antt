@@ -3,17 +3,17 @@ use Rattle.std.proofs.Common.{◌≡◌, ℕ, true, false, cond, eqb, ◌||◌, 
 use Rattle.std.proofs.lemmas.Bool.{or_parts, or_from, or_left, or_right, eq-eqb, ne_eqb, eqb-true, eqb-false, cases_Bool, both_ways}
 use Rattle.std.proofs.lemmas.List.{append_assoc, append-nil}
 use Rattle.std.proofs.lemmas.List.Folds.{list_any-append}
-use Rattle.pif_nodes.specs.Lists.{has, first_of, last_or, last_of, next_in, prev_from, prev_in, put_after, without, HasNoRepeats}
+use Rattle.pif_nodes.specs.Lists.{has, first_of, last_or, last_of, next_in_list, prev_from, prev_in_list, put_after, list_without, HasNoRepeats}
 
 pub eqb_self : (n : ℕ) → eqb n n ≡ true
 eqb_self n = eq-eqb n n refl
 
 -- after n stands the first of what follows
-pub next_in-split : (front back : List ℕ) (n : ℕ) → has n front ≡ false → next_in (front ++ n ∷ back) n ≡ first_of back
-next_in-split [] back n h = rw (eqb_self n) refl
-next_in-split (x ∷ xs) back n h =
+pub next_in_list-split : (front back : List ℕ) (n : ℕ) → has n front ≡ false → next_in_list (front ++ n ∷ back) n ≡ first_of back
+next_in_list-split [] back n h = rw (eqb_self n) refl
+next_in_list-split (x ∷ xs) back n h =
     let parts = or_parts (eqb n x) (has n xs) h in
-    rw parts.0 (next_in-split xs back n parts.1)
+    rw parts.0 (next_in_list-split xs back n parts.1)
 
 -- before n stands the last of what is before it
 pub prev_from-split : (before : Option ℕ) (front back : List ℕ) (n : ℕ) → has n front ≡ false → prev_from before (front ++ n ∷ back) n ≡ last_or before front
@@ -23,13 +23,13 @@ prev_from-split before (x ∷ xs) back n h =
     rw parts.0 (prev_from-split (Some x) xs back n parts.1)
 
 -- the number after another one than the last of the front stays where n is put in
-pub next_in-put : (before : Option ℕ) (front back : List ℕ) (n m : ℕ) → (m ≡ n → ⊥) → (last_or before front ≡ Some m → ⊥) → next_in (front ++ n ∷ back) m ≡ next_in (front ++ back) m
-next_in-put before [] back n m apart other = rw (ne_eqb m n apart) refl
-next_in-put before (x ∷ []) back n m apart other =
+pub next_in_list-put : (before : Option ℕ) (front back : List ℕ) (n m : ℕ) → (m ≡ n → ⊥) → (last_or before front ≡ Some m → ⊥) → next_in_list (front ++ n ∷ back) m ≡ next_in_list (front ++ back) m
+next_in_list-put before [] back n m apart other = rw (ne_eqb m n apart) refl
+next_in_list-put before (x ∷ []) back n m apart other =
     let ne : eqb m x ≡ false = ne_eqb m x (λ e. other (ap Some (sym e))) in
     rw (ne, ne_eqb m n apart) refl
-next_in-put before (x ∷ (y ∷ ys)) back n m apart other =
-    ap (λ rest. cond (eqb m x) (Some y) rest) (next_in-put (Some x) (y ∷ ys) back n m apart other)
+next_in_list-put before (x ∷ (y ∷ ys)) back n m apart other =
+    ap (λ rest. cond (eqb m x) (Some y) rest) (next_in_list-put (Some x) (y ∷ ys) back n m apart other)
 
 -- the number before another one than the first of the back stays where n is put in
 pub prev_from-put : (before : Option ℕ) (front back : List ℕ) (n m : ℕ) → (m ≡ n → ⊥) → (first_of back ≡ Some m → ⊥) → prev_from before (front ++ n ∷ back) m ≡ prev_from before (front ++ back) m
@@ -111,25 +111,25 @@ put_after-split (x ∷ xs) back p n h =
     rw parts.0 (ap (λ zs. x ∷ zs) (put_after-split xs back p n parts.1))
 
 -- a list without a number that it doesn't have is itself
-pub without_absent : (n : ℕ) (xs : List ℕ) → has n xs ≡ false → without n xs ≡ xs
+pub without_absent : (n : ℕ) (xs : List ℕ) → has n xs ≡ false → list_without n xs ≡ xs
 without_absent n [] h = refl
 without_absent n (x ∷ xs) h =
     let parts = or_parts (eqb n x) (has n xs) h in
     rw parts.0 (ap (λ zs. x ∷ zs) (without_absent n xs parts.1))
 
 -- a list without n is what was before n and what was after it
-pub without-split : (front back : List ℕ) (n : ℕ) → has n front ≡ false → has n back ≡ false → without n (front ++ n ∷ back) ≡ front ++ back
-without-split [] back n h k = rw (eqb_self n) (without_absent n back k)
-without-split (x ∷ xs) back n h k =
+pub list_without-split : (front back : List ℕ) (n : ℕ) → has n front ≡ false → has n back ≡ false → list_without n (front ++ n ∷ back) ≡ front ++ back
+list_without-split [] back n h k = rw (eqb_self n) (without_absent n back k)
+list_without-split (x ∷ xs) back n h k =
     let parts = or_parts (eqb n x) (has n xs) h in
-    rw parts.0 (ap (λ zs. x ∷ zs) (without-split xs back n parts.1 k))
+    rw parts.0 (ap (λ zs. x ∷ zs) (list_without-split xs back n parts.1 k))
 
 -- a list doesn't have what it is without
-pub has-without : (n : ℕ) (xs : List ℕ) → has n (without n xs) ≡ false
-has-without n [] = refl
-has-without n (x ∷ xs) = ⊎_elim
-    (λ e. rw e (has-without n xs))
-    (λ e. rw e (rw e (has-without n xs)))
+pub has-list_without : (n : ℕ) (xs : List ℕ) → has n (list_without n xs) ≡ false
+has-list_without n [] = refl
+has-list_without n (x ∷ xs) = ⊎_elim
+    (λ e. rw e (has-list_without n xs))
+    (λ e. rw e (rw e (has-list_without n xs)))
     (cases_Bool (eqb n x))
 
 -- what a front and a back make with n between them, or without it: how neighbours and ends differ
@@ -137,10 +137,10 @@ pub record Move (was now : List ℕ) (n : ℕ) (before after then_next then_prev
   pub same : (m : ℕ) → (m ≡ n → ⊥) → has m now ≡ has m was
   pub before_in : (m : ℕ) → before ≡ Some m → (m ≡ n → ⊥) × (has m was ≡ true)
   pub after_in : (m : ℕ) → after ≡ Some m → (m ≡ n → ⊥) × (has m was ≡ true)
-  pub nexts : (m : ℕ) → before ≡ Some m → next_in now m ≡ then_next
-  pub nexts_else : (m : ℕ) → (m ≡ n → ⊥) → (before ≡ Some m → ⊥) → next_in now m ≡ next_in was m
-  pub prevs : (m : ℕ) → after ≡ Some m → prev_in now m ≡ then_prev
-  pub prevs_else : (m : ℕ) → (m ≡ n → ⊥) → (after ≡ Some m → ⊥) → prev_in now m ≡ prev_in was m
+  pub nexts : (m : ℕ) → before ≡ Some m → next_in_list now m ≡ then_next
+  pub nexts_else : (m : ℕ) → (m ≡ n → ⊥) → (before ≡ Some m → ⊥) → next_in_list now m ≡ next_in_list was m
+  pub prevs : (m : ℕ) → after ≡ Some m → prev_in_list now m ≡ then_prev
+  pub prevs_else : (m : ℕ) → (m ≡ n → ⊥) → (after ≡ Some m → ⊥) → prev_in_list now m ≡ prev_in_list was m
   pub heads : before ≡ None → first_of now ≡ then_next
   pub heads_else : (m : ℕ) → before ≡ Some m → first_of now ≡ first_of was
   pub lasts : after ≡ None → last_of now ≡ then_prev
@@ -166,28 +166,28 @@ pub apart_by_has : (m n : ℕ) (xs : List ℕ) → has m xs ≡ true → has n x
 apart_by_has m n xs h k e = both_ways (has n xs) k (subst (λ (z : ℕ). has z xs ≡ true) e h)
 
 -- after the last of the front stands the first of what follows it
-next_in-last : (front back : List ℕ) (m : ℕ) → HasNoRepeats (front ++ back) → last_of front ≡ Some m → next_in (front ++ back) m ≡ first_of back
-next_in-last [] back m once h = absurd cc
-next_in-last (x ∷ xs) back m once h =
+next_in_list-last : (front back : List ℕ) (m : ℕ) → HasNoRepeats (front ++ back) → last_of front ≡ Some m → next_in_list (front ++ back) m ≡ first_of back
+next_in_list-last [] back m once h = absurd cc
+next_in_list-last (x ∷ xs) back m once h =
     let r = last_split None x xs m h in
     let e : (x ∷ xs) ++ back ≡ r.0 ++ m ∷ back = ap (λ zs. zs ++ back) r.1 ∙ append_assoc r.0 (m ∷ []) back in
     let free = HasNoRepeats-taken r.0 back m (subst HasNoRepeats e once) in
-    ap (λ zs. next_in zs m) e ∙ next_in-split r.0 back m free.1
+    ap (λ zs. next_in_list zs m) e ∙ next_in_list-split r.0 back m free.1
 
 -- before the first of the back stands the last of what is before it
-prev_in-first : (front back : List ℕ) (m : ℕ) → HasNoRepeats (front ++ back) → first_of back ≡ Some m → prev_in (front ++ back) m ≡ last_of front
-prev_in-first front [] m once h = absurd cc
-prev_in-first front (y ∷ ys) m once h =
+prev_in_list-first : (front back : List ℕ) (m : ℕ) → HasNoRepeats (front ++ back) → first_of back ≡ Some m → prev_in_list (front ++ back) m ≡ last_of front
+prev_in_list-first front [] m once h = absurd cc
+prev_in_list-first front (y ∷ ys) m once h =
     let e : m ≡ y = cc in
     let free = HasNoRepeats-taken front ys y once in
-    ap (λ z. prev_in (front ++ y ∷ ys) z) e ∙ prev_from-split None front ys y free.1
+    ap (λ z. prev_in_list (front ++ y ∷ ys) z) e ∙ prev_from-split None front ys y free.1
 
 -- before what stands after n stands n
-prev_put : (front back : List ℕ) (n m : ℕ) → HasNoRepeats (front ++ n ∷ back) → first_of back ≡ Some m → prev_in (front ++ n ∷ back) m ≡ Some n
+prev_put : (front back : List ℕ) (n m : ℕ) → HasNoRepeats (front ++ n ∷ back) → first_of back ≡ Some m → prev_in_list (front ++ n ∷ back) m ≡ Some n
 prev_put front back n m once h =
     let e : (front ++ n ∷ []) ++ back ≡ front ++ n ∷ back = append_assoc front (n ∷ []) back in
-    let r = prev_in-first (front ++ n ∷ []) back m (subst HasNoRepeats (sym e) once) h in
-    ap (λ zs. prev_in zs m) (sym e) ∙ r ∙ last_or-append None front (n ∷ [])
+    let r = prev_in_list-first (front ++ n ∷ []) back m (subst HasNoRepeats (sym e) once) h in
+    ap (λ zs. prev_in_list zs m) (sym e) ∙ r ∙ last_or-append None front (n ∷ [])
 
 first_of-append : (front back other : List ℕ) (m : ℕ) → last_of front ≡ Some m → first_of (front ++ back) ≡ first_of (front ++ other)
 first_of-append [] back other m h = absurd cc
@@ -224,8 +224,8 @@ put_move front back n once free =
       same = λ m apart. has-put m n front back apart;
       before_in = λ m h. (apart_by_has m n front (last_of-has front m h) parts.0, has-left m front back (last_of-has front m h));
       after_in = λ m h. (apart_by_has m n back (first_of-has back m h) parts.1, has-right m front back (first_of-has back m h));
-      nexts = λ m h. next_in-last front (n ∷ back) m now h;
-      nexts_else = λ m apart other. next_in-put None front back n m apart other;
+      nexts = λ m h. next_in_list-last front (n ∷ back) m now h;
+      nexts_else = λ m apart other. next_in_list-put None front back n m apart other;
       prevs = λ m h. prev_put front back n m now h;
       prevs_else = λ m apart other. prev_from-put None front back n m apart other;
       heads = λ h. first_of-behind front (n ∷ back) h;
@@ -247,9 +247,9 @@ take_move front back n once =
         apart_by_has m n back (first_of-has back m h) taken.2,
         has-right m front (n ∷ back) (or_right (eqb m n) (has m back) (first_of-has back m h)),
       );
-      nexts = λ m h. next_in-last front back m taken.0 h;
-      nexts_else = λ m apart other. sym (next_in-put None front back n m apart other);
-      prevs = λ m h. prev_in-first front back m taken.0 h;
+      nexts = λ m h. next_in_list-last front back m taken.0 h;
+      nexts_else = λ m apart other. sym (next_in_list-put None front back n m apart other);
+      prevs = λ m h. prev_in_list-first front back m taken.0 h;
       prevs_else = λ m apart other. sym (prev_from-put None front back n m apart other);
       heads = λ h. first_of-behind front back h;
       heads_else = λ m h. first_of-append front back (n ∷ back) m h;
@@ -259,11 +259,11 @@ take_move front back n once =
     }
 
 -- what stands after a number is in the list
-pub next_in-has : (xs : List ℕ) (n m : ℕ) → next_in xs n ≡ Some m → has m xs ≡ true
-next_in-has [] n m h = absurd cc
-next_in-has (x ∷ xs) n m h = ⊎_elim
+pub next_in_list-has : (xs : List ℕ) (n m : ℕ) → next_in_list xs n ≡ Some m → has m xs ≡ true
+next_in_list-has [] n m h = absurd cc
+next_in_list-has (x ∷ xs) n m h = ⊎_elim
     (λ e. let first : first_of xs ≡ Some m = rw e at h in or_right (eqb m x) (has m xs) (first_of-has xs m first))
-    (λ e. let rest : next_in xs n ≡ Some m = rw e at h in or_right (eqb m x) (has m xs) (next_in-has xs n m rest))
+    (λ e. let rest : next_in_list xs n ≡ Some m = rw e at h in or_right (eqb m x) (has m xs) (next_in_list-has xs n m rest))
     (cases_Bool (eqb n x))
 
 -- what stands before a number is in the list, or before it
@@ -276,9 +276,9 @@ prev_from-has before (x ∷ xs) n m h = ⊎_elim
     (λ e. let rest : prev_from (Some x) xs n ≡ Some m = rw e at h in or_right (eqb m before) (has m (x ∷ xs)) (prev_from-has x xs n m rest))
     (cases_Bool (eqb n x))
 
-pub prev_in-has : (xs : List ℕ) (n m : ℕ) → prev_in xs n ≡ Some m → has m xs ≡ true
-prev_in-has [] n m h = absurd cc
-prev_in-has (x ∷ xs) n m h = ⊎_elim
+pub prev_in_list-has : (xs : List ℕ) (n m : ℕ) → prev_in_list xs n ≡ Some m → has m xs ≡ true
+prev_in_list-has [] n m h = absurd cc
+prev_in_list-has (x ∷ xs) n m h = ⊎_elim
     (λ e. let first : None ≡ Some m = rw e at h in absurd cc)
     (λ e. let rest : prev_from (Some x) xs n ≡ Some m = rw e at h in prev_from-has x xs n m rest)
     (cases_Bool (eqb n x))

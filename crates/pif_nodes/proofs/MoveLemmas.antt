@@ -5,10 +5,10 @@ use Rattle.std.proofs.lemmas.Option.{same_Some}
 use Rattle.std.proofs.lemmas.List.{append_assoc, get_or-set_same, get_or-set_other}
 use Rattle.pif_nodes.specs.declared.slots.Slot.{Slot}
 use Rattle.pif_nodes.specs.declared.slots.Ends.{Ends}
-use Rattle.pif_nodes.specs.Lists.{has, first_of, last_of, next_in, prev_in, insert_after, without, HasNoRepeats}
+use Rattle.pif_nodes.specs.Lists.{has, first_of, last_of, next_in_list, prev_in_list, insert_after, list_without, HasNoRepeats}
 use Rattle.pif_nodes.specs.Table.{list_with}
 use Rattle.pif_nodes.specs.Links.{slot_at, follower_of, slots_after_link, ends_after_link, slots_after_unlink, ends_after_unlink, Ties}
-use Rattle.pif_nodes.proofs.ListLemmas.{put_move, take_move, has_split, has-right, has-head, HasNoRepeats-put, HasNoRepeats-taken, has-neither, next_in-split, prev_from-split, put_after-split, without-split, last_or-append, has-put}
+use Rattle.pif_nodes.proofs.ListLemmas.{put_move, take_move, has_split, has-right, has-head, HasNoRepeats-put, HasNoRepeats-taken, has-neither, next_in_list-split, prev_from-split, put_after-split, list_without-split, last_or-append, has-put}
 use Rattle.pif_nodes.proofs.HolderLemmas.{list_with-put, list_with-none, list_with-has, list_with-absent, list_with-within, list_with-same}
 use Rattle.pif_nodes.proofs.TiesLemmas.{Ties-moved}
 
@@ -46,8 +46,8 @@ put_between ns es ls l n front back t n_in l_in out at =
     record {
       ties = Ties-moved ns es ls l n (front ++ back) (front ++ n ∷ back) (last_of front) (first_of back) (Some n) (Some n) (Some l) (last_of front) (first_of back)
           t n_in l_in at (put_move front back n once absent) mine
-          (ap (λ zs. next_in zs n) now_at ∙ next_in-split front back n parts.1)
-          (ap (λ zs. prev_in zs n) now_at ∙ prev_from-split None front back n parts.1)
+          (ap (λ zs. next_in_list zs n) now_at ∙ next_in_list-split front back n parts.1)
+          (ap (λ zs. prev_in_list zs n) now_at ∙ prev_from-split None front back n parts.1)
           (λ k h. only_here ls l n k (front ++ n ∷ back) (Some l) l_in (λ j ne g. absurd (both_ways (has n (get_or ls j [])) (list_with-none ls n j out) g)) (λ g. refl) h);
       holders = holders_from ls (set ls l (front ++ n ∷ back)) n (Some l) mine
           (λ m ne. list_with-same ls m l (front ++ n ∷ back) (has-put m n front back ne ∙ ap (has m) (sym at)));
@@ -69,7 +69,7 @@ Holds-put ns es ls l n (Some p) next t n_in l_in out place next_is =
     let cut = has_split p xs (list_with-has ls p l mine) in
     let front = cut.0 in
     let back = cut.1 in
-    let e : next ≡ first_of back = next_is ∙ t.next p ∙ ap (λ o. option_and_then (λ k. next_in (get_or ls k []) p) o) mine ∙ ap (λ zs. next_in zs p) cut.2 ∙ next_in-split front back p cut.3 in
+    let e : next ≡ first_of back = next_is ∙ t.next p ∙ ap (λ o. option_and_then (λ k. next_in_list (get_or ls k []) p) o) mine ∙ ap (λ zs. next_in_list zs p) cut.2 ∙ next_in_list-split front back p cut.3 in
     let at : xs ≡ (front ++ p ∷ []) ++ back = cut.2 ∙ sym (append_assoc front (p ∷ []) back) in
     let end : last_of (front ++ p ∷ []) ≡ Some p = last_or-append None front (p ∷ []) in
     let now : (front ++ p ∷ []) ++ n ∷ back ≡ insert_after (Some p) n xs =
@@ -108,16 +108,16 @@ take_between ns es ls l n front back t n_in held at =
 pub Holds-taken : (ns : List Slot) (es : List Ends) (ls : List (List ℕ)) (l n : ℕ) (prev next : Option ℕ) →
     Ties ns es ls → n < length ns → list_with ls n ≡ Some l → prev ≡ (slot_at ns n).prev → next ≡ (slot_at ns n).next →
     Holds (slots_after_unlink ns prev next n) (ends_after_unlink es l prev next) ls
-    (set ls l (without n (get_or ls l []))) n None
+    (set ls l (list_without n (get_or ls l []))) n None
 Holds-taken ns es ls l n prev next t n_in held prev_is next_is =
     let xs : List ℕ = get_or ls l [] in
     let cut = has_split n xs (list_with-has ls n l held) in
     let front = cut.0 in
     let back = cut.1 in
     let parts = HasNoRepeats-taken front back n (subst HasNoRepeats cut.2 (t.once l)) in
-    let before : prev ≡ last_of front = prev_is ∙ t.prev n ∙ ap (λ o. option_and_then (λ k. prev_in (get_or ls k []) n) o) held ∙ ap (λ zs. prev_in zs n) cut.2 ∙ prev_from-split None front back n cut.3 in
-    let after : next ≡ first_of back = next_is ∙ t.next n ∙ ap (λ o. option_and_then (λ k. next_in (get_or ls k []) n) o) held ∙ ap (λ zs. next_in zs n) cut.2 ∙ next_in-split front back n cut.3 in
-    let now : front ++ back ≡ without n xs = sym (without-split front back n parts.1 parts.2) ∙ ap (without n) (sym cut.2) in
+    let before : prev ≡ last_of front = prev_is ∙ t.prev n ∙ ap (λ o. option_and_then (λ k. prev_in_list (get_or ls k []) n) o) held ∙ ap (λ zs. prev_in_list zs n) cut.2 ∙ prev_from-split None front back n cut.3 in
+    let after : next ≡ first_of back = next_is ∙ t.next n ∙ ap (λ o. option_and_then (λ k. next_in_list (get_or ls k []) n) o) held ∙ ap (λ zs. next_in_list zs n) cut.2 ∙ next_in_list-split front back n cut.3 in
+    let now : front ++ back ≡ list_without n xs = sym (list_without-split front back n parts.1 parts.2) ∙ ap (list_without n) (sym cut.2) in
     let r = take_between ns es ls l n front back t n_in held cut.2 in
     let r2 = subst (λ (o : Option ℕ). Holds (slots_after_unlink ns o (first_of back) n)
     (ends_after_unlink es l o (first_of back)) ls (set ls l (front ++ back)) n None) (sym before) r in

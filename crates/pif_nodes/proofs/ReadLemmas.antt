@@ -4,11 +4,11 @@ use Rattle.pif_nodes.specs.declared.keys.Key.{Key}
 use Rattle.pif_nodes.specs.declared.slots.Slot.{Slot}
 use Rattle.pif_nodes.specs.declared.slots.Ends.{Ends}
 use Rattle.pif_nodes.specs.Lists.{first_of, last_of}
-use Rattle.pif_nodes.specs.Table.{Table, list_at, key_at, holder, next_of, prev_of, IsApart}
+use Rattle.pif_nodes.specs.Table.{NodeLists, list_at, key_at, holder, next_node, prev_node, IsApart}
 use Rattle.pif_nodes.specs.Links.{slot_at, ends_at, lists_of, Ties}
 use Rattle.pif_nodes.proofs.SeenLemmas.{seen, Shows, Shows-from, length_nodes, length_ends, apart_shown, key_shown, slot_read, ends_read}
 
-module _ (ns : List Slot) (es : List Ends) (t : Table) (view : seen ns es ≡ t) (ties : Ties ns es (lists_of ns es)) where
+module _ (ns : List Slot) (es : List Ends) (t : NodeLists) (view : seen ns es ≡ t) (ties : Ties ns es (lists_of ns es)) where
   shows : Shows ns es t
   shows = Shows-from ns es t view ties
 
@@ -26,10 +26,10 @@ module _ (ns : List Slot) (es : List Ends) (t : Table) (view : seen ns es ≡ t)
     pub slot_seen : s ≡ slot_at ns n
     slot_seen = slot_read ns es t shows n i s same n_in read
 
-    pub next_seen : s.next ≡ next_of t n
+    pub next_seen : s.next ≡ next_node t n
     next_seen = ap (λ (x : Slot). x.next) slot_seen ∙ shows.ties.next n
 
-    pub prev_seen : s.prev ≡ prev_of t n
+    pub prev_seen : s.prev ≡ prev_node t n
     prev_seen = ap (λ (x : Slot). x.prev) slot_seen ∙ shows.ties.prev n
 
     pub owner_seen : s.list ≡ holder t n

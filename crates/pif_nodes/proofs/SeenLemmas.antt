@@ -3,31 +3,31 @@ use Rattle.std.proofs.Common.{◌≡◌, ℕ, ◌<◌, cond, eqb, List, [], Opti
 use Rattle.pif_nodes.specs.declared.keys.Key.{Key}
 use Rattle.pif_nodes.specs.declared.slots.Slot.{Slot}
 use Rattle.pif_nodes.specs.declared.slots.Ends.{Ends}
-use Rattle.pif_nodes.specs.Lists.{has, next_in, prev_in, insert_after, without}
+use Rattle.pif_nodes.specs.Lists.{has, next_in_list, prev_in_list, insert_after, list_without}
 use Rattle.std.proofs.Math.Seq.{take-append_seam}
 use Rattle.std.proofs.lemmas.List.{get_or_default}
-use Rattle.pif_nodes.proofs.ListLemmas.{first_of-has, next_in-has, prev_in-has}
-use Rattle.pif_nodes.specs.Table.{Table, list_at, key_at, list_with, holder, with_list, with_key, IsApart}
+use Rattle.pif_nodes.proofs.ListLemmas.{first_of-has, next_in_list-has, prev_in_list-has}
+use Rattle.pif_nodes.specs.Table.{NodeLists, list_at, key_at, list_with, holder, with_list, with_key, IsApart}
 use Rattle.pif_nodes.specs.Links.{free_slot, empty_ends, slot_at, ends_at, follower_of, lists_of, keys_of, slots_after_link, ends_after_link, slots_after_unlink, ends_after_unlink, with_slot_key, Ties}
 use Rattle.pif_nodes.proofs.TiesLemmas.{within_from_Ties}
 use Rattle.pif_nodes.proofs.MoveLemmas.{Holds-put, Holds-taken}
 use Rattle.pif_nodes.proofs.ViewLemmas.{lists_of_is, length-keys_of, key_of_slot, keys_of-linked, keys_of-unlinked, keys_of-renamed, Ties-renamed, IsApart-from_Ties}
 
 -- what the fields show
-abbrev pub seen : List Slot → List Ends → Table
+abbrev pub seen : List Slot → List Ends → NodeLists
 seen ns es = record { lists = lists_of ns es; keys = keys_of ns }
 
 -- the fields show this table, and their links hold its lists
-pub record Shows (ns : List Slot) (es : List Ends) (t : Table) : Type 0 where
+pub record Shows (ns : List Slot) (es : List Ends) (t : NodeLists) : Type 0 where
   pub view : seen ns es ≡ t
   pub ties : Ties ns es t.lists
 
 -- the fields of a value show it
-pub Shows-from : (ns : List Slot) (es : List Ends) (t : Table) → seen ns es ≡ t → Ties ns es (lists_of ns es) → Shows ns es t
-Shows-from ns es t view ties = record { view = view; ties = subst (λ (ls : List (List ℕ)). Ties ns es ls) (ap (λ (x : Table). x.lists) view) ties }
+pub Shows-from : (ns : List Slot) (es : List Ends) (t : NodeLists) → seen ns es ≡ t → Ties ns es (lists_of ns es) → Shows ns es t
+Shows-from ns es t view ties = record { view = view; ties = subst (λ (ls : List (List ℕ)). Ties ns es ls) (ap (λ (x : NodeLists). x.lists) view) ties }
 
 -- two tables with the same lists and keys
-same_table : (xs ys : List (List ℕ)) (ks js : List Key) → xs ≡ ys → ks ≡ js → ◌≡◌ {A = Table} (record { lists = xs; keys = ks }) (record { lists = ys; keys = js })
+same_table : (xs ys : List (List ℕ)) (ks js : List Key) → xs ≡ ys → ks ≡ js → ◌≡◌ {A = NodeLists} (record { lists = xs; keys = ks }) (record { lists = ys; keys = js })
 same_table xs ys ks js p q = cc
 
 -- fields show the table of the lists that their links hold
@@ -39,28 +39,28 @@ written_over : {X : Type 0} (n : ℕ) (was xs : List X) → length xs ≡ n → 
 written_over n was xs same = ap (λ k. take k (xs ++ drop (length xs) was)) (sym same) ∙ take-append_seam xs (drop (length xs) was)
 
 -- fields that go back into the two vectors of a table show the same
-pub Shows-closed : (n m : ℕ) (was : List Slot) (had : List Ends) (ns : List Slot) (es : List Ends) (t : Table) → length ns ≡ n → length es ≡ m → Shows ns es t →
+pub Shows-closed : (n m : ℕ) (was : List Slot) (had : List Ends) (ns : List Slot) (es : List Ends) (t : NodeLists) → length ns ≡ n → length es ≡ m → Shows ns es t →
     Shows (take n (ns ++ drop (length ns) was)) (take m (es ++ drop (length es) had)) t
 Shows-closed n m was had ns es t same_nodes same_ends shows =
     subst (λ (xs : List Slot). Shows xs (take m (es ++ drop (length es) had)) t) (sym (written_over n was ns same_nodes))
     (subst (λ (xs : List Ends). Shows ns xs t) (sym (written_over m had es same_ends)) shows)
 
 -- the same where only the nodes were written
-pub Shows-closed-nodes : (n : ℕ) (was ns : List Slot) (es : List Ends) (t : Table) → length ns ≡ n → Shows ns es t → Shows (take n (ns ++ drop (length ns) was)) es t
+pub Shows-closed-nodes : (n : ℕ) (was ns : List Slot) (es : List Ends) (t : NodeLists) → length ns ≡ n → Shows ns es t → Shows (take n (ns ++ drop (length ns) was)) es t
 Shows-closed-nodes n was ns es t same shows = subst (λ (xs : List Slot). Shows xs es t) (sym (written_over n was ns same)) shows
 
 -- the same of equal fields
-pub Shows-same : (ns ms : List Slot) (es fs : List Ends) (t : Table) → ms ≡ ns → fs ≡ es → Shows ns es t → Shows ms fs t
+pub Shows-same : (ns ms : List Slot) (es fs : List Ends) (t : NodeLists) → ms ≡ ns → fs ≡ es → Shows ns es t → Shows ms fs t
 Shows-same ns ms es fs t same_nodes same_ends shows =
     subst (λ (xs : List Slot). Shows xs fs t) (sym same_nodes) (subst (λ (xs : List Ends). Shows ns xs t) (sym same_ends) shows)
 
-module _ (ns : List Slot) (es : List Ends) (t : Table) (shows : Shows ns es t) where
+module _ (ns : List Slot) (es : List Ends) (t : NodeLists) (shows : Shows ns es t) where
   -- the invariant of the fields
   pub Ties-shown : Ties ns es (lists_of ns es)
-  Ties-shown = subst (λ (ls : List (List ℕ)). Ties ns es ls) (sym (ap (λ (x : Table). x.lists) shows.view)) shows.ties
+  Ties-shown = subst (λ (ls : List (List ℕ)). Ties ns es ls) (sym (ap (λ (x : NodeLists). x.lists) shows.view)) shows.ties
 
   keys_same : keys_of ns ≡ t.keys
-  keys_same = ap (λ (x : Table). x.keys) shows.view
+  keys_same = ap (λ (x : NodeLists). x.keys) shows.view
 
   -- as many nodes and lists as the table has
   pub length_nodes : length ns ≡ length t.keys
@@ -87,13 +87,13 @@ module _ (ns : List Slot) (es : List Ends) (t : Table) (shows : Shows ns es t) w
   -- the node that follows a place is one of the fields
   pub follower_in : (l : ℕ) (place : Option ℕ) (m : ℕ) → ((p : ℕ) → place ≡ Some p → holder t p ≡ Some l) → follower_of ns es l place ≡ Some m → m < length ns
   follower_in l None m held h = held_in m l (shows.ties.alone l m (first_of-has (list_at t l) m (sym (shows.ties.first l) ∙ h)))
-  follower_in l (Some p) m held h = neighbour_in (list_with t.lists p) p m next_in (λ xs. next_in-has xs p m) (sym (shows.ties.next p) ∙ h)
+  follower_in l (Some p) m held h = neighbour_in (list_with t.lists p) p m next_in_list (λ xs. next_in_list-has xs p m) (sym (shows.ties.next p) ∙ h)
 
   pub prev_in_fields : (n m : ℕ) → (slot_at ns n).prev ≡ Some m → m < length ns
-  prev_in_fields n m h = neighbour_in (list_with t.lists n) n m prev_in (λ xs. prev_in-has xs n m) (sym (shows.ties.prev n) ∙ h)
+  prev_in_fields n m h = neighbour_in (list_with t.lists n) n m prev_in_list (λ xs. prev_in_list-has xs n m) (sym (shows.ties.prev n) ∙ h)
 
   pub next_in_fields : (n m : ℕ) → (slot_at ns n).next ≡ Some m → m < length ns
-  next_in_fields n m h = neighbour_in (list_with t.lists n) n m next_in (λ xs. next_in-has xs n m) (sym (shows.ties.next n) ∙ h)
+  next_in_fields n m h = neighbour_in (list_with t.lists n) n m next_in_list (λ xs. next_in_list-has xs n m) (sym (shows.ties.next n) ∙ h)
 
   -- a node is put into a list
   pub Shows-put : (l n : ℕ) (after next : Option ℕ) → n < length ns → l < length t.lists → holder t n ≡ None → ((p : ℕ) → after ≡ Some p → holder t p ≡ Some l) → next ≡ follower_of ns es l after →
@@ -112,13 +112,13 @@ module _ (ns : List Slot) (es : List Ends) (t : Table) (shows : Shows ns es t) w
   -- a node is taken out of its list
   pub Shows-taken : (l n : ℕ) (prev next : Option ℕ) → holder t n ≡ Some l → prev ≡ (slot_at ns n).prev → next ≡ (slot_at ns n).next →
       Shows (slots_after_unlink ns prev next n) (ends_after_unlink es l prev next)
-      (with_list t l (without n (list_at t l)))
+      (with_list t l (list_without n (list_at t l)))
   Shows-taken l n prev next h prev_is next_is =
       let held = Holds-taken ns es t.lists l n prev next shows.ties (held_in n l h) h prev_is next_is in
       shows_lists (slots_after_unlink ns prev next n) (ends_after_unlink es l prev next)
-      (set t.lists l (without n (list_at t l))) t.keys held.ties (keys_of-unlinked ns prev next n ∙ keys_same)
+      (set t.lists l (list_without n (list_at t l))) t.keys held.ties (keys_of-unlinked ns prev next n ∙ keys_same)
 
-  pub holders-taken : (l n : ℕ) → holder t n ≡ Some l → (m : ℕ) → holder (with_list t l (without n (list_at t l))) m ≡ cond (eqb m n) None (holder t m)
+  pub holders-taken : (l n : ℕ) → holder t n ≡ Some l → (m : ℕ) → holder (with_list t l (list_without n (list_at t l))) m ≡ cond (eqb m n) None (holder t m)
   holders-taken l n h = (Holds-taken ns es t.lists l n (slot_at ns n).prev (slot_at ns n).next shows.ties (held_in n l h) h refl refl).holders
 
   -- a node gets another key

@@ -6,7 +6,7 @@ use Rattle.std.proofs.lemmas.Option.{same_Some}
 use Rattle.std.proofs.lemmas.List.{get_or-set_same, get_or-set_other, get_or_past, length-set}
 use Rattle.pif_nodes.specs.declared.slots.Slot.{Slot}
 use Rattle.pif_nodes.specs.declared.slots.Ends.{Ends}
-use Rattle.pif_nodes.specs.Lists.{has, first_of, last_of, next_in, prev_in, HasNoRepeats}
+use Rattle.pif_nodes.specs.Lists.{has, first_of, last_of, next_in_list, prev_in_list, HasNoRepeats}
 use Rattle.pif_nodes.specs.Table.{list_with}
 use Rattle.pif_nodes.specs.Links.{free_slot, empty_ends, slot_at, ends_at, with_next, with_prev, with_first, with_last, with_place, Ties}
 use Rattle.pif_nodes.proofs.ListLemmas.{Move}
@@ -143,8 +143,8 @@ at_here f ls l now m (Some k) l_in e =
 module _ (ns : List Slot) (es : List Ends) (ls : List (List ℕ)) (l n : ℕ) (was now : List ℕ) (before after then_next then_prev : Option ℕ) (list prev next : Option ℕ)
     (ties : Ties ns es ls) (n_in : n < length ns) (l_in : l < length ls) (at : get_or ls l [] ≡ was) (move : Move was now n before after then_next then_prev)
     (holds : list_with (set ls l now) n ≡ list)
-    (next_is : option_and_then (λ k. next_in (get_or (set ls l now) k []) n) list ≡ next)
-    (prev_is : option_and_then (λ k. prev_in (get_or (set ls l now) k []) n) list ≡ prev)
+    (next_is : option_and_then (λ k. next_in_list (get_or (set ls l now) k []) n) list ≡ next)
+    (prev_is : option_and_then (λ k. prev_in_list (get_or (set ls l now) k []) n) list ≡ prev)
     (alone : (k : ℕ) → has n (get_or (set ls l now) k []) ≡ true → list ≡ Some k) where
   abbrev placed : List Slot
   placed = with_place ns n list prev next
@@ -188,39 +188,39 @@ module _ (ns : List Slot) (es : List Ends) (ls : List (List ℕ)) (l n : ℕ) (w
       (cases_eq m n)
 
   abbrev next_goal : ℕ → Type 0
-  next_goal m = (slot_at joined m).next ≡ option_and_then (λ k. next_in (get_or (set ls l now) k []) m) (list_with (set ls l now) m)
+  next_goal m = (slot_at joined m).next ≡ option_and_then (λ k. next_in_list (get_or (set ls l now) k []) m) (list_with (set ls l now) m)
 
   next_at : (m : ℕ) → next_goal m
   next_at m = ⊎_elim
       (λ e. subst next_goal (sym e)
       (with_next_other placed before then_next n (λ h. (move.before_in n h).0 refl) ∙ ap (λ (s : Slot). s.next) placed_at
-      ∙ sym next_is ∙ ap (λ o. option_and_then (λ k. next_in (get_or (set ls l now) k []) n) o) (sym holds)))
+      ∙ sym next_is ∙ ap (λ o. option_and_then (λ k. next_in_list (get_or (set ls l now) k []) n) o) (sym holds)))
       (λ ne. some_cases before m (next_goal m)
       (λ h. let mine = in_list m (move.before_in m h).1 in
       let m_in : m < length placed = omega (arith, length_placed, within_from_Ties ns es ls m l ties mine) in
       with_next_at placed before then_next m h m_in ∙ sym (move.nexts m h)
-      ∙ sym (at_here next_in ls l now m (list_with (set ls l now) m) l_in (same_list m ne ∙ mine)))
+      ∙ sym (at_here next_in_list ls l now m (list_with (set ls l now) m) l_in (same_list m ne ∙ mine)))
       (λ other. with_next_other placed before then_next m other ∙ ap (λ (s : Slot). s.next) (placed_other m ne) ∙ ties.next m
-      ∙ sym (at_moved next_in ls l now m (list_with ls m) l_in (move.nexts_else m ne other ∙ ap (λ zs. next_in zs m) (sym at)))
-      ∙ ap (λ o. option_and_then (λ k. next_in (get_or (set ls l now) k []) m) o) (sym (same_list m ne))))
+      ∙ sym (at_moved next_in_list ls l now m (list_with ls m) l_in (move.nexts_else m ne other ∙ ap (λ zs. next_in_list zs m) (sym at)))
+      ∙ ap (λ o. option_and_then (λ k. next_in_list (get_or (set ls l now) k []) m) o) (sym (same_list m ne))))
       (cases_eq m n)
 
   abbrev prev_goal : ℕ → Type 0
-  prev_goal m = (slot_at after_move m).prev ≡ option_and_then (λ k. prev_in (get_or (set ls l now) k []) m) (list_with (set ls l now) m)
+  prev_goal m = (slot_at after_move m).prev ≡ option_and_then (λ k. prev_in_list (get_or (set ls l now) k []) m) (list_with (set ls l now) m)
 
   prev_at : (m : ℕ) → prev_goal m
   prev_at m = ⊎_elim
       (λ e. subst prev_goal (sym e)
       (with_prev_other joined after then_prev n (λ h. (move.after_in n h).0 refl) ∙ with_next_prev placed before then_next n ∙ ap (λ (s : Slot). s.prev) placed_at
-      ∙ sym prev_is ∙ ap (λ o. option_and_then (λ k. prev_in (get_or (set ls l now) k []) n) o) (sym holds)))
+      ∙ sym prev_is ∙ ap (λ o. option_and_then (λ k. prev_in_list (get_or (set ls l now) k []) n) o) (sym holds)))
       (λ ne. some_cases after m (prev_goal m)
       (λ h. let mine = in_list m (move.after_in m h).1 in
       let m_in : m < length joined = omega (arith, length_joined, within_from_Ties ns es ls m l ties mine) in
       with_prev_at joined after then_prev m h m_in ∙ sym (move.prevs m h)
-      ∙ sym (at_here prev_in ls l now m (list_with (set ls l now) m) l_in (same_list m ne ∙ mine)))
+      ∙ sym (at_here prev_in_list ls l now m (list_with (set ls l now) m) l_in (same_list m ne ∙ mine)))
       (λ other. with_prev_other joined after then_prev m other ∙ with_next_prev placed before then_next m ∙ ap (λ (s : Slot). s.prev) (placed_other m ne) ∙ ties.prev m
-      ∙ sym (at_moved prev_in ls l now m (list_with ls m) l_in (move.prevs_else m ne other ∙ ap (λ zs. prev_in zs m) (sym at)))
-      ∙ ap (λ o. option_and_then (λ k. prev_in (get_or (set ls l now) k []) m) o) (sym (same_list m ne))))
+      ∙ sym (at_moved prev_in_list ls l now m (list_with ls m) l_in (move.prevs_else m ne other ∙ ap (λ zs. prev_in_list zs m) (sym at)))
+      ∙ ap (λ o. option_and_then (λ k. prev_in_list (get_or (set ls l now) k []) m) o) (sym (same_list m ne))))
       (cases_eq m n)
 
   l_ends : l < length es

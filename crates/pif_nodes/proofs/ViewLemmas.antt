@@ -9,10 +9,10 @@ use Rattle.std.proofs.lemmas.Map.Steps.{length-le_from_distinct_below}
 use Rattle.pif_nodes.specs.declared.keys.Key.{Key}
 use Rattle.pif_nodes.specs.declared.slots.Slot.{Slot}
 use Rattle.pif_nodes.specs.declared.slots.Ends.{Ends}
-use Rattle.pif_nodes.specs.Lists.{has, first_of, last_of, next_in, prev_in, HasNoRepeats}
+use Rattle.pif_nodes.specs.Lists.{has, first_of, last_of, next_in_list, prev_in_list, HasNoRepeats}
 use Rattle.pif_nodes.specs.Table.{list_with, IsApart}
 use Rattle.pif_nodes.specs.Links.{free_slot, empty_ends, slot_at, walk, lists_of, keys_of, with_next, with_prev, with_place, slots_after_link, slots_after_unlink, with_slot_key, Ties}
-use Rattle.pif_nodes.proofs.ListLemmas.{next_in-split, HasNoRepeats-taken, has-right, has-head}
+use Rattle.pif_nodes.proofs.ListLemmas.{next_in_list-split, HasNoRepeats-taken, has-right, has-head}
 use Rattle.pif_nodes.proofs.HolderLemmas.{list_with-has, list_with-within}
 use Rattle.pif_nodes.proofs.TiesLemmas.{within_from_Ties, kept}
 
@@ -33,16 +33,16 @@ short ns es ls l t = length-le_from_distinct_below (get_or ls l []) (length ns) 
     (λ q h. within_from_Ties ns es ls q l t (t.alone l q h))
 
 -- a walk along `next` from the first of the back goes over the back
-walk-back : (ns : List Slot) (front back : List ℕ) (most : ℕ) → HasNoRepeats (front ++ back) → ((n : ℕ) → has n (front ++ back) ≡ true → (slot_at ns n).next ≡ next_in (front ++ back) n) → length back ≤ most → walk most ns (first_of back) ≡ back
+walk-back : (ns : List Slot) (front back : List ℕ) (most : ℕ) → HasNoRepeats (front ++ back) → ((n : ℕ) → has n (front ++ back) ≡ true → (slot_at ns n).next ≡ next_in_list (front ++ back) n) → length back ≤ most → walk most ns (first_of back) ≡ back
 walk-back ns front [] zero once links enough = refl
 walk-back ns front [] (suc most) once links enough = refl
 walk-back ns front (x ∷ xs) zero once links enough = absurd (omega arith)
 walk-back ns front (x ∷ xs) (suc most) once links enough =
     let parts = HasNoRepeats-taken front xs x once in
-    let to : (slot_at ns x).next ≡ first_of xs = links x (has-right x front (x ∷ xs) (has-head x xs)) ∙ next_in-split front xs x parts.1 in
+    let to : (slot_at ns x).next ≡ first_of xs = links x (has-right x front (x ∷ xs) (has-head x xs)) ∙ next_in_list-split front xs x parts.1 in
     let e : (front ++ x ∷ []) ++ xs ≡ front ++ x ∷ xs = append_assoc front (x ∷ []) xs in
     let rest = walk-back ns (front ++ x ∷ []) xs most (subst HasNoRepeats (sym e) once)
-    (subst (λ (zs : List ℕ). (n : ℕ) → has n zs ≡ true → (slot_at ns n).next ≡ next_in zs n) (sym e) links) (omega arith) in
+    (subst (λ (zs : List ℕ). (n : ℕ) → has n zs ≡ true → (slot_at ns n).next ≡ next_in_list zs n) (sym e) links) (omega arith) in
     ap (λ zs. x ∷ zs) (ap (walk most ns) to ∙ rest)
 
 -- links that hold some lists make those lists
@@ -54,7 +54,7 @@ lists_of_is ns es ls t = ext_get_or [] (map (λ e. walk (length ns) ns e.first) 
     get_or-map (λ e. walk (length ns) ns e.first) es l empty_ends [] l_es
     ∙ ap (walk (length ns) ns) (t.first l)
     ∙ walk-back ns [] (get_or ls l []) (length ns) (t.once l)
-    (λ n h. t.next n ∙ ap (λ o. option_and_then (λ k. next_in (get_or ls k []) n) o) (t.alone l n h))
+    (λ n h. t.next n ∙ ap (λ o. option_and_then (λ k. next_in_list (get_or ls k []) n) o) (t.alone l n h))
     (short ns es ls l t))
 
 pub length-keys_of : (ns : List Slot) → length (keys_of ns) ≡ length ns
@@ -138,8 +138,8 @@ Ties-new nodes lists =
     record {
       lists = length-replicate lists empty_ends ∙ sym (length-replicate {A = List ℕ} lists []);
       owner = λ n. ap (λ (s : Slot). s.list) (slot n) ∙ sym (list_with-empty lists n);
-      next = λ n. ap (λ (s : Slot). s.next) (slot n) ∙ ap (λ o. option_and_then (λ l. next_in (get_or (replicate lists []) l []) n) o) (sym (list_with-empty lists n));
-      prev = λ n. ap (λ (s : Slot). s.prev) (slot n) ∙ ap (λ o. option_and_then (λ l. prev_in (get_or (replicate lists []) l []) n) o) (sym (list_with-empty lists n));
+      next = λ n. ap (λ (s : Slot). s.next) (slot n) ∙ ap (λ o. option_and_then (λ l. next_in_list (get_or (replicate lists []) l []) n) o) (sym (list_with-empty lists n));
+      prev = λ n. ap (λ (s : Slot). s.prev) (slot n) ∙ ap (λ o. option_and_then (λ l. prev_in_list (get_or (replicate lists []) l []) n) o) (sym (list_with-empty lists n));
       first = λ l. ap (λ (e : Ends). e.first) (ends l) ∙ ap first_of (sym (xs l));
       last = λ l. ap (λ (e : Ends). e.last) (ends l) ∙ ap last_of (sym (xs l));
       once = λ l. subst HasNoRepeats (sym (xs l)) (record {});

@@ -3,8 +3,8 @@
 use Rattle.std.proofs.Common.{◌≡◌, ℕ, ◌<◌, List, [], Option, Some, None, IsSome, sym, ◌∙◌, ap, arith, length, get_or, take, drop, ◌++◌, replicate}
 use Rattle.pif_nodes.specs.declared.slots.Slot.{Slot}
 use Rattle.pif_nodes.specs.declared.slots.Ends.{Ends}
-use Rattle.pif_nodes.specs.Lists.{insert_after, without}
-use Rattle.pif_nodes.specs.Table.{Table, no_key, list_at, holder, with_list, with_key}
+use Rattle.pif_nodes.specs.Lists.{insert_after, list_without}
+use Rattle.pif_nodes.specs.Table.{NodeLists, no_key, list_at, holder, with_list, with_key}
 use Rattle.pif_nodes.specs.Links.{free_slot, empty_ends, slot_at, follower_of, lists_of, slots_after_link, ends_after_link, slots_after_unlink, ends_after_unlink, with_slot_key, Ties}
 use Rattle.pif_nodes.proofs.TiesLemmas.{some_of}
 use Rattle.pif_nodes.proofs.SeenLemmas.{seen, Shows, Shows-from, shows_lists, Shows-put, Shows-taken, Shows-renamed, Shows-same, Shows-closed, Shows-closed-nodes, prev_in_fields, next_in_fields}
@@ -19,11 +19,11 @@ put_back was now size = take size (now ++ drop (length now) was)
 pub Shows-new : {ns : List Slot} {es : List Ends} (nodes lists : ℕ) → ns ≡ replicate nodes free_slot → es ≡ replicate lists empty_ends →
     Shows ns es (record { lists = replicate lists []; keys = replicate nodes no_key })
 Shows-new {ns} {es} nodes lists same_nodes same_ends =
-    let made : Table = record { lists = replicate lists []; keys = replicate nodes no_key } in
+    let made : NodeLists = record { lists = replicate lists []; keys = replicate nodes no_key } in
     Shows-same (replicate nodes free_slot) ns (replicate lists empty_ends) es made same_nodes same_ends
     (shows_lists (replicate nodes free_slot) (replicate lists empty_ends) made.lists made.keys (Ties-new nodes lists) (keys_of-new nodes))
 
-module _ {ns : List Slot} {es : List Ends} {t : Table} (view : seen ns es ≡ t) (ties : Ties ns es (lists_of ns es)) where
+module _ {ns : List Slot} {es : List Ends} {t : NodeLists} (view : seen ns es ≡ t) (ties : Ties ns es (lists_of ns es)) where
   abbrev shows : Shows ns es t
   shows = Shows-from ns es t view ties
 
@@ -42,7 +42,7 @@ module _ {ns : List Slot} {es : List Ends} {t : Table} (view : seen ns es ≡ t)
       → ends_now ≡ ends_after_link ends_copy l2 prev next n2 → length now ≡ size → length ends_now ≡ count →
       Shows (put_back ns now size) (put_back es ends_now count) (with_list t l (insert_after after n (list_at t l)))
   Shows-attached {copy} {now} {ends_copy} {ends_now} {l} {l2} {n} {n2} {size} {count} {after} {prev} {next} n_in l_in out place next_is same_nodes same_ends same_list same_place same written ends_written long ends_long =
-      let then : Table = with_list t l (insert_after after n (list_at t l)) in
+      let then : NodeLists = with_list t l (insert_after after n (list_at t l)) in
       Shows-closed size count ns es now ends_now then long ends_long
       (Shows-same (slots_after_link ns l after next n) now (ends_after_link es l after next n) ends_now then
       (written ∙ (λ k. slots_after_link (same_nodes k) (same_list k) (same_place k) next (same k)))
@@ -72,9 +72,9 @@ module _ {ns : List Slot} {es : List Ends} {t : Table} (view : seen ns es ≡ t)
     pub Shows-detached : {copy now : List Slot} {ends_copy ends_now : List Ends} {n2 size count : ℕ} →
         copy ≡ ns → ends_copy ≡ es → n2 ≡ n → now ≡ slots_after_unlink copy s.prev s.next n2
         → ends_now ≡ ends_after_unlink ends_copy list s.prev s.next → length now ≡ size → length ends_now ≡ count →
-        Shows (put_back ns now size) (put_back es ends_now count) (with_list t list (without n (list_at t list)))
+        Shows (put_back ns now size) (put_back es ends_now count) (with_list t list (list_without n (list_at t list)))
     Shows-detached {copy} {now} {ends_copy} {ends_now} {n2} {size} {count} same_nodes same_ends same written ends_written long ends_long =
-        let then : Table = with_list t list (without n (list_at t list)) in
+        let then : NodeLists = with_list t list (list_without n (list_at t list)) in
         Shows-closed size count ns es now ends_now then long ends_long
         (Shows-same (slots_after_unlink ns s.prev s.next n) now (ends_after_unlink es list s.prev s.next) ends_now then
         (written ∙ (λ k. slots_after_unlink (same_nodes k) s.prev s.next (same k)))

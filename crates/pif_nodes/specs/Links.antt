@@ -3,7 +3,7 @@ use Rattle.std.specs.Prelude.{◌≡◌, ℕ, suc, zero, true, List, [], ◌∷�
 use Rattle.pif_nodes.specs.declared.keys.Key.{Key}
 use Rattle.pif_nodes.specs.declared.slots.Slot.{Slot}
 use Rattle.pif_nodes.specs.declared.slots.Ends.{Ends}
-use Rattle.pif_nodes.specs.Lists.{first_of, last_of, next_in, prev_in, has, HasNoRepeats}
+use Rattle.pif_nodes.specs.Lists.{first_of, last_of, next_in_list, prev_in_list, has, HasNoRepeats}
 use Rattle.pif_nodes.specs.Table.{list_with}
 
 -- the fields of a node that is in no list
@@ -60,8 +60,8 @@ with_last es l (Some p) to = es
 pub record Ties (ns : List Slot) (es : List Ends) (ls : List (List ℕ)) : Type 0 where
   pub lists : length es ≡ length ls
   pub owner : (n : ℕ) → (slot_at ns n).list ≡ list_with ls n
-  pub next : (n : ℕ) → (slot_at ns n).next ≡ option_and_then (λ l. next_in (slice_index_or ls l []) n) (list_with ls n)
-  pub prev : (n : ℕ) → (slot_at ns n).prev ≡ option_and_then (λ l. prev_in (slice_index_or ls l []) n) (list_with ls n)
+  pub next : (n : ℕ) → (slot_at ns n).next ≡ option_and_then (λ l. next_in_list (slice_index_or ls l []) n) (list_with ls n)
+  pub prev : (n : ℕ) → (slot_at ns n).prev ≡ option_and_then (λ l. prev_in_list (slice_index_or ls l []) n) (list_with ls n)
   pub first : (l : ℕ) → (ends_at es l).first ≡ first_of (slice_index_or ls l [])
   pub last : (l : ℕ) → (ends_at es l).last ≡ last_of (slice_index_or ls l [])
   pub once : (l : ℕ) → HasNoRepeats (slice_index_or ls l [])

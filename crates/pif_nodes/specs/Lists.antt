@@ -21,9 +21,9 @@ abbrev pub last_of : List ℕ → Option ℕ
 last_of xs = last_or None xs
 
 -- the number that stands after n in a list: none after the last, nor where the list doesn't have n
-abbrev pub next_in : List ℕ → ℕ → Option ℕ
-next_in [] n = None
-next_in (x ∷ xs) n = if nat_eq n x then first_of xs else next_in xs n
+abbrev pub next_in_list : List ℕ → ℕ → Option ℕ
+next_in_list [] n = None
+next_in_list (x ∷ xs) n = if nat_eq n x then first_of xs else next_in_list xs n
 
 -- the number that stands before n in a list that `before` stands in front of
 abbrev pub prev_from : Option ℕ → List ℕ → ℕ → Option ℕ
@@ -31,8 +31,8 @@ prev_from before [] n = None
 prev_from before (x ∷ xs) n = if nat_eq n x then before else prev_from (Some x) xs n
 
 -- the number that stands before n in a list: none before the first, nor where the list doesn't have n
-abbrev pub prev_in : List ℕ → ℕ → Option ℕ
-prev_in xs n = prev_from None xs n
+abbrev pub prev_in_list : List ℕ → ℕ → Option ℕ
+prev_in_list xs n = prev_from None xs n
 
 -- the list with n put right after p
 abbrev pub put_after : ℕ → ℕ → List ℕ → List ℕ
@@ -45,8 +45,8 @@ insert_after None n xs = n ∷ xs
 insert_after (Some p) n xs = put_after p n xs
 
 -- the list without n
-abbrev pub without : ℕ → List ℕ → List ℕ
-without n xs = filter (λ x. not (nat_eq n x)) xs
+abbrev pub list_without : ℕ → List ℕ → List ℕ
+list_without n xs = filter (λ x. not (nat_eq n x)) xs
 
 -- no number stands in the list twice
 abbrev pub HasNoRepeats : List ℕ → Type 0

@@ -1,7 +1,7 @@
 ghost use Rattle.std.specs.Prelude.{◌≡◌, ℕ, ◌<◌, length, replicate, [], IsSome, IfOk, Some, None, nat_eq, if◌then◌else◌};
 ghost use Rattle.std.specs.Option.{ForSome};
-ghost use Rattle.pif_nodes.specs.Lists.{first_of, last_of, insert_after, without};
-ghost use Rattle.pif_nodes.specs.Table.{no_key, list_at, key_at, holder, next_of, prev_of, with_list, with_key, IsApart};
+ghost use Rattle.pif_nodes.specs.Lists.{first_of, last_of, insert_after, list_without};
+ghost use Rattle.pif_nodes.specs.Table.{no_key, list_at, key_at, holder, next_node, prev_node, with_list, with_key, IsApart};
 
 use crate::keys::Key;
 use crate::linking::{follower, link, unlink, write_key};
@@ -19,9 +19,9 @@ pub struct NodeTable {
 }
 
 impl Model for NodeTable {
-    ghost use Rattle.pif_nodes.specs.Table.{Table};
+    ghost use Rattle.pif_nodes.specs.Table.{NodeLists};
 
-    ghost Value = { Table };
+    ghost Value = { NodeLists };
 
     ghost use Rattle.pif_nodes.specs.Links.{lists_of, keys_of, Ties};
 
@@ -80,7 +80,7 @@ impl NodeTable {
         requires held { IsSome (holder self.old node) }
         ensures before { IsApart self.old }
         ensures taken { (l : ℕ) → holder self.old node ≡ Some l
-            → self.new ≡ with_list self.old l (without node (list_at self.old l)) }
+            → self.new ≡ with_list self.old l (list_without node (list_at self.old l)) }
         ensures holders { (n : ℕ) → holder self.new n ≡ (if nat_eq n node then None else holder self.old n) }
         ensures apart { IsApart self.new }
     {
@@ -101,7 +101,7 @@ impl NodeTable {
     #[tactic(auto, using(crate::proofs::ReadLemmas::reads))]
     pub fn next(&self, node: Node) -> Option<Node>
         requires { node < length self.now.keys }
-        ensures neighbour { result ≡ next_of self.now node }
+        ensures neighbour { result ≡ next_node self.now node }
         ensures apart { IsApart self.now }
     {
         let slot = &self.nodes[node.get() as usize];
@@ -112,7 +112,7 @@ impl NodeTable {
     #[tactic(auto, using(crate::proofs::ReadLemmas::reads))]
     pub fn prev(&self, node: Node) -> Option<Node>
         requires { node < length self.now.keys }
-        ensures neighbour { result ≡ prev_of self.now node }
+        ensures neighbour { result ≡ prev_node self.now node }
         ensures apart { IsApart self.now }
     {
         let slot = &self.nodes[node.get() as usize];

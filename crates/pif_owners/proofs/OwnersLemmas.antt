@@ -6,7 +6,7 @@ use Rattle.std.specs.Ordering.{nat_cmp}
 use Rattle.std.specs.FinMap.{FinMap, empty, get, insert, remove, len-empty}
 use Rattle.pif_nodes.specs.declared.keys.Key.{Key}
 use Rattle.pif_model.specs.Graph.{Reaches}
-use Rattle.pif_owners.specs.Owners.{Wait, Seat, Owners, no_seat, no_owners, seat_at, owner_at, count, state_of, waits_on, waits_for, WaitsFor, IsAcyclic, HasNoWaiter, with_seat, with_wait, with_owner, without_state, IsSeat, IsSound}
+use Rattle.pif_owners.specs.Owners.{Wait, Seat, Owners, no_seat, no_owners, seat_at, owner_at, count, state_of, waits_on, waits_for, WaitsFor, IsAcyclic, HasNoWaiter, with_seat, with_wait, with_owner, without_state, IsSeat, AreSoundOwners}
 use Rattle.pif_chains.proofs.Cycles.{NoCycle-fewer, NoCycle-hop, NoCycle-still, reaches-alone}
 use Rattle.pif_owners.proofs.MapLemmas.{get-insert_same, get-insert_other, get-remove_same, get-remove_other}
 
@@ -69,8 +69,8 @@ IsSeat-kept : (v w : Owners) (x : Seat)
 IsSeat-kept v w x f h = record { base = h.base; local = h.local; least = h.least; most = h.most; state = λ y e. f y e (h.state y e) }
 
 -- a write of a seat keeps all but that there is no cycle
-sound-with_seat : (t : ℕ) (x : Seat) (v : Owners) → 1 ≤ t → IsSeat v x → IsAcyclic (with_seat t x v) → IsSound v
-    → IsSound (with_seat t x v)
+sound-with_seat : (t : ℕ) (x : Seat) (v : Owners) → 1 ≤ t → IsSeat v x → IsAcyclic (with_seat t x v) → AreSoundOwners v
+    → AreSoundOwners (with_seat t x v)
 sound-with_seat t x v l h none s =
     record {
       least = omega (arith, length-set v.seats t x, s.least);
@@ -99,7 +99,7 @@ acyclic-no_more t x v same none = NoCycle-fewer (λ a b h. by_hop a b (hop-with_
 
 -- the priorities of a seat change
 pub sound-priorities : (t : ℕ) (x : Seat) (v : Owners) → x.base ≤ 99 → x.local ≤ 99 → x.wait ≡ (seat_at v t).wait
-    → 1 ≤ t → IsSound v → IsSound (with_seat t x v)
+    → 1 ≤ t → AreSoundOwners v → AreSoundOwners (with_seat t x v)
 sound-priorities t x v b l e n s =
     sound-with_seat t x v n
     (record { base = b; local = l; least = λ w h. (s.seats t).least w (sym e ∙ h); most = λ w h. (s.seats t).most w (sym e ∙ h); state = λ w h. (s.seats t).state w (sym e ∙ h) })
@@ -112,7 +112,7 @@ one_wait : (x y : Wait) → Some x ≡ Some y → x ≡ y
 one_wait x y e = ap (λ (o : Option Wait). unwrap_or o x) e
 
 -- a thread waits no longer
-pub sound-free : (t : ℕ) (v : Owners) → 1 ≤ t → IsSound v → IsSound (with_wait t None v)
+pub sound-free : (t : ℕ) (v : Owners) → 1 ≤ t → AreSoundOwners v → AreSoundOwners (with_wait t None v)
 sound-free t v n s =
     sound-with_seat t (record (seat_at v t) { wait = None }) v n
     (record { base = (s.seats t).base; local = (s.seats t).local; least = λ w h. no_wait w h; most = λ w h. no_wait w h; state = λ w h. no_wait w h })
@@ -128,7 +128,7 @@ waits_on-freed t v = by_number (cases_lt t (length v.seats))
 
 -- what a thread waits for is on a state that there is, with a priority of 1 to 99
 seat-waiting : (t : ℕ) (w : Wait) (v : Owners) → 1 ≤ w.rank.prio → w.rank.prio ≤ 99 → IsSome (owner_at v w.state)
-    → IsSound v → IsSeat v (record (seat_at v t) { wait = Some w })
+    → AreSoundOwners v → IsSeat v (record (seat_at v t) { wait = Some w })
 seat-waiting t w v l m some s =
     record {
       base = (s.seats t).base;
@@ -140,8 +140,8 @@ seat-waiting t w v l m some s =
 
 -- a waiting thread stands with another rank
 pub sound-ranked : (t : ℕ) (w x : Wait) (v : Owners) → (seat_at v t).wait ≡ Some w → x.state ≡ w.state
-    → 1 ≤ x.rank.prio → x.rank.prio ≤ 99 → 1 ≤ t → IsSound v
-    → IsSound (with_wait t (Some x) v)
+    → 1 ≤ x.rank.prio → x.rank.prio ≤ 99 → 1 ≤ t → AreSoundOwners v
+    → AreSoundOwners (with_wait t (Some x) v)
 sound-ranked t w x v e same l m n s =
     sound-with_seat t (record (seat_at v t) { wait = Some x }) v n
     (seat-waiting t x v l m (subst (λ (k : ℕ). IsSome (owner_at v k)) (sym same) ((s.seats t).state w e)) s)
@@ -150,7 +150,7 @@ sound-ranked t w x v e same l m n s =
 -- a thread is queued on a state whose owner doesn't reach it
 pub sound-queued : (t : ℕ) (w : Wait) (v : Owners) → IsSome (owner_at v w.state)
     → ((n : ℕ) → owner_at v w.state ≡ Some n → Reaches (WaitsFor v) n t → ⊥)
-    → 1 ≤ w.rank.prio → w.rank.prio ≤ 99 → 1 ≤ t → IsSound v → IsSound (with_wait t (Some w) v)
+    → 1 ≤ w.rank.prio → w.rank.prio ≤ 99 → 1 ≤ t → AreSoundOwners v → AreSoundOwners (with_wait t (Some w) v)
 sound-queued t w v some apart l m n s =
     sound-with_seat t (record (seat_at v t) { wait = Some w }) v n (seat-waiting t w v l m some s) (by_owner (owner_at v w.state) refl some) s
   where
@@ -180,7 +180,7 @@ owner_at-without_state_other k v j n = get-remove_other v.owners k j n
 -- states with other owners keep all but that there is no cycle, where each waited state is still there
 sound-owners : (owners : FinMap nat_cmp ℕ) (v : Owners)
     → ((t : ℕ) (w : Wait) → (seat_at v t).wait ≡ Some w → IsSome (owner_at v w.state) → IsSome (get owners w.state))
-    → IsAcyclic (record v { owners = owners }) → IsSound v → IsSound (record v { owners = owners })
+    → IsAcyclic (record v { owners = owners }) → AreSoundOwners v → AreSoundOwners (record v { owners = owners })
 sound-owners owners v kept none s =
     record { least = s.least; most = s.most; nobody = s.nobody; seats = λ t. IsSeat-kept v (record v { owners = owners }) (seat_at v t) (kept t) (s.seats t); acyclic = none }
 
@@ -216,7 +216,7 @@ free-wait v t e = by_wait (seat_at v t).wait e
     by_wait (Some w) h = absurd (cc)
 
 -- nobody waits on a state that there isn't
-pub no_waiter-without_state : (v : Owners) (k : ℕ) → IsSound v → owner_at v k ≡ None → HasNoWaiter v k
+pub no_waiter-without_state : (v : Owners) (k : ℕ) → AreSoundOwners v → owner_at v k ≡ None → HasNoWaiter v k
 no_waiter-without_state v k s e t h = by_wait (seat_at v t).wait refl h
   where
     by_wait : (o : Option Wait) → (seat_at v t).wait ≡ o → option_map (λ (w : Wait). w.state) o ≡ Some k → ⊥
@@ -226,7 +226,7 @@ no_waiter-without_state v k s e t h = by_wait (seat_at v t).wait refl h
         false≢true (subst IsSome (ap (owner_at v) same ∙ e) ((s.seats t).state w p))
 
 -- a state is made
-pub sound-made : (k owner : ℕ) (v : Owners) → owner_at v k ≡ None → IsSound v → IsSound (with_owner k owner v)
+pub sound-made : (k owner : ℕ) (v : Owners) → owner_at v k ≡ None → AreSoundOwners v → AreSoundOwners (with_owner k owner v)
 sound-made k owner v e s =
     sound-owners (insert v.owners k owner) v (λ t w h some. kept-with_owner k owner v w.state some)
     (NoCycle-fewer (λ a b h. by_hop a b (hop-with_owner k owner v a b h)) s.acyclic) s
@@ -236,7 +236,7 @@ sound-made k owner v e s =
     by_hop a b (inr p) = absurd (no_waiter-without_state v k s e a p.0)
 
 -- a state is handed to a thread that waits for nothing
-pub sound-handed : (k owner : ℕ) (v : Owners) → waits_on v owner ≡ None → IsSound v → IsSound (with_owner k owner v)
+pub sound-handed : (k owner : ℕ) (v : Owners) → waits_on v owner ≡ None → AreSoundOwners v → AreSoundOwners (with_owner k owner v)
 sound-handed k owner v e s =
     sound-owners (insert v.owners k owner) v (λ t w h some. kept-with_owner k owner v w.state some)
     (NoCycle-still owner still (λ a b h. by_hop a b (hop-with_owner k owner v a b h)) s.acyclic) s
@@ -249,7 +249,7 @@ sound-handed k owner v e s =
     still b h = h.1 (sym h.0 ∙ ap (λ (o : Option ℕ). unwrap_or (option_and_then (get (insert v.owners k owner)) o) 0) e)
 
 -- a state on which nobody is queued ends
-pub sound-ended : (k : ℕ) (v : Owners) → HasNoWaiter v k → IsSound v → IsSound (without_state k v)
+pub sound-ended : (k : ℕ) (v : Owners) → HasNoWaiter v k → AreSoundOwners v → AreSoundOwners (without_state k v)
 sound-ended k v free s = sound-owners (remove v.owners k) v kept (NoCycle-fewer fewer s.acyclic) s
   where
     apart : (t : ℕ) (w : Wait) → (seat_at v t).wait ≡ Some w → w.state ≢ k
@@ -286,7 +286,7 @@ seat_at-no_owners threads t = by_number (cases_lt t (threads + 1))
     by_number (inl l) = get_or-replicate (threads + 1) t no_seat no_seat l
     by_number (inr m) = get_or_past (replicate (threads + 1) no_seat) t no_seat (omega (arith, length-replicate (threads + 1) no_seat))
 
-pub sound-no_owners : (threads : ℕ) → threads ≤ 1024 → IsSound (no_owners threads)
+pub sound-no_owners : (threads : ℕ) → threads ≤ 1024 → AreSoundOwners (no_owners threads)
 sound-no_owners threads l =
     record {
       least = omega (arith, length-replicate (threads + 1) no_seat);

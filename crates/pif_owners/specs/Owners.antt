@@ -156,7 +156,7 @@ pub record IsSeat (v : Owners) (x : Seat) : Type 0 where
   pub state : (w : Wait) → x.wait ≡ Some w → IsSome (owner_at v w.state)
 
 -- what holds of the owner states at any time
-pub record IsSound (v : Owners) : Type 0 where
+pub record AreSoundOwners (v : Owners) : Type 0 where
   -- place 0 and at most 1,024 threads
   pub least : 1 ≤ length v.seats
   pub most : length v.seats ≤ 1025

@@ -12,26 +12,26 @@ abbrev pub ending : List ℕ → Result (Unit {0}) CliFault
 ending story = (filled [] story).1
 
 -- all of a story was read, and filling it in ends so
-abbrev pub Ends : List ℕ → (after : Option (List ℕ)) → Result (Unit {0}) CliFault → Type 0
-Ends read after result = (ending read ≡ result) × IsAllRead read after
+abbrev pub FillingEnds : List ℕ → (after : Option (List ℕ)) → Result (Unit {0}) CliFault → Type 0
+FillingEnds read after result = (ending read ≡ result) × IsAllRead read after
 
 -- of these bytes of a story:
 --   filled in: it has no fault, and all was read
 --   a fault: it is that of filling it in, and all was read
 --   a read failed, or out of memory: that may be anywhere
 --   no write can fail
-abbrev pub Answers : {A : Type 0} → List ℕ → (after : Option (List ℕ)) → Result A CliFault → Type 0
-Answers read after (Ok x) = Ends read after (Ok tt)
-Answers read after (Err (Script line cause)) = Ends read after (Err (Script line cause))
-Answers read after (Err (Differs line)) = Ends read after (Err (Differs line))
-Answers read after (Err Read) = Unit {0}
-Answers read after (Err NoMemory) = Unit {0}
-Answers read after (Err Write) = ⊥
+abbrev pub FillsStory : {A : Type 0} → List ℕ → (after : Option (List ℕ)) → Result A CliFault → Type 0
+FillsStory read after (Ok x) = FillingEnds read after (Ok tt)
+FillsStory read after (Err (Script line cause)) = FillingEnds read after (Err (Script line cause))
+FillsStory read after (Err (Differs line)) = FillingEnds read after (Err (Differs line))
+FillsStory read after (Err Read) = Unit {0}
+FillsStory read after (Err NoMemory) = Unit {0}
+FillsStory read after (Err Write) = ⊥
 
 -- the same, by what the reader had and has left
-abbrev pub AnswersTo : {A : Type 0} → (before after : Option (List ℕ)) → Result A CliFault → Type 0
-AnswersTo before after result =
-    (read : List ℕ) × Consumes before after read × (length read ≤ 16777217) × Answers read after result
+abbrev pub FillsStoryTo : {A : Type 0} → (before after : Option (List ℕ)) → Result A CliFault → Type 0
+FillsStoryTo before after result =
+    (read : List ℕ) × Consumes before after read × (length read ≤ 16777217) × FillsStory read after result
 
 -- a text was written whole; or a proper part of it, if a write failed; or nothing, if memory ran out
 abbrev pub WritesText : (held holds : Option (List ℕ)) → Result (Unit {0}) CliFault → Type 0
@@ -49,11 +49,11 @@ WritesText held holds (Err (Differs line)) = ⊥
 --   a write failed: filling the story in has no fault, and a proper part of a text was written, from its front
 abbrev pub Pictures : List ℕ → (after held holds : Option (List ℕ)) → Result (Unit {0}) CliFault → Type 0
 Pictures read after held holds (Ok x) =
-    Ends read after (Ok x) × (text : List ℕ) × Appends held holds text
-Pictures read after held holds (Err (Script line cause)) = Ends read after (Err (Script line cause)) × Keeps held holds
-Pictures read after held holds (Err (Differs line)) = Ends read after (Err (Differs line)) × Keeps held holds
+    FillingEnds read after (Ok x) × (text : List ℕ) × Appends held holds text
+Pictures read after held holds (Err (Script line cause)) = FillingEnds read after (Err (Script line cause)) × Keeps held holds
+Pictures read after held holds (Err (Differs line)) = FillingEnds read after (Err (Differs line)) × Keeps held holds
 Pictures read after held holds (Err Read) = Keeps held holds
-Pictures read after held holds (Err Write) = Ends read after (Ok tt) × (text : List ℕ) × WritesPart held holds text
+Pictures read after held holds (Err Write) = FillingEnds read after (Ok tt) × (text : List ℕ) × WritesPart held holds text
 Pictures read after held holds (Err NoMemory) = Keeps held holds
 
 -- the same, by what the reader had and has left, and what the writer held and holds

@@ -1,4 +1,4 @@
-ghost use Rattle.pif_pictures.specs.Pictures.{AnswersTo, PicturesTo, WritesText};
+ghost use Rattle.pif_pictures.specs.Pictures.{FillsStoryTo, PicturesTo, WritesText};
 
 use crate::drawing::drawing_of;
 use crate::graphs::graph_of;
@@ -102,7 +102,7 @@ fn answered<R: Read>(
     reader: &mut R,
     notice: &mut Notice,
 ) -> Result<Vec<u8>, CliFault>
-    ensures { AnswersTo (R.remaining reader.old) (R.remaining reader.new) result }
+    ensures { FillsStoryTo (R.remaining reader.old) (R.remaining reader.new) result }
 {
     let mut story = Vec::new(alloc);
     match fill_noting(alloc, b"", reader, &mut story, notice) {

@@ -6,7 +6,7 @@ use Rattle.std.proofs.lemmas.List.{get_or_past}
 use Rattle.pif_nodes.specs.declared.keys.Key.{Key}
 use Rattle.pif_plist.specs.Order.{comes_before}
 use Rattle.pif_plist.proofs.OrderLemmas.{not_before-past, not_before-self}
-use Rattle.pif_owners.specs.Owners.{Wait, Seat, Owners, no_seat, seat_at, state_of, waits_on, rank_of, IsSound}
+use Rattle.pif_owners.specs.Owners.{Wait, Seat, Owners, no_seat, seat_at, state_of, waits_on, rank_of, AreSoundOwners}
 use Rattle.pif_rtmutex.specs.Behind.{IsLast, IsBehind}
 use Rattle.pif_plain.specs.Standing.{rank_on, standing, leads, later, standing_behind}
 use Rattle.pif_plain.proofs.TopLemmas.{standing-from, standing-some}
@@ -80,7 +80,7 @@ module _ (v : Owners) (t : ℕ) (w : Wait) (at : (seat_at v t).wait ≡ Some w) 
           (r, s.0, s.1.1 ∙ ap Some is, by_test r h)
 
 -- nobody stands behind anybody
-zero-behind : (v : Owners) (t : ℕ) → IsSound v → standing_behind v t 0 ≡ None
+zero-behind : (v : Owners) (t : ℕ) → AreSoundOwners v → standing_behind v t 0 ≡ None
 zero-behind v t s = by_wait (seat_at v t).wait
   where
     none : (k : ℕ) → standing v k 0 ≡ None
@@ -92,7 +92,7 @@ zero-behind v t s = by_wait (seat_at v t).wait
     by_wait (Some w) = ap (option_and_then (later w.rank)) (none w.state)
 
 -- where nobody was found, t is the last
-last-zero : (v : Owners) (t n first : ℕ) → IsSound v → n ≡ length v.seats → IsSome (waits_on v t) → first ≡ 0
+last-zero : (v : Owners) (t n first : ℕ) → AreSoundOwners v → n ≡ length v.seats → IsSome (waits_on v t) → first ≡ 0
     → IsFirstBehind v t n first → IsLast v t
 last-zero v t n first s all some zero f x mine other on rank ranked =
     let w = waits-some v t some in
@@ -154,7 +154,7 @@ behind-some None v t n first all some valid value f = tt
 behind-some (Some u) v t n first all some valid value f =
     subst (IsBehind v t) (sym value) (behind-first v t n first all some (valid.0 refl) f)
 
-pub behind-none : (o : Option ℕ) (v : Owners) (t n first : ℕ) → IsSound v → n ≡ length v.seats
+pub behind-none : (o : Option ℕ) (v : Owners) (t n first : ℕ) → AreSoundOwners v → n ≡ length v.seats
     → IsSome (waits_on v t) → (IsSome o ↔ (1 ≤ first)) → IsFirstBehind v t n first → IfNone o (IsLast v t)
 behind-none (Some u) v t n first s all some valid f = tt
 behind-none None v t n first s all some valid f = last-zero v t n first s all some (by_zero (cases_lt 0 first)) f

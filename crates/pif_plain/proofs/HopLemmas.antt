@@ -3,13 +3,13 @@ use Rattle.std.proofs.Common.{◌≡◌, ℕ, true, ◌==◌, [], length, replic
 use Rattle.std.specs.Prelude.{max, option_and_then, unwrap_or}
 use Rattle.std.proofs.lemmas.Bool.{true≢false}
 use Rattle.pif_nodes.specs.Lists.{has}
-use Rattle.pif_nodes.specs.Table.{Table, IsApart, no_key}
+use Rattle.pif_nodes.specs.Table.{NodeLists, IsApart, no_key}
 use Rattle.pif_runq.specs.Levels.{Queue, HasRoom, Holds, IsLevel, IsQueued, level_of}
 use Rattle.pif_owners.specs.Owners.{Owners, Wait, no_owners, owner_at, count, waits_on, waits_for, HasNoWaiter, with_seat, with_wait, with_owner}
 use Rattle.pif_owners.proofs.OwnersLemmas.{count-no_owners, owner_at-with_owner_other}
-use Rattle.pif_rtmutex.specs.States.{States, no_states, owners_in}
-use Rattle.pif_rtmutex.specs.Holds.{Holds as HoldsStates, HasRoom as HasRoomForStates}
-use Rattle.pif_rtmutex.specs.Frames.{SameOutside as SameOutsideStates}
+use Rattle.pif_rtmutex.specs.States.{States, empty_states, owners_in}
+use Rattle.pif_rtmutex.specs.Holds.{HoldsStates, HasRoomForStates}
+use Rattle.pif_rtmutex.specs.Frames.{SameOutsideStates}
 use Rattle.pif_boost.specs.Boosts.{base_of, local_of, greatest_waiting}
 use Rattle.pif_boost.specs.Settled.{IsSettled}
 use Rattle.pif_boost.specs.Done.{IsDone}
@@ -19,14 +19,14 @@ use Rattle.pif_plain.specs.Together.{StandTogether}
 use Rattle.pif_rtmutex.proofs.SamePlace.{same_place, same_place_made}
 use Rattle.pif_plain.proofs.TogetherLemmas.{together_then, together_walked, together_first, levels_first, level_there}
 use Rattle.pif_plain.specs.WalkExamples.{admitted}
-use Rattle.pif_plain.specs.ChainExamples.{IsAtRest, IsChain}
+use Rattle.pif_plain.specs.ChainExamples.{IsAtRest, StandSettled}
 use Rattle.pif_plain.proofs.WalkTestLemmas.{idle-new, idle-admitted, idle-repaired, walked}
 
 -- a new table has room for 1,001 threads
-pub at_rest : (m : States) (q : Queue) (t : Table) → m ≡ no_states 0 0 1001
-    → ((x : Table) → owners_in m x ≡ no_owners 1001) → ((x : Table) → HasRoomForStates m x → HoldsStates m x)
+pub at_rest : (m : States) (q : Queue) (t : NodeLists) → m ≡ empty_states 0 0 1001
+    → ((x : NodeLists) → owners_in m x ≡ no_owners 1001) → ((x : NodeLists) → HasRoomForStates m x → HoldsStates m x)
     → q ≡ record { first_list = 2002; first_node = 2002; threads = 1001; mask = 0 }
-    → ((x : Table) → HasRoom q x → Holds q x)
+    → ((x : NodeLists) → HasRoom q x → Holds q x)
     → t ≡ record { lists = replicate 2101 []; keys = replicate 3003 no_key } → IsApart t → IsAtRest m q t
 at_rest m q t states view may_hold made may_queue new apart = record {
   together = together_first 1001 m q t states made new apart may_hold may_queue;
@@ -36,7 +36,7 @@ at_rest m q t states view may_hold made may_queue new apart = record {
 }
 
 -- it stays at rest when a thread is admitted
-pub rest_admitted : (m now : States) (q : Queue) (t : Table) (u p : ℕ) → IsAtRest m q t
+pub rest_admitted : (m now : States) (q : Queue) (t : NodeLists) (u p : ℕ) → IsAtRest m q t
     → owners_in now t ≡ with_seat u (admitted p) (owners_in m t) → now ≡ record m { rows = now.rows } → HoldsStates now t
     → IsAtRest now q t
 rest_admitted m now q t u p r e place holds = record {
@@ -47,7 +47,7 @@ rest_admitted m now q t u p r e place holds = record {
 }
 
 -- and there nothing is left to repair
-pub chain_at_rest : (m : States) (q : Queue) (t : Table) → IsAtRest m q t → IsChain m q t
+pub chain_at_rest : (m : States) (q : Queue) (t : NodeLists) → IsAtRest m q t → StandSettled m q t
 chain_at_rest m q t r = record {
   together = r.together;
   settled = record {
@@ -65,7 +65,7 @@ chain_at_rest m q t r = record {
 -- A NEW STATE
 
 -- a state on which nobody waits changes nothing for a walk
-made_settled : (v now : Owners) (q : Queue) (t : Table) (k owner : ℕ) → now ≡ with_owner k owner v → HasNoWaiter now k
+made_settled : (v now : Owners) (q : Queue) (t : NodeLists) (k owner : ℕ) → now ≡ with_owner k owner v → HasNoWaiter now k
     → IsSettled v q t → IsSettled now q t
 made_settled v now q t k owner e free s =
     subst (λ (x : Owners). IsSettled x q t) (sym e)
@@ -93,9 +93,9 @@ made_settled v now q t k owner e free s =
     waiting : (u : ℕ) → greatest_waiting (with_owner k owner v) u ≡ greatest_waiting v u
     waiting u = λ i. greatest_where (λ x. same x i == u) (local_of v) (length v.seats)
 
-pub chain_made : (m now : States) (q : Queue) (t : Table) (k owner : ℕ) → IsChain m q t
+pub chain_made : (m now : States) (q : Queue) (t : NodeLists) (k owner : ℕ) → StandSettled m q t
     → owners_in now t ≡ with_owner k owner (owners_in m t) → HasNoWaiter (owners_in now t) k
-    → now ≡ record m { free = now.free; owners = now.owners; places = now.places } → HoldsStates now t → IsChain now q t
+    → now ≡ record m { free = now.free; owners = now.owners; places = now.places } → HoldsStates now t → StandSettled now q t
 chain_made m now q t k owner c e free place holds = record {
   together = together_then m q t c.together now t (same_place_made m now place) (outside-none m t) holds;
   settled = made_settled (owners_in m t) (owners_in now t) q t k owner e free c.settled;
@@ -104,7 +104,7 @@ chain_made m now q t k owner c e free place holds = record {
 -- A WAIT
 
 -- another wait of one thread, in another table
-module _ (m now : States) (q : Queue) (t then : Table) (c : IsChain m q t) (u : ℕ) (w : Option Wait)
+module _ (m now : States) (q : Queue) (t then : NodeLists) (c : StandSettled m q t) (u : ℕ) (w : Option Wait)
     (e : owners_in now then ≡ with_wait u w (owners_in m t)) (place : now ≡ record m { rows = now.rows })
     (outside : SameOutsideStates m t then) (holds : HoldsStates now then) where
   pub chain_then : StandTogether now q then
@@ -131,8 +131,8 @@ module _ (m now : States) (q : Queue) (t then : Table) (c : IsChain m q t) (u : 
   off_then off on = absurd (off (was u on))
 
   -- a walk after it leaves a chain
-  pub chain_walked : (hops : ℕ) (new : States) (table : Table) (queue : Queue) → (IsQueued q t u → ⊥)
-      → IsDone now then q hops new table queue → IsChain new queue table
+  pub chain_walked : (hops : ℕ) (new : States) (table : NodeLists) (queue : Queue) → (IsQueued q t u → ⊥)
+      → IsDone now then q hops new table queue → StandSettled new queue table
   chain_walked hops new table queue off d = record {
     together = together_walked now q then chain_then hops new table queue d;
     settled = walked (owners_in m t) (owners_in now then) q then u w settled_then e (owners_in new table) queue table

@@ -1,15 +1,15 @@
 -- Owner states of three threads that were just made stand in a table that was just made.
 use Rattle.std.proofs.Common.{◌≡◌, ℕ, [], replicate, None, sym, ap, subst, arith}
-use Rattle.pif_nodes.specs.Table.{Table, IsApart, no_key, holder}
+use Rattle.pif_nodes.specs.Table.{NodeLists, IsApart, no_key, holder}
 use Rattle.pif_rtmutex.specs.States.{States, top_node}
-use Rattle.pif_rtmutex.specs.Holds.{HasRoom}
+use Rattle.pif_rtmutex.specs.Holds.{HasRoomForStates}
 use Rattle.pif_runq.proofs.EmptyTables.{empty_table, empty_lists, empty_nodes, empty_list, empty_free}
-use Rattle.pif_plain.specs.ChainExamples.{IsFirst, IsAtFirst}
+use Rattle.pif_plain.specs.ChainExamples.{AreNewStates, IsAtFirst}
 
-pub at_first : (m : States) (t : Table) → IsFirst 3 m
+pub at_first : (m : States) (t : NodeLists) → AreNewStates 3 m
     → t ≡ record { lists = replicate 6 []; keys = replicate 6 no_key } → IsApart t → IsAtFirst m t
 at_first m t first new apart =
-    subst (λ (x : Table). IsAtFirst m x) (sym new)
+    subst (λ (x : NodeLists). IsAtFirst m x) (sym new)
     (record { holds = first.holds (empty_table 6 6) room; view = first.made (empty_table 6 6); free = free })
   where
     still : IsApart (empty_table 6 6)
@@ -27,7 +27,7 @@ at_first m t first new apart =
     node : m.first_node ≡ 0
     node = ap (λ (x : States). x.first_node) first.place
 
-    room : HasRoom m (empty_table 6 6)
+    room : HasRoomForStates m (empty_table 6 6)
     room = record {
       apart = still;
       lists = omega (arith, list, many, empty_lists 6 6);

@@ -7,15 +7,15 @@ use Rattle.pif_model.specs.PiKernel.{Parking, parked_pairs, unparked}
 use Rattle.pif_chains.proofs.Waiting.{Once, names, once_push, once_without, named-push, named-without_same, named-without_other}
 use Rattle.pif_chains.proofs.KernelNumbers.{distinct-none}
 use Rattle.pif_chains.proofs.KernelParks.{parked_pairs-push, parked_pairs-without}
-use Rattle.pif_plain.specs.Rows.{AreParked}
+use Rattle.pif_plain.specs.Rows.{AreParkedOnce}
 use Rattle.pif_owners.proofs.ArrivalLaws.{few_waiters}
 
 -- nobody is parked
-pub none_parked : (most : ℕ) (ps : List Parking) → ps ≡ [] → AreParked most ps
+pub none_parked : (most : ℕ) (ps : List Parking) → ps ≡ [] → AreParkedOnce most ps
 none_parked most ps e =
-    subst (AreParked most) (sym e) (record { once = distinct-none; known = λ t y. absurd (false≢true y) })
+    subst (AreParkedOnce most) (sym e) (record { once = distinct-none; known = λ t y. absurd (false≢true y) })
 
-module _ (most : ℕ) (ps : List Parking) (h : AreParked most ps) where
+module _ (most : ℕ) (ps : List Parking) (h : AreParkedOnce most ps) where
   -- there is room for one that isn't parked
   pub room_behind : (t : ℕ) → 1 ≤ t → t ≤ most → names t (parked_pairs ps) ≡ false → length ps < most
   room_behind t some few off =
@@ -26,7 +26,7 @@ module _ (most : ℕ) (ps : List Parking) (h : AreParked most ps) where
 
   -- it stands behind the others then
   pub parked_behind : (x : Parking) (room : ℕ) → 1 ≤ x.thread → x.thread ≤ most → most ≤ room
-      → names x.thread (parked_pairs ps) ≡ false → AreParked room (ps ++ x ∷ [])
+      → names x.thread (parked_pairs ps) ≡ false → AreParkedOnce room (ps ++ x ∷ [])
   parked_behind x room some few long off = record {
     once = subst Once (sym (parked_pairs-push ps x)) (once_push (parked_pairs ps) (x.thread, x.cond) off h.once);
     known = λ t y. by_name t (names t (parked_pairs ps)) refl
@@ -41,7 +41,7 @@ module _ (most : ℕ) (ps : List Parking) (h : AreParked most ps) where
           ((λ z. absurd (omega (arith, some, same, z))), omega (arith, few, same, long))
 
   -- one was taken off
-  pub parked_without : (t : ℕ) → AreParked most (unparked ps t)
+  pub parked_without : (t : ℕ) → AreParkedOnce most (unparked ps t)
   parked_without t = record {
     once = subst Once (sym (parked_pairs-without ps t)) (once_without (parked_pairs ps) t h.once);
     known = λ u y. h.known u (there u (cases_eq u t) (sym (ap (names u) (parked_pairs-without ps t)) ∙ y));

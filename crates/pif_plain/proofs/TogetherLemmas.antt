@@ -2,12 +2,12 @@
 use Rattle.std.proofs.Common.{◌≡◌, ◌⊎◌, ℕ, ◌+◌, ◌-◌, ◌*◌, ◌<◌, ◌≤◌, true, [], length, Option, Some, None, refl, subst, sym, ap, ◌∙◌, inl, inr, arith}
 use Rattle.std.proofs.lemmas.Bool.{cases_lt}
 use Rattle.pif_nodes.specs.Lists.{has}
-use Rattle.pif_nodes.specs.Table.{Table, IsApart, holder, list_at}
+use Rattle.pif_nodes.specs.Table.{NodeLists, IsApart, holder, list_at}
 use Rattle.pif_runq.specs.Levels.{Queue, Holds, HasRoom, IsLevel, IsThreadNode, SameOutside, list_for, level_of}
 use Rattle.pif_runq.proofs.KeptLemmas.{levels-framed, queue-framed}
-use Rattle.pif_rtmutex.specs.States.{States, no_states, IsThread, wait_of, wait_node, top_node, wait_list, top_list, owners_in}
-use Rattle.pif_rtmutex.specs.Holds.{IsWaiterIn, IsTopNode, Holds as HoldsStates, HasRoom as HasRoomForStates}
-use Rattle.pif_rtmutex.specs.Frames.{SameOutside as SameOutsideStates}
+use Rattle.pif_rtmutex.specs.States.{States, empty_states, IsThread, wait_of, wait_node, top_node, wait_list, top_list, owners_in}
+use Rattle.pif_rtmutex.specs.Holds.{IsWaiterIn, IsTopNode, HoldsStates, HasRoomForStates}
+use Rattle.pif_rtmutex.specs.Frames.{SameOutsideStates}
 use Rattle.pif_rtmutex.proofs.FrameLemmas.{holds-framed, owners-framed}
 use Rattle.pif_boost.specs.Frames.{StandsBefore}
 use Rattle.pif_boost.specs.Done.{IsDone}
@@ -19,10 +19,10 @@ use Rattle.pif_runq.proofs.EmptyTables.{empty_table, empty_lists, empty_nodes, e
 use Rattle.pif_rtmutex.proofs.SamePlace.{SamePlace}
 
 -- the owner states and the run queue that these are, with these keys and these parked threads
-abbrev pub together : States → Queue → Table → PlainRows → Chained
+abbrev pub together : States → Queue → NodeLists → PlainRows → Chained
 together m q t r = record { owners = owners_in m t; queue = q; table = t; keys = r.keys; parked = r.parked }
 
-module _ (m : States) (q : Queue) (t : Table) (h : StandTogether m q t) where
+module _ (m : States) (q : Queue) (t : NodeLists) (h : StandTogether m q t) where
   pub stands_before : StandsBefore m q
   stands_before = record { lists = omega (arith, h.first, h.levels); nodes = h.nodes }
 
@@ -66,7 +66,7 @@ module _ (m : States) (q : Queue) (t : Table) (h : StandTogether m q t) where
           (cases_lt l m.threads) (cases_lt l (2 * m.threads)))
 
   -- a call changed the owner states
-  module _ (m' : States) (t' : Table) (place : SamePlace m m') (outside : SameOutsideStates m t t')
+  module _ (m' : States) (t' : NodeLists) (place : SamePlace m m') (outside : SameOutsideStates m t t')
       (holds : HoldsStates m' t') where
     queue_there : Holds q t'
     queue_there = queue-framed q t t' (states-leave m q t t' stands_before outside) h.queue holds.waiters.apart
@@ -94,7 +94,7 @@ module _ (m : States) (q : Queue) (t : Table) (h : StandTogether m q t) where
     }
 
   -- a call changed the levels
-  module _ (q' : Queue) (t' : Table) (place : q' ≡ record q { mask = q'.mask }) (outside : SameOutside q t t')
+  module _ (q' : Queue) (t' : NodeLists) (place : q' ≡ record q { mask = q'.mask }) (outside : SameOutside q t t')
       (holds : Holds q' t') where
     pub owners_kept : owners_in m t' ≡ owners_in m t
     owners_kept =
@@ -112,7 +112,7 @@ module _ (m : States) (q : Queue) (t : Table) (h : StandTogether m q t) where
     }
 
   -- a walk went through both
-  pub together_walked : (hops : ℕ) (m' : States) (t' : Table) (q' : Queue) → IsDone m t q hops m' t' q'
+  pub together_walked : (hops : ℕ) (m' : States) (t' : NodeLists) (q' : Queue) → IsDone m t q hops m' t' q'
       → StandTogether m' q' t'
   together_walked hops m' t' q' d = record {
     owners = d.states;
@@ -132,11 +132,11 @@ module _ (m : States) (q : Queue) (t : Table) (h : StandTogether m q t) where
   }
 
 -- at first, in a table all of whose lists are empty
-module _ (threads : ℕ) (m : States) (q : Queue) (t : Table) (states : m ≡ no_states 0 0 threads)
+module _ (threads : ℕ) (m : States) (q : Queue) (t : NodeLists) (states : m ≡ empty_states 0 0 threads)
     (made : q ≡ record { first_list = 2 * threads; first_node = 2 * threads; threads = threads; mask = 0 })
     (empty : t ≡ empty_table (2 * threads + 99) (3 * threads)) (apart : IsApart t)
-    (may_hold : (x : Table) → HasRoomForStates m x → HoldsStates m x)
-    (may_queue : (x : Table) → HasRoom q x → Holds q x) where
+    (may_hold : (x : NodeLists) → HasRoomForStates m x → HoldsStates m x)
+    (may_queue : (x : NodeLists) → HasRoom q x → Holds q x) where
   first : m.first_list ≡ 0
   first = ap (λ (x : States). x.first_list) states
 
@@ -147,14 +147,14 @@ module _ (threads : ℕ) (m : States) (q : Queue) (t : Table) (states : m ≡ no
   many = ap (λ (x : States). x.threads) states
 
   lists : length t.lists ≡ 2 * threads + 99
-  lists = ap (λ (x : Table). length x.lists) empty ∙ empty_lists (2 * threads + 99) (3 * threads)
+  lists = ap (λ (x : NodeLists). length x.lists) empty ∙ empty_lists (2 * threads + 99) (3 * threads)
 
   nodes : length t.keys ≡ 3 * threads
-  nodes = ap (λ (x : Table). length x.keys) empty ∙ empty_nodes (2 * threads + 99) (3 * threads)
+  nodes = ap (λ (x : NodeLists). length x.keys) empty ∙ empty_nodes (2 * threads + 99) (3 * threads)
 
   free : (n : ℕ) → holder t n ≡ None
   free n =
-      ap (λ (x : Table). holder x n) empty
+      ap (λ (x : NodeLists). holder x n) empty
       ∙ empty_free (2 * threads + 99) (3 * threads) n (subst IsApart empty apart)
 
   states_room : HasRoomForStates m t
@@ -162,7 +162,7 @@ module _ (threads : ℕ) (m : States) (q : Queue) (t : Table) (states : m ≡ no
     apart = apart;
     lists = omega (arith, first, many, lists);
     nodes = omega (arith, first_node, many, nodes);
-    empty = λ l own. ap (λ (x : Table). list_at x l) empty ∙ empty_list (2 * threads + 99) (3 * threads) l;
+    empty = λ l own. ap (λ (x : NodeLists). list_at x l) empty ∙ empty_list (2 * threads + 99) (3 * threads) l;
     free = λ u i. free (top_node m u);
   }
 
@@ -180,7 +180,7 @@ module _ (threads : ℕ) (m : States) (q : Queue) (t : Table) (states : m ≡ no
     apart = apart;
     lists = omega (arith, level, lists);
     nodes = omega (arith, node, queued, nodes);
-    empty = λ p lp. ap (λ (x : Table). list_at x (list_for q p)) empty
+    empty = λ p lp. ap (λ (x : NodeLists). list_at x (list_for q p)) empty
         ∙ empty_list (2 * threads + 99) (3 * threads) (list_for q p);
     free = λ n mine. free n;
   }
@@ -196,4 +196,4 @@ module _ (threads : ℕ) (m : States) (q : Queue) (t : Table) (states : m ≡ no
   }
 
   pub levels_first : (p : ℕ) → level_of q t p ≡ []
-  levels_first p = ap (λ (x : Table). level_of q x p) empty ∙ empty_level q (2 * threads + 99) (3 * threads) p
+  levels_first p = ap (λ (x : NodeLists). level_of q x p) empty ∙ empty_level q (2 * threads + 99) (3 * threads) p

@@ -3,7 +3,7 @@ use Rattle.std.proofs.Common.{◌≡◌, ◌⊎◌, ℕ, ◌<◌, ◌≤◌, tru
 use Rattle.std.proofs.lemmas.Bool.{false≢true, cases_lt, cases_Bool, eq-eqb, eqb-true}
 use Rattle.std.proofs.lemmas.List.{get_or_past}
 use Rattle.pif_nodes.specs.declared.keys.Key.{Key}
-use Rattle.pif_owners.specs.Owners.{Wait, Owners, no_seat, seat_at, owner_at, state_of, waits_on, rank_of, IsTop, IsSound}
+use Rattle.pif_owners.specs.Owners.{Wait, Owners, no_seat, seat_at, owner_at, state_of, waits_on, rank_of, IsTop, AreSoundOwners}
 use Rattle.pif_plain.specs.Standing.{rank_on, standing, leads}
 
 -- who waits on a state with a rank stands there with it
@@ -82,7 +82,7 @@ first-some None v k n first e valid value f = tt
 first-some (Some t) v k n first e valid value f = subst (IsTop v k) (sym value) (first-top v k n first e (valid.0 refl) f)
 
 -- a state on which a thread is queued is there
-pub top-state : (o : Option ℕ) (v : Owners) (k : ℕ) → IsSound v → IfSome o (λ t. IsTop v k t) → OnSome o (IsSome (owner_at v k))
+pub top-state : (o : Option ℕ) (v : Owners) (k : ℕ) → AreSoundOwners v → IfSome o (λ t. IsTop v k t) → OnSome o (IsSome (owner_at v k))
 top-state None v k s h = tt
 top-state (Some t) v k s h = by_wait (seat_at v t).wait refl h.waits
   where

@@ -6,7 +6,7 @@ use Rattle.std.proofs.lemmas.Bool.{cases_eq, cases_lt, cases_Bool, eqb-true, or_
 use Rattle.std.proofs.lemmas.List.{get_or-replicate, length-replicate}
 use Rattle.pif_nodes.specs.declared.keys.Key.{Key}
 use Rattle.pif_nodes.specs.Lists.{has}
-use Rattle.pif_nodes.specs.Table.{Table, IsApart, list_at, no_key, list_with}
+use Rattle.pif_nodes.specs.Table.{NodeLists, IsApart, list_at, no_key, list_with}
 use Rattle.pif_chains.proofs.Places.{kept_at}
 use Rattle.pif_chains.proofs.Following.{IsGreatestAt, greatest_where_some}
 use Rattle.pif_runq.specs.Levels.{Queue, IsLevel, level_of, level_with, list_for, thread_for, HasRoom, Holds, IsQueued, level_after_add}
@@ -19,8 +19,8 @@ use Rattle.pif_boost.proofs.Greatest.{waits_for-none, waits_for-owner}
 use Rattle.pif_boost.proofs.Settled.{rewaited, was_ready}
 use Rattle.pif_boost.proofs.Walks.{admitted_row}
 use Rattle.pif_boost.proofs.Repairs.{ranked-state}
-use Rattle.pif_plain.specs.ChainExamples.{IsIdle}
-use Rattle.pif_plain.specs.WalkExamples.{admitted, three_admitted, three_threads, new_queue, new_table}
+use Rattle.pif_plain.specs.ChainExamples.{AreIdle}
+use Rattle.pif_plain.specs.WalkExamples.{admitted, three_admitted, three_threads, new_queue, table_of_three}
 
 -- WAITS
 
@@ -67,14 +67,14 @@ dequeued v now t state owner repaired e waits owned =
     by_seat (inr s) = inr (ap (λ (x : Seat). unwrap_or (option_and_then (owner_at v) (option_map (λ (k : Wait). k.state) x.wait)) 0) s ∙ before)
 
 -- who is on no level is not on the run queue
-pub off_by_test : (q : Queue) (t : Table) (u : ℕ) (found : Option ℕ) (b : Bool) → Holds q t → found ≡ level_with q t u
+pub off_by_test : (q : Queue) (t : NodeLists) (u : ℕ) (found : Option ℕ) (b : Bool) → Holds q t → found ≡ level_with q t u
     → b ≡ is_some found → b ≡ false → IsQueued q t u → ⊥
 off_by_test q t u found b holds is tested none queued =
     true≢false (ap is_some (sym (level_with-from_listed q t u queued.0 holds queued.1 queued.2)) ∙ ap is_some (sym is)
     ∙ sym tested ∙ none)
 
 -- another wait of one thread
-module _ (v waited : Owners) (q : Queue) (t : Table) (u : ℕ) (w : Option Wait) (settled : IsSettled v q t)
+module _ (v waited : Owners) (q : Queue) (t : NodeLists) (u : ℕ) (w : Option Wait) (settled : IsSettled v q t)
     (e : waited ≡ with_wait u w v) where
   -- who is on the run queue was admitted
   pub still_ready : (x : ℕ) → IsQueued q t x → 1 ≤ base_of waited x
@@ -104,7 +104,7 @@ module _ (v waited : Owners) (q : Queue) (t : Table) (u : ℕ) (w : Option Wait)
       by_seat (inr s) = ap (λ (y : Seat). option_map (λ (k : Wait). k.state) y.wait) s ∙ settled.running x queued
 
   -- a walk after it leaves all settled
-  pub walked : (new : Owners) (now : Queue) (table : Table) → (IsQueued q t u → w ≡ None)
+  pub walked : (new : Owners) (now : Queue) (table : NodeLists) → (IsQueued q t u → w ≡ None)
       → IsRepaired waited new → ((s : ℕ) → IsRepairedBut s new)
       → ((p : ℕ) → IsLevel p → level_of now table p ≡ level_after_walk waited q t p)
       → ((x p : ℕ) → IsLevel p → has x (level_of now table p) ≡ true → p ≡ local_of new x) → Holds now table
@@ -129,18 +129,18 @@ module _ (v waited : Owners) (q : Queue) (t : Table) (u : ℕ) (w : Option Wait)
 
 -- THE START
 
-pub idle-new : (n : ℕ) (v : Owners) → v ≡ no_owners n → IsIdle n v
+pub idle-new : (n : ℕ) (v : Owners) → v ≡ no_owners n → AreIdle n v
 idle-new n v e =
-    subst (IsIdle n) (sym e)
+    subst (AreIdle n) (sym e)
     (record {
       long = length-replicate (n + 1) no_seat;
       free = λ x. ap (λ (s : Seat). s.wait) (seat_at-no_owners n x);
       same = λ x. ap (λ (s : Seat). s.local) (seat_at-no_owners n x) ∙ sym (ap (λ (s : Seat). s.base) (seat_at-no_owners n x));
     })
 
-pub idle-admitted : (n t p : ℕ) (v now : Owners) → now ≡ with_seat t (admitted p) v → IsIdle n v → IsIdle n now
+pub idle-admitted : (n t p : ℕ) (v now : Owners) → now ≡ with_seat t (admitted p) v → AreIdle n v → AreIdle n now
 idle-admitted n t p v now e h =
-    subst (IsIdle n) (sym e)
+    subst (AreIdle n) (sym e)
     (record {
       long = length-set v.seats t (admitted p) ∙ h.long;
       free = λ x. free x (seat_at-with_seat t (admitted p) v x);
@@ -157,8 +157,8 @@ idle-admitted n t p v now e h =
     same x (inl s) = ap (λ (y : Seat). y.local) s.1 ∙ sym (ap (λ (y : Seat). y.base) s.1)
     same x (inr s) = ap (λ (y : Seat). y.local) s ∙ h.same x ∙ sym (ap (λ (y : Seat). y.base) s)
 
-idle-made : (n k owner : ℕ) (v now : Owners) → now ≡ with_owner k owner v → IsIdle n v → IsIdle n now
-idle-made n k owner v now e h = subst (IsIdle n) (sym e) (record { long = h.long; free = h.free; same = h.same })
+idle-made : (n k owner : ℕ) (v now : Owners) → now ≡ with_owner k owner v → AreIdle n v → AreIdle n now
+idle-made n k owner v now e h = subst (AreIdle n) (sym e) (record { long = h.long; free = h.free; same = h.same })
 
 -- three threads and no state
 pub three : (v0 v1 v2 v3 : Owners) (t1 t2 t3 p1 p2 p3 : ℕ) → v0 ≡ no_owners 3 → v1 ≡ with_seat t1 (admitted p1) v0 → v2 ≡ with_seat t2 (admitted p2) v1
@@ -170,7 +170,7 @@ three v0 v1 v2 v3 t1 t2 t3 p1 p2 p3 e0 e1 e2 e3 = (
 )
 
 -- three threads and two states
-idle-three : (k1 k2 : ℕ) → IsIdle 3 (three_threads k1 k2)
+idle-three : (k1 k2 : ℕ) → AreIdle 3 (three_threads k1 k2)
 idle-three k1 k2 = idle-made 3 k2 2 _ _ refl (idle-made 3 k1 1 _ _ refl
     (idle-admitted 3 3 99 _ _ refl (idle-admitted 3 2 2 _ _ refl
     (idle-admitted 3 1 1 _ _ refl (idle-new 3 (no_owners 3) refl)))))
@@ -198,7 +198,7 @@ pub second_there : (k1 k2 : ℕ) → IsSome (owner_at (three_threads k1 k2) k2)
 second_there k1 k2 = state_made (with_owner k1 1 three_admitted) (three_threads k1 k2) k2 2 refl
 
 -- where nobody waits nothing is left to repair
-pub idle-repaired : (n : ℕ) (v : Owners) → IsIdle n v → (start : ℕ) → IsRepairedBut start v
+pub idle-repaired : (n : ℕ) (v : Owners) → AreIdle n v → (start : ℕ) → IsRepairedBut start v
 idle-repaired n v h start =
     record {
       locals = λ t th ne. h.same t ∙ omega (arith, nobody t th (cases_lt 0 (greatest_waiting v t)));
@@ -216,14 +216,14 @@ idle-repaired n v h start =
         let one : 1 ≤ t = th.0 in absurd (omega arith)
 
 -- each list of a new table is empty
-empty_list : (q : Queue) (t : Table) (p : ℕ) → q.first_list ≡ 0 → t.lists ≡ replicate 99 [] → IsLevel p → list_at t (list_for q p) ≡ []
+empty_list : (q : Queue) (t : NodeLists) (p : ℕ) → q.first_list ≡ 0 → t.lists ≡ replicate 99 [] → IsLevel p → list_at t (list_for q p) ≡ []
 empty_list q t p first lists lp = rw lists (get_or-replicate 99 (list_for q p) [] [] (omega arith))
 
 -- so a queue with no thread has room there
-pub has_room : (t : Table) → t ≡ new_table → IsApart t → HasRoom new_queue t
+pub has_room : (t : NodeLists) → t ≡ table_of_three → IsApart t → HasRoom new_queue t
 has_room t new apart =
-    let lists : t.lists ≡ replicate 99 [] = ap (λ (x : Table). x.lists) new in
-    let keys : length t.keys ≡ 3 = ap (λ (x : Table). length x.keys) new ∙ length-replicate 3 no_key in
+    let lists : t.lists ≡ replicate 99 [] = ap (λ (x : NodeLists). x.lists) new in
+    let keys : length t.keys ≡ 3 = ap (λ (x : NodeLists). length x.keys) new ∙ length-replicate 3 no_key in
     record {
       apart = apart;
       lists = omega (arith, ap length lists, length-replicate {A = List ℕ} 99 []);
@@ -233,7 +233,7 @@ has_room t new apart =
     }
 
 -- thread 1 alone is on the queue
-pub settled-start : (k1 k2 : ℕ) (now : Queue) (t table : Table) → t ≡ new_table
+pub settled-start : (k1 k2 : ℕ) (now : Queue) (t table : NodeLists) → t ≡ table_of_three
     → ((p : ℕ) → IsLevel p → level_of now table p ≡ level_after_add 1 1 p (level_of new_queue t p)) → Holds now table
     → IsSettled (three_threads k1 k2) now table
 settled-start k1 k2 now t table made levels holds =
@@ -247,7 +247,7 @@ settled-start k1 k2 now t table made levels holds =
     }
   where
     none : (p : ℕ) → IsLevel p → level_of new_queue t p ≡ []
-    none p lp = ap (map (thread_for new_queue)) (empty_list new_queue t p refl (ap (λ (x : Table). x.lists) made) lp)
+    none p lp = ap (map (thread_for new_queue)) (empty_list new_queue t p refl (ap (λ (x : NodeLists). x.lists) made) lp)
 
     alone : (x p : ℕ) → IsLevel p → has x (level_after_add 1 1 p []) ≡ true → (x ≡ 1) × (p ≡ 1)
     alone x p lp m = by_level (cases_Bool (eqb p 1))

@@ -21,6 +21,6 @@ plain_rows_code =
     (λ x. (x.room, (x.keys, x.parked))) (λ p. record { room = p.0; keys = p.1.0; parked = p.1.1 }) (λ _. refl)
 
 -- no thread stands twice among these, and each has a number from 1 to `most`
-pub record AreParked (most : ℕ) (ps : List Parking) : Type 0 where
+pub record AreParkedOnce (most : ℕ) (ps : List Parking) : Type 0 where
   pub once : IsDistinct eqb (map (λ (w : ℕ × ℕ). w.0) (parked_pairs ps))
   pub known : (t : ℕ) → is_named t (parked_pairs ps) ≡ true → (t ≢ 0) × (t ≤ most)

@@ -1,11 +1,11 @@
 -- Owner states and a run queue that stand in one table, which has no other lists.
 use Rattle.std.specs.Prelude.{◌≡◌, ◌+◌, ◌*◌, ◌≤◌, length}
-use Rattle.pif_nodes.specs.Table.{Table}
+use Rattle.pif_nodes.specs.Table.{NodeLists}
 use Rattle.pif_runq.specs.Levels.{Queue, Holds}
 use Rattle.pif_rtmutex.specs.States.{States}
-use Rattle.pif_rtmutex.specs.Holds.{Holds as HoldsStates}
+use Rattle.pif_rtmutex.specs.Holds.{HoldsStates}
 
-pub record StandTogether (m : States) (q : Queue) (t : Table) : Type 0 where
+pub record StandTogether (m : States) (q : Queue) (t : NodeLists) : Type 0 where
   pub owners : HoldsStates m t
   pub queue : Holds q t
   -- the lists of the owner states come first, and those of the levels are the others

@@ -1,6 +1,6 @@
 -- What the tests begin from: three threads, an empty run queue and an empty table.
 use Rattle.std.specs.Prelude.{ℕ, [], replicate, None}
-use Rattle.pif_nodes.specs.Table.{Table, no_key}
+use Rattle.pif_nodes.specs.Table.{NodeLists, no_key}
 use Rattle.pif_runq.specs.Levels.{Queue}
 use Rattle.pif_owners.specs.Owners.{Owners, Seat, no_owners, with_seat, with_owner}
 
@@ -21,5 +21,5 @@ abbrev pub new_queue : Queue
 new_queue = record { first_list = 0; first_node = 0; threads = 3; mask = 0 }
 
 -- a table with their nodes and the lists of the levels
-abbrev pub new_table : Table
-new_table = record { lists = replicate 99 []; keys = replicate 3 no_key }
+abbrev pub table_of_three : NodeLists
+table_of_three = record { lists = replicate 99 []; keys = replicate 3 no_key }

@@ -3,7 +3,7 @@ ghost use Rattle.std.specs.List.{slice_get};
 ghost use Rattle.pif_model.specs.Graph.{waiting_order};
 ghost use Rattle.pif_model.specs.PiKernel.{parked_pairs, unparked};
 ghost use Rattle.pif_kernel.specs.Inside.{no_keys};
-ghost use Rattle.pif_kernel.specs.Orders.{waiting_with};
+ghost use Rattle.pif_kernel.specs.Orders.{waiters_at_level};
 ghost use Rattle.pif_kernel.specs.Takings.{first_parked, goes_before, have_target};
 ghost use Rattle.pif_kernel.specs.Tickets.{is_named};
 
@@ -59,7 +59,7 @@ pub struct Rows {
 
 impl Model for Rows {
     ghost use Rattle.std.specs.Prelude.{vec_capacity};
-    ghost use Rattle.pif_plain.specs.Rows.{PlainRows, plain_rows_code, AreParked};
+    ghost use Rattle.pif_plain.specs.Rows.{PlainRows, plain_rows_code, AreParkedOnce};
 
     ghost Value = { PlainRows };
 
@@ -67,7 +67,7 @@ impl Model for Rows {
 
     ghost view = { λ r. record { room = vec_capacity r.parked; keys = r.keys.items; parked = r.parked.items } };
 
-    ghost invariant = { λ r. AreParked (vec_capacity r.parked) r.parked.items };
+    ghost invariant = { λ r. AreParkedOnce (vec_capacity r.parked) r.parked.items };
 }
 
 impl Rows {
@@ -220,8 +220,8 @@ fn nth_of_level<P: Priorities>(
     level: u32,
     before: &mut u32,
 ) -> Option<Tid>
-    ensures nth { result ≡ slice_get (waiting_with (P.priority_of priorities.now) level (parked_pairs list.now) c) before.old }
-    ensures fewer { IfNone result (before.new + length (waiting_with (P.priority_of priorities.now) level (parked_pairs list.now) c) ≡ before.old) }
+    ensures nth { result ≡ slice_get (waiters_at_level (P.priority_of priorities.now) level (parked_pairs list.now) c) before.old }
+    ensures fewer { IfNone result (before.new + length (waiters_at_level (P.priority_of priorities.now) level (parked_pairs list.now) c) ≡ before.old) }
 {
     for parking in list {
         if parking.cond == c && priorities.priority(parking.thread) == level {

@@ -22,7 +22,7 @@ ghost use Rattle.std.specs.Prelude.{◌≡◌, ◌≢◌, ℕ, ◌+◌, ◌<◌,
 ghost use Rattle.std.specs.Option.{ForSome};
 ghost use Rattle.pif_model.specs.Graph.{Reaches};
 ghost use Rattle.pif_nodes.specs.declared.keys.Key.{Key as RankSeen};
-ghost use Rattle.pif_owners.specs.Owners.{no_owners, seat_at, owner_at, count, waits_on, rank_of, WaitsFor, IsAcyclic, IsSound, IsTop, HasNoWaiter, KeepsOrder, with_seat, with_base, with_local, with_wait, with_prio, with_ticket, with_owner, without_state};
+ghost use Rattle.pif_owners.specs.Owners.{no_owners, seat_at, owner_at, count, waits_on, rank_of, WaitsFor, IsAcyclic, AreSoundOwners, IsTop, HasNoWaiter, KeepsOrder, with_seat, with_base, with_local, with_wait, with_prio, with_ticket, with_owner, without_state};
 ghost use Rattle.pif_rtmutex.specs.Behind.{IsLast, IsBehind};
 ghost use Rattle.pif_plain.specs.Standing.{standing, standing_behind};
 
@@ -46,7 +46,7 @@ pub struct RtMutexes {
 
 impl Model for RtMutexes {
     ghost use Rattle.std.specs.Prelude.{◌+◌, ◌≤◌, length};
-    ghost use Rattle.pif_owners.specs.Owners.{Owners, owners_code, IsSound};
+    ghost use Rattle.pif_owners.specs.Owners.{Owners, owners_code, AreSoundOwners};
     ghost use Rattle.pif_plain.specs.StateFields.{owners_from};
 
     ghost Value = { Owners };
@@ -57,7 +57,7 @@ impl Model for RtMutexes {
 
     ghost invariant = { λ m. record {
       room : length m.rows.items ≤ m.owners.capacity + 1;
-      sound : IsSound (owners_from m.rows.items m.owners);
+      sound : AreSoundOwners (owners_from m.rows.items m.owners);
     } };
 }
 
@@ -77,7 +77,7 @@ impl RtMutexes {
     pub fn threads(&self) -> u32
         ensures value { result + 1 ≡ length self.now.seats }
         ensures most { result ≤ 1024 }
-        ensures sound { IsSound self.now }
+        ensures sound { AreSoundOwners self.now }
     {
         self.rows.len() as u32 - 1
     }
@@ -301,7 +301,7 @@ impl RtMutexes {
     /// The row of a thread.
     fn row(&self, t: u32) -> Row
         ensures value { result ≡ seat_at self.now t }
-        ensures sound { IsSound self.now }
+        ensures sound { AreSoundOwners self.now }
     {
         if (t as usize) < self.rows.len() {
             self.rows[t as usize]
@@ -312,9 +312,9 @@ impl RtMutexes {
 
     /// Makes `row` the row of a thread, if it has one.
     fn put(&mut self, t: Tid, row: Row)
-        requires { 1 ≤ t → IsSound self.old → IsSound (with_seat t row self.old) }
+        requires { 1 ≤ t → AreSoundOwners self.old → AreSoundOwners (with_seat t row self.old) }
         ensures put { self.new ≡ with_seat t row self.old }
-        ensures sound { IsSound self.new }
+        ensures sound { AreSoundOwners self.new }
     {
         let place = t.get() as usize;
         if place < self.rows.len() {
@@ -324,9 +324,9 @@ impl RtMutexes {
 
     /// Lets a thread wait for this, or for nothing.
     fn set_wait(&mut self, t: Tid, wait: Option<Wait>)
-        requires { 1 ≤ t → IsSound self.old → IsSound (with_wait t wait self.old) }
+        requires { 1 ≤ t → AreSoundOwners self.old → AreSoundOwners (with_wait t wait self.old) }
         ensures put { self.new ≡ with_wait t wait self.old }
-        ensures sound { IsSound self.new }
+        ensures sound { AreSoundOwners self.new }
     {
         let row = self.row(t.get());
         self.put(t, row.with_wait(wait));
@@ -335,9 +335,9 @@ impl RtMutexes {
     /// Makes `owner` the owner of a state.
     fn set_owner(&mut self, key: Key, owner: Tid)
         requires state { IsSome (owner_at self.old key) }
-        requires sound { IsSound self.old → IsSound (with_owner key owner self.old) }
+        requires sound { AreSoundOwners self.old → AreSoundOwners (with_owner key owner self.old) }
         ensures put { self.new ≡ with_owner key owner self.old }
-        ensures sound { IsSound self.new }
+        ensures sound { AreSoundOwners self.new }
     {
         self.owners[key.get()] = owner;
     }

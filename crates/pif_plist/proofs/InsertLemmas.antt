@@ -3,11 +3,11 @@ use Rattle.std.proofs.Common.{◌≡◌, ℕ, ◌<◌, true, false, List, [], �
 use Rattle.std.proofs.lemmas.Bool.{false_from_ne_true}
 use Rattle.std.proofs.lemmas.List.{append_assoc, get_or-set_same, get_or-set_other}
 use Rattle.pif_nodes.specs.declared.keys.Key.{Key}
-use Rattle.pif_nodes.specs.Lists.{has, first_of, last_of, insert_after, without, HasNoRepeats}
-use Rattle.pif_nodes.specs.Table.{Table, list_at, holder, with_list, with_key, IsApart}
+use Rattle.pif_nodes.specs.Lists.{has, first_of, last_of, insert_after, list_without, HasNoRepeats}
+use Rattle.pif_nodes.specs.Table.{NodeLists, list_at, holder, with_list, with_key, IsApart}
 use Rattle.pif_nodes.proofs.ListLemmas.{has-left, has-right, last_of-has, first_of-has, last_split, last_some, apart_by_has, HasNoRepeats-taken, put_after-split}
 use Rattle.pif_plist.specs.Order.{comes_before, key_in, IsInOrder, IsSorted, list_after_insert, table_after_insert, table_after_remove, OthersStaySorted, IsPlace}
-use Rattle.pif_plist.proofs.OrderLemmas.{IsInOrder-same, IsInOrder-put, IsInOrder-without, placed-split, back_no_earlier}
+use Rattle.pif_plist.proofs.OrderLemmas.{IsInOrder-same, IsInOrder-put, IsInOrder-list_without, placed-split, back_no_earlier}
 
 -- a number put after the last of a front stands between the front and the back
 insert_after-last : (front back : List ℕ) (n : ℕ) (place : Option ℕ) → place ≡ last_of front → HasNoRepeats (front ++ back) → insert_after place n (front ++ back) ≡ front ++ n ∷ back
@@ -22,10 +22,10 @@ insert_after-last (x ∷ xs) back n (Some p) at once =
     ∙ sym (ap (λ zs. zs ++ n ∷ back) cut.1 ∙ append_assoc cut.0 (p ∷ []) (n ∷ back))
 
 -- other lists are as they were
-pub list_at-other : (t : Table) (l j : ℕ) (xs : List ℕ) → (j ≡ l → ⊥) → list_at (with_list t l xs) j ≡ list_at t j
+pub list_at-other : (t : NodeLists) (l j : ℕ) (xs : List ℕ) → (j ≡ l → ⊥) → list_at (with_list t l xs) j ≡ list_at t j
 list_at-other t l j xs ne = get_or-set_other t.lists l j xs [] ne
 
-pub list_at-same : (t : Table) (l : ℕ) (xs : List ℕ) → l < length t.lists → list_at (with_list t l xs) l ≡ xs
+pub list_at-same : (t : NodeLists) (l : ℕ) (xs : List ℕ) → l < length t.lists → list_at (with_list t l xs) l ≡ xs
 list_at-same t l xs l_in = get_or-set_same t.lists l xs [] l_in
 
 -- a list that doesn't have a node stays in order where only that node's key changes
@@ -34,10 +34,10 @@ IsInOrder-elsewhere keys n k xs absent h =
     IsInOrder-same keys (set keys n k) xs (λ m in'. get_or-set_other keys n m k (record { prio = 0; ticket = 0 }) (apart_by_has m n xs in' absent)) h
 
 -- a list other than the one in which a node is doesn't have it
-pub absent_elsewhere : (t : Table) (n j : ℕ) (o : Option ℕ) → IsApart t → holder t n ≡ o → (o ≡ Some j → ⊥) → has n (list_at t j) ≡ false
+pub absent_elsewhere : (t : NodeLists) (n j : ℕ) (o : Option ℕ) → IsApart t → holder t n ≡ o → (o ≡ Some j → ⊥) → has n (list_at t j) ≡ false
 absent_elsewhere t n j o apart h other = false_from_ne_true (has n (list_at t j)) (λ e. other (sym h ∙ apart.alone j n e))
 
-module _ (t : Table) (l n : ℕ) (k : Key) (place : Option ℕ) (apart : IsApart t) (n_in : n < length t.keys) (l_in : l < length t.lists)
+module _ (t : NodeLists) (l n : ℕ) (k : Key) (place : Option ℕ) (apart : IsApart t) (n_in : n < length t.keys) (l_in : l < length t.lists)
     (out : holder t n ≡ None) (sorted : IsSorted t l) (at : IsPlace t.keys k (list_at t l) place) where
   abbrev keys : List Key
   keys = set t.keys n k
@@ -90,5 +90,5 @@ module _ (t : Table) (l n : ℕ) (k : Key) (place : Option ℕ) (apart : IsApart
   place_held p e = apart.alone l p (in_list p (has-left p at.front at.back (last_of-has at.front p (sym at.at ∙ e))))
 
 -- a sorted list of a table without one of its nodes, and the others
-pub removed_sorted : (t : Table) (l n : ℕ) → l < length t.lists → IsSorted t l → IsSorted (table_after_remove t l n) l
-removed_sorted t l n l_in sorted = subst (IsInOrder t.keys) (sym (list_at-same t l (without n (list_at t l)) l_in)) (IsInOrder-without t.keys n (list_at t l) sorted)
+pub removed_sorted : (t : NodeLists) (l n : ℕ) → l < length t.lists → IsSorted t l → IsSorted (table_after_remove t l n) l
+removed_sorted t l n l_in sorted = subst (IsInOrder t.keys) (sym (list_at-same t l (list_without n (list_at t l)) l_in)) (IsInOrder-list_without t.keys n (list_at t l) sorted)

@@ -2,7 +2,7 @@
 use Rattle.std.proofs.Common.{◌≡◌, ℕ, ◌<◌, true, false, eqb, ltb, ◌||◌, ◌&&◌, List, [], ◌∷◌, ◌++◌, Some, refl, sym, ◌∙◌, ap, ◌⊎◌, inl, inr, ⊎_elim, arith}
 use Rattle.std.proofs.lemmas.Bool.{cases_Bool, both_ways, or_cases, or_left, or_right, or_from, and_parts, and_from, and_right, eqb-true, eq-eqb, ltb-true, lt-ltb, le-ltb, false_from_ne_true, cases_eq}
 use Rattle.pif_nodes.specs.declared.keys.Key.{Key}
-use Rattle.pif_nodes.specs.Lists.{has, first_of, without}
+use Rattle.pif_nodes.specs.Lists.{has, first_of, list_without}
 use Rattle.pif_nodes.proofs.ListLemmas.{has-right, has-head, has-put}
 use Rattle.pif_plist.specs.Order.{comes_before, key_in, IsInOrder, list_after_insert}
 
@@ -59,21 +59,21 @@ IsInOrder-same was now (x ∷ xs) same h = (
 )
 
 -- what a list without a number has, the list has
-pub has-from_without : (n m : ℕ) (xs : List ℕ) → has m (without n xs) ≡ true → has m xs ≡ true
+pub has-from_without : (n m : ℕ) (xs : List ℕ) → has m (list_without n xs) ≡ true → has m xs ≡ true
 has-from_without n m [] h = h
 has-from_without n m (x ∷ xs) h = ⊎_elim
-    (λ e. let rest : has m (without n xs) ≡ true = rw e at h in or_right (eqb m x) (has m xs) (has-from_without n m xs rest))
-    (λ e. let kept : (eqb m x || has m (without n xs)) ≡ true = rw e at h in
+    (λ e. let rest : has m (list_without n xs) ≡ true = rw e at h in or_right (eqb m x) (has m xs) (has-from_without n m xs rest))
+    (λ e. let kept : (eqb m x || has m (list_without n xs)) ≡ true = rw e at h in
     ⊎_elim (λ same. or_left (eqb m x) (has m xs) same) (λ rest. or_right (eqb m x) (has m xs) (has-from_without n m xs rest))
-    (or_cases (eqb m x) (has m (without n xs)) kept))
+    (or_cases (eqb m x) (has m (list_without n xs)) kept))
     (cases_Bool (eqb n x))
 
 -- a list stays in order without one of its numbers
-pub IsInOrder-without : (keys : List Key) (n : ℕ) (xs : List ℕ) → IsInOrder keys xs → IsInOrder keys (without n xs)
-IsInOrder-without keys n [] h = h
-IsInOrder-without keys n (x ∷ xs) h = ⊎_elim
-    (λ e. rw e (IsInOrder-without keys n xs h.1))
-    (λ e. rw e ((λ y in'. h.0 y (has-from_without n y xs in')), IsInOrder-without keys n xs h.1))
+pub IsInOrder-list_without : (keys : List Key) (n : ℕ) (xs : List ℕ) → IsInOrder keys xs → IsInOrder keys (list_without n xs)
+IsInOrder-list_without keys n [] h = h
+IsInOrder-list_without keys n (x ∷ xs) h = ⊎_elim
+    (λ e. rw e (IsInOrder-list_without keys n xs h.1))
+    (λ e. rw e ((λ y in'. h.0 y (has-from_without n y xs in')), IsInOrder-list_without keys n xs h.1))
     (cases_Bool (eqb n x))
 
 -- the last of a list in order comes no earlier than the others

@@ -4,11 +4,11 @@ use Rattle.std.proofs.lemmas.Bool.{or_cases, eqb-true}
 use Rattle.std.proofs.lemmas.List.{get_or-set_same, get_or-set_other, set-set, set-get_or}
 use Rattle.std.proofs.lemmas.Option.{same_Some}
 use Rattle.pif_nodes.specs.declared.keys.Key.{Key}
-use Rattle.pif_nodes.specs.Lists.{has, first_of, last_of, next_in, prev_in, without, HasNoRepeats}
-use Rattle.pif_nodes.specs.Table.{Table, list_at, holder, next_of, prev_of, with_key, no_key, IsApart}
-use Rattle.pif_nodes.proofs.ListLemmas.{has_split, has-left, has-head, apart_by_has, next_in-split, prev_from-split, without-split, HasNoRepeats-taken, first_of-has, has-without, next_in-has, prev_in-has}
+use Rattle.pif_nodes.specs.Lists.{has, first_of, last_of, next_in_list, prev_in_list, list_without, HasNoRepeats}
+use Rattle.pif_nodes.specs.Table.{NodeLists, list_at, holder, next_node, prev_node, with_key, no_key, IsApart}
+use Rattle.pif_nodes.proofs.ListLemmas.{has_split, has-left, has-head, apart_by_has, next_in_list-split, prev_from-split, list_without-split, HasNoRepeats-taken, first_of-has, has-list_without, next_in_list-has, prev_in_list-has}
 use Rattle.pif_plist.specs.Order.{comes_before, key_in, IsInOrder, IsSorted, list_after_insert, table_after_insert, table_after_remove, FitsBetween, OthersStaySorted}
-use Rattle.pif_plist.proofs.OrderLemmas.{not_before-trans, placed-split, back_no_earlier, IsInOrder-put, IsInOrder-without}
+use Rattle.pif_plist.proofs.OrderLemmas.{not_before-trans, placed-split, back_no_earlier, IsInOrder-put, IsInOrder-list_without}
 use Rattle.pif_plist.proofs.InsertLemmas.{list_at-same, IsInOrder-elsewhere, absent_elsewhere}
 use Rattle.pif_plist.proofs.WalkLemmas.{next_of_is}
 
@@ -34,28 +34,28 @@ none_later keys k (x ∷ y ∷ ys) h last m in' = ⊎_elim
     (or_cases (eqb m x) (has m (y ∷ ys)) in')
 
 -- where only the key of one node changes, the lists that don't have it stay sorted
-pub rekeyed_others : (t : Table) (l n : ℕ) (k : Key) → IsApart (with_key t n k) → holder t n ≡ Some l
+pub rekeyed_others : (t : NodeLists) (l n : ℕ) (k : Key) → IsApart (with_key t n k) → holder t n ≡ Some l
     → OthersStaySorted t (with_key t n k) l
 rekeyed_others t l n k apart held j ne h =
     IsInOrder-elsewhere t.keys n k (list_at t j)
     (absent_elsewhere (with_key t n k) n j (Some l) apart held (λ e. ne (sym (same_Some l j e)))) h
 
 -- the neighbours of a node are nodes of the table
-pub prev_there : (t : Table) (n m : ℕ) → IsApart t → prev_of t n ≡ Some m → m < length t.keys
+pub prev_there : (t : NodeLists) (n m : ℕ) → IsApart t → prev_node t n ≡ Some m → m < length t.keys
 prev_there t n m apart e = by_holder (holder t n) e
   where
-    by_holder : (o : Option ℕ) → option_and_then (λ l. prev_in (list_at t l) n) o ≡ Some m → m < length t.keys
+    by_holder : (o : Option ℕ) → option_and_then (λ l. prev_in_list (list_at t l) n) o ≡ Some m → m < length t.keys
     by_holder None h = absurd cc
-    by_holder (Some l) h = apart.nodes l m (apart.alone l m (prev_in-has (list_at t l) n m h))
+    by_holder (Some l) h = apart.nodes l m (apart.alone l m (prev_in_list-has (list_at t l) n m h))
 
-pub next_there : (t : Table) (n m : ℕ) → IsApart t → next_of t n ≡ Some m → m < length t.keys
+pub next_there : (t : NodeLists) (n m : ℕ) → IsApart t → next_node t n ≡ Some m → m < length t.keys
 next_there t n m apart e = by_holder (holder t n) e
   where
-    by_holder : (o : Option ℕ) → option_and_then (λ l. next_in (list_at t l) n) o ≡ Some m → m < length t.keys
+    by_holder : (o : Option ℕ) → option_and_then (λ l. next_in_list (list_at t l) n) o ≡ Some m → m < length t.keys
     by_holder None h = absurd cc
-    by_holder (Some l) h = apart.nodes l m (apart.alone l m (next_in-has (list_at t l) n m h))
+    by_holder (Some l) h = apart.nodes l m (apart.alone l m (next_in_list-has (list_at t l) n m h))
 
-module _ (t : Table) (l n : ℕ) (k : Key) (apart : IsApart t) (held : holder t n ≡ Some l) (sorted : IsSorted t l)
+module _ (t : NodeLists) (l n : ℕ) (k : Key) (apart : IsApart t) (held : holder t n ≡ Some l) (sorted : IsSorted t l)
     (fits : FitsBetween t n k) where
   listed : has n (list_at t l) ≡ true
   listed = apart.listed l n held
@@ -73,13 +73,13 @@ module _ (t : Table) (l n : ℕ) (k : Key) (apart : IsApart t) (held : holder t 
   free : HasNoRepeats (front ++ back) × (has n front ≡ false) × (has n back ≡ false)
   free = HasNoRepeats-taken front back n (subst HasNoRepeats parts (apart.once l))
 
-  next_is : next_of t n ≡ first_of back
-  next_is = next_of_is t l n apart listed ∙ ap (λ zs. next_in zs n) parts ∙ next_in-split front back n free.1
+  next_is : next_node t n ≡ first_of back
+  next_is = next_of_is t l n apart listed ∙ ap (λ zs. next_in_list zs n) parts ∙ next_in_list-split front back n free.1
 
-  prev_is : prev_of t n ≡ last_of front
+  prev_is : prev_node t n ≡ last_of front
   prev_is =
-      ap (λ o. option_and_then (λ j. prev_in (list_at t j) n) o) held
-      ∙ ap (λ zs. prev_in zs n) parts ∙ prev_from-split None front back n free.1
+      ap (λ o. option_and_then (λ j. prev_in_list (list_at t j) n) o) held
+      ∙ ap (λ zs. prev_in_list zs n) parts ∙ prev_from-split None front back n free.1
 
   abbrev keys : List Key
   keys = set t.keys n k
@@ -101,27 +101,27 @@ module _ (t : Table) (l n : ℕ) (k : Key) (apart : IsApart t) (held : holder t 
       (λ i. comes_before (key_new i) (key_kept m back (first_of-has back m first) free.2 i))
       ∙ fits.behind m (next_is ∙ first)
 
-  without_is : without n (list_at t l) ≡ front ++ back
-  without_is = ap (without n) parts ∙ without-split front back n free.1 free.2
+  without_is : list_without n (list_at t l) ≡ front ++ back
+  without_is = ap (list_without n) parts ∙ list_without-split front back n free.1 free.2
 
   -- a node that fits between its neighbours with another key is put where it was
   pub rekeyed-in_place : table_after_insert (table_after_remove t l n) l n k ≡ with_key t n k
   rekeyed-in_place =
       let put : list_after_insert keys n (list_at (table_after_remove t l n) l) ≡ list_at t l =
-      ap (list_after_insert keys n) (list_at-same t l (without n (list_at t l)) (apart.lists l n held) ∙ without_is)
+      ap (list_after_insert keys n) (list_at-same t l (list_without n (list_at t l)) (apart.lists l n held) ∙ without_is)
       ∙ placed-split keys n front back before behind ∙ sym parts in
       ap (λ (ls : List (List ℕ)). record { lists = ls; keys = keys })
-      (ap (λ zs. set (set t.lists l (without n (list_at t l))) l zs) put
-      ∙ set-set t.lists l (without n (list_at t l)) (list_at t l) ∙ set-get_or t.lists l [])
+      (ap (λ zs. set (set t.lists l (list_without n (list_at t l))) l zs) put
+      ∙ set-set t.lists l (list_without n (list_at t l)) (list_at t l) ∙ set-get_or t.lists l [])
 
   -- and its list is still sorted
   pub rekeyed_sorted : IsSorted (with_key t n k) l
   rekeyed_sorted =
       let rest : IsInOrder keys (front ++ back) =
       subst (IsInOrder keys) without_is
-      (IsInOrder-elsewhere t.keys n k (without n (list_at t l)) (absent_rest) (IsInOrder-without t.keys n (list_at t l) sorted)) in
+      (IsInOrder-elsewhere t.keys n k (list_without n (list_at t l)) (absent_rest) (IsInOrder-list_without t.keys n (list_at t l) sorted)) in
       subst (IsInOrder keys) (sym parts)
       (IsInOrder-put keys n front back rest before (back_no_earlier keys (key_in keys n) front back rest behind))
     where
-      absent_rest : has n (without n (list_at t l)) ≡ false
-      absent_rest = has-without n (list_at t l)
+      absent_rest : has n (list_without n (list_at t l)) ≡ false
+      absent_rest = has-list_without n (list_at t l)

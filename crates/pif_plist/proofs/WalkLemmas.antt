@@ -3,9 +3,9 @@ use Rattle.std.proofs.Common.{◌≡◌, ℕ, ◌+◌, ◌<◌, true, false, con
 use Rattle.std.proofs.lemmas.Bool.{or_parts, or_cases, eqb-true, eq-eqb}
 use Rattle.std.proofs.lemmas.List.{append_assoc, append-nil}
 use Rattle.pif_nodes.specs.declared.keys.Key.{Key}
-use Rattle.pif_nodes.specs.Lists.{has, first_of, last_of, next_in, HasNoRepeats}
-use Rattle.pif_nodes.specs.Table.{Table, list_at, next_of, IsApart}
-use Rattle.pif_nodes.proofs.ListLemmas.{has-append, has-right, has-head, last_split, last_or-append, HasNoRepeats-taken, next_in-split}
+use Rattle.pif_nodes.specs.Lists.{has, first_of, last_of, next_in_list, HasNoRepeats}
+use Rattle.pif_nodes.specs.Table.{NodeLists, list_at, next_node, IsApart}
+use Rattle.pif_nodes.proofs.ListLemmas.{has-append, has-right, has-head, last_split, last_or-append, HasNoRepeats-taken, next_in_list-split}
 use Rattle.pif_plist.specs.Order.{comes_before, key_in, IsInOrder, IsPlace}
 use Rattle.pif_plist.proofs.OrderLemmas.{last_no_earlier, not_before-trans}
 
@@ -58,11 +58,11 @@ module _ (keys : List Key) (k : Key) (xs : List ℕ) (place : Option ℕ) (n : �
   pub walk_has : has n xs ≡ true
   walk_has = ap (has n) parts ∙ has-right n walked.front (n ∷ rest) (has-head n rest)
 
-  next_is : HasNoRepeats xs → next_in xs n ≡ first_of rest
-  next_is once = ap (λ zs. next_in zs n) parts ∙ next_in-split walked.front rest n (HasNoRepeats-taken walked.front rest n (subst HasNoRepeats parts once)).1
+  next_is : HasNoRepeats xs → next_in_list xs n ≡ first_of rest
+  next_is once = ap (λ zs. next_in_list zs n) parts ∙ next_in_list-split walked.front rest n (HasNoRepeats-taken walked.front rest n (subst HasNoRepeats parts once)).1
 
   -- past a node that comes no later
-  pub walk_step : (next : Option ℕ) → HasNoRepeats xs → comes_before k (key_in keys n) ≡ false → next ≡ next_in xs n → IsWalked keys k xs (Some n) next
+  pub walk_step : (next : Option ℕ) → HasNoRepeats xs → comes_before k (key_in keys n) ≡ false → next ≡ next_in_list xs n → IsWalked keys k xs (Some n) next
   walk_step next once no_later to = record {
     front = walked.front ++ n ∷ [];
     back = rest;
@@ -79,7 +79,7 @@ module _ (keys : List Key) (k : Key) (xs : List ℕ) (place : Option ℕ) (n : �
   }
 
   -- and less is left then
-  pub walk_smaller : (next : Option ℕ) → HasNoRepeats xs → next ≡ next_in xs n → left next xs < left (Some n) xs
+  pub walk_smaller : (next : Option ℕ) → HasNoRepeats xs → next ≡ next_in_list xs n → left next xs < left (Some n) xs
   walk_smaller next once to =
       let here : left (Some n) xs ≡ length (n ∷ rest) = ap (count_from n) parts ∙ left-split walked.front (n ∷ rest) (subst HasNoRepeats parts once) in
       let there : left next xs ≡ length rest = (λ i. left ((to ∙ next_is once) i) (longer i)) ∙ left-split (walked.front ++ n ∷ []) rest (subst HasNoRepeats longer once) in
@@ -128,5 +128,5 @@ place_at_end keys k (x ∷ xs) p order last no_later =
     }
 
 -- the node after one in its list
-pub next_of_is : (t : Table) (l n : ℕ) → IsApart t → has n (list_at t l) ≡ true → next_of t n ≡ next_in (list_at t l) n
-next_of_is t l n apart h = ap (λ o. option_and_then (λ j. next_in (list_at t j) n) o) (apart.alone l n h)
+pub next_of_is : (t : NodeLists) (l n : ℕ) → IsApart t → has n (list_at t l) ≡ true → next_node t n ≡ next_in_list (list_at t l) n
+next_of_is t l n apart h = ap (λ o. option_and_then (λ j. next_in_list (list_at t j) n) o) (apart.alone l n h)

@@ -1,7 +1,7 @@
 ghost use Rattle.std.specs.Prelude.{◌≡◌, ℕ, ◌<◌, true, false, length, Some, None, nat_eq, if◌then◌else◌};
 ghost use Rattle.pif_nodes.specs.Lists.{has, first_of};
 ghost use Rattle.pif_nodes.specs.Table.{list_at, key_at, holder, with_key, IsApart};
-ghost use Rattle.pif_plist.specs.Order.{comes_before, IsSorted, IsPlace, FitsBetween, OthersStaySorted, table_after_insert, table_after_remove, with_prio, with_ticket};
+ghost use Rattle.pif_plist.specs.Order.{comes_before, IsSorted, IsPlace, FitsBetween, OthersStaySorted, table_after_insert, table_after_remove, key_with_prio, key_with_ticket};
 
 use crate::order::precedes;
 use pif_nodes::{Key, List, Node, NodeTable};
@@ -68,7 +68,7 @@ impl PList {
     pub fn rekey(&self, table: &mut NodeTable, node: Node, prio: u32)
         requires held { holder table.old node ≡ Some self.now }
         requires sorted { IsSorted table.old self.now }
-        ensures moved { table.new ≡ table_after_insert (table_after_remove table.old self.now node) self.now node (with_prio table.old node prio) }
+        ensures moved { table.new ≡ table_after_insert (table_after_remove table.old self.now node) self.now node (key_with_prio table.old node prio) }
         ensures holders { (n : ℕ) → holder table.new n ≡ holder table.old n }
         ensures sorted { IsSorted table.new self.now }
         ensures others { OthersStaySorted table.old table.new self.now }
@@ -90,8 +90,8 @@ impl PList {
         requires node_in { node < length table.old.keys }
         requires held { holder table.old node ≡ Some self.now }
         requires sorted { IsSorted table.old self.now }
-        requires stays_sorted { IsSorted (with_key table.old node (with_ticket table.old node ticket)) self.now }
-        ensures ticketed { table.new ≡ with_key table.old node (with_ticket table.old node ticket) }
+        requires stays_sorted { IsSorted (with_key table.old node (key_with_ticket table.old node ticket)) self.now }
+        ensures ticketed { table.new ≡ with_key table.old node (key_with_ticket table.old node ticket) }
         ensures sorted { IsSorted table.new self.now }
         ensures others { OthersStaySorted table.old table.new self.now }
         ensures apart { IsApart table.new }

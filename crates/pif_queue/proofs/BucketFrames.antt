@@ -1,6 +1,6 @@
 -- A change of the owner states of words keeps what the parked threads have in the table, and the other way round.
 use Rattle.std.proofs.Common.{◌≡◌, ◌⊎◌, ℕ, ◌+◌, ◌<◌, ◌≤◌, length, sym, ◌∙◌, ap, inl, inr, arith}
-use Rattle.pif_nodes.specs.Table.{Table}
+use Rattle.pif_nodes.specs.Table.{NodeLists}
 use Rattle.pif_rtmutex.specs.Frames.{IsBeyond, KeepsLists}
 use Rattle.pif_queue.specs.Frames.{KeepsOthers, KeepsUser}
 use Rattle.pif_queue.specs.Entries.{Entries, found_in, HoldsEntries}
@@ -9,7 +9,7 @@ use Rattle.pif_queue.specs.Buckets.{Buckets, StandApart, HoldsBuckets}
 use Rattle.pif_queue.proofs.EntryFrames.{found-framed, entries-framed}
 use Rattle.pif_queue.proofs.ParkedFrames.{seen-framed, parked-framed}
 
-module _ (b : Buckets) (was now : Table) (apart : StandApart b) where
+module _ (b : Buckets) (was now : NodeLists) (apart : StandApart b) where
   pub lists-keep : KeepsOthers b.entries.first_list 64 b.entries.first_node (length b.entries.items) was now
       → KeepsLists b.parked.first_list b.parked.conds was now
   lists-keep k =
@@ -42,7 +42,7 @@ module _ (b : Buckets) (was now : Table) (apart : StandApart b) where
       beyond n low high (inr behind) = inl (omega (arith, behind))
 
 -- the parked threads once the owner states of words changed
-module _ (b : Buckets) (e : Entries) (was now : Table) (h : HoldsBuckets b was)
+module _ (b : Buckets) (e : Entries) (was now : NodeLists) (h : HoldsBuckets b was)
     (k : KeepsOthers b.entries.first_list 64 b.entries.first_node (length b.entries.items) was now)
     (list : e.first_list ≡ b.entries.first_list) (node : e.first_node ≡ b.entries.first_node)
     (rows : length e.items ≡ length b.entries.items) (holds : HoldsEntries e now) where
@@ -65,7 +65,7 @@ module _ (b : Buckets) (e : Entries) (was now : Table) (h : HoldsBuckets b was)
       nodes (inr behind) = inr (omega (arith, behind, node, rows))
 
 -- the owner states of words once the parked threads changed
-module _ (b : Buckets) (p : ParkedLists) (was now : Table) (h : HoldsBuckets b was)
+module _ (b : Buckets) (p : ParkedLists) (was now : NodeLists) (h : HoldsBuckets b was)
     (k : KeepsOthers b.parked.first_list b.parked.conds b.parked.first_node b.parked.threads was now)
     (list : p.first_list ≡ b.parked.first_list) (node : p.first_node ≡ b.parked.first_node)
     (threads : p.threads ≡ b.parked.threads) (holds : HoldsParked p now) where

@@ -1,8 +1,8 @@
 -- How often neighbours in a list differ, with and without one number.
 use Rattle.std.proofs.Common.{◌≡◌, ◌⊎◌, ℕ, ◌+◌, ◌≤◌, true, false, eqb, cond, List, [], ◌∷◌, ◌++◌, length, Option, Some, None, refl, sym, ◌∙◌, ap, subst, inl, inr, arith}
 use Rattle.std.proofs.lemmas.Bool.{eqb-true, eq-eqb, or_right, or_cases, cases_Bool, false≢true}
-use Rattle.pif_nodes.specs.Lists.{has, first_of, last_of, next_in, prev_in, without, HasNoRepeats}
-use Rattle.pif_nodes.proofs.ListLemmas.{has-head, has_split, next_in-split, prev_from-split, without-split, HasNoRepeats-taken}
+use Rattle.pif_nodes.specs.Lists.{has, first_of, last_of, next_in_list, prev_in_list, list_without, HasNoRepeats}
+use Rattle.pif_nodes.proofs.ListLemmas.{has-head, has_split, next_in_list-split, prev_from-split, list_without-split, HasNoRepeats-taken}
 use Rattle.pif_queue.specs.Differences.{step_between, differences, around, across}
 
 -- of two lists in a row those of each, and what stands between
@@ -18,22 +18,22 @@ differences-append f (x ∷ z ∷ xs) ys =
     ap (λ n. step_between f (Some x) (Some z) + n) rest ∙ omega arith
 
 -- taking a number out takes the differences around it away, and leaves the one between its neighbours
-pub differences-without : (f : ℕ → ℕ) (xs : List ℕ) (n : ℕ) → HasNoRepeats xs → has n xs ≡ true
-    → differences f xs + across f xs n ≡ differences f (without n xs) + around f xs n
-differences-without f xs n once there =
+pub differences-list_without : (f : ℕ → ℕ) (xs : List ℕ) (n : ℕ) → HasNoRepeats xs → has n xs ≡ true
+    → differences f xs + across f xs n ≡ differences f (list_without n xs) + around f xs n
+differences-list_without f xs n once there =
     let cut : (front back : List ℕ) × (xs ≡ front ++ n ∷ back) × (has n front ≡ false) = has_split n xs there in
     let front : List ℕ = cut.0 in
     let back : List ℕ = cut.1 in
     let free : HasNoRepeats (front ++ back) × (has n front ≡ false) × (has n back ≡ false) =
     HasNoRepeats-taken front back n (subst HasNoRepeats cut.2 once) in
-    let next : next_in xs n ≡ first_of back = ap (λ zs. next_in zs n) cut.2 ∙ next_in-split front back n free.1 in
-    let prev : prev_in xs n ≡ last_of front = ap (λ zs. prev_in zs n) cut.2 ∙ prev_from-split None front back n free.1 in
-    let out : without n xs ≡ front ++ back = ap (without n) cut.2 ∙ without-split front back n free.1 free.2 in
+    let next : next_in_list xs n ≡ first_of back = ap (λ zs. next_in_list zs n) cut.2 ∙ next_in_list-split front back n free.1 in
+    let prev : prev_in_list xs n ≡ last_of front = ap (λ zs. prev_in_list zs n) cut.2 ∙ prev_from-split None front back n free.1 in
+    let out : list_without n xs ≡ front ++ back = ap (list_without n) cut.2 ∙ list_without-split front back n free.1 free.2 in
     let whole : differences f xs
     ≡ differences f front + step_between f (last_of front) (Some n)
     + (step_between f (Some n) (first_of back) + differences f back) =
     ap (differences f) cut.2 ∙ differences-append f front (n ∷ back) in
-    let less : differences f (without n xs)
+    let less : differences f (list_without n xs)
     ≡ differences f front + step_between f (last_of front) (first_of back) + differences f back =
     ap (differences f) out ∙ differences-append f front back in
     let over : across f xs n ≡ step_between f (last_of front) (first_of back) =
@@ -109,4 +109,4 @@ pub differences-most : (f : ℕ → ℕ) (xs : List ℕ) (n : ℕ) → has n xs 
     → differences f xs + across f xs n ≤ length xs
 differences-most f [] n there = absurd (false≢true there)
 differences-most f (x ∷ xs) n there =
-    omega (arith, differences-fewer f x xs, step-most f (prev_in (x ∷ xs) n) (next_in (x ∷ xs) n))
+    omega (arith, differences-fewer f x xs, step-most f (prev_in_list (x ∷ xs) n) (next_in_list (x ∷ xs) n))

@@ -3,28 +3,28 @@ use Rattle.std.proofs.Common.{◌≡◌, ◌≢◌, ◌⊎◌, ℕ, ◌+◌, ◌
 use Rattle.std.proofs.lemmas.Bool.{cases_eq, eq-eqb, ne_eqb, false≢true}
 use Rattle.std.proofs.lemmas.List.{get_or-set_same, get_or-set_other, length-set}
 use Rattle.std.proofs.lemmas.Option.{same_Some}
-use Rattle.pif_nodes.specs.Lists.{has, without}
-use Rattle.pif_nodes.specs.Table.{Table, list_at, key_at, holder, with_list, IsApart}
+use Rattle.pif_nodes.specs.Lists.{has, list_without}
+use Rattle.pif_nodes.specs.Table.{NodeLists, list_at, key_at, holder, with_list, IsApart}
 use Rattle.pif_plist.proofs.InsertLemmas.{list_at-other}
 use Rattle.pif_rtmutex.specs.Frames.{IsBeyond}
 use Rattle.pif_queue.specs.Frames.{KeepsOthers}
-use Rattle.pif_queue.specs.Entries.{Entry, Entries, Found, no_entry, entry_at, bucket_of, node_of, row_of, word_of, node_with, found_at, found_in, IsRow, IsEntered, HoldsEntries}
+use Rattle.pif_queue.specs.Entries.{Entry, Entries, Found, no_entry, entry_at, bucket_of, node_of, row_of, word_of_node, node_with, found_at, found_in, IsRow, IsEntered, HoldsEntries}
 use Rattle.pif_queue.proofs.Firsts.{options-same, option-cases}
 use Rattle.pif_queue.proofs.EntryLemmas.{bucket-below, is-some, with-stands, stands-with, row-free, no-node}
 
 -- a change of the list of a bucket and of a row's node leaves all that is of others
-pub others-kept : (e : Entries) (t now : Table) (w n : ℕ) (xs : List ℕ) → e.first_node ≤ n
+pub others-kept : (e : Entries) (t now : NodeLists) (w n : ℕ) (xs : List ℕ) → e.first_node ≤ n
     → n < e.first_node + length e.items
     → now ≡ with_list t (bucket_of e w) xs → ((m : ℕ) → m ≢ n → holder now m ≡ holder t m)
     → KeepsOthers e.first_list 64 e.first_node (length e.items) t now
 others-kept e t now w n xs low high put holders =
     record {
-      lists = λ l beyond. ap (λ (x : Table). list_at x l) put
+      lists = λ l beyond. ap (λ (x : NodeLists). list_at x l) put
           ∙ list_at-other t (bucket_of e w) l xs (λ same. out l beyond same);
-      keys = λ l m beyond there. ap (λ (x : Table). key_at x m) put;
+      keys = λ l m beyond there. ap (λ (x : NodeLists). key_at x m) put;
       holders = λ m beyond. holders m (λ same. out_node m beyond same);
-      list_count = ap (λ (x : Table). length x.lists) put ∙ length-set t.lists (bucket_of e w) xs;
-      node_count = ap (λ (x : Table). length x.keys) put;
+      list_count = ap (λ (x : NodeLists). length x.lists) put ∙ length-set t.lists (bucket_of e w) xs;
+      node_count = ap (λ (x : NodeLists). length x.keys) put;
     }
   where
     out : (l : ℕ) → IsBeyond e.first_list 64 l → l ≡ bucket_of e w → ⊥
@@ -36,7 +36,7 @@ others-kept e t now w n xs low high put holders =
     out_node m (inr behind) same = absurd (omega (arith, behind, same, high))
 
 -- a word gets an owner state, of a row that no word has
-module _ (e : Entries) (t now : Table) (w key r : ℕ) (h : HoldsEntries e t) (row : IsRow e r)
+module _ (e : Entries) (t now : NodeLists) (w key r : ℕ) (h : HoldsEntries e t) (row : IsRow e r)
     (free : (v : ℕ) (f : Found) → found_in e t v ≡ Some f → f.row ≢ r) (none : found_in e t w ≡ None)
     (put : now ≡ with_list t (bucket_of e w) (node_of e r ∷ list_at t (bucket_of e w)))
     (holders : (m : ℕ) → holder now m ≡ cond (eqb m (node_of e r)) (Some (bucket_of e w)) (holder t m))
@@ -122,7 +122,7 @@ module _ (e : Entries) (t now : Table) (w key r : ℕ) (h : HoldsEntries e t) (r
           let list : holder t (node_of e s) ≡ Some (e.first_list + at.0) = some.1 ∙ ap Some at.2 in
           let is : IsEntered e at.0 (node_of e s) =
           h.entered at.0 (node_of e s) at.1 (h.apart.listed (e.first_list + at.0) (node_of e s) list) in
-          let mine : word_of e (node_of e s) ≡ w = ap (λ x. (entry_at e x).word) (omega arith) ∙ word in
+          let mine : word_of_node e (node_of e s) ≡ w = ap (λ x. (entry_at e x).word) (omega arith) ∙ word in
           let bucket : e.first_list + at.0 ≡ bucket_of e w = ap (λ b. e.first_list + b) (sym is.bucket
           ∙ ap (λ x. x % 64) mine) in
           let found : node_with e t w ≡ Some (node_of e s) =
@@ -168,16 +168,16 @@ module _ (e : Entries) (t now : Table) (w key r : ℕ) (h : HoldsEntries e t) (r
     where
       to : (n : ℕ) → node_with next now v ≡ Some n → node_with e t v ≡ Some n
       to n at =
-          let is : (holder now n ≡ Some (bucket_of e v)) × (word_of next n ≡ v) × IsEntered next (v % 64) n =
+          let is : (holder now n ≡ Some (bucket_of e v)) × (word_of_node next n ≡ v) × IsEntered next (v % 64) n =
           with-stands next now put-holds v n at in
-          let other : n ≢ node_of e r = λ same. ne (sym is.1 ∙ ap (word_of next) same
+          let other : n ≢ node_of e r = λ same. ne (sym is.1 ∙ ap (word_of_node next) same
           ∙ ap (λ (x : Entry). x.word) at-node) in
           stands-with e t h v n (sym (held-other n other) ∙ is.0)
           (ap (λ (x : Entry). x.word) (sym (at-other (row_of e n) (row-other n is.2.low other))) ∙ is.1)
 
       from : (n : ℕ) → node_with e t v ≡ Some n → node_with next now v ≡ Some n
       from n at =
-          let is : (holder t n ≡ Some (bucket_of e v)) × (word_of e n ≡ v) × IsEntered e (v % 64) n =
+          let is : (holder t n ≡ Some (bucket_of e v)) × (word_of_node e n ≡ v) × IsEntered e (v % 64) n =
           with-stands e t h v n at in
           let other : n ≢ node_of e r = was-other n (bucket_of e v) is.0 in
           stands-with next now put-holds v n (held-other n other ∙ is.0)
@@ -190,7 +190,7 @@ module _ (e : Entries) (t now : Table) (w key r : ℕ) (h : HoldsEntries e t) (r
       same_found : (o : Option ℕ) → node_with e t v ≡ o → option_map (found_at next) o ≡ option_map (found_at e) o
       same_found None at = refl
       same_found (Some n) at =
-          let is : (holder t n ≡ Some (bucket_of e v)) × (word_of e n ≡ v) × IsEntered e (v % 64) n =
+          let is : (holder t n ≡ Some (bucket_of e v)) × (word_of_node e n ≡ v) × IsEntered e (v % 64) n =
           with-stands e t h v n at in
           ap (λ (x : Entry). Some (record { key = x.key; row = row_of e n }))
           (at-other (row_of e n) (row-other n is.2.low (was-other n (bucket_of e v) is.0)))
@@ -208,10 +208,10 @@ module _ (e : Entries) (t now : Table) (w key r : ℕ) (h : HoldsEntries e t) (r
           ∙ ap (λ b. cond b (Some (record { key = key; row = r })) (found_in e t v)) (sym (ne_eqb v w ne))
 
 -- the owner state of a word goes
-module _ (e : Entries) (t now : Table) (w n : ℕ) (h : HoldsEntries e t) (at : node_with e t w ≡ Some n)
-    (taken : now ≡ with_list t (bucket_of e w) (without n (list_at t (bucket_of e w))))
+module _ (e : Entries) (t now : NodeLists) (w n : ℕ) (h : HoldsEntries e t) (at : node_with e t w ≡ Some n)
+    (taken : now ≡ with_list t (bucket_of e w) (list_without n (list_at t (bucket_of e w))))
     (holders : (m : ℕ) → holder now m ≡ cond (eqb m n) None (holder t m)) (apart : IsApart now) where
-  is-here : (holder t n ≡ Some (bucket_of e w)) × (word_of e n ≡ w) × IsEntered e (w % 64) n
+  is-here : (holder t n ≡ Some (bucket_of e w)) × (word_of_node e n ≡ w) × IsEntered e (w % 64) n
   is-here = with-stands e t h w n at
 
   gone : holder now n ≡ None
@@ -236,7 +236,7 @@ module _ (e : Entries) (t now : Table) (w n : ℕ) (h : HoldsEntries e t) (at : 
 
   pub forgot-outside : KeepsOthers e.first_list 64 e.first_node (length e.items) t now
   forgot-outside =
-      others-kept e t now w n (without n (list_at t (bucket_of e w))) is-here.2.low
+      others-kept e t now w n (list_without n (list_at t (bucket_of e w))) is-here.2.low
       (omega (arith, is-here.2.low, is-here.2.row)) taken kept
 
   pub forgot-holds : HoldsEntries e now
@@ -258,16 +258,16 @@ module _ (e : Entries) (t now : Table) (w n : ℕ) (h : HoldsEntries e t) (at : 
     where
       to : v ≢ w → (m : ℕ) → node_with e now v ≡ Some m → node_with e t v ≡ Some m
       to ne m there =
-          let is : (holder now m ≡ Some (bucket_of e v)) × (word_of e m ≡ v) × IsEntered e (v % 64) m =
+          let is : (holder now m ≡ Some (bucket_of e v)) × (word_of_node e m ≡ v) × IsEntered e (v % 64) m =
           with-stands e now forgot-holds v m there in
           stands-with e t h v m (was m (bucket_of e v) is.0) is.1
 
       from : v ≢ w → (m : ℕ) → node_with e t v ≡ Some m → node_with e now v ≡ Some m
       from ne m there =
-          let is : (holder t m ≡ Some (bucket_of e v)) × (word_of e m ≡ v) × IsEntered e (v % 64) m =
+          let is : (holder t m ≡ Some (bucket_of e v)) × (word_of_node e m ≡ v) × IsEntered e (v % 64) m =
           with-stands e t h v m there in
           stands-with e now forgot-holds v m
-          (kept m (λ same. ne (sym is.1 ∙ ap (word_of e) same ∙ is-here.1)) ∙ is.0) is.1
+          (kept m (λ same. ne (sym is.1 ∙ ap (word_of_node e) same ∙ is-here.1)) ∙ is.0) is.1
 
       none : node_with e now w ≡ None
       none = by_node (option-cases (node_with e now w))
@@ -275,7 +275,7 @@ module _ (e : Entries) (t now : Table) (w n : ℕ) (h : HoldsEntries e t) (at : 
           by_node : ((node_with e now w ≡ None) ⊎ ((m : ℕ) × (node_with e now w ≡ Some m))) → node_with e now w ≡ None
           by_node (inl is) = is
           by_node (inr some) =
-              let is : (holder now some.0 ≡ Some (bucket_of e w)) × (word_of e some.0 ≡ w)
+              let is : (holder now some.0 ≡ Some (bucket_of e w)) × (word_of_node e some.0 ≡ w)
               × IsEntered e (w % 64) some.0 =
               with-stands e now forgot-holds w some.0 some.1 in
               let other : node_with e t w ≡ Some some.0 =

@@ -4,13 +4,13 @@ use Rattle.std.proofs.lemmas.Bool.{false≢true}
 use Rattle.std.proofs.lemmas.Option.{same_Some}
 use Rattle.std.specs.List.{filter}
 use Rattle.pif_nodes.specs.Lists.{has, first_of}
-use Rattle.pif_nodes.specs.Table.{Table, list_at, holder, IsApart}
+use Rattle.pif_nodes.specs.Table.{NodeLists, list_at, holder, IsApart}
 use Rattle.pif_queue.specs.Frames.{KeepsUser}
-use Rattle.pif_queue.specs.Entries.{Entries, node_of, word_of, found_at, found_in, IsRow, HoldsEntries}
+use Rattle.pif_queue.specs.Entries.{Entries, node_of, word_of_node, found_at, found_in, IsRow, HoldsEntries}
 use Rattle.pif_queue.proofs.Firsts.{option-cases}
 use Rattle.pif_queue.proofs.EntryLemmas.{bucket-below, is-some}
 
-module _ (e : Entries) (was now : Table)
+module _ (e : Entries) (was now : NodeLists)
     (keeps : KeepsUser e.first_list 64 e.first_node (length e.items) was now) where
   bucket-kept : (b : ℕ) → b < 64 → list_at now (e.first_list + b) ≡ list_at was (e.first_list + b)
   bucket-kept b l = keeps.kept.lists (e.first_list + b) (omega arith) (omega (arith, l))
@@ -18,7 +18,7 @@ module _ (e : Entries) (was now : Table)
   -- each word has the owner state that it had
   pub found-framed : (w : ℕ) → found_in e now w ≡ found_in e was w
   found-framed w =
-      ap (λ (xs : List ℕ). option_map (found_at e) (first_of (filter (λ n. eqb (word_of e n) w) xs)))
+      ap (λ (xs : List ℕ). option_map (found_at e) (first_of (filter (λ n. eqb (word_of_node e n) w) xs)))
       (bucket-kept (w % 64) (bucket-below w))
 
   -- the node of a row is in a bucket if it was

@@ -4,8 +4,8 @@ use Rattle.std.proofs.Math.Nat.{mod-lt}
 use Rattle.std.proofs.lemmas.Bool.{eqb-true, eq-eqb, false≢true}
 use Rattle.std.specs.List.{filter}
 use Rattle.pif_nodes.specs.Lists.{has, first_of}
-use Rattle.pif_nodes.specs.Table.{Table, list_at, holder}
-use Rattle.pif_queue.specs.Entries.{Entries, Found, no_entries, bucket_of, node_of, row_of, word_of, node_with, found_at, found_in, IsRow, IsEntered, HoldsEntries, HasRoomForEntries}
+use Rattle.pif_nodes.specs.Table.{NodeLists, list_at, holder}
+use Rattle.pif_queue.specs.Entries.{Entries, Found, no_entries, bucket_of, node_of, row_of, word_of_node, node_with, found_at, found_in, IsRow, IsEntered, HoldsEntries, HasRoomForEntries}
 use Rattle.pif_queue.proofs.Firsts.{option-cases, first-passes, passes-first}
 
 -- a bucket is one of 64
@@ -16,25 +16,25 @@ bucket-below w = mod-lt w (omega arith)
 pub is-some : (o : Option ℕ) (x : ℕ) → o ≡ Some x → IsSome o
 is-some o x e = subst IsSome (sym e) refl
 
-module _ (e : Entries) (t : Table) (h : HoldsEntries e t) where
+module _ (e : Entries) (t : NodeLists) (h : HoldsEntries e t) where
   -- the node of the owner state of a word is in the bucket of the word, and has the word
   pub with-stands : (w n : ℕ) → node_with e t w ≡ Some n
-      → (holder t n ≡ Some (bucket_of e w)) × (word_of e n ≡ w) × IsEntered e (w % 64) n
+      → (holder t n ≡ Some (bucket_of e w)) × (word_of_node e n ≡ w) × IsEntered e (w % 64) n
   with-stands w n at =
-      let first : (has n (list_at t (bucket_of e w)) ≡ true) × (eqb (word_of e n) w ≡ true) =
-      first-passes (λ m. eqb (word_of e m) w) (list_at t (bucket_of e w)) n at in (
+      let first : (has n (list_at t (bucket_of e w)) ≡ true) × (eqb (word_of_node e n) w ≡ true) =
+      first-passes (λ m. eqb (word_of_node e m) w) (list_at t (bucket_of e w)) n at in (
         h.apart.alone (bucket_of e w) n first.0,
-        eqb-true (word_of e n) w first.1,
+        eqb-true (word_of_node e n) w first.1,
         h.entered (w % 64) n (bucket-below w) first.0,
       )
 
   -- and a node that is there and has the word is that node
-  pub stands-with : (w n : ℕ) → holder t n ≡ Some (bucket_of e w) → word_of e n ≡ w → node_with e t w ≡ Some n
+  pub stands-with : (w n : ℕ) → holder t n ≡ Some (bucket_of e w) → word_of_node e n ≡ w → node_with e t w ≡ Some n
   stands-with w n held word =
       let there : has n (list_at t (bucket_of e w)) ≡ true = h.apart.listed (bucket_of e w) n held in
       let first : (m : ℕ) × (node_with e t w ≡ Some m) =
-      passes-first (λ m. eqb (word_of e m) w) (list_at t (bucket_of e w)) n there (eq-eqb (word_of e n) w word) in
-      let other : (holder t first.0 ≡ Some (bucket_of e w)) × (word_of e first.0 ≡ w) × IsEntered e (w % 64) first.0 =
+      passes-first (λ m. eqb (word_of_node e m) w) (list_at t (bucket_of e w)) n there (eq-eqb (word_of_node e n) w word) in
+      let other : (holder t first.0 ≡ Some (bucket_of e w)) × (word_of_node e first.0 ≡ w) × IsEntered e (w % 64) first.0 =
       with-stands w first.0 first.1 in
       let one : IsEntered e (w % 64) n = h.entered (w % 64) n (bucket-below w) there in
       let here : node_of e (row_of e n) ≡ n = omega (arith, one.low) in
@@ -60,13 +60,13 @@ module _ (e : Entries) (t : Table) (h : HoldsEntries e t) where
           let in' : (b : ℕ) × (b < 64) × (some.0 ≡ e.first_list + b) = h.alone r some.0 row some.1 in
           let list : holder t n ≡ Some (e.first_list + in'.0) = some.1 ∙ ap Some in'.2 in
           let is : IsEntered e in'.0 n = h.entered in'.0 n in'.1 (h.apart.listed (e.first_list + in'.0) n list) in
-          let w : ℕ = word_of e n in
+          let w : ℕ = word_of_node e n in
           let at : node_with e t w ≡ Some n =
           stands-with w n (list ∙ ap (λ b. Some (e.first_list + b)) (sym is.bucket)) refl in
           absurd (free w (found_at e n) (ap (option_map (found_at e)) at) (omega arith))
 
 -- a word that has no owner state has no node
-pub no-node : (e : Entries) (t : Table) (w : ℕ) → found_in e t w ≡ None → node_with e t w ≡ None
+pub no-node : (e : Entries) (t : NodeLists) (w : ℕ) → found_in e t w ≡ None → node_with e t w ≡ None
 no-node e t w none = by_node (option-cases (node_with e t w))
   where
     by_node : ((node_with e t w ≡ None) ⊎ ((n : ℕ) × (node_with e t w ≡ Some n))) → node_with e t w ≡ None
@@ -75,7 +75,7 @@ no-node e t w none = by_node (option-cases (node_with e t w))
         let wrong : Some (found_at e some.0) ≡ None = sym (ap (option_map (found_at e)) some.1) ∙ none in absurd cc
 
 -- with no word
-module _ (first_list first_node rows : ℕ) (t : Table) (room : HasRoomForEntries (no_entries first_list first_node rows) t) where
+module _ (first_list first_node rows : ℕ) (t : NodeLists) (room : HasRoomForEntries (no_entries first_list first_node rows) t) where
   abbrev e : Entries
   e = no_entries first_list first_node rows
 
@@ -97,5 +97,5 @@ module _ (first_list first_node rows : ℕ) (t : Table) (room : HasRoomForEntrie
 
   pub none-found : (w : ℕ) → found_in e t w ≡ None
   none-found w =
-      ap (λ (xs : List ℕ). option_map (found_at e) (first_of (filter (λ n. eqb (word_of e n) w) xs)))
+      ap (λ (xs : List ℕ). option_map (found_at e) (first_of (filter (λ n. eqb (word_of_node e n) w) xs)))
       (room.empty (w % 64) (bucket-below w))

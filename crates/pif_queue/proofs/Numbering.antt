@@ -4,10 +4,10 @@ use Rattle.std.proofs.lemmas.Bool.{cases_eq, cases_lt}
 use Rattle.std.proofs.lemmas.Bool.Decides.{nat_tests}
 use Rattle.pif_nodes.specs.declared.keys.Key.{Key}
 use Rattle.pif_nodes.specs.Lists.{has}
-use Rattle.pif_nodes.specs.Table.{Table, holder}
+use Rattle.pif_nodes.specs.Table.{NodeLists, holder}
 use Rattle.pif_queue.specs.Frames.{KeepsOthers}
-use Rattle.pif_queue.specs.Parked.{Parked, ParkedLists, parked_at, with_ticket, IsThread, node_for, KeepsNodes, StandParked, IsParkedOn, KeepsOrder}
-use Rattle.pif_queue.specs.Numbered.{ticket_in, ticket_by, HaveTickets, AreNumbered, is_sooner, IsFirstFrom}
+use Rattle.pif_queue.specs.Parked.{Parked, ParkedLists, parked_at, parked_with_ticket, IsThread, parking_node, KeepsNodes, StandParked, IsParkedOn, KeepsParkedOrder}
+use Rattle.pif_queue.specs.Numbered.{ticket_in, ticket_by, HaveTickets, AreNumbered, has_sooner_ticket, HasFirstTicketFrom}
 use Rattle.pif_queue.proofs.ParkedLemmas.{parked-node, place-by_parked}
 
 -- A PROPERTY OF A TEST
@@ -19,12 +19,12 @@ by_test P false h k = k refl
 -- THE FIRST OF THOSE THAT WERE GONE THROUGH
 
 module _ (ticket : ℕ → ℕ) (least : ℕ) where
-  pub first-start : IsFirstFrom ticket least 1 None
+  pub first-start : HasFirstTicketFrom ticket least 1 None
   first-start u low high = absurd (omega (arith, low, high))
 
   -- a thread whose ticket is too low
-  first-low : (k : ℕ) (first : Option ℕ) → ticket k < least → IsFirstFrom ticket least k first
-      → IsFirstFrom ticket least (k + 1) first
+  first-low : (k : ℕ) (first : Option ℕ) → ticket k < least → HasFirstTicketFrom ticket least k first
+      → HasFirstTicketFrom ticket least (k + 1) first
   first-low k None low h = below
     where
       below : (u : ℕ) → 1 ≤ u → u < k + 1 → ticket u < least
@@ -44,7 +44,7 @@ module _ (ticket : ℕ → ℕ) (least : ℕ) where
 
   -- one that is first so far
   first-new : (k : ℕ) → 1 ≤ k → least ≤ ticket k
-      → ((u : ℕ) → 1 ≤ u → u < k → least ≤ ticket u → ticket k ≤ ticket u) → IsFirstFrom ticket least (k + 1) (Some k)
+      → ((u : ℕ) → 1 ≤ u → u < k → least ≤ ticket u → ticket k ≤ ticket u) → HasFirstTicketFrom ticket least (k + 1) (Some k)
   first-new k one high low = (one, omega arith, high, all)
     where
       all : (u : ℕ) → 1 ≤ u → u < k + 1 → least ≤ ticket u → ticket k ≤ ticket u
@@ -54,21 +54,21 @@ module _ (ticket : ℕ → ℕ) (least : ℕ) where
           by_place (inl same) = omega (arith, ap ticket same)
           by_place (inr ne) = low u one (omega (arith, below, ne)) from
 
-  pub first-more : (k : ℕ) (first : Option ℕ) → 1 ≤ k → IsFirstFrom ticket least k first
-      → IsFirstFrom ticket least (k + 1) (if is_sooner ticket least first k then Some k else first)
+  pub first-more : (k : ℕ) (first : Option ℕ) → 1 ≤ k → HasFirstTicketFrom ticket least k first
+      → HasFirstTicketFrom ticket least (k + 1) (if has_sooner_ticket ticket least first k then Some k else first)
   first-more k None one h =
-      by_test (λ b. IsFirstFrom ticket least (k + 1) (if (if b then false else true) then Some k else None))
+      by_test (λ b. HasFirstTicketFrom ticket least (k + 1) (if (if b then false else true) then Some k else None))
       (nat_lt (ticket k) least)
       (λ e. let low : ticket k < least = grind (arith, nat_tests, e) in first-low k None low h)
       (λ e. let high : least ≤ ticket k = grind (arith, nat_tests, e) in
       first-new k one high (λ u l below from. absurd (omega (arith, from, h u l below))))
   first-more k (Some v) one h =
-      by_test (λ b. IsFirstFrom ticket least (k + 1)
+      by_test (λ b. HasFirstTicketFrom ticket least (k + 1)
       (if (if b then false else nat_lt (ticket k) (ticket v)) then Some k else Some v))
       (nat_lt (ticket k) least)
       (λ e. let low : ticket k < least = grind (arith, nat_tests, e) in first-low k (Some v) low h)
       (λ e. let high : least ≤ ticket k = grind (arith, nat_tests, e) in
-      by_test (λ b. IsFirstFrom ticket least (k + 1) (if b then Some k else Some v))
+      by_test (λ b. HasFirstTicketFrom ticket least (k + 1) (if b then Some k else Some v))
       (nat_lt (ticket k) (ticket v))
       (λ f. let sooner : ticket k < ticket v = grind (arith, nat_tests, f) in
       first-new k one high (λ u l below from. omega (arith, sooner, h.3 u l below from)))
@@ -146,25 +146,25 @@ some-ticket None low = absurd (omega (arith, low))
 some-ticket (Some x) low = (x, refl, refl)
 
 -- a thread that is parked with another ticket is parked
-some-kept : (o p : Option Parked) (x : Parked) → with_ticket 0 p ≡ with_ticket 0 o → p ≡ Some x
+some-kept : (o p : Option Parked) (x : Parked) → parked_with_ticket 0 p ≡ parked_with_ticket 0 o → p ≡ Some x
     → (y : Parked) × (o ≡ Some y)
 some-kept None None x e is = absurd cc
 some-kept None (Some y) x e is = absurd cc
 some-kept (Some y) p x e is = (y, refl)
 
 -- with which ticket a thread is parked doesn't matter once it has another
-kept-again : (k : ℕ) (o : Option Parked) → with_ticket 0 (with_ticket k o) ≡ with_ticket 0 o
+kept-again : (k : ℕ) (o : Option Parked) → parked_with_ticket 0 (parked_with_ticket k o) ≡ parked_with_ticket 0 o
 kept-again k None = refl
 kept-again k (Some x) = refl
 
-ticket-again : (k : ℕ) (o : Option Parked) → 1 ≤ ticket_in o → ticket_in (with_ticket k o) ≡ k
+ticket-again : (k : ℕ) (o : Option Parked) → 1 ≤ ticket_in o → ticket_in (parked_with_ticket k o) ≡ k
 ticket-again k None low = absurd (omega (arith, low))
 ticket-again k (Some x) low = refl
 
 -- the tickets below k are given: of n threads, of which no others are parked
 pub record IsNumbering (at now : ℕ → Option Parked) (n k : ℕ) : Type 0 where
   pub some : 1 ≤ k
-  pub kept : (u : ℕ) → with_ticket 0 (now u) ≡ with_ticket 0 (at u)
+  pub kept : (u : ℕ) → parked_with_ticket 0 (now u) ≡ parked_with_ticket 0 (at u)
   pub order : (u v : ℕ) → nat_lt (ticket_by now u) (ticket_by now v) ≡ nat_lt (ticket_by at u) (ticket_by at v)
   pub least : (u : ℕ) (x : Parked) → now u ≡ Some x → 1 ≤ x.rank.ticket
   pub each : (j : ℕ) → 1 ≤ j → j < k → (u : ℕ) × (ticket_by now u ≡ j)
@@ -210,7 +210,7 @@ module _ (at now : ℕ → Option Parked) (n k : ℕ) (h : HaveTickets at)
       h.once u v y.0 w.0 y.1 w.1 (sym (ap ticket_in y.1) ∙ equal ∙ ap ticket_in w.1)
 
   -- nobody is left
-  pub numbering-ends : IsFirstFrom ticket k (n + 1) None → AreNumbered at now k
+  pub numbering-ends : HasFirstTicketFrom ticket k (n + 1) None → AreNumbered at now k
   numbering-ends none =
       record { kept = i.kept; order = i.order; least = i.least; below = λ u. below u (cases_lt (ticket u) k); each = i.each }
     where
@@ -218,7 +218,7 @@ module _ (at now : ℕ → Option Parked) (n k : ℕ) (h : HaveTickets at)
       below u (inl low) = low
       below u (inr high) = let a = known u high in none u a.0 (omega (arith, a.1))
 
-  module _ (t : ℕ) (first : IsFirstFrom ticket k (n + 1) (Some t)) where
+  module _ (t : ℕ) (first : HasFirstTicketFrom ticket k (n + 1) (Some t)) where
     lowest : (v : ℕ) → v ≢ t → k ≤ ticket v → ticket t < ticket v
     lowest v ne high =
         let a = known v high in
@@ -244,8 +244,8 @@ module _ (at now : ℕ → Option Parked) (n k : ℕ) (h : HaveTickets at)
         by_ticket (inl low) = grind (arith, nat_tests, low, first.2)
         by_ticket (inr high) = let up = lowest v ne high in grind (arith, nat_tests, up, high)
 
-    module _ (next : ℕ → Option Parked) (change : (u : ℕ) → next u ≡ (if u == t then with_ticket k (now u) else now u)) where
-      changed-there : next t ≡ with_ticket k (now t)
+    module _ (next : ℕ → Option Parked) (change : (u : ℕ) → next u ≡ (if u == t then parked_with_ticket k (now u) else now u)) where
+      changed-there : next t ≡ parked_with_ticket k (now t)
       changed-there = let here : (t == t) ≡ true = grind (arith, nat_tests) in change t ∙ rw here refl
 
       changed-else : (u : ℕ) → u ≢ t → next u ≡ now u
@@ -267,7 +267,7 @@ module _ (at now : ℕ → Option Parked) (n k : ℕ) (h : HaveTickets at)
       numbering-more =
           record {
             some = omega arith;
-            kept = λ u. by_thread (λ o u. with_ticket 0 o ≡ with_ticket 0 (at u))
+            kept = λ u. by_thread (λ o u. parked_with_ticket 0 o ≡ parked_with_ticket 0 (at u))
                 (kept-again k (now t) ∙ i.kept t) (λ u ne. i.kept u) u;
             order = order;
             least = least;
@@ -280,7 +280,7 @@ module _ (at now : ℕ → Option Parked) (n k : ℕ) (h : HaveTickets at)
             );
           }
         where
-          by_thread : (P : Option Parked → ℕ → Type 0) → P (with_ticket k (now t)) t
+          by_thread : (P : Option Parked → ℕ → Type 0) → P (parked_with_ticket k (now t)) t
               → ((u : ℕ) → u ≢ t → P (now u) u) → (u : ℕ) → P (next u) u
           by_thread P here there u = by_place (cases_eq u t)
             where
@@ -326,9 +326,9 @@ module _ (at now : ℕ → Option Parked) (n k : ℕ) (h : HaveTickets at)
                   (u.0, ap ticket_in (changed-else u.0 other) ∙ u.1)
 
 -- and among those that are parked on its variable it stands where it stood
-pub numbering-keeps : (p : ParkedLists) (t : Table) (at : ℕ → Option Parked) (n k u : ℕ) → HaveTickets at
+pub numbering-keeps : (p : ParkedLists) (t : NodeLists) (at : ℕ → Option Parked) (n k u : ℕ) → HaveTickets at
     → ((v : ℕ) (x : Parked) → at v ≡ Some x → (1 ≤ v) × (v ≤ n)) → IsNumbering at (parked_at p t) n k
-    → IsFirstFrom (ticket_by (parked_at p t)) k (n + 1) (Some u) → KeepsOrder p t u k
+    → HasFirstTicketFrom (ticket_by (parked_at p t)) k (n + 1) (Some u) → KeepsParkedOrder p t u k
 numbering-keeps p t at n k u h within i first =
     record {
       before = λ v c mine other ne on there.
@@ -347,7 +347,7 @@ numbering-keeps p t at n k u h within i first =
 -- THE TABLE
 
 -- a change that leaves all else, and then another one
-pub others-same : (first_list list_span first_node node_span : ℕ) (t : Table)
+pub others-same : (first_list list_span first_node node_span : ℕ) (t : NodeLists)
     → KeepsOthers first_list list_span first_node node_span t t
 others-same first_list list_span first_node node_span t =
     record {
@@ -358,7 +358,7 @@ others-same first_list list_span first_node node_span t =
       node_count = refl;
     }
 
-pub others-then : (first_list list_span first_node node_span : ℕ) (a b c : Table)
+pub others-then : (first_list list_span first_node node_span : ℕ) (a b c : NodeLists)
     → KeepsOthers first_list list_span first_node node_span a b
     → KeepsOthers first_list list_span first_node node_span b c
     → KeepsOthers first_list list_span first_node node_span a c
@@ -372,27 +372,27 @@ others-then first_list list_span first_node node_span a b c k m =
     }
 
 -- who is parked is one of the threads
-pub parked-known : (p : ParkedLists) (t : Table) → StandParked p t → (u : ℕ) (x : Parked) → parked_at p t u ≡ Some x
+pub parked-known : (p : ParkedLists) (t : NodeLists) → StandParked p t → (u : ℕ) (x : Parked) → parked_at p t u ≡ Some x
     → (1 ≤ u) × (u ≤ p.threads)
 parked-known p t h u x e = (parked-node p t h u x.cond x e refl).0
 
 -- the node of a thread that is parked before and after, at one place, is in one list
-pub node-stays : (p : ParkedLists) (was now : Table) → StandParked p was → StandParked p now → (u : ℕ) (x : Parked)
-    → parked_at p was u ≡ Some x → holder now (node_for p u) ≡ holder was (node_for p u)
+pub node-stays : (p : ParkedLists) (was now : NodeLists) → StandParked p was → StandParked p now → (u : ℕ) (x : Parked)
+    → parked_at p was u ≡ Some x → holder now (parking_node p u) ≡ holder was (parking_node p u)
 node-stays p was now h k u x e =
     let at = place-by_parked p was u x e in
     (k.parked u at.0 at.1).held ∙ sym (h.parked u at.0 at.1).held
 
 -- so are those of all threads once one of them got its number
-pub nodes-stay : (p : ParkedLists) (was now : Table) (at : ℕ → Option Parked) (n k t : ℕ) → StandParked p was
+pub nodes-stay : (p : ParkedLists) (was now : NodeLists) (at : ℕ → Option Parked) (n k t : ℕ) → StandParked p was
     → StandParked p now → IsNumbering at (parked_at p was) n k
-    → IsFirstFrom (ticket_by (parked_at p was)) k (n + 1) (Some t) → KeepsNodes p t was now → (u : ℕ) → IsThread p u
-    → holder now (node_for p u) ≡ holder was (node_for p u)
+    → HasFirstTicketFrom (ticket_by (parked_at p was)) k (n + 1) (Some t) → KeepsNodes p t was now → (u : ℕ) → IsThread p u
+    → holder now (parking_node p u) ≡ holder was (parking_node p u)
 nodes-stay p was now at n k t h m i first keeps u is = by_place (cases_eq u t)
   where
-    by_place : ((u ≡ t) ⊎ (u ≡ t → ⊥)) → holder now (node_for p u) ≡ holder was (node_for p u)
+    by_place : ((u ≡ t) ⊎ (u ≡ t → ⊥)) → holder now (parking_node p u) ≡ holder was (parking_node p u)
     by_place (inl same) =
         let x = some-ticket (parked_at p was t) (omega (arith, first.2, i.some)) in
-        subst (λ (v : ℕ). holder now (node_for p v) ≡ holder was (node_for p v)) (sym same)
+        subst (λ (v : ℕ). holder now (parking_node p v) ≡ holder was (parking_node p v)) (sym same)
         (node-stays p was now h m t x.0 x.1)
     by_place (inr ne) = keeps u is ne

@@ -2,28 +2,28 @@
 use Rattle.std.proofs.Common.{◌≡◌, ℕ, Option, Some, None, option_map, refl, sym, ◌∙◌, ap, arith}
 use Rattle.pif_nodes.specs.declared.keys.Key.{Key}
 use Rattle.pif_nodes.specs.Lists.{has}
-use Rattle.pif_nodes.specs.Table.{Table, list_at, key_at, IsApart}
+use Rattle.pif_nodes.specs.Table.{NodeLists, list_at, key_at, IsApart}
 use Rattle.pif_rtmutex.specs.Frames.{KeepsLists}
 use Rattle.pif_rtmutex.proofs.FrameLemmas.{held-kept, sorted-kept}
 use Rattle.pif_queue.specs.Differences.{differences}
-use Rattle.pif_queue.specs.Parked.{Place, ParkedLists, place_at, IsCond, list_for, node_for, target_of, parked_with, parked_at, StandsIn, HoldsParked}
+use Rattle.pif_queue.specs.Parked.{Place, ParkedLists, place_at, IsCond, variable_list, parking_node, target_of, parked_with, parked_at, StandsIn, HoldsParked}
 
-module _ (p : ParkedLists) (was now : Table) (keeps : KeepsLists p.first_list p.conds was now) (h : HoldsParked p was) where
-  list-kept : (c : ℕ) → IsCond p c → list_at now (list_for p c) ≡ list_at was (list_for p c)
-  list-kept c is = keeps.lists (list_for p c) (omega arith) (omega (arith, is))
+module _ (p : ParkedLists) (was now : NodeLists) (keeps : KeepsLists p.first_list p.conds was now) (h : HoldsParked p was) where
+  list-kept : (c : ℕ) → IsCond p c → list_at now (variable_list p c) ≡ list_at was (variable_list p c)
+  list-kept c is = keeps.lists (variable_list p c) (omega arith) (omega (arith, is))
 
   -- each thread is parked where it was, with the key that it had
   pub seen-framed : (u : ℕ) → parked_at p now u ≡ parked_at p was u
   seen-framed u = by_place (place_at p u) refl
     where
       by_place : (o : Option Place) → place_at p u ≡ o
-          → option_map (parked_with (key_at now (node_for p u))) o ≡ option_map (parked_with (key_at was (node_for p u))) o
+          → option_map (parked_with (key_at now (parking_node p u))) o ≡ option_map (parked_with (key_at was (parking_node p u))) o
       by_place None e = refl
       by_place (Some x) e =
           let at : StandsIn p was u x = h.stand.parked u x e in
           ap (λ (k : Key). Some (parked_with k x))
-          (keeps.keys (list_for p x.cond) (node_for p u) (omega arith) (omega (arith, at.is_cond))
-          (h.stand.apart.listed (list_for p x.cond) (node_for p u) at.held))
+          (keeps.keys (variable_list p x.cond) (parking_node p u) (omega arith) (omega (arith, at.is_cond))
+          (h.stand.apart.listed (variable_list p x.cond) (parking_node p u) at.held))
 
   pub parked-framed : IsApart now → HoldsParked p now
   parked-framed apart =
@@ -41,11 +41,11 @@ module _ (p : ParkedLists) (was now : Table) (keeps : KeepsLists p.first_list p.
                     is_thread = at.is_thread;
                     is_cond = at.is_cond;
                     held =
-                        held-kept p.first_list p.conds was now (list_for p x.cond) (node_for p u) keeps h.stand.apart apart
+                        held-kept p.first_list p.conds was now (variable_list p x.cond) (parking_node p u) keeps h.stand.apart apart
                         (omega arith) (omega (arith, at.is_cond)) at.held;
                   };
               others = λ c n is there. h.stand.others c n is (ap (has n) (sym (list-kept c is)) ∙ there);
-              sorted = λ c is. sorted-kept p.first_list p.conds was now (list_for p c) keeps (omega arith)
+              sorted = λ c is. sorted-kept p.first_list p.conds was now (variable_list p c) keeps (omega arith)
                   (omega (arith, is)) (h.stand.sorted c is);
             };
         counted = λ c is. h.counted c is ∙ ap (differences (target_of p)) (sym (list-kept c is));

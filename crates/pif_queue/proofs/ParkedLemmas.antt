@@ -5,17 +5,17 @@ use Rattle.std.proofs.lemmas.Bool.{cases_lt, or_parts, false≢true}
 use Rattle.std.proofs.lemmas.List.{length-replicate, get_or_past, get_or-replicate}
 use Rattle.std.proofs.lemmas.Map.Steps.{length-le_from_distinct_below}
 use Rattle.std.proofs.lemmas.Option.{same_Some}
-use Rattle.pif_nodes.specs.Lists.{has, first_of, next_in, prev_in, without, HasNoRepeats}
-use Rattle.pif_nodes.specs.Table.{Table, list_at, key_at, holder, next_of, prev_of}
-use Rattle.pif_nodes.proofs.ListLemmas.{first_of-has, next_in-has, prev_in-has}
+use Rattle.pif_nodes.specs.Lists.{has, first_of, next_in_list, prev_in_list, list_without, HasNoRepeats}
+use Rattle.pif_nodes.specs.Table.{NodeLists, list_at, key_at, holder, next_node, prev_node}
+use Rattle.pif_nodes.proofs.ListLemmas.{first_of-has, next_in_list-has, prev_in_list-has}
 use Rattle.pif_plist.specs.Order.{comes_before, IsInOrder}
 use Rattle.pif_queue.specs.Differences.{differences, around, across}
-use Rattle.pif_queue.specs.Parked.{Place, Parked, ParkedLists, no_parked, place_at, differing_at, IsThread, IsCond, IsOwnNode, list_for, node_for, thread_for, target_in, target_of, parked_with, parked_at, IsParkedNode, StandsIn, StandParked, HoldsParked, HasRoomForParked, IsParkedOn, IsTopParked, HasNoParked, HasTarget}
+use Rattle.pif_queue.specs.Parked.{Place, Parked, ParkedLists, no_parked, place_at, differing_at, IsThread, IsCond, IsNodeOfThread, variable_list, parking_node, thread_of_node, target_in, target_of, parked_with, parked_at, IsParkedNode, StandsIn, StandParked, HoldsParked, HasRoomForParked, IsParkedOn, IsTopParked, HasNoParked, HasTarget}
 use Rattle.pif_queue.proofs.Firsts.{option-cases}
-use Rattle.pif_queue.proofs.Differing.{differences-without, differences-most, differences-none, differences-equal}
+use Rattle.pif_queue.proofs.Differing.{differences-list_without, differences-most, differences-none, differences-equal}
 
 -- the thread of a thread's node is that thread
-pub thread-of_node : (p : ParkedLists) (u : ℕ) → 1 ≤ u → thread_for p (node_for p u) ≡ u
+pub thread-of_node : (p : ParkedLists) (u : ℕ) → 1 ≤ u → thread_of_node p (parking_node p u) ≡ u
 thread-of_node p u low = omega arith
 
 -- who has a place is one of the threads that have one
@@ -27,22 +27,22 @@ some-place p u some = by_place (option-cases (place_at p u))
     by_place (inr is) = is
 
 -- what is parked, by place
-pub parked-by_place : (p : ParkedLists) (t : Table) (u : ℕ) (x : Place) → place_at p u ≡ Some x
-    → parked_at p t u ≡ Some (parked_with (key_at t (node_for p u)) x)
-parked-by_place p t u x e = ap (option_map (parked_with (key_at t (node_for p u)))) e
+pub parked-by_place : (p : ParkedLists) (t : NodeLists) (u : ℕ) (x : Place) → place_at p u ≡ Some x
+    → parked_at p t u ≡ Some (parked_with (key_at t (parking_node p u)) x)
+parked-by_place p t u x e = ap (option_map (parked_with (key_at t (parking_node p u)))) e
 
-pub place-by_parked : (p : ParkedLists) (t : Table) (u : ℕ) (y : Parked) → parked_at p t u ≡ Some y
-    → (x : Place) × (place_at p u ≡ Some x) × (y ≡ parked_with (key_at t (node_for p u)) x)
+pub place-by_parked : (p : ParkedLists) (t : NodeLists) (u : ℕ) (y : Parked) → parked_at p t u ≡ Some y
+    → (x : Place) × (place_at p u ≡ Some x) × (y ≡ parked_with (key_at t (parking_node p u)) x)
 place-by_parked p t u y e = by_place (option-cases (place_at p u))
   where
     by_place : ((place_at p u ≡ None) ⊎ ((x : Place) × (place_at p u ≡ Some x)))
-        → (x : Place) × (place_at p u ≡ Some x) × (y ≡ parked_with (key_at t (node_for p u)) x)
+        → (x : Place) × (place_at p u ≡ Some x) × (y ≡ parked_with (key_at t (parking_node p u)) x)
     by_place (inl none) =
-        let wrong : None ≡ Some y = sym (ap (option_map (parked_with (key_at t (node_for p u)))) none) ∙ e in absurd cc
+        let wrong : None ≡ Some y = sym (ap (option_map (parked_with (key_at t (parking_node p u)))) none) ∙ e in absurd cc
     by_place (inr some) = (
       some.0,
       some.1,
-      same_Some y (parked_with (key_at t (node_for p u)) some.0) (sym e ∙ parked-by_place p t u some.0 some.1),
+      same_Some y (parked_with (key_at t (parking_node p u)) some.0) (sym e ∙ parked-by_place p t u some.0 some.1),
     )
 
 -- a list that has no number twice is one of distinct numbers
@@ -57,87 +57,87 @@ unfolding IsDistinct
 distinct [] once = tt
 distinct (x ∷ xs) once = (apart-from x xs once.0, distinct xs once.1)
 
-module _ (p : ParkedLists) (t : Table) (h : StandParked p t) where
+module _ (p : ParkedLists) (t : NodeLists) (h : StandParked p t) where
   -- a node of the list of a variable is one of its own
-  pub own-node : (c n : ℕ) → IsCond p c → has n (list_at t (list_for p c)) ≡ true → IsOwnNode p n
+  pub own-node : (c n : ℕ) → IsCond p c → has n (list_at t (variable_list p c)) ≡ true → IsNodeOfThread p n
   own-node c n is there =
       let node : IsParkedNode p c n = h.others c n is there in
       (omega (arith, node.node), omega (arith, node.node, node.is_thread))
 
   -- and so are its neighbours
-  pub own-next : (c n m : ℕ) → IsCond p c → holder t n ≡ Some (list_for p c) → next_of t n ≡ Some m → IsOwnNode p m
+  pub own-next : (c n m : ℕ) → IsCond p c → holder t n ≡ Some (variable_list p c) → next_node t n ≡ Some m → IsNodeOfThread p m
   own-next c n m is held next =
       own-node c m is
-      (next_in-has (list_at t (list_for p c)) n m
-      (sym (ap (option_and_then (λ l. next_in (list_at t l) n)) held) ∙ next))
+      (next_in_list-has (list_at t (variable_list p c)) n m
+      (sym (ap (option_and_then (λ l. next_in_list (list_at t l) n)) held) ∙ next))
 
-  pub own-prev : (c n m : ℕ) → IsCond p c → holder t n ≡ Some (list_for p c) → prev_of t n ≡ Some m → IsOwnNode p m
+  pub own-prev : (c n m : ℕ) → IsCond p c → holder t n ≡ Some (variable_list p c) → prev_node t n ≡ Some m → IsNodeOfThread p m
   own-prev c n m is held prev =
       own-node c m is
-      (prev_in-has (list_at t (list_for p c)) n m
-      (sym (ap (option_and_then (λ l. prev_in (list_at t l) n)) held) ∙ prev))
+      (prev_in_list-has (list_at t (variable_list p c)) n m
+      (sym (ap (option_and_then (λ l. prev_in_list (list_at t l) n)) held) ∙ prev))
 
   -- the list of a variable has fewer nodes than there are numbers of 32 bits
-  pub few-nodes : (c : ℕ) → IsCond p c → length (list_at t (list_for p c)) ≤ p.first_node + p.threads
+  pub few-nodes : (c : ℕ) → IsCond p c → length (list_at t (variable_list p c)) ≤ p.first_node + p.threads
   few-nodes c is =
-      length-le_from_distinct_below (list_at t (list_for p c)) (p.first_node + p.threads)
-      (distinct (list_at t (list_for p c)) (h.apart.once (list_for p c))) (λ n there. (own-node c n is there).1)
+      length-le_from_distinct_below (list_at t (variable_list p c)) (p.first_node + p.threads)
+      (distinct (list_at t (variable_list p c)) (h.apart.once (variable_list p c))) (λ n there. (own-node c n is there).1)
 
-  pub few-differences : (c n : ℕ) → IsCond p c → holder t n ≡ Some (list_for p c)
-      → differences (target_of p) (list_at t (list_for p c)) + across (target_of p) (list_at t (list_for p c)) n
+  pub few-differences : (c n : ℕ) → IsCond p c → holder t n ≡ Some (variable_list p c)
+      → differences (target_of p) (list_at t (variable_list p c)) + across (target_of p) (list_at t (variable_list p c)) n
       ≤ p.first_node + p.threads
   few-differences c n is held =
       omega (
         arith,
         few-nodes c is,
-        differences-most (target_of p) (list_at t (list_for p c)) n (h.apart.listed (list_for p c) n held),
+        differences-most (target_of p) (list_at t (variable_list p c)) n (h.apart.listed (variable_list p c) n held),
       )
 
   -- with and without a node the differences are what is counted in or out
-  pub counts : (c n : ℕ) → IsCond p c → holder t n ≡ Some (list_for p c)
-      → differences (target_of p) (list_at t (list_for p c)) + across (target_of p) (list_at t (list_for p c)) n
-      ≡ differences (target_of p) (without n (list_at t (list_for p c)))
-      + around (target_of p) (list_at t (list_for p c)) n
+  pub counts : (c n : ℕ) → IsCond p c → holder t n ≡ Some (variable_list p c)
+      → differences (target_of p) (list_at t (variable_list p c)) + across (target_of p) (list_at t (variable_list p c)) n
+      ≡ differences (target_of p) (list_without n (list_at t (variable_list p c)))
+      + around (target_of p) (list_at t (variable_list p c)) n
   counts c n is held =
-      differences-without (target_of p) (list_at t (list_for p c)) n (h.apart.once (list_for p c))
-      (h.apart.listed (list_for p c) n held)
+      differences-list_without (target_of p) (list_at t (variable_list p c)) n (h.apart.once (variable_list p c))
+      (h.apart.listed (variable_list p c) n held)
 
   -- who is parked on a variable is in its list, and who is in the list is parked there
   pub parked-node : (u c : ℕ) (y : Parked) → parked_at p t u ≡ Some y → y.cond ≡ c
-      → IsThread p u × IsCond p c × (has (node_for p u) (list_at t (list_for p c)) ≡ true)
-      × (y.rank ≡ key_at t (node_for p u)) × (target_of p (node_for p u) ≡ y.target)
+      → IsThread p u × IsCond p c × (has (parking_node p u) (list_at t (variable_list p c)) ≡ true)
+      × (y.rank ≡ key_at t (parking_node p u)) × (target_of p (parking_node p u) ≡ y.target)
   parked-node u c y e on =
-      let at : (x : Place) × (place_at p u ≡ Some x) × (y ≡ parked_with (key_at t (node_for p u)) x) =
+      let at : (x : Place) × (place_at p u ≡ Some x) × (y ≡ parked_with (key_at t (parking_node p u)) x) =
       place-by_parked p t u y e in
       let stands : StandsIn p t u at.0 = h.parked u at.0 at.1 in
       let cond : at.0.cond ≡ c = sym (ap (λ (z : Parked). z.cond) at.2) ∙ on in (
         stands.is_thread,
         subst (IsCond p) cond stands.is_cond,
-        h.apart.listed (list_for p c) (node_for p u) (stands.held ∙ ap (λ d. Some (list_for p d)) cond),
+        h.apart.listed (variable_list p c) (parking_node p u) (stands.held ∙ ap (λ d. Some (variable_list p d)) cond),
         ap (λ (z : Parked). z.rank) at.2,
         ap (λ v. target_in (place_at p v)) (thread-of_node p u stands.is_thread.0) ∙ ap target_in at.1
             ∙ sym (ap (λ (z : Parked). z.target) at.2),
       )
 
-  pub node-parked : (c n : ℕ) → IsCond p c → has n (list_at t (list_for p c)) ≡ true
-      → IsParkedOn p t c (thread_for p n) (key_at t n)
+  pub node-parked : (c n : ℕ) → IsCond p c → has n (list_at t (variable_list p c)) ≡ true
+      → IsParkedOn p t c (thread_of_node p n) (key_at t n)
   node-parked c n is there =
       let node : IsParkedNode p c n = h.others c n is there in
-      let thread : thread_for p n ≡ node.thread = ap (thread_for p) node.node
+      let thread : thread_of_node p n ≡ node.thread = ap (thread_of_node p) node.node
       ∙ thread-of_node p node.thread node.is_thread.0 in
-      let place : place_at p (thread_for p n) ≡ Some node.place = ap (place_at p) thread ∙ node.at in
+      let place : place_at p (thread_of_node p n) ≡ Some node.place = ap (place_at p) thread ∙ node.at in
       record {
-        parked = parked_with (key_at t (node_for p (thread_for p n))) node.place;
-        at = parked-by_place p t (thread_for p n) node.place place;
+        parked = parked_with (key_at t (parking_node p (thread_of_node p n))) node.place;
+        at = parked-by_place p t (thread_of_node p n) node.place place;
         cond = node.cond;
-        ranked = ap (λ u. key_at t (node_for p u)) thread ∙ ap (key_at t) (sym node.node);
+        ranked = ap (λ u. key_at t (parking_node p u)) thread ∙ ap (key_at t) (sym node.node);
       }
 
   -- a variable whose list is empty has nobody parked on it, and one that has no list neither
-  pub none-parked : (c : ℕ) → None ≡ first_of (list_at t (list_for p c)) → HasNoParked p t c
+  pub none-parked : (c : ℕ) → None ≡ first_of (list_at t (variable_list p c)) → HasNoParked p t c
   none-parked c none u y e on =
       let at = parked-node u c y e on in
-      empty (node_for p u) (list_at t (list_for p c)) none at.2
+      empty (parking_node p u) (list_at t (variable_list p c)) none at.2
     where
       empty : (n : ℕ) (xs : List ℕ) → None ≡ first_of xs → has n xs ≡ true → ⊥
       empty n [] none there = false≢true there
@@ -147,24 +147,24 @@ module _ (p : ParkedLists) (t : Table) (h : StandParked p t) where
   none-past c past u y e on = let at = parked-node u c y e on in absurd (omega (arith, at.1, past))
 
   -- the first of the list of a variable is taken first
-  pub top-first : (c n : ℕ) → IsCond p c → Some n ≡ first_of (list_at t (list_for p c))
-      → ((m : ℕ) → has m (list_at t (list_for p c)) ≡ true → comes_before (key_at t m) (key_at t n) ≡ false)
-      → IsTopParked p t c (thread_for p n)
+  pub top-first : (c n : ℕ) → IsCond p c → Some n ≡ first_of (list_at t (variable_list p c))
+      → ((m : ℕ) → has m (list_at t (variable_list p c)) ≡ true → comes_before (key_at t m) (key_at t n) ≡ false)
+      → IsTopParked p t c (thread_of_node p n)
   top-first c n is first least =
       record {
         rank = key_at t n;
-        on = node-parked c n is (first_of-has (list_at t (list_for p c)) n (sym first));
+        on = node-parked c n is (first_of-has (list_at t (variable_list p c)) n (sym first));
         first = λ v other on.
             let at = parked-node v c on.parked on.at on.cond in
-            ap (λ k. comes_before k (key_at t n)) (sym on.ranked ∙ at.3) ∙ least (node_for p v) at.2;
+            ap (λ k. comes_before k (key_at t n)) (sym on.ranked ∙ at.3) ∙ least (parking_node p v) at.2;
       }
 
 -- whether all that are parked on a variable have one target, by the first of them
-module _ (p : ParkedLists) (t : Table) (h : HoldsParked p t) (c n m : ℕ) (is : IsCond p c)
-    (first : Some n ≡ first_of (list_at t (list_for p c))) where
+module _ (p : ParkedLists) (t : NodeLists) (h : HoldsParked p t) (c n m : ℕ) (is : IsCond p c)
+    (first : Some n ≡ first_of (list_at t (variable_list p c))) where
   -- each node of the list has the target of the first
-  as-first : differing_at p c ≡ 0 → (k : ℕ) → has k (list_at t (list_for p c)) ≡ true → target_of p k ≡ target_of p n
-  as-first none k there = by_list (list_at t (list_for p c)) first (sym (h.counted c is) ∙ none) there
+  as-first : differing_at p c ≡ 0 → (k : ℕ) → has k (list_at t (variable_list p c)) ≡ true → target_of p k ≡ target_of p n
+  as-first none k there = by_list (list_at t (variable_list p c)) first (sym (h.counted c is) ∙ none) there
     where
       by_list : (xs : List ℕ) → Some n ≡ first_of xs → differences (target_of p) xs ≡ 0 → has k xs ≡ true
           → target_of p k ≡ target_of p n
@@ -176,21 +176,21 @@ module _ (p : ParkedLists) (t : Table) (h : HoldsParked p t) (c n m : ℕ) (is :
   pub target-all : differing_at p c ≡ 0 → target_of p n ≡ m → HasTarget p t c m
   target-all none target u y e on =
       let at = parked-node p t h.stand u c y e on in
-      sym at.4 ∙ as-first none (node_for p u) at.2 ∙ target
+      sym at.4 ∙ as-first none (parking_node p u) at.2 ∙ target
 
   -- the target of a node of the list
-  target-of_node : HasTarget p t c m → (k : ℕ) → has k (list_at t (list_for p c)) ≡ true → target_of p k ≡ m
+  target-of_node : HasTarget p t c m → (k : ℕ) → has k (list_at t (variable_list p c)) ≡ true → target_of p k ≡ m
   target-of_node all k there =
-      let on : IsParkedOn p t c (thread_for p k) (key_at t k) = node-parked p t h.stand c k is there in
-      let at = parked-node p t h.stand (thread_for p k) c on.parked on.at on.cond in
+      let on : IsParkedOn p t c (thread_of_node p k) (key_at t k) = node-parked p t h.stand c k is there in
+      let at = parked-node p t h.stand (thread_of_node p k) c on.parked on.at on.cond in
       let node : IsParkedNode p c k = h.stand.others c k is there in
-      let same : node_for p (thread_for p k) ≡ k = omega (arith, node.node, node.is_thread) in
-      ap (target_of p) (sym same) ∙ at.4 ∙ all (thread_for p k) on.parked on.at on.cond
+      let same : parking_node p (thread_of_node p k) ≡ k = omega (arith, node.node, node.is_thread) in
+      ap (target_of p) (sym same) ∙ at.4 ∙ all (thread_of_node p k) on.parked on.at on.cond
 
   pub target-only : HasTarget p t c m → (differing_at p c ≡ 0) × (target_of p n ≡ m)
   target-only all = (
-    h.counted c is ∙ differences-equal (target_of p) m (list_at t (list_for p c)) (target-of_node all),
-    target-of_node all n (first_of-has (list_at t (list_for p c)) n (sym first)),
+    h.counted c is ∙ differences-equal (target_of p) m (list_at t (variable_list p c)) (target-of_node all),
+    target-of_node all n (first_of-has (list_at t (variable_list p c)) n (sym first)),
   )
 
 -- nobody is parked at first
@@ -203,18 +203,18 @@ no-place first_list first_node threads conds u = by_length (cases_lt u (threads 
         get_or_past (replicate (threads + 1) None) u None
         (omega (arith, past, length-replicate {A = Option Place} (threads + 1) None))
 
-pub nobody-parked : (first_list first_node threads conds : ℕ) (t : Table) (u : ℕ)
+pub nobody-parked : (first_list first_node threads conds : ℕ) (t : NodeLists) (u : ℕ)
     → parked_at (no_parked first_list first_node threads conds) t u ≡ None
 nobody-parked first_list first_node threads conds t u =
-    ap (option_map (parked_with (key_at t (node_for (no_parked first_list first_node threads conds) u))))
+    ap (option_map (parked_with (key_at t (parking_node (no_parked first_list first_node threads conds) u))))
     (no-place first_list first_node threads conds u)
 
-module _ (first_list first_node threads conds : ℕ) (t : Table)
+module _ (first_list first_node threads conds : ℕ) (t : NodeLists)
     (room : HasRoomForParked (no_parked first_list first_node threads conds) t) where
   abbrev p : ParkedLists
   p = no_parked first_list first_node threads conds
 
-  nobody : (c n : ℕ) → IsCond p c → has n (list_at t (list_for p c)) ≡ true → ⊥
+  nobody : (c n : ℕ) → IsCond p c → has n (list_at t (variable_list p c)) ≡ true → ⊥
   nobody c n is there = false≢true (sym (ap (has n) (room.empty c is)) ∙ there)
 
   pub holds-no_parked : HoldsParked p t

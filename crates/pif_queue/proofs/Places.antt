@@ -4,8 +4,8 @@ use Rattle.std.proofs.lemmas.Bool.{or_right, ne_eqb, eq-eqb}
 use Rattle.std.proofs.lemmas.Option.{same_Some}
 use Rattle.std.specs.List.{slice_get}
 use Rattle.std.specs.Option.{option_and_then}
-use Rattle.pif_nodes.specs.Lists.{has, first_of, next_in, HasNoRepeats}
-use Rattle.pif_nodes.specs.Table.{Table, list_at, next_of, IsApart}
+use Rattle.pif_nodes.specs.Lists.{has, first_of, next_in_list, HasNoRepeats}
+use Rattle.pif_nodes.specs.Table.{NodeLists, list_at, next_node, IsApart}
 use Rattle.pif_nodes.proofs.ListLemmas.{has-head, apart_by_has}
 
 -- what stands at a place, the list has
@@ -20,7 +20,7 @@ place-first [] = refl
 place-first (x ∷ xs) = refl
 
 -- behind what stands at a place stands what is at the next one
-place-behind : (xs : List ℕ) (k n : ℕ) → HasNoRepeats xs → slice_get xs k ≡ Some n → next_in xs n ≡ slice_get xs (suc k)
+place-behind : (xs : List ℕ) (k n : ℕ) → HasNoRepeats xs → slice_get xs k ≡ Some n → next_in_list xs n ≡ slice_get xs (suc k)
 place-behind [] k n once e = absurd cc
 place-behind (x ∷ xs) zero n once e =
     let here : eqb n x ≡ true = eq-eqb n x (omega (arith, same_Some x n e)) in rw here (place-first xs)
@@ -28,10 +28,10 @@ place-behind (x ∷ xs) (suc k) n once e =
     let later : eqb n x ≡ false = ne_eqb n x (apart_by_has n x xs (place-has xs k n e) once.0) in
     rw later (place-behind xs k n once.1 e)
 
-pub place-next : (t : Table) (l k n : ℕ) → IsApart t → slice_get (list_at t l) k ≡ Some n
-    → next_of t n ≡ slice_get (list_at t l) (suc k)
+pub place-next : (t : NodeLists) (l k n : ℕ) → IsApart t → slice_get (list_at t l) k ≡ Some n
+    → next_node t n ≡ slice_get (list_at t l) (suc k)
 place-next t l k n apart e =
-    ap (option_and_then (λ (m : ℕ). next_in (list_at t m) n)) (apart.alone l n (place-has (list_at t l) k n e))
+    ap (option_and_then (λ (m : ℕ). next_in_list (list_at t m) n)) (apart.alone l n (place-has (list_at t l) k n e))
     ∙ place-behind (list_at t l) k n (apart.once l) e
 
 -- behind a place at which nothing stands is nothing

@@ -3,10 +3,10 @@ use Rattle.std.proofs.Common.{◌≡◌, ◌⊎◌, ℕ, zero, suc, ◌+◌, ◌
 use Rattle.std.proofs.lemmas.Bool.{false≢true}
 use Rattle.std.proofs.lemmas.List.{length-replicate}
 use Rattle.pif_nodes.specs.Lists.{has}
-use Rattle.pif_nodes.specs.Table.{Table, IsApart, no_key, holder, list_at}
+use Rattle.pif_nodes.specs.Table.{NodeLists, IsApart, no_key, holder, list_at}
 use Rattle.pif_queue.specs.Entries.{no_entries, no_entry}
-use Rattle.pif_queue.specs.Parked.{no_parked, list_for}
-use Rattle.pif_queue.specs.Buckets.{Buckets, HasRoom}
+use Rattle.pif_queue.specs.Parked.{no_parked, variable_list}
+use Rattle.pif_queue.specs.Buckets.{Buckets, HasRoomForBuckets}
 
 -- no word and nobody parked
 abbrev pub no_buckets : ℕ → ℕ → ℕ → ℕ → ℕ → Buckets
@@ -25,21 +25,21 @@ none-there zero l = refl
 none-there (suc n) zero = refl
 none-there (suc n) (suc l) = none-there n l
 
-module _ (first_list first_node wait_node threads conds lists nodes : ℕ) (t : Table)
+module _ (first_list first_node wait_node threads conds lists nodes : ℕ) (t : NodeLists)
     (made : t ≡ record { lists = replicate lists []; keys = replicate nodes no_key }) (apart : IsApart t)
     (long : first_list + 64 + conds ≤ lists) (wide : first_node + threads ≤ nodes) (broad : wait_node + threads ≤ nodes)
     (disjoint : (wait_node + threads ≤ first_node) ⊎ (first_node + threads ≤ wait_node)) where
   list-count : length t.lists ≡ lists
-  list-count = ap (λ (x : Table). length x.lists) made ∙ length-replicate {A = List ℕ} lists []
+  list-count = ap (λ (x : NodeLists). length x.lists) made ∙ length-replicate {A = List ℕ} lists []
 
   node-count : length t.keys ≡ nodes
-  node-count = ap (λ (x : Table). length x.keys) made ∙ length-replicate nodes no_key
+  node-count = ap (λ (x : NodeLists). length x.keys) made ∙ length-replicate nodes no_key
 
   rows : length (replicate threads no_entry) ≡ threads
   rows = length-replicate threads no_entry
 
   empty : (l : ℕ) → list_at t l ≡ []
-  empty l = ap (λ (x : Table). list_at x l) made ∙ none-there lists l
+  empty l = ap (λ (x : NodeLists). list_at x l) made ∙ none-there lists l
 
   free : (n : ℕ) → holder t n ≡ None
   free n = by_holder (holder t n) refl
@@ -48,7 +48,7 @@ module _ (first_list first_node wait_node threads conds lists nodes : ℕ) (t : 
       by_holder None e = e
       by_holder (Some l) e = absurd (false≢true (sym (ap (has n) (empty l)) ∙ apart.listed l n e))
 
-  pub room-made : HasRoom (no_buckets first_list first_node wait_node threads conds) t
+  pub room-made : HasRoomForBuckets (no_buckets first_list first_node wait_node threads conds) t
   room-made =
       record {
         apart =
@@ -69,6 +69,6 @@ module _ (first_list first_node wait_node threads conds lists nodes : ℕ) (t : 
               apart = apart;
               lists = omega (arith, long, list-count);
               nodes = omega (arith, broad, node-count);
-              empty = λ c is. empty (list_for (no_parked (first_list + 64) wait_node threads conds) c);
+              empty = λ c is. empty (variable_list (no_parked (first_list + 64) wait_node threads conds) c);
             };
       }

@@ -1,7 +1,7 @@
 -- The owner states of words and the parked threads, in one table.
 use Rattle.std.specs.Prelude.{◌≡◌, ◌+◌, ◌≤◌, ◌⊎◌, length, refl}
 use Rattle.std.specs.Coded.{Coded, code_by, coded×}
-use Rattle.pif_nodes.specs.Table.{Table}
+use Rattle.pif_nodes.specs.Table.{NodeLists}
 use Rattle.pif_queue.specs.Entries.{Entries, entries_code, HoldsEntries, HasRoomForEntries}
 use Rattle.pif_queue.specs.Parked.{ParkedLists, parked_code, HoldsParked, HasRoomForParked}
 
@@ -17,13 +17,13 @@ pub record StandApart (b : Buckets) : Type 0 where
       ⊎ (b.entries.first_node + length b.entries.items ≤ b.parked.first_node)
 
 -- both stand in a table
-pub record HoldsBuckets (b : Buckets) (t : Table) : Type 0 where
+pub record HoldsBuckets (b : Buckets) (t : NodeLists) : Type 0 where
   pub apart : StandApart b
   pub entries : HoldsEntries b.entries t
   pub parked : HoldsParked b.parked t
 
 -- both may stand, with no word and nobody parked, in a table
-pub record HasRoom (b : Buckets) (t : Table) : Type 0 where
+pub record HasRoomForBuckets (b : Buckets) (t : NodeLists) : Type 0 where
   pub apart : StandApart b
   pub entries : HasRoomForEntries b.entries t
   pub parked : HasRoomForParked b.parked t

@@ -3,7 +3,7 @@
 use Rattle.std.specs.Prelude.{◌≡◌, ℕ, ◌+◌, ◌-◌, ◌%◌, ◌<◌, ◌≤◌, ◌==◌, true, List, length, filter, get_or, replicate, [], Option, Some, None, IsSome, option_map, refl}
 use Rattle.std.specs.Coded.{Coded, code_by, coded×, coded_ℕ, coded_list}
 use Rattle.pif_nodes.specs.Lists.{has, first_of}
-use Rattle.pif_nodes.specs.Table.{Table, list_at, holder, IsApart}
+use Rattle.pif_nodes.specs.Table.{NodeLists, list_at, holder, IsApart}
 
 -- what is kept by row: the number of the word, and the key of its owner state
 pub record Entry : Type 0 where
@@ -49,19 +49,19 @@ abbrev pub row_of : Entries → ℕ → ℕ
 row_of e n = n - e.first_node
 
 -- the word of a node
-abbrev pub word_of : Entries → ℕ → ℕ
-word_of e n = (entry_at e (row_of e n)).word
+abbrev pub word_of_node : Entries → ℕ → ℕ
+word_of_node e n = (entry_at e (row_of e n)).word
 
 -- the node of the owner state of a word
-abbrev pub node_with : Entries → Table → ℕ → Option ℕ
-node_with e t w = first_of (filter (λ n. word_of e n == w) (list_at t (bucket_of e w)))
+abbrev pub node_with : Entries → NodeLists → ℕ → Option ℕ
+node_with e t w = first_of (filter (λ n. word_of_node e n == w) (list_at t (bucket_of e w)))
 
 -- what is found at a node
 abbrev pub found_at : Entries → ℕ → Found
 found_at e n = record { key = (entry_at e (row_of e n)).key; row = row_of e n }
 
 -- the owner state of a word
-abbrev pub found_in : Entries → Table → ℕ → Option Found
+abbrev pub found_in : Entries → NodeLists → ℕ → Option Found
 found_in e t w = option_map (found_at e) (node_with e t w)
 
 -- a number is that of a row
@@ -72,10 +72,10 @@ IsRow e r = r < length e.items
 pub record IsEntered (e : Entries) (b n : ℕ) : Type 0 where
   pub low : e.first_node ≤ n
   pub row : IsRow e (row_of e n)
-  pub bucket : word_of e n % 64 ≡ b
+  pub bucket : word_of_node e n % 64 ≡ b
 
 -- the entries stand in a table
-pub record HoldsEntries (e : Entries) (t : Table) : Type 0 where
+pub record HoldsEntries (e : Entries) (t : NodeLists) : Type 0 where
   -- each node of the table is in at most one list, and once
   pub apart : IsApart t
   -- its lists and nodes are those of the table
@@ -90,7 +90,7 @@ pub record HoldsEntries (e : Entries) (t : Table) : Type 0 where
       → (entry_at e r).word ≡ (entry_at e s).word → r ≡ s
 
 -- they may stand, with no word, in a table that has their lists, all empty, and their nodes, which are in no list
-pub record HasRoomForEntries (e : Entries) (t : Table) : Type 0 where
+pub record HasRoomForEntries (e : Entries) (t : NodeLists) : Type 0 where
   pub apart : IsApart t
   pub lists : e.first_list + 64 ≤ length t.lists
   pub nodes : e.first_node + length e.items ≤ length t.keys

@@ -1,6 +1,6 @@
 -- Parked threads whose tickets are numbered anew, in the order in which they were.
 use Rattle.std.specs.Prelude.{◌≡◌, ℕ, ◌<◌, ◌≤◌, nat_lt, Bool, true, false, if◌then◌else◌, Option, Some, None}
-use Rattle.pif_queue.specs.Parked.{Parked, with_ticket}
+use Rattle.pif_queue.specs.Parked.{Parked, parked_with_ticket}
 
 -- the ticket of a thread; 0 if it is not parked
 abbrev pub ticket_in : Option Parked → ℕ
@@ -18,21 +18,21 @@ pub record HaveTickets (at : ℕ → Option Parked) : Type 0 where
 -- the tickets of the parked threads are the numbers from 1 to the one before `next`, each once, and go in the order in
 -- which they went; all else of each thread is as it was
 pub record AreNumbered (at now : ℕ → Option Parked) (next : ℕ) : Type 0 where
-  pub kept : (u : ℕ) → with_ticket 0 (now u) ≡ with_ticket 0 (at u)
+  pub kept : (u : ℕ) → parked_with_ticket 0 (now u) ≡ parked_with_ticket 0 (at u)
   pub order : (u v : ℕ) → nat_lt (ticket_by now u) (ticket_by now v) ≡ nat_lt (ticket_by at u) (ticket_by at v)
   pub least : (u : ℕ) (x : Parked) → now u ≡ Some x → 1 ≤ x.rank.ticket
   pub below : (u : ℕ) → ticket_by now u < next
   pub each : (k : ℕ) → 1 ≤ k → k < next → (u : ℕ) × (ticket_by now u ≡ k)
 
 -- whether u has a ticket from `least` on, and a lower one than the first so far
-abbrev pub is_sooner : (ℕ → ℕ) → ℕ → Option ℕ → ℕ → Bool
-is_sooner ticket least None u = if nat_lt (ticket u) least then false else true
-is_sooner ticket least (Some v) u = if nat_lt (ticket u) least then false else nat_lt (ticket u) (ticket v)
+abbrev pub has_sooner_ticket : (ℕ → ℕ) → ℕ → Option ℕ → ℕ → Bool
+has_sooner_ticket ticket least None u = if nat_lt (ticket u) least then false else true
+has_sooner_ticket ticket least (Some v) u = if nat_lt (ticket u) least then false else nat_lt (ticket u) (ticket v)
 
 -- of the threads from 1 on and below n the first has the lowest ticket from `least` on, and is None if none has such a
 -- ticket
-abbrev pub IsFirstFrom : (ℕ → ℕ) → ℕ → ℕ → Option ℕ → Type 0
-IsFirstFrom ticket least n None = (u : ℕ) → 1 ≤ u → u < n → ticket u < least
-IsFirstFrom ticket least n (Some v) =
+abbrev pub HasFirstTicketFrom : (ℕ → ℕ) → ℕ → ℕ → Option ℕ → Type 0
+HasFirstTicketFrom ticket least n None = (u : ℕ) → 1 ≤ u → u < n → ticket u < least
+HasFirstTicketFrom ticket least n (Some v) =
     (1 ≤ v) × (v < n) × (least ≤ ticket v)
     × ((u : ℕ) → 1 ≤ u → u < n → least ≤ ticket u → ticket v ≤ ticket u)

@@ -4,7 +4,7 @@ use Rattle.std.specs.Prelude.{◌≡◌, ◌≢◌, ℕ, ◌+◌, ◌-◌, ◌<�
 use Rattle.std.specs.Coded.{Coded, code_by, coded×, coded_ℕ, coded_list, coded_option}
 use Rattle.pif_nodes.specs.declared.keys.Key.{Key}
 use Rattle.pif_nodes.specs.Lists.{has}
-use Rattle.pif_nodes.specs.Table.{Table, list_at, key_at, holder, IsApart}
+use Rattle.pif_nodes.specs.Table.{NodeLists, list_at, key_at, holder, IsApart}
 use Rattle.pif_plist.specs.Order.{IsSorted, comes_before}
 use Rattle.pif_queue.specs.Differences.{differences}
 
@@ -56,28 +56,28 @@ abbrev pub IsCond : ParkedLists → ℕ → Type 0
 IsCond p c = (1 ≤ c) × (c ≤ p.conds)
 
 -- the list of a variable, and the node of a thread
-abbrev pub list_for : ParkedLists → ℕ → ℕ
-list_for p c = p.first_list + (c - 1)
+abbrev pub variable_list : ParkedLists → ℕ → ℕ
+variable_list p c = p.first_list + (c - 1)
 
-abbrev pub node_for : ParkedLists → ℕ → ℕ
-node_for p u = p.first_node + (u - 1)
+abbrev pub parking_node : ParkedLists → ℕ → ℕ
+parking_node p u = p.first_node + (u - 1)
 
 -- the thread of a node
-abbrev pub thread_for : ParkedLists → ℕ → ℕ
-thread_for p n = n - p.first_node + 1
+abbrev pub thread_of_node : ParkedLists → ℕ → ℕ
+thread_of_node p n = n - p.first_node + 1
 
 -- n is the node of a thread
-abbrev pub IsOwnNode : ParkedLists → ℕ → Type 0
-IsOwnNode p n = (p.first_node ≤ n) × (n < p.first_node + p.threads)
+abbrev pub IsNodeOfThread : ParkedLists → ℕ → Type 0
+IsNodeOfThread p n = (p.first_node ≤ n) × (n < p.first_node + p.threads)
 
 -- the nodes of all threads but one are in the lists in which they were
-abbrev pub KeepsNodes : ParkedLists → ℕ → Table → Table → Type 0
-KeepsNodes p u was now = (v : ℕ) → IsThread p v → v ≢ u → holder now (node_for p v) ≡ holder was (node_for p v)
+abbrev pub KeepsNodes : ParkedLists → ℕ → NodeLists → NodeLists → Type 0
+KeepsNodes p u was now = (v : ℕ) → IsThread p v → v ≢ u → holder now (parking_node p v) ≡ holder was (parking_node p v)
 
 -- the variable of a place, and its target; 0 if there is none
-abbrev pub cond_in : Option Place → ℕ
-cond_in None = 0
-cond_in (Some x) = x.cond
+abbrev pub variable_in : Option Place → ℕ
+variable_in None = 0
+variable_in (Some x) = x.cond
 
 abbrev pub target_in : Option Place → ℕ
 target_in None = 0
@@ -85,23 +85,23 @@ target_in (Some x) = x.target
 
 -- the target of the thread of a node
 abbrev pub target_of : ParkedLists → ℕ → ℕ
-target_of p n = target_in (place_at p (thread_for p n))
+target_of p n = target_in (place_at p (thread_of_node p n))
 
 -- a place, with the key of a node
 abbrev pub parked_with : Key → Place → Parked
 parked_with k x = record { cond = x.cond; target = x.target; rank = k }
 
 -- where and with which key a thread is parked
-abbrev pub parked_at : ParkedLists → Table → ℕ → Option Parked
-parked_at p t u = option_map (parked_with (key_at t (node_for p u))) (place_at p u)
+abbrev pub parked_at : ParkedLists → NodeLists → ℕ → Option Parked
+parked_at p t u = option_map (parked_with (key_at t (parking_node p u))) (place_at p u)
 
 -- the threads that are parked on a variable, in the order in which they are taken
-abbrev pub parked_on : ParkedLists → Table → ℕ → List ℕ
-parked_on p t c = map (thread_for p) (list_at t (list_for p c))
+abbrev pub parked_on : ParkedLists → NodeLists → ℕ → List ℕ
+parked_on p t c = map (thread_of_node p) (list_at t (variable_list p c))
 
 -- the value with another place of a thread
-abbrev pub with_place : ℕ → Option Place → ParkedLists → ParkedLists
-with_place u x p = record p { places = set p.places u x }
+abbrev pub with_place_at : ℕ → Option Place → ParkedLists → ParkedLists
+with_place_at u x p = record p { places = set p.places u x }
 
 -- the value with another number of neighbours of a variable that differ in their target
 abbrev pub with_differing : ℕ → ℕ → ParkedLists → ParkedLists
@@ -111,19 +111,19 @@ with_differing c n p = record p { differing = set p.differing c n }
 pub record IsParkedNode (p : ParkedLists) (c n : ℕ) : Type 0 where
   pub thread : ℕ
   pub is_thread : IsThread p thread
-  pub node : n ≡ node_for p thread
+  pub node : n ≡ parking_node p thread
   pub place : Place
   pub at : place_at p thread ≡ Some place
   pub cond : place.cond ≡ c
 
 -- a thread that is parked on a variable stands in its list
-pub record StandsIn (p : ParkedLists) (t : Table) (u : ℕ) (x : Place) : Type 0 where
+pub record StandsIn (p : ParkedLists) (t : NodeLists) (u : ℕ) (x : Place) : Type 0 where
   pub is_thread : IsThread p u
   pub is_cond : IsCond p x.cond
-  pub held : holder t (node_for p u) ≡ Some (list_for p x.cond)
+  pub held : holder t (parking_node p u) ≡ Some (variable_list p x.cond)
 
 -- the parked threads stand in a table, whatever is counted of them
-pub record StandParked (p : ParkedLists) (t : Table) : Type 0 where
+pub record StandParked (p : ParkedLists) (t : NodeLists) : Type 0 where
   -- each node of the table is in at most one list, and once
   pub apart : IsApart t
   -- its lists and nodes are those of the table
@@ -134,27 +134,27 @@ pub record StandParked (p : ParkedLists) (t : Table) : Type 0 where
   pub counts : length p.differing ≡ p.conds + 1
   -- who is parked on a variable stands in its list, and nobody else does
   pub parked : (u : ℕ) (x : Place) → place_at p u ≡ Some x → StandsIn p t u x
-  pub others : (c n : ℕ) → IsCond p c → has n (list_at t (list_for p c)) ≡ true → IsParkedNode p c n
-  pub sorted : (c : ℕ) → IsCond p c → IsSorted t (list_for p c)
+  pub others : (c n : ℕ) → IsCond p c → has n (list_at t (variable_list p c)) ≡ true → IsParkedNode p c n
+  pub sorted : (c : ℕ) → IsCond p c → IsSorted t (variable_list p c)
 
 -- of a variable it is known how many neighbours in its list differ in their target
-abbrev pub IsCounted : ParkedLists → Table → ℕ → Type 0
-IsCounted p t c = differing_at p c ≡ differences (target_of p) (list_at t (list_for p c))
+abbrev pub IsCounted : ParkedLists → NodeLists → ℕ → Type 0
+IsCounted p t c = differing_at p c ≡ differences (target_of p) (list_at t (variable_list p c))
 
 -- the parked threads stand in a table
-pub record HoldsParked (p : ParkedLists) (t : Table) : Type 0 where
+pub record HoldsParked (p : ParkedLists) (t : NodeLists) : Type 0 where
   pub stand : StandParked p t
   pub counted : (c : ℕ) → IsCond p c → IsCounted p t c
 
 -- they may stand, with nobody parked, in a table that has their lists, all empty, and their nodes
-pub record HasRoomForParked (p : ParkedLists) (t : Table) : Type 0 where
+pub record HasRoomForParked (p : ParkedLists) (t : NodeLists) : Type 0 where
   pub apart : IsApart t
   pub lists : p.first_list + p.conds ≤ length t.lists
   pub nodes : p.first_node + p.threads ≤ length t.keys
-  pub empty : (c : ℕ) → IsCond p c → list_at t (list_for p c) ≡ []
+  pub empty : (c : ℕ) → IsCond p c → list_at t (variable_list p c) ≡ []
 
 -- u is parked on c with this key
-pub record IsParkedOn (p : ParkedLists) (t : Table) (c u : ℕ) (rank : Key) : Type 0 where
+pub record IsParkedOn (p : ParkedLists) (t : NodeLists) (c u : ℕ) (rank : Key) : Type 0 where
   pub parked : Parked
   pub at : parked_at p t u ≡ Some parked
   pub cond : parked.cond ≡ c
@@ -162,28 +162,28 @@ pub record IsParkedOn (p : ParkedLists) (t : Table) (c u : ℕ) (rank : Key) : T
 
 -- u is the one that is taken first of those that are parked on a variable: none comes before it, by priority down and
 -- then by ticket
-pub record IsTopParked (p : ParkedLists) (t : Table) (c u : ℕ) : Type 0 where
+pub record IsTopParked (p : ParkedLists) (t : NodeLists) (c u : ℕ) : Type 0 where
   pub rank : Key
   pub on : IsParkedOn p t c u rank
   pub first : (v : ℕ) (other : Key) → IsParkedOn p t c v other → comes_before other rank ≡ false
 
 -- nobody is parked on a variable
-abbrev pub HasNoParked : ParkedLists → Table → ℕ → Type 0
+abbrev pub HasNoParked : ParkedLists → NodeLists → ℕ → Type 0
 HasNoParked p t c = (u : ℕ) (x : Parked) → parked_at p t u ≡ Some x → x.cond ≢ c
 
 -- whoever is parked on a variable has this target
-abbrev pub HasTarget : ParkedLists → Table → ℕ → ℕ → Type 0
+abbrev pub HasTarget : ParkedLists → NodeLists → ℕ → ℕ → Type 0
 HasTarget p t c m = (u : ℕ) (x : Parked) → parked_at p t u ≡ Some x → x.cond ≡ c → x.target ≡ m
 
 -- a thread with another priority, and with another ticket, if it is parked
-abbrev pub with_prio : ℕ → Option Parked → Option Parked
-with_prio prio x = option_map (λ (y : Parked). record y { rank = record y.rank { prio = prio } }) x
+abbrev pub parked_with_prio : ℕ → Option Parked → Option Parked
+parked_with_prio prio x = option_map (λ (y : Parked). record y { rank = record y.rank { prio = prio } }) x
 
-abbrev pub with_ticket : ℕ → Option Parked → Option Parked
-with_ticket ticket x = option_map (λ (y : Parked). record y { rank = record y.rank { ticket = ticket } }) x
+abbrev pub parked_with_ticket : ℕ → Option Parked → Option Parked
+parked_with_ticket ticket x = option_map (λ (y : Parked). record y { rank = record y.rank { ticket = ticket } }) x
 
 -- with this ticket a thread stands before the same others on its variable as it does now, and behind the same
-pub record KeepsOrder (p : ParkedLists) (t : Table) (u ticket : ℕ) : Type 0 where
+pub record KeepsParkedOrder (p : ParkedLists) (t : NodeLists) (u ticket : ℕ) : Type 0 where
   pub before : (v c : ℕ) (mine other : Key) → v ≢ u → IsParkedOn p t c u mine → IsParkedOn p t c v other
       → comes_before (record mine { ticket = ticket }) other ≡ comes_before mine other
   pub behind : (v c : ℕ) (mine other : Key) → v ≢ u → IsParkedOn p t c u mine → IsParkedOn p t c v other

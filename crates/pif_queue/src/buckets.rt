@@ -1,12 +1,12 @@
 ghost use Rattle.std.specs.Prelude.{◌≡◌, ◌≢◌, ℕ, ◌+◌, ◌<◌, ◌≤◌, ◌^◌, ◌⊎◌, ◌==◌, ◌↔◌, if◌then◌else◌, length, IfOk, IfSome, IfNone, IsSome, IsTrue, Some, None, option_map};
 ghost use Rattle.std.specs.List.{slice_get};
 ghost use Rattle.pif_nodes.specs.declared.keys.Key.{Key as RankSeen};
-ghost use Rattle.pif_nodes.specs.Table.{Table, holder};
+ghost use Rattle.pif_nodes.specs.Table.{NodeLists, holder};
 ghost use Rattle.pif_queue.specs.Frames.{KeepsOthers};
 ghost use Rattle.pif_queue.specs.Entries.{Found, IsRow, no_entries, found_in};
-ghost use Rattle.pif_queue.specs.Parked.{Parked, no_parked, IsThread, IsCond, node_for, parked_at, parked_on, with_prio, with_ticket, IsTopParked, HasNoParked, HasTarget, KeepsOrder, KeepsNodes};
+ghost use Rattle.pif_queue.specs.Parked.{Parked, no_parked, IsThread, IsCond, parking_node, parked_at, parked_on, parked_with_prio, parked_with_ticket, IsTopParked, HasNoParked, HasTarget, KeepsParkedOrder, KeepsNodes};
 ghost use Rattle.pif_queue.specs.Numbered.{HaveTickets, AreNumbered};
-ghost use Rattle.pif_queue.specs.Buckets.{HoldsBuckets, HasRoom};
+ghost use Rattle.pif_queue.specs.Buckets.{HoldsBuckets, HasRoomForBuckets};
 
 use crate::entries::Entries;
 use crate::parked_lists::ParkedLists;
@@ -58,9 +58,9 @@ impl Buckets {
           entries = no_entries first_list first_node threads;
           parked = no_parked (first_list + 64) wait_node threads conds;
         }) }
-        ensures holds { IfOk result (λ b. (t : Table) → HasRoom b t → HoldsBuckets b t) }
-        ensures no_word { IfOk result (λ b. (t : Table) → HasRoom b t → (w : ℕ) → found_in b.entries t w ≡ None) }
-        ensures nobody { IfOk result (λ b. (t : Table) (u : ℕ) → parked_at b.parked t u ≡ None) }
+        ensures holds { IfOk result (λ b. (t : NodeLists) → HasRoomForBuckets b t → HoldsBuckets b t) }
+        ensures no_word { IfOk result (λ b. (t : NodeLists) → HasRoomForBuckets b t → (w : ℕ) → found_in b.entries t w ≡ None) }
+        ensures nobody { IfOk result (λ b. (t : NodeLists) (u : ℕ) → parked_at b.parked t u ≡ None) }
     {
         let entries = Entries::new(alloc, first_list, first_node, threads)?;
         let parked = ParkedLists::new(alloc, first_list + BUCKETS, wait_node, threads, conds)?;
@@ -121,7 +121,7 @@ impl Buckets {
         requires holds { HoldsBuckets self.old table.old }
         requires thread { IsThread self.old.parked t }
         requires cond { IsCond self.old.parked c }
-        requires node { holder table.old (node_for self.old.parked t) ≡ None }
+        requires node { holder table.old (parking_node self.old.parked t) ≡ None }
         ensures parked { let rank : RankSeen = record { prio = prio; ticket = ticket } in
             (u : ℕ) → parked_at self.new.parked table.new u
             ≡ (if u == t then Some (record { cond = c; target = m; rank = rank }) else parked_at self.old.parked table.old u) }
@@ -147,7 +147,7 @@ impl Buckets {
           parked = record self.old.parked { places = self.new.parked.places; differing = self.new.parked.differing };
         } }
         ensures outside { KeepsOthers self.old.parked.first_list self.old.parked.conds self.old.parked.first_node self.old.parked.threads table.old table.new }
-        ensures node { holder table.new (node_for self.old.parked t) ≡ None }
+        ensures node { holder table.new (parking_node self.old.parked t) ≡ None }
         ensures nodes { KeepsNodes self.old.parked t table.old table.new }
         ensures holds { HoldsBuckets self.new table.new }
     {
@@ -160,7 +160,7 @@ impl Buckets {
         requires holds { HoldsBuckets self.old table.old }
         requires parked { IsSome (parked_at self.old.parked table.old t) }
         ensures changed { (u : ℕ) → parked_at self.new.parked table.new u
-            ≡ (if u == t then with_prio prio (parked_at self.old.parked table.old u) else parked_at self.old.parked table.old u) }
+            ≡ (if u == t then parked_with_prio prio (parked_at self.old.parked table.old u) else parked_at self.old.parked table.old u) }
         ensures words { (w : ℕ) → found_in self.new.entries table.new w ≡ found_in self.old.entries table.old w }
         ensures place { self.new ≡ record self.old {
           parked = record self.old.parked { differing = self.new.parked.differing };
@@ -185,9 +185,9 @@ impl Buckets {
     pub fn set_ticket(&mut self, table: &mut NodeTable, t: Tid, ticket: u64)
         requires holds { HoldsBuckets self.old table.old }
         requires parked { IsSome (parked_at self.old.parked table.old t) }
-        requires order { KeepsOrder self.old.parked table.old t ticket }
+        requires order { KeepsParkedOrder self.old.parked table.old t ticket }
         ensures changed { (u : ℕ) → parked_at self.new.parked table.new u
-            ≡ (if u == t then with_ticket ticket (parked_at self.old.parked table.old u) else parked_at self.old.parked table.old u) }
+            ≡ (if u == t then parked_with_ticket ticket (parked_at self.old.parked table.old u) else parked_at self.old.parked table.old u) }
         ensures words { (w : ℕ) → found_in self.new.entries table.new w ≡ found_in self.old.entries table.old w }
         ensures place { self.new ≡ self.old }
         ensures outside { KeepsOthers self.old.parked.first_list self.old.parked.conds self.old.parked.first_node self.old.parked.threads table.old table.new }
@@ -208,7 +208,7 @@ impl Buckets {
         ensures place { self.new ≡ self.old }
         ensures outside { KeepsOthers self.old.parked.first_list self.old.parked.conds self.old.parked.first_node self.old.parked.threads table.old table.new }
         ensures nodes { (u : ℕ) → IsThread self.old.parked u
-            → holder table.new (node_for self.old.parked u) ≡ holder table.old (node_for self.old.parked u) }
+            → holder table.new (parking_node self.old.parked u) ≡ holder table.old (parking_node self.old.parked u) }
         ensures holds { HoldsBuckets self.new table.new }
     {
         self.parked.renumber(table)

@@ -1,5 +1,5 @@
 ghost use Rattle.std.specs.Prelude.{◌≡◌, ◌≢◌, ℕ, ◌+◌, ◌<◌, ◌≤◌, ◌^◌, ◌==◌, if◌then◌else◌, length, set, IfOk, IsSome, Some, None, option_map};
-ghost use Rattle.pif_nodes.specs.Table.{Table};
+ghost use Rattle.pif_nodes.specs.Table.{NodeLists};
 ghost use Rattle.pif_queue.specs.Entries.{Found, no_entries, entry_at, bucket_of, row_of, node_with, found_in, IsRow, HoldsEntries, HasRoomForEntries};
 ghost use Rattle.pif_queue.specs.Frames.{KeepsOthers};
 
@@ -68,8 +68,8 @@ impl Entries {
         requires lists { first_list + 64 < 2 ^ 32 }
         requires nodes { first_node + rows < 2 ^ 32 }
         ensures made { IfOk result (λ e. e ≡ no_entries first_list first_node rows) }
-        ensures holds { IfOk result (λ e. (t : Table) → HasRoomForEntries e t → HoldsEntries e t) }
-        ensures empty { IfOk result (λ e. (t : Table) → HasRoomForEntries e t → (w : ℕ) → found_in e t w ≡ None) }
+        ensures holds { IfOk result (λ e. (t : NodeLists) → HasRoomForEntries e t → HoldsEntries e t) }
+        ensures empty { IfOk result (λ e. (t : NodeLists) → HasRoomForEntries e t → (w : ℕ) → found_in e t w ≡ None) }
     {
         let entry = Entry {
             word: 0,

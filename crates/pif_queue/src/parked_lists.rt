@@ -1,13 +1,13 @@
 ghost use Rattle.std.specs.Prelude.{◌≡◌, ℕ, ◌+◌, ◌<◌, ◌≤◌, ◌^◌, ◌==◌, ◌↔◌, true, false, if◌then◌else◌, length, IfOk, IfSome, IfNone, IsSome, IsTrue, Some, None, option_map};
 ghost use Rattle.std.specs.List.{slice_get};
 ghost use Rattle.pif_nodes.specs.declared.keys.Key.{Key as RankSeen};
-ghost use Rattle.pif_nodes.specs.Lists.{has, first_of, without};
-ghost use Rattle.pif_nodes.specs.Table.{Table, list_at, key_at, holder};
+ghost use Rattle.pif_nodes.specs.Lists.{has, first_of, list_without};
+ghost use Rattle.pif_nodes.specs.Table.{NodeLists, list_at, key_at, holder};
 ghost use Rattle.pif_plist.specs.Order.{comes_before};
 ghost use Rattle.pif_queue.specs.Differences.{step_between, differences, around, across};
 ghost use Rattle.pif_queue.specs.Frames.{KeepsOthers};
-ghost use Rattle.pif_queue.specs.Parked.{Parked, no_parked, place_at, differing_at, IsThread, IsCond, list_for, node_for, thread_for, target_of, parked_at, parked_on, with_place, with_differing, with_prio, with_ticket, StandParked, IsCounted, HoldsParked, HasRoomForParked, IsTopParked, HasNoParked, HasTarget, KeepsOrder, KeepsNodes, IsOwnNode};
-ghost use Rattle.pif_queue.specs.Numbered.{ticket_by, HaveTickets, AreNumbered, IsFirstFrom, is_sooner};
+ghost use Rattle.pif_queue.specs.Parked.{Parked, no_parked, place_at, differing_at, IsThread, IsCond, variable_list, parking_node, thread_of_node, target_of, parked_at, parked_on, with_place_at, with_differing, parked_with_prio, parked_with_ticket, StandParked, IsCounted, HoldsParked, HasRoomForParked, IsTopParked, HasNoParked, HasTarget, KeepsParkedOrder, KeepsNodes, IsNodeOfThread};
+ghost use Rattle.pif_queue.specs.Numbered.{ticket_by, HaveTickets, AreNumbered, HasFirstTicketFrom, has_sooner_ticket};
 
 use pif_nodes::{List, Node, NodeTable};
 use pif_plist::PList;
@@ -87,8 +87,8 @@ impl ParkedLists {
         requires lists { first_list + conds < 2 ^ 32 }
         requires nodes { first_node + threads < 2 ^ 32 }
         ensures made { IfOk result (λ p. p ≡ no_parked first_list first_node threads conds) }
-        ensures holds { IfOk result (λ p. (t : Table) → HasRoomForParked p t → HoldsParked p t) }
-        ensures nobody { IfOk result (λ p. (t : Table) (u : ℕ) → parked_at p t u ≡ None) }
+        ensures holds { IfOk result (λ p. (t : NodeLists) → HasRoomForParked p t → HoldsParked p t) }
+        ensures nobody { IfOk result (λ p. (t : NodeLists) (u : ℕ) → parked_at p t u ≡ None) }
     {
         let places = vec![in alloc; None; threads as usize + 1].map_err(|_| NoMemory)?;
         let differing = vec![in alloc; 0; conds as usize + 1].map_err(|_| NoMemory)?;
@@ -116,7 +116,7 @@ impl ParkedLists {
         requires holds { HoldsParked self.old table.old }
         requires thread { IsThread self.old t }
         requires cond { IsCond self.old c }
-        requires node { holder table.old (node_for self.old t) ≡ None }
+        requires node { holder table.old (parking_node self.old t) ≡ None }
         ensures parked { let rank : RankSeen = record { prio = prio; ticket = ticket } in
             (u : ℕ) → parked_at self.new table.new u
             ≡ (if u == t then Some (record { cond = c; target = m; rank = rank }) else parked_at self.old table.old u) }
@@ -138,7 +138,7 @@ impl ParkedLists {
         ensures freed { (u : ℕ) → parked_at self.new table.new u ≡ (if u == t then None else parked_at self.old table.old u) }
         ensures place { self.new ≡ record self.old { places = self.new.places; differing = self.new.differing } }
         ensures outside { KeepsOthers self.old.first_list self.old.conds self.old.first_node self.old.threads table.old table.new }
-        ensures node { holder table.new (node_for self.old t) ≡ None }
+        ensures node { holder table.new (parking_node self.old t) ≡ None }
         ensures nodes { KeepsNodes self.old t table.old table.new }
         ensures holds { HoldsParked self.new table.new }
     {
@@ -156,7 +156,7 @@ impl ParkedLists {
         requires holds { HoldsParked self.old table.old }
         requires parked { IsSome (parked_at self.old table.old t) }
         ensures changed { (u : ℕ) → parked_at self.new table.new u
-            ≡ (if u == t then with_prio prio (parked_at self.old table.old u) else parked_at self.old table.old u) }
+            ≡ (if u == t then parked_with_prio prio (parked_at self.old table.old u) else parked_at self.old table.old u) }
         ensures place { self.new ≡ record self.old { differing = self.new.differing } }
         ensures outside { KeepsOthers self.old.first_list self.old.conds self.old.first_node self.old.threads table.old table.new }
         ensures nodes { KeepsNodes self.old t table.old table.new }
@@ -184,9 +184,9 @@ impl ParkedLists {
     pub fn set_ticket(&mut self, table: &mut NodeTable, t: Tid, ticket: u64)
         requires holds { HoldsParked self.old table.old }
         requires parked { IsSome (parked_at self.old table.old t) }
-        requires order { KeepsOrder self.old table.old t ticket }
+        requires order { KeepsParkedOrder self.old table.old t ticket }
         ensures changed { (u : ℕ) → parked_at self.new table.new u
-            ≡ (if u == t then with_ticket ticket (parked_at self.old table.old u) else parked_at self.old table.old u) }
+            ≡ (if u == t then parked_with_ticket ticket (parked_at self.old table.old u) else parked_at self.old table.old u) }
         ensures place { self.new ≡ self.old }
         ensures outside { KeepsOthers self.old.first_list self.old.conds self.old.first_node self.old.threads table.old table.new }
         ensures nodes { KeepsNodes self.old t table.old table.new }
@@ -207,7 +207,7 @@ impl ParkedLists {
         ensures few { result ≤ self.old.threads + 1 }
         ensures place { self.new ≡ self.old }
         ensures outside { KeepsOthers self.old.first_list self.old.conds self.old.first_node self.old.threads table.old table.new }
-        ensures nodes { (u : ℕ) → IsThread self.old u → holder table.new (node_for self.old u) ≡ holder table.old (node_for self.old u) }
+        ensures nodes { (u : ℕ) → IsThread self.old u → holder table.new (parking_node self.old u) ≡ holder table.old (parking_node self.old u) }
         ensures holds { HoldsParked self.new table.new }
     {
         // For the prover: there are at most 1,024 threads.
@@ -224,7 +224,7 @@ impl ParkedLists {
     fn first_from(&self, table: &NodeTable, least: u64) -> Option<Tid>
         requires holds { HoldsParked self.now table.now }
         requires least { 1 ≤ least }
-        ensures { IsFirstFrom (ticket_by (parked_at self.now table.now)) least (self.now.threads + 1) result }
+        ensures { HasFirstTicketFrom (ticket_by (parked_at self.now table.now)) least (self.now.threads + 1) result }
     {
         let mut first = None;
         for number in 1..self.threads + 1 {
@@ -238,7 +238,7 @@ impl ParkedLists {
     fn sooner(&self, table: &NodeTable, least: u64, first: Option<Tid>, t: Tid) -> Option<Tid>
         requires holds { HoldsParked self.now table.now }
         requires least { 1 ≤ least }
-        ensures { result ≡ (if is_sooner (ticket_by (parked_at self.now table.now)) least first t then Some t else first) }
+        ensures { result ≡ (if has_sooner_ticket (ticket_by (parked_at self.now table.now)) least first t then Some t else first) }
     {
         let ticket = self.ticket(table, t).unwrap_or(0);
         match first {
@@ -290,8 +290,8 @@ impl ParkedLists {
         requires { HoldsParked self.now table.now }
         ensures none { IfNone result (HasNoParked self.now table.now c) }
         ensures cond { IfSome result (λ n. IsCond self.now c) }
-        ensures first { IfSome result (λ n. Some n ≡ first_of (list_at table.now (list_for self.now c))) }
-        ensures least { IfSome result (λ n. (k : ℕ) → has k (list_at table.now (list_for self.now c)) ≡ true
+        ensures first { IfSome result (λ n. Some n ≡ first_of (list_at table.now (variable_list self.now c))) }
+        ensures least { IfSome result (λ n. (k : ℕ) → has k (list_at table.now (variable_list self.now c)) ≡ true
             → comes_before (key_at table.now k) (key_at table.now n) ≡ false) }
     {
         if c.get() > self.conds {
@@ -304,11 +304,11 @@ impl ParkedLists {
     fn count_in(&mut self, table: &NodeTable, c: CondId, node: Node)
         requires stand { StandParked self.old table.now }
         requires cond { IsCond self.old c }
-        requires held { holder table.now node ≡ Some (list_for self.old c) }
+        requires held { holder table.now node ≡ Some (variable_list self.old c) }
         requires counted { differing_at self.old c
-            ≡ differences (target_of self.old) (without node (list_at table.now (list_for self.old c))) }
+            ≡ differences (target_of self.old) (list_without node (list_at table.now (variable_list self.old c))) }
         ensures { self.new
-            ≡ with_differing c (differences (target_of self.old) (list_at table.now (list_for self.old c))) self.old }
+            ≡ with_differing c (differences (target_of self.old) (list_at table.now (variable_list self.old c))) self.old }
     {
         // For the prover: nodes have numbers of 32 bits.
         let _first = self.first_node;
@@ -322,10 +322,10 @@ impl ParkedLists {
     fn count_out(&mut self, table: &NodeTable, c: CondId, node: Node)
         requires stand { StandParked self.old table.now }
         requires cond { IsCond self.old c }
-        requires held { holder table.now node ≡ Some (list_for self.old c) }
+        requires held { holder table.now node ≡ Some (variable_list self.old c) }
         requires counted { IsCounted self.old table.now c }
         ensures { self.new
-            ≡ with_differing c (differences (target_of self.old) (without node (list_at table.now (list_for self.old c)))) self.old }
+            ≡ with_differing c (differences (target_of self.old) (list_without node (list_at table.now (variable_list self.old c)))) self.old }
     {
         // For the prover: nodes have numbers of 32 bits.
         let _first = self.first_node;
@@ -355,8 +355,8 @@ impl ParkedLists {
     fn around(&self, table: &NodeTable, c: CondId, node: Node) -> u32
         requires stand { StandParked self.now table.now }
         requires cond { IsCond self.now c }
-        requires held { holder table.now node ≡ Some (list_for self.now c) }
-        ensures value { result ≡ around (target_of self.now) (list_at table.now (list_for self.now c)) node }
+        requires held { holder table.now node ≡ Some (variable_list self.now c) }
+        ensures value { result ≡ around (target_of self.now) (list_at table.now (variable_list self.now c)) node }
         ensures most { result ≤ 2 }
     {
         let before = table.prev(node);
@@ -368,8 +368,8 @@ impl ParkedLists {
     fn across(&self, table: &NodeTable, c: CondId, node: Node) -> u32
         requires stand { StandParked self.now table.now }
         requires cond { IsCond self.now c }
-        requires held { holder table.now node ≡ Some (list_for self.now c) }
-        ensures value { result ≡ across (target_of self.now) (list_at table.now (list_for self.now c)) node }
+        requires held { holder table.now node ≡ Some (variable_list self.now c) }
+        ensures value { result ≡ across (target_of self.now) (list_at table.now (variable_list self.now c)) node }
         ensures most { result ≤ 1 }
     {
         self.step(table.prev(node), table.next(node))
@@ -377,8 +377,8 @@ impl ParkedLists {
 
     /// 1 if there are two nodes, whose threads have different targets, and else 0.
     fn step(&self, one: Option<Node>, other: Option<Node>) -> u32
-        requires one { IfSome one (λ n. IsOwnNode self.now n) }
-        requires other { IfSome other (λ n. IsOwnNode self.now n) }
+        requires one { IfSome one (λ n. IsNodeOfThread self.now n) }
+        requires other { IfSome other (λ n. IsNodeOfThread self.now n) }
         ensures value { result ≡ step_between (target_of self.now) one other }
         ensures most { result ≤ 1 }
     {
@@ -390,7 +390,7 @@ impl ParkedLists {
 
     /// The target of the thread of a node, by its number. 0 if that thread is not parked.
     fn target(&self, node: Node) -> u32
-        requires { IsOwnNode self.now node }
+        requires { IsNodeOfThread self.now node }
         ensures { result ≡ target_of self.now node }
     {
         match self.places[(node.get() - self.first_node) as usize + 1] {
@@ -414,7 +414,7 @@ impl ParkedLists {
     /// Makes `place` the place of the thread `t`.
     fn set_place(&mut self, t: Tid, place: Option<Place>)
         requires { IsThread self.old t }
-        ensures { self.new ≡ with_place t place self.old }
+        ensures { self.new ≡ with_place_at t place self.old }
     {
         self.places[t.get() as usize] = place;
     }
@@ -422,7 +422,7 @@ impl ParkedLists {
     /// The list of a variable.
     fn list(&self, c: CondId) -> PList
         requires { IsCond self.now c }
-        ensures { result ≡ list_for self.now c }
+        ensures { result ≡ variable_list self.now c }
     {
         PList::new(List::new(self.first_list + (c.get() - 1)))
     }
@@ -430,15 +430,15 @@ impl ParkedLists {
     /// The node of the thread `t`.
     fn node(&self, t: Tid) -> Node
         requires { IsThread self.now t }
-        ensures { result ≡ node_for self.now t }
+        ensures { result ≡ parking_node self.now t }
     {
         Node::new(self.first_node + (t.get() - 1))
     }
 
     /// The thread of a node.
     fn thread(&self, node: Node) -> Option<Tid>
-        requires { IsOwnNode self.now node }
-        ensures { result ≡ Some (thread_for self.now node) }
+        requires { IsNodeOfThread self.now node }
+        ensures { result ≡ Some (thread_of_node self.now node) }
     {
         Tid::new(node.get() - self.first_node + 1)
     }

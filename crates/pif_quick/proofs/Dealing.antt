@@ -12,7 +12,7 @@ use Rattle.pif_quick.specs.declared.rule.View.{View}
 use Rattle.pif_quick.specs.declared.rule.Role.{Role}
 use Rattle.pif_quick.specs.declared.rule.Role.TheVariants.{Dealer, Seated, Spent}
 use Rattle.pif_quick.specs.Turns.{left_by, turns_by, IsOlder}
-use Rattle.pif_quick.specs.Rule.{opening_at, IsDealt, IsOut, IsSeat, IsSeating, HasOneHolder, spent_view, first_dealer, dealer_after, seat_from, note_of, Paged}
+use Rattle.pif_quick.specs.Rule.{opening_at, IsDealt, IsOut, IsSeatOfPass, IsSeating, EachWordHasOneHolder, spent_view, first_dealer, dealer_after, seat_from, note_of, Paged}
 use Rattle.pif_quick.proofs.Views.{spent_not_seated, spent_not_dealer, each_set, IsSameSeat, same_seat, seating_from, seating_stays}
 use Rattle.pif_quick.proofs.OneStep.{Board}
 use Rattle.pif_quick.proofs.Turning.{set_there}
@@ -47,13 +47,13 @@ module _ {A : Type 0} where
   at_all (x ∷ xs) (suc i) d h = at_all xs i d (omega arith)
 
 module _ {T : Type 0} (starts : List (Option T)) where
-  module _ (s : Board T) (r : HasOneHolder starts s) where
+  module _ (s : Board T) (r : EachWordHasOneHolder starts s) where
     -- one view changes
     abbrev swaps : (id : ℕ) (w : View T) → IsSeating starts (set s.views id w)
-        → (w.role ≡ Seated → IsSeat starts s.words s.homes (r.logs w.word) w)
+        → (w.role ≡ Seated → IsSeatOfPass starts s.words s.homes (r.logs w.word) w)
         → ((i : ℕ) → IsOut s.views i → IsOut (set s.views id w) i) → IsOlder w.beside (r.logs w.word)
         → (w.role ≡ Dealer → (p i : ℕ) → ¬ IsDealt w p i → turns_by p (r.logs i) ≡ [])
-        → HasOneHolder starts record { words = s.words; homes = s.homes; views = set s.views id w }
+        → EachWordHasOneHolder starts record { words = s.words; homes = s.homes; views = set s.views id w }
     swaps id w seating mine out beside undealt = record {
       logs = r.logs;
       chain = r.chain;
@@ -61,7 +61,7 @@ module _ {T : Type 0} (starts : List (Option T)) where
       narrow = r.narrow;
       seating = seating;
       seats = each_set (λ (j : ℕ) (u : View T). u.role ≡ Seated
-          → IsSeat starts s.words s.homes (r.logs u.word) u) s.views id w mine (λ j u _ e. r.seats j u e);
+          → IsSeatOfPass starts s.words s.homes (r.logs u.word) u) s.views id w mine (λ j u _ e. r.seats j u e);
       homes = λ i lt. ⊎_elim (λ (h : get_elem? s.homes i ≡ some (some (left_by (opening_at starts i) (r.logs i)))).
           inl h) (λ (o : IsOut s.views i). inr (out i o)) (r.homes i lt);
       beside = each_set (λ (j : ℕ) (u : View T). IsOlder u.beside (r.logs u.word)) s.views id w beside
@@ -89,7 +89,7 @@ module _ {T : Type 0} (starts : List (Option T)) where
     -- a seat is told of another's turns
     told : (id : ℕ) (v : View T) (b : List (Turn T)) → get_elem? s.views id ≡ some v → v.role ≡ Seated
         → IsOlder b (r.logs v.word)
-        → HasOneHolder starts record {
+        → EachWordHasOneHolder starts record {
           words = s.words;
           homes = s.homes;
           views =
@@ -139,7 +139,7 @@ module _ {T : Type 0} (starts : List (Option T)) where
 
     -- what is no seat is given up
     gives_up : (id : ℕ) (v : View T) → get_elem? s.views id ≡ some v → v.role ≡ Spent
-        → HasOneHolder starts record { words = s.words; homes = s.homes; views = set s.views id spent_view }
+        → EachWordHasOneHolder starts record { words = s.words; homes = s.homes; views = set s.views id spent_view }
     gives_up id v at role = swaps id spent_view seating (λ e. absurd (spent_not_seated e))
         (out_with_other id v spent_view at (λ e. spent_not_seated (sym role ∙ e)))
         (r.logs 0, append-nil (r.logs 0)) (λ e. absurd (spent_not_dealer e))
@@ -174,7 +174,7 @@ module _ {T : Type 0} (starts : List (Option T)) where
     abbrev deals_on : (id : ℕ) (d d' : View T) → get_elem? s.views id ≡ some d → d.role ≡ Dealer → d'.role ≡ Dealer
         → d'.starts ≡ d.starts → d'.beside ≡ []
         → ((p i : ℕ) → IsDealt d p i → IsDealt d' p i)
-        → HasOneHolder starts record { words = s.words; homes = s.homes; views = set s.views id d' }
+        → EachWordHasOneHolder starts record { words = s.words; homes = s.homes; views = set s.views id d' }
     deals_on id d d' at role role' starts' none_beside more =
         swaps id d' (seating_on id d d' at role role' starts' more) (λ e. absurd (dealer_not_seated (sym role' ∙ e)))
         (out_with_other id d d' at (λ e. dealer_not_seated (sym role ∙ e)))
@@ -182,13 +182,13 @@ module _ {T : Type 0} (starts : List (Option T)) where
         (λ _ p i isnt. r.undealt id d at role p i (λ h. isnt (more p i h)))
 
     -- a view more
-    sits : (b : View T) → b.role ≢ Dealer → (b.role ≡ Seated → IsSeat starts s.words s.homes (r.logs b.word) b)
+    sits : (b : View T) → b.role ≢ Dealer → (b.role ≡ Seated → IsSeatOfPass starts s.words s.homes (r.logs b.word) b)
         → IsOlder b.beside (r.logs b.word)
         → ((j : ℕ) (v : View T) → get_elem? s.views j ≡ some v → v.role ≡ Seated → b.role ≡ Seated → v.pass ≡ b.pass
         → v.word ≡ b.word → ⊥)
         → ((j : ℕ) (d : View T) → get_elem? s.views j ≡ some d → d.role ≡ Dealer → b.role ≡ Seated
         → IsDealt d b.pass b.word)
-        → HasOneHolder starts record { words = s.words; homes = s.homes; views = s.views ++ b ∷ [] }
+        → EachWordHasOneHolder starts record { words = s.words; homes = s.homes; views = s.views ++ b ∷ [] }
     sits b no_dealer seat beside apart dealt = record {
       logs = r.logs;
       chain = r.chain;
@@ -218,7 +218,7 @@ module _ {T : Type 0} (starts : List (Option T)) where
             (λ k v f rv. r.seating.dealt j k d v e rd f rv) k v ev rv) j d ed rd;
       };
       seats = each_end (λ (j : ℕ) (u : View T). u.role ≡ Seated
-          → IsSeat starts s.words s.homes (r.logs u.word) u) s.views b seat (λ j u e. r.seats j u e);
+          → IsSeatOfPass starts s.words s.homes (r.logs u.word) u) s.views b seat (λ j u e. r.seats j u e);
       homes = λ i lt. ⊎_elim (λ (h : get_elem? s.homes i ≡ some (some (left_by (opening_at starts i) (r.logs i)))).
           inl h)
           (λ (o : IsOut s.views i). inr (record {
@@ -237,9 +237,9 @@ module _ {T : Type 0} (starts : List (Option T)) where
     }
 
   -- a seat's closed turns are noted
-  pub noting : (id : ℕ) (v : View T) → v.role ≡ Seated → Splits (HasOneHolder starts) id v v (note_of v)
+  pub noting : (id : ℕ) (v : View T) → v.role ≡ Seated → Splits (EachWordHasOneHolder starts) id v v (note_of v)
   noting id v role s r at =
-      subst (λ (l : List (View T)). HasOneHolder starts record {
+      subst (λ (l : List (View T)). EachWordHasOneHolder starts record {
         words = s.words;
         homes = s.homes;
         views =
@@ -251,7 +251,7 @@ module _ {T : Type 0} (starts : List (Option T)) where
 
   -- and shown to another seat of the word
   pub showing : (id other : ℕ) (v w : View T) → v.role ≡ Seated → w.role ≡ Spent → w.word ≡ v.word
-      → Joins (HasOneHolder starts) id v other w (record v { beside = w.beside }) spent_view
+      → Joins (EachWordHasOneHolder starts) id v other w (record v { beside = w.beside }) spent_view
   showing id other v w role spent same s r at apart there =
       let there' : get_elem? s.views other ≡ some w =
       sym (set_else s.views id other (record v { beside = w.beside }) apart) ∙ there in
@@ -262,7 +262,7 @@ module _ {T : Type 0} (starts : List (Option T)) where
 
   -- the dealer gives a seat
   pub dealing : (id : ℕ) (d : View T) → d.role ≡ Dealer → d.beside ≡ [] → (1 ≤ d.pass) × (d.pass < 2 ^ 30)
-      → Splits (HasOneHolder starts) id d (dealer_after d) (seat_from d)
+      → Splits (EachWordHasOneHolder starts) id d (dealer_after d) (seat_from d)
   dealing id d role none_beside numbered s r at =
       let mine = r.seating.dealer id d at role in
       sits record { words = s.words; homes = s.homes; views = set s.views id (dealer_after d) }
@@ -299,12 +299,12 @@ module _ {T : Type 0} (starts : List (Option T)) where
 
   -- the dealer goes on to the next pass
   pub paging : (slots id i : ℕ) (m : Me (Option T) (View T)) → m.0.role ≡ Dealer → m.0.beside ≡ []
-      → Allows (HasOneHolder starts) slots id m i (λ n. n) (Paged (step slots i 0 0 none) m)
+      → Allows (EachWordHasOneHolder starts) slots id m i (λ n. n) (Paged (step slots i 0 0 none) m)
   paging slots id i m role none_beside s r deep at wide = (
     next,
     keeps,
     tt,
-    subst (λ (l : List ℕ). HasOneHolder starts record { words = l; homes = s.homes; views = set s.views id next })
+    subst (λ (l : List ℕ). EachWordHasOneHolder starts record { words = l; homes = s.homes; views = set s.views id next })
         (sym (set-get_or s.words i 0))
         (deals_on s r id m.0 next at role role refl none_beside more),
     refl,
@@ -319,7 +319,7 @@ module _ {T : Type 0} (starts : List (Option T)) where
 
   -- the table at the start: each word free, each value at home
   pub starting : (words : List ℕ) → length words ≡ length starts → ((i : ℕ) → get_or words i 0 ≡ 0)
-      → HasOneHolder starts (opening words starts (first_dealer starts))
+      → EachWordHasOneHolder starts (opening words starts (first_dealer starts))
   starting words same free = record {
     logs = λ _. [];
     chain = λ _. tt;

@@ -11,8 +11,8 @@ use Rattle.pif_model.specs.Word.{word_of}
 use Rattle.pif_quick.specs.declared.rule.Turn.{Turn}
 use Rattle.pif_quick.specs.declared.rule.View.{View}
 use Rattle.pif_quick.specs.declared.rule.Role.TheVariants.{Dealer, Seated}
-use Rattle.pif_quick.specs.Turns.{left_by, IsChain, turns_by, IsOlder}
-use Rattle.pif_quick.specs.Rule.{opening_at, IsDealt, IsOut, IsSeat, HasOneHolder}
+use Rattle.pif_quick.specs.Turns.{left_by, IsChainOfTurns, turns_by, IsOlder}
+use Rattle.pif_quick.specs.Rule.{opening_at, IsDealt, IsOut, IsSeatOfPass, EachWordHasOneHolder}
 use Rattle.pif_quick.proofs.TurnLists.{turns_by-append, older-more}
 use Rattle.pif_quick.proofs.Views.{put, put_here, put_else, each_set, IsSameSeat, seating_stays, out_stays}
 
@@ -26,8 +26,8 @@ module _ {T : Type 0} where
   -- a seat of another word
   pub seat_elsewhere : (starts : List (Option T)) (words : List ℕ) (homes homes' : Homes T) (log : List (Turn T))
       (u : View T) (i n : ℕ)
-      → u.word ≢ i → get_elem? homes' u.word ≡ get_elem? homes u.word → IsSeat starts words homes log u
-      → IsSeat starts (set words i n) homes' log u
+      → u.word ≢ i → get_elem? homes' u.word ≡ get_elem? homes u.word → IsSeatOfPass starts words homes log u
+      → IsSeatOfPass starts (set words i n) homes' log u
   seat_elsewhere starts words homes homes' log u i n other away x = record {
     numbered = x.numbered;
     opening = x.opening;
@@ -47,8 +47,8 @@ module _ {T : Type 0} where
   -- a seat that has no open turn, where the log grows by turns of others
   pub seat_quiet : (starts : List (Option T)) (words words' : List ℕ) (homes homes' : Homes T)
       (extra log : List (Turn T)) (u : View T)
-      → ((f : T) → u.known.found ≡ Some f → ⊥) → turns_by u.pass extra ≡ [] → IsSeat starts words homes log u
-      → IsSeat starts words' homes' (extra ++ log) u
+      → ((f : T) → u.known.found ≡ Some f → ⊥) → turns_by u.pass extra ≡ [] → IsSeatOfPass starts words homes log u
+      → IsSeatOfPass starts words' homes' (extra ++ log) u
   seat_quiet starts words words' homes homes' extra log u quiet by x =
       record {
         numbered = x.numbered;
@@ -62,7 +62,7 @@ module _ {T : Type 0} where
         holds = λ f e. absurd (quiet f e);
       }
 
-  module _ (starts : List (Option T)) (s : Board T) (r : HasOneHolder starts s) (id : ℕ) (v : View T)
+  module _ (starts : List (Option T)) (s : Board T) (r : EachWordHasOneHolder starts s) (id : ℕ) (v : View T)
       (at : get_elem? s.views id ≡ some v) (seated : v.role ≡ Seated) where
     abbrev here : ℕ
     here = v.word
@@ -73,13 +73,13 @@ module _ {T : Type 0} where
       pub same : IsSameSeat v w
       pub sized : length homes' ≡ length s.homes
       pub away : (k : ℕ) → k ≢ here → get_elem? homes' k ≡ get_elem? s.homes k
-      pub mine : IsSeat starts (set s.words here n) homes' (extra ++ r.logs here) w
+      pub mine : IsSeatOfPass starts (set s.words here n) homes' (extra ++ r.logs here) w
       pub others : (j : ℕ) (u : View T) → j ≢ id → get_elem? s.views j ≡ some u → u.role ≡ Seated → u.word ≡ here
-          → IsSeat starts (set s.words here n) homes' (extra ++ r.logs here) u
+          → IsSeatOfPass starts (set s.words here n) homes' (extra ++ r.logs here) u
       pub home : here < length s.homes
           → (get_elem? homes' here ≡ some (some (left_by (opening_at starts here) (extra ++ r.logs here))))
           ⊎ IsOut (set s.views id w) here
-      pub chain : IsChain (opening_at starts here) (extra ++ r.logs here)
+      pub chain : IsChainOfTurns (opening_at starts here) (extra ++ r.logs here)
       pub beside : IsOlder w.beside (extra ++ r.logs here)
       pub by : (p : ℕ) → p ≢ v.pass → turns_by p extra ≡ []
 
@@ -99,15 +99,15 @@ module _ {T : Type 0} where
       logs_else i e = put_else r.logs here longer i e
 
       seats' : (j : ℕ) (u : View T) → get_elem? (set s.views id w) j ≡ some u → u.role ≡ Seated
-          → IsSeat starts (set s.words here n) homes' (logs' u.word) u
+          → IsSeatOfPass starts (set s.words here n) homes' (logs' u.word) u
       seats' = each_set (λ (j : ℕ) (u : View T). u.role ≡ Seated
-          → IsSeat starts (set s.words here n) homes' (logs' u.word) u) s.views id w
-          (λ _. subst (λ (l : List (Turn T)). IsSeat starts (set s.words here n) homes' l w)
+          → IsSeatOfPass starts (set s.words here n) homes' (logs' u.word) u) s.views id w
+          (λ _. subst (λ (l : List (Turn T)). IsSeatOfPass starts (set s.words here n) homes' l w)
           (sym (logs_here w.word k.same.word)) k.mine)
           (λ j u other e role. dite (ℕ_discrete u.word here)
-          (λ is. subst (λ (l : List (Turn T)). IsSeat starts (set s.words here n) homes' l u)
+          (λ is. subst (λ (l : List (Turn T)). IsSeatOfPass starts (set s.words here n) homes' l u)
           (sym (logs_here u.word is)) (k.others j u other e role is))
-          (λ isnt. subst (λ (l : List (Turn T)). IsSeat starts (set s.words here n) homes' l u)
+          (λ isnt. subst (λ (l : List (Turn T)). IsSeatOfPass starts (set s.words here n) homes' l u)
           (sym (logs_else u.word isnt))
           (seat_elsewhere starts s.words s.homes homes' (r.logs u.word) u here n isnt (k.away u.word isnt)
           (r.seats j u e role))))
@@ -150,13 +150,13 @@ module _ {T : Type 0} where
           ∙ get_or-set_same s.words here n 0 lt)) k.narrow))
           (λ isnt. subst (λ (z : ℕ). z < 2 ^ 32) (sym (get_or-set_other s.words here i n 0 isnt)) (r.narrow i))
 
-      pub one_step : HasOneHolder starts record { words = set s.words here n; homes = homes'; views = set s.views id w }
+      pub one_step : EachWordHasOneHolder starts record { words = set s.words here n; homes = homes'; views = set s.views id w }
       one_step = record {
         logs = logs';
         chain = λ i. dite (ℕ_discrete i here)
-            (λ is. subst (λ (z : ℕ × List (Turn T)). IsChain (opening_at starts z.0) z.1)
+            (λ is. subst (λ (z : ℕ × List (Turn T)). IsChainOfTurns (opening_at starts z.0) z.1)
             (λ c. (sym is c, sym (logs_here i is) c)) k.chain)
-            (λ isnt. subst (IsChain (opening_at starts i)) (sym (logs_else i isnt)) (r.chain i));
+            (λ isnt. subst (IsChainOfTurns (opening_at starts i)) (sym (logs_else i isnt)) (r.chain i));
         sized = length-set s.words here n ∙ (r.sized ∙ sym k.sized);
         narrow = narrow';
         seating = seating_stays starts s.views id v w at k.same r.seating;

@@ -7,7 +7,7 @@ use Rattle.atomic_table.specs.Seated.{TableId}
 use Rattle.atomic_table.specs.Table.{step, Allows, Splits, opening}
 use Rattle.pif_quick.specs.declared.rule.Record.{Record}
 use Rattle.pif_quick.specs.Turns.{IsSound, fresh}
-use Rattle.pif_quick.specs.Rule.{HasOneHolder, opening_at, first_dealer, dealer_after, seat_from, Paged}
+use Rattle.pif_quick.specs.Rule.{EachWordHasOneHolder, opening_at, first_dealer, dealer_after, seat_from, Paged}
 use Rattle.pif_quick.specs.Places.{record_of, hand_if, IsPlaceOf, dealer_at, IsFreshPlace}
 use Rattle.pif_quick.specs.declared.quick.Quick.{Quick}
 use Rattle.pif_quick.specs.declared.quick.Pass.{Pass}
@@ -84,23 +84,23 @@ module _ {T : Type 0} where
   -- the dealer may give a seat
   pub deal_allowed : (starts held : List (Option T)) (word pass : ℕ) (p : Place T)
       → p.me ≡ (dealer_at held word pass, []) → (1 ≤ pass) × (pass < 2 ^ 30)
-      → Splits (HasOneHolder starts) p.id p.me.0 (dealer_after p.me.0) (seat_from p.me.0)
+      → Splits (EachWordHasOneHolder starts) p.id p.me.0 (dealer_after p.me.0) (seat_from p.me.0)
   deal_allowed starts held word pass p is numbered =
       dealing starts p.id p.me.0 (ap (λ (m : Known T). m.0.role) is) (ap (λ (m : Known T). m.0.beside) is)
       (subst (λ (n : ℕ). (1 ≤ n) × (n < 2 ^ 30)) (sym (ap (λ (m : Known T). m.0.pass) is)) numbered)
 
   -- the dealer may go on
   pub page_allowed : (starts held : List (Option T)) (slots word pass : ℕ) (p : Place T)
-      → p.me ≡ (dealer_at held word pass, []) → Allows (HasOneHolder starts) slots p.id p.me 0 (λ n. n)
+      → p.me ≡ (dealer_at held word pass, []) → Allows (EachWordHasOneHolder starts) slots p.id p.me 0 (λ n. n)
       (Paged (step slots 0 0 0 none) p.me)
   page_allowed starts held slots word pass p is =
       paging starts slots p.id 0 p.me (ap (λ (m : Known T). m.0.role) is) (ap (λ (m : Known T). m.0.beside) is)
 
   -- the words and values at the start
   pub starts_well : (starts slots : List (Option T)) (words : List ℕ) → starts ≡ slots → length words ≡ length slots
-      → ((i : ℕ) → get_or words i 0 ≡ 0) → HasOneHolder starts (opening words slots (first_dealer starts))
+      → ((i : ℕ) → get_or words i 0 ≡ 0) → EachWordHasOneHolder starts (opening words slots (first_dealer starts))
   starts_well starts slots words e same free =
-      subst (λ (l : List (Option T)). HasOneHolder starts (opening words l (first_dealer starts))) e
+      subst (λ (l : List (Option T)). EachWordHasOneHolder starts (opening words l (first_dealer starts))) e
       (starting starts words (same ∙ ap (λ (l : List (Option T)). length l) (sym e)) free)
 
   -- the values that the dealer has are those that were given

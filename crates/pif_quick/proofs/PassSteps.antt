@@ -10,9 +10,9 @@ use Rattle.pif_quick.specs.declared.rule.Record.{Record}
 use Rattle.pif_quick.specs.declared.quick.Quick.{Quick}
 use Rattle.pif_quick.specs.declared.quick.Pass.{Pass}
 use Rattle.pif_quick.specs.declared.quick.Held.{Held}
-use Rattle.pif_quick.specs.Turns.{IsOpen, IsSound, Agree, Opens, fresh}
-use Rattle.pif_quick.specs.Places.{record_of, IsPlaceOf, IsPlace}
-use Rattle.pif_quick.specs.Quick.{records, record_at, IsPassOf, AreSound, IsIdle, IsUnchanged, ChangesAt, IsTurnOf, Locks}
+use Rattle.pif_quick.specs.Turns.{IsOpen, IsSound, Agree, OpensTurn, fresh}
+use Rattle.pif_quick.specs.Places.{record_of, IsPlaceOf, IsPlaceOfPass}
+use Rattle.pif_quick.specs.Quick.{records, record_at, IsPassOf, AreSound, IsIdle, IsUnchanged, ChangesAt, IsTurnOf, LocksWord}
 use Rattle.pif_quick.proofs.Steps.{Known}
 use Rattle.pif_quick.proofs.PlaceSteps.{Place, same_place}
 
@@ -84,7 +84,7 @@ module _ {T : Type 0} where
       pub seat_of : IsPlaceOf q.board.shared.table_id (8 * m) p.number s
       seat_of = own.place m s there
 
-      pub seat_own : IsPlace q.board.shared.table_id (8 * m) s
+      pub seat_own : IsPlaceOfPass q.board.shared.table_id (8 * m) s
       seat_own = subst (λ (k : ℕ). IsPlaceOf q.board.shared.table_id (8 * m) k s) (sym seat_of.pass_is) seat_of
 
       pub record_before : record_at p m ≡ record_of s
@@ -108,7 +108,7 @@ module _ {T : Type 0} where
             (ap (λ (y : Known T). y.1) e ∙ seat_of.hand)
 
         -- the seat that knows itself
-        pub place_named : IsPlace q.board.shared.table_id (8 * m) s' → s'.me.0.pass ≡ s.me.0.pass
+        pub place_named : IsPlaceOfPass q.board.shared.table_id (8 * m) s' → s'.me.0.pass ≡ s.me.0.pass
             → IsPlaceOf q.board.shared.table_id (8 * m) p.number s'
         place_named h e = subst (λ (k : ℕ). IsPlaceOf q.board.shared.table_id (8 * m) k s') (e ∙ seat_of.pass_is) h
 
@@ -152,7 +152,7 @@ module _ {T : Type 0} where
 
         -- a turn was opened, and its value is held
         pub locks : (h : Held T) → h.home.value ≡ q.board.shared → h.word ≡ m → h.pass ≡ p.number
-            → Opens p.number h.value (record_of s) (record_of s') → Locks q m p after h
+            → OpensTurn p.number h.value (record_of s) (record_of s') → LocksWord q m p after h
         locks h home word number o = (
           word,
           (
@@ -161,7 +161,7 @@ module _ {T : Type 0} where
             subst (λ (k : ℕ). IsOpen (record_at after k)) (sym word)
                 (h.value, ap (λ (r : Record T). r.found) record_after ∙ ap (λ (r : Record T). r.found) o.2),
           ),
-          changes (λ r r'. Opens p.number h.value r r') o,
+          changes (λ r r'. OpensTurn p.number h.value r r') o,
         )
 
   -- two passes have met at the words below m, and now at m

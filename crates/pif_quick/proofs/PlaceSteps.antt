@@ -10,8 +10,8 @@ use Rattle.pif_word.proofs.WordBits.{word_of-number}
 use Rattle.pif_quick.specs.declared.rule.Turn.{Turn}
 use Rattle.pif_quick.specs.declared.rule.Record.{Record}
 use Rattle.pif_quick.specs.declared.rule.View.{View}
-use Rattle.pif_quick.specs.Turns.{turns_by, IsOpen, IsSound, with_open, Opens, closed, closed_from}
-use Rattle.pif_quick.specs.Rule.{HasOneHolder, handed_to, spent_view, note_of, Opened, Closed, Took, Released, Handed, Marked, Looked, Claimed, Compared}
+use Rattle.pif_quick.specs.Turns.{turns_by, IsOpen, IsSound, with_open, OpensTurn, closed, closed_from}
+use Rattle.pif_quick.specs.Rule.{EachWordHasOneHolder, handed_to, spent_view, note_of, Opened, Closed, Took, Released, Handed, Marked, Looked, Claimed, Compared}
 use Rattle.pif_quick.specs.Places.{record_of, hand_if, IsPlaceOf}
 use Rattle.pif_quick.proofs.Dealing.{noting, showing}
 use Rattle.pif_quick.proofs.Steps.{Known, taking, claiming, looking, marking, releasing, handing, comparing}
@@ -73,42 +73,42 @@ module _ {T : Type 0} where
     open_hand o = ap (λ (f : Option T). hand_if f word) o.1
 
     pub take_allowed : (t : ℕ) → t ≡ pass → (starts : List (Option T))
-        → Allows (HasOneHolder starts) z.slots p.id p.me word (λ n. either (eqb n 0) t n)
+        → Allows (EachWordHasOneHolder starts) z.slots p.id p.me word (λ n. either (eqb n 0) t n)
         (Took (step z.slots word 0 t none) p.me)
     take_allowed t is starts =
-        subst (λ (x : ℕ × ℕ). Allows (HasOneHolder starts) z.slots p.id p.me x.0 (λ n. either (eqb n 0) x.1 n)
+        subst (λ (x : ℕ × ℕ). Allows (EachWordHasOneHolder starts) z.slots p.id p.me x.0 (λ n. either (eqb n 0) x.1 n)
         (Took (step z.slots x.0 0 x.1 none) p.me))
         (λ k. (h.word_is k, (h.pass_is ∙ sym is) k))
         (taking starts z.slots p.id v p.me.1 h.seated here h.opening.0 h.opening.1)
 
     pub claim_allowed : v.known.found ≡ None → (starts : List (Option T))
-        → Allows (HasOneHolder starts) z.slots p.id p.me word (λ n. n) (Claimed (step z.slots word 0 0 none) p.me)
+        → Allows (EachWordHasOneHolder starts) z.slots p.id p.me word (λ n. n) (Claimed (step z.slots word 0 0 none) p.me)
     claim_allowed quiet starts =
-        subst (λ (x : ℕ). Allows (HasOneHolder starts) z.slots p.id p.me x (λ n. n)
+        subst (λ (x : ℕ). Allows (EachWordHasOneHolder starts) z.slots p.id p.me x (λ n. n)
         (Claimed (step z.slots x 0 0 none) p.me))
         h.word_is (claiming starts z.slots p.id v p.me.1 h.seated here h.opening.0 h.opening.1 quiet)
 
     pub look_allowed : (starts : List (Option T))
-        → Allows (HasOneHolder starts) z.slots p.id p.me word (λ n. n) (Looked (step z.slots word 0 0 none) p.me)
+        → Allows (EachWordHasOneHolder starts) z.slots p.id p.me word (λ n. n) (Looked (step z.slots word 0 0 none) p.me)
     look_allowed starts =
-        subst (λ (x : ℕ). Allows (HasOneHolder starts) z.slots p.id p.me x (λ n. n)
+        subst (λ (x : ℕ). Allows (EachWordHasOneHolder starts) z.slots p.id p.me x (λ n. n)
         (Looked (step z.slots x 0 0 none) p.me))
         h.word_is (looking starts z.slots p.id v p.me.1 h.seated here)
 
     pub compare_allowed : (starts : List (Option T))
-        → Allows (HasOneHolder starts) z.slots p.id p.me word (λ n. n) (Compared (step z.slots word 0 0 none) p.me)
+        → Allows (EachWordHasOneHolder starts) z.slots p.id p.me word (λ n. n) (Compared (step z.slots word 0 0 none) p.me)
     compare_allowed starts =
-        subst (λ (x : ℕ). Allows (HasOneHolder starts) z.slots p.id p.me x (λ n. n)
+        subst (λ (x : ℕ). Allows (EachWordHasOneHolder starts) z.slots p.id p.me x (λ n. n)
         (Compared (step z.slots x 0 0 none) p.me))
         h.word_is (comparing starts z.slots p.id v p.me.1 h.seated here)
 
-    pub note_allowed : (starts : List (Option T)) → Splits (HasOneHolder starts) p.id v v (note_of v)
+    pub note_allowed : (starts : List (Option T)) → Splits (EachWordHasOneHolder starts) p.id v v (note_of v)
     note_allowed starts = noting starts p.id v h.seated
 
     -- the note of another seat of the word is shown to this one
     pub show_allowed : (u : View T) (note : Place T) → u.word ≡ word → note.me ≡ (note_of u, [])
         → (starts : List (Option T))
-        → Joins (HasOneHolder starts) p.id v note.id note.me.0 (record v { beside = note.me.0.beside }) spent_view
+        → Joins (EachWordHasOneHolder starts) p.id v note.id note.me.0 (record v { beside = note.me.0.beside }) spent_view
     show_allowed u note same is starts = showing starts p.id note.id v note.me.0 h.seated
         (ap (λ (m : Known T). m.0.role) is)
         (ap (λ (m : Known T). m.0.word) is ∙ (same ∙ sym h.word_is))
@@ -121,10 +121,10 @@ module _ {T : Type 0} where
         (ap (λ (m : Known T). m.0.known) is) (ap (λ (m : Known T). m.1) is ∙ h.hand)
 
     pub mark_allowed : (old new : ℕ) → new < 2 ^ 32 → word_of new ≡ mark_word (word_of old) → (starts : List (Option T))
-        → Allows (HasOneHolder starts) z.slots p.id p.me word (λ n. either (eqb n old) new n)
+        → Allows (EachWordHasOneHolder starts) z.slots p.id p.me word (λ n. either (eqb n old) new n)
         (Marked (step z.slots word old new none) p.me)
     mark_allowed old new narrow marks starts =
-        subst (λ (x : ℕ). Allows (HasOneHolder starts) z.slots p.id p.me x (λ n. either (eqb n old) new n)
+        subst (λ (x : ℕ). Allows (EachWordHasOneHolder starts) z.slots p.id p.me x (λ n. either (eqb n old) new n)
         (Marked (step z.slots x old new none) p.me))
         h.word_is (marking starts z.slots p.id v p.me.1 h.seated here old new narrow marks)
 
@@ -134,12 +134,12 @@ module _ {T : Type 0} where
       given = (v, (word, Some x) ∷ [])
 
       pub release_allowed : (t : ℕ) → t ≡ pass → (starts : List (Option T))
-          → Allows (HasOneHolder starts) z.slots q.id q.me word (λ n. either (eqb n t) 0 n)
+          → Allows (EachWordHasOneHolder starts) z.slots q.id q.me word (λ n. either (eqb n t) 0 n)
           (Released (step z.slots word t 0 none) q.me)
       release_allowed t is starts =
-          subst (λ (m : Known T). Allows (HasOneHolder starts) z.slots q.id m word (λ n. either (eqb n t) 0 n)
+          subst (λ (m : Known T). Allows (EachWordHasOneHolder starts) z.slots q.id m word (λ n. either (eqb n t) 0 n)
           (Released (step z.slots word t 0 none) m)) (sym same)
-          (subst (λ (y : ℕ × ℕ). Allows (HasOneHolder starts) z.slots q.id (v, (y.0, Some x) ∷ []) y.0
+          (subst (λ (y : ℕ × ℕ). Allows (EachWordHasOneHolder starts) z.slots q.id (v, (y.0, Some x) ∷ []) y.0
           (λ n. either (eqb n y.1) 0 n) (Released (step z.slots y.0 y.1 0 none) (v, (y.0, Some x) ∷ [])))
           (λ k. (h.word_is k, (h.pass_is ∙ sym is) k))
           (releasing starts z.slots q.id v open_turn.0 x h.seated here open_turn.1
@@ -147,12 +147,12 @@ module _ {T : Type 0} where
 
       pub hand_allowed : (old new : ℕ) → word_of old ≡ mark_word (held_by pass) → new < 2 ^ 32
           → (next : Option ℕ) × (word_of new ≡ handed_to next) → (starts : List (Option T))
-          → Allows (HasOneHolder starts) z.slots q.id q.me word (λ n. either (eqb n old) new n)
+          → Allows (EachWordHasOneHolder starts) z.slots q.id q.me word (λ n. either (eqb n old) new n)
           (Handed (step z.slots word old new none) q.me)
       hand_allowed old new marks narrow to starts =
-          subst (λ (m : Known T). Allows (HasOneHolder starts) z.slots q.id m word (λ n. either (eqb n old) new n)
+          subst (λ (m : Known T). Allows (EachWordHasOneHolder starts) z.slots q.id m word (λ n. either (eqb n old) new n)
           (Handed (step z.slots word old new none) m)) (sym same)
-          (subst (λ (y : ℕ). Allows (HasOneHolder starts) z.slots q.id (v, (y, Some x) ∷ []) y
+          (subst (λ (y : ℕ). Allows (EachWordHasOneHolder starts) z.slots q.id (v, (y, Some x) ∷ []) y
           (λ n. either (eqb n old) new n) (Handed (step z.slots y old new none) (v, (y, Some x) ∷ [])))
           h.word_is
           (handing starts z.slots q.id v open_turn.0 x h.seated here open_turn.1 old new (marks
@@ -223,7 +223,7 @@ module _ {T : Type 0} where
       }
 
       pub opened_opens : (q : Place T) (x : T) → q.me.0 ≡ m'.0 → m'.1 ≡ (word, Some x) ∷ []
-          → Opens pass x v.known (record_of q)
+          → OpensTurn pass x v.known (record_of q)
       opened_opens q x is has =
           let e : o.found ≡ x = same_value word word o.found x (sym opened_hand ∙ has) in (
             o.newer,

@@ -13,7 +13,7 @@ use Rattle.pif_word.proofs.WordBits.{word_of-number, take_word-hit, take_word-mi
 use Rattle.pif_quick.specs.declared.rule.View.{View}
 use Rattle.pif_quick.specs.declared.rule.Role.TheVariants.{Seated}
 use Rattle.pif_quick.specs.Turns.{IsOpen, with_open, closed}
-use Rattle.pif_quick.specs.Rule.{number_at, handed_to, IsWordStep, HasOneHolder, with_record, Opened, Closed, Took, Left, Released, Handed, Marked, Looked, Claimed, Compared}
+use Rattle.pif_quick.specs.Rule.{number_at, handed_to, IsWordStep, EachWordHasOneHolder, with_record, Opened, Closed, Took, Left, Released, Handed, Marked, Looked, Claimed, Compared}
 use Rattle.pif_quick.proofs.TurnLists.{older-either}
 use Rattle.pif_quick.proofs.OneStep.{Board}
 use Rattle.pif_quick.proofs.Turning.{Quiet, others_quiet, OpensSeat, opens, closes, closes-sound, rewords}
@@ -47,14 +47,14 @@ module _ {T : Type 0} where
   -- What a step owes at one state: a new view and an act that keep the rule, and what it tells
   abbrev Owes : (starts : List (Option T)) (s : Board T) (id : ℕ) (m : Known T) (n : ℕ) → (Known T → Type 0) → Type 0
   Owes starts s id m n tells = (w : View T) × (a : Act (Option T)) × Valid s.homes m.1 a
-      × HasOneHolder starts (stepped s m.0.word n id m.1 w a) × tells (w, carried_after m.1 a)
+      × EachWordHasOneHolder starts (stepped s m.0.word n id m.1 w a) × tells (w, carried_after m.1 a)
 
   module _ (starts : List (Option T)) (slots id : ℕ) (v : View T) (hand : List (ℕ × Option T))
       (seated : v.role ≡ Seated) (fits : v.word < slots) where
     abbrev m : Known T
     m = (v, hand)
 
-    module _ (s : Board T) (r : HasOneHolder starts s) (deep : length s.homes ≡ slots)
+    module _ (s : Board T) (r : EachWordHasOneHolder starts s) (deep : length s.homes ≡ slots)
         (at : get_elem? s.views id ≡ some v) where
       abbrev n : ℕ
       n = get_or s.words v.word 0
@@ -120,7 +120,7 @@ module _ {T : Type 0} where
 
     -- by a compare-exchange from 0 to one's number
     pub taking : (x : T) → v.known.opening ≡ Some x
-        → Allows (HasOneHolder starts) slots id m v.word (λ k. either (eqb k 0) v.pass k)
+        → Allows (EachWordHasOneHolder starts) slots id m v.word (λ k. either (eqb k 0) v.pass k)
         (Took (step slots v.word 0 v.pass none) m)
     taking x op s r deep at wide =
         let k : ℕ = get_or s.words v.word 0 in
@@ -149,7 +149,7 @@ module _ {T : Type 0} where
 
     -- by a load that finds one's number
     pub claiming : (x : T) → v.known.opening ≡ Some x → v.known.found ≡ None
-        → Allows (HasOneHolder starts) slots id m v.word (λ k. k) (Claimed (step slots v.word 0 0 none) m)
+        → Allows (EachWordHasOneHolder starts) slots id m v.word (λ k. k) (Claimed (step slots v.word 0 0 none) m)
     claiming x op none_open s r deep at wide =
         let k : ℕ = get_or s.words v.word 0 in
         let told : (m' : Known T) → ((word_of k).number ≡ v.pass → Opened v.word m m')
@@ -162,12 +162,12 @@ module _ {T : Type 0} where
         (λ ne. stays s r deep at (Claimed (step slots v.word 0 0 none) m k) (told m (λ e. absurd (ne e)) (λ _. refl)))
 
     -- by a load
-    pub looking : Allows (HasOneHolder starts) slots id m v.word (λ k. k) (Looked (step slots v.word 0 0 none) m)
+    pub looking : Allows (EachWordHasOneHolder starts) slots id m v.word (λ k. k) (Looked (step slots v.word 0 0 none) m)
     looking s r deep at wide = stays s r deep at (Looked (step slots v.word 0 0 none) m (get_or s.words v.word 0))
         (r.narrow v.word, refl)
 
     -- by a load, after which what was learnt is forgotten
-    pub comparing : Allows (HasOneHolder starts) slots id m v.word (λ k. k) (Compared (step slots v.word 0 0 none) m)
+    pub comparing : Allows (EachWordHasOneHolder starts) slots id m v.word (λ k. k) (Compared (step slots v.word 0 0 none) m)
     comparing s r deep at wide =
         let me = r.seats id v at seated in
         let b = r.beside id v at in (
@@ -185,7 +185,7 @@ module _ {T : Type 0} where
 
     -- by a compare-exchange that keeps the number and sets WAITERS
     pub marking : (old new : ℕ) → new < 2 ^ 32 → word_of new ≡ mark_word (word_of old)
-        → Allows (HasOneHolder starts) slots id m v.word (λ k. either (eqb k old) new k)
+        → Allows (EachWordHasOneHolder starts) slots id m v.word (λ k. either (eqb k old) new k)
         (Marked (step slots v.word old new none) m)
     marking old new narrow marks s r deep at wide =
         let k : ℕ = get_or s.words v.word 0 in
@@ -213,7 +213,7 @@ module _ {T : Type 0} where
     -- the value goes home by a compare-exchange from a word that has one's number
     leaving : (old new : ℕ) → (word_of old).number ≡ v.pass → new < 2 ^ 32 → (tells : ℕ → Known T → Type 0)
         → ((k : ℕ) → k < 2 ^ 32 → (m' : Known T) → Left (step slots v.word old new none) held k m' → tells k m')
-        → Allows (HasOneHolder starts) slots id held v.word (λ k. either (eqb k old) new k) tells
+        → Allows (EachWordHasOneHolder starts) slots id held v.word (λ k. either (eqb k old) new k) tells
     leaving old new owns narrow tells t s r deep at wide =
         let k : ℕ = get_or s.words v.word 0 in
         let small : k < 2 ^ 32 = r.narrow v.word in
@@ -245,7 +245,7 @@ module _ {T : Type 0} where
         same_value y same = ap (first_or x) same
 
     -- by a compare-exchange from one's number to 0
-    pub releasing : v.pass < 2 ^ 30 → Allows (HasOneHolder starts) slots id held v.word
+    pub releasing : v.pass < 2 ^ 30 → Allows (EachWordHasOneHolder starts) slots id held v.word
         (λ k. either (eqb k v.pass) 0 k) (Released (step slots v.word v.pass 0 none) held)
     releasing small = leaving v.pass 0 (ap (λ (w : Word). w.number) (word_of-number v.pass small)) (omega arith)
         (Released (step slots v.word v.pass 0 none) held)
@@ -254,7 +254,7 @@ module _ {T : Type 0} where
     -- by a compare-exchange from one's marked word to the word of another, or to 0
     pub handing : (old new : ℕ) → word_of old ≡ mark_word (held_by v.pass) → new < 2 ^ 32
         → (next : Option ℕ) × (word_of new ≡ handed_to next)
-        → Allows (HasOneHolder starts) slots id held v.word (λ k. either (eqb k old) new k)
+        → Allows (EachWordHasOneHolder starts) slots id held v.word (λ k. either (eqb k old) new k)
         (Handed (step slots v.word old new none) held)
     handing old new marks narrow to = leaving old new (ap (λ (w : Word). w.number) marks) narrow
         (Handed (step slots v.word old new none) held)

@@ -3,7 +3,7 @@ use Rattle.std.proofs.Common.{◌≡◌, ◌≢◌, ◌⊎◌, ℕ, ◌==◌, Bo
 use Rattle.std.proofs.lemmas.List.{append_assoc}
 use Rattle.pif_quick.specs.declared.rule.Turn.{Turn}
 use Rattle.pif_quick.specs.declared.rule.Record.{Record}
-use Rattle.pif_quick.specs.Turns.{left_by, IsChain, turns_by, IsOlder, IsSound, with_open, closed, closed_from}
+use Rattle.pif_quick.specs.Turns.{left_by, IsChainOfTurns, turns_by, IsOlder, IsSound, with_open, closed, closed_from}
 
 module _ {T : Type 0} where
   turns_by-cons : (p : ℕ) (c : Bool) (x : T × T) (ts us : List (Turn T))
@@ -32,7 +32,7 @@ module _ {T : Type 0} where
       (ne_eqb t.pass p n)
 
   -- an older part of a chain is one
-  pub chain-older : (o : Option T) (newer ts : List (Turn T)) → IsChain o (newer ++ ts) → IsChain o ts
+  pub chain-older : (o : Option T) (newer ts : List (Turn T)) → IsChainOfTurns o (newer ++ ts) → IsChainOfTurns o ts
   chain-older o [] ts h = h
   chain-older o (t ∷ newer) ts h = chain-older o newer ts h.1
 
@@ -61,7 +61,7 @@ module _ {T : Type 0} where
   older-either (t ∷ a) (u ∷ b) xs ys e = older-either a b xs ys (ap (tail_or []) e)
 
   -- the record whose open turn found f is sound, where the turns and what they left are known
-  pub sound-opened : (p : ℕ) (f : T) (newer : List (Turn T)) (r : Record T) → IsChain r.opening (newer ++ r.turns)
+  pub sound-opened : (p : ℕ) (f : T) (newer : List (Turn T)) (r : Record T) → IsChainOfTurns r.opening (newer ++ r.turns)
       → left_by r.opening (newer ++ r.turns) ≡ Some f
       → turns_by p newer ≡ [] → turns_by p r.turns ≡ r.made → IsSound p (with_open f newer r)
   sound-opened p f newer r chain left others own = record {

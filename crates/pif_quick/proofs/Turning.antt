@@ -10,8 +10,8 @@ use Rattle.pif_quick.specs.declared.rule.Turn.{Turn}
 use Rattle.pif_quick.specs.declared.rule.Record.{Record}
 use Rattle.pif_quick.specs.declared.rule.View.{View}
 use Rattle.pif_quick.specs.declared.rule.Role.TheVariants.{Seated}
-use Rattle.pif_quick.specs.Turns.{left_by, IsChain, turns_by, IsOlder, IsSound, with_open, closed, closed_from}
-use Rattle.pif_quick.specs.Rule.{number_at, opening_at, IsOut, IsSeat, HasOneHolder, OneHolds, with_record}
+use Rattle.pif_quick.specs.Turns.{left_by, IsChainOfTurns, turns_by, IsOlder, IsSound, with_open, closed, closed_from}
+use Rattle.pif_quick.specs.Rule.{number_at, opening_at, IsOut, IsSeatOfPass, EachWordHasOneHolder, OneHolds, with_record}
 use Rattle.pif_quick.proofs.TurnLists.{turns_by-others, turns_by-one, turns_by-other, chain-older, left_by-some, open-not_none, older-more, sound-opened, sound-closed, closed-is}
 use Rattle.pif_quick.proofs.OneStep.{Homes, Board, seat_quiet, Keeps, one_step}
 
@@ -26,9 +26,9 @@ module _ {T : Type 0} where
       (i n : ℕ)
       → i < length words → (word_of n).number ≡ number_at words i → u.word ≡ i → w.pass ≡ u.pass → w.word ≡ u.word
       → w.known ≡ u.known
-      → IsSeat starts words homes log u → IsSeat starts (set words i n) homes log w
+      → IsSeatOfPass starts words homes log u → IsSeatOfPass starts (set words i n) homes log w
   seat_reworded starts words homes log u w i n lt num is p k q x =
-      subst (λ (z : ℕ × ℕ × Record T). IsSeat starts (set words i n) homes log
+      subst (λ (z : ℕ × ℕ × Record T). IsSeatOfPass starts (set words i n) homes log
       (record w { pass = z.0; word = z.1; known = z.2 })) (λ c. (sym p c, sym k c, sym q c)) record {
         numbered = x.numbered;
         opening = x.opening;
@@ -47,9 +47,9 @@ module _ {T : Type 0} where
         };
       }
 
-  module _ (starts : List (Option T)) (s : Board T) (r : HasOneHolder starts s) (id : ℕ) (v : View T)
+  module _ (starts : List (Option T)) (s : Board T) (r : EachWordHasOneHolder starts s) (id : ℕ) (v : View T)
       (at : get_elem? s.views id ≡ some v) (seated : v.role ≡ Seated) where
-    abbrev me : IsSeat starts s.words s.homes (r.logs v.word) v
+    abbrev me : IsSeatOfPass starts s.words s.homes (r.logs v.word) v
     me = r.seats id v at seated
 
     -- no seat of the word has an open turn
@@ -68,7 +68,7 @@ module _ {T : Type 0} where
     pub seat_sound : IsSound v.pass v.known
     seat_sound = record {
       chain = chain-older v.known.opening me.newer v.known.turns
-          (subst (λ (z : Option T × List (Turn T)). IsChain z.0 z.1) (λ c. (sym me.opening c, sym me.prefix c))
+          (subst (λ (z : Option T × List (Turn T)). IsChainOfTurns z.0 z.1) (λ c. (sym me.opening c, sym me.prefix c))
           (r.chain v.word));
       open_turn = λ f e. let h = me.holds f e in ap (left_by v.known.opening) h.knows ∙ h.left;
       own = me.made;
@@ -81,7 +81,7 @@ module _ {T : Type 0} where
       pub others : turns_by v.pass newer ≡ []
       pub at_home : get_elem? s.homes v.word ≡ some (some (Some found))
       pub sound : IsSound v.pass (with_open found newer v.known)
-      pub kept : HasOneHolder starts record {
+      pub kept : EachWordHasOneHolder starts record {
         words = set s.words v.word n;
         homes = set s.homes v.word none;
         views =
@@ -116,7 +116,7 @@ module _ {T : Type 0} where
         };
         others = λ j u other e role is. seat_quiet starts s.words (set s.words v.word n) s.homes
             (set s.homes v.word none) [] (r.logs v.word) u
-            (λ g q. quiet j u g e role is q) refl (subst (λ (z : ℕ). IsSeat starts s.words s.homes (r.logs z) u) is
+            (λ g q. quiet j u g e role is q) refl (subst (λ (z : ℕ). IsSeatOfPass starts s.words s.homes (r.logs z) u) is
             (r.seats j u e role));
         home = λ _. inr record {
           seat = id;
@@ -140,7 +140,7 @@ module _ {T : Type 0} where
         others = me.others;
         at_home = home ∙ ap (λ (o : Option T). some (some o)) left;
         sound = sound-opened v.pass f me.newer v.known
-            (subst (λ (z : Option T × List (Turn T)). IsChain z.0 z.1) (λ c. (sym me.opening c, sym me.prefix c))
+            (subst (λ (z : Option T × List (Turn T)). IsChainOfTurns z.0 z.1) (λ c. (sym me.opening c, sym me.prefix c))
             (r.chain v.word))
             (ap (left_by v.known.opening) me.prefix ∙ (ap (λ (o : Option T). left_by o (r.logs v.word)) me.opening
             ∙ left)) me.others me.made;
@@ -164,7 +164,7 @@ module _ {T : Type 0} where
       abbrev shut : View T
       shut = with_record (closed_from v.pass x (Some f) v.known) v
 
-      abbrev held : Rattle.pif_quick.specs.Rule.Holds s.words s.homes (r.logs v.word) v f
+      abbrev held : Rattle.pif_quick.specs.Rule.HoldsItsWord s.words s.homes (r.logs v.word) v f
       held = me.holds f found_is
 
       closes_with : Keeps starts s r id v at seated n (set s.homes v.word (some (Some x))) (turn ∷ []) shut
@@ -187,7 +187,7 @@ module _ {T : Type 0} where
             (set s.homes v.word (some (Some x))) (turn ∷ []) (r.logs v.word) u
             (λ g q. others_quiet held.owns j u g other e role is q)
             (turns_by-other u.pass turn [] (λ p. other (r.seating.unique j id u v e at role seated (sym p) is)))
-            (subst (λ (z : ℕ). IsSeat starts s.words s.homes (r.logs z) u) is (r.seats j u e role));
+            (subst (λ (z : ℕ). IsSeatOfPass starts s.words s.homes (r.logs z) u) is (r.seats j u e role));
         home = λ lt. inl (set_here s.homes v.word (some (Some x)) lt);
         chain = (ap (λ (o : Option T). left_by o (r.logs v.word)) (sym me.opening) ∙ held.left, r.chain v.word);
         beside = older-more (turn ∷ []) v.beside (r.logs v.word) (r.beside id v at);
@@ -198,13 +198,13 @@ module _ {T : Type 0} where
           not_open g e = cc
 
       -- the seat's turn closes with x, whatever its word becomes
-      pub closes : HasOneHolder starts record {
+      pub closes : EachWordHasOneHolder starts record {
         words = set s.words v.word n;
         homes =
             set s.homes v.word (some (Some x));
         views = set s.views id (with_record (closed v.pass x v.known) v);
       }
-      closes = subst (λ (k : Record T). HasOneHolder starts record {
+      closes = subst (λ (k : Record T). EachWordHasOneHolder starts record {
         words = set s.words v.word n;
         homes =
             set s.homes v.word (some (Some x));
@@ -256,7 +256,7 @@ module _ {T : Type 0} where
         mine = seat_reworded starts s.words s.homes (r.logs v.word) v told v.word n lt' num refl refl refl refl me;
         others = λ j u other e role is. seat_reworded starts s.words s.homes
             (r.logs v.word) u u v.word n lt' num is refl refl refl
-            (subst (λ (z : ℕ). IsSeat starts s.words s.homes (r.logs z) u) is (r.seats j u e role));
+            (subst (λ (z : ℕ). IsSeatOfPass starts s.words s.homes (r.logs z) u) is (r.seats j u e role));
         home = λ l. ⊎_elim (λ (h : get_elem? s.homes v.word ≡ some
             (some (left_by (opening_at starts v.word) (r.logs v.word)))). inl h)
             (λ (o : IsOut s.views v.word). inr (out_still o)) (r.homes v.word l);
@@ -266,7 +266,7 @@ module _ {T : Type 0} where
       }
 
       -- only the bits of the word change, and not its number
-      pub rewords : HasOneHolder starts record {
+      pub rewords : EachWordHasOneHolder starts record {
         words = set s.words v.word n;
         homes = s.homes;
         views =
@@ -275,7 +275,7 @@ module _ {T : Type 0} where
       rewords = one_step starts s r id v at seated n s.homes [] told rewords_with
 
   -- two seats whose turns of one word are open have one number, which stands in the word
-  pub one_holds : (starts : List (Option T)) (s : Board T) (r : HasOneHolder starts s) → OneHolds s.views
+  pub one_holds : (starts : List (Option T)) (s : Board T) (r : EachWordHasOneHolder starts s) → OneHolds s.views
   one_holds starts s r j k v w ev ew rv rw same ov ow =
       let a = (r.seats j v ev rv).holds ov.0 ov.1 in
       let b = (r.seats k w ew rw).holds ow.0 ow.1 in

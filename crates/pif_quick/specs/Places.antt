@@ -35,8 +35,8 @@ module _ {T : Type 0} where
     pub sound : IsSound pass p.me.0.known
 
   -- the seat of its pass at this word
-  abbrev pub IsPlace : TableId → ℕ → Seat (Option T) (View T) → Type 0
-  IsPlace z word p = IsPlaceOf z word (pass_of p) p
+  abbrev pub IsPlaceOfPass : TableId → ℕ → Seat (Option T) (View T) → Type 0
+  IsPlaceOfPass z word p = IsPlaceOf z word (pass_of p) p
 
   -- the dealer of these opening values that is at this word and this pass
   abbrev pub dealer_at : List (Option T) → ℕ → ℕ → View T

@@ -7,7 +7,7 @@ use Rattle.pif_quick.specs.declared.rule.Record.{Record}
 use Rattle.pif_quick.specs.declared.quick.Quick.{Quick}
 use Rattle.pif_quick.specs.declared.quick.Pass.{Pass}
 use Rattle.pif_quick.specs.declared.quick.Held.{Held}
-use Rattle.pif_quick.specs.Turns.{IsOpen, IsSound, Opens, fresh, closed}
+use Rattle.pif_quick.specs.Turns.{IsOpen, IsSound, OpensTurn, fresh, closed}
 use Rattle.pif_quick.specs.Places.{record_of, IsPlaceOf, IsFreshPlace}
 
 module _ {T : Type 0} where
@@ -16,8 +16,8 @@ module _ {T : Type 0} where
   word_count q = q.count
 
   -- a pass's number
-  abbrev pub number_of : Pass T → ℕ
-  number_of p = p.number
+  abbrev pub pass_number : Pass T → ℕ
+  pass_number p = p.number
 
   -- a pass's records, one for each word
   abbrev pub records : Pass T → List (Record T)
@@ -54,7 +54,7 @@ module _ {T : Type 0} where
 
   -- each of a pass's records is sound
   abbrev pub AreSound : Pass T → Type 0
-  AreSound p = (m : ℕ) → m < length (records p) → IsSound (number_of p) (record_at p m)
+  AreSound p = (m : ℕ) → m < length (records p) → IsSound (pass_number p) (record_at p m)
 
   -- the pass has no open turn
   abbrev pub IsIdle : Pass T → Type 0
@@ -66,27 +66,27 @@ module _ {T : Type 0} where
 
   -- the pass's records are as they were
   abbrev pub IsUnchanged : Pass T → Pass T → Type 0
-  IsUnchanged p p' = (number_of p' ≡ number_of p) × (records p' ≡ records p)
+  IsUnchanged p p' = (pass_number p' ≡ pass_number p) × (records p' ≡ records p)
 
   -- the pass's record of the word m changes in this way, and the others stay
   abbrev pub ChangesAt : ℕ → (Record T → Record T → Type 0) → Pass T → Pass T → Type 0
   ChangesAt m change p p' =
-      (number_of p' ≡ number_of p) × (records p' ≡ slice_set (records p) m (record_at p' m))
+      (pass_number p' ≡ pass_number p) × (records p' ≡ slice_set (records p) m (record_at p' m))
       × change (record_at p m) (record_at p' m)
 
   -- what is held was locked among these words, and is the pass's open turn at its word
   abbrev pub IsTurnOf : Quick T → Pass T → Held T → Type 0
   IsTurnOf q p h =
-      (h.home.value ≡ q.board.shared) × (h.pass ≡ number_of p) × IsOpen (record_at p (held_word h))
+      (h.home.value ≡ q.board.shared) × (h.pass ≡ pass_number p) × IsOpen (record_at p (held_word h))
 
   -- the pass opens a turn at the word m, and holds the value found: newer closed turns of others stand before it
-  abbrev pub Locks : Quick T → ℕ → Pass T → Pass T → Held T → Type 0
-  Locks q m p p' h =
-      (held_word h ≡ m) × IsTurnOf q p' h × ChangesAt m (λ r r'. Opens (number_of p) (held_value h) r r') p p'
+  abbrev pub LocksWord : Quick T → ℕ → Pass T → Pass T → Held T → Type 0
+  LocksWord q m p p' h =
+      (held_word h ≡ m) × IsTurnOf q p' h × ChangesAt m (λ r r'. OpensTurn (pass_number p) (held_value h) r r') p p'
 
   -- the pass closes its turn with the value of what it held
-  abbrev pub Unlocks : Held T → Pass T → Pass T → Type 0
-  Unlocks h p p' = ChangesAt (held_word h) (λ r r'. r' ≡ closed (number_of p) (held_value h) r) p p'
+  abbrev pub UnlocksWord : Held T → Pass T → Pass T → Type 0
+  UnlocksWord h p p' = ChangesAt (held_word h) (λ r r'. r' ≡ closed (pass_number p) (held_value h) r) p p'
 
   -- a pass before any turn, where these are the opening values
   abbrev pub IsFresh : List T → Pass T → Type 0

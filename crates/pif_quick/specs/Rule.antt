@@ -10,7 +10,7 @@ use Rattle.pif_quick.specs.declared.rule.Turn.{Turn}
 use Rattle.pif_quick.specs.declared.rule.Record.{Record}
 use Rattle.pif_quick.specs.declared.rule.View.{View}
 use Rattle.pif_quick.specs.declared.rule.Role.TheVariants.{Dealer, Seated, Spent}
-use Rattle.pif_quick.specs.Turns.{left_by, IsChain, turns_by, EndsWithOwn, IsOlder, IsOpen, IsSound, fresh, with_open, closed}
+use Rattle.pif_quick.specs.Turns.{left_by, IsChainOfTurns, turns_by, EndsWithOwn, IsOlder, IsOpen, IsSound, fresh, with_open, closed}
 
 -- the number in a word's bits
 abbrev pub number_at : List ℕ → ℕ → ℕ
@@ -36,7 +36,7 @@ module _ {T : Type 0} where
     pub found_is : view.known.found ≡ Some found
 
   -- What holds of a seat whose turn is open: it owns the word, has the value, and knows all turns
-  pub record Holds (words : List ℕ) (homes : List (maybe.Option (Option T))) (log : List (Turn T)) (v : View T)
+  pub record HoldsItsWord (words : List ℕ) (homes : List (maybe.Option (Option T))) (log : List (Turn T)) (v : View T)
       (f : T) : Type 0 where
     pub owns : number_at words v.word ≡ v.pass
     pub out : get_elem? homes v.word ≡ some none
@@ -44,7 +44,7 @@ module _ {T : Type 0} where
     pub left : left_by v.known.opening log ≡ Some f
 
   -- What holds of a seat of a pass at a word, of which the log has all closed turns
-  pub record IsSeat (starts : List (Option T)) (words : List ℕ) (homes : List (maybe.Option (Option T)))
+  pub record IsSeatOfPass (starts : List (Option T)) (words : List ℕ) (homes : List (maybe.Option (Option T)))
       (log : List (Turn T)) (v : View T) : Type 0 where
     -- passes have numbers that fit a word, from 1
     pub numbered : (1 ≤ v.pass) × (v.pass < 2 ^ 30)
@@ -56,7 +56,7 @@ module _ {T : Type 0} where
     pub made : turns_by v.pass v.known.turns ≡ v.known.made
     -- with its open turn, they are none or end with its own
     pub last : v.known.found ≡ None → EndsWithOwn v.pass v.known.turns
-    pub holds : (f : T) → v.known.found ≡ Some f → Holds words homes log v f
+    pub holds : (f : T) → v.known.found ≡ Some f → HoldsItsWord words homes log v f
 
   -- Who sits where. Seats are dealt by one dealer, in order, one for each pass and word
   pub record IsSeating (starts : List (Option T)) (views : List (View T)) : Type 0 where
@@ -67,17 +67,17 @@ module _ {T : Type 0} where
         → get_elem? views k ≡ some v → v.role ≡ Seated → IsDealt d v.pass v.word
 
   -- The rule: what holds between any two steps, of the words' bits, the values at home, and all views
-  pub record HasOneHolder (starts : List (Option T)) (s : State (Option T) (View T)) : Type 0 where
+  pub record EachWordHasOneHolder (starts : List (Option T)) (s : State (Option T) (View T)) : Type 0 where
     -- the closed turns of each word, newest first: the longest list in all views
     pub logs : ℕ → List (Turn T)
-    pub chain : (i : ℕ) → IsChain (opening_at starts i) (logs i)
+    pub chain : (i : ℕ) → IsChainOfTurns (opening_at starts i) (logs i)
     -- a place for each word
     pub sized : length s.words ≡ length s.homes
     -- words have 32 bits
     pub narrow : (i : ℕ) → slice_index s.words i < 2 ^ 32
     pub seating : IsSeating starts s.views
     pub seats : (j : ℕ) (v : View T) → get_elem? s.views j ≡ some v → v.role ≡ Seated
-        → IsSeat starts s.words s.homes (logs v.word) v
+        → IsSeatOfPass starts s.words s.homes (logs v.word) v
     -- a value at home is what the last turn left, and each other one is out with a seat
     pub homes : (i : ℕ) → i < length s.homes
         → (get_elem? s.homes i ≡ some (some (left_by (opening_at starts i) (logs i)))) ⊎ IsOut s.views i

@@ -11,9 +11,9 @@ module _ {T : Type 0} where
   left_by opening (t ∷ ts) = Some t.left
 
   -- the first turn found the opening value, and each later one what the one before it left
-  abbrev pub IsChain : Option T → List (Turn T) → Type 0
-  IsChain opening [] = Unit {0}
-  IsChain opening (t ∷ ts) = (left_by opening ts ≡ Some t.found) × IsChain opening ts
+  abbrev pub IsChainOfTurns : Option T → List (Turn T) → Type 0
+  IsChainOfTurns opening [] = Unit {0}
+  IsChainOfTurns opening (t ∷ ts) = (left_by opening ts ≡ Some t.found) × IsChainOfTurns opening ts
 
   -- what a pass found and left in its turns among these
   abbrev pub turns_by : ℕ → List (Turn T) → List (T × T)
@@ -36,7 +36,7 @@ module _ {T : Type 0} where
   -- What holds of a pass's record, for any schedule
   pub record IsSound (pass : ℕ) (r : Record T) : Type 0 where
     -- closed turns found what the one before them left, the first one the opening value
-    pub chain : IsChain r.opening r.turns
+    pub chain : IsChainOfTurns r.opening r.turns
     -- so did the open turn
     pub open_turn : (f : T) → r.found ≡ Some f → left_by r.opening r.turns ≡ Some f
     -- the pass's own turns are those that it made, in order, each once
@@ -57,8 +57,8 @@ module _ {T : Type 0} where
   with_open f newer r = record { opening = r.opening; found = Some f; turns = newer ++ r.turns; made = r.made }
 
   -- The record goes on: newer turns of other passes, and an open turn of its own that found f
-  abbrev pub Opens : ℕ → T → Record T → Record T → Type 0
-  Opens pass f r r' = (newer : List (Turn T)) × (turns_by pass newer ≡ []) × (r' ≡ with_open f newer r)
+  abbrev pub OpensTurn : ℕ → T → Record T → Record T → Type 0
+  OpensTurn pass f r r' = (newer : List (Turn T)) × (turns_by pass newer ≡ []) × (r' ≡ with_open f newer r)
 
   -- the record whose open turn, which found f, has left a value
   abbrev pub closed_from : ℕ → T → Option T → Record T → Record T

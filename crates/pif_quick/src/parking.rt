@@ -1,7 +1,7 @@
 //! The order of the passes that wait.
 ghost use Rattle.std.specs.Prelude.{◌≡◌, ◌==◌, [], ◌∷◌, ◌++◌, ◌<◌, IsTrue, IsFalse, is_some, length};
 ghost use Rattle.std.specs.List.{position};
-ghost use Rattle.pif_quick.specs.Waits.{waits_at, next_at, without_next};
+ghost use Rattle.pif_quick.specs.Waits.{waits_for_word, next_at, without_next};
 
 use arrayvec::ArrayVec;
 
@@ -47,7 +47,7 @@ impl Order {
 
     /// Where the first that waits for the word stands in the order.
     fn first_place(&self, word: usize) -> Option<usize>
-        ensures { result ≡ position (waits_at word) self.now.parked.items }
+        ensures { result ≡ position (waits_for_word word) self.now.parked.items }
     {
         self.parked
             .as_slice()

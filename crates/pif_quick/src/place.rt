@@ -1,10 +1,10 @@
 //! One pass at one word.
 ghost use Rattle.std.specs.Prelude.{◌≡◌, ◌⊎◌, [], ◌∷◌, IfSome, IfNone, IfOk, IfErr, MatchResult};
 ghost use Rattle.pif_model.specs.Word.{word_of};
-ghost use Rattle.pif_quick.specs.Turns.{IsOlder, IsOpen, Agree, Opens, closed};
+ghost use Rattle.pif_quick.specs.Turns.{IsOlder, IsOpen, Agree, OpensTurn, closed};
 ghost use Rattle.pif_quick.specs.Rule.{handed_to};
 ghost use Rattle.pif_quick.specs.Waits.{next_at, without_next};
-ghost use Rattle.pif_quick.specs.Places.{record_of, pass_of, IsPlaceOf, IsPlace};
+ghost use Rattle.pif_quick.specs.Places.{record_of, pass_of, IsPlaceOf, IsPlaceOfPass};
 
 use crate::parking::Order;
 use crate::rule::{Claim, Compare, HandOver, Look, Mark, Note, Place, Release, Shelf, Take};
@@ -40,7 +40,7 @@ pub(crate) fn take<T>(
 ) -> Result<T, u32>
     requires { IsPlaceOf shelf.now.table_id word pass place.old }
     ensures place { IsPlaceOf shelf.now.table_id word pass place.new }
-    ensures taken { IfOk result (λ v. Opens pass v (record_of place.old) (record_of place.new)) }
+    ensures taken { IfOk result (λ v. OpensTurn pass v (record_of place.old) (record_of place.new)) }
     ensures kept { IfErr result (λ bits. record_of place.new ≡ record_of place.old) }
     ensures own { IfErr result (λ bits. IsOpen (record_of place.old) → (word_of bits).number ≡ pass) }
 {
@@ -60,7 +60,7 @@ pub(crate) fn take_free<T>(
 ) -> Option<T>
     requires { IsPlaceOf shelf.now.table_id word pass place.old }
     ensures place { IsPlaceOf shelf.now.table_id word pass place.new }
-    ensures taken { IfSome result (λ v. Opens pass v (record_of place.old) (record_of place.new)) }
+    ensures taken { IfSome result (λ v. OpensTurn pass v (record_of place.old) (record_of place.new)) }
     ensures kept { IfNone result (record_of place.new ≡ record_of place.old) }
 {
     if look(shelf, place, word) != 0 {
@@ -135,7 +135,7 @@ pub(crate) fn claim<T>(shelf: &Shelf<T>, place: &mut Place<T>, word: usize, pass
     requires place { IsPlaceOf shelf.now.table_id word pass place.old }
     requires quiet { (record_of place.old).found ≡ None }
     ensures place { IsPlaceOf shelf.now.table_id word pass place.new }
-    ensures taken { IfSome result (λ v. Opens pass v (record_of place.old) (record_of place.new)) }
+    ensures taken { IfSome result (λ v. OpensTurn pass v (record_of place.old) (record_of place.new)) }
     ensures kept { IfNone result (record_of place.new ≡ record_of place.old) }
 {
     let found = shelf.load::<Claim>(place, word);
@@ -147,7 +147,7 @@ pub(crate) fn claim<T>(shelf: &Shelf<T>, place: &mut Place<T>, word: usize, pass
 
 /// The bits of the word.
 pub(crate) fn look<T>(shelf: &Shelf<T>, place: &mut Place<T>, word: usize) -> u32
-    requires { IsPlace shelf.now.table_id word place.old }
+    requires { IsPlaceOfPass shelf.now.table_id word place.old }
     ensures { (place.new.table_id ≡ place.old.table_id) × (place.new.id ≡ place.old.id) × (place.new.me ≡ place.old.me) }
 {
     shelf.load::<Look>(place, word) as u32
@@ -155,7 +155,7 @@ pub(crate) fn look<T>(shelf: &Shelf<T>, place: &mut Place<T>, word: usize) -> u3
 
 /// Sets `WAITERS` in the word where its bits are `seen`, and says whether they were.
 pub(crate) fn mark<T>(shelf: &Shelf<T>, place: &mut Place<T>, word: usize, seen: u32) -> bool
-    requires { IsPlace shelf.now.table_id word place.old }
+    requires { IsPlaceOfPass shelf.now.table_id word place.old }
     ensures { (place.new.table_id ≡ place.old.table_id) × (place.new.id ≡ place.old.id) × (place.new.me ≡ place.old.me) }
 {
     let old = u64::from(seen);
@@ -164,10 +164,10 @@ pub(crate) fn mark<T>(shelf: &Shelf<T>, place: &mut Place<T>, word: usize, seen:
 
 /// Compares the closed turns of one seat with those of another seat of its word.
 fn compare<T>(shelf: &Shelf<T>, place: &mut Place<T>, other: &mut Place<T>, word: usize)
-    requires place { IsPlace shelf.now.table_id word place.old }
-    requires other { IsPlace shelf.now.table_id word other.old }
-    ensures place { IsPlace shelf.now.table_id word place.new }
-    ensures other { IsPlace shelf.now.table_id word other.new }
+    requires place { IsPlaceOfPass shelf.now.table_id word place.old }
+    requires other { IsPlaceOfPass shelf.now.table_id word other.old }
+    ensures place { IsPlaceOfPass shelf.now.table_id word place.new }
+    ensures other { IsPlaceOfPass shelf.now.table_id word other.new }
     ensures kept { (record_of place.new ≡ record_of place.old) × (record_of other.new ≡ record_of other.old) }
     ensures passes { (pass_of place.new ≡ pass_of place.old) × (pass_of other.new ≡ pass_of other.old) }
     ensures either_way { IsOlder (record_of other.old).turns (record_of place.old).turns ⊎ IsOlder (record_of place.old).turns (record_of other.old).turns }
@@ -180,11 +180,11 @@ fn compare<T>(shelf: &Shelf<T>, place: &mut Place<T>, other: &mut Place<T>, word
 
 /// Two seats of one word meet: their records agree.
 pub(crate) fn meet<T>(shelf: &Shelf<T>, place: &mut Place<T>, other: &mut Place<T>, word: usize)
-    requires place { IsPlace shelf.now.table_id word place.old }
-    requires other { IsPlace shelf.now.table_id word other.old }
+    requires place { IsPlaceOfPass shelf.now.table_id word place.old }
+    requires other { IsPlaceOfPass shelf.now.table_id word other.old }
     requires one_open { ((record_of place.old).found ≡ None) ⊎ ((record_of other.old).found ≡ None) }
-    ensures place { IsPlace shelf.now.table_id word place.new }
-    ensures other { IsPlace shelf.now.table_id word other.new }
+    ensures place { IsPlaceOfPass shelf.now.table_id word place.new }
+    ensures other { IsPlaceOfPass shelf.now.table_id word other.new }
     ensures kept { (record_of place.new ≡ record_of place.old) × (record_of other.new ≡ record_of other.old) }
     ensures passes { (pass_of place.new ≡ pass_of place.old) × (pass_of other.new ≡ pass_of other.old) }
     ensures agree { Agree (record_of place.old) (record_of other.old) }

@@ -42,9 +42,9 @@ pub struct View<T> {
 pub struct OneHolder;
 
 impl<T> TableRule<Option<T>, View<T>, Snapshot<Vec<Option<T>>>> for OneHolder {
-    ghost use Rattle.pif_quick.specs.Rule.{HasOneHolder, first_dealer};
+    ghost use Rattle.pif_quick.specs.Rule.{EachWordHasOneHolder, first_dealer};
 
-    ghost holds = { λ key. HasOneHolder key.value.items };
+    ghost holds = { λ key. EachWordHasOneHolder key.value.items };
 
     ghost first = { λ key. first_dealer key.value.items };
 }

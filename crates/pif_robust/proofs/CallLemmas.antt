@@ -7,19 +7,19 @@ use Rattle.std.proofs.lemmas.List.{get_or_past}
 use Rattle.std.specs.Prelude.{IfNone}
 use Rattle.pif_robust.specs.declared.links.Link.{Link}
 use Rattle.pif_robust.specs.declared.links.Head.{Head}
-use Rattle.pif_robust.specs.Links.{unlinked, link_at, head_at, robust_from, Ties, links_joined, heads_joined, links_cut, heads_cut}
+use Rattle.pif_robust.specs.Links.{unlinked, link_at, head_at, robust_from, FieldsHold, links_joined, heads_joined, links_cut, heads_cut}
 use Rattle.pif_robust.specs.Robust.{named_mutex}
 use Rattle.pif_robust.proofs.TiesLemmas.{IsRobust-from_Ties}
-use Rattle.pif_robust.proofs.WriteLemmas.{Ties-pending, Ties-half_linked, with_robust-out}
+use Rattle.pif_robust.proofs.WriteLemmas.{FieldsHold-pending, FieldsHold-half_linked, with_robust-out}
 use Rattle.pif_robust.proofs.ChainLemmas.{chain-holder}
 use Rattle.pif_robust.proofs.JoinLemmas as join
 use Rattle.pif_robust.proofs.CutLemmas as cut
-use Rattle.pif_robust.proofs.SeenLemmas.{Shows, Shows-ties, Shows-same, Ties-same, Shows-closed, Ties-seen, head_read, link_read}
+use Rattle.pif_robust.proofs.SeenLemmas.{Shows, Shows-ties, Shows-same, FieldsHold-same, Shows-closed, FieldsHold-seen, head_read, link_read}
 
 module _ {ns : List Link} {hs : List Head} {v : Robust} (view : robust_from ns hs ≡ v)
-    (invariant : Ties ns hs (robust_from ns hs)) where
-  pub ties_seen : Ties ns hs v
-  ties_seen = Ties-seen ns hs v view invariant
+    (invariant : FieldsHold ns hs (robust_from ns hs)) where
+  pub ties_seen : FieldsHold ns hs v
+  ties_seen = FieldsHold-seen ns hs v view invariant
 
   pub sound_seen : IsRobust v
   sound_seen = IsRobust-from_Ties ns hs v ties_seen
@@ -47,7 +47,7 @@ module _ {ns : List Link} {hs : List Head} {v : Robust} (view : robust_from ns h
       Shows-same (λ k. ns)
       (λ k. set hs (same k) (record { first = (e k).first; half_linked = (e k).half_linked; pending = o }))
       (Shows-ties ns (set hs t (record (head_at hs t) { pending = o })) (with_pending t m v)
-      (Ties-pending ns hs v ties_seen t m o (omega arith) (omega arith) is m_in))
+      (FieldsHold-pending ns hs v ties_seen t m o (omega arith) (omega arith) is m_in))
 
   -- the link of a new entry
   pub Shows-half_linked : {t m i i2 j : ℕ} {h h2 : Head} → i ≡ t → h ≡ get_or hs i h → 1 ≤ j → j ≡ m → 1 ≤ i2 →
@@ -63,7 +63,7 @@ module _ {ns : List Link} {hs : List Head} {v : Robust} (view : robust_from ns h
       (λ k. set hs (same2 k) (record { first = (e2 k).first; half_linked = Some m; pending = (e2 k).pending }))
       (Shows-ties (set ns m (record { next = (head_at hs t).first; previous = None; holder = None }))
       (set hs t (record (head_at hs t) { half_linked = Some m })) (with_half_linked t m v)
-      (Ties-half_linked ns hs v ties_seen t m (omega arith) in' (omega arith) m_in free alone))
+      (FieldsHold-half_linked ns hs v ties_seen t m (omega arith) in' (omega arith) m_in free alone))
 
   -- the head of a list
   module _ (t m : ℕ) {j : ℕ} {l : Link} (is : (robust_at v t).half_linked ≡ m) (j_some : 1 ≤ j) (same : j ≡ m)
@@ -86,9 +86,9 @@ module _ {ns : List Link} {hs : List Head} {v : Robust} (view : robust_from ns h
     Shows-joined {copy} {now} {heads_copy} {heads_now} {size} {count}
         same_links same_heads written heads_written long heads_long =
         Shows-closed size count ns hs now heads_now (with_listed t m v) long heads_long
-        (Ties-same (written ∙ (λ k. links_joined (same_links k) t m (link_is k).next))
+        (FieldsHold-same (written ∙ (λ k. links_joined (same_links k) t m (link_is k).next))
         (heads_written ∙ (λ k. heads_joined (same_heads k) t m))
-        (join.Ties-joined ns hs v ties_seen t m m_some is))
+        (join.FieldsHold-joined ns hs v ties_seen t m m_some is))
 
   -- a link that no longer leads to an entry
   module _ (t m : ℕ) (listed : is_listed v t m ≡ true) where
@@ -113,9 +113,9 @@ module _ {ns : List Link} {hs : List Head} {v : Robust} (view : robust_from ns h
     Shows-cut {copy} {now} {heads_copy} {heads_now} {size} {count}
         same_links same_heads written heads_written long heads_long =
         Shows-closed size count ns hs now heads_now (without_listed t m v) long heads_long
-        (Ties-same (written ∙ (λ k. links_cut (same_links k) m))
+        (FieldsHold-same (written ∙ (λ k. links_cut (same_links k) m))
         (heads_written ∙ (λ k. heads_cut (same_links k) (same_heads k) t m))
-        (cut.Ties-cut ns hs v ties_seen t m listed))
+        (cut.FieldsHold-cut ns hs v ties_seen t m listed))
 
   -- a thread outside the limits
   pub with_robust-outside : {t i : ℕ} (x : RobustRow) → i ≡ t → length hs ≤ i → with_robust t x v ≡ v

@@ -6,7 +6,7 @@ use Rattle.std.proofs.lemmas.List.{get_or-set_same, get_or-set_other, get_or_pas
 use Rattle.pif_model.specs.RobustList.{has_entry, HasNoRepeats}
 use Rattle.pif_robust.specs.declared.links.Link.{Link}
 use Rattle.pif_robust.specs.declared.links.Head.{Head}
-use Rattle.pif_robust.specs.Links.{unlinked, empty_head, link_at, head_at, path, first_or, last_or, IsChain, with_next, with_first, with_previous}
+use Rattle.pif_robust.specs.Links.{unlinked, empty_head, link_at, head_at, path, first_or, last_or, IsChain, with_next_mutex, with_first_mutex, with_previous}
 use Rattle.pif_robust.proofs.ListLemmas.{kept, has-head, has-tail, apart, last-has}
 
 -- who holds each mutex of a chain
@@ -93,23 +93,23 @@ held_within ns m t h = ⊎_elim
     (cases_lt m (length ns))
 
 -- an entry that is written at a place
-pub with_next-at : (ns : List Link) (p to : Option ℕ) (k : ℕ) → p ≡ Some k → k < length ns →
-    link_at (with_next ns p to) k ≡ record (link_at ns k) { next = to }
-with_next-at ns None to k e l = absurd cc
-with_next-at ns (Some p) to k e l =
+pub with_next_mutex-at : (ns : List Link) (p to : Option ℕ) (k : ℕ) → p ≡ Some k → k < length ns →
+    link_at (with_next_mutex ns p to) k ≡ record (link_at ns k) { next = to }
+with_next_mutex-at ns None to k e l = absurd cc
+with_next_mutex-at ns (Some p) to k e l =
     let same : p ≡ k = same_Some p k e in
-    subst (λ (j : ℕ). link_at (with_next ns (Some j) to) k ≡ record (link_at ns k) { next = to }) (sym same)
+    subst (λ (j : ℕ). link_at (with_next_mutex ns (Some j) to) k ≡ record (link_at ns k) { next = to }) (sym same)
     (get_or-set_same ns k (record (link_at ns k) { next = to }) unlinked l)
 
-pub with_next-other : (ns : List Link) (p to : Option ℕ) (k : ℕ) → (p ≡ Some k → ⊥) →
-    link_at (with_next ns p to) k ≡ link_at ns k
-with_next-other ns None to k ne = refl
-with_next-other ns (Some p) to k ne = get_or-set_other ns p k (record (link_at ns p) { next = to }) unlinked
+pub with_next_mutex-other : (ns : List Link) (p to : Option ℕ) (k : ℕ) → (p ≡ Some k → ⊥) →
+    link_at (with_next_mutex ns p to) k ≡ link_at ns k
+with_next_mutex-other ns None to k ne = refl
+with_next_mutex-other ns (Some p) to k ne = get_or-set_other ns p k (record (link_at ns p) { next = to }) unlinked
     (λ e. ne (ap Some (sym e)))
 
-pub length-with_next : (ns : List Link) (p to : Option ℕ) → length (with_next ns p to) ≡ length ns
-length-with_next ns None to = refl
-length-with_next ns (Some p) to = length-set ns p (record (link_at ns p) { next = to })
+pub length-with_next_mutex : (ns : List Link) (p to : Option ℕ) → length (with_next_mutex ns p to) ≡ length ns
+length-with_next_mutex ns None to = refl
+length-with_next_mutex ns (Some p) to = length-set ns p (record (link_at ns p) { next = to })
 
 pub with_previous-at : (ns : List Link) (p to : Option ℕ) (k : ℕ) → p ≡ Some k → k < length ns →
     link_at (with_previous ns p to) k ≡ record (link_at ns k) { previous = to }
@@ -130,10 +130,10 @@ length-with_previous ns None to = refl
 length-with_previous ns (Some p) to = length-set ns p (record (link_at ns p) { previous = to })
 
 -- who holds an entry stays where its neighbours change
-pub with_next-holder : (ns : List Link) (p to : Option ℕ) (k : ℕ) →
-    (link_at (with_next ns p to) k).holder ≡ (link_at ns k).holder
-with_next-holder ns None to k = refl
-with_next-holder ns (Some p) to k = kept (λ l. l.holder) ns p (record (link_at ns p) { next = to }) unlinked k refl
+pub with_next_mutex-holder : (ns : List Link) (p to : Option ℕ) (k : ℕ) →
+    (link_at (with_next_mutex ns p to) k).holder ≡ (link_at ns k).holder
+with_next_mutex-holder ns None to k = refl
+with_next_mutex-holder ns (Some p) to k = kept (λ l. l.holder) ns p (record (link_at ns p) { next = to }) unlinked k refl
 
 pub with_previous-holder : (ns : List Link) (p to : Option ℕ) (k : ℕ) →
     (link_at (with_previous ns p to) k).holder ≡ (link_at ns k).holder
@@ -142,22 +142,22 @@ with_previous-holder ns (Some p) to k = kept (λ l. l.holder) ns p
     (record (link_at ns p) { previous = to }) unlinked k refl
 
 -- the head of a thread whose first mutex changes, or not
-pub with_first-at : (hs : List Head) (t : ℕ) (p to want : Option ℕ) → t < length hs → (p ≡ None → to ≡ want) →
+pub with_first_mutex-at : (hs : List Head) (t : ℕ) (p to want : Option ℕ) → t < length hs → (p ≡ None → to ≡ want) →
     ((k : ℕ) → p ≡ Some k → (head_at hs t).first ≡ want) →
-    head_at (with_first hs t p to) t ≡ record (head_at hs t) { first = want }
-with_first-at hs t None to want t_in head else =
+    head_at (with_first_mutex hs t p to) t ≡ record (head_at hs t) { first = want }
+with_first_mutex-at hs t None to want t_in head else =
     get_or-set_same hs t (record (head_at hs t) { first = to }) empty_head t_in
     ∙ ap (λ o. record (head_at hs t) { first = o }) (head refl)
-with_first-at hs t (Some p) to want t_in head else = ap (λ o. record (head_at hs t) { first = o }) (else p refl)
+with_first_mutex-at hs t (Some p) to want t_in head else = ap (λ o. record (head_at hs t) { first = o }) (else p refl)
 
-pub with_first-other : (hs : List Head) (t : ℕ) (p to : Option ℕ) (u : ℕ) → (u ≡ t → ⊥) →
-    head_at (with_first hs t p to) u ≡ head_at hs u
-with_first-other hs t None to u ne = get_or-set_other hs t u (record (head_at hs t) { first = to }) empty_head ne
-with_first-other hs t (Some p) to u ne = refl
+pub with_first_mutex-other : (hs : List Head) (t : ℕ) (p to : Option ℕ) (u : ℕ) → (u ≡ t → ⊥) →
+    head_at (with_first_mutex hs t p to) u ≡ head_at hs u
+with_first_mutex-other hs t None to u ne = get_or-set_other hs t u (record (head_at hs t) { first = to }) empty_head ne
+with_first_mutex-other hs t (Some p) to u ne = refl
 
-pub length-with_first : (hs : List Head) (t : ℕ) (p to : Option ℕ) → length (with_first hs t p to) ≡ length hs
-length-with_first hs t None to = length-set hs t (record (head_at hs t) { first = to })
-length-with_first hs t (Some p) to = refl
+pub length-with_first_mutex : (hs : List Head) (t : ℕ) (p to : Option ℕ) → length (with_first_mutex hs t p to) ≡ length hs
+length-with_first_mutex hs t None to = length-set hs t (record (head_at hs t) { first = to })
+length-with_first_mutex hs t (Some p) to = refl
 
 -- the first of two lists, where the front is empty and where it is not
 pub first_or-back : (xs ys : List ℕ) → last_or None xs ≡ None → first_or (xs ++ ys) None ≡ first_or ys None

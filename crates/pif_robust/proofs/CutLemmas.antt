@@ -6,13 +6,13 @@ use Rattle.std.proofs.lemmas.List.{get_or-set_same, get_or-set_other, length-set
 use Rattle.pif_model.specs.RobustList.{Robust, RobustRow, no_robust_row, robust_at, has_entry, without_entry, is_listed, without_listed, HasNoRepeats}
 use Rattle.pif_robust.specs.declared.links.Link.{Link}
 use Rattle.pif_robust.specs.declared.links.Head.{Head}
-use Rattle.pif_robust.specs.Links.{unlinked, empty_head, link_at, head_at, first_or, last_or, IsChain, Ties, with_next, with_first, links_cut, heads_cut}
+use Rattle.pif_robust.specs.Links.{unlinked, empty_head, link_at, head_at, first_or, last_or, IsChain, FieldsHold, with_next_mutex, with_first_mutex, links_cut, heads_cut}
 use Rattle.pif_robust.proofs.ListLemmas.{Apart, Apart-from_once, has_split, has-left, has-right, has-tail, apart, without-split, has-without, HasNoRepeats-without, last_or-has, first_or-has}
-use Rattle.pif_robust.proofs.ChainLemmas.{chain-holder, chain-refirst, chain-relast, chain-front, chain-back, chain-append, with_next-at, with_next-other, with_next-holder, length-with_next, with_previous-at, with_previous-other, with_previous-holder, length-with_previous, with_first-at, with_first-other, length-with_first, first_or-back, first_or-front}
-use Rattle.pif_robust.proofs.TiesLemmas.{Ties-changed, IsRobust-from_Ties, listed_in}
+use Rattle.pif_robust.proofs.ChainLemmas.{chain-holder, chain-refirst, chain-relast, chain-front, chain-back, chain-append, with_next_mutex-at, with_next_mutex-other, with_next_mutex-holder, length-with_next_mutex, with_previous-at, with_previous-other, with_previous-holder, length-with_previous, with_first_mutex-at, with_first_mutex-other, length-with_first_mutex, first_or-back, first_or-front}
+use Rattle.pif_robust.proofs.TiesLemmas.{FieldsHold-changed, IsRobust-from_Ties, listed_in}
 use Rattle.pif_robust.proofs.WriteLemmas.{no_holder}
 
-module _ (ns : List Link) (hs : List Head) (v : Robust) (ties : Ties ns hs v) (t m : ℕ)
+module _ (ns : List Link) (hs : List Head) (v : Robust) (ties : FieldsHold ns hs v) (t m : ℕ)
     (listed : is_listed v t m ≡ true) where
   abbrev xs : List ℕ
   xs = (robust_at v t).listed
@@ -92,14 +92,14 @@ module _ (ns : List Link) (hs : List Head) (v : Robust) (ties : Ties ns hs v) (t
   mid = set ns m unlinked
 
   abbrev mid_next : List Link
-  mid_next = with_next mid p n
+  mid_next = with_next_mutex mid p n
 
   mid_else : (k : ℕ) → (k ≡ m → ⊥) → link_at mid k ≡ link_at ns k
   mid_else k ne = get_or-set_other ns m k unlinked unlinked ne
 
   now_here : link_at (links_cut ns m) m ≡ unlinked
   now_here = with_previous-other mid_next n p m (λ e. both_ways (has_entry back m) sep.back_lacks (next_in m e))
-      ∙ with_next-other mid p n m (λ e. both_ways (has_entry front m) sep.front_lacks (previous_in m e))
+      ∙ with_next_mutex-other mid p n m (λ e. both_ways (has_entry front m) sep.front_lacks (previous_in m e))
       ∙ get_or-set_same ns m unlinked unlinked mutex_within
 
   now_last : (k : ℕ) → last_or None front ≡ Some k → has_entry front k ≡ true →
@@ -107,7 +107,7 @@ module _ (ns : List Link) (hs : List Head) (v : Robust) (ties : Ties ns hs v) (t
   now_last k e h =
       let ne : k ≡ m → ⊥ = apart k m front h sep.front_lacks in
       with_previous-other mid_next n p k (λ g. both_ways (has_entry back k) (sep.sides k h) (next_in k g))
-      ∙ with_next-at mid p n k (previous_is ∙ e)
+      ∙ with_next_mutex-at mid p n k (previous_is ∙ e)
       (omega (arith, length-set ns m unlinked, listed_in ns hs v ties t k (in_front k h)))
       ∙ ap (λ (l : Link). record l { next = n }) (mid_else k ne) ∙ ap (λ o. record (link_at ns k) { next = o }) next_is
 
@@ -115,7 +115,7 @@ module _ (ns : List Link) (hs : List Head) (v : Robust) (ties : Ties ns hs v) (t
       link_at (links_cut ns m) k ≡ link_at ns k
   now_front k not h =
       with_previous-other mid_next n p k (λ g. both_ways (has_entry back k) (sep.sides k h) (next_in k g))
-      ∙ with_next-other mid p n k (λ g. not (sym previous_is ∙ g))
+      ∙ with_next_mutex-other mid p n k (λ g. not (sym previous_is ∙ g))
       ∙ mid_else k (apart k m front h sep.front_lacks)
 
   not_front : (k : ℕ) → has_entry back k ≡ true → p ≡ Some k → ⊥
@@ -125,27 +125,27 @@ module _ (ns : List Link) (hs : List Head) (v : Robust) (ties : Ties ns hs v) (t
       link_at (links_cut ns m) k ≡ record (link_at ns k) { previous = last_or None front }
   now_first k e h =
       with_previous-at mid_next n p k (next_is ∙ e)
-      (omega (arith, length-with_next mid p n, length-set ns m unlinked, listed_in ns hs v ties t k (in_back k h)))
+      (omega (arith, length-with_next_mutex mid p n, length-set ns m unlinked, listed_in ns hs v ties t k (in_back k h)))
       ∙ ap (λ (l : Link). record l { previous = p })
-      (with_next-other mid p n k (not_front k h) ∙ mid_else k (apart k m back h sep.back_lacks))
+      (with_next_mutex-other mid p n k (not_front k h) ∙ mid_else k (apart k m back h sep.back_lacks))
       ∙ ap (λ o. record (link_at ns k) { previous = o }) previous_is
 
   now_back : (k : ℕ) → (first_or back None ≡ Some k → ⊥) → has_entry back k ≡ true →
       link_at (links_cut ns m) k ≡ link_at ns k
   now_back k not h =
       with_previous-other mid_next n p k (λ g. not (sym next_is ∙ g))
-      ∙ with_next-other mid p n k (not_front k h)
+      ∙ with_next_mutex-other mid p n k (not_front k h)
       ∙ mid_else k (apart k m back h sep.back_lacks)
 
   now_others : (k : ℕ) → (k ≡ m → ⊥) → ((link_at ns k).holder ≡ Some t → ⊥) → link_at (links_cut ns m) k ≡ link_at ns k
   now_others k ne not =
       let mine = λ (h : is_listed v t k ≡ true). not (chain-holder ns t None xs None k (ties.chain t) h) in
       with_previous-other mid_next n p k (λ g. mine (in_back k (next_in k g)))
-      ∙ with_next-other mid p n k (λ g. mine (in_front k (previous_in k g)))
+      ∙ with_next_mutex-other mid p n k (λ g. mine (in_front k (previous_in k g)))
       ∙ mid_else k ne
 
   now_holder : (k : ℕ) → (k ≡ m → ⊥) → (link_at (links_cut ns m) k).holder ≡ (link_at ns k).holder
-  now_holder k ne = with_previous-holder mid_next n p k ∙ with_next-holder mid p n k
+  now_holder k ne = with_previous-holder mid_next n p k ∙ with_next_mutex-holder mid p n k
       ∙ ap (λ (l : Link). l.holder) (mid_else k ne)
 
   no_one : (u : ℕ) → (link_at (links_cut ns m) m).holder ≡ Some u → ⊥
@@ -167,25 +167,25 @@ module _ (ns : List Link) (hs : List Head) (v : Robust) (ties : Ties ns hs v) (t
 
   -- the heads
   abbrev mid_heads : List Head
-  mid_heads = with_first hs t p n
+  mid_heads = with_first_mutex hs t p n
 
   abbrev cut_head : Head
   cut_head = record (head_at mid_heads t) { half_linked = None }
 
   head_here : head_at (heads_cut ns hs t m) t ≡ record (head_at hs t)
       { first = first_or (without_entry xs m) None; half_linked = None }
-  head_here = get_or-set_same mid_heads t cut_head empty_head (omega (arith, length-with_first hs t p n, thread_within))
+  head_here = get_or-set_same mid_heads t cut_head empty_head (omega (arith, length-with_first_mutex hs t p n, thread_within))
       ∙ ap (λ (h : Head). record h { half_linked = None })
-      (with_first-at hs t p n (first_or (without_entry xs m) None) thread_within
+      (with_first_mutex-at hs t p n (first_or (without_entry xs m) None) thread_within
       (λ e. next_is ∙ sym (first_or-back front back (sym previous_is ∙ e)) ∙ ap (λ zs. first_or zs None) (sym rest_is))
       (λ k e. ties.first t ∙ ap (λ zs. first_or zs None) split
       ∙ first_or-front front (m ∷ back) back k (sym previous_is ∙ e) ∙ ap (λ zs. first_or zs None) (sym rest_is)))
 
-  pub Ties-cut : Ties (links_cut ns m) (heads_cut ns hs t m) (without_listed t m v)
-  Ties-cut = Ties-changed ns (links_cut ns m) hs (heads_cut ns hs t m) v t m
+  pub FieldsHold-cut : FieldsHold (links_cut ns m) (heads_cut ns hs t m) (without_listed t m v)
+  FieldsHold-cut = FieldsHold-changed ns (links_cut ns m) hs (heads_cut ns hs t m) v t m
       (record (robust_at v t) { listed = without_entry xs m; half_linked = 0 }) ties (record {
-        links = length-with_previous mid_next n p ∙ length-with_next mid p n ∙ length-set ns m unlinked;
-        heads = length-set mid_heads t cut_head ∙ length-with_first hs t p n;
+        links = length-with_previous mid_next n p ∙ length-with_next_mutex mid p n ∙ length-set ns m unlinked;
+        heads = length-set mid_heads t cut_head ∙ length-with_first_mutex hs t p n;
         thread = thread_some;
         thread_in = thread_within;
         no_mutex = now_others 0 (λ e. omega (arith, m_some)) (no_holder ns hs v ties t) ∙ ties.no_mutex;
@@ -203,7 +203,7 @@ module _ (ns : List Link) (hs : List Head) (v : Robust) (ties : Ties ns hs v) (t
         mine = λ h. absurd (no_one t h);
         half_else = λ u ne some e.
             let wrong : None ≡ Some t = sym (ap (λ (l : Link). l.holder) (ties.written u m some e)) ∙ holder_is in cc;
-        other_heads = λ u ne. get_or-set_other mid_heads t u cut_head empty_head ne ∙ with_first-other hs t p n u ne;
+        other_heads = λ u ne. get_or-set_other mid_heads t u cut_head empty_head ne ∙ with_first_mutex-other hs t p n u ne;
         others = now_others;
         holders = now_holder;
         keeps = λ k ne h. has-without k m xs ne h;

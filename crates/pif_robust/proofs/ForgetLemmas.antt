@@ -5,9 +5,9 @@ use Rattle.std.proofs.lemmas.List.{get_or-set_same, get_or-set_other, get_or_pas
 use Rattle.pif_model.specs.RobustList.{Robust, RobustRow, no_robust_row, robust_at, has_entry, without_entry, is_listed, without_listed, without_robust}
 use Rattle.pif_robust.specs.declared.links.Link.{Link}
 use Rattle.pif_robust.specs.declared.links.Head.{Head}
-use Rattle.pif_robust.specs.Links.{empty_head, head_at, robust_from, first_or, Ties}
+use Rattle.pif_robust.specs.Links.{empty_head, head_at, robust_from, first_or, FieldsHold}
 use Rattle.pif_robust.proofs.ListLemmas.{first_or-has}
-use Rattle.pif_robust.proofs.TiesLemmas.{Ties-changed, robust_at-same}
+use Rattle.pif_robust.proofs.TiesLemmas.{FieldsHold-changed, robust_at-same}
 use Rattle.pif_robust.proofs.WriteLemmas.{no_holder}
 use Rattle.pif_robust.proofs.SeenLemmas.{Shows, Shows-ties, Shows-same}
 use Rattle.pif_robust.proofs.CallLemmas.{ties_seen}
@@ -55,8 +55,8 @@ nothing (x ∷ xs) h = absurd cc
 
 -- the head of an empty list becomes that of a thread that has nothing
 module _ {ns : List Link} {hs : List Head} {v : Robust} (view : robust_from ns hs ≡ v)
-    (invariant : Ties ns hs (robust_from ns hs)) where
-  ties : Ties ns hs v
+    (invariant : FieldsHold ns hs (robust_from ns hs)) where
+  ties : FieldsHold ns hs v
   ties = ties_seen view invariant
 
   pub Shows-emptied : {t i : ℕ} → 1 ≤ i → i ≡ t → i < length hs → first_or (robust_at v t).listed None ≡ None →
@@ -66,7 +66,7 @@ module _ {ns : List Link} {hs : List Head} {v : Robust} (view : robust_from ns h
       let at : head_at then t ≡ empty_head = get_or-set_same hs t empty_head empty_head (omega arith) in
       let none : (robust_at v t).listed ≡ [] = nothing (robust_at v t).listed h in
       Shows-same (λ k. ns) (λ k. set hs (same k) empty_head) (Shows-ties ns then (without_robust t v)
-      (Ties-changed ns ns hs then v t 0 no_robust_row ties (record {
+      (FieldsHold-changed ns ns hs then v t 0 no_robust_row ties (record {
         links = refl;
         heads = length-set hs t empty_head;
         thread = omega arith;

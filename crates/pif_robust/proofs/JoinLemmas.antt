@@ -6,13 +6,13 @@ use Rattle.std.proofs.lemmas.List.{get_or-set_same, get_or-set_other, length-set
 use Rattle.pif_model.specs.RobustList.{Robust, RobustRow, no_robust_row, robust_at, has_entry, is_listed, with_listed}
 use Rattle.pif_robust.specs.declared.links.Link.{Link}
 use Rattle.pif_robust.specs.declared.links.Head.{Head}
-use Rattle.pif_robust.specs.Links.{unlinked, empty_head, link_at, head_at, first_or, Ties, links_joined, heads_joined}
+use Rattle.pif_robust.specs.Links.{unlinked, empty_head, link_at, head_at, first_or, FieldsHold, links_joined, heads_joined}
 use Rattle.pif_robust.proofs.ListLemmas.{has-head, has-tail, apart, first_or-has}
 use Rattle.pif_robust.proofs.ChainLemmas.{chain-holder, chain-refirst, with_previous-at, with_previous-other, with_previous-holder, length-with_previous}
-use Rattle.pif_robust.proofs.TiesLemmas.{Ties-changed, IsRobust-from_Ties, listed_in}
+use Rattle.pif_robust.proofs.TiesLemmas.{FieldsHold-changed, IsRobust-from_Ties, listed_in}
 use Rattle.pif_robust.proofs.WriteLemmas.{no_holder}
 
-module _ (ns : List Link) (hs : List Head) (v : Robust) (ties : Ties ns hs v) (t m : ℕ) (m_some : 1 ≤ m)
+module _ (ns : List Link) (hs : List Head) (v : Robust) (ties : FieldsHold ns hs v) (t m : ℕ) (m_some : 1 ≤ m)
     (is : (robust_at v t).half_linked ≡ m) where
   abbrev xs : List ℕ
   xs = (robust_at v t).listed
@@ -87,8 +87,8 @@ module _ (ns : List Link) (hs : List Head) (v : Robust) (ties : Ties ns hs v) (t
   head_here : head_at (heads_joined hs t m) t ≡ joined_head
   head_here = get_or-set_same hs t joined_head empty_head thread_within
 
-  pub Ties-joined : Ties (links_joined ns t m (link_at ns m).next) (heads_joined hs t m) (with_listed t m v)
-  Ties-joined = Ties-changed ns (links_joined ns t m (link_at ns m).next) hs (heads_joined hs t m) v t m
+  pub FieldsHold-joined : FieldsHold (links_joined ns t m (link_at ns m).next) (heads_joined hs t m) (with_listed t m v)
+  FieldsHold-joined = FieldsHold-changed ns (links_joined ns t m (link_at ns m).next) hs (heads_joined hs t m) v t m
       (record (robust_at v t) { listed = m ∷ xs; half_linked = 0 }) ties (record {
         links = length-with_previous mid (link_at ns m).next (Some m) ∙ length-set ns m held_link;
         heads = length-set hs t joined_head;

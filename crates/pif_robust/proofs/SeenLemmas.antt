@@ -8,22 +8,22 @@ use Rattle.pif_types.specs.Bounds.{Bounds}
 use Rattle.pif_model.specs.RobustList.{Robust, RobustRow, no_robust_row, no_robust, robust_at, IsRobust, HasNoRepeats}
 use Rattle.pif_robust.specs.declared.links.Link.{Link}
 use Rattle.pif_robust.specs.declared.links.Head.{Head}
-use Rattle.pif_robust.specs.Links.{unlinked, empty_head, link_at, head_at, robust_from, first_or, IsChain, Ties}
+use Rattle.pif_robust.specs.Links.{unlinked, empty_head, link_at, head_at, robust_from, first_or, IsChain, FieldsHold}
 use Rattle.pif_robust.specs.Robust.{named_mutex}
 use Rattle.pif_robust.proofs.TiesLemmas.{robust_from_is, IsRobust-from_Ties}
 
 -- the fields hold these lists, and show them
 pub record Shows (ns : List Link) (hs : List Head) (v : Robust) : Type 0 where
   pub view : robust_from ns hs ≡ v
-  pub invariant : Ties ns hs (robust_from ns hs)
+  pub invariant : FieldsHold ns hs (robust_from ns hs)
   pub sound : IsRobust (robust_from ns hs)
 
-pub Shows-ties : (ns : List Link) (hs : List Head) (v : Robust) → Ties ns hs v → Shows ns hs v
+pub Shows-ties : (ns : List Link) (hs : List Head) (v : Robust) → FieldsHold ns hs v → Shows ns hs v
 Shows-ties ns hs v t =
     let view = robust_from_is ns hs v t in
     record {
       view = view;
-      invariant = subst (Ties ns hs) (sym view) t;
+      invariant = subst (FieldsHold ns hs) (sym view) t;
       sound = subst IsRobust (sym view)
           (IsRobust-from_Ties ns hs v t);
     }
@@ -34,14 +34,14 @@ pub Shows-same : {ns ms : List Link} {hs gs : List Head} {v : Robust} → ms ≡
 Shows-same {ns} {ms} {hs} {gs} {v} links heads shows =
     subst (λ (xs : List Link). Shows xs gs v) (sym links) (subst (λ (xs : List Head). Shows ns xs v) (sym heads) shows)
 
-pub Ties-same : {ns ms : List Link} {hs gs : List Head} {v : Robust} → ms ≡ ns → gs ≡ hs → Ties ns hs v → Ties ms gs v
-Ties-same {ns} {ms} {hs} {gs} {v} links heads t =
-    subst (λ (xs : List Link). Ties xs gs v) (sym links) (subst (λ (xs : List Head). Ties ns xs v) (sym heads) t)
+pub FieldsHold-same : {ns ms : List Link} {hs gs : List Head} {v : Robust} → ms ≡ ns → gs ≡ hs → FieldsHold ns hs v → FieldsHold ms gs v
+FieldsHold-same {ns} {ms} {hs} {gs} {v} links heads t =
+    subst (λ (xs : List Link). FieldsHold xs gs v) (sym links) (subst (λ (xs : List Head). FieldsHold ns xs v) (sym heads) t)
 
 -- the fields of a value hold it
-pub Ties-seen : (ns : List Link) (hs : List Head) (v : Robust) → robust_from ns hs ≡ v →
-    Ties ns hs (robust_from ns hs) → Ties ns hs v
-Ties-seen ns hs v view t = subst (Ties ns hs) view t
+pub FieldsHold-seen : (ns : List Link) (hs : List Head) (v : Robust) → robust_from ns hs ≡ v →
+    FieldsHold ns hs (robust_from ns hs) → FieldsHold ns hs v
+FieldsHold-seen ns hs v view t = subst (FieldsHold ns hs) view t
 
 -- a list written over a vector's elements, where it is as long
 written_over : {X : Type 0} (n : ℕ) (was xs : List X) → length xs ≡ n → take n (xs ++ drop (length xs) was) ≡ xs
@@ -50,7 +50,7 @@ written_over n was xs same = ap (λ k. take k (xs ++ drop (length xs) was)) (sym
 
 -- fields that go back into the two vectors
 pub Shows-closed : (n m : ℕ) (was : List Link) (had : List Head) (ns : List Link) (hs : List Head) (v : Robust) →
-    length ns ≡ n → length hs ≡ m → Ties ns hs v →
+    length ns ≡ n → length hs ≡ m → FieldsHold ns hs v →
     Shows (take n (ns ++ drop (length ns) was)) (take m (hs ++ drop (length hs) had)) v
 Shows-closed n m was had ns hs v same_links same_heads t =
     subst (λ (xs : List Link). Shows xs (take m (hs ++ drop (length hs) had)) v)
@@ -63,9 +63,9 @@ replicate_at k x i = ⊎_elim (λ l. get_or-replicate k i x x l)
     (λ l. get_or_past (replicate k x) i x (omega (arith, length-replicate k x))) (cases_lt i k)
 
 -- new fields
-pub Ties-new : (l : Bounds) → l.mutexes ≤ 1024 →
-    Ties (replicate (l.mutexes + 1) unlinked) (replicate (l.threads + 1) empty_head) (no_robust l)
-Ties-new l most =
+pub FieldsHold-new : (l : Bounds) → l.mutexes ≤ 1024 →
+    FieldsHold (replicate (l.mutexes + 1) unlinked) (replicate (l.threads + 1) empty_head) (no_robust l)
+FieldsHold-new l most =
     let link = λ (m : ℕ). replicate_at (l.mutexes + 1) unlinked m in
     let head = λ (t : ℕ). replicate_at (l.threads + 1) empty_head t in
     let row : (t : ℕ) → robust_at (no_robust l) t ≡ no_robust_row = λ t. replicate_at (l.threads + 1) no_robust_row t in
@@ -100,7 +100,7 @@ pub Shows-new : {ns : List Link} {hs : List Head} (l : Bounds) → l.mutexes ≤
     Shows ns hs (no_robust l)
 Shows-new {ns} {hs} l most links heads =
     Shows-same links heads (Shows-ties (replicate (l.mutexes + 1) unlinked) (replicate (l.threads + 1) empty_head)
-    (no_robust l) (Ties-new l most))
+    (no_robust l) (FieldsHold-new l most))
 
 -- an element that was read in bounds
 pub head_read : (hs : List Head) (t i : ℕ) (h : Head) → i ≡ t → t < length hs → h ≡ get_or hs i h → h ≡ head_at hs t

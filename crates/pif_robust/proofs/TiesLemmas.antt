@@ -6,7 +6,7 @@ use Rattle.std.proofs.lemmas.List.{ext_get_or, get_or-map, length-map, get_or-se
 use Rattle.pif_model.specs.RobustList.{Robust, RobustRow, no_robust_row, robust_at, has_entry, is_listed, with_robust, HasNoRepeats, IsRobust}
 use Rattle.pif_robust.specs.declared.links.Link.{Link}
 use Rattle.pif_robust.specs.declared.links.Head.{Head}
-use Rattle.pif_robust.specs.Links.{unlinked, empty_head, link_at, head_at, path, row_from, robust_from, first_or, IsChain, Ties}
+use Rattle.pif_robust.specs.Links.{unlinked, empty_head, link_at, head_at, path, row_from, robust_from, first_or, IsChain, FieldsHold}
 use Rattle.pif_robust.specs.Robust.{named_mutex}
 use Rattle.pif_robust.proofs.ListLemmas.{length-mutexes}
 use Rattle.pif_robust.proofs.ChainLemmas.{chain-holder, chain-same, path-chain, held_within}
@@ -29,7 +29,7 @@ same_robust : (xs ys : List RobustRow) (m n : ℕ) → xs ≡ ys → m ≡ n →
     ◌≡◌ {A = Robust} (record { threads = xs; mutexes = m }) (record { threads = ys; mutexes = n })
 same_robust xs ys m n e f = cc
 
-module _ (ns : List Link) (hs : List Head) (v : Robust) (t : Ties ns hs v) where
+module _ (ns : List Link) (hs : List Head) (v : Robust) (t : FieldsHold ns hs v) where
   held : (u m : ℕ) → is_listed v u m ≡ true → (link_at ns m).holder ≡ Some u
   held u m h = chain-holder ns u None (robust_at v u).listed None m (t.chain u) h
 
@@ -123,7 +123,7 @@ module _ (v : Robust) (t : ℕ) (x : RobustRow) (t_in : t < length v.threads) wh
       (λ ne. subst (P u) (sym (robust_at-other u ne)) (other u ne))
       (cases_eq u t)
 
-module _ (ns now : List Link) (hs then : List Head) (v : Robust) (t m : ℕ) (x : RobustRow) (ties : Ties ns hs v)
+module _ (ns now : List Link) (hs then : List Head) (v : Robust) (t m : ℕ) (x : RobustRow) (ties : FieldsHold ns hs v)
     (c : Change ns now hs then v t m x) where
   t_in : t < length v.threads
   t_in = omega (arith, c.thread_in, ties.threads)
@@ -175,8 +175,8 @@ module _ (ns now : List Link) (hs then : List Head) (v : Robust) (t m : ℕ) (x 
   zero_apart : 0 ≡ t → ⊥
   zero_apart e = omega (arith, c.thread)
 
-  pub Ties-changed : Ties now then (with_robust t x v)
-  Ties-changed = record {
+  pub FieldsHold-changed : FieldsHold now then (with_robust t x v)
+  FieldsHold-changed = record {
     threads = c.heads ∙ ties.threads ∙ sym (length-set v.threads t x);
     mutexes = c.links ∙ ties.mutexes;
     most = ties.most;

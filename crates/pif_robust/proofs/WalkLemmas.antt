@@ -7,7 +7,7 @@ use Rattle.std.proofs.lemmas.Option.{same_Some}
 use Rattle.pif_model.specs.RobustList.{Robust, RobustRow, robust_at, has_entry, without_entry, walk_of, HasNoRepeats, IsRobust}
 use Rattle.pif_robust.specs.declared.links.Link.{Link}
 use Rattle.pif_robust.specs.declared.links.Head.{Head}
-use Rattle.pif_robust.specs.Links.{link_at, robust_from, first_or, IsChain, Ties}
+use Rattle.pif_robust.specs.Links.{link_at, robust_from, first_or, IsChain, FieldsHold}
 use Rattle.pif_robust.specs.Robust.{named_mutex}
 use Rattle.pif_robust.specs.Walk.{walk_along, behind, ahead}
 use Rattle.pif_robust.proofs.ListLemmas.{Apart-from_once, has_split, has-append, has-head, has-tail, has-right, apart, length-mutexes, has-without_same, HasNoRepeats-without, has-with, first_or-has}
@@ -106,7 +106,7 @@ pub record IsFollowed (ns : List Link) (t m : ℕ) (x : RobustRow) : Type 0 wher
   pub inside : (k : ℕ) → has_entry back k ≡ true → k < length ns
   pub rest : behind m (walk_of x) ≡ walk_along back x.pending
 
-module _ (ns : List Link) (hs : List Head) (v : Robust) (ties : Ties ns hs v) (t : ℕ) where
+module _ (ns : List Link) (hs : List Head) (v : Robust) (ties : FieldsHold ns hs v) (t : ℕ) where
   abbrev x : RobustRow
   x = robust_at v t
 
@@ -228,7 +228,7 @@ next-pending {pending} x m named is =
     (sym (ap (λ (k : ℕ). behind k (walk_of x)) e.1 ∙ behind_pending x.listed x.pending e.0))
 
 module _ {ns : List Link} {hs : List Head} {v : Robust} (view : robust_from ns hs ≡ v)
-    (invariant : Ties ns hs (robust_from ns hs)) (t : ℕ) where
+    (invariant : FieldsHold ns hs (robust_from ns hs)) (t : ℕ) where
   pub entry_within : {k : ℕ} {first : Option ℕ} → first ≡ first_or (robust_at v t).listed None → first ≡ Some k →
       k < length ns
   entry_within {k} {first} is named =

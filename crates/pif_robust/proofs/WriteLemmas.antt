@@ -6,17 +6,17 @@ use Rattle.std.proofs.lemmas.List.{get_or-set_same, get_or-set_other, length-set
 use Rattle.pif_model.specs.RobustList.{Robust, RobustRow, robust_at, is_listed, with_robust, with_pending, with_half_linked, IsUnlisted, IsHalfLinkedByNoOther}
 use Rattle.pif_robust.specs.declared.links.Link.{Link}
 use Rattle.pif_robust.specs.declared.links.Head.{Head}
-use Rattle.pif_robust.specs.Links.{unlinked, empty_head, link_at, head_at, first_or, Ties}
+use Rattle.pif_robust.specs.Links.{unlinked, empty_head, link_at, head_at, first_or, FieldsHold}
 use Rattle.pif_robust.specs.Robust.{named_mutex}
 use Rattle.pif_robust.proofs.ListLemmas.{apart}
 use Rattle.pif_robust.proofs.ChainLemmas.{chain-same}
-use Rattle.pif_robust.proofs.TiesLemmas.{named_mutex-some, Ties-changed}
+use Rattle.pif_robust.proofs.TiesLemmas.{named_mutex-some, FieldsHold-changed}
 
 -- a row that is outside the limits changes nothing
 pub with_robust-out : (v : Robust) (t : ℕ) (x : RobustRow) → length v.threads ≤ t → with_robust t x v ≡ v
 with_robust-out v t x out = ap (λ xs. record v { threads = xs }) (set_out v.threads t x out)
 
-module _ (ns : List Link) (hs : List Head) (v : Robust) (ties : Ties ns hs v) where
+module _ (ns : List Link) (hs : List Head) (v : Robust) (ties : FieldsHold ns hs v) where
   -- no thread holds place 0
   pub no_holder : (u : ℕ) → (link_at ns 0).holder ≡ Some u → ⊥
   no_holder u h = let e : None ≡ Some u = sym (ap (λ (l : Link). l.holder) ties.no_mutex) ∙ h in cc
@@ -27,12 +27,12 @@ module _ (ns : List Link) (hs : List Head) (v : Robust) (ties : Ties ns hs v) wh
     pended : Head
     pended = record (head_at hs t) { pending = o }
 
-    pub Ties-pending : Ties ns (set hs t (record (head_at hs t) { pending = o })) (with_pending t m v)
-    Ties-pending =
+    pub FieldsHold-pending : FieldsHold ns (set hs t (record (head_at hs t) { pending = o })) (with_pending t m v)
+    FieldsHold-pending =
         let then : List Head = set hs t (record (head_at hs t) { pending = o }) in
         let at : head_at then t ≡ record (head_at hs t) { pending = o } = get_or-set_same hs t
         (record (head_at hs t) { pending = o }) empty_head t_in in
-        Ties-changed ns ns hs then v t 0 (record (robust_at v t) { pending = m }) ties (record {
+        FieldsHold-changed ns ns hs then v t 0 (record (robust_at v t) { pending = m }) ties (record {
           links = refl;
           heads = length-set hs t (record (head_at hs t) { pending = o });
           thread = t_some;
@@ -78,8 +78,8 @@ module _ (ns : List Link) (hs : List Head) (v : Robust) (ties : Ties ns hs v) wh
     head_here : head_at (set hs t half_head) t ≡ half_head
     head_here = get_or-set_same hs t half_head empty_head t_in
 
-    pub Ties-half_linked : Ties (set ns m new_link) (set hs t half_head) (with_half_linked t m v)
-    Ties-half_linked = Ties-changed ns (set ns m new_link) hs (set hs t half_head) v t m
+    pub FieldsHold-half_linked : FieldsHold (set ns m new_link) (set hs t half_head) (with_half_linked t m v)
+    FieldsHold-half_linked = FieldsHold-changed ns (set ns m new_link) hs (set hs t half_head) v t m
         (record (robust_at v t) { half_linked = m }) ties (record {
           links = length-set ns m new_link;
           heads = length-set hs t half_head;

@@ -56,7 +56,7 @@ IsChain ns t before (m ∷ ms) after =
     × IsChain ns t (Some m) ms after
 
 -- the fields hold these lists
-pub record Ties (ns : List Link) (hs : List Head) (v : Robust) : Type 0 where
+pub record FieldsHold (ns : List Link) (hs : List Head) (v : Robust) : Type 0 where
   pub threads : length hs ≡ length v.threads
   pub mutexes : length ns ≡ v.mutexes + 1
   pub most : v.mutexes ≤ 1024
@@ -80,14 +80,14 @@ pub record Ties (ns : List Link) (hs : List Head) (v : Robust) : Type 0 where
   pub pending_in : (t : ℕ) → (robust_at v t).pending ≤ v.mutexes
 
 -- the entries with another `next` at a place, if there is one
-abbrev pub with_next : List Link → Option ℕ → Option ℕ → List Link
-with_next ns None to = ns
-with_next ns (Some p) to = slice_set ns p (record (link_at ns p) { next = to })
+abbrev pub with_next_mutex : List Link → Option ℕ → Option ℕ → List Link
+with_next_mutex ns None to = ns
+with_next_mutex ns (Some p) to = slice_set ns p (record (link_at ns p) { next = to })
 
 -- the heads with another first mutex of t, if no place stands before it
-abbrev pub with_first : List Head → ℕ → Option ℕ → Option ℕ → List Head
-with_first hs t None to = slice_set hs t (record (head_at hs t) { first = to })
-with_first hs t (Some p) to = hs
+abbrev pub with_first_mutex : List Head → ℕ → Option ℕ → Option ℕ → List Head
+with_first_mutex hs t None to = slice_set hs t (record (head_at hs t) { first = to })
+with_first_mutex hs t (Some p) to = hs
 
 -- the entries with another `previous` at a place, if there is one
 abbrev pub with_previous : List Link → Option ℕ → Option ℕ → List Link
@@ -105,11 +105,11 @@ heads_joined hs t m = slice_set hs t (record (head_at hs t) { first = Some m; ha
 -- the entries once m is off its list
 abbrev pub links_cut : List Link → ℕ → List Link
 links_cut ns m =
-    with_previous (with_next (slice_set ns m unlinked) (link_at ns m).previous (link_at ns m).next)
+    with_previous (with_next_mutex (slice_set ns m unlinked) (link_at ns m).previous (link_at ns m).next)
     (link_at ns m).next (link_at ns m).previous
 
 -- the heads once m is off the list of t
 abbrev pub heads_cut : List Link → List Head → ℕ → ℕ → List Head
 heads_cut ns hs t m =
-    let now = with_first hs t (link_at ns m).previous (link_at ns m).next in
+    let now = with_first_mutex hs t (link_at ns m).previous (link_at ns m).next in
     slice_set now t (record (head_at now t) { half_linked = None })

@@ -1,7 +1,7 @@
 ghost use Rattle.std.specs.Prelude.{ℕ, ◌≡◌, ◌<◌, ◌≤◌, ◌↔◌, IsTrue, true, List, Option, Some, None, length};
 ghost use Rattle.std.specs.Option.{ForSome};
 ghost use Rattle.pif_model.specs.RobustList.{has_entry, HasNoRepeats};
-ghost use Rattle.pif_robust.specs.Links.{link_at, first_or, IsChain, with_next, with_first, with_previous, links_joined, heads_joined, links_cut, heads_cut};
+ghost use Rattle.pif_robust.specs.Links.{link_at, first_or, IsChain, with_next_mutex, with_first_mutex, with_previous, links_joined, heads_joined, links_cut, heads_cut};
 ghost use Rattle.pif_robust.specs.Robust.{named_mutex};
 ghost use Rattle.pif_robust.specs.Walk.{walk_along};
 
@@ -78,8 +78,8 @@ fn set_next(
 )
     requires head_in { t < length heads.old }
     requires place_in { ForSome place (λ p. p < length links.old) }
-    ensures links { links.new ≡ with_next links.old place to }
-    ensures heads { heads.new ≡ with_first heads.old t place to }
+    ensures links { links.new ≡ with_next_mutex links.old place to }
+    ensures heads { heads.new ≡ with_first_mutex heads.old t place to }
 {
     match place {
         Some(mutex) => links[mutex.get() as usize].next = to,

@@ -27,11 +27,11 @@ impl Model for RobustLists {
 
     ghost coded = { robust_code };
 
-    ghost use Rattle.pif_robust.specs.Links.{robust_from, Ties};
+    ghost use Rattle.pif_robust.specs.Links.{robust_from, FieldsHold};
 
     ghost view = { λ l. robust_from l.links.items l.heads.items };
 
-    ghost invariant = { λ l. Ties l.links.items l.heads.items (robust_from l.links.items l.heads.items) };
+    ghost invariant = { λ l. FieldsHold l.links.items l.heads.items (robust_from l.links.items l.heads.items) };
 }
 
 impl RobustLists {

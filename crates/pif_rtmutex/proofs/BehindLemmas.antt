@@ -4,9 +4,9 @@ use Rattle.std.proofs.lemmas.Bool.{false≢true, true≢false, or_cases, eqb-tru
 use Rattle.std.proofs.lemmas.Option.{same_Some}
 use Rattle.std.specs.FinMap.{get}
 use Rattle.pif_nodes.specs.declared.keys.Key.{Key}
-use Rattle.pif_nodes.specs.Lists.{has, first_of, next_in, HasNoRepeats}
-use Rattle.pif_nodes.specs.Table.{Table, list_at, key_at, next_of}
-use Rattle.pif_nodes.proofs.ListLemmas.{first_of-has, has_split, has-append, has-right, next_in-split, HasNoRepeats-taken}
+use Rattle.pif_nodes.specs.Lists.{has, first_of, next_in_list, HasNoRepeats}
+use Rattle.pif_nodes.specs.Table.{NodeLists, list_at, key_at, next_node}
+use Rattle.pif_nodes.proofs.ListLemmas.{first_of-has, has_split, has-append, has-right, next_in_list-split, HasNoRepeats-taken}
 use Rattle.pif_plist.specs.Order.{comes_before, key_in, IsInOrder}
 use Rattle.pif_plist.proofs.OrderLemmas.{not_before-self}
 use Rattle.pif_plist.proofs.WalkLemmas.{next_of_is}
@@ -37,7 +37,7 @@ first-empty : (xs : List ℕ) (x : ℕ) → first_of xs ≡ None → has x xs �
 first-empty [] x e h = false≢true h
 first-empty (y ∷ ys) x e h = let wrong : Some y ≡ None = e in absurd cc
 
-module _ (m : States) (t : Table) (u k : ℕ) (h : HoldsWaiters m t) (w : wait_of m u ≡ Some k) where
+module _ (m : States) (t : NodeLists) (u k : ℕ) (h : HoldsWaiters m t) (w : wait_of m u ≡ Some k) where
   at : (r : ℕ) × (get m.places k ≡ Some r) × (r < m.threads)
   at = h.placed k (waits-state m t u k h w)
 
@@ -56,11 +56,11 @@ module _ (m : States) (t : Table) (u k : ℕ) (h : HoldsWaiters m t) (w : wait_o
   abbrev back : List ℕ
   back = parts.1
 
-  next-is : next_of t (wait_node m u) ≡ first_of back
+  next-is : next_node t (wait_node m u) ≡ first_of back
   next-is =
       next_of_is t (wait_list m at.0) (wait_node m u) h.apart there
-      ∙ ap (λ xs. next_in xs (wait_node m u)) parts.2
-      ∙ next_in-split front back (wait_node m u) parts.3
+      ∙ ap (λ xs. next_in_list xs (wait_node m u)) parts.2
+      ∙ next_in_list-split front back (wait_node m u) parts.3
 
   order : IsInOrder t.keys (front ++ wait_node m u ∷ back)
   order = subst (IsInOrder t.keys) parts.2 (h.sorted at.0 at.2)
@@ -104,7 +104,7 @@ module _ (m : States) (t : Table) (u k : ℕ) (h : HoldsWaiters m t) (w : wait_o
   waits_same : (x : ℕ) → waits_on (owners_in m t) x ≡ waits_on (owners_in m t) u → wait_of m x ≡ Some k
   waits_same x e = sym (waits_on-owners_in m t x) ∙ e ∙ waits_on-owners_in m t u ∙ w
 
-  pub last : next_of t (wait_node m u) ≡ None → IsLast (owners_in m t) u
+  pub last : next_node t (wait_node m u) ≡ None → IsLast (owners_in m t) u
   last none x mine other on rank ranked =
       let wx : wait_of m x ≡ Some k = waits_same x on in
       by_place (stands x wx) (rank_is u mine w rank) (rank_is x other wx ranked)
@@ -117,7 +117,7 @@ module _ (m : States) (t : Table) (u k : ℕ) (h : HoldsWaiters m t) (w : wait_o
       by_place (inr (inr e)) a b = absurd (first-empty back (wait_node m x) (sym next-is ∙ none) e)
 
   -- the node behind
-  module _ (n : ℕ) (some : next_of t (wait_node m u) ≡ Some n) where
+  module _ (n : ℕ) (some : next_node t (wait_node m u) ≡ Some n) where
     first : first_of back ≡ Some n
     first = sym next-is ∙ some
 
@@ -176,28 +176,28 @@ waits_some : (o : Option ℕ) → IsSome o → (k : ℕ) × (o ≡ Some k)
 waits_some None s = absurd (false≢true s)
 waits_some (Some k) s = (k, refl)
 
-pub waits-at : (m : States) (t : Table) (u : ℕ) → IsSome (waits_on (owners_in m t) u) → (k : ℕ) × (wait_of m u ≡ Some k)
+pub waits-at : (m : States) (t : NodeLists) (u : ℕ) → IsSome (waits_on (owners_in m t) u) → (k : ℕ) × (wait_of m u ≡ Some k)
 waits-at m t u s = waits_some (wait_of m u) (subst IsSome (waits_on-owners_in m t u) s)
 
-pub behind-none : (o : Option ℕ) (m : States) (t : Table) (u : ℕ) → HoldsWaiters m t
-    → IsSome (waits_on (owners_in m t) u) → o ≡ option_map (waiter_for m) (next_of t (wait_node m u))
+pub behind-none : (o : Option ℕ) (m : States) (t : NodeLists) (u : ℕ) → HoldsWaiters m t
+    → IsSome (waits_on (owners_in m t) u) → o ≡ option_map (waiter_for m) (next_node t (wait_node m u))
     → IfNone o (IsLast (owners_in m t) u)
 behind-none (Some p) m t u h s e = tt
-behind-none None m t u h s e = by_next (cases_Some (next_of t (wait_node m u)))
+behind-none None m t u h s e = by_next (cases_Some (next_node t (wait_node m u)))
   where
-    by_next : ((next_of t (wait_node m u) ≡ None) ⊎ ((x : ℕ) × (next_of t (wait_node m u) ≡ Some x)))
+    by_next : ((next_node t (wait_node m u) ≡ None) ⊎ ((x : ℕ) × (next_node t (wait_node m u) ≡ Some x)))
         → IsLast (owners_in m t) u
     by_next (inl none) = let w = waits-at m t u s in last m t u w.0 h w.1 none
     by_next (inr some) =
         let wrong : None ≡ Some (waiter_for m some.0) = e ∙ ap (option_map (waiter_for m)) some.1 in absurd cc
 
-pub behind-some : (o : Option ℕ) (m : States) (t : Table) (u : ℕ) → HoldsWaiters m t
-    → IsSome (waits_on (owners_in m t) u) → o ≡ option_map (waiter_for m) (next_of t (wait_node m u))
+pub behind-some : (o : Option ℕ) (m : States) (t : NodeLists) (u : ℕ) → HoldsWaiters m t
+    → IsSome (waits_on (owners_in m t) u) → o ≡ option_map (waiter_for m) (next_node t (wait_node m u))
     → IfSome o (λ p. IsBehind (owners_in m t) u p)
 behind-some None m t u h s e = tt
-behind-some (Some p) m t u h s e = by_next (cases_Some (next_of t (wait_node m u)))
+behind-some (Some p) m t u h s e = by_next (cases_Some (next_node t (wait_node m u)))
   where
-    by_next : ((next_of t (wait_node m u) ≡ None) ⊎ ((x : ℕ) × (next_of t (wait_node m u) ≡ Some x)))
+    by_next : ((next_node t (wait_node m u) ≡ None) ⊎ ((x : ℕ) × (next_node t (wait_node m u) ≡ Some x)))
         → IsBehind (owners_in m t) u p
     by_next (inl none) =
         let wrong : Some p ≡ None = e ∙ ap (option_map (waiter_for m)) none in absurd cc

@@ -5,14 +5,14 @@ use Rattle.std.proofs.lemmas.List.{get_or-set_same, get_or-set_other}
 use Rattle.std.specs.FinMap.{get, insert}
 use Rattle.pif_nodes.specs.declared.keys.Key.{Key}
 use Rattle.pif_nodes.specs.Lists.{has}
-use Rattle.pif_nodes.specs.Table.{Table, no_key, list_at, key_at, holder, with_key, IsApart}
+use Rattle.pif_nodes.specs.Table.{NodeLists, no_key, list_at, key_at, holder, with_key, IsApart}
 use Rattle.pif_nodes.proofs.ListLemmas.{has-head}
-use Rattle.pif_plist.specs.Order.{comes_before, key_in, IsInOrder, IsSorted, OthersStaySorted, table_after_insert, table_after_remove, with_prio as key_with_prio, with_ticket as key_with_ticket}
+use Rattle.pif_plist.specs.Order.{comes_before, key_in, IsInOrder, IsSorted, OthersStaySorted, table_after_insert, table_after_remove, key_with_prio, key_with_ticket}
 use Rattle.pif_plist.proofs.OrderLemmas.{not_before-self}
 use Rattle.pif_model.specs.Graph.{Reaches}
 use Rattle.pif_owners.specs.Owners.{Owners, Wait, owner_at, waits_on, rank_of, WaitsFor, KeepsOrder, with_wait, with_prio, with_ticket, with_owner}
 use Rattle.pif_rtmutex.specs.States.{States, IsThread, row_at, wait_of, wait_node, top_node, wait_list, first_waiter, owners_in}
-use Rattle.pif_rtmutex.specs.Holds.{HoldsWaiters, IsWaiterIn, IsRankedTop, HoldsTops, Holds}
+use Rattle.pif_rtmutex.specs.Holds.{HoldsWaiters, IsWaiterIn, IsRankedTop, HoldsTops, HoldsStates}
 use Rattle.pif_rtmutex.specs.Frames.{ChangesList}
 use Rattle.pif_rtmutex.proofs.ViewLemmas.{length-seats, waits_on-owners_in, rank_of-owners_in}
 use Rattle.pif_rtmutex.proofs.WaiterLemmas.{waits-thread, StandsFirst, stands-first, some_owner}
@@ -21,8 +21,8 @@ use Rattle.pif_rtmutex.proofs.StepLemmas.{row-list, seat-wait, WaitsAt, waits-at
 use Rattle.pif_rtmutex.proofs.TopLemmas.{tops-same}
 
 -- a call on list l and node n, which are those of the waiters of state k, owned by o, and of thread u
-pub record IsCall (m : States) (t now : Table) (k u o l n : ℕ) : Type 0 where
-  pub holds : Holds m t
+pub record IsCall (m : States) (t now : NodeLists) (k u o l n : ℕ) : Type 0 where
+  pub holds : HoldsStates m t
   pub owner : get m.owners k ≡ Some o
   pub list : option_map (wait_list m) (get m.places k) ≡ Some l
   pub node : n ≡ wait_node m u
@@ -36,7 +36,7 @@ some_of None h = absurd (false≢true h)
 some_of (Some x) h = (x, refl)
 
 -- what `insert` answered
-module _ (m : States) (t now : Table) (k u o l n : ℕ) (c : IsCall m t now k u o l n) where
+module _ (m : States) (t now : NodeLists) (k u o l n : ℕ) (c : IsCall m t now k u o l n) where
   pub enqueued : (rank : Key) → 1 ≤ rank.prio → rank.prio ≤ 99 → 1 ≤ u → u < length (owners_in m t).seats
       → waits_on (owners_in m t) u ≡ None
       → holder t (wait_node m u) ≡ None
@@ -130,7 +130,7 @@ order-as was now (x ∷ xs) same h = (
 )
 
 -- a list of waiters stays in order with a ticket that keeps the order
-module _ (m : States) (t : Table) (k u r ticket : ℕ) (h : HoldsWaiters m t) (w : wait_of m u ≡ Some k)
+module _ (m : States) (t : NodeLists) (k u r ticket : ℕ) (h : HoldsWaiters m t) (w : wait_of m u ≡ Some k)
     (place : get m.places k ≡ Some r)
     (low : r < m.threads) (keeps : KeepsOrder (owners_in m t) u ticket) where
   abbrev keys : List Key
@@ -184,7 +184,7 @@ module _ (m : States) (t : Table) (k u r ticket : ℕ) (h : HoldsWaiters m t) (w
       (cases_eq x (wait_node m u))) (h.sorted r low))
 
 -- what `set_ticket` answered
-module _ (m : States) (t now : Table) (k u o l n : ℕ) (c : IsCall m t now k u o l n) (ticket : ℕ)
+module _ (m : States) (t now : NodeLists) (k u o l n : ℕ) (c : IsCall m t now k u o l n) (ticket : ℕ)
     (on : wait_of m u ≡ Some k)
     (ticketed : now ≡ with_key t n (key_with_ticket t n ticket)) where
   abbrev rank : Key
@@ -214,14 +214,14 @@ module _ (m : States) (t now : Table) (k u o l n : ℕ) (c : IsCall m t now k u 
       (option_map (λ (x : Wait). record x { rank = record x.rank { ticket = ticket } }) w) (owners_in m t))
       (sym was))
       (ranked-step m t now k at.row u o rank c.holds at.is_thread at.place at.below c.owner changes on at.held
-      (ap (λ (x : Table). holder x (wait_node m u)) ticketed ∙ at.held) key
+      (ap (λ (x : NodeLists). holder x (wait_node m u)) ticketed ∙ at.held) key
       (seat.least (record { state = k; rank = key_at t (wait_node m u) }) was)
       (seat.most (record { state = k; rank = key_at t (wait_node m u) }) was))
 
   -- the first waiter is the same, and so is its priority
   tops : HoldsTops m now
   tops =
-      tops-same m now k o (first_waiter m t k) c.owner (ap (λ (x : Table). first_waiter m x k) ticketed)
+      tops-same m now k o (first_waiter m t k) c.owner (ap (λ (x : NodeLists). first_waiter m x k) ticketed)
       (λ w e. ranked w e (cases_eq w u)) step.but
     where
       ranked : (w : ℕ) → first_waiter m t k ≡ Some w → ((w ≡ u) ⊎ (w ≡ u → ⊥)) → IsRankedTop m now w

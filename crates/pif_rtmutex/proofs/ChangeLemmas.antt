@@ -7,12 +7,12 @@ use Rattle.std.specs.Ordering.{nat_cmp}
 use Rattle.std.specs.FinMap.{FinMap, get}
 use Rattle.pif_nodes.specs.declared.keys.Key.{Key}
 use Rattle.pif_nodes.specs.Lists.{has, first_of}
-use Rattle.pif_nodes.specs.Table.{Table, list_at, key_at, holder}
+use Rattle.pif_nodes.specs.Table.{NodeLists, list_at, key_at, holder}
 use Rattle.pif_plist.specs.Order.{IsSorted}
-use Rattle.pif_owners.specs.Owners.{Seat, no_seat, with_seat, IsSound}
+use Rattle.pif_owners.specs.Owners.{Seat, no_seat, with_seat, AreSoundOwners}
 use Rattle.pif_rtmutex.specs.States.{Row, States, IsThread, IsOwnList, no_row, row_at, wait_of, wait_node, top_node, wait_list, top_list, waiter_for, first_waiter, seat_in, owners_in}
 use Rattle.pif_rtmutex.specs.Holds.{HoldsWaiters, IsWaiterIn, IsTopNode, IsTopped, IsFirstOf, IsTopOf, IsRankedTop, IsTopBut, HoldsTops, IsToppedBut}
-use Rattle.pif_rtmutex.specs.Frames.{SameOutside, ChangesList, ChangesTops}
+use Rattle.pif_rtmutex.specs.Frames.{SameOutsideStates, ChangesList, ChangesTops}
 use Rattle.pif_rtmutex.proofs.ViewLemmas.{length-seats, seat_at-owners_in, owners_in-by_seat}
 use Rattle.pif_rtmutex.proofs.WaiterLemmas.{waits-thread, first_waiter-by_row, StandsFirst, stands-first, some_owner}
 use Rattle.pif_rtmutex.proofs.FrameLemmas.{cases_Some, view-framed, waiters-framed, topped-as}
@@ -20,7 +20,7 @@ use Rattle.pif_rtmutex.proofs.ListChanges.{had-other, outside-changed}
 
 -- the value has these rows and owners then, of which those of thread u and of state k may be other ones, and of the table
 -- the list of row r of k and the node of u as a waiter changed
-pub record IsChange (m : States) (rows : List Row) (owners : FinMap nat_cmp ℕ) (t now : Table)
+pub record IsChange (m : States) (rows : List Row) (owners : FinMap nat_cmp ℕ) (t now : NodeLists)
     (k r u o : ℕ) : Type 0 where
   pub thread : IsThread m u
   pub place : get m.places k ≡ Some r
@@ -39,7 +39,7 @@ pub record IsChange (m : States) (rows : List Row) (owners : FinMap nat_cmp ℕ)
       → (j ≡ k) × (holder now (wait_node m u) ≡ Some (wait_list m r))
   pub stands : holder now (wait_node m u) ≡ Some (wait_list m r) → (get_or rows u no_row).wait ≡ Some k
 
-module _ (m : States) (rows : List Row) (owners : FinMap nat_cmp ℕ) (t now : Table) (k r u o : ℕ) (h : HoldsWaiters m t)
+module _ (m : States) (rows : List Row) (owners : FinMap nat_cmp ℕ) (t now : NodeLists) (k r u o : ℕ) (h : HoldsWaiters m t)
     (c : IsChange m rows owners t now k r u o) where
   abbrev next : States
   next = record m { rows = rows; owners = owners }
@@ -106,7 +106,7 @@ module _ (m : States) (rows : List Row) (owners : FinMap nat_cmp ℕ) (t now : T
       by_thread w (inr ne) = get_or-set_other (owners_in m t).seats u w x no_seat ne ∙ seat_at-owners_in m t w
           ∙ sym (seat-kept w ne)
 
-  pub waiters-outside : SameOutside m t now
+  pub waiters-outside : SameOutsideStates m t now
   waiters-outside =
       outside-changed m t now (wait_list m r) (wait_node m u) (omega arith, omega (arith, c.below))
       (omega arith, omega (arith, c.thread)) c.from c.changes
@@ -115,7 +115,7 @@ module _ (m : States) (rows : List Row) (owners : FinMap nat_cmp ℕ) (t now : T
   other_list : (q : ℕ) → q ≢ r → list_at now (wait_list m q) ≡ list_at t (wait_list m q)
   other_list q ne = c.changes.lists (wait_list m q) (λ e. ne (omega (arith, e)))
 
-  pub waiters-changed : IsSound (owners_in next now) → HoldsWaiters next now
+  pub waiters-changed : AreSoundOwners (owners_in next now) → HoldsWaiters next now
   waiters-changed sound =
       record {
         apart = c.changes.apart;
@@ -258,7 +258,7 @@ module _ (m : States) (rows : List Row) (owners : FinMap nat_cmp ℕ) (t now : T
           ∙ ap (λ (x : Key). x.prio) (sym (c.changes.keys (wait_node m w) (other_node w first.is_thread other)))
 
 -- once the top waiters are right again the owner states stand in the table, and are what they were before
-module _ (m : States) (t now : Table) (h : HoldsWaiters m t) (c : ChangesTops m t now) where
+module _ (m : States) (t now : NodeLists) (h : HoldsWaiters m t) (c : ChangesTops m t now) where
   pub waiters-stay : HoldsWaiters m now
   waiters-stay = waiters-framed m t now c.waiters h c.apart
 

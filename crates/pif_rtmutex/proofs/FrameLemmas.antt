@@ -4,25 +4,25 @@ use Rattle.std.proofs.lemmas.Option.{same_Some}
 use Rattle.std.specs.FinMap.{get}
 use Rattle.pif_nodes.specs.declared.keys.Key.{Key}
 use Rattle.pif_nodes.specs.Lists.{has, first_of}
-use Rattle.pif_nodes.specs.Table.{Table, list_at, key_at, holder, IsApart}
+use Rattle.pif_nodes.specs.Table.{NodeLists, list_at, key_at, holder, IsApart}
 use Rattle.pif_plist.specs.Order.{IsInOrder, IsSorted}
 use Rattle.pif_plist.proofs.OrderLemmas.{IsInOrder-same}
-use Rattle.pif_owners.specs.Owners.{Seat, IsSound}
+use Rattle.pif_owners.specs.Owners.{Seat, AreSoundOwners}
 use Rattle.pif_rtmutex.specs.States.{States, IsThread, row_at, wait_of, wait_node, top_node, wait_list, top_list, waiter_for, first_waiter, seat_in, owners_in}
-use Rattle.pif_rtmutex.specs.Holds.{HoldsWaiters, IsTopped, IsFirstOf, IsTopOf, IsRankedTop, HoldsTops, Holds}
+use Rattle.pif_rtmutex.specs.Holds.{HoldsWaiters, IsTopped, IsFirstOf, IsTopOf, IsRankedTop, HoldsTops, HoldsStates}
 use Rattle.pif_rtmutex.specs.Frames.{KeepsLists, KeepsOwn}
 use Rattle.pif_rtmutex.proofs.ViewLemmas.{length-seats, seat_at-owners_in, owners_in-by_seat}
 use Rattle.pif_rtmutex.proofs.WaiterLemmas.{waits-state, first_waiter-by_row, StandsFirst, stands-first, some_owner}
 
 -- a node of a list that was kept is still there
-pub held-kept : (first count : ℕ) (was now : Table) (l n : ℕ) → KeepsLists first count was now → IsApart was
+pub held-kept : (first count : ℕ) (was now : NodeLists) (l n : ℕ) → KeepsLists first count was now → IsApart was
     → IsApart now
     → first ≤ l → l < first + count → holder was n ≡ Some l → holder now n ≡ Some l
 held-kept first count was now l n keeps before apart low high e =
     apart.alone l n (ap (has n) (keeps.lists l low high) ∙ before.listed l n e)
 
 -- and a list that was sorted is still sorted
-pub sorted-kept : (first count : ℕ) (was now : Table) (l : ℕ) → KeepsLists first count was now → first ≤ l
+pub sorted-kept : (first count : ℕ) (was now : NodeLists) (l : ℕ) → KeepsLists first count was now → first ≤ l
     → l < first + count
     → IsSorted was l → IsSorted now l
 sorted-kept first count was now l keeps low high sorted =
@@ -30,7 +30,7 @@ sorted-kept first count was now l keeps low high sorted =
     (IsInOrder-same was.keys now.keys (list_at was l) (λ p h. keeps.keys l p low high h) sorted)
 
 -- fewer lists of those that were kept
-pub keeps-fewer : (first count fewer : ℕ) (was now : Table) → fewer ≤ count → KeepsLists first count was now
+pub keeps-fewer : (first count fewer : ℕ) (was now : NodeLists) → fewer ≤ count → KeepsLists first count was now
     → KeepsLists first fewer was now
 keeps-fewer first count fewer was now less keeps =
     record {
@@ -45,7 +45,7 @@ pub cases_Some : (o : Option ℕ) → (o ≡ None) ⊎ ((x : ℕ) × (o ≡ Some
 cases_Some None = inl refl
 cases_Some (Some x) = inr (x, refl)
 
-module _ (m : States) (was now : Table) (keeps : KeepsLists m.first_list m.threads was now)
+module _ (m : States) (was now : NodeLists) (keeps : KeepsLists m.first_list m.threads was now)
     (h : HoldsWaiters m was) where
   -- a waiter's node stands in the same list, and has the same key
   pub waiter-framed : (u k : ℕ) → wait_of m u ≡ Some k
@@ -110,7 +110,7 @@ module _ (m : States) (was now : Table) (keeps : KeepsLists m.first_list m.threa
         lists = omega (arith, h.lists, keeps.list_count);
         nodes = omega (arith, h.nodes, keeps.node_count);
         rows = h.rows;
-        sound = subst IsSound (sym view-framed) h.sound;
+        sound = subst AreSoundOwners (sym view-framed) h.sound;
         owned = h.owned;
         placed = h.placed;
         stated = h.stated;
@@ -136,7 +136,7 @@ module _ (m : States) (was now : Table) (keeps : KeepsLists m.first_list m.threa
       ∙ sym (first_waiter-by_row m was k at.0 at.1)
 
 -- top nodes that stand for the same threads, said in another way
-pub topped-as : (m : States) (t : Table) (R S : ℕ → ℕ → Type 0) → ((o u : ℕ) → R o u → S o u)
+pub topped-as : (m : States) (t : NodeLists) (R S : ℕ → ℕ → Type 0) → ((o u : ℕ) → R o u → S o u)
     → ((o u : ℕ) → S o u → R o u)
     → IsTopped m t R → IsTopped m t S
 topped-as m t R S to from h =
@@ -148,7 +148,7 @@ topped-as m t R S to from h =
     }
 
 -- the top nodes stand as they stood
-topped-framed : (m : States) (was now : Table) (R : ℕ → ℕ → Type 0) → KeepsOwn m was now → IsApart was → IsApart now
+topped-framed : (m : States) (was now : NodeLists) (R : ℕ → ℕ → Type 0) → KeepsOwn m was now → IsApart was → IsApart now
     → ((o u : ℕ) → R o u → IsThread m o) → IsTopped m was R → IsTopped m now R
 topped-framed m was now R keeps before apart threads h =
     record {
@@ -174,7 +174,7 @@ topped-framed m was now R keeps before apart threads h =
         let at : (o : ℕ) × (some.0 ≡ top_list m o) × R o u = h.only some.0 u i some.1 in
         (at.0, same_Some l (top_list m at.0) (sym e ∙ stands at.0 u at.2), at.2)
 
-module _ (m : States) (was now : Table) (keeps : KeepsOwn m was now) (apart : IsApart now) (h : Holds m was) where
+module _ (m : States) (was now : NodeLists) (keeps : KeepsOwn m was now) (apart : IsApart now) (h : HoldsStates m was) where
   abbrev waits : KeepsLists m.first_list m.threads was now
   waits = keeps-fewer m.first_list (2 * m.threads) m.threads was now (omega arith) keeps.lists
 
@@ -201,7 +201,7 @@ module _ (m : States) (was now : Table) (keeps : KeepsOwn m was now) (apart : Is
           ∙ ap (λ (x : Key). x.prio) (sym (waiter-framed m was now waits h.waiters u k first.waits).3)
 
   -- owner states stand in the table as before
-  pub holds-framed : Holds m now
+  pub holds-framed : HoldsStates m now
   holds-framed = record { waiters = waiters-framed m was now waits h.waiters apart; tops = tops-framed }
 
   -- and are what they were

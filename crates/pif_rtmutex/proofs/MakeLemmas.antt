@@ -4,11 +4,11 @@ use Rattle.std.proofs.lemmas.Bool.{false≢true, cases_eq}
 use Rattle.std.proofs.lemmas.Option.{same_Some}
 use Rattle.std.specs.Ordering.{nat_cmp}
 use Rattle.std.specs.FinMap.{FinMap, get, insert, remove}
-use Rattle.pif_nodes.specs.Table.{Table}
+use Rattle.pif_nodes.specs.Table.{NodeLists}
 use Rattle.pif_owners.specs.Owners.{HasNoWaiter}
 use Rattle.pif_owners.proofs.MapLemmas.{get-insert_same, get-insert_other, get-remove_same, get-remove_other}
 use Rattle.pif_rtmutex.specs.States.{States, IsThread, owners_in}
-use Rattle.pif_rtmutex.specs.Holds.{Holds}
+use Rattle.pif_rtmutex.specs.Holds.{HoldsStates}
 use Rattle.pif_rtmutex.proofs.ViewLemmas.{waits_on-owners_in}
 use Rattle.pif_rtmutex.proofs.WaiterLemmas.{waits-state}
 use Rattle.pif_rtmutex.proofs.StateLemmas.{IsStateChange}
@@ -29,7 +29,7 @@ from_ended p k j q e = by_key (cases_eq j k)
     by_key (inl same) = let wrong : None ≡ Some q = sym (get-remove_same p k j same) ∙ e in absurd cc
     by_key (inr ne) = (ne, sym (get-remove_other p k j ne) ∙ e)
 
-pub state-made : (m : States) (t : Table) (k o r : ℕ) → Holds m t → get m.owners k ≡ None → IsThread m o → r < m.threads
+pub state-made : (m : States) (t : NodeLists) (k o r : ℕ) → HoldsStates m t → get m.owners k ≡ None → IsThread m o → r < m.threads
     → ((j : ℕ) → get m.places j ≡ Some r → ⊥) → IsStateChange m (insert m.owners k o) (insert m.places k r) k
 state-made m t k o r h fresh i low unused =
     record {
@@ -42,7 +42,7 @@ state-made m t k o r h fresh i low unused =
       alone = λ j q ne e f. unused j (f ∙ sym e ∙ get-insert_same m.places k r k refl);
     }
 
-pub state-ended : (m : States) (t : Table) (k : ℕ) → HasNoWaiter (owners_in m t) k
+pub state-ended : (m : States) (t : NodeLists) (k : ℕ) → HasNoWaiter (owners_in m t) k
     → IsStateChange m (remove m.owners k) (remove m.places k) k
 state-ended m t k free =
     record {

@@ -5,7 +5,7 @@ use Rattle.std.proofs.lemmas.Option.{same_Some}
 use Rattle.std.specs.FinMap.{get}
 use Rattle.pif_nodes.specs.declared.keys.Key.{Key}
 use Rattle.pif_nodes.specs.Lists.{has, first_of}
-use Rattle.pif_nodes.specs.Table.{Table, list_at, key_at, holder}
+use Rattle.pif_nodes.specs.Table.{NodeLists, list_at, key_at, holder}
 use Rattle.pif_nodes.proofs.ListLemmas.{first_of-has}
 use Rattle.pif_plist.specs.Order.{comes_before, key_in, IsInOrder}
 use Rattle.pif_plist.proofs.OrderLemmas.{not_before-self, comes_before-from}
@@ -14,7 +14,7 @@ use Rattle.pif_chains.proofs.Greatest.{greatest_where_most}
 use Rattle.pif_owners.specs.Owners.{Seat, Wait, seat_at, owner_at, rank_of, waits_for, IsTop, HasNoWaiter}
 use Rattle.pif_owners.proofs.OwnersLemmas.{WaitsFor-some, WaitsFor-from}
 use Rattle.pif_rtmutex.specs.States.{States, IsThread, wait_of, wait_node, top_node, wait_list, top_list, waiter_for, first_waiter, owners_in}
-use Rattle.pif_rtmutex.specs.Holds.{HoldsWaiters, IsWaiterIn, IsTopNode, IsFirstOf, IsTopOf, Holds}
+use Rattle.pif_rtmutex.specs.Holds.{HoldsWaiters, IsWaiterIn, IsTopNode, IsFirstOf, IsTopOf, HoldsStates}
 use Rattle.pif_rtmutex.specs.Maximum.{rank_priority, greatest_rank}
 use Rattle.pif_rtmutex.proofs.ViewLemmas.{length-seats, seat_at-owners_in, waits_on-owners_in, rank_of-owners_in}
 use Rattle.pif_rtmutex.proofs.WaiterLemmas.{waits-state, first_waiter-by_row, StandsFirst, stands-first, some_owner}
@@ -47,13 +47,13 @@ no_later-prio a b h = by_place (cases_lt b.prio a.prio)
     by_place (inr l) = l
 
 -- the row of a state is below the number of threads
-pub row-below : (m : States) (t : Table) (k r : ℕ) → HoldsWaiters m t → get m.places k ≡ Some r → r < m.threads
+pub row-below : (m : States) (t : NodeLists) (k r : ℕ) → HoldsWaiters m t → get m.places k ≡ Some r → r < m.threads
 row-below m t k r h e =
     let at : (q : ℕ) × (get m.places k ≡ Some q) × (q < m.threads) = h.placed k (h.stated k r e) in
     omega (arith, at.2, same_Some at.0 r (sym at.1 ∙ e))
 
 -- a state on which somebody waits has a first waiter
-pub waited-first : (m : States) (t : Table) (u k : ℕ) → HoldsWaiters m t → wait_of m u ≡ Some k
+pub waited-first : (m : States) (t : NodeLists) (u k : ℕ) → HoldsWaiters m t → wait_of m u ≡ Some k
     → (p : ℕ) × (first_waiter m t k ≡ Some p) × (comes_before (key_at t (wait_node m u))
     (key_at t (wait_node m p)) ≡ false)
 waited-first m t u k h w =
@@ -75,7 +75,7 @@ waited-first m t u k h w =
     )
 
 -- the first node of the list of a state is that of a thread
-pub first-node : (m : States) (t : Table) (k r n : ℕ) → HoldsWaiters m t → get m.places k ≡ Some r
+pub first-node : (m : States) (t : NodeLists) (k r n : ℕ) → HoldsWaiters m t → get m.places k ≡ Some r
     → first_of (list_at t (wait_list m r)) ≡ Some n
     → (r < m.threads) × (m.first_node ≤ n) × (n < m.first_node + m.threads)
 first-node m t k r n h e first =
@@ -84,7 +84,7 @@ first-node m t k r n h e first =
     (low, omega (arith, is.node), omega (arith, is.is_thread, is.node))
 
 -- nobody waits on a state that has no first waiter
-pub first-none : (o : Option ℕ) (m : States) (t : Table) (k : ℕ) → HoldsWaiters m t → o ≡ first_waiter m t k
+pub first-none : (o : Option ℕ) (m : States) (t : NodeLists) (k : ℕ) → HoldsWaiters m t → o ≡ first_waiter m t k
     → IfNone o (HasNoWaiter (owners_in m t) k)
 first-none None m t k h e = λ u w.
     let first = waited-first m t u k h (sym (waits_on-owners_in m t u) ∙ w) in
@@ -93,7 +93,7 @@ first-none None m t k h e = λ u w.
 first-none (Some p) m t k h e = tt
 
 -- a state that has a first waiter is there
-pub first-state : (m : States) (t : Table) (k u : ℕ) → HoldsWaiters m t → first_waiter m t k ≡ Some u
+pub first-state : (m : States) (t : NodeLists) (k u : ℕ) → HoldsWaiters m t → first_waiter m t k ≡ Some u
     → IsSome (get m.owners k)
 first-state m t k u h e = by_place (cases_Some (get m.places k))
   where
@@ -106,7 +106,7 @@ first-state m t k u h e = by_place (cases_Some (get m.places k))
     by_place (inr some) = h.stated k some.0 some.1
 
 -- and its first waiter is its top waiter
-pub first-top : (m : States) (t : Table) (k u : ℕ) → HoldsWaiters m t → first_waiter m t k ≡ Some u
+pub first-top : (m : States) (t : NodeLists) (k u : ℕ) → HoldsWaiters m t → first_waiter m t k ≡ Some u
     → IsTop (owners_in m t) k u
 first-top m t k u h e =
     let first : StandsFirst m t k u = stands-first m t k u h (first-state m t k u h e) e in
@@ -123,31 +123,31 @@ first-top m t k u h e =
           (λ i. comes_before (sym is i) (key_at t (wait_node m (sym same i)))) ∙ top.2;
     }
 
-pub first-some : (o : Option ℕ) (m : States) (t : Table) (k : ℕ) → HoldsWaiters m t → o ≡ first_waiter m t k
+pub first-some : (o : Option ℕ) (m : States) (t : NodeLists) (k : ℕ) → HoldsWaiters m t → o ≡ first_waiter m t k
     → IfSome o (λ u. IsTop (owners_in m t) k u)
 first-some None m t k h e = tt
 first-some (Some u) m t k h e = first-top m t k u h (sym e)
 
-pub first-owned : (o : Option ℕ) (m : States) (t : Table) (k : ℕ) → HoldsWaiters m t → o ≡ first_waiter m t k
+pub first-owned : (o : Option ℕ) (m : States) (t : NodeLists) (k : ℕ) → HoldsWaiters m t → o ≡ first_waiter m t k
     → OnSome o (IsSome (owner_at (owners_in m t) k))
 first-owned None m t k h e = tt
 first-owned (Some u) m t k h e = first-state m t k u h (sym e)
 
 -- who waits for nothing has no rank
-pub rank_of-none : (m : States) (t : Table) (u : ℕ) → wait_of m u ≡ None → rank_of (owners_in m t) u ≡ None
+pub rank_of-none : (m : States) (t : NodeLists) (u : ℕ) → wait_of m u ≡ None → rank_of (owners_in m t) u ≡ None
 rank_of-none m t u w =
     ap (λ (x : Seat). option_map (λ (w : Wait). w.rank) x.wait) (seat_at-owners_in m t u)
     ∙ ap (λ (o : Option ℕ). option_map (λ (w : Wait). w.rank)
     (option_map (λ k. record { state = k; rank = key_at t (wait_node m u) }) o)) w
 
 -- who waits does so with the priority of its node
-priority-waiting : (m : States) (t : Table) (u k : ℕ) → wait_of m u ≡ Some k
+priority-waiting : (m : States) (t : NodeLists) (u k : ℕ) → wait_of m u ≡ Some k
     → rank_priority (owners_in m t) u ≡ (key_at t (wait_node m u)).prio
 priority-waiting m t u k w =
     ap (λ (o : Option Key). unwrap_or (option_map (λ (x : Key). x.prio) o) 0) (rank_of-owners_in m t u k w)
 
 -- a thread that waits for another does so on a state that that one owns
-waits-owned : (m : States) (t : Table) (u o : ℕ) → o ≢ 0 → waits_for (owners_in m t) u ≡ o
+waits-owned : (m : States) (t : NodeLists) (u o : ℕ) → o ≢ 0 → waits_for (owners_in m t) u ≡ o
     → (k : ℕ) × (wait_of m u ≡ Some k) × (get m.owners k ≡ Some o)
 waits-owned m t u o n e =
     let at : (w : Wait) × ((seat_at (owners_in m t) u).wait ≡ Some w) × (owner_at (owners_in m t) w.state ≡ Some o) =
@@ -155,7 +155,7 @@ waits-owned m t u o n e =
     (at.0.state, sym (waits_on-owners_in m t u) ∙ ap (option_map (λ (w : Wait). w.state)) at.1, at.2)
 
 -- nobody waits for a thread with a greater priority than the first of its top waiters has
-rank-most : (m : States) (t : Table) (o n u : ℕ) → Holds m t → IsThread m o
+rank-most : (m : States) (t : NodeLists) (o n u : ℕ) → HoldsStates m t → IsThread m o
     → first_of (list_at t (top_list m o)) ≡ Some n
     → waits_for (owners_in m t) u ≡ o → rank_priority (owners_in m t) u ≤ (key_at t n).prio
 rank-most m t o n u h i first e =
@@ -174,7 +174,7 @@ rank-most m t o n u h i first e =
     omega (arith, above, ranked, below, priority-waiting m t u on.0 on.1)
 
 -- and where it has none nobody waits for it
-rank-none : (m : States) (t : Table) (o u : ℕ) → Holds m t → IsThread m o → first_of (list_at t (top_list m o)) ≡ None
+rank-none : (m : States) (t : NodeLists) (o u : ℕ) → HoldsStates m t → IsThread m o → first_of (list_at t (top_list m o)) ≡ None
     → waits_for (owners_in m t) u ≡ o → ⊥
 rank-none m t o u h i none e =
     let on = waits-owned m t u o (λ z. absurd (omega (arith, i, z))) e in
@@ -186,7 +186,7 @@ rank-none m t o u h i none e =
     absurd cc
 
 -- the first of the top waiters is a thread that waits for this one, with the priority that its top node has
-pub record IsTopWaiter (m : States) (t : Table) (o n : ℕ) : Type 0 where
+pub record IsTopWaiter (m : States) (t : NodeLists) (o n : ℕ) : Type 0 where
   pub thread : ℕ
   pub is_thread : IsThread m thread
   pub waits : waits_for (owners_in m t) thread ≡ o
@@ -194,7 +194,7 @@ pub record IsTopWaiter (m : States) (t : Table) (o n : ℕ) : Type 0 where
   pub least : 1 ≤ (key_at t n).prio
   pub most : (key_at t n).prio ≤ 99
 
-top-waiter : (m : States) (t : Table) (o n : ℕ) → Holds m t → IsThread m o
+top-waiter : (m : States) (t : NodeLists) (o n : ℕ) → HoldsStates m t → IsThread m o
     → first_of (list_at t (top_list m o)) ≡ Some n → IsTopWaiter m t o n
 top-waiter m t o n h i first =
     let listed : has n (list_at t (top_list m o)) ≡ true = first_of-has (list_at t (top_list m o)) n first in
@@ -227,7 +227,7 @@ top-waiter m t o n h i first =
     }
 
 -- the greatest priority with which another thread waits for this one
-pub greatest-none : (m : States) (t : Table) (o : ℕ) → Holds m t → IsThread m o
+pub greatest-none : (m : States) (t : NodeLists) (o : ℕ) → HoldsStates m t → IsThread m o
     → first_of (list_at t (top_list m o)) ≡ None
     → greatest_rank (owners_in m t) o ≡ 0
 greatest-none m t o h i none =
@@ -237,7 +237,7 @@ greatest-none m t o h i none =
     (λ u l e. absurd (rank-none m t o u h i none (eqb-true (waits_for (owners_in m t) u) o e))) in
     omega (arith, most)
 
-pub greatest-some : (m : States) (t : Table) (o n : ℕ) → Holds m t → IsThread m o
+pub greatest-some : (m : States) (t : NodeLists) (o n : ℕ) → HoldsStates m t → IsThread m o
     → first_of (list_at t (top_list m o)) ≡ Some n
     → greatest_rank (owners_in m t) o ≡ (key_at t n).prio
 greatest-some m t o n h i first =
@@ -254,7 +254,7 @@ greatest-some m t o n h i first =
     omega (arith, most, least, top.priority)
 
 -- a priority that was made of the first one's
-pub prio-made : (r : Option ℕ) (m : States) (t : Table) (o n p : ℕ) → Holds m t → IsThread m o
+pub prio-made : (r : Option ℕ) (m : States) (t : NodeLists) (o n p : ℕ) → HoldsStates m t → IsThread m o
     → first_of (list_at t (top_list m o)) ≡ Some n
     → p ≡ (key_at t n).prio → (IsSome r ↔ ((1 ≤ p) × (p ≤ 99))) → IfSome r (λ x. x ≡ p)
     → unwrap_or r 0 ≡ greatest_rank (owners_in m t) o

@@ -2,15 +2,15 @@
 use Rattle.std.proofs.Common.{◌≡◌, ◌⊎◌, ◌↔◌, ℕ, ◌<◌, ◌≤◌, length, set, get_or, Option, Some, None, IsSome, IfSome, option_map, unwrap_or, refl, sym, ◌∙◌, ap, subst, inl, inr, arith}
 use Rattle.std.proofs.lemmas.Bool.{false≢true, cases_eq, cases_lt}
 use Rattle.std.proofs.lemmas.List.{get_or-set_same, get_or-set_other, set_past, length-set}
-use Rattle.pif_nodes.specs.Table.{Table, key_at}
-use Rattle.pif_owners.specs.Owners.{Seat, IsPrio, no_seat, with_seat, IsSound}
+use Rattle.pif_nodes.specs.Table.{NodeLists, key_at}
+use Rattle.pif_owners.specs.Owners.{Seat, IsPrio, no_seat, with_seat, AreSoundOwners}
 use Rattle.pif_owners.proofs.OwnersLemmas.{sound-priorities}
 use Rattle.pif_rtmutex.specs.States.{Row, States, no_row, row_at, wait_of, wait_node, seat_in, owners_in, with_row}
-use Rattle.pif_rtmutex.specs.Holds.{IsWaiterIn, IsTopNode, Holds}
+use Rattle.pif_rtmutex.specs.Holds.{IsWaiterIn, IsTopNode, HoldsStates}
 use Rattle.pif_rtmutex.proofs.ViewLemmas.{length-seats, seat_at-owners_in, owners_in-by_seat}
 
 -- what value and table say of a thread that has this row
-abbrev pub seat_of : States → Table → ℕ → Row → Seat
+abbrev pub seat_of : States → NodeLists → ℕ → Row → Seat
 seat_of m t u x =
     record {
       base = x.base;
@@ -31,7 +31,7 @@ row_at-with_row m u w x = by_place (cases_eq w u) (cases_lt u (length m.rows))
     by_place (inr n) l = inr (get_or-set_other m.rows u w x no_row n)
 
 -- the view has the seat of that row then
-pub view-row : (m : States) (t : Table) (u : ℕ) (x : Row) (y : Seat) → y ≡ seat_of m t u x
+pub view-row : (m : States) (t : NodeLists) (u : ℕ) (x : Row) (y : Seat) → y ≡ seat_of m t u x
     → owners_in (with_row u x m) t ≡ with_seat u y (owners_in m t)
 view-row m t u x y e =
     owners_in-by_seat (with_row u x m) t (with_seat u y (owners_in m t)) refl
@@ -50,9 +50,9 @@ view-row m t u x y e =
         ∙ ap (seat_of m t w) (sym (get_or-set_other m.rows u w x no_row ne))
 
 -- the owner states stand in the table as before
-pub holds-row : (m : States) (t : Table) (u : ℕ) (x : Row) → 1 ≤ u → x.base ≤ 99 → x.local ≤ 99 → x.wait ≡ wait_of m u
-    → Holds m t
-    → Holds (with_row u x m) t
+pub holds-row : (m : States) (t : NodeLists) (u : ℕ) (x : Row) → 1 ≤ u → x.base ≤ 99 → x.local ≤ 99 → x.wait ≡ wait_of m u
+    → HoldsStates m t
+    → HoldsStates (with_row u x m) t
 holds-row m t u x one base local same h =
     record {
       waiters = record {
@@ -60,7 +60,7 @@ holds-row m t u x one base local same h =
         lists = h.waiters.lists;
         nodes = h.waiters.nodes;
         rows = length-set m.rows u x ∙ h.waiters.rows;
-        sound = subst IsSound (sym (view-row m t u x (seat_of m t u x) refl))
+        sound = subst AreSoundOwners (sym (view-row m t u x (seat_of m t u x) refl))
             (sound-priorities u (seat_of m t u x) (owners_in m t) base local
             (ap (λ (o : Option ℕ). option_map (λ k. record { state = k; rank = key_at t (wait_node m u) }) o) same
             ∙ ap (λ (y : Seat). y.wait) (sym (seat_at-owners_in m t u))) one h.waiters.sound);

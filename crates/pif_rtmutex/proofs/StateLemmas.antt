@@ -7,13 +7,13 @@ use Rattle.std.proofs.lemmas.List.FromFn.{length-range_with_len}
 use Rattle.std.specs.Ordering.{nat_cmp}
 use Rattle.std.specs.FinMap.{FinMap, empty, get, get-empty, len, len-empty}
 use Rattle.pif_nodes.specs.Lists.{has, first_of, HasNoRepeats}
-use Rattle.pif_nodes.specs.Table.{Table, list_at, key_at}
+use Rattle.pif_nodes.specs.Table.{NodeLists, list_at, key_at}
 use Rattle.pif_nodes.proofs.ListLemmas.{first_of-has, has-append, has-left, has-parts, has-neither, HasNoRepeats-put, HasNoRepeats-taken}
 use Rattle.pif_plist.specs.Order.{IsInOrder, IsSorted}
-use Rattle.pif_owners.specs.Owners.{no_seat, no_owners, IsSound}
+use Rattle.pif_owners.specs.Owners.{no_seat, no_owners, AreSoundOwners}
 use Rattle.pif_owners.proofs.OwnersLemmas.{sound-no_owners}
-use Rattle.pif_rtmutex.specs.States.{Row, States, IsThread, IsOwnList, no_row, no_states, wait_of, wait_list, top_list, waiter_for, first_waiter, owners_in}
-use Rattle.pif_rtmutex.specs.Holds.{IsWaiterIn, IsTopNode, IsFirstOf, IsTopOf, Holds, HasRoom}
+use Rattle.pif_rtmutex.specs.States.{Row, States, IsThread, IsOwnList, no_row, empty_states, wait_of, wait_list, top_list, waiter_for, first_waiter, owners_in}
+use Rattle.pif_rtmutex.specs.Holds.{IsWaiterIn, IsTopNode, IsFirstOf, IsTopOf, HoldsStates, HasRoomForStates}
 use Rattle.pif_rtmutex.specs.Fields.{IsSpare}
 use Rattle.pif_rtmutex.proofs.ViewLemmas.{owners_in-by_seat}
 use Rattle.pif_rtmutex.proofs.WaiterLemmas.{first_waiter-by_row, stands-first, some_owner}
@@ -29,7 +29,7 @@ pub record IsStateChange (m : States) (owners places : FinMap nat_cmp ℕ) (k : 
   pub stated : (r : ℕ) → get places k ≡ Some r → IsSome (get owners k)
   pub alone : (j r : ℕ) → j ≢ k → get places k ≡ Some r → get m.places j ≡ Some r → ⊥
 
-module _ (m : States) (free : List ℕ) (owners places : FinMap nat_cmp ℕ) (t : Table) (k : ℕ) (h : Holds m t)
+module _ (m : States) (free : List ℕ) (owners places : FinMap nat_cmp ℕ) (t : NodeLists) (k : ℕ) (h : HoldsStates m t)
     (c : IsStateChange m owners places k) where
   abbrev next : States
   next = record m { free = free; owners = owners; places = places }
@@ -71,7 +71,7 @@ module _ (m : States) (free : List ℕ) (owners places : FinMap nat_cmp ℕ) (t 
       let ne : j ≢ k = λ e. nobody_is o u (ap (get owners) (sym e) ∙ s.0, ap (first_waiter next t) (sym e) ∙ s.1) in
       (sym (c.owners_kept j ne) ∙ s.0, sym (first-as j ne) ∙ s.1)
 
-  pub holds-state : IsSound (owners_in next t) → Holds next t
+  pub holds-state : AreSoundOwners (owners_in next t) → HoldsStates next t
   holds-state sound =
       record {
         waiters = record {
@@ -215,8 +215,8 @@ no_state : (k x : ℕ) → get {K = ℕ} {X = ℕ} {R = nat_cmp} empty k ≡ Som
 no_state k x e = let wrong : None ≡ Some x = sym (get-empty nat_cmp k) ∙ e in absurd cc
 
 -- at first all rows are free
-pub spare-no_states : (l n threads : ℕ) → IsSpare (no_states l n threads)
-spare-no_states l n threads =
+pub spare-empty_states : (l n threads : ℕ) → IsSpare (empty_states l n threads)
+spare-empty_states l n threads =
     record {
       count = omega (arith, length-range_with_len 0 threads, len-empty nat_cmp ℕ);
       below = λ r h. omega (arith, has-range 0 threads r h);
@@ -228,9 +228,9 @@ no_rows : (threads u : ℕ) → u < threads + 1 → get_or (replicate (threads +
 no_rows threads u l = get_or-replicate (threads + 1) u no_row no_row l
 
 -- and value and table are no state
-pub view-no_states : (l n threads : ℕ) (t : Table) → owners_in (no_states l n threads) t ≡ no_owners threads
-view-no_states l n threads t =
-    owners_in-by_seat (no_states l n threads) t (no_owners threads) refl
+pub view-empty_states : (l n threads : ℕ) (t : NodeLists) → owners_in (empty_states l n threads) t ≡ no_owners threads
+view-empty_states l n threads t =
+    owners_in-by_seat (empty_states l n threads) t (no_owners threads) refl
     (length-replicate (threads + 1) no_seat ∙ sym (length-replicate (threads + 1) no_row))
     (λ u low.
     let within : u < threads + 1 = omega (arith, length-replicate (threads + 1) no_row) in
@@ -243,16 +243,16 @@ view-no_states l n threads t =
     })
     (sym (no_rows threads u within)))
 
-pub holds-no_states : (l n threads : ℕ) (t : Table) → threads ≤ 1024 → HasRoom (no_states l n threads) t
-    → Holds (no_states l n threads) t
-holds-no_states l n threads t most room =
+pub holds-empty_states : (l n threads : ℕ) (t : NodeLists) → threads ≤ 1024 → HasRoomForStates (empty_states l n threads) t
+    → HoldsStates (empty_states l n threads) t
+holds-empty_states l n threads t most room =
     record {
       waiters = record {
         apart = room.apart;
         lists = room.lists;
         nodes = room.nodes;
         rows = length-replicate (threads + 1) no_row;
-        sound = subst IsSound (sym (view-no_states l n threads t)) (sound-no_owners threads most);
+        sound = subst AreSoundOwners (sym (view-empty_states l n threads t)) (sound-no_owners threads most);
         owned = λ k o e. absurd (no_state k o e);
         placed = λ k some. absurd (no_some k some);
         stated = λ k r e. absurd (no_state k r e);
@@ -265,8 +265,8 @@ holds-no_states l n threads t most room =
         topped = record {
           stands = λ o u s. absurd (no_state s.0 o s.1.0);
           only = λ j u i e. let wrong : None ≡ Some j = sym (room.free u i) ∙ e in absurd cc;
-          nodes = λ o p i e. absurd (nothing (top_list (no_states l n threads) o) p (omega arith, omega (arith, i)) e);
-          sorted = λ o i. in_order (top_list (no_states l n threads) o) (omega arith, omega (arith, i));
+          nodes = λ o p i e. absurd (nothing (top_list (empty_states l n threads) o) p (omega arith, omega (arith, i)) e);
+          sorted = λ o i. in_order (top_list (empty_states l n threads) o) (omega arith, omega (arith, i));
         };
         ranked = λ k o u s. absurd (no_state k o s.0);
       };
@@ -275,8 +275,8 @@ holds-no_states l n threads t most room =
     no_some : (k : ℕ) → IsSome (get {K = ℕ} {X = ℕ} {R = nat_cmp} empty k) → ⊥
     no_some k some = false≢true (subst IsSome (get-empty nat_cmp k) some)
 
-    nothing : (j p : ℕ) → IsOwnList (no_states l n threads) j → has p (list_at t j) ≡ true → ⊥
+    nothing : (j p : ℕ) → IsOwnList (empty_states l n threads) j → has p (list_at t j) ≡ true → ⊥
     nothing j p i e = false≢true (ap (has p) (sym (room.empty j i)) ∙ e)
 
-    in_order : (j : ℕ) → IsOwnList (no_states l n threads) j → IsSorted t j
+    in_order : (j : ℕ) → IsOwnList (empty_states l n threads) j → IsSorted t j
     in_order j i = subst (IsInOrder t.keys) (sym (room.empty j i)) (record {})

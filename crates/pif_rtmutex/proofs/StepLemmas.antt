@@ -5,14 +5,14 @@ use Rattle.std.proofs.lemmas.Option.{same_Some}
 use Rattle.std.specs.Ordering.{nat_cmp}
 use Rattle.std.specs.FinMap.{FinMap, get, insert}
 use Rattle.pif_nodes.specs.declared.keys.Key.{Key}
-use Rattle.pif_nodes.specs.Table.{Table, key_at, holder}
+use Rattle.pif_nodes.specs.Table.{NodeLists, key_at, holder}
 use Rattle.pif_model.specs.Graph.{Reaches}
-use Rattle.pif_owners.specs.Owners.{Owners, Seat, seat_at, WaitsFor, with_wait, with_owner, IsSound}
+use Rattle.pif_owners.specs.Owners.{Owners, Seat, seat_at, WaitsFor, with_wait, with_owner, AreSoundOwners}
 use Rattle.pif_owners.proofs.MapLemmas.{get-insert_same, get-insert_other}
 use Rattle.pif_owners.proofs.OwnersLemmas.{sound-free, sound-ranked, sound-queued, sound-handed, waits_on-freed}
 use Rattle.pif_rtmutex.specs.States.{Row, States, IsThread, IsOwnList, no_row, row_at, wait_of, wait_node, wait_list, first_waiter, seat_in, owners_in}
-use Rattle.pif_rtmutex.specs.Holds.{HoldsWaiters, HoldsTops, IsToppedBut, Holds}
-use Rattle.pif_rtmutex.specs.Frames.{SameOutside, ChangesList, ChangesTops, KeepsWaiterNodes}
+use Rattle.pif_rtmutex.specs.Holds.{HoldsWaiters, HoldsTops, IsToppedBut, HoldsStates}
+use Rattle.pif_rtmutex.specs.Frames.{SameOutsideStates, ChangesList, ChangesTops, KeepsWaiterNodes}
 use Rattle.pif_rtmutex.proofs.ViewLemmas.{seat_at-owners_in}
 use Rattle.pif_rtmutex.proofs.WaiterLemmas.{waits-state, waits-thread, some_owner}
 use Rattle.pif_rtmutex.proofs.ListChanges.{outside-then}
@@ -24,21 +24,21 @@ pub row-list : (m : States) (k r l : ℕ) → get m.places k ≡ Some r → opti
 row-list m k r l place e = same_Some l (wait_list m r) (sym e ∙ ap (option_map (wait_list m)) place)
 
 -- what a waiting thread's seat has
-pub seat-wait : (m : States) (t : Table) (u k : ℕ) → wait_of m u ≡ Some k
+pub seat-wait : (m : States) (t : NodeLists) (u k : ℕ) → wait_of m u ≡ Some k
     → (seat_at (owners_in m t) u).wait ≡ Some (record { state = k; rank = key_at t (wait_node m u) })
 seat-wait m t u k w =
     ap (λ (x : Seat). x.wait) (seat_at-owners_in m t u)
     ∙ ap (λ (o : Option ℕ). option_map (λ j. record { state = j; rank = key_at t (wait_node m u) }) o) w
 
 -- where the waiters of a thread's state stand
-pub record WaitsAt (m : States) (t : Table) (k u : ℕ) : Type 0 where
+pub record WaitsAt (m : States) (t : NodeLists) (k u : ℕ) : Type 0 where
   pub is_thread : IsThread m u
   pub row : ℕ
   pub place : get m.places k ≡ Some row
   pub below : row < m.threads
   pub held : holder t (wait_node m u) ≡ Some (wait_list m row)
 
-pub waits-at : (m : States) (t : Table) (k u : ℕ) → HoldsWaiters m t → wait_of m u ≡ Some k → WaitsAt m t k u
+pub waits-at : (m : States) (t : NodeLists) (k u : ℕ) → HoldsWaiters m t → wait_of m u ≡ Some k → WaitsAt m t k u
 waits-at m t k u h w =
     let at : (r : ℕ) × (get m.places k ≡ Some r) × (r < m.threads) = h.placed k (waits-state m t u k h w) in
     record {
@@ -51,23 +51,23 @@ waits-at m t k u h w =
     }
 
 -- what a call on the waiters of state k, owned by o, leaves: all but the top waiters is right, and the owner states are these
-pub record IsStep (m : States) (rows : List Row) (owners : FinMap nat_cmp ℕ) (t now : Table) (k o u : ℕ)
+pub record IsStep (m : States) (rows : List Row) (owners : FinMap nat_cmp ℕ) (t now : NodeLists) (k o u : ℕ)
     (v : Owners) : Type 0 where
   pub waiters : HoldsWaiters (record m { rows = rows; owners = owners }) now
   pub but : IsToppedBut (record m { rows = rows; owners = owners }) now k o (first_waiter m t k)
-  pub outside : SameOutside m t now
+  pub outside : SameOutsideStates m t now
   pub nodes : KeepsWaiterNodes m u t now
   pub view : owners_in (record m { rows = rows; owners = owners }) now ≡ v
 
 -- and what is left once these are right too
-pub record IsDone (m : States) (rows : List Row) (owners : FinMap nat_cmp ℕ) (t last : Table) (u : ℕ)
+pub record IsDone (m : States) (rows : List Row) (owners : FinMap nat_cmp ℕ) (t last : NodeLists) (u : ℕ)
     (v : Owners) : Type 0 where
-  pub holds : Holds (record m { rows = rows; owners = owners }) last
-  pub outside : SameOutside m t last
+  pub holds : HoldsStates (record m { rows = rows; owners = owners }) last
+  pub outside : SameOutsideStates m t last
   pub nodes : KeepsWaiterNodes m u t last
   pub view : owners_in (record m { rows = rows; owners = owners }) last ≡ v
 
-pub done : (m : States) (rows : List Row) (owners : FinMap nat_cmp ℕ) (t now last : Table) (k o u : ℕ) (v : Owners)
+pub done : (m : States) (rows : List Row) (owners : FinMap nat_cmp ℕ) (t now last : NodeLists) (k o u : ℕ) (v : Owners)
     → IsStep m rows owners t now k o u v → ChangesTops (record m { rows = rows; owners = owners }) now last
     → HoldsTops (record m { rows = rows; owners = owners }) last → IsDone m rows owners t last u v
 done m rows owners t now last k o u v s c tops =
@@ -91,14 +91,14 @@ done m rows owners t now last k o u v s c tops =
     }
 
 -- the waiters' nodes but one, after a change
-nodes-kept : (m : States) (rows : List Row) (owners : FinMap nat_cmp ℕ) (t now : Table) (k r u o : ℕ)
+nodes-kept : (m : States) (rows : List Row) (owners : FinMap nat_cmp ℕ) (t now : NodeLists) (k r u o : ℕ)
     → IsChange m rows owners t now k r u o
     → KeepsWaiterNodes m u t now
 nodes-kept m rows owners t now k r u o c w i ne =
     c.changes.holders (wait_node m w) (λ e. ne (omega (arith, i, c.thread, e)))
 
 -- a change of the row of a thread to what it waits for, and of the table, is a step
-module _ (m : States) (owners : FinMap nat_cmp ℕ) (t now : Table) (k r u o : ℕ) (w : Option ℕ) (h : Holds m t)
+module _ (m : States) (owners : FinMap nat_cmp ℕ) (t now : NodeLists) (k r u o : ℕ) (w : Option ℕ) (h : HoldsStates m t)
     (thread : IsThread m u)
     (place : get m.places k ≡ Some r) (below : r < m.threads) (own : get m.owners k ≡ Some o)
     (changes : ChangesList (wait_list m r) (wait_node m u) t now) where
@@ -113,7 +113,7 @@ module _ (m : States) (owners : FinMap nat_cmp ℕ) (t now : Table) (k r u o : �
       → ((j : ℕ) → wait_of m u ≡ Some j → j ≡ k) → ((j : ℕ) → holder t (wait_node m u) ≡ Some j → IsOwnList m j)
       → ((j : ℕ) → w ≡ Some j → (j ≡ k) × (holder now (wait_node m u) ≡ Some (wait_list m r)))
       → (holder now (wait_node m u) ≡ Some (wait_list m r) → w ≡ Some k)
-      → IsSound
+      → AreSoundOwners
       (record (with_wait u (option_map (λ j. record { state = j; rank = key_at now (wait_node m u) }) w)
       (owners_in m t)) { owners = owners })
       → IsStep m rows owners t now k o u
@@ -121,7 +121,7 @@ module _ (m : States) (owners : FinMap nat_cmp ℕ) (t now : Table) (k r u o : �
       (owners_in m t)) { owners = owners })
   wait-step keeps some owned before from waits stands sound =
       record {
-        waiters = waiters-changed m rows owners t now k r u o h.waiters change (subst IsSound (sym view) sound);
+        waiters = waiters-changed m rows owners t now k r u o h.waiters change (subst AreSoundOwners (sym view) sound);
         but = tops-but m rows owners t now k r u o h.waiters change h.tops;
         outside = waiters-outside m rows owners t now k r u o h.waiters change;
         nodes = nodes-kept m rows owners t now k r u o change;
@@ -175,7 +175,7 @@ module _ (m : States) (owners : FinMap nat_cmp ℕ) (t now : Table) (k r u o : �
           }) seat
 
 -- a thread is queued on a state
-pub queued-step : (m : States) (t now : Table) (k r u o : ℕ) (rank : Key) → Holds m t → IsThread m u
+pub queued-step : (m : States) (t now : NodeLists) (k r u o : ℕ) (rank : Key) → HoldsStates m t → IsThread m u
     → get m.places k ≡ Some r → r < m.threads
     → get m.owners k ≡ Some o → ChangesList (wait_list m r) (wait_node m u) t now → wait_of m u ≡ None
     → holder t (wait_node m u) ≡ None
@@ -192,12 +192,12 @@ queued-step m t now k r u o rank h thread place below own changes idle free held
     (λ j e. let wrong : None ≡ Some j = sym idle ∙ e in absurd cc) (λ j e. let wrong : None ≡ Some j = sym free
     ∙ e in absurd cc)
     (λ j e. (same_Some j k (sym e), held)) (λ e. refl)
-    (subst (λ (x : Key). IsSound (with_wait u (Some (record { state = k; rank = x })) (owners_in m t))) (sym key)
+    (subst (λ (x : Key). AreSoundOwners (with_wait u (Some (record { state = k; rank = x })) (owners_in m t))) (sym key)
     (sound-queued u (record { state = k; rank = rank }) (owners_in m t)
     (some_owner m k o own) no_cycle least most thread.0 h.waiters.sound)))
 
 -- a thread that waits there is taken off
-pub freed-step : (m : States) (t now : Table) (k r u o : ℕ) → Holds m t → IsThread m u → get m.places k ≡ Some r
+pub freed-step : (m : States) (t now : NodeLists) (k r u o : ℕ) → HoldsStates m t → IsThread m u → get m.places k ≡ Some r
     → r < m.threads
     → get m.owners k ≡ Some o → ChangesList (wait_list m r) (wait_node m u) t now → wait_of m u ≡ Some k
     → holder t (wait_node m u) ≡ Some (wait_list m r) → holder now (wait_node m u) ≡ None
@@ -214,7 +214,7 @@ freed-step m t now k r u o h thread place below own changes waits was out =
     (sound-free u (owners_in m t) thread.0 h.waiters.sound)
 
 -- and gets the state
-pub handed-step : (m : States) (t now : Table) (k r u o : ℕ) → Holds m t → IsThread m u → get m.places k ≡ Some r
+pub handed-step : (m : States) (t now : NodeLists) (k r u o : ℕ) → HoldsStates m t → IsThread m u → get m.places k ≡ Some r
     → r < m.threads
     → get m.owners k ≡ Some o → ChangesList (wait_list m r) (wait_node m u) t now → wait_of m u ≡ Some k
     → holder t (wait_node m u) ≡ Some (wait_list m r) → holder now (wait_node m u) ≡ None
@@ -234,7 +234,7 @@ handed-step m t now k r u o h thread place below own changes waits was out =
     (sound-free u (owners_in m t) thread.0 h.waiters.sound))
 
 -- a thread that waits there gets another rank
-pub ranked-step : (m : States) (t now : Table) (k r u o : ℕ) (rank : Key) → Holds m t → IsThread m u
+pub ranked-step : (m : States) (t now : NodeLists) (k r u o : ℕ) (rank : Key) → HoldsStates m t → IsThread m u
     → get m.places k ≡ Some r → r < m.threads
     → get m.owners k ≡ Some o → ChangesList (wait_list m r) (wait_node m u) t now → wait_of m u ≡ Some k
     → holder t (wait_node m u) ≡ Some (wait_list m r) → holder now (wait_node m u) ≡ Some (wait_list m r)
@@ -242,7 +242,7 @@ pub ranked-step : (m : States) (t now : Table) (k r u o : ℕ) (rank : Key) → 
     → IsStep m m.rows m.owners t now k o u (with_wait u (Some (record { state = k; rank = rank })) (owners_in m t))
 ranked-step m t now k r u o rank h thread place below own changes waits was held key least most =
     record {
-      waiters = waiters-changed m m.rows m.owners t now k r u o h.waiters change (subst IsSound (sym view) sound);
+      waiters = waiters-changed m m.rows m.owners t now k r u o h.waiters change (subst AreSoundOwners (sym view) sound);
       but = tops-but m m.rows m.owners t now k r u o h.waiters change h.tops;
       outside = waiters-outside m m.rows m.owners t now k r u o h.waiters change;
       nodes = nodes-kept m m.rows m.owners t now k r u o change;
@@ -283,7 +283,7 @@ ranked-step m t now k r u o rank h thread place below own changes waits was held
     view = view-changed m m.rows m.owners t now k r u o h.waiters change
         (record (seat_at (owners_in m t) u) { wait = Some (record { state = k; rank = rank }) }) seat
 
-    sound : IsSound (with_wait u (Some (record { state = k; rank = rank })) (owners_in m t))
+    sound : AreSoundOwners (with_wait u (Some (record { state = k; rank = rank })) (owners_in m t))
     sound =
         sound-ranked u (record { state = k; rank = key_at t (wait_node m u) }) (record { state = k; rank = rank })
         (owners_in m t)

@@ -5,7 +5,7 @@ use Rattle.std.proofs.lemmas.Option.{same_Some}
 use Rattle.std.specs.FinMap.{get}
 use Rattle.pif_nodes.specs.declared.keys.Key.{Key}
 use Rattle.pif_nodes.specs.Lists.{has}
-use Rattle.pif_nodes.specs.Table.{Table, list_at, holder}
+use Rattle.pif_nodes.specs.Table.{NodeLists, list_at, holder}
 use Rattle.pif_plist.specs.Order.{IsSorted}
 use Rattle.pif_rtmutex.specs.States.{States, IsThread, wait_of, wait_node, top_node, top_list, first_waiter}
 use Rattle.pif_rtmutex.specs.Holds.{HoldsWaiters, IsTopNode, IsTopped, IsFirstOf, IsTopOf, IsRankedTop, IsTopBut, HoldsTops, IsToppedBut}
@@ -15,7 +15,7 @@ use Rattle.pif_rtmutex.proofs.FrameLemmas.{cases_Some, first_waiter-framed, topp
 use Rattle.pif_rtmutex.proofs.ListChanges.{had-other}
 
 -- a list of top waiters and the node of one of them changed
-module _ (m : States) (t now : Table) (o u : ℕ) (i : IsThread m o) (j : IsThread m u)
+module _ (m : States) (t now : NodeLists) (o u : ℕ) (i : IsThread m o) (j : IsThread m u)
     (c : ChangesList (top_list m o) (top_node m u) t now) where
   -- another thread has another node
   pub other_top : (w : ℕ) → IsThread m w → w ≢ u → top_node m w ≢ top_node m u
@@ -94,7 +94,7 @@ module _ (m : States) (t now : Table) (o u : ℕ) (i : IsThread m o) (j : IsThre
       }
 
 -- the top waiters are right but for one state, of which the first waiter is the one who stands
-pub tops-same : (m : States) (t : Table) (k o : ℕ) (was : Option ℕ) → get m.owners k ≡ Some o → first_waiter m t k ≡ was
+pub tops-same : (m : States) (t : NodeLists) (k o : ℕ) (was : Option ℕ) → get m.owners k ≡ Some o → first_waiter m t k ≡ was
     → ((u : ℕ) → was ≡ Some u → IsRankedTop m t u) → IsToppedBut m t k o was → HoldsTops m t
 tops-same m t k o was own first rank but =
     record {
@@ -120,7 +120,7 @@ tops-same m t k o was own first rank but =
     ranked j p w s (inr ne) = but.ranked j p w ne s
 
 -- where nobody stands it doesn't matter for whom
-pub but_nobody : (m : States) (t : Table) (k o p : ℕ) → IsToppedBut m t k o None → IsToppedBut m t k p None
+pub but_nobody : (m : States) (t : NodeLists) (k o p : ℕ) → IsToppedBut m t k o None → IsToppedBut m t k p None
 but_nobody m t k o p but =
     record {
       topped = topped-as m t (IsTopBut m t k o None) (IsTopBut m t k p None) (λ q w s. other o p q w s)
@@ -135,7 +135,7 @@ but_nobody m t k o p but =
     other a b q w (inr s) = let wrong : None ≡ Some w = s.1 in absurd cc
 
 -- a change of the top waiters of a thread, of which the waiters are as they were
-module _ (m : States) (t now : Table) (k o u : ℕ) (h : HoldsWaiters m t) (i : IsThread m o) (j : IsThread m u)
+module _ (m : States) (t now : NodeLists) (k o u : ℕ) (h : HoldsWaiters m t) (i : IsThread m o) (j : IsThread m u)
     (c : ChangesList (top_list m o) (top_node m u) t now) (frame : ChangesTops m t now) where
   -- who the first waiter of a state is stays
   first-now : (l p w : ℕ) → IsFirstOf m t l p w → IsFirstOf m now l p w
@@ -254,7 +254,7 @@ module _ (m : States) (t now : Table) (k o u : ℕ) (h : HoldsWaiters m t) (i : 
       back p w (inr s) = inr s
 
 -- the first waiter of a state of which nobody stands anywhere does not stand anywhere
-pub top-free : (m : States) (t : Table) (k o p u : ℕ) → HoldsWaiters m t → get m.owners k ≡ Some p
+pub top-free : (m : States) (t : NodeLists) (k o p u : ℕ) → HoldsWaiters m t → get m.owners k ≡ Some p
     → first_waiter m t k ≡ Some u
     → IsToppedBut m t k o None → holder t (top_node m u) ≡ None
 top-free m t k o p u h own first but = by_holder (cases_Some (holder t (top_node m u)))

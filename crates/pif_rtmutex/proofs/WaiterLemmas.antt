@@ -4,7 +4,7 @@ use Rattle.std.proofs.lemmas.Bool.{cases_eq, cases_lt}
 use Rattle.std.proofs.lemmas.List.{get_or_past}
 use Rattle.std.specs.FinMap.{get}
 use Rattle.pif_nodes.specs.Lists.{has, first_of}
-use Rattle.pif_nodes.specs.Table.{Table, list_at, key_at}
+use Rattle.pif_nodes.specs.Table.{NodeLists, list_at, key_at}
 use Rattle.pif_nodes.proofs.ListLemmas.{first_of-has}
 use Rattle.pif_owners.specs.Owners.{Seat, state_of}
 use Rattle.pif_rtmutex.specs.States.{Row, States, IsThread, no_row, wait_of, wait_node, wait_list, waiter_for, first_waiter}
@@ -21,13 +21,13 @@ from_mapped f None y e = absurd cc
 from_mapped f (Some x) y e = (x, refl, cc)
 
 -- the first waiter of a state that has a row, by the list of that row
-pub first_waiter-by_row : (m : States) (t : Table) (k r : ℕ) → get m.places k ≡ Some r
+pub first_waiter-by_row : (m : States) (t : NodeLists) (k r : ℕ) → get m.places k ≡ Some r
     → first_waiter m t k ≡ option_map (waiter_for m) (first_of (list_at t (wait_list m r)))
 first_waiter-by_row m t k r e =
     ap (λ (o : Option ℕ). option_and_then (λ r. option_map (waiter_for m) (first_of (list_at t (wait_list m r)))) o) e
 
 -- where the first waiter of a state stands
-pub record StandsFirst (m : States) (t : Table) (k u : ℕ) : Type 0 where
+pub record StandsFirst (m : States) (t : NodeLists) (k u : ℕ) : Type 0 where
   pub is_thread : IsThread m u
   pub waits : wait_of m u ≡ Some k
   pub row : ℕ
@@ -36,7 +36,7 @@ pub record StandsFirst (m : States) (t : Table) (k u : ℕ) : Type 0 where
   pub first : first_of (list_at t (wait_list m row)) ≡ Some (wait_node m u)
   pub listed : has (wait_node m u) (list_at t (wait_list m row)) ≡ true
 
-pub stands-first : (m : States) (t : Table) (k u : ℕ) → HoldsWaiters m t → IsSome (get m.owners k)
+pub stands-first : (m : States) (t : NodeLists) (k u : ℕ) → HoldsWaiters m t → IsSome (get m.owners k)
     → first_waiter m t k ≡ Some u
     → StandsFirst m t k u
 stands-first m t k u h some e =
@@ -59,14 +59,14 @@ stands-first m t k u h some e =
     }
 
 -- who waits does so on a state that there is
-pub waits-state : (m : States) (t : Table) (u k : ℕ) → HoldsWaiters m t → wait_of m u ≡ Some k → IsSome (get m.owners k)
+pub waits-state : (m : States) (t : NodeLists) (u k : ℕ) → HoldsWaiters m t → wait_of m u ≡ Some k → IsSome (get m.owners k)
 waits-state m t u k h w =
     (h.sound.seats u).state (record { state = k; rank = key_at t (wait_node m u) })
     (ap (λ (x : Seat). x.wait) (seat_at-owners_in m t u)
     ∙ ap (λ (o : Option ℕ). option_map (λ k. record { state = k; rank = key_at t (wait_node m u) }) o) w)
 
 -- and is a thread
-pub waits-thread : (m : States) (t : Table) (u k : ℕ) → HoldsWaiters m t → wait_of m u ≡ Some k → IsThread m u
+pub waits-thread : (m : States) (t : NodeLists) (u k : ℕ) → HoldsWaiters m t → wait_of m u ≡ Some k → IsThread m u
 waits-thread m t u k h w = (by_zero (cases_eq u 0), by_place (cases_lt u (length m.rows)))
   where
     by_zero : ((u ≡ 0) ⊎ (u ≡ 0 → ⊥)) → 1 ≤ u

@@ -7,7 +7,7 @@ use Rattle.std.specs.FinMap.{FinMap, empty, get, insert}
 use Rattle.std.specs.FinMap as map
 use Rattle.std.specs.Coded.{Coded, code_by, coded×, coded_ℕ, coded_list, coded_option}
 use Rattle.pif_nodes.specs.Lists.{first_of}
-use Rattle.pif_nodes.specs.Table.{Table, list_at, key_at}
+use Rattle.pif_nodes.specs.Table.{NodeLists, list_at, key_at}
 use Rattle.pif_owners.specs.Owners.{Owners, Seat}
 
 -- what the value has of a thread: its base and its effective priority, 0 where it was not admitted, and the owner state
@@ -39,8 +39,8 @@ abbrev pub no_row : Row
 no_row = record { base = 0; local = 0; wait = None }
 
 -- no state, for so many threads, of which none was admitted
-abbrev pub no_states : ℕ → ℕ → ℕ → States
-no_states first_list first_node threads =
+abbrev pub empty_states : ℕ → ℕ → ℕ → States
+empty_states first_list first_node threads =
     record {
       first_list = first_list;
       first_node = first_node;
@@ -90,12 +90,12 @@ abbrev pub IsOwnNode : States → ℕ → Type 0
 IsOwnNode m n = (m.first_node ≤ n) × (n < m.first_node + 2 * m.threads)
 
 -- the first of the waiters of a state
-abbrev pub first_waiter : States → Table → ℕ → Option ℕ
+abbrev pub first_waiter : States → NodeLists → ℕ → Option ℕ
 first_waiter m t k =
     option_and_then (λ r. option_map (waiter_for m) (first_of (list_at t (wait_list m r)))) (get m.places k)
 
 -- what is known of a thread: its rank is the key of its node
-abbrev pub seat_in : States → Table → ℕ → Seat
+abbrev pub seat_in : States → NodeLists → ℕ → Seat
 seat_in m t u =
     record {
       base = (row_at m u).base;
@@ -104,7 +104,7 @@ seat_in m t u =
     }
 
 -- the owner states that value and table are together
-abbrev pub owners_in : States → Table → Owners
+abbrev pub owners_in : States → NodeLists → Owners
 owners_in m t = record { seats = map (seat_in m t) (range_with_len 0 (length m.rows)); owners = m.owners }
 
 -- the value with another row of a thread

@@ -4,12 +4,12 @@ ghost use Rattle.std.specs.Option.{ForSome};
 ghost use Rattle.std.specs.FinMap.{get, empty, insert, remove, len};
 ghost use Rattle.pif_model.specs.Graph.{Reaches};
 ghost use Rattle.pif_nodes.specs.declared.keys.Key.{Key as RankSeen};
-ghost use Rattle.pif_nodes.specs.Table.{Table, key_at, holder, next_of};
+ghost use Rattle.pif_nodes.specs.Table.{NodeLists, key_at, holder, next_node};
 ghost use Rattle.pif_owners.specs.Owners.{no_owners, seat_at, owner_at, count, waits_on, rank_of, WaitsFor, IsTop, HasNoWaiter, KeepsOrder, with_seat, with_base, with_local, with_wait, with_prio, with_ticket, with_owner, without_state};
-ghost use Rattle.pif_rtmutex.specs.States.{IsThread, no_states, row_at, wait_node, top_node, wait_list, top_list, waiter_for, first_waiter, owners_in, with_row, with_wait_on, with_owner_of};
-ghost use Rattle.pif_rtmutex.specs.Holds.{HoldsWaiters, IsRankedTop, HoldsTops, IsToppedBut, Holds, HasRoom};
+ghost use Rattle.pif_rtmutex.specs.States.{IsThread, empty_states, row_at, wait_node, top_node, wait_list, top_list, waiter_for, first_waiter, owners_in, with_row, with_wait_on, with_owner_of};
+ghost use Rattle.pif_rtmutex.specs.Holds.{HoldsWaiters, IsRankedTop, HoldsTops, IsToppedBut, HoldsStates, HasRoomForStates};
 ghost use Rattle.pif_rtmutex.specs.Behind.{IsLast, IsBehind};
-ghost use Rattle.pif_rtmutex.specs.Frames.{SameOutside, ChangesTops, KeepsWaiterNodes};
+ghost use Rattle.pif_rtmutex.specs.Frames.{SameOutsideStates, ChangesTops, KeepsWaiterNodes};
 ghost use Rattle.pif_rtmutex.specs.Maximum.{greatest_rank, maximum_of};
 ghost use Rattle.pif_rtmutex.specs.Fields.{State as StateSeen, IsSpare};
 
@@ -70,9 +70,9 @@ impl RtMutexes {
         requires most { threads ≤ 1024 }
         requires lists { first_list + 2 * threads < 2 ^ 32 }
         requires nodes { first_node + 2 * threads < 2 ^ 32 }
-        ensures place { IfOk result (λ m. m ≡ no_states first_list first_node threads) }
-        ensures made { IfOk result (λ m. (t : Table) → owners_in m t ≡ no_owners threads) }
-        ensures holds { IfOk result (λ m. (t : Table) → HasRoom m t → Holds m t) }
+        ensures place { IfOk result (λ m. m ≡ empty_states first_list first_node threads) }
+        ensures made { IfOk result (λ m. (t : NodeLists) → owners_in m t ≡ no_owners threads) }
+        ensures holds { IfOk result (λ m. (t : NodeLists) → HasRoomForStates m t → HoldsStates m t) }
     {
         let rows = vec![in alloc; NOBODY; threads as usize + 1].map_err(|_| NoMemory)?;
         let free = rows_below(alloc, threads)?;
@@ -98,13 +98,13 @@ impl RtMutexes {
     /// Gives the thread `t`, which waits for nothing, this base priority, which is its effective priority at first. All
     /// other threads and all states stay as they were.
     pub fn admit(&mut self, table: &NodeTable, t: Tid, prio: Prio)
-        requires holds { Holds self.old table.now }
+        requires holds { HoldsStates self.old table.now }
         requires row { t < length (owners_in self.old table.now).seats }
         requires free { waits_on (owners_in self.old table.now) t ≡ None }
         ensures admitted { owners_in self.new table.now
             ≡ with_seat t (record { base = prio; local = prio; wait = None }) (owners_in self.old table.now) }
         ensures place { self.new ≡ record self.old { rows = self.new.rows } }
-        ensures holds { Holds self.new table.now }
+        ensures holds { HoldsStates self.new table.now }
     {
         self.put(t, NOBODY.with_base(prio).with_local(prio));
     }
@@ -121,10 +121,10 @@ impl RtMutexes {
     /// Makes `prio` the base priority of the thread `t`. All else stays as it was, and so does all if `t` has no
     /// row.
     pub fn set_base(&mut self, table: &NodeTable, t: Tid, prio: Prio)
-        requires holds { Holds self.old table.now }
+        requires holds { HoldsStates self.old table.now }
         ensures changed { owners_in self.new table.now ≡ with_base t prio (owners_in self.old table.now) }
         ensures place { self.new ≡ record self.old { rows = self.new.rows } }
-        ensures holds { Holds self.new table.now }
+        ensures holds { HoldsStates self.new table.now }
     {
         let row = self.row_of(t.get());
         self.put(t, row.with_base(prio));
@@ -142,10 +142,10 @@ impl RtMutexes {
     /// Makes `prio` the effective priority of the thread `t`. All else stays as it was, and so does all if `t` has
     /// no row.
     pub fn set_local(&mut self, table: &NodeTable, t: Tid, prio: Prio)
-        requires holds { Holds self.old table.now }
+        requires holds { HoldsStates self.old table.now }
         ensures changed { owners_in self.new table.now ≡ with_local t prio (owners_in self.old table.now) }
         ensures place { self.new ≡ record self.old { rows = self.new.rows } }
-        ensures holds { Holds self.new table.now }
+        ensures holds { HoldsStates self.new table.now }
     {
         let row = self.row_of(t.get());
         self.put(t, row.with_local(prio));
@@ -155,7 +155,7 @@ impl RtMutexes {
     /// There have to be fewer states than threads. It takes no memory, and all threads and all other states stay as
     /// they were, each state in its row.
     pub fn make(&mut self, table: &NodeTable, owner: Tid) -> Key
-        requires holds { Holds self.old table.now }
+        requires holds { HoldsStates self.old table.now }
         requires owner { owner < length (owners_in self.old table.now).seats }
         requires room { count (owners_in self.old table.now) + 1 < length (owners_in self.old table.now).seats }
         ensures fresh { owner_at (owners_in self.old table.now) result ≡ None }
@@ -165,7 +165,7 @@ impl RtMutexes {
         ensures rows { (k r : ℕ) → get self.old.places k ≡ Some r → get self.new.places k ≡ Some r }
         ensures place { self.new
             ≡ record self.old { free = self.new.free; owners = self.new.owners; places = self.new.places } }
-        ensures holds { Holds self.new table.now }
+        ensures holds { HoldsStates self.new table.now }
     {
         let row = self.free.pop().unwrap();
         let number = self.states.insert_reserved(State::of(owner, row));
@@ -182,7 +182,7 @@ impl RtMutexes {
 
     /// The row of a state, which has to be there: a number below that of threads, which no other state has.
     pub fn row(&self, table: &NodeTable, key: Key) -> u32
-        requires holds { Holds self.now table.now }
+        requires holds { HoldsStates self.now table.now }
         requires state { IsSome (owner_at (owners_in self.now table.now) key) }
         ensures value { get self.now.places key ≡ Some result }
         ensures below { result < self.now.threads }
@@ -194,7 +194,7 @@ impl RtMutexes {
     /// The top waiter of a state: of those that are queued on it the one with the highest priority as last handed in,
     /// and of equal ones the one with the lowest ticket. `None` if nobody is queued on it.
     pub fn top(&self, table: &NodeTable, key: Key) -> Option<Tid>
-        requires { Holds self.now table.now }
+        requires { HoldsStates self.now table.now }
         ensures none { IfNone result (HasNoWaiter (owners_in self.now table.now) key) }
         ensures top { IfSome result (λ t. IsTop (owners_in self.now table.now) key t) }
         ensures state { OnSome result (IsSome (owner_at (owners_in self.now table.now) key)) }
@@ -205,7 +205,7 @@ impl RtMutexes {
     /// The waiter that stands right behind the thread `t`, which is queued on a state, among those of that state. `None`
     /// if `t` is the last of them.
     pub fn behind(&self, table: &NodeTable, t: Tid) -> Option<Tid>
-        requires holds { Holds self.now table.now }
+        requires holds { HoldsStates self.now table.now }
         requires queued { IsSome (waits_on (owners_in self.now table.now) t) }
         ensures last { IfNone result (IsLast (owners_in self.now table.now) t) }
         ensures behind { IfSome result (λ u. IsBehind (owners_in self.now table.now) t u) }
@@ -216,7 +216,7 @@ impl RtMutexes {
     /// The greater of the base priority of the thread `t` and of the priority of the first of its top waiters. `None`
     /// if it was given none, and nobody waits for it.
     pub fn maximum(&self, table: &NodeTable, t: Tid) -> Option<Prio>
-        requires holds { Holds self.now table.now }
+        requires holds { HoldsStates self.now table.now }
         requires row { t < length (owners_in self.now table.now).seats }
         ensures { unwrap_or result 0 ≡ maximum_of (owners_in self.now table.now) t }
     {
@@ -228,7 +228,7 @@ impl RtMutexes {
     /// state may not be `t`, nor wait for it through any chain, and the node of `t` as a waiter has to be in no list.
     /// All other threads and all states stay as they were.
     pub fn enqueue(&mut self, table: &mut NodeTable, key: Key, t: Tid, prio: Prio, ticket: u64)
-        requires holds { Holds self.old table.old }
+        requires holds { HoldsStates self.old table.old }
         requires node { holder table.old (wait_node self.old t) ≡ None }
         requires state { IsSome (owner_at (owners_in self.old table.old) key) }
         requires row { t < length (owners_in self.old table.old).seats }
@@ -238,9 +238,9 @@ impl RtMutexes {
         ensures queued { let rank : RankSeen = record { prio = prio; ticket = ticket } in
             owners_in self.new table.new ≡ with_wait t (Some (record { state = key; rank = rank })) (owners_in self.old table.old) }
         ensures place { self.new ≡ record self.old { rows = self.new.rows } }
-        ensures outside { SameOutside self.old table.old table.new }
+        ensures outside { SameOutsideStates self.old table.old table.new }
         ensures nodes { KeepsWaiterNodes self.old t table.old table.new }
-        ensures holds { Holds self.new table.new }
+        ensures holds { HoldsStates self.new table.new }
     {
         let owner = self.owner(table, key);
         let was = self.first(table, key);
@@ -253,14 +253,14 @@ impl RtMutexes {
 
     /// Takes the thread `t` off the state on which it is queued. All other threads and all states stay as they were.
     pub fn dequeue(&mut self, table: &mut NodeTable, key: Key, t: Tid)
-        requires holds { Holds self.old table.old }
+        requires holds { HoldsStates self.old table.old }
         requires queued { waits_on (owners_in self.old table.old) t ≡ Some key }
         ensures free { owners_in self.new table.new ≡ with_wait t None (owners_in self.old table.old) }
         ensures place { self.new ≡ record self.old { rows = self.new.rows } }
-        ensures outside { SameOutside self.old table.old table.new }
+        ensures outside { SameOutsideStates self.old table.old table.new }
         ensures node { holder table.new (wait_node self.old t) ≡ None }
         ensures nodes { KeepsWaiterNodes self.old t table.old table.new }
-        ensures holds { Holds self.new table.new }
+        ensures holds { HoldsStates self.new table.new }
     {
         let owner = self.owner(table, key);
         let was = self.first(table, key);
@@ -273,13 +273,13 @@ impl RtMutexes {
     /// Gives the thread `t` another priority among the waiters of the state on which it is queued. It keeps its ticket,
     /// and all else stays as it was.
     pub fn rekey(&mut self, table: &mut NodeTable, key: Key, t: Tid, prio: Prio)
-        requires holds { Holds self.old table.old }
+        requires holds { HoldsStates self.old table.old }
         requires queued { waits_on (owners_in self.old table.old) t ≡ Some key }
         ensures changed { owners_in self.new table.new ≡ with_prio t prio (owners_in self.old table.old) }
         ensures place { self.new ≡ self.old }
-        ensures outside { SameOutside self.old table.old table.new }
+        ensures outside { SameOutsideStates self.old table.old table.new }
         ensures nodes { KeepsWaiterNodes self.old t table.old table.new }
-        ensures holds { Holds self.new table.new }
+        ensures holds { HoldsStates self.new table.new }
     {
         let owner = self.owner(table, key);
         let was = self.first(table, key);
@@ -290,7 +290,7 @@ impl RtMutexes {
 
     /// The ticket with which the thread `t` is queued. `None` if it waits for nothing.
     pub fn ticket(&self, table: &NodeTable, t: Tid) -> Option<u64>
-        requires { Holds self.now table.now }
+        requires { HoldsStates self.now table.now }
         ensures { result ≡ option_map (λ (r : RankSeen). r.ticket) (rank_of (owners_in self.now table.now) t) }
     {
         let _state = self.row_of(t.get()).wait?;
@@ -300,14 +300,14 @@ impl RtMutexes {
     /// Gives the thread `t`, which is queued on a state, another ticket, with which it stands among the other waiters
     /// of that state as before. It keeps its priority, and all else stays as it was.
     pub fn set_ticket(&mut self, table: &mut NodeTable, t: Tid, ticket: u64)
-        requires holds { Holds self.old table.old }
+        requires holds { HoldsStates self.old table.old }
         requires queued { IsSome (waits_on (owners_in self.old table.old) t) }
         requires order { KeepsOrder (owners_in self.old table.old) t ticket }
         ensures changed { owners_in self.new table.new ≡ with_ticket t ticket (owners_in self.old table.old) }
         ensures place { self.new ≡ self.old }
-        ensures outside { SameOutside self.old table.old table.new }
+        ensures outside { SameOutsideStates self.old table.old table.new }
         ensures nodes { KeepsWaiterNodes self.old t table.old table.new }
-        ensures holds { Holds self.new table.new }
+        ensures holds { HoldsStates self.new table.new }
     {
         if let Some(key) = self.row_of(t.get()).wait {
             let node = self.wait_node(t);
@@ -318,16 +318,16 @@ impl RtMutexes {
     /// Hands a state on which somebody is queued to its top waiter, which waits no longer; the others wait for it now.
     /// Answers who that is. All other threads and states stay as they were.
     pub fn hand_over(&mut self, table: &mut NodeTable, key: Key) -> Tid
-        requires holds { Holds self.old table.old }
+        requires holds { HoldsStates self.old table.old }
         requires waiter { (t : ℕ) × (waits_on (owners_in self.old table.old) t ≡ Some key) }
         ensures top { IsTop (owners_in self.old table.old) key result }
         ensures handed { owners_in self.new table.new
             ≡ with_owner key result (with_wait result None (owners_in self.old table.old)) }
         ensures place { self.new ≡ record self.old { rows = self.new.rows; owners = self.new.owners } }
-        ensures outside { SameOutside self.old table.old table.new }
+        ensures outside { SameOutsideStates self.old table.old table.new }
         ensures node { holder table.new (wait_node self.old result) ≡ None }
         ensures nodes { KeepsWaiterNodes self.old result table.old table.new }
-        ensures holds { Holds self.new table.new }
+        ensures holds { HoldsStates self.new table.new }
     {
         let owner = self.owner(table, key);
         let next = self.first(table, key).unwrap();
@@ -342,7 +342,7 @@ impl RtMutexes {
     /// Ends a state on which nobody is queued. All threads and all other states stay as they were, each state in its
     /// row.
     pub fn end(&mut self, table: &NodeTable, key: Key)
-        requires holds { Holds self.old table.now }
+        requires holds { HoldsStates self.old table.now }
         requires state { IsSome (owner_at (owners_in self.old table.now) key) }
         requires free { HasNoWaiter (owners_in self.old table.now) key }
         ensures ended { owners_in self.new table.now ≡ without_state key (owners_in self.old table.now) }
@@ -350,7 +350,7 @@ impl RtMutexes {
         ensures rows { (k r : ℕ) → k ≢ key → get self.old.places k ≡ Some r → get self.new.places k ≡ Some r }
         ensures place { self.new
             ≡ record self.old { free = self.new.free; owners = self.new.owners; places = self.new.places } }
-        ensures holds { Holds self.new table.now }
+        ensures holds { HoldsStates self.new table.now }
     {
         let state = self.states.remove(key.get());
         self.free.push_reserved(state.row);
@@ -358,7 +358,7 @@ impl RtMutexes {
 
     /// The state on which the thread `t` is queued. `None` if it waits for nothing.
     pub fn waits_on(&self, table: &NodeTable, t: Tid) -> Option<Key>
-        requires { Holds self.now table.now }
+        requires { HoldsStates self.now table.now }
         ensures value { result ≡ waits_on (owners_in self.now table.now) t }
         ensures state { ForSome result (λ k. IsSome (owner_at (owners_in self.now table.now) k)) }
     {
@@ -379,7 +379,7 @@ impl RtMutexes {
     fn next_to(&self, table: &NodeTable, t: Tid) -> Option<Tid>
         requires holds { HoldsWaiters self.now table.now }
         requires queued { IsSome (waits_on (owners_in self.now table.now) t) }
-        ensures { result ≡ option_map (waiter_for self.now) (next_of table.now (wait_node self.now t)) }
+        ensures { result ≡ option_map (waiter_for self.now) (next_node table.now (wait_node self.now t)) }
     {
         let node = table.next(self.wait_node(t))?;
         Tid::new(node.get() - self.first_node + 1)
@@ -395,7 +395,7 @@ impl RtMutexes {
 
     /// The priority of the first of the top waiters of the thread `t`. `None` if it has none.
     fn greatest_top(&self, table: &NodeTable, t: Tid) -> Option<Prio>
-        requires holds { Holds self.now table.now }
+        requires holds { HoldsStates self.now table.now }
         requires row { t ≤ self.now.threads }
         ensures { unwrap_or result 0 ≡ greatest_rank (owners_in self.now table.now) t }
     {

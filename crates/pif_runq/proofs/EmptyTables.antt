@@ -3,10 +3,10 @@ use Rattle.std.proofs.Common.{◌≡◌, ℕ, zero, suc, ◌+◌, ◌≤◌, Lis
 use Rattle.std.proofs.lemmas.Bool.{false≢true}
 use Rattle.std.proofs.lemmas.List.{length-replicate}
 use Rattle.pif_nodes.specs.Lists.{has}
-use Rattle.pif_nodes.specs.Table.{Table, IsApart, no_key, holder, list_at}
+use Rattle.pif_nodes.specs.Table.{NodeLists, IsApart, no_key, holder, list_at}
 use Rattle.pif_runq.specs.Levels.{Queue, HasRoom, list_for, level_of, thread_for}
 
-abbrev pub empty_table : ℕ → ℕ → Table
+abbrev pub empty_table : ℕ → ℕ → NodeLists
 empty_table lists nodes = record { lists = replicate lists []; keys = replicate nodes no_key }
 
 abbrev nothing : List ℕ

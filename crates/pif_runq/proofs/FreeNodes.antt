@@ -1,11 +1,11 @@
 -- Who is on no level has a node that is in no list.
 use Rattle.std.proofs.Common.{◌≡◌, ℕ, ◌+◌, ◌-◌, ◌≤◌, true, Option, Some, None, refl, ap, ◌∙◌, arith}
 use Rattle.pif_nodes.specs.Lists.{has}
-use Rattle.pif_nodes.specs.Table.{Table, holder, list_at}
+use Rattle.pif_nodes.specs.Table.{NodeLists, holder, list_at}
 use Rattle.pif_runq.specs.Levels.{Queue, IsQueued, IsLevel, IsLevelList, Holds, level_of, list_for, node_for}
 use Rattle.pif_runq.proofs.LevelLemmas.{has-threads}
 
-pub off_free : (q : Queue) (t : Table) (u : ℕ) → Holds q t → 1 ≤ u → u ≤ q.threads → (IsQueued q t u → ⊥)
+pub off_free : (q : Queue) (t : NodeLists) (u : ℕ) → Holds q t → 1 ≤ u → u ≤ q.threads → (IsQueued q t u → ⊥)
     → holder t (node_for q u) ≡ None
 off_free q t u h some few off = by_holder (holder t (node_for q u)) refl
   where

@@ -3,10 +3,10 @@ use Rattle.std.proofs.Common.{◌≡◌, ℕ, ◌↔◌, List, [], Option, Some,
 use Rattle.std.proofs.lemmas.Option.{same_Some}
 use Rattle.std.specs.Int.{bit_at}
 use Rattle.pif_nodes.specs.Lists.{has}
-use Rattle.pif_nodes.specs.Table.{Table, list_at, holder, IsApart}
+use Rattle.pif_nodes.specs.Table.{NodeLists, list_at, holder, IsApart}
 use Rattle.pif_runq.specs.Levels.{Queue, IsLevel, IsLevelList, IsThreadNode, list_for, thread_for, level_of, Holds, KeepsQueue}
 
-module _ (q : Queue) (was now : Table) (keeps : KeepsQueue q was now) where
+module _ (q : Queue) (was now : NodeLists) (keeps : KeepsQueue q was now) where
   -- the list of a level is one of the queue
   level_list : (p : ℕ) → IsLevel p → list_at now (list_for q p) ≡ list_at was (list_for q p)
   level_list p lp = keeps.lists (list_for q p) (omega arith, omega (arith, lp.0, lp.1))

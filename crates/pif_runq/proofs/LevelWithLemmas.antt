@@ -5,7 +5,7 @@ use Rattle.std.specs.Option.{is_some}
 use Rattle.std.proofs.lemmas.Bool.{and_parts}
 use Rattle.std.proofs.lemmas.Bool.Decides.{nat_tests}
 use Rattle.pif_nodes.specs.Lists.{has}
-use Rattle.pif_nodes.specs.Table.{Table, list_at, holder}
+use Rattle.pif_nodes.specs.Table.{NodeLists, list_at, holder}
 use Rattle.pif_runq.specs.Levels.{Queue, IsLevel, list_for, node_for, level_of, level_for, level_with, Holds, IsQueued}
 use Rattle.std.proofs.lemmas.Option.{same_Some}
 use Rattle.pif_runq.proofs.LevelLemmas.{has-threads, queued_on}
@@ -19,7 +19,7 @@ level_for-list q p lp =
     rw (low, high) (ap (λ (k : ℕ). Some k) back)
 
 -- a thread that a level has is on that level
-pub level_with-from_listed : (q : Queue) (t : Table) (u p : ℕ) → Holds q t → IsLevel p → has u (level_of q t p) ≡ true → level_with q t u ≡ Some p
+pub level_with-from_listed : (q : Queue) (t : NodeLists) (u p : ℕ) → Holds q t → IsLevel p → has u (level_of q t p) ≡ true → level_with q t u ≡ Some p
 level_with-from_listed q t u p holds lp listed =
     let stands = queued_on q t u holds (p, lp, listed) in
     let some : nat_le 1 u ≡ true = grind (arith, nat_tests, stands.some) in
@@ -47,7 +47,7 @@ level_for-some q l p e =
     ((omega arith, omega arith), omega arith)
 
 -- a thread that is on a level is among those that the level has
-pub listed-from_level_with : (q : Queue) (t : Table) (u p : ℕ) → Holds q t → level_with q t u ≡ Some p → IsLevel p × (has u (level_of q t p) ≡ true)
+pub listed-from_level_with : (q : Queue) (t : NodeLists) (u p : ℕ) → Holds q t → level_with q t u ≡ Some p → IsLevel p × (has u (level_of q t p) ≡ true)
 listed-from_level_with q t u p holds e =
     let r = let_through (nat_le 1 u && nat_le u q.threads) (option_and_then (level_for q) (holder t (node_for q u))) p e in
     let some : 1 ≤ u = grind (arith, nat_tests, (and_parts (nat_le 1 u) (nat_le u q.threads) r.0).0) in
@@ -58,13 +58,13 @@ listed-from_level_with q t u p holds e =
     (at.0, has-threads q u (list_at t (list_for q p)) some (λ n h. (holds.threads p n at.0 h).0) ∙ listed)
 
 -- both in one, for an answer that is the level
-pub queued-by_level : (q : Queue) (t : Table) (u : ℕ) (level : Option ℕ) → Holds q t → level ≡ level_with q t u
+pub queued-by_level : (q : Queue) (t : NodeLists) (u : ℕ) (level : Option ℕ) → Holds q t → level ≡ level_with q t u
     → (p : ℕ) → IsLevel p → (level ≡ Some p) ↔ (has u (level_of q t p) ≡ true)
 queued-by_level q t u level holds is p lp =
     (λ e. (listed-from_level_with q t u p holds (sym is ∙ e)).1, λ h. is ∙ level_with-from_listed q t u p holds lp h)
 
 -- a thread whose level is found is queued
-pub queued_found : (q : Queue) (t : Table) (u : ℕ) → Holds q t → is_some (level_with q t u) ≡ true → IsQueued q t u
+pub queued_found : (q : Queue) (t : NodeLists) (u : ℕ) → Holds q t → is_some (level_with q t u) ≡ true → IsQueued q t u
 queued_found q t u holds some = by_level (level_with q t u) refl some
   where
     by_level : (o : Option ℕ) → level_with q t u ≡ o → is_some o ≡ true → IsQueued q t u

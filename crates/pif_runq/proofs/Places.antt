@@ -5,8 +5,8 @@ use Rattle.std.proofs.lemmas.List.{length-map}
 use Rattle.std.proofs.lemmas.Option.{same_Some, slice_get-map}
 use Rattle.std.specs.List.{slice_get}
 use Rattle.std.specs.Option.{option_map, option_and_then}
-use Rattle.pif_nodes.specs.Lists.{has, first_of, next_in, HasNoRepeats}
-use Rattle.pif_nodes.specs.Table.{Table, list_at, next_of, IsApart}
+use Rattle.pif_nodes.specs.Lists.{has, first_of, next_in_list, HasNoRepeats}
+use Rattle.pif_nodes.specs.Table.{NodeLists, list_at, next_node, IsApart}
 use Rattle.pif_nodes.proofs.ListLemmas.{has-head, apart_by_has}
 use Rattle.pif_runq.specs.Levels.{Queue, list_for, thread_for, level_of, all_below}
 
@@ -42,36 +42,36 @@ first_of-place [] = refl
 first_of-place (x ∷ xs) = refl
 
 -- after what stands at a place stands what is at the next one
-next_in-place : (xs : List ℕ) (k n : ℕ) → HasNoRepeats xs → slice_get xs k ≡ Some n
-    → next_in xs n ≡ slice_get xs (suc k)
-next_in-place [] k n once e = absurd cc
-next_in-place (x ∷ xs) zero n once e =
+next_in_list-place : (xs : List ℕ) (k n : ℕ) → HasNoRepeats xs → slice_get xs k ≡ Some n
+    → next_in_list xs n ≡ slice_get xs (suc k)
+next_in_list-place [] k n once e = absurd cc
+next_in_list-place (x ∷ xs) zero n once e =
     let here : eqb n x ≡ true = eq-eqb n x (sym (same_Some x n e)) in rw here (first_of-place xs)
-next_in-place (x ∷ xs) (suc k) n once e =
+next_in_list-place (x ∷ xs) (suc k) n once e =
     let later : eqb n x ≡ false = ne_eqb n x (apart_by_has n x xs (slice_get-has xs k n e) once.0) in
-    rw later (next_in-place xs k n once.1 e)
+    rw later (next_in_list-place xs k n once.1 e)
 
 -- the same in a list of the table
-pub next_of-place : (t : Table) (l k n : ℕ) → IsApart t → slice_get (list_at t l) k ≡ Some n
-    → next_of t n ≡ slice_get (list_at t l) (suc k)
-next_of-place t l k n apart e =
-    ap (option_and_then (λ (m : ℕ). next_in (list_at t m) n))
+pub next_node-place : (t : NodeLists) (l k n : ℕ) → IsApart t → slice_get (list_at t l) k ≡ Some n
+    → next_node t n ≡ slice_get (list_at t l) (suc k)
+next_node-place t l k n apart e =
+    ap (option_and_then (λ (m : ℕ). next_in_list (list_at t m) n))
     (apart.alone l n (slice_get-has (list_at t l) k n e))
-    ∙ next_in-place (list_at t l) k n (apart.once l) e
+    ∙ next_in_list-place (list_at t l) k n (apart.once l) e
 
 -- a level stands before all that are below it
-pub all_below-more : (q : Queue) (t : Table) (p : ℕ) → 1 ≤ p
+pub all_below-more : (q : Queue) (t : NodeLists) (p : ℕ) → 1 ≤ p
     → all_below q t (suc p) ≡ level_of q t p ++ all_below q t p
 unfolding all_below
 all_below-more q t zero some = absurd (omega (arith, some))
 all_below-more q t (suc p) some = refl
 
 -- below level 1 is nobody
-pub all_below-none : (q : Queue) (t : Table) → all_below q t 1 ≡ []
+pub all_below-none : (q : Queue) (t : NodeLists) → all_below q t 1 ≡ []
 unfolding all_below
 all_below-none q t = refl
 
-module _ (q : Queue) (t : Table) (above list k : ℕ) (l : above < 99) (at : list ≡ list_for q (99 - above)) where
+module _ (q : Queue) (t : NodeLists) (above list k : ℕ) (l : above < 99) (at : list ≡ list_for q (99 - above)) where
   -- the levels that so many are above, the greatest first
   split : all_below q t (100 - above) ≡ level_of q t (99 - above) ++ all_below q t (99 - above)
   split = ap (all_below q t) (omega arith) ∙ all_below-more q t (99 - above) (omega arith)

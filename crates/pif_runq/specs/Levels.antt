@@ -2,8 +2,8 @@
 -- node table, in which each thread has a node.
 use Rattle.std.specs.Prelude.{◌≡◌, ℕ, zero, suc, ◌+◌, ◌-◌, ◌<◌, ◌≤◌, ◌↔◌, ◌&&◌, true, nat_eq, nat_lt, nat_le, if◌then◌else◌, List, [], ◌∷◌, ◌++◌, length, map, Option, Some, None, option_and_then}
 use Rattle.std.specs.Int.{bit_at}
-use Rattle.pif_nodes.specs.Lists.{has, first_of, without}
-use Rattle.pif_nodes.specs.Table.{Table, list_at, holder, IsApart}
+use Rattle.pif_nodes.specs.Lists.{has, first_of, list_without}
+use Rattle.pif_nodes.specs.Table.{NodeLists, list_at, holder, IsApart}
 
 -- where the levels and the threads of a queue stand in its table, and which levels have a thread
 pub record Queue : Type 0 where
@@ -37,11 +37,11 @@ abbrev pub IsThreadNode : Queue → ℕ → Type 0
 IsThreadNode q n = (q.first_node ≤ n) × (n < q.first_node + q.threads)
 
 -- the threads of a level, in the order in which they joined it
-abbrev pub level_of : Queue → Table → ℕ → List ℕ
+abbrev pub level_of : Queue → NodeLists → ℕ → List ℕ
 level_of q t p = map (thread_for q) (list_at t (list_for q p))
 
 -- the threads of the levels below n, those of the greatest first, and of each level in the order in which they joined it
-unfoldable pub all_below : Queue → Table → ℕ → List ℕ
+unfoldable pub all_below : Queue → NodeLists → ℕ → List ℕ
 all_below q t zero = []
 all_below q t (suc zero) = []
 all_below q t (suc (suc p)) = level_of q t (suc p) ++ all_below q t (suc p)
@@ -51,7 +51,7 @@ abbrev pub IsLevelList : Queue → ℕ → Type 0
 IsLevelList q l = (q.first_list ≤ l) × (l < q.first_list + 99)
 
 -- a queue stands in a table, and its mask says which of its levels have a thread
-pub record Holds (q : Queue) (t : Table) : Type 0 where
+pub record Holds (q : Queue) (t : NodeLists) : Type 0 where
   -- each node of the table is in at most one list, and once
   pub apart : IsApart t
   -- the lists of the levels are lists of the table
@@ -69,7 +69,7 @@ pub record Holds (q : Queue) (t : Table) : Type 0 where
 
 -- a queue with no thread may stand in a table that has the lists of its levels, all empty, and the nodes of its threads,
 -- which are in no list
-pub record HasRoom (q : Queue) (t : Table) : Type 0 where
+pub record HasRoom (q : Queue) (t : NodeLists) : Type 0 where
   pub apart : IsApart t
   pub lists : q.first_list + 99 ≤ length t.lists
   pub nodes : q.first_node + q.threads ≤ length t.keys
@@ -77,7 +77,7 @@ pub record HasRoom (q : Queue) (t : Table) : Type 0 where
   pub free : (n : ℕ) → IsThreadNode q n → holder t n ≡ None
 
 -- u is on some level
-abbrev pub IsQueued : Queue → Table → ℕ → Type 0
+abbrev pub IsQueued : Queue → NodeLists → ℕ → Type 0
 IsQueued q t u = (p : ℕ) × IsLevel p × (has u (level_of q t p) ≡ true)
 
 -- the level of a list; None where it is the list of no level
@@ -85,11 +85,11 @@ abbrev pub level_for : Queue → ℕ → Option ℕ
 level_for q l = if nat_le q.first_list l && nat_lt l (q.first_list + 99) then Some (l - q.first_list + 1) else None
 
 -- the level on which a thread is: that of the list in which its node is; None where it has no node, or is on no level
-abbrev pub level_with : Queue → Table → ℕ → Option ℕ
+abbrev pub level_with : Queue → NodeLists → ℕ → Option ℕ
 level_with q t u = if nat_le 1 u && nat_le u q.threads then option_and_then (level_for q) (holder t (node_for q u)) else None
 
 -- u is on level p: its node is in the list of that level
-pub record StandsOn (q : Queue) (t : Table) (u p : ℕ) : Type 0 where
+pub record IsOnLevel (q : Queue) (t : NodeLists) (u p : ℕ) : Type 0 where
   pub is_level : IsLevel p
   pub some : 1 ≤ u
   pub within : u ≤ q.threads
@@ -97,14 +97,14 @@ pub record StandsOn (q : Queue) (t : Table) (u p : ℕ) : Type 0 where
   pub held : holder t (node_for q u) ≡ Some (list_for q p)
 
 -- u is the first of the greatest level that has a thread: the one that SCHED_FIFO runs (sched(7))
-pub record IsFirstOfGreatest (q : Queue) (t : Table) (u : ℕ) : Type 0 where
+pub record IsFirstOfGreatest (q : Queue) (t : NodeLists) (u : ℕ) : Type 0 where
   pub level : ℕ
   pub is_level : IsLevel level
   pub first : first_of (level_of q t level) ≡ Some u
   pub greatest : (p : ℕ) → IsLevel p → level < p → level_of q t p ≡ []
 
 -- no level has a thread
-abbrev pub IsEmpty : Queue → Table → Type 0
+abbrev pub IsEmpty : Queue → NodeLists → Type 0
 IsEmpty q t = (p : ℕ) → IsLevel p → level_of q t p ≡ []
 
 -- the threads of level p once u joined the end of level `to`
@@ -114,10 +114,10 @@ level_after_add u to p ts = if nat_eq p to then ts ++ u ∷ [] else ts
 -- the threads of level p once u, which was on some level, is at level `to`: where that is its level it keeps its
 -- place, and else it joins the end (sched(7))
 abbrev pub level_after_move : ℕ → ℕ → ℕ → List ℕ → List ℕ
-level_after_move u to p ts = if nat_eq p to then (if has u ts then ts else ts ++ u ∷ []) else without u ts
+level_after_move u to p ts = if nat_eq p to then (if has u ts then ts else ts ++ u ∷ []) else list_without u ts
 
 -- all that is no level of the queue is as it was: the other lists, and all keys
-pub record SameOutside (q : Queue) (was now : Table) : Type 0 where
+pub record SameOutside (q : Queue) (was now : NodeLists) : Type 0 where
   pub before : (l : ℕ) → l < q.first_list → list_at now l ≡ list_at was l
   pub behind : (l : ℕ) → q.first_list + 99 ≤ l → list_at now l ≡ list_at was l
   pub count : length now.lists ≡ length was.lists
@@ -125,7 +125,7 @@ pub record SameOutside (q : Queue) (was now : Table) : Type 0 where
 
 -- what a queue needs of what others change in its table: its lists stay, the counts too, and no node of a thread that
 -- was in no list is put into one
-pub record KeepsQueue (q : Queue) (was now : Table) : Type 0 where
+pub record KeepsQueue (q : Queue) (was now : NodeLists) : Type 0 where
   pub lists : (l : ℕ) → IsLevelList q l → list_at now l ≡ list_at was l
   pub count : length now.lists ≡ length was.lists
   pub nodes : length now.keys ≡ length was.keys

@@ -1,9 +1,9 @@
 ghost use Rattle.std.specs.Prelude.{◌≡◌, ℕ, ◌+◌, ◌-◌, ◌<◌, ◌≤◌, ◌^◌, ◌↔◌, true, [], ◌∷◌, ◌++◌, length, nat_eq, if◌then◌else◌, IfNone, IfSome, IfOk, Some, None};
 ghost use Rattle.std.specs.Int.{bit_at};
 ghost use Rattle.std.specs.List.{slice_get};
-ghost use Rattle.pif_nodes.specs.Lists.{has, without};
-ghost use Rattle.pif_nodes.specs.Table.{Table, holder, list_at};
-ghost use Rattle.pif_runq.specs.Levels.{all_below, IsLevel, list_for, node_for, thread_for, IsThreadNode, level_of, level_with, HasRoom, Holds, IsQueued, StandsOn, IsFirstOfGreatest, IsEmpty, level_after_add, level_after_move, SameOutside};
+ghost use Rattle.pif_nodes.specs.Lists.{has, list_without};
+ghost use Rattle.pif_nodes.specs.Table.{NodeLists, holder, list_at};
+ghost use Rattle.pif_runq.specs.Levels.{all_below, IsLevel, list_for, node_for, thread_for, IsThreadNode, level_of, level_with, HasRoom, Holds, IsQueued, IsOnLevel, IsFirstOfGreatest, IsEmpty, level_after_add, level_after_move, SameOutside};
 ghost use Rattle.pif_runq.specs.Masks.{ChangesBit, IsGreatestBit};
 
 use crate::masks::{greatest_bit, with_bit, without_bit};
@@ -39,7 +39,7 @@ impl RunQueue {
         requires lists { first_list + 99 < 2 ^ 32 }
         requires nodes { first_node + threads < 2 ^ 32 }
         ensures made { result ≡ record { first_list = first_list; first_node = first_node; threads = threads; mask = 0 } }
-        ensures holds { (t : Table) → HasRoom result t → Holds result t }
+        ensures holds { (t : NodeLists) → HasRoom result t → Holds result t }
     {
         RunQueue {
             first_list,
@@ -74,7 +74,7 @@ impl RunQueue {
     pub fn take_out(&mut self, table: &mut NodeTable, t: Tid)
         requires holds { Holds self.old table.old }
         requires queued { IsQueued self.old table.old t }
-        ensures levels { (p : ℕ) → IsLevel p → level_of self.new table.new p ≡ without t (level_of self.old table.old p) }
+        ensures levels { (p : ℕ) → IsLevel p → level_of self.new table.new p ≡ list_without t (level_of self.old table.old p) }
         ensures outside { SameOutside self.old table.old table.new }
         ensures holders { (n : ℕ) → holder table.new n ≡ (if nat_eq n (node_for self.old t) then None else holder table.old n) }
         ensures place { self.new ≡ record self.old { mask = self.new.mask } }
@@ -146,7 +146,7 @@ impl RunQueue {
     fn level_on(&self, table: &NodeTable, t: Tid) -> u32
         requires holds { Holds self.now table.now }
         requires queued { IsQueued self.now table.now t }
-        ensures { StandsOn self.now table.now t result }
+        ensures { IsOnLevel self.now table.now t result }
     {
         let node = self.node_for(t);
         let list = table.list_of(node).unwrap();

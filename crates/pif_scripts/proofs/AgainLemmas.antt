@@ -23,7 +23,7 @@ use Rattle.pif_text.specs.declared.replies.Cause.{Cause}
 use Rattle.pif_text.specs.declared.replies.Reply.TheVariants as reply
 use Rattle.pif_text.specs.Commands.{command_in}
 use Rattle.pif_scripts.specs.declared.reading.ending.Ending.{Ending}
-use Rattle.pif_scripts.specs.Scripts.{Answered as AnsweredLine, Scan, start, byte_taken, line_answer, answered_by, answered_first, answered_later}
+use Rattle.pif_scripts.specs.Scripts.{Answered as AnsweredLine, Scan, start, byte_taken, line_answer, answer_to_line, answered_first, answered_later}
 use Rattle.pif_scripts.specs.Running.{Answer, addition_after, answer_line, answer_or_fault, are_limits, command_answer, default_limits, first_answer, limits_in, made_by, run_outcome, script}
 use Rattle.pif_scripts.specs.Traces.{IsHistory, trace, verdict}
 use Rattle.pif_scripts.specs.Transcripts.{SameAsTraced, addition_entries, call_entries, command_entries, cond_entries, entries_by, event_entry, first_limits, going_entries, line_entries, mutex_entries, run_entries, script_entries, script_limits, script_trace, thread_entries}
@@ -160,7 +160,7 @@ heard-line : (s : Scan Table) (t : Table) (v : List ℕ × Option Table) → s.l
     → (x : Answer) × (v.1 ≡ Some x.1) × ((es : List Entry) → IsHistory x.1 es → IsHistory t (line_entries s ++ es))
 unfolding line_entries
 heard-line s t v e a =
-    let meant = subst (λ l. answered_by script l s.version s.line ≡ Ok v) e a in
+    let meant = subst (λ l. answer_to_line script l s.version s.line ≡ Ok v) e a in
     elim (by_option (command_in s.line)) [
       | inl n ↦ absurd (err≢ok (sym (ap answered_later (line-no_command t s.line n)) ∙ meant))
       | inr c ↦
@@ -181,7 +181,7 @@ first-line : (s : Scan Table) (v : List ℕ × Option Table) (c : Command) (b : 
     → (x : Answer) × (v.1 ≡ Some x.1)
     × ((es : List Entry) → IsHistory x.1 es → IsHistory (new_table b) (line_entries s ++ es))
 first-line s v c b e a f g =
-    let meant = subst (λ l. answered_by script l s.version s.line ≡ Ok v) e a in
+    let meant = subst (λ l. answer_to_line script l s.version s.line ≡ Ok v) e a in
     let m = first-meant (first_answer c) v (sym (ap answered_first (first_line-answered s.line c f)) ∙ meant) in
     let entries = opened-entries s c b e f g in
     elim (first_answer-is c b g) [
@@ -269,7 +269,7 @@ first-history (y ∷ bs) s b e f =
         ]
         | inr u ↦ elim (byte-same s y r.0 r.1).1 [
           | inl w ↦
-              let meant = subst (λ l. answered_by script l s.version s.line ≡ Ok w.1) e w.2 in
+              let meant = subst (λ l. answer_to_line script l s.version s.line ≡ Ok w.1) e w.2 in
               let c = opened s.line w.1 meant in
               let named = sym (limits-ok s y bs r.0 (Some u.0) r.1 u.1) ∙ f in
               let same : c.1 ≡ b =

@@ -13,7 +13,7 @@ use Rattle.pif_text.specs.Traces.{version_in}
 use Rattle.pif_text.proofs.PlainTexts.{command-line}
 use Rattle.pif_text.proofs.ReadBack.{command_back}
 use Rattle.pif_scripts.specs.declared.reading.ending.Ending.TheVariants.{Fault}
-use Rattle.pif_scripts.specs.Scripts.{FirstMeaning, Meaning, Scan, answered_by, answered_first, answered_later, closed_at, ended_by, reading_of, start}
+use Rattle.pif_scripts.specs.Scripts.{FirstMeaning, Meaning, Scan, answer_to_line, answered_first, answered_later, closed_at, ended_by, reading_of, start}
 use Rattle.pif_scripts.specs.Running.{Answer, answer_line, answer_or_fault, command_answer, default_limits, first_answer, first_line_meaning, line_meaning, made_by, script}
 use Rattle.pif_scripts.specs.CommandLines.{HasNoFault, IsNoLimits, StandsAnywhere, command_line, script_lines}
 use Rattle.pif_scripts.proofs.SameAgainLemmas.{reading_of-line}
@@ -59,7 +59,7 @@ first_by o c a e g =
 
 -- so its line is answered, whoever hears it
 line_answered : (l : Option Table) (version : Option Version) (c : Command) → StandsAnywhere c
-    → (m : List ℕ × Option Table) × (answered_by script l version (command_text c) ≡ Ok m)
+    → (m : List ℕ × Option Table) × (answer_to_line script l version (command_text c) ≡ Ok m)
 unfolding first_line_meaning line_meaning
 line_answered None version c h =
     let a = answered c (new_table default_limits) h.0 in

@@ -12,7 +12,7 @@ use Rattle.pif_scripts.specs.declared.faults.CliFault.TheVariants as fault
 use Rattle.pif_scripts.specs.declared.reading.ending.Ending.{Ending}
 use Rattle.pif_scripts.specs.declared.reading.ending.Ending.TheVariants.{Fault, Differs}
 use Rattle.pif_scripts.specs.declared.reading.ending.End.{End}
-use Rattle.pif_scripts.specs.Scripts.{Hearing, FirstMeaning, Meaning, Answered, Scan, start, byte_taken, reading_of, line_answer, answered_by, answered_first, answered_later, after_line, end_at, with_byte, at_end, ended_by}
+use Rattle.pif_scripts.specs.Scripts.{Hearing, FirstMeaning, Meaning, Answered, Scan, start, byte_taken, reading_of, line_answer, answer_to_line, answered_first, answered_later, after_line, end_at, with_byte, at_end, ended_by}
 use Rattle.pif_scripts.specs.Runs.{RunsFrom}
 use Rattle.pif_scripts.specs.Running.{Answer, RunsTo, script, first_line_meaning, line_meaning, first_answer, answer_or_fault, command_answer, answer_line, made_by}
 use Rattle.pif_scripts.proofs.ScriptLemmas.{by_cases, reading_of-nil, reading_of-ok, reading_of-err}
@@ -36,7 +36,7 @@ module _ {S : Type 0} (hearing : Hearing S)
   later-fault (Ok m) e p = cc
   later-fault (Err x) e p = let q : x ≡ e = cc in ap Err q
 
-  answered-fault : (l : Option S) (version : Option Version) (line : List ℕ) (e : Ending) → answered_by hearing l version line ≡ Err e
+  answered-fault : (l : Option S) (version : Option Version) (line : List ℕ) (e : Ending) → answer_to_line hearing l version line ≡ Err e
       → IsFault e
   answered-fault None version line e p = first version line e (first-fault (hearing.first_meaning version line) e p)
   answered-fault (Some l) version line e p = later l line e (later-fault (hearing.meaning l line) e p)

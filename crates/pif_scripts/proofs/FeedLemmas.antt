@@ -7,7 +7,7 @@ use Rattle.pif_scripts.specs.declared.faults.CliFault.TheVariants.{Read, Write, 
 use Rattle.pif_scripts.specs.declared.reading.ending.End.{End}
 use Rattle.pif_scripts.specs.Scripts.{Hearing, Scan, reading_of, Takes, TakesSome}
 use Rattle.pif_scripts.specs.declared.reading.ending.Stop.TheVariants.{Ended, NoMemory as StopNoMemory}
-use Rattle.pif_scripts.specs.Runs.{EndsAfter, Feeds, Flushes, RunsFrom, Turns, Stops, Writes, WritesPart, output_of}
+use Rattle.pif_scripts.specs.Runs.{EndsAfter, Feeds, Flushes, RunsFrom, RunsPart, Stops, Writes, WritesPart, output_of}
 use Rattle.pif_scripts.proofs.ScriptLemmas.{reading_of-append, reading_of-err, reading_of-nil, reading_of-ok, reading_of-unheard}
 use Rattle.pif_scripts.proofs.RunLemmas.{Appends-kept_before, EndsAfter-stopped, Stops-after, Writes-more, output_of-append}
 
@@ -183,9 +183,9 @@ module _ {S : Type 0} (hearing : Hearing S) where
       )
 
   -- a chunk was fed
-  pub Turns-fed : (s t : Scan S) (read : List ℕ) (a b h k : Option (List ℕ)) (x : Unit {0}) → Consumes a b read
-      → Feeds hearing s read t h k (Ok x) → Turns hearing s t a b h k (Ok true)
-  Turns-fed s t read a b h k x p f = (read, p, f.0, f.1)
+  pub RunsPart-fed : (s t : Scan S) (read : List ℕ) (a b h k : Option (List ℕ)) (x : Unit {0}) → Consumes a b read
+      → Feeds hearing s read t h k (Ok x) → RunsPart hearing s t a b h k (Ok true)
+  RunsPart-fed s t read a b h k x p f = (read, p, f.0, f.1)
 
   -- and ended the run
   pub RunsFrom-fed : (s t : Scan S) (read : List ℕ) (a b h k : Option (List ℕ)) (e : CliFault) → Consumes a b read

@@ -27,7 +27,7 @@ use Rattle.pif_scripts.specs.declared.reading.ending.Ending.{Ending}
 use Rattle.pif_scripts.specs.declared.reading.ending.Ending.TheVariants.{Fault, Differs}
 use Rattle.pif_scripts.specs.declared.reading.ending.End.{End}
 use Rattle.pif_scripts.specs.declared.reading.ending.Stop.TheVariants.{Ended}
-use Rattle.pif_scripts.specs.Scripts.{Hearing, FirstMeaning, Meaning, Answered, Scan, start, byte_taken, reading_of, line_answer, answered_by, answered_first, answered_later, after_line, version_after, end_at, with_byte, at_end, closed_at, ended_by, Takes, Tells}
+use Rattle.pif_scripts.specs.Scripts.{Hearing, FirstMeaning, Meaning, Answered, Scan, start, byte_taken, reading_of, line_answer, answer_to_line, answered_first, answered_later, after_line, version_after, end_at, with_byte, at_end, closed_at, ended_by, Takes, Tells}
 use Rattle.pif_scripts.specs.Runs.{Stops, Writes, WritesPart, end_line, last_text}
 use Rattle.pif_scripts.specs.Running.{Answer, answer_or_fault, command_answer, first_answer, made_by}
 use Rattle.pif_scripts.specs.Traces.{Replay, comparison, header_meaning, opening_meaning, second_line_meaning, traced_in, traced_meaning, trace_hearing, trace_end, verdict}
@@ -248,10 +248,10 @@ second_line-alike line m e =
 
 -- a line behind the header that has its form
 answered-alike : (c : Option Table) (line : List ℕ) (m : List ℕ × Option Version)
-    → answered_by forming (option_map (λ s. One) c) (Some One) line ≡ Ok m
+    → answer_to_line forming (option_map (λ s. One) c) (Some One) line ≡ Ok m
     → (m ≡ ([], Some One))
-    × Alike (answered_by trace_hearing (option_map (λ s. record { version = One; core = s }) c) (Some One) line)
-    (answered_by trace_hearing (option_map (λ s. record { version = Two; core = s }) c) (Some Two) line)
+    × Alike (answer_to_line trace_hearing (option_map (λ s. record { version = One; core = s }) c) (Some One) line)
+    (answer_to_line trace_hearing (option_map (λ s. record { version = Two; core = s }) c) (Some Two) line)
 answered-alike None line m e = second_line-alike line m e
 answered-alike (Some s) line m e = line-alike s line m e
 

@@ -9,7 +9,7 @@ use Rattle.pif_scripts.specs.declared.faults.CliFault.{CliFault}
 use Rattle.pif_scripts.specs.declared.faults.CliFault.TheVariants.{Read, Write, NoMemory, Script, Differs}
 use Rattle.pif_scripts.specs.declared.reading.ending.End.{End}
 use Rattle.pif_scripts.specs.Scripts.{Hearing, Scan, reading_of, ended_by, closed_at}
-use Rattle.pif_scripts.specs.Runs.{WritesPart, last_text, output_of, EndsAfter, RunsFrom, Turns, Closes, Stops, Writes}
+use Rattle.pif_scripts.specs.Runs.{WritesPart, last_text, output_of, EndsAfter, RunsFrom, RunsPart, WritesEnd, Stops, Writes}
 use Rattle.pif_scripts.proofs.ScriptLemmas.{reading_of-append, reading_of-unheard, reading_of-nil}
 
 pub Appends-kept_before : (a b c : Option (List ℕ)) (bs : List ℕ) → Appends a b [] → Keeps b c → Keeps a c
@@ -187,7 +187,7 @@ module _ {S : Type 0} (hearing : Hearing S) where
 
   closes-by : (s : Scan S) (a b h k : Option (List ℕ)) (told : Result (List ℕ) End) (result : Result Bool CliFault)
       → closed_at hearing s ≡ told
-      → Consumes a b [] → IsAtEnd b → Closes h k hearing.said_of told result → Turns hearing s s a b h k result
+      → Consumes a b [] → IsAtEnd b → WritesEnd h k hearing.said_of told result → RunsPart hearing s s a b h k result
   closes-by s a b h k (Ok text) (Ok true) e p end w = absurd (false≢true (sym w.0))
   closes-by s a b h k (Ok text) (Ok false) e p end w =
       let n = reading_of-nil hearing s in
@@ -207,7 +207,7 @@ module _ {S : Type 0} (hearing : Hearing S) where
       ([], p, stops s [] b h k x y (ap (ended_by hearing) n.1 ∙ e) (λ _. end) (rw n.0 w))
 
   -- the input ended
-  pub Turns-closed : (s : Scan S) (a b h k : Option (List ℕ)) (result : Result Bool CliFault) → Consumes a b []
+  pub RunsPart-closed : (s : Scan S) (a b h k : Option (List ℕ)) (result : Result Bool CliFault) → Consumes a b []
       → IsAtEnd b
-      → Closes h k hearing.said_of (closed_at hearing s) result → Turns hearing s s a b h k result
-  Turns-closed s a b h k result p end w = closes-by s a b h k (closed_at hearing s) result refl p end w
+      → WritesEnd h k hearing.said_of (closed_at hearing s) result → RunsPart hearing s s a b h k result
+  RunsPart-closed s a b h k result p end w = closes-by s a b h k (closed_at hearing s) result refl p end w

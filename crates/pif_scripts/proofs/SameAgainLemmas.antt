@@ -29,7 +29,7 @@ use Rattle.pif_text.proofs.PlainTexts.{IsLine, recorded-line, recorded-parts}
 use Rattle.pif_text.proofs.ReadBack.{command_back}
 use Rattle.pif_text.specs.declared.replies.Cause.TheVariants.{Command as NoCommand}
 use Rattle.pif_scripts.specs.declared.reading.ending.Ending.TheVariants.{Fault, Differs}
-use Rattle.pif_scripts.specs.Scripts.{Hearing, FirstMeaning, Meaning, Scan, reading_of, answered_by, answered_first, answered_later, after_line, with_byte, closed_at, ended_by}
+use Rattle.pif_scripts.specs.Scripts.{Hearing, FirstMeaning, Meaning, Scan, reading_of, answer_to_line, answered_first, answered_later, after_line, with_byte, closed_at, ended_by}
 use Rattle.pif_scripts.specs.Runs.{end_line, last_text}
 use Rattle.pif_types.specs.declared.requests.Kind.{Kind}
 use Rattle.pif_scripts.specs.Running.{Answer, answer_or_fault, command_answer, first_answer, limits_in, are_limits, made_by, addition_answer, addition_after}
@@ -63,7 +63,7 @@ module _ {S : Type 0} (hearing : Hearing S) where
   pub reading_of-line : (bytes rest : List ℕ) (l : Option S) (version next : Option Version) (number taken : ℕ)
       (m : List ℕ × Option S) → IsLine bytes
       → taken + length bytes < 16777216
-      → answered_by hearing l version bytes ≡ Ok m → (if number == 1 then version_in bytes else version) ≡ next
+      → answer_to_line hearing l version bytes ≡ Ok m → (if number == 1 then version_in bytes else version) ≡ next
       → (reading_of hearing (record { listener = l; version = version; line = []; number = number; taken = taken })
       ((bytes ++ 10 ∷ []) ++ rest)).stands
       ≡ (reading_of hearing (record {
@@ -133,7 +133,7 @@ later_by o c r s after e g =
 
 heard_back : (c : Command) (r : Reply) (s after : Table) (version : Option Version) → IsWritten c
     → if_traced Two c ≡ Some c → command_answer c s ≡ Some (r, after)
-    → answered_by trace_hearing (Some (held_to s)) version (command_text c ++ recorded r)
+    → answer_to_line trace_hearing (Some (held_to s)) version (command_text c ++ recorded r)
     ≡ Ok ([], Some (held_to after))
 unfolding traced_meaning
 heard_back c r s after version p e o =
@@ -155,7 +155,7 @@ first_by o c r after e g =
 abbrev Heard : Table → List ℕ → List Entry → Type 0
 Heard s line es =
     (after : Table) × ((version : Option Version)
-    → answered_by trace_hearing (Some (held_to s)) version line ≡ Ok ([], Some (held_to after)))
+    → answer_to_line trace_hearing (Some (held_to s)) version line ≡ Ok ([], Some (held_to after)))
     × IsLine line × IsHistory after es
 
 written_back : (c : Command) (r : Reply) (s after : Table) (es : List Entry) → IsWritten c → IsTraced r
@@ -250,7 +250,7 @@ unfolding first_answer limits_in
 first_limits b w = rw (are_limits_within b w) refl
 
 limits_back : (b : Bounds) → IsWithin b
-    → answered_by trace_hearing None (Some Two) (limits_text b) ≡ Ok ([], Some (held_to (new_table b)))
+    → answer_to_line trace_hearing None (Some Two) (limits_text b) ≡ Ok ([], Some (held_to (new_table b)))
 unfolding second_line_meaning
 limits_back b w =
     let c = command.Limits b.threads b.mutexes b.conds b.signals in
@@ -261,7 +261,7 @@ header_named : version_in (header_text Two) ≡ Some Two
 unfolding version_in
 header_named = refl
 
-header_back : answered_by trace_hearing None None (header_text Two) ≡ Ok ([], None)
+header_back : answer_to_line trace_hearing None None (header_text Two) ≡ Ok ([], None)
 header_back = ap (λ o. answered_first (header_meaning {S = Replay} o)) header_named
 
 closed_back : (v : Scan Replay) (n : ℕ) → v.line ≡ [] → v.number ≡ 3 + n

@@ -7,7 +7,7 @@ use Rattle.pif_scripts.specs.declared.reading.ending.Ending.TheVariants.{Fault}
 use Rattle.pif_scripts.specs.declared.reading.ending.End.{End}
 use Rattle.pif_scripts.specs.declared.reading.ending.Stop.{Stop}
 use Rattle.pif_scripts.specs.declared.reading.ending.Stop.TheVariants.{Ended, NoMemory}
-use Rattle.pif_scripts.specs.Scripts.{Hearing, FirstMeaning, Meaning, Answered, Scan, byte_taken, reading_of, line_answer, answered_by, answered_first, answered_later, after_line, version_after, end_at, with_byte, Takes, Answers}
+use Rattle.pif_scripts.specs.Scripts.{Hearing, FirstMeaning, Meaning, Answered, Scan, byte_taken, reading_of, line_answer, answer_to_line, answered_first, answered_later, after_line, version_after, end_at, with_byte, Takes, Answers}
 
 -- an outcome is one of the two
 pub by_cases : {A E : Type 0} (r : Result A E) → ((x : A) × (r ≡ Ok x)) ⊎ ((e : E) × (r ≡ Err e))
@@ -51,7 +51,7 @@ module _ {S : Type 0} (hearing : Hearing S) where
   later-heard (Err c) r e n = cc
 
   answered-unheard : (l : Option S) (version : Option Version) (line : List ℕ) (r : List ℕ × Option S)
-      → answered_by hearing l version line ≡ Ok r → r.1 ≡ None
+      → answer_to_line hearing l version line ≡ Ok r → r.1 ≡ None
       → (l ≡ None) × (r.0 ≡ [])
   answered-unheard None version line r e n = (refl, first-unheard (hearing.first_meaning version line) r e n)
   answered-unheard (Some l) version line r e n = absurd (later-heard (hearing.meaning l line) r e n)

@@ -12,7 +12,7 @@ use Rattle.pif_scripts.specs.declared.faults.CliFault.{CliFault}
 use Rattle.pif_scripts.specs.declared.faults.CliFault.TheVariants as fault
 use Rattle.pif_scripts.specs.declared.reading.ending.Ending.TheVariants.{Fault, Differs}
 use Rattle.pif_scripts.specs.declared.reading.ending.End.{End}
-use Rattle.pif_scripts.specs.Scripts.{Hearing, FirstMeaning, Meaning, Answered, Scan, start, byte_taken, reading_of, line_answer, answered_by, answered_first, answered_later, after_line, version_after, with_byte}
+use Rattle.pif_scripts.specs.Scripts.{Hearing, FirstMeaning, Meaning, Answered, Scan, start, byte_taken, reading_of, line_answer, answer_to_line, answered_first, answered_later, after_line, version_after, with_byte}
 use Rattle.pif_scripts.specs.Runs.{RunsFrom, WritesPart}
 use Rattle.pif_scripts.specs.Running.{Answer, first_answer, answer_or_fault, command_answer, made_by}
 use Rattle.pif_scripts.specs.Traces.{Replay, comparison, header_meaning, opening_meaning, second_line_meaning, traced_meaning, traced_in, trace_hearing, trace_end, verdict, ReplaysTo}
@@ -38,7 +38,7 @@ module _ {S : Type 0} (hearing : Hearing S)
   later-silent (Err e) m u p = cc
 
   answered-silent : (l : Option S) (version : Option Version) (line : List ℕ) (m : List ℕ × Option S)
-      → answered_by hearing l version line ≡ Ok m → m.0 ≡ []
+      → answer_to_line hearing l version line ≡ Ok m → m.0 ≡ []
   answered-silent None version line m p = first-silent (hearing.first_meaning version line) m (first version line) p
   answered-silent (Some l) version line m p = later-silent (hearing.meaning l line) m (later l line) p
 

@@ -15,7 +15,7 @@ use Rattle.pif_scripts.specs.declared.faults.CliFault.TheVariants as fault
 use Rattle.pif_scripts.specs.declared.reading.ending.Ending.{Ending}
 use Rattle.pif_scripts.specs.declared.reading.ending.Ending.TheVariants.{Fault, Differs}
 use Rattle.pif_scripts.specs.declared.reading.ending.End.{End}
-use Rattle.pif_scripts.specs.Scripts.{FirstMeaning, Meaning, Answered, Scan, start, byte_taken, reading_of, line_answer, answered_by, answered_first, answered_later, after_line, version_after, with_byte, end_at, ended_by, at_end, Opens, Hears, NeedsListener, NeedsIn}
+use Rattle.pif_scripts.specs.Scripts.{FirstMeaning, Meaning, Answered, Scan, start, byte_taken, reading_of, line_answer, answer_to_line, answered_first, answered_later, after_line, version_after, with_byte, end_at, ended_by, at_end, Opens, Hears, NeedsListener, NeedsIn}
 use Rattle.pif_scripts.specs.Runs.{RunsFrom, WritesPart, last_text}
 use Rattle.pif_scripts.specs.Running.{answer_line, answer_or_fault, command_answer, first_answer, first_line_meaning, line_meaning, made_by, script}
 use Rattle.pif_scripts.specs.Traces.{entry_line, front_lines, trace}
@@ -153,8 +153,8 @@ later-same text (Ok y) m e =
 later-same text (Err x) m e = (cc, cc)
 
 pub answered-same : (l : Option Table) (version : Option Version) (line : List ℕ) (m : List ℕ × Option Table)
-    → answered_by script l version line ≡ Ok m
-    → (answered_by transcript l version line ≡ Ok (line_lines l line, m.1)) × (m.1 ≡ None → ⊥)
+    → answer_to_line script l version line ≡ Ok m
+    → (answer_to_line transcript l version line ≡ Ok (line_lines l line, m.1)) × (m.1 ≡ None → ⊥)
 answered-same None version line m e =
     first-same (first_line_lines line) (first_line_meaning line) m (first_line-heard line) e
 answered-same (Some s) version line m e = later-same (later_line_lines s line) (line_meaning s line) m e
@@ -171,7 +171,7 @@ later-ends text (Ok y) f e = cc
 later-ends text (Err x) f e = e
 
 answered-ends : (l : Option Table) (version : Option Version) (line : List ℕ) (f : Ending)
-    → answered_by script l version line ≡ Err f → answered_by transcript l version line ≡ Err f
+    → answer_to_line script l version line ≡ Err f → answer_to_line transcript l version line ≡ Err f
 answered-ends None version line f e = first-ends (first_line_lines line) (first_line_meaning line) f e
 answered-ends (Some s) version line f e = later-ends (later_line_lines s line) (line_meaning s line) f e
 
@@ -422,7 +422,7 @@ heard-made bs s b r t e f n =
     elim same.1 [
       | inl w ↦
           let two = reading_of-ok transcript s b bs _ same.0 in
-          let meant = subst (λ l. answered_by script l s.version s.line ≡ Ok w.1) f w.2 in
+          let meant = subst (λ l. answer_to_line script l s.version s.line ≡ Ok w.1) f w.2 in
           let c = opened s.line w.1 meant in
           two.0 ∙ ap (λ l. cond (b == 10) (line_lines s.listener s.line) [] ++ l) (text-later bs r.1 t n)
           ∙ opened-text s c.0 c.1 (script_entries r.1 bs) (b == 10) w.0 f c.2 c.3

@@ -76,13 +76,13 @@ RunsFrom h s before after held holds result =
     (read : List ℕ) × Consumes before after read × EndsAfter h s read after held holds result
 
 -- a part of a run, which leaves the script at t and goes on where the answer is true
-abbrev pub Turns : {S : Type 0} → Hearing S → (s t : Scan S) → (before after held holds : Option (List ℕ))
+abbrev pub RunsPart : {S : Type 0} → Hearing S → (s t : Scan S) → (before after held holds : Option (List ℕ))
     → Result Bool CliFault → Type 0
-Turns h s t before after held holds (Ok true) =
+RunsPart h s t before after held holds (Ok true) =
     (read : List ℕ) × Consumes before after read × ((reading_of h s read).stands ≡ Ok t)
     × Appends held holds (reading_of h s read).text
-Turns h s t before after held holds (Ok false) = RunsFrom h s before after held holds (Ok tt)
-Turns h s t before after held holds (Err e) = RunsFrom h s before after held holds (Err e)
+RunsPart h s t before after held holds (Ok false) = RunsFrom h s before after held holds (Ok tt)
+RunsPart h s t before after held holds (Err e) = RunsFrom h s before after held holds (Err e)
 
 -- bytes that were read from where the script stood at s, and left it at t: what their lines are answered was written; or
 -- they ended the run
@@ -108,9 +108,9 @@ Stops held holds text said e Read = ⊥
 Stops held holds text said e NoMemory = ⊥
 
 -- what such an end prints was written, or a proper part of it, and nothing is left to do
-abbrev pub Closes : (held holds : Option (List ℕ)) → (End → List ℕ) → Result (List ℕ) End → Result Bool CliFault
+abbrev pub WritesEnd : (held holds : Option (List ℕ)) → (End → List ℕ) → Result (List ℕ) End → Result Bool CliFault
     → Type 0
-Closes held holds said (Ok text) (Ok more) = (more ≡ false) × Appends held holds text
-Closes held holds said (Ok text) (Err e) = Writes held holds text (Err e)
-Closes held holds said (Err e) (Ok more) = ⊥
-Closes held holds said (Err e) (Err f) = Stops held holds [] (said e) e f
+WritesEnd held holds said (Ok text) (Ok more) = (more ≡ false) × Appends held holds text
+WritesEnd held holds said (Ok text) (Err e) = Writes held holds text (Err e)
+WritesEnd held holds said (Err e) (Ok more) = ⊥
+WritesEnd held holds said (Err e) (Err f) = Stops held holds [] (said e) e f

@@ -97,13 +97,13 @@ answered_later (Ok m) = Ok (m.0, Some m.1)
 answered_later (Err e) = Err e
 
 -- what the line so far is answered by this listener, or by nobody
-abbrev pub answered_by : {S : Type 0} → Hearing S → Option S → Option Version → (line : List ℕ) → Answered S
-answered_by h None version line = answered_first (h.first_meaning version line)
-answered_by h (Some l) version line = answered_later (h.meaning l line)
+abbrev pub answer_to_line : {S : Type 0} → Hearing S → Option S → Option Version → (line : List ℕ) → Answered S
+answer_to_line h None version line = answered_first (h.first_meaning version line)
+answer_to_line h (Some l) version line = answered_later (h.meaning l line)
 
 -- what the line is answered at which the script stands
 abbrev pub line_answer : {S : Type 0} → Hearing S → Scan S → Answered S
-line_answer h s = answered_by h s.listener s.version s.line
+line_answer h s = answer_to_line h s.listener s.version s.line
 
 -- the version that the first line names, once it has ended
 abbrev pub version_after : {S : Type 0} → Scan S → Option Version
@@ -156,9 +156,9 @@ ended_by h (Ok s) = closed_at h s
 abbrev pub Answers : {S : Type 0} → Hearing S → Option S → Option Version → (line : List ℕ) → ℕ → (old new : List ℕ)
     → Option S → Result (Unit {0}) Stop → Type 0
 Answers h l version line number old new m (Ok x) =
-    (text : List ℕ) × (answered_by h l version line ≡ Ok (text, m)) × (new ≡ old ++ text)
+    (text : List ℕ) × (answer_to_line h l version line ≡ Ok (text, m)) × (new ≡ old ++ text)
 Answers h l version line number old new m (Err (StopEnded e)) =
-    (answered_by h l version line ≡ Err e.ending) × (e.line ≡ number) × (new ≡ old)
+    (answer_to_line h l version line ≡ Err e.ending) × (e.line ≡ number) × (new ≡ old)
 Answers h l version line number old new m (Err StopNoMemory) =
     (l ≡ None) × NeedsListener (h.first_meaning version line) × (new ≡ old)
 

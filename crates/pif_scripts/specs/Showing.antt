@@ -10,13 +10,13 @@ use Rattle.pif_scripts.specs.Running.{Answer, RunsTo, command_answer}
 use Rattle.pif_scripts.specs.Scripts.{Scan}
 
 -- a core behind an answer, or as it was if there is none
-abbrev pub state_of : Option Answer → Table → Table
-state_of (Some answer) s = answer.1
-state_of None s = s
+abbrev pub state_behind_answer : Option Answer → Table → Table
+state_behind_answer (Some answer) s = answer.1
+state_behind_answer None s = s
 
 -- a core behind a command, if there is one
 abbrev pub state_behind : Option Command → Table → Table
-state_behind (Some command) s = state_of (command_answer command s) s
+state_behind (Some command) s = state_behind_answer (command_answer command s) s
 state_behind None s = s
 
 -- how something ended, whatever it answers

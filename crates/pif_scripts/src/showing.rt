@@ -4,7 +4,7 @@ ghost use Rattle.arrayvec.specs.ArrayVec.{array_vec_len};
 ghost use Rattle.pif_show.specs.Extends.{Stays};
 ghost use Rattle.pif_scripts.specs.Scripts.{closed_at};
 ghost use Rattle.pif_scripts.specs.Running.{script};
-ghost use Rattle.pif_scripts.specs.Runs.{Closes, Feeds, Stops, Turns};
+ghost use Rattle.pif_scripts.specs.Runs.{WritesEnd, Feeds, Stops, RunsPart};
 ghost use Rattle.pif_scripts.specs.Scanners.{scan_of};
 ghost use Rattle.pif_scripts.specs.Showing.{OrUnwritten, ShowsTo, Silent};
 
@@ -107,7 +107,7 @@ fn turn<R: Read, W: Write>(
     writer: &mut W,
     notice: &mut Notice,
 ) -> Result<bool, CliFault>
-    ensures answer { OrUnwritten (Turns script (scan_of scanner.old) (scan_of scanner.new) (R.remaining reader.old) (R.remaining reader.new) None None) result }
+    ensures answer { OrUnwritten (RunsPart script (scan_of scanner.old) (scan_of scanner.new) (R.remaining reader.old) (R.remaining reader.new) None None) result }
     ensures stays { Stays (W.contents writer.old) (W.contents writer.new) }
     ensures silent { Silent (scan_of scanner.old) (scan_of scanner.new) (W.contents writer.old) (W.contents writer.new) result }
     ensures taken { result ≡ Ok true → scanner.old.taken < scanner.new.taken }
@@ -254,7 +254,7 @@ fn close<W: Write>(
     writer: &mut W,
     notice: &mut Notice,
 ) -> Result<bool, CliFault>
-    ensures answer { OrUnwritten (Closes None None script.said_of (closed_at script (scan_of scanner.now))) result }
+    ensures answer { OrUnwritten (WritesEnd None None script.said_of (closed_at script (scan_of scanner.now))) result }
     ensures stays { Stays (W.contents writer.old) (W.contents writer.new) }
     ensures silent { Silent (scan_of scanner.now) (scan_of scanner.now) (W.contents writer.old) (W.contents writer.new) result }
 {

@@ -20,7 +20,7 @@ use Rattle.pif_text.proofs.ReadBack.{command_back}
 use Rattle.pif_scripts.specs.declared.reading.ending.Ending.TheVariants.{Fault}
 use Rattle.pif_scripts.specs.CommandLines.{command_line, script_lines}
 use Rattle.pif_scripts.specs.Running.{Answer, answer_line, answer_or_fault, command_answer, first_answer, first_line_meaning, line_meaning, made_by, script}
-use Rattle.pif_scripts.specs.Scripts.{FirstMeaning, Hearing, Meaning, Scan, after_line, answered_by, answered_first, answered_later, closed_at, ended_by, reading_of, start, with_byte}
+use Rattle.pif_scripts.specs.Scripts.{FirstMeaning, Hearing, Meaning, Scan, after_line, answer_to_line, answered_first, answered_later, closed_at, ended_by, reading_of, start, with_byte}
 use Rattle.pif_scripts.specs.Transcripts.{script_end}
 use Rattle.pif_scripts.proofs.SameAgainLemmas.{reading_of-line}
 use Rattle.pif_scripts.proofs.ScriptLemmas.{byte_taken-byte, byte_taken-end, reading_of-append, reading_of-nil, reading_of-ok}
@@ -50,7 +50,7 @@ first_by o c a e g =
 
 line_answered : (l : Option Table) (version : Option Version) (c : Command) (a : Answer) → IsWritten c
     → answer_by l c ≡ Ok a
-    → answered_by script l version (command_text c) ≡ Ok (text_of a.0 ++ 10 ∷ [], Some a.1)
+    → answer_to_line script l version (command_text c) ≡ Ok (text_of a.0 ++ 10 ∷ [], Some a.1)
 unfolding first_line_meaning line_meaning
 line_answered None version c a w e = ap answered_first (first_by (command_in (command_text c)) c a (command_back c w) e)
 line_answered (Some s) version c a w e =
@@ -59,10 +59,10 @@ line_answered (Some s) version c a w e =
 -- what is told of the bytes of a line up to its end
 line_text : {S : Type 0} (hearing : Hearing S) (bytes : List ℕ) (s : Scan S) (m : List ℕ × Option S)
     → lacks 10 bytes ≡ true → length s.line + length bytes ≤ 120 → s.taken + length bytes < 16777216
-    → answered_by hearing s.listener s.version (s.line ++ bytes) ≡ Ok m
+    → answer_to_line hearing s.listener s.version (s.line ++ bytes) ≡ Ok m
     → (reading_of hearing s (bytes ++ 10 ∷ [])).text ≡ m.0
 line_text hearing [] s m e short small a =
-    let here = ap (λ l. answered_by hearing s.listener s.version l) (sym (append-nil s.line)) ∙ a in
+    let here = ap (λ l. answer_to_line hearing s.listener s.version l) (sym (append-nil s.line)) ∙ a in
     let one = reading_of-ok hearing s 10 [] _ (byte_taken-end hearing s 10 (omega arith) refl ∙ ap (after_line s) here) in
     one.0 ∙ ap (λ l. m.0 ++ l) (reading_of-nil hearing _).0 ∙ append-nil m.0
 line_text hearing (b ∷ bs) s m e short small a =
@@ -71,7 +71,7 @@ line_text hearing (b ∷ bs) s m e short small a =
     let one = reading_of-ok hearing s b (bs ++ 10 ∷ []) ([], with_byte s b)
     (byte_taken-byte hearing s b (omega arith) other (omega arith)) in
     one.0 ∙ line_text hearing bs (with_byte s b) m t.1 (omega (arith, length-append s.line (b ∷ []))) (omega arith)
-    (ap (λ l. answered_by hearing s.listener s.version l) (append_assoc s.line (b ∷ []) bs) ∙ a)
+    (ap (λ l. answer_to_line hearing s.listener s.version l) (append_assoc s.line (b ∷ []) bs) ∙ a)
 
 -- ---- all lines
 
@@ -146,7 +146,7 @@ answers_as_runs cs core c a played more e =
     let m : List ℕ × Option Table = (text_of a.0 ++ 10 ∷ [], Some a.1) in
     let one = command-line c last in
     let empty : length s.line ≡ 0 = ap length all.2 in
-    let heard_by : answered_by script s.listener s.version (s.line ++ command_text c) ≡ Ok m =
+    let heard_by : answer_to_line script s.listener s.version (s.line ++ command_text c) ≡ Ok m =
     rw (all.2, all.3) (line_answered core s.version c a last e) in
     let told = line_text script (command_text c) s m one.no_end (omega (arith, one.short)) (omega (arith, one.short, all.4))
     heard_by in

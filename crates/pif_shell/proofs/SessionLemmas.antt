@@ -10,7 +10,7 @@ use Rattle.pif_scripts.specs.Running.{Answer}
 use Rattle.pif_stories.specs.Checks.{TellsTo, filled}
 use Rattle.pif_text.specs.declared.replies.Reply.{Reply}
 use Rattle.pif_shell.specs.declared.sessions.Unplayed.{Unplayed}
-use Rattle.pif_shell.specs.Sessions.{Answers, IsPlayed, Leaves, PlaysParts, answer_by}
+use Rattle.pif_shell.specs.Sessions.{AnswersCommand, IsPlayed, Leaves, PlaysParts, answer_by}
 
 -- a command behind those that left a core
 Leaves-more : (cs : List Command) (c : Command) (l left : Option Table) (a : Answer) → Leaves l cs left
@@ -73,7 +73,7 @@ played_after c old was new left (Err why) k w p = rw (p.1, p.2) k
 
 -- one command more was played again
 pub replayed_next : (cs : List Command) (n : ℕ) (d : Command) (old new : Option Table) (reply : Reply) → n < length cs
-    → d ≡ get_or cs n d → Leaves None (take n cs) old → Answers d old new (Ok reply)
+    → d ≡ get_or cs n d → Leaves None (take n cs) old → AnswersCommand d old new (Ok reply)
     → Leaves None (take (n + 1) cs) new
 replayed_next cs n d old new reply h same k p =
     subst (λ s. Leaves None (take (n + 1) cs) s) (sym p.2) (leaves_next cs n d old (reply, p.0) h same k p.1)

@@ -20,9 +20,9 @@ IsBehindNumber number name =
     ⊎ ((errno : Errno) × (number_of errno ≡ number) × (name ≡ 32 ∷ errno_name errno))
 
 -- the same; nothing stands where there is no number
-abbrev pub IsBehind : Option ℕ → List ℕ → Type 0
-IsBehind (Some number) name = IsBehindNumber number name
-IsBehind None name = name ≡ []
+abbrev pub IsBehindAnswer : Option ℕ → List ℕ → Type 0
+IsBehindAnswer (Some number) name = IsBehindNumber number name
+IsBehindAnswer None name = name ≡ []
 
 -- the number with which an event was answered, if that is what was seen of it
 abbrev pub number_seen : Seen → Option ℕ
@@ -30,10 +30,10 @@ number_seen (seen.Answered number) = Some number
 number_seen s = None
 
 -- the number with which a call was answered, if the reply says so
-abbrev pub number_in : Reply → Option ℕ
-number_in (reply.Seen s) = number_seen s
-number_in r = None
+abbrev pub number_of_reply : Reply → Option ℕ
+number_of_reply (reply.Seen s) = number_seen s
+number_of_reply r = None
 
 -- the line of a reply
 abbrev pub IsLineOf : Reply → List ℕ → Type 0
-IsLineOf r line = (name : List ℕ) × IsBehind (number_in r) name × (line ≡ text_of r ++ name ++ 10 ∷ [])
+IsLineOf r line = (name : List ℕ) × IsBehindAnswer (number_of_reply r) name × (line ≡ text_of r ++ name ++ 10 ∷ [])

@@ -43,11 +43,11 @@ IsPlayed cs core = Leaves None cs core × All IsWritten cs × (length cs ≤ 131
 -- ---- calls of a session
 
 -- a core, or nobody, answers a command so, and is another then
-abbrev pub Answers : Command → (old new : Option Table) → Result Reply Unplayed → Type 0
-Answers c old new (Ok reply) = (core : Table) × (answer_by old c ≡ Ok (reply, core)) × (new ≡ Some core)
-Answers c old new (Err (unplayed.Fault cause)) = (answer_by old c ≡ Err cause) × (new ≡ old)
-Answers c old new (Err unplayed.Full) = ⊥
-Answers c old new (Err unplayed.NoMemory) = new ≡ old
+abbrev pub AnswersCommand : Command → (old new : Option Table) → Result Reply Unplayed → Type 0
+AnswersCommand c old new (Ok reply) = (core : Table) × (answer_by old c ≡ Ok (reply, core)) × (new ≡ Some core)
+AnswersCommand c old new (Err (unplayed.Fault cause)) = (answer_by old c ≡ Err cause) × (new ≡ old)
+AnswersCommand c old new (Err unplayed.Full) = ⊥
+AnswersCommand c old new (Err unplayed.NoMemory) = new ≡ old
 
 -- there is no room for one command more, for this reason
 abbrev pub HasNoRoom : List Command → Unplayed → Type 0
@@ -74,10 +74,10 @@ abbrev pub Plays : Command → (old new : Kept) → Result Reply Unplayed → Ty
 Plays c old new result = PlaysParts c old.commands old.core new.commands new.core result
 
 -- a line is answered so: its command is accepted, or nothing changes
-abbrev pub Takes : List ℕ → (old new : Kept) → Result Reply Refusal → Type 0
-Takes line old new (Ok reply) = (c : Command) × (command_in line ≡ Some c) × Plays c old new (Ok reply)
-Takes line old new (Err (refusal.Unplayed why)) = (c : Command) × (command_in line ≡ Some c) × Plays c old new (Err why)
-Takes line old new (Err (refusal.Slip slip)) = (command_in line ≡ None) × IsIn line slip × (new ≡ old)
+abbrev pub TakesLine : List ℕ → (old new : Kept) → Result Reply Refusal → Type 0
+TakesLine line old new (Ok reply) = (c : Command) × (command_in line ≡ Some c) × Plays c old new (Ok reply)
+TakesLine line old new (Err (refusal.Unplayed why)) = (c : Command) × (command_in line ≡ Some c) × Plays c old new (Err why)
+TakesLine line old new (Err (refusal.Slip slip)) = (command_in line ≡ None) × IsIn line slip × (new ≡ old)
 
 -- the last of these commands is taken away, and the core is that behind the others; or nothing changes
 abbrev pub TakesBack : (old : List Command) → (was : Option Table) → (new : List Command) → (is : Option Table)
@@ -95,8 +95,8 @@ Undoes old new (Err not_undone.NoMemory) = new ≡ old
 -- ---- what is kept is a script, as `run` has it
 
 -- a run of these commands as a script has no fault, and leaves this core
-abbrev pub IsRun : List Command → Option Table → Type 0
-IsRun cs core =
+abbrev pub RunsAsScript : List Command → Option Table → Type 0
+RunsAsScript cs core =
     (script_end (script_lines cs) ≡ Ok [])
     × ((s : Scan Table) × ((script_reading (script_lines cs)).stands ≡ Ok s) × (s.listener ≡ core))
 
@@ -111,7 +111,7 @@ IsStoryOf cs story = filled [] (script_lines cs) ≡ (story, Ok tt)
 
 -- what a session keeps is a script without a fault, and its core is the one behind a run of that
 abbrev pub KeepsRuns : Type 0
-KeepsRuns = (cs : List Command) (core : Option Table) → IsPlayed cs core → IsRun cs core
+KeepsRuns = (cs : List Command) (core : Option Table) → IsPlayed cs core → RunsAsScript cs core
 
 -- what a session answers a command is what `run` prints for it, and LF
 abbrev pub AnswersAsRuns : Type 0

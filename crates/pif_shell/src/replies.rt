@@ -2,7 +2,7 @@ ghost use Rattle.std.specs.Prelude.{◌≡◌, ◌+◌, ◌≤◌, ◌++◌, ◌
 ghost use Rattle.arrayvec.specs.ArrayVec.{array_vec_len};
 ghost use Rattle.pif_text.specs.Replies.{text_of};
 ghost use Rattle.pif_show.specs.Names.{errno_name};
-ghost use Rattle.pif_shell.specs.Replies.{AddsSome, IsBehind, IsLineOf, number_in, number_seen};
+ghost use Rattle.pif_shell.specs.Replies.{AddsSome, IsBehindAnswer, IsLineOf, number_of_reply, number_seen};
 
 use pif_model::Seen;
 use pif_show::{errno_name, errno_of};
@@ -20,8 +20,8 @@ fn number_seen(seen: Seen) -> Option<u32>
 }
 
 /// The number with which a call was answered, if the reply says so.
-fn number_in(reply: Reply) -> Option<u32>
-    ensures { result ≡ number_in reply }
+fn number_of_reply(reply: Reply) -> Option<u32>
+    ensures { result ≡ number_of_reply reply }
 {
     match reply {
         Reply::Seen(seen) => number_seen(seen),
@@ -51,7 +51,7 @@ fn errno_bytes(errno: Errno) -> &'static [u8]
 /// Appends the name of an error behind its number, and nothing behind another number or where there is none.
 fn append_name(number: Option<u32>, text: &mut Text)
     requires { array_vec_len text.old ≤ 100 }
-    ensures text { AddsSome (IsBehind number) text.old.items text.new.items }
+    ensures text { AddsSome (IsBehindAnswer number) text.old.items text.new.items }
     ensures room { array_vec_len text.new ≤ array_vec_len text.old + 16 }
 {
     let Some(number) = number else {
@@ -69,7 +69,7 @@ pub fn reply_line(reply: Reply) -> Text
     ensures { IsLineOf reply result.items }
 {
     let shown = reply;
-    let number = number_in(reply);
+    let number = number_of_reply(reply);
     let mut text = Text::new();
     reply_text(shown, &mut text);
     append_name(number, &mut text);

@@ -2,7 +2,7 @@ ghost use Rattle.std.specs.Prelude.{◌≡◌, ◌<◌, ◌≤◌, ◌++◌, ◌
 ghost use Rattle.pif_model.specs.Table.{Table};
 ghost use Rattle.pif_text.specs.CommandTexts.{IsWritten};
 ghost use Rattle.pif_scripts.specs.CommandLines.{command_line, script_lines};
-ghost use Rattle.pif_shell.specs.Sessions.{Answers, AnswersAsRuns, HasNoRoom, IsStoryOf, KeepsRuns, Leaves, PlaysParts, TakesBack};
+ghost use Rattle.pif_shell.specs.Sessions.{AnswersCommand, AnswersAsRuns, HasNoRoom, IsStoryOf, KeepsRuns, Leaves, PlaysParts, TakesBack};
 
 use pif_core::{Core, Event};
 use pif_scripts::{Cause, Ending, OpenFault, obey, open_core};
@@ -71,7 +71,7 @@ impl Model for Session {
 ///
 /// `Fault` with the cause, and `NoMemory`; `core` is then unchanged.
 fn answer(alloc: Global, core: &mut Option<Core>, command: Command) -> Result<Reply, Unplayed>
-    ensures { Answers command core.old core.new result }
+    ensures { AnswersCommand command core.old core.new result }
 {
     match core {
         Some(core) => match obey(core, command) {
@@ -163,7 +163,7 @@ fn take_back(
 }
 
 impl Session {
-    ghost use Rattle.pif_shell.specs.Sessions.{Takes, Undoes};
+    ghost use Rattle.pif_shell.specs.Sessions.{TakesLine, Undoes};
 
     /// A session with no command.
     pub fn new(alloc: Global) -> Session
@@ -200,7 +200,7 @@ impl Session {
     ///
     /// Why the line was not accepted; nothing has changed then.
     pub fn take<'a>(&mut self, alloc: Global, line: &'a [u8]) -> Result<Reply, Refusal<'a>>
-        ensures { Takes line.now self.old self.new result }
+        ensures { TakesLine line.now self.old self.new result }
     {
         commands_of_lines_are_written();
         match read_command(line) {

@@ -30,7 +30,7 @@ use Rattle.pif_simulation.proofs.Does.MayQueue.{in_lock, in_wait}
 use Rattle.pif_simulation.proofs.Does.IsLocking.{by_try_lock}
 use Rattle.pif_simulation.proofs.ends.EndLine.{end_kept}
 use Rattle.pif_simulation.proofs.Begun.{begin_kept}
-use Rattle.pif_simulation.proofs.mutexes.LockLines.{lock_load_kept, lock_pending_kept, exchange_kept, lock_queued_kept, lock_stopped_kept, leave_gives_kept}
+use Rattle.pif_simulation.proofs.mutexes.LockLines.{lock_load_kept, lock_name_pending_kept, exchange_kept, lock_queued_kept, stay_stopped_kept, leave_gives_kept}
 use Rattle.pif_simulation.proofs.mutexes.TakingOver.{take_kept, link_kept, clear_kept}
 use Rattle.pif_simulation.proofs.mutexes.LockCalls.{lock_kernel_kept, lock_stop_kept}
 use Rattle.pif_simulation.proofs.conditions.WaitLines.{wait_load_kept, wait_uses_kept}
@@ -40,7 +40,7 @@ use Rattle.pif_simulation.proofs.conditions.UseLines.{use_load_kept, use_reload_
 use Rattle.pif_simulation.proofs.conditions.UseCounting.{use_exchange_kept}
 use Rattle.pif_simulation.proofs.conditions.Requeueing.{use_requeue_kept}
 use Rattle.pif_simulation.proofs.SetPriorityLine.{set_priority_kept}
-use Rattle.pif_simulation.proofs.mutexes.TryLines.{try_load_kept, try_pending_kept, try_kernel_kept}
+use Rattle.pif_simulation.proofs.mutexes.TryLines.{try_load_kept, try_name_pending_kept, try_kernel_kept}
 use Rattle.pif_simulation.proofs.mutexes.UnlockLines.{unlock_load_kept, unlock_gives_kept, consistent_load_kept, consistent_health_kept, consistent_store_kept}
 use Rattle.pif_chains.proofs.Waiting.{by_test}
 use Rattle.pif_simulation.proofs.deadlines.Timers.{retimed_sound, retimed_frames}
@@ -68,7 +68,7 @@ unfolding locking_line
 locking_kept s t q CallKernel g k l b = lock_kernel_kept s t q k l g
 locking_kept s t q StayQueued g k l b = lock_queued_kept s t q k l g
 locking_kept s t q Stop g k l b = lock_stop_kept s t q k l g
-locking_kept s t q StayStopped g k l b = lock_stopped_kept s t q k l g
+locking_kept s t q StayStopped g k l b = stay_stopped_kept s t q k l g
 locking_kept s t q p g k l b = shared_kept s t q p g k (locking l) b
 
 -- a step of a signal or a broadcast
@@ -85,10 +85,10 @@ call_kept : (s : Table) (t : ℕ) (q : Request) (p : Place) → Going s t q p �
     → GoKeeps s t (line_of q p t s)
 unfolding line_of giving_line locking_line shared_line repair_line
 call_kept s t (Lock m) Load g b = lock_load_kept g
-call_kept s t (Lock m) NamePending g b = lock_pending_kept g
+call_kept s t (Lock m) NamePending g b = lock_name_pending_kept g
 call_kept s t (Lock m) p g b = locking_kept s t (Lock m) p g (going_named g) (in_lock refl) b
 call_kept s t (TryLock m) Load g b = try_load_kept s t m g
-call_kept s t (TryLock m) NamePending g b = try_pending_kept s t m g
+call_kept s t (TryLock m) NamePending g b = try_name_pending_kept s t m g
 call_kept s t (TryLock m) CallKernel g b = try_kernel_kept s t m g
 call_kept s t (TryLock m) p g b = shared_kept s t (TryLock m) p g (going_named g) (by_try_lock refl) b
 call_kept s t (Unlock m) Load g b = unlock_load_kept s t m g

@@ -12,7 +12,7 @@ use Rattle.pif_text.specs.Replies.{text_of}
 use Rattle.pif_text.proofs.Plain.{lacks}
 use Rattle.pif_scripts.specs.declared.reading.ending.Ending.TheVariants.{Fault}
 use Rattle.pif_scripts.specs.Running.{Answer, answer_line, answer_or_fault, command_answer, first_answer, first_line_meaning, line_meaning, made_by, script}
-use Rattle.pif_scripts.specs.Scripts.{Answered, Meaning, Scan, after_line, answered_by, answered_first, answered_later, byte_taken, line_answer, reading_of, version_after, with_byte}
+use Rattle.pif_scripts.specs.Scripts.{Answered, Meaning, Scan, after_line, answer_to_line, answered_first, answered_later, byte_taken, line_answer, reading_of, version_after, with_byte}
 use Rattle.pif_scripts.proofs.MigrateLemmas.{byte-taken}
 use Rattle.pif_scripts.proofs.ScriptLemmas.{by_cases, reading_of-append, reading_of-err, reading_of-nil, reading_of-ok}
 use Rattle.pif_stories.specs.Stories.{NumberedRow, script_by}
@@ -63,7 +63,7 @@ later-line (Some c) s m e =
 
 -- what a line is answered that is answered
 answered-line : (l : Option Table) (version : Option Version) (line : List ℕ) (m : List ℕ × Option Table)
-    → answered_by script l version line ≡ Ok m → IsAnswerLine m.0
+    → answer_to_line script l version line ≡ Ok m → IsAnswerLine m.0
 unfolding first_line_meaning line_meaning
 answered-line None version line m e = first-line (command_in line) m e
 answered-line (Some s) version line m e = later-line (command_in line) s m e

@@ -14,7 +14,7 @@ use Rattle.pif_scripts.specs.Scripts.{Hearing, Reading, Scan, byte_taken, ended_
 use Rattle.pif_scripts.specs.Transcripts.{script_end}
 use Rattle.pif_scripts.proofs.ScriptLemmas.{by_cases, reading_of-err, reading_of-nil, reading_of-ok}
 use Rattle.pif_scripts.specs.Migrating.{FailsToRead, IsAllRead, ReadsTo}
-use Rattle.pif_stories.specs.Checks.{IsUntold, Telling, Tells, TellsTo, WritesTelling, checked, ended, fault_in, filled, judged, printed, script_fault, told, verdict}
+use Rattle.pif_stories.specs.Checks.{IsUntold, Telling, TellsOfStory, TellsTo, WritesTelling, checked, check_end, fault_in, filled, judged, printed, script_fault, verdict_telling, story_verdict}
 use Rattle.pif_stories.specs.Filling.{filled_text}
 use Rattle.pif_stories.specs.Lines.{lines}
 use Rattle.pif_stories.specs.Stories.{script_of}
@@ -126,14 +126,14 @@ IsEnd (Err Read) = ⊥
 IsEnd (Err Write) = ⊥
 IsEnd (Err NoMemory) = ⊥
 
-ended-ends : (v : Verdict) → IsEnd (ended v)
-ended-ends (Ok commands) = tt
-ended-ends (Err (faulty line command cause)) = tt
-ended-ends (Err (differing line command written given)) = tt
+check_end-ends : (v : Verdict) → IsEnd (check_end v)
+check_end-ends (Ok commands) = tt
+check_end-ends (Err (faulty line command cause)) = tt
+check_end-ends (Err (differing line command written given)) = tt
 
 whole-told : (telling : List ℕ → Telling) (b h k : Option (List ℕ)) (bytes : List ℕ) (end : Result (Unit {0}) CliFault)
     → (telling bytes).1 ≡ end → IsEnd end → IsAllRead bytes b → Appends h k (telling bytes).0
-    → Tells telling bytes b h k end
+    → TellsOfStory telling bytes b h k end
 whole-told telling b h k bytes (Ok x) e i all w = (e, all, w)
 whole-told telling b h k bytes (Err (Script line cause)) e i all w = (e, all, w)
 whole-told telling b h k bytes (Err (Differs line)) e i all w = (e, all, w)
@@ -163,7 +163,7 @@ pub checked_told : (name : List ℕ) (a b h k : Option (List ℕ)) (bytes text :
     → WritesTelling h k text end result → TellsTo (checked name) a b h k result
 unfolding checked
 checked_told name a b h k bytes text end result r t w =
-    tells-written (checked name) a b h k bytes text end result r t (ended-ends (verdict bytes)) w
+    tells-written (checked name) a b h k bytes text end result r t (check_end-ends (story_verdict bytes)) w
 
 -- what is told of a story that is filled in
 pub filled_told : (name : List ℕ) (a b h k : Option (List ℕ)) (bytes text : List ℕ)
@@ -176,7 +176,7 @@ filled_told name a b h k bytes text end result r t w =
     by_judged : (v : Verdict)
         → IsEnd (elim v as (λ _. Telling) [
           | Ok commands ↦ (filled_text bytes (lines (printed (script_of bytes))), Ok tt)
-          | Err flaw ↦ told name (Err flaw)
+          | Err flaw ↦ verdict_telling name (Err flaw)
         ]).1
     by_judged (Ok commands) = tt
-    by_judged (Err flaw) = ended-ends (Err flaw)
+    by_judged (Err flaw) = check_end-ends (Err flaw)

@@ -4,30 +4,30 @@ use Rattle.std.specs.Prelude.{find, slice_get}
 use Rattle.std.specs.List.{zip}
 use Rattle.std.proofs.lemmas.Bool.Decides.{nat_tests}
 use Rattle.pif_text.specs.declared.replies.Cause.{Cause}
-use Rattle.pif_stories.specs.Lines.{Row}
+use Rattle.pif_stories.specs.Lines.{StoryRow}
 use Rattle.pif_stories.specs.Comparing.{cause_at, row_compared}
 use Rattle.pif_stories.specs.Verdicts.{Fault, Flaw, Verdict, compared, difference, differs, fault_at, faulty}
 
 -- the commands that are answered, behind so many
-abbrev pub rows_left : Option Fault → ℕ → List (ℕ × Row) → List (ℕ × Row)
+abbrev pub rows_left : Option Fault → ℕ → List (ℕ × StoryRow) → List (ℕ × StoryRow)
 rows_left None before rows = rows
 rows_left (Some fault) before rows = take (fault.0 - 1 - before) rows
 
 -- what commands behind so many come to that differ nowhere
-abbrev pub end_left : ℕ → Option Fault → ℕ → List (ℕ × Row) → Verdict
+abbrev pub end_left : ℕ → Option Fault → ℕ → List (ℕ × StoryRow) → Verdict
 end_left last None before rows = Ok (before + length rows)
 end_left last (Some fault) before rows = Err (fault_at last fault.1 (slice_get rows (fault.0 - 1 - before)))
 
-by_first : Option ((ℕ × Row) × List ℕ) → Verdict → Verdict
+by_first : Option ((ℕ × StoryRow) × List ℕ) → Verdict → Verdict
 by_first (Some pair) v = Err (difference pair)
 by_first None v = v
 
 -- what they come to
-pub compared_from : ℕ → Option Fault → ℕ → List (ℕ × Row) → List (List ℕ) → Verdict
+pub compared_from : ℕ → Option Fault → ℕ → List (ℕ × StoryRow) → List (List ℕ) → Verdict
 compared_from last fault before rows answers =
     by_first (find differs (zip (rows_left fault before rows) answers)) (end_left last fault before rows)
 
-pub compared_start : (last : ℕ) (fault : Option Fault) (rows : List (ℕ × Row)) (answers : List (List ℕ))
+pub compared_start : (last : ℕ) (fault : Option Fault) (rows : List (ℕ × StoryRow)) (answers : List (List ℕ))
     → compared last fault rows answers ≡ compared_from last fault 0 rows answers
 unfolding compared compared_from by_first
 compared_start last None rows answers = by_case (find differs (zip rows answers))
@@ -35,7 +35,7 @@ compared_start last None rows answers = by_case (find differs (zip rows answers)
     count : length rows ≡ 0 + length rows
     count = omega arith
 
-    by_case : (o : Option ((ℕ × Row) × List ℕ))
+    by_case : (o : Option ((ℕ × StoryRow) × List ℕ))
         → ◌≡◌ {A = Verdict} (elim o [ Some pair ↦ Err (difference pair) | None ↦ Ok (length rows) ])
         (by_first o (Ok (0 + length rows)))
     by_case (Some pair) = refl
@@ -44,7 +44,7 @@ compared_start last (Some fault) rows answers =
     let same : fault.0 - 1 - 0 ≡ fault.0 - 1 = omega arith in
     rw same (by_case (find differs (zip (take (fault.0 - 1) rows) answers)) _)
   where
-    by_case : (o : Option ((ℕ × Row) × List ℕ)) (v : Verdict)
+    by_case : (o : Option ((ℕ × StoryRow) × List ℕ)) (v : Verdict)
         → ◌≡◌ {A = Verdict} (elim o [ Some pair ↦ Err (difference pair) | None ↦ v ]) (by_first o v)
     by_case (Some pair) v = refl
     by_case None v = refl
@@ -53,7 +53,7 @@ zip-none : {A B : Type 0} (xs : List A) → zip {X = B} xs [] ≡ []
 zip-none [] = refl
 zip-none (x ∷ xs) = refl
 
-module _ (last before : ℕ) (row : ℕ × Row) (rows : List (ℕ × Row)) where
+module _ (last before : ℕ) (row : ℕ × StoryRow) (rows : List (ℕ × StoryRow)) where
   -- the next command is a fault
   pub compared_faulty : (fault : Option Fault) (answers : List (List ℕ)) (cause : Cause)
       → cause_at fault (before + 1) ≡ Some cause
@@ -150,6 +150,6 @@ unfolding compared_from by_first
 compared_end last before None answers = let count : before + 0 ≡ before = omega arith in rw count refl
 compared_end last before (Some fault) answers = rw (take-none (fault.0 - 1 - before)) refl
   where
-    take-none : (n : ℕ) → ◌≡◌ {A = List (ℕ × Row)} (take n []) []
+    take-none : (n : ℕ) → ◌≡◌ {A = List (ℕ × StoryRow)} (take n []) []
     take-none zero = refl
     take-none (suc n) = refl

@@ -5,7 +5,7 @@ use Rattle.std.specs.Borrow.{Bor}
 use Rattle.std.specs.List.{join_with_byte, onto_first, slice_split}
 use Rattle.pif_stories.specs.Filling.{answers_behind, filled_line, filled_lines, width_from}
 use Rattle.std.proofs.lemmas.Bool.{false≢true}
-use Rattle.pif_stories.specs.Lines.{Row, lines, lines_behind, row_in}
+use Rattle.pif_stories.specs.Lines.{StoryRow, lines, lines_behind, row_in}
 
 pub width_from_nothing : (least : ℕ) → width_from least [] ≡ least
 unfolding width_from
@@ -16,7 +16,7 @@ pub width_from_passed : (least : ℕ) (line : List ℕ) (lines : List (List ℕ)
 unfolding width_from
 width_from_passed least line lines e = rw e refl
 
-pub width_from_row : (least : ℕ) (line : List ℕ) (lines : List (List ℕ)) (row : Row) → row_in line ≡ Some row
+pub width_from_row : (least : ℕ) (line : List ℕ) (lines : List (List ℕ)) (row : StoryRow) → row_in line ≡ Some row
     → width_from least (line ∷ lines) ≡ width_from (max least (length row.0)) lines
 unfolding width_from
 width_from_row least line lines row e = rw e refl

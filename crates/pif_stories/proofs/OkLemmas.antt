@@ -21,7 +21,7 @@ use Rattle.pif_scripts.proofs.ScriptLemmas.{by_cases}
 use Rattle.pif_stories.specs.Lines.{lines}
 use Rattle.pif_stories.specs.Stories.{NumberedRow, rows_of, script_of, story_lines}
 use Rattle.pif_stories.specs.Verdicts.{Fault as ScriptFault, Flaw, Verdict, compared, difference, differs, differs_from, fault_at, rows_before}
-use Rattle.pif_stories.specs.Checks.{HasItsAnswers, OkExactly, fault_by, fault_in, judged, printed, script_fault, verdict}
+use Rattle.pif_stories.specs.Checks.{HasItsAnswers, OkExactly, fault_by, fault_in, judged, printed, script_fault, story_verdict}
 use Rattle.pif_stories.proofs.AnswerLines.{AreAnswered, answer_lines, answered_all, answered_behind, answered_nothing, answered_text, answers_from, line_of}
 use Rattle.pif_stories.proofs.RowLemmas.{none_ends}
 
@@ -200,19 +200,19 @@ compared-same last rows answers e =
     ap (λ (o : Option (NumberedRow × List ℕ)).
     is_ok (elim o as (λ _. Verdict) [ Some pair ↦ Err (difference pair) | None ↦ Ok (length rows) ])) e
 
-verdict-small : (story : List ℕ) → length story ≤ 16777216
-    → verdict story
+story_verdict-small : (story : List ℕ) → length story ≤ 16777216
+    → story_verdict story
     ≡ compared (length (story_lines story)) (script_fault (script_of story)) (rows_of story)
     (lines (printed (script_of story)))
-unfolding verdict judged
-verdict-small story h = let small : nat_lt 16777216 (length story) ≡ false = grind (arith, nat_tests) in rw small refl
+unfolding story_verdict judged
+story_verdict-small story h = let small : nat_lt 16777216 (length story) ≡ false = grind (arith, nat_tests) in rw small refl
 
-ok-forth : (story : List ℕ) → length story ≤ 16777216 → is_ok (verdict story) ≡ true
+ok-forth : (story : List ℕ) → length story ≤ 16777216 → is_ok (story_verdict story) ≡ true
     → (is_ok (script_end (script_of story)) ≡ true) × HasItsAnswers story
 unfolding script_of
 ok-forth story h ok =
     let rows = rows_of story in
-    let found = compared-ok _ _ rows _ (ap is_ok (sym (verdict-small story h)) ∙ ok) in
+    let found = compared-ok _ _ rows _ (ap is_ok (sym (story_verdict-small story h)) ∙ ok) in
     let clean = no-fault (script_of story) found.0 in
     let end = stands-at (script_of story) clean in
     let all = answered_all rows start end.0 (none_ends story) end.1 in
@@ -227,7 +227,7 @@ ok-forth story h ok =
     )
 
 ok-back : (story : List ℕ) → length story ≤ 16777216
-    → (is_ok (script_end (script_of story)) ≡ true) × HasItsAnswers story → is_ok (verdict story) ≡ true
+    → (is_ok (script_end (script_of story)) ≡ true) × HasItsAnswers story → is_ok (story_verdict story) ≡ true
 unfolding script_of
 ok-back story h p =
     let rows = rows_of story in
@@ -237,7 +237,7 @@ ok-back story h p =
     let given = ap lines (end.2 ∙ text) ∙ lines-answered rows all.0 start end.0 all.1 in
     let none = none-differs rows all.0 ([] ∷ []) start end.0 all.1 p.1 in
     let same = subst (λ l. find differs (zip rows l) ≡ None) (sym given) none in
-    ap is_ok (verdict-small story h)
+    ap is_ok (story_verdict-small story h)
     ∙ ap (λ f. is_ok (compared (length (story_lines story)) f rows (lines (printed (script_of story)))))
     (fault-none (script_of story) p.0)
     ∙ compared-same (length (story_lines story)) rows (lines (printed (script_of story))) same

@@ -6,7 +6,7 @@ use Rattle.std.specs.Str.Lines.{strip_carriage_return}
 use Rattle.std.proofs.lemmas.Bool.{and_parts, and_from}
 use Rattle.pif_text.specs.Traces.{is_marked, parts_of}
 use Rattle.pif_text.proofs.Plain.{lacks}
-use Rattle.pif_stories.specs.Lines.{Row, is_blank, is_passed, lines, row_by, row_in, unmarked, without_blanks}
+use Rattle.pif_stories.specs.Lines.{StoryRow, is_blank, is_passed, lines, row_by, row_in, unmarked, without_blanks}
 use Rattle.pif_stories.specs.Stories.{rows_from, rows_of, story_lines}
 use Rattle.pif_stories.proofs.AnswerLines.{NoneEnds}
 use Rattle.pif_stories.proofs.StoriesLemmas.{by_option, rows_from_nothing, rows_from_passed, rows_from_row}
@@ -81,21 +81,21 @@ front-lacks (x ∷ xs) p e l =
         let q : (x ∷ y.0, y.1) ≡ p = cc in
         ap (λ (z : List ℕ × List ℕ). lacks 10 z.0) (sym q) ∙ and_from (not (x == 10)) (lacks 10 y.0) w (h y refl)
 
-row-lacks : (line : List ℕ) (row : Row) → row_in line ≡ Some row → lacks 10 line ≡ true → lacks 10 row.0 ≡ true
+row-lacks : (line : List ℕ) (row : StoryRow) → row_in line ≡ Some row → lacks 10 line ≡ true → lacks 10 row.0 ≡ true
 unfolding row_in
 row-lacks line row e l =
     by_test (is_passed (strip_carriage_return line)) (parts_of (strip_carriage_return line)) refl e
   where
     by_test : (b : Bool) (o : Option (List ℕ × List ℕ)) → parts_of (strip_carriage_return line) ≡ o
-        → ◌≡◌ {A = Option Row} (if b then None else Some (row_by (strip_carriage_return line) o)) (Some row)
+        → ◌≡◌ {A = Option StoryRow} (if b then None else Some (row_by (strip_carriage_return line) o)) (Some row)
         → lacks 10 row.0 ≡ true
     by_test true o f e = cc
     by_test false None f e =
         let q : (strip_carriage_return line, None) ≡ row = cc in
-        ap (λ (r : Row). lacks 10 r.0) (sym q) ∙ return-lacks line l
+        ap (λ (r : StoryRow). lacks 10 r.0) (sym q) ∙ return-lacks line l
     by_test false (Some p) f e =
         let q : (without_blanks p.0, Some p.1) ≡ row = cc in
-        ap (λ (r : Row). lacks 10 r.0) (sym q)
+        ap (λ (r : StoryRow). lacks 10 r.0) (sym q)
         ∙ blanks-lack p.0 (front-lacks (strip_carriage_return line) p f (return-lacks line l))
 
 rows-lack : (number : ℕ) (ls : List (List ℕ)) → NoLineEnds ls → NoneEnds (rows_from number ls)

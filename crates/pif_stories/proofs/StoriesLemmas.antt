@@ -1,6 +1,6 @@
 -- The script and the commands of lines, line by line.
 use Rattle.std.proofs.Common.{◌≡◌, ℕ, ◌+◌, List, [], ◌∷◌, ◌++◌, Option, Some, None, refl, sym, ap, ◌∙◌, ◌⊎◌, inl, inr, append-nil, append_assoc}
-use Rattle.pif_stories.specs.Lines.{Row, row_in}
+use Rattle.pif_stories.specs.Lines.{StoryRow, row_in}
 use Rattle.pif_stories.specs.Stories.{NumberedRow, rows_from, script_by, script_of, story_lines}
 
 pub rows_from_nothing : (number : ℕ) → rows_from number [] ≡ []
@@ -12,7 +12,7 @@ pub rows_from_passed : (number : ℕ) (line : List ℕ) (lines : List (List ℕ)
 unfolding rows_from
 rows_from_passed number line lines e = rw e refl
 
-pub rows_from_row : (number : ℕ) (line : List ℕ) (lines : List (List ℕ)) (row : Row) → row_in line ≡ Some row
+pub rows_from_row : (number : ℕ) (line : List ℕ) (lines : List (List ℕ)) (row : StoryRow) → row_in line ≡ Some row
     → rows_from number (line ∷ lines) ≡ (number, row) ∷ rows_from (number + 1) lines
 unfolding rows_from
 rows_from_row number line lines row e = rw e refl
@@ -57,7 +57,7 @@ pub script_in_passed : (line : List ℕ) (lines : List (List ℕ)) → row_in li
 unfolding script_in
 script_in_passed line lines e = ap script_by (rows_from_passed 1 line lines e) ∙ script-same 2 1 lines
 
-pub script_in_row : (line : List ℕ) (lines : List (List ℕ)) (row : Row) → row_in line ≡ Some row
+pub script_in_row : (line : List ℕ) (lines : List (List ℕ)) (row : StoryRow) → row_in line ≡ Some row
     → script_in (line ∷ lines) ≡ (row.0 ++ 10 ∷ []) ++ script_in lines
 unfolding script_in
 script_in_row line lines row e =
@@ -69,7 +69,7 @@ unfolding script_of script_in
 script_in_all story = refl
 
 -- a script that was made as far as a line with a command, and the command and LF behind it
-pub script_grown : (whole script line : List ℕ) (behind : List (List ℕ)) (row : Row)
+pub script_grown : (whole script line : List ℕ) (behind : List (List ℕ)) (row : StoryRow)
     → whole ≡ script ++ script_in (line ∷ behind) → row_in line ≡ Some row
     → whole ≡ ((script ++ row.0) ++ 10 ∷ []) ++ script_in behind
 script_grown whole script line behind row e r =

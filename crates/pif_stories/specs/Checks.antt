@@ -47,14 +47,14 @@ judged story answers =
 
 -- what a story comes to: ok with the number of its commands, or its first flaw. Its commands are compared with the
 -- lines that `run` prints for its script
-unfoldable pub verdict : List ℕ → Verdict
-verdict story = judged story (lines (printed (script_of story)))
+unfoldable pub story_verdict : List ℕ → Verdict
+story_verdict story = judged story (lines (printed (script_of story)))
 
 -- how a check ends
-abbrev pub ended : Verdict → Result (Unit {0}) CliFault
-ended (Ok commands) = Ok tt
-ended (Err (faulty line command cause)) = Err (Script line cause)
-ended (Err (differing line command written given)) = Err (Differs line)
+abbrev pub check_end : Verdict → Result (Unit {0}) CliFault
+check_end (Ok commands) = Ok tt
+check_end (Err (faulty line command cause)) = Err (Script line cause)
+check_end (Err (differing line command written given)) = Err (Differs line)
 
 -- ---- what is written
 
@@ -63,42 +63,42 @@ abbrev pub Telling : Type 0
 Telling = List ℕ × Result (Unit {0}) CliFault
 
 -- a verdict, told by its line
-abbrev pub told : (name : List ℕ) → Verdict → Telling
-told name found = (verdict_line name found, ended found)
+abbrev pub verdict_telling : (name : List ℕ) → Verdict → Telling
+verdict_telling name found = (verdict_line name found, check_end found)
 
 -- a check of a story of this name
 unfoldable pub checked : (name : List ℕ) → List ℕ → Telling
-checked name story = told name (verdict story)
+checked name story = verdict_telling name (story_verdict story)
 
 -- a story of this name that is filled in: if it has a fault, what a check would tell of that alone
 unfoldable pub filled : (name : List ℕ) → List ℕ → Telling
 filled name story =
     elim (judged story []) [
       | Ok commands ↦ (filled_text story (lines (printed (script_of story))), Ok tt)
-      | Err flaw ↦ told name (Err flaw)
+      | Err flaw ↦ verdict_telling name (Err flaw)
     ]
 
 -- of these bytes of a story, what is to be told was:
 --   ended well, a fault or a difference: all was read, it ends so, and the text was written
 --   a read failed, or out of memory: nothing was written
 --   a write failed: a proper part of the text was, from its front
-abbrev pub Tells : (List ℕ → Telling) → List ℕ → (after held holds : Option (List ℕ)) → Result (Unit {0}) CliFault
+abbrev pub TellsOfStory : (List ℕ → Telling) → List ℕ → (after held holds : Option (List ℕ)) → Result (Unit {0}) CliFault
     → Type 0
-Tells telling read after held holds (Ok x) =
+TellsOfStory telling read after held holds (Ok x) =
     ((telling read).1 ≡ Ok x) × IsAllRead read after × Appends held holds (telling read).0
-Tells telling read after held holds (Err (Script line cause)) =
+TellsOfStory telling read after held holds (Err (Script line cause)) =
     ((telling read).1 ≡ Err (Script line cause)) × IsAllRead read after × Appends held holds (telling read).0
-Tells telling read after held holds (Err (Differs line)) =
+TellsOfStory telling read after held holds (Err (Differs line)) =
     ((telling read).1 ≡ Err (Differs line)) × IsAllRead read after × Appends held holds (telling read).0
-Tells telling read after held holds (Err Read) = Keeps held holds
-Tells telling read after held holds (Err Write) = IsAllRead read after × WritesPart held holds (telling read).0
-Tells telling read after held holds (Err NoMemory) = Keeps held holds
+TellsOfStory telling read after held holds (Err Read) = Keeps held holds
+TellsOfStory telling read after held holds (Err Write) = IsAllRead read after × WritesPart held holds (telling read).0
+TellsOfStory telling read after held holds (Err NoMemory) = Keeps held holds
 
 -- the same, by what the reader had and has left, and what the writer held and holds
 abbrev pub TellsTo : (List ℕ → Telling) → (before after held holds : Option (List ℕ)) → Result (Unit {0}) CliFault
     → Type 0
 TellsTo telling before after held holds result =
-    (read : List ℕ) × Consumes before after read × (length read ≤ 16777217) × Tells telling read after held holds result
+    (read : List ℕ) × Consumes before after read × (length read ≤ 16777217) × TellsOfStory telling read after held holds result
 
 -- what is to be told was written, and ends so; or a write failed after a proper part of it
 abbrev pub WritesTelling : (held holds : Option (List ℕ)) → (text : List ℕ) → (end result : Result (Unit {0}) CliFault)
@@ -121,18 +121,18 @@ abbrev pub answers_to : List NumberedRow → List ℕ
 answers_to rows = (script_reading (script_by rows)).text
 
 -- `run` answers a command behind these commands so
-abbrev pub IsAnswer : List NumberedRow → NumberedRow → List ℕ → Type 0
-IsAnswer before row answer = answers_to (before ++ row ∷ []) ≡ answers_to before ++ (answer ++ 10 ∷ [])
+abbrev pub IsAnswerBehind : List NumberedRow → NumberedRow → List ℕ → Type 0
+IsAnswerBehind before row answer = answers_to (before ++ row ∷ []) ≡ answers_to before ++ (answer ++ 10 ∷ [])
 
 -- each command of a story with an answer has the one that `run` prints for it
 abbrev pub HasItsAnswers : List ℕ → Type 0
 HasItsAnswers story =
     (before behind : List NumberedRow) (row : NumberedRow) (written : List ℕ)
-    → rows_of story ≡ before ++ row ∷ behind → row.1.1 ≡ Some written → IsAnswer before row written
+    → rows_of story ≡ before ++ row ∷ behind → row.1.1 ≡ Some written → IsAnswerBehind before row written
 
 -- a story that is not too large is ok exactly if its script has no fault and each command with an answer has the one
 -- that `run` prints for it
 abbrev pub OkExactly : Type 0
 OkExactly =
     (story : List ℕ) → length story ≤ 16777216
-    → (is_ok (verdict story) ≡ true) ↔ ((is_ok (script_end (script_of story)) ≡ true) × HasItsAnswers story)
+    → (is_ok (story_verdict story) ≡ true) ↔ ((is_ok (script_end (script_of story)) ≡ true) × HasItsAnswers story)

@@ -3,7 +3,7 @@ use Rattle.std.specs.Prelude.{ℕ, nat_le, List, [], ◌∷◌, Option, Some, No
 use Rattle.std.specs.Borrow.{Bor}
 use Rattle.pif_text.specs.declared.replies.Cause.{Cause}
 use Rattle.pif_stories.specs.declared.comparing.Flaw.{Flaw as Found}
-use Rattle.pif_stories.specs.Lines.{Row, lines_behind}
+use Rattle.pif_stories.specs.Lines.{StoryRow, lines_behind}
 use Rattle.pif_stories.specs.Verdicts.{Fault, Flaw, difference, differs_from, flaw_of}
 
 -- the cause, if the script ends at the command of this number, from 1, or before it
@@ -12,7 +12,7 @@ cause_at None number = None
 cause_at (Some fault) number = if nat_le fault.0 number then Some fault.1 else None
 
 -- a command in the line of this number, beside the lines that `run` prints from there on: its flaw, or the lines behind
-abbrev pub row_compared : ℕ → Row → List (List ℕ) → Result (List (List ℕ)) Flaw
+abbrev pub row_compared : ℕ → StoryRow → List (List ℕ) → Result (List (List ℕ)) Flaw
 row_compared number row [] = Ok []
 row_compared number row (given ∷ more) =
     if differs_from row.1 given then Err (difference ((number, row), given)) else Ok more

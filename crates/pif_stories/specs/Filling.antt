@@ -2,11 +2,11 @@
 use Rattle.std.specs.Prelude.{ℕ, ◌-◌, List, [], ◌∷◌, ◌++◌, codes, drop, filter_map, length, max, replicate, take, Some, None}
 use Rattle.std.specs.List.{fold, join_with_byte}
 use Rattle.std.specs.Str.Lines.{strip_carriage_return}
-use Rattle.pif_stories.specs.Lines.{Row, row_in, unmarked}
+use Rattle.pif_stories.specs.Lines.{StoryRow, row_in, unmarked}
 use Rattle.pif_stories.specs.Stories.{story_lines}
 
 -- the greater of this width and that of a command
-abbrev pub wider : ℕ → Row → ℕ
+abbrev pub wider : ℕ → StoryRow → ℕ
 wider width row = max width (length row.0)
 
 -- the length of the longest command of these lines, if it is more than this
@@ -22,9 +22,9 @@ abbrev pub return_of : List ℕ → List ℕ
 return_of line = drop (length (strip_carriage_return line)) line
 
 -- the first of these answers, and those behind it
-abbrev pub first_answer : List (List ℕ) → List ℕ
-first_answer [] = []
-first_answer (answer ∷ more) = answer
+abbrev pub next_answer : List (List ℕ) → List ℕ
+next_answer [] = []
+next_answer (answer ∷ more) = answer
 
 abbrev pub more_answers : List (List ℕ) → List (List ℕ)
 more_answers [] = []
@@ -35,7 +35,7 @@ abbrev pub filled_line : (width : ℕ) → List ℕ → (answers : List (List �
 filled_line width line answers =
     elim (row_in line) [
       | None ↦ line
-      | Some row ↦ answered_row width row.0 (first_answer answers) ++ return_of line
+      | Some row ↦ answered_row width row.0 (next_answer answers) ++ return_of line
     ]
 
 -- the answers for the lines behind it

@@ -31,8 +31,8 @@ without_blanks [] = []
 without_blanks (byte ∷ more) = if list_all is_blank (byte ∷ more) then [] else byte ∷ without_blanks more
 
 -- a command, and the answer that is written behind it, if there is one
-abbrev pub Row : Type 0
-Row = List ℕ × Option (List ℕ)
+abbrev pub StoryRow : Type 0
+StoryRow = List ℕ × Option (List ℕ)
 
 -- a line that is empty or a comment says nothing
 abbrev pub is_passed : List ℕ → Bool
@@ -40,14 +40,14 @@ is_passed [] = true
 is_passed (byte ∷ more) = byte == 35
 
 -- what a line says, by its parts before and behind its first ` = `, if it has one
-abbrev pub row_by : List ℕ → Option (List ℕ × List ℕ) → Row
+abbrev pub row_by : List ℕ → Option (List ℕ × List ℕ) → StoryRow
 row_by line None = (line, None)
 row_by line (Some parts) = (without_blanks parts.0, Some parts.1)
 
 -- what a line says without its line's end
-abbrev pub row_in_text : List ℕ → Option Row
+abbrev pub row_in_text : List ℕ → Option StoryRow
 row_in_text text = if is_passed text then None else Some (row_by text (parts_of text))
 
 -- what a line says; a CR at its end is no part of that
-unfoldable pub row_in : List ℕ → Option Row
+unfoldable pub row_in : List ℕ → Option StoryRow
 row_in line = row_in_text (strip_carriage_return line)

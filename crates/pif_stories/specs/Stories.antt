@@ -1,7 +1,7 @@
 -- Stories: the commands in them, and the script that is left when all else is taken out.
 use Rattle.std.specs.Prelude.{ℕ, List, [], ◌∷◌, ◌++◌, Option, option_map, filter_map, flat_map}
 use Rattle.std.specs.List.{enumerate_from}
-use Rattle.pif_stories.specs.Lines.{Row, lines, row_in, unmarked}
+use Rattle.pif_stories.specs.Lines.{StoryRow, lines, row_in, unmarked}
 
 -- the lines of a story; a byte order mark at the front is no part of them
 abbrev pub story_lines : List ℕ → List (List ℕ)
@@ -9,7 +9,7 @@ story_lines story = lines (unmarked story)
 
 -- what a line says, behind the line's number
 abbrev pub NumberedRow : Type 0
-NumberedRow = ℕ × Row
+NumberedRow = ℕ × StoryRow
 
 abbrev pub numbered_row : ℕ × List ℕ → Option NumberedRow
 numbered_row line = option_map (λ row. (line.0, row)) (row_in line.1)
@@ -23,12 +23,12 @@ abbrev pub rows_of : List ℕ → List NumberedRow
 rows_of story = rows_from 1 (story_lines story)
 
 -- a command as a line of a script
-abbrev pub command_line : Row → List ℕ
-command_line row = row.0 ++ 10 ∷ []
+abbrev pub row_line : StoryRow → List ℕ
+row_line row = row.0 ++ 10 ∷ []
 
 -- commands as a script
 unfoldable pub script_by : List NumberedRow → List ℕ
-script_by rows = flat_map (λ row. command_line row.1) rows
+script_by rows = flat_map (λ row. row_line row.1) rows
 
 -- the script that is left of a story when its comments, its empty lines and its answers are taken out: a line for each
 -- of its commands

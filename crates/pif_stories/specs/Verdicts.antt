@@ -5,7 +5,7 @@ use Rattle.pif_text.specs.declared.replies.Cause.{Cause}
 use Rattle.pif_text.specs.Replies.{fault_of}
 use Rattle.pif_stories.specs.declared.comparing.Flaw.{Flaw as Found}
 use Rattle.pif_stories.specs.declared.comparing.Flaw.TheVariants as found
-use Rattle.pif_stories.specs.Lines.{Row}
+use Rattle.pif_stories.specs.Lines.{StoryRow}
 
 -- why a story is not ok
 pub data Flaw : Type 0 where
@@ -28,7 +28,7 @@ differs_from None given = false
 differs_from (Some written) given = not (bytes_eq written given)
 
 -- whether that is so of a command, beside what `run` prints for it
-abbrev pub differs : (ℕ × Row) × List ℕ → Bool
+abbrev pub differs : (ℕ × StoryRow) × List ℕ → Bool
 differs pair = differs_from pair.0.1.1 pair.1
 
 -- the answer that is written, of a command with one
@@ -37,26 +37,26 @@ answer_or_none None = []
 answer_or_none (Some written) = written
 
 -- the flaw of a command for which `run` prints another answer
-abbrev pub difference : (ℕ × Row) × List ℕ → Flaw
+abbrev pub difference : (ℕ × StoryRow) × List ℕ → Flaw
 difference pair = differing pair.0.0 pair.0.1.0 (answer_or_none pair.0.1.1) pair.1
 
 -- the flaw of the command that is a fault; one behind the last command is at the last line
-abbrev pub fault_at : (last : ℕ) → Cause → Option (ℕ × Row) → Flaw
+abbrev pub fault_at : (last : ℕ) → Cause → Option (ℕ × StoryRow) → Flaw
 fault_at last cause (Some row) = faulty row.0 row.1.0 cause
 fault_at last cause None = faulty last [] cause
 
 -- the commands that are answered: those before the one that is a fault
-abbrev pub rows_before : Option Fault → List (ℕ × Row) → List (ℕ × Row)
+abbrev pub rows_before : Option Fault → List (ℕ × StoryRow) → List (ℕ × StoryRow)
 rows_before None rows = rows
 rows_before (Some fault) rows = take (fault.0 - 1) rows
 
 -- what commands come to that differ nowhere
-abbrev pub fault_or_count : (last : ℕ) → Option Fault → List (ℕ × Row) → Verdict
+abbrev pub fault_or_count : (last : ℕ) → Option Fault → List (ℕ × StoryRow) → Verdict
 fault_or_count last None rows = Ok (length rows)
 fault_or_count last (Some fault) rows = Err (fault_at last fault.1 (slice_get rows (fault.0 - 1)))
 
 -- what these commands come to beside the lines that `run` prints for them: the first that differs, or else the fault
-unfoldable pub compared : (last : ℕ) → Option Fault → List (ℕ × Row) → (answers : List (List ℕ)) → Verdict
+unfoldable pub compared : (last : ℕ) → Option Fault → List (ℕ × StoryRow) → (answers : List (List ℕ)) → Verdict
 compared last fault rows answers =
     elim (find differs (zip (rows_before fault rows) answers)) [
       | Some pair ↦ Err (difference pair)

@@ -1,6 +1,6 @@
 ghost use Rattle.std.specs.Prelude.{◌≡◌, ◌+◌, ◌≤◌, [], Err, IfErr, IfOk, length, option_copied};
 ghost use Rattle.pif_stories.specs.Lines.{lines, lines_behind};
-ghost use Rattle.pif_stories.specs.Checks.{IsUntold, OkExactly, TellsTo, WritesTelling, checked, ended, filled, judged, printed, script_fault, told};
+ghost use Rattle.pif_stories.specs.Checks.{IsUntold, OkExactly, TellsTo, WritesTelling, checked, check_end, filled, judged, printed, script_fault, verdict_telling};
 ghost use Rattle.pif_stories.specs.Stories.{script_of};
 ghost use Rattle.pif_stories.specs.Verdicts.{verdict_of};
 
@@ -59,8 +59,8 @@ fn line_at_end(text: &[u8]) -> u64
 }
 
 /// How a check ends that comes to this.
-fn ended(verdict: Result<u64, Flaw<'_>>) -> Result<(), CliFault>
-    ensures { result ≡ ended (verdict_of verdict.entry) }
+fn check_end(verdict: Result<u64, Flaw<'_>>) -> Result<(), CliFault>
+    ensures { result ≡ check_end (verdict_of verdict.entry) }
 {
     match verdict {
         Ok(_) => Ok(()),
@@ -83,10 +83,10 @@ fn tell(
     verdict: Result<u64, Flaw<'_>>,
     notice: &mut Notice,
 ) -> Result<Telling, CliFault>
-    ensures told { IfOk result (λ telling. (telling.0.items, telling.1) ≡ told name.now (verdict_of verdict.entry)) }
+    ensures told { IfOk result (λ telling. (telling.0.items, telling.1) ≡ verdict_telling name.now (verdict_of verdict.entry)) }
     ensures failed { IfErr result IsUntold }
 {
-    let end = ended(verdict);
+    let end = check_end(verdict);
     note(verdict, notice);
     match verdict_line(alloc, name, verdict) {
         Ok(line) => Ok((line, end)),
@@ -111,7 +111,7 @@ fn judge<'a>(
 }
 
 /// What a check tells of a story of this name.
-#[tactic(auto, unfolding(crate::specs::Checks::checked, crate::specs::Checks::verdict))]
+#[tactic(auto, unfolding(crate::specs::Checks::checked, crate::specs::Checks::story_verdict))]
 fn check_text(
     alloc: Global,
     name: &[u8],

@@ -1,5 +1,5 @@
 ghost use Rattle.std.specs.Prelude.{◌≡◌, ◌++◌, ◌-◌, length, replicate, OnOk, IfOk, option_copied};
-ghost use Rattle.pif_stories.specs.Filling.{answered_row, answers_behind, filled_line, filled_text, first_answer, more_answers, width_from};
+ghost use Rattle.pif_stories.specs.Filling.{answered_row, answers_behind, filled_line, filled_text, next_answer, more_answers, width_from};
 ghost use Rattle.pif_stories.specs.Lines.{lines, lines_behind};
 ghost use Rattle.pif_stories.specs.Stories.{story_lines};
 
@@ -25,7 +25,7 @@ fn width_of(story: &[u8]) -> usize
 
 /// The first of these lines, and those behind it; if there is none, an empty one.
 fn next_answer(answers: Option<&[u8]>) -> (&[u8], Option<&[u8]>)
-    ensures first { result.0.now ≡ first_answer (lines_behind (option_copied answers.entry)) }
+    ensures first { result.0.now ≡ next_answer (lines_behind (option_copied answers.entry)) }
     ensures more { lines_behind (option_copied result.1) ≡ more_answers (lines_behind (option_copied answers.entry)) }
 {
     match answers {

@@ -33,10 +33,10 @@ refusal_word refusal.NoSuch = codes "nosuch"
 refusal_word refusal.Past = codes "past"
 
 -- What is known of the state that a mutex protects, in one word.
-abbrev pub health_word : Health → List ℕ
-health_word Fine = codes "fine"
-health_word Inconsistent = codes "inconsistent"
-health_word Unusable = codes "unusable"
+abbrev pub health_text : Health → List ℕ
+health_text Fine = codes "fine"
+health_text Inconsistent = codes "inconsistent"
+health_text Unusable = codes "unusable"
 
 -- The name of a thread.
 abbrev pub thread_name : ℕ → List ℕ
@@ -77,7 +77,7 @@ seen_text (seen.Refused why) = codes "refused " ++ refusal_word why
 unfoldable pub fact_text : Fact → List ℕ
 fact_text fact.NoSuch = codes "refused nosuch"
 fact_text (fact.Word value) = codes "0x" ++ hex_digits 8 value
-fact_text (fact.Health health) = health_word health
+fact_text (fact.Health health) = health_text health
 fact_text (fact.Uses uses) = decimal uses
 fact_text (fact.Priority priority) = decimal priority
 fact_text fact.Dead = codes "dead"

@@ -2,7 +2,7 @@ ghost use Rattle.std.specs.Prelude.{◌≡◌, ◌+◌, ◌≤◌, ◌<◌, ◌+
 ghost use Rattle.arrayvec.specs.ArrayVec.{array_vec_len};
 ghost use Rattle.std.specs.Fmt.{digit_glyph};
 ghost use Rattle.pif_text.specs.Numbers.{hex_digits};
-ghost use Rattle.pif_text.specs.Replies.{text_of, fault_of, add_fault_word, refusal_word, health_word, added_text, seen_text, fact_text, thread_name, mutex_name, cond_name, thread_or_none, cause_word};
+ghost use Rattle.pif_text.specs.Replies.{text_of, fault_of, add_fault_word, refusal_word, health_text, added_text, seen_text, fact_text, thread_name, mutex_name, cond_name, thread_or_none, cause_word};
 
 use crate::{Added, Cause, Fact, Reply, TEXT_ROOM, Text};
 use arrayvec::ArrayVec;
@@ -172,7 +172,7 @@ fn refusal_of(refusal: Refusal) -> &'static [u8]
 
 /// What is known of the state that a mutex protects, in one word.
 fn health_of(health: Health) -> &'static [u8]
-    ensures items { result.now ≡ health_word health }
+    ensures items { result.now ≡ health_text health }
     ensures len { length result.now ≤ 12 }
 {
     match health {

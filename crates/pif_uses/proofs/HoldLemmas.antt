@@ -21,7 +21,7 @@ use Rattle.pif_uses.specs.declared.locking.Held.{Held}
 use Rattle.pif_uses.specs.declared.locking.Held.TheVariants.{InOrder, OwnerDied}
 use Rattle.pif_uses.specs.declared.waiting.Awaited.TheVariants.{Met}
 use Rattle.pif_uses.specs.Waiting.{awaited_by, if_resumed, if_waited}
-use Rattle.pif_uses.specs.Holding.{HoldsOn, CountsOn, found, held_by, if_died, locked}
+use Rattle.pif_uses.specs.Holding.{HoldsOn, CountsOn, found, locked_by, if_died, locked}
 use Rattle.pif_calls.proofs.CallLemmas.{call_other, call_refused, called-other}
 use Rattle.pif_calls.proofs.StandingLemmas.{along, call_stands, finish_stands, next_stands}
 
@@ -151,7 +151,7 @@ module _ (t a : ℕ) (q : Request) (s : Table) (h : List Entry) (r : List World)
 -- LOCKS
 
 -- a lock of m that was answered 0 or EOWNERDEAD has taken it
-lock_taken : (seen : Seen) (x : Held) → Ok x ≡ held_by seen → (a : ℕ) × (seen ≡ Answered a) × ((a ≡ 0) ⊎ (a ≡ 130))
+lock_taken : (seen : Seen) (x : Held) → Ok x ≡ locked_by seen → (a : ℕ) × (seen ≡ Answered a) × ((a ≡ 0) ⊎ (a ≡ 130))
 lock_taken (Answered a) x e = by_zero (a == 0) refl (a == 130) refl e
   where
     by_zero : (b : Bool) → (a == 0) ≡ b → (d : Bool) → (a == 130) ≡ d
@@ -168,7 +168,7 @@ lock_taken Ticked x e = absurd cc
 lock_taken (Refused r) x e = absurd cc
 
 -- a lock that found the mutex in order was answered 0
-pub in_order : (seen : Seen) → Ok InOrder ≡ held_by seen → seen ≡ Answered 0
+pub in_order : (seen : Seen) → Ok InOrder ≡ locked_by seen → seen ≡ Answered 0
 in_order (Answered a) e = by_zero (a == 0) refl (a == 130) e
   where
     by_zero : (b : Bool) → (a == 0) ≡ b → (d : Bool)
@@ -191,7 +191,7 @@ lock_counts m a n (inl z) = rw (itself m, z) refl
 lock_counts m a n (inr z) = rw (itself m, z) refl
 
 -- a thread that has locked holds
-pub lock_holds : (s v : Table) (t m : ℕ) (o : Result Held Seen) → o ≡ held_by (call_outcome t (Lock m) s).seen
+pub lock_holds : (s v : Table) (t m : ℕ) (o : Result Held Seen) → o ≡ locked_by (call_outcome t (Lock m) s).seen
     → v ≡ (call_outcome t (Lock m) s).after
     → IfOk o (λ x. (h : List Entry) (r : List World) (w : World) → Stands s h r w
     → HoldsOn t m (hold_count t m h + 1) v (after_call t (Lock m) s h) r w)
@@ -203,7 +203,7 @@ lock_holds s v t m (Ok x) e after = λ h r w st.
     (called_counts t taken.0 (Lock m) s h taken.1 m ∙ lock_counts m taken.0 (hold_count t m h) taken.2)
 
 -- so does one whose open lock has finished
-pub finish_holds : (s v : Table) (t m : ℕ) (o : Result Held Seen) → o ≡ held_by (goes_on 23 t s).seen
+pub finish_holds : (s v : Table) (t m : ℕ) (o : Result Held Seen) → o ≡ locked_by (goes_on 23 t s).seen
     → v ≡ (goes_on 23 t s).after
     → IfOk o (λ x. (h : List Entry) (r : List World) (w : World) → Stands s h r w
     → open_call t h ≡ Some (Lock m) → HoldsOn t m (hold_count t m h + 1) v (after_finish t s h) r w)

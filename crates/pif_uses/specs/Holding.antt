@@ -15,9 +15,9 @@ use Rattle.pif_uses.specs.declared.locking.Held.TheVariants.{InOrder, OwnerDied}
 use Rattle.pif_calls.specs.Calls.{StandsOn, call_outcome}
 
 -- whether a lock that was answered so has taken the mutex: 0, or EOWNERDEAD
-abbrev pub held_by : Seen → Result Held Seen
-held_by (Answered a) = if a == 0 then Ok InOrder else (if a == EOWNERDEAD then Ok OwnerDied else Err (Answered a))
-held_by x = Err x
+abbrev pub locked_by : Seen → Result Held Seen
+locked_by (Answered a) = if a == 0 then Ok InOrder else (if a == EOWNERDEAD then Ok OwnerDied else Err (Answered a))
+locked_by x = Err x
 
 -- a core stands on after a history in which t has no call open and holds m this often, as nobody else does: by the
 -- answers, and in the state of the POSIX machine, where t is the owner
@@ -37,7 +37,7 @@ pub record CountsOn (t m n : ℕ) (s : Table) (h : List Entry) (r : List World) 
 
 -- how t's lock of m, a whole call, finds it, and the table after that call
 abbrev pub found : ℕ → ℕ → Table → Result Held Seen
-found t m s = held_by (call_outcome t (Lock m) s).seen
+found t m s = locked_by (call_outcome t (Lock m) s).seen
 
 abbrev pub locked : ℕ → ℕ → Table → Table
 locked t m s = (call_outcome t (Lock m) s).after

@@ -7,7 +7,7 @@ ghost use Rattle.pif_model.specs.Standing.{WhereStands};
 ghost use Rattle.pif_model.specs.Lines.{goes_on};
 ghost use Rattle.pif_calls.specs.Calls.{StandsOn, call_outcome, after_call, after_finish};
 ghost use Rattle.pif_uses.specs.declared.locking.Held.TheVariants.{InOrder};
-ghost use Rattle.pif_uses.specs.Holding.{CountsOn, HoldsOn, IsFineIn, found, held_by, if_died, if_taken, locked, repaired_by, unlocked_by};
+ghost use Rattle.pif_uses.specs.Holding.{CountsOn, HoldsOn, IsFineIn, found, locked_by, if_died, if_taken, locked, repaired_by, unlocked_by};
 
 use pif_core::{Core, Event, Seen};
 use pif_types::{Errno, MutexId, Request, Tid};
@@ -22,8 +22,8 @@ pub enum Held {
 }
 
 /// Whether a lock that was answered so has taken the mutex.
-fn held_by(seen: Seen) -> Result<Held, Seen>
-    ensures { result ≡ held_by seen }
+fn locked_by(seen: Seen) -> Result<Held, Seen>
+    ensures { result ≡ locked_by seen }
 {
     match seen {
         Seen::Answered(answer) => if answer == 0 {
@@ -41,14 +41,14 @@ fn held_by(seen: Seen) -> Result<Held, Seen>
 /// mutex once more than before, and no other thread does. `Err` has what the call was answered otherwise; after
 /// `Waits` the lock stays open, and `finish_lock` goes on with it.
 pub fn lock_and_hold(core: &mut Core, thread: Tid, mutex: MutexId) -> Result<Held, Seen>
-    ensures answer { result ≡ held_by (call_outcome thread (Lock mutex) core.old).seen }
+    ensures answer { result ≡ locked_by (call_outcome thread (Lock mutex) core.old).seen }
     ensures after { core.new ≡ (call_outcome thread (Lock mutex) core.old).after }
     ensures stands { WhereStands core.old (λ h r w. StandsOn core.new (after_call thread (Lock mutex) core.old h) r w) }
     ensures holds { IfOk result (λ x. WhereStands core.old (λ h r w.
         HoldsOn thread mutex (hold_count thread mutex h + 1) core.new
         (after_call thread (Lock mutex) core.old h) r w)) }
 {
-    held_by(core.call(thread, Request::Lock(mutex)))
+    locked_by(core.call(thread, Request::Lock(mutex)))
 }
 
 /// A thread goes on with a lock of a mutex that waited, with a deadline or none. Where it answers `Ok`, the thread holds
@@ -56,14 +56,14 @@ pub fn lock_and_hold(core: &mut Core, thread: Tid, mutex: MutexId) -> Result<Hel
 /// (110) where its deadline was reached. After `Waits` it stays open, and this is called again once others have had
 /// their turns.
 pub fn finish_lock(core: &mut Core, thread: Tid, mutex: MutexId) -> Result<Held, Seen>
-    ensures answer { result ≡ held_by (goes_on 23 thread core.old).seen }
+    ensures answer { result ≡ locked_by (goes_on 23 thread core.old).seen }
     ensures after { core.new ≡ (goes_on 23 thread core.old).after }
     ensures stands { WhereStands core.old (λ h r w. StandsOn core.new (after_finish thread core.old h) r w) }
     ensures holds { IfOk result (λ x. WhereStands core.old (λ h r w. open_call thread h ≡ Some (Lock mutex)
         → HoldsOn thread mutex (hold_count thread mutex h + 1) core.new (after_finish thread core.old h) r w)) }
 {
     let _lock = Request::Lock(mutex);
-    held_by(core.finish(thread))
+    locked_by(core.finish(thread))
 }
 
 /// A thread locks a mutex, adds this amount to a sum that the mutex protects, modulo 2 to the power 64, and unlocks

@@ -3,7 +3,7 @@ ghost use Rattle.std.specs.Prelude.{◌≡◌, ◌+◌, ◌<◌, ◌≤◌, [], 
 ghost use Rattle.pif_nodes.specs.Table.{IsApart, no_key};
 ghost use Rattle.pif_owners.specs.Owners.{owner_at, count};
 ghost use Rattle.pif_rtmutex.specs.States.{owners_in};
-ghost use Rattle.pif_plain.specs.ChainExamples.{IsFirst, IsAtRest, IsChain};
+ghost use Rattle.pif_plain.specs.ChainExamples.{AreNewStates, IsAtRest, StandSettled};
 
 use super::walks::{priority, thread};
 use pif_boost::{walk, would_close};
@@ -31,10 +31,10 @@ fn admit_all(owners: &mut RtMutexes, queue: &RunQueue, table: &NodeTable, last: 
 
 // A state of the thread `owner`.
 fn state_of(owners: &mut RtMutexes, queue: &RunQueue, table: &NodeTable, owner: Tid) -> Key
-    requires chain { IsChain owners.old queue.now table.now }
+    requires chain { StandSettled owners.old queue.now table.now }
     requires owner { owner < length (owners_in owners.old table.now).seats }
     requires room { count (owners_in owners.old table.now) + 1 < length (owners_in owners.old table.now).seats }
-    ensures chain { IsChain owners.new queue.now table.now }
+    ensures chain { StandSettled owners.new queue.now table.now }
     ensures state { IsSome (owner_at (owners_in owners.new table.now) result) }
     ensures long { length (owners_in owners.new table.now).seats ≡ length (owners_in owners.old table.now).seats }
     ensures count { count (owners_in owners.new table.now) ≡ count (owners_in owners.old table.now) + 1 }
@@ -51,11 +51,11 @@ fn wait_on(
     state: Key,
     t: Tid,
 ) -> Option<u32>
-    requires chain { IsChain owners.old queue.old table.old }
+    requires chain { StandSettled owners.old queue.old table.old }
     requires state { IsSome (owner_at (owners_in owners.old table.old) state) }
     requires some { 1 ≤ t }
     requires row { t < length (owners_in owners.old table.old).seats }
-    ensures chain { IsChain owners.new queue.new table.new }
+    ensures chain { StandSettled owners.new queue.new table.new }
     ensures long { length (owners_in owners.new table.new).seats ≡ length (owners_in owners.old table.old).seats }
     ensures count { count (owners_in owners.new table.new) ≡ count (owners_in owners.old table.old) }
 {
@@ -80,7 +80,7 @@ fn chain_up(
     queue: &mut RunQueue,
     table: &mut NodeTable,
 ) -> Option<u32>
-    requires chain { IsChain owners.old queue.old table.old }
+    requires chain { StandSettled owners.old queue.old table.old }
     requires long { length (owners_in owners.old table.old).seats ≡ 1002 }
     requires count { count (owners_in owners.old table.old) ≡ 0 }
 {
@@ -97,7 +97,7 @@ fn chain_up(
 
 // Threads 1 to 1,000 wait in a chain, and then thread 1,001 of this priority.
 fn walk_in(rt: &impl Abort, owners: &mut RtMutexes, table: &mut NodeTable, last: u32, hops: u32)
-    requires owners { IsFirst 1001 owners.old }
+    requires owners { AreNewStates 1001 owners.old }
     requires table { table.old ≡ record { lists = replicate 2101 []; keys = replicate 3003 no_key } }
     requires apart { IsApart table.old }
     requires least { 1 ≤ last }

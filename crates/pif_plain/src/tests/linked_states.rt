@@ -4,8 +4,8 @@ ghost use Rattle.pif_nodes.specs.Table.{IsApart, no_key};
 ghost use Rattle.pif_owners.specs.Owners.{owner_at};
 ghost use Rattle.pif_owners.specs.Examples.{queued_two};
 ghost use Rattle.pif_rtmutex.specs.States.{owners_in};
-ghost use Rattle.pif_rtmutex.specs.Holds.{Holds};
-ghost use Rattle.pif_plain.specs.ChainExamples.{IsFirst, IsAtFirst};
+ghost use Rattle.pif_rtmutex.specs.Holds.{HoldsStates};
+ghost use Rattle.pif_plain.specs.ChainExamples.{AreNewStates, IsAtFirst};
 
 use super::walks::{priority, thread};
 use pif_nodes::NodeTable;
@@ -16,7 +16,7 @@ use std::test::Fail;
 
 // New owner states of three threads stand in a new table.
 fn stand_at_first(mutexes: &RtMutexes, table: &NodeTable)
-    requires owners { IsFirst 3 mutexes.now }
+    requires owners { AreNewStates 3 mutexes.now }
     requires table { table.now ≡ record { lists = replicate 6 []; keys = replicate 6 no_key } }
     requires apart { IsApart table.now }
     ensures { IsAtFirst mutexes.now table.now }
@@ -54,7 +54,7 @@ fn queue_two(mutexes: &mut RtMutexes, table: &mut NodeTable) -> Key
     requires { IsAtFirst mutexes.old table.old }
     ensures queued { owners_in mutexes.new table.new ≡ queued_two result }
     ensures state { IsSome (owner_at (owners_in mutexes.new table.new) result) }
-    ensures holds { Holds mutexes.new table.new }
+    ensures holds { HoldsStates mutexes.new table.new }
 {
     let key = mutexes.make(table, thread(1));
     mutexes.enqueue(table, key, thread(2), priority(20), 1);

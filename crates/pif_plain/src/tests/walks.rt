@@ -2,7 +2,7 @@ ghost use Rattle.std.specs.Prelude.{◌≡◌, ◌≤◌, IsSome};
 ghost use Rattle.pif_nodes.specs.Table.{IsApart};
 ghost use Rattle.pif_owners.specs.Owners.{no_owners, owner_at};
 ghost use Rattle.pif_boost.specs.Settled.{IsSettled};
-ghost use Rattle.pif_plain.specs.WalkExamples.{three_threads, new_queue, new_table};
+ghost use Rattle.pif_plain.specs.WalkExamples.{three_threads, new_queue, table_of_three};
 
 use crate::chain_walk::walk;
 use crate::cycles::would_close;
@@ -108,7 +108,7 @@ fn boost_goes_through_a_chain_and_ends(rt: HostRuntime) -> Result<(), Fail> {
 
 fn boost_through_a_chain(rt: &impl Abort, owners: &mut RtMutexes, table: &mut NodeTable)
     requires owners { owners.old ≡ no_owners 3 }
-    requires table { table.old ≡ new_table }
+    requires table { table.old ≡ table_of_three }
     requires apart { IsApart table.old }
 {
     let (t1, t2, t3) = (thread(1), thread(2), thread(3));

@@ -1,7 +1,7 @@
 //! The calls that never wait.
 ghost use Rattle.std.specs.Prelude.{◌≡◌, ◌<◌, ◌⊎◌, IfSome, IfNone, MatchResult, ℕ};
 ghost use Rattle.pif_quick.specs.Turns.{Agree};
-ghost use Rattle.pif_quick.specs.Quick.{word_count, number_of, record_at, IsPassOf, AreSound, IsIdle, IsUnchanged, IsTurnOf, Locks, Unlocks};
+ghost use Rattle.pif_quick.specs.Quick.{word_count, pass_number, record_at, IsPassOf, AreSound, IsIdle, IsUnchanged, IsTurnOf, LocksWord, UnlocksWord};
 
 use super::{Held, Pass, Quick, SPACING};
 use crate::place;
@@ -15,7 +15,7 @@ impl<T: Drop> Quick<T> {
         requires own { IsPassOf self.now pass.old }
         ensures own { IsPassOf self.now pass.new }
         ensures sound { AreSound pass.new }
-        ensures locked { IfSome result (λ h. Locks self.now m pass.old pass.new h) }
+        ensures locked { IfSome result (λ h. LocksWord self.now m pass.old pass.new h) }
         ensures busy { IfNone result (IsUnchanged pass.old pass.new) }
     {
         let number = pass.number;
@@ -38,7 +38,7 @@ impl<T: Drop> Quick<T> {
         requires turn { IsTurnOf self.now pass.old held }
         ensures own { IsPassOf self.now pass.new }
         ensures sound { AreSound pass.new }
-        ensures told { MatchResult result (λ _. Unlocks held pass.old pass.new) (λ h. (h ≡ held) × IsUnchanged pass.old pass.new) }
+        ensures told { MatchResult result (λ _. UnlocksWord held pass.old pass.new) (λ h. (h ≡ held) × IsUnchanged pass.old pass.new) }
     {
         let Held {
             value,

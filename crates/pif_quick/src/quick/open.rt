@@ -3,7 +3,7 @@ ghost use Rattle.std.specs.Prelude.{◌≡◌, ℕ, ◌+◌, ◌*◌, ◌<◌, �
 ghost use Rattle.pif_quick.specs.declared.quick.Pass.{Pass};
 ghost use Rattle.pif_quick.specs.Rule.{opening_at};
 ghost use Rattle.pif_quick.specs.Places.{dealer_at};
-ghost use Rattle.pif_quick.specs.Quick.{word_count, number_of, spaced, spread, IsDealtPass, IsPassOf, AreSound, IsIdle, IsFresh};
+ghost use Rattle.pif_quick.specs.Quick.{word_count, pass_number, spaced, spread, IsDealtPass, IsPassOf, AreSound, IsIdle, IsFresh};
 
 use super::{Pass, Quick, SPACING};
 use crate::parking::Order;
@@ -148,7 +148,7 @@ impl<T: Drop> Quick<T> {
         ensures sound { IfOk result (λ r. All AreSound r.1.items) }
         ensures fresh { IfOk result (λ r. All (IsFresh values.items) r.1.items) }
         ensures idle { IfOk result (λ r. All IsIdle r.1.items) }
-        ensures numbered { IfOk result (λ r. (k : ℕ) (d : Pass T) → k < passes → number_of (slice_index_or r.1.items k d) ≡ k + 1) }
+        ensures numbered { IfOk result (λ r. (k : ℕ) (d : Pass T) → k < passes → pass_number (slice_index_or r.1.items k d) ≡ k + 1) }
     {
         let (board, mut dealer, count) = lay_out(alloc, values)?;
         let handed = sleeping_places(alloc, passes)?;

@@ -1,7 +1,7 @@
 //! The value that a pass holds.
 ghost use Rattle.std.specs.Prelude.{◌≡◌};
 ghost use Rattle.std.specs.Borrow.{sem};
-ghost use Rattle.pif_quick.specs.Quick.{number_of, held_value, held_word};
+ghost use Rattle.pif_quick.specs.Quick.{pass_number, held_value, held_word};
 ghost use Rattle.pif_quick.specs.Lent.{LendsValue};
 
 use super::{Held, Pass};
@@ -33,7 +33,7 @@ impl<T> Held<T> {
 impl<T> Pass<T> {
     /// The pass's number, 1 to 64.
     pub fn number(&self) -> u8
-        ensures { result ≡ number_of self.now }
+        ensures { result ≡ pass_number self.now }
     {
         self.number
     }

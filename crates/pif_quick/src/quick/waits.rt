@@ -1,8 +1,8 @@
 //! The calls that may wait.
 ghost use Rattle.std.specs.Prelude.{◌≡◌, ◌<◌, IfSome, IfNone, vec_len};
-ghost use Rattle.pif_quick.specs.Turns.{IsOpen, Opens, closed};
-ghost use Rattle.pif_quick.specs.Places.{record_of, pass_of, IsPlaceOf, IsPlace};
-ghost use Rattle.pif_quick.specs.Quick.{word_count, IsPassOf, AreSound, IsTurnOf, Locks, Unlocks};
+ghost use Rattle.pif_quick.specs.Turns.{IsOpen, OpensTurn, closed};
+ghost use Rattle.pif_quick.specs.Places.{record_of, pass_of, IsPlaceOf, IsPlaceOfPass};
+ghost use Rattle.pif_quick.specs.Quick.{word_count, IsPassOf, AreSound, IsTurnOf, LocksWord, UnlocksWord};
 
 use super::{Held, Pass, Quick, SPACING};
 use crate::place;
@@ -39,7 +39,7 @@ impl<T: Drop> Quick<T> {
         requires own { IsPassOf self.now pass.old }
         ensures own { IsPassOf self.now pass.new }
         ensures sound { AreSound pass.new }
-        ensures locked { Locks self.now m pass.old pass.new result }
+        ensures locked { LocksWord self.now m pass.old pass.new result }
     {
         let holder = pass.number;
         let place = &mut pass.places[m];
@@ -59,7 +59,7 @@ impl<T: Drop> Quick<T> {
         requires turn { IsTurnOf self.now pass.old held }
         ensures own { IsPassOf self.now pass.new }
         ensures sound { AreSound pass.new }
-        ensures unlocked { Unlocks held pass.old pass.new }
+        ensures unlocked { UnlocksWord held pass.old pass.new }
     {
         let Held {
             value,
@@ -83,7 +83,7 @@ impl<T: Drop> Quick<T> {
         requires place { IsPlaceOf self.now.board.shared.table_id word pass place.old }
         requires numbered { pass < vec_len self.now.handed }
         ensures place { IsPlaceOf self.now.board.shared.table_id word pass place.new }
-        ensures taken { Opens pass result (record_of place.old) (record_of place.new) }
+        ensures taken { OpensTurn pass result (record_of place.old) (record_of place.new) }
     {
         let shelf = &self.board.shared;
         match place::take(shelf, place, word, pass) {
@@ -107,7 +107,7 @@ impl<T: Drop> Quick<T> {
     fn take_soon(&self, place: &mut Place<T>, word: usize, pass: u8) -> Option<T>
         requires { IsPlaceOf self.now.board.shared.table_id word pass place.old }
         ensures place { IsPlaceOf self.now.board.shared.table_id word pass place.new }
-        ensures taken { IfSome result (λ v. Opens pass v (record_of place.old) (record_of place.new)) }
+        ensures taken { IfSome result (λ v. OpensTurn pass v (record_of place.old) (record_of place.new)) }
         ensures kept { IfNone result (record_of place.new ≡ record_of place.old) }
     {
         for tries in 0..TRIES {
@@ -133,7 +133,7 @@ impl<T: Drop> Quick<T> {
 
     /// Marks the word and sleeps until it is handed over. Returns at once if it is free, and if it has changed.
     fn park<R: Wait>(&self, rt: &R, place: &mut Place<T>, word: usize, pass: u8)
-        requires place { IsPlace self.now.board.shared.table_id word place.old }
+        requires place { IsPlaceOfPass self.now.board.shared.table_id word place.old }
         requires numbered { pass < vec_len self.now.handed }
         ensures { (place.new.table_id ≡ place.old.table_id) × (place.new.me ≡ place.old.me) }
     {

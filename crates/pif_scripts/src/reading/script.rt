@@ -1,7 +1,7 @@
 ghost use Rattle.std.specs.Prelude.{◌+◌, ◌≤◌, ◌<◌, ◌≡◌, Ok, true, [], length, OnOk};
 ghost use Rattle.arrayvec.specs.ArrayVec.{array_vec_len};
 ghost use Rattle.pif_scripts.specs.Scripts.{start, closed_at};
-ghost use Rattle.pif_scripts.specs.Runs.{RunsFrom, Turns, Feeds, Flushes, Closes, Stops};
+ghost use Rattle.pif_scripts.specs.Runs.{RunsFrom, RunsPart, Feeds, Flushes, WritesEnd, Stops};
 ghost use Rattle.pif_scripts.specs.Scanners.{scan_of};
 
 use super::ending::{End, Ending, Stop};
@@ -46,7 +46,7 @@ fn turn<L: Listener + Drop, R: Read, W: Write>(
     writer: &mut W,
     notice: &mut Notice,
 ) -> Result<bool, CliFault>
-    ensures answer { Turns L.hearing (scan_of scanner.old) (scan_of scanner.new) (R.remaining reader.old) (R.remaining reader.new) (W.contents writer.old) (W.contents writer.new) result }
+    ensures answer { RunsPart L.hearing (scan_of scanner.old) (scan_of scanner.new) (R.remaining reader.old) (R.remaining reader.new) (W.contents writer.old) (W.contents writer.new) result }
     ensures taken { result ≡ Ok true → scanner.old.taken < scanner.new.taken }
 {
     let mut chunk = [0u8; CHUNK];
@@ -111,7 +111,7 @@ fn close<L: Listener + Drop, W: Write>(
     notice: &mut Notice,
 ) -> Result<bool, CliFault>
     requires { output.old.items ≡ [] }
-    ensures { Closes (W.contents writer.old) (W.contents writer.new) L.hearing.said_of (closed_at L.hearing (scan_of scanner.now)) result }
+    ensures { WritesEnd (W.contents writer.old) (W.contents writer.new) L.hearing.said_of (closed_at L.hearing (scan_of scanner.now)) result }
 {
     match scanner.close(output) {
         Ok(()) => {

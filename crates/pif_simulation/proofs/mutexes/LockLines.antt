@@ -73,8 +73,8 @@ module _ {s : Table} {t m : ℕ} where
       h = going_met g
 
   -- lock: name the mutex in the pending field
-  pub lock_pending_kept : Going s t (Lock m) NamePending → GoKeeps s t (goes_to t (Lock m) Exchange (pending t m s))
-  lock_pending_kept g =
+  pub lock_name_pending_kept : Going s t (Lock m) NamePending → GoKeeps s t (goes_to t (Lock m) Exchange (pending t m s))
+  lock_name_pending_kept g =
       let h = going_met g in
       pending_kept g (going_named g) Exchange (quiet refl refl) (going_ready g) (going_robust g) refl refl (going_ready g, (going_other g, tt)) refl refl
       refl refl refl
@@ -125,8 +125,8 @@ module _ (s : Table) (t : ℕ) (q : Request) (named : has_mutex s (named_by q) �
       handed e = progress_handed q (status_at s t) (health_at s mutex) (uses_of s (variable_of q)) e
 
   -- stopped for good
-  pub lock_stopped_kept : Going s t q StayStopped → GoKeeps s t (record { seen = Waits; after = s })
-  lock_stopped_kept g =
+  pub stay_stopped_kept : Going s t q StayStopped → GoKeeps s t (record { seen = Waits; after = s })
+  stay_stopped_kept g =
       waits_with g s g.sound refl g.known (ap is_ready (going_stopped g)) (frames_same s) (λ y. none refl)
 
 -- WHAT ALL CALLS THAT LOCK SHARE

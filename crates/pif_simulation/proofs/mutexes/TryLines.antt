@@ -48,9 +48,9 @@ module _ (s : Table) (t m : ℕ) where
       h = going_met g
 
   -- trylock: name the mutex in the pending field
-  pub try_pending_kept : Going s t (TryLock m) NamePending
+  pub try_name_pending_kept : Going s t (TryLock m) NamePending
       → GoKeeps s t (goes_to t (TryLock m) Exchange (pending t m s))
-  try_pending_kept g =
+  try_name_pending_kept g =
       let h = going_met g in
       pending_kept g (going_named g) Exchange (quiet refl refl) (going_ready g) (going_robust g) refl refl (going_ready g, (going_other g, tt)) refl refl refl refl refl
 

@@ -1,5 +1,5 @@
 use Rattle.std.proofs.Common.{◌≡◌, ◌∙◌, ℕ, ◌+◌, refl, sym, ap, subst, eqb-true, arith}
-use Rattle.pif_nodes.specs.Table.{Table}
+use Rattle.pif_nodes.specs.Table.{NodeLists}
 use Rattle.pif_runq.specs.Levels.{Queue, IsLevel, level_of, Holds, SameOutside}
 use Rattle.pif_rtmutex.specs.States.{States, owners_in}
 use Rattle.pif_rtmutex.specs.Maximum.{maximum_of}
@@ -23,26 +23,26 @@ maximum-requires-clause-holds c = c.loop-hop.invariant.walking.holds
 pub maximum-requires-clause-row : goal.maximum-requires-clause-row
 maximum-requires-clause-row c =
     let m0 : States = c.args.owners.now in
-    let t0 : Table = c.args.table.now in
+    let t0 : NodeLists = c.args.table.now in
     let m : States = c.loop-hop.owners in
-    let t : Table = c.loop-hop.table in
+    let t : NodeLists = c.loop-hop.table in
     walking-row m0 t0 c.args.start c.requires.states c.requires.repaired c.requires.admitted c.loop-hop.hop c.loop-hop.at m t c.loop-hop.invariant.walking
 
 pub unwrap-prio-requires : goal.unwrap-prio-requires
 unwrap-prio-requires c =
     let m0 : States = c.args.owners.now in
-    let t0 : Table = c.args.table.now in
+    let t0 : NodeLists = c.args.table.now in
     let m : States = c.loop-hop.owners in
-    let t : Table = c.loop-hop.table in
+    let t : NodeLists = c.loop-hop.table in
     walking-some m0 t0 c.args.start c.requires.states c.requires.repaired c.requires.admitted c.loop-hop.hop c.loop-hop.at m t c.loop-hop.invariant.walking
     c.maximum.result c.maximum.ensures
 
 pub returns-then-has_local-clause-done : goal.returns-then-has_local-clause-done
 returns-then-has_local-clause-done c =
     let m0 : States = c.args.owners.now in
-    let t0 : Table = c.args.table.now in
+    let t0 : NodeLists = c.args.table.now in
     let m : States = c.loop-hop.owners in
-    let t : Table = c.loop-hop.table in
+    let t : NodeLists = c.loop-hop.table in
     let own : c.unwrap-prio.result ≡ maximum_of (owners_in m t) c.loop-hop.at = rw c.unwrap-prio.ensures at c.maximum.ensures in
     let same : local_of (owners_in m t) c.loop-hop.at ≡ c.unwrap-prio.result =
     eqb-true (local_of (owners_in m t) c.loop-hop.at) c.unwrap-prio.result (sym c.has_local.ensures ∙ c.if-has_local.true) in
@@ -56,17 +56,17 @@ returns-then-has_local-clause-ends c = λ u ne z. c.loop-hop.invariant.walking.e
 pub boost-requires-clause-row : goal.boost-requires-clause-row
 boost-requires-clause-row c =
     let m0 : States = c.args.owners.now in
-    let t0 : Table = c.args.table.now in
+    let t0 : NodeLists = c.args.table.now in
     let m : States = c.loop-hop.owners in
-    let t : Table = c.loop-hop.table in
+    let t : NodeLists = c.loop-hop.table in
     walking-row m0 t0 c.args.start c.requires.states c.requires.repaired c.requires.admitted c.loop-hop.hop c.loop-hop.at m t c.loop-hop.invariant.walking
 
 pub move_if_queued-requires : goal.move_if_queued-requires
 move_if_queued-requires c =
     let m0 : States = c.args.owners.now in
-    let t0 : Table = c.args.table.now in
+    let t0 : NodeLists = c.args.table.now in
     let m : States = c.loop-hop.owners in
-    let t : Table = c.loop-hop.table in
+    let t : NodeLists = c.loop-hop.table in
     let own : c.unwrap-prio.result ≡ maximum_of (owners_in m t) c.loop-hop.at = rw c.unwrap-prio.ensures at c.maximum.ensures in
     subst (λ (x : Queue). Holds x c.boost.new.table) (sym c.loop-hop.invariant.queue)
     (ended_holds m0 t0 c.args.start c.requires.states c.requires.repaired c.requires.admitted c.loop-hop.hop c.loop-hop.at m t c.loop-hop.invariant.walking
@@ -77,9 +77,9 @@ move_if_queued-requires c =
 pub returns-in-None-clause-done : goal.returns-in-None-clause-done
 returns-in-None-clause-done c =
     let m0 : States = c.args.owners.now in
-    let t0 : Table = c.args.table.now in
+    let t0 : NodeLists = c.args.table.now in
     let m : States = c.loop-hop.owners in
-    let t : Table = c.loop-hop.table in
+    let t : NodeLists = c.loop-hop.table in
     let own : c.unwrap-prio.result ≡ maximum_of (owners_in m t) c.loop-hop.at = rw c.unwrap-prio.ensures at c.maximum.ensures in
     let at_queue : c.loop-hop.queue ≡ c.args.queue.now = c.loop-hop.invariant.queue in
     let levels : (p : ℕ) → IsLevel p → level_of c.move_if_queued.new.queue c.move_if_queued.new.table p
@@ -100,9 +100,9 @@ returns-in-None-clause-done c =
 pub returns-in-None-clause-ends : goal.returns-in-None-clause-ends
 returns-in-None-clause-ends c =
     let m0 : States = c.args.owners.now in
-    let t0 : Table = c.args.table.now in
+    let t0 : NodeLists = c.args.table.now in
     let m : States = c.loop-hop.owners in
-    let t : Table = c.loop-hop.table in
+    let t : NodeLists = c.loop-hop.table in
     let own : c.unwrap-prio.result ≡ maximum_of (owners_in m t) c.loop-hop.at = rw c.unwrap-prio.ensures at c.maximum.ensures in
     let at_queue : c.loop-hop.queue ≡ c.args.queue.now = c.loop-hop.invariant.queue in
     let outside : SameOutside c.args.queue.now c.boost.new.table c.move_if_queued.new.table =
@@ -118,9 +118,9 @@ returns-in-None-clause-ends c =
 pub loop-hop-preserved : goal.loop-hop-preserved
 loop-hop-preserved c =
     let m0 : States = c.args.owners.now in
-    let t0 : Table = c.args.table.now in
+    let t0 : NodeLists = c.args.table.now in
     let m : States = c.loop-hop.owners in
-    let t : Table = c.loop-hop.table in
+    let t : NodeLists = c.loop-hop.table in
     let own : c.unwrap-prio.result ≡ maximum_of (owners_in m t) c.loop-hop.at = rw c.unwrap-prio.ensures at c.maximum.ensures in
     record {
       walking = walking-hop m0 t0 c.args.start c.requires.states c.requires.repaired c.requires.admitted c.loop-hop.hop c.loop-hop.at m t c.loop-hop.invariant.walking
@@ -133,8 +133,8 @@ loop-hop-preserved c =
 pub unreachable-requires : goal.unreachable-requires
 unreachable-requires c =
     let m0 : States = c.args.owners.now in
-    let t0 : Table = c.args.table.now in
+    let t0 : NodeLists = c.args.table.now in
     let m : States = c.loop-hop.owners in
-    let t : Table = c.loop-hop.table in
+    let t : NodeLists = c.loop-hop.table in
     let few = walking-few m0 t0 c.args.start c.requires.states c.requires.repaired c.requires.admitted c.loop-hop.hop c.loop-hop.at m t c.loop-hop.invariant.walking in
     omega (arith, few, c.loop-hop-test.false, c.threads-hop-end.ensures.value, length-seats m0 t0, c.requires.states.waiters.rows)

@@ -1,22 +1,22 @@
 -- A new table has room for a new queue.
 use Rattle.std.proofs.Common.{◌≡◌, ℕ, List, [], length, replicate, ap, sym, subst, arith}
 use Rattle.std.proofs.lemmas.List.{get_or-replicate, length-replicate}
-use Rattle.pif_nodes.specs.Table.{Table, IsApart, no_key, list_with}
+use Rattle.pif_nodes.specs.Table.{NodeLists, IsApart, no_key, list_with}
 use Rattle.pif_runq.specs.Levels.{Queue, list_for, HasRoom}
 use Rattle.pif_foundation_tests.proofs.run_queue.run_queue_picks_first_of_greatest.Goals as goal
 
 new_queue : Queue
 new_queue = record { first_list = 0; first_node = 0; threads = 3; mask = 0 }
 
-has_room : (t : Table) → t ≡ record { lists = replicate 99 []; keys = replicate 3 no_key } → IsApart t
+has_room : (t : NodeLists) → t ≡ record { lists = replicate 99 []; keys = replicate 3 no_key } → IsApart t
     → HasRoom new_queue t
 unfolding new_queue
 has_room t made apart =
-    let lists : t.lists ≡ replicate 99 [] = ap (λ (x : Table). x.lists) made in
+    let lists : t.lists ≡ replicate 99 [] = ap (λ (x : NodeLists). x.lists) made in
     record {
       apart = apart;
       lists = omega (arith, ap length lists, length-replicate {A = List ℕ} 99 []);
-      nodes = omega (arith, ap (λ (x : Table). length x.keys) made, length-replicate 3 no_key);
+      nodes = omega (arith, ap (λ (x : NodeLists). length x.keys) made, length-replicate 3 no_key);
       empty = λ p lp. rw lists (get_or-replicate 99 (list_for new_queue p) [] [] (omega arith));
       free = λ n mine. ap (λ (ls : List (List ℕ)). list_with ls n) lists;
     }

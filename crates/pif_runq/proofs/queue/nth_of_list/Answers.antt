@@ -1,20 +1,20 @@
 use Rattle.std.proofs.Common.{◌≡◌, ℕ, ◌-◌, ◌<◌, ◌≤◌, List, length, Some, sym, ap, ◌∙◌, arith}
 use Rattle.std.proofs.lemmas.Option.{slice_get_past, slice_get_within}
 use Rattle.std.specs.List.{slice_get}
-use Rattle.pif_nodes.specs.Table.{Table, list_at, IsApart}
-use Rattle.pif_runq.proofs.Places.{slice_get-ended, slice_get-has, next_of-place}
+use Rattle.pif_nodes.specs.Table.{NodeLists, list_at, IsApart}
+use Rattle.pif_runq.proofs.Places.{slice_get-ended, slice_get-has, next_node-place}
 use Rattle.pif_runq.proofs.queue.nth_of_list.Goals as goal
 
 pub next-next-requires : goal.next-next-requires
 next-next-requires c =
-    let t : Table = c.args.table.now in
+    let t : NodeLists = c.args.table.now in
     let apart : IsApart t = c.first-next.ensures.apart in
     let has = slice_get-has (list_at t c.args.list) (c.args.before.now - c.loop-next.before) c.in-Some.node (sym c.loop-next.invariant.at ∙ c.in-Some.is) in
     apart.nodes c.args.list c.in-Some.node (apart.alone c.args.list c.in-Some.node has)
 
 pub loop-next-preserved : goal.loop-next-preserved
 loop-next-preserved c =
-    let t : Table = c.args.table.now in
+    let t : NodeLists = c.args.table.now in
     let xs : List ℕ = list_at t c.args.list in
     let k : ℕ = c.args.before.now - c.loop-next.before in
     let here : slice_get xs k ≡ Some c.in-Some.node = sym c.loop-next.invariant.at ∙ c.in-Some.is in
@@ -23,7 +23,7 @@ loop-next-preserved c =
       fewer = omega arith;
       within = omega arith;
       at = c.next-next.ensures.neighbour
-          ∙ next_of-place t c.args.list k c.in-Some.node c.first-next.ensures.apart here
+          ∙ next_node-place t c.args.list k c.in-Some.node c.first-next.ensures.apart here
           ∙ ap (slice_get xs) (omega arith);
     }
 

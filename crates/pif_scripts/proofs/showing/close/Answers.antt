@@ -2,7 +2,7 @@ use Rattle.std.proofs.Common.{refl}
 use Rattle.pif_scripts.specs.Running.{script}
 use Rattle.pif_scripts.specs.Scripts.{closed_at}
 use Rattle.pif_scripts.specs.Scanners.{scan_of}
-use Rattle.pif_scripts.proofs.ShowingLemmas.{Closes-shown, SilentAt-stopped, Stays-stopped}
+use Rattle.pif_scripts.proofs.ShowingLemmas.{WritesEnd-shown, SilentAt-stopped, Stays-stopped}
 use Rattle.pif_scripts.proofs.showing.close.Goals as goal
 
 pub returns-in-Ok-clause-answer : goal.returns-in-Ok-clause-answer
@@ -10,7 +10,7 @@ returns-in-Ok-clause-answer g c = rw c.in-Ok.ensures.1 (refl, tt)
 
 pub returns-in-Err-clause-answer : goal.returns-in-Err-clause-answer
 returns-in-Err-clause-answer g c =
-    Closes-shown script (closed_at script (scan_of c.args.scanner.now)) c.stop_showing.ensures.0 _ _ c.in-Err.end
+    WritesEnd-shown script (closed_at script (scan_of c.args.scanner.now)) c.stop_showing.ensures.0 _ _ c.in-Err.end
     c.stop_showing.result c.in-Err.ensures.0 c.stop_showing.ensures.1
 
 pub returns-in-Err-clause-stays : goal.returns-in-Err-clause-stays

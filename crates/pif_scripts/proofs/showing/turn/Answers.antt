@@ -3,7 +3,7 @@ use Rattle.std.proofs.lemmas.Result.{err_from_is_err_and}
 use Rattle.pif_scripts.specs.Running.{script}
 use Rattle.pif_scripts.specs.Scanners.{scan_of}
 use Rattle.pif_scripts.proofs.RunLemmas.{RunsFrom-read_failed}
-use Rattle.pif_scripts.proofs.ShowingLemmas.{Turns-shown_closed, Turns-shown_fed}
+use Rattle.pif_scripts.proofs.ShowingLemmas.{RunsPart-shown_closed, RunsPart-shown_fed}
 use Rattle.pif_scripts.proofs.showing.turn.Goals as goal
 
 pub returns-in-Err-clause-answer : goal.returns-in-Err-clause-answer
@@ -13,13 +13,13 @@ returns-in-Err-clause-answer g c =
 pub returns-then-count-eq0-clause-answer : goal.returns-then-count-eq0-clause-answer
 returns-then-count-eq0-clause-answer g c =
     let read = rw c.if-count-eq0.true at c.in-Ok.ensures.bytes in
-    Turns-shown_closed script (scan_of c.args.scanner.now) _ _ c.close.result read.0
+    RunsPart-shown_closed script (scan_of c.args.scanner.now) _ _ c.close.result read.0
     (c.in-Ok.ensures.bytes.1 c.if-count-eq0.true (omega arith)) c.close.ensures.answer
 
 pub returns-in_err-feed-clause-answer : goal.returns-in_err-feed-clause-answer
 returns-in_err-feed-clause-answer g c =
     let p = err_from_is_err_and c.from_residual.result c.from_residual.ensures.1 in
-    rw (p.1, p.2) (Turns-shown_fed script (scan_of c.args.scanner.now) (scan_of c.feed.new.scanner)
+    rw (p.1, p.2) (RunsPart-shown_fed script (scan_of c.args.scanner.now) (scan_of c.feed.new.scanner)
     (take c.in-Ok.count c.read.new.buf) _ _ c.in_err-feed.field-0.0 c.in-Ok.ensures.bytes.0
     c.in_err-feed.ensures.answer)
 

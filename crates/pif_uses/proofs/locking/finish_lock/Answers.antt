@@ -1,10 +1,10 @@
 -- Who has locked holds.
 use Rattle.std.proofs.Common.{ap, ◌∙◌}
-use Rattle.pif_uses.specs.Holding.{held_by}
+use Rattle.pif_uses.specs.Holding.{locked_by}
 use Rattle.pif_uses.proofs.HoldLemmas.{finish_holds}
 use Rattle.pif_uses.proofs.locking.finish_lock.Goals as goal
 
 pub returns-clause-holds : goal.returns-clause-holds
 returns-clause-holds c =
-    finish_holds c.args.core.now c.finish.new.self c.args.thread c.args.mutex c.held_by.result
-    (c.held_by.ensures ∙ ap held_by c.finish.ensures.seen) c.finish.ensures.after
+    finish_holds c.args.core.now c.finish.new.self c.args.thread c.args.mutex c.locked_by.result
+    (c.locked_by.ensures ∙ ap locked_by c.finish.ensures.seen) c.finish.ensures.after

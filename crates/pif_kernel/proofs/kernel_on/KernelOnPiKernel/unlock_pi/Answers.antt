@@ -2,7 +2,7 @@ use Rattle.std.proofs.Common.{◌≡◌, ℕ, Ok, Some, subst, sym, ap, ◌∙�
 use Rattle.pif_model.specs.Word.{Words, word_of, set_word, hand_word}
 use Rattle.pif_model.specs.PiKernel.{seat_at, queued_on, words_after_unlock, kernel_after_unlock, kernel_after_hand_over}
 use Rattle.pif_word.specs.WordMap.{words_of}
-use Rattle.pif_kernel.specs.Inside.{Inside, kernel_of, key_at}
+use Rattle.pif_kernel.specs.Inside.{Inside, kernel_of, state_key_at}
 use Rattle.pif_chains.proofs.Statuses.{ready-queued_on_nothing}
 use Rattle.pif_kernel.proofs.Seats.{states_seen}
 use Rattle.pif_kernel.proofs.Answering.{words_stored}
@@ -13,7 +13,7 @@ use Rattle.pif_kernel.proofs.kernel_on.KernelOnPiKernel.unlock_pi.Goals.{in-Some
 pub hand_over-requires-clause-owner : goal.hand_over-requires-clause-owner
 hand_over-requires-clause-owner g c =
     let p : Inside = c.self.inside.parts in
-    let at : key_at p c.args.m ≡ Some c.in-Some.key = sym c.in_ok-key.ensures.own.at ∙ c.in-Some.is in
+    let at : state_key_at p c.args.m ≡ Some c.in-Some.key = sym c.in_ok-key.ensures.own.at ∙ c.in-Some.is in
     c.in_ok-key.ensures.own.state (λ z. some_state p c.self.invariant c.args.m c.in-Some.key at
     (states_seen p c.args.m ∙ z))
 
@@ -25,7 +25,7 @@ hand_over-requires-clause-idle g c =
 pub hand_word-bits-requires : goal.hand_word-bits-requires
 hand_word-bits-requires g c =
     let p : Inside = c.self.inside.parts in
-    let at : key_at p c.args.m ≡ Some c.in-Some.key = sym c.in_ok-key.ensures.own.at ∙ c.in-Some.is in
+    let at : state_key_at p c.args.m ≡ Some c.in-Some.key = sym c.in_ok-key.ensures.own.at ∙ c.in-Some.is in
     omega (
       arith,
       c.get.ensures.value,
@@ -42,7 +42,7 @@ returns-clause-words g c =
     words_stored c.args.words.now c.store.new.self c.args.m bits c.store.ensures.stored
     ∙ elim c.match-branch-2.branch [
       | in-Some w ↦
-          let at : key_at p c.args.m ≡ Some w.in-Some.key = sym c.in_ok-key.ensures.own.at ∙ w.in-Some.is in
+          let at : state_key_at p c.args.m ≡ Some w.in-Some.key = sym c.in_ok-key.ensures.own.at ∙ w.in-Some.is in
           ap (λ (b : ℕ). set_word ws c.args.m (word_of b)) w.bits-is
           ∙ ap (set_word ws c.args.m) (w.hand_word-bits.ensures
           ∙ ap hand_word (w.get.ensures.value ∙ w.hand_over.ensures.next))
@@ -59,7 +59,7 @@ returns-clause-after g c =
     let p : Inside = c.self.inside.parts in
     elim c.match-branch-2.branch [
       | in-Some w ↦
-          let at : key_at p c.args.m ≡ Some w.in-Some.key = sym c.in_ok-key.ensures.own.at ∙ w.in-Some.is in
+          let at : state_key_at p c.args.m ≡ Some w.in-Some.key = sym c.in_ok-key.ensures.own.at ∙ w.in-Some.is in
           ap kernel_of w.self-is ∙ w.hand_over.ensures.after
           ∙ ap (λ (u : ℕ). kernel_after_hand_over u c.args.m (kernel_of p)) w.hand_over.ensures.next
           ∙ sym (kernel_handed c.args.m (kernel_of p) (some_state p c.self.invariant c.args.m w.in-Some.key at))

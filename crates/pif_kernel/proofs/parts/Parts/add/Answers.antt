@@ -3,7 +3,7 @@ use Rattle.pif_types.specs.Bounds.{Bounds}
 use Rattle.pif_runq.specs.Levels.{IsQueued, IsLevel, level_of, level_after_add}
 use Rattle.pif_model.specs.PiKernel.{kernel_after_add}
 use Rattle.pif_kernel.specs.Chained.{Chained}
-use Rattle.pif_kernel.specs.Inside.{Inside, IsSound, kernel_of}
+use Rattle.pif_kernel.specs.Inside.{Inside, IsSoundInside, kernel_of}
 use Rattle.pif_kernel.specs.declared.parts.Parts.TheView.{view}
 use Rattle.pif_kernel.proofs.Found.{found_so}
 use Rattle.pif_kernel.proofs.Seats.{seats_length, limits_seen}
@@ -13,14 +13,14 @@ use Rattle.pif_kernel.proofs.AddSound.{kernel_after, sound_after}
 use Rattle.pif_kernel.proofs.parts.Parts.add.Goals as goal
 
 -- there is room for one more
-room : (p : Inside) → IsSound p → length (kernel_of p).seats ≤ (kernel_of p).limits.threads
+room : (p : Inside) → IsSoundInside p → length (kernel_of p).seats ≤ (kernel_of p).limits.threads
     → length p.statuses ≤ p.limits.threads
 room p h few = omega (arith, few, seats_length p (fits p h), ap (λ (l : Bounds). l.threads) (limits_seen p))
 
 pub push_within-requires : goal.push_within-requires
 push_within-requires g c =
     let p : Inside = view _ g.C.Chains c.self.inside in
-    let h : IsSound p = subst IsSound (sym c.self.view_is) c.requires.sound in
+    let h : IsSoundInside p = subst IsSoundInside (sym c.self.view_is) c.requires.sound in
     let few : length p.statuses ≤ p.limits.threads
     = room p h (subst (λ (x : Inside). length (kernel_of x).seats ≤ (kernel_of x).limits.threads)
     (sym c.self.view_is) c.requires.room) in
@@ -29,7 +29,7 @@ push_within-requires g c =
 pub admit-requires-clause-row : goal.admit-requires-clause-row
 admit-requires-clause-row g c =
     let p : Inside = view _ g.C.Chains c.self.inside in
-    let h : IsSound p = subst IsSound (sym c.self.view_is) c.requires.sound in
+    let h : IsSoundInside p = subst IsSoundInside (sym c.self.view_is) c.requires.sound in
     let few : length p.statuses ≤ p.limits.threads
     = room p h (subst (λ (x : Inside). length (kernel_of x).seats ≤ (kernel_of x).limits.threads)
     (sym c.self.view_is) c.requires.room) in
@@ -39,14 +39,14 @@ admit-requires-clause-row g c =
 pub admit-requires-clause-unparked : goal.admit-requires-clause-unparked
 admit-requires-clause-unparked g c =
     let p : Inside = view _ g.C.Chains c.self.inside in
-    let h : IsSound p = subst IsSound (sym c.self.view_is) c.requires.sound in
+    let h : IsSoundInside p = subst IsSoundInside (sym c.self.view_is) c.requires.sound in
     let value : c.unwrap-t.result ≡ c.len.result = rw c.unwrap-t.ensures at c.new.ensures.value in
     unadded_unnamed p h c.unwrap-t.result (omega (arith, value, c.len.ensures))
 
 pub add-requires-clause-thread : goal.add-requires-clause-thread
 add-requires-clause-thread g c =
     let p : Inside = view _ g.C.Chains c.self.inside in
-    let h : IsSound p = subst IsSound (sym c.self.view_is) c.requires.sound in
+    let h : IsSoundInside p = subst IsSoundInside (sym c.self.view_is) c.requires.sound in
     let few : length p.statuses ≤ p.limits.threads
     = room p h (subst (λ (x : Inside). length (kernel_of x).seats ≤ (kernel_of x).limits.threads)
     (sym c.self.view_is) c.requires.room) in
@@ -56,7 +56,7 @@ add-requires-clause-thread g c =
 pub add-requires-clause-off : goal.add-requires-clause-off
 add-requires-clause-off g c =
     let p : Inside = view _ g.C.Chains c.self.inside in
-    let h : IsSound p = subst IsSound (sym c.self.view_is) c.requires.sound in
+    let h : IsSoundInside p = subst IsSoundInside (sym c.self.view_is) c.requires.sound in
     let few : length p.statuses ≤ p.limits.threads
     = room p h (subst (λ (x : Inside). length (kernel_of x).seats ≤ (kernel_of x).limits.threads)
     (sym c.self.view_is) c.requires.room) in
@@ -67,7 +67,7 @@ add-requires-clause-off g c =
 pub returns : goal.returns
 returns g c =
     let p : Inside = view _ g.C.Chains c.self.inside in
-    let h : IsSound p = subst IsSound (sym c.self.view_is) c.requires.sound in
+    let h : IsSoundInside p = subst IsSoundInside (sym c.self.view_is) c.requires.sound in
     let few : length p.statuses ≤ p.limits.threads
     = room p h (subst (λ (x : Inside). length (kernel_of x).seats ≤ (kernel_of x).limits.threads)
     (sym c.self.view_is) c.requires.room) in

@@ -6,7 +6,7 @@ use Rattle.pif_model.specs.PiKernel.{Kernel, seat_at}
 use Rattle.pif_owners.specs.Owners.{Owners, count, waits_on, without_state}
 use Rattle.pif_kernel.specs.Chained.{Chained, KeepsLevels}
 use Rattle.pif_kernel.specs.Fields.{chains_of}
-use Rattle.pif_kernel.specs.Inside.{Inside, IsSound, kernel_of, key_at, arrivals_in}
+use Rattle.pif_kernel.specs.Inside.{Inside, IsSoundInside, kernel_of, state_key_at, arrivals_in}
 use Rattle.pif_kernel.specs.Leaving.{IsLeft}
 use Rattle.pif_kernel.specs.declared.parts.Parts.TheView.{view}
 use Rattle.pif_kernel.proofs.StillWaits.{left_by}
@@ -17,14 +17,14 @@ use Rattle.pif_kernel.proofs.parts.Parts.dequeue.Goals as goal
 
 -- what is known before
 held : (g : _) (c : Start g) (p : Inside) → p ≡ c.args.self.now
-    → IsSound p × ((seat_at (kernel_of p) c.args.t).status ≡ Queued c.args.m)
+    → IsSoundInside p × ((seat_at (kernel_of p) c.args.t).status ≡ Queued c.args.m)
 held g c p is = (
-  subst IsSound (sym is) c.requires.sound,
+  subst IsSoundInside (sym is) c.requires.sound,
   ap (λ (x : Inside). (seat_at (kernel_of x) c.args.t).status) is ∙ c.requires.queued,
 )
 
 -- the key of the mutex
-key : (g : _) (c : After-unwrap-key g) → key_at (view _ g.C.Chains c.self.inside) c.args.m ≡ Some c.unwrap-key.result
+key : (g : _) (c : After-unwrap-key g) → state_key_at (view _ g.C.Chains c.self.inside) c.args.m ≡ Some c.unwrap-key.result
 key g c = sym c.find.ensures ∙ c.unwrap-key.ensures
 
 pub unwrap-key-requires : goal.unwrap-key-requires
@@ -49,8 +49,8 @@ dequeue-requires g c =
     (key g a.After-unwrap-key)
 
 -- whether another waiter waits for the mutex
-others : (g : _) (c : After-is_none g) (h : IsSound (view _ g.C.Chains c.self.inside))
-    → key_at (view _ g.C.Chains c.self.inside) c.args.m ≡ Some c.unwrap-key.result
+others : (g : _) (c : After-is_none g) (h : IsSoundInside (view _ g.C.Chains c.self.inside))
+    → state_key_at (view _ g.C.Chains c.self.inside) c.args.m ≡ Some c.unwrap-key.result
     → waits_on (view _ g.C.Chains c.self.inside).owners c.args.t ≡ Some c.unwrap-key.result
     → (not (has_waiter (without (view _ g.C.Chains c.self.inside).arrivals c.args.t) c.args.m)) ≡ c.is_none.result
 others g c h at waits =
@@ -78,7 +78,7 @@ close-requires g c =
     let a = goal.at.close-requires g c in
     let p : Inside = view _ g.C.Chains c.self.inside in
     let d = held g a.Start p c.self.view_is in
-    let at : key_at p c.args.m ≡ Some c.unwrap-key.result = key g a.After-unwrap-key in
+    let at : state_key_at p c.args.m ≡ Some c.unwrap-key.result = key g a.After-unwrap-key in
     let r = others g a.After-is_none d.0 at (waits_here p c.args.t c.args.m d.0 d.1 c.unwrap-key.result at) in
     rw c.dequeue.ensures.free (record {
       mutex = ap (λ (ks : List (Option ℕ)). get_or ks c.args.m None) c.dequeue.ensures.kept.keys ∙ at;
@@ -93,7 +93,7 @@ returns-then-is_none g c =
     let a = goal.at.returns-then-is_none g c in
     let p : Inside = view _ g.C.Chains c.self.inside in
     let d = held g a.Start p c.self.view_is in
-    let at : key_at p c.args.m ≡ Some c.unwrap-key.result
+    let at : state_key_at p c.args.m ≡ Some c.unwrap-key.result
     = key g a.After-unwrap-key in
     let r = others g a.After-is_none d.0 at (waits_here p c.args.t c.args.m d.0 d.1 c.unwrap-key.result at) in
     let y : Chained = g.C.Chains.seen c.dequeue.new.self in
@@ -127,7 +127,7 @@ returns-else-is_none g c =
     let a = goal.at.returns-else-is_none g c in
     let p : Inside = view _ g.C.Chains c.self.inside in
     let d = held g a.Start p c.self.view_is in
-    let at : key_at p c.args.m ≡ Some c.unwrap-key.result
+    let at : state_key_at p c.args.m ≡ Some c.unwrap-key.result
     = key g a.After-unwrap-key in
     let r = others g a.After-is_none d.0 at (waits_here p c.args.t c.args.m d.0 d.1 c.unwrap-key.result at) in
     let y : Chained = g.C.Chains.seen c.dequeue.new.self in

@@ -1,6 +1,6 @@
 use Rattle.std.proofs.Common.{◌≡◌, true, subst, sym, ap, ◌∙◌, Some, None, if◌then◌else◌}
 use Rattle.pif_model.specs.PiKernel.{effective_in, is_living}
-use Rattle.pif_kernel.specs.Inside.{Inside, IsSound, kernel_of}
+use Rattle.pif_kernel.specs.Inside.{Inside, IsSoundInside, kernel_of}
 use Rattle.pif_kernel.specs.declared.parts.Parts.TheView.{view}
 use Rattle.pif_kernel.proofs.Standing.{effective_answer}
 use Rattle.pif_kernel.proofs.parts.Parts.effective.Goals as goal
@@ -13,5 +13,5 @@ returns-then-lives g c =
     let lives : is_living (kernel_of (view _ g.C.Chains c.self.inside)) c.args.t ≡ true
     = ap (λ (x : Inside). is_living (kernel_of x) c.args.t) c.self.view_is ∙ sym c.lives.ensures ∙ c.if-lives.true in
     subst P c.self.view_is (effective_answer (view _ g.C.Chains c.self.inside)
-    (subst IsSound (sym c.self.view_is) c.requires) c.args.t c.local.result lives c.local.ensures.given
+    (subst IsSoundInside (sym c.self.view_is) c.requires) c.args.t c.local.result lives c.local.ensures.given
     c.local.ensures.value)

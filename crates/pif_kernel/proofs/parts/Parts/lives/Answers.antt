@@ -5,7 +5,7 @@ use Rattle.pif_model.specs.declared.lines.Status.{Status}
 use Rattle.pif_model.specs.declared.lines.Status.TheVariants.{Ready}
 use Rattle.pif_model.specs.declared.lines.Woken.TheVariants.{Fresh}
 use Rattle.pif_model.specs.PiKernel.{is_living}
-use Rattle.pif_kernel.specs.Inside.{Inside, IsSound, kernel_of, status_at}
+use Rattle.pif_kernel.specs.Inside.{Inside, IsSoundInside, kernel_of, status_at}
 use Rattle.pif_kernel.specs.declared.parts.Parts.TheView.{view}
 use Rattle.pif_kernel.proofs.Seats.{living_by, unadded_dead}
 use Rattle.pif_kernel.proofs.Standing.{fits}
@@ -15,7 +15,7 @@ use Rattle.pif_kernel.proofs.parts.Parts.lives.Goals.{in-Ended, in_default}
 pub returns-after-matches : goal.returns-after-matches
 returns-after-matches g c =
     let p : Inside = view _ g.C.Chains c.self.inside in
-    let h : IsSound p = subst IsSound (sym c.self.view_is) c.requires in
+    let h : IsSoundInside p = subst IsSoundInside (sym c.self.view_is) c.requires in
     let inside : nat_lt c.get.result (length p.statuses) ≡ true
     = ap (λ (l : List Status). nat_lt c.get.result (length l)) (sym c.deref.ensures.value)
     ∙ sym c.in-Some.ensures.lookup.0 in
@@ -38,7 +38,7 @@ returns-after-matches g c =
 pub returns-in-None : goal.returns-in-None
 returns-in-None g c =
     let p : Inside = view _ g.C.Chains c.self.inside in
-    let h : IsSound p = subst IsSound (sym c.self.view_is) c.requires in
+    let h : IsSoundInside p = subst IsSoundInside (sym c.self.view_is) c.requires in
     let outside : nat_lt c.get.result (length p.statuses) ≡ false
     = ap (λ (l : List Status). nat_lt c.get.result (length l)) (sym c.deref.ensures.value)
     ∙ sym c.in-None.ensures.lookup.0 in

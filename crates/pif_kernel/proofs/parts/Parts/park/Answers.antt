@@ -4,7 +4,7 @@ use Rattle.pif_chains.proofs.Statuses.{ready-unparked}
 use Rattle.pif_model.specs.PiKernel.{Kernel, has_seat, is_ready, seat_at, kernel_after_parking}
 use Rattle.pif_kernel.specs.Chained.{Chained, KeepsLevels}
 use Rattle.pif_kernel.specs.Fields.{chains_of}
-use Rattle.pif_kernel.specs.Inside.{Inside, IsSound, kernel_of}
+use Rattle.pif_kernel.specs.Inside.{Inside, IsSoundInside, kernel_of}
 use Rattle.pif_kernel.specs.declared.parts.Parts.TheView.{view}
 use Rattle.pif_kernel.proofs.Found.{found_so}
 use Rattle.pif_kernel.proofs.ParkingFacts.{unparked_unnamed}
@@ -18,10 +18,10 @@ use Rattle.pif_kernel.proofs.parts.Parts.park.Goals as goal
 
 -- what is known before
 held : (g : _) (c : Start g) (p : Inside) → p ≡ c.args.self.now
-    → IsSound p × (has_seat (kernel_of p) c.args.t ≡ true)
+    → IsSoundInside p × (has_seat (kernel_of p) c.args.t ≡ true)
     × (is_ready (seat_at (kernel_of p) c.args.t).status ≡ true)
 held g c p is = (
-  subst IsSound (sym is) c.requires.sound,
+  subst IsSoundInside (sym is) c.requires.sound,
   subst (λ (x : Inside). has_seat (kernel_of x) c.args.t ≡ true) (sym is) c.requires.added,
   subst (λ (x : Inside). is_ready (seat_at (kernel_of x) c.args.t).status ≡ true) (sym is) c.requires.ready,
 )
@@ -70,7 +70,7 @@ returns g c =
     let y : Chained = record (g.C.Chains.seen c.park.new.self) { keys = p.keys; parked = p.parked } in
     let k : KeepsLevels (chains_of p) y = kept g a.After-park in
     let there : Inside = moved p y k in
-    let sound : IsSound there = sound_in_table p y k d.0 in
+    let sound : IsSoundInside there = sound_in_table p y k d.0 in
     let added : has_seat (kernel_of there) c.args.t ≡ true
     = ap (λ (z : Kernel). has_seat z c.args.t) (kernel_moved p y k) ∙ d.1 in
     let ready : is_ready (seat_at (kernel_of there) c.args.t).status ≡ true

@@ -3,7 +3,7 @@ use Rattle.pif_model.specs.declared.lines.Status.TheVariants.{Ended}
 use Rattle.pif_model.specs.RobustList.{robust_at, walk_of, has_entry}
 use Rattle.pif_model.specs.PiKernel.{seat_at, after_deaths}
 use Rattle.pif_robust.specs.Walk.{ahead}
-use Rattle.pif_kernel.specs.Inside.{IsSound, kernel_of}
+use Rattle.pif_kernel.specs.Inside.{IsSoundInside, kernel_of}
 use Rattle.pif_kernel.specs.Systems.{system_of}
 use Rattle.pif_kernel.proofs.parts.Parts.pass_all_on.Given as goal
 
@@ -13,7 +13,7 @@ invariant-loop-next g l = record {
   on : (m : ℕ) → l.next ≡ Some m → has_entry (walk_of (robust_at l.lists l.t)) m ≡ true;
   after : after_deaths l.t (ahead l.next (walk_of (robust_at l.lists l.t))) (system_of l.words l.self)
       ≡ after_deaths l.t (walk_of (robust_at l.lists l.t)) (system_of l.initial.words l.initial.self);
-  sound : IsSound l.self;
+  sound : IsSoundInside l.self;
   ended : (seat_at (kernel_of l.self) l.t).status ≡ Ended;
 }
 

@@ -4,7 +4,7 @@ use Rattle.pif_model.specs.Word.{Words, word_at, set_word, orphan_word, inherit_
 use Rattle.pif_model.specs.PiKernel.{Kernel, System, seat_at, state_at, after_death, kernel_after_hand_over, next_in}
 use Rattle.pif_word.specs.WordMap.{words_of}
 use Rattle.pif_chains.proofs.KernelExit.{death-no_word, death-other_number, death-other_owner, death-orphaned, death-inherited, death-ended}
-use Rattle.pif_kernel.specs.Inside.{Inside, kernel_of, key_at}
+use Rattle.pif_kernel.specs.Inside.{Inside, kernel_of, state_key_at}
 use Rattle.pif_kernel.specs.declared.parts.Parts.TheView.{view}
 use Rattle.pif_kernel.specs.Systems.{system_of}
 use Rattle.pif_kernel.proofs.Answering.{word_seen, number_seen, some_word, no_word, words_stored}
@@ -53,11 +53,11 @@ inherited : (g : _) (c : After-store-in-Some g) → (word_at (words_of c.args.wo
 inherited g c n =
     let e : c.has.result ≡ true = grind arith in
     let same : c.owner.result ≡ c.args.t = grind (arith, nat_tests, c.eq.ensures, c.if-eq.true) in
-    let at : key_at c.args.self.now c.args.m ≡ Some c.in-Some.key = sym c.key.ensures ∙ c.in-Some.is in
+    let at : state_key_at c.args.self.now c.args.m ≡ Some c.in-Some.key = sym c.key.ensures ∙ c.in-Some.is in
     let s : state_at (kernel_of c.args.self.now) c.args.m ≡ c.owner.result
     = sym (ap (λ (x : Inside). state_at (kernel_of x) c.args.m) c.self.view_is)
     ∙ state_named (view _ g.C.Chains c.self.inside) c.args.m c.in-Some.key c.owner.result
-    (ap (λ (x : Inside). key_at x c.args.m) c.self.view_is ∙ at) c.owner.ensures.value in
+    (ap (λ (x : Inside). state_key_at x c.args.m) c.self.view_is ∙ at) c.owner.ensures.value in
     let ws : Words = words_of c.args.words.now in
     let k : Kernel = kernel_of c.args.self.now in
     let next : c.hand_over-next.result ≡ next_in k c.args.m = c.hand_over-next.ensures.next in
@@ -99,10 +99,10 @@ returns-in-Some-clause-ended g c =
 pub returns-else-eq-clause-after : goal.returns-else-eq-clause-after
 returns-else-eq-clause-after g c =
     let other : c.owner.result ≢ c.args.t = λ z. absurd (grind (arith, nat_tests, c.eq.ensures, c.if-eq.false)) in
-    let at : key_at c.args.self.now c.args.m ≡ Some c.in-Some.key = sym c.key.ensures ∙ c.in-Some.is in
+    let at : state_key_at c.args.self.now c.args.m ≡ Some c.in-Some.key = sym c.key.ensures ∙ c.in-Some.is in
     let s : state_at (kernel_of c.args.self.now) c.args.m ≡ c.owner.result
     = sym (ap (λ (x : Inside). state_at (kernel_of x) c.args.m) c.self.view_is)
     ∙ state_named (view _ g.C.Chains c.self.inside) c.args.m c.in-Some.key c.owner.result
-    (ap (λ (x : Inside). key_at x c.args.m) c.self.view_is ∙ at) c.owner.ensures.value in
+    (ap (λ (x : Inside). state_key_at x c.args.m) c.self.view_is ∙ at) c.owner.ensures.value in
     sym (death-other_owner c.args.t c.args.m (system_of c.args.words.now c.args.self.now)
     (some_state c.args.self.now c.requires.sound c.args.m c.in-Some.key at) (λ z. other (sym s ∙ z)))

@@ -2,12 +2,12 @@ use Rattle.std.proofs.Common.{[], ◌∷◌, ◌++◌, set, is_some, subst, sym,
 use Rattle.pif_model.specs.declared.lines.Status.TheVariants.{Queued}
 use Rattle.pif_model.specs.PiKernel.{Kernel, has_seat, is_ready, kernel_after_queueing}
 use Rattle.pif_model.specs.PiKernel.{seat_at as kernel_seat_at}
-use Rattle.pif_nodes.specs.Lists.{has, without}
+use Rattle.pif_nodes.specs.Lists.{has, list_without}
 use Rattle.pif_runq.specs.Levels.{Queue}
 use Rattle.pif_chains.proofs.KernelFacts.{living-added}
 use Rattle.pif_chains.proofs.Statuses.{ready-unparked}
 use Rattle.pif_kernel.specs.Chained.{Chained}
-use Rattle.pif_kernel.specs.Inside.{Inside, kernel_of, key_at}
+use Rattle.pif_kernel.specs.Inside.{Inside, kernel_of, state_key_at}
 use Rattle.pif_kernel.specs.Opened.{IsOpened}
 use Rattle.pif_kernel.specs.declared.parts.Parts.TheView.{view}
 use Rattle.pif_kernel.proofs.Found.{found_so}
@@ -23,7 +23,7 @@ use Rattle.pif_kernel.proofs.parts.Parts.queue_on.Goals as goal
 pub state_of-key-requires : goal.state_of-key-requires
 state_of-key-requires g c = record {
   mutex = omega (arith, c.take_ticket-ticket.ensures.sound.placed.keys, c.requires.mutex);
-  key = c.requires.key ∙ sym (ap (λ (x : Inside). key_at x c.args.m) c.take_ticket-ticket.ensures.frame);
+  key = c.requires.key ∙ sym (ap (λ (x : Inside). state_key_at x c.args.m) c.take_ticket-ticket.ensures.frame);
   owner =
       omega (
         arith,
@@ -114,7 +114,7 @@ queued g c i =
     before_walk _ _ _ _ _ _ _ _ i c.unwrap-prio.result z.owners z.queue z.table value
     (c.take_out.ensures.owners ∙ c.enqueue.ensures.queued)
     (c.take_out.ensures.place ∙ ap (λ (q : Queue). record q { mask = z.queue.mask }) c.enqueue.ensures.kept.queue)
-    (λ r lr. c.take_out.ensures.levels r lr ∙ ap (without c.args.t) (c.enqueue.ensures.kept.levels r lr))
+    (λ r lr. c.take_out.ensures.levels r lr ∙ ap (list_without c.args.t) (c.enqueue.ensures.kept.levels r lr))
     c.take_out.ensures.holds
 
 pub walk-requires : goal.walk-requires

@@ -2,7 +2,7 @@ use Rattle.std.proofs.Common.{◌≡◌, ◌+◌, List, length, refl, subst, sym
 use Rattle.pif_model.specs.declared.lines.Status.{Status}
 use Rattle.pif_owners.specs.Owners.{Owners}
 use Rattle.pif_kernel.specs.Chained.{Chained}
-use Rattle.pif_kernel.specs.Inside.{Inside, IsSound, kernel_of, arrivals_in}
+use Rattle.pif_kernel.specs.Inside.{Inside, IsSoundInside, kernel_of, arrivals_in}
 use Rattle.pif_kernel.specs.Tickets.{IsRenumbered}
 use Rattle.pif_kernel.specs.declared.parts.Parts.TheView.{view}
 use Rattle.pif_kernel.proofs.Found.{found_so, renewed}
@@ -15,7 +15,7 @@ use Rattle.pif_kernel.proofs.parts.Parts.renumber.Goals as goal
 pub number_anew-ticket-requires : goal.number_anew-ticket-requires
 number_anew-ticket-requires g c =
     let p : Inside = view _ g.C.Chains c.self.inside in
-    let h : IsSound p = subst IsSound (sym c.self.view_is) c.requires.sound in
+    let h : IsSoundInside p = subst IsSoundInside (sym c.self.view_is) c.requires.sound in
     record {
       holds = h.placed.holds;
       waiters = rw c.deref.ensures.value (renumberable p h);
@@ -30,7 +30,7 @@ anew : (g : _) (c : After-number_anew-ticket g)
       table = (g.C.Chains.seen c.number_anew-ticket.new.chains).table;
       next = c.number_anew-ticket.result;
     }) ≡ kernel_of c.args.self.now)
-    × IsSound (record (view _ g.C.Chains c.self.inside) {
+    × IsSoundInside (record (view _ g.C.Chains c.self.inside) {
       owners = (g.C.Chains.seen c.number_anew-ticket.new.chains).owners;
       queue = (g.C.Chains.seen c.number_anew-ticket.new.chains).queue;
       table = (g.C.Chains.seen c.number_anew-ticket.new.chains).table;
@@ -38,7 +38,7 @@ anew : (g : _) (c : After-number_anew-ticket g)
     })
 anew g c =
     let p : Inside = view _ g.C.Chains c.self.inside in
-    let h : IsSound p = subst IsSound (sym c.self.view_is) c.requires.sound in
+    let h : IsSoundInside p = subst IsSoundInside (sym c.self.view_is) c.requires.sound in
     let x : Chained = g.C.Chains.seen c.number_anew-ticket.new.chains in
     let there = sound_in_table p x c.number_anew-ticket.ensures.kept h in
     let tags : IsRenumbered p.owners x.owners p.arrivals (length p.arrivals)

@@ -1,7 +1,7 @@
 use Rattle.std.proofs.Common.{◌≡◌, ◌≤◌, true, Ok, subst, sym, ap, ◌∙◌, arith}
 use Rattle.pif_model.specs.PiKernel.{is_living, kernel_after_set_prio}
 use Rattle.pif_kernel.specs.Chained.{Chained}
-use Rattle.pif_kernel.specs.Inside.{Inside, IsSound, kernel_of}
+use Rattle.pif_kernel.specs.Inside.{Inside, IsSoundInside, kernel_of}
 use Rattle.pif_kernel.specs.declared.parts.Parts.TheView.{view}
 use Rattle.pif_kernel.proofs.Found.{found_so}
 use Rattle.pif_kernel.proofs.WalkSound.{IsWalkable, on_levels, on_running, on_local, ended}
@@ -19,7 +19,7 @@ before_walk : (g : _) (c : After-set_base g)
     (kernel_after_set_prio c.args.t c.args.prio (Ok (record {})) (kernel_of c.args.self.now))
 before_walk g c =
     let p : Inside = view _ g.C.Chains c.self.inside in
-    let h : IsSound p = subst IsSound (sym c.self.view_is) c.requires.sound in
+    let h : IsSoundInside p = subst IsSoundInside (sym c.self.view_is) c.requires.sound in
     let lives : is_living (kernel_of p) c.args.t ≡ true
     = subst (λ (x : Inside). is_living (kernel_of x) c.args.t ≡ true) (sym c.self.view_is) c.requires.living in
     let some : 1 ≤ c.args.prio = omega (arith, c.get-level.ensures.value, c.get-level.ensures.low) in

@@ -1,6 +1,6 @@
 use Rattle.std.proofs.Common.{◌+◌, ◌<◌, length, refl, subst, sym, ap, ◌∙◌}
 use Rattle.pif_owners.specs.Owners.{count}
-use Rattle.pif_kernel.specs.Inside.{Inside, key_at}
+use Rattle.pif_kernel.specs.Inside.{Inside, state_key_at}
 use Rattle.pif_kernel.specs.Opened.IsOpened.{found}
 use Rattle.pif_kernel.proofs.QueueingSound.{opened_made}
 use Rattle.pif_kernel.proofs.parts.Parts.state_of.Goals as goal
@@ -11,7 +11,7 @@ returns-in-Some g c = found (sym c.requires.key ∙ c.in-Some.is) refl
 pub open-requires : goal.open-requires
 open-requires g c = record {
   mutex = subst (λ (x : Inside). c.args.m < length x.keys) (sym c.self.view_is) c.requires.mutex;
-  none = ap (λ (x : Inside). key_at x c.args.m) c.self.view_is ∙ sym c.requires.key ∙ c.in-None.is;
+  none = ap (λ (x : Inside). state_key_at x c.args.m) c.self.view_is ∙ sym c.requires.key ∙ c.in-None.is;
   owner = subst (λ (x : Inside). c.args.owner < length x.owners.seats) (sym c.self.view_is) c.requires.owner;
   room =
       subst (λ (x : Inside). count x.owners + 1 < length x.owners.seats) (sym c.self.view_is)

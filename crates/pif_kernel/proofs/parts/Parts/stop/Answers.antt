@@ -1,7 +1,7 @@
 use Rattle.std.proofs.Common.{◌≡◌, true, subst, sym, ◌∙◌, ap, arith}
 use Rattle.pif_model.specs.PiKernel.{has_seat, is_ready, seat_at, kernel_after_stop}
 use Rattle.pif_kernel.specs.Chained.{Chained}
-use Rattle.pif_kernel.specs.Inside.{Inside, IsSound, kernel_of}
+use Rattle.pif_kernel.specs.Inside.{Inside, IsSoundInside, kernel_of}
 use Rattle.pif_kernel.specs.declared.parts.Parts.TheView.{view}
 use Rattle.pif_kernel.proofs.Found.{found_so}
 use Rattle.pif_kernel.proofs.Seats.{added_seen}
@@ -12,7 +12,7 @@ use Rattle.pif_kernel.proofs.parts.Parts.stop.Goals as goal
 pub index_mut-requires : goal.index_mut-requires
 index_mut-requires g c =
     let p : Inside = view _ g.C.Chains c.self.inside in
-    let h : IsSound p = subst IsSound (sym c.self.view_is) c.requires.sound in
+    let h : IsSoundInside p = subst IsSoundInside (sym c.self.view_is) c.requires.sound in
     let known : has_seat (kernel_of p) c.args.t ≡ true
     = subst (λ (x : Inside). has_seat (kernel_of x) c.args.t ≡ true) (sym c.self.view_is) c.requires.added in
     omega (arith, (added_seen p (fits p h) c.args.t known).1, c.get.ensures.value)
@@ -20,7 +20,7 @@ index_mut-requires g c =
 pub take_out-requires : goal.take_out-requires
 take_out-requires g c =
     let p : Inside = view _ g.C.Chains c.self.inside in
-    let h : IsSound p = subst IsSound (sym c.self.view_is) c.requires.sound in
+    let h : IsSoundInside p = subst IsSoundInside (sym c.self.view_is) c.requires.sound in
     ready_queued p h c.args.t (subst (λ (x : Inside). has_seat (kernel_of x) c.args.t ≡ true)
     (sym c.self.view_is) c.requires.added)
     (subst (λ (x : Inside). is_ready (seat_at (kernel_of x) c.args.t).status ≡ true)
@@ -29,7 +29,7 @@ take_out-requires g c =
 pub returns : goal.returns
 returns g c =
     let p : Inside = view _ g.C.Chains c.self.inside in
-    let h : IsSound p = subst IsSound (sym c.self.view_is) c.requires.sound in
+    let h : IsSoundInside p = subst IsSoundInside (sym c.self.view_is) c.requires.sound in
     let known : has_seat (kernel_of p) c.args.t ≡ true
     = subst (λ (x : Inside). has_seat (kernel_of x) c.args.t ≡ true) (sym c.self.view_is) c.requires.added in
     let ready : is_ready (seat_at (kernel_of p) c.args.t).status ≡ true

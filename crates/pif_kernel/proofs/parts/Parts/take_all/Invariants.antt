@@ -2,7 +2,7 @@ use Rattle.std.proofs.Common.{◌≡◌, ℕ, ◌+◌, true}
 use Rattle.pif_model.specs.PiKernel.{has_parked, parked_count, after_takings}
 use Rattle.pif_word.specs.declared.cells.Cell.TheVariants.{Mutex}
 use Rattle.pif_word.specs.WordMap.{HasCell}
-use Rattle.pif_kernel.specs.Inside.{IsSound, kernel_of}
+use Rattle.pif_kernel.specs.Inside.{IsSoundInside, kernel_of}
 use Rattle.pif_kernel.specs.Systems.{system_of}
 use Rattle.pif_kernel.specs.Takings.{FitsWord}
 use Rattle.pif_kernel.proofs.parts.Parts.take_all.Given as goal
@@ -10,7 +10,7 @@ use Rattle.pif_kernel.proofs.parts.Parts.take_all.Given as goal
 -- the takings that are left lead to what all lead to, and each that was done took one that was parked
 abbrev pub invariant-loop-taken : goal.invariant-loop-taken
 invariant-loop-taken g l = record {
-  sound : IsSound l.self;
+  sound : IsSoundInside l.self;
   word : HasCell l.words (Mutex l.m);
   fits : has_parked (kernel_of l.self) l.c ≡ true → FitsWord l.m (system_of l.words l.self);
   count : parked_count (kernel_of l.self) l.c + l.taken ≡ parked_count (kernel_of l.initial.self) l.c;

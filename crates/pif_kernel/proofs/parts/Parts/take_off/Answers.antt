@@ -6,7 +6,7 @@ use Rattle.pif_chains.proofs.KernelFacts.{living-added}
 use Rattle.pif_chains.proofs.Statuses.{ready-unparked}
 use Rattle.pif_runq.specs.Levels.{Queue}
 use Rattle.pif_kernel.specs.Chained.{Chained}
-use Rattle.pif_kernel.specs.Inside.{Inside, IsSound, kernel_of}
+use Rattle.pif_kernel.specs.Inside.{Inside, IsSoundInside, kernel_of}
 use Rattle.pif_kernel.specs.Leaving.{IsLeft}
 use Rattle.pif_kernel.specs.declared.parts.Parts.TheView.{view}
 use Rattle.pif_kernel.proofs.Seats.{status_seen}
@@ -22,7 +22,7 @@ status-requires-clause-added g c = living-added (kernel_of c.args.self.now) c.ar
 pub take_out-requires : goal.take_out-requires
 take_out-requires g c =
     let p : Inside = view _ g.C.Chains c.self.inside in
-    let h : IsSound p = subst IsSound (sym c.self.view_is) c.requires.sound in
+    let h : IsSoundInside p = subst IsSoundInside (sym c.self.view_is) c.requires.sound in
     let lives : is_living (kernel_of p) c.args.t ≡ true
     = subst (λ (x : Inside). is_living (kernel_of x) c.args.t ≡ true) (sym c.self.view_is) c.requires.living in
     ready_queued p h c.args.t (living-added (kernel_of p) c.args.t lives)
@@ -32,7 +32,7 @@ take_out-requires g c =
 pub returns-in-Ready : goal.returns-in-Ready
 returns-in-Ready g c =
     let p : Inside = view _ g.C.Chains c.self.inside in
-    let h : IsSound p = subst IsSound (sym c.self.view_is) c.requires.sound in
+    let h : IsSoundInside p = subst IsSoundInside (sym c.self.view_is) c.requires.sound in
     let lives : is_living (kernel_of p) c.args.t ≡ true
     = subst (λ (x : Inside). is_living (kernel_of x) c.args.t ≡ true) (sym c.self.view_is) c.requires.living in
     let ready : is_ready (seat_at (kernel_of p) c.args.t).status ≡ true
@@ -48,7 +48,7 @@ returns-in-Ready g c =
 pub returns-in-Parked : goal.returns-in-Parked
 returns-in-Parked g c =
     let p : Inside = view _ g.C.Chains c.self.inside in
-    let h : IsSound p = subst IsSound (sym c.self.view_is) c.requires.sound in
+    let h : IsSoundInside p = subst IsSoundInside (sym c.self.view_is) c.requires.sound in
     let lives : is_living (kernel_of p) c.args.t ≡ true
     = subst (λ (x : Inside). is_living (kernel_of x) c.args.t ≡ true) (sym c.self.view_is) c.requires.living in
     let status : (seat_at (kernel_of p) c.args.t).status ≡ c.status.result
@@ -80,7 +80,7 @@ not_parked x (inr e) = ap is_parked e
 pub returns-in-Stopped : goal.returns-in-Stopped
 returns-in-Stopped g c =
     let p : Inside = c.args.self.now in
-    let h : IsSound p = c.requires.sound in
+    let h : IsSoundInside p = c.requires.sound in
     left_idle p c.args.t h (living-added (kernel_of p) c.args.t c.requires.living)
     (ap queued_on (sym (status_seen p (fits p h) c.args.t) ∙ sym c.status.ensures)
     ∙ idle c.status.result c.in-Stopped.is)

@@ -1,5 +1,5 @@
 use Rattle.std.proofs.Common.{◌≡◌, ◌<◌, subst, sym, ap, ◌∙◌, arith}
-use Rattle.pif_kernel.specs.Inside.{Inside, IsSound, kernel_of}
+use Rattle.pif_kernel.specs.Inside.{Inside, IsSoundInside, kernel_of}
 use Rattle.pif_kernel.specs.declared.parts.Parts.TheView.{view}
 use Rattle.pif_kernel.proofs.Waiters.{arrivals_few}
 use Rattle.pif_kernel.proofs.RenumberSound.{kernel_next, sound_next}
@@ -18,13 +18,13 @@ returns-clause-same g c =
 
 pub returns-clause-sound : goal.returns-clause-sound
 returns-clause-sound g c =
-    let sound : IsSound c.if-self.self =
+    let sound : IsSoundInside c.if-self.self =
     elim c.if-self.branch [
-      | then-self w ↦ subst IsSound (sym w.self-is) w.renumber.ensures.sound
+      | then-self w ↦ subst IsSoundInside (sym w.self-is) w.renumber.ensures.sound
       | else-self w ↦
-          (let e : c.if-self.self ≡ c.args.self.now = cc in subst IsSound (sym e) c.requires.sound)
+          (let e : c.if-self.self ≡ c.args.self.now = cc in subst IsSoundInside (sym e) c.requires.sound)
     ] in
-    sound_next (view _ g.C.Chains c.self-2.inside) (subst IsSound (sym c.self-2.view_is) sound)
+    sound_next (view _ g.C.Chains c.self-2.inside) (subst IsSoundInside (sym c.self-2.view_is) sound)
 
 pub overflow_add-self : goal.overflow_add-self
 overflow_add-self g c =

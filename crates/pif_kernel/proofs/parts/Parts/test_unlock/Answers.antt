@@ -3,7 +3,7 @@ use Rattle.std.proofs.lemmas.Bool.Decides.{nat_tests}
 use Rattle.pif_model.specs.Word.{word_at}
 use Rattle.pif_model.specs.PiKernel.{state_at}
 use Rattle.pif_word.specs.WordMap.{words_of}
-use Rattle.pif_kernel.specs.Inside.{Inside, kernel_of, key_at}
+use Rattle.pif_kernel.specs.Inside.{Inside, kernel_of, state_key_at}
 use Rattle.pif_kernel.specs.declared.parts.Parts.TheView.{view}
 use Rattle.pif_kernel.proofs.Answering.{number_seen, some_word, no_word, unlock_fault, unlock_other, unlock_done, unlock_disagrees}
 use Rattle.pif_kernel.proofs.CallFacts.{some_state, no_state, state_named, named_or_none, named_other}
@@ -40,8 +40,8 @@ returns-in-Some-clause-answer g c =
     let e : c.has.result ≡ true = grind arith in
     let n = number g (goal.at.returns-in-Some-clause-answer g c).After-get in
     let same : c.owner.result ≡ c.args.t = grind (arith, nat_tests, c.eq.ensures, c.if-eq.true) in
-    let at : key_at (view _ g.C.Chains c.self.inside) c.args.m ≡ Some c.in-Some.key
-    = ap (λ (x : Inside). key_at x c.args.m) c.self.view_is ∙ sym c.key.ensures ∙ c.in-Some.is in
+    let at : state_key_at (view _ g.C.Chains c.self.inside) c.args.m ≡ Some c.in-Some.key
+    = ap (λ (x : Inside). state_key_at x c.args.m) c.self.view_is ∙ sym c.key.ensures ∙ c.in-Some.is in
     let s
     = sym (ap (λ (x : Inside). state_at (kernel_of x) c.args.m) c.self.view_is)
     ∙ state_named (view _ g.C.Chains c.self.inside) c.args.m c.in-Some.key c.owner.result at c.owner.ensures.value in
@@ -53,8 +53,8 @@ returns-in-Some-2-clause-answer g c =
     let e : c.has.result ≡ true = grind arith in
     let n = number g (goal.at.returns-in-Some-2-clause-answer g c).After-get in
     let other : c.owner.result ≢ c.args.t = λ z. absurd (grind (arith, nat_tests, c.eq.ensures, c.if-eq.false)) in
-    let at : key_at (view _ g.C.Chains c.self.inside) c.args.m ≡ Some c.in-Some.key
-    = ap (λ (x : Inside). key_at x c.args.m) c.self.view_is ∙ sym c.key.ensures ∙ c.in-Some.is in
+    let at : state_key_at (view _ g.C.Chains c.self.inside) c.args.m ≡ Some c.in-Some.key
+    = ap (λ (x : Inside). state_key_at x c.args.m) c.self.view_is ∙ sym c.key.ensures ∙ c.in-Some.is in
     let s
     = sym (ap (λ (x : Inside). state_at (kernel_of x) c.args.m) c.self.view_is)
     ∙ state_named (view _ g.C.Chains c.self.inside) c.args.m c.in-Some.key c.owner.result at c.owner.ensures.value in

@@ -6,7 +6,7 @@ use Rattle.pif_model.specs.PiKernel.{seat_at as kernel_seat_at}
 use Rattle.pif_owners.specs.Owners.{Owners, seat_at}
 use Rattle.pif_kernel.specs.Chained.{Chained, KeepsLevels}
 use Rattle.pif_kernel.specs.Fields.{chains_of}
-use Rattle.pif_kernel.specs.Inside.{Inside, IsSound, kernel_of}
+use Rattle.pif_kernel.specs.Inside.{Inside, IsSoundInside, kernel_of}
 use Rattle.pif_kernel.specs.declared.parts.Parts.TheView.{view}
 use Rattle.pif_kernel.proofs.Found.{found_so}
 use Rattle.pif_kernel.proofs.TableMoved.{moved, kernel_moved, sound_in_table, levels_kept_beside}
@@ -16,11 +16,11 @@ use Rattle.pif_kernel.proofs.parts.Parts.wake.Goals as goal
 
 -- what is known before
 held : (g : _) (c : Start g) (p : Inside) → p ≡ c.args.self.now
-    → IsSound p × (has_seat (kernel_of p) c.args.t ≡ true)
+    → IsSoundInside p × (has_seat (kernel_of p) c.args.t ≡ true)
     × (is_ready (kernel_seat_at (kernel_of p) c.args.t).status ≡ false)
     × (queued_on (kernel_seat_at (kernel_of p) c.args.t).status ≡ 0)
 held g c p is = (
-  subst IsSound (sym is) c.requires.sound,
+  subst IsSoundInside (sym is) c.requires.sound,
   ap (λ (x : Inside). has_seat (kernel_of x) c.args.t) is ∙ c.requires.added,
   ap (λ (x : Inside). is_ready (kernel_seat_at (kernel_of x) c.args.t).status) is ∙ c.requires.unready,
   ap (λ (x : Inside). queued_on (kernel_seat_at (kernel_of x) c.args.t).status) is ∙ c.requires.unqueued,
@@ -77,7 +77,7 @@ woken : (g : _) (c : After-add g)
       table = (g.C.Chains.seen c.add.new.self).table;
       parked = unparked (view _ g.C.Chains c.self.inside).parked c.args.t;
     }) ≡ kernel_after_waking c.args.t c.args.woken (kernel_of c.args.self.now))
-    × IsSound (record (view _ g.C.Chains c.self.inside) {
+    × IsSoundInside (record (view _ g.C.Chains c.self.inside) {
       statuses = set c.self.inside.statuses.items c.args.t (Ready c.args.woken);
       queue = (g.C.Chains.seen c.add.new.self).queue;
       table = (g.C.Chains.seen c.add.new.self).table;

@@ -1,5 +1,5 @@
 use Rattle.std.proofs.Common.{subst, sym, ap, ◌∙◌}
-use Rattle.pif_nodes.specs.Lists.{without}
+use Rattle.pif_nodes.specs.Lists.{list_without}
 use Rattle.pif_runq.specs.Levels.{IsQueued, level_of}
 use Rattle.pif_kernel.specs.Chained.{Chained}
 use Rattle.pif_linked.proofs.Standing.{linked_queue, owners_there, keys_stay, parkings_stay}
@@ -20,7 +20,7 @@ returns c = record {
   owners = owners_there c.self.inside.owners c.self.inside.queue c.self.inside.buckets c.self.inside.table c.self.inside.next c.self.invariant c.take_out.new.self c.take_out.new.table c.take_out.ensures.place c.take_out.ensures.outside c.take_out.ensures.holds
       ∙ ap (λ (x : Chained). x.owners) c.self.view_is;
   levels = λ p lp. c.take_out.ensures.levels p lp
-      ∙ ap (λ (x : Chained). without c.args.t (level_of x.queue x.table p)) c.self.view_is;
+      ∙ ap (λ (x : Chained). list_without c.args.t (level_of x.queue x.table p)) c.self.view_is;
   place = c.take_out.ensures.place
       ∙ ap (λ (x : Chained). record x.queue { mask = c.take_out.new.self.mask }) c.self.view_is;
   holds = c.take_out.ensures.holds;

@@ -1,5 +1,5 @@
 use Rattle.std.proofs.Common.{rules, arith, ◌≡◌, ◌∙◌, ap, sym, subst, length}
-use Rattle.pif_nodes.specs.Table.{Table, IsApart, holder}
+use Rattle.pif_nodes.specs.Table.{NodeLists, IsApart, holder}
 use Rattle.pif_nodes.specs.Links.{follower_of}
 use Rattle.pif_nodes.proofs.SeenLemmas.{Shows-from, holders-put, Ties-shown, apart_shown, held_in, follower_in}
 use Rattle.pif_nodes.proofs.ReadLemmas.{nodes_seen}
@@ -40,7 +40,7 @@ returns c =
     let before = Shows-from _ _ _ c.self.view_is c.self.invariant in
     record {
       put = now.view;
-      holders = λ n. ap (λ (t : Table). holder t n) now.view
+      holders = λ n. ap (λ (t : NodeLists). holder t n) now.view
           ∙ holders-put _ _ _ before c.args.list c.args.node c.args.after c.follower-next.result (omega (arith, nodes_seen _ _ _ c.self.view_is c.self.invariant)) c.requires.list_in c.requires.free c.requires.place next n;
       apart = subst IsApart (sym now.view) (apart_shown _ _ _ now);
     }

@@ -1,7 +1,7 @@
 use Rattle.std.proofs.Common.{arith, ◌≡◌, ◌∙◌, ap, sym, subst, length}
 use Rattle.std.proofs.lemmas.Option.{same_Some}
-use Rattle.pif_nodes.specs.Lists.{without}
-use Rattle.pif_nodes.specs.Table.{Table, IsApart, with_list, list_at, holder}
+use Rattle.pif_nodes.specs.Lists.{list_without}
+use Rattle.pif_nodes.specs.Table.{NodeLists, IsApart, with_list, list_at, holder}
 use Rattle.pif_nodes.proofs.SeenLemmas.{Shows-from, holders-taken, Ties-shown, apart_shown}
 use Rattle.pif_nodes.proofs.ReadLemmas.{apart_seen}
 use Rattle.pif_nodes.proofs.WriteLemmas.{Shows-detached, holder_is, list_within, prev_within, next_within}
@@ -35,7 +35,7 @@ returns-in-Some c =
     c.deref_mut.ensures.value c.deref_mut-in-Some.ensures.value c.get-in-Some.ensures c.unlink.ensures.nodes c.unlink.ensures.ends size count in
     record {
       before = apart_seen _ _ _ c.self.view_is c.self.invariant;
-      taken = λ l h. now.view ∙ ap (λ k. with_list c.args.self.now k (without c.args.node (list_at c.args.self.now k))) (same_Some c.in-Some.list l (sym mine ∙ h));
-      holders = λ n. ap (λ (t : Table). holder t n) now.view ∙ holders-taken _ _ _ (Shows-from _ _ _ c.self.view_is c.self.invariant) c.in-Some.list c.args.node mine n;
+      taken = λ l h. now.view ∙ ap (λ k. with_list c.args.self.now k (list_without c.args.node (list_at c.args.self.now k))) (same_Some c.in-Some.list l (sym mine ∙ h));
+      holders = λ n. ap (λ (t : NodeLists). holder t n) now.view ∙ holders-taken _ _ _ (Shows-from _ _ _ c.self.view_is c.self.invariant) c.in-Some.list c.args.node mine n;
       apart = subst IsApart (sym now.view) (apart_shown _ _ _ now);
     }

@@ -1,20 +1,20 @@
 use Rattle.std.proofs.Common.{◌≡◌, ℕ, ◌+◌, [], length, subst, sym, ap, ◌∙◌, arith}
 use Rattle.std.proofs.lemmas.List.{length-replicate}
-use Rattle.pif_nodes.specs.Table.{Table, IsApart}
+use Rattle.pif_nodes.specs.Table.{NodeLists, IsApart}
 use Rattle.pif_runq.specs.Levels.{Queue, HasRoom, level_of}
 use Rattle.pif_owners.specs.Owners.{Owners, no_seat}
 use Rattle.pif_runq.proofs.EmptyTables.{empty_table, queue_room, empty_level}
 use Rattle.pif_plain.proofs.chains.PlainChainsChains.new.Goals as goal
 
-room : (threads : ℕ) (q : Queue) (t : Table)
+room : (threads : ℕ) (q : Queue) (t : NodeLists)
     → q ≡ record { first_list = 0; first_node = 0; threads = threads; mask = 0 } → t ≡ empty_table 99 threads → IsApart t
     → HasRoom q t × ((p : ℕ) → level_of q t p ≡ [])
 room threads q t is made apart = (
   subst (λ (x : Queue). HasRoom x t) (sym is)
-      (subst (λ (y : Table). HasRoom (record { first_list = 0; first_node = 0; threads = threads; mask = 0 }) y) (sym made)
+      (subst (λ (y : NodeLists). HasRoom (record { first_list = 0; first_node = 0; threads = threads; mask = 0 }) y) (sym made)
       (queue_room (record { first_list = 0; first_node = 0; threads = threads; mask = 0 }) 99 threads (omega arith) (omega arith)
       (subst IsApart made apart))),
-  λ p. ap (λ (y : Table). level_of q y p) made ∙ empty_level q 99 threads p,
+  λ p. ap (λ (y : NodeLists). level_of q y p) made ∙ empty_level q 99 threads p,
 )
 
 pub invariant_of-result : goal.invariant_of-result

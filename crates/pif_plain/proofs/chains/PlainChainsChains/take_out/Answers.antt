@@ -1,5 +1,5 @@
 use Rattle.std.proofs.Common.{subst, sym, ap, ◌∙◌}
-use Rattle.pif_nodes.specs.Lists.{without}
+use Rattle.pif_nodes.specs.Lists.{list_without}
 use Rattle.pif_runq.specs.Levels.{IsQueued, level_of}
 use Rattle.pif_kernel.specs.Chained.{Chained}
 use Rattle.pif_plain.proofs.chains.PlainChainsChains.take_out.Goals as goal
@@ -11,7 +11,7 @@ pub returns : goal.returns
 returns c = record {
   owners = ap (λ (x : Chained). x.owners) c.self.view_is;
   levels = λ p lp. c.take_out.ensures.levels p lp
-      ∙ ap (λ (x : Chained). without c.args.t (level_of x.queue x.table p)) c.self.view_is;
+      ∙ ap (λ (x : Chained). list_without c.args.t (level_of x.queue x.table p)) c.self.view_is;
   place = c.take_out.ensures.place
       ∙ ap (λ (x : Chained). record x.queue { mask = c.take_out.new.self.mask }) c.self.view_is;
   holds = c.take_out.ensures.holds;

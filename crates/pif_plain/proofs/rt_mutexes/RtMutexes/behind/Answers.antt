@@ -1,5 +1,5 @@
 use Rattle.std.proofs.Common.{◌≡◌, ◌∙◌, ◌+◌, length, arith, ap, subst, sym}
-use Rattle.pif_owners.specs.Owners.{Owners, IsSound}
+use Rattle.pif_owners.specs.Owners.{Owners, AreSoundOwners}
 use Rattle.pif_plain.proofs.BehindLemmas.{IsFirstBehind, asked, behind-none, behind-some, next-first, same-first}
 use Rattle.pif_plain.proofs.rt_mutexes.RtMutexes.behind.Goals as goal
 use Rattle.pif_plain.proofs.rt_mutexes.RtMutexes.behind.Goals.{then-leads, else-leads}
@@ -8,7 +8,7 @@ pub returns-clause-last : goal.returns-clause-last
 returns-clause-last c =
     let all : c.loop-u.u ≡ length c.args.self.now.seats = omega (arith, c.len-u-end.ensures, ap (λ (v : Owners). length v.seats) c.self.view_is, c.self.inside.rows.ok) in
     behind-none c.new.result c.args.self.now c.args.t c.loop-u.u c.loop-u.first
-    (subst IsSound c.self.view_is c.self.invariant.sound) all c.requires c.new.ensures.valid c.loop-u.invariant
+    (subst AreSoundOwners c.self.view_is c.self.invariant.sound) all c.requires c.new.ensures.valid c.loop-u.invariant
 
 pub returns-clause-behind : goal.returns-clause-behind
 returns-clause-behind c =

@@ -1,5 +1,5 @@
 use Rattle.std.proofs.Common.{◌≡◌, sym, subst, ap, arith}
-use Rattle.pif_owners.specs.Owners.{count, without_state, IsSound}
+use Rattle.pif_owners.specs.Owners.{count, without_state, AreSoundOwners}
 use Rattle.pif_plain.specs.StateFields.{owners_from}
 use Rattle.pif_owners.proofs.OwnersLemmas.{sound-ended}
 use Rattle.pif_plain.proofs.StateFieldsLemmas.{contains-state, owners_from-removed}
@@ -20,7 +20,7 @@ invariant_of-self c = record {
   room = omega (arith, c.self.invariant.room, c.remove.ensures.capacity);
   sound =
       let ended : owners_from c.self.inside.rows.items c.remove.new.self ≡ without_state c.args.key c.args.self.now = returns-clause-ended c in
-      subst IsSound (sym ended) (sound-ended c.args.key c.args.self.now c.requires.free (subst IsSound c.self.view_is c.self.invariant.sound));
+      subst AreSoundOwners (sym ended) (sound-ended c.args.key c.args.self.now c.requires.free (subst AreSoundOwners c.self.view_is c.self.invariant.sound));
 }
 
 pub returns-clause-acyclic : goal.returns-clause-acyclic

@@ -1,5 +1,5 @@
 use Rattle.std.proofs.Common.{◌≡◌, None, sym, subst, ap, ◌∙◌, arith}
-use Rattle.pif_owners.specs.Owners.{Owners, owner_at, count, waits_on, with_owner, HasNoWaiter, IsSound}
+use Rattle.pif_owners.specs.Owners.{Owners, owner_at, count, waits_on, with_owner, HasNoWaiter, AreSoundOwners}
 use Rattle.pif_plain.specs.StateFields.{owners_from}
 use Rattle.pif_owners.proofs.OwnersLemmas.{sound-made, no_waiter-without_state}
 use Rattle.pif_plain.proofs.StateFieldsLemmas.{value-owner, room-for_one, owners_from-put}
@@ -24,13 +24,13 @@ invariant_of-self c =
     let made : owners_from c.self.inside.rows.items c.insert_reserved.new.self ≡ with_owner c.new.result c.args.owner c.args.self.now = returns-clause-made c in
     record {
       room = omega (arith, c.self.invariant.room, c.insert_reserved.ensures.capacity);
-      sound = subst IsSound (sym made) (sound-made c.new.result c.args.owner c.args.self.now fresh (subst IsSound c.self.view_is c.self.invariant.sound));
+      sound = subst AreSoundOwners (sym made) (sound-made c.new.result c.args.owner c.args.self.now fresh (subst AreSoundOwners c.self.view_is c.self.invariant.sound));
     }
 
 pub returns-clause-free : goal.returns-clause-free
 returns-clause-free c =
     let fresh : owner_at c.args.self.now c.new.result ≡ None = returns-clause-fresh c in
-    let none : HasNoWaiter c.args.self.now c.new.result = no_waiter-without_state c.args.self.now c.new.result (subst IsSound c.self.view_is c.self.invariant.sound) fresh in
+    let none : HasNoWaiter c.args.self.now c.new.result = no_waiter-without_state c.args.self.now c.new.result (subst AreSoundOwners c.self.view_is c.self.invariant.sound) fresh in
     λ t w. none t (ap (λ (v : Owners). waits_on v t) (sym c.self.view_is) ∙ w)
 
 pub returns-clause-acyclic : goal.returns-clause-acyclic

@@ -1,6 +1,6 @@
 use Rattle.std.proofs.Common.{arith, sym, subst, ap, rules, ◌≡◌, ◌+◌, ◌≤◌, [], length, replicate}
 use Rattle.std.proofs.lemmas.List.{length-replicate}
-use Rattle.pif_owners.specs.Owners.{IsSound, no_owners, no_seat}
+use Rattle.pif_owners.specs.Owners.{AreSoundOwners, no_owners, no_seat}
 use Rattle.pif_plain.specs.StateFields.{owners_from}
 use Rattle.pif_owners.proofs.MapLemmas.{owners_of-empty}
 use Rattle.pif_owners.proofs.OwnersLemmas.{sound-no_owners}
@@ -15,5 +15,5 @@ invariant_of-result c =
     λ i. record { seats = rows i; owners = owners_of-empty c.in_ok-owners.owners slots i } in
     record {
       room = omega (arith, ap length rows, length-replicate (c.args.threads + 1) no_seat, room);
-      sound = subst IsSound (sym made) (sound-no_owners c.args.threads c.requires);
+      sound = subst AreSoundOwners (sym made) (sound-no_owners c.args.threads c.requires);
     }

@@ -1,7 +1,7 @@
 use Rattle.std.proofs.Common.{◌≡◌, sym, subst}
 use Rattle.slab.specs.Slab.{ContainsKey, with_value}
 use Rattle.slab.proofs.SlabLemmas.{Updates-with_value}
-use Rattle.pif_owners.specs.Owners.{with_owner, IsSound}
+use Rattle.pif_owners.specs.Owners.{with_owner, AreSoundOwners}
 use Rattle.pif_plain.specs.StateFields.{owners_from}
 use Rattle.pif_plain.proofs.StateFieldsLemmas.{contains-state, owners_from-put}
 use Rattle.pif_plain.proofs.rt_mutexes.RtMutexes.set_owner.Goals as goal
@@ -20,7 +20,7 @@ invariant_of-self c =
     let put : owners_from c.self.inside.rows.items (with_value c.self.inside.owners c.get.result c.args.owner) ≡ with_owner c.args.key c.args.owner c.args.self.now = returns-clause-put c in
     record {
       room = c.self.invariant.room;
-      sound = subst IsSound (sym put) (c.requires.sound (subst IsSound c.self.view_is c.self.invariant.sound));
+      sound = subst AreSoundOwners (sym put) (c.requires.sound (subst AreSoundOwners c.self.view_is c.self.invariant.sound));
     }
 
 pub returns-clause-sound : goal.returns-clause-sound

@@ -1,5 +1,5 @@
 use Rattle.std.proofs.Common.{◌≡◌, length, arith, ap, subst}
-use Rattle.pif_owners.specs.Owners.{Owners, IsSound}
+use Rattle.pif_owners.specs.Owners.{Owners, AreSoundOwners}
 use Rattle.pif_plain.proofs.TopLemmas.{first-some, top-state}
 use Rattle.pif_plain.proofs.rt_mutexes.RtMutexes.top.Goals as goal
 
@@ -9,4 +9,4 @@ returns-clause-top c =
     first-some c.new.result c.args.self.now c.args.key c.loop-t.t c.loop-t.first all c.new.ensures.valid c.new.ensures.value c.loop-t.invariant
 
 pub returns-clause-state : goal.returns-clause-state
-returns-clause-state c = top-state c.new.result c.args.self.now c.args.key (subst IsSound c.self.view_is c.self.invariant.sound) (returns-clause-top c)
+returns-clause-state c = top-state c.new.result c.args.self.now c.args.key (subst AreSoundOwners c.self.view_is c.self.invariant.sound) (returns-clause-top c)

@@ -2,12 +2,12 @@
 use Rattle.std.proofs.Common.{◌≡◌, ◌≤◌, ◌+◌, length}
 use Rattle.pif_owners.specs.Owners.{count}
 use Rattle.pif_rtmutex.specs.States.{owners_in}
-use Rattle.pif_plain.specs.ChainExamples.{IsChain}
+use Rattle.pif_plain.specs.ChainExamples.{StandSettled}
 use Rattle.pif_plain.proofs.tests.hops.chain_up.Given as goal
 
 abbrev pub invariant-loop-number : goal.invariant-loop-number
 invariant-loop-number g l = record {
-  chain : IsChain l.owners l.queue l.table;
+  chain : StandSettled l.owners l.queue l.table;
   long : length (owners_in l.owners l.table).seats ≡ 1002;
   count : count (owners_in l.owners l.table) + 1 ≤ l.number;
 }

@@ -1,13 +1,13 @@
 use Rattle.std.proofs.Common.{◌≡◌, ◌∙◌, ap, sym, subst, Some}
 use Rattle.pif_nodes.specs.Lists.{insert_after}
-use Rattle.pif_nodes.specs.Table.{Table, list_at, holder, with_list, with_key}
+use Rattle.pif_nodes.specs.Table.{NodeLists, list_at, holder, with_list, with_key}
 use Rattle.pif_plist.specs.Order.{IsSorted, table_after_insert, OthersStaySorted}
 use Rattle.pif_plist.proofs.InsertLemmas.{put_is, inserted_sorted, inserted_others, place_held}
 use Rattle.pif_plist.proofs.plist.PList.insert.Goals as goal
 
 pub attach_after-requires-clause-place : goal.attach_after-requires-clause-place
 attach_after-requires-clause-place c = λ x h.
-    ap (λ (t : Table). holder t x) c.set_key.ensures.renamed ∙ place_held c.args.table.now c.args.self.now c.args.node (record { prio = c.args.prio; ticket = c.args.ticket }) c.place-place.result c.place-place.ensures.apart c.requires.node_in c.requires.list_in c.requires.free c.requires.sorted c.place-place.ensures.place x h ∙ ap Some (sym c.self.view_is)
+    ap (λ (t : NodeLists). holder t x) c.set_key.ensures.renamed ∙ place_held c.args.table.now c.args.self.now c.args.node (record { prio = c.args.prio; ticket = c.args.ticket }) c.place-place.result c.place-place.ensures.apart c.requires.node_in c.requires.list_in c.requires.free c.requires.sorted c.place-place.ensures.place x h ∙ ap Some (sym c.self.view_is)
 
 pub returns-clause-put : goal.returns-clause-put
 returns-clause-put c =
@@ -27,7 +27,7 @@ returns-clause-sorted c =
     c.attach_after.ensures.put
     ∙ (λ i. with_list (named i) (c.self.view_is i) (insert_after c.place-place.result c.args.node (list_at (named i) (c.self.view_is i))))
     ∙ ap (λ xs. with_list (with_key c.args.table.now c.args.node (record { prio = c.args.prio; ticket = c.args.ticket })) c.args.self.now xs) (put_is c.args.table.now c.args.self.now c.args.node (record { prio = c.args.prio; ticket = c.args.ticket }) c.place-place.result c.place-place.ensures.apart c.requires.node_in c.requires.list_in c.requires.free c.requires.sorted c.place-place.ensures.place) in
-    subst (λ (t : Table). IsSorted t c.args.self.now) (sym put) (inserted_sorted c.args.table.now c.args.self.now c.args.node (record { prio = c.args.prio; ticket = c.args.ticket }) c.place-place.result c.place-place.ensures.apart c.requires.node_in c.requires.list_in c.requires.free c.requires.sorted c.place-place.ensures.place)
+    subst (λ (t : NodeLists). IsSorted t c.args.self.now) (sym put) (inserted_sorted c.args.table.now c.args.self.now c.args.node (record { prio = c.args.prio; ticket = c.args.ticket }) c.place-place.result c.place-place.ensures.apart c.requires.node_in c.requires.list_in c.requires.free c.requires.sorted c.place-place.ensures.place)
 
 pub returns-clause-others : goal.returns-clause-others
 returns-clause-others c =
@@ -37,4 +37,4 @@ returns-clause-others c =
     c.attach_after.ensures.put
     ∙ (λ i. with_list (named i) (c.self.view_is i) (insert_after c.place-place.result c.args.node (list_at (named i) (c.self.view_is i))))
     ∙ ap (λ xs. with_list (with_key c.args.table.now c.args.node (record { prio = c.args.prio; ticket = c.args.ticket })) c.args.self.now xs) (put_is c.args.table.now c.args.self.now c.args.node (record { prio = c.args.prio; ticket = c.args.ticket }) c.place-place.result c.place-place.ensures.apart c.requires.node_in c.requires.list_in c.requires.free c.requires.sorted c.place-place.ensures.place) in
-    subst (λ (t : Table). OthersStaySorted c.args.table.now t c.args.self.now) (sym put) (inserted_others c.args.table.now c.args.self.now c.args.node (record { prio = c.args.prio; ticket = c.args.ticket }) c.place-place.result c.place-place.ensures.apart c.requires.node_in c.requires.list_in c.requires.free c.requires.sorted c.place-place.ensures.place)
+    subst (λ (t : NodeLists). OthersStaySorted c.args.table.now t c.args.self.now) (sym put) (inserted_others c.args.table.now c.args.self.now c.args.node (record { prio = c.args.prio; ticket = c.args.ticket }) c.place-place.result c.place-place.ensures.apart c.requires.node_in c.requires.list_in c.requires.free c.requires.sorted c.place-place.ensures.place)

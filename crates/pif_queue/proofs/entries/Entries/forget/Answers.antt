@@ -1,6 +1,6 @@
 use Rattle.std.proofs.Common.{◌≡◌, ◌∙◌, Some, sym}
 use Rattle.pif_nodes.specs.Table.{list_at, holder, with_list}
-use Rattle.pif_nodes.specs.Lists.{without}
+use Rattle.pif_nodes.specs.Lists.{list_without}
 use Rattle.pif_queue.specs.Entries.{bucket_of, node_with}
 use Rattle.pif_queue.proofs.EntryLemmas.{is-some, with-stands}
 use Rattle.pif_queue.proofs.EntryChanges.{forgot-found, forgot-holds, forgot-outside}
@@ -23,7 +23,7 @@ is_at c = sym c.node_with.ensures ∙ c.in-Some.is
 is_taken : (c : goal.After-detach)
     → c.detach.new.self
     ≡ with_list c.args.table.now (bucket_of c.args.self.now c.args.word)
-    (without c.in-Some.node (list_at c.args.table.now (bucket_of c.args.self.now c.args.word)))
+    (list_without c.in-Some.node (list_at c.args.table.now (bucket_of c.args.self.now c.args.word)))
 is_taken c =
     c.detach.ensures.taken (bucket_of c.args.self.now c.args.word)
     (with-stands c.args.self.now c.args.table.now c.requires.holds c.args.word c.in-Some.node (is_at c)).0

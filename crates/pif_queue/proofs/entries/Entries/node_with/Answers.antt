@@ -1,9 +1,9 @@
 use Rattle.std.proofs.Common.{◌≡◌, ◌∙◌, ◌%◌, ◌<◌, ℕ, List, Option, Some, ap, sym, subst}
 use Rattle.std.proofs.lemmas.Bool.{eq-eqb, ne_eqb}
-use Rattle.pif_nodes.specs.Lists.{next_in}
-use Rattle.pif_nodes.specs.Table.{Table, list_at}
+use Rattle.pif_nodes.specs.Lists.{next_in_list}
+use Rattle.pif_nodes.specs.Table.{NodeLists, list_at}
 use Rattle.pif_plist.proofs.WalkLemmas.{left, next_of_is}
-use Rattle.pif_queue.specs.Entries.{Entry, Entries, bucket_of, word_of, IsEntered}
+use Rattle.pif_queue.specs.Entries.{Entry, Entries, bucket_of, word_of_node, IsEntered}
 use Rattle.pif_queue.proofs.EntryLemmas.{bucket-below}
 use Rattle.pif_queue.proofs.Passing.{IsPassing, passing-has, passing-smaller, passing-step, passing-found, passing-end}
 use Rattle.pif_queue.proofs.entries.Entries.node_with.Goals as goal
@@ -12,7 +12,7 @@ use Rattle.pif_queue.proofs.entries.Entries.node_with.Goals as goal
 entered : (c : goal.In-Some) → IsEntered c.args.self.now (c.args.word % 64) c.in-Some.node
 entered c =
     let e : Entries = c.args.self.now in
-    let t : Table = c.args.table.now in
+    let t : NodeLists = c.args.table.now in
     let xs : List ℕ = list_at t (bucket_of e c.args.word) in
     let p : IsPassing e c.args.word xs (Some c.in-Some.node) =
     subst (IsPassing e c.args.word xs) c.in-Some.is c.loop-next.invariant in
@@ -28,7 +28,7 @@ entry-requires-clause-row c = (entered c).row
 pub next-next-requires : goal.next-next-requires
 next-next-requires c =
     let e : Entries = c.args.self.now in
-    let t : Table = c.args.table.now in
+    let t : NodeLists = c.args.table.now in
     let xs : List ℕ = list_at t (bucket_of e c.args.word) in
     let p : IsPassing e c.args.word xs (Some c.in-Some.node) =
     subst (IsPassing e c.args.word xs) c.in-Some.is c.loop-next.invariant in
@@ -39,12 +39,12 @@ next-next-requires c =
 pub loop-next-smaller : goal.loop-next-smaller
 loop-next-smaller c =
     let e : Entries = c.args.self.now in
-    let t : Table = c.args.table.now in
+    let t : NodeLists = c.args.table.now in
     let xs : List ℕ = list_at t (bucket_of e c.args.word) in
     let p : IsPassing e c.args.word xs (Some c.in-Some.node) =
     subst (IsPassing e c.args.word xs) c.in-Some.is c.loop-next.invariant in
     let once = c.requires.apart.once (bucket_of e c.args.word) in
-    let next : c.next-next.result ≡ next_in xs c.in-Some.node =
+    let next : c.next-next.result ≡ next_in_list xs c.in-Some.node =
     c.next-next.ensures.neighbour
     ∙ next_of_is t (bucket_of e c.args.word) c.in-Some.node c.requires.apart (passing-has e c.args.word xs c.in-Some.node p once) in
     subst (λ (o : Option ℕ). left c.next-next.result xs < left o xs) (sym c.in-Some.is)
@@ -53,18 +53,18 @@ loop-next-smaller c =
 pub loop-next-preserved : goal.loop-next-preserved
 loop-next-preserved c =
     let e : Entries = c.args.self.now in
-    let t : Table = c.args.table.now in
+    let t : NodeLists = c.args.table.now in
     let xs : List ℕ = list_at t (bucket_of e c.args.word) in
     let p : IsPassing e c.args.word xs (Some c.in-Some.node) =
     subst (IsPassing e c.args.word xs) c.in-Some.is c.loop-next.invariant in
     let once = c.requires.apart.once (bucket_of e c.args.word) in
-    let next : c.next-next.result ≡ next_in xs c.in-Some.node =
+    let next : c.next-next.result ≡ next_in_list xs c.in-Some.node =
     c.next-next.ensures.neighbour
     ∙ next_of_is t (bucket_of e c.args.word) c.in-Some.node c.requires.apart (passing-has e c.args.word xs c.in-Some.node p once) in
-    let word : c.entry-in-Some.inside.word ≡ word_of e c.in-Some.node =
+    let word : c.entry-in-Some.inside.word ≡ word_of_node e c.in-Some.node =
     ap (λ (x : Entry). x.word) (c.entry-in-Some.view_is ∙ c.entry.ensures) in
     passing-step e c.args.word xs c.in-Some.node p once c.next-next.result
-    (ne_eqb (word_of e c.in-Some.node) c.args.word (λ same. c.if-entry-word.false (word ∙ same))) next
+    (ne_eqb (word_of_node e c.in-Some.node) c.args.word (λ same. c.if-entry-word.false (word ∙ same))) next
 
 pub returns-then-entry-word : goal.returns-then-entry-word
 returns-then-entry-word c =
@@ -72,11 +72,11 @@ returns-then-entry-word c =
     let xs : List ℕ = list_at c.args.table.now (bucket_of e c.args.word) in
     let p : IsPassing e c.args.word xs (Some c.in-Some.node) =
     subst (IsPassing e c.args.word xs) c.in-Some.is c.loop-next.invariant in
-    let word : c.entry-in-Some.inside.word ≡ word_of e c.in-Some.node =
+    let word : c.entry-in-Some.inside.word ≡ word_of_node e c.in-Some.node =
     ap (λ (x : Entry). x.word) (c.entry-in-Some.view_is ∙ c.entry.ensures) in
     sym
     (passing-found e c.args.word xs c.in-Some.node p (c.requires.apart.once (bucket_of e c.args.word))
-    (eq-eqb (word_of e c.in-Some.node) c.args.word (sym word ∙ c.if-entry-word.true)))
+    (eq-eqb (word_of_node e c.in-Some.node) c.args.word (sym word ∙ c.if-entry-word.true)))
 
 pub returns-in_default : goal.returns-in_default
 returns-in_default c =

@@ -1,5 +1,5 @@
 use Rattle.std.proofs.Common.{◌∙◌, ap, arith}
-use Rattle.pif_nodes.specs.Table.{Table}
+use Rattle.pif_nodes.specs.Table.{NodeLists}
 use Rattle.pif_queue.specs.Parked.{ParkedLists, with_differing}
 use Rattle.pif_queue.proofs.ParkedLemmas.{counts, few-differences}
 use Rattle.pif_queue.proofs.parked_lists.ParkedLists.count_out.Goals as goal
@@ -7,7 +7,7 @@ use Rattle.pif_queue.proofs.parked_lists.ParkedLists.count_out.Goals as goal
 pub overflow_add-count : goal.overflow_add-count
 overflow_add-count c =
     let p : ParkedLists = c.args.self.now in
-    let t : Table = c.args.table.now in
+    let t : NodeLists = c.args.table.now in
     omega (
       arith,
       counts p t c.requires.stand c.args.c c.args.node c.requires.cond c.requires.held,
@@ -24,7 +24,7 @@ overflow_add-count c =
 pub overflow_sub-count : goal.overflow_sub-count
 overflow_sub-count c =
     let p : ParkedLists = c.args.self.now in
-    let t : Table = c.args.table.now in
+    let t : NodeLists = c.args.table.now in
     omega (
       arith,
       counts p t c.requires.stand c.args.c c.args.node c.requires.cond c.requires.held,
@@ -37,7 +37,7 @@ overflow_sub-count c =
 pub returns : goal.returns
 returns c =
     let p : ParkedLists = c.args.self.now in
-    let t : Table = c.args.table.now in
+    let t : NodeLists = c.args.table.now in
     c.set_count.ensures
     ∙ ap (λ n. with_differing c.args.c n p)
     (omega (

@@ -1,9 +1,9 @@
 use Rattle.std.proofs.Common.{◌≡◌, ◌∙◌, ℕ, eqb, cond, Some, ap, sym, subst, refl}
-use Rattle.pif_nodes.specs.Lists.{without}
-use Rattle.pif_nodes.specs.Table.{Table, list_at, holder}
+use Rattle.pif_nodes.specs.Lists.{list_without}
+use Rattle.pif_nodes.specs.Table.{NodeLists, list_at, holder}
 use Rattle.pif_plist.specs.Order.{IsSorted, OthersStaySorted, table_after_insert}
 use Rattle.pif_queue.specs.Differences.{differences}
-use Rattle.pif_queue.specs.Parked.{Place, ParkedLists, differing_at, list_for, node_for, target_of, parked_at, with_place, with_differing, StandParked, HoldsParked}
+use Rattle.pif_queue.specs.Parked.{Place, ParkedLists, differing_at, variable_list, parking_node, target_of, parked_at, with_place_at, with_differing, StandParked, HoldsParked}
 use Rattle.pif_queue.proofs.ParkedCalls.{IsCall, park-stands, park-counted, park-seen, park-holds}
 use Rattle.pif_queue.proofs.parked_lists.ParkedLists.park.Goals as goal
 
@@ -21,7 +21,7 @@ called c =
 
 put : (c : goal.After-count_in-arg-1)
     → c.insert.new.table
-    ≡ table_after_insert c.args.table.now (list_for c.args.self.now c.args.c) (node_for c.args.self.now c.args.t)
+    ≡ table_after_insert c.args.table.now (variable_list c.args.self.now c.args.c) (parking_node c.args.self.now c.args.t)
     (record { prio = c.args.prio; ticket = c.args.ticket })
 put c =
     c.insert.ensures.put
@@ -30,7 +30,7 @@ put c =
 
 holders : (c : goal.After-count_in-arg-1) (m : ℕ)
     → holder c.insert.new.table m
-    ≡ cond (eqb m (node_for c.args.self.now c.args.t)) (Some (list_for c.args.self.now c.args.c))
+    ≡ cond (eqb m (parking_node c.args.self.now c.args.t)) (Some (variable_list c.args.self.now c.args.c))
     (holder c.args.table.now m)
 holders c m =
     c.insert.ensures.holders m
@@ -48,12 +48,12 @@ count_in-requires-clause-counted c =
     let x : Place = record { cond = c.args.c; target = c.args.m } in
     let p : ParkedLists = c.args.self.now in
     subst (λ (q : ParkedLists). differing_at q c.args.c
-    ≡ differences (target_of q) (without c.node-node.result (list_at c.insert.new.table (list_for q c.args.c))))
+    ≡ differences (target_of q) (list_without c.node-node.result (list_at c.insert.new.table (variable_list q c.args.c))))
     (sym c.set_place.ensures)
     (park-counted p c.args.table.now c.insert.new.table c.args.c c.args.t (called c) x
     (record { prio = c.args.prio; ticket = c.args.ticket }) refl c.requires.node (put c) (holders c)
-    ∙ ap (λ k. differences (target_of (with_place c.args.t (Some x) p))
-    (without k (list_at c.insert.new.table (list_for p c.args.c)))) (sym c.node-node.ensures))
+    ∙ ap (λ k. differences (target_of (with_place_at c.args.t (Some x) p))
+    (list_without k (list_at c.insert.new.table (variable_list p c.args.c)))) (sym c.node-node.ensures))
 
 pub returns-clause-parked : goal.returns-clause-parked
 returns-clause-parked c = λ v.
@@ -79,13 +79,13 @@ returns-clause-parked c = λ v.
 pub returns-clause-holds : goal.returns-clause-holds
 returns-clause-holds c =
     let p : ParkedLists = c.args.self.now in
-    let now : Table = c.insert.new.table in
+    let now : NodeLists = c.insert.new.table in
     let x : Place = record { cond = c.args.c; target = c.args.m } in
-    let next : ParkedLists = with_place c.args.t (Some x) p in
-    let count : ℕ = differences (target_of next) (list_at now (list_for p c.args.c)) in
+    let next : ParkedLists = with_place_at c.args.t (Some x) p in
+    let count : ℕ = differences (target_of next) (list_at now (variable_list p c.args.c)) in
     let is : c.count_in.new.self ≡ with_differing c.args.c count next =
     c.count_in.ensures
-    ∙ ap (λ (q : ParkedLists). with_differing c.args.c (differences (target_of q) (list_at now (list_for q c.args.c))) q)
+    ∙ ap (λ (q : ParkedLists). with_differing c.args.c (differences (target_of q) (list_at now (variable_list q c.args.c))) q)
     c.set_place.ensures in
     subst (λ (q : ParkedLists). HoldsParked q now) (sym is)
     (park-holds p c.args.table.now now c.args.c c.args.t

@@ -1,9 +1,9 @@
 use Rattle.std.proofs.Common.{◌≡◌, ◌∙◌, ℕ, Some, ap, sym, subst, refl}
-use Rattle.pif_nodes.specs.Lists.{without}
-use Rattle.pif_nodes.specs.Table.{Table, list_at}
-use Rattle.pif_plist.specs.Order.{IsSorted, table_after_insert, table_after_remove, with_prio as key_with_prio}
+use Rattle.pif_nodes.specs.Lists.{list_without}
+use Rattle.pif_nodes.specs.Table.{NodeLists, list_at}
+use Rattle.pif_plist.specs.Order.{IsSorted, table_after_insert, table_after_remove, key_with_prio}
 use Rattle.pif_queue.specs.Differences.{differences}
-use Rattle.pif_queue.specs.Parked.{Place, ParkedLists, place_at, differing_at, IsCond, list_for, target_of, parked_at, with_differing, StandParked, HoldsParked}
+use Rattle.pif_queue.specs.Parked.{Place, ParkedLists, place_at, differing_at, IsCond, variable_list, target_of, parked_at, with_differing, StandParked, HoldsParked}
 use Rattle.pif_queue.proofs.ParkedChanges.{stand-recounted, recounted, counted-here, counted-elsewhere}
 use Rattle.pif_queue.proofs.ParkedCalls.{IsRekeyed, rekeyed}
 use Rattle.pif_queue.proofs.parked_lists.ParkedLists.rekey.Goals as goal
@@ -31,8 +31,8 @@ list-requires c =
 pub rekey-requires-clause-sorted : goal.rekey-requires-clause-sorted
 rekey-requires-clause-sorted c =
     let at : place_at c.args.self.now c.args.t ≡ Some c.in-Some.place = sym c.place.ensures ∙ c.in-Some.is in
-    let list : c.list.result ≡ list_for c.args.self.now c.place-in-Some.inside.cond =
-    c.list.ensures ∙ ap (λ (q : ParkedLists). list_for q c.place-in-Some.inside.cond) c.count_out.ensures in
+    let list : c.list.result ≡ variable_list c.args.self.now c.place-in-Some.inside.cond =
+    c.list.ensures ∙ ap (λ (q : ParkedLists). variable_list q c.place-in-Some.inside.cond) c.count_out.ensures in
     subst (IsSorted c.args.table.now) (sym list)
     (c.requires.holds.stand.sorted c.place-in-Some.inside.cond
     (subst (IsCond c.args.self.now) (ap (λ (z : Place). z.cond) (sym c.place-in-Some.view_is))
@@ -45,7 +45,7 @@ rekeyed_in c =
     rekeyed c.args.self.now c.args.table.now c.rekey.new.table c.place-in-Some.inside.cond c.args.t c.list.result
     c.node-node.result c.args.prio c.in-Some.place c.requires.holds (sym c.place.ensures ∙ c.in-Some.is)
     (ap (λ (z : Place). z.cond) (sym c.place-in-Some.view_is))
-    (c.list.ensures ∙ ap (λ (q : ParkedLists). list_for q c.place-in-Some.inside.cond) c.count_out.ensures)
+    (c.list.ensures ∙ ap (λ (q : ParkedLists). variable_list q c.place-in-Some.inside.cond) c.count_out.ensures)
     c.node-node.ensures c.rekey.ensures.sorted c.rekey.ensures.others c.rekey.ensures.apart
     (c.rekey.ensures.moved
     ∙ (λ i. table_after_insert (table_after_remove c.args.table.now c.list.result c.node-node.result) c.list.result
@@ -57,8 +57,8 @@ count_in-requires-clause-stand c =
     subst (λ (q : ParkedLists). StandParked q c.rekey.new.table) (sym c.count_out.ensures)
     (stand-recounted c.args.self.now c.rekey.new.table c.place-in-Some.inside.cond
     (differences (target_of c.args.self.now)
-    (without c.node-node.result
-    (list_at c.args.table.now (list_for c.args.self.now c.place-in-Some.inside.cond))))
+    (list_without c.node-node.result
+    (list_at c.args.table.now (variable_list c.args.self.now c.place-in-Some.inside.cond))))
     (rekeyed_in c).stands)
 
 pub count_in-requires-clause-cond : goal.count_in-requires-clause-cond
@@ -69,14 +69,14 @@ pub count_in-requires-clause-counted : goal.count_in-requires-clause-counted
 count_in-requires-clause-counted c =
     let p : ParkedLists = c.args.self.now in
     let d : ℕ = c.place-in-Some.inside.cond in
-    let now : Table = c.rekey.new.table in
-    let l : ℕ = list_for p d in
-    let out : ℕ = differences (target_of p) (without c.node-node.result (list_at c.args.table.now l)) in
-    let left : without c.node-node.result (list_at c.args.table.now l) ≡ without c.node-node.result (list_at now l) =
-    ap (λ k. without k (list_at c.args.table.now l)) c.node-node.ensures ∙ sym (rekeyed_in c).left
-    ∙ ap (λ k. without k (list_at now l)) (sym c.node-node.ensures) in
+    let now : NodeLists = c.rekey.new.table in
+    let l : ℕ = variable_list p d in
+    let out : ℕ = differences (target_of p) (list_without c.node-node.result (list_at c.args.table.now l)) in
+    let left : list_without c.node-node.result (list_at c.args.table.now l) ≡ list_without c.node-node.result (list_at now l) =
+    ap (λ k. list_without k (list_at c.args.table.now l)) c.node-node.ensures ∙ sym (rekeyed_in c).left
+    ∙ ap (λ k. list_without k (list_at now l)) (sym c.node-node.ensures) in
     subst (λ (q : ParkedLists). differing_at q d
-    ≡ differences (target_of q) (without c.node-node.result (list_at now (list_for q d))))
+    ≡ differences (target_of q) (list_without c.node-node.result (list_at now (variable_list q d))))
     (sym c.count_out.ensures)
     (counted-here p now d out (rekeyed_in c).stands (rekeyed_in c).is_cond ∙ ap (differences (target_of p)) left)
 
@@ -87,7 +87,7 @@ rekeyed_end c =
     rekeyed c.args.self.now c.args.table.now c.rekey.new.table c.place-in-Some.inside.cond c.args.t c.list.result
     c.node-node.result c.args.prio c.in-Some.place c.requires.holds (sym c.place.ensures ∙ c.in-Some.is)
     (ap (λ (z : Place). z.cond) (sym c.place-in-Some.view_is))
-    (c.list.ensures ∙ ap (λ (q : ParkedLists). list_for q c.place-in-Some.inside.cond) c.count_out.ensures)
+    (c.list.ensures ∙ ap (λ (q : ParkedLists). variable_list q c.place-in-Some.inside.cond) c.count_out.ensures)
     c.node-node.ensures c.rekey.ensures.sorted c.rekey.ensures.others c.rekey.ensures.apart
     (c.rekey.ensures.moved
     ∙ (λ i. table_after_insert (table_after_remove c.args.table.now c.list.result c.node-node.result) c.list.result
@@ -107,14 +107,14 @@ pub returns-in-Some-clause-holds : goal.returns-in-Some-clause-holds
 returns-in-Some-clause-holds c =
     let p : ParkedLists = c.args.self.now in
     let d : ℕ = c.place-in-Some.inside.cond in
-    let now : Table = c.rekey.new.table in
+    let now : NodeLists = c.rekey.new.table in
     let done : IsRekeyed p c.args.table.now now d c.args.t c.args.prio = rekeyed_end c in
-    let out : ℕ = differences (target_of p) (without c.node-node.result (list_at c.args.table.now (list_for p d))) in
+    let out : ℕ = differences (target_of p) (list_without c.node-node.result (list_at c.args.table.now (variable_list p d))) in
     let mid : ParkedLists = with_differing d out p in
-    let count : ℕ = differences (target_of mid) (list_at now (list_for mid d)) in
+    let count : ℕ = differences (target_of mid) (list_at now (variable_list mid d)) in
     let is : c.count_in.new.self ≡ with_differing d count mid =
     c.count_in.ensures
-    ∙ ap (λ (q : ParkedLists). with_differing d (differences (target_of q) (list_at now (list_for q d))) q)
+    ∙ ap (λ (q : ParkedLists). with_differing d (differences (target_of q) (list_at now (variable_list q d))) q)
     c.count_out.ensures in
     subst (λ (q : ParkedLists). HoldsParked q now) (sym is)
     (recounted mid now d count (stand-recounted p now d out done.stands) done.is_cond refl

@@ -1,15 +1,15 @@
 use Rattle.std.proofs.Common.{◌≡◌, ◌+◌, ◌-◌, ◌<◌, Some, None, refl, sym, ap, subst, ◌∙◌, arith}
-use Rattle.pif_nodes.specs.Table.{Table, holder}
+use Rattle.pif_nodes.specs.Table.{NodeLists, holder}
 use Rattle.pif_queue.specs.Frames.{KeepsOthers}
-use Rattle.pif_queue.specs.Parked.{ParkedLists, IsThread, node_for, parked_at, StandParked}
-use Rattle.pif_queue.specs.Numbered.{ticket_by, IsFirstFrom}
+use Rattle.pif_queue.specs.Parked.{ParkedLists, IsThread, parking_node, parked_at, StandParked}
+use Rattle.pif_queue.specs.Numbered.{ticket_by, HasFirstTicketFrom}
 use Rattle.pif_queue.proofs.Numbering.{IsNumbering, numbering-start, numbering-more, numbering-ends, numbering-keeps, nodes-stay, others-same, others-then, parked-known}
 use Rattle.pif_queue.proofs.parked_lists.ParkedLists.renumber.Goals as goal
 
 pub loop-t-init : goal.loop-t-init
 loop-t-init c =
     let p : ParkedLists = c.args.self.now in
-    let t : Table = c.args.table.now in
+    let t : NodeLists = c.args.table.now in
     record {
       same = refl;
       numbering = numbering-start (parked_at p t) p.threads c.requires.tickets;
@@ -19,10 +19,10 @@ loop-t-init c =
     }
 
 -- who is the first of those that are left, by the value at the start
-first_is : (c : goal.After-set_ticket) → IsFirstFrom (ticket_by (parked_at c.loop-t.self c.loop-t.table)) c.loop-t.ticket
+first_is : (c : goal.After-set_ticket) → HasFirstTicketFrom (ticket_by (parked_at c.loop-t.self c.loop-t.table)) c.loop-t.ticket
     (c.args.self.now.threads + 1) (Some c.in-Some.t)
 first_is c =
-    subst (λ (p : ParkedLists). IsFirstFrom (ticket_by (parked_at c.loop-t.self c.loop-t.table)) c.loop-t.ticket (p.threads + 1)
+    subst (λ (p : ParkedLists). HasFirstTicketFrom (ticket_by (parked_at c.loop-t.self c.loop-t.table)) c.loop-t.ticket (p.threads + 1)
     (Some c.in-Some.t)) c.loop-t.invariant.same c.in-Some.ensures
 
 pub set_ticket-requires-clause-order : goal.set_ticket-requires-clause-order
@@ -30,7 +30,7 @@ set_ticket-requires-clause-order c =
     numbering-keeps c.loop-t.self c.loop-t.table (parked_at c.args.self.now c.args.table.now) c.args.self.now.threads
     c.loop-t.ticket c.in-Some.t c.requires.tickets
     (parked-known c.args.self.now c.args.table.now c.requires.holds.stand) c.loop-t.invariant.numbering
-    (subst (λ (p : ParkedLists). IsFirstFrom (ticket_by (parked_at c.loop-t.self c.loop-t.table)) c.loop-t.ticket
+    (subst (λ (p : ParkedLists). HasFirstTicketFrom (ticket_by (parked_at c.loop-t.self c.loop-t.table)) c.loop-t.ticket
     (p.threads + 1) (Some c.in-Some.t)) c.loop-t.invariant.same c.in-Some.ensures)
 
 -- one more has its number
@@ -62,7 +62,7 @@ loop-t-smaller c =
 pub loop-t-preserved : goal.loop-t-preserved
 loop-t-preserved c =
     let p : ParkedLists = c.args.self.now in
-    let t : Table = c.args.table.now in
+    let t : NodeLists = c.args.table.now in
     let same : c.loop-t.self ≡ p = c.loop-t.invariant.same in
     record {
       same = c.set_ticket.ensures.place ∙ same;
@@ -71,7 +71,7 @@ loop-t-preserved c =
           c.loop-t.invariant.outside
           (subst (λ (q : ParkedLists). KeepsOthers q.first_list q.conds q.first_node q.threads c.loop-t.table c.set_ticket.new.table)
           same c.set_ticket.ensures.outside);
-      nodes = λ u is. subst (λ (q : ParkedLists). holder c.set_ticket.new.table (node_for q u) ≡ holder c.loop-t.table (node_for q u))
+      nodes = λ u is. subst (λ (q : ParkedLists). holder c.set_ticket.new.table (parking_node q u) ≡ holder c.loop-t.table (parking_node q u))
           same (nodes-stay c.loop-t.self c.loop-t.table c.set_ticket.new.table (parked_at p t) p.threads c.loop-t.ticket
           c.in-Some.t c.loop-t.invariant.holds.stand (stand c) c.loop-t.invariant.numbering (first_is c)
           c.set_ticket.ensures.nodes u (subst (λ (q : ParkedLists). IsThread q u) (sym same) is))
@@ -84,5 +84,5 @@ returns-clause-numbered c =
     numbering-ends (parked_at c.args.self.now c.args.table.now) (parked_at c.loop-t.self c.loop-t.table)
     c.args.self.now.threads c.loop-t.ticket c.requires.tickets
     (parked-known c.args.self.now c.args.table.now c.requires.holds.stand) c.loop-t.invariant.numbering
-    (subst (λ (p : ParkedLists). IsFirstFrom (ticket_by (parked_at c.loop-t.self c.loop-t.table)) c.loop-t.ticket (p.threads + 1)
+    (subst (λ (p : ParkedLists). HasFirstTicketFrom (ticket_by (parked_at c.loop-t.self c.loop-t.table)) c.loop-t.ticket (p.threads + 1)
     None) c.loop-t.invariant.same c.in_default.ensures)

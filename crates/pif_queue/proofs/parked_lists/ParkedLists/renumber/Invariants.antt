@@ -1,7 +1,7 @@
 use Rattle.std.proofs.Common.{◌≡◌, ℕ, ◌+◌, ◌-◌}
 use Rattle.pif_nodes.specs.Table.{holder}
 use Rattle.pif_queue.specs.Frames.{KeepsOthers}
-use Rattle.pif_queue.specs.Parked.{IsThread, node_for, parked_at, HoldsParked}
+use Rattle.pif_queue.specs.Parked.{IsThread, parking_node, parked_at, HoldsParked}
 use Rattle.pif_queue.proofs.Numbering.{IsNumbering}
 use Rattle.pif_queue.proofs.parked_lists.ParkedLists.renumber.Given as goal
 
@@ -13,7 +13,7 @@ invariant-loop-t l =
       numbering : IsNumbering (parked_at l.initial.self l.initial.table) (parked_at l.self l.table) l.initial.self.threads l.ticket;
       outside : KeepsOthers l.initial.self.first_list l.initial.self.conds l.initial.self.first_node l.initial.self.threads l.initial.table l.table;
       nodes : (u : ℕ) → IsThread l.initial.self u
-          → holder l.table (node_for l.initial.self u) ≡ holder l.initial.table (node_for l.initial.self u);
+          → holder l.table (parking_node l.initial.self u) ≡ holder l.initial.table (parking_node l.initial.self u);
       holds : HoldsParked l.self l.table;
     }
 

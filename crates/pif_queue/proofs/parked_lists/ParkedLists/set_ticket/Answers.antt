@@ -1,7 +1,7 @@
 use Rattle.std.proofs.Common.{◌≡◌, ◌∙◌, ℕ, Some, ap, sym, subst}
-use Rattle.pif_nodes.specs.Table.{Table, with_key}
-use Rattle.pif_plist.specs.Order.{IsSorted, OthersStaySorted, with_ticket as key_with_ticket}
-use Rattle.pif_queue.specs.Parked.{Place, place_at, IsCond, node_for}
+use Rattle.pif_nodes.specs.Table.{NodeLists, with_key}
+use Rattle.pif_plist.specs.Order.{IsSorted, OthersStaySorted, key_with_ticket}
+use Rattle.pif_queue.specs.Parked.{Place, place_at, IsCond, parking_node}
 use Rattle.pif_queue.proofs.ParkedCalls.{IsCall, ticket-seen, ticket-holds, ticket-sorted}
 use Rattle.pif_queue.proofs.parked_lists.ParkedLists.set_ticket.Goals as goal
 
@@ -21,7 +21,7 @@ set_ticket-requires-clause-sorted c =
 
 pub set_ticket-requires-clause-stays_sorted : goal.set_ticket-requires-clause-stays_sorted
 set_ticket-requires-clause-stays_sorted c =
-    let t : Table = c.args.table.now in
+    let t : NodeLists = c.args.table.now in
     let at : place_at c.args.self.now c.args.t ≡ Some c.in-Some.place = sym c.place.ensures ∙ c.in-Some.is in
     subst (λ (x : ℕ × ℕ). IsSorted (with_key t x.0 (key_with_ticket t x.0 c.args.ticket)) x.1)
     (λ i. (sym c.node-node.ensures i, sym c.list.ensures i))
@@ -45,8 +45,8 @@ called c =
 
 renamed : (c : goal.After-set_ticket)
     → c.set_ticket.new.table
-    ≡ with_key c.args.table.now (node_for c.args.self.now c.args.t)
-    (key_with_ticket c.args.table.now (node_for c.args.self.now c.args.t) c.args.ticket)
+    ≡ with_key c.args.table.now (parking_node c.args.self.now c.args.t)
+    (key_with_ticket c.args.table.now (parking_node c.args.self.now c.args.t) c.args.ticket)
 renamed c =
     c.set_ticket.ensures.ticketed
     ∙ (λ i. with_key c.args.table.now (c.node-node.ensures i)

@@ -1,9 +1,9 @@
 use Rattle.std.proofs.Common.{◌≡◌, ◌∙◌, ◌+◌, ◌<◌, ap, sym, subst, ℕ, Option, Some, None, set, arith}
 use Rattle.std.specs.FinMap.{get}
-use Rattle.pif_nodes.specs.Table.{Table, holder}
+use Rattle.pif_nodes.specs.Table.{NodeLists, holder}
 use Rattle.pif_owners.specs.Owners.{with_wait}
 use Rattle.pif_rtmutex.specs.States.{States, row_at, wait_of, wait_node, owners_in}
-use Rattle.pif_rtmutex.specs.Holds.{HoldsWaiters, HoldsTops, Holds, IsToppedBut}
+use Rattle.pif_rtmutex.specs.Holds.{HoldsWaiters, HoldsTops, HoldsStates, IsToppedBut}
 use Rattle.pif_rtmutex.specs.Frames.{ChangesTops}
 use Rattle.pif_rtmutex.proofs.ViewLemmas.{waits_on-owners_in}
 use Rattle.pif_rtmutex.proofs.WaiterLemmas.{waits-thread}
@@ -23,7 +23,7 @@ remove-requires-clause-held c =
     let on : wait_of c.args.self.now c.args.t ≡ Some c.args.key =
     sym (waits_on-owners_in c.args.self.now c.args.table.now c.args.t) ∙ c.requires.queued in
     let m : States = c.args.self.now in
-    let t : Table = c.args.table.now in
+    let t : NodeLists = c.args.table.now in
     let at : WaitsAt m t c.args.key c.args.t = waits-at m t c.args.key c.args.t c.requires.holds.waiters on in
     ap (holder t) c.wait_node-node.ensures.node ∙ at.held
     ∙ ap Some (sym (row-list m c.args.key at.row c.waiters.result at.place c.waiters.ensures))
@@ -31,8 +31,8 @@ remove-requires-clause-held c =
 pub settle-requires : goal.settle-requires
 settle-requires c =
     let m : States = c.args.self.now in
-    let t : Table = c.args.table.now in
-    let now : Table = c.remove.new.table in
+    let t : NodeLists = c.args.table.now in
+    let now : NodeLists = c.remove.new.table in
     let k : ℕ = c.args.key in
     let u : ℕ = c.args.t in
     let o : ℕ = c.owner-owner.result in
@@ -60,8 +60,8 @@ settle-requires c =
 pub returns : goal.returns
 returns c =
     let m : States = c.args.self.now in
-    let t : Table = c.args.table.now in
-    let now : Table = c.remove.new.table in
+    let t : NodeLists = c.args.table.now in
+    let now : NodeLists = c.remove.new.table in
     let k : ℕ = c.args.key in
     let u : ℕ = c.args.t in
     let o : ℕ = c.owner-owner.result in
@@ -78,7 +78,7 @@ returns c =
     (with_wait u None (owners_in m t)) =
     dequeued m t now k u o c.waiters.result c.wait_node-node.result call c.requires.queued
     c.remove.ensures.taken c.remove.ensures.holders in
-    let last : Table = c.settle.new.table in
+    let last : NodeLists = c.settle.new.table in
     let end : IsDone m (set m.rows u (record (row_at m u) { wait = None })) m.owners t last u
     (with_wait u None (owners_in m t)) =
     done m (set m.rows u (record (row_at m u) { wait = None })) m.owners t now last k o u
@@ -101,5 +101,5 @@ returns c =
           ∙ ap (holder now) (sym c.wait_node-node.ensures.node)
           ∙ in-no_list t now c.wait_node-node.result c.remove.ensures.holders;
       nodes = end.nodes;
-      holds = subst (λ (n : States). Holds n last) (sym c.set_wait.ensures) end.holds;
+      holds = subst (λ (n : States). HoldsStates n last) (sym c.set_wait.ensures) end.holds;
     }

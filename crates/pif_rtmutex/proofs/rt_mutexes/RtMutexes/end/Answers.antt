@@ -8,7 +8,7 @@ use Rattle.pif_owners.proofs.MapLemmas.{get-remove_other}
 use Rattle.pif_owners.proofs.OwnersLemmas.{sound-ended}
 use Rattle.pif_rtmutex.specs.Fields.{State, slab_with, states_from}
 use Rattle.pif_rtmutex.specs.States.{States, owners_in}
-use Rattle.pif_rtmutex.specs.Holds.{Holds}
+use Rattle.pif_rtmutex.specs.Holds.{HoldsStates}
 use Rattle.pif_rtmutex.proofs.FieldLemmas.{state-value, state-contains, states-removed, len-states}
 use Rattle.pif_rtmutex.proofs.ReadLemmas.{row-below}
 use Rattle.pif_rtmutex.proofs.StateLemmas.{holds-state, spare-given}
@@ -131,7 +131,7 @@ returns c =
       rows = λ i q ne e. ap (λ (n : States). get n.places i) now ∙ get-remove_other m.places k i ne ∙ e;
       place = now ∙ sym (ap (λ (n : States). record m { free = n.free; owners = n.owners; places = n.places }) now);
       holds =
-          subst (λ (n : States). Holds n t) (sym now)
+          subst (λ (n : States). HoldsStates n t) (sym now)
           (holds-state m free (remove m.owners k) (remove m.places k) t k c.requires.holds
           (state-ended m t k c.requires.free)
           (sound-ended k (owners_in m t) c.requires.free c.requires.holds.waiters.sound));

@@ -1,10 +1,10 @@
 use Rattle.std.proofs.Common.{◌∙◌, ap, sym, subst, ℕ, Option, Some, set, arith}
 use Rattle.std.specs.FinMap.{get}
 use Rattle.pif_nodes.specs.declared.keys.Key.{Key}
-use Rattle.pif_nodes.specs.Table.{Table}
+use Rattle.pif_nodes.specs.Table.{NodeLists}
 use Rattle.pif_owners.specs.Owners.{with_wait}
 use Rattle.pif_rtmutex.specs.States.{States, row_at, owners_in}
-use Rattle.pif_rtmutex.specs.Holds.{HoldsWaiters, HoldsTops, Holds, IsToppedBut}
+use Rattle.pif_rtmutex.specs.Holds.{HoldsWaiters, HoldsTops, HoldsStates, IsToppedBut}
 use Rattle.pif_rtmutex.specs.Frames.{ChangesTops}
 use Rattle.pif_rtmutex.proofs.ViewLemmas.{length-seats}
 use Rattle.pif_rtmutex.proofs.StepLemmas.{IsStep, IsDone, done}
@@ -30,8 +30,8 @@ insert-requires-clause-node_in c =
 pub settle-requires : goal.settle-requires
 settle-requires c =
     let m : States = c.args.self.now in
-    let t : Table = c.args.table.now in
-    let now : Table = c.insert.new.table in
+    let t : NodeLists = c.args.table.now in
+    let now : NodeLists = c.insert.new.table in
     let k : ℕ = c.args.key in
     let u : ℕ = c.args.t in
     let o : ℕ = c.owner-owner.result in
@@ -66,8 +66,8 @@ settle-requires c =
 pub returns : goal.returns
 returns c =
     let m : States = c.args.self.now in
-    let t : Table = c.args.table.now in
-    let now : Table = c.insert.new.table in
+    let t : NodeLists = c.args.table.now in
+    let now : NodeLists = c.insert.new.table in
     let k : ℕ = c.args.key in
     let u : ℕ = c.args.t in
     let o : ℕ = c.owner-owner.result in
@@ -91,7 +91,7 @@ returns c =
     (omega (arith, c.get.ensures.low, c.get.ensures.value)) (omega (arith, c.get.ensures.high, c.get.ensures.value))
     c.wait_node-node.ensures.thread c.requires.row c.requires.free c.requires.node c.requires.no_cycle put
     c.insert.ensures.holders in
-    let last : Table = c.settle.new.table in
+    let last : NodeLists = c.settle.new.table in
     let end : IsDone m (set m.rows u (record (row_at m u) { wait = Some k })) m.owners t last u
     (with_wait u (Some (record { state = k; rank = rank })) (owners_in m t)) =
     done m (set m.rows u (record (row_at m u) { wait = Some k })) m.owners t now last k o u
@@ -103,5 +103,5 @@ returns c =
       place = c.set_wait.ensures ∙ sym (ap (λ (n : States). record m { rows = n.rows }) c.set_wait.ensures);
       outside = end.outside;
       nodes = end.nodes;
-      holds = subst (λ (n : States). Holds n last) (sym c.set_wait.ensures) end.holds;
+      holds = subst (λ (n : States). HoldsStates n last) (sym c.set_wait.ensures) end.holds;
     }

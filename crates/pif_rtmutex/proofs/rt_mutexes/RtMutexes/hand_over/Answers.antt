@@ -1,10 +1,10 @@
 use Rattle.std.proofs.Common.{◌≡◌, ◌∙◌, ◌+◌, ◌<◌, ap, sym, refl, subst, ℕ, Option, Some, None, IsSome, set, arith}
 use Rattle.std.specs.FinMap.{get, insert}
-use Rattle.pif_nodes.specs.Table.{Table, holder}
+use Rattle.pif_nodes.specs.Table.{NodeLists, holder}
 use Rattle.pif_owners.specs.Owners.{with_wait, with_owner}
 use Rattle.pif_owners.proofs.MapLemmas.{get-insert_same}
 use Rattle.pif_rtmutex.specs.States.{States, IsThread, row_at, wait_node, first_waiter, owners_in, with_owner_of}
-use Rattle.pif_rtmutex.specs.Holds.{HoldsWaiters, HoldsTops, Holds, IsToppedBut}
+use Rattle.pif_rtmutex.specs.Holds.{HoldsWaiters, HoldsTops, HoldsStates, IsToppedBut}
 use Rattle.pif_rtmutex.specs.Frames.{ChangesTops}
 use Rattle.pif_rtmutex.proofs.ViewLemmas.{waits_on-owners_in}
 use Rattle.pif_rtmutex.proofs.WaiterLemmas.{StandsFirst, stands-first}
@@ -17,7 +17,7 @@ use Rattle.pif_rtmutex.proofs.rt_mutexes.RtMutexes.hand_over.Goals as goal
 pub unwrap-next-requires : goal.unwrap-next-requires
 unwrap-next-requires c =
     let m : States = c.args.self.now in
-    let t : Table = c.args.table.now in
+    let t : NodeLists = c.args.table.now in
     let first =
     waited-first m t c.requires.waiter.0 c.args.key c.requires.holds.waiters
     (sym (waits_on-owners_in m t c.requires.waiter.0) ∙ c.requires.waiter.1) in
@@ -41,7 +41,7 @@ remove-requires-clause-held c =
     (first-state c.args.self.now c.args.table.now c.args.key c.unwrap-next.result c.requires.holds.waiters top) top in
     let on = stands.waits in
     let m : States = c.args.self.now in
-    let t : Table = c.args.table.now in
+    let t : NodeLists = c.args.table.now in
     let at : WaitsAt m t c.args.key c.unwrap-next.result =
     waits-at m t c.args.key c.unwrap-next.result c.requires.holds.waiters on in
     ap (holder t) c.wait_node-node.ensures.node ∙ at.held
@@ -55,8 +55,8 @@ retop-requires c =
     stands-first c.args.self.now c.args.table.now c.args.key c.unwrap-next.result c.requires.holds.waiters
     (first-state c.args.self.now c.args.table.now c.args.key c.unwrap-next.result c.requires.holds.waiters top) top in
     let m : States = c.args.self.now in
-    let t : Table = c.args.table.now in
-    let now : Table = c.remove.new.table in
+    let t : NodeLists = c.args.table.now in
+    let now : NodeLists = c.remove.new.table in
     let k : ℕ = c.args.key in
     let u : ℕ = c.unwrap-next.result in
     let o : ℕ = c.owner-owner.result in
@@ -96,8 +96,8 @@ returns c =
     stands-first c.args.self.now c.args.table.now c.args.key c.unwrap-next.result c.requires.holds.waiters
     (first-state c.args.self.now c.args.table.now c.args.key c.unwrap-next.result c.requires.holds.waiters top) top in
     let m : States = c.args.self.now in
-    let t : Table = c.args.table.now in
-    let now : Table = c.remove.new.table in
+    let t : NodeLists = c.args.table.now in
+    let now : NodeLists = c.remove.new.table in
     let k : ℕ = c.args.key in
     let u : ℕ = c.unwrap-next.result in
     let o : ℕ = c.owner-owner.result in
@@ -120,7 +120,7 @@ returns c =
           insert m.owners k u;
     } =
     c.set_owner.ensures ∙ ap (λ (n : States). with_owner_of k u n) c.set_wait.ensures in
-    let last : Table = c.retop.new.table in
+    let last : NodeLists = c.retop.new.table in
     let end : IsDone m (set m.rows u (record (row_at m u) { wait = None })) (insert m.owners k u) t last u
     (with_owner k u (with_wait u None (owners_in m t))) =
     done m (set m.rows u (record (row_at m u) { wait = None })) (insert m.owners k u) t now last k o u
@@ -138,5 +138,5 @@ returns c =
           ∙ ap (holder now) (sym c.wait_node-node.ensures.node)
           ∙ in-no_list t now c.wait_node-node.result c.remove.ensures.holders;
       nodes = end.nodes;
-      holds = subst (λ (n : States). Holds n last) (sym new) end.holds;
+      holds = subst (λ (n : States). HoldsStates n last) (sym new) end.holds;
     }

@@ -11,7 +11,7 @@ use Rattle.pif_owners.proofs.MapLemmas.{get-insert_other}
 use Rattle.pif_owners.proofs.OwnersLemmas.{sound-made}
 use Rattle.pif_rtmutex.specs.Fields.{State, slab_with, states_from}
 use Rattle.pif_rtmutex.specs.States.{States, IsThread, wait_of, owners_in}
-use Rattle.pif_rtmutex.specs.Holds.{Holds}
+use Rattle.pif_rtmutex.specs.Holds.{HoldsStates}
 use Rattle.pif_rtmutex.proofs.FieldLemmas.{state-value, states-put, len-states}
 use Rattle.pif_rtmutex.proofs.ViewLemmas.{length-seats, waits_on-owners_in}
 use Rattle.pif_rtmutex.proofs.WaiterLemmas.{waits-state}
@@ -151,7 +151,7 @@ returns c =
           (λ same. false≢true (subst IsSome (ap (get m.owners) same ∙ fresh) (c.requires.holds.waiters.stated i q e))) ∙ e;
       place = now ∙ sym (ap (λ (n : States). record m { free = n.free; owners = n.owners; places = n.places }) now);
       holds =
-          subst (λ (n : States). Holds n t) (sym now)
+          subst (λ (n : States). HoldsStates n t) (sym now)
           (holds-state m free (insert m.owners k c.args.owner) (insert m.places k r) t k c.requires.holds
           (state-made m t k c.args.owner r c.requires.holds fresh owner low unused)
           (sound-made k c.args.owner (owners_in m t) fresh c.requires.holds.waiters.sound));

@@ -1,5 +1,5 @@
 use Rattle.std.proofs.Common.{◌≡◌, ◌≤◌, ◌∙◌, Some, ap, sym, arith}
-use Rattle.pif_nodes.specs.Table.{next_of}
+use Rattle.pif_nodes.specs.Table.{next_node}
 use Rattle.pif_rtmutex.specs.States.{States, wait_node}
 use Rattle.pif_rtmutex.proofs.BehindLemmas.{waits-at, node_range}
 use Rattle.pif_rtmutex.proofs.WaiterLemmas.{waits-thread}
@@ -20,14 +20,14 @@ pub overflow_sub-get : goal.overflow_sub-get
 overflow_sub-get c =
     let w = waits-at c.args.self.now c.args.table.now c.args.t c.requires.queued in
     let range = node_range c.args.self.now c.args.table.now c.args.t w.0 c.requires.holds w.1 c.in_ok-node.node
-    (ap (next_of c.args.table.now) (sym c.wait_node.ensures.node) ∙ sym c.next.ensures.neighbour ∙ c.in_ok-node.was) in
+    (ap (next_node c.args.table.now) (sym c.wait_node.ensures.node) ∙ sym c.next.ensures.neighbour ∙ c.in_ok-node.was) in
     omega (arith, range.0, c.get.ensures, ap (λ (m : States). m.first_node) c.self.view_is)
 
 pub overflow_add-get : goal.overflow_add-get
 overflow_add-get c =
     let w = waits-at c.args.self.now c.args.table.now c.args.t c.requires.queued in
     let range = node_range c.args.self.now c.args.table.now c.args.t w.0 c.requires.holds w.1 c.in_ok-node.node
-    (ap (next_of c.args.table.now) (sym c.wait_node.ensures.node) ∙ sym c.next.ensures.neighbour ∙ c.in_ok-node.was) in
+    (ap (next_node c.args.table.now) (sym c.wait_node.ensures.node) ∙ sym c.next.ensures.neighbour ∙ c.in_ok-node.was) in
     record {
       fits =
           omega (

@@ -1,5 +1,5 @@
 use Rattle.std.proofs.Common.{◌≡◌, ◌∙◌, ap, sym, subst, ℕ, Some, None, arith}
-use Rattle.pif_nodes.specs.Table.{Table, key_at, holder}
+use Rattle.pif_nodes.specs.Table.{NodeLists, key_at, holder}
 use Rattle.pif_rtmutex.specs.States.{States, IsThread, IsOwnList, wait_node, top_node, top_list, first_waiter}
 use Rattle.pif_rtmutex.specs.Holds.{IsRankedTop}
 use Rattle.pif_nodes.specs.declared.keys.Key.{Key}
@@ -15,7 +15,7 @@ use Rattle.pif_rtmutex.proofs.rt_mutexes.RtMutexes.put_top.Goals as goal
 pub wait_node-requires : goal.wait_node-requires
 wait_node-requires c =
     let m : States = c.args.self.now in
-    let t : Table = c.args.table.now in
+    let t : NodeLists = c.args.table.now in
     let u : ℕ = c.in-Some.t in
     let first : first_waiter m t c.args.key ≡ Some u = sym c.requires.first ∙ c.in-Some.is in
     let mine : StandsFirst m t c.args.key u = stands-first m t c.args.key u c.requires.waiters c.requires.state first in
@@ -24,7 +24,7 @@ wait_node-requires c =
 pub key-prio-requires : goal.key-prio-requires
 key-prio-requires c =
     let m : States = c.args.self.now in
-    let t : Table = c.args.table.now in
+    let t : NodeLists = c.args.table.now in
     let u : ℕ = c.in-Some.t in
     let first : first_waiter m t c.args.key ≡ Some u = sym c.requires.first ∙ c.in-Some.is in
     let mine : StandsFirst m t c.args.key u = stands-first m t c.args.key u c.requires.waiters c.requires.state first in
@@ -33,7 +33,7 @@ key-prio-requires c =
 pub top_node-node-requires : goal.top_node-node-requires
 top_node-node-requires c =
     let m : States = c.args.self.now in
-    let t : Table = c.args.table.now in
+    let t : NodeLists = c.args.table.now in
     let u : ℕ = c.in-Some.t in
     let first : first_waiter m t c.args.key ≡ Some u = sym c.requires.first ∙ c.in-Some.is in
     let mine : StandsFirst m t c.args.key u = stands-first m t c.args.key u c.requires.waiters c.requires.state first in
@@ -42,7 +42,7 @@ top_node-node-requires c =
 pub tops-list-requires : goal.tops-list-requires
 tops-list-requires c =
     let m : States = c.args.self.now in
-    let t : Table = c.args.table.now in
+    let t : NodeLists = c.args.table.now in
     let u : ℕ = c.in-Some.t in
     let first : first_waiter m t c.args.key ≡ Some u = sym c.requires.first ∙ c.in-Some.is in
     let mine : StandsFirst m t c.args.key u = stands-first m t c.args.key u c.requires.waiters c.requires.state first in
@@ -53,7 +53,7 @@ tops-list-requires c =
 pub insert-requires-clause-list_in : goal.insert-requires-clause-list_in
 insert-requires-clause-list_in c =
     let m : States = c.args.self.now in
-    let t : Table = c.args.table.now in
+    let t : NodeLists = c.args.table.now in
     let u : ℕ = c.in-Some.t in
     let first : first_waiter m t c.args.key ≡ Some u = sym c.requires.first ∙ c.in-Some.is in
     let mine : StandsFirst m t c.args.key u = stands-first m t c.args.key u c.requires.waiters c.requires.state first in
@@ -64,7 +64,7 @@ insert-requires-clause-list_in c =
 pub insert-requires-clause-node_in : goal.insert-requires-clause-node_in
 insert-requires-clause-node_in c =
     let m : States = c.args.self.now in
-    let t : Table = c.args.table.now in
+    let t : NodeLists = c.args.table.now in
     let u : ℕ = c.in-Some.t in
     let first : first_waiter m t c.args.key ≡ Some u = sym c.requires.first ∙ c.in-Some.is in
     let mine : StandsFirst m t c.args.key u = stands-first m t c.args.key u c.requires.waiters c.requires.state first in
@@ -73,7 +73,7 @@ insert-requires-clause-node_in c =
 pub insert-requires-clause-free : goal.insert-requires-clause-free
 insert-requires-clause-free c =
     let m : States = c.args.self.now in
-    let t : Table = c.args.table.now in
+    let t : NodeLists = c.args.table.now in
     let u : ℕ = c.in-Some.t in
     let first : first_waiter m t c.args.key ≡ Some u = sym c.requires.first ∙ c.in-Some.is in
     let mine : StandsFirst m t c.args.key u = stands-first m t c.args.key u c.requires.waiters c.requires.state first in
@@ -84,7 +84,7 @@ insert-requires-clause-free c =
 pub insert-requires-clause-sorted : goal.insert-requires-clause-sorted
 insert-requires-clause-sorted c =
     let m : States = c.args.self.now in
-    let t : Table = c.args.table.now in
+    let t : NodeLists = c.args.table.now in
     let u : ℕ = c.in-Some.t in
     let first : first_waiter m t c.args.key ≡ Some u = sym c.requires.first ∙ c.in-Some.is in
     let mine : StandsFirst m t c.args.key u = stands-first m t c.args.key u c.requires.waiters c.requires.state first in
@@ -95,13 +95,13 @@ insert-requires-clause-sorted c =
 pub returns-in-Some-clause-changes : goal.returns-in-Some-clause-changes
 returns-in-Some-clause-changes c =
     let m : States = c.args.self.now in
-    let t : Table = c.args.table.now in
+    let t : NodeLists = c.args.table.now in
     let u : ℕ = c.in-Some.t in
     let first : first_waiter m t c.args.key ≡ Some u = sym c.requires.first ∙ c.in-Some.is in
     let mine : StandsFirst m t c.args.key u = stands-first m t c.args.key u c.requires.waiters c.requires.state first in
     let o : ℕ = c.owner.result in
     let i : IsThread m o = c.requires.waiters.owned c.args.key o c.owner.ensures.value in
-    let now : Table = c.insert.new.table in
+    let now : NodeLists = c.insert.new.table in
     let changes : ChangesList (top_list m o) (top_node m u) t now =
     changes-as t now c.tops-list.result c.top_node-node.result (top_list m o)
     (top_node m u) c.tops-list.ensures.list c.top_node-node.ensures.node
@@ -118,13 +118,13 @@ returns-in-Some-clause-changes c =
 pub returns-in-Some-clause-tops : goal.returns-in-Some-clause-tops
 returns-in-Some-clause-tops c =
     let m : States = c.args.self.now in
-    let t : Table = c.args.table.now in
+    let t : NodeLists = c.args.table.now in
     let u : ℕ = c.in-Some.t in
     let first : first_waiter m t c.args.key ≡ Some u = sym c.requires.first ∙ c.in-Some.is in
     let mine : StandsFirst m t c.args.key u = stands-first m t c.args.key u c.requires.waiters c.requires.state first in
     let o : ℕ = c.owner.result in
     let i : IsThread m o = c.requires.waiters.owned c.args.key o c.owner.ensures.value in
-    let now : Table = c.insert.new.table in
+    let now : NodeLists = c.insert.new.table in
     let changes : ChangesList (top_list m o) (top_node m u) t now =
     changes-as t now c.tops-list.result c.top_node-node.result (top_list m o)
     (top_node m u) c.tops-list.ensures.list c.top_node-node.ensures.node
@@ -142,7 +142,7 @@ returns-in-Some-clause-tops c =
     ∙ ap Some c.tops-list.ensures.list in
     let key : (key_at now (top_node m u)).prio ≡ c.key-prio.result.prio =
     ap (λ n. (key_at now n).prio) (sym c.top_node-node.ensures.node)
-    ∙ ap (λ (x : Table). (key_at x c.top_node-node.result).prio) c.insert.ensures.put
+    ∙ ap (λ (x : NodeLists). (key_at x c.top_node-node.result).prio) c.insert.ensures.put
     ∙ ap (λ (x : Key). x.prio)
     (get_or-set_same t.keys c.top_node-node.result (record { prio = c.key-prio.result.prio; ticket = 0 }) no_key
     (omega (arith, mine.is_thread, c.top_node-node.ensures.node, c.requires.waiters.nodes))) in

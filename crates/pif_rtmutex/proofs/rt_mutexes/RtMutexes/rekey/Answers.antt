@@ -1,5 +1,5 @@
 use Rattle.std.proofs.Common.{◌≡◌, ◌∙◌, ap, sym, refl, subst, ℕ, Option, Some, arith}
-use Rattle.pif_nodes.specs.Table.{Table, holder}
+use Rattle.pif_nodes.specs.Table.{NodeLists, holder}
 use Rattle.pif_owners.specs.Owners.{with_prio}
 use Rattle.pif_rtmutex.specs.States.{States, wait_of, owners_in}
 use Rattle.pif_rtmutex.specs.Holds.{IsToppedBut}
@@ -8,7 +8,7 @@ use Rattle.pif_rtmutex.proofs.WaiterLemmas.{waits-thread}
 use Rattle.pif_rtmutex.proofs.StepLemmas.{row-list, WaitsAt, waits-at, IsStep, IsDone, done}
 use Rattle.pif_rtmutex.proofs.CallLemmas.{IsCall, rekeyed}
 use Rattle.pif_rtmutex.proofs.rt_mutexes.RtMutexes.rekey.Goals as goal
-use Rattle.pif_plist.specs.Order.{table_after_insert, table_after_remove, with_prio as key_with_prio}
+use Rattle.pif_plist.specs.Order.{table_after_insert, table_after_remove, key_with_prio}
 
 pub wait_node-node-requires : goal.wait_node-node-requires
 wait_node-node-requires c =
@@ -21,7 +21,7 @@ rekey-requires-clause-held c =
     let on : wait_of c.args.self.now c.args.t ≡ Some c.args.key =
     sym (waits_on-owners_in c.args.self.now c.args.table.now c.args.t) ∙ c.requires.queued in
     let m : States = c.args.self.now in
-    let t : Table = c.args.table.now in
+    let t : NodeLists = c.args.table.now in
     let at : WaitsAt m t c.args.key c.args.t = waits-at m t c.args.key c.args.t c.requires.holds.waiters on in
     ap (holder t) c.wait_node-node.ensures.node ∙ at.held
     ∙ ap Some (sym (row-list m c.args.key at.row c.waiters.result at.place c.waiters.ensures))
@@ -29,8 +29,8 @@ rekey-requires-clause-held c =
 pub settle-requires : goal.settle-requires
 settle-requires c =
     let m : States = c.args.self.now in
-    let t : Table = c.args.table.now in
-    let now : Table = c.rekey.new.table in
+    let t : NodeLists = c.args.table.now in
+    let now : NodeLists = c.rekey.new.table in
     let k : ℕ = c.args.key in
     let u : ℕ = c.args.t in
     let o : ℕ = c.owner-owner.result in
@@ -61,8 +61,8 @@ settle-requires c =
 pub returns : goal.returns
 returns c =
     let m : States = c.args.self.now in
-    let t : Table = c.args.table.now in
-    let now : Table = c.rekey.new.table in
+    let t : NodeLists = c.args.table.now in
+    let now : NodeLists = c.rekey.new.table in
     let k : ℕ = c.args.key in
     let u : ℕ = c.args.t in
     let o : ℕ = c.owner-owner.result in
@@ -84,7 +84,7 @@ returns c =
     rekeyed m t now k u o c.waiters.result c.wait_node-node.result call c.args.prio
     (omega (arith, c.get.ensures.low, c.get.ensures.value)) (omega (arith, c.get.ensures.high, c.get.ensures.value))
     c.requires.queued moved c.rekey.ensures.holders in
-    let last : Table = c.settle.new.table in
+    let last : NodeLists = c.settle.new.table in
     let end : IsDone m m.rows m.owners t last u (with_prio u c.args.prio (owners_in m t)) =
     done m m.rows m.owners t now last k o u
     (with_prio u c.args.prio (owners_in m t)) step c.settle.ensures.changes c.settle.ensures.tops in

@@ -1,8 +1,8 @@
 use Rattle.std.proofs.Common.{◌≡◌, ◌∙◌, ap, sym, refl, subst, inr, ℕ, Option, Some, arith}
 use Rattle.std.proofs.lemmas.Option.{same_Some}
 use Rattle.pif_nodes.specs.declared.keys.Key.{Key}
-use Rattle.pif_nodes.specs.Table.{Table, key_at, holder}
-use Rattle.pif_plist.specs.Order.{with_prio}
+use Rattle.pif_nodes.specs.Table.{NodeLists, key_at, holder}
+use Rattle.pif_plist.specs.Order.{key_with_prio}
 use Rattle.pif_rtmutex.specs.States.{States, IsThread, IsOwnList, wait_node, top_node, top_list}
 use Rattle.pif_rtmutex.specs.Holds.{IsToppedBut, IsRankedTop}
 use Rattle.pif_rtmutex.specs.Frames.{ChangesList, ChangesTops}
@@ -23,13 +23,13 @@ top_node-node-requires c = (c.requires.but.thread c.in-Some.t c.in-Some.is).1
 pub returns-then-key-prio-clause-tops : goal.returns-then-key-prio-clause-tops
 returns-then-key-prio-clause-tops c =
     let m : States = c.args.self.now in
-    let t : Table = c.args.table.now in
-    let now : Table = c.rekey.new.table in
+    let t : NodeLists = c.args.table.now in
+    let now : NodeLists = c.rekey.new.table in
     let u : ℕ = c.in-Some.t in
     let o : ℕ = c.args.owner in
     let i : IsThread m o = c.requires.waiters.owned c.args.key o c.requires.owner in
     let j : IsThread m u = c.requires.but.thread u c.in-Some.is in
-    let key : Key = with_prio t c.top_node-node.result c.key-prio.result.prio in
+    let key : Key = key_with_prio t c.top_node-node.result c.key-prio.result.prio in
     let changes : ChangesList (top_list m o) (top_node m u) t now =
     changes-as t now c.tops.result c.top_node-node.result (top_list m o)
     (top_node m u) c.tops.ensures.list c.top_node-node.ensures.node
@@ -58,7 +58,7 @@ returns-then-key-prio-clause-tops c =
 pub returns-else-key-prio-clause-tops : goal.returns-else-key-prio-clause-tops
 returns-else-key-prio-clause-tops c =
     let m : States = c.args.self.now in
-    let t : Table = c.args.table.now in
+    let t : NodeLists = c.args.table.now in
     let u : ℕ = c.in-Some.t in
     let same : c.key.result.prio ≡ c.key-prio.result.prio = omega arith in
     let rank : IsRankedTop m t u =

@@ -1,8 +1,8 @@
 use Rattle.std.proofs.Common.{◌≡◌, ◌∙◌, ◌≤◌, ap, sym, subst, arith}
-use Rattle.pif_nodes.specs.Table.{Table}
+use Rattle.pif_nodes.specs.Table.{NodeLists}
 use Rattle.pif_owners.specs.Owners.{Seat, seat_at}
 use Rattle.pif_rtmutex.specs.States.{Row, States, row_at, owners_in}
-use Rattle.pif_rtmutex.specs.Holds.{Holds}
+use Rattle.pif_rtmutex.specs.Holds.{HoldsStates}
 use Rattle.pif_rtmutex.proofs.ViewLemmas.{seat_at-owners_in}
 use Rattle.pif_rtmutex.proofs.RowLemmas.{seat_of, view-row, holds-row}
 use Rattle.pif_rtmutex.proofs.rt_mutexes.RtMutexes.set_base.Goals as goal
@@ -10,7 +10,7 @@ use Rattle.pif_rtmutex.proofs.rt_mutexes.RtMutexes.set_base.Goals as goal
 pub returns-clause-changed : goal.returns-clause-changed
 returns-clause-changed c =
     let m : States = c.args.self.now in
-    let t : Table = c.args.table.now in
+    let t : NodeLists = c.args.table.now in
     let row : c.with_base.result ≡ record (row_at m c.args.t) { base = c.args.prio } =
     c.with_base.ensures.row
     ∙ ap (λ (x : Row). record x { base = c.args.prio }) (c.row_of-row.ensures
@@ -23,7 +23,7 @@ returns-clause-changed c =
 pub returns-clause-holds : goal.returns-clause-holds
 returns-clause-holds c =
     let m : States = c.args.self.now in
-    let t : Table = c.args.table.now in
+    let t : NodeLists = c.args.table.now in
     let row : c.with_base.result ≡ record (row_at m c.args.t) { base = c.args.prio } =
     c.with_base.ensures.row
     ∙ ap (λ (x : Row). record x { base = c.args.prio }) (c.row_of-row.ensures
@@ -36,6 +36,6 @@ returns-clause-holds c =
           (seat_at-owners_in m t c.args.t),
       ap (λ (x : Row). x.local) row,
     ) in
-    subst (λ (n : States). Holds n t) (sym c.put.ensures.row)
+    subst (λ (n : States). HoldsStates n t) (sym c.put.ensures.row)
     (holds-row m t c.args.t c.with_base.result c.put.ensures.thread c.with_base.ensures.most other
     (ap (λ (x : Row). x.wait) row) c.requires.holds)

@@ -1,7 +1,7 @@
 use Rattle.std.proofs.Common.{◌≡◌, ◌∙◌, ap, sym, refl, subst, ℕ, Some, None, IsSome}
 use Rattle.std.proofs.lemmas.Bool.{false≢true}
 use Rattle.std.specs.FinMap.{get}
-use Rattle.pif_nodes.specs.Table.{Table, holder}
+use Rattle.pif_nodes.specs.Table.{NodeLists, holder}
 use Rattle.pif_plist.specs.Order.{IsSorted}
 use Rattle.pif_owners.specs.Owners.{with_ticket}
 use Rattle.pif_rtmutex.specs.States.{Row, States, row_at, wait_of, wait_list, owners_in}
@@ -26,7 +26,7 @@ set_ticket-requires-clause-held c =
     (sym (c.row_of-2.view_is ∙ c.row_of.ensures ∙ ap (row_at c.args.self.now) c.get.ensures.value))
     ∙ c.in-Some.is in
     let m : States = c.args.self.now in
-    let t : Table = c.args.table.now in
+    let t : NodeLists = c.args.table.now in
     let at : WaitsAt m t c.in-Some.key c.args.t = waits-at m t c.in-Some.key c.args.t c.requires.holds.waiters on in
     let list : c.waiters.result ≡ wait_list m at.row =
     row-list m c.in-Some.key at.row c.waiters.result at.place c.waiters.ensures in
@@ -39,7 +39,7 @@ set_ticket-requires-clause-sorted c =
     (sym (c.row_of-2.view_is ∙ c.row_of.ensures ∙ ap (row_at c.args.self.now) c.get.ensures.value))
     ∙ c.in-Some.is in
     let m : States = c.args.self.now in
-    let t : Table = c.args.table.now in
+    let t : NodeLists = c.args.table.now in
     let at : WaitsAt m t c.in-Some.key c.args.t = waits-at m t c.in-Some.key c.args.t c.requires.holds.waiters on in
     let list : c.waiters.result ≡ wait_list m at.row =
     row-list m c.in-Some.key at.row c.waiters.result at.place c.waiters.ensures in
@@ -52,7 +52,7 @@ set_ticket-requires-clause-stays_sorted c =
     (sym (c.row_of-2.view_is ∙ c.row_of.ensures ∙ ap (row_at c.args.self.now) c.get.ensures.value))
     ∙ c.in-Some.is in
     let m : States = c.args.self.now in
-    let t : Table = c.args.table.now in
+    let t : NodeLists = c.args.table.now in
     let at : WaitsAt m t c.in-Some.key c.args.t = waits-at m t c.in-Some.key c.args.t c.requires.holds.waiters on in
     let list : c.waiters.result ≡ wait_list m at.row =
     row-list m c.in-Some.key at.row c.waiters.result at.place c.waiters.ensures in
@@ -67,8 +67,8 @@ returns-in-Some c =
     (sym (c.row_of-2.view_is ∙ c.row_of.ensures ∙ ap (row_at c.args.self.now) c.get.ensures.value))
     ∙ c.in-Some.is in
     let m : States = c.args.self.now in
-    let t : Table = c.args.table.now in
-    let now : Table = c.set_ticket.new.table in
+    let t : NodeLists = c.args.table.now in
+    let now : NodeLists = c.set_ticket.new.table in
     let own : (o : ℕ) × (get m.owners c.in-Some.key ≡ Some o) =
     some_of (get m.owners c.in-Some.key) (waits-state m t c.args.t c.in-Some.key c.requires.holds.waiters on) in
     let end : IsDone m m.rows m.owners t now c.args.t (with_ticket c.args.t c.args.ticket (owners_in m t)) =

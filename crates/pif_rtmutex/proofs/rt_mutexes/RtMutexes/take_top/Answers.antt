@@ -1,5 +1,5 @@
 use Rattle.std.proofs.Common.{◌≡◌, ◌∙◌, ap, sym, refl, subst, ℕ, Some, None, arith}
-use Rattle.pif_nodes.specs.Table.{Table, holder}
+use Rattle.pif_nodes.specs.Table.{NodeLists, holder}
 use Rattle.pif_rtmutex.specs.States.{States, IsThread, IsOwnList, top_node, top_list}
 use Rattle.std.proofs.Common.{inr, Option}
 use Rattle.std.proofs.lemmas.Option.{same_Some}
@@ -12,7 +12,7 @@ use Rattle.pif_rtmutex.proofs.rt_mutexes.RtMutexes.take_top.Goals as goal
 pub returns-in-Some-clause-changes : goal.returns-in-Some-clause-changes
 returns-in-Some-clause-changes c =
     let m : States = c.args.self.now in
-    let t : Table = c.args.table.now in
+    let t : NodeLists = c.args.table.now in
     let u : ℕ = c.in-Some.t in
     let j : IsThread m u = c.requires.but.thread u c.in-Some.is in
     let held : holder t (top_node m u) ≡ Some (top_list m c.args.owner) =
@@ -34,7 +34,7 @@ returns-in-Some-clause-changes c =
 pub returns-in-Some-clause-but : goal.returns-in-Some-clause-but
 returns-in-Some-clause-but c =
     let m : States = c.args.self.now in
-    let t : Table = c.args.table.now in
+    let t : NodeLists = c.args.table.now in
     let u : ℕ = c.in-Some.t in
     let j : IsThread m u = c.requires.but.thread u c.in-Some.is in
     let held : holder t (top_node m u) ≡ Some (top_list m c.args.owner) =

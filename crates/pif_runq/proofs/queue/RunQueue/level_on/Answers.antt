@@ -1,5 +1,5 @@
 use Rattle.std.proofs.Common.{◌≡◌, ◌+◌, ◌-◌, ap, subst, arith}
-use Rattle.pif_runq.specs.Levels.{Queue, StandsOn}
+use Rattle.pif_runq.specs.Levels.{Queue, IsOnLevel}
 use Rattle.pif_runq.proofs.LevelLemmas.{queued_on, level_found, holder_some}
 use Rattle.pif_runq.proofs.queue.RunQueue.level_on.Goals as goal
 
@@ -33,4 +33,4 @@ returns c =
     c.requires.holds c.requires.queued c.node_for-node.ensures.node c.list_of.ensures.holder c.unwrap-list.ensures in
     let same : c.unwrap-list.result - c.args.self.now.first_list + 1 ≡ c.get.result - c.self.inside.first_list + 1 =
     omega (arith, c.get.ensures, ap (λ (q : Queue). q.first_list) c.self.view_is) in
-    subst (StandsOn c.args.self.now c.args.table.now c.args.t) same found.1
+    subst (IsOnLevel c.args.self.now c.args.table.now c.args.t) same found.1
