@@ -52,9 +52,21 @@ fn count_ends(script: &[u8], word: &[u8]) -> usize {
 }
 
 fn has_all(rt: &impl Abort, script: &[u8]) {
-    let words: [&[u8]; 12] = [
-        b"thread ", b"mutex ", b"cond ", b"call ", b"begin ", b"go ", b"finish ", b"end ",
-        b"tick ", b"word ", b"health ", b"prio ",
+    let words: [&[u8]; 14] = [
+        b"thread ",
+        b"mutex ",
+        b"cond ",
+        b"call ",
+        b"begin ",
+        b"go ",
+        b"finish ",
+        b"end ",
+        b"tick ",
+        b"word ",
+        b"health ",
+        b"condword ",
+        b"prio ",
+        b"pick",
     ];
     for word in words {
         assert!(rt; count(script, word) > 0, "{word:?}");

@@ -135,7 +135,7 @@ impl Player {
                 None => self.lock(),
             }
         } else if chance == 9 {
-            Some(Request::SetPrio(thread, self.priority()))
+            Some(Request::SetPrio(self.named(thread), self.priority()))
         } else if chance == 10 {
             Some(Request::TryLock(self.mutex()?))
         } else if chance <= 12 {
@@ -190,10 +190,36 @@ impl Player {
         }
     }
 
+    // The thread whose priority a thread changes: its own, or any, which may wait or have ended.
+    fn named(&mut self, thread: Tid) -> Tid {
+        let threads = self.core.threads();
+        let place = self.below(threads.saturating_mul(2));
+        match Tid::new(place.saturating_add(1)) {
+            Some(named) if place < threads => named,
+            _ => thread,
+        }
+    }
+
     fn question(&mut self, thread: Tid) -> Question {
+        match self.below(8) {
+            0 => Question::Pick,
+            1 => self.cond_question(thread),
+            chance => self.mutex_question(thread, chance),
+        }
+    }
+
+    fn cond_question(&mut self, thread: Tid) -> Question {
+        let conds = self.core.conds();
+        match CondId::new(self.below(conds).saturating_add(1)) {
+            Some(cond) if conds > 0 => Question::CondWord(cond),
+            _ => Question::Prio(thread),
+        }
+    }
+
+    fn mutex_question(&mut self, thread: Tid, chance: u32) -> Question {
         match self.mutex() {
-            Some(mutex) if self.below(4) == 0 => Question::Word(mutex),
-            Some(mutex) if self.below(4) == 0 => Question::Health(mutex),
+            Some(mutex) if chance < 4 => Question::Word(mutex),
+            Some(mutex) if chance == 4 => Question::Health(mutex),
             _ => Question::Prio(thread),
         }
     }

@@ -134,7 +134,12 @@ fn only_what_was_asked_for_is_there(rt: HostRuntime) {
     ];
     for (options, wanted) in scripts {
         let mut words = ArrayVec::<&str, 9>::new();
-        let _ = words.try_extend_from_slice(["pif", "random", "--seed=5", "--lines=90"].as_slice());
+        let _ = words.try_extend_from_slice([
+            "pif",
+            "random",
+            "--seed=5",
+            "--lines=200",
+        ].as_slice());
         let _ = words.try_extend_from_slice(options);
         let script = script_of(&rt, rt.alloc(), words.as_slice());
         assert_eq!(rt; has(&script), wanted, "{options:?}");
