@@ -18,7 +18,8 @@ static const char help[] =
     "  glibc   the pthread calls of glibc: whole calls\n"
     "  raw     the steps of the calls one by one, on the kernel's futex calls and a robust list\n"
     "\n"
-    "  --seconds N   ends a script that takes longer; 20 if it isn't named\n"
+    "  --seconds N   ends a script that takes longer; 20 if it isn't named. If the machine is too slow for the\n"
+    "                deadlines, the script runs again at a quarter of the pace, with four times the seconds\n"
     "  --most N      takes N threads and mutexes at most, also more than `pif run` does; 1024 if it isn't named\n"
     "  --versions    prints the kernel and the library that are asked\n"
     "  --help        prints this\n"
@@ -113,14 +114,14 @@ static int explain(const Result *result)
     }
 }
 
-/* Runs the script, and again at a slower pace if a deadline passed too early. */
+/* Runs the script, and again at a slower pace, with as much more time, if a deadline passed too early. */
 static int ask(const Words *words, const Script *script)
 {
     Result result = {.status = STATUS_SLOW};
 
     Choice choice = words->choice;
 
-    for (; choice.pace_ms <= SLOWEST && result.status == STATUS_SLOW; choice.pace_ms *= 4) {
+    for (; choice.pace_ms <= SLOWEST && result.status == STATUS_SLOW; choice.pace_ms *= 4, choice.seconds *= 4) {
         free(result.text);
         result = (Result){.text = NULL};
         int status = run_in_child(&choice, script, &result);
