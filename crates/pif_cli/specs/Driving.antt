@@ -64,7 +64,7 @@ SaysSo held holds text why (Err fault) =
     ((fault ≡ why) × Appends held holds text) ⊎ ((fault ≡ Cli Write) × WritesPart held holds text)
 
 -- what a drive of so many clients writes: the calls that were answered, each of each client; or why there is no such
--- number; at want of memory nothing, and at a failed write a proper part of such a line
+-- number; out of memory nothing, and at a failed write a proper part of such a line
 abbrev pub Drives : ℕ → (held holds : Option (List ℕ)) → Result (Unit {0}) JobFault → Type 0
 Drives clients held holds (Ok x) = Appends held holds (answered_text clients)
 Drives clients held holds (Err Threads) = Appends held holds threads_text

@@ -5,7 +5,7 @@ use Rattle.pif_cli.specs.declared.statuses.JobFault.{JobFault}
 use Rattle.pif_cli.specs.declared.statuses.JobFault.TheVariants.{Cli, Threads, Unsettled}
 use Rattle.pif_scripts.specs.declared.faults.CliFault.TheVariants.{Read, Write, NoMemory, Script, Differs}
 
--- the status of a fault: 2 for one of the script or trace, 3 where a read or a write failed, 4 for want of memory, 5
+-- the status of a fault: 2 for one of the script or trace, 3 where a read or a write failed, 4 for out of memory, 5
 -- for a difference
 abbrev pub fault_status : CliFault → ℕ
 fault_status (Script line cause) = 2

@@ -191,7 +191,7 @@ Did job name before after held holds errors_held errors_hold status =
     (result : Result (Unit {0}) JobFault) × Does job name before after held holds result × (status ≡ job_status result)
     × TellsOf result errors_held errors_hold
 
--- want of memory, of which the errors were told: nothing was written to the output
+-- out of memory, of which the errors were told: nothing was written to the output
 abbrev pub HadNoMemory : (held holds errors_held errors_hold : Option (List ℕ)) → ℕ → Type 0
 HadNoMemory held holds errors_held errors_hold status = (status ≡ 4) × Keeps held holds × TellsLine errors_held errors_hold
 
@@ -217,7 +217,7 @@ RefusedFor DisplayVersion held holds errors_held errors_hold status = ShowedHelp
 RefusedFor k held holds errors_held errors_hold status = Refused held holds errors_held errors_hold status
 
 -- words of these refusals end the program so: where there is none they ask for what was done, else nothing is read and
--- they are refused for one of them; and memory may be wanting
+-- they are refused for one of them; and memory may run out
 abbrev pub EndsIf : Kinds → (done : Type 0) → (before after held holds errors_held errors_hold : Option (List ℕ)) → ℕ
     → Type 0
 EndsIf [] done before after held holds errors_held errors_hold status =
@@ -268,7 +268,7 @@ abbrev pub inputs_of : List Text → List Text
 inputs_of [] = standard_name ∷ []
 inputs_of (file ∷ files) = file ∷ files
 
--- the words of the program could not be had, for this reason: for want of memory, or as one of them is no text, which
+-- the words of the program could not be had, for this reason: out of memory, or as one of them is no text, which
 -- is said, or as they cannot be read; of the first and the last the errors are told
 abbrev pub HadNoWords : IoErrorKind → (errors_held errors_hold : Option (List ℕ)) → ℕ → Type 0
 HadNoWords kind errors_held errors_hold status =

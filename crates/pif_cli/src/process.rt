@@ -48,7 +48,7 @@ pub fn command_at_terminal<
 /// A story that `pif shell` saves is a new file of the process; it writes no prompt.
 ///
 /// Where the words cannot be had, nothing is read. The status is then 1 where one of them is not UTF-8, which `errors`
-/// is told; 4 for want of memory; and 3 where they cannot be read, or where `errors` cannot be told of such a word. At
+/// is told; 4 if it is out of memory; and 3 if they cannot be read, or if `errors` cannot be told of such a word. At
 /// 4, and where the words cannot be read, `errors` is told so in one line, as by `command`.
 pub fn command_of_process<
     P: Env + AllocGlobal + Files + Threads + Wait + Sync,

@@ -9,7 +9,7 @@ use std::process::{ExitCode, Termination};
 /// Why a job was not done.
 #[derive(Clone, Copy, Debug, PartialEq, Eq)]
 pub enum JobFault {
-    /// A fault of the script or trace, a read or a write that failed, or want of memory.
+    /// A fault of the script or trace, a read or a write that failed, or out of memory.
     Cli(CliFault),
     /// A thread could not be started.
     Threads,
@@ -28,7 +28,7 @@ pub fn job_fault_status(fault: JobFault) -> u8
 }
 
 /// The status of the program after this fault: 2 for a fault of the script or trace, 3 for a read or a write that
-/// failed, 4 for want of memory, and 5 for a difference.
+/// failed, 4 for out of memory, and 5 for a difference.
 pub fn fault_status(fault: CliFault) -> u8
     ensures { result ≡ fault_status fault }
 {

@@ -70,7 +70,7 @@ pub record Closes (r : Receipt) (old new : ClientState) : Type 0 where
   pub was : old ≡ with_call (new_call r.request) before
   pub now : new ≡ with_call (receipt_call r) before
 
--- an event was refused, by the core or for want of memory
+-- an event was refused, by the core or for being out of memory
 abbrev pub IsEventFault : DeskFault → Type 0
 IsEventFault NoMemory = ⊤
 IsEventFault (Refused x) = ⊤

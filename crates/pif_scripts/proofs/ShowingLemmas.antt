@@ -36,7 +36,7 @@ Stays-stopped h k text said x Write w = Stays-appended h k w.0 w.4
 Stays-stopped h k text said x Read w = absurd w
 Stays-stopped h k text said x NoMemory w = absurd w
 
--- such an end is no want of memory
+-- such an end is not that of being out of memory
 pub SilentAt-stopped : {S : Type 0} (s : Scan S) (a b h k : Option (List ℕ)) (text said : List ℕ) (x : End)
     (e : CliFault) → Stops h k text said x e → SilentAt s a b e
 SilentAt-stopped s a b h k text said x (Script l c) w = tt

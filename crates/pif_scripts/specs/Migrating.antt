@@ -68,7 +68,7 @@ IsAllRead read after = (length read ≡ 16777217) ⊎ IsAtEnd after
 -- migrating a trace of which these bytes were read:
 --   ended well: they have no fault of form, and the trace was written in version 2
 --   a fault: it is their first one, and its line was written
---   a read failed, or want of memory: nothing was written
+--   a read failed, or out of memory: nothing was written
 --   a write failed: a proper part of what was to be written was, from its front
 --   there are no differences
 abbrev pub Migrates : List ℕ → (after held holds : Option (List ℕ)) → Result (Unit {0}) CliFault → Type 0
@@ -91,7 +91,7 @@ MigratesTo before after held holds result =
 abbrev pub ReadsTo : (before after : Option (List ℕ)) → List ℕ → Type 0
 ReadsTo before after read = Consumes before after read × (length read ≤ 16777217) × IsAllRead read after
 
--- a read failed, or memory was wanting, before all was read
+-- a read failed, or memory ran out, before all was read
 abbrev pub FailsToRead : (before after : Option (List ℕ)) → CliFault → Type 0
 FailsToRead before after fault.Read = (read : List ℕ) × Consumes before after read × (length read ≤ 16777217)
 FailsToRead before after fault.NoMemory = (read : List ℕ) × Consumes before after read × (length read ≤ 16777217)

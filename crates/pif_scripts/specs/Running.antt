@@ -140,7 +140,7 @@ abbrev pub IsAnswer : Result Answer Cause → Type 0
 IsAnswer (Ok a) = Unit {0}
 IsAnswer (Err c) = ⊥
 
--- a core was made by the first command, and answered it so; memory was wanting for a command that is answered
+-- a core was made by the first command, and answered it so; memory ran out for a command that is answered
 abbrev pub Makes : Result Answer Cause → Result (Table × Reply) OpenFault → Type 0
 Makes meant (Ok made) = meant ≡ Ok (made.1, made.0)
 Makes meant (Err (Ended (Fault c))) = meant ≡ Err c

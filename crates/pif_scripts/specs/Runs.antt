@@ -49,7 +49,7 @@ output_of h f = f.text ++ last_text h.said_of (ended_by h f.stands)
 --   a difference: it is the first of these bytes, before any fault; their output was written
 --   a read failed: no line of these bytes ended it so far, and what their lines are answered was written
 --   a write failed: a proper part of their output was written, from its front
---   want of memory: a line of these bytes needs a listener, it and those before it have no fault, and nothing was
+--   out of memory: a line of these bytes needs a listener, it and those before it have no fault, and nothing was
 --     written
 abbrev pub EndsAfter : {S : Type 0} → Hearing S → Scan S → List ℕ → (after held holds : Option (List ℕ))
     → Result (Unit {0}) CliFault → Type 0

@@ -39,7 +39,7 @@ NeedsListener (Ok None) = ⊥
 NeedsListener (Err (Differs reply)) = Unit {0}
 NeedsListener (Err (Fault cause)) = ⊥
 
--- a line was answered so while there was no listener: it made one, or was passed over; memory was wanting for one that
+-- a line was answered so while there was no listener: it made one, or was passed over; memory ran out for one that
 -- it needs
 abbrev pub Opens : {S : Type 0} → FirstMeaning S → (old new : List ℕ) → Result (Option S) OpenFault → Type 0
 Opens meant old new (Ok (Some s)) = (text : List ℕ) × (meant ≡ Ok (Some (text, s))) × (new ≡ old ++ text)

@@ -106,7 +106,7 @@ verdict bytes = last_text end_line (trace_end bytes)
 --   a difference: it is the first of these bytes, before any fault; the verdict was written
 --   a read failed: these bytes have no fault and no difference so far, and nothing was written
 --   a write failed: a proper part of the verdict was written, from its front
---   want of memory: the header and the line after it are among these bytes and have no fault, and nothing was written
+--   out of memory: the header and the line after it are among these bytes and have no fault, and nothing was written
 abbrev pub Replays : List ℕ → (after held holds : Option (List ℕ)) → Result (Unit {0}) CliFault → Type 0
 Replays read after held holds (Ok x) =
     (is_ok (trace_end read) ≡ true) × IsAtEnd after × Appends held holds (verdict read)

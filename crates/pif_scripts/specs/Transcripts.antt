@@ -140,7 +140,7 @@ script_end bytes = ended_by script (script_reading bytes).stands
 --   a fault: it is the first of these bytes, or they end there and all was read; the trace up to it was written
 --   a read failed: these bytes have no fault so far, and the trace of their lines was written
 --   a write failed: a proper part of the trace was written, from its front
---   want of memory: a line of these bytes needs a core, it has no fault, and nothing was written
+--   out of memory: a line of these bytes needs a core, it has no fault, and nothing was written
 --   there are no differences
 abbrev pub Transcribes : List ℕ → (after held holds : Option (List ℕ)) → Result (Unit {0}) CliFault → Type 0
 Transcribes read after held holds (Ok x) =
