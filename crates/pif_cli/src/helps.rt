@@ -235,7 +235,10 @@ flags the first of --json, --dot and --all counts.
 
 Status: 0 done, 1 wrong words, 2 a fault of the script, 3 a read or write
 failed, 4 out of memory.
-Standard error says what went wrong, and in which line.";
+Standard error says what went wrong, and in which line.
+
+Example:
+  pif show --json FILE.story | examples/perfetto > trace.json";
 
 /// The end of the help of `draw`.
 pub const MORE_DRAW: &str =
@@ -251,7 +254,10 @@ All is read first, and nothing is printed of a story with a fault.
 
 Status: 0 done, 1 wrong words, 2 a fault of the story, 3 a read or write failed,
 4 out of memory.
-Standard error says what went wrong, and in which line.";
+Standard error says what went wrong, and in which line.
+
+Example:
+  pif draw FILE.story > x.svg";
 
 /// The end of the help of `shell`.
 pub const MORE_SHELL: &str =
