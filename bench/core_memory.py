@@ -60,6 +60,9 @@ def requests(room, program):
 
 
 def main():
+    if sys.argv[1:] in (["-h"], ["--help"]):
+        print(__doc__, end="")
+        return 0
     program = Path(sys.argv[1] if len(sys.argv) > 1 else TOP / "crates/pif_bench/out/pif_bench").resolve()
     with tempfile.TemporaryDirectory() as folder:
         sizes = requests(Path(folder), program)

@@ -72,6 +72,9 @@ def sample(root, spent, parts):
 
 
 def main():
+    if sys.argv[1:] in (["-h"], ["--help"]):
+        print(__doc__, end="")
+        return 0
     log = sys.argv[1] if len(sys.argv) > 1 else "gate.log"
     spent, parts, start = {}, {}, time.monotonic()
     with open(log, "w", encoding="utf-8") as output:

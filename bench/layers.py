@@ -31,6 +31,9 @@ def measured(program, name):
 
 
 def main():
+    if sys.argv[1:] in (["-h"], ["--help"]):
+        print(__doc__, end="")
+        return 0
     times = int(sys.argv[1]) if len(sys.argv) > 1 else 41
     program = sys.argv[2] if len(sys.argv) > 2 else TOP / "crates/pif_bench/out/pif_bench"
     names = layers_of(program)

@@ -39,6 +39,9 @@ def spread(values):
 
 
 def main():
+    if sys.argv[1:] in (["-h"], ["--help"]):
+        print(__doc__, end="")
+        return 0
     times = int(sys.argv[1]) if len(sys.argv) > 1 else 11
     runs = []
     for _ in range(times):

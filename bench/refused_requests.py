@@ -88,6 +88,9 @@ def sweep(room, name, command, text, same_alone):
 
 
 def main():
+    if sys.argv[1:] in (["-h"], ["--help"]):
+        print(__doc__, end="")
+        return 0
     script, trace = Path(str(EXAMPLE) + ".pif").read_bytes(), Path(str(EXAMPLE) + ".trace").read_bytes()
     jobs = [(["run"], script), (["show"], script), (["replay"], trace), (["trace"], script), (["--help"], b""),
             (["walk"], b""), (["drive", "2"], b"")]

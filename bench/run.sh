@@ -5,6 +5,7 @@
 # calls on a core without a desk; and the seconds of `drive 64`. It is a benchmark, never a test: nothing here passes or
 # fails.
 set -euo pipefail
+case "${1-}" in -h | --help) sed -n '2,/^set /s/^# //p' "$0"; exit ;; esac
 here="$(cd "$(dirname "$0")/.." && pwd)"
 program="$here/crates/pif/out/pif"
 [ -x "$program" ] || "$here/pif" --help > /dev/null
