@@ -18,12 +18,11 @@ use Rattle.pif_cli.specs.declared.statuses.JobFault.{JobFault}
 use Rattle.pif_cli.specs.declared.statuses.JobFault.TheVariants.{Cli}
 use Rattle.pif_scripts.specs.Migrating.{MigratesTo}
 use Rattle.pif_scripts.specs.Running.{RunsTo}
-use Rattle.pif_scripts.specs.Showing.{ShowsTo}
 use Rattle.pif_scripts.specs.Traces.{ReplaysTo}
-use Rattle.pif_scripts.specs.Transcripts.{TracesTo}
 use Rattle.pif_scripts.specs.Runs.{WritesPart}
 use Rattle.pif_shell.specs.Talks.{TalksTo}
 use Rattle.pif_stories.specs.Checks.{TellsTo, checked, filled}
+use Rattle.pif_stories.specs.Showing.{ShowsStoryTo, TracesStoryTo}
 use Rattle.pif_cli.specs.Messages.{TellsLine, TellsOf}
 use Rattle.pif_cli.specs.Options.{flag_in, flag_rule, number_between}
 use Rattle.pif_cli.specs.Random.{WritesRandom, random_app, recipe_in}
@@ -174,9 +173,9 @@ abbrev pub Does : Job → (name : Text) → (before after held holds : Option (L
     → Type 0
 Does Run name before after held holds result = EndsAsCli (RunsTo before after held holds) result
 Does Replay name before after held holds result = EndsAsCli (ReplaysTo before after held holds) result
-Does Trace name before after held holds result = EndsAsCli (TracesTo before after held holds) result
+Does Trace name before after held holds result = EndsAsCli (TracesStoryTo before after held holds) result
 Does Migrate name before after held holds result = EndsAsCli (MigratesTo before after held holds) result
-Does (Show detail) name before after held holds result = EndsAsCli (ShowsTo before after held holds) result
+Does (Show detail) name before after held holds result = EndsAsCli (ShowsStoryTo before after held holds) result
 Does (Picture picture) name before after held holds result = EndsAsCli (PicturesTo before after held holds) result
 Does Shell name before after held holds result = EndsAsCli (TalksTo before after held holds) result
 Does Check name before after held holds result = EndsAsCli (TellsTo (checked name) before after held holds) result

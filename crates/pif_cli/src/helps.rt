@@ -13,13 +13,13 @@ pub const ABOUT_RUN: &str = "Reads a script, and writes an answer for each of it
 pub const ABOUT_REPLAY: &str = "Reads a trace, and says whether each of its answers is given again";
 
 /// What `trace` does.
-pub const ABOUT_TRACE: &str = "Reads a script, and writes the trace that 'pif replay' takes";
+pub const ABOUT_TRACE: &str = "Reads a story or a script, and writes its trace for 'pif replay'";
 
 /// What `migrate` does.
 pub const ABOUT_MIGRATE: &str = "Reads a trace, and writes it as a trace of version 2";
 
 /// What `show` does.
-pub const ABOUT_SHOW: &str = "Reads a script, and shows for each line the answer and what changes";
+pub const ABOUT_SHOW: &str = "Reads a story or a script, and shows each answer and what changes";
 
 /// What `draw` does.
 pub const ABOUT_DRAW: &str = "Reads a story or a script, and draws it as an SVG image";
@@ -178,8 +178,9 @@ Standard error says what went wrong, and in which line.";
 
 /// The end of the help of `trace`.
 pub const MORE_TRACE: &str =
-    "A script comes from FILE, or from the standard input, as 'pif run' takes it;
-'pif run --help' names its commands.
+    "A story or a script comes from FILE, or from the standard input, as 'pif check'
+or 'pif run' takes it; 'pif run --help' names the commands. All is read first.
+Answers that stand in it are not compared.
 
 Its trace begins with 'pif-trace 2' and the line of the limits. Behind them
 stand the threads, mutexes and variables that were added, and each begin, go,
@@ -187,9 +188,10 @@ end and tick, all with what the core answered, as in 'go t1 = went'. 'call' and
 'finish' stand there as the begin and the go of which they are made. What was
 not added, and what only asks, leaves no line; nor does a fault.
 
-Status: 0 done, 1 wrong words, 2 a fault of the script, 3 a read or write
-failed, 4 out of memory.
-Standard error says what went wrong, and in which line.";
+Status: 0 done, 1 wrong words, 2 a fault, 3 a read or write failed, 4 out of
+memory.
+Standard error says what went wrong, and in which line. Only commands are
+counted as lines, from 1.";
 
 /// The end of the help of `migrate`.
 pub const MORE_MIGRATE: &str =
@@ -207,12 +209,13 @@ Standard error says what went wrong, and in which line.";
 
 /// The end of the help of `show`.
 pub const MORE_SHOW: &str =
-    "A script comes from FILE, or from the standard input, as 'pif run' takes it;
-'pif run --help' names its commands.
+    "A story or a script comes from FILE, or from the standard input, as 'pif check'
+or 'pif run' takes it; 'pif run --help' names the commands. All is read first.
+Answers that stand in it are not compared.
 
-For each line it prints the line behind '> ', what 'pif run' answers it, with
-the name of an error behind its number, and those of these lines that it has
-changed; with --all, all of them:
+For each command it prints the command behind '> ', what 'pif run' answers it,
+with the name of an error behind its number, and those of these lines that it
+has changed; with --all, all of them:
   time N         the time, once one was handed in
   tN             its effective priority, and its base priority if that differs;
                  what it does; the call that it has open; the mutexes that it
@@ -229,13 +232,14 @@ What is empty is left out; if a line has emptied the run queue, or ended the
 last chain, 'none' stands there. This text is for reading, and may change; 'pif
 run' prints for programs.
 
-With --json or --dot it takes a story too, reads all of it first, and prints
-nothing of one with a fault. docs/FORMATS.md says what they print. Of several
-flags the first of --json, --dot and --all counts.
+With --json or --dot it prints nothing of a story with a fault. docs/FORMATS.md
+says what they print. Of several flags the first of --json, --dot and --all
+counts.
 
-Status: 0 done, 1 wrong words, 2 a fault of the script, 3 a read or write
-failed, 4 out of memory.
-Standard error says what went wrong, and in which line.
+Status: 0 done, 1 wrong words, 2 a fault, 3 a read or write failed, 4 out of
+memory.
+Standard error says what went wrong, and in which line. Without --json and
+--dot only commands are counted as lines, from 1.
 
 Example:
   pif show --json FILE.story | examples/perfetto > trace.json";

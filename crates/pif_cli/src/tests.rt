@@ -88,7 +88,13 @@ fn each_job_ends_with_its_status(rt: HostRuntime) {
             "differs 2 t1\n",
         ),
         ("trace", "", 0, ""),
-        ("trace", "thread 10\npick\ngo t2\nthread 2", 2, TRACED),
+        ("trace", "thread 10\npick\ngo t2\nthreat 2", 2, TRACED),
+        (
+            "trace",
+            "# A story.\n\nthread 10 = t1\r\npick\ngo t2 = x",
+            0,
+            TRACED,
+        ),
         ("trace", LOCKED, 2, ""),
         ("check", STORY, 0, "ok - 2\n"),
         (

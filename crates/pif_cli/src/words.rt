@@ -24,12 +24,11 @@ use crate::statuses::{JobFault, fault_status, job_fault_status};
 use clap::builder::ValueParser;
 use clap::error::ErrorKind;
 use pif_scripts::{
-    CliFault, Detail, Notice, migrate_noting, replay_noting, run_noting, show_noting, trace_noting,
-    write_whole,
+    CliFault, Detail, Notice, migrate_noting, replay_noting, run_noting, write_whole,
 };
 use pif_shell::{NoShelf, shell};
 use pif_slips::nearest_name;
-use pif_stories::{check_noting, fill_noting};
+use pif_stories::{check_noting, fill_noting, show_story, trace_story};
 use std::alloc::{AllocError, Global};
 use std::convert::AsStr;
 use std::io::{Read, Write};
@@ -46,11 +45,12 @@ pub enum Job {
     Run,
     /// `replay`: replay a trace.
     Replay,
-    /// `trace`: write the trace of a script.
+    /// `trace`: write the trace of a script or a story.
     Trace,
     /// `migrate`: write a trace as one of version 2.
     Migrate,
-    /// `show`: run a script, and show it to a person, with what changes by each line, or by `--all` with all there is.
+    /// `show`: run a script or a story, and show it to a person, with what changes by each line, or by `--all` with all
+    /// there is.
     Show(Detail),
     /// `draw`, `show --json` and `show --dot`: make a picture of a story.
     Picture(Picture),
@@ -359,9 +359,9 @@ fn do_job<T: Threads + Wait + Sync, R: Read, W: Write>(
     match job {
         Job::Run => as_job(run_noting(alloc, input, output, notice)),
         Job::Replay => as_job(replay_noting(alloc, input, output, notice)),
-        Job::Trace => as_job(trace_noting(alloc, input, output, notice)),
+        Job::Trace => as_job(trace_story(alloc, input, output, notice)),
         Job::Migrate => as_job(migrate_noting(alloc, input, output, notice)),
-        Job::Show(detail) => as_job(show_noting(detail, alloc, input, output, notice)),
+        Job::Show(detail) => as_job(show_story(detail, alloc, input, output, notice)),
         Job::Picture(picture) => as_job(write_picture(picture, alloc, input, output, notice)),
         Job::Shell => as_job(shell(alloc, &NoShelf, false, input, output)),
         Job::Check => as_job(check_noting(alloc, name.as_bytes(), input, output, notice)),
@@ -502,19 +502,19 @@ fn first_name<'a>(files: &[&'a str]) -> &'a str
 }
 
 /// The program over its words, the program's name first. `pif run` reads a script from `input`, and writes what its
-/// lines are answered, and the line of a fault, to `output`. `pif show` reads a script from `input`, and writes to
-/// `output` each line, its answer and what it has changed, as `show` does; with `--all` the state behind it, as `show_all`
-/// does; with `--json` or `--dot` it reads a story, and
-/// writes a picture of it, as `pif draw` does. `pif check` reads a story from `input`, and
-/// writes to `output` a line that says whether it is ok, as `check` does; with `--print` it writes it with its answers,
-/// as `fill` does. `pif shell` reads the lines of a person from `input`, and answers each to `output`, as `shell` does
-/// without a prompt; it saves no story, since no file is opened here. `pif replay` reads a trace from `input`, and writes to `output` what it comes to, as `replay` does.
-/// `pif trace` reads a script from `input`, and writes its trace to `output`, as `trace` does, without the line of a
-/// fault. `pif migrate` reads a trace from `input`, and writes it to `output` as one of version 2, or the line of its
-/// fault, as `migrate` does. `pif random` reads nothing, and writes to `output` the random script that its options ask
-/// for. `pif drive N` lets N clients, 1 to 64, make their calls in threads of their own, as `rt` starts them. It reads
-/// nothing, and writes to `output` how many were answered, as `drive` does. A word behind all but `random` and `drive`
-/// names a file: no file is opened here, and `input` stands for the first.
+/// lines are answered, and the line of a fault, to `output`. `pif show` reads a story or a script from `input`, and
+/// writes to `output` each command, its answer and what it has changed, as `show_story` does; with `--all` the state
+/// behind it; with `--json` or `--dot` it writes a picture of it, as `pif draw` does. `pif check` reads a story from
+/// `input`, and writes to `output` a line that says whether it is ok, as `check` does; with `--print` it writes it with
+/// its answers, as `fill` does. `pif shell` reads the lines of a person from `input`, and answers each to `output`, as
+/// `shell` does without a prompt; it saves no story, since no file is opened here. `pif replay` reads a trace from
+/// `input`, and writes to `output` what it comes to, as `replay` does. `pif trace` reads a story or a script from
+/// `input`, and writes its trace to `output`, as `trace_story` does, without the line of a fault. `pif migrate` reads a
+/// trace from `input`, and writes it to `output` as one of version 2, or the line of its fault, as `migrate` does. `pif
+/// random` reads nothing, and writes to `output` the random script that its options ask for. `pif drive N` lets N
+/// clients, 1 to 64, make their calls in threads of their own, as `rt` starts them. It reads nothing, and writes to
+/// `output` how many were answered, as `drive` does. A word behind all but `random` and `drive` names a file: no file
+/// is opened here, and `input` stands for the first.
 ///
 /// The status is 0 if the job was done, or help or the version was asked for, whose text goes to `output`; 1 if the
 /// words are refused, and the reason goes to `errors`; 2 for a fault of the script, story or trace; 3 if a read or a

@@ -6,7 +6,7 @@
 //! | `lines` | `pif_text`: the commands of lines, and the texts of commands, replies and faults |
 //! | `slips` | `pif_slips`: why a line is no command |
 //! | `scripts` | `pif_scripts`: scripts and traces, from worked examples to reads and writes that fail |
-//! | `stories` | `pif_stories`: stories that are checked, and filled in |
+//! | `stories` | `pif_stories`: stories that are checked, filled in, shown and traced |
 //! | `shells` | `pif_shell`: conversations, stories that are saved, and sessions |
 //! | `random` | `pif_random`: scripts by a seed |
 //! | `pictures` | `pif_pictures`: drawings, states and graphs of stories |

@@ -2,6 +2,7 @@ mod differences;
 mod failures;
 mod faults;
 mod fills;
+mod shows;
 
 use crate::streams::Kept;
 use pif_scripts::{Cause, CliFault};

@@ -13,7 +13,7 @@ use std::alloc::Global;
 use std::io::{Read, Write};
 
 /// The most bytes of a story.
-const MOST: usize = MOST_BYTES as usize;
+pub const MOST: usize = MOST_BYTES as usize;
 
 /// What is written for a story, and how that ends.
 type Telling = (Vec<u8>, Result<(), CliFault>);
@@ -45,7 +45,7 @@ fn run_story(alloc: Global, story: &[u8]) -> Result<Ran, CliFault>
 
 /// In which line of a text the byte stands that comes next, from 1.
 #[tactic(auto, using(crate::proofs::LinesLemmas::count_lines))]
-fn line_at_end(text: &[u8]) -> u64
+pub fn line_at_end(text: &[u8]) -> u64
     requires { length text.now ≤ 16777216 }
     ensures { result ≡ length (lines text.now) }
 {

@@ -10,6 +10,8 @@ mod comparing;
 mod filling;
 mod lines;
 mod scripts;
+mod showing;
 mod verdicts;
 
 pub use checking::{check, check_noting, fill, fill_noting, ok_is_exact};
+pub use showing::{show_story, trace_story};

@@ -51,6 +51,22 @@ fn files_are_read_in_turn(rt: HostRuntime) {
             0,
             ("thread 10 = t1\n", ""),
         ),
+        (
+            ["pif", "show", "-"].as_slice(),
+            0,
+            (
+                "> thread 10\nt1\n  t1: priority 10; ready\n  run queue: t1\n\n",
+                "",
+            ),
+        ),
+        (
+            ["pif", "trace", "-"].as_slice(),
+            0,
+            (
+                "pif-trace 2\nlimits 1024 1024 256 4294967295 = ok\nthread 10 = t1\n",
+                "",
+            ),
+        ),
         (["pif", "run", "no/such"].as_slice(), 3, ("", unread)),
         (["pif", "show", "no/such"].as_slice(), 3, ("", unread)),
         (["pif", "trace", "no/such"].as_slice(), 3, ("", unread)),

@@ -60,20 +60,8 @@ fn a_faulty_script_is_told_by_its_line(rt: HostRuntime) {
             "pif: line 1, column 1: no word has capital letters, perhaps 'thread': Thread 10\n",
         ),
         (
-            b"# a comment\nthread 10\n",
-            "pif: line 1, column 1: scripts have no comments; a story's are lines that begin with '#': # a comment\n",
-        ),
-        (
             b"thread 10 # low\n",
             "pif: line 1, column 11: scripts have no comments; a story's are lines that begin with '#': thread 10 # low\n",
-        ),
-        (
-            b"thread 10\n\npick\n",
-            "pif: line 2: an empty line is no command\n",
-        ),
-        (
-            b"thread 10\r\npick\r\n",
-            "pif: line 1, column 10: the line ends in CR LF, and not in LF alone: thread 10\\r\n",
         ),
         (
             b"pick\nthread  10\n",
@@ -109,22 +97,43 @@ fn a_faulty_script_is_told_by_its_line(rt: HostRuntime) {
             "pif: line 2: limits may stand on the first line only: limits 1 1 1 1\n",
         ),
         (
-            b"pick\nthread 1",
-            "pif: line 2: the input ends inside the line, with no LF behind it: thread 1\n",
-        ),
-        (
             b"pif-trace 1\nthread 10 = t1\n",
             "pif: line 1: a trace is no script: 'pif replay' takes it: pif-trace 1\n",
-        ),
-        (
-            b"thread 10       = t1\n",
-            "pif: line 1: a story is no script: 'pif check' takes it: thread 10       = t1\n",
         ),
     ];
     for (script, message) in scripts {
         for job in ["run", "trace"] {
             check_input(&rt, rt.alloc(), job, script, (2, message));
         }
+    }
+}
+
+#[test]
+fn a_story_is_told_that_is_run_as_a_script(rt: HostRuntime) {
+    let stories = [
+        (
+            b"# a comment\nthread 10\n".as_slice(),
+            "pif: line 1, column 1: scripts have no comments; a story's are lines that begin with '#': # a comment\n",
+        ),
+        (
+            b"thread 10\n\npick\n",
+            "pif: line 2: an empty line is no command\n",
+        ),
+        (
+            b"thread 10\r\npick\r\n",
+            "pif: line 1, column 10: the line ends in CR LF, and not in LF alone: thread 10\\r\n",
+        ),
+        (
+            b"pick\nthread 1",
+            "pif: line 2: the input ends inside the line, with no LF behind it: thread 1\n",
+        ),
+        (
+            b"thread 10       = t1\n",
+            "pif: line 1: a story is no script: 'pif check' takes it: thread 10       = t1\n",
+        ),
+    ];
+    for (story, message) in stories {
+        check_input(&rt, rt.alloc(), "run", story, (2, message));
     }
 }
 

@@ -111,8 +111,8 @@ fn the_line_of_a_fault_is_shown_behind_the_state_before_it(rt: HostRuntime) -> R
             "> threat 20\nfault 3 command\n",
         ),
         (
-            "limits 1 0 0 1\nthread 10\nthread 20",
-            "> thread 20\nfault 3 cut\n",
+            "# One thread.\nlimits 1 0 0 1 = ok\n\nthread 10\nthreat 20 = t2",
+            "> threat 20\nfault 3 command\n",
         ),
         (
             "limits 1 0 0 1\nthread 10\n\tpick\n",

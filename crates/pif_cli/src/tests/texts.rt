@@ -16,7 +16,7 @@ const RUN: &str = "Reads a script, and writes an answer for each of its lines";
 
 const REPLAY: &str = "Reads a trace, and says whether each of its answers is given again";
 
-const TRACE: &str = "Reads a script, and writes the trace that 'pif replay' takes";
+const TRACE: &str = "Reads a story or a script, and writes its trace for 'pif replay'";
 
 const MIGRATE: &str = "Reads a trace, and writes it as a trace of version 2";
 
@@ -285,11 +285,11 @@ fn help_of_trace_is_shown(rt: HostRuntime) -> Result<(), Fail> {
         TRACE,
         "Usage: pif trace [FILE]\n",
         "-h, --help",
-        "A script comes from FILE, or from the standard input",
-        "'pif run --help' names its commands.",
+        "A story or a script comes from FILE, or from the standard input",
+        "'pif run --help' names the commands.",
         "Its trace begins with 'pif-trace 2'",
         "as in 'go t1 = went'",
-        "Status: 0 done, 1 wrong words, 2 a fault of the script, 3 a read or write\nfailed, 4 out of memory.",
+        "Status: 0 done, 1 wrong words, 2 a fault, 3 a read or write failed, 4 out of\nmemory.",
     ];
     check_helped(
         &rt,
