@@ -3,18 +3,18 @@ use Rattle.std.proofs.Common.{◌≡◌, ◌⊎◌, ◌↔◌, ℕ, ◌<◌, ◌
 use Rattle.std.specs.List.{list_any}
 use Rattle.std.proofs.lemmas.Bool.{cases_eq, cases_lt, eqb-true, or_cases}
 use Rattle.std.proofs.lemmas.Bool.Decides.{nat_tests}
-use Rattle.pif_nodes.specs.Lists.{has}
-use Rattle.pif_nodes.specs.Table.{NodeLists}
-use Rattle.pif_nodes.proofs.ListLemmas.{has-append, has-left, has-right, has-head}
+use Rattle.pif_lists.specs.Lists.{has}
+use Rattle.pif_lists.specs.Table.{NodeLists}
+use Rattle.pif_lists.proofs.ListLemmas.{has-append, has-left, has-right, has-head}
 use Rattle.pif_model.specs.Graph.{Reaches}
 use Rattle.pif_model.specs.Graph.Reaches.{here, hop}
 use Rattle.pif_chains.proofs.Hops.{Reaches-then, alone}
 use Rattle.pif_owners.specs.Owners.{Owners, owner_at, waits_on, waits_for, WaitsFor, AreSoundOwners}
-use Rattle.pif_rtmutex.specs.States.{States, owners_in}
-use Rattle.pif_rtmutex.specs.Holds.{HoldsStates}
-use Rattle.pif_rtmutex.proofs.ViewLemmas.{length-seats}
-use Rattle.pif_boost.specs.Boosts.{IsThread}
-use Rattle.pif_boost.proofs.Greatest.{nobody_waits, out_waits, waits_for-none, waits_for-owner}
+use Rattle.pif_owners.specs.States.{States, owners_in}
+use Rattle.pif_owners.specs.Holds.{HoldsStates}
+use Rattle.pif_owners.proofs.ViewLemmas.{length-seats}
+use Rattle.pif_owners.specs.Boosts.{IsThread}
+use Rattle.pif_owners.proofs.Greatest.{nobody_waits, out_waits, waits_for-none, waits_for-owner}
 use Rattle.pif_boost.proofs.Hops.{IsOnWay, onway-start, onway-hop, onway-few}
 
 -- so many threads of the chain from `owner` were collected, and `at` is next

@@ -8,17 +8,17 @@ use Rattle.std.proofs.lemmas.Bool.{cases_eq, eqb-true, eq-eqb, or_cases, false_f
 use Rattle.std.proofs.lemmas.List.{get_or-set_same, get_or-set_other}
 use Rattle.std.proofs.lemmas.Map.Keys.{IsDistinct-cons}
 use Rattle.std.proofs.lemmas.Map.Steps.{length-le_from_distinct_below}
-use Rattle.pif_nodes.specs.declared.keys.Key.{Key}
+use Rattle.pif_lists.specs.declared.keys.Key.{Key}
 use Rattle.pif_model.specs.Graph.{greatest_where, Reaches}
 use Rattle.pif_model.specs.Graph.Reaches.{here}
 use Rattle.pif_chains.proofs.Following.{all_apart, no_repeats, greatest_where_above}
 use Rattle.pif_chains.proofs.Greatest.{greatest_where_most}
 use Rattle.pif_chains.proofs.Hops.{Reaches-then, alone}
 use Rattle.pif_owners.specs.Owners.{Owners, Seat, Wait, no_seat, seat_at, owner_at, waits_on, waits_for, rank_of, WaitsFor, with_seat, AreSoundOwners}
-use Rattle.pif_boost.specs.Boosts.{IsThread, base_of, local_of, greatest_base, greatest_waiting, with_rank_priority, with_effective, IsRepaired, IsRepairedBut}
-use Rattle.pif_boost.proofs.Repairs.{ranked-state}
-use Rattle.pif_boost.proofs.Settled.{ranked-prio}
-use Rattle.pif_boost.proofs.Greatest.{greatest_base-same, greatest_base-nobody, local_is_greatest, nobody_waits}
+use Rattle.pif_owners.specs.Boosts.{IsThread, base_of, local_of, greatest_base, greatest_waiting, with_rank_priority, with_effective, IsRepaired, IsRepairedBut}
+use Rattle.pif_owners.proofs.Repairs.{ranked-state}
+use Rattle.pif_owners.proofs.Settled.{ranked-prio}
+use Rattle.pif_owners.proofs.Greatest.{greatest_base-same, greatest_base-nobody, local_is_greatest, nobody_waits}
 
 -- the greatest value is the same where two functions agree on those that pass
 pub greatest_where_on : (test : ℕ → Bool) (f g : ℕ → ℕ) (n : ℕ) → ((u : ℕ) → u < n → test u ≡ true → f u ≡ g u)
@@ -277,11 +277,12 @@ onway-start v at th =
     no_member h = cc
 
 module _ (v : Owners) (sound : AreSoundOwners v) (passed : List ℕ) (at : ℕ) (o : IsOnWay v passed at) where
-  new_there : list_any (eqb at) passed ≡ false
-  new_there = false_from_ne_true (list_any (eqb at) passed) (λ h. let c = o.ahead at h in sound.acyclic at c.0 c.1 c.2)
+  -- it stands at none of them
+  pub onway-apart : list_any (eqb at) passed ≡ false
+  onway-apart = false_from_ne_true (list_any (eqb at) passed) (λ h. let c = o.ahead at h in sound.acyclic at c.0 c.1 c.2)
 
   distinct_more : IsDistinct eqb (at ∷ passed)
-  distinct_more = IsDistinct-cons eqb at passed (all_apart at passed new_there) o.distinct
+  distinct_more = IsDistinct-cons eqb at passed (all_apart at passed onway-apart) o.distinct
 
   thread_more : (x : ℕ) → list_any (eqb x) (at ∷ passed) ≡ true → IsThread v x
   thread_more x h = by_place (or_cases (eqb x at) (list_any (eqb x) passed) h)

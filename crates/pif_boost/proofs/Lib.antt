@@ -1,11 +1,5 @@
-pub mod Greatest
-pub mod Levels
-pub mod Repairs
-pub mod Settled
-pub mod Walks
-pub mod Joining
 pub mod Hops
+pub mod Counting
 pub mod Ends
-pub mod FrameLemmas
 pub mod Walking
 pub mod Chaining

@@ -1,32 +1,34 @@
 -- A walk over owner states in a table, hop by hop, and what it has done when it ends.
-use Rattle.std.proofs.Common.{◌≡◌, ◌≢◌, ◌⊎◌, ℕ, ◌<◌, ◌≤◌, ◌+◌, max, true, ◌==◌, nat_le, ◌&&◌, List, [], ◌∷◌, length, Option, Some, None, refl, sym, ap, ◌∙◌, subst, inl, inr, if◌then◌else◌, arith}
+use Rattle.std.proofs.Common.{◌≡◌, ◌≢◌, ◌⊎◌, ℕ, ◌<◌, ◌≤◌, ◌+◌, ◌-◌, max, true, ◌==◌, nat_le, ◌&&◌, List, [], ◌∷◌, length, Option, Some, None, refl, sym, ap, ◌∙◌, subst, inl, inr, if◌then◌else◌, arith}
 use Rattle.std.specs.Prelude.{option_map, option_and_then, unwrap_or}
 use Rattle.std.specs.Option.{is_some}
 use Rattle.std.proofs.lemmas.Bool.{eqb-true, cases_eq}
-use Rattle.pif_nodes.specs.declared.keys.Key.{Key}
-use Rattle.pif_nodes.specs.Lists.{has}
-use Rattle.pif_nodes.specs.Table.{NodeLists, holder}
-use Rattle.pif_runq.specs.Levels.{Queue, IsLevel, level_of, level_with, level_for, node_for, level_after_move, Holds, IsQueued, SameOutside}
-use Rattle.pif_runq.proofs.KeptLemmas.{levels-framed, queue-framed}
+use Rattle.pif_lists.specs.declared.keys.Key.{Key}
+use Rattle.pif_lists.specs.Lists.{has}
+use Rattle.pif_lists.specs.Table.{NodeLists, holder}
+use Rattle.pif_lists.specs.Levels.{Queue, IsLevel, level_of, level_with, level_for, node_for, level_after_move, Holds, IsQueued, SameOutside}
+use Rattle.pif_lists.proofs.KeptLemmas.{levels-framed, queue-framed}
 use Rattle.pif_owners.specs.Owners.{Owners, Seat, Wait, seat_at, owner_at, waits_on, waits_for, with_seat, AreSoundOwners}
 use Rattle.pif_owners.proofs.OwnersLemmas.{seat_at-with_seat_same}
-use Rattle.pif_rtmutex.specs.States.{States, owners_in}
-use Rattle.pif_rtmutex.specs.Holds.{HoldsStates}
-use Rattle.pif_rtmutex.specs.Frames.{KeepsOwn}
-use Rattle.pif_rtmutex.specs.Frames.{SameOutsideStates}
+use Rattle.pif_owners.specs.States.{States, owners_in}
+use Rattle.pif_owners.specs.Holds.{HoldsStates}
+use Rattle.pif_owners.specs.Frames.{KeepsOwn}
+use Rattle.pif_owners.specs.Frames.{SameOutsideStates}
 use Rattle.pif_rtmutex.specs.Maximum.{rank_priority, maximum_of}
-use Rattle.pif_rtmutex.proofs.ViewLemmas.{length-seats}
-use Rattle.pif_rtmutex.proofs.FrameLemmas.{holds-framed, owners-framed}
-use Rattle.pif_boost.specs.Boosts.{IsThread, base_of, local_of, greatest_base, greatest_waiting, with_effective, IsRepaired, IsRepairedBut, level_after_move_if_queued, level_after_walk}
-use Rattle.pif_boost.specs.Frames.{StandsBefore, SameBeyond}
+use Rattle.pif_owners.proofs.ViewLemmas.{length-seats}
+use Rattle.pif_owners.proofs.FrameLemmas.{holds-framed, owners-framed}
+use Rattle.pif_owners.specs.Boosts.{IsThread, base_of, local_of, greatest_base, greatest_waiting, with_effective, IsRepaired, IsRepairedBut, level_after_move_if_queued, level_after_walk}
+use Rattle.pif_owners.specs.BoostFrames.{StandsBefore, SameBeyond}
 use Rattle.pif_boost.specs.Done.{IsDone}
-use Rattle.pif_boost.proofs.Greatest.{nobody_base, waits_for-none}
+use Rattle.pif_boost.specs.Hops.{after_hops, IsHopCount}
+use Rattle.pif_owners.proofs.Greatest.{nobody_base, waits_for-none}
 use Rattle.pif_boost.proofs.Hops.{greatest_where_on, IsWalked, walked-start, walked-waits, walked-stop, walked-hop, walked-local, walked-done, walked-settled, ends-hop, most-hop, IsOnWay, onway-start, onway-hop, onway-few}
+use Rattle.pif_boost.proofs.Counting.{IsCounted, counted-start, counted-here, counted-hop, counted-done}
 use Rattle.pif_boost.proofs.Ends.{AllBut, stop_levels, end_levels}
-use Rattle.pif_boost.proofs.FrameLemmas.{states-leave, queue-leaves, beyond-queue, beyond-states, beyond-both, outside-none, outside-both, outside-rows}
-use Rattle.pif_boost.proofs.Walks.{admitted_row, repaired-greatest}
-use Rattle.pif_boost.proofs.Settled.{top_is_next, walked-level}
-use Rattle.pif_boost.proofs.Joining.{one_joins}
+use Rattle.pif_owners.proofs.BoostFrameLemmas.{states-leave, queue-leaves, beyond-queue, beyond-states, beyond-both, outside-none, outside-both, outside-rows}
+use Rattle.pif_owners.proofs.Walks.{admitted_row, repaired-greatest}
+use Rattle.pif_owners.proofs.Settled.{top_is_next, walked-level}
+use Rattle.pif_owners.proofs.Joining.{one_joins}
 
 -- what a thread has by those that wait for it, where these stand with their effective priorities
 pub maximum_is : (v : Owners) (start t : ℕ) → IsRepairedBut start v → 1 ≤ t
@@ -44,11 +46,12 @@ maximum_is v start t repaired one =
         ap (λ (x : Option Wait). unwrap_or (option_map (λ (k : Key). k.prio) (option_map (λ (y : Wait). y.rank) x)) 0) e
         ∙ repaired.ranks u w.rank (ap (option_map (λ (y : Wait). y.rank)) e)
 
--- so many hops of a walk are behind it, and it stands at a thread
-pub record IsWalkingTo (m0 : States) (t0 : NodeLists) (hops at : ℕ) (m : States) (t : NodeLists) : Type 0 where
+-- so many hops of a walk from `start` are behind it, and it stands at a thread
+pub record IsWalkingTo (m0 : States) (t0 : NodeLists) (start hops at : ℕ) (m : States) (t : NodeLists) : Type 0 where
   pub passed : List ℕ
   pub count : length passed ≡ hops
   pub way : IsOnWay (owners_in m0 t0) passed at
+  pub counted : IsCounted (owners_in m0 t0) (owners_in m t) start passed at
   pub walked : IsWalked (owners_in m0 t0) (owners_in m t) at
   pub some : 1 ≤ max (base_of (owners_in m t) at) (greatest_waiting (owners_in m t) at)
   -- who waits for nobody keeps its effective priority
@@ -65,12 +68,13 @@ module _ (m0 : States) (t0 : NodeLists) (start : ℕ) (states : HoldsStates m0 t
   sound0 : AreSoundOwners v
   sound0 = states.waiters.sound
 
-  pub walking-start : IsWalkingTo m0 t0 0 start m0 t0
+  pub walking-start : IsWalkingTo m0 t0 start 0 start m0 t0
   walking-start =
       record {
         passed = [];
         count = refl;
         way = onway-start v start (some (cases_eq start 0), admitted_row v start admitted);
+        counted = counted-start v start;
         walked = walked-start v start repaired;
         some = omega (arith, admitted);
         ends = λ u z. refl;
@@ -83,7 +87,7 @@ module _ (m0 : States) (t0 : NodeLists) (start : ℕ) (states : HoldsStates m0 t
       some (inl z) = let none : base_of v start ≡ 0 = ap (base_of v) z ∙ nobody_base v sound0 in absurd (omega (arith, none, admitted))
       some (inr ne) = omega (arith, ne)
 
-  module _ (hops at : ℕ) (m : States) (t : NodeLists) (w : IsWalkingTo m0 t0 hops at m t) where
+  module _ (hops at : ℕ) (m : States) (t : NodeLists) (w : IsWalkingTo m0 t0 start hops at m t) where
     abbrev now : Owners
     now = owners_in m t
 
@@ -92,6 +96,12 @@ module _ (m0 : States) (t0 : NodeLists) (start : ℕ) (states : HoldsStates m0 t
 
     pub walking-row : at < length now.seats
     walking-row = omega (arith, w.way.thread.1, w.walked.threads)
+
+    -- it was reached over so many hops
+    pub walking-last : at ≡ after_hops (waits_for v) start (hops + 1 - 1)
+    walking-last =
+        let e : length w.passed ≡ hops + 1 - 1 = omega (arith, w.count) in
+        sym w.counted.place ∙ ap (after_hops (waits_for v) start) e
 
     -- its maximum
     pub walking-maximum : maximum_of now at ≡ max (base_of now at) (greatest_waiting now at)
@@ -122,17 +132,28 @@ module _ (m0 : States) (t0 : NodeLists) (start : ℕ) (states : HoldsStates m0 t
       outside_then : SameOutsideStates m0 t0 t1
       outside_then = outside-both m0 t0 t t1 w.outside (outside-rows m m0 m.rows t t1 w.place outside)
 
+      local_then : local_of after at ≡ p
+      local_then =
+          ap (λ (x : Owners). local_of x at) boosted
+          ∙ ap (λ (x : Seat). x.local) (seat_at-with_seat_same at (with_effective p (seat_at now at)) now walking-row)
+
+      -- no other thread got another effective priority
+      same_then : (u : ℕ) → u ≢ at → local_of after u ≡ local_of now u
+      same_then u ne = ends-hop v now at w.walked p after w.holds.waiters.sound walking-row is_own boosted u ne
+
       other_then : (u : ℕ) → waits_for v u ≡ 0 → u ≢ at → local_of after u ≡ local_of v u
       other_then u z ne =
-          ends-hop v now at w.walked p after w.holds.waiters.sound walking-row is_own boosted u ne ∙ w.ends u z
+          same_then u ne ∙ w.ends u z
 
       -- it goes on to the thread for which that one waits
-      pub walking-hop : (k u : ℕ) → waits_on after at ≡ Some k → owner_at after k ≡ Some u → IsWalkingTo m0 t0 (hops + 1) u m1 t1
-      walking-hop k u on owns =
+      pub walking-hop : local_of now at ≢ p → (k u : ℕ) → waits_on after at ≡ Some k → owner_at after k ≡ Some u
+          → IsWalkingTo m0 t0 start (hops + 1) u m1 t1
+      walking-hop other k u on owns =
           record {
             passed = at ∷ w.passed;
             count = omega (arith, w.count);
             way = onway-hop v sound0 w.passed at w.way u (ap (λ (x : ℕ). x) from_v, λ z. (let one : 1 ≤ u = row.0 in absurd (omega (arith, z)))) thread;
+            counted = counted-hop v now start w.passed at sound0 w.way w.counted after u from_v (λ e. other (sym e ∙ local_then)) same_then;
             walked = subst (IsWalked v after) to hopped;
             some = subst (λ (x : ℕ). 1 ≤ max (base_of after x) (greatest_waiting after x)) to
                 (omega (
@@ -211,6 +232,17 @@ module _ (m0 : States) (t0 : NodeLists) (start : ℕ) (states : HoldsStates m0 t
           (beyond-states m0 q0 t0 t w.outside) refl w.place
           (queue-framed q0 t0 t keeps queue w.holds.waiters.apart)
 
+      -- its hops were counted
+      pub counted-stopped : local_of now at ≡ maximum_of now at → IsHopCount v start (hops + 1)
+      counted-stopped e =
+          let walked : IsWalked v now 0 = walked-stop v now at w.walked (e ∙ walking-maximum) in
+          let sound : AreSoundOwners now = w.holds.waiters.sound in
+          let has : greatest_base v at ≡ local_of v at =
+          sym (walked-local v now sound0 sound walked at w.way.thread.1)
+          ∙ counted-here v now start w.passed at sound0 w.way w.counted in
+          subst (λ (n : ℕ). IsHopCount v start (n + 1)) w.count
+          (counted-done v now start w.passed at sound0 w.way w.counted now sound walked (λ x ne. refl) (inl has))
+
       -- it ends at a thread that waits for nobody
       module _ (p : ℕ) (own : p ≡ maximum_of now at) (m1 : States) (t1 : NodeLists)
           (boosted : owners_in m1 t1 ≡ with_seat at (with_effective p (seat_at now at)) now)
@@ -220,6 +252,20 @@ module _ (m0 : States) (t0 : NodeLists) (start : ℕ) (states : HoldsStates m0 t
 
         pub ended_holds : Holds q0 t1
         ended_holds = queue-framed q0 t0 t1 (states-leave m0 q0 t0 t1 apart whole) queue holds.waiters.apart
+
+        nobody : waits_on (owners_in m1 t1) at ≡ None → waits_for now at ≡ 0
+        nobody none = sym (waits_then p own m1 t1 boosted place outside holds) ∙ waits_for-none (owners_in m1 t1) at none
+
+        walked_none : waits_on (owners_in m1 t1) at ≡ None → IsWalked v (owners_in m1 t1) 0
+        walked_none none = subst (IsWalked v (owners_in m1 t1)) (nobody none) (hopped p own m1 t1 boosted place outside holds)
+
+        -- its hops were counted
+        pub counted-ended : waits_on (owners_in m1 t1) at ≡ None → IsHopCount v start (hops + 1)
+        counted-ended none =
+            subst (λ (n : ℕ). IsHopCount v start (n + 1)) w.count
+            (counted-done v now start w.passed at sound0 w.way w.counted (owners_in m1 t1) holds.waiters.sound
+            (walked_none none) (same_then p own m1 t1 boosted place outside holds)
+            (inr (sym (walked-waits v now at w.walked at) ∙ nobody none)))
 
         pub walking-ended : (q2 : Queue) (t2 : NodeLists) → waits_on (owners_in m1 t1) at ≡ None
             → ((r : ℕ) → IsLevel r → level_of q2 t2 r ≡ level_after_move_if_queued q0 t1 at p r) → SameOutside q0 t1 t2
@@ -242,11 +288,8 @@ module _ (m0 : States) (t0 : NodeLists) (start : ℕ) (states : HoldsStates m0 t
             view2 : owners_in m1 t2 ≡ owners_in m1 t1
             view2 = owners-framed m1 t1 t2 keeps queue_holds.apart holds
 
-            nobody : waits_for now at ≡ 0
-            nobody = sym (waits_then p own m1 t1 boosted place outside holds) ∙ waits_for-none (owners_in m1 t1) at none
-
             walked1 : IsWalked v (owners_in m1 t1) 0
-            walked1 = subst (IsWalked v (owners_in m1 t1)) nobody (hopped p own m1 t1 boosted place outside holds)
+            walked1 = walked_none none
 
             walked2 : IsWalked v (owners_in m1 t2) 0
             walked2 = subst (λ (x : Owners). IsWalked v x 0) (sym view2) walked1
@@ -254,13 +297,9 @@ module _ (m0 : States) (t0 : NodeLists) (start : ℕ) (states : HoldsStates m0 t
             ends1 : (u : ℕ) → u ≢ at → waits_for v u ≡ 0 → local_of (owners_in m1 t1) u ≡ local_of v u
             ends1 u ne z = other_then p own m1 t1 boosted place outside holds u z ne
 
-            local_here : local_of (owners_in m1 t1) at ≡ p
-            local_here =
-                ap (λ (x : Owners). local_of x at) boosted
-                ∙ ap (λ (x : Seat). x.local) (seat_at-with_seat_same at (with_effective p (seat_at now at)) now walking-row)
-
             at_greatest : greatest_base v at ≡ p
-            at_greatest = sym (walked-local v (owners_in m1 t1) sound0 holds.waiters.sound walked1 at w.way.thread.1) ∙ local_here
+            at_greatest = sym (walked-local v (owners_in m1 t1) sound0 holds.waiters.sound walked1 at w.way.thread.1)
+                ∙ local_then p own m1 t1 boosted place outside holds
 
             node_same : holder t1 (node_for q0 at) ≡ holder t0 (node_for q0 at)
             node_same = whole.holders (node_for q0 at) (inr (omega (arith, apart.nodes)))

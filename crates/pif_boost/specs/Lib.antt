@@ -1,4 +1,3 @@
-pub mod Boosts
 pub mod Settled
-pub mod Frames
 pub mod Done
+pub mod Hops

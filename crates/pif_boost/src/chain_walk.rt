@@ -16,17 +16,18 @@
 //! 2. t1: 99 too, by t2. It waits for nobody, so it is moved from level 2 to the end of level 99, and the walk ends.
 //!
 //! The answer is 2 hops. A hop whose thread has its priority already is the last one.
-ghost use Rattle.std.specs.Prelude.{◌≡◌, ◌≢◌, ℕ, ◌<◌, ◌≤◌, ◌==◌, not, length, None, true, unwrap_or, max};
-ghost use Rattle.pif_nodes.specs.Lists.{has};
-ghost use Rattle.pif_runq.specs.Levels.{IsLevel, level_of, Holds, IsQueued, SameOutside};
+ghost use Rattle.std.specs.Prelude.{◌≡◌, ◌≢◌, ℕ, ◌-◌, ◌<◌, ◌≤◌, ◌==◌, not, length, None, true, unwrap_or, max};
+ghost use Rattle.pif_lists.specs.Lists.{has};
+ghost use Rattle.pif_lists.specs.Levels.{IsLevel, level_of, Holds, IsQueued, SameOutside};
 ghost use Rattle.pif_model.specs.Graph.{IsEffective};
 ghost use Rattle.pif_owners.specs.Owners.{seat_at, waits_on, waits_for, WaitsFor, with_seat, IsTop};
-ghost use Rattle.pif_rtmutex.specs.States.{owners_in};
-ghost use Rattle.pif_rtmutex.specs.Holds.{HoldsStates};
-ghost use Rattle.pif_rtmutex.specs.Frames.{SameOutsideStates};
-ghost use Rattle.pif_boost.specs.Boosts.{IsThread, base_of, local_of, greatest_base, greatest_waiting, with_effective, IsRepaired, IsRepairedBut, IsNext, joins, level_after_move_if_queued, level_after_walk};
-ghost use Rattle.pif_boost.specs.Frames.{StandsBefore};
+ghost use Rattle.pif_owners.specs.States.{owners_in};
+ghost use Rattle.pif_owners.specs.Holds.{HoldsStates};
+ghost use Rattle.pif_owners.specs.Frames.{SameOutsideStates};
+ghost use Rattle.pif_owners.specs.Boosts.{IsThread, base_of, local_of, greatest_base, greatest_waiting, with_effective, IsRepaired, IsRepairedBut, IsNext, joins, level_after_move_if_queued, level_after_walk};
+ghost use Rattle.pif_owners.specs.BoostFrames.{StandsBefore};
 ghost use Rattle.pif_boost.specs.Done.{IsDone};
+ghost use Rattle.pif_boost.specs.Hops.{after_hops, IsHopCount};
 
 use pif_nodes::NodeTable;
 use pif_rtmutex::RtMutexes;
@@ -36,8 +37,9 @@ use pif_types::{Prio, Tid};
 /// Gives each thread the greatest base priority of it and of all that wait for it through any chain, also if it
 /// stands among the waiters of a state, with the ticket that it has; so the top waiter of a state is its next one. A
 /// thread of the run queue is moved to the level of its priority; one that keeps its level keeps its place. All else in
-/// the owner states and in the table stays as it was. Answers how many threads had their priority compared, at most the
-/// number of threads. (RT-mutex design, the priority chain walk.)
+/// the owner states and in the table stays as it was. Answers how many threads had their priority compared: from
+/// `start` each of them was given another one and waits for the next, up to the first that has its priority already or
+/// waits for nobody. They are at most as many as there are threads. (RT-mutex design, the priority chain walk.)
 ///
 /// Before the call nothing may be left to repair but the effective priority of `start`, which was admitted: each other
 /// thread has the greatest of its base priority and of the effective priorities of those that wait for it, and every
@@ -55,7 +57,9 @@ pub fn walk(owners: &mut RtMutexes, queue: &mut RunQueue, table: &mut NodeTable,
     requires running { (u : ℕ) → IsQueued queue.old table.old u → waits_on (owners_in owners.old table.old) u ≡ None }
     requires level { (u p : ℕ) → IsLevel p → has u (level_of queue.old table.old p) ≡ true
         → p ≡ local_of (owners_in owners.old table.old) u }
-    ensures { IsDone owners.old table.old queue.old result owners.new table.new queue.new }
+    ensures done { IsDone owners.old table.old queue.old result owners.new table.new queue.new }
+    ensures counted { IsHopCount (owners_in owners.old table.old) start result }
+    ensures only { (hops : ℕ) → IsHopCount (owners_in owners.old table.old) start hops → hops ≡ result }
 {
     walk_to(owners, queue, table, start).0
 }
@@ -78,6 +82,8 @@ pub fn walk_to(
     requires level { (u p : ℕ) → IsLevel p → has u (level_of queue.old table.old p) ≡ true
         → p ≡ local_of (owners_in owners.old table.old) u }
     ensures done { IsDone owners.old table.old queue.old result.0 owners.new table.new queue.new }
+    ensures counted { IsHopCount (owners_in owners.old table.old) start result.0 }
+    ensures last { result.1 ≡ after_hops (waits_for (owners_in owners.old table.old)) start (result.0 - 1) }
     ensures ends { (u : ℕ) → u ≢ result.1 → waits_for (owners_in owners.old table.old) u ≡ 0
         → local_of (owners_in owners.new table.new) u ≡ local_of (owners_in owners.old table.old) u }
 {

@@ -1,9 +1,9 @@
 ghost use Rattle.std.specs.Prelude.{◌≡◌, ◌↔◌, ℕ, true, IsTrue};
-ghost use Rattle.pif_nodes.specs.Lists.{has};
+ghost use Rattle.pif_lists.specs.Lists.{has};
 ghost use Rattle.pif_model.specs.Graph.{Reaches};
 ghost use Rattle.pif_owners.specs.Owners.{WaitsFor};
-ghost use Rattle.pif_rtmutex.specs.States.{owners_in};
-ghost use Rattle.pif_rtmutex.specs.Holds.{HoldsStates};
+ghost use Rattle.pif_owners.specs.States.{owners_in};
+ghost use Rattle.pif_owners.specs.Holds.{HoldsStates};
 
 use arrayvec::ArrayVec;
 use pif_nodes::NodeTable;

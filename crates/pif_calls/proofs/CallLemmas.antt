@@ -9,7 +9,7 @@ use Rattle.pif_model.specs.declared.events.Entry.{Entry}
 use Rattle.pif_model.specs.declared.events.Entry.TheVariants.{Step as Happened}
 use Rattle.pif_model.specs.Table.{Table}
 use Rattle.pif_model.specs.Lines.{Outcome, event_outcome, goes_on}
-use Rattle.pif_calls.specs.Calls.{call_outcome, after_call, after_finish, gone, steps_before, went}
+use Rattle.pif_calls.specs.Calls.{call_outcome, after_call, after_finish, after_going, steps_before, went}
 
 -- ---- what is chosen by an answer
 
@@ -124,25 +124,25 @@ steps-other zero t s e = refl
 steps-other (suc more) t s e = still-seen (event_outcome (Go t) s).seen _ _ e
 
 -- the entry of a step that went, and those that follow it
-pub gone-went : (more t : ℕ) (s : Table) (h : List Entry) → (event_outcome (Go t) s).seen ≡ Went
-    → gone (suc more) t s h ≡ gone more t (event_outcome (Go t) s).after (Happened (Go t) Went ∷ h)
+pub after_going-went : (more t : ℕ) (s : Table) (h : List Entry) → (event_outcome (Go t) s).seen ≡ Went
+    → after_going (suc more) t s h ≡ after_going more t (event_outcome (Go t) s).after (Happened (Go t) Went ∷ h)
 unfolding went
-gone-went more t s h e =
+after_going-went more t s h e =
     ap (λ (o : Outcome). Happened (Go t) o.seen ∷ went (steps_before (suc more) t s) t h) (goes_on-went more t s e)
     ∙ ap (λ n. Happened (Go t) (goes_on more t (event_outcome (Go t) s).after).seen ∷ went n t h) (steps-went more t s e)
 
 -- the entry of the last step
-pub gone-other : (more t : ℕ) (s : Table) (h : List Entry) → ((event_outcome (Go t) s).seen ≡ Went → ⊥)
-    → gone more t s h ≡ Happened (Go t) (event_outcome (Go t) s).seen ∷ h
+pub after_going-other : (more t : ℕ) (s : Table) (h : List Entry) → ((event_outcome (Go t) s).seen ≡ Went → ⊥)
+    → after_going more t s h ≡ Happened (Go t) (event_outcome (Go t) s).seen ∷ h
 unfolding went
-gone-other more t s h e =
+after_going-other more t s h e =
     ap (λ (o : Outcome). Happened (Go t) o.seen ∷ went (steps_before more t s) t h) (goes_on-other more t s e)
     ∙ ap (λ n. Happened (Go t) (event_outcome (Go t) s).seen ∷ went n t h) (steps-other more t s e)
 
 -- no step more is allowed
-pub gone-zero : (t : ℕ) (s : Table) (h : List Entry) → gone 0 t s h ≡ Happened (Go t) (event_outcome (Go t) s).seen ∷ h
+pub after_going-zero : (t : ℕ) (s : Table) (h : List Entry) → after_going 0 t s h ≡ Happened (Go t) (event_outcome (Go t) s).seen ∷ h
 unfolding went goes_on steps_before
-gone-zero t s h = refl
+after_going-zero t s h = refl
 
 -- entries that were there stay as they were
 went-below : (n t : ℕ) (h g : List Entry) → went n t (h ++ g) ≡ went n t h ++ g
@@ -150,8 +150,8 @@ unfolding went
 went-below zero t h g = refl
 went-below (suc n) t h g = went-below n t (Happened (Go t) Went ∷ h) g
 
-pub gone-below : (more t : ℕ) (s : Table) (h g : List Entry) → gone more t s (h ++ g) ≡ gone more t s h ++ g
-gone-below more t s h g =
+pub after_going-below : (more t : ℕ) (s : Table) (h g : List Entry) → after_going more t s (h ++ g) ≡ after_going more t s h ++ g
+after_going-below more t s h g =
     ap (λ l. Happened (Go t) (goes_on more t s).seen ∷ l) (went-below (steps_before more t s) t h g)
 
 -- ---- a call

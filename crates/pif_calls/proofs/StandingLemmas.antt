@@ -11,8 +11,8 @@ use Rattle.pif_model.specs.Standing.{Stands}
 use Rattle.pif_model.specs.Table.{Table}
 use Rattle.pif_model.specs.Lines.{Outcome, event_outcome, goes_on}
 use Rattle.pif_simulation.proofs.StandingLaws.{event_stands}
-use Rattle.pif_calls.specs.Calls.{StandsOn, call_outcome, after_call, after_finish, gone, steps_before, went}
-use Rattle.pif_calls.proofs.CallLemmas.{call_other, call_refused, called-other, called-refused, goes_on-other, goes_on-went, gone-other, gone-went, is_refused, is_went}
+use Rattle.pif_calls.specs.Calls.{StandsOn, call_outcome, after_call, after_finish, after_going, steps_before, went}
+use Rattle.pif_calls.proofs.CallLemmas.{call_other, call_refused, called-other, called-refused, goes_on-other, goes_on-went, after_going-other, after_going-went, is_refused, is_went}
 
 -- a run that goes on from a state that itself was reached by one step more
 later : {s : Table} {h : List Entry} {r : List World} {w v : World} → StandsOn s h (w ∷ r) v → StandsOn s h r w
@@ -42,13 +42,13 @@ once s e h r w st =
 
 -- a core that stands stands on after a step beyond which none is allowed
 last : (t : ℕ) (s : Table) (h : List Entry) (r : List World) (w : World) → Stands s h r w
-    → StandsOn (goes_on 0 t s).after (gone 0 t s h) r w
+    → StandsOn (goes_on 0 t s).after (after_going 0 t s h) r w
 unfolding goes_on steps_before went
 last t s h r w st = once s (Go t) h r w st
 
 -- a core that stands stands on once a thread went on
 going : (more t : ℕ) (s : Table) (h : List Entry) (r : List World) (w : World) → Stands s h r w
-    → StandsOn (goes_on more t s).after (gone more t s h) r w
+    → StandsOn (goes_on more t s).after (after_going more t s h) r w
 going zero t s h r w st = last t s h r w st
 going (suc more) t s h r w st =
     let o : Outcome = event_outcome (Go t) s in
@@ -58,11 +58,11 @@ going (suc more) t s h r w st =
           let k = Happened (Go t) Went ∷ h in
           let rest = going more t o.after k (w ∷ r) next.0
           (subst (λ x. Stands o.after (Happened (Go t) x ∷ h) (w ∷ r) next.0) e next.1) in
-          subst (λ l. StandsOn (goes_on (suc more) t s).after l r w) (sym (gone-went more t s h e))
-          (subst (λ (x : Outcome). StandsOn x.after (gone more t o.after k) r w) (sym (goes_on-went more t s e))
+          subst (λ l. StandsOn (goes_on (suc more) t s).after l r w) (sym (after_going-went more t s h e))
+          (subst (λ (x : Outcome). StandsOn x.after (after_going more t o.after k) r w) (sym (goes_on-went more t s e))
           (later rest))
       | inr n ↦
-          subst (λ l. StandsOn (goes_on (suc more) t s).after l r w) (sym (gone-other (suc more) t s h n))
+          subst (λ l. StandsOn (goes_on (suc more) t s).after l r w) (sym (after_going-other (suc more) t s h n))
           (subst (λ (x : Outcome). StandsOn x.after (Happened (Go t) o.seen ∷ h) r w)
           (sym (goes_on-other (suc more) t s n)) (once s (Go t) h r w st))
     ]

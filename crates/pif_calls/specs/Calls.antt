@@ -26,12 +26,17 @@ went (suc n) t h = went n t (Happened (Go t) Went ∷ h)
 
 -- a history with the entries more by which t went on, this often at most after a first time, up to the first answer
 -- that isn't Went
-abbrev pub gone : ℕ → ℕ → Table → List Entry → List Entry
-gone more t s h = Happened (Go t) (goes_on more t s).seen ∷ went (steps_before more t s) t h
+abbrev pub after_going : ℕ → ℕ → Table → List Entry → List Entry
+after_going more t s h = Happened (Go t) (goes_on more t s).seen ∷ went (steps_before more t s) t h
+
+-- how often a thread goes on at most after a first time: one less than the 24 steps within which an open call is
+-- answered or waits
+abbrev pub most_further_steps : ℕ
+most_further_steps = 23
 
 -- at most 24 times
 abbrev pub after_finish : ℕ → Table → List Entry → List Entry
-after_finish t s h = gone 23 t s h
+after_finish t s h = after_going most_further_steps t s h
 
 -- a whole call: t begins it, and if that is not refused goes on, at most 24 times, up to the first answer that isn't
 -- Went
@@ -39,7 +44,7 @@ unfoldable pub call_outcome : ℕ → Request → Table → Outcome
 call_outcome t q s =
     elim (event_outcome (Begin t q) s).seen [
       | Refused r ↦ event_outcome (Begin t q) s
-      | _ ↦ goes_on 23 t (event_outcome (Begin t q) s).after
+      | _ ↦ goes_on most_further_steps t (event_outcome (Begin t q) s).after
     ]
 
 -- a history with the entries more of a whole call

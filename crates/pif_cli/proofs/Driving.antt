@@ -6,8 +6,7 @@ use Rattle.std.proofs.lemmas.List.Sums.{sum_by-cons}
 use Rattle.pif_model.specs.declared.events.Entry.{Entry}
 use Rattle.pif_desk.specs.Logs.{Log, calls_of, no_calls}
 use Rattle.pif_desk.specs.Rooms.{ClientState, IsExact, history_of}
-use Rattle.pif_desk.specs.Settling.{Settles, answered_calls}
-use Rattle.pif_desk.proofs.Pigeons.{one_client}
+use Rattle.pif_desk.specs.Settling.{HasOneClientEach, Settles, answered_calls}
 use Rattle.pif_cli.specs.declared.statuses.JobFault.{JobFault}
 use Rattle.pif_cli.specs.declared.statuses.JobFault.TheVariants.{Threads, Unsettled}
 use Rattle.pif_cli.specs.Driving.{Drives, IsDriven, IsServed, SaysSo, WritesLine, answered_text, pairs, requests_of, threads_text, unsettled_text}
@@ -47,14 +46,14 @@ of_thread P t (c ∷ cs) all one =
 
 -- a room that settles with clients that were served
 pub driven : (clients : List ClientState) (journal : List Entry) (answers : ℕ) → Settles clients journal
-    → answers ≡ sum_by (λ c. answered_calls c.log) clients → All (λ c. (m : ℕ) × IsServed m c.log) clients
-    → IsDriven (length clients) journal answers
-driven clients journal answers s sum served = record {
+    → HasOneClientEach clients journal → answers ≡ sum_by (λ c. answered_calls c.log) clients
+    → All (λ c. (m : ℕ) × IsServed m c.log) clients → IsDriven (length clients) journal answers
+driven clients journal answers s one_each sum served = record {
   count = sum ∙ served_sum clients served;
   threads = sym s.counted;
   served = λ t added.
       let found = of_thread (λ c. IsExact c journal × ((m : ℕ) × IsServed m c.log)) t clients
-      (λ k c l. (s.exact k c l, served k c l)) (one_client clients journal s.counted s.known t added) in
+      (λ k c l. (s.exact k c l, served k c l)) (one_each t added) in
       let exact = subst (λ (u : ℕ). found.0.log ≡ calls_of u (history_of journal)) found.1 found.2.0 in
       (found.2.1.0, subst (IsServed found.2.1.0) exact found.2.1.1);
 }

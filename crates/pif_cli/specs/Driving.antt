@@ -9,8 +9,8 @@ use Rattle.pif_desk.specs.declared.log.Call.{Call}
 use Rattle.pif_desk.specs.Logs.{Log, calls_of}
 use Rattle.pif_desk.specs.Rooms.{history_of}
 use Rattle.pif_desk.specs.Settling.{adds_thread, adds, answered_calls}
-use Rattle.pif_scripts.specs.declared.faults.CliFault.TheVariants.{Read, Write, NoMemory, Script, Differs}
-use Rattle.pif_scripts.specs.Runs.{WritesPart}
+use Rattle.pif_script_model.specs.declared.faults.CliFault.TheVariants.{Read, Write, NoMemory, Script, Differs}
+use Rattle.pif_script_model.specs.Runs.{WritesPart}
 use Rattle.pif_cli.specs.declared.statuses.JobFault.{JobFault}
 use Rattle.pif_cli.specs.declared.statuses.JobFault.TheVariants.{Cli, Threads, Unsettled}
 

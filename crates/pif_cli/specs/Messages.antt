@@ -3,7 +3,7 @@ use Rattle.std.specs.Prelude.{ℕ, ◌≡◌, ◌≤◌, ◌⊎◌, ◌&&◌, na
 use Rattle.std.specs.List.{list_all}
 use Rattle.std.specs.Io.KnownBytes.{Appends, Keeps}
 use Rattle.pif_cli.specs.declared.statuses.JobFault.{JobFault}
-use Rattle.pif_scripts.specs.Runs.{WritesPart}
+use Rattle.pif_script_model.specs.Runs.{WritesPart}
 
 -- a byte of ASCII that shows: from a space to a tilde
 abbrev pub is_printable : ℕ → Bool

@@ -3,9 +3,9 @@ use Rattle.std.specs.Prelude.{ℕ, ◌≤◌, false, List, Option, Result, Ok, E
 use Rattle.std.specs.Io.KnownBytes.{Appends, Keeps}
 use Rattle.clap.specs.Words.{App, Row, first_of, new_app, with_rule}
 use Rattle.pif_random.specs.declared.shapes.Shape.{Shape}
-use Rattle.pif_scripts.specs.CommandLines.{HasNoFault, IsOfCommands}
-use Rattle.pif_scripts.specs.Runs.{WritesPart}
-use Rattle.pif_scripts.specs.declared.faults.CliFault.TheVariants.{Read, Write, NoMemory, Script, Differs}
+use Rattle.pif_script_model.specs.CommandLines.{HasNoFault, IsOfCommands}
+use Rattle.pif_script_model.specs.Runs.{WritesPart}
+use Rattle.pif_script_model.specs.declared.faults.CliFault.TheVariants.{Read, Write, NoMemory, Script, Differs}
 use Rattle.pif_cli.specs.Options.{chosen_rule, flag_in, flag_rule, needed_rule, number_between}
 use Rattle.pif_cli.specs.declared.random.Recipe.{Recipe}
 use Rattle.pif_cli.specs.declared.statuses.JobFault.{JobFault}

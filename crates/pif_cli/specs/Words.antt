@@ -8,7 +8,7 @@ use Rattle.clap.specs.declared.error.kind.ErrorKind.{ErrorKind}
 use Rattle.clap.specs.declared.error.kind.ErrorKind.TheVariants.{DisplayHelp, DisplayVersion}
 use Rattle.std.specs.declared.io.ErrorKind.{ErrorKind as IoErrorKind}
 use Rattle.std.specs.declared.io.ErrorKind.TheVariants.{OutOfMemory, InvalidData}
-use Rattle.pif_scripts.specs.declared.faults.CliFault.{CliFault}
+use Rattle.pif_script_model.specs.declared.faults.CliFault.{CliFault}
 use Rattle.pif_cli.specs.declared.words.Job.{Job}
 use Rattle.pif_cli.specs.declared.words.Job.TheVariants.{Run, Replay, Trace, Migrate, Show, Picture, Shell, Check, Fill, Random, Drive}
 use Rattle.pif_cli.specs.declared.pictures.Picture.TheVariants.{Drawing, States, Graph}
@@ -16,12 +16,12 @@ use Rattle.pif_scripts.specs.declared.showing.Detail.TheVariants.{Changes, All}
 use Rattle.pif_pictures.specs.Pictures.{PicturesTo}
 use Rattle.pif_cli.specs.declared.statuses.JobFault.{JobFault}
 use Rattle.pif_cli.specs.declared.statuses.JobFault.TheVariants.{Cli}
-use Rattle.pif_scripts.specs.Migrating.{MigratesTo}
-use Rattle.pif_scripts.specs.Running.{RunsTo}
-use Rattle.pif_scripts.specs.Traces.{ReplaysTo}
-use Rattle.pif_scripts.specs.Runs.{WritesPart}
+use Rattle.pif_script_model.specs.Migrating.{MigratesTo}
+use Rattle.pif_script_model.specs.Running.{RunsTo}
+use Rattle.pif_script_model.specs.Traces.{ReplaysTo}
+use Rattle.pif_script_model.specs.Runs.{WritesPart}
 use Rattle.pif_shell.specs.Talks.{TalksTo}
-use Rattle.pif_stories.specs.Checks.{TellsTo, checked, filled}
+use Rattle.pif_stories.specs.Checks.{TellsTo, check_telling, fill_telling}
 use Rattle.pif_stories.specs.Showing.{ShowsStoryTo, TracesStoryTo}
 use Rattle.pif_cli.specs.Messages.{TellsLine, TellsOf}
 use Rattle.pif_cli.specs.Options.{flag_in, flag_rule, number_between}
@@ -178,8 +178,8 @@ Does Migrate name before after held holds result = EndsAsCli (MigratesTo before 
 Does (Show detail) name before after held holds result = EndsAsCli (ShowsStoryTo before after held holds) result
 Does (Picture picture) name before after held holds result = EndsAsCli (PicturesTo before after held holds) result
 Does Shell name before after held holds result = EndsAsCli (TalksTo before after held holds) result
-Does Check name before after held holds result = EndsAsCli (TellsTo (checked name) before after held holds) result
-Does Fill name before after held holds result = EndsAsCli (TellsTo (filled name) before after held holds) result
+Does Check name before after held holds result = EndsAsCli (TellsTo (check_telling name) before after held holds) result
+Does Fill name before after held holds result = EndsAsCli (TellsTo (fill_telling name) before after held holds) result
 Does (Random recipe) name before after held holds result =
     Keeps before after × WritesRandom recipe.lines held holds result
 Does (Drive clients) name before after held holds result = Keeps before after × Drives clients held holds result

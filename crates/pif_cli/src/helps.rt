@@ -88,7 +88,7 @@ pub const ABOUT_LINES: &str = "How many lines, 1 to 262144";
 pub const ABOUT_THREADS: &str = "How many threads at first, 1 to 1024";
 
 /// What the mutexes of `random` are.
-pub const ABOUT_MUTEXES: &str = "How many mutexes, 0 to 1024";
+pub const ABOUT_MUTEXES: &str = "How many mutexes at first, 0 to 1024";
 
 /// What the condition variables of `random` are.
 pub const ABOUT_CONDS: &str = "How many condition variables, 0 to 256";
@@ -242,7 +242,7 @@ Standard error says what went wrong, and in which line. Without --json and
 --dot only commands are counted as lines, from 1.
 
 Example:
-  pif show --json FILE.story | examples/perfetto > trace.json";
+  pif show --json examples/unusable_mutex.story | examples/perfetto > trace.json";
 
 /// The end of the help of `draw`.
 pub const MORE_DRAW: &str =
@@ -251,7 +251,7 @@ or 'pif run' takes it. Answers that stand in it are not compared.
 
 The image has a column for each command and a lane for each thread: whether it
 runs, is ready, waits or is parked; its priority, with a boost filled in; and
-the mutexes that it holds. Arrows are hand-overs and wakings. It has no scripts,
+the mutexes that it holds. Arrows are hand-overs and signals. It has no scripts,
 and a browser shows what each part is under the pointer.
 
 All is read first, and nothing is printed of a story with a fault.
@@ -261,7 +261,7 @@ Status: 0 done, 1 wrong words, 2 a fault of the story, 3 a read or write failed,
 Standard error says what went wrong, and in which line.
 
 Example:
-  pif draw FILE.story > x.svg";
+  pif draw examples/holder_is_boosted_until_it_unlocks.story > x.svg";
 
 /// The end of the help of `shell`.
 pub const MORE_SHELL: &str =
@@ -307,7 +307,8 @@ pub const MORE_RANDOM: &str =
     "Each line is a command, and a run of the script has no fault. The threads,
 mutexes and condition variables come first. Then threads begin calls and go on
 with them, a step at a time or up to the answer. Most calls are possible, and
-some are refused. If a thread has ended, or all rest, one more is added.
+some are refused. If a thread has ended, or all rest, one more is added; so is a
+mutex if one is of no use any more.
 
 Status: 0 done, 1 wrong words, 3 a write failed, 4 out of memory.
 Standard error says what went wrong.

@@ -156,7 +156,7 @@ fn a_failed_read_or_write_has_status_3(rt: HostRuntime) {
 
 /// Each allocation of a run is refused in turn by `rt try --test --fail-alloc N`: then nothing is written but the message.
 #[test]
-fn want_of_memory_writes_nothing(rt: HostRuntime) {
+fn out_of_memory_writes_nothing(rt: HostRuntime) {
     let words = ["pif", "run"];
     let (ended, output, errors) = asked(&rt, rt.alloc(), words.as_slice(), BOOSTED.as_bytes());
     let (answers, message) = match ended {

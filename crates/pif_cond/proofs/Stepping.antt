@@ -14,7 +14,7 @@ use Rattle.pif_model.specs.Lines.{counts_at}
 use Rattle.pif_model.specs.Soundness.{belongs, CallIsSound, LineIsSound, IsSound}
 use Rattle.pif_simulation.proofs.Facts.{call_limited}
 use Rattle.pif_simulation.proofs.Hole.{each_thread}
-use Rattle.pif_mutex.specs.Steppable.{is_on_mutex, is_of_mutexes}
+use Rattle.pif_mutex.specs.Mutexes.{is_on_mutex, is_of_mutexes}
 use Rattle.pif_cond.specs.Conditions.{is_of_conditions, is_of_wait, is_own}
 
 -- the call of a living thread is sound

@@ -7,7 +7,7 @@ ghost use Rattle.pif_model.specs.PiKernel.{is_living};
 ghost use Rattle.pif_model.specs.Table.{line_at, cell_at, has_thread, has_cond, status_at};
 ghost use Rattle.pif_model.specs.Lines.{line_of, use_line, counts_at, expires_at, go_outcome};
 ghost use Rattle.pif_mutex.specs.Outcomes.{outcome_of};
-ghost use Rattle.pif_mutex.specs.Steppable.{CallMayStep};
+ghost use Rattle.pif_simulation.specs.Steppable.{CallMayStep};
 ghost use Rattle.pif_cond.specs.Conditions.{is_of_conditions, is_of_wait, is_own};
 
 use crate::uses::{use_exchange, use_load, use_reload, use_requeue};
@@ -24,7 +24,7 @@ use pif_types::{CondId, Errno, MutexId, Request, Tid};
 /// ETIMEDOUT in place of 0 (POSIX, pthread_cond_wait, pthread_cond_timedwait, pthread_cond_signal and
 /// pthread_cond_broadcast; futex(2), FUTEX_WAIT_REQUEUE_PI and FUTEX_CMP_REQUEUE_PI). Whoever owns a mutex after the
 /// step and did not before holds it once: the thread, the next waiter, or a thread that was parked.
-#[inline(never)]
+#[inline(always)]
 pub fn advance<K: PiKernel + Drop>(parts: &mut Parts<K>, t: Tid) -> Progress
     requires living { is_living parts.old.kernel t ≡ true }
     requires call { is_of_conditions (line_at parts.old t) ≡ true }
@@ -32,15 +32,33 @@ pub fn advance<K: PiKernel + Drop>(parts: &mut Parts<K>, t: Tid) -> Progress
     ensures once { (m : ℕ) → (cell_at parts.new m).word.number ≢ (cell_at parts.old m).word.number
         → (cell_at parts.new m).word.number ≢ 0 → (cell_at parts.new m).count ≡ 1 }
 {
-    match parts.state.line(t) {
-        Line::At(request, place) => {
-            if is_own(&request, &place) {
-                go(&mut parts.state, request, place, t)
-            } else {
-                pif_mutex::advance(parts, t)
-            }
-        }
+    match parts.line(t) {
+        Line::At(request, place) => advance_at(parts, request, place, t),
         Line::Idle => unreachable!(),
+    }
+}
+
+/// The same for a caller that knows the call, which is this request, and the place of it at which the thread stands.
+#[inline(never)]
+pub fn advance_at<K: PiKernel + Drop>(
+    parts: &mut Parts<K>,
+    request: Request,
+    place: Place,
+    t: Tid,
+) -> Progress
+    requires living { is_living parts.old.kernel t ≡ true }
+    requires line { line_at parts.old t ≡ Line.At request place }
+    requires call { is_of_conditions (line_at parts.old t) ≡ true }
+    ensures line { outcome_of result parts.new ≡ go_outcome (line_at parts.old t) t parts.old }
+    ensures once { (m : ℕ) → (cell_at parts.new m).word.number ≢ (cell_at parts.old m).word.number
+        → (cell_at parts.new m).word.number ≢ 0 → (cell_at parts.new m).count ≡ 1 }
+{
+    // This looks at a part, so that the proof has that the parts are sound.
+    let _limits = parts.state.limits();
+    if is_own(&request, &place) {
+        go(&mut parts.state, request, place, t)
+    } else {
+        pif_mutex::advance_at(parts, request, place, t)
     }
 }
 
@@ -67,16 +85,16 @@ fn is_of_wait(place: &Place) -> bool
 
 /// One step of the open call of `t`, which is this request at this place, on a condition variable. A wait that is due
 /// expires, and does nothing else.
+#[inline(always)]
 #[tactic(auto, unfolding(pif_model::specs::Lines::go_outcome))]
 fn go<K: PiKernel + Drop>(state: &mut State<K>, request: Request, place: Place, t: Tid) -> Progress
     requires living { is_living state.old.kernel t ≡ true }
-    requires line { line_at state.old t ≡ Line.At request place }
     requires own { is_own request place ≡ true }
     requires call { CallMayStep state.old t request place }
     requires below { (v : ℕ) → place ≡ Place.Wake (WakeStep.CountUse v) → v < state.old.limits.signals }
     ensures { outcome_of result state.new ≡ go_outcome (Line.At request place) t state.old }
 {
-    if state.is_due(t) {
+    if state.is_due_at(&request, &place, t) {
         expire_at(state, request, place, t)
     } else {
         let expired = state.timer(t).expired;
@@ -86,6 +104,8 @@ fn go<K: PiKernel + Drop>(state: &mut State<K>, request: Request, place: Place, 
 }
 
 /// The expiry of the open call of `t`, which is this request at this place, where its deadline counts: a wait.
+#[cold]
+#[inline(never)]
 #[tactic(auto, unfolding(pif_model::specs::Lines::expires_at), using(crate::proofs::Stepping::due_waits))]
 fn expire_at<K: PiKernel + Drop>(
     state: &mut State<K>,
@@ -106,6 +126,7 @@ fn expire_at<K: PiKernel + Drop>(
 }
 
 /// The line of the open call of `t`, which is this request at this place, on a condition variable.
+#[inline(always)]
 #[tactic(auto, unfolding(pif_model::specs::Lines::line_of))]
 fn step<K: PiKernel + Drop>(
     state: &mut State<K>,
@@ -130,6 +151,7 @@ fn step<K: PiKernel + Drop>(
 }
 
 /// One step of a wait, which is not one on its mutex.
+#[inline(always)]
 #[tactic(auto, unfolding(pif_model::specs::Lines::line_of))]
 fn wait_step<K: PiKernel + Drop>(
     state: &mut State<K>,
@@ -153,6 +175,7 @@ fn wait_step<K: PiKernel + Drop>(
 }
 
 /// One step of a signal or a broadcast.
+#[inline(always)]
 #[tactic(auto, unfolding(pif_model::specs::Lines::line_of, pif_model::specs::Lines::use_line))]
 fn use_step<K: PiKernel + Drop>(
     state: &mut State<K>,

@@ -1,3 +1,4 @@
 pub mod Rooms
 pub mod StandsAfter
 pub mod Looks
+pub mod Turns

@@ -14,8 +14,8 @@ use Rattle.pif_model.specs.Calls.{base_answer, status_answer, open_call_answer, 
 use Rattle.pif_model.specs.Standing.{Stands, IsDoing, IsPick, call_of, owner_of, waiters_of}
 use Rattle.pif_simulation.proofs.Shown.{mutexes_shown, variables_shown, base_seen, mutex_seen, variable_seen}
 use Rattle.pif_simulation.proofs.Looks.{doing_seen, open_seen, owner_seen, waiters_seen, parked_seen, ready_seen}
-use Rattle.pif_chains.proofs.KernelSettled.{effective_range}
-use Rattle.pif_chains.proofs.Orders.{first-levels_below}
+use Rattle.pif_chains.proofs.kernel.KernelSettled.{effective_range}
+use Rattle.pif_chains.proofs.kernel.Orders.{first-levels_below}
 use Rattle.pif_core.proofs.StandsAfter.{said_by, pick_stands}
 
 -- what holds of whatever an option holds

@@ -1,7 +1,7 @@
-ghost use Rattle.std.specs.Prelude.{ℕ, ◌≡◌, ◌≢◌};
+ghost use Rattle.std.specs.Prelude.{ℕ, ◌≡◌, ◌≢◌, None};
 ghost use Rattle.pif_model.specs.declared.events.Seen.TheVariants.{Went};
 ghost use Rattle.pif_model.specs.Standing.{WhereStands};
-ghost use Rattle.pif_model.specs.Lines.{goes_on};
+ghost use Rattle.pif_model.specs.Lines.{goes_on, table_refusal};
 ghost use Rattle.pif_calls.specs.Calls.{StandsOn, call_outcome, after_call, after_finish};
 
 use crate::Core;
@@ -23,9 +23,12 @@ impl Core {
         ensures ends { result ≢ Went }
         ensures stands { WhereStands self.old (λ h r w. StandsOn self.new (after_call thread request self.old h) r w) }
     {
-        match self.step(Event::Begin(thread, request)) {
-            Seen::Refused(refusal) => Seen::Refused(refusal),
-            _ => self.finish(thread),
+        match self.begin_refusal(thread, &request) {
+            Some(refusal) => Seen::Refused(refusal),
+            None => {
+                self.begin(thread, request);
+                self.go_through(thread)
+            }
         }
     }
 
@@ -40,12 +43,25 @@ impl Core {
         ensures ends { result ≢ Went }
         ensures stands { WhereStands self.old (λ h r w. StandsOn self.new (after_finish thread self.old h) r w) }
     {
-        for _turn in 0..MORE_STEPS {
-            match self.step(Event::Go(thread)) {
+        match self.go_refusal(thread) {
+            Some(refusal) => Seen::Refused(refusal),
+            None => self.go_through(thread),
+        }
+    }
+
+    /// The same for a thread that is not refused. None of its steps is then, since one that went leaves it a step.
+    #[inline(never)]
+    fn go_through(&mut self, thread: Tid) -> Seen
+        requires { table_refusal self.old (Event.Go thread) ≡ None }
+        ensures seen { result ≡ (goes_on 23 thread self.old).seen }
+        ensures after { self.new ≡ (goes_on 23 thread self.old).after }
+    {
+        for _turn in 0..MORE_STEPS + 1 {
+            match self.go_on(thread) {
                 Seen::Went => {}
                 seen => return seen,
             }
         }
-        self.step(Event::Go(thread))
+        unreachable!()
     }
 }

@@ -12,7 +12,7 @@ ghost use Rattle.pif_model.specs.Calls.{add_thread_answer, add_thread_after, add
 ghost use Rattle.pif_mutex.specs.Outcomes.{outcome_of};
 
 use pif_linked::LinkedKernel;
-use pif_model::{Entry, Event, Line, Seen, Status};
+use pif_model::{Entry, Event, Line, Place, Seen, Status};
 use pif_mutex::{Parts, Progress};
 use pif_types::{
     AddFault, CondId, Health, Kind, Limits, MutexId, NoMemory, Prio, Refusal, Request, Tid,
@@ -240,6 +240,7 @@ impl Core {
     }
 
     /// Whether the mutex and the condition variable that a call names were added, as far as it names any.
+    #[inline(always)]
     fn knows_names(&self, request: Request) -> bool
         ensures { result ≡ names_known (has_mutex self.now) (has_cond self.now) request }
     {
@@ -258,6 +259,7 @@ impl Core {
     }
 
     /// Why a thread is refused, if it is: it was never added, or has ended.
+    #[inline(always)]
     fn thread_refusal(&self, thread: Tid) -> Option<Refusal>
         ensures { result ≡ table_refusal self.now (Event.End thread) }
     {
@@ -272,7 +274,8 @@ impl Core {
 
     /// Why a Begin is refused, if it is: the thread was never added, has ended, has a call open, or names a mutex or a
     /// condition variable that was never added.
-    fn begin_refusal(&self, thread: Tid, request: &Request) -> Option<Refusal>
+    #[inline(always)]
+    pub(crate) fn begin_refusal(&self, thread: Tid, request: &Request) -> Option<Refusal>
         ensures { result ≡ table_refusal self.now (Event.Begin thread request.now) }
     {
         if let Some(refusal) = self.thread_refusal(thread) {
@@ -289,7 +292,8 @@ impl Core {
     }
 
     /// Why a Go is refused, if it is: the thread was never added, has ended, or has no call open.
-    fn go_refusal(&self, thread: Tid) -> Option<Refusal>
+    #[inline(always)]
+    pub(crate) fn go_refusal(&self, thread: Tid) -> Option<Refusal>
         ensures { result ≡ table_refusal self.now (Event.Go thread) }
     {
         if let Some(refusal) = self.thread_refusal(thread) {
@@ -347,9 +351,12 @@ impl Core {
         ensures seen { result ≡ (event_outcome (Event.Go thread) self.old).seen }
         ensures after { self.new ≡ (event_outcome (Event.Go thread) self.old).after }
     {
-        match self.go_refusal(thread) {
-            Some(refusal) => Seen::Refused(refusal),
-            None => self.go(thread),
+        if let Some(refusal) = self.thread_refusal(thread) {
+            return Seen::Refused(refusal);
+        }
+        match self.parts.state.line(thread) {
+            Line::At(request, place) => self.go(request, place, thread),
+            Line::Idle => Seen::Refused(Refusal::Idle),
         }
     }
 
@@ -382,40 +389,62 @@ impl Core {
     }
 
     /// A thread begins a call, which is not refused.
-    #[tactic(auto, unfolding(pif_model::specs::Lines::accepted_outcome))]
-    fn begin(&mut self, thread: Tid, request: Request) -> Seen
+    #[inline(always)]
+    #[tactic(auto, unfolding(pif_model::specs::Lines::accepted_outcome), using(crate::proofs::Turns::begun_goes))]
+    pub(crate) fn begin(&mut self, thread: Tid, request: Request) -> Seen
         requires { table_refusal self.old (Event.Begin thread request) ≡ None }
         ensures seen { result ≡ (accepted_outcome (Event.Begin thread request) self.old).seen }
         ensures after { self.new ≡ (accepted_outcome (Event.Begin thread request) self.old).after }
+        ensures allowed { table_refusal self.new (Event.Go thread) ≡ None }
     {
+        // This counts threads, so that the proof has that each has a line.
+        let _threads = self.parts.threads();
         self.parts.begin(thread, request);
         Seen::Begun
     }
 
     /// A thread takes one step of its open call, which is not refused.
-    #[tactic(auto, unfolding(pif_model::specs::Lines::accepted_outcome))]
-    fn go(&mut self, thread: Tid) -> Seen
+    #[inline(always)]
+    pub(crate) fn go_on(&mut self, thread: Tid) -> Seen
         requires { table_refusal self.old (Event.Go thread) ≡ None }
-        ensures seen { result ≡ (accepted_outcome (Event.Go thread) self.old).seen }
-        ensures after { self.new ≡ (accepted_outcome (Event.Go thread) self.old).after }
+        ensures seen { result ≡ (event_outcome (Event.Go thread) self.old).seen }
+        ensures after { self.new ≡ (event_outcome (Event.Go thread) self.old).after }
     {
-        match self.advance(thread) {
+        match self.parts.state.line(thread) {
+            Line::At(request, place) => self.go(request, place, thread),
+            Line::Idle => unreachable!(),
+        }
+    }
+
+    /// A thread takes one step of its open call, which is this request at this place, and is not refused.
+    #[inline(always)]
+    #[tactic(auto, unfolding(pif_model::specs::Lines::event_outcome, pif_model::specs::Lines::accepted_outcome))]
+    fn go(&mut self, request: Request, place: Place, thread: Tid) -> Seen
+        requires allowed { table_refusal self.old (Event.Go thread) ≡ None }
+        requires line { line_at self.old thread ≡ Line.At request place }
+        ensures seen { result ≡ (event_outcome (Event.Go thread) self.old).seen }
+        ensures after { self.new ≡ (event_outcome (Event.Go thread) self.old).after }
+    {
+        match self.advance(request, place, thread) {
             Progress::Went => Seen::Went,
             Progress::Waits => Seen::Waits,
             Progress::Done(answer) => Seen::Answered(answer),
         }
     }
 
-    /// A thread takes one step of its open call, which is not refused: what it came to.
-    fn advance(&mut self, thread: Tid) -> Progress
-        requires { table_refusal self.old (Event.Go thread) ≡ None }
+    /// A thread takes one step of its open call, which is this request at this place, and is not refused: what it came
+    /// to.
+    #[inline(always)]
+    fn advance(&mut self, request: Request, place: Place, thread: Tid) -> Progress
+        requires allowed { table_refusal self.old (Event.Go thread) ≡ None }
+        requires line { line_at self.old thread ≡ Line.At request place }
         ensures { outcome_of result self.new ≡ go_outcome (line_at self.old thread) thread self.old }
     {
-        match self.parts.state.line(thread) {
-            Line::At(Request::Wait(_, _) | Request::Signal(_) | Request::Broadcast(_), _) => {
-                pif_cond::advance(&mut self.parts, thread)
+        match request {
+            Request::Wait(_, _) | Request::Signal(_) | Request::Broadcast(_) => {
+                pif_cond::advance_at(&mut self.parts, request, place, thread)
             }
-            _ => pif_mutex::advance(&mut self.parts, thread),
+            _ => pif_mutex::advance_at(&mut self.parts, request, place, thread),
         }
     }
 

@@ -13,7 +13,7 @@ use Rattle.pif_model.specs.declared.events.Event.TheVariants.{Begin, Go, End, Ti
 use Rattle.pif_model.specs.declared.events.Seen.TheVariants.{Begun, Answered, Ended, Refused}
 use Rattle.pif_model.specs.declared.events.Entry.{Entry}
 use Rattle.pif_model.specs.declared.events.Entry.TheVariants.{Thread as AddThread, Mutex as AddMutex, Cond as AddCond, Step as Happened}
-use Rattle.pif_model.specs.Deadlines.{plain, told}
+use Rattle.pif_model.specs.Deadlines.{plain, told_result}
 use Rattle.pif_model.specs.Refusals.{go_refused}
 use Rattle.pif_model.specs.History.{open_call, open_after}
 use Rattle.pif_model.specs.Posix.{Call as MachineCall, World, is_thread, is_living, thread_at, refusal_of, Step, IsRun}
@@ -25,7 +25,7 @@ use Rattle.pif_desk.specs.declared.log.Mark.{Mark}
 use Rattle.pif_desk.specs.declared.log.Mark.TheVariants.{Begun as MarkBegun, Answered as MarkAnswered, Ended as MarkEnded, Nothing}
 use Rattle.pif_desk.specs.declared.log.Reply.{Reply}
 use Rattle.pif_desk.specs.declared.log.Call.{Call}
-use Rattle.pif_desk.specs.Logs.{Log, with_reply, new_call, answered, is_last_open, mark_in, log_after, calls_of}
+use Rattle.pif_desk.specs.Logs.{Log, with_reply, new_call, with_answer, is_last_open, mark_in, log_after, calls_of}
 use Rattle.pif_desk.specs.Rooms.{ClientState, history_of}
 use Rattle.pif_desk.specs.Settling.{is_answer, adds, answered_calls, Settles}
 use Rattle.pif_desk.proofs.Receipts.{mark_answered}
@@ -86,7 +86,7 @@ answers_told _ = 0
 
 -- an answer answers the call that is open
 counted-answered : (a at : ℕ) (l : Log) → is_last_open l.calls ≡ true
-    → answered_calls (answered a at l) ≡ answered_calls l + 1
+    → answered_calls (with_answer a at l) ≡ answered_calls l + 1
 counted-answered a at l o = by_calls l.calls o
   where
     by_reply : (r : Option Reply) (p : Request) (cs : List Call) → (if is_some r then false else true) ≡ true
@@ -207,7 +207,7 @@ answer_or_not l w e v (begun t q is may after) = inl (ap is_answer is)
 answer_or_not l w e v (went t is goes awake) = inl (ap is_answer is)
 answer_or_not l w e v (waits t u is goes after rests) = inl (ap is_answer is)
 answer_or_not l w e v (step_answered t a q u is goes has after awake) =
-    inr (t, told q (thread_at w t).timer.expired a, is, goes.allowed)
+    inr (t, told_result q (thread_at w t).timer.expired a, is, goes.allowed)
 answer_or_not l w e v (ended t is ends) = inl (ap is_answer is)
 answer_or_not l w e v (ticked n is may after) = inl (ap is_answer is)
 

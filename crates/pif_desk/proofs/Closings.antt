@@ -3,14 +3,14 @@ use Rattle.std.proofs.Common.{◌≡◌, ℕ, Bool, List, [], ◌∷◌, Option,
 use Rattle.pif_types.specs.declared.requests.Request.{Request}
 use Rattle.pif_desk.specs.declared.log.Reply.{Reply}
 use Rattle.pif_desk.specs.declared.log.Call.{Call}
-use Rattle.pif_desk.specs.Logs.{last_open, new_call, closed_call, answered}
+use Rattle.pif_desk.specs.Logs.{last_open, new_call, closed_call, with_answer}
 use Rattle.pif_desk.specs.Rooms.{ClientState, Closes}
 
 module _ (t thread a at : ℕ) (q : Request) (over : Bool) where
   closes_parts : (calls : List Call) → last_open calls ≡ Some q
       → Closes (record { t = t; request = q; answer = a; at = at })
       (record { thread = thread; log = record { calls = calls; ended = over } })
-      (record { thread = thread; log = answered a at (record { calls = calls; ended = over }) })
+      (record { thread = thread; log = with_answer a at (record { calls = calls; ended = over }) })
   closes_parts [] e = absurd (cc)
   closes_parts (x ∷ cs) e = by_reply x.reply e
     where
@@ -31,7 +31,7 @@ module _ (t thread a at : ℕ) (q : Request) (over : Bool) where
           })
           (record {
             thread = thread;
-            log = answered a at (record {
+            log = with_answer a at (record {
               calls = (record {
                 request = x.request;
                 reply = o;
@@ -62,7 +62,7 @@ module _ (t thread a at : ℕ) (q : Request) (over : Bool) where
 
 -- a call that was open is closed by its answer
 pub closes_last : (c d : ClientState) (t a at : ℕ) (q : Request) → last_open c.log.calls ≡ Some q
-    → d ≡ record c { log = answered a at c.log } → Closes (record { t = t; request = q; answer = a; at = at }) c d
+    → d ≡ record c { log = with_answer a at c.log } → Closes (record { t = t; request = q; answer = a; at = at }) c d
 closes_last c d t a at q last after =
     subst (λ (x : ClientState). Closes (record { t = t; request = q; answer = a; at = at }) c x) (sym after)
     (closes_parts t c.thread a at q c.log.ended c.log.calls last)

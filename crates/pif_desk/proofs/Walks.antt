@@ -7,7 +7,7 @@ use Rattle.pif_model.specs.declared.events.Entry.{Entry}
 use Rattle.pif_desk.specs.declared.log.Reply.{Reply}
 use Rattle.pif_desk.specs.declared.log.Call.{Call}
 use Rattle.pif_desk.specs.declared.log.Mark.{Mark}
-use Rattle.pif_desk.specs.Logs.{Log, log_of, with_reply, new_call, begun, answered, log_after_end, mark_in, log_after, no_calls, calls_of}
+use Rattle.pif_desk.specs.Logs.{Log, log_of, with_reply, new_call, begun, with_answer, log_after_end, mark_in, log_after, no_calls, calls_of}
 use Rattle.pif_desk.specs.Rooms.{history_of}
 use Rattle.pif_desk.specs.Settling.{with_reply_if_any, IsRestOfLog}
 
@@ -55,7 +55,7 @@ pending-none (Some r) = refl
 module _ (calls : List Call) (e : Bool) (left : ℕ) (reply : Option Reply) (seen : Bool) where
   -- an answer
   pub back_over_answer : (a at : ℕ) (l : Log)
-      → IsRestOfLog calls e left reply seen (answered a at l) ↔ IsRestOfLog calls e left (Some (record {
+      → IsRestOfLog calls e left reply seen (with_answer a at l) ↔ IsRestOfLog calls e left (Some (record {
         answer = a;
         at = at;
       })) seen l

@@ -46,8 +46,8 @@ abbrev pub begun : Request → Log → Log
 begun q l = record l { calls = new_call q ∷ l.calls }
 
 -- the last call has this answer, which stands at this position, if it was open
-abbrev pub answered : ℕ → ℕ → Log → Log
-answered a at l = record l { calls = with_reply (record { answer = a; at = at }) l.calls }
+abbrev pub with_answer : ℕ → ℕ → Log → Log
+with_answer a at l = record l { calls = with_reply (record { answer = a; at = at }) l.calls }
 
 -- the thread has ended
 abbrev pub log_after_end : Log → Log
@@ -77,7 +77,7 @@ mark_of _ _ = Nothing
 -- a log after what was told of it at this position of the history
 abbrev pub log_after : Mark → ℕ → Log → Log
 log_after (MarkBegun q) at l = begun q l
-log_after (MarkAnswered a) at l = answered a at l
+log_after (MarkAnswered a) at l = with_answer a at l
 log_after MarkEnded at l = log_after_end l
 log_after Nothing at l = l
 

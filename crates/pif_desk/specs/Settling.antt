@@ -48,6 +48,11 @@ AreAsManyAsThreads clients journal = length clients ≡ count_by adds_thread jou
 abbrev pub AreKnown : List ClientState → List Entry → Type 0
 AreKnown clients journal = All (λ c. is_stranger clients journal c ≡ false) clients
 
+-- each thread that was added has just one client
+abbrev pub HasOneClientEach : List ClientState → List Entry → Type 0
+HasOneClientEach clients journal =
+    (t : ℕ) → list_any (adds t) journal ≡ true → count_by (λ c. c.thread == t) clients ≡ 1
+
 -- why a room doesn't settle: the first of these that holds, of the first client of which it holds
 abbrev pub IsFault : List ClientState → List Entry → Why → Type 0
 IsFault clients journal Count = AreAsManyAsThreads clients journal → ⊥

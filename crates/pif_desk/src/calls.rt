@@ -2,7 +2,7 @@
 ghost use Rattle.std.specs.Prelude.{◌≡◌, true, false, Err, IfOk, IfErr, OnOk, OnErr, ◌⊎◌, if◌then◌else◌};
 ghost use Rattle.pif_types.specs.declared.errors.Refusal.{Refusal};
 ghost use Rattle.pif_desk.specs.declared.faults.DeskFault.{DeskFault};
-ghost use Rattle.pif_desk.specs.Logs.{is_answer_to, has_open_call, new_call, answered};
+ghost use Rattle.pif_desk.specs.Logs.{is_answer_to, has_open_call, new_call, with_answer};
 ghost use Rattle.pif_desk.specs.Rooms.{client_after, with_call, with_end, receipt_call, Closes, IsEventFault};
 
 use crate::book::Receipt;
@@ -45,7 +45,7 @@ impl Client {
         rt: &R,
         desk: &Desk<P>,
     ) -> Result<Reply, DeskFault>
-        ensures answered { IfOk result (λ r. self.new ≡ record self.old { log = answered r.answer r.at self.old.log }) }
+        ensures answered { IfOk result (λ r. self.new ≡ record self.old { log = with_answer r.answer r.at self.old.log }) }
         ensures unchanged { OnErr result (self.new ≡ self.old) }
         ensures fault { IfErr result IsEventFault }
     {

@@ -3,7 +3,7 @@ ghost use Rattle.std.specs.Prelude.{◌≡◌, ◌==◌, ◌↔◌, true, false,
 ghost use Rattle.std.specs.List.{All, list_any};
 ghost use Rattle.pif_model.specs.Posix.{IsLegal};
 ghost use Rattle.pif_desk.specs.Rooms.{ClientState, history_of, IsExact};
-ghost use Rattle.pif_desk.specs.Settling.{adds_thread, is_answer, adds, is_stranger, IsFirst, IsFault, Settles, HasReceipts, answered_calls};
+ghost use Rattle.pif_desk.specs.Settling.{adds_thread, is_answer, adds, is_stranger, HasOneClientEach, IsFirst, IsFault, Settles, HasReceipts, answered_calls};
 
 use crate::book::{Book, Unsettled, Why};
 use crate::client::Client;
@@ -127,6 +127,7 @@ impl Room {
     /// and clients come back as they were, with the first of these that doesn't hold. It takes no memory.
     pub fn settle(self, clients: Vec<Client>) -> Result<Book, Unsettled>
         ensures settled { IfOk result (λ b. Settles clients.items self.journal) }
+        ensures one_each { IfOk result (λ b. HasOneClientEach clients.items self.journal) }
         ensures entries { IfOk result (λ b. b.entries.items ≡ self.journal) }
         ensures limits { IfOk result (λ b. b.limits ≡ self.core.limits) }
         ensures legal { IfOk result (λ b. IsLegal b.limits (history_of b.entries.items)) }

@@ -1,7 +1,7 @@
 ghost use Rattle.std.specs.Prelude.{◌≡◌, ◌≤◌, ℕ, length, None};
-ghost use Rattle.pif_queue.specs.Buckets.{HoldsBuckets};
-ghost use Rattle.pif_queue.specs.Entries.{found_in};
-ghost use Rattle.pif_queue.specs.Parked.{parked_at};
+ghost use Rattle.pif_owners.specs.Buckets.{HoldsBuckets};
+ghost use Rattle.pif_owners.specs.Entries.{found_in};
+ghost use Rattle.pif_owners.specs.Parked.{parked_at};
 ghost use Rattle.pif_queue.specs.Numbered.{HaveTickets};
 
 use pif_nodes::{Node, NodeTable};

@@ -1,5 +1,5 @@
 ghost use Rattle.std.specs.Prelude.{◌≡◌, ◌<◌, length, replicate, [], ◌∷◌, Some};
-ghost use Rattle.pif_nodes.specs.Table.{no_key, holder};
+ghost use Rattle.pif_lists.specs.Table.{no_key, holder};
 
 use pif_nodes::{Key, List, Node, NodeTable};
 use std::process::Abort;

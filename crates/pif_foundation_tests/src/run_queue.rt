@@ -1,6 +1,6 @@
 ghost use Rattle.std.specs.Prelude.{◌≡◌, ◌≤◌, ℕ, None};
-ghost use Rattle.pif_nodes.specs.Table.{holder};
-ghost use Rattle.pif_runq.specs.Levels.{Holds};
+ghost use Rattle.pif_lists.specs.Table.{holder};
+ghost use Rattle.pif_lists.specs.Levels.{Holds};
 
 use pif_nodes::NodeTable;
 use pif_runq::RunQueue;

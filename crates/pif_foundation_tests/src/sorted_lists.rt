@@ -1,5 +1,5 @@
 ghost use Rattle.std.specs.Prelude.{◌≡◌, ◌<◌, length, replicate, []};
-ghost use Rattle.pif_nodes.specs.Table.{no_key};
+ghost use Rattle.pif_lists.specs.Table.{no_key};
 
 use pif_nodes::{List, Node, NodeTable};
 use pif_plist::PList;

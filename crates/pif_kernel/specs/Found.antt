@@ -10,7 +10,7 @@ use Rattle.pif_word.specs.declared.cells.Cell.TheVariants.{Mutex}
 use Rattle.pif_word.specs.WordMap.{WordMap, HasCell, bits_at}
 use Rattle.pif_kernel.specs.declared.refusals.Found.{Found}
 use Rattle.pif_kernel.specs.declared.refusals.Found.TheVariants.{Free, Held}
-use Rattle.pif_kernel.specs.Inside.{Inside, kernel_of, state_key_at, state_at}
+use Rattle.pif_kernel_state.specs.Inside.{Inside, kernel_of, state_key_at, state_at}
 
 -- the mutex m has this word
 pub record IsWord (m word : ℕ) (s : WordMap) : Type 0 where

@@ -1,13 +1,2 @@
 pub use Rattle.pif_model.specs.PiKernel
-pub mod Answers
-pub mod Inside
-pub mod Codes
-pub mod Leaving
-pub mod Tickets
-pub mod Systems
-pub mod Takings
-pub mod Orders
-pub mod Chained
-pub mod Fields
-pub mod Opened
 pub mod Found

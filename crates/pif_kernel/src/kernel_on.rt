@@ -1,11 +1,13 @@
 ghost use Rattle.std.specs.Prelude.{◌≡◌, ◌≤◌, IfOk};
 ghost use Rattle.pif_model.specs.PiKernel.{new_kernel, IsKernel};
-ghost use Rattle.pif_kernel.specs.Inside.{kernel_of, next_ticket};
+ghost use Rattle.pif_kernel_state.specs.Inside.{kernel_of, next_ticket};
 
-use crate::chains::Chains;
-use crate::parts::Parts;
-use crate::refusals::Found;
+use crate::refusals::{
+    Found, test_lock, test_parking, test_requeue, test_set_prio, test_try_lock, test_unlock,
+};
+use crate::requeueing::take_all;
 use pif_kernel_calls::PiKernel;
+use pif_kernel_steps::{Chains, Parts};
 use pif_model::{Status, Took};
 use pif_robust::RobustLists;
 use pif_types::{CondId, Errno, Limits, MutexId, NoMemory, Prio, Tid};
@@ -20,8 +22,8 @@ pub struct KernelOn<C: Chains + Drop> {
 }
 
 impl<C: Chains + Drop> Model for KernelOn<C> {
-    ghost use Rattle.pif_kernel.specs.Inside.{Inside as InsideSeen, IsSoundInside};
-    ghost use Rattle.pif_kernel.specs.Codes.{inside_code};
+    ghost use Rattle.pif_kernel_state.specs.Inside.{Inside as InsideSeen, IsSoundInside};
+    ghost use Rattle.pif_kernel_state.specs.Codes.{inside_code};
 
     ghost Value = { InsideSeen };
 
@@ -91,7 +93,7 @@ impl<C: Chains + Drop> PiKernel for KernelOn<C> {
 
     #[tactic(auto, unfolding(pif_model::specs::PiKernel::kernel_after_lock, pif_model::specs::PiKernel::words_after_lock))]
     fn lock_pi(&mut self, words: &mut Words, t: Tid, m: MutexId) -> Result<Took, Errno> {
-        match self.parts.test_lock(words, t, m)? {
+        match test_lock(&self.parts, words, t, m)? {
             Found::Free(word) => {
                 words.store(Cell::Mutex(m), taken_word(word, t.get()));
                 Ok(Took::Owns)
@@ -106,14 +108,14 @@ impl<C: Chains + Drop> PiKernel for KernelOn<C> {
 
     #[tactic(auto, unfolding(pif_model::specs::PiKernel::words_after_try_lock))]
     fn trylock_pi(&self, words: &mut Words, t: Tid, m: MutexId) -> Result<(), Errno> {
-        let word = self.parts.test_try_lock(words, t, m)?;
+        let word = test_try_lock(&self.parts, words, t, m)?;
         words.store(Cell::Mutex(m), taken_word(word, t.get()));
         Ok(())
     }
 
     #[tactic(auto, unfolding(pif_model::specs::PiKernel::kernel_after_unlock, pif_model::specs::PiKernel::words_after_unlock))]
     fn unlock_pi(&mut self, words: &mut Words, t: Tid, m: MutexId) -> Result<(), Errno> {
-        let bits = match self.parts.test_unlock(words, t, m)? {
+        let bits = match test_unlock(&self.parts, words, t, m)? {
             Some(key) => hand_word(self.parts.hand_over(t, m, key).get()),
             None => 0,
         };
@@ -130,7 +132,9 @@ impl<C: Chains + Drop> PiKernel for KernelOn<C> {
         expected: u32,
         m: MutexId,
     ) -> Result<(), Errno> {
-        self.parts.test_parking(words, c, expected, m)?;
+        // For the prover: what a kernel keeps is sound.
+        let _next = self.parts.next_ticket();
+        test_parking(words, c, expected, m)?;
         self.parts.park(t, c, m);
         Ok(())
     }
@@ -145,13 +149,13 @@ impl<C: Chains + Drop> PiKernel for KernelOn<C> {
         more: u32,
         expected: u32,
     ) -> Result<u32, Errno> {
-        self.parts.test_requeue(words, c, m, val, expected)?;
-        Ok(self.parts.take_all(words, c, m, more))
+        test_requeue(&self.parts, words, c, m, val, expected)?;
+        Ok(take_all(&mut self.parts, words, c, m, more))
     }
 
     #[tactic(auto, unfolding(pif_model::specs::PiKernel::kernel_after_set_prio))]
     fn set_prio(&mut self, t: Tid, p: u32) -> Result<(), Errno> {
-        let prio = self.parts.test_set_prio(t, p)?;
+        let prio = test_set_prio(&self.parts, t, p)?;
         self.parts.set_base(t, prio);
         Ok(())
     }

@@ -3,17 +3,17 @@ use Rattle.std.proofs.Common.{◌≡◌, ℕ, ◌+◌, ◌*◌, [], length, repl
 use Rattle.std.proofs.lemmas.List.{length-replicate}
 use Rattle.std.proofs.lemmas.List.FromFn.{fill_by_all}
 use Rattle.std.proofs.lemmas.List.{get_or-replicate}
-use Rattle.pif_nodes.specs.Table.{NodeLists, IsApart, holder, list_at}
-use Rattle.pif_runq.specs.Levels.{Queue, Holds, HasRoom, level_of, list_for}
-use Rattle.pif_rtmutex.specs.States.{States, empty_states, top_node}
-use Rattle.pif_rtmutex.specs.Holds.{HoldsStates, HasRoomForStates}
-use Rattle.pif_queue.specs.Entries.{no_entry, found_in}
-use Rattle.pif_queue.specs.Parked.{parked_at}
-use Rattle.pif_queue.specs.Buckets.{Buckets, HoldsBuckets}
-use Rattle.pif_queue.specs.Buckets.{HasRoomForBuckets}
-use Rattle.pif_queue.proofs.Rooms.{no_buckets, room-made}
-use Rattle.pif_kernel.specs.Inside.{no_keys}
-use Rattle.pif_runq.proofs.EmptyTables.{empty_table, empty_lists, empty_nodes, empty_list, empty_free, empty_level}
+use Rattle.pif_lists.specs.Table.{NodeLists, IsApart, holder, list_at}
+use Rattle.pif_lists.specs.Levels.{Queue, Holds, HasRoom, level_of, list_for}
+use Rattle.pif_owners.specs.States.{States, empty_states, top_node}
+use Rattle.pif_owners.specs.Holds.{HoldsStates, HasRoomForStates}
+use Rattle.pif_owners.specs.Entries.{no_entry, found_in}
+use Rattle.pif_owners.specs.Parked.{parked_at}
+use Rattle.pif_owners.specs.Buckets.{Buckets, HoldsBuckets}
+use Rattle.pif_owners.specs.Buckets.{HasRoomForBuckets}
+use Rattle.pif_owners.proofs.Rooms.{no_buckets, room-made}
+use Rattle.pif_kernel_state.specs.Inside.{no_keys}
+use Rattle.pif_lists.proofs.EmptyTables.{empty_table, empty_lists, empty_nodes, empty_list, empty_free, empty_level}
 use Rattle.pif_linked.specs.Parkings.{parkings_in}
 use Rattle.pif_linked.specs.Linked.{key_count, key_of, keys_in, StandLinked, IsLinked}
 use Rattle.pif_linked.proofs.ParkingLemmas.{nobody_parked, are_parked-nobody}

@@ -5,8 +5,8 @@ use Rattle.std.specs.FinMap.{FinMap}
 use Rattle.std.specs.Ordering.{nat_cmp}
 use Rattle.pif_owners.specs.Owners.{Owners, Seat, seat_at, state_of, waits_on, with_seat, with_base}
 use Rattle.pif_owners.proofs.OwnersLemmas.{seat_at-with_seat, seat_at-with_seat_other}
-use Rattle.pif_boost.specs.Boosts.{local_of}
-use Rattle.pif_queue.specs.Parked.{Parked}
+use Rattle.pif_owners.specs.Boosts.{local_of}
+use Rattle.pif_owners.specs.Parked.{Parked}
 use Rattle.pif_linked.specs.Linked.{FitsParked}
 
 module _ (v : Owners) (at : ℕ → Option Parked) (n next : ℕ) (h : FitsParked v at n next) where

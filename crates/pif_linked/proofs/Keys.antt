@@ -5,9 +5,9 @@ use Rattle.std.proofs.lemmas.Bool.Decides.{nat_tests}
 use Rattle.std.proofs.lemmas.Option.{same_Some}
 use Rattle.std.proofs.lemmas.List.{get_or_past, get_or-set_same, get_or-set_other, length-set}
 use Rattle.std.proofs.lemmas.List.FromFn.{fill_by_all, length-map-range_with_len, get_or-map-range_with_len}
-use Rattle.pif_nodes.specs.Table.{NodeLists}
-use Rattle.pif_queue.specs.Entries.{Entries, Found, entry_at, found_at, found_in, node_with, HoldsEntries}
-use Rattle.pif_queue.proofs.EntryLemmas.{with-stands}
+use Rattle.pif_lists.specs.Table.{NodeLists}
+use Rattle.pif_owners.specs.Entries.{Entries, Found, entry_at, found_at, found_in, node_with, HoldsEntries}
+use Rattle.pif_owners.proofs.EntryLemmas.{with-stands}
 use Rattle.pif_linked.specs.Linked.{key_count, key_of, keys_in}
 
 -- what stands at a number that is changed, and at another

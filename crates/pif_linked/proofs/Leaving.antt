@@ -2,18 +2,18 @@
 use Rattle.std.proofs.Common.{◌≡◌, ℕ, length, Option, sym, subst, ap, ◌∙◌, inl, inr, arith}
 use Rattle.std.specs.Prelude.{map}
 use Rattle.std.specs.List.{range_with_len}
-use Rattle.pif_nodes.specs.Table.{NodeLists, IsApart}
-use Rattle.pif_runq.specs.Levels.{Queue, KeepsQueue}
+use Rattle.pif_lists.specs.Table.{NodeLists, IsApart}
+use Rattle.pif_lists.specs.Levels.{Queue, KeepsQueue}
 use Rattle.pif_owners.specs.Owners.{Owners}
-use Rattle.pif_rtmutex.specs.States.{States, top_node}
-use Rattle.pif_rtmutex.specs.Frames.{KeepsLists, KeepsOwn}
-use Rattle.pif_boost.specs.Frames.{SameBeyond}
-use Rattle.pif_queue.specs.Entries.{Found, found_in}
-use Rattle.pif_queue.specs.Frames.{KeepsOthers, KeepsUser}
-use Rattle.pif_queue.specs.Parked.{Parked, parked_at}
-use Rattle.pif_queue.specs.Buckets.{Buckets, HoldsBuckets}
-use Rattle.pif_queue.proofs.EntryFrames.{found-framed, entries-framed}
-use Rattle.pif_queue.proofs.ParkedFrames.{seen-framed, parked-framed}
+use Rattle.pif_owners.specs.States.{States, top_node}
+use Rattle.pif_owners.specs.Frames.{KeepsLists, KeepsOwn}
+use Rattle.pif_owners.specs.BoostFrames.{SameBeyond}
+use Rattle.pif_owners.specs.Entries.{Found, found_in}
+use Rattle.pif_owners.specs.QueueFrames.{KeepsOthers, KeepsUser}
+use Rattle.pif_owners.specs.Parked.{Parked, parked_at}
+use Rattle.pif_owners.specs.Buckets.{Buckets, HoldsBuckets}
+use Rattle.pif_owners.proofs.EntryFrames.{found-framed, entries-framed}
+use Rattle.pif_owners.proofs.ParkedFrames.{seen-framed, parked-framed}
 use Rattle.pif_linked.specs.Parkings.{parkings_by, parkings_in}
 use Rattle.pif_linked.specs.Linked.{key_count, key_of, keys_in, IsLaidOut, FitsWords, FitsParked}
 

@@ -1,18 +1,18 @@
 -- A thread is parked: its ticket is taken first.
 use Rattle.std.proofs.Common.{◌≡◌, ℕ, ◌+◌, ◌-◌, ◌<◌, ◌≤◌, ◌==◌, ◌++◌, false, List, [], ◌∷◌, length, if◌then◌else◌, Some, None, refl, sym, ap, ◌∙◌, subst, arith}
-use Rattle.pif_nodes.specs.Table.{NodeLists, holder}
-use Rattle.pif_runq.specs.Levels.{Queue}
+use Rattle.pif_lists.specs.Table.{NodeLists, holder}
+use Rattle.pif_lists.specs.Levels.{Queue}
 use Rattle.pif_model.specs.PiKernel.{Parking, parked_pairs}
 use Rattle.pif_owners.specs.Owners.{waits_on}
-use Rattle.pif_rtmutex.specs.States.{States, owners_in}
-use Rattle.pif_rtmutex.proofs.ViewLemmas.{length-seats, waits_on-owners_in}
-use Rattle.pif_boost.specs.Boosts.{local_of}
-use Rattle.pif_queue.specs.Entries.{found_in}
-use Rattle.pif_queue.specs.Frames.{KeepsOthers}
-use Rattle.pif_queue.specs.Parked.{Parked, parked_at, parking_node, parked_with_ticket}
-use Rattle.pif_queue.specs.Buckets.{Buckets, HoldsBuckets}
-use Rattle.pif_kernel.specs.Chained.{KeepsLevels}
-use Rattle.pif_kernel.specs.Tickets.{is_named}
+use Rattle.pif_owners.specs.States.{States, owners_in}
+use Rattle.pif_owners.proofs.ViewLemmas.{length-seats, waits_on-owners_in}
+use Rattle.pif_owners.specs.Boosts.{local_of}
+use Rattle.pif_owners.specs.Entries.{found_in}
+use Rattle.pif_owners.specs.QueueFrames.{KeepsOthers}
+use Rattle.pif_owners.specs.Parked.{Parked, parked_at, parking_node, parked_with_ticket}
+use Rattle.pif_owners.specs.Buckets.{Buckets, HoldsBuckets}
+use Rattle.pif_kernel_state.specs.Chained.{KeepsLevels}
+use Rattle.pif_kernel_state.specs.Tickets.{is_named}
 use Rattle.pif_linked.specs.Parkings.{AreParked, parkings_by, parkings_in}
 use Rattle.pif_linked.specs.Linked.{IsLinked}
 use Rattle.pif_linked.proofs.ParkingLemmas.{park_parkings}

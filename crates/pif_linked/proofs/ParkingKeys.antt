@@ -4,7 +4,7 @@ use Rattle.std.proofs.Math.Path.{fun_ext}
 use Rattle.std.proofs.lemmas.Bool.{cases_eq}
 use Rattle.std.proofs.lemmas.Bool.Decides.{nat_tests}
 use Rattle.pif_chains.proofs.Waiting.{by_test}
-use Rattle.pif_queue.specs.Parked.{Parked, parked_with_prio, parked_with_ticket}
+use Rattle.pif_owners.specs.Parked.{Parked, parked_with_prio, parked_with_ticket}
 use Rattle.pif_queue.specs.Numbered.{ticket_in, ticket_by, HaveTickets, AreNumbered}
 use Rattle.pif_owners.specs.Arrivals.{in_order}
 use Rattle.pif_linked.specs.Parkings.{parked_cond, parked_target, parked_prio, parking_of, pairs_by, parkings_by, AreParked, ByPriority}

@@ -5,15 +5,15 @@ use Rattle.std.proofs.lemmas.Bool.Decides.{nat_tests}
 use Rattle.std.proofs.lemmas.List.{map-append}
 use Rattle.std.proofs.lemmas.Option.{same_Some}
 use Rattle.pif_model.specs.Graph.{without}
-use Rattle.pif_model.specs.PiKernel.{parked_pairs, unparked}
+use Rattle.pif_model.specs.PiKernel.{parked_pairs, parkings_without}
 use Rattle.pif_chains.proofs.Among.{is_among_push, is_among-without, is_among_here, is_among_there, is_among_cons}
 use Rattle.pif_chains.proofs.Among.{is_among as is_waiter}
 use Rattle.pif_chains.proofs.Waiting.{by_test, names, named-from_pair, pair-from_named}
-use Rattle.pif_queue.specs.Parked.{Parked}
+use Rattle.pif_owners.specs.Parked.{Parked}
 use Rattle.pif_queue.specs.Numbered.{ticket_in}
 use Rattle.pif_owners.specs.Arrivals.{Rise}
 use Rattle.pif_owners.specs.Arrivals.{in_order}
-use Rattle.pif_kernel.specs.Tickets.{is_named}
+use Rattle.pif_kernel_state.specs.Tickets.{is_named}
 use Rattle.pif_owners.proofs.InOrder.{in_order-is}
 use Rattle.pif_owners.proofs.ArrivalLaws.{rise_push}
 use Rattle.pif_owners.proofs.WaitersWithout.{rise_without, waiter_kept}
@@ -49,13 +49,13 @@ pairs_seen at (w ∷ ws) = ap (λ (l : List (ℕ × ℕ)). w ∷ l) (pairs_seen 
 -- threads without one, which may be parked otherwise by then
 pub unparked_pairs : (at now : ℕ → Option Parked) (ws : List (ℕ × ℕ)) (t : ℕ)
     → ((u : ℕ) → u ≢ t → now u ≡ at u)
-    → map (parking_of now) (without ws t) ≡ unparked (map (parking_of at) ws) t
+    → map (parking_of now) (without ws t) ≡ parkings_without (map (parking_of at) ws) t
 unparked_pairs at now [] t same = refl
 unparked_pairs at now (w ∷ ws) t same =
     by_test (λ b. (w.0 == t) ≡ b
     → map (parking_of now) (cond (if b then false else true) (w ∷ without ws t) (without ws t))
-    ≡ cond (if b then false else true) (parking_of at w ∷ unparked (map (parking_of at) ws) t)
-    (unparked (map (parking_of at) ws) t))
+    ≡ cond (if b then false else true) (parking_of at w ∷ parkings_without (map (parking_of at) ws) t)
+    (parkings_without (map (parking_of at) ws) t))
     (w.0 == t) (λ e k. unparked_pairs at now ws t same)
     (λ e k. let ne : w.0 ≢ t = grind (arith, nat_tests, e) in
     (λ i. record { thread = w.0; cond = w.1; target = parked_target (same w.0 ne i) }
@@ -298,13 +298,13 @@ module _ (at now : ℕ → Option Parked) (n next t : ℕ) (h : AreParked at n n
         waiter_kept (pairs_by at n) t u y.cond a.0 (parked_paired at n next h u y a.1))
 
     -- the others are left, in their order
-    pub unpark_parkings : parkings_by now n ≡ unparked (parkings_by at n) t
+    pub unpark_parkings : parkings_by now n ≡ parkings_without (parkings_by at n) t
     unpark_parkings =
         ap (map (parking_of now)) unpark_pairs ∙ unparked_pairs at now (pairs_by at n) t others_left
 
 -- who is not parked is not among them
 pub unpark_nobody : (at : ℕ → Option Parked) (n next t : ℕ) → AreParked at n next → at t ≡ None
-    → unparked (parkings_by at n) t ≡ parkings_by at n
+    → parkings_without (parkings_by at n) t ≡ parkings_by at n
 unpark_nobody at n next t h free = sym (unpark_parkings at at n next t h change)
   where
     change : (u : ℕ) → at u ≡ (if u == t then None else at u)

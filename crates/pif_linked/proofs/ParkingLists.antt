@@ -4,19 +4,19 @@ use Rattle.std.specs.List.{slice_get}
 use Rattle.std.proofs.lemmas.Bool.{eqb-true, eq-eqb, or_right, true≢false, false≢true}
 use Rattle.std.proofs.lemmas.Bool.Decides.{nat_tests}
 use Rattle.std.proofs.lemmas.Option.{same_Some}
-use Rattle.pif_nodes.specs.declared.keys.Key.{Key}
-use Rattle.pif_nodes.specs.Lists.{has, HasNoRepeats}
-use Rattle.pif_nodes.specs.Table.{NodeLists, list_at, key_at}
-use Rattle.pif_plist.specs.Order.{comes_before, IsInOrder}
+use Rattle.pif_lists.specs.declared.keys.Key.{Key}
+use Rattle.pif_lists.specs.Lists.{has, HasNoRepeats}
+use Rattle.pif_lists.specs.Table.{NodeLists, list_at, key_at}
+use Rattle.pif_lists.specs.Order.{comes_before, IsInOrder}
 use Rattle.pif_model.specs.Graph.{has_waiter, waiting_order, next_waiter}
 use Rattle.pif_model.specs.PiKernel.{parked_pairs, is_among}
 use Rattle.pif_chains.proofs.Among.{is_among_here, is_among_there, is_among_cons}
 use Rattle.pif_chains.proofs.Among.{is_among as is_waiter}
-use Rattle.pif_chains.proofs.Orders.{order-none, order-next, ordered-is_waiter}
+use Rattle.pif_chains.proofs.kernel.Orders.{order-none, order-next, ordered-is_waiter}
 use Rattle.pif_chains.proofs.Waiting.{by_test, names, has_waiter-from_pair, next-is_waiter, pair-from_named}
-use Rattle.pif_queue.specs.Parked.{Place, Parked, ParkedLists, place_at, IsThread, IsCond, variable_list, parking_node, thread_of_node, parked_with, parked_at, parked_on, IsParkedNode, StandsIn, StandParked, IsTopParked, HasNoParked, HasTarget}
+use Rattle.pif_owners.specs.Parked.{Place, Parked, ParkedLists, place_at, IsThread, IsCond, variable_list, parking_node, thread_of_node, parked_with, parked_at, parked_on, IsParkedNode, StandsIn, StandParked, IsTopParked, HasNoParked, HasTarget}
 use Rattle.pif_queue.specs.Numbered.{ticket_in}
-use Rattle.pif_kernel.specs.Takings.{first_parked, have_target}
+use Rattle.pif_kernel_state.specs.Takings.{first_parked, have_target}
 use Rattle.pif_owners.proofs.ArrivalLaws.{rise_once}
 use Rattle.pif_owners.proofs.WaiterRows.{InRow, in_row, all_ordered, row_first}
 use Rattle.pif_linked.specs.Parkings.{parked_target, parked_prio, parking_of, pairs_by, parkings_in, AreParked, ByPriority}

@@ -2,8 +2,8 @@
 use Rattle.std.proofs.Common.{◌≡◌, ◌≢◌, ◌⊎◌, ℕ, zero, suc, ◌==◌, ◌||◌, cond, Bool, true, false, List, [], ◌∷◌, ◌++◌, map, filter, refl, sym, ap, ◌∙◌, inl, inr, arith}
 use Rattle.std.proofs.lemmas.Bool.{cases_eq, or_right, false≢true}
 use Rattle.std.proofs.lemmas.Bool.Decides.{nat_tests}
-use Rattle.pif_nodes.specs.declared.keys.Key.{Key}
-use Rattle.pif_plist.specs.Order.{comes_before}
+use Rattle.pif_lists.specs.declared.keys.Key.{Key}
+use Rattle.pif_lists.specs.Order.{comes_before}
 use Rattle.pif_model.specs.Graph.{by_greatest, waiting_order, waiters_with, next_waiter, first_greatest}
 use Rattle.pif_model.specs.PiKernel.{is_among}
 use Rattle.pif_chains.proofs.Waiting.{by_test, names}

@@ -4,18 +4,18 @@ use Rattle.std.specs.Prelude.{map}
 use Rattle.std.specs.List.{range_with_len}
 use Rattle.std.proofs.lemmas.Bool.{cases_eq}
 use Rattle.std.proofs.lemmas.Option.{same_Some}
-use Rattle.pif_nodes.specs.Table.{NodeLists}
-use Rattle.pif_runq.specs.Levels.{Queue, Holds, IsLevel, KeepsQueue, level_of}
+use Rattle.pif_lists.specs.Table.{NodeLists}
+use Rattle.pif_lists.specs.Levels.{Queue, Holds, IsLevel, KeepsQueue, level_of}
 use Rattle.pif_model.specs.PiKernel.{Parking}
 use Rattle.pif_owners.specs.Owners.{Owners, waits_on}
-use Rattle.pif_rtmutex.specs.States.{States, owners_in}
-use Rattle.pif_rtmutex.specs.Frames.{KeepsOwn}
-use Rattle.pif_boost.specs.Boosts.{local_of}
-use Rattle.pif_queue.specs.Entries.{Found, found_in}
-use Rattle.pif_queue.specs.Frames.{KeepsOthers}
-use Rattle.pif_queue.specs.Parked.{Parked, parked_at, parked_with_prio, parked_with_ticket}
-use Rattle.pif_queue.specs.Buckets.{Buckets, HoldsBuckets}
-use Rattle.pif_kernel.specs.Chained.{KeepsLevels}
+use Rattle.pif_owners.specs.States.{States, owners_in}
+use Rattle.pif_owners.specs.Frames.{KeepsOwn}
+use Rattle.pif_owners.specs.Boosts.{local_of}
+use Rattle.pif_owners.specs.Entries.{Found, found_in}
+use Rattle.pif_owners.specs.QueueFrames.{KeepsOthers}
+use Rattle.pif_owners.specs.Parked.{Parked, parked_at, parked_with_prio, parked_with_ticket}
+use Rattle.pif_owners.specs.Buckets.{Buckets, HoldsBuckets}
+use Rattle.pif_kernel_state.specs.Chained.{KeepsLevels}
 use Rattle.pif_linked.specs.Parkings.{AreParked, parkings_in}
 use Rattle.pif_linked.specs.Linked.{key_count, key_of, keys_in, IsLaidOut, StandLinked, FitsWords, FitsParked, IsLinked}
 use Rattle.pif_linked.proofs.Keys.{at_same, at_other}

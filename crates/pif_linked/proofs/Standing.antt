@@ -2,32 +2,32 @@
 use Rattle.std.proofs.Common.{◌≡◌, ◌⊎◌, ℕ, ◌+◌, ◌-◌, ◌*◌, ◌<◌, ◌≤◌, true, false, length, Option, Some, None, IsSome, option_map, refl, subst, sym, ap, ◌∙◌, inl, inr, arith}
 use Rattle.std.proofs.lemmas.Bool.{cases_lt}
 use Rattle.std.specs.FinMap.{get}
-use Rattle.pif_nodes.specs.Lists.{has}
-use Rattle.pif_nodes.specs.Table.{NodeLists, holder, list_at, key_at}
-use Rattle.pif_runq.specs.Levels.{Queue, Holds, IsLevel, IsThreadNode, KeepsQueue, SameOutside, list_for, level_of}
-use Rattle.pif_runq.proofs.KeptLemmas.{levels-framed, queue-framed}
+use Rattle.pif_lists.specs.Lists.{has}
+use Rattle.pif_lists.specs.Table.{NodeLists, holder, list_at, key_at}
+use Rattle.pif_lists.specs.Levels.{Queue, Holds, IsLevel, IsThreadNode, KeepsQueue, SameOutside, list_for, level_of}
+use Rattle.pif_lists.proofs.KeptLemmas.{levels-framed, queue-framed}
 use Rattle.pif_owners.specs.Owners.{Seat, waits_on, with_seat}
-use Rattle.pif_rtmutex.specs.States.{States, IsThread, wait_of, wait_node, wait_list, top_list, owners_in}
-use Rattle.pif_rtmutex.specs.Holds.{IsWaiterIn, IsTopNode}
-use Rattle.pif_rtmutex.specs.Holds.{HoldsStates}
-use Rattle.pif_rtmutex.specs.Frames.{KeepsOwn}
-use Rattle.pif_rtmutex.specs.Frames.{SameOutsideStates}
-use Rattle.pif_rtmutex.proofs.FrameLemmas.{holds-framed, owners-framed}
-use Rattle.pif_boost.specs.Frames.{StandsBefore}
-use Rattle.pif_boost.proofs.FrameLemmas.{states-leave, queue-leaves, beyond-states, beyond-queue}
-use Rattle.pif_queue.specs.Entries.{IsEntered}
-use Rattle.pif_queue.specs.Parked.{Place, IsParkedNode, place_at, parked_at, parked_with, parking_node}
-use Rattle.pif_queue.specs.Parked.{variable_list}
-use Rattle.pif_queue.specs.Buckets.{Buckets, HoldsBuckets}
+use Rattle.pif_owners.specs.States.{States, IsThread, wait_of, wait_node, wait_list, top_list, owners_in}
+use Rattle.pif_owners.specs.Holds.{IsWaiterIn, IsTopNode}
+use Rattle.pif_owners.specs.Holds.{HoldsStates}
+use Rattle.pif_owners.specs.Frames.{KeepsOwn}
+use Rattle.pif_owners.specs.Frames.{SameOutsideStates}
+use Rattle.pif_owners.proofs.FrameLemmas.{holds-framed, owners-framed}
+use Rattle.pif_owners.specs.BoostFrames.{StandsBefore}
+use Rattle.pif_owners.proofs.BoostFrameLemmas.{states-leave, queue-leaves, beyond-states, beyond-queue}
+use Rattle.pif_owners.specs.Entries.{IsEntered}
+use Rattle.pif_owners.specs.Parked.{Place, IsParkedNode, place_at, parked_at, parked_with, parking_node}
+use Rattle.pif_owners.specs.Parked.{variable_list}
+use Rattle.pif_owners.specs.Buckets.{Buckets, HoldsBuckets}
 use Rattle.pif_model.specs.PiKernel.{parked_pairs}
-use Rattle.pif_kernel.specs.Tickets.{is_named}
-use Rattle.pif_kernel.specs.Chained.{Chained, KeepsLevels}
+use Rattle.pif_kernel_state.specs.Tickets.{is_named}
+use Rattle.pif_kernel_state.specs.Chained.{Chained, KeepsLevels}
 use Rattle.pif_linked.specs.Parkings.{parkings_in}
 use Rattle.pif_linked.specs.Linked.{keys_in, IsLaidOut, StandLinked, FitsParked, IsLinked}
 use Rattle.pif_linked.proofs.ParkingLemmas.{unnamed_parked}
 use Rattle.pif_linked.proofs.Fits.{fits_but, waits_unparked, waiting_unparked}
 use Rattle.pif_linked.proofs.Leaving.{KeepsBuckets, beyond_keeps, buckets_there, keys_there, parkings_there, words_there, fits_there}
-use Rattle.pif_rtmutex.proofs.SamePlace.{SamePlace}
+use Rattle.pif_owners.proofs.SamePlace.{SamePlace}
 
 -- what linked chains of these parts are seen as
 abbrev pub linked : States → Queue → Buckets → NodeLists → Chained

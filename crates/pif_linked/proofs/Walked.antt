@@ -3,25 +3,25 @@ use Rattle.std.proofs.Common.{◌≡◌, ◌≢◌, ◌⊎◌, ℕ, ◌<◌, ◌
 use Rattle.std.proofs.lemmas.Bool.{cases_eq, cases_lt, false≢true}
 use Rattle.std.proofs.lemmas.List.{get_or_past}
 use Rattle.std.specs.FinMap.{get}
-use Rattle.pif_nodes.specs.Table.{NodeLists}
-use Rattle.pif_runq.specs.Levels.{Queue, Holds, IsLevel, level_of}
+use Rattle.pif_lists.specs.Table.{NodeLists}
+use Rattle.pif_lists.specs.Levels.{Queue, Holds, IsLevel, level_of}
 use Rattle.pif_owners.specs.Owners.{Seat, Wait, no_seat, state_of, waits_on, waits_for}
 use Rattle.pif_owners.proofs.OwnersLemmas.{free-wait}
-use Rattle.pif_rtmutex.specs.States.{States, owners_in}
-use Rattle.pif_rtmutex.proofs.ViewLemmas.{length-seats}
-use Rattle.pif_boost.specs.Boosts.{IsThread, IsRepairedBut, base_of, local_of, greatest_base, with_rank_priority}
+use Rattle.pif_owners.specs.States.{States, owners_in}
+use Rattle.pif_owners.proofs.ViewLemmas.{length-seats}
+use Rattle.pif_owners.specs.Boosts.{IsThread, IsRepairedBut, base_of, local_of, greatest_base, with_rank_priority}
 use Rattle.pif_boost.specs.Done.{IsDone}
-use Rattle.pif_boost.proofs.Greatest.{idle, waits_for-none}
-use Rattle.pif_queue.specs.Entries.{found_in}
-use Rattle.pif_queue.specs.Frames.{KeepsOthers}
-use Rattle.pif_queue.specs.Parked.{Parked, parked_at, parked_with_prio}
-use Rattle.pif_queue.specs.Buckets.{Buckets, HoldsBuckets}
+use Rattle.pif_owners.proofs.Greatest.{idle, waits_for-none}
+use Rattle.pif_owners.specs.Entries.{found_in}
+use Rattle.pif_owners.specs.QueueFrames.{KeepsOthers}
+use Rattle.pif_owners.specs.Parked.{Parked, parked_at, parked_with_prio}
+use Rattle.pif_owners.specs.Buckets.{Buckets, HoldsBuckets}
 use Rattle.pif_linked.specs.Parkings.{parkings_by, parkings_in}
 use Rattle.pif_linked.specs.Linked.{keys_in, StandLinked, FitsWords, FitsParked, IsLinked}
 use Rattle.pif_linked.proofs.Leaving.{KeepsBuckets, beyond_keeps, parked_there, buckets_there, keys_there, parkings_there, words_there, fits_there}
 use Rattle.pif_linked.proofs.ParkingKeys.{rekey_parkings}
 use Rattle.pif_linked.proofs.Parks.{placed_rekeyed, parked_threads, parked_owners, parked_levels, parked_queue, parked_keys, linked_parked, fits_ranked}
-use Rattle.pif_rtmutex.proofs.SamePlace.{SamePlace}
+use Rattle.pif_owners.proofs.SamePlace.{SamePlace}
 use Rattle.pif_linked.proofs.Standing.{laid_moved, laid_masked}
 
 module _ (m : States) (q : Queue) (b : Buckets) (t : NodeLists) (next : ℕ) (h : IsLinked m q b t next) (start : ℕ)

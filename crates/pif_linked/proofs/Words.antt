@@ -4,23 +4,23 @@ use Rattle.std.proofs.lemmas.Bool.{cases_eq, false≢true}
 use Rattle.std.proofs.lemmas.Option.{same_Some}
 use Rattle.std.specs.FinMap.{FinMap, get}
 use Rattle.std.specs.Ordering.{nat_cmp}
-use Rattle.pif_nodes.specs.Table.{NodeLists}
-use Rattle.pif_runq.specs.Levels.{Queue, KeepsQueue}
+use Rattle.pif_lists.specs.Table.{NodeLists}
+use Rattle.pif_lists.specs.Levels.{Queue, KeepsQueue}
 use Rattle.pif_owners.specs.Owners.{owner_at}
-use Rattle.pif_rtmutex.specs.States.{States, owners_in}
-use Rattle.pif_rtmutex.specs.Holds.{HoldsStates}
-use Rattle.pif_rtmutex.specs.Frames.{KeepsOwn}
-use Rattle.pif_queue.specs.Entries.{Found, entry_at, found_in}
-use Rattle.pif_queue.specs.Frames.{KeepsOthers}
-use Rattle.pif_queue.specs.Parked.{parked_at}
-use Rattle.pif_queue.specs.Buckets.{Buckets, HoldsBuckets}
-use Rattle.pif_kernel.specs.Chained.{KeepsLevels}
+use Rattle.pif_owners.specs.States.{States, owners_in}
+use Rattle.pif_owners.specs.Holds.{HoldsStates}
+use Rattle.pif_owners.specs.Frames.{KeepsOwn}
+use Rattle.pif_owners.specs.Entries.{Found, entry_at, found_in}
+use Rattle.pif_owners.specs.QueueFrames.{KeepsOthers}
+use Rattle.pif_owners.specs.Parked.{parked_at}
+use Rattle.pif_owners.specs.Buckets.{Buckets, HoldsBuckets}
+use Rattle.pif_kernel_state.specs.Chained.{KeepsLevels}
 use Rattle.pif_linked.specs.Parkings.{parkings_by}
 use Rattle.pif_linked.specs.Linked.{key_count, key_of, keys_in, IsWordOf, IsLaidOut, StandLinked, IsLinked}
 use Rattle.pif_linked.proofs.Keys.{at_same, at_other, keys_changed, keys_found, found_some, row_word}
 use Rattle.pif_linked.proofs.Fits.{fits_owned, fits_moved}
 use Rattle.pif_linked.proofs.Leaving.{words_leave_owners, words_leave_queue}
-use Rattle.pif_rtmutex.proofs.SamePlace.{SamePlace}
+use Rattle.pif_owners.proofs.SamePlace.{SamePlace}
 use Rattle.pif_linked.proofs.Standing.{linked, stand_made, owners_same, queue_same, levels_same, stand_same, laid_words}
 
 module _ (m : States) (q : Queue) (b : Buckets) (t : NodeLists) (next : ℕ) (h : IsLinked m q b t next) where

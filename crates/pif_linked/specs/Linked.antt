@@ -2,15 +2,15 @@
 use Rattle.std.specs.Prelude.{◌≡◌, ℕ, ◌+◌, ◌*◌, ◌<◌, ◌≤◌, List, length, map, Option, Some, None, option_map}
 use Rattle.std.specs.List.{range_with_len}
 use Rattle.std.specs.FinMap.{get}
-use Rattle.pif_nodes.specs.Table.{NodeLists}
-use Rattle.pif_runq.specs.Levels.{Queue, Holds}
+use Rattle.pif_lists.specs.Table.{NodeLists}
+use Rattle.pif_lists.specs.Levels.{Queue, Holds}
 use Rattle.pif_owners.specs.Owners.{Owners, waits_on}
-use Rattle.pif_rtmutex.specs.States.{States, owners_in}
-use Rattle.pif_rtmutex.specs.Holds.{HoldsStates}
-use Rattle.pif_boost.specs.Boosts.{local_of}
-use Rattle.pif_queue.specs.Entries.{Entries, Found, found_in}
-use Rattle.pif_queue.specs.Parked.{Parked, parked_at}
-use Rattle.pif_queue.specs.Buckets.{Buckets, HoldsBuckets}
+use Rattle.pif_owners.specs.States.{States, owners_in}
+use Rattle.pif_owners.specs.Holds.{HoldsStates}
+use Rattle.pif_owners.specs.Boosts.{local_of}
+use Rattle.pif_owners.specs.Entries.{Entries, Found, found_in}
+use Rattle.pif_owners.specs.Parked.{Parked, parked_at}
+use Rattle.pif_owners.specs.Buckets.{Buckets, HoldsBuckets}
 use Rattle.pif_linked.specs.Parkings.{AreParked, ByPriority}
 
 -- the places for keys: one for each of the 1,024 mutexes that can be, and one for number 0

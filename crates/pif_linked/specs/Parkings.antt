@@ -1,7 +1,7 @@
 -- The threads that are parked in sorted lists, one for each variable, as a kernel has them: in order of their tickets.
 use Rattle.std.specs.Prelude.{◌≡◌, ℕ, ◌+◌, ◌<◌, ◌≤◌, List, map, Option, Some, None}
-use Rattle.pif_nodes.specs.Table.{NodeLists}
-use Rattle.pif_queue.specs.Parked.{Parked, ParkedLists, parked_at}
+use Rattle.pif_lists.specs.Table.{NodeLists}
+use Rattle.pif_owners.specs.Parked.{Parked, ParkedLists, parked_at}
 use Rattle.pif_queue.specs.Numbered.{ticket_by}
 use Rattle.pif_model.specs.PiKernel.{Parking}
 use Rattle.pif_owners.specs.Arrivals.{in_order}

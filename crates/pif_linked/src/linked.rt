@@ -1,10 +1,10 @@
 ghost use Rattle.std.specs.Prelude.{◌≡◌, ℕ, ◌+◌, ◌<◌, ◌≤◌, ◌==◌, if◌then◌else◌, IsSome};
-ghost use Rattle.pif_boost.specs.Boosts.{local_of};
-ghost use Rattle.pif_rtmutex.specs.States.{owners_in};
-ghost use Rattle.pif_queue.specs.Entries.{found_in};
-ghost use Rattle.pif_queue.specs.Frames.{KeepsOthers};
-ghost use Rattle.pif_queue.specs.Parked.{parked_at, parked_with_prio, parked_with_ticket};
-ghost use Rattle.pif_queue.specs.Buckets.{HoldsBuckets};
+ghost use Rattle.pif_owners.specs.Boosts.{local_of};
+ghost use Rattle.pif_owners.specs.States.{owners_in};
+ghost use Rattle.pif_owners.specs.Entries.{found_in};
+ghost use Rattle.pif_owners.specs.QueueFrames.{KeepsOthers};
+ghost use Rattle.pif_owners.specs.Parked.{parked_at, parked_with_prio, parked_with_ticket};
+ghost use Rattle.pif_owners.specs.Buckets.{HoldsBuckets};
 ghost use Rattle.pif_linked.specs.Parkings.{AreParked, parkings_in};
 
 use pif_boost::{walk_to, would_close};
@@ -44,8 +44,8 @@ pub struct LinkedChains {
 pub type LinkedKernel = KernelOn<LinkedChains>;
 
 impl Model for LinkedChains {
-    ghost use Rattle.pif_rtmutex.specs.States.{owners_in};
-    ghost use Rattle.pif_kernel.specs.Chained.{Chained, chained_code};
+    ghost use Rattle.pif_owners.specs.States.{owners_in};
+    ghost use Rattle.pif_kernel_state.specs.Chained.{Chained, chained_code};
     ghost use Rattle.pif_linked.specs.Parkings.{parkings_in};
     ghost use Rattle.pif_linked.specs.Linked.{keys_in, IsLinked};
 

@@ -13,8 +13,8 @@ use Rattle.pif_model.specs.declared.events.Entry.{Entry}
 use Rattle.pif_model.specs.declared.events.Entry.TheVariants.{Thread as AddThread, Mutex as AddMutex, Cond as AddCond, Step as Happened}
 use Rattle.pif_model.specs.Graph.{reaches_within, greatest_where, effective_among, first_greatest, waited_by, next_waiter}
 use Rattle.pif_model.specs.Posix.{Progress, Call, Memory, World, nobody, no_mutex, no_variable, no_memory, is_blocked_on, is_still_blocked, blocked_below, all_unblocked, Step, IsLegal}
-use Rattle.pif_model.specs.Posix.Health.{Fine}
-use Rattle.pif_model.specs.Posix.Progress.{Fresh, Waiting, Has, Checked, Enlisted, Blocked, Owing, Used}
+use Rattle.pif_model.specs.World.Health.{Fine}
+use Rattle.pif_model.specs.World.Progress.{Fresh, Waiting, Has, Checked, Enlisted, Blocked, Owing, Used}
 use Rattle.pif_model.specs.Posix.Locks.{free, joins}
 use Rattle.pif_model.specs.Posix.Passes.{to_nobody, to_next}
 use Rattle.pif_model.specs.Posix.Unlocks.{released as unlock_released}

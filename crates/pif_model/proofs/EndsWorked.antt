@@ -11,8 +11,8 @@ use Rattle.pif_model.specs.declared.events.Entry.{Entry}
 use Rattle.pif_model.specs.declared.events.Entry.TheVariants.{Thread as AddThread, Mutex as AddMutex, Step as Happened}
 use Rattle.pif_model.specs.Graph.{reaches_within, greatest_where, effective_among, first_greatest, waited_by, next_waiter}
 use Rattle.pif_model.specs.Posix.{Health, Progress, Call, World, nobody, no_mutex, no_variable, no_memory, mutex_at, Step, IsLegal}
-use Rattle.pif_model.specs.Posix.Health.{Fine, Inconsistent, Unusable}
-use Rattle.pif_model.specs.Posix.Progress.{Fresh, Waiting, Leaving, Has}
+use Rattle.pif_model.specs.World.Health.{Fine, Inconsistent, Unusable}
+use Rattle.pif_model.specs.World.Progress.{Fresh, Waiting, Leaving, Has}
 use Rattle.pif_model.specs.Posix.Locks.{free, joins}
 use Rattle.pif_model.specs.Posix.Passes.{to_nobody, to_next}
 use Rattle.pif_model.specs.Posix.Unlocks.{becomes_unusable, released}

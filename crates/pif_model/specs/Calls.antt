@@ -14,7 +14,7 @@ use Rattle.pif_model.specs.Word.{bits_of, health_in}
 use Rattle.pif_model.specs.PiKernel.{is_living, is_ready, seat_at, effective_in, pick_in, waiters_in, parked_in, ready_in}
 use Rattle.pif_model.specs.Table.{Table, cell_at, line_at, timer_at, status_at, has_thread, has_mutex, has_cond, bound_to, uses_of, has_thread_room, has_mutex_room, has_cond_room, thread_added, mutex_added, cond_added}
 use Rattle.pif_model.specs.Lines.{is_open, is_due_in}
-use Rattle.pif_model.specs.Deadlines.{timed}
+use Rattle.pif_model.specs.Deadlines.{with_deadline_if_any}
 
 -- adding a thread of priority p: BadPrio, then TooMany, else its number
 abbrev pub add_thread_answer : ℕ → Table → Result ℕ AddFault
@@ -92,7 +92,7 @@ request_at (At q p) = Some q
 
 -- the open call of a thread that was added, as it was made
 abbrev pub open_call_answer : ℕ → Table → Option Request
-open_call_answer t s = if has_thread s t then option_map (timed (timer_at s t).deadline) (request_at (line_at s t)) else None
+open_call_answer t s = if has_thread s t then option_map (with_deadline_if_any (timer_at s t).deadline) (request_at (line_at s t)) else None
 
 -- the number in a word and how often its thread holds the mutex; none where the word has no number
 abbrev pub owner_by : ℕ → ℕ → Option (ℕ × ℕ)

@@ -32,9 +32,9 @@ with_deadline d (Wait c m) = TimedWait c m d
 with_deadline d q = q
 
 -- a plain request as it was made, with the deadline that it had
-abbrev pub timed : Option ℕ → Request → Request
-timed None q = q
-timed (Some d) q = with_deadline d q
+abbrev pub with_deadline_if_any : Option ℕ → Request → Request
+with_deadline_if_any None q = q
+with_deadline_if_any (Some d) q = with_deadline d q
 
 -- TIMERS
 
@@ -58,11 +58,11 @@ is_reached (Some d) now = if nat_lt now d then false else true
 -- TELLING A RESULT
 
 -- what a call with this result is answered: a wait that has expired ETIMEDOUT in place of 0; else the result
-abbrev pub told : Request → Bool → ℕ → ℕ
-told (Wait c m) true a = if a == 0 then ETIMEDOUT else a
-told q expired a = a
+abbrev pub told_result : Request → Bool → ℕ → ℕ
+told_result (Wait c m) true a = if a == 0 then ETIMEDOUT else a
+told_result q expired a = a
 
 -- what a step shows, where it would show this of a call with no deadline
 abbrev pub told_seen : Request → Bool → Seen → Seen
-told_seen q expired (Answered a) = Answered (told q expired a)
+told_seen q expired (Answered a) = Answered (told_result q expired a)
 told_seen q expired seen = seen

@@ -6,6 +6,7 @@ pub mod Deadlines
 pub mod Word
 pub mod PiKernel
 pub mod RobustList
+pub mod World
 pub mod Posix
 pub mod History
 pub mod Table

@@ -8,7 +8,7 @@ use Rattle.pif_types.specs.declared.requests.Kind.TheVariants.{Normal}
 use Rattle.pif_model.specs.declared.lines.Relock.TheVariants.{Stops, Answers, Counts}
 use Rattle.pif_model.specs.Kinds.{relock_of}
 use Rattle.pif_types.specs.declared.requests.Request.{Request}
-use Rattle.pif_types.specs.declared.requests.Request.TheVariants.{Lock, TryLock, Unlock, Consistent, Wait, Signal, Broadcast, SetPrio, TimedLock, TimedWait}
+use Rattle.pif_types.specs.declared.requests.Request.TheVariants.{Lock, TryLock, Unlock, Consistent, Wait, Signal, Broadcast, SetPrio}
 use Rattle.pif_model.specs.NamedNumbers.{EPERM, EAGAIN, EBUSY, EINVAL, EDEADLK, EOVERFLOW, ETIMEDOUT, EOWNERDEAD, ENOTRECOVERABLE, most_holds}
 use Rattle.pif_model.specs.declared.events.Event.{Event}
 use Rattle.pif_model.specs.declared.events.Event.TheVariants.{Begin, Go, End, Tick}
@@ -64,8 +64,8 @@ abbrev pub is_robust : ℕ → Table → Bool
 is_robust m s = (cell_at s m).robust
 
 -- m is named in the pending field of t; no mutex is
-abbrev pub pending : ℕ → ℕ → Table → Table
-pending t m s = with_lists (with_pending t m s.lists) s
+abbrev pub with_pending_field : ℕ → ℕ → Table → Table
+with_pending_field t m s = with_lists (with_pending t m s.lists) s
 
 abbrev pub nothing_pending : ℕ → Table → Table
 nothing_pending t s = with_lists (without_pending t s.lists) s
@@ -191,7 +191,7 @@ gives_up t m done s =
 
 -- one step of giving a mutex up
 unfoldable pub give_line : Request → GiveStep → Purpose → ℕ → ℕ → Table → Outcome
-give_line q SetPending x t m s = goes_to t q (Give SeeHealth x) (pending t m s)
+give_line q SetPending x t m s = goes_to t q (Give SeeHealth x) (with_pending_field t m s)
 give_line q SeeHealth x t m s = give_health q x t m s
 give_line q StoreUnusable x t m s = goes_to t q (Give Unlink x) (with_health_word m 2 s)
 give_line q Unlink x t m s = goes_to t q (Give Release x) (with_lists (without_listed t m s.lists) s)
@@ -376,10 +376,10 @@ use_line q ReadAgain c t s = goes_to t q (Wake (Requeue (uses_of s c))) s
 -- one step of the open call; at a place of another request, which never comes, EINVAL
 unfoldable pub line_of : Request → Place → ℕ → Table → Outcome
 line_of (Lock m) Load t s = lock_load (Lock m) t m s
-line_of (Lock m) NamePending t s = goes_to t (Lock m) Exchange (pending t m s)
+line_of (Lock m) NamePending t s = goes_to t (Lock m) Exchange (with_pending_field t m s)
 line_of (Lock m) p t s = locking_line (Lock m) p t m s
 line_of (TryLock m) Load t s = try_load t m s
-line_of (TryLock m) NamePending t s = goes_to t (TryLock m) Exchange (pending t m s)
+line_of (TryLock m) NamePending t s = goes_to t (TryLock m) Exchange (with_pending_field t m s)
 line_of (TryLock m) CallKernel t s = try_kernel t m s
 line_of (TryLock m) p t s = shared_line (TryLock m) p t m s
 line_of (Unlock m) Load t s = unlock_load t m s

@@ -58,11 +58,8 @@ has_seat k t = if t == 0 then false else nat_lt t (length k.seats)
 
 -- whether a thread of this status has ended
 abbrev pub has_ended : Status → Bool
-has_ended (Ready w) = false
-has_ended (Queued m) = false
-has_ended (Parked c) = false
-has_ended Stopped = false
 has_ended Ended = true
+has_ended _ = false
 
 -- whether t lives: it was added and has not ended
 abbrev pub is_living : Kernel → ℕ → Bool
@@ -70,47 +67,30 @@ is_living k t = if has_seat k t then (if has_ended (seat_at k t).status then fal
 
 -- the mutex on which a thread of this status is queued, 0 where it is on none
 abbrev pub queued_on : Status → ℕ
-queued_on (Ready w) = 0
 queued_on (Queued m) = m
-queued_on (Parked c) = 0
-queued_on Stopped = 0
-queued_on Ended = 0
+queued_on _ = 0
 
 -- whether a thread of this status is parked on a variable
 abbrev pub is_parked : Status → Bool
-is_parked (Ready w) = false
-is_parked (Queued m) = false
 is_parked (Parked c) = true
-is_parked Stopped = false
-is_parked Ended = false
+is_parked _ = false
 
 -- whether a thread of this status was woken to lock its mutex itself
 abbrev pub is_woken_again : Status → Bool
-is_woken_again (Ready WokenFresh) = false
-is_woken_again (Ready WokenOwns) = false
 is_woken_again (Ready WokenAgain) = true
-is_woken_again (Ready WokenExpired) = false
-is_woken_again (Queued m) = false
-is_woken_again (Parked c) = false
-is_woken_again Stopped = false
-is_woken_again Ended = false
+is_woken_again _ = false
 
 -- whether a thread of this status may run
 abbrev pub is_ready : Status → Bool
 is_ready (Ready w) = true
-is_ready (Queued m) = false
-is_ready (Parked c) = false
-is_ready Stopped = false
-is_ready Ended = false
+is_ready _ = false
 
 -- whether a thread of this status waits for nothing, and may not run: it is queued on no mutex, parked on no variable
 -- and of no level
 abbrev pub is_out : Status → Bool
-is_out (Ready w) = false
-is_out (Queued m) = false
-is_out (Parked c) = false
 is_out Stopped = true
 is_out Ended = true
+is_out _ = false
 
 -- the owner that the owner state of m names; 0 where there is no owner state
 abbrev pub state_at : Kernel → ℕ → ℕ
@@ -133,8 +113,8 @@ abbrev pub parked_pairs : List Parking → List (ℕ × ℕ)
 parked_pairs ps = map (λ (p : Parking). (p.thread, p.cond)) ps
 
 -- the parked threads but u
-abbrev pub unparked : List Parking → ℕ → List Parking
-unparked ps u = filter (λ (p : Parking). if p.thread == u then false else true) ps
+abbrev pub parkings_without : List Parking → ℕ → List Parking
+parkings_without ps u = filter (λ (p : Parking). if p.thread == u then false else true) ps
 
 -- whether a thread is parked on c
 abbrev pub has_parked : Kernel → ℕ → Bool
@@ -373,7 +353,7 @@ kernel_after_wait_requeue t c m (Err e) k = k
 
 -- u has left the variable on which it was parked
 abbrev pub without_parking : ℕ → Kernel → Kernel
-without_parking u k = record k { parked = unparked k.parked u }
+without_parking u k = record k { parked = parkings_without k.parked u }
 
 -- u is woken from the variable on which it was parked: it is ready, and joins its level
 unfoldable pub kernel_after_waking : ℕ → Woken → Kernel → Kernel
@@ -456,7 +436,7 @@ kernel_left_as x t k =
     let rest = without k.waiters t in
     with_effective_levels (record (with_status t x (with_state m (if has_waiter rest m then state_at k m else 0) k)) {
       waiters = rest;
-      parked = unparked k.parked t;
+      parked = parkings_without k.parked t;
       levels = levels_without t k.levels;
     })
 

@@ -4,13 +4,13 @@
 -- pthread_mutexattr_setprotocol, pthread_mutexattr_setrobust and pthread_setschedprio).
 -- It knows no words, no kernel and no chain walks. A call has effects, each of which happens at one moment between its
 -- beginning and its answer. Threads, mutexes and variables are numbered from 1; place 0 of each list stands for nobody.
+-- What its state is made of stands in World.antt, and is passed on here.
 -- Each rule says whose it is: a page of POSIX with what it says, or 'this project's choice' where POSIX leaves it open.
-use Rattle.std.specs.Prelude.{ℕ, zero, suc, ◌≡◌, ◌≢◌, ◌≤◌, ◌<◌, ◌+◌, ◌-◌, Bool, true, false, ◌==◌, nat_lt, List, [], ◌∷◌, ◌++◌, length, get_or, set, map, Option, Some, None, is_some, if◌then◌else◌}
+use Rattle.std.specs.Prelude.{ℕ, zero, suc, ◌≡◌, ◌≢◌, ◌≤◌, ◌<◌, ◌+◌, ◌-◌, Bool, true, false, ◌==◌, List, [], ◌∷◌, ◌++◌, length, set, map, Option, Some, None, is_some, if◌then◌else◌}
 use Rattle.std.specs.List.{list_any}
 use Rattle.pif_types.specs.Bounds.{Bounds}
 use Rattle.pif_types.specs.declared.errors.Refusal.{Refusal}
 use Rattle.pif_types.specs.declared.requests.Kind.{Kind}
-use Rattle.pif_types.specs.declared.requests.Kind.TheVariants.{Normal}
 use Rattle.pif_model.specs.declared.lines.Relock.{Relock}
 use Rattle.pif_model.specs.declared.lines.Relock.TheVariants.{Stops, Answers, Counts}
 use Rattle.pif_model.specs.Kinds.{relock_of}
@@ -22,263 +22,12 @@ use Rattle.pif_model.specs.declared.events.Event.TheVariants.{Begin, Go, End, Ti
 use Rattle.pif_model.specs.declared.events.Seen.TheVariants.{Begun, Went, Waits, Answered, Ended, Ticked, Refused}
 use Rattle.pif_model.specs.declared.events.Entry.{Entry}
 use Rattle.pif_model.specs.declared.events.Entry.TheVariants.{Thread as AddThread, Mutex as AddMutex, Cond as AddCond, Step as Happened}
-use Rattle.pif_model.specs.Graph.{is_priority, effective_among, next_waiter, reaches_within, waited_by, without}
-use Rattle.pif_model.specs.declared.lines.Timer.{Timer}
+use Rattle.pif_model.specs.Graph.{is_priority, without}
 use Rattle.pif_model.specs.Refusals.{begin_refused, go_refused, end_refused, tick_refused}
-use Rattle.pif_model.specs.Deadlines.{plain, no_timer, timer_of, ran_out, is_reached, told}
-
--- what a robust mutex protects is in order, may be in disorder since an owner ended, or was given up for good
-pub data Health : Type 0 where
-  Fine Inconsistent Unusable : Health
-
--- how far an open call has come
-pub data Progress : Type 0 where
-  -- it has had no effect yet
-  Fresh : Progress
-  -- its thread is among the waiters of a mutex
-  Waiting : Progress
-  -- its thread waits for good
-  Stuck : Progress
-  -- it owns an Unusable mutex and has to give it up
-  Leaving : Progress
-  -- it has this result
-  Has : ℕ → Progress
-  -- a wait whose thread owns the mutex and holds it once
-  Checked : Progress
-  -- a wait that has joined the variable's blocked threads, whose thread owns the mutex yet. Is it blocked still?
-  Enlisted : Bool → Progress
-  -- a wait that has given the mutex up and is blocked. Was it answered Waits?
-  Blocked : Bool → Progress
-  -- a wait that has given the mutex up and is unblocked: it has to lock the mutex
-  Owing : Progress
-  -- a signal or broadcast that has used the variable, and has to choose whom it wakes
-  Used : Progress
-
--- an open call; its request is a plain one
-pub record Call : Type 0 where
-  pub request : Request
-  pub progress : Progress
-
--- what tells the waits of a thread apart, and who was blocked when its signal or broadcast began
-pub record Memory : Type 0 where
-  -- how many waits it has begun
-  pub waits : ℕ
-  -- who was blocked on the variable when its last signal or broadcast began, each with the number of that wait
-  pub found : List (ℕ × ℕ)
-
--- a thread
-pub record Thread : Type 0 where
-  -- its base priority
-  pub base : ℕ
-  -- it has not ended
-  pub living : Bool
-  pub call : Option Call
-  -- what its last call has of its deadline
-  pub timer : Timer
-  pub memory : Memory
-
--- a mutex
-pub record Mutex : Type 0 where
-  pub kind : Kind
-  pub robust : Bool
-  -- the owner's number, also of an owner that ended; 0 where there is none
-  pub owner : ℕ
-  -- how often the owner holds it
-  pub count : ℕ
-  pub health : Health
-
--- a condition variable
-pub record Variable : Type 0 where
-  -- the mutex to which it is bound
-  pub mutex : ℕ
-  -- how often it was signalled or broadcast
-  pub uses : ℕ
-
--- the state of the POSIX machine
-pub record World : Type 0 where
-  pub threads : List Thread
-  pub mutexes : List Mutex
-  pub variables : List Variable
-  -- pairs of a waiting thread and the mutex for which it waits, in order of arrival
-  pub waiters : List (ℕ × ℕ)
-  -- how often a variable may be signalled or broadcast
-  pub signals : ℕ
-  -- the time that was handed in last, 0 at first
-  pub time : ℕ
-
--- the memory of a thread that has begun no call
-abbrev pub no_memory : Memory
-no_memory = record { waits = 0; found = [] }
-
--- what stands at place 0 of the threads
-abbrev pub nobody : Thread
-nobody = record { base = 0; living = false; call = None; timer = no_timer; memory = no_memory }
-
--- what stands at place 0 of the mutexes
-abbrev pub no_mutex : Mutex
-no_mutex = record { kind = Normal; robust = false; owner = 0; count = 1; health = Fine }
-
--- what stands at place 0 of the variables
-abbrev pub no_variable : Variable
-no_variable = record { mutex = 0; uses = 0 }
-
--- the state in which nothing was added yet, where a variable may be used this often
-abbrev pub empty_world : ℕ → World
-empty_world n = record {
-  threads = nobody ∷ [];
-  mutexes = no_mutex ∷ [];
-  variables = no_variable ∷ [];
-  waiters = [];
-  signals = n;
-  time = 0;
-}
-
-abbrev pub thread_at : World → ℕ → Thread
-thread_at w t = get_or w.threads t nobody
-
-abbrev pub mutex_at : World → ℕ → Mutex
-mutex_at w m = get_or w.mutexes m no_mutex
-
-abbrev pub variable_at : World → ℕ → Variable
-variable_at w c = get_or w.variables c no_variable
-
--- whether t was added
-abbrev pub is_thread : World → ℕ → Bool
-is_thread w t = if t == 0 then false else nat_lt t (length w.threads)
-
--- whether t lives: it was added and has not ended
-abbrev pub is_living : World → ℕ → Bool
-is_living w t = (thread_at w t).living
-
--- whether m was added
-abbrev pub is_mutex : World → ℕ → Bool
-is_mutex w m = if m == 0 then false else nat_lt m (length w.mutexes)
-
--- whether c was added
-abbrev pub is_variable : World → ℕ → Bool
-is_variable w c = if c == 0 then false else nat_lt c (length w.variables)
-
--- t as x
-abbrev pub with_thread : ℕ → Thread → World → World
-with_thread t x w = record w { threads = set w.threads t x }
-
--- m as x
-abbrev pub with_mutex : ℕ → Mutex → World → World
-with_mutex m x w = record w { mutexes = set w.mutexes m x }
-
--- c as x
-abbrev pub with_variable : ℕ → Variable → World → World
-with_variable c x w = record w { variables = set w.variables c x }
-
--- t's call as this makes it
-abbrev pub with_call_by : ℕ → (Option Call → Option Call) → World → World
-with_call_by t f w = with_thread t (record (thread_at w t) { call = f (thread_at w t).call }) w
-
--- an open call that has come this far
-abbrev pub at_progress : Progress → Option Call → Option Call
-at_progress p None = None
-at_progress p (Some c) = Some (record c { progress = p })
-
--- t's call has come this far
-abbrev pub with_progress : ℕ → Progress → World → World
-with_progress t p w = with_call_by t (at_progress p) w
-
--- WAITING AND PRIORITY
-
--- u waits for t: u is among the waiters of a mutex that t owns
-pub record WaitsFor (w : World) (u t : ℕ) : Type 0 where
-  pub mutex : ℕ
-  pub among : list_any (λ p. if p.0 == u then p.1 == mutex else false) w.waiters ≡ true
-  pub owned : (mutex_at w mutex).owner ≡ t
-  pub somebody : t ≢ 0
-
--- the thread for which u waits; 0 where u waits for nobody
-abbrev pub waits_for : World → ℕ → ℕ
-waits_for w u = (mutex_at w (waited_by w.waiters u)).owner
-
--- the effective priority of t: the greatest base priority of t and of all that wait for it through any chain (POSIX,
--- PTHREAD_PRIO_INHERIT; RT-mutex design)
-abbrev pub effective_of : World → ℕ → ℕ
-effective_of w t = effective_among (length w.threads) (waits_for w) (λ u. (thread_at w u).base) t
-
--- the waiter that gets m next: the first in arrival among those of greatest effective priority; 0 where none waits
--- (pthread_mutex_unlock: the scheduling policy determines which thread acquires the mutex; under SCHED_FIFO that is one
--- of greatest priority. Who comes first among equals, by arrival and also after a change of priority, is this project's
--- choice)
-abbrev pub next_of : World → ℕ → ℕ
-next_of w m = next_waiter (effective_of w) w.waiters m
-
--- whether a chain of waiting leads from u to t
-abbrev pub leads_to : World → ℕ → ℕ → Bool
-leads_to w u t = reaches_within (length w.threads) (waits_for w) u t
-
--- whether m is lost: stalled, and its owner has ended (pthread_mutexattr_setrobust, PTHREAD_MUTEX_STALLED: no special
--- action is taken if the owner ends)
-abbrev pub is_lost : World → ℕ → Bool
-is_lost w m =
-    if (mutex_at w m).robust then false
-    else (if (mutex_at w m).owner == 0 then false
-    else (if is_living w (mutex_at w m).owner then false else true))
-
--- whether a call that has come this far waits for good, or is blocked and was answered Waits
-abbrev pub is_idle : Progress → Bool
-is_idle Stuck = true
-is_idle (Blocked noted) = noted
-is_idle _ = false
-
--- whether an open call is so
-abbrev pub sleeps : Option Call → Bool
-sleeps None = false
-sleeps (Some c) = is_idle c.progress
-
--- whether t rests: it is among the waiters of a mutex, its call waits for good, or it is blocked and was answered Waits
-abbrev pub rests : World → ℕ → Bool
-rests w t = if sleeps (thread_at w t).call then true else list_any (λ p. p.0 == t) w.waiters
-
--- BLOCKED THREADS
-
--- whether a call that has come this far is blocked
-abbrev pub is_blocked : Progress → Bool
-is_blocked (Enlisted still) = still
-is_blocked (Blocked noted) = true
-is_blocked _ = false
-
--- the variable that a request names; 0 where it names none
-abbrev pub variable_of : Request → ℕ
-variable_of (Lock m) = 0
-variable_of (TryLock m) = 0
-variable_of (Unlock m) = 0
-variable_of (Consistent m) = 0
-variable_of (Wait c m) = c
-variable_of (Signal c) = c
-variable_of (Broadcast c) = c
-variable_of (SetPrio u p) = 0
-variable_of (TimedLock m d) = 0
-variable_of (TimedWait c m d) = c
-
--- whether an open call is blocked on c
-abbrev pub is_call_blocked : ℕ → Option Call → Bool
-is_call_blocked c None = false
-is_call_blocked c (Some x) = if is_blocked x.progress then variable_of x.request == c else false
-
--- whether u is blocked on c
-abbrev pub is_blocked_on : World → ℕ → ℕ → Bool
-is_blocked_on w c u = is_call_blocked c (thread_at w u).call
-
--- the threads below n that are blocked on c, each with the number of its wait
-unfoldable pub blocked_below : World → ℕ → ℕ → List (ℕ × ℕ)
-blocked_below w c zero = []
-blocked_below w c (suc n) =
-    if is_blocked_on w c n then (n, (thread_at w n).memory.waits) ∷ blocked_below w c n else blocked_below w c n
-
--- whether t's signal or broadcast found u blocked when it began, by the wait that is u's last
-abbrev pub is_found : World → ℕ → ℕ → Bool
-is_found w t u =
-    list_any (λ p. if p.0 == u then p.1 == (thread_at w u).memory.waits else false) (thread_at w t).memory.found
-
--- whether t's signal or broadcast of c found u blocked when it began, and u still is, by the same wait
-abbrev pub is_still_blocked : World → ℕ → ℕ → ℕ → Bool
-is_still_blocked w t c u = if is_blocked_on w c u then is_found w t u else false
+use Rattle.pif_model.specs.Deadlines.{plain, no_timer, timer_of, ran_out, is_reached, told_result}
+pub use Rattle.pif_model.specs.World.{Health, Progress, Call, Memory, Thread, Mutex, Variable, World, no_memory, nobody, no_mutex, no_variable, empty_world, thread_at, mutex_at, variable_at, is_thread, is_living, is_mutex, is_variable, with_thread, with_mutex, with_variable, with_call_by, at_progress, with_progress, WaitsFor, waits_for, effective_of, next_of, leads_to, is_lost, is_idle, sleeps, rests, is_blocked, variable_of, is_call_blocked, is_blocked_on, is_found, is_still_blocked}
+use Rattle.pif_model.specs.World.Health.{Fine, Inconsistent, Unusable}
+use Rattle.pif_model.specs.World.Progress.{Fresh, Waiting, Stuck, Leaving, Has, Checked, Enlisted, Blocked, Owing, Used}
 
 -- THE PREMISES AND RESULTS OF RULES
 
@@ -329,15 +78,28 @@ IsHeldOnce w m = (mutex_at w m).count ≡ 1
 abbrev pub IsHeldMore : World → ℕ → Type 0
 IsHeldMore w m = 1 < (mutex_at w m).count
 
--- m is stalled, or robust and owned by t, or robust and not owned by t
+-- m is held less often than it may be, or as often
+abbrev pub MayBeHeldMore : World → ℕ → Type 0
+MayBeHeldMore w m = (mutex_at w m).count < most_holds
+
+abbrev pub IsHeldMost : World → ℕ → Type 0
+IsHeldMost w m = (mutex_at w m).count ≡ most_holds
+
+-- m is stalled, or robust; robust and owned by t, or not owned by t; and t owns no robust mutex
 abbrev pub IsStalled : World → ℕ → Type 0
 IsStalled w m = (mutex_at w m).robust ≡ false
 
+abbrev pub IsNotStalled : World → ℕ → Type 0
+IsNotStalled w m = (mutex_at w m).robust ≡ true
+
 abbrev pub OwnsRobust : World → ℕ → ℕ → Type 0
-OwnsRobust w t m = ((mutex_at w m).robust ≡ true) × IsOwner w t m
+OwnsRobust w t m = IsNotStalled w m × IsOwner w t m
 
 abbrev pub OwnsNotRobust : World → ℕ → ℕ → Type 0
-OwnsNotRobust w t m = ((mutex_at w m).robust ≡ true) × IsNotOwner w t m
+OwnsNotRobust w t m = IsNotStalled w m × IsNotOwner w t m
+
+abbrev pub OwnsNoneRobust : World → ℕ → Type 0
+OwnsNoneRobust w t = (m : ℕ) → IsOwner w t m → IsStalled w m
 
 -- m is Inconsistent, or Fine or Unusable
 abbrev pub IsInconsistent : World → ℕ → Type 0
@@ -363,6 +125,45 @@ IsBoundTo w c m = (variable_at w c).mutex ≡ m
 
 abbrev pub IsBoundElsewhere : World → ℕ → ℕ → Type 0
 IsBoundElsewhere w c m = (variable_at w c).mutex ≢ m
+
+-- p is a priority, or isn't
+abbrev pub IsPriority : ℕ → Type 0
+IsPriority p = is_priority p ≡ true
+
+abbrev pub IsNoPriority : ℕ → Type 0
+IsNoPriority p = is_priority p ≡ false
+
+-- t lives, or doesn't
+abbrev pub Lives : World → ℕ → Type 0
+Lives w t = is_living w t ≡ true
+
+abbrev pub LivesNot : World → ℕ → Type 0
+LivesNot w t = is_living w t ≡ false
+
+-- t rests, or doesn't
+abbrev pub IsResting : World → ℕ → Type 0
+IsResting w t = rests w t ≡ true
+
+abbrev pub IsNotResting : World → ℕ → Type 0
+IsNotResting w t = rests w t ≡ false
+
+-- u is blocked on c, and so are all of these threads
+abbrev pub IsBlocked : World → ℕ → ℕ → Type 0
+IsBlocked w c u = is_blocked_on w c u ≡ true
+
+abbrev pub AreBlocked : World → ℕ → List ℕ → Type 0
+AreBlocked w c us = (u : ℕ) → list_any (λ x. x == u) us ≡ true → IsBlocked w c u
+
+-- of those that were blocked on c when t's signal or broadcast of c began, and still are by the same wait: none has a
+-- greater effective priority than u; none is left; all are among these threads
+abbrev pub NoneFoundIsAbove : World → (t c u : ℕ) → Type 0
+NoneFoundIsAbove w t c u = (b : ℕ) → is_still_blocked w t c b ≡ true → effective_of w b ≤ effective_of w u
+
+abbrev pub NoneFoundIsLeft : World → (t c : ℕ) → Type 0
+NoneFoundIsLeft w t c = (b : ℕ) → is_still_blocked w t c b ≡ false
+
+abbrev pub AllFoundAreAmong : World → (t c : ℕ) → List ℕ → Type 0
+AllFoundAreAmong w t c us = (b : ℕ) → is_still_blocked w t c b ≡ true → list_any (λ x. x == b) us ≡ true
 
 -- from w to v t's call has come this far, and nothing else has changed
 abbrev pub Comes : ℕ → Progress → World → World → Type 0
@@ -393,7 +194,7 @@ on_taking Fine = Has 0
 on_taking Inconsistent = Has EOWNERDEAD
 on_taking Unusable = Leaving
 
--- t takes m: it owns m with count 1
+-- t takes m: it owns m with count 1, also after an owner that held it more often when it ended (this project's choice)
 abbrev pub taken : ℕ → ℕ → World → World
 taken t m w =
     with_progress t (on_taking (mutex_at w m).health) (with_mutex m (record (mutex_at w m) { owner = t; count = 1 }) w)
@@ -406,13 +207,20 @@ with_health m x w = with_mutex m (record (mutex_at w m) { health = x }) w
 abbrev pub with_hold_count : ℕ → ℕ → World → World
 with_hold_count m n w = with_mutex m (record (mutex_at w m) { count = n }) w
 
+-- m is held once more, or once less, by its owner
+abbrev pub with_one_hold_more : ℕ → World → World
+with_one_hold_more m w = with_hold_count m ((mutex_at w m).count + 1) w
+
+abbrev pub with_one_hold_less : ℕ → World → World
+with_one_hold_less m w = with_hold_count m ((mutex_at w m).count - 1) w
+
 -- the owner t of a RECURSIVE mutex m locks it again, by lock or trylock
 pub data LocksAgain (t m : ℕ) (w v : World) : Type 0 where
   -- it holds m once more (pthread_mutex_lock: the lock count is incremented by one)
-  rises : (mutex_at w m).count < most_holds → HasResult t 0 (with_hold_count m ((mutex_at w m).count + 1) w) v → LocksAgain t m w v
+  rises : MayBeHeldMore w m → HasResult t 0 (with_one_hold_more m w) v → LocksAgain t m w v
   -- it holds m as often as it may: EAGAIN (pthread_mutex_lock: the maximum number of recursive locks has been exceeded;
   -- that it is 255 is this project's choice)
-  at_limit : (mutex_at w m).count ≡ most_holds → HasResult t EAGAIN w v → LocksAgain t m w v
+  at_limit : IsHeldMost w m → HasResult t EAGAIN w v → LocksAgain t m w v
 
 -- the mutex that a request names; 0 where it names none
 abbrev pub named_by : Request → ℕ
@@ -421,11 +229,9 @@ named_by (TryLock m) = m
 named_by (Unlock m) = m
 named_by (Consistent m) = m
 named_by (Wait c m) = m
-named_by (Signal c) = 0
-named_by (Broadcast c) = 0
-named_by (SetPrio u p) = 0
 named_by (TimedLock m d) = m
 named_by (TimedWait c m d) = m
+named_by _ = 0
 
 -- whether a request signals or broadcasts a variable
 abbrev pub is_use : Request → Bool
@@ -473,7 +279,7 @@ pub data Unlocks (t m : ℕ) (w v : World) : Type 0 where
   not_owner : IsNotOwner w t m → HasResult t EPERM w v → Unlocks t m w v
   -- the owner holds it more than once: it holds it once less, and the result is 0 (pthread_mutex_lock: each time a
   -- RECURSIVE mutex is unlocked the lock count is decremented by one)
-  falls : IsOwner w t m → IsHeldMore w m → HasResult t 0 (with_hold_count m ((mutex_at w m).count - 1) w) v → Unlocks t m w v
+  falls : IsOwner w t m → IsHeldMore w m → HasResult t 0 (with_one_hold_less m w) v → Unlocks t m w v
   -- the owner, who holds it once, gives it up Inconsistent: it becomes Unusable, and the unlock goes on from there
   -- (pthread_mutex_consistent: unlocked without having been made consistent it is permanently unusable)
   becomes_unusable : IsOwner w t m → IsHeldOnce w m → IsInconsistent w m
@@ -501,13 +307,13 @@ with_base t p w = with_thread t (record (thread_at w t) { base = p }) w
 pub data SetsPriority (t u p : ℕ) (w v : World) : Type 0 where
   -- p is no priority: EINVAL (pthread_setschedprio: invalid for the scheduling policy of the thread, here SCHED_FIFO's
   -- 1 to 99)
-  no_priority : is_priority p ≡ false → HasResult t EINVAL w v → SetsPriority t u p w v
+  no_priority : IsNoPriority p → HasResult t EINVAL w v → SetsPriority t u p w v
   -- u is not living: ESRCH (pthread_setschedprio recommends it for an ID after the end of its thread's lifetime; that
   -- it comes behind EINVAL is this project's choice)
-  not_living : is_priority p ≡ true → is_living w u ≡ false → HasResult t ESRCH w v → SetsPriority t u p w v
+  not_living : IsPriority p → LivesNot w u → HasResult t ESRCH w v → SetsPriority t u p w v
   -- u's base priority is p; who waits for what, and since when, stays (pthread_setschedprio; the last is this project's
   -- choice)
-  changed : is_priority p ≡ true → is_living w u ≡ true → HasResult t 0 (with_base u p w) v → SetsPriority t u p w v
+  changed : IsPriority p → Lives w u → HasResult t 0 (with_base u p w) v → SetsPriority t u p w v
 
 -- pthread_cond_wait by t on c with m, where no effect has happened yet
 pub data ChecksWait (t c m : ℕ) (w v : World) : Type 0 where
@@ -583,16 +389,15 @@ pub data Chooses (t : ℕ) (q : Request) (w v : World) : Type 0 where
   -- a signal wakes one thread that is blocked (POSIX allows for more; that it is just one, and one of greatest
   -- effective priority, is this project's choice), where none of those that were blocked when the signal began, and
   -- still are by the same wait, has a greater effective priority
-  one : (c u : ℕ) → q ≡ Signal c → is_blocked_on w c u ≡ true
-      → ((b : ℕ) → is_still_blocked w t c b ≡ true → effective_of w b ≤ effective_of w u)
+  one : (c u : ℕ) → q ≡ Signal c → IsBlocked w c u → NoneFoundIsAbove w t c u
       → v ≡ with_call_by u after_unblocking (with_progress t (Has 0) w) → Chooses t q w v
-  -- or nobody, where none of those is left
-  no_one : (c : ℕ) → q ≡ Signal c → ((b : ℕ) → is_still_blocked w t c b ≡ false) → HasResult t 0 w v → Chooses t q w v
+  -- or nobody, if none of those is left (pthread_cond_signal: no effect if no threads are blocked; that a thread which
+  -- blocked later need not be woken is this project's choice)
+  no_one : (c : ℕ) → q ≡ Signal c → NoneFoundIsLeft w t c → HasResult t 0 w v → Chooses t q w v
   -- a broadcast wakes some threads that are blocked, among which are all that were blocked when the broadcast began and
-  -- still are by the same wait
-  all : (c : ℕ) (us : List ℕ) → q ≡ Broadcast c
-      → ((u : ℕ) → list_any (λ x. x == u) us ≡ true → is_blocked_on w c u ≡ true)
-      → ((b : ℕ) → is_still_blocked w t c b ≡ true → list_any (λ x. x == b) us ≡ true)
+  -- still are by the same wait (pthread_cond_broadcast: it unblocks all threads that are blocked; that it may also wake
+  -- threads that blocked later is this project's choice, as spurious wakeups may occur)
+  all : (c : ℕ) (us : List ℕ) → q ≡ Broadcast c → AreBlocked w c us → AllFoundAreAmong w t c us
       → v ≡ all_unblocked us (with_progress t (Has 0) w) → Chooses t q w v
 
 -- one effect of t's open call
@@ -613,7 +418,7 @@ pub data Effect (t : ℕ) (w v : World) : Type 0 where
   use_variable : (q : Request) → IsCalling w t q → is_use q ≡ true → Uses t (variable_of q) w v → Effect t w v
   choose : (q : Request) → HasCome w t q Used → Chooses t q w v → Effect t w v
   -- a call that took an Unusable mutex gives it up again: ENOTRECOVERABLE (pthread_mutex_lock: the state is not
-  -- recoverable)
+  -- recoverable; that the thread owns the mutex until then is this project's choice)
   leave : (q : Request) → HasCome w t q Leaving
       → Passes (named_by q) (with_progress t (Has ENOTRECOVERABLE) w) v → Effect t w v
 
@@ -622,14 +427,19 @@ pub data Effect (t : ℕ) (w v : World) : Type 0 where
 pub data Effects (t : ℕ) (first : World) : World → World → Type 0 where
   none : {w v : World} → v ≡ w → Effects t first w v
   then : {w u v : World} → Effect t w u → Effects t first u v → Effects t first w v
-  -- b, which was blocked in the first state and owes its lock now, locks its mutex
-  owed : {w u v : World} (b c m : ℕ) → is_blocked_on first c b ≡ true → HasCome w b (Wait c m) Owing → Locks b m w u
+  -- b, which was blocked in the first state and owes its lock now, locks its mutex (pthread_cond_signal: an unblocked
+  -- thread contends for the mutex as if it had called pthread_mutex_lock; that it may do so at the Go that unblocks it
+  -- is this project's choice)
+  owed : {w u v : World} (b c m : ℕ) → IsBlocked first c b → HasCome w b (Wait c m) Owing → Locks b m w u
       → Effects t first u v → Effects t first w v
 
 -- DEADLINES
 
--- whether a call that has come this far has a deadline that counts, where it has one: a lock while its thread is among
--- the waiters or waits for good, a wait while it is blocked, from when it was answered Waits on
+-- whether a call that has come this far has a deadline that counts, if it has one. A lock: while its thread is among
+-- the waiters or waits for good (pthread_mutex_timedlock: the wait for another thread's unlock ends, and there is no
+-- timeout if the mutex can be locked at once; that waiting for good ends too is this project's choice). A wait: while
+-- it is blocked, from when it was answered Waits on (pthread_cond_timedwait: the time passes before the variable is
+-- signaled or broadcast; that it counts only once its thread was told to wait is this project's choice)
 abbrev pub counts_now : Request → Progress → Bool
 counts_now (Lock m) Waiting = true
 counts_now (Lock m) Stuck = true
@@ -657,24 +467,26 @@ pub data Expires (t : ℕ) (w v : World) : Type 0 where
   wait : (c m : ℕ) (p : Progress) → HasCome w t (Wait c m) p → Comes t Owing (after_timeout t w) v → Expires t w v
 
 -- what t's open call does at a Go, from w to u: one that is due expires, and does nothing else; another has some
--- effects in order, or none
+-- effects in order, or none (POSIX gives a call no steps: that an expiry comes at the next Go of its own thread, and
+-- alone, is this project's choice)
 pub data Moves (t : ℕ) (w u : World) : Type 0 where
   expires : is_due w t ≡ true → Expires t w u → Moves t w u
   acts : is_due w t ≡ false → Effects t w w u → Moves t w u
 
+-- the threads below n that are blocked on c, each with the number of its wait
+unfoldable pub blocked_below : World → ℕ → ℕ → List (ℕ × ℕ)
+blocked_below w c zero = []
+blocked_below w c (suc n) =
+    if is_blocked_on w c n then (n, (thread_at w n).memory.waits) ∷ blocked_below w c n else blocked_below w c n
+
 -- what is remembered of a thread once its call begins: a wait has the next number; a signal or broadcast finds those
 -- that are blocked on its variable
 abbrev pub begun_memory : World → Request → Memory → Memory
-begun_memory w (Lock m) x = x
-begun_memory w (TryLock m) x = x
-begun_memory w (Unlock m) x = x
-begun_memory w (Consistent m) x = x
 begun_memory w (Wait c m) x = record x { waits = x.waits + 1 }
 begun_memory w (Signal c) x = record x { found = blocked_below w c (length w.threads) }
 begun_memory w (Broadcast c) x = record x { found = blocked_below w c (length w.threads) }
-begun_memory w (SetPrio u p) x = x
-begun_memory w (TimedLock m d) x = x
 begun_memory w (TimedWait c m d) x = record x { waits = x.waits + 1 }
+begun_memory w _ x = x
 
 -- a thread that begins this call: a timed one is its plain request, with a timer
 abbrev pub begun_thread : World → Request → Thread → Thread
@@ -707,28 +519,27 @@ on_death Fine = Inconsistent
 on_death Inconsistent = Inconsistent
 on_death Unusable = Unusable
 
+-- m once its owner has ended
+abbrev pub after_owner_death : ℕ → World → World
+after_owner_death m w = with_health m (on_death (mutex_at w m).health) w
+
 -- the robust mutexes that t owned pass on, one after another in any order, until it owns none (POSIX,
 -- pthread_mutexattr_setrobust; futex(2), robust futexes). A stalled one keeps its owner
 pub data Releases (t : ℕ) : World → World → Type 0 where
-  none_left : {w v : World} → ((m : ℕ) → (mutex_at w m).owner ≡ t → (mutex_at w m).robust ≡ false) → v ≡ w
-      → Releases t w v
-  one_more : {w u v : World} (m : ℕ) → (mutex_at w m).owner ≡ t → (mutex_at w m).robust ≡ true
-      → Passes m (with_health m (on_death (mutex_at w m).health) w) u → Releases t u v → Releases t w v
+  none_left : {w v : World} → OwnsNoneRobust w t → v ≡ w → Releases t w v
+  one_more : {w u v : World} (m : ℕ) → IsOwner w t m → IsNotStalled w m → Passes m (after_owner_death m w) u
+      → Releases t u v → Releases t w v
 
 -- ONE ENTRY OF A HISTORY
 
 -- whether the mutex and the variable that a request names are known, as far as it names any
 abbrev pub names_known : (ℕ → Bool) → (ℕ → Bool) → Request → Bool
-names_known mutex variable (Lock m) = mutex m
-names_known mutex variable (TryLock m) = mutex m
-names_known mutex variable (Unlock m) = mutex m
-names_known mutex variable (Consistent m) = mutex m
 names_known mutex variable (Wait c m) = if variable c then mutex m else false
+names_known mutex variable (TimedWait c m d) = if variable c then mutex m else false
 names_known mutex variable (Signal c) = variable c
 names_known mutex variable (Broadcast c) = variable c
 names_known mutex variable (SetPrio u p) = true
-names_known mutex variable (TimedLock m d) = mutex m
-names_known mutex variable (TimedWait c m d) = if variable c then mutex m else false
+names_known mutex variable q = mutex (named_by q)
 
 -- why an event is refused, if it is
 abbrev pub refusal_of : World → Event → Option Refusal
@@ -739,51 +550,70 @@ refusal_of w (Go t) = go_refused (is_thread w t) (is_living w t) (is_some (threa
 refusal_of w (End t) = end_refused (is_thread w t) (is_living w t)
 refusal_of w (Tick n) = tick_refused w.time n
 
+-- an event is refused for this reason, or isn't refused
+abbrev pub IsRefused : World → Event → Refusal → Type 0
+IsRefused w x r = refusal_of w x ≡ Some r
+
+abbrev pub IsAllowed : World → Event → Type 0
+IsAllowed w x = refusal_of w x ≡ None
+
 -- a Go of t from w to u: it is not refused, and t's open call expires or has some effects
 pub record Goes (t : ℕ) (w u : World) : Type 0 where
-  pub allowed : refusal_of w (Go t) ≡ None
+  pub allowed : IsAllowed w (Go t)
   pub moves : Moves t w u
 
--- t ends: it leaves all, and then its robust mutexes pass on
+-- t ends: it leaves all, and then its robust mutexes pass on (pthread_mutexattr_setrobust, PTHREAD_MUTEX_ROBUST: the
+-- next owner is notified that the owner ended; that leaving comes first, and that all of it happens at one moment, is
+-- this project's choice)
 pub record Ends (t : ℕ) (w v : World) : Type 0 where
-  pub allowed : refusal_of w (End t) ≡ None
+  pub allowed : IsAllowed w (End t)
   pub releases : Releases t (after_end t w) v
 
 -- a new thread of this base priority, with no call open
 abbrev pub new_thread : ℕ → Thread
 new_thread p = record { base = p; living = true; call = None; timer = no_timer; memory = no_memory }
 
--- one entry of a history, from w to v, under the limits l (that threads, mutexes and variables are numbered and limited,
--- and which events are refused, is this project's choice)
+-- a new mutex that nobody owns, and a new variable
+abbrev pub new_mutex : Kind → Bool → Mutex
+new_mutex k r = record { kind = k; robust = r; owner = 0; count = 1; health = Fine }
+
+abbrev pub new_variable : ℕ → Variable
+new_variable m = record { mutex = m; uses = 0 }
+
+-- one entry of a history, from w to v, under the limits l. (POSIX speaks of calls alone. That threads, mutexes and
+-- variables are numbered and limited, that a call goes on by events of its thread, what each event is answered, and
+-- which events are refused, is this project's choice; what a call does in between is told above)
 pub data Step (l : Bounds) (w : World) (e : Entry) (v : World) : Type 0 where
   -- the next number, within the limit, and a priority within 1 to 99
   thread_added : (t p : ℕ) → e ≡ AddThread t p → t ≡ length w.threads → t ≤ l.threads → 1 ≤ p → p ≤ 99
       → v ≡ record w { threads = w.threads ++ new_thread p ∷ [] } → Step l w e v
   -- the next number, within the limit
   mutex_added : (m : ℕ) (k : Kind) (r : Bool) → e ≡ AddMutex m k r → m ≡ length w.mutexes → m ≤ l.mutexes
-      → v ≡ record w { mutexes = w.mutexes ++ record { kind = k; robust = r; owner = 0; count = 1; health = Fine } ∷ [] } → Step l w e v
+      → v ≡ record w { mutexes = w.mutexes ++ new_mutex k r ∷ [] } → Step l w e v
   -- the next number, within the limit, bound to a mutex that exists
   cond_added : (c m : ℕ) → e ≡ AddCond c m → is_mutex w m ≡ true → c ≡ length w.variables → c ≤ l.conds
-      → v ≡ record w { variables = w.variables ++ record { mutex = m; uses = 0 } ∷ [] } → Step l w e v
+      → v ≡ record w { variables = w.variables ++ new_variable m ∷ [] } → Step l w e v
   -- a refused event changes nothing
-  refused : (x : Event) (r : Refusal) → e ≡ Happened x (Refused r) → refusal_of w x ≡ Some r → v ≡ w → Step l w e v
+  refused : (x : Event) (r : Refusal) → e ≡ Happened x (Refused r) → IsRefused w x r → v ≡ w → Step l w e v
   -- the call is open
-  begun : (t : ℕ) (q : Request) → e ≡ Happened (Begin t q) Begun → refusal_of w (Begin t q) ≡ None
+  begun : (t : ℕ) (q : Request) → e ≡ Happened (Begin t q) Begun → IsAllowed w (Begin t q)
       → v ≡ with_thread t (begun_thread w q (thread_at w t)) w → Step l w e v
-  -- the call goes on, and its thread doesn't rest
-  went : (t : ℕ) → e ≡ Happened (Go t) Went → Goes t w v → rests v t ≡ false → Step l w e v
-  -- its thread rests
-  waits : (t : ℕ) (u : World) → e ≡ Happened (Go t) Waits → Goes t w u → v ≡ with_call_by t after_waits u → rests v t ≡ true
-      → Step l w e v
-  -- the call has this result and closes, and its thread doesn't rest; a wait that ran out of time is answered ETIMEDOUT
-  -- in place of 0
+  -- the call goes on, and its thread doesn't rest (this project's choice: POSIX gives a call no steps)
+  went : (t : ℕ) → e ≡ Happened (Go t) Went → Goes t w v → IsNotResting v t → Step l w e v
+  -- its thread rests: it waits for a mutex or a variable, or for good (pthread_mutex_lock and pthread_cond_wait: the
+  -- calling thread blocks; that it is told so is this project's choice)
+  waits : (t : ℕ) (u : World) → e ≡ Happened (Go t) Waits → Goes t w u → v ≡ with_call_by t after_waits u
+      → IsResting v t → Step l w e v
+  -- the call has this result and closes, and its thread doesn't rest (each page: it returns zero, or an error number).
+  -- A wait that ran out of time is answered ETIMEDOUT in place of 0 (pthread_cond_timedwait: an error is returned if
+  -- the time passes; that other errors come before it is this project's choice)
   answered : (t a : ℕ) (q : Request) (u : World)
-      → e ≡ Happened (Go t) (Answered (told q (thread_at w t).timer.expired a)) → Goes t w u → HasCome u t q (Has a)
-      → v ≡ with_call_by t without_call u → rests v t ≡ false → Step l w e v
+      → e ≡ Happened (Go t) (Answered (told_result q (thread_at w t).timer.expired a)) → Goes t w u → HasCome u t q (Has a)
+      → v ≡ with_call_by t without_call u → IsNotResting v t → Step l w e v
   -- its thread has ended
   ended : (t : ℕ) → e ≡ Happened (End t) Ended → Ends t w v → Step l w e v
   -- the time is the one that was handed in
-  ticked : (n : ℕ) → e ≡ Happened (Tick n) Ticked → refusal_of w (Tick n) ≡ None → v ≡ record w { time = n }
+  ticked : (n : ℕ) → e ≡ Happened (Tick n) Ticked → IsAllowed w (Tick n) → v ≡ record w { time = n }
       → Step l w e v
 
 -- A run: the entries of a history, newest first, the states before each of them, newest first, and the last state.

@@ -15,13 +15,13 @@ use Rattle.pif_model.specs.declared.lines.Purpose.TheVariants.{ToUnlock, ToPark,
 use Rattle.pif_model.specs.declared.lines.WakeStep.{WakeStep}
 use Rattle.pif_model.specs.declared.lines.WakeStep.TheVariants.{ReadUses, CountUse, Requeue, ReadAgain}
 use Rattle.pif_model.specs.declared.lines.Status.{Status}
-use Rattle.pif_model.specs.declared.lines.Status.TheVariants.{Ready, Queued, Parked, Stopped, Ended}
-use Rattle.pif_model.specs.declared.lines.Woken.TheVariants.{Fresh as WokenFresh, Owns as WokenOwns, Again as WokenAgain, Expired as WokenExpired}
+use Rattle.pif_model.specs.declared.lines.Status.TheVariants.{Ready, Queued, Parked}
+use Rattle.pif_model.specs.declared.lines.Woken.TheVariants.{Again as WokenAgain}
 use Rattle.pif_model.specs.Word.{word_at, health_word_at}
 use Rattle.pif_model.specs.PiKernel.{seat_at, is_parked, is_living}
 use Rattle.pif_model.specs.Posix.{Health, Progress, Call, Memory, Thread, Mutex, Variable, World, no_memory, named_by, variable_of, is_call_blocked, on_taking, on_release}
-use Rattle.pif_model.specs.Posix.Health.{Fine, Inconsistent, Unusable}
-use Rattle.pif_model.specs.Posix.Progress.{Fresh, Waiting, Stuck, Leaving, Has, Checked, Enlisted, Blocked, Owing, Used}
+use Rattle.pif_model.specs.World.Health.{Fine, Inconsistent, Unusable}
+use Rattle.pif_model.specs.World.Progress.{Fresh, Waiting, Stuck, Leaving, Has, Checked, Enlisted, Blocked, Owing, Used}
 use Rattle.pif_model.specs.Table.{Table, bound_to, uses_of, status_at, line_at, timer_at, library_at}
 
 -- THE PROJECTION: the state of the POSIX machine that a table shows
@@ -51,12 +51,9 @@ before_lock _ = Fresh
 abbrev pub progress_parked : Status → Health → Progress
 progress_parked (Parked c) h = Blocked true
 progress_parked (Queued m) h = Waiting
-progress_parked (Ready WokenFresh) h = on_taking h
-progress_parked (Ready WokenOwns) h = on_taking h
 progress_parked (Ready WokenAgain) h = Owing
-progress_parked (Ready WokenExpired) h = on_taking h
-progress_parked Stopped h = Stuck
-progress_parked Ended h = Stuck
+progress_parked (Ready w) h = on_taking h
+progress_parked _ h = Stuck
 
 -- how far a call has come that takes its mutex over, by the mutex's health
 abbrev pub progress_taking : TakeStep → Health → Progress
@@ -86,9 +83,7 @@ progress_at q Exchange x h n = before_lock q
 progress_at q CallKernel x h n = before_lock q
 progress_at q StayQueued (Queued m) h n = Waiting
 progress_at q StayQueued (Ready w) h n = on_taking h
-progress_at q StayQueued (Parked c) h n = Stuck
-progress_at q StayQueued Stopped h n = Stuck
-progress_at q StayQueued Ended h n = Stuck
+progress_at q StayQueued _ h n = Stuck
 progress_at q Stop x h n = before_lock q
 progress_at q StayStopped x h n = Stuck
 progress_at q (Take y) x h n = progress_taking y h
@@ -158,8 +153,8 @@ world_of s x = record {
 -- WHAT JOINS A SHADOW TO ITS TABLE
 
 -- whether the signal or broadcast of t found u blocked when it began, by the wait that is u's last
-abbrev pub remembered : Shadow → ℕ → ℕ → Bool
-remembered x t u =
+abbrev pub is_remembered : Shadow → ℕ → ℕ → Bool
+is_remembered x t u =
     list_any (λ p. if p.0 == u then p.1 == (memory_at x u).waits else false) (memory_at x t).found
 
 -- whether this is a wait
@@ -187,7 +182,7 @@ pub record Agrees (s : Table) (x : Shadow) : Type 0 where
   pub past : (t u n : ℕ) → list_any (λ p. if p.0 == u then p.1 == n else false) (memory_at x t).found ≡ true
       → n ≤ (memory_at x u).waits
   -- who was found blocked had joined the blocked threads
-  pub joined : (t u : ℕ) → remembered x t u ≡ true → may_enlist (line_at s u) ≡ false
+  pub joined : (t u : ℕ) → is_remembered x t u ≡ true → may_enlist (line_at s u) ≡ false
   -- whom a signal or broadcast that has used its variable found blocked, and who still is by the same wait, is parked
-  pub parked : (t u c : ℕ) → chooses_on (line_at s t) ≡ c → c ≢ 0 → remembered x t u ≡ true
+  pub parked : (t u c : ℕ) → chooses_on (line_at s t) ≡ c → c ≢ 0 → is_remembered x t u ≡ true
       → is_call_blocked c (call_shown s u) ≡ true → is_parked (status_at s u) ≡ true

@@ -8,7 +8,7 @@ use Rattle.pif_types.specs.declared.requests.Kind.TheVariants.{Normal}
 use Rattle.pif_model.specs.declared.lines.Relock.TheVariants.{Stops, Counts}
 use Rattle.pif_model.specs.Kinds.{relock_of}
 use Rattle.pif_types.specs.declared.requests.Request.{Request}
-use Rattle.pif_types.specs.declared.requests.Request.TheVariants.{Lock, TryLock, Unlock, Consistent, Wait, Signal, Broadcast, SetPrio, TimedLock, TimedWait}
+use Rattle.pif_types.specs.declared.requests.Request.TheVariants.{Lock, TryLock, Unlock, Consistent, Wait, Signal, Broadcast, SetPrio}
 use Rattle.pif_model.specs.NamedNumbers.{most_holds}
 use Rattle.pif_model.specs.declared.lines.Line.{Line}
 use Rattle.pif_model.specs.declared.lines.Line.TheVariants.{Idle, At}
@@ -248,15 +248,8 @@ belongs _ _ = false
 -- the mutex for which a call of this request may wait; 0 where it waits for none
 abbrev pub waited_in : Request → ℕ
 waited_in (Lock m) = m
-waited_in (TryLock m) = 0
-waited_in (Unlock m) = 0
-waited_in (Consistent m) = 0
 waited_in (Wait c m) = m
-waited_in (Signal c) = 0
-waited_in (Broadcast c) = 0
-waited_in (SetPrio u p) = 0
-waited_in (TimedLock m d) = 0
-waited_in (TimedWait c m d) = 0
+waited_in _ = 0
 
 -- what an open call of t at a place knows: the mutex and the variable that it names exist, the place is one of the
 -- request's, and what the call rests on there holds

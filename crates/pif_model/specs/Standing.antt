@@ -9,9 +9,9 @@ use Rattle.pif_model.specs.Graph.{has_waiter, waiting_order, IsEffective}
 use Rattle.pif_model.specs.Word.{Word, free_word}
 use Rattle.pif_model.specs.Posix.{Call, World, WaitsFor, IsRun, thread_at, mutex_at, variable_at, is_thread, is_blocked_on, rests, effective_of}
 use Rattle.pif_model.specs.Posix.{is_living as lives}
-use Rattle.pif_model.specs.Posix.Health.{Fine, Inconsistent, Unusable}
-use Rattle.pif_model.specs.Posix.Progress.{Stuck}
-use Rattle.pif_model.specs.Deadlines.{timed}
+use Rattle.pif_model.specs.World.Health.{Fine, Inconsistent, Unusable}
+use Rattle.pif_model.specs.World.Progress.{Stuck}
+use Rattle.pif_model.specs.Deadlines.{with_deadline_if_any}
 use Rattle.pif_model.specs.Table.{Table}
 use Rattle.pif_model.specs.Projection.{Shadow, world_of, Agrees}
 use Rattle.pif_model.specs.Soundness.{IsSound}
@@ -77,7 +77,7 @@ IsDoing w t Ended = (is_thread w t ≡ true) × (lives w t ≡ false)
 
 -- the request of t's open call, as it was made
 abbrev pub call_of : World → ℕ → Option Request
-call_of w t = option_map (λ (c : Call). timed (thread_at w t).timer.deadline c.request) (thread_at w t).call
+call_of w t = option_map (λ (c : Call). with_deadline_if_any (thread_at w t).timer.deadline c.request) (thread_at w t).call
 
 -- the owner of m, and how often it holds m
 abbrev pub owner_of : World → ℕ → Option (ℕ × ℕ)

@@ -10,11 +10,11 @@ use Rattle.pif_model.specs.PiKernel.{Kernel, System, IsKernel, has_seat, seat_at
 use Rattle.pif_model.specs.RobustList.{Robust, RobustRow, no_robust_row, with_robust, without_robust}
 use Rattle.pif_model.specs.Table.{Table, has_mutex, with_kernel, with_lists}
 use Rattle.pif_chains.proofs.Numbers.{below}
-use Rattle.pif_chains.proofs.KernelRequeued.{takings-words, takings-healths, takings-conds}
+use Rattle.pif_chains.proofs.kernel.KernelRequeued.{takings-words, takings-healths, takings-conds}
 use Rattle.pif_word.specs.WordMap.{words_of, free_words}
-use Rattle.pif_word.proofs.WordBits.{word_of-number}
+use Rattle.pif_chains.proofs.WordBits.{word_of-number}
 use Rattle.pif_mutex.specs.Assembled.{IsAssembled}
-use Rattle.pif_mutex.proofs.KernelLeaves.{IsAlike, alike, alike_twice, alike_keeps_threads, lock_alike, hand_over_alike, unlock_alike, set_prio_alike, stop_alike, expire_alike, wait_requeue_alike, requeue_alike, leaving_alike}
+use Rattle.pif_simulation.proofs.events.KernelLeaves.{IsAlike, alike, alike_twice, alike_keeps_threads, lock_alike, hand_over_alike, unlock_alike, set_prio_alike, stop_alike, expire_alike, wait_requeue_alike, requeue_alike, leaving_alike}
 
 -- THE WORDS
 

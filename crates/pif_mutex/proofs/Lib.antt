@@ -1,10 +1,4 @@
-pub mod KernelLeaves
 pub mod Assembly
 pub mod Exchanges
 pub mod EndedCounts
-pub mod ListChanges
-pub mod Counts
-pub mod Stepping
-pub mod Steps
 pub mod Locking
-pub mod SoundTables

@@ -9,10 +9,11 @@ use Rattle.pif_model.specs.declared.lines.Line.TheVariants.{At}
 use Rattle.pif_model.specs.declared.lines.Status.{Status}
 use Rattle.pif_model.specs.declared.lines.Place.{Place}
 use Rattle.pif_model.specs.declared.lines.Place.TheVariants.{Load, StayQueued, StayStopped, LoadUses, Park, StayParked}
-use Rattle.pif_model.specs.Deadlines.{is_reached, told, told_seen}
+use Rattle.pif_model.specs.Deadlines.{is_reached, told_result, told_seen}
 use Rattle.pif_model.specs.Table.{Table, status_at, timer_at}
 use Rattle.pif_model.specs.Lines.{locking_line, line_of, counts_at, is_line_due, expires_at, told_outcome, go_outcome}
-use Rattle.pif_mutex.specs.Steppable.{is_on_mutex, is_of_mutexes, may_wait_at}
+use Rattle.pif_simulation.specs.Steppable.{may_wait_at}
+use Rattle.pif_mutex.specs.Mutexes.{is_on_mutex, is_of_mutexes}
 
 -- at a place where it takes a step on its mutex its line is that of who may queue
 pub wait_locks : (c m : ℕ) (p : Place) (t : ℕ) (s : Table) → is_on_mutex p ≡ true
@@ -32,7 +33,7 @@ due_locks (Wait c m) StayParked x o e = absurd (true≢false (sym o))
 due_locks _ p x o e = absurd (true≢false (sym e))
 
 -- a result that is told as it is
-told_same : (q : Request) (expired : Bool) → ((a : ℕ) → told q expired a ≡ a) → (x : Seen) → told_seen q expired x ≡ x
+told_same : (q : Request) (expired : Bool) → ((a : ℕ) → told_result q expired a ≡ a) → (x : Seen) → told_seen q expired x ≡ x
 told_same q expired same (Answered a) = ap Answered (same a)
 told_same q expired same x = refl
 
@@ -42,7 +43,7 @@ never false = refl
 
 -- a step of a call whose deadline doesn't count, and whose result is told as it is, is its line
 goes_by_line : (q : Request) (p : Place) (t : ℕ) (s : Table) → counts_at q p (status_at s t) ≡ false
-    → ((expired : Bool) (a : ℕ) → told q expired a ≡ a) → go_outcome (At q p) t s ≡ line_of q p t s
+    → ((expired : Bool) (a : ℕ) → told_result q expired a ≡ a) → go_outcome (At q p) t s ≡ line_of q p t s
 unfolding go_outcome
 goes_by_line q p t s lasts same =
     let expired = (timer_at s t).expired in

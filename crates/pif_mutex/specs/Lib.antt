@@ -1,3 +1,3 @@
 pub mod Assembled
-pub mod Steppable
+pub mod Mutexes
 pub mod Outcomes

@@ -79,6 +79,6 @@ mod try_lock;
 mod unlock;
 
 pub use deadlines::told;
-pub use parts::{Parts, advance};
+pub use parts::{Parts, advance, advance_at};
 pub use progress::Progress;
 pub use state::State;

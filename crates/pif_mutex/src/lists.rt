@@ -1,5 +1,5 @@
 ghost use Rattle.std.specs.Prelude.{◌≡◌, true};
-ghost use Rattle.pif_model.specs.Lines.{pending, nothing_pending};
+ghost use Rattle.pif_model.specs.Lines.{with_pending_field, nothing_pending};
 ghost use Rattle.pif_model.specs.RobustList.{robust_at, is_listed, with_half_linked, with_listed, without_listed, IsUnlisted, IsHalfLinkedByNoOther};
 ghost use Rattle.pif_model.specs.Table.{has_thread, has_mutex, with_lists};
 
@@ -13,7 +13,7 @@ impl<K: PiKernel + Drop> State<K> {
     pub(crate) fn set_pending(&mut self, t: Tid, m: MutexId)
         requires known { has_thread self.old t ≡ true }
         requires mutex { has_mutex self.old m ≡ true }
-        ensures { self.new ≡ pending t m self.old }
+        ensures { self.new ≡ with_pending_field t m self.old }
     {
         self.lists.set_pending(t, m);
     }

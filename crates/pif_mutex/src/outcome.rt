@@ -1,6 +1,6 @@
 ghost use Rattle.std.specs.Prelude.{◌≡◌, true};
 ghost use Rattle.pif_model.specs.Table.{has_thread, has_mutex};
-ghost use Rattle.pif_model.specs.Lines.{goes_to, goes_by, ends_by, waits_at, answers, answered_by, clears, pending};
+ghost use Rattle.pif_model.specs.Lines.{goes_to, goes_by, ends_by, waits_at, answers, answered_by, clears, with_pending_field};
 ghost use Rattle.pif_kernel_calls.specs.Answers.{unit_answer};
 ghost use Rattle.pif_mutex.specs.Outcomes.{outcome_of};
 
@@ -101,7 +101,7 @@ impl<K: PiKernel + Drop> State<K> {
     ) -> Progress
         requires known { has_thread self.old t ≡ true }
         requires mutex { has_mutex self.old m ≡ true }
-        ensures { outcome_of result self.new ≡ goes_to t request place (pending t m self.old) }
+        ensures { outcome_of result self.new ≡ goes_to t request place (with_pending_field t m self.old) }
     {
         self.set_pending(t, m);
         self.go_on(request, place, t)

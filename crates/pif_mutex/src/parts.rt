@@ -4,12 +4,12 @@ ghost use Rattle.pif_model.specs.Word.{word_of};
 ghost use Rattle.pif_model.specs.PiKernel.{IsKernel, new_kernel, is_living, is_ready};
 ghost use Rattle.pif_model.specs.Table.{new_table, line_at, timer_at, cell_at, status_at, has_thread, has_mutex, has_thread_room, has_mutex_room, has_cond_room, thread_added, mutex_added, cond_added};
 ghost use Rattle.pif_model.specs.Lines.{go_outcome, is_open, first_place, begun_table, is_due_in, table_refusal, ended_table};
-ghost use Rattle.pif_model.specs.Deadlines.{timed};
+ghost use Rattle.pif_model.specs.Deadlines.{with_deadline_if_any};
 ghost use Rattle.pif_model.specs.Calls.{request_at, effective_answer, base_answer, owner_answer, kind_answer, bound_answer, waiter_answer, parked_answer, ready_answer, word_answer, health_answer, cond_word_answer, pick_answer};
 ghost use Rattle.pif_mutex.specs.Outcomes.{outcome_of};
-ghost use Rattle.pif_mutex.specs.Steppable.{is_of_mutexes};
+ghost use Rattle.pif_mutex.specs.Mutexes.{is_of_mutexes};
 
-use crate::deadlines::{plain, timed, timer_of};
+use crate::deadlines::{plain, timer_of, with_deadline_if_any};
 use crate::progress::Progress;
 use crate::state::State;
 use pif_kernel_calls::PiKernel;
@@ -138,14 +138,25 @@ impl<K: PiKernel + Drop> Parts<K> {
         }
     }
 
+    /// Where a thread, which was added, stands in its open call: the request and the place, or that it has none.
+    pub fn line(&self, t: Tid) -> Line
+        requires { has_thread self.now t ≡ true }
+        ensures { result ≡ line_at self.now t }
+    {
+        self.state.line(t)
+    }
+
     /// The open call of a thread, which was added, as it was made. `None` where it has none.
     pub fn open_call(&self, t: Tid) -> Option<Request>
         requires { has_thread self.now t ≡ true }
-        ensures { result ≡ option_map (timed (timer_at self.now t).deadline) (request_at (line_at self.now t)) }
+        ensures { result ≡ option_map (with_deadline_if_any (timer_at self.now t).deadline) (request_at (line_at self.now t)) }
     {
         match self.state.line(t) {
             Line::Idle => None,
-            Line::At(request, _) => Some(timed(self.state.timer(t).deadline, request)),
+            Line::At(request, _) => Some(with_deadline_if_any(
+                self.state.timer(t).deadline,
+                request,
+            )),
         }
     }
 
@@ -359,8 +370,26 @@ pub fn advance<K: PiKernel + Drop>(parts: &mut Parts<K>, t: Tid) -> Progress
     ensures once { (m : ℕ) → (cell_at parts.new m).word.number ≢ (cell_at parts.old m).word.number
         → (cell_at parts.new m).word.number ≢ 0 → (cell_at parts.new m).count ≡ 1 }
 {
-    match parts.state.line(t) {
-        Line::At(request, place) => parts.state.go(request, place, t),
+    match parts.line(t) {
+        Line::At(request, place) => advance_at(parts, request, place, t),
         Line::Idle => unreachable!(),
     }
+}
+
+/// The same for a caller that knows the call, which is this request, and the place of it at which the thread stands.
+#[inline(always)]
+pub fn advance_at<K: PiKernel + Drop>(
+    parts: &mut Parts<K>,
+    request: Request,
+    place: Place,
+    t: Tid,
+) -> Progress
+    requires living { is_living parts.old.kernel t ≡ true }
+    requires line { line_at parts.old t ≡ Line.At request place }
+    requires call { is_of_mutexes (line_at parts.old t) ≡ true }
+    ensures line { outcome_of result parts.new ≡ go_outcome (line_at parts.old t) t parts.old }
+    ensures once { (m : ℕ) → (cell_at parts.new m).word.number ≢ (cell_at parts.old m).word.number
+        → (cell_at parts.new m).word.number ≢ 0 → (cell_at parts.new m).count ≡ 1 }
+{
+    parts.state.go(request, place, t)
 }

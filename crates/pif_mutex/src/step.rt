@@ -2,10 +2,11 @@ ghost use Rattle.std.specs.Prelude.{◌≡◌, true, false};
 ghost use Rattle.pif_model.specs.PiKernel.{is_living, is_ready};
 ghost use Rattle.pif_model.specs.RobustList.{robust_at, is_listed, IsUnlisted, IsHalfLinkedByNoOther};
 ghost use Rattle.pif_model.specs.Soundness.{is_half_linked};
-ghost use Rattle.pif_model.specs.Table.{has_thread, has_mutex, line_at, status_at};
+ghost use Rattle.pif_model.specs.Table.{has_thread, has_mutex, status_at};
 ghost use Rattle.pif_model.specs.Lines.{line_of, locking_line, shared_line, giving_line, take_line, give_line, counts_at, expires_at, go_outcome};
 ghost use Rattle.pif_mutex.specs.Outcomes.{outcome_of};
-ghost use Rattle.pif_mutex.specs.Steppable.{CallMayStep, is_of_mutexes, may_wait_at, is_link_next, is_unlink_step, is_unlink};
+ghost use Rattle.pif_simulation.specs.Steppable.{CallMayStep, may_wait_at, is_link_next, is_unlink_step, is_unlink};
+ghost use Rattle.pif_mutex.specs.Mutexes.{is_of_mutexes};
 
 use crate::deadlines::told;
 use crate::progress::Progress;
@@ -34,7 +35,6 @@ impl<K: PiKernel + Drop> State<K> {
     #[tactic(auto, using(crate::proofs::Locking::lock_goes, crate::proofs::Locking::unlock_goes))]
     pub(crate) fn go(&mut self, request: Request, place: Place, t: Tid) -> Progress
         requires living { is_living self.old.kernel t ≡ true }
-        requires line { line_at self.old t ≡ Line.At request place }
         requires call { CallMayStep self.old t request place }
         requires mutexes { is_of_mutexes (Line.At request place) ≡ true }
         ensures { outcome_of result self.new ≡ go_outcome (Line.At request place) t self.old }
@@ -51,12 +51,11 @@ impl<K: PiKernel + Drop> State<K> {
     #[tactic(auto, unfolding(pif_model::specs::Lines::go_outcome))]
     fn go_timed(&mut self, request: Request, place: Place, t: Tid) -> Progress
         requires living { is_living self.old.kernel t ≡ true }
-        requires line { line_at self.old t ≡ Line.At request place }
         requires call { CallMayStep self.old t request place }
         requires mutexes { is_of_mutexes (Line.At request place) ≡ true }
         ensures { outcome_of result self.new ≡ go_outcome (Line.At request place) t self.old }
     {
-        if self.is_due(t) {
+        if self.is_due_at(&request, &place, t) {
             self.expire_at(request, place, t)
         } else {
             let expired = self.timer(t).expired;

@@ -1,5 +1,4 @@
 pub mod HolderLemmas
-pub mod ListLemmas
 pub mod MoveLemmas
 pub mod ReadLemmas
 pub mod SeenLemmas

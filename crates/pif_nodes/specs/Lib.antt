@@ -1,3 +1,1 @@
 pub mod Links
-pub mod Lists
-pub mod Table

@@ -12,12 +12,11 @@
 //! Contracts see each list as the numbers of its nodes in order, and a key for each node, never a link.
 #![tactic(auto)]
 
-mod keys;
 mod linking;
 mod numbers;
 mod slots;
 mod table;
 
-pub use keys::Key;
 pub use numbers::{List, Node};
+pub use pif_lists::Key;
 pub use table::NodeTable;

@@ -4,7 +4,7 @@ use Rattle.std.proofs.lemmas.Bool.{false≢true, cases_eq, cases_lt}
 use Rattle.std.proofs.lemmas.List.{get_or-set_same, get_or-set_other, get_or-replicate, get_or_past, set_past, length-set, length-replicate}
 use Rattle.std.specs.Ordering.{nat_cmp}
 use Rattle.std.specs.FinMap.{FinMap, empty, get, insert, remove, len-empty}
-use Rattle.pif_nodes.specs.declared.keys.Key.{Key}
+use Rattle.pif_lists.specs.declared.keys.Key.{Key}
 use Rattle.pif_model.specs.Graph.{Reaches}
 use Rattle.pif_owners.specs.Owners.{Wait, Seat, Owners, no_seat, no_owners, seat_at, owner_at, count, state_of, waits_on, waits_for, WaitsFor, IsAcyclic, HasNoWaiter, with_seat, with_wait, with_owner, without_state, IsSeat, AreSoundOwners}
 use Rattle.pif_chains.proofs.Cycles.{NoCycle-fewer, NoCycle-hop, NoCycle-still, reaches-alone}

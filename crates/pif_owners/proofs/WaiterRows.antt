@@ -5,15 +5,15 @@ use Rattle.std.specs.List.{slice_get}
 use Rattle.std.proofs.lemmas.Bool.{cases_eq, cases_lt, true≢false, false≢true}
 use Rattle.std.proofs.lemmas.Bool.Decides.{nat_tests}
 use Rattle.std.proofs.lemmas.Option.{same_Some}
-use Rattle.pif_nodes.specs.declared.keys.Key.{Key}
-use Rattle.pif_plist.specs.Order.{comes_before}
-use Rattle.pif_plist.proofs.OrderLemmas.{comes_before-from}
+use Rattle.pif_lists.specs.declared.keys.Key.{Key}
+use Rattle.pif_lists.specs.Order.{comes_before}
+use Rattle.pif_lists.proofs.OrderLemmas.{comes_before-from}
 use Rattle.pif_model.specs.Graph.{has_waiter, without, next_waiter, waiting_order, IsNextWaiter}
 use Rattle.pif_model.specs.PiKernel.{is_among}
 use Rattle.pif_chains.proofs.Among.{is_among_cons, is_among-without}
 use Rattle.pif_chains.proofs.Among.{is_among as is_waiter}
 use Rattle.pif_chains.proofs.Next.{next_is_next}
-use Rattle.pif_chains.proofs.Orders.{order-none, order-next, ordered-is_waiter}
+use Rattle.pif_chains.proofs.kernel.Orders.{order-none, order-next, ordered-is_waiter}
 use Rattle.pif_chains.proofs.Waiting.{names, named-from_pair, has_waiter-from_pair}
 use Rattle.pif_owners.specs.Arrivals.{Rise}
 use Rattle.pif_owners.proofs.ArrivalLaws.{rise_once, rise_behind, waiter_split, waiter_middle}

@@ -2,3 +2,14 @@ pub mod Owners
 pub mod OwnerMaps
 pub mod Examples
 pub mod Arrivals
+pub mod States
+pub mod Frames
+pub mod Holds
+pub mod Behind
+pub mod Entries
+pub mod Differences
+pub mod Parked
+pub mod Buckets
+pub mod QueueFrames
+pub mod Boosts
+pub mod BoostFrames

@@ -6,8 +6,8 @@ use Rattle.std.specs.Ordering.{nat_cmp}
 use Rattle.std.specs.FinMap.{FinMap, empty, get, insert, remove, len}
 use Rattle.std.specs.FinMap as map
 use Rattle.std.specs.Coded.{Coded, code_by, coded×, coded_ℕ, coded_list, coded_option}
-use Rattle.pif_nodes.specs.declared.keys.Key.{Key}
-use Rattle.pif_plist.specs.Order.{comes_before}
+use Rattle.pif_lists.specs.declared.keys.Key.{Key}
+use Rattle.pif_lists.specs.Order.{comes_before}
 use Rattle.pif_model.specs.Graph.{Reaches}
 
 -- what a thread waits for

@@ -1,7 +1,7 @@
 -- Pictures of stories that were filled in.
 use Rattle.std.proofs.Common.{ℕ, List, Option, Result, Ok, Err}
-use Rattle.pif_scripts.specs.declared.faults.CliFault.{CliFault}
-use Rattle.pif_scripts.specs.declared.faults.CliFault.TheVariants.{Differs, NoMemory, Read, Script, Write}
+use Rattle.pif_script_model.specs.declared.faults.CliFault.{CliFault}
+use Rattle.pif_script_model.specs.declared.faults.CliFault.TheVariants.{Differs, NoMemory, Read, Script, Write}
 use Rattle.pif_pictures.specs.Pictures.{FillsStoryTo, PicturesTo, WritesText}
 
 -- a story was filled in, and then a text written, or a part of it, or none

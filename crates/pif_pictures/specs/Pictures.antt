@@ -1,19 +1,19 @@
 -- What making a picture of a story does over a reader and a writer.
 use Rattle.std.specs.Prelude.{ℕ, ◌≡◌, ◌≤◌, List, [], length, Option, Result, Ok, Err}
 use Rattle.std.specs.Io.KnownBytes.{Appends, Consumes, Keeps}
-use Rattle.pif_scripts.specs.declared.faults.CliFault.{CliFault}
-use Rattle.pif_scripts.specs.declared.faults.CliFault.TheVariants.{Differs, NoMemory, Read, Script, Write}
-use Rattle.pif_scripts.specs.Migrating.{IsAllRead}
-use Rattle.pif_scripts.specs.Runs.{WritesPart}
-use Rattle.pif_stories.specs.Checks.{filled}
+use Rattle.pif_script_model.specs.declared.faults.CliFault.{CliFault}
+use Rattle.pif_script_model.specs.declared.faults.CliFault.TheVariants.{Differs, NoMemory, Read, Script, Write}
+use Rattle.pif_script_model.specs.Migrating.{IsAllRead}
+use Rattle.pif_script_model.specs.Runs.{WritesPart}
+use Rattle.pif_stories.specs.Checks.{fill_telling}
 
 -- how filling in a story ends, if memory and reads allow: with no fault, or with its first
-abbrev pub ending : List ℕ → Result (Unit {0}) CliFault
-ending story = (filled [] story).1
+abbrev pub end_of_filling : List ℕ → Result (Unit {0}) CliFault
+end_of_filling story = (fill_telling [] story).1
 
 -- all of a story was read, and filling it in ends so
 abbrev pub FillingEnds : List ℕ → (after : Option (List ℕ)) → Result (Unit {0}) CliFault → Type 0
-FillingEnds read after result = (ending read ≡ result) × IsAllRead read after
+FillingEnds read after result = (end_of_filling read ≡ result) × IsAllRead read after
 
 -- of these bytes of a story:
 --   filled in: it has no fault, and all was read

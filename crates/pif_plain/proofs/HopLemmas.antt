@@ -2,21 +2,21 @@
 use Rattle.std.proofs.Common.{◌≡◌, ℕ, true, ◌==◌, [], length, replicate, Option, Some, None, refl, sym, ap, ◌∙◌, subst}
 use Rattle.std.specs.Prelude.{max, option_and_then, unwrap_or}
 use Rattle.std.proofs.lemmas.Bool.{true≢false}
-use Rattle.pif_nodes.specs.Lists.{has}
-use Rattle.pif_nodes.specs.Table.{NodeLists, IsApart, no_key}
-use Rattle.pif_runq.specs.Levels.{Queue, HasRoom, Holds, IsLevel, IsQueued, level_of}
+use Rattle.pif_lists.specs.Lists.{has}
+use Rattle.pif_lists.specs.Table.{NodeLists, IsApart, no_key}
+use Rattle.pif_lists.specs.Levels.{Queue, HasRoom, Holds, IsLevel, IsQueued, level_of}
 use Rattle.pif_owners.specs.Owners.{Owners, Wait, no_owners, owner_at, count, waits_on, waits_for, HasNoWaiter, with_seat, with_wait, with_owner}
 use Rattle.pif_owners.proofs.OwnersLemmas.{count-no_owners, owner_at-with_owner_other}
-use Rattle.pif_rtmutex.specs.States.{States, empty_states, owners_in}
-use Rattle.pif_rtmutex.specs.Holds.{HoldsStates, HasRoomForStates}
-use Rattle.pif_rtmutex.specs.Frames.{SameOutsideStates}
-use Rattle.pif_boost.specs.Boosts.{base_of, local_of, greatest_waiting}
+use Rattle.pif_owners.specs.States.{States, empty_states, owners_in}
+use Rattle.pif_owners.specs.Holds.{HoldsStates, HasRoomForStates}
+use Rattle.pif_owners.specs.Frames.{SameOutsideStates}
+use Rattle.pif_owners.specs.Boosts.{base_of, local_of, greatest_waiting}
 use Rattle.pif_boost.specs.Settled.{IsSettled}
 use Rattle.pif_boost.specs.Done.{IsDone}
-use Rattle.pif_boost.proofs.FrameLemmas.{outside-none}
+use Rattle.pif_owners.proofs.BoostFrameLemmas.{outside-none}
 use Rattle.pif_model.specs.Graph.{greatest_where}
 use Rattle.pif_plain.specs.Together.{StandTogether}
-use Rattle.pif_rtmutex.proofs.SamePlace.{same_place, same_place_made}
+use Rattle.pif_owners.proofs.SamePlace.{same_place, same_place_made}
 use Rattle.pif_plain.proofs.TogetherLemmas.{together_then, together_walked, together_first, levels_first, level_there}
 use Rattle.pif_plain.specs.WalkExamples.{admitted}
 use Rattle.pif_plain.specs.ChainExamples.{IsAtRest, StandSettled}

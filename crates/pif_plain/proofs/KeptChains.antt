@@ -1,10 +1,10 @@
 -- Chains of which a call touched the owner states alone.
 use Rattle.std.proofs.Common.{◌≡◌, ap}
-use Rattle.pif_nodes.specs.Table.{NodeLists}
-use Rattle.pif_runq.specs.Levels.{Queue, Holds, level_of}
+use Rattle.pif_lists.specs.Table.{NodeLists}
+use Rattle.pif_lists.specs.Levels.{Queue, Holds, level_of}
 use Rattle.pif_owners.specs.Owners.{Owners}
 use Rattle.pif_plain.specs.Rows.{PlainRows}
-use Rattle.pif_kernel.specs.Chained.{Chained, KeepsLevels}
+use Rattle.pif_kernel_state.specs.Chained.{Chained, KeepsLevels}
 
 pub kept_chains : (v w : Owners) (q : Queue) (t : NodeLists) (r : PlainRows) (was : Chained)
     → record { owners = v; queue = q; table = t; keys = r.keys; parked = r.parked } ≡ was → Holds q t

@@ -1,9 +1,9 @@
 -- Owner states of three threads that were just made stand in a table that was just made.
 use Rattle.std.proofs.Common.{◌≡◌, ℕ, [], replicate, None, sym, ap, subst, arith}
-use Rattle.pif_nodes.specs.Table.{NodeLists, IsApart, no_key, holder}
-use Rattle.pif_rtmutex.specs.States.{States, top_node}
-use Rattle.pif_rtmutex.specs.Holds.{HasRoomForStates}
-use Rattle.pif_runq.proofs.EmptyTables.{empty_table, empty_lists, empty_nodes, empty_list, empty_free}
+use Rattle.pif_lists.specs.Table.{NodeLists, IsApart, no_key, holder}
+use Rattle.pif_owners.specs.States.{States, top_node}
+use Rattle.pif_owners.specs.Holds.{HasRoomForStates}
+use Rattle.pif_lists.proofs.EmptyTables.{empty_table, empty_lists, empty_nodes, empty_list, empty_free}
 use Rattle.pif_plain.specs.ChainExamples.{AreNewStates, IsAtFirst}
 
 pub at_first : (m : States) (t : NodeLists) → AreNewStates 3 m

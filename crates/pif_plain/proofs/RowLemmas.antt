@@ -3,10 +3,10 @@ use Rattle.std.proofs.Common.{◌≡◌, ◌≢◌, ◌⊎◌, ℕ, ◌+◌, ◌
 use Rattle.std.proofs.lemmas.Bool.{cases_eq, false≢true}
 use Rattle.std.proofs.lemmas.List.{length-map}
 use Rattle.pif_model.specs.Graph.{without}
-use Rattle.pif_model.specs.PiKernel.{Parking, parked_pairs, unparked}
+use Rattle.pif_model.specs.PiKernel.{Parking, parked_pairs, parkings_without}
 use Rattle.pif_chains.proofs.Waiting.{Once, names, once_push, once_without, named-push, named-without_same, named-without_other}
-use Rattle.pif_chains.proofs.KernelNumbers.{distinct-none}
-use Rattle.pif_chains.proofs.KernelParks.{parked_pairs-push, parked_pairs-without}
+use Rattle.pif_chains.proofs.kernel.KernelNumbers.{distinct-none}
+use Rattle.pif_chains.proofs.kernel.KernelParks.{parked_pairs-push, parked_pairs-without}
 use Rattle.pif_plain.specs.Rows.{AreParkedOnce}
 use Rattle.pif_owners.proofs.ArrivalLaws.{few_waiters}
 
@@ -41,7 +41,7 @@ module _ (most : ℕ) (ps : List Parking) (h : AreParkedOnce most ps) where
           ((λ z. absurd (omega (arith, some, same, z))), omega (arith, few, same, long))
 
   -- one was taken off
-  pub parked_without : (t : ℕ) → AreParkedOnce most (unparked ps t)
+  pub parked_without : (t : ℕ) → AreParkedOnce most (parkings_without ps t)
   parked_without t = record {
     once = subst Once (sym (parked_pairs-without ps t)) (once_without (parked_pairs ps) t h.once);
     known = λ u y. h.known u (there u (cases_eq u t) (sym (ap (names u) (parked_pairs-without ps t)) ∙ y));

@@ -1,22 +1,22 @@
 -- Owner states and a run queue in one table stay there together, whatever a call changes of one of them.
 use Rattle.std.proofs.Common.{◌≡◌, ◌⊎◌, ℕ, ◌+◌, ◌-◌, ◌*◌, ◌<◌, ◌≤◌, true, [], length, Option, Some, None, refl, subst, sym, ap, ◌∙◌, inl, inr, arith}
 use Rattle.std.proofs.lemmas.Bool.{cases_lt}
-use Rattle.pif_nodes.specs.Lists.{has}
-use Rattle.pif_nodes.specs.Table.{NodeLists, IsApart, holder, list_at}
-use Rattle.pif_runq.specs.Levels.{Queue, Holds, HasRoom, IsLevel, IsThreadNode, SameOutside, list_for, level_of}
-use Rattle.pif_runq.proofs.KeptLemmas.{levels-framed, queue-framed}
-use Rattle.pif_rtmutex.specs.States.{States, empty_states, IsThread, wait_of, wait_node, top_node, wait_list, top_list, owners_in}
-use Rattle.pif_rtmutex.specs.Holds.{IsWaiterIn, IsTopNode, HoldsStates, HasRoomForStates}
-use Rattle.pif_rtmutex.specs.Frames.{SameOutsideStates}
-use Rattle.pif_rtmutex.proofs.FrameLemmas.{holds-framed, owners-framed}
-use Rattle.pif_boost.specs.Frames.{StandsBefore}
+use Rattle.pif_lists.specs.Lists.{has}
+use Rattle.pif_lists.specs.Table.{NodeLists, IsApart, holder, list_at}
+use Rattle.pif_lists.specs.Levels.{Queue, Holds, HasRoom, IsLevel, IsThreadNode, SameOutside, list_for, level_of}
+use Rattle.pif_lists.proofs.KeptLemmas.{levels-framed, queue-framed}
+use Rattle.pif_owners.specs.States.{States, empty_states, IsThread, wait_of, wait_node, top_node, wait_list, top_list, owners_in}
+use Rattle.pif_owners.specs.Holds.{IsWaiterIn, IsTopNode, HoldsStates, HasRoomForStates}
+use Rattle.pif_owners.specs.Frames.{SameOutsideStates}
+use Rattle.pif_owners.proofs.FrameLemmas.{holds-framed, owners-framed}
+use Rattle.pif_owners.specs.BoostFrames.{StandsBefore}
 use Rattle.pif_boost.specs.Done.{IsDone}
-use Rattle.pif_boost.proofs.FrameLemmas.{states-leave, queue-leaves}
-use Rattle.pif_kernel.specs.Chained.{Chained, KeepsLevels}
+use Rattle.pif_owners.proofs.BoostFrameLemmas.{states-leave, queue-leaves}
+use Rattle.pif_kernel_state.specs.Chained.{Chained, KeepsLevels}
 use Rattle.pif_plain.specs.Rows.{PlainRows}
 use Rattle.pif_plain.specs.Together.{StandTogether}
-use Rattle.pif_runq.proofs.EmptyTables.{empty_table, empty_lists, empty_nodes, empty_list, empty_free, empty_level}
-use Rattle.pif_rtmutex.proofs.SamePlace.{SamePlace}
+use Rattle.pif_lists.proofs.EmptyTables.{empty_table, empty_lists, empty_nodes, empty_list, empty_free, empty_level}
+use Rattle.pif_owners.proofs.SamePlace.{SamePlace}
 
 -- the owner states and the run queue that these are, with these keys and these parked threads
 abbrev pub together : States → Queue → NodeLists → PlainRows → Chained

@@ -4,21 +4,21 @@ use Rattle.std.specs.Prelude.{option_map, option_and_then, unwrap_or}
 use Rattle.std.specs.Option.{is_some}
 use Rattle.std.proofs.lemmas.Bool.{cases_eq, cases_lt, cases_Bool, eqb-true, or_cases, true≢false}
 use Rattle.std.proofs.lemmas.List.{get_or-replicate, length-replicate}
-use Rattle.pif_nodes.specs.declared.keys.Key.{Key}
-use Rattle.pif_nodes.specs.Lists.{has}
-use Rattle.pif_nodes.specs.Table.{NodeLists, IsApart, list_at, no_key, list_with}
+use Rattle.pif_lists.specs.declared.keys.Key.{Key}
+use Rattle.pif_lists.specs.Lists.{has}
+use Rattle.pif_lists.specs.Table.{NodeLists, IsApart, list_at, no_key, list_with}
 use Rattle.pif_chains.proofs.Places.{kept_at}
 use Rattle.pif_chains.proofs.Following.{IsGreatestAt, greatest_where_some}
-use Rattle.pif_runq.specs.Levels.{Queue, IsLevel, level_of, level_with, list_for, thread_for, HasRoom, Holds, IsQueued, level_after_add}
-use Rattle.pif_runq.proofs.LevelWithLemmas.{level_with-from_listed}
+use Rattle.pif_lists.specs.Levels.{Queue, IsLevel, level_of, level_with, list_for, thread_for, HasRoom, Holds, IsQueued, level_after_add}
+use Rattle.pif_lists.proofs.LevelWithLemmas.{level_with-from_listed}
 use Rattle.pif_owners.specs.Owners.{Owners, Seat, Wait, no_seat, no_owners, seat_at, owner_at, count, waits_on, waits_for, with_seat, with_wait, with_owner}
 use Rattle.pif_owners.proofs.OwnersLemmas.{seat_at-with_seat, seat_at-no_owners, count-no_owners, owner_at-with_owner_same, owner_at-with_owner_other}
-use Rattle.pif_boost.specs.Boosts.{IsThread, base_of, local_of, greatest_base, greatest_waiting, level_after_walk, IsRepaired, IsRepairedBut}
+use Rattle.pif_owners.specs.Boosts.{IsThread, base_of, local_of, greatest_base, greatest_waiting, level_after_walk, IsRepaired, IsRepairedBut}
 use Rattle.pif_boost.specs.Settled.{IsSettled}
-use Rattle.pif_boost.proofs.Greatest.{waits_for-none, waits_for-owner}
-use Rattle.pif_boost.proofs.Settled.{rewaited, was_ready}
-use Rattle.pif_boost.proofs.Walks.{admitted_row}
-use Rattle.pif_boost.proofs.Repairs.{ranked-state}
+use Rattle.pif_owners.proofs.Greatest.{waits_for-none, waits_for-owner}
+use Rattle.pif_owners.proofs.Settled.{rewaited, was_ready}
+use Rattle.pif_owners.proofs.Walks.{admitted_row}
+use Rattle.pif_owners.proofs.Repairs.{ranked-state}
 use Rattle.pif_plain.specs.ChainExamples.{AreIdle}
 use Rattle.pif_plain.specs.WalkExamples.{admitted, three_admitted, three_threads, new_queue, table_of_three}
 

@@ -1,12 +1,12 @@
 -- Owner states in one table, as the tests make them, and beside a run queue a chain of 1,001 threads that grows thread
 -- by thread.
 use Rattle.std.specs.Prelude.{◌≡◌, ℕ, ◌+◌, [], length, None}
-use Rattle.pif_nodes.specs.Table.{NodeLists, holder}
-use Rattle.pif_runq.specs.Levels.{Queue, IsLevel, level_of}
+use Rattle.pif_lists.specs.Table.{NodeLists, holder}
+use Rattle.pif_lists.specs.Levels.{Queue, IsLevel, level_of}
 use Rattle.pif_owners.specs.Owners.{Owners, seat_at, count, no_owners}
-use Rattle.pif_rtmutex.specs.States.{States, empty_states, owners_in}
-use Rattle.pif_rtmutex.specs.Holds.{HoldsStates, HasRoomForStates}
-use Rattle.pif_boost.specs.Boosts.{base_of, local_of}
+use Rattle.pif_owners.specs.States.{States, empty_states, owners_in}
+use Rattle.pif_owners.specs.Holds.{HoldsStates, HasRoomForStates}
+use Rattle.pif_owners.specs.Boosts.{base_of, local_of}
 use Rattle.pif_boost.specs.Settled.{IsSettled}
 use Rattle.pif_plain.specs.Together.{StandTogether}
 

@@ -1,7 +1,7 @@
 -- The waiters of one owner state, in their order.
 use Rattle.std.specs.Prelude.{ℕ, Bool, true, false, ◌==◌, if◌then◌else◌, Option, Some, None, option_and_then}
-use Rattle.pif_nodes.specs.declared.keys.Key.{Key}
-use Rattle.pif_plist.specs.Order.{comes_before}
+use Rattle.pif_lists.specs.declared.keys.Key.{Key}
+use Rattle.pif_lists.specs.Order.{comes_before}
 use Rattle.pif_owners.specs.Owners.{Owners, Wait, seat_at}
 
 -- the rank of a wait on a state; None where it is on another

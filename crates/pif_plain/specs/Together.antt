@@ -1,9 +1,9 @@
 -- Owner states and a run queue that stand in one table, which has no other lists.
 use Rattle.std.specs.Prelude.{◌≡◌, ◌+◌, ◌*◌, ◌≤◌, length}
-use Rattle.pif_nodes.specs.Table.{NodeLists}
-use Rattle.pif_runq.specs.Levels.{Queue, Holds}
-use Rattle.pif_rtmutex.specs.States.{States}
-use Rattle.pif_rtmutex.specs.Holds.{HoldsStates}
+use Rattle.pif_lists.specs.Table.{NodeLists}
+use Rattle.pif_lists.specs.Levels.{Queue, Holds}
+use Rattle.pif_owners.specs.States.{States}
+use Rattle.pif_owners.specs.Holds.{HoldsStates}
 
 pub record StandTogether (m : States) (q : Queue) (t : NodeLists) : Type 0 where
   pub owners : HoldsStates m t

@@ -1,7 +1,7 @@
 -- What the tests begin from: three threads, an empty run queue and an empty table.
 use Rattle.std.specs.Prelude.{ℕ, [], replicate, None}
-use Rattle.pif_nodes.specs.Table.{NodeLists, no_key}
-use Rattle.pif_runq.specs.Levels.{Queue}
+use Rattle.pif_lists.specs.Table.{NodeLists, no_key}
+use Rattle.pif_lists.specs.Levels.{Queue}
 use Rattle.pif_owners.specs.Owners.{Owners, Seat, no_owners, with_seat, with_owner}
 
 -- a thread of this priority that waits for nothing

@@ -29,8 +29,8 @@ pub type PlainKernel = KernelOn<PlainChains>;
 
 impl Model for PlainChains {
     ghost use Rattle.std.specs.Prelude.{◌≤◌, ◌+◌, length};
-    ghost use Rattle.pif_runq.specs.Levels.{Holds};
-    ghost use Rattle.pif_kernel.specs.Chained.{Chained, chained_code};
+    ghost use Rattle.pif_lists.specs.Levels.{Holds};
+    ghost use Rattle.pif_kernel_state.specs.Chained.{Chained, chained_code};
 
     ghost Value = { Chained };
 
@@ -42,7 +42,7 @@ impl Model for PlainChains {
 }
 
 impl Priorities for PlainChains {
-    ghost use Rattle.pif_boost.specs.Boosts.{local_of};
+    ghost use Rattle.pif_owners.specs.Boosts.{local_of};
 
     ghost priority_of = { λ c. local_of c.owners };
 

@@ -1,11 +1,11 @@
 ghost use Rattle.std.specs.Prelude.{◌≡◌, ℕ, ◌+◌, ◌<◌, ◌≤◌, ◌==◌, [], ◌∷◌, ◌++◌, false, if◌then◌else◌, length, get_or, set, replicate, Some, None, IfOk, IfNone};
 ghost use Rattle.std.specs.List.{slice_get};
 ghost use Rattle.pif_model.specs.Graph.{waiting_order};
-ghost use Rattle.pif_model.specs.PiKernel.{parked_pairs, unparked};
-ghost use Rattle.pif_kernel.specs.Inside.{no_keys};
-ghost use Rattle.pif_kernel.specs.Orders.{waiters_at_level};
-ghost use Rattle.pif_kernel.specs.Takings.{first_parked, goes_before, have_target};
-ghost use Rattle.pif_kernel.specs.Tickets.{is_named};
+ghost use Rattle.pif_model.specs.PiKernel.{parked_pairs, parkings_without};
+ghost use Rattle.pif_kernel_state.specs.Inside.{no_keys};
+ghost use Rattle.pif_kernel_state.specs.Orders.{waiters_at_level};
+ghost use Rattle.pif_kernel_state.specs.Takings.{first_parked, goes_before, have_target};
+ghost use Rattle.pif_kernel_state.specs.Tickets.{is_named};
 
 use pif_owners::Key;
 use pif_types::{CondId, MutexId, NoMemory, Tid, push_within, with_room};
@@ -28,7 +28,7 @@ pub struct Parking {
 
 impl Model for Parking {
     ghost use Rattle.pif_model.specs.PiKernel.{Parking as ParkingSeen};
-    ghost use Rattle.pif_kernel.specs.Codes.{parking_code};
+    ghost use Rattle.pif_kernel_state.specs.Codes.{parking_code};
 
     ghost Value = { ParkingSeen };
 
@@ -125,7 +125,7 @@ impl Rows {
 
     /// Takes the thread `t` off the variable on which it is parked, if it is.
     pub fn unpark(&mut self, t: Tid)
-        ensures { self.new ≡ record self.old { parked = unparked self.old.parked t } }
+        ensures { self.new ≡ record self.old { parked = parkings_without self.old.parked t } }
     {
         self.parked.retain(|parking| parking.thread != t);
     }

@@ -21,9 +21,9 @@
 ghost use Rattle.std.specs.Prelude.{◌≡◌, ◌≢◌, ℕ, ◌+◌, ◌<◌, ◌≤◌, ◌↔◌, length, IfOk, IfSome, IfNone, OnSome, IsSome, Some, None, option_map};
 ghost use Rattle.std.specs.Option.{ForSome};
 ghost use Rattle.pif_model.specs.Graph.{Reaches};
-ghost use Rattle.pif_nodes.specs.declared.keys.Key.{Key as RankSeen};
+ghost use Rattle.pif_lists.specs.declared.keys.Key.{Key as RankSeen};
 ghost use Rattle.pif_owners.specs.Owners.{no_owners, seat_at, owner_at, count, waits_on, rank_of, WaitsFor, IsAcyclic, AreSoundOwners, IsTop, HasNoWaiter, KeepsOrder, with_seat, with_base, with_local, with_wait, with_prio, with_ticket, with_owner, without_state};
-ghost use Rattle.pif_rtmutex.specs.Behind.{IsLast, IsBehind};
+ghost use Rattle.pif_owners.specs.Behind.{IsLast, IsBehind};
 ghost use Rattle.pif_plain.specs.Standing.{standing, standing_behind};
 
 use crate::rows::{NOBODY, Row, Wait};

@@ -10,9 +10,9 @@ mod walks;
 ghost use Rattle.std.specs.Prelude.{◌≡◌, ◌<◌, ◌≤◌, ◌+◌, ℕ, true, false, length, OnSome};
 ghost use Rattle.pif_model.specs.PiKernel.{has_seat, is_living, is_ready, seat_at};
 ghost use Rattle.pif_model.specs.RobustList.{robust_at};
-ghost use Rattle.pif_kernel.specs.Inside.{kernel_of};
+ghost use Rattle.pif_kernel_state.specs.Inside.{kernel_of};
 
-use crate::{PlainChains, PlainKernel};
+use crate::PlainChains;
 use pif_kernel::{Chains, KernelOn, PiKernel, Status, Took, Woken};
 use pif_linked::LinkedChains;
 use pif_robust::RobustLists;
@@ -313,12 +313,18 @@ fn play_on<C: Chains + Drop, R: Abort>(
     Ok(())
 }
 
-#[test]
-fn nobody_runs_in_a_new_kernel(rt: HostRuntime) -> Result<(), Fail> {
+// In a new kernel on chains of some form nobody runs.
+fn pick_of_nobody<C: Chains + Drop, R: Abort>(rt: &R, alloc: Global) -> Result<(), Fail> {
     let limits = Limits::new(4, 1, 0, 1).ok_or("limits")?;
-    let kernel = PlainKernel::new(rt.alloc(), limits, 1)?;
+    let kernel: KernelOn<C> = KernelOn::new(alloc, limits, 1)?;
     assert_eq!(rt; kernel.pick(), None);
     Ok(())
+}
+
+#[test]
+fn nobody_runs_in_a_new_kernel(rt: HostRuntime) -> Result<(), Fail> {
+    pick_of_nobody::<PlainChains, HostRuntime>(&rt, rt.alloc())?;
+    pick_of_nobody::<LinkedChains, HostRuntime>(&rt, rt.alloc())
 }
 
 #[test]

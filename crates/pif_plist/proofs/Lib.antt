@@ -1,4 +1,1 @@
-pub mod InsertLemmas
-pub mod OrderLemmas
-pub mod WalkLemmas
 pub mod RekeyLemmas

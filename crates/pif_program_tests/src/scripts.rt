@@ -109,7 +109,7 @@ fn own_lock_waits_or_is_refused(rt: HostRuntime) {
 
 /// Each allocation of a run is refused in turn by `rt try --test --fail-alloc N`: then nothing is written.
 #[test]
-fn want_of_memory_writes_nothing(rt: HostRuntime) {
+fn out_of_memory_writes_nothing(rt: HostRuntime) {
     let mut output = Kept::new();
     let ended = run(rt.alloc(), &mut BOOSTED.as_bytes(), &mut output);
     let answers = match ended {

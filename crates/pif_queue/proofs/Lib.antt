@@ -1,7 +1,4 @@
-pub mod Firsts
-pub mod EntryLemmas
 pub mod EntryChanges
-pub mod EntryFrames
 pub mod Passing
 pub mod Differing
 pub mod Places
@@ -9,6 +6,4 @@ pub mod ParkedLemmas
 pub mod Numbering
 pub mod ParkedChanges
 pub mod ParkedCalls
-pub mod ParkedFrames
 pub mod BucketFrames
-pub mod Rooms

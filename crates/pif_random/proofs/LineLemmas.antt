@@ -2,8 +2,8 @@
 use Rattle.std.proofs.Common.{zero, suc, ◌≡◌, ℕ, ◌+◌, ◌≤◌, ◌*◌, List, [], ◌∷◌, ◌++◌, length, length-append, refl, sym, ap, ◌∙◌, append_assoc, append-nil, arith}
 use Rattle.std.specs.Prelude.{All, flat_map}
 use Rattle.std.proofs.lemmas.List.Elements.{All-append, All-nil}
-use Rattle.pif_text.specs.declared.commands.Command.{Command}
-use Rattle.pif_scripts.specs.CommandLines.{StandsAnywhere, command_line, script_lines}
+use Rattle.pif_text_model.specs.declared.commands.Command.{Command}
+use Rattle.pif_script_model.specs.CommandLines.{StandsAnywhere, command_line, script_lines}
 use Rattle.pif_random.specs.Lines.{AddsLines}
 
 pub no_line : (old : List ℕ) → AddsLines 0 old old

@@ -1,5 +1,5 @@
 ghost use Rattle.std.specs.Prelude.{◌≤◌};
-ghost use Rattle.pif_scripts.specs.CommandLines.{IsNoLimits};
+ghost use Rattle.pif_script_model.specs.CommandLines.{IsNoLimits};
 
 use crate::Shape;
 use pif_core::{Core, Event, Seen};

@@ -1,6 +1,6 @@
 ghost use Rattle.std.specs.Prelude.{◌≡◌, ◌≤◌, ◌++◌, IfOk, OnOk, length};
 ghost use Rattle.pif_random.specs.Lines.{AddsLines};
-ghost use Rattle.pif_scripts.specs.CommandLines.{command_line, HasNoFault, IsNoLimits, IsOfCommands, StandsAnywhere};
+ghost use Rattle.pif_script_model.specs.CommandLines.{command_line, HasNoFault, IsNoLimits, IsOfCommands, StandsAnywhere};
 
 use crate::Shape;
 use crate::player::Player;

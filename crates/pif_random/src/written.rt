@@ -1,5 +1,5 @@
-ghost use Rattle.pif_text.specs.CommandTexts.{IsAdditionWritten, IsEventWritten, IsRequestWritten, IsRunWritten, IsWritten};
-ghost use Rattle.pif_text.specs.Questions.{IsQuestionWritten};
+ghost use Rattle.pif_text_model.specs.CommandTexts.{IsAdditionWritten, IsEventWritten, IsRequestWritten, IsRunWritten, IsWritten};
+ghost use Rattle.pif_text_model.specs.Questions.{IsQuestionWritten};
 
 use pif_core::Event;
 use pif_text::{Addition, Command, Question};

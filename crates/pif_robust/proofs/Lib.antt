@@ -3,7 +3,6 @@ pub mod ChainLemmas
 pub mod CutLemmas
 pub mod ForgetLemmas
 pub mod JoinLemmas
-pub mod ListLemmas
 pub mod SeenLemmas
 pub mod TiesLemmas
 pub mod WalkLemmas

@@ -1,3 +1,2 @@
 pub mod Links
 pub mod Robust
-pub mod Walk

@@ -4,6 +4,7 @@ use Rattle.std.specs.Prelude.{◌≡◌, ℕ, suc, zero, ◌+◌, ◌-◌, ◌�
 use Rattle.pif_robust.specs.declared.links.Link.{Link}
 use Rattle.pif_robust.specs.declared.links.Head.{Head}
 use Rattle.pif_model.specs.RobustList.{Robust, RobustRow, no_robust_row, robust_at, has_entry, HasNoRepeats}
+use Rattle.pif_chains.specs.RobustWalks.{first_or}
 use Rattle.pif_robust.specs.Robust.{named_mutex}
 
 -- the entry of a mutex that is on no list
@@ -37,16 +38,6 @@ row_from ns h = record {
 -- what the fields show
 unfoldable pub robust_from : List Link → List Head → Robust
 robust_from ns hs = record { threads = map (row_from ns) hs; mutexes = length ns - 1 }
-
--- the first of some mutexes, or what follows them
-abbrev pub first_or : List ℕ → Option ℕ → Option ℕ
-first_or [] after = after
-first_or (m ∷ ms) after = Some m
-
--- the last of some mutexes, or what is before them
-abbrev pub last_or : Option ℕ → List ℕ → Option ℕ
-last_or before [] = before
-last_or before (m ∷ ms) = last_or (Some m) ms
 
 -- the entries of these mutexes are linked in this order, on the list of t, between two others
 abbrev pub IsChain : List Link → ℕ → Option ℕ → List ℕ → Option ℕ → Type 0

@@ -1,9 +1,9 @@
 ghost use Rattle.std.specs.Prelude.{ℕ, ◌≡◌, ◌<◌, ◌≤◌, ◌↔◌, IsTrue, true, List, Option, Some, None, length};
 ghost use Rattle.std.specs.Option.{ForSome};
 ghost use Rattle.pif_model.specs.RobustList.{has_entry, HasNoRepeats};
-ghost use Rattle.pif_robust.specs.Links.{link_at, first_or, IsChain, with_next_mutex, with_first_mutex, with_previous, links_joined, heads_joined, links_cut, heads_cut};
+ghost use Rattle.pif_chains.specs.RobustWalks.{first_or, walk_along};
+ghost use Rattle.pif_robust.specs.Links.{link_at, IsChain, with_next_mutex, with_first_mutex, with_previous, links_joined, heads_joined, links_cut, heads_cut};
 ghost use Rattle.pif_robust.specs.Robust.{named_mutex};
-ghost use Rattle.pif_robust.specs.Walk.{walk_along};
 
 use pif_types::{MutexId, Tid};
 

@@ -1,22 +1,21 @@
 -- What the calls on a list of waiters answer, as a step of owner states.
-use Rattle.std.proofs.Common.{◌≡◌, ◌≢◌, ◌⊎◌, ℕ, ◌<◌, ◌≤◌, true, eqb, cond, List, [], ◌∷◌, length, set, Option, Some, None, IsSome, option_map, refl, sym, ◌∙◌, ap, subst, inl, inr, arith}
-use Rattle.std.proofs.lemmas.Bool.{false≢true, cases_eq, or_right}
+use Rattle.std.proofs.Common.{◌≡◌, ◌≢◌, ◌⊎◌, ℕ, ◌<◌, ◌≤◌, eqb, cond, List, length, set, Option, Some, None, IsSome, option_map, refl, sym, ◌∙◌, ap, subst, inl, inr, arith}
+use Rattle.std.proofs.lemmas.Bool.{false≢true, cases_eq}
 use Rattle.std.proofs.lemmas.List.{get_or-set_same, get_or-set_other}
 use Rattle.std.specs.FinMap.{get, insert}
-use Rattle.pif_nodes.specs.declared.keys.Key.{Key}
-use Rattle.pif_nodes.specs.Lists.{has}
-use Rattle.pif_nodes.specs.Table.{NodeLists, no_key, list_at, key_at, holder, with_key, IsApart}
-use Rattle.pif_nodes.proofs.ListLemmas.{has-head}
-use Rattle.pif_plist.specs.Order.{comes_before, key_in, IsInOrder, IsSorted, OthersStaySorted, table_after_insert, table_after_remove, key_with_prio, key_with_ticket}
-use Rattle.pif_plist.proofs.OrderLemmas.{not_before-self}
+use Rattle.pif_lists.specs.declared.keys.Key.{Key}
+use Rattle.pif_lists.specs.Table.{NodeLists, no_key, list_at, key_at, holder, with_key, IsApart}
+use Rattle.pif_lists.specs.Order.{comes_before, key_in, IsSorted, OthersStaySorted, table_after_insert, table_after_remove, key_with_prio, key_with_ticket}
+use Rattle.pif_lists.proofs.OrderLemmas.{not_before-self}
+use Rattle.pif_lists.proofs.SameOrder.{order-as}
 use Rattle.pif_model.specs.Graph.{Reaches}
 use Rattle.pif_owners.specs.Owners.{Owners, Wait, owner_at, waits_on, rank_of, WaitsFor, KeepsOrder, with_wait, with_prio, with_ticket, with_owner}
-use Rattle.pif_rtmutex.specs.States.{States, IsThread, row_at, wait_of, wait_node, top_node, wait_list, first_waiter, owners_in}
-use Rattle.pif_rtmutex.specs.Holds.{HoldsWaiters, IsWaiterIn, IsRankedTop, HoldsTops, HoldsStates}
-use Rattle.pif_rtmutex.specs.Frames.{ChangesList}
-use Rattle.pif_rtmutex.proofs.ViewLemmas.{length-seats, waits_on-owners_in, rank_of-owners_in}
-use Rattle.pif_rtmutex.proofs.WaiterLemmas.{waits-thread, StandsFirst, stands-first, some_owner}
-use Rattle.pif_rtmutex.proofs.ListChanges.{changes-inserted, changes-removed, changes-rekeyed, changes-renamed, changes-as, in-list, in-no_list, key-inserted, key-rekeyed, key-renamed}
+use Rattle.pif_owners.specs.States.{States, IsThread, row_at, wait_of, wait_node, top_node, wait_list, first_waiter, owners_in}
+use Rattle.pif_owners.specs.Holds.{HoldsWaiters, IsWaiterIn, IsRankedTop, HoldsTops, HoldsStates}
+use Rattle.pif_owners.specs.Frames.{ChangesList}
+use Rattle.pif_owners.proofs.ViewLemmas.{length-seats, waits_on-owners_in, rank_of-owners_in}
+use Rattle.pif_owners.proofs.WaiterLemmas.{waits-thread, StandsFirst, stands-first, some_owner}
+use Rattle.pif_owners.proofs.ListChanges.{changes-inserted, changes-removed, changes-rekeyed, changes-renamed, changes-as, in-list, in-no_list, key-inserted, key-rekeyed, key-renamed}
 use Rattle.pif_rtmutex.proofs.StepLemmas.{row-list, seat-wait, WaitsAt, waits-at, IsStep, IsDone, queued-step, freed-step, handed-step, ranked-step}
 use Rattle.pif_rtmutex.proofs.TopLemmas.{tops-same}
 
@@ -117,17 +116,6 @@ module _ (m : States) (t now : NodeLists) (k u o l n : ℕ) (c : IsCall m t now 
       (option_map (λ (x : Wait). record x { rank = record x.rank { prio = prio } }) w) (owners_in m t))
       (sym (seat-wait m t u k on)))
       step
-
--- a list of which each two nodes stand in their order with other keys is in order with these
-pub order-as : (was now : List Key) (xs : List ℕ)
-    → ((y x : ℕ) → has y xs ≡ true → has x xs ≡ true
-    → comes_before (key_in now y) (key_in now x) ≡ comes_before (key_in was y) (key_in was x))
-    → IsInOrder was xs → IsInOrder now xs
-order-as was now [] same h = h
-order-as was now (x ∷ xs) same h = (
-  (λ y in'. same y x (or_right (eqb y x) (has y xs) in') (has-head x xs) ∙ h.0 y in'),
-  order-as was now xs (λ y z a b. same y z (or_right (eqb y x) (has y xs) a) (or_right (eqb z x) (has z xs) b)) h.1,
-)
 
 -- a list of waiters stays in order with a ticket that keeps the order
 module _ (m : States) (t : NodeLists) (k u r ticket : ℕ) (h : HoldsWaiters m t) (w : wait_of m u ≡ Some k)

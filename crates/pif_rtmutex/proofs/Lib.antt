@@ -1,8 +1,4 @@
-pub mod ViewLemmas
-pub mod WaiterLemmas
-pub mod FrameLemmas
 pub mod FieldLemmas
-pub mod ListChanges
 pub mod ChangeLemmas
 pub mod TopLemmas
 pub mod RowLemmas
@@ -12,4 +8,3 @@ pub mod StepLemmas
 pub mod MakeLemmas
 pub mod CallLemmas
 pub mod BehindLemmas
-pub mod SamePlace

@@ -2,12 +2,12 @@
 use Rattle.std.proofs.Common.{◌≡◌, ◌⊎◌, ◌↔◌, ℕ, ◌<◌, ◌≤◌, length, set, get_or, Option, Some, None, IsSome, IfSome, option_map, unwrap_or, refl, sym, ◌∙◌, ap, subst, inl, inr, arith}
 use Rattle.std.proofs.lemmas.Bool.{false≢true, cases_eq, cases_lt}
 use Rattle.std.proofs.lemmas.List.{get_or-set_same, get_or-set_other, set_past, length-set}
-use Rattle.pif_nodes.specs.Table.{NodeLists, key_at}
+use Rattle.pif_lists.specs.Table.{NodeLists, key_at}
 use Rattle.pif_owners.specs.Owners.{Seat, IsPrio, no_seat, with_seat, AreSoundOwners}
 use Rattle.pif_owners.proofs.OwnersLemmas.{sound-priorities}
-use Rattle.pif_rtmutex.specs.States.{Row, States, no_row, row_at, wait_of, wait_node, seat_in, owners_in, with_row}
-use Rattle.pif_rtmutex.specs.Holds.{IsWaiterIn, IsTopNode, HoldsStates}
-use Rattle.pif_rtmutex.proofs.ViewLemmas.{length-seats, seat_at-owners_in, owners_in-by_seat}
+use Rattle.pif_owners.specs.States.{Row, States, no_row, row_at, wait_of, wait_node, seat_in, owners_in, with_row}
+use Rattle.pif_owners.specs.Holds.{IsWaiterIn, IsTopNode, HoldsStates}
+use Rattle.pif_owners.proofs.ViewLemmas.{length-seats, seat_at-owners_in, owners_in-by_seat}
 
 -- what value and table say of a thread that has this row
 abbrev pub seat_of : States → NodeLists → ℕ → Row → Seat

@@ -6,18 +6,18 @@ use Rattle.std.proofs.lemmas.List.{append-nil, get_or-replicate, length-replicat
 use Rattle.std.proofs.lemmas.List.FromFn.{length-range_with_len}
 use Rattle.std.specs.Ordering.{nat_cmp}
 use Rattle.std.specs.FinMap.{FinMap, empty, get, get-empty, len, len-empty}
-use Rattle.pif_nodes.specs.Lists.{has, first_of, HasNoRepeats}
-use Rattle.pif_nodes.specs.Table.{NodeLists, list_at, key_at}
-use Rattle.pif_nodes.proofs.ListLemmas.{first_of-has, has-append, has-left, has-parts, has-neither, HasNoRepeats-put, HasNoRepeats-taken}
-use Rattle.pif_plist.specs.Order.{IsInOrder, IsSorted}
+use Rattle.pif_lists.specs.Lists.{has, first_of, HasNoRepeats}
+use Rattle.pif_lists.specs.Table.{NodeLists, list_at, key_at}
+use Rattle.pif_lists.proofs.ListLemmas.{first_of-has, has-append, has-left, has-parts, has-neither, HasNoRepeats-put, HasNoRepeats-taken}
+use Rattle.pif_lists.specs.Order.{IsInOrder, IsSorted}
 use Rattle.pif_owners.specs.Owners.{no_seat, no_owners, AreSoundOwners}
 use Rattle.pif_owners.proofs.OwnersLemmas.{sound-no_owners}
-use Rattle.pif_rtmutex.specs.States.{Row, States, IsThread, IsOwnList, no_row, empty_states, wait_of, wait_list, top_list, waiter_for, first_waiter, owners_in}
-use Rattle.pif_rtmutex.specs.Holds.{IsWaiterIn, IsTopNode, IsFirstOf, IsTopOf, HoldsStates, HasRoomForStates}
+use Rattle.pif_owners.specs.States.{Row, States, IsThread, IsOwnList, no_row, empty_states, wait_of, wait_list, top_list, waiter_for, first_waiter, owners_in}
+use Rattle.pif_owners.specs.Holds.{IsWaiterIn, IsTopNode, IsFirstOf, IsTopOf, HoldsStates, HasRoomForStates}
 use Rattle.pif_rtmutex.specs.Fields.{IsSpare}
-use Rattle.pif_rtmutex.proofs.ViewLemmas.{owners_in-by_seat}
-use Rattle.pif_rtmutex.proofs.WaiterLemmas.{first_waiter-by_row, stands-first, some_owner}
-use Rattle.pif_rtmutex.proofs.FrameLemmas.{cases_Some}
+use Rattle.pif_owners.proofs.ViewLemmas.{owners_in-by_seat}
+use Rattle.pif_owners.proofs.WaiterLemmas.{first_waiter-by_row, stands-first, some_owner}
+use Rattle.pif_owners.proofs.FrameLemmas.{cases_Some}
 
 -- state k, on which nobody waits, gets an owner and a row, or loses both
 pub record IsStateChange (m : States) (owners places : FinMap nat_cmp ℕ) (k : ℕ) : Type 0 where

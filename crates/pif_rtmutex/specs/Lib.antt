@@ -1,6 +1,2 @@
-pub mod States
-pub mod Holds
-pub mod Frames
 pub mod Maximum
 pub mod Fields
-pub mod Behind

@@ -1,6 +1,6 @@
 -- The priority that a thread is to have by those that wait on the states that it owns.
 use Rattle.std.specs.Prelude.{ℕ, max, ◌==◌, length, option_map, unwrap_or}
-use Rattle.pif_nodes.specs.declared.keys.Key.{Key}
+use Rattle.pif_lists.specs.declared.keys.Key.{Key}
 use Rattle.pif_model.specs.Graph.{greatest_where}
 use Rattle.pif_owners.specs.Owners.{Owners, seat_at, rank_of, waits_for}
 

@@ -47,7 +47,7 @@ pub struct Row {
 impl Model for Row {
     ghost use Rattle.std.specs.Prelude.{unwrap_or};
     ghost use Rattle.pif_owners.specs.Owners.{prio_of, IsPrio, prio_of-unwrap_or};
-    ghost use Rattle.pif_rtmutex.specs.States.{Row as RowSeen, row_code};
+    ghost use Rattle.pif_owners.specs.States.{Row as RowSeen, row_code};
 
     ghost Value = { RowSeen };
 

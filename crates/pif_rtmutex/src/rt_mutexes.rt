@@ -3,13 +3,13 @@ ghost use Rattle.std.specs.List.{range_with_len};
 ghost use Rattle.std.specs.Option.{ForSome};
 ghost use Rattle.std.specs.FinMap.{get, empty, insert, remove, len};
 ghost use Rattle.pif_model.specs.Graph.{Reaches};
-ghost use Rattle.pif_nodes.specs.declared.keys.Key.{Key as RankSeen};
-ghost use Rattle.pif_nodes.specs.Table.{NodeLists, key_at, holder, next_node};
+ghost use Rattle.pif_lists.specs.declared.keys.Key.{Key as RankSeen};
+ghost use Rattle.pif_lists.specs.Table.{NodeLists, key_at, holder, next_node};
 ghost use Rattle.pif_owners.specs.Owners.{no_owners, seat_at, owner_at, count, waits_on, rank_of, WaitsFor, IsTop, HasNoWaiter, KeepsOrder, with_seat, with_base, with_local, with_wait, with_prio, with_ticket, with_owner, without_state};
-ghost use Rattle.pif_rtmutex.specs.States.{IsThread, empty_states, row_at, wait_node, top_node, wait_list, top_list, waiter_for, first_waiter, owners_in, with_row, with_wait_on, with_owner_of};
-ghost use Rattle.pif_rtmutex.specs.Holds.{HoldsWaiters, IsRankedTop, HoldsTops, IsToppedBut, HoldsStates, HasRoomForStates};
-ghost use Rattle.pif_rtmutex.specs.Behind.{IsLast, IsBehind};
-ghost use Rattle.pif_rtmutex.specs.Frames.{SameOutsideStates, ChangesTops, KeepsWaiterNodes};
+ghost use Rattle.pif_owners.specs.States.{IsThread, empty_states, row_at, wait_node, top_node, wait_list, top_list, waiter_for, first_waiter, owners_in, with_row, with_wait_on, with_owner_of};
+ghost use Rattle.pif_owners.specs.Holds.{HoldsWaiters, IsRankedTop, HoldsTops, IsToppedBut, HoldsStates, HasRoomForStates};
+ghost use Rattle.pif_owners.specs.Behind.{IsLast, IsBehind};
+ghost use Rattle.pif_owners.specs.Frames.{SameOutsideStates, ChangesTops, KeepsWaiterNodes};
 ghost use Rattle.pif_rtmutex.specs.Maximum.{greatest_rank, maximum_of};
 ghost use Rattle.pif_rtmutex.specs.Fields.{State as StateSeen, IsSpare};
 
@@ -36,7 +36,7 @@ pub struct RtMutexes {
 
 impl Model for RtMutexes {
     ghost use Rattle.std.specs.Prelude.{◌≡◌, ◌+◌, ◌*◌, ◌^◌, ◌<◌, ◌≤◌, length, vec_capacity};
-    ghost use Rattle.pif_rtmutex.specs.States.{States, states_code};
+    ghost use Rattle.pif_owners.specs.States.{States, states_code};
     ghost use Rattle.pif_rtmutex.specs.Fields.{states_from, IsSpare};
 
     ghost Value = { States };

@@ -1,6 +1,6 @@
 -- Where a scanner stands.
 use Rattle.pif_scripts.specs.declared.reading.scanner.Scanner.{Scanner}
-use Rattle.pif_scripts.specs.Scripts.{Scan}
+use Rattle.pif_script_model.specs.Scripts.{Scan}
 
 -- where the script stands that a scanner reads
 abbrev pub scan_of : {S : Type 0} → Scanner S → Scan S

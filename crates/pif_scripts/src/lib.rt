@@ -6,7 +6,6 @@
 //! at once.
 #![tactic(auto)]
 
-mod faults;
 mod laws;
 mod migrating;
 mod notices;
@@ -20,12 +19,12 @@ mod tracing;
 mod transcribing;
 mod writing;
 
-pub use faults::CliFault;
 pub use laws::commands_have_no_fault;
 pub use migrating::{migrate, migrate_noting, migrated_trace_has_its_verdict, read_all};
 pub use notices::Notice;
+pub use pif_script_model::{CliFault, Ending, OpenFault};
 pub use pif_text::Cause;
-pub use reading::{Ending, MOST_BYTES, MOST_LINE, OpenFault};
+pub use reading::{MOST_BYTES, MOST_LINE};
 pub use running::{obey, open_core};
 pub use runs::{
     replay, replay_noting, run, run_noting, script_trace_is_the_same, trace, trace_noting,

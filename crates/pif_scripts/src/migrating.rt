@@ -1,6 +1,6 @@
 ghost use Rattle.std.specs.Prelude.{◌≡◌, ◌+◌, ◌≤◌, length, IfErr, IfOk, Err, None, Ok, Some, option_map};
-ghost use Rattle.pif_text.specs.declared.traces.Version.{Version};
-ghost use Rattle.pif_scripts.specs.Migrating.{FailsToRead, IsAllRead, IsFaultOfForm, MigratesTo, ReadsMore, ReadsTo, VerdictStays, forming};
+ghost use Rattle.pif_text_model.specs.declared.traces.Version.{Version};
+ghost use Rattle.pif_script_model.specs.Migrating.{FailsToRead, IsAllRead, IsFaultOfForm, MigratesTo, ReadsMore, ReadsTo, VerdictStays, form_hearing};
 
 use crate::reading::{
     CHUNK, End, Ending, Listener, MOST_BYTES, OpenFault, Output, Scanner, Stop, append_end, stop,
@@ -31,9 +31,9 @@ impl Model for Forming {
 }
 
 impl Listener for Forming {
-    ghost hearing = { forming };
+    ghost hearing = { form_hearing };
 
-    #[tactic(auto, unfolding(crate::specs::Migrating::second_line_form, crate::specs::Migrating::first_form))]
+    #[tactic(auto, unfolding(pif_script_model::specs::Migrating::second_line_form, pif_script_model::specs::Migrating::first_form))]
     fn open(
         _alloc: Global,
         version: Option<Version>,
@@ -52,7 +52,7 @@ impl Listener for Forming {
         }
     }
 
-    #[tactic(auto, unfolding(crate::specs::Migrating::line_form))]
+    #[tactic(auto, unfolding(pif_script_model::specs::Migrating::line_form))]
     fn hear(&mut self, line: &[u8], _output: &mut Output) -> Result<(), Ending> {
         let Some((command, _)) = traced_of(self.version, line) else {
             return Err(Ending::Fault(Cause::Command));

@@ -1,7 +1,7 @@
 ghost use Rattle.std.specs.Prelude.{◌≡◌, Option, Some, None, Ok, Err, MatchOption, option_map, bytes_eq, if◌then◌else◌};
-ghost use Rattle.pif_text.specs.Replies.{text_of};
-ghost use Rattle.pif_text.specs.Traces.{version_in};
-ghost use Rattle.pif_scripts.specs.Traces.{Replay, traced_in, trace_hearing};
+ghost use Rattle.pif_text_model.specs.Replies.{text_of};
+ghost use Rattle.pif_text_model.specs.Traces.{version_in};
+ghost use Rattle.pif_script_model.specs.Traces.{Replay, traced_in, trace_hearing};
 
 use crate::reading::{End, Ending, Listener, OpenFault, Output, append, append_end};
 use crate::running::{obey, open_core};
@@ -28,7 +28,7 @@ impl Model for Replayed {
 }
 
 /// The command of a line of a trace of a version, and the answer that it records.
-#[tactic(auto, unfolding(crate::specs::Traces::traced_in))]
+#[tactic(auto, unfolding(pif_script_model::specs::Traces::traced_in))]
 pub fn traced_of(version: Version, line: &[u8]) -> Option<(Command, &[u8])>
     ensures { option_map (λ traced. (traced.0, traced.1.now)) result ≡ traced_in version line.now }
 {
@@ -73,7 +73,7 @@ fn compare(reply: Reply, recorded: &[u8]) -> Result<(), Ending>
 impl Listener for Replayed {
     ghost hearing = { trace_hearing };
 
-    #[tactic(auto, unfolding(crate::specs::Traces::second_line_meaning))]
+    #[tactic(auto, unfolding(pif_script_model::specs::Traces::second_line_meaning))]
     fn open(
         alloc: Global,
         version: Option<Version>,
@@ -93,7 +93,7 @@ impl Listener for Replayed {
         }
     }
 
-    #[tactic(auto, unfolding(crate::specs::Traces::traced_meaning))]
+    #[tactic(auto, unfolding(pif_script_model::specs::Traces::traced_meaning))]
     fn hear(&mut self, line: &[u8], _output: &mut Output) -> Result<(), Ending> {
         let Some((command, recorded)) = traced_of(self.version, line) else {
             return Err(Ending::Fault(Cause::Command));

@@ -2,9 +2,9 @@ ghost use Rattle.std.specs.Prelude.{◌≡◌, ◌+◌, ◌≤◌, ◌++◌, ◌
 ghost use Rattle.arrayvec.specs.ArrayVec.{array_vec_len};
 ghost use Rattle.pif_types.specs.Bounds.{Bounds};
 ghost use Rattle.pif_model.specs.Table.{new_table};
-ghost use Rattle.pif_text.specs.declared.replies.Fact.TheVariants as fact;
-ghost use Rattle.pif_text.specs.Replies.{text_of};
-ghost use Rattle.pif_scripts.specs.Running.{added_thread, added_mutex, added_cond, addition_answer, addition_after, fact_or_none, was_added, priority_fact, question_answer, run_outcome, command_answer, default_limits, script, first_answer, limited_answer, answer_or_fault, IsAnswer, Makes};
+ghost use Rattle.pif_text_model.specs.declared.replies.Fact.TheVariants as fact;
+ghost use Rattle.pif_text_model.specs.Replies.{text_of};
+ghost use Rattle.pif_script_model.specs.Running.{added_thread, added_mutex, added_cond, addition_answer, addition_after, fact_or_none, was_added, priority_fact, question_answer, run_outcome, command_answer, default_limits, script, first_answer, limited_answer, answer_or_fault, IsAnswer, Makes};
 
 use crate::reading::{
     ANSWER_ROOM, End, Ending, Listener, OUTPUT_ROOM, OpenFault, Output, REPLY_ROOM, append_end,
@@ -44,7 +44,7 @@ fn added_cond(added: Result<CondId, AddFault>) -> Added
 }
 
 /// Makes an addition, and says what it is answered.
-#[tactic(auto, unfolding(crate::specs::Running::addition_answer, crate::specs::Running::addition_after))]
+#[tactic(auto, unfolding(pif_script_model::specs::Running::addition_answer, pif_script_model::specs::Running::addition_after))]
 fn add(core: &mut Core, addition: Addition) -> Added
     ensures answer { result ≡ addition_answer addition core.old }
     ensures after { core.new ≡ addition_after addition core.old }
@@ -101,7 +101,7 @@ fn priority_fact(priority: Option<Prio>, added: bool) -> Fact
 }
 
 /// What a question is answered.
-#[tactic(auto, unfolding(crate::specs::Running::question_answer))]
+#[tactic(auto, unfolding(pif_script_model::specs::Running::question_answer))]
 fn ask(core: &Core, question: Question) -> Fact
     ensures { result ≡ question_answer question core.now }
 {
@@ -126,7 +126,7 @@ fn run(core: &mut Core, thread: Tid, request: Option<Request>) -> Seen
 }
 
 /// What a command is answered. `None` for `limits`, which is a first command alone; the core is then unchanged.
-#[tactic(auto, unfolding(crate::specs::Running::command_answer))]
+#[tactic(auto, unfolding(pif_script_model::specs::Running::command_answer))]
 pub fn obey(core: &mut Core, command: Command) -> Option<Reply>
     ensures { MatchOption result ((command_answer command core.old ≡ None) × (core.new ≡ core.old))
         (λ reply. command_answer command core.old ≡ Some (reply, core.new)) }
@@ -189,7 +189,7 @@ fn open_default(alloc: Global, command: Command) -> Result<(Core, Reply), OpenFa
 /// # Errors
 ///
 /// The cause, where the command is a fault as the first one, and `NoMemory`.
-#[tactic(auto, unfolding(crate::specs::Running::first_answer, crate::specs::Running::limits_in))]
+#[tactic(auto, unfolding(pif_script_model::specs::Running::first_answer, pif_script_model::specs::Running::limits_in))]
 pub fn open_core(alloc: Global, command: Command) -> Result<(Core, Reply), OpenFault>
     ensures { Makes (first_answer command) result }
 {
@@ -204,7 +204,7 @@ pub fn open_core(alloc: Global, command: Command) -> Result<(Core, Reply), OpenF
 impl Listener for Core {
     ghost hearing = { script };
 
-    #[tactic(auto, unfolding(crate::specs::Running::first_line_meaning))]
+    #[tactic(auto, unfolding(pif_script_model::specs::Running::first_line_meaning))]
     fn open(
         alloc: Global,
         _version: Option<Version>,
@@ -221,7 +221,7 @@ impl Listener for Core {
         }
     }
 
-    #[tactic(auto, unfolding(crate::specs::Running::line_meaning))]
+    #[tactic(auto, unfolding(pif_script_model::specs::Running::line_meaning))]
     fn hear(&mut self, line: &[u8], output: &mut Output) -> Result<(), Ending> {
         let Some(command) = command_of(line) else {
             return Err(Ending::Fault(Cause::Command));

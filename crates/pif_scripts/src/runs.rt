@@ -1,6 +1,6 @@
-ghost use Rattle.pif_scripts.specs.Running.{RunsTo};
-ghost use Rattle.pif_scripts.specs.Traces.{ReplaysTo};
-ghost use Rattle.pif_scripts.specs.Transcripts.{SameAsTraced, TracesTo};
+ghost use Rattle.pif_script_model.specs.Running.{RunsTo};
+ghost use Rattle.pif_script_model.specs.Traces.{ReplaysTo};
+ghost use Rattle.pif_script_model.specs.Transcripts.{SameAsTraced, TracesTo};
 
 use crate::reading::read_script;
 use crate::replaying::Replayed;

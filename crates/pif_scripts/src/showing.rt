@@ -1,12 +1,12 @@
 ghost use Rattle.std.specs.Prelude.{◌≡◌, ◌+◌, ◌≤◌, ◌<◌, Ok, None, true, List, ℕ, length, OnOk};
 ghost use Rattle.std.specs.Io.KnownBytes.{Keeps};
 ghost use Rattle.arrayvec.specs.ArrayVec.{array_vec_len};
-ghost use Rattle.pif_show.specs.Extends.{Stays};
-ghost use Rattle.pif_scripts.specs.Scripts.{closed_at};
-ghost use Rattle.pif_scripts.specs.Running.{script};
-ghost use Rattle.pif_scripts.specs.Runs.{WritesEnd, Feeds, Stops, RunsPart};
+ghost use Rattle.pif_text_model.specs.Extends.{Stays};
+ghost use Rattle.pif_script_model.specs.Scripts.{closed_at};
+ghost use Rattle.pif_script_model.specs.Running.{script};
+ghost use Rattle.pif_script_model.specs.Runs.{WritesEnd, Feeds, Stops, RunsPart};
 ghost use Rattle.pif_scripts.specs.Scanners.{scan_of};
-ghost use Rattle.pif_scripts.specs.Showing.{OrUnwritten, ShowsTo, Silent};
+ghost use Rattle.pif_script_model.specs.Showing.{OrUnwritten, ShowsTo, Silent};
 
 use crate::reading::{
     CHUNK, END_ROOM, End, MOST_LINE, OUTPUT_ROOM, Output, Scanner, Stop, append, stop,

@@ -1,10 +1,10 @@
 ghost use Rattle.std.specs.Prelude.{◌≡◌, ◌+◌, ◌≤◌, IfErr, IfOk, IfSome, Option, Some, None};
 ghost use Rattle.arrayvec.specs.ArrayVec.{array_vec_len};
 ghost use Rattle.pif_model.specs.Table.{Table};
-ghost use Rattle.pif_text.specs.declared.commands.Command.{Command};
-ghost use Rattle.pif_scripts.specs.Running.{line_meaning, script};
-ghost use Rattle.pif_scripts.specs.Scripts.{Hears};
-ghost use Rattle.pif_scripts.specs.Showing.{as_done, state_behind};
+ghost use Rattle.pif_text_model.specs.declared.commands.Command.{Command};
+ghost use Rattle.pif_script_model.specs.Running.{line_meaning, script};
+ghost use Rattle.pif_script_model.specs.Scripts.{Hears};
+ghost use Rattle.pif_script_model.specs.Showing.{as_done, state_behind};
 
 use crate::reading::{
     ANSWER_ROOM, End, Ending, Listener, OUTPUT_ROOM, OpenFault, Output, append_end,
@@ -76,7 +76,7 @@ fn follow(core: &mut Core, command: Option<Command>)
 }
 
 /// Has a core answer a line. Answers the command and what that is answered.
-#[tactic(auto, unfolding(crate::specs::Running::line_meaning))]
+#[tactic(auto, unfolding(pif_script_model::specs::Running::line_meaning))]
 fn answer_line(
     core: &mut Core,
     line: &[u8],
@@ -105,7 +105,7 @@ fn answer_line(
 impl Listener for Shown {
     ghost hearing = { script };
 
-    #[tactic(auto, unfolding(crate::specs::Running::first_line_meaning))]
+    #[tactic(auto, unfolding(pif_script_model::specs::Running::first_line_meaning))]
     fn open(
         alloc: Global,
         _version: Option<Version>,

@@ -1,6 +1,6 @@
 ghost use Rattle.std.specs.Prelude.{◌≡◌, ◌+◌, ◌≤◌, ◌++◌};
-ghost use Rattle.pif_scripts.specs.Runs.{Writes};
-ghost use Rattle.pif_scripts.specs.Traces.{SameAgain, entry_command, entry_reply, entry_text, entry_line, front_lines, limits_text, trace};
+ghost use Rattle.pif_script_model.specs.Runs.{Writes};
+ghost use Rattle.pif_script_model.specs.Traces.{SameAgain, entry_command, entry_reply, entry_text, entry_line, front_lines, limits_text, trace};
 ghost use Rattle.arrayvec.specs.ArrayVec.{array_vec_len};
 
 use crate::CliFault;
@@ -47,7 +47,7 @@ fn entry_reply(entry: Entry) -> Reply
 }
 
 /// Appends an entry as a command and the answer to it.
-#[tactic(auto, unfolding(crate::specs::Traces::entry_text))]
+#[tactic(auto, unfolding(pif_script_model::specs::Traces::entry_text))]
 fn append_entry(entry: Entry, text: &mut Text)
     requires { array_vec_len text.old + ROW_ROOM ≤ TEXT_ROOM }
     ensures written { text.new.items ≡ text.old.items ++ entry_text entry }
@@ -75,7 +75,7 @@ fn append_limits(limits: Limits, text: &mut Text)
 }
 
 /// The first two lines of a trace.
-#[tactic(auto, unfolding(crate::specs::Traces::front_lines))]
+#[tactic(auto, unfolding(pif_script_model::specs::Traces::front_lines))]
 pub fn front_lines(limits: Limits) -> Text
     ensures written { result.items ≡ front_lines limits }
     ensures within { array_vec_len result ≤ FRONT_ROOM }

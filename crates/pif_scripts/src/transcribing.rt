@@ -5,9 +5,9 @@ ghost use Rattle.pif_model.specs.Table.{Table};
 ghost use Rattle.pif_model.specs.declared.events.Event.TheVariants as event;
 ghost use Rattle.pif_model.specs.Lines.{event_outcome, goes_on};
 ghost use Rattle.pif_calls.specs.Calls.{call_outcome};
-ghost use Rattle.pif_scripts.specs.Running.{run_outcome};
-ghost use Rattle.pif_scripts.specs.Traces.{entry_line};
-ghost use Rattle.pif_scripts.specs.Transcripts.{Transcribed, call_entries, entry_lines, event_entry, first_limits, going_entries, is_added, row, run_entries, single_line, transcript, was_made};
+ghost use Rattle.pif_script_model.specs.Running.{run_outcome};
+ghost use Rattle.pif_script_model.specs.Traces.{entry_line};
+ghost use Rattle.pif_script_model.specs.Transcripts.{Transcribed, call_entries, entry_lines, event_entry, first_limits, going_entries, is_added, row, run_entries, single_line, transcript, was_made};
 
 use crate::reading::{End, Ending, Listener, OUTPUT_ROOM, OpenFault, Output, append};
 use crate::running::{default_limits, obey};
@@ -20,8 +20,8 @@ use pif_types::{Limits, Request, Tid};
 use std::alloc::Global;
 use std::marker::Model;
 
-/// The most bytes that a thread's going on makes: 24 steps (`MORE_STEPS`, and the first).
-const FINISH_ROOM: usize = 24 * LINE_ROOM;
+/// The most bytes that a thread's going on makes: the lines of its first step, and of `MORE_STEPS` behind that.
+const FINISH_ROOM: usize = (MORE_STEPS as usize + 1) * LINE_ROOM;
 
 /// The most bytes that the lines have that a command makes.
 const LINES_ROOM: usize = LINE_ROOM + FINISH_ROOM;
@@ -169,7 +169,7 @@ fn transcribe(core: &mut Core, command: Command, output: &mut Output) -> Option<
 }
 
 /// The limits of the core that a first command makes; `None` where it names one that is out of its range.
-#[tactic(auto, unfolding(crate::specs::Transcripts::first_limits, crate::specs::Running::limits_in))]
+#[tactic(auto, unfolding(pif_script_model::specs::Transcripts::first_limits, pif_script_model::specs::Running::limits_in))]
 pub fn first_limits(command: Command) -> Option<Limits>
     ensures { result ≡ first_limits command }
 {

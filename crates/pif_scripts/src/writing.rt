@@ -1,4 +1,4 @@
-ghost use Rattle.pif_scripts.specs.Runs.{Writes};
+ghost use Rattle.pif_script_model.specs.Runs.{Writes};
 
 use crate::CliFault;
 use std::io::Write;

@@ -6,24 +6,24 @@ use Rattle.std.proofs.lemmas.Bool.Decides.{nat_tests}
 use Rattle.std.proofs.lemmas.Grind.{flat_map-append}
 use Rattle.std.proofs.lemmas.List.Elements.{All-append}
 use Rattle.pif_model.specs.Table.{Table}
-use Rattle.pif_text.specs.declared.commands.Command.{Command}
-use Rattle.pif_text.specs.declared.replies.Cause.{Cause}
-use Rattle.pif_text.specs.declared.replies.Cause.TheVariants.{Command as NoCommand}
-use Rattle.pif_text.specs.declared.traces.Version.{Version}
-use Rattle.pif_text.specs.Commands.{command_in}
-use Rattle.pif_text.specs.CommandTexts.{command_text, IsWritten}
-use Rattle.pif_text.specs.Replies.{text_of}
-use Rattle.pif_text.specs.Traces.{version_in}
-use Rattle.pif_text.proofs.Plain.{lacks}
-use Rattle.pif_text.proofs.PlainTexts.{command-line}
-use Rattle.pif_text.proofs.ReadBack.{command_back}
-use Rattle.pif_scripts.specs.declared.reading.ending.Ending.TheVariants.{Fault}
-use Rattle.pif_scripts.specs.CommandLines.{command_line, script_lines}
-use Rattle.pif_scripts.specs.Running.{Answer, answer_line, answer_or_fault, command_answer, first_answer, first_line_meaning, line_meaning, made_by, script}
-use Rattle.pif_scripts.specs.Scripts.{FirstMeaning, Hearing, Meaning, Scan, after_line, answer_to_line, answered_first, answered_later, closed_at, ended_by, reading_of, start, with_byte}
-use Rattle.pif_scripts.specs.Transcripts.{script_end}
-use Rattle.pif_scripts.proofs.SameAgainLemmas.{reading_of-line}
-use Rattle.pif_scripts.proofs.ScriptLemmas.{byte_taken-byte, byte_taken-end, reading_of-append, reading_of-nil, reading_of-ok}
+use Rattle.pif_text_model.specs.declared.commands.Command.{Command}
+use Rattle.pif_text_model.specs.declared.replies.Cause.{Cause}
+use Rattle.pif_text_model.specs.declared.replies.Cause.TheVariants.{Command as NoCommand}
+use Rattle.pif_text_model.specs.declared.traces.Version.{Version}
+use Rattle.pif_text_model.specs.Commands.{command_in}
+use Rattle.pif_text_model.specs.CommandTexts.{command_text, IsWritten}
+use Rattle.pif_text_model.specs.Replies.{text_of}
+use Rattle.pif_text_model.specs.Traces.{version_in}
+use Rattle.pif_text_model.proofs.Plain.{lacks}
+use Rattle.pif_text_model.proofs.PlainTexts.{command-line}
+use Rattle.pif_text_model.proofs.ReadBack.{command_back}
+use Rattle.pif_script_model.specs.declared.ending.Ending.TheVariants.{Fault}
+use Rattle.pif_script_model.specs.CommandLines.{command_line, script_lines}
+use Rattle.pif_script_model.specs.Running.{Answer, answer_line, answer_or_fault, command_answer, first_answer, first_line_meaning, line_meaning, made_by, script}
+use Rattle.pif_script_model.specs.Scripts.{FirstMeaning, Hearing, Meaning, Scan, after_line, answer_to_line, answered_first, answered_later, closed_at, ended_by, reading_of, start, with_byte}
+use Rattle.pif_script_model.specs.Transcripts.{script_end}
+use Rattle.pif_script_model.proofs.SameAgainLemmas.{reading_of-line}
+use Rattle.pif_script_model.proofs.ScriptLemmas.{byte_taken-byte, byte_taken-end, reading_of-append, reading_of-nil, reading_of-ok}
 use Rattle.pif_shell.specs.Sessions.{AnswersAsRuns, IsPlayed, KeepsRuns, Leaves, answer_by}
 
 -- ---- one line

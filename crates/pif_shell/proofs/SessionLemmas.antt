@@ -4,11 +4,11 @@ use Rattle.std.specs.Prelude.{All}
 use Rattle.std.proofs.lemmas.List.{take_more}
 use Rattle.std.proofs.lemmas.List.Elements.{All-append, All-nil}
 use Rattle.pif_model.specs.Table.{Table}
-use Rattle.pif_text.specs.declared.commands.Command.{Command}
-use Rattle.pif_text.specs.CommandTexts.{IsWritten}
-use Rattle.pif_scripts.specs.Running.{Answer}
-use Rattle.pif_stories.specs.Checks.{TellsTo, filled}
-use Rattle.pif_text.specs.declared.replies.Reply.{Reply}
+use Rattle.pif_text_model.specs.declared.commands.Command.{Command}
+use Rattle.pif_text_model.specs.CommandTexts.{IsWritten}
+use Rattle.pif_script_model.specs.Running.{Answer}
+use Rattle.pif_stories.specs.Checks.{TellsTo, fill_telling}
+use Rattle.pif_text_model.specs.declared.replies.Reply.{Reply}
 use Rattle.pif_shell.specs.declared.sessions.Unplayed.{Unplayed}
 use Rattle.pif_shell.specs.Sessions.{AnswersCommand, IsPlayed, Leaves, PlaysParts, answer_by}
 
@@ -53,7 +53,7 @@ played_less cs c was core k l = (l, front_of cs c k.1, omega (arith, k.2, length
 
 -- a script that was filled in, from memory to memory
 pub story_filled : (script left out : List ℕ) (x : Unit {0}) → length script ≤ 16777216
-    → TellsTo (filled []) (Some script) (Some left) (Some []) (Some out) (Ok x) → filled [] script ≡ (out, Ok x)
+    → TellsTo (fill_telling []) (Some script) (Some left) (Some []) (Some out) (Ok x) → fill_telling [] script ≡ (out, Ok x)
 story_filled script left out x short t =
     let none : left ≡ [] =
     elim t.3.1 [
@@ -61,7 +61,7 @@ story_filled script left out x short t =
       | inr end ↦ end
     ] in
     let same : script ≡ t.0 = t.1 ∙ ap (λ l. t.0 ++ l) none ∙ append-nil t.0 in
-    ap (filled []) same ∙ (λ i. ((sym t.3.2) i, t.3.0 i))
+    ap (fill_telling []) same ∙ (λ i. ((sym t.3.2) i, t.3.0 i))
 
 -- a command was played, or was not
 pub played_after : (c : Command) (old : List Command) (was : Option Table) (new : List Command) (left : Option Table)

@@ -1,9 +1,9 @@
 -- What is read and written, one part after the other.
 use Rattle.std.proofs.Common.{ℕ, true, false, List, ◌++◌, Option, Ok, Err}
 use Rattle.std.proofs.KnownBytes.{Consumes-trans}
-use Rattle.pif_show.specs.Extends.{Stays}
-use Rattle.pif_scripts.specs.declared.faults.CliFault.{CliFault}
-use Rattle.pif_scripts.specs.declared.faults.CliFault.TheVariants.{Differs, NoMemory, Read, Script, Write}
+use Rattle.pif_text_model.specs.Extends.{Stays}
+use Rattle.pif_script_model.specs.declared.faults.CliFault.{CliFault}
+use Rattle.pif_script_model.specs.declared.faults.CliFault.TheVariants.{Differs, NoMemory, Read, Script, Write}
 use Rattle.pif_shell.specs.Talks.{Reads, TalksTo, TurnsTo}
 
 pub reads_more : (a b c : Option (List ℕ)) → Reads a b → Reads b c → Reads a c

@@ -4,9 +4,9 @@ use Rattle.pif_types.specs.declared.errors.Errno.{Errno}
 use Rattle.pif_types.specs.Numbers.{number_of}
 use Rattle.pif_model.specs.declared.events.Seen.{Seen}
 use Rattle.pif_model.specs.declared.events.Seen.TheVariants as seen
-use Rattle.pif_text.specs.declared.replies.Reply.{Reply}
-use Rattle.pif_text.specs.declared.replies.Reply.TheVariants as reply
-use Rattle.pif_text.specs.Replies.{text_of}
+use Rattle.pif_text_model.specs.declared.replies.Reply.{Reply}
+use Rattle.pif_text_model.specs.declared.replies.Reply.TheVariants as reply
+use Rattle.pif_text_model.specs.Replies.{text_of}
 use Rattle.pif_show.specs.Names.{errno_name}
 
 -- a text of this kind was appended

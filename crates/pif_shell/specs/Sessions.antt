@@ -2,17 +2,17 @@
 use Rattle.std.specs.Prelude.{ℕ, ◌≡◌, ◌≤◌, ◌<◌, List, [], ◌∷◌, ◌++◌, All, length, Option, Some, None, Result, Ok, Err}
 use Rattle.pif_model.specs.Table.{Table}
 use Rattle.pif_slips.specs.Slips.{IsIn}
-use Rattle.pif_text.specs.declared.commands.Command.{Command}
-use Rattle.pif_text.specs.declared.replies.Cause.{Cause}
-use Rattle.pif_text.specs.declared.replies.Reply.{Reply}
-use Rattle.pif_text.specs.Commands.{command_in}
-use Rattle.pif_text.specs.CommandTexts.{IsWritten}
-use Rattle.pif_text.specs.Replies.{text_of}
-use Rattle.pif_scripts.specs.CommandLines.{script_lines}
-use Rattle.pif_scripts.specs.Running.{Answer, answer_or_fault, command_answer, first_answer}
-use Rattle.pif_scripts.specs.Scripts.{Scan}
-use Rattle.pif_scripts.specs.Transcripts.{script_end, script_reading}
-use Rattle.pif_stories.specs.Checks.{filled}
+use Rattle.pif_text_model.specs.declared.commands.Command.{Command}
+use Rattle.pif_text_model.specs.declared.replies.Cause.{Cause}
+use Rattle.pif_text_model.specs.declared.replies.Reply.{Reply}
+use Rattle.pif_text_model.specs.Commands.{command_in}
+use Rattle.pif_text_model.specs.CommandTexts.{IsWritten}
+use Rattle.pif_text_model.specs.Replies.{text_of}
+use Rattle.pif_script_model.specs.CommandLines.{script_lines}
+use Rattle.pif_script_model.specs.Running.{Answer, answer_or_fault, command_answer, first_answer}
+use Rattle.pif_script_model.specs.Scripts.{Scan}
+use Rattle.pif_script_model.specs.Transcripts.{script_end, script_reading}
+use Rattle.pif_stories.specs.Checks.{fill_telling}
 use Rattle.pif_shell.specs.declared.sessions.Refusal.{Refusal}
 use Rattle.pif_shell.specs.declared.sessions.Refusal.TheVariants as refusal
 use Rattle.pif_shell.specs.declared.sessions.Unplayed.{Unplayed}
@@ -107,7 +107,7 @@ IsPrinted cs c line =
 
 -- the story of these commands: filling in their script has no fault, and gives this
 abbrev pub IsStoryOf : List Command → List ℕ → Type 0
-IsStoryOf cs story = filled [] (script_lines cs) ≡ (story, Ok tt)
+IsStoryOf cs story = fill_telling [] (script_lines cs) ≡ (story, Ok tt)
 
 -- what a session keeps is a script without a fault, and its core is the one behind a run of that
 abbrev pub KeepsRuns : Type 0

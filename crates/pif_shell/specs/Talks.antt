@@ -1,9 +1,9 @@
 -- What a shell does over a reader and a writer.
 use Rattle.std.specs.Prelude.{ℕ, ◌≡◌, List, Bool, true, false, Option, Result, Ok, Err}
 use Rattle.std.specs.Io.KnownBytes.{Consumes, IsAtEnd}
-use Rattle.pif_show.specs.Extends.{Stays}
-use Rattle.pif_scripts.specs.declared.faults.CliFault.{CliFault}
-use Rattle.pif_scripts.specs.declared.faults.CliFault.TheVariants.{Differs, NoMemory, Read, Script, Write}
+use Rattle.pif_text_model.specs.Extends.{Stays}
+use Rattle.pif_script_model.specs.declared.faults.CliFault.{CliFault}
+use Rattle.pif_script_model.specs.declared.faults.CliFault.TheVariants.{Differs, NoMemory, Read, Script, Write}
 
 -- some bytes were read
 abbrev pub Reads : (before after : Option (List ℕ)) → Type 0

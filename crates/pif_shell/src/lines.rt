@@ -2,10 +2,8 @@ ghost use Rattle.std.specs.Prelude.{◌≤◌};
 ghost use Rattle.pif_shell.specs.Talks.{ReadsOn};
 
 use arrayvec::ArrayVec;
+use pif_scripts::MOST_LINE;
 use std::io::Read;
-
-/// The most bytes of a line before its LF.
-const MOST_LINE: usize = 120;
 
 /// The most bytes that are read at once.
 const CHUNK: usize = 4096;

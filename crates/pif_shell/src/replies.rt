@@ -1,6 +1,6 @@
 ghost use Rattle.std.specs.Prelude.{◌≡◌, ◌+◌, ◌≤◌, ◌++◌, ◌∷◌, length};
 ghost use Rattle.arrayvec.specs.ArrayVec.{array_vec_len};
-ghost use Rattle.pif_text.specs.Replies.{text_of};
+ghost use Rattle.pif_text_model.specs.Replies.{text_of};
 ghost use Rattle.pif_show.specs.Names.{errno_name};
 ghost use Rattle.pif_shell.specs.Replies.{AddsSome, IsBehindAnswer, IsLineOf, number_of_reply, number_seen};
 

@@ -1,7 +1,7 @@
 ghost use Rattle.std.specs.Prelude.{◌≡◌, ◌<◌, ◌≤◌, ◌++◌, ◌∷◌, [], List, All, IfErr, IfOk, OnOk, Ok, Err, None, Some, length, is_some, vec_len, vec_capacity, option_copied};
 ghost use Rattle.pif_model.specs.Table.{Table};
-ghost use Rattle.pif_text.specs.CommandTexts.{IsWritten};
-ghost use Rattle.pif_scripts.specs.CommandLines.{command_line, script_lines};
+ghost use Rattle.pif_text_model.specs.CommandTexts.{IsWritten};
+ghost use Rattle.pif_script_model.specs.CommandLines.{command_line, script_lines};
 ghost use Rattle.pif_shell.specs.Sessions.{AnswersCommand, AnswersAsRuns, HasNoRoom, IsStoryOf, KeepsRuns, Leaves, PlaysParts, TakesBack};
 
 use pif_core::{Core, Event};

@@ -1,4 +1,4 @@
-ghost use Rattle.pif_show.specs.Extends.{Stays};
+ghost use Rattle.pif_text_model.specs.Extends.{Stays};
 
 use crate::changes::{Holder, awaited, holder_of};
 use crate::pages::Page;

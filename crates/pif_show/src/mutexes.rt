@@ -1,7 +1,7 @@
 ghost use Rattle.std.specs.Prelude.{◌≡◌, false};
 ghost use Rattle.pif_model.specs.Projection.{health_of};
 ghost use Rattle.pif_model.specs.Word.{health_word, word_of};
-ghost use Rattle.pif_show.specs.Extends.{Stays};
+ghost use Rattle.pif_text_model.specs.Extends.{Stays};
 
 use crate::changes::{has_mutex_changed, holder_of};
 use crate::pages::Page;

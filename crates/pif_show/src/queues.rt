@@ -1,4 +1,4 @@
-ghost use Rattle.pif_show.specs.Extends.{Stays};
+ghost use Rattle.pif_text_model.specs.Extends.{Stays};
 
 use crate::pages::Page;
 use pif_core::Core;

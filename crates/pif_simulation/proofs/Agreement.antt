@@ -4,10 +4,10 @@ use Rattle.std.proofs.lemmas.Bool.{cases_eq, true≢false}
 use Rattle.pif_types.specs.declared.requests.Request.{Request}
 use Rattle.pif_model.specs.declared.lines.Line.{Line}
 use Rattle.pif_model.specs.Posix.{Health, Progress, is_blocked, is_call_blocked, variable_of, on_taking}
-use Rattle.pif_model.specs.Posix.Health.{Fine, Inconsistent, Unusable}
+use Rattle.pif_model.specs.World.Health.{Fine, Inconsistent, Unusable}
 use Rattle.pif_model.specs.PiKernel.{is_parked}
 use Rattle.pif_model.specs.Table.{Table, status_at, line_at}
-use Rattle.pif_model.specs.Projection.{Shadow, Agrees, call_shown, may_enlist, chooses_on, remembered}
+use Rattle.pif_model.specs.Projection.{Shadow, Agrees, call_shown, may_enlist, chooses_on, is_remembered}
 use Rattle.pif_chains.proofs.Waiting.{by_test}
 
 -- a call that is blocked on c after a step, and not parked, was so before
@@ -41,7 +41,7 @@ framed {s} {v} f x a = record {
   parked = λ t u c chosen z r b. by_choice t u c z r b (f.chooses t c z chosen);
 }
   where
-    by_choice : (t u c : ℕ) → c ≢ 0 → remembered x t u ≡ true → is_call_blocked c (call_shown v u) ≡ true
+    by_choice : (t u c : ℕ) → c ≢ 0 → is_remembered x t u ≡ true → is_call_blocked c (call_shown v u) ≡ true
         → (chooses_on (line_at s t) ≡ c) ⊎ AllParked v c → is_parked (status_at v u) ≡ true
     by_choice t u c z r b (inr all) = all u b
     by_choice t u c z r b (inl chosen) = by_test (λ p. is_parked (status_at v u) ≡ p → p ≡ true)

@@ -15,12 +15,12 @@ use Rattle.pif_model.specs.declared.lines.Status.{Status}
 use Rattle.pif_model.specs.declared.lines.Timer.{Timer}
 use Rattle.pif_model.specs.Deadlines.{plain, timer_of}
 use Rattle.pif_model.specs.Posix.{Health, Memory, Thread, World, nobody, no_memory, thread_at, with_thread, begun_memory, begun_thread, blocked_below, is_blocked_on, is_call_blocked, names_known}
-use Rattle.pif_model.specs.Posix.Progress.{Fresh}
+use Rattle.pif_model.specs.World.Progress.{Fresh}
 use Rattle.pif_model.specs.Posix.Step.{begun}
 use Rattle.pif_model.specs.PiKernel.{is_ready, is_parked, is_living}
 use Rattle.pif_model.specs.Table.{Table, has_thread, has_mutex, has_cond, bound_to, uses_of, status_at, line_at, with_line}
 use Rattle.pif_model.specs.Lines.{is_open, first_place, begun_table, table_refusal}
-use Rattle.pif_model.specs.Projection.{Shadow, Agrees, memory_at, remembered, may_enlist, chooses_on, call_at, call_shown, health_at, thread_shown, world_of}
+use Rattle.pif_model.specs.Projection.{Shadow, Agrees, memory_at, is_remembered, may_enlist, chooses_on, call_at, call_shown, health_at, thread_shown, world_of}
 use Rattle.pif_model.specs.Soundness.{mutex_by, is_unsettled, LineIsSound, ListIsSound, IsSound}
 use Rattle.pif_chains.proofs.Waiting.{by_test}
 use Rattle.pif_simulation.proofs.Hole.{each_thread}
@@ -265,7 +265,7 @@ module _ (s : Table) (t : ℕ) (q : Request) (h : IsSound s) (known : is_living 
             (get_or_past s.lines u Idle k)))
 
     -- who was found has joined the blocked threads
-    joined : (a u : ℕ) → remembered y a u ≡ true → (u ≡ t) ⊎ (u ≢ t) → may_enlist (line_at v u) ≡ false
+    joined : (a u : ℕ) → is_remembered y a u ≡ true → (u ≡ t) ⊎ (u ≢ t) → may_enlist (line_at v u) ≡ false
     joined a u e (inl d) = by_test (λ b. may_enlist (At (plain q) (first_place q)) ≡ b → may_enlist (line_at v u) ≡ false)
         (may_enlist (At (plain q) (first_place q)))
         (λ f _. absurd (less (past a u (memory_at y u).waits (inl d) (was_found a u (memory_at y u).waits e))
@@ -282,7 +282,7 @@ module _ (s : Table) (t : ℕ) (q : Request) (h : IsSound s) (known : is_living 
         by_was (inr f) = blocked_joined f.0 (health_at s) (uses_of s) (line_at s u) (status_at s u) f.1
 
     -- whom another has to wake is parked
-    parked : (a u c : ℕ) → chooses_on (line_at v a) ≡ c → c ≢ 0 → remembered y a u ≡ true
+    parked : (a u c : ℕ) → chooses_on (line_at v a) ≡ c → c ≢ 0 → is_remembered y a u ≡ true
         → is_call_blocked c (call_shown v u) ≡ true → (a ≡ t) ⊎ (a ≢ t) → (u ≡ t) ⊎ (u ≢ t)
         → is_parked (status_at s u) ≡ true
     parked a u c chosen z r b (inl e) j =

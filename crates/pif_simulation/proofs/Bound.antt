@@ -36,13 +36,13 @@ use Rattle.pif_model.specs.Posix.{variable_of}
 use Rattle.pif_model.specs.PiKernel.{Kernel, Seat, seat_at, has_seat, has_ended, state_at, next_in, is_living, lock_answer, words_after_lock, kernel_after_lock, try_lock_answer, words_after_try_lock, unlock_answer, words_after_unlock, kernel_after_unlock, kernel_after_hand_over, set_prio_answer, has_parked, parked_count, has_other_target, fits_state, wait_requeue_answer, kernel_after_wait_requeue, requeue_answer, after_requeue}
 use Rattle.pif_model.specs.Table.{Table, cell_at, line_at, has_thread, bound_to, uses_of, with_line, with_word, with_cond_word, with_count, with_kernel, status_at, timer_at, with_timer}
 use Rattle.pif_model.specs.Lines.{Outcome, goes_to, answers, ends_by, relocks, own_exchange, lock_load, lock_by, lock_kernel, lock_queued, lock_stop, take_load, take_health, take_line, link_line, clears, given_up, give_health, give_exchange, given_up_by, gives_up, give_line, try_load, try_by, try_kernel, unlock_load, consistent_load, consistent_health, repair_line, answered_by, set_priority, wait_load, wait_uses, wait_by, wait_park, wait_parked, use_read, use_exchange, more_in, use_by, use_requeue, giving_line, shared_line, locking_line, use_line, line_of, go_outcome, is_open, table_refusal, accepted_outcome, by_refusal, event_outcome, goes_on, ClosesOrWaits, counts_at, expired_in, expires_at, told_outcome}
-use Rattle.pif_model.specs.Deadlines.{ran_out, is_reached, told, told_seen}
-use Rattle.pif_chains.proofs.KernelFacts.{living-added}
-use Rattle.pif_chains.proofs.KernelPlaces.{handed_has, handed_seat_same, handed_seat_other}
-use Rattle.pif_chains.proofs.LineCases.{ends_by_cases, locked_again_cases, own_exchange_cases, lock_load_cases, lock_queued_cases, take_health_cases, give_health_cases, give_exchange_cases, try_load_cases, unlock_load_cases, consistent_load_cases, consistent_health_cases, wait_load_cases, wait_uses_cases, wait_parked_cases, use_read_cases, answered_by_cases}
+use Rattle.pif_model.specs.Deadlines.{ran_out, is_reached, told_result, told_seen}
+use Rattle.pif_chains.proofs.kernel.KernelFacts.{living-added}
+use Rattle.pif_chains.proofs.kernel.KernelPlaces.{handed_has, handed_seat_same, handed_seat_other}
+use Rattle.pif_chains.proofs.kernel.LineCases.{ends_by_cases, locked_again_cases, own_exchange_cases, lock_load_cases, lock_queued_cases, take_health_cases, give_health_cases, give_exchange_cases, try_load_cases, unlock_load_cases, consistent_load_cases, consistent_health_cases, wait_load_cases, wait_uses_cases, wait_parked_cases, use_read_cases, answered_by_cases}
 use Rattle.pif_chains.proofs.Waiting.{by_test}
 use Rattle.pif_simulation.proofs.Shown.{go_allowed}
-use Rattle.pif_chains.proofs.KernelExpired.{living-expired_same}
+use Rattle.pif_chains.proofs.kernel.KernelExpired.{living-expired_same}
 
 -- how many steps at most a call may still go on, by its step
 abbrev take_rank : TakeStep → ℕ
@@ -555,7 +555,7 @@ expires-turns q p t s k l e = answers-turns (rank_in s q p) t 22 s
 -- a step turns as it is told
 told-turns : (q : Request) (x : Bool) (t n : ℕ) (o : Outcome) → Turns t n o → Turns t n (told_outcome q x o)
 told-turns q x t n o (ends (inl e)) = ends (inl (ap (told_seen q x) e))
-told-turns q x t n o (ends (inr e)) = ends (inr (told q x e.0, ap (told_seen q x) e.1))
+told-turns q x t n o (ends (inr e)) = ends (inr (told_result q x e.0, ap (told_seen q x) e.1))
 told-turns q x t n o (goes e known busy less) = goes (ap (told_seen q x) e) known busy less
 
 -- a step of t is not refused where its call is open
@@ -586,6 +586,20 @@ step-turns : (s : Table) (t : ℕ) → is_living s.kernel t ≡ true → is_open
     → Turns t (line_rank s (line_at s t)) (event_outcome (Go t) s)
 step-turns s t known busy = subst (Turns t (line_rank s (line_at s t))) (sym (open_step s t known busy))
     (go_outcome-turns s t (line_at s t) known (lined s t busy) busy)
+
+-- where a step turns that went, the next one is not refused
+turn-allows : (t n : ℕ) (o : Outcome) → Turns t n o → o.seen ≡ Went → table_refusal o.after (Go t) ≡ None
+turn-allows t n o (ends e) went = absurd (ends-not_went o.seen e went)
+turn-allows t n o (goes e known busy less) went =
+    λ i. go_refused (living-added o.after.kernel t known i) (known i) (busy i)
+
+-- after a step that is not refused, and went, to v, the next one is not refused either
+pub went_on : (t : ℕ) (s v : Table) → table_refusal s (Go t) ≡ None → (event_outcome (Go t) s).seen ≡ Went
+    → v ≡ (event_outcome (Go t) s).after → table_refusal v (Go t) ≡ None
+went_on t s v allowed went after =
+    let a = go_allowed (has_thread s t) (is_living s.kernel t) (is_open (line_at s t)) allowed in
+    ap (λ (x : Table). table_refusal x (Go t)) after
+    ∙ turn-allows t (line_rank s (line_at s t)) (event_outcome (Go t) s) (step-turns s t a.0 a.1) went
 
 -- of a first step, which was answered x, and what follows it: the last one
 abbrev last : Outcome → Outcome → Seen → Outcome

@@ -7,8 +7,8 @@ use Rattle.pif_types.specs.declared.requests.Request.{Request}
 use Rattle.pif_types.specs.declared.requests.Request.TheVariants.{Lock, TryLock, Unlock, Consistent, Wait}
 use Rattle.pif_model.specs.Graph.{has_waiter}
 use Rattle.pif_model.specs.Posix.{Locks, Passes, on_release, named_by, with_health, Progress, Mutex, World, Effect, Effects, LocksAgain, no_mutex, nobody, thread_at, mutex_at, with_thread, with_mutex, with_progress, at_progress, on_taking, taken, effective_of}
-use Rattle.pif_model.specs.Posix.Health.{Fine, Inconsistent, Unusable}
-use Rattle.pif_model.specs.Posix.Progress.{Fresh, Leaving, Has, Enlisted}
+use Rattle.pif_model.specs.World.Health.{Fine, Inconsistent, Unusable}
+use Rattle.pif_model.specs.World.Progress.{Fresh, Leaving, Has, Enlisted}
 use Rattle.pif_model.specs.Posix.Effect.{lock, try_lock, unlock, consistent, lock_again, give_up, leave}
 use Rattle.pif_model.specs.Posix.Locks.{own_errorcheck, own_recursive as lock_own_recursive, free as lock_free}
 use Rattle.pif_model.specs.Posix.LocksAgain.{rises, at_limit}

@@ -12,7 +12,7 @@ use Rattle.pif_model.specs.Soundness.{SoundBut, IsSound}
 use Rattle.pif_chains.proofs.Waiting.{paired-from_waited, has_waiter-from_pair}
 use Rattle.pif_chains.proofs.Numbers.{from_within}
 use Rattle.pif_chains.proofs.Greatest.{effective_same}
-use Rattle.pif_chains.proofs.KernelFacts.{waited-status}
+use Rattle.pif_chains.proofs.kernel.KernelFacts.{waited-status}
 use Rattle.pif_simulation.proofs.Shown.{threads_shown, base_seen, mutex_seen}
 
 module _ {Excused : ℕ → Type 0} {s : Table} (h : SoundBut Excused s) (kernel : IsKernel s.kernel) where

@@ -2,7 +2,7 @@
 use Rattle.std.proofs.Common.{arith, ◌≡◌, ◌≢◌, ℕ, Bool, true, false, ◌==◌, refl, sym, ap, ◌∙◌, if◌then◌else◌, eqb-true}
 use Rattle.std.proofs.lemmas.Bool.{true≢false, eqb-false}
 use Rattle.pif_model.specs.Posix.{Health}
-use Rattle.pif_model.specs.Posix.Health.{Fine, Inconsistent, Unusable}
+use Rattle.pif_model.specs.World.Health.{Fine, Inconsistent, Unusable}
 use Rattle.pif_model.specs.Projection.{health_of}
 use Rattle.pif_chains.proofs.Waiting.{by_test}
 

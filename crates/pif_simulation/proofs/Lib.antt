@@ -20,6 +20,7 @@ pub mod additions
 pub mod conditions
 pub mod ends
 pub mod Simulation
+pub mod events
 pub mod StandingLaws
 pub mod Healths
 pub mod runs

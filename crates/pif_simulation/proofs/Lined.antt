@@ -12,7 +12,7 @@ use Rattle.pif_model.specs.RobustList.{robust_at}
 use Rattle.pif_model.specs.Table.{Table, has_thread, has_mutex, bound_to, uses_of, status_at, line_at, library_at, cell_at, with_line, with_kernel}
 use Rattle.pif_model.specs.Projection.{Shadow, call_shown as shown_call, may_enlist, call_at, health_at, world_of}
 use Rattle.pif_model.specs.Soundness.{mutex_by, is_unsettled, LineIsSound, ListIsSound, IsShaped, SoundBut, IsSound}
-use Rattle.pif_chains.proofs.KernelFacts.{living-added}
+use Rattle.pif_chains.proofs.kernel.KernelFacts.{living-added}
 use Rattle.pif_chains.proofs.Numbers.{above_0, below}
 use Rattle.pif_simulation.proofs.Kept.{Spares, unwritten, unused, line_spared}
 use Rattle.pif_simulation.proofs.Hole.{Changes, change_kept, excuse_one, admit_last}

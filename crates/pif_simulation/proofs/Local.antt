@@ -14,21 +14,21 @@ use Rattle.pif_model.specs.declared.lines.Status.TheVariants.{Queued, Parked}
 use Rattle.pif_model.specs.Graph.{has_waiter}
 use Rattle.pif_model.specs.Word.{Word, word_at, health_word_at}
 use Rattle.pif_model.specs.Posix.{Health, Progress, Call, World, Effects, is_blocked, is_call_blocked, named_by, variable_of, names_known, thread_at, with_thread, with_mutex, with_progress, at_progress}
-use Rattle.pif_model.specs.Posix.Progress.{Has}
+use Rattle.pif_model.specs.World.Progress.{Has}
 use Rattle.pif_model.specs.PiKernel.{is_ready, is_living}
 use Rattle.pif_model.specs.RobustList.{RobustRow, has_entry, robust_at, is_listed}
 use Rattle.pif_model.specs.Table.{Table, Cell, has_thread, has_mutex, bound_to, uses_of, status_at, line_at, library_at, cell_at}
 use Rattle.pif_model.specs.Projection.{Shadow, may_enlist, call_shown as shown_call, call_at, progress_at, health_of, health_at, world_of}
 use Rattle.pif_model.specs.Soundness.{use_at, MeetsAll, needs, belongs, LineIsSound, CellIsSound, ListIsSound, ThreadIsSound, IsSound, mutex_by, robust_by, is_pending, is_half_linked, is_unlinked, is_unsettled, holds_robust}
 use Rattle.pif_chains.proofs.Numbers.{above_0, below}
-use Rattle.pif_chains.proofs.KernelFacts.{living-added}
+use Rattle.pif_chains.proofs.kernel.KernelFacts.{living-added}
 use Rattle.pif_chains.proofs.Waiting.{by_test}
 use Rattle.pif_simulation.proofs.Kept.{Spares}
 use Rattle.pif_simulation.proofs.Hole.{Changes, change_kept, excuse_one, admit_last, each_thread, each_absent}
 use Rattle.pif_simulation.proofs.Shown.{mutex_seen, closed_progressed, call_progressed}
 use Rattle.pif_simulation.proofs.Written.{written, cell_written, mutex_of, no_call, changes, cell_here, line_here, list_here, call_there, world_shown, frames_written}
 use Rattle.pif_simulation.proofs.Agreement.{Frames, Follows, WasBlockedIn}
-use Rattle.pif_chains.proofs.Statuses.{ready-unparked}
+use Rattle.pif_chains.proofs.kernel.Statuses.{ready-unparked}
 use Rattle.pif_simulation.proofs.Does.{Does, does_seen}
 use Rattle.pif_simulation.proofs.Steps.{KeepsGo, Going, progress_of, going_named as going_known, going_called, going_below, going_lined, goes_with, answers_with}
 

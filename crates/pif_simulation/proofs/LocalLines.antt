@@ -11,12 +11,12 @@ use Rattle.pif_model.specs.declared.lines.Place.{Place}
 use Rattle.pif_model.specs.Graph.{has_waiter}
 use Rattle.pif_model.specs.Word.{word_at, health_word_at}
 use Rattle.pif_model.specs.Posix.{Effect, Effects, Progress, is_blocked, no_mutex, named_by, with_mutex, with_progress}
-use Rattle.pif_model.specs.Posix.Progress.{Has}
+use Rattle.pif_model.specs.World.Progress.{Has}
 use Rattle.pif_model.specs.Posix.Effects.{none, then as first}
 use Rattle.pif_model.specs.PiKernel.{is_ready, is_living}
 use Rattle.pif_model.specs.RobustList.{RobustRow, has_entry, robust_at, is_listed, with_robust}
 use Rattle.pif_model.specs.Table.{Table, Cell, has_mutex, status_at, library_at, cell_at}
-use Rattle.pif_model.specs.Lines.{goes_to, answers, pending, clears}
+use Rattle.pif_model.specs.Lines.{goes_to, answers, with_pending_field, clears}
 use Rattle.pif_model.specs.Projection.{Shadow, world_of, may_enlist}
 use Rattle.pif_model.specs.Soundness.{use_at, MeetsAll, needs, belongs, CellIsSound, mutex_by, robust_by, is_pending, is_half_linked, is_unlinked, is_unsettled}
 use Rattle.pif_chains.proofs.Numbers.{above_0}
@@ -378,7 +378,7 @@ module _ {s : Table} {t : ℕ} {q : Request} {p : Place} (g : Going s t q p)
       → progress_of s t q b ≡ progress_of s t q p
       → MeetsAll (is_living s.kernel) t (status_at s t) (cell_at s m) (use_at s q) (needs b)
       → is_pending b ≡ true → is_half_linked p ≡ false → is_half_linked b ≡ false → is_unlinked b ≡ is_unlinked p
-      → is_unsettled p ≡ false → GoKeeps s t (goes_to t q b (pending t m s))
+      → is_unsettled p ≡ false → GoKeeps s t (goes_to t q b (with_pending_field t m s))
   pending_kept b follows ready robust ours same met bp ph bh unlinked settled =
       goes_listed b follows (record (robust_at s.lists t) { pending = m }) ready ours same met
       (robust_lists refl robust robust (record {

@@ -19,15 +19,15 @@ use Rattle.pif_model.specs.Table.{Table, Cell, cell_at, has_thread, has_mutex, u
 use Rattle.pif_model.specs.Calls.{request_at, owner_by, open_call_answer, owner_answer}
 use Rattle.pif_model.specs.Posix.{Health, Call, Mutex, thread_at, variable_of, named_by, is_call_blocked, is_blocked_on, rests}
 use Rattle.pif_model.specs.Posix.{is_living as lives}
-use Rattle.pif_model.specs.Posix.Progress.{Stuck}
+use Rattle.pif_model.specs.World.Progress.{Stuck}
 use Rattle.pif_model.specs.Projection.{Shadow, health_at, progress_at, call_at, world_of}
 use Rattle.pif_model.specs.Soundness.{Use, use_at, needs, MeetsAll, LineIsSound, IsSound}
 use Rattle.pif_model.specs.Standing.{IsDoing, call_of, owner_of, waiters_of}
-use Rattle.pif_model.specs.Deadlines.{timed}
+use Rattle.pif_model.specs.Deadlines.{with_deadline_if_any}
 use Rattle.pif_chains.proofs.Numbers.{from_within}
 use Rattle.pif_chains.proofs.Waiting.{by_test, pairs}
-use Rattle.pif_chains.proofs.KernelFacts.{living-from_added, ready-not_ended, seat-unadded}
-use Rattle.pif_chains.proofs.Orders.{ordered-is_waiter}
+use Rattle.pif_chains.proofs.kernel.KernelFacts.{living-from_added, ready-not_ended, seat-unadded}
+use Rattle.pif_chains.proofs.kernel.Orders.{ordered-is_waiter}
 use Rattle.pif_simulation.proofs.Hole.{each_thread, each_absent}
 use Rattle.pif_simulation.proofs.Shown.{is_thread_seen, mutex_seen, timer_seen, call_seen, call_seen_of, living_seen}
 use Rattle.pif_simulation.proofs.Steps.{rests_ready}
@@ -146,17 +146,17 @@ module _ {s : Table} (h : IsSound s) (y : Shadow) where
       refl
     where
       asked : Option Request → Option Request
-      asked o = option_map (timed (timer_at s t).deadline) o
+      asked o = option_map (with_deadline_if_any (timer_at s t).deadline) o
 
       at_line : (l : Line) → asked (request_at l)
-          ≡ option_map (λ (c : Call). timed (timer_at s t).deadline c.request)
+          ≡ option_map (λ (c : Call). with_deadline_if_any (timer_at s t).deadline c.request)
           (call_at (health_at s) (uses_of s) l (status_at s t))
       at_line Idle = refl
       at_line (At q p) = refl
 
       shown : asked (request_at (line_at s t)) ≡ call_of (world_of s y) t
       shown = at_line (line_at s t) ∙ sym (λ i. option_map
-          (λ (c : Call). timed (timer_seen h.all.shape y t i).deadline c.request) (call_seen_of h.all.shape y t i))
+          (λ (c : Call). with_deadline_if_any (timer_seen h.all.shape y t i).deadline c.request) (call_seen_of h.all.shape y t i))
 
   -- WHO OWNS A MUTEX, AND WHO WAITS
 

@@ -3,7 +3,7 @@ use Rattle.std.proofs.Common.{◌≡◌, ◌≢◌, ℕ, Bool, true, false, cond
 use Rattle.std.proofs.lemmas.Bool.{true≢false, or_parts}
 use Rattle.pif_model.specs.Graph.{has_waiter, first_greatest, next_waiter}
 use Rattle.pif_model.specs.Word.{Word, is_bare}
-use Rattle.pif_model.specs.Posix.Health.{Fine}
+use Rattle.pif_model.specs.World.Health.{Fine}
 use Rattle.pif_model.specs.Table.{Cell}
 use Rattle.pif_model.specs.Projection.{health_of}
 use Rattle.pif_model.specs.Soundness.{CountIsSound, CellIsSound}

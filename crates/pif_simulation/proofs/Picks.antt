@@ -5,15 +5,15 @@ use Rattle.std.proofs.lemmas.Bool.{true≢false}
 use Rattle.pif_model.specs.Word.{free_word}
 use Rattle.pif_model.specs.Graph.{has_waiter}
 use Rattle.pif_model.specs.Posix.{Mutex, Variable, mutex_at, rests, effective_of}
-use Rattle.pif_model.specs.Posix.Health.{Fine, Inconsistent}
+use Rattle.pif_model.specs.World.Health.{Fine, Inconsistent}
 use Rattle.pif_model.specs.PiKernel.{is_ready, is_living, pick_in}
 use Rattle.pif_model.specs.Table.{Table, cell_at, has_thread, has_mutex, uses_of, status_at}
 use Rattle.pif_model.specs.Projection.{Shadow, mutex_shown, world_of, health_of}
 use Rattle.pif_model.specs.Soundness.{CellIsSound, IsSound}
 use Rattle.pif_model.specs.Standing.{IsPick, IsPossible, IsPossibleHealth, IsPossibleUses, ArePossible}
 use Rattle.pif_chains.proofs.Waiting.{by_test}
-use Rattle.pif_chains.proofs.KernelPicks.{pick_law, pick_some}
-use Rattle.pif_chains.proofs.KernelFacts.{living-added, ready-not_ended}
+use Rattle.pif_chains.proofs.kernel.KernelPicks.{pick_law, pick_some}
+use Rattle.pif_chains.proofs.kernel.KernelFacts.{living-added, ready-not_ended}
 use Rattle.pif_simulation.proofs.Shown.{mutex_seen, variable_seen, living_seen}
 use Rattle.pif_simulation.proofs.Effective.{effective_seen}
 use Rattle.pif_simulation.proofs.Steps.{rests_ready, rests_not_ready}

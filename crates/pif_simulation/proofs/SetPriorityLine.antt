@@ -13,7 +13,7 @@ use Rattle.pif_model.specs.RobustList.{robust_at}
 use Rattle.pif_model.specs.Posix.{Thread, World, SetsPriority, without_call, with_call_by, is_call_blocked, nobody, thread_at, with_base, with_progress}
 use Rattle.pif_model.specs.Posix.Effect.{set_prio}
 use Rattle.pif_model.specs.Posix.Effects.{none, then as first}
-use Rattle.pif_model.specs.Posix.Progress.{Has}
+use Rattle.pif_model.specs.World.Progress.{Has}
 use Rattle.pif_model.specs.Posix.SetsPriority.{no_priority, not_living, changed}
 use Rattle.pif_model.specs.PiKernel.{Kernel, IsKernel, Seat, no_seat, seat_at, has_ended, is_ready, is_living, set_prio_answer, kernel_after_set_prio}
 use Rattle.pif_model.specs.Table.{Table, has_mutex, bound_to, uses_of, status_at, line_at, library_at, with_line, with_kernel, timer_at}
@@ -22,8 +22,8 @@ use Rattle.pif_model.specs.Projection.{Shadow, memory_at, call_at, health_at, th
 use Rattle.pif_model.specs.Soundness.{mutex_by, is_unsettled, ListIsSound, IsShaped, IsSound}
 use Rattle.pif_chains.proofs.Waiting.{by_test}
 use Rattle.pif_chains.proofs.Numbers.{below}
-use Rattle.pif_chains.proofs.KernelFacts.{living-added}
-use Rattle.pif_chains.proofs.KernelKept.{set_prio_kept}
+use Rattle.pif_chains.proofs.kernel.KernelFacts.{living-added}
+use Rattle.pif_chains.proofs.kernel.KernelKept.{set_prio_kept}
 use Rattle.pif_simulation.proofs.Hole.{each_thread}
 use Rattle.pif_simulation.proofs.Shown.{threads_shown, mutexes_shown, thread_seen, mutex_seen, living_seen, closed_progressed, call_progressed}
 use Rattle.pif_simulation.proofs.Agreement.{Frames, quiet, was_not}

@@ -21,9 +21,9 @@ use Rattle.pif_model.specs.declared.lines.Status.{Status}
 use Rattle.pif_model.specs.declared.lines.Status.TheVariants.{Ready, Queued, Parked, Stopped, Ended}
 use Rattle.pif_model.specs.declared.lines.Woken.TheVariants.{Fresh as WokenFresh, Owns as WokenOwns, Again as WokenAgain, Expired as WokenExpired}
 use Rattle.pif_model.specs.Refusals.{go_refused}
-use Rattle.pif_model.specs.Deadlines.{told, told_seen}
+use Rattle.pif_model.specs.Deadlines.{told_result, told_seen}
 use Rattle.pif_model.specs.Posix.{Health, Progress, World, Step, Effects, is_due, thread_at, refusal_of, named_by, variable_of, names_known, with_call_by, without_call, after_waits, on_taking, on_release, rests, sleeps, is_idle}
-use Rattle.pif_model.specs.Posix.Progress.{Has}
+use Rattle.pif_model.specs.World.Progress.{Has}
 use Rattle.pif_model.specs.Posix.Moves.{acts}
 use Rattle.pif_model.specs.Posix.Step.{went, waits, answered}
 use Rattle.pif_model.specs.PiKernel.{is_ready, is_living}
@@ -32,7 +32,7 @@ use Rattle.pif_model.specs.Lines.{Outcome, is_open, is_due_in}
 use Rattle.pif_model.specs.Projection.{Shadow, Agrees, before_lock, progress_taking, progress_giving, progress_waking, call_at, call_shown, progress_at, health_at, world_of}
 use Rattle.pif_model.specs.Soundness.{Need, Use, use_at, MeetsAll, needs, CallIsSound, LineIsSound, IsSound}
 use Rattle.pif_chains.proofs.Waiting.{by_test, names, named-from_pair}
-use Rattle.pif_chains.proofs.KernelFacts.{unnamed-from_ready, living-added}
+use Rattle.pif_chains.proofs.kernel.KernelFacts.{unnamed-from_ready, living-added}
 use Rattle.pif_chains.proofs.Numbers.{below}
 use Rattle.pif_simulation.proofs.Facts.{Known, is_ready_need, is_stopped_need, is_unstopped_need, is_own_need, is_other_need, is_own_ready_need, is_own_handed_need, is_once_need, is_stop_need, is_robust_need, is_health_need, is_died_need, is_behind_need, is_bound_need, is_used_need, is_below_need, call_ready, call_stopped, call_unstopped, call_own, call_other, call_own_ready, call_own_handed, call_once, call_stop, call_robust, call_health, call_died, call_behind, call_bound, call_used, call_limited}
 use Rattle.pif_simulation.proofs.Hole.{each_thread}
@@ -327,8 +327,8 @@ module _ {s : Table} {t : ℕ} {q : Request} {p : Place} (g : Going s t q p) whe
 
   -- what a result is told as
   pub going_told : (x : Shadow) (a : ℕ)
-      → told (asked_at (line_at s t)) (timer_at s t).expired a ≡ told q (thread_at (world_of s x) t).timer.expired a
-  going_told x a = λ i. told (asked_at (g.line i)) (sym (timer_seen g.sound.all.shape x t) i).expired a
+      → told_result (asked_at (line_at s t)) (timer_at s t).expired a ≡ told_result q (thread_at (world_of s x) t).timer.expired a
+  going_told x a = λ i. told_result (asked_at (g.line i)) (sym (timer_seen g.sound.all.shape x t) i).expired a
 
   -- the step follows with these effects, after which t may run
   pub goes_with : (v : Table) → IsSound v → v.limits ≡ s.limits → is_living v.kernel t ≡ true

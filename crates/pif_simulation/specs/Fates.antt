@@ -7,7 +7,7 @@ use Rattle.pif_model.specs.declared.events.Seen.TheVariants.{Begun}
 use Rattle.pif_model.specs.declared.events.Entry.{Entry}
 use Rattle.pif_model.specs.declared.events.Entry.TheVariants.{Step as Happened}
 use Rattle.pif_model.specs.Posix.{Progress, Call, World, thread_at, is_due}
-use Rattle.pif_model.specs.Posix.Progress.{Waiting, Stuck, Leaving, Has, Enlisted, Owing}
+use Rattle.pif_model.specs.World.Progress.{Waiting, Stuck, Leaving, Has, Enlisted, Owing}
 
 -- what has become of a call so far
 pub data Fate : Type 0 where

@@ -1,6 +1,6 @@
 ghost use Rattle.std.specs.Prelude.{◌≡◌, ◌+◌, ◌≤◌, length, IfOk, IfErr, IfSome};
 ghost use Rattle.std.specs.Result.{result_ok};
-ghost use Rattle.pif_text.specs.Commands.{command_in};
+ghost use Rattle.pif_text_model.specs.Commands.{command_in};
 ghost use Rattle.pif_slips.specs.Slips.{IsIn};
 
 use crate::calls::{BEGINS, CALLS};

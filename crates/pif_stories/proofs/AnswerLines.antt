@@ -3,18 +3,18 @@ use Rattle.std.proofs.Common.{◌≡◌, ℕ, ◌+◌, ◌==◌, not, nat_lt, le
 use Rattle.std.specs.Prelude.{flat_map}
 use Rattle.std.proofs.lemmas.Bool.{and_parts, false≢true}
 use Rattle.pif_model.specs.Table.{Table}
-use Rattle.pif_text.specs.declared.commands.Command.{Command}
-use Rattle.pif_text.specs.declared.replies.Cause.{Cause}
-use Rattle.pif_text.specs.declared.replies.Cause.TheVariants.{Command as NoCommand}
-use Rattle.pif_text.specs.declared.traces.Version.{Version}
-use Rattle.pif_text.specs.Commands.{command_in}
-use Rattle.pif_text.specs.Replies.{text_of}
-use Rattle.pif_text.proofs.Plain.{lacks}
-use Rattle.pif_scripts.specs.declared.reading.ending.Ending.TheVariants.{Fault}
-use Rattle.pif_scripts.specs.Running.{Answer, answer_line, answer_or_fault, command_answer, first_answer, first_line_meaning, line_meaning, made_by, script}
-use Rattle.pif_scripts.specs.Scripts.{Answered, Meaning, Scan, after_line, answer_to_line, answered_first, answered_later, byte_taken, line_answer, reading_of, version_after, with_byte}
-use Rattle.pif_scripts.proofs.MigrateLemmas.{byte-taken}
-use Rattle.pif_scripts.proofs.ScriptLemmas.{by_cases, reading_of-append, reading_of-err, reading_of-nil, reading_of-ok}
+use Rattle.pif_text_model.specs.declared.commands.Command.{Command}
+use Rattle.pif_text_model.specs.declared.replies.Cause.{Cause}
+use Rattle.pif_text_model.specs.declared.replies.Cause.TheVariants.{Command as NoCommand}
+use Rattle.pif_text_model.specs.declared.traces.Version.{Version}
+use Rattle.pif_text_model.specs.Commands.{command_in}
+use Rattle.pif_text_model.specs.Replies.{text_of}
+use Rattle.pif_text_model.proofs.Plain.{lacks}
+use Rattle.pif_script_model.specs.declared.ending.Ending.TheVariants.{Fault}
+use Rattle.pif_script_model.specs.Running.{Answer, answer_line, answer_or_fault, command_answer, first_answer, first_line_meaning, line_meaning, made_by, script}
+use Rattle.pif_script_model.specs.Scripts.{Answered, Meaning, Scan, after_line, answer_to_line, answered_first, answered_later, byte_taken, line_answer, reading_of, version_after, with_byte}
+use Rattle.pif_script_model.proofs.MigrateLemmas.{byte-taken}
+use Rattle.pif_script_model.proofs.ScriptLemmas.{by_cases, reading_of-append, reading_of-err, reading_of-nil, reading_of-ok}
 use Rattle.pif_stories.specs.Stories.{NumberedRow, script_by}
 use Rattle.pif_stories.proofs.AnswerTexts.{reply_lacks}
 use Rattle.pif_stories.proofs.ChecksLemmas.{stopped}

@@ -8,15 +8,15 @@ use Rattle.pif_types.specs.declared.errors.Refusal.TheVariants as refusal
 use Rattle.pif_types.specs.declared.requests.Health.TheVariants.{Fine, Inconsistent, Unusable}
 use Rattle.pif_model.specs.declared.events.Seen.{Seen}
 use Rattle.pif_model.specs.declared.events.Seen.TheVariants as seen
-use Rattle.pif_text.specs.declared.replies.Added.{Added}
-use Rattle.pif_text.specs.declared.replies.Added.TheVariants as added
-use Rattle.pif_text.specs.declared.replies.Fact.{Fact}
-use Rattle.pif_text.specs.declared.replies.Fact.TheVariants as fact
-use Rattle.pif_text.specs.declared.replies.Reply.{Reply}
-use Rattle.pif_text.specs.declared.replies.Reply.TheVariants as reply
-use Rattle.pif_text.specs.Numbers.{hex_digits}
-use Rattle.pif_text.specs.Replies.{added_text, fact_text, seen_text, text_of}
-use Rattle.pif_text.proofs.Plain.{lacks, lacks-append}
+use Rattle.pif_text_model.specs.declared.replies.Added.{Added}
+use Rattle.pif_text_model.specs.declared.replies.Added.TheVariants as added
+use Rattle.pif_text_model.specs.declared.replies.Fact.{Fact}
+use Rattle.pif_text_model.specs.declared.replies.Fact.TheVariants as fact
+use Rattle.pif_text_model.specs.declared.replies.Reply.{Reply}
+use Rattle.pif_text_model.specs.declared.replies.Reply.TheVariants as reply
+use Rattle.pif_text_model.specs.Numbers.{hex_digits}
+use Rattle.pif_text_model.specs.Replies.{added_text, fact_text, seen_text, text_of}
+use Rattle.pif_text_model.proofs.Plain.{lacks, lacks-append}
 
 glyph : (d : ℕ) → not (digit_glyph false d == 10) ≡ true
 glyph d = by_test (nat_lt d 10) refl

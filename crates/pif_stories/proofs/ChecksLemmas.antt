@@ -4,17 +4,17 @@ use Rattle.std.specs.Prelude.{is_ok}
 use Rattle.std.proofs.KnownBytes.{Keeps-refl}
 use Rattle.std.proofs.lemmas.Bool.{false≢true}
 use Rattle.std.specs.Io.KnownBytes.{Appends}
-use Rattle.pif_text.specs.declared.replies.Cause.{Cause}
-use Rattle.pif_scripts.specs.declared.faults.CliFault.{CliFault}
-use Rattle.pif_scripts.specs.declared.faults.CliFault.TheVariants.{Differs, NoMemory, Read, Script, Write}
-use Rattle.pif_scripts.specs.declared.reading.ending.End.{End}
-use Rattle.pif_scripts.specs.Running.{RunsTo, script}
-use Rattle.pif_scripts.specs.Runs.{WritesPart, output_of}
-use Rattle.pif_scripts.specs.Scripts.{Hearing, Reading, Scan, byte_taken, ended_by, reading_of, start}
-use Rattle.pif_scripts.specs.Transcripts.{script_end}
-use Rattle.pif_scripts.proofs.ScriptLemmas.{by_cases, reading_of-err, reading_of-nil, reading_of-ok}
-use Rattle.pif_scripts.specs.Migrating.{FailsToRead, IsAllRead, ReadsTo}
-use Rattle.pif_stories.specs.Checks.{IsUntold, Telling, TellsOfStory, TellsTo, WritesTelling, checked, check_end, fault_in, filled, judged, printed, script_fault, verdict_telling, story_verdict}
+use Rattle.pif_text_model.specs.declared.replies.Cause.{Cause}
+use Rattle.pif_script_model.specs.declared.faults.CliFault.{CliFault}
+use Rattle.pif_script_model.specs.declared.faults.CliFault.TheVariants.{Differs, NoMemory, Read, Script, Write}
+use Rattle.pif_script_model.specs.declared.ending.End.{End}
+use Rattle.pif_script_model.specs.Running.{RunsTo, script}
+use Rattle.pif_script_model.specs.Runs.{WritesPart, output_of}
+use Rattle.pif_script_model.specs.Scripts.{Hearing, Reading, Scan, byte_taken, ended_by, reading_of, start}
+use Rattle.pif_script_model.specs.Transcripts.{script_end}
+use Rattle.pif_script_model.proofs.ScriptLemmas.{by_cases, reading_of-err, reading_of-nil, reading_of-ok}
+use Rattle.pif_script_model.specs.Migrating.{FailsToRead, IsAllRead, ReadsTo}
+use Rattle.pif_stories.specs.Checks.{IsUntold, Telling, TellsOfStory, TellsTo, WritesTelling, check_telling, check_end, fault_in, fill_telling, verdict_beside, text_of_run, script_fault, verdict_telling, story_verdict}
 use Rattle.pif_stories.specs.Filling.{filled_text}
 use Rattle.pif_stories.specs.Lines.{lines}
 use Rattle.pif_stories.specs.Stories.{script_of}
@@ -63,8 +63,8 @@ whole hearing s bytes read left e h =
 -- a script that ended well has no fault
 pub ran_well : (bytes left out : List ℕ) (x : Unit {0})
     → RunsTo (Some bytes) (Some left) (Some []) (Some out) (Ok x)
-    → (out ≡ printed bytes) × (None ≡ script_fault bytes)
-unfolding printed script_fault script_end
+    → (out ≡ text_of_run bytes) × (None ≡ script_fault bytes)
+unfolding text_of_run script_fault script_end
 ran_well bytes left out x r =
     let same = whole script start bytes r.0 left r.1 (λ _. r.2.1) in (
       r.2.2 ∙ sym (same_output script (reading_of script start r.0) (reading_of script start bytes) same.0 same.1),
@@ -79,8 +79,8 @@ ran_well bytes left out x r =
 -- the fault of a script that ended so
 pub ran_to_fault : (bytes left out : List ℕ) (line : ℕ) (cause : Cause)
     → RunsTo (Some bytes) (Some left) (Some []) (Some out) (Err (Script line cause))
-    → (out ≡ printed bytes) × (Some (line, cause) ≡ script_fault bytes)
-unfolding printed script_fault script_end
+    → (out ≡ text_of_run bytes) × (Some (line, cause) ≡ script_fault bytes)
+unfolding text_of_run script_fault script_end
 ran_to_fault bytes left out line cause r =
     let same = whole script start bytes r.0 left r.1 r.2.1 in (
       r.2.2 ∙ sym (same_output script (reading_of script start r.0) (reading_of script start bytes) same.0 same.1),
@@ -159,23 +159,23 @@ tells-written telling a b h k bytes text end result r t i (inr w) =
 
 -- what a check tells
 pub checked_told : (name : List ℕ) (a b h k : Option (List ℕ)) (bytes text : List ℕ)
-    (end result : Result (Unit {0}) CliFault) → ReadsTo a b bytes → ◌≡◌ {A = Telling} (text, end) (checked name bytes)
-    → WritesTelling h k text end result → TellsTo (checked name) a b h k result
-unfolding checked
+    (end result : Result (Unit {0}) CliFault) → ReadsTo a b bytes → ◌≡◌ {A = Telling} (text, end) (check_telling name bytes)
+    → WritesTelling h k text end result → TellsTo (check_telling name) a b h k result
+unfolding check_telling
 checked_told name a b h k bytes text end result r t w =
-    tells-written (checked name) a b h k bytes text end result r t (check_end-ends (story_verdict bytes)) w
+    tells-written (check_telling name) a b h k bytes text end result r t (check_end-ends (story_verdict bytes)) w
 
 -- what is told of a story that is filled in
 pub filled_told : (name : List ℕ) (a b h k : Option (List ℕ)) (bytes text : List ℕ)
-    (end result : Result (Unit {0}) CliFault) → ReadsTo a b bytes → ◌≡◌ {A = Telling} (text, end) (filled name bytes)
-    → WritesTelling h k text end result → TellsTo (filled name) a b h k result
-unfolding filled
+    (end result : Result (Unit {0}) CliFault) → ReadsTo a b bytes → ◌≡◌ {A = Telling} (text, end) (fill_telling name bytes)
+    → WritesTelling h k text end result → TellsTo (fill_telling name) a b h k result
+unfolding fill_telling
 filled_told name a b h k bytes text end result r t w =
-    tells-written (filled name) a b h k bytes text end result r t (by_judged (judged bytes [])) w
+    tells-written (fill_telling name) a b h k bytes text end result r t (by_judged (verdict_beside bytes [])) w
   where
     by_judged : (v : Verdict)
         → IsEnd (elim v as (λ _. Telling) [
-          | Ok commands ↦ (filled_text bytes (lines (printed (script_of bytes))), Ok tt)
+          | Ok commands ↦ (filled_text bytes (lines (text_of_run (script_of bytes))), Ok tt)
           | Err flaw ↦ verdict_telling name (Err flaw)
         ]).1
     by_judged (Ok commands) = tt

@@ -3,10 +3,10 @@ use Rattle.std.proofs.Common.{◌≡◌, ℕ, zero, suc, ◌+◌, ◌-◌, ◌<�
 use Rattle.std.specs.Prelude.{find, slice_get}
 use Rattle.std.specs.List.{zip}
 use Rattle.std.proofs.lemmas.Bool.Decides.{nat_tests}
-use Rattle.pif_text.specs.declared.replies.Cause.{Cause}
+use Rattle.pif_text_model.specs.declared.replies.Cause.{Cause}
 use Rattle.pif_stories.specs.Lines.{StoryRow}
 use Rattle.pif_stories.specs.Comparing.{cause_at, row_compared}
-use Rattle.pif_stories.specs.Verdicts.{Fault, Flaw, Verdict, compared, difference, differs, fault_at, faulty}
+use Rattle.pif_stories.specs.Verdicts.{Fault, Flaw, Verdict, verdict_of_rows, difference, differs, fault_at, faulty}
 
 -- the commands that are answered, behind so many
 abbrev pub rows_left : Option Fault → ℕ → List (ℕ × StoryRow) → List (ℕ × StoryRow)
@@ -28,8 +28,8 @@ compared_from last fault before rows answers =
     by_first (find differs (zip (rows_left fault before rows) answers)) (end_left last fault before rows)
 
 pub compared_start : (last : ℕ) (fault : Option Fault) (rows : List (ℕ × StoryRow)) (answers : List (List ℕ))
-    → compared last fault rows answers ≡ compared_from last fault 0 rows answers
-unfolding compared compared_from by_first
+    → verdict_of_rows last fault rows answers ≡ compared_from last fault 0 rows answers
+unfolding verdict_of_rows compared_from by_first
 compared_start last None rows answers = by_case (find differs (zip rows answers))
   where
     count : length rows ≡ 0 + length rows

@@ -7,21 +7,21 @@ use Rattle.std.proofs.lemmas.Bool.Decides.{nat_tests}
 use Rattle.std.proofs.lemmas.List.{append_cancel_left, append_cancel_right}
 use Rattle.std.proofs.lemmas.Slice.Eq.{bytes_eq-Decides}
 use Rattle.pif_model.specs.Table.{Table}
-use Rattle.pif_text.specs.declared.replies.Cause.TheVariants.{Cut}
-use Rattle.pif_text.proofs.Plain.{lacks}
-use Rattle.pif_scripts.specs.declared.reading.ending.Ending.{Ending}
-use Rattle.pif_scripts.specs.declared.reading.ending.Ending.TheVariants.{Differs, Fault}
-use Rattle.pif_scripts.specs.declared.reading.ending.End.{End}
-use Rattle.pif_scripts.specs.Running.{script}
-use Rattle.pif_scripts.specs.Runs.{last_text}
-use Rattle.pif_scripts.specs.Scripts.{Scan, ended_by, end_at, reading_of, start}
-use Rattle.pif_scripts.specs.Transcripts.{script_end}
-use Rattle.pif_scripts.proofs.DifferenceLemmas.{script_ends-with_fault}
-use Rattle.pif_scripts.proofs.ScriptLemmas.{by_cases}
+use Rattle.pif_text_model.specs.declared.replies.Cause.TheVariants.{Cut}
+use Rattle.pif_text_model.proofs.Plain.{lacks}
+use Rattle.pif_script_model.specs.declared.ending.Ending.{Ending}
+use Rattle.pif_script_model.specs.declared.ending.Ending.TheVariants.{Differs, Fault}
+use Rattle.pif_script_model.specs.declared.ending.End.{End}
+use Rattle.pif_script_model.specs.Running.{script}
+use Rattle.pif_script_model.specs.Runs.{last_text}
+use Rattle.pif_script_model.specs.Scripts.{Scan, ended_by, end_at, reading_of, start}
+use Rattle.pif_script_model.specs.Transcripts.{script_end}
+use Rattle.pif_script_model.proofs.DifferenceLemmas.{script_ends-with_fault}
+use Rattle.pif_script_model.proofs.ScriptLemmas.{by_cases}
 use Rattle.pif_stories.specs.Lines.{lines}
 use Rattle.pif_stories.specs.Stories.{NumberedRow, rows_of, script_of, story_lines}
-use Rattle.pif_stories.specs.Verdicts.{Fault as ScriptFault, Flaw, Verdict, compared, difference, differs, differs_from, fault_at, rows_before}
-use Rattle.pif_stories.specs.Checks.{HasItsAnswers, OkExactly, fault_by, fault_in, judged, printed, script_fault, story_verdict}
+use Rattle.pif_stories.specs.Verdicts.{Fault as ScriptFault, Flaw, Verdict, verdict_of_rows, difference, differs, differs_from, fault_at, rows_before}
+use Rattle.pif_stories.specs.Checks.{HasItsAnswers, OkExactly, fault_by, fault_in, verdict_beside, text_of_run, script_fault, story_verdict}
 use Rattle.pif_stories.proofs.AnswerLines.{AreAnswered, answer_lines, answered_all, answered_behind, answered_nothing, answered_text, answers_from, line_of}
 use Rattle.pif_stories.proofs.RowLemmas.{none_ends}
 
@@ -150,8 +150,8 @@ fault-none bytes ok = by_end (script_end bytes) ok
 -- where it stands at its end, and what is printed for it
 stands-at : (bytes : List ℕ) → is_ok (script_end bytes) ≡ true
     → (t : Scan Table) × ((reading_of script start bytes).stands ≡ Ok t)
-    × (printed bytes ≡ (reading_of script start bytes).text)
-unfolding script_end printed
+    × (text_of_run bytes ≡ (reading_of script start bytes).text)
+unfolding script_end text_of_run
 stands-at bytes ok =
     elim (by_cases (reading_of script start bytes).stands) [
       | inl r ↦
@@ -174,9 +174,9 @@ stands-at bytes ok =
 -- ---- verdicts
 
 compared-ok : (last : ℕ) (fault : Option ScriptFault) (rows : List NumberedRow) (answers : List (List ℕ))
-    → is_ok (compared last fault rows answers) ≡ true
+    → is_ok (verdict_of_rows last fault rows answers) ≡ true
     → (fault ≡ None) × (find differs (zip rows answers) ≡ None)
-unfolding compared
+unfolding verdict_of_rows
 compared-ok last None rows answers ok = (refl, by_found (find differs (zip rows answers)) ok)
   where
     by_found : (o : Option (NumberedRow × List ℕ))
@@ -194,17 +194,17 @@ compared-ok last (Some fault) rows answers ok =
     by_found None flaw ok = false≢true ok
 
 compared-same : (last : ℕ) (rows : List NumberedRow) (answers : List (List ℕ)) → find differs (zip rows answers) ≡ None
-    → is_ok (compared last None rows answers) ≡ true
-unfolding compared
+    → is_ok (verdict_of_rows last None rows answers) ≡ true
+unfolding verdict_of_rows
 compared-same last rows answers e =
     ap (λ (o : Option (NumberedRow × List ℕ)).
     is_ok (elim o as (λ _. Verdict) [ Some pair ↦ Err (difference pair) | None ↦ Ok (length rows) ])) e
 
 story_verdict-small : (story : List ℕ) → length story ≤ 16777216
     → story_verdict story
-    ≡ compared (length (story_lines story)) (script_fault (script_of story)) (rows_of story)
-    (lines (printed (script_of story)))
-unfolding story_verdict judged
+    ≡ verdict_of_rows (length (story_lines story)) (script_fault (script_of story)) (rows_of story)
+    (lines (text_of_run (script_of story)))
+unfolding story_verdict verdict_beside
 story_verdict-small story h = let small : nat_lt 16777216 (length story) ≡ false = grind (arith, nat_tests) in rw small refl
 
 ok-forth : (story : List ℕ) → length story ≤ 16777216 → is_ok (story_verdict story) ≡ true
@@ -238,9 +238,9 @@ ok-back story h p =
     let none = none-differs rows all.0 ([] ∷ []) start end.0 all.1 p.1 in
     let same = subst (λ l. find differs (zip rows l) ≡ None) (sym given) none in
     ap is_ok (story_verdict-small story h)
-    ∙ ap (λ f. is_ok (compared (length (story_lines story)) f rows (lines (printed (script_of story)))))
+    ∙ ap (λ f. is_ok (verdict_of_rows (length (story_lines story)) f rows (lines (text_of_run (script_of story)))))
     (fault-none (script_of story) p.0)
-    ∙ compared-same (length (story_lines story)) rows (lines (printed (script_of story))) same
+    ∙ compared-same (length (story_lines story)) rows (lines (text_of_run (script_of story))) same
 
 pub ok_exactly : OkExactly
 ok_exactly story h = (ok-forth story h, ok-back story h)

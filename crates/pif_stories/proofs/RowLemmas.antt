@@ -4,9 +4,9 @@ use Rattle.std.specs.Prelude.{option_map}
 use Rattle.std.specs.List.{list_all, onto_first, slice_split}
 use Rattle.std.specs.Str.Lines.{strip_carriage_return}
 use Rattle.std.proofs.lemmas.Bool.{and_parts, and_from}
-use Rattle.pif_text.specs.Traces.{is_marked, parts_of}
-use Rattle.pif_text.proofs.Plain.{lacks}
-use Rattle.pif_stories.specs.Lines.{StoryRow, is_blank, is_passed, lines, row_by, row_in, unmarked, without_blanks}
+use Rattle.pif_text_model.specs.Traces.{is_marked, parts_of}
+use Rattle.pif_text_model.proofs.Plain.{lacks}
+use Rattle.pif_stories.specs.Lines.{StoryRow, is_blank, is_passed, lines, row_by, row_in, without_mark, without_blanks}
 use Rattle.pif_stories.specs.Stories.{rows_from, rows_of, story_lines}
 use Rattle.pif_stories.proofs.AnswerLines.{NoneEnds}
 use Rattle.pif_stories.proofs.StoriesLemmas.{by_option, rows_from_nothing, rows_from_passed, rows_from_row}
@@ -110,4 +110,4 @@ rows-lack number (line ∷ ls) p =
     ]
 
 pub none_ends : (story : List ℕ) → NoneEnds (rows_of story)
-none_ends story = rows-lack 1 (story_lines story) (lines-lack (unmarked story))
+none_ends story = rows-lack 1 (story_lines story) (lines-lack (without_mark story))

@@ -1,26 +1,26 @@
 -- What checking a story, or filling one in, does over a reader and a writer.
 use Rattle.std.specs.Prelude.{ℕ, ◌≡◌, ◌⊎◌, ◌↔◌, ◌≤◌, nat_lt, true, is_ok, List, [], ◌∷◌, ◌++◌, length, take, Option, Some, None, Result, Ok, Err, if◌then◌else◌}
 use Rattle.std.specs.Io.KnownBytes.{Appends, Consumes, Keeps}
-use Rattle.pif_text.specs.declared.replies.Cause.TheVariants.{Size}
-use Rattle.pif_scripts.specs.declared.faults.CliFault.{CliFault}
-use Rattle.pif_scripts.specs.declared.faults.CliFault.TheVariants.{Differs, NoMemory, Read, Script, Write}
-use Rattle.pif_scripts.specs.declared.reading.ending.Ending.{Ending}
-use Rattle.pif_scripts.specs.declared.reading.ending.Ending.TheVariants as ending
-use Rattle.pif_scripts.specs.declared.reading.ending.End.{End}
-use Rattle.pif_scripts.specs.Migrating.{IsAllRead}
-use Rattle.pif_scripts.specs.Running.{script}
-use Rattle.pif_scripts.specs.Runs.{WritesPart, output_of}
-use Rattle.pif_scripts.specs.Transcripts.{script_end, script_reading}
+use Rattle.pif_text_model.specs.declared.replies.Cause.TheVariants.{Size}
+use Rattle.pif_script_model.specs.declared.faults.CliFault.{CliFault}
+use Rattle.pif_script_model.specs.declared.faults.CliFault.TheVariants.{Differs, NoMemory, Read, Script, Write}
+use Rattle.pif_script_model.specs.declared.ending.Ending.{Ending}
+use Rattle.pif_script_model.specs.declared.ending.Ending.TheVariants as ending
+use Rattle.pif_script_model.specs.declared.ending.End.{End}
+use Rattle.pif_script_model.specs.Migrating.{IsAllRead}
+use Rattle.pif_script_model.specs.Running.{script}
+use Rattle.pif_script_model.specs.Runs.{WritesPart, output_of}
+use Rattle.pif_script_model.specs.Transcripts.{script_end, script_reading}
 use Rattle.pif_stories.specs.Filling.{filled_text}
 use Rattle.pif_stories.specs.Lines.{lines}
 use Rattle.pif_stories.specs.Stories.{NumberedRow, rows_of, script_by, script_of, story_lines}
-use Rattle.pif_stories.specs.Verdicts.{Fault, Verdict, compared, differing, faulty, verdict_line}
+use Rattle.pif_stories.specs.Verdicts.{Fault, Verdict, verdict_of_rows, differing, faulty, verdict_line}
 
 -- ---- the script of a story
 
 -- all that `run` prints for a script of these bytes
-unfoldable pub printed : List ℕ → List ℕ
-printed bytes = output_of script (script_reading bytes)
+unfoldable pub text_of_run : List ℕ → List ℕ
+text_of_run bytes = output_of script (script_reading bytes)
 
 -- the first fault, at a line that ends a script so
 abbrev pub fault_by : ℕ → Ending → Option Fault
@@ -40,15 +40,15 @@ script_fault bytes = fault_in (script_end bytes)
 
 -- what a story comes to whose commands are compared with these lines; one of more than 16,777,216 bytes is the fault
 -- `size`, at the line in which the first byte stands that is too many
-unfoldable pub judged : List ℕ → (answers : List (List ℕ)) → Verdict
-judged story answers =
+unfoldable pub verdict_beside : List ℕ → (answers : List (List ℕ)) → Verdict
+verdict_beside story answers =
     if nat_lt 16777216 (length story) then Err (faulty (length (lines (take 16777216 story))) [] Size)
-    else compared (length (story_lines story)) (script_fault (script_of story)) (rows_of story) answers
+    else verdict_of_rows (length (story_lines story)) (script_fault (script_of story)) (rows_of story) answers
 
 -- what a story comes to: ok with the number of its commands, or its first flaw. Its commands are compared with the
 -- lines that `run` prints for its script
 unfoldable pub story_verdict : List ℕ → Verdict
-story_verdict story = judged story (lines (printed (script_of story)))
+story_verdict story = verdict_beside story (lines (text_of_run (script_of story)))
 
 -- how a check ends
 abbrev pub check_end : Verdict → Result (Unit {0}) CliFault
@@ -67,14 +67,14 @@ abbrev pub verdict_telling : (name : List ℕ) → Verdict → Telling
 verdict_telling name found = (verdict_line name found, check_end found)
 
 -- a check of a story of this name
-unfoldable pub checked : (name : List ℕ) → List ℕ → Telling
-checked name story = verdict_telling name (story_verdict story)
+unfoldable pub check_telling : (name : List ℕ) → List ℕ → Telling
+check_telling name story = verdict_telling name (story_verdict story)
 
 -- a story of this name that is filled in: if it has a fault, what a check would tell of that alone
-unfoldable pub filled : (name : List ℕ) → List ℕ → Telling
-filled name story =
-    elim (judged story []) [
-      | Ok commands ↦ (filled_text story (lines (printed (script_of story))), Ok tt)
+unfoldable pub fill_telling : (name : List ℕ) → List ℕ → Telling
+fill_telling name story =
+    elim (verdict_beside story []) [
+      | Ok commands ↦ (filled_text story (lines (text_of_run (script_of story))), Ok tt)
       | Err flaw ↦ verdict_telling name (Err flaw)
     ]
 

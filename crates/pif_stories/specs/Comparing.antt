@@ -1,7 +1,7 @@
 -- Comparing a story with what `run` prints, one command at a time.
 use Rattle.std.specs.Prelude.{ℕ, nat_le, List, [], ◌∷◌, Option, Some, None, Result, Ok, Err, if◌then◌else◌, option_copied}
 use Rattle.std.specs.Borrow.{Bor}
-use Rattle.pif_text.specs.declared.replies.Cause.{Cause}
+use Rattle.pif_text_model.specs.declared.replies.Cause.{Cause}
 use Rattle.pif_stories.specs.declared.comparing.Flaw.{Flaw as Found}
 use Rattle.pif_stories.specs.Lines.{StoryRow, lines_behind}
 use Rattle.pif_stories.specs.Verdicts.{Fault, Flaw, difference, differs_from, flaw_of}

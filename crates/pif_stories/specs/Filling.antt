@@ -2,7 +2,7 @@
 use Rattle.std.specs.Prelude.{ℕ, ◌-◌, List, [], ◌∷◌, ◌++◌, codes, drop, filter_map, length, max, replicate, take, Some, None}
 use Rattle.std.specs.List.{fold, join_with_byte}
 use Rattle.std.specs.Str.Lines.{strip_carriage_return}
-use Rattle.pif_stories.specs.Lines.{StoryRow, row_in, unmarked}
+use Rattle.pif_stories.specs.Lines.{StoryRow, row_in, without_mark}
 use Rattle.pif_stories.specs.Stories.{story_lines}
 
 -- the greater of this width and that of a command
@@ -51,5 +51,5 @@ filled_lines width (line ∷ lines) answers =
 -- a story with these answers to its commands, in the column behind the longest; all else stays
 unfoldable pub filled_text : List ℕ → (answers : List (List ℕ)) → List ℕ
 filled_text story answers =
-    take (length story - length (unmarked story)) story
+    take (length story - length (without_mark story)) story
     ++ join_with_byte 10 (filled_lines (width_from 0 (story_lines story)) (story_lines story) answers)

@@ -2,15 +2,15 @@
 use Rattle.std.specs.Prelude.{ℕ, ◌==◌, Bool, true, List, [], ◌∷◌, drop, Option, Some, None, nat_eq, if◌then◌else◌}
 use Rattle.std.specs.List.{list_all, slice_split, starts_with}
 use Rattle.std.specs.Str.Lines.{strip_carriage_return}
-use Rattle.pif_text.specs.Traces.{parts_of}
+use Rattle.pif_text_model.specs.Traces.{parts_of}
 
 -- a byte order mark, as UTF-8 writes it
 abbrev pub byte_order_mark : List ℕ
 byte_order_mark = 239 ∷ 187 ∷ 191 ∷ []
 
 -- a text without a byte order mark at its front
-unfoldable pub unmarked : List ℕ → List ℕ
-unmarked text = if starts_with nat_eq text byte_order_mark then drop 3 text else text
+unfoldable pub without_mark : List ℕ → List ℕ
+without_mark text = if starts_with nat_eq text byte_order_mark then drop 3 text else text
 
 -- the lines of a text: the parts between its LFs. What stands behind the last LF is one more, and may be empty
 unfoldable pub lines : List ℕ → List (List ℕ)

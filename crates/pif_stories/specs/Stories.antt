@@ -1,11 +1,11 @@
 -- Stories: the commands in them, and the script that is left when all else is taken out.
 use Rattle.std.specs.Prelude.{ℕ, List, [], ◌∷◌, ◌++◌, Option, option_map, filter_map, flat_map}
 use Rattle.std.specs.List.{enumerate_from}
-use Rattle.pif_stories.specs.Lines.{StoryRow, lines, row_in, unmarked}
+use Rattle.pif_stories.specs.Lines.{StoryRow, lines, row_in, without_mark}
 
 -- the lines of a story; a byte order mark at the front is no part of them
 abbrev pub story_lines : List ℕ → List (List ℕ)
-story_lines story = lines (unmarked story)
+story_lines story = lines (without_mark story)
 
 -- what a line says, behind the line's number
 abbrev pub NumberedRow : Type 0

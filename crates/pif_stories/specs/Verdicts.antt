@@ -1,8 +1,8 @@
 -- What a check of a story comes to.
 use Rattle.std.specs.Prelude.{ℕ, ◌-◌, nat_le, Bool, false, not, ◌&&◌, List, [], ◌++◌, length, map, find, take, slice_get, Option, Some, None, Result, Ok, Err, if◌then◌else◌, bytes_eq, codes, decimal}
 use Rattle.std.specs.List.{zip}
-use Rattle.pif_text.specs.declared.replies.Cause.{Cause}
-use Rattle.pif_text.specs.Replies.{fault_of}
+use Rattle.pif_text_model.specs.declared.replies.Cause.{Cause}
+use Rattle.pif_text_model.specs.Replies.{fault_of}
 use Rattle.pif_stories.specs.declared.comparing.Flaw.{Flaw as Found}
 use Rattle.pif_stories.specs.declared.comparing.Flaw.TheVariants as found
 use Rattle.pif_stories.specs.Lines.{StoryRow}
@@ -56,8 +56,8 @@ fault_or_count last None rows = Ok (length rows)
 fault_or_count last (Some fault) rows = Err (fault_at last fault.1 (slice_get rows (fault.0 - 1)))
 
 -- what these commands come to beside the lines that `run` prints for them: the first that differs, or else the fault
-unfoldable pub compared : (last : ℕ) → Option Fault → List (ℕ × StoryRow) → (answers : List (List ℕ)) → Verdict
-compared last fault rows answers =
+unfoldable pub verdict_of_rows : (last : ℕ) → Option Fault → List (ℕ × StoryRow) → (answers : List (List ℕ)) → Verdict
+verdict_of_rows last fault rows answers =
     elim (find differs (zip (rows_before fault rows) answers)) [
       | Some pair ↦ Err (difference pair)
       | None ↦ fault_or_count last fault rows

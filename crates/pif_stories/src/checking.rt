@@ -1,6 +1,6 @@
 ghost use Rattle.std.specs.Prelude.{◌≡◌, ◌+◌, ◌≤◌, [], Err, IfErr, IfOk, length, option_copied};
 ghost use Rattle.pif_stories.specs.Lines.{lines, lines_behind};
-ghost use Rattle.pif_stories.specs.Checks.{IsUntold, OkExactly, TellsTo, WritesTelling, checked, check_end, filled, judged, printed, script_fault, verdict_telling};
+ghost use Rattle.pif_stories.specs.Checks.{IsUntold, OkExactly, TellsTo, WritesTelling, check_telling, check_end, fill_telling, verdict_beside, text_of_run, script_fault, verdict_telling};
 ghost use Rattle.pif_stories.specs.Stories.{script_of};
 ghost use Rattle.pif_stories.specs.Verdicts.{verdict_of};
 
@@ -27,7 +27,7 @@ type Ran = (Vec<u8>, Option<(u64, Cause)>);
 ///
 /// `NoMemory`.
 fn run_story(alloc: Global, story: &[u8]) -> Result<Ran, CliFault>
-    ensures printed { IfOk result (λ ran. ran.0.items ≡ printed (script_of story.now)) }
+    ensures printed { IfOk result (λ ran. ran.0.items ≡ text_of_run (script_of story.now)) }
     ensures fault { IfOk result (λ ran. ran.1 ≡ script_fault (script_of story.now)) }
     ensures failed { IfErr result IsUntold }
 {
@@ -95,14 +95,14 @@ fn tell(
 }
 
 /// What a story comes to that may be too large.
-#[tactic(auto, unfolding(crate::specs::Checks::judged))]
+#[tactic(auto, unfolding(crate::specs::Checks::verdict_beside))]
 fn judge<'a>(
     story: &'a [u8],
     answers: Option<&'a [u8]>,
     fault: Option<(u64, Cause)>,
 ) -> Result<u64, Flaw<'a>>
     requires { fault ≡ script_fault (script_of story.now) }
-    ensures { verdict_of result ≡ judged story.now (lines_behind (option_copied answers.entry)) }
+    ensures { verdict_of result ≡ verdict_beside story.now (lines_behind (option_copied answers.entry)) }
 {
     if story.len() > MOST {
         return Err(Flaw::Fault(line_at_end(&story[..MOST]), b"", Cause::Size));
@@ -111,14 +111,14 @@ fn judge<'a>(
 }
 
 /// What a check tells of a story of this name.
-#[tactic(auto, unfolding(crate::specs::Checks::checked, crate::specs::Checks::story_verdict))]
+#[tactic(auto, unfolding(crate::specs::Checks::check_telling, crate::specs::Checks::story_verdict))]
 fn check_text(
     alloc: Global,
     name: &[u8],
     story: &[u8],
     notice: &mut Notice,
 ) -> Result<Telling, CliFault>
-    ensures told { IfOk result (λ telling. (telling.0.items, telling.1) ≡ checked name.now story.now) }
+    ensures told { IfOk result (λ telling. (telling.0.items, telling.1) ≡ check_telling name.now story.now) }
     ensures failed { IfErr result IsUntold }
 {
     let (output, fault) = run_story(alloc, story)?;
@@ -131,14 +131,14 @@ fn check_text(
 }
 
 /// What is told of a story of this name that is filled in.
-#[tactic(auto, unfolding(crate::specs::Checks::filled))]
+#[tactic(auto, unfolding(crate::specs::Checks::fill_telling))]
 fn fill_text(
     alloc: Global,
     name: &[u8],
     story: &[u8],
     notice: &mut Notice,
 ) -> Result<Telling, CliFault>
-    ensures told { IfOk result (λ telling. (telling.0.items, telling.1) ≡ filled name.now story.now) }
+    ensures told { IfOk result (λ telling. (telling.0.items, telling.1) ≡ fill_telling name.now story.now) }
     ensures failed { IfErr result IsUntold }
 {
     let (output, fault) = run_story(alloc, story)?;
@@ -177,7 +177,7 @@ pub fn check<R: Read, W: Write>(
     reader: &mut R,
     writer: &mut W,
 ) -> Result<(), CliFault>
-    ensures { TellsTo (checked name.now) (R.remaining reader.old) (R.remaining reader.new)
+    ensures { TellsTo (check_telling name.now) (R.remaining reader.old) (R.remaining reader.new)
         (W.contents writer.old) (W.contents writer.new) result }
 {
     check_noting(alloc, name, reader, writer, &mut Notice::new())
@@ -196,7 +196,7 @@ pub fn check_noting<R: Read, W: Write>(
     writer: &mut W,
     notice: &mut Notice,
 ) -> Result<(), CliFault>
-    ensures { TellsTo (checked name.now) (R.remaining reader.old) (R.remaining reader.new)
+    ensures { TellsTo (check_telling name.now) (R.remaining reader.old) (R.remaining reader.new)
         (W.contents writer.old) (W.contents writer.new) result }
 {
     let story = read_all(alloc, reader)?;
@@ -218,7 +218,7 @@ pub fn fill<R: Read, W: Write>(
     reader: &mut R,
     writer: &mut W,
 ) -> Result<(), CliFault>
-    ensures { TellsTo (filled name.now) (R.remaining reader.old) (R.remaining reader.new)
+    ensures { TellsTo (fill_telling name.now) (R.remaining reader.old) (R.remaining reader.new)
         (W.contents writer.old) (W.contents writer.new) result }
 {
     fill_noting(alloc, name, reader, writer, &mut Notice::new())
@@ -237,7 +237,7 @@ pub fn fill_noting<R: Read, W: Write>(
     writer: &mut W,
     notice: &mut Notice,
 ) -> Result<(), CliFault>
-    ensures { TellsTo (filled name.now) (R.remaining reader.old) (R.remaining reader.new)
+    ensures { TellsTo (fill_telling name.now) (R.remaining reader.old) (R.remaining reader.new)
         (W.contents writer.old) (W.contents writer.new) result }
 {
     let story = read_all(alloc, reader)?;

@@ -2,9 +2,9 @@ ghost use Rattle.std.specs.Prelude.{◌≡◌, ◌≤◌, length, option_copied}
 ghost use Rattle.pif_stories.specs.Lines.{lines_behind};
 ghost use Rattle.pif_stories.specs.Stories.{rows_of, story_lines};
 ghost use Rattle.pif_stories.specs.Comparing.{answers_left, cause_at, row_compared};
-ghost use Rattle.pif_stories.specs.Verdicts.{compared, verdict_of};
+ghost use Rattle.pif_stories.specs.Verdicts.{verdict_of_rows, verdict_of};
 
-use crate::lines::{Row, row_of, split_line, unmarked};
+use crate::lines::{Row, row_of, split_line, without_mark};
 use pif_text::Cause;
 
 /// Why a story is not ok.
@@ -70,10 +70,10 @@ pub fn compare<'a>(
 ) -> Result<u64, Flaw<'a>>
     requires { length story.now ≤ 16777216 }
     ensures { verdict_of result
-        ≡ compared (length (story_lines story.now)) fault (rows_of story.now)
+        ≡ verdict_of_rows (length (story_lines story.now)) fault (rows_of story.now)
         (lines_behind (option_copied output.entry)) }
 {
-    let mut rest = Some(unmarked(story));
+    let mut rest = Some(without_mark(story));
     let mut answers = output;
     let mut number = 0;
     let mut commands = 0;

@@ -3,7 +3,7 @@ ghost use Rattle.pif_stories.specs.Filling.{answered_row, answers_behind, filled
 ghost use Rattle.pif_stories.specs.Lines.{lines, lines_behind};
 ghost use Rattle.pif_stories.specs.Stories.{story_lines};
 
-use crate::lines::{row_of, split_line, unmarked, without_return};
+use crate::lines::{row_of, split_line, without_mark, without_return};
 use std::alloc::{AllocError, Global};
 
 /// The length of the longest command of a story.
@@ -12,7 +12,7 @@ fn width_of(story: &[u8]) -> usize
     ensures { result ≡ width_from 0 (story_lines story.now) }
 {
     let mut width = 0;
-    let mut rest = Some(unmarked(story));
+    let mut rest = Some(without_mark(story));
     'lines: while let Some(text) = rest {
         let (line, behind) = split_line(text);
         rest = behind;
@@ -96,9 +96,9 @@ pub fn filled_text(alloc: Global, story: &[u8], output: &[u8]) -> Result<Vec<u8>
     ensures { IfOk result (λ text. text.items ≡ filled_text story.now (lines output.now)) }
 {
     let width = width_of(story);
-    let unmarked = unmarked(story);
-    let mut text = Vec::from_slice(alloc, &story[..story.len() - unmarked.len()])?;
-    let mut rest = Some(unmarked);
+    let without_mark = without_mark(story);
+    let mut text = Vec::from_slice(alloc, &story[..story.len() - without_mark.len()])?;
+    let mut rest = Some(without_mark);
     let mut answers = Some(output);
     'lines: while let Some(left) = rest {
         let (line, behind) = split_line(left);

@@ -1,6 +1,6 @@
 ghost use Rattle.std.specs.Prelude.{◌≡◌, ◌≢◌, ◌<◌, ◌≤◌, ◌∷◌, ℕ, length, slice_index, IfSome, option_copied, option_map};
 ghost use Rattle.std.specs.Str.Lines.{strip_carriage_return};
-ghost use Rattle.pif_stories.specs.Lines.{unmarked, lines, lines_behind, without_blanks, is_passed, row_in};
+ghost use Rattle.pif_stories.specs.Lines.{without_mark, lines, lines_behind, without_blanks, is_passed, row_in};
 
 use pif_text::split_answer;
 
@@ -8,9 +8,9 @@ use pif_text::split_answer;
 pub type Row<'a> = (&'a [u8], Option<&'a [u8]>);
 
 /// A text without a byte order mark at its front.
-#[tactic(auto, unfolding(crate::specs::Lines::unmarked))]
-pub fn unmarked(text: &[u8]) -> &[u8]
-    ensures text { result.now ≡ unmarked text.now }
+#[tactic(auto, unfolding(crate::specs::Lines::without_mark))]
+pub fn without_mark(text: &[u8]) -> &[u8]
+    ensures text { result.now ≡ without_mark text.now }
     ensures shorter { length result.now ≤ length text.now }
 {
     if text.starts_with(b"\xef\xbb\xbf") {

@@ -1,7 +1,7 @@
 ghost use Rattle.std.specs.Prelude.{◌≡◌, IfOk};
 ghost use Rattle.pif_stories.specs.Stories.{script_of};
 
-use crate::lines::{row_of, split_line, unmarked};
+use crate::lines::{row_of, split_line, without_mark};
 use std::alloc::{AllocError, Global};
 
 /// The script that is left of a story when its comments, its empty lines and its answers are taken out: a line for each
@@ -15,7 +15,7 @@ pub fn script_of(alloc: Global, story: &[u8]) -> Result<Vec<u8>, AllocError>
     ensures { IfOk result (λ script. script.items ≡ script_of story.now) }
 {
     let mut script = Vec::new(alloc);
-    let mut rest = Some(unmarked(story));
+    let mut rest = Some(without_mark(story));
     'lines: while let Some(text) = rest {
         let (line, behind) = split_line(text);
         rest = behind;

@@ -1,5 +1,5 @@
 ghost use Rattle.std.specs.Prelude.{Err, IfErr, IfOk, Ok};
-ghost use Rattle.pif_stories.specs.Showing.{LeavesTo, ShowsStoryTo, TracesStoryTo};
+ghost use Rattle.pif_stories.specs.Showing.{LeavesScriptTo, ShowsStoryTo, TracesStoryTo};
 
 use crate::checking::{MOST, line_at_end};
 use crate::scripts::script_of;
@@ -13,8 +13,8 @@ use std::io::{Read, Write};
 ///
 /// `Script` with the fault `size`, if the story is too large; `Read`, if the reader fails; and `NoMemory`.
 fn read_script<R: Read>(alloc: Global, reader: &mut R) -> Result<Vec<u8>, CliFault>
-    ensures left { IfOk result (λ script. LeavesTo (R.remaining reader.old) (R.remaining reader.new) (Ok script.items)) }
-    ensures failed { IfErr result (λ fault. LeavesTo (R.remaining reader.old) (R.remaining reader.new) (Err fault)) }
+    ensures left { IfOk result (λ script. LeavesScriptTo (R.remaining reader.old) (R.remaining reader.new) (Ok script.items)) }
+    ensures failed { IfErr result (λ fault. LeavesScriptTo (R.remaining reader.old) (R.remaining reader.new) (Err fault)) }
 {
     let story = read_all(alloc, reader)?;
     let text = story.as_slice();

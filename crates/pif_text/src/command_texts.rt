@@ -1,9 +1,9 @@
 ghost use Rattle.std.specs.Prelude.{◌≡◌, ℕ, List, Some, ◌+◌, ◌≤◌, ◌++◌, codes, decimal, length};
 ghost use Rattle.arrayvec.specs.ArrayVec.{array_vec_len};
-ghost use Rattle.pif_text.specs.declared.commands.Command.{Command};
-ghost use Rattle.pif_text.specs.Commands.{command_in};
-ghost use Rattle.pif_text.specs.CommandTexts.{IsWritten, addition_text, command_text, event_text, kind_word, mutex_text, request_text, run_text};
-ghost use Rattle.pif_text.specs.Replies.{thread_name, mutex_name};
+ghost use Rattle.pif_text_model.specs.declared.commands.Command.{Command};
+ghost use Rattle.pif_text_model.specs.Commands.{command_in};
+ghost use Rattle.pif_text_model.specs.CommandTexts.{IsWritten, addition_text, command_text, event_text, kind_word, mutex_text, request_text, run_text};
+ghost use Rattle.pif_text_model.specs.Replies.{thread_name, mutex_name};
 
 use crate::questions::append_question;
 use crate::writing::{append, append_cond, append_mutex, append_number, append_thread};
@@ -41,7 +41,7 @@ pub fn mutex_text(kind: Kind, robust: bool, out: &mut Text)
 }
 
 /// Appends a request.
-#[tactic(auto, unfolding(crate::specs::CommandTexts::request_text))]
+#[tactic(auto, unfolding(pif_text_model::specs::CommandTexts::request_text))]
 fn append_request(out: &mut Text, request: Request)
     requires { array_vec_len out.old + 44 ≤ TEXT_ROOM }
     ensures items { out.new.items ≡ out.old.items ++ request_text request }
@@ -129,7 +129,7 @@ fn append_numbers(out: &mut Text, first: u32, second: u32, third: u32, fourth: u
 }
 
 /// Appends an addition.
-#[tactic(auto, unfolding(crate::specs::CommandTexts::addition_text))]
+#[tactic(auto, unfolding(pif_text_model::specs::CommandTexts::addition_text))]
 fn append_addition(out: &mut Text, addition: Addition)
     requires { array_vec_len out.old + COMMAND_ROOM ≤ TEXT_ROOM }
     ensures items { out.new.items ≡ out.old.items ++ addition_text addition }
@@ -149,7 +149,7 @@ fn append_addition(out: &mut Text, addition: Addition)
 }
 
 /// Appends an event.
-#[tactic(auto, unfolding(crate::specs::CommandTexts::event_text))]
+#[tactic(auto, unfolding(pif_text_model::specs::CommandTexts::event_text))]
 fn append_event(out: &mut Text, event: Event)
     requires { array_vec_len out.old + COMMAND_ROOM ≤ TEXT_ROOM }
     ensures items { out.new.items ≡ out.old.items ++ event_text event }
@@ -176,7 +176,7 @@ fn append_event(out: &mut Text, event: Event)
 }
 
 /// Appends a thread that goes on with a request or, with none, with what it has open.
-#[tactic(auto, unfolding(crate::specs::CommandTexts::run_text))]
+#[tactic(auto, unfolding(pif_text_model::specs::CommandTexts::run_text))]
 fn append_run(out: &mut Text, thread: Tid, request: Option<Request>)
     requires { array_vec_len out.old + COMMAND_ROOM ≤ TEXT_ROOM }
     ensures items { out.new.items ≡ out.old.items ++ run_text thread request }
@@ -196,7 +196,7 @@ fn append_run(out: &mut Text, thread: Tid, request: Option<Request>)
 
 /// Appends the line that asks for a command, with no line feed, at most `COMMAND_ROOM` bytes. What stands in `out`
 /// stays.
-#[tactic(auto, unfolding(crate::specs::CommandTexts::command_text))]
+#[tactic(auto, unfolding(pif_text_model::specs::CommandTexts::command_text))]
 pub fn command_text(command: Command, out: &mut Text)
     requires { array_vec_len out.old + COMMAND_ROOM ≤ TEXT_ROOM }
     ensures written { out.new.items ≡ out.old.items ++ command_text command }

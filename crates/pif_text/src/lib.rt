@@ -2,11 +2,9 @@
 #![tactic(auto)]
 
 mod command_texts;
-mod commands;
 mod numbers;
 mod questions;
 mod reading;
-mod replies;
 mod text;
 mod traces;
 mod words;
@@ -15,14 +13,12 @@ mod writing;
 pub use command_texts::{
     COMMAND_ROOM, command_reads_back, command_text, commands_of_lines_are_written, mutex_text,
 };
-pub use commands::{Addition, Command};
 pub use numbers::number_reads_back;
-pub use questions::Question;
+pub use pif_text_model::{Added, Addition, Cause, Command, Fact, Question, Reply, Version};
 pub use reading::command_of;
-pub use replies::{Added, Cause, Fact, Reply};
 pub use text::{TEXT_ROOM, Text};
 pub use traces::{
-    HEADER_ROOM, RECORDED_ROOM, VERDICT_ROOM, Version, differs_text, header_text, if_traced,
-    recorded_text, same_text, split_answer, version_of,
+    HEADER_ROOM, RECORDED_ROOM, VERDICT_ROOM, differs_text, header_text, if_traced, recorded_text,
+    same_text, split_answer, version_of,
 };
 pub use writing::{REPLY_ROOM, fault_text, reply_text};

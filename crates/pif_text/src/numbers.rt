@@ -1,5 +1,5 @@
 ghost use Rattle.std.specs.Prelude.{◌≡◌, ℕ, ◌<◌, decimal};
-ghost use Rattle.pif_text.specs.Numbers.{value_in, number_in, thread_in, mutex_in, cond_in};
+ghost use Rattle.pif_text_model.specs.Numbers.{value_in, number_in, thread_in, mutex_in, cond_in};
 
 use pif_types::{CondId, MutexId, Tid};
 
@@ -21,7 +21,7 @@ fn value_of(digits: &[u8]) -> Option<u32>
 }
 
 /// The number that a word writes.
-#[tactic(auto, unfolding(crate::specs::Numbers::number_in, crate::specs::Numbers::value_in))]
+#[tactic(auto, unfolding(pif_text_model::specs::Numbers::number_in, pif_text_model::specs::Numbers::value_in))]
 pub fn number_of(word: &[u8]) -> Option<u32>
     ensures { result ≡ number_in word.now }
 {
@@ -32,7 +32,7 @@ pub fn number_of(word: &[u8]) -> Option<u32>
 }
 
 /// The thread that a word names.
-#[tactic(auto, unfolding(crate::specs::Numbers::thread_in))]
+#[tactic(auto, unfolding(pif_text_model::specs::Numbers::thread_in))]
 pub fn thread_of(word: &[u8]) -> Option<Tid>
     ensures { result ≡ thread_in word.now }
 {
@@ -43,7 +43,7 @@ pub fn thread_of(word: &[u8]) -> Option<Tid>
 }
 
 /// The mutex that a word names.
-#[tactic(auto, unfolding(crate::specs::Numbers::mutex_in))]
+#[tactic(auto, unfolding(pif_text_model::specs::Numbers::mutex_in))]
 pub fn mutex_of(word: &[u8]) -> Option<MutexId>
     ensures { result ≡ mutex_in word.now }
 {
@@ -54,7 +54,7 @@ pub fn mutex_of(word: &[u8]) -> Option<MutexId>
 }
 
 /// The condition variable that a word names.
-#[tactic(auto, unfolding(crate::specs::Numbers::cond_in))]
+#[tactic(auto, unfolding(pif_text_model::specs::Numbers::cond_in))]
 pub fn cond_of(word: &[u8]) -> Option<CondId>
     ensures { result ≡ cond_in word.now }
 {

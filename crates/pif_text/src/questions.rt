@@ -1,30 +1,14 @@
 ghost use Rattle.std.specs.Prelude.{◌≡◌, ◌+◌, ◌≤◌, ◌++◌};
 ghost use Rattle.arrayvec.specs.ArrayVec.{array_vec_len};
-ghost use Rattle.pif_text.specs.Questions.{question_in_one, question_in_two, question_text};
+ghost use Rattle.pif_text_model.specs.Questions.{question_in_one, question_in_two, question_text};
 
 use crate::numbers::{cond_of, mutex_of, thread_of};
 use crate::words::is_word;
 use crate::writing::{append, append_cond, append_mutex, append_thread};
-use crate::{TEXT_ROOM, Text};
-use pif_types::{CondId, MutexId, Tid};
-
-/// What is asked of a core, which changes nothing.
-#[derive(Clone, Copy, PartialEq, Eq)]
-pub enum Question {
-    /// `word mN`: the value of the mutex's word.
-    Word(MutexId),
-    /// `health mN`: what is known of the state that the mutex protects.
-    Health(MutexId),
-    /// `condword cN`: how often the condition variable was used, that is signalled or broadcast.
-    CondWord(CondId),
-    /// `prio tN`: the priority that the thread runs at.
-    Prio(Tid),
-    /// `pick`: the thread that runs next.
-    Pick,
-}
+use crate::{Question, TEXT_ROOM, Text};
 
 /// The question of one word.
-#[tactic(auto, unfolding(crate::specs::Questions::question_in_one))]
+#[tactic(auto, unfolding(pif_text_model::specs::Questions::question_in_one))]
 pub fn question_of_one(name: &[u8]) -> Option<Question>
     ensures { result ≡ question_in_one name.now }
 {
@@ -36,7 +20,7 @@ pub fn question_of_one(name: &[u8]) -> Option<Question>
 }
 
 /// The question of two words.
-#[tactic(auto, unfolding(crate::specs::Questions::question_in_two))]
+#[tactic(auto, unfolding(pif_text_model::specs::Questions::question_in_two))]
 pub fn question_of_two(name: &[u8], word: &[u8]) -> Option<Question>
     ensures { result ≡ question_in_two name.now word.now }
 {
@@ -54,7 +38,7 @@ pub fn question_of_two(name: &[u8], word: &[u8]) -> Option<Question>
 }
 
 /// Appends a question.
-#[tactic(auto, unfolding(crate::specs::Questions::question_text))]
+#[tactic(auto, unfolding(pif_text_model::specs::Questions::question_text))]
 pub fn append_question(out: &mut Text, question: Question)
     requires { array_vec_len out.old + 20 ≤ TEXT_ROOM }
     ensures items { out.new.items ≡ out.old.items ++ question_text question }

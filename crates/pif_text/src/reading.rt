@@ -1,6 +1,6 @@
 ghost use Rattle.std.specs.Prelude.{◌≡◌, ◌∷◌, []};
-ghost use Rattle.pif_text.specs.Words.{words};
-ghost use Rattle.pif_text.specs.Commands.{kind_in, request_in, request_in_three, request_in_four, command_of_one, command_of_two, command_of_three, command_of_four, command_of_five, command_of_six, command_of_words, command_in};
+ghost use Rattle.pif_text_model.specs.Words.{words};
+ghost use Rattle.pif_text_model.specs.Commands.{kind_in, request_in, request_in_three, request_in_four, command_of_one, command_of_two, command_of_three, command_of_four, command_of_five, command_of_six, command_of_words, command_in};
 
 use crate::numbers::{cond_of, mutex_of, number_of, thread_of};
 use crate::questions::{question_of_one, question_of_two};
@@ -10,7 +10,7 @@ use pif_model::Event;
 use pif_types::{Kind, Request};
 
 /// The type of a mutex that a word names.
-#[tactic(auto, unfolding(crate::specs::Commands::kind_in))]
+#[tactic(auto, unfolding(pif_text_model::specs::Commands::kind_in))]
 fn kind_of(word: &[u8]) -> Option<Kind>
     ensures { result ≡ kind_in word.now }
 {
@@ -26,7 +26,7 @@ fn kind_of(word: &[u8]) -> Option<Kind>
 }
 
 /// The request that two words write.
-#[tactic(auto, unfolding(crate::specs::Commands::request_in))]
+#[tactic(auto, unfolding(pif_text_model::specs::Commands::request_in))]
 fn request_of(call: &[u8], word: &[u8]) -> Option<Request>
     ensures { result ≡ request_in call.now word.now }
 {
@@ -48,7 +48,7 @@ fn request_of(call: &[u8], word: &[u8]) -> Option<Request>
 }
 
 /// The request that three words write.
-#[tactic(auto, unfolding(crate::specs::Commands::request_in_three))]
+#[tactic(auto, unfolding(pif_text_model::specs::Commands::request_in_three))]
 fn request_of_three(call: &[u8], first: &[u8], second: &[u8]) -> Option<Request>
     ensures { result ≡ request_in_three call.now first.now second.now }
 {
@@ -64,7 +64,7 @@ fn request_of_three(call: &[u8], first: &[u8], second: &[u8]) -> Option<Request>
 }
 
 /// The request that four words write.
-#[tactic(auto, unfolding(crate::specs::Commands::request_in_four))]
+#[tactic(auto, unfolding(pif_text_model::specs::Commands::request_in_four))]
 fn request_of_four(call: &[u8], first: &[u8], second: &[u8], third: &[u8]) -> Option<Request>
     ensures { result ≡ request_in_four call.now first.now second.now third.now }
 {
@@ -76,7 +76,7 @@ fn request_of_four(call: &[u8], first: &[u8], second: &[u8], third: &[u8]) -> Op
 }
 
 /// The command of one word.
-#[tactic(auto, unfolding(crate::specs::Commands::command_of_one))]
+#[tactic(auto, unfolding(pif_text_model::specs::Commands::command_of_one))]
 fn of_one(name: &[u8]) -> Option<Command>
     ensures { result ≡ command_of_one name.now }
 {
@@ -84,7 +84,7 @@ fn of_one(name: &[u8]) -> Option<Command>
 }
 
 /// The command of two words.
-#[tactic(auto, unfolding(crate::specs::Commands::command_of_two))]
+#[tactic(auto, unfolding(pif_text_model::specs::Commands::command_of_two))]
 fn of_two(name: &[u8], word: &[u8]) -> Option<Command>
     ensures { result ≡ command_of_two name.now word.now }
 {
@@ -108,7 +108,7 @@ fn of_two(name: &[u8], word: &[u8]) -> Option<Command>
 }
 
 /// The command of three words.
-#[tactic(auto, unfolding(crate::specs::Commands::command_of_three))]
+#[tactic(auto, unfolding(pif_text_model::specs::Commands::command_of_three))]
 fn of_three(name: &[u8], kind: &[u8], last: &[u8]) -> Option<Command>
     ensures { result ≡ command_of_three name.now kind.now last.now }
 {
@@ -120,7 +120,7 @@ fn of_three(name: &[u8], kind: &[u8], last: &[u8]) -> Option<Command>
 }
 
 /// The command of four words.
-#[tactic(auto, unfolding(crate::specs::Commands::command_of_four))]
+#[tactic(auto, unfolding(pif_text_model::specs::Commands::command_of_four))]
 fn of_four(name: &[u8], thread: &[u8], call: &[u8], word: &[u8]) -> Option<Command>
     ensures { result ≡ command_of_four name.now thread.now call.now word.now }
 {
@@ -134,7 +134,7 @@ fn of_four(name: &[u8], thread: &[u8], call: &[u8], word: &[u8]) -> Option<Comma
 }
 
 /// The command of five words.
-#[tactic(auto, unfolding(crate::specs::Commands::command_of_five))]
+#[tactic(auto, unfolding(pif_text_model::specs::Commands::command_of_five))]
 fn of_five(name: &[u8], first: &[u8], second: &[u8], third: &[u8], fourth: &[u8]) -> Option<Command>
     ensures { result ≡ command_of_five name.now first.now second.now third.now fourth.now }
 {
@@ -161,7 +161,7 @@ fn of_five(name: &[u8], first: &[u8], second: &[u8], third: &[u8], fourth: &[u8]
 }
 
 /// The command of six words.
-#[tactic(auto, unfolding(crate::specs::Commands::command_of_six))]
+#[tactic(auto, unfolding(pif_text_model::specs::Commands::command_of_six))]
 fn of_six(
     name: &[u8],
     thread: &[u8],
@@ -223,7 +223,7 @@ fn of_named(name: &[u8], rest: &[u8]) -> Option<Command>
 
 /// The command of a line, given as its bytes without the line feed, or `None` where the line is no command. Any bytes
 /// and any length may be given.
-#[tactic(auto, unfolding(crate::specs::Commands::command_in))]
+#[tactic(auto, unfolding(pif_text_model::specs::Commands::command_in))]
 pub fn command_of(line: &[u8]) -> Option<Command>
     ensures { result ≡ command_in line.now }
 {

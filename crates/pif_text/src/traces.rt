@@ -1,30 +1,22 @@
 ghost use Rattle.std.specs.Prelude.{◌≡◌, ℕ, ◌+◌, ◌≤◌, ◌<◌, ◌++◌, drop, get_or, length, option_map, None, Some, true, false};
 ghost use Rattle.arrayvec.specs.ArrayVec.{array_vec_len};
-ghost use Rattle.pif_text.specs.declared.traces.Version.TheVariants as version;
-ghost use Rattle.pif_text.specs.Traces.{if_traced, is_of_two, is_timed, knows, version_in, parts_of, is_marked, header_text, recorded, same_of, differs_of};
+ghost use Rattle.pif_text_model.specs.declared.traces.Version.TheVariants as version;
+ghost use Rattle.pif_text_model.specs.Traces.{if_traced, is_of_two, is_timed, knows, version_in, parts_of, is_marked, header_text, answer_text, same_of, differs_of};
 
-use crate::writing::{append, append_decimal, reply_text};
-use crate::{Command, Reply, TEXT_ROOM, Text};
+use crate::writing::{REPLY_ROOM, append, append_decimal, reply_text};
+use crate::{Command, Reply, TEXT_ROOM, Text, Version};
 use pif_model::Event;
 use pif_types::Request;
-
-/// A version of traces. The first line names it; commands were added in version 2.
-#[derive(Clone, Copy, Debug, PartialEq, Eq)]
-pub enum Version {
-    /// `pif-trace 1`
-    One,
-    /// `pif-trace 2`, which is written.
-    Two,
-}
 
 /// How many bytes the first line of a trace has before its line feed.
 pub const HEADER_ROOM: usize = 11;
 
-/// How many bytes of room `recorded_text` asks for: no answer is longer.
-pub const RECORDED_ROOM: usize = 43;
+/// How many bytes of room `recorded_text` asks for: no answer is longer, with the 3 bytes ` = ` before it.
+pub const RECORDED_ROOM: usize = REPLY_ROOM + 3;
 
-/// How many bytes of room `same_text` and `differs_text` ask for: neither is longer.
-pub const VERDICT_ROOM: usize = 70;
+/// How many bytes of room `same_text` and `differs_text` ask for: neither is longer. The longest is `differs N X`: an
+/// answer behind 29 bytes, with a number of 20 digits.
+pub const VERDICT_ROOM: usize = REPLY_ROOM + 30;
 
 /// Cuts a line of a trace, given as its bytes without the line feed, at its first ` = `: what stands before it, the
 /// command, and what stands behind it, the answer. `None` where it has no ` = `. Any bytes and any length may be given.
@@ -41,7 +33,7 @@ pub fn split_answer(line: &[u8]) -> Option<(&[u8], &[u8])>
 
 /// The version of a trace that begins with this line, given as its bytes without the line feed; `None` where no trace
 /// begins so. Any bytes and any length may be given.
-#[tactic(auto, unfolding(crate::specs::Traces::version_in))]
+#[tactic(auto, unfolding(pif_text_model::specs::Traces::version_in))]
 pub fn version_of(line: &[u8]) -> Option<Version>
     ensures { result ≡ version_in line.now }
 {
@@ -119,7 +111,7 @@ pub fn header_text(out: &mut Text)
 /// `RECORDED_ROOM` bytes. What stands in `out` stays.
 pub fn recorded_text(reply: Reply, out: &mut Text)
     requires { array_vec_len out.old + RECORDED_ROOM ≤ TEXT_ROOM }
-    ensures written { out.new.items ≡ out.old.items ++ recorded reply }
+    ensures written { out.new.items ≡ out.old.items ++ answer_text reply }
     ensures within { array_vec_len out.new ≤ array_vec_len out.old + RECORDED_ROOM }
 {
     append(out, b" = ");
@@ -128,7 +120,7 @@ pub fn recorded_text(reply: Reply, out: &mut Text)
 
 /// Appends `same N`, what a trace of so many lines behind the first comes to where each answer is the recorded one,
 /// with no line feed, at most `VERDICT_ROOM` bytes. What stands in `out` stays.
-#[tactic(auto, unfolding(crate::specs::Traces::same_of))]
+#[tactic(auto, unfolding(pif_text_model::specs::Traces::same_of))]
 pub fn same_text(lines: u64, out: &mut Text)
     requires { array_vec_len out.old + VERDICT_ROOM ≤ TEXT_ROOM }
     ensures written { out.new.items ≡ out.old.items ++ same_of lines }
@@ -140,7 +132,7 @@ pub fn same_text(lines: u64, out: &mut Text)
 
 /// Appends `differs N X`, the first difference of a trace: at this line, counted from 1, the answer is `reply`. There
 /// is no line feed, and it is at most `VERDICT_ROOM` bytes. What stands in `out` stays.
-#[tactic(auto, unfolding(crate::specs::Traces::differs_of))]
+#[tactic(auto, unfolding(pif_text_model::specs::Traces::differs_of))]
 pub fn differs_text(line_number: u64, reply: Reply, out: &mut Text)
     requires { array_vec_len out.old + VERDICT_ROOM ≤ TEXT_ROOM }
     ensures written { out.new.items ≡ out.old.items ++ differs_of line_number reply }

@@ -1,5 +1,5 @@
 ghost use Rattle.std.specs.Prelude.{◌≡◌, ℕ, ◌<◌, ◌≤◌, ◌≢◌, ◌∷◌, length, slice_index, option_copied, bytes_eq};
-ghost use Rattle.pif_text.specs.Words.{words, words_behind};
+ghost use Rattle.pif_text_model.specs.Words.{words, words_behind};
 
 /// The place of the first space of a line, or the line's length where it has none.
 fn first_space(line: &[u8]) -> usize
@@ -16,7 +16,7 @@ fn first_space(line: &[u8]) -> usize
 }
 
 /// The first word of a line, and what stands behind the space after it, or `None` where no space stands there.
-#[tactic(auto, using(crate::proofs::Splits::split_at_space, crate::proofs::Splits::split_nowhere))]
+#[tactic(auto, using(pif_text_model::proofs::Splits::split_at_space, pif_text_model::proofs::Splits::split_nowhere))]
 pub fn split_first(line: &[u8]) -> (&[u8], Option<&[u8]>)
     ensures { words line.now ≡ result.0.now ∷ words_behind (option_copied result.1) }
 {

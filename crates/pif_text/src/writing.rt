@@ -1,8 +1,8 @@
 ghost use Rattle.std.specs.Prelude.{◌≡◌, ◌+◌, ◌≤◌, ◌<◌, ◌++◌, false, length, decimal, codes};
 ghost use Rattle.arrayvec.specs.ArrayVec.{array_vec_len};
 ghost use Rattle.std.specs.Fmt.{digit_glyph};
-ghost use Rattle.pif_text.specs.Numbers.{hex_digits};
-ghost use Rattle.pif_text.specs.Replies.{text_of, fault_of, add_fault_word, refusal_word, health_text, added_text, seen_text, fact_text, thread_name, mutex_name, cond_name, thread_or_none, cause_word};
+ghost use Rattle.pif_text_model.specs.Numbers.{hex_digits};
+ghost use Rattle.pif_text_model.specs.Replies.{text_of, fault_of, add_fault_word, refusal_word, health_text, added_text, seen_text, fact_text, thread_name, mutex_name, cond_name, thread_or_none, cause_word};
 
 use crate::{Added, Cause, Fact, Reply, TEXT_ROOM, Text};
 use arrayvec::ArrayVec;
@@ -10,7 +10,8 @@ use itoa::Buffer;
 use pif_model::Seen;
 use pif_types::{AddFault, Answer, CondId, Health, MutexId, Refusal, Tid};
 
-/// How many bytes of room `reply_text` and `fault_text` ask for: no text is longer.
+/// How many bytes of room `reply_text` and `fault_text` ask for: no text is longer. The longest is `fault N command`,
+/// 34 bytes with a number of 20 digits.
 pub const REPLY_ROOM: usize = 40;
 
 /// Appends bytes.
@@ -111,7 +112,7 @@ fn hex_digit(value: u32) -> u8
 }
 
 /// The eight hexadecimal digits of a word.
-#[tactic(auto, unfolding(crate::specs::Numbers::hex_digits))]
+#[tactic(auto, unfolding(pif_text_model::specs::Numbers::hex_digits))]
 fn hex_text(value: u32) -> [u8; 8]
     ensures { result ≡ hex_digits 8 value }
 {
@@ -219,7 +220,7 @@ fn append_thread_or_none<const N: usize>(out: &mut ArrayVec<u8, N>, thread: Opti
 }
 
 /// Appends what an addition is answered.
-#[tactic(auto, unfolding(crate::specs::Replies::added_text))]
+#[tactic(auto, unfolding(pif_text_model::specs::Replies::added_text))]
 fn append_added<const N: usize>(out: &mut ArrayVec<u8, N>, added: Added)
     requires { array_vec_len out.old + REPLY_ROOM ≤ N }
     ensures items { out.new.items ≡ out.old.items ++ added_text added }
@@ -234,7 +235,7 @@ fn append_added<const N: usize>(out: &mut ArrayVec<u8, N>, added: Added)
 }
 
 /// Appends what an event is answered.
-#[tactic(auto, unfolding(crate::specs::Replies::seen_text))]
+#[tactic(auto, unfolding(pif_text_model::specs::Replies::seen_text))]
 fn append_seen<const N: usize>(out: &mut ArrayVec<u8, N>, seen: Seen)
     requires { array_vec_len out.old + REPLY_ROOM ≤ N }
     ensures items { out.new.items ≡ out.old.items ++ seen_text seen }
@@ -252,7 +253,7 @@ fn append_seen<const N: usize>(out: &mut ArrayVec<u8, N>, seen: Seen)
 }
 
 /// Appends what a question is answered.
-#[tactic(auto, unfolding(crate::specs::Replies::fact_text))]
+#[tactic(auto, unfolding(pif_text_model::specs::Replies::fact_text))]
 fn append_fact<const N: usize>(out: &mut ArrayVec<u8, N>, fact: Fact)
     requires { array_vec_len out.old + REPLY_ROOM ≤ N }
     ensures items { out.new.items ≡ out.old.items ++ fact_text fact }
@@ -270,7 +271,7 @@ fn append_fact<const N: usize>(out: &mut ArrayVec<u8, N>, fact: Fact)
 }
 
 /// Appends the text of a reply, with no line feed, at most `REPLY_ROOM` bytes. What stands in `out` stays.
-#[tactic(auto, unfolding(crate::specs::Replies::text_of))]
+#[tactic(auto, unfolding(pif_text_model::specs::Replies::text_of))]
 pub fn reply_text<const N: usize>(reply: Reply, out: &mut ArrayVec<u8, N>)
     requires { array_vec_len out.old + REPLY_ROOM ≤ N }
     ensures written { out.new.items ≡ out.old.items ++ text_of reply }
@@ -286,7 +287,7 @@ pub fn reply_text<const N: usize>(reply: Reply, out: &mut ArrayVec<u8, N>)
 
 /// Appends the text of a fault at a line, counted from 1, with no line feed, at most `REPLY_ROOM` bytes. What stands in
 /// `out` stays.
-#[tactic(auto, unfolding(crate::specs::Replies::fault_of))]
+#[tactic(auto, unfolding(pif_text_model::specs::Replies::fault_of))]
 pub fn fault_text(line_number: u64, cause: Cause, out: &mut Text)
     requires { array_vec_len out.old + REPLY_ROOM ≤ TEXT_ROOM }
     ensures written { out.new.items ≡ out.old.items ++ fault_of line_number cause }

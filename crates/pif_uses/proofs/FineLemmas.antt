@@ -14,13 +14,13 @@ use Rattle.pif_model.specs.declared.lines.RepairStep.TheVariants.{CheckHealth, S
 use Rattle.pif_model.specs.Deadlines.{plain}
 use Rattle.pif_model.specs.PiKernel.{is_living}
 use Rattle.pif_model.specs.Posix.{Mutex, World, mutex_at, names_known}
-use Rattle.pif_model.specs.Posix.Health.{Fine}
+use Rattle.pif_model.specs.World.Health.{Fine}
 use Rattle.pif_model.specs.Table.{Table, has_cond, has_mutex, has_thread, line_at}
 use Rattle.pif_model.specs.Word.{word_at}
 use Rattle.pif_model.specs.Lines.{Outcome, accepted_outcome, answers, by_refusal, event_outcome, first_place, go_outcome, goes_on, goes_to, is_open, line_of, repair_line, table_refusal}
 use Rattle.pif_model.specs.Projection.{health_at, health_of}
 use Rattle.pif_model.specs.Soundness.{CallIsSound, IsSound, LineIsSound, ThreadIsSound, is_unsettled, mutex_by}
-use Rattle.pif_chains.proofs.LineCases.{consistent_load_cases, consistent_health_cases}
+use Rattle.pif_chains.proofs.kernel.LineCases.{consistent_load_cases, consistent_health_cases}
 use Rattle.pif_simulation.proofs.Facts.{call_own}
 use Rattle.pif_simulation.proofs.Lined.{tl}
 use Rattle.pif_simulation.proofs.Shown.{begin_allowed, go_allowed, mutex_seen}

@@ -5,12 +5,12 @@ use Rattle.pif_model.specs.declared.events.Seen.{Seen}
 use Rattle.pif_model.specs.declared.events.Seen.TheVariants.{Begun, Went, Waits, Answered, Ended, Ticked, Refused}
 use Rattle.pif_model.specs.declared.lines.Line.TheVariants.{At}
 use Rattle.pif_model.specs.declared.lines.Place.{Place}
-use Rattle.pif_model.specs.Deadlines.{is_reached, told, told_seen}
+use Rattle.pif_model.specs.Deadlines.{is_reached, told_result, told_seen}
 use Rattle.pif_model.specs.Table.{Table, status_at, timer_at}
 use Rattle.pif_model.specs.Lines.{Outcome, counts_at, expires_at, go_outcome, line_of, told_outcome}
 
 -- a call whose results are all answered as they are shows each step as it is
-untold_seen : (q : Request) (x : Bool) → ((a : ℕ) → told q x a ≡ a) → (seen : Seen) → told_seen q x seen ≡ seen
+untold_seen : (q : Request) (x : Bool) → ((a : ℕ) → told_result q x a ≡ a) → (seen : Seen) → told_seen q x seen ≡ seen
 untold_seen q x same (Answered a) = ap Answered (same a)
 untold_seen q x same Begun = refl
 untold_seen q x same Went = refl
@@ -19,12 +19,12 @@ untold_seen q x same Ended = refl
 untold_seen q x same Ticked = refl
 untold_seen q x same (Refused r) = refl
 
-untold : (q : Request) (x : Bool) → ((a : ℕ) → told q x a ≡ a) → (o : Outcome) → told_outcome q x o ≡ o
+untold : (q : Request) (x : Bool) → ((a : ℕ) → told_result q x a ≡ a) → (o : Outcome) → told_outcome q x o ≡ o
 untold q x same o = ap (λ (seen : Seen). record { seen = seen; after = o.after }) (untold_seen q x same o.seen)
 
 -- a step of such a call at a place
 pub go_cases : (P : Outcome → Type 0) (q : Request) (p : Place) (t : ℕ) (s : Table)
-    → ((x : Bool) (a : ℕ) → told q x a ≡ a) → (counts_at q p (status_at s t) ≡ true → P (expires_at q p t s))
+    → ((x : Bool) (a : ℕ) → told_result q x a ≡ a) → (counts_at q p (status_at s t) ≡ true → P (expires_at q p t s))
     → P (line_of q p t s) → P (go_outcome (At q p) t s)
 unfolding go_outcome
 go_cases P q p t s same expires acts =

@@ -21,7 +21,7 @@ use Rattle.pif_uses.specs.declared.locking.Held.{Held}
 use Rattle.pif_uses.specs.declared.locking.Held.TheVariants.{InOrder, OwnerDied}
 use Rattle.pif_uses.specs.declared.waiting.Awaited.TheVariants.{Met}
 use Rattle.pif_uses.specs.Waiting.{awaited_by, if_resumed, if_waited}
-use Rattle.pif_uses.specs.Holding.{HoldsOn, CountsOn, found, locked_by, if_died, locked}
+use Rattle.pif_uses.specs.Holding.{HoldsOn, CountsOn, lock_finds, locked_by, if_died, after_lock}
 use Rattle.pif_calls.proofs.CallLemmas.{call_other, call_refused, called-other}
 use Rattle.pif_calls.proofs.StandingLemmas.{along, call_stands, finish_stands, next_stands}
 
@@ -244,16 +244,16 @@ consistent_holds s v t m n h r w held e after =
     (next.count ∙ held.count))
 
 -- a core stands on after a lock that found that the last owner had ended, and the call consistent behind it
-pub died_stands : (s u v : Table) (t m : ℕ) → Ok OwnerDied ≡ found t m s
+pub died_stands : (s u v : Table) (t m : ℕ) → Ok OwnerDied ≡ lock_finds t m s
     → ((h : List Entry) (r : List World) (w : World) → Stands s h r w → StandsOn u (after_call t (Lock m) s h) r w)
-    → u ≡ locked t m s → v ≡ (call_outcome t (Consistent m) u).after
+    → u ≡ after_lock t m s → v ≡ (call_outcome t (Consistent m) u).after
     → (h : List Entry) (r : List World) (w : World) → Stands s h r w
-    → StandsOn v (if_died (found t m s) (after_call t (Lock m) s h)
-    (after_call t (Consistent m) (locked t m s) (after_call t (Lock m) s h))) r w
+    → StandsOn v (if_died (lock_finds t m s) (after_call t (Lock m) s h)
+    (after_call t (Consistent m) (after_lock t m s) (after_call t (Lock m) s h))) r w
 died_stands s u v t m died stands same after h r w st =
     let k = after_call t (Lock m) s h in
-    subst (λ (f : Result Held Seen). StandsOn v (if_died f k (after_call t (Consistent m) (locked t m s) k)) r w) died
-    (next_stands u (locked t m s) v t (Consistent m) k r w (stands h r w st) same after)
+    subst (λ (f : Result Held Seen). StandsOn v (if_died f k (after_call t (Consistent m) (after_lock t m s) k)) r w) died
+    (next_stands u (after_lock t m s) v t (Consistent m) k r w (stands h r w st) same after)
 
 -- a wait that was answered 0 changes nothing that is counted
 wait_counts : (c m n : ℕ) → hold_count_after_answer m (Some (Wait c m)) 0 n ≡ n

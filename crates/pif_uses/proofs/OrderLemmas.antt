@@ -23,7 +23,7 @@ use Rattle.pif_model.specs.declared.lines.Took.{Took}
 use Rattle.pif_model.specs.declared.lines.Took.TheVariants.{Owns as TookOwns, Queued as TookQueued}
 use Rattle.pif_model.specs.declared.events.Entry.{Entry}
 use Rattle.pif_model.specs.Posix.{Mutex, World, mutex_at}
-use Rattle.pif_model.specs.Posix.Health.{Fine}
+use Rattle.pif_model.specs.World.Health.{Fine}
 use Rattle.pif_model.specs.PiKernel.{is_living, lock_answer, words_after_lock, kernel_after_lock, unlock_answer, words_after_unlock, kernel_after_unlock}
 use Rattle.pif_model.specs.Table.{Table, cell_at, has_mutex, has_thread, line_at, with_kernel, with_word}
 use Rattle.pif_model.specs.Word.{held_by, free_word, word_at}
@@ -31,7 +31,7 @@ use Rattle.pif_model.specs.Lines.{Outcome, accepted_outcome, answers, by_refusal
 use Rattle.pif_model.specs.Projection.{health_at, health_of}
 use Rattle.pif_model.specs.Soundness.{CallIsSound, IsSound, LineIsSound}
 use Rattle.pif_model.specs.Standing.{Stands}
-use Rattle.pif_chains.proofs.LineCases.{ends_by_cases, give_exchange_cases, lock_load_cases, lock_queued_cases, own_exchange_cases, take_health_cases}
+use Rattle.pif_chains.proofs.kernel.LineCases.{ends_by_cases, give_exchange_cases, lock_load_cases, lock_queued_cases, own_exchange_cases, take_health_cases}
 use Rattle.pif_simulation.proofs.Facts.{call_own, call_behind, call_died}
 use Rattle.pif_simulation.proofs.Lined.{tl}
 use Rattle.pif_simulation.proofs.Shown.{go_allowed, mutex_seen}

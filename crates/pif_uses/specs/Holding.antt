@@ -6,8 +6,8 @@ use Rattle.pif_model.specs.declared.events.Entry.{Entry}
 use Rattle.pif_model.specs.declared.events.Seen.{Seen}
 use Rattle.pif_model.specs.declared.events.Seen.TheVariants.{Answered}
 use Rattle.pif_model.specs.Posix.{World, mutex_at}
-use Rattle.pif_model.specs.Posix.Health.{Fine}
-use Rattle.pif_model.specs.Standing.{Stands}
+use Rattle.pif_model.specs.World.Health.{Fine}
+use Rattle.pif_model.specs.Standing.{WhereStands}
 use Rattle.pif_model.specs.History.{hold_count, holds, open_call}
 use Rattle.pif_model.specs.Table.{Table}
 use Rattle.pif_uses.specs.declared.locking.Held.{Held}
@@ -36,11 +36,11 @@ pub record CountsOn (t m n : ℕ) (s : Table) (h : List Entry) (r : List World) 
   pub count : hold_count t m h ≡ n
 
 -- how t's lock of m, a whole call, finds it, and the table after that call
-abbrev pub found : ℕ → ℕ → Table → Result Held Seen
-found t m s = locked_by (call_outcome t (Lock m) s).seen
+abbrev pub lock_finds : ℕ → ℕ → Table → Result Held Seen
+lock_finds t m s = locked_by (call_outcome t (Lock m) s).seen
 
-abbrev pub locked : ℕ → ℕ → Table → Table
-locked t m s = (call_outcome t (Lock m) s).after
+abbrev pub after_lock : ℕ → ℕ → Table → Table
+after_lock t m s = (call_outcome t (Lock m) s).after
 
 -- of two tables or histories that which there is after a lock: the second where it has taken the mutex
 abbrev pub if_taken : {A : Type 0} → Result Held Seen → (refused taken : A) → A
@@ -67,4 +67,4 @@ repaired_by (Err seen) consistent = Err seen
 
 -- what m protects is in order in each state of the POSIX machine in which a core with this table stands
 abbrev pub IsFineIn : ℕ → Table → Type 0
-IsFineIn m s = (h : List Entry) (r : List World) (w : World) → Stands s h r w → (mutex_at w m).health ≡ Fine
+IsFineIn m s = WhereStands s (λ h r w. (mutex_at w m).health ≡ Fine)

@@ -40,7 +40,7 @@ pub fn next_after(seen: Seen) -> Next
     }
 }
 
-/// The next event of a thread that makes this call: it begins the call where it has none open, and else takes one
+/// The next event of a thread that makes this call: it begins the call if it has none open, and else takes one
 /// step of its open call, whichever that is.
 fn event_for(core: &Core, thread: Tid, request: Request) -> Event
     ensures { result ≡ event_for thread request core.now }
@@ -52,7 +52,7 @@ fn event_for(core: &Core, thread: Tid, request: Request) -> Event
     }
 }
 
-/// One event of a thread that makes this call: it begins the call where it has none open, and else takes one step of
+/// One event of a thread that makes this call: it begins the call if it has none open, and else takes one step of
 /// its open call, whichever that is. The core stands after one entry more.
 pub fn one_event(core: &mut Core, thread: Tid, request: Request) -> Seen
     ensures seen { result ≡ (event_outcome (event_for thread request core.old) core.old).seen }

@@ -7,7 +7,7 @@ ghost use Rattle.pif_model.specs.Standing.{WhereStands};
 ghost use Rattle.pif_model.specs.Lines.{goes_on};
 ghost use Rattle.pif_calls.specs.Calls.{StandsOn, call_outcome, after_call, after_finish};
 ghost use Rattle.pif_uses.specs.declared.locking.Held.TheVariants.{InOrder};
-ghost use Rattle.pif_uses.specs.Holding.{CountsOn, HoldsOn, IsFineIn, found, locked_by, if_died, if_taken, locked, repaired_by, unlocked_by};
+ghost use Rattle.pif_uses.specs.Holding.{CountsOn, HoldsOn, IsFineIn, lock_finds, locked_by, if_died, if_taken, after_lock, repaired_by, unlocked_by};
 
 use pif_core::{Core, Event, Seen};
 use pif_types::{Errno, MutexId, Request, Tid};
@@ -53,7 +53,7 @@ pub fn lock_and_hold(core: &mut Core, thread: Tid, mutex: MutexId) -> Result<Hel
 
 /// A thread goes on with a lock of a mutex that waited, with a deadline or none. Where it answers `Ok`, the thread holds
 /// the mutex once more than before, and no other thread does. `Err` has what the lock was answered otherwise: ETIMEDOUT
-/// (110) where its deadline was reached. After `Waits` it stays open, and this is called again once others have had
+/// (110) if its deadline was reached. After `Waits` it stays open, and this is called again once others have had
 /// their turns.
 pub fn finish_lock(core: &mut Core, thread: Tid, mutex: MutexId) -> Result<Held, Seen>
     ensures answer { result ≡ locked_by (goes_on 23 thread core.old).seen }
@@ -68,7 +68,7 @@ pub fn finish_lock(core: &mut Core, thread: Tid, mutex: MutexId) -> Result<Held,
 
 /// A thread locks a mutex, adds this amount to a sum that the mutex protects, modulo 2 to the power 64, and unlocks
 /// the mutex. `Ok` has what the unlock was answered: after 0 the thread holds the mutex as often as before. `Err` has
-/// what the lock was answered where it has not taken the mutex: nothing was done but that lock, and the sum is
+/// what the lock was answered if it has not taken the mutex: nothing was done but that lock, and the sum is
 /// unchanged. After `Waits` the lock stays open, as that of `lock_and_hold`.
 pub fn add_under(
     core: &mut Core,
@@ -77,19 +77,19 @@ pub fn add_under(
     sum: &mut u64,
     amount: u64,
 ) -> Result<Seen, Seen>
-    ensures answer { result ≡ unlocked_by (found thread mutex core.old)
-        (call_outcome thread (Unlock mutex) (locked thread mutex core.old)).seen }
-    ensures after { core.new ≡ if_taken (found thread mutex core.old) (locked thread mutex core.old)
-        (call_outcome thread (Unlock mutex) (locked thread mutex core.old)).after }
+    ensures answer { result ≡ unlocked_by (lock_finds thread mutex core.old)
+        (call_outcome thread (Unlock mutex) (after_lock thread mutex core.old)).seen }
+    ensures after { core.new ≡ if_taken (lock_finds thread mutex core.old) (after_lock thread mutex core.old)
+        (call_outcome thread (Unlock mutex) (after_lock thread mutex core.old)).after }
     ensures added { IfOk result (λ x. sum.new ≡ (sum.old + amount) % 2 ^ 64) }
     ensures refused { IfErr result (λ x. sum.new ≡ sum.old) }
     ensures stands { WhereStands core.old (λ h r w.
-        StandsOn core.new (if_taken (found thread mutex core.old) (after_call thread (Lock mutex) core.old h)
-        (after_call thread (Unlock mutex) (locked thread mutex core.old)
+        StandsOn core.new (if_taken (lock_finds thread mutex core.old) (after_call thread (Lock mutex) core.old h)
+        (after_call thread (Unlock mutex) (after_lock thread mutex core.old)
         (after_call thread (Lock mutex) core.old h))) r w) }
     ensures left { IfOk result (λ x. WhereStands core.old (λ h r w.
         x ≡ Answered 0 → CountsOn thread mutex (hold_count thread mutex h) core.new
-        (after_call thread (Unlock mutex) (locked thread mutex core.old)
+        (after_call thread (Unlock mutex) (after_lock thread mutex core.old)
         (after_call thread (Lock mutex) core.old h)) r w)) }
 {
     lock_and_hold(core, thread, mutex)?;
@@ -101,7 +101,7 @@ pub fn add_under(
 /// A thread locks a robust mutex that protects a value. Where its last owner has ended, the value is made this fresh
 /// one, and the mutex consistent (pthread_mutex_consistent of POSIX), so that it stays usable. Where this answers
 /// `Ok`, the thread holds the mutex once more than before, and no other thread does; the mutex is then fine, unless
-/// the thread was its owner before. `Err` has what the lock was answered where it has not taken the mutex: nothing was
+/// the thread was its owner before. `Err` has what the lock was answered if it has not taken the mutex: nothing was
 /// done but that lock, and the value is unchanged. After `Waits` the lock stays open; after ENOTRECOVERABLE nobody will
 /// hold the mutex again, and the thread gives up. Where the mutex was taken after its owner and `consistent` is not
 /// answered 0, `Err` has that answer, and the value is the fresh one.
@@ -112,19 +112,19 @@ pub fn lock_and_repair(
     value: &mut u64,
     fresh: u64,
 ) -> Result<Held, Seen>
-    ensures answer { result ≡ repaired_by (found thread mutex core.old)
-        (call_outcome thread (Consistent mutex) (locked thread mutex core.old)).seen }
-    ensures after { core.new ≡ if_died (found thread mutex core.old) (locked thread mutex core.old)
-        (call_outcome thread (Consistent mutex) (locked thread mutex core.old)).after }
-    ensures value { value.new ≡ if_died (found thread mutex core.old) value.old fresh }
+    ensures answer { result ≡ repaired_by (lock_finds thread mutex core.old)
+        (call_outcome thread (Consistent mutex) (after_lock thread mutex core.old)).seen }
+    ensures after { core.new ≡ if_died (lock_finds thread mutex core.old) (after_lock thread mutex core.old)
+        (call_outcome thread (Consistent mutex) (after_lock thread mutex core.old)).after }
+    ensures value { value.new ≡ if_died (lock_finds thread mutex core.old) value.old fresh }
     ensures stands { WhereStands core.old (λ h r w.
-        StandsOn core.new (if_died (found thread mutex core.old) (after_call thread (Lock mutex) core.old h)
-        (after_call thread (Consistent mutex) (locked thread mutex core.old)
+        StandsOn core.new (if_died (lock_finds thread mutex core.old) (after_call thread (Lock mutex) core.old h)
+        (after_call thread (Consistent mutex) (after_lock thread mutex core.old)
         (after_call thread (Lock mutex) core.old h))) r w) }
     ensures holds { IfOk result (λ x. WhereStands core.old (λ h r w.
         HoldsOn thread mutex (hold_count thread mutex h + 1) core.new
-        (if_died (found thread mutex core.old) (after_call thread (Lock mutex) core.old h)
-        (after_call thread (Consistent mutex) (locked thread mutex core.old)
+        (if_died (lock_finds thread mutex core.old) (after_call thread (Lock mutex) core.old h)
+        (after_call thread (Consistent mutex) (after_lock thread mutex core.old)
         (after_call thread (Lock mutex) core.old h))) r w)) }
     ensures fine { IfOk result (λ x. WhereStands core.old (λ h r w.
         (x ≡ InOrder → (mutex_at w mutex).owner ≢ thread) → IsFineIn mutex core.new)) }

@@ -1,9 +1,7 @@
-ghost use Rattle.std.specs.Prelude.{ℕ, ◌≡◌, ◌+◌, true, false, List, Some};
+ghost use Rattle.std.specs.Prelude.{ℕ, ◌≡◌, ◌+◌, true, false, Some};
 ghost use Rattle.pif_types.specs.declared.requests.Request.TheVariants.{Wait};
-ghost use Rattle.pif_model.specs.declared.events.Entry.{Entry};
-ghost use Rattle.pif_model.specs.Posix.{World};
 ghost use Rattle.pif_model.specs.History.{hold_count, open_call};
-ghost use Rattle.pif_model.specs.Standing.{Stands, WhereStands};
+ghost use Rattle.pif_model.specs.Standing.{WhereStands};
 ghost use Rattle.pif_model.specs.Lines.{goes_on};
 ghost use Rattle.pif_calls.specs.Calls.{StandsOn, call_outcome, after_call, after_finish};
 ghost use Rattle.pif_uses.specs.Holding.{HoldsOn};
@@ -24,7 +22,7 @@ pub enum Awaited {
 }
 
 /// One round of the loop that pthread_cond_wait asks for: a thread that holds the mutex tests what it waits for, and
-/// where that is not so it waits on the variable. Where it is so, nothing has changed.
+/// if that is not so it waits on the variable. If it is so, nothing has changed.
 pub fn wait_unless(
     core: &mut Core,
     thread: Tid,
@@ -62,8 +60,8 @@ pub fn resume_wait(
     ensures stands { WhereStands core.old (λ h r w.
         StandsOn core.new (if_resumed is_met (goes_on 23 thread core.old).seen (after_finish thread core.old h)
         (after_call thread (Wait cond mutex) (goes_on 23 thread core.old).after (after_finish thread core.old h))) r w) }
-    ensures holds { result ≡ Met → (is_met ≡ true) × ((h : List Entry) (r : List World) (w : World) (n : ℕ)
-        → Stands core.old h r w → open_call thread h ≡ Some (Wait cond mutex) → hold_count thread mutex h ≡ n + 1
+    ensures holds { result ≡ Met → (is_met ≡ true) × WhereStands core.old (λ h r w. (n : ℕ)
+        → open_call thread h ≡ Some (Wait cond mutex) → hold_count thread mutex h ≡ n + 1
         → HoldsOn thread mutex (n + 1) core.new (after_finish thread core.old h) r w) }
 {
     match core.finish(thread) {

@@ -1,5 +1,5 @@
 ghost use Rattle.std.specs.Prelude.{◌≡◌, ◌<◌, IfOk, Some, None, slice_set};
-ghost use Rattle.pif_nodes.specs.Table.{holder};
+ghost use Rattle.pif_lists.specs.Table.{holder};
 ghost use Rattle.pif_bench.specs.Filling.{IsReady, IsFilled, IsEmptied, ChangesHolder, priority_of};
 
 use super::scenes::{each_since, now};

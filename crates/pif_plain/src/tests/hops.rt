@@ -1,8 +1,8 @@
 //! How far a walk goes over owner states in one table: as far as priorities change.
 ghost use Rattle.std.specs.Prelude.{◌≡◌, ◌+◌, ◌<◌, ◌≤◌, [], length, replicate, IsSome};
-ghost use Rattle.pif_nodes.specs.Table.{IsApart, no_key};
+ghost use Rattle.pif_lists.specs.Table.{IsApart, no_key};
 ghost use Rattle.pif_owners.specs.Owners.{owner_at, count};
-ghost use Rattle.pif_rtmutex.specs.States.{owners_in};
+ghost use Rattle.pif_owners.specs.States.{owners_in};
 ghost use Rattle.pif_plain.specs.ChainExamples.{AreNewStates, IsAtRest, StandSettled};
 
 use super::walks::{priority, thread};

@@ -1,10 +1,10 @@
 //! Owner states in one table: priorities, waiters in order, and a state that passes to its top waiter.
 ghost use Rattle.std.specs.Prelude.{◌≡◌, [], replicate, IsSome};
-ghost use Rattle.pif_nodes.specs.Table.{IsApart, no_key};
+ghost use Rattle.pif_lists.specs.Table.{IsApart, no_key};
 ghost use Rattle.pif_owners.specs.Owners.{owner_at};
 ghost use Rattle.pif_owners.specs.Examples.{queued_two};
-ghost use Rattle.pif_rtmutex.specs.States.{owners_in};
-ghost use Rattle.pif_rtmutex.specs.Holds.{HoldsStates};
+ghost use Rattle.pif_owners.specs.States.{owners_in};
+ghost use Rattle.pif_owners.specs.Holds.{HoldsStates};
 ghost use Rattle.pif_plain.specs.ChainExamples.{AreNewStates, IsAtFirst};
 
 use super::walks::{priority, thread};

@@ -1,5 +1,5 @@
 ghost use Rattle.std.specs.Prelude.{◌≡◌, ◌≤◌, IsSome};
-ghost use Rattle.pif_nodes.specs.Table.{IsApart};
+ghost use Rattle.pif_lists.specs.Table.{IsApart};
 ghost use Rattle.pif_owners.specs.Owners.{no_owners, owner_at};
 ghost use Rattle.pif_boost.specs.Settled.{IsSettled};
 ghost use Rattle.pif_plain.specs.WalkExamples.{three_threads, new_queue, table_of_three};

@@ -175,7 +175,7 @@ fn nothing_is_migrated_where_a_read_fails_at_any_byte(rt: HostRuntime) {
 
 /// Each allocation of a migration is refused in turn by `rt try --test --fail-alloc N`: then nothing is written.
 #[test]
-fn want_of_memory_writes_nothing(rt: HostRuntime) {
+fn out_of_memory_writes_nothing(rt: HostRuntime) {
     let mut output = Kept::new();
     let ended = migrate(rt.alloc(), &mut FIRST.as_bytes(), &mut output);
     let written = match ended {

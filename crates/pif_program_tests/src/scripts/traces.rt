@@ -176,7 +176,7 @@ fn failing_reader_and_writer(rt: HostRuntime) {
 
 /// Each allocation of a replay is refused in turn by `rt try --test --fail-alloc N`: then nothing is written.
 #[test]
-fn want_of_memory_writes_nothing(rt: HostRuntime) {
+fn out_of_memory_writes_nothing(rt: HostRuntime) {
     let mut output = Kept::new();
     let ended = replay(rt.alloc(), &mut LOCKED.as_bytes(), &mut output);
     let verdict = match ended {

@@ -100,7 +100,7 @@ fn failing_reader_and_writer_of_a_trace(rt: HostRuntime) {
 
 /// Each allocation of a trace is refused in turn by `rt try --test --fail-alloc N`: then nothing is written.
 #[test]
-fn want_of_memory_writes_no_trace(rt: HostRuntime) {
+fn out_of_memory_writes_no_trace(rt: HostRuntime) {
     let mut output = Kept::new();
     let ended = trace(rt.alloc(), &mut SCRIPT.as_bytes(), &mut output);
     let written = match ended {

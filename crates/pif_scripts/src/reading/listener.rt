@@ -1,11 +1,12 @@
 ghost use Rattle.std.specs.Prelude.{ℕ, ◌≡◌, ◌+◌, ◌≤◌, ◌++◌, List, Option, Some, None, length};
 ghost use Rattle.arrayvec.specs.ArrayVec.{array_vec_len};
-ghost use Rattle.pif_scripts.specs.Scripts.{Hearing, Opens, Hears, Tells};
-ghost use Rattle.pif_scripts.specs.Runs.{end_line};
+ghost use Rattle.pif_script_model.specs.Scripts.{Hearing, Opens, Hears, Tells};
+ghost use Rattle.pif_script_model.specs.Runs.{end_line};
 
-use super::ending::{End, Ending, OpenFault};
 use crate::tracing::{FRONT_ROOM, LINE_ROOM};
 use arrayvec::ArrayVec;
+use pif_core::MORE_STEPS;
+use pif_script_model::{End, Ending, OpenFault};
 use pif_text::{Cause, Text, VERDICT_ROOM, Version, differs_text, fault_text};
 use std::alloc::Global;
 
@@ -13,9 +14,9 @@ use std::alloc::Global;
 pub const REPLY_ROOM: usize = pif_text::REPLY_ROOM + 1;
 
 /// The most bytes that the answer to a line has. The longest is what the first line of a script makes of a trace: the
-/// two lines in front, and those of 25 events, of a `call` its beginning and the 24 steps within which it is answered or
-/// waits.
-pub const ANSWER_ROOM: usize = FRONT_ROOM + 25 * LINE_ROOM;
+/// two lines in front, and those of the events of a `call`: its beginning, its first step, and `MORE_STEPS` behind
+/// that, within which it is answered or waits.
+pub const ANSWER_ROOM: usize = FRONT_ROOM + (MORE_STEPS as usize + 2) * LINE_ROOM;
 
 /// The most bytes that are said at an end, its LF included. The longest is the verdict on a trace.
 pub const END_ROOM: usize = VERDICT_ROOM + 1;

@@ -1,12 +1,12 @@
 ghost use Rattle.std.specs.Prelude.{◌≡◌, ◌≢◌, ℕ, ◌+◌, ◌*◌, ◌≤◌, ◌<◌, ◌==◌, ◌↔◌, [], ◌++◌, length, slice_index, IfOk, IsTrue, OnOk, None, Some, is_some, if◌then◌else◌};
 ghost use Rattle.arrayvec.specs.ArrayVec.{array_vec_len};
-ghost use Rattle.pif_text.specs.Traces.{version_in};
-ghost use Rattle.pif_scripts.specs.Scripts.{Answers};
+ghost use Rattle.pif_text_model.specs.Traces.{version_in};
+ghost use Rattle.pif_script_model.specs.Scripts.{Answers};
 
-use super::ending::{End, Ending, OpenFault, Stop};
 use super::listener::{ANSWER_ROOM, END_ROOM, Listener, OUTPUT_ROOM, Output};
 use arrayvec::ArrayVec;
 use memchr::memchr;
+use pif_script_model::{End, Ending, OpenFault, Stop};
 use pif_text::{Cause, Version, version_of};
 use std::alloc::Global;
 
@@ -39,7 +39,7 @@ pub struct Scanner<L> {
 }
 
 impl<L: Listener + Drop> Scanner<L> {
-    ghost use Rattle.pif_scripts.specs.Scripts.{start, Takes, TakesSome, Tells, closed_at, end_at};
+    ghost use Rattle.pif_script_model.specs.Scripts.{start, Takes, TakesSome, Tells, closed_at, end_at};
     ghost use Rattle.pif_scripts.specs.Scanners.{scan_of};
 
     /// A scanner before the first byte.

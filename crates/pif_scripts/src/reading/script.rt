@@ -1,14 +1,14 @@
 ghost use Rattle.std.specs.Prelude.{◌+◌, ◌≤◌, ◌<◌, ◌≡◌, Ok, true, [], length, OnOk};
 ghost use Rattle.arrayvec.specs.ArrayVec.{array_vec_len};
-ghost use Rattle.pif_scripts.specs.Scripts.{start, closed_at};
-ghost use Rattle.pif_scripts.specs.Runs.{RunsFrom, RunsPart, Feeds, Flushes, WritesEnd, Stops};
+ghost use Rattle.pif_script_model.specs.Scripts.{start, closed_at};
+ghost use Rattle.pif_script_model.specs.Runs.{RunsFrom, RunsPart, Feeds, Flushes, WritesEnd, Stops};
 ghost use Rattle.pif_scripts.specs.Scanners.{scan_of};
 
-use super::ending::{End, Ending, Stop};
 use super::listener::{ANSWER_ROOM, CHUNK, END_ROOM, FULL, Listener, OUTPUT_ROOM, Output};
 use super::scanner::Scanner;
 use crate::writing::write_whole;
 use crate::{CliFault, Notice};
+use pif_script_model::{End, Ending, Stop};
 use std::alloc::Global;
 use std::io::{Read, Write};
 

@@ -14,8 +14,8 @@ use Rattle.pif_model.specs.Table.{new_table}
 use Rattle.pif_model.specs.Projection.{no_shadow, health_of, places, mutex_shown, world_of}
 use Rattle.pif_model.specs.Soundness.{IsShaped, IsSound}
 use Rattle.pif_chains.proofs.Numbers.{above_0, below}
-use Rattle.pif_chains.proofs.KernelFacts.{living-added}
-use Rattle.pif_chains.proofs.KernelKept.{new_kernel_kept}
+use Rattle.pif_chains.proofs.kernel.KernelFacts.{living-added}
+use Rattle.pif_chains.proofs.kernel.KernelKept.{new_kernel_kept}
 use Rattle.pif_simulation.proofs.Shown.{threads_shown, mutexes_shown, mutex_seen, same_world}
 
 -- THE EMPTY TABLE

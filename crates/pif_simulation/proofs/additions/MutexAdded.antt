@@ -13,14 +13,14 @@ use Rattle.pif_model.specs.declared.lines.Place.{Place}
 use Rattle.pif_types.specs.declared.requests.Request.{Request}
 use Rattle.pif_types.specs.declared.requests.Request.TheVariants.{Lock, TryLock, Unlock, Consistent, Wait, Signal, Broadcast, SetPrio, TimedLock, TimedWait}
 use Rattle.pif_model.specs.Posix.{Mutex, no_mutex, named_by, names_known}
-use Rattle.pif_model.specs.Posix.Health.{Fine}
+use Rattle.pif_model.specs.World.Health.{Fine}
 use Rattle.pif_model.specs.Posix.Step.{mutex_added as mutex_rule}
 use Rattle.pif_model.specs.PiKernel.{state_at, is_living}
 use Rattle.pif_model.specs.Table.{Table, LibraryMutex, new_mutex, has_thread, has_mutex, has_cond, bound_to, line_at, library_at, cell_at, has_mutex_room, mutex_added}
 use Rattle.pif_model.specs.Projection.{Shadow, mutex_shown, world_of}
 use Rattle.pif_model.specs.Soundness.{CellIsSound, LineIsSound, ThreadIsSound, IsShaped, IsSound, mutex_by, is_pending, is_half_linked, is_unlinked, is_unsettled, holds_robust}
 use Rattle.pif_chains.proofs.Numbers.{above_0, below}
-use Rattle.pif_chains.proofs.KernelFacts.{living-added}
+use Rattle.pif_chains.proofs.kernel.KernelFacts.{living-added}
 use Rattle.pif_chains.proofs.Waiting.{by_test}
 use Rattle.pif_simulation.proofs.Kept.{Spares, unwritten, unused, second, line_spared, held_once}
 use Rattle.pif_simulation.proofs.Hole.{cell_spared, each_thread, each_absent}

@@ -16,13 +16,13 @@ use Rattle.pif_model.specs.PiKernel.{IsKernel, Seat, no_seat, seat_at, has_ended
 use Rattle.pif_model.specs.RobustList.{RobustRow, has_entry}
 use Rattle.pif_model.specs.Word.{word_at}
 use Rattle.pif_model.specs.Table.{Table, has_thread, has_mutex, uses_of, status_at, line_at, library_at, cell_at, has_thread_room, thread_added, timer_at}
-use Rattle.pif_model.specs.Projection.{Shadow, Agrees, remembered, may_enlist, chooses_on, memory_at, call_shown, call_at, health_at, thread_shown, world_of}
+use Rattle.pif_model.specs.Projection.{Shadow, Agrees, is_remembered, may_enlist, chooses_on, memory_at, call_shown, call_at, health_at, thread_shown, world_of}
 use Rattle.pif_model.specs.Soundness.{LineIsSound, ListIsSound, mutex_by, is_unsettled, IsQueuedLine, IsParkedLine, ThreadIsSound, AbsentIsSound, IsShaped, IsSound}
 use Rattle.pif_model.specs.Deadlines.{no_timer}
 use Rattle.pif_chains.proofs.Numbers.{below, from_within}
 use Rattle.pif_chains.proofs.Waiting.{by_test}
-use Rattle.pif_chains.proofs.KernelSettled.{priority-range}
-use Rattle.pif_chains.proofs.KernelKept.{add_kept}
+use Rattle.pif_chains.proofs.kernel.KernelSettled.{priority-range}
+use Rattle.pif_chains.proofs.kernel.KernelKept.{add_kept}
 use Rattle.pif_simulation.proofs.Kept.{Spares, unused, line_spared}
 use Rattle.pif_simulation.proofs.Hole.{cell_spared, each_thread, each_absent}
 use Rattle.pif_simulation.proofs.Shown.{threads_shown, thread_seen, same_world}
@@ -270,7 +270,7 @@ module _ (s : Table) (p : ℕ) (h : IsSound s) (free : has_thread_room s ≡ tru
           (ap (is_call_blocked c) (sym (call_same u)) ∙ b);
     }
       where
-        found : (t u : ℕ) → remembered more t u ≡ true → remembered y t u ≡ true
+        found : (t u : ℕ) → is_remembered more t u ≡ true → is_remembered y t u ≡ true
         found t u e = subst (λ f. list_any (λ (p : ℕ × ℕ). if p.0 == u then p.1 == (f u).waits else false) (f t).found
             ≡ true) memory_all e
 

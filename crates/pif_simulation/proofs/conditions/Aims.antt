@@ -5,12 +5,12 @@ use Rattle.pif_types.specs.declared.requests.Request.TheVariants.{Wait}
 use Rattle.pif_model.specs.declared.lines.Place.TheVariants.{StayParked}
 use Rattle.pif_model.specs.declared.lines.Status.TheVariants.{Parked}
 use Rattle.pif_model.specs.Graph.{has_waiter}
-use Rattle.pif_model.specs.PiKernel.{Parking, is_living, has_ended, has_parked, top_parked, parked_pairs, unparked}
+use Rattle.pif_model.specs.PiKernel.{Parking, is_living, has_ended, has_parked, top_parked, parked_pairs, parkings_without}
 use Rattle.pif_model.specs.Table.{Table, has_mutex, has_cond, status_at, line_at}
 use Rattle.pif_model.specs.Soundness.{CallIsSound, LineIsSound, IsParkedLine, IsSound}
 use Rattle.pif_chains.proofs.Waiting.{by_test, or_true, or_false}
-use Rattle.pif_chains.proofs.KernelFacts.{living-from_added}
-use Rattle.pif_chains.proofs.KernelWoken.{top-parked, top-added}
+use Rattle.pif_chains.proofs.kernel.KernelFacts.{living-from_added}
+use Rattle.pif_chains.proofs.kernel.KernelWoken.{top-parked, top-added}
 use Rattle.pif_simulation.proofs.Kept.{first}
 use Rattle.pif_simulation.proofs.Hole.{each_thread}
 
@@ -31,13 +31,13 @@ parked-from_aim (p ∷ ps) c m e = by_test (λ b. ((if b then p.target == m else
     (λ _ _. refl) (λ _ x. parked-from_aim ps c m x) e
 
 -- and where some have left, those that are parked were
-pub aims-unparked : (ps : List Parking) (u c m : ℕ) → aims_in (unparked ps u) c m ≡ true → aims_in ps c m ≡ true
+pub aims-unparked : (ps : List Parking) (u c m : ℕ) → aims_in (parkings_without ps u) c m ≡ true → aims_in ps c m ≡ true
 aims-unparked [] u c m e = e
-aims-unparked (p ∷ ps) u c m e = by_test (λ b. aims_in (cond (cond b false true) (p ∷ unparked ps u) (unparked ps u)) c m
+aims-unparked (p ∷ ps) u c m e = by_test (λ b. aims_in (cond (cond b false true) (p ∷ parkings_without ps u) (parkings_without ps u)) c m
     ≡ true → aims_in (p ∷ ps) c m ≡ true) (p.thread == u)
     (λ _ x. either_holds (if p.cond == c then p.target == m else false) true (aims_in ps c m)
     (λ _. aims-unparked ps u c m x) (or_true (if p.cond == c then p.target == m else false)))
-    (λ _ x. either_holds (if p.cond == c then p.target == m else false) (aims_in (unparked ps u) c m) (aims_in ps c m)
+    (λ _ x. either_holds (if p.cond == c then p.target == m else false) (aims_in (parkings_without ps u) c m) (aims_in ps c m)
     (aims-unparked ps u c m) x) e
 
 -- one more is parked

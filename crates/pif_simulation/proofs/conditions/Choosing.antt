@@ -14,8 +14,8 @@ use Rattle.pif_model.specs.Projection.{Shadow, Agrees, memory_at, chooses_on, ca
 use Rattle.pif_model.specs.Soundness.{IsSound}
 use Rattle.pif_chains.proofs.Next.{next_is_next}
 use Rattle.pif_chains.proofs.Waiting.{by_test, pairs, has_waiter-from_pair}
-use Rattle.pif_chains.proofs.KernelFacts.{living-from_added}
-use Rattle.pif_chains.proofs.KernelWoken.{added-from_parked}
+use Rattle.pif_chains.proofs.kernel.KernelFacts.{living-from_added}
+use Rattle.pif_chains.proofs.kernel.KernelWoken.{added-from_parked}
 use Rattle.pif_simulation.proofs.Hole.{each_thread}
 use Rattle.pif_simulation.proofs.Shown.{threads_shown, thread_seen, call_seen_of}
 use Rattle.pif_simulation.proofs.Effective.{effective_seen}

@@ -15,7 +15,7 @@ use Rattle.pif_model.specs.declared.lines.Status.TheVariants.{Parked}
 use Rattle.pif_model.specs.Graph.{has_waiter}
 use Rattle.pif_model.specs.Word.{word_at, has_word, has_cond_word}
 use Rattle.pif_model.specs.Posix.{World, Effects, Chooses, is_blocked_on, is_call_blocked, is_still_blocked, at_progress, with_progress, all_unblocked, is_use, variable_of}
-use Rattle.pif_model.specs.Posix.Progress.{Has}
+use Rattle.pif_model.specs.World.Progress.{Has}
 use Rattle.pif_model.specs.Posix.Chooses.{one, no_one, all}
 use Rattle.pif_model.specs.Posix.Effect.{choose}
 use Rattle.pif_model.specs.Posix.Effects.{none, then as first}
@@ -31,9 +31,9 @@ use Rattle.pif_model.specs.declared.events.Entry.TheVariants.{Step as Happened}
 use Rattle.pif_model.specs.Posix.Moves.{acts}
 use Rattle.pif_chains.proofs.Numbers.{above_0, below, from_within}
 use Rattle.pif_chains.proofs.Waiting.{by_test}
-use Rattle.pif_chains.proofs.Statuses.{ready-unparked}
-use Rattle.pif_chains.proofs.KernelTaken.{takings-none, takings-more, fits-from_test}
-use Rattle.pif_chains.proofs.KernelAllTaken.{parked-few, takings-all}
+use Rattle.pif_chains.proofs.kernel.Statuses.{ready-unparked}
+use Rattle.pif_chains.proofs.kernel.KernelTaken.{takings-none, takings-more, fits-from_test}
+use Rattle.pif_chains.proofs.kernel.KernelAllTaken.{parked-few, takings-all}
 use Rattle.pif_simulation.proofs.Shown.{call_progressed}
 use Rattle.pif_simulation.proofs.Agreement.{Frames, framed}
 use Rattle.pif_simulation.proofs.Steps.{GoKeeps, Going, rests_ready, going_allowed, going_called, going_below, going_undue, going_told, going_ready}

@@ -12,7 +12,7 @@ use Rattle.pif_model.specs.declared.lines.Woken.TheVariants.{Owns as WokenOwns, 
 use Rattle.pif_model.specs.Graph.{has_waiter, reaches_within}
 use Rattle.pif_model.specs.Word.{Word, taken_word, mark_word, word_at, health_word_at, set_word}
 use Rattle.pif_model.specs.Posix.{Progress, Call, Mutex, World, Locks, nobody, thread_at, mutex_at, with_thread, with_mutex, is_blocked, with_progress, at_progress, with_call_by, after_unblocking, is_lost, leads_to, on_taking}
-use Rattle.pif_model.specs.Posix.Progress.{Waiting, Owing, Blocked}
+use Rattle.pif_model.specs.World.Progress.{Waiting, Owing, Blocked}
 use Rattle.pif_model.specs.Posix.Locks.{free, joins}
 use Rattle.pif_model.specs.PiKernel.{Kernel, System, Seat, seat_at, has_seat, state_at, has_ended, is_parked, is_ready, is_woken_again, is_living, waits_for, has_parked, top_parked, without_parking, kernel_after_waking, kernel_after_queueing, after_taking}
 use Rattle.pif_model.specs.RobustList.{robust_at}
@@ -21,10 +21,10 @@ use Rattle.pif_model.specs.Projection.{Shadow, progress_parked, health_at, world
 use Rattle.pif_model.specs.Soundness.{use_at, CallIsSound, CellIsSound, LineIsSound, IsParkedLine, MeetsAll, needs, IsSound}
 use Rattle.pif_chains.proofs.Waiting.{by_test, has_waiter-push, or_true, or_false}
 use Rattle.pif_chains.proofs.Numbers.{above_0, below}
-use Rattle.pif_chains.proofs.KernelFacts.{living-from_added, living-added}
-use Rattle.pif_chains.proofs.KernelPlaces.{queued_limits, queued_length, queued_has, queued_seat_same, queued_seat_other, queued_base, queued_state_other, queued_waiters}
-use Rattle.pif_chains.proofs.KernelWoken.{top-parked, top-added, woken_limits, woken_length, woken_seat_other, woken_seat_same, woken_base, woken_state, woken_waiters, woken_parked, kernel-woken, requeued_state_same, requeued_parked, kernel-requeued}
-use Rattle.pif_chains.proofs.KernelTaken.{taking-cases, may_queue-facts, woken_living}
+use Rattle.pif_chains.proofs.kernel.KernelFacts.{living-from_added, living-added}
+use Rattle.pif_chains.proofs.kernel.KernelPlaces.{queued_limits, queued_length, queued_has, queued_seat_same, queued_seat_other, queued_base, queued_state_other, queued_waiters}
+use Rattle.pif_chains.proofs.kernel.KernelWoken.{top-parked, top-added, woken_limits, woken_length, woken_seat_other, woken_seat_same, woken_base, woken_state, woken_waiters, woken_parked, kernel-woken, requeued_state_same, requeued_parked, kernel-requeued}
+use Rattle.pif_chains.proofs.kernel.KernelTaken.{taking-cases, may_queue-facts, woken_living}
 use Rattle.pif_simulation.proofs.Facts.{call_bound}
 use Rattle.pif_simulation.proofs.Hole.{aims, each_thread}
 use Rattle.pif_simulation.proofs.Shown.{mutex_seen, living_seen}

@@ -8,8 +8,8 @@ use Rattle.pif_model.specs.Table.{Table, bound_to, status_at, with_kernel}
 use Rattle.pif_model.specs.Projection.{Shadow, Agrees, world_of}
 use Rattle.pif_model.specs.Soundness.{IsSound}
 use Rattle.pif_chains.proofs.Waiting.{by_test}
-use Rattle.pif_chains.proofs.KernelTaken.{takings-none, takings-more}
-use Rattle.pif_chains.proofs.KernelRequeued.{taking-seat_other}
+use Rattle.pif_chains.proofs.kernel.KernelTaken.{takings-none, takings-more}
+use Rattle.pif_chains.proofs.kernel.KernelRequeued.{taking-seat_other}
 use Rattle.std.proofs.lemmas.List.{get_or-set_same}
 use Rattle.pif_simulation.proofs.Agreement.{framed}
 use Rattle.pif_simulation.proofs.Steps.{going_below}

@@ -7,7 +7,7 @@ use Rattle.std.proofs.lemmas.List.{length-set, get_or-set_other, set_comm}
 use Rattle.pif_types.specs.declared.requests.Request.TheVariants.{Wait}
 use Rattle.pif_model.specs.Graph.{reaches_within}
 use Rattle.pif_model.specs.Posix.{Progress, Call, Thread, World, Locks, Effects, nobody, thread_at, mutex_at, is_living, is_lost, leads_to, waits_for, is_blocked_on, with_call_by, after_unblocking, all_unblocked, at_progress, with_progress, with_mutex, with_hold_count, on_taking}
-use Rattle.pif_model.specs.Posix.Progress.{Owing, Stuck, Has, Waiting}
+use Rattle.pif_model.specs.World.Progress.{Owing, Stuck, Has, Waiting}
 use Rattle.pif_model.specs.Posix.Locks.{own_normal, own_errorcheck, own_recursive, free, lost, cycle, joins}
 use Rattle.pif_model.specs.Posix.LocksAgain.{rises, at_limit}
 use Rattle.pif_model.specs.Posix.Effects.{owed}

@@ -20,7 +20,7 @@ use Rattle.pif_model.specs.declared.lines.Status.TheVariants.{Ready, Queued, Par
 use Rattle.pif_model.specs.declared.lines.Woken.TheVariants.{Fresh as WokenFresh, Owns as WokenOwns, Again as WokenAgain, Expired as WokenExpired}
 use Rattle.pif_model.specs.Word.{word_at, health_word_at}
 use Rattle.pif_model.specs.Posix.{Health, Progress, Call, Thread, Variable, World, Effect, nobody, no_variable, thread_at, variable_at, with_progress, at_progress, is_blocked, is_idle, is_newly_blocked, is_call_blocked, after_unblocking, on_unblocking, on_taking, on_release, after_use, used, is_use, named_by, variable_of}
-use Rattle.pif_model.specs.Posix.Progress.{Enlisted, Used}
+use Rattle.pif_model.specs.World.Progress.{Enlisted, Used}
 use Rattle.pif_model.specs.Posix.Effect.{use_variable}
 use Rattle.pif_model.specs.Posix.Uses.{counts}
 use Rattle.pif_model.specs.Posix.Effects.{none, then as first}

@@ -11,7 +11,7 @@ use Rattle.pif_model.specs.declared.lines.Place.TheVariants.{Wake}
 use Rattle.pif_model.specs.declared.lines.WakeStep.TheVariants.{ReadUses, CountUse, Requeue, ReadAgain}
 use Rattle.pif_model.specs.Word.{word_at, health_word_at}
 use Rattle.pif_model.specs.Posix.{Variable, Effect, nobody, thread_at, with_progress, with_call_by, without_call, is_blocked, is_call_blocked, is_use, named_by, variable_of, names_known}
-use Rattle.pif_model.specs.Posix.Progress.{Fresh, Has}
+use Rattle.pif_model.specs.World.Progress.{Fresh, Has}
 use Rattle.pif_model.specs.Posix.Effect.{use_variable}
 use Rattle.pif_model.specs.Posix.Uses.{at_limit}
 use Rattle.pif_model.specs.Posix.Effects.{none, then as first}
@@ -20,7 +20,7 @@ use Rattle.pif_model.specs.Table.{Table, cell_at, has_mutex, has_cond, bound_to,
 use Rattle.pif_model.specs.Lines.{goes_to, answers, use_read}
 use Rattle.pif_model.specs.Projection.{Shadow, world_of}
 use Rattle.pif_model.specs.Soundness.{use_at, belongs, is_using, MeetsAll, needs, mutex_by, is_unsettled, LineIsSound, ListIsSound, IsSound}
-use Rattle.pif_chains.proofs.LineCases.{use_read_cases}
+use Rattle.pif_chains.proofs.kernel.LineCases.{use_read_cases}
 use Rattle.pif_simulation.proofs.Hole.{each_thread}
 use Rattle.pif_simulation.proofs.Shown.{variable_seen, closed_progressed, call_progressed}
 use Rattle.pif_simulation.proofs.Written.{no_call}

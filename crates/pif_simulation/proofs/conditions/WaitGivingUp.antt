@@ -1,6 +1,6 @@
 -- A wait gives its mutex up, from naming it in the pending field on: each step is an entry of the POSIX machine and
 -- keeps the invariant.
-use Rattle.std.proofs.Common.{◌≡◌, ◌≢◌, ℕ, Bool, true, false, ◌==◌, refl, sym, ap}
+use Rattle.std.proofs.Common.{◌≡◌, ◌≢◌, ℕ, Bool, true, false, ◌==◌, [], ◌∷◌, refl, sym, ap}
 use Rattle.std.proofs.lemmas.Bool.{true≢false}
 use Rattle.pif_types.specs.declared.requests.Request.TheVariants.{Wait}
 use Rattle.pif_model.specs.declared.events.Seen.TheVariants.{Went}
@@ -11,18 +11,21 @@ use Rattle.pif_model.specs.declared.lines.GiveStep.TheVariants.{Release, CallUnl
 use Rattle.pif_model.specs.declared.lines.Purpose.TheVariants.{ToPark}
 use Rattle.pif_model.specs.Word.{health_word_at}
 use Rattle.pif_model.specs.Posix.{is_blocked, on_release}
-use Rattle.pif_model.specs.Posix.Progress.{Enlisted}
+use Rattle.pif_model.specs.World.Progress.{Enlisted}
 use Rattle.pif_model.specs.Posix.Effect.{give_up}
 use Rattle.pif_model.specs.Posix.GivesUp.{released}
-use Rattle.pif_model.specs.Table.{Table, has_mutex, has_cond, uses_of}
+use Rattle.pif_model.specs.PiKernel.{is_living}
+use Rattle.pif_model.specs.Table.{Table, Cell, has_mutex, has_cond, status_at, uses_of}
 use Rattle.pif_model.specs.Lines.{give_line}
 use Rattle.pif_model.specs.Projection.{health_of, health_at}
-use Rattle.pif_model.specs.Soundness.{is_last}
+use Rattle.pif_model.specs.Soundness.{Need, use_at, give_needs, needs, is_last}
+use Rattle.pif_model.specs.Soundness.Need.{MayRun, Owns, HoldsOnce, IsBound, UsedAtLeast}
 use Rattle.pif_simulation.proofs.Kept.{second}
+use Rattle.pif_simulation.proofs.Facts.{Fact, is_ready_need, is_bound_need, is_used_need}
 use Rattle.pif_simulation.proofs.Steps.{GoKeeps, Going, going_own, going_health, going_died, going_ready, going_bound, going_used}
 use Rattle.pif_simulation.proofs.Does.Does.{waits_inconsistent, waits_own}
 use Rattle.pif_simulation.proofs.mutexes.GivingUp.{GivesUpTo}
-use Rattle.pif_simulation.proofs.mutexes.GivingSteps.{GivesLast, GivesUpBy, gives_to, frees_kept, hands_kept, gives_kept}
+use Rattle.pif_simulation.proofs.mutexes.GivingSteps.{GivesLast, GivesUpBy, MeetsOf, met_by, met_behind, gives_to, frees_kept, hands_kept, gives_kept}
 
 -- a wait that gave its mutex up is blocked where it was
 release_blocked : (b : Bool) → is_blocked (on_release b) ≡ true → is_blocked (Enlisted b) ≡ true
@@ -56,12 +59,21 @@ module _ (s : Table) (t c m v : ℕ) where
     passes = λ w u call o n i p. give_up c m still call (released o i p);
   }
 
+  -- what a need of a step says that passes a test
+  known : (test : Need → Bool) (x : GiveStep) (d : Cell) → MeetsOf s t (Wait c m) d (needs (Give x (ToPark v)))
+      → Fact test (is_living s.kernel) t (status_at s t) d (use_at s (Wait c m)) (needs (Give x (ToPark v)))
+  known test x d h = met_by test s t (Wait c m) d (needs (Give x (ToPark v))) h
+
   abbrev by_wait : GivesUpBy s t (Wait c m) (ToPark v)
   by_wait = record {
     ours = λ x. refl;
     last = last_wait;
-    step = λ x d h. h.1.1.1.1.1;
-    whole = λ x z d e h o n k. (h.0, (o, ((λ i. n), (h.1.1.1.0, (h.1.1.1.1.0, k)))));
+    step = λ x d h.
+        met_behind s t (Wait c m) d (MayRun ∷ Owns ∷ HoldsOnce ∷ IsBound ∷ UsedAtLeast v ∷ []) (give_needs x) h;
+    whole = λ x z d e h o n k. (
+      known is_ready_need x d h,
+      (o, ((λ i. n), (known is_bound_need x d h, (known is_used_need x d h, k)))),
+    );
     spoils = λ waited w z o n i e. waits_inconsistent c still refl refl o i refl e;
   }
 

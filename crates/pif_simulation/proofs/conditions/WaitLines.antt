@@ -9,7 +9,7 @@ use Rattle.pif_model.specs.declared.lines.GiveStep.TheVariants.{SetPending, Rele
 use Rattle.pif_model.specs.declared.lines.Purpose.TheVariants.{ToPark}
 use Rattle.pif_model.specs.Word.{health_word_at}
 use Rattle.pif_model.specs.Posix.{Mutex, Variable, mutex_at, variable_at, names_known}
-use Rattle.pif_model.specs.Posix.Progress.{Checked, Enlisted}
+use Rattle.pif_model.specs.World.Progress.{Checked, Enlisted}
 use Rattle.pif_model.specs.Posix.Effect.{check_wait, enlist}
 use Rattle.pif_model.specs.Posix.ChecksWait.{other_mutex, not_owner, held_more, checked}
 use Rattle.pif_model.specs.PiKernel.{is_living}
@@ -18,7 +18,7 @@ use Rattle.pif_model.specs.Table.{Table, cell_at, has_mutex, has_cond, bound_to,
 use Rattle.pif_model.specs.Lines.{wait_load, wait_uses}
 use Rattle.pif_model.specs.Projection.{Shadow, world_of}
 use Rattle.pif_model.specs.Soundness.{use_at, MeetsAll, needs}
-use Rattle.pif_chains.proofs.LineCases.{wait_load_cases, wait_uses_cases}
+use Rattle.pif_chains.proofs.kernel.LineCases.{wait_load_cases, wait_uses_cases}
 use Rattle.pif_simulation.proofs.Kept.{second}
 use Rattle.pif_simulation.proofs.Shown.{mutex_seen, variable_seen}
 use Rattle.pif_simulation.proofs.Agreement.{quiet}

@@ -15,7 +15,7 @@ use Rattle.pif_model.specs.declared.lines.Woken.TheVariants.{Fresh as WokenFresh
 use Rattle.pif_model.specs.Graph.{has_waiter}
 use Rattle.pif_model.specs.Word.{word_at, health_word_at, has_word, has_cond_word}
 use Rattle.pif_model.specs.Posix.{Health, Call, World, thread_at, with_call_by, after_waits, at_progress, on_taking, on_release, with_progress}
-use Rattle.pif_model.specs.Posix.Progress.{Blocked, Owing}
+use Rattle.pif_model.specs.World.Progress.{Blocked, Owing}
 use Rattle.pif_model.specs.Posix.Effects.{none}
 use Rattle.pif_model.specs.PiKernel.{Kernel, Seat, seat_at, state_at, has_ended, is_parked, is_ready, is_woken_again, is_living, wait_requeue_answer, kernel_after_wait_requeue, kernel_after_parking}
 use Rattle.pif_model.specs.RobustList.{robust_at}
@@ -23,11 +23,11 @@ use Rattle.pif_model.specs.Table.{Table, Cell, cell_at, has_thread, has_mutex, h
 use Rattle.pif_model.specs.Lines.{Outcome, goes_to, own_exchange, wait_by, wait_park, wait_parked}
 use Rattle.pif_model.specs.Projection.{Shadow, progress_parked, health_at, world_of}
 use Rattle.pif_model.specs.Soundness.{use_at, is_handed, CellIsSound, MeetsAll, needs}
-use Rattle.pif_chains.proofs.LineCases.{wait_parked_cases, lock_queued_cases}
+use Rattle.pif_chains.proofs.kernel.LineCases.{wait_parked_cases, lock_queued_cases}
 use Rattle.pif_chains.proofs.Numbers.{above_0, below, from_within}
 use Rattle.pif_chains.proofs.Waiting.{by_test}
-use Rattle.pif_chains.proofs.KernelFacts.{ready-not_ended}
-use Rattle.pif_chains.proofs.KernelRested.{parked_limits, parked_length, parked_has, parked_seat_other, parked_seat_same, parked_state, parked_waiters, parked_parked, kernel-parked}
+use Rattle.pif_chains.proofs.kernel.KernelFacts.{ready-not_ended}
+use Rattle.pif_chains.proofs.kernel.KernelRested.{parked_limits, parked_length, parked_has, parked_seat_other, parked_seat_same, parked_state, parked_waiters, parked_parked, kernel-parked}
 use Rattle.pif_simulation.proofs.Kept.{first, second}
 use Rattle.pif_simulation.proofs.Hole.{aims}
 use Rattle.pif_simulation.proofs.Agreement.{quiet, frames_same}

@@ -16,9 +16,9 @@ use Rattle.pif_model.specs.Table.{Table, Cell, has_thread, has_mutex, bound_to, 
 use Rattle.pif_model.specs.Lines.{expired_in}
 use Rattle.pif_model.specs.Projection.{health_at, progress_at}
 use Rattle.pif_model.specs.Soundness.{CellIsSound, MeetsAll, use_at, needs, belongs}
-use Rattle.pif_chains.proofs.KernelLeft.{mutex_left, waiters_left, waiter-left_other, waiter-left_before}
-use Rattle.pif_chains.proofs.KernelExpired.{limits-expired, length-expired, seat-expired_other, base-expired, waiters-expired, parked-expired, state-expired_other, state-expired, status-expired_same, living-expired_same, living-expired_other, kernel-expired}
-use Rattle.pif_chains.proofs.KernelFacts.{no_waiter-0}
+use Rattle.pif_chains.proofs.kernel.KernelLeft.{mutex_left, waiters_left, waiter-left_other, waiter-left_before}
+use Rattle.pif_chains.proofs.kernel.KernelExpired.{limits-expired, length-expired, seat-expired_other, base-expired, waiters-expired, parked-expired, state-expired_other, state-expired, status-expired_same, living-expired_same, living-expired_other, kernel-expired}
+use Rattle.pif_chains.proofs.kernel.KernelFacts.{no_waiter-0}
 use Rattle.pif_chains.proofs.Waiting.{by_test, has_waiter-without_none}
 use Rattle.pif_simulation.proofs.Hole.{aims}
 use Rattle.pif_simulation.proofs.conditions.Aims.{aims-unparked}

@@ -20,7 +20,7 @@ use Rattle.pif_model.specs.Word.{word_at, health_word_at}
 use Rattle.pif_model.specs.Posix.{Progress, Thread, World, Expires, thread_at, with_thread, with_progress, at_progress, after_timeout, with_call_by, without_call, is_due, is_call_blocked}
 use Rattle.pif_model.specs.Posix.Expires.{lock as lock_expires, wait as wait_expires}
 use Rattle.pif_model.specs.Posix.Moves.{expires}
-use Rattle.pif_model.specs.Posix.Progress.{Has, Owing}
+use Rattle.pif_model.specs.World.Progress.{Has, Owing}
 use Rattle.pif_model.specs.Posix.Step.{went, answered}
 use Rattle.pif_model.specs.PiKernel.{Kernel, seat_at, state_at, is_ready, is_parked, is_living, queued_on, waits_for, IsKernel, kernel_after_expire}
 use Rattle.pif_model.specs.RobustList.{robust_at}
@@ -29,10 +29,10 @@ use Rattle.pif_model.specs.Lines.{counts_at, is_due_in, expired_in, expires_at, 
 use Rattle.pif_model.specs.Projection.{Shadow, Agrees, health_at, progress_at, world_of}
 use Rattle.pif_model.specs.Soundness.{is_unsettled, IsSound, ThreadIsSound, waited_in, is_handed}
 use Rattle.pif_types.specs.declared.requests.Kind.TheVariants.{Normal}
-use Rattle.pif_chains.proofs.KernelExpired.{waiters-expired}
-use Rattle.pif_chains.proofs.KernelFacts.{waits_for-other, has_state-from_queued, waiter-from_state, no_waiter-0, waited-status}
-use Rattle.pif_chains.proofs.KernelLeft.{mutex_left}
-use Rattle.pif_chains.proofs.LineCases.{ends_by_cases}
+use Rattle.pif_chains.proofs.kernel.KernelExpired.{waiters-expired}
+use Rattle.pif_chains.proofs.kernel.KernelFacts.{waits_for-other, has_state-from_queued, waiter-from_state, no_waiter-0, waited-status}
+use Rattle.pif_chains.proofs.kernel.KernelLeft.{mutex_left}
+use Rattle.pif_chains.proofs.kernel.LineCases.{ends_by_cases}
 use Rattle.pif_chains.proofs.Waiting.{without-unnamed, names, unnamed-from_0}
 use Rattle.pif_simulation.proofs.Agreement.{Frames, framed, quiet, was_not}
 use Rattle.pif_simulation.proofs.Called.{IsOneCall, called_sound, called_known, called_frames, called_shown}

@@ -16,7 +16,7 @@ use Rattle.pif_model.specs.Table.{Table, Cell, has_thread, has_mutex, bound_to, 
 use Rattle.pif_model.specs.Projection.{Shadow, memory_at, call_shown, call_at, health_of, health_at, thread_shown, mutex_shown, world_of}
 use Rattle.pif_model.specs.Soundness.{CellIsSound, SoundBut}
 use Rattle.pif_chains.proofs.Greatest.{effective_same}
-use Rattle.pif_chains.proofs.KernelFacts.{next-some, next-added}
+use Rattle.pif_chains.proofs.kernel.KernelFacts.{next-some, next-added}
 use Rattle.pif_chains.proofs.Numbers.{above_0, below}
 use Rattle.pif_chains.proofs.Places.{kept_at}
 use Rattle.pif_chains.proofs.Waiting.{by_test}

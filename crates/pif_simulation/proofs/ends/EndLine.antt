@@ -27,9 +27,9 @@ use Rattle.pif_model.specs.Table.{Table, Cell, LibraryMutex, new_mutex, has_thre
 use Rattle.pif_model.specs.Lines.{table_refusal, ended_table, library_after_end}
 use Rattle.pif_model.specs.Projection.{Shadow, Agrees, world_of}
 use Rattle.pif_model.specs.Soundness.{mutex_by, is_pending, is_unlinked, is_last, is_named_giving, holds_robust, LineIsSound, ListIsSound, CellIsSound, IsShaped, IsSound}
-use Rattle.pif_chains.proofs.KernelLeft.{status-left_same, living-left_same}
-use Rattle.pif_chains.proofs.KernelExit.{death-other_number, death-orphaned, death-inherited, orphaned, inherited}
-use Rattle.pif_chains.proofs.KernelFacts.{living-added}
+use Rattle.pif_chains.proofs.kernel.KernelLeft.{status-left_same, living-left_same}
+use Rattle.pif_chains.proofs.kernel.KernelExit.{death-other_number, death-orphaned, death-inherited, orphaned, inherited}
+use Rattle.pif_chains.proofs.kernel.KernelFacts.{living-added}
 use Rattle.pif_chains.proofs.Numbers.{above_0, below, from_within}
 use Rattle.pif_chains.proofs.Waiting.{by_test}
 use Rattle.pif_simulation.proofs.Hole.{admit, each_thread}

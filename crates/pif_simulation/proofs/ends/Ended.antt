@@ -13,8 +13,8 @@ use Rattle.pif_model.specs.RobustList.{no_robust_row, robust_at, without_robust}
 use Rattle.pif_model.specs.Table.{Table, has_thread, has_mutex, uses_of, status_at, line_at, timer_at, cell_at}
 use Rattle.pif_model.specs.Projection.{Shadow, memory_at, may_enlist, chooses_on, call_at, health_at, thread_shown, world_of}
 use Rattle.pif_model.specs.Soundness.{CellIsSound, IsShaped, SoundBut, IsSound}
-use Rattle.pif_chains.proofs.KernelLeft.{mutex_left, waiters_left, limits-left, length-left_seats, has-left, seat-left_other, base-left, status-left_other, living-left_other, living-left_same, waiters-left, state-left_other, waiter-left_other, waiter-left_before, state-left, parked-left, kernel-left}
-use Rattle.pif_chains.proofs.KernelFacts.{living-added}
+use Rattle.pif_chains.proofs.kernel.KernelLeft.{mutex_left, waiters_left, limits-left, length-left_seats, has-left, seat-left_other, base-left, status-left_other, living-left_other, living-left_same, waiters-left, state-left_other, waiter-left_other, waiter-left_before, state-left, parked-left, kernel-left}
+use Rattle.pif_chains.proofs.kernel.KernelFacts.{living-added}
 use Rattle.pif_chains.proofs.Numbers.{above_0}
 use Rattle.pif_chains.proofs.Waiting.{by_test, has_waiter-without_none}
 use Rattle.pif_simulation.proofs.Hole.{Changes, aims, change_kept, excuse_one}

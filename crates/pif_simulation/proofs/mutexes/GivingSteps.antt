@@ -2,7 +2,7 @@
 -- its health word, stores that it is unusable where it was inconsistent, and takes it off its list; then it exchanges its
 -- word, or calls the kernel, and so does who leaves an unusable mutex. Each step is an entry of the POSIX machine and
 -- keeps the invariant.
-use Rattle.std.proofs.Common.{◌≡◌, ◌≢◌, ℕ, Bool, true, false, ◌==◌, Some, List, length, refl, sym, ap, ◌∙◌, subst, if◌then◌else◌}
+use Rattle.std.proofs.Common.{◌≡◌, ◌≢◌, ℕ, Bool, true, false, ◌==◌, Some, List, [], ◌∷◌, ◌++◌, length, refl, sym, ap, ◌∙◌, subst, if◌then◌else◌}
 use Rattle.std.proofs.lemmas.Bool.{true≢false}
 use Rattle.pif_types.specs.declared.requests.Request.{Request}
 use Rattle.pif_model.specs.declared.events.Seen.{Seen}
@@ -17,20 +17,21 @@ use Rattle.pif_model.specs.declared.lines.Purpose.{Purpose}
 use Rattle.pif_model.specs.Graph.{has_waiter}
 use Rattle.pif_model.specs.Word.{free_word, hand_word, set_word, word_at, health_word_at}
 use Rattle.pif_model.specs.Posix.{Health, Progress, Mutex, World, Passes, Effect, is_blocked, named_by, names_known, thread_at, mutex_at, variable_of, with_progress}
-use Rattle.pif_model.specs.Posix.Health.{Inconsistent, Unusable}
-use Rattle.pif_model.specs.Posix.Progress.{Has}
+use Rattle.pif_model.specs.World.Health.{Inconsistent, Unusable}
+use Rattle.pif_model.specs.World.Progress.{Has}
 use Rattle.pif_model.specs.PiKernel.{is_living, is_ready, state_at, next_in, kernel_after_hand_over}
 use Rattle.pif_model.specs.RobustList.{robust_at, without_entry, without_listed}
 use Rattle.pif_model.specs.Table.{Table, Cell, cell_at, has_mutex, has_cond, uses_of, library_at, status_at, with_word, with_line, with_health_word, with_lists, with_kernel}
-use Rattle.pif_model.specs.Lines.{goes_to, answers, pending, given_up, give_health, give_exchange, give_line, gives_up}
+use Rattle.pif_model.specs.Lines.{goes_to, answers, with_pending_field, given_up, give_health, give_exchange, give_line, gives_up}
 use Rattle.pif_model.specs.Projection.{Shadow, progress_giving, progress_at, may_enlist, chooses_on, health_of, health_at, world_of}
 use Rattle.pif_model.specs.Soundness.{Need, use_at, MeetsAll, give_needs, needs, belongs, is_last, is_named_giving, is_loose_giving, is_pending, is_half_linked}
-use Rattle.pif_chains.proofs.LineCases.{give_health_cases, give_exchange_cases}
+use Rattle.pif_chains.proofs.kernel.LineCases.{give_health_cases, give_exchange_cases}
 use Rattle.pif_chains.proofs.Numbers.{above_0}
 use Rattle.pif_simulation.proofs.Shown.{mutex_seen}
 use Rattle.pif_simulation.proofs.Written.{mutex_of}
 use Rattle.pif_simulation.proofs.Agreement.{quiet}
 use Rattle.pif_simulation.proofs.Steps.{KeepsGo, GoKeeps, Going, going_named, going_met, going_called, going_once, going_own, going_ready}
+use Rattle.pif_simulation.proofs.Facts.{Fact, fact}
 use Rattle.pif_simulation.proofs.Does.{Does}
 use Rattle.pif_simulation.proofs.Entries.{has_entry-without_other, has_entry-without_same}
 use Rattle.pif_simulation.proofs.Healths.{health-unusable, health-inconsistent, inconsistent-word}
@@ -58,8 +59,19 @@ abbrev pub before : Table → Request → Purpose → Progress
 before s q y = progress_giving y (uses_of s (variable_of q))
 
 -- what a cell of the mutex meets of these needs of a call
-abbrev MeetsOf : Table → ℕ → Request → Cell → List Need → Type 0
+abbrev pub MeetsOf : Table → ℕ → Request → Cell → List Need → Type 0
 MeetsOf s t q c ns = MeetsAll (is_living s.kernel) t (status_at s t) c (use_at s q) ns
+
+-- the fact of these that passes a test
+pub met_by : (test : Need → Bool) (s : Table) (t : ℕ) (q : Request) (c : Cell) (ns : List Need) → MeetsOf s t q c ns
+    → Fact test (is_living s.kernel) t (status_at s t) c (use_at s q) ns
+met_by test s t q c ns h = fact test (is_living s.kernel) t (status_at s t) c (use_at s q) ns h
+
+-- and those behind the first ones
+pub met_behind : (s : Table) (t : ℕ) (q : Request) (c : Cell) (ns more : List Need) → MeetsOf s t q c (ns ++ more)
+    → MeetsOf s t q c more
+met_behind s t q c [] more h = h
+met_behind s t q c (n ∷ ns) more h = met_behind s t q c ns more h.1
 
 -- the call q gives up its mutex for y by the last steps, the exchange or the kernel call
 pub record GivesLast (s : Table) (t : ℕ) (q : Request) (y : Purpose) : Type 0 where
@@ -129,7 +141,7 @@ module _ {s : Table} {t : ℕ} {q : Request} {y : Purpose} (r : GivesUpBy s t q 
         (λ e. row_same g known e (sym a) refl (sym b) settled)
 
   -- name the mutex in the pending field
-  names_kept : Going s t q (Give SetPending y) → GoKeeps s t (goes_to t q (Give SeeHealth y) (pending t m s))
+  names_kept : Going s t q (Give SetPending y) → GoKeeps s t (goes_to t q (Give SeeHealth y) (with_pending_field t m s))
   names_kept g =
       pending_kept g (known g) (Give SeeHealth y) (quiet refl refl) (ready g) (here g).0 (r.ours SeeHealth) refl
       (there g SeeHealth (here g)) refl refl refl refl refl

@@ -10,7 +10,7 @@ use Rattle.pif_model.specs.declared.lines.Place.{Place}
 use Rattle.pif_model.specs.Graph.{has_waiter, without}
 use Rattle.pif_model.specs.Word.{free_word, hand_word, word_at, health_word_at, has_word, set_word}
 use Rattle.pif_model.specs.Posix.{Progress, is_blocked, is_call_blocked, Call, Thread, Mutex, World, Effect, Passes, nobody, no_mutex, variable_of, named_by, thread_at, mutex_at, with_thread, with_progress, at_progress, taken, on_taking}
-use Rattle.pif_model.specs.Posix.Progress.{Has}
+use Rattle.pif_model.specs.World.Progress.{Has}
 use Rattle.pif_model.specs.Posix.Effects.{none, then as first}
 use Rattle.pif_model.specs.Posix.Passes.{to_next}
 use Rattle.pif_model.specs.PiKernel.{is_ready, is_living, state_at, next_in, unlock_answer, words_after_unlock, kernel_after_unlock, kernel_after_hand_over}
@@ -21,13 +21,13 @@ use Rattle.pif_model.specs.Projection.{Shadow, no_shadow, may_enlist, call_shown
 use Rattle.pif_model.specs.Soundness.{use_at, MeetsAll, needs, mutex_by, is_pending, is_half_linked, is_unlinked, is_unsettled, LineIsSound, CellIsSound, ListIsSound, ThreadIsSound, IsSound}
 use Rattle.pif_chains.proofs.Waiting.{by_test}
 use Rattle.pif_chains.proofs.Numbers.{above_0, below, from_within}
-use Rattle.pif_chains.proofs.KernelFacts.{next-some, next-added}
+use Rattle.pif_chains.proofs.kernel.KernelFacts.{next-some, next-added}
 use Rattle.pif_simulation.proofs.Hole.{excuse_one, admit_last}
 use Rattle.pif_simulation.proofs.Shown.{threads_shown, mutexes_shown, thread_seen, mutex_seen}
 use Rattle.pif_simulation.proofs.Written.{written_is, same_health, same_list, same_library}
 use Rattle.pif_simulation.proofs.Steps.{KeepsGo, Going, progress_of, going_named, going_called, going_lined, going_below, goes_with, answers_with}
 use Rattle.pif_simulation.proofs.Agreement.{Frames, Follows, WasBlockedIn}
-use Rattle.pif_chains.proofs.Statuses.{ready-unparked}
+use Rattle.pif_chains.proofs.kernel.Statuses.{ready-unparked}
 use Rattle.pif_simulation.proofs.Effective.{next_seen}
 use Rattle.pif_simulation.proofs.Progressed.{next-with_progress}
 use Rattle.pif_simulation.proofs.Local.{blocked_before, KnowsAfter, ListsAfter, NamesOnly, known_still, lists_after, settled_after, ready-not_queued, ready-not_parked, going_cell, going_added, going_row, going_list, going_settled}

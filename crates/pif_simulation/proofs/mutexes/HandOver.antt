@@ -21,10 +21,11 @@ use Rattle.pif_model.specs.Projection.{Shadow, may_enlist, call_shown as shown_c
 use Rattle.pif_model.specs.Soundness.{Use, use_at, is_queued_place, is_unlinked, MeetsAll, needs, waited_in, CallIsSound, mutex_by, is_unsettled, LineIsSound, IsQueuedLine, CellIsSound, ListIsSound, ThreadIsSound, SoundBut}
 use Rattle.pif_chains.proofs.Waiting.{by_test, has_waiter-without_other}
 use Rattle.pif_chains.proofs.Numbers.{above_0, below}
-use Rattle.pif_chains.proofs.KernelFacts.{next-queued, next-added, next-waited, next-some}
-use Rattle.pif_chains.proofs.KernelKept.{hand_over_kept}
-use Rattle.pif_chains.proofs.KernelPlaces.{handed_limits, handed_length, handed_has, handed_seat_same, handed_seat_other, handed_state_other, handed_state_same, handed_waiters, handed_parked}
+use Rattle.pif_chains.proofs.kernel.KernelFacts.{next-queued, next-added, next-waited, next-some}
+use Rattle.pif_chains.proofs.kernel.KernelKept.{hand_over_kept}
+use Rattle.pif_chains.proofs.kernel.KernelPlaces.{handed_limits, handed_length, handed_has, handed_seat_same, handed_seat_other, handed_state_other, handed_state_same, handed_waiters, handed_parked}
 use Rattle.pif_simulation.proofs.Kept.{held_once}
+use Rattle.pif_simulation.proofs.Facts.{fact, is_bound_need}
 use Rattle.pif_simulation.proofs.Hole.{Changes, change_kept, excuse, admit}
 use Rattle.pif_simulation.proofs.Hole.MayBeAdmitted.{lives}
 use Rattle.pif_simulation.proofs.Written.{written, cell_written, IsCallOn, same_targets, changes, cell_here, line_here, line_there, list_there, call_there, thread_here, thread_there, shows}
@@ -51,7 +52,8 @@ handed_needs : (living living' : ℕ → Bool) (u m : ℕ) (c d : Cell) (z : Use
 handed_needs living living' u m c d z StayQueued e k own once behind =
     (((λ x. cc), λ x. cc), ((λ x. own), ((λ x. once), ((λ x. behind), tt))))
 handed_needs living living' u m c d z StayParked e k own once behind =
-    (((λ x. cc), λ x. cc), (((λ x. own), λ x. absurd (true≢false x)), ((λ x. once), ((λ x. behind), k.1.1.1.1))))
+    let bound = fact is_bound_need living u (Queued m) c z (needs StayParked) k in
+    (((λ x. cc), λ x. cc), (((λ x. own), λ x. absurd (true≢false x)), ((λ x. once), ((λ x. behind), (bound, tt)))))
 handed_needs living living' u m c d z _ e k own once behind = absurd (true≢false (sym e))
 
 -- its mutex is unlinked and unsettled there

@@ -17,7 +17,7 @@ use Rattle.pif_model.specs.Graph.{has_waiter, reaches_within}
 use Rattle.pif_model.specs.Kinds.{relock_of}
 use Rattle.pif_model.specs.Word.{mark_word, taken_word, word_at, health_word_at, has_word, set_word}
 use Rattle.pif_model.specs.Posix.{named_by, variable_of, is_blocked, Mutex, Effect, Locks, mutex_at, is_lost, leads_to, with_progress}
-use Rattle.pif_model.specs.Posix.Progress.{Waiting, Stuck, Has}
+use Rattle.pif_model.specs.World.Progress.{Waiting, Stuck, Has}
 use Rattle.pif_model.specs.Posix.Effects.{none, then as first}
 use Rattle.pif_model.specs.Posix.Locks.{own_normal, lost, cycle, joins}
 use Rattle.pif_model.specs.PiKernel.{Kernel, Seat, has_seat, has_ended, no_seat, seat_at, state_at, is_ready, is_living, waits_for, lock_answer, words_after_lock, kernel_after_lock, kernel_after_queueing, kernel_after_stop}
@@ -29,9 +29,9 @@ use Rattle.pif_model.specs.Soundness.{waited_in, CellIsSound, MayStopFor}
 use Rattle.pif_model.specs.Soundness.MayStopFor.{own_normal as stops_own, lost as stops_lost}
 use Rattle.pif_chains.proofs.Waiting.{by_test, has_waiter-push, or_true}
 use Rattle.pif_chains.proofs.Numbers.{above_0, below, from_within}
-use Rattle.pif_chains.proofs.KernelFacts.{ready-not_ended}
-use Rattle.pif_chains.proofs.KernelKept.{stop_kept, queueing_kept}
-use Rattle.pif_chains.proofs.LineCases.{ends_by_cases}
+use Rattle.pif_chains.proofs.kernel.KernelFacts.{ready-not_ended}
+use Rattle.pif_chains.proofs.kernel.KernelKept.{stop_kept, queueing_kept}
+use Rattle.pif_chains.proofs.kernel.LineCases.{ends_by_cases}
 use Rattle.pif_simulation.proofs.Shown.{mutex_seen, living_seen}
 use Rattle.pif_simulation.proofs.Written.{written, written_is, same_word, same_health, same_list, same_library}
 use Rattle.pif_simulation.proofs.Steps.{KeepsGo, GoKeeps, Going, waits_with, going_other, going_ready, going_stop}

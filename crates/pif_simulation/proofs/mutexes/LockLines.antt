@@ -16,16 +16,16 @@ use Rattle.pif_model.specs.declared.lines.Status.{Status}
 use Rattle.pif_model.specs.declared.lines.Status.TheVariants.{Ready, Queued, Parked, Stopped, Ended}
 use Rattle.pif_model.specs.Word.{word_at, health_word_at}
 use Rattle.pif_model.specs.Posix.{Health, Mutex, World, Effect, Locks, mutex_at, named_by, variable_of, on_taking}
-use Rattle.pif_model.specs.Posix.Progress.{Has}
+use Rattle.pif_model.specs.World.Progress.{Has}
 use Rattle.pif_model.specs.Posix.Effect.{leave}
 use Rattle.pif_model.specs.Posix.Effects.{none}
 use Rattle.pif_model.specs.PiKernel.{is_ready, is_living}
 use Rattle.pif_model.specs.Table.{Table, cell_at, has_mutex, uses_of, status_at}
-use Rattle.pif_model.specs.Lines.{goes_to, own_exchange, lock_load, lock_queued, pending, give_line}
+use Rattle.pif_model.specs.Lines.{goes_to, own_exchange, lock_load, lock_queued, with_pending_field, give_line}
 use Rattle.pif_model.specs.Projection.{Shadow, before_lock, progress_at, health_at, world_of}
 use Rattle.pif_model.specs.Soundness.{use_at, MeetsAll, needs, belongs, is_last, is_locking}
 use Rattle.pif_model.specs.Soundness.MayStopFor.{own_normal as stops_own}
-use Rattle.pif_chains.proofs.LineCases.{lock_load_cases, lock_queued_cases}
+use Rattle.pif_chains.proofs.kernel.LineCases.{lock_load_cases, lock_queued_cases}
 use Rattle.pif_simulation.proofs.Shown.{mutex_seen}
 use Rattle.pif_simulation.proofs.Steps.{GoKeeps, Going, progress_of, going_named, going_met, going_called, waits_with, going_behind, going_once, going_other, going_own_ready, going_ready, going_robust, going_stopped, going_own, going_health}
 use Rattle.pif_simulation.proofs.Agreement.{quiet, frames_same}
@@ -73,7 +73,7 @@ module _ {s : Table} {t m : ℕ} where
       h = going_met g
 
   -- lock: name the mutex in the pending field
-  pub lock_name_pending_kept : Going s t (Lock m) NamePending → GoKeeps s t (goes_to t (Lock m) Exchange (pending t m s))
+  pub lock_name_pending_kept : Going s t (Lock m) NamePending → GoKeeps s t (goes_to t (Lock m) Exchange (with_pending_field t m s))
   lock_name_pending_kept g =
       let h = going_met g in
       pending_kept g (going_named g) Exchange (quiet refl refl) (going_ready g) (going_robust g) refl refl (going_ready g, (going_other g, tt)) refl refl

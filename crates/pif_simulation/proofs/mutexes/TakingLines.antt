@@ -16,14 +16,14 @@ use Rattle.pif_model.specs.declared.lines.TakeStep.TheVariants.{LoadWord, LoadHe
 use Rattle.pif_model.specs.Graph.{has_waiter}
 use Rattle.pif_model.specs.Word.{Word, held_by, free_word, taken_word, word_at, health_word_at}
 use Rattle.pif_model.specs.Posix.{Progress, is_blocked, named_by, on_taking}
-use Rattle.pif_model.specs.Posix.Progress.{Has}
+use Rattle.pif_model.specs.World.Progress.{Has}
 use Rattle.pif_model.specs.PiKernel.{is_ready, is_living}
 use Rattle.pif_model.specs.RobustList.{robust_at}
 use Rattle.pif_model.specs.Table.{Table, Cell, cell_at, has_thread, has_mutex, status_at, library_at, with_line, with_word, with_health_word, with_count}
 use Rattle.pif_model.specs.Lines.{goes_to, answers, relocks, own_exchange}
 use Rattle.pif_model.specs.Projection.{before_lock, may_enlist, health_of, health_at}
 use Rattle.pif_model.specs.Soundness.{CellIsSound, CountIsSound, use_at, MeetsAll, needs, belongs, is_pending, is_half_linked, is_unlinked, is_unsettled}
-use Rattle.pif_chains.proofs.LineCases.{locked_again_cases, own_exchange_cases}
+use Rattle.pif_chains.proofs.kernel.LineCases.{locked_again_cases, own_exchange_cases}
 use Rattle.pif_chains.proofs.Numbers.{above_0}
 use Rattle.pif_simulation.proofs.Kept.{Spares}
 use Rattle.pif_simulation.proofs.Written.{mutex_of, written_is, same_word, same_health, same_library, same_list}

@@ -18,13 +18,13 @@ use Rattle.pif_model.specs.declared.lines.Footing.{Footing}
 use Rattle.pif_model.specs.declared.lines.Footing.TheVariants.{Linked, Unowned, HadStopped}
 use Rattle.pif_model.specs.Word.{word_at, health_word_at}
 use Rattle.pif_model.specs.Posix.{named_by, on_taking}
-use Rattle.pif_model.specs.Posix.Progress.{Has}
+use Rattle.pif_model.specs.World.Progress.{Has}
 use Rattle.pif_model.specs.PiKernel.{is_living}
 use Rattle.pif_model.specs.RobustList.{robust_at, with_half_linked, with_listed}
 use Rattle.pif_model.specs.Table.{Table, cell_at, has_mutex, status_at, library_at, with_word, with_health_word, with_lists}
 use Rattle.pif_model.specs.Lines.{goes_to, take_load, take_health, take_line, link_line, clears}
 use Rattle.pif_model.specs.Soundness.{use_at, MeetsAll, belongs, is_shared, is_locking, needs}
-use Rattle.pif_chains.proofs.LineCases.{take_health_cases}
+use Rattle.pif_chains.proofs.kernel.LineCases.{take_health_cases}
 use Rattle.pif_simulation.proofs.Written.{mutex_of}
 use Rattle.pif_simulation.proofs.Steps.{KeepsGo, GoKeeps, Going, going_met, going_behind, going_died, going_health, going_once, going_own, going_ready, going_robust}
 use Rattle.pif_simulation.proofs.Agreement.{quiet}

@@ -10,14 +10,14 @@ use Rattle.pif_model.specs.declared.lines.Footing.TheVariants.{Unowned}
 use Rattle.pif_model.specs.Word.{has_word, word_at, taken_word}
 use Rattle.pif_model.specs.PiKernel.{is_living, try_lock_answer, words_after_try_lock}
 use Rattle.pif_model.specs.Table.{Table, cell_at, status_at, with_kernel, with_word}
-use Rattle.pif_model.specs.Lines.{Outcome, goes_to, try_load, try_by, try_kernel, pending}
+use Rattle.pif_model.specs.Lines.{Outcome, goes_to, try_load, try_by, try_kernel, with_pending_field}
 use Rattle.pif_model.specs.Soundness.{use_at, MeetsAll, needs}
-use Rattle.pif_chains.proofs.LineCases.{try_load_cases, ends_by_cases}
+use Rattle.pif_chains.proofs.kernel.LineCases.{try_load_cases, ends_by_cases}
 use Rattle.pif_chains.proofs.Numbers.{above_0, below, from_within}
 use Rattle.pif_simulation.proofs.Steps.{GoKeeps, Going, going_named, going_met, going_called, going_other, going_ready, going_robust}
 use Rattle.pif_simulation.proofs.Agreement.{quiet}
 use Rattle.pif_model.specs.Posix.{Mutex}
-use Rattle.pif_model.specs.Posix.Progress.{Has}
+use Rattle.pif_model.specs.World.Progress.{Has}
 use Rattle.pif_model.specs.Posix.Effect.{try_lock}
 use Rattle.pif_model.specs.Posix.TriesToLock.{busy}
 use Rattle.pif_simulation.proofs.Shown.{mutex_seen}
@@ -49,7 +49,7 @@ module _ (s : Table) (t m : ℕ) where
 
   -- trylock: name the mutex in the pending field
   pub try_name_pending_kept : Going s t (TryLock m) NamePending
-      → GoKeeps s t (goes_to t (TryLock m) Exchange (pending t m s))
+      → GoKeeps s t (goes_to t (TryLock m) Exchange (with_pending_field t m s))
   try_name_pending_kept g =
       let h = going_met g in
       pending_kept g (going_named g) Exchange (quiet refl refl) (going_ready g) (going_robust g) refl refl (going_ready g, (going_other g, tt)) refl refl refl refl refl

@@ -1,6 +1,6 @@
 -- The lines of pthread_mutex_unlock and of pthread_mutex_consistent: each step is an entry of the POSIX machine and
 -- keeps the invariant.
-use Rattle.std.proofs.Common.{◌≡◌, ◌≢◌, ℕ, ◌≤◌, Bool, true, false, refl, sym, ap, ◌∙◌, subst, arith}
+use Rattle.std.proofs.Common.{◌≡◌, ◌≢◌, ℕ, ◌≤◌, Bool, true, false, [], ◌∷◌, refl, sym, ap, ◌∙◌, subst, arith}
 use Rattle.std.proofs.lemmas.Bool.{true≢false}
 use Rattle.pif_types.specs.declared.requests.Request.TheVariants.{Unlock, Consistent}
 use Rattle.pif_model.specs.declared.events.Seen.TheVariants.{Went, Answered}
@@ -13,7 +13,7 @@ use Rattle.pif_model.specs.declared.lines.Footing.TheVariants.{Unowned}
 use Rattle.pif_model.specs.declared.lines.RepairStep.TheVariants.{CheckHealth, StoreFine}
 use Rattle.pif_model.specs.Graph.{has_waiter}
 use Rattle.pif_model.specs.Word.{free_word, word_at, health_word_at}
-use Rattle.pif_model.specs.Posix.Progress.{Has}
+use Rattle.pif_model.specs.World.Progress.{Has}
 use Rattle.pif_model.specs.Posix.Effect.{unlock}
 use Rattle.pif_model.specs.Posix.Unlocks.{released}
 use Rattle.pif_model.specs.PiKernel.{is_living, state_at}
@@ -21,10 +21,12 @@ use Rattle.pif_model.specs.RobustList.{robust_at}
 use Rattle.pif_model.specs.Table.{Table, cell_at, has_thread, library_at, status_at, with_word, with_health_word}
 use Rattle.pif_model.specs.Lines.{answers, given_up, give_line, unlock_load, consistent_load, consistent_health}
 use Rattle.pif_model.specs.Projection.{health_of, health_at}
-use Rattle.pif_model.specs.Soundness.{CellIsSound, use_at, MeetsAll, needs, is_last}
-use Rattle.pif_chains.proofs.LineCases.{unlock_load_cases, ends_by_cases, consistent_load_cases, consistent_health_cases}
+use Rattle.pif_model.specs.Soundness.{CellIsSound, use_at, MeetsAll, give_needs, needs, is_last}
+use Rattle.pif_model.specs.Soundness.Need.{MayRun, Owns, HoldsOnce}
+use Rattle.pif_chains.proofs.kernel.LineCases.{unlock_load_cases, ends_by_cases, consistent_load_cases, consistent_health_cases}
 use Rattle.pif_simulation.proofs.Written.{mutex_of}
 use Rattle.pif_simulation.proofs.Steps.{KeepsGo, GoKeeps, Going, going_named, going_met, going_health, going_own, going_ready, going_robust, going_died}
+use Rattle.pif_simulation.proofs.Facts.{is_ready_need}
 use Rattle.pif_simulation.proofs.Agreement.{quiet}
 use Rattle.pif_simulation.proofs.Does.Does.{unlocks_not_own, unlocks_own, gives_up_inconsistent, consistent_stalled, consistent_other, consistent_in_order, consistent_made}
 use Rattle.pif_simulation.proofs.Healths.{health-inconsistent, inconsistent-word}
@@ -32,7 +34,7 @@ use Rattle.pif_simulation.proofs.Local.{going_cell}
 use Rattle.pif_simulation.proofs.LocalLines.{RowAfter, goes, answers_local, row_same, row_other, row_stated, settled_so_far}
 use Rattle.pif_simulation.proofs.mutexes.TakingLines.{states, health_table, unlocks_one_kept}
 use Rattle.pif_simulation.proofs.mutexes.GivingUp.{GivesUpTo}
-use Rattle.pif_simulation.proofs.mutexes.GivingSteps.{GivesLast, GivesUpBy, gives_to, frees_kept, hands_kept, hands_answered, handed_over, gives_kept}
+use Rattle.pif_simulation.proofs.mutexes.GivingSteps.{GivesLast, GivesUpBy, met_by, met_behind, gives_to, frees_kept, hands_kept, hands_answered, handed_over, gives_kept}
 
 -- numbers that differ
 zero_not_one : (a : ℕ) → a ≡ 0 → a ≢ 1
@@ -104,8 +106,9 @@ module _ (s : Table) (t m : ℕ) where
   by_unlock = record {
     ours = λ x. refl;
     last = last_unlock;
-    step = λ x c h. h.1.1.1;
-    whole = λ x z c d h o n k. (h.0, (o, ((λ e. n), k)));
+    step = λ x c h. met_behind s t (Unlock m) c (MayRun ∷ Owns ∷ HoldsOnce ∷ []) (give_needs x) h;
+    whole = λ x z c d h o n k.
+        (met_by is_ready_need s t (Unlock m) c (needs (Give x ToUnlock)) h, (o, ((λ e. n), k)));
     spoils = λ waited w z o n i e. gives_up_inconsistent refl refl o n i refl e;
   }
 

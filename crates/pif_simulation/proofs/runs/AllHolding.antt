@@ -10,8 +10,8 @@ use Rattle.pif_types.specs.declared.requests.Request.{Request}
 use Rattle.pif_types.specs.declared.requests.Request.TheVariants.{Lock, TryLock, Unlock, Consistent, Wait, Signal, Broadcast, SetPrio, TimedLock, TimedWait}
 use Rattle.pif_model.specs.Graph.{without}
 use Rattle.pif_model.specs.Posix.{Health, Progress, Call, Thread, Mutex, World, nobody, no_mutex, thread_at, mutex_at, is_thread, is_living, is_mutex, with_thread, with_mutex, with_progress, at_progress, on_taking, taken, with_health, on_death, named_by, Passes, Releases}
-use Rattle.pif_model.specs.Posix.Health.{Fine, Inconsistent, Unusable}
-use Rattle.pif_model.specs.Posix.Progress.{Fresh, Waiting, Owing}
+use Rattle.pif_model.specs.World.Health.{Fine, Inconsistent, Unusable}
+use Rattle.pif_model.specs.World.Progress.{Fresh, Waiting, Owing}
 use Rattle.pif_model.specs.Posix.Passes.{to_nobody, to_next}
 use Rattle.pif_model.specs.Posix.Releases.{none_left, one_more}
 use Rattle.pif_model.specs.Soundness.{waited_in}

@@ -18,8 +18,8 @@ use Rattle.pif_model.specs.declared.events.Entry.TheVariants.{Step as Happened}
 use Rattle.pif_model.specs.History.{open_call, hold_count, hold_count_after_answer, waiting_with, unlocking, holds, HasOneHolder, AlwaysOneHolder}
 use Rattle.pif_model.specs.Posix.{Progress, Call, Thread, Mutex, World, empty_world, nobody, no_mutex, thread_at, mutex_at, is_thread, is_living, is_mutex, with_thread, with_progress, with_base, variable_of, named_by, names_known, Memory, Variable, is_variable, begun_memory, begun_thread, with_call_by, after_waits, after_unblocking, on_unblocking, is_newly_blocked, after_use, used, all_unblocked, on_release, ChecksWait, GivesUp, Chooses, new_thread, LocksAgain, Locks, TriesToLock, Unlocks, MakesConsistent, Passes, SetsPriority, after_end, Ends, Effect, Effects, refusal_of, Step, IsRun, counts_now, is_counting, is_due, Expires, Moves}
 use Rattle.pif_model.specs.Graph.{without}
-use Rattle.pif_model.specs.Posix.Health.{Fine, Unusable}
-use Rattle.pif_model.specs.Posix.Progress.{Fresh, Waiting, Stuck, Leaving, Has, Checked, Enlisted, Blocked, Owing, Used}
+use Rattle.pif_model.specs.World.Health.{Fine, Unusable}
+use Rattle.pif_model.specs.World.Progress.{Fresh, Waiting, Stuck, Leaving, Has, Checked, Enlisted, Blocked, Owing, Used}
 use Rattle.pif_model.specs.Posix.ChecksWait.{other_mutex, not_owner as wait_not_owner, held_more, checked}
 use Rattle.pif_model.specs.Posix.GivesUp.{becomes_unusable as wait_unusable, released as wait_released}
 use Rattle.pif_model.specs.Posix.Uses.{at_limit as use_at_limit, counts as use_counts}
@@ -35,7 +35,7 @@ use Rattle.pif_model.specs.Posix.Effects.{none as no_effect, then as effect_then
 use Rattle.pif_model.specs.Posix.Expires.{lock as lock_expires, wait as wait_expires}
 use Rattle.pif_model.specs.Posix.Moves.{expires, acts}
 use Rattle.pif_model.specs.declared.lines.Timer.{Timer}
-use Rattle.pif_model.specs.Deadlines.{plain, timer_of, ran_out, is_reached, told}
+use Rattle.pif_model.specs.Deadlines.{plain, timer_of, ran_out, is_reached, told_result}
 use Rattle.pif_model.specs.Posix.Step.{ticked, thread_added, mutex_added, cond_added, refused, begun, went, waits, answered, ended}
 use Rattle.pif_model.specs.Posix.IsRun.{start, next}
 use Rattle.pif_model.specs.Soundness.{waited_in}
@@ -559,7 +559,7 @@ IsHeld-begins h w t q held allowed =
 -- a call is answered, as it is told
 IsHeld-answers : (h : List Entry) (w : World) (t a : ℕ) (x : Bool) (q : Request) → IsHeldBy h w
     → call_of w t ≡ Some (record { request = q; progress = Has a })
-    → IsHeldBy (Happened (Go t) (Answered (told q x a)) ∷ h) (with_thread t (record (thread_at w t) { call = None }) w)
+    → IsHeldBy (Happened (Go t) (Answered (told_result q x a)) ∷ h) (with_thread t (record (thread_at w t) { call = None }) w)
 IsHeld-answers h w t a x q held before =
     IsHeld-calls held t None (thread_at w t).timer (thread_at w t).memory
     (λ x d. (rw (ne_eqb t x (λ e. d (sym e))) refl, λ m. rw (ne_eqb t x (λ e. d (sym e))) refl))

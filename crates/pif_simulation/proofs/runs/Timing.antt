@@ -5,7 +5,7 @@ use Rattle.std.proofs.lemmas.List.{get_or_past}
 use Rattle.pif_types.specs.declared.requests.Request.{Request}
 use Rattle.pif_types.specs.declared.requests.Request.TheVariants.{Lock, Wait}
 use Rattle.pif_model.specs.Posix.{Health, Progress, Call, Thread, World, nobody, thread_at, mutex_at, with_mutex, with_base, with_call_by, with_progress, at_progress, on_taking, taken, on_release, after_unblocking, after_waits, is_newly_blocked, after_use, used, all_unblocked, Locks, LocksAgain, TriesToLock, Passes, Unlocks, MakesConsistent, SetsPriority, ChecksWait, GivesUp, Uses, Chooses, Effect, Effects, Releases, without_call, after_end, Ends}
-use Rattle.pif_model.specs.Posix.Progress.{Fresh, Waiting, Stuck, Has, Checked, Enlisted, Blocked, Owing, Used}
+use Rattle.pif_model.specs.World.Progress.{Fresh, Waiting, Stuck, Has, Checked, Enlisted, Blocked, Owing, Used}
 use Rattle.pif_model.specs.Posix.Locks.{own_normal, own_errorcheck, own_recursive as lock_own_recursive, free as lock_free, lost as lock_lost, cycle, joins}
 use Rattle.pif_model.specs.Posix.LocksAgain.{rises, at_limit}
 use Rattle.pif_model.specs.Posix.TriesToLock.{own_recursive as try_own_recursive, busy as try_busy, free as try_free}

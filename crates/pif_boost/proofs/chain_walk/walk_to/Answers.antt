@@ -1,12 +1,13 @@
-use Rattle.std.proofs.Common.{◌≡◌, ◌∙◌, ℕ, ◌+◌, refl, sym, ap, subst, eqb-true, arith}
-use Rattle.pif_nodes.specs.Table.{NodeLists}
-use Rattle.pif_runq.specs.Levels.{Queue, IsLevel, level_of, Holds, SameOutside}
-use Rattle.pif_rtmutex.specs.States.{States, owners_in}
+use Rattle.std.proofs.Common.{◌≡◌, ◌≢◌, ◌∙◌, ℕ, ◌+◌, refl, sym, ap, subst, eqb-true, arith}
+use Rattle.std.proofs.lemmas.Bool.{eq-eqb, true≢false}
+use Rattle.pif_lists.specs.Table.{NodeLists}
+use Rattle.pif_lists.specs.Levels.{Queue, IsLevel, level_of, Holds, SameOutside}
+use Rattle.pif_owners.specs.States.{States, owners_in}
 use Rattle.pif_rtmutex.specs.Maximum.{maximum_of}
-use Rattle.pif_rtmutex.proofs.ViewLemmas.{length-seats}
-use Rattle.pif_boost.specs.Boosts.{local_of, level_after_move_if_queued}
+use Rattle.pif_owners.proofs.ViewLemmas.{length-seats}
+use Rattle.pif_owners.specs.Boosts.{local_of, level_after_move_if_queued}
 use Rattle.pif_boost.specs.Done.{IsDone}
-use Rattle.pif_boost.proofs.Walking.{walking-start, walking-few, walking-row, walking-some, walking-hop, walking-stopped, ended_holds, walking-ended, ended_ends}
+use Rattle.pif_boost.proofs.Walking.{walking-start, walking-few, walking-row, walking-some, walking-last, walking-hop, walking-stopped, counted-stopped, ended_holds, counted-ended, walking-ended, ended_ends}
 use Rattle.pif_boost.proofs.chain_walk.walk_to.Goals as goal
 
 pub loop-hop-init : goal.loop-hop-init
@@ -53,6 +54,26 @@ returns-then-has_local-clause-done c =
 pub returns-then-has_local-clause-ends : goal.returns-then-has_local-clause-ends
 returns-then-has_local-clause-ends c = λ u ne z. c.loop-hop.invariant.walking.ends u z
 
+pub returns-then-has_local-clause-counted : goal.returns-then-has_local-clause-counted
+returns-then-has_local-clause-counted c =
+    let m0 : States = c.args.owners.now in
+    let t0 : NodeLists = c.args.table.now in
+    let m : States = c.loop-hop.owners in
+    let t : NodeLists = c.loop-hop.table in
+    let own : c.unwrap-prio.result ≡ maximum_of (owners_in m t) c.loop-hop.at = rw c.unwrap-prio.ensures at c.maximum.ensures in
+    let same : local_of (owners_in m t) c.loop-hop.at ≡ c.unwrap-prio.result =
+    eqb-true (local_of (owners_in m t) c.loop-hop.at) c.unwrap-prio.result (sym c.has_local.ensures ∙ c.if-has_local.true) in
+    counted-stopped m0 t0 c.args.start c.requires.states c.requires.repaired c.requires.admitted c.loop-hop.hop c.loop-hop.at m t c.loop-hop.invariant.walking
+    c.args.queue.now c.requires.apart c.requires.holds c.requires.ready c.requires.running c.requires.level (same ∙ own)
+
+pub returns-then-has_local-clause-last : goal.returns-then-has_local-clause-last
+returns-then-has_local-clause-last c =
+    let m0 : States = c.args.owners.now in
+    let t0 : NodeLists = c.args.table.now in
+    let m : States = c.loop-hop.owners in
+    let t : NodeLists = c.loop-hop.table in
+    walking-last m0 t0 c.args.start c.requires.states c.requires.repaired c.requires.admitted c.loop-hop.hop c.loop-hop.at m t c.loop-hop.invariant.walking
+
 pub boost-requires-clause-row : goal.boost-requires-clause-row
 boost-requires-clause-row c =
     let m0 : States = c.args.owners.now in
@@ -97,6 +118,26 @@ returns-in-None-clause-done c =
     c.move_if_queued.new.queue c.move_if_queued.new.table (sym c.waits_on.ensures.value ∙ c.in-None.is) levels outside place
     c.move_if_queued.ensures.holds
 
+pub returns-in-None-clause-counted : goal.returns-in-None-clause-counted
+returns-in-None-clause-counted c =
+    let m0 : States = c.args.owners.now in
+    let t0 : NodeLists = c.args.table.now in
+    let m : States = c.loop-hop.owners in
+    let t : NodeLists = c.loop-hop.table in
+    let own : c.unwrap-prio.result ≡ maximum_of (owners_in m t) c.loop-hop.at = rw c.unwrap-prio.ensures at c.maximum.ensures in
+    counted-ended m0 t0 c.args.start c.requires.states c.requires.repaired c.requires.admitted c.loop-hop.hop c.loop-hop.at m t c.loop-hop.invariant.walking
+    c.args.queue.now c.requires.apart c.requires.holds c.requires.ready c.requires.running c.requires.level
+    c.unwrap-prio.result own c.boost.new.owners c.boost.new.table c.boost.ensures.owners
+    c.boost.ensures.rows c.boost.ensures.outside c.boost.ensures.states (sym c.waits_on.ensures.value ∙ c.in-None.is)
+
+pub returns-in-None-clause-last : goal.returns-in-None-clause-last
+returns-in-None-clause-last c =
+    let m0 : States = c.args.owners.now in
+    let t0 : NodeLists = c.args.table.now in
+    let m : States = c.loop-hop.owners in
+    let t : NodeLists = c.loop-hop.table in
+    walking-last m0 t0 c.args.start c.requires.states c.requires.repaired c.requires.admitted c.loop-hop.hop c.loop-hop.at m t c.loop-hop.invariant.walking
+
 pub returns-in-None-clause-ends : goal.returns-in-None-clause-ends
 returns-in-None-clause-ends c =
     let m0 : States = c.args.owners.now in
@@ -122,10 +163,13 @@ loop-hop-preserved c =
     let m : States = c.loop-hop.owners in
     let t : NodeLists = c.loop-hop.table in
     let own : c.unwrap-prio.result ≡ maximum_of (owners_in m t) c.loop-hop.at = rw c.unwrap-prio.ensures at c.maximum.ensures in
+    let other : local_of (owners_in m t) c.loop-hop.at ≢ c.unwrap-prio.result =
+    λ e. true≢false (sym (eq-eqb (local_of (owners_in m t) c.loop-hop.at) c.unwrap-prio.result e)
+    ∙ sym c.has_local.ensures ∙ c.if-has_local.false) in
     record {
       walking = walking-hop m0 t0 c.args.start c.requires.states c.requires.repaired c.requires.admitted c.loop-hop.hop c.loop-hop.at m t c.loop-hop.invariant.walking
           c.unwrap-prio.result own c.boost.new.owners c.boost.new.table c.boost.ensures.owners
-          c.boost.ensures.rows c.boost.ensures.outside c.boost.ensures.states
+          c.boost.ensures.rows c.boost.ensures.outside c.boost.ensures.states other
           c.in-Some.state c.owner-at.result (sym c.waits_on.ensures.value ∙ c.in-Some.is) c.owner-at.ensures.value;
       queue = c.loop-hop.invariant.queue;
     }

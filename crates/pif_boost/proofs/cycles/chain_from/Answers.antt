@@ -1,8 +1,8 @@
 use Rattle.std.proofs.Common.{◌≡◌, ◌↔◌, ◌+◌, ◌++◌, ◌∷◌, [], ℕ, true, List, sym, ap, ◌∙◌, subst, arith}
-use Rattle.pif_nodes.specs.Lists.{has}
+use Rattle.pif_lists.specs.Lists.{has}
 use Rattle.pif_model.specs.Graph.{Reaches}
 use Rattle.pif_owners.specs.Owners.{Owners, WaitsFor}
-use Rattle.pif_rtmutex.specs.States.{owners_in}
+use Rattle.pif_owners.specs.States.{owners_in}
 use Rattle.pif_boost.proofs.Chaining.{IsChaining, chaining-start, chaining-room, chaining-end, chaining-hop, chaining-done}
 use Rattle.pif_boost.proofs.cycles.chain_from.Goals as goal
 

@@ -1,4 +1,4 @@
-use Rattle.pif_rtmutex.specs.States.{owners_in}
+use Rattle.pif_owners.specs.States.{owners_in}
 use Rattle.pif_boost.proofs.Chaining.{IsChaining}
 use Rattle.pif_boost.proofs.cycles.chain_from.Given as goal
 

@@ -1,6 +1,6 @@
 use Rattle.std.proofs.Common.{◌≡◌, ℕ, eqb, List, sym, ap, ◌∙◌}
 use Rattle.std.specs.List.{list_any}
-use Rattle.pif_nodes.specs.Lists.{has}
+use Rattle.pif_lists.specs.Lists.{has}
 use Rattle.pif_boost.proofs.Chaining.{any_has}
 use Rattle.pif_boost.proofs.cycles.would_close.Goals as goal
 

@@ -10,4 +10,4 @@ returns-in-Ok c =
     subst (λ (j : List Entry). IsDriven (length c.args.clients.items) j c.in-Ok.book.answered)
     (sym c.in-Ok.ensures.entries)
     (driven c.args.clients.items c.args.room.journal c.in-Ok.book.answered c.in-Ok.ensures.settled
-    c.in-Ok.ensures.sum c.requires)
+    c.in-Ok.ensures.one_each c.in-Ok.ensures.sum c.requires)

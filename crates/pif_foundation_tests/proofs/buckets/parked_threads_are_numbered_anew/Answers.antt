@@ -1,7 +1,7 @@
 -- A new table has room for new buckets.
 use Rattle.std.proofs.Common.{sym, subst, inl, arith}
-use Rattle.pif_queue.specs.Buckets.{Buckets, HasRoomForBuckets}
-use Rattle.pif_queue.proofs.Rooms.{room-made}
+use Rattle.pif_owners.specs.Buckets.{Buckets, HasRoomForBuckets}
+use Rattle.pif_owners.proofs.Rooms.{room-made}
 use Rattle.pif_foundation_tests.proofs.buckets.parked_threads_are_numbered_anew.Goals as goal
 
 pub number_last_two-requires-clause-holds : goal.number_last_two-requires-clause-holds

@@ -1,8 +1,8 @@
 -- A new table has room for new buckets.
 use Rattle.std.proofs.Common.{◌≡◌, ◌≤◌, sym, subst, inl, arith}
-use Rattle.pif_nodes.specs.Table.{NodeLists}
-use Rattle.pif_queue.specs.Buckets.{Buckets, HasRoomForBuckets}
-use Rattle.pif_queue.proofs.Rooms.{room-made}
+use Rattle.pif_lists.specs.Table.{NodeLists}
+use Rattle.pif_owners.specs.Buckets.{Buckets, HasRoomForBuckets}
+use Rattle.pif_owners.proofs.Rooms.{room-made}
 use Rattle.pif_foundation_tests.proofs.buckets.parked_threads_stand_by_place.Goals as goal
 
 pub park_three-requires-clause-holds : goal.park_three-requires-clause-holds

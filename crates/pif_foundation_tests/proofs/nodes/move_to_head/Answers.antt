@@ -1,6 +1,6 @@
 -- What leaves a list leaves as many lists, and all keys.
 use Rattle.std.proofs.Common.{◌≡◌, List, ℕ, length, length-set, ap, ◌∙◌, arith}
-use Rattle.pif_nodes.specs.Table.{NodeLists, with_list}
+use Rattle.pif_lists.specs.Table.{NodeLists, with_list}
 use Rattle.pif_foundation_tests.proofs.nodes.move_to_head.Goals as goal
 
 -- another list leaves as many

@@ -1,4 +1,4 @@
-use Rattle.pif_runq.specs.Levels.{Holds}
+use Rattle.pif_lists.specs.Levels.{Holds}
 use Rattle.pif_foundation_tests.proofs.run_queue.pick_first.Given as goal
 
 abbrev pub invariant-loop-level : goal.invariant-loop-level

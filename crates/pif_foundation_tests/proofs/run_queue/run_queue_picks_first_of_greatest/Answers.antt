@@ -1,8 +1,8 @@
 -- A new table has room for a new queue.
 use Rattle.std.proofs.Common.{◌≡◌, ℕ, List, [], length, replicate, ap, sym, subst, arith}
 use Rattle.std.proofs.lemmas.List.{get_or-replicate, length-replicate}
-use Rattle.pif_nodes.specs.Table.{NodeLists, IsApart, no_key, list_with}
-use Rattle.pif_runq.specs.Levels.{Queue, list_for, HasRoom}
+use Rattle.pif_lists.specs.Table.{NodeLists, IsApart, no_key, list_with}
+use Rattle.pif_lists.specs.Levels.{Queue, list_for, HasRoom}
 use Rattle.pif_foundation_tests.proofs.run_queue.run_queue_picks_first_of_greatest.Goals as goal
 
 new_queue : Queue

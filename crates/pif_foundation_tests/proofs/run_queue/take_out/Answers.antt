@@ -1,6 +1,6 @@
 use Rattle.std.proofs.Common.{sym, ap, ◌∙◌}
 use Rattle.std.specs.Option.{is_some}
-use Rattle.pif_runq.proofs.LevelWithLemmas.{queued_found}
+use Rattle.pif_lists.proofs.LevelWithLemmas.{queued_found}
 use Rattle.pif_foundation_tests.proofs.run_queue.take_out.Goals as goal
 
 pub take_out-requires-clause-queued : goal.take_out-requires-clause-queued

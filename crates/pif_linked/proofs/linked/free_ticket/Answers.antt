@@ -1,6 +1,6 @@
 use Rattle.std.proofs.Common.{ap, ◌∙◌}
-use Rattle.pif_queue.specs.Parked.{parked_at}
-use Rattle.pif_queue.specs.Buckets.{Buckets}
+use Rattle.pif_owners.specs.Parked.{parked_at}
+use Rattle.pif_owners.specs.Buckets.{Buckets}
 use Rattle.pif_linked.specs.Parkings.{parkings_by}
 use Rattle.pif_linked.proofs.ParkingKeys.{are_parked-renumber, renumber_parkings}
 use Rattle.pif_linked.proofs.linked.free_ticket.Goals as goal

@@ -1,41 +1,6 @@
--- The next step of a thread may be taken, is that of its line, and leaves the parts sound.
-use Rattle.std.proofs.Common.{sym, ap, ◌∙◌, subst}
-use Rattle.pif_model.specs.declared.lines.Line.{Line}
-use Rattle.pif_model.specs.PiKernel.{is_living}
-use Rattle.pif_model.specs.Table.{Table, line_at}
-use Rattle.pif_model.specs.Lines.{Outcome, go_outcome}
-use Rattle.pif_model.specs.Soundness.{IsSound}
-use Rattle.pif_chains.proofs.KernelFacts.{living-added}
-use Rattle.pif_mutex.proofs.SoundTables.{step_sound}
-use Rattle.pif_mutex.proofs.Stepping.{may_step}
-use Rattle.pif_mutex.proofs.Steps.{step_owns_once}
+-- A thread that lives was added.
+use Rattle.pif_chains.proofs.kernel.KernelFacts.{living-added}
 use Rattle.pif_mutex.proofs.parts.advance.Goals as goal
 
 pub line-requires : goal.line-requires
-line-requires g c = living-added c.parts.inside.state.kernel c.args.t
-    (ap (λ (x : Table). is_living x.kernel c.args.t) c.parts.view_is ∙ c.requires.living)
-
-pub go-requires-clause-call : goal.go-requires-clause-call
-go-requires-clause-call g c =
-    may_step c.parts.inside.state c.args.t c.in-At.request c.in-At.place c.parts.invariant
-    (ap (λ (x : Table). is_living x.kernel c.args.t) c.parts.view_is ∙ c.requires.living)
-    (sym c.line.ensures.value ∙ c.in-At.is)
-
-pub invariant_of-parts : goal.invariant_of-parts
-invariant_of-parts g c =
-    subst (λ (o : Outcome). IsSound o.after) (sym c.go.ensures)
-    (step_sound c.parts.inside.state c.args.t c.in-At.request c.in-At.place c.parts.invariant
-    (ap (λ (x : Table). is_living x.kernel c.args.t) c.parts.view_is ∙ c.requires.living)
-    (sym c.line.ensures.value ∙ c.in-At.is))
-
-pub returns-clause-line : goal.returns-clause-line
-returns-clause-line g c =
-    c.go.ensures
-    ∙ ap (λ (l : Line). go_outcome l c.args.t c.parts.inside.state) (sym (sym c.line.ensures.value ∙ c.in-At.is))
-    ∙ ap (λ (x : Table). go_outcome (line_at x c.args.t) c.args.t x) c.parts.view_is
-
-pub returns-clause-once : goal.returns-clause-once
-returns-clause-once g c = λ m changed owned.
-    step_owns_once c.parts.inside.state _ _ c.args.t c.in-At.request c.in-At.place c.parts.invariant
-    (ap (λ (x : Table). is_living x.kernel c.args.t) c.parts.view_is ∙ c.requires.living)
-    (sym c.line.ensures.value ∙ c.in-At.is) c.parts.view_is (ap (λ (o : Outcome). o.after) c.go.ensures) m changed
+line-requires g c = living-added c.args.parts.now.kernel c.args.t c.requires.living

@@ -1,7 +1,7 @@
 use Rattle.std.proofs.Common.{◌+◌, refl, get_or, drop}
 use Rattle.std.proofs.lemmas.List.{drop_more, drop_all}
 use Rattle.pif_scripts.specs.Scanners.{scan_of}
-use Rattle.pif_scripts.proofs.MigrateLemmas.{EndsSo-start, EndsSo-more, EndsSo-stopped, EndsSo-closed, EndsSo-unclosed}
+use Rattle.pif_script_model.proofs.MigrateLemmas.{EndsSo-start, EndsSo-more, EndsSo-stopped, EndsSo-closed, EndsSo-unclosed}
 use Rattle.pif_scripts.proofs.migrating.fault_of_form.Goals as goal
 
 pub loop-byte-init : goal.loop-byte-init

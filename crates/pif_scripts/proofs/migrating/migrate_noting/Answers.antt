@@ -1,7 +1,7 @@
 use Rattle.std.proofs.Common.{◌≡◌, Err, true, sym, subst, ◌∙◌, arith}
 use Rattle.std.specs.Prelude.{is_ok}
-use Rattle.pif_scripts.specs.Migrating.{form_end}
-use Rattle.pif_scripts.proofs.MigrateLemmas.{formed-length, Migrates-written, Migrates-stopped}
+use Rattle.pif_script_model.specs.Migrating.{form_end}
+use Rattle.pif_script_model.proofs.MigrateLemmas.{formed-length, Migrates-written, Migrates-stopped}
 use Rattle.pif_scripts.proofs.migrating.migrate_noting.Goals as goal
 
 pub index_mut-requires : goal.index_mut-requires

@@ -1,4 +1,4 @@
-use Rattle.pif_scripts.proofs.MigrateLemmas.{verdict_stays}
+use Rattle.pif_script_model.proofs.MigrateLemmas.{verdict_stays}
 use Rattle.pif_scripts.proofs.migrating.migrated_trace_has_its_verdict.Goals as goal
 
 pub returns : goal.returns

@@ -1,7 +1,7 @@
 use Rattle.std.proofs.lemmas.Grind.{common_steps}
 use Rattle.std.proofs.lemmas.Result.{err_from_is_err_and}
 use Rattle.std.proofs.Common.{arith}
-use Rattle.pif_scripts.proofs.MigrateLemmas.{reading-fails}
+use Rattle.pif_script_model.proofs.MigrateLemmas.{reading-fails}
 use Rattle.pif_scripts.proofs.migrating.read_all.Goals as goal
 
 pub returns-in_err-read_more-clause-failed : goal.returns-in_err-read_more-clause-failed

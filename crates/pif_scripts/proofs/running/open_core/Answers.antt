@@ -1,6 +1,6 @@
 use Rattle.std.proofs.Common.{sym, subst}
-use Rattle.pif_scripts.specs.Running.{Makes}
-use Rattle.pif_scripts.proofs.RunningLemmas.{answered-later, first_answer-later}
+use Rattle.pif_script_model.specs.Running.{Makes}
+use Rattle.pif_script_model.proofs.RunningLemmas.{answered-later, first_answer-later}
 use Rattle.pif_scripts.proofs.running.open_core.Goals as goal
 
 pub open_default-requires : goal.open_default-requires

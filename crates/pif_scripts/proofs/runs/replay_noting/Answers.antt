@@ -1,4 +1,4 @@
-use Rattle.pif_scripts.proofs.SilenceLemmas.{ReplaysTo-from}
+use Rattle.pif_script_model.proofs.SilenceLemmas.{ReplaysTo-from}
 use Rattle.pif_scripts.proofs.runs.replay_noting.Goals as goal
 
 pub returns : goal.returns

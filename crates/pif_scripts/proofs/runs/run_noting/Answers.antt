@@ -1,4 +1,4 @@
-use Rattle.pif_scripts.proofs.DifferenceLemmas.{RunsTo-from}
+use Rattle.pif_script_model.proofs.DifferenceLemmas.{RunsTo-from}
 use Rattle.pif_scripts.proofs.runs.run_noting.Goals as goal
 
 pub returns : goal.returns

@@ -1,4 +1,4 @@
-use Rattle.pif_scripts.proofs.AgainLemmas.{script_trace_back}
+use Rattle.pif_script_model.proofs.AgainLemmas.{script_trace_back}
 use Rattle.pif_scripts.proofs.runs.script_trace_is_the_same.Goals as goal
 
 pub returns : goal.returns

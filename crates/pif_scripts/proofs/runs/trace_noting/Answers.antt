@@ -1,4 +1,4 @@
-use Rattle.pif_scripts.proofs.TranscriptLemmas.{TracesTo-from}
+use Rattle.pif_script_model.proofs.TranscriptLemmas.{TracesTo-from}
 use Rattle.pif_scripts.proofs.runs.trace_noting.Goals as goal
 
 pub returns : goal.returns

@@ -1,12 +1,12 @@
 use Rattle.std.proofs.Common.{◌≡◌, None, Ok, Err, subst}
 use Rattle.std.proofs.KnownBytes.{Keeps-refl, Keeps-trans}
 use Rattle.std.proofs.lemmas.Result.{err_from_is_err_and}
-use Rattle.pif_scripts.specs.Running.{script}
-use Rattle.pif_scripts.specs.Scripts.{start}
+use Rattle.pif_script_model.specs.Running.{script}
+use Rattle.pif_script_model.specs.Scripts.{start}
 use Rattle.pif_scripts.specs.Scanners.{scan_of}
-use Rattle.pif_scripts.specs.Showing.{Silent}
-use Rattle.pif_scripts.proofs.RunLemmas.{Goes-start, Goes-more, Goes-ends}
-use Rattle.pif_scripts.proofs.ShowingLemmas.{RunsTo-shown}
+use Rattle.pif_script_model.specs.Showing.{Silent}
+use Rattle.pif_script_model.proofs.RunLemmas.{Goes-start, Goes-more, Goes-ends}
+use Rattle.pif_script_model.proofs.ShowingLemmas.{RunsTo-shown}
 use Rattle.pif_scripts.proofs.showing.show_noting.Goals as goal
 
 pub loop-scanner-init : goal.loop-scanner-init

@@ -1,5 +1,5 @@
 use Rattle.std.proofs.Common.{Ok, Err}
-use Rattle.pif_scripts.proofs.ShowingLemmas.{Stays-written}
+use Rattle.pif_script_model.proofs.ShowingLemmas.{Stays-written}
 use Rattle.pif_scripts.proofs.showing.write_line.Goals as goal
 
 pub returns-in-Ok : goal.returns-in-Ok

@@ -2,10 +2,10 @@ use Rattle.std.proofs.Common.{[], Err, ◌∙◌, sym, subst, suc, drop, take, �
 use Rattle.std.specs.Prelude.{flat_map}
 use Rattle.std.proofs.KnownBytes.{Appends-nil}
 use Rattle.std.proofs.lemmas.Result.{err_from_is_err_and}
-use Rattle.pif_scripts.specs.Runs.{Writes}
-use Rattle.pif_scripts.specs.Traces.{entry_line, front_lines, trace}
-use Rattle.pif_scripts.proofs.RunLemmas.{Writes-more}
-use Rattle.pif_scripts.proofs.TracingLemmas.{trace-at, trace-all}
+use Rattle.pif_script_model.specs.Runs.{Writes}
+use Rattle.pif_script_model.specs.Traces.{entry_line, front_lines, trace}
+use Rattle.pif_script_model.proofs.RunLemmas.{Writes-more}
+use Rattle.pif_script_model.proofs.TracingLemmas.{trace-at, trace-all}
 use Rattle.pif_scripts.proofs.tracing.write_trace.Goals as goal
 
 pub returns-in_err-write_whole : goal.returns-in_err-write_whole

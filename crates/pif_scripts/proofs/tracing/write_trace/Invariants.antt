@@ -1,7 +1,7 @@
 use Rattle.std.proofs.Common.{◌++◌, take}
 use Rattle.std.specs.Prelude.{flat_map}
 use Rattle.std.specs.Io.KnownBytes.{Appends}
-use Rattle.pif_scripts.specs.Traces.{entry_line, front_lines}
+use Rattle.pif_script_model.specs.Traces.{entry_line, front_lines}
 use Rattle.pif_scripts.proofs.tracing.write_trace.Given as goal
 
 abbrev pub invariant-loop-entry : goal.invariant-loop-entry

@@ -4,7 +4,7 @@ use Rattle.pif_model.specs.declared.events.Event.TheVariants.{Begin}
 use Rattle.pif_model.specs.declared.events.Seen.TheVariants.{Refused}
 use Rattle.pif_model.specs.Lines.{Outcome, event_outcome, goes_on}
 use Rattle.pif_calls.proofs.CallLemmas.{call_other, call_refused}
-use Rattle.pif_scripts.proofs.EntryLemmas.{call-refused, call-begun}
+use Rattle.pif_script_model.proofs.EntryLemmas.{call-refused, call-begun}
 use Rattle.pif_scripts.proofs.transcribing.call.Goals as goal
 
 pub returns-in-Refused-clause-seen : goal.returns-in-Refused-clause-seen

@@ -1,7 +1,7 @@
 use Rattle.std.proofs.Common.{◌-◌, sym, ap, ◌∙◌, arith}
 use Rattle.pif_model.specs.Lines.{Outcome}
 use Rattle.pif_calls.proofs.CallLemmas.{goes_on-other, goes_on-turn, goes_on-last}
-use Rattle.pif_scripts.proofs.EntryLemmas.{going-turn, going-stops, going-last}
+use Rattle.pif_script_model.proofs.EntryLemmas.{going-turn, going-stops, going-last}
 use Rattle.pif_scripts.proofs.transcribing.finish.Goals as goal
 
 pub returns-in_default : goal.returns-in_default

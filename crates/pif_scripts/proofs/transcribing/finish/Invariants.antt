@@ -1,7 +1,7 @@
 use Rattle.std.proofs.Common.{◌≡◌, ◌-◌, ◌+◌, ◌*◌, ◌≤◌, ◌++◌}
 use Rattle.arrayvec.specs.ArrayVec.{array_vec_len}
 use Rattle.pif_model.specs.Lines.{goes_on}
-use Rattle.pif_scripts.specs.Transcripts.{entry_lines, going_entries}
+use Rattle.pif_script_model.specs.Transcripts.{entry_lines, going_entries}
 use Rattle.pif_scripts.proofs.transcribing.finish.Given as goal
 
 abbrev pub invariant-loop-turn : goal.invariant-loop-turn

@@ -1,5 +1,5 @@
 use Rattle.std.proofs.Common.{◌++◌, ◌∙◌, ap}
-use Rattle.pif_scripts.proofs.EntryLemmas.{step-row}
+use Rattle.pif_script_model.proofs.EntryLemmas.{step-row}
 use Rattle.pif_scripts.proofs.transcribing.step.Goals as goal
 
 pub returns-clause-told : goal.returns-clause-told

@@ -1,6 +1,6 @@
 use Rattle.std.proofs.Common.{◌++◌, ap, ◌∙◌, arith}
-use Rattle.pif_scripts.specs.Transcripts.{command_entries}
-use Rattle.pif_scripts.proofs.EntryLemmas.{run-answer, single-lines}
+use Rattle.pif_script_model.specs.Transcripts.{command_entries}
+use Rattle.pif_script_model.proofs.EntryLemmas.{run-answer, single-lines}
 use Rattle.pif_scripts.proofs.transcribing.transcribe.Goals as goal
 
 pub returns-in-Run-clause-answer : goal.returns-in-Run-clause-answer

@@ -1,7 +1,7 @@
 use Rattle.std.proofs.Common.{arith, add-zero}
 use Rattle.std.proofs.lemmas.List.{take_rest, length-drop}
 use Rattle.std.proofs.KnownBytes.{Appends-kept}
-use Rattle.pif_scripts.proofs.RunLemmas.{Appends-take, WritesPart-front}
+use Rattle.pif_script_model.proofs.RunLemmas.{Appends-take, WritesPart-front}
 use Rattle.pif_scripts.proofs.writing.write_whole.Goals as goal
 
 pub loop-written-preserved : goal.loop-written-preserved

@@ -1,7 +1,7 @@
 use Rattle.std.proofs.Common.{ap, ◌∙◌}
 use Rattle.std.specs.Prelude.{flat_map}
 use Rattle.std.proofs.lemmas.List.{take_all}
-use Rattle.pif_scripts.specs.CommandLines.{command_line, script_lines}
+use Rattle.pif_script_model.specs.CommandLines.{command_line, script_lines}
 use Rattle.pif_shell.proofs.sessions.script_of.Goals as goal
 
 pub returns : goal.returns

@@ -1,4 +1,4 @@
-use Rattle.pif_scripts.specs.CommandLines.{script_lines}
+use Rattle.pif_script_model.specs.CommandLines.{script_lines}
 use Rattle.pif_shell.proofs.SessionLemmas.{story_filled}
 use Rattle.pif_shell.proofs.sessions.story_of.Goals as goal
 

@@ -1,4 +1,4 @@
-use Rattle.pif_show.specs.Extends.{Stays}
+use Rattle.pif_text_model.specs.Extends.{Stays}
 use Rattle.pif_shell.specs.Talks.{Reads}
 use Rattle.pif_shell.proofs.shells.talk.Given as goal
 

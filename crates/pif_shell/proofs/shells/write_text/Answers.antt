@@ -1,4 +1,4 @@
-use Rattle.pif_scripts.proofs.ShowingLemmas.{Stays-written}
+use Rattle.pif_script_model.proofs.ShowingLemmas.{Stays-written}
 use Rattle.pif_shell.proofs.shells.write_text.Goals as goal
 
 pub returns-in-Ok : goal.returns-in-Ok

@@ -1,4 +1,4 @@
-use Rattle.pif_show.specs.Extends.{Stays}
+use Rattle.pif_text_model.specs.Extends.{Stays}
 use Rattle.pif_show.proofs.chains.show_chains.Given as goal
 
 abbrev pub invariant-loop-number : goal.invariant-loop-number

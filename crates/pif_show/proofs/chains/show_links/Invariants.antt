@@ -1,4 +1,4 @@
-use Rattle.pif_show.specs.Extends.{Stays}
+use Rattle.pif_text_model.specs.Extends.{Stays}
 use Rattle.pif_show.proofs.chains.show_links.Given as goal
 
 abbrev pub invariant-loop-link : goal.invariant-loop-link

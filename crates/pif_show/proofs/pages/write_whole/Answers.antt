@@ -1,6 +1,6 @@
 use Rattle.std.proofs.Common.{arith}
 use Rattle.std.proofs.lemmas.List.{take_rest, length-drop}
-use Rattle.pif_show.proofs.Extending.{Stays-appended, Stays-kept}
+use Rattle.pif_text_model.proofs.Extending.{Stays-appended, Stays-kept}
 use Rattle.pif_show.proofs.pages.write_whole.Goals as goal
 
 pub loop-written-preserved : goal.loop-written-preserved

@@ -1,5 +1,5 @@
 use Rattle.std.proofs.Common.{length, ◌-◌, ◌≤◌}
-use Rattle.pif_show.specs.Extends.{Stays}
+use Rattle.pif_text_model.specs.Extends.{Stays}
 use Rattle.pif_show.proofs.pages.write_whole.Given as goal
 
 abbrev pub invariant-loop-written : goal.invariant-loop-written

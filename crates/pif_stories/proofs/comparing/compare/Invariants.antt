@@ -3,13 +3,13 @@ use Rattle.std.specs.Prelude.{option_copied}
 use Rattle.std.specs.Option.{option_map_or}
 use Rattle.pif_stories.specs.Lines.{lines_behind}
 use Rattle.pif_stories.specs.Stories.{rows_from, rows_of, story_lines}
-use Rattle.pif_stories.specs.Verdicts.{compared}
+use Rattle.pif_stories.specs.Verdicts.{verdict_of_rows}
 use Rattle.pif_stories.proofs.ComparingLemmas.{compared_from}
 use Rattle.pif_stories.proofs.comparing.compare.Given as goal
 
 abbrev pub invariant-lines : goal.invariant-lines
 invariant-lines l = record {
-  same : compared (length (story_lines l.story)) l.fault (rows_of l.story) (lines_behind (option_copied l.fn.output))
+  same : verdict_of_rows (length (story_lines l.story)) l.fault (rows_of l.story) (lines_behind (option_copied l.fn.output))
       ≡ compared_from (length (story_lines l.story)) l.fault l.commands
       (rows_from (l.number + 1) (lines_behind (option_copied l.rest))) (lines_behind (option_copied l.answers));
   last : l.number + length (lines_behind (option_copied l.rest)) ≡ length (story_lines l.story);

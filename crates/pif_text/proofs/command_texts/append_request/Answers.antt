@@ -1,6 +1,6 @@
 use Rattle.std.proofs.Common.{append_assoc, codes}
-use Rattle.pif_text.specs.CommandTexts.{request_text}
-use Rattle.pif_text.specs.Replies.{mutex_name}
+use Rattle.pif_text_model.specs.CommandTexts.{request_text}
+use Rattle.pif_text_model.specs.Replies.{mutex_name}
 use Rattle.pif_text.proofs.command_texts.append_request.Goals as goal
 
 pub returns-in-Consistent-clause-items : goal.returns-in-Consistent-clause-items

@@ -2,7 +2,7 @@ use Rattle.std.proofs.Common.{◌≡◌, ◌+◌, ◌*◌, ◌-◌, false, true,
 use Rattle.std.specs.Char.{is_ascii_digit}
 use Rattle.std.specs.Str.Parse.{digits_value}
 use Rattle.std.proofs.Math.Seq.{take-length}
-use Rattle.pif_text.proofs.Numerals.{value_none_at, value_none_above, value_more, value_some}
+use Rattle.pif_text_model.proofs.Numerals.{value_none_at, value_none_above, value_more, value_some}
 use Rattle.pif_text.proofs.numbers.value_of.Goals as goal
 
 pub returns-then-not-is_ascii_digit : goal.returns-then-not-is_ascii_digit

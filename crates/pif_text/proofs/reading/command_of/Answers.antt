@@ -1,4 +1,4 @@
-use Rattle.pif_text.specs.Commands.{command_in, command_of_words}
+use Rattle.pif_text_model.specs.Commands.{command_in, command_of_words}
 use Rattle.pif_text.proofs.reading.command_of.Goals as goal
 
 pub returns-in-None : goal.returns-in-None

@@ -1,6 +1,6 @@
 use Rattle.std.proofs.Common.{refl}
-use Rattle.pif_text.specs.Commands.{command_of_words}
-use Rattle.pif_text.proofs.Splits.{too_many}
+use Rattle.pif_text_model.specs.Commands.{command_of_words}
+use Rattle.pif_text_model.proofs.Splits.{too_many}
 use Rattle.pif_text.proofs.reading.of_more.Goals as goal
 
 pub returns-in_default : goal.returns-in_default

@@ -1,4 +1,4 @@
-use Rattle.pif_text.specs.Commands.{command_of_words}
+use Rattle.pif_text_model.specs.Commands.{command_of_words}
 use Rattle.pif_text.proofs.reading.of_named.Goals as goal
 
 pub returns-in_default : goal.returns-in_default

@@ -1,6 +1,6 @@
 use Rattle.std.proofs.Common.{◌≡◌, ◌+◌, drop, take, true, sym, ◌∙◌, bytes_eq, codes, arith}
 use Rattle.std.proofs.lemmas.List.{take_rest}
-use Rattle.pif_text.proofs.Marks.{parts_of-marked, parts_of-unmarked}
+use Rattle.pif_text_model.proofs.Marks.{parts_of-marked, parts_of-unmarked}
 use Rattle.pif_text.proofs.traces.split_answer.Goals as goal
 
 pub returns-then-starts_with : goal.returns-then-starts_with

@@ -1,5 +1,5 @@
 use Rattle.std.proofs.Common.{◌≡◌, ℕ, ◌+◌, ◌<◌, drop, get_or, false}
-use Rattle.pif_text.specs.Traces.{is_marked}
+use Rattle.pif_text_model.specs.Traces.{is_marked}
 use Rattle.pif_text.proofs.traces.split_answer.Given as goal
 
 abbrev pub invariant-loop-place : goal.invariant-loop-place

@@ -1,6 +1,6 @@
 use Rattle.std.proofs.Common.{◌<◌, length, arith}
 use Rattle.std.proofs.lemmas.List.{take_rest}
-use Rattle.pif_text.proofs.Splits.{split_at_space}
+use Rattle.pif_text_model.proofs.Splits.{split_at_space}
 use Rattle.pif_text.proofs.words.split_first.Goals as goal
 
 pub returns-then-end-line : goal.returns-then-end-line

@@ -6,7 +6,7 @@ use Rattle.pif_model.specs.History.{hold_count}
 use Rattle.pif_model.specs.Table.{Table}
 use Rattle.pif_uses.specs.declared.locking.Held.{Held}
 use Rattle.pif_calls.specs.Calls.{StandsOn, after_call}
-use Rattle.pif_uses.specs.Holding.{CountsOn, if_taken, locked}
+use Rattle.pif_uses.specs.Holding.{CountsOn, if_taken, after_lock}
 use Rattle.pif_uses.proofs.HoldLemmas.{unlock_leaves}
 use Rattle.pif_calls.proofs.StandingLemmas.{next_stands}
 use Rattle.pif_uses.proofs.locking.add_under.Goals as goal
@@ -15,7 +15,7 @@ pub returns-clause-stands : goal.returns-clause-stands
 returns-clause-stands c = λ h r w st.
     let t = c.args.thread in
     let m = c.args.mutex in
-    let u = locked t m c.args.core.now in
+    let u = after_lock t m c.args.core.now in
     let k = after_call t (Lock m) c.args.core.now h in
     subst (λ (f : Result Held Seen). StandsOn c.call.new.self (if_taken f k (after_call t (Unlock m) u k)) r w)
     (sym c.in_ok-lock_and_hold.was ∙ c.lock_and_hold.ensures.answer)

@@ -7,7 +7,7 @@ use Rattle.pif_model.specs.History.{hold_count}
 use Rattle.pif_model.specs.Table.{Table}
 use Rattle.pif_calls.specs.Calls.{call_outcome, after_call}
 use Rattle.pif_uses.specs.declared.locking.Held.{Held}
-use Rattle.pif_uses.specs.Holding.{HoldsOn, if_died, locked}
+use Rattle.pif_uses.specs.Holding.{HoldsOn, if_died, after_lock}
 use Rattle.pif_uses.proofs.FineLemmas.{consistent_fine}
 use Rattle.pif_uses.proofs.HoldLemmas.{consistent_holds, died_stands, in_order}
 use Rattle.pif_uses.proofs.OrderLemmas.{lock_fine}
@@ -17,7 +17,7 @@ pub returns-in-Answered-eq0-clause-holds : goal.returns-in-Answered-eq0-clause-h
 returns-in-Answered-eq0-clause-holds c = λ h r w st.
     let t = c.args.thread in
     let m = c.args.mutex in
-    let u = locked t m c.args.core.now in
+    let u = after_lock t m c.args.core.now in
     let k = after_call t (Lock m) c.args.core.now h in
     let n = hold_count t m h + 1 in
     subst (λ (f : Result Held Seen). HoldsOn t m n c.call.new.self (if_died f k (after_call t (Consistent m) u k)) r w)
@@ -46,7 +46,7 @@ returns-in-Ok-InOrder-clause-holds c = λ h r w st.
     let m = c.args.mutex in
     let k = after_call t (Lock m) c.args.core.now h in
     subst (λ (f : Result Held Seen). HoldsOn t m (hold_count t m h + 1) c.lock_and_hold.new.core
-    (if_died f k (after_call t (Consistent m) (locked t m c.args.core.now) k)) r w)
+    (if_died f k (after_call t (Consistent m) (after_lock t m c.args.core.now) k)) r w)
     (ap Ok (sym c.in-Ok-InOrder.field-0-is) ∙ sym c.in-Ok-InOrder.is ∙ c.lock_and_hold.ensures.answer)
     (c.in-Ok-InOrder.ensures.holds h r w st)
 

@@ -25,7 +25,7 @@ returns-in-Answered-eq0-clause-holds c = λ met.
     let is = met_by c.args.is_met again.seen (sym c.wait_unless.ensures.answer ∙ met) in
     let same = c.wait_unless.ensures.after ∙ ap (λ b. if_waited b c.finish.new.self again.after) is in (
       is,
-      λ h r w n st busy count.
+      λ h r w st n busy count.
           subst (λ (v : Table). HoldsOn t m (n + 1) v (after_finish t c.args.core.now h) r w) (sym same)
           (wait_holds c.args.core.now c.finish.new.self t c.args.cond m n
           (sym c.finish.ensures.seen ∙ c.in-Answered-eq0.is ∙ ap Answered c.in-Answered-eq0.field-0-test)

@@ -1,4 +1,5 @@
--- Clients whose logs are just the calls of their threads have their receipts, and together all answers.
+-- Clients whose logs are just the calls of their threads are one for each thread, have their receipts, and together
+-- all answers.
 use Rattle.std.proofs.Common.{◌∙◌, List, ap, sym, subst, count_by}
 use Rattle.std.specs.List.{All}
 use Rattle.std.proofs.lemmas.List.Elements.{All-weaker}
@@ -8,6 +9,7 @@ use Rattle.pif_model.specs.Posix.{IsRun}
 use Rattle.pif_desk.specs.Settling.{Settles, HasReceipts, is_answer}
 use Rattle.pif_desk.proofs.Receipts.{receipts_held}
 use Rattle.pif_desk.proofs.Answering.{answers_settle}
+use Rattle.pif_desk.proofs.Pigeons.{one_client}
 use Rattle.pif_desk.proofs.room.Room.settle.Goals as goal
 
 pub returns-in-None-clause-settled : goal.returns-in-None-clause-settled
@@ -15,6 +17,10 @@ returns-in-None-clause-settled c =
     subst (λ (r : RoomState). Settles c.args.clients.items r.journal) c.self.view_is
     (subst (λ (cs : List ClientState). Settles cs c.self.inside.journal.items) c.as_slice.ensures.value
     (subst (λ (j : List Entry). Settles c.as_slice.result.now j) c.as_slice-2.ensures.value c.in-None.ensures))
+
+pub returns-in-None-clause-one_each : goal.returns-in-None-clause-one_each
+returns-in-None-clause-one_each c =
+    let s = returns-in-None-clause-settled c in one_client c.args.clients.items c.args.self.journal s.counted s.known
 
 pub returns-in-None-clause-sum : goal.returns-in-None-clause-sum
 returns-in-None-clause-sum c =

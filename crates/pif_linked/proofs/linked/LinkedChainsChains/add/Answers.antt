@@ -1,7 +1,7 @@
 use Rattle.std.proofs.Common.{◌≤◌, subst, sym, ap, ◌∙◌, arith}
-use Rattle.pif_runq.specs.Levels.{IsQueued, level_of, level_after_add}
-use Rattle.pif_kernel.specs.Chained.{Chained}
-use Rattle.pif_runq.proofs.FreeNodes.{off_free}
+use Rattle.pif_lists.specs.Levels.{IsQueued, level_of, level_after_add}
+use Rattle.pif_kernel_state.specs.Chained.{Chained}
+use Rattle.pif_lists.proofs.FreeNodes.{off_free}
 use Rattle.pif_linked.proofs.Standing.{linked_queue, owners_there, keys_stay, parkings_stay}
 use Rattle.pif_linked.proofs.linked.LinkedChainsChains.add.Goals as goal
 

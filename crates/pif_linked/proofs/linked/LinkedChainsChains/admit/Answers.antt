@@ -1,13 +1,13 @@
 use Rattle.std.proofs.Common.{false, subst, ◌≡◌, ◌<◌, None, length, sym, ap, ◌∙◌}
 use Rattle.pif_owners.specs.Owners.{waits_on, with_seat}
-use Rattle.pif_boost.proofs.FrameLemmas.{outside-none}
-use Rattle.pif_kernel.specs.Chained.{Chained}
-use Rattle.pif_rtmutex.specs.States.{States}
+use Rattle.pif_owners.proofs.BoostFrameLemmas.{outside-none}
+use Rattle.pif_kernel_state.specs.Chained.{Chained}
+use Rattle.pif_owners.specs.States.{States}
 use Rattle.pif_model.specs.PiKernel.{parked_pairs}
-use Rattle.pif_kernel.specs.Tickets.{is_named}
+use Rattle.pif_kernel_state.specs.Tickets.{is_named}
 use Rattle.pif_linked.specs.Parkings.{parkings_in}
 use Rattle.pif_linked.specs.Linked.{keys_in}
-use Rattle.pif_rtmutex.proofs.SamePlace.{same_place}
+use Rattle.pif_owners.proofs.SamePlace.{same_place}
 use Rattle.pif_linked.proofs.Standing.{unparked, linked_seated}
 use Rattle.pif_linked.proofs.linked.LinkedChainsChains.admit.Goals as goal
 

@@ -1,13 +1,13 @@
 use Rattle.std.proofs.Common.{◌≡◌, ◌≢◌, ◌+◌, ◌<◌, ℕ, Some, None, IsSome, length, get_or, set, refl, subst, sym, ap, ◌∙◌}
 use Rattle.std.specs.FinMap.{get, remove}
 use Rattle.pif_owners.specs.Owners.{count, owner_at, HasNoWaiter, without_state}
-use Rattle.pif_rtmutex.specs.States.{owners_in}
-use Rattle.pif_queue.specs.Entries.{Found, found_in}
-use Rattle.pif_queue.specs.Buckets.{Buckets}
-use Rattle.pif_kernel.specs.Chained.{Chained, KeepsLevels}
+use Rattle.pif_owners.specs.States.{owners_in}
+use Rattle.pif_owners.specs.Entries.{Found, found_in}
+use Rattle.pif_owners.specs.Buckets.{Buckets}
+use Rattle.pif_kernel_state.specs.Chained.{Chained, KeepsLevels}
 use Rattle.pif_linked.specs.Linked.{key_count}
 use Rattle.pif_linked.proofs.Standing.{linked}
-use Rattle.pif_rtmutex.proofs.SamePlace.{same_place_made}
+use Rattle.pif_owners.proofs.SamePlace.{same_place_made}
 use Rattle.pif_linked.proofs.Words.{mutex_word, one_word, worded_owners, linked_worded, worded_kept}
 use Rattle.pif_linked.proofs.linked.LinkedChainsChains.close.Goals as goal
 

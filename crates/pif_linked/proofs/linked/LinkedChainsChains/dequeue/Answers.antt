@@ -1,9 +1,9 @@
 use Rattle.std.proofs.Common.{◌≡◌, Some, None, subst, sym, ap, ◌∙◌}
 use Rattle.pif_owners.specs.Owners.{waits_on, with_wait}
-use Rattle.pif_kernel.specs.Chained.{Chained, KeepsLevels}
-use Rattle.pif_rtmutex.specs.States.{States}
+use Rattle.pif_kernel_state.specs.Chained.{Chained, KeepsLevels}
+use Rattle.pif_owners.specs.States.{States}
 use Rattle.pif_linked.proofs.Standing.{linked, waits_off, linked_seated, owners_kept}
-use Rattle.pif_rtmutex.proofs.SamePlace.{same_place}
+use Rattle.pif_owners.proofs.SamePlace.{same_place}
 use Rattle.pif_linked.proofs.linked.LinkedChainsChains.dequeue.Goals as goal
 
 pub dequeue-requires-clause-holds : goal.dequeue-requires-clause-holds

@@ -1,14 +1,14 @@
 use Rattle.std.proofs.Common.{false, ◌≡◌, ◌<◌, ℕ, IsSome, Some, None, length, subst, sym, ap, ◌∙◌, arith}
 use Rattle.pif_model.specs.Graph.{Reaches}
 use Rattle.pif_owners.specs.Owners.{owner_at, waits_on, WaitsFor, with_wait}
-use Rattle.pif_rtmutex.specs.States.{owners_in}
-use Rattle.pif_rtmutex.proofs.ViewLemmas.{length-seats, waits_on-owners_in}
-use Rattle.pif_kernel.specs.Chained.{Chained, KeepsLevels}
-use Rattle.pif_rtmutex.specs.States.{States}
+use Rattle.pif_owners.specs.States.{owners_in}
+use Rattle.pif_owners.proofs.ViewLemmas.{length-seats, waits_on-owners_in}
+use Rattle.pif_kernel_state.specs.Chained.{Chained, KeepsLevels}
+use Rattle.pif_owners.specs.States.{States}
 use Rattle.pif_model.specs.PiKernel.{parked_pairs}
-use Rattle.pif_kernel.specs.Tickets.{is_named}
+use Rattle.pif_kernel_state.specs.Tickets.{is_named}
 use Rattle.pif_linked.proofs.Standing.{linked, idle_node, unparked, linked_seated, owners_kept}
-use Rattle.pif_rtmutex.proofs.SamePlace.{same_place}
+use Rattle.pif_owners.proofs.SamePlace.{same_place}
 use Rattle.pif_linked.proofs.linked.LinkedChainsChains.enqueue.Goals as goal
 
 pub enqueue-requires-clause-holds : goal.enqueue-requires-clause-holds

@@ -1,14 +1,14 @@
 use Rattle.std.proofs.Common.{◌≡◌, ℕ, Some, None, subst, sym, ap, ◌∙◌}
 use Rattle.pif_owners.specs.Owners.{waits_on, IsTop, with_owner, with_wait}
-use Rattle.pif_kernel.specs.Chained.{Chained, KeepsLevels}
+use Rattle.pif_kernel_state.specs.Chained.{Chained, KeepsLevels}
 use Rattle.std.specs.FinMap.{insert}
 use Rattle.pif_owners.specs.Owners.{Owners, seat_at}
-use Rattle.pif_rtmutex.specs.States.{States, owners_in}
-use Rattle.pif_queue.specs.Parked.{parked_at}
+use Rattle.pif_owners.specs.States.{States, owners_in}
+use Rattle.pif_owners.specs.Parked.{parked_at}
 use Rattle.pif_linked.specs.Linked.{FitsParked}
 use Rattle.pif_linked.proofs.Fits.{fits_but, fits_owned}
 use Rattle.pif_linked.proofs.Standing.{linked, waits_off, linked_owners, owners_kept}
-use Rattle.pif_rtmutex.proofs.SamePlace.{same_place_handed}
+use Rattle.pif_owners.proofs.SamePlace.{same_place_handed}
 use Rattle.pif_linked.proofs.linked.LinkedChainsChains.hand_over.Goals as goal
 
 pub hand_over-requires-clause-holds : goal.hand_over-requires-clause-holds

@@ -1,5 +1,5 @@
 use Rattle.std.proofs.Common.{ap, arith}
-use Rattle.pif_runq.specs.Levels.{Queue}
+use Rattle.pif_lists.specs.Levels.{Queue}
 use Rattle.pif_linked.proofs.First.{linked_first, levels_first, keys_first, parked_first}
 use Rattle.pif_linked.proofs.linked.LinkedChainsChains.new.Goals as goal
 

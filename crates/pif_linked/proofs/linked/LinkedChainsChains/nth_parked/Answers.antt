@@ -3,10 +3,10 @@ use Rattle.std.proofs.lemmas.Bool.{cases_lt}
 use Rattle.std.specs.List.{slice_get}
 use Rattle.pif_model.specs.Graph.{waiting_order}
 use Rattle.pif_model.specs.PiKernel.{parked_pairs}
-use Rattle.pif_rtmutex.specs.States.{owners_in}
-use Rattle.pif_boost.specs.Boosts.{local_of}
-use Rattle.pif_queue.specs.Parked.{IsCond}
-use Rattle.pif_kernel.specs.Chained.{Chained}
+use Rattle.pif_owners.specs.States.{owners_in}
+use Rattle.pif_owners.specs.Boosts.{local_of}
+use Rattle.pif_owners.specs.Parked.{IsCond}
+use Rattle.pif_kernel_state.specs.Chained.{Chained}
 use Rattle.pif_linked.specs.Parkings.{parkings_in}
 use Rattle.pif_linked.proofs.ParkingLists.{order_seen, order_past}
 use Rattle.pif_linked.proofs.linked.LinkedChainsChains.nth_parked.Goals as goal

@@ -2,13 +2,13 @@ use Rattle.std.proofs.Common.{◌≡◌, ◌≢◌, ◌+◌, ◌<◌, ℕ, Optio
 use Rattle.std.specs.FinMap.{get, insert}
 use Rattle.pif_owners.specs.Owners.{Owners, count, owner_at, with_owner}
 use Rattle.pif_owners.proofs.OwnersLemmas.{owner_at-with_owner_same}
-use Rattle.pif_rtmutex.specs.States.{owners_in}
-use Rattle.pif_queue.specs.Entries.{Found, found_in}
-use Rattle.pif_kernel.specs.Chained.{Chained, KeepsLevels}
+use Rattle.pif_owners.specs.States.{owners_in}
+use Rattle.pif_owners.specs.Entries.{Found, found_in}
+use Rattle.pif_kernel_state.specs.Chained.{Chained, KeepsLevels}
 use Rattle.pif_linked.specs.Linked.{key_count}
 use Rattle.pif_linked.proofs.Keys.{keys_length, keys_at, found_none}
 use Rattle.pif_linked.proofs.Standing.{linked}
-use Rattle.pif_rtmutex.proofs.SamePlace.{same_place_made}
+use Rattle.pif_owners.proofs.SamePlace.{same_place_made}
 use Rattle.pif_linked.proofs.Words.{row_free, worded_owners, linked_worded, worded_kept}
 use Rattle.pif_linked.proofs.linked.LinkedChainsChains.open.Goals as goal
 

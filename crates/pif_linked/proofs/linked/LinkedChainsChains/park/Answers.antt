@@ -1,11 +1,11 @@
 use Rattle.std.proofs.Common.{◌≡◌, ◌<◌, ◌≤◌, ◌++◌, ℕ, false, [], ◌∷◌, length, Option, None, IfSome, subst, sym, ap, ◌∙◌, arith}
 use Rattle.pif_model.specs.PiKernel.{parked_pairs}
 use Rattle.pif_owners.specs.Owners.{waits_on}
-use Rattle.pif_rtmutex.specs.States.{owners_in}
-use Rattle.pif_rtmutex.proofs.ViewLemmas.{length-seats}
-use Rattle.pif_boost.specs.Boosts.{local_of}
-use Rattle.pif_kernel.specs.Chained.{Chained, KeepsLevels}
-use Rattle.pif_kernel.specs.Tickets.{is_named}
+use Rattle.pif_owners.specs.States.{owners_in}
+use Rattle.pif_owners.proofs.ViewLemmas.{length-seats}
+use Rattle.pif_owners.specs.Boosts.{local_of}
+use Rattle.pif_kernel_state.specs.Chained.{Chained, KeepsLevels}
+use Rattle.pif_kernel_state.specs.Tickets.{is_named}
 use Rattle.pif_linked.specs.Linked.{IsLinked}
 use Rattle.pif_linked.proofs.ParkSteps.{ticket_admitted, ticket_thread, ticket_node, linked_park, park_owners, park_kept}
 use Rattle.pif_linked.proofs.Standing.{linked}

@@ -1,6 +1,6 @@
 use Rattle.std.proofs.Common.{IfNone, IfSome, subst}
-use Rattle.pif_runq.specs.Levels.{IsEmpty, IsFirstOfGreatest}
-use Rattle.pif_kernel.specs.Chained.{Chained}
+use Rattle.pif_lists.specs.Levels.{IsEmpty, IsFirstOfGreatest}
+use Rattle.pif_kernel_state.specs.Chained.{Chained}
 use Rattle.pif_linked.proofs.linked.LinkedChainsChains.pick.Goals as goal
 
 pub pick-requires : goal.pick-requires

@@ -1,14 +1,14 @@
 use Rattle.std.proofs.Common.{subst, sym, ap, ◌∙◌}
 use Rattle.pif_owners.specs.Owners.{with_base}
-use Rattle.pif_boost.proofs.FrameLemmas.{outside-none}
-use Rattle.pif_kernel.specs.Chained.{Chained}
+use Rattle.pif_owners.proofs.BoostFrameLemmas.{outside-none}
+use Rattle.pif_kernel_state.specs.Chained.{Chained}
 use Rattle.pif_owners.specs.Owners.{Owners}
-use Rattle.pif_rtmutex.specs.States.{States, owners_in}
-use Rattle.pif_queue.specs.Parked.{parked_at}
+use Rattle.pif_owners.specs.States.{States, owners_in}
+use Rattle.pif_owners.specs.Parked.{parked_at}
 use Rattle.pif_linked.specs.Parkings.{parkings_in}
 use Rattle.pif_linked.specs.Linked.{keys_in, FitsParked}
 use Rattle.pif_linked.proofs.Fits.{fits_based}
-use Rattle.pif_rtmutex.proofs.SamePlace.{same_place}
+use Rattle.pif_owners.proofs.SamePlace.{same_place}
 use Rattle.pif_linked.proofs.Standing.{linked_owners}
 use Rattle.pif_linked.proofs.linked.LinkedChainsChains.set_base.Goals as goal
 

@@ -1,9 +1,9 @@
 use Rattle.std.proofs.Common.{IsSome, subst, sym, ap, ◌∙◌}
 use Rattle.pif_owners.specs.Owners.{waits_on, KeepsOrder, with_ticket}
-use Rattle.pif_kernel.specs.Chained.{Chained, KeepsLevels}
-use Rattle.pif_rtmutex.specs.States.{States}
+use Rattle.pif_kernel_state.specs.Chained.{Chained, KeepsLevels}
+use Rattle.pif_owners.specs.States.{States}
 use Rattle.pif_linked.proofs.Standing.{linked, waiting_off, linked_seated, owners_kept}
-use Rattle.pif_rtmutex.proofs.SamePlace.{unmoved}
+use Rattle.pif_owners.proofs.SamePlace.{unmoved}
 use Rattle.pif_linked.proofs.linked.LinkedChainsChains.set_ticket.Goals as goal
 
 pub set_ticket-requires-clause-holds : goal.set_ticket-requires-clause-holds

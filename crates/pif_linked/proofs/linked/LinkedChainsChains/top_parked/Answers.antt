@@ -1,9 +1,9 @@
 use Rattle.std.proofs.Common.{ap, ◌∙◌}
 use Rattle.pif_model.specs.PiKernel.{parked_pairs}
-use Rattle.pif_rtmutex.specs.States.{owners_in}
-use Rattle.pif_boost.specs.Boosts.{local_of}
-use Rattle.pif_kernel.specs.Chained.{Chained}
-use Rattle.pif_kernel.specs.Takings.{first_parked}
+use Rattle.pif_owners.specs.States.{owners_in}
+use Rattle.pif_owners.specs.Boosts.{local_of}
+use Rattle.pif_kernel_state.specs.Chained.{Chained}
+use Rattle.pif_kernel_state.specs.Takings.{first_parked}
 use Rattle.pif_linked.proofs.ParkingLists.{first_seen}
 use Rattle.pif_linked.proofs.linked.LinkedChainsChains.top_parked.Goals as goal
 

@@ -1,8 +1,8 @@
 use Rattle.std.proofs.Common.{◌≡◌, false, Option, Some, None, is_some, option_map, true≢false, refl, subst, sym, ap, ◌∙◌}
-use Rattle.pif_model.specs.PiKernel.{unparked}
-use Rattle.pif_rtmutex.specs.States.{owners_in}
-use Rattle.pif_queue.specs.Parked.{Parked, parked_at}
-use Rattle.pif_kernel.specs.Chained.{Chained, KeepsLevels}
+use Rattle.pif_model.specs.PiKernel.{parkings_without}
+use Rattle.pif_owners.specs.States.{owners_in}
+use Rattle.pif_owners.specs.Parked.{Parked, parked_at}
+use Rattle.pif_kernel_state.specs.Chained.{Chained, KeepsLevels}
 use Rattle.pif_linked.specs.Parkings.{parkings_by, parkings_in}
 use Rattle.pif_linked.proofs.ParkingLemmas.{unpark_parkings, unpark_nobody}
 use Rattle.pif_linked.proofs.Parks.{parked_threads, parked_owners, linked_parked, parked_kept, fits_unpark}
@@ -23,10 +23,10 @@ returns-then-is_some-clause-owners c = parked_owners c.self.inside.owners c.self
 
 pub returns-then-is_some-clause-kept : goal.returns-then-is_some-clause-kept
 returns-then-is_some-clause-kept c =
-    subst (λ (x : Chained). KeepsLevels (record x { parked = unparked x.parked c.args.t })
+    subst (λ (x : Chained). KeepsLevels (record x { parked = parkings_without x.parked c.args.t })
     (linked c.self.inside.owners c.self.inside.queue c.unpark.new.self c.unpark.new.table)) c.self.view_is
     (parked_kept c.self.inside.owners c.self.inside.queue c.self.inside.buckets c.self.inside.table c.self.invariant.stand
-    c.unpark.new.self c.unpark.new.table c.unpark.ensures.place c.unpark.ensures.words c.unpark.ensures.outside c.unpark.ensures.holds (unparked (parkings_in c.self.inside.buckets.parked c.self.inside.table) c.args.t)
+    c.unpark.new.self c.unpark.new.table c.unpark.ensures.place c.unpark.ensures.words c.unpark.ensures.outside c.unpark.ensures.holds (parkings_without (parkings_in c.self.inside.buckets.parked c.self.inside.table) c.args.t)
     (ap (λ n. parkings_by (parked_at c.unpark.new.self.parked c.unpark.new.table) n) (parked_threads c.self.inside.owners c.self.inside.queue c.self.inside.buckets c.self.inside.table c.self.invariant.stand
     c.unpark.new.self c.unpark.new.table c.unpark.ensures.place c.unpark.ensures.words c.unpark.ensures.outside c.unpark.ensures.holds)
     ∙ unpark_parkings (parked_at c.self.inside.buckets.parked c.self.inside.table) (parked_at c.unpark.new.self.parked c.unpark.new.table)
@@ -41,7 +41,7 @@ pub returns-else-is_some-clause-kept : goal.returns-else-is_some-clause-kept
 returns-else-is_some-clause-kept c =
     let none : parked_at c.self.inside.buckets.parked c.self.inside.table c.args.t ≡ None
     = unticketed (parked_at c.self.inside.buckets.parked c.self.inside.table c.args.t) (ap is_some (sym c.ticket.ensures) ∙ sym c.is_some.ensures ∙ c.if-is_some.false) in
-    subst (λ (x : Chained). KeepsLevels (record x { parked = unparked x.parked c.args.t }) x) c.self.view_is
+    subst (λ (x : Chained). KeepsLevels (record x { parked = parkings_without x.parked c.args.t }) x) c.self.view_is
     (record {
       levels = λ p lp. refl;
       queue = refl;

@@ -1,10 +1,10 @@
 use Rattle.std.proofs.Common.{◌≡◌, ◌≤◌, ℕ, true, None, subst, sym, ap, ◌∙◌}
-use Rattle.pif_nodes.specs.Lists.{has}
-use Rattle.pif_runq.specs.Levels.{IsQueued, IsLevel, level_of}
+use Rattle.pif_lists.specs.Lists.{has}
+use Rattle.pif_lists.specs.Levels.{IsQueued, IsLevel, level_of}
 use Rattle.pif_owners.specs.Owners.{Owners, waits_on}
-use Rattle.pif_rtmutex.specs.States.{owners_in}
-use Rattle.pif_boost.specs.Boosts.{IsRepaired, IsRepairedBut, base_of, local_of, level_after_walk}
-use Rattle.pif_kernel.specs.Chained.{Chained}
+use Rattle.pif_owners.specs.States.{owners_in}
+use Rattle.pif_owners.specs.Boosts.{IsRepaired, IsRepairedBut, base_of, local_of, level_after_walk}
+use Rattle.pif_kernel_state.specs.Chained.{Chained}
 use Rattle.pif_linked.proofs.Standing.{stands_before}
 use Rattle.pif_linked.proofs.Walked.{walked_stand, walked_admitted, linked_walked, reranked_owners, reranked_levels, reranked_queue, reranked_keys, reranked_parkings}
 use Rattle.pif_linked.proofs.linked.LinkedChainsChains.walk.Goals as goal

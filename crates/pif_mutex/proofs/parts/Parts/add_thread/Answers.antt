@@ -2,7 +2,7 @@
 use Rattle.std.proofs.Common.{ap, ◌∙◌}
 use Rattle.pif_model.specs.Table.{Table, has_thread_room}
 use Rattle.pif_simulation.proofs.additions.ThreadAdded.{thread_added_sound}
-use Rattle.pif_mutex.proofs.SoundTables.{priority}
+use Rattle.pif_simulation.proofs.events.SoundTables.{priority}
 use Rattle.pif_mutex.proofs.parts.Parts.add_thread.Goals as goal
 
 pub invariant_of-self : goal.invariant_of-self

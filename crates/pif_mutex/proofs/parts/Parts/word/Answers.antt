@@ -2,7 +2,7 @@
 use Rattle.std.proofs.Common.{◌≡◌, ◌<◌, length, true, refl, sym, ap, ◌∙◌, arith}
 use Rattle.pif_model.specs.Word.{bits_of}
 use Rattle.pif_model.specs.Table.{has_mutex, cell_at}
-use Rattle.pif_word.proofs.WordBits.{bits_of-word_of}
+use Rattle.pif_chains.proofs.WordBits.{bits_of-word_of}
 use Rattle.pif_chains.proofs.Numbers.{from_within}
 use Rattle.pif_mutex.proofs.parts.Parts.word.Goals as goal
 

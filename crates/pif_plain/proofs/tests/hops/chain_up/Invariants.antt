@@ -1,7 +1,7 @@
 -- Each thread so far but the first one waits, and each but the last one has a state.
 use Rattle.std.proofs.Common.{◌≡◌, ◌≤◌, ◌+◌, length}
 use Rattle.pif_owners.specs.Owners.{count}
-use Rattle.pif_rtmutex.specs.States.{owners_in}
+use Rattle.pif_owners.specs.States.{owners_in}
 use Rattle.pif_plain.specs.ChainExamples.{StandSettled}
 use Rattle.pif_plain.proofs.tests.hops.chain_up.Given as goal
 

@@ -1,4 +1,4 @@
-use Rattle.pif_rtmutex.specs.States.{owners_in}
+use Rattle.pif_owners.specs.States.{owners_in}
 use Rattle.pif_plain.proofs.HopLemmas.{chain_made}
 use Rattle.pif_plain.proofs.WalkTestLemmas.{state_made}
 use Rattle.pif_plain.proofs.tests.hops.state_of.Goals as goal

@@ -1,6 +1,6 @@
 use Rattle.std.proofs.Common.{◌∙◌, sym, arith}
-use Rattle.pif_rtmutex.specs.States.{owners_in}
-use Rattle.pif_rtmutex.proofs.ViewLemmas.{length-seats, waits_on-owners_in}
+use Rattle.pif_owners.specs.States.{owners_in}
+use Rattle.pif_owners.proofs.ViewLemmas.{length-seats, waits_on-owners_in}
 use Rattle.pif_plain.proofs.TogetherLemmas.{idle}
 use Rattle.pif_plain.proofs.WalkTestLemmas.{free_by_test, off_by_test, enqueued, still_ready, still_running, still_level}
 use Rattle.pif_plain.proofs.HopLemmas.{settled_then, off_then, chain_walked}
@@ -64,4 +64,4 @@ returns-clause-chain c =
     c.walk.result c.walk.new.owners c.walk.new.table c.walk.new.queue
     (off_by_test c.args.queue.now t c.args.t c.level.result c.is_some-else-is_some.result
     c.requires.chain.settled.holds c.level.ensures.level c.is_some-else-is_some.ensures c.if-is_some-2.false)
-    c.walk.ensures
+    c.walk.ensures.done

@@ -1,4 +1,4 @@
-use Rattle.pif_rtmutex.specs.States.{owners_in}
+use Rattle.pif_owners.specs.States.{owners_in}
 use Rattle.pif_plain.proofs.StateTestLemmas.{state_made}
 use Rattle.pif_plain.proofs.tests.linked_states.pass_to_top_waiter.Goals as goal
 

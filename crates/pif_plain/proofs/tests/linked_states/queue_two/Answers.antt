@@ -1,6 +1,6 @@
 use Rattle.std.proofs.Common.{◌≢◌, IsSome, sym, subst, arith}
 use Rattle.pif_owners.specs.Owners.{Owners, owner_at}
-use Rattle.pif_rtmutex.specs.States.{owners_in}
+use Rattle.pif_owners.specs.States.{owners_in}
 use Rattle.pif_plain.proofs.StateTestLemmas.{room, state_made, no_cycle_at_first, no_cycle_then}
 use Rattle.pif_plain.proofs.tests.linked_states.queue_two.Goals as goal
 

@@ -1,7 +1,7 @@
 use Rattle.std.proofs.Common.{◌∙◌, ℕ, IsSome, sym, subst}
 use Rattle.std.specs.Ordering.{nat_cmp}
 use Rattle.std.specs.FinMap.{FinMap, get}
-use Rattle.pif_runq.specs.Levels.{Queue, HasRoom, level_of, level_after_add}
+use Rattle.pif_lists.specs.Levels.{Queue, HasRoom, level_of, level_after_add}
 use Rattle.pif_owners.specs.Owners.{Owners, owner_at}
 use Rattle.pif_boost.specs.Settled.{IsSettled}
 use Rattle.pif_plain.proofs.WalkTestLemmas.{has_room, settled-start, first_there, second_there}

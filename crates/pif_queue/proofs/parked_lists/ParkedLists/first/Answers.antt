@@ -1,8 +1,8 @@
 use Rattle.std.proofs.Common.{◌≡◌, ◌∙◌, ap, arith}
-use Rattle.pif_nodes.specs.Lists.{first_of}
-use Rattle.pif_nodes.specs.Table.{list_at}
-use Rattle.pif_queue.specs.Parked.{ParkedLists, HasNoParked}
-use Rattle.pif_queue.proofs.Firsts.{none-if}
+use Rattle.pif_lists.specs.Lists.{first_of}
+use Rattle.pif_lists.specs.Table.{list_at}
+use Rattle.pif_owners.specs.Parked.{ParkedLists, HasNoParked}
+use Rattle.pif_owners.proofs.Firsts.{none-if}
 use Rattle.pif_queue.proofs.ParkedLemmas.{none-parked, none-past}
 use Rattle.pif_queue.proofs.parked_lists.ParkedLists.first.Goals as goal
 

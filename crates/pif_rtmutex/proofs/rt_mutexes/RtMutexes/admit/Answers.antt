@@ -1,8 +1,8 @@
 use Rattle.std.proofs.Common.{◌≡◌, ◌∙◌, ◌≤◌, ap, sym, subst, None, arith}
-use Rattle.pif_nodes.specs.Table.{NodeLists}
-use Rattle.pif_rtmutex.specs.States.{Row, States, wait_of, owners_in}
-use Rattle.pif_rtmutex.specs.Holds.{HoldsStates}
-use Rattle.pif_rtmutex.proofs.ViewLemmas.{waits_on-owners_in}
+use Rattle.pif_lists.specs.Table.{NodeLists}
+use Rattle.pif_owners.specs.States.{Row, States, wait_of, owners_in}
+use Rattle.pif_owners.specs.Holds.{HoldsStates}
+use Rattle.pif_owners.proofs.ViewLemmas.{waits_on-owners_in}
 use Rattle.pif_rtmutex.proofs.RowLemmas.{seat_of, view-row, holds-row}
 use Rattle.pif_rtmutex.proofs.rt_mutexes.RtMutexes.admit.Goals as goal
 

@@ -1,13 +1,13 @@
 use Rattle.std.proofs.Common.{◌≡◌, ◌∙◌, ◌+◌, ◌<◌, ap, sym, subst, ℕ, Option, Some, None, set, arith}
 use Rattle.std.specs.FinMap.{get}
-use Rattle.pif_nodes.specs.Table.{NodeLists, holder}
+use Rattle.pif_lists.specs.Table.{NodeLists, holder}
 use Rattle.pif_owners.specs.Owners.{with_wait}
-use Rattle.pif_rtmutex.specs.States.{States, row_at, wait_of, wait_node, owners_in}
-use Rattle.pif_rtmutex.specs.Holds.{HoldsWaiters, HoldsTops, HoldsStates, IsToppedBut}
-use Rattle.pif_rtmutex.specs.Frames.{ChangesTops}
-use Rattle.pif_rtmutex.proofs.ViewLemmas.{waits_on-owners_in}
-use Rattle.pif_rtmutex.proofs.WaiterLemmas.{waits-thread}
-use Rattle.pif_rtmutex.proofs.ListChanges.{in-no_list}
+use Rattle.pif_owners.specs.States.{States, row_at, wait_of, wait_node, owners_in}
+use Rattle.pif_owners.specs.Holds.{HoldsWaiters, HoldsTops, HoldsStates, IsToppedBut}
+use Rattle.pif_owners.specs.Frames.{ChangesTops}
+use Rattle.pif_owners.proofs.ViewLemmas.{waits_on-owners_in}
+use Rattle.pif_owners.proofs.WaiterLemmas.{waits-thread}
+use Rattle.pif_owners.proofs.ListChanges.{in-no_list}
 use Rattle.pif_rtmutex.proofs.StepLemmas.{row-list, WaitsAt, waits-at, IsStep, IsDone, done}
 use Rattle.pif_rtmutex.proofs.CallLemmas.{IsCall, dequeued}
 use Rattle.pif_rtmutex.proofs.rt_mutexes.RtMutexes.dequeue.Goals as goal

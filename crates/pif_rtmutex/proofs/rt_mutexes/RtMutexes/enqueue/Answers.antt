@@ -1,16 +1,16 @@
 use Rattle.std.proofs.Common.{◌∙◌, ap, sym, subst, ℕ, Option, Some, set, arith}
 use Rattle.std.specs.FinMap.{get}
-use Rattle.pif_nodes.specs.declared.keys.Key.{Key}
-use Rattle.pif_nodes.specs.Table.{NodeLists}
+use Rattle.pif_lists.specs.declared.keys.Key.{Key}
+use Rattle.pif_lists.specs.Table.{NodeLists}
 use Rattle.pif_owners.specs.Owners.{with_wait}
-use Rattle.pif_rtmutex.specs.States.{States, row_at, owners_in}
-use Rattle.pif_rtmutex.specs.Holds.{HoldsWaiters, HoldsTops, HoldsStates, IsToppedBut}
-use Rattle.pif_rtmutex.specs.Frames.{ChangesTops}
-use Rattle.pif_rtmutex.proofs.ViewLemmas.{length-seats}
+use Rattle.pif_owners.specs.States.{States, row_at, owners_in}
+use Rattle.pif_owners.specs.Holds.{HoldsWaiters, HoldsTops, HoldsStates, IsToppedBut}
+use Rattle.pif_owners.specs.Frames.{ChangesTops}
+use Rattle.pif_owners.proofs.ViewLemmas.{length-seats}
 use Rattle.pif_rtmutex.proofs.StepLemmas.{IsStep, IsDone, done}
 use Rattle.pif_rtmutex.proofs.CallLemmas.{IsCall, enqueued}
 use Rattle.pif_rtmutex.proofs.rt_mutexes.RtMutexes.enqueue.Goals as goal
-use Rattle.pif_plist.specs.Order.{table_after_insert}
+use Rattle.pif_lists.specs.Order.{table_after_insert}
 
 pub wait_node-node-requires : goal.wait_node-node-requires
 wait_node-node-requires c =

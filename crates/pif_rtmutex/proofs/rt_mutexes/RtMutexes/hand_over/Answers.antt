@@ -1,15 +1,15 @@
 use Rattle.std.proofs.Common.{◌≡◌, ◌∙◌, ◌+◌, ◌<◌, ap, sym, refl, subst, ℕ, Option, Some, None, IsSome, set, arith}
 use Rattle.std.specs.FinMap.{get, insert}
-use Rattle.pif_nodes.specs.Table.{NodeLists, holder}
+use Rattle.pif_lists.specs.Table.{NodeLists, holder}
 use Rattle.pif_owners.specs.Owners.{with_wait, with_owner}
 use Rattle.pif_owners.proofs.MapLemmas.{get-insert_same}
-use Rattle.pif_rtmutex.specs.States.{States, IsThread, row_at, wait_node, first_waiter, owners_in, with_owner_of}
-use Rattle.pif_rtmutex.specs.Holds.{HoldsWaiters, HoldsTops, HoldsStates, IsToppedBut}
-use Rattle.pif_rtmutex.specs.Frames.{ChangesTops}
-use Rattle.pif_rtmutex.proofs.ViewLemmas.{waits_on-owners_in}
-use Rattle.pif_rtmutex.proofs.WaiterLemmas.{StandsFirst, stands-first}
+use Rattle.pif_owners.specs.States.{States, IsThread, row_at, wait_node, first_waiter, owners_in, with_owner_of}
+use Rattle.pif_owners.specs.Holds.{HoldsWaiters, HoldsTops, HoldsStates, IsToppedBut}
+use Rattle.pif_owners.specs.Frames.{ChangesTops}
+use Rattle.pif_owners.proofs.ViewLemmas.{waits_on-owners_in}
+use Rattle.pif_owners.proofs.WaiterLemmas.{StandsFirst, stands-first}
 use Rattle.pif_rtmutex.proofs.ReadLemmas.{waited-first, first-state, first-top}
-use Rattle.pif_rtmutex.proofs.ListChanges.{in-no_list}
+use Rattle.pif_owners.proofs.ListChanges.{in-no_list}
 use Rattle.pif_rtmutex.proofs.StepLemmas.{row-list, WaitsAt, waits-at, IsStep, IsDone, done}
 use Rattle.pif_rtmutex.proofs.CallLemmas.{IsCall, handed}
 use Rattle.pif_rtmutex.proofs.rt_mutexes.RtMutexes.hand_over.Goals as goal

@@ -1,7 +1,7 @@
 use Rattle.std.proofs.Common.{◌≡◌, ◌∙◌, ap, sym, unwrap_or, max, arith}
 use Rattle.pif_owners.specs.Owners.{Seat, seat_at}
-use Rattle.pif_rtmutex.specs.States.{Row, row_at, owners_in}
-use Rattle.pif_rtmutex.proofs.ViewLemmas.{length-seats, seat_at-owners_in}
+use Rattle.pif_owners.specs.States.{Row, row_at, owners_in}
+use Rattle.pif_owners.proofs.ViewLemmas.{length-seats, seat_at-owners_in}
 use Rattle.pif_rtmutex.proofs.rt_mutexes.RtMutexes.maximum.Goals as goal
 
 pub greatest_top-requires-clause-row : goal.greatest_top-requires-clause-row

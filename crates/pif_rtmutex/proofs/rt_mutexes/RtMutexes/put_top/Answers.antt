@@ -1,14 +1,14 @@
 use Rattle.std.proofs.Common.{◌≡◌, ◌∙◌, ap, sym, subst, ℕ, Some, None, arith}
-use Rattle.pif_nodes.specs.Table.{NodeLists, key_at, holder}
-use Rattle.pif_rtmutex.specs.States.{States, IsThread, IsOwnList, wait_node, top_node, top_list, first_waiter}
-use Rattle.pif_rtmutex.specs.Holds.{IsRankedTop}
-use Rattle.pif_nodes.specs.declared.keys.Key.{Key}
+use Rattle.pif_lists.specs.Table.{NodeLists, key_at, holder}
+use Rattle.pif_owners.specs.States.{States, IsThread, IsOwnList, wait_node, top_node, top_list, first_waiter}
+use Rattle.pif_owners.specs.Holds.{IsRankedTop}
+use Rattle.pif_lists.specs.declared.keys.Key.{Key}
 use Rattle.std.proofs.lemmas.List.{get_or-set_same}
-use Rattle.pif_nodes.specs.Table.{no_key}
-use Rattle.pif_plist.specs.Order.{IsSorted}
-use Rattle.pif_rtmutex.specs.Frames.{ChangesList, ChangesTops}
-use Rattle.pif_rtmutex.proofs.WaiterLemmas.{StandsFirst, stands-first}
-use Rattle.pif_rtmutex.proofs.ListChanges.{changes-inserted, changes-as, in-list, tops-changed}
+use Rattle.pif_lists.specs.Table.{no_key}
+use Rattle.pif_lists.specs.Order.{IsSorted}
+use Rattle.pif_owners.specs.Frames.{ChangesList, ChangesTops}
+use Rattle.pif_owners.proofs.WaiterLemmas.{StandsFirst, stands-first}
+use Rattle.pif_owners.proofs.ListChanges.{changes-inserted, changes-as, in-list, tops-changed}
 use Rattle.pif_rtmutex.proofs.TopLemmas.{tops-put, but_nobody, top-free}
 use Rattle.pif_rtmutex.proofs.rt_mutexes.RtMutexes.put_top.Goals as goal
 

@@ -1,14 +1,14 @@
 use Rattle.std.proofs.Common.{◌≡◌, ◌∙◌, ap, sym, refl, subst, ℕ, Option, Some, arith}
-use Rattle.pif_nodes.specs.Table.{NodeLists, holder}
+use Rattle.pif_lists.specs.Table.{NodeLists, holder}
 use Rattle.pif_owners.specs.Owners.{with_prio}
-use Rattle.pif_rtmutex.specs.States.{States, wait_of, owners_in}
-use Rattle.pif_rtmutex.specs.Holds.{IsToppedBut}
-use Rattle.pif_rtmutex.proofs.ViewLemmas.{waits_on-owners_in}
-use Rattle.pif_rtmutex.proofs.WaiterLemmas.{waits-thread}
+use Rattle.pif_owners.specs.States.{States, wait_of, owners_in}
+use Rattle.pif_owners.specs.Holds.{IsToppedBut}
+use Rattle.pif_owners.proofs.ViewLemmas.{waits_on-owners_in}
+use Rattle.pif_owners.proofs.WaiterLemmas.{waits-thread}
 use Rattle.pif_rtmutex.proofs.StepLemmas.{row-list, WaitsAt, waits-at, IsStep, IsDone, done}
 use Rattle.pif_rtmutex.proofs.CallLemmas.{IsCall, rekeyed}
 use Rattle.pif_rtmutex.proofs.rt_mutexes.RtMutexes.rekey.Goals as goal
-use Rattle.pif_plist.specs.Order.{table_after_insert, table_after_remove, key_with_prio}
+use Rattle.pif_lists.specs.Order.{table_after_insert, table_after_remove, key_with_prio}
 
 pub wait_node-node-requires : goal.wait_node-node-requires
 wait_node-node-requires c =

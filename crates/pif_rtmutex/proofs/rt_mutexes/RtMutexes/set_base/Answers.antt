@@ -1,9 +1,9 @@
 use Rattle.std.proofs.Common.{◌≡◌, ◌∙◌, ◌≤◌, ap, sym, subst, arith}
-use Rattle.pif_nodes.specs.Table.{NodeLists}
+use Rattle.pif_lists.specs.Table.{NodeLists}
 use Rattle.pif_owners.specs.Owners.{Seat, seat_at}
-use Rattle.pif_rtmutex.specs.States.{Row, States, row_at, owners_in}
-use Rattle.pif_rtmutex.specs.Holds.{HoldsStates}
-use Rattle.pif_rtmutex.proofs.ViewLemmas.{seat_at-owners_in}
+use Rattle.pif_owners.specs.States.{Row, States, row_at, owners_in}
+use Rattle.pif_owners.specs.Holds.{HoldsStates}
+use Rattle.pif_owners.proofs.ViewLemmas.{seat_at-owners_in}
 use Rattle.pif_rtmutex.proofs.RowLemmas.{seat_of, view-row, holds-row}
 use Rattle.pif_rtmutex.proofs.rt_mutexes.RtMutexes.set_base.Goals as goal
 

@@ -1,8 +1,8 @@
 use Rattle.std.proofs.Common.{◌≡◌, ◌∙◌, ap, sym, refl, subst, Some, IsSome, arith}
 use Rattle.std.specs.FinMap.{get}
 use Rattle.pif_rtmutex.specs.Fields.{State}
-use Rattle.pif_rtmutex.specs.States.{States}
-use Rattle.pif_rtmutex.specs.States.{with_owner_of}
+use Rattle.pif_owners.specs.States.{States}
+use Rattle.pif_owners.specs.States.{with_owner_of}
 use Rattle.pif_rtmutex.specs.Fields.{slab_with}
 use Rattle.slab.specs.Slab.{Slab, with_value}
 use Rattle.slab.specs.Slab.{get as value_at}

@@ -3,7 +3,7 @@ use Rattle.std.proofs.lemmas.Bool.Decides.{Decides-eqb}
 use Rattle.std.proofs.lemmas.List.{nil_from_length, take_rest}
 use Rattle.std.proofs.lemmas.Result.{err_from_is_err_and}
 use Rattle.pif_scripts.specs.Scanners.{scan_of}
-use Rattle.pif_scripts.proofs.FeedLemmas.{Feeding-start, Feeding-flushed, Feeding-some, Feeding-unwritten, Feeds-end, Feeds-stopped, Feeds-unheard}
+use Rattle.pif_script_model.proofs.FeedLemmas.{Feeding-start, Feeding-flushed, Feeding-some, Feeding-unwritten, Feeds-end, Feeds-stopped, Feeds-unheard}
 use Rattle.pif_scripts.proofs.reading.script.feed.Goals as goal
 
 pub loop-rest-init : goal.loop-rest-init

@@ -1,6 +1,6 @@
 use Rattle.std.proofs.Common.{◌≡◌, ◌+◌, length}
 use Rattle.pif_scripts.specs.Scanners.{scan_of}
-use Rattle.pif_scripts.proofs.FeedLemmas.{Feeding}
+use Rattle.pif_script_model.proofs.FeedLemmas.{Feeding}
 use Rattle.pif_scripts.proofs.reading.script.feed.Given as goal
 
 abbrev pub invariant-loop-rest : goal.invariant-loop-rest

@@ -1,8 +1,8 @@
 use Rattle.std.proofs.lemmas.Result.{err_from_is_err_and}
 use Rattle.std.proofs.Common.{Err, Ok}
-use Rattle.pif_scripts.specs.Scripts.{start}
+use Rattle.pif_script_model.specs.Scripts.{start}
 use Rattle.pif_scripts.specs.Scanners.{scan_of}
-use Rattle.pif_scripts.proofs.RunLemmas.{Goes-start, Goes-more, Goes-ends}
+use Rattle.pif_script_model.proofs.RunLemmas.{Goes-start, Goes-more, Goes-ends}
 use Rattle.pif_scripts.proofs.reading.script.read_script.Goals as goal
 
 pub loop-scanner-init : goal.loop-scanner-init

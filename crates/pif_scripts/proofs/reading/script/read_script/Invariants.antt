@@ -1,6 +1,6 @@
 use Rattle.std.proofs.Common.{◌≡◌, ◌-◌, ℕ, List, Ok}
 use Rattle.std.specs.Io.KnownBytes.{Appends, Consumes}
-use Rattle.pif_scripts.specs.Scripts.{start, reading_of}
+use Rattle.pif_script_model.specs.Scripts.{start, reading_of}
 use Rattle.pif_scripts.specs.Scanners.{scan_of}
 use Rattle.pif_scripts.proofs.reading.script.read_script.Given as goal
 

@@ -1,5 +1,5 @@
 use Rattle.std.proofs.Common.{◌∙◌}
-use Rattle.pif_scripts.proofs.RunLemmas.{Stops-unwritten}
+use Rattle.pif_script_model.proofs.RunLemmas.{Stops-unwritten}
 use Rattle.pif_scripts.proofs.reading.script.stop.Goals as goal
 
 pub returns-in-Err : goal.returns-in-Err

@@ -1,8 +1,8 @@
 use Rattle.std.proofs.Common.{take, arith}
 use Rattle.std.proofs.lemmas.Result.{err_from_is_err_and}
 use Rattle.pif_scripts.specs.Scanners.{scan_of}
-use Rattle.pif_scripts.proofs.RunLemmas.{RunsFrom-read_failed, RunsPart-closed}
-use Rattle.pif_scripts.proofs.FeedLemmas.{RunsFrom-fed}
+use Rattle.pif_script_model.proofs.RunLemmas.{RunsFrom-read_failed, RunsPart-closed}
+use Rattle.pif_script_model.proofs.FeedLemmas.{RunsFrom-fed}
 use Rattle.pif_scripts.proofs.reading.script.turn.Goals as goal
 
 pub returns-in-Err-clause-answer : goal.returns-in-Err-clause-answer

@@ -1,6 +1,6 @@
 use Rattle.std.proofs.Common.{[], sym, append-nil, arith}
 use Rattle.std.proofs.lemmas.Grind.{common_steps}
-use Rattle.pif_scripts.specs.Traces.{second_line_meaning}
+use Rattle.pif_script_model.specs.Traces.{second_line_meaning}
 use Rattle.pif_scripts.proofs.replaying.ReplayedListener.open.Goals as goal
 
 pub returns-in-Ok-clause-answer : goal.returns-in-Ok-clause-answer

@@ -1,11 +1,11 @@
 use Rattle.std.proofs.Common.{refl, sym, ◌∙◌}
-use Rattle.pif_scripts.proofs.TranscriptLemmas.{retold-no_command, Hears-done, Hears-limits}
+use Rattle.pif_script_model.proofs.TranscriptLemmas.{with_text-no_command, Hears-done, Hears-limits}
 use Rattle.pif_scripts.proofs.transcribing.TranscribingListener.hear.Goals as goal
 use Rattle.pif_scripts.proofs.transcribing.TranscribingListener.hear.Goals.{in-Some-transcribe, in-None}
 
 pub returns-in_default-clause-answer : goal.returns-in_default-clause-answer
 returns-in_default-clause-answer c =
-    (retold-no_command c.args.self.now c.args.line.now (sym c.command_of.ensures ∙ c.in_default.is), refl)
+    (with_text-no_command c.args.self.now c.args.line.now (sym c.command_of.ensures ∙ c.in_default.is), refl)
 
 pub returns-clause-answer : goal.returns-clause-answer
 returns-clause-answer c =

@@ -1,6 +1,6 @@
 use Rattle.std.proofs.Common.{refl, sym, subst, ◌∙◌}
-use Rattle.pif_scripts.specs.Transcripts.{Transcribed}
-use Rattle.pif_scripts.proofs.TranscriptLemmas.{Opens-no_command, Opens-limits, Opens-no_memory, Opens-done}
+use Rattle.pif_script_model.specs.Transcripts.{Transcribed}
+use Rattle.pif_script_model.proofs.TranscriptLemmas.{Opens-no_command, Opens-limits, Opens-no_memory, Opens-done}
 use Rattle.pif_scripts.proofs.transcribing.TranscribingListener.open.Goals as goal
 
 pub returns-in_default-clause-answer : goal.returns-in_default-clause-answer

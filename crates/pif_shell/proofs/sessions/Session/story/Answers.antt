@@ -1,5 +1,5 @@
 use Rattle.std.proofs.Common.{◌≤◌, arith, length}
-use Rattle.pif_scripts.specs.CommandLines.{script_lines}
+use Rattle.pif_script_model.specs.CommandLines.{script_lines}
 use Rattle.pif_shell.proofs.RunLemmas.{lines_fit}
 use Rattle.pif_shell.proofs.sessions.Session.story.Goals as goal
 

@@ -1,9 +1,9 @@
 use Rattle.std.proofs.Common.{◌≡◌, ◌==◌, if◌then◌else◌, refl, sym, ap, subst, ◌∙◌, Ok, Err, arith, [], append-nil}
-use Rattle.pif_text.specs.Traces.{version_in}
+use Rattle.pif_text_model.specs.Traces.{version_in}
 use Rattle.std.proofs.lemmas.Result.{err_from_is_err_and}
 use Rattle.pif_scripts.specs.Scanners.{scan_of}
-use Rattle.pif_scripts.specs.Scripts.{Answers}
-use Rattle.pif_scripts.proofs.ScriptLemmas.{byte_taken-size, byte_taken-long, byte_taken-byte, byte_taken-answered, Takes-from_answer}
+use Rattle.pif_script_model.specs.Scripts.{Answers}
+use Rattle.pif_script_model.proofs.ScriptLemmas.{byte_taken-size, byte_taken-long, byte_taken-byte, byte_taken-answered, Takes-from_answer}
 use Rattle.pif_scripts.proofs.reading.scanner.Scanner.take.Goals as goal
 
 pub returns-then-self-ge-MOST_BYTES-clause-answer : goal.returns-then-self-ge-MOST_BYTES-clause-answer

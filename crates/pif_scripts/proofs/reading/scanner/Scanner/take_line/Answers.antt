@@ -1,5 +1,5 @@
 use Rattle.pif_scripts.specs.Scanners.{scan_of}
-use Rattle.pif_scripts.proofs.LineLemmas.{TakesSome-line, TakesSome-unheard}
+use Rattle.pif_script_model.proofs.LineLemmas.{TakesSome-line, TakesSome-unheard}
 use Rattle.pif_scripts.proofs.reading.scanner.Scanner.take_line.Goals as goal
 
 pub returns-in-Err-clause-answer : goal.returns-in-Err-clause-answer

@@ -1,7 +1,7 @@
 use Rattle.std.proofs.Common.{arith}
 use Rattle.std.proofs.lemmas.Result.{err_from_is_err_and}
 use Rattle.pif_scripts.specs.Scanners.{scan_of}
-use Rattle.pif_scripts.proofs.LineLemmas.{TakesSome-plain, TakesSome-byte, TakesSome-ended}
+use Rattle.pif_script_model.proofs.LineLemmas.{TakesSome-plain, TakesSome-byte, TakesSome-ended}
 use Rattle.pif_scripts.proofs.reading.scanner.Scanner.take_part.Goals as goal
 
 pub returns-then-plain-self-clause-answer : goal.returns-then-plain-self-clause-answer

@@ -1,0 +1,10 @@
+pub mod Inside
+pub mod Codes
+pub mod Leaving
+pub mod Tickets
+pub mod Systems
+pub mod Takings
+pub mod Orders
+pub mod Chained
+pub mod Fields
+pub mod Opened

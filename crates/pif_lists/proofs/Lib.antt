@@ -1,0 +1,11 @@
+pub mod ListLemmas
+pub mod OrderLemmas
+pub mod InsertLemmas
+pub mod WalkLemmas
+pub mod SameOrder
+pub mod LevelLemmas
+pub mod LevelWithLemmas
+pub mod KeptLemmas
+pub mod Places
+pub mod EmptyTables
+pub mod FreeNodes

@@ -1,0 +1,5 @@
+pub mod Lists
+pub mod Table
+pub mod Order
+pub mod Masks
+pub mod Levels

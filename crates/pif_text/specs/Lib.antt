@@ -1,7 +1,0 @@
-pub mod CommandTexts
-pub mod Commands
-pub mod Numbers
-pub mod Questions
-pub mod Replies
-pub mod Traces
-pub mod Words

@@ -1,0 +1,12 @@
+pub mod Extending
+pub mod Splits
+pub mod Numerals
+pub mod Marks
+pub mod Names
+pub mod Yields
+pub mod Plain
+pub mod QuestionLemmas
+pub mod Written
+pub mod ReadBack
+pub mod PlainTexts
+pub mod Versions
