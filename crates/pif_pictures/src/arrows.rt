@@ -38,25 +38,25 @@ pub fn draw_hand_over(
     );
 }
 
-/// Draws that the thread which acts by a command woke this one; nothing if it is the same, as behind a deadline.
-pub fn draw_waking(row: &Row<'_>, woken: Tid, moment: Moment, plan: &Plan, out: &mut Page) {
+/// Draws that the thread which acts by a command signalled this one; nothing if it is the same, as behind a deadline.
+pub fn draw_signal(row: &Row<'_>, parked: Tid, moment: Moment, plan: &Plan, out: &mut Page) {
     if let Some(actor) = row.actor() {
-        if actor.get() != woken.get() {
-            draw_wake(actor, woken, moment, plan, out);
+        if actor.get() != parked.get() {
+            draw_signalled(actor, parked, moment, plan, out);
         }
     }
 }
 
-/// Draws that a thread woke another.
-fn draw_wake(actor: Tid, woken: Tid, moment: Moment, plan: &Plan, out: &mut Page) {
+/// Draws that a thread signalled another, which wakes or moves to the waiters of its mutex.
+fn draw_signalled(actor: Tid, parked: Tid, moment: Moment, plan: &Plan, out: &mut Page) {
     let x = plan.x(moment.column).saturating_add(7);
     let start = plan.band(actor).saturating_add(7);
-    let end = plan.band(woken).saturating_add(7);
+    let end = plan.band(parked).saturating_add(7);
     out.fill(
-        "<g><title>t{} wakes t{}, line {}</title>",
-        &[actor.get(), woken.get(), moment.line],
+        "<g><title>t{} signals t{}, line {}</title>",
+        &[actor.get(), parked.get(), moment.line],
     );
-    draw_shaft("woken", x, start, end, out);
+    draw_shaft("signal", x, start, end, out);
     out.words("</g>\n");
 }
 

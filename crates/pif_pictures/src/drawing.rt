@@ -107,11 +107,12 @@ impl Watch for Drawing {
 fn draw_column(row: &Row<'_>, now: Moment, plan: &Plan, out: &mut Page) {
     let x = plan.x(now.column);
     let (top, axis) = (plan.top(), plan.axis());
-    out.fill(
-        "<path class=\"grid\" d=\"M{} {}V{}v6\"/><g>",
-        &[x, top, axis],
-    );
+    out.words("<g>");
     write_line(row, out);
+    out.fill(
+        "<path class=\"grid\" d=\"M{} {}V{}v6\"/><path class=\"reach\" d=\"M{} {}V{}\"/>",
+        &[x, top, axis, x, top, axis],
+    );
     out.fill(
         "<text class=\"line\" x=\"{}\" y=\"{}\">{}</text>",
         &[x, top.saturating_sub(6), row.line],

@@ -57,7 +57,7 @@ fn write_threads(core: &Core, out: &mut Page) {
 fn write_thread(core: &Core, thread: Tid, out: &mut Page) {
     let number = thread.get();
     match level_of(core, thread) {
-        Some(level) => write_level(number, level, out),
+        Some(level) => write_level(core, thread, level, out),
         None => out.fill(
             "  t{} [label=\"t{}\\nended\" style=dashed]\n",
             &[number, number],
@@ -65,21 +65,24 @@ fn write_thread(core: &Core, thread: Tid, out: &mut Page) {
     }
 }
 
-/// Writes the node of a thread of this number with its priorities; one that is boosted is filled.
-fn write_level(number: u32, level: Level, out: &mut Page) {
-    let (effective, base) = (level.effective, level.base);
+/// Writes the node of a thread with its priorities, and whether it is stopped; one that is boosted is filled.
+fn write_level(core: &Core, thread: Tid, level: Level, out: &mut Page) {
+    let (number, is_boosted) = (thread.get(), level.effective > level.base);
     out.fill(
         "  t{} [label=\"t{}\\npriority {}",
-        &[number, number, effective],
+        &[number, number, level.effective],
     );
-    if effective > base {
-        out.fill(
-            " (base {})\" style=filled fillcolor=\"#ffb08a\"]\n",
-            &[base],
-        );
-    } else {
-        out.words("\"]\n");
+    if is_boosted {
+        out.fill(" (base {})", &[level.base]);
     }
+    if let Some(Status::Stopped) = core.status(thread) {
+        out.words("\\nstopped");
+    }
+    out.words(if is_boosted {
+        "\" style=filled fillcolor=\"#ffb08a\"]\n"
+    } else {
+        "\"]\n"
+    });
 }
 
 /// Writes a node for each mutex that is held, and an edge from it to its owner.

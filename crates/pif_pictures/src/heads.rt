@@ -4,6 +4,9 @@ use crate::sheets::Sheet;
 use crate::styles::{LEGEND, STYLE};
 use pif_types::Tid;
 
+/// After how many columns the names of the lanes are shown again.
+const REPEAT: u32 = 24;
+
 /// Writes a drawing: what it is, the legend, the lanes, and what was drawn in them.
 pub fn write_drawing(plan: &Plan, sheet: &Sheet, out: &mut Page) {
     write_head(plan, out);
@@ -11,6 +14,7 @@ pub fn write_drawing(plan: &Plan, sheet: &Sheet, out: &mut Page) {
     out.words("<rect class=\"page\" width=\"100%\" height=\"100%\"/>\n");
     out.words(LEGEND);
     write_lanes(plan, out);
+    write_names(plan, out);
     out.copy(&sheet.columns);
     out.copy(&sheet.bands);
     out.copy(&sheet.bars);
@@ -51,11 +55,55 @@ fn write_lane(thread: Tid, plan: &Plan, out: &mut Page) {
         "<rect class=\"odd\""
     });
     out.fill(
-        " y=\"{}\" width=\"{}\" height=\"{}\"/>",
-        &[plan.lane(thread), plan.lane_end(), plan.lane_height()],
+        " y=\"{}\" width=\"{}\" height=\"{}\"><title>t{}</title></rect>",
+        &[
+            plan.lane(thread),
+            plan.lane_end(),
+            plan.lane_height(),
+            number,
+        ],
     );
     out.fill(
         "<text class=\"name\" x=\"10\" y=\"{}\">t{}</text>\n",
         &[plan.band(thread).saturating_add(13), number],
     );
+}
+
+/// Writes the names of the lanes again above some of the columns, if there are many columns.
+fn write_names(plan: &Plan, out: &mut Page) {
+    let repeats = plan.columns.saturating_sub(1) / REPEAT;
+    if repeats > 0 {
+        out.words("<defs><g id=\"names\">");
+        write_small_names(plan, out);
+        out.words("</g></defs>");
+        repeat_names(repeats, plan, out);
+    }
+}
+
+/// Writes the names of the lanes as they stand above the first column.
+fn write_small_names(plan: &Plan, out: &mut Page) {
+    for number in 1..=plan.threads {
+        if let Some(thread) = Tid::new(number) {
+            out.fill(
+                "<text class=\"again\" x=\"{}\" y=\"{}\">t{}</text>",
+                &[
+                    plan.x(0).saturating_add(20),
+                    plan.lane(thread).saturating_add(10),
+                    number,
+                ],
+            );
+        }
+    }
+}
+
+/// Shows the names so many times, above each 24th column behind the first.
+fn repeat_names(repeats: u32, plan: &Plan, out: &mut Page) {
+    for place in 1..=repeats {
+        let columns = place.saturating_mul(REPEAT);
+        out.fill(
+            "<use href=\"#names\" x=\"{}\"/>",
+            &[plan.length(0, columns)],
+        );
+    }
+    out.words("\n");
 }

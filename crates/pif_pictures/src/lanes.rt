@@ -1,4 +1,4 @@
-use crate::arrows::draw_waking;
+use crate::arrows::draw_signal;
 use crate::levels::{Level, draw_change, draw_level, level_of};
 use crate::looks::{Look, hue, look_of};
 use crate::pages::Page;
@@ -89,7 +89,7 @@ impl Lane {
         }
     }
 
-    /// Draws how the thread came to do this: that another woke it, or that it ended.
+    /// Draws how the thread came to do this: that another signalled it, or that it ended.
     fn draw_turn(
         &self,
         look: &Look,
@@ -98,8 +98,8 @@ impl Lane {
         plan: &Plan,
         sheet: &mut Sheet,
     ) {
-        if self.look.is_woken(look) {
-            draw_waking(row, self.thread, moment, plan, &mut sheet.arrows);
+        if self.look.is_signalled(look) {
+            draw_signal(row, self.thread, moment, plan, &mut sheet.arrows);
         } else if *look == Look::Ended {
             draw_end(self.thread, moment, plan, &mut sheet.bands);
         }

@@ -83,8 +83,8 @@ impl Look {
         }
     }
 
-    /// Whether a thread that did this was woken by another if it does that now.
-    pub fn is_woken(&self, now: &Look) -> bool {
+    /// Whether a thread that did this was signalled, or its deadline reached, if it does that now.
+    pub fn is_signalled(&self, now: &Look) -> bool {
         match (self, now) {
             (Look::Parked(_), Look::Parked(_) | Look::Ended) => false,
             (Look::Parked(_), _) => true,

@@ -4,17 +4,17 @@ pub const STYLE: &str = "<style>\
     .page{fill:#fff}\
     .odd{fill:#f6f8fa}.even{fill:#fff}\
     .grid{stroke:#d1d9e0;fill:none}\
-    .line{font-size:9px;fill:#818b98;text-anchor:middle}\
+    .line{font-size:9px;fill:#59636e;text-anchor:middle}\
     .name{font-size:14px;font-weight:700}\
     .words{font:11px ui-monospace,SFMono-Regular,Menlo,Consolas,'DejaVu Sans Mono',monospace}\
-    .answer{fill:#818b98}\
+    .answer{fill:#59636e}\
     .runs{fill:#1f2328}.on-runs{fill:#fff;font-size:10px}\
     .ready{fill:#fff;stroke:#818b98}.on-ready{fill:#59636e;font-size:10px}\
-    .waits{fill:currentColor;fill-opacity:.2;stroke:currentColor;stroke-dasharray:4 3}\
+    .waits{fill:currentColor;fill-opacity:.08;stroke:currentColor;stroke-dasharray:4 3}\
     .on-waits{fill:currentColor;font-size:10px;font-weight:700}\
-    .parked{fill:#d1d9e0;stroke:#818b98;stroke-dasharray:1 3}.on-parked{fill:#59636e;font-size:10px}\
-    .stopped{fill:#818b98}.on-stopped{fill:#fff;font-size:10px}\
-    .end{stroke:#1f2328;stroke-width:2;fill:none}.on-ended{fill:#818b98;font-size:10px}\
+    .parked{fill:#d1d9e0;stroke:#818b98;stroke-dasharray:1 3}.on-parked{fill:#424a53;font-size:10px}\
+    .stopped{fill:#59636e}.on-stopped{fill:#fff;font-size:10px}\
+    .end{stroke:#1f2328;stroke-width:2;fill:none}.on-ended{fill:#59636e;font-size:10px}\
     .bar{fill:currentColor}.on-bar{fill:#fff;font-size:8px;font-weight:700}\
     .level{stroke:#59636e;stroke-width:1.5;fill:none}\
     .boosted{stroke:#e5440b;stroke-width:2.5}\
@@ -23,10 +23,12 @@ pub const STYLE: &str = "<style>\
     .number{font-size:9px;fill:#59636e}.hot{fill:#c93a00;font-weight:700}\
     .halo{stroke:#fff;stroke-width:5;stroke-opacity:.8;fill:none}\
     .given{stroke:currentColor;stroke-width:2;fill:none}.given-head,.tail{fill:currentColor}\
-    .woken{stroke:#1f2328;stroke-width:1.5;stroke-dasharray:3 2;fill:none}.woken-head{fill:#1f2328}\
+    .signal{stroke:#1f2328;stroke-width:1.5;stroke-dasharray:3 2;fill:none}.signal-head{fill:#1f2328}\
     .actor{fill:#1f2328;stroke:#fff;stroke-width:1.5}\
-    .h0{color:#1f6feb}.h1{color:#1a7f37}.h2{color:#8250df}.h3{color:#0b7c8a}\
-    .h4{color:#bf3989}.h5{color:#7d5f00}.h6{color:#3d4fb5}.h7{color:#4d7a00}\
+    .reach{stroke:#000;stroke-opacity:0;stroke-width:14;fill:none}\
+    .again{font-size:10px;font-weight:700;fill:#59636e}\
+    .h0{color:#1c65d6}.h1{color:#197a35}.h2{color:#7c4cd4}.h3{color:#0a7582}\
+    .h4{color:#b53682}.h5{color:#7d5f00}.h6{color:#3d4fb5}.h7{color:#4b7600}\
     @media (prefers-color-scheme:dark){\
     text{fill:#e6edf3}\
     .page{fill:#0d1117}\
@@ -35,7 +37,7 @@ pub const STYLE: &str = "<style>\
     .line,.answer,.on-ended{fill:#8b949e}\
     .runs{fill:#e6edf3}.on-runs{fill:#0d1117}\
     .ready{fill:#0d1117;stroke:#8b949e}.on-ready{fill:#b1bac4}\
-    .waits{fill-opacity:.25}\
+    .waits{fill-opacity:.2}\
     .on-waits{fill:currentColor}\
     .parked{fill:#2f3742;stroke:#8b949e}.on-parked{fill:#b1bac4}\
     .stopped{fill:#57606a}.on-stopped{fill:#fff}\
@@ -44,9 +46,9 @@ pub const STYLE: &str = "<style>\
     .level,.base{stroke:#b1bac4}\
     .boosted{stroke:#ff8a4c}\
     .boost{fill:#ff7b39;fill-opacity:.4}\
-    .number{fill:#b1bac4}.hot{fill:#ffa36e}\
+    .number,.again{fill:#b1bac4}.hot{fill:#ffa36e}\
     .halo{stroke:#0d1117}\
-    .woken{stroke:#e6edf3}.woken-head{fill:#e6edf3}\
+    .signal{stroke:#e6edf3}.signal-head{fill:#e6edf3}\
     .actor{fill:#e6edf3;stroke:#0d1117}\
     .h0{color:#58a6ff}.h1{color:#3fb950}.h2{color:#bc8cff}.h3{color:#39c5cf}\
     .h4{color:#f778ba}.h5{color:#d4a72c}.h6{color:#91a7ff}.h7{color:#a5d63a}\
@@ -73,6 +75,6 @@ pub const LEGEND: &str = "\
     <path class=\"level\" d=\"M262 7h30\"/><text x=\"298\" y=\"11\">priority</text>\
     <g class=\"h0\"><circle class=\"tail\" cx=\"360\" cy=\"1\" r=\"3\"/><path class=\"given\" d=\"M360 1v9\"/>\
     <path class=\"given-head\" d=\"M356 9h8l-4 6z\"/></g><text x=\"370\" y=\"11\">handed over</text>\
-    <path class=\"woken\" d=\"M452 0v10\"/><path class=\"woken-head\" d=\"M448 9h8l-4 6z\"/>\
-    <text x=\"462\" y=\"11\">woken</text>\
-    <circle class=\"actor\" cx=\"514\" cy=\"7\" r=\"4\"/><text x=\"524\" y=\"11\">acts</text></g>\n";
+    <path class=\"signal\" d=\"M452 0v10\"/><path class=\"signal-head\" d=\"M448 9h8l-4 6z\"/>\
+    <text x=\"462\" y=\"11\">signalled</text>\
+    <circle class=\"actor\" cx=\"530\" cy=\"7\" r=\"4\"/><text x=\"540\" y=\"11\">acts</text></g>\n";

@@ -6,10 +6,10 @@ use std::io;
 use std::io::{ErrorKind, Read, Write};
 use std::process::Abort;
 
-/// Keeps what is written, up to 16,384 bytes, and allocates nothing.
+/// Keeps what is written, up to 32,768 bytes, and allocates nothing.
 #[derive(Drop)]
 pub struct Kept {
-    bytes: ArrayVec<u8, 16384>,
+    bytes: ArrayVec<u8, 32768>,
 }
 
 impl Kept {

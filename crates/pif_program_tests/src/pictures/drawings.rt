@@ -98,23 +98,23 @@ fn bars_and_arrows_show_a_hand_over(rt: HostRuntime) {
     );
 }
 
-/// t1 stops for good, t3 wakes t2, which ends.
-const WOKEN: &str =
+/// t1 stops for good, t3 signals t2, which ends.
+const SIGNALLED: &str =
     "thread 10\nthread 20\nthread 20\nmutex normal\nmutex normal\ncond m1\ncall t1 lock m2\n\
     call t1 lock m2\ncall t2 lock m1\ncall t2 wait c1 m1\ncall t3 signal c1\nend t2\n";
 
 #[test]
-fn a_drawing_shows_who_is_woken_stopped_and_ended(rt: HostRuntime) {
+fn a_drawing_shows_who_is_signalled_stopped_and_ended(rt: HostRuntime) {
     check_parts(
         &rt,
         rt.alloc(),
-        WOKEN,
+        SIGNALLED,
         &[
             "<title>t1: stopped, lines 8 to 12</title><rect class=\"stopped\" width=\"200\" height=\"15\"/>",
             "<g transform=\"translate(408 205)\"><title>t2: parked on c1, lines 10 to 11</title>\
              <rect class=\"parked\" width=\"40\" height=\"15\"/><text class=\"on-parked\" x=\"8\" y=\"11\">c1</text>",
-            "<g><title>t3 wakes t2, line 11</title>\
-             <path class=\"woken\" d=\"M455 288V218\"/><path class=\"woken-head\" d=\"M451 218H459L455 212z\"/></g>",
+            "<g><title>t3 signals t2, line 11</title>\
+             <path class=\"signal\" d=\"M455 288V218\"/><path class=\"signal-head\" d=\"M451 218H459L455 212z\"/></g>",
             "<g transform=\"translate(488 205)\"><title>t2 ended, line 12</title>",
         ],
     );
@@ -136,6 +136,42 @@ fn bars_stand_below_each_other(rt: HostRuntime) {
             "translate(328 172)\"><title>t1 holds m3, lines 8 to 11</title>",
             "<g class=\"h3\" transform=\"translate(368 172)\"><title>t1 holds m4, lines 9 to 11</title>",
             "<g class=\"h1\" transform=\"translate(448 160)\"><title>t1 holds m2, lines 11 to 11</title>",
+        ],
+    );
+}
+
+#[test]
+fn lanes_and_columns_have_titles(rt: HostRuntime) {
+    check_parts(
+        &rt,
+        rt.alloc(),
+        BOOSTED,
+        &[
+            "<rect class=\"odd\" y=\"88\" width=\"328\" height=\"76\"><title>t1</title></rect>",
+            "<rect class=\"even\" y=\"164\" width=\"328\" height=\"76\"><title>t2</title></rect>",
+            "<g><title>line 6: call t2 lock m1 = waits</title><path class=\"grid\" d=\"M208 88V240v6\"/>\
+             <path class=\"reach\" d=\"M208 88V240\"/>",
+        ],
+    );
+}
+
+/// Two threads, and as many ticks as make 49 columns.
+const LONG: &str = "thread 10\nthread 50\n\
+    tick 1\ntick 1\ntick 1\ntick 1\ntick 1\ntick 1\ntick 1\ntick 1\ntick 1\ntick 1\ntick 1\ntick 1\n\
+    tick 1\ntick 1\ntick 1\ntick 1\ntick 1\ntick 1\ntick 1\ntick 1\ntick 1\ntick 1\ntick 1\ntick 1\n\
+    tick 1\ntick 1\ntick 1\ntick 1\ntick 1\ntick 1\ntick 1\ntick 1\ntick 1\ntick 1\ntick 1\ntick 1\n\
+    tick 1\ntick 1\ntick 1\ntick 1\ntick 1\ntick 1\ntick 1\ntick 1\ntick 1\ntick 1\ntick 1\n";
+
+#[test]
+fn names_stand_again_above_each_24th_column(rt: HostRuntime) {
+    check_parts(
+        &rt,
+        rt.alloc(),
+        LONG,
+        &[
+            "<defs><g id=\"names\"><text class=\"again\" x=\"68\" y=\"98\">t1</text>\
+             <text class=\"again\" x=\"68\" y=\"162\">t2</text></g></defs>\
+             <use href=\"#names\" x=\"960\"/><use href=\"#names\" x=\"1920\"/>\n",
         ],
     );
 }
