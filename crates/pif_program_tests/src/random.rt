@@ -120,3 +120,27 @@ fn each_line_is_answered(rt: HostRuntime) {
         assert_eq!(rt; answered(rt.alloc(), shape), Some(500), "{shape:?}");
     }
 }
+
+const ENDING: Shape = Shape {
+    threads: 4,
+    mutexes: 3,
+    conds: 1,
+    robust: true,
+    ends: true,
+    times: false,
+};
+
+// How many mutexes and condition variables a random script adds in 1,500 lines.
+fn added(alloc: Global) -> Result<[usize; 2], NoMemory> {
+    let script = random_script(alloc, 2, 1500, ENDING)?;
+    let lines = script.as_slice();
+    let words: [&[u8]; 2] = [b"mutex ", b"cond "];
+    Ok(words.map(|word| count(lines, word)))
+}
+
+#[test]
+fn lost_mutexes_are_followed_by_others(rt: HostRuntime) -> Result<(), Fail> {
+    let [mutexes, conds] = added(rt.alloc())?;
+    assert!(rt; mutexes > 3 && conds > 1, "{mutexes} {conds}");
+    Ok(())
+}

@@ -2,9 +2,9 @@ ghost use Rattle.std.specs.Prelude.{◌≤◌};
 ghost use Rattle.pif_script_model.specs.CommandLines.{IsNoLimits};
 
 use crate::Shape;
-use pif_core::{Core, Event, Seen};
+use pif_core::{Core, Event, Seen, Status};
 use pif_text::{Addition, Command, Question};
-use pif_types::{CondId, Kind, Limits, MutexId, NoMemory, Request, Tid};
+use pif_types::{CondId, Health, Kind, Limits, MutexId, NoMemory, Request, Tid};
 use rand_core::Rng;
 use rand_pcg::Pcg32;
 use std::alloc::Global;
@@ -12,14 +12,27 @@ use std::alloc::Global;
 /// The stream of the random words; only the seed differs from script to script.
 const STREAM: u64 = 54;
 
+/// How far a chain of waiting is followed.
+const MOST_HOPS: u32 = 16;
+
+/// The mutex on which a thread of this status is queued.
+fn mutex_of(status: Status) -> Option<MutexId> {
+    match status {
+        Status::Queued(mutex) => Some(mutex),
+        _ => None,
+    }
+}
+
 /// A core that plays a script while it is made, and what is left to chance.
 #[derive(Drop)]
 pub struct Player {
     core: Core,
     random: Pcg32,
     shape: Shape,
-    // How many threads are to be added: more than at first once some have ended.
+    // How many are to be added: more than at first once some threads have ended, or some mutexes are of no use any more.
     threads: u32,
+    mutexes: u32,
+    conds: u32,
 }
 
 impl Player {
@@ -31,6 +44,8 @@ impl Player {
             random: Pcg32::new(seed, STREAM),
             shape,
             threads: shape.threads,
+            mutexes: shape.mutexes,
+            conds: shape.conds,
         })
     }
 
@@ -82,14 +97,77 @@ impl Player {
         }
     }
 
+    // Has as many mutexes and condition variables added as at first, besides those that are of no use any more.
+    fn count_lost(&mut self) {
+        self.mutexes = self.shape.mutexes.saturating_add(self.lost_mutexes());
+        self.conds = self.shape.conds.saturating_add(self.lost_conds());
+    }
+
+    fn lost_mutexes(&self) -> u32 {
+        let mut lost = 0u32;
+        for number in 1..=self.core.mutexes() {
+            if self.is_lost(MutexId::new(number)) {
+                lost = lost.saturating_add(1);
+            }
+        }
+        lost
+    }
+
+    // How many condition variables are bound to mutexes that are of no use any more.
+    fn lost_conds(&self) -> u32 {
+        let mut lost = 0u32;
+        for number in 1..=self.core.conds() {
+            if self.is_lost(self.mutex_of(number)) {
+                lost = lost.saturating_add(1);
+            }
+        }
+        lost
+    }
+
+    // The mutex to which the condition variable of this number is bound.
+    fn mutex_of(&self, number: u32) -> Option<MutexId> {
+        self.core.bound(CondId::new(number)?)
+    }
+
+    // Whether a mutex is of no use any more: it is unusable, or the chain from it leads to a thread that never goes on.
+    fn is_lost(&self, mutex: Option<MutexId>) -> bool {
+        let mut next = mutex;
+        for _hop in 0..MOST_HOPS {
+            match next {
+                Some(mutex) if self.is_left(mutex) => return true,
+                Some(mutex) => next = self.waited_for(mutex),
+                None => return false,
+            }
+        }
+        false
+    }
+
+    // Whether a mutex is unusable, or has an owner that never gives it up.
+    fn is_left(&self, mutex: MutexId) -> bool {
+        match (self.core.kind(mutex), self.core.owner(mutex)) {
+            (Some((_, robust)), Some((owner, _))) => match self.core.status(owner) {
+                Some(Status::Ended) => !robust,
+                Some(Status::Stopped) => true,
+                _ => false,
+            },
+            _ => self.core.health(mutex) == Some(Health::Unusable),
+        }
+    }
+
+    // The mutex for which the owner of a mutex waits.
+    fn waited_for(&self, mutex: MutexId) -> Option<MutexId> {
+        let (owner, _count) = self.core.owner(mutex)?;
+        mutex_of(self.core.status(owner)?)
+    }
+
     // What is still to be added, as far as the limits allow.
     fn addition(&mut self) -> Option<Addition> {
         if self.core.threads() < self.threads.min(1024) {
             Some(Addition::Thread(self.priority()))
-        } else if self.core.mutexes() < self.shape.mutexes.min(1024) {
+        } else if self.core.mutexes() < self.mutexes.min(1024) {
             let robust = self.shape.robust && self.below(2) == 0;
             Some(Addition::Mutex(self.kind(), robust))
-        } else if self.core.conds() < self.shape.conds.min(256) {
+        } else if self.core.conds() < self.conds.min(256) {
             Some(Addition::Cond(self.mutex()?))
         } else {
             None
@@ -182,12 +260,33 @@ impl Player {
         if conds == 0 {
             return self.lock();
         }
-        let cond = CondId::new(self.below(conds).saturating_add(1))?;
+        let cond = self.signalled(conds)?;
         if chance % 2 == 0 {
             Some(Request::Signal(cond))
         } else {
             Some(Request::Broadcast(cond))
         }
+    }
+
+    // One of so many condition variables, mostly one on which a thread is parked.
+    fn signalled(&mut self, conds: u32) -> Option<CondId> {
+        let start = self.below(conds);
+        if conds > 1 && self.below(4) > 0 {
+            self.parked_on(start, conds)
+        } else {
+            CondId::new(start.saturating_add(1))
+        }
+    }
+
+    // The first condition variable from this place on which a thread is parked, or else the one in it.
+    fn parked_on(&self, start: u32, conds: u32) -> Option<CondId> {
+        for i in 0..conds {
+            let cond = CondId::new(turned(start, i, conds))?;
+            if self.core.parked(cond, 0).is_some() {
+                return Some(cond);
+            }
+        }
+        CondId::new(start.saturating_add(1))
     }
 
     // The thread whose priority a thread changes: its own, or any, which may wait or have ended.
@@ -266,15 +365,38 @@ impl Player {
         None
     }
 
-    // Any mutex, and now and then one that was never added; none if there is none.
+    // Any mutex, mostly one that is still of use, and now and then one that was never added; none if there is none.
     fn mutex(&mut self) -> Option<MutexId> {
         let mutexes = self.core.mutexes();
         if mutexes == 0 {
             return None;
         }
-        let stray = self.below(64) == 0;
-        let place = if stray { mutexes } else { self.below(mutexes) };
-        MutexId::new(place.saturating_add(1))
+        if self.below(64) == 0 {
+            return MutexId::new(mutexes.saturating_add(1));
+        }
+        let place = self.below(mutexes);
+        let number = place.saturating_add(1);
+        if !self.is_lost(MutexId::new(number)) {
+            return MutexId::new(number);
+        }
+        self.count_lost();
+        if self.below(16) == 0 {
+            MutexId::new(number)
+        } else {
+            self.useful(place)
+        }
+    }
+
+    // The first mutex behind this place that is still of use, or else the one in it.
+    fn useful(&self, start: u32) -> Option<MutexId> {
+        let mutexes = self.core.mutexes();
+        for i in 0..mutexes {
+            let number = turned(start, i, mutexes);
+            if !self.is_lost(MutexId::new(number)) {
+                return MutexId::new(number);
+            }
+        }
+        MutexId::new(start.saturating_add(1))
     }
 
     fn kind(&mut self) -> Kind {
