@@ -25,47 +25,60 @@ pub fn show_mutexes<W: Write>(before: Option<&Core>, core: &Core, page: &mut Pag
     }
 }
 
-/// Writes the line of a mutex.
+/// What stands before the word of a mutex on the line of its state.
+const SAME_LINE: &str = "; word ";
+
+/// What stands before it on a line of its own.
+const NEXT_LINE: &str = "\n      word ";
+
+/// Writes the line of a mutex. If the health word of a robust one lags behind its state, there are two lines.
 fn show_mutex<W: Write>(core: &Core, mutex: MutexId, page: &mut Page, writer: &mut W)
     ensures { Stays (W.contents writer.old) (W.contents writer.new) }
 {
     let word = core.word(mutex).unwrap_or(0);
     page.mutex("  ", mutex, writer);
-    show_kind(core, mutex, word, page, writer);
-    show_word(word, page, writer);
+    let front = show_kind(core, mutex, word, page, writer);
+    show_word(front, word, page, writer);
     show_ownership(core, mutex, page, writer);
     show_queue(core, &Queue::Waiters(mutex), "; waiters ", page, writer);
     page.words("\n", writer);
 }
 
-/// Writes the kind of a mutex, whether it is robust, and its state.
-fn show_kind<W: Write>(core: &Core, mutex: MutexId, word: u32, page: &mut Page, writer: &mut W)
+/// Writes the kind of a mutex, whether it is robust, and its state. Gives what stands before its word then.
+fn show_kind<W: Write>(
+    core: &Core,
+    mutex: MutexId,
+    word: u32,
+    page: &mut Page,
+    writer: &mut W,
+) -> &'static str
     ensures { Stays (W.contents writer.old) (W.contents writer.new) }
 {
     if let Some((kind, is_robust)) = core.kind(mutex) {
         page.words(kind_words(kind), writer);
         if is_robust {
-            show_state(
-                core.health(mutex).unwrap_or(Health::Fine),
-                word,
-                page,
-                writer,
-            );
+            let health = core.health(mutex).unwrap_or(Health::Fine);
+            return show_state(health, word, page, writer);
         }
     }
+    SAME_LINE
 }
 
-/// Writes the state of a robust mutex by POSIX, and what the health word says if that is something else.
-fn show_state<W: Write>(health: Health, word: u32, page: &mut Page, writer: &mut W)
+/// Writes the state of a robust mutex by POSIX, and what the health word says if that is something else. Gives what
+/// stands before its word then.
+fn show_state<W: Write>(health: Health, word: u32, page: &mut Page, writer: &mut W) -> &'static str
     ensures { Stays (W.contents writer.old) (W.contents writer.new) }
 {
     let state = state_of(health, word);
     page.words(", robust, ", writer);
     page.words(health_words(state), writer);
-    if state != health {
-        page.words("; health word still ", writer);
-        page.words(health_words(health), writer);
+    if state == health {
+        return SAME_LINE;
     }
+    page.words(" (health word: ", writer);
+    page.words(health_words(health), writer);
+    page.words(")", writer);
+    NEXT_LINE
 }
 
 /// The state of a robust mutex by POSIX, of which this is the health word and this the word. Once its owner has ended it
@@ -98,13 +111,13 @@ fn health_words(health: Health) -> &'static str {
     }
 }
 
-/// Writes the parts of the word of a mutex.
-fn show_word<W: Write>(word: u32, page: &mut Page, writer: &mut W)
+/// Writes the parts of the word of a mutex behind what stands before it.
+fn show_word<W: Write>(front: &str, word: u32, page: &mut Page, writer: &mut W)
     ensures { Stays (W.contents writer.old) (W.contents writer.new) }
 {
     match Tid::new(number(word)) {
-        Some(thread) => page.thread("; word ", thread, writer),
-        None => page.words("; word 0", writer),
+        Some(thread) => page.thread(front, thread, writer),
+        None => page.number(front, 0, writer),
     }
     if has_waiters(word) {
         page.words(" + WAITERS", writer);

@@ -82,7 +82,8 @@ fn a_robust_mutex_is_shown_whose_owner_ended(rt: HostRuntime) -> Result<(), Fail
     let last = "> end t1\nended\n\
         \x20 t1: ended\n\
         \x20 t2: priority 20; ready; in lock m1; holds m1\n\
-        \x20 m1: normal, robust, inconsistent; health word still fine; word t2 + WAITERS + OWNER_DIED; owner t2\n\
+        \x20 m1: normal, robust, inconsistent (health word: fine)\n\
+        \x20     word t2 + WAITERS + OWNER_DIED; owner t2\n\
         \x20 run queue: t2\n\
         \x20 chain: none\n\n";
     let first = "> mutex normal robust\nm1\n  m1: normal, robust, fine; word 0\n\n";
@@ -176,7 +177,7 @@ fn a_second_file_is_no_word_of_show(rt: HostRuntime) -> Result<(), Fail> {
 
 /// Each allocation is refused in turn by `rt try --test --fail-alloc N`: then nothing is written but the message.
 #[test]
-fn want_of_memory_shows_nothing(rt: HostRuntime) {
+fn out_of_memory_shows_nothing(rt: HostRuntime) {
     let words = ["pif", "show"];
     let (ended, output, errors) = asked(
         &rt,

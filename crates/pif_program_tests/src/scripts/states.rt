@@ -193,7 +193,8 @@ const ENDS: [(&str, &str); 5] = [
         \x20 t1: ended\n\
         \x20 t2: priority 20; ready; holds m1\n\
         \x20 m1: recursive, robust, inconsistent; word t2; owner t2\n\
-        \x20 m2: errorcheck, robust, inconsistent; health word still fine; word 0 + OWNER_DIED\n\
+        \x20 m2: errorcheck, robust, inconsistent (health word: fine)\n\
+        \x20     word 0 + OWNER_DIED\n\
         \x20 run queue: t2\n\n",
     ),
     (
@@ -203,7 +204,8 @@ const ENDS: [(&str, &str); 5] = [
         \x20 t1: ended\n\
         \x20 t2: priority 20; ready\n\
         \x20 m1: recursive, robust, unusable; word 0\n\
-        \x20 m2: errorcheck, robust, inconsistent; health word still fine; word 0 + OWNER_DIED\n\
+        \x20 m2: errorcheck, robust, inconsistent (health word: fine)\n\
+        \x20     word 0 + OWNER_DIED\n\
         \x20 run queue: t2\n\n",
     ),
     (
@@ -227,7 +229,8 @@ const ENDS: [(&str, &str); 5] = [
         \x20 t5: priority 50; ready; holds m4\n\
         \x20 m1: normal; word t1 + WAITERS; owner t1 (ended); waiters t3\n\
         \x20 m2: errorcheck; word t2 + WAITERS; owner t2 (ended); waiters t4\n\
-        \x20 m3: normal, robust, inconsistent; health word still fine; word 0 + OWNER_DIED\n\
+        \x20 m3: normal, robust, inconsistent (health word: fine)\n\
+        \x20     word 0 + OWNER_DIED\n\
         \x20 m4: errorcheck, robust, inconsistent; word t5; owner t5\n\
         \x20 m5: recursive, robust, unusable; word 0\n\
         \x20 run queue: t5\n\
