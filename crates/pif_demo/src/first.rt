@@ -1,8 +1,7 @@
-//! A thread of priority 10 holds a mutex, and one of priority 50 waits for it.
-#![tactic(auto)]
-
+//! A first program over a core: a thread of priority 10 holds a mutex, and one of priority 50 waits for it.
 use pif_core::Core;
 use pif_types::{AddFault, Kind, Limits, Prio, Request};
+use std::alloc::Global;
 use std::io;
 
 /// At which priority the holder runs while the other waits.
@@ -15,13 +14,14 @@ fn boosted(core: &mut Core) -> Result<Option<Prio>, AddFault> {
     Ok(core.effective(low))
 }
 
-fn main(rt: HostRuntime) -> io::Result<()> {
+/// Makes a core for two threads and one mutex, and prints that priority.
+pub fn show<R: Print>(rt: &R, alloc: Global) -> io::Result<()> {
     let limits = Limits::new(2, 1, 0, 1).ok_or(io::ErrorKind::InvalidInput)?;
-    let Ok(mut core) = Core::new(rt.alloc(), limits) else {
+    let Ok(mut core) = Core::new(alloc, limits) else {
         return Err(io::Error::from(io::ErrorKind::OutOfMemory));
     };
     match boosted(&mut core) {
-        Ok(Some(prio)) => println!(rt; "{}", prio.get()),
+        Ok(Some(prio)) => println!(rt; "the holder runs at {}", prio.get()),
         Ok(None) => println!(rt; "no such thread"),
         Err(fault) => println!(rt; "{fault}"),
     }
