@@ -6,8 +6,9 @@
 
 With no crate, those of crates.txt in their order, so that a crate is proved after those that it stands on. Each part is
 done as `rt ci` does it, by the toolchain's own `rt`: a proof starts from nothing, tests are proved over a proof from
-nothing and built, and a crate's first edit starts from nothing too. A part that can't be built, or that stands on a crate
-without a library, is named as such and in no sum; the status is then 1. It is no test: the gate alone judges.
+nothing and built, and a crate's edits begin with one more proof of it. A part that can't be built, or that stands on a crate
+without a library, is named as such and in no sum; the status is then 1. It is no test: the gate alone judges. Last come
+the sums, and the longest chain: the crates that have to be proved one after the other, with the tests or edits of the last.
 
 With `--since COMMIT` two clones are made, of that commit and of HEAD, and each part is measured in one right after the
 other, so that what else the machine does falls on both alike.
@@ -59,6 +60,7 @@ class Sitting:
         self.jobs = ["--jobs", str(jobs)]
         self.figures = figures
         self.sums = dict.fromkeys(PARTS, 0.0)
+        self.chains = {}
         self.failed = []
 
     def say(self, text):
@@ -75,16 +77,19 @@ class Sitting:
         spent = processor_seconds() - before
         if why:
             self.fail(name, part, why)
-            return
+            return 0.0
         self.sums[part] += spent
         self.say(f"{name} {part}: {spent:.1f} s")
+        return spent
 
     def build(self, crate, tests):
         return "it could not be built" if crate.ci(self.jobs, tests) else None
 
     def edits(self, crate, wanted):
-        """Tries a crate's edits one after the other, over one another's work, as the gate does."""
-        kept = tempfile.mkdtemp(prefix="gate-cost-")
+        """Tries a crate's edits as the gate does: each over what one more check of the crate proved."""
+        room = self.rt.seeded(crate, self.jobs)
+        if not room:
+            return "the check that its edits begin with did not end well"
         bad = []
         try:
             for edit in self.rt.edits_of(crate)[0]:
@@ -92,13 +97,17 @@ class Sitting:
                 if wanted and not name.startswith(wanted):
                     continue
                 before = processor_seconds()
-                refused, said = self.rt.must_fail(crate, edit, self.jobs, kept)
-                if not refused:
-                    bad.append(name)
+                over = f"{room}/{name}"
+                self.rt.linked(f"{room}/seed", over)
+                kind, said = self.rt.must_fail(crate, edit, self.jobs, over)
+                shutil.rmtree(over, ignore_errors=True)
+                is_refused = kind in (self.rt.REFUSED, self.rt.AT_LIMIT)
+                if not is_refused:
+                    bad.append(f"{name} ({kind})")
                     print(said, file=sys.stderr)
-                self.say(f"  {name}: {processor_seconds() - before:.1f} s{'' if refused else '  NOT REFUSED'}")
+                self.say(f"  {name}: {processor_seconds() - before:.1f} s{'' if is_refused else f'  NOT REFUSED: {kind}'}")
         finally:
-            shutil.rmtree(kept, ignore_errors=True)
+            shutil.rmtree(room, ignore_errors=True)
         return f"not refused: {', '.join(bad)}" if bad else None
 
     def crate(self, crate, parts, wanted):
@@ -110,16 +119,24 @@ class Sitting:
             "edits": lambda: self.edits(crate, wanted),
         }
         lacking = [below.name for below in crate.below() if not os.path.isdir(f"{below.folder}/out/rlib")]
+        proof, rest = 0.0, [0.0]
         for part in PARTS:
             if part in parts and has[part]:
                 if lacking:
                     self.fail(crate.name, part, f"there is no library of {', '.join(lacking)}")
+                elif part == "proof":
+                    proof = self.timed(crate.name, part, work[part])
                 else:
-                    self.timed(crate.name, part, work[part])
+                    rest.append(self.timed(crate.name, part, work[part]))
+        # the dearest way of proofs to this crate's own, and what comes behind it at most: its tests or its edits
+        below = max((self.chains.get(it.name, ((), 0.0, 0.0))[:2] for it in crate.below()), key=lambda it: it[1], default=((), 0.0))
+        self.chains[crate.name] = ((*below[0], crate.name), below[1] + proof, max(rest))
 
     def total(self):
         each = ", ".join(f"{part} {seconds / 60:.1f}" for part, seconds in self.sums.items())
         self.say(f"minutes: {each}, together {sum(self.sums.values()) / 60:.1f}")
+        names, proofs, rest = max(self.chains.values(), key=lambda it: it[1] + it[2])
+        self.say(f"longest chain: {proofs + rest:.0f} s, {proofs:.0f} of them proofs: {' '.join(names)}")
         if self.failed:
             self.say(f"not measured, and in no sum: {', '.join(self.failed)}")
 

@@ -6,7 +6,7 @@
 # the gate. The program is built anew for each of the more than a hundred allocations, which takes a while.
 set -euo pipefail
 here="$(cd "$(dirname "$0")/.." && pwd)"
-example="$here/examples/holder_is_boosted_until_it_unlocks"
+script="$here/examples/holder_is_boosted_until_it_unlocks.pif"
 room="$(mktemp -d)"
 trap 'rm -rf "$room"' EXIT
 cd "$here/crates/pif"
@@ -17,9 +17,9 @@ enough=4
 # Runs the program with allocation $2 refused, 0 for none, and the words behind it. What it wrote and its status stand in
 # the folder $1 then.
 try() {
-  local to="$1" number="$2" input="$example.pif"
+  local to="$1" number="$2" input="$script"
   shift 2
-  [ "$1" != replay ] || input="$example.trace"
+  [ "$1" != replay ] || input="$room/trace"
   mkdir -p "$to"
   rt try --fail-alloc "$number" -- "$@" < "$input" > "$to/output" 2> "$to/said" || true
   sed -n 's/^run=ended status=\([0-9]*\) .*/\1/p' "$to/said" > "$to/status"
@@ -76,6 +76,7 @@ if [ "$#" -gt 0 ]; then
   sweep 0 "$room/words" "$@"
   exit
 fi
+rt try -- trace < "$script" > "$room/trace" 2> "$room/said"
 sweeps=()
 sweep 0 "$room/run" run & sweeps+=("$!")
 sweep 0 "$room/replay" replay & sweeps+=("$!")

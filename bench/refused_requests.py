@@ -4,12 +4,15 @@ run, a run that is shown, a replay, a trace, help, a wrong word and two clients 
 be 4, with nothing on standard output and one line on standard error, or, of the clients, 6 with `fault threads`; or all
 must be as with no refusal, since the standard library asks again for some. And the same of the test `desk_keeps_receipts`
 of pif_cli, which asks again for what was refused, by `resume` where a call is open, and fails where any answer, the book
-or its replayed trace changes. The status is 0 where all is so. It needs a C compiler, and is no part of the gate.
+or its replayed trace changes. And of the benchmark `new_core` of pif_bench, which makes cores: there the status must be 1,
+whichever request of `Core::new`, and of `LinkedKernel::new` in it, is refused. The status is 0 where all is so. It needs a
+C compiler, and is no part of the gate.
 
-    bench/refused_requests.py       once ./pif, and in crates/pif_cli `rt test`, have built both
+    bench/refused_requests.py       once ./pif, in crates/pif_cli `rt test`, and in crates/pif_bench `rt run`, have built them
 """
 
 import os
+import re
 import subprocess
 import sys
 import tempfile
@@ -18,7 +21,8 @@ from pathlib import Path
 TOP = Path(__file__).resolve().parent.parent
 PROGRAM = TOP / "crates/pif/out/pif"
 TESTS = TOP / "crates/pif_cli/out/pif_cli_tests"
-EXAMPLE = TOP / "examples/holder_is_boosted_until_it_unlocks"
+BENCH = TOP / "crates/pif_bench/out/pif_bench"
+SCRIPT = TOP / "examples/holder_is_boosted_until_it_unlocks.pif"
 
 REFUSE = r"""
 #define _GNU_SOURCE
@@ -58,17 +62,18 @@ def run(room, command, text, number):
     left.unlink(missing_ok=True)
     variables = dict(os.environ, LD_PRELOAD=str(room / "refuse.so"), REFUSED_REQUEST=str(number), REFUSED=str(left))
     done = subprocess.run(command, input=text, capture_output=True, env=variables, timeout=120)
-    return (done.returncode, done.stdout, done.stderr), left.exists()
+    # How long a benchmark took is another number each time.
+    return (done.returncode, re.sub(rb"[0-9]+ ns", b"ns", done.stdout), done.stderr), left.exists()
 
 
-def is_refusal(ended):
-    """Whether a run ended for a refused request."""
+def is_refusal(ended, refusal):
+    """Whether a run ended for a refused request, for which its program has this status."""
     status, output, errors = ended
     one_line = errors.count(b"\n") == 1
-    return one_line and (status == 4 and output == b"" or status == 6 and output == b"fault threads\n")
+    return one_line and (status == refusal and output == b"" or status == 6 and output == b"fault threads\n")
 
 
-def sweep(room, name, command, text, same_alone):
+def sweep(room, name, command, text, same_alone, refusal):
     """Refuses each request in turn, and says what came out; whether all was as it must be."""
     whole, _ = run(room, command, text, 0)
     number, same = 0, []
@@ -79,7 +84,7 @@ def sweep(room, name, command, text, same_alone):
             break
         if ended == whole:
             same.append(number)
-        elif same_alone or not is_refusal(ended):
+        elif same_alone or not is_refusal(ended, refusal):
             print("%s: with request %d refused: %s" % (name, number, ended))
             return False
     told = "all as with no refusal" if same_alone else "as with no refusal at %d" % len(same)
@@ -91,11 +96,13 @@ def main():
     if sys.argv[1:] in (["-h"], ["--help"]):
         print(__doc__, end="")
         return 0
-    script, trace = Path(str(EXAMPLE) + ".pif").read_bytes(), Path(str(EXAMPLE) + ".trace").read_bytes()
+    script = SCRIPT.read_bytes()
+    trace = subprocess.run([PROGRAM, "trace"], input=script, stdout=subprocess.PIPE).stdout if PROGRAM.is_file() else b""
     jobs = [(["run"], script), (["show"], script), (["replay"], trace), (["trace"], script), (["--help"], b""),
             (["walk"], b""), (["drive", "2"], b"")]
-    sweeps = [("pif " + " ".join(words), [PROGRAM] + words, text, False) for words, text in jobs]
-    sweeps.append(("desk_keeps_receipts", [TESTS, "tests::desks::desk_keeps_receipts"], b"", True))
+    sweeps = [("pif " + " ".join(words), [PROGRAM] + words, text, False, 4) for words, text in jobs]
+    sweeps.append(("desk_keeps_receipts", [TESTS, "tests::desks::desk_keeps_receipts"], b"", True, 4))
+    sweeps.append(("pif_bench new_core", [BENCH, "new_core"], b"", False, 1))
     with tempfile.TemporaryDirectory() as folder:
         room = Path(folder)
         (room / "refuse.c").write_text(REFUSE)

@@ -1,18 +1,21 @@
 //! Benchmarks of single layers: lists, and hand-overs, chains, ends and broadcasts through a core.
 mod chains;
 mod conditions;
+mod hand_overs;
 mod lists;
 mod robust;
 mod scenes;
 
-use chains::{contended_round, hand_over, last_lock, queue_random, set_prio};
+use chains::{contended_round, last_lock, queue_random, set_prio};
+use hand_overs::{hand_over, kernel_step};
 use lists::{Priorities, nanoseconds_each};
 use scenes::{Room, new_core};
 use std::rt::Clock;
 
 /// The names of these benchmarks, one a line.
 pub const NAMES: &str =
-    "plist_equal\nplist_distinct\nnew_core\nhand_over\ncontended_round\ncontended_round_default_limits\n\
+    "plist_equal\nplist_distinct\nnew_core\nhand_over\nhand_over_default_limits\nhand_over_kernel\n\
+    contended_round\ncontended_round_default_limits\n\
     queue_random_1000\nlast_lock_10\nlast_lock_100\nlast_lock_1000\n\
     setprio_10\nsetprio_100\nsetprio_1000\nstalled_pair\nrobust_pair\n\
     end_1\nend_10\nend_100\nend_1000\nend_contended_10\nend_contended_100\nend_contended_1000\n\
@@ -28,8 +31,10 @@ pub enum Layer {
     Lists(Priorities),
     /// A core with the default limits is made.
     NewCore,
-    /// A mutex is handed over.
-    HandOver,
+    /// A mutex is handed over, under such limits.
+    HandOver(Room),
+    /// The step of a hand-over that enters the kernel.
+    KernelStep,
     /// Two threads pass a mutex on, under such limits.
     Round(Room),
     /// A thousand threads of many priorities wait for one mutex.
@@ -64,7 +69,9 @@ fn lone_of(name: &str) -> Option<Layer> {
         "plist_equal" => Some(Layer::Lists(Priorities::Equal)),
         "plist_distinct" => Some(Layer::Lists(Priorities::Distinct)),
         "new_core" => Some(Layer::NewCore),
-        "hand_over" => Some(Layer::HandOver),
+        "hand_over" => Some(Layer::HandOver(Room::Tight)),
+        "hand_over_default_limits" => Some(Layer::HandOver(Room::Default)),
+        "hand_over_kernel" => Some(Layer::KernelStep),
         "contended_round" => Some(Layer::Round(Room::Tight)),
         "contended_round_default_limits" => Some(Layer::Round(Room::Default)),
         "queue_random_1000" => Some(Layer::QueueRandom),
@@ -132,14 +139,15 @@ pub fn nanoseconds_of(rt: &(impl Clock + AllocGlobal), layer: Layer) -> Option<u
     match layer {
         Layer::Lists(priorities) => nanoseconds_each(rt, priorities),
         Layer::NewCore => new_core(rt),
-        Layer::HandOver => hand_over(rt),
+        Layer::HandOver(room) => hand_over(rt, room),
+        Layer::KernelStep => kernel_step(rt),
         Layer::Round(room) => contended_round(rt, room),
         Layer::QueueRandom => queue_random(rt),
         Layer::LastLock(depth) => last_lock(rt, depth),
         Layer::SetPrio(depth) => set_prio(rt, depth),
         Layer::Pair(robust) => robust::pair(rt, robust),
-        Layer::End(held) => robust::end(rt, held),
-        Layer::EndContended(held, room) => robust::end_contended(rt, held, room),
+        Layer::End(held) => robust::ends(rt, Room::Tight, held, false),
+        Layer::EndContended(held, room) => robust::ends(rt, room, held, true),
         Layer::WaitAndSignal(parked) => conditions::wait_and_signal(rt, parked),
         Layer::Broadcast(parked, held, room) => conditions::broadcast(rt, parked, held, room),
     }

@@ -41,7 +41,7 @@ fn benchmark_of(name: &str) -> Option<Benchmark> {
     desk::crowd_of(name).map(Benchmark::Crowd)
 }
 
-/// Prints what a layer took, and beside a chain what a hop took.
+/// Prints what a layer took, and how many pairs of bare compare-exchanges of this run that is, of a chain for each hop.
 fn print_layer(
     rt: &(impl Clock + Print),
     name: &str,
@@ -51,7 +51,7 @@ fn print_layer(
     println!(rt; "{name}: {nanoseconds} ns")?;
     match layers::depth_of(layer) {
         Some(depth) => quick::compare_hop(rt, name, nanoseconds, depth),
-        None => Ok(()),
+        None => quick::compare(rt, name, nanoseconds),
     }
 }
 

@@ -5,8 +5,8 @@ mod figures;
 mod pairs;
 mod turns;
 
-pub use pairs::compare_hop;
 use pairs::measure_pairs;
+pub use pairs::{compare, compare_hop};
 use std::io;
 use std::rt::Clock;
 use std::sync::Wait;

@@ -15,41 +15,8 @@ const CHANGES: u32 = 100;
 /// How many threads join a chain, each of a greater priority than the one before.
 const JOINS: u32 = 24;
 
-/// Threads wait for one mutex, and each passes it on to the next. Answers how many nanoseconds each hand-over took: the
-/// unlock of the owner, through the kernel, and the step of the other thread that finds out.
-pub fn hand_over(rt: &(impl Clock + AllocGlobal)) -> Option<u64> {
-    let mut core = core_of(rt, Room::Tight, WAITING + 1, 1, 1, false)?;
-    time_hand_overs(rt, &mut core)
-}
-
-/// The first thread of a core locks its mutex, the others wait for it, and each passes it on.
-fn time_hand_overs(rt: &impl Clock, core: &mut Core) -> Option<u64> {
-    let mutex = MutexId::new(1)?;
-    lock_by_all(core, mutex)?;
-    let start = now(rt)?;
-    for number in 1..=WAITING {
-        pass_on(core, mutex, number)?;
-    }
-    each_since(rt, start, WAITING)
-}
-
-/// One thread after another locks a mutex.
-fn lock_by_all(core: &mut Core, mutex: MutexId) -> Option<()> {
-    for number in 1..=WAITING + 1 {
-        core.call(Tid::new(number)?, Request::Lock(mutex));
-    }
-    Some(())
-}
-
-/// The thread of this number unlocks a mutex, and the one behind it finds that it owns it.
-fn pass_on(core: &mut Core, mutex: MutexId, number: u32) -> Option<()> {
-    core.call(Tid::new(number)?, Request::Unlock(mutex));
-    core.step(Event::Go(Tid::new(number.saturating_add(1))?));
-    Some(())
-}
-
 /// Two threads pass one mutex on, again and again. Answers how many nanoseconds each round took: the lock of one, which
-/// waits, the unlock of the other, and the step in which the first finds out.
+/// waits, the unlock of the other through the kernel, and the step in which the first finds out.
 pub fn contended_round(rt: &(impl Clock + AllocGlobal), room: Room) -> Option<u64> {
     let mut core = core_of(rt, room, 2, 1, 99, false)?;
     time_rounds(rt, &mut core)

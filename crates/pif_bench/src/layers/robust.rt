@@ -25,60 +25,56 @@ fn time_pairs(rt: &impl Clock, core: &mut Core) -> Option<u64> {
     each_since(rt, start, PAIRS)
 }
 
-/// How many ends are measured where nobody waits.
-const ENDS: u32 = 100;
+/// How many ends are measured at most.
+const MOST_ENDS: u32 = 100;
 
-/// A hundred threads that each hold so many robust mutexes, at most 1,000, end, one after another. Answers how many
-/// nanoseconds each took.
-pub fn end(rt: &(impl Clock + AllocGlobal), held: u32) -> Option<u64> {
-    let mut core = core_of(rt, Room::Tight, ENDS, held, 1, true)?;
-    time_ends(rt, &mut core, held)
-}
+/// How many mutexes all threads that end hold together at most.
+const MOST_HELD: u32 = 1000;
 
-/// A thread that holds so many robust mutexes, for each of which another thread waits, ends. Answers how many
-/// nanoseconds that took.
-pub fn end_contended(rt: &(impl Clock + AllocGlobal), held: u32, room: Room) -> Option<u64> {
-    let mut core = core_of(rt, room, held.saturating_add(1), held, 1, true)?;
-    time_end(rt, &mut core, held)
-}
-
-/// Thread 1 of a core takes so many mutexes, for each of which another thread waits, and ends.
-fn time_end(rt: &impl Clock, core: &mut Core, held: u32) -> Option<u64> {
-    for number in 1..=held {
-        contend(core, number)?;
+/// Threads that each hold so many robust mutexes, at most 1,000, end, one after another. For each of these mutexes another
+/// thread waits, or none does. Answers how many nanoseconds an end took.
+pub fn ends(
+    rt: &(impl Clock + AllocGlobal),
+    room: Room,
+    held: u32,
+    contended: bool,
+) -> Option<u64> {
+    let most = MOST_HELD / held.saturating_add(1).max(1);
+    let holders = most.max(1).min(MOST_ENDS);
+    let mutexes = holders.saturating_mul(held);
+    let waiters = if contended { mutexes } else { 0 };
+    let threads = holders.saturating_add(waiters);
+    let mut core = core_of(rt, room, threads, mutexes, 1, true)?;
+    take_all(&mut core, holders, held)?;
+    if contended {
+        wait_for_all(&mut core, holders, mutexes)?;
     }
-    let holder = Tid::new(1)?;
+    time_ends(rt, &mut core, holders)
+}
+
+/// So many threads of a core end, from the first on.
+fn time_ends(rt: &impl Clock, core: &mut Core, holders: u32) -> Option<u64> {
     let start = now(rt)?;
-    core.step(Event::End(holder));
-    each_since(rt, start, 1)
-}
-
-/// Each thread of a core takes so many mutexes, which the one before it left behind, and ends.
-fn time_ends(rt: &impl Clock, core: &mut Core, held: u32) -> Option<u64> {
-    let mut spent = 0_u64;
-    for number in 1..=ENDS {
-        let holder = Tid::new(number)?;
-        take_all(core, holder, held)?;
-        let start = now(rt)?;
-        core.step(Event::End(holder));
-        spent = spent.saturating_add(each_since(rt, start, 1)?);
+    for number in 1..=holders {
+        core.step(Event::End(Tid::new(number)?));
     }
-    Some(spent / u64::from(ENDS))
+    each_since(rt, start, holders)
 }
 
-/// A thread locks the mutexes from 1 to this number. `None` where a number is 0.
-fn take_all(core: &mut Core, holder: Tid, held: u32) -> Option<()> {
-    for number in 1..=held {
-        core.call(holder, Request::Lock(MutexId::new(number)?));
+/// Each of so many threads locks so many mutexes of its own. `None` where a number is 0.
+fn take_all(core: &mut Core, holders: u32, held: u32) -> Option<()> {
+    for index in 0..holders.saturating_mul(held) {
+        let holder = Tid::new(1 + index / held.max(1))?;
+        core.call(holder, Request::Lock(MutexId::new(index + 1)?));
     }
     Some(())
 }
 
-/// Thread 1 locks the mutex of this number, and the thread behind that number waits for it. `None` where a number is 0.
-fn contend(core: &mut Core, number: u32) -> Option<()> {
-    let mutex = MutexId::new(number)?;
-    core.call(Tid::new(1)?, Request::Lock(mutex));
-    let waiter = Tid::new(number.saturating_add(1))?;
-    core.call(waiter, Request::Lock(mutex));
+/// For each of so many mutexes a thread behind the holders waits.
+fn wait_for_all(core: &mut Core, holders: u32, mutexes: u32) -> Option<()> {
+    for number in 1..=mutexes {
+        let waiter = Tid::new(holders.saturating_add(number))?;
+        core.call(waiter, Request::Lock(MutexId::new(number)?));
+    }
     Some(())
 }

@@ -6,10 +6,13 @@ use std::time::Instant;
 /// How many cores are made.
 const CORES: u32 = 100;
 
+/// How many condition variables there may be.
+const MOST_VARIABLES: u32 = 256;
+
 /// The limits of a core.
 #[derive(Clone, Copy)]
 pub enum Room {
-    /// As many threads and mutexes as are added, and one condition variable.
+    /// As many threads and mutexes as are added, and a condition variable for each mutex, up to the most there may be.
     Tight,
     /// The default limits of scripts.
     Default,
@@ -18,14 +21,14 @@ pub enum Room {
 impl Room {
     fn limits(self, threads: u32, mutexes: u32) -> Option<Limits> {
         match self {
-            Room::Tight => Limits::new(threads, mutexes, 1, u32::MAX),
+            Room::Tight => Limits::new(threads, mutexes, mutexes.min(MOST_VARIABLES), u32::MAX),
             Room::Default => Limits::new(1024, 1024, 256, u32::MAX),
         }
     }
 }
 
 /// A core with such limits and so many threads, of priority 1 but the last, which has `last`, and so many normal mutexes,
-/// which are robust or stalled, and room for a condition variable. `None` where memory or an addition is refused.
+/// which are robust or stalled. `None` where memory or an addition is refused.
 pub fn core_of(
     rt: &impl AllocGlobal,
     room: Room,

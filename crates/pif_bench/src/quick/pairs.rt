@@ -174,8 +174,14 @@ fn median_bare(rt: &impl Clock) -> Option<(u64, u64)> {
     Some((bare.median(), value))
 }
 
-/// Measures pairs of bare compare-exchanges, and prints what each hop of a chain of so many threads took beside the median
-/// of a pair.
+/// Measures pairs of bare compare-exchanges, and prints what was measured beside the median of a pair.
+pub fn compare(rt: &(impl Clock + Print), name: &str, nanoseconds: u64) -> io::Result<()> {
+    let (pair, value) = median_bare(rt).ok_or(io::ErrorKind::Other)?;
+    let pairs = Hundredths(ratio(nanoseconds.saturating_mul(1000), pair));
+    println!(rt; "{name}: {pairs} bare pairs of {pair} ps; added {value}")
+}
+
+/// The same for each hop of a chain of so many threads.
 pub fn compare_hop(
     rt: &(impl Clock + Print),
     name: &str,
