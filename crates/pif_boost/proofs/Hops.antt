@@ -14,7 +14,7 @@ use Rattle.pif_model.specs.Graph.Reaches.{here}
 use Rattle.pif_chains.proofs.Following.{all_apart, no_repeats, greatest_where_above}
 use Rattle.pif_chains.proofs.Greatest.{greatest_where_most}
 use Rattle.pif_chains.proofs.Hops.{Reaches-then, alone}
-use Rattle.pif_owners.specs.Owners.{Owners, Seat, Wait, no_seat, seat_at, owner_at, waits_on, waits_for, rank_of, WaitsFor, with_seat, AreSoundOwners}
+use Rattle.pif_owners.specs.Owners.{Owners, Task, Wait, no_task, task_at, owner_at, waits_on, waits_for, rank_of, WaitsFor, with_task, AreSoundOwners}
 use Rattle.pif_owners.specs.Boosts.{IsThread, base_of, local_of, greatest_base, greatest_waiting, with_rank_priority, with_effective, IsRepaired, IsRepairedBut}
 use Rattle.pif_owners.proofs.Repairs.{ranked-state}
 use Rattle.pif_owners.proofs.Settled.{ranked-prio}
@@ -37,7 +37,7 @@ greatest_where_on test f g n same =
 pub record IsWalked (v now : Owners) (at : ℕ) : Type 0 where
   pub threads : length now.seats ≡ length v.seats
   pub owners : now.owners ≡ v.owners
-  pub seats : (t : ℕ) → seat_at now t ≡ with_effective (local_of now t) (seat_at v t)
+  pub seats : (t : ℕ) → task_at now t ≡ with_effective (local_of now t) (task_at v t)
   pub repaired : IsRepairedBut at now
 
 -- who stands with its effective priority where it waits is so
@@ -49,12 +49,12 @@ settled_wait p (Some w) h =
     λ i. Some (record { state = w.state; rank = record { prio = e i; ticket = w.rank.ticket } })
 
 settled_seat : (v : Owners) (start : ℕ) → IsRepairedBut start v → (t : ℕ)
-    → seat_at v t ≡ with_effective (local_of v t) (seat_at v t)
+    → task_at v t ≡ with_effective (local_of v t) (task_at v t)
 settled_seat v start repaired t =
-    let w : (seat_at v t).wait ≡ option_map (with_rank_priority (local_of v t)) (seat_at v t).wait =
-    settled_wait (local_of v t) (seat_at v t).wait
+    let w : (task_at v t).wait ≡ option_map (with_rank_priority (local_of v t)) (task_at v t).wait =
+    settled_wait (local_of v t) (task_at v t).wait
     (λ x e. repaired.ranks t x.rank (ap (option_map (λ (y : Wait). y.rank)) e)) in
-    λ i. record { base = (seat_at v t).base; local = (seat_at v t).local; wait = w i }
+    λ i. record { base = (task_at v t).base; local = (task_at v t).local; wait = w i }
 
 -- before the first hop
 pub walked-start : (v : Owners) (start : ℕ) → IsRepairedBut start v → IsWalked v v start
@@ -62,7 +62,7 @@ walked-start v start repaired =
     record { threads = refl; owners = refl; seats = settled_seat v start repaired; repaired = repaired }
 
 -- of two effective priorities the last is left
-effective_twice : (p q : ℕ) (x : Seat) → with_effective p (with_effective q x) ≡ with_effective p x
+effective_twice : (p q : ℕ) (x : Task) → with_effective p (with_effective q x) ≡ with_effective p x
 effective_twice p q x = ap (λ (w : Option Wait). record { base = x.base; local = p; wait = w }) (by_wait x.wait)
   where
     by_wait : (o : Option Wait) → option_map (with_rank_priority p) (option_map (with_rank_priority q) o)
@@ -72,12 +72,12 @@ effective_twice p q x = ap (λ (w : Option Wait). record { base = x.base; local 
 
 module _ (v now : Owners) (at : ℕ) (w : IsWalked v now at) where
   pub walked-base : (t : ℕ) → base_of now t ≡ base_of v t
-  walked-base t = ap (λ (x : Seat). x.base) (w.seats t)
+  walked-base t = ap (λ (x : Task). x.base) (w.seats t)
 
   pub walked-state : (t : ℕ) → waits_on now t ≡ waits_on v t
   walked-state t =
-      ap (λ (x : Seat). option_map (λ (y : Wait). y.state) x.wait) (w.seats t)
-      ∙ ranked-state (local_of now t) (seat_at v t).wait
+      ap (λ (x : Task). option_map (λ (y : Wait). y.state) x.wait) (w.seats t)
+      ∙ ranked-state (local_of now t) (task_at v t).wait
 
   pub walked-waits : (t : ℕ) → waits_for now t ≡ waits_for v t
   walked-waits t =
@@ -110,29 +110,29 @@ module _ (v now : Owners) (at : ℕ) (w : IsWalked v now at) where
   -- one hop: the thread gets what it is to have, and the walk stands at the one for which it waits
   module _ (p : ℕ) (then : Owners) (sound : AreSoundOwners now) (row : at < length now.seats)
       (own : p ≡ max (base_of now at) (greatest_waiting now at))
-      (is : then ≡ with_seat at (with_effective p (seat_at now at)) now) where
+      (is : then ≡ with_task at (with_effective p (task_at now at)) now) where
     abbrev next : Owners
-    next = with_seat at (with_effective p (seat_at now at)) now
+    next = with_task at (with_effective p (task_at now at)) now
 
-    seat_here : seat_at next at ≡ with_effective p (seat_at now at)
-    seat_here = get_or-set_same now.seats at (with_effective p (seat_at now at)) no_seat row
+    seat_here : task_at next at ≡ with_effective p (task_at now at)
+    seat_here = get_or-set_same now.seats at (with_effective p (task_at now at)) no_task row
 
-    seat_other : (t : ℕ) → t ≢ at → seat_at next t ≡ seat_at now t
-    seat_other t ne = get_or-set_other now.seats at t (with_effective p (seat_at now at)) no_seat ne
+    seat_other : (t : ℕ) → t ≢ at → task_at next t ≡ task_at now t
+    seat_other t ne = get_or-set_other now.seats at t (with_effective p (task_at now at)) no_task ne
 
     base_same : (t : ℕ) → base_of next t ≡ base_of now t
     base_same t = by_place (cases_eq t at)
       where
         by_place : ((t ≡ at) ⊎ (t ≡ at → ⊥)) → base_of next t ≡ base_of now t
         by_place (inl e) =
-            subst (λ (x : ℕ). base_of next x ≡ base_of now x) (sym e) (ap (λ (s : Seat). s.base) seat_here)
-        by_place (inr ne) = ap (λ (s : Seat). s.base) (seat_other t ne)
+            subst (λ (x : ℕ). base_of next x ≡ base_of now x) (sym e) (ap (λ (s : Task). s.base) seat_here)
+        by_place (inr ne) = ap (λ (s : Task). s.base) (seat_other t ne)
 
     local_here : local_of next at ≡ p
-    local_here = ap (λ (s : Seat). s.local) seat_here
+    local_here = ap (λ (s : Task). s.local) seat_here
 
     local_other : (t : ℕ) → t ≢ at → local_of next t ≡ local_of now t
-    local_other t ne = ap (λ (s : Seat). s.local) (seat_other t ne)
+    local_other t ne = ap (λ (s : Task). s.local) (seat_other t ne)
 
     state_same : (t : ℕ) → waits_on next t ≡ waits_on now t
     state_same t = by_place (cases_eq t at)
@@ -140,15 +140,15 @@ module _ (v now : Owners) (at : ℕ) (w : IsWalked v now at) where
         by_place : ((t ≡ at) ⊎ (t ≡ at → ⊥)) → waits_on next t ≡ waits_on now t
         by_place (inl e) =
             subst (λ (x : ℕ). waits_on next x ≡ waits_on now x) (sym e)
-            (ap (λ (s : Seat). option_map (λ (y : Wait). y.state) s.wait) seat_here
-            ∙ ranked-state p (seat_at now at).wait)
-        by_place (inr ne) = ap (λ (s : Seat). option_map (λ (y : Wait). y.state) s.wait) (seat_other t ne)
+            (ap (λ (s : Task). option_map (λ (y : Wait). y.state) s.wait) seat_here
+            ∙ ranked-state p (task_at now at).wait)
+        by_place (inr ne) = ap (λ (s : Task). option_map (λ (y : Wait). y.state) s.wait) (seat_other t ne)
 
     waits_same : (t : ℕ) → waits_for next t ≡ waits_for now t
     waits_same t = ap (λ (o : Option ℕ). unwrap_or (option_and_then (owner_at now) o) 0) (state_same t)
 
     long : length next.seats ≡ length now.seats
-    long = length-set now.seats at (with_effective p (seat_at now at))
+    long = length-set now.seats at (with_effective p (task_at now at))
 
     -- what the others wait with stays, for whom this thread doesn't wait
     waiting_same : (t : ℕ) → waits_for now at ≢ t → greatest_waiting next t ≡ greatest_waiting now t
@@ -177,13 +177,13 @@ module _ (v now : Owners) (at : ℕ) (w : IsWalked v now at) where
           };
         })
       where
-        seat : (t : ℕ) → ((t ≡ at) ⊎ (t ≡ at → ⊥)) → seat_at next t ≡ with_effective (local_of next t) (seat_at v t)
+        seat : (t : ℕ) → ((t ≡ at) ⊎ (t ≡ at → ⊥)) → task_at next t ≡ with_effective (local_of next t) (task_at v t)
         seat t (inl e) =
-            subst (λ (x : ℕ). seat_at next x ≡ with_effective (local_of next x) (seat_at v x)) (sym e)
-            (seat_here ∙ ap (with_effective p) (w.seats at) ∙ effective_twice p (local_of now at) (seat_at v at)
-            ∙ ap (λ (q : ℕ). with_effective q (seat_at v at)) (sym local_here))
+            subst (λ (x : ℕ). task_at next x ≡ with_effective (local_of next x) (task_at v x)) (sym e)
+            (seat_here ∙ ap (with_effective p) (w.seats at) ∙ effective_twice p (local_of now at) (task_at v at)
+            ∙ ap (λ (q : ℕ). with_effective q (task_at v at)) (sym local_here))
         seat t (inr ne) =
-            seat_other t ne ∙ w.seats t ∙ ap (λ (q : ℕ). with_effective q (seat_at v t)) (sym (local_other t ne))
+            seat_other t ne ∙ w.seats t ∙ ap (λ (q : ℕ). with_effective q (task_at v t)) (sym (local_other t ne))
 
         local : (t : ℕ) → IsThread now t → t ≢ waits_for now at → ((t ≡ at) ⊎ (t ≡ at → ⊥))
             → local_of next t ≡ max (base_of next t) (greatest_waiting next t)
@@ -198,12 +198,12 @@ module _ (v now : Owners) (at : ℕ) (w : IsWalked v now at) where
         ranked : (t : ℕ) (rank : Key) → rank_of next t ≡ Some rank → ((t ≡ at) ⊎ (t ≡ at → ⊥))
             → rank.prio ≡ local_of next t
         ranked t rank e (inl s) =
-            ranked-prio p (seat_at now at).wait rank
-            (ap (λ (y : Seat). option_map (λ (z : Wait). z.rank) y.wait) (sym seat_here)
+            ranked-prio p (task_at now at).wait rank
+            (ap (λ (y : Task). option_map (λ (z : Wait). z.rank) y.wait) (sym seat_here)
             ∙ ap (rank_of next) (sym s) ∙ e)
             ∙ sym local_here ∙ ap (local_of next) (sym s)
         ranked t rank e (inr ne) =
-            w.repaired.ranks t rank (ap (λ (y : Seat). option_map (λ (z : Wait). z.rank) y.wait) (sym (seat_other t ne)) ∙ e)
+            w.repaired.ranks t rank (ap (λ (y : Task). option_map (λ (z : Wait). z.rank) y.wait) (sym (seat_other t ne)) ∙ e)
             ∙ sym (local_other t ne)
 
     -- who waits for nobody keeps its effective priority, unless it is this thread
@@ -231,7 +231,7 @@ module _ (v now : Owners) (old : AreSoundOwners v) (sound : AreSoundOwners now) 
     where
       by_place : ((t ≡ 0) ⊎ (t ≡ 0 → ⊥)) → local_of now t ≡ greatest_base v t
       by_place (inl e) =
-          ap (local_of now) e ∙ ap (λ (x : Seat). x.local) sound.nobody ∙ sym (ap (greatest_base v) e ∙ greatest_base-nobody v old)
+          ap (local_of now) e ∙ ap (λ (x : Task). x.local) sound.nobody ∙ sym (ap (greatest_base v) e ∙ greatest_base-nobody v old)
       by_place (inr ne) =
           let th : IsThread now t = (omega (arith, ne), omega (arith, l, w.threads)) in
           local_is_greatest now 0 sound w.repaired t th (from_nobody t th) ∙ walked-greatest v now 0 w t
@@ -241,7 +241,7 @@ module _ (v now : Owners) (old : AreSoundOwners v) (sound : AreSoundOwners now) 
       record {
         threads = w.threads;
         owners = w.owners;
-        seats = λ t l. w.seats t ∙ ap (λ (p : ℕ). with_effective p (seat_at v t)) (walked-local t l);
+        seats = λ t l. w.seats t ∙ ap (λ (p : ℕ). with_effective p (task_at v t)) (walked-local t l);
       }
 
   pub walked-settled : (other : ℕ) → IsRepairedBut other now

@@ -8,8 +8,8 @@ use Rattle.pif_lists.specs.Lists.{has}
 use Rattle.pif_lists.specs.Table.{NodeLists, holder}
 use Rattle.pif_lists.specs.Levels.{Queue, IsLevel, level_of, level_with, level_for, node_for, level_after_move, Holds, IsQueued, SameOutside}
 use Rattle.pif_lists.proofs.KeptLemmas.{levels-framed, queue-framed}
-use Rattle.pif_owners.specs.Owners.{Owners, Seat, Wait, seat_at, owner_at, waits_on, waits_for, with_seat, AreSoundOwners}
-use Rattle.pif_owners.proofs.OwnersLemmas.{seat_at-with_seat_same}
+use Rattle.pif_owners.specs.Owners.{Owners, Task, Wait, task_at, owner_at, waits_on, waits_for, with_task, AreSoundOwners}
+use Rattle.pif_owners.proofs.OwnersLemmas.{task_at-with_task_same}
 use Rattle.pif_owners.specs.States.{States, owners_in}
 use Rattle.pif_owners.specs.Holds.{HoldsStates}
 use Rattle.pif_owners.specs.Frames.{KeepsOwn}
@@ -36,9 +36,9 @@ pub maximum_is : (v : Owners) (start t : ℕ) → IsRepairedBut start v → 1 �
 maximum_is v start t repaired one =
     ap (max (base_of v t))
     (greatest_where_on (λ u. waits_for v u == t) (rank_priority v) (local_of v) (length v.seats)
-    (λ u l e. by_wait u (eqb-true (waits_for v u) t e) (seat_at v u).wait refl))
+    (λ u l e. by_wait u (eqb-true (waits_for v u) t e) (task_at v u).wait refl))
   where
-    by_wait : (u : ℕ) → waits_for v u ≡ t → (o : Option Wait) → (seat_at v u).wait ≡ o → rank_priority v u ≡ local_of v u
+    by_wait : (u : ℕ) → waits_for v u ≡ t → (o : Option Wait) → (task_at v u).wait ≡ o → rank_priority v u ≡ local_of v u
     by_wait u for None e =
         let none : waits_for v u ≡ 0 = waits_for-none v u (ap (option_map (λ (w : Wait). w.state)) e) in
         absurd (omega (arith, none, for))
@@ -112,7 +112,7 @@ module _ (m0 : States) (t0 : NodeLists) (start : ℕ) (states : HoldsStates m0 t
     walking-some (Some p) e = refl
 
     module _ (p : ℕ) (own : p ≡ maximum_of now at) (m1 : States) (t1 : NodeLists)
-        (boosted : owners_in m1 t1 ≡ with_seat at (with_effective p (seat_at now at)) now)
+        (boosted : owners_in m1 t1 ≡ with_task at (with_effective p (task_at now at)) now)
         (place : m1 ≡ record m { rows = m1.rows }) (outside : SameOutsideStates m t t1) (holds : HoldsStates m1 t1) where
       abbrev after : Owners
       after = owners_in m1 t1
@@ -135,7 +135,7 @@ module _ (m0 : States) (t0 : NodeLists) (start : ℕ) (states : HoldsStates m0 t
       local_then : local_of after at ≡ p
       local_then =
           ap (λ (x : Owners). local_of x at) boosted
-          ∙ ap (λ (x : Seat). x.local) (seat_at-with_seat_same at (with_effective p (seat_at now at)) now walking-row)
+          ∙ ap (λ (x : Task). x.local) (task_at-with_task_same at (with_effective p (task_at now at)) now walking-row)
 
       -- no other thread got another effective priority
       same_then : (u : ℕ) → u ≢ at → local_of after u ≡ local_of now u
@@ -245,7 +245,7 @@ module _ (m0 : States) (t0 : NodeLists) (start : ℕ) (states : HoldsStates m0 t
 
       -- it ends at a thread that waits for nobody
       module _ (p : ℕ) (own : p ≡ maximum_of now at) (m1 : States) (t1 : NodeLists)
-          (boosted : owners_in m1 t1 ≡ with_seat at (with_effective p (seat_at now at)) now)
+          (boosted : owners_in m1 t1 ≡ with_task at (with_effective p (task_at now at)) now)
           (place : m1 ≡ record m { rows = m1.rows }) (outside : SameOutsideStates m t t1) (holds : HoldsStates m1 t1) where
         whole : SameOutsideStates m0 t0 t1
         whole = outside_then p own m1 t1 boosted place outside holds

@@ -20,7 +20,7 @@ ghost use Rattle.std.specs.Prelude.{◌≡◌, ◌≢◌, ℕ, ◌-◌, ◌<◌,
 ghost use Rattle.pif_lists.specs.Lists.{has};
 ghost use Rattle.pif_lists.specs.Levels.{IsLevel, level_of, Holds, IsQueued, SameOutside};
 ghost use Rattle.pif_model.specs.Graph.{IsEffective};
-ghost use Rattle.pif_owners.specs.Owners.{seat_at, waits_on, waits_for, WaitsFor, with_seat, IsTop};
+ghost use Rattle.pif_owners.specs.Owners.{task_at, waits_on, waits_for, WaitsFor, with_task, IsTop};
 ghost use Rattle.pif_owners.specs.States.{owners_in};
 ghost use Rattle.pif_owners.specs.Holds.{HoldsStates};
 ghost use Rattle.pif_owners.specs.Frames.{SameOutsideStates};
@@ -120,7 +120,7 @@ fn boost(owners: &mut RtMutexes, table: &mut NodeTable, t: Tid, prio: Prio)
     requires states { HoldsStates owners.old table.old }
     requires row { t < length (owners_in owners.old table.old).seats }
     ensures owners { owners_in owners.new table.new
-        ≡ with_seat t (with_effective prio (seat_at (owners_in owners.old table.old) t)) (owners_in owners.old table.old) }
+        ≡ with_task t (with_effective prio (task_at (owners_in owners.old table.old) t)) (owners_in owners.old table.old) }
     ensures rows { owners.new ≡ record owners.old { rows = owners.new.rows } }
     ensures outside { SameOutsideStates owners.old table.old table.new }
     ensures states { HoldsStates owners.new table.new }

@@ -12,7 +12,7 @@ use Rattle.pif_model.specs.declared.lines.Status.{Status}
 use Rattle.pif_model.specs.declared.lines.Status.TheVariants.{Ready}
 use Rattle.pif_model.specs.declared.lines.Woken.TheVariants.{Fresh}
 use Rattle.pif_model.specs.PiKernel.{Kernel, IsKernel, queued_on, effective_in, level_at, levels_with, kernel_after_add}
-use Rattle.pif_owners.specs.Owners.{Seat, Wait, seat_at, rank_of, no_seat, with_seat}
+use Rattle.pif_owners.specs.Owners.{Task, Wait, task_at, rank_of, no_task, with_task}
 use Rattle.pif_chains.proofs.kernel.KernelSettled.{priority-from_range}
 use Rattle.pif_chains.proofs.Places.{kept_at}
 use Rattle.pif_kernel_state.specs.Inside.{Inside, IsPlaced, IsSoundInside, kernel_of, status_at, state_key_at, ticket_of}
@@ -34,13 +34,13 @@ module _ (p : Inside) (q : Queue) (tb : NodeLists) (t prio : ℕ) (h : IsSoundIn
     (place : q ≡ record p.queue { mask = q.mask })
     (levels : (r : ℕ) → IsLevel r → level_of q tb r ≡ level_after_add t prio r (level_of p.queue p.table r))
     (holds : Holds q tb) where
-  abbrev row : Seat
+  abbrev row : Task
   row = record { base = prio; local = prio; wait = None }
 
   -- what is kept then
   abbrev pub after : Inside
   after =
-      record p { statuses = p.statuses ++ Ready Fresh ∷ []; owners = with_seat t row p.owners; queue = q; table = tb }
+      record p { statuses = p.statuses ++ Ready Fresh ∷ []; owners = with_task t row p.owners; queue = q; table = tb }
 
   long : length after.statuses ≡ length p.statuses + 1
   long = length_push p.statuses (Ready Fresh)
@@ -48,18 +48,18 @@ module _ (p : Inside) (q : Queue) (tb : NodeLists) (t prio : ℕ) (h : IsSoundIn
   within : t < length p.owners.seats
   within = omega (arith, is, room, h.placed.rows)
 
-  free : seat_at p.owners t ≡ no_seat
+  free : task_at p.owners t ≡ no_task
   free = h.placed.free t (omega (arith, is))
 
-  other : (u : ℕ) → u ≢ t → seat_at after.owners u ≡ seat_at p.owners u
-  other u n = get_or-set_other p.owners.seats t u row no_seat n
+  other : (u : ℕ) → u ≢ t → task_at after.owners u ≡ task_at p.owners u
+  other u n = get_or-set_other p.owners.seats t u row no_task n
 
-  same : (u : ℕ) → u ≡ t → seat_at after.owners u ≡ row
-  same u e = ap (λ (v : ℕ). seat_at after.owners v) e ∙ get_or-set_same p.owners.seats t row no_seat within
+  same : (u : ℕ) → u ≡ t → task_at after.owners u ≡ row
+  same u e = ap (λ (v : ℕ). task_at after.owners v) e ∙ get_or-set_same p.owners.seats t row no_task within
 
   -- the new thread waits for nothing, as nobody did at its place
-  waits_same : (u : ℕ) → (seat_at after.owners u).wait ≡ (seat_at p.owners u).wait
-  waits_same u = kept_at (λ (x : Seat). x.wait) p.owners.seats t row no_seat (sym (ap (λ (x : Seat). x.wait) free)) u
+  waits_same : (u : ℕ) → (task_at after.owners u).wait ≡ (task_at p.owners u).wait
+  waits_same u = kept_at (λ (x : Task). x.wait) p.owners.seats t row no_task (sym (ap (λ (x : Task). x.wait) free)) u
 
   rank_same : (u : ℕ) → rank_of after.owners u ≡ rank_of p.owners u
   rank_same u = ap (option_map (λ (w : Wait). w.rank)) (waits_same u)
@@ -97,28 +97,28 @@ module _ (p : Inside) (q : Queue) (tb : NodeLists) (t prio : ℕ) (h : IsSoundIn
       ∙ ap (effective_in (kernel_after_add prio (kernel_of p))) (e ∙ sym many)
       ∙ effective-added_same prio (kernel_of p) h.kernel
 
-  local_after : (u : ℕ) → ((u ≡ t) ⊎ (u ≡ t → ⊥)) → (seat_at after.owners u).local ≡ effective_in (kernel_of after) u
-  local_after u (inl e) = ap (λ (x : Seat). x.local) (same u e) ∙ sym (effective_here u e)
-  local_after u (inr n) = ap (λ (x : Seat). x.local) (other u n) ∙ h.local u ∙ sym (effective_same u n)
+  local_after : (u : ℕ) → ((u ≡ t) ⊎ (u ≡ t → ⊥)) → (task_at after.owners u).local ≡ effective_in (kernel_of after) u
+  local_after u (inl e) = ap (λ (x : Task). x.local) (same u e) ∙ sym (effective_here u e)
+  local_after u (inr n) = ap (λ (x : Task). x.local) (other u n) ∙ h.local u ∙ sym (effective_same u n)
 
   rank_after : (u : ℕ) (r : Key) → ((u ≡ t) ⊎ (u ≡ t → ⊥)) → rank_of after.owners u ≡ Some r
       → r.prio ≡ effective_in (kernel_of after) u
   rank_after u r (inl e) x =
       let none : rank_of after.owners u ≡ None
-      = ap (λ (s : Seat). option_map (λ (w : Wait). w.rank) s.wait) (same u e) in
+      = ap (λ (s : Task). option_map (λ (w : Wait). w.rank) s.wait) (same u e) in
       let both : None ≡ Some r = sym none ∙ x in cc
   rank_after u r (inr n) x = h.rank u r (sym (rank_same u) ∙ x) ∙ sym (effective_same u n)
 
   admitted_after : (u : ℕ) → ((u ≡ t) ⊎ (u ≡ t → ⊥)) → u ≢ 0 → u < length after.statuses
-      → 1 ≤ (seat_at after.owners u).base
-  admitted_after u (inl e) nz l = omega (arith, ap (λ (x : Seat). x.base) (same u e), some)
+      → 1 ≤ (task_at after.owners u).base
+  admitted_after u (inl e) nz l = omega (arith, ap (λ (x : Task). x.base) (same u e), some)
   admitted_after u (inr n) nz l =
       let before : u < length p.statuses = omega (arith, long, is) in
-      omega (arith, ap (λ (x : Seat). x.base) (other u n), h.placed.admitted u nz before)
+      omega (arith, ap (λ (x : Task). x.base) (other u n), h.placed.admitted u nz before)
 
-  most_after : (u : ℕ) → ((u ≡ t) ⊎ (u ≡ t → ⊥)) → (seat_at after.owners u).base ≤ 99
-  most_after u (inl e) = omega (arith, ap (λ (x : Seat). x.base) (same u e), few)
-  most_after u (inr n) = omega (arith, ap (λ (x : Seat). x.base) (other u n), h.placed.most u)
+  most_after : (u : ℕ) → ((u ≡ t) ⊎ (u ≡ t → ⊥)) → (task_at after.owners u).base ≤ 99
+  most_after u (inl e) = omega (arith, ap (λ (x : Task). x.base) (same u e), few)
+  most_after u (inr n) = omega (arith, ap (λ (x : Task). x.base) (other u n), h.placed.most u)
 
   ticket_same : (u : ℕ) → ticket_of p.owners u ≡ ticket_of after.owners u
   ticket_same u = ap (λ (o : Option Key). unwrap_or (option_map (λ (r : Key). r.ticket) o) 0) (sym (rank_same u))

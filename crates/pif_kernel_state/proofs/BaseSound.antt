@@ -6,7 +6,7 @@ use Rattle.std.proofs.lemmas.List.{get_or-set_same, get_or-set_other}
 use Rattle.pif_lists.specs.declared.keys.Key.{Key}
 use Rattle.pif_model.specs.PiKernel.{is_among, is_living, has_seat, with_effective_levels, kernel_after_set_prio}
 use Rattle.pif_model.specs.PiKernel.{seat_at as kernel_seat_at, with_seat as kernel_with_seat}
-use Rattle.pif_owners.specs.Owners.{Seat, Wait, seat_at, owner_at, waits_on, rank_of, no_seat, with_base}
+use Rattle.pif_owners.specs.Owners.{Task, Wait, task_at, owner_at, waits_on, rank_of, no_task, with_base}
 use Rattle.pif_owners.specs.Owners.{waits_for as owners_wait_for}
 use Rattle.pif_owners.specs.Boosts.{IsRepairedBut}
 use Rattle.pif_chains.proofs.kernel.KernelFacts.{living-added}
@@ -23,8 +23,8 @@ use Rattle.pif_kernel_state.proofs.WalkSound.{IsWalkable, owners_effective}
 
 module _ (p : Inside) (t prio : ℕ) (h : IsSoundInside p) (lives : is_living (kernel_of p) t ≡ true) (some : 1 ≤ prio)
     (few : prio ≤ 99) where
-  abbrev row : Seat
-  row = record (seat_at p.owners t) { base = prio }
+  abbrev row : Task
+  row = record (task_at p.owners t) { base = prio }
 
   -- what is kept before the walk
   abbrev pub mid : Inside
@@ -48,19 +48,19 @@ module _ (p : Inside) (t prio : ℕ) (h : IsSoundInside p) (lives : is_living (k
   long : length mid.owners.seats ≡ length p.owners.seats
   long = length-set p.owners.seats t row
 
-  other : (u : ℕ) → u ≢ t → seat_at mid.owners u ≡ seat_at p.owners u
-  other u n = get_or-set_other p.owners.seats t u row no_seat n
+  other : (u : ℕ) → u ≢ t → task_at mid.owners u ≡ task_at p.owners u
+  other u n = get_or-set_other p.owners.seats t u row no_task n
 
-  same : (u : ℕ) → u ≡ t → (seat_at mid.owners u).base ≡ prio
+  same : (u : ℕ) → u ≡ t → (task_at mid.owners u).base ≡ prio
   same u e =
-      ap (λ (v : ℕ). (seat_at mid.owners v).base) e
-      ∙ ap (λ (x : Seat). x.base) (get_or-set_same p.owners.seats t row no_seat inside)
+      ap (λ (v : ℕ). (task_at mid.owners v).base) e
+      ∙ ap (λ (x : Task). x.base) (get_or-set_same p.owners.seats t row no_task inside)
 
-  wait_same : (u : ℕ) → (seat_at mid.owners u).wait ≡ (seat_at p.owners u).wait
-  wait_same u = kept_at (λ (x : Seat). x.wait) p.owners.seats t row no_seat refl u
+  wait_same : (u : ℕ) → (task_at mid.owners u).wait ≡ (task_at p.owners u).wait
+  wait_same u = kept_at (λ (x : Task). x.wait) p.owners.seats t row no_task refl u
 
-  local_same : (u : ℕ) → (seat_at mid.owners u).local ≡ (seat_at p.owners u).local
-  local_same u = kept_at (λ (x : Seat). x.local) p.owners.seats t row no_seat refl u
+  local_same : (u : ℕ) → (task_at mid.owners u).local ≡ (task_at p.owners u).local
+  local_same u = kept_at (λ (x : Task). x.local) p.owners.seats t row no_task refl u
 
   waits_same : (u : ℕ) → waits_on mid.owners u ≡ waits_on p.owners u
   waits_same u = ap (option_map (λ (w : Wait). w.state)) (wait_same u)
@@ -74,13 +74,13 @@ module _ (p : Inside) (t prio : ℕ) (h : IsSoundInside p) (lives : is_living (k
   ticket_same : (u : ℕ) → ticket_of p.owners u ≡ ticket_of mid.owners u
   ticket_same u = ap (λ (o : Option Key). unwrap_or (option_map (λ (r : Key). r.ticket) o) 0) (sym (rank_same u))
 
-  admitted_mid : (u : ℕ) → ((u ≡ t) ⊎ (u ≡ t → ⊥)) → u ≢ 0 → u < length p.statuses → 1 ≤ (seat_at mid.owners u).base
+  admitted_mid : (u : ℕ) → ((u ≡ t) ⊎ (u ≡ t → ⊥)) → u ≢ 0 → u < length p.statuses → 1 ≤ (task_at mid.owners u).base
   admitted_mid u (inl e) nz l = omega (arith, same u e, some)
-  admitted_mid u (inr n) nz l = omega (arith, ap (λ (x : Seat). x.base) (other u n), h.placed.admitted u nz l)
+  admitted_mid u (inr n) nz l = omega (arith, ap (λ (x : Task). x.base) (other u n), h.placed.admitted u nz l)
 
-  most_mid : (u : ℕ) → ((u ≡ t) ⊎ (u ≡ t → ⊥)) → (seat_at mid.owners u).base ≤ 99
+  most_mid : (u : ℕ) → ((u ≡ t) ⊎ (u ≡ t → ⊥)) → (task_at mid.owners u).base ≤ 99
   most_mid u (inl e) = omega (arith, same u e, few)
-  most_mid u (inr n) = omega (arith, ap (λ (x : Seat). x.base) (other u n), h.placed.most u)
+  most_mid u (inr n) = omega (arith, ap (λ (x : Task). x.base) (other u n), h.placed.most u)
 
   fit_mid : IsFitted mid
   fit_mid = record {
@@ -132,7 +132,7 @@ module _ (p : Inside) (t prio : ℕ) (h : IsSoundInside p) (lives : is_living (k
   repairs : IsRepairedBut t mid.owners
   repairs =
       repaired_but p.owners mid.owners t long (λ x u ne nz. ap (λ (n : ℕ). n == u) (waiting_same x))
-      (λ u ne. sym (ap (λ (s : Seat). s.base) (other u ne)))
+      (λ u ne. sym (ap (λ (s : Task). s.base) (other u ne)))
       (λ u. owners_effective p fit u ∙ sym (h.local u) ∙ sym (local_same u))
       (λ u r e. h.rank u r (sym (rank_same u) ∙ e) ∙ sym (h.local u) ∙ sym (local_same u))
 

@@ -3,13 +3,13 @@ use Rattle.std.proofs.Common.{◌≡◌, ◌≢◌, ℕ, ◌+◌, true, if◌the
 use Rattle.pif_model.specs.Graph.{has_waiter, without}
 use Rattle.pif_model.specs.PiKernel.{queued_on}
 use Rattle.pif_model.specs.PiKernel.{seat_at as kernel_seat_at}
-use Rattle.pif_owners.specs.Owners.{Owners, seat_at, owner_at, count, IsTop}
+use Rattle.pif_owners.specs.Owners.{Owners, task_at, owner_at, count, IsTop}
 use Rattle.pif_kernel_state.specs.Inside.{Inside, IsSoundInside, kernel_of, state_key_at, state_at}
 
 -- the keys and owner states in which m was handed to u, its next waiter: where others still wait for m, u is the owner
 -- in its owner state, and else it has none
 pub record IsHanded (p : Inside) (keys : List (Option ℕ)) (owners : Owners) (u m key : ℕ) : Type 0 where
-  pub seats : owners.seats ≡ set p.owners.seats u (record (seat_at p.owners u) { wait = None })
+  pub seats : owners.seats ≡ set p.owners.seats u (record (task_at p.owners u) { wait = None })
   pub long : length keys ≡ length p.keys
   pub here : get_or keys m None ≡ (if has_waiter (without p.arrivals u) m then Some key else None)
   pub there : (n : ℕ) → n ≢ m → get_or keys n None ≡ state_key_at p n

@@ -15,7 +15,7 @@ use Rattle.pif_model.specs.declared.lines.Woken.TheVariants.{Fresh, Owns}
 use Rattle.pif_model.specs.Graph.{has_waiter, without}
 use Rattle.pif_model.specs.PiKernel.{Kernel, IsKernel, queued_on, is_ready, effective_in, has_seat, is_among, level_at, next_in, with_effective_levels, waits_for, levels_with, kernel_after_hand_over}
 use Rattle.pif_model.specs.PiKernel.{state_at as kernel_state_at, with_status, with_state}
-use Rattle.pif_owners.specs.Owners.{Owners, Seat, Wait, seat_at, owner_at, count, waits_on, rank_of, no_seat, with_base, with_wait, with_owner, without_state, IsTop, HasNoWaiter}
+use Rattle.pif_owners.specs.Owners.{Owners, Task, Wait, task_at, owner_at, count, waits_on, rank_of, no_task, with_base, with_wait, with_owner, without_state, IsTop, HasNoWaiter}
 use Rattle.pif_owners.specs.Owners.{waits_for as owners_wait_for}
 use Rattle.pif_owners.proofs.MapLemmas.{get-insert_same, get-insert_other, get-remove_other}
 use Rattle.pif_owners.proofs.OwnersLemmas.{some_rank}
@@ -68,7 +68,7 @@ module _ (p : Inside) (t m key u : ℕ) (d : IsHandable p t m key) (top : IsTop 
   pub next_some : u ≢ 0
   next_some z =
       let none : None ≡ Some key
-      = sym (ap (λ (x : Seat). option_map (λ (w : Wait). w.state) x.wait) (ap (seat_at p.owners) z ∙ h.placed.nobody))
+      = sym (ap (λ (x : Task). option_map (λ (w : Wait). w.state) x.wait) (ap (task_at p.owners) z ∙ h.placed.nobody))
       ∙ top.waits in
       cc
 
@@ -79,7 +79,7 @@ module _ (p : Inside) (t m key u : ℕ) (d : IsHandable p t m key) (top : IsTop 
       by_place (inl l) = l
       by_place (inr g) =
           let none : None ≡ Some key
-          = sym (ap (λ (x : Seat). option_map (λ (w : Wait). w.state) x.wait) (h.placed.free u g)) ∙ top.waits in
+          = sym (ap (λ (x : Task). option_map (λ (w : Wait). w.state) x.wait) (h.placed.free u g)) ∙ top.waits in
           cc
 
   pub next : u ≡ next_in (kernel_of p) m
@@ -133,14 +133,14 @@ module _ (p : Inside) (t m key u : ℕ) (d : IsHandable p t m key) (top : IsTop 
   given_free : (x : ℕ) → x ≡ u → waits_on given x ≡ None
   given_free x e =
       ap (waits_on given) e
-      ∙ ap (λ (s : Seat). option_map (λ (w : Wait). w.state) s.wait)
-      (get_or-set_same p.owners.seats u (record (seat_at p.owners u) { wait = None }) no_seat
+      ∙ ap (λ (s : Task). option_map (λ (w : Wait). w.state) s.wait)
+      (get_or-set_same p.owners.seats u (record (task_at p.owners u) { wait = None }) no_task
       (omega (arith, next_added, fit.few)))
 
   given_other : (x : ℕ) → x ≢ u → waits_on given x ≡ waits_on p.owners x
   given_other x n =
-      ap (λ (s : Seat). option_map (λ (w : Wait). w.state) s.wait)
-      (get_or-set_other p.owners.seats u x (record (seat_at p.owners u) { wait = None }) no_seat n)
+      ap (λ (s : Task). option_map (λ (w : Wait). w.state) s.wait)
+      (get_or-set_other p.owners.seats u x (record (task_at p.owners u) { wait = None }) no_task n)
 
   pub given_state : IsSome (owner_at given key)
   given_state = ap is_some (get-insert_same p.owners.owners key u key refl)
@@ -239,11 +239,11 @@ module _ (p : Inside) (t m key u : ℕ) (d : IsHandable p t m key) (top : IsTop 
           arrivals = rest;
         }
 
-    abbrev row : Seat
-    row = record (seat_at p.owners u) { wait = None }
+    abbrev row : Task
+    row = record (task_at p.owners u) { wait = None }
 
-    was : (x : ℕ) → seat_at owners x ≡ get_or (set p.owners.seats u row) x no_seat
-    was x = ap (λ (l : List Seat). get_or l x no_seat) o.seats
+    was : (x : ℕ) → task_at owners x ≡ get_or (set p.owners.seats u row) x no_task
+    was x = ap (λ (l : List Task). get_or l x no_task) o.seats
 
     long : length mid.owners.seats ≡ length p.owners.seats
     long = ap length o.seats ∙ length-set p.owners.seats u row
@@ -254,20 +254,20 @@ module _ (p : Inside) (t m key u : ℕ) (d : IsHandable p t m key) (top : IsTop 
     inside : u < length p.owners.seats
     inside = omega (arith, next_added, fit.few)
 
-    other : (x : ℕ) → x ≢ u → seat_at mid.owners x ≡ seat_at p.owners x
-    other x n = was x ∙ get_or-set_other p.owners.seats u x row no_seat n
+    other : (x : ℕ) → x ≢ u → task_at mid.owners x ≡ task_at p.owners x
+    other x n = was x ∙ get_or-set_other p.owners.seats u x row no_task n
 
-    same : (x : ℕ) → x ≡ u → seat_at mid.owners x ≡ row
+    same : (x : ℕ) → x ≡ u → task_at mid.owners x ≡ row
     same x e =
-        was x ∙ ap (λ (v : ℕ). get_or (set p.owners.seats u row) v no_seat) e
-        ∙ get_or-set_same p.owners.seats u row no_seat inside
+        was x ∙ ap (λ (v : ℕ). get_or (set p.owners.seats u row) v no_task) e
+        ∙ get_or-set_same p.owners.seats u row no_task inside
 
-    base_same : (x : ℕ) → (seat_at mid.owners x).base ≡ (seat_at p.owners x).base
-    base_same x = ap (λ (s : Seat). s.base) (was x) ∙ kept_at (λ (s : Seat). s.base) p.owners.seats u row no_seat refl x
+    base_same : (x : ℕ) → (task_at mid.owners x).base ≡ (task_at p.owners x).base
+    base_same x = ap (λ (s : Task). s.base) (was x) ∙ kept_at (λ (s : Task). s.base) p.owners.seats u row no_task refl x
 
-    local_same : (x : ℕ) → (seat_at mid.owners x).local ≡ (seat_at p.owners x).local
+    local_same : (x : ℕ) → (task_at mid.owners x).local ≡ (task_at p.owners x).local
     local_same x =
-        ap (λ (s : Seat). s.local) (was x) ∙ kept_at (λ (s : Seat). s.local) p.owners.seats u row no_seat refl x
+        ap (λ (s : Task). s.local) (was x) ∙ kept_at (λ (s : Task). s.local) p.owners.seats u row no_task refl x
 
     status_other : (x : ℕ) → x ≢ u → status_at mid x ≡ status_at p x
     status_other x n = get_or-set_other p.statuses u x (Ready Owns) (Ready Fresh) n
@@ -327,10 +327,10 @@ module _ (p : Inside) (t m key u : ℕ) (d : IsHandable p t m key) (top : IsTop 
 
     waits_mid : (x : ℕ) → ((x ≡ u) ⊎ (x ≡ u → ⊥)) → waits_on mid.owners x ≡ state_key_at mid (queued_on (status_at mid x))
     waits_mid x (inl e) =
-        ap (λ (s : Seat). option_map (λ (w : Wait). w.state) s.wait) (same x e) ∙ sym no_mutex_mid
+        ap (λ (s : Task). option_map (λ (w : Wait). w.state) s.wait) (same x e) ∙ sym no_mutex_mid
         ∙ ap (λ (y : Status). state_key_at mid (queued_on y)) (sym (status_here x e))
     waits_mid x (inr n) =
-        ap (λ (s : Seat). option_map (λ (w : Wait). w.state) s.wait) (other x n) ∙ h.placed.waits x
+        ap (λ (s : Task). option_map (λ (w : Wait). w.state) s.wait) (other x n) ∙ h.placed.waits x
         ∙ sym (by_place (cases_eq (queued_on (status_at p x)) m))
         ∙ ap (λ (y : Status). state_key_at mid (queued_on y)) (sym (status_other x n))
       where
@@ -411,7 +411,7 @@ module _ (p : Inside) (t m key u : ℕ) (d : IsHandable p t m key) (top : IsTop 
 
     -- no waiter of m is higher than the next
     highest : (x : ℕ) → on x ≡ true → greatest_base p.owners x ≤ greatest_base p.owners u
-    highest x e = by_rank (some_rank (seat_at p.owners x).wait key waits)
+    highest x e = by_rank (some_rank (task_at p.owners x).wait key waits)
       where
         waits : waits_on p.owners x ≡ Some key
         waits = h.placed.waits x ∙ ap (state_key_at p) (on_is x e) ∙ at
@@ -445,24 +445,24 @@ module _ (p : Inside) (t m key u : ℕ) (d : IsHandable p t m key) (top : IsTop 
     abbrev high : Owners
     high = with_base t (effective_in (kernel_of p) t) mid.owners
 
-    abbrev high_row : Seat
-    high_row = record (seat_at mid.owners t) { base = effective_in (kernel_of p) t }
+    abbrev high_row : Task
+    high_row = record (task_at mid.owners t) { base = effective_in (kernel_of p) t }
 
     high_waits : (x : ℕ) → owners_wait_for high x ≡ owners_wait_for mid.owners x
     high_waits x =
         ap (λ (w : Option Wait). unwrap_or
         (option_and_then (owner_at mid.owners) (option_map (λ (y : Wait). y.state) w)) 0) (kept_at
-        (λ (s : Seat). s.wait) mid.owners.seats t high_row no_seat refl x)
+        (λ (s : Task). s.wait) mid.owners.seats t high_row no_task refl x)
 
     high_long : length high.seats ≡ length mid.owners.seats
     high_long = length-set mid.owners.seats t high_row
 
     high_base : (x : ℕ) → x ≢ t → base_of high x ≡ base_of mid.owners x
-    high_base x ne = ap (λ (s : Seat). s.base) (get_or-set_other mid.owners.seats t x high_row no_seat ne)
+    high_base x ne = ap (λ (s : Task). s.base) (get_or-set_other mid.owners.seats t x high_row no_task ne)
 
     high_own : base_of high t ≡ greatest_base p.owners t
     high_own =
-        ap (λ (s : Seat). s.base) (get_or-set_same mid.owners.seats t high_row no_seat
+        ap (λ (s : Task). s.base) (get_or-set_same mid.owners.seats t high_row no_task
         (omega (arith, owner_added, fit.few, long))) ∙ sym (owners_effective p fit t)
 
     high_local : (y : ℕ) → greatest_base high y ≡ local_of mid.owners y
@@ -481,9 +481,9 @@ module _ (p : Inside) (t m key u : ℕ) (d : IsHandable p t m key) (top : IsTop 
     ranks : (x : ℕ) (r : Key) → ((x ≡ u) ⊎ (x ≡ u → ⊥)) → rank_of mid.owners x ≡ Some r
         → r.prio ≡ effective_in (kernel_of p) x
     ranks x r (inl e) y =
-        let none : None ≡ Some r = sym (ap (λ (s : Seat). option_map (λ (w : Wait). w.rank) s.wait) (same x e)) ∙ y in
+        let none : None ≡ Some r = sym (ap (λ (s : Task). option_map (λ (w : Wait). w.rank) s.wait) (same x e)) ∙ y in
         cc
-    ranks x r (inr n) y = h.rank x r (sym (ap (λ (s : Seat). option_map (λ (w : Wait). w.rank) s.wait) (other x n)) ∙ y)
+    ranks x r (inr n) y = h.rank x r (sym (ap (λ (s : Task). option_map (λ (w : Wait). w.rank) s.wait) (other x n)) ∙ y)
 
     repairs : IsRepairedBut t mid.owners
     repairs =
@@ -568,7 +568,7 @@ module _ (p : Inside) (t m key u : ℕ) (d : IsHandable p t m key) (top : IsTop 
 
     ticket_other : (x : ℕ) → x ≢ u → ticket_of mid.owners x ≡ ticket_of p.owners x
     ticket_other x n =
-        ap (λ (s : Seat). unwrap_or (option_map (λ (r : Key). r.ticket) (option_map (λ (w : Wait). w.rank) s.wait)) 0)
+        ap (λ (s : Task). unwrap_or (option_map (λ (r : Key). r.ticket) (option_map (λ (w : Wait). w.rank) s.wait)) 0)
         (other x n)
 
     once : Once p.arrivals
@@ -663,14 +663,14 @@ module _ (p : Inside) (t m key u : ℕ) (d : IsHandable p t m key) (top : IsTop 
 
 module _ (old p x : Inside) (t m key u : ℕ) (i : IsHanding old p x t m key u) where
   -- the next waiter has the effective priority that it had
-  pub local_is : (seat_at x.owners u).local ≡ effective_in (kernel_of p) u
+  pub local_is : (task_at x.owners u).local ≡ effective_in (kernel_of p) u
   local_is =
-      ap (λ (l : List Seat). (get_or l u no_seat).local) i.handed.seats
-      ∙ kept_at (λ (s : Seat). s.local) p.owners.seats u (record (seat_at p.owners u) { wait = None }) no_seat refl u
+      ap (λ (l : List Task). (get_or l u no_task).local) i.handed.seats
+      ∙ kept_at (λ (s : Task). s.local) p.owners.seats u (record (task_at p.owners u) { wait = None }) no_task refl u
       ∙ i.hands.sound.local u
 
   -- that is a level
-  pub local_low : 1 ≤ (seat_at x.owners u).local
+  pub local_low : 1 ≤ (task_at x.owners u).local
   local_low = omega (arith, local_is, level_some p t m key u i.hands i.top)
 
   pub seated : u ≤ p.queue.threads
@@ -682,7 +682,7 @@ module _ (old p x : Inside) (t m key u : ℕ) (i : IsHanding old p x t m key u) 
   off = next_on_none p t m key u i.hands i.top
 
   -- what is kept before the walk
-  pub before_walk : (level : ℕ) (q : Queue) (tb : NodeLists) → level ≡ (seat_at x.owners u).local
+  pub before_walk : (level : ℕ) (q : Queue) (tb : NodeLists) → level ≡ (task_at x.owners u).local
       → q ≡ record p.queue { mask = q.mask }
       → ((r : ℕ) → IsLevel r → level_of q tb r ≡ level_after_add u level r (level_of p.queue p.table r)) → Holds q tb
       → IsWalkable (record p {

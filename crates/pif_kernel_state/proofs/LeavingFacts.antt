@@ -11,7 +11,7 @@ use Rattle.pif_model.specs.declared.lines.Status.TheVariants.{Queued}
 use Rattle.pif_model.specs.Graph.{has_waiter, without}
 use Rattle.pif_model.specs.PiKernel.{queued_on, is_ready, is_parked, has_seat, is_among, waits_for, Parking, parkings_without}
 use Rattle.pif_model.specs.PiKernel.{seat_at as kernel_seat_at}
-use Rattle.pif_owners.specs.Owners.{Owners, Seat, Wait, seat_at, owner_at, count, waits_on, no_seat, with_wait, without_state, HasNoWaiter}
+use Rattle.pif_owners.specs.Owners.{Owners, Task, Wait, task_at, owner_at, count, waits_on, no_task, with_wait, without_state, HasNoWaiter}
 use Rattle.pif_owners.proofs.MapLemmas.{get-remove_other}
 use Rattle.pif_chains.proofs.Among.{is_among as is_waiter}
 use Rattle.pif_chains.proofs.Waiting.{names, Once, without-unnamed, has_waiter-from_pair, has_waiter-without_other, waited-from_pair}
@@ -28,7 +28,7 @@ use Rattle.pif_kernel_state.proofs.Waiters.{has_waiter-key, no_key-no_waiter, wa
 use Rattle.pif_owners.proofs.WaitersWithout.{waiter_kept, mutexes_without}
 
 -- a seat that waits for nothing
-no_wait : (s : Seat) → option_map (λ (w : Wait). w.state) s.wait ≡ None → s ≡ record s { wait = None }
+no_wait : (s : Task) → option_map (λ (w : Wait). w.state) s.wait ≡ None → s ≡ record s { wait = None }
 no_wait s e = by_wait s.wait refl e
   where
     by_wait : (o : Option Wait) → s.wait ≡ o → option_map (λ (w : Wait). w.state) s.wait ≡ None
@@ -86,7 +86,7 @@ module _ (p : Inside) (t : ℕ) (h : IsSoundInside p) (known : has_seat (kernel_
   left_idle = record {
     frame = λ i. record p { queue = q; table = tb; parked = but i };
     rows = refl;
-    free = no_wait (seat_at p.owners t) free_here;
+    free = no_wait (task_at p.owners t) free_here;
     others = λ u n. refl;
     places = refl;
     keys = λ m. keyed p h m
@@ -145,8 +145,8 @@ module _ (p : Inside) (t m : ℕ) (h : IsSoundInside p) (queued : (kernel_seat_a
       by_place : ((t < length p.owners.seats) ⊎ (length p.owners.seats ≤ t)) → t < length p.owners.seats
       by_place (inl l) = l
       by_place (inr g) =
-          absurd (false≢true (sym (ap (λ (s : Seat). is_some (option_map (λ (w : Wait). w.state) s.wait))
-          (get_or_past p.owners.seats t no_seat g))
+          absurd (false≢true (sym (ap (λ (s : Task). is_some (option_map (λ (w : Wait). w.state) s.wait))
+          (get_or_past p.owners.seats t no_task g))
           ∙ ap is_some (h.placed.waits t ∙ ap (λ (x : Status). state_key_at p (queued_on x)) status) ∙ key_there))
 
   module _ (key : ℕ) (at : state_key_at p m ≡ Some key) where
@@ -158,14 +158,14 @@ module _ (p : Inside) (t m : ℕ) (h : IsSoundInside p) (queued : (kernel_seat_a
     abbrev pub freed : Owners
     freed = with_wait t None p.owners
 
-    abbrev row : Seat
-    row = record (seat_at p.owners t) { wait = None }
+    abbrev row : Task
+    row = record (task_at p.owners t) { wait = None }
 
-    row_here : seat_at freed t ≡ row
-    row_here = get_or-set_same p.owners.seats t row no_seat row_below
+    row_here : task_at freed t ≡ row
+    row_here = get_or-set_same p.owners.seats t row no_task row_below
 
-    row_other : (u : ℕ) → u ≢ t → seat_at freed u ≡ seat_at p.owners u
-    row_other u n = get_or-set_other p.owners.seats t u row no_seat n
+    row_other : (u : ℕ) → u ≢ t → task_at freed u ≡ task_at p.owners u
+    row_other u n = get_or-set_other p.owners.seats t u row no_task n
 
     -- where no other waits for the mutex, nobody is queued on its state
     pub freed_idle : has_waiter rest m ≡ false → HasNoWaiter freed key
@@ -175,12 +175,12 @@ module _ (p : Inside) (t m : ℕ) (h : IsSoundInside p) (queued : (kernel_seat_a
         by_place (inl same) =
             let both : None ≡ Some key
             = sym (ap (waits_on freed) same
-            ∙ ap (λ (s : Seat). option_map (λ (w : Wait). w.state) s.wait) row_here) ∙ e in
+            ∙ ap (λ (s : Task). option_map (λ (w : Wait). w.state) s.wait) row_here) ∙ e in
             cc
         by_place (inr ne) =
             let was : is_waiter p.arrivals u m ≡ true
             = waits_under p h u m key at
-            (sym (ap (λ (s : Seat). option_map (λ (w : Wait). w.state) s.wait) (row_other u ne)) ∙ e) in
+            (sym (ap (λ (s : Task). option_map (λ (w : Wait). w.state) s.wait) (row_other u ne)) ∙ e) in
             true≢false (sym (has_waiter-from_pair rest u m (waiter_kept p.arrivals t u m ne was)) ∙ none)
 
     others_kept : (n : ℕ) → n ≢ m → has_waiter rest n ≡ has_waiter p.arrivals n
@@ -248,8 +248,8 @@ module _ (p : Inside) (t m : ℕ) (h : IsSoundInside p) (queued : (kernel_seat_a
       left_ended v none is one = record {
         frame = λ i. record p { keys = set p.keys m None; owners = v; arrivals = rest; parked = parked_still i };
         rows = ap (λ (o : Owners). length o.seats) is ∙ length-set p.owners.seats t row;
-        free = ap (λ (o : Owners). seat_at o t) is ∙ row_here;
-        others = λ u n. ap (λ (o : Owners). seat_at o u) is ∙ row_other u n;
+        free = ap (λ (o : Owners). task_at o t) is ∙ row_here;
+        others = λ u n. ap (λ (o : Owners). task_at o u) is ∙ row_other u n;
         places = length-set p.keys m None;
         keys = λ n. by_place n (cases_eq n m);
         states = λ n k w e. by_owner n k w e (cases_eq k key);

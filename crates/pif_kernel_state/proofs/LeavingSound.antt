@@ -11,7 +11,7 @@ use Rattle.pif_model.specs.declared.lines.Woken.TheVariants.{Fresh}
 use Rattle.pif_model.specs.Graph.{has_waiter, without}
 use Rattle.pif_model.specs.PiKernel.{Kernel, queued_on, is_ready, effective_in, has_seat, is_among, is_living, level_at, with_effective_levels, waits_for, is_out, kernel_left_as, parkings_without}
 use Rattle.pif_model.specs.PiKernel.{state_at as kernel_state_at}
-use Rattle.pif_owners.specs.Owners.{Seat, Wait, seat_at, owner_at, waits_on, rank_of}
+use Rattle.pif_owners.specs.Owners.{Task, Wait, task_at, owner_at, waits_on, rank_of}
 use Rattle.pif_owners.specs.Owners.{waits_for as owners_wait_for}
 use Rattle.pif_owners.specs.Boosts.{IsRepairedBut}
 use Rattle.pif_chains.proofs.kernel.KernelFacts.{living-added, queued-from_number}
@@ -63,23 +63,23 @@ module _ (p x : Inside) (next : Status) (t start : ℕ) (h : IsSoundInside p) (l
   many : length mid.statuses ≡ length p.statuses
   many = length-set p.statuses t next
 
-  base_same : (u : ℕ) → (seat_at mid.owners u).base ≡ (seat_at p.owners u).base
+  base_same : (u : ℕ) → (task_at mid.owners u).base ≡ (task_at p.owners u).base
   base_same u = by_place (cases_eq u t)
     where
-      by_place : ((u ≡ t) ⊎ (u ≡ t → ⊥)) → (seat_at mid.owners u).base ≡ (seat_at p.owners u).base
+      by_place : ((u ≡ t) ⊎ (u ≡ t → ⊥)) → (task_at mid.owners u).base ≡ (task_at p.owners u).base
       by_place (inl e) =
-          ap (λ (v : ℕ). (seat_at mid.owners v).base) e ∙ ap (λ (s : Seat). s.base) l.free
-          ∙ ap (λ (v : ℕ). (seat_at p.owners v).base) (sym e)
-      by_place (inr n) = ap (λ (s : Seat). s.base) (l.others u n)
+          ap (λ (v : ℕ). (task_at mid.owners v).base) e ∙ ap (λ (s : Task). s.base) l.free
+          ∙ ap (λ (v : ℕ). (task_at p.owners v).base) (sym e)
+      by_place (inr n) = ap (λ (s : Task). s.base) (l.others u n)
 
-  local_same : (u : ℕ) → (seat_at mid.owners u).local ≡ (seat_at p.owners u).local
+  local_same : (u : ℕ) → (task_at mid.owners u).local ≡ (task_at p.owners u).local
   local_same u = by_place (cases_eq u t)
     where
-      by_place : ((u ≡ t) ⊎ (u ≡ t → ⊥)) → (seat_at mid.owners u).local ≡ (seat_at p.owners u).local
+      by_place : ((u ≡ t) ⊎ (u ≡ t → ⊥)) → (task_at mid.owners u).local ≡ (task_at p.owners u).local
       by_place (inl e) =
-          ap (λ (v : ℕ). (seat_at mid.owners v).local) e ∙ ap (λ (s : Seat). s.local) l.free
-          ∙ ap (λ (v : ℕ). (seat_at p.owners v).local) (sym e)
-      by_place (inr n) = ap (λ (s : Seat). s.local) (l.others u n)
+          ap (λ (v : ℕ). (task_at mid.owners v).local) e ∙ ap (λ (s : Task). s.local) l.free
+          ∙ ap (λ (v : ℕ). (task_at p.owners v).local) (sym e)
+      by_place (inr n) = ap (λ (s : Task). s.local) (l.others u n)
 
   status_other : (u : ℕ) → u ≢ t → status_at mid u ≡ status_at p u
   status_other u n = get_or-set_other p.statuses t u next (Ready Fresh) n
@@ -164,11 +164,11 @@ module _ (p x : Inside) (next : Status) (t start : ℕ) (h : IsSoundInside p) (l
 
   waits_mid : (u : ℕ) → ((u ≡ t) ⊎ (u ≡ t → ⊥)) → waits_on mid.owners u ≡ state_key_at mid (queued_on (status_at mid u))
   waits_mid u (inl e) =
-      ap (waits_on mid.owners) e ∙ ap (λ (s : Seat). option_map (λ (w : Wait). w.state) s.wait) l.free
+      ap (waits_on mid.owners) e ∙ ap (λ (s : Task). option_map (λ (w : Wait). w.state) s.wait) l.free
       ∙ sym no_mutex_mid ∙ ap (state_key_at mid) (sym (out-queued_on_nothing next out))
       ∙ ap (λ (y : Status). state_key_at mid (queued_on y)) (sym (status_here u e))
   waits_mid u (inr n) =
-      ap (λ (s : Seat). option_map (λ (w : Wait). w.state) s.wait) (l.others u n) ∙ h.placed.waits u
+      ap (λ (s : Task). option_map (λ (w : Wait). w.state) s.wait) (l.others u n) ∙ h.placed.waits u
       ∙ sym (key_kept u n) ∙ ap (λ (y : Status). state_key_at mid (queued_on y)) (sym (status_other u n))
 
   owners_mid : (n : ℕ) → state_at mid n < length mid.statuses
@@ -222,7 +222,7 @@ module _ (p x : Inside) (next : Status) (t start : ℕ) (h : IsSoundInside p) (l
 
   ticket_other : (u : ℕ) → u ≢ t → ticket_of mid.owners u ≡ ticket_of p.owners u
   ticket_other u n =
-      ap (λ (s : Seat). unwrap_or (option_map (λ (r : Key). r.ticket) (option_map (λ (w : Wait). w.rank) s.wait)) 0)
+      ap (λ (s : Task). unwrap_or (option_map (λ (r : Key). r.ticket) (option_map (λ (w : Wait). w.rank) s.wait)) 0)
       (l.others u n)
 
   pub placed : IsPlaced mid
@@ -266,10 +266,10 @@ module _ (p x : Inside) (next : Status) (t start : ℕ) (h : IsSoundInside p) (l
       → r.prio ≡ effective_in (kernel_of p) u
   ranks u r (inl e) y =
       let none : None ≡ Some r
-      = sym (ap (rank_of mid.owners) e ∙ ap (λ (s : Seat). option_map (λ (w : Wait). w.rank) s.wait) l.free) ∙ y in
+      = sym (ap (rank_of mid.owners) e ∙ ap (λ (s : Task). option_map (λ (w : Wait). w.rank) s.wait) l.free) ∙ y in
       cc
   ranks u r (inr n) y =
-      h.rank u r (sym (ap (λ (s : Seat). option_map (λ (w : Wait). w.rank) s.wait) (l.others u n)) ∙ y)
+      h.rank u r (sym (ap (λ (s : Task). option_map (λ (w : Wait). w.rank) s.wait) (l.others u n)) ∙ y)
 
   repairs : IsRepairedBut start mid.owners
   repairs =

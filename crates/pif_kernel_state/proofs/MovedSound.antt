@@ -8,7 +8,7 @@ use Rattle.pif_model.specs.declared.lines.Status.TheVariants.{Ready}
 use Rattle.pif_model.specs.declared.lines.Woken.TheVariants.{Fresh}
 use Rattle.pif_model.specs.PiKernel.{IsKernel, queued_on, effective_in, waits_for, Parking}
 use Rattle.pif_model.specs.PiKernel.{seat_at as kernel_seat_at}
-use Rattle.pif_owners.specs.Owners.{seat_at}
+use Rattle.pif_owners.specs.Owners.{task_at}
 use Rattle.pif_chains.proofs.Greatest.{effective_same}
 use Rattle.pif_chains.proofs.Places.{kept_at}
 use Rattle.pif_kernel_state.specs.Inside.{Inside, IsPlaced, IsSoundInside, kernel_of, status_at, state_key_at, state_at}
@@ -52,7 +52,7 @@ module _ (p : Inside) (x : Status) (ps : List Parking) (q : Queue) (tb : NodeLis
       effective_same _ _ _ _ _ _ u (seats_length p (fits p h) ∙ sym long ∙ sym (seats_length after fit_after))
       waits_same base_same
 
-  local_after : (u : ℕ) → (seat_at after.owners u).local ≡ effective_in (kernel_of after) u
+  local_after : (u : ℕ) → (task_at after.owners u).local ≡ effective_in (kernel_of after) u
   local_after u = h.local u ∙ effective_after u
 
   module _ (kept : IsKernel (kernel_of after)) where

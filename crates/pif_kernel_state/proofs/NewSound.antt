@@ -11,7 +11,7 @@ use Rattle.pif_model.specs.declared.lines.Woken.TheVariants.{Fresh}
 use Rattle.pif_model.specs.Graph.{is_priority}
 use Rattle.pif_model.specs.PiKernel.{IsKernel, queued_on, new_kernel, effective_in}
 use Rattle.pif_model.specs.PiKernel.{Seat as KernelSeat, no_seat as no_kernel_seat}
-use Rattle.pif_owners.specs.Owners.{Seat, Wait, seat_at, no_seat, no_owners}
+use Rattle.pif_owners.specs.Owners.{Task, Wait, task_at, no_task, no_owners}
 use Rattle.pif_chains.proofs.Greatest.{effective_most}
 use Rattle.pif_chains.proofs.kernel.KernelKept.{new_kernel_kept}
 use Rattle.pif_chains.proofs.kernel.KernelLevels.{length-levels_by}
@@ -31,10 +31,10 @@ alike zero k x = refl
 alike (suc n) zero x = refl
 alike (suc n) (suc k) x = alike n k x
 
-seat_zero : (threads u : ℕ) → get_or (replicate (threads + 1) no_seat) u no_seat ≡ no_seat
-seat_zero threads u = alike (threads + 1) u no_seat
+seat_zero : (threads u : ℕ) → get_or (replicate (threads + 1) no_task) u no_task ≡ no_task
+seat_zero threads u = alike (threads + 1) u no_task
 
-seats_first : (threads : ℕ) → seats_of (Ready Fresh ∷ []) (replicate (threads + 1) no_seat) ≡ no_kernel_seat ∷ []
+seats_first : (threads : ℕ) → seats_of (Ready Fresh ∷ []) (replicate (threads + 1) no_task) ≡ no_kernel_seat ∷ []
 seats_first threads = rw add-one refl
 
 one_seat : (u : ℕ) → get_or (no_kernel_seat ∷ []) u no_kernel_seat ≡ no_kernel_seat
@@ -98,28 +98,28 @@ module _ (l : Bounds) (first : ℕ) (within : IsWithin l) (some : 1 ≤ first) (
 
   fit_new : IsFitted new
   fit_new = record {
-    few = omega (arith, length-replicate (l.threads + 1) no_seat);
+    few = omega (arith, length-replicate (l.threads + 1) no_task);
     free = λ t le. seat_zero l.threads t;
     waits =
-        λ t. ap (λ (x : Seat). option_map (λ (w : Wait). w.state) x.wait) (seat_zero l.threads t)
+        λ t. ap (λ (x : Task). option_map (λ (w : Wait). w.state) x.wait) (seat_zero l.threads t)
         ∙ sym (no_key_at (queued_on (status_at new t)));
     owners = λ m. omega (arith, none_at m);
   }
 
-  local_new : (t : ℕ) → (seat_at new.owners t).local ≡ effective_in (kernel_of new) t
-  local_new t = omega (arith, ap (λ (x : Seat). x.local) (seat_zero l.threads t), new_effective t)
+  local_new : (t : ℕ) → (task_at new.owners t).local ≡ effective_in (kernel_of new) t
+  local_new t = omega (arith, ap (λ (x : Task). x.local) (seat_zero l.threads t), new_effective t)
 
   new_placed : IsPlaced new
   new_placed = record {
     within = within;
-    rows = length-replicate (l.threads + 1) no_seat;
+    rows = length-replicate (l.threads + 1) no_task;
     keys = keys;
     some = omega arith;
     few = omega arith;
     nobody = seat_zero l.threads 0;
     admitted = λ t n less. absurd (omega arith);
     free = fit_new.free;
-    most = λ t. omega (arith, ap (λ (x : Seat). x.base) (seat_zero l.threads t));
+    most = λ t. omega (arith, ap (λ (x : Task). x.base) (seat_zero l.threads t));
     threads = threads;
     holds = holds;
     listed = listed_kept new fit_new kept local_new;
@@ -139,7 +139,7 @@ module _ (l : Bounds) (first : ℕ) (within : IsWithin l) (some : 1 ≤ first) (
     local = local_new;
     rank =
         λ t r e. let both : None ≡ Some r = sym
-        (ap (λ (x : Seat). option_map (λ (w : Wait). w.rank) x.wait) (seat_zero l.threads t)) ∙ e in
+        (ap (λ (x : Task). option_map (λ (w : Wait). w.rank) x.wait) (seat_zero l.threads t)) ∙ e in
         cc;
     kernel = kept;
   }

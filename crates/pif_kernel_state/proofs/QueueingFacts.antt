@@ -9,7 +9,7 @@ use Rattle.pif_model.specs.declared.lines.Status.TheVariants.{Queued}
 use Rattle.pif_model.specs.Graph.{reaches_within, Reaches}
 use Rattle.pif_model.specs.PiKernel.{Kernel, queued_on, has_seat, is_living, is_ready, effective_in, waits_for, kernel_after_queueing}
 use Rattle.pif_model.specs.PiKernel.{seat_at as kernel_seat_at, state_at as kernel_state_at}
-use Rattle.pif_owners.specs.Owners.{Owners, Seat, Wait, no_seat, seat_at, owner_at, waits_on, with_wait, WaitsFor}
+use Rattle.pif_owners.specs.Owners.{Owners, Task, Wait, no_task, task_at, owner_at, waits_on, with_wait, WaitsFor}
 use Rattle.pif_owners.specs.Owners.{waits_for as owners_wait_for}
 use Rattle.pif_chains.proofs.kernel.KernelFacts.{living-added}
 use Rattle.pif_chains.proofs.Following.{Follows, within-from_reaches}
@@ -108,8 +108,8 @@ folded now p x t m owner key ticket i =
 waits_open : (now p x : Inside) (t m owner key ticket : ℕ) → IsEntry now p x t m owner key ticket → (u : ℕ)
     → owners_wait_for x.owners u ≡ waits_for (kernel_of p) u
 waits_open now p x t m owner key ticket i u =
-    ap (λ (l : List Seat). unwrap_or
-    (option_and_then (owner_at x.owners) (option_map (λ (w : Wait). w.state) (get_or l u no_seat).wait))
+    ap (λ (l : List Task). unwrap_or
+    (option_and_then (owner_at x.owners) (option_map (λ (w : Wait). w.state) (get_or l u no_task).wait))
     0) i.opens.seats
     ∙ by_key (waits_on p.owners u) refl ∙ owners_waits p (fits p i.sound) u
   where
@@ -151,11 +151,11 @@ no_cycle now p x t m owner key ticket i n e r =
 
 module _ (now p x : Inside) (t m owner key ticket : ℕ) (i : IsEntry now p x t m owner key ticket) where
   -- the thread has its effective priority
-  pub local_is : (seat_at x.owners t).local ≡ effective_in (kernel_of p) t
-  local_is = ap (λ (l : List Seat). (get_or l t no_seat).local) i.opens.seats ∙ i.sound.local t
+  pub local_is : (task_at x.owners t).local ≡ effective_in (kernel_of p) t
+  local_is = ap (λ (l : List Task). (get_or l t no_task).local) i.opens.seats ∙ i.sound.local t
 
   -- that is a level
-  pub local_low : 1 ≤ (seat_at x.owners t).local
+  pub local_low : 1 ≤ (task_at x.owners t).local
   local_low = omega (arith, local_is, (effective_level p i.sound t i.added).0)
 
   pub place : t < length p.statuses
@@ -163,14 +163,14 @@ module _ (now p x : Inside) (t m owner key ticket : ℕ) (i : IsEntry now p x t 
 
   pub free : waits_on x.owners t ≡ None
   free =
-      ap (λ (l : List Seat). option_map (λ (w : Wait). w.state) (get_or l t no_seat).wait) i.opens.seats
+      ap (λ (l : List Task). option_map (λ (w : Wait). w.state) (get_or l t no_task).wait) i.opens.seats
       ∙ ready_free p i.sound t i.ready
 
   pub on_level : IsQueued p.queue p.table t
   on_level = ready_queued p i.sound t i.added i.ready
 
   -- what is kept before the walk
-  pub before_walk : (level : ℕ) (v : Owners) (q : Queue) (tb : NodeLists) → level ≡ (seat_at x.owners t).local
+  pub before_walk : (level : ℕ) (v : Owners) (q : Queue) (tb : NodeLists) → level ≡ (task_at x.owners t).local
       → v ≡ with_wait t (Some (record { state = key; rank = record { prio = level; ticket = ticket } })) x.owners
       → q ≡ record p.queue { mask = q.mask }
       → ((r : ℕ) → IsLevel r → level_of q tb r ≡ list_without t (level_of p.queue p.table r)) → Holds q tb

@@ -15,7 +15,7 @@ use Rattle.pif_model.specs.declared.lines.Woken.TheVariants.{Fresh}
 use Rattle.pif_model.specs.Graph.{reaches_within, has_waiter}
 use Rattle.pif_model.specs.PiKernel.{queued_on, is_ready, effective_in, has_seat, is_among, is_living, level_at, with_effective_levels, waits_for, levels_without, kernel_after_queueing}
 use Rattle.pif_model.specs.PiKernel.{seat_at as kernel_seat_at, state_at as kernel_state_at, with_status, with_state}
-use Rattle.pif_owners.specs.Owners.{Owners, Seat, Wait, seat_at, owner_at, count, waits_on, rank_of, no_seat, with_wait, with_owner}
+use Rattle.pif_owners.specs.Owners.{Owners, Task, Wait, task_at, owner_at, count, waits_on, rank_of, no_task, with_wait, with_owner}
 use Rattle.pif_owners.specs.Owners.{waits_for as owners_wait_for}
 use Rattle.pif_owners.proofs.MapLemmas.{get-insert_same, get-insert_other}
 use Rattle.pif_owners.specs.Boosts.{IsRepairedBut}
@@ -166,11 +166,11 @@ module _ (p : Inside) (keys : List (Option ℕ)) (owners : Owners) (t m owner ke
   owner_added : owner < length p.statuses
   owner_added = (added_seen p fit owner (living-added (kernel_of p) owner living)).1
 
-  abbrev row : Seat
-  row = record (seat_at owners t) { wait = wait }
+  abbrev row : Task
+  row = record (task_at owners t) { wait = wait }
 
-  was : (u : ℕ) → seat_at owners u ≡ seat_at p.owners u
-  was u = ap (λ (l : List Seat). get_or l u no_seat) o.seats
+  was : (u : ℕ) → task_at owners u ≡ task_at p.owners u
+  was u = ap (λ (l : List Task). get_or l u no_task) o.seats
 
   long : length mid.owners.seats ≡ length p.owners.seats
   long = length-set owners.seats t row ∙ ap length o.seats
@@ -179,21 +179,21 @@ module _ (p : Inside) (keys : List (Option ℕ)) (owners : Owners) (t m owner ke
   many = length-set p.statuses t (Queued m)
 
   inside : t < length owners.seats
-  inside = omega (arith, added, fit.few, ap (λ (l : List Seat). length l) o.seats)
+  inside = omega (arith, added, fit.few, ap (λ (l : List Task). length l) o.seats)
 
-  other : (u : ℕ) → u ≢ t → seat_at mid.owners u ≡ seat_at p.owners u
-  other u n = get_or-set_other owners.seats t u row no_seat n ∙ was u
+  other : (u : ℕ) → u ≢ t → task_at mid.owners u ≡ task_at p.owners u
+  other u n = get_or-set_other owners.seats t u row no_task n ∙ was u
 
-  same : (u : ℕ) → u ≡ t → seat_at mid.owners u ≡ record (seat_at p.owners t) { wait = wait }
+  same : (u : ℕ) → u ≡ t → task_at mid.owners u ≡ record (task_at p.owners t) { wait = wait }
   same u e =
-      ap (λ (v : ℕ). seat_at mid.owners v) e ∙ get_or-set_same owners.seats t row no_seat inside
-      ∙ ap (λ (x : Seat). record x { wait = wait }) (was t)
+      ap (λ (v : ℕ). task_at mid.owners v) e ∙ get_or-set_same owners.seats t row no_task inside
+      ∙ ap (λ (x : Task). record x { wait = wait }) (was t)
 
-  base_same : (u : ℕ) → (seat_at mid.owners u).base ≡ (seat_at p.owners u).base
-  base_same u = kept_at (λ (x : Seat). x.base) owners.seats t row no_seat refl u ∙ ap (λ (x : Seat). x.base) (was u)
+  base_same : (u : ℕ) → (task_at mid.owners u).base ≡ (task_at p.owners u).base
+  base_same u = kept_at (λ (x : Task). x.base) owners.seats t row no_task refl u ∙ ap (λ (x : Task). x.base) (was u)
 
-  local_same : (u : ℕ) → (seat_at mid.owners u).local ≡ (seat_at p.owners u).local
-  local_same u = kept_at (λ (x : Seat). x.local) owners.seats t row no_seat refl u ∙ ap (λ (x : Seat). x.local) (was u)
+  local_same : (u : ℕ) → (task_at mid.owners u).local ≡ (task_at p.owners u).local
+  local_same u = kept_at (λ (x : Task). x.local) owners.seats t row no_task refl u ∙ ap (λ (x : Task). x.local) (was u)
 
   status_other : (u : ℕ) → u ≢ t → status_at mid u ≡ status_at p u
   status_other u n = get_or-set_other p.statuses t u (Queued m) (Ready Fresh) n
@@ -262,10 +262,10 @@ module _ (p : Inside) (keys : List (Option ℕ)) (owners : Owners) (t m owner ke
 
   waits_mid : (u : ℕ) → ((u ≡ t) ⊎ (u ≡ t → ⊥)) → waits_on mid.owners u ≡ state_key_at mid (queued_on (status_at mid u))
   waits_mid u (inl e) =
-      ap (λ (x : Seat). option_map (λ (w : Wait). w.state) x.wait) (same u e) ∙ sym o.here
+      ap (λ (x : Task). option_map (λ (w : Wait). w.state) x.wait) (same u e) ∙ sym o.here
       ∙ ap (λ (x : Status). state_key_at mid (queued_on x)) (sym (status_here u e))
   waits_mid u (inr n) =
-      ap (λ (x : Seat). option_map (λ (w : Wait). w.state) x.wait) (other u n) ∙ h.placed.waits u ∙ sym (key_kept u)
+      ap (λ (x : Task). option_map (λ (w : Wait). w.state) x.wait) (other u n) ∙ h.placed.waits u ∙ sym (key_kept u)
       ∙ ap (λ (x : Status). state_key_at mid (queued_on x)) (sym (status_other u n))
 
   owners_mid : (n : ℕ) → ((n ≡ m) ⊎ (n ≡ m → ⊥)) → state_at mid n < length mid.statuses
@@ -348,12 +348,12 @@ module _ (p : Inside) (keys : List (Option ℕ)) (owners : Owners) (t m owner ke
 
   ticket_other : (u : ℕ) → u ≢ t → ticket_of mid.owners u ≡ ticket_of p.owners u
   ticket_other u n =
-      ap (λ (x : Seat). unwrap_or (option_map (λ (r : Key). r.ticket) (option_map (λ (w : Wait). w.rank) x.wait)) 0)
+      ap (λ (x : Task). unwrap_or (option_map (λ (r : Key). r.ticket) (option_map (λ (w : Wait). w.rank) x.wait)) 0)
       (other u n)
 
   ticket_here : ticket_of mid.owners t ≡ ticket
   ticket_here =
-      ap (λ (x : Seat). unwrap_or (option_map (λ (r : Key). r.ticket) (option_map (λ (w : Wait). w.rank) x.wait)) 0)
+      ap (λ (x : Task). unwrap_or (option_map (λ (r : Key). r.ticket) (option_map (λ (w : Wait). w.rank) x.wait)) 0)
       (same t refl)
 
   pub placed : IsPlaced mid
@@ -400,10 +400,10 @@ module _ (p : Inside) (keys : List (Option ℕ)) (owners : Owners) (t m owner ke
       → r.prio ≡ effective_in (kernel_of p) u
   ranks u r (inl e) x =
       let both : Some (record { prio = prio; ticket = ticket }) ≡ Some r
-      = sym (ap (λ (s : Seat). option_map (λ (w : Wait). w.rank) s.wait) (same u e)) ∙ x in
+      = sym (ap (λ (s : Task). option_map (λ (w : Wait). w.rank) s.wait) (same u e)) ∙ x in
       let at : record { prio = prio; ticket = ticket } ≡ r = cc in
       sym (ap (λ (k : Key). k.prio) at) ∙ rank_is ∙ ap (effective_in (kernel_of p)) (sym e)
-  ranks u r (inr n) x = h.rank u r (sym (ap (λ (s : Seat). option_map (λ (w : Wait). w.rank) s.wait) (other u n)) ∙ x)
+  ranks u r (inr n) x = h.rank u r (sym (ap (λ (s : Task). option_map (λ (w : Wait). w.rank) s.wait) (other u n)) ∙ x)
 
   repairs : IsRepairedBut owner mid.owners
   repairs =

@@ -6,7 +6,7 @@ use Rattle.std.proofs.lemmas.Bool.Decides.{nat_tests}
 use Rattle.pif_lists.specs.declared.keys.Key.{Key}
 use Rattle.pif_lists.specs.Order.{comes_before}
 use Rattle.pif_model.specs.PiKernel.{Kernel, IsKernel, effective_in}
-use Rattle.pif_owners.specs.Owners.{Owners, Seat, Wait, seat_at, owner_at, count, waits_on, rank_of, no_seat, KeepsOrder}
+use Rattle.pif_owners.specs.Owners.{Owners, Task, Wait, task_at, owner_at, count, waits_on, rank_of, no_task, KeepsOrder}
 use Rattle.pif_chains.proofs.Waiting.{names}
 use Rattle.pif_kernel_state.specs.Inside.{Inside, IsPlaced, IsSoundInside, kernel_of, state_key_at, state_at, ticket_of}
 use Rattle.pif_owners.specs.Arrivals.{Rise}
@@ -46,14 +46,14 @@ module _ (p : Inside) (now : Owners) (i : ℕ) (h : IsSoundInside p) (g : IsRenu
 
   waits_now : (u : ℕ) → waits_on now u ≡ waits_on p.owners u
   waits_now u =
-      ap (λ (x : Seat). option_map (λ (w : Wait). w.state) x.wait) (g.seat u)
-      ∙ wait_state (tag u) (seat_at p.owners u).wait
+      ap (λ (x : Task). option_map (λ (w : Wait). w.state) x.wait) (g.seat u)
+      ∙ wait_state (tag u) (task_at p.owners u).wait
 
   rank_now : (u : ℕ) (r : Key) → rank_of now u ≡ Some r
       → (r.ticket ≡ tag u) × ((s : Key) × (rank_of p.owners u ≡ Some s) × (s.prio ≡ r.prio))
   rank_now u r e =
-      wait_rank (tag u) (seat_at p.owners u).wait r
-      (sym (ap (λ (x : Seat). option_map (λ (w : Wait). w.rank) x.wait) (g.seat u)) ∙ e)
+      wait_rank (tag u) (task_at p.owners u).wait r
+      (sym (ap (λ (x : Task). option_map (λ (w : Wait). w.rank) x.wait) (g.seat u)) ∙ e)
 
   abbrev Side : ℕ → ℕ → Type 0
   Side t u = ((tag u < 1 + i) × (tag u < tag t)) ⊎ ((1 + i < tag u) × (tag t < tag u))
@@ -109,18 +109,18 @@ module _ (p : Inside) (now : Owners) (i : ℕ) (h : IsSoundInside p) (g : IsRenu
     state_now : (m : ℕ) → state_at after m ≡ state_at p m
     state_now m = ap (λ (f : ℕ → Option ℕ). unwrap_or (option_and_then f (state_key_at p m)) 0) (fun_ext owner_now)
 
-    base_now : (u : ℕ) → (seat_at now u).base ≡ (seat_at p.owners u).base
-    base_now u = ap (λ (x : Seat). x.base) (g.seat u)
+    base_now : (u : ℕ) → (task_at now u).base ≡ (task_at p.owners u).base
+    base_now u = ap (λ (x : Task). x.base) (g.seat u)
 
-    nobody_now : (u : ℕ) → seat_at p.owners u ≡ no_seat → seat_at now u ≡ no_seat
+    nobody_now : (u : ℕ) → task_at p.owners u ≡ no_task → task_at now u ≡ no_task
     nobody_now u e = g.seat u ∙ ap (seat_with_ticket (tag u)) e
 
     ticket_now : (u : ℕ) → names u p.arrivals ≡ true
         → ticket_of now u ≡ renumbered_ticket (ticket_of p.owners) 1 (length p.arrivals) p.arrivals u
     ticket_now u e =
-        ap (λ (x : Seat). unwrap_or (option_map (λ (r : Key). r.ticket) (option_map (λ (w : Wait). w.rank) x.wait)) 0)
+        ap (λ (x : Task). unwrap_or (option_map (λ (r : Key). r.ticket) (option_map (λ (w : Wait). w.rank) x.wait)) 0)
         (g.seat u)
-        ∙ wait_ticket (tag u) (seat_at p.owners u).wait (waits_some p h u e)
+        ∙ wait_ticket (tag u) (task_at p.owners u).wait (waits_some p h u e)
         ∙ ap (λ (n : ℕ). renumbered_ticket (ticket_of p.owners) 1 n p.arrivals u) all
 
     pub kernel_after : kernel_of after ≡ kernel_of p
@@ -145,8 +145,8 @@ module _ (p : Inside) (now : Owners) (i : ℕ) (h : IsSoundInside p) (g : IsRenu
       owners = λ m. omega (arith, state_now m, h.placed.owners m);
     }
 
-    local_after : (t : ℕ) → (seat_at now t).local ≡ effective_in (kernel_of after) t
-    local_after t = ap (λ (x : Seat). x.local) (g.seat t) ∙ h.local t ∙ same t
+    local_after : (t : ℕ) → (task_at now t).local ≡ effective_in (kernel_of after) t
+    local_after t = ap (λ (x : Task). x.local) (g.seat t) ∙ h.local t ∙ same t
 
     placed_after : IsPlaced after
     placed_after = record {

@@ -9,20 +9,20 @@ use Rattle.pif_model.specs.PiKernel.{Kernel, queued_on, has_ended, has_seat, is_
 use Rattle.pif_model.specs.PiKernel.{Seat as KernelSeat, seat_at as kernel_seat_at, no_seat as no_kernel_seat, state_at as kernel_state_at}
 use Rattle.pif_chains.proofs.Numbers.{from_within, within}
 use Rattle.pif_chains.proofs.Places.{mapped_at}
-use Rattle.pif_owners.specs.Owners.{Seat, seat_at, owner_at, no_seat, waits_on}
+use Rattle.pif_owners.specs.Owners.{Task, task_at, owner_at, no_task, waits_on}
 use Rattle.pif_owners.specs.Owners.{waits_for as owners_wait_for}
 use Rattle.pif_kernel_state.specs.Inside.{Inside, IsPlaced, kernel_of, owner_under, seat_of, seats_of, status_at, state_key_at, state_at}
 
-pub length-seats_of : (xs : List Status) (rows : List Seat) → length xs ≤ length rows
+pub length-seats_of : (xs : List Status) (rows : List Task) → length xs ≤ length rows
     → length (seats_of xs rows) ≡ length xs
 length-seats_of [] rows le = refl
 length-seats_of (x ∷ xs) [] le = absurd (omega arith)
 length-seats_of (x ∷ xs) (r ∷ rows) le = ap suc (length-seats_of xs rows (omega arith))
 
 -- the thread at a place
-pub seats_of-at : (xs : List Status) (rows : List Seat) (t : ℕ) → length xs ≤ length rows
-    → ((u : ℕ) → length xs ≤ u → get_or rows u no_seat ≡ no_seat)
-    → get_or (seats_of xs rows) t no_kernel_seat ≡ seat_of (get_or xs t (Ready Fresh)) (get_or rows t no_seat)
+pub seats_of-at : (xs : List Status) (rows : List Task) (t : ℕ) → length xs ≤ length rows
+    → ((u : ℕ) → length xs ≤ u → get_or rows u no_task ≡ no_task)
+    → get_or (seats_of xs rows) t no_kernel_seat ≡ seat_of (get_or xs t (Ready Fresh)) (get_or rows t no_task)
 seats_of-at [] rows t le free = ap (seat_of (Ready Fresh)) (sym (free t (omega arith)))
 seats_of-at (x ∷ xs) [] t le free = absurd (omega arith)
 seats_of-at (x ∷ xs) (r ∷ rows) zero le free = refl
@@ -32,7 +32,7 @@ seats_of-at (x ∷ xs) (r ∷ rows) (suc t) le free =
 -- statuses, rows and keys fit together
 pub record IsFitted (p : Inside) : Type 0 where
   pub few : length p.statuses ≤ length p.owners.seats
-  pub free : (t : ℕ) → length p.statuses ≤ t → seat_at p.owners t ≡ no_seat
+  pub free : (t : ℕ) → length p.statuses ≤ t → task_at p.owners t ≡ no_task
   pub waits : (t : ℕ) → waits_on p.owners t ≡ state_key_at p (queued_on (status_at p t))
   pub owners : (m : ℕ) → state_at p m < length p.statuses
 
@@ -44,14 +44,14 @@ unfolding kernel_of
 seats_length p h = length-seats_of p.statuses p.owners.seats h.few
 
 pub seat_seen : (p : Inside) → IsFitted p → (t : ℕ)
-    → kernel_seat_at (kernel_of p) t ≡ seat_of (status_at p t) (seat_at p.owners t)
+    → kernel_seat_at (kernel_of p) t ≡ seat_of (status_at p t) (task_at p.owners t)
 unfolding kernel_of
 seat_seen p h t = seats_of-at p.statuses p.owners.seats t h.few h.free
 
 pub status_seen : (p : Inside) → IsFitted p → (t : ℕ) → (kernel_seat_at (kernel_of p) t).status ≡ status_at p t
 status_seen p h t = ap (λ (x : KernelSeat). x.status) (seat_seen p h t)
 
-pub base_seen : (p : Inside) → IsFitted p → (t : ℕ) → (kernel_seat_at (kernel_of p) t).base ≡ (seat_at p.owners t).base
+pub base_seen : (p : Inside) → IsFitted p → (t : ℕ) → (kernel_seat_at (kernel_of p) t).base ≡ (task_at p.owners t).base
 base_seen p h t = ap (λ (x : KernelSeat). x.base) (seat_seen p h t)
 
 pub added_seen : (p : Inside) → IsFitted p → (t : ℕ) → has_seat (kernel_of p) t ≡ true
@@ -98,7 +98,7 @@ kernel_by_parts a b l s many states w parked count levels = λ i. record {
 }
 
 -- another status of one thread
-pub seats_of-set_status : (xs : List Status) (rows : List Seat) (t : ℕ) (x : Status) → length xs ≤ length rows
+pub seats_of-set_status : (xs : List Status) (rows : List Task) (t : ℕ) (x : Status) → length xs ≤ length rows
     → seats_of (set xs t x) rows ≡ set (seats_of xs rows) t
     (record (get_or (seats_of xs rows) t no_kernel_seat) { status = x })
 seats_of-set_status [] rows t x le = refl
@@ -108,7 +108,7 @@ seats_of-set_status (y ∷ xs) (r ∷ rows) (suc t) x le =
     ap (λ (l : List KernelSeat). seat_of y r ∷ l) (seats_of-set_status xs rows t x (omega arith))
 
 -- one thread more
-pub seats_of-push : (xs : List Status) (rows : List Seat) (x : Status) (r : Seat) (t : ℕ) → t ≡ length xs
+pub seats_of-push : (xs : List Status) (rows : List Task) (x : Status) (r : Task) (t : ℕ) → t ≡ length xs
     → length xs < length rows
     → seats_of (xs ++ x ∷ []) (set rows t r) ≡ seats_of xs rows ++ seat_of x r ∷ []
 seats_of-push [] [] x r t e lt = absurd (omega arith)
@@ -120,8 +120,8 @@ seats_of-push (z ∷ xs) (y ∷ rows) x r (suc t) e lt =
     ap (λ (l : List KernelSeat). seat_of z y ∷ l) (seats_of-push xs rows x r t (omega arith) (omega arith))
 
 -- the same base priorities
-pub seats_of-same_base : (xs : List Status) (rows rows' : List Seat) → length rows' ≡ length rows
-    → ((u : ℕ) → (get_or rows' u no_seat).base ≡ (get_or rows u no_seat).base)
+pub seats_of-same_base : (xs : List Status) (rows rows' : List Task) → length rows' ≡ length rows
+    → ((u : ℕ) → (get_or rows' u no_task).base ≡ (get_or rows u no_task).base)
     → seats_of xs rows' ≡ seats_of xs rows
 seats_of-same_base [] rows rows' l h = refl
 seats_of-same_base (x ∷ xs) [] [] l h = refl
@@ -143,8 +143,8 @@ unfolding kernel_of
 parked_seen p = refl
 
 -- another base priority of a thread
-pub seats_of-set_base : (xs : List Status) (rows : List Seat) (t b : ℕ) → length xs ≤ length rows
-    → seats_of xs (set rows t (record (get_or rows t no_seat) { base = b }))
+pub seats_of-set_base : (xs : List Status) (rows : List Task) (t b : ℕ) → length xs ≤ length rows
+    → seats_of xs (set rows t (record (get_or rows t no_task) { base = b }))
     ≡ set (seats_of xs rows) t (record (get_or (seats_of xs rows) t no_kernel_seat) { base = b })
 seats_of-set_base [] rows t b le = refl
 seats_of-set_base (x ∷ xs) [] t b le = absurd (omega arith)

@@ -6,7 +6,7 @@ use Rattle.pif_lists.specs.Lists.{has}
 use Rattle.pif_lists.specs.Levels.{IsQueued, IsLevel, level_of}
 use Rattle.pif_model.specs.PiKernel.{IsKernel, effective_in, is_among, is_living, is_ready, has_seat, level_at}
 use Rattle.pif_model.specs.PiKernel.{seat_at as kernel_seat_at}
-use Rattle.pif_owners.specs.Owners.{seat_at}
+use Rattle.pif_owners.specs.Owners.{task_at}
 use Rattle.pif_chains.proofs.kernel.KernelFacts.{living-added}
 use Rattle.pif_chains.proofs.kernel.KernelSettled.{effective_range}
 use Rattle.pif_kernel_state.specs.Inside.{Inside, IsListed, IsSoundInside, kernel_of}
@@ -56,7 +56,7 @@ off_queue p t none on =
 
 -- what `effective` answers of a thread that lives, by its row
 pub effective_answer : (p : Inside) → IsSoundInside p → (t : ℕ) (r : Option ℕ) → is_living (kernel_of p) t ≡ true
-    → (IsSome r ↔ (1 ≤ (seat_at p.owners t).local)) → IfSome r (λ x. x ≡ (seat_at p.owners t).local)
+    → (IsSome r ↔ (1 ≤ (task_at p.owners t).local)) → IfSome r (λ x. x ≡ (task_at p.owners t).local)
     → r ≡ (if is_living (kernel_of p) t then Some (effective_in (kernel_of p) t) else None)
 effective_answer p h t None lives given value =
     let level : IsLevel (effective_in (kernel_of p) t) = effective_level p h t (living-added (kernel_of p) t lives) in
@@ -79,7 +79,7 @@ unadded_off p h t le r =
 
 -- where threads stand with their effective priorities, who is on a level stands on its own
 pub listed_kept : (p : Inside) → IsFitted p → IsKernel (kernel_of p)
-    → ((t : ℕ) → (seat_at p.owners t).local ≡ effective_in (kernel_of p) t)
+    → ((t : ℕ) → (task_at p.owners t).local ≡ effective_in (kernel_of p) t)
     → (t r : ℕ) → is_among (level_at (kernel_of p).levels r) t ≡ true → IsListed p t r
 listed_kept p fit k local t r e =
     by_tests (has_seat (kernel_of p) t) refl (is_ready (kernel_seat_at (kernel_of p) t).status) refl

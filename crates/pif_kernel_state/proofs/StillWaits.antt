@@ -3,7 +3,7 @@ use Rattle.std.proofs.Common.{◌≡◌, ◌≢◌, ◌⊎◌, ℕ, ◌<◌, ◌
 use Rattle.std.proofs.lemmas.Bool.{cases_eq, cases_lt}
 use Rattle.std.proofs.lemmas.List.{get_or-set_same, get_or-set_other, get_or_past}
 use Rattle.pif_model.specs.Graph.{has_waiter, without, next_waiter}
-use Rattle.pif_owners.specs.Owners.{Owners, Seat, Wait, no_seat, seat_at, waits_on, IsTop, HasNoWaiter}
+use Rattle.pif_owners.specs.Owners.{Owners, Task, Wait, no_task, task_at, waits_on, IsTop, HasNoWaiter}
 use Rattle.pif_chains.proofs.Among.{is_among-without}
 use Rattle.pif_chains.proofs.Among.{is_among as is_waiter}
 use Rattle.pif_chains.proofs.Next.{next_is_next}
@@ -24,7 +24,7 @@ waiter_named ws m e =
 
 module _ (p : Inside) (h : IsSoundInside p) (m key : ℕ) (at : state_key_at p m ≡ Some key) (u : ℕ)
     (waits : waits_on p.owners u ≡ Some key) (v : Owners)
-    (is : v.seats ≡ set p.owners.seats u (record (seat_at p.owners u) { wait = None })) where
+    (is : v.seats ≡ set p.owners.seats u (record (task_at p.owners u) { wait = None })) where
   abbrev rest : List (ℕ × ℕ)
   rest = without p.arrivals u
 
@@ -35,22 +35,22 @@ module _ (p : Inside) (h : IsSoundInside p) (m key : ℕ) (at : state_key_at p m
       by_place (inl l) = l
       by_place (inr g) =
           let none : None ≡ Some key
-          = sym (ap (λ (s : Seat). option_map (λ (w : Wait). w.state) s.wait) (get_or_past p.owners.seats u no_seat g))
+          = sym (ap (λ (s : Task). option_map (λ (w : Wait). w.state) s.wait) (get_or_past p.owners.seats u no_task g))
           ∙ waits in
           absurd cc
 
   free : (x : ℕ) → x ≡ u → waits_on v x ≡ None
   free x e =
       ap (waits_on v) e
-      ∙ ap (λ (l : List Seat). option_map (λ (w : Wait). w.state) (get_or l u no_seat).wait) is
-      ∙ ap (λ (s : Seat). option_map (λ (w : Wait). w.state) s.wait)
-      (get_or-set_same p.owners.seats u (record (seat_at p.owners u) { wait = None }) no_seat within)
+      ∙ ap (λ (l : List Task). option_map (λ (w : Wait). w.state) (get_or l u no_task).wait) is
+      ∙ ap (λ (s : Task). option_map (λ (w : Wait). w.state) s.wait)
+      (get_or-set_same p.owners.seats u (record (task_at p.owners u) { wait = None }) no_task within)
 
   other : (x : ℕ) → x ≢ u → waits_on v x ≡ waits_on p.owners x
   other x n =
-      ap (λ (l : List Seat). option_map (λ (w : Wait). w.state) (get_or l x no_seat).wait) is
-      ∙ ap (λ (s : Seat). option_map (λ (w : Wait). w.state) s.wait)
-      (get_or-set_other p.owners.seats u x (record (seat_at p.owners u) { wait = None }) no_seat n)
+      ap (λ (l : List Task). option_map (λ (w : Wait). w.state) (get_or l x no_task).wait) is
+      ∙ ap (λ (s : Task). option_map (λ (w : Wait). w.state) s.wait)
+      (get_or-set_other p.owners.seats u x (record (task_at p.owners u) { wait = None }) no_task n)
 
   none_left : HasNoWaiter v key → has_waiter rest m ≡ false
   none_left none = by_test (has_waiter rest m) refl

@@ -4,7 +4,7 @@ use Rattle.std.proofs.lemmas.Bool.{cases_eq, true≢false}
 use Rattle.std.proofs.lemmas.Bool.Decides.{nat_tests}
 use Rattle.std.proofs.lemmas.List.{get_or-set_same, get_or-set_other}
 use Rattle.pif_lists.specs.declared.keys.Key.{Key}
-use Rattle.pif_owners.specs.Owners.{Owners, Seat, Wait, seat_at, no_seat, with_ticket}
+use Rattle.pif_owners.specs.Owners.{Owners, Task, Wait, task_at, no_task, with_ticket}
 use Rattle.pif_chains.proofs.Waiting.{names, Once, once_head, once_tail}
 use Rattle.pif_owners.specs.Arrivals.{Rise}
 use Rattle.pif_kernel_state.specs.Inside.{ticket_of}
@@ -126,8 +126,8 @@ rise_renumbered f g n (w ∷ ws) once h = (
 
 -- THE OWNER STATES
 
-with_own_ticket : (v : Owners) (u : ℕ) → seat_at v u ≡ seat_with_ticket (ticket_of v u) (seat_at v u)
-with_own_ticket v u = by_wait (seat_at v u)
+with_own_ticket : (v : Owners) (u : ℕ) → task_at v u ≡ seat_with_ticket (ticket_of v u) (task_at v u)
+with_own_ticket v u = by_wait (task_at v u)
   where
     by_option : (base local : ℕ) (o : Option Wait)
         → record { base = base; local = local; wait = o }
@@ -136,7 +136,7 @@ with_own_ticket v u = by_wait (seat_at v u)
     by_option base local None = refl
     by_option base local (Some w) = refl
 
-    by_wait : (x : Seat)
+    by_wait : (x : Task)
         → x ≡ seat_with_ticket (unwrap_or
         (option_map (λ (r : Key). r.ticket) (option_map (λ (w : Wait). w.rank) x.wait)) 0) x
     by_wait x = by_option x.base x.local x.wait
@@ -158,23 +158,23 @@ renumbered_more v now ws i t d h once l e inside =
     record { seats = length-set now.seats t _ ∙ h.seats; owners = h.owners; seat = λ u. by_place u (cases_eq u t) }
   where
     by_place : (u : ℕ) → ((u ≡ t) ⊎ (u ≡ t → ⊥))
-        → seat_at (with_ticket t (i + 1) now) u ≡ seat_with_ticket (renumbered_ticket (ticket_of v) 1 (i + 1) ws u)
-        (seat_at v u)
+        → task_at (with_ticket t (i + 1) now) u ≡ seat_with_ticket (renumbered_ticket (ticket_of v) 1 (i + 1) ws u)
+        (task_at v u)
     by_place u (inl same) =
         let one : i + 1 ≡ suc i = add-one i in
         let sum : 1 + i ≡ i + 1 = omega arith in
         let tag : renumbered_ticket (ticket_of v) 1 (i + 1) ws t ≡ i + 1
         = ap (λ (k : ℕ). renumbered_ticket (ticket_of v) 1 k ws t) one ∙ ticket_after (ticket_of v) 1 i ws t d once l e
         ∙ sum in
-        ap (λ (x : ℕ). seat_at (with_ticket t (i + 1) now) x) same
-        ∙ get_or-set_same now.seats t _ no_seat (omega (arith, inside, h.seats))
+        ap (λ (x : ℕ). task_at (with_ticket t (i + 1) now) x) same
+        ∙ get_or-set_same now.seats t _ no_task (omega (arith, inside, h.seats))
         ∙ ap (seat_with_ticket (i + 1)) (h.seat t)
-        ∙ with_ticket_twice (i + 1) _ (seat_at v t).base (seat_at v t).local (seat_at v t).wait
-        ∙ ap (λ (k : ℕ). seat_with_ticket k (seat_at v t)) (sym tag)
-        ∙ ap (λ (x : ℕ). seat_with_ticket (renumbered_ticket (ticket_of v) 1 (i + 1) ws x) (seat_at v x)) (sym same)
+        ∙ with_ticket_twice (i + 1) _ (task_at v t).base (task_at v t).local (task_at v t).wait
+        ∙ ap (λ (k : ℕ). seat_with_ticket k (task_at v t)) (sym tag)
+        ∙ ap (λ (x : ℕ). seat_with_ticket (renumbered_ticket (ticket_of v) 1 (i + 1) ws x) (task_at v x)) (sym same)
     by_place u (inr ne) =
         let one : i + 1 ≡ suc i = add-one i in
-        get_or-set_other now.seats t u _ no_seat ne ∙ h.seat u
-        ∙ ap (λ (k : ℕ). seat_with_ticket k (seat_at v u))
+        get_or-set_other now.seats t u _ no_task ne ∙ h.seat u
+        ∙ ap (λ (k : ℕ). seat_with_ticket k (task_at v u))
         (sym (ap (λ (k : ℕ). renumbered_ticket (ticket_of v) 1 k ws u) one
         ∙ ticket_other_than (ticket_of v) 1 i ws t u d l e ne))

@@ -3,7 +3,7 @@ use Rattle.std.proofs.Common.{◌≡◌, ◌≢◌, ◌⊎◌, ℕ, zero, suc, �
 use Rattle.std.proofs.lemmas.Bool.{cases_eq, cases_lt, true≢false, false≢true}
 use Rattle.std.proofs.lemmas.Bool.Decides.{nat_tests}
 use Rattle.pif_lists.specs.declared.keys.Key.{Key}
-use Rattle.pif_owners.specs.Owners.{Owners, Seat, Wait, seat_at}
+use Rattle.pif_owners.specs.Owners.{Owners, Task, Wait, task_at}
 use Rattle.pif_chains.proofs.Waiting.{names}
 use Rattle.pif_kernel_state.specs.Inside.{Inside, IsSoundInside, ticket_of}
 use Rattle.pif_owners.specs.Arrivals.{Rise}
@@ -114,7 +114,7 @@ unnamed_keeps f n (suc i) (w ∷ ws) u e = by_head (cases_eq w.0 u) e (unnamed_k
     by_head (inr ne) e ih =
         let no : (w.0 == u) ≡ false = grind (arith, nat_tests) in rw no (ih (rw no at e))
 
-with_ticket_waits : (n : ℕ) (x : Seat) → is_some (option_map (λ (w : Wait). w.state) x.wait) ≡ true
+with_ticket_waits : (n : ℕ) (x : Task) → is_some (option_map (λ (w : Wait). w.state) x.wait) ≡ true
     → unwrap_or (option_map (λ (r : Key). r.ticket) (option_map (λ (w : Wait). w.rank) (seat_with_ticket n x).wait)) 0 ≡ n
 with_ticket_waits n x e = by_wait x.wait e
   where
@@ -125,7 +125,7 @@ with_ticket_waits n x e = by_wait x.wait e
     by_wait None e = absurd (false≢true e)
     by_wait (Some w) e = refl
 
-with_ticket_zero : (n : ℕ) (x : Seat) → n ≡ 0
+with_ticket_zero : (n : ℕ) (x : Task) → n ≡ 0
     → unwrap_or (option_map (λ (r : Key). r.ticket) (option_map (λ (w : Wait). w.rank) (seat_with_ticket n x).wait)) 0 ≡ 0
 with_ticket_zero n x z = by_wait x.wait
   where
@@ -140,13 +140,13 @@ module _ (v now : Owners) (n i : ℕ) (ws : List (ℕ × ℕ)) (d : IsNumbered v
     (g : IsRenumbered v now ws i) (most : i ≤ length ws) where
   tag_named : (u : ℕ) → names u ws ≡ true → ticket_of now u ≡ renumbered_ticket (ticket_of v) 1 i ws u
   tag_named u e =
-      ap (λ (x : Seat). unwrap_or (option_map (λ (k : Key). k.ticket) (option_map (λ (w : Wait). w.rank) x.wait)) 0)
-      (g.seat u) ∙ with_ticket_waits (renumbered_ticket (ticket_of v) 1 i ws u) (seat_at v u) (r.waits u e)
+      ap (λ (x : Task). unwrap_or (option_map (λ (k : Key). k.ticket) (option_map (λ (w : Wait). w.rank) x.wait)) 0)
+      (g.seat u) ∙ with_ticket_waits (renumbered_ticket (ticket_of v) 1 i ws u) (task_at v u) (r.waits u e)
 
   tag_other : (u : ℕ) → names u ws ≡ false → ticket_of now u ≡ 0
   tag_other u e =
-      ap (λ (x : Seat). unwrap_or (option_map (λ (k : Key). k.ticket) (option_map (λ (w : Wait). w.rank) x.wait)) 0)
-      (g.seat u) ∙ with_ticket_zero (renumbered_ticket (ticket_of v) 1 i ws u) (seat_at v u)
+      ap (λ (x : Task). unwrap_or (option_map (λ (k : Key). k.ticket) (option_map (λ (w : Wait). w.rank) x.wait)) 0)
+      (g.seat u) ∙ with_ticket_zero (renumbered_ticket (ticket_of v) 1 i ws u) (task_at v u)
       (unnamed_keeps (ticket_of v) 1 i ws u e ∙ d.others u e)
 
   -- who has a ticket from the next on is among them
@@ -220,10 +220,10 @@ numbered p h = record {
   next = p.next;
   rises = h.placed.tickets;
   known = λ t e. named_known p h t e;
-  others = λ t e. by_wait t e (seat_at p.owners t).wait refl;
+  others = λ t e. by_wait t e (task_at p.owners t).wait refl;
 }
   where
-    by_wait : (t : ℕ) → names t p.arrivals ≡ false → (o : Option Wait) → (seat_at p.owners t).wait ≡ o
+    by_wait : (t : ℕ) → names t p.arrivals ≡ false → (o : Option Wait) → (task_at p.owners t).wait ≡ o
         → ticket_of p.owners t ≡ 0
     by_wait t e None w =
         ap (λ (o : Option Wait). unwrap_or (option_map (λ (k : Key). k.ticket) (option_map (λ (x : Wait). x.rank) o)) 0) w

@@ -7,7 +7,7 @@ use Rattle.pif_model.specs.declared.lines.Status.{Status}
 use Rattle.pif_model.specs.declared.lines.Status.TheVariants.{Ready, Queued, Parked, Stopped, Ended}
 use Rattle.pif_model.specs.Graph.{next_waiter, IsNextWaiter}
 use Rattle.pif_model.specs.PiKernel.{queued_on, effective_in, next_in}
-use Rattle.pif_owners.specs.Owners.{seat_at, waits_on, rank_of, IsTop}
+use Rattle.pif_owners.specs.Owners.{task_at, waits_on, rank_of, IsTop}
 use Rattle.pif_owners.proofs.OwnersLemmas.{some_rank}
 use Rattle.pif_chains.proofs.Among.{is_among_cons}
 use Rattle.pif_chains.proofs.Among.{is_among as is_waiter}
@@ -60,7 +60,7 @@ top_by : (p : Inside) → IsSoundInside p → (m key u x : ℕ) → state_key_at
 top_by p h m key u x at top next =
     by_place (waiter_split next.earlier ((x, m) ∷ next.later) u m
     (subst (λ (ws : List (ℕ × ℕ)). is_waiter ws u m ≡ true) next.place (waits_under p h u m key at top.waits)))
-    (some_rank (seat_at p.owners x).wait key waits_x) waits_x
+    (some_rank (task_at p.owners x).wait key waits_x) waits_x
   where
     waits_x : waits_on p.owners x ≡ Some key
     waits_x =

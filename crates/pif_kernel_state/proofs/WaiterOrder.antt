@@ -6,7 +6,7 @@ use Rattle.pif_lists.specs.declared.keys.Key.{Key}
 use Rattle.pif_lists.specs.Order.{comes_before}
 use Rattle.pif_model.specs.Graph.{waiting_order}
 use Rattle.pif_model.specs.PiKernel.{effective_in, is_among, waiters_in}
-use Rattle.pif_owners.specs.Owners.{Seat, no_seat, seat_at, waits_on, rank_of, IsTop, HasNoWaiter}
+use Rattle.pif_owners.specs.Owners.{Task, no_task, task_at, waits_on, rank_of, IsTop, HasNoWaiter}
 use Rattle.pif_owners.proofs.OwnersLemmas.{some_rank}
 use Rattle.pif_owners.specs.Behind.{IsLast, IsBehind}
 use Rattle.pif_chains.proofs.kernel.Orders.{order-none, ordered-is_waiter}
@@ -21,12 +21,12 @@ module _ (p : Inside) (h : IsSoundInside p) (m : ℕ) where
   few_levels : (u : ℕ) → effective_in (kernel_of p) u ≤ 99
   few_levels u = by_zero (cases_eq u 0) (cases_lt u (length p.statuses))
     where
-      free : seat_at p.owners u ≡ no_seat → effective_in (kernel_of p) u ≤ 99
-      free e = omega (arith, h.local u, ap (λ (x : Seat). x.local) e)
+      free : task_at p.owners u ≡ no_task → effective_in (kernel_of p) u ≤ 99
+      free e = omega (arith, h.local u, ap (λ (x : Task). x.local) e)
 
       by_zero : ((u ≡ 0) ⊎ (u ≡ 0 → ⊥)) → ((u < length p.statuses) ⊎ (length p.statuses ≤ u))
           → effective_in (kernel_of p) u ≤ 99
-      by_zero (inl z) c = free (ap (seat_at p.owners) z ∙ h.placed.nobody)
+      by_zero (inl z) c = free (ap (task_at p.owners) z ∙ h.placed.nobody)
       by_zero (inr n) (inl l) = (effective_level p h u (added_back p (fits p h) u n l)).1
       by_zero (inr n) (inr g) = free (h.placed.free u g)
 
@@ -77,7 +77,7 @@ module _ (p : Inside) (h : IsSoundInside p) (m : ℕ) where
     rank_some : (u : ℕ) → waits_on p.owners u ≡ Some key
         → rank_of p.owners u ≡ Some (key_by (effective_in (kernel_of p)) (ticket_of p.owners) u)
     rank_some u e =
-        let r = some_rank (seat_at p.owners u).wait key e in r.1 ∙ ap Some (rank_is u r.0 r.1)
+        let r = some_rank (task_at p.owners u).wait key e in r.1 ∙ ap Some (rank_is u r.0 r.1)
 
     -- who stands there waits
     pub waits_at : (n t : ℕ) → slice_get order n ≡ Some t → waits_on p.owners t ≡ Some key

@@ -7,7 +7,7 @@ use Rattle.pif_model.specs.declared.lines.Status.TheVariants.{Ready, Queued, Par
 use Rattle.pif_model.specs.Graph.{has_waiter}
 use Rattle.pif_model.specs.PiKernel.{queued_on, is_ready, has_seat}
 use Rattle.pif_model.specs.PiKernel.{seat_at as kernel_seat_at, state_at as kernel_state_at}
-use Rattle.pif_owners.specs.Owners.{Seat, Wait, owner_at, count, waits_on}
+use Rattle.pif_owners.specs.Owners.{Task, Wait, owner_at, count, waits_on}
 use Rattle.pif_chains.proofs.kernel.Statuses.{ready-queued_on_nothing}
 use Rattle.pif_chains.proofs.Waiting.{names, named-from_pair, has_waiter-from_pair}
 use Rattle.pif_chains.proofs.Among.{is_among_here, is_among_there}
@@ -98,13 +98,13 @@ named_known p h u e =
     nobody : u ≡ 0 → IsSome (waits_on p.owners u) → ⊥
     nobody z s =
         false≢true (sym (ap (λ (v : ℕ). is_some (waits_on p.owners v)) z
-        ∙ ap (λ (x : Seat). is_some (option_map (λ (w : Wait). w.state) x.wait)) h.placed.nobody) ∙ s)
+        ∙ ap (λ (x : Task). is_some (option_map (λ (w : Wait). w.state) x.wait)) h.placed.nobody) ∙ s)
 
     by_place : ((u < length p.statuses) ⊎ (length p.statuses ≤ u)) → IsSome (waits_on p.owners u)
         → u < length p.statuses
     by_place (inl l) s = l
     by_place (inr g) s =
-        absurd (false≢true (sym (ap (λ (x : Seat). is_some (option_map (λ (w : Wait). w.state) x.wait))
+        absurd (false≢true (sym (ap (λ (x : Task). is_some (option_map (λ (w : Wait). w.state) x.wait))
         (h.placed.free u g)) ∙ s))
 
 pub arrivals_few : (p : Inside) → IsSoundInside p → length p.arrivals ≤ 1024

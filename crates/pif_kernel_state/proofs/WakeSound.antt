@@ -9,7 +9,7 @@ use Rattle.pif_model.specs.declared.lines.Status.TheVariants.{Ready, Queued, Par
 use Rattle.pif_model.specs.declared.lines.Woken.{Woken}
 use Rattle.pif_model.specs.PiKernel.{IsKernel, queued_on, has_seat, is_ready, is_parked, level_at, effective_in, levels_with, kernel_after_waking, parkings_without}
 use Rattle.pif_model.specs.PiKernel.{seat_at as kernel_seat_at}
-use Rattle.pif_owners.specs.Owners.{seat_at}
+use Rattle.pif_owners.specs.Owners.{task_at}
 use Rattle.pif_chains.proofs.kernel.KernelWoken.{added-from_parked, kernel-roused}
 use Rattle.pif_kernel_state.specs.Inside.{Inside, IsSoundInside, kernel_of, status_at}
 use Rattle.pif_kernel_state.proofs.Seats.{status_seen, added_seen, kernel_by_parts, seats_of-set_status}
@@ -40,7 +40,7 @@ module _ (p : Inside) (u : ℕ) (h : IsSoundInside p) (added : has_seat (kernel_
   rests_within = added_seen p (fits p h) u added
 
   -- its priority is a level
-  pub rests_level : 1 ≤ (seat_at p.owners u).local
+  pub rests_level : 1 ≤ (task_at p.owners u).local
   rests_level = omega (arith, h.local u, (effective_level p h u added).0)
 
   -- it is on no level
@@ -93,13 +93,13 @@ pub woken_ends : (p x : Inside) (u : ℕ) → IsSoundInside p → has_seat (kern
     → is_ready (kernel_seat_at (kernel_of p) u).status ≡ false
     → queued_on (kernel_seat_at (kernel_of p) u).status ≡ 0 → (w : Woken) (prio : ℕ) (q : Queue) (tb : NodeLists)
     → x ≡ record p { parked = parkings_without p.parked u }
-    → prio ≡ (seat_at x.owners u).local → q ≡ record x.queue { mask = q.mask }
+    → prio ≡ (task_at x.owners u).local → q ≡ record x.queue { mask = q.mask }
     → ((r : ℕ) → IsLevel r → level_of q tb r ≡ level_after_add u prio r (level_of x.queue x.table r)) → Holds q tb
     → (kernel_of (record x { statuses = set x.statuses u (Ready w); queue = q; table = tb })
     ≡ kernel_after_waking u w (kernel_of p))
     × IsSoundInside (record x { statuses = set x.statuses u (Ready w); queue = q; table = tb })
 woken_ends p x u h added unready unqueued w prio q tb e =
-    subst (λ (y : Inside). prio ≡ (seat_at y.owners u).local → q ≡ record y.queue { mask = q.mask }
+    subst (λ (y : Inside). prio ≡ (task_at y.owners u).local → q ≡ record y.queue { mask = q.mask }
     → ((r : ℕ) → IsLevel r → level_of q tb r ≡ level_after_add u prio r (level_of y.queue y.table r)) → Holds q tb
     → (kernel_of (record y { statuses = set y.statuses u (Ready w); queue = q; table = tb })
     ≡ kernel_after_waking u w (kernel_of p))

@@ -9,7 +9,7 @@ use Rattle.pif_lists.specs.Table.{NodeLists}
 use Rattle.pif_lists.specs.Levels.{Queue, Holds, IsLevel, IsQueued, level_of}
 use Rattle.pif_model.specs.PiKernel.{Kernel, IsKernel, effective_in, is_among, level_at, with_effective_levels, waits_for}
 use Rattle.pif_model.specs.PiKernel.{seat_at as kernel_seat_at}
-use Rattle.pif_owners.specs.Owners.{Owners, Seat, Wait, seat_at, owner_at, count, waits_on, rank_of, no_seat}
+use Rattle.pif_owners.specs.Owners.{Owners, Task, Wait, task_at, owner_at, count, waits_on, rank_of, no_task}
 use Rattle.pif_owners.specs.Boosts.{IsRepaired, IsRepairedBut, base_of, local_of, greatest_base}
 use Rattle.pif_owners.specs.Boosts.{with_effective, with_rank_priority}
 use Rattle.pif_owners.specs.Boosts.{level_after_walk}
@@ -50,7 +50,7 @@ owners_effective p fit u =
     ∙ effective_wider (length (kernel_of p).seats) (length p.owners.seats) (waits_for (kernel_of p))
     (λ x. (kernel_seat_at (kernel_of p) x).base) u
     (omega (arith, fit.few, seats_length p fit)) (λ x some. waits_below p fit x)
-    (λ x le. base_seen p fit x ∙ ap (λ (s : Seat). s.base) (fit.free x (omega (arith, le, seats_length p fit))))
+    (λ x le. base_seen p fit x ∙ ap (λ (s : Task). s.base) (fit.free x (omega (arith, le, seats_length p fit))))
 
 module _ (p : Inside) (h : IsPlaced p) (now : Owners) (q : Queue) (tb : NodeLists) (repaired : IsRepaired p.owners now)
     (walks : (r : ℕ) → IsLevel r → level_of q tb r ≡ level_after_walk p.owners p.queue p.table r)
@@ -88,44 +88,44 @@ module _ (p : Inside) (h : IsPlaced p) (now : Owners) (q : Queue) (tb : NodeList
           omega (
             arith,
             base_seen p fit x,
-            ap (λ (y : ℕ). (seat_at p.owners y).base) z,
+            ap (λ (y : ℕ). (task_at p.owners y).base) z,
             ap
-                (λ (s : Seat). s.base) h.nobody,
+                (λ (s : Task). s.base) h.nobody,
           )
 
   -- each seat is the one that it was, boosted
-  seat_now : (u : ℕ) → seat_at now u ≡ with_effective (effective_in (kernel_of p) u) (seat_at p.owners u)
+  seat_now : (u : ℕ) → task_at now u ≡ with_effective (effective_in (kernel_of p) u) (task_at p.owners u)
   seat_now u = by_place (cases_lt u (length p.owners.seats))
     where
       by_place : ((u < length p.owners.seats) ⊎ (length p.owners.seats ≤ u))
-          → seat_at now u ≡ with_effective (effective_in (kernel_of p) u) (seat_at p.owners u)
-      by_place (inl l) = repaired.seats u l ∙ ap (λ (n : ℕ). with_effective n (seat_at p.owners u)) (effective_seen u)
+          → task_at now u ≡ with_effective (effective_in (kernel_of p) u) (task_at p.owners u)
+      by_place (inl l) = repaired.seats u l ∙ ap (λ (n : ℕ). with_effective n (task_at p.owners u)) (effective_seen u)
       by_place (inr g) =
-          let past : seat_at p.owners u ≡ no_seat = get_or_past p.owners.seats u no_seat g in
+          let past : task_at p.owners u ≡ no_task = get_or_past p.owners.seats u no_task g in
           let out : effective_in (kernel_of p) u ≡ 0 = effective_out u (omega (arith, fit.few, g)) in
-          get_or_past now.seats u no_seat (omega (arith, repaired.threads, g)) ∙ rw (past, out) refl
+          get_or_past now.seats u no_task (omega (arith, repaired.threads, g)) ∙ rw (past, out) refl
 
-  base_now : (u : ℕ) → (seat_at now u).base ≡ (seat_at p.owners u).base
-  base_now u = ap (λ (s : Seat). s.base) (seat_now u)
+  base_now : (u : ℕ) → (task_at now u).base ≡ (task_at p.owners u).base
+  base_now u = ap (λ (s : Task). s.base) (seat_now u)
 
   -- a seat of nobody stays one
-  nobody_now : (u : ℕ) → effective_in (kernel_of p) u ≡ 0 → seat_at p.owners u ≡ no_seat → seat_at now u ≡ no_seat
+  nobody_now : (u : ℕ) → effective_in (kernel_of p) u ≡ 0 → task_at p.owners u ≡ no_task → task_at now u ≡ no_task
   nobody_now u z e = seat_now u ∙ rw (z, e) refl
 
   waits_now : (u : ℕ) → waits_on now u ≡ waits_on p.owners u
   waits_now u =
-      ap (λ (s : Seat). option_map (λ (w : Wait). w.state) s.wait) (seat_now u) ∙ wait_state _ (seat_at p.owners u).wait
+      ap (λ (s : Task). option_map (λ (w : Wait). w.state) s.wait) (seat_now u) ∙ wait_state _ (task_at p.owners u).wait
 
   ticket_now : (u : ℕ) → ticket_of p.owners u ≡ ticket_of now u
   ticket_now u =
       ap (λ (o : Option ℕ). unwrap_or o 0)
-      (sym (ap (λ (s : Seat). option_map (λ (r : Key). r.ticket) (option_map (λ (w : Wait). w.rank) s.wait))
-      (seat_now u) ∙ wait_ticket _ (seat_at p.owners u).wait))
+      (sym (ap (λ (s : Task). option_map (λ (r : Key). r.ticket) (option_map (λ (w : Wait). w.rank) s.wait))
+      (seat_now u) ∙ wait_ticket _ (task_at p.owners u).wait))
 
   rank_now : (u : ℕ) (r : Key) → rank_of now u ≡ Some r → r.prio ≡ effective_in (kernel_of p) u
   rank_now u r e =
-      wait_prio (effective_in (kernel_of p) u) (seat_at p.owners u).wait r
-      (sym (ap (λ (s : Seat). option_map (λ (w : Wait). w.rank) s.wait) (seat_now u)) ∙ e)
+      wait_prio (effective_in (kernel_of p) u) (task_at p.owners u).wait r
+      (sym (ap (λ (s : Task). option_map (λ (w : Wait). w.rank) s.wait) (seat_now u)) ∙ e)
 
   owner_now : (k : ℕ) → owner_at now k ≡ owner_at p.owners k
   owner_now k = ap (λ m. owner_at (record { seats = now.seats; owners = m }) k) repaired.owners
@@ -163,8 +163,8 @@ module _ (p : Inside) (h : IsPlaced p) (now : Owners) (q : Queue) (tb : NodeList
     owners = λ m. omega (arith, state_now m, h.owners m);
   }
 
-  local_after : (t : ℕ) → (seat_at now t).local ≡ effective_in (kernel_of after) t
-  local_after t = ap (λ (s : Seat). s.local) (seat_now t) ∙ sym (ap (λ (k : Kernel). effective_in k t) kernel_after)
+  local_after : (t : ℕ) → (task_at now t).local ≡ effective_in (kernel_of after) t
+  local_after t = ap (λ (s : Task). s.local) (seat_now t) ∙ sym (ap (λ (k : Kernel). effective_in k t) kernel_after)
 
   placed_after : IsKernel (kernel_of after) → IsPlaced after
   placed_after kept = record {

@@ -10,7 +10,7 @@ use Rattle.pif_lists.specs.declared.keys.Key.{Key}
 use Rattle.pif_lists.specs.Table.{NodeLists}
 use Rattle.pif_lists.specs.Levels.{Queue, Holds, level_of}
 use Rattle.pif_owners.specs.Arrivals.{in_order}
-use Rattle.pif_owners.specs.Owners.{Owners, Seat, seat_at, owner_at, count, waits_on, rank_of, no_seat}
+use Rattle.pif_owners.specs.Owners.{Owners, Task, task_at, owner_at, count, waits_on, rank_of, no_task}
 use Rattle.pif_owners.specs.Arrivals.{Rise, mutexes_of}
 
 -- what a kernel keeps
@@ -48,11 +48,11 @@ abbrev pub state_at : Inside → ℕ → ℕ
 state_at p m = owner_under p.owners (state_key_at p m)
 
 -- a thread, by its status and its row
-abbrev pub seat_of : Status → Seat → KernelSeat
+abbrev pub seat_of : Status → Task → KernelSeat
 seat_of x r = record { base = r.base; status = x }
 
 -- the threads, by their statuses and rows
-abbrev pub seats_of : List Status → List Seat → List KernelSeat
+abbrev pub seats_of : List Status → List Task → List KernelSeat
 seats_of [] rows = []
 seats_of (x ∷ xs) [] = []
 seats_of (x ∷ xs) (r ∷ rows) = seat_of x r ∷ seats_of xs rows
@@ -89,7 +89,7 @@ no_keys = replicate 1025 None
 pub record IsListed (p : Inside) (t level : ℕ) : Type 0 where
   pub added : has_seat (kernel_of p) t ≡ true
   pub ready : is_ready (status_at p t) ≡ true
-  pub local : (seat_at p.owners t).local ≡ level
+  pub local : (task_at p.owners t).local ≡ level
 
 -- what holds of the parts at any time, between the steps of a call too
 pub record IsPlaced (p : Inside) : Type 0 where
@@ -100,10 +100,10 @@ pub record IsPlaced (p : Inside) : Type 0 where
   -- threads and rows: who was added was admitted, and nobody else
   pub some : 1 ≤ length p.statuses
   pub few : length p.statuses ≤ p.limits.threads + 1
-  pub nobody : seat_at p.owners 0 ≡ no_seat
-  pub admitted : (t : ℕ) → t ≢ 0 → t < length p.statuses → 1 ≤ (seat_at p.owners t).base
-  pub free : (t : ℕ) → length p.statuses ≤ t → seat_at p.owners t ≡ no_seat
-  pub most : (t : ℕ) → (seat_at p.owners t).base ≤ 99
+  pub nobody : task_at p.owners 0 ≡ no_task
+  pub admitted : (t : ℕ) → t ≢ 0 → t < length p.statuses → 1 ≤ (task_at p.owners t).base
+  pub free : (t : ℕ) → length p.statuses ≤ t → task_at p.owners t ≡ no_task
+  pub most : (t : ℕ) → (task_at p.owners t).base ≤ 99
   -- the run queue stands in its table, with a node for each thread that the limits allow
   pub threads : p.queue.threads ≡ p.limits.threads
   pub holds : Holds p.queue p.table
@@ -125,6 +125,6 @@ pub record IsPlaced (p : Inside) : Type 0 where
 pub record IsSoundInside (p : Inside) : Type 0 where
   pub placed : IsPlaced p
   -- threads stand with their effective priorities
-  pub local : (t : ℕ) → (seat_at p.owners t).local ≡ effective_in (kernel_of p) t
+  pub local : (t : ℕ) → (task_at p.owners t).local ≡ effective_in (kernel_of p) t
   pub rank : (t : ℕ) (r : Key) → rank_of p.owners t ≡ Some r → r.prio ≡ effective_in (kernel_of p) t
   pub kernel : IsKernel (kernel_of p)

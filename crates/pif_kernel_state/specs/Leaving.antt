@@ -4,7 +4,7 @@ use Rattle.pif_lists.specs.Lists.{list_without}
 use Rattle.pif_lists.specs.Levels.{Holds, IsLevel, level_of}
 use Rattle.pif_model.specs.Graph.{has_waiter, without}
 use Rattle.pif_model.specs.PiKernel.{waits_for, parkings_without}
-use Rattle.pif_owners.specs.Owners.{seat_at, owner_at, count}
+use Rattle.pif_owners.specs.Owners.{task_at, owner_at, count}
 use Rattle.pif_kernel_state.specs.Inside.{Inside, kernel_of, state_key_at}
 use Rattle.pif_owners.specs.Arrivals.{mutexes_of}
 
@@ -20,8 +20,8 @@ pub record IsLeft (old now : Inside) (t start : ℕ) : Type 0 where
     parked = parkings_without old.parked t;
   }
   pub rows : length now.owners.seats ≡ length old.owners.seats
-  pub free : seat_at now.owners t ≡ record (seat_at old.owners t) { wait = None }
-  pub others : (u : ℕ) → u ≢ t → seat_at now.owners u ≡ seat_at old.owners u
+  pub free : task_at now.owners t ≡ record (task_at old.owners t) { wait = None }
+  pub others : (u : ℕ) → u ≢ t → task_at now.owners u ≡ task_at old.owners u
   pub places : length now.keys ≡ length old.keys
   pub keys : (m : ℕ) → state_key_at now m ≡ (if has_waiter (without old.arrivals t) m then state_key_at old m else None)
   pub states : (m k : ℕ) → has_waiter (without old.arrivals t) m ≡ true → state_key_at old m ≡ Some k

@@ -1,7 +1,7 @@
 -- Tickets that are numbered anew in their order.
 use Rattle.std.specs.Prelude.{◌≡◌, ◌≢◌, ℕ, zero, suc, ◌+◌, ◌<◌, ◌≤◌, ◌==◌, eqb, nat_lt, Bool, true, false, if◌then◌else◌, List, [], ◌∷◌, length, map, get_or, Option, Some, None, IsSome, option_map}
 use Rattle.std.specs.List.{list_any, IsDistinct}
-use Rattle.pif_owners.specs.Owners.{Owners, Seat, Wait, seat_at, waits_on, KeepsOrder}
+use Rattle.pif_owners.specs.Owners.{Owners, Task, Wait, task_at, waits_on, KeepsOrder}
 use Rattle.pif_owners.specs.Arrivals.{Rise}
 use Rattle.pif_kernel_state.specs.Inside.{ticket_of}
 
@@ -12,7 +12,7 @@ renumbered_ticket ticket n (suc count) [] u = ticket u
 renumbered_ticket ticket n (suc count) (w ∷ ws) u = if w.0 == u then n else renumbered_ticket ticket (n + 1) count ws u
 
 -- a seat with another ticket, where its thread waits
-abbrev pub seat_with_ticket : ℕ → Seat → Seat
+abbrev pub seat_with_ticket : ℕ → Task → Task
 seat_with_ticket n x =
     record x {
       wait = option_map (λ
@@ -23,7 +23,7 @@ seat_with_ticket n x =
 pub record IsRenumbered (old now : Owners) (ws : List (ℕ × ℕ)) (count : ℕ) : Type 0 where
   pub seats : length now.seats ≡ length old.seats
   pub owners : now.owners ≡ old.owners
-  pub seat : (u : ℕ) → seat_at now u ≡ seat_with_ticket (renumbered_ticket (ticket_of old) 1 count ws u) (seat_at old u)
+  pub seat : (u : ℕ) → task_at now u ≡ seat_with_ticket (renumbered_ticket (ticket_of old) 1 count ws u) (task_at old u)
 
 -- whether a thread is among these
 abbrev pub is_named : ℕ → List (ℕ × ℕ) → Bool

@@ -5,7 +5,7 @@ ghost use Rattle.pif_model.specs.PiKernel.{parked_pairs, parkings_without};
 ghost use Rattle.pif_lists.specs.Lists.{has, list_without};
 ghost use Rattle.pif_lists.specs.declared.keys.Key.{Key as RankSeen};
 ghost use Rattle.pif_lists.specs.Levels.{Holds, IsLevel, IsQueued, IsEmpty, IsFirstOfGreatest, all_below, level_of, level_after_add};
-ghost use Rattle.pif_owners.specs.Owners.{seat_at, owner_at, count, waits_on, rank_of, WaitsFor, IsTop, HasNoWaiter, KeepsOrder, with_seat, with_base, with_wait, with_ticket, with_owner, without_state};
+ghost use Rattle.pif_owners.specs.Owners.{task_at, owner_at, count, waits_on, rank_of, WaitsFor, IsTop, HasNoWaiter, KeepsOrder, with_task, with_base, with_wait, with_ticket, with_owner, without_state};
 ghost use Rattle.pif_owners.specs.Behind.{IsLast, IsBehind};
 ghost use Rattle.pif_owners.specs.Boosts.{IsRepaired, IsRepairedBut, base_of, local_of, level_after_walk};
 ghost use Rattle.pif_kernel_state.specs.Chained.{Chained, IsUnused, KeepsLevels};
@@ -36,13 +36,13 @@ pub trait Chains {
         requires free { waits_on (seen self.old).owners t ≡ None }
         requires unparked { is_named t (parked_pairs (seen self.old).parked) ≡ false }
         ensures { seen self.new ≡ record (seen self.old) {
-          owners = with_seat t (record { base = prio; local = prio; wait = None }) (seen self.old).owners;
+          owners = with_task t (record { base = prio; local = prio; wait = None }) (seen self.old).owners;
         } };
 
     /// The base priority of the thread `t`. `None` if it was given none.
     fn base(&self, t: Tid) -> Option<Prio>
-        ensures given { IsSome result ↔ (1 ≤ (seat_at (seen self.now).owners t).base) }
-        ensures value { IfSome result (λ p. p ≡ (seat_at (seen self.now).owners t).base) };
+        ensures given { IsSome result ↔ (1 ≤ (task_at (seen self.now).owners t).base) }
+        ensures value { IfSome result (λ p. p ≡ (task_at (seen self.now).owners t).base) };
 
     /// Makes `prio` the base priority of the thread `t`.
     fn set_base(&mut self, t: Tid, prio: Prio)
@@ -50,8 +50,8 @@ pub trait Chains {
 
     /// The effective priority of the thread `t`. `None` if it was given none.
     fn local(&self, t: Tid) -> Option<Prio>
-        ensures given { IsSome result ↔ (1 ≤ (seat_at (seen self.now).owners t).local) }
-        ensures value { IfSome result (λ p. p ≡ (seat_at (seen self.now).owners t).local) };
+        ensures given { IsSome result ↔ (1 ≤ (task_at (seen self.now).owners t).local) }
+        ensures value { IfSome result (λ p. p ≡ (task_at (seen self.now).owners t).local) };
 
     /// The key of the owner state of a mutex. `None` if it has none.
     fn find(&self, m: MutexId) -> Option<Key>

@@ -3,8 +3,8 @@ use Rattle.std.proofs.Common.{◌≡◌, ◌≢◌, ◌⊎◌, ℕ, Option, Some
 use Rattle.std.proofs.lemmas.Bool.{false≢true}
 use Rattle.std.specs.FinMap.{FinMap}
 use Rattle.std.specs.Ordering.{nat_cmp}
-use Rattle.pif_owners.specs.Owners.{Owners, Seat, seat_at, state_of, waits_on, with_seat, with_base}
-use Rattle.pif_owners.proofs.OwnersLemmas.{seat_at-with_seat, seat_at-with_seat_other}
+use Rattle.pif_owners.specs.Owners.{Owners, Task, task_at, state_of, waits_on, with_task, with_base}
+use Rattle.pif_owners.proofs.OwnersLemmas.{task_at-with_task, task_at-with_task_other}
 use Rattle.pif_owners.specs.Boosts.{local_of}
 use Rattle.pif_owners.specs.Parked.{Parked}
 use Rattle.pif_linked.specs.Linked.{FitsParked}
@@ -25,11 +25,11 @@ module _ (v : Owners) (at : ℕ → Option Parked) (n next : ℕ) (h : FitsParke
   }
 
   -- one who is not parked got another seat
-  pub fits_but : (t : ℕ) (s : Seat) → at t ≡ None → FitsParked (with_seat t s v) at n next
+  pub fits_but : (t : ℕ) (s : Task) → at t ≡ None → FitsParked (with_task t s v) at n next
   fits_but t s none =
-      fits_as (with_seat t s v) (λ u x e.
-      let same : seat_at (with_seat t s v) u ≡ seat_at v u = seat_at-with_seat_other t s v u (other t u x none e) in
-      (ap (λ (y : Seat). y.local) same, ap state_of same))
+      fits_as (with_task t s v) (λ u x e.
+      let same : task_at (with_task t s v) u ≡ task_at v u = task_at-with_task_other t s v u (other t u x none e) in
+      (ap (λ (y : Task). y.local) same, ap state_of same))
 
   -- a state got another owner, was made, or ended
   pub fits_owned : (owners : FinMap nat_cmp ℕ) → FitsParked (record v { owners = owners }) at n next
@@ -37,14 +37,14 @@ module _ (v : Owners) (at : ℕ → Option Parked) (n next : ℕ) (h : FitsParke
 
   -- one got another base priority
   pub fits_based : (t prio : ℕ) → FitsParked (with_base t prio v) at n next
-  fits_based t prio = fits_as (with_base t prio v) (λ u x e. by_seat u (seat_at-with_seat t (record (seat_at v t) { base = prio }) v u))
+  fits_based t prio = fits_as (with_base t prio v) (λ u x e. by_seat u (task_at-with_task t (record (task_at v t) { base = prio }) v u))
     where
-      by_seat : (u : ℕ) → ((u ≡ t) × (seat_at (with_base t prio v) u ≡ record (seat_at v t) { base = prio }))
-          ⊎ (seat_at (with_base t prio v) u ≡ seat_at v u)
+      by_seat : (u : ℕ) → ((u ≡ t) × (task_at (with_base t prio v) u ≡ record (task_at v t) { base = prio }))
+          ⊎ (task_at (with_base t prio v) u ≡ task_at v u)
           → (local_of (with_base t prio v) u ≡ local_of v u) × (waits_on (with_base t prio v) u ≡ waits_on v u)
       by_seat u (inl a) =
-          (ap (λ (y : Seat). y.local) a.1 ∙ ap (local_of v) (sym a.0), ap state_of a.1 ∙ ap (waits_on v) (sym a.0))
-      by_seat u (inr same) = (ap (λ (y : Seat). y.local) same, ap state_of same)
+          (ap (λ (y : Task). y.local) a.1 ∙ ap (local_of v) (sym a.0), ap state_of a.1 ∙ ap (waits_on v) (sym a.0))
+      by_seat u (inr same) = (ap (λ (y : Task). y.local) same, ap state_of same)
 
   -- who waits is not parked
   pub waits_unparked : (t k : ℕ) → waits_on v t ≡ Some k → at t ≡ None

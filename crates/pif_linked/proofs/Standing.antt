@@ -6,7 +6,7 @@ use Rattle.pif_lists.specs.Lists.{has}
 use Rattle.pif_lists.specs.Table.{NodeLists, holder, list_at, key_at}
 use Rattle.pif_lists.specs.Levels.{Queue, Holds, IsLevel, IsThreadNode, KeepsQueue, SameOutside, list_for, level_of}
 use Rattle.pif_lists.proofs.KeptLemmas.{levels-framed, queue-framed}
-use Rattle.pif_owners.specs.Owners.{Seat, waits_on, with_seat}
+use Rattle.pif_owners.specs.Owners.{Task, waits_on, with_task}
 use Rattle.pif_owners.specs.States.{States, IsThread, wait_of, wait_node, wait_list, top_list, owners_in}
 use Rattle.pif_owners.specs.Holds.{IsWaiterIn, IsTopNode}
 use Rattle.pif_owners.specs.Holds.{HoldsStates}
@@ -207,8 +207,8 @@ module _ (m : States) (q : Queue) (b : Buckets) (t : NodeLists) (next : ℕ) (h 
 
   -- where the seat of one thread that is not parked was changed
   module _ (m' : States) (t' : NodeLists) (place : SamePlace m m') (rows : m'.places ≡ m.places)
-      (outside : SameOutsideStates m t t') (holds : HoldsStates m' t') (u : ℕ) (x : Seat)
-      (off : parked_at b.parked t u ≡ None) (seated : owners_in m' t' ≡ with_seat u x (owners_in m t)) where
+      (outside : SameOutsideStates m t t') (holds : HoldsStates m' t') (u : ℕ) (x : Task)
+      (off : parked_at b.parked t u ≡ None) (seated : owners_in m' t' ≡ with_task u x (owners_in m t)) where
     pub linked_seated : IsLinked m' q b t' next
     linked_seated = linked_owners m' t' place rows outside holds
         (subst (λ v. FitsParked v (parked_at b.parked t) b.parked.threads next) (sym seated)

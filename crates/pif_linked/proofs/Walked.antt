@@ -5,7 +5,7 @@ use Rattle.std.proofs.lemmas.List.{get_or_past}
 use Rattle.std.specs.FinMap.{get}
 use Rattle.pif_lists.specs.Table.{NodeLists}
 use Rattle.pif_lists.specs.Levels.{Queue, Holds, IsLevel, level_of}
-use Rattle.pif_owners.specs.Owners.{Seat, Wait, no_seat, state_of, waits_on, waits_for}
+use Rattle.pif_owners.specs.Owners.{Task, Wait, no_task, state_of, waits_on, waits_for}
 use Rattle.pif_owners.proofs.OwnersLemmas.{free-wait}
 use Rattle.pif_owners.specs.States.{States, owners_in}
 use Rattle.pif_owners.proofs.ViewLemmas.{length-seats}
@@ -65,7 +65,7 @@ module _ (m : States) (q : Queue) (b : Buckets) (t : NodeLists) (next : ℕ) (h 
       by_place (inl l) = l
       by_place (inr p) =
           let none : base_of (owners_in m t) start ≡ 0
-          = ap (λ (x : Seat). x.base) (get_or_past (owners_in m t).seats start no_seat p) in
+          = ap (λ (x : Task). x.base) (get_or_past (owners_in m t).seats start no_task p) in
           absurd (omega (arith, none, admitted))
 
   -- a parked thread has an effective priority still
@@ -73,13 +73,13 @@ module _ (m : States) (q : Queue) (b : Buckets) (t : NodeLists) (next : ℕ) (h 
   then_admitted u x e = by_greatest (cases_eq (greatest_base (owners_in m t) u) 0)
     where
       now : local_of (owners_in m' t') u ≡ greatest_base (owners_in m t) u
-      now = ap (λ (y : Seat). y.local) (done.repaired.seats u (thread u x e).1)
+      now = ap (λ (y : Task). y.local) (done.repaired.seats u (thread u x e).1)
 
       by_greatest : ((greatest_base (owners_in m t) u ≡ 0) ⊎ (greatest_base (owners_in m t) u ≡ 0 → ⊥))
           → 1 ≤ local_of (owners_in m' t') u
       by_greatest (inl z) =
           let none : local_of (owners_in m t) u ≡ 0
-          = ap (λ (y : Seat). y.local) (idle (owners_in m t) start h.stand.owners.waiters.sound repaired row admitted u
+          = ap (λ (y : Task). y.local) (idle (owners_in m t) start h.stand.owners.waiters.sound repaired row admitted u
           (thread u x e) z) in
           let some : 1 ≤ local_of (owners_in m t) u = h.parked.admitted u x e in
           absurd (omega (arith, none, some))

@@ -7,11 +7,11 @@ use Rattle.pif_lists.specs.Lists.{has, first_of}
 use Rattle.pif_lists.specs.Table.{NodeLists, list_at, key_at, holder, IsApart}
 use Rattle.pif_lists.specs.Order.{IsInOrder, IsSorted}
 use Rattle.pif_lists.proofs.OrderLemmas.{IsInOrder-same}
-use Rattle.pif_owners.specs.Owners.{Seat, AreSoundOwners}
+use Rattle.pif_owners.specs.Owners.{Task, AreSoundOwners}
 use Rattle.pif_owners.specs.States.{States, IsThread, row_at, wait_of, wait_node, top_node, wait_list, top_list, waiter_for, first_waiter, seat_in, owners_in}
 use Rattle.pif_owners.specs.Holds.{HoldsWaiters, IsTopped, IsFirstOf, IsTopOf, IsRankedTop, HoldsTops, HoldsStates}
 use Rattle.pif_owners.specs.Frames.{KeepsLists, KeepsOwn}
-use Rattle.pif_owners.proofs.ViewLemmas.{length-seats, seat_at-owners_in, owners_in-by_seat}
+use Rattle.pif_owners.proofs.ViewLemmas.{length-seats, task_at-owners_in, owners_in-by_seat}
 use Rattle.pif_owners.proofs.WaiterLemmas.{waits-state, first_waiter-by_row, StandsFirst, stands-first, some_owner}
 
 -- a node of a list that was kept is still there
@@ -65,7 +65,7 @@ module _ (m : States) (was now : NodeLists) (keeps : KeepsLists m.first_list m.t
   seat-framed : (u : ℕ) → seat_in m was u ≡ seat_in m now u
   seat-framed u = by_wait (cases_Some (wait_of m u))
     where
-      seat : Option ℕ → Key → Seat
+      seat : Option ℕ → Key → Task
       seat o k =
           record {
             base = (row_at m u).base;
@@ -100,7 +100,7 @@ module _ (m : States) (was now : NodeLists) (keeps : KeepsLists m.first_list m.t
 
   pub view-framed : owners_in m now ≡ owners_in m was
   view-framed =
-      owners_in-by_seat m now (owners_in m was) refl (length-seats m was) (λ u l. seat_at-owners_in m was u
+      owners_in-by_seat m now (owners_in m was) refl (length-seats m was) (λ u l. task_at-owners_in m was u
       ∙ seat-framed u)
 
   pub waiters-framed : IsApart now → HoldsWaiters m now

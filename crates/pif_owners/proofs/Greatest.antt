@@ -11,7 +11,7 @@ use Rattle.pif_model.specs.Graph.Reaches.{here, hop}
 use Rattle.pif_chains.proofs.Following.{IsGreatestAt, reaches-from_within, all_apart, no_repeats, greatest_where_above, greatest_where_some}
 use Rattle.pif_chains.proofs.Greatest.{effective_above, effective_attained, effective_own, effective_same}
 use Rattle.pif_chains.proofs.Hops.{Reaches-then, alone, nobody, found, found_below}
-use Rattle.pif_owners.specs.Owners.{Owners, Seat, Wait, no_seat, seat_at, owner_at, waits_on, waits_for, WaitsFor, AreSoundOwners}
+use Rattle.pif_owners.specs.Owners.{Owners, Task, Wait, no_task, task_at, owner_at, waits_on, waits_for, WaitsFor, AreSoundOwners}
 use Rattle.pif_owners.specs.Boosts.{IsThread, base_of, local_of, greatest_base, greatest_waiting, with_rank_priority, with_effective, IsRepairedBut}
 
 -- for whom a thread with this wait waits
@@ -20,14 +20,14 @@ waits_by v w = unwrap_or (option_and_then (owner_at v) (option_map (λ (x : Wait
 
 -- who has no seat waits for nobody
 pub out_waits : (v : Owners) (x : ℕ) → length v.seats ≤ x → waits_for v x ≡ 0
-out_waits v x l = ap (λ (s : Seat). waits_by v s.wait) (get_or_past v.seats x no_seat l)
+out_waits v x l = ap (λ (s : Task). waits_by v s.wait) (get_or_past v.seats x no_task l)
 
 -- nor does nobody
 pub nobody_waits : (v : Owners) → AreSoundOwners v → waits_for v 0 ≡ 0
-nobody_waits v s = ap (λ (x : Seat). waits_by v x.wait) s.nobody
+nobody_waits v s = ap (λ (x : Task). waits_by v x.wait) s.nobody
 
 pub nobody_base : (v : Owners) → AreSoundOwners v → base_of v 0 ≡ 0
-nobody_base v s = ap (λ (x : Seat). x.base) s.nobody
+nobody_base v s = ap (λ (x : Task). x.base) s.nobody
 
 -- who waits on no state waits for nobody
 pub waits_for-none : (v : Owners) (u : ℕ) → waits_on v u ≡ None → waits_for v u ≡ 0
@@ -121,7 +121,7 @@ unranked_wait (Some w) h =
     λ i. Some (record { state = w.state; rank = record { prio = p i; ticket = w.rank.ticket } })
 
 -- nor does a seat
-unranked : (x : Seat) → x.local ≡ 0 → ((w : Wait) → x.wait ≡ Some w → w.rank.prio ≡ 0) → x ≡ with_effective 0 x
+unranked : (x : Task) → x.local ≡ 0 → ((w : Wait) → x.wait ≡ Some w → w.rank.prio ≡ 0) → x ≡ with_effective 0 x
 unranked x l h = let w : x.wait ≡ option_map (with_rank_priority 0) x.wait = unranked_wait x.wait h in
     λ i. record { base = x.base; local = l i; wait = w i }
 
@@ -262,11 +262,11 @@ module _ (v : Owners) (start : ℕ) (sound : AreSoundOwners v) (repaired : IsRep
 
   -- and it stays as it is where it is given none
   pub idle : start < length v.seats → 1 ≤ base_of v start → (t : ℕ) → IsThread v t → greatest_base v t ≡ 0
-      → seat_at v t ≡ with_effective 0 (seat_at v t)
-  idle row admitted t th e = unranked (seat_at v t) (local_none t th free e) (λ w is. rank w is ∙ local_none t th free e)
+      → task_at v t ≡ with_effective 0 (task_at v t)
+  idle row admitted t th e = unranked (task_at v t) (local_none t th free e) (λ w is. rank w is ∙ local_none t th free e)
     where
       free : Reaches (WaitsFor v) start t → ⊥
       free r = let l : base_of v start ≤ greatest_base v t = greatest_base-above v start t row th.1 r in absurd (omega arith)
 
-      rank : (w : Wait) → (seat_at v t).wait ≡ Some w → w.rank.prio ≡ local_of v t
+      rank : (w : Wait) → (task_at v t).wait ≡ Some w → w.rank.prio ≡ local_of v t
       rank w is = repaired.ranks t w.rank (ap (option_map (λ (x : Wait). x.rank)) is)

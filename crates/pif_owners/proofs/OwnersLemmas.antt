@@ -6,28 +6,28 @@ use Rattle.std.specs.Ordering.{nat_cmp}
 use Rattle.std.specs.FinMap.{FinMap, empty, get, insert, remove, len-empty}
 use Rattle.pif_lists.specs.declared.keys.Key.{Key}
 use Rattle.pif_model.specs.Graph.{Reaches}
-use Rattle.pif_owners.specs.Owners.{Wait, Seat, Owners, no_seat, no_owners, seat_at, owner_at, count, state_of, waits_on, waits_for, WaitsFor, IsAcyclic, HasNoWaiter, with_seat, with_wait, with_owner, without_state, IsSeat, AreSoundOwners}
+use Rattle.pif_owners.specs.Owners.{Wait, Task, Owners, no_task, no_owners, task_at, owner_at, count, state_of, waits_on, waits_for, WaitsFor, IsAcyclic, HasNoWaiter, with_task, with_wait, with_owner, without_state, IsSeat, AreSoundOwners}
 use Rattle.pif_chains.proofs.Cycles.{NoCycle-fewer, NoCycle-hop, NoCycle-still, reaches-alone}
 use Rattle.pif_owners.proofs.MapLemmas.{get-insert_same, get-insert_other, get-remove_same, get-remove_other}
 
 -- after a write of a seat, a thread has that one, or the seat that it had
-pub seat_at-with_seat : (t : ℕ) (x : Seat) (v : Owners) (u : ℕ)
-    → ((u ≡ t) × (seat_at (with_seat t x v) u ≡ x)) ⊎ (seat_at (with_seat t x v) u ≡ seat_at v u)
-seat_at-with_seat t x v u = by_number (cases_eq u t) (cases_lt t (length v.seats))
+pub task_at-with_task : (t : ℕ) (x : Task) (v : Owners) (u : ℕ)
+    → ((u ≡ t) × (task_at (with_task t x v) u ≡ x)) ⊎ (task_at (with_task t x v) u ≡ task_at v u)
+task_at-with_task t x v u = by_number (cases_eq u t) (cases_lt t (length v.seats))
   where
     by_number : ((u ≡ t) ⊎ (u ≡ t → ⊥)) → ((t < length v.seats) ⊎ (length v.seats ≤ t))
-        → ((u ≡ t) × (seat_at (with_seat t x v) u ≡ x)) ⊎ (seat_at (with_seat t x v) u ≡ seat_at v u)
-    by_number (inl e) (inl l) = inl (e, ap (seat_at (with_seat t x v)) e ∙ get_or-set_same v.seats t x no_seat l)
-    by_number (inl e) (inr m) = inr (ap (λ xs. get_or xs u no_seat) (set_past v.seats t x m))
-    by_number (inr n) l = inr (get_or-set_other v.seats t u x no_seat n)
+        → ((u ≡ t) × (task_at (with_task t x v) u ≡ x)) ⊎ (task_at (with_task t x v) u ≡ task_at v u)
+    by_number (inl e) (inl l) = inl (e, ap (task_at (with_task t x v)) e ∙ get_or-set_same v.seats t x no_task l)
+    by_number (inl e) (inr m) = inr (ap (λ xs. get_or xs u no_task) (set_past v.seats t x m))
+    by_number (inr n) l = inr (get_or-set_other v.seats t u x no_task n)
 
 -- the seat of another thread stays
-pub seat_at-with_seat_other : (t : ℕ) (x : Seat) (v : Owners) (u : ℕ) → u ≢ t → seat_at (with_seat t x v) u ≡ seat_at v u
-seat_at-with_seat_other t x v u n = get_or-set_other v.seats t u x no_seat n
+pub task_at-with_task_other : (t : ℕ) (x : Task) (v : Owners) (u : ℕ) → u ≢ t → task_at (with_task t x v) u ≡ task_at v u
+task_at-with_task_other t x v u n = get_or-set_other v.seats t u x no_task n
 
 -- and that of the thread is the new one
-pub seat_at-with_seat_same : (t : ℕ) (x : Seat) (v : Owners) → t < length v.seats → seat_at (with_seat t x v) t ≡ x
-seat_at-with_seat_same t x v l = get_or-set_same v.seats t x no_seat l
+pub task_at-with_task_same : (t : ℕ) (x : Task) (v : Owners) → t < length v.seats → task_at (with_task t x v) t ≡ x
+task_at-with_task_same t x v l = get_or-set_same v.seats t x no_task l
 
 -- whom one waits for who waits for this
 abbrev waits_by : FinMap nat_cmp ℕ → Option Wait → ℕ
@@ -44,51 +44,51 @@ waits_by-some owners (Some w) u e n = (w, refl, by_owner (get owners w.state) e)
 
 -- a hop goes over a state
 pub WaitsFor-some : (v : Owners) (t u : ℕ) → WaitsFor v t u
-    → (w : Wait) × ((seat_at v t).wait ≡ Some w) × (owner_at v w.state ≡ Some u)
-WaitsFor-some v t u a = waits_by-some v.owners (seat_at v t).wait u a.0 a.1
+    → (w : Wait) × ((task_at v t).wait ≡ Some w) × (owner_at v w.state ≡ Some u)
+WaitsFor-some v t u a = waits_by-some v.owners (task_at v t).wait u a.0 a.1
 
 -- and back
-pub WaitsFor-from : (v : Owners) (t u : ℕ) (w : Wait) → (seat_at v t).wait ≡ Some w → owner_at v w.state ≡ Some u
+pub WaitsFor-from : (v : Owners) (t u : ℕ) (w : Wait) → (task_at v t).wait ≡ Some w → owner_at v w.state ≡ Some u
     → u ≢ 0 → WaitsFor v t u
 WaitsFor-from v t u w e o n = (ap (waits_by v.owners) e ∙ ap (λ (x : Option ℕ). unwrap_or x 0) o, n)
 
 -- a hop after a write of a seat is one that was there, or the thread's new one
-hop-with_seat : (t : ℕ) (x : Seat) (v : Owners) (a b : ℕ) → WaitsFor (with_seat t x v) a b
+hop-with_seat : (t : ℕ) (x : Task) (v : Owners) (a b : ℕ) → WaitsFor (with_task t x v) a b
     → WaitsFor v a b ⊎ ((a ≡ t) × (waits_by v.owners x.wait ≡ b) × (b ≢ 0))
-hop-with_seat t x v a b h = by_seat (seat_at-with_seat t x v a)
+hop-with_seat t x v a b h = by_seat (task_at-with_task t x v a)
   where
-    by_seat : ((a ≡ t) × (seat_at (with_seat t x v) a ≡ x)) ⊎ (seat_at (with_seat t x v) a ≡ seat_at v a)
+    by_seat : ((a ≡ t) × (task_at (with_task t x v) a ≡ x)) ⊎ (task_at (with_task t x v) a ≡ task_at v a)
         → WaitsFor v a b ⊎ ((a ≡ t) × (waits_by v.owners x.wait ≡ b) × (b ≢ 0))
-    by_seat (inl p) = inr (p.0, ap (λ (s : Seat). waits_by v.owners s.wait) (sym p.1) ∙ h.0, h.1)
-    by_seat (inr e) = inl (ap (λ (s : Seat). waits_by v.owners s.wait) (sym e) ∙ h.0, h.1)
+    by_seat (inl p) = inr (p.0, ap (λ (s : Task). waits_by v.owners s.wait) (sym p.1) ∙ h.0, h.1)
+    by_seat (inr e) = inl (ap (λ (s : Task). waits_by v.owners s.wait) (sym e) ∙ h.0, h.1)
 
 -- a seat is one of other states with the same owners where it waits
-IsSeat-kept : (v w : Owners) (x : Seat)
+IsSeat-kept : (v w : Owners) (x : Task)
     → ((y : Wait) → x.wait ≡ Some y → IsSome (owner_at v y.state) → IsSome (owner_at w y.state)) → IsSeat v x
     → IsSeat w x
 IsSeat-kept v w x f h = record { base = h.base; local = h.local; least = h.least; most = h.most; state = λ y e. f y e (h.state y e) }
 
 -- a write of a seat keeps all but that there is no cycle
-sound-with_seat : (t : ℕ) (x : Seat) (v : Owners) → 1 ≤ t → IsSeat v x → IsAcyclic (with_seat t x v) → AreSoundOwners v
-    → AreSoundOwners (with_seat t x v)
+sound-with_seat : (t : ℕ) (x : Task) (v : Owners) → 1 ≤ t → IsSeat v x → IsAcyclic (with_task t x v) → AreSoundOwners v
+    → AreSoundOwners (with_task t x v)
 sound-with_seat t x v l h none s =
     record {
       least = omega (arith, length-set v.seats t x, s.least);
       most = omega (arith, length-set v.seats t x, s.most);
-      nobody = seat_at-with_seat_other t x v 0 (λ e. omega arith) ∙ s.nobody;
-      seats = λ u. IsSeat-kept v (with_seat t x v) (seat_at (with_seat t x v) u) (λ y e some. some) (by_seat u (seat_at-with_seat t x v u));
+      nobody = task_at-with_task_other t x v 0 (λ e. omega arith) ∙ s.nobody;
+      seats = λ u. IsSeat-kept v (with_task t x v) (task_at (with_task t x v) u) (λ y e some. some) (by_seat u (task_at-with_task t x v u));
       acyclic = none;
     }
   where
-    by_seat : (u : ℕ) → ((u ≡ t) × (seat_at (with_seat t x v) u ≡ x)) ⊎ (seat_at (with_seat t x v) u ≡ seat_at v u)
-        → IsSeat v (seat_at (with_seat t x v) u)
+    by_seat : (u : ℕ) → ((u ≡ t) × (task_at (with_task t x v) u ≡ x)) ⊎ (task_at (with_task t x v) u ≡ task_at v u)
+        → IsSeat v (task_at (with_task t x v) u)
     by_seat u (inl p) = subst (IsSeat v) (sym p.1) h
     by_seat u (inr e) = subst (IsSeat v) (sym e) (s.seats u)
 
 -- a seat that waits where the thread waited, or nowhere, makes no cycle
-acyclic-no_more : (t : ℕ) (x : Seat) (v : Owners)
+acyclic-no_more : (t : ℕ) (x : Task) (v : Owners)
     → (waits_by v.owners x.wait ≡ waits_for v t) ⊎ (waits_by v.owners x.wait ≡ 0) → IsAcyclic v
-    → IsAcyclic (with_seat t x v)
+    → IsAcyclic (with_task t x v)
 acyclic-no_more t x v same none = NoCycle-fewer (λ a b h. by_hop a b (hop-with_seat t x v a b h) same) none
   where
     by_hop : (a b : ℕ) → WaitsFor v a b ⊎ ((a ≡ t) × (waits_by v.owners x.wait ≡ b) × (b ≢ 0))
@@ -98,8 +98,8 @@ acyclic-no_more t x v same none = NoCycle-fewer (λ a b h. by_hop a b (hop-with_
     by_hop a b (inr p) (inr e) = absurd (p.2 (sym p.1 ∙ e))
 
 -- the priorities of a seat change
-pub sound-priorities : (t : ℕ) (x : Seat) (v : Owners) → x.base ≤ 99 → x.local ≤ 99 → x.wait ≡ (seat_at v t).wait
-    → 1 ≤ t → AreSoundOwners v → AreSoundOwners (with_seat t x v)
+pub sound-priorities : (t : ℕ) (x : Task) (v : Owners) → x.base ≤ 99 → x.local ≤ 99 → x.wait ≡ (task_at v t).wait
+    → 1 ≤ t → AreSoundOwners v → AreSoundOwners (with_task t x v)
 sound-priorities t x v b l e n s =
     sound-with_seat t x v n
     (record { base = b; local = l; least = λ w h. (s.seats t).least w (sym e ∙ h); most = λ w h. (s.seats t).most w (sym e ∙ h); state = λ w h. (s.seats t).state w (sym e ∙ h) })
@@ -114,21 +114,21 @@ one_wait x y e = ap (λ (o : Option Wait). unwrap_or o x) e
 -- a thread waits no longer
 pub sound-free : (t : ℕ) (v : Owners) → 1 ≤ t → AreSoundOwners v → AreSoundOwners (with_wait t None v)
 sound-free t v n s =
-    sound-with_seat t (record (seat_at v t) { wait = None }) v n
+    sound-with_seat t (record (task_at v t) { wait = None }) v n
     (record { base = (s.seats t).base; local = (s.seats t).local; least = λ w h. no_wait w h; most = λ w h. no_wait w h; state = λ w h. no_wait w h })
-    (acyclic-no_more t (record (seat_at v t) { wait = None }) v (inr refl) s.acyclic) s
+    (acyclic-no_more t (record (task_at v t) { wait = None }) v (inr refl) s.acyclic) s
 
 -- and then it is queued on no state
 pub waits_on-freed : (t : ℕ) (v : Owners) → waits_on (with_wait t None v) t ≡ None
 waits_on-freed t v = by_number (cases_lt t (length v.seats))
   where
     by_number : ((t < length v.seats) ⊎ (length v.seats ≤ t)) → waits_on (with_wait t None v) t ≡ None
-    by_number (inl l) = ap state_of (seat_at-with_seat_same t _ v l)
-    by_number (inr m) = ap state_of (get_or_past (set v.seats t _) t no_seat (omega (arith, length-set {A = Seat})))
+    by_number (inl l) = ap state_of (task_at-with_task_same t _ v l)
+    by_number (inr m) = ap state_of (get_or_past (set v.seats t _) t no_task (omega (arith, length-set {A = Task})))
 
 -- what a thread waits for is on a state that there is, with a priority of 1 to 99
 seat-waiting : (t : ℕ) (w : Wait) (v : Owners) → 1 ≤ w.rank.prio → w.rank.prio ≤ 99 → IsSome (owner_at v w.state)
-    → AreSoundOwners v → IsSeat v (record (seat_at v t) { wait = Some w })
+    → AreSoundOwners v → IsSeat v (record (task_at v t) { wait = Some w })
 seat-waiting t w v l m some s =
     record {
       base = (s.seats t).base;
@@ -139,25 +139,25 @@ seat-waiting t w v l m some s =
     }
 
 -- a waiting thread stands with another rank
-pub sound-ranked : (t : ℕ) (w x : Wait) (v : Owners) → (seat_at v t).wait ≡ Some w → x.state ≡ w.state
+pub sound-ranked : (t : ℕ) (w x : Wait) (v : Owners) → (task_at v t).wait ≡ Some w → x.state ≡ w.state
     → 1 ≤ x.rank.prio → x.rank.prio ≤ 99 → 1 ≤ t → AreSoundOwners v
     → AreSoundOwners (with_wait t (Some x) v)
 sound-ranked t w x v e same l m n s =
-    sound-with_seat t (record (seat_at v t) { wait = Some x }) v n
+    sound-with_seat t (record (task_at v t) { wait = Some x }) v n
     (seat-waiting t x v l m (subst (λ (k : ℕ). IsSome (owner_at v k)) (sym same) ((s.seats t).state w e)) s)
-    (acyclic-no_more t (record (seat_at v t) { wait = Some x }) v (inl (ap (λ (k : ℕ). unwrap_or (owner_at v k) 0) same ∙ sym (ap (waits_by v.owners) e))) s.acyclic) s
+    (acyclic-no_more t (record (task_at v t) { wait = Some x }) v (inl (ap (λ (k : ℕ). unwrap_or (owner_at v k) 0) same ∙ sym (ap (waits_by v.owners) e))) s.acyclic) s
 
 -- a thread is queued on a state whose owner doesn't reach it
 pub sound-queued : (t : ℕ) (w : Wait) (v : Owners) → IsSome (owner_at v w.state)
     → ((n : ℕ) → owner_at v w.state ≡ Some n → Reaches (WaitsFor v) n t → ⊥)
     → 1 ≤ w.rank.prio → w.rank.prio ≤ 99 → 1 ≤ t → AreSoundOwners v → AreSoundOwners (with_wait t (Some w) v)
 sound-queued t w v some apart l m n s =
-    sound-with_seat t (record (seat_at v t) { wait = Some w }) v n (seat-waiting t w v l m some s) (by_owner (owner_at v w.state) refl some) s
+    sound-with_seat t (record (task_at v t) { wait = Some w }) v n (seat-waiting t w v l m some s) (by_owner (owner_at v w.state) refl some) s
   where
     by_owner : (o : Option ℕ) → owner_at v w.state ≡ o → IsSome o → IsAcyclic (with_wait t (Some w) v)
     by_owner None e h = absurd (false≢true h)
     by_owner (Some owner) e h =
-        NoCycle-hop t owner (λ a b p. by_hop a b (hop-with_seat t (record (seat_at v t) { wait = Some w }) v a b p)) (apart owner e) s.acyclic
+        NoCycle-hop t owner (λ a b p. by_hop a b (hop-with_seat t (record (task_at v t) { wait = Some w }) v a b p)) (apart owner e) s.acyclic
       where
         by_hop : (a b : ℕ) → WaitsFor v a b ⊎ ((a ≡ t) × (waits_by v.owners (Some w) ≡ b) × (b ≢ 0))
             → WaitsFor v a b ⊎ ((a ≡ t) × (b ≡ owner))
@@ -179,10 +179,10 @@ owner_at-without_state_other k v j n = get-remove_other v.owners k j n
 
 -- states with other owners keep all but that there is no cycle, where each waited state is still there
 sound-owners : (owners : FinMap nat_cmp ℕ) (v : Owners)
-    → ((t : ℕ) (w : Wait) → (seat_at v t).wait ≡ Some w → IsSome (owner_at v w.state) → IsSome (get owners w.state))
+    → ((t : ℕ) (w : Wait) → (task_at v t).wait ≡ Some w → IsSome (owner_at v w.state) → IsSome (get owners w.state))
     → IsAcyclic (record v { owners = owners }) → AreSoundOwners v → AreSoundOwners (record v { owners = owners })
 sound-owners owners v kept none s =
-    record { least = s.least; most = s.most; nobody = s.nobody; seats = λ t. IsSeat-kept v (record v { owners = owners }) (seat_at v t) (kept t) (s.seats t); acyclic = none }
+    record { least = s.least; most = s.most; nobody = s.nobody; seats = λ t. IsSeat-kept v (record v { owners = owners }) (task_at v t) (kept t) (s.seats t); acyclic = none }
 
 kept-with_owner : (k owner : ℕ) (v : Owners) (j : ℕ) → IsSome (owner_at v j) → IsSome (owner_at (with_owner k owner v) j)
 kept-with_owner k owner v j some = by_key (cases_eq j k)
@@ -196,7 +196,7 @@ hop-with_owner : (k owner : ℕ) (v : Owners) (a b : ℕ) → WaitsFor (with_own
     → WaitsFor v a b ⊎ ((waits_on v a ≡ Some k) × (b ≡ owner))
 hop-with_owner k owner v a b h = by_wait (WaitsFor-some (with_owner k owner v) a b h)
   where
-    by_wait : (w : Wait) × ((seat_at v a).wait ≡ Some w) × (owner_at (with_owner k owner v) w.state ≡ Some b)
+    by_wait : (w : Wait) × ((task_at v a).wait ≡ Some w) × (owner_at (with_owner k owner v) w.state ≡ Some b)
         → WaitsFor v a b ⊎ ((waits_on v a ≡ Some k) × (b ≡ owner))
     by_wait p = by_key (cases_eq p.0.state k)
       where
@@ -208,8 +208,8 @@ hop-with_owner k owner v a b h = by_wait (WaitsFor-some (with_owner k owner v) a
         by_key (inr n) = inl (WaitsFor-from v a b p.0 p.1 (sym (owner_at-with_owner_other k owner v p.0.state n) ∙ p.2) h.1)
 
 -- who is queued on no state waits for nothing
-pub free-wait : (v : Owners) (t : ℕ) → waits_on v t ≡ None → (seat_at v t).wait ≡ None
-free-wait v t e = by_wait (seat_at v t).wait e
+pub free-wait : (v : Owners) (t : ℕ) → waits_on v t ≡ None → (task_at v t).wait ≡ None
+free-wait v t e = by_wait (task_at v t).wait e
   where
     by_wait : (o : Option Wait) → option_map (λ (w : Wait). w.state) o ≡ None → o ≡ None
     by_wait None h = refl
@@ -217,9 +217,9 @@ free-wait v t e = by_wait (seat_at v t).wait e
 
 -- nobody waits on a state that there isn't
 pub no_waiter-without_state : (v : Owners) (k : ℕ) → AreSoundOwners v → owner_at v k ≡ None → HasNoWaiter v k
-no_waiter-without_state v k s e t h = by_wait (seat_at v t).wait refl h
+no_waiter-without_state v k s e t h = by_wait (task_at v t).wait refl h
   where
-    by_wait : (o : Option Wait) → (seat_at v t).wait ≡ o → option_map (λ (w : Wait). w.state) o ≡ Some k → ⊥
+    by_wait : (o : Option Wait) → (task_at v t).wait ≡ o → option_map (λ (w : Wait). w.state) o ≡ Some k → ⊥
     by_wait None p q = absurd (cc)
     by_wait (Some w) p q =
         let same : w.state ≡ k = ap (λ (o : Option ℕ). unwrap_or o 0) q in
@@ -252,16 +252,16 @@ sound-handed k owner v e s =
 pub sound-ended : (k : ℕ) (v : Owners) → HasNoWaiter v k → AreSoundOwners v → AreSoundOwners (without_state k v)
 sound-ended k v free s = sound-owners (remove v.owners k) v kept (NoCycle-fewer fewer s.acyclic) s
   where
-    apart : (t : ℕ) (w : Wait) → (seat_at v t).wait ≡ Some w → w.state ≢ k
+    apart : (t : ℕ) (w : Wait) → (task_at v t).wait ≡ Some w → w.state ≢ k
     apart t w e same = free t (ap (option_map (λ (w : Wait). w.state)) e ∙ ap Some same)
 
-    kept : (t : ℕ) (w : Wait) → (seat_at v t).wait ≡ Some w → IsSome (owner_at v w.state)
+    kept : (t : ℕ) (w : Wait) → (task_at v t).wait ≡ Some w → IsSome (owner_at v w.state)
         → IsSome (owner_at (without_state k v) w.state)
     kept t w e some = subst IsSome (sym (owner_at-without_state_other k v w.state (apart t w e))) some
 
     fewer : (a b : ℕ) → WaitsFor (without_state k v) a b → WaitsFor v a b
     fewer a b h =
-        let p : (w : Wait) × ((seat_at v a).wait ≡ Some w) × (owner_at (without_state k v) w.state ≡ Some b) = WaitsFor-some (without_state k v) a b h in
+        let p : (w : Wait) × ((task_at v a).wait ≡ Some w) × (owner_at (without_state k v) w.state ≡ Some b) = WaitsFor-some (without_state k v) a b h in
         WaitsFor-from v a b p.0 p.1 (sym (owner_at-without_state_other k v p.0.state (apart a p.0 p.1)) ∙ p.2) h.1
 
 -- who isn't the owner of a state can be queued on it where the owner waits for nothing
@@ -279,22 +279,22 @@ pub count-no_owners : (threads : ℕ) → count (no_owners threads) ≡ 0
 count-no_owners threads = len-empty nat_cmp ℕ
 
 -- and every seat is empty
-pub seat_at-no_owners : (threads t : ℕ) → seat_at (no_owners threads) t ≡ no_seat
-seat_at-no_owners threads t = by_number (cases_lt t (threads + 1))
+pub task_at-no_owners : (threads t : ℕ) → task_at (no_owners threads) t ≡ no_task
+task_at-no_owners threads t = by_number (cases_lt t (threads + 1))
   where
-    by_number : ((t < threads + 1) ⊎ (threads + 1 ≤ t)) → seat_at (no_owners threads) t ≡ no_seat
-    by_number (inl l) = get_or-replicate (threads + 1) t no_seat no_seat l
-    by_number (inr m) = get_or_past (replicate (threads + 1) no_seat) t no_seat (omega (arith, length-replicate (threads + 1) no_seat))
+    by_number : ((t < threads + 1) ⊎ (threads + 1 ≤ t)) → task_at (no_owners threads) t ≡ no_task
+    by_number (inl l) = get_or-replicate (threads + 1) t no_task no_task l
+    by_number (inr m) = get_or_past (replicate (threads + 1) no_task) t no_task (omega (arith, length-replicate (threads + 1) no_task))
 
 pub sound-no_owners : (threads : ℕ) → threads ≤ 1024 → AreSoundOwners (no_owners threads)
 sound-no_owners threads l =
     record {
-      least = omega (arith, length-replicate (threads + 1) no_seat);
-      most = omega (arith, length-replicate (threads + 1) no_seat);
-      nobody = seat_at-no_owners threads 0;
-      seats = λ t. subst (IsSeat (no_owners threads)) (sym (seat_at-no_owners threads t))
+      least = omega (arith, length-replicate (threads + 1) no_task);
+      most = omega (arith, length-replicate (threads + 1) no_task);
+      nobody = task_at-no_owners threads 0;
+      seats = λ t. subst (IsSeat (no_owners threads)) (sym (task_at-no_owners threads t))
           (record { base = omega arith; local = omega arith; least = λ w h. no_wait w h; most = λ w h. no_wait w h; state = λ w h. no_wait w h });
-      acyclic = λ t u h r. h.1 (sym h.0 ∙ ap (λ (x : Seat). waits_by empty x.wait) (seat_at-no_owners threads t));
+      acyclic = λ t u h r. h.1 (sym h.0 ∙ ap (λ (x : Task). waits_by empty x.wait) (task_at-no_owners threads t));
     }
 
 -- who waits has a priority and a ticket

@@ -16,8 +16,8 @@ use Rattle.pif_model.specs.Graph.{greatest_where}
 use Rattle.pif_chains.proofs.Greatest.{effective_step, greatest_where_same}
 use Rattle.pif_chains.proofs.Places.{kept_at}
 use Rattle.pif_lists.specs.Levels.{Queue, IsLevel, level_of, level_with, Holds, IsQueued}
-use Rattle.pif_owners.specs.Owners.{Owners, Seat, Wait, no_seat, seat_at, owner_at, waits_for, rank_of, with_wait, IsTop}
-use Rattle.pif_owners.proofs.OwnersLemmas.{seat_at-with_seat, seat_at-with_seat_other, some_rank}
+use Rattle.pif_owners.specs.Owners.{Owners, Task, Wait, no_task, task_at, owner_at, waits_for, rank_of, with_wait, IsTop}
+use Rattle.pif_owners.proofs.OwnersLemmas.{task_at-with_task, task_at-with_task_other, some_rank}
 use Rattle.pif_owners.specs.Boosts.{IsThread, base_of, local_of, greatest_base, greatest_waiting, with_rank_priority, with_effective, is_other, joins, level_after_walk, threads_of, IsRepaired, IsRepairedBut, IsNext}
 use Rattle.pif_owners.proofs.Greatest.{out_waits}
 use Rattle.pif_owners.proofs.BoostLevels.{has-filter}
@@ -49,22 +49,22 @@ settled k old new last r start =
     }
   where
     all : (x : ℕ) → x < length new.seats → local_of new x ≡ greatest_base new x
-    all x l = ap (λ (s : Seat). s.local) (r.done x (omega (arith, r.threads)) (omega (arith, r.threads))) ∙ sym (greatest-kept k old new r x)
+    all x l = ap (λ (s : Task). s.local) (r.done x (omega (arith, r.threads)) (omega (arith, r.threads))) ∙ sym (greatest-kept k old new r x)
 
     by_row : (t : ℕ) (rank : Key) → rank_of new t ≡ Some rank → ((t < length old.seats) ⊎ (length old.seats ≤ t)) → rank.prio ≡ local_of new t
     by_row t rank e (inl l) =
-        let is : seat_at new t ≡ with_effective (greatest_base old t) (seat_at old t) = r.done t l (omega arith) in
-        ranked-prio (greatest_base old t) (seat_at old t).wait rank (ap (λ (s : Seat). option_map (λ (w : Wait). w.rank) s.wait) (sym is) ∙ e) ∙ ap (λ (s : Seat). s.local) (sym is)
+        let is : task_at new t ≡ with_effective (greatest_base old t) (task_at old t) = r.done t l (omega arith) in
+        ranked-prio (greatest_base old t) (task_at old t).wait rank (ap (λ (s : Task). option_map (λ (w : Wait). w.rank) s.wait) (sym is) ∙ e) ∙ ap (λ (s : Task). s.local) (sym is)
     by_row t rank e (inr l) =
-        let out : seat_at new t ≡ no_seat = get_or_past new.seats t no_seat (omega (arith, r.threads)) in
-        let none : None ≡ Some rank = ap (λ (s : Seat). option_map (λ (w : Wait). w.rank) s.wait) (sym out) ∙ e in absurd cc
+        let out : task_at new t ≡ no_task = get_or_past new.seats t no_task (omega (arith, r.threads)) in
+        let none : None ≡ Some rank = ap (λ (s : Task). option_map (λ (w : Wait). w.rank) s.wait) (sym out) ∙ e in absurd cc
 
 -- so who stands first on a state is its next waiter
 pub top_is_next : (v : Owners) (k t : ℕ) → ((start : ℕ) → IsRepairedBut start v) → IsTop v k t → IsNext v k t
 top_is_next v k t repaired top =
     record {
       waits = top.waits;
-      greatest = λ u on. let r = some_rank (seat_at v u).wait k on in
+      greatest = λ u on. let r = some_rank (task_at v u).wait k on in
           let behind : comes_before r.0 top.rank ≡ false = top.first u r.0 on r.1 in
           let mine : top.rank.prio ≡ local_of v t = local t top.rank top.ranked in
           let other : r.0.prio ≡ local_of v u = local u r.0 r.1 in
@@ -92,27 +92,27 @@ pub rewaited : (v : Owners) (t start : ℕ) (w : Option Wait) → ((s : ℕ) →
 rewaited v t start w repaired was now rank =
     record {
       locals = λ u th ne. local u ∙ (repaired start).locals u (th.0, omega (arith, th.1, long)) ne ∙ sym (λ i. max (base u i) (waiting u th.0 ne i));
-      ranks = λ u k e. by_seat u k e (seat_at-with_seat t x v u);
+      ranks = λ u k e. by_seat u k e (task_at-with_task t x v u);
     }
   where
-    x : Seat
-    x = record (seat_at v t) { wait = w }
+    x : Task
+    x = record (task_at v t) { wait = w }
 
     long : length (with_wait t w v).seats ≡ length v.seats
     long = length-set v.seats t x
 
     local : (u : ℕ) → local_of (with_wait t w v) u ≡ local_of v u
-    local u = kept_at (λ (s : Seat). s.local) v.seats t x no_seat refl u
+    local u = kept_at (λ (s : Task). s.local) v.seats t x no_task refl u
 
     base : (u : ℕ) → base_of (with_wait t w v) u ≡ base_of v u
-    base u = kept_at (λ (s : Seat). s.base) v.seats t x no_seat refl u
+    base u = kept_at (λ (s : Task). s.base) v.seats t x no_task refl u
 
     test : (u : ℕ) → 1 ≤ u → u ≢ start → (y : ℕ) → ((y ≡ t) ⊎ (y ≡ t → ⊥)) → (waits_for (with_wait t w v) y == u) ≡ (waits_for v y == u)
     test u one ne y (inl e) =
         ap (λ (z : ℕ). waits_for (with_wait t w v) z == u) e ∙ ne_eqb (waits_for (with_wait t w v) t) u (off (waits_for (with_wait t w v) t) start u now one ne)
         ∙ sym (ap (λ (z : ℕ). waits_for v z == u) e ∙ ne_eqb (waits_for v t) u (off (waits_for v t) start u was one ne))
     test u one ne y (inr d) =
-        ap (λ (s : Seat). unwrap_or (option_and_then (owner_at v) (option_map (λ (k : Wait). k.state) s.wait)) 0 == u) (seat_at-with_seat_other t x v y d)
+        ap (λ (s : Task). unwrap_or (option_and_then (owner_at v) (option_map (λ (k : Wait). k.state) s.wait)) 0 == u) (task_at-with_task_other t x v y d)
 
     waiting : (u : ℕ) → 1 ≤ u → u ≢ start → greatest_waiting (with_wait t w v) u ≡ greatest_waiting v u
     waiting u one ne =
@@ -121,11 +121,11 @@ rewaited v t start w repaired was now rank =
         λ i. greatest_where (tests i) (locals i) (long i)
 
     by_seat : (u : ℕ) (k : Key) → rank_of (with_wait t w v) u ≡ Some k
-        → ((u ≡ t) × (seat_at (with_wait t w v) u ≡ x)) ⊎ (seat_at (with_wait t w v) u ≡ seat_at v u) → k.prio ≡ local_of (with_wait t w v) u
+        → ((u ≡ t) × (task_at (with_wait t w v) u ≡ x)) ⊎ (task_at (with_wait t w v) u ≡ task_at v u) → k.prio ≡ local_of (with_wait t w v) u
     by_seat u k e (inl s) =
-        rank k (ap (λ (y : Seat). option_map (λ (z : Wait). z.rank) y.wait) (sym s.1) ∙ e) ∙ ap (local_of v) (sym s.0) ∙ sym (local u)
+        rank k (ap (λ (y : Task). option_map (λ (z : Wait). z.rank) y.wait) (sym s.1) ∙ e) ∙ ap (local_of v) (sym s.0) ∙ sym (local u)
     by_seat u k e (inr s) =
-        (repaired start).ranks u k (ap (λ (y : Seat). option_map (λ (z : Wait). z.rank) y.wait) (sym s) ∙ e)
+        (repaired start).ranks u k (ap (λ (y : Task). option_map (λ (z : Wait). z.rank) y.wait) (sym s) ∙ e)
         ∙ sym (local u)
 
 -- THE RUN QUEUE

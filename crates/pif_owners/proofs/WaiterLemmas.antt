@@ -6,9 +6,9 @@ use Rattle.std.specs.FinMap.{get}
 use Rattle.pif_lists.specs.Lists.{has, first_of}
 use Rattle.pif_lists.specs.Table.{NodeLists, list_at, key_at}
 use Rattle.pif_lists.proofs.ListLemmas.{first_of-has}
-use Rattle.pif_owners.specs.Owners.{Seat, state_of}
+use Rattle.pif_owners.specs.Owners.{Task, state_of}
 use Rattle.pif_owners.specs.States.{Row, States, IsThread, no_row, wait_of, wait_node, wait_list, waiter_for, first_waiter}
-use Rattle.pif_owners.proofs.ViewLemmas.{seat_at-owners_in, waits_on-owners_in}
+use Rattle.pif_owners.proofs.ViewLemmas.{task_at-owners_in, waits_on-owners_in}
 use Rattle.pif_owners.specs.Holds.{HoldsWaiters, IsWaiterIn}
 
 -- the thread of a thread's node is that thread
@@ -62,7 +62,7 @@ stands-first m t k u h some e =
 pub waits-state : (m : States) (t : NodeLists) (u k : ℕ) → HoldsWaiters m t → wait_of m u ≡ Some k → IsSome (get m.owners k)
 waits-state m t u k h w =
     (h.sound.seats u).state (record { state = k; rank = key_at t (wait_node m u) })
-    (ap (λ (x : Seat). x.wait) (seat_at-owners_in m t u)
+    (ap (λ (x : Task). x.wait) (task_at-owners_in m t u)
     ∙ ap (λ (o : Option ℕ). option_map (λ k. record { state = k; rank = key_at t (wait_node m u) }) o) w)
 
 -- and is a thread

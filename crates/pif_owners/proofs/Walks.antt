@@ -9,7 +9,7 @@ use Rattle.pif_model.specs.Graph.{IsEffective}
 use Rattle.pif_lists.specs.Levels.{Queue, IsLevel, level_of, level_with, Holds, IsQueued, level_after_move, SameOutside}
 use Rattle.pif_lists.proofs.LevelLemmas.{queued_on}
 use Rattle.pif_lists.proofs.LevelWithLemmas.{queued_found}
-use Rattle.pif_owners.specs.Owners.{Owners, Seat, no_seat, seat_at, WaitsFor, with_seat, AreSoundOwners}
+use Rattle.pif_owners.specs.Owners.{Owners, Task, no_task, task_at, WaitsFor, with_task, AreSoundOwners}
 use Rattle.pif_owners.specs.Boosts.{IsThread, base_of, local_of, greatest_base, with_effective, IsRepaired, IsRepairedBut, level_after_move_if_queued, level_after_walk}
 use Rattle.pif_owners.proofs.Greatest.{greatest_base-least, greatest_base-IsEffective, idle}
 use Rattle.pif_owners.proofs.BoostLevels.{leveled_to, leveled-start, leveled-more, leveled-all, next_level, stage-has}
@@ -25,7 +25,7 @@ admitted_row v u one = by_place (cases_lt u (length v.seats))
   where
     by_place : ((u < length v.seats) ⊎ (length v.seats ≤ u)) → u < length v.seats
     by_place (inl l) = l
-    by_place (inr l) = let none : base_of v u ≡ 0 = ap (λ (x : Seat). x.base) (get_or_past v.seats u no_seat l) in absurd (omega arith)
+    by_place (inr l) = let none : base_of v u ≡ 0 = ap (λ (x : Task). x.base) (get_or_past v.seats u no_task l) in absurd (omega arith)
 
 -- a thread that is given no priority is on no level
 pub not_queued : (q : Queue) (t : NodeLists) (u priority : ℕ) → Holds q t → (IsQueued q t u → 1 ≤ priority) → priority ≡ 0 → is_some (level_with q t u) ≡ false
@@ -80,9 +80,9 @@ next_ready k u p v new q now t table e row priority w ready queued =
 -- and where it is to have none, it stays as it is
 pub next_idle : (k u p start : ℕ) (v new : Owners) (q now : Queue) (t table : NodeLists) → u ≡ k + 1 → u < length v.seats → p ≡ greatest_base v u
     → IsWalkedTo k v q t new now table → AreSoundOwners v → IsRepairedBut start v → 1 ≤ base_of v start → p ≡ 0
-    → seat_at new u ≡ with_effective 0 (seat_at new u)
+    → task_at new u ≡ with_effective 0 (task_at new u)
 next_idle k u p start v new q now t table e row priority w sound but admitted none =
-    let left : seat_at new u ≡ seat_at v u = w.repaired.left u (omega arith) in
+    let left : task_at new u ≡ task_at v u = w.repaired.left u (omega arith) in
     let th : IsThread v u = (omega arith, row) in
     left ∙ idle v start sound but (admitted_row v start admitted) admitted u th (sym priority ∙ none)
     ∙ sym (ap (with_effective 0) left)
@@ -90,7 +90,7 @@ next_idle k u p start v new q now t table e row priority w sound but admitted no
 -- one thread more
 pub walked-more : (k u p : ℕ) (v new after : Owners) (q now then_queue : Queue) (t table then_table : NodeLists) → u ≡ k + 1 → u < length v.seats → p ≡ greatest_base v u
     → Holds q t → IsWalkedTo k v q t new now table
-    → after ≡ with_seat u (with_effective p (seat_at new u)) new
+    → after ≡ with_task u (with_effective p (task_at new u)) new
     → ((x : ℕ) → IsLevel x → level_of then_queue then_table x ≡ level_after_move_if_queued now table u p x)
     → SameOutside now table then_table → then_queue ≡ record now { mask = then_queue.mask } → Holds then_queue then_table
     → IsWalkedTo (k + 1) v q t after then_queue then_table
@@ -124,7 +124,7 @@ walked-levels k v new q now t table e w ready p lp =
 
 -- each thread that is repaired has the effective priority that it is to have
 pub repaired-local : (v new : Owners) → IsRepaired v new → (t : ℕ) → t < length v.seats → local_of new t ≡ greatest_base v t
-repaired-local v new r t l = ap (λ (x : Seat). x.local) (r.seats t l)
+repaired-local v new r t l = ap (λ (x : Task). x.local) (r.seats t l)
 
 -- which is the greatest over any chain
 pub repaired-greatest : (v new : Owners) → AreSoundOwners v → IsRepaired v new → (t : ℕ) → IsThread v t → IsEffective (IsThread v) (WaitsFor v) (base_of v) t (local_of new t)

@@ -6,7 +6,7 @@ use Rattle.pif_lists.specs.declared.keys.Key.{Key}
 use Rattle.pif_lists.specs.Table.{NodeLists}
 use Rattle.pif_lists.specs.Levels.{Queue, level_of, level_with, level_after_move}
 use Rattle.pif_model.specs.Graph.{reaches_within, effective_among, greatest_where}
-use Rattle.pif_owners.specs.Owners.{Owners, Seat, Wait, seat_at, waits_on, rank_of, waits_for}
+use Rattle.pif_owners.specs.Owners.{Owners, Task, Wait, task_at, waits_on, rank_of, waits_for}
 
 -- t is a thread that has a seat
 abbrev pub IsThread : Owners → ℕ → Type 0
@@ -18,11 +18,11 @@ threads_of v = range_with_len 1 (length v.seats - 1)
 
 -- the base priority of a thread; 0 where it was not admitted
 abbrev pub base_of : Owners → ℕ → ℕ
-base_of v t = (seat_at v t).base
+base_of v t = (task_at v t).base
 
 -- the effective priority of a thread, as last handed in; 0 where it was not admitted
 abbrev pub local_of : Owners → ℕ → ℕ
-local_of v t = (seat_at v t).local
+local_of v t = (task_at v t).local
 
 -- what the effective priority of a thread is to be: the greatest base priority of it and of all that wait for it through
 -- any chain
@@ -44,7 +44,7 @@ abbrev pub with_rank_priority : ℕ → Wait → Wait
 with_rank_priority p w = record { state = w.state; rank = record { prio = p; ticket = w.rank.ticket } }
 
 -- a seat with this effective priority, also where its thread waits
-abbrev pub with_effective : ℕ → Seat → Seat
+abbrev pub with_effective : ℕ → Task → Task
 with_effective p x = record { base = x.base; local = p; wait = option_map (with_rank_priority p) x.wait }
 
 -- each thread of `old` has in `new` the effective priority that it is to have, also where it waits, and all else is as it
@@ -52,7 +52,7 @@ with_effective p x = record { base = x.base; local = p; wait = option_map (with_
 pub record IsRepaired (old new : Owners) : Type 0 where
   pub threads : length new.seats ≡ length old.seats
   pub owners : new.owners ≡ old.owners
-  pub seats : (t : ℕ) → t < length old.seats → seat_at new t ≡ with_effective (greatest_base old t) (seat_at old t)
+  pub seats : (t : ℕ) → t < length old.seats → task_at new t ≡ with_effective (greatest_base old t) (task_at old t)
 
 -- the greatest effective priority of the threads that wait for t; 0 where none does
 abbrev pub greatest_waiting : Owners → ℕ → ℕ

@@ -17,8 +17,9 @@ pub record Wait : Type 0 where
   -- the priority with which it stands there, as last handed in, and its ticket
   pub rank : Key
 
--- what is known of a thread
-pub record Seat : Type 0 where
+-- what is known of a thread: its priorities and what it waits for (task_struct of Linux: normal_prio, prio and
+-- pi_blocked_on)
+pub record Task : Type 0 where
   -- its base priority; 0 where it was not admitted
   pub base : ℕ
   -- its effective priority, as last handed in
@@ -44,20 +45,20 @@ prio_of-unwrap_or (Some (suc n)) h = refl
 -- the owner states
 pub record Owners : Type 0 where
   -- the threads, by number
-  pub seats : List Seat
+  pub seats : List Task
   -- the owner of each state, by its key
   pub owners : FinMap nat_cmp ℕ
 
 -- what stands at place 0 of the seats, and of a thread that was not admitted
-abbrev pub no_seat : Seat
-no_seat = record { base = 0; local = 0; wait = None }
+abbrev pub no_task : Task
+no_task = record { base = 0; local = 0; wait = None }
 
 -- no state, and seats for so many threads, of which none was admitted
 abbrev pub no_owners : ℕ → Owners
-no_owners threads = record { seats = replicate (threads + 1) no_seat; owners = empty }
+no_owners threads = record { seats = replicate (threads + 1) no_task; owners = empty }
 
-abbrev pub seat_at : Owners → ℕ → Seat
-seat_at v t = get_or v.seats t no_seat
+abbrev pub task_at : Owners → ℕ → Task
+task_at v t = get_or v.seats t no_task
 
 -- the owner of a state; None where there is no such state
 abbrev pub owner_at : Owners → ℕ → Option ℕ
@@ -67,17 +68,17 @@ owner_at v k = get v.owners k
 abbrev pub count : Owners → ℕ
 count v = len v.owners
 
--- the owner state on which who has this seat is queued
-abbrev pub state_of : Seat → Option ℕ
+-- the owner state on which a thread of which this is known is queued
+abbrev pub state_of : Task → Option ℕ
 state_of x = option_map (λ (w : Wait). w.state) x.wait
 
 -- the owner state on which a thread is queued
 abbrev pub waits_on : Owners → ℕ → Option ℕ
-waits_on v t = state_of (seat_at v t)
+waits_on v t = state_of (task_at v t)
 
 -- the priority with which a thread waits, and its ticket
 abbrev pub rank_of : Owners → ℕ → Option Key
-rank_of v t = option_map (λ (w : Wait). w.rank) (seat_at v t).wait
+rank_of v t = option_map (λ (w : Wait). w.rank) (task_at v t).wait
 
 -- the thread for which a thread waits: the owner of the state on which it is queued; 0 where it waits for nobody
 abbrev pub waits_for : Owners → ℕ → ℕ
@@ -112,31 +113,31 @@ pub record KeepsOrder (v : Owners) (t ticket : ℕ) : Type 0 where
       → rank_of v t ≡ Some mine → rank_of v u ≡ Some other
       → comes_before other (record mine { ticket = ticket }) ≡ comes_before other mine
 
--- the states with another seat of one thread; the same where the thread has no seat
-abbrev pub with_seat : ℕ → Seat → Owners → Owners
-with_seat t x v = record v { seats = set v.seats t x }
+-- the states with something else known of one thread; the same where the thread has no seat
+abbrev pub with_task : ℕ → Task → Owners → Owners
+with_task t x v = record v { seats = set v.seats t x }
 
 -- a thread with another base priority
 abbrev pub with_base : ℕ → ℕ → Owners → Owners
-with_base t prio v = with_seat t (record (seat_at v t) { base = prio }) v
+with_base t prio v = with_task t (record (task_at v t) { base = prio }) v
 
 -- a thread with another effective priority
 abbrev pub with_local : ℕ → ℕ → Owners → Owners
-with_local t prio v = with_seat t (record (seat_at v t) { local = prio }) v
+with_local t prio v = with_task t (record (task_at v t) { local = prio }) v
 
 -- a thread that waits for this, or for nothing
 abbrev pub with_wait : ℕ → Option Wait → Owners → Owners
-with_wait t w v = with_seat t (record (seat_at v t) { wait = w }) v
+with_wait t w v = with_task t (record (task_at v t) { wait = w }) v
 
 -- a waiting thread that stands with another priority, and the ticket that it has
 abbrev pub with_prio : ℕ → ℕ → Owners → Owners
 with_prio t prio v =
-    with_wait t (option_map (λ (w : Wait). record w { rank = record w.rank { prio = prio } }) (seat_at v t).wait) v
+    with_wait t (option_map (λ (w : Wait). record w { rank = record w.rank { prio = prio } }) (task_at v t).wait) v
 
 -- a waiting thread that stands with another ticket, and the priority that it has
 abbrev pub with_ticket : ℕ → ℕ → Owners → Owners
 with_ticket t ticket v =
-    with_wait t (option_map (λ (w : Wait). record w { rank = record w.rank { ticket = ticket } }) (seat_at v t).wait) v
+    with_wait t (option_map (λ (w : Wait). record w { rank = record w.rank { ticket = ticket } }) (task_at v t).wait) v
 
 -- the states with this owner of one of them
 abbrev pub with_owner : ℕ → ℕ → Owners → Owners
@@ -148,7 +149,7 @@ without_state k v = record v { owners = remove v.owners k }
 
 -- what holds of a seat: its priorities are at most 99, and where the thread waits, it does so on a state that there is,
 -- with a priority of 1 to 99
-pub record IsSeat (v : Owners) (x : Seat) : Type 0 where
+pub record IsSeat (v : Owners) (x : Task) : Type 0 where
   pub base : x.base ≤ 99
   pub local : x.local ≤ 99
   pub least : (w : Wait) → x.wait ≡ Some w → 1 ≤ w.rank.prio
@@ -160,8 +161,8 @@ pub record AreSoundOwners (v : Owners) : Type 0 where
   -- place 0 and at most 1,024 threads
   pub least : 1 ≤ length v.seats
   pub most : length v.seats ≤ 1025
-  pub nobody : seat_at v 0 ≡ no_seat
-  pub seats : (t : ℕ) → IsSeat v (seat_at v t)
+  pub nobody : task_at v 0 ≡ no_task
+  pub seats : (t : ℕ) → IsSeat v (task_at v t)
   pub acyclic : IsAcyclic v
 
 -- how priorities with tickets, waits, seats and states are stored
@@ -175,12 +176,12 @@ wait_code =
     code_by (ℕ × Key) (coded× coded_ℕ rank_code)
     (λ w. (w.state, w.rank)) (λ p. record { state = p.0; rank = p.1 }) (λ _. refl)
 
-abbrev pub seat_code : Coded Seat
+abbrev pub seat_code : Coded Task
 seat_code =
     code_by (ℕ × (ℕ × Option Wait)) (coded× coded_ℕ (coded× coded_ℕ (coded_option wait_code)))
     (λ x. (x.base, (x.local, x.wait))) (λ p. record { base = p.0; local = p.1.0; wait = p.1.1 }) (λ _. refl)
 
 abbrev pub owners_code : Coded Owners
 owners_code =
-    code_by (List Seat × FinMap nat_cmp ℕ) (coded× (coded_list seat_code) (map.code coded_ℕ coded_ℕ))
+    code_by (List Task × FinMap nat_cmp ℕ) (coded× (coded_list seat_code) (map.code coded_ℕ coded_ℕ))
     (λ v. (v.seats, v.owners)) (λ p. record { seats = p.0; owners = p.1 }) (λ _. refl)

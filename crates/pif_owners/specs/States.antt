@@ -8,7 +8,7 @@ use Rattle.std.specs.FinMap as map
 use Rattle.std.specs.Coded.{Coded, code_by, coded×, coded_ℕ, coded_list, coded_option}
 use Rattle.pif_lists.specs.Lists.{first_of}
 use Rattle.pif_lists.specs.Table.{NodeLists, list_at, key_at}
-use Rattle.pif_owners.specs.Owners.{Owners, Seat}
+use Rattle.pif_owners.specs.Owners.{Owners, Task}
 
 -- what the value has of a thread: its base and its effective priority, 0 where it was not admitted, and the owner state
 -- on which it is queued
@@ -95,7 +95,7 @@ first_waiter m t k =
     option_and_then (λ r. option_map (waiter_for m) (first_of (list_at t (wait_list m r)))) (get m.places k)
 
 -- what is known of a thread: its rank is the key of its node
-abbrev pub seat_in : States → NodeLists → ℕ → Seat
+abbrev pub seat_in : States → NodeLists → ℕ → Task
 seat_in m t u =
     record {
       base = (row_at m u).base;

@@ -6,7 +6,7 @@ use Rattle.std.proofs.lemmas.List.{get_or_past}
 use Rattle.pif_lists.specs.declared.keys.Key.{Key}
 use Rattle.pif_lists.specs.Order.{comes_before}
 use Rattle.pif_lists.proofs.OrderLemmas.{not_before-past, not_before-self}
-use Rattle.pif_owners.specs.Owners.{Wait, Seat, Owners, no_seat, seat_at, state_of, waits_on, rank_of, AreSoundOwners}
+use Rattle.pif_owners.specs.Owners.{Wait, Task, Owners, no_task, task_at, state_of, waits_on, rank_of, AreSoundOwners}
 use Rattle.pif_owners.specs.Behind.{IsLast, IsBehind}
 use Rattle.pif_plain.specs.Standing.{rank_on, standing, leads, later, standing_behind}
 use Rattle.pif_plain.proofs.TopLemmas.{standing-from, standing-some}
@@ -26,19 +26,19 @@ waits-within v k t w = by_number (cases_lt t (length v.seats))
     by_number : ((t < length v.seats) ⊎ (length v.seats ≤ t)) → t < length v.seats
     by_number (inl l) = l
     by_number (inr m) =
-        let none : waits_on v t ≡ None = ap state_of (get_or_past v.seats t no_seat m) in
+        let none : waits_on v t ≡ None = ap state_of (get_or_past v.seats t no_task m) in
         absurd (cc)
 
 -- what t waits for
-waits-some : (v : Owners) (t : ℕ) → IsSome (waits_on v t) → (w : Wait) × ((seat_at v t).wait ≡ Some w)
-waits-some v t h = by_wait (seat_at v t).wait h refl
+waits-some : (v : Owners) (t : ℕ) → IsSome (waits_on v t) → (w : Wait) × ((task_at v t).wait ≡ Some w)
+waits-some v t h = by_wait (task_at v t).wait h refl
   where
-    by_wait : (o : Option Wait) → IsSome (option_map (λ (w : Wait). w.state) o) → (seat_at v t).wait ≡ o
-        → (w : Wait) × ((seat_at v t).wait ≡ Some w)
+    by_wait : (o : Option Wait) → IsSome (option_map (λ (w : Wait). w.state) o) → (task_at v t).wait ≡ o
+        → (w : Wait) × ((task_at v t).wait ≡ Some w)
     by_wait None h e = absurd (false≢true h)
     by_wait (Some w) h e = (w, e)
 
-module _ (v : Owners) (t : ℕ) (w : Wait) (at : (seat_at v t).wait ≡ Some w) where
+module _ (v : Owners) (t : ℕ) (w : Wait) (at : (task_at v t).wait ≡ Some w) where
   waits-is : waits_on v t ≡ Some w.state
   waits-is = ap (option_map (λ (x : Wait). x.state)) at
 
@@ -81,10 +81,10 @@ module _ (v : Owners) (t : ℕ) (w : Wait) (at : (seat_at v t).wait ≡ Some w) 
 
 -- nobody stands behind anybody
 zero-behind : (v : Owners) (t : ℕ) → AreSoundOwners v → standing_behind v t 0 ≡ None
-zero-behind v t s = by_wait (seat_at v t).wait
+zero-behind v t s = by_wait (task_at v t).wait
   where
     none : (k : ℕ) → standing v k 0 ≡ None
-    none k = ap (λ (x : Seat). option_and_then (rank_on k) x.wait) s.nobody
+    none k = ap (λ (x : Task). option_and_then (rank_on k) x.wait) s.nobody
 
     by_wait : (o : Option Wait)
         → option_and_then (λ (x : Wait). option_and_then (later x.rank) (standing v x.state 0)) o ≡ None
@@ -98,7 +98,7 @@ last-zero v t n first s all some zero f x mine other on rank ranked =
     let w = waits-some v t some in
     by_test (comes_before mine other) refl w
   where
-    by_test : (b : Bool) → comes_before mine other ≡ b → (w : Wait) × ((seat_at v t).wait ≡ Some w)
+    by_test : (b : Bool) → comes_before mine other ≡ b → (w : Wait) × ((task_at v t).wait ≡ Some w)
         → comes_before mine other ≡ false
     by_test false e w = e
     by_test true e w =
@@ -115,7 +115,7 @@ behind-first : (v : Owners) (t n first : ℕ) → n ≡ length v.seats → IsSom
     → IsFirstBehind v t n first → IsBehind v t first
 behind-first v t n first all some one f = by_stands f.stands
   where
-    by_parts : (w : Wait) → (at : (seat_at v t).wait ≡ Some w) → (r : Key)
+    by_parts : (w : Wait) → (at : (task_at v t).wait ≡ Some w) → (r : Key)
         → waits_on v first ≡ Some w.state → rank_of v first ≡ Some r → comes_before w.rank r ≡ true → IsBehind v t first
     by_parts w at r on ranked after =
         record {

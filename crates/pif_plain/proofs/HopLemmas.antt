@@ -5,7 +5,7 @@ use Rattle.std.proofs.lemmas.Bool.{true≢false}
 use Rattle.pif_lists.specs.Lists.{has}
 use Rattle.pif_lists.specs.Table.{NodeLists, IsApart, no_key}
 use Rattle.pif_lists.specs.Levels.{Queue, HasRoom, Holds, IsLevel, IsQueued, level_of}
-use Rattle.pif_owners.specs.Owners.{Owners, Wait, no_owners, owner_at, count, waits_on, waits_for, HasNoWaiter, with_seat, with_wait, with_owner}
+use Rattle.pif_owners.specs.Owners.{Owners, Wait, no_owners, owner_at, count, waits_on, waits_for, HasNoWaiter, with_task, with_wait, with_owner}
 use Rattle.pif_owners.proofs.OwnersLemmas.{count-no_owners, owner_at-with_owner_other}
 use Rattle.pif_owners.specs.States.{States, empty_states, owners_in}
 use Rattle.pif_owners.specs.Holds.{HoldsStates, HasRoomForStates}
@@ -37,7 +37,7 @@ at_rest m q t states view may_hold made may_queue new apart = record {
 
 -- it stays at rest when a thread is admitted
 pub rest_admitted : (m now : States) (q : Queue) (t : NodeLists) (u p : ℕ) → IsAtRest m q t
-    → owners_in now t ≡ with_seat u (admitted p) (owners_in m t) → now ≡ record m { rows = now.rows } → HoldsStates now t
+    → owners_in now t ≡ with_task u (admitted p) (owners_in m t) → now ≡ record m { rows = now.rows } → HoldsStates now t
     → IsAtRest now q t
 rest_admitted m now q t u p r e place holds = record {
   together = together_then m q t r.together now t (same_place m now place) (outside-none m t) holds;

@@ -2,12 +2,12 @@
 use Rattle.std.proofs.Common.{◌≡◌, ◌≢◌, ℕ, ◌+◌, ◌<◌, length, Option, Some, None, IsSome, refl, sym, ◌∙◌, ap, subst, arith}
 use Rattle.std.proofs.lemmas.List.{length-replicate}
 use Rattle.pif_model.specs.Graph.{Reaches}
-use Rattle.pif_owners.specs.Owners.{Wait, Owners, no_seat, no_owners, seat_at, owner_at, count, state_of, waits_on, WaitsFor, with_wait, with_owner}
-use Rattle.pif_owners.proofs.OwnersLemmas.{seat_at-with_seat_other, owner_at-with_owner_same, no_cycle-idle_owner, count-no_owners, seat_at-no_owners}
+use Rattle.pif_owners.specs.Owners.{Wait, Owners, no_task, no_owners, task_at, owner_at, count, state_of, waits_on, WaitsFor, with_wait, with_owner}
+use Rattle.pif_owners.proofs.OwnersLemmas.{task_at-with_task_other, owner_at-with_owner_same, no_cycle-idle_owner, count-no_owners, task_at-no_owners}
 
 -- there is room for a state
 pub room : (v : Owners) → v ≡ no_owners 3 → count v + 1 < length v.seats
-room v e = omega (arith, ap count e, count-no_owners 3, ap (λ (x : Owners). length x.seats) e, length-replicate 4 no_seat)
+room v e = omega (arith, ap count e, count-no_owners 3, ap (λ (x : Owners). length x.seats) e, length-replicate 4 no_task)
 
 module _ (v made : Owners) (k owner : ℕ) where
   -- the state is there once it is made
@@ -16,7 +16,7 @@ module _ (v made : Owners) (k owner : ℕ) where
 
   -- and then nobody waits
   idle : v ≡ no_owners 3 → made ≡ with_owner k owner v → (t : ℕ) → waits_on made t ≡ None
-  idle new e t = ap (λ (x : Owners). waits_on x t) e ∙ ap (λ (x : Owners). waits_on x t) new ∙ ap state_of (seat_at-no_owners 3 t)
+  idle new e t = ap (λ (x : Owners). waits_on x t) e ∙ ap (λ (x : Owners). waits_on x t) new ∙ ap state_of (task_at-no_owners 3 t)
 
   owned : made ≡ with_owner k owner v → owner_at made k ≡ Some owner
   owned e = ap (λ (x : Owners). owner_at x k) e ∙ owner_at-with_owner_same k owner v
@@ -33,6 +33,6 @@ pub no_cycle_then : (v made then : Owners) (k owner t u : ℕ) (w : Option Wait)
 no_cycle_then v made then k owner t u w new e f other next =
     no_cycle-idle_owner then k owner u (ap (λ (x : Owners). owner_at x k) f ∙ owned v made k owner e)
     (ap (λ (x : Owners). waits_on x owner) f
-    ∙ ap state_of (seat_at-with_seat_other t (record (seat_at made t) { wait = w }) made owner other)
+    ∙ ap state_of (task_at-with_task_other t (record (task_at made t) { wait = w }) made owner other)
     ∙ idle v made k owner new e owner)
     next

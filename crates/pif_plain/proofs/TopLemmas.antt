@@ -3,12 +3,12 @@ use Rattle.std.proofs.Common.{◌≡◌, ◌⊎◌, ℕ, ◌<◌, ◌≤◌, tru
 use Rattle.std.proofs.lemmas.Bool.{false≢true, cases_lt, cases_Bool, eq-eqb, eqb-true}
 use Rattle.std.proofs.lemmas.List.{get_or_past}
 use Rattle.pif_lists.specs.declared.keys.Key.{Key}
-use Rattle.pif_owners.specs.Owners.{Wait, Owners, no_seat, seat_at, owner_at, state_of, waits_on, rank_of, IsTop, AreSoundOwners}
+use Rattle.pif_owners.specs.Owners.{Wait, Owners, no_task, task_at, owner_at, state_of, waits_on, rank_of, IsTop, AreSoundOwners}
 use Rattle.pif_plain.specs.Standing.{rank_on, standing, leads}
 
 -- who waits on a state with a rank stands there with it
 pub standing-from : (v : Owners) (k t : ℕ) (rank : Key) → waits_on v t ≡ Some k → rank_of v t ≡ Some rank → standing v k t ≡ Some rank
-standing-from v k t rank w r = by_wait (seat_at v t).wait w r
+standing-from v k t rank w r = by_wait (task_at v t).wait w r
   where
     by_wait : (o : Option Wait) → option_map (λ (w : Wait). w.state) o ≡ Some k
         → option_map (λ (w : Wait). w.rank) o ≡ Some rank → option_and_then (rank_on k) o ≡ Some rank
@@ -20,7 +20,7 @@ standing-from v k t rank w r = by_wait (seat_at v t).wait w r
 
 -- who waits on a state stands there with some rank
 standing-waits : (v : Owners) (k t : ℕ) → waits_on v t ≡ Some k → (rank : Key) × (rank_of v t ≡ Some rank)
-standing-waits v k t w = by_wait (seat_at v t).wait w
+standing-waits v k t w = by_wait (task_at v t).wait w
   where
     by_wait : (o : Option Wait) → option_map (λ (w : Wait). w.state) o ≡ Some k
         → (rank : Key) × (option_map (λ (w : Wait). w.rank) o ≡ Some rank)
@@ -29,7 +29,7 @@ standing-waits v k t w = by_wait (seat_at v t).wait w
 
 -- and back
 pub standing-some : (v : Owners) (k t : ℕ) → IsSome (standing v k t) → (waits_on v t ≡ Some k) × ((rank : Key) × (rank_of v t ≡ Some rank))
-standing-some v k t h = by_wait (seat_at v t).wait h
+standing-some v k t h = by_wait (task_at v t).wait h
   where
     by_test : (x : Wait) → ((eqb x.state k ≡ true) ⊎ (eqb x.state k ≡ false)) → IsSome (rank_on k x) → x.state ≡ k
     by_test x (inl e) h = eqb-true x.state k e
@@ -52,7 +52,7 @@ waits-within v k t w = by_number (cases_lt t (length v.seats))
     by_number : ((t < length v.seats) ⊎ (length v.seats ≤ t)) → t < length v.seats
     by_number (inl l) = l
     by_number (inr m) =
-        let none : waits_on v t ≡ None = ap state_of (get_or_past v.seats t no_seat m) in
+        let none : waits_on v t ≡ None = ap state_of (get_or_past v.seats t no_task m) in
         absurd (cc)
 
 -- where that one is not 0 it is the top waiter
@@ -84,8 +84,8 @@ first-some (Some t) v k n first e valid value f = subst (IsTop v k) (sym value) 
 -- a state on which a thread is queued is there
 pub top-state : (o : Option ℕ) (v : Owners) (k : ℕ) → AreSoundOwners v → IfSome o (λ t. IsTop v k t) → OnSome o (IsSome (owner_at v k))
 top-state None v k s h = tt
-top-state (Some t) v k s h = by_wait (seat_at v t).wait refl h.waits
+top-state (Some t) v k s h = by_wait (task_at v t).wait refl h.waits
   where
-    by_wait : (w : Option Wait) → (seat_at v t).wait ≡ w → option_map (λ (w : Wait). w.state) w ≡ Some k → IsSome (owner_at v k)
+    by_wait : (w : Option Wait) → (task_at v t).wait ≡ w → option_map (λ (w : Wait). w.state) w ≡ Some k → IsSome (owner_at v k)
     by_wait None p q = absurd (cc)
     by_wait (Some w) p q = let same : w.state ≡ k = cc in subst (λ (j : ℕ). IsSome (owner_at v j)) same ((s.seats t).state w p)

@@ -11,8 +11,8 @@ use Rattle.pif_chains.proofs.Places.{kept_at}
 use Rattle.pif_chains.proofs.Following.{IsGreatestAt, greatest_where_some}
 use Rattle.pif_lists.specs.Levels.{Queue, IsLevel, level_of, level_with, list_for, thread_for, HasRoom, Holds, IsQueued, level_after_add}
 use Rattle.pif_lists.proofs.LevelWithLemmas.{level_with-from_listed}
-use Rattle.pif_owners.specs.Owners.{Owners, Seat, Wait, no_seat, no_owners, seat_at, owner_at, count, waits_on, waits_for, with_seat, with_wait, with_owner}
-use Rattle.pif_owners.proofs.OwnersLemmas.{seat_at-with_seat, seat_at-no_owners, count-no_owners, owner_at-with_owner_same, owner_at-with_owner_other}
+use Rattle.pif_owners.specs.Owners.{Owners, Task, Wait, no_task, no_owners, task_at, owner_at, count, waits_on, waits_for, with_task, with_wait, with_owner}
+use Rattle.pif_owners.proofs.OwnersLemmas.{task_at-with_task, task_at-no_owners, count-no_owners, owner_at-with_owner_same, owner_at-with_owner_other}
 use Rattle.pif_owners.specs.Boosts.{IsThread, base_of, local_of, greatest_base, greatest_waiting, level_after_walk, IsRepaired, IsRepairedBut}
 use Rattle.pif_boost.specs.Settled.{IsSettled}
 use Rattle.pif_owners.proofs.Greatest.{waits_for-none, waits_for-owner}
@@ -38,33 +38,33 @@ pub enqueued : (v now : Owners) (t state owner priority ticket : ℕ) → ((s : 
     → waits_on v t ≡ None → owner_at v state ≡ Some owner → priority ≡ local_of v t → IsRepairedBut owner now
 enqueued v now t state owner priority ticket repaired e free owned rank =
     subst (IsRepairedBut owner) (sym e)
-    (rewaited v t owner (Some w) repaired (inl (waits_for-none v t free)) (by_seat (seat_at-with_seat t (record (seat_at v t) { wait = Some w }) v t))
+    (rewaited v t owner (Some w) repaired (inl (waits_for-none v t free)) (by_seat (task_at-with_task t (record (task_at v t) { wait = Some w }) v t))
     (λ k is. sym (ap (λ (o : Option Key). unwrap_or (option_map (λ (x : Key). x.prio) o) 0) is) ∙ rank))
   where
     w : Wait
     w = record { state = state; rank = record { prio = priority; ticket = ticket } }
 
-    by_seat : ((t ≡ t) × (seat_at (with_wait t (Some w) v) t ≡ record (seat_at v t) { wait = Some w })) ⊎ (seat_at (with_wait t (Some w) v) t ≡ seat_at v t)
+    by_seat : ((t ≡ t) × (task_at (with_wait t (Some w) v) t ≡ record (task_at v t) { wait = Some w })) ⊎ (task_at (with_wait t (Some w) v) t ≡ task_at v t)
         → (waits_for (with_wait t (Some w) v) t ≡ 0) ⊎ (waits_for (with_wait t (Some w) v) t ≡ owner)
     by_seat (inl s) =
-        inr (ap (λ (x : Seat). unwrap_or (option_and_then (owner_at v) (option_map (λ (k : Wait). k.state) x.wait)) 0) s.1 ∙ ap (λ (o : Option ℕ). unwrap_or o 0) owned)
+        inr (ap (λ (x : Task). unwrap_or (option_and_then (owner_at v) (option_map (λ (k : Wait). k.state) x.wait)) 0) s.1 ∙ ap (λ (o : Option ℕ). unwrap_or o 0) owned)
     by_seat (inr s) =
-        inl (ap (λ (x : Seat). unwrap_or (option_and_then (owner_at v) (option_map (λ (k : Wait). k.state) x.wait)) 0) s ∙ waits_for-none v t free)
+        inl (ap (λ (x : Task). unwrap_or (option_and_then (owner_at v) (option_map (λ (k : Wait). k.state) x.wait)) 0) s ∙ waits_for-none v t free)
 
 -- and so does one that goes
 pub dequeued : (v now : Owners) (t state owner : ℕ) → ((s : ℕ) → IsRepairedBut s v) → now ≡ with_wait t None v
     → waits_on v t ≡ Some state → owner_at v state ≡ Some owner → IsRepairedBut owner now
 dequeued v now t state owner repaired e waits owned =
     subst (IsRepairedBut owner) (sym e)
-    (rewaited v t owner None repaired (inr before) (by_seat (seat_at-with_seat t (record (seat_at v t) { wait = None }) v t)) (λ k is. absurd cc))
+    (rewaited v t owner None repaired (inr before) (by_seat (task_at-with_task t (record (task_at v t) { wait = None }) v t)) (λ k is. absurd cc))
   where
     before : waits_for v t ≡ owner
     before = waits_for-owner v t state owner waits owned
 
-    by_seat : ((t ≡ t) × (seat_at (with_wait t None v) t ≡ record (seat_at v t) { wait = None })) ⊎ (seat_at (with_wait t None v) t ≡ seat_at v t)
+    by_seat : ((t ≡ t) × (task_at (with_wait t None v) t ≡ record (task_at v t) { wait = None })) ⊎ (task_at (with_wait t None v) t ≡ task_at v t)
         → (waits_for (with_wait t None v) t ≡ 0) ⊎ (waits_for (with_wait t None v) t ≡ owner)
-    by_seat (inl s) = inl (ap (λ (x : Seat). unwrap_or (option_and_then (owner_at v) (option_map (λ (k : Wait). k.state) x.wait)) 0) s.1)
-    by_seat (inr s) = inr (ap (λ (x : Seat). unwrap_or (option_and_then (owner_at v) (option_map (λ (k : Wait). k.state) x.wait)) 0) s ∙ before)
+    by_seat (inl s) = inl (ap (λ (x : Task). unwrap_or (option_and_then (owner_at v) (option_map (λ (k : Wait). k.state) x.wait)) 0) s.1)
+    by_seat (inr s) = inr (ap (λ (x : Task). unwrap_or (option_and_then (owner_at v) (option_map (λ (k : Wait). k.state) x.wait)) 0) s ∙ before)
 
 -- who is on no level is not on the run queue
 pub off_by_test : (q : Queue) (t : NodeLists) (u : ℕ) (found : Option ℕ) (b : Bool) → Holds q t → found ≡ level_with q t u
@@ -80,28 +80,28 @@ module _ (v waited : Owners) (q : Queue) (t : NodeLists) (u : ℕ) (w : Option W
   pub still_ready : (x : ℕ) → IsQueued q t x → 1 ≤ base_of waited x
   still_ready x queued =
       let same : base_of waited x ≡ base_of v x =
-      ap (λ (y : Owners). base_of y x) e ∙ kept_at (λ (s : Seat). s.base) v.seats u
-      (record (seat_at v u) { wait = w }) no_seat refl x in
+      ap (λ (y : Owners). base_of y x) e ∙ kept_at (λ (s : Task). s.base) v.seats u
+      (record (task_at v u) { wait = w }) no_task refl x in
       omega (arith, same, settled.ready x queued)
 
   -- and is on the level of its effective priority
   pub still_level : (x p : ℕ) → IsLevel p → has x (level_of q t p) ≡ true → p ≡ local_of waited x
   still_level x p lp on =
       settled.level x p lp on ∙ sym (ap (λ (y : Owners). local_of y x) e
-      ∙ kept_at (λ (s : Seat). s.local) v.seats u (record (seat_at v u) { wait = w }) no_seat refl x)
+      ∙ kept_at (λ (s : Task). s.local) v.seats u (record (task_at v u) { wait = w }) no_task refl x)
 
   -- and waits for nobody, where the thread that waits otherwise is not on it, or waits for nobody
   pub still_running : (IsQueued q t u → w ≡ None) → (x : ℕ) → IsQueued q t x → waits_on waited x ≡ None
   still_running free x queued = ap (λ (y : Owners). waits_on y x) e
-      ∙ by_seat (seat_at-with_seat u (record (seat_at v u) { wait = w }) v x)
+      ∙ by_seat (task_at-with_task u (record (task_at v u) { wait = w }) v x)
     where
-      by_seat : ((x ≡ u) × (seat_at (with_wait u w v) x ≡ record (seat_at v u) { wait = w }))
-          ⊎ (seat_at (with_wait u w v) x ≡ seat_at v x)
+      by_seat : ((x ≡ u) × (task_at (with_wait u w v) x ≡ record (task_at v u) { wait = w }))
+          ⊎ (task_at (with_wait u w v) x ≡ task_at v x)
           → waits_on (with_wait u w v) x ≡ None
       by_seat (inl s) =
-          ap (λ (y : Seat). option_map (λ (k : Wait). k.state) y.wait) s.1
+          ap (λ (y : Task). option_map (λ (k : Wait). k.state) y.wait) s.1
           ∙ ap (option_map (λ (k : Wait). k.state)) (free (subst (IsQueued q t) s.0 queued))
-      by_seat (inr s) = ap (λ (y : Seat). option_map (λ (k : Wait). k.state) y.wait) s ∙ settled.running x queued
+      by_seat (inr s) = ap (λ (y : Task). option_map (λ (k : Wait). k.state) y.wait) s ∙ settled.running x queued
 
   -- a walk after it leaves all settled
   pub walked : (new : Owners) (now : Queue) (table : NodeLists) → (IsQueued q t u → w ≡ None)
@@ -114,10 +114,10 @@ module _ (v waited : Owners) (q : Queue) (t : NodeLists) (u : ℕ) (w : Option W
         repaired = left;
         holds = holds;
         ready = λ x queued. let one : 1 ≤ base_of waited x = still_ready x (was x queued) in
-            omega (arith, one, ap (λ (s : Seat). s.base) (repaired.seats x (admitted_row waited x one)));
+            omega (arith, one, ap (λ (s : Task). s.base) (repaired.seats x (admitted_row waited x one)));
         running = λ x queued.
-            ap (λ (s : Seat). option_map (λ (k : Wait). k.state) s.wait) (repaired.seats x (row x queued))
-            ∙ ranked-state (greatest_base waited x) (seat_at waited x).wait ∙ still_running free x (was x queued);
+            ap (λ (s : Task). option_map (λ (k : Wait). k.state) s.wait) (repaired.seats x (row x queued))
+            ∙ ranked-state (greatest_base waited x) (task_at waited x).wait ∙ still_running free x (was x queued);
         level = level;
       }
     where
@@ -133,36 +133,36 @@ pub idle-new : (n : ℕ) (v : Owners) → v ≡ no_owners n → AreIdle n v
 idle-new n v e =
     subst (AreIdle n) (sym e)
     (record {
-      long = length-replicate (n + 1) no_seat;
-      free = λ x. ap (λ (s : Seat). s.wait) (seat_at-no_owners n x);
-      same = λ x. ap (λ (s : Seat). s.local) (seat_at-no_owners n x) ∙ sym (ap (λ (s : Seat). s.base) (seat_at-no_owners n x));
+      long = length-replicate (n + 1) no_task;
+      free = λ x. ap (λ (s : Task). s.wait) (task_at-no_owners n x);
+      same = λ x. ap (λ (s : Task). s.local) (task_at-no_owners n x) ∙ sym (ap (λ (s : Task). s.base) (task_at-no_owners n x));
     })
 
-pub idle-admitted : (n t p : ℕ) (v now : Owners) → now ≡ with_seat t (admitted p) v → AreIdle n v → AreIdle n now
+pub idle-admitted : (n t p : ℕ) (v now : Owners) → now ≡ with_task t (admitted p) v → AreIdle n v → AreIdle n now
 idle-admitted n t p v now e h =
     subst (AreIdle n) (sym e)
     (record {
       long = length-set v.seats t (admitted p) ∙ h.long;
-      free = λ x. free x (seat_at-with_seat t (admitted p) v x);
-      same = λ x. same x (seat_at-with_seat t (admitted p) v x);
+      free = λ x. free x (task_at-with_task t (admitted p) v x);
+      same = λ x. same x (task_at-with_task t (admitted p) v x);
     })
   where
-    free : (x : ℕ) → ((x ≡ t) × (seat_at (with_seat t (admitted p) v) x ≡ admitted p)) ⊎ (seat_at (with_seat t (admitted p) v) x ≡ seat_at v x)
-        → (seat_at (with_seat t (admitted p) v) x).wait ≡ None
-    free x (inl s) = ap (λ (y : Seat). y.wait) s.1
-    free x (inr s) = ap (λ (y : Seat). y.wait) s ∙ h.free x
+    free : (x : ℕ) → ((x ≡ t) × (task_at (with_task t (admitted p) v) x ≡ admitted p)) ⊎ (task_at (with_task t (admitted p) v) x ≡ task_at v x)
+        → (task_at (with_task t (admitted p) v) x).wait ≡ None
+    free x (inl s) = ap (λ (y : Task). y.wait) s.1
+    free x (inr s) = ap (λ (y : Task). y.wait) s ∙ h.free x
 
-    same : (x : ℕ) → ((x ≡ t) × (seat_at (with_seat t (admitted p) v) x ≡ admitted p)) ⊎ (seat_at (with_seat t (admitted p) v) x ≡ seat_at v x)
-        → local_of (with_seat t (admitted p) v) x ≡ base_of (with_seat t (admitted p) v) x
-    same x (inl s) = ap (λ (y : Seat). y.local) s.1 ∙ sym (ap (λ (y : Seat). y.base) s.1)
-    same x (inr s) = ap (λ (y : Seat). y.local) s ∙ h.same x ∙ sym (ap (λ (y : Seat). y.base) s)
+    same : (x : ℕ) → ((x ≡ t) × (task_at (with_task t (admitted p) v) x ≡ admitted p)) ⊎ (task_at (with_task t (admitted p) v) x ≡ task_at v x)
+        → local_of (with_task t (admitted p) v) x ≡ base_of (with_task t (admitted p) v) x
+    same x (inl s) = ap (λ (y : Task). y.local) s.1 ∙ sym (ap (λ (y : Task). y.base) s.1)
+    same x (inr s) = ap (λ (y : Task). y.local) s ∙ h.same x ∙ sym (ap (λ (y : Task). y.base) s)
 
 idle-made : (n k owner : ℕ) (v now : Owners) → now ≡ with_owner k owner v → AreIdle n v → AreIdle n now
 idle-made n k owner v now e h = subst (AreIdle n) (sym e) (record { long = h.long; free = h.free; same = h.same })
 
 -- three threads and no state
-pub three : (v0 v1 v2 v3 : Owners) (t1 t2 t3 p1 p2 p3 : ℕ) → v0 ≡ no_owners 3 → v1 ≡ with_seat t1 (admitted p1) v0 → v2 ≡ with_seat t2 (admitted p2) v1
-    → v3 ≡ with_seat t3 (admitted p3) v2 → (length v3.seats ≡ 4) × (count v3 ≡ 0)
+pub three : (v0 v1 v2 v3 : Owners) (t1 t2 t3 p1 p2 p3 : ℕ) → v0 ≡ no_owners 3 → v1 ≡ with_task t1 (admitted p1) v0 → v2 ≡ with_task t2 (admitted p2) v1
+    → v3 ≡ with_task t3 (admitted p3) v2 → (length v3.seats ≡ 4) × (count v3 ≡ 0)
 three v0 v1 v2 v3 t1 t2 t3 p1 p2 p3 e0 e1 e2 e3 = (
   (idle-admitted 3 t3 p3 v2 v3 e3 (idle-admitted 3 t2 p2 v1 v2 e2
       (idle-admitted 3 t1 p1 v0 v1 e1 (idle-new 3 v0 e0)))).long,

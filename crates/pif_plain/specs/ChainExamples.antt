@@ -3,7 +3,7 @@
 use Rattle.std.specs.Prelude.{◌≡◌, ℕ, ◌+◌, [], length, None}
 use Rattle.pif_lists.specs.Table.{NodeLists, holder}
 use Rattle.pif_lists.specs.Levels.{Queue, IsLevel, level_of}
-use Rattle.pif_owners.specs.Owners.{Owners, seat_at, count, no_owners}
+use Rattle.pif_owners.specs.Owners.{Owners, task_at, count, no_owners}
 use Rattle.pif_owners.specs.States.{States, empty_states, owners_in}
 use Rattle.pif_owners.specs.Holds.{HoldsStates, HasRoomForStates}
 use Rattle.pif_owners.specs.Boosts.{base_of, local_of}
@@ -13,7 +13,7 @@ use Rattle.pif_plain.specs.Together.{StandTogether}
 -- nobody waits, and each thread has its base priority
 pub record AreIdle (n : ℕ) (v : Owners) : Type 0 where
   pub long : length v.seats ≡ n + 1
-  pub free : (x : ℕ) → (seat_at v x).wait ≡ None
+  pub free : (x : ℕ) → (task_at v x).wait ≡ None
   pub same : (x : ℕ) → local_of v x ≡ base_of v x
 
 -- owner states of so many threads that were just made

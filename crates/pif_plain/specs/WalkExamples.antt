@@ -2,15 +2,15 @@
 use Rattle.std.specs.Prelude.{ℕ, [], replicate, None}
 use Rattle.pif_lists.specs.Table.{NodeLists, no_key}
 use Rattle.pif_lists.specs.Levels.{Queue}
-use Rattle.pif_owners.specs.Owners.{Owners, Seat, no_owners, with_seat, with_owner}
+use Rattle.pif_owners.specs.Owners.{Owners, Task, no_owners, with_task, with_owner}
 
 -- a thread of this priority that waits for nothing
-abbrev pub admitted : ℕ → Seat
+abbrev pub admitted : ℕ → Task
 admitted p = record { base = p; local = p; wait = None }
 
 -- threads 1, 2 and 3 of priorities 1, 2 and 99
 abbrev pub three_admitted : Owners
-three_admitted = with_seat 3 (admitted 99) (with_seat 2 (admitted 2) (with_seat 1 (admitted 1) (no_owners 3)))
+three_admitted = with_task 3 (admitted 99) (with_task 2 (admitted 2) (with_task 1 (admitted 1) (no_owners 3)))
 
 -- and a state of thread 1 and one of thread 2
 abbrev pub three_threads : ℕ → ℕ → Owners

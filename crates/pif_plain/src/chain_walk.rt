@@ -21,7 +21,7 @@ ghost use Rattle.std.specs.Prelude.{◌≡◌, ℕ, ◌<◌, ◌≤◌, ◌==◌
 ghost use Rattle.pif_lists.specs.Lists.{has};
 ghost use Rattle.pif_lists.specs.Levels.{IsLevel, level_of, Holds, IsQueued, SameOutside};
 ghost use Rattle.pif_model.specs.Graph.{IsEffective};
-ghost use Rattle.pif_owners.specs.Owners.{seat_at, waits_on, WaitsFor, with_seat, IsTop};
+ghost use Rattle.pif_owners.specs.Owners.{task_at, waits_on, WaitsFor, with_task, IsTop};
 ghost use Rattle.pif_owners.specs.Boosts.{IsThread, base_of, local_of, greatest_base, with_effective, IsRepaired, IsRepairedBut, IsNext, joins, level_after_move_if_queued, level_after_walk};
 
 use crate::propagate::{PLACES, priority_of, propagate_all};
@@ -88,8 +88,8 @@ fn repair(
     requires row { t < length owners.old.seats }
     requires holds { Holds queue.old table.old }
     requires ready { IsQueued queue.old table.old t → 1 ≤ unwrap_or priority 0 }
-    requires idle { unwrap_or priority 0 ≡ 0 → seat_at owners.old t ≡ with_effective 0 (seat_at owners.old t) }
-    ensures owners { owners.new ≡ with_seat t (with_effective (unwrap_or priority 0) (seat_at owners.old t)) owners.old }
+    requires idle { unwrap_or priority 0 ≡ 0 → task_at owners.old t ≡ with_effective 0 (task_at owners.old t) }
+    ensures owners { owners.new ≡ with_task t (with_effective (unwrap_or priority 0) (task_at owners.old t)) owners.old }
     ensures levels { (p : ℕ) → IsLevel p → level_of queue.new table.new p
         ≡ level_after_move_if_queued queue.old table.old t (unwrap_or priority 0) p }
     ensures outside { SameOutside queue.old table.old table.new }
@@ -109,7 +109,7 @@ fn repair(
 /// Gives the thread `t` this effective priority, also where it waits. Answers whether it had another one.
 fn boost(owners: &mut RtMutexes, t: Tid, prio: Prio) -> bool
     requires { t < length owners.old.seats }
-    ensures owners { owners.new ≡ with_seat t (with_effective prio (seat_at owners.old t)) owners.old }
+    ensures owners { owners.new ≡ with_task t (with_effective prio (task_at owners.old t)) owners.old }
     ensures changed { result ≡ not (prio == local_of owners.old t) }
 {
     let before = owners.local(t);

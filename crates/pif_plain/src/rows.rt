@@ -36,9 +36,9 @@ pub struct Row {
 
 impl Model for Row {
     ghost use Rattle.std.specs.Prelude.{unwrap_or};
-    ghost use Rattle.pif_owners.specs.Owners.{Seat, seat_code, prio_of, IsPrio, prio_of-unwrap_or};
+    ghost use Rattle.pif_owners.specs.Owners.{Task, seat_code, prio_of, IsPrio, prio_of-unwrap_or};
 
-    ghost Value = { Seat };
+    ghost Value = { Task };
 
     ghost coded = { seat_code };
 

@@ -22,7 +22,7 @@ ghost use Rattle.std.specs.Prelude.{◌≡◌, ◌≢◌, ℕ, ◌+◌, ◌<◌,
 ghost use Rattle.std.specs.Option.{ForSome};
 ghost use Rattle.pif_model.specs.Graph.{Reaches};
 ghost use Rattle.pif_lists.specs.declared.keys.Key.{Key as RankSeen};
-ghost use Rattle.pif_owners.specs.Owners.{no_owners, seat_at, owner_at, count, waits_on, rank_of, WaitsFor, IsAcyclic, AreSoundOwners, IsTop, HasNoWaiter, KeepsOrder, with_seat, with_base, with_local, with_wait, with_prio, with_ticket, with_owner, without_state};
+ghost use Rattle.pif_owners.specs.Owners.{no_owners, task_at, owner_at, count, waits_on, rank_of, WaitsFor, IsAcyclic, AreSoundOwners, IsTop, HasNoWaiter, KeepsOrder, with_task, with_base, with_local, with_wait, with_prio, with_ticket, with_owner, without_state};
 ghost use Rattle.pif_owners.specs.Behind.{IsLast, IsBehind};
 ghost use Rattle.pif_plain.specs.Standing.{standing, standing_behind};
 
@@ -87,7 +87,7 @@ impl RtMutexes {
     pub fn admit(&mut self, t: Tid, prio: Prio)
         requires row { t < length self.old.seats }
         requires free { waits_on self.old t ≡ None }
-        ensures admitted { self.new ≡ with_seat t (record { base = prio; local = prio; wait = None }) self.old }
+        ensures admitted { self.new ≡ with_task t (record { base = prio; local = prio; wait = None }) self.old }
         ensures acyclic { IsAcyclic self.new }
     {
         self.put(t, NOBODY.with_base(prio).with_local(prio));
@@ -95,9 +95,9 @@ impl RtMutexes {
 
     /// The base priority of the thread `t`. `None` where it was given none.
     pub fn base(&self, t: Tid) -> Option<Prio>
-        ensures given { IsSome result ↔ (1 ≤ (seat_at self.now t).base) }
-        ensures value { IfSome result (λ p. p ≡ (seat_at self.now t).base) }
-        ensures most { (seat_at self.now t).base ≤ 99 }
+        ensures given { IsSome result ↔ (1 ≤ (task_at self.now t).base) }
+        ensures value { IfSome result (λ p. p ≡ (task_at self.now t).base) }
+        ensures most { (task_at self.now t).base ≤ 99 }
     {
         self.row(t.get()).base
     }
@@ -113,9 +113,9 @@ impl RtMutexes {
 
     /// The effective priority of the thread `t` as it was last set. `None` where it was given none.
     pub fn local(&self, t: Tid) -> Option<Prio>
-        ensures given { IsSome result ↔ (1 ≤ (seat_at self.now t).local) }
-        ensures value { IfSome result (λ p. p ≡ (seat_at self.now t).local) }
-        ensures most { (seat_at self.now t).local ≤ 99 }
+        ensures given { IsSome result ↔ (1 ≤ (task_at self.now t).local) }
+        ensures value { IfSome result (λ p. p ≡ (task_at self.now t).local) }
+        ensures most { (task_at self.now t).local ≤ 99 }
     {
         self.row(t.get()).local
     }
@@ -300,7 +300,7 @@ impl RtMutexes {
 
     /// The row of a thread.
     fn row(&self, t: u32) -> Row
-        ensures value { result ≡ seat_at self.now t }
+        ensures value { result ≡ task_at self.now t }
         ensures sound { AreSoundOwners self.now }
     {
         if (t as usize) < self.rows.len() {
@@ -312,8 +312,8 @@ impl RtMutexes {
 
     /// Makes `row` the row of a thread, if it has one.
     fn put(&mut self, t: Tid, row: Row)
-        requires { 1 ≤ t → AreSoundOwners self.old → AreSoundOwners (with_seat t row self.old) }
-        ensures put { self.new ≡ with_seat t row self.old }
+        requires { 1 ≤ t → AreSoundOwners self.old → AreSoundOwners (with_task t row self.old) }
+        ensures put { self.new ≡ with_task t row self.old }
         ensures sound { AreSoundOwners self.new }
     {
         let place = t.get() as usize;

@@ -9,11 +9,11 @@ use Rattle.pif_lists.specs.declared.keys.Key.{Key}
 use Rattle.pif_lists.specs.Lists.{has, first_of}
 use Rattle.pif_lists.specs.Table.{NodeLists, list_at, key_at, holder}
 use Rattle.pif_lists.specs.Order.{IsSorted}
-use Rattle.pif_owners.specs.Owners.{Seat, no_seat, with_seat, AreSoundOwners}
+use Rattle.pif_owners.specs.Owners.{Task, no_task, with_task, AreSoundOwners}
 use Rattle.pif_owners.specs.States.{Row, States, IsThread, IsOwnList, no_row, row_at, wait_of, wait_node, top_node, wait_list, top_list, waiter_for, first_waiter, seat_in, owners_in}
 use Rattle.pif_owners.specs.Holds.{HoldsWaiters, IsWaiterIn, IsTopNode, IsTopped, IsFirstOf, IsTopOf, IsRankedTop, IsTopBut, HoldsTops, IsToppedBut}
 use Rattle.pif_owners.specs.Frames.{SameOutsideStates, ChangesList, ChangesTops}
-use Rattle.pif_owners.proofs.ViewLemmas.{length-seats, seat_at-owners_in, owners_in-by_seat}
+use Rattle.pif_owners.proofs.ViewLemmas.{length-seats, task_at-owners_in, owners_in-by_seat}
 use Rattle.pif_owners.proofs.WaiterLemmas.{waits-thread, first_waiter-by_row, StandsFirst, stands-first, some_owner}
 use Rattle.pif_owners.proofs.FrameLemmas.{cases_Some, view-framed, waiters-framed, topped-as}
 use Rattle.pif_owners.proofs.ListChanges.{had-other, outside-changed}
@@ -90,20 +90,20 @@ module _ (m : States) (rows : List Row) (owners : FinMap nat_cmp ℕ) (t now : N
           (c.changes.keys (wait_node m w) (other_node w (waits-thread m t w some.0 h some.1) ne))
 
   -- so the view has another seat of that thread, and these owners
-  pub view-changed : (x : Seat) → seat_in next now u ≡ x
-      → owners_in next now ≡ record (with_seat u x (owners_in m t)) { owners = owners }
+  pub view-changed : (x : Task) → seat_in next now u ≡ x
+      → owners_in next now ≡ record (with_task u x (owners_in m t)) { owners = owners }
   view-changed x e =
-      owners_in-by_seat next now (record (with_seat u x (owners_in m t)) { owners = owners }) refl
+      owners_in-by_seat next now (record (with_task u x (owners_in m t)) { owners = owners }) refl
       (length-set (owners_in m t).seats u x ∙ length-seats m t ∙ sym c.count)
       (λ w l. by_thread w (cases_eq w u))
     where
       by_thread : (w : ℕ) → ((w ≡ u) ⊎ (w ≡ u → ⊥))
-          → get_or (set (owners_in m t).seats u x) w no_seat ≡ seat_in next now w
+          → get_or (set (owners_in m t).seats u x) w no_task ≡ seat_in next now w
       by_thread w (inl same) =
-          ap (λ p. get_or (set (owners_in m t).seats u x) p no_seat) same
-          ∙ get_or-set_same (owners_in m t).seats u x no_seat (omega (arith, length-seats m t, h.rows, c.thread))
+          ap (λ p. get_or (set (owners_in m t).seats u x) p no_task) same
+          ∙ get_or-set_same (owners_in m t).seats u x no_task (omega (arith, length-seats m t, h.rows, c.thread))
           ∙ sym e ∙ ap (seat_in next now) (sym same)
-      by_thread w (inr ne) = get_or-set_other (owners_in m t).seats u w x no_seat ne ∙ seat_at-owners_in m t w
+      by_thread w (inr ne) = get_or-set_other (owners_in m t).seats u w x no_task ne ∙ task_at-owners_in m t w
           ∙ sym (seat-kept w ne)
 
   pub waiters-outside : SameOutsideStates m t now

@@ -11,12 +11,12 @@ use Rattle.pif_lists.specs.Order.{comes_before, key_in, IsInOrder}
 use Rattle.pif_lists.proofs.OrderLemmas.{not_before-self, comes_before-from}
 use Rattle.pif_chains.proofs.Following.{greatest_where_above}
 use Rattle.pif_chains.proofs.Greatest.{greatest_where_most}
-use Rattle.pif_owners.specs.Owners.{Seat, Wait, seat_at, owner_at, rank_of, waits_for, IsTop, HasNoWaiter}
+use Rattle.pif_owners.specs.Owners.{Task, Wait, task_at, owner_at, rank_of, waits_for, IsTop, HasNoWaiter}
 use Rattle.pif_owners.proofs.OwnersLemmas.{WaitsFor-some, WaitsFor-from}
 use Rattle.pif_owners.specs.States.{States, IsThread, wait_of, wait_node, top_node, wait_list, top_list, waiter_for, first_waiter, owners_in}
 use Rattle.pif_owners.specs.Holds.{HoldsWaiters, IsWaiterIn, IsTopNode, IsFirstOf, IsTopOf, HoldsStates}
 use Rattle.pif_rtmutex.specs.Maximum.{rank_priority, greatest_rank}
-use Rattle.pif_owners.proofs.ViewLemmas.{length-seats, seat_at-owners_in, waits_on-owners_in, rank_of-owners_in}
+use Rattle.pif_owners.proofs.ViewLemmas.{length-seats, task_at-owners_in, waits_on-owners_in, rank_of-owners_in}
 use Rattle.pif_owners.proofs.WaiterLemmas.{waits-state, first_waiter-by_row, StandsFirst, stands-first, some_owner}
 use Rattle.pif_owners.proofs.FrameLemmas.{cases_Some}
 
@@ -136,7 +136,7 @@ first-owned (Some u) m t k h e = first-state m t k u h (sym e)
 -- who waits for nothing has no rank
 pub rank_of-none : (m : States) (t : NodeLists) (u : ℕ) → wait_of m u ≡ None → rank_of (owners_in m t) u ≡ None
 rank_of-none m t u w =
-    ap (λ (x : Seat). option_map (λ (w : Wait). w.rank) x.wait) (seat_at-owners_in m t u)
+    ap (λ (x : Task). option_map (λ (w : Wait). w.rank) x.wait) (task_at-owners_in m t u)
     ∙ ap (λ (o : Option ℕ). option_map (λ (w : Wait). w.rank)
     (option_map (λ k. record { state = k; rank = key_at t (wait_node m u) }) o)) w
 
@@ -150,7 +150,7 @@ priority-waiting m t u k w =
 waits-owned : (m : States) (t : NodeLists) (u o : ℕ) → o ≢ 0 → waits_for (owners_in m t) u ≡ o
     → (k : ℕ) × (wait_of m u ≡ Some k) × (get m.owners k ≡ Some o)
 waits-owned m t u o n e =
-    let at : (w : Wait) × ((seat_at (owners_in m t) u).wait ≡ Some w) × (owner_at (owners_in m t) w.state ≡ Some o) =
+    let at : (w : Wait) × ((task_at (owners_in m t) u).wait ≡ Some w) × (owner_at (owners_in m t) w.state ≡ Some o) =
     WaitsFor-some (owners_in m t) u o (e, n) in
     (at.0.state, sym (waits_on-owners_in m t u) ∙ ap (option_map (λ (w : Wait). w.state)) at.1, at.2)
 
@@ -209,8 +209,8 @@ top-waiter m t o n h i first =
     let k : ℕ = at.2.0 in
     let stands : StandsFirst m t k u = stands-first m t k u h.waiters (some_owner m k at.0 at.2.1.0) at.2.1.1 in
     let wait : Wait = record { state = k; rank = key_at t (wait_node m u) } in
-    let seat : (seat_at (owners_in m t) u).wait ≡ Some wait =
-    ap (λ (x : Seat). x.wait) (seat_at-owners_in m t u)
+    let seat : (task_at (owners_in m t) u).wait ≡ Some wait =
+    ap (λ (x : Task). x.wait) (task_at-owners_in m t u)
     ∙ ap (λ (o : Option ℕ). option_map (λ k. record { state = k; rank = key_at t (wait_node m u) }) o) stands.waits in
     let ranked : (key_at t n).prio ≡ (key_at t (wait_node m u)).prio =
     ap (λ x. (key_at t x).prio) node.node ∙ h.tops.ranked k at.0 u at.2.1 in

@@ -3,14 +3,14 @@ use Rattle.std.proofs.Common.{◌≡◌, ◌⊎◌, ◌↔◌, ℕ, ◌<◌, ◌
 use Rattle.std.proofs.lemmas.Bool.{false≢true, cases_eq, cases_lt}
 use Rattle.std.proofs.lemmas.List.{get_or-set_same, get_or-set_other, set_past, length-set}
 use Rattle.pif_lists.specs.Table.{NodeLists, key_at}
-use Rattle.pif_owners.specs.Owners.{Seat, IsPrio, no_seat, with_seat, AreSoundOwners}
+use Rattle.pif_owners.specs.Owners.{Task, IsPrio, no_task, with_task, AreSoundOwners}
 use Rattle.pif_owners.proofs.OwnersLemmas.{sound-priorities}
 use Rattle.pif_owners.specs.States.{Row, States, no_row, row_at, wait_of, wait_node, seat_in, owners_in, with_row}
 use Rattle.pif_owners.specs.Holds.{IsWaiterIn, IsTopNode, HoldsStates}
-use Rattle.pif_owners.proofs.ViewLemmas.{length-seats, seat_at-owners_in, owners_in-by_seat}
+use Rattle.pif_owners.proofs.ViewLemmas.{length-seats, task_at-owners_in, owners_in-by_seat}
 
 -- what value and table say of a thread that has this row
-abbrev pub seat_of : States → NodeLists → ℕ → Row → Seat
+abbrev pub seat_of : States → NodeLists → ℕ → Row → Task
 seat_of m t u x =
     record {
       base = x.base;
@@ -31,22 +31,22 @@ row_at-with_row m u w x = by_place (cases_eq w u) (cases_lt u (length m.rows))
     by_place (inr n) l = inr (get_or-set_other m.rows u w x no_row n)
 
 -- the view has the seat of that row then
-pub view-row : (m : States) (t : NodeLists) (u : ℕ) (x : Row) (y : Seat) → y ≡ seat_of m t u x
-    → owners_in (with_row u x m) t ≡ with_seat u y (owners_in m t)
+pub view-row : (m : States) (t : NodeLists) (u : ℕ) (x : Row) (y : Task) → y ≡ seat_of m t u x
+    → owners_in (with_row u x m) t ≡ with_task u y (owners_in m t)
 view-row m t u x y e =
-    owners_in-by_seat (with_row u x m) t (with_seat u y (owners_in m t)) refl
+    owners_in-by_seat (with_row u x m) t (with_task u y (owners_in m t)) refl
     (length-set (owners_in m t).seats u y ∙ length-seats m t ∙ sym (length-set m.rows u x))
     (λ w l. by_thread w (cases_eq w u) (omega (arith, length-set m.rows u x)))
   where
     by_thread : (w : ℕ) → ((w ≡ u) ⊎ (w ≡ u → ⊥)) → w < length m.rows
-        → get_or (set (owners_in m t).seats u y) w no_seat ≡ seat_in (with_row u x m) t w
+        → get_or (set (owners_in m t).seats u y) w no_task ≡ seat_in (with_row u x m) t w
     by_thread w (inl same) l =
-        ap (λ p. get_or (set (owners_in m t).seats u y) p no_seat) same
-        ∙ get_or-set_same (owners_in m t).seats u y no_seat (omega (arith, length-seats m t, same)) ∙ e
+        ap (λ p. get_or (set (owners_in m t).seats u y) p no_task) same
+        ∙ get_or-set_same (owners_in m t).seats u y no_task (omega (arith, length-seats m t, same)) ∙ e
         ∙ ap (seat_of m t u) (sym (get_or-set_same m.rows u x no_row (omega (arith, same))))
         ∙ ap (seat_in (with_row u x m) t) (sym same)
     by_thread w (inr ne) l =
-        get_or-set_other (owners_in m t).seats u w y no_seat ne ∙ seat_at-owners_in m t w
+        get_or-set_other (owners_in m t).seats u w y no_task ne ∙ task_at-owners_in m t w
         ∙ ap (seat_of m t w) (sym (get_or-set_other m.rows u w x no_row ne))
 
 -- the owner states stand in the table as before
@@ -63,7 +63,7 @@ holds-row m t u x one base local same h =
         sound = subst AreSoundOwners (sym (view-row m t u x (seat_of m t u x) refl))
             (sound-priorities u (seat_of m t u x) (owners_in m t) base local
             (ap (λ (o : Option ℕ). option_map (λ k. record { state = k; rank = key_at t (wait_node m u) }) o) same
-            ∙ ap (λ (y : Seat). y.wait) (sym (seat_at-owners_in m t u))) one h.waiters.sound);
+            ∙ ap (λ (y : Task). y.wait) (sym (task_at-owners_in m t u))) one h.waiters.sound);
         owned = h.waiters.owned;
         placed = h.waiters.placed;
         stated = h.waiters.stated;

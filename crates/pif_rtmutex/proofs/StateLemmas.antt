@@ -10,7 +10,7 @@ use Rattle.pif_lists.specs.Lists.{has, first_of, HasNoRepeats}
 use Rattle.pif_lists.specs.Table.{NodeLists, list_at, key_at}
 use Rattle.pif_lists.proofs.ListLemmas.{first_of-has, has-append, has-left, has-parts, has-neither, HasNoRepeats-put, HasNoRepeats-taken}
 use Rattle.pif_lists.specs.Order.{IsInOrder, IsSorted}
-use Rattle.pif_owners.specs.Owners.{no_seat, no_owners, AreSoundOwners}
+use Rattle.pif_owners.specs.Owners.{no_task, no_owners, AreSoundOwners}
 use Rattle.pif_owners.proofs.OwnersLemmas.{sound-no_owners}
 use Rattle.pif_owners.specs.States.{Row, States, IsThread, IsOwnList, no_row, empty_states, wait_of, wait_list, top_list, waiter_for, first_waiter, owners_in}
 use Rattle.pif_owners.specs.Holds.{IsWaiterIn, IsTopNode, IsFirstOf, IsTopOf, HoldsStates, HasRoomForStates}
@@ -231,10 +231,10 @@ no_rows threads u l = get_or-replicate (threads + 1) u no_row no_row l
 pub view-empty_states : (l n threads : ℕ) (t : NodeLists) → owners_in (empty_states l n threads) t ≡ no_owners threads
 view-empty_states l n threads t =
     owners_in-by_seat (empty_states l n threads) t (no_owners threads) refl
-    (length-replicate (threads + 1) no_seat ∙ sym (length-replicate (threads + 1) no_row))
+    (length-replicate (threads + 1) no_task ∙ sym (length-replicate (threads + 1) no_row))
     (λ u low.
     let within : u < threads + 1 = omega (arith, length-replicate (threads + 1) no_row) in
-    get_or-replicate (threads + 1) u no_seat no_seat within
+    get_or-replicate (threads + 1) u no_task no_task within
     ∙ ap (λ (x : Row). record {
       base = x.base;
       local = x.local;

@@ -7,13 +7,13 @@ use Rattle.std.specs.FinMap.{FinMap, get, insert}
 use Rattle.pif_lists.specs.declared.keys.Key.{Key}
 use Rattle.pif_lists.specs.Table.{NodeLists, key_at, holder}
 use Rattle.pif_model.specs.Graph.{Reaches}
-use Rattle.pif_owners.specs.Owners.{Owners, Seat, seat_at, WaitsFor, with_wait, with_owner, AreSoundOwners}
+use Rattle.pif_owners.specs.Owners.{Owners, Task, task_at, WaitsFor, with_wait, with_owner, AreSoundOwners}
 use Rattle.pif_owners.proofs.MapLemmas.{get-insert_same, get-insert_other}
 use Rattle.pif_owners.proofs.OwnersLemmas.{sound-free, sound-ranked, sound-queued, sound-handed, waits_on-freed}
 use Rattle.pif_owners.specs.States.{Row, States, IsThread, IsOwnList, no_row, row_at, wait_of, wait_node, wait_list, first_waiter, seat_in, owners_in}
 use Rattle.pif_owners.specs.Holds.{HoldsWaiters, HoldsTops, IsToppedBut, HoldsStates}
 use Rattle.pif_owners.specs.Frames.{SameOutsideStates, ChangesList, ChangesTops, KeepsWaiterNodes}
-use Rattle.pif_owners.proofs.ViewLemmas.{seat_at-owners_in}
+use Rattle.pif_owners.proofs.ViewLemmas.{task_at-owners_in}
 use Rattle.pif_owners.proofs.WaiterLemmas.{waits-state, waits-thread, some_owner}
 use Rattle.pif_owners.proofs.ListChanges.{outside-then}
 use Rattle.pif_rtmutex.proofs.ChangeLemmas.{IsChange, view-changed, waiters-outside, waiters-changed, tops-but, waiters-stay, owners-stay}
@@ -25,9 +25,9 @@ row-list m k r l place e = same_Some l (wait_list m r) (sym e ∙ ap (option_map
 
 -- what a waiting thread's seat has
 pub seat-wait : (m : States) (t : NodeLists) (u k : ℕ) → wait_of m u ≡ Some k
-    → (seat_at (owners_in m t) u).wait ≡ Some (record { state = k; rank = key_at t (wait_node m u) })
+    → (task_at (owners_in m t) u).wait ≡ Some (record { state = k; rank = key_at t (wait_node m u) })
 seat-wait m t u k w =
-    ap (λ (x : Seat). x.wait) (seat_at-owners_in m t u)
+    ap (λ (x : Task). x.wait) (task_at-owners_in m t u)
     ∙ ap (λ (o : Option ℕ). option_map (λ j. record { state = j; rank = key_at t (wait_node m u) }) o) w
 
 -- where the waiters of a thread's state stand
@@ -148,7 +148,7 @@ module _ (m : States) (owners : FinMap nat_cmp ℕ) (t now : NodeLists) (k r u o
           }
 
       seat : seat_in (record m { rows = rows; owners = owners }) now u
-          ≡ record (seat_at (owners_in m t) u) {
+          ≡ record (task_at (owners_in m t) u) {
             wait =
                 option_map (λ j. record { state = j; rank = key_at now (wait_node m u) }) w;
           }
@@ -159,17 +159,17 @@ module _ (m : States) (owners : FinMap nat_cmp ℕ) (t now : NodeLists) (k r u o
             wait =
                 option_map (λ j. record { state = j; rank = key_at now (wait_node m u) }) x.wait;
           }) row-now
-          ∙ ap (λ (x : Seat). record x {
+          ∙ ap (λ (x : Task). record x {
             wait =
                 option_map (λ j. record { state = j; rank = key_at now (wait_node m u) }) w;
           })
-          (sym (seat_at-owners_in m t u))
+          (sym (task_at-owners_in m t u))
 
       view : owners_in (record m { rows = rows; owners = owners }) now
           ≡ record (with_wait u (option_map (λ j. record { state = j; rank = key_at now (wait_node m u) }) w)
           (owners_in m t)) { owners = owners }
       view = view-changed m rows owners t now k r u o h.waiters change
-          (record (seat_at (owners_in m t) u) {
+          (record (task_at (owners_in m t) u) {
             wait =
                 option_map (λ j. record { state = j; rank = key_at now (wait_node m u) }) w;
           }) seat
@@ -269,19 +269,19 @@ ranked-step m t now k r u o rank h thread place below own changes waits was held
           stands = λ e. waits;
         }
 
-    seat : seat_in m now u ≡ record (seat_at (owners_in m t) u) { wait = Some (record { state = k; rank = rank }) }
+    seat : seat_in m now u ≡ record (task_at (owners_in m t) u) { wait = Some (record { state = k; rank = rank }) }
     seat =
         (λ i. record {
           base = (row_at m u).base;
           local = (row_at m u).local;
           wait = option_map (λ j. record { state = j; rank = key i }) (waits i);
         })
-        ∙ ap (λ (x : Seat). record x { wait = Some (record { state = k; rank = rank }) })
-        (sym (seat_at-owners_in m t u))
+        ∙ ap (λ (x : Task). record x { wait = Some (record { state = k; rank = rank }) })
+        (sym (task_at-owners_in m t u))
 
     view : owners_in m now ≡ with_wait u (Some (record { state = k; rank = rank })) (owners_in m t)
     view = view-changed m m.rows m.owners t now k r u o h.waiters change
-        (record (seat_at (owners_in m t) u) { wait = Some (record { state = k; rank = rank }) }) seat
+        (record (task_at (owners_in m t) u) { wait = Some (record { state = k; rank = rank }) }) seat
 
     sound : AreSoundOwners (with_wait u (Some (record { state = k; rank = rank })) (owners_in m t))
     sound =

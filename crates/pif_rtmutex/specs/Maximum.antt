@@ -2,7 +2,7 @@
 use Rattle.std.specs.Prelude.{ℕ, max, ◌==◌, length, option_map, unwrap_or}
 use Rattle.pif_lists.specs.declared.keys.Key.{Key}
 use Rattle.pif_model.specs.Graph.{greatest_where}
-use Rattle.pif_owners.specs.Owners.{Owners, seat_at, rank_of, waits_for}
+use Rattle.pif_owners.specs.Owners.{Owners, task_at, rank_of, waits_for}
 
 -- the priority with which a thread waits; 0 where it waits for nothing
 abbrev pub rank_priority : Owners → ℕ → ℕ
@@ -14,4 +14,4 @@ greatest_rank v t = greatest_where (λ u. waits_for v u == t) (rank_priority v) 
 
 -- the greater of that and of the thread's base priority
 abbrev pub maximum_of : Owners → ℕ → ℕ
-maximum_of v t = max (seat_at v t).base (greatest_rank v t)
+maximum_of v t = max (task_at v t).base (greatest_rank v t)

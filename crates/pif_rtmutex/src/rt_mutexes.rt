@@ -5,7 +5,7 @@ ghost use Rattle.std.specs.FinMap.{get, empty, insert, remove, len};
 ghost use Rattle.pif_model.specs.Graph.{Reaches};
 ghost use Rattle.pif_lists.specs.declared.keys.Key.{Key as RankSeen};
 ghost use Rattle.pif_lists.specs.Table.{NodeLists, key_at, holder, next_node};
-ghost use Rattle.pif_owners.specs.Owners.{no_owners, seat_at, owner_at, count, waits_on, rank_of, WaitsFor, IsTop, HasNoWaiter, KeepsOrder, with_seat, with_base, with_local, with_wait, with_prio, with_ticket, with_owner, without_state};
+ghost use Rattle.pif_owners.specs.Owners.{no_owners, task_at, owner_at, count, waits_on, rank_of, WaitsFor, IsTop, HasNoWaiter, KeepsOrder, with_task, with_base, with_local, with_wait, with_prio, with_ticket, with_owner, without_state};
 ghost use Rattle.pif_owners.specs.States.{IsThread, empty_states, row_at, wait_node, top_node, wait_list, top_list, waiter_for, first_waiter, owners_in, with_row, with_wait_on, with_owner_of};
 ghost use Rattle.pif_owners.specs.Holds.{HoldsWaiters, IsRankedTop, HoldsTops, IsToppedBut, HoldsStates, HasRoomForStates};
 ghost use Rattle.pif_owners.specs.Behind.{IsLast, IsBehind};
@@ -102,7 +102,7 @@ impl RtMutexes {
         requires row { t < length (owners_in self.old table.now).seats }
         requires free { waits_on (owners_in self.old table.now) t ≡ None }
         ensures admitted { owners_in self.new table.now
-            ≡ with_seat t (record { base = prio; local = prio; wait = None }) (owners_in self.old table.now) }
+            ≡ with_task t (record { base = prio; local = prio; wait = None }) (owners_in self.old table.now) }
         ensures place { self.new ≡ record self.old { rows = self.new.rows } }
         ensures holds { HoldsStates self.new table.now }
     {
@@ -111,9 +111,9 @@ impl RtMutexes {
 
     /// The base priority of the thread `t`. `None` if it was given none.
     pub fn base(&self, table: &NodeTable, t: Tid) -> Option<Prio>
-        ensures given { IsSome result ↔ (1 ≤ (seat_at (owners_in self.now table.now) t).base) }
-        ensures value { IfSome result (λ p. p ≡ (seat_at (owners_in self.now table.now) t).base) }
-        ensures most { (seat_at (owners_in self.now table.now) t).base ≤ 99 }
+        ensures given { IsSome result ↔ (1 ≤ (task_at (owners_in self.now table.now) t).base) }
+        ensures value { IfSome result (λ p. p ≡ (task_at (owners_in self.now table.now) t).base) }
+        ensures most { (task_at (owners_in self.now table.now) t).base ≤ 99 }
     {
         self.row_of(t.get()).base
     }
@@ -132,9 +132,9 @@ impl RtMutexes {
 
     /// The effective priority of the thread `t` as it was last set. `None` if it was given none.
     pub fn local(&self, table: &NodeTable, t: Tid) -> Option<Prio>
-        ensures given { IsSome result ↔ (1 ≤ (seat_at (owners_in self.now table.now) t).local) }
-        ensures value { IfSome result (λ p. p ≡ (seat_at (owners_in self.now table.now) t).local) }
-        ensures most { (seat_at (owners_in self.now table.now) t).local ≤ 99 }
+        ensures given { IsSome result ↔ (1 ≤ (task_at (owners_in self.now table.now) t).local) }
+        ensures value { IfSome result (λ p. p ≡ (task_at (owners_in self.now table.now) t).local) }
+        ensures most { (task_at (owners_in self.now table.now) t).local ≤ 99 }
     {
         self.row_of(t.get()).local
     }

@@ -3,7 +3,7 @@ use Rattle.pif_lists.specs.Lists.{has}
 use Rattle.pif_model.specs.declared.lines.Status.TheVariants.{Ready}
 use Rattle.pif_model.specs.PiKernel.{Kernel, has_seat, is_ready, queued_on, kernel_after_waking, parkings_without}
 use Rattle.pif_model.specs.PiKernel.{seat_at as kernel_seat_at}
-use Rattle.pif_owners.specs.Owners.{Owners, seat_at}
+use Rattle.pif_owners.specs.Owners.{Owners, task_at}
 use Rattle.pif_kernel_state.specs.Chained.{Chained, KeepsLevels}
 use Rattle.pif_kernel_state.specs.Fields.{chains_of}
 use Rattle.pif_kernel_state.specs.Inside.{Inside, IsSoundInside, kernel_of}
@@ -38,7 +38,7 @@ unwrap-level-requires g c =
     let d = held g (goal.at.unwrap-level-requires g c).Start p c.self.view_is in
     c.local.ensures.given.1 (omega (
       arith,
-      ap (λ (v : Owners). (seat_at v c.args.t).local) c.unpark.ensures.owners,
+      ap (λ (v : Owners). (task_at v c.args.t).local) c.unpark.ensures.owners,
       rests_level p c.args.t d.0 d.1 d.2 d.3,
     ))
 
@@ -91,9 +91,9 @@ woken g c =
     let k : KeepsLevels (chains_of p) y = kept g a.After-unpark in
     let there : Inside = moved p y k in
     let same : kernel_of there ≡ kernel_of p = kernel_moved p y k in
-    let value : c.unwrap-level.result ≡ (seat_at p.owners c.args.t).local
+    let value : c.unwrap-level.result ≡ (task_at p.owners c.args.t).local
     = (rw c.unwrap-level.ensures at c.local.ensures.value)
-    ∙ ap (λ (v : Owners). (seat_at v c.args.t).local) c.unpark.ensures.owners in
+    ∙ ap (λ (v : Owners). (task_at v c.args.t).local) c.unpark.ensures.owners in
     let e
     = woken_ends there (record there { parked = parkings_without p.parked c.args.t }) c.args.t (sound_in_table p y k d.0)
     (ap (λ (z : Kernel). has_seat z c.args.t) same ∙ d.1)

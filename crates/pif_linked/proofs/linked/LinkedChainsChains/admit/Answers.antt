@@ -1,5 +1,5 @@
 use Rattle.std.proofs.Common.{false, subst, ◌≡◌, ◌<◌, None, length, sym, ap, ◌∙◌}
-use Rattle.pif_owners.specs.Owners.{waits_on, with_seat}
+use Rattle.pif_owners.specs.Owners.{waits_on, with_task}
 use Rattle.pif_owners.proofs.BoostFrameLemmas.{outside-none}
 use Rattle.pif_kernel_state.specs.Chained.{Chained}
 use Rattle.pif_owners.specs.States.{States}
@@ -38,4 +38,4 @@ returns c =
       keys = keys_in c.self.inside.buckets.entries c.self.inside.table;
       parked = parkings_in c.self.inside.buckets.parked c.self.inside.table;
     })
-    ∙ ap (λ (x : Chained). record x { owners = with_seat c.args.t (record { base = c.args.prio; local = c.args.prio; wait = None }) x.owners }) c.self.view_is
+    ∙ ap (λ (x : Chained). record x { owners = with_task c.args.t (record { base = c.args.prio; local = c.args.prio; wait = None }) x.owners }) c.self.view_is

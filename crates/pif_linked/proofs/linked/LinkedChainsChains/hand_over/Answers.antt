@@ -2,7 +2,7 @@ use Rattle.std.proofs.Common.{◌≡◌, ℕ, Some, None, subst, sym, ap, ◌∙
 use Rattle.pif_owners.specs.Owners.{waits_on, IsTop, with_owner, with_wait}
 use Rattle.pif_kernel_state.specs.Chained.{Chained, KeepsLevels}
 use Rattle.std.specs.FinMap.{insert}
-use Rattle.pif_owners.specs.Owners.{Owners, seat_at}
+use Rattle.pif_owners.specs.Owners.{Owners, task_at}
 use Rattle.pif_owners.specs.States.{States, owners_in}
 use Rattle.pif_owners.specs.Parked.{parked_at}
 use Rattle.pif_linked.specs.Linked.{FitsParked}
@@ -29,7 +29,7 @@ invariant_of-self c =
     (sym c.hand_over.ensures.handed)
     (fits_owned free (parked_at c.self.inside.buckets.parked c.self.inside.table) c.self.inside.buckets.parked.threads c.self.inside.next
     (fits_but v (parked_at c.self.inside.buckets.parked c.self.inside.table) c.self.inside.buckets.parked.threads c.self.inside.next c.self.invariant.parked
-    c.hand_over.result (record (seat_at v c.hand_over.result) { wait = None })
+    c.hand_over.result (record (task_at v c.hand_over.result) { wait = None })
     (waits_off c.self.inside.owners c.self.inside.queue c.self.inside.buckets c.self.inside.table c.self.inside.next c.self.invariant c.hand_over.result c.args.key waits))
     (insert free.owners c.args.key c.hand_over.result)))
 

@@ -1,5 +1,5 @@
 use Rattle.std.proofs.Common.{◌≡◌, ◌<◌, None, length, subst, sym, ap, ◌∙◌}
-use Rattle.pif_owners.specs.Owners.{waits_on, with_seat}
+use Rattle.pif_owners.specs.Owners.{waits_on, with_task}
 use Rattle.pif_kernel_state.specs.Chained.{Chained}
 use Rattle.pif_plain.proofs.chains.PlainChainsChains.admit.Goals as goal
 
@@ -19,5 +19,5 @@ returns c =
       parked = c.self.inside.rows.parked;
     })
     ∙ ap (λ (x : Chained). record x {
-      owners = with_seat c.args.t (record { base = c.args.prio; local = c.args.prio; wait = None }) x.owners;
+      owners = with_task c.args.t (record { base = c.args.prio; local = c.args.prio; wait = None }) x.owners;
     }) c.self.view_is

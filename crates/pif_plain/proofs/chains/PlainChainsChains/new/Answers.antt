@@ -2,7 +2,7 @@ use Rattle.std.proofs.Common.{◌≡◌, ℕ, ◌+◌, [], length, subst, sym, a
 use Rattle.std.proofs.lemmas.List.{length-replicate}
 use Rattle.pif_lists.specs.Table.{NodeLists, IsApart}
 use Rattle.pif_lists.specs.Levels.{Queue, HasRoom, level_of}
-use Rattle.pif_owners.specs.Owners.{Owners, no_seat}
+use Rattle.pif_owners.specs.Owners.{Owners, no_task}
 use Rattle.pif_lists.proofs.EmptyTables.{empty_table, queue_room, empty_level}
 use Rattle.pif_plain.proofs.chains.PlainChainsChains.new.Goals as goal
 
@@ -25,7 +25,7 @@ invariant_of-result c = record {
       omega (
         arith,
         ap (λ (v : Owners). length v.seats) c.in_ok-owners.ensures.made,
-        length-replicate (c.args.threads + 1) no_seat,
+        length-replicate (c.args.threads + 1) no_task,
         c.in_ok-rows.ensures.room,
       );
 }

@@ -1,30 +1,30 @@
 use Rattle.std.proofs.Common.{◌≡◌, ◌∙◌, ap, sym, unwrap_or}
-use Rattle.pif_owners.specs.Owners.{Seat, seat_at}
+use Rattle.pif_owners.specs.Owners.{Task, task_at}
 use Rattle.pif_owners.specs.States.{Row, row_at, owners_in}
-use Rattle.pif_owners.proofs.ViewLemmas.{seat_at-owners_in}
+use Rattle.pif_owners.proofs.ViewLemmas.{task_at-owners_in}
 use Rattle.pif_rtmutex.proofs.RowLemmas.{prio-given, prio-value, prio-most}
 use Rattle.pif_rtmutex.proofs.rt_mutexes.RtMutexes.base.Goals as goal
 
 pub returns-clause-given : goal.returns-clause-given
 returns-clause-given c =
     let number : unwrap_or c.result.inside.base
-    0 ≡ (seat_at (owners_in c.args.self.now c.args.table.now) c.args.t).base =
+    0 ≡ (task_at (owners_in c.args.self.now c.args.table.now) c.args.t).base =
     ap (λ (x : Row). x.base) (c.result.view_is ∙ c.row_of.ensures ∙ ap (row_at c.args.self.now) c.get.ensures.value)
-    ∙ ap (λ (x : Seat). x.base) (sym (seat_at-owners_in c.args.self.now c.args.table.now c.args.t)) in
+    ∙ ap (λ (x : Task). x.base) (sym (task_at-owners_in c.args.self.now c.args.table.now c.args.t)) in
     prio-given c.result.inside.base _ c.result.invariant.0 number
 
 pub returns-clause-value : goal.returns-clause-value
 returns-clause-value c =
     let number : unwrap_or c.result.inside.base
-    0 ≡ (seat_at (owners_in c.args.self.now c.args.table.now) c.args.t).base =
+    0 ≡ (task_at (owners_in c.args.self.now c.args.table.now) c.args.t).base =
     ap (λ (x : Row). x.base) (c.result.view_is ∙ c.row_of.ensures ∙ ap (row_at c.args.self.now) c.get.ensures.value)
-    ∙ ap (λ (x : Seat). x.base) (sym (seat_at-owners_in c.args.self.now c.args.table.now c.args.t)) in
+    ∙ ap (λ (x : Task). x.base) (sym (task_at-owners_in c.args.self.now c.args.table.now c.args.t)) in
     prio-value c.result.inside.base _ number
 
 pub returns-clause-most : goal.returns-clause-most
 returns-clause-most c =
     let number : unwrap_or c.result.inside.base
-    0 ≡ (seat_at (owners_in c.args.self.now c.args.table.now) c.args.t).base =
+    0 ≡ (task_at (owners_in c.args.self.now c.args.table.now) c.args.t).base =
     ap (λ (x : Row). x.base) (c.result.view_is ∙ c.row_of.ensures ∙ ap (row_at c.args.self.now) c.get.ensures.value)
-    ∙ ap (λ (x : Seat). x.base) (sym (seat_at-owners_in c.args.self.now c.args.table.now c.args.t)) in
+    ∙ ap (λ (x : Task). x.base) (sym (task_at-owners_in c.args.self.now c.args.table.now c.args.t)) in
     prio-most c.result.inside.base _ c.result.invariant.0 number

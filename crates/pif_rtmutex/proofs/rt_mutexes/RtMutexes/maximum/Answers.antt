@@ -1,7 +1,7 @@
 use Rattle.std.proofs.Common.{◌≡◌, ◌∙◌, ap, sym, unwrap_or, max, arith}
-use Rattle.pif_owners.specs.Owners.{Seat, seat_at}
+use Rattle.pif_owners.specs.Owners.{Task, task_at}
 use Rattle.pif_owners.specs.States.{Row, row_at, owners_in}
-use Rattle.pif_owners.proofs.ViewLemmas.{length-seats, seat_at-owners_in}
+use Rattle.pif_owners.proofs.ViewLemmas.{length-seats, task_at-owners_in}
 use Rattle.pif_rtmutex.proofs.rt_mutexes.RtMutexes.maximum.Goals as goal
 
 pub greatest_top-requires-clause-row : goal.greatest_top-requires-clause-row
@@ -10,7 +10,7 @@ greatest_top-requires-clause-row c =
 
 pub returns : goal.returns
 returns c =
-    let number : unwrap_or c.base.inside.base 0 ≡ (seat_at (owners_in c.args.self.now c.args.table.now) c.args.t).base =
+    let number : unwrap_or c.base.inside.base 0 ≡ (task_at (owners_in c.args.self.now c.args.table.now) c.args.t).base =
     ap (λ (x : Row). x.base) (c.base.view_is ∙ c.row_of.ensures ∙ ap (row_at c.args.self.now) c.get.ensures.value)
-    ∙ ap (λ (x : Seat). x.base) (sym (seat_at-owners_in c.args.self.now c.args.table.now c.args.t)) in
+    ∙ ap (λ (x : Task). x.base) (sym (task_at-owners_in c.args.self.now c.args.table.now c.args.t)) in
     c.greater.ensures ∙ (λ i. max (number i) (c.greatest_top.ensures i))

@@ -1,9 +1,9 @@
 use Rattle.std.proofs.Common.{◌≡◌, ◌∙◌, ◌≤◌, ap, sym, subst, arith}
 use Rattle.pif_lists.specs.Table.{NodeLists}
-use Rattle.pif_owners.specs.Owners.{Seat, seat_at}
+use Rattle.pif_owners.specs.Owners.{Task, task_at}
 use Rattle.pif_owners.specs.States.{Row, States, row_at, owners_in}
 use Rattle.pif_owners.specs.Holds.{HoldsStates}
-use Rattle.pif_owners.proofs.ViewLemmas.{seat_at-owners_in}
+use Rattle.pif_owners.proofs.ViewLemmas.{task_at-owners_in}
 use Rattle.pif_rtmutex.proofs.RowLemmas.{seat_of, view-row, holds-row}
 use Rattle.pif_rtmutex.proofs.rt_mutexes.RtMutexes.set_local.Goals as goal
 
@@ -16,8 +16,8 @@ returns-clause-changed c =
     ∙ ap (λ (x : Row). record x { local = c.args.prio }) (c.row_of-row.ensures
     ∙ ap (row_at m) c.get.ensures.value) in
     ap (λ (n : States). owners_in n t) c.put.ensures.row
-    ∙ view-row m t c.args.t c.with_local.result (record (seat_at (owners_in m t) c.args.t) { local = c.args.prio })
-    (ap (λ (x : Seat). record x { local = c.args.prio }) (seat_at-owners_in m t c.args.t)
+    ∙ view-row m t c.args.t c.with_local.result (record (task_at (owners_in m t) c.args.t) { local = c.args.prio })
+    (ap (λ (x : Task). record x { local = c.args.prio }) (task_at-owners_in m t c.args.t)
     ∙ ap (seat_of m t c.args.t) (sym row))
 
 pub returns-clause-holds : goal.returns-clause-holds
@@ -32,8 +32,8 @@ returns-clause-holds c =
     omega (
       arith,
       (c.requires.holds.waiters.sound.seats c.args.t).base,
-      ap (λ (x : Seat). x.base)
-          (seat_at-owners_in m t c.args.t),
+      ap (λ (x : Task). x.base)
+          (task_at-owners_in m t c.args.t),
       ap (λ (x : Row). x.base) row,
     ) in
     subst (λ (n : States). HoldsStates n t) (sym c.put.ensures.row)
