@@ -34,7 +34,11 @@ after_going more t s h = Happened (Go t) (goes_on more t s).seen ∷ went (steps
 abbrev pub most_further_steps : ℕ
 most_further_steps = 23
 
--- at most 24 times
+-- what t's open call comes to: t goes on, at most 24 times, up to the first answer that isn't Went
+abbrev pub finish_outcome : ℕ → Table → Outcome
+finish_outcome t s = goes_on most_further_steps t s
+
+-- a history with the entries more by which t went on so
 abbrev pub after_finish : ℕ → Table → List Entry → List Entry
 after_finish t s h = after_going most_further_steps t s h
 

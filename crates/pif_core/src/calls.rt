@@ -1,8 +1,8 @@
 ghost use Rattle.std.specs.Prelude.{ℕ, ◌≡◌, ◌≢◌, None};
 ghost use Rattle.pif_model.specs.declared.events.Seen.TheVariants.{Went};
 ghost use Rattle.pif_model.specs.Standing.{WhereStands};
-ghost use Rattle.pif_model.specs.Lines.{goes_on, table_refusal};
-ghost use Rattle.pif_calls.specs.Calls.{StandsOn, call_outcome, after_call, after_finish};
+ghost use Rattle.pif_model.specs.Lines.{table_refusal};
+ghost use Rattle.pif_calls.specs.Calls.{StandsOn, call_outcome, after_call, after_finish, finish_outcome};
 
 use crate::Core;
 use pif_model::{Event, Seen};
@@ -38,8 +38,8 @@ impl Core {
     /// again. `Refused` says that nothing has changed: the thread was never added (`NoSuch`), has ended (`Dead`), or
     /// has no call open (`Idle`).
     pub fn finish(&mut self, thread: Tid) -> Seen
-        ensures seen { result ≡ (goes_on 23 thread self.old).seen }
-        ensures after { self.new ≡ (goes_on 23 thread self.old).after }
+        ensures seen { result ≡ (finish_outcome thread self.old).seen }
+        ensures after { self.new ≡ (finish_outcome thread self.old).after }
         ensures ends { result ≢ Went }
         ensures stands { WhereStands self.old (λ h r w. StandsOn self.new (after_finish thread self.old h) r w) }
     {
@@ -53,8 +53,8 @@ impl Core {
     #[inline(never)]
     fn go_through(&mut self, thread: Tid) -> Seen
         requires { table_refusal self.old (Event.Go thread) ≡ None }
-        ensures seen { result ≡ (goes_on 23 thread self.old).seen }
-        ensures after { self.new ≡ (goes_on 23 thread self.old).after }
+        ensures seen { result ≡ (finish_outcome thread self.old).seen }
+        ensures after { self.new ≡ (finish_outcome thread self.old).after }
     {
         for _turn in 0..MORE_STEPS + 1 {
             match self.go_on(thread) {

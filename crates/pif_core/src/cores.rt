@@ -7,9 +7,10 @@ ghost use Rattle.pif_model.specs.Posix.{is_living as lives};
 ghost use Rattle.pif_model.specs.History.{AlwaysOneHolder};
 ghost use Rattle.pif_model.specs.Standing.{Stands, HasEffective, IsPick, IsPossible, IsPossibleHealth, IsPossibleUses, ArePossible, WhereStands};
 ghost use Rattle.pif_model.specs.Table.{new_table, line_at, cell_at, has_thread, has_mutex, has_cond};
-ghost use Rattle.pif_model.specs.Lines.{table_refusal, accepted_outcome, event_outcome, go_outcome, is_open, goes_on, ClosesOrWaits};
+ghost use Rattle.pif_model.specs.Lines.{table_refusal, accepted_outcome, event_outcome, go_outcome, is_open, ClosesOrWaits};
 ghost use Rattle.pif_model.specs.Calls.{add_thread_answer, add_thread_after, add_mutex_answer, add_mutex_after, add_cond_answer, add_cond_after, effective_answer, word_answer, health_answer, cond_word_answer, pick_answer, threads_answer, waiting_answer};
 ghost use Rattle.pif_mutex.specs.Outcomes.{outcome_of};
+ghost use Rattle.pif_calls.specs.Calls.{finish_outcome};
 
 use pif_linked::LinkedKernel;
 use pif_model::{Entry, Event, Line, Place, Seen, Status};
@@ -120,7 +121,7 @@ impl Core {
         ensures legal { WhereStands self.old (λ h r w. IsLegal self.new.limits (Entry.Step event result ∷ h)) }
         ensures holders { WhereStands self.old (λ h r w. AlwaysOneHolder (Entry.Step event result ∷ h)) }
         ensures ends { (t : ℕ) → is_living self.new.kernel t ≡ true → is_open (line_at self.new t) ≡ true
-            → ClosesOrWaits (goes_on 23 t self.new).seen }
+            → ClosesOrWaits (finish_outcome t self.new).seen }
     {
         self.turn(event)
     }

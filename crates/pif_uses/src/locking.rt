@@ -4,8 +4,7 @@ ghost use Rattle.pif_model.specs.declared.events.Seen.TheVariants.{Answered};
 ghost use Rattle.pif_model.specs.Posix.{mutex_at};
 ghost use Rattle.pif_model.specs.History.{hold_count, open_call};
 ghost use Rattle.pif_model.specs.Standing.{WhereStands};
-ghost use Rattle.pif_model.specs.Lines.{goes_on};
-ghost use Rattle.pif_calls.specs.Calls.{StandsOn, call_outcome, after_call, after_finish};
+ghost use Rattle.pif_calls.specs.Calls.{StandsOn, call_outcome, after_call, after_finish, finish_outcome};
 ghost use Rattle.pif_uses.specs.declared.locking.Held.TheVariants.{InOrder};
 ghost use Rattle.pif_uses.specs.Holding.{CountsOn, HoldsOn, IsFineIn, lock_finds, locked_by, if_died, if_taken, after_lock, repaired_by, unlocked_by};
 
@@ -56,8 +55,8 @@ pub fn lock_and_hold(core: &mut Core, thread: Tid, mutex: MutexId) -> Result<Hel
 /// (110) if its deadline was reached. After `Waits` it stays open, and this is called again once others have had
 /// their turns.
 pub fn finish_lock(core: &mut Core, thread: Tid, mutex: MutexId) -> Result<Held, Seen>
-    ensures answer { result ≡ locked_by (goes_on 23 thread core.old).seen }
-    ensures after { core.new ≡ (goes_on 23 thread core.old).after }
+    ensures answer { result ≡ locked_by (finish_outcome thread core.old).seen }
+    ensures after { core.new ≡ (finish_outcome thread core.old).after }
     ensures stands { WhereStands core.old (λ h r w. StandsOn core.new (after_finish thread core.old h) r w) }
     ensures holds { IfOk result (λ x. WhereStands core.old (λ h r w. open_call thread h ≡ Some (Lock mutex)
         → HoldsOn thread mutex (hold_count thread mutex h + 1) core.new (after_finish thread core.old h) r w)) }

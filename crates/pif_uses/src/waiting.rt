@@ -2,8 +2,7 @@ ghost use Rattle.std.specs.Prelude.{ℕ, ◌≡◌, ◌+◌, true, false, Some};
 ghost use Rattle.pif_types.specs.declared.requests.Request.TheVariants.{Wait};
 ghost use Rattle.pif_model.specs.History.{hold_count, open_call};
 ghost use Rattle.pif_model.specs.Standing.{WhereStands};
-ghost use Rattle.pif_model.specs.Lines.{goes_on};
-ghost use Rattle.pif_calls.specs.Calls.{StandsOn, call_outcome, after_call, after_finish};
+ghost use Rattle.pif_calls.specs.Calls.{StandsOn, call_outcome, after_call, after_finish, finish_outcome};
 ghost use Rattle.pif_uses.specs.Holding.{HoldsOn};
 ghost use Rattle.pif_uses.specs.declared.waiting.Awaited.TheVariants.{Met};
 ghost use Rattle.pif_uses.specs.Waiting.{awaited_by, if_resumed, if_waited, resumed_by};
@@ -53,13 +52,13 @@ pub fn resume_wait(
     mutex: MutexId,
     is_met: bool,
 ) -> Awaited
-    ensures answer { result ≡ resumed_by is_met (goes_on 23 thread core.old).seen
-        (call_outcome thread (Wait cond mutex) (goes_on 23 thread core.old).after).seen }
-    ensures after { core.new ≡ if_resumed is_met (goes_on 23 thread core.old).seen (goes_on 23 thread core.old).after
-        (call_outcome thread (Wait cond mutex) (goes_on 23 thread core.old).after).after }
+    ensures answer { result ≡ resumed_by is_met (finish_outcome thread core.old).seen
+        (call_outcome thread (Wait cond mutex) (finish_outcome thread core.old).after).seen }
+    ensures after { core.new ≡ if_resumed is_met (finish_outcome thread core.old).seen (finish_outcome thread core.old).after
+        (call_outcome thread (Wait cond mutex) (finish_outcome thread core.old).after).after }
     ensures stands { WhereStands core.old (λ h r w.
-        StandsOn core.new (if_resumed is_met (goes_on 23 thread core.old).seen (after_finish thread core.old h)
-        (after_call thread (Wait cond mutex) (goes_on 23 thread core.old).after (after_finish thread core.old h))) r w) }
+        StandsOn core.new (if_resumed is_met (finish_outcome thread core.old).seen (after_finish thread core.old h)
+        (after_call thread (Wait cond mutex) (finish_outcome thread core.old).after (after_finish thread core.old h))) r w) }
     ensures holds { result ≡ Met → (is_met ≡ true) × WhereStands core.old (λ h r w. (n : ℕ)
         → open_call thread h ≡ Some (Wait cond mutex) → hold_count thread mutex h ≡ n + 1
         → HoldsOn thread mutex (n + 1) core.new (after_finish thread core.old h) r w) }
