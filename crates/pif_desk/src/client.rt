@@ -36,6 +36,13 @@ impl Client {
         }
     }
 
+    /// The thread for which this client acts.
+    pub fn thread(&self) -> Tid
+        ensures { result ≡ self.now.thread }
+    {
+        self.t
+    }
+
     /// Whether this client has this thread.
     pub(crate) fn has(&self, thread: &Tid) -> bool
         ensures { result ≡ (self.now.thread == thread.now) }

@@ -1,5 +1,5 @@
 //! A room behind a lock, which real threads share.
-ghost use Rattle.std.specs.Prelude.{◌≡◌, IfOk, IfErr};
+ghost use Rattle.std.specs.Prelude.{◌≡◌, ◌≤◌, IfOk, IfErr};
 ghost use Rattle.pif_model.specs.Posix.{IsLegal};
 ghost use Rattle.pif_desk.specs.Logs.{no_calls};
 ghost use Rattle.pif_desk.specs.Rooms.{history_of, IsTickFault, StandsAfter};
@@ -99,6 +99,43 @@ impl<P: Pause + Drop> Desk<P> {
             Ok(_) => unreachable!(),
             Err(NoMemory) => Err(DeskFault::NoMemory),
         }
+    }
+
+    /// What a client does after each of its events.
+    pub fn pause(&self) -> &P
+        ensures { result.now ≡ self.now.pause }
+    {
+        &self.pause
+    }
+
+    /// How many entries the journal has.
+    pub fn entries<R: Wait>(&self, rt: &R) -> usize {
+        self.shared.lock(rt).room.entries()
+    }
+
+    /// How many entries more the journal has room for. Where that is none, the next event or addition asks for memory.
+    pub fn spare_entries<R: Wait>(&self, rt: &R) -> usize {
+        self.shared.lock(rt).room.spare_entries()
+    }
+
+    /// How many entries more, at least, a full journal asks memory for from now on: 1 or more, and 1 at a new desk. Core
+    /// and journal stay what they are, and no memory is taken yet. With a larger number the journal grows more rarely,
+    /// by larger pieces; with `usize::MAX` each growth is refused, as `Room::set_growth` says.
+    pub fn set_growth<R: Wait>(&self, rt: &R, growth: usize)
+        requires { 1 ≤ growth }
+    {
+        self.shared.lock(rt).room.set_growth(growth);
+    }
+
+    /// Whether the client of this thread sleeps, or is about to. The event after which its thread rests no longer wakes
+    /// it.
+    pub fn sleeps<R: Wait>(&self, rt: &R, t: Tid) -> bool {
+        self.shared.lock(rt).sleepers.has(t)
+    }
+
+    /// How often events have woken the client of this thread. `None` where the limits allow no thread of that number.
+    pub fn rings(&self, t: Tid) -> Option<u64> {
+        Some(self.bells.of(t)?.notifications())
     }
 
     /// Sleeps while a thread rests.

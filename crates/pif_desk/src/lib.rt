@@ -46,6 +46,3 @@ pub use faults::DeskFault;
 pub use log::Act;
 pub use pif_core::{Entry, Event, Seen};
 pub use room::Room;
-
-#[cfg(test)]
-mod tests;

@@ -258,10 +258,16 @@ impl Room {
         self.core.waiting(t).unwrap_or(false)
     }
 
-    /// How many entries more there shall be room for once the journal is full. No list has room for `usize::MAX`, so
-    /// that a test can have its growth refused.
-    #[cfg(test)]
-    pub(crate) fn set_growth(&mut self, growth: usize)
+    /// How many entries more the journal has room for.
+    pub(crate) fn spare_entries(&self) -> usize {
+        self.journal.capacity().wrapping_sub(self.journal.len())
+    }
+
+    /// How many entries more, at least, a full journal asks memory for from now on: 1 or more, and 1 in a new room. Core
+    /// and journal stay what they are, and no memory is taken yet. With a larger number the journal grows more rarely,
+    /// by larger pieces. No list has room for `usize::MAX`: each growth is refused then, so that it can be tried what a
+    /// caller does without memory.
+    pub fn set_growth(&mut self, growth: usize)
         requires { 1 ≤ growth }
         ensures { self.new ≡ self.old }
     {

@@ -88,6 +88,13 @@ impl Sleepers {
         Ok(Sleepers { threads })
     }
 
+    /// Whether a client of this thread is to sleep.
+    pub(crate) fn has(&self, t: Tid) -> bool
+        ensures { result ≡ is_among self.now t }
+    {
+        is_among(self.threads.as_slice(), t)
+    }
+
     /// A client of this thread is to sleep.
     pub(crate) fn add(&mut self, t: Tid)
         requires { t ≤ 1024 }

@@ -1,14 +1,12 @@
 -- Passes that hold nothing.
-use Rattle.std.proofs.Common.{◌≡◌, ℕ, zero, suc, ◌<◌, List, [], ◌∷◌, length, get_or, Option, Some, None, sym, refl, ap, ◌∙◌, subst, arith, slice_get}
+use Rattle.std.proofs.Common.{◌≡◌, ℕ, zero, suc, ◌<◌, List, [], ◌∷◌, length, get_or, Option, Some, None, refl, ap, ◌∙◌, arith, slice_get}
 use mathlib.Core.Logic.{dite}
 use native.Mathlib.Decide.{dec_le}
 use Rattle.std.proofs.lemmas.List.{get_or_past}
 use Rattle.pif_quick.specs.declared.rule.Record.{Record}
-use Rattle.pif_quick.specs.declared.quick.Quick.{Quick}
 use Rattle.pif_quick.specs.declared.quick.Pass.{Pass}
-use Rattle.pif_quick.specs.declared.quick.Held.{Held}
 use Rattle.pif_quick.specs.Turns.{fresh}
-use Rattle.pif_quick.specs.Quick.{records, held_word, spread, IsDealtPass, IsIdle, IsTurnOf, IsUnchanged, IsFresh}
+use Rattle.pif_quick.specs.Quick.{records, spread, IsDealtPass, IsIdle, IsFresh}
 use Rattle.atomic_table.specs.Seated.{TableId}
 use Rattle.pif_quick.proofs.Opening.{dealt_fresh}
 
@@ -25,21 +23,8 @@ module _ {T : Type 0} where
       (λ inside. let x = value_at values m (let e = f.0 in omega arith) in
       ap (λ (r : Record T). r.found) (f.1 m x.0 x.1))
 
-  -- a pass whose records are as they were holds nothing if it did
-  pub unchanged_idle : (p p' : Pass T) → IsUnchanged p p' → IsIdle p → IsIdle p'
-  unchanged_idle p p' u i m = ap (λ (l : List (Record T)). (get_or l m (fresh None)).found) u.1 ∙ i m
-
   -- a pass as it was dealt holds nothing
   pub dealt_idle : (starts : List (Option T)) (z : TableId) (count number : ℕ) (p : Pass T) (values : List T)
       → IsDealtPass starts z count number p → starts ≡ spread values → count ≡ length values → IsIdle p
   dealt_idle starts z count number p values d e c =
       fresh_idle values p (dealt_fresh starts z count number p values d e c)
-
-  -- what is held stays the open turn where nothing changed
-  pub same_turn : (q : Quick T) (p p' : Pass T) (h h' : Held T) → h' ≡ h → IsUnchanged p p' → IsTurnOf q p h
-      → IsTurnOf q p' h'
-  same_turn q p p' h h' e u t = subst (λ (k : Held T). IsTurnOf q p' k) (sym e) (
-    t.0,
-    t.1 ∙ sym u.0,
-    (t.2.0, ap (λ (l : List (Record T)). (get_or l (held_word h) (fresh None)).found) u.1 ∙ t.2.1),
-  )

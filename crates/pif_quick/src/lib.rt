@@ -37,6 +37,3 @@ mod rule;
 
 pub use laws::no_word_has_two_holders;
 pub use quick::{Held, Pass, Quick};
-
-#[cfg(test)]
-mod tests;

@@ -72,9 +72,9 @@ impl<T: Drop> Quick<T> {
         self.give_back(rt, place, SPACING * word, holder, value);
     }
 
-    /// Whether the pass with this number stands in the order of those that wait.
-    #[cfg(test)]
-    pub(crate) fn is_parked<R: Wait>(&self, rt: &R, number: u8) -> bool {
+    /// Whether the pass with this number stands in the order of those that wait. It does from when it is to sleep until
+    /// a word is handed to it.
+    pub fn is_parked<R: Wait>(&self, rt: &R, number: u8) -> bool {
         self.order.lock(rt).has(number)
     }
 

@@ -1,0 +1,9 @@
+//! What no clause says: that calls of real threads overlap, that clients sleep and are woken, what refused memory leaves,
+//! and that rooms settle with the clients that were there, and with no others.
+mod memory;
+mod receipts;
+mod scenes;
+mod sleepers;
+mod stress;
+mod threads;
+mod ticks;

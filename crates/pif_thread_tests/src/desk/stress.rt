@@ -1,0 +1,290 @@
+//! Eight real threads on three robust mutexes and a condition variable, one that wakes them, and then calls that end at
+//! each of their steps.
+use super::scenes::{enter, settled};
+use pif_desk::{Act, Client, Desk, DeskFault, Pause, Room, Seen};
+use pif_types::{CondId, Kind, Limits, MutexId, Request, Tid};
+use std::alloc::{AllocError, Global};
+use std::process::Abort;
+use std::sync::Wait;
+use std::sync::atomic::{AtomicU32, Ordering};
+use std::test::Fail;
+use std::thread;
+use std::thread::Threads;
+
+/// How many clients run in threads of their own.
+const THREADS: u32 = 8;
+
+/// How many calls each of them makes.
+const CALLS: u32 = 200;
+
+/// The most steps after which a client ends inside a call.
+const MOST_STEPS: u32 = 18;
+
+/// How many clients end so, in a lock after 0 steps and more, and then in a wait.
+const ENDINGS: u32 = 38;
+
+/// Room for all of them, for three mutexes and a condition variable.
+fn limits() -> Result<Limits, Fail> {
+    Ok(Limits::new(64, 3, 1, u32::MAX).ok_or("limits")?)
+}
+
+/// Counts the threads that have ended.
+#[derive(Drop)]
+struct Ends {
+    count: AtomicU32,
+}
+
+impl Ends {
+    /// No thread has ended.
+    fn new() -> Ends {
+        Ends {
+            count: AtomicU32::new(0),
+        }
+    }
+
+    /// Whether all threads that make calls by chance have ended.
+    fn have_all_ended(&self) -> bool {
+        self.count.load(Ordering::SeqCst) >= THREADS
+    }
+}
+
+impl Pause for Ends {
+    fn after(&self, _t: Tid, seen: Seen) {
+        if let Seen::Ended = seen {
+            self.count.fetch_add(1, Ordering::SeqCst);
+        }
+    }
+}
+
+/// The next number of a row that looks like chance.
+fn next(seed: u64) -> u64 {
+    seed.wrapping_mul(6_364_136_223_846_793_005)
+        .wrapping_add(1_442_695_040_888_963_407)
+}
+
+/// The condition variable.
+fn cond() -> CondId {
+    CondId::new(1).unwrap()
+}
+
+/// One of the mutexes 1 to 3.
+fn mutex_of(seed: u64) -> MutexId {
+    match MutexId::new(1 + ((seed >> 33) % 3) as u32) {
+        Some(mutex) => mutex,
+        None => MutexId::default(),
+    }
+}
+
+/// The request that a number stands for.
+fn request_of(seed: u64) -> Request {
+    let mutex = mutex_of(seed);
+    match (seed >> 50) % 8 {
+        0 | 1 => Request::Lock(mutex),
+        2 => Request::Wait(cond(), mutex),
+        3 => Request::TryLock(mutex),
+        4 => Request::Consistent(mutex),
+        _ => Request::Unlock(mutex),
+    }
+}
+
+/// A client that has made its calls, and how many were answered; or the fault that it met.
+#[derive(Drop)]
+struct Done {
+    client: Client,
+    answered: u64,
+    fault: Option<DeskFault>,
+}
+
+/// Gives up each mutex that the client holds: how many calls that took.
+fn give_up_all<R: Wait>(
+    rt: &R,
+    desk: &Desk<Ends>,
+    client: &mut Client,
+    answered: &mut u64,
+) -> Result<(), DeskFault> {
+    for number in 0..3u64 {
+        for _ in 0..300 {
+            let receipt = client.call(rt, desk, Request::Unlock(mutex_of(number << 33)))?;
+            *answered = answered.wrapping_add(1);
+            if receipt.answer != 0 {
+                break;
+            }
+        }
+    }
+    Ok(())
+}
+
+/// Makes calls by chance, and gives up all that the client holds, where its number is odd.
+fn make_calls<R: Wait>(
+    rt: &R,
+    desk: &Desk<Ends>,
+    client: &mut Client,
+    answered: &mut u64,
+) -> Result<(), DeskFault> {
+    let number = client.thread().get();
+    let mut seed = u64::from(number);
+    for _ in 0..CALLS {
+        seed = next(seed);
+        client.call(rt, desk, request_of(seed))?;
+        *answered = answered.wrapping_add(1);
+    }
+    if number % 2 == 1 {
+        give_up_all(rt, desk, client, answered)?;
+    }
+    Ok(())
+}
+
+/// Broadcasts until all others are done, so that no wait stays open.
+fn wake_others<R: Wait>(
+    rt: &R,
+    desk: &Desk<Ends>,
+    client: &mut Client,
+    answered: &mut u64,
+) -> Result<(), DeskFault> {
+    for _ in rt.forever() {
+        if desk.pause().have_all_ended() {
+            break;
+        }
+        client.call(rt, desk, Request::Broadcast(cond()))?;
+        *answered = answered.wrapping_add(1);
+    }
+    Ok(())
+}
+
+/// A client's calls, after which it quits: an even one of those that make them by chance with what it holds.
+fn run<R: Wait>(
+    rt: &R,
+    desk: &Desk<Ends>,
+    client: &mut Client,
+    answered: &mut u64,
+) -> Result<(), DeskFault> {
+    let made = if client.thread().get() > THREADS {
+        wake_others(rt, desk, client, answered)
+    } else {
+        make_calls(rt, desk, client, answered)
+    };
+    client.quit(rt, desk)?;
+    made
+}
+
+/// A client's part.
+fn run_one<R: Wait>(rt: &R, desk: &Desk<Ends>, client: Client) -> Done {
+    let mut client = client;
+    let mut answered = 0;
+    let fault = run(rt, desk, &mut client, &mut answered).err();
+    Done {
+        client,
+        answered,
+        fault,
+    }
+}
+
+/// Each client runs in a thread of its own.
+fn run_all<R: Threads + Wait + Sync>(
+    rt: &R,
+    desk: &Desk<Ends>,
+    clients: Vec<Client>,
+) -> Result<Vec<Done>, AllocError> {
+    thread::map_vec(rt, clients, &|client| run_one(rt, desk, client))
+}
+
+/// The clients again, and how many calls were answered, which no fault has cut short.
+fn gather(rt: &impl Abort, clients: &mut Vec<Client>, done: Vec<Done>) -> Result<u64, Fail> {
+    let mut answered = 0u64;
+    for one in done {
+        assert_eq!(rt; one.fault, None);
+        answered = answered.wrapping_add(one.answered);
+        clients.push(one.client)?;
+    }
+    Ok(answered)
+}
+
+/// A client begins a call and takes so many steps of it. Answers how many calls were answered.
+fn play(room: &mut Room, client: &mut Client, request: Request, steps: u32) -> Result<u64, Fail> {
+    let mut answered = 0u64;
+    room.play(client, Act::Begin(request))?;
+    for _ in 0..steps {
+        if let Seen::Answered(_) = room.play(client, Act::Go)? {
+            answered = answered.wrapping_add(1);
+        }
+    }
+    Ok(answered)
+}
+
+/// A client takes mutex 1 if it is to wait, takes so many steps of a lock or a wait, and ends.
+fn end_at(room: &mut Room, client: &mut Client, waits: bool, steps: u32) -> Result<u64, Fail> {
+    let mutex = MutexId::default();
+    let mut answered = 0u64;
+    if waits {
+        answered = play(room, client, Request::Lock(mutex), 24)?;
+    }
+    let request = if waits {
+        Request::Wait(cond(), mutex)
+    } else {
+        Request::Lock(mutex)
+    };
+    answered = answered.wrapping_add(play(room, client, request, steps)?);
+    room.play(client, Act::End)?;
+    Ok(answered)
+}
+
+/// Each of these clients ends one step later in its call than the one before: the first in a lock, the others in a wait.
+fn end_all(room: &mut Room, clients: &mut Vec<Client>) -> Result<u64, Fail> {
+    let mut answered = 0u64;
+    let mut waits = false;
+    let mut steps = 0;
+    for client in clients.iter_mut() {
+        answered = answered.wrapping_add(end_at(room, client, waits, steps)?);
+        if steps < MOST_STEPS {
+            steps += 1;
+        } else {
+            waits = true;
+            steps = 0;
+        }
+    }
+    Ok(answered)
+}
+
+/// The three mutexes, and a condition variable for the first.
+fn make_mutexes(rt: &impl Wait, desk: &Desk<Ends>) -> Result<(), DeskFault> {
+    for kind in [Kind::ErrorCheck, Kind::Recursive, Kind::ErrorCheck] {
+        let _mutex = desk.make_mutex(rt, kind, true)?;
+    }
+    let _cond = desk.make_cond(rt, MutexId::default())?;
+    Ok(())
+}
+
+/// All threads run: their clients, behind others that have made no call, and how many calls were answered.
+fn run_threads<R: Threads + Wait + Abort + Sync>(
+    rt: &R,
+    alloc: Global,
+    desk: &Desk<Ends>,
+    clients: &mut Vec<Client>,
+) -> Result<u64, Fail> {
+    let mut runners = Vec::new(alloc);
+    make_mutexes(rt, desk)?;
+    enter(rt, desk, THREADS + 1, &mut runners)?;
+    enter(rt, desk, ENDINGS, clients)?;
+    let done = run_all(rt, desk, runners)?;
+    gather(rt, clients, done)
+}
+
+#[test]
+fn eight_threads_settle(rt: HostRuntime) -> Result<(), Fail> {
+    let desk = Desk::new(rt.alloc(), limits()?, Ends::new())?;
+    run_desk(&rt, rt.alloc(), desk)
+}
+
+/// The threads run at this desk. Then each client ends inside a call, if it has not ended, and all settle.
+fn run_desk<R: Threads + Wait + Abort + Sync>(
+    rt: &R,
+    alloc: Global,
+    desk: Desk<Ends>,
+) -> Result<(), Fail> {
+    let mut clients = Vec::new(alloc);
+    let answered = run_threads(rt, alloc, &desk, &mut clients)?;
+    let mut room = desk.into_room();
+    let ended = end_all(&mut room, &mut clients)?;
+    assert_eq!(rt; settled(room, clients), Ok(answered.wrapping_add(ended)));
+    Ok(())
+}

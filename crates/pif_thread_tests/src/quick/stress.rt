@@ -1,0 +1,193 @@
+//! Many turns of many passes: no addition is lost.
+ghost use Rattle.std.specs.Prelude.{◌≡◌, ◌<◌, ◌≤◌, All, IfOk};
+ghost use Rattle.pif_quick.specs.Quick.{word_count, held_word, IsPassOf, IsIdle, IsIdleBut, IsTurnOf};
+
+use pif_quick::{Held, Pass, Quick};
+use std::alloc::{AllocError, Global};
+use std::process::Abort;
+use std::sync::Wait;
+use std::test::Fail;
+use std::thread;
+use std::thread::Threads;
+
+/// How many words there are.
+const WORDS: usize = 4;
+
+/// How many turns each pass takes.
+const TURNS: u32 = 100_000;
+
+/// What a thread is to do next: a word, what to add to its value, and by which calls.
+#[derive(Clone, Copy)]
+struct Turn {
+    word: usize,
+    by: u64,
+    tries: bool,
+    quiet: bool,
+    ghost inside: { word < 4 },
+}
+
+/// The next number of a row that looks like chance.
+fn next(seed: u64) -> u64 {
+    seed.wrapping_mul(6_364_136_223_846_793_005)
+        .wrapping_add(1_442_695_040_888_963_407)
+}
+
+/// The turn that a number stands for.
+fn turn_of(seed: u64) -> Turn {
+    Turn {
+        word: ((seed >> 33) % 4) as usize,
+        by: 1 + (seed >> 40) % 3,
+        tries: (seed >> 50) % 2 == 0,
+        quiet: (seed >> 51) % 2 == 0,
+    }
+}
+
+/// Locks the word of a turn, by a try first where that is asked.
+fn lock_by<R: Wait>(rt: &R, quick: &Quick<u64>, pass: &mut Pass<u64>, turn: Turn) -> Held<u64>
+    requires own { IsPassOf quick.now pass.old × IsIdle pass.old × (turn.word < word_count quick.now) }
+    ensures own { IsPassOf quick.now pass.new }
+    ensures held { IsTurnOf quick.now pass.new result × (held_word result ≡ turn.word) × IsIdleBut turn.word pass.new }
+{
+    if turn.tries
+        && let Some(held) = quick.try_lock(pass, turn.word)
+    {
+        return held;
+    }
+    quick.lock(rt, pass, turn.word)
+}
+
+/// Unlocks what is held, quietly first where that is asked.
+fn unlock_by<R: Wait>(rt: &R, quick: &Quick<u64>, pass: &mut Pass<u64>, held: Held<u64>, turn: Turn)
+    requires own { IsPassOf quick.now pass.old }
+    requires held { IsTurnOf quick.now pass.old held × (held_word held ≡ turn.word) × IsIdleBut turn.word pass.old }
+    ensures { IsPassOf quick.now pass.new × IsIdle pass.new }
+{
+    if !turn.quiet {
+        quick.unlock(rt, pass, held);
+        return;
+    }
+    if let Err(held) = quick.unlock_quiet(pass, held) {
+        quick.unlock(rt, pass, held);
+    }
+}
+
+/// Takes a turn: reads the value, adds, and writes it.
+fn take_turn<R: Wait>(rt: &R, quick: &Quick<u64>, pass: &mut Pass<u64>, turn: Turn)
+    requires { IsPassOf quick.now pass.old × IsIdle pass.old × (turn.word < word_count quick.now) }
+    ensures { IsPassOf quick.now pass.new × IsIdle pass.new }
+{
+    let mut held = lock_by(rt, quick, pass, turn);
+    let value = held.value_mut();
+    *value = value.wrapping_add(turn.by);
+    unlock_by(rt, quick, pass, held, turn);
+}
+
+/// Takes so many turns by chance. Answers what was added to each word.
+fn take_turns<R: Wait>(rt: &R, quick: &Quick<u64>, pass: &mut Pass<u64>) -> [u64; WORDS]
+    requires { IsPassOf quick.now pass.old × IsIdle pass.old × (4 ≤ word_count quick.now) }
+    ensures { IsPassOf quick.now pass.new × IsIdle pass.new }
+{
+    let mut sums = [0u64; WORDS];
+    let mut seed = u64::from(pass.number());
+    for _ in 0..TURNS {
+        seed = next(seed);
+        let turn = turn_of(seed);
+        take_turn(rt, quick, pass, turn);
+        sums[turn.word] = sums[turn.word].wrapping_add(turn.by);
+    }
+    sums
+}
+
+/// A pass that has taken its turns, and what it added to each word.
+#[derive(Drop)]
+struct Done {
+    pass: Pass<u64>,
+    sums: [u64; WORDS],
+}
+
+/// Each pass takes its turns in a thread of its own.
+fn run<R: Threads + Wait + Sync>(
+    rt: &R,
+    quick: &Quick<u64>,
+    passes: Vec<Pass<u64>>,
+) -> Result<Vec<Done>, AllocError>
+    requires { All (λ p. IsPassOf quick.now p × IsIdle p) passes.items × (4 ≤ word_count quick.now) }
+    ensures { IfOk result (λ done. All (λ d. IsPassOf quick.now d.pass × IsIdle d.pass) done.items) }
+{
+    thread::map_vec(
+        rt,
+        passes,
+        &|pass| -> Done
+            requires { IsPassOf quick.now pass × IsIdle pass × (4 ≤ word_count quick.now) }
+            ensures { IsPassOf quick.entry.now result.pass × IsIdle result.pass }
+        {
+            let mut pass = pass;
+            let sums = take_turns(rt, quick, &mut pass);
+            Done { pass, sums }
+        },
+    )
+}
+
+/// One pass meets each of the others.
+fn meet_all(quick: &Quick<u64>, one: &mut Pass<u64>, others: &mut Vec<Pass<u64>>)
+    requires one { IsPassOf quick.now one.old × IsIdle one.old }
+    requires others { All (λ p. IsPassOf quick.now p × IsIdle p) others.old.items }
+    ensures one { IsPassOf quick.now one.new × IsIdle one.new }
+    ensures others { All (λ p. IsPassOf quick.now p × IsIdle p) others.new.items }
+{
+    for k in 0..others.len() {
+        quick.meet(one, &mut others[k]);
+    }
+}
+
+/// Adds the sums of one pass to those of all.
+fn add(totals: &mut [u64; WORDS], sums: &[u64; WORDS]) {
+    for m in 0..WORDS {
+        totals[m] = totals[m].wrapping_add(sums[m]);
+    }
+}
+
+/// All passes meet in pairs, and each word then has what they added to it together.
+fn settle(
+    rt: &impl Abort,
+    alloc: Global,
+    quick: &Quick<u64>,
+    done: Vec<Done>,
+) -> Result<(), AllocError>
+    requires { All (λ d. IsPassOf quick.now d.pass × IsIdle d.pass) done.items × (4 ≤ word_count quick.now) }
+{
+    let mut done = done;
+    let mut totals = [0u64; WORDS];
+    let mut met = Vec::new(alloc);
+    while let Some(one) = done.pop() {
+        let Done { mut pass, sums } = one;
+        meet_all(quick, &mut pass, &mut met);
+        add(&mut totals, &sums);
+        met.push(pass)?;
+    }
+    if let Some(mut pass) = met.pop() {
+        check_values(rt, quick, &mut pass, &totals);
+    }
+    Ok(())
+}
+
+/// Each word is free, and has this value.
+fn check_values(rt: &impl Abort, quick: &Quick<u64>, pass: &mut Pass<u64>, values: &[u64; WORDS])
+    requires { IsPassOf quick.now pass.old × (4 ≤ word_count quick.now) }
+{
+    for m in 0..WORDS {
+        match quick.try_lock(pass, m) {
+            Some(held) => assert_eq!(rt; *held.value(), values[m], "of the word {m}"),
+            None => panic!(rt; "the word {m} is not free"),
+        }
+    }
+}
+
+#[test]
+fn no_addition_is_lost(rt: HostRuntime) -> Result<(), Fail> {
+    let values = [0; WORDS].to_vec(rt.alloc())?;
+    let (quick, passes) = Quick::open(rt.alloc(), values, 8)?;
+    let done = run(&rt, &quick, passes)?;
+    settle(&rt, rt.alloc(), &quick, done)?;
+    Ok(())
+}
