@@ -183,3 +183,94 @@ fn a_script_is_too_large_at_any_byte_of_a_read(rt: HostRuntime) {
         check_size(&rt, rt.alloc(), b"go t12\n", 15, 3_355_441, each);
     }
 }
+
+/// A line that each script refuses, of 62 bytes.
+const REFUSED: &[u8] = b"call t4294967295 timedwait c4294967295 m4294967295 4294967295\n";
+
+/// Gives a first line, and then a line of 62 bytes over and over: so many bytes in the first read, and then as many as
+/// are asked for.
+#[derive(Drop)]
+struct Shifted<'a> {
+    text: &'a [u8],
+    front: usize,
+    start: usize,
+    given: usize,
+}
+
+impl Read for Shifted<'_> {
+    fn read(&mut self, buf: &mut [u8]) -> io::Result<usize> {
+        let at = match self.given.checked_sub(self.front) {
+            Some(behind) => self.front.saturating_add(behind % 62),
+            None => self.given,
+        };
+        let rest = &self.text[at.min(self.text.len())..];
+        let most = if self.given == 0 {
+            self.start
+        } else {
+            buf.len()
+        };
+        let count = buf.len().min(most).min(rest.len());
+        buf[..count].copy_from_slice(&rest[..count]);
+        self.given = self.given.saturating_add(count);
+        Ok(count)
+    }
+}
+
+/// Has a script run whose first read gives so many bytes, and checks that it is too large, in which line, and that no
+/// more was read than the chunk that has the first byte behind the limit of 16,777,216.
+fn check_shifted(rt: &impl Abort, alloc: Global, first: &[u8], start: usize, line: u64, end: &str) {
+    let mut text = Kept::new();
+    text.append(first);
+    text.append_times(REFUSED, 68);
+    let mut input = Shifted {
+        text: text.text(),
+        front: first.len(),
+        start,
+        given: 0,
+    };
+    let mut output = Tail::new();
+    let ended = run(alloc, &mut input, &mut output);
+    assert_eq!(rt;
+        ended,
+        Err(CliFault::Script(line, Cause::Size)),
+        "{start} bytes first"
+    );
+    assert_eq!(rt;
+        input.given,
+        start.saturating_add(16_777_216),
+        "{start} bytes first"
+    );
+    let refused = line.saturating_sub(2).saturating_mul(15);
+    output.check(rt, refused.saturating_add(21), end);
+}
+
+/// The first byte behind the limit is each of the last twelve of a chunk, the first, the second and the twelfth of one.
+/// It stands five bytes before the end of a line, which is in the chunk or behind it, or ends a line, or begins one.
+#[test]
+fn a_script_is_too_large_wherever_a_chunk_ends(rt: HostRuntime) {
+    let scripts = [
+        (
+            b"limits 1 0 0 10000000\n".as_slice(),
+            [1, 2, 3, 4, 5, 6, 7, 8, 9, 10, 11, 12, 4085, 4095, 4096].as_slice(),
+            270_601,
+            "osuch\nfault 270601 size\n",
+        ),
+        (
+            b"limits 1 0 0 100\n",
+            &[1, 2, 12, 4085, 4095, 4096],
+            270_601,
+            "osuch\nfault 270601 size\n",
+        ),
+        (
+            b"limits 1 0 0 10\n",
+            &[1, 2, 12],
+            270_602,
+            "osuch\nfault 270602 size\n",
+        ),
+    ];
+    for (first, starts, line, end) in scripts {
+        for start in starts {
+            check_shifted(&rt, rt.alloc(), first, *start, line, end);
+        }
+    }
+}
