@@ -3,12 +3,13 @@
 run, a run that is shown, a replay, a trace, help, a wrong word and two clients in real threads. Each time the status must
 be 4, with nothing on standard output and one line on standard error, or, of the clients, 6 with `fault threads`; or all
 must be as with no refusal, since the standard library asks again for some. And the same of the test `desk_keeps_receipts`
-of pif_cli, which asks again for what was refused, by `resume` where a call is open, and fails where any answer, the book
-or its replayed trace changes. And of the benchmark `new_core` of pif_bench, which makes cores: there the status must be 1,
-whichever request of `Core::new`, and of `LinkedKernel::new` in it, is refused. The status is 0 where all is so. It needs a
-C compiler, and is no part of the gate.
+of pif_cli_tests, which asks again for what was refused, by `resume` where a call is open, and fails where any answer,
+the book or its replayed trace changes. And of the benchmark `new_core` of pif_bench, which makes cores: there the status
+must be 1, whichever request of `Core::new`, and of `LinkedKernel::new` in it, is refused. The status is 0 where all is
+so. It needs a C compiler, and is no part of the gate.
 
-    bench/refused_requests.py       once ./pif, in crates/pif_cli `rt test`, and in crates/pif_bench `rt run`, have built them
+    bench/refused_requests.py       once they are built: by ./pif, in crates/pif_cli_tests by `rt test`, and in
+                                    crates/pif_bench by `rt run`
 """
 
 import os
@@ -20,7 +21,7 @@ from pathlib import Path
 
 TOP = Path(__file__).resolve().parent.parent
 PROGRAM = TOP / "crates/pif/out/pif"
-TESTS = TOP / "crates/pif_cli/out/pif_cli_tests"
+TESTS = TOP / "crates/pif_cli_tests/out/pif_cli_tests_tests"
 BENCH = TOP / "crates/pif_bench/out/pif_bench"
 SCRIPT = TOP / "examples/holder_is_boosted_until_it_unlocks.pif"
 
@@ -101,7 +102,7 @@ def main():
     jobs = [(["run"], script), (["show"], script), (["replay"], trace), (["trace"], script), (["--help"], b""),
             (["walk"], b""), (["drive", "2"], b"")]
     sweeps = [("pif " + " ".join(words), [PROGRAM] + words, text, False, 4) for words, text in jobs]
-    sweeps.append(("desk_keeps_receipts", [TESTS, "tests::desks::desk_keeps_receipts"], b"", True, 4))
+    sweeps.append(("desk_keeps_receipts", [TESTS, "desks::desk_keeps_receipts"], b"", True, 4))
     sweeps.append(("pif_bench new_core", [BENCH, "new_core"], b"", False, 1))
     with tempfile.TemporaryDirectory() as folder:
         room = Path(folder)

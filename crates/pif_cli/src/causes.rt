@@ -9,7 +9,10 @@ use pif_types::Errno;
 use std::fmt::Write;
 use std::str::from_utf8;
 
-/// What a person is told of a fault of a job over an input of this name.
+/// What a person is told of a fault of a job over an input of this name, `-` for the standard input. `notice` keeps the
+/// line that ended the job, if there is one.
+///
+/// There is no error, and nothing is written. What has no room in a message is left out.
 pub fn message_of(job: Job, name: &str, fault: JobFault, notice: &Notice) -> Message {
     match fault {
         JobFault::Cli(CliFault::Read) => unread(name),

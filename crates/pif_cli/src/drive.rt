@@ -28,7 +28,7 @@ const LINE_ROOM: usize = 40;
 
 /// Why a drive has no book.
 #[derive(Clone, Copy, Debug, PartialEq, Eq)]
-pub(crate) enum DriveFault {
+pub enum DriveFault {
     /// A growth of memory was refused.
     NoMemory,
     /// A thread could not be started.
@@ -67,7 +67,7 @@ struct Fresh {
 
 /// A client that was answered each of its calls.
 #[derive(Drop)]
-pub(crate) struct Served {
+pub struct Served {
     client: Client,
     mutex: MutexId,
     ghost served: { IsServed mutex client.log },
@@ -75,7 +75,7 @@ pub(crate) struct Served {
 
 /// How a client's thread ends.
 #[derive(Drop)]
-pub(crate) enum Ending {
+pub enum Ending {
     /// The client was answered each of its calls.
     Served(Served),
     /// The client was not answered, and has ended where it could.
@@ -109,9 +109,12 @@ fn leave<P: Pause + Drop, R: Wait>(rt: &R, desk: &Desk<P>, client: &mut Client) 
     }
 }
 
-/// How a client's thread ends that has come so far with its calls: at a fault the client ends, so that no other waits for
-/// it.
-pub(crate) fn end_of<P: Pause + Drop, R: Wait>(
+/// How a client's thread ends, once its calls have come to `made`. If each was answered, the client is served, and the
+/// desk stays as it was. At a fault the client is ended, so that no other waits for it. While memory is refused for that
+/// it is tried again, 1,000 times in all.
+///
+/// There is no error: a fault of `made` is answered as an `Ending`.
+pub fn end_of<P: Pause + Drop, R: Wait>(
     rt: &R,
     desk: &Desk<P>,
     mutex: MutexId,
@@ -247,8 +250,16 @@ fn drive_desk<P: Pause + Drop + Sync, R: Threads + Wait + Sync>(
     settle(desk.into_room(), served)
 }
 
-/// The same, at a desk with just the room that they need, and with this pause.
-pub(crate) fn drive_book<P: Pause + Drop + Sync, R: Threads + Wait + Sync>(
+/// So many clients, of the priorities from 1, each in a thread of its own, lock and unlock one mutex, which is errorcheck
+/// and robust, 100 times each. They share a desk of their own, with just the room that they need, and `pause` is called
+/// after each of their events. Answers the book, by which all of these calls were answered, and no other was made.
+///
+/// # Errors
+///
+/// `NoMemory` if memory was refused; a client that meets that ends, so that the others go on. `Threads` if a thread could
+/// not be started. `Unsettled` if there are not 1 to 1,024 clients, if one was refused, or if the desk didn't settle. All
+/// threads have ended then too, and the desk and its clients are gone.
+pub fn drive_book<P: Pause + Drop + Sync, R: Threads + Wait + Sync>(
     alloc: Global,
     rt: &R,
     clients: u32,

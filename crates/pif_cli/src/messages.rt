@@ -23,7 +23,7 @@ impl Message {
     ghost use Rattle.pif_cli.specs.Messages.{TellsLine};
 
     /// A message of the program, which begins with its name.
-    pub fn new() -> Message {
+    pub(crate) fn new() -> Message {
         let mut message = Message {
             bytes: ArrayVec::new(),
         };
@@ -39,7 +39,7 @@ impl Message {
     }
 
     /// Appends a text.
-    pub fn say(&mut self, text: &str) {
+    pub(crate) fn say(&mut self, text: &str) {
         for byte in text.as_bytes() {
             self.put(*byte);
         }
@@ -58,7 +58,7 @@ impl Message {
     }
 
     /// Appends the bytes of a line so that each can be seen, cut where what is shown is as long as a line may be.
-    pub fn show(&mut self, line: &[u8]) {
+    pub(crate) fn show(&mut self, line: &[u8]) {
         let end = self.bytes.len() + MOST_LINE;
         for byte in line {
             if self.bytes.len() + shown_length(*byte) > end {

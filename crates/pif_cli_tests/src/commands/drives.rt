@@ -1,8 +1,7 @@
 //! Clients in real threads.
 use super::{BOOSTED, Kept};
-use crate::command;
-use crate::drive::{DriveFault, Ending, drive_book, end_of};
 use arrayvec::ArrayVec;
+use pif_cli::{DriveFault, Ending, command, drive_book, end_of};
 use pif_desk::{Book, Desk, DeskFault, Entry, Event, NoPause, Pause, Seen};
 use pif_types::{Kind, Limits, MutexId, Prio, Request, Tid};
 use std::alloc::Global;

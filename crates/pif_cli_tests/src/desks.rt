@@ -1,6 +1,6 @@
 //! The journal of a desk as a trace. One growth of memory may be refused anywhere: what was refused is then asked again,
 //! and no answer changes.
-use super::Kept;
+use crate::commands::Kept;
 use pif_desk::{Book, Client, Desk, DeskFault, NoPause};
 use pif_scripts::{CliFault, replay, write_trace};
 use pif_types::{CondId, Kind, Limits, MutexId, NoMemory, Refusal, Request, with_room};

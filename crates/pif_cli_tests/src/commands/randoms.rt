@@ -1,7 +1,7 @@
 //! Random scripts.
 use super::{BOOSTED, Kept, asked};
-use crate::command;
 use arrayvec::ArrayVec;
+use pif_cli::command;
 use std::alloc::Global;
 use std::process::Abort;
 use std::str::from_utf8;

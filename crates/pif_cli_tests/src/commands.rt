@@ -1,4 +1,3 @@
-mod desks;
 mod drives;
 mod files;
 mod messages;
@@ -8,8 +7,8 @@ mod shows;
 mod texts;
 mod words_of_processes;
 
-use crate::{command, words_of_the_program};
 use arrayvec::ArrayVec;
+use pif_cli::{command, words_of_the_program};
 use std::alloc::Global;
 use std::io;
 use std::io::{ErrorKind, Read};
@@ -18,7 +17,7 @@ use std::sync::Wait;
 use std::thread::Threads;
 
 /// Keeps what is written, and allocates nothing; past its room it takes no byte.
-type Kept = ArrayVec<u8, 4096>;
+pub type Kept = ArrayVec<u8, 4096>;
 
 const BOOSTED: &str =
     "thread 10\nthread 50\nmutex normal\ncall t1 lock m1\ncall t2 lock m1\nword m1\nprio t1\n\

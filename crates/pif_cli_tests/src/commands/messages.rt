@@ -1,9 +1,6 @@
 use super::{Broken, Kept};
-use crate::causes::message_of;
-use crate::command;
-use crate::statuses::JobFault;
-use crate::words::Job;
 use arrayvec::ArrayVec;
+use pif_cli::{Job, JobFault, command, message_of};
 use pif_scripts::{Cause, CliFault, Notice};
 use std::alloc::Global;
 use std::io::Read;

@@ -1,6 +1,6 @@
 use super::{BOOSTED, Kept};
-use crate::command;
 use arrayvec::ArrayVec;
+use pif_cli::command;
 use std::alloc::Global;
 use std::process::Abort;
 use std::str::from_utf8;

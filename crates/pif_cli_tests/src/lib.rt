@@ -1,0 +1,16 @@
+//! Tests of the command line, in a crate of their own: a crate with tests is proved twice by the gate, and `pif_cli` is
+//! dear. Beside tests there is nothing in it.
+//!
+//! | Module | Tests of |
+//! |---|---|
+//! | `commands` | `pif_cli`: each job with its status; below it words, files, texts of help, messages and clients in threads |
+//! | `desks` | `pif_desk` and `pif_scripts`: the journal of a desk as a trace that replays the same |
+//! | `processes` | none: the processes that the others share |
+#![tactic(auto)]
+
+#[cfg(test)]
+mod commands;
+#[cfg(test)]
+mod desks;
+#[cfg(test)]
+mod processes;
