@@ -1,2 +1,1 @@
 pub use Rattle.pif_model.specs.PiKernel
-pub mod Found

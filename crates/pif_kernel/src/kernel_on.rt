@@ -2,12 +2,14 @@ ghost use Rattle.std.specs.Prelude.{◌≡◌, ◌≤◌, IfOk};
 ghost use Rattle.pif_model.specs.PiKernel.{new_kernel, IsKernel};
 ghost use Rattle.pif_kernel_state.specs.Inside.{kernel_of, next_ticket};
 
-use crate::refusals::{
-    Found, test_lock, test_parking, test_requeue, test_set_prio, test_try_lock, test_unlock,
-};
+use crate::dying::pass_all_on;
 use crate::requeueing::take_all;
 use pif_kernel_calls::PiKernel;
-use pif_kernel_steps::{Chains, Parts};
+use pif_kernel_chains::Chains;
+use pif_kernel_refusals::{
+    Found, test_lock, test_parking, test_requeue, test_set_prio, test_try_lock, test_unlock,
+};
+use pif_kernel_steps::Parts;
 use pif_model::{Status, Took};
 use pif_robust::RobustLists;
 use pif_types::{CondId, Errno, Limits, MutexId, NoMemory, Prio, Tid};
@@ -170,7 +172,7 @@ impl<C: Chains + Drop> PiKernel for KernelOn<C> {
 
     fn exit(&mut self, words: &mut Words, lists: &mut RobustLists, t: Tid) {
         self.parts.leave_as(t, Status::Ended);
-        self.parts.pass_all_on(words, lists, t);
+        pass_all_on(&mut self.parts, words, lists, t);
         lists.forget(t);
     }
 }

@@ -6,7 +6,8 @@ ghost use Rattle.pif_kernel_state.specs.Inside.{IsSoundInside, kernel_of};
 ghost use Rattle.pif_kernel_state.specs.Systems.{system_of};
 ghost use Rattle.pif_kernel_state.specs.Takings.{FitsWord};
 
-use pif_kernel_steps::{Chains, Parts};
+use pif_kernel_chains::Chains;
+use pif_kernel_steps::Parts;
 use pif_model::Woken;
 use pif_types::{CondId, MutexId, Tid};
 use pif_word::{Cell, Words, mark_word, number, taken_word};

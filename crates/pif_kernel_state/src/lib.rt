@@ -1,5 +1,6 @@
 //! The state of a kernel over any chains: what it keeps, the kernel of the definitions for which that stands, and the
-//! invariant between two calls. `pif_kernel_steps` and `pif_kernel` have the code, and their contracts cite this.
+//! invariant between two calls. `pif_kernel_chains`, `pif_kernel_steps` and `pif_kernel` have the code, and their
+//! contracts cite this.
 //!
 //! ```text
 //!    Inside    statuses, owner states with their keys, run queue, waiters in order of tickets, parked threads

@@ -4,8 +4,8 @@ ghost use Rattle.pif_model.specs.PiKernel.{seat_at, is_living, is_out, kernel_le
 ghost use Rattle.pif_kernel_state.specs.Inside.{IsSoundInside, kernel_of};
 ghost use Rattle.pif_kernel_state.specs.Leaving.{IsLeft};
 
-use crate::chains::Chains;
 use crate::parts::Parts;
+use pif_kernel_chains::Chains;
 use pif_model::{Status, Woken};
 use pif_types::{MutexId, Tid};
 

@@ -3,8 +3,8 @@ ghost use Rattle.std.specs.List.{slice_get};
 ghost use Rattle.pif_model.specs.PiKernel.{seat_at, has_seat, waiters_in, parked_in, ready_in};
 ghost use Rattle.pif_kernel_state.specs.Inside.{IsSoundInside, kernel_of};
 
-use crate::chains::Chains;
 use crate::parts::Parts;
+use pif_kernel_chains::Chains;
 use pif_types::{CondId, MutexId, Prio, Tid};
 
 impl<C: Chains + Drop> Parts<C> {

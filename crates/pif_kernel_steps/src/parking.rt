@@ -2,8 +2,8 @@ ghost use Rattle.std.specs.Prelude.{◌≡◌, ◌≤◌, true, false, if◌then
 ghost use Rattle.pif_model.specs.PiKernel.{seat_at, has_seat, is_ready, queued_on, has_parked, top_parked, kernel_after_parking, kernel_after_waking};
 ghost use Rattle.pif_kernel_state.specs.Inside.{IsSoundInside, kernel_of};
 
-use crate::chains::Chains;
 use crate::parts::Parts;
+use pif_kernel_chains::Chains;
 use pif_model::{Status, Woken};
 use pif_types::{CondId, MutexId, Tid};
 

@@ -2,7 +2,7 @@ ghost use Rattle.std.specs.Prelude.{◌≡◌, ◌≤◌, ◌<◌, ◌==◌, tru
 ghost use Rattle.pif_model.specs.PiKernel.{seat_at, has_seat, is_living, effective_in, pick_in, new_kernel};
 ghost use Rattle.pif_kernel_state.specs.Inside.{IsSoundInside, kernel_of, state_key_at};
 
-use crate::chains::Chains;
+use pif_kernel_chains::Chains;
 use pif_model::{Status, Woken};
 use pif_owners::Key;
 use pif_types::{Limits, MutexId, NoMemory, Prio, Tid, push_within, with_room};

@@ -5,8 +5,8 @@ ghost use Rattle.pif_model.specs.PiKernel.{seat_at, has_seat, is_living, is_read
 ghost use Rattle.pif_kernel_state.specs.Inside.{IsSoundInside, kernel_of, state_key_at, state_at};
 ghost use Rattle.pif_kernel_state.specs.Opened.{IsOpened};
 
-use crate::chains::Chains;
 use crate::parts::Parts;
+use pif_kernel_chains::Chains;
 use pif_model::{Status, Woken};
 use pif_owners::Key;
 use pif_types::{MutexId, Tid};

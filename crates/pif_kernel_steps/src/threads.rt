@@ -2,8 +2,8 @@ ghost use Rattle.std.specs.Prelude.{◌≡◌, ◌≤◌, true, length, Ok};
 ghost use Rattle.pif_model.specs.PiKernel.{seat_at, has_seat, is_living, is_ready, kernel_after_add, kernel_after_set_prio, kernel_after_stop};
 ghost use Rattle.pif_kernel_state.specs.Inside.{IsSoundInside, kernel_of};
 
-use crate::chains::Chains;
 use crate::parts::Parts;
+use pif_kernel_chains::Chains;
 use pif_model::{Status, Woken};
 use pif_types::{Prio, Tid, push_within};
 

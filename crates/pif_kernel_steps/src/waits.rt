@@ -5,8 +5,8 @@ ghost use Rattle.pif_model.specs.PiKernel.{wait_answer, state_at, has_other_targ
 ghost use Rattle.pif_kernel_steps.specs.Answers.{wait_test_answer};
 ghost use Rattle.pif_kernel_state.specs.Inside.{IsSoundInside, kernel_of, owner_under};
 
-use crate::chains::Chains;
 use crate::parts::Parts;
+use pif_kernel_chains::Chains;
 use pif_owners::Key;
 use pif_types::{CondId, Errno, MutexId, Tid};
 
