@@ -1,5 +1,5 @@
 -- How often neighbours in a list differ, with and without one number.
-use Rattle.std.proofs.Common.{◌≡◌, ◌⊎◌, ℕ, ◌+◌, ◌≤◌, true, false, eqb, cond, List, [], ◌∷◌, ◌++◌, length, Option, Some, None, refl, sym, ◌∙◌, ap, subst, inl, inr, arith}
+use Rattle.std.proofs.Common.{◌≡◌, ◌⊎◌, ℕ, ◌+◌, ◌≤◌, Bool, true, false, eqb, cond, List, [], ◌∷◌, ◌++◌, length, Option, Some, None, refl, sym, ◌∙◌, ap, subst, inl, inr, arith}
 use Rattle.std.proofs.lemmas.Bool.{eqb-true, eq-eqb, or_right, or_cases, cases_Bool, false≢true}
 use Rattle.pif_lists.specs.Lists.{has, first_of, last_of, next_in_list, prev_in_list, list_without, HasNoRepeats}
 use Rattle.pif_lists.proofs.ListLemmas.{has-head, has_split, next_in_list-split, prev_from-split, list_without-split, HasNoRepeats-taken}
@@ -41,6 +41,29 @@ differences-list_without f xs n once there =
     let near : around f xs n ≡ step_between f (last_of front) (Some n) + step_between f (Some n) (first_of back) =
     λ i. step_between f (prev i) (Some n) + step_between f (Some n) (next i) in
     omega (arith, whole, less, over, near)
+
+cond-most : (b : Bool) → cond b 0 1 ≤ 1
+cond-most true = omega arith
+cond-most false = omega arith
+
+-- two numbers differ no more than by way of a third
+step-over : (f : ℕ → ℕ) (one other : Option ℕ) (n : ℕ)
+    → step_between f one other ≤ step_between f one (Some n) + step_between f (Some n) other
+step-over f None other n = omega arith
+step-over f (Some x) None n = omega arith
+step-over f (Some x) (Some y) n = by_first (cases_Bool (eqb (f x) (f n)))
+  where
+    by_first : ((eqb (f x) (f n) ≡ true) ⊎ (eqb (f x) (f n) ≡ false))
+        → step_between f (Some x) (Some y) ≤ step_between f (Some x) (Some n) + step_between f (Some n) (Some y)
+    by_first (inl e) = omega (arith, ap {B = ℕ} (λ (k : ℕ). cond (eqb k (f y)) 0 1) (eqb-true (f x) (f n) e))
+    by_first (inr e) = omega (arith, ap {B = ℕ} (λ (b : Bool). cond b 0 1) e, cond-most (eqb (f x) (f y)))
+
+-- where none differs, none does without a number either
+pub differences-left : (f : ℕ → ℕ) (xs : List ℕ) (n : ℕ) → HasNoRepeats xs → has n xs ≡ true → differences f xs ≡ 0
+    → differences f (list_without n xs) ≡ 0
+differences-left f xs n once there none =
+    let less : across f xs n ≤ around f xs n = step-over f (prev_in_list xs n) (next_in_list xs n) n in
+    omega (arith, none, less, differences-list_without f xs n once there)
 
 -- what is the same of all numbers of a list gives the same differences
 pub differences-same : (f g : ℕ → ℕ) (xs : List ℕ) → ((m : ℕ) → has m xs ≡ true → f m ≡ g m)

@@ -12,7 +12,7 @@ use Rattle.pif_lists.specs.Order.{comes_before, IsInOrder}
 use Rattle.pif_owners.specs.Differences.{differences, around, across}
 use Rattle.pif_owners.specs.Parked.{Place, Parked, ParkedLists, no_parked, place_at, differing_at, IsThread, IsCond, IsNodeOfThread, variable_list, parking_node, thread_of_node, target_in, target_of, parked_with, parked_at, IsParkedNode, StandsIn, StandParked, HoldsParked, HasRoomForParked, IsParkedOn, IsTopParked, HasNoParked, HasTarget}
 use Rattle.pif_owners.proofs.Firsts.{option-cases}
-use Rattle.pif_queue.proofs.Differing.{differences-list_without, differences-most, differences-none, differences-equal}
+use Rattle.pif_queue.proofs.Differing.{differences-list_without, differences-left, differences-most, differences-none, differences-equal}
 
 -- the thread of a thread's node is that thread
 pub thread-of_node : (p : ParkedLists) (u : ℕ) → 1 ≤ u → thread_of_node p (parking_node p u) ≡ u
@@ -101,6 +101,14 @@ module _ (p : ParkedLists) (t : NodeLists) (h : StandParked p t) where
   counts c n is held =
       differences-list_without (target_of p) (list_at t (variable_list p c)) n (h.apart.once (variable_list p c))
       (h.apart.listed (variable_list p c) n held)
+
+  -- where no neighbours differ, none do without a node either
+  pub none-left : (c n : ℕ) → IsCond p c → holder t n ≡ Some (variable_list p c)
+      → differences (target_of p) (list_at t (variable_list p c)) ≡ 0
+      → differences (target_of p) (list_without n (list_at t (variable_list p c))) ≡ 0
+  none-left c n is held none =
+      differences-left (target_of p) (list_at t (variable_list p c)) n (h.apart.once (variable_list p c))
+      (h.apart.listed (variable_list p c) n held) none
 
   -- who is parked on a variable is in its list, and who is in the list is parked there
   pub parked-node : (u c : ℕ) (y : Parked) → parked_at p t u ≡ Some y → y.cond ≡ c

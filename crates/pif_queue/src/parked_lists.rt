@@ -329,10 +329,14 @@ impl ParkedLists {
     {
         // For the prover: nodes have numbers of 32 bits.
         let _first = self.first_node;
+        let differing = self.count(c);
+        // Where all are the same, those that are left are too.
+        if differing == 0 {
+            return;
+        }
         let around = self.around(table, c, node);
         let across = self.across(table, c, node);
-        let count = self.count(c) + across - around;
-        self.set_count(c, count);
+        self.set_count(c, differing + across - around);
     }
 
     /// How many neighbours in the list of a variable differ in their target.
