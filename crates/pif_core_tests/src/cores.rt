@@ -1,22 +1,12 @@
 mod deadlines;
 
+use super::driver::{Ask, Reply, Wish, check};
 use pif_core::Core;
-use pif_model::{Event, Seen, Status, Woken};
-use pif_types::{AddFault, CondId, Health, Kind, Limits, MutexId, Prio, Refusal, Request, Tid};
+use pif_model::{Seen, Status, Woken};
+use pif_types::{AddFault, Health, Kind, Limits, Refusal};
 use std::alloc::Global;
 use std::process::Abort;
 use std::test::Fail;
-
-/// A thread's call: its number, what it asks, in how many steps, what the last of them is answered, and the word of
-/// mutex 1 after it.
-type Row = (u32, Request, u32, Seen, u32);
-
-/// What a thread shows: its base priority, what it does, and its open call.
-type ThreadRow = (Tid, u32, Status, Option<Request>);
-
-/// What a mutex shows: its kind and whether it is robust, its owner and how often that one holds it, and who gets it
-/// next.
-type MutexRow = (MutexId, (Kind, bool), Option<(Tid, u32)>, Option<Tid>);
 
 /// A core with mutex 1 of this kind, threads of these priorities, and room for one condition variable.
 fn scene(alloc: Global, kind: Kind, levels: &[u32]) -> Result<Core, Fail> {
@@ -35,256 +25,154 @@ fn fill(core: &mut Core, kind: Kind, levels: &[u32]) -> Result<(), AddFault> {
     Ok(())
 }
 
-/// The thread begins this call and takes so many steps: what the last one was answered.
-fn run(core: &mut Core, thread: Tid, request: Request, steps: u32) -> Seen {
-    let mut seen = core.step(Event::Begin(thread, request));
-    for _ in 0..steps {
-        seen = core.step(Event::Go(thread));
-    }
-    seen
-}
-
-/// Threads make their calls, one after the other.
-fn play(rt: &impl Abort, core: &mut Core, rows: &[Row]) -> Result<(), Fail> {
-    let mutex = MutexId::new(1).ok_or("a mutex")?;
-    for row in rows {
-        let (number, request, steps, answer, word) = *row;
-        let thread = Tid::new(number).ok_or("a thread")?;
-        let seen = run(core, thread, request, steps);
-        assert_eq!(rt; seen, answer, "thread {number}, word {word}");
-        assert_eq!(rt; core.word(mutex), Some(word), "thread {number}");
-    }
+/// Asks all this of such a core.
+fn play(
+    rt: &impl Abort,
+    alloc: Global,
+    kind: Kind,
+    levels: &[u32],
+    steps: &[(Ask, Reply)],
+) -> Result<(), Fail> {
+    let mut core = scene(alloc, kind, levels)?;
+    check(rt, &mut core, steps);
     Ok(())
 }
+
+const DONE: Reply = Reply::Is(Seen::Answered(0));
+
+const WAITS: Reply = Reply::Is(Seen::Waits);
+
+const DEAD: Reply = Reply::Is(Seen::Refused(Refusal::Dead));
+
+/// Thread 1 holds mutex 1, for which thread 2, of higher priority, waits.
+const BOOST: [(Ask, Reply); 16] = [
+    (Ask::Threads, Reply::Number(2)),
+    (Ask::Pick, Reply::Number(2)),
+    (Ask::Run(1, Wish::Lock(1), 2), DONE),
+    (Ask::Word(1), Reply::Number(1)),
+    (Ask::Run(2, Wish::Lock(1), 3), WAITS),
+    (Ask::Word(1), Reply::Number(0x8000_0001)),
+    (Ask::Effective(1), Reply::Number(50)),
+    (Ask::Pick, Reply::Number(1)),
+    (Ask::Waiting(1), Reply::Nothing),
+    (Ask::Waiting(2), Reply::Rests(true)),
+    (Ask::Run(1, Wish::Unlock(1), 3), DONE),
+    (Ask::Word(1), Reply::Number(0x8000_0002)),
+    (Ask::Effective(1), Reply::Number(10)),
+    (Ask::Go(2), DONE),
+    (Ask::Run(2, Wish::Unlock(1), 3), DONE),
+    (Ask::Word(1), Reply::Number(0)),
+];
 
 #[test]
 fn holder_is_boosted_until_it_unlocks(rt: HostRuntime) -> Result<(), Fail> {
-    let mut core = scene(rt.alloc(), Kind::Normal, &[10, 50])?;
-    boost(&rt, &mut core)
+    play(&rt, rt.alloc(), Kind::Normal, &[10, 50], &BOOST)
 }
 
-fn boost(rt: &impl Abort, core: &mut Core) -> Result<(), Fail> {
-    let low = Tid::new(1).ok_or("a thread")?;
-    let high = Tid::new(2).ok_or("a thread")?;
-    let mutex = MutexId::new(1).ok_or("a mutex")?;
-    let waiting = [
-        (1, Request::Lock(mutex), 2, Seen::Answered(0), 1),
-        (2, Request::Lock(mutex), 3, Seen::Waits, 0x8000_0001),
-    ];
-    let handed = [(1, Request::Unlock(mutex), 3, Seen::Answered(0), 0x8000_0002)];
-    let freed = [(2, Request::Unlock(mutex), 3, Seen::Answered(0), 0)];
-    assert_eq!(rt; (core.threads(), core.pick()), (2, Some(high)));
-    play(rt, core, &waiting)?;
-    assert_eq!(rt;
-        (core.effective(low), core.pick()),
-        (Prio::new(50), Some(low))
-    );
-    assert_eq!(rt; (core.waiting(low), core.waiting(high)), (None, Some(true)));
-    play(rt, core, &handed)?;
-    assert_eq!(rt; core.effective(low), Prio::new(10));
-    assert_eq!(rt; core.step(Event::Go(high)), Seen::Answered(0));
-    play(rt, core, &freed)
-}
+const EQUALS: [(Ask, Reply); 8] = [
+    (Ask::Run(1, Wish::Lock(1), 2), DONE),
+    (Ask::Word(1), Reply::Number(1)),
+    (Ask::Run(2, Wish::Lock(1), 3), WAITS),
+    (Ask::Word(1), Reply::Number(0x8000_0001)),
+    (Ask::Run(3, Wish::Lock(1), 3), WAITS),
+    (Ask::Word(1), Reply::Number(0x8000_0001)),
+    (Ask::Run(1, Wish::Unlock(1), 3), DONE),
+    (Ask::Word(1), Reply::Number(0x8000_0002)),
+];
 
 #[test]
 fn equals_are_served_in_order_of_arrival(rt: HostRuntime) -> Result<(), Fail> {
-    let mut core = scene(rt.alloc(), Kind::ErrorCheck, &[10, 20, 20])?;
-    serve_equals(&rt, &mut core)
+    play(&rt, rt.alloc(), Kind::ErrorCheck, &[10, 20, 20], &EQUALS)
 }
 
-fn serve_equals(rt: &impl Abort, core: &mut Core) -> Result<(), Fail> {
-    let mutex = MutexId::new(1).ok_or("a mutex")?;
-    let rows = [
-        (1, Request::Lock(mutex), 2, Seen::Answered(0), 1),
-        (2, Request::Lock(mutex), 3, Seen::Waits, 0x8000_0001),
-        (3, Request::Lock(mutex), 3, Seen::Waits, 0x8000_0001),
-        (1, Request::Unlock(mutex), 3, Seen::Answered(0), 0x8000_0002),
-    ];
-    play(rt, core, &rows)
-}
+const ENDED: [(Ask, Reply); 7] = [
+    (Ask::End(1), Reply::Is(Seen::Ended)),
+    (Ask::Begin(1, Wish::Lock(1)), DEAD),
+    (Ask::Go(1), DEAD),
+    (Ask::End(1), DEAD),
+    (Ask::Effective(1), Reply::Nothing),
+    (Ask::Health(1), Reply::State(Health::Fine)),
+    (Ask::Threads, Reply::Number(1)),
+];
 
 #[test]
 fn who_has_ended_is_refused(rt: HostRuntime) -> Result<(), Fail> {
-    let mut core = scene(rt.alloc(), Kind::Normal, &[10])?;
-    end_once(&rt, &mut core)
+    play(&rt, rt.alloc(), Kind::Normal, &[10], &ENDED)
 }
 
-fn end_once(rt: &impl Abort, core: &mut Core) -> Result<(), Fail> {
-    let mutex = MutexId::new(1).ok_or("a mutex")?;
-    let thread = Tid::new(1).ok_or("a thread")?;
-    assert_eq!(rt; core.step(Event::End(thread)), Seen::Ended);
-    let later = [
-        Event::Begin(thread, Request::Lock(mutex)),
-        Event::Go(thread),
-        Event::End(thread),
-    ];
-    for event in later {
-        assert_eq!(rt; core.step(event), Seen::Refused(Refusal::Dead), "{event:?}");
-    }
-    assert_eq!(rt;
-        (core.effective(thread), core.health(mutex), core.threads()),
-        (None, Some(Health::Fine), 1)
-    );
-    Ok(())
-}
+/// There is no mutex 2, and room for one variable.
+const BINDING: [(Ask, Reply); 6] = [
+    (Ask::CondWord(1), Reply::Nothing),
+    (Ask::AddCond(2), Reply::Fault(AddFault::NoSuch)),
+    (Ask::AddCond(1), Reply::Number(1)),
+    (Ask::AddCond(2), Reply::Fault(AddFault::NoSuch)),
+    (Ask::AddCond(1), Reply::Fault(AddFault::TooMany)),
+    (Ask::CondWord(1), Reply::Number(0)),
+];
 
 #[test]
 fn condition_variable_needs_its_mutex_and_room(rt: HostRuntime) -> Result<(), Fail> {
-    let mut core = scene(rt.alloc(), Kind::Normal, &[10])?;
-    bind(&rt, &mut core)
+    play(&rt, rt.alloc(), Kind::Normal, &[10], &BINDING)
 }
 
-fn bind(rt: &impl Abort, core: &mut Core) -> Result<(), Fail> {
-    let mutex = MutexId::new(1).ok_or("a mutex")?;
-    let absent = MutexId::new(2).ok_or("a mutex")?;
-    let cond = CondId::new(1).ok_or("a variable")?;
-    assert_eq!(rt; core.cond_word(cond), None);
-    let rows = [
-        (absent, Err(AddFault::NoSuch)),
-        (mutex, Ok(cond)),
-        (absent, Err(AddFault::NoSuch)),
-        (mutex, Err(AddFault::TooMany)),
-    ];
-    for row in rows {
-        let (bound, answer) = row;
-        assert_eq!(rt; core.add_cond(bound), answer, "{bound:?}");
-    }
-    assert_eq!(rt; core.cond_word(cond), Some(0));
-    Ok(())
-}
+/// Thread 2 signals thread 1, and may not signal again.
+const SIGNAL: [(Ask, Reply); 14] = [
+    (Ask::AddCond(1), Reply::Number(1)),
+    (Ask::Run(1, Wish::Lock(1), 2), DONE),
+    (Ask::Word(1), Reply::Number(1)),
+    (Ask::Run(1, Wish::Wait(1, 1), 4), WAITS),
+    (Ask::Word(1), Reply::Number(0)),
+    (Ask::Waiting(1), Reply::Rests(true)),
+    (Ask::CondWord(1), Reply::Number(0)),
+    (Ask::Run(2, Wish::Signal(1), 3), DONE),
+    (Ask::Word(1), Reply::Number(1)),
+    (Ask::Waiting(1), Reply::Rests(false)),
+    (Ask::CondWord(1), Reply::Number(1)),
+    (Ask::Go(1), DONE),
+    (
+        Ask::Run(2, Wish::Signal(1), 1),
+        Reply::Is(Seen::Answered(75)),
+    ),
+    (Ask::Word(1), Reply::Number(1)),
+];
 
 #[test]
 fn signal_hands_a_free_mutex_to_who_waits(rt: HostRuntime) -> Result<(), Fail> {
-    let mut core = scene(rt.alloc(), Kind::Normal, &[10, 20])?;
-    signal(&rt, &mut core)
-}
-
-fn signal(rt: &impl Abort, core: &mut Core) -> Result<(), Fail> {
-    let mutex = MutexId::new(1).ok_or("a mutex")?;
-    let waiter = Tid::new(1).ok_or("a thread")?;
-    let cond = core.add_cond(mutex)?;
-    let waits = [
-        (1, Request::Lock(mutex), 2, Seen::Answered(0), 1),
-        (1, Request::Wait(cond, mutex), 4, Seen::Waits, 0),
-    ];
-    let signals = [(2, Request::Signal(cond), 3, Seen::Answered(0), 1)];
-    let beyond = [(2, Request::Signal(cond), 1, Seen::Answered(75), 1)];
-    play(rt, core, &waits)?;
-    assert_eq!(rt;
-        (core.waiting(waiter), core.cond_word(cond)),
-        (Some(true), Some(0))
-    );
-    play(rt, core, &signals)?;
-    assert_eq!(rt;
-        (core.waiting(waiter), core.cond_word(cond)),
-        (Some(false), Some(1))
-    );
-    assert_eq!(rt; core.step(Event::Go(waiter)), Seen::Answered(0));
-    play(rt, core, &beyond)
-}
-
-#[test]
-fn one_who_looks_sees_who_does_what(rt: HostRuntime) -> Result<(), Fail> {
-    let mut core = scene(rt.alloc(), Kind::Recursive, &[10, 50, 30])?;
-    look(&rt, &mut core)
+    play(&rt, rt.alloc(), Kind::Normal, &[10, 20], &SIGNAL)
 }
 
 /// Thread 1 holds a recursive mutex twice, for which thread 3 waits, and thread 2 is parked with a robust one.
-fn look(rt: &impl Abort, core: &mut Core) -> Result<(), Fail> {
-    let recursive = MutexId::new(1).ok_or("a mutex")?;
-    let robust = core.add_mutex(Kind::Normal, true)?;
-    let cond = core.add_cond(robust)?;
-    let holder = Tid::new(1).ok_or("a thread")?;
-    let parked = Tid::new(2).ok_or("a thread")?;
-    let waiter = Tid::new(3).ok_or("a thread")?;
-    let calls = [
-        (parked, Request::Lock(robust), Seen::Answered(0)),
-        (parked, Request::Wait(cond, robust), Seen::Waits),
-        (holder, Request::Lock(recursive), Seen::Answered(0)),
-        (holder, Request::Lock(recursive), Seen::Answered(0)),
-        (waiter, Request::Lock(recursive), Seen::Waits),
-    ];
-    let threads = [
-        (holder, 10, Status::Ready(Woken::Fresh), None),
-        (
-            parked,
-            50,
-            Status::Parked(cond),
-            Some(Request::Wait(cond, robust)),
-        ),
-        (
-            waiter,
-            30,
-            Status::Queued(recursive),
-            Some(Request::Lock(recursive)),
-        ),
-    ];
-    let mutexes = [
-        (
-            recursive,
-            (Kind::Recursive, false),
-            Some((holder, 2)),
-            Some(waiter),
-        ),
-        (robust, (Kind::Normal, true), None, None),
-    ];
-    call_all(rt, core, &calls);
-    see_threads(rt, core, &threads);
-    see_mutexes(rt, core, &mutexes);
-    assert_eq!(rt;
-        (core.mutexes(), core.conds(), core.bound(cond)),
-        (2, 1, Some(robust))
-    );
-    assert_eq!(rt;
-        (core.parked(cond, 0), core.ready(0)),
-        (Some(parked), Some(holder))
-    );
-    Ok(())
-}
+const LOOK: [(Ask, Reply); 27] = [
+    (Ask::AddMutex(Kind::Normal, true), Reply::Number(2)),
+    (Ask::AddCond(2), Reply::Number(1)),
+    (Ask::Call(2, Wish::Lock(2)), DONE),
+    (Ask::Call(2, Wish::Wait(1, 2)), WAITS),
+    (Ask::Call(1, Wish::Lock(1)), DONE),
+    (Ask::Call(1, Wish::Lock(1)), DONE),
+    (Ask::Call(3, Wish::Lock(1)), WAITS),
+    (Ask::Base(1), Reply::Number(10)),
+    (Ask::Status(1), Reply::Does(Status::Ready(Woken::Fresh))),
+    (Ask::IsOpen(1, Wish::Lock(1)), Reply::Nothing),
+    (Ask::Base(2), Reply::Number(50)),
+    (Ask::IsParked(2, 1), Reply::Agrees(true)),
+    (Ask::IsOpen(2, Wish::Wait(1, 2)), Reply::Opened(true)),
+    (Ask::Base(3), Reply::Number(30)),
+    (Ask::IsQueued(3, 1), Reply::Agrees(true)),
+    (Ask::IsOpen(3, Wish::Lock(1)), Reply::Opened(true)),
+    (Ask::Kind(1), Reply::Of(Kind::Recursive, false)),
+    (Ask::Owner(1), Reply::Holds(1, 2)),
+    (Ask::Waiter(1, 0), Reply::Number(3)),
+    (Ask::Kind(2), Reply::Of(Kind::Normal, true)),
+    (Ask::Owner(2), Reply::Nothing),
+    (Ask::Waiter(2, 0), Reply::Nothing),
+    (Ask::Mutexes, Reply::Number(2)),
+    (Ask::Conds, Reply::Number(1)),
+    (Ask::Bound(1), Reply::Number(2)),
+    (Ask::Parked(1, 0), Reply::Number(2)),
+    (Ask::Ready(0), Reply::Number(1)),
+];
 
-/// Threads make their calls, one after the other, each until it closes or waits.
-fn call_all(rt: &impl Abort, core: &mut Core, calls: &[(Tid, Request, Seen)]) {
-    for row in calls {
-        let (thread, request, answer) = *row;
-        assert_eq!(rt; call(core, thread, request), answer, "{thread:?}");
-    }
-}
-
-/// The thread begins this call and takes its steps until the call closes or waits: what the last one was answered.
-fn call(core: &mut Core, thread: Tid, request: Request) -> Seen {
-    let mut seen = core.step(Event::Begin(thread, request));
-    for _ in 0..24 {
-        if let Seen::Begun | Seen::Went = seen {
-            seen = core.step(Event::Go(thread));
-        }
-    }
-    seen
-}
-
-/// Each thread shows what its row says.
-fn see_threads(rt: &impl Abort, core: &Core, rows: &[ThreadRow]) {
-    for row in rows {
-        let (thread, base, status, open) = *row;
-        assert_eq!(rt;
-            (
-                core.base(thread),
-                core.status(thread),
-                core.open_call(thread)
-            ),
-            (Prio::new(base), Some(status), open),
-            "{thread:?}"
-        );
-    }
-}
-
-/// Each mutex shows what its row says.
-fn see_mutexes(rt: &impl Abort, core: &Core, rows: &[MutexRow]) {
-    for row in rows {
-        let (mutex, kind, owner, next) = *row;
-        assert_eq!(rt;
-            (core.kind(mutex), core.owner(mutex), core.waiter(mutex, 0)),
-            (Some(kind), owner, next),
-            "{mutex:?}"
-        );
-    }
+#[test]
+fn one_who_looks_sees_who_does_what(rt: HostRuntime) -> Result<(), Fail> {
+    play(&rt, rt.alloc(), Kind::Recursive, &[10, 50, 30], &LOOK)
 }

@@ -1,7 +1,8 @@
 mod ways_out;
 
+use super::driver::{Wish, request};
 use pif_core::{Core, Event, Seen};
-use pif_types::{AddFault, CondId, Health, Kind, Limits, MutexId, Refusal, Request, Tid};
+use pif_types::{AddFault, CondId, Health, Kind, Limits, MutexId, Refusal, Tid};
 use pif_uses::{
     Awaited, Held, Next, add_under, finish_lock, lock_and_hold, lock_and_repair, next_after,
     one_event, resume_wait, wait_unless,
@@ -11,7 +12,9 @@ use std::process::Abort;
 use std::test::Fail;
 
 /// A thread's call, or `None` where it goes on, and what that is answered.
-type Row = (u32, Option<Request>, Seen);
+type Row = (u32, Option<Wish>, Seen);
+
+const DONE: Seen = Seen::Answered(0);
 
 /// Two threads, of priority 10 and 50, a mutex and a variable.
 #[derive(Clone, Copy)]
@@ -47,203 +50,222 @@ fn fill_with(core: &mut Core, kind: Kind, robust: bool) -> Result<Scene, AddFaul
     })
 }
 
-/// A thread makes this call, or goes on with the one that it has open.
-fn turn(core: &mut Core, thread: Tid, request: Option<Request>) -> Seen {
-    match request {
-        Some(request) => core.call(thread, request),
+/// A thread makes this call, or goes on with the one that it has open. `None` if nobody has a number of these.
+fn turn(core: &mut Core, number: u32, wish: Option<Wish>) -> Option<Seen> {
+    let thread = Tid::new(number)?;
+    Some(match wish {
+        Some(wish) => core.call(thread, request(wish)?),
         None => core.finish(thread),
-    }
+    })
 }
 
 /// Threads make their calls, one after the other.
-fn play(rt: &impl Abort, core: &mut Core, rows: &[Row]) -> Result<(), Fail> {
+fn play(rt: &impl Abort, core: &mut Core, rows: &[Row]) {
     for row in rows {
-        let (number, request, answer) = *row;
-        let thread = Tid::new(number).ok_or("a thread")?;
-        let seen = turn(core, thread, request);
-        assert_eq!(rt; seen, answer, "thread {number}");
+        let (number, wish, answer) = *row;
+        see_answer(rt, turn(core, number, wish), answer);
     }
-    Ok(())
 }
+
+/// Each of these sees that what was answered or read is this.
+fn see_answer(rt: &impl Abort, told: Option<Seen>, answer: Seen) {
+    assert_eq!(rt; told, Some(answer));
+}
+
+fn see_held(rt: &impl Abort, told: Result<Held, Seen>, answer: Result<Held, Seen>) {
+    assert_eq!(rt; told, answer);
+}
+
+fn see_added(rt: &impl Abort, told: Result<Seen, Seen>, answer: Result<Seen, Seen>) {
+    assert_eq!(rt; told, answer);
+}
+
+fn see_awaited(rt: &impl Abort, told: Awaited, awaited: Awaited) {
+    assert_eq!(rt; told, awaited);
+}
+
+fn see_next(rt: &impl Abort, told: Option<Next>, next: Next) {
+    assert_eq!(rt; told, Some(next));
+}
+
+fn see_value(rt: &impl Abort, read: u64, value: u64) {
+    assert_eq!(rt; read, value);
+}
+
+fn see_health(rt: &impl Abort, read: Option<Health>, health: Health) {
+    assert_eq!(rt; read, Some(health));
+}
+
+fn see_rests(rt: &impl Abort, read: Option<bool>, rests: bool) {
+    assert_eq!(rt; read, Some(rests));
+}
+
+const HAND_OVER: [Row; 7] = [
+    (1, Some(Wish::Lock(1)), DONE),
+    (2, Some(Wish::Lock(1)), Seen::Waits),
+    (2, Some(Wish::Unlock(1)), Seen::Refused(Refusal::Busy)),
+    (2, None, Seen::Waits),
+    (1, Some(Wish::Unlock(1)), DONE),
+    (1, None, Seen::Refused(Refusal::Idle)),
+    (2, None, DONE),
+];
 
 #[test]
 fn hand_over_leaves_the_call_open(rt: HostRuntime) -> Result<(), Fail> {
     let mut core = core_of(rt.alloc())?;
-    hand_over(&rt, &mut core)
-}
-
-fn hand_over(rt: &impl Abort, core: &mut Core) -> Result<(), Fail> {
-    let mutex = fill(core, false)?.mutex;
-    let rows = [
-        (1, Some(Request::Lock(mutex)), Seen::Answered(0)),
-        (2, Some(Request::Lock(mutex)), Seen::Waits),
-        (
-            2,
-            Some(Request::Unlock(mutex)),
-            Seen::Refused(Refusal::Busy),
-        ),
-        (2, None, Seen::Waits),
-        (1, Some(Request::Unlock(mutex)), Seen::Answered(0)),
-        (1, None, Seen::Refused(Refusal::Idle)),
-        (2, None, Seen::Answered(0)),
-    ];
-    play(rt, core, &rows)
+    fill(&mut core, false)?;
+    play(&rt, &mut core, &HAND_OVER);
+    Ok(())
 }
 
 #[test]
 fn who_locks_holds(rt: HostRuntime) -> Result<(), Fail> {
     let mut core = core_of(rt.alloc())?;
-    lock_and_add(&rt, &mut core)
+    let scene = fill(&mut core, false)?;
+    add_and_hold(&rt, &mut core, &scene);
+    lock_behind(&rt, &mut core, &scene);
+    Ok(())
 }
 
-fn lock_and_add(rt: &impl Abort, core: &mut Core) -> Result<(), Fail> {
-    let scene = fill(core, false)?;
+fn add_and_hold(rt: &impl Abort, core: &mut Core, scene: &Scene) {
     let mut sum = 5;
-    assert_eq!(rt;
-        add_under(core, scene.low, scene.mutex, &mut sum, 3),
-        Ok(Seen::Answered(0))
-    );
-    assert_eq!(rt; sum, 8);
-    assert_eq!(rt;
-        lock_and_hold(core, scene.low, scene.mutex),
-        Ok(Held::InOrder)
-    );
-    assert_eq!(rt;
-        add_under(core, scene.high, scene.mutex, &mut sum, 3),
-        Err(Seen::Waits)
-    );
-    assert_eq!(rt;
-        core.call(scene.low, Request::Unlock(scene.mutex)),
-        Seen::Answered(0)
-    );
-    assert_eq!(rt;
-        finish_lock(core, scene.high, scene.mutex),
-        Ok(Held::InOrder)
-    );
-    Ok(())
+    let added = add_under(core, scene.low, scene.mutex, &mut sum, 3);
+    see_added(rt, added, Ok(DONE));
+    see_value(rt, sum, 8);
+    let held = lock_and_hold(core, scene.low, scene.mutex);
+    see_held(rt, held, Ok(Held::InOrder));
+    let waits = add_under(core, scene.high, scene.mutex, &mut sum, 3);
+    see_added(rt, waits, Err(Seen::Waits));
+}
+
+const UNLOCK: [Row; 1] = [(1, Some(Wish::Unlock(1)), DONE)];
+
+fn lock_behind(rt: &impl Abort, core: &mut Core, scene: &Scene) {
+    play(rt, core, &UNLOCK);
+    let held = finish_lock(core, scene.high, scene.mutex);
+    see_held(rt, held, Ok(Held::InOrder));
 }
 
 #[test]
 fn next_owner_repairs(rt: HostRuntime) -> Result<(), Fail> {
     let mut core = core_of(rt.alloc())?;
-    repair(&rt, &mut core)
+    let scene = fill(&mut core, true)?;
+    repair(&rt, &mut core, &scene);
+    Ok(())
 }
 
-fn repair(rt: &impl Abort, core: &mut Core) -> Result<(), Fail> {
-    let scene = fill(core, true)?;
+fn repair(rt: &impl Abort, core: &mut Core, scene: &Scene) {
     let mut value = 5;
-    assert_eq!(rt;
-        lock_and_repair(core, scene.low, scene.mutex, &mut value, 0),
-        Ok(Held::InOrder)
-    );
-    assert_eq!(rt; (value, core.step(Event::End(scene.low))), (5, Seen::Ended));
-    assert_eq!(rt;
-        lock_and_repair(core, scene.high, scene.mutex, &mut value, 0),
-        Ok(Held::OwnerDied)
-    );
-    assert_eq!(rt; (value, core.health(scene.mutex)), (0, Some(Health::Fine)));
-    Ok(())
+    let held = lock_and_repair(core, scene.low, scene.mutex, &mut value, 0);
+    see_held(rt, held, Ok(Held::InOrder));
+    see_value(rt, value, 5);
+    let ended = core.step(Event::End(scene.low));
+    see_answer(rt, Some(ended), Seen::Ended);
+    let held = lock_and_repair(core, scene.high, scene.mutex, &mut value, 0);
+    see_held(rt, held, Ok(Held::OwnerDied));
+    see_value(rt, value, 0);
+    see_health(rt, core.health(scene.mutex), Health::Fine);
 }
 
 #[test]
 fn who_was_signalled_tests_again(rt: HostRuntime) -> Result<(), Fail> {
     let mut core = core_of(rt.alloc())?;
-    signal(&rt, &mut core)
+    let scene = fill(&mut core, false)?;
+    wait_for_a_signal(&rt, &mut core, &scene);
+    play(&rt, &mut core, &SIGNAL);
+    go_on_signalled(&rt, &mut core, &scene);
+    Ok(())
 }
 
-fn signal(rt: &impl Abort, core: &mut Core) -> Result<(), Fail> {
-    let Scene {
-        low,
-        mutex,
-        cond,
-        ..
-    } = fill(core, false)?;
-    assert_eq!(rt; lock_and_hold(core, low, mutex), Ok(Held::InOrder));
-    assert_eq!(rt;
-        wait_unless(core, low, cond, mutex, false),
-        Awaited::Not(Seen::Waits)
-    );
-    let rows = [
-        (2, Some(Request::Lock(mutex)), Seen::Answered(0)),
-        (2, Some(Request::Signal(cond)), Seen::Answered(0)),
-        (2, Some(Request::Unlock(mutex)), Seen::Answered(0)),
-    ];
-    play(rt, core, &rows)?;
-    assert_eq!(rt; resume_wait(core, low, cond, mutex, true), Awaited::Met);
-    Ok(())
+fn wait_for_a_signal(rt: &impl Abort, core: &mut Core, scene: &Scene) {
+    let held = lock_and_hold(core, scene.low, scene.mutex);
+    see_held(rt, held, Ok(Held::InOrder));
+    let awaited = wait_unless(core, scene.low, scene.cond, scene.mutex, false);
+    see_awaited(rt, awaited, Awaited::Not(Seen::Waits));
+}
+
+/// Thread 2 signals the variable under its mutex.
+const SIGNAL: [Row; 3] = [
+    (2, Some(Wish::Lock(1)), DONE),
+    (2, Some(Wish::Signal(1)), DONE),
+    (2, Some(Wish::Unlock(1)), DONE),
+];
+
+fn go_on_signalled(rt: &impl Abort, core: &mut Core, scene: &Scene) {
+    let awaited = resume_wait(core, scene.low, scene.cond, scene.mutex, true);
+    see_awaited(rt, awaited, Awaited::Met);
 }
 
 #[test]
 fn who_runs_out_of_time_gives_up(rt: HostRuntime) -> Result<(), Fail> {
     let mut core = core_of(rt.alloc())?;
-    run_out_of_time(&rt, &mut core)
+    let scene = fill(&mut core, false)?;
+    give_up_lock(&rt, &mut core, &scene);
+    give_up_wait(&rt, &mut core);
+    Ok(())
 }
 
-/// A thread waits for a mutex up to a time. A tick reaches it, and the thread gives up.
-fn give_up_lock(rt: &impl Abort, core: &mut Core, thread: Tid, mutex: MutexId) {
-    assert_eq!(rt;
-        core.call(thread, Request::TimedLock(mutex, 5)),
-        Seen::Waits
-    );
-    assert_eq!(rt;
-        (core.step(Event::Tick(4)), core.waiting(thread)),
-        (Seen::Ticked, Some(true))
-    );
-    assert_eq!(rt;
-        (core.step(Event::Tick(5)), core.waiting(thread)),
-        (Seen::Ticked, Some(false))
-    );
-    assert_eq!(rt; finish_lock(core, thread, mutex), Err(Seen::Answered(110)));
+/// Thread 2 waits up to a time for the mutex, which thread 1 holds. A tick reaches it, and the thread gives up.
+fn give_up_lock(rt: &impl Abort, core: &mut Core, scene: &Scene) {
+    let held = lock_and_hold(core, scene.low, scene.mutex);
+    see_held(rt, held, Ok(Held::InOrder));
+    play(rt, core, &[(2, Some(Wish::TimedLock(1, 5)), Seen::Waits)]);
+    for (time, rests) in [(4, true), (5, false)] {
+        let ticked = core.step(Event::Tick(time));
+        see_answer(rt, Some(ticked), Seen::Ticked);
+        see_rests(rt, core.waiting(scene.high), rests);
+    }
+    let late = finish_lock(core, scene.high, scene.mutex);
+    see_held(rt, late, Err(Seen::Answered(110)));
 }
 
-fn run_out_of_time(rt: &impl Abort, core: &mut Core) -> Result<(), Fail> {
-    let Scene {
-        low,
-        high,
-        mutex,
-        cond,
-    } = fill(core, false)?;
-    assert_eq!(rt; lock_and_hold(core, low, mutex), Ok(Held::InOrder));
-    give_up_lock(rt, core, high, mutex);
-    let waits = [
-        (1, Some(Request::TimedWait(cond, mutex, 7)), Seen::Waits),
-        (2, Some(Request::TimedLock(mutex, 0)), Seen::Answered(0)),
-        (2, Some(Request::Unlock(mutex)), Seen::Answered(0)),
-    ];
-    play(rt, core, &waits)?;
-    assert_eq!(rt; core.step(Event::Tick(4)), Seen::Refused(Refusal::Past));
-    assert_eq!(rt; next_after(core.step(Event::Tick(7))), Next::Ticked);
-    play(
-        rt,
-        core,
-        &[
-            (1, None, Seen::Answered(110)),
-            (1, Some(Request::Unlock(mutex)), Seen::Answered(0)),
-        ],
-    )
+const WAIT: [Row; 3] = [
+    (1, Some(Wish::TimedWait(1, 1, 7)), Seen::Waits),
+    (2, Some(Wish::TimedLock(1, 0)), DONE),
+    (2, Some(Wish::Unlock(1)), DONE),
+];
+
+const LATE: [Row; 2] = [
+    (1, None, Seen::Answered(110)),
+    (1, Some(Wish::Unlock(1)), DONE),
+];
+
+fn give_up_wait(rt: &impl Abort, core: &mut Core) {
+    play(rt, core, &WAIT);
+    let past = core.step(Event::Tick(4));
+    see_answer(rt, Some(past), Seen::Refused(Refusal::Past));
+    let ticked = core.step(Event::Tick(7));
+    see_next(rt, Some(next_after(ticked)), Next::Ticked);
+    play(rt, core, &LATE);
 }
 
 #[test]
 fn threads_take_turns_an_event_at_a_time(rt: HostRuntime) -> Result<(), Fail> {
     let mut core = core_of(rt.alloc())?;
-    take_turns(&rt, &mut core)
+    fill(&mut core, false)?;
+    take_turns(&rt, &mut core);
+    Ok(())
 }
 
-fn take_turns(rt: &impl Abort, core: &mut Core) -> Result<(), Fail> {
-    let scene = fill(core, false)?;
-    let rows = [
-        (scene.low, Next::GoOn),
-        (scene.high, Next::GoOn),
-        (scene.low, Next::GoOn),
-        (scene.high, Next::GoOn),
-        (scene.low, Next::Closed(0)),
-        (scene.high, Next::GoOn),
-        (scene.high, Next::LetOthersGo),
-    ];
-    for row in rows {
-        let (thread, answer) = row;
-        let seen = one_event(core, thread, Request::Lock(scene.mutex));
-        assert_eq!(rt; next_after(seen), answer, "{thread:?}");
+const TURNS: [(u32, Next); 7] = [
+    (1, Next::GoOn),
+    (2, Next::GoOn),
+    (1, Next::GoOn),
+    (2, Next::GoOn),
+    (1, Next::Closed(0)),
+    (2, Next::GoOn),
+    (2, Next::LetOthersGo),
+];
+
+/// A thread takes the next event of its lock.
+fn lock_on(core: &mut Core, number: u32) -> Option<Next> {
+    let seen = one_event(core, Tid::new(number)?, request(Wish::Lock(1))?);
+    Some(next_after(seen))
+}
+
+fn take_turns(rt: &impl Abort, core: &mut Core) {
+    for row in TURNS {
+        let (number, answer) = row;
+        see_next(rt, lock_on(core, number), answer);
     }
-    Ok(())
 }

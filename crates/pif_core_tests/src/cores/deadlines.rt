@@ -1,48 +1,11 @@
 //! Deadlines of locks and waits: when one is reached, and when it counts no more. Mutex 1 is of kind NORMAL, robust or
 //! stalled; mutexes 2 and 3 are stalled; variable 1 is bound to mutex 1.
-use super::call;
-use pif_core::{Core, Event, Seen};
-use pif_types::{CondId, Kind, Limits, MutexId, Refusal, Request, Tid};
+use crate::driver::{Ask, Reply, Wish, answer, check};
+use pif_core::{Core, Seen};
+use pif_types::{AddFault, Kind, Limits, Refusal};
 use std::alloc::Global;
 use std::process::Abort;
 use std::test::Fail;
-
-/// What is asked of a core. Threads and mutexes go by their numbers.
-#[derive(Clone, Copy, Debug)]
-enum Ask {
-    /// The thread makes this call, up to the first step that isn't `Went`.
-    Call(u32, Request),
-    Begin(u32, Request),
-    Go(u32),
-    /// The thread goes on, up to the first step that isn't `Went`.
-    Finish(u32),
-    End(u32),
-    Tick(u32),
-    Word(u32),
-    Effective(u32),
-    Waiting(u32),
-    OpenCall(u32),
-    Pick,
-    Time,
-}
-
-/// What it answers.
-#[derive(Clone, Copy, Debug, PartialEq, Eq)]
-enum Reply {
-    Is(Seen),
-    Number(Option<u32>),
-    Rests(Option<bool>),
-    Asked(Option<Request>),
-}
-
-/// The mutexes and the variable, to write requests with.
-#[derive(Clone, Copy)]
-struct Names {
-    first: MutexId,
-    second: MutexId,
-    third: MutexId,
-    cond: CondId,
-}
 
 const WENT: Reply = Reply::Is(Seen::Went);
 
@@ -73,7 +36,7 @@ fn scene(alloc: Global, robust: bool, levels: &[u32]) -> Result<Core, Fail> {
     Ok(core)
 }
 
-fn fill(core: &mut Core, robust: bool, levels: &[u32]) -> Result<(), Fail> {
+fn fill(core: &mut Core, robust: bool, levels: &[u32]) -> Result<(), AddFault> {
     let first = core.add_mutex(Kind::Normal, robust)?;
     core.add_mutex(Kind::Normal, false)?;
     core.add_mutex(Kind::Normal, false)?;
@@ -84,56 +47,7 @@ fn fill(core: &mut Core, robust: bool, levels: &[u32]) -> Result<(), Fail> {
     Ok(())
 }
 
-fn named() -> Result<Names, Fail> {
-    Ok(Names {
-        first: MutexId::new(1).ok_or("a mutex")?,
-        second: MutexId::new(2).ok_or("a mutex")?,
-        third: MutexId::new(3).ok_or("a mutex")?,
-        cond: CondId::new(1).ok_or("a variable")?,
-    })
-}
-
-fn thread(number: u32) -> Result<Tid, Fail> {
-    Ok(Tid::new(number).ok_or("a thread")?)
-}
-
-/// The thread goes on with its call until it closes or waits: what the last step was answered.
-fn finish(core: &mut Core, t: Tid) -> Seen {
-    let mut seen = Seen::Went;
-    for _ in 0..24 {
-        if seen == Seen::Went {
-            seen = core.step(Event::Go(t));
-        }
-    }
-    seen
-}
-
-fn answer(core: &mut Core, ask: Ask) -> Result<Reply, Fail> {
-    Ok(match ask {
-        Ask::Call(t, request) => Reply::Is(call(core, thread(t)?, request)),
-        Ask::Begin(t, request) => Reply::Is(core.step(Event::Begin(thread(t)?, request))),
-        Ask::Go(t) => Reply::Is(core.step(Event::Go(thread(t)?))),
-        Ask::Finish(t) => Reply::Is(finish(core, thread(t)?)),
-        Ask::End(t) => Reply::Is(core.step(Event::End(thread(t)?))),
-        Ask::Tick(time) => Reply::Is(core.step(Event::Tick(time))),
-        Ask::Word(m) => Reply::Number(core.word(MutexId::new(m).ok_or("a mutex")?)),
-        Ask::Effective(t) => Reply::Number(core.effective(thread(t)?).map(|prio| prio.get())),
-        Ask::Waiting(t) => Reply::Rests(core.waiting(thread(t)?)),
-        Ask::OpenCall(t) => Reply::Asked(core.open_call(thread(t)?)),
-        Ask::Pick => Reply::Number(core.pick().map(|t| t.get())),
-        Ask::Time => Reply::Number(Some(core.time())),
-    })
-}
-
-/// Asks all this in turn, and sees that each answer is the one beside it.
-fn check(rt: &impl Abort, core: &mut Core, steps: &[(Ask, Reply)]) -> Result<(), Fail> {
-    for (ask, reply) in steps {
-        assert_eq!(rt; answer(core, *ask)?, *reply, "at {ask:?}");
-    }
-    Ok(())
-}
-
-/// The same, of a new core.
+/// Asks all this of a new core.
 fn play(
     rt: &impl Abort,
     alloc: Global,
@@ -142,322 +56,318 @@ fn play(
     steps: &[(Ask, Reply)],
 ) -> Result<(), Fail> {
     let mut core = scene(alloc, robust, levels)?;
-    check(rt, &mut core, steps)
+    check(rt, &mut core, steps);
+    Ok(())
 }
 
-fn number(n: u32) -> Reply {
-    Reply::Number(Some(n))
-}
+const LOCK_EXPIRES: [(Ask, Reply); 23] = [
+    (Ask::Call(1, Wish::Lock(1)), DONE),
+    (Ask::Begin(2, Wish::TimedLock(1, 5)), BEGUN),
+    (Ask::Go(2), WENT),
+    (Ask::Go(2), WENT),
+    (Ask::Go(2), WAITS),
+    (Ask::Effective(1), Reply::Number(50)),
+    (Ask::IsOpen(2, Wish::TimedLock(1, 5)), Reply::Opened(true)),
+    (Ask::Tick(4), TICKED),
+    (Ask::Waiting(2), Reply::Rests(true)),
+    (Ask::Go(2), WAITS),
+    (Ask::Tick(5), TICKED),
+    (Ask::Waiting(2), Reply::Rests(false)),
+    (Ask::Pick, Reply::Number(1)),
+    (Ask::Go(2), TIMED_OUT),
+    (Ask::Pick, Reply::Number(2)),
+    (Ask::Effective(1), Reply::Number(10)),
+    (Ask::Word(1), Reply::Number(0x8000_0001)),
+    (Ask::Tick(4), Reply::Is(Seen::Refused(Refusal::Past))),
+    (Ask::Tick(5), TICKED),
+    (Ask::Time, Reply::Number(5)),
+    (Ask::Call(1, Wish::Unlock(1)), DONE),
+    (Ask::Word(1), Reply::Number(0)),
+    (Ask::Call(2, Wish::TimedLock(1, 0)), DONE),
+];
 
 #[test]
 fn timed_lock_expires(rt: HostRuntime) -> Result<(), Fail> {
-    let m = named()?.first;
-    let steps = [
-        (Ask::Call(1, Request::Lock(m)), DONE),
-        (Ask::Begin(2, Request::TimedLock(m, 5)), BEGUN),
-        (Ask::Go(2), WENT),
-        (Ask::Go(2), WENT),
-        (Ask::Go(2), WAITS),
-        (Ask::Effective(1), number(50)),
-        (
-            Ask::OpenCall(2),
-            Reply::Asked(Some(Request::TimedLock(m, 5))),
-        ),
-        (Ask::Tick(4), TICKED),
-        (Ask::Waiting(2), Reply::Rests(Some(true))),
-        (Ask::Go(2), WAITS),
-        (Ask::Tick(5), TICKED),
-        (Ask::Waiting(2), Reply::Rests(Some(false))),
-        (Ask::Pick, number(1)),
-        (Ask::Go(2), TIMED_OUT),
-        (Ask::Pick, number(2)),
-        (Ask::Effective(1), number(10)),
-        (Ask::Word(1), number(0x8000_0001)),
-        (Ask::Tick(4), Reply::Is(Seen::Refused(Refusal::Past))),
-        (Ask::Tick(5), TICKED),
-        (Ask::Time, number(5)),
-        (Ask::Call(1, Request::Unlock(m)), DONE),
-        (Ask::Word(1), number(0)),
-        (Ask::Call(2, Request::TimedLock(m, 0)), DONE),
-    ];
-    play(&rt, rt.alloc(), false, &[10, 50], &steps)
+    play(&rt, rt.alloc(), false, &[10, 50], &LOCK_EXPIRES)
 }
+
+const HAND_OVER: [(Ask, Reply); 8] = [
+    (Ask::Call(1, Wish::Lock(1)), DONE),
+    (Ask::Call(2, Wish::TimedLock(1, 5)), WAITS),
+    (Ask::Tick(4), TICKED),
+    (Ask::Go(2), WAITS),
+    (Ask::Call(1, Wish::Unlock(1)), DONE),
+    (Ask::Tick(5), TICKED),
+    (Ask::Go(2), DONE),
+    (Ask::Word(1), Reply::Number(0x8000_0002)),
+];
 
 #[test]
 fn hand_over_beats_expiry(rt: HostRuntime) -> Result<(), Fail> {
-    let m = named()?.first;
-    let steps = [
-        (Ask::Call(1, Request::Lock(m)), DONE),
-        (Ask::Call(2, Request::TimedLock(m, 5)), WAITS),
-        (Ask::Tick(4), TICKED),
-        (Ask::Go(2), WAITS),
-        (Ask::Call(1, Request::Unlock(m)), DONE),
-        (Ask::Tick(5), TICKED),
-        (Ask::Go(2), DONE),
-        (Ask::Word(1), number(0x8000_0002)),
-    ];
-    play(&rt, rt.alloc(), false, &[10, 50], &steps)
+    play(&rt, rt.alloc(), false, &[10, 50], &HAND_OVER)
 }
+
+const WAIT_EXPIRES: [(Ask, Reply); 13] = [
+    (Ask::Call(2, Wish::Lock(1)), DONE),
+    (Ask::Call(2, Wish::TimedWait(1, 1, 3)), WAITS),
+    (Ask::Call(1, Wish::Lock(1)), DONE),
+    (Ask::Tick(3), TICKED),
+    (Ask::Go(2), WENT),
+    (Ask::Go(2), WENT),
+    (Ask::Go(2), WAITS),
+    (
+        Ask::IsOpen(2, Wish::TimedWait(1, 1, 3)),
+        Reply::Opened(true),
+    ),
+    (Ask::Waiting(2), Reply::Rests(true)),
+    (Ask::Call(1, Wish::Unlock(1)), DONE),
+    (Ask::Go(2), TIMED_OUT),
+    (Ask::Word(1), Reply::Number(0x8000_0002)),
+    (Ask::Call(1, Wish::Signal(1)), DONE),
+];
 
 #[test]
 fn timed_wait_expires(rt: HostRuntime) -> Result<(), Fail> {
-    let n = named()?;
-    let steps = [
-        (Ask::Call(2, Request::Lock(n.first)), DONE),
-        (Ask::Call(2, Request::TimedWait(n.cond, n.first, 3)), WAITS),
-        (Ask::Call(1, Request::Lock(n.first)), DONE),
-        (Ask::Tick(3), TICKED),
-        (Ask::Go(2), WENT),
-        (Ask::Go(2), WENT),
-        (Ask::Go(2), WAITS),
-        (
-            Ask::OpenCall(2),
-            Reply::Asked(Some(Request::TimedWait(n.cond, n.first, 3))),
-        ),
-        (Ask::Waiting(2), Reply::Rests(Some(true))),
-        (Ask::Call(1, Request::Unlock(n.first)), DONE),
-        (Ask::Go(2), TIMED_OUT),
-        (Ask::Word(1), number(0x8000_0002)),
-        (Ask::Call(1, Request::Signal(n.cond)), DONE),
-    ];
-    play(&rt, rt.alloc(), false, &[10, 10], &steps)
+    play(&rt, rt.alloc(), false, &[10, 10], &WAIT_EXPIRES)
 }
+
+const WAIT_MEETS_DEATH: [(Ask, Reply); 8] = [
+    (Ask::Call(2, Wish::Lock(1)), DONE),
+    (Ask::Call(2, Wish::TimedWait(1, 1, 3)), WAITS),
+    (Ask::Call(1, Wish::Lock(1)), DONE),
+    (Ask::End(1), ENDED),
+    (Ask::Word(1), Reply::Number(0x4000_0000)),
+    (Ask::Tick(3), TICKED),
+    (Ask::Finish(2), OWNER_DEAD),
+    (Ask::Word(1), Reply::Number(0x0000_0002)),
+];
 
 #[test]
 fn timed_wait_meets_owner_death(rt: HostRuntime) -> Result<(), Fail> {
-    let n = named()?;
-    let steps = [
-        (Ask::Call(2, Request::Lock(n.first)), DONE),
-        (Ask::Call(2, Request::TimedWait(n.cond, n.first, 3)), WAITS),
-        (Ask::Call(1, Request::Lock(n.first)), DONE),
-        (Ask::End(1), ENDED),
-        (Ask::Word(1), number(0x4000_0000)),
-        (Ask::Tick(3), TICKED),
-        (Ask::Finish(2), OWNER_DEAD),
-        (Ask::Word(1), number(0x0000_0002)),
-    ];
-    play(&rt, rt.alloc(), true, &[10, 10], &steps)
+    play(&rt, rt.alloc(), true, &[10, 10], &WAIT_MEETS_DEATH)
 }
 
 // Thread 3 takes the mutex over from who ended, and unlocks it as it is.
+const WAIT_MEETS_UNUSABLE: [(Ask, Reply); 9] = [
+    (Ask::Call(2, Wish::Lock(1)), DONE),
+    (Ask::Call(2, Wish::TimedWait(1, 1, 3)), WAITS),
+    (Ask::Call(1, Wish::Lock(1)), DONE),
+    (Ask::End(1), ENDED),
+    (Ask::Call(3, Wish::Lock(1)), OWNER_DEAD),
+    (Ask::Call(3, Wish::Unlock(1)), DONE),
+    (Ask::Tick(3), TICKED),
+    (Ask::Finish(2), UNUSABLE),
+    (Ask::Word(1), Reply::Number(0)),
+];
+
 #[test]
 fn timed_wait_meets_an_unusable_mutex(rt: HostRuntime) -> Result<(), Fail> {
-    let n = named()?;
-    let steps = [
-        (Ask::Call(2, Request::Lock(n.first)), DONE),
-        (Ask::Call(2, Request::TimedWait(n.cond, n.first, 3)), WAITS),
-        (Ask::Call(1, Request::Lock(n.first)), DONE),
-        (Ask::End(1), ENDED),
-        (Ask::Call(3, Request::Lock(n.first)), OWNER_DEAD),
-        (Ask::Call(3, Request::Unlock(n.first)), DONE),
-        (Ask::Tick(3), TICKED),
-        (Ask::Finish(2), UNUSABLE),
-        (Ask::Word(1), number(0)),
-    ];
-    play(&rt, rt.alloc(), true, &[10, 10, 10], &steps)
+    play(&rt, rt.alloc(), true, &[10, 10, 10], &WAIT_MEETS_UNUSABLE)
 }
+
+const RELOCK_NORMAL: [(Ask, Reply); 7] = [
+    (Ask::Call(1, Wish::Lock(1)), DONE),
+    (Ask::Begin(1, Wish::TimedLock(1, 2)), BEGUN),
+    (Ask::Go(1), WENT),
+    (Ask::Go(1), WAITS),
+    (Ask::Tick(2), TICKED),
+    (Ask::Go(1), TIMED_OUT),
+    (Ask::Call(1, Wish::Unlock(1)), DONE),
+];
 
 #[test]
 fn timed_relock_of_own_normal_mutex(rt: HostRuntime) -> Result<(), Fail> {
-    let m = named()?.first;
-    let steps = [
-        (Ask::Call(1, Request::Lock(m)), DONE),
-        (Ask::Begin(1, Request::TimedLock(m, 2)), BEGUN),
-        (Ask::Go(1), WENT),
-        (Ask::Go(1), WAITS),
-        (Ask::Tick(2), TICKED),
-        (Ask::Go(1), TIMED_OUT),
-        (Ask::Call(1, Request::Unlock(m)), DONE),
-    ];
-    play(&rt, rt.alloc(), false, &[10], &steps)
+    play(&rt, rt.alloc(), false, &[10], &RELOCK_NORMAL)
 }
 
 // The lock of a robust mutex of one's own leaves it on the own list: the end of the thread passes it on.
+const RELOCK_ROBUST: [(Ask, Reply); 8] = [
+    (Ask::Call(1, Wish::Lock(1)), DONE),
+    (Ask::Call(1, Wish::TimedLock(1, 2)), WAITS),
+    (Ask::Tick(2), TICKED),
+    (Ask::Go(1), WENT),
+    (Ask::Go(1), TIMED_OUT),
+    (Ask::End(1), ENDED),
+    (Ask::Word(1), Reply::Number(0x4000_0000)),
+    (Ask::Call(2, Wish::TimedLock(1, 2)), OWNER_DEAD),
+];
+
 #[test]
 fn timed_relock_of_own_robust_mutex(rt: HostRuntime) -> Result<(), Fail> {
-    let m = named()?.first;
-    let steps = [
-        (Ask::Call(1, Request::Lock(m)), DONE),
-        (Ask::Call(1, Request::TimedLock(m, 2)), WAITS),
-        (Ask::Tick(2), TICKED),
-        (Ask::Go(1), WENT),
-        (Ask::Go(1), TIMED_OUT),
-        (Ask::End(1), ENDED),
-        (Ask::Word(1), number(0x4000_0000)),
-        (Ask::Call(2, Request::TimedLock(m, 2)), OWNER_DEAD),
-    ];
-    play(&rt, rt.alloc(), true, &[10, 10], &steps)
+    play(&rt, rt.alloc(), true, &[10, 10], &RELOCK_ROBUST)
 }
 
 // The deadline of who waits for a lost mutex counts, whether it is queued or comes when the owner has ended.
+const LOST_EXPIRES: [(Ask, Reply); 11] = [
+    (Ask::Call(1, Wish::Lock(1)), DONE),
+    (Ask::Call(2, Wish::TimedLock(1, 5)), WAITS),
+    (Ask::Tick(5), TICKED),
+    (Ask::End(1), ENDED),
+    (Ask::Go(2), TIMED_OUT),
+    (Ask::Word(1), Reply::Number(0x8000_0001)),
+    (Ask::Call(2, Wish::TimedLock(1, 7)), WAITS),
+    (Ask::Tick(6), TICKED),
+    (Ask::Go(2), WAITS),
+    (Ask::Tick(7), TICKED),
+    (Ask::Go(2), TIMED_OUT),
+];
+
 #[test]
 fn timed_lock_of_a_lost_mutex_expires(rt: HostRuntime) -> Result<(), Fail> {
-    let m = named()?.first;
-    let steps = [
-        (Ask::Call(1, Request::Lock(m)), DONE),
-        (Ask::Call(2, Request::TimedLock(m, 5)), WAITS),
-        (Ask::Tick(5), TICKED),
-        (Ask::End(1), ENDED),
-        (Ask::Go(2), TIMED_OUT),
-        (Ask::Word(1), number(0x8000_0001)),
-        (Ask::Call(2, Request::TimedLock(m, 7)), WAITS),
-        (Ask::Tick(6), TICKED),
-        (Ask::Go(2), WAITS),
-        (Ask::Tick(7), TICKED),
-        (Ask::Go(2), TIMED_OUT),
-    ];
-    play(&rt, rt.alloc(), false, &[10, 10], &steps)
+    play(&rt, rt.alloc(), false, &[10, 10], &LOST_EXPIRES)
 }
 
 // A robust mutex is handed over by its owner's end, also to who is past its deadline.
+const DEATH: [(Ask, Reply); 6] = [
+    (Ask::Call(1, Wish::Lock(1)), DONE),
+    (Ask::Call(2, Wish::TimedLock(1, 5)), WAITS),
+    (Ask::Tick(5), TICKED),
+    (Ask::End(1), ENDED),
+    (Ask::Word(1), Reply::Number(0xc000_0002)),
+    (Ask::Finish(2), OWNER_DEAD),
+];
+
 #[test]
 fn owner_death_beats_expiry(rt: HostRuntime) -> Result<(), Fail> {
-    let m = named()?.first;
-    let steps = [
-        (Ask::Call(1, Request::Lock(m)), DONE),
-        (Ask::Call(2, Request::TimedLock(m, 5)), WAITS),
-        (Ask::Tick(5), TICKED),
-        (Ask::End(1), ENDED),
-        (Ask::Word(1), number(0xc000_0002)),
-        (Ask::Finish(2), OWNER_DEAD),
-    ];
-    play(&rt, rt.alloc(), true, &[10, 10], &steps)
+    play(&rt, rt.alloc(), true, &[10, 10], &DEATH)
 }
 
 // Thread 2 waits with a deadline of 3. A signal moves it to the mutex, which thread 1 holds, and then hands it over; or
 // hands it over at once; or comes before thread 2 is parked.
+const REQUEUED: [(Ask, Reply); 9] = [
+    (Ask::Call(2, Wish::Lock(1)), DONE),
+    (Ask::Call(2, Wish::TimedWait(1, 1, 3)), WAITS),
+    (Ask::Call(1, Wish::Lock(1)), DONE),
+    (Ask::Call(1, Wish::Signal(1)), DONE),
+    (Ask::Tick(3), TICKED),
+    (Ask::Go(2), WAITS),
+    (Ask::Call(1, Wish::Unlock(1)), DONE),
+    (Ask::Go(2), DONE),
+    (Ask::Word(1), Reply::Number(0x8000_0002)),
+];
+
+const SIGNALLED: [(Ask, Reply); 6] = [
+    (Ask::Call(2, Wish::Lock(1)), DONE),
+    (Ask::Call(2, Wish::TimedWait(1, 1, 3)), WAITS),
+    (Ask::Call(1, Wish::Signal(1)), DONE),
+    (Ask::Tick(3), TICKED),
+    (Ask::Go(2), DONE),
+    (Ask::Word(1), Reply::Number(0x0000_0002)),
+];
+
+const PASSED_BY: [(Ask, Reply); 10] = [
+    (Ask::Call(2, Wish::Lock(1)), DONE),
+    (Ask::Begin(2, Wish::TimedWait(1, 1, 3)), BEGUN),
+    (Ask::Go(2), WENT),
+    (Ask::Go(2), WENT),
+    (Ask::Go(2), WENT),
+    (Ask::Call(1, Wish::Signal(1)), DONE),
+    (Ask::Tick(3), TICKED),
+    (Ask::Go(2), WENT),
+    (Ask::Go(2), DONE),
+    (Ask::Word(1), Reply::Number(0x0000_0002)),
+];
+
 #[test]
 fn unblocked_wait_expires_no_more(rt: HostRuntime) -> Result<(), Fail> {
-    let Names { first, cond, .. } = named()?;
-    let requeued = [
-        (Ask::Call(2, Request::Lock(first)), DONE),
-        (Ask::Call(2, Request::TimedWait(cond, first, 3)), WAITS),
-        (Ask::Call(1, Request::Lock(first)), DONE),
-        (Ask::Call(1, Request::Signal(cond)), DONE),
-        (Ask::Tick(3), TICKED),
-        (Ask::Go(2), WAITS),
-        (Ask::Call(1, Request::Unlock(first)), DONE),
-        (Ask::Go(2), DONE),
-        (Ask::Word(1), number(0x8000_0002)),
-    ];
-    let signalled = [
-        (Ask::Call(2, Request::Lock(first)), DONE),
-        (Ask::Call(2, Request::TimedWait(cond, first, 3)), WAITS),
-        (Ask::Call(1, Request::Signal(cond)), DONE),
-        (Ask::Tick(3), TICKED),
-        (Ask::Go(2), DONE),
-        (Ask::Word(1), number(0x0000_0002)),
-    ];
-    let passed_by = [
-        (Ask::Call(2, Request::Lock(first)), DONE),
-        (Ask::Begin(2, Request::TimedWait(cond, first, 3)), BEGUN),
-        (Ask::Go(2), WENT),
-        (Ask::Go(2), WENT),
-        (Ask::Go(2), WENT),
-        (Ask::Call(1, Request::Signal(cond)), DONE),
-        (Ask::Tick(3), TICKED),
-        (Ask::Go(2), WENT),
-        (Ask::Go(2), DONE),
-        (Ask::Word(1), number(0x0000_0002)),
-    ];
-    play(&rt, rt.alloc(), false, &[10, 10], &requeued)?;
-    play(&rt, rt.alloc(), false, &[10, 10], &signalled)?;
-    play(&rt, rt.alloc(), false, &[10, 10], &passed_by)
+    play(&rt, rt.alloc(), false, &[10, 10], &REQUEUED)?;
+    play(&rt, rt.alloc(), false, &[10, 10], &SIGNALLED)?;
+    play(&rt, rt.alloc(), false, &[10, 10], &PASSED_BY)
 }
 
 // Thread 1 waits with mutex 1, and holds mutex 2, for which thread 2 waits with mutex 1.
+const LOCK_DEADLOCKS: [(Ask, Reply); 9] = [
+    (Ask::Call(1, Wish::Lock(1)), DONE),
+    (Ask::Call(1, Wish::Lock(2)), DONE),
+    (Ask::Call(1, Wish::TimedWait(1, 1, 3)), WAITS),
+    (Ask::Call(2, Wish::Lock(1)), DONE),
+    (Ask::Call(2, Wish::Lock(2)), WAITS),
+    (Ask::Tick(3), TICKED),
+    (Ask::Finish(1), DEADLOCK),
+    (Ask::Word(1), Reply::Number(0x0000_0002)),
+    (Ask::Word(2), Reply::Number(0x8000_0001)),
+];
+
 #[test]
 fn lock_after_an_expiry_can_answer_deadlock(rt: HostRuntime) -> Result<(), Fail> {
-    let n = named()?;
-    let steps = [
-        (Ask::Call(1, Request::Lock(n.first)), DONE),
-        (Ask::Call(1, Request::Lock(n.second)), DONE),
-        (Ask::Call(1, Request::TimedWait(n.cond, n.first, 3)), WAITS),
-        (Ask::Call(2, Request::Lock(n.first)), DONE),
-        (Ask::Call(2, Request::Lock(n.second)), WAITS),
-        (Ask::Tick(3), TICKED),
-        (Ask::Finish(1), DEADLOCK),
-        (Ask::Word(1), number(0x0000_0002)),
-        (Ask::Word(2), number(0x8000_0001)),
-    ];
-    play(&rt, rt.alloc(), false, &[10, 10], &steps)
+    play(&rt, rt.alloc(), false, &[10, 10], &LOCK_DEADLOCKS)
 }
 
 // Each of threads 2, 3 and 4 waits for the one before it, and the last one gives up first.
+const BOOST_FALLS: [(Ask, Reply); 19] = [
+    (Ask::Call(1, Wish::Lock(1)), DONE),
+    (Ask::Call(2, Wish::Lock(2)), DONE),
+    (Ask::Call(3, Wish::Lock(3)), DONE),
+    (Ask::Call(2, Wish::TimedLock(1, 5)), WAITS),
+    (Ask::Call(3, Wish::TimedLock(2, 4)), WAITS),
+    (Ask::Call(4, Wish::TimedLock(3, 3)), WAITS),
+    (Ask::Effective(1), Reply::Number(40)),
+    (Ask::Tick(3), TICKED),
+    (Ask::Go(4), TIMED_OUT),
+    (Ask::Effective(1), Reply::Number(30)),
+    (Ask::Effective(2), Reply::Number(30)),
+    (Ask::Effective(3), Reply::Number(30)),
+    (Ask::Tick(4), TICKED),
+    (Ask::Go(3), TIMED_OUT),
+    (Ask::Effective(1), Reply::Number(20)),
+    (Ask::Effective(2), Reply::Number(20)),
+    (Ask::Tick(5), TICKED),
+    (Ask::Go(2), TIMED_OUT),
+    (Ask::Effective(1), Reply::Number(10)),
+];
+
 #[test]
 fn boost_falls_with_each_expiry(rt: HostRuntime) -> Result<(), Fail> {
-    let n = named()?;
-    let steps = [
-        (Ask::Call(1, Request::Lock(n.first)), DONE),
-        (Ask::Call(2, Request::Lock(n.second)), DONE),
-        (Ask::Call(3, Request::Lock(n.third)), DONE),
-        (Ask::Call(2, Request::TimedLock(n.first, 5)), WAITS),
-        (Ask::Call(3, Request::TimedLock(n.second, 4)), WAITS),
-        (Ask::Call(4, Request::TimedLock(n.third, 3)), WAITS),
-        (Ask::Effective(1), number(40)),
-        (Ask::Tick(3), TICKED),
-        (Ask::Go(4), TIMED_OUT),
-        (Ask::Effective(1), number(30)),
-        (Ask::Effective(2), number(30)),
-        (Ask::Effective(3), number(30)),
-        (Ask::Tick(4), TICKED),
-        (Ask::Go(3), TIMED_OUT),
-        (Ask::Effective(1), number(20)),
-        (Ask::Effective(2), number(20)),
-        (Ask::Tick(5), TICKED),
-        (Ask::Go(2), TIMED_OUT),
-        (Ask::Effective(1), number(10)),
-    ];
-    play(&rt, rt.alloc(), false, &[10, 20, 30, 40], &steps)
+    play(&rt, rt.alloc(), false, &[10, 20, 30, 40], &BOOST_FALLS)
 }
 
 // The same, and thread 3 gives up first, for which thread 4 waits on.
+const MIDDLE_LEAVES: [(Ask, Reply); 18] = [
+    (Ask::Call(1, Wish::Lock(1)), DONE),
+    (Ask::Call(2, Wish::Lock(2)), DONE),
+    (Ask::Call(3, Wish::Lock(3)), DONE),
+    (Ask::Call(2, Wish::TimedLock(1, 5)), WAITS),
+    (Ask::Call(3, Wish::TimedLock(2, 3)), WAITS),
+    (Ask::Call(4, Wish::TimedLock(3, 4)), WAITS),
+    (Ask::Tick(3), TICKED),
+    (Ask::Go(4), WAITS),
+    (Ask::Go(3), TIMED_OUT),
+    (Ask::Effective(1), Reply::Number(20)),
+    (Ask::Effective(2), Reply::Number(20)),
+    (Ask::Effective(3), Reply::Number(40)),
+    (Ask::Tick(4), TICKED),
+    (Ask::Go(4), TIMED_OUT),
+    (Ask::Effective(3), Reply::Number(30)),
+    (Ask::Tick(5), TICKED),
+    (Ask::Go(2), TIMED_OUT),
+    (Ask::Effective(1), Reply::Number(10)),
+];
+
 #[test]
 fn boost_from_above_ends_with_the_middle(rt: HostRuntime) -> Result<(), Fail> {
-    let n = named()?;
-    let steps = [
-        (Ask::Call(1, Request::Lock(n.first)), DONE),
-        (Ask::Call(2, Request::Lock(n.second)), DONE),
-        (Ask::Call(3, Request::Lock(n.third)), DONE),
-        (Ask::Call(2, Request::TimedLock(n.first, 5)), WAITS),
-        (Ask::Call(3, Request::TimedLock(n.second, 3)), WAITS),
-        (Ask::Call(4, Request::TimedLock(n.third, 4)), WAITS),
-        (Ask::Tick(3), TICKED),
-        (Ask::Go(4), WAITS),
-        (Ask::Go(3), TIMED_OUT),
-        (Ask::Effective(1), number(20)),
-        (Ask::Effective(2), number(20)),
-        (Ask::Effective(3), number(40)),
-        (Ask::Tick(4), TICKED),
-        (Ask::Go(4), TIMED_OUT),
-        (Ask::Effective(3), number(30)),
-        (Ask::Tick(5), TICKED),
-        (Ask::Go(2), TIMED_OUT),
-        (Ask::Effective(1), number(10)),
-    ];
-    play(&rt, rt.alloc(), false, &[10, 20, 30, 40], &steps)
+    play(&rt, rt.alloc(), false, &[10, 20, 30, 40], &MIDDLE_LEAVES)
 }
 
 // Threads 2, 3 and 4 wait for thread 1, and are due at once.
+const WAITERS_LEAVE: [(Ask, Reply); 13] = [
+    (Ask::Call(1, Wish::Lock(1)), DONE),
+    (Ask::Call(2, Wish::TimedLock(1, 3)), WAITS),
+    (Ask::Call(3, Wish::TimedLock(1, 3)), WAITS),
+    (Ask::Call(4, Wish::TimedLock(1, 3)), WAITS),
+    (Ask::Effective(1), Reply::Number(40)),
+    (Ask::Tick(3), TICKED),
+    (Ask::Go(4), TIMED_OUT),
+    (Ask::Effective(1), Reply::Number(30)),
+    (Ask::Go(3), TIMED_OUT),
+    (Ask::Effective(1), Reply::Number(20)),
+    (Ask::Go(2), TIMED_OUT),
+    (Ask::Effective(1), Reply::Number(10)),
+    (Ask::Word(1), Reply::Number(0x8000_0001)),
+];
+
 #[test]
 fn boost_falls_waiter_by_waiter(rt: HostRuntime) -> Result<(), Fail> {
-    let m = named()?.first;
-    let steps = [
-        (Ask::Call(1, Request::Lock(m)), DONE),
-        (Ask::Call(2, Request::TimedLock(m, 3)), WAITS),
-        (Ask::Call(3, Request::TimedLock(m, 3)), WAITS),
-        (Ask::Call(4, Request::TimedLock(m, 3)), WAITS),
-        (Ask::Effective(1), number(40)),
-        (Ask::Tick(3), TICKED),
-        (Ask::Go(4), TIMED_OUT),
-        (Ask::Effective(1), number(30)),
-        (Ask::Go(3), TIMED_OUT),
-        (Ask::Effective(1), number(20)),
-        (Ask::Go(2), TIMED_OUT),
-        (Ask::Effective(1), number(10)),
-        (Ask::Word(1), number(0x8000_0001)),
-    ];
-    play(&rt, rt.alloc(), false, &[10, 20, 30, 40], &steps)
+    play(&rt, rt.alloc(), false, &[10, 20, 30, 40], &WAITERS_LEAVE)
 }
 
 /// What an end leaves: the word of mutex 1, what thread 2 is answered that locks it, and the word after that.
@@ -491,106 +401,132 @@ fn see_ends(
 ) -> Result<(), Fail> {
     for steps in 0..ends.len() {
         let mut core = scene(alloc, robust, &[20, 10, 10, 10, 10])?;
-        check(rt, &mut core, calls)?;
-        end_after(rt, &mut core, steps, waited, ends[steps])?;
+        see_end(rt, &mut core, calls, steps, waited, ends[steps]);
     }
     Ok(())
 }
 
 /// Thread 1 is behind its deadline of 3, takes so many steps and ends, and thread 2 goes on.
-fn end_after(
+fn see_end(
     rt: &impl Abort,
     core: &mut Core,
+    calls: &[(Ask, Reply)],
     steps: usize,
     waited: bool,
     left: Left,
-) -> Result<(), Fail> {
-    let t = thread(1)?;
+) {
+    check(rt, core, calls);
+    pass_the_deadline(core, steps);
     let (word, reply, later) = left;
-    core.step(Event::Tick(3));
-    for _ in 0..steps {
-        core.step(Event::Go(t));
-    }
     let then = if waited {
         Ask::Finish(2)
     } else {
-        Ask::Call(2, Request::Lock(named()?.first))
+        Ask::Call(2, Wish::Lock(1))
     };
     let end = [
         (Ask::End(1), ENDED),
-        (Ask::Word(1), number(word)),
+        (Ask::Word(1), Reply::Number(word)),
         (then, reply),
-        (Ask::Word(1), number(later)),
+        (Ask::Word(1), Reply::Number(later)),
     ];
-    check(rt, core, &end)
+    check(rt, core, &end);
+}
+
+fn pass_the_deadline(core: &mut Core, steps: usize) {
+    let _ticked = answer(core, Ask::Tick(3));
+    for _ in 0..steps {
+        let _gone = answer(core, Ask::Go(1));
+    }
 }
 
 // Of a mutex of thread 5. Thread 2 comes behind the end, or waits before it.
+const AT_A_LOCK: [(Ask, Reply); 3] = [
+    (Ask::Call(5, Wish::Lock(1)), DONE),
+    (Ask::Call(1, Wish::TimedLock(1, 3)), WAITS),
+    (Ask::Call(2, Wish::Lock(1)), WAITS),
+];
+
 #[test]
 fn who_expires_at_a_lock_may_end_at_any_step(rt: HostRuntime) -> Result<(), Fail> {
-    let m = named()?.first;
-    let calls = [
-        (Ask::Call(5, Request::Lock(m)), DONE),
-        (Ask::Call(1, Request::TimedLock(m, 3)), WAITS),
-        (Ask::Call(2, Request::Lock(m)), WAITS),
-    ];
     let held = [HELD_MARKED; 3];
-    see_ends(&rt, rt.alloc(), false, &calls[..2], false, &held[..2])?;
-    see_ends(&rt, rt.alloc(), true, &calls[..2], false, &held)?;
-    see_ends(&rt, rt.alloc(), false, &calls, true, &held[..2])?;
-    see_ends(&rt, rt.alloc(), true, &calls, true, &held)
+    see_ends(&rt, rt.alloc(), false, &AT_A_LOCK[..2], false, &held[..2])?;
+    see_ends(&rt, rt.alloc(), true, &AT_A_LOCK[..2], false, &held)?;
+    see_ends(&rt, rt.alloc(), false, &AT_A_LOCK, true, &held[..2])?;
+    see_ends(&rt, rt.alloc(), true, &AT_A_LOCK, true, &held)
 }
+
+const AT_AN_OWN: [(Ask, Reply); 2] = [
+    (Ask::Call(1, Wish::Lock(1)), DONE),
+    (Ask::Call(1, Wish::TimedLock(1, 3)), WAITS),
+];
+
+const AT_AN_OWN_WAITED: [(Ask, Reply); 3] = [
+    (Ask::Call(1, Wish::Lock(1)), DONE),
+    (Ask::Call(2, Wish::Lock(1)), WAITS),
+    (Ask::Call(1, Wish::TimedLock(1, 3)), WAITS),
+];
 
 #[test]
 fn who_expires_at_an_own_mutex_may_end_at_any_step(rt: HostRuntime) -> Result<(), Fail> {
-    let m = named()?.first;
-    let own = [
-        (Ask::Call(1, Request::Lock(m)), DONE),
-        (Ask::Call(1, Request::TimedLock(m, 3)), WAITS),
-    ];
-    let waited = [
-        (Ask::Call(1, Request::Lock(m)), DONE),
-        (Ask::Call(2, Request::Lock(m)), WAITS),
-        (Ask::Call(1, Request::TimedLock(m, 3)), WAITS),
-    ];
-    see_ends(&rt, rt.alloc(), false, &own, false, &[LOST; 2])?;
-    see_ends(&rt, rt.alloc(), true, &own, false, &[DIED; 3])?;
-    see_ends(&rt, rt.alloc(), false, &waited, true, &[LOST_MARKED; 2])?;
-    see_ends(&rt, rt.alloc(), true, &waited, true, &[DIED_WAITED; 3])
+    see_ends(&rt, rt.alloc(), false, &AT_AN_OWN, false, &[LOST; 2])?;
+    see_ends(&rt, rt.alloc(), true, &AT_AN_OWN, false, &[DIED; 3])?;
+    see_ends(
+        &rt,
+        rt.alloc(),
+        false,
+        &AT_AN_OWN_WAITED,
+        true,
+        &[LOST_MARKED; 2],
+    )?;
+    see_ends(
+        &rt,
+        rt.alloc(),
+        true,
+        &AT_AN_OWN_WAITED,
+        true,
+        &[DIED_WAITED; 3],
+    )
 }
 
 // Nobody owns the mutex by then, or thread 5 owns it.
+const AT_A_WAIT: [(Ask, Reply); 4] = [
+    (Ask::Call(1, Wish::Lock(1)), DONE),
+    (Ask::Call(1, Wish::TimedWait(1, 1, 3)), WAITS),
+    (Ask::Call(5, Wish::Lock(1)), DONE),
+    (Ask::Call(2, Wish::Lock(1)), WAITS),
+];
+
 #[test]
 fn who_expires_at_a_wait_may_end_at_any_step(rt: HostRuntime) -> Result<(), Fail> {
-    let Names { first, cond, .. } = named()?;
-    let calls = [
-        (Ask::Call(1, Request::Lock(first)), DONE),
-        (Ask::Call(1, Request::TimedWait(cond, first, 3)), WAITS),
-        (Ask::Call(5, Request::Lock(first)), DONE),
-        (Ask::Call(2, Request::Lock(first)), WAITS),
-    ];
     let lost = [FREE, FREE, LOST];
     let died = [FREE, FREE, DIED, DIED, DIED, DIED, DIED];
     let held = [HELD, HELD, HELD, HELD_MARKED];
     let marked = [HELD_MARKED; 4];
-    see_ends(&rt, rt.alloc(), false, &calls[..2], false, &lost)?;
-    see_ends(&rt, rt.alloc(), true, &calls[..2], false, &died)?;
-    see_ends(&rt, rt.alloc(), false, &calls[..3], false, &held)?;
-    see_ends(&rt, rt.alloc(), true, &calls[..3], false, &held)?;
-    see_ends(&rt, rt.alloc(), false, &calls, true, &marked)?;
-    see_ends(&rt, rt.alloc(), true, &calls, true, &marked)
+    see_ends(&rt, rt.alloc(), false, &AT_A_WAIT[..2], false, &lost)?;
+    see_ends(&rt, rt.alloc(), true, &AT_A_WAIT[..2], false, &died)?;
+    see_ends(&rt, rt.alloc(), false, &AT_A_WAIT[..3], false, &held)?;
+    see_ends(&rt, rt.alloc(), true, &AT_A_WAIT[..3], false, &held)?;
+    see_ends(&rt, rt.alloc(), false, &AT_A_WAIT, true, &marked)?;
+    see_ends(&rt, rt.alloc(), true, &AT_A_WAIT, true, &marked)
 }
 
 // Thread 5 has ended as the owner of the mutex.
+const BEHIND_AN_END: [(Ask, Reply); 4] = [
+    (Ask::Call(1, Wish::Lock(1)), DONE),
+    (Ask::Call(1, Wish::TimedWait(1, 1, 3)), WAITS),
+    (Ask::Call(5, Wish::Lock(1)), DONE),
+    (Ask::End(5), ENDED),
+];
+
 #[test]
 fn who_expires_behind_an_end_may_end_at_any_step(rt: HostRuntime) -> Result<(), Fail> {
-    let Names { first, cond, .. } = named()?;
-    let calls = [
-        (Ask::Call(1, Request::Lock(first)), DONE),
-        (Ask::Call(1, Request::TimedWait(cond, first, 3)), WAITS),
-        (Ask::Call(5, Request::Lock(first)), DONE),
-        (Ask::End(5), ENDED),
-    ];
-    see_ends(&rt, rt.alloc(), false, &calls, false, &[LOST_BEFORE; 5])?;
-    see_ends(&rt, rt.alloc(), true, &calls, false, &[DIED; 11])
+    see_ends(
+        &rt,
+        rt.alloc(),
+        false,
+        &BEHIND_AN_END,
+        false,
+        &[LOST_BEFORE; 5],
+    )?;
+    see_ends(&rt, rt.alloc(), true, &BEHIND_AN_END, false, &[DIED; 11])
 }
