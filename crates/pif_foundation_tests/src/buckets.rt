@@ -38,14 +38,26 @@ fn priority(level: u32) -> Prio
     Prio::new(level).unwrap()
 }
 
-// The keys of the words 3, 67 and 131, which are of one bucket.
-fn keys(buckets: &Buckets, table: &NodeTable) -> [Option<usize>; 3]
+// The key of a word.
+fn key(buckets: &Buckets, table: &NodeTable, word: u32) -> Option<usize>
     requires { HoldsBuckets buckets.now table.now }
 {
-    let three = buckets.find(table, 3).map(|key| key.get());
-    let other = buckets.find(table, 67).map(|key| key.get());
-    let third = buckets.find(table, 131).map(|key| key.get());
-    [three, other, third]
+    let key = buckets.find(table, word)?;
+    Some(key.get())
+}
+
+fn see_key(rt: &impl Abort, read: Option<usize>, key: Option<usize>) {
+    assert_eq!(rt; read, key);
+}
+
+// Sees that the words 3, 67 and 131, which are of one bucket, have these keys.
+fn see_keys(rt: &impl Abort, buckets: &Buckets, table: &NodeTable, keys: [Option<usize>; 3])
+    requires { HoldsBuckets buckets.now table.now }
+{
+    let [three, other, third] = keys;
+    see_key(rt, key(buckets, table, 3), three);
+    see_key(rt, key(buckets, table, 67), other);
+    see_key(rt, key(buckets, table, 131), third);
 }
 
 // Gives the words 3 and 67 owner states, and takes that of 3 away.
@@ -55,11 +67,11 @@ fn two_words(rt: &impl Abort, buckets: &mut Buckets, table: &mut NodeTable)
     requires empty { (w : ℕ) → found_in buckets.old.entries table.old w ≡ None }
 {
     buckets.put(table, 3, Key::new(7), 0);
-    assert_eq!(rt; keys(buckets, table), [Some(7), None, None]);
+    see_keys(rt, buckets, table, [Some(7), None, None]);
     buckets.put(table, 67, Key::new(2), 1);
-    assert_eq!(rt; keys(buckets, table), [Some(7), Some(2), None]);
+    see_keys(rt, buckets, table, [Some(7), Some(2), None]);
     buckets.forget(table, 3);
-    assert_eq!(rt; keys(buckets, table), [None, Some(2), None]);
+    see_keys(rt, buckets, table, [None, Some(2), None]);
 }
 
 #[test]
@@ -104,9 +116,6 @@ fn unpark(buckets: &mut Buckets, table: &mut NodeTable, t: u32) -> bool
     requires holds { HoldsBuckets buckets.old table.old }
     requires thread { 1 ≤ t }
     ensures holds { HoldsBuckets buckets.new table.new }
-    ensures threads { buckets.new.parked.threads ≡ buckets.old.parked.threads }
-    ensures conds { buckets.new.parked.conds ≡ buckets.old.parked.conds }
-    ensures node { buckets.new.parked.first_node ≡ buckets.old.parked.first_node }
 {
     let parked = buckets.ticket(table, thread(t)).is_some();
     if parked {
@@ -122,9 +131,6 @@ fn rekey(buckets: &mut Buckets, table: &mut NodeTable, t: u32, level: u32) -> bo
     requires least { 1 ≤ level }
     requires most { level ≤ 99 }
     ensures holds { HoldsBuckets buckets.new table.new }
-    ensures threads { buckets.new.parked.threads ≡ buckets.old.parked.threads }
-    ensures conds { buckets.new.parked.conds ≡ buckets.old.parked.conds }
-    ensures node { buckets.new.parked.first_node ≡ buckets.old.parked.first_node }
 {
     let parked = buckets.ticket(table, thread(t)).is_some();
     if parked {
@@ -139,30 +145,52 @@ fn park_three(rt: &impl Abort, buckets: &mut Buckets, table: &mut NodeTable)
     requires threads { buckets.old.parked.threads ≡ 3 }
     requires conds { buckets.old.parked.conds ≡ 2 }
     requires node { buckets.old.parked.first_node ≡ 0 }
-    ensures holds { HoldsBuckets buckets.new table.new }
-    ensures threads { buckets.new.parked.threads ≡ 3 }
-    ensures conds { buckets.new.parked.conds ≡ 2 }
-    ensures node { buckets.new.parked.first_node ≡ 0 }
+    ensures { HoldsBuckets buckets.new table.new }
 {
-    assert_eq!(rt; buckets.top_parked(table, cond(1)), None);
-    assert!(rt; park(buckets, table, 1, 1, 10, 1) && park(buckets, table, 2, 1, 10, 2));
-    assert!(rt; park(buckets, table, 3, 2, 20, 3) && !park(buckets, table, 3, 2, 20, 3));
+    see_top(rt, buckets, table, None);
+    let first = park(buckets, table, 1, 1, 10, 1);
+    let second = park(buckets, table, 2, 1, 10, 2);
+    let third = park(buckets, table, 3, 2, 20, 3);
+    let again = park(buckets, table, 3, 2, 20, 3);
+    assert!(rt; first && second && third && !again);
+}
+
+// Sees that a thread that was read is this one.
+fn see_thread(rt: &impl Abort, read: Option<u32>, number: Option<u32>) {
+    assert_eq!(rt; read, number);
+}
+
+// Sees who is taken first from variable 1.
+fn see_top(rt: &impl Abort, buckets: &Buckets, table: &NodeTable, number: Option<u32>)
+    requires { HoldsBuckets buckets.now table.now }
+{
+    see_thread(rt, top(buckets, table), number);
+}
+
+fn top(buckets: &Buckets, table: &NodeTable) -> Option<u32>
+    requires { HoldsBuckets buckets.now table.now }
+{
+    let t = buckets.top_parked(table, cond(1))?;
+    Some(t.get())
+}
+
+// Sees that a ticket that was read is this one.
+fn see_ticket(rt: &impl Abort, read: Option<u64>, ticket: Option<u64>) {
+    assert_eq!(rt; read, ticket);
 }
 
 // Who is taken first stands behind equals that came earlier, also once its priority rose and fell.
 fn order_of_tickets(rt: &impl Abort, buckets: &mut Buckets, table: &mut NodeTable)
-    requires holds { HoldsBuckets buckets.old table.old }
-    ensures holds { HoldsBuckets buckets.new table.new }
-    ensures threads { buckets.new.parked.threads ≡ buckets.old.parked.threads }
-    ensures conds { buckets.new.parked.conds ≡ buckets.old.parked.conds }
-    ensures node { buckets.new.parked.first_node ≡ buckets.old.parked.first_node }
+    requires { HoldsBuckets buckets.old table.old }
 {
-    assert_eq!(rt; buckets.top_parked(table, cond(1)), Some(thread(3)));
-    assert!(rt; rekey(buckets, table, 2, 30));
-    assert_eq!(rt; buckets.top_parked(table, cond(1)), Some(thread(2)));
-    assert!(rt; rekey(buckets, table, 2, 10) && unpark(buckets, table, 3));
-    assert_eq!(rt; buckets.top_parked(table, cond(1)), Some(thread(1)));
-    assert_eq!(rt; buckets.ticket(table, thread(2)), Some(2));
+    see_top(rt, buckets, table, Some(3));
+    let rises = rekey(buckets, table, 2, 30);
+    see_top(rt, buckets, table, Some(2));
+    let falls = rekey(buckets, table, 2, 10);
+    let leaves = unpark(buckets, table, 3);
+    see_top(rt, buckets, table, Some(1));
+    see_ticket(rt, buckets.ticket(table, thread(2)), Some(2));
+    assert!(rt; rises && falls && leaves);
 }
 
 #[test]
@@ -174,27 +202,29 @@ fn parked_thread_keeps_its_ticket(rt: HostRuntime) -> Result<(), Fail> {
     Ok(())
 }
 
-// Whether all that are parked on variable 1 are to get m1, and m2.
-fn targets(buckets: &Buckets, table: &NodeTable) -> (bool, bool)
+// Sees whether all that are parked on variable 1 are to get m1, and m2.
+fn see_targets(rt: &impl Abort, buckets: &Buckets, table: &NodeTable, targets: (bool, bool))
     requires { HoldsBuckets buckets.now table.now }
 {
-    (
-        buckets.match_requeue(table, cond(1), mutex(1)),
-        buckets.match_requeue(table, cond(1), mutex(2)),
-    )
+    let (one, two) = targets;
+    assert_eq!(rt; buckets.match_requeue(table, cond(1), mutex(1)), one, "m1");
+    assert_eq!(rt; buckets.match_requeue(table, cond(1), mutex(2)), two, "m2");
 }
 
 // Targets differ as long as threads with both are parked, whatever their order.
 fn leave_one_by_one(rt: &impl Abort, buckets: &mut Buckets, table: &mut NodeTable)
-    requires holds { HoldsBuckets buckets.old table.old }
+    requires { HoldsBuckets buckets.old table.old }
 {
-    assert_eq!(rt; targets(buckets, table), (false, false));
-    assert!(rt; rekey(buckets, table, 3, 5) && unpark(buckets, table, 1));
-    assert_eq!(rt; targets(buckets, table), (false, false));
-    assert!(rt; unpark(buckets, table, 2));
-    assert_eq!(rt; targets(buckets, table), (false, true));
-    assert!(rt; unpark(buckets, table, 3) && !unpark(buckets, table, 3));
-    assert_eq!(rt; targets(buckets, table), (true, true));
+    see_targets(rt, buckets, table, (false, false));
+    let falls = rekey(buckets, table, 3, 5);
+    let first = unpark(buckets, table, 1);
+    see_targets(rt, buckets, table, (false, false));
+    let second = unpark(buckets, table, 2);
+    see_targets(rt, buckets, table, (false, true));
+    let third = unpark(buckets, table, 3);
+    let again = unpark(buckets, table, 3);
+    see_targets(rt, buckets, table, (true, true));
+    assert!(rt; falls && first && second && third && !again);
 }
 
 #[test]
@@ -206,28 +236,38 @@ fn targets_of_parked_threads_are_compared(rt: HostRuntime) -> Result<(), Fail> {
     Ok(())
 }
 
-// The threads that are parked on variable 1, by place.
-fn by_place(buckets: &Buckets, table: &NodeTable) -> [Option<u32>; 4]
+// The thread that is parked on a variable at a place.
+fn at_place(buckets: &Buckets, table: &NodeTable, c: CondId, place: u32) -> Option<u32>
     requires { HoldsBuckets buckets.now table.now }
 {
-    let first = buckets.nth_parked(table, cond(1), 0).map(|t| t.get());
-    let second = buckets.nth_parked(table, cond(1), 1).map(|t| t.get());
-    let third = buckets.nth_parked(table, cond(1), 2).map(|t| t.get());
-    let fourth = buckets.nth_parked(table, cond(1), 3).map(|t| t.get());
-    [first, second, third, fourth]
+    let t = buckets.nth_parked(table, c, place)?;
+    Some(t.get())
+}
+
+// Sees which threads are parked on variable 1, by place.
+fn see_places(rt: &impl Abort, buckets: &Buckets, table: &NodeTable, threads: [Option<u32>; 4])
+    requires { HoldsBuckets buckets.now table.now }
+{
+    let [first, second, third, fourth] = threads;
+    let c = cond(1);
+    see_thread(rt, at_place(buckets, table, c, 0), first);
+    see_thread(rt, at_place(buckets, table, c, 1), second);
+    see_thread(rt, at_place(buckets, table, c, 2), third);
+    see_thread(rt, at_place(buckets, table, c, 3), fourth);
 }
 
 // Places follow the order in which threads are taken, and no variable but the first has any.
 fn places_follow_priorities(rt: &impl Abort, buckets: &mut Buckets, table: &mut NodeTable)
-    requires holds { HoldsBuckets buckets.old table.old }
+    requires { HoldsBuckets buckets.old table.old }
 {
-    assert_eq!(rt; by_place(buckets, table), [Some(3), Some(1), Some(2), None]);
-    assert!(rt; rekey(buckets, table, 2, 15));
-    assert_eq!(rt; by_place(buckets, table), [Some(3), Some(2), Some(1), None]);
-    assert!(rt; unpark(buckets, table, 3));
-    assert_eq!(rt; by_place(buckets, table), [Some(2), Some(1), None, None]);
-    assert!(rt; buckets.nth_parked(table, cond(2), 0).is_none());
-    assert!(rt; buckets.nth_parked(table, cond(3), 0).is_none());
+    see_places(rt, buckets, table, [Some(3), Some(1), Some(2), None]);
+    let rises = rekey(buckets, table, 2, 15);
+    see_places(rt, buckets, table, [Some(3), Some(2), Some(1), None]);
+    let leaves = unpark(buckets, table, 3);
+    see_places(rt, buckets, table, [Some(2), Some(1), None, None]);
+    see_thread(rt, at_place(buckets, table, cond(2), 0), None);
+    see_thread(rt, at_place(buckets, table, cond(3), 0), None);
+    assert!(rt; rises && leaves);
 }
 
 #[test]
@@ -268,12 +308,12 @@ fn park_with_last_tickets(buckets: &mut Buckets, table: &mut NodeTable) -> bool
 fn number_two(rt: &impl Abort, buckets: &mut Buckets, table: &mut NodeTable)
     requires holds { HoldsBuckets buckets.old table.old }
     requires tickets { HaveTickets (parked_at buckets.old.parked table.old) }
-    ensures holds { HoldsBuckets buckets.new table.new }
+    ensures { HoldsBuckets buckets.new table.new }
 {
-    assert_eq!(rt; by_place(buckets, table), [Some(2), Some(1), None, None]);
-    assert_eq!(rt; buckets.ticket(table, thread(1)), Some(u64::MAX));
+    see_places(rt, buckets, table, [Some(2), Some(1), None, None]);
+    see_ticket(rt, buckets.ticket(table, thread(1)), Some(u64::MAX));
     assert_eq!(rt; buckets.renumber(table), 3);
-    assert_eq!(rt; by_place(buckets, table), [Some(2), Some(1), None, None]);
+    see_places(rt, buckets, table, [Some(2), Some(1), None, None]);
 }
 
 // Both have them, and nobody else has a ticket.
@@ -286,9 +326,9 @@ fn number_last_two(rt: &impl Abort, buckets: &mut Buckets, table: &mut NodeTable
 {
     assert!(rt; park_with_last_tickets(buckets, table));
     number_two(rt, buckets, table);
-    assert_eq!(rt; buckets.ticket(table, thread(2)), Some(1));
-    assert_eq!(rt; buckets.ticket(table, thread(1)), Some(2));
-    assert_eq!(rt; buckets.ticket(table, thread(3)), None);
+    see_ticket(rt, buckets.ticket(table, thread(2)), Some(1));
+    see_ticket(rt, buckets.ticket(table, thread(1)), Some(2));
+    see_ticket(rt, buckets.ticket(table, thread(3)), None);
 }
 
 #[test]

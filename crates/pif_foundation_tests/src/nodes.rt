@@ -13,6 +13,15 @@ fn keeps_lists_and_keys(rt: HostRuntime) -> Result<(), Fail> {
     Ok(())
 }
 
+// Sees that a list, or a node, that was read is this one.
+fn see_list(rt: &impl Abort, read: Option<List>, list: Option<List>) {
+    assert_eq!(rt; read, list);
+}
+
+fn see_node(rt: &impl Abort, read: Option<Node>, node: Option<Node>) {
+    assert_eq!(rt; read, node);
+}
+
 // Asserts in which list a node is, and between which nodes.
 fn expect_place(
     rt: &impl Abort,
@@ -24,9 +33,9 @@ fn expect_place(
 )
     requires { node < length table.now.keys }
 {
-    assert_eq!(rt; table.list_of(node), list);
-    assert_eq!(rt; table.prev(node), prev);
-    assert_eq!(rt; table.next(node), next);
+    see_list(rt, table.list_of(node), list);
+    see_node(rt, table.prev(node), prev);
+    see_node(rt, table.next(node), next);
 }
 
 // Asserts between which nodes a list stands.
@@ -39,20 +48,37 @@ fn expect_ends(
 )
     requires { list < length table.now.lists }
 {
-    assert_eq!(rt; table.first(list), first);
-    assert_eq!(rt; table.last(list), last);
+    see_node(rt, table.first(list), first);
+    see_node(rt, table.last(list), last);
+}
+
+// Puts the three nodes into the first list.
+fn attach_three(table: &mut NodeTable)
+    requires { table.old ≡ record { lists = replicate 2 []; keys = replicate 3 no_key } }
+    ensures { table.new ≡ record { lists = (0 ∷ 1 ∷ 2 ∷ []) ∷ [] ∷ []; keys = replicate 3 no_key } }
+{
+    let left = List::new(0);
+    let (a, b, c) = (Node::new(0), Node::new(1), Node::new(2));
+    table.attach_after(left, None, b);
+    table.attach_after(left, Some(b), c);
+    table.attach_after(left, None, a);
 }
 
 fn keep_lists(rt: &impl Abort, table: &mut NodeTable)
     requires { table.old ≡ record { lists = replicate 2 []; keys = replicate 3 no_key } }
     ensures { table.new ≡ record { lists = (0 ∷ 1 ∷ 2 ∷ []) ∷ [] ∷ []; keys = replicate 3 no_key } }
 {
+    expect_place(rt, table, Node::new(0), None, None, None);
+    attach_three(table);
+    see_lists(rt, table);
+}
+
+fn see_lists(rt: &impl Abort, table: &NodeTable)
+    requires lists { 1 < length table.now.lists }
+    requires keys { 2 < length table.now.keys }
+{
     let left = List::new(0);
     let (a, b, c) = (Node::new(0), Node::new(1), Node::new(2));
-    expect_place(rt, table, a, None, None, None);
-    table.attach_after(left, None, b);
-    table.attach_after(left, Some(b), c);
-    table.attach_after(left, None, a);
     expect_ends(rt, table, left, Some(a), Some(c));
     expect_place(rt, table, a, Some(left), None, Some(b));
     expect_place(rt, table, b, Some(left), Some(a), Some(c));
@@ -75,22 +101,41 @@ fn keep_keys(rt: &impl Abort, table: &mut NodeTable)
     requires { table.old ≡ record { lists = (0 ∷ 1 ∷ 2 ∷ []) ∷ [] ∷ []; keys = replicate 3 no_key } }
 {
     let (left, right) = (List::new(0), List::new(1));
-    let (a, b, c) = (Node::new(0), Node::new(1), Node::new(2));
+    let b = Node::new(1);
+    table.set_key(b, 20, 5);
+    see_keys(rt, table);
+    move_to_head(table, left, right, b);
+    see_moved(rt, table);
+    assert_eq!(rt; (left.get(), right.get(), Node::new(2).get()), (0, 1, 2));
+}
+
+fn see_keys(rt: &impl Abort, table: &NodeTable)
+    requires { 2 < length table.now.keys }
+{
     let key = Key {
         prio: 20,
         ticket: 5,
     };
-    table.set_key(b, key.prio, key.ticket);
-    assert_eq!(rt;
-        (table.key(a), table.key(b)),
-        (Key { prio: 0, ticket: 0 }, key)
-    );
-    move_to_head(table, left, right, b);
+    assert_eq!(rt; table.key(Node::new(0)), Key { prio: 0, ticket: 0 });
+    assert_eq!(rt; table.key(Node::new(1)), key);
+}
+
+fn see_moved(rt: &impl Abort, table: &NodeTable)
+    requires lists { 1 < length table.now.lists }
+    requires keys { 2 < length table.now.keys }
+{
+    let (left, right) = (List::new(0), List::new(1));
+    let (a, b, c) = (Node::new(0), Node::new(1), Node::new(2));
     expect_ends(rt, table, left, Some(a), Some(c));
     expect_place(rt, table, a, Some(left), None, Some(c));
     expect_place(rt, table, c, Some(left), Some(a), None);
     expect_ends(rt, table, right, Some(b), Some(b));
     expect_place(rt, table, b, Some(right), None, None);
-    assert_eq!(rt; table.key(b), key);
-    assert_eq!(rt; (left.get(), right.get(), c.get()), (0, 1, 2));
+    assert_eq!(rt;
+        table.key(b),
+        Key {
+            prio: 20,
+            ticket: 5
+        }
+    );
 }

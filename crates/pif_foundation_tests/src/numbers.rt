@@ -6,33 +6,59 @@ use std::fmt::Display;
 use std::process::Abort;
 use std::test::Fail;
 
-#[test]
-fn numbers_begin_at_one(rt: HostRuntime) -> Result<(), Fail> {
-    assert_eq!(rt; Tid::new(7).ok_or("a thread")?.get(), 7);
-    assert_eq!(rt; MutexId::new(1024).ok_or("a mutex")?.get(), 1024);
-    assert_eq!(rt; CondId::new(1).ok_or("a variable")?.get(), 1);
-    assert!(rt; Tid::new(0).is_none());
-    Ok(())
+fn thread(number: u32) -> Option<u32> {
+    Some(Tid::new(number)?.get())
+}
+
+fn mutex(number: u32) -> Option<u32> {
+    Some(MutexId::new(number)?.get())
+}
+
+fn cond(number: u32) -> Option<u32> {
+    Some(CondId::new(number)?.get())
+}
+
+fn priority(level: u32) -> Option<u32> {
+    Some(Prio::new(level)?.get())
 }
 
 #[test]
-fn priorities_are_1_to_99(rt: HostRuntime) -> Result<(), Fail> {
-    assert_eq!(rt; Prio::new(99).ok_or("a priority")?.get(), 99);
-    assert!(rt; Prio::new(0).is_none());
-    assert!(rt; Prio::new(100).is_none());
-    Ok(())
+fn numbers_begin_at_one(rt: HostRuntime) {
+    see_numbers(&rt);
+}
+
+fn see_numbers(rt: &impl Abort) {
+    assert_eq!(rt; (thread(7), thread(0)), (Some(7), None));
+    assert_eq!(rt; (mutex(1024), cond(1)), (Some(1024), Some(1)));
+}
+
+#[test]
+fn priorities_are_1_to_99(rt: HostRuntime) {
+    see_priorities(&rt);
+}
+
+fn see_priorities(rt: &impl Abort) {
+    for (level, read) in [(99, Some(99)), (0, None), (100, None)] {
+        assert_eq!(rt; priority(level), read, "at {level}");
+    }
 }
 
 #[test]
 fn limits_lie_in_their_ranges(rt: HostRuntime) -> Result<(), Fail> {
     let limits = Limits::new(1024, 0, 256, 4294967295).ok_or("limits")?;
-    assert_eq!(rt; limits.threads(), 1024);
-    assert_eq!(rt; limits.mutexes(), 0);
-    assert_eq!(rt; limits.conds(), 256);
-    assert_eq!(rt; limits.signals(), 4294967295);
+    see_limits(&rt, limits);
+    see_refused(&rt);
+    Ok(())
+}
+
+fn see_limits(rt: &impl Abort, limits: Limits) {
+    assert_eq!(rt; (limits.threads(), limits.mutexes()), (1024, 0));
+    assert_eq!(rt; (limits.conds(), limits.signals()), (256, 4294967295));
+}
+
+fn see_refused(rt: &impl Abort) {
     assert!(rt; Limits::new(0, 1, 1, 1).is_none());
     assert!(rt; Limits::new(1, 1, 1, 0).is_none());
-    Ok(())
 }
 
 /// Each error, with its number on Linux on x86-64 and the name that <errno.h> gives it.
@@ -64,29 +90,49 @@ fn check_printed<D: Display>(
 
 #[test]
 fn errors_have_the_numbers_and_names_of_errno_h(rt: HostRuntime) -> Result<(), Fail> {
+    see_errors(&rt, rt.alloc())
+}
+
+fn see_errors(rt: &impl Abort, alloc: Global) -> Result<(), Fail> {
     for (error, number, name) in ERRORS {
         assert_eq!(rt; error.number(), number);
-        check_printed(&rt, rt.alloc(), &error, name)?;
+        check_printed(rt, alloc, &error, name)?;
+    }
+    Ok(())
+}
+
+const FAULTS: [(AddFault, &str); 3] = [
+    (AddFault::TooMany, "too many"),
+    (AddFault::BadPrio, "bad priority"),
+    (AddFault::NoSuch, "no such mutex"),
+];
+
+const REFUSALS: [(Refusal, &str); 4] = [
+    (Refusal::Busy, "busy"),
+    (Refusal::Idle, "idle"),
+    (Refusal::NoSuch, "no such thread, mutex or variable"),
+    (Refusal::Past, "past"),
+];
+
+fn see_faults(rt: &impl Abort, alloc: Global) -> Result<(), Fail> {
+    for (fault, text) in FAULTS {
+        check_printed(rt, alloc, &fault, text)?;
+    }
+    Ok(())
+}
+
+fn see_refusals(rt: &impl Abort, alloc: Global) -> Result<(), Fail> {
+    for (refusal, text) in REFUSALS {
+        check_printed(rt, alloc, &refusal, text)?;
     }
     Ok(())
 }
 
 #[test]
 fn other_errors_say_what_they_are(rt: HostRuntime) -> Result<(), Fail> {
-    let alloc = rt.alloc();
-    check_printed(&rt, alloc, &AddFault::TooMany, "too many")?;
-    check_printed(&rt, alloc, &AddFault::BadPrio, "bad priority")?;
-    check_printed(&rt, alloc, &AddFault::NoSuch, "no such mutex")?;
-    check_printed(&rt, alloc, &Refusal::Busy, "busy")?;
-    check_printed(&rt, alloc, &Refusal::Idle, "idle")?;
-    check_printed(
-        &rt,
-        alloc,
-        &Refusal::NoSuch,
-        "no such thread, mutex or variable",
-    )?;
-    check_printed(&rt, alloc, &Refusal::Past, "past")?;
-    check_printed(&rt, alloc, &NoMemory, "out of memory")
+    see_faults(&rt, rt.alloc())?;
+    see_refusals(&rt, rt.alloc())?;
+    check_printed(&rt, rt.alloc(), &NoMemory, "out of memory")
 }
 
 #[test]

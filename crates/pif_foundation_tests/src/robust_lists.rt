@@ -27,8 +27,12 @@ fn take(rt: &impl Abort, lists: &mut RobustLists, t: Tid, number: u32) -> Result
 /// The walk of a thread gives these mutexes.
 fn walks(rt: &impl Abort, lists: &RobustLists, t: Tid, expected: &[u32]) {
     let found = lists.walk(t);
+    see_walk(rt, found.as_slice(), expected);
+}
+
+fn see_walk(rt: &impl Abort, found: &[MutexId], expected: &[u32]) {
     assert_eq!(rt; found.len(), expected.len());
-    for (m, number) in found.as_slice().iter().zip(expected) {
+    for (m, number) in found.iter().zip(expected) {
         assert_eq!(rt; m.get(), *number);
     }
 }
@@ -55,14 +59,32 @@ fn link(rt: &impl Abort, lists: &mut RobustLists, t: Tid, m: MutexId)
 {
     assert!(rt; lists.holder(m).is_none());
     lists.set_pending(t, m);
-    assert_eq!(rt; lists.pending(t), Some(m));
+    let pending = lists.pending(t);
     lists.link_next(t, m);
-    assert_eq!(rt; lists.half_linked(t), Some(m));
-    assert_eq!(rt; lists.holder(m), None);
+    see_link(rt, lists, (t, m), Some(m), None);
     lists.link_head(t, m);
-    assert_eq!(rt; lists.half_linked(t), None);
-    assert_eq!(rt; lists.holder(m), Some(t));
+    see_link(rt, lists, (t, m), None, Some(t));
     lists.clear_pending(t);
+    see_mutex(rt, pending, Some(m));
+    see_mutex(rt, lists.pending(t), None);
+}
+
+/// A mutex that was read is this one.
+fn see_mutex(rt: &impl Abort, read: Option<MutexId>, m: Option<MutexId>) {
+    assert_eq!(rt; read, m);
+}
+
+/// How far a thread has linked a mutex.
+fn see_link(
+    rt: &impl Abort,
+    lists: &RobustLists,
+    of: (Tid, MutexId),
+    half_linked: Option<MutexId>,
+    holder: Option<Tid>,
+) {
+    let (t, m) = of;
+    see_mutex(rt, lists.half_linked(t), half_linked);
+    assert_eq!(rt; lists.holder(m), holder);
 }
 
 #[test]
@@ -72,7 +94,6 @@ fn each_write_of_a_lock_is_seen(rt: HostRuntime) -> Result<(), Fail> {
     let limits = Limits::new(2, 4, 0, 1).ok_or("limits")?;
     let mut lists = RobustLists::new(rt.alloc(), limits)?;
     link(&rt, &mut lists, t, m);
-    assert_eq!(rt; lists.pending(t), None);
     Ok(())
 }
 

@@ -72,16 +72,25 @@ fn run_queue_picks_first_of_greatest(rt: HostRuntime) -> Result<(), Fail> {
     Ok(())
 }
 
+// Sees that a thread, or a level, that was read is this one.
+fn see_thread(rt: &impl Abort, read: Option<Tid>, t: Option<Tid>) {
+    assert_eq!(rt; read, t);
+}
+
+fn see_level(rt: &impl Abort, read: Option<Prio>, level: Option<Prio>) {
+    assert_eq!(rt; read, level);
+}
+
 fn pick_greatest(rt: &impl Abort, queue: &mut RunQueue, table: &mut NodeTable)
     requires { Holds queue.old table.old }
     ensures { Holds queue.new table.new }
 {
     let (t1, t2, t3) = (thread(1), thread(2), thread(3));
-    assert_eq!(rt; queue.pick(table), Some(t3));
-    assert_eq!(rt; queue.level(table, t2), Some(priority(10)));
+    see_thread(rt, queue.pick(table), Some(t3));
+    see_level(rt, queue.level(table, t2), Some(priority(10)));
     assert!(rt; take_out(queue, table, t3));
-    assert_eq!(rt; queue.level(table, t3), None);
-    assert_eq!(rt; queue.pick(table), Some(t1));
+    see_level(rt, queue.level(table, t3), None);
+    see_thread(rt, queue.pick(table), Some(t1));
 }
 
 fn pick_first(rt: &impl Abort, queue: &mut RunQueue, table: &mut NodeTable)
@@ -90,10 +99,10 @@ fn pick_first(rt: &impl Abort, queue: &mut RunQueue, table: &mut NodeTable)
     let (t1, t2) = (thread(1), thread(2));
     for (level, picked) in [(10, t1), (20, t1), (10, t2)] {
         assert!(rt; move_to(queue, table, t1, level), "to {level}");
-        assert_eq!(rt; queue.pick(table), Some(picked), "at {level}");
+        see_thread(rt, queue.pick(table), Some(picked));
     }
     assert!(rt; take_out(queue, table, t2) && take_out(queue, table, t1));
-    assert_eq!(rt; queue.pick(table), None);
+    see_thread(rt, queue.pick(table), None);
 }
 
 // Thread 3 is on level 99, and threads 1 and 2 are on level 10.
@@ -101,7 +110,8 @@ fn read_places(rt: &impl Abort, queue: &RunQueue, table: &NodeTable)
     requires { Holds queue.now table.now }
 {
     let (t1, t2, t3) = (thread(1), thread(2), thread(3));
-    for (place, read) in [(0, Some(t3)), (1, Some(t1)), (2, Some(t2)), (3, None)] {
-        assert_eq!(rt; queue.nth(table, place), read, "at {place}");
-    }
+    see_thread(rt, queue.nth(table, 0), Some(t3));
+    see_thread(rt, queue.nth(table, 1), Some(t1));
+    see_thread(rt, queue.nth(table, 2), Some(t2));
+    see_thread(rt, queue.nth(table, 3), None);
 }

@@ -26,7 +26,12 @@ fn keep_place_among_equals(rt: &impl Abort, table: &mut NodeTable)
     waiters.rekey(table, b, 20);
     expect_order(rt, table, b, c, a);
     waiters.remove(table, b);
-    assert_eq!(rt; waiters.top(table), Some(c));
+    see_node(rt, waiters.top(table), c);
+}
+
+// Sees that a node that was read is this one.
+fn see_node(rt: &impl Abort, read: Option<Node>, node: Node) {
+    assert_eq!(rt; read, Some(node));
 }
 
 // Asserts that list 0 has these three nodes first.
@@ -35,9 +40,9 @@ fn expect_order(rt: &impl Abort, table: &NodeTable, first: Node, second: Node, t
     requires one { first < length table.now.keys }
     requires two { second < length table.now.keys }
 {
-    assert_eq!(rt; table.first(List::new(0)), Some(first));
-    assert_eq!(rt; table.next(first), Some(second));
-    assert_eq!(rt; table.next(second), Some(third));
+    see_node(rt, table.first(List::new(0)), first);
+    see_node(rt, table.next(first), second);
+    see_node(rt, table.next(second), third);
 }
 
 #[test]
@@ -56,5 +61,5 @@ fn change_the_ticket_alone(rt: &impl Abort, table: &mut NodeTable)
     waiters.set_ticket(table, node, 7);
     let key = table.key(node);
     assert_eq!(rt; (key.prio, key.ticket), (10, 7));
-    assert_eq!(rt; waiters.top(table), Some(node));
+    see_node(rt, waiters.top(table), node);
 }

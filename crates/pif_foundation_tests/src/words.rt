@@ -10,22 +10,43 @@ use std::test::Fail;
 
 #[test]
 fn words_say_number_and_flags(rt: HostRuntime) {
+    see_parts(&rt);
+    see_changes(&rt);
+    see_takes(&rt);
+}
+
+fn see_parts(rt: &impl Abort) {
     for (word, owner, waiters, died) in [
         (0x8000_0001, 1, true, false),
         (0x4000_0000, 0, false, true),
         (0xc000_0002, 2, true, true),
     ] {
         assert_eq!(rt; number(word), owner, "at {word:x}");
-        assert_eq!(rt; has_waiters(word), waiters, "at {word:x}");
-        assert_eq!(rt; owner_died(word), died, "at {word:x}");
+        assert_eq!(rt;
+            (has_waiters(word), owner_died(word)),
+            (waiters, died),
+            "at {word:x}"
+        );
     }
-    assert_eq!(rt; mark_word(0x4000_0001), 0xc000_0001);
-    assert_eq!(rt; hand_word(2), 0x8000_0002);
+}
+
+fn see_changes(rt: &impl Abort) {
+    assert_eq!(rt;
+        (mark_word(0x4000_0001), hand_word(2)),
+        (0xc000_0001, 0x8000_0002)
+    );
     assert_eq!(rt; taken_word(0x4000_0000, 3), 0x4000_0003);
-    assert_eq!(rt; take_word(0, 3), Some(3));
-    assert_eq!(rt; take_word(0x4000_0000, 3), None);
-    assert_eq!(rt; release_word(3, 3), Some(0));
-    assert_eq!(rt; release_word(0x8000_0003, 3), None);
+}
+
+fn see_takes(rt: &impl Abort) {
+    assert_eq!(rt;
+        (take_word(0, 3), take_word(0x4000_0000, 3)),
+        (Some(3), None)
+    );
+    assert_eq!(rt;
+        (release_word(3, 3), release_word(0x8000_0003, 3)),
+        (Some(0), None)
+    );
 }
 
 #[test]
