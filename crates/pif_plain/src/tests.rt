@@ -91,31 +91,39 @@ impl<C: Chains + Drop> Scene<C> {
 
     // `None` if it can't be asked: a number is nobody's, or the thread of a call may not run.
     fn answer(&mut self, ask: Ask) -> Option<Reply> {
-        Some(match ask {
-            Ask::Lock(t, m) => self.lock(Tid::new(t)?, MutexId::new(m)?)?,
-            Ask::TryLock(t, m) => self.trylock(Tid::new(t)?, MutexId::new(m)?)?,
-            Ask::Unlock(t, m) => self.unlock(Tid::new(t)?, MutexId::new(m)?)?,
+        match ask {
+            Ask::Lock(t, m) => self.lock(Tid::new(t)?, MutexId::new(m)?),
+            Ask::TryLock(t, m) => self.trylock(Tid::new(t)?, MutexId::new(m)?),
+            Ask::Unlock(t, m) => self.unlock(Tid::new(t)?, MutexId::new(m)?),
             Ask::Park(t, c, expected, m) => {
-                self.park(Tid::new(t)?, CondId::new(c)?, expected, MutexId::new(m)?)?
+                self.park(Tid::new(t)?, CondId::new(c)?, expected, MutexId::new(m)?)
             }
             Ask::Requeue(c, expected, m, val, more) => {
                 self.requeue(CondId::new(c)?, expected, MutexId::new(m)?, val, more)
             }
-            Ask::SetPrio(t, p) => done(self.kernel.set_prio(Tid::new(t)?, p)),
-            Ask::Stop(t) => self.stop(Tid::new(t)?)?,
-            Ask::Expire(t) => self.expire(Tid::new(t)?)?,
-            Ask::Word(m) => self.word(MutexId::new(m)?)?,
-            Ask::Store(m, bits) => self.store(MutexId::new(m)?, bits)?,
-            Ask::StoreUses(c, uses) => self.store_uses(CondId::new(c)?, uses)?,
-            Ask::Status(t) => self.status(Tid::new(t)?)?,
-            Ask::Effective(t) => self.effective(Tid::new(t)?),
-            Ask::Base(t) => self.base(Tid::new(t)?)?,
-            Ask::Waiter(m, place) => who(self.kernel.waiter(MutexId::new(m)?, place)),
-            Ask::Parked(c, place) => who(self.kernel.parked(CondId::new(c)?, place)),
-            Ask::Ready(place) => who(self.kernel.ready(place)),
-            Ask::Pick => self.pick(),
-            Ask::NextTicket => Reply::Ticket(self.kernel.next_ticket()),
-        })
+            Ask::SetPrio(t, p) => self.set_prio(Tid::new(t)?, p),
+            Ask::Stop(t) => self.stop(Tid::new(t)?),
+            Ask::Expire(t) => self.expire(Tid::new(t)?),
+            Ask::Store(m, bits) => self.store(MutexId::new(m)?, bits),
+            Ask::StoreUses(c, uses) => self.store_uses(CondId::new(c)?, uses),
+            other => self.read(other),
+        }
+    }
+
+    // The same of what reads.
+    fn read(&self, ask: Ask) -> Option<Reply> {
+        match ask {
+            Ask::Word(m) => self.word(MutexId::new(m)?),
+            Ask::Status(t) => self.status(Tid::new(t)?),
+            Ask::Effective(t) => Some(self.effective(Tid::new(t)?)),
+            Ask::Base(t) => self.base(Tid::new(t)?),
+            Ask::Waiter(m, place) => Some(who(self.kernel.waiter(MutexId::new(m)?, place))),
+            Ask::Parked(c, place) => Some(who(self.kernel.parked(CondId::new(c)?, place))),
+            Ask::Ready(place) => Some(who(self.kernel.ready(place))),
+            Ask::Pick => Some(self.pick()),
+            Ask::NextTicket => Some(Reply::Ticket(self.kernel.next_ticket())),
+            _ => None,
+        }
     }
 
     fn lock(&mut self, t: Tid, m: MutexId) -> Option<Reply> {
@@ -142,14 +150,25 @@ impl<C: Chains + Drop> Scene<C> {
         Some(done(self.kernel.wait_requeue_pi(&self.words, t, c, expected, m)))
     }
 
-    fn requeue(&mut self, c: CondId, expected: u32, m: MutexId, val: u32, more: u32) -> Reply {
+    fn requeue(
+        &mut self,
+        c: CondId,
+        expected: u32,
+        m: MutexId,
+        val: u32,
+        more: u32,
+    ) -> Option<Reply> {
         match self
             .kernel
             .cmp_requeue_pi(&mut self.words, c, m, val, more, expected)
         {
-            Ok(taken) => Reply::Taken(taken),
-            Err(errno) => Reply::Refused(errno),
+            Ok(taken) => Some(Reply::Taken(taken)),
+            Err(errno) => Some(Reply::Refused(errno)),
         }
+    }
+
+    fn set_prio(&mut self, t: Tid, p: u32) -> Option<Reply> {
+        Some(done(self.kernel.set_prio(t, p)))
     }
 
     fn stop(&mut self, t: Tid) -> Option<Reply> {
@@ -277,8 +296,12 @@ fn see_waiting<C: Chains + Drop>(kernel: &KernelOn<C>, t: Tid) -> Option<()>
 // Asks all this in turn, and sees that each answer is the one beside it.
 fn check<C: Chains + Drop>(rt: &impl Abort, scene: &mut Scene<C>, steps: &[(Ask, Reply)]) {
     for (ask, reply) in steps {
-        assert_eq!(rt; scene.answer(*ask), Some(*reply), "at {ask:?}");
+        see_reply(rt, *ask, scene.answer(*ask), Some(*reply));
     }
+}
+
+fn see_reply(rt: &impl Abort, ask: Ask, read: Option<Reply>, reply: Option<Reply>) {
+    assert_eq!(rt; read, reply, "at {ask:?}");
 }
 
 // The same with what stands in these tables, of a new scene of such threads and so many mutexes, on either kernel.
@@ -327,87 +350,91 @@ fn nobody_runs_in_a_new_kernel(rt: HostRuntime) -> Result<(), Fail> {
     pick_of_nobody::<LinkedChains, HostRuntime>(&rt, rt.alloc())
 }
 
+const FREE_MUTEX: [(Ask, Reply); 5] = [
+    (Ask::Pick, Reply::Runs(1)),
+    (Ask::Effective(1), Reply::Prio(10)),
+    (Ask::Status(1), Reply::Is(Status::Ready(Woken::Fresh))),
+    (Ask::Lock(1, 1), Reply::Owns),
+    (Ask::Word(1), Reply::Bits(1)),
+];
+
 #[test]
 fn a_thread_takes_a_free_mutex(rt: HostRuntime) -> Result<(), Fail> {
-    let steps = [
-        (Ask::Pick, Reply::Runs(1)),
-        (Ask::Effective(1), Reply::Prio(10)),
-        (Ask::Status(1), Reply::Is(Status::Ready(Woken::Fresh))),
-        (Ask::Lock(1, 1), Reply::Owns),
-        (Ask::Word(1), Reply::Bits(1)),
-    ];
-    play(&rt, rt.alloc(), &[10], 1, &[&steps])
+    play(&rt, rt.alloc(), &[10], 1, &[&FREE_MUTEX])
 }
+
+const STOPS: [(Ask, Reply); 3] = [
+    (Ask::Stop(1), Reply::Done),
+    (Ask::Pick, Reply::Nobody),
+    (Ask::Status(1), Reply::Is(Status::Stopped)),
+];
 
 #[test]
 fn a_thread_that_stops_is_not_picked(rt: HostRuntime) -> Result<(), Fail> {
-    let steps = [
-        (Ask::Stop(1), Reply::Done),
-        (Ask::Pick, Reply::Nobody),
-        (Ask::Status(1), Reply::Is(Status::Stopped)),
-    ];
-    play(&rt, rt.alloc(), &[10], 1, &[&steps])
+    play(&rt, rt.alloc(), &[10], 1, &[&STOPS])
 }
 
 // lock_pi by thread 1 of three, on words that no thread wrote.
+const STORED_WORDS: [(Ask, Reply); 19] = [
+    (Ask::Lock(1, 2), Reply::Refused(Errno::Fault)),
+    (Ask::Store(1, 0x0000_0001), Reply::Done),
+    (Ask::Lock(1, 1), Reply::Refused(Errno::Deadlock)),
+    (Ask::Word(1), Reply::Bits(0x0000_0001)),
+    (Ask::Store(1, 0x0000_03ff), Reply::Done),
+    (Ask::Lock(1, 1), Reply::Refused(Errno::NoSuchThread)),
+    (Ask::Word(1), Reply::Bits(0x0000_03ff)),
+    (Ask::Store(1, 0x8000_0000), Reply::Done),
+    (Ask::Lock(1, 1), Reply::Owns),
+    (Ask::Word(1), Reply::Bits(0x0000_0001)),
+    // Thread 3 queues on it, so that there is an owner state of thread 2.
+    (Ask::Store(1, 0x0000_0002), Reply::Done),
+    (Ask::Lock(3, 1), Reply::Queued),
+    (Ask::Word(1), Reply::Bits(0x8000_0002)),
+    (Ask::Store(1, 0x0000_0003), Reply::Done),
+    (Ask::Lock(1, 1), Reply::Refused(Errno::Invalid)),
+    (Ask::Word(1), Reply::Bits(0x0000_0003)),
+    (Ask::Store(1, 0x0000_0000), Reply::Done),
+    (Ask::Lock(1, 1), Reply::Refused(Errno::Invalid)),
+    (Ask::Word(1), Reply::Bits(0x0000_0000)),
+];
+
 #[test]
 fn kernel_on_stored_words(rt: HostRuntime) -> Result<(), Fail> {
-    let steps = [
-        (Ask::Lock(1, 2), Reply::Refused(Errno::Fault)),
-        (Ask::Store(1, 0x0000_0001), Reply::Done),
-        (Ask::Lock(1, 1), Reply::Refused(Errno::Deadlock)),
-        (Ask::Word(1), Reply::Bits(0x0000_0001)),
-        (Ask::Store(1, 0x0000_03ff), Reply::Done),
-        (Ask::Lock(1, 1), Reply::Refused(Errno::NoSuchThread)),
-        (Ask::Word(1), Reply::Bits(0x0000_03ff)),
-        (Ask::Store(1, 0x8000_0000), Reply::Done),
-        (Ask::Lock(1, 1), Reply::Owns),
-        (Ask::Word(1), Reply::Bits(0x0000_0001)),
-        // Thread 3 queues on it, so that there is an owner state of thread 2.
-        (Ask::Store(1, 0x0000_0002), Reply::Done),
-        (Ask::Lock(3, 1), Reply::Queued),
-        (Ask::Word(1), Reply::Bits(0x8000_0002)),
-        (Ask::Store(1, 0x0000_0003), Reply::Done),
-        (Ask::Lock(1, 1), Reply::Refused(Errno::Invalid)),
-        (Ask::Word(1), Reply::Bits(0x0000_0003)),
-        (Ask::Store(1, 0x0000_0000), Reply::Done),
-        (Ask::Lock(1, 1), Reply::Refused(Errno::Invalid)),
-        (Ask::Word(1), Reply::Bits(0x0000_0000)),
-    ];
-    play(&rt, rt.alloc(), &[10, 10, 10], 1, &[&steps])
+    play(&rt, rt.alloc(), &[10, 10, 10], 1, &[&STORED_WORDS])
 }
 
 // trylock_pi and unlock_pi by thread 1 of three, on words that no thread wrote.
+const ANY_WORDS: [(Ask, Reply); 24] = [
+    (Ask::TryLock(1, 2), Reply::Refused(Errno::Fault)),
+    (Ask::Store(1, 0x0000_0001), Reply::Done),
+    (Ask::TryLock(1, 1), Reply::Refused(Errno::Deadlock)),
+    (Ask::Word(1), Reply::Bits(0x0000_0001)),
+    (Ask::Store(1, 0x8000_0002), Reply::Done),
+    (Ask::TryLock(1, 1), Reply::Refused(Errno::Again)),
+    (Ask::Word(1), Reply::Bits(0x8000_0002)),
+    (Ask::Store(1, 0xc000_0000), Reply::Done),
+    (Ask::TryLock(1, 1), Reply::Done),
+    (Ask::Word(1), Reply::Bits(0x4000_0001)),
+    (Ask::Unlock(1, 2), Reply::Refused(Errno::Fault)),
+    (Ask::Store(1, 0x8000_0001), Reply::Done),
+    (Ask::Unlock(1, 1), Reply::Done),
+    (Ask::Word(1), Reply::Bits(0x0000_0000)),
+    (Ask::Store(1, 0x0000_0002), Reply::Done),
+    (Ask::Unlock(1, 1), Reply::Refused(Errno::NotPermitted)),
+    (Ask::Word(1), Reply::Bits(0x0000_0002)),
+    // Thread 3 queues on it, so that there is an owner state of thread 2.
+    (Ask::Lock(3, 1), Reply::Queued),
+    (Ask::Store(1, 0x0000_0000), Reply::Done),
+    (Ask::TryLock(1, 1), Reply::Refused(Errno::Invalid)),
+    (Ask::Store(1, 0x0000_0001), Reply::Done),
+    (Ask::Unlock(1, 1), Reply::Refused(Errno::Invalid)),
+    (Ask::Word(1), Reply::Bits(0x0000_0001)),
+    (Ask::Status(3), Reply::QueuedOn(1)),
+];
+
 #[test]
 fn kernel_refusals_on_any_words(rt: HostRuntime) -> Result<(), Fail> {
-    let steps = [
-        (Ask::TryLock(1, 2), Reply::Refused(Errno::Fault)),
-        (Ask::Store(1, 0x0000_0001), Reply::Done),
-        (Ask::TryLock(1, 1), Reply::Refused(Errno::Deadlock)),
-        (Ask::Word(1), Reply::Bits(0x0000_0001)),
-        (Ask::Store(1, 0x8000_0002), Reply::Done),
-        (Ask::TryLock(1, 1), Reply::Refused(Errno::Again)),
-        (Ask::Word(1), Reply::Bits(0x8000_0002)),
-        (Ask::Store(1, 0xc000_0000), Reply::Done),
-        (Ask::TryLock(1, 1), Reply::Done),
-        (Ask::Word(1), Reply::Bits(0x4000_0001)),
-        (Ask::Unlock(1, 2), Reply::Refused(Errno::Fault)),
-        (Ask::Store(1, 0x8000_0001), Reply::Done),
-        (Ask::Unlock(1, 1), Reply::Done),
-        (Ask::Word(1), Reply::Bits(0x0000_0000)),
-        (Ask::Store(1, 0x0000_0002), Reply::Done),
-        (Ask::Unlock(1, 1), Reply::Refused(Errno::NotPermitted)),
-        (Ask::Word(1), Reply::Bits(0x0000_0002)),
-        // Thread 3 queues on it, so that there is an owner state of thread 2.
-        (Ask::Lock(3, 1), Reply::Queued),
-        (Ask::Store(1, 0x0000_0000), Reply::Done),
-        (Ask::TryLock(1, 1), Reply::Refused(Errno::Invalid)),
-        (Ask::Store(1, 0x0000_0001), Reply::Done),
-        (Ask::Unlock(1, 1), Reply::Refused(Errno::Invalid)),
-        (Ask::Word(1), Reply::Bits(0x0000_0001)),
-        (Ask::Status(3), Reply::QueuedOn(1)),
-    ];
-    play(&rt, rt.alloc(), &[10, 10, 10], 1, &[&steps])
+    play(&rt, rt.alloc(), &[10, 10, 10], 1, &[&ANY_WORDS])
 }
 
 // Thread 1 holds mutex 1, thread 2 holds mutex 2 and waits for mutex 1, and thread 3 waits for mutex 2.
@@ -418,43 +445,46 @@ const CHAIN: [(Ask, Reply); 4] = [
     (Ask::Lock(3, 2), Reply::Queued),
 ];
 
+const BOOSTED: [(Ask, Reply); 5] = [
+    (Ask::Effective(1), Reply::Prio(99)),
+    (Ask::Effective(2), Reply::Prio(99)),
+    (Ask::Status(3), Reply::QueuedOn(2)),
+    (Ask::Pick, Reply::Runs(1)),
+    (Ask::Lock(1, 2), Reply::Refused(Errno::Deadlock)),
+];
+
 #[test]
 fn boosts_go_through_a_chain(rt: HostRuntime) -> Result<(), Fail> {
-    let steps = [
-        (Ask::Effective(1), Reply::Prio(99)),
-        (Ask::Effective(2), Reply::Prio(99)),
-        (Ask::Status(3), Reply::QueuedOn(2)),
-        (Ask::Pick, Reply::Runs(1)),
-        (Ask::Lock(1, 2), Reply::Refused(Errno::Deadlock)),
-    ];
-    play(&rt, rt.alloc(), &[1, 2, 99], 2, &[&CHAIN, &steps])
+    play(&rt, rt.alloc(), &[1, 2, 99], 2, &[&CHAIN, &BOOSTED])
 }
+
+const UNLOCKED: [(Ask, Reply); 4] = [
+    (Ask::Unlock(1, 1), Reply::Done),
+    (Ask::Effective(1), Reply::Prio(1)),
+    (Ask::Status(2), Reply::Is(Status::Ready(Woken::Owns))),
+    (Ask::Pick, Reply::Runs(2)),
+];
 
 #[test]
 fn who_unlocks_loses_the_boost(rt: HostRuntime) -> Result<(), Fail> {
-    let steps = [
-        (Ask::Unlock(1, 1), Reply::Done),
-        (Ask::Effective(1), Reply::Prio(1)),
-        (Ask::Status(2), Reply::Is(Status::Ready(Woken::Owns))),
-        (Ask::Pick, Reply::Runs(2)),
-    ];
-    play(&rt, rt.alloc(), &[1, 2, 99], 2, &[&CHAIN, &steps])
+    play(&rt, rt.alloc(), &[1, 2, 99], 2, &[&CHAIN, &UNLOCKED])
 }
+
+const PRIORITY_SET: [(Ask, Reply); 9] = [
+    (Ask::Lock(1, 1), Reply::Owns),
+    (Ask::Lock(2, 1), Reply::Queued),
+    (Ask::Lock(3, 1), Reply::Queued),
+    (Ask::SetPrio(2, 30), Reply::Done),
+    (Ask::Effective(1), Reply::Prio(30)),
+    (Ask::SetPrio(2, 20), Reply::Done),
+    (Ask::Effective(1), Reply::Prio(20)),
+    (Ask::Unlock(1, 1), Reply::Done),
+    (Ask::Word(1), Reply::Bits(0x8000_0002)),
+];
 
 #[test]
 fn priority_is_set_and_places_stay(rt: HostRuntime) -> Result<(), Fail> {
-    let steps = [
-        (Ask::Lock(1, 1), Reply::Owns),
-        (Ask::Lock(2, 1), Reply::Queued),
-        (Ask::Lock(3, 1), Reply::Queued),
-        (Ask::SetPrio(2, 30), Reply::Done),
-        (Ask::Effective(1), Reply::Prio(30)),
-        (Ask::SetPrio(2, 20), Reply::Done),
-        (Ask::Effective(1), Reply::Prio(20)),
-        (Ask::Unlock(1, 1), Reply::Done),
-        (Ask::Word(1), Reply::Bits(0x8000_0002)),
-    ];
-    play(&rt, rt.alloc(), &[10, 20, 20], 1, &[&steps])
+    play(&rt, rt.alloc(), &[10, 20, 20], 1, &[&PRIORITY_SET])
 }
 
 // Thread 1 holds mutex 1, for which threads 2, 3 and 4, of priorities 20, 50 and 20, wait in that order. Threads 5 and
@@ -469,29 +499,30 @@ const WAITING: [(Ask, Reply); 6] = [
 ];
 
 // The greatest effective priority comes first, and equals in arrival: thread 1 joined level 50 behind thread 7.
+const PLACES: [(Ask, Reply); 13] = [
+    (Ask::Waiter(1, 0), Reply::Thread(3)),
+    (Ask::Waiter(1, 1), Reply::Thread(2)),
+    (Ask::Waiter(1, 2), Reply::Thread(4)),
+    (Ask::Waiter(1, 3), Reply::Nobody),
+    (Ask::Waiter(2, 0), Reply::Nobody),
+    (Ask::Parked(1, 0), Reply::Thread(6)),
+    (Ask::Parked(1, 1), Reply::Thread(5)),
+    (Ask::Parked(1, 2), Reply::Nobody),
+    (Ask::Parked(2, 0), Reply::Nobody),
+    (Ask::Ready(0), Reply::Thread(7)),
+    (Ask::Ready(1), Reply::Thread(1)),
+    (Ask::Ready(2), Reply::Nobody),
+    (Ask::Base(1), Reply::Prio(10)),
+];
+
 #[test]
 fn places_are_read_in_order(rt: HostRuntime) -> Result<(), Fail> {
-    let steps = [
-        (Ask::Waiter(1, 0), Reply::Thread(3)),
-        (Ask::Waiter(1, 1), Reply::Thread(2)),
-        (Ask::Waiter(1, 2), Reply::Thread(4)),
-        (Ask::Waiter(1, 3), Reply::Nobody),
-        (Ask::Waiter(2, 0), Reply::Nobody),
-        (Ask::Parked(1, 0), Reply::Thread(6)),
-        (Ask::Parked(1, 1), Reply::Thread(5)),
-        (Ask::Parked(1, 2), Reply::Nobody),
-        (Ask::Parked(2, 0), Reply::Nobody),
-        (Ask::Ready(0), Reply::Thread(7)),
-        (Ask::Ready(1), Reply::Thread(1)),
-        (Ask::Ready(2), Reply::Nobody),
-        (Ask::Base(1), Reply::Prio(10)),
-    ];
     play(
         &rt,
         rt.alloc(),
         &[10, 20, 50, 20, 30, 40, 50],
         1,
-        &[&WAITING, &steps],
+        &[&WAITING, &PLACES],
     )
 }
 
@@ -622,23 +653,20 @@ fn exit_leaves_words_of_others(rt: HostRuntime) -> Result<(), Fail> {
 }
 
 // Thread 1 ends as the owner of mutex 1, for which threads 2 and 3 wait.
+const OWNED: [(Ask, Reply); 3] = [
+    (Ask::Lock(1, 1), Reply::Owns),
+    (Ask::Lock(2, 1), Reply::Queued),
+    (Ask::Lock(3, 1), Reply::Queued),
+];
+
+const PASSED_ON: [(Ask, Reply); 4] = [
+    (Ask::Word(1), Reply::Bits(0xc000_0003)),
+    (Ask::Status(3), Reply::Is(Status::Ready(Woken::Owns))),
+    (Ask::Status(2), Reply::QueuedOn(1)),
+    (Ask::Pick, Reply::Runs(3)),
+];
+
 #[test]
 fn exit_hands_over_to_the_next_waiter(rt: HostRuntime) -> Result<(), Fail> {
-    play_end(
-        &rt,
-        rt.alloc(),
-        &[10, 10, 20],
-        1,
-        &[
-            (Ask::Lock(1, 1), Reply::Owns),
-            (Ask::Lock(2, 1), Reply::Queued),
-            (Ask::Lock(3, 1), Reply::Queued),
-        ],
-        &[
-            (Ask::Word(1), Reply::Bits(0xc000_0003)),
-            (Ask::Status(3), Reply::Is(Status::Ready(Woken::Owns))),
-            (Ask::Status(2), Reply::QueuedOn(1)),
-            (Ask::Pick, Reply::Runs(3)),
-        ],
-    )
+    play_end(&rt, rt.alloc(), &[10, 10, 20], 1, &OWNED, &PASSED_ON)
 }

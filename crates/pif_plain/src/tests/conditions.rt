@@ -127,44 +127,42 @@ fn the_word_says_what_a_taken_thread_gets(rt: HostRuntime) -> Result<(), Fail> {
 }
 
 // Thread 2 waits for thread 1, which is parked: it can't queue behind thread 2, and is woken.
+const CYCLE: [(Ask, Reply); 9] = [
+    (Ask::Lock(1, 2), Reply::Owns),
+    (Ask::Lock(2, 1), Reply::Owns),
+    (Ask::Park(1, 1, 0, 1), Reply::Done),
+    (Ask::Lock(2, 2), Reply::Queued),
+    (Ask::Effective(1), Reply::Prio(20)),
+    (Ask::Requeue(1, 0, 1, 1, 0), Reply::Taken(1)),
+    (Ask::Status(1), Reply::Is(Status::Ready(Woken::Again))),
+    (Ask::Word(1), Reply::Bits(0x0000_0002)),
+    (Ask::Lock(1, 1), Reply::Refused(Errno::Deadlock)),
+];
+
 #[test]
 fn requeue_into_a_cycle_wakes(rt: HostRuntime) -> Result<(), Fail> {
-    let steps = [
-        (Ask::Lock(1, 2), Reply::Owns),
-        (Ask::Lock(2, 1), Reply::Owns),
-        (Ask::Park(1, 1, 0, 1), Reply::Done),
-        (Ask::Lock(2, 2), Reply::Queued),
-        (Ask::Effective(1), Reply::Prio(20)),
-        (Ask::Requeue(1, 0, 1, 1, 0), Reply::Taken(1)),
-        (Ask::Status(1), Reply::Is(Status::Ready(Woken::Again))),
-        (Ask::Word(1), Reply::Bits(0x0000_0002)),
-        (Ask::Lock(1, 1), Reply::Refused(Errno::Deadlock)),
-    ];
-    play(&rt, rt.alloc(), &[10, 20], 2, &[&steps])
+    play(&rt, rt.alloc(), &[10, 20], 2, &[&CYCLE])
 }
 
 // Thread 1 ends as the owner of mutex 2, which isn't on its robust list. Thread 3 is queued on it, so that the owner
 // state of thread 1 stays, and thread 2 is parked for it.
+const LOST: [(Ask, Reply); 3] = [
+    (Ask::Lock(1, 2), Reply::Owns),
+    (Ask::Lock(3, 2), Reply::Queued),
+    (Ask::Park(2, 1, 0, 2), Reply::Done),
+];
+
+const LOST_WAKES: [(Ask, Reply); 5] = [
+    (Ask::Requeue(1, 0, 2, 1, 0), Reply::Taken(1)),
+    (Ask::Status(2), Reply::Is(Status::Ready(Woken::Again))),
+    (Ask::Word(2), Reply::Bits(0x8000_0001)),
+    (Ask::Lock(2, 2), Reply::Refused(Errno::NoSuchThread)),
+    (Ask::Status(3), Reply::QueuedOn(2)),
+];
+
 #[test]
 fn requeue_to_a_lost_mutex_wakes(rt: HostRuntime) -> Result<(), Fail> {
-    play_end(
-        &rt,
-        rt.alloc(),
-        &[10, 20, 30],
-        2,
-        &[
-            (Ask::Lock(1, 2), Reply::Owns),
-            (Ask::Lock(3, 2), Reply::Queued),
-            (Ask::Park(2, 1, 0, 2), Reply::Done),
-        ],
-        &[
-            (Ask::Requeue(1, 0, 2, 1, 0), Reply::Taken(1)),
-            (Ask::Status(2), Reply::Is(Status::Ready(Woken::Again))),
-            (Ask::Word(2), Reply::Bits(0x8000_0001)),
-            (Ask::Lock(2, 2), Reply::Refused(Errno::NoSuchThread)),
-            (Ask::Status(3), Reply::QueuedOn(2)),
-        ],
-    )
+    play_end(&rt, rt.alloc(), &[10, 20, 30], 2, &LOST, &LOST_WAKES)
 }
 
 // Threads 2 to 5, of priorities 20, 30, 30 and 20, are parked on variable 1 for mutex 1, which has no owner.
@@ -175,51 +173,53 @@ const PARKED: [(Ask, Reply); 4] = [
     (Ask::Park(5, 1, 0, 1), Reply::Done),
 ];
 
+const GREATEST_FIRST: [(Ask, Reply); 12] = [
+    (Ask::Store(1, 0x4000_0000), Reply::Done),
+    (Ask::Requeue(1, 0, 1, 1, 1), Reply::Taken(2)),
+    (Ask::Word(1), Reply::Bits(0xc000_0003)),
+    (Ask::Status(3), Reply::Is(Status::Ready(Woken::Owns))),
+    (Ask::Status(4), Reply::QueuedOn(1)),
+    (Ask::SetPrio(5, 40), Reply::Done),
+    (Ask::Effective(3), Reply::Prio(30)),
+    (Ask::Requeue(1, 0, 1, 1, 1024), Reply::Taken(2)),
+    (Ask::Effective(3), Reply::Prio(40)),
+    (Ask::Unlock(3, 1), Reply::Done),
+    (Ask::Word(1), Reply::Bits(0x8000_0005)),
+    (Ask::Requeue(1, 0, 1, 1, 4294967295), Reply::Taken(0)),
+];
+
 #[test]
 fn requeue_takes_greatest_first(rt: HostRuntime) -> Result<(), Fail> {
-    let steps = [
-        (Ask::Store(1, 0x4000_0000), Reply::Done),
-        (Ask::Requeue(1, 0, 1, 1, 1), Reply::Taken(2)),
-        (Ask::Word(1), Reply::Bits(0xc000_0003)),
-        (Ask::Status(3), Reply::Is(Status::Ready(Woken::Owns))),
-        (Ask::Status(4), Reply::QueuedOn(1)),
-        (Ask::SetPrio(5, 40), Reply::Done),
-        (Ask::Effective(3), Reply::Prio(30)),
-        (Ask::Requeue(1, 0, 1, 1, 1024), Reply::Taken(2)),
-        (Ask::Effective(3), Reply::Prio(40)),
-        (Ask::Unlock(3, 1), Reply::Done),
-        (Ask::Word(1), Reply::Bits(0x8000_0005)),
-        (Ask::Requeue(1, 0, 1, 1, 4294967295), Reply::Taken(0)),
-    ];
     play(
         &rt,
         rt.alloc(),
         &[10, 20, 30, 30, 20],
         1,
-        &[&PARKED, &steps],
+        &[&PARKED, &GREATEST_FIRST],
     )
 }
 
 // Thread 2, the owner of mutex 1, waits for thread 1, which is parked as threads 3 and 4 are. The first that is taken
 // is thread 3: it boosts both, and so thread 1 goes before thread 4.
+const EACH_ANEW: [(Ask, Reply); 13] = [
+    (Ask::Lock(1, 2), Reply::Owns),
+    (Ask::Lock(2, 1), Reply::Owns),
+    (Ask::Park(1, 1, 0, 1), Reply::Done),
+    (Ask::Park(3, 1, 0, 1), Reply::Done),
+    (Ask::Park(4, 1, 0, 1), Reply::Done),
+    (Ask::Lock(2, 2), Reply::Queued),
+    (Ask::Effective(1), Reply::Prio(10)),
+    (Ask::Requeue(1, 0, 1, 1, 1), Reply::Taken(2)),
+    (Ask::Status(3), Reply::QueuedOn(1)),
+    (Ask::Effective(1), Reply::Prio(50)),
+    (Ask::Status(1), Reply::Is(Status::Ready(Woken::Again))),
+    (Ask::Status(4), Reply::ParkedOn(1)),
+    (Ask::Pick, Reply::Runs(1)),
+];
+
 #[test]
 fn requeue_judges_anew_for_each(rt: HostRuntime) -> Result<(), Fail> {
-    let steps = [
-        (Ask::Lock(1, 2), Reply::Owns),
-        (Ask::Lock(2, 1), Reply::Owns),
-        (Ask::Park(1, 1, 0, 1), Reply::Done),
-        (Ask::Park(3, 1, 0, 1), Reply::Done),
-        (Ask::Park(4, 1, 0, 1), Reply::Done),
-        (Ask::Lock(2, 2), Reply::Queued),
-        (Ask::Effective(1), Reply::Prio(10)),
-        (Ask::Requeue(1, 0, 1, 1, 1), Reply::Taken(2)),
-        (Ask::Status(3), Reply::QueuedOn(1)),
-        (Ask::Effective(1), Reply::Prio(50)),
-        (Ask::Status(1), Reply::Is(Status::Ready(Woken::Again))),
-        (Ask::Status(4), Reply::ParkedOn(1)),
-        (Ask::Pick, Reply::Runs(1)),
-    ];
-    play(&rt, rt.alloc(), &[10, 5, 50, 30], 2, &[&steps])
+    play(&rt, rt.alloc(), &[10, 5, 50, 30], 2, &[&EACH_ANEW])
 }
 
 // Thread 2 is parked as the owner of mutex 2: who locks it boosts thread 2, which goes before thread 3 then.
@@ -258,21 +258,18 @@ fn parked_thread_is_rekeyed(rt: HostRuntime) -> Result<(), Fail> {
 }
 
 // A thread that ends while it is parked leaves its variable, and loses no wake-up of the next.
+const BOTH_PARKED: [(Ask, Reply); 2] = [
+    (Ask::Park(1, 1, 0, 1), Reply::Done),
+    (Ask::Park(2, 1, 0, 1), Reply::Done),
+];
+
+const ONE_LEFT: [(Ask, Reply); 3] = [
+    (Ask::Requeue(1, 0, 1, 1, 1), Reply::Taken(1)),
+    (Ask::Status(2), Reply::Is(Status::Ready(Woken::Owns))),
+    (Ask::Word(1), Reply::Bits(0x0000_0002)),
+];
+
 #[test]
 fn exit_leaves_the_variable(rt: HostRuntime) -> Result<(), Fail> {
-    play_end(
-        &rt,
-        rt.alloc(),
-        &[20, 10],
-        1,
-        &[
-            (Ask::Park(1, 1, 0, 1), Reply::Done),
-            (Ask::Park(2, 1, 0, 1), Reply::Done),
-        ],
-        &[
-            (Ask::Requeue(1, 0, 1, 1, 1), Reply::Taken(1)),
-            (Ask::Status(2), Reply::Is(Status::Ready(Woken::Owns))),
-            (Ask::Word(1), Reply::Bits(0x0000_0002)),
-        ],
-    )
+    play_end(&rt, rt.alloc(), &[20, 10], 1, &BOTH_PARKED, &ONE_LEFT)
 }

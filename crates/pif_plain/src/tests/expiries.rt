@@ -60,40 +60,49 @@ fn expiry_ends_each_kind_of_waiting(rt: HostRuntime) -> Result<(), Fail> {
 
 // Thread 1 holds mutex 1, on which thread 2 is queued; thread 3 is parked, and thread 4 has stopped. All are of the
 // priority of thread 5. Who expires joins behind those that are there.
+const ALL_REST: [(Ask, Reply); 4] = [
+    (Ask::Lock(1, 1), Reply::Owns),
+    (Ask::Lock(2, 1), Reply::Queued),
+    (Ask::Park(3, 1, 0, 1), Reply::Done),
+    (Ask::Stop(4), Reply::Done),
+];
+
+const EXPIRE: [(Ask, Reply); 8] = [
+    (Ask::Expire(4), Reply::Done),
+    (Ask::Expire(2), Reply::Done),
+    (Ask::Expire(3), Reply::Done),
+    (Ask::Ready(0), Reply::Thread(1)),
+    (Ask::Ready(1), Reply::Thread(5)),
+    (Ask::Ready(2), Reply::Thread(4)),
+    (Ask::Ready(3), Reply::Thread(2)),
+    (Ask::Ready(4), Reply::Thread(3)),
+];
+
 #[test]
 fn who_expires_runs_behind_its_equals(rt: HostRuntime) -> Result<(), Fail> {
-    let rest = [
-        (Ask::Lock(1, 1), Reply::Owns),
-        (Ask::Lock(2, 1), Reply::Queued),
-        (Ask::Park(3, 1, 0, 1), Reply::Done),
-        (Ask::Stop(4), Reply::Done),
-    ];
-    let expire = [
-        (Ask::Expire(4), Reply::Done),
-        (Ask::Expire(2), Reply::Done),
-        (Ask::Expire(3), Reply::Done),
-        (Ask::Ready(0), Reply::Thread(1)),
-        (Ask::Ready(1), Reply::Thread(5)),
-        (Ask::Ready(2), Reply::Thread(4)),
-        (Ask::Ready(3), Reply::Thread(2)),
-        (Ask::Ready(4), Reply::Thread(3)),
-    ];
-    play(&rt, rt.alloc(), &[20, 20, 20, 20, 20], 1, &[&rest, &expire])
+    play(
+        &rt,
+        rt.alloc(),
+        &[20, 20, 20, 20, 20],
+        1,
+        &[&ALL_REST, &EXPIRE],
+    )
 }
 
 // Thread 1 was boosted by thread 2. It falls behind thread 3, which has its priority, and thread 2 runs first.
+const BOOST_LOST: [(Ask, Reply); 7] = [
+    (Ask::Lock(1, 1), Reply::Owns),
+    (Ask::Lock(2, 1), Reply::Queued),
+    (Ask::Pick, Reply::Runs(1)),
+    (Ask::Expire(2), Reply::Done),
+    (Ask::Ready(0), Reply::Thread(2)),
+    (Ask::Ready(1), Reply::Thread(3)),
+    (Ask::Ready(2), Reply::Thread(1)),
+];
+
 #[test]
 fn who_loses_a_boost_by_expiry_runs_behind_its_equals(rt: HostRuntime) -> Result<(), Fail> {
-    let steps = [
-        (Ask::Lock(1, 1), Reply::Owns),
-        (Ask::Lock(2, 1), Reply::Queued),
-        (Ask::Pick, Reply::Runs(1)),
-        (Ask::Expire(2), Reply::Done),
-        (Ask::Ready(0), Reply::Thread(2)),
-        (Ask::Ready(1), Reply::Thread(3)),
-        (Ask::Ready(2), Reply::Thread(1)),
-    ];
-    play(&rt, rt.alloc(), &[10, 50, 10], 1, &[&steps])
+    play(&rt, rt.alloc(), &[10, 50, 10], 1, &[&BOOST_LOST])
 }
 
 // Thread 1, of priority 10, holds mutex 1. Thread 2, of priority 20, holds mutex 2 and waits for mutex 1. Threads 3 and
@@ -108,33 +117,47 @@ const WAITING: [(Ask, Reply); 7] = [
     (Ask::Effective(2), Reply::Prio(40)),
 ];
 
+const BOOST_FALLS: [(Ask, Reply); 10] = [
+    (Ask::Expire(4), Reply::Done),
+    (Ask::Effective(1), Reply::Prio(30)),
+    (Ask::Effective(2), Reply::Prio(30)),
+    (Ask::Expire(3), Reply::Done),
+    (Ask::Effective(1), Reply::Prio(20)),
+    (Ask::Effective(2), Reply::Prio(20)),
+    (Ask::Expire(2), Reply::Done),
+    (Ask::Effective(1), Reply::Prio(10)),
+    (Ask::Effective(2), Reply::Prio(20)),
+    (Ask::Pick, Reply::Runs(4)),
+];
+
 #[test]
 fn boost_falls_with_each_waiter_that_expires(rt: HostRuntime) -> Result<(), Fail> {
-    let steps = [
-        (Ask::Expire(4), Reply::Done),
-        (Ask::Effective(1), Reply::Prio(30)),
-        (Ask::Effective(2), Reply::Prio(30)),
-        (Ask::Expire(3), Reply::Done),
-        (Ask::Effective(1), Reply::Prio(20)),
-        (Ask::Effective(2), Reply::Prio(20)),
-        (Ask::Expire(2), Reply::Done),
-        (Ask::Effective(1), Reply::Prio(10)),
-        (Ask::Effective(2), Reply::Prio(20)),
-        (Ask::Pick, Reply::Runs(4)),
-    ];
-    play(&rt, rt.alloc(), &[10, 20, 30, 40], 2, &[&WAITING, &steps])
+    play(
+        &rt,
+        rt.alloc(),
+        &[10, 20, 30, 40],
+        2,
+        &[&WAITING, &BOOST_FALLS],
+    )
 }
 
 // Thread 2 leaves the middle of the chain, and those that wait for it boost it still, and thread 1 no longer.
+const BOOST_KEPT: [(Ask, Reply); 6] = [
+    (Ask::Expire(2), Reply::Done),
+    (Ask::Effective(1), Reply::Prio(10)),
+    (Ask::Effective(2), Reply::Prio(40)),
+    (Ask::Pick, Reply::Runs(2)),
+    (Ask::Waiter(2, 0), Reply::Thread(4)),
+    (Ask::Waiter(2, 1), Reply::Thread(3)),
+];
+
 #[test]
 fn who_expires_keeps_the_boost_of_its_own_waiters(rt: HostRuntime) -> Result<(), Fail> {
-    let steps = [
-        (Ask::Expire(2), Reply::Done),
-        (Ask::Effective(1), Reply::Prio(10)),
-        (Ask::Effective(2), Reply::Prio(40)),
-        (Ask::Pick, Reply::Runs(2)),
-        (Ask::Waiter(2, 0), Reply::Thread(4)),
-        (Ask::Waiter(2, 1), Reply::Thread(3)),
-    ];
-    play(&rt, rt.alloc(), &[10, 20, 30, 40], 2, &[&WAITING, &steps])
+    play(
+        &rt,
+        rt.alloc(),
+        &[10, 20, 30, 40],
+        2,
+        &[&WAITING, &BOOST_KEPT],
+    )
 }

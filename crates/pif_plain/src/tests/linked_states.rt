@@ -7,6 +7,7 @@ ghost use Rattle.pif_owners.specs.States.{owners_in};
 ghost use Rattle.pif_owners.specs.Holds.{HoldsStates};
 ghost use Rattle.pif_plain.specs.ChainExamples.{AreNewStates, IsAtFirst};
 
+use super::owner_states::{see_no_prio, see_number, see_prio, see_thread, see_ticket};
 use super::walks::{priority, thread};
 use pif_nodes::NodeTable;
 use pif_owners::Key;
@@ -35,18 +36,16 @@ fn give_priorities(rt: &impl Abort, mutexes: &mut RtMutexes, table: &NodeTable)
     requires { IsAtFirst mutexes.old table.now }
 {
     let (t1, t2) = (thread(1), thread(2));
-    assert_eq!(rt; mutexes.threads(), 3);
+    see_number(rt, mutexes.threads(), 3);
     mutexes.admit(table, t1, priority(10));
     mutexes.set_local(table, t1, priority(20));
-    assert_eq!(rt; mutexes.base(table, t1), Some(priority(10)));
-    assert_eq!(rt; mutexes.local(table, t1), Some(priority(20)));
+    see_prio(rt, mutexes.base(table, t1), 10);
+    see_prio(rt, mutexes.local(table, t1), 20);
     mutexes.set_base(table, t1, priority(99));
-    assert_eq!(rt; mutexes.base(table, t1), Some(priority(99)));
-    assert_eq!(rt; mutexes.local(table, t1), Some(priority(20)));
-    assert_eq!(rt;
-        (mutexes.base(table, t2), mutexes.local(table, t2)),
-        (None, None)
-    );
+    see_prio(rt, mutexes.base(table, t1), 99);
+    see_prio(rt, mutexes.local(table, t1), 20);
+    see_no_prio(rt, mutexes.base(table, t2));
+    see_no_prio(rt, mutexes.local(table, t2));
 }
 
 // Makes a state of thread 1 on which threads 2 and 3 are queued, in this order, with priority 20.
@@ -76,15 +75,15 @@ fn stand_by_priority_and_ticket(rt: &impl Abort, mutexes: &mut RtMutexes, table:
 {
     let (t2, t3) = (thread(2), thread(3));
     let key = queue_two(mutexes, table);
-    assert_eq!(rt; mutexes.top(table, key), Some(t2));
+    see_thread(rt, mutexes.top(table, key), 2);
     mutexes.rekey(table, key, t2, priority(30));
-    assert_eq!(rt; mutexes.maximum(table, thread(1)), Some(priority(30)));
+    see_prio(rt, mutexes.maximum(table, thread(1)), 30);
     mutexes.rekey(table, key, t2, priority(20));
-    assert_eq!(rt; mutexes.top(table, key), Some(t2));
+    see_thread(rt, mutexes.top(table, key), 2);
     mutexes.set_ticket(table, t3, 7);
-    assert_eq!(rt; mutexes.ticket(table, t2), Some(1));
-    assert_eq!(rt; mutexes.ticket(table, t3), Some(7));
-    assert_eq!(rt; mutexes.top(table, key), Some(t2));
+    see_ticket(rt, mutexes.ticket(table, t2), 1);
+    see_ticket(rt, mutexes.ticket(table, t3), 7);
+    see_thread(rt, mutexes.top(table, key), 2);
 }
 
 #[test]
@@ -101,16 +100,12 @@ fn pass_to_top_waiter(rt: &impl Abort, mutexes: &mut RtMutexes, table: &mut Node
 {
     let (t2, t3) = (thread(2), thread(3));
     let key = queue_two(mutexes, table);
-    assert_eq!(rt;
-        (mutexes.owner(table, key), mutexes.row(table, key)),
-        (thread(1), 2)
-    );
-    assert_eq!(rt; mutexes.hand_over(table, key), t2);
-    assert_eq!(rt;
-        (mutexes.owner(table, key), mutexes.top(table, key)),
-        (t2, Some(t3))
-    );
-    assert_eq!(rt; mutexes.waits_on(table, t2), None);
+    see_number(rt, mutexes.owner(table, key).get(), 1);
+    see_number(rt, mutexes.row(table, key), 2);
+    see_number(rt, mutexes.hand_over(table, key).get(), 2);
+    see_number(rt, mutexes.owner(table, key).get(), 2);
+    see_thread(rt, mutexes.top(table, key), 3);
+    assert!(rt; mutexes.waits_on(table, t2).is_none());
     assert_eq!(rt; mutexes.waits_on(table, t3), Some(key));
     mutexes.dequeue(table, key, t3);
     assert_eq!(rt;

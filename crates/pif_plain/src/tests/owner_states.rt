@@ -23,6 +23,27 @@ fn priority(level: u32) -> Prio
     Prio::new(level).unwrap()
 }
 
+// Each of these sees that what was read is this.
+pub(super) fn see_number(rt: &impl Abort, read: u32, number: u32) {
+    assert_eq!(rt; read, number);
+}
+
+pub(super) fn see_prio(rt: &impl Abort, read: Option<Prio>, level: u32) {
+    assert_eq!(rt; read.map(|prio| prio.get()), Some(level));
+}
+
+pub(super) fn see_no_prio(rt: &impl Abort, read: Option<Prio>) {
+    assert_eq!(rt; read, None);
+}
+
+pub(super) fn see_thread(rt: &impl Abort, read: Option<Tid>, number: u32) {
+    assert_eq!(rt; read.map(|t| t.get()), Some(number));
+}
+
+pub(super) fn see_ticket(rt: &impl Abort, read: Option<u64>, ticket: u64) {
+    assert_eq!(rt; read, Some(ticket));
+}
+
 #[test]
 fn threads_have_the_priorities_they_were_given(rt: HostRuntime) -> Result<(), Fail> {
     let mut mutexes = RtMutexes::new(rt.alloc(), 3)?;
@@ -34,15 +55,16 @@ fn give_priorities(rt: &impl Abort, mutexes: &mut RtMutexes)
     requires { mutexes.old ≡ no_owners 3 }
 {
     let (t1, t2) = (thread(1), thread(2));
-    assert_eq!(rt; mutexes.threads(), 3);
+    see_number(rt, mutexes.threads(), 3);
     mutexes.admit(t1, priority(10));
     mutexes.set_local(t1, priority(20));
-    assert_eq!(rt; mutexes.base(t1), Some(priority(10)));
-    assert_eq!(rt; mutexes.local(t1), Some(priority(20)));
+    see_prio(rt, mutexes.base(t1), 10);
+    see_prio(rt, mutexes.local(t1), 20);
     mutexes.set_base(t1, priority(99));
-    assert_eq!(rt; mutexes.base(t1), Some(priority(99)));
-    assert_eq!(rt; mutexes.local(t1), Some(priority(20)));
-    assert_eq!(rt; (mutexes.base(t2), mutexes.local(t2)), (None, None));
+    see_prio(rt, mutexes.base(t1), 99);
+    see_prio(rt, mutexes.local(t1), 20);
+    see_no_prio(rt, mutexes.base(t2));
+    see_no_prio(rt, mutexes.local(t2));
 }
 
 // Makes a state of thread 1 on which threads 2 and 3 are queued, in this order, with priority 20.
@@ -69,14 +91,14 @@ fn stand_by_priority_and_ticket(rt: &impl Abort, mutexes: &mut RtMutexes)
 {
     let (t2, t3) = (thread(2), thread(3));
     let key = queue_two(mutexes);
-    assert_eq!(rt; mutexes.top(key), Some(t2));
+    see_thread(rt, mutexes.top(key), 2);
     mutexes.rekey(key, t2, priority(30));
     mutexes.rekey(key, t2, priority(20));
-    assert_eq!(rt; mutexes.top(key), Some(t2));
+    see_thread(rt, mutexes.top(key), 2);
     mutexes.set_ticket(t3, 7);
-    assert_eq!(rt; mutexes.ticket(t2), Some(1));
-    assert_eq!(rt; mutexes.ticket(t3), Some(7));
-    assert_eq!(rt; mutexes.top(key), Some(t2));
+    see_ticket(rt, mutexes.ticket(t2), 1);
+    see_ticket(rt, mutexes.ticket(t3), 7);
+    see_thread(rt, mutexes.top(key), 2);
 }
 
 #[test]
@@ -91,10 +113,11 @@ fn pass_to_top_waiter(rt: &impl Abort, mutexes: &mut RtMutexes)
 {
     let (t2, t3) = (thread(2), thread(3));
     let key = queue_two(mutexes);
-    assert_eq!(rt; mutexes.owner(key), thread(1));
-    assert_eq!(rt; mutexes.hand_over(key), t2);
-    assert_eq!(rt; (mutexes.owner(key), mutexes.top(key)), (t2, Some(t3)));
-    assert_eq!(rt; mutexes.waits_on(t2), None);
+    see_number(rt, mutexes.owner(key).get(), 1);
+    see_number(rt, mutexes.hand_over(key).get(), 2);
+    see_number(rt, mutexes.owner(key).get(), 2);
+    see_thread(rt, mutexes.top(key), 3);
+    assert!(rt; mutexes.waits_on(t2).is_none());
     assert_eq!(rt; mutexes.waits_on(t3), Some(key));
     mutexes.dequeue(key, t3);
     assert_eq!(rt; (mutexes.top(key), mutexes.ticket(t3)), (None, None));

@@ -40,37 +40,39 @@ fn broadcast_wakes_by_priority(rt: HostRuntime) -> Result<(), Fail> {
 }
 
 // Thread 3 parks after thread 2, which has a lower priority, and gets the mutex, which is free.
+const GREATEST: [(Ask, Reply); 6] = [
+    (Ask::Park(2, 1, 0, 1), Reply::Done),
+    (Ask::Park(3, 1, 0, 1), Reply::Done),
+    (Ask::Requeue(1, 0, 1, 1, 0), Reply::Taken(1)),
+    (Ask::Word(1), Reply::Bits(0x0000_0003)),
+    (Ask::Status(3), Reply::Is(Status::Ready(Woken::Owns))),
+    (Ask::Status(2), Reply::ParkedOn(1)),
+];
+
 #[test]
 fn signal_takes_greatest_priority(rt: HostRuntime) -> Result<(), Fail> {
-    let steps = [
-        (Ask::Park(2, 1, 0, 1), Reply::Done),
-        (Ask::Park(3, 1, 0, 1), Reply::Done),
-        (Ask::Requeue(1, 0, 1, 1, 0), Reply::Taken(1)),
-        (Ask::Word(1), Reply::Bits(0x0000_0003)),
-        (Ask::Status(3), Reply::Is(Status::Ready(Woken::Owns))),
-        (Ask::Status(2), Reply::ParkedOn(1)),
-    ];
-    play(&rt, rt.alloc(), &[10, 10, 30], 1, &[&steps])
+    play(&rt, rt.alloc(), &[10, 10, 30], 1, &[&GREATEST])
 }
 
 // Equals are taken in the order in which they were parked, also once one of them went up and down again.
+const EQUALS: [(Ask, Reply); 12] = [
+    (Ask::Park(3, 1, 0, 1), Reply::Done),
+    (Ask::Park(2, 1, 0, 1), Reply::Done),
+    (Ask::SetPrio(2, 30), Reply::Done),
+    (Ask::Parked(1, 0), Reply::Thread(2)),
+    (Ask::SetPrio(2, 10), Reply::Done),
+    (Ask::Parked(1, 0), Reply::Thread(3)),
+    (Ask::Parked(1, 1), Reply::Thread(2)),
+    (Ask::Expire(3), Reply::Done),
+    (Ask::Park(3, 1, 0, 1), Reply::Done),
+    (Ask::Parked(1, 0), Reply::Thread(2)),
+    (Ask::Parked(1, 1), Reply::Thread(3)),
+    (Ask::Parked(2, 0), Reply::Nobody),
+];
+
 #[test]
 fn equals_are_taken_in_order_of_parking(rt: HostRuntime) -> Result<(), Fail> {
-    let steps = [
-        (Ask::Park(3, 1, 0, 1), Reply::Done),
-        (Ask::Park(2, 1, 0, 1), Reply::Done),
-        (Ask::SetPrio(2, 30), Reply::Done),
-        (Ask::Parked(1, 0), Reply::Thread(2)),
-        (Ask::SetPrio(2, 10), Reply::Done),
-        (Ask::Parked(1, 0), Reply::Thread(3)),
-        (Ask::Parked(1, 1), Reply::Thread(2)),
-        (Ask::Expire(3), Reply::Done),
-        (Ask::Park(3, 1, 0, 1), Reply::Done),
-        (Ask::Parked(1, 0), Reply::Thread(2)),
-        (Ask::Parked(1, 1), Reply::Thread(3)),
-        (Ask::Parked(2, 0), Reply::Nobody),
-    ];
-    play(&rt, rt.alloc(), &[10, 10, 10], 1, &[&steps])
+    play(&rt, rt.alloc(), &[10, 10, 10], 1, &[&EQUALS])
 }
 
 // Mutexes 1 and 65 are both held by a thread for which one of priority 20 waits. What becomes of one leaves the other.

@@ -1,6 +1,6 @@
 //! Random lists of kernel calls on both kernels, on words that no library wrote too: each call has the same answer on
 //! both, and leaves the same words, statuses, priorities and pick.
-use super::{Ask, Reply, Scene, end};
+use super::{Ask, Reply, Scene, end, see_reply};
 use crate::PlainChains;
 use pif_linked::LinkedChains;
 use rand_core::{Rng, SeedableRng};
@@ -27,17 +27,7 @@ struct Both {
 impl Both {
     // Threads of random priorities, of which many are equal, and a first ticket so late that tickets are numbered anew.
     fn new(alloc: Global, rng: &mut SplitMix64) -> Result<Both, Fail> {
-        let levels = [
-            level(rng),
-            level(rng),
-            level(rng),
-            level(rng),
-            level(rng),
-            level(rng),
-            level(rng),
-            level(rng),
-            level(rng),
-        ];
+        let levels = levels(rng);
         let first = u64::MAX - u64::from(rng.next_u32() % 64);
         let plain = Scene::new(alloc, &levels, MUTEXES, first)?;
         let linked = Scene::new(alloc, &levels, MUTEXES, first)?;
@@ -47,7 +37,7 @@ impl Both {
     // Asks both, and sees that they answer the same. Whether it could be asked: a call may want a ready thread.
     fn ask(&mut self, rt: &impl Abort, ask: Ask) -> bool {
         let plain = self.plain.answer(ask);
-        assert_eq!(rt; self.linked.answer(ask), plain, "at {ask:?}");
+        see_reply(rt, ask, self.linked.answer(ask), plain);
         plain.is_some()
     }
 
@@ -90,6 +80,14 @@ impl Both {
             self.ask(rt, Ask::Word(number));
         }
     }
+}
+
+fn levels(rng: &mut SplitMix64) -> [u32; 9] {
+    let mut levels = [0; 9];
+    for place in 0..9 {
+        levels[place] = level(rng);
+    }
+    levels
 }
 
 fn level(rng: &mut SplitMix64) -> u32 {

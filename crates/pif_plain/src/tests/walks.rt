@@ -4,6 +4,7 @@ ghost use Rattle.pif_owners.specs.Owners.{no_owners, owner_at};
 ghost use Rattle.pif_boost.specs.Settled.{IsSettled};
 ghost use Rattle.pif_plain.specs.WalkExamples.{three_threads, new_queue, table_of_three};
 
+use super::owner_states::{see_prio, see_thread};
 use crate::chain_walk::walk;
 use crate::cycles::would_close;
 use crate::rt_mutexes::RtMutexes;
@@ -92,10 +93,10 @@ fn expect_priority(
     requires { IsSettled owners.now queue.now table.now }
 {
     let (t1, t2) = (thread(1), thread(2));
-    assert_eq!(rt; owners.local(t1), Prio::new(level));
-    assert_eq!(rt; owners.local(t2), Prio::new(level));
-    assert_eq!(rt; queue.pick(table), Some(t1));
-    assert_eq!(rt; queue.level(table, t1), Prio::new(level));
+    see_prio(rt, owners.local(t1), level);
+    see_prio(rt, owners.local(t2), level);
+    see_thread(rt, queue.pick(table), 1);
+    see_prio(rt, queue.level(table, t1), level);
 }
 
 #[test]
