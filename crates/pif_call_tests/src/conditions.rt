@@ -24,134 +24,139 @@ const TWO: [(Ask, Reply); 5] = [
     (Ask::AddThread(20), Reply::Added(2)),
 ];
 
+const HANDED: [(Ask, Reply); 10] = [
+    (
+        Ask::Call(1, Wish::Lock(1)),
+        Reply::Ended(2, Progress::Done(0)),
+    ),
+    (
+        Ask::Call(1, Wish::Wait(1, 1)),
+        Reply::Ended(4, Progress::Waits),
+    ),
+    (Ask::Word(1), Reply::Bits(0)),
+    (Ask::Status(1), Reply::ParkedOn(1)),
+    (
+        Ask::Call(2, Wish::Signal(1)),
+        Reply::Ended(3, Progress::Done(0)),
+    ),
+    (Ask::Word(1), Reply::Bits(1)),
+    (Ask::Uses(1), Reply::Bits(1)),
+    (
+        Ask::Call(2, Wish::Signal(1)),
+        Reply::Ended(3, Progress::Done(0)),
+    ),
+    (Ask::Uses(1), Reply::Bits(2)),
+    (Ask::Finish(1), Reply::Ended(1, Progress::Done(0))),
+];
+
 #[test]
 fn signal_hands_the_mutex_to_one_that_waits(rt: HostRuntime) -> Result<(), Fail> {
-    let steps = [
-        (
-            Ask::Call(1, Wish::Lock(1)),
-            Reply::Ended(2, Progress::Done(0)),
-        ),
-        (
-            Ask::Call(1, Wish::Wait(1, 1)),
-            Reply::Ended(4, Progress::Waits),
-        ),
-        (Ask::Word(1), Reply::Bits(0)),
-        (Ask::Status(1), Reply::ParkedOn(1)),
-        (
-            Ask::Call(2, Wish::Signal(1)),
-            Reply::Ended(3, Progress::Done(0)),
-        ),
-        (Ask::Word(1), Reply::Bits(1)),
-        (Ask::Uses(1), Reply::Bits(1)),
-        (
-            Ask::Call(2, Wish::Signal(1)),
-            Reply::Ended(3, Progress::Done(0)),
-        ),
-        (Ask::Uses(1), Reply::Bits(2)),
-        (Ask::Finish(1), Reply::Ended(1, Progress::Done(0))),
-    ];
-    try_all(&rt, rt.alloc(), &[&TWO, &steps])
+    try_all(&rt, rt.alloc(), &[&TWO, &HANDED])
 }
+
+const NOT_LOST: [(Ask, Reply); 9] = [
+    (
+        Ask::Call(1, Wish::Lock(1)),
+        Reply::Ended(2, Progress::Done(0)),
+    ),
+    (Ask::Begin(1, Wish::Wait(1, 1)), Reply::Done),
+    (Ask::Go(1), Reply::Step(Progress::Went)),
+    (Ask::Go(1), Reply::Step(Progress::Went)),
+    (Ask::Go(1), Reply::Step(Progress::Went)),
+    (
+        Ask::Call(2, Wish::Signal(1)),
+        Reply::Ended(3, Progress::Done(0)),
+    ),
+    (Ask::Word(1), Reply::Bits(0)),
+    (Ask::Uses(1), Reply::Bits(1)),
+    (Ask::Finish(1), Reply::Ended(2, Progress::Done(0))),
+];
 
 #[test]
 fn signal_before_the_park_is_not_lost(rt: HostRuntime) -> Result<(), Fail> {
-    let steps = [
-        (
-            Ask::Call(1, Wish::Lock(1)),
-            Reply::Ended(2, Progress::Done(0)),
-        ),
-        (Ask::Begin(1, Wish::Wait(1, 1)), Reply::Done),
-        (Ask::Go(1), Reply::Step(Progress::Went)),
-        (Ask::Go(1), Reply::Step(Progress::Went)),
-        (Ask::Go(1), Reply::Step(Progress::Went)),
-        (
-            Ask::Call(2, Wish::Signal(1)),
-            Reply::Ended(3, Progress::Done(0)),
-        ),
-        (Ask::Word(1), Reply::Bits(0)),
-        (Ask::Uses(1), Reply::Bits(1)),
-        (Ask::Finish(1), Reply::Ended(2, Progress::Done(0))),
-    ];
-    try_all(&rt, rt.alloc(), &[&TWO, &steps])
+    try_all(&rt, rt.alloc(), &[&TWO, &NOT_LOST])
 }
+
+const ROBUST: [(Ask, Reply); 10] = [
+    (Ask::AddMutex(Kind::Normal, true), Reply::Added(1)),
+    (Ask::AddCond(1), Reply::Added(1)),
+    (Ask::AddThread(10), Reply::Added(1)),
+    (Ask::AddThread(20), Reply::Added(2)),
+    (
+        Ask::Call(1, Wish::Lock(1)),
+        Reply::Ended(7, Progress::Done(0)),
+    ),
+    (
+        Ask::Call(1, Wish::Wait(1, 1)),
+        Reply::Ended(7, Progress::Waits),
+    ),
+    (Ask::Word(1), Reply::Bits(0)),
+    (
+        Ask::Call(2, Wish::Signal(1)),
+        Reply::Ended(3, Progress::Done(0)),
+    ),
+    (Ask::Word(1), Reply::Bits(1)),
+    (Ask::Finish(1), Reply::Ended(5, Progress::Done(0))),
+];
 
 #[test]
 fn wait_takes_a_robust_mutex_over_again(rt: HostRuntime) -> Result<(), Fail> {
-    let steps = [
-        (Ask::AddMutex(Kind::Normal, true), Reply::Added(1)),
-        (Ask::AddCond(1), Reply::Added(1)),
-        (Ask::AddThread(10), Reply::Added(1)),
-        (Ask::AddThread(20), Reply::Added(2)),
-        (
-            Ask::Call(1, Wish::Lock(1)),
-            Reply::Ended(7, Progress::Done(0)),
-        ),
-        (
-            Ask::Call(1, Wish::Wait(1, 1)),
-            Reply::Ended(7, Progress::Waits),
-        ),
-        (Ask::Word(1), Reply::Bits(0)),
-        (
-            Ask::Call(2, Wish::Signal(1)),
-            Reply::Ended(3, Progress::Done(0)),
-        ),
-        (Ask::Word(1), Reply::Bits(1)),
-        (Ask::Finish(1), Reply::Ended(5, Progress::Done(0))),
-    ];
-    try_all(&rt, rt.alloc(), &[&steps])
+    try_all(&rt, rt.alloc(), &[&ROBUST])
 }
+
+const ERRORS_ADDED: [(Ask, Reply); 5] = [
+    (Ask::AddMutex(Kind::Recursive, false), Reply::Added(1)),
+    (Ask::AddMutex(Kind::Normal, false), Reply::Added(2)),
+    (Ask::AddCond(1), Reply::Added(1)),
+    (Ask::AddThread(10), Reply::Added(1)),
+    (Ask::AddThread(20), Reply::Added(2)),
+];
+
+const ERRORS: [(Ask, Reply); 12] = [
+    (
+        Ask::Call(1, Wish::Wait(1, 2)),
+        Reply::Ended(1, Progress::Done(22)),
+    ),
+    (
+        Ask::Call(1, Wish::Wait(1, 1)),
+        Reply::Ended(1, Progress::Done(1)),
+    ),
+    (
+        Ask::Call(1, Wish::Lock(1)),
+        Reply::Ended(2, Progress::Done(0)),
+    ),
+    (
+        Ask::Call(1, Wish::Lock(1)),
+        Reply::Ended(1, Progress::Done(0)),
+    ),
+    (
+        Ask::Call(1, Wish::Wait(1, 1)),
+        Reply::Ended(1, Progress::Done(22)),
+    ),
+    (
+        Ask::Call(2, Wish::Broadcast(1)),
+        Reply::Ended(3, Progress::Done(0)),
+    ),
+    (
+        Ask::Call(2, Wish::Signal(1)),
+        Reply::Ended(3, Progress::Done(0)),
+    ),
+    (
+        Ask::Call(2, Wish::Signal(1)),
+        Reply::Ended(3, Progress::Done(0)),
+    ),
+    (Ask::Uses(1), Reply::Bits(3)),
+    (
+        Ask::Call(2, Wish::Signal(1)),
+        Reply::Ended(1, Progress::Done(75)),
+    ),
+    (Ask::Uses(1), Reply::Bits(3)),
+    (Ask::Word(1), Reply::Bits(1)),
+];
 
 #[test]
 fn wait_and_signal_name_their_errors(rt: HostRuntime) -> Result<(), Fail> {
-    let added = [
-        (Ask::AddMutex(Kind::Recursive, false), Reply::Added(1)),
-        (Ask::AddMutex(Kind::Normal, false), Reply::Added(2)),
-        (Ask::AddCond(1), Reply::Added(1)),
-        (Ask::AddThread(10), Reply::Added(1)),
-        (Ask::AddThread(20), Reply::Added(2)),
-    ];
-    let steps = [
-        (
-            Ask::Call(1, Wish::Wait(1, 2)),
-            Reply::Ended(1, Progress::Done(22)),
-        ),
-        (
-            Ask::Call(1, Wish::Wait(1, 1)),
-            Reply::Ended(1, Progress::Done(1)),
-        ),
-        (
-            Ask::Call(1, Wish::Lock(1)),
-            Reply::Ended(2, Progress::Done(0)),
-        ),
-        (
-            Ask::Call(1, Wish::Lock(1)),
-            Reply::Ended(1, Progress::Done(0)),
-        ),
-        (
-            Ask::Call(1, Wish::Wait(1, 1)),
-            Reply::Ended(1, Progress::Done(22)),
-        ),
-        (
-            Ask::Call(2, Wish::Broadcast(1)),
-            Reply::Ended(3, Progress::Done(0)),
-        ),
-        (
-            Ask::Call(2, Wish::Signal(1)),
-            Reply::Ended(3, Progress::Done(0)),
-        ),
-        (
-            Ask::Call(2, Wish::Signal(1)),
-            Reply::Ended(3, Progress::Done(0)),
-        ),
-        (Ask::Uses(1), Reply::Bits(3)),
-        (
-            Ask::Call(2, Wish::Signal(1)),
-            Reply::Ended(1, Progress::Done(75)),
-        ),
-        (Ask::Uses(1), Reply::Bits(3)),
-        (Ask::Word(1), Reply::Bits(1)),
-    ];
-    try_all(&rt, rt.alloc(), &[&added, &steps])
+    try_all(&rt, rt.alloc(), &[&ERRORS_ADDED, &ERRORS])
 }
 
 /// Thread 1 has priority 5, and threads 2, 3 and 4 have 10, 30 and 20 and wait on the variable.
@@ -188,149 +193,182 @@ const THREE_WAIT: [(Ask, Reply); 12] = [
     ),
 ];
 
+const WOKEN: [(Ask, Reply); 9] = [
+    (Ask::Parked(1, 0), Reply::Thread(3)),
+    (Ask::Parked(1, 1), Reply::Thread(4)),
+    (Ask::Parked(1, 2), Reply::Thread(2)),
+    (Ask::Parked(1, 3), Reply::Nobody),
+    (
+        Ask::Call(1, Wish::Lock(1)),
+        Reply::Ended(2, Progress::Done(0)),
+    ),
+    (
+        Ask::Call(1, Wish::Broadcast(1)),
+        Reply::Ended(3, Progress::Done(0)),
+    ),
+    (Ask::Word(1), Reply::Bits(0x8000_0001)),
+    (Ask::Effective(1), Reply::Prio(30)),
+    (Ask::Parked(1, 0), Reply::Nobody),
+];
+
+const HANDED_ON: [(Ask, Reply); 12] = [
+    (
+        Ask::Call(1, Wish::Unlock(1)),
+        Reply::Ended(3, Progress::Done(0)),
+    ),
+    (Ask::Word(1), Reply::Bits(0x8000_0003)),
+    (Ask::Effective(1), Reply::Prio(5)),
+    (Ask::Finish(3), Reply::Ended(1, Progress::Done(0))),
+    (
+        Ask::Call(3, Wish::Unlock(1)),
+        Reply::Ended(3, Progress::Done(0)),
+    ),
+    (Ask::Word(1), Reply::Bits(0x8000_0004)),
+    (Ask::Finish(4), Reply::Ended(1, Progress::Done(0))),
+    (
+        Ask::Call(4, Wish::Unlock(1)),
+        Reply::Ended(3, Progress::Done(0)),
+    ),
+    (Ask::Word(1), Reply::Bits(0x8000_0002)),
+    (Ask::Finish(2), Reply::Ended(1, Progress::Done(0))),
+    (
+        Ask::Call(2, Wish::Unlock(1)),
+        Reply::Ended(3, Progress::Done(0)),
+    ),
+    (Ask::Word(1), Reply::Bits(0x0000_0000)),
+];
+
 #[test]
 fn broadcast_wakes_by_priority(rt: HostRuntime) -> Result<(), Fail> {
-    let woken = [
-        (Ask::Parked(1, 0), Reply::Thread(3)),
-        (Ask::Parked(1, 1), Reply::Thread(4)),
-        (Ask::Parked(1, 2), Reply::Thread(2)),
-        (Ask::Parked(1, 3), Reply::Nobody),
-        (
-            Ask::Call(1, Wish::Lock(1)),
-            Reply::Ended(2, Progress::Done(0)),
-        ),
-        (
-            Ask::Call(1, Wish::Broadcast(1)),
-            Reply::Ended(3, Progress::Done(0)),
-        ),
-        (Ask::Word(1), Reply::Bits(0x8000_0001)),
-        (Ask::Effective(1), Reply::Prio(30)),
-        (Ask::Parked(1, 0), Reply::Nobody),
-    ];
-    let handed = [
-        (
-            Ask::Call(1, Wish::Unlock(1)),
-            Reply::Ended(3, Progress::Done(0)),
-        ),
-        (Ask::Word(1), Reply::Bits(0x8000_0003)),
-        (Ask::Effective(1), Reply::Prio(5)),
-        (Ask::Finish(3), Reply::Ended(1, Progress::Done(0))),
-        (
-            Ask::Call(3, Wish::Unlock(1)),
-            Reply::Ended(3, Progress::Done(0)),
-        ),
-        (Ask::Word(1), Reply::Bits(0x8000_0004)),
-        (Ask::Finish(4), Reply::Ended(1, Progress::Done(0))),
-        (
-            Ask::Call(4, Wish::Unlock(1)),
-            Reply::Ended(3, Progress::Done(0)),
-        ),
-        (Ask::Word(1), Reply::Bits(0x8000_0002)),
-        (Ask::Finish(2), Reply::Ended(1, Progress::Done(0))),
-        (
-            Ask::Call(2, Wish::Unlock(1)),
-            Reply::Ended(3, Progress::Done(0)),
-        ),
-        (Ask::Word(1), Reply::Bits(0x0000_0000)),
-    ];
-    try_all(&rt, rt.alloc(), &[&THREE_WAIT, &woken, &handed])
+    try_all(&rt, rt.alloc(), &[&THREE_WAIT, &WOKEN, &HANDED_ON])
 }
+
+const GREATEST: [(Ask, Reply); 13] = [
+    (Ask::AddMutex(Kind::Normal, false), Reply::Added(1)),
+    (Ask::AddCond(1), Reply::Added(1)),
+    (Ask::AddThread(10), Reply::Added(1)),
+    (Ask::AddThread(10), Reply::Added(2)),
+    (Ask::AddThread(30), Reply::Added(3)),
+    (
+        Ask::Call(2, Wish::Lock(1)),
+        Reply::Ended(2, Progress::Done(0)),
+    ),
+    (
+        Ask::Call(2, Wish::Wait(1, 1)),
+        Reply::Ended(4, Progress::Waits),
+    ),
+    (
+        Ask::Call(3, Wish::Lock(1)),
+        Reply::Ended(2, Progress::Done(0)),
+    ),
+    (
+        Ask::Call(3, Wish::Wait(1, 1)),
+        Reply::Ended(4, Progress::Waits),
+    ),
+    (
+        Ask::Call(1, Wish::Signal(1)),
+        Reply::Ended(3, Progress::Done(0)),
+    ),
+    (Ask::Word(1), Reply::Bits(0x0000_0003)),
+    (Ask::Finish(3), Reply::Ended(1, Progress::Done(0))),
+    (Ask::Finish(2), Reply::Ended(1, Progress::Waits)),
+];
 
 #[test]
 fn signal_takes_greatest_priority(rt: HostRuntime) -> Result<(), Fail> {
-    let steps = [
-        (Ask::AddMutex(Kind::Normal, false), Reply::Added(1)),
-        (Ask::AddCond(1), Reply::Added(1)),
-        (Ask::AddThread(10), Reply::Added(1)),
-        (Ask::AddThread(10), Reply::Added(2)),
-        (Ask::AddThread(30), Reply::Added(3)),
-        (
-            Ask::Call(2, Wish::Lock(1)),
-            Reply::Ended(2, Progress::Done(0)),
-        ),
-        (
-            Ask::Call(2, Wish::Wait(1, 1)),
-            Reply::Ended(4, Progress::Waits),
-        ),
-        (
-            Ask::Call(3, Wish::Lock(1)),
-            Reply::Ended(2, Progress::Done(0)),
-        ),
-        (
-            Ask::Call(3, Wish::Wait(1, 1)),
-            Reply::Ended(4, Progress::Waits),
-        ),
-        (
-            Ask::Call(1, Wish::Signal(1)),
-            Reply::Ended(3, Progress::Done(0)),
-        ),
-        (Ask::Word(1), Reply::Bits(0x0000_0003)),
-        (Ask::Finish(3), Reply::Ended(1, Progress::Done(0))),
-        (Ask::Finish(2), Reply::Ended(1, Progress::Waits)),
-    ];
-    try_all(&rt, rt.alloc(), &[&steps])
+    try_all(&rt, rt.alloc(), &[&GREATEST])
 }
 
 /// Thread 2 is parked as the owner of mutex 2: who locks that boosts it, and so it goes before thread 3.
+const REKEYED_ADDED: [(Ask, Reply); 7] = [
+    (Ask::AddMutex(Kind::Normal, false), Reply::Added(1)),
+    (Ask::AddMutex(Kind::Normal, false), Reply::Added(2)),
+    (Ask::AddCond(1), Reply::Added(1)),
+    (Ask::AddThread(10), Reply::Added(1)),
+    (Ask::AddThread(10), Reply::Added(2)),
+    (Ask::AddThread(15), Reply::Added(3)),
+    (Ask::AddThread(40), Reply::Added(4)),
+];
+
+const REKEYED: [(Ask, Reply); 12] = [
+    (
+        Ask::Call(2, Wish::Lock(2)),
+        Reply::Ended(2, Progress::Done(0)),
+    ),
+    (
+        Ask::Call(2, Wish::Lock(1)),
+        Reply::Ended(2, Progress::Done(0)),
+    ),
+    (
+        Ask::Call(2, Wish::Wait(1, 1)),
+        Reply::Ended(4, Progress::Waits),
+    ),
+    (
+        Ask::Call(3, Wish::Lock(1)),
+        Reply::Ended(2, Progress::Done(0)),
+    ),
+    (
+        Ask::Call(3, Wish::Wait(1, 1)),
+        Reply::Ended(4, Progress::Waits),
+    ),
+    (Ask::Parked(1, 0), Reply::Thread(3)),
+    (
+        Ask::Call(4, Wish::Lock(2)),
+        Reply::Ended(3, Progress::Waits),
+    ),
+    (Ask::Effective(2), Reply::Prio(40)),
+    (Ask::Parked(1, 0), Reply::Thread(2)),
+    (
+        Ask::Call(1, Wish::Signal(1)),
+        Reply::Ended(3, Progress::Done(0)),
+    ),
+    (Ask::Word(1), Reply::Bits(0x0000_0002)),
+    (Ask::Finish(2), Reply::Ended(1, Progress::Done(0))),
+];
+
 #[test]
 fn parked_thread_is_rekeyed(rt: HostRuntime) -> Result<(), Fail> {
-    let added = [
-        (Ask::AddMutex(Kind::Normal, false), Reply::Added(1)),
-        (Ask::AddMutex(Kind::Normal, false), Reply::Added(2)),
-        (Ask::AddCond(1), Reply::Added(1)),
-        (Ask::AddThread(10), Reply::Added(1)),
-        (Ask::AddThread(10), Reply::Added(2)),
-        (Ask::AddThread(15), Reply::Added(3)),
-        (Ask::AddThread(40), Reply::Added(4)),
-    ];
-    let steps = [
-        (
-            Ask::Call(2, Wish::Lock(2)),
-            Reply::Ended(2, Progress::Done(0)),
-        ),
-        (
-            Ask::Call(2, Wish::Lock(1)),
-            Reply::Ended(2, Progress::Done(0)),
-        ),
-        (
-            Ask::Call(2, Wish::Wait(1, 1)),
-            Reply::Ended(4, Progress::Waits),
-        ),
-        (
-            Ask::Call(3, Wish::Lock(1)),
-            Reply::Ended(2, Progress::Done(0)),
-        ),
-        (
-            Ask::Call(3, Wish::Wait(1, 1)),
-            Reply::Ended(4, Progress::Waits),
-        ),
-        (Ask::Parked(1, 0), Reply::Thread(3)),
-        (
-            Ask::Call(4, Wish::Lock(2)),
-            Reply::Ended(3, Progress::Waits),
-        ),
-        (Ask::Effective(2), Reply::Prio(40)),
-        (Ask::Parked(1, 0), Reply::Thread(2)),
-        (
-            Ask::Call(1, Wish::Signal(1)),
-            Reply::Ended(3, Progress::Done(0)),
-        ),
-        (Ask::Word(1), Reply::Bits(0x0000_0002)),
-        (Ask::Finish(2), Reply::Ended(1, Progress::Done(0))),
-    ];
-    try_all(&rt, rt.alloc(), &[&added, &steps])
+    try_all(&rt, rt.alloc(), &[&REKEYED_ADDED, &REKEYED])
 }
 
 /// Mutexes 1 and 65 share a bucket of the kernel on linked lists.
+const FOUR_THREADS: [(Ask, Reply); 4] = [
+    (Ask::AddThread(10), Reply::Added(1)),
+    (Ask::AddThread(20), Reply::Added(2)),
+    (Ask::AddThread(10), Reply::Added(3)),
+    (Ask::AddThread(20), Reply::Added(4)),
+];
+
+const TWO_HELD: [(Ask, Reply); 9] = [
+    (
+        Ask::Call(1, Wish::Lock(1)),
+        Reply::Ended(2, Progress::Done(0)),
+    ),
+    (
+        Ask::Call(2, Wish::Lock(1)),
+        Reply::Ended(3, Progress::Waits),
+    ),
+    (
+        Ask::Call(3, Wish::Lock(65)),
+        Reply::Ended(2, Progress::Done(0)),
+    ),
+    (
+        Ask::Call(4, Wish::Lock(65)),
+        Reply::Ended(3, Progress::Waits),
+    ),
+    (
+        Ask::Call(3, Wish::Unlock(65)),
+        Reply::Ended(3, Progress::Done(0)),
+    ),
+    (Ask::Word(65), Reply::Bits(0x8000_0004)),
+    (Ask::Word(1), Reply::Bits(0x8000_0001)),
+    (Ask::Effective(1), Reply::Prio(20)),
+    (Ask::Effective(3), Reply::Prio(10)),
+];
+
 #[test]
 fn two_mutexes_of_one_bucket(rt: HostRuntime) -> Result<(), Fail> {
     let limits = Limits::new(4, 65, 1, 1).ok_or("limits")?;
-    let threads = [
-        (Ask::AddThread(10), Reply::Added(1)),
-        (Ask::AddThread(20), Reply::Added(2)),
-        (Ask::AddThread(10), Reply::Added(3)),
-        (Ask::AddThread(20), Reply::Added(4)),
-    ];
     let mut mutexes = [(Ask::AddMutex(Kind::Normal, false), Reply::Added(1)); 65];
     for place in 0..65 {
         mutexes[place] = (
@@ -338,33 +376,12 @@ fn two_mutexes_of_one_bucket(rt: HostRuntime) -> Result<(), Fail> {
             Reply::Added(1 + place as u32),
         );
     }
-    let steps = [
-        (
-            Ask::Call(1, Wish::Lock(1)),
-            Reply::Ended(2, Progress::Done(0)),
-        ),
-        (
-            Ask::Call(2, Wish::Lock(1)),
-            Reply::Ended(3, Progress::Waits),
-        ),
-        (
-            Ask::Call(3, Wish::Lock(65)),
-            Reply::Ended(2, Progress::Done(0)),
-        ),
-        (
-            Ask::Call(4, Wish::Lock(65)),
-            Reply::Ended(3, Progress::Waits),
-        ),
-        (
-            Ask::Call(3, Wish::Unlock(65)),
-            Reply::Ended(3, Progress::Done(0)),
-        ),
-        (Ask::Word(65), Reply::Bits(0x8000_0004)),
-        (Ask::Word(1), Reply::Bits(0x8000_0001)),
-        (Ask::Effective(1), Reply::Prio(20)),
-        (Ask::Effective(3), Reply::Prio(10)),
-    ];
-    play(&rt, rt.alloc(), limits, &[&threads, &mutexes, &steps])
+    play(
+        &rt,
+        rt.alloc(),
+        limits,
+        &[&FOUR_THREADS, &mutexes, &TWO_HELD],
+    )
 }
 
 /// What the parts say beside the answers of calls: the limits, how many of each were added, and the open call of a

@@ -19,69 +19,72 @@ const NORMAL: [(Ask, Reply); 2] = [
     (Ask::AddThread(10), Reply::Added(1)),
 ];
 
+const ADDED: [(Ask, Reply); 9] = [
+    (Ask::Pick, Reply::Nobody),
+    (Ask::AddThread(10), Reply::Added(1)),
+    (Ask::AddThread(50), Reply::Added(2)),
+    (Ask::AddMutex(Kind::Normal, false), Reply::Added(1)),
+    (Ask::Pick, Reply::Thread(2)),
+    (Ask::Effective(1), Reply::Prio(10)),
+    (Ask::Effective(3), Reply::Nobody),
+    (Ask::Word(1), Reply::Bits(0)),
+    (Ask::Word(2), Reply::Nobody),
+];
+
 #[test]
 fn parts_say_what_was_added(rt: HostRuntime) -> Result<(), Fail> {
-    let steps = [
-        (Ask::Pick, Reply::Nobody),
-        (Ask::AddThread(10), Reply::Added(1)),
-        (Ask::AddThread(50), Reply::Added(2)),
-        (Ask::AddMutex(Kind::Normal, false), Reply::Added(1)),
-        (Ask::Pick, Reply::Thread(2)),
-        (Ask::Effective(1), Reply::Prio(10)),
-        (Ask::Effective(3), Reply::Nobody),
-        (Ask::Word(1), Reply::Bits(0)),
-        (Ask::Word(2), Reply::Nobody),
-    ];
-    try_all(&rt, rt.alloc(), &[&steps])
+    try_all(&rt, rt.alloc(), &[&ADDED])
 }
+
+const UNCONTENDED: [(Ask, Reply); 5] = [
+    (
+        Ask::Call(1, Wish::Lock(1)),
+        Reply::Ended(2, Progress::Done(0)),
+    ),
+    (Ask::Word(1), Reply::Bits(1)),
+    (
+        Ask::Call(1, Wish::Unlock(1)),
+        Reply::Ended(2, Progress::Done(0)),
+    ),
+    (Ask::Word(1), Reply::Bits(0)),
+    (
+        Ask::Call(1, Wish::Unlock(1)),
+        Reply::Ended(1, Progress::Done(1)),
+    ),
+];
 
 #[test]
 fn uncontended_calls_make_no_kernel_call(rt: HostRuntime) -> Result<(), Fail> {
-    let steps = [
-        (
-            Ask::Call(1, Wish::Lock(1)),
-            Reply::Ended(2, Progress::Done(0)),
-        ),
-        (Ask::Word(1), Reply::Bits(1)),
-        (
-            Ask::Call(1, Wish::Unlock(1)),
-            Reply::Ended(2, Progress::Done(0)),
-        ),
-        (Ask::Word(1), Reply::Bits(0)),
-        (
-            Ask::Call(1, Wish::Unlock(1)),
-            Reply::Ended(1, Progress::Done(1)),
-        ),
-    ];
-    try_all(&rt, rt.alloc(), &[&NORMAL, &steps])
+    try_all(&rt, rt.alloc(), &[&NORMAL, &UNCONTENDED])
 }
+
+const HANDED: [(Ask, Reply); 12] = [
+    (Ask::AddThread(50), Reply::Added(2)),
+    (
+        Ask::Call(1, Wish::Lock(1)),
+        Reply::Ended(2, Progress::Done(0)),
+    ),
+    (
+        Ask::Call(2, Wish::Lock(1)),
+        Reply::Ended(3, Progress::Waits),
+    ),
+    (Ask::Word(1), Reply::Bits(0x8000_0001)),
+    (Ask::Go(2), Reply::Step(Progress::Waits)),
+    (Ask::Word(1), Reply::Bits(0x8000_0001)),
+    (Ask::Effective(1), Reply::Prio(50)),
+    (Ask::Pick, Reply::Thread(1)),
+    (
+        Ask::Call(1, Wish::Unlock(1)),
+        Reply::Ended(3, Progress::Done(0)),
+    ),
+    (Ask::Word(1), Reply::Bits(0x8000_0002)),
+    (Ask::Effective(1), Reply::Prio(10)),
+    (Ask::Go(2), Reply::Step(Progress::Done(0))),
+];
 
 #[test]
 fn mutex_is_handed_to_who_waits(rt: HostRuntime) -> Result<(), Fail> {
-    let steps = [
-        (Ask::AddThread(50), Reply::Added(2)),
-        (
-            Ask::Call(1, Wish::Lock(1)),
-            Reply::Ended(2, Progress::Done(0)),
-        ),
-        (
-            Ask::Call(2, Wish::Lock(1)),
-            Reply::Ended(3, Progress::Waits),
-        ),
-        (Ask::Word(1), Reply::Bits(0x8000_0001)),
-        (Ask::Go(2), Reply::Step(Progress::Waits)),
-        (Ask::Word(1), Reply::Bits(0x8000_0001)),
-        (Ask::Effective(1), Reply::Prio(50)),
-        (Ask::Pick, Reply::Thread(1)),
-        (
-            Ask::Call(1, Wish::Unlock(1)),
-            Reply::Ended(3, Progress::Done(0)),
-        ),
-        (Ask::Word(1), Reply::Bits(0x8000_0002)),
-        (Ask::Effective(1), Reply::Prio(10)),
-        (Ask::Go(2), Reply::Step(Progress::Done(0))),
-    ];
-    try_all(&rt, rt.alloc(), &[&NORMAL, &steps])
+    try_all(&rt, rt.alloc(), &[&NORMAL, &HANDED])
 }
 
 /// A RECURSIVE mutex 1, and thread 1, which has locked it.
@@ -94,34 +97,43 @@ const RECURSIVE: [(Ask, Reply); 3] = [
     ),
 ];
 
+const AS_OFTEN: [(Ask, Reply); 7] = [
+    (
+        Ask::Call(1, Wish::Lock(1)),
+        Reply::Ended(1, Progress::Done(0)),
+    ),
+    (
+        Ask::Call(1, Wish::TryLock(1)),
+        Reply::Ended(1, Progress::Done(0)),
+    ),
+    (
+        Ask::Call(1, Wish::Unlock(1)),
+        Reply::Ended(1, Progress::Done(0)),
+    ),
+    (
+        Ask::Call(1, Wish::Unlock(1)),
+        Reply::Ended(1, Progress::Done(0)),
+    ),
+    (Ask::Word(1), Reply::Bits(1)),
+    (
+        Ask::Call(1, Wish::Unlock(1)),
+        Reply::Ended(2, Progress::Done(0)),
+    ),
+    (Ask::Word(1), Reply::Bits(0)),
+];
+
 #[test]
 fn recursive_mutex_is_unlocked_as_often_as_locked(rt: HostRuntime) -> Result<(), Fail> {
-    let steps = [
-        (
-            Ask::Call(1, Wish::Lock(1)),
-            Reply::Ended(1, Progress::Done(0)),
-        ),
-        (
-            Ask::Call(1, Wish::TryLock(1)),
-            Reply::Ended(1, Progress::Done(0)),
-        ),
-        (
-            Ask::Call(1, Wish::Unlock(1)),
-            Reply::Ended(1, Progress::Done(0)),
-        ),
-        (
-            Ask::Call(1, Wish::Unlock(1)),
-            Reply::Ended(1, Progress::Done(0)),
-        ),
-        (Ask::Word(1), Reply::Bits(1)),
-        (
-            Ask::Call(1, Wish::Unlock(1)),
-            Reply::Ended(2, Progress::Done(0)),
-        ),
-        (Ask::Word(1), Reply::Bits(0)),
-    ];
-    try_all(&rt, rt.alloc(), &[&RECURSIVE, &steps])
+    try_all(&rt, rt.alloc(), &[&RECURSIVE, &AS_OFTEN])
 }
+
+const REFUSED: [(Ask, Reply); 2] = [
+    (
+        Ask::Call(1, Wish::Lock(1)),
+        Reply::Ended(1, Progress::Done(11)),
+    ),
+    (Ask::Word(1), Reply::Bits(1)),
+];
 
 #[test]
 fn recursive_mutex_is_held_255_times(rt: HostRuntime) -> Result<(), Fail> {
@@ -129,131 +141,130 @@ fn recursive_mutex_is_held_255_times(rt: HostRuntime) -> Result<(), Fail> {
         Ask::Call(1, Wish::Lock(1)),
         Reply::Ended(1, Progress::Done(0)),
     ); 254];
-    let refused = [
-        (
-            Ask::Call(1, Wish::Lock(1)),
-            Reply::Ended(1, Progress::Done(11)),
-        ),
-        (Ask::Word(1), Reply::Bits(1)),
-    ];
-    try_all(&rt, rt.alloc(), &[&RECURSIVE, &again, &refused])
+    try_all(&rt, rt.alloc(), &[&RECURSIVE, &again, &REFUSED])
 }
+
+const TRYLOCK: [(Ask, Reply); 5] = [
+    (Ask::AddThread(20), Reply::Added(2)),
+    (
+        Ask::Call(1, Wish::TryLock(1)),
+        Reply::Ended(2, Progress::Done(0)),
+    ),
+    (
+        Ask::Call(1, Wish::TryLock(1)),
+        Reply::Ended(1, Progress::Done(16)),
+    ),
+    (
+        Ask::Call(2, Wish::TryLock(1)),
+        Reply::Ended(3, Progress::Done(16)),
+    ),
+    (Ask::Word(1), Reply::Bits(1)),
+];
 
 #[test]
 fn trylock_never_waits(rt: HostRuntime) -> Result<(), Fail> {
-    let steps = [
-        (Ask::AddThread(20), Reply::Added(2)),
-        (
-            Ask::Call(1, Wish::TryLock(1)),
-            Reply::Ended(2, Progress::Done(0)),
-        ),
-        (
-            Ask::Call(1, Wish::TryLock(1)),
-            Reply::Ended(1, Progress::Done(16)),
-        ),
-        (
-            Ask::Call(2, Wish::TryLock(1)),
-            Reply::Ended(3, Progress::Done(16)),
-        ),
-        (Ask::Word(1), Reply::Bits(1)),
-    ];
-    try_all(&rt, rt.alloc(), &[&NORMAL, &steps])
+    try_all(&rt, rt.alloc(), &[&NORMAL, &TRYLOCK])
 }
+
+const NORMAL_AGAIN: [(Ask, Reply); 5] = [
+    (
+        Ask::Call(1, Wish::Lock(1)),
+        Reply::Ended(2, Progress::Done(0)),
+    ),
+    (
+        Ask::Call(1, Wish::Lock(1)),
+        Reply::Ended(2, Progress::Waits),
+    ),
+    (Ask::Word(1), Reply::Bits(1)),
+    (Ask::Status(1), Reply::Has(Status::Stopped)),
+    (Ask::Pick, Reply::Nobody),
+];
 
 #[test]
 fn normal_mutex_stops_who_locks_it_again(rt: HostRuntime) -> Result<(), Fail> {
-    let steps = [
-        (
-            Ask::Call(1, Wish::Lock(1)),
-            Reply::Ended(2, Progress::Done(0)),
-        ),
-        (
-            Ask::Call(1, Wish::Lock(1)),
-            Reply::Ended(2, Progress::Waits),
-        ),
-        (Ask::Word(1), Reply::Bits(1)),
-        (Ask::Status(1), Reply::Has(Status::Stopped)),
-        (Ask::Pick, Reply::Nobody),
-    ];
-    try_all(&rt, rt.alloc(), &[&NORMAL, &steps])
+    try_all(&rt, rt.alloc(), &[&NORMAL, &NORMAL_AGAIN])
 }
+
+const CHECKED_AGAIN: [(Ask, Reply); 6] = [
+    (Ask::AddMutex(Kind::ErrorCheck, false), Reply::Added(1)),
+    (Ask::AddThread(10), Reply::Added(1)),
+    (
+        Ask::Call(1, Wish::Lock(1)),
+        Reply::Ended(2, Progress::Done(0)),
+    ),
+    (
+        Ask::Call(1, Wish::Lock(1)),
+        Reply::Ended(1, Progress::Done(35)),
+    ),
+    (Ask::Word(1), Reply::Bits(1)),
+    (Ask::Pick, Reply::Thread(1)),
+];
 
 #[test]
 fn errorcheck_mutex_refuses_who_locks_it_again(rt: HostRuntime) -> Result<(), Fail> {
-    let steps = [
-        (Ask::AddMutex(Kind::ErrorCheck, false), Reply::Added(1)),
-        (Ask::AddThread(10), Reply::Added(1)),
-        (
-            Ask::Call(1, Wish::Lock(1)),
-            Reply::Ended(2, Progress::Done(0)),
-        ),
-        (
-            Ask::Call(1, Wish::Lock(1)),
-            Reply::Ended(1, Progress::Done(35)),
-        ),
-        (Ask::Word(1), Reply::Bits(1)),
-        (Ask::Pick, Reply::Thread(1)),
-    ];
-    try_all(&rt, rt.alloc(), &[&steps])
+    try_all(&rt, rt.alloc(), &[&CHECKED_AGAIN])
 }
+
+const PRIORITY_SET: [(Ask, Reply); 7] = [
+    (Ask::AddThread(20), Reply::Added(2)),
+    (
+        Ask::Call(1, Wish::SetPrio(2, 30)),
+        Reply::Ended(1, Progress::Done(0)),
+    ),
+    (Ask::Effective(2), Reply::Prio(30)),
+    (Ask::Base(2), Reply::Prio(30)),
+    (
+        Ask::Call(1, Wish::SetPrio(2, 100)),
+        Reply::Ended(1, Progress::Done(22)),
+    ),
+    (Ask::Effective(2), Reply::Prio(30)),
+    (
+        Ask::Call(1, Wish::SetPrio(3, 30)),
+        Reply::Ended(1, Progress::Done(3)),
+    ),
+];
 
 #[test]
 fn priority_is_set_in_one_step(rt: HostRuntime) -> Result<(), Fail> {
-    let steps = [
-        (Ask::AddThread(20), Reply::Added(2)),
-        (
-            Ask::Call(1, Wish::SetPrio(2, 30)),
-            Reply::Ended(1, Progress::Done(0)),
-        ),
-        (Ask::Effective(2), Reply::Prio(30)),
-        (Ask::Base(2), Reply::Prio(30)),
-        (
-            Ask::Call(1, Wish::SetPrio(2, 100)),
-            Reply::Ended(1, Progress::Done(22)),
-        ),
-        (Ask::Effective(2), Reply::Prio(30)),
-        (
-            Ask::Call(1, Wish::SetPrio(3, 30)),
-            Reply::Ended(1, Progress::Done(3)),
-        ),
-    ];
-    try_all(&rt, rt.alloc(), &[&NORMAL, &steps])
+    try_all(&rt, rt.alloc(), &[&NORMAL, &PRIORITY_SET])
 }
+
+const HOLDER_ENDS: [(Ask, Reply); 8] = [
+    (Ask::AddMutex(Kind::Normal, true), Reply::Added(1)),
+    (Ask::AddThread(10), Reply::Added(1)),
+    (
+        Ask::Call(1, Wish::Lock(1)),
+        Reply::Ended(7, Progress::Done(0)),
+    ),
+    (Ask::End(1), Reply::Done),
+    (Ask::Word(1), Reply::Bits(0x4000_0000)),
+    (Ask::Health(1), Reply::Is(Health::Fine)),
+    (Ask::Effective(1), Reply::Nobody),
+    (Ask::Status(1), Reply::Has(Status::Ended)),
+];
 
 #[test]
 fn end_of_a_holder_leaves_its_robust_mutex(rt: HostRuntime) -> Result<(), Fail> {
-    let steps = [
-        (Ask::AddMutex(Kind::Normal, true), Reply::Added(1)),
-        (Ask::AddThread(10), Reply::Added(1)),
-        (
-            Ask::Call(1, Wish::Lock(1)),
-            Reply::Ended(7, Progress::Done(0)),
-        ),
-        (Ask::End(1), Reply::Done),
-        (Ask::Word(1), Reply::Bits(0x4000_0000)),
-        (Ask::Health(1), Reply::Is(Health::Fine)),
-        (Ask::Effective(1), Reply::Nobody),
-        (Ask::Status(1), Reply::Has(Status::Ended)),
-    ];
-    try_all(&rt, rt.alloc(), &[&steps])
+    try_all(&rt, rt.alloc(), &[&HOLDER_ENDS])
 }
 
 /// The next owner repairs what the mutex protects, and says so.
+const OWNER_ENDS: [(Ask, Reply); 7] = [
+    (Ask::AddMutex(Kind::Normal, true), Reply::Added(1)),
+    (Ask::AddThread(10), Reply::Added(1)),
+    (Ask::AddThread(20), Reply::Added(2)),
+    (
+        Ask::Call(1, Wish::Lock(1)),
+        Reply::Ended(7, Progress::Done(0)),
+    ),
+    (Ask::End(1), Reply::Done),
+    (Ask::Begin(2, Wish::Lock(1)), Reply::Done),
+    (Ask::Status(2), Reply::Has(Status::Ready(Woken::Fresh))),
+];
+
 #[test]
 fn mutex_whose_owner_ended_is_made_consistent(rt: HostRuntime) -> Result<(), Fail> {
-    let steps = [
-        (Ask::AddMutex(Kind::Normal, true), Reply::Added(1)),
-        (Ask::AddThread(10), Reply::Added(1)),
-        (Ask::AddThread(20), Reply::Added(2)),
-        (
-            Ask::Call(1, Wish::Lock(1)),
-            Reply::Ended(7, Progress::Done(0)),
-        ),
-        (Ask::End(1), Reply::Done),
-        (Ask::Begin(2, Wish::Lock(1)), Reply::Done),
-        (Ask::Status(2), Reply::Has(Status::Ready(Woken::Fresh))),
-    ];
-    try_all(&rt, rt.alloc(), &[&steps, &TAKEN_OVER])
+    try_all(&rt, rt.alloc(), &[&OWNER_ENDS, &TAKEN_OVER])
 }
 
 /// The steps of thread 2, which has begun to lock mutex 1: the last one answers EOWNERDEAD.
@@ -283,36 +294,38 @@ const TAKEN_OVER: [(Ask, Reply); 16] = [
 ];
 
 /// A lock that is queued up to a deadline goes on waiting before it, and is answered ETIMEDOUT from it on.
+const EXPIRES: [(Ask, Reply); 10] = [
+    (Ask::AddThread(20), Reply::Added(2)),
+    (
+        Ask::Call(1, Wish::Lock(1)),
+        Reply::Ended(2, Progress::Done(0)),
+    ),
+    (
+        Ask::Call(2, Wish::TimedLock(1, 5)),
+        Reply::Ended(3, Progress::Waits),
+    ),
+    (Ask::Tick(4), Reply::Done),
+    (Ask::Go(2), Reply::Step(Progress::Waits)),
+    (Ask::Effective(1), Reply::Prio(20)),
+    (Ask::Tick(5), Reply::Done),
+    (Ask::Go(2), Reply::Step(Progress::Done(110))),
+    (Ask::Effective(1), Reply::Prio(10)),
+    (Ask::Pick, Reply::Thread(2)),
+];
+
 #[test]
 fn queued_lock_expires_at_its_deadline(rt: HostRuntime) -> Result<(), Fail> {
-    let steps = [
-        (Ask::AddThread(20), Reply::Added(2)),
-        (
-            Ask::Call(1, Wish::Lock(1)),
-            Reply::Ended(2, Progress::Done(0)),
-        ),
-        (
-            Ask::Call(2, Wish::TimedLock(1, 5)),
-            Reply::Ended(3, Progress::Waits),
-        ),
-        (Ask::Tick(4), Reply::Done),
-        (Ask::Go(2), Reply::Step(Progress::Waits)),
-        (Ask::Effective(1), Reply::Prio(20)),
-        (Ask::Tick(5), Reply::Done),
-        (Ask::Go(2), Reply::Step(Progress::Done(110))),
-        (Ask::Effective(1), Reply::Prio(10)),
-        (Ask::Pick, Reply::Thread(2)),
-    ];
-    try_all(&rt, rt.alloc(), &[&NORMAL, &steps])
+    try_all(&rt, rt.alloc(), &[&NORMAL, &EXPIRES])
 }
+
+const UNUSED: [(Ask, Reply); 4] = [
+    (Ask::AddCond(1), Reply::Added(1)),
+    (Ask::Uses(1), Reply::Bits(0)),
+    (Ask::Uses(2), Reply::Nobody),
+    (Ask::Begin(1, Wish::Wait(1, 1)), Reply::Done),
+];
 
 #[test]
 fn variable_is_added_unused(rt: HostRuntime) -> Result<(), Fail> {
-    let steps = [
-        (Ask::AddCond(1), Reply::Added(1)),
-        (Ask::Uses(1), Reply::Bits(0)),
-        (Ask::Uses(2), Reply::Nobody),
-        (Ask::Begin(1, Wish::Wait(1, 1)), Reply::Done),
-    ];
-    try_all(&rt, rt.alloc(), &[&NORMAL, &steps])
+    try_all(&rt, rt.alloc(), &[&NORMAL, &UNUSED])
 }
