@@ -4,14 +4,15 @@
 
 mod desk;
 mod layers;
+mod moments;
 mod quick;
 
-use anyhow::{Context, Result};
+use anyhow::{Result, bail};
 use desk::Crowd;
 use layers::Layer;
 use quick::Race;
 use std::process::ExitCode;
-use std::rt::Clock;
+use std::rt::{Clock, Env};
 use std::sync::Wait;
 use std::thread::Threads;
 use std::{env, io};
@@ -29,6 +30,17 @@ enum Benchmark {
 
 /// The status where the words name no benchmark.
 const REFUSED: u8 = 1;
+
+/// How the program ends, unless it fails to print.
+#[derive(Clone, Copy)]
+enum Ending {
+    /// Names or figures are printed.
+    Printed,
+    /// The words name no benchmark.
+    Refused,
+    /// Nothing was measured.
+    Unmeasured,
+}
 
 /// The benchmark of this name.
 fn benchmark_of(name: &str) -> Option<Benchmark> {
@@ -55,36 +67,96 @@ fn print_layer(
     }
 }
 
+/// Measures a layer, and prints its figures.
+fn measure_layer(
+    rt: &(impl Clock + AllocGlobal + Print),
+    name: &str,
+    layer: Layer,
+) -> io::Result<Ending> {
+    match layers::nanoseconds_of(rt, layer) {
+        Some(nanoseconds) => {
+            print_layer(rt, name, layer, nanoseconds)?;
+            Ok(Ending::Printed)
+        }
+        None => Ok(Ending::Unmeasured),
+    }
+}
+
+/// Measures threads at a desk, or a core without one, and prints the figure.
+fn measure_crowd<R: Clock + Threads + Wait + Sync + AllocGlobal + Print>(
+    rt: &R,
+    name: &str,
+    crowd: Crowd,
+) -> io::Result<Ending> {
+    match desk::measure(rt, crowd) {
+        Some(figure) => {
+            println!(rt; "{name}: {} thousand events a second", figure.thousands())?;
+            Ok(Ending::Printed)
+        }
+        None => Ok(Ending::Unmeasured),
+    }
+}
+
 /// Runs a benchmark, and prints its figures under its name.
 fn measure<R: Clock + Threads + Wait + Sync + AllocGlobal + Print>(
     rt: &R,
     name: &str,
     benchmark: Benchmark,
-) -> Result<()> {
+) -> io::Result<Ending> {
     match benchmark {
-        Benchmark::Layer(layer) => {
-            let nanoseconds = layers::nanoseconds_of(rt, layer).context("nothing was measured")?;
-            print_layer(rt, name, layer, nanoseconds)?;
+        Benchmark::Layer(layer) => measure_layer(rt, name, layer),
+        Benchmark::Race(race) => {
+            quick::measure(rt, race)?;
+            Ok(Ending::Printed)
         }
-        Benchmark::Race(race) => quick::measure(rt, race)?,
-        Benchmark::Crowd(crowd) => {
-            let figure = desk::measure(rt, crowd).context("nothing was measured")?;
-            println!(rt; "{name}: {} thousand events a second", figure.thousands())?;
-        }
+        Benchmark::Crowd(crowd) => measure_crowd(rt, name, crowd),
     }
-    Ok(())
+}
+
+/// Says that no benchmark has this name.
+fn refuse(rt: &impl Eprint, name: &str) -> io::Result<Ending> {
+    eprintln!(rt; "no benchmark {name}; with no name its names are printed")?;
+    Ok(Ending::Refused)
+}
+
+/// Prints the names of all benchmarks.
+fn print_names(rt: &impl Print) -> io::Result<Ending> {
+    print!(rt; "{}{}{}", layers::NAMES, quick::NAMES, desk::NAMES)?;
+    Ok(Ending::Printed)
+}
+
+/// Runs the benchmark of this name, if there is one.
+fn run_named<R: Clock + Threads + Wait + Sync + AllocGlobal + Print + Eprint>(
+    rt: &R,
+    name: &str,
+) -> io::Result<Ending> {
+    match benchmark_of(name) {
+        Some(benchmark) => measure(rt, name, benchmark),
+        None => refuse(rt, name),
+    }
+}
+
+/// Does what the words ask for, of which the first is the program's name.
+fn run<R: Clock + Threads + Wait + Sync + AllocGlobal + Print + Eprint>(
+    rt: &R,
+    words: &[String],
+) -> io::Result<Ending> {
+    match words.get(1) {
+        Some(name) => run_named(rt, name.as_str()),
+        None => print_names(rt),
+    }
+}
+
+/// The words of the process.
+fn words_of<R: Env + AllocGlobal>(rt: &R) -> Result<Vec<String>> {
+    Ok(env::args(rt)?.collect(rt.alloc())?)
 }
 
 fn main(rt: HostRuntime) -> Result<ExitCode> {
-    let words: Vec<String> = env::args(&rt)?.collect(rt.alloc())?;
-    let Some(name) = words.get(1) else {
-        print!(rt; "{}{}{}", layers::NAMES, quick::NAMES, desk::NAMES)?;
-        return Ok(ExitCode::SUCCESS);
-    };
-    let Some(benchmark) = benchmark_of(name.as_str()) else {
-        eprintln!(rt; "no benchmark {name}; with no name its names are printed")?;
-        return Ok(ExitCode::from(REFUSED));
-    };
-    measure(&rt, name.as_str(), benchmark)?;
-    Ok(ExitCode::SUCCESS)
+    let words = words_of(&rt)?;
+    match run(&rt, words.as_slice())? {
+        Ending::Printed => Ok(ExitCode::SUCCESS),
+        Ending::Refused => Ok(ExitCode::from(REFUSED)),
+        Ending::Unmeasured => bail!("nothing was measured"),
+    }
 }

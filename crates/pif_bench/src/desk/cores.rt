@@ -1,10 +1,10 @@
 //! Calls on a core without a desk.
 use super::Figure;
 use super::desks::PAIRS;
+use crate::moments::{now, time_since};
 use pif_core::{Core, Event, Seen};
 use pif_types::{Kind, Limits, MutexId, Request, Tid};
 use std::rt::Clock;
-use std::time::Instant;
 
 /// The most steps of a call that nobody else hinders.
 const STEPS: usize = 24;
@@ -34,15 +34,17 @@ fn make_pairs(core: &mut Core, thread: Tid, mutex: MutexId) -> usize {
 fn time_pairs(rt: &impl Clock, core: &mut Core) -> Option<Figure> {
     let thread = core.add_thread(10).ok()?;
     let mutex = core.add_mutex(Kind::Normal, false).ok()?;
-    let start = Instant::now(rt).ok()?;
+    let start = now(rt)?;
     let events = make_pairs(core, thread, mutex);
-    let time = start.elapsed(rt).ok()?;
+    let time = time_since(rt, start)?;
     Some(Figure { events, time })
 }
 
 /// One thread locks and unlocks one normal mutex.
 pub fn measure_core<R: Clock + AllocGlobal>(rt: &R) -> Option<Figure> {
     let limits = Limits::new(1, 1, 0, 1)?;
-    let mut core = Core::new(rt.alloc(), limits).ok()?;
-    time_pairs(rt, &mut core)
+    match Core::new(rt.alloc(), limits) {
+        Ok(mut core) => time_pairs(rt, &mut core),
+        Err(_) => None,
+    }
 }

@@ -1,13 +1,14 @@
 //! Calls of real threads at a desk.
 use super::Figure;
-use pif_desk::{Client, Desk, DeskFault, NoPause};
+use crate::moments::{now, time_since};
+use pif_desk::{Client, Desk, NoPause};
 use pif_types::{Kind, Limits, MutexId, Request};
-use std::alloc::{AllocError, Global};
+use std::alloc::Global;
 use std::rt::Clock;
 use std::sync::Wait;
 use std::thread;
 use std::thread::Threads;
-use std::time::{Duration, Instant};
+use std::time::Duration;
 
 /// How many pairs of a lock and an unlock all threads make together where none contends.
 pub const PAIRS: u32 = 48_000;
@@ -32,50 +33,75 @@ struct Player {
     pairs: u32,
 }
 
-/// Locks and unlocks the mutex, so many times.
+/// Makes a call. Answers whether it met no fault.
+fn is_answered<R: Wait>(
+    rt: &R,
+    desk: &Desk<NoPause>,
+    client: &mut Client,
+    request: Request,
+) -> bool {
+    client.call(rt, desk, request).is_ok()
+}
+
+/// Locks and unlocks the mutex, so many times. Where a call meets a fault, it makes no more.
 fn make_pairs<R: Wait>(
     rt: &R,
     desk: &Desk<NoPause>,
     client: &mut Client,
     mutex: MutexId,
     pairs: u32,
-) -> Result<(), DeskFault> {
+) {
     for _pair in 0..pairs {
-        client.call(rt, desk, Request::Lock(mutex))?;
-        client.call(rt, desk, Request::Unlock(mutex))?;
+        if !is_answered(rt, desk, client, Request::Lock(mutex)) {
+            return;
+        }
+        if !is_answered(rt, desk, client, Request::Unlock(mutex)) {
+            return;
+        }
     }
-    Ok(())
 }
 
-/// What a thread does. Where a call meets a fault, it makes no more.
+/// What a thread does.
 fn play<R: Wait>(rt: &R, desk: &Desk<NoPause>, player: Player) -> Client {
     let Player {
         mut client,
         mutex,
         pairs,
     } = player;
-    let _done = make_pairs(rt, desk, &mut client, mutex, pairs);
+    make_pairs(rt, desk, &mut client, mutex, pairs);
     client
 }
 
-/// One player more, with a mutex of its own, or with this one.
+/// The mutex of one player more: one of its own, or this one.
+fn mutex_of<R: Wait>(
+    rt: &R,
+    desk: &Desk<NoPause>,
+    mutexes: Mutexes,
+    shared: MutexId,
+) -> Option<MutexId> {
+    match mutexes {
+        Mutexes::One => Some(shared),
+        Mutexes::Own => desk.make_mutex(rt, Kind::Normal, false).ok(),
+    }
+}
+
+/// Adds one player more, with a mutex of its own, or with this one.
 fn enter_one<R: Wait>(
     rt: &R,
     desk: &Desk<NoPause>,
     mutexes: Mutexes,
     shared: MutexId,
     pairs: u32,
-) -> Result<Player, DeskFault> {
-    let client = desk.enter(rt, 10)?;
-    let mutex = match mutexes {
-        Mutexes::One => shared,
-        Mutexes::Own => desk.make_mutex(rt, Kind::Normal, false)?,
-    };
-    Ok(Player {
+    players: &mut Vec<Player>,
+) -> Option<()> {
+    let client = desk.enter(rt, 10).ok()?;
+    let mutex = mutex_of(rt, desk, mutexes, shared)?;
+    let player = Player {
         client,
         mutex,
         pairs,
-    })
+    };
+    players.push(player).ok()
 }
 
 /// Adds so many players.
@@ -92,19 +118,31 @@ fn enter_all<R: Wait>(
     };
     let shared = desk.make_mutex(rt, Kind::Normal, false).ok()?;
     for _thread in 0..threads {
-        let player = enter_one(rt, desk, mutexes, shared, pairs).ok()?;
-        players.push(player).ok()?;
+        enter_one(rt, desk, mutexes, shared, pairs, players)?;
     }
     Some(())
 }
 
-/// Each player runs in a thread of its own, and gives its client back.
+/// Each player runs in a thread of its own, and gives its client back. `None` where memory is refused or a thread can't be
+/// started.
 fn play_all<R: Threads + Wait + Sync>(
     rt: &R,
     desk: &Desk<NoPause>,
     players: Vec<Player>,
-) -> Result<Vec<Client>, AllocError> {
-    thread::map_vec(rt, players, &|player| play(rt, desk, player))
+) -> Option<Vec<Client>> {
+    thread::map_vec(rt, players, &|player| play(rt, desk, player)).ok()
+}
+
+/// These players run. Answers their clients, and the time in which the threads ran.
+fn time_players<R: Clock + Threads + Wait + Sync>(
+    rt: &R,
+    desk: &Desk<NoPause>,
+    players: Vec<Player>,
+) -> Option<(Duration, Vec<Client>)> {
+    let start = now(rt)?;
+    let clients = play_all(rt, desk, players)?;
+    let time = time_since(rt, start)?;
+    Some((time, clients))
 }
 
 /// Players enter a desk and run. Answers their clients, and the time in which the threads ran.
@@ -116,11 +154,34 @@ fn run_at<R: Clock + Threads + Wait + Sync>(
     threads: u32,
 ) -> Option<(Duration, Vec<Client>)> {
     let mut players = Vec::new(alloc);
-    enter_all(rt, desk, mutexes, threads, &mut players)?;
-    let start = Instant::now(rt).ok()?;
-    let clients = play_all(rt, desk, players).ok()?;
-    let time = start.elapsed(rt).ok()?;
-    Some((time, clients))
+    match enter_all(rt, desk, mutexes, threads, &mut players) {
+        Some(()) => time_players(rt, desk, players),
+        None => None,
+    }
+}
+
+/// How many entries the journal of a desk has, once it has settled with these clients. `None` where it doesn't settle.
+fn settled_entries(desk: Desk<NoPause>, clients: Vec<Client>) -> Option<usize> {
+    match desk.into_room().settle(clients) {
+        Ok(book) => Some(book.entries.len()),
+        Err(_) => None,
+    }
+}
+
+/// So many threads lock and unlock mutexes at this desk, which then settles.
+fn measure_at<R: Clock + Threads + Wait + Sync + AllocGlobal>(
+    rt: &R,
+    desk: Desk<NoPause>,
+    mutexes: Mutexes,
+    threads: u32,
+) -> Option<Figure> {
+    match run_at(rt, rt.alloc(), &desk, mutexes, threads) {
+        Some((time, clients)) => {
+            let events = settled_entries(desk, clients)?;
+            Some(Figure { events, time })
+        }
+        None => None,
+    }
 }
 
 /// So many threads lock and unlock mutexes at a desk, which then settles: the entries of its journal, and the time in
@@ -131,11 +192,8 @@ pub fn measure_desk<R: Clock + Threads + Wait + Sync + AllocGlobal>(
     threads: u32,
 ) -> Option<Figure> {
     let limits = Limits::new(threads, threads.saturating_add(1), 0, 1)?;
-    let desk = Desk::new(rt.alloc(), limits, NoPause).ok()?;
-    let (time, clients) = run_at(rt, rt.alloc(), &desk, mutexes, threads)?;
-    let book = desk.into_room().settle(clients).ok()?;
-    Some(Figure {
-        events: book.entries.len(),
-        time,
-    })
+    match Desk::new(rt.alloc(), limits, NoPause) {
+        Ok(desk) => measure_at(rt, desk, mutexes, threads),
+        Err(_) => None,
+    }
 }

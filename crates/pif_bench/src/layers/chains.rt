@@ -1,4 +1,5 @@
-use super::scenes::{Room, core_of, each_since, now};
+use super::scenes::{Room, call, core_of, step};
+use crate::moments::{each_since, now};
 use pif_core::{Core, Event};
 use pif_types::{MutexId, Request, Tid};
 use std::rt::Clock;
@@ -27,12 +28,12 @@ fn time_rounds(rt: &impl Clock, core: &mut Core) -> Option<u64> {
     let mutex = MutexId::new(1)?;
     let mut owner = Tid::new(1)?;
     let mut other = Tid::new(2)?;
-    core.call(owner, Request::Lock(mutex));
+    call(core, owner, Request::Lock(mutex));
     let start = now(rt)?;
     for _round in 0..ROUNDS {
-        core.call(other, Request::Lock(mutex));
-        core.call(owner, Request::Unlock(mutex));
-        core.step(Event::Go(other));
+        call(core, other, Request::Lock(mutex));
+        call(core, owner, Request::Unlock(mutex));
+        step(core, Event::Go(other));
         (owner, other) = (other, owner);
     }
     each_since(rt, start, ROUNDS)
@@ -50,23 +51,23 @@ fn time_queueing(rt: &impl Clock, core: &mut Core) -> Option<u64> {
     let mutex = MutexId::new(1)?;
     let first = Tid::new(1)?;
     scatter(core, first)?;
-    core.call(first, Request::Lock(mutex));
+    call(core, first, Request::Lock(mutex));
     let start = now(rt)?;
     for number in 2..=WAITING + 1 {
         let thread = Tid::new(number)?;
-        core.call(thread, Request::Lock(mutex));
+        call(core, thread, Request::Lock(mutex));
     }
     each_since(rt, start, WAITING)
 }
 
 /// Gives thread 1 the priority 99, and the others priorities below it in no order.
 fn scatter(core: &mut Core, first: Tid) -> Option<()> {
-    core.call(first, Request::SetPrio(first, 99));
+    call(core, first, Request::SetPrio(first, 99));
     let mut mixed = 1_u32;
     for number in 2..=WAITING + 1 {
         mixed = mixed.wrapping_mul(1_664_525).wrapping_add(1_013_904_223);
         let level = 1 + (mixed >> 16) % 98;
-        core.call(first, Request::SetPrio(Tid::new(number)?, level));
+        call(core, first, Request::SetPrio(Tid::new(number)?, level));
     }
     Some(())
 }
@@ -103,7 +104,11 @@ fn time_last_lock(rt: &impl Clock, core: &mut Core, before: u32) -> Option<u64> 
 fn raise_joiners(core: &mut Core, before: u32) -> Option<()> {
     for joiner in 1..=JOINS {
         let thread = Tid::new(before.saturating_add(joiner))?;
-        core.call(thread, Request::SetPrio(thread, joiner.saturating_add(1)));
+        call(
+            core,
+            thread,
+            Request::SetPrio(thread, joiner.saturating_add(1)),
+        );
     }
     Some(())
 }
@@ -111,7 +116,7 @@ fn raise_joiners(core: &mut Core, before: u32) -> Option<()> {
 /// One of those joins the chain.
 fn join_behind(core: &mut Core, before: u32, joiner: u32) -> Option<()> {
     let thread = Tid::new(before.saturating_add(joiner))?;
-    core.call(thread, Request::Lock(MutexId::new(before)?));
+    call(core, thread, Request::Lock(MutexId::new(before)?));
     Some(())
 }
 
@@ -129,7 +134,7 @@ fn time_set_prio(rt: &impl Clock, core: &mut Core, depth: u32) -> Option<u64> {
     let last = Tid::new(depth)?;
     let start = now(rt)?;
     for round in 0..CHANGES {
-        core.call(first, Request::SetPrio(last, 98 + round % 2));
+        call(core, first, Request::SetPrio(last, 98 + round % 2));
     }
     each_since(rt, start, CHANGES)
 }
@@ -148,13 +153,13 @@ fn make_chain(core: &mut Core, depth: u32) -> Option<()> {
 /// The thread of this number locks the mutex of this number.
 fn lock_own(core: &mut Core, number: u32) -> Option<()> {
     let own = MutexId::new(number)?;
-    core.call(Tid::new(number)?, Request::Lock(own));
+    call(core, Tid::new(number)?, Request::Lock(own));
     Some(())
 }
 
 /// The thread of this number waits for the mutex of the one before it.
 fn join(core: &mut Core, number: u32) -> Option<()> {
     let before = MutexId::new(number.saturating_sub(1))?;
-    core.call(Tid::new(number)?, Request::Lock(before));
+    call(core, Tid::new(number)?, Request::Lock(before));
     Some(())
 }

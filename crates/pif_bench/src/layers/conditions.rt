@@ -1,4 +1,5 @@
-use super::scenes::{Room, core_of, each_since, nanoseconds_since, now};
+use super::scenes::{Room, call, core_of, step};
+use crate::moments::{each_since, nanoseconds_since, now};
 use pif_core::{Core, Event};
 use pif_types::{CondId, MutexId, Request, Tid};
 use std::rt::Clock;
@@ -39,9 +40,9 @@ fn time_waits(rt: &impl Clock, core: &mut Core, parked: u32) -> Option<u64> {
 
 /// A caller signals, and the thread that is woken answers its wait, and waits anew.
 fn signal_one(core: &mut Core, caller: Tid, woken: Tid, mutex: MutexId, variable: CondId) {
-    core.call(caller, Request::Signal(variable));
-    core.step(Event::Go(woken));
-    core.call(woken, Request::Wait(variable, mutex));
+    call(core, caller, Request::Signal(variable));
+    step(core, Event::Go(woken));
+    call(core, woken, Request::Wait(variable, mutex));
 }
 
 /// A broadcast to so many parked threads, at most 1,000, whose caller holds the mutex or nobody does. Answers how many
@@ -64,13 +65,13 @@ fn time_broadcasts(rt: &impl Clock, core: &mut Core, parked: u32, held: bool) ->
     let mut spent = 0_u64;
     for _round in 0..BROADCASTS {
         if held {
-            core.call(caller, Request::Lock(scene.mutex));
+            call(core, caller, Request::Lock(scene.mutex));
         }
         let start = now(rt)?;
-        core.call(caller, Request::Broadcast(scene.variable));
+        call(core, caller, Request::Broadcast(scene.variable));
         spent = spent.saturating_add(nanoseconds_since(rt, start)?);
         if held {
-            core.call(caller, Request::Unlock(scene.mutex));
+            call(core, caller, Request::Unlock(scene.mutex));
         }
         wait_anew(core, parked, scene)?;
     }
@@ -82,8 +83,8 @@ fn time_broadcasts(rt: &impl Clock, core: &mut Core, parked: u32, held: bool) ->
 fn wait_anew(core: &mut Core, parked: u32, scene: Scene) -> Option<()> {
     for number in 1..=parked {
         let thread = Tid::new(number)?;
-        core.step(Event::Go(thread));
-        core.call(thread, Request::Wait(scene.variable, scene.mutex));
+        step(core, Event::Go(thread));
+        call(core, thread, Request::Wait(scene.variable, scene.mutex));
     }
     Some(())
 }
@@ -99,8 +100,8 @@ fn bind(core: &mut Core) -> Option<Scene> {
 fn park_all(core: &mut Core, parked: u32, scene: Scene) -> Option<()> {
     for number in 1..=parked {
         let thread = Tid::new(number)?;
-        core.call(thread, Request::Lock(scene.mutex));
-        core.call(thread, Request::Wait(scene.variable, scene.mutex));
+        call(core, thread, Request::Lock(scene.mutex));
+        call(core, thread, Request::Wait(scene.variable, scene.mutex));
     }
     Some(())
 }

@@ -1,4 +1,5 @@
-use super::scenes::{Room, core_of, each_since, now};
+use super::scenes::{Room, call, core_of, step};
+use crate::moments::{each_since, now};
 use pif_core::{Core, Event};
 use pif_types::{MutexId, Request, Tid};
 use std::rt::Clock;
@@ -30,15 +31,15 @@ fn time_hand_overs(rt: &impl Clock, core: &mut Core) -> Option<u64> {
 /// One thread after another locks a mutex.
 fn lock_by_all(core: &mut Core, mutex: MutexId) -> Option<()> {
     for number in 1..=WAITING + 1 {
-        core.call(Tid::new(number)?, Request::Lock(mutex));
+        call(core, Tid::new(number)?, Request::Lock(mutex));
     }
     Some(())
 }
 
 /// The thread of this number unlocks a mutex, and the one behind it finds that it owns it.
 fn pass_on(core: &mut Core, mutex: MutexId, number: u32) -> Option<()> {
-    core.call(Tid::new(number)?, Request::Unlock(mutex));
-    core.step(Event::Go(Tid::new(number.saturating_add(1))?));
+    call(core, Tid::new(number)?, Request::Unlock(mutex));
+    step(core, Event::Go(Tid::new(number.saturating_add(1))?));
     Some(())
 }
 
@@ -56,7 +57,7 @@ fn time_kernel_steps(rt: &impl Clock, core: &mut Core) -> Option<u64> {
     }
     let start = now(rt)?;
     for number in 1..=HOLDERS {
-        core.step(Event::Go(Tid::new(number)?));
+        step(core, Event::Go(Tid::new(number)?));
     }
     each_since(rt, start, HOLDERS)
 }
@@ -67,10 +68,10 @@ fn come_to_the_kernel(core: &mut Core, number: u32) -> Option<()> {
     let mutex = MutexId::new(number)?;
     let holder = Tid::new(number)?;
     let waiter = Tid::new(number.saturating_add(HOLDERS))?;
-    core.call(holder, Request::Lock(mutex));
-    core.call(waiter, Request::Lock(mutex));
-    core.step(Event::Begin(holder, Request::Unlock(mutex)));
-    core.step(Event::Go(holder));
-    core.step(Event::Go(holder));
+    call(core, holder, Request::Lock(mutex));
+    call(core, waiter, Request::Lock(mutex));
+    step(core, Event::Begin(holder, Request::Unlock(mutex)));
+    step(core, Event::Go(holder));
+    step(core, Event::Go(holder));
     Some(())
 }

@@ -2,7 +2,7 @@ ghost use Rattle.std.specs.Prelude.{◌≡◌, ◌<◌, IfOk, Some, None, slice_
 ghost use Rattle.pif_lists.specs.Table.{holder};
 ghost use Rattle.pif_bench.specs.Filling.{IsReady, IsFilled, IsEmptied, ChangesHolder, priority_of};
 
-use super::scenes::{each_since, now};
+use crate::moments::{each_since, now};
 use pif_nodes::{List, Node, NodeTable};
 use pif_plist::PList;
 use pif_types::NoMemory;

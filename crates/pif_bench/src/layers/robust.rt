@@ -1,4 +1,5 @@
-use super::scenes::{Room, core_of, each_since, now};
+use super::scenes::{Room, call, core_of, step};
+use crate::moments::{each_since, now};
 use pif_core::{Core, Event};
 use pif_types::{MutexId, Request, Tid};
 use std::rt::Clock;
@@ -19,8 +20,8 @@ fn time_pairs(rt: &impl Clock, core: &mut Core) -> Option<u64> {
     let thread = Tid::new(1)?;
     let start = now(rt)?;
     for _pair in 0..PAIRS {
-        core.call(thread, Request::Lock(mutex));
-        core.call(thread, Request::Unlock(mutex));
+        call(core, thread, Request::Lock(mutex));
+        call(core, thread, Request::Unlock(mutex));
     }
     each_since(rt, start, PAIRS)
 }
@@ -45,18 +46,23 @@ pub fn ends(
     let waiters = if contended { mutexes } else { 0 };
     let threads = holders.saturating_add(waiters);
     let mut core = core_of(rt, room, threads, mutexes, 1, true)?;
-    take_all(&mut core, holders, held)?;
-    if contended {
-        wait_for_all(&mut core, holders, mutexes)?;
+    if prepare_ends(&mut core, holders, held, waiters).is_none() {
+        return None;
     }
     time_ends(rt, &mut core, holders)
+}
+
+/// So many threads of a core take their mutexes, and so many others wait for them.
+fn prepare_ends(core: &mut Core, holders: u32, held: u32, waiters: u32) -> Option<()> {
+    take_all(core, holders, held)?;
+    wait_for_all(core, holders, waiters)
 }
 
 /// So many threads of a core end, from the first on.
 fn time_ends(rt: &impl Clock, core: &mut Core, holders: u32) -> Option<u64> {
     let start = now(rt)?;
     for number in 1..=holders {
-        core.step(Event::End(Tid::new(number)?));
+        step(core, Event::End(Tid::new(number)?));
     }
     each_since(rt, start, holders)
 }
@@ -65,16 +71,16 @@ fn time_ends(rt: &impl Clock, core: &mut Core, holders: u32) -> Option<u64> {
 fn take_all(core: &mut Core, holders: u32, held: u32) -> Option<()> {
     for index in 0..holders.saturating_mul(held) {
         let holder = Tid::new(1 + index / held.max(1))?;
-        core.call(holder, Request::Lock(MutexId::new(index + 1)?));
+        call(core, holder, Request::Lock(MutexId::new(index + 1)?));
     }
     Some(())
 }
 
-/// For each of so many mutexes a thread behind the holders waits.
+/// For each of so many mutexes, from the first on, a thread behind the holders waits.
 fn wait_for_all(core: &mut Core, holders: u32, mutexes: u32) -> Option<()> {
     for number in 1..=mutexes {
         let waiter = Tid::new(holders.saturating_add(number))?;
-        core.call(waiter, Request::Lock(MutexId::new(number)?));
+        call(core, waiter, Request::Lock(MutexId::new(number)?));
     }
     Some(())
 }

@@ -1,7 +1,7 @@
-use pif_core::Core;
-use pif_types::{Kind, Limits};
+use crate::moments::{each_since, now};
+use pif_core::{Core, Event};
+use pif_types::{Kind, Limits, Request, Tid};
 use std::rt::Clock;
-use std::time::Instant;
 
 /// How many cores are made.
 const CORES: u32 = 100;
@@ -37,10 +37,19 @@ pub fn core_of(
     last: u32,
     robust: bool,
 ) -> Option<Core> {
-    let mut core = Core::new(rt.alloc(), room.limits(threads, mutexes)?).ok()?;
-    add_threads(&mut core, threads, last)?;
-    add_mutexes(&mut core, mutexes, robust)?;
-    Some(core)
+    let limits = room.limits(threads, mutexes)?;
+    match Core::new(rt.alloc(), limits) {
+        Ok(mut core) => {
+            let filled = fill(&mut core, threads, mutexes, last, robust);
+            if filled { Some(core) } else { None }
+        }
+        Err(_) => None,
+    }
+}
+
+/// Adds so many threads and mutexes to a core. Answers whether none was refused.
+fn fill(core: &mut Core, threads: u32, mutexes: u32, last: u32, robust: bool) -> bool {
+    add_threads(core, threads, last).is_some() && add_mutexes(core, mutexes, robust).is_some()
 }
 
 /// Adds so many threads to a core.
@@ -65,23 +74,20 @@ pub fn new_core(rt: &(impl Clock + AllocGlobal)) -> Option<u64> {
     let limits = Room::Default.limits(0, 0)?;
     let start = now(rt)?;
     for _core in 0..CORES {
-        Core::new(rt.alloc(), limits).ok()?;
+        if Core::new(rt.alloc(), limits).is_err() {
+            return None;
+        }
     }
     each_since(rt, start, CORES)
 }
 
-/// The present moment. `None` where the clock has a fault.
-pub fn now(rt: &impl Clock) -> Option<Instant> {
-    Instant::now(rt).ok()
+/// A thread makes a call, up to its answer or its rest. What the core promises of it is not handed on: no benchmark asks
+/// for it.
+pub fn call(core: &mut Core, thread: Tid, request: Request) {
+    core.call(thread, request);
 }
 
-/// How many nanoseconds have passed since a moment. `None` where the clock has a fault.
-pub fn nanoseconds_since(rt: &impl Clock, start: Instant) -> Option<u64> {
-    let spent = start.elapsed(rt).ok()?;
-    Some(u64::try_from(spent.as_nanos()).unwrap_or(u64::MAX))
-}
-
-/// How many nanoseconds each of so many rounds took since a moment. `None` where the clock has a fault.
-pub fn each_since(rt: &impl Clock, start: Instant, rounds: u32) -> Option<u64> {
-    Some(nanoseconds_since(rt, start)? / u64::from(rounds.max(1)))
+/// A core makes one event. What the core promises of it is not handed on either.
+pub fn step(core: &mut Core, event: Event) {
+    core.step(event);
 }

@@ -3,6 +3,7 @@ ghost use Rattle.std.specs.Prelude.{◌≡◌, ◌<◌, All};
 ghost use Rattle.pif_quick.specs.Quick.{word_count, IsPassOf};
 
 use super::figures::{Figures, Hundredths, ROUNDS, ratio};
+use crate::moments::{now, time_since};
 use pif_quick::{Pass, Quick};
 use std::io;
 use std::rt::Clock;
@@ -50,7 +51,7 @@ fn mutex_pairs<R: Wait>(rt: &R, mutex: &Mutex<u64>) {
 
 /// How many picoseconds a pair took since `start`.
 fn picoseconds(rt: &impl Clock, start: Instant) -> Option<u64> {
-    let picoseconds = start.elapsed(rt).ok()?.as_nanos() * 1000 / u128::from(PAIRS);
+    let picoseconds = time_since(rt, start)?.as_nanos() * 1000 / u128::from(PAIRS);
     Some(u64::try_from(picoseconds).unwrap_or(u64::MAX))
 }
 
@@ -72,7 +73,7 @@ struct Round {
 
 /// How many picoseconds a bare pair takes.
 fn time_bare(rt: &impl Clock, word: &AtomicU64, value: &mut u64) -> Option<u64> {
-    let start = Instant::now(rt).ok()?;
+    let start = now(rt)?;
     bare_pairs(word, value);
     picoseconds(rt, start)
 }
@@ -82,14 +83,14 @@ fn time_quick(rt: &impl Clock, quick: &Quick<u64>, pass: &mut Pass<u64>) -> Opti
     requires { IsPassOf quick.now pass.old × (0 < word_count quick.now) }
     ensures { IsPassOf quick.now pass.new }
 {
-    let start = Instant::now(rt).ok()?;
+    let start = now(rt)?;
     quick_pairs(quick, pass);
     picoseconds(rt, start)
 }
 
 /// How many picoseconds a pair of std's `Mutex` takes.
 fn time_mutex<R: Clock + Wait>(rt: &R, mutex: &Mutex<u64>) -> Option<u64> {
-    let start = Instant::now(rt).ok()?;
+    let start = now(rt)?;
     mutex_pairs(rt, mutex);
     picoseconds(rt, start)
 }
@@ -202,11 +203,13 @@ pub fn measure_pairs<R: Clock + Wait + AllocGlobal + Print>(rt: &R) -> io::Resul
 
 /// The figures of all rounds, and what the bare pairs have added. `None` where memory is refused or the clock has a fault.
 fn sheet_of<R: Clock + Wait + AllocGlobal>(rt: &R) -> Option<(Sheet, u64)> {
-    let values = [0u64].to_vec(rt.alloc()).ok()?;
-    let Ok((quick, passes)) = Quick::open(rt.alloc(), values, 1) else {
+    let Ok(values) = [0u64].to_vec(rt.alloc()) else {
         return None;
     };
-    measure_last(rt, &quick, passes)
+    match Quick::open(rt.alloc(), values, 1) {
+        Ok((quick, passes)) => measure_last(rt, &quick, passes),
+        Err(_) => None,
+    }
 }
 
 /// Measures with the last of these passes.
@@ -230,14 +233,29 @@ fn measure_by<R: Clock + Wait>(
 ) -> Option<(Sheet, u64)>
     requires { IsPassOf quick.now pass.old × (0 < word_count quick.now) }
 {
-    let mut sheet = Sheet::new();
     let mut ways = Ways {
         word: AtomicU64::new(0),
         value: 0,
         mutex: Mutex::new(0),
     };
-    for round in 0..ROUNDS {
-        sheet.note(round, time_ways(rt, quick, pass, &mut ways)?);
+    match measure_rounds(rt, quick, pass, &mut ways) {
+        Some(sheet) => Some((sheet, ways.value)),
+        None => None,
     }
-    Some((sheet, ways.value))
+}
+
+/// Measures all rounds of these ways.
+fn measure_rounds<R: Clock + Wait>(
+    rt: &R,
+    quick: &Quick<u64>,
+    pass: &mut Pass<u64>,
+    ways: &mut Ways,
+) -> Option<Sheet>
+    requires { IsPassOf quick.now pass.old × (0 < word_count quick.now) }
+{
+    let mut sheet = Sheet::new();
+    for round in 0..ROUNDS {
+        sheet.note(round, time_ways(rt, quick, pass, ways)?);
+    }
+    Some(sheet)
 }

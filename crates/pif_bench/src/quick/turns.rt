@@ -3,6 +3,7 @@ ghost use Rattle.std.specs.Prelude.{◌≡◌, ◌<◌, ◌≤◌, All};
 ghost use Rattle.pif_quick.specs.Quick.{word_count, IsPassOf};
 
 use super::figures::{Figures, Hundredths, ROUNDS, ratio};
+use crate::moments::{now, time_since};
 use pif_quick::{Pass, Quick};
 use std::alloc::{AllocError, Global};
 use std::rt::Clock;
@@ -81,13 +82,13 @@ fn mutex_turns<R: Wait>(rt: &R, apart: &Apart) {
     }
 }
 
-/// Each pass takes its turns in a thread of its own.
+/// Each pass takes its turns in a thread of its own. False where memory is refused or a thread can't be started.
 fn quick_run<R: Threads + Wait + Sync>(
     rt: &R,
     quick: &Quick<u64>,
     passes: Vec<Pass<u64>>,
     words: Words,
-) -> Result<(), AllocError>
+) -> bool
     requires { All (IsPassOf quick.now) passes.items × (4 ≤ word_count quick.now) }
 {
     thread::map_vec(
@@ -100,18 +101,18 @@ fn quick_run<R: Threads + Wait + Sync>(
             let m = words.of(usize::from(pass.number()));
             quick_turns(rt, quick, &mut pass, m);
         },
-    )?;
-    Ok(())
+    )
+    .is_ok()
 }
 
-/// So many threads take their turns.
+/// So many threads take their turns. False where memory is refused or a thread can't be started.
 fn mutex_run<R: Threads + Wait + Sync>(
     rt: &R,
     alloc: Global,
     mutexes: &[Apart],
     threads: u32,
     words: Words,
-) -> Result<(), AllocError> {
+) -> bool {
     thread::map_indices(
         rt,
         alloc,
@@ -121,15 +122,15 @@ fn mutex_run<R: Threads + Wait + Sync>(
                 mutex_turns(rt, apart);
             }
         },
-    )?;
-    Ok(())
+    )
+    .is_ok()
 }
 
 /// How many thousand turns a second so many threads took together since `start`.
 fn per_second(rt: &impl Clock, threads: u32, start: Instant) -> Option<u64>
     requires { threads ≤ 64 }
 {
-    let microseconds = start.elapsed(rt).ok()?.as_micros();
+    let microseconds = time_since(rt, start)?.as_micros();
     if microseconds == 0 {
         return Some(0);
     }
@@ -159,19 +160,24 @@ fn time_quick<R: Clock + Threads + Wait + Sync>(
     requires { All (IsPassOf quick.now) passes.items × (4 ≤ word_count quick.now) }
 {
     let Crew { words, threads } = crew;
-    let start = Instant::now(rt).ok()?;
-    quick_run(rt, quick, passes, words).ok()?;
-    per_second(rt, threads, start)
+    let start = now(rt)?;
+    if quick_run(rt, quick, passes, words) {
+        per_second(rt, threads, start)
+    } else {
+        None
+    }
 }
 
 /// The turns of a crew by the quick path: how many thousand a second.
 fn quick_round<R: Clock + Threads + Wait + Sync + AllocGlobal>(rt: &R, crew: Crew) -> Option<u64> {
     let Crew { threads, .. } = crew;
-    let values = [0u64; WORDS].to_vec(rt.alloc()).ok()?;
-    let Ok((quick, passes)) = Quick::open(rt.alloc(), values, threads) else {
+    let Ok(values) = [0u64; WORDS].to_vec(rt.alloc()) else {
         return None;
     };
-    time_quick(rt, &quick, passes, crew)
+    match Quick::open(rt.alloc(), values, threads) {
+        Ok((quick, passes)) => time_quick(rt, &quick, passes, crew),
+        Err(_) => None,
+    }
 }
 
 /// The turns of a crew by these mutexes: how many thousand a second.
@@ -181,15 +187,20 @@ fn time_mutexes<R: Clock + Threads + Wait + Sync + AllocGlobal>(
     crew: Crew,
 ) -> Option<u64> {
     let Crew { words, threads } = crew;
-    let start = Instant::now(rt).ok()?;
-    mutex_run(rt, rt.alloc(), mutexes, threads, words).ok()?;
-    per_second(rt, threads, start)
+    let start = now(rt)?;
+    if mutex_run(rt, rt.alloc(), mutexes, threads, words) {
+        per_second(rt, threads, start)
+    } else {
+        None
+    }
 }
 
 /// The turns of a crew by std's `Mutex`: how many thousand a second.
 fn mutex_round<R: Clock + Threads + Wait + Sync + AllocGlobal>(rt: &R, crew: Crew) -> Option<u64> {
-    let mutexes = mutexes(rt.alloc()).ok()?;
-    time_mutexes(rt, mutexes.as_slice(), crew)
+    match mutexes(rt.alloc()) {
+        Ok(mutexes) => time_mutexes(rt, mutexes.as_slice(), crew),
+        Err(_) => None,
+    }
 }
 
 /// The figures of the quick path and of std's `Mutex`, and the ratios of each round.
