@@ -6,11 +6,13 @@ mod course;
 mod parts;
 mod showing;
 
-use anyhow::Result;
+use crate::printed;
+use anyhow::{Error, Result, anyhow};
 use course::Course;
 use parts::{PAIRS, run_desk};
+use pif_desk::{Book, DeskFault};
 use showing::{Moment, Shown, shown_by};
-use std::alloc::Global;
+use std::alloc::{AllocError, Global};
 use std::io;
 use std::sync::Wait;
 use std::thread::Threads;
@@ -35,15 +37,76 @@ fn print_shown<R: Print>(rt: &R, shown: &Shown) -> io::Result<()> {
     print_moment(rt, "low unlocks", &shown.unlocks)
 }
 
-/// Runs the threads, and prints what their book shows.
-pub fn show<R: Threads + Wait + Sync + Print>(rt: &R, alloc: Global) -> Result<()> {
+/// Why there is nothing to show.
+#[derive(Clone, Copy)]
+pub enum Failure {
+    /// The limits of the desk are out of range.
+    Limits,
+    /// A call on the desk was not done, or its memory was refused.
+    Desk(DeskFault),
+    /// Memory for a list was refused.
+    Memory(AllocError),
+    /// A thread can't be started.
+    Start,
+    /// A thread met a fault.
+    Thread(DeskFault),
+    /// The desk doesn't settle with its clients.
+    Unsettled,
+    /// A core answers otherwise than the journal.
+    Differs,
+}
+
+impl Failure {
+    /// The error with which the program ends.
+    fn error(self) -> Error {
+        match self {
+            Failure::Limits => anyhow!("these limits are out of range"),
+            Failure::Desk(fault) => Error::from(fault),
+            Failure::Memory(fault) => Error::from(fault),
+            Failure::Start => anyhow!("a thread cannot be started"),
+            Failure::Thread(fault) => anyhow!("a thread met a fault: {fault}"),
+            Failure::Unsettled => anyhow!("the desk does not settle with its clients"),
+            Failure::Differs => anyhow!("a core answers otherwise than the journal"),
+        }
+    }
+}
+
+/// Prints what is to be run.
+fn print_head<R: Print>(rt: &R) -> io::Result<()> {
     let [low, middle, high] = PRIORITIES;
     println!(rt;
         "low {low}, middle {middle}, high {high}, {ROUNDS} rounds, {PAIRS} pairs of middle in each"
-    )?;
+    )
+}
+
+/// Prints what is shown of all moments, and how many calls were answered.
+fn print_all<R: Print>(rt: &R, shown: &Shown, answered: u64) -> io::Result<()> {
+    print_shown(rt, shown)?;
+    println!(rt; "{answered} calls answered, as the journal has them")
+}
+
+/// What a book shows, and how many calls were answered.
+fn told_by(alloc: Global, book: &Book) -> Result<(Shown, u64), Failure> {
+    match shown_by(alloc, book) {
+        Ok(shown) => Ok((shown, book.answered)),
+        Err(failure) => Err(failure),
+    }
+}
+
+/// Runs the threads. Answers what their book shows, and how many calls were answered.
+fn run<R: Threads + Wait + Sync>(rt: &R, alloc: Global) -> Result<(Shown, u64), Failure> {
     let course = Course::new();
-    let book = run_desk(rt, alloc, &course)?;
-    print_shown(rt, &shown_by(alloc, &book)?)?;
-    println!(rt; "{} calls answered, as the journal has them", book.answered)?;
-    Ok(())
+    match run_desk(rt, alloc, &course) {
+        Ok(book) => told_by(alloc, &book),
+        Err(failure) => Err(failure),
+    }
+}
+
+/// Runs the threads, and prints what their book shows.
+pub fn show<R: Threads + Wait + Sync + Print>(rt: &R, alloc: Global) -> Result<()> {
+    printed(print_head(rt))?;
+    match run(rt, alloc) {
+        Ok((shown, answered)) => printed(print_all(rt, &shown, answered)),
+        Err(failure) => Err(failure.error()),
+    }
 }

@@ -1,6 +1,5 @@
 use super::course::{Course, Watch};
-use super::{PRIORITIES, ROUNDS};
-use anyhow::{Result, bail};
+use super::{Failure, PRIORITIES, ROUNDS};
 use pif_desk::{Book, Client, Desk, DeskFault};
 use pif_types::{Kind, Limits, MutexId, Request};
 use std::alloc::{AllocError, Global};
@@ -37,6 +36,19 @@ struct Ended {
     fault: Option<DeskFault>,
 }
 
+/// Makes a call.
+fn make<R: Wait>(
+    rt: &R,
+    desk: &Desk<Watch<'_>>,
+    client: &mut Client,
+    request: Request,
+) -> Result<(), DeskFault> {
+    match client.call(rt, desk, request) {
+        Ok(_) => Ok(()),
+        Err(fault) => Err(fault),
+    }
+}
+
 /// Locks and unlocks a mutex.
 fn make_pair<R: Wait>(
     rt: &R,
@@ -44,9 +56,8 @@ fn make_pair<R: Wait>(
     client: &mut Client,
     mutex: MutexId,
 ) -> Result<(), DeskFault> {
-    client.call(rt, desk, Request::Lock(mutex))?;
-    client.call(rt, desk, Request::Unlock(mutex))?;
-    Ok(())
+    make(rt, desk, client, Request::Lock(mutex))?;
+    make(rt, desk, client, Request::Unlock(mutex))
 }
 
 /// Low's part: it holds the mutex until high waits for it.
@@ -61,10 +72,10 @@ fn play_low<R: Wait>(
         if !course.is_ready(rt, round) {
             break;
         }
-        client.call(rt, desk, Request::Lock(mutex))?;
+        make(rt, desk, client, Request::Lock(mutex))?;
         course.hold();
         course.is_waited_for(rt, round);
-        client.call(rt, desk, Request::Unlock(mutex))?;
+        make(rt, desk, client, Request::Unlock(mutex))?;
     }
     Ok(())
 }
@@ -122,42 +133,78 @@ fn play<R: Wait>(rt: &R, course: &Course, desk: &Desk<Watch<'_>>, player: Player
     }
 }
 
-/// The three players: low and high share a mutex, middle has one of its own.
-fn enter_all<R: Wait>(rt: &R, alloc: Global, desk: &Desk<Watch<'_>>) -> Result<Vec<Player>> {
-    let shared = desk.make_mutex(rt, Kind::ErrorCheck, true)?;
-    let own = desk.make_mutex(rt, Kind::ErrorCheck, true)?;
-    let parts = [
-        (Part::Low, shared),
-        (Part::Middle, own),
-        (Part::High, shared),
-    ];
-    let mut players = Vec::new(alloc);
-    for ((part, mutex), prio) in parts.into_iter().zip(PRIORITIES) {
-        let client = desk.enter(rt, prio)?;
-        players
-            .push(Player {
+/// Adds a player to the others.
+fn add(players: &mut Vec<Player>, player: Player) -> Result<(), Failure> {
+    match players.push(player) {
+        Ok(()) => Ok(()),
+        Err(fault) => Err(Failure::Memory(AllocError::from(fault))),
+    }
+}
+
+/// A player enters the desk with this priority.
+fn enter_one<R: Wait>(
+    rt: &R,
+    desk: &Desk<Watch<'_>>,
+    (part, mutex): (Part, MutexId),
+    prio: u32,
+    players: &mut Vec<Player>,
+) -> Result<(), Failure> {
+    match desk.enter(rt, prio) {
+        Ok(client) => add(
+            players,
+            Player {
                 part,
                 client,
                 mutex,
-            })
-            .map_err(AllocError::from)?;
+            },
+        ),
+        Err(fault) => Err(Failure::Desk(fault)),
     }
-    Ok(players)
 }
 
-/// How the threads ended, once each has.
+/// A mutex of the desk.
+fn make_mutex<R: Wait>(rt: &R, desk: &Desk<Watch<'_>>) -> Result<MutexId, Failure> {
+    match desk.make_mutex(rt, Kind::ErrorCheck, true) {
+        Ok(mutex) => Ok(mutex),
+        Err(fault) => Err(Failure::Desk(fault)),
+    }
+}
+
+/// The three players enter: low and high share a mutex, middle has one of its own.
+fn enter_all<R: Wait>(
+    rt: &R,
+    desk: &Desk<Watch<'_>>,
+    players: &mut Vec<Player>,
+) -> Result<(), Failure> {
+    let shared = make_mutex(rt, desk)?;
+    let own = make_mutex(rt, desk)?;
+    let [low, middle, high] = PRIORITIES;
+    enter_one(rt, desk, (Part::Low, shared), low, players)?;
+    enter_one(rt, desk, (Part::Middle, own), middle, players)?;
+    enter_one(rt, desk, (Part::High, shared), high, players)
+}
+
+/// Keeps the client of a thread that has ended with no fault.
+fn keep(ended: Ended, clients: &mut Vec<Client>) -> Result<(), Failure> {
+    let Ended { client, fault } = ended;
+    if let Some(fault) = fault {
+        return Err(Failure::Thread(fault));
+    }
+    match clients.push(client) {
+        Ok(()) => Ok(()),
+        Err(fault) => Err(Failure::Memory(AllocError::from(fault))),
+    }
+}
+
+/// The clients of the threads, once each has ended.
 fn join_all<R: Threads>(
     rt: &R,
     alloc: Global,
     threads: Vec<JoinHandle<Ended>>,
-) -> Result<Vec<Client>> {
+) -> Result<Vec<Client>, Failure> {
     let mut clients = Vec::new(alloc);
     for thread in threads {
-        let Ended { client, fault } = thread.join(rt);
-        if let Some(fault) = fault {
-            bail!("a thread met a fault: {fault}");
-        }
-        clients.push(client).map_err(AllocError::from)?;
+        keep(thread.join(rt), &mut clients)?;
     }
     Ok(clients)
 }
@@ -169,33 +216,62 @@ fn play_all<R: Threads + Wait + Sync>(
     course: &Course,
     desk: &Desk<Watch<'_>>,
     players: Vec<Player>,
-) -> Result<Vec<Client>> {
+) -> Result<Vec<Client>, Failure> {
     thread::scope(thread::scope_env(), rt, |scope| {
         let mut threads = Vec::new(alloc);
         for player in players {
             let Ok(thread) = scope.spawn(move || play(rt, course, desk, player)) else {
                 course.stop();
-                bail!("a thread cannot be started");
+                return Err(Failure::Start);
             };
             if threads.push(thread).is_err() {
                 course.stop();
-                bail!("out of memory");
+                return Err(Failure::Desk(DeskFault::NoMemory));
             }
         }
         join_all(rt, alloc, threads)
     })
 }
 
-/// All rounds at a desk, which then settles with the clients.
-pub fn run_desk<R: Threads + Wait + Sync>(rt: &R, alloc: Global, course: &Course) -> Result<Book> {
-    let Some(limits) = Limits::new(3, 2, 0, 1) else {
-        bail!("these limits are out of range");
-    };
-    let desk = Desk::new(alloc, limits, Watch { course })?;
-    let players = enter_all(rt, alloc, &desk)?;
-    let clients = play_all(rt, alloc, course, &desk, players)?;
+/// The clients of the players, who enter a desk and play all rounds.
+fn clients_of<R: Threads + Wait + Sync>(
+    rt: &R,
+    alloc: Global,
+    course: &Course,
+    desk: &Desk<Watch<'_>>,
+) -> Result<Vec<Client>, Failure> {
+    let mut players = Vec::new(alloc);
+    match enter_all(rt, desk, &mut players) {
+        Ok(()) => play_all(rt, alloc, course, desk, players),
+        Err(failure) => Err(failure),
+    }
+}
+
+/// All rounds at this desk, which then settles with the clients.
+fn run_at<R: Threads + Wait + Sync>(
+    rt: &R,
+    alloc: Global,
+    course: &Course,
+    desk: Desk<Watch<'_>>,
+) -> Result<Book, Failure> {
+    let clients = clients_of(rt, alloc, course, &desk)?;
     match desk.into_room().settle(clients) {
         Ok(book) => Ok(book),
-        Err(_) => bail!("the desk does not settle with its clients"),
+        Err(_) => Err(Failure::Unsettled),
+    }
+}
+
+/// All rounds at a desk, which then settles with the clients.
+pub fn run_desk<R: Threads + Wait + Sync>(
+    rt: &R,
+    alloc: Global,
+    course: &Course,
+) -> Result<Book, Failure> {
+    let Some(limits) = Limits::new(3, 2, 0, 1) else {
+        return Err(Failure::Limits);
+    };
+    match Desk::new(alloc, limits, Watch { course }) {
+        Ok(desk) => run_at(rt, alloc, course, desk),
+        Err(_) => Err(Failure::Desk(DeskFault::NoMemory)),
     }
 }

@@ -1,6 +1,6 @@
-use anyhow::{Result, ensure};
+use super::Failure;
 use pif_core::{Core, Entry, Event, Seen};
-use pif_desk::Book;
+use pif_desk::{Book, DeskFault};
 use pif_types::{Request, Tid};
 use std::alloc::Global;
 
@@ -12,7 +12,7 @@ const MIDDLE: u32 = 2;
 
 /// What a core shows: the priority with which low runs, and the number of the thread that runs next; 0 where there is
 /// none.
-#[derive(Clone, Copy, Debug, PartialEq, Eq)]
+#[derive(Clone, Copy, PartialEq, Eq)]
 pub struct View {
     pub low: u32,
     next: u32,
@@ -165,26 +165,34 @@ fn do_again(core: &mut Core, entry: &Entry) -> Option<Happening> {
 }
 
 /// What a core shows that does these entries again.
-fn show_entries(core: &mut Core, entries: &[Entry], low: Tid, shown: &mut Shown) -> Result<()> {
+fn show_entries(
+    core: &mut Core,
+    entries: &[Entry],
+    low: Tid,
+    shown: &mut Shown,
+) -> Result<(), Failure> {
     for entry in entries {
-        let happening = do_again(core, entry);
-        ensure!(
-            happening.is_some(),
-            "a core answers otherwise than the journal"
-        );
-        if let Some(happening) = happening {
-            shown.note(happening, View::of(core, low));
+        match do_again(core, entry) {
+            Some(happening) => shown.note(happening, View::of(core, low)),
+            None => return Err(Failure::Differs),
         }
     }
     Ok(())
 }
 
-/// What a core shows that does the entries of a book again.
-pub fn shown_by(alloc: Global, book: &Book) -> Result<Shown> {
+/// What this core shows, once it has done these entries again.
+fn shown_in(core: &mut Core, entries: &[Entry]) -> Result<Shown, Failure> {
     let mut shown = Shown::new();
-    let mut core = Core::new(alloc, book.limits)?;
     if let Some(low) = Tid::new(LOW) {
-        show_entries(&mut core, book.entries.as_slice(), low, &mut shown)?;
+        show_entries(core, entries, low, &mut shown)?;
     }
     Ok(shown)
+}
+
+/// What a core shows that does the entries of a book again.
+pub fn shown_by(alloc: Global, book: &Book) -> Result<Shown, Failure> {
+    match Core::new(alloc, book.limits) {
+        Ok(mut core) => shown_in(&mut core, book.entries.as_slice()),
+        Err(_) => Err(Failure::Desk(DeskFault::NoMemory)),
+    }
 }
