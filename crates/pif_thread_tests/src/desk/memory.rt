@@ -1,7 +1,10 @@
 //! The journal's growth is refused before a call, and between two of its events.
-use super::scenes::{desk_of, enter, lock, settled};
+use super::scenes::{
+    desk_of, enter, holds, is_answer, is_count, is_fault, lock, settles, went_well,
+};
 use pif_desk::{Client, Desk, DeskFault, NoPause};
 use pif_types::{Kind, Refusal};
+use std::alloc::Global;
 use std::process::Abort;
 use std::sync::Wait;
 use std::test::Fail;
@@ -18,17 +21,27 @@ fn refuse_growth(rt: &impl Wait, desk: &Desk<NoPause>, left: usize) -> Result<()
     Ok(())
 }
 
+/// A call is refused so.
+fn check_refused<R: Wait + Abort>(
+    rt: &R,
+    desk: &Desk<NoPause>,
+    client: &mut Client,
+    fault: DeskFault,
+) {
+    is_fault(rt, client.call(rt, desk, lock()).err(), Some(fault));
+}
+
 /// A call is refused memory at its beginning, and none is open.
 fn refuse_begin<R: Wait + Abort>(
     rt: &R,
     desk: &Desk<NoPause>,
     client: &mut Client,
-) -> Result<(), Fail> {
+) -> Result<(), DeskFault> {
     refuse_growth(rt, desk, 0)?;
     let before = desk.entries(rt);
-    assert!(rt; matches!(client.call(rt, desk, lock()), Err(DeskFault::NoMemory)));
-    assert!(rt; !client.is_open());
-    assert_eq!(rt; desk.entries(rt), before);
+    check_refused(rt, desk, client, DeskFault::NoMemory);
+    holds(rt, !client.is_open(), "a call is open");
+    is_count(rt, desk.entries(rt), before);
     Ok(())
 }
 
@@ -37,10 +50,10 @@ fn begin_call<R: Wait + Abort>(
     rt: &R,
     desk: &Desk<NoPause>,
     client: &mut Client,
-) -> Result<(), Fail> {
+) -> Result<(), DeskFault> {
     refuse_growth(rt, desk, 1)?;
-    assert!(rt; matches!(client.call(rt, desk, lock()), Err(DeskFault::NoMemory)));
-    assert!(rt; client.is_open());
+    check_refused(rt, desk, client, DeskFault::NoMemory);
+    holds(rt, client.is_open(), "no call is open");
     desk.set_growth(rt, 1);
     Ok(())
 }
@@ -50,95 +63,112 @@ fn resume_call<R: Wait + Abort>(
     rt: &R,
     desk: &Desk<NoPause>,
     client: &mut Client,
-) -> Result<(), Fail> {
-    let busy = client.call(rt, desk, lock()).err();
-    assert_eq!(rt; busy, Some(DeskFault::Refused(Refusal::Busy)));
+) -> Result<(), DeskFault> {
+    check_refused(rt, desk, client, DeskFault::Refused(Refusal::Busy));
     let receipt = client.resume(rt, desk)?;
-    assert_eq!(rt; (receipt.request, receipt.answer), (lock(), 0));
-    assert!(rt; !client.is_open());
+    holds(rt, receipt.request == lock(), "another call is answered");
+    is_answer(rt, Ok(receipt.answer), Ok(0));
+    holds(rt, !client.is_open(), "a call is open");
     Ok(())
 }
 
 /// The client ends with its call open.
-fn quit<R: Wait + Abort>(rt: &R, desk: &Desk<NoPause>, client: &mut Client) -> Result<(), Fail> {
+fn quit<R: Wait + Abort>(
+    rt: &R,
+    desk: &Desk<NoPause>,
+    client: &mut Client,
+) -> Result<(), DeskFault> {
     client.quit(rt, desk)?;
     let dead = client.resume(rt, desk).err();
-    assert_eq!(rt; dead, Some(DeskFault::Refused(Refusal::Dead)));
+    is_fault(rt, dead, Some(DeskFault::Refused(Refusal::Dead)));
     Ok(())
 }
 
-/// A client's call is refused memory, and then the client resumes it, or quits.
-fn call_and_end<R: Wait + Abort>(
+/// What becomes of a call that is refused memory.
+#[derive(Clone, Copy)]
+enum Course {
+    /// It is refused at its beginning.
+    Stays,
+    /// It has begun, and its client resumes it.
+    Resumes,
+    /// It has begun, and its client quits.
+    Quits,
+}
+
+/// A client's call is refused memory.
+fn refuse_call<R: Wait + Abort>(
+    rt: &R,
+    desk: &Desk<NoPause>,
+    client: &mut Client,
+    course: Course,
+) -> Result<(), DeskFault> {
+    if let Course::Stays = course {
+        return refuse_begin(rt, desk, client);
+    }
+    begin_call(rt, desk, client)?;
+    if let Course::Resumes = course {
+        resume_call(rt, desk, client)
+    } else {
+        quit(rt, desk, client)
+    }
+}
+
+/// The same of a client that enters.
+fn enter_and_call<R: Wait + Abort>(
     rt: &R,
     desk: &Desk<NoPause>,
     clients: &mut Vec<Client>,
-    resumes: bool,
-) -> Result<(), Fail> {
+    course: Course,
+) -> Result<(), DeskFault> {
     enter(rt, desk, 1, clients)?;
     for client in clients.iter_mut() {
-        begin_call(rt, desk, client)?;
-        if resumes {
-            resume_call(rt, desk, client)?;
-        } else {
-            quit(rt, desk, client)?;
-        }
+        refuse_call(rt, desk, client, course)?;
     }
     Ok(())
 }
 
-/// A client's call is refused memory at its beginning.
-fn refuse_first<R: Wait + Abort>(
+/// A client's call is refused memory, and the room settles, with so many calls answered.
+fn check_call<R: Wait + Abort>(
     rt: &R,
-    desk: &Desk<NoPause>,
-    clients: &mut Vec<Client>,
+    alloc: Global,
+    course: Course,
+    answered: u64,
 ) -> Result<(), Fail> {
-    enter(rt, desk, 1, clients)?;
-    for client in clients.iter_mut() {
-        refuse_begin(rt, desk, client)?;
-    }
+    let desk = desk_of(rt, alloc, Kind::Normal, false)?;
+    let mut clients = Vec::new(alloc);
+    went_well(rt, enter_and_call(rt, &desk, &mut clients, course));
+    settles(rt, desk.into_room(), clients, answered);
     Ok(())
 }
 
 /// A tick is refused memory, and the time stays, so that a lesser one is none to the past.
-fn refuse_tick<R: Wait + Abort>(rt: &R, desk: &Desk<NoPause>) -> Result<(), Fail> {
-    refuse_growth(rt, desk, 0)?;
+fn refuse_tick<R: Wait + Abort>(rt: &R, desk: &Desk<NoPause>) {
+    went_well(rt, refuse_growth(rt, desk, 0));
     let before = desk.entries(rt);
-    assert_eq!(rt; desk.tick(rt, 5), Err(DeskFault::NoMemory));
-    assert_eq!(rt; desk.entries(rt), before);
+    is_fault(rt, desk.tick(rt, 5).err(), Some(DeskFault::NoMemory));
+    is_count(rt, desk.entries(rt), before);
     desk.set_growth(rt, 1);
-    assert_eq!(rt; desk.tick(rt, 3), Ok(()));
-    Ok(())
+    went_well(rt, desk.tick(rt, 3));
 }
 
 #[test]
 fn refused_tick_changes_nothing(rt: HostRuntime) -> Result<(), Fail> {
     let desk = desk_of(&rt, rt.alloc(), Kind::Normal, false)?;
-    refuse_tick(&rt, &desk)
+    refuse_tick(&rt, &desk);
+    Ok(())
 }
 
 #[test]
 fn call_that_could_not_begin_is_not_open(rt: HostRuntime) -> Result<(), Fail> {
-    let mut clients = Vec::new(rt.alloc());
-    let desk = desk_of(&rt, rt.alloc(), Kind::Normal, false)?;
-    refuse_first(&rt, &desk, &mut clients)?;
-    assert_eq!(rt; settled(desk.into_room(), clients), Ok(0));
-    Ok(())
+    check_call(&rt, rt.alloc(), Course::Stays, 0)
 }
 
 #[test]
 fn refused_journal_growth_leaves_call_open(rt: HostRuntime) -> Result<(), Fail> {
-    let mut clients = Vec::new(rt.alloc());
-    let desk = desk_of(&rt, rt.alloc(), Kind::Normal, false)?;
-    call_and_end(&rt, &desk, &mut clients, true)?;
-    assert_eq!(rt; settled(desk.into_room(), clients), Ok(1));
-    Ok(())
+    check_call(&rt, rt.alloc(), Course::Resumes, 1)
 }
 
 #[test]
 fn quit_after_refused_memory(rt: HostRuntime) -> Result<(), Fail> {
-    let mut clients = Vec::new(rt.alloc());
-    let desk = desk_of(&rt, rt.alloc(), Kind::Normal, false)?;
-    call_and_end(&rt, &desk, &mut clients, false)?;
-    assert_eq!(rt; settled(desk.into_room(), clients), Ok(0));
-    Ok(())
+    check_call(&rt, rt.alloc(), Course::Quits, 0)
 }

@@ -1,20 +1,20 @@
 //! Receipts, and what settling finds.
-use super::scenes::{book_of, desk_of, enter, lock, mutex, settled, thread};
-use pif_desk::{Act, Client, Desk, DeskFault, Entry, Event, NoPause, Room, Seen, Why};
+ghost use Rattle.std.specs.Prelude.{◌≤◌};
+
+use super::scenes::{
+    book_of, cond, desk_of, enter, enter_one, holds, is_answer, is_count, is_fault, lock, mutex,
+    settled, settles, thread, went_well,
+};
+use pif_desk::{Act, Book, Client, Desk, DeskFault, Entry, Event, NoPause, Room, Seen, Why};
 use pif_types::{AddFault, CondId, Kind, Limits, MutexId, Prio, Refusal, Request};
 use std::alloc::Global;
 use std::process::Abort;
 use std::sync::Wait;
 use std::test::Fail;
 
-/// The first condition variable.
-fn cond() -> Result<CondId, Fail> {
-    Ok(CondId::new(1).ok_or("a variable")?)
-}
-
 /// What a call of a client is answered.
-fn answer<R: Wait>(
-    rt: &R,
+fn answer(
+    rt: &impl Wait,
     desk: &Desk<NoPause>,
     client: &mut Client,
     request: Request,
@@ -25,39 +25,59 @@ fn answer<R: Wait>(
     }
 }
 
-/// How many entries more the journal has than so many.
-fn more_than(rt: &impl Wait, desk: &Desk<NoPause>, before: usize) -> usize {
-    desk.entries(rt).wrapping_sub(before)
+/// A call of a client is answered so, or refused so.
+fn check_call<R: Wait + Abort>(
+    rt: &R,
+    desk: &Desk<NoPause>,
+    client: &mut Client,
+    request: Request,
+    expected: Result<u32, DeskFault>,
+) {
+    is_answer(rt, answer(rt, desk, client, request), expected);
+}
+
+/// A client has no call to go on with, since it is refused so.
+fn check_resume<R: Wait + Abort>(
+    rt: &R,
+    desk: &Desk<NoPause>,
+    client: &mut Client,
+    refusal: Refusal,
+) {
+    let fault = client.resume(rt, desk).err();
+    is_fault(rt, fault, Some(DeskFault::Refused(refusal)));
+}
+
+/// The journal has so many entries more than `before`.
+fn check_more<R: Wait + Abort>(rt: &R, desk: &Desk<NoPause>, before: usize, more: usize) {
+    is_count(rt, desk.entries(rt).wrapping_sub(before), more);
 }
 
 /// A client locks the mutex and quits, by one event. Then its call is refused, and it has none to go on with, which makes
 /// no event.
 fn lock_and_quit<R: Wait + Abort>(rt: &R, desk: &Desk<NoPause>, client: &mut Client) {
-    let dead = DeskFault::Refused(Refusal::Dead);
-    assert_eq!(rt; answer(rt, desk, client, lock()), Ok(0));
+    check_call(rt, desk, client, lock(), Ok(0));
     let before = desk.entries(rt);
-    assert_eq!(rt; client.quit(rt, desk), Ok(()));
-    assert_eq!(rt; more_than(rt, desk, before), 1);
-    assert_eq!(rt; answer(rt, desk, client, lock()), Err(dead));
-    assert_eq!(rt; client.resume(rt, desk).err(), Some(dead));
-    assert_eq!(rt; more_than(rt, desk, before), 2);
+    went_well(rt, client.quit(rt, desk));
+    check_more(rt, desk, before, 1);
+    check_call(
+        rt,
+        desk,
+        client,
+        lock(),
+        Err(DeskFault::Refused(Refusal::Dead)),
+    );
+    check_resume(rt, desk, client, Refusal::Dead);
+    check_more(rt, desk, before, 2);
 }
 
 /// A client has no call to go on with, which makes no event. It gets the mutex from an owner that has ended, and signals
 /// the variable.
-fn lock_and_signal<R: Wait + Abort>(
-    rt: &R,
-    desk: &Desk<NoPause>,
-    client: &mut Client,
-) -> Result<(), Fail> {
-    let idle = DeskFault::Refused(Refusal::Idle);
-    let signal = Request::Signal(cond()?);
+fn lock_and_signal<R: Wait + Abort>(rt: &R, desk: &Desk<NoPause>, client: &mut Client) {
     let before = desk.entries(rt);
-    assert_eq!(rt; client.resume(rt, desk).err(), Some(idle));
-    assert_eq!(rt; more_than(rt, desk, before), 0);
-    assert_eq!(rt; answer(rt, desk, client, lock()), Ok(130));
-    assert_eq!(rt; answer(rt, desk, client, signal), Ok(0));
-    Ok(())
+    check_resume(rt, desk, client, Refusal::Idle);
+    check_more(rt, desk, before, 0);
+    check_call(rt, desk, client, lock(), Ok(130));
+    check_call(rt, desk, client, Request::Signal(cond()), Ok(0));
 }
 
 /// Two clients, of which the second gets the mutex from the first.
@@ -65,13 +85,14 @@ fn two_that_lock<R: Wait + Abort>(
     rt: &R,
     desk: &Desk<NoPause>,
     clients: &mut Vec<Client>,
-) -> Result<(), Fail> {
-    assert_eq!(rt; desk.make_cond(rt, MutexId::default()), Ok(cond()?));
+) -> Result<(), DeskFault> {
+    check_cond(rt, desk, MutexId::default(), Ok(cond()));
     enter(rt, desk, 2, clients)?;
     match clients.as_mut_slice() {
         [one, two] => {
             lock_and_quit(rt, desk, one);
-            lock_and_signal(rt, desk, two)
+            lock_and_signal(rt, desk, two);
+            Ok(())
         }
         _ => panic!(rt; "there are not two clients"),
     }
@@ -79,10 +100,10 @@ fn two_that_lock<R: Wait + Abort>(
 
 #[test]
 fn desk_keeps_receipts(rt: HostRuntime) -> Result<(), Fail> {
-    let mut clients = Vec::new(rt.alloc());
     let desk = desk_of(&rt, rt.alloc(), Kind::Normal, true)?;
-    two_that_lock(&rt, &desk, &mut clients)?;
-    assert_eq!(rt; settled(desk.into_room(), clients), Ok(3));
+    let mut clients = Vec::new(rt.alloc());
+    went_well(&rt, two_that_lock(&rt, &desk, &mut clients));
+    settles(&rt, desk.into_room(), clients, 3);
     Ok(())
 }
 
@@ -100,25 +121,23 @@ enum Before {
 }
 
 /// The client plays a lock of mutex 1, which is answered 0.
-fn play_lock(rt: &impl Abort, room: &mut Room, client: &mut Client) -> Result<(), Fail> {
+fn play_lock(rt: &impl Abort, room: &mut Room, client: &mut Client) {
     let steps = [
         (Act::Begin(lock()), Seen::Begun),
         (Act::Go, Seen::Went),
         (Act::Go, Seen::Answered(0)),
     ];
     for (act, seen) in steps {
-        assert_eq!(rt; room.play(client, act)?, seen);
+        assert_eq!(rt; room.play(client, act), Ok(seen));
     }
-    Ok(())
 }
 
 /// The second client of a desk with two takes the place of this one.
-fn change(rt: &impl Wait, alloc: Global, clients: &mut Vec<Client>) -> Result<(), Fail> {
+fn change<R: Wait + Abort>(rt: &R, alloc: Global, clients: &mut Vec<Client>) -> Result<(), Fail> {
     let desk = desk_of(rt, alloc, Kind::Normal, false)?;
-    enter(rt, &desk, 2, clients)?;
-    let second = clients.pop().ok_or("a client")?;
+    let _first = desk.enter(rt, 10);
     clients.clear();
-    clients.push(second)?;
+    went_well(rt, enter_one(rt, &desk, 10, clients));
     Ok(())
 }
 
@@ -133,11 +152,11 @@ fn prepare<R: Wait + Abort>(
     match before {
         Before::Played => {
             for client in clients.iter_mut() {
-                play_lock(rt, room, client)?;
+                play_lock(rt, room, client);
             }
         }
         Before::Turned => {
-            room.turn(Event::Begin(thread(1)?, lock()))?;
+            room.turn(Event::Begin(thread(1), lock()))?;
         }
         Before::Changed => change(rt, alloc, clients)?,
         Before::Lost => clients.clear(),
@@ -151,9 +170,9 @@ fn outcome<R: Wait + Abort>(
     alloc: Global,
     before: Before,
 ) -> Result<Result<u64, Why>, Fail> {
-    let mut clients = Vec::new(alloc);
     let desk = desk_of(rt, alloc, Kind::Normal, false)?;
-    enter(rt, &desk, 1, &mut clients)?;
+    let mut clients = Vec::new(alloc);
+    went_well(rt, enter(rt, &desk, 1, &mut clients));
     let mut room = desk.into_room();
     prepare(rt, alloc, before, &mut room, &mut clients)?;
     Ok(settled(room, clients))
@@ -163,8 +182,8 @@ fn outcome<R: Wait + Abort>(
 fn settling_finds_what_clients_do_not_know(rt: HostRuntime) -> Result<(), Fail> {
     let rooms = [
         (Before::Played, Ok(1)),
-        (Before::Turned, Err(Why::Differs(thread(1)?))),
-        (Before::Changed, Err(Why::Stranger(thread(2)?))),
+        (Before::Turned, Err(Why::Differs(thread(1)))),
+        (Before::Changed, Err(Why::Stranger(thread(2)))),
         (Before::Lost, Err(Why::Count)),
     ];
     for (before, end) in rooms {
@@ -173,9 +192,34 @@ fn settling_finds_what_clients_do_not_know(rt: HostRuntime) -> Result<(), Fail> 
     Ok(())
 }
 
-/// An addition that the core refuses.
-fn not_added<T>(fault: AddFault) -> Result<T, DeskFault> {
-    Err(DeskFault::NotAdded(fault))
+/// A mutex of this kind is added, or refused, so.
+fn check_mutex<R: Wait + Abort>(
+    rt: &R,
+    desk: &Desk<NoPause>,
+    kind: Kind,
+    robust: bool,
+    expected: Result<MutexId, DeskFault>,
+) {
+    assert_eq!(rt; desk.make_mutex(rt, kind, robust), expected);
+}
+
+/// A variable that is bound to this mutex is added, or refused, so.
+fn check_cond<R: Wait + Abort>(
+    rt: &R,
+    desk: &Desk<NoPause>,
+    mutex: MutexId,
+    expected: Result<CondId, DeskFault>,
+) {
+    assert_eq!(rt; desk.make_cond(rt, mutex), expected);
+}
+
+/// A client of this priority is refused so.
+fn check_no_client<R: Wait + Abort>(rt: &R, desk: &Desk<NoPause>, prio: u32, fault: AddFault) {
+    is_fault(
+        rt,
+        desk.enter(rt, prio).err(),
+        Some(DeskFault::NotAdded(fault)),
+    );
 }
 
 /// Two mutexes, a variable that is bound to the second, and a client, beside what the core refuses.
@@ -183,18 +227,19 @@ fn add_some<R: Wait + Abort>(
     rt: &R,
     desk: &Desk<NoPause>,
     clients: &mut Vec<Client>,
-) -> Result<(), Fail> {
-    let (first, second) = (mutex(1)?, mutex(2)?);
-    assert_eq!(rt; desk.make_mutex(rt, Kind::Recursive, true), Ok(first));
-    assert_eq!(rt; desk.make_mutex(rt, Kind::ErrorCheck, false), Ok(second));
-    assert_eq!(rt; desk.make_cond(rt, mutex(9)?), not_added(AddFault::NoSuch));
-    assert_eq!(rt; desk.make_cond(rt, second), Ok(cond()?));
-    assert_eq!(rt;
-        desk.enter(rt, 0).err(),
-        not_added::<()>(AddFault::BadPrio).err()
+) -> Result<(), DeskFault> {
+    let second = mutex(2);
+    check_mutex(rt, desk, Kind::Recursive, true, Ok(mutex(1)));
+    check_mutex(rt, desk, Kind::ErrorCheck, false, Ok(second));
+    check_cond(
+        rt,
+        desk,
+        mutex(9),
+        Err(DeskFault::NotAdded(AddFault::NoSuch)),
     );
-    clients.push(desk.enter(rt, 7)?)?;
-    Ok(())
+    check_cond(rt, desk, second, Ok(cond()));
+    check_no_client(rt, desk, 0, AddFault::BadPrio);
+    enter_one(rt, desk, 7, clients)
 }
 
 /// One more of each that the limits allow, and then one too many.
@@ -202,55 +247,56 @@ fn add_past_limits<R: Wait + Abort>(
     rt: &R,
     desk: &Desk<NoPause>,
     clients: &mut Vec<Client>,
-) -> Result<(), Fail> {
-    let third = mutex(3)?;
-    clients.push(desk.enter(rt, 8)?)?;
-    assert_eq!(rt;
-        desk.enter(rt, 9).err(),
-        not_added::<()>(AddFault::TooMany).err()
-    );
-    assert_eq!(rt; desk.make_mutex(rt, Kind::Normal, true), Ok(third));
-    assert_eq!(rt;
-        desk.make_mutex(rt, Kind::Normal, true),
-        not_added(AddFault::TooMany)
-    );
-    assert_eq!(rt; desk.make_cond(rt, third), not_added(AddFault::TooMany));
+) -> Result<(), DeskFault> {
+    let third = mutex(3);
+    let too_many = DeskFault::NotAdded(AddFault::TooMany);
+    enter_one(rt, desk, 8, clients)?;
+    check_no_client(rt, desk, 9, AddFault::TooMany);
+    check_mutex(rt, desk, Kind::Normal, true, Ok(third));
+    check_mutex(rt, desk, Kind::Normal, true, Err(too_many));
+    check_cond(rt, desk, third, Err(too_many));
     Ok(())
 }
 
-/// What is added to a desk of two threads, three mutexes and a variable.
-fn added() -> Result<[Entry; 6], Fail> {
-    Ok([
-        Entry::Mutex(mutex(1)?, Kind::Recursive, true),
-        Entry::Mutex(mutex(2)?, Kind::ErrorCheck, false),
-        Entry::Cond(cond()?, mutex(2)?),
-        Entry::Thread(thread(1)?, Prio::new(7).ok_or("a priority")?),
-        Entry::Thread(thread(2)?, Prio::new(8).ok_or("a priority")?),
-        Entry::Mutex(mutex(3)?, Kind::Normal, true),
-    ])
+/// The thread of this number with this priority was added.
+fn added_thread(number: u32, prio: u32) -> Entry
+    requires number { 1 ≤ number }
+    requires prio { (1 ≤ prio) × (prio ≤ 99) }
+{
+    Entry::Thread(thread(number), Prio::new(prio).unwrap())
 }
 
-/// The room settles with these clients; its book has these limits and entries.
-fn has_entries(
-    rt: &impl Abort,
-    room: Room,
-    clients: Vec<Client>,
-    limits: Limits,
-    entries: &[Entry],
-) {
-    let book = book_of(rt, room, clients);
-    assert_eq!(rt; book.limits, limits);
-    assert!(rt; book.entries.as_slice() == entries);
+/// What is added to a desk of two threads, three mutexes and a variable.
+fn added() -> [Entry; 6] {
+    let second = mutex(2);
+    [
+        Entry::Mutex(mutex(1), Kind::Recursive, true),
+        Entry::Mutex(second, Kind::ErrorCheck, false),
+        Entry::Cond(cond(), second),
+        added_thread(1, 7),
+        added_thread(2, 8),
+        Entry::Mutex(mutex(3), Kind::Normal, true),
+    ]
+}
+
+/// The book has these limits, and what was added.
+fn check_book(rt: &impl Abort, book: &Book, limits: Limits) {
+    let entries = added();
+    holds(rt, book.limits == limits, "the limits are others");
+    holds(
+        rt,
+        book.entries.as_slice() == entries.as_slice(),
+        "the entries are others",
+    );
 }
 
 #[test]
 fn desk_adds_what_it_is_asked_for(rt: HostRuntime) -> Result<(), Fail> {
     let limits = Limits::new(2, 3, 1, 9).ok_or("limits")?;
-    let entries = added()?;
-    let mut clients = Vec::new(rt.alloc());
     let desk = Desk::new(rt.alloc(), limits, NoPause)?;
-    add_some(&rt, &desk, &mut clients)?;
-    add_past_limits(&rt, &desk, &mut clients)?;
-    has_entries(&rt, desk.into_room(), clients, limits, entries.as_slice());
+    let mut clients = Vec::new(rt.alloc());
+    went_well(&rt, add_some(&rt, &desk, &mut clients));
+    went_well(&rt, add_past_limits(&rt, &desk, &mut clients));
+    check_book(&rt, &book_of(&rt, desk.into_room(), clients), limits);
     Ok(())
 }

@@ -1,26 +1,62 @@
-//! Desks and clients for tests.
-use pif_desk::{Book, Client, Desk, Entry, Event, NoPause, Pause, Room, Why};
-use pif_types::{Kind, Limits, MutexId, Request, Tid};
+//! Desks and clients for tests. A scene that holds a desk or clients lends them to what may fail.
+ghost use Rattle.std.specs.Prelude.{◌≤◌};
+
+use pif_desk::{Book, Client, Desk, DeskFault, Entry, Event, NoPause, Pause, Room, Why};
+use pif_types::{CondId, Kind, Limits, MutexId, NoMemory, Request, Tid};
 use std::alloc::Global;
 use std::process::Abort;
 use std::sync::Wait;
 use std::test::Fail;
 
-/// Room for 64 threads and mutexes, and for a condition variable.
-pub(crate) fn limits() -> Result<Limits, Fail> {
-    Ok(Limits::new(64, 64, 1, 9).ok_or("limits")?)
+/// A desk with room for 64 threads and mutexes, and for a condition variable.
+pub(crate) fn desk_with<P: Pause + Drop>(
+    rt: &impl Abort,
+    alloc: Global,
+    pause: P,
+) -> Result<Desk<P>, NoMemory> {
+    match Limits::new(64, 64, 1, 9) {
+        Some(limits) => Desk::new(alloc, limits, pause),
+        None => panic!(rt; "there are no such limits"),
+    }
 }
 
 /// A desk with a mutex of this kind, without pauses.
-pub(crate) fn desk_of(
-    rt: &impl Wait,
+pub(crate) fn desk_of<R: Wait + Abort>(
+    rt: &R,
     alloc: Global,
     kind: Kind,
     robust: bool,
 ) -> Result<Desk<NoPause>, Fail> {
-    let desk = Desk::new(alloc, limits()?, NoPause)?;
-    let _mutex = desk.make_mutex(rt, kind, robust)?;
+    let desk = desk_with(rt, alloc, NoPause)?;
+    add_mutex(rt, &desk, kind, robust);
     Ok(desk)
+}
+
+/// A mutex more, which the desk has to add.
+pub(crate) fn add_mutex<P: Pause + Drop, R: Wait + Abort>(
+    rt: &R,
+    desk: &Desk<P>,
+    kind: Kind,
+    robust: bool,
+) {
+    holds(
+        rt,
+        desk.make_mutex(rt, kind, robust).is_ok(),
+        "no mutex is added",
+    );
+}
+
+/// A client more, of this priority.
+pub(crate) fn enter_one<P: Pause + Drop>(
+    rt: &impl Wait,
+    desk: &Desk<P>,
+    prio: u32,
+    clients: &mut Vec<Client>,
+) -> Result<(), DeskFault> {
+    match clients.push(desk.enter(rt, prio)?) {
+        Ok(()) => Ok(()),
+        Err(_) => Err(DeskFault::NoMemory),
+    }
 }
 
 /// So many clients more, of priority 10.
@@ -29,21 +65,59 @@ pub(crate) fn enter<P: Pause + Drop>(
     desk: &Desk<P>,
     count: u32,
     clients: &mut Vec<Client>,
-) -> Result<(), Fail> {
+) -> Result<(), DeskFault> {
     for _ in 0..count {
-        clients.push(desk.enter(rt, 10)?)?;
+        enter_one(rt, desk, 10, clients)?;
     }
     Ok(())
 }
 
+/// This is so; if not, the test fails, and says what is wrong.
+pub(crate) fn holds(rt: &impl Abort, is_so: bool, wrong: &str) {
+    assert!(rt; is_so, "{wrong}");
+}
+
+/// A count is as expected.
+pub(crate) fn is_count(rt: &impl Abort, count: usize, expected: usize) {
+    assert_eq!(rt; count, expected);
+}
+
+/// A fault, or none, is as expected.
+pub(crate) fn is_fault(rt: &impl Abort, fault: Option<DeskFault>, expected: Option<DeskFault>) {
+    assert_eq!(rt; fault, expected);
+}
+
+/// What a call is answered is as expected.
+pub(crate) fn is_answer(
+    rt: &impl Abort,
+    answer: Result<u32, DeskFault>,
+    expected: Result<u32, DeskFault>,
+) {
+    assert_eq!(rt; answer, expected);
+}
+
+/// What was done ended without a fault.
+pub(crate) fn went_well(rt: &impl Abort, done: Result<(), DeskFault>) {
+    is_fault(rt, done.err(), None);
+}
+
 /// The thread of this number.
-pub(crate) fn thread(number: u32) -> Result<Tid, Fail> {
-    Ok(Tid::new(number).ok_or("a thread")?)
+pub(crate) fn thread(number: u32) -> Tid
+    requires { 1 ≤ number }
+{
+    Tid::new(number).unwrap()
 }
 
 /// The mutex of this number.
-pub(crate) fn mutex(number: u32) -> Result<MutexId, Fail> {
-    Ok(MutexId::new(number).ok_or("a mutex")?)
+pub(crate) fn mutex(number: u32) -> MutexId
+    requires { 1 ≤ number }
+{
+    MutexId::new(number).unwrap()
+}
+
+/// The condition variable.
+pub(crate) fn cond() -> CondId {
+    CondId::new(1).unwrap()
 }
 
 /// The request to lock mutex 1.
@@ -57,6 +131,11 @@ pub(crate) fn settled(room: Room, clients: Vec<Client>) -> Result<u64, Why> {
         Ok(book) => Ok(book.answered),
         Err(unsettled) => Err(unsettled.why),
     }
+}
+
+/// The room settles with these clients, of which so many calls were answered.
+pub(crate) fn settles(rt: &impl Abort, room: Room, clients: Vec<Client>, answered: u64) {
+    assert_eq!(rt; settled(room, clients), Ok(answered));
 }
 
 /// The book of a room that settles with these clients.
@@ -77,8 +156,12 @@ fn thread_of(entry: &Entry) -> u32 {
 
 /// The entries are events of these threads, or additions, where the number is 0.
 pub(crate) fn are_of(rt: &impl Abort, entries: &[Entry], threads: &[u32]) {
-    assert_eq!(rt; entries.len(), threads.len());
+    is_count(rt, entries.len(), threads.len());
     for (entry, expected) in entries.iter().zip(threads) {
-        assert_eq!(rt; thread_of(entry), *expected);
+        holds(
+            rt,
+            thread_of(entry) == *expected,
+            "an entry is of another thread",
+        );
     }
 }

@@ -1,5 +1,7 @@
 //! Clients sleep while their threads rest, and are woken.
-use super::scenes::{book_of, enter, limits, mutex};
+use super::scenes::{
+    add_mutex, book_of, desk_with, enter, enter_one, is_answer, is_count, mutex, went_well,
+};
 use pif_desk::{Book, Client, Desk, DeskFault, Entry, Pause, Seen};
 use pif_types::{Kind, MutexId, Request, Tid};
 use std::alloc::Global;
@@ -54,8 +56,8 @@ impl Pause for Waiters {
 }
 
 /// Locks a mutex, and unlocks it again: what the lock is answered.
-fn lock_once<R: Wait>(
-    rt: &R,
+fn lock_once(
+    rt: &impl Wait,
     desk: &Desk<Waiters>,
     client: &mut Client,
     mutex: MutexId,
@@ -74,27 +76,30 @@ enum Owner {
     Ends,
 }
 
+/// What a lock of each of two threads is answered.
+type Answers = (Result<u32, DeskFault>, Result<u32, DeskFault>);
+
 impl Owner {
     /// The mutexes for which the two threads wait.
-    fn mutexes(self) -> [u32; 2] {
+    fn mutexes(self) -> (MutexId, MutexId) {
         match self {
-            Owner::Unlocks => [1, 1],
-            Owner::Ends => [1, 2],
+            Owner::Unlocks => (mutex(1), mutex(1)),
+            Owner::Ends => (mutex(1), mutex(2)),
         }
     }
 
     /// What the two locks are answered.
-    fn answers(self) -> (u32, u32) {
+    fn answers(self) -> Answers {
         match self {
-            Owner::Unlocks => (0, 0),
-            Owner::Ends => (130, 130),
+            Owner::Unlocks => (Ok(0), Ok(0)),
+            Owner::Ends => (Ok(130), Ok(130)),
         }
     }
 
     /// What the owner does.
-    fn gives<R: Wait>(
+    fn gives(
         self,
-        rt: &R,
+        rt: &impl Wait,
         desk: &Desk<Waiters>,
         client: &mut Client,
     ) -> Result<(), DeskFault> {
@@ -109,6 +114,29 @@ impl Owner {
     }
 }
 
+/// The owner locks both mutexes.
+fn lock_both(rt: &impl Wait, desk: &Desk<Waiters>, client: &mut Client) -> Result<(), DeskFault> {
+    client.call(rt, desk, Request::Lock(mutex(1)))?;
+    client.call(rt, desk, Request::Lock(mutex(2)))?;
+    Ok(())
+}
+
+/// Two clients, each in a thread of its own, lock one mutex each, of those of the owner.
+fn lock_each<R: Threads + Wait + Sync>(
+    rt: &R,
+    desk: &Desk<Waiters>,
+    owner: Owner,
+    two: &mut Client,
+    three: &mut Client,
+) -> Answers {
+    let (second, third) = owner.mutexes();
+    join(
+        rt,
+        || lock_once(rt, desk, two, second),
+        || lock_once(rt, desk, three, third),
+    )
+}
+
 /// The owner locks both mutexes; the two others wait for one each, until the owner gives them up.
 fn wait_for_owner<R: Threads + Wait + Abort + Sync>(
     rt: &R,
@@ -117,25 +145,17 @@ fn wait_for_owner<R: Threads + Wait + Abort + Sync>(
     one: &mut Client,
     two: &mut Client,
     three: &mut Client,
-) -> Result<(), Fail> {
-    let [second, third] = owner.mutexes();
-    let (second, third) = (mutex(second)?, mutex(third)?);
-    one.call(rt, desk, Request::Lock(mutex(1)?))?;
-    one.call(rt, desk, Request::Lock(mutex(2)?))?;
-    let (given, (a, b)) = join(
+) -> Result<(), DeskFault> {
+    lock_both(rt, desk, one)?;
+    let (given, answers) = join(
         rt,
         || owner.gives(rt, desk, one),
-        || {
-            join(
-                rt,
-                || lock_once(rt, desk, two, second),
-                || lock_once(rt, desk, three, third),
-            )
-        },
+        || lock_each(rt, desk, owner, two, three),
     );
-    given?;
-    assert_eq!(rt; (a?, b?), owner.answers());
-    Ok(())
+    let (second, third) = owner.answers();
+    is_answer(rt, answers.0, second);
+    is_answer(rt, answers.1, third);
+    given
 }
 
 /// Three clients, of which two wait for the first.
@@ -144,11 +164,9 @@ fn wait_for_first<R: Threads + Wait + Abort + Sync>(
     desk: &Desk<Waiters>,
     owner: Owner,
     clients: &mut Vec<Client>,
-) -> Result<(), Fail> {
-    let _first = desk.make_mutex(rt, Kind::Normal, true)?;
-    let _second = desk.make_mutex(rt, Kind::Normal, true)?;
+) -> Result<(), DeskFault> {
     enter(rt, desk, 2, clients)?;
-    clients.push(desk.enter(rt, 20)?)?;
+    enter_one(rt, desk, 20, clients)?;
     match clients.as_mut_slice() {
         [one, two, three] => wait_for_owner(rt, desk, owner, one, two, three),
         _ => panic!(rt; "there are not three clients"),
@@ -161,6 +179,11 @@ fn waits_in(book: &Book) -> usize {
     book.entries.iter().filter(waits).count()
 }
 
+/// Two entries of a book say that a thread waits.
+fn has_two_waits(rt: &impl Abort, book: &Book) {
+    is_count(rt, waits_in(book), 2);
+}
+
 /// Two clients wait for an owner, each by one entry.
 fn check_owner<R: Threads + Wait + Abort + Sync>(
     rt: &R,
@@ -168,11 +191,12 @@ fn check_owner<R: Threads + Wait + Abort + Sync>(
     pause: Waiters,
     owner: Owner,
 ) -> Result<(), Fail> {
+    let desk = desk_with(rt, alloc, pause)?;
     let mut clients = Vec::new(alloc);
-    let desk = Desk::new(alloc, limits()?, pause)?;
-    wait_for_first(rt, &desk, owner, &mut clients)?;
-    let book = book_of(rt, desk.into_room(), clients);
-    assert_eq!(rt; waits_in(&book), 2);
+    add_mutex(rt, &desk, Kind::Normal, true);
+    add_mutex(rt, &desk, Kind::Normal, true);
+    went_well(rt, wait_for_first(rt, &desk, owner, &mut clients));
+    has_two_waits(rt, &book_of(rt, desk.into_room(), clients));
     Ok(())
 }
 

@@ -1,8 +1,8 @@
 //! Eight real threads on three robust mutexes and a condition variable, one that wakes them, and then calls that end at
 //! each of their steps.
-use super::scenes::{enter, settled};
+use super::scenes::{cond, enter, holds, is_fault, settles, went_well};
 use pif_desk::{Act, Client, Desk, DeskFault, Pause, Room, Seen};
-use pif_types::{CondId, Kind, Limits, MutexId, Request, Tid};
+use pif_types::{Kind, Limits, MutexId, NoMemory, Request, Tid};
 use std::alloc::{AllocError, Global};
 use std::process::Abort;
 use std::sync::Wait;
@@ -22,11 +22,6 @@ const MOST_STEPS: u32 = 18;
 
 /// How many clients end so, in a lock after 0 steps and more, and then in a wait.
 const ENDINGS: u32 = 38;
-
-/// Room for all of them, for three mutexes and a condition variable.
-fn limits() -> Result<Limits, Fail> {
-    Ok(Limits::new(64, 3, 1, u32::MAX).ok_or("limits")?)
-}
 
 /// Counts the threads that have ended.
 #[derive(Drop)]
@@ -62,11 +57,6 @@ fn next(seed: u64) -> u64 {
         .wrapping_add(1_442_695_040_888_963_407)
 }
 
-/// The condition variable.
-fn cond() -> CondId {
-    CondId::new(1).unwrap()
-}
-
 /// One of the mutexes 1 to 3.
 fn mutex_of(seed: u64) -> MutexId {
     match MutexId::new(1 + ((seed >> 33) % 3) as u32) {
@@ -96,8 +86,8 @@ struct Done {
 }
 
 /// Gives up each mutex that the client holds: how many calls that took.
-fn give_up_all<R: Wait>(
-    rt: &R,
+fn give_up_all(
+    rt: &impl Wait,
     desk: &Desk<Ends>,
     client: &mut Client,
     answered: &mut u64,
@@ -115,8 +105,8 @@ fn give_up_all<R: Wait>(
 }
 
 /// Makes calls by chance, and gives up all that the client holds, where its number is odd.
-fn make_calls<R: Wait>(
-    rt: &R,
+fn make_calls(
+    rt: &impl Wait,
     desk: &Desk<Ends>,
     client: &mut Client,
     answered: &mut u64,
@@ -135,8 +125,8 @@ fn make_calls<R: Wait>(
 }
 
 /// Broadcasts until all others are done, so that no wait stays open.
-fn wake_others<R: Wait>(
-    rt: &R,
+fn wake_others(
+    rt: &impl Wait,
     desk: &Desk<Ends>,
     client: &mut Client,
     answered: &mut u64,
@@ -152,8 +142,8 @@ fn wake_others<R: Wait>(
 }
 
 /// A client's calls, after which it quits: an even one of those that make them by chance with what it holds.
-fn run<R: Wait>(
-    rt: &R,
+fn run(
+    rt: &impl Wait,
     desk: &Desk<Ends>,
     client: &mut Client,
     answered: &mut u64,
@@ -168,7 +158,7 @@ fn run<R: Wait>(
 }
 
 /// A client's part.
-fn run_one<R: Wait>(rt: &R, desk: &Desk<Ends>, client: Client) -> Done {
+fn run_one(rt: &impl Wait, desk: &Desk<Ends>, client: Client) -> Done {
     let mut client = client;
     let mut answered = 0;
     let fault = run(rt, desk, &mut client, &mut answered).err();
@@ -188,19 +178,34 @@ fn run_all<R: Threads + Wait + Sync>(
     thread::map_vec(rt, clients, &|client| run_one(rt, desk, client))
 }
 
-/// The clients again, and how many calls were answered, which no fault has cut short.
-fn gather(rt: &impl Abort, clients: &mut Vec<Client>, done: Vec<Done>) -> Result<u64, Fail> {
+/// A client is there again that has made its calls, which no fault has cut short. Answers how many were answered.
+fn take_back(rt: &impl Abort, clients: &mut Vec<Client>, done: Done) -> u64 {
+    let Done {
+        client,
+        answered,
+        fault,
+    } = done;
+    holds(rt, clients.push(client).is_ok(), "out of memory");
+    is_fault(rt, fault, None);
+    answered
+}
+
+/// The clients again, and how many calls were answered.
+fn gather(rt: &impl Abort, clients: &mut Vec<Client>, done: Vec<Done>) -> u64 {
     let mut answered = 0u64;
     for one in done {
-        assert_eq!(rt; one.fault, None);
-        answered = answered.wrapping_add(one.answered);
-        clients.push(one.client)?;
+        answered = answered.wrapping_add(take_back(rt, clients, one));
     }
-    Ok(answered)
+    answered
 }
 
 /// A client begins a call and takes so many steps of it. Answers how many calls were answered.
-fn play(room: &mut Room, client: &mut Client, request: Request, steps: u32) -> Result<u64, Fail> {
+fn play(
+    room: &mut Room,
+    client: &mut Client,
+    request: Request,
+    steps: u32,
+) -> Result<u64, NoMemory> {
     let mut answered = 0u64;
     room.play(client, Act::Begin(request))?;
     for _ in 0..steps {
@@ -211,25 +216,34 @@ fn play(room: &mut Room, client: &mut Client, request: Request, steps: u32) -> R
     Ok(answered)
 }
 
-/// A client takes mutex 1 if it is to wait, takes so many steps of a lock or a wait, and ends.
-fn end_at(room: &mut Room, client: &mut Client, waits: bool, steps: u32) -> Result<u64, Fail> {
-    let mutex = MutexId::default();
-    let mut answered = 0u64;
+/// A client takes mutex 1, where it is to wait. Answers how many calls were answered.
+fn take_first(room: &mut Room, client: &mut Client, waits: bool) -> Result<u64, NoMemory> {
     if waits {
-        answered = play(room, client, Request::Lock(mutex), 24)?;
-    }
-    let request = if waits {
-        Request::Wait(cond(), mutex)
+        play(room, client, Request::Lock(MutexId::default()), 24)
     } else {
-        Request::Lock(mutex)
-    };
-    answered = answered.wrapping_add(play(room, client, request, steps)?);
+        Ok(0)
+    }
+}
+
+/// The call inside which a client ends.
+fn last_request(waits: bool) -> Request {
+    if waits {
+        Request::Wait(cond(), MutexId::default())
+    } else {
+        Request::Lock(MutexId::default())
+    }
+}
+
+/// A client takes mutex 1 if it is to wait, takes so many steps of a lock or a wait, and ends.
+fn end_at(room: &mut Room, client: &mut Client, waits: bool, steps: u32) -> Result<u64, NoMemory> {
+    let taken = take_first(room, client, waits)?;
+    let answered = play(room, client, last_request(waits), steps)?;
     room.play(client, Act::End)?;
-    Ok(answered)
+    Ok(taken.wrapping_add(answered))
 }
 
 /// Each of these clients ends one step later in its call than the one before: the first in a lock, the others in a wait.
-fn end_all(room: &mut Room, clients: &mut Vec<Client>) -> Result<u64, Fail> {
+fn end_all(room: &mut Room, clients: &mut Vec<Client>) -> Result<u64, NoMemory> {
     let mut answered = 0u64;
     let mut waits = false;
     let mut steps = 0;
@@ -245,6 +259,14 @@ fn end_all(room: &mut Room, clients: &mut Vec<Client>) -> Result<u64, Fail> {
     Ok(answered)
 }
 
+/// The same, which has to go well.
+fn end_well(rt: &impl Abort, room: &mut Room, clients: &mut Vec<Client>) -> u64 {
+    match end_all(room, clients) {
+        Ok(answered) => answered,
+        Err(NoMemory) => panic!(rt; "out of memory"),
+    }
+}
+
 /// The three mutexes, and a condition variable for the first.
 fn make_mutexes(rt: &impl Wait, desk: &Desk<Ends>) -> Result<(), DeskFault> {
     for kind in [Kind::ErrorCheck, Kind::Recursive, Kind::ErrorCheck] {
@@ -254,37 +276,42 @@ fn make_mutexes(rt: &impl Wait, desk: &Desk<Ends>) -> Result<(), DeskFault> {
     Ok(())
 }
 
+/// The mutexes, the clients that run in threads, and behind them others.
+fn prepare(
+    rt: &impl Wait,
+    desk: &Desk<Ends>,
+    runners: &mut Vec<Client>,
+    clients: &mut Vec<Client>,
+) -> Result<(), DeskFault> {
+    make_mutexes(rt, desk)?;
+    enter(rt, desk, THREADS + 1, runners)?;
+    enter(rt, desk, ENDINGS, clients)
+}
+
 /// All threads run: their clients, behind others that have made no call, and how many calls were answered.
 fn run_threads<R: Threads + Wait + Abort + Sync>(
     rt: &R,
     alloc: Global,
     desk: &Desk<Ends>,
     clients: &mut Vec<Client>,
-) -> Result<u64, Fail> {
+) -> u64 {
     let mut runners = Vec::new(alloc);
-    make_mutexes(rt, desk)?;
-    enter(rt, desk, THREADS + 1, &mut runners)?;
-    enter(rt, desk, ENDINGS, clients)?;
-    let done = run_all(rt, desk, runners)?;
-    gather(rt, clients, done)
+    went_well(rt, prepare(rt, desk, &mut runners, clients));
+    match run_all(rt, desk, runners) {
+        Ok(done) => gather(rt, clients, done),
+        Err(_) => panic!(rt; "out of memory"),
+    }
 }
 
+/// The threads run at a desk. Then each client ends inside a call, if it has not ended, and all settle.
 #[test]
 fn eight_threads_settle(rt: HostRuntime) -> Result<(), Fail> {
-    let desk = Desk::new(rt.alloc(), limits()?, Ends::new())?;
-    run_desk(&rt, rt.alloc(), desk)
-}
-
-/// The threads run at this desk. Then each client ends inside a call, if it has not ended, and all settle.
-fn run_desk<R: Threads + Wait + Abort + Sync>(
-    rt: &R,
-    alloc: Global,
-    desk: Desk<Ends>,
-) -> Result<(), Fail> {
-    let mut clients = Vec::new(alloc);
-    let answered = run_threads(rt, alloc, &desk, &mut clients)?;
+    let limits = Limits::new(64, 3, 1, u32::MAX).ok_or("limits")?;
+    let desk = Desk::new(rt.alloc(), limits, Ends::new())?;
+    let mut clients = Vec::new(rt.alloc());
+    let answered = run_threads(&rt, rt.alloc(), &desk, &mut clients);
     let mut room = desk.into_room();
-    let ended = end_all(&mut room, &mut clients)?;
-    assert_eq!(rt; settled(room, clients), Ok(answered.wrapping_add(ended)));
+    let ended = end_well(&rt, &mut room, &mut clients);
+    settles(&rt, room, clients, answered.wrapping_add(ended));
     Ok(())
 }

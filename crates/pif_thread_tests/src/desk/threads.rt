@@ -1,6 +1,6 @@
 //! Two real threads at one desk, of which the first is held inside its call while the second makes one.
-use super::scenes::{are_of, book_of, enter, limits, mutex};
-use pif_desk::{Client, Desk, DeskFault, Pause, Receipt, Room, Seen, Unsettled, Why};
+use super::scenes::{are_of, book_of, desk_with, enter, holds, is_answer, mutex, went_well};
+use pif_desk::{Book, Client, Desk, DeskFault, Pause, Receipt, Room, Seen, Unsettled, Why};
 use pif_types::{Kind, MutexId, Request, Tid};
 use std::alloc::Global;
 use std::process::Abort;
@@ -69,8 +69,8 @@ impl Pause for Overlap {
 }
 
 /// Locks this mutex.
-fn lock<R: Wait>(
-    rt: &R,
+fn lock(
+    rt: &impl Wait,
     desk: &Desk<Overlap>,
     client: &mut Client,
     mutex: MutexId,
@@ -79,8 +79,8 @@ fn lock<R: Wait>(
 }
 
 /// Locks this mutex once thread 1 is held inside its call.
-fn lock_inside<R: Wait>(
-    rt: &R,
+fn lock_inside(
+    rt: &impl Wait,
     desk: &Desk<Overlap>,
     client: &mut Client,
     mutex: MutexId,
@@ -95,7 +95,7 @@ fn lock_both<R: Threads + Wait + Abort + Sync>(
     desk: &Desk<Overlap>,
     one: &mut Client,
     two: &mut Client,
-) -> Result<(), Fail> {
+) -> Result<(), DeskFault> {
     let first = desk.make_mutex(rt, Kind::Normal, false)?;
     let second = desk.make_mutex(rt, Kind::Normal, false)?;
     let (a, b) = join(
@@ -103,8 +103,13 @@ fn lock_both<R: Threads + Wait + Abort + Sync>(
         || lock(rt, desk, one, first),
         || lock_inside(rt, desk, two, second),
     );
-    assert_eq!(rt; (a?.answer, b?.answer), (0, 0));
-    assert_eq!(rt; (first, second), (mutex(1)?, mutex(2)?));
+    is_answer(rt, Ok(a?.answer), Ok(0));
+    is_answer(rt, Ok(b?.answer), Ok(0));
+    holds(
+        rt,
+        first == mutex(1) && second == mutex(2),
+        "the mutexes are others",
+    );
     Ok(())
 }
 
@@ -113,13 +118,14 @@ fn call_both<R: Threads + Wait + Abort + Sync>(
     rt: &R,
     desk: &Desk<Overlap>,
     clients: &mut Vec<Client>,
-) -> Result<(), Fail> {
+) -> Result<(), DeskFault> {
     enter(rt, desk, 2, clients)?;
     match clients.as_mut_slice() {
         [one, two] => lock_both(rt, desk, one, two)?,
         _ => panic!(rt; "there are not two clients"),
     }
-    assert!(rt; desk.pause().overlapped.load(Ordering::SeqCst));
+    let overlapped = desk.pause().overlapped.load(Ordering::SeqCst);
+    holds(rt, overlapped, "the calls do not overlap");
     Ok(())
 }
 
@@ -131,46 +137,65 @@ fn settle_without_last(rt: &impl Abort, room: Room, clients: Vec<Client>) -> Uns
     }
 }
 
-/// The room settles with both clients, though not with the first alone, and its entries are of these threads.
-fn settle_both(
-    rt: &impl Abort,
-    room: Room,
-    mut clients: Vec<Client>,
-    threads: &[u32],
-) -> Result<(), Fail> {
-    let last = clients.pop().ok_or("a client")?;
-    let mut unsettled = settle_without_last(rt, room, clients);
-    unsettled.clients.push(last)?;
-    assert_eq!(rt; unsettled.why, Why::Count);
-    let book = book_of(rt, unsettled.room, unsettled.clients);
-    assert_eq!(rt; book.answered, 2);
-    are_of(rt, book.entries.as_slice(), threads);
-    Ok(())
+/// The last client comes back, for whose lack the room did not settle.
+fn come_back(rt: &impl Abort, unsettled: &mut Unsettled, last: Client) {
+    holds(rt, unsettled.clients.push(last).is_ok(), "out of memory");
+    holds(
+        rt,
+        unsettled.why == Why::Count,
+        "it does not settle for another cause",
+    );
 }
 
-/// Two threads at a desk with this pause; the entries are of these threads.
+/// Two calls were answered, and the entries of the book are of these threads.
+fn check_book(rt: &impl Abort, book: &Book, threads: &[u32]) {
+    holds(rt, book.answered == 2, "not two calls were answered");
+    are_of(rt, book.entries.as_slice(), threads);
+}
+
+/// The room settles with both clients, though not with the first alone, and its entries are of these threads.
+fn settle_both(rt: &impl Abort, room: Room, mut clients: Vec<Client>, threads: &[u32]) {
+    match clients.pop() {
+        Some(last) => {
+            let mut unsettled = settle_without_last(rt, room, clients);
+            come_back(rt, &mut unsettled, last);
+            let Unsettled { room, clients, .. } = unsettled;
+            check_book(rt, &book_of(rt, room, clients), threads);
+        }
+        None => panic!(rt; "there is no client"),
+    }
+}
+
+/// Two threads at a desk where the first is held so; the entries are of these threads.
 fn check_overlap<R: Threads + Wait + Abort + Sync>(
     rt: &R,
     alloc: Global,
     pause: Overlap,
     threads: &[u32],
 ) -> Result<(), Fail> {
+    let desk = desk_with(rt, alloc, pause)?;
     let mut clients = Vec::new(alloc);
-    let desk = Desk::new(alloc, limits()?, pause)?;
-    call_both(rt, &desk, &mut clients)?;
-    settle_both(rt, desk.into_room(), clients, threads)
+    went_well(rt, call_both(rt, &desk, &mut clients));
+    settle_both(rt, desk.into_room(), clients, threads);
+    Ok(())
 }
 
 #[test]
 fn calls_of_two_threads_overlap(rt: HostRuntime) -> Result<(), Fail> {
-    let threads = [0, 0, 0, 0, 1, 2, 2, 2, 1, 1];
-    let pause = Overlap::new(rt, Seen::Begun);
-    check_overlap(&rt, rt.alloc(), pause, threads.as_slice())
+    check_overlap(
+        &rt,
+        rt.alloc(),
+        Overlap::new(rt, Seen::Begun),
+        &[0, 0, 0, 0, 1, 2, 2, 2, 1, 1],
+    )
 }
 
 #[test]
 fn each_step_of_a_call_is_an_event_of_its_own(rt: HostRuntime) -> Result<(), Fail> {
-    let threads = [0, 0, 0, 0, 1, 1, 2, 2, 2, 1];
-    let pause = Overlap::new(rt, Seen::Went);
-    check_overlap(&rt, rt.alloc(), pause, threads.as_slice())
+    check_overlap(
+        &rt,
+        rt.alloc(),
+        Overlap::new(rt, Seen::Went),
+        &[0, 0, 0, 0, 1, 1, 2, 2, 2, 1],
+    )
 }

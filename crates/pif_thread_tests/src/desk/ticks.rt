@@ -1,10 +1,11 @@
 //! Time at a desk: a tick lets those sleepers go on whose deadline it reaches.
 use super::scenes;
-use super::scenes::{enter, limits, lock, settled};
+use super::scenes::{
+    add_mutex, desk_of, desk_with, enter, holds, is_answer, is_fault, lock, settles, went_well,
+};
 use super::sleepers::Waiters;
-use pif_desk::{Client, Desk, DeskFault, NoPause, Pause};
+use pif_desk::{Client, Desk, DeskFault, NoPause};
 use pif_types::{Kind, MutexId, Refusal, Request, Tid};
-use std::alloc::Global;
 use std::process::Abort;
 use std::rt::Clock;
 use std::sync::Wait;
@@ -24,22 +25,8 @@ fn lock_until(deadline: u32) -> Request {
     Request::TimedLock(MutexId::default(), deadline)
 }
 
-/// A desk with a mutex, and so many clients.
-fn desk_with<P: Pause + Drop>(
-    rt: &impl Wait,
-    alloc: Global,
-    pause: P,
-    count: u32,
-    clients: &mut Vec<Client>,
-) -> Result<Desk<P>, Fail> {
-    let desk = Desk::new(alloc, limits()?, pause)?;
-    let _mutex = desk.make_mutex(rt, Kind::Normal, false)?;
-    enter(rt, &desk, count, clients)?;
-    Ok(desk)
-}
-
 /// Hands in this time once a thread waits.
-fn tick_at_wait<R: Wait>(rt: &R, desk: &Desk<Waiters>, time: u32) -> Result<(), DeskFault> {
+fn tick_at_wait(rt: &impl Wait, desk: &Desk<Waiters>, time: u32) -> Result<(), DeskFault> {
     desk.pause().come_to(1);
     desk.tick(rt, time)
 }
@@ -50,7 +37,7 @@ fn lock_up_to_tick<R: Threads + Wait + Abort + Sync>(
     desk: &Desk<Waiters>,
     one: &mut Client,
     two: &mut Client,
-) -> Result<(), Fail> {
+) -> Result<(), DeskFault> {
     one.call(rt, desk, lock())?;
     let (ticked, receipt) = join(
         rt,
@@ -58,33 +45,38 @@ fn lock_up_to_tick<R: Threads + Wait + Abort + Sync>(
         || two.call(rt, desk, lock_until(7)),
     );
     let receipt = receipt?;
-    assert_eq!(rt;
-        (ticked, receipt.request, receipt.answer),
-        (Ok(()), lock_until(7), 110)
+    holds(
+        rt,
+        receipt.request == lock_until(7),
+        "another call is answered",
     );
-    assert_eq!(rt; desk.tick(rt, 6), Err(PAST));
-    Ok(())
+    is_answer(rt, Ok(receipt.answer), Ok(110));
+    is_fault(rt, desk.tick(rt, 6).err(), Some(PAST));
+    ticked
+}
+
+/// Two clients, of which the second locks the mutex until a tick.
+fn tick_for_two<R: Threads + Wait + Abort + Sync>(
+    rt: &R,
+    desk: &Desk<Waiters>,
+    clients: &mut Vec<Client>,
+) -> Result<(), DeskFault> {
+    enter(rt, desk, 2, clients)?;
+    match clients.as_mut_slice() {
+        [one, two] => lock_up_to_tick(rt, desk, one, two),
+        _ => panic!(rt; "there are not two clients"),
+    }
 }
 
 /// Both clients' logs are just what the journal has, which has both ticks.
-fn check_ticks<R: Threads + Wait + Abort + Sync>(
-    rt: &R,
-    alloc: Global,
-    pause: Waiters,
-) -> Result<(), Fail> {
-    let mut clients = Vec::new(alloc);
-    let desk = desk_with(rt, alloc, pause, 2, &mut clients)?;
-    match clients.as_mut_slice() {
-        [one, two] => lock_up_to_tick(rt, &desk, one, two)?,
-        _ => panic!(rt; "there are not two clients"),
-    }
-    assert_eq!(rt; settled(desk.into_room(), clients), Ok(2));
-    Ok(())
-}
-
 #[test]
 fn desk_ticks(rt: HostRuntime) -> Result<(), Fail> {
-    check_ticks(&rt, rt.alloc(), Waiters::new(rt))
+    let desk = desk_with(&rt, rt.alloc(), Waiters::new(rt))?;
+    let mut clients = Vec::new(rt.alloc());
+    add_mutex(&rt, &desk, Kind::Normal, false);
+    went_well(&rt, tick_for_two(&rt, &desk, &mut clients));
+    settles(&rt, desk.into_room(), clients, 2);
+    Ok(())
 }
 
 /// Waits until the client of this thread sleeps, which has to come: its lock waits for the first client.
@@ -101,8 +93,25 @@ fn wait_for_sleep<R: Wait + Clock + Abort>(rt: &R, desk: &Desk<NoPause>, t: Tid)
 /// The time that is handed in, what that is answered, and how often the bells of the two that sleep have rung then.
 type Row = (u32, Result<(), DeskFault>, u64, u64);
 
-/// After each tick the bells of those have rung that are due, each once, and these sleep no longer.
-fn check_rings<R: Wait + Abort>(rt: &R, desk: &Desk<NoPause>, two: Tid, three: Tid) {
+/// After the tick of a row the bells have rung so often, and those whose bell has rung sleep no longer.
+fn check_row<R: Wait + Abort>(rt: &R, desk: &Desk<NoPause>, two: Tid, three: Tid, row: Row) {
+    let (time, answer, second, third) = row;
+    is_fault(rt, desk.tick(rt, time).err(), answer.err());
+    assert_eq!(rt;
+        (desk.rings(two), desk.rings(three)),
+        (Some(second), Some(third)),
+        "{time}"
+    );
+    assert_eq!(rt;
+        (desk.sleeps(rt, two), desk.sleeps(rt, three)),
+        (second == 0, third == 0),
+        "{time}"
+    );
+}
+
+/// Once both sleep, the times are handed in. After each tick the bells of those have rung that are due, each once, and
+/// these sleep no longer.
+fn tick_sleepers<R: Wait + Clock + Abort>(rt: &R, desk: &Desk<NoPause>, two: Tid, three: Tid) {
     let rows: [Row; 5] = [
         (6, Ok(()), 0, 0),
         (7, Ok(()), 1, 0),
@@ -110,32 +119,16 @@ fn check_rings<R: Wait + Abort>(rt: &R, desk: &Desk<NoPause>, two: Tid, three: T
         (7, Ok(()), 1, 0),
         (10, Ok(()), 1, 1),
     ];
+    wait_for_sleep(rt, desk, two);
+    wait_for_sleep(rt, desk, three);
     for row in rows {
-        let (time, answer, second, third) = row;
-        assert_eq!(rt; desk.tick(rt, time), answer, "{time}");
-        assert_eq!(rt;
-            (desk.rings(two), desk.rings(three)),
-            (Some(second), Some(third)),
-            "{time}"
-        );
-        assert_eq!(rt;
-            (desk.sleeps(rt, two), desk.sleeps(rt, three)),
-            (second == 0, third == 0),
-            "{time}"
-        );
+        check_row(rt, desk, two, three, row);
     }
 }
 
-/// Hands in the times once both sleep.
-fn tick_sleepers<R: Wait + Clock + Abort>(rt: &R, desk: &Desk<NoPause>, two: Tid, three: Tid) {
-    wait_for_sleep(rt, desk, two);
-    wait_for_sleep(rt, desk, three);
-    check_rings(rt, desk, two, three);
-}
-
 /// What a client is answered that locks the mutex until this time.
-fn answer_until<R: Wait>(
-    rt: &R,
+fn answer_until(
+    rt: &impl Wait,
     desk: &Desk<NoPause>,
     client: &mut Client,
     deadline: u32,
@@ -143,47 +136,63 @@ fn answer_until<R: Wait>(
     Ok(client.call(rt, desk, lock_until(deadline))?.answer)
 }
 
-/// The first client holds the mutex, and two sleep that lock it in threads of their own, with different deadlines.
+/// What two clients are answered that lock the mutex, each in a thread of its own, with different deadlines.
+fn lock_both<R: Threads + Wait + Sync>(
+    rt: &R,
+    desk: &Desk<NoPause>,
+    two: &mut Client,
+    three: &mut Client,
+) -> (Result<u32, DeskFault>, Result<u32, DeskFault>) {
+    join(
+        rt,
+        || answer_until(rt, desk, two, 7),
+        || answer_until(rt, desk, three, 9),
+    )
+}
+
+/// The first client holds the mutex, and two sleep that lock it in threads of their own.
 fn sleep_up_to_ticks<R: Threads + Wait + Clock + Abort + Sync>(
     rt: &R,
     desk: &Desk<NoPause>,
     one: &mut Client,
     two: &mut Client,
     three: &mut Client,
-) -> Result<(), Fail> {
+) -> Result<(), DeskFault> {
     let (second, third) = (two.thread(), three.thread());
     one.call(rt, desk, lock())?;
-    let ((), (a, b)) = join(
+    let ((), answers) = join(
         rt,
         || tick_sleepers(rt, desk, second, third),
-        || {
-            join(
-                rt,
-                || answer_until(rt, desk, two, 7),
-                || answer_until(rt, desk, three, 9),
-            )
-        },
+        || lock_both(rt, desk, two, three),
     );
-    assert_eq!(rt; (a, b), (Ok(110), Ok(110)));
+    is_answer(rt, answers.0, Ok(110));
+    is_answer(rt, answers.1, Ok(110));
     Ok(())
 }
 
 /// Two of three clients sleep until their deadlines. No bell is there for a thread beyond the limits.
-fn check_sleepers<R: Threads + Wait + Clock + Abort + Sync>(
+fn tick_for_three<R: Threads + Wait + Clock + Abort + Sync>(
     rt: &R,
-    alloc: Global,
-) -> Result<(), Fail> {
-    let mut clients = Vec::new(alloc);
-    let desk = desk_with(rt, alloc, NoPause, 3, &mut clients)?;
+    desk: &Desk<NoPause>,
+    clients: &mut Vec<Client>,
+) -> Result<(), DeskFault> {
+    enter(rt, desk, 3, clients)?;
     match clients.as_mut_slice() {
-        [one, two, three] => sleep_up_to_ticks(rt, &desk, one, two, three)?,
+        [one, two, three] => sleep_up_to_ticks(rt, desk, one, two, three)?,
         _ => panic!(rt; "there are not three clients"),
     }
-    assert_eq!(rt; desk.rings(scenes::thread(65)?), None);
+    holds(
+        rt,
+        desk.rings(scenes::thread(65)).is_none(),
+        "there is a bell",
+    );
     Ok(())
 }
 
 #[test]
 fn a_tick_wakes_who_is_due_and_nobody_else(rt: HostRuntime) -> Result<(), Fail> {
-    check_sleepers(&rt, rt.alloc())
+    let desk = desk_of(&rt, rt.alloc(), Kind::Normal, false)?;
+    let mut clients = Vec::new(rt.alloc());
+    went_well(&rt, tick_for_three(&rt, &desk, &mut clients));
+    Ok(())
 }
