@@ -8,12 +8,14 @@ mod texts;
 mod words_of_processes;
 
 use arrayvec::ArrayVec;
-use pif_cli::{command, words_of_the_program};
+use pif_cli::{Status, command, words_of_the_program};
 use std::alloc::Global;
 use std::io;
 use std::io::{ErrorKind, Read};
-use std::process::Abort;
+use std::process::{Abort, ExitCode};
+use std::str::from_utf8;
 use std::sync::Wait;
+use std::test::Fail;
 use std::thread::Threads;
 
 /// Keeps what is written, and allocates nothing; past its room it takes no byte.
@@ -51,6 +53,29 @@ fn asked(
     (status, output, errors)
 }
 
+/// A status, and whether the errors are told of nothing, are as expected for this text.
+fn check_ended(rt: &impl Abort, ended: (u8, bool), expected: (u8, bool), text: &str) {
+    assert_eq!(rt; ended, expected, "{text:?}");
+}
+
+/// These bytes are written for this text.
+fn check_bytes(rt: &impl Abort, written: &[u8], expected: &[u8], text: &str) {
+    assert!(rt; written == expected, "{text:?}");
+}
+
+/// A process ends with this status.
+fn check_status(rt: &impl Abort, ended: Status, status: u8) {
+    assert!(rt; ended.exit_code() == ExitCode::from(status));
+}
+
+/// What is written begins and ends so.
+fn check_ends(rt: &impl Abort, written: &[u8], ends: (&str, &str)) -> Result<(), Fail> {
+    let text = from_utf8(written)?;
+    let (first, last) = ends;
+    assert!(rt; text.starts_with(first) && text.ends_with(last), "{text:?}");
+    Ok(())
+}
+
 /// Does what the second word asks for over the input `text`, and checks the status and what is written; the errors are
 /// told of each status but 0.
 fn check(
@@ -63,12 +88,8 @@ fn check(
 ) {
     let words = ["pif", job];
     let (ended, output, errors) = asked(rt, alloc, words.as_slice(), text.as_bytes());
-    assert!(rt; output.as_slice() == answers.as_bytes(), "{text:?}");
-    assert_eq!(rt;
-        (ended, errors.is_empty()),
-        (status, status == 0),
-        "{text:?}"
-    );
+    check_ended(rt, (ended, errors.is_empty()), (status, status == 0), text);
+    check_bytes(rt, output.as_slice(), answers.as_bytes(), text);
 }
 
 #[test]
@@ -123,34 +144,54 @@ impl Read for Broken {
     }
 }
 
-#[test]
-fn a_failed_read_or_write_has_status_3(rt: HostRuntime) {
-    for job in ["run", "show", "draw", "check", "replay", "trace", "migrate"] {
-        let words = ["pif", job];
-        let mut output = Kept::new();
-        let mut errors = Kept::new();
-        let ended = command(
-            rt.alloc(),
-            &rt,
-            words.as_slice(),
-            &mut Broken,
-            &mut output,
-            &mut errors,
-        );
-        assert_eq!(rt; (ended, output.len()), (3, 0));
-    }
-    let mut output = ArrayVec::<u8, 4>::new();
+/// Does a job over an input that cannot be read: the status, and how many bytes are written.
+fn read_broken(rt: &(impl Threads + Wait + Sync), alloc: Global, job: &str) -> (u8, usize) {
+    let words = ["pif", job];
+    let mut output = Kept::new();
     let mut errors = Kept::new();
-    let words = ["pif", "run"];
     let ended = command(
-        rt.alloc(),
-        &rt,
+        alloc,
+        rt,
         words.as_slice(),
-        &mut BOOSTED.as_bytes(),
+        &mut Broken,
         &mut output,
         &mut errors,
     );
-    assert_eq!(rt; (ended, output.as_slice()), (3, b"t1\nt".as_slice()));
+    (ended, output.len())
+}
+
+/// Does what these words ask for, at an output that takes four bytes: the status.
+pub(crate) fn fill(
+    rt: &(impl Threads + Wait + Sync),
+    alloc: Global,
+    words: &[&str],
+    text: &[u8],
+    output: &mut ArrayVec<u8, 4>,
+) -> u8 {
+    let mut input = text;
+    command(alloc, rt, words, &mut input, output, &mut Kept::new())
+}
+
+/// A job ends with status 3, and has written these bytes.
+pub(crate) fn check_cut(rt: &impl Abort, ended: u8, written: &[u8], expected: &[u8]) {
+    assert!(rt; ended == 3 && written == expected);
+}
+
+#[test]
+fn a_failed_read_or_write_has_status_3(rt: HostRuntime) {
+    for job in ["run", "show", "draw", "check", "replay", "trace", "migrate"] {
+        assert_eq!(rt; read_broken(&rt, rt.alloc(), job), (3, 0));
+    }
+    let mut output = ArrayVec::<u8, 4>::new();
+    let words = ["pif", "run"];
+    let ended = fill(
+        &rt,
+        rt.alloc(),
+        words.as_slice(),
+        BOOSTED.as_bytes(),
+        &mut output,
+    );
+    check_cut(&rt, ended, output.as_slice(), b"t1\nt".as_slice());
 }
 
 /// Each allocation of a run is refused in turn by `rt try --test --fail-alloc N`: then nothing is written but the message.
@@ -162,6 +203,12 @@ fn out_of_memory_writes_nothing(rt: HostRuntime) {
         4 => ("", "pif: out of memory\n"),
         _ => (BOOSTED_ANSWERS, ""),
     };
-    assert!(rt; output.as_slice() == answers.as_bytes());
-    assert!(rt; errors.as_slice() == message.as_bytes() && (ended == 4 || ended == 0));
+    check_bytes(&rt, output.as_slice(), answers.as_bytes(), "the answers");
+    check_bytes(&rt, errors.as_slice(), message.as_bytes(), "the message");
+    check_end(&rt, ended);
+}
+
+/// A job ends with status 0, or with 4 where it is out of memory.
+pub(crate) fn check_end(rt: &impl Abort, ended: u8) {
+    assert!(rt; ended == 4 || ended == 0);
 }

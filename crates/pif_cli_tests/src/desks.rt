@@ -1,7 +1,7 @@
 //! The journal of a desk as a trace. One growth of memory may be refused anywhere: what was refused is then asked again,
 //! and no answer changes.
 use crate::commands::Kept;
-use pif_desk::{Book, Client, Desk, DeskFault, NoPause};
+use pif_desk::{Book, Client, Desk, DeskFault, NoPause, Room};
 use pif_scripts::{CliFault, replay, write_trace};
 use pif_types::{CondId, Kind, Limits, MutexId, NoMemory, Refusal, Request, with_room};
 use std::alloc::Global;
@@ -118,15 +118,28 @@ fn enter<R: Wait>(rt: &R, desk: &Desk<NoPause>, prio: u32) -> Result<Client, Des
     }
 }
 
+/// A client of this priority is added to those that are there.
+fn add_client<R: Wait>(
+    rt: &R,
+    desk: &Desk<NoPause>,
+    prio: u32,
+    clients: &mut Vec<Client>,
+) -> Result<(), DeskFault> {
+    match clients.push(enter(rt, desk, prio)?) {
+        Ok(()) => Ok(()),
+        Err(_) => Err(DeskFault::NoMemory),
+    }
+}
+
 /// Two clients at this desk, with a robust mutex and a condition variable.
 fn make_calls<R: Wait + Abort>(
     rt: &R,
     desk: &Desk<NoPause>,
     clients: &mut Vec<Client>,
-) -> Result<(), Fail> {
+) -> Result<(), DeskFault> {
     let scene = make_scene(rt, desk, true)?;
-    clients.push(enter(rt, desk, 10)?)?;
-    clients.push(enter(rt, desk, 20)?)?;
+    add_client(rt, desk, 10, clients)?;
+    add_client(rt, desk, 20, clients)?;
     match clients.as_mut_slice() {
         [one, two] => pass_on(rt, desk, one, two, scene),
         _ => panic!(rt; "there are not two clients"),
@@ -139,12 +152,30 @@ fn check_book(rt: &impl Abort, alloc: Global, book: &Book, answered: u64, verdic
     let mut trace = Kept::new();
     let mut output = Kept::new();
     let written = write_trace(book.limits, book.entries.as_slice(), &mut trace);
-    let mut ended = replay(alloc, &mut trace.as_slice(), &mut output);
-    if ended == Err(CliFault::NoMemory) {
-        ended = replay(alloc, &mut trace.as_slice(), &mut output);
+    let ended = replay_again(alloc, &trace, &mut output);
+    check_replayed(rt, (book.answered, written, ended), answered);
+    check_verdict(rt, output.as_slice(), verdict);
+}
+
+/// Replays a trace, at the second time where memory was refused.
+fn replay_again(alloc: Global, trace: &Kept, output: &mut Kept) -> Result<(), CliFault> {
+    match replay(alloc, &mut trace.as_slice(), output) {
+        Err(CliFault::NoMemory) => replay(alloc, &mut trace.as_slice(), output),
+        ended => ended,
     }
-    assert_eq!(rt; (book.answered, written, ended), (answered, Ok(()), Ok(())));
-    assert_eq!(rt; output.as_slice(), verdict.as_bytes());
+}
+
+/// How many calls a book has that were answered, and what came of writing and replaying its trace.
+type Replayed = (u64, Result<(), CliFault>, Result<(), CliFault>);
+
+/// So many calls were answered, and the trace was written and replayed.
+fn check_replayed(rt: &impl Abort, replayed: Replayed, answered: u64) {
+    assert_eq!(rt; replayed, (answered, Ok(()), Ok(())));
+}
+
+/// A replay has printed this.
+fn check_verdict(rt: &impl Abort, output: &[u8], verdict: &str) {
+    assert!(rt; output == verdict.as_bytes(), "{verdict:?}");
 }
 
 /// A list with room for two clients.
@@ -163,14 +194,24 @@ fn desk_of(alloc: Global, limits: Limits) -> Result<Desk<NoPause>, NoMemory> {
     }
 }
 
+/// The room settles with these clients, and the book is replayed.
+fn check_settled(rt: &impl Abort, alloc: Global, room: Room, clients: Vec<Client>, verdict: &str) {
+    match room.settle(clients) {
+        Ok(book) => check_book(rt, alloc, &book, 5, verdict),
+        Err(_) => panic!(rt; "the desk does not settle"),
+    }
+}
+
+/// What was done ended without a fault.
+fn went_well(rt: &impl Abort, done: Result<(), DeskFault>) {
+    assert_eq!(rt; done, Ok(()));
+}
+
 /// Two clients make their calls and settle, and the book is replayed: 4 additions, 36 events, and the line of the limits.
 fn settle<R: Wait + Abort>(rt: &R, alloc: Global, desk: Desk<NoPause>) -> Result<(), Fail> {
     let mut clients = room_for_two(alloc)?;
-    make_calls(rt, &desk, &mut clients)?;
-    match desk.into_room().settle(clients) {
-        Ok(book) => check_book(rt, alloc, &book, 5, "same 41\n"),
-        Err(_) => panic!(rt; "the desk does not settle"),
-    }
+    went_well(rt, make_calls(rt, &desk, &mut clients));
+    check_settled(rt, alloc, desk.into_room(), clients, "same 41\n");
     Ok(())
 }
 
@@ -213,9 +254,9 @@ fn make_timed_calls<R: Wait + Abort>(
     rt: &R,
     desk: &Desk<NoPause>,
     clients: &mut Vec<Client>,
-) -> Result<(), Fail> {
+) -> Result<(), DeskFault> {
     let scene = make_scene(rt, desk, false)?;
-    clients.push(enter(rt, desk, 10)?)?;
+    add_client(rt, desk, 10, clients)?;
     match clients.as_mut_slice() {
         [client] => run_out_of_time(rt, desk, client, scene),
         _ => panic!(rt; "there is not one client"),
@@ -228,11 +269,8 @@ fn make_timed_calls<R: Wait + Abort>(
 /// and 2 to lock, each behind its begin; and the line of the limits.
 fn settle_in_time<R: Wait + Abort>(rt: &R, alloc: Global, desk: Desk<NoPause>) -> Result<(), Fail> {
     let mut clients = room_for_two(alloc)?;
-    make_timed_calls(rt, &desk, &mut clients)?;
-    match desk.into_room().settle(clients) {
-        Ok(book) => check_book(rt, alloc, &book, 5, "same 26\n"),
-        Err(_) => panic!(rt; "the desk does not settle"),
-    }
+    went_well(rt, make_timed_calls(rt, &desk, &mut clients));
+    check_settled(rt, alloc, desk.into_room(), clients, "same 26\n");
     Ok(())
 }
 

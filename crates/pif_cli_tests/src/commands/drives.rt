@@ -1,12 +1,13 @@
 //! Clients in real threads.
-use super::{BOOSTED, Kept};
+ghost use Rattle.std.specs.Prelude.{◌≤◌};
+
+use super::{BOOSTED, Kept, check_bytes, check_cut, fill};
 use arrayvec::ArrayVec;
 use pif_cli::{DriveFault, Ending, command, drive_book, end_of};
-use pif_desk::{Book, Desk, DeskFault, Entry, Event, NoPause, Pause, Seen};
+use pif_desk::{Book, Client, Desk, DeskFault, Entry, Event, NoPause, Pause, Seen};
 use pif_types::{Kind, Limits, MutexId, Prio, Request, Tid};
 use std::alloc::Global;
 use std::process::Abort;
-use std::str::from_utf8;
 use std::sync::Wait;
 use std::sync::atomic::{AtomicBool, Ordering};
 use std::test::Fail;
@@ -41,15 +42,20 @@ fn check_drive(
     clients: &str,
     status: u8,
     text: &str,
-) -> Result<(), Fail> {
+) {
     let mut output = Kept::new();
-    assert_eq!(rt; drive(rt, alloc, clients, &mut output), (status, true));
-    assert_eq!(rt; from_utf8(output.as_slice())?, text, "{clients:?}");
-    Ok(())
+    let driven = drive(rt, alloc, clients, &mut output);
+    check_driven(rt, driven, status);
+    check_bytes(rt, output.as_slice(), text.as_bytes(), clients);
+}
+
+/// A drive has this status, and has read nothing.
+fn check_driven(rt: &impl Abort, driven: (u8, bool), status: u8) {
+    assert_eq!(rt; driven, (status, true));
 }
 
 #[test]
-fn drive_runs_real_threads(rt: HostRuntime) -> Result<(), Fail> {
+fn drive_runs_real_threads(rt: HostRuntime) {
     let drives = [
         ("1", 0, "answered 200\n"),
         ("2", 0, "answered 400\n"),
@@ -59,15 +65,14 @@ fn drive_runs_real_threads(rt: HostRuntime) -> Result<(), Fail> {
         ("two", 1, ""),
     ];
     for (clients, status, text) in drives {
-        check_drive(&rt, rt.alloc(), clients, status, text)?;
+        check_drive(&rt, rt.alloc(), clients, status, text);
     }
-    Ok(())
 }
 
 /// Each allocation is refused in turn by `rt try --test --fail-alloc N`: then nothing is written, or a thread could not
 /// be started.
 #[test]
-fn refused_memory_ends_a_drive(rt: HostRuntime) -> Result<(), Fail> {
+fn refused_memory_ends_a_drive(rt: HostRuntime) {
     let mut output = Kept::new();
     let (status, _) = drive(&rt, rt.alloc(), "2", &mut output);
     let text = match status {
@@ -75,24 +80,27 @@ fn refused_memory_ends_a_drive(rt: HostRuntime) -> Result<(), Fail> {
         6 => "fault threads\n",
         _ => "answered 400\n",
     };
-    assert_eq!(rt; from_utf8(output.as_slice())?, text, "{status}");
+    check_bytes(&rt, output.as_slice(), text.as_bytes(), "a drive");
+    check_one_of_three(&rt, status);
+}
+
+/// A drive was done, or refused memory, or a thread could not be started.
+fn check_one_of_three(rt: &impl Abort, status: u8) {
     assert!(rt; status == 0 || status == 4 || status == 6);
-    Ok(())
 }
 
 #[test]
 fn a_count_that_cannot_be_written_has_status_3(rt: HostRuntime) {
     let mut output = ArrayVec::<u8, 4>::new();
     let words = ["pif", "drive", "1"];
-    let status = command(
-        rt.alloc(),
+    let ended = fill(
         &rt,
+        rt.alloc(),
         words.as_slice(),
-        &mut BOOSTED.as_bytes(),
+        BOOSTED.as_bytes(),
         &mut output,
-        &mut Kept::new(),
     );
-    assert_eq!(rt; (status, output.as_slice()), (3, b"answ".as_slice()));
+    check_cut(&rt, ended, output.as_slice(), b"answ");
 }
 
 /// How often a held client looks whether it may go on, a millisecond each time.
@@ -137,36 +145,46 @@ impl Pause for Overlap {
     }
 }
 
+/// A thread of this number and of the priority of the same number was added.
+fn added_thread(number: u32) -> Entry
+    requires { (1 ≤ number) × (number ≤ 99) }
+{
+    Entry::Thread(Tid::new(number).unwrap(), Prio::new(number).unwrap())
+}
+
 /// What a drive of two clients adds: the mutex, and threads of the priorities 1 and 2.
-fn added() -> Result<[Entry; 3], Fail> {
-    Ok([
+fn added() -> [Entry; 3] {
+    [
         Entry::Mutex(MutexId::default(), Kind::ErrorCheck, true),
-        Entry::Thread(
-            Tid::new(1).ok_or("a thread")?,
-            Prio::new(1).ok_or("a priority")?,
-        ),
-        Entry::Thread(
-            Tid::new(2).ok_or("a thread")?,
-            Prio::new(2).ok_or("a priority")?,
-        ),
-    ])
+        added_thread(1),
+        added_thread(2),
+    ]
+}
+
+/// The call that a thread begins after so many others: a lock or an unlock of the mutex, in turn.
+fn request_after(begun: u32) -> Request {
+    if begun % 2 == 0 {
+        Request::Lock(MutexId::default())
+    } else {
+        Request::Unlock(MutexId::default())
+    }
+}
+
+/// The request of a call that this thread begins by an entry.
+fn begun_by(entry: &Entry, thread: u32) -> Option<Request> {
+    match entry {
+        Entry::Step(Event::Begin(t, request), _) if t.get() == thread => Some(*request),
+        _ => None,
+    }
 }
 
 /// A thread begins 200 calls in these entries: in turn a lock and an unlock of the mutex.
 fn check_requests(rt: &impl Abort, entries: &[Entry], thread: u32) {
-    let mutex = MutexId::default();
     let mut begun = 0u32;
     for entry in entries {
-        if let Entry::Step(Event::Begin(t, request), _) = entry {
-            if t.get() == thread {
-                let expected = if begun % 2 == 0 {
-                    Request::Lock(mutex)
-                } else {
-                    Request::Unlock(mutex)
-                };
-                assert_eq!(rt; *request, expected);
-                begun = begun.wrapping_add(1);
-            }
+        if let Some(request) = begun_by(entry, thread) {
+            assert_eq!(rt; request, request_after(begun));
+            begun = begun.wrapping_add(1);
         }
     }
     assert_eq!(rt; begun, 200);
@@ -192,19 +210,23 @@ fn overlaps(entries: &[Entry]) -> bool {
 }
 
 /// Checks the book of a drive of two clients that were held.
-fn check_book(rt: &impl Abort, book: &Book) -> Result<(), Fail> {
+fn check_book(rt: &impl Abort, book: &Book) {
     let entries = book.entries.as_slice();
-    let additions = added()?;
-    assert_eq!(rt; Some(book.limits), Limits::new(2, 1, 0, 1));
-    assert!(rt; entries.starts_with(additions.as_slice()));
+    check_additions(rt, book);
     check_requests(rt, entries, 1);
     check_requests(rt, entries, 2);
     assert!(rt; overlaps(entries));
-    Ok(())
+}
+
+/// The book has the limits of a drive of two clients, and begins with what that adds.
+fn check_additions(rt: &impl Abort, book: &Book) {
+    let additions = added();
+    assert_eq!(rt; Some(book.limits), Limits::new(2, 1, 0, 1));
+    assert!(rt; book.entries.as_slice().starts_with(additions.as_slice()));
 }
 
 #[test]
-fn drive_makes_the_mutex_clients_and_calls_of_its_help(rt: HostRuntime) -> Result<(), Fail> {
+fn drive_makes_the_mutex_clients_and_calls_of_its_help(rt: HostRuntime) {
     let pause = Overlap {
         rt,
         one_begun: AtomicBool::new(false),
@@ -218,20 +240,40 @@ fn drive_makes_the_mutex_clients_and_calls_of_its_help(rt: HostRuntime) -> Resul
 }
 
 /// A client that holds the mutex is out of memory, and ends; what the next is answered that tries to lock it.
-fn leave_with_mutex<R: Wait + Abort>(rt: &R, desk: &Desk<NoPause>) -> Result<u32, Fail> {
+fn leave_with_mutex<R: Wait + Abort>(rt: &R, desk: &Desk<NoPause>) -> Result<u32, DeskFault> {
     let mutex = desk.make_mutex(rt, Kind::ErrorCheck, true)?;
-    let mut one = desk.enter(rt, 1)?;
+    let one = desk.enter(rt, 1)?;
     let mut two = desk.enter(rt, 2)?;
+    end_with_mutex(rt, desk, mutex, one, &mut two)
+}
+
+/// The first client locks the mutex, is out of memory, and ends; what the second is answered that tries to lock it.
+fn end_with_mutex<R: Wait + Abort>(
+    rt: &R,
+    desk: &Desk<NoPause>,
+    mutex: MutexId,
+    mut one: Client,
+    two: &mut Client,
+) -> Result<u32, DeskFault> {
     one.call(rt, desk, Request::Lock(mutex))?;
-    let ended = end_of(rt, desk, mutex, one, Err(DeskFault::NoMemory));
-    assert!(rt; matches!(ended, Ending::Fault(DriveFault::NoMemory)));
+    is_out_of_memory(rt, &end_of(rt, desk, mutex, one, Err(DeskFault::NoMemory)));
     Ok(two.call(rt, desk, Request::TryLock(mutex))?.answer)
+}
+
+/// A client was out of memory.
+fn is_out_of_memory(rt: &impl Abort, ended: &Ending) {
+    assert!(rt; matches!(*ended, Ending::Fault(DriveFault::NoMemory)));
+}
+
+/// The mutex comes from an owner that has ended.
+fn check_left(rt: &impl Abort, answer: Result<u32, DeskFault>) {
+    assert_eq!(rt; answer, Ok(130));
 }
 
 #[test]
 fn client_out_of_memory_ends(rt: HostRuntime) -> Result<(), Fail> {
     let limits = Limits::new(2, 1, 0, 1).ok_or("limits")?;
     let desk = Desk::new(rt.alloc(), limits, NoPause)?;
-    assert_eq!(rt; leave_with_mutex(&rt, &desk)?, 130);
+    check_left(&rt, leave_with_mutex(&rt, &desk));
     Ok(())
 }

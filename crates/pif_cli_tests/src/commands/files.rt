@@ -1,7 +1,6 @@
-use super::Kept;
+use super::{Kept, check_bytes, check_status};
 use crate::processes::Process;
 use pif_cli::command_of_process;
-use std::process::ExitCode;
 
 const STORY: &[u8] = b"thread 10 = t1\n";
 
@@ -69,8 +68,8 @@ fn files_are_read_in_turn(rt: HostRuntime) {
         let (mut output, mut errors) = (Kept::new(), Kept::new());
         let mut input = STORY;
         let ended = command_of_process(&process, &mut input, &mut output, &mut errors);
-        assert!(rt; ended.exit_code() == ExitCode::from(status));
-        assert!(rt; output.as_slice() == written.0.as_bytes());
-        assert!(rt; errors.as_slice() == written.1.as_bytes());
+        check_status(&rt, ended, status);
+        check_bytes(&rt, output.as_slice(), written.0.as_bytes(), "the output");
+        check_bytes(&rt, errors.as_slice(), written.1.as_bytes(), "the errors");
     }
 }

@@ -1,4 +1,4 @@
-use super::{Broken, Kept};
+use super::{Broken, Kept, check_bytes, check_ended};
 use arrayvec::ArrayVec;
 use pif_cli::{Job, JobFault, command, message_of};
 use pif_scripts::{Cause, CliFault, Notice};
@@ -29,8 +29,13 @@ fn check_told<R: Read>(
         &mut Kept::new(),
         &mut errors,
     );
+    check_job(rt, ended, status, message);
+    check_bytes(rt, errors.as_slice(), message.as_bytes(), message);
+}
+
+/// A job has this status.
+fn check_job(rt: &impl Abort, ended: u8, status: u8, message: &str) {
     assert_eq!(rt; ended, status, "{message:?}");
-    assert!(rt; errors.as_slice() == message.as_bytes(), "{message:?}");
 }
 
 /// Checks what the errors are told of an input, whose job ends with this status.
@@ -283,6 +288,19 @@ fn a_failed_read_is_told(rt: HostRuntime) {
     }
 }
 
+/// What the errors are told where the output takes too few bytes.
+const UNWRITTEN: &str = "pif: the output cannot be written\n";
+
+/// What asks for more than four bytes of output.
+const LONG: [&[&str]; 6] = [
+    &["pif", "run"],
+    &["pif", "trace"],
+    &["pif", "random", "--seed=1", "--lines=9"],
+    &["pif", "--help"],
+    &["pif", "--version"],
+    &["pif", "replay", "--help"],
+];
+
 /// Checks that the errors are told of an output that takes four bytes, whatever the words ask for.
 fn check_unwritten(
     rt: &(impl Abort + Threads + Wait + Sync),
@@ -294,21 +312,13 @@ fn check_unwritten(
     let mut errors = Kept::new();
     let mut input = script.as_bytes();
     let ended = command(alloc, rt, words, &mut input, &mut output, &mut errors);
-    assert_eq!(rt; (ended, output.len()), (3, 4), "{words:?}");
-    assert!(rt; errors.as_slice() == b"pif: the output cannot be written\n".as_slice());
+    check_ended(rt, (ended, output.len() == 4), (3, true), script);
+    check_bytes(rt, errors.as_slice(), UNWRITTEN.as_bytes(), script);
 }
 
 #[test]
 fn a_failed_write_is_told(rt: HostRuntime) {
-    let asked = [
-        ["pif", "run"].as_slice(),
-        ["pif", "trace"].as_slice(),
-        ["pif", "random", "--seed=1", "--lines=9"].as_slice(),
-        ["pif", "--help"].as_slice(),
-        ["pif", "--version"].as_slice(),
-        ["pif", "replay", "--help"].as_slice(),
-    ];
-    for words in asked {
+    for words in LONG {
         check_unwritten(&rt, rt.alloc(), words, "thread 10\nthread 20\n");
     }
 }
@@ -320,19 +330,31 @@ fn a_message_that_cannot_be_written_leaves_the_status(rt: HostRuntime) {
         ("replay", "pif-trace 1\nthread 10 = t2\n", 5),
     ];
     for (job, text, status) in jobs {
-        let mut errors = ArrayVec::<u8, 4>::new();
-        let words = ["pif", job];
-        let mut input = text.as_bytes();
-        let ended = command(
-            rt.alloc(),
-            &rt,
-            words.as_slice(),
-            &mut input,
-            &mut Kept::new(),
-            &mut errors,
-        );
-        assert_eq!(rt; (ended, errors.as_slice()), (status, b"pif:".as_slice()));
+        check_cut_message(&rt, rt.alloc(), job, text, status);
     }
+}
+
+/// Does a job whose errors take four bytes, and checks its status, and that these are written.
+fn check_cut_message(
+    rt: &(impl Abort + Threads + Wait + Sync),
+    alloc: Global,
+    job: &str,
+    text: &str,
+    status: u8,
+) {
+    let mut errors = ArrayVec::<u8, 4>::new();
+    let words = ["pif", job];
+    let mut input = text.as_bytes();
+    let ended = command(
+        alloc,
+        rt,
+        words.as_slice(),
+        &mut input,
+        &mut Kept::new(),
+        &mut errors,
+    );
+    check_job(rt, ended, status, text);
+    check_bytes(rt, errors.as_slice(), b"pif:", text);
 }
 
 /// A text, so many times these bytes, and another text.
@@ -359,9 +381,20 @@ fn a_line_is_shown_in_120_bytes_at_most(rt: HostRuntime) -> Result<(), Fail> {
     for (bytes, times, said, shown, count) in lines {
         let script = filled(b"pick\n", bytes, times, b"\n");
         let message = filled(said, shown, count, b"\n");
-        let told = (2, from_utf8(message.as_slice())?);
-        check_input(&rt, rt.alloc(), "run", script.as_slice(), told);
+        check_run(&rt, rt.alloc(), &script, &message)?;
     }
+    Ok(())
+}
+
+/// Runs a script, and checks that its status is 2 and that the errors are told this.
+fn check_run(
+    rt: &(impl Abort + Threads + Wait + Sync),
+    alloc: Global,
+    script: &Kept,
+    message: &Kept,
+) -> Result<(), Fail> {
+    let told = (2, from_utf8(message.as_slice())?);
+    check_input(rt, alloc, "run", script.as_slice(), told);
     Ok(())
 }
 
@@ -376,9 +409,7 @@ fn check_no_command(
     let mut message = filled(b"pif: line 1, column ", said.as_bytes(), 1, b": ");
     let _ = message.try_extend_from_slice(line.as_bytes());
     let _ = message.try_extend_from_slice(b"\n");
-    let told = (2, from_utf8(message.as_slice())?);
-    check_input(rt, alloc, "run", script.as_slice(), told);
-    Ok(())
+    check_run(rt, alloc, &script, &message)
 }
 
 /// Lines that are no commands, and what is told of them.
@@ -456,6 +487,6 @@ fn faults_without_a_line_are_told_by_their_words(rt: HostRuntime) {
     for (fault, message) in faults {
         let mut errors = Kept::new();
         message_of(Job::Run, "-", fault, &Notice::new()).tell(&mut errors);
-        assert!(rt; errors.as_slice() == message.as_bytes(), "{message:?}");
+        check_bytes(&rt, errors.as_slice(), message.as_bytes(), message);
     }
 }

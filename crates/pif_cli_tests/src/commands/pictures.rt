@@ -1,9 +1,8 @@
-use super::{Kept, asked};
+use super::{Kept, asked, check_bytes, check_ended, check_ends};
 use arrayvec::ArrayVec;
 use pif_cli::command;
 use std::alloc::Global;
 use std::process::Abort;
-use std::str::from_utf8;
 use std::sync::Wait;
 use std::test::Fail;
 use std::thread::Threads;
@@ -25,49 +24,55 @@ fn check(
     let mut errors = Kept::new();
     let mut input = WAITING.as_bytes();
     let ended = command(alloc, rt, words, &mut input, &mut output, &mut errors);
-    let drawn = from_utf8(output.as_slice())?;
-    let (first, last) = ends;
-    assert!(rt;
-        (ended, errors.len()) == (0, 0) && drawn.starts_with(first) && drawn.ends_with(last),
-        "{words:?}: {drawn:?}"
-    );
-    Ok(())
+    check_ended(rt, (ended, errors.is_empty()), (0, true), "a picture");
+    check_ends(rt, output.as_slice(), ends)
 }
+
+/// How the states begin and end.
+const STATES: (&str, &str) = (
+    "{\"line\":1,\"command\":\"thread 10\",\"answer\":\"t1\",",
+    "\"chains\":[[\"t2\",\"m1\",\"t1\"]]}\n",
+);
+
+/// How a graph begins and ends.
+const GRAPH: (&str, &str) = ("digraph waiting {\n", "}\n");
+
+/// What is asked, and how what is written begins and ends.
+const PICTURES: [(&[&str], (&str, &str)); 6] = [
+    (&["pif", "draw"], ("<svg ", "</svg>\n")),
+    (&["pif", "show", "--json"], STATES),
+    (&["pif", "show", "--dot"], GRAPH),
+    (&["pif", "show", "--dot", "--json"], STATES),
+    (&["pif", "show", "--all", "--dot"], GRAPH),
+    (&["pif", "show", "--all", "--json"], STATES),
+];
 
 #[test]
 fn each_picture_is_written(rt: HostRuntime) -> Result<(), Fail> {
-    let states = (
-        "{\"line\":1,\"command\":\"thread 10\",\"answer\":\"t1\",",
-        "\"chains\":[[\"t2\",\"m1\",\"t1\"]]}\n",
-    );
-    let graph = ("digraph waiting {\n", "}\n");
-    let pictures: [(&[&str], (&str, &str)); 6] = [
-        (["pif", "draw"].as_slice(), ("<svg ", "</svg>\n")),
-        (["pif", "show", "--json"].as_slice(), states),
-        (["pif", "show", "--dot"].as_slice(), graph),
-        (["pif", "show", "--dot", "--json"].as_slice(), states),
-        (["pif", "show", "--all", "--dot"].as_slice(), graph),
-        (["pif", "show", "--all", "--json"].as_slice(), states),
-    ];
-    for (words, ends) in pictures {
+    for (words, ends) in PICTURES {
         check(&rt, rt.alloc(), words, ends)?;
     }
     Ok(())
 }
 
+/// What asks for a picture of each kind.
+const KINDS: [&[&str]; 3] = [
+    &["pif", "draw"],
+    &["pif", "show", "--json"],
+    &["pif", "show", "--dot"],
+];
+
+/// A story with a fault.
+const SLIP: &str = "# A slip.\nthread 10\nlok\n";
+
+/// What is told of it.
+const TOLD: &str = "pif: line 3, column 1: no such command: lok\n";
+
 #[test]
 fn no_picture_is_written_of_a_story_with_a_fault(rt: HostRuntime) {
-    let story = "# A slip.\nthread 10\nlok\n".as_bytes();
-    let words: [&[&str]; 3] = [
-        ["pif", "draw"].as_slice(),
-        ["pif", "show", "--json"].as_slice(),
-        ["pif", "show", "--dot"].as_slice(),
-    ];
-    for words in words {
-        let (ended, output, errors) = asked(&rt, rt.alloc(), words, story);
-        assert!(rt; (ended, output.len()) == (2, 0));
-        assert!(rt;
-            errors.as_slice() == "pif: line 3, column 1: no such command: lok\n".as_bytes()
-        );
+    for words in KINDS {
+        let (ended, output, errors) = asked(&rt, rt.alloc(), words, SLIP.as_bytes());
+        check_ended(&rt, (ended, output.is_empty()), (2, true), SLIP);
+        check_bytes(&rt, errors.as_slice(), TOLD.as_bytes(), SLIP);
     }
 }

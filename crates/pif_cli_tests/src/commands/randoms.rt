@@ -1,5 +1,5 @@
 //! Random scripts.
-use super::{BOOSTED, Kept, asked};
+use super::{BOOSTED, Kept, asked, check_bytes, check_end, check_ended};
 use arrayvec::ArrayVec;
 use pif_cli::command;
 use std::alloc::Global;
@@ -12,7 +12,7 @@ use std::thread::Threads;
 /// The random script of these words; the program ends with status 0, and says nothing to the errors.
 fn script_of(rt: &(impl Abort + Threads + Wait + Sync), alloc: Global, words: &[&str]) -> Kept {
     let (status, output, errors) = asked(rt, alloc, words, b"");
-    assert_eq!(rt; (status, errors.len()), (0, 0), "{words:?}");
+    check_ended(rt, (status, errors.is_empty()), (0, true), "a script");
     output
 }
 
@@ -30,80 +30,82 @@ fn counts(script: &Kept) -> [usize; 4] {
     [b"thread ".as_slice(), b"mutex ", b"cond ", b""].map(|word| count(script, word))
 }
 
+/// A script adds so many threads, mutexes and condition variables, and has so many lines.
+fn check_counts(rt: &impl Abort, script: &Kept, wanted: [usize; 4]) {
+    assert_eq!(rt; counts(script), wanted);
+}
+
+/// What asks for a script, and what it has.
+const COUNTED: [(&[&str], [usize; 4]); 5] = [
+    (
+        &["pif", "random", "--seed", "3", "--lines", "8"],
+        [4, 3, 1, 9],
+    ),
+    (
+        &[
+            "pif",
+            "random",
+            "--lines=9",
+            "--conds=2",
+            "--mutexes",
+            "5",
+            "--threads",
+            "2",
+            "--seed=3",
+        ],
+        [2, 5, 2, 10],
+    ),
+    (
+        &[
+            "pif",
+            "random",
+            "--seed",
+            "18446744073709551615",
+            "--lines",
+            "1",
+        ],
+        [1, 0, 0, 2],
+    ),
+    (
+        &[
+            "pif",
+            "random",
+            "--seed",
+            "0",
+            "--lines",
+            "2",
+            "--threads",
+            "1",
+            "--mutexes",
+            "0",
+            "--conds",
+            "0",
+        ],
+        [1, 0, 0, 3],
+    ),
+    (
+        &[
+            "pif",
+            "random",
+            "--seed",
+            "0",
+            "--lines",
+            "9",
+            "--threads",
+            "1024",
+            "--mutexes",
+            "1024",
+            "--conds",
+            "256",
+        ],
+        [9, 0, 0, 10],
+    ),
+];
+
 #[test]
 fn the_counts_are_those_that_were_asked_for(rt: HostRuntime) {
-    let scripts = [
-        (
-            ["pif", "random", "--seed", "3", "--lines", "8"].as_slice(),
-            [4, 3, 1, 9],
-        ),
-        (
-            [
-                "pif",
-                "random",
-                "--lines=9",
-                "--conds=2",
-                "--mutexes",
-                "5",
-                "--threads",
-                "2",
-                "--seed=3",
-            ]
-            .as_slice(),
-            [2, 5, 2, 10],
-        ),
-        (
-            [
-                "pif",
-                "random",
-                "--seed",
-                "18446744073709551615",
-                "--lines",
-                "1",
-            ]
-            .as_slice(),
-            [1, 0, 0, 2],
-        ),
-        (
-            [
-                "pif",
-                "random",
-                "--seed",
-                "0",
-                "--lines",
-                "2",
-                "--threads",
-                "1",
-                "--mutexes",
-                "0",
-                "--conds",
-                "0",
-            ]
-            .as_slice(),
-            [1, 0, 0, 3],
-        ),
-        (
-            [
-                "pif",
-                "random",
-                "--seed",
-                "0",
-                "--lines",
-                "9",
-                "--threads",
-                "1024",
-                "--mutexes",
-                "1024",
-                "--conds",
-                "256",
-            ]
-            .as_slice(),
-            [9, 0, 0, 10],
-        ),
-    ];
-    for (words, wanted) in scripts {
-        let script = script_of(&rt, rt.alloc(), words);
-        assert_eq!(rt; counts(&script), wanted, "{words:?}");
+    for (words, wanted) in COUNTED {
+        check_counts(&rt, &script_of(&rt, rt.alloc(), words), wanted);
     }
 }
 
@@ -120,19 +122,23 @@ fn has(script: &Kept) -> [bool; 3] {
     ]
 }
 
+/// A script has just these of a robust mutex, an end and a tick.
+fn check_has(rt: &impl Abort, script: &Kept, wanted: [bool; 3]) {
+    assert_eq!(rt; has(script), wanted);
+}
+
+/// Options, and whether their script has a robust mutex, an end and a tick.
+const PARTS: [(&[&str], [bool; 3]); 5] = [
+    (&["--times", "--ends", "--robust"], [true, true, true]),
+    (&["--robust"], [true, false, false]),
+    (&["--ends"], [false, true, false]),
+    (&["--times"], [false, false, true]),
+    (&[], [false, false, false]),
+];
+
 #[test]
 fn only_what_was_asked_for_is_there(rt: HostRuntime) {
-    let scripts = [
-        (
-            ["--times", "--ends", "--robust"].as_slice(),
-            [true, true, true],
-        ),
-        (["--robust"].as_slice(), [true, false, false]),
-        (["--ends"].as_slice(), [false, true, false]),
-        (["--times"].as_slice(), [false, false, true]),
-        ([].as_slice(), [false, false, false]),
-    ];
-    for (options, wanted) in scripts {
+    for (options, wanted) in PARTS {
         let mut words = ArrayVec::<&str, 9>::new();
         let _ = words.try_extend_from_slice([
             "pif",
@@ -141,8 +147,7 @@ fn only_what_was_asked_for_is_there(rt: HostRuntime) {
             "--lines=200",
         ].as_slice());
         let _ = words.try_extend_from_slice(options);
-        let script = script_of(&rt, rt.alloc(), words.as_slice());
-        assert_eq!(rt; has(&script), wanted, "{options:?}");
+        check_has(&rt, &script_of(&rt, rt.alloc(), words.as_slice()), wanted);
     }
 }
 
@@ -167,15 +172,21 @@ fn a_seed_gives_one_script_that_has_no_fault(rt: HostRuntime) {
     let script = script_of(&rt, rt.alloc(), words.as_slice());
     for (asked_for, same) in [(words, true), (other, false)] {
         let given = script_of(&rt, rt.alloc(), asked_for.as_slice());
-        assert_eq!(rt; given.as_slice() == script.as_slice(), same);
+        check_same(&rt, &given, &script, same);
     }
-    let (status, answers, _) = asked(
-        &rt,
-        rt.alloc(),
-        ["pif", "run"].as_slice(),
-        script.as_slice(),
-    );
-    assert_eq!(rt; (status, count(&answers, b"")), (0, 91));
+    assert_eq!(rt; answered(&rt, rt.alloc(), &script), (0, 91));
+}
+
+/// Two scripts are the same, or not.
+fn check_same(rt: &impl Abort, one: &Kept, two: &Kept, same: bool) {
+    assert_eq!(rt; one.as_slice() == two.as_slice(), same);
+}
+
+/// Runs a script: the status, and how many lines are written.
+fn answered(rt: &(impl Threads + Wait + Sync), alloc: Global, script: &Kept) -> (u8, usize) {
+    let words = ["pif", "run"];
+    let (status, answers, _) = asked(rt, alloc, words.as_slice(), script.as_slice());
+    (status, count(&answers, b""))
 }
 
 /// Checks that `pif random` with these options is refused with status 1, that the errors say this, and that nothing is
@@ -199,12 +210,18 @@ fn check_refused(
         &mut output,
         &mut errors,
     );
-    assert_eq!(rt;
-        (status, input.len(), output.len()),
-        (1, BOOSTED.len(), 0),
-        "{options:?}"
-    );
-    let text = from_utf8(errors.as_slice())?;
+    check_unread(rt, (status, input.len(), output.len()));
+    check_said(rt, errors.as_slice(), said)
+}
+
+/// The status is 1, and nothing was read or written.
+fn check_unread(rt: &impl Abort, refused: (u8, usize, usize)) {
+    assert_eq!(rt; refused, (1, BOOSTED.len(), 0));
+}
+
+/// The errors say this.
+fn check_said(rt: &impl Abort, errors: &[u8], said: &str) -> Result<(), Fail> {
+    let text = from_utf8(errors)?;
     assert!(rt; text.contains(said), "{said:?} in {text:?}");
     Ok(())
 }
@@ -260,40 +277,42 @@ fn numbers_out_of_range_are_refused(rt: HostRuntime) -> Result<(), Fail> {
     Ok(())
 }
 
+/// Options that are refused, and what the errors say.
+static OPTIONS: [(&[&str], &str); 7] = [
+    (
+        &[],
+        "required arguments were not provided:\n  --seed <N>\n  --lines <L>\n",
+    ),
+    (
+        &["--seed=1"],
+        "required arguments were not provided:\n  --lines <L>\n",
+    ),
+    (
+        &["--lines", "1"],
+        "required arguments were not provided:\n  --seed <N>\n",
+    ),
+    (
+        &["--robust=yes"],
+        "unexpected value 'yes' for '--robust' found",
+    ),
+    (
+        &["--ends", "--ends"],
+        "'--ends' cannot be used multiple times",
+    ),
+    (
+        &["--seed=1", "--seed=2"],
+        "'--seed <N>' cannot be used multiple times",
+    ),
+    (
+        &["--seed=1", "--lines=2", "a"],
+        "unexpected argument 'a' found",
+    ),
+];
+
 #[test]
 fn wrong_options_are_refused(rt: HostRuntime) -> Result<(), Fail> {
-    let refused = [
-        (
-            [].as_slice(),
-            "required arguments were not provided:\n  --seed <N>\n  --lines <L>\n",
-        ),
-        (
-            ["--seed=1"].as_slice(),
-            "required arguments were not provided:\n  --lines <L>\n",
-        ),
-        (
-            ["--lines", "1"].as_slice(),
-            "required arguments were not provided:\n  --seed <N>\n",
-        ),
-        (
-            ["--robust=yes"].as_slice(),
-            "unexpected value 'yes' for '--robust' found",
-        ),
-        (
-            ["--ends", "--ends"].as_slice(),
-            "'--ends' cannot be used multiple times",
-        ),
-        (
-            ["--seed=1", "--seed=2"].as_slice(),
-            "'--seed <N>' cannot be used multiple times",
-        ),
-        (
-            ["--seed=1", "--lines=2", "a"].as_slice(),
-            "unexpected argument 'a' found",
-        ),
-    ];
-    for (options, said) in refused {
-        check_refused(&rt, rt.alloc(), options, said)?;
+    for (options, said) in &OPTIONS {
+        check_refused(&rt, rt.alloc(), *options, *said)?;
     }
     Ok(())
 }
@@ -307,6 +326,12 @@ fn out_of_memory_no_script_is_written(rt: HostRuntime) {
         4 => (1, "pif: out of memory\n"),
         _ => (10, ""),
     };
-    assert!(rt; count(&output, b"") == lines && (ended == 4 || ended == 0));
-    assert!(rt; errors.as_slice() == message.as_bytes());
+    check_lines(&rt, &output, lines);
+    check_end(&rt, ended);
+    check_bytes(&rt, errors.as_slice(), message.as_bytes(), "the message");
+}
+
+/// A script has so many lines.
+fn check_lines(rt: &impl Abort, script: &Kept, lines: usize) {
+    assert_eq!(rt; count(script, b""), lines);
 }

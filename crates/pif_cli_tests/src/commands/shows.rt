@@ -1,4 +1,4 @@
-use super::{Kept, asked};
+use super::{Kept, asked, check_bytes, check_cut, check_ended, check_ends};
 use arrayvec::ArrayVec;
 use pif_cli::command;
 use std::alloc::Global;
@@ -19,18 +19,8 @@ fn check(
     ends: (&str, &str),
 ) -> Result<(), Fail> {
     let (ended, output, errors) = asked(rt, alloc, words, text.as_bytes());
-    assert_eq!(rt;
-        (ended, errors.is_empty()),
-        (status, status == 0),
-        "{text:?}"
-    );
-    let shown = from_utf8(output.as_slice())?;
-    let (first, last) = ends;
-    assert!(rt;
-        shown.starts_with(first) && shown.ends_with(last),
-        "{shown:?}"
-    );
-    Ok(())
+    check_ended(rt, (ended, errors.is_empty()), (status, status == 0), text);
+    check_ends(rt, output.as_slice(), ends)
 }
 
 /// What asks for the changes behind each line.
@@ -139,7 +129,8 @@ fn the_line_of_a_fault_is_shown_behind_the_state_before_it(rt: HostRuntime) -> R
 fn nothing_is_shown_of_no_script(rt: HostRuntime) {
     let words = ["pif", "show"];
     let (ended, output, errors) = asked(&rt, rt.alloc(), words.as_slice(), b"".as_slice());
-    assert_eq!(rt; (ended, output.len(), errors.len()), (0, 0, 0));
+    check_ended(&rt, (ended, output.is_empty()), (0, true), "no script");
+    check_bytes(&rt, errors.as_slice(), b"", "no script");
 }
 
 /// Shows the script of one line at a writer that takes no more than so many bytes: status 3.
@@ -156,9 +147,11 @@ fn a_failed_write_has_status_3(rt: HostRuntime) {
         &mut output,
         &mut errors,
     );
-    assert_eq!(rt;
-        (ended, output.as_slice()),
-        (3, b"> thread 10\nt1\n  t1:".as_slice())
+    check_cut(
+        &rt,
+        ended,
+        output.as_slice(),
+        b"> thread 10\nt1\n  t1:".as_slice(),
     );
 }
 
@@ -166,8 +159,13 @@ fn a_failed_write_has_status_3(rt: HostRuntime) {
 fn a_second_file_is_no_word_of_show(rt: HostRuntime) -> Result<(), Fail> {
     let words = ["pif", "show", "first.pif", "boosted.pif"];
     let (ended, output, errors) = asked(&rt, rt.alloc(), words.as_slice(), b"pick\n".as_slice());
-    assert_eq!(rt; (ended, output.len()), (1, 0));
-    let told = from_utf8(errors.as_slice())?;
+    check_ended(&rt, (ended, output.is_empty()), (1, true), "boosted.pif");
+    is_told_of_the_second(&rt, errors.as_slice())
+}
+
+/// The errors are told of a second file, and of what show takes.
+fn is_told_of_the_second(rt: &impl Abort, errors: &[u8]) -> Result<(), Fail> {
+    let told = from_utf8(errors)?;
     assert!(rt;
         told.contains("unexpected argument 'boosted.pif'")
             && told.contains("Usage: pif show [--all | --json | --dot] [FILE]\n")
@@ -189,6 +187,11 @@ fn out_of_memory_shows_nothing(rt: HostRuntime) {
         4 => "",
         _ => "> thread 10\nt1\n  t1: priority 10; ready\n  run queue: t1\n\n",
     };
-    assert!(rt; output.as_slice() == shown.as_bytes());
-    assert!(rt; ended == 0 || errors.as_slice() == b"pif: out of memory\n".as_slice());
+    check_bytes(&rt, output.as_slice(), shown.as_bytes(), "thread 10");
+    is_told_of_memory(&rt, ended, errors.as_slice());
+}
+
+/// The errors are told that memory was refused, if the status is not 0.
+fn is_told_of_memory(rt: &impl Abort, ended: u8, errors: &[u8]) {
+    assert!(rt; ended == 0 || errors == b"pif: out of memory\n".as_slice());
 }

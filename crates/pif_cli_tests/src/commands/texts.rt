@@ -1,4 +1,4 @@
-use super::{BOOSTED, Kept};
+use super::{BOOSTED, Kept, check_bytes};
 use arrayvec::ArrayVec;
 use pif_cli::command;
 use std::alloc::Global;
@@ -42,6 +42,11 @@ fn check_says(rt: &impl Abort, written: &Kept, texts: &[&str]) -> Result<(), Fai
     Ok(())
 }
 
+/// Checks a status, that the whole input is left, and that nothing is written to the other stream.
+fn check_shown(rt: &impl Abort, shown: (u8, usize), status: u8, other: &Kept) {
+    assert_eq!(rt; (shown, other.len()), ((status, BOOSTED.len()), 0));
+}
+
 /// Checks that words are refused with status 1, that the errors say these texts, and that nothing was read.
 fn check_refused(
     rt: &(impl Abort + Threads + Wait + Sync),
@@ -52,7 +57,7 @@ fn check_refused(
     let mut output = Kept::new();
     let mut errors = Kept::new();
     let shown = show(rt, alloc, words, &mut output, &mut errors);
-    assert_eq!(rt; (shown, output.len()), ((1, BOOSTED.len()), 0), "{words:?}");
+    check_shown(rt, shown, 1, &output);
     check_says(rt, &errors, texts)
 }
 
@@ -66,131 +71,133 @@ fn check_helped(
     let mut output = Kept::new();
     let mut errors = Kept::new();
     let shown = show(rt, alloc, words, &mut output, &mut errors);
-    assert_eq!(rt; (shown, errors.len()), ((0, BOOSTED.len()), 0), "{words:?}");
+    check_shown(rt, shown, 0, &errors);
     check_says(rt, &output, texts)
 }
 
+/// Words that are refused, and what the errors say.
+static REFUSED: [(&[&str], [&str; 4]); 15] = [
+    (
+        &["pif"],
+        [
+            "requires a subcommand",
+            "run, show, draw, shell, check, replay, trace, migrate, random, drive",
+            USAGE,
+            MORE,
+        ],
+    ),
+    (
+        &["pif", "walk"],
+        ["error", "unrecognized subcommand 'walk'", USAGE, MORE],
+    ),
+    (
+        &["pif", "replay", "a", "run"],
+        [
+            "error",
+            "unexpected argument 'run'",
+            "Usage: pif replay",
+            MORE,
+        ],
+    ),
+    (
+        &["pif", "run", "-f"],
+        ["error", "unexpected argument '-f'", "Usage: pif run", MORE],
+    ),
+    (
+        &["pif", "run", "a", "boosted.script"],
+        [
+            "error",
+            "unexpected argument 'boosted.script'",
+            "Usage: pif run [FILE]\n",
+            MORE,
+        ],
+    ),
+    (
+        &["pif", "replay", "a", "boosted.trace"],
+        [
+            "error",
+            "unexpected argument 'boosted.trace'",
+            "Usage: pif replay [FILE]\n",
+            MORE,
+        ],
+    ),
+    (
+        &["pif", "trace", "a", "boosted.pif"],
+        [
+            "error",
+            "unexpected argument 'boosted.pif'",
+            "Usage: pif trace [FILE]\n",
+            MORE,
+        ],
+    ),
+    (
+        &["pif", "check", "--prints"],
+        [
+            "error",
+            "unexpected argument '--prints'",
+            "Usage: pif check [--print] [FILE]...\n",
+            MORE,
+        ],
+    ),
+    (
+        &["pif", "--fast", "run"],
+        ["error", "unexpected argument '--fast'", USAGE, MORE],
+    ),
+    (
+        &["pif", "rnu"],
+        [
+            "unrecognized subcommand 'rnu'",
+            "Perhaps 'run' is meant.\n",
+            USAGE,
+            MORE,
+        ],
+    ),
+    (
+        &["pif", "help", "shwo"],
+        [
+            "unrecognized subcommand 'shwo'",
+            "Perhaps 'show' is meant.\n",
+            USAGE,
+            MORE,
+        ],
+    ),
+    (
+        &["pif", "MIGRATE"],
+        [
+            "unrecognized subcommand 'MIGRATE'",
+            "Perhaps 'migrate' is meant.\n",
+            USAGE,
+            MORE,
+        ],
+    ),
+    (
+        &["pif", "chekc"],
+        [
+            "unrecognized subcommand 'chekc'",
+            "a similar subcommand exists: 'check'",
+            USAGE,
+            MORE,
+        ],
+    ),
+    (
+        &["pif", "drive"],
+        ["error", "<N>", "Usage: pif drive N\n", MORE],
+    ),
+    (
+        &["pif", "drive", "0"],
+        [
+            "error",
+            "invalid value '0' for '<N>'",
+            "0 is not in 1..=64",
+            MORE,
+        ],
+    ),
+];
+
 #[test]
 fn wrong_words_are_refused(rt: HostRuntime) -> Result<(), Fail> {
-    let refused: [(&[&str], [&str; 4]); 15] = [
-        (
-            ["pif"].as_slice(),
-            [
-                "requires a subcommand",
-                "run, show, draw, shell, check, replay, trace, migrate, random, drive",
-                USAGE,
-                MORE,
-            ],
-        ),
-        (
-            ["pif", "walk"].as_slice(),
-            ["error", "unrecognized subcommand 'walk'", USAGE, MORE],
-        ),
-        (
-            ["pif", "replay", "a", "run"].as_slice(),
-            [
-                "error",
-                "unexpected argument 'run'",
-                "Usage: pif replay",
-                MORE,
-            ],
-        ),
-        (
-            ["pif", "run", "-f"].as_slice(),
-            ["error", "unexpected argument '-f'", "Usage: pif run", MORE],
-        ),
-        (
-            ["pif", "run", "a", "boosted.script"].as_slice(),
-            [
-                "error",
-                "unexpected argument 'boosted.script'",
-                "Usage: pif run [FILE]\n",
-                MORE,
-            ],
-        ),
-        (
-            ["pif", "replay", "a", "boosted.trace"].as_slice(),
-            [
-                "error",
-                "unexpected argument 'boosted.trace'",
-                "Usage: pif replay [FILE]\n",
-                MORE,
-            ],
-        ),
-        (
-            ["pif", "trace", "a", "boosted.pif"].as_slice(),
-            [
-                "error",
-                "unexpected argument 'boosted.pif'",
-                "Usage: pif trace [FILE]\n",
-                MORE,
-            ],
-        ),
-        (
-            ["pif", "check", "--prints"].as_slice(),
-            [
-                "error",
-                "unexpected argument '--prints'",
-                "Usage: pif check [--print] [FILE]...\n",
-                MORE,
-            ],
-        ),
-        (
-            ["pif", "--fast", "run"].as_slice(),
-            ["error", "unexpected argument '--fast'", USAGE, MORE],
-        ),
-        (
-            ["pif", "rnu"].as_slice(),
-            [
-                "unrecognized subcommand 'rnu'",
-                "Perhaps 'run' is meant.\n",
-                USAGE,
-                MORE,
-            ],
-        ),
-        (
-            ["pif", "help", "shwo"].as_slice(),
-            [
-                "unrecognized subcommand 'shwo'",
-                "Perhaps 'show' is meant.\n",
-                USAGE,
-                MORE,
-            ],
-        ),
-        (
-            ["pif", "MIGRATE"].as_slice(),
-            [
-                "unrecognized subcommand 'MIGRATE'",
-                "Perhaps 'migrate' is meant.\n",
-                USAGE,
-                MORE,
-            ],
-        ),
-        (
-            ["pif", "chekc"].as_slice(),
-            [
-                "unrecognized subcommand 'chekc'",
-                "a similar subcommand exists: 'check'",
-                USAGE,
-                MORE,
-            ],
-        ),
-        (
-            ["pif", "drive"].as_slice(),
-            ["error", "<N>", "Usage: pif drive N\n", MORE],
-        ),
-        (
-            ["pif", "drive", "0"].as_slice(),
-            [
-                "error",
-                "invalid value '0' for '<N>'",
-                "0 is not in 1..=64",
-                MORE,
-            ],
-        ),
-    ];
-    for (words, texts) in refused {
-        check_refused(&rt, rt.alloc(), words, texts.as_slice())?;
+    for (words, texts) in &REFUSED {
+        check_refused(&rt, rt.alloc(), *words, texts.as_slice())?;
     }
     Ok(())
 }
@@ -362,33 +369,30 @@ fn the_version_is_shown(rt: HostRuntime) {
         let mut errors = Kept::new();
         let words = ["pif", word];
         let shown = show(&rt, rt.alloc(), words.as_slice(), &mut output, &mut errors);
-        assert_eq!(rt; (shown, errors.len()), ((0, BOOSTED.len()), 0));
-        assert!(rt; output.as_slice() == b"pif 0.1\n".as_slice());
+        check_shown(&rt, shown, 0, &errors);
+        check_bytes(&rt, output.as_slice(), b"pif 0.1\n", word);
     }
+}
+
+/// What asks for more than can be written, and how many bytes are written to the output.
+const UNWRITTEN: [(&[&str], usize); 3] = [
+    (&["pif", "--help"], 4),
+    (&["pif", "--version"], 4),
+    (&["pif"], 0),
+];
+
+/// Asks so where each stream takes four bytes: the status, and how many bytes are written to the output and to the errors.
+fn cut(rt: &(impl Threads + Wait + Sync), alloc: Global, words: &[&str]) -> (u8, usize, usize) {
+    let mut output = ArrayVec::<u8, 4>::new();
+    let mut errors = ArrayVec::<u8, 4>::new();
+    let mut input = BOOSTED.as_bytes();
+    let status = command(alloc, rt, words, &mut input, &mut output, &mut errors);
+    (status, output.len(), errors.len())
 }
 
 #[test]
 fn a_failed_write_of_help_or_of_the_refusal_is_told(rt: HostRuntime) {
-    let asked = [
-        (["pif", "--help"].as_slice(), 4),
-        (["pif", "--version"].as_slice(), 4),
-        (["pif"].as_slice(), 0),
-    ];
-    for (words, shown) in asked {
-        let mut output = ArrayVec::<u8, 4>::new();
-        let mut errors = ArrayVec::<u8, 4>::new();
-        let status = command(
-            rt.alloc(),
-            &rt,
-            words,
-            &mut BOOSTED.as_bytes(),
-            &mut output,
-            &mut errors,
-        );
-        assert_eq!(rt;
-            (status, output.len(), errors.len()),
-            (3, shown, 4),
-            "{words:?}"
-        );
+    for (words, shown) in UNWRITTEN {
+        assert_eq!(rt; cut(&rt, rt.alloc(), words), (3, shown, 4), "{shown}");
     }
 }

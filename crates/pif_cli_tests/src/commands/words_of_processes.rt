@@ -1,8 +1,8 @@
-use super::{BOOSTED, BOOSTED_ANSWERS, Kept};
+use super::{BOOSTED, BOOSTED_ANSWERS, Kept, check_bytes, check_status};
 use crate::processes::Process;
 use arrayvec::ArrayVec;
 use pif_cli::command_of_process;
-use std::process::{ExitCode, Termination};
+use std::process::{Abort, ExitCode, Termination};
 use std::str::from_utf8;
 use std::test::Fail;
 
@@ -22,8 +22,14 @@ fn words_of_a_process_ask_for_a_job(rt: HostRuntime) {
     let (mut output, mut errors) = (Kept::new(), Kept::new());
     let mut input = BOOSTED.as_bytes();
     let ended = command_of_process(&process, &mut input, &mut output, &mut errors);
-    assert!(rt; ended.exit_code() == ExitCode::from(0) && errors.is_empty());
-    assert!(rt; output.as_slice() == BOOSTED_ANSWERS.as_bytes());
+    check_status(&rt, ended, 0);
+    check_bytes(&rt, errors.as_slice(), b"", "the errors");
+    check_bytes(
+        &rt,
+        output.as_slice(),
+        BOOSTED_ANSWERS.as_bytes(),
+        "the output",
+    );
 }
 
 #[test]
@@ -33,8 +39,14 @@ fn each_word_of_a_process_counts(rt: HostRuntime) -> Result<(), Fail> {
     let (mut output, mut errors) = (Kept::new(), Kept::new());
     let mut input = BOOSTED.as_bytes();
     let ended = command_of_process(&process, &mut input, &mut output, &mut errors);
-    assert!(rt; ended.exit_code() == ExitCode::from(1) && output.is_empty());
-    assert!(rt; from_utf8(errors.as_slice())?.contains("'--fast'"));
+    check_status(&rt, ended, 1);
+    check_bytes(&rt, output.as_slice(), b"", "the output");
+    is_told_of_fast(&rt, errors.as_slice())
+}
+
+/// The errors are told of the word.
+fn is_told_of_fast(rt: &impl Abort, errors: &[u8]) -> Result<(), Fail> {
+    assert!(rt; from_utf8(errors)?.contains("'--fast'"));
     Ok(())
 }
 
@@ -45,8 +57,14 @@ fn a_word_of_a_process_may_name_a_file(rt: HostRuntime) {
     let (mut output, mut errors) = (Kept::new(), Kept::new());
     let mut input = BOOSTED.as_bytes();
     let ended = command_of_process(&process, &mut input, &mut output, &mut errors);
-    assert!(rt; ended.exit_code() == ExitCode::from(3) && output.is_empty());
-    assert!(rt; errors.as_slice() == b"pif: no/such file\\x07: cannot be read\n".as_slice());
+    check_status(&rt, ended, 3);
+    check_bytes(&rt, output.as_slice(), b"", "the output");
+    check_bytes(
+        &rt,
+        errors.as_slice(),
+        b"pif: no/such file\\x07: cannot be read\n",
+        "the errors",
+    );
 }
 
 #[test]
@@ -56,8 +74,14 @@ fn a_dash_names_the_standard_input(rt: HostRuntime) {
     let (mut output, mut errors) = (Kept::new(), Kept::new());
     let mut input = BOOSTED.as_bytes();
     let ended = command_of_process(&process, &mut input, &mut output, &mut errors);
-    assert!(rt; ended.exit_code() == ExitCode::from(0) && errors.is_empty());
-    assert!(rt; output.as_slice() == BOOSTED_ANSWERS.as_bytes());
+    check_status(&rt, ended, 0);
+    check_bytes(&rt, errors.as_slice(), b"", "the errors");
+    check_bytes(
+        &rt,
+        output.as_slice(),
+        BOOSTED_ANSWERS.as_bytes(),
+        "the output",
+    );
 }
 
 #[test]
@@ -67,8 +91,14 @@ fn a_word_that_is_no_text_is_refused(rt: HostRuntime) {
     let (mut output, mut errors) = (Kept::new(), Kept::new());
     let mut input = BOOSTED.as_bytes();
     let ended = command_of_process(&process, &mut input, &mut output, &mut errors);
-    assert!(rt; ended.exit_code() == ExitCode::from(1) && output.is_empty());
-    assert!(rt; errors.as_slice() == b"error: a word is not UTF-8\n".as_slice());
+    check_status(&rt, ended, 1);
+    check_bytes(&rt, output.as_slice(), b"", "the output");
+    check_bytes(
+        &rt,
+        errors.as_slice(),
+        b"error: a word is not UTF-8\n",
+        "the errors",
+    );
 }
 
 #[test]
