@@ -3,9 +3,11 @@
 //!
 //! | Module | Tests of |
 //! |---|---|
-//! | `commands` | `pif_cli`: each job with its status; below it words, files, texts of help, messages and clients in threads |
+//! | `commands` | `pif_cli`: words of a process, files, random scripts, memory and writes that fail, clients in threads |
 //! | `desks` | `pif_desk` and `pif_scripts`: the journal of a desk as a trace that replays the same |
 //! | `processes` | none: the processes that the others share |
+//!
+//! What words and an input can ask is a transcript (docs/TRANSCRIPTS.md).
 #![tactic(auto)]
 
 #[cfg(test)]

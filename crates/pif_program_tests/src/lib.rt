@@ -5,12 +5,14 @@
 //! |---|---|
 //! | `lines` | `pif_text`: the commands of lines, and the texts of commands, replies and faults |
 //! | `slips` | `pif_slips`: why a line is no command |
-//! | `scripts` | `pif_scripts`: scripts and traces, from worked examples to reads and writes that fail |
-//! | `stories` | `pif_stories`: stories that are checked, filled in, shown and traced |
-//! | `shells` | `pif_shell`: conversations, stories that are saved, and sessions |
+//! | `scripts` | `pif_scripts`: the tables of ends in the middle of calls, long chains, reads and writes that fail |
+//! | `stories` | `pif_stories`: stories that are shown and traced, and reads and writes that fail |
+//! | `shells` | `pif_shell`: a prompt, stories that are saved, sessions, and what fails |
 //! | `random` | `pif_random`: scripts by a seed |
-//! | `pictures` | `pif_pictures`: drawings, states and graphs of stories |
+//! | `pictures` | `pif_pictures`: reads and writes that fail |
 //! | `streams` | none: the readers and writers that the others share |
+//!
+//! What words and an input can ask is a transcript (docs/TRANSCRIPTS.md).
 #![tactic(auto)]
 
 #[cfg(test)]

@@ -1,12 +1,11 @@
-mod differences;
 mod failures;
 mod faults;
 mod fills;
 mod shows;
 
 use crate::streams::Kept;
-use pif_scripts::{Cause, CliFault};
-use pif_stories::{check, fill};
+use pif_scripts::CliFault;
+use pif_stories::check;
 use std::alloc::Global;
 use std::process::Abort;
 
@@ -53,42 +52,4 @@ fn check_said(
     let result = check(alloc, b"story", &mut input, &mut output);
     assert!(rt; output.text() == line, "{line:?} is not what is said");
     assert_eq!(rt; result, ended, "{line:?}");
-}
-
-/// Fills `story` in, and compares what is written and how it ends.
-fn check_filled(
-    rt: &impl Abort,
-    alloc: Global,
-    story: &[u8],
-    text: &str,
-    ended: Result<(), CliFault>,
-) {
-    let mut output = Kept::new();
-    let mut input = story;
-    let result = fill(alloc, b"story", &mut input, &mut output);
-    output.check(rt, text);
-    assert_eq!(rt; result, ended, "{text:?}");
-}
-
-#[test]
-fn stories_are_ok(rt: HostRuntime) {
-    let stories: [(&[u8], &str); 11] = [
-        (BOOSTED.as_bytes(), "ok story 13\n"),
-        (b"", "ok story 0\n"),
-        (b"\n\n", "ok story 0\n"),
-        (b"# a comment", "ok story 0\n"),
-        (b"#\n\n# = t1\n", "ok story 0\n"),
-        (b"thread 10\nthread 50 = t2\n", "ok story 2\n"),
-        (b"thread 10\nthread 50", "ok story 2\n"),
-        (
-            b"thread 10 = t1\r\n\r\n# x\r\npick = t1\r\n",
-            "ok story 2\n",
-        ),
-        (b"\xef\xbb\xbfthread 10 = t1\npick = t1", "ok story 2\n"),
-        (b"\xef\xbb\xbf", "ok story 0\n"),
-        (b"thread 10 = t1\r\npick = t1\r", "ok story 2\n"),
-    ];
-    for (story, line) in stories {
-        check_story(&rt, rt.alloc(), story, line, Ok(()));
-    }
 }

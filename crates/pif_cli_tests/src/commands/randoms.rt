@@ -1,12 +1,9 @@
 //! Random scripts.
-use super::{BOOSTED, Kept, asked, check_bytes, check_end, check_ended};
+use super::{Kept, asked, check_bytes, check_end, check_ended};
 use arrayvec::ArrayVec;
-use pif_cli::command;
 use std::alloc::Global;
 use std::process::Abort;
-use std::str::from_utf8;
 use std::sync::Wait;
-use std::test::Fail;
 use std::thread::Threads;
 
 /// The random script of these words; the program ends with status 0, and says nothing to the errors.
@@ -187,134 +184,6 @@ fn answered(rt: &(impl Threads + Wait + Sync), alloc: Global, script: &Kept) -> 
     let words = ["pif", "run"];
     let (status, answers, _) = asked(rt, alloc, words.as_slice(), script.as_slice());
     (status, count(&answers, b""))
-}
-
-/// Checks that `pif random` with these options is refused with status 1, that the errors say this, and that nothing is
-/// read or written.
-fn check_refused(
-    rt: &(impl Abort + Threads + Wait + Sync),
-    alloc: Global,
-    options: &[&str],
-    said: &str,
-) -> Result<(), Fail> {
-    let mut words = ArrayVec::<&str, 9>::new();
-    let _ = words.try_extend_from_slice(["pif", "random"].as_slice());
-    let _ = words.try_extend_from_slice(options);
-    let mut input = BOOSTED.as_bytes();
-    let (mut output, mut errors) = (Kept::new(), Kept::new());
-    let status = command(
-        alloc,
-        rt,
-        words.as_slice(),
-        &mut input,
-        &mut output,
-        &mut errors,
-    );
-    check_unread(rt, (status, input.len(), output.len()));
-    check_said(rt, errors.as_slice(), said)
-}
-
-/// The status is 1, and nothing was read or written.
-fn check_unread(rt: &impl Abort, refused: (u8, usize, usize)) {
-    assert_eq!(rt; refused, (1, BOOSTED.len(), 0));
-}
-
-/// The errors say this.
-fn check_said(rt: &impl Abort, errors: &[u8], said: &str) -> Result<(), Fail> {
-    let text = from_utf8(errors)?;
-    assert!(rt; text.contains(said), "{said:?} in {text:?}");
-    Ok(())
-}
-
-/// Numbers that are refused, and what the errors say.
-static NUMBERS: [(&str, &str); 12] = [
-    (
-        "--seed=one",
-        "invalid value 'one' for '--seed <N>': invalid digit found in string",
-    ),
-    (
-        "--seed=18446744073709551616",
-        "invalid value '18446744073709551616' for '--seed <N>': number too large to fit in target type",
-    ),
-    (
-        "--seed=-1",
-        "invalid value '-1' for '--seed <N>': invalid digit found in string",
-    ),
-    (
-        "--lines=0",
-        "invalid value '0' for '--lines <L>': 0 is not in 1..=262144",
-    ),
-    (
-        "--lines=262145",
-        "invalid value '262145' for '--lines <L>': 262145 is not in 1..=262144",
-    ),
-    (
-        "--threads=0",
-        "invalid value '0' for '--threads <T>': 0 is not in 1..=1024",
-    ),
-    (
-        "--threads=1025",
-        "invalid value '1025' for '--threads <T>': 1025 is not in 1..=1024",
-    ),
-    (
-        "--mutexes=1025",
-        "invalid value '1025' for '--mutexes <M>': 1025 is not in 0..=1024",
-    ),
-    (
-        "--conds=257",
-        "invalid value '257' for '--conds <C>': 257 is not in 0..=256",
-    ),
-    ("--fast", "unexpected argument '--fast' found"),
-    ("-s", "unexpected argument '-s' found"),
-    ("--seed", "a value is required for '--seed <N>'"),
-];
-
-#[test]
-fn numbers_out_of_range_are_refused(rt: HostRuntime) -> Result<(), Fail> {
-    for (option, said) in &NUMBERS {
-        check_refused(&rt, rt.alloc(), [*option].as_slice(), *said)?;
-    }
-    Ok(())
-}
-
-/// Options that are refused, and what the errors say.
-static OPTIONS: [(&[&str], &str); 7] = [
-    (
-        &[],
-        "required arguments were not provided:\n  --seed <N>\n  --lines <L>\n",
-    ),
-    (
-        &["--seed=1"],
-        "required arguments were not provided:\n  --lines <L>\n",
-    ),
-    (
-        &["--lines", "1"],
-        "required arguments were not provided:\n  --seed <N>\n",
-    ),
-    (
-        &["--robust=yes"],
-        "unexpected value 'yes' for '--robust' found",
-    ),
-    (
-        &["--ends", "--ends"],
-        "'--ends' cannot be used multiple times",
-    ),
-    (
-        &["--seed=1", "--seed=2"],
-        "'--seed <N>' cannot be used multiple times",
-    ),
-    (
-        &["--seed=1", "--lines=2", "a"],
-        "unexpected argument 'a' found",
-    ),
-];
-
-#[test]
-fn wrong_options_are_refused(rt: HostRuntime) -> Result<(), Fail> {
-    for (options, said) in &OPTIONS {
-        check_refused(&rt, rt.alloc(), *options, *said)?;
-    }
-    Ok(())
 }
 
 /// Each allocation is refused in turn by `rt try --test --fail-alloc N`: then nothing is written but the message.

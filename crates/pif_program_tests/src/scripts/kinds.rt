@@ -1,4 +1,3 @@
-use super::check;
 use crate::streams::Kept;
 use pif_scripts::run;
 
@@ -33,35 +32,4 @@ fn recursion_stops_at_255(rt: HostRuntime) {
     let mut output = Kept::new();
     assert_eq!(rt; run(rt.alloc(), &mut script.text(), &mut output), Ok(()));
     assert!(rt; output.text() == answers.text());
-}
-
-#[test]
-fn kinds_answer_their_owner(rt: HostRuntime) {
-    let script =
-        "thread 10\nthread 10\nmutex normal\nmutex errorcheck\ncall t1 lock m1\ncall t1 lock m2\n\
-        call t1 lock m2\ncall t1 trylock m2\ncall t2 unlock m1\ncall t1 lock m1\n";
-    let answers = "t1\nt2\nm1\nm2\nanswer 0\nanswer 0\nanswer 35\nanswer 16\nanswer 1\nwaits\n";
-    check(&rt, rt.alloc(), script, answers);
-}
-
-#[test]
-fn each_kind_is_tried_by_another(rt: HostRuntime) {
-    let script = "thread 10\nthread 10\nmutex normal\nmutex errorcheck\nmutex recursive\n\
-        call t1 lock m1\ncall t2 unlock m1\ncall t2 trylock m1\ncall t1 unlock m1\ncall t2 trylock m1\nword m1\n\
-        call t1 lock m2\ncall t2 unlock m2\ncall t2 trylock m2\ncall t1 unlock m2\ncall t2 trylock m2\nword m2\n\
-        call t1 lock m3\ncall t2 unlock m3\ncall t2 trylock m3\ncall t1 unlock m3\ncall t2 trylock m3\nword m3\n";
-    let answers =
-        "t1\nt2\nm1\nm2\nm3\nanswer 0\nanswer 1\nanswer 16\nanswer 0\nanswer 0\n0x00000002\n\
-        answer 0\nanswer 1\nanswer 16\nanswer 0\nanswer 0\n0x00000002\n\
-        answer 0\nanswer 1\nanswer 16\nanswer 0\nanswer 0\n0x00000002\n";
-    check(&rt, rt.alloc(), script, answers);
-}
-
-#[test]
-fn trylock_does_not_boost(rt: HostRuntime) {
-    let script =
-        "thread 10\nthread 50\nmutex normal\ncall t1 lock m1\nbegin t2 trylock m1\ngo t2\ngo t2\ngo t2\n\
-        word m1\nprio t1\npick\n";
-    let answers = "t1\nt2\nm1\nanswer 0\nbegun\nwent\nwent\nanswer 16\n0x00000001\n10\nt2\n";
-    check(&rt, rt.alloc(), script, answers);
 }

@@ -1,5 +1,5 @@
 use crate::streams::{Cautious, Endless, Failing, Kept, Tail};
-use pif_scripts::{Cause, CliFault, migrate, migrated_trace_has_its_verdict, replay};
+use pif_scripts::{Cause, CliFault, migrate};
 use std::alloc::Global;
 use std::io::Read;
 use std::process::Abort;
@@ -24,105 +24,6 @@ fn check<R: Read>(
     let result = migrate(alloc, input, &mut output);
     output.check(rt, written);
     assert_eq!(rt; result, ended, "{written:?}");
-}
-
-/// Migrates a trace that has no fault of form, and checks that it comes to the same.
-fn check_verdict(rt: &impl Abort, alloc: Global, trace: &str, verdict: &str) {
-    let mut migrated = Kept::new();
-    assert_eq!(rt;
-        migrate(alloc, &mut trace.as_bytes(), &mut migrated),
-        Ok(())
-    );
-    for text in [trace.as_bytes(), migrated.text()] {
-        let mut output = Kept::new();
-        let mut input = text;
-        let _ = replay(alloc, &mut input, &mut output);
-        output.check(rt, verdict);
-    }
-}
-
-#[test]
-fn traces_migrate(rt: HostRuntime) {
-    migrated_trace_has_its_verdict();
-    for (trace, written) in [
-        (FIRST, SECOND),
-        (SECOND, SECOND),
-        ("pif-trace 1\n", "pif-trace 2\n"),
-        (
-            "pif-trace 1\nlimits 1 1 1 1 = \n",
-            "pif-trace 2\nlimits 1 1 1 1 = \n",
-        ),
-    ] {
-        check(&rt, rt.alloc(), &mut trace.as_bytes(), written, Ok(()));
-    }
-}
-
-#[test]
-fn a_migrated_trace_comes_to_the_same(rt: HostRuntime) {
-    let other =
-        "pif-trace 1\nthread 10 = t1\nmutex normal = m1\nbegin t1 lock m1 = begun\ngo t1 = went\n\
-        go t1 = went\n";
-    for (trace, verdict) in [
-        (FIRST, "same 5\n"),
-        (other, "differs 6 answer 0\n"),
-        ("pif-trace 1\n", "same 0\n"),
-        (
-            "pif-trace 1\nthread 10 = t2\nthread 10 = t2\n",
-            "differs 2 t1\n",
-        ),
-    ] {
-        check_verdict(&rt, rt.alloc(), trace, verdict);
-    }
-}
-
-#[test]
-fn faults_of_form_are_told_alone(rt: HostRuntime) {
-    for (trace, line, cause, written) in [
-        ("", 1, Cause::Command, "fault 1 command\n"),
-        ("pif-trace 3\n", 1, Cause::Command, "fault 1 command\n"),
-        ("pif-trace 1", 1, Cause::Cut, "fault 1 cut\n"),
-        ("thread 10 = t1\n", 1, Cause::Command, "fault 1 command\n"),
-        (
-            "pif-trace 1\nlimits 1025 1 1 1 = ok\n",
-            2,
-            Cause::Limits,
-            "fault 2 limits\n",
-        ),
-        (
-            "pif-trace 2\nthread 10\n",
-            2,
-            Cause::Command,
-            "fault 2 command\n",
-        ),
-        (
-            "pif-trace 1\npick = none\n",
-            2,
-            Cause::Command,
-            "fault 2 command\n",
-        ),
-        (
-            "pif-trace 1\nthread 10 = t1\nlimits 1 1 1 1 = ok\n",
-            3,
-            Cause::Command,
-            "fault 3 command\n",
-        ),
-        (
-            "pif-trace 2\nthread 10 = t2\ngo t1 = went",
-            3,
-            Cause::Cut,
-            "fault 3 cut\n",
-        ),
-        (
-            "pif-trace 2\nthread 10 = 0123456789012345678901234567890123456789012345678901234567890123456789\
-            012345678901234567890123456789012345678\n",
-            2,
-            Cause::Long,
-            "fault 2 long\n",
-        ),
-    ] {
-        let ended = Err(CliFault::Script(line, cause));
-        check(&rt, rt.alloc(), &mut trace.as_bytes(), written, ended);
-    }
 }
 
 #[test]

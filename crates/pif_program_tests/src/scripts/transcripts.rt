@@ -1,11 +1,8 @@
 use crate::streams::{Cautious, Failing, Kept};
-use pif_scripts::{Cause, CliFault, Notice, replay, trace, trace_noting};
+use pif_scripts::{Cause, CliFault, trace};
 use std::alloc::Global;
 use std::io::Read;
 use std::process::Abort;
-
-/// The two lines in front of a trace, where the script names no limits.
-const FRONT: &str = "pif-trace 2\nlimits 1024 1024 256 4294967295 = ok\n";
 
 /// Each command once, additions and events that are refused, and each question.
 const SCRIPT: &str =
@@ -38,16 +35,6 @@ fn check<R: Read>(
 }
 
 #[test]
-fn each_entry_is_a_line(rt: HostRuntime) {
-    let mut output = Kept::new();
-    let ended = trace(rt.alloc(), &mut SCRIPT.as_bytes(), &mut output);
-    output.check(&rt, TRACE);
-    let mut verdict = Kept::new();
-    assert!(rt; ended.is_ok() && replay(rt.alloc(), &mut output.text(), &mut verdict).is_ok());
-    verdict.check(&rt, "same 24\n");
-}
-
-#[test]
 fn trace_ends_where_the_script_does(rt: HostRuntime) {
     let scripts = [
         ("", "", Ok(())),
@@ -67,19 +54,6 @@ fn trace_ends_where_the_script_does(rt: HostRuntime) {
     for (script, written, ended) in scripts {
         check(&rt, rt.alloc(), &mut script.as_bytes(), written, ended);
     }
-}
-
-#[test]
-fn fault_is_kept_and_not_written(rt: HostRuntime) {
-    let mut expected = Kept::new();
-    expected.append(FRONT.as_bytes());
-    expected.append(b"thread 10 = t1\ngo t1 = refused idle\n");
-    let mut written = Kept::new();
-    let mut notice = Notice::new();
-    let mut script = b"thread 10\ngo t1\nlimits 1 1 1 1\ngo t1\n".as_slice();
-    let ended = trace_noting(rt.alloc(), &mut script, &mut written, &mut notice);
-    assert_eq!(rt; ended, Err(CliFault::Script(3, Cause::Command)));
-    assert!(rt; written.text() == expected.text() && notice.line() == b"limits 1 1 1 1".as_slice());
 }
 
 #[test]

@@ -129,7 +129,7 @@ const UNUSABLE_BROADCAST: &str =
     0x80000002\nanswer 0\nrefused idle\n0x80000002\nunusable\n";
 
 /// What the end of t1 in its signal or broadcast leaves.
-#[derive(Clone, Copy, Debug)]
+#[derive(Clone, Copy)]
 enum Used {
     FreeUnused,
     FreeSignalled,

@@ -73,7 +73,7 @@ const BROADCAST: Scene = (
 );
 
 /// What stands before the call.
-#[derive(Clone, Copy, Debug)]
+#[derive(Clone, Copy)]
 enum Before {
     /// Nobody owns m1.
     New,
@@ -119,7 +119,7 @@ impl Before {
 }
 
 /// What comes between the first steps of the call and the rest.
-#[derive(Clone, Copy, Debug)]
+#[derive(Clone, Copy)]
 enum Between {
     /// Nothing.
     AtOnce,
@@ -274,7 +274,7 @@ const LEFT_DIED: &str =
     unusable\n";
 
 /// What the end of t1 in its wait leaves.
-#[derive(Clone, Copy, Debug)]
+#[derive(Clone, Copy)]
 enum Ended {
     Free,
     Handed,
@@ -521,7 +521,7 @@ const REQUEUED_UNUSABLE: &str =
     refused idle\n0x00000000\nunusable\n";
 
 /// What a signal to t1 in its wait leads to.
-#[derive(Clone, Copy, Debug)]
+#[derive(Clone, Copy)]
 enum Woken {
     Missed,
     MissedWaited,

@@ -1,0 +1,56 @@
+//! The marks of lines, and what stands behind them.
+
+use crate::streams::Kept;
+use arrayvec::ArrayVec;
+
+/// The mark of a line, and the text behind it.
+pub fn mark_of(line: &str) -> (&str, &str) {
+    line.split_once(' ').unwrap_or((line, ""))
+}
+
+/// Keeps a text, with a line feed behind it.
+pub fn keep_line(kept: &mut Kept, text: &str) {
+    kept.append(text.as_bytes());
+    kept.append(b"\n");
+}
+
+/// Keeps the words of a job, behind the program's name.
+pub fn keep_words<'a>(words: &mut ArrayVec<&'a str, 12>, text: &'a str) {
+    let _ = words.try_push("pif");
+    for word in text.split_whitespace() {
+        let _ = words.try_push(word);
+    }
+}
+
+/// The byte of an escape, and what stands behind it: `n` is a line feed, `r` a carriage return, `t` a tab, `s` a space,
+/// and `xHH` the byte with this number. There is no other.
+fn escape(bytes: &[u8]) -> (u8, &[u8]) {
+    match bytes {
+        [b'n', rest @ ..] => (b'\n', rest),
+        [b'r', rest @ ..] => (b'\r', rest),
+        [b't', rest @ ..] => (b'\t', rest),
+        [b's', rest @ ..] => (b' ', rest),
+        [b'x', high, low, rest @ ..] => (byte_of(*high, *low), rest),
+        _ => (b'?', bytes),
+    }
+}
+
+/// The byte of two hexadecimal digits.
+fn byte_of(high: u8, low: u8) -> u8 {
+    let digits = [high, low];
+    let text = str::from_utf8(digits.as_slice()).unwrap_or("");
+    u8::from_str_radix(text, 16).unwrap_or(0)
+}
+
+/// Keeps a text with escapes, and nothing behind it.
+pub fn keep_escaped(kept: &mut Kept, text: &str) {
+    let mut parts = text.as_bytes().split(|byte| *byte == b'\\');
+    if let Some(plain) = parts.next() {
+        kept.append(plain);
+    }
+    for part in parts {
+        let (byte, rest) = escape(part);
+        kept.append(&[byte]);
+        kept.append(rest);
+    }
+}
