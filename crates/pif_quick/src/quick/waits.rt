@@ -14,20 +14,19 @@ use std::sync::Wait;
 use std::thread;
 
 /// How often a pass tries to take a word before it marks the word and sleeps.
-const TRIES: u32 = 24;
+const TRIES: u32 = 40;
 
-/// How many of the tries have a pause of the processor behind them, each twice as long as the one before. Behind each of
-/// the others the thread yields.
+/// How many of the tries have a pause of the processor behind them that is twice as long as the one before. Behind each
+/// of the others the pause is as long as the last of these, and then the thread yields.
 const SPINS: u32 = 7;
 
 /// The pause behind a try.
 fn pause(tries: u32) {
+    for _ in 0..1u32 << tries.min(SPINS - 1) {
+        spin_loop();
+    }
     if tries >= SPINS {
         thread::yield_now();
-        return;
-    }
-    for _ in 0..1u32 << tries {
-        spin_loop();
     }
 }
 
