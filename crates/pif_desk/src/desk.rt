@@ -13,11 +13,16 @@ use pif_core::Core;
 use pif_model::Seen;
 use pif_types::{CondId, Kind, Limits, MutexId, NoMemory, Tid};
 use std::alloc::Global;
+use std::hint::spin_loop;
 use std::sync::{Condvar, Mutex, MutexGuard, Wait};
 use std::thread::yield_now;
 
-/// How often a client whose thread rests looks whether its bell has rung, before it sleeps.
-const LOOKS: u32 = 8;
+/// How often a client whose thread rests looks whether its bell has rung, before it sleeps. That takes about as long as
+/// to fall asleep and be woken.
+const LOOKS: u32 = 1600;
+
+/// How many looks a client takes between two times that it lets other threads run.
+const LOOKS_A_YIELD: u32 = 16;
 
 /// What a client does after each of its events, outside the lock.
 pub trait Pause {
@@ -167,11 +172,15 @@ impl<P: Pause + Drop> Desk<P> {
         }
         let rung = bell.notifications();
         drop(shared);
-        for _look in 0..LOOKS {
+        for look in 1..=LOOKS {
             if bell.notifications() != rung {
                 break;
             }
-            yield_now();
+            if look % LOOKS_A_YIELD == 0 {
+                yield_now();
+            } else {
+                spin_loop();
+            }
         }
         self.shared.lock(rt)
     }
