@@ -143,8 +143,9 @@ impl Chains for LinkedChains {
     }
 
     fn close(&mut self, m: MutexId, key: Key) {
+        let row = self.owners.row(&self.table, key);
         self.owners.end(&self.table, key);
-        self.buckets.forget(&mut self.table, m.get());
+        self.buckets.forget_at(&mut self.table, m.get(), row);
     }
 
     fn park(&mut self, t: Tid, c: CondId, m: MutexId) {

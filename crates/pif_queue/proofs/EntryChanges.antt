@@ -35,6 +35,19 @@ others-kept e t now w n xs low high put holders =
     out_node m (inl before) same = absurd (omega (arith, before, same, low))
     out_node m (inr behind) same = absurd (omega (arith, behind, same, high))
 
+-- the node of the row at which the owner state of a word was found is the node of the word
+pub found-node : (e : Entries) (t : NodeLists) → HoldsEntries e t → (w : ℕ) (f : Found) → found_in e t w ≡ Some f
+    → node_with e t w ≡ Some (node_of e f.row)
+found-node e t h w f found = by_node (option-cases (node_with e t w))
+  where
+    by_node : ((node_with e t w ≡ None) ⊎ ((n : ℕ) × (node_with e t w ≡ Some n)))
+        → node_with e t w ≡ Some (node_of e f.row)
+    by_node (inl none) = let wrong : None ≡ Some f = sym (ap (option_map (found_at e)) none) ∙ found in absurd cc
+    by_node (inr some) =
+        let same : found_at e some.0 ≡ f = same_Some (found_at e some.0) f (sym (ap (option_map (found_at e)) some.1) ∙ found) in
+        let row : row_of e some.0 ≡ f.row = ap (λ (x : Found). x.row) same in
+        some.1 ∙ ap Some (omega (arith, (with-stands e t h w some.0 some.1).2.low, row))
+
 -- a word gets an owner state, of a row that no word has
 module _ (e : Entries) (t now : NodeLists) (w key r : ℕ) (h : HoldsEntries e t) (row : IsRow e r)
     (free : (v : ℕ) (f : Found) → found_in e t v ≡ Some f → f.row ≢ r) (none : found_in e t w ≡ None)

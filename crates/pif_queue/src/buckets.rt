@@ -107,6 +107,21 @@ impl Buckets {
         self.entries.forget(table, word);
     }
 
+    /// Takes the owner state of a word, which has the one of this row, from it, and looks through no bucket. All else
+    /// stays as it was.
+    pub fn forget_at(&mut self, table: &mut NodeTable, word: u32, row: u32)
+        requires holds { HoldsBuckets self.old table.old }
+        requires row { (f : Found) × (found_in self.old.entries table.old word ≡ Some f) × (f.row ≡ row) }
+        ensures forgotten { (w : ℕ) → found_in self.new.entries table.new w
+            ≡ (if w == word then None else found_in self.old.entries table.old w) }
+        ensures parked { (u : ℕ) → parked_at self.new.parked table.new u ≡ parked_at self.old.parked table.old u }
+        ensures place { self.new ≡ self.old }
+        ensures outside { KeepsOthers self.old.entries.first_list 64 self.old.entries.first_node (length self.old.entries.items) table.old table.new }
+        ensures holds { HoldsBuckets self.new table.new }
+    {
+        self.entries.forget_at(table, word, row);
+    }
+
     /// Parks the thread `t`, whose node is in no list, on a variable with this target, priority and ticket. All else
     /// stays as it was.
     pub fn park(

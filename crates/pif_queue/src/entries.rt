@@ -125,6 +125,21 @@ impl Entries {
         }
     }
 
+    /// Takes the owner state of a word, which has the one of this row, from it, and looks through no bucket. All else
+    /// stays as it was.
+    pub fn forget_at(&mut self, table: &mut NodeTable, word: u32, row: u32)
+        requires holds { HoldsEntries self.old table.old }
+        requires row { (f : Found) × (found_in self.old table.old word ≡ Some f) × (f.row ≡ row) }
+        ensures forgotten { (w : ℕ) → found_in self.new table.new w
+            ≡ (if w == word then None else found_in self.old table.old w) }
+        ensures place { self.new ≡ self.old }
+        ensures outside { KeepsOthers self.old.first_list 64 self.old.first_node (length self.old.items) table.old table.new }
+        ensures holds { HoldsEntries self.new table.new }
+    {
+        let node = Node::new(self.first_node + row);
+        table.detach(node);
+    }
+
     /// The node of the owner state of a word. `None` if it has none.
     fn node_with(&self, table: &NodeTable, word: u32) -> Option<Node>
         requires { HoldsEntries self.now table.now }

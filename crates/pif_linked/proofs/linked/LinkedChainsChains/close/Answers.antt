@@ -1,4 +1,5 @@
-use Rattle.std.proofs.Common.{◌≡◌, ◌≢◌, ◌+◌, ◌<◌, ℕ, Some, None, IsSome, length, get_or, set, refl, subst, sym, ap, ◌∙◌}
+use Rattle.std.proofs.Common.{◌≡◌, ◌≢◌, ◌+◌, ◌<◌, ℕ, Some, None, IsSome, length, get_or, set, subst, sym, ap, ◌∙◌}
+use Rattle.std.proofs.lemmas.Option.{same_Some}
 use Rattle.std.specs.FinMap.{get, remove}
 use Rattle.pif_owners.specs.Owners.{count, owner_at, HasNoWaiter, without_state}
 use Rattle.pif_owners.specs.States.{owners_in}
@@ -20,25 +21,36 @@ end-requires-clause-state c = subst (λ (x : Chained). IsSome (owner_at x.owners
 pub end-requires-clause-free : goal.end-requires-clause-free
 end-requires-clause-free c = subst (λ (x : Chained). HasNoWaiter x.owners c.args.key) (sym c.self.view_is) c.requires.free
 
-pub forget-requires-clause-some : goal.forget-requires-clause-some
-forget-requires-clause-some c =
-    let f = mutex_word c.self.inside.owners c.self.inside.queue c.self.inside.buckets c.self.inside.table c.self.inside.next c.self.invariant
+pub row-row-requires-clause-holds : goal.row-row-requires-clause-holds
+row-row-requires-clause-holds c = c.self.invariant.stand.owners
+
+pub row-row-requires-clause-state : goal.row-row-requires-clause-state
+row-row-requires-clause-state c = subst (λ (x : Chained). IsSome (owner_at x.owners c.args.key)) (sym c.self.view_is) c.requires.state
+
+pub forget_at-requires-clause-row : goal.forget_at-requires-clause-row
+forget_at-requires-clause-row c =
+    let w =
+    mutex_word c.self.inside.owners c.self.inside.queue c.self.inside.buckets c.self.inside.table c.self.inside.next c.self.invariant
     c.get.result c.args.m c.args.key c.get.ensures.value
-    (subst (λ (x : Chained). get_or x.keys c.args.m None ≡ Some c.args.key) (sym c.self.view_is) c.requires.mutex) in
-    subst IsSome (sym f.1) refl
+    (subst (λ (x : Chained). get_or x.keys c.args.m None ≡ Some c.args.key) (sym c.self.view_is) c.requires.mutex) in (
+      w.0,
+      w.1,
+      same_Some w.0.row c.row-row.result
+      (sym (c.self.invariant.words c.get.result w.0 w.1).row ∙ ap (get c.self.inside.owners.places) w.2 ∙ c.row-row.ensures.value),
+    )
 
 -- the word of the mutex
-word : (c : goal.After-forget) → (f : Found) × (found_in c.self.inside.buckets.entries c.self.inside.table c.get.result ≡ Some f)
+word : (c : goal.After-forget_at) → (f : Found) × (found_in c.self.inside.buckets.entries c.self.inside.table c.get.result ≡ Some f)
     × (f.key ≡ c.args.key) × (c.get.result < key_count)
 word c =
     mutex_word c.self.inside.owners c.self.inside.queue c.self.inside.buckets c.self.inside.table c.self.inside.next c.self.invariant
     c.get.result c.args.m c.args.key c.get.ensures.value
     (subst (λ (x : Chained). get_or x.keys c.args.m None ≡ Some c.args.key) (sym c.self.view_is) c.requires.mutex)
 
-none : (c : goal.After-forget) (f : Found) → None ≡ Some f → get c.end.new.self.places f.key ≡ Some f.row
+none : (c : goal.After-forget_at) (f : Found) → None ≡ Some f → get c.end.new.self.places f.key ≡ Some f.row
 none c f e = absurd cc
 
-others : (c : goal.After-forget) (v : ℕ) (f : Found) → v ≢ c.get.result
+others : (c : goal.After-forget_at) (v : ℕ) (f : Found) → v ≢ c.get.result
     → found_in c.self.inside.buckets.entries c.self.inside.table v ≡ Some f → get c.end.new.self.places f.key ≡ Some f.row
 others c v f ne is =
     c.end.ensures.rows f.key f.row
@@ -55,19 +67,19 @@ invariant_of-self c =
     linked_worded c.self.inside.owners c.self.inside.queue c.self.inside.buckets c.self.inside.table c.self.inside.next c.self.invariant
     c.end.new.self (same_place_made _ _ c.end.ensures.place) c.end.ensures.holds
     (remove c.self.inside.owners.owners c.args.key) c.end.ensures.ended c.get.result (word c).3
-    None (none c) (others c) c.forget.new.self c.forget.new.table
-    c.forget.ensures.forgotten c.forget.ensures.parked (same_words _ _ c.forget.ensures.place)
-    (ap (λ (x : Buckets). length x.entries.items) c.forget.ensures.place) c.forget.ensures.outside c.forget.ensures.holds
+    None (none c) (others c) c.forget_at.new.self c.forget_at.new.table
+    c.forget_at.ensures.forgotten c.forget_at.ensures.parked (same_words _ _ c.forget_at.ensures.place)
+    (ap (λ (x : Buckets). length x.entries.items) c.forget_at.ensures.place) c.forget_at.ensures.outside c.forget_at.ensures.holds
 
-owned : (c : goal.After-forget) → owners_in c.end.new.self c.forget.new.table
+owned : (c : goal.After-forget_at) → owners_in c.end.new.self c.forget_at.new.table
     ≡ without_state c.args.key (owners_in c.self.inside.owners c.self.inside.table)
 owned c =
     worded_owners c.self.inside.owners c.self.inside.queue c.self.inside.buckets c.self.inside.table c.self.inside.next c.self.invariant
     c.end.new.self (same_place_made _ _ c.end.ensures.place) c.end.ensures.holds
     (remove c.self.inside.owners.owners c.args.key) c.end.ensures.ended c.get.result (word c).3
-    None (none c) (others c) c.forget.new.self c.forget.new.table
-    c.forget.ensures.forgotten c.forget.ensures.parked (same_words _ _ c.forget.ensures.place)
-    (ap (λ (x : Buckets). length x.entries.items) c.forget.ensures.place) c.forget.ensures.outside c.forget.ensures.holds
+    None (none c) (others c) c.forget_at.new.self c.forget_at.new.table
+    c.forget_at.ensures.forgotten c.forget_at.ensures.parked (same_words _ _ c.forget_at.ensures.place)
+    (ap (λ (x : Buckets). length x.entries.items) c.forget_at.ensures.place) c.forget_at.ensures.outside c.forget_at.ensures.holds
 
 pub returns : goal.returns
 returns c = record {
@@ -77,12 +89,12 @@ returns c = record {
       ∙ ap (λ (x : Chained). count x.owners) c.self.view_is;
   kept =
       subst (λ (x : Chained × ℕ). KeepsLevels (record x.0 { keys = set x.0.keys x.1 None })
-      (linked c.end.new.self c.self.inside.queue c.forget.new.self c.forget.new.table))
+      (linked c.end.new.self c.self.inside.queue c.forget_at.new.self c.forget_at.new.table))
       (λ i. (c.self.view_is i, c.get.ensures.value i))
       (worded_kept c.self.inside.owners c.self.inside.queue c.self.inside.buckets c.self.inside.table c.self.inside.next c.self.invariant
       c.end.new.self (same_place_made _ _ c.end.ensures.place) c.end.ensures.holds
       (remove c.self.inside.owners.owners c.args.key) c.end.ensures.ended c.get.result (word c).3
-      None (none c) (others c) c.forget.new.self c.forget.new.table
-      c.forget.ensures.forgotten c.forget.ensures.parked (same_words _ _ c.forget.ensures.place)
-      (ap (λ (x : Buckets). length x.entries.items) c.forget.ensures.place) c.forget.ensures.outside c.forget.ensures.holds);
+      None (none c) (others c) c.forget_at.new.self c.forget_at.new.table
+      c.forget_at.ensures.forgotten c.forget_at.ensures.parked (same_words _ _ c.forget_at.ensures.place)
+      (ap (λ (x : Buckets). length x.entries.items) c.forget_at.ensures.place) c.forget_at.ensures.outside c.forget_at.ensures.holds);
 }
